@@ -1,0 +1,4 @@
+pub mod Named
+pub mod Outbox
+pub mod Queue
+pub mod Totals

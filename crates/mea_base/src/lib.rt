@@ -1,0 +1,22 @@
+//! What every family of primitives stands on: the list of waiters, the outbox of wakers, the answers to
+//! events and why one is refused. It knows no primitive.
+#![tactic(auto)]
+
+mod answer;
+mod ledger;
+mod no_memory;
+mod outbox;
+mod overflow;
+mod stop;
+mod turn;
+mod wake;
+
+pub use answer::Answer;
+pub use futures::task::Poll;
+pub use ledger::Ledger;
+pub use no_memory::NoMemory;
+pub use outbox::Outbox;
+pub use overflow::Overflow;
+pub use stop::Stop;
+pub use turn::Turn;
+pub use wake::Wake;

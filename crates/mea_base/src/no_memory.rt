@@ -1,0 +1,3 @@
+/// There was no memory. Nothing has changed.
+#[derive(Clone, Copy, Debug, PartialEq, Eq)]
+pub struct NoMemory;

@@ -1,0 +1,5 @@
+pub mod Hall
+pub mod Cause
+pub mod Step
+pub mod Valid
+pub mod Runs
