@@ -1,0 +1,3 @@
+pub mod Acquire
+pub mod Core
+pub mod Calls

@@ -1,0 +1,8 @@
+//! The semaphore's core: permits, and the acquires and debts that wait for them, as pure state that is
+//! changed by `&mut self`. It stands on the wait list and the outbox of `mea_base` by their contracts
+//! alone; locks, channels, once cells, pools and the hall of semaphores stand on it.
+#![tactic(auto)]
+
+mod acquire;
+
+pub use acquire::Acquire;
