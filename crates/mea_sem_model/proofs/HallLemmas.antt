@@ -9,6 +9,7 @@ use Rattle.std.proofs.lemmas.List.Sums.{sum_by-cons}
 use Rattle.mea_base.specs.Queue.{lacks_after, waiting_after}
 use Rattle.mea_base.proofs.Totals.{get_inserted, get_removed}
 use Rattle.mea_sem_model.specs.Hall.{Hall, Semaphore, Future, Who, Waiter, Debt, names, made_with, semaphore_at, granted, grant_if, grant_who, grant_all, with_semaphore, debt_of, debts}
+use Rattle.mea_sem_model.specs.Cause.{is_named, is_named_semaphore}
 
 -- ---- one name of a map
 module _ {X : Type 0} where
@@ -69,6 +70,14 @@ by_semaphore h q r P here others s = subst (P s) (sym (semaphore_put h q s r)) (
     at_test : (b : Bool) → (q == s) ≡ b → P s (cond b r (semaphore_at h s))
     at_test true e = subst (λ k. P k r) (eqb-true q s e) here
     at_test false e = others s (eqb-false q s e)
+
+-- a semaphore that is found to be named is named
+pub semaphore_named : (h : Hall) (q : ℕ) → is_named h q ≡ true → (semaphore_at h q).named ≡ true
+semaphore_named h q = by_option (get h.semaphores q)
+  where
+    by_option : (o : Option Semaphore) → is_named_semaphore o ≡ true → (unwrap_or o (made_with 0)).named ≡ true
+    by_option None e = absurd (cc)
+    by_option (Some r) e = e
 
 -- ---- who is granted
 -- whether a future is among those

@@ -1,2 +1,5 @@
 pub mod HallLemmas
 pub mod Pours
+pub mod Matched
+pub mod Orderly
+pub mod Changes
