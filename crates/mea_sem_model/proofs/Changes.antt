@@ -154,9 +154,9 @@ pub record Changed (h g : Hall) (n : ℕ) (a b : ℕ → ℕ) : Type 0 where
 pub after : (h g k : Hall) (n : ℕ) (a b c d : ℕ → ℕ) → Changed h g n a b → Changed g k n c d → Changed h k n (λ s. a s + c s) (λ s. b s + d s)
 after h g k n a b c d p q = record { moves = λ s. omega (arith, p.moves s, q.moves s); matched = q.matched; orderly = q.orderly; below = q.below }
 
--- the same change, told otherwise
-pub told : (h g : Hall) (n : ℕ) (a b c d : ℕ → ℕ) → ((s : ℕ) → a s + d s ≡ c s + b s) → Changed h g n a b → Changed h g n c d
-told h g n a b c d same p = record { moves = λ s. omega (arith, p.moves s, same s); matched = p.matched; orderly = p.orderly; below = p.below }
+-- the same change, counted otherwise
+pub retold : (h g : Hall) (n : ℕ) (a b c d : ℕ → ℕ) → ((s : ℕ) → a s + d s ≡ c s + b s) → Changed h g n a b → Changed h g n c d
+retold h g n a b c d same p = record { moves = λ s. omega (arith, p.moves s, same s); matched = p.matched; orderly = p.orderly; below = p.below }
 
 module _ (h : Hall) (n : ℕ) (m : IsMatched h) (v : IsOrderly h) (low : IsBelow h n) where
   pub nothing : Changed h h n (λ s. 0) (λ s. 0)

@@ -3,3 +3,4 @@ pub mod Pours
 pub mod Matched
 pub mod Orderly
 pub mod Changes
+pub mod Events
