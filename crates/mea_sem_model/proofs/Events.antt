@@ -224,3 +224,208 @@ module _ (h : Hall) (i : ℕ) (m : IsMatched h) (v : IsOrderly h) (low : IsBelow
       (after h g _ (i + 1) _ _ _ _ second
       (to_permit g (i + 1) first.matched first.orderly second.below i (record x { size = n }) (omega arith) (no_semaphore_yet g i first.below, no_future_yet g i first.below) (v.permits_of p x is)
       (λ e. plain_permit_named h p x is v e)))
+
+-- ---- futures
+-- a future that waits no more becomes ready, in the hall g
+at_ready : (g : Hall) (i f : ℕ) (x : Future) → get g.futures f ≡ Some x → ((s : ℕ) → waits_at s (get g.futures f) ≡ 0) → IsMatched g → IsOrderly g → IsBelow g i
+    → Changed g (made_ready g i f x) (i + 1) (λ s. cond x.forgets 0 (cond (x.semaphore == s) x.demand 0)) (λ s. taken_by s f x)
+at_ready g i f x is idle m v low = at_form x.forgets
+  where
+    gone : Changed g (without_future g f) i (λ s. 0) (λ s. weight (taken_by s) f (get g.futures f))
+    gone = to_no_future g i m v low f idle
+
+    wider : Changed g (without_future g f) (i + 1) (λ s. 0) (λ s. weight (taken_by s) f (get g.futures f))
+    wider = more g (without_future g f) i _ _ gone
+
+    kept : Permit
+    kept = record { semaphore = x.semaphore; size = x.demand; plain = x.plain }
+
+    forgot : Semaphore
+    forgot = record (semaphore_at g x.semaphore) { forgotten = (semaphore_at g x.semaphore).forgotten + x.demand }
+
+    at_form : (t : Bool) → Changed g (if t then with_semaphore (without_future g f) x.semaphore (record (semaphore_at g x.semaphore) { forgotten = (semaphore_at g x.semaphore).forgotten + x.demand }) else with_permit (without_future g f) i (record { semaphore = x.semaphore; size = x.demand; plain = x.plain })) (i + 1) (λ s. cond t 0 (cond (x.semaphore == s) x.demand 0)) (λ s. taken_by s f x)
+    at_form true = retold g _ (i + 1) _ _ (λ s. 0) (λ s. taken_by s f x) (λ s. omega (arith, never (x.semaphore == s), ap (weight (taken_by s) f) is))
+        (after g (without_future g f) _ (i + 1) _ _ _ _ wider
+        (to_numbers (without_future g f) (i + 1) wider.matched wider.orderly wider.below x.semaphore 0 0 (free g x.semaphore) _ _ _ (v.futures_of f x is) (omega arith) (omega arith)))
+    at_form false = retold g _ (i + 1) _ _ (λ s. cond (x.semaphore == s) x.demand 0) (λ s. taken_by s f x) (λ s. omega (arith, ap (weight (taken_by s) f) is, ap (weight (held_by s) i) (no_permit_yet g i low)))
+        (after g (without_future g f) _ (i + 1) _ _ _ _ wider
+        (to_permit (without_future g f) (i + 1) wider.matched wider.orderly wider.below i kept (omega arith) (no_semaphore_yet g i low, no_future_yet (without_future g f) i gone.below)
+        (v.futures_of f x is) (λ e. plain_future_named g f x is v e)))
+
+module _ (h : Hall) (i f : ℕ) (x : Future) (is : get h.futures f ≡ Some x) (m : IsMatched h) (v : IsOrderly h) (low : IsBelow h i) where
+  there : IsSome (get h.semaphores x.semaphore)
+  there = v.futures_of f x is
+
+  f_below : f < i + 1
+  f_below = (below_more h i low).futures f (is_there (get h.futures f) x is)
+
+  idle_new : x.stage ≡ New → (s : ℕ) → waits_at s (get h.futures f) ≡ 0
+  idle_new unpolled s = ap (waits_at s) is ∙ new_waits x s unpolled
+
+  idle_granted : x.stage ≡ Granted → (s : ℕ) → waits_at s (get h.futures f) ≡ 0
+  idle_granted done s = ap (waits_at s) is ∙ granted_waits x s done
+
+  at_granted : x.stage ≡ Granted → Changed h (made_ready h i f x) (i + 1) (λ s. 0) (λ s. cond ((x.semaphore == s) && x.forgets) x.demand 0)
+  at_granted done = retold h _ (i + 1) _ _ (λ s. 0) (λ s. cond ((x.semaphore == s) && x.forgets) x.demand 0)
+      (λ s. omega (arith, kept_or_not s x.semaphore x.demand x.forgets, ap (λ t. cond (x.semaphore == s) (taken x.demand t) 0) done))
+      (at_ready h i f x is (idle_granted done) m v low)
+
+  at_first_ready : x.stage ≡ New → x.demand ≤ free h x.semaphore
+      → Changed h (made_ready (with_semaphore h x.semaphore (taking (semaphore_at h x.semaphore) x.demand)) i f x) (i + 1) (λ s. 0) (λ s. cond ((x.semaphore == s) && x.forgets) x.demand 0)
+  at_first_ready unpolled some =
+      let g : Hall = with_semaphore h x.semaphore (taking (semaphore_at h x.semaphore) x.demand) in
+      let first = took h i m v low x.semaphore x.demand there some in
+      retold h _ (i + 1) _ _ (λ s. 0) (λ s. cond ((x.semaphore == s) && x.forgets) x.demand 0)
+      (λ s. omega (arith, never (x.semaphore == s), kept_or_not s x.semaphore x.demand x.forgets, ap (λ t. cond (x.semaphore == s) (taken x.demand t) 0) unpolled))
+      (after h g _ (i + 1) _ _ _ _ (more h g i _ _ first) (at_ready g i f x is (idle_new unpolled) first.matched first.orderly first.below))
+
+  at_queueing : (w : ℕ) → x.stage ≡ New → free h x.semaphore < x.demand → Changed h (queueing h f w x) (i + 1) (λ s. 0) (λ s. 0)
+  at_queueing w unpolled short =
+      let r : Semaphore = record (semaphore_at h x.semaphore) { free = 0; queue = queue_at h x.semaphore ++ (Waiter f, x.demand - free h x.semaphore) ∷ [] } in
+      let g : Hall = with_semaphore h x.semaphore r in
+      let longer = sum_by-append {X = Who × ℕ} (λ d. d.1) (queue_at h x.semaphore) ((Waiter f, x.demand - free h x.semaphore) ∷ []) in
+      let some : 1 ≤ x.demand - free h x.semaphore = omega arith in
+      let put : IsOrderly g = orderly_semaphore h x.semaphore r (v.semaphores_apart x.semaphore there) (lacking-append (queue_at h x.semaphore) (Waiter f, x.demand - free h x.semaphore) (v.lacking x.semaphore) some)
+      (first-append (queue_at h x.semaphore) f (x.demand - free h x.semaphore) (v.debts_first x.semaphore)) (λ no_free. absurd (omega arith)) (λ plain. semaphore_named h x.semaphore (v.named x.semaphore plain)) v in
+      record {
+        moves = λ s. omega (
+          arith,
+          never (x.semaphore == s),
+          moves_semaphore h x.semaphore 0 x.demand r (omega (arith, longer)) s,
+          moves_future g f s (record x { stage = Waiting w }),
+          ap (weight (taken_by s) f) is,
+          ap (λ t. cond (x.semaphore == s) (taken x.demand t) 0) unpolled,
+        );
+        matched = queued_matched h f w x is unpolled m;
+        orderly = orderly_future g f (record x { stage = Waiting w }) (future_alone g f (is_there (get h.futures f) x is) put) (still_there h x.semaphore x.semaphore r there) (plain_future_named g f x is put) put;
+        below = below_future g f (i + 1) (record x { stage = Waiting w }) f_below (below_semaphore h x.semaphore (i + 1) r ((below_more h i low).semaphores x.semaphore there) (below_more h i low));
+      }
+
+  at_waiting : (w u : ℕ) → x.stage ≡ Waiting u → Changed h (with_future h f (record x { stage = Waiting w })) (i + 1) (λ s. 0) (λ s. 0)
+  at_waiting w u waits = record {
+    moves = λ s. omega (arith, moves_future h f s (record x { stage = Waiting w }), ap (weight (taken_by s) f) is, ap (λ t. cond (x.semaphore == s) (taken x.demand t) 0) waits);
+    matched = matched_future h f (record x { stage = Waiting w }) (λ s. ap (waits_at s) is ∙ ap (λ t. cond (x.semaphore == s) (one_if_waiting t) 0) waits) (λ s. m.within s f x is) m;
+    orderly = orderly_future h f (record x { stage = Waiting w }) (future_alone h f (is_there (get h.futures f) x is) v) there (plain_future_named h f x is v) v;
+    below = below_future h f (i + 1) (record x { stage = Waiting w }) f_below (below_more h i low);
+  }
+
+  at_first : (w : ℕ) → x.stage ≡ New → (b : Bool) → nat_le x.demand (free h x.semaphore) ≡ b
+      → Changed h (if b then quietly (made_ready (with_semaphore h x.semaphore (taking (semaphore_at h x.semaphore) x.demand)) i f x) answers.Ready else quietly (queueing h f w x) answers.Pending).hall (i + 1) (λ s. 0)
+      (λ s. if_ready (forgetting_demand s (Some x)) (if b then quietly (made_ready (with_semaphore h x.semaphore (taking (semaphore_at h x.semaphore) x.demand)) i f x) answers.Ready else quietly (queueing h f w x) answers.Pending).reply)
+  at_first w unpolled true e = at_first_ready unpolled (leb-true x.demand (free h x.semaphore) e)
+  at_first w unpolled false e = at_queueing w unpolled (leb-false x.demand (free h x.semaphore) e)
+
+  at_poll : (w : ℕ) (t : Stage) → x.stage ≡ t → Changed h (poll_at h i f w x t).hall (i + 1) (λ s. 0) (λ s. if_ready (forgetting_demand s (Some x)) (poll_at h i f w x t).reply)
+  at_poll w New e = at_first w e (nat_le x.demand (free h x.semaphore)) refl
+  at_poll w (Waiting u) e = at_waiting w u e
+  at_poll w Granted e = at_granted e
+
+  gone : ((s : ℕ) → waits_at s (get h.futures f) ≡ 0) → Changed h (without_future h f) (i + 1) (λ s. 0) (λ s. taken_by s f x)
+  gone idle = retold h _ (i + 1) _ _ (λ s. 0) (λ s. taken_by s f x) (λ s. omega (arith, ap (weight (taken_by s) f) is)) (to_no_future h (i + 1) m v (below_more h i low) f idle)
+
+  pub at_leaving : Changed h (leaving h f x) (i + 1) (λ s. cond (x.semaphore == s) (lack_of (queue_at h x.semaphore) f) 0) (λ s. taken_by s f x)
+  at_leaving =
+      let r : Semaphore = record (semaphore_at h x.semaphore) { queue = without (queue_at h x.semaphore) f } in
+      let g : Hall = with_semaphore h x.semaphore r in
+      record {
+        moves = λ s. omega (
+          arith,
+          never (x.semaphore == s),
+          moves_semaphore h x.semaphore (lack_of (queue_at h x.semaphore) f) 0 r (omega (arith, lacks-without (queue_at h x.semaphore) f)) s,
+          moves_no_future g f s,
+          ap (weight (taken_by s) f) is,
+        );
+        matched = left_matched h f x is m;
+        orderly = orderly_no_future g f (orderly_semaphore h x.semaphore r (v.semaphores_apart x.semaphore there) (lacking-without (queue_at h x.semaphore) f (v.lacking x.semaphore))
+            (first-filter (λ e. not (names e.0 f)) (queue_at h x.semaphore) (v.debts_first x.semaphore)) (λ some. ap (λ q. without q f) (v.idle x.semaphore some)) (λ plain. semaphore_named h x.semaphore (v.named x.semaphore plain)) v);
+        below = below_no_future g f (i + 1) (below_semaphore h x.semaphore (i + 1) r ((below_more h i low).semaphores x.semaphore there) (below_more h i low));
+      }
+
+  at_end : (t : Stage) → x.stage ≡ t → Changed h (end_future h f x t).hall (i + 1) (λ s. 0) (λ s. 0)
+  at_end New e = retold h _ (i + 1) _ _ (λ s. 0) (λ s. 0) (λ s. omega (arith, never (x.semaphore == s), ap (λ t. cond (x.semaphore == s) (taken x.demand t) 0) e)) (gone (idle_new e))
+  at_end (Waiting u) e =
+      let l : ℕ = lack_of (queue_at h x.semaphore) f in
+      let within : l ≤ x.demand = m.within x.semaphore f x is in
+      let whole : l + (x.demand - l) ≡ x.demand = omega arith in
+      let first = at_leaving in
+      retold h _ (i + 1) _ _ (λ s. 0) (λ s. 0)
+      (λ s. omega (arith, only (x.semaphore == s) l (x.demand - l), only_same (x.semaphore == s) (l + (x.demand - l)) x.demand whole, ap (λ t. cond (x.semaphore == s) (taken x.demand t) 0) e))
+      (after h (leaving h f x) _ (i + 1) _ _ _ _ first (to_pour (leaving h f x) (i + 1) first.matched first.orderly first.below x.semaphore (x.demand - l) (still_there h x.semaphore x.semaphore _ there)))
+  at_end Granted e =
+      let first = gone (idle_granted e) in
+      retold h _ (i + 1) _ _ (λ s. 0) (λ s. 0) (λ s. omega (arith, ap (λ t. cond (x.semaphore == s) (taken x.demand t) 0) e))
+      (after h (without_future h f) _ (i + 1) _ _ _ _ first (to_pour (without_future h f) (i + 1) first.matched first.orderly first.below x.semaphore x.demand there))
+
+-- ---- each event
+-- an event as it is told
+abbrev pub line : Hall → ℕ → SemEvent → Told
+line h i e = record { number = i; before = h; event = e; reply = (step h i e).reply; wakes = (step h i e).wakes }
+
+module _ (h : Hall) (i : ℕ) (m : IsMatched h) (v : IsOrderly h) (low : IsBelow h i) where
+  unchanged : Changed h h (i + 1) (λ s. 0) (λ s. 0)
+  unchanged = nothing h (i + 1) m v (below_more h i low)
+
+  ends_permit : (k : ℕ) (o : Option Permit) → get h.permits k ≡ o → Changed h (end_permit h k o).hall (i + 1) (λ s. 0) (λ s. 0)
+  ends_permit k None is = unchanged
+  ends_permit k (Some p) is = at_end_permit h i m v low k p is
+
+  ends : (k : ℕ) (o : Option Future) → get h.futures k ≡ o → Changed h (end_of h k o).hall (i + 1) (λ s. 0) (λ s. 0)
+  ends k None is = ends_permit k (get h.permits k) refl
+  ends k (Some x) is = at_end h i k x is m v low x.stage refl
+
+  polls : (f w : ℕ) (o : Option Future) → get h.futures f ≡ o → Changed h (poll_of h i f w o).hall (i + 1) (λ s. 0) (λ s. if_ready (forgetting_demand s o) (poll_of h i f w o).reply)
+  polls f w None is = unchanged
+  polls f w (Some x) is = at_poll h i f x is m v low w x.stage refl
+
+  loses : (p : ℕ) (o : Option Permit) → get h.permits p ≡ o → Changed h (lose_of h p o).hall (i + 1) (λ s. 0) (λ s. if_permit_of s o (number_forgot (lose_of h p o).reply))
+  loses p None is = unchanged
+  loses p (Some x) is = at_lose h i m v low p x is
+
+  tries : (q n : ℕ) (plain b : Bool) → is_named h q ≡ true → nat_le n (free h q) ≡ b
+      → Changed h (if b then quietly (with_permit (with_semaphore h q (taking (semaphore_at h q) n)) i (record { semaphore = q; size = n; plain = plain })) answers.Held else quietly h answers.Lacking).hall (i + 1) (λ s. 0) (λ s. 0)
+  tries q n plain true named e = at_try h i m v low q n plain named (leb-true n (free h q) e)
+  tries q n plain false named e = unchanged
+
+  splits : (p n : ℕ) (x : Permit) → get h.permits p ≡ Some x → (b : Bool) → nat_le n x.size ≡ b
+      → Changed h (if b then quietly (with_permit (with_permit h p (record x { size = x.size - n })) i (record x { size = n })) answers.Held else quietly h answers.Lacking).hall (i + 1) (λ s. 0) (λ s. 0)
+  splits p n x is true e = at_split h i m v low p n x is (leb-true n x.size e)
+  splits p n x is false e = unchanged
+
+  splits_of : (p n : ℕ) (o : Option Permit) → get h.permits p ≡ o → Changed h (split_of h i p n o).hall (i + 1) (λ s. 0) (λ s. 0)
+  splits_of p n None is = unchanged
+  splits_of p n (Some x) is = splits p n x is (nat_le n x.size) refl
+
+  tries_and_forgets : (q n : ℕ) (b : Bool) → is_named h q ≡ true → nat_le n (free h q) ≡ b
+      → Changed h (if b then quietly (with_semaphore h q (record (semaphore_at h q) { free = free h q - n; forgotten = (semaphore_at h q).forgotten + n })) answers.Yes else quietly h answers.No).hall (i + 1) (λ s. 0)
+      (λ s. if_same q s (if_yes n (if b then quietly (with_semaphore h q (record (semaphore_at h q) { free = free h q - n; forgotten = (semaphore_at h q).forgotten + n })) answers.Yes else quietly h answers.No).reply))
+  tries_and_forgets q n true named e = at_try_and_forget h i m v low q n named (leb-true n (free h q) e)
+  tries_and_forgets q n false named e = retold h _ (i + 1) _ _ (λ s. 0) (λ s. cond (q == s) 0 0) (λ s. omega (arith, never (q == s))) unchanged
+
+  merges : (p q : ℕ) → can_merge h p q ≡ true → Changed h (merge_of h p q (get h.permits p) (get h.permits q)) (i + 1) (λ s. 0) (λ s. 0)
+  merges p q can =
+      let two = mergeable h p q can in
+      subst (λ o. Changed h (merge_of h p q o (get h.permits q)) (i + 1) (λ s. 0) (λ s. 0)) (sym two.2)
+      (subst (λ o. Changed h (merge_of h p q (Some two.0) o) (i + 1) (λ s. 0) (λ s. 0)) (sym two.3) (at_merge h i m v low p q two.0 two.1 two.2 two.3 (λ e. two.4 (sym e)) two.5))
+
+  pub steps : (e : SemEvent) → cause_of h e ≡ None → Changed h (step h i e).hall (i + 1) (λ s. made_by s (line h i e) e + released_by s e) (λ s. forgotten_by s (line h i e) e)
+  steps (events.New n) cause = retold h _ (i + 1) _ _ _ _ (λ s. omega (arith, never (i == s))) (at_new h i m v low n)
+  steps (events.Free q) cause = unchanged
+  steps (events.Forget q n) cause = retold h _ (i + 1) _ _ _ _ (λ s. omega (arith, never (q == s))) (at_forget h i m v low q n (named_there h q (known _ cause)))
+  steps (events.Forgetx q n) cause = retold h _ (i + 1) _ _ _ _ (λ s. omega (arith, never (q == s))) (at_forgetx h i m v low q n (named_there h q (known _ cause)))
+  steps (events.Release q n) cause = retold h _ (i + 1) _ _ _ _ (λ s. omega arith) (at_release h i m v low q n (named_there h q (release_known _ _ cause).0))
+  steps (events.Try q n) cause = tries q n true (nat_le n (free h q)) (known _ cause) refl
+  steps (events.Tryo q n) cause = tries q n false (nat_le n (free h q)) (known _ cause) refl
+  steps (events.Tryf q n) cause = tries_and_forgets q n (nat_le n (free h q)) (known _ cause) refl
+  steps (events.Tryof q n) cause = tries_and_forgets q n (nat_le n (free h q)) (known _ cause) refl
+  steps (events.Acq q n) cause = at_acq h i m v low q n true false (known _ cause)
+  steps (events.Acqo q n) cause = at_acq h i m v low q n false false (known _ cause)
+  steps (events.Acqf q n) cause = at_acq h i m v low q n true true (known _ cause)
+  steps (events.Acqof q n) cause = at_acq h i m v low q n false true (known _ cause)
+  steps (events.Poll f w) cause = polls f w (get h.futures f) refl
+  steps (events.End k) cause = ends k (get h.futures k) refl
+  steps (events.Lose p) cause = loses p (get h.permits p) refl
+  steps (events.Merge p q) cause = merges p q (known _ cause)
+  steps (events.Split p n) cause = splits_of p n (get h.permits p) refl
+  steps (events.Size p) cause = unchanged
+  steps (events.Endsem q) cause = let k = endsem_known _ _ cause in let none = ltb-false 0 (plain_things h q) k.1 in at_endsem h i m v low q (named_there h q k.0) (omega arith)
+  steps (events.Ledger q) cause = unchanged
