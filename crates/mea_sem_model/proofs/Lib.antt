@@ -4,3 +4,4 @@ pub mod Matched
 pub mod Orderly
 pub mod Changes
 pub mod Events
+pub mod Tallies
