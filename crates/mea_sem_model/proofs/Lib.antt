@@ -5,3 +5,5 @@ pub mod Orderly
 pub mod Changes
 pub mod Events
 pub mod Tallies
+pub mod Paid
+pub mod Validity
