@@ -7,3 +7,5 @@ pub mod Events
 pub mod Tallies
 pub mod Paid
 pub mod Validity
+pub mod Keeps
+pub mod Balance

@@ -170,4 +170,3 @@ module _ (h : Hall) (q n : ℕ) (v : IsMatched h) where
         by_semaphore h q (poured (semaphore_at h q) n) (λ k z. lack_of z.queue f ≤ y.demand)
         (omega (arith, lack-pour (queue_at h q) n f, v.within q f old.0 old.1, old.2)) (λ k apart. omega (arith, v.within k f old.0 old.1, old.2)) s;
   }
-

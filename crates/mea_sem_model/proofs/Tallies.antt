@@ -148,9 +148,9 @@ module _ (h : Hall) (i s : ℕ) where
   polls_at : (f w : ℕ) (x : Future) (t : Stage) → Tallied (semaphore_at h s) (semaphore_at (poll_at h i f w x t).hall s) 0 0 (if_ready (forgetting_demand s (Some x)) (poll_at h i f w x t).reply)
   polls_at f w x New = elim (nat_le x.demand (free h x.semaphore)) as (λ b. Tallied (semaphore_at h s) (semaphore_at (if b then quietly (made_ready (with_semaphore h x.semaphore (taking (semaphore_at h x.semaphore) x.demand)) i f x) answers.Ready else quietly (queueing h f w x) answers.Pending).hall s) 0 0
       (if_ready (forgetting_demand s (Some x)) (if b then quietly (made_ready (with_semaphore h x.semaphore (taking (semaphore_at h x.semaphore) x.demand)) i f x) answers.Ready else quietly (queueing h f w x) answers.Pending).reply)) [
-    | true ↦ quiet_first _ _ _ _ _ _ (takes h x.semaphore x.demand s) (readies (with_semaphore h x.semaphore (taking (semaphore_at h x.semaphore) x.demand)) i f s x)
-    | false ↦ queues h f w s x
-  ]
+        | true ↦ quiet_first _ _ _ _ _ _ (takes h x.semaphore x.demand s) (readies (with_semaphore h x.semaphore (taking (semaphore_at h x.semaphore) x.demand)) i f s x)
+        | false ↦ queues h f w s x
+      ]
   polls_at f w x (Waiting u) = same (semaphore_at h s)
   polls_at f w x Granted = readies h i f s x
 
