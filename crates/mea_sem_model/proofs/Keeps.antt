@@ -14,7 +14,7 @@ use Rattle.mea_sem_model.proofs.Orderly.{orderly}
 use Rattle.mea_sem_model.proofs.Events.{steps}
 use Rattle.mea_sem_model.proofs.Tallies.{tallies}
 use Rattle.mea_sem_model.proofs.Paid.{parts, paid_or_lacked}
-use Rattle.mea_sem_model.proofs.Validity.{kept_valid}
+use Rattle.mea_sem_model.proofs.StaysValid.{kept_valid}
 
 -- ---- each event keeps it
 pub keeps_valid : (h : Hall) (i : ℕ) (e : SemEvent) → IsValid h → IsBelow h i → Fits e → cause_of h e ≡ None → IsValid (step h i e).hall

@@ -3,6 +3,10 @@
 //! code that runs but the type of an event; the halls above are proved against it.
 #![tactic(auto)]
 
+mod balance;
 mod event;
+mod validity;
 
+pub use balance::permits_balance;
 pub use event::SemEvent;
+pub use validity::{names_stay_below, tallies_account, validity_is_kept};
