@@ -9,3 +9,4 @@ pub mod Paid
 pub mod StaysValid
 pub mod Keeps
 pub mod Balanced
+pub mod LostWakes

@@ -6,7 +6,9 @@
 mod balance;
 mod event;
 mod validity;
+mod wakes;
 
 pub use balance::permits_balance;
 pub use event::SemEvent;
 pub use validity::{names_stay_below, tallies_account, validity_is_kept};
+pub use wakes::no_wake_is_lost;
