@@ -10,3 +10,5 @@ pub mod StaysValid
 pub mod Keeps
 pub mod Balanced
 pub mod LostWakes
+pub mod HeadFirst
+pub mod SmallLaws
