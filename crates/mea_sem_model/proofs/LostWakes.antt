@@ -1,7 +1,7 @@
 -- no wake is lost
-use Rattle.std.proofs.Common.{◌≡◌, ◌≢◌, ℕ, ◌+◌, ◌-◌, ◌<◌, ◌≤◌, ◌==◌, ◌||◌, Bool, true, false, cond, List, [], ◌∷◌, ◌++◌, Option, Some, None, refl, ap, sym, subst, ◌∙◌, arith, if◌then◌else◌, nat_le, is_some}
+use Rattle.std.proofs.Common.{◌≡◌, ℕ, ◌+◌, ◌-◌, ◌<◌, ◌≤◌, ◌==◌, ◌||◌, Bool, true, false, cond, List, [], ◌∷◌, ◌++◌, Option, Some, None, refl, ap, sym, subst, ◌∙◌, arith, if◌then◌else◌, nat_le}
 use Rattle.std.specs.List.{flat_map, Contains}
-use Rattle.std.specs.Option.{option_map, IsSome}
+use Rattle.std.specs.Option.{option_map}
 use Rattle.std.specs.Ordering.{nat_cmp}
 use Rattle.std.specs.FinMap.{FinMap, get, insert, remove}
 use Rattle.std.proofs.lemmas.Bool.{eqb-true, eqb-false, eq-eqb}
@@ -12,12 +12,12 @@ use Rattle.mea_base.specs.declared.answer.Answer.{Answer}
 use Rattle.mea_base.specs.declared.answer.Answer.TheVariants as answers
 use Rattle.mea_sem_model.specs.declared.event.SemEvent.{SemEvent}
 use Rattle.mea_sem_model.specs.declared.event.SemEvent.TheVariants as events
-use Rattle.mea_sem_model.specs.Hall.{Hall, Semaphore, Future, Permit, Stage, New, Waiting, Granted, Who, Waiter, Debt, names, semaphore_at, queue_at, free, granted, pour, waker_of, waker_of_future, waker_of_who, wakes_of, with_semaphore}
-use Rattle.mea_sem_model.specs.Cause.{is_future, cause_of}
+use Rattle.mea_sem_model.specs.Hall.{Hall, Future, Permit, Stage, New, Waiting, Granted, Who, Waiter, Debt, names, semaphore_at, queue_at, free, granted, waker_of, waker_of_future, waker_of_who, wakes_of, with_semaphore}
+use Rattle.mea_sem_model.specs.Cause.{cause_of}
 use Rattle.mea_sem_model.specs.Step.{Outcome, quietly, pouring, with_future, without_future, with_permit, without_permit, taking, try_of, try_and_forget, made_ready, queueing, poll_at, poll_of, leaving, end_future, end_permit, end_of, lose_of, merge_of, split_of, released_to, step}
 use Rattle.mea_sem_model.specs.Valid.{IsBelow}
 use Rattle.mea_sem_model.specs.Runs.{Told, Run, told, goes_on, Runs, Starts, Goes, waker_in, is_pending, kept_waker, last_waker_at, last_waker, wakes_at, wakes_since, LosesNoWake}
-use Rattle.mea_sem_model.proofs.HallLemmas.{inside, value_in, is_there, get-there, get-other, get-gone, get-removed_other, among, get-grant_all, by_gone}
+use Rattle.mea_sem_model.proofs.HallLemmas.{inside, value_in, is_there, get-there, get-other, get-removed_other, among, get-grant_all, by_gone}
 use Rattle.mea_sem_model.proofs.Events.{known}
 use Rattle.mea_sem_model.proofs.Balanced as balance
 

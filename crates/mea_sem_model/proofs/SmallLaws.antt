@@ -1,16 +1,12 @@
 -- nobody overtakes who waits, and an end gives back what was paid
-use Rattle.std.proofs.Common.{◌≡◌, ◌≢◌, ℕ, ◌+◌, ◌-◌, ◌<◌, ◌≤◌, ◌==◌, Bool, true, false, cond, List, [], ◌∷◌, not, nat_le, filter, refl, ap, sym, subst, ◌∙◌, arith, Option, Some, None, if◌then◌else◌, sum_by, zero, suc}
+use Rattle.std.proofs.Common.{◌≡◌, ◌≢◌, ℕ, ◌+◌, ◌-◌, ◌<◌, ◌==◌, Bool, true, false, cond, List, [], ◌∷◌, not, nat_le, refl, ap, sym, ◌∙◌, arith, Some, None, if◌then◌else◌, zero, suc}
 use Rattle.std.specs.FinMap.{get}
 use Rattle.std.proofs.lemmas.List.Sums.{sum_by-cons}
-use Rattle.std.proofs.lemmas.Bool.{eq-eqb, leb-true, lt-leb}
-use Rattle.std.proofs.lemmas.Bool.Decides.{nat_tests}
-use Rattle.mea_base.specs.Queue.{lacks}
+use Rattle.std.proofs.lemmas.Bool.{eq-eqb, lt-leb}
 use Rattle.mea_base.specs.Totals.{weight}
-use Rattle.mea_base.specs.declared.answer.Answer.{Answer}
 use Rattle.mea_base.specs.declared.answer.Answer.TheVariants as answers
-use Rattle.mea_sem_model.specs.declared.event.SemEvent.{SemEvent}
 use Rattle.mea_sem_model.specs.declared.event.SemEvent.TheVariants as events
-use Rattle.mea_sem_model.specs.Hall.{Hall, Semaphore, Future, Stage, New, Waiting, Granted, Who, Waiter, Debt, semaphore_at, queue_at, names, lack_of, debt_of, debts, paid_to, free, held, paid, owed, live, pour, with_semaphore}
+use Rattle.mea_sem_model.specs.Hall.{Hall, Semaphore, Future, New, Waiting, Granted, Who, Waiter, Debt, semaphore_at, queue_at, lack_of, debt_of, debts, paid_to, free, owed, live, pour, with_semaphore}
 use Rattle.mea_sem_model.specs.Cause.{cause_of}
 use Rattle.mea_sem_model.specs.Step.{quietly, with_permit, taking, made_ready, queueing, poll_at, poll_of, end_future, end_of, leaving, without, without_future, try_of, try_and_forget, step}
 use Rattle.mea_sem_model.specs.Valid.{IsValid, IsBelow}

@@ -14,8 +14,7 @@ pub fn nobody_overtakes()
     ensures tries { (h : Hall) → IsValid h → (i s n : ℕ) (plain : Bool) → queue_at h s ≢ [] → 0 < n → (try_of h i s n plain).reply ≡ answers.Lacking }
     ensures forgetting { (h : Hall) → IsValid h → (s n : ℕ) → queue_at h s ≢ [] → 0 < n → (try_and_forget h s n).reply ≡ answers.No }
     ensures polls { (h : Hall) → IsValid h → (i f w : ℕ) (x : Future) → finmap.get h.futures f ≡ Some x → x.stage ≡ New → queue_at h x.semaphore ≢ [] → 0 < x.demand → (step h i (events.Poll f w)).reply ≡ answers.Pending }
-{
-}
+{}
 
 /// Permits are poured to the head first, whole or in part, and those who are granted stood before those
 /// who wait on.
@@ -23,8 +22,7 @@ pub fn the_head_is_paid_first()
     ensures part { (e : Who × ℕ) (q : List (Who × ℕ)) (n : ℕ) → AllLack q → n < e.1 → waiting_after (e ∷ q) n ≡ (e.0, e.1 - n) ∷ q }
     ensures whole { (e : Who × ℕ) (q : List (Who × ℕ)) (n : ℕ) → e.1 ≤ n → waiting_after (e ∷ q) n ≡ waiting_after q (n - e.1) }
     ensures order { (q : List (Who × ℕ)) (n : ℕ) → AllLack q → granted_in q n ++ map (λ (e : Who × ℕ). e.0) (waiting_after q n) ≡ map (λ (e : Who × ℕ). e.0) q }
-{
-}
+{}
 
 /// A future that ends gives back exactly what it was paid, and an end makes no permit and loses none but
 /// to debts.
@@ -34,5 +32,4 @@ pub fn an_end_gives_back_what_was_paid()
     ensures granted { (h : Hall) (i f : ℕ) (x : Future) → finmap.get h.futures f ≡ Some x → x.stage ≡ Granted → (step h i (events.End f)).hall ≡ pour (without_future h f) x.semaphore (paid_to (queue_at h x.semaphore) f x.demand x.stage) }
     ensures leaving { (h : Hall) → IsValid h → (f w : ℕ) (x : Future) → finmap.get h.futures f ≡ Some x → x.stage ≡ Waiting w → live (leaving h f x) x.semaphore + paid_to (queue_at h x.semaphore) f x.demand x.stage ≡ live h x.semaphore }
     ensures conserves { (h : Hall) (i k : ℕ) → IsValid h → IsBelow h i → cause_of h (events.End k) ≡ None → (s : ℕ) → live (step h i (events.End k)).hall s + owed h s ≡ live h s + owed (step h i (events.End k)).hall s }
-{
-}
+{}
