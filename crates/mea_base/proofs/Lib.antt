@@ -2,4 +2,5 @@ pub mod NamedMaps
 pub mod Queues
 pub mod Totals
 pub mod Trims
+pub mod WaitPlaces
 pub mod Waits

@@ -53,13 +53,13 @@ impl<T> Model for WaitList<T> {
 fn store<T>(places: &mut Vec<Option<T>>, free: &mut Vec<usize>, value: T) -> usize
     requires numbered { AreNumbered places.old.items free.old.items }
     requires room { length places.old.items < vec_capacity places.old + length free.old.items }
+    requires free_room { (length places.old.items ≤ vec_capacity free.old) × (length places.old.items < vec_capacity free.old + length free.old.items) }
     ensures numbered { AreNumbered places.new.items free.new.items }
     ensures vacant { slice_index_or places.old.items result None ≡ None }
     ensures stored { slice_index_or places.new.items result None ≡ Some value }
     ensures others { (other : ℕ) → other ≢ result → slice_index_or places.new.items other None ≡ slice_index_or places.old.items other None }
     ensures used { length places.new.items + length free.old.items ≡ length places.old.items + length free.new.items + 1 }
-    ensures grows { length free.new.items ≤ length free.old.items }
-    ensures full { length free.old.items ≤ length free.new.items → length free.old.items ≡ 0 }
+    ensures free_room { length places.new.items ≤ vec_capacity free.new }
     ensures places_capacity { vec_capacity places.new ≡ vec_capacity places.old }
     ensures free_capacity { vec_capacity free.new ≡ vec_capacity free.old }
 {
