@@ -1,9 +1,9 @@
 -- an acquire of a core: what its place holds, and what a later poll or its end does to the places
-use Rattle.std.proofs.Common.{◌≡◌, ℕ, ◌⊎◌, true, false, IsSome, Some, None, refl, sym, ap, ◌∙◌, inl, inr}
+use Rattle.std.proofs.Common.{◌≡◌, ℕ, ◌⊎◌, true, false, IsSome, Some, None, refl, ap, ◌∙◌}
 use Rattle.std.specs.FinMap as fin
 use Rattle.mea_base.specs.WaitList.{Waits, get, is_linked, with_value, without, Updates}
 use Rattle.mea_sem_core.specs.declared.place.Place.{Place}
-use Rattle.mea_sem_core.specs.declared.place.Place.TheVariants.{Acquire, Granted}
+use Rattle.mea_sem_core.specs.declared.place.Place.TheVariants.{Acquire}
 use Rattle.mea_sem_core.specs.Core.{waiting}
 use Rattle.mea_sem_core.specs.Places.{queue_of, granted_of, IsQueue, is_grant_of, with_new_waker, paid_slot, LacksAtMost}
 use Rattle.mea_sem_core.proofs.Grants.{Updates-with_value}

@@ -11,7 +11,7 @@ use Rattle.mea_base.proofs.Waits.{sum_by-updated, in_use_within, IsDistinct-with
 use Rattle.std.proofs.lemmas.List.Sums.{get_or-le-sum_by}
 use Rattle.mea_sem_core.specs.declared.place.Place.{Place}
 use Rattle.mea_sem_core.specs.declared.place.Place.TheVariants.{Acquire, Debt, Granted}
-use Rattle.mea_sem_core.specs.Core.{Waiter, Acquires, Owes, waiting, HasDebtsFirst}
+use Rattle.mea_sem_core.specs.Core.{Acquires, Owes, waiting, HasDebtsFirst}
 use Rattle.mea_sem_core.specs.Places.{entry, entries, queue_of, granted_of, grant_of, pairs_from, AllWaiting, IsQueue, paid_slot, paid_in, is_grant_of, is_acquire_of, LacksAtMost}
 use Rattle.mea_sem_core.specs.Calls.{with_waker, without_acquire, StandsAs}
 use Rattle.mea_sem_core.specs.declared.acquire.Acquire.TheVariants.{Queued}
