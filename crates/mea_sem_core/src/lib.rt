@@ -4,5 +4,12 @@
 #![tactic(auto)]
 
 mod acquire;
+mod checked;
+mod place;
+mod pouring;
+mod sem_core;
+#[cfg(test)]
+mod tests;
 
 pub use acquire::Acquire;
+pub use sem_core::SemCore;
