@@ -1,0 +1,4 @@
+pub mod Cores
+pub mod Names
+pub mod Changes
+pub mod PourHalls
