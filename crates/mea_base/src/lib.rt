@@ -9,6 +9,7 @@ mod outbox;
 mod overflow;
 mod stop;
 mod turn;
+mod wait_list;
 mod wake;
 
 pub use answer::Answer;
@@ -19,4 +20,5 @@ pub use outbox::Outbox;
 pub use overflow::Overflow;
 pub use stop::Stop;
 pub use turn::Turn;
+pub use wait_list::WaitList;
 pub use wake::Wake;
