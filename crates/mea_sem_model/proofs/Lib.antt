@@ -1,0 +1,11 @@
+pub mod HallLemmas
+pub mod Pours
+pub mod Matched
+pub mod Orderly
+pub mod Changes
+pub mod Events
+pub mod Tallies
+pub mod Paid
+pub mod Validity
+pub mod Keeps
+pub mod Balance
