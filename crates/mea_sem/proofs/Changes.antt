@@ -33,7 +33,7 @@ pub record Changes (st st' : Store) (b b' s f : ℕ) (e e' : SemaphoreEntry) (o 
   pub home : (x : FutureEntry) → o' ≡ Some x → Belongs e'.core x.acquire × IsOpen x.acquire
   -- what stands under the numbers of others stays
   pub kept : (d n : ℕ) → has s n o ≡ false → Belongs e.core (Queued d n) → Belongs e'.core (Queued d n)
-  pub wakers : (n : ℕ) → has s n o ≡ false → cores.waker_under e'.core.queue n ≡ cores.waker_under e.core.queue n
+  pub wakers : (n : ℕ) → has s n o ≡ false → has s n o' ≡ false → cores.waker_under e'.core.queue n ≡ cores.waker_under e.core.queue n
   -- who waits is the future, or waited before
   pub waits : (n d l : ℕ) → cores.waiting e'.core.queue n ≡ Some (d, l) → ((x : FutureEntry) × (o' ≡ Some x) × (x.acquire ≡ Queued d n)) ⊎ ((has s n o ≡ false) × ((k : ℕ) × (cores.waiting e.core.queue n ≡ Some (d, k))))
   -- the future's number is nobody else's
@@ -60,6 +60,14 @@ module _ (st st' : Store) (b b' s f : ℕ) (e e' : SemaphoreEntry) (o o' : Optio
       by_test : (t : Bool) → has s n o ≡ t → has s n o ≡ false
       by_test false h = h
       by_test true h = let x = has-parts s n o h in absurd (apart (linked.apart f g n x.0 y (c.was ∙ x.1) is (x.2 ∙ sym mine) x.3 under))
+
+  -- nor is it what f has now
+  not_now_mine : (g n : ℕ) (y : FutureEntry) → (f ≡ g → ⊥) → get st.futures g ≡ Some y → y.semaphore ≡ s → is_under y.acquire n ≡ true → has s n o' ≡ false
+  not_now_mine g n y apart is mine under = by_test (has s n o') refl
+    where
+      by_test : (t : Bool) → has s n o' ≡ t → has s n o' ≡ false
+      by_test false h = h
+      by_test true h = let x = has-parts s n o' h in absurd (c.alone g n x.0 y x.1 apart is mine x.3 under)
 
   home_kept : (y : FutureEntry) (a : Acquire) → y.acquire ≡ a → ((n : ℕ) → is_under y.acquire n ≡ true → has s n o ≡ false) → Belongs e.core a → IsOpen a → Belongs e'.core a
   home_kept y (New d) is free belongs still = tt
@@ -212,7 +220,7 @@ module _ (st st' : Store) (b b' s f : ℕ) (e e' : SemaphoreEntry) (o o' : Optio
 
   stage_kept : (g : ℕ) (y : FutureEntry) (a : Acquire) → y.acquire ≡ a → (f ≡ g → ⊥) → get st.futures g ≡ Some y → y.semaphore ≡ s → stage_of a e'.core.queue ≡ stage_of a e.core.queue
   stage_kept g y (New d) is apart at mine = refl
-  stage_kept g y (Queued d n) is apart at mine = ap stage_under (c.wakers n (not_mine g n y apart at mine (under-queued y.acquire d n is)))
+  stage_kept g y (Queued d n) is apart at mine = ap stage_under (c.wakers n (not_mine g n y apart at mine (under-queued y.acquire d n is)) (not_now_mine g n y apart at mine (under-queued y.acquire d n is)))
   stage_kept g y (Done d) is apart at mine = refl
 
   future_kept : (g : ℕ) (y : FutureEntry) → (f ≡ g → ⊥) → get st.futures g ≡ Some y → future_of st'.semaphores y ≡ future_of st.semaphores y

@@ -6,10 +6,11 @@ use Rattle.std.specs.Ordering.{nat_cmp}
 use Rattle.std.specs.FinMap.{FinMap, get, insert, remove}
 use Rattle.std.proofs.lemmas.Bool.{eqb-true, eqb-false, eq-eqb, ne_eqb}
 use Rattle.std.proofs.lemmas.Bool.Decides.{nat_tests}
+use Rattle.std.proofs.lemmas.List.Sums.{sum_by-cons}
 use Rattle.mea_base.specs.Queue.{lacks_after, waiting_after, granted_in}
 use Rattle.mea_base.proofs.Totals.{get_inserted, get_removed}
-use Rattle.mea_sem_core.specs.Core.{Waiter, Acquires, Owes, waiting, waker_under, AreApart, granting}
-use Rattle.mea_sem_core.specs.Calls.{with_waker, without_acquire}
+use Rattle.mea_sem_core.specs.Core.{Waiter, Acquires, Owes, waiting, waker_under, AreApart, granting, debts, debt_of}
+use Rattle.mea_sem_core.specs.Calls.{with_waker, without_acquire, with_debt}
 
 abbrev pub Queue : Type 0
 Queue = List (Waiter ℕ × ℕ)
@@ -98,6 +99,11 @@ waker-push ((Acquires k e v, j) ∷ q) m d w l n h =
     parts_of false t h = (eqb-false k m t, h)
 waker-push ((Owes, j) ∷ q) m d w l n h = waker-push q m d w l n h
 
+pub debts-push : (q : Queue) (m d w l : ℕ) → debts (q ++ (Acquires m d w, l) ∷ []) ≡ debts q
+debts-push [] m d w l = sum_by-cons {X = Waiter ℕ × ℕ} (λ e. debt_of e.0 e.1) (Acquires m d w, l) []
+debts-push (e ∷ q) m d w l =
+    omega (arith, debts-push q m d w l, sum_by-cons {X = Waiter ℕ × ℕ} (λ x. debt_of x.0 x.1) e q, sum_by-cons {X = Waiter ℕ × ℕ} (λ x. debt_of x.0 x.1) e (q ++ (Acquires m d w, l) ∷ []))
+
 -- ---- another waker
 pub waiting-with_waker : (q : Queue) (m w n : ℕ) → waiting (with_waker q m w) n ≡ waiting q n
 waiting-with_waker [] m w n = refl
@@ -125,6 +131,13 @@ pub AreApart-with_waker : (q : Queue) (m w : ℕ) → AreApart q → AreApart (w
 AreApart-with_waker [] m w h = h
 AreApart-with_waker ((Acquires k d v, l) ∷ q) m w h = (waiting-with_waker q m w k ∙ h.0, AreApart-with_waker q m w h.1)
 AreApart-with_waker ((Owes, l) ∷ q) m w h = AreApart-with_waker q m w h
+
+pub debts-with_waker : (q : Queue) (m w : ℕ) → debts (with_waker q m w) ≡ debts q
+debts-with_waker [] m w = refl
+debts-with_waker ((Acquires k d v, l) ∷ q) m w =
+    omega (arith, debts-with_waker q m w, sum_by-cons {X = Waiter ℕ × ℕ} (λ x. debt_of x.0 x.1) (Acquires k d v, l) q, sum_by-cons {X = Waiter ℕ × ℕ} (λ x. debt_of x.0 x.1) (Acquires k d (if k == m then w else v), l) (with_waker q m w))
+debts-with_waker ((Owes, l) ∷ q) m w =
+    omega (arith, debts-with_waker q m w, sum_by-cons {X = Waiter ℕ × ℕ} (λ x. debt_of x.0 x.1) (Owes, l) q, sum_by-cons {X = Waiter ℕ × ℕ} (λ x. debt_of x.0 x.1) (Owes, l) (with_waker q m w))
 
 -- ---- one has left
 pub swapped : {X : Type 0} (k m n : ℕ) (x y : Option X) → (k ≡ m → ⊥) → cond (k == n) x (cond (m == n) None y) ≡ cond (m == n) None (cond (k == n) x y)
@@ -178,6 +191,68 @@ AreApart-push ((Acquires k e v, j) ∷ q) m d w l none h =
     parts_of true t h = absurd (cc)
     parts_of false t h = (eqb-false k m t, h)
 AreApart-push ((Owes, j) ∷ q) m d w l none h = AreApart-push q m d w l none h
+
+-- ---- a debt at the head
+pub waiting-debt : (q : Queue) (n m : ℕ) → waiting (with_debt q n) m ≡ waiting q m
+waiting-debt q n m = elim (n == 0) as (λ b. waiting (cond b q ((Owes, n) ∷ q)) m ≡ waiting q m) [ true ↦ refl | false ↦ refl ]
+
+pub waker-debt : (q : Queue) (n m : ℕ) → waker_under (with_debt q n) m ≡ waker_under q m
+waker-debt q n m = elim (n == 0) as (λ b. waker_under (cond b q ((Owes, n) ∷ q)) m ≡ waker_under q m) [ true ↦ refl | false ↦ refl ]
+
+pub AreApart-debt : (q : Queue) (n : ℕ) → AreApart q → AreApart (with_debt q n)
+AreApart-debt q n h = elim (n == 0) as (λ b. AreApart (cond b q ((Owes, n) ∷ q))) [ true ↦ h | false ↦ h ]
+
+pub debts-debt : (q : Queue) (n : ℕ) → debts (with_debt q n) ≡ debts q + n
+debts-debt q n = elim (n == 0) as (λ b. (n == 0) ≡ b → debts (cond b q ((Owes, n) ∷ q)) ≡ debts q + n) [
+  | true ↦ λ h. let none : n ≡ 0 = eqb-true n 0 h in omega arith
+  | false ↦ λ h. omega (arith, sum_by-cons {X = Waiter ℕ × ℕ} (λ e. debt_of e.0 e.1) (Owes, n) q)
+] refl
+
+pub debts-without : (q : Queue) (m : ℕ) → debts (without_acquire q m) ≡ debts q
+debts-without [] m = refl
+debts-without ((Acquires k d v, l) ∷ q) m = elim (k == m) as (λ b. debts (cond b (without_acquire q m) ((Acquires k d v, l) ∷ without_acquire q m)) ≡ debts ((Acquires k d v, l) ∷ q)) [
+  | true ↦ omega (arith, debts-without q m, sum_by-cons {X = Waiter ℕ × ℕ} (λ x. debt_of x.0 x.1) (Acquires k d v, l) q)
+  | false ↦ omega (arith, debts-without q m, sum_by-cons {X = Waiter ℕ × ℕ} (λ x. debt_of x.0 x.1) (Acquires k d v, l) q, sum_by-cons {X = Waiter ℕ × ℕ} (λ x. debt_of x.0 x.1) (Acquires k d v, l) (without_acquire q m))
+]
+debts-without ((Owes, l) ∷ q) m =
+    omega (arith, debts-without q m, sum_by-cons {X = Waiter ℕ × ℕ} (λ x. debt_of x.0 x.1) (Owes, l) q, sum_by-cons {X = Waiter ℕ × ℕ} (λ x. debt_of x.0 x.1) (Owes, l) (without_acquire q m))
+
+-- what a pour does to the debts
+debts-lacks_after : (q : Queue) (before n : ℕ) → (debts (lacks_after before q n) ≤ debts q) × (debts q ≤ debts (lacks_after before q n) + (n - before))
+debts-lacks_after [] before n = (omega arith, omega arith)
+debts-lacks_after ((Acquires k d v, l) ∷ q) before n =
+    let rest = debts-lacks_after q (before + l) n in
+    let a = rest.0 in
+    let b = rest.1 in
+    let x = sum_by-cons {X = Waiter ℕ × ℕ} (λ x. debt_of x.0 x.1) (Acquires k d v, l) q in
+    let y = sum_by-cons {X = Waiter ℕ × ℕ} (λ x. debt_of x.0 x.1) (Acquires k d v, min l (before + l - n)) (lacks_after (before + l) q n) in
+    (omega (arith, a, x, y), omega (arith, b, x, y))
+debts-lacks_after ((Owes, l) ∷ q) before n =
+    let rest = debts-lacks_after q (before + l) n in
+    let a = rest.0 in
+    let b = rest.1 in
+    let x = sum_by-cons {X = Waiter ℕ × ℕ} (λ x. debt_of x.0 x.1) (Owes, l) q in
+    let y = sum_by-cons {X = Waiter ℕ × ℕ} (λ x. debt_of x.0 x.1) (Owes, min l (before + l - n)) (lacks_after (before + l) q n) in
+    (omega (arith, a, x, y), omega (arith, b, x, y))
+
+debts-filter : (q : Queue) → debts (filter {X = Waiter ℕ × ℕ} (λ e. nat_lt 0 e.1) q) ≡ debts q
+debts-filter [] = refl
+debts-filter (e ∷ q) = elim (nat_lt 0 e.1) as (λ b. nat_lt 0 e.1 ≡ b → debts (cond b (e ∷ filter {X = Waiter ℕ × ℕ} (λ d. nat_lt 0 d.1) q) (filter {X = Waiter ℕ × ℕ} (λ d. nat_lt 0 d.1) q)) ≡ debts (e ∷ q)) [
+  | true ↦ λ h. omega (arith, debts-filter q, sum_by-cons {X = Waiter ℕ × ℕ} (λ x. debt_of x.0 x.1) e q, sum_by-cons {X = Waiter ℕ × ℕ} (λ x. debt_of x.0 x.1) e (filter {X = Waiter ℕ × ℕ} (λ d. nat_lt 0 d.1) q))
+  | false ↦ λ h. let nothing : e.1 ≡ 0 = grind (arith, nat_tests) in omega (arith, debts-filter q, no_debt e.0 e.1 nothing, sum_by-cons {X = Waiter ℕ × ℕ} (λ x. debt_of x.0 x.1) e q)
+] refl
+  where
+    no_debt : (w : Waiter ℕ) (l : ℕ) → l ≡ 0 → debt_of w l ≡ 0
+    no_debt (Acquires k d v) l h = refl
+    no_debt Owes l h = h
+
+pub debts-pour : (q : Queue) (n : ℕ) → (debts (waiting_after q n) ≤ debts q) × (debts q ≤ debts (waiting_after q n) + n)
+debts-pour q n =
+    let a = debts-lacks_after q 0 n in
+    let b = debts-filter (lacks_after 0 q n) in
+    let c = a.0 in
+    let d = a.1 in
+    (omega (arith, b, c), omega (arith, b, d))
 
 -- ---- pouring
 
@@ -243,7 +318,7 @@ one_paid k n d w l before after u v paid fresh splits = elim (k == n) as (λ b. 
 ] refl
 
 -- a choice of whether one more waits on, by its new lack
-one_more : (j : ℕ) (P : Queue → List (Waiter ℕ) → Type 0) (e : Waiter ℕ) (rest paid : Queue) → P ((e, j) ∷ rest) (map {A = Waiter ℕ × ℕ} (λ x. x.0) paid) → P rest (e ∷ map {A = Waiter ℕ × ℕ} (λ x. x.0) paid)
+pub one_more : (j : ℕ) (P : Queue → List (Waiter ℕ) → Type 0) (e : Waiter ℕ) (rest paid : Queue) → P ((e, j) ∷ rest) (map {A = Waiter ℕ × ℕ} (λ x. x.0) paid) → P rest (e ∷ map {A = Waiter ℕ × ℕ} (λ x. x.0) paid)
     → P (cond (nat_lt 0 j) ((e, j) ∷ rest) rest) (map {A = Waiter ℕ × ℕ} (λ x. x.0) (cond (j == 0) ((e, j) ∷ paid) paid))
 one_more j P e rest paid waits pays =
     elim (j == 0) as (λ b. (j == 0) ≡ b → P (cond (nat_lt 0 j) ((e, j) ∷ rest) rest) (map {A = Waiter ℕ × ℕ} (λ x. x.0) (cond b ((e, j) ∷ paid) paid))) [

@@ -2,3 +2,15 @@ pub mod Cores
 pub mod Names
 pub mod Changes
 pub mod PourHalls
+pub mod Weighs
+pub mod Renumbered
+pub mod Keeping
+pub mod Still
+pub mod PlaysSemaphores
+pub mod PlaysNew
+pub mod PlaysPermits
+pub mod Gone
+pub mod PlaysReady
+pub mod PlaysFutures
+pub mod PlaysAgain
+pub mod PlaysPours

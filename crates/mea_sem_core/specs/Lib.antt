@@ -1,4 +1,3 @@
 pub mod Acquire
 pub mod Core
 pub mod Calls
-pub mod Places
