@@ -14,3 +14,5 @@ pub mod PlaysReady
 pub mod PlaysFutures
 pub mod PlaysAgain
 pub mod PlaysPours
+pub mod Left
+pub mod PlaysEnds

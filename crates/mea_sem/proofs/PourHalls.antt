@@ -77,7 +77,7 @@ module _ (st : Store) (b s : ℕ) (e : SemaphoreEntry) (linked : IsLinked st b) 
   granted_names n = ap (λ r. granted_in r.queue n) seen_at ∙ granted_in-map (who_of st.futures b s) e.core.queue n
 
   -- a future is named by a waiter of s where it has the waiter's number
-  names-number : (q : ℕ) (x : FutureEntry) (w : cores.Waiter ℕ) (l : ℕ) → get st.futures q ≡ Some x → x.semaphore ≡ s → IsAt e.core.queue (w, l) → (n d : ℕ) → x.acquire ≡ acquires.Queued d n → names (who_of st.futures b s w) q ≡ is_number w n
+  pub names-number : (q : ℕ) (x : FutureEntry) (w : cores.Waiter ℕ) (l : ℕ) → get st.futures q ≡ Some x → x.semaphore ≡ s → IsAt e.core.queue (w, l) → (n d : ℕ) → x.acquire ≡ acquires.Queued d n → names (who_of st.futures b s w) q ≡ is_number w n
   names-number q x (cores.Acquires m f v) l is mine at n d acquire = same_bool (name_of st.futures b s m == q) (m == n) to from
     where
       same_bool : (u v : Bool) → (u ≡ true → v ≡ true) → (v ≡ true → u ≡ true) → u ≡ v
