@@ -4,7 +4,7 @@ use Rattle.std.specs.List.{list_any}
 use Rattle.std.proofs.lemmas.Bool.{cases_eq}
 use Rattle.std.proofs.lemmas.Bool.Decides.{nat_tests}
 use Rattle.std.proofs.lemmas.List.{get_or-set_same, get_or-set_other, get_or_past}
-use Rattle.std.proofs.lemmas.List.Sums.{sum_by-set, sum_by-cons, count_by-le-length}
+use Rattle.std.proofs.lemmas.List.Sums.{sum_by-set, sum_by-cons}
 use Rattle.mea_base.specs.WaitList.{without, IsAbsent, IsDistinct, AllInUse}
 
 module _ {T : Type 0} where
@@ -58,9 +58,6 @@ module _ {T : Type 0} where
   count-set_none slots n used =
       let counted = sum_by-set (λ o. cond (is_some o) 1 0) slots n None None (in_use_within slots n used) in
       grind (arith, counted)
-
-  pub count-le-length : (slots : List (Option T)) → count_by is_some slots ≤ length slots
-  count-le-length slots = count_by-le-length is_some slots
 
   -- a write of a value at a number in use keeps the count
   pub count-set_some : (slots : List (Option T)) (n : ℕ) (value : T) → IsSome (get_or slots n None) → count_by is_some (set slots n (Some value)) ≡ count_by is_some slots

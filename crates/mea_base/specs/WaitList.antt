@@ -10,6 +10,7 @@ pub record Waits (T : Type 0) : Type 0 where
   pub slots : List (Option T)
   pub spare : ℕ
 
+-- what lets a `Waits` be the value of a model
 abbrev pub waits_code : {T : Type 0} → Coded T → Coded (Waits T)
 waits_code {T} code =
     code_by
@@ -34,6 +35,7 @@ IsDistinct [] = Unit {0}
 IsDistinct (n ∷ ns) = IsAbsent n ns × IsDistinct ns
 
 module _ {T : Type 0} where
+  -- a slot before others, or none at all where none of them has a value
   abbrev pub cons_slot : Option T → List (Option T) → List (Option T)
   cons_slot None [] = []
   cons_slot None (s ∷ ss) = None ∷ s ∷ ss

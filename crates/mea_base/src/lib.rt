@@ -8,6 +8,8 @@ mod no_memory;
 mod outbox;
 mod overflow;
 mod stop;
+#[cfg(test)]
+mod tests;
 mod turn;
 mod wait_list;
 mod wake;

@@ -53,7 +53,8 @@ impl<T> Model for WaitList<T> {
 fn store<T>(places: &mut Vec<Option<T>>, free: &mut Vec<usize>, value: T) -> usize
     requires numbered { AreNumbered places.old.items free.old.items }
     requires room { length places.old.items < vec_capacity places.old + length free.old.items }
-    requires free_room { (length places.old.items ≤ vec_capacity free.old) × (length places.old.items < vec_capacity free.old + length free.old.items) }
+    requires free_room { length places.old.items ≤ vec_capacity free.old }
+    requires free_grows { length places.old.items < vec_capacity free.old + length free.old.items }
     ensures numbered { AreNumbered places.new.items free.new.items }
     ensures vacant { slice_index_or places.old.items result None ≡ None }
     ensures stored { slice_index_or places.new.items result None ≡ Some value }
@@ -188,6 +189,7 @@ impl<T> WaitList<T> {
         Ok(self.push_head_reserved(value))
     }
 
+    // `push_tail` where a place is spare.
     fn push_tail_reserved(&mut self, value: T) -> usize
         requires { 1 ≤ self.old.spare }
         ensures fresh { get self.old result ≡ None }
@@ -201,6 +203,7 @@ impl<T> WaitList<T> {
         number
     }
 
+    // `push_head` where a place is spare.
     fn push_head_reserved(&mut self, value: T) -> usize
         requires { 1 ≤ self.old.spare }
         ensures fresh { get self.old result ≡ None }
