@@ -1,5 +1,5 @@
 -- what each change of a hall moves, where all lacks are counted and a polled future counts its whole demand
-use Rattle.std.proofs.Common.{◌≡◌, ℕ, ◌+◌, ◌-◌, ◌<◌, ◌≤◌, ◌==◌, Bool, true, false, cond, List, [], refl, ap, sym, subst, ◌∙◌, arith, Option, Some, None, unwrap_or, is_some}
+use Rattle.std.proofs.Common.{◌≡◌, ℕ, ◌+◌, ◌-◌, ◌<◌, ◌≤◌, ◌==◌, Bool, true, false, cond, [], refl, ap, sym, subst, ◌∙◌, arith, Option, Some, None}
 use Rattle.std.specs.Option.{option_map, IsSome}
 use Rattle.std.specs.Ordering.{nat_cmp}
 use Rattle.std.specs.FinMap.{FinMap, get}
@@ -8,7 +8,7 @@ use Rattle.mea_base.specs.Totals.{total, weight}
 use Rattle.mea_base.specs.Queue.{lacks, waiting_after, granted_in}
 use Rattle.mea_base.proofs.Totals.{total-insert, total-remove, total-alike}
 use Rattle.mea_base.proofs.Queues.{lacks-waiting_after}
-use Rattle.mea_sem_model.specs.Hall.{Hall, Semaphore, Future, Permit, Stage, New, Waiting, Granted, made_with, semaphore_at, queue_at, poured, granted, pour, lack_of, free, plain_things, with_semaphore}
+use Rattle.mea_sem_model.specs.Hall.{Hall, Semaphore, Future, Permit, Stage, New, Waiting, Granted, semaphore_at, queue_at, poured, granted, pour, lack_of, free, plain_things, with_semaphore}
 use Rattle.mea_sem_model.specs.Cause.{is_named}
 use Rattle.mea_sem_model.specs.Step.{with_future, without_future, with_permit, without_permit}
 use Rattle.mea_sem_model.specs.Valid.{count, one_if_waiting, waits_at, AllLack, HasDebtsFirst, IsBelow}

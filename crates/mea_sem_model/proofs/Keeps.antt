@@ -1,11 +1,11 @@
 -- what holds of the empty hall, and of each hall that an event leaves
-use Rattle.std.proofs.Common.{◌≡◌, ℕ, ◌+◌, ◌-◌, ◌<◌, ◌≤◌, ◌==◌, ◌&&◌, cond, List, [], refl, ap, sym, subst, ◌∙◌, arith, Option, Some, None, unwrap_or}
+use Rattle.std.proofs.Common.{◌≡◌, ℕ, ◌+◌, ◌≤◌, ◌==◌, ◌&&◌, cond, [], ap, sym, subst, ◌∙◌, arith, Some, None, unwrap_or}
 use Rattle.std.specs.Option.{IsSome}
 use Rattle.std.specs.Ordering.{nat_cmp}
-use Rattle.std.specs.FinMap.{FinMap, get, empty, get-empty}
+use Rattle.std.specs.FinMap.{get, empty, get-empty}
 use Rattle.mea_base.proofs.Totals.{total-empty}
 use Rattle.mea_sem_model.specs.declared.event.SemEvent.{SemEvent}
-use Rattle.mea_sem_model.specs.Hall.{Hall, Semaphore, Future, Permit, empty_hall, made_with, semaphore_at, queue_at, paid_to, debts, free, held, paid, owed, live, plain_things}
+use Rattle.mea_sem_model.specs.Hall.{Hall, Semaphore, Future, Permit, empty_hall, made_with, semaphore_at, queue_at, paid_to, debts, free, held, paid, owed, plain_things}
 use Rattle.mea_sem_model.specs.Cause.{cause_of}
 use Rattle.mea_sem_model.specs.Step.{step}
 use Rattle.mea_sem_model.specs.Valid.{count, waits_at, AllLack, HasDebtsFirst, IsValid, IsBelow, IsAccounted, Fits}
@@ -14,7 +14,7 @@ use Rattle.mea_sem_model.proofs.Orderly.{orderly}
 use Rattle.mea_sem_model.proofs.Events.{steps}
 use Rattle.mea_sem_model.proofs.Tallies.{tallies}
 use Rattle.mea_sem_model.proofs.Paid.{parts, paid_or_lacked}
-use Rattle.mea_sem_model.proofs.Validity.{kept_valid}
+use Rattle.mea_sem_model.proofs.StaysValid.{kept_valid}
 
 -- ---- each event keeps it
 pub keeps_valid : (h : Hall) (i : ℕ) (e : SemEvent) → IsValid h → IsBelow h i → Fits e → cause_of h e ≡ None → IsValid (step h i e).hall

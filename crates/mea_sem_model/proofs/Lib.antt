@@ -6,6 +6,9 @@ pub mod Changes
 pub mod Events
 pub mod Tallies
 pub mod Paid
-pub mod Validity
+pub mod StaysValid
 pub mod Keeps
-pub mod Balance
+pub mod Balanced
+pub mod LostWakes
+pub mod HeadFirst
+pub mod SmallLaws

@@ -1,11 +1,11 @@
 -- the queues and the waiting futures of a hall stay matched
-use Rattle.std.proofs.Common.{◌≡◌, ℕ, ◌+◌, ◌-◌, ◌<◌, ◌≤◌, ◌==◌, ◌||◌, Bool, true, false, cond, List, [], ◌∷◌, ◌++◌, refl, ap, sym, subst, ◌∙◌, arith, Option, Some, None}
+use Rattle.std.proofs.Common.{◌≡◌, ℕ, ◌+◌, ◌-◌, ◌<◌, ◌≤◌, ◌==◌, Bool, true, false, cond, [], ◌∷◌, ◌++◌, refl, ap, sym, subst, ◌∙◌, arith, Option, Some, None}
 use Rattle.std.specs.Option.{option_map}
 use Rattle.std.specs.FinMap.{get}
 use Rattle.std.proofs.lemmas.List.Sums.{sum_by-append}
 use Rattle.std.proofs.lemmas.Bool.{eqb-true, eq-eqb, ne_eqb}
 use Rattle.mea_base.specs.Queue.{waiting_after, granted_in}
-use Rattle.mea_sem_model.specs.Hall.{Hall, Semaphore, Future, Stage, New, Waiting, Granted, Who, Waiter, Debt, semaphore_at, queue_at, poured, granted, pour, names, lack_of, free, with_semaphore}
+use Rattle.mea_sem_model.specs.Hall.{Hall, Semaphore, Future, Stage, New, Waiting, Granted, Who, Waiter, semaphore_at, queue_at, poured, granted, pour, names, lack_of, free, with_semaphore}
 use Rattle.mea_sem_model.specs.Step.{with_future, without_future, queueing, without, leaving}
 use Rattle.mea_sem_model.specs.Valid.{count, one_if_waiting, waits_at, IsValid}
 use Rattle.mea_sem_model.proofs.HallLemmas.{by_put, by_gone, by_semaphore, inside, among, get-grant_all, granted_was}

@@ -1,17 +1,16 @@
 -- all that validity says besides, but for the bound on the permits, stays so
-use Rattle.std.proofs.Common.{◌≡◌, ℕ, ◌+◌, ◌-◌, ◌<◌, ◌≤◌, ◌==◌, ◌&&◌, Bool, true, false, cond, List, [], ◌∷◌, ◌++◌, refl, ap, sym, subst, ◌∙◌, arith, Option, Some, None, is_some, unwrap_or, zero, suc}
+use Rattle.std.proofs.Common.{◌≡◌, ℕ, ◌+◌, ◌<◌, ◌≤◌, ◌==◌, ◌&&◌, Bool, true, false, cond, [], refl, ap, sym, subst, ◌∙◌, arith, Option, Some, None, is_some, zero, suc}
 use Rattle.std.specs.Option.{option_map, IsSome}
-use Rattle.std.specs.Ordering.{nat_cmp}
-use Rattle.std.specs.FinMap.{FinMap, get, insert}
+use Rattle.std.specs.FinMap.{get, insert}
 use Rattle.std.proofs.lemmas.Bool.{eqb-true, and_parts}
 use Rattle.mea_base.specs.Totals.{total, weight}
-use Rattle.mea_base.specs.Queue.{lacks, waiting_after, granted_in}
+use Rattle.mea_base.specs.Queue.{waiting_after, granted_in}
 use Rattle.mea_base.proofs.Totals.{total-insert, total-remove, total-alike}
-use Rattle.mea_sem_model.specs.Hall.{Hall, Semaphore, Future, Permit, Who, made_with, semaphore_at, queue_at, poured, granted, grant_all, pour, free, plain_things, with_semaphore}
+use Rattle.mea_sem_model.specs.Hall.{Hall, Semaphore, Future, Permit, semaphore_at, queue_at, poured, granted, pour, free, plain_things, with_semaphore}
 use Rattle.mea_sem_model.specs.Cause.{is_named, is_named_semaphore}
 use Rattle.mea_sem_model.specs.Step.{with_future, without_future, with_permit, without_permit}
 use Rattle.mea_sem_model.specs.Valid.{AllLack, HasDebtsFirst, IsValid}
-use Rattle.mea_sem_model.proofs.HallLemmas.{by_put, by_gone, by_semaphore, inside, value_in, is_there, is_absent, among, get-grant_all, granted_was, granted_there, semaphore_named}
+use Rattle.mea_sem_model.proofs.HallLemmas.{by_put, by_gone, by_semaphore, inside, is_absent, among, get-grant_all, granted_was, granted_there, semaphore_named}
 use Rattle.mea_sem_model.proofs.Pours.{on_false, lacking-pour, first-pour, idle-pour}
 
 pub record IsOrderly (h : Hall) : Type 0 where

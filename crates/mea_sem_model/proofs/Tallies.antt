@@ -1,5 +1,5 @@
 -- how each event changes the tallies of a semaphore, and that no debt grows but by what is forgotten
-use Rattle.std.proofs.Common.{◌≡◌, ℕ, ◌+◌, ◌-◌, ◌<◌, ◌≤◌, ◌==◌, ◌&&◌, Bool, true, false, cond, List, [], ◌∷◌, ◌++◌, not, min, nat_le, refl, ap, sym, subst, ◌∙◌, arith, Option, Some, None, unwrap_or, if◌then◌else◌}
+use Rattle.std.proofs.Common.{◌≡◌, ℕ, ◌+◌, ◌-◌, ◌≤◌, ◌==◌, ◌&&◌, Bool, true, false, cond, [], ◌∷◌, ◌++◌, not, min, nat_le, refl, ap, sym, subst, arith, Option, Some, None, unwrap_or, if◌then◌else◌}
 use Rattle.std.specs.FinMap.{get}
 use Rattle.std.proofs.lemmas.Bool.{eqb-true}
 use Rattle.std.proofs.lemmas.List.Sums.{sum_by-append}
@@ -7,7 +7,7 @@ use Rattle.mea_base.specs.declared.answer.Answer.TheVariants as answers
 use Rattle.mea_sem_model.specs.declared.event.SemEvent.{SemEvent}
 use Rattle.mea_sem_model.specs.declared.event.SemEvent.TheVariants as events
 use Rattle.mea_sem_model.specs.Hall.{Hall, Semaphore, Future, Permit, Stage, New, Waiting, Granted, Who, Waiter, made_with, semaphore_at, queue_at, poured, pour, names, free, debt_of, debts, with_semaphore}
-use Rattle.mea_sem_model.specs.Step.{quietly, with_permit, without_permit, without_future, forgetting, forgetting_exactly, taking, try_of, try_and_forget, queueing, made_ready, poll_at, poll_of, end_future, end_permit, end_of, lose_of, merge_of, split_of, released_to, step, without, leaving}
+use Rattle.mea_sem_model.specs.Step.{quietly, with_permit, without_permit, without_future, forgetting_exactly, taking, try_of, try_and_forget, queueing, made_ready, poll_at, poll_of, end_future, end_permit, end_of, lose_of, merge_of, split_of, released_to, step, without, leaving}
 use Rattle.mea_sem_model.specs.Valid.{IsBelow}
 use Rattle.mea_sem_model.specs.Runs.{if_same, made_by, released_by, number_forgot, if_yes, if_ready, if_permit_of, forgetting_demand, forgotten_by}
 use Rattle.mea_sem_model.proofs.HallLemmas.{semaphore_put, poured-owed, filtered-owed}

@@ -1,21 +1,20 @@
 -- every event keeps a hall valid
-use Rattle.std.proofs.Common.{◌≡◌, ℕ, ◌+◌, ◌-◌, ◌<◌, ◌≤◌, ◌^◌, ◌==◌, Bool, true, false, cond, List, [], refl, ap, sym, subst, ◌∙◌, arith, Option, Some, None, unwrap_or}
+use Rattle.std.proofs.Common.{◌≡◌, ℕ, ◌+◌, ◌<◌, ◌≤◌, ◌^◌, ◌==◌, Bool, true, false, cond, refl, ap, subst, arith, None, unwrap_or}
 use Rattle.std.specs.Option.{IsSome}
-use Rattle.std.specs.Ordering.{nat_cmp}
-use Rattle.std.specs.FinMap.{FinMap, get, empty, get-empty}
-use Rattle.std.proofs.lemmas.Bool.{eqb-true, eqb-false, ltb-true, ne_eqb}
-use Rattle.mea_base.proofs.Totals.{total-empty, total-zero}
+use Rattle.std.specs.FinMap.{get}
+use Rattle.std.proofs.lemmas.Bool.{eqb-true, ltb-true, ne_eqb}
+use Rattle.mea_base.proofs.Totals.{total-zero}
 use Rattle.mea_sem_model.specs.declared.event.SemEvent.{SemEvent}
 use Rattle.mea_sem_model.specs.declared.event.SemEvent.TheVariants as events
-use Rattle.mea_sem_model.specs.Hall.{Hall, Semaphore, Future, Permit, Who, empty_hall, made_with, semaphore_at, queue_at, paid_to, free, held, paid, owed, live}
+use Rattle.mea_sem_model.specs.Hall.{Hall, Semaphore, Future, Permit, made_with, semaphore_at, queue_at, paid_to, free, live}
 use Rattle.mea_sem_model.specs.Cause.{cause_of}
 use Rattle.mea_sem_model.specs.Step.{step}
-use Rattle.mea_sem_model.specs.Valid.{count, waits_at, AllLack, HasDebtsFirst, IsValid, IsBelow, Fits}
-use Rattle.mea_sem_model.specs.Runs.{if_same, made_by, released_by, forgotten_by}
+use Rattle.mea_sem_model.specs.Valid.{IsValid, IsBelow, Fits}
+use Rattle.mea_sem_model.specs.Runs.{if_same, made_by, released_by}
 use Rattle.mea_sem_model.proofs.Pours.{on_false}
 use Rattle.mea_sem_model.proofs.Matched.{IsMatched, matched}
 use Rattle.mea_sem_model.proofs.Orderly.{IsOrderly, orderly}
-use Rattle.mea_sem_model.proofs.Changes.{Changed, no_semaphore_yet}
+use Rattle.mea_sem_model.proofs.Changes.{no_semaphore_yet}
 use Rattle.mea_sem_model.proofs.Events.{line, steps, release_known}
 use Rattle.mea_sem_model.proofs.Tallies.{tallies}
 use Rattle.mea_sem_model.proofs.Paid.{parts, paid_or_lacked}

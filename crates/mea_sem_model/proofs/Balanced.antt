@@ -1,12 +1,11 @@
 -- the permits balance after every run
-use Rattle.std.proofs.Common.{◌≡◌, ℕ, ◌+◌, ◌≤◌, List, ap, sym, ◌∙◌, arith, None}
+use Rattle.std.proofs.Common.{◌≡◌, ℕ, ◌+◌, ◌≤◌, ap, arith, None}
 use Rattle.std.proofs.lemmas.List.Sums.{sum_by-cons}
 use Rattle.mea_base.specs.Queue.{lacks}
 use Rattle.mea_base.proofs.Totals.{total-empty}
 use Rattle.mea_sem_model.specs.declared.event.SemEvent.{SemEvent}
-use Rattle.mea_sem_model.specs.Hall.{Hall, empty_hall, queue_at, free, held}
+use Rattle.mea_sem_model.specs.Hall.{empty_hall, queue_at, free, held}
 use Rattle.mea_sem_model.specs.Cause.{cause_of}
-use Rattle.mea_sem_model.specs.Step.{step}
 use Rattle.mea_sem_model.specs.Valid.{IsBelow}
 use Rattle.mea_sem_model.specs.Runs.{Told, Run, told, goes_on, Runs, Starts, Goes, made_by, released_by, forgotten_by, made, released, forgotten, Balances}
 use Rattle.mea_sem_model.proofs.Matched.{IsMatched, matched}
