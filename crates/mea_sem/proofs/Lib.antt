@@ -16,3 +16,4 @@ pub mod PlaysAgain
 pub mod PlaysPours
 pub mod Left
 pub mod PlaysEnds
+pub mod Standing

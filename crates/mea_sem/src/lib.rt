@@ -4,6 +4,10 @@
 #![tactic(auto)]
 
 mod entries;
+mod hall;
+mod moving;
+mod semaphores;
 
+pub use hall::SemHall;
 pub use mea_sem_core::{Acquire, SemCore};
 pub use mea_sem_model::SemEvent;
