@@ -1,3 +1,4 @@
 pub mod Play
 pub mod Store
 pub mod Kept
+pub mod Entries

@@ -1,7 +1,7 @@
-ghost use Rattle.std.specs.Prelude.{◌≡◌, ◌+◌, ◌-◌, ◌<◌, ◌≤◌, ◌^◌, ◌++◌, [], length, min, cond, IsOk, OnOk, OnErr};
+ghost use Rattle.std.specs.Prelude.{◌≡◌, ◌+◌, ◌-◌, ◌<◌, ◌≤◌, ◌^◌, ◌++◌, [], length, min, cond, ℕ, Some, IsOk, OnOk, OnErr, IfOk, MatchResult};
 ghost use Rattle.mea_base.specs.Queue.{granted_in};
 ghost use Rattle.mea_sem_core.specs.Core.{held_of, poured, wakers_of};
-ghost use Rattle.mea_sem_core.specs.Calls.{forgetting, forgetting_exactly};
+ghost use Rattle.mea_sem_core.specs.Calls.{Belongs, Queues, forgetting, forgetting_exactly, with_waker};
 
 use crate::moving::hand_on;
 use mea_base::{NoMemory, Outbox};
@@ -131,5 +131,60 @@ impl SemaphoreEntry {
         self.core.give_back(n);
         self.plain -= one_if(plain);
         hand_on(&mut self.core, outbox)
+    }
+
+    /// Counts a new plain thing.
+    pub fn count(&mut self, plain: bool)
+        requires { self.old.plain + 1 < 2 ^ 128 }
+        ensures { self.new ≡ record self.old { plain = self.old.plain + cond plain 1 0 } }
+    {
+        self.plain += one_if(plain);
+    }
+
+    /// Counts a plain thing that is gone.
+    pub fn discount(&mut self, plain: bool)
+        requires { cond plain 1 0 ≤ self.old.plain }
+        ensures { self.new ≡ record self.old { plain = self.old.plain - cond plain 1 0 } }
+    {
+        self.plain -= one_if(plain);
+    }
+}
+
+impl SemaphoreEntry {
+    ghost use Rattle.mea_sem.specs.Entries.{IsReady, finished, Ends};
+
+    /// Whether the next poll of the acquire is ready.
+    pub fn is_ready(&self, acquire: &Acquire) -> bool
+        requires { Belongs self.now.core acquire.now }
+        ensures ready { result ≡ true → IsOpen acquire.now → IsReady self.now.core acquire.now }
+        ensures waits { result ≡ false → IsOpen acquire.now → WillWait self.now.core acquire.now }
+    {
+        match *acquire {
+            Acquire::New { demand } => demand <= self.core.available_permits(),
+            _ => self.core.is_granted(acquire),
+        }
+    }
+
+    /// Polls an acquire that is ready.
+    pub fn finish(&mut self, acquire: Acquire, waker: u64)
+        requires { IsReady self.old.core acquire }
+        ensures is { self.new ≡ record self.old { core = finished self.old.core acquire } }
+        ensures held { held_of self.new.core ≡ held_of self.old.core + demand_of acquire }
+    {
+        let mut acquire = acquire;
+        let _turn = self.core.poll(&mut acquire, waker);
+    }
+
+    /// Polls an acquire that is ready, and takes its permits away for ever.
+    pub fn finish_forgetting(&mut self, acquire: Acquire, waker: u64, plain: bool)
+        requires ready { IsReady self.old.core acquire }
+        requires plain { cond plain 1 0 ≤ self.old.plain }
+        requires tally { self.old.forgotten + demand_of acquire < 2 ^ 128 }
+        ensures is { self.new ≡ record self.old { core = record (finished self.old.core acquire) { live = (finished self.old.core acquire).live - demand_of acquire }; forgotten = self.old.forgotten + demand_of acquire; plain = self.old.plain - cond plain 1 0 } }
+        ensures held { held_of self.new.core ≡ held_of self.old.core }
+    {
+        let demand = acquire.demand();
+        self.finish(acquire, waker);
+        self.lose(demand, plain);
     }
 }
