@@ -1,5 +1,6 @@
 pub mod HallLemmas
 pub mod Pours
+pub mod Waiting
 pub mod Matched
 pub mod Orderly
 pub mod Changes
