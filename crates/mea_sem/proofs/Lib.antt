@@ -17,3 +17,4 @@ pub mod PlaysPours
 pub mod Left
 pub mod PlaysEnds
 pub mod Standing
+pub mod EndRoom

@@ -2,3 +2,4 @@ pub mod Play
 pub mod Store
 pub mod Kept
 pub mod Entries
+pub mod StandsFor

@@ -1,10 +1,11 @@
-ghost use Rattle.std.specs.Prelude.{◌≡◌, ◌+◌, ◌-◌, ◌<◌, ◌≤◌, ◌^◌, ◌++◌, [], length, min, cond, ℕ, Some, IsOk, OnOk, OnErr, IfOk, MatchResult};
+ghost use Rattle.std.specs.Prelude.{◌≡◌, ◌+◌, ◌-◌, ◌<◌, ◌≤◌, ◌^◌, ◌++◌, [], length, min, cond, ℕ, true, false, Some, IsOk, OnOk, OnErr, IfOk, MatchResult};
 ghost use Rattle.mea_base.specs.Queue.{granted_in};
-ghost use Rattle.mea_sem_core.specs.Core.{held_of, poured, wakers_of};
+ghost use Rattle.mea_sem_core.specs.Acquire.{demand_of};
+ghost use Rattle.mea_sem_core.specs.Core.{held_of, poured, wakers_of, debts};
 ghost use Rattle.mea_sem_core.specs.Calls.{Belongs, Queues, forgetting, forgetting_exactly, with_waker};
 
 use crate::moving::hand_on;
-use mea_base::{NoMemory, Outbox};
+use mea_base::{Ledger, NoMemory, Outbox};
 use mea_sem_core::{Acquire, SemCore};
 
 /// What a hall keeps of a semaphore.
@@ -36,6 +37,19 @@ pub struct PermitEntry {
     pub plain: bool,
 }
 
+impl FutureEntry {
+    /// The permit that it becomes.
+    pub fn permit(&self) -> PermitEntry
+        ensures { result ≡ record { semaphore = self.now.semaphore; size = demand_of self.now.acquire; plain = self.now.plain } }
+    {
+        PermitEntry {
+            semaphore: self.semaphore,
+            size: demand(&self.acquire),
+            plain: self.plain,
+        }
+    }
+}
+
 /// 1 for a plain thing.
 pub fn one_if(plain: bool) -> u128
     ensures { result ≡ cond plain 1 0 }
@@ -44,6 +58,8 @@ pub fn one_if(plain: bool) -> u128
 }
 
 impl SemaphoreEntry {
+    ghost use Rattle.mea_sem.specs.Entries.{ledger_of_entry};
+
     /// Takes at most `n` free permits away for ever, and tells how many.
     pub fn forget(&mut self, n: usize) -> usize
         requires { self.old.forgotten + n < 2 ^ 128 }
@@ -133,6 +149,27 @@ impl SemaphoreEntry {
         hand_on(&mut self.core, outbox)
     }
 
+    /// The account of the semaphore. What is paid and owed follows from the other numbers.
+    pub fn ledger(&self) -> Ledger
+        requires account { self.now.core.live + self.now.forgotten ≡ self.now.made + self.now.released + debts self.now.core.queue }
+        requires few { self.now.core.live + self.now.forgotten < 2 ^ 128 }
+        ensures { result ≡ ledger_of_entry self.now }
+    {
+        let live = self.core.live() as u128;
+        let free = self.core.available_permits() as u128;
+        let held = self.core.held() as u128;
+        let made = self.made as u128;
+        Ledger {
+            made,
+            released: self.released,
+            owed: live + self.forgotten - made - self.released,
+            free,
+            held,
+            paid: live - free - held,
+            forgotten: self.forgotten,
+        }
+    }
+
     /// Counts a new plain thing.
     pub fn count(&mut self, plain: bool)
         requires { self.old.plain + 1 < 2 ^ 128 }
@@ -151,13 +188,14 @@ impl SemaphoreEntry {
 }
 
 impl SemaphoreEntry {
-    ghost use Rattle.mea_sem.specs.Entries.{IsReady, finished, Ends};
+    ghost use Rattle.mea_sem.specs.Entries.{IsReady, Waits, WaitedFor, finished, Ends};
+    ghost use Rattle.mea_sem.specs.Kept.{wakers_in};
 
     /// Whether the next poll of the acquire is ready.
     pub fn is_ready(&self, acquire: &Acquire) -> bool
         requires { Belongs self.now.core acquire.now }
-        ensures ready { result ≡ true → IsOpen acquire.now → IsReady self.now.core acquire.now }
-        ensures waits { result ≡ false → IsOpen acquire.now → WillWait self.now.core acquire.now }
+        ensures ready { result ≡ true → IsReady self.now.core acquire.now }
+        ensures waits { result ≡ false → Waits self.now.core acquire.now }
     {
         match *acquire {
             Acquire::New { demand } => demand <= self.core.available_permits(),
@@ -183,8 +221,71 @@ impl SemaphoreEntry {
         ensures is { self.new ≡ record self.old { core = record (finished self.old.core acquire) { live = (finished self.old.core acquire).live - demand_of acquire }; forgotten = self.old.forgotten + demand_of acquire; plain = self.old.plain - cond plain 1 0 } }
         ensures held { held_of self.new.core ≡ held_of self.old.core }
     {
-        let demand = acquire.demand();
+        let demand = demand(&acquire);
         self.finish(acquire, waker);
         self.lose(demand, plain);
+    }
+
+    /// Polls a new acquire that has to wait. Where there is no memory, nothing has changed.
+    pub fn queue(&mut self, demand: usize, waker: u64) -> Result<Acquire, NoMemory>
+        requires { self.old.core.free < demand }
+        ensures queued { IfOk result (λ acquire. (number : ℕ) × Queues self.old.core self.new.core demand waker number × (acquire ≡ Acquire.Queued demand number)) }
+        ensures rest { OnOk result (self.new ≡ record self.old { core = self.new.core }) }
+        ensures held { OnOk result (held_of self.new.core ≡ held_of self.old.core) }
+        ensures err { OnErr result (self.new ≡ self.old) }
+    {
+        let mut acquire = Acquire::new(demand);
+        match self.core.poll(&mut acquire, waker) {
+            Ok(_) => Ok(acquire),
+            Err(_) => Err(NoMemory),
+        }
+    }
+
+    /// Polls an acquire that waits under this number.
+    pub fn wait_on(&mut self, demand: usize, number: usize, waker: u64)
+        requires { Waits self.old.core (Acquire.Queued demand number) }
+        ensures is { self.new ≡ record self.old { core = record self.old.core { queue = with_waker self.old.core.queue number waker } } }
+        ensures held { held_of self.new.core ≡ held_of self.old.core }
+    {
+        let mut acquire = Acquire::Queued { demand, number };
+        let _turn = self.core.poll(&mut acquire, waker);
+    }
+
+    /// Ends an acquire, and pours what it was paid; hands the wakers on, and tells how many wakers left
+    /// the queue.
+    pub fn end(&mut self, acquire: Acquire, plain: bool, outbox: &mut Outbox<u64>) -> usize
+        requires belongs { Belongs self.old.core acquire }
+        requires plain { cond plain 1 0 ≤ self.old.plain }
+        requires quiet { self.old.core.wakes ≡ [] }
+        requires room { wakers_in self.old.core.queue ≤ outbox.old.spare }
+        requires few { wakers_in self.old.core.queue < 2 ^ 64 }
+        ensures ends { Ends self.old acquire plain self.new outbox.old.wakers outbox.new.wakers result }
+        ensures spare { outbox.old.spare ≤ outbox.new.spare + result }
+        ensures held { held_of self.new.core ≡ held_of self.old.core }
+    {
+        let waited = self.waited(&acquire);
+        self.core.cancel(acquire);
+        self.discount(plain);
+        hand_on(&mut self.core, outbox) + waited
+    }
+
+    // 1 for an acquire that waits.
+    fn waited(&self, acquire: &Acquire) -> usize
+        requires { Belongs self.now.core acquire.now }
+        ensures { WaitedFor self.now.core acquire.now result }
+    {
+        match *acquire {
+            Acquire::Queued { .. } if !self.core.is_granted(acquire) => 1,
+            _ => 0,
+        }
+    }
+}
+
+/// What an acquire asks for.
+fn demand(acquire: &Acquire) -> usize
+    ensures { result ≡ demand_of acquire.now }
+{
+    match *acquire {
+        Acquire::New { demand } | Acquire::Queued { demand, .. } | Acquire::Done { demand } => demand,
     }
 }

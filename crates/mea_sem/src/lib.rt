@@ -3,9 +3,12 @@
 //! names of both again.
 #![tactic(auto)]
 
+mod causes;
 mod entries;
+mod futures;
 mod hall;
 mod moving;
+mod permits;
 mod semaphores;
 
 pub use hall::SemHall;

@@ -10,7 +10,7 @@ use Rattle.mea_base.specs.WaitList as base
 use Rattle.mea_base.proofs.Waits.{sum_by-updated, IsDistinct-push}
 use Rattle.mea_sem_core.specs.declared.place.Place.{Place}
 use Rattle.mea_sem_core.specs.declared.place.Place.TheVariants.{Acquire, Debt, Granted}
-use Rattle.mea_sem_core.specs.Core.{Waiter, Acquires, Owes, waiting, HasDebtsFirst}
+use Rattle.mea_sem_core.specs.Core.{Acquires, Owes, waiting, HasDebtsFirst}
 use Rattle.mea_sem_core.specs.Places.{entry, entries, queue_of, granted_of, grant_of, pairs_from, IsWaiting, AllWaiting, IsQueue, paid_slot, paid_in}
 use Rattle.mea_sem_core.proofs.Debts.{debts_first_append}
 use Rattle.mea_sem_core.proofs.PourSteps.{linked_first}

@@ -1,20 +1,20 @@
 -- what is paid, by the places, is what is paid by the queue and the granted pairs
-use Rattle.std.proofs.Common.{◌≡◌, ◌≢◌, ℕ, zero, suc, ◌+◌, ◌-◌, ◌<◌, ◌≤◌, Bool, true, false, cond, eqb, List, [], ◌∷◌, ◌++◌, map, length, get_or, set, Option, Some, None, Ordering, sum_by, refl, sym, ap, ap₂, subst, ◌∙◌, inl, inr, arith}
+use Rattle.std.proofs.Common.{◌≡◌, ◌≢◌, ℕ, zero, suc, ◌+◌, ◌<◌, true, false, eqb, List, [], ◌∷◌, length, get_or, set, Option, Some, None, Ordering, sum_by, refl, sym, ap, ◌∙◌, inl, inr, arith}
 use Rattle.std.proofs.lemmas.Bool.{cases_eq}
-use Rattle.std.proofs.lemmas.List.{get_or-set_same, get_or-set_other, get_or_past, nil_from_length}
+use Rattle.std.proofs.lemmas.List.{get_or-set_same, get_or-set_other, nil_from_length}
 use Rattle.std.proofs.lemmas.List.Sums.{sum_by-cons, sum-map}
 use Rattle.std.specs.List.{list_any}
-use Rattle.std.specs.Ordering.{nat_cmp, eq_by_cmp, is_eq}
-use Rattle.std.specs.Cmp.{nat_cmp_total, unsigned_tied}
+use Rattle.std.specs.Ordering.{nat_cmp, is_eq}
+use Rattle.std.specs.Cmp.{nat_cmp_total}
 use Rattle.std.specs.declared.cmp.Ordering.TheVariants.{Less, Equal, Greater}
 use Rattle.std.specs.FinMap as fin
 use Rattle.std.specs.FinMap.{find, put, entries, entries-insert, get-entries, get-from_entries, len-entries, len-empty}
 use Rattle.mea_base.specs.WaitList.{is_linked, IsAbsent, IsDistinct}
 use Rattle.mea_base.specs.WaitList as base
-use Rattle.mea_base.proofs.Waits.{sum_by-updated, sum_by-same}
+use Rattle.mea_base.proofs.Waits.{sum_by-updated}
 use Rattle.mea_sem_core.specs.declared.place.Place.{Place}
 use Rattle.mea_sem_core.specs.declared.place.Place.TheVariants.{Acquire, Debt, Granted}
-use Rattle.mea_sem_core.specs.Core.{Waiter, Acquires, Owes, paid_to}
+use Rattle.mea_sem_core.specs.Core.{Waiter, paid_to}
 use Rattle.mea_sem_core.specs.Places as q
 use Rattle.mea_sem_core.specs.Places.{entry, queue_of, granted_of, pairs_from, IsWaiting, IsIdle, AllWaiting, IsQueue, paid_slot, paid_in}
 use Rattle.mea_sem_core.proofs.Places.{entries-updated, AllWaiting-updated, find_before}

@@ -11,7 +11,7 @@ use Rattle.mea_base.proofs.Waits.{sum_by-updated, in_use_within, IsDistinct-with
 use Rattle.std.proofs.lemmas.List.Sums.{get_or-le-sum_by}
 use Rattle.mea_sem_core.specs.declared.place.Place.{Place}
 use Rattle.mea_sem_core.specs.declared.place.Place.TheVariants.{Acquire, Debt, Granted}
-use Rattle.mea_sem_core.specs.Core.{Waiter, Acquires, Owes, waiting, HasDebtsFirst}
+use Rattle.mea_sem_core.specs.Core.{Acquires, Owes, waiting, HasDebtsFirst}
 use Rattle.mea_sem_core.specs.Places.{entry, entries, queue_of, granted_of, grant_of, pairs_from, AllWaiting, IsQueue, paid_slot, paid_in, is_grant_of, is_acquire_of, LacksAtMost}
 use Rattle.mea_sem_core.specs.Calls.{with_waker, without_acquire, StandsAs}
 use Rattle.mea_sem_core.specs.declared.acquire.Acquire.TheVariants.{Queued}
@@ -295,6 +295,7 @@ module _ {W : Type 0} where
     pub kept : IsQueue new
     pub paid : paid_in new + part ≡ paid_in old
     pub shorter : length new.order ≤ length old.order
+    pub idle : old.order ≡ [] → new.order ≡ []
     pub granted : fin.get (granted_of old) number ≡ Some demand → (part ≡ demand) × (queue_of new ≡ queue_of old) × (granted_of new ≡ fin.remove (granted_of old) number)
     pub waits : (lack : ℕ) → waiting (queue_of old) number ≡ Some (demand, lack) → (part ≡ demand - lack) × (queue_of new ≡ without_acquire (queue_of old) number) × (granted_of new ≡ granted_of old)
 
@@ -314,6 +315,7 @@ module _ {W : Type 0} where
         kept = taken.kept;
         paid = taken.paid;
         shorter = rw order (length-without number old.order);
+        idle = λ none. order ∙ ap (without number) none;
         granted = λ _. (refl, taken.queue, taken.granted);
         waits = λ lack waits. let slot = slot_waiting old.slots number demand lack old.order waits in absurd (not_both old demand number lack slot.0 is slot.1);
       }
@@ -325,6 +327,7 @@ module _ {W : Type 0} where
         kept = left.kept;
         paid = left.paid;
         shorter = left.shorter;
+        idle = λ none. order ∙ ap (without number) none;
         granted = λ granted. absurd (not_both old demand number is.0 is.1 (slot_granted old.slots number demand granted) here);
         waits = λ lack waits.
             let slot = slot_waiting old.slots number demand lack old.order waits in

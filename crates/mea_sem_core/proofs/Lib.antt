@@ -1,3 +1,4 @@
+pub mod Belongs
 pub mod Debts
 pub mod Enqueues
 pub mod Grants

@@ -1,10 +1,10 @@
 -- what holds of the places of a core holds of what is seen of it
-use Rattle.std.proofs.Common.{◌≡◌, ◌≢◌, ℕ, ◌+◌, ◌-◌, ◌<◌, ◌≤◌, ◌^◌, List, [], ◌∷◌, get_or, Option, Some, None, refl, sym, ap, ◌∙◌, arith}
+use Rattle.std.proofs.Common.{◌≡◌, ◌≢◌, ℕ, ◌+◌, ◌<◌, ◌≤◌, ◌^◌, List, [], ◌∷◌, get_or, Option, Some, None, refl, ap, ◌∙◌, arith}
 use Rattle.std.specs.FinMap as fin
 use Rattle.mea_base.specs.WaitList.{Waits, get, IsDistinct}
 use Rattle.mea_sem_core.specs.declared.place.Place.{Place}
 use Rattle.mea_sem_core.specs.declared.place.Place.TheVariants.{Acquire, Debt, Granted}
-use Rattle.mea_sem_core.specs.Core.{Waiter, Acquires, Owes, waiting, AreApart, LacksWithin, AllLackWithin, IsSound}
+use Rattle.mea_sem_core.specs.Core.{waiting, AreApart, LacksWithin, AllLackWithin, IsSound}
 use Rattle.mea_sem_core.specs.Places.{entry, entries, queue_of, granted_of, grant_of, IsWaiting, AllWaiting, IsQueue, paid_in}
 use Rattle.mea_sem_core.proofs.Places.{get-granted}
 use Rattle.mea_sem_core.proofs.Enqueues.{waiting_absent}

@@ -1,8 +1,7 @@
 -- polls, ends and permits that come back keep the live permits, where no debt waits
-use Rattle.std.proofs.Common.{◌≡◌, ℕ, ◌+◌, ◌-◌, ◌<◌, ◌≤◌, ◌⊎◌, List, [], ◌∷◌, Some, refl, ◌∙◌, inl, inr, arith}
+use Rattle.std.proofs.Common.{◌≡◌, ℕ, ◌+◌, ◌-◌, ◌≤◌, ◌⊎◌, Some, refl, inl, inr, arith}
 use Rattle.std.specs.FinMap as map
-use Rattle.mea_sem_core.specs.declared.acquire.Acquire.{Acquire}
-use Rattle.mea_sem_core.specs.declared.acquire.Acquire.TheVariants.{New, Queued, Done}
+use Rattle.mea_sem_core.specs.declared.acquire.Acquire.TheVariants.{Queued}
 use Rattle.mea_sem_core.specs.Core.{Core, held_of, poured, waiting, HasNoDebt}
 use Rattle.mea_sem_core.specs.Calls.{IsGrantedAs, IsWaitingAs, Queues, Steady, Cancels, with_waker, without_acquire, given_back}
 use Rattle.mea_sem_core.proofs.Debts.{no_debt_append, no_debt_with_waker, no_debt_without, no_debt_waiting_after, paid_to_none}

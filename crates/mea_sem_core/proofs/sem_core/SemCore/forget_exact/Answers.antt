@@ -1,4 +1,4 @@
-use Rattle.std.proofs.Common.{◌≡◌, ◌+◌, ◌-◌, ◌≤◌, [], min, refl, sym, ap, ◌∙◌, ◌∷◌, arith, rules, length}
+use Rattle.std.proofs.Common.{◌≡◌, ◌+◌, ◌-◌, ◌≤◌, min, sym, ap, ◌∙◌, ◌∷◌, arith, rules, length}
 use Rattle.mea_sem_core.specs.Core.{Owes}
 use Rattle.mea_sem_core.specs.Calls.{with_debt}
 use Rattle.mea_sem_core.specs.Places.{queue_of, granted_of, paid_in, IsQueue}

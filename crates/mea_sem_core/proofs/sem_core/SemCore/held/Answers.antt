@@ -1,4 +1,4 @@
-use Rattle.std.proofs.Common.{◌≡◌, ◌-◌, ap, ◌∙◌}
+use Rattle.std.proofs.Common.{◌-◌, ap, ◌∙◌}
 use Rattle.mea_sem_core.proofs.Held.{paid-view}
 use Rattle.mea_sem_core.proofs.sem_core.SemCore.held.Goals as goal
 

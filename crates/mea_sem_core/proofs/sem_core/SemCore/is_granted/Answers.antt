@@ -1,4 +1,4 @@
-use Rattle.std.proofs.Common.{◌≡◌, false, true, inl, sym, subst, ◌∙◌}
+use Rattle.std.proofs.Common.{inl, sym, subst, ◌∙◌}
 use Rattle.mea_sem_core.specs.Core.{Core}
 use Rattle.mea_sem_core.specs.Calls.{StandsAs}
 use Rattle.mea_sem_core.specs.declared.acquire.Acquire.TheVariants.{Queued}

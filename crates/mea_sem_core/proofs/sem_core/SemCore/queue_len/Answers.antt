@@ -1,4 +1,4 @@
-use Rattle.std.proofs.Common.{◌≡◌, ◌∙◌, sym}
+use Rattle.std.proofs.Common.{◌∙◌, sym}
 use Rattle.mea_sem_core.proofs.Places.{length-entries}
 use Rattle.mea_sem_core.proofs.Sound.{sound}
 use Rattle.mea_sem_core.proofs.sem_core.SemCore.queue_len.Goals as goal

@@ -1,4 +1,4 @@
-use Rattle.std.proofs.Common.{◌≡◌, ◌+◌, ◌-◌, ◌≤◌, [], ap, sym, ◌∙◌, ◌++◌, arith}
+use Rattle.std.proofs.Common.{◌≡◌, ◌+◌, ◌-◌, ap, sym, ◌∙◌, ◌++◌, arith}
 use Rattle.mea_base.specs.Queue.{lacks}
 use Rattle.mea_sem_core.specs.Core.{paid_to_debts, granting, wakers_of}
 use Rattle.mea_sem_core.specs.Places.{queue_of, granted_of}

@@ -1,0 +1,27 @@
+use Rattle.std.proofs.Common.{rules, ◌≡◌, ◌≤◌, OnErr, IfOk, IfErr, None, IsSome, IfSome, ℕ, true, false, ◌+◌, ◌-◌, ◌*◌, ◌<◌, length, ◌/◌, ◌%◌, Bool, nat_eq, nat_lt, List, [], ◌∷◌, ◌++◌, slice_index_or, slice_set, bit_and, bit_or, Fits, w8, w32, w64, Bor, MutBor}
+use Rattle.std.specs.FinMap as map
+use Rattle.mea_sem_model.specs.Cause.{cause_of}
+use Rattle.mea_sem_model.specs.Hall.{New, Waiting}
+use Rattle.mea_sem_model.specs.Step.{step, acquire_of}
+use Rattle.mea_sem.specs.Play.{Play, Plays, Yields}
+use Rattle.mea_sem.proofs.hall.SemHall.acquire.Goals as goal
+
+-- src/futures.rt:31:13
+pub invariant_of-self : goal.invariant_of-self
+invariant_of-self c = ?
+
+-- src/futures.rt:34:13
+pub unreachable-requires : goal.unreachable-requires
+unreachable-requires c = ?
+
+-- src/futures.rt:36:9
+pub count-requires : goal.count-requires
+count-requires c = ?
+
+-- src/futures.rt:17:5
+pub invariant_of-self-2 : goal.invariant_of-self-2
+invariant_of-self-2 c = ?
+
+-- src/futures.rt:17:5
+pub returns-clause-played : goal.returns-clause-played
+returns-clause-played c = ?

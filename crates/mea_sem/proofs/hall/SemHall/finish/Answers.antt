@@ -1,0 +1,31 @@
+use Rattle.std.proofs.Common.{rules, ◌≡◌, ◌≤◌, OnErr, IfOk, IfErr, None, IsSome, IfSome, ℕ, true, false, ◌+◌, ◌-◌, ◌*◌, ◌<◌, length, ◌/◌, ◌%◌, Bool, nat_eq, nat_lt, List, [], ◌∷◌, ◌++◌, slice_index_or, slice_set, bit_and, bit_or, Fits, w8, w32, w64, Bor, MutBor}
+use Rattle.std.specs.FinMap as map
+use Rattle.mea_sem_model.specs.Cause.{cause_of}
+use Rattle.mea_sem_model.specs.Hall.{New, Waiting}
+use Rattle.mea_sem_model.specs.Step.{step, acquire_of}
+use Rattle.mea_sem.specs.Play.{Play, Plays, Yields}
+use Rattle.mea_sem.proofs.hall.SemHall.finish.Goals as goal
+
+-- src/futures.rt:99:13
+pub unreachable-requires : goal.unreachable-requires
+unreachable-requires c = ?
+
+-- src/futures.rt:103:13
+pub invariant_of-self : goal.invariant_of-self
+invariant_of-self c = ?
+
+-- src/futures.rt:109:13
+pub unreachable-requires-in_default-get_mut : goal.unreachable-requires-in_default-get_mut
+unreachable-requires-in_default-get_mut c = ?
+
+-- src/futures.rt:111:9
+pub finish-requires : goal.finish-requires
+finish-requires c = ?
+
+-- src/futures.rt:89:5
+pub invariant_of-self-2 : goal.invariant_of-self-2
+invariant_of-self-2 c = ?
+
+-- src/futures.rt:89:5
+pub returns-clause-played : goal.returns-clause-played
+returns-clause-played c = ?
