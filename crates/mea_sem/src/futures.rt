@@ -27,8 +27,9 @@ impl SemHall {
             plain,
             forgets,
         };
-        if self.futures.insert(number, future).is_err() {
-            return Err(Stop::NoMemory);
+        match self.futures.insert(number, future) {
+            Err(_) => return Err(Stop::NoMemory),
+            Ok(_) => {}
         }
         let Some(entry) = self.semaphores.get_mut(&s) else {
             unreachable!()
@@ -99,8 +100,9 @@ impl SemHall {
             unreachable!()
         };
         let permit = future.permit();
-        if self.permits.insert(number, permit).is_err() {
-            return Err(Stop::NoMemory);
+        match self.permits.insert(number, permit) {
+            Err(_) => return Err(Stop::NoMemory),
+            Ok(_) => {}
         }
         let Some(future) = self.futures.remove(&f) else {
             unreachable!()
@@ -135,8 +137,9 @@ impl SemHall {
         let Some(registered) = self.registered.checked_add(1) else {
             return Err(Stop::NoMemory);
         };
-        if self.outbox.reserve(registered).is_err() {
-            return Err(Stop::NoMemory);
+        match self.outbox.reserve(registered) {
+            Err(_) => return Err(Stop::NoMemory),
+            Ok(()) => {}
         }
         match entry.queue(demand, waker) {
             Err(_) => Err(Stop::NoMemory),
