@@ -125,15 +125,13 @@ impl SemHall {
         ensures memory { IfErr result (λ stop. stop ≡ Stop.NoMemory) }
         ensures err { OnErr result (self.new ≡ self.old) }
     {
-        let Some(future) = self.futures.get_mut(&f) else {
-            unreachable!()
-        };
-        let Some(entry) = self.semaphores.get_mut(&future.semaphore) else {
+        let Some(future) = self.futures.get(&f) else {
             unreachable!()
         };
         let Acquire::New { demand } = future.acquire else {
             unreachable!()
         };
+        let semaphore = future.semaphore;
         let Some(registered) = self.registered.checked_add(1) else {
             return Err(Stop::NoMemory);
         };
@@ -141,15 +139,20 @@ impl SemHall {
             Err(_) => return Err(Stop::NoMemory),
             Ok(()) => {}
         }
-        match entry.queue(demand, waker) {
-            Err(_) => Err(Stop::NoMemory),
-            Ok(acquire) => {
-                future.acquire = acquire;
-                self.registered = registered;
-                self.next = number as u128 + 1;
-                Ok(Answer::Pending)
-            }
-        }
+        let Some(entry) = self.semaphores.get_mut(&semaphore) else {
+            unreachable!()
+        };
+        let acquire = match entry.queue(demand, waker) {
+            Err(_) => return Err(Stop::NoMemory),
+            Ok(acquire) => acquire,
+        };
+        let Some(future) = self.futures.get_mut(&f) else {
+            unreachable!()
+        };
+        future.acquire = acquire;
+        self.registered = registered;
+        self.next = number as u128 + 1;
+        Ok(Answer::Pending)
     }
 
     // A further poll of a future that waits.
