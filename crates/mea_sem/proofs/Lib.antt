@@ -18,3 +18,4 @@ pub mod Left
 pub mod PlaysEnds
 pub mod Standing
 pub mod EndRoom
+pub mod StandingPermits

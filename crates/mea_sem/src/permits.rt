@@ -19,7 +19,7 @@ impl SemHall {
         ensures memory { IfErr result (λ stop. stop ≡ Stop.NoMemory) }
         ensures err { OnErr result (self.new ≡ self.old) }
     {
-        let Some(entry) = self.semaphores.get_mut(&s) else {
+        let Some(entry) = self.semaphores.get(&s) else {
             unreachable!()
         };
         if n as usize > entry.core.available_permits() {
@@ -31,14 +31,15 @@ impl SemHall {
             size: n as usize,
             plain,
         };
-        match self.permits.insert(number, permit) {
-            Err(_) => Err(Stop::NoMemory),
-            Ok(_) => {
-                entry.take(n as usize, plain);
-                self.next = number as u128 + 1;
-                Ok(Answer::Held)
-            }
+        if self.permits.insert(number, permit).is_err() {
+            return Err(Stop::NoMemory);
         }
+        let Some(entry) = self.semaphores.get_mut(&s) else {
+            unreachable!()
+        };
+        entry.take(n as usize, plain);
+        self.next = number as u128 + 1;
+        Ok(Answer::Held)
     }
 
     pub(crate) fn lose(&mut self, number: u64, p: u64) -> Answer
