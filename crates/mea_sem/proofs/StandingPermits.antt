@@ -1,10 +1,11 @@
 -- what the events of permits do to the maps of a `SemHall`
-use Rattle.std.proofs.Common.{◌≡◌, ℕ, ◌+◌, ◌-◌, ◌*◌, ◌^◌, ◌<◌, ◌≤◌, ◌==◌, ◌&&◌, ◌++◌, not, Bool, true, false, cond, if◌then◌else◌, List, [], length, nat_le, refl, ap, sym, subst, ◌∙◌, arith, Option, Some, None, is_some}
+use Rattle.std.proofs.Common.{◌≡◌, ℕ, ◌+◌, ◌-◌, ◌*◌, ◌^◌, ◌<◌, ◌≤◌, ◌==◌, ◌&&◌, ◌++◌, not, Bool, true, false, cond, if◌then◌else◌, List, [], length, nat_le, refl, ap, sym, subst, ◌∙◌, arith, Option, Some, None, is_some, Result, Ok, Err, OnOk, OnErr}
 use Rattle.std.specs.Option.{option_map}
+use Rattle.std.specs.Result.{is_err}
 use Rattle.std.specs.Ordering.{nat_cmp}
 use Rattle.std.specs.BTreeMap.{is_at}
 use Rattle.std.specs.FinMap.{FinMap, get, insert, remove}
-use Rattle.std.proofs.lemmas.Bool.{eqb-true, eqb-false, and_parts, le-leb, lt-leb}
+use Rattle.std.proofs.lemmas.Bool.{eqb-true, eqb-false, eq-eqb, ne_eqb, and_parts, le-leb, lt-leb}
 use Rattle.mea_base.specs.declared.answer.Answer.{Answer}
 use Rattle.mea_base.specs.declared.answer.Answer.TheVariants as answers
 use Rattle.mea_base.specs.Named.{named, at}
@@ -14,7 +15,7 @@ use Rattle.mea_base.proofs.NamedMaps.{get-named, named_changed, named_put, named
 use Rattle.mea_base.proofs.Totals.{get_inserted, total-remove}
 use Rattle.mea_sem_model.specs.declared.event.SemEvent.{SemEvent}
 use Rattle.mea_sem_model.specs.declared.event.SemEvent.TheVariants as events
-use Rattle.mea_sem_model.specs.Hall.{Hall, Semaphore, Permit, semaphore_at, free, held, live}
+use Rattle.mea_sem_model.specs.Hall.{Hall, Semaphore, Permit, semaphore_at, with_semaphore}
 use Rattle.mea_sem_model.specs.Cause.{cause_of, is_permit, can_merge, are_of_one_kind, unknown_unless}
 use Rattle.mea_sem_model.specs.Valid.{Fits}
 use Rattle.mea_sem_model.specs.Step.{Outcome, step, quietly, taking, with_permit, try_of, lose_of, split_of, size_of, end_of}
@@ -29,7 +30,7 @@ use Rattle.mea_sem.proofs.PourHalls.{seen_at}
 use Rattle.mea_sem.proofs.Weighs.{one}
 use Rattle.mea_sem.proofs.Keeping.{Plays}
 use Rattle.mea_sem.proofs.PlaysSemaphores.{Puts, plays_nothing}
-use Rattle.mea_sem.proofs.PlaysPermits.{plays_lose, permit_counts}
+use Rattle.mea_sem.proofs.PlaysPermits.{plays_try, plays_lose, plays_merge, plays_split, permit_counts, permits_count}
 use Rattle.mea_sem.proofs.Standing.{Semaphores, Futures, Permits, ChangesAt, kept-at, found, puts_of, yields, yields_quietly}
 
 -- what an event leaves is kept, and is what it yields
@@ -41,6 +42,15 @@ pub record Done (v : Play) (st' : Store) (i : ℕ) (o : Outcome) (reply : Answer
 known_here : (b : Bool) → unknown_unless b ≡ None → b ≡ true
 known_here true h = refl
 known_here false h = absurd (cc)
+
+-- what a call says where it succeeds, and where it fails
+pub on_success : {T E : Type 0} (P : Type 0) (r : Result T E) → is_err r ≡ false → OnOk r P → P
+on_success P (Ok x) is h = h
+on_success P (Err e) is h = absurd (cc)
+
+pub on_failure : {T E : Type 0} (P : Type 0) (r : Result T E) → is_err r ≡ true → OnErr r P → P
+on_failure P (Ok x) is h = absurd (cc)
+on_failure P (Err e) is h = h
 
 -- ---- permits among entries
 abbrev seen_permits : Permits → FinMap nat_cmp Permit
@@ -130,3 +140,119 @@ module _ (v : Play) (ss ss' : Semaphores) (fs : Futures) (ps ps' : Permits) (w s
       let plays = plays_lose st st' w sp next i x.semaphore p e k later low (permit_of x) refl (permit_small ss fs ps w sp next k p x e is there) (permit_at ps p x is) (allowed_here (events.Lose p) allowed)
             (puts_of ss ss' fs ps ps' x.semaphore e e' _ there changes new) (named_remove (λ p x. permit_of x) ps ps' p gone) (subst (λ (y : SemaphoreEntry). cores.held_of y.core + x.size ≡ cores.held_of e.core) new held) in
       done_quietly (events.Lose p) (answers.Forgot x.size) plays (ap (λ o. (lose_of (hall_of st next) p o).wakes) (permit_at ps p x is)) (ap (λ o. (lose_of (hall_of st next) p o).reply) (sym (permit_at ps p x is)))
+
+-- ---- events that change nothing
+module _ (v : Play) (ss : Semaphores) (fs : Futures) (ps : Permits) (w sp next i : ℕ) (wakes : List ℕ) (k : IsKept (store_of ss fs ps) w sp next) (seen : record { hall = hall_of (store_of ss fs ps) next; wakes = wakes; next = next } ≡ v) (less : v.next ≤ i) (low : i < 2 ^ 64) where
+  abbrev same : Store
+  same = store_of ss fs ps
+
+  unchanged : (event : SemEvent) (reply : Answer) → (step (hall_of same next) i event).hall ≡ hall_of same next → (step (hall_of same next) i event).wakes ≡ [] → reply ≡ (step (hall_of same next) i event).reply → Done v same i (step v.hall i event) reply wakes w sp
+  unchanged event reply is quiet replied = done_quietly v ss ss fs ps ps w sp next i wakes k seen less low event reply (plays_nothing same w sp next i event k (later_than v (hall_of same next) wakes next i seen less) low is) quiet replied
+
+  pub sized : (p : ℕ) (x : PermitEntry) → at ps p ≡ Some x → Done v same i (step v.hall i (events.Size p)) (answers.Permits x.size) wakes w sp
+  sized p x is = unchanged (events.Size p) (answers.Permits x.size) refl refl (ap (λ o. answers.Permits (size_of o)) (sym (permit_at ps p x is)))
+
+  pub too_small : (p n : ℕ) (x : PermitEntry) → at ps p ≡ Some x → x.size < n → Done v same i (step v.hall i (events.Split p n)) answers.Lacking wakes w sp
+  too_small p n x is lack =
+      let outcome : step (hall_of same next) i (events.Split p n) ≡ quietly (hall_of same next) answers.Lacking =
+        ap (split_of (hall_of same next) i p n) (permit_at ps p x is)
+        ∙ ap (λ b. if b then quietly (with_permit (with_permit (hall_of same next) p (record (permit_of x) { size = x.size - n })) i (record (permit_of x) { size = n })) answers.Held else quietly (hall_of same next) answers.Lacking) (lt-leb n x.size lack) in
+      unchanged (events.Split p n) answers.Lacking (ap (λ o. o.hall) outcome) (ap (λ o. o.wakes) outcome) (ap (λ o. o.reply) (sym outcome))
+
+-- ---- tries
+abbrev by_form : Bool → ℕ → ℕ → SemEvent
+by_form plain s n = cond plain (events.Try s n) (events.Tryo s n)
+
+fits_by_form : (plain : Bool) (s n : ℕ) → Fits (by_form plain s n)
+fits_by_form true s n = tt
+fits_by_form false s n = tt
+
+step_by_form : (plain : Bool) (h : Hall) (i s n : ℕ) → step h i (by_form plain s n) ≡ try_of h i s n plain
+step_by_form true h i s n = refl
+step_by_form false h i s n = refl
+
+allowed_by_form : (plain : Bool) (h : Hall) (s n : ℕ) → cause_of h (events.Try s n) ≡ None → cause_of h (by_form plain s n) ≡ None
+allowed_by_form true h s n allowed = allowed
+allowed_by_form false h s n allowed = allowed
+
+module _ (v : Play) (ss : Semaphores) (fs : Futures) (ps : Permits) (w sp next i : ℕ) (wakes : List ℕ) (k : IsKept (store_of ss fs ps) w sp next) (seen : record { hall = hall_of (store_of ss fs ps) next; wakes = wakes; next = next } ≡ v) (less : v.next ≤ i) (low : i < 2 ^ 64) (s n : ℕ) (plain : Bool) (e : SemaphoreEntry) (there : at ss s ≡ Some e) where
+  abbrev before : Store
+  before = store_of ss fs ps
+
+  abbrev hall_before : Hall
+  hall_before = hall_of before next
+
+  free_here : semaphore_at hall_before s ≡ semaphore_of before.futures next s e
+  free_here = seen_at before next s e k.linked (found ss s e there)
+
+  abbrev chosen : Bool → Outcome
+  chosen b = if b then quietly (with_permit (with_semaphore hall_before s (taking (semaphore_at hall_before s) n)) i (record { semaphore = s; size = n; plain = plain })) answers.Held else quietly hall_before answers.Lacking
+
+  as_tried : (kept : Store) (reply : Answer) → Done v kept i (step v.hall i (by_form plain s n)) reply wakes w sp → Done v kept i (try_of v.hall i s n plain) reply wakes w sp
+  as_tried kept reply done = subst (λ o. Done v kept i o reply wakes w sp) (step_by_form plain v.hall i s n) done
+
+  pub tried_in_vain : e.core.free < n → Done v before i (try_of v.hall i s n plain) answers.Lacking wakes w sp
+  tried_in_vain lack =
+      let outcome : step hall_before i (by_form plain s n) ≡ quietly hall_before answers.Lacking = step_by_form plain hall_before i s n ∙ ap chosen (ap (λ r. nat_le n r.free) free_here ∙ lt-leb n e.core.free lack) in
+      as_tried before answers.Lacking (unchanged v ss fs ps w sp next i wakes k seen less low (by_form plain s n) answers.Lacking (ap (λ o. o.hall) outcome) (ap (λ o. o.wakes) outcome) (ap (λ o. o.reply) (sym outcome)))
+
+  pub tried : (ss' : Semaphores) (ps' : Permits) (f e' : SemaphoreEntry) → cause_of v.hall (events.Try s n) ≡ None → at ss s ≡ Some f → n ≤ f.core.free
+      → e' ≡ record e { core = record e.core { free = e.core.free - n }; plain = e.plain + one plain } → cores.held_of e'.core ≡ cores.held_of e.core + n
+      → ChangesAt ss ss' s (Some e') → ChangesAt ps ps' i (Some (record { semaphore = s; size = n; plain = plain }))
+      → Done v (store_of ss' fs ps') i (try_of v.hall i s n plain) answers.Held wakes w sp
+  tried ss' ps' f e' allowed tested fits new held changes given =
+      let one_entry : f ≡ e = cc in
+      let enough : n ≤ e.core.free = subst (λ (x : SemaphoreEntry). n ≤ x.core.free) one_entry fits in
+      let outcome : step hall_before i (by_form plain s n) ≡ chosen true = step_by_form plain hall_before i s n ∙ ap chosen (ap (λ r. nat_le n r.free) free_here ∙ le-leb n e.core.free enough) in
+      let plays = plays_try before (store_of ss' fs ps') w sp next i s n e k (later_than v hall_before wakes next i seen less) low (by_form plain s n) plain (fits_by_form plain s n) (subst (λ (p : Play). cause_of p.hall (by_form plain s n) ≡ None) (sym seen) (allowed_by_form plain v.hall s n allowed))
+            (ap (λ o. o.hall) (step_by_form plain hall_before i s n)) enough (puts_of ss ss' fs ps ps' s e e' _ there changes new) (named_put (λ p x. permit_of x) ps ps' i (record { semaphore = s; size = n; plain = plain }) given) (subst (λ (y : SemaphoreEntry). cores.held_of y.core ≡ cores.held_of e.core + n) new held) in
+      as_tried (store_of ss' fs ps') answers.Held (done_quietly v ss ss' fs ps ps' w sp next i wakes k seen less low (by_form plain s n) answers.Held plays (ap (λ o. o.wakes) outcome) (ap (λ o. o.reply) (sym outcome)))
+
+-- ---- merges
+same_form : (a b : Bool) → (if a then b else not b) ≡ true → b ≡ a
+same_form true b h = h
+same_form false true h = absurd (cc)
+same_form false false h = refl
+
+of_none : (o : Option Permit) → are_of_one_kind o None ≡ true → ⊥
+of_none None h = absurd (cc)
+of_none (Some x) h = absurd (cc)
+
+of_one_kind : (x y : Permit) → are_of_one_kind (Some x) (Some y) ≡ true → (x.semaphore ≡ y.semaphore) × (y.plain ≡ x.plain)
+of_one_kind x y h =
+    let parts = and_parts (x.semaphore == y.semaphore) (if x.plain then y.plain else not y.plain) h in
+    (eqb-true x.semaphore y.semaphore parts.0, same_form x.plain y.plain parts.1)
+
+not_true : (b : Bool) → not b ≡ true → b ≡ true → ⊥
+not_true true h is = absurd (cc)
+not_true false h is = absurd (cc)
+
+itself : (p : ℕ) → (p == p) ≡ true
+itself p = eq-eqb p p refl
+
+-- another name has what it had
+at_other : {X : Type 0} (old new : List (ℕ × X)) (k q : ℕ) (o : Option X) → ChangesAt old new k o → (k == q) ≡ false → at new q ≡ at old q
+at_other old new k q o changes apart = changes q ∙ ap (λ b. cond b o (at old q)) (is_at-eq k q ∙ apart)
+
+module _ (v : Play) (ss : Semaphores) (fs : Futures) (ps : Permits) (next : ℕ) (wakes : List ℕ) (seen : record { hall = hall_of (store_of ss fs ps) next; wakes = wakes; next = next } ≡ v) (p q : ℕ) (allowed : cause_of v.hall (events.Merge p q) ≡ None) where
+  mergeable : (not (p == q) ≡ true) × (are_of_one_kind (get (seen_permits ps) p) (get (seen_permits ps) q) ≡ true)
+  mergeable = and_parts (not (p == q)) (are_of_one_kind (get (seen_permits ps) p) (get (seen_permits ps) q)) (ap (λ (w : Play). can_merge w.hall p q) seen ∙ known_here (can_merge v.hall p q) allowed)
+
+  pub other_found : at ps q ≡ None → ⊥
+  other_found none = of_none (get (seen_permits ps) p) (ap (are_of_one_kind (get (seen_permits ps) p)) (sym (permit_missing ps q none)) ∙ mergeable.1)
+
+  pub apart_from : p ≡ q → ⊥
+  apart_from is = not_true (p == q) mergeable.0 (eq-eqb p q is)
+
+  apart_test : (q == p) ≡ false
+  apart_test = ne_eqb q p (λ is. apart_from (sym is))
+
+  pub one_kind : (x y : PermitEntry) → at ps p ≡ Some x → at ps q ≡ Some y → (x.semaphore ≡ y.semaphore) × (y.plain ≡ x.plain)
+  one_kind x y isx isy = of_one_kind (permit_of x) (permit_of y) ((λ j. are_of_one_kind (sym (permit_at ps p x isx) j) (sym (permit_at ps q y isy) j)) ∙ mergeable.1)
+
+  module _ (ps1 : Permits) (gone : ChangesAt ps ps1 q None) where
+    pub first_was : (o : Option PermitEntry) → at ps1 p ≡ o → at ps p ≡ o
+    first_was o is = sym (at_other ps ps1 q p None gone apart_test) ∙ is
+
+    pub first_found : at ps1 p ≡ None → ⊥
+    first_found none = absurd (cc (permit_missing ps p (first_was None none), mergeable.1))
