@@ -18,7 +18,7 @@ use Rattle.mea_sem_model.specs.declared.event.SemEvent.TheVariants as events
 use Rattle.mea_sem_model.specs.Hall.{Hall, Semaphore, Permit, semaphore_at, with_semaphore}
 use Rattle.mea_sem_model.specs.Cause.{cause_of, is_permit, can_merge, are_of_one_kind, unknown_unless}
 use Rattle.mea_sem_model.specs.Valid.{Fits}
-use Rattle.mea_sem_model.specs.Step.{Outcome, step, quietly, taking, with_permit, try_of, lose_of, split_of, size_of, end_of}
+use Rattle.mea_sem_model.specs.Step.{Outcome, step, quietly, taking, with_permit, try_of, lose_of, split_of, size_of, end_of, end_permit}
 use Rattle.mea_sem_core.specs.Core as cores
 use Rattle.mea_sem.specs.declared.entries.SemaphoreEntry.{SemaphoreEntry}
 use Rattle.mea_sem.specs.declared.entries.PermitEntry.{PermitEntry}
@@ -31,7 +31,9 @@ use Rattle.mea_sem.proofs.Weighs.{one}
 use Rattle.mea_sem.proofs.Keeping.{Plays}
 use Rattle.mea_sem.proofs.PlaysSemaphores.{Puts, plays_nothing}
 use Rattle.mea_sem.proofs.PlaysPermits.{plays_try, plays_lose, plays_merge, plays_split, permit_counts, permits_count}
-use Rattle.mea_sem.proofs.Standing.{Semaphores, Futures, Permits, ChangesAt, kept-at, found, puts_of, yields, yields_quietly}
+use Rattle.mea_sem.proofs.PlaysPours.{wakers_poured}
+use Rattle.mea_sem.proofs.PlaysEnds.{plays_end_permit}
+use Rattle.mea_sem.proofs.Standing.{Semaphores, Futures, Permits, ChangesAt, kept-at, found, puts_of, semaphores_of, yields, yields_quietly}
 
 -- what an event leaves is kept, and is what it yields
 pub record Done (v : Play) (st' : Store) (i : ℕ) (o : Outcome) (reply : Answer) (wakes' : List ℕ) (w' sp' : ℕ) : Type 0 where
@@ -256,3 +258,122 @@ module _ (v : Play) (ss : Semaphores) (fs : Futures) (ps : Permits) (next : ℕ)
 
     pub first_found : at ps1 p ≡ None → ⊥
     first_found none = absurd (cc (permit_missing ps p (first_was None none), mergeable.1))
+
+module _ (v : Play) (ss : Semaphores) (fs : Futures) (ps : Permits) (w sp next i : ℕ) (wakes : List ℕ) (k : IsKept (store_of ss fs ps) w sp next) (seen : record { hall = hall_of (store_of ss fs ps) next; wakes = wakes; next = next } ≡ v) (less : v.next ≤ i) (low : i < 2 ^ 64) (p q : ℕ) (allowed : cause_of v.hall (events.Merge p q) ≡ None) (ps1 : Permits) (gone : ChangesAt ps ps1 q None) (x y : PermitEntry) (isx : at ps1 p ≡ Some x) (isy : at ps q ≡ Some y) where
+  abbrev unmerged : Store
+  unmerged = store_of ss fs ps
+
+  first_there : at ps p ≡ Some x
+  first_there = first_was v ss fs ps next wakes seen p q allowed ps1 gone (Some x) isx
+
+  alike : (x.semaphore ≡ y.semaphore) × (y.plain ≡ x.plain)
+  alike = one_kind v ss fs ps next wakes seen p q allowed x y first_there isy
+
+  pub sizes_fit : x.size + y.size < 2 ^ 64
+  sizes_fit = by_entry (at ss x.semaphore) refl
+    where
+      by_entry : (o : Option SemaphoreEntry) → at ss x.semaphore ≡ o → x.size + y.size < 2 ^ 64
+      by_entry None none = absurd (semaphore_found ss fs ps w sp next k p x first_there none)
+      by_entry (Some e) there =
+          let most = permits_count unmerged w sp next p q (permit_of x) (permit_of y) e k (apart_from v ss fs ps next wakes seen p q allowed) (permit_at ps p x first_there) (permit_at ps q y isy) alike.0 (found ss x.semaphore e there) in
+          let kept_as = (k.each x.semaphore e (found ss x.semaphore e there)).held in
+          let small = k.valid.fits x.semaphore in
+          omega (arith, most, kept_as, small)
+
+  pub merged : (ss' : Semaphores) (ps' : Permits) (e e' : SemaphoreEntry) → at ss y.semaphore ≡ Some e → e' ≡ record e { plain = e.plain - one y.plain }
+      → ChangesAt ss ss' y.semaphore (Some e') → ChangesAt ps1 ps' p (Some (record x { size = x.size + y.size }))
+      → Done v (store_of ss' fs ps') i (step v.hall i (events.Merge p q)) answers.Done wakes w sp
+  merged ss' ps' e e' there new changes grown =
+      let kept_now : Store = store_of ss' fs ps' in
+      let permits : kept_now.permits ≡ insert (remove unmerged.permits q) p (record (permit_of x) { size = x.size + y.size }) =
+        named_put (λ p x. permit_of x) ps1 ps' p (record x { size = x.size + y.size }) grown ∙ ap (λ m. insert m p (record (permit_of x) { size = x.size + y.size })) (named_remove (λ p x. permit_of x) ps ps1 q gone) in
+      let plays = plays_merge unmerged kept_now w sp next i y.semaphore q e k (later_than v (hall_of unmerged next) wakes next i seen less) low p (permit_of x) (permit_of y) alike.0 refl alike.1 (apart_from v ss fs ps next wakes seen p q allowed)
+            (permit_at ps p x first_there) (permit_at ps q y isy) (subst (λ (p' : Play). cause_of p'.hall (events.Merge p q) ≡ None) (sym seen) allowed)
+            (puts_of ss ss' fs ps ps' y.semaphore e e' _ there changes (new ∙ ap (λ b. record e { plain = e.plain - one b }) alike.1)) permits in
+      done_quietly v ss ss' fs ps ps' w sp next i wakes k seen less low (events.Merge p q) answers.Done plays refl refl
+
+-- ---- splits
+-- two names may be written in either order
+swapped : (m : FinMap nat_cmp Permit) (p i : ℕ) (a b : Permit) → (p ≡ i → ⊥) → insert (insert m i b) p a ≡ insert (insert m p a) i b
+swapped m p i a b apart = same_named _ _ (λ q. get_inserted (insert m i b) p q a ∙ ap (cond (p == q) (Some a)) (get_inserted m i q b) ∙ at_each q (p == q) (i == q) refl refl ∙ ap (cond (i == q) (Some b)) (sym (get_inserted m p q a)) ∙ sym (get_inserted (insert m p a) i q b))
+  where
+    at_each : (q : ℕ) (t u : Bool) → (p == q) ≡ t → (i == q) ≡ u → cond t (Some a) (cond u (Some b) (get m q)) ≡ cond u (Some b) (cond t (Some a) (get m q))
+    at_each q true true pq iq = absurd (apart (eqb-true p q pq ∙ sym (eqb-true i q iq)))
+    at_each q true false pq iq = refl
+    at_each q false true pq iq = refl
+    at_each q false false pq iq = refl
+
+module _ (v : Play) (ss ss' : Semaphores) (fs : Futures) (ps ps1 ps' : Permits) (w sp next i : ℕ) (wakes : List ℕ) (k : IsKept (store_of ss fs ps) w sp next) (seen : record { hall = hall_of (store_of ss fs ps) next; wakes = wakes; next = next } ≡ v) (less : v.next ≤ i) (low : i < 2 ^ 64) where
+  abbrev whole_store : Store
+  whole_store = store_of ss fs ps
+
+  pub halved : (p n : ℕ) (x y : PermitEntry) (e e' : SemaphoreEntry) → cause_of v.hall (events.Split p n) ≡ None → at ps p ≡ Some x → n ≤ x.size → at ss x.semaphore ≡ Some e → e' ≡ record e { plain = e.plain + one x.plain }
+      → ChangesAt ss ss' x.semaphore (Some e') → ChangesAt ps ps1 i (Some (record x { size = n })) → at ps1 p ≡ Some y → ChangesAt ps1 ps' p (Some (record y { size = y.size - n }))
+      → Done v (store_of ss' fs ps') i (step v.hall i (events.Split p n)) answers.Held wakes w sp
+  halved p n x y e e' allowed is enough there new changes given left less_now =
+      let later : next ≤ i = later_than v (hall_of whole_store next) wakes next i seen less in
+      let old : p < next = k.below.permits p (ap is_some (permit_at ps p x is)) in
+      let apart : p ≡ i → ⊥ = λ same_name. absurd (omega arith) in
+      let kept_as : at ps1 p ≡ at ps p = at_other ps ps1 i p (Some (record x { size = n })) given (ne_eqb i p (λ t. apart (sym t))) in
+      let one_permit : y ≡ x = cc in
+      let kept_now : Store = store_of ss' fs ps' in
+      let permits : kept_now.permits ≡ insert (insert whole_store.permits p (record (permit_of x) { size = x.size - n })) i (record (permit_of x) { size = n }) =
+        named_put (λ p x. permit_of x) ps1 ps' p (record y { size = y.size - n }) less_now
+        ∙ (λ j. insert (named_put (λ p x. permit_of x) ps ps1 i (record x { size = n }) given j) p (record (permit_of (one_permit j)) { size = (one_permit j).size - n }))
+        ∙ swapped whole_store.permits p i (record (permit_of x) { size = x.size - n }) (record (permit_of x) { size = n }) apart in
+      let outcome : step (hall_of whole_store next) i (events.Split p n) ≡ quietly (with_permit (with_permit (hall_of whole_store next) p (record (permit_of x) { size = x.size - n })) i (record (permit_of x) { size = n })) answers.Held =
+        ap (split_of (hall_of whole_store next) i p n) (permit_at ps p x is)
+        ∙ ap (λ b. if b then quietly (with_permit (with_permit (hall_of whole_store next) p (record (permit_of x) { size = x.size - n })) i (record (permit_of x) { size = n })) answers.Held else quietly (hall_of whole_store next) answers.Lacking) (le-leb n x.size enough) in
+      let plays = plays_split whole_store kept_now w sp next i x.semaphore n e k later low p (permit_of x) refl enough (permit_at ps p x is) (subst (λ (q : Play). cause_of q.hall (events.Split p n) ≡ None) (sym seen) allowed)
+            (puts_of ss ss' fs ps ps' x.semaphore e e' _ there changes new) permits in
+      done_quietly v ss ss' fs ps ps' w sp next i wakes k seen less low (events.Split p n) answers.Held plays (ap (λ o. o.wakes) outcome) (ap (λ o. o.reply) (sym outcome))
+
+-- ---- ends
+-- the wakers that a queue keeps are among those that are counted
+wakers_counted : (ss : Semaphores) (fs : Futures) (ps : Permits) (w sp next s : ℕ) (e : SemaphoreEntry) → IsKept (store_of ss fs ps) w sp next → at ss s ≡ Some e → wakers_in e.core.queue ≤ w
+wakers_counted ss fs ps w sp next s e k there =
+    let part = total-remove (λ q (x : SemaphoreEntry). wakers_in x.core.queue) (store_of ss fs ps).semaphores s in
+    let mine : weight (λ q (x : SemaphoreEntry). wakers_in x.core.queue) s (get (store_of ss fs ps).semaphores s) ≡ wakers_in e.core.queue = ap (weight (λ q (x : SemaphoreEntry). wakers_in x.core.queue) s) (found ss s e there) in
+    let all = k.counted in
+    omega (arith, part, mine, all)
+
+module _ (ss : Semaphores) (fs : Futures) (ps : Permits) (w sp next s n : ℕ) (e : SemaphoreEntry) (k : IsKept (store_of ss fs ps) w sp next) (there : at ss s ≡ Some e) where
+  pub wakes_within : length (cores.wakers_of (granted_in e.core.queue n)) ≤ w
+  wakes_within =
+      let split = wakers_poured e.core.queue n in
+      let counted = wakers_counted ss fs ps w sp next s e k there in
+      omega (arith, split, counted)
+
+  pub wakes_have_room : length (cores.wakers_of (granted_in e.core.queue n)) ≤ sp
+  wakes_have_room = let within = wakes_within in let room = k.room in omega (arith, within, room)
+
+  pub handed_on : e.core.wakes ≡ []
+  handed_on = (k.each s e (found ss s e there)).quiet
+
+module _ (v : Play) (ss ss' : Semaphores) (fs : Futures) (ps ps' : Permits) (w sp next i : ℕ) (wakes : List ℕ) (k : IsKept (store_of ss fs ps) w sp next) (seen : record { hall = hall_of (store_of ss fs ps) next; wakes = wakes; next = next } ≡ v) (less : v.next ≤ i) (low : i < 2 ^ 64) where
+  abbrev with_it : Store
+  with_it = store_of ss fs ps
+
+  pub known_as_permit : (p : ℕ) → cause_of v.hall (events.End p) ≡ None → get v.hall.futures p ≡ None → at ps p ≡ None → ⊥
+  known_as_permit p allowed no_future none =
+      permit_found v ss fs ps next p wakes seen (ap (λ o. unknown_unless (if is_some o then true else is_permit v.hall p)) (sym no_future) ∙ allowed) none
+
+  pub ended : (p left sp' : ℕ) (x : PermitEntry) (e e' : SemaphoreEntry) (wakes' : List ℕ) → cause_of v.hall (events.End p) ≡ None → get v.hall.futures p ≡ None → at ps p ≡ Some x → at ss x.semaphore ≡ Some e
+      → e' ≡ record e { core = record (cores.poured (record e.core { live = e.core.live - x.size }) x.size) { wakes = [] }; plain = e.plain - one x.plain } → cores.held_of e'.core + x.size ≡ cores.held_of e.core
+      → ChangesAt ss ss' x.semaphore (Some e') → ChangesAt ps ps' p None
+      → left ≡ length (cores.wakers_of (granted_in e.core.queue x.size)) → wakes' ≡ wakes ++ cores.wakers_of (granted_in e.core.queue x.size) → sp' + left ≡ sp
+      → Done v (store_of ss' fs ps') i (step v.hall i (events.End p)) answers.Done wakes' (w - left) sp'
+  ended p left sp' x e e' wakes' allowed no_future is there new held changes gone count moved spare =
+      let kept_now : Store = store_of ss' fs ps' in
+      let later : next ≤ i = later_than v (hall_of with_it next) wakes next i seen less in
+      let alone : get (hall_of with_it next).futures p ≡ None = subst (λ (q : Play). get q.hall.futures p ≡ None) (sym seen) no_future in
+      let may : cause_of (hall_of with_it next) (events.End p) ≡ None = subst (λ (q : Play). cause_of q.hall (events.End p) ≡ None) (sym seen) allowed in
+      let within : length (cores.wakers_of (granted_in e.core.queue x.size)) ≤ w = wakes_within ss fs ps w sp next x.semaphore x.size e k there in
+      let room = k.room in
+      let whole = plays_end_permit with_it kept_now w (w - left) sp' sp next i x.semaphore x.size e k later low (found ss x.semaphore e there) p (permit_of x) refl (permit_at ps p x is) alone may
+            (semaphores_of ss ss' x.semaphore e' _ changes new) refl (named_remove (λ p x. permit_of x) ps ps' p gone) (subst (λ (y : SemaphoreEntry). cores.held_of y.core + x.size ≡ cores.held_of e.core) new held) (omega (arith, count, within)) (omega (arith, count, within, spare, room)) in
+      let outcome : (step (hall_of with_it next) i (events.End p)).reply ≡ answers.Done = ap (λ o. (end_of (hall_of with_it next) p o).reply) alone ∙ ap (λ o. (end_permit (hall_of with_it next) p o).reply) (permit_at ps p x is) in
+      record {
+        kept = whole.plays.kept;
+        yields = yields v with_it kept_now next i (w - left) sp' wakes wakes' (events.End p) answers.Done seen whole.plays (moved ∙ ap (λ ws. wakes ++ ws) (sym whole.wakes)) (sym outcome);
+      }
