@@ -1,21 +1,20 @@
 -- what the events of permits do to the maps of a `SemHall`
-use Rattle.std.proofs.Common.{◌≡◌, ℕ, ◌+◌, ◌-◌, ◌*◌, ◌^◌, ◌<◌, ◌≤◌, ◌==◌, ◌&&◌, ◌++◌, not, Bool, true, false, cond, if◌then◌else◌, List, [], length, nat_le, refl, ap, sym, subst, ◌∙◌, arith, Option, Some, None, is_some, Result, Ok, Err, OnOk, OnErr}
+use Rattle.std.proofs.Common.{◌≡◌, ℕ, ◌+◌, ◌-◌, ◌^◌, ◌<◌, ◌≤◌, ◌==◌, ◌++◌, not, Bool, true, false, cond, if◌then◌else◌, List, [], length, nat_le, refl, ap, sym, subst, ◌∙◌, arith, Option, Some, None, is_some, Result, Ok, Err, OnOk, OnErr}
 use Rattle.std.specs.Option.{option_map}
 use Rattle.std.specs.Result.{is_err}
 use Rattle.std.specs.Ordering.{nat_cmp}
-use Rattle.std.specs.BTreeMap.{is_at}
 use Rattle.std.specs.FinMap.{FinMap, get, insert, remove}
-use Rattle.std.proofs.lemmas.Bool.{eqb-true, eqb-false, eq-eqb, ne_eqb, and_parts, le-leb, lt-leb}
+use Rattle.std.proofs.lemmas.Bool.{eqb-true, eq-eqb, ne_eqb, and_parts, le-leb, lt-leb}
 use Rattle.mea_base.specs.declared.answer.Answer.{Answer}
 use Rattle.mea_base.specs.declared.answer.Answer.TheVariants as answers
 use Rattle.mea_base.specs.Named.{named, at}
 use Rattle.mea_base.specs.Queue.{granted_in}
-use Rattle.mea_base.specs.Totals.{total, weight}
-use Rattle.mea_base.proofs.NamedMaps.{get-named, named_changed, named_put, named_remove, same_named, is_at-eq}
+use Rattle.mea_base.specs.Totals.{weight}
+use Rattle.mea_base.proofs.NamedMaps.{get-named, named_put, named_remove, same_named, is_at-eq}
 use Rattle.mea_base.proofs.Totals.{get_inserted, total-remove}
 use Rattle.mea_sem_model.specs.declared.event.SemEvent.{SemEvent}
 use Rattle.mea_sem_model.specs.declared.event.SemEvent.TheVariants as events
-use Rattle.mea_sem_model.specs.Hall.{Hall, Semaphore, Permit, semaphore_at, with_semaphore}
+use Rattle.mea_sem_model.specs.Hall.{Hall, Permit, semaphore_at, with_semaphore}
 use Rattle.mea_sem_model.specs.Cause.{cause_of, is_permit, can_merge, are_of_one_kind, unknown_unless}
 use Rattle.mea_sem_model.specs.Valid.{Fits}
 use Rattle.mea_sem_model.specs.Step.{Outcome, step, quietly, taking, with_permit, try_of, lose_of, split_of, size_of, end_of, end_permit}
@@ -29,7 +28,7 @@ use Rattle.mea_sem.proofs.Names.{get-seen}
 use Rattle.mea_sem.proofs.PourHalls.{seen_at}
 use Rattle.mea_sem.proofs.Weighs.{one}
 use Rattle.mea_sem.proofs.Keeping.{Plays}
-use Rattle.mea_sem.proofs.PlaysSemaphores.{Puts, plays_nothing}
+use Rattle.mea_sem.proofs.PlaysSemaphores.{plays_nothing}
 use Rattle.mea_sem.proofs.PlaysPermits.{plays_try, plays_lose, plays_merge, plays_split, permit_counts, permits_count}
 use Rattle.mea_sem.proofs.PlaysPours.{wakers_poured}
 use Rattle.mea_sem.proofs.PlaysEnds.{plays_end_permit}
@@ -140,7 +139,7 @@ module _ (v : Play) (ss ss' : Semaphores) (fs : Futures) (ps ps' : Permits) (w s
       → Done v st' i (step v.hall i (events.Lose p)) (answers.Forgot x.size) wakes w sp
   lost p x e e' allowed is there new held changes gone =
       let plays = plays_lose st st' w sp next i x.semaphore p e k later low (permit_of x) refl (permit_small ss fs ps w sp next k p x e is there) (permit_at ps p x is) (allowed_here (events.Lose p) allowed)
-            (puts_of ss ss' fs ps ps' x.semaphore e e' _ there changes new) (named_remove (λ p x. permit_of x) ps ps' p gone) (subst (λ (y : SemaphoreEntry). cores.held_of y.core + x.size ≡ cores.held_of e.core) new held) in
+      (puts_of ss ss' fs ps ps' x.semaphore e e' _ there changes new) (named_remove (λ p x. permit_of x) ps ps' p gone) (subst (λ (y : SemaphoreEntry). cores.held_of y.core + x.size ≡ cores.held_of e.core) new held) in
       done_quietly (events.Lose p) (answers.Forgot x.size) plays (ap (λ o. (lose_of (hall_of st next) p o).wakes) (permit_at ps p x is)) (ap (λ o. (lose_of (hall_of st next) p o).reply) (sym (permit_at ps p x is)))
 
 -- ---- events that change nothing
@@ -157,8 +156,8 @@ module _ (v : Play) (ss : Semaphores) (fs : Futures) (ps : Permits) (w sp next i
   pub too_small : (p n : ℕ) (x : PermitEntry) → at ps p ≡ Some x → x.size < n → Done v same i (step v.hall i (events.Split p n)) answers.Lacking wakes w sp
   too_small p n x is lack =
       let outcome : step (hall_of same next) i (events.Split p n) ≡ quietly (hall_of same next) answers.Lacking =
-        ap (split_of (hall_of same next) i p n) (permit_at ps p x is)
-        ∙ ap (λ b. if b then quietly (with_permit (with_permit (hall_of same next) p (record (permit_of x) { size = x.size - n })) i (record (permit_of x) { size = n })) answers.Held else quietly (hall_of same next) answers.Lacking) (lt-leb n x.size lack) in
+      ap (split_of (hall_of same next) i p n) (permit_at ps p x is)
+      ∙ ap (λ b. if b then quietly (with_permit (with_permit (hall_of same next) p (record (permit_of x) { size = x.size - n })) i (record (permit_of x) { size = n })) answers.Held else quietly (hall_of same next) answers.Lacking) (lt-leb n x.size lack) in
       unchanged (events.Split p n) answers.Lacking (ap (λ o. o.hall) outcome) (ap (λ o. o.wakes) outcome) (ap (λ o. o.reply) (sym outcome))
 
 -- ---- tries
@@ -207,7 +206,7 @@ module _ (v : Play) (ss : Semaphores) (fs : Futures) (ps : Permits) (w sp next i
       let enough : n ≤ e.core.free = subst (λ (x : SemaphoreEntry). n ≤ x.core.free) one_entry fits in
       let outcome : step hall_before i (by_form plain s n) ≡ chosen true = step_by_form plain hall_before i s n ∙ ap chosen (ap (λ r. nat_le n r.free) free_here ∙ le-leb n e.core.free enough) in
       let plays = plays_try before (store_of ss' fs ps') w sp next i s n e k (later_than v hall_before wakes next i seen less) low (by_form plain s n) plain (fits_by_form plain s n) (subst (λ (p : Play). cause_of p.hall (by_form plain s n) ≡ None) (sym seen) (allowed_by_form plain v.hall s n allowed))
-            (ap (λ o. o.hall) (step_by_form plain hall_before i s n)) enough (puts_of ss ss' fs ps ps' s e e' _ there changes new) (named_put (λ p x. permit_of x) ps ps' i (record { semaphore = s; size = n; plain = plain }) given) (subst (λ (y : SemaphoreEntry). cores.held_of y.core ≡ cores.held_of e.core + n) new held) in
+      (ap (λ o. o.hall) (step_by_form plain hall_before i s n)) enough (puts_of ss ss' fs ps ps' s e e' _ there changes new) (named_put (λ p x. permit_of x) ps ps' i (record { semaphore = s; size = n; plain = plain }) given) (subst (λ (y : SemaphoreEntry). cores.held_of y.core ≡ cores.held_of e.core + n) new held) in
       as_tried (store_of ss' fs ps') answers.Held (done_quietly v ss ss' fs ps ps' w sp next i wakes k seen less low (by_form plain s n) answers.Held plays (ap (λ o. o.wakes) outcome) (ap (λ o. o.reply) (sym outcome)))
 
 -- ---- merges
@@ -286,10 +285,10 @@ module _ (v : Play) (ss : Semaphores) (fs : Futures) (ps : Permits) (w sp next i
   merged ss' ps' e e' there new changes grown =
       let kept_now : Store = store_of ss' fs ps' in
       let permits : kept_now.permits ≡ insert (remove unmerged.permits q) p (record (permit_of x) { size = x.size + y.size }) =
-        named_put (λ p x. permit_of x) ps1 ps' p (record x { size = x.size + y.size }) grown ∙ ap (λ m. insert m p (record (permit_of x) { size = x.size + y.size })) (named_remove (λ p x. permit_of x) ps ps1 q gone) in
+      named_put (λ p x. permit_of x) ps1 ps' p (record x { size = x.size + y.size }) grown ∙ ap (λ m. insert m p (record (permit_of x) { size = x.size + y.size })) (named_remove (λ p x. permit_of x) ps ps1 q gone) in
       let plays = plays_merge unmerged kept_now w sp next i y.semaphore q e k (later_than v (hall_of unmerged next) wakes next i seen less) low p (permit_of x) (permit_of y) alike.0 refl alike.1 (apart_from v ss fs ps next wakes seen p q allowed)
-            (permit_at ps p x first_there) (permit_at ps q y isy) (subst (λ (p' : Play). cause_of p'.hall (events.Merge p q) ≡ None) (sym seen) allowed)
-            (puts_of ss ss' fs ps ps' y.semaphore e e' _ there changes (new ∙ ap (λ b. record e { plain = e.plain - one b }) alike.1)) permits in
+      (permit_at ps p x first_there) (permit_at ps q y isy) (subst (λ (p' : Play). cause_of p'.hall (events.Merge p q) ≡ None) (sym seen) allowed)
+      (puts_of ss ss' fs ps ps' y.semaphore e e' _ there changes (new ∙ ap (λ b. record e { plain = e.plain - one b }) alike.1)) permits in
       done_quietly v ss ss' fs ps ps' w sp next i wakes k seen less low (events.Merge p q) answers.Done plays refl refl
 
 -- ---- splits
@@ -318,14 +317,14 @@ module _ (v : Play) (ss ss' : Semaphores) (fs : Futures) (ps ps1 ps' : Permits) 
       let one_permit : y ≡ x = cc in
       let kept_now : Store = store_of ss' fs ps' in
       let permits : kept_now.permits ≡ insert (insert whole_store.permits p (record (permit_of x) { size = x.size - n })) i (record (permit_of x) { size = n }) =
-        named_put (λ p x. permit_of x) ps1 ps' p (record y { size = y.size - n }) less_now
-        ∙ (λ j. insert (named_put (λ p x. permit_of x) ps ps1 i (record x { size = n }) given j) p (record (permit_of (one_permit j)) { size = (one_permit j).size - n }))
-        ∙ swapped whole_store.permits p i (record (permit_of x) { size = x.size - n }) (record (permit_of x) { size = n }) apart in
+      named_put (λ p x. permit_of x) ps1 ps' p (record y { size = y.size - n }) less_now
+      ∙ (λ j. insert (named_put (λ p x. permit_of x) ps ps1 i (record x { size = n }) given j) p (record (permit_of (one_permit j)) { size = (one_permit j).size - n }))
+      ∙ swapped whole_store.permits p i (record (permit_of x) { size = x.size - n }) (record (permit_of x) { size = n }) apart in
       let outcome : step (hall_of whole_store next) i (events.Split p n) ≡ quietly (with_permit (with_permit (hall_of whole_store next) p (record (permit_of x) { size = x.size - n })) i (record (permit_of x) { size = n })) answers.Held =
-        ap (split_of (hall_of whole_store next) i p n) (permit_at ps p x is)
-        ∙ ap (λ b. if b then quietly (with_permit (with_permit (hall_of whole_store next) p (record (permit_of x) { size = x.size - n })) i (record (permit_of x) { size = n })) answers.Held else quietly (hall_of whole_store next) answers.Lacking) (le-leb n x.size enough) in
+      ap (split_of (hall_of whole_store next) i p n) (permit_at ps p x is)
+      ∙ ap (λ b. if b then quietly (with_permit (with_permit (hall_of whole_store next) p (record (permit_of x) { size = x.size - n })) i (record (permit_of x) { size = n })) answers.Held else quietly (hall_of whole_store next) answers.Lacking) (le-leb n x.size enough) in
       let plays = plays_split whole_store kept_now w sp next i x.semaphore n e k later low p (permit_of x) refl enough (permit_at ps p x is) (subst (λ (q : Play). cause_of q.hall (events.Split p n) ≡ None) (sym seen) allowed)
-            (puts_of ss ss' fs ps ps' x.semaphore e e' _ there changes new) permits in
+      (puts_of ss ss' fs ps ps' x.semaphore e e' _ there changes new) permits in
       done_quietly v ss ss' fs ps ps' w sp next i wakes k seen less low (events.Split p n) answers.Held plays (ap (λ o. o.wakes) outcome) (ap (λ o. o.reply) (sym outcome))
 
 -- ---- ends
@@ -371,7 +370,7 @@ module _ (v : Play) (ss ss' : Semaphores) (fs : Futures) (ps ps' : Permits) (w s
       let within : length (cores.wakers_of (granted_in e.core.queue x.size)) ≤ w = wakes_within ss fs ps w sp next x.semaphore x.size e k there in
       let room = k.room in
       let whole = plays_end_permit with_it kept_now w (w - left) sp' sp next i x.semaphore x.size e k later low (found ss x.semaphore e there) p (permit_of x) refl (permit_at ps p x is) alone may
-            (semaphores_of ss ss' x.semaphore e' _ changes new) refl (named_remove (λ p x. permit_of x) ps ps' p gone) (subst (λ (y : SemaphoreEntry). cores.held_of y.core + x.size ≡ cores.held_of e.core) new held) (omega (arith, count, within)) (omega (arith, count, within, spare, room)) in
+      (semaphores_of ss ss' x.semaphore e' _ changes new) refl (named_remove (λ p x. permit_of x) ps ps' p gone) (subst (λ (y : SemaphoreEntry). cores.held_of y.core + x.size ≡ cores.held_of e.core) new held) (omega (arith, count, within)) (omega (arith, count, within, spare, room)) in
       let outcome : (step (hall_of with_it next) i (events.End p)).reply ≡ answers.Done = ap (λ o. (end_of (hall_of with_it next) p o).reply) alone ∙ ap (λ o. (end_permit (hall_of with_it next) p o).reply) (permit_at ps p x is) in
       record {
         kept = whole.plays.kept;

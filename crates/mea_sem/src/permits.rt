@@ -12,7 +12,13 @@ use mea_sem_model::SemEvent;
 // What the events that make, change and end permits do, where they have no cause for refusal.
 impl SemHall {
     // `try` and `tryo`.
-    pub(crate) fn try_permit(&mut self, number: u64, s: u64, n: u64, plain: bool) -> Result<Answer, Stop>
+    pub(crate) fn try_permit(
+        &mut self,
+        number: u64,
+        s: u64,
+        n: u64,
+        plain: bool,
+    ) -> Result<Answer, Stop>
         requires next { self.old.next ≤ number }
         requires allowed { cause_of self.old.hall (SemEvent.Try s n) ≡ None }
         ensures played { IfOk result (λ reply. Yields self.old number (try_of self.old.hall number s n plain) reply self.new) }

@@ -27,11 +27,11 @@ overflow_sub-self c = let within = wakes_within c.self.inside.semaphores.entries
 pub invariant_of-self : goal.invariant_of-self
 invariant_of-self c =
     (ended c.args.self.now c.self.inside.semaphores.entries _ c.self.inside.futures.entries c.self.inside.permits.entries _ c.self.inside.registered c.self.inside.outbox.spare c.self.inside.next c.args.number c.self.inside.outbox.wakers c.self.invariant c.self.view_is c.requires.next (omega arith) c.args.p c.give_back.result _ c.in-Some.permit c.in-Some-get_mut.entry.now c.give_back.new.self _ c.requires.allowed c.requires.no_future (sym c.remove.ensures.value ∙ c.in-Some.is) (sym c.get_mut.ensures.value ∙ ap option_copied_mut c.in-Some-get_mut.is)
-        c.give_back.ensures.is c.give_back.ensures.held ((c.get_mut.follows.holds c.give_back.new.self).3 (search rules)).0 c.remove.ensures.updates.0
-        c.give_back.ensures.count c.give_back.ensures.moved c.give_back.ensures.spare).kept
+    c.give_back.ensures.is c.give_back.ensures.held ((c.get_mut.follows.holds c.give_back.new.self).3 (search rules)).0 c.remove.ensures.updates.0
+    c.give_back.ensures.count c.give_back.ensures.moved c.give_back.ensures.spare).kept
 
 pub returns : goal.returns
 returns c =
     (ended c.args.self.now c.self.inside.semaphores.entries _ c.self.inside.futures.entries c.self.inside.permits.entries _ c.self.inside.registered c.self.inside.outbox.spare c.self.inside.next c.args.number c.self.inside.outbox.wakers c.self.invariant c.self.view_is c.requires.next (omega arith) c.args.p c.give_back.result _ c.in-Some.permit c.in-Some-get_mut.entry.now c.give_back.new.self _ c.requires.allowed c.requires.no_future (sym c.remove.ensures.value ∙ c.in-Some.is) (sym c.get_mut.ensures.value ∙ ap option_copied_mut c.in-Some-get_mut.is)
-        c.give_back.ensures.is c.give_back.ensures.held ((c.get_mut.follows.holds c.give_back.new.self).3 (search rules)).0 c.remove.ensures.updates.0
-        c.give_back.ensures.count c.give_back.ensures.moved c.give_back.ensures.spare).yields
+    c.give_back.ensures.is c.give_back.ensures.held ((c.get_mut.follows.holds c.give_back.new.self).3 (search rules)).0 c.remove.ensures.updates.0
+    c.give_back.ensures.count c.give_back.ensures.moved c.give_back.ensures.spare).yields

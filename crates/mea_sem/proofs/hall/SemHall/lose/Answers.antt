@@ -25,9 +25,9 @@ lose-requires-clause-tally c =
 pub invariant_of-self : goal.invariant_of-self
 invariant_of-self c =
     (lost c.args.self.now c.self.inside.semaphores.entries _ c.self.inside.futures.entries c.self.inside.permits.entries _ c.self.inside.registered c.self.inside.outbox.spare c.self.inside.next c.args.number c.self.inside.outbox.wakers c.self.invariant c.self.view_is c.requires.next (omega arith) c.args.p c.in-Some.permit c.in-Some-get_mut.entry.now c.lose.new.self c.requires.allowed (sym c.remove.ensures.value ∙ c.in-Some.is) (sym c.get_mut.ensures.value ∙ ap option_copied_mut c.in-Some-get_mut.is)
-        c.lose.ensures.is c.lose.ensures.held ((c.get_mut.follows.holds c.lose.new.self).3 (search rules)).0 c.remove.ensures.updates.0).kept
+    c.lose.ensures.is c.lose.ensures.held ((c.get_mut.follows.holds c.lose.new.self).3 (search rules)).0 c.remove.ensures.updates.0).kept
 
 pub returns : goal.returns
 returns c =
     (lost c.args.self.now c.self.inside.semaphores.entries _ c.self.inside.futures.entries c.self.inside.permits.entries _ c.self.inside.registered c.self.inside.outbox.spare c.self.inside.next c.args.number c.self.inside.outbox.wakers c.self.invariant c.self.view_is c.requires.next (omega arith) c.args.p c.in-Some.permit c.in-Some-get_mut.entry.now c.lose.new.self c.requires.allowed (sym c.remove.ensures.value ∙ c.in-Some.is) (sym c.get_mut.ensures.value ∙ ap option_copied_mut c.in-Some-get_mut.is)
-        c.lose.ensures.is c.lose.ensures.held ((c.get_mut.follows.holds c.lose.new.self).3 (search rules)).0 c.remove.ensures.updates.0).yields
+    c.lose.ensures.is c.lose.ensures.held ((c.get_mut.follows.holds c.lose.new.self).3 (search rules)).0 c.remove.ensures.updates.0).yields

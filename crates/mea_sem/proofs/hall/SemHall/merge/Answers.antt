@@ -21,9 +21,9 @@ discount-requires c = permit_counted c.self.inside.semaphores.entries c.self.ins
 pub invariant_of-self : goal.invariant_of-self
 invariant_of-self c =
     (merged c.args.self.now c.self.inside.semaphores.entries c.self.inside.futures.entries c.self.inside.permits.entries c.self.inside.registered c.self.inside.outbox.spare c.self.inside.next c.args.number c.self.inside.outbox.wakers c.self.invariant c.self.view_is c.requires.next (omega arith) c.args.p c.args.q c.requires.allowed _ c.remove.ensures.updates.0 c.in-Some-get_mut.permit.now c.in-Some.other (sym c.get_mut.ensures.value ∙ ap option_copied_mut c.in-Some-get_mut.is) (sym c.remove.ensures.value ∙ c.in-Some.is) _ _ c.in-Some-get_mut-2.entry.now c.discount.new.self (sym c.get_mut-2.ensures.value ∙ ap option_copied_mut c.in-Some-get_mut-2.is) c.discount.ensures
-        ((c.get_mut-2.follows.holds c.discount.new.self).3 (search rules)).0 ((c.get_mut.follows.holds (record c.in-Some-get_mut.permit.now { size = c.in-Some-get_mut.permit.now.size + c.in-Some.other.size })).3 (search rules)).0).kept
+    ((c.get_mut-2.follows.holds c.discount.new.self).3 (search rules)).0 ((c.get_mut.follows.holds (record c.in-Some-get_mut.permit.now { size = c.in-Some-get_mut.permit.now.size + c.in-Some.other.size })).3 (search rules)).0).kept
 
 pub returns : goal.returns
 returns c =
     (merged c.args.self.now c.self.inside.semaphores.entries c.self.inside.futures.entries c.self.inside.permits.entries c.self.inside.registered c.self.inside.outbox.spare c.self.inside.next c.args.number c.self.inside.outbox.wakers c.self.invariant c.self.view_is c.requires.next (omega arith) c.args.p c.args.q c.requires.allowed _ c.remove.ensures.updates.0 c.in-Some-get_mut.permit.now c.in-Some.other (sym c.get_mut.ensures.value ∙ ap option_copied_mut c.in-Some-get_mut.is) (sym c.remove.ensures.value ∙ c.in-Some.is) _ _ c.in-Some-get_mut-2.entry.now c.discount.new.self (sym c.get_mut-2.ensures.value ∙ ap option_copied_mut c.in-Some-get_mut-2.is) c.discount.ensures
-        ((c.get_mut-2.follows.holds c.discount.new.self).3 (search rules)).0 ((c.get_mut.follows.holds (record c.in-Some-get_mut.permit.now { size = c.in-Some-get_mut.permit.now.size + c.in-Some.other.size })).3 (search rules)).0).yields
+    ((c.get_mut-2.follows.holds c.discount.new.self).3 (search rules)).0 ((c.get_mut.follows.holds (record c.in-Some-get_mut.permit.now { size = c.in-Some-get_mut.permit.now.size + c.in-Some.other.size })).3 (search rules)).0).yields

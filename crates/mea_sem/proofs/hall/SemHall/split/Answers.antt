@@ -29,11 +29,11 @@ count-requires c =
 pub invariant_of-self-2 : goal.invariant_of-self-2
 invariant_of-self-2 c =
     (halved c.args.self.now c.self.inside.semaphores.entries _ c.self.inside.futures.entries c.self.inside.permits.entries _ _ c.self.inside.registered c.self.inside.outbox.spare c.self.inside.next c.args.number c.self.inside.outbox.wakers c.self.invariant c.self.view_is c.requires.next (omega arith) c.args.p c.args.n c.in-Some.permit c.in-Some-get_mut.whole.now c.in-Some-get_mut-2.entry.now c.count.new.self c.requires.allowed (sym c.get.ensures.value ∙ sym c.copied.ensures ∙ c.in-Some.is) (omega (arith, c.if-n-permit.false)) (sym c.get_mut-2.ensures.value ∙ ap option_copied_mut c.in-Some-get_mut-2.is)
-        c.count.ensures ((c.get_mut-2.follows.holds c.count.new.self).3 (search rules)).0 (on_success _ c.insert.result (sym c.is_err.ensures.value ∙ c.if-is_err.false) c.insert.ensures.updates).0
-        (sym c.get_mut.ensures.value ∙ ap option_copied_mut c.in-Some-get_mut.is) ((c.get_mut.follows.holds (record c.in-Some-get_mut.whole.now { size = c.in-Some-get_mut.whole.now.size - c.args.n })).3 (search rules)).0).kept
+    c.count.ensures ((c.get_mut-2.follows.holds c.count.new.self).3 (search rules)).0 (on_success _ c.insert.result (sym c.is_err.ensures.value ∙ c.if-is_err.false) c.insert.ensures.updates).0
+    (sym c.get_mut.ensures.value ∙ ap option_copied_mut c.in-Some-get_mut.is) ((c.get_mut.follows.holds (record c.in-Some-get_mut.whole.now { size = c.in-Some-get_mut.whole.now.size - c.args.n })).3 (search rules)).0).kept
 
 pub returns-clause-played : goal.returns-clause-played
 returns-clause-played c =
     (halved c.args.self.now c.self.inside.semaphores.entries _ c.self.inside.futures.entries c.self.inside.permits.entries _ _ c.self.inside.registered c.self.inside.outbox.spare c.self.inside.next c.args.number c.self.inside.outbox.wakers c.self.invariant c.self.view_is c.requires.next (omega arith) c.args.p c.args.n c.in-Some.permit c.in-Some-get_mut.whole.now c.in-Some-get_mut-2.entry.now c.count.new.self c.requires.allowed (sym c.get.ensures.value ∙ sym c.copied.ensures ∙ c.in-Some.is) (omega (arith, c.if-n-permit.false)) (sym c.get_mut-2.ensures.value ∙ ap option_copied_mut c.in-Some-get_mut-2.is)
-        c.count.ensures ((c.get_mut-2.follows.holds c.count.new.self).3 (search rules)).0 (on_success _ c.insert.result (sym c.is_err.ensures.value ∙ c.if-is_err.false) c.insert.ensures.updates).0
-        (sym c.get_mut.ensures.value ∙ ap option_copied_mut c.in-Some-get_mut.is) ((c.get_mut.follows.holds (record c.in-Some-get_mut.whole.now { size = c.in-Some-get_mut.whole.now.size - c.args.n })).3 (search rules)).0).yields
+    c.count.ensures ((c.get_mut-2.follows.holds c.count.new.self).3 (search rules)).0 (on_success _ c.insert.result (sym c.is_err.ensures.value ∙ c.if-is_err.false) c.insert.ensures.updates).0
+    (sym c.get_mut.ensures.value ∙ ap option_copied_mut c.in-Some-get_mut.is) ((c.get_mut.follows.holds (record c.in-Some-get_mut.whole.now { size = c.in-Some-get_mut.whole.now.size - c.args.n })).3 (search rules)).0).yields

@@ -31,9 +31,9 @@ take-requires-clause-few c =
 pub invariant_of-self-2 : goal.invariant_of-self-2
 invariant_of-self-2 c =
     (tried c.args.self.now c.self.inside.semaphores.entries c.self.inside.futures.entries c.self.inside.permits.entries c.self.inside.registered c.self.inside.outbox.spare c.self.inside.next c.args.number c.self.inside.outbox.wakers c.self.invariant c.self.view_is c.requires.next (omega arith) c.args.s c.args.n c.args.plain c.in-Some-get_mut.entry.now (sym c.get_mut.ensures.value ∙ ap option_copied_mut c.in-Some-get_mut.is) _ _ c.in-Some.entry.now c.take.new.self c.requires.allowed (sym c.get.ensures.value ∙ ap option_copied c.in-Some.is) (omega (arith, c.available_permits.ensures.is, c.if-n-available_permits.false))
-        c.take.ensures.is c.take.ensures.held ((c.get_mut.follows.holds c.take.new.self).3 (search rules)).0 (on_success _ c.insert.result (sym c.is_err.ensures.value ∙ c.if-is_err.false) c.insert.ensures.updates).0).kept
+    c.take.ensures.is c.take.ensures.held ((c.get_mut.follows.holds c.take.new.self).3 (search rules)).0 (on_success _ c.insert.result (sym c.is_err.ensures.value ∙ c.if-is_err.false) c.insert.ensures.updates).0).kept
 
 pub returns-clause-played : goal.returns-clause-played
 returns-clause-played c =
     (tried c.args.self.now c.self.inside.semaphores.entries c.self.inside.futures.entries c.self.inside.permits.entries c.self.inside.registered c.self.inside.outbox.spare c.self.inside.next c.args.number c.self.inside.outbox.wakers c.self.invariant c.self.view_is c.requires.next (omega arith) c.args.s c.args.n c.args.plain c.in-Some-get_mut.entry.now (sym c.get_mut.ensures.value ∙ ap option_copied_mut c.in-Some-get_mut.is) _ _ c.in-Some.entry.now c.take.new.self c.requires.allowed (sym c.get.ensures.value ∙ ap option_copied c.in-Some.is) (omega (arith, c.available_permits.ensures.is, c.if-n-available_permits.false))
-        c.take.ensures.is c.take.ensures.held ((c.get_mut.follows.holds c.take.new.self).3 (search rules)).0 (on_success _ c.insert.result (sym c.is_err.ensures.value ∙ c.if-is_err.false) c.insert.ensures.updates).0).yields
+    c.take.ensures.is c.take.ensures.held ((c.get_mut.follows.holds c.take.new.self).3 (search rules)).0 (on_success _ c.insert.result (sym c.is_err.ensures.value ∙ c.if-is_err.false) c.insert.ensures.updates).0).yields
