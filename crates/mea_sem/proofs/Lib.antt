@@ -20,3 +20,4 @@ pub mod Standing
 pub mod EndRoom
 pub mod StandingFutures
 pub mod Lives
+pub mod StandingPermits

@@ -55,11 +55,12 @@ impl SemHall {
         let ready = entry.is_ready(&future.acquire);
         let forgets = future.forgets;
         let new = matches!(future.acquire, Acquire::New { .. });
-        if ready && forgets {
-            return Ok(self.finish_forgetting(number, f, waker));
-        }
         if ready {
-            return self.finish(number, f, waker);
+            return if forgets {
+                Ok(self.finish_forgetting(number, f, waker))
+            } else {
+                self.finish(number, f, waker)
+            };
         }
         if new {
             return self.queue(number, f, waker);
