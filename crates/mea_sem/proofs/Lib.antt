@@ -21,3 +21,4 @@ pub mod EndRoom
 pub mod StandingFutures
 pub mod Lives
 pub mod StandingPermits
+pub mod StandingWaits

@@ -92,10 +92,10 @@ module _ (ss : Semaphores) (fs : Futures) (ps : Permits) (w sp next f : ℕ) (x 
   as_future z = record { semaphore = x.semaphore; demand = demand_of x.acquire; plain = x.plain; forgets = x.forgets; stage = z }
 
   module _ (e : SemaphoreEntry) (there : at ss x.semaphore ≡ Some e) where
-    seen_as : (z : Stage) → stage_of x.acquire e.core.queue ≡ z → get this_hall.futures f ≡ Some (as_future z)
+    pub seen_as : (z : Stage) → stage_of x.acquire e.core.queue ≡ z → get this_hall.futures f ≡ Some (as_future z)
     seen_as z stage = seen_future this_store next f x e x.acquire z (found fs f x is) (found ss x.semaphore e there) refl stage
 
-    seen_free : free this_hall x.semaphore ≡ e.core.free
+    pub seen_free : free this_hall x.semaphore ≡ e.core.free
     seen_free = ap (λ (r : Semaphore). r.free) (seen_at this_store next x.semaphore e k.linked (found ss x.semaphore e there))
 
     -- it is ready: the step
@@ -107,7 +107,7 @@ module _ (ss : Semaphores) (fs : Futures) (ps : Permits) (w sp next f : ℕ) (x 
         ∙ ap (λ b. if b then quietly (made_ready (with_semaphore this_hall x.semaphore (taking (semaphore_at this_hall x.semaphore) y.demand)) i f y) answers.Ready else quietly (queueing this_hall f v y) answers.Pending) fits
         ∙ ap (λ n. quietly (made_ready (with_semaphore this_hall x.semaphore (taking (semaphore_at this_hall x.semaphore) n)) i f y) answers.Ready) (ap demand_of new)
 
-    granted_stage : (d n : ℕ) → x.acquire ≡ acquires.Queued d n → get e.core.granted n ≡ Some d → stage_of x.acquire e.core.queue ≡ Granted
+    pub granted_stage : (d n : ℕ) → x.acquire ≡ acquires.Queued d n → get e.core.granted n ≡ Some d → stage_of x.acquire e.core.queue ≡ Granted
     granted_stage d n queued granted = ap (λ a. stage_of a e.core.queue) queued ∙ ap stage_under (waker-none e.core.queue n (none (cores.waiting e.core.queue n) refl))
       where
         none : (o : Option (ℕ × ℕ)) → cores.waiting e.core.queue n ≡ o → o ≡ None
@@ -329,7 +329,7 @@ module _ (ss : Semaphores) (fs : Futures) (ps : Permits) (w sp next f : ℕ) (x 
   abbrev its_hall : Hall
   its_hall = hall_of its_store next
 
-  paid_part : (y : Future) → get its_hall.futures f ≡ Some y → y.semaphore ≡ x.semaphore → paid_to (queue_at its_hall x.semaphore) f y.demand y.stage ≤ e.core.live
+  pub paid_part : (y : Future) → get its_hall.futures f ≡ Some y → y.semaphore ≡ x.semaphore → paid_to (queue_at its_hall x.semaphore) f y.demand y.stage ≤ e.core.live
   paid_part y seen mine =
       let s : ℕ = x.semaphore in
       let sums = total-remove (λ g (z : Future). cond (z.semaphore == s) (paid_to (queue_at its_hall s) g z.demand z.stage) 0) its_hall.futures f in

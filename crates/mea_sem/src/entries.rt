@@ -1,4 +1,4 @@
-ghost use Rattle.std.specs.Prelude.{◌≡◌, ◌+◌, ◌-◌, ◌<◌, ◌≤◌, ◌^◌, ◌++◌, [], length, min, cond, ℕ, true, false, Some, IsOk, OnOk, OnErr, IfOk, MatchResult};
+ghost use Rattle.std.specs.Prelude.{◌≡◌, ◌≢◌, ◌+◌, ◌-◌, ◌<◌, ◌≤◌, ◌^◌, ◌++◌, [], length, min, cond, ℕ, true, false, Some, IsOk, OnOk, OnErr, IfOk, MatchResult};
 ghost use Rattle.mea_base.specs.Queue.{granted_in};
 ghost use Rattle.mea_sem_core.specs.Acquire.{demand_of};
 ghost use Rattle.mea_sem_core.specs.Core.{held_of, poured, wakers_of, debts};
@@ -47,6 +47,14 @@ impl FutureEntry {
             size: demand(&self.acquire),
             plain: self.plain,
         }
+    }
+
+    /// Whether it was never polled.
+    pub fn is_new(&self) -> bool
+        ensures new { result ≡ true → (d : ℕ) × (self.now.acquire ≡ Acquire.New d) }
+        ensures polled { result ≡ false → (d : ℕ) → self.now.acquire ≢ Acquire.New d }
+    {
+        matches!(self.acquire, Acquire::New { .. })
     }
 }
 

@@ -54,7 +54,7 @@ impl SemHall {
         };
         let ready = entry.is_ready(&future.acquire);
         let forgets = future.forgets;
-        let new = matches!(future.acquire, Acquire::New { .. });
+        let new = future.is_new();
         if ready {
             return if forgets {
                 Ok(self.finish_forgetting(number, f, waker))
