@@ -32,8 +32,8 @@ use Rattle.mea_sem.proofs.PlaysAgain.{plays_again}
 use Rattle.mea_sem.proofs.PlaysFutures.{plays_queued}
 use Rattle.mea_sem.proofs.PlaysPours.{poured_entry, between, between_at, wakers_poured}
 use Rattle.mea_sem.proofs.PlaysEnds.{PlaysWith, plays_end_new, plays_end_granted, plays_end_waiting, fewer_entry, ungranted_entry, unqueued_entry}
-use Rattle.mea_sem.proofs.Standing.{Semaphores, Futures, Permits, ChangesAt, kept-changed, found, semaphores_of}
-use Rattle.mea_sem.proofs.StandingFutures.{Done, done_from, quiet_wakes, its_belongs, seen_as, granted_stage, ready_new, pending_new, waiting_as, pending_again, paid_part, granted_live}
+use Rattle.mea_sem.proofs.Standing.{Semaphores, Futures, Permits, ChangesAt, kept-at, kept-changed, found, semaphores_of}
+use Rattle.mea_sem.proofs.StandingFutures.{Done, done_from, quiet_wakes, future_found, its_home, its_belongs, seen_as, granted_stage, ready_new, pending_new, waiting_as, pending_again, paid_part, granted_live}
 
 -- ---- what a future that was found is, by its stage
 module _ (ss : Semaphores) (fs : Futures) (ps : Permits) (w sp next f : ℕ) (x : FutureEntry) (e : SemaphoreEntry) (k : IsKept (store_of ss fs ps) w sp next) (is : at fs f ≡ Some x) (there : at ss x.semaphore ≡ Some e) where
@@ -99,6 +99,12 @@ module _ (ss : Semaphores) (fs : Futures) (ps : Permits) (w sp next f : ℕ) (x 
     | inr enough ↦ absurd (let ready = ap (λ o. o.reply) (ready_new ss fs ps w sp next f x k is e there i v d new enough) in let no : answers.Pending ≡ answers.Ready = sym pending ∙ ready in cc)
   ]
 
+-- the same without the entry of its semaphore
+pub unpolled : (ss : Semaphores) (fs : Futures) (ps : Permits) (w sp next f : ℕ) (x : FutureEntry) → IsKept (store_of ss fs ps) w sp next → at fs f ≡ Some x → ((d : ℕ) → x.acquire ≡ acquires.New d → ⊥) → IfSome (get (hall_of (store_of ss fs ps) next).futures f) (λ (y : Future). y.stage ≡ New) → ⊥
+unpolled ss fs ps w sp next f x k is never new =
+    let home = its_home ss fs ps w sp next f x k is in
+    new_unpolled ss fs ps w sp next f x home.entry k is (sym (kept-at ss x.semaphore) ∙ home.there) never new
+
 -- ---- what was written back is what stood there
 pub same_store : (ss ss' : Semaphores) (fs : Futures) (ps : Permits) (s : ℕ) (e e2 : SemaphoreEntry) → at ss s ≡ Some e → ChangesAt ss ss' s (Some e2) → e2 ≡ e → store_of ss' fs ps ≡ store_of ss fs ps
 same_store ss ss' fs ps s e e2 there changes is = λ j. record { semaphores = same j; futures = (store_of ss fs ps).futures; permits = (store_of ss fs ps).permits }
@@ -153,6 +159,13 @@ pub end_allowed : (h : Hall) (f : ℕ) → IsSome (get h.futures f) → cause_of
 end_allowed h f there = by_value (get h.futures f) there
   where
     by_value : (o : Option Future) → IsSome o → unknown_unless (if is_some o then true else is_permit h f) ≡ None
+    by_value None no = absurd no
+    by_value (Some y) yes = refl
+
+pub end_found : (ss : Semaphores) (fs : Futures) (ps : Permits) (next f : ℕ) → IsSome (get (hall_of (store_of ss fs ps) next).futures f) → at fs f ≡ None → ⊥
+end_found ss fs ps next f there none = future_found ss fs ps next f (by_value (get (hall_of (store_of ss fs ps) next).futures f) there) none
+  where
+    by_value : (o : Option Future) → IsSome o → is_some o ≡ true
     by_value None no = absurd no
     by_value (Some y) yes = refl
 
