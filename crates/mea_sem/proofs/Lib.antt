@@ -17,4 +17,6 @@ pub mod PlaysPours
 pub mod Left
 pub mod PlaysEnds
 pub mod Standing
+pub mod Lives
+pub mod Refusals
 pub mod EndRoom
