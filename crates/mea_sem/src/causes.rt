@@ -1,8 +1,11 @@
-ghost use Rattle.std.specs.Prelude.{◌≡◌, is_some, IfSome};
+ghost use Rattle.std.specs.Prelude.{◌≡◌, is_some, IfSome, Some};
+ghost use Rattle.std.specs.Option.{option_map, option_copied};
+ghost use Rattle.std.specs.FinMap as map;
 ghost use Rattle.mea_sem_model.specs.Hall.{live, plain_things};
-ghost use Rattle.mea_sem_model.specs.Cause.{cause_of, is_named, is_future, is_permit, can_merge, unknown_unless};
+ghost use Rattle.mea_sem_model.specs.Cause.{cause_of, is_named, is_future, is_permit, can_merge, are_of_one_kind, unknown_unless};
+ghost use Rattle.mea_sem.specs.Store.{permit_of};
 
-use crate::entries::SemaphoreEntry;
+use crate::entries::{PermitEntry, SemaphoreEntry};
 use crate::hall::SemHall;
 use mea_base::Stop;
 use mea_sem_model::SemEvent;
@@ -84,11 +87,29 @@ impl SemHall {
     fn can_merge(&self, p: u64, q: u64) -> bool
         ensures { result ≡ can_merge self.now.hall p q }
     {
-        match (self.permits.get(&p), self.permits.get(&q)) {
-            (Some(x), Some(y)) => p != q && x.semaphore == y.semaphore && x.plain == y.plain,
+        p != q && self.are_of_one_kind(p, q)
+    }
+
+    fn are_of_one_kind(&self, p: u64, q: u64) -> bool
+        ensures { result ≡ are_of_one_kind (map.get self.now.hall.permits p) (map.get self.now.hall.permits q) }
+    {
+        match (self.kept_permit(p), self.kept_permit(q)) {
+            (Some(x), Some(y)) => are_alike(x, y),
             _ => false,
         }
     }
+
+    fn kept_permit(&self, p: u64) -> Option<&PermitEntry>
+        ensures { map.get self.now.hall.permits p ≡ option_map permit_of (option_copied result) }
+    {
+        self.permits.get(&p)
+    }
+}
+
+fn are_alike(x: &PermitEntry, y: &PermitEntry) -> bool
+    ensures { result ≡ are_of_one_kind (Some (permit_of x.now)) (Some (permit_of y.now)) }
+{
+    x.semaphore == y.semaphore && x.plain == y.plain
 }
 
 fn unknown_unless(known: bool) -> Option<Stop>
