@@ -18,5 +18,6 @@ pub mod Left
 pub mod PlaysEnds
 pub mod Standing
 pub mod Lives
+pub mod MostWoken
 pub mod Refusals
 pub mod EndRoom
