@@ -18,6 +18,7 @@ pub mod Left
 pub mod PlaysEnds
 pub mod Standing
 pub mod Lives
+pub mod Lends
 pub mod MostWoken
 pub mod Refusals
 pub mod EndRoom

@@ -4,6 +4,7 @@ ghost use Rattle.std.specs.FinMap as map;
 ghost use Rattle.mea_sem_model.specs.Hall.{live, plain_things};
 ghost use Rattle.mea_sem_model.specs.Cause.{cause_of, is_named, is_future, is_permit, can_merge, are_of_one_kind, unknown_unless};
 ghost use Rattle.mea_sem.specs.Store.{permit_of};
+ghost use Rattle.mea_sem.specs.StandsFor.{StandsFor};
 
 use crate::entries::{PermitEntry, SemaphoreEntry};
 use crate::hall::SemHall;
@@ -61,6 +62,7 @@ impl SemHall {
         ensures named { is_some result ≡ is_named self.now.hall s }
         ensures live { IfSome result (λ entry. entry.now.core.live ≡ live self.now.hall s) }
         ensures plain { IfSome result (λ entry. entry.now.plain ≡ plain_things self.now.hall s) }
+        ensures stands { IfSome result (λ entry. StandsFor self.now.hall s entry.now.core) }
     {
         let entry = self.semaphores.get(&s)?;
         if entry.named { Some(entry) } else { None }

@@ -91,10 +91,8 @@ impl SemHall {
         ensures named { is_some result ≡ is_named self.now.hall name }
         ensures stands { IfSome result (λ core. StandsFor self.now.hall name core.now) }
     {
-        match self.semaphores.get(&name) {
-            Some(entry) if entry.named => Some(&entry.core),
-            _ => None,
-        }
+        let entry = self.named_entry(name)?;
+        Some(&entry.core)
     }
 
     /// Plays an event, whose number is greater than each that was played before; the wakers that it makes
