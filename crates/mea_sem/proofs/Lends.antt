@@ -11,6 +11,7 @@ use Rattle.mea_sem.specs.Store.{Store, name_of, who_of, queue_of, stage_of, stag
 use Rattle.mea_sem.specs.Kept.{IsKept}
 use Rattle.mea_sem.specs.StandsFor.{core_waker, StandsFor}
 use Rattle.mea_sem.proofs.Cores.{Queue, IsAt, all_at}
+use Rattle.mea_sem.proofs.Granted.{granted-seen}
 use Rattle.mea_sem.proofs.Lives.{live-seen}
 use Rattle.mea_sem.proofs.Names.{get-seen, name-owner}
 use Rattle.mea_sem.proofs.PourHalls.{seen_at}
@@ -41,4 +42,5 @@ stands_for st w sp next s e kept there =
       live = live-seen st w sp next s e kept there;
       queue = wakers_alike st next s e kept.linked there e.core.queue (all_at e.core.queue (kept.linked.numbered s e there).apart)
           ∙ ap (λ (r : Semaphore). map {A = Who × ℕ} {B = List ℕ × ℕ} (λ x. (waker_of_who (hall_of st next).futures x.0, x.1)) r.queue) (sym seen);
+      granted = granted-seen st next s e kept.linked there;
     }

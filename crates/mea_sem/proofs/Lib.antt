@@ -18,6 +18,8 @@ pub mod Left
 pub mod PlaysEnds
 pub mod Standing
 pub mod Lives
+pub mod Matching
+pub mod Granted
 pub mod Lends
 pub mod MostWoken
 pub mod Refusals
