@@ -18,6 +18,7 @@ pub mod Left
 pub mod PlaysEnds
 pub mod Standing
 pub mod Lives
+pub mod EmptyHall
 pub mod Matching
 pub mod Granted
 pub mod Lends
