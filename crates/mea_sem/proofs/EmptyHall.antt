@@ -25,10 +25,10 @@ seen_empty {X} f = same_named _ _ (λ q. get-seen f (named (λ k (x : X). x) [])
 
 hall_nothing : hall_of nothing 0 ≡ empty_hall
 hall_nothing = λ i. record {
-    semaphores = seen_empty (semaphore_of nothing.futures 0) i;
-    futures = seen_empty (λ f (x : FutureEntry). future_of nothing.semaphores x) i;
-    permits = same_named (named (λ p x. permit_of x) []) empty (λ q. get-named (λ p x. permit_of x) [] q ∙ sym (get-empty nat_cmp q)) i;
-  }
+  semaphores = seen_empty (semaphore_of nothing.futures 0) i;
+  futures = seen_empty (λ f (x : FutureEntry). future_of nothing.semaphores x) i;
+  permits = same_named (named (λ p x. permit_of x) []) empty (λ q. get-named (λ p x. permit_of x) [] q ∙ sym (get-empty nat_cmp q)) i;
+}
 
 no_semaphore : (s : ℕ) (e : SemaphoreEntry) → get nothing.semaphores s ≡ Some e → ⊥
 no_semaphore s e is = let none = kept-at {X = SemaphoreEntry} [] s in absurd (cc)
@@ -38,22 +38,22 @@ no_future f x is = let none = kept-at {X = FutureEntry} [] f in absurd (cc)
 
 nothing_kept : (sp : ℕ) → IsKept nothing 0 sp 0
 nothing_kept sp = record {
-    valid = subst IsValid (sym hall_nothing) valid_empty;
-    below = subst (λ (h : Hall). IsBelow h 0) (sym hall_nothing) (below_empty 0);
-    accounted = λ s. subst (λ (h : Hall). IsAccounted h s) (sym hall_nothing) (accounted_empty s);
-    linked = record {
-      home = λ f x is. absurd (no_future f x is);
-      owned = λ s e n d l is. absurd (no_semaphore s e is);
-      granted = λ s e n d is. absurd (no_semaphore s e is);
-      apart = λ f g n x y is. absurd (no_future f x is);
-      below = λ f x is. absurd (no_future f x is);
-      numbered = λ s e is. absurd (no_semaphore s e is);
-    };
-    each = λ s e is. absurd (no_semaphore s e is);
-    counted = sym (total-zero (λ s (e : SemaphoreEntry). wakers_in e.core.queue) nothing.semaphores (λ s e is. absurd (no_semaphore s e is)));
-    room = omega arith;
-    low = omega arith;
-  }
+  valid = subst IsValid (sym hall_nothing) valid_empty;
+  below = subst (λ (h : Hall). IsBelow h 0) (sym hall_nothing) (below_empty 0);
+  accounted = λ s. subst (λ (h : Hall). IsAccounted h s) (sym hall_nothing) (accounted_empty s);
+  linked = record {
+    home = λ f x is. absurd (no_future f x is);
+    owned = λ s e n d l is. absurd (no_semaphore s e is);
+    granted = λ s e n d is. absurd (no_semaphore s e is);
+    apart = λ f g n x y is. absurd (no_future f x is);
+    below = λ f x is. absurd (no_future f x is);
+    numbered = λ s e is. absurd (no_semaphore s e is);
+  };
+  each = λ s e is. absurd (no_semaphore s e is);
+  counted = sym (total-zero (λ s (e : SemaphoreEntry). wakers_in e.core.queue) nothing.semaphores (λ s e is. absurd (no_semaphore s e is)));
+  room = omega arith;
+  low = omega arith;
+}
 
 -- maps with no entries keep it
 pub hall_empty : (ss : Semaphores) (fs : Futures) (ps : Permits) → length ss ≡ 0 → length fs ≡ 0 → length ps ≡ 0 → hall_of (store_of ss fs ps) 0 ≡ empty_hall

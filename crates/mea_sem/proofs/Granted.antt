@@ -61,14 +61,14 @@ module _ (st : Store) (b s : ℕ) (e : SemaphoreEntry) (linked : IsLinked st b) 
       by_test : (t : Bool) → (x.semaphore == s) ≡ t → (is_one f x ≡ 0) ⊎ ((is_one f x ≡ 1) × ((d : ℕ) × (get e.core.granted (number x) ≡ Some d)))
       by_test false h = inl (ap (λ t. cond t (one_if_granted (stage_of x.acquire (queue_in (get st.semaphores x.semaphore)))) 0) h)
       by_test true h =
-        let mine : x.semaphore ≡ s = eqb-true _ _ h in
-        let home = linked.home f x is in
-        let both : Some home.entry ≡ Some e = sym home.there ∙ ap (get st.semaphores) mine ∙ there in
-        let same : home.entry ≡ e = cc in
-        elim (one_or_none x.acquire (subst (λ (d : SemaphoreEntry). Belongs d.core x.acquire) same home.belongs)) [
-          | inl none ↦ inl (one_here f x mine ∙ none)
-          | inr one ↦ inr (one_here f x mine ∙ one.0, one.1)
-        ]
+          let mine : x.semaphore ≡ s = eqb-true _ _ h in
+          let home = linked.home f x is in
+          let both : Some home.entry ≡ Some e = sym home.there ∙ ap (get st.semaphores) mine ∙ there in
+          let same : home.entry ≡ e = cc in
+          elim (one_or_none x.acquire (subst (λ (d : SemaphoreEntry). Belongs d.core x.acquire) same home.belongs)) [
+            | inl none ↦ inl (one_here f x mine ∙ none)
+            | inr one ↦ inr (one_here f x mine ∙ one.0, one.1)
+          ]
 
   -- a granted future of s has its number
   under_own : (a : Acquire) (q : cores.Core ℕ) → one_if_granted (stage_of a q.queue) ≡ 1 → is_under a (number_of a) ≡ true
@@ -88,14 +88,14 @@ module _ (st : Store) (b s : ℕ) (e : SemaphoreEntry) (linked : IsLinked st b) 
   all_match : Matches is_one number e.core.granted st.futures
   all_match = record {
     has = λ n d is. (
-      let o = linked.granted s e n d there is in
-      record {
-        name = o.name;
-        entry = o.entry;
-        there = o.there;
-        counts = one_here o.name o.entry o.semaphore ∙ ap (λ a. one_if_granted (stage_of a e.core.queue)) o.acquire ∙ stage_granted n d is;
-        numbered = ap number_of o.acquire;
-      });
+        let o = linked.granted s e n d there is in
+        record {
+          name = o.name;
+          entry = o.entry;
+          there = o.there;
+          counts = one_here o.name o.entry o.semaphore ∙ ap (λ a. one_if_granted (stage_of a e.core.queue)) o.acquire ∙ stage_granted n d is;
+          numbered = ap number_of o.acquire;
+        });
     each = each_counts;
     apart = λ f g x y isx isy onex oney same. linked.apart f g (number x) x y isx isy ((own f x onex).0 ∙ sym (own g y oney).0) (own f x onex).1 (ap (is_under y.acquire) same ∙ (own g y oney).1);
   }
@@ -106,5 +106,5 @@ module _ (st : Store) (b s : ℕ) (e : SemaphoreEntry) (linked : IsLinked st b) 
 
   pub granted-seen : len e.core.granted ≡ granted_futures (hall_of st b) s
   granted-seen = sym (total-alike (λ g (x : Future). cond (x.semaphore == s) (one_if_granted x.stage) 0) is_one (hall_of st b).futures st.futures
-        (λ f. ap (weight (λ g (x : Future). cond (x.semaphore == s) (one_if_granted x.stage) 0) f) (get-seen (λ f x. future_of st.semaphores x) st.futures f) ∙ weight_seen f (get st.futures f))
+      (λ f. ap (weight (λ g (x : Future). cond (x.semaphore == s) (one_if_granted x.stage) 0) f) (get-seen (λ f x. future_of st.semaphores x) st.futures f) ∙ weight_seen f (get st.futures f))
       ∙ matches_count is_one number (len e.core.granted) e.core.granted st.futures refl all_match)

@@ -41,19 +41,19 @@ module _ {X : Type 0} (w : ℕ → X → ℕ) (number : X → ℕ) where
 
   matches_less : (numbers : FinMap nat_cmp ℕ) (m : FinMap nat_cmp X) (n : ℕ) → Matches numbers m → (c : Counts m n) → Matches (remove numbers n) (remove m c.name)
   matches_less numbers m n all c = record {
-      has = λ k d is. has_still k d (left_over numbers n k d is);
-      each = λ f x is. each_still f x (left_over m c.name f x is);
-      apart = λ f g x y isx isy. all.apart f g x y (left_over m c.name f x isx).1 (left_over m c.name g y isy).1;
-    }
+    has = λ k d is. has_still k d (left_over numbers n k d is);
+    each = λ f x is. each_still f x (left_over m c.name f x is);
+    apart = λ f g x y isx isy. all.apart f g x y (left_over m c.name f x isx).1 (left_over m c.name g y isy).1;
+  }
     where
       has_still : (k d : ℕ) → (n ≡ k → ⊥) × (get numbers k ≡ Some d) → Counts (remove m c.name) k
       has_still k d left =
-        let o = all.has k d left.1 in
-        let other : c.name ≡ o.name → ⊥ = λ same. left.0 (
+          let o = all.has k d left.1 in
+          let other : c.name ≡ o.name → ⊥ = λ same. left.0 (
           let both : Some c.entry ≡ Some o.entry = sym c.there ∙ ap (get m) same ∙ o.there in
           let one : c.entry ≡ o.entry = cc in
           sym c.numbered ∙ ap number one ∙ o.numbered) in
-        record { name = o.name; entry = o.entry; there = stays m c.name o.name other ∙ o.there; counts = o.counts; numbered = o.numbered }
+          record { name = o.name; entry = o.entry; there = stays m c.name o.name other ∙ o.there; counts = o.counts; numbered = o.numbered }
 
       each_still : (f : ℕ) (x : X) → (c.name ≡ f → ⊥) × (get m f ≡ Some x) → (w f x ≡ 0) ⊎ ((w f x ≡ 1) × ((d : ℕ) × (get (remove numbers n) (number x) ≡ Some d)))
       each_still f x left = elim (all.each f x left.1) [
@@ -63,9 +63,9 @@ module _ {X : Type 0} (w : ℕ → X → ℕ) (number : X → ℕ) where
 
   pub matches_count : (c : ℕ) (numbers : FinMap nat_cmp ℕ) (m : FinMap nat_cmp X) → len numbers ≡ c → Matches numbers m → total w m ≡ c
   matches_count zero numbers m is all = total-zero w m (λ f x there. elim (all.each f x there) [
-      | inl none ↦ none
-      | inr one ↦ absurd (let gone : get numbers (number x) ≡ None = ap (λ t. get t (number x)) (empty_of_len numbers is) ∙ get-empty nat_cmp (number x) in let some = one.1.1 in cc)
-    ])
+    | inl none ↦ none
+    | inr one ↦ absurd (let gone : get numbers (number x) ≡ None = ap (λ t. get t (number x)) (empty_of_len numbers is) ∙ get-empty nat_cmp (number x) in let some = one.1.1 in cc)
+  ])
   matches_count (suc c) numbers m is all =
       let one = an_entry numbers (entries numbers) refl (let size : length (entries numbers) ≡ suc c = sym (len-entries numbers) ∙ is in omega arith) in
       let o = all.has one.0 one.1 one.2 in

@@ -29,7 +29,7 @@ weight-seen m b s (Some e) = waiters-seen m b s e.core.queue
 pub waiters-counted : (st : Store) (w sp next : ℕ) → IsKept st w sp next → w ≡ waiters (hall_of st next)
 waiters-counted st w sp next kept = kept.counted
     ∙ sym (total-alike (λ k (r : Semaphore). waiters_in r.queue) (λ k (e : SemaphoreEntry). wakers_in e.core.queue) (hall_of st next).semaphores st.semaphores
-      (λ k. ap (weight (λ k (r : Semaphore). waiters_in r.queue) k) (get-seen (semaphore_of st.futures next) st.semaphores k) ∙ weight-seen st.futures next k (get st.semaphores k)))
+    (λ k. ap (weight (λ k (r : Semaphore). waiters_in r.queue) k) (get-seen (semaphore_of st.futures next) st.semaphores k) ∙ weight-seen st.futures next k (get st.semaphores k)))
 
 pub most_woken : (st : Store) (w sp next : ℕ) → IsKept st w sp next → (i : ℕ) (e : SemEvent) → length (step (hall_of st next) i e).wakes ≤ w
 most_woken st w sp next kept i e = omega (arith, waiters-counted st w sp next kept, wakes-step (hall_of st next) i e)

@@ -1,7 +1,5 @@
-ghost use Rattle.std.specs.Prelude.{◌≡◌, ◌≢◌, ◌+◌, ◌-◌, ◌^◌, ◌<◌, ◌≤◌, ◌∷◌, [], ◌⊎◌, ℕ, length, is_some, true, OnOk, OnErr, IfOk, IfErr, IfSome, IfNone, None, Some};
-ghost use Rattle.std.specs.Option.{option_map, option_copied};
-ghost use Rattle.std.specs.FinMap as map;
-ghost use Rattle.mea_sem_model.specs.Hall.{empty_hall, live, plain_things};
+ghost use Rattle.std.specs.Prelude.{◌≡◌, ◌≢◌, ◌≤◌, ◌∷◌, [], ◌⊎◌, ℕ, length, is_some, OnOk, OnErr, IfOk, IfErr, IfSome, IfNone, None, Some};
+ghost use Rattle.mea_sem_model.specs.Hall.{empty_hall};
 ghost use Rattle.mea_sem_model.specs.Cause.{cause_of, is_named};
 ghost use Rattle.mea_sem_model.specs.Step.{step};
 ghost use Rattle.mea_sem_model.specs.declared.event.SemEvent.{SemEvent as Event};

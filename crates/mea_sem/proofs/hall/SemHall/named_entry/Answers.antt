@@ -1,10 +1,8 @@
-use Rattle.std.proofs.Common.{◌≡◌, true, false, Some, None, ap, sym, subst, ◌∙◌}
+use Rattle.std.proofs.Common.{◌≡◌, true, false, ap, sym, subst, ◌∙◌}
 use Rattle.std.specs.Option.{option_copied, is_some}
-use Rattle.mea_base.specs.Named.{at}
 use Rattle.mea_sem_model.specs.Hall.{live, plain_things}
 use Rattle.mea_sem_model.specs.Cause.{is_named}
 use Rattle.mea_sem.specs.Play.{Play}
-use Rattle.mea_sem.specs.Store.{store_of}
 use Rattle.mea_sem.proofs.Lives.{live-seen}
 use Rattle.mea_sem.specs.StandsFor.{StandsFor}
 use Rattle.mea_sem.proofs.Lends.{stands_for}

@@ -6,7 +6,7 @@ invariant_of-result c = kept_empty c.new.result.entries c.new-2.result.entries c
 
 pub returns : goal.returns
 returns c = λ i. record {
-    hall = hall_empty c.new.result.entries c.new-2.result.entries c.new-3.result.entries c.new.ensures.len c.new-2.ensures.len c.new-3.ensures.len i;
-    wakes = c.new-4.ensures i;
-    next = 0;
-  }
+  hall = hall_empty c.new.result.entries c.new-2.result.entries c.new-3.result.entries c.new.ensures.len c.new-2.ensures.len c.new-3.ensures.len i;
+  wakes = c.new-4.ensures i;
+  next = 0;
+}
