@@ -25,3 +25,6 @@ pub mod Lends
 pub mod MostWoken
 pub mod Refusals
 pub mod EndRoom
+pub mod StandingFutures
+pub mod Lives
+pub mod StandingPermits

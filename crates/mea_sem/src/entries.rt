@@ -219,6 +219,7 @@ impl SemaphoreEntry {
         requires plain { cond plain 1 0 ≤ self.old.plain }
         requires tally { self.old.forgotten + demand_of acquire < 2 ^ 128 }
         ensures is { self.new ≡ record self.old { core = record (finished self.old.core acquire) { live = (finished self.old.core acquire).live - demand_of acquire }; forgotten = self.old.forgotten + demand_of acquire; plain = self.old.plain - cond plain 1 0 } }
+        ensures rises { held_of (finished self.old.core acquire) ≡ held_of self.old.core + demand_of acquire }
         ensures held { held_of self.new.core ≡ held_of self.old.core }
     {
         let demand = demand(&acquire);

@@ -27,8 +27,9 @@ impl SemHall {
             plain,
             forgets,
         };
-        if self.futures.insert(number, future).is_err() {
-            return Err(Stop::NoMemory);
+        match self.futures.insert(number, future) {
+            Err(_) => return Err(Stop::NoMemory),
+            Ok(_) => {}
         }
         let Some(entry) = self.semaphores.get_mut(&s) else {
             unreachable!()
@@ -54,11 +55,12 @@ impl SemHall {
         let ready = entry.is_ready(&future.acquire);
         let forgets = future.forgets;
         let new = matches!(future.acquire, Acquire::New { .. });
-        if ready && forgets {
-            return Ok(self.finish_forgetting(number, f, waker));
-        }
         if ready {
-            return self.finish(number, f, waker);
+            return if forgets {
+                Ok(self.finish_forgetting(number, f, waker))
+            } else {
+                self.finish(number, f, waker)
+            };
         }
         if new {
             return self.queue(number, f, waker);
@@ -99,8 +101,9 @@ impl SemHall {
             unreachable!()
         };
         let permit = future.permit();
-        if self.permits.insert(number, permit).is_err() {
-            return Err(Stop::NoMemory);
+        match self.permits.insert(number, permit) {
+            Err(_) => return Err(Stop::NoMemory),
+            Ok(_) => {}
         }
         let Some(future) = self.futures.remove(&f) else {
             unreachable!()
@@ -123,30 +126,34 @@ impl SemHall {
         ensures memory { IfErr result (λ stop. stop ≡ Stop.NoMemory) }
         ensures err { OnErr result (self.new ≡ self.old) }
     {
-        let Some(future) = self.futures.get_mut(&f) else {
-            unreachable!()
-        };
-        let Some(entry) = self.semaphores.get_mut(&future.semaphore) else {
+        let Some(future) = self.futures.get(&f) else {
             unreachable!()
         };
         let Acquire::New { demand } = future.acquire else {
             unreachable!()
         };
+        let semaphore = future.semaphore;
         let Some(registered) = self.registered.checked_add(1) else {
             return Err(Stop::NoMemory);
         };
-        if self.outbox.reserve(registered).is_err() {
-            return Err(Stop::NoMemory);
+        match self.outbox.reserve(registered) {
+            Err(_) => return Err(Stop::NoMemory),
+            Ok(()) => {}
         }
-        match entry.queue(demand, waker) {
-            Err(_) => Err(Stop::NoMemory),
-            Ok(acquire) => {
-                future.acquire = acquire;
-                self.registered = registered;
-                self.next = number as u128 + 1;
-                Ok(Answer::Pending)
-            }
-        }
+        let Some(entry) = self.semaphores.get_mut(&semaphore) else {
+            unreachable!()
+        };
+        let acquire = match entry.queue(demand, waker) {
+            Err(_) => return Err(Stop::NoMemory),
+            Ok(acquire) => acquire,
+        };
+        let Some(future) = self.futures.get_mut(&f) else {
+            unreachable!()
+        };
+        future.acquire = acquire;
+        self.registered = registered;
+        self.next = number as u128 + 1;
+        Ok(Answer::Pending)
     }
 
     // A further poll of a future that waits.

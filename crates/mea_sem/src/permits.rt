@@ -12,14 +12,20 @@ use mea_sem_model::SemEvent;
 // What the events that make, change and end permits do, where they have no cause for refusal.
 impl SemHall {
     // `try` and `tryo`.
-    pub(crate) fn try_permit(&mut self, number: u64, s: u64, n: u64, plain: bool) -> Result<Answer, Stop>
+    pub(crate) fn try_permit(
+        &mut self,
+        number: u64,
+        s: u64,
+        n: u64,
+        plain: bool,
+    ) -> Result<Answer, Stop>
         requires next { self.old.next ≤ number }
         requires allowed { cause_of self.old.hall (SemEvent.Try s n) ≡ None }
         ensures played { IfOk result (λ reply. Yields self.old number (try_of self.old.hall number s n plain) reply self.new) }
         ensures memory { IfErr result (λ stop. stop ≡ Stop.NoMemory) }
         ensures err { OnErr result (self.new ≡ self.old) }
     {
-        let Some(entry) = self.semaphores.get_mut(&s) else {
+        let Some(entry) = self.semaphores.get(&s) else {
             unreachable!()
         };
         if n as usize > entry.core.available_permits() {
@@ -31,14 +37,15 @@ impl SemHall {
             size: n as usize,
             plain,
         };
-        match self.permits.insert(number, permit) {
-            Err(_) => Err(Stop::NoMemory),
-            Ok(_) => {
-                entry.take(n as usize, plain);
-                self.next = number as u128 + 1;
-                Ok(Answer::Held)
-            }
+        if self.permits.insert(number, permit).is_err() {
+            return Err(Stop::NoMemory);
         }
+        let Some(entry) = self.semaphores.get_mut(&s) else {
+            unreachable!()
+        };
+        entry.take(n as usize, plain);
+        self.next = number as u128 + 1;
+        Ok(Answer::Held)
     }
 
     pub(crate) fn lose(&mut self, number: u64, p: u64) -> Answer

@@ -1,34 +1,29 @@
-use Rattle.std.proofs.Common.{rules, ◌≡◌, ◌≤◌, OnErr, IfOk, IfErr, None, true, false, ℕ, ◌+◌, ◌-◌, ◌*◌, ◌<◌, length, ◌/◌, ◌%◌, Bool, nat_eq, nat_lt, List, [], ◌∷◌, ◌++◌, slice_index_or, slice_set, bit_and, bit_or, Fits, w8, w32, w64, Bor, MutBor}
-use Rattle.std.specs.FinMap as map
-use Rattle.mea_sem_model.specs.Cause.{cause_of}
-use Rattle.mea_sem_model.specs.Step.{try_of}
-use Rattle.mea_sem.specs.Play.{Play, Plays, Yields}
+use Rattle.std.proofs.Common.{◌≡◌, Some, sym, ap, ◌∙◌, ◌+◌, rules, arith}
+use Rattle.std.specs.Option.{option_copied_mut}
+use Rattle.mea_sem.proofs.StandingPermits.{semaphore_found, permit_counted, other_found, first_found, sizes_fit, merged}
 use Rattle.mea_sem.proofs.hall.SemHall.merge.Goals as goal
 
--- src/permits.rt:66:13
 pub unreachable-requires : goal.unreachable-requires
-unreachable-requires c = ?
+unreachable-requires c = other_found c.args.self.now c.self.inside.semaphores.entries c.self.inside.futures.entries c.self.inside.permits.entries c.self.inside.next c.self.inside.outbox.wakers c.self.view_is c.args.p c.args.q c.requires.allowed (sym c.remove.ensures.value ∙ c.in_default.is)
 
--- src/permits.rt:69:13
 pub unreachable-requires-in_default-get_mut : goal.unreachable-requires-in_default-get_mut
-unreachable-requires-in_default-get_mut c = ?
+unreachable-requires-in_default-get_mut c = first_found c.args.self.now c.self.inside.semaphores.entries c.self.inside.futures.entries c.self.inside.permits.entries c.self.inside.next c.self.inside.outbox.wakers c.self.view_is c.args.p c.args.q c.requires.allowed _ c.remove.ensures.updates.0 (sym c.get_mut.ensures.value ∙ ap option_copied_mut c.in_default-get_mut.is)
 
--- src/permits.rt:71:9
 pub overflow_add-permit : goal.overflow_add-permit
-overflow_add-permit c = ?
+overflow_add-permit c = let small = sizes_fit c.args.self.now c.self.inside.semaphores.entries c.self.inside.futures.entries c.self.inside.permits.entries c.self.inside.registered c.self.inside.outbox.spare c.self.inside.next c.args.number c.self.inside.outbox.wakers c.self.invariant c.self.view_is c.requires.next (omega arith) c.args.p c.args.q c.requires.allowed _ c.remove.ensures.updates.0 c.in-Some-get_mut.permit.now c.in-Some.other (sym c.get_mut.ensures.value ∙ ap option_copied_mut c.in-Some-get_mut.is) (sym c.remove.ensures.value ∙ c.in-Some.is) in omega (arith, small)
 
--- src/permits.rt:73:13
 pub unreachable-requires-in_default-get_mut-2 : goal.unreachable-requires-in_default-get_mut-2
-unreachable-requires-in_default-get_mut-2 c = ?
+unreachable-requires-in_default-get_mut-2 c = semaphore_found c.self.inside.semaphores.entries c.self.inside.futures.entries c.self.inside.permits.entries c.self.inside.registered c.self.inside.outbox.spare c.self.inside.next c.self.invariant c.args.q c.in-Some.other (sym c.remove.ensures.value ∙ c.in-Some.is) (sym c.get_mut-2.ensures.value ∙ ap option_copied_mut c.in_default-get_mut-2.is)
 
--- src/permits.rt:75:9
 pub discount-requires : goal.discount-requires
-discount-requires c = ?
+discount-requires c = permit_counted c.self.inside.semaphores.entries c.self.inside.futures.entries c.self.inside.permits.entries c.self.inside.registered c.self.inside.outbox.spare c.self.inside.next c.self.invariant c.args.q c.in-Some.other c.in-Some-get_mut-2.entry.now (sym c.remove.ensures.value ∙ c.in-Some.is) (sym c.get_mut-2.ensures.value ∙ ap option_copied_mut c.in-Some-get_mut-2.is)
 
--- src/permits.rt:60:5
 pub invariant_of-self : goal.invariant_of-self
-invariant_of-self c = ?
+invariant_of-self c =
+    (merged c.args.self.now c.self.inside.semaphores.entries c.self.inside.futures.entries c.self.inside.permits.entries c.self.inside.registered c.self.inside.outbox.spare c.self.inside.next c.args.number c.self.inside.outbox.wakers c.self.invariant c.self.view_is c.requires.next (omega arith) c.args.p c.args.q c.requires.allowed _ c.remove.ensures.updates.0 c.in-Some-get_mut.permit.now c.in-Some.other (sym c.get_mut.ensures.value ∙ ap option_copied_mut c.in-Some-get_mut.is) (sym c.remove.ensures.value ∙ c.in-Some.is) _ _ c.in-Some-get_mut-2.entry.now c.discount.new.self (sym c.get_mut-2.ensures.value ∙ ap option_copied_mut c.in-Some-get_mut-2.is) c.discount.ensures
+    ((c.get_mut-2.follows.holds c.discount.new.self).3 (search rules)).0 ((c.get_mut.follows.holds (record c.in-Some-get_mut.permit.now { size = c.in-Some-get_mut.permit.now.size + c.in-Some.other.size })).3 (search rules)).0).kept
 
--- src/permits.rt:60:5
 pub returns : goal.returns
-returns c = ?
+returns c =
+    (merged c.args.self.now c.self.inside.semaphores.entries c.self.inside.futures.entries c.self.inside.permits.entries c.self.inside.registered c.self.inside.outbox.spare c.self.inside.next c.args.number c.self.inside.outbox.wakers c.self.invariant c.self.view_is c.requires.next (omega arith) c.args.p c.args.q c.requires.allowed _ c.remove.ensures.updates.0 c.in-Some-get_mut.permit.now c.in-Some.other (sym c.get_mut.ensures.value ∙ ap option_copied_mut c.in-Some-get_mut.is) (sym c.remove.ensures.value ∙ c.in-Some.is) _ _ c.in-Some-get_mut-2.entry.now c.discount.new.self (sym c.get_mut-2.ensures.value ∙ ap option_copied_mut c.in-Some-get_mut-2.is) c.discount.ensures
+    ((c.get_mut-2.follows.holds c.discount.new.self).3 (search rules)).0 ((c.get_mut.follows.holds (record c.in-Some-get_mut.permit.now { size = c.in-Some-get_mut.permit.now.size + c.in-Some.other.size })).3 (search rules)).0).yields

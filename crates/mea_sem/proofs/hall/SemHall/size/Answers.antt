@@ -1,18 +1,13 @@
-use Rattle.std.proofs.Common.{rules, ◌≡◌, ◌≤◌, OnErr, IfOk, IfErr, None, true, false, ℕ, ◌+◌, ◌-◌, ◌*◌, ◌<◌, length, ◌/◌, ◌%◌, Bool, nat_eq, nat_lt, List, [], ◌∷◌, ◌++◌, slice_index_or, slice_set, bit_and, bit_or, Fits, w8, w32, w64, Bor, MutBor}
-use Rattle.std.specs.FinMap as map
-use Rattle.mea_sem_model.specs.Cause.{cause_of}
-use Rattle.mea_sem_model.specs.Step.{try_of}
-use Rattle.mea_sem.specs.Play.{Play, Plays, Yields}
+use Rattle.std.proofs.Common.{◌≡◌, Some, sym, ap, ◌∙◌, arith}
+use Rattle.std.specs.Option.{option_copied}
+use Rattle.mea_sem.proofs.StandingPermits.{permit_found, sized}
 use Rattle.mea_sem.proofs.hall.SemHall.size.Goals as goal
 
--- src/permits.rt:119:13
 pub unreachable-requires : goal.unreachable-requires
-unreachable-requires c = ?
+unreachable-requires c = permit_found c.args.self.now c.self.inside.semaphores.entries c.self.inside.futures.entries c.self.inside.permits.entries c.self.inside.next c.args.p c.self.inside.outbox.wakers c.self.view_is c.requires.allowed (sym c.get.ensures.value ∙ ap option_copied c.in_default.is)
 
--- src/permits.rt:113:5
 pub invariant_of-self : goal.invariant_of-self
-invariant_of-self c = ?
+invariant_of-self c = (sized c.args.self.now c.self.inside.semaphores.entries c.self.inside.futures.entries c.self.inside.permits.entries c.self.inside.registered c.self.inside.outbox.spare c.self.inside.next c.args.number c.self.inside.outbox.wakers c.self.invariant c.self.view_is c.requires.next (omega arith) c.args.p c.in-Some.permit.now (sym c.get.ensures.value ∙ ap option_copied c.in-Some.is)).kept
 
--- src/permits.rt:113:5
 pub returns : goal.returns
-returns c = ?
+returns c = (sized c.args.self.now c.self.inside.semaphores.entries c.self.inside.futures.entries c.self.inside.permits.entries c.self.inside.registered c.self.inside.outbox.spare c.self.inside.next c.args.number c.self.inside.outbox.wakers c.self.invariant c.self.view_is c.requires.next (omega arith) c.args.p c.in-Some.permit.now (sym c.get.ensures.value ∙ ap option_copied c.in-Some.is)).yields
