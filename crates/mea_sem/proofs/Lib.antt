@@ -18,3 +18,5 @@ pub mod Left
 pub mod PlaysEnds
 pub mod Standing
 pub mod EndRoom
+pub mod Lives
+pub mod StandingSemaphores
