@@ -120,6 +120,16 @@ module _ (a : Inside) (v : Play) (i s : ℕ) (e : SemaphoreEntry) (seen : seen_i
       let small : live h s + n < 2 ^ 64 = fitting (is_named h s) (live h s + n) (cause (events.Release s n) allowed) in
       omega (arith, lives, small)
 
+  pub is_accounted : e.core.live + e.forgotten ≡ e.made + e.released + cores.debts e.core.queue
+  is_accounted = (k.each s e here).account
+
+  pub small_account : e.core.live + e.forgotten < 2 ^ 128
+  small_account =
+      let lives = live-seen (store_in a) a.registered a.outbox.spare a.next s e k here in
+      let fits = k.valid.fits s in
+      let old = (k.each s e here).forgotten in
+      omega (arith, lives, fits, old, less, low)
+
   -- a pour makes at most the wakers of all queues ready
   pub wakers_few : (n : ℕ) → length (cores.wakers_of (granted_in e.core.queue n)) ≤ a.registered
   wakers_few n =
