@@ -152,10 +152,10 @@ module _ (a : Inside) (v : Play) (i s : ℕ) (e : SemaphoreEntry) (seen : seen_i
       (ap (λ x. answers.Account x) (is ∙ sym (ledger-seen (store_in a) a.registered a.outbox.spare a.next s e k here whole)))
 
   -- too few are free
-  pub done_lacking : (n : ℕ) → e.core.free < n → Done v i (try_and_forget v.hall s n) answers.No (store_in a) a.registered a.outbox.spare a.outbox.wakers
-  done_lacking n lacking =
+  lacking : (n : ℕ) → e.core.free < n → Done v i (try_and_forget v.hall s n) answers.No (store_in a) a.registered a.outbox.spare a.outbox.wakers
+  lacking n few =
       let h : Hall = hall_of (store_in a) a.next in
-      let too_few : nat_le n (free h s) ≡ false = ap (nat_le n) free_seen ∙ lt-leb n e.core.free lacking in
+      let too_few : nat_le n (free h s) ≡ false = ap (nat_le n) free_seen ∙ lt-leb n e.core.free few in
       let outcome : try_and_forget h s n ≡ quietly h answers.No = ap (λ b. cond b (taken_off h s n) (quietly h answers.No)) too_few in
       quiet (store_in a) a.registered a.outbox.spare (events.Tryf s n) answers.No (plays_nothing (store_in a) a.registered a.outbox.spare a.next i (events.Tryf s n) k less low (ap (λ (o : Outcome). o.hall) outcome)) (ap (λ (o : Outcome). o.wakes) outcome) (sym (ap (λ (o : Outcome). o.reply) outcome))
 
@@ -186,6 +186,9 @@ module _ (a : Inside) (v : Play) (i s : ℕ) (e : SemaphoreEntry) (seen : seen_i
 
     pub seen_unchanged : x ≡ e → record { hall = hall_of st' a.next; wakes = a.outbox.wakers; next = a.next } ≡ v
     seen_unchanged is = ap (λ (st : Store). record { hall = hall_of st a.next; wakes = a.outbox.wakers; next = a.next }) (as_it_was is) ∙ seen
+
+    pub done_lacking : (n : ℕ) → x ≡ e → e.core.free < n → Done v i (try_and_forget v.hall s n) answers.No st' a.registered a.outbox.spare a.outbox.wakers
+    done_lacking n is few = subst (λ (st : Store). Done v i (try_and_forget v.hall s n) answers.No st a.registered a.outbox.spare a.outbox.wakers) (sym (as_it_was is)) (lacking n few)
 
     pub done_forgetx : (n : ℕ) → n < 2 ^ 64 → cause_of v.hall (events.Forgetx s n) ≡ None → x ≡ record e { core = calls.forgetting_exactly e.core n; forgotten = e.forgotten + n }
         → cores.held_of x.core ≡ cores.held_of e.core → min n e.core.free ≤ e.core.live
@@ -250,13 +253,13 @@ named_nothing f = same_named _ _ (λ q. get-named f [] q ∙ sym (get-empty nat_
 seen_nothing : {X Y : Type 0} (f : ℕ → X → Y) → named f (entries (named (λ (k : ℕ) (x : X). x) [])) ≡ empty {X = Y} {R = nat_cmp}
 seen_nothing {X} f = same_named _ _ (λ q. get-seen f (named (λ (k : ℕ) (x : X). x) []) q ∙ ap (option_map (f q)) (kept-at [] q) ∙ sym (get-empty nat_cmp q))
 
-pub hall_nothing : hall_of nothing 0 ≡ empty_hall
+hall_nothing : hall_of nothing 0 ≡ empty_hall
 hall_nothing = λ j. record { semaphores = seen_nothing (semaphore_of nothing.futures 0) j; futures = seen_nothing (λ f x. future_of nothing.semaphores x) j; permits = named_nothing (λ p x. permit_of x) j }
 
 none_at : {X : Type 0} (q : ℕ) (x : X) → get (named (λ (k : ℕ) (y : X). y) []) q ≡ Some x → ⊥
 none_at {X} q x is = absurd (let none : ◌≡◌ {A = Option X} None (Some x) = sym (kept-at {X = X} [] q) ∙ is in cc)
 
-pub kept_nothing : (spare : ℕ) → IsKept nothing 0 spare 0
+kept_nothing : (spare : ℕ) → IsKept nothing 0 spare 0
 kept_nothing spare = record {
   valid = subst IsValid (sym hall_nothing) valid_empty;
   below = subst (λ h. IsBelow h 0) (sym hall_nothing) (below_empty 0);
@@ -273,3 +276,15 @@ kept_nothing spare = record {
   room = omega arith;
   low = omega arith;
 }
+
+nothing_in : (ss : Semaphores) (fs : Futures) (ps : Permits) → ss ≡ [] → fs ≡ [] → ps ≡ [] → store_of ss fs ps ≡ nothing
+nothing_in ss fs ps none no_future no_permit = λ j. store_of (none j) (no_future j) (no_permit j)
+
+pub kept_empty : (ss : Semaphores) (fs : Futures) (ps : Permits) (spare : ℕ) → ss ≡ [] → fs ≡ [] → ps ≡ [] → IsKept (store_of ss fs ps) 0 spare 0
+kept_empty ss fs ps spare none no_future no_permit = subst (λ (st : Store). IsKept st 0 spare 0) (sym (nothing_in ss fs ps none no_future no_permit)) (kept_nothing spare)
+
+pub seen_empty : (ss : Semaphores) (fs : Futures) (ps : Permits) (wakers : List ℕ) → ss ≡ [] → fs ≡ [] → ps ≡ [] → wakers ≡ []
+    → ◌≡◌ {A = Play} (record { hall = hall_of (store_of ss fs ps) 0; wakes = wakers; next = 0 }) (record { hall = empty_hall; wakes = []; next = 0 })
+seen_empty ss fs ps wakers none no_future no_permit quiet =
+    let hall : hall_of (store_of ss fs ps) 0 ≡ empty_hall = ap (λ (st : Store). hall_of st 0) (nothing_in ss fs ps none no_future no_permit) ∙ hall_nothing in
+    λ j. record { hall = hall j; wakes = quiet j; next = 0 }
