@@ -1,9 +1,9 @@
 -- what a core tells of the hall that is stood for
-use Rattle.std.proofs.Common.{◌≡◌, ℕ, ◌+◌, ◌<◌, ◌≤◌, List, [], ◌∷◌, map, refl, ap, sym, ◌∙◌, arith, Some}
+use Rattle.std.proofs.Common.{◌≡◌, ℕ, ◌+◌, List, [], ◌∷◌, refl, ap, sym, ◌∙◌, arith, Some}
 use Rattle.std.specs.Ordering.{nat_cmp}
 use Rattle.std.specs.FinMap.{FinMap, get}
 use Rattle.std.proofs.lemmas.List.Sums.{sum_by-cons}
-use Rattle.mea_sem_model.specs.Hall.{Hall, Semaphore, Who, semaphore_at, debt_of, debts, held, paid, live, owed, free}
+use Rattle.mea_sem_model.specs.Hall.{Who, semaphore_at, debt_of, debts, paid, live, owed, free}
 use Rattle.mea_sem_model.specs.Step.{ledger_of}
 use Rattle.mea_sem_core.specs.Core as cores
 use Rattle.mea_sem.specs.declared.entries.SemaphoreEntry.{SemaphoreEntry}

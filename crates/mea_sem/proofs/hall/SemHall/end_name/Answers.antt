@@ -1,4 +1,4 @@
-use Rattle.std.proofs.Common.{rules, ◌≡◌, None, Some, sym, ap, ◌∙◌, arith, false, refl}
+use Rattle.std.proofs.Common.{rules, ◌≡◌, Some, sym, ap, ◌∙◌, arith, false, refl}
 use Rattle.std.specs.Option.{option_copied_mut}
 use Rattle.mea_base.specs.Named.{at}
 use Rattle.mea_sem.proofs.StandingSemaphores.{never_gone, done_endsem}

@@ -1,4 +1,4 @@
-use Rattle.std.proofs.Common.{◌≡◌, arith}
+use Rattle.std.proofs.Common.{arith}
 use Rattle.mea_sem.proofs.StandingSemaphores.{done_new}
 use Rattle.mea_sem.proofs.hall.SemHall.make.Goals as goal
 

@@ -1,4 +1,4 @@
-use Rattle.std.proofs.Common.{rules, ◌≡◌, None, Some, sym, ap, ◌∙◌, arith}
+use Rattle.std.proofs.Common.{rules, ◌≡◌, Some, sym, ap, ◌∙◌, arith}
 use Rattle.std.specs.Option.{option_copied_mut}
 use Rattle.mea_base.specs.Named.{at}
 use Rattle.mea_sem.proofs.StandingSemaphores.{never_gone, small_released, is_quiet, release_fits, wakers_few, wakers_fit, done_release}
