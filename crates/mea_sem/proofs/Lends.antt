@@ -39,7 +39,7 @@ stands_for st w sp next s e kept there =
     let seen = seen_at st next s e kept.linked there in
     record {
       free = ap (λ (r : Semaphore). r.free) (sym seen);
-      live = live-seen st w sp next s e kept there;
+      live = sym (live-seen st w sp next s e kept there);
       queue = wakers_alike st next s e kept.linked there e.core.queue (all_at e.core.queue (kept.linked.numbered s e there).apart)
           ∙ ap (λ (r : Semaphore). map {A = Who × ℕ} {B = List ℕ × ℕ} (λ x. (waker_of_who (hall_of st next).futures x.0, x.1)) r.queue) (sym seen);
       granted = granted-seen st next s e kept.linked there;

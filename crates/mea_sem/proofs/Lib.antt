@@ -18,13 +18,12 @@ pub mod Left
 pub mod PlaysEnds
 pub mod Standing
 pub mod Lives
-pub mod EmptyHall
 pub mod Matching
 pub mod Granted
 pub mod Lends
 pub mod MostWoken
 pub mod Refusals
 pub mod EndRoom
+pub mod StandingSemaphores
 pub mod StandingFutures
-pub mod Lives
 pub mod StandingPermits

@@ -23,7 +23,7 @@ returns-then-entry-clause-named c =
 pub returns-then-entry-clause-live : goal.returns-then-entry-clause-live
 returns-then-entry-clause-live c =
     let there = found c.self.inside.semaphores.entries c.args.s c.in_ok-entry.entry.now (sym c.get.ensures.value ∙ ap option_copied c.in_ok-entry.was) in
-    subst (λ (p : Play). c.in_ok-entry.entry.now.core.live ≡ live p.hall c.args.s) c.self.view_is (live-seen _ c.self.inside.registered c.self.inside.outbox.spare c.self.inside.next c.args.s c.in_ok-entry.entry.now c.self.invariant there)
+    subst (λ (p : Play). c.in_ok-entry.entry.now.core.live ≡ live p.hall c.args.s) c.self.view_is (sym (live-seen _ c.self.inside.registered c.self.inside.outbox.spare c.self.inside.next c.args.s c.in_ok-entry.entry.now c.self.invariant there))
 
 pub returns-then-entry-clause-plain : goal.returns-then-entry-clause-plain
 returns-then-entry-clause-plain c =
