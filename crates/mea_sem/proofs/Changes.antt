@@ -36,6 +36,8 @@ pub record Changes (st st' : Store) (b b' s f : ℕ) (e e' : SemaphoreEntry) (o 
   pub wakers : (n : ℕ) → has s n o ≡ false → has s n o' ≡ false → cores.waker_under e'.core.queue n ≡ cores.waker_under e.core.queue n
   -- who waits is the future, or waited before
   pub waits : (n d l : ℕ) → cores.waiting e'.core.queue n ≡ Some (d, l) → ((x : FutureEntry) × (o' ≡ Some x) × (x.acquire ≡ Queued d n)) ⊎ ((has s n o ≡ false) × ((k : ℕ) × (cores.waiting e.core.queue n ≡ Some (d, k))))
+  -- what is granted was so before, and is not the future's
+  pub grants : (n d : ℕ) → get e'.core.granted n ≡ Some d → (has s n o ≡ false) × (get e.core.granted n ≡ Some d)
   -- the future's number is nobody else's
   pub alone : (g n : ℕ) (x y : FutureEntry) → o' ≡ Some x → (f ≡ g → ⊥) → get st.futures g ≡ Some y → y.semaphore ≡ s → is_under x.acquire n ≡ true → is_under y.acquire n ≡ true → ⊥
   pub numbered : IsNumbered e'.core
@@ -140,6 +142,21 @@ module _ (st st' : Store) (b b' s f : ℕ) (e e' : SemaphoreEntry) (o o' : Optio
         let w = linked.owned q d n demand l old waits in
         owned_still q n demand w (elsewhere_apart q n demand w (eqb-false s q h))
 
+  granted_all : (q : ℕ) (d : SemaphoreEntry) (n demand : ℕ) → get st'.semaphores q ≡ Some d → get d.core.granted n ≡ Some demand → IsOwned st' q n demand
+  granted_all q d n demand is grants = by_test (s == q) refl
+    where
+      by_test : (t : Bool) → (s == q) ≡ t → IsOwned st' q n demand
+      by_test true h =
+        let same : s ≡ q = eqb-true s q h in
+        let both : Some e' ≡ Some d = sym semaphore_there ∙ ap (get st'.semaphores) same ∙ is in
+        let one : d ≡ e' = cc in
+        let before = c.grants n demand (ap (λ (x : SemaphoreEntry). get x.core.granted n) (sym one) ∙ grants) in
+        let w = linked.granted s e n demand c.there before.1 in
+        subst (λ p. IsOwned st' p n demand) same (owned_still s n demand w (owner_apart n demand w before.0))
+      by_test false h =
+        let w = linked.granted q d n demand (sym (semaphore_other q (eqb-false s q h)) ∙ is) grants in
+        owned_still q n demand w (elsewhere_apart q n demand w (eqb-false s q h))
+
   apart_all : (g h n : ℕ) (x y : FutureEntry) → get st'.futures g ≡ Some x → get st'.futures h ≡ Some y → x.semaphore ≡ y.semaphore → is_under x.acquire n ≡ true → is_under y.acquire n ≡ true → g ≡ h
   apart_all g h n x y isx isy same ux uy = by_tests (f == g) (f == h) refl refl
     where
@@ -181,7 +198,7 @@ module _ (st st' : Store) (b b' s f : ℕ) (e e' : SemaphoreEntry) (o o' : Optio
       by_test false h = linked.numbered q d (sym (semaphore_other q (eqb-false s q h)) ∙ is)
 
   pub linked_after : IsLinked st' b'
-  linked_after = record { home = home_all; owned = owned_all; apart = apart_all; below = below_all; numbered = numbered_all }
+  linked_after = record { home = home_all; owned = owned_all; granted = granted_all; apart = apart_all; below = below_all; numbered = numbered_all }
 
   -- ---- names stay
   pub name_kept : (n d : ℕ) → IsOwned st s n d → has s n o ≡ false → name_of st'.futures b' s n ≡ name_of st.futures b s n

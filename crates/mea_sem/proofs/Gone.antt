@@ -16,7 +16,7 @@ use Rattle.std.proofs.lemmas.Bool.{eqb-true, eq-eqb, and_from, and_parts}
 use Rattle.std.proofs.Common.{◌&&◌}
 use Rattle.mea_base.proofs.Totals.{get_removed}
 use Rattle.mea_sem.specs.Store.{is_under}
-use Rattle.mea_sem.proofs.Cores.{at_apart}
+use Rattle.mea_sem.proofs.Cores.{at_same, at_apart}
 use Rattle.mea_sem.proofs.Names.{get-seen}
 use Rattle.mea_sem.proofs.Changes.{Changes, linked_after, queue_kept, semaphores_after, futures_gone}
 
@@ -41,6 +41,7 @@ pub record Leaves (st st' : Store) (s f : ℕ) (x : FutureEntry) (e e' : Semapho
   -- f does not wait
   pub idle : (n d l : ℕ) → cores.waiting e.core.queue n ≡ Some (d, l) → has s n (Some x) ≡ false
   pub granted : (n : ℕ) → has s n (Some x) ≡ false → get e'.core.granted n ≡ get e.core.granted n
+  pub freed : (n : ℕ) → has s n (Some x) ≡ true → get e'.core.granted n ≡ None
   pub none_more : (n : ℕ) → get e.core.granted n ≡ None → get e'.core.granted n ≡ None
 
 module _ (st st' : Store) (next i s f : ℕ) (x : FutureEntry) (e e' : SemaphoreEntry) (linked : IsLinked st next) (less : next ≤ i) (c : Leaves st st' s f x e e') where
@@ -69,9 +70,14 @@ module _ (st st' : Store) (next i s f : ℕ) (x : FutureEntry) (e e' : Semaphore
     kept = λ d n free. belongs_on d n free;
     wakers = λ n free free_now. ap (λ q. cores.waker_under q n) c.queue;
     waits = λ n d l is. (let was : cores.waiting e.core.queue n ≡ Some (d, l) = ap (λ q. cores.waiting q n) (sym c.queue) ∙ is in inr (c.idle n d l was, (l, was)));
+    grants = λ n d is. grants_on n d is (has s n (Some x)) refl;
     alone = λ g n y z is. absurd (cc);
     numbered = numbered_on;
   }
+    where
+      grants_on : (n d : ℕ) → get e'.core.granted n ≡ Some d → (t : Bool) → has s n (Some x) ≡ t → (t ≡ false) × (get e.core.granted n ≡ Some d)
+      grants_on n d is true h = absurd (let none = c.freed n h in cc)
+      grants_on n d is false h = (refl, sym (c.granted n h) ∙ is)
 
   pub linked_gone : IsLinked st' (i + 1)
   linked_gone = linked_after st st' next (i + 1) s f e e' (Some x) None linked changes_gone
@@ -100,6 +106,7 @@ leaves_new st st' s f d x e e' there semaphores was futures mine acquire queue g
     queue = queue;
     idle = λ n d l is. not_under n;
     granted = λ n free. ap (λ g. get g n) granted;
+    freed = λ n under. absurd (let no = not_under n in cc);
     none_more = λ n none. ap (λ g. get g n) granted ∙ none;
   }
   where
@@ -123,6 +130,7 @@ leaves_granted st st' next s f d n x e e' linked there semaphores was futures mi
     queue = queue;
     idle = λ m b l is. not_under m b l is (has s m (Some x)) refl;
     granted = λ m free. ap (λ g. get g m) granted ∙ get_removed e.core.granted n m ∙ at_apart n m None (get e.core.granted m) (λ same. absurd (let here = under m same in cc));
+    freed = λ m mine_too. ap (λ g. get g m) granted ∙ get_removed e.core.granted n m ∙ at_same n m None (get e.core.granted m) (eqb-true n m (ap (λ a. is_under a m) (sym acquire) ∙ (and_parts _ _ mine_too).1));
     none_more = λ m none. ap (λ g. get g m) granted ∙ get_removed e.core.granted n m ∙ still (n == m) (get e.core.granted m) none;
   }
   where

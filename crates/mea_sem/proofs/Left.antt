@@ -151,9 +151,16 @@ module _ (st st' : Store) (next i s f n d k : ℕ) (x : FutureEntry) (e e' : Sem
     kept = λ b m free. belongs_on b m free;
     wakers = λ m free free_now. ap (λ q. cores.waker_under q m) queue ∙ waker-without e.core.queue n m ∙ at_apart n m None (cores.waker_under e.core.queue m) (apart_from m free);
     waits = λ m b l is. inr (waits_now m b l is);
+    grants = λ m b is. grants_on m b (ap (λ g. get g m) (sym granted) ∙ is) (n == m) refl;
     alone = λ g m y z is. absurd (cc);
     numbered = numbered_on;
   }
+    where
+      grants_on : (m b : ℕ) → get e.core.granted m ≡ Some b → (t : Bool) → (n == m) ≡ t → (has s m (Some x) ≡ false) × (get e.core.granted m ≡ Some b)
+      grants_on m b is false h = (not_under m (eqb-false n m h) (has s m (Some x)) refl, is)
+      grants_on m b is true h = absurd (
+        let none : get e.core.granted m ≡ None = numbered.granted_apart m (λ gone. absurd (let some : cores.waiting e.core.queue m ≡ Some (d, k) = ap (cores.waiting e.core.queue) (sym (eqb-true n m h)) ∙ waits in cc)) in
+        cc)
 
   pub linked_left : IsLinked st' (i + 1)
   linked_left = linked_after st st' next (i + 1) s f e e' (Some x) None linked changes_left

@@ -17,8 +17,14 @@ pub mod PlaysPours
 pub mod Left
 pub mod PlaysEnds
 pub mod Standing
-pub mod EndRoom
-pub mod StandingFutures
 pub mod Lives
+pub mod Matching
+pub mod Granted
+pub mod Lends
+pub mod MostWoken
+pub mod Refusals
+pub mod EndRoom
+pub mod StandingSemaphores
+pub mod StandingFutures
 pub mod StandingPermits
 pub mod StandingWaits

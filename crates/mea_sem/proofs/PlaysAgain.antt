@@ -76,6 +76,14 @@ module _ (st st' : Store) (w sp next i s f v d m l : ℕ) (x : FutureEntry) (e :
           let both : Some (d, l) ≡ Some (b, j) = sym waits ∙ ap (cores.waiting e.core.queue) same ∙ was_so in
           inl (x, refl, acquire ∙ (λ z. acquires.Queued (ap first_or_none both z) (same z)))
 
+    -- what was granted is not the number that waits
+    not_mine : (q b : ℕ) → get e.core.granted q ≡ Some b → (t : Bool) → has s q (Some x) ≡ t → t ≡ false
+    not_mine q b is false h = refl
+    not_mine q b is true h = absurd (
+        let same : m ≡ q = eqb-true m q (ap (λ a. is_under a q) (sym acquire) ∙ (and_parts _ _ h).1) in
+        let none : get e.core.granted q ≡ None = (k.linked.numbered s e there).granted_apart q (λ gone. absurd (let some : cores.waiting e.core.queue q ≡ Some (d, l) = ap (cores.waiting e.core.queue) (sym same) ∙ waits in cc)) in
+        cc)
+
     numbered_now : IsNumbered woken_core
     numbered_now =
         let old : IsNumbered e.core = k.linked.numbered s e there in
@@ -95,6 +103,7 @@ module _ (st st' : Store) (w sp next i s f v d m l : ℕ) (x : FutureEntry) (e :
       kept = λ b q free belongs. belongs_on b q belongs;
       wakers = λ q free free_now. waker-with_waker e.core.queue m v q (apart_from q free);
       waits = waits_now;
+      grants = λ q b is. (not_mine q b is (has s q (Some x)) refl, is);
       alone = λ g q y z is apart there_too yours under under_too. (let same : x ≡ y = cc in apart (k.linked.apart f g q x z was there_too (mine ∙ sym yours) (ap (λ (t : FutureEntry). is_under t.acquire q) same ∙ under) under_too));
       numbered = numbered_now;
     }

@@ -60,6 +60,7 @@ module _ (st st' : Store) (w sp next i s n : ℕ) (e : SemaphoreEntry) (k : IsKe
     kept = λ d m free belongs. belongs;
     wakers = λ m free free_now. refl;
     waits = λ m d l is. inr (refl, (l, is));
+    grants = λ m d is. (refl, is);
     alone = λ g m x y is apart there_too mine under. (let same : made_future plain forgets ≡ x = cc in let never : is_under (acquires.New n) m ≡ true = ap (λ (z : FutureEntry). is_under z.acquire m) same ∙ under in cc);
     numbered = k.linked.numbered s e there;
   }
@@ -174,6 +175,7 @@ module _ (st st' : Store) (w sp sp' next i s f v d m : ℕ) (x : FutureEntry) (e
       kept = λ b q free belongs. belongs_on b q belongs;
       wakers = λ q free free_now. waker-push e.core.queue m d v (d - e.core.free) q not_waiting ∙ at_apart m q (Some v) (cores.waker_under e.core.queue q) (number_test q free_now);
       waits = waits_now;
+      grants = λ q b is. (never_under q, is);
       alone = alone_now;
       numbered = numbered_now;
     }

@@ -2,7 +2,7 @@
 use Rattle.std.proofs.Common.{◌≡◌, ◌≢◌, ℕ, ◌+◌, ◌*◌, ◌^◌, ◌<◌, ◌≤◌, ◌==◌, ◌&&◌, Bool, true, false, cond, List, [], refl, ap, sym, subst, ◌∙◌, arith, Option, Some, None, is_some}
 use Rattle.std.specs.Option.{IsSome, option_map}
 use Rattle.std.specs.Ordering.{nat_cmp}
-use Rattle.std.specs.FinMap.{FinMap, get, insert, empty}
+use Rattle.std.specs.FinMap.{FinMap, get, insert, empty, get-empty}
 use Rattle.std.proofs.lemmas.Bool.{eqb-true, eqb-false}
 use Rattle.mea_base.specs.Totals.{total, weight}
 use Rattle.mea_base.proofs.NamedMaps.{same_named}
@@ -86,6 +86,7 @@ module _ (st : Store) (w sp next i : ℕ) (k : IsKept st w sp next) (less : next
     linked_now = record {
       home = λ f x is. (let h = home_of f x (back f x is) in record { entry = h.entry; there = semaphore_other x.semaphore (not_there x.semaphore h.entry h.there) ∙ h.there; belongs = h.belongs; open_still = h.open_still });
       owned = λ q e m d l is waits. owned_at q e m d l is waits (i == q) refl;
+      granted = λ q e m d is grants. granted_at q e m d is grants (i == q) refl;
       apart = λ f g m x y isx isy. k.linked.apart f g m x y (back f x isx) (back g y isy);
       below = λ f x is. (let small = k.linked.below f x (back f x is) in omega arith);
       numbered = λ q e is. numbered_at q e is (i == q) refl;
@@ -95,6 +96,12 @@ module _ (st : Store) (w sp next i : ℕ) (k : IsKept st w sp next) (less : next
         owned_at q e m d l is waits true h = absurd (let same = semaphore_here q e (eqb-true i q h) is in let none : cores.waiting (fresh_core n).queue m ≡ Some (d, l) = ap (λ (x : SemaphoreEntry). cores.waiting x.core.queue m) same ∙ waits in cc)
         owned_at q e m d l is waits false h =
           let o = k.linked.owned q e m d l (sym (semaphore_other q (eqb-false i q h)) ∙ is) waits in
+          record { name = o.name; entry = o.entry; there = ap (λ x. get x o.name) futures ∙ o.there; semaphore = o.semaphore; acquire = o.acquire }
+
+        granted_at : (q : ℕ) (e : SemaphoreEntry) (m d : ℕ) → get st'.semaphores q ≡ Some e → get e.core.granted m ≡ Some d → (t : Bool) → (i == q) ≡ t → IsOwned st' q m d
+        granted_at q e m d is grants true h = absurd (let same = semaphore_here q e (eqb-true i q h) is in let none : get (fresh_core n).granted m ≡ Some d = ap (λ (x : SemaphoreEntry). get x.core.granted m) same ∙ grants in let nothing = get-empty {X = ℕ} nat_cmp m in cc)
+        granted_at q e m d is grants false h =
+          let o = k.linked.granted q e m d (sym (semaphore_other q (eqb-false i q h)) ∙ is) grants in
           record { name = o.name; entry = o.entry; there = ap (λ x. get x o.name) futures ∙ o.there; semaphore = o.semaphore; acquire = o.acquire }
 
         numbered_at : (q : ℕ) (e : SemaphoreEntry) → get st'.semaphores q ≡ Some e → (t : Bool) → (i == q) ≡ t → IsNumbered e.core

@@ -233,6 +233,35 @@ module _ (st st' : Store) (b s n : ℕ) (e e' : SemaphoreEntry) (linked : IsLink
         let before = (split_at k).waits demand l now in
         subst (λ p. IsOwned st' p k demand) same (owned_moved s k demand (linked.owned s e k demand before.0 c.there before.1))
 
+  -- who is granted now was so before, or waited
+  granted_from : (k d : ℕ) → get e'.core.granted k ≡ Some d → IsOwned st s k d
+  granted_from k d is = by_test (is_among (granted_in e.core.queue n) k) refl
+    where
+      now : get (cores.granting e.core.granted (granted_in e.core.queue n)) k ≡ Some d
+      now = ap (λ g. get g k) (sym c.granted) ∙ is
+
+      waited : (o : Option (ℕ × ℕ)) → cores.waiting e.core.queue k ≡ o → is_among (granted_in e.core.queue n) k ≡ true → IsOwned st s k d
+      waited None none among = absurd (let no = ((split_at k).none none).1 in cc)
+      waited (Some p) some among =
+        let both : Some p.0 ≡ Some d = sym (granted-poured e.core.granted e.core.queue n k p.0 p.1 apart_before some among) ∙ now in
+        let demand : p.0 ≡ d = cc in
+        subst (IsOwned st s k) demand (linked.owned s e k p.0 p.1 c.there some)
+
+      by_test : (t : Bool) → is_among (granted_in e.core.queue n) k ≡ t → IsOwned st s k d
+      by_test true h = waited (cores.waiting e.core.queue k) refl h
+      by_test false h = linked.granted s e k d c.there (sym (granting-other e.core.granted (granted_in e.core.queue n) k h) ∙ now)
+
+  granted_all : (q : ℕ) (d : SemaphoreEntry) (k demand : ℕ) → get st'.semaphores q ≡ Some d → get d.core.granted k ≡ Some demand → IsOwned st' q k demand
+  granted_all q d k demand is grants = by_test (s == q) refl
+    where
+      by_test : (t : Bool) → (s == q) ≡ t → IsOwned st' q k demand
+      by_test false h = owned_moved q k demand (linked.granted q d k demand (sym (semaphore_other q (eqb-false s q h)) ∙ is) grants)
+      by_test true h =
+        let same : s ≡ q = eqb-true s q h in
+        let both : Some e' ≡ Some d = sym semaphore_there ∙ ap (get st'.semaphores) same ∙ is in
+        let one : d ≡ e' = cc in
+        subst (λ p. IsOwned st' p k demand) same (owned_moved s k demand (granted_from k demand (ap (λ (x : SemaphoreEntry). get x.core.granted k) (sym one) ∙ grants)))
+
   none_granted : (k : ℕ) → cores.waiting (waiting_after e.core.queue n) k ≢ None → (o : Option (ℕ × ℕ)) → cores.waiting (waiting_after e.core.queue n) k ≡ o → get (cores.granting e.core.granted (granted_in e.core.queue n)) k ≡ None
   none_granted k waits None is = absurd (waits is)
   none_granted k waits (Some p) is =
@@ -260,6 +289,7 @@ module _ (st st' : Store) (b s n : ℕ) (e e' : SemaphoreEntry) (linked : IsLink
   linked_poured = record {
     home = home_all;
     owned = owned_all;
+    granted = granted_all;
     apart = λ g h k x y isx isy. linked.apart g h k x y (future_back g x isx) (future_back h y isy);
     below = λ g y is. linked.below g y (future_back g y is);
     numbered = numbered_all;

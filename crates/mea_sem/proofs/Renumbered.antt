@@ -20,6 +20,7 @@ module _ (st : Store) (b b' : ℕ) (linked : IsLinked st b) (more : b ≤ b') wh
   linked_later = record {
     home = linked.home;
     owned = linked.owned;
+    granted = linked.granted;
     apart = linked.apart;
     below = λ f x is. (let small = linked.below f x is in omega arith);
     numbered = linked.numbered;

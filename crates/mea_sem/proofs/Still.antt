@@ -63,6 +63,7 @@ module _ (st st' : Store) (next i s : ℕ) (e e' : SemaphoreEntry) (linked : IsL
     kept = λ d n free. belongs_still d n;
     wakers = λ n free free_now. still.wakers n;
     waits = λ n d l is. inr (refl, (l, sym (still.waiting n) ∙ is));
+    grants = λ n d is. (refl, ap (λ g. get g n) (sym still.granted) ∙ is);
     alone = λ g n x y is. absurd (cc);
     numbered = numbered_still;
   }

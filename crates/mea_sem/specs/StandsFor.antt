@@ -1,15 +1,11 @@
--- the core that a hall lends, and the record that it stands for
-use Rattle.std.specs.Prelude.{ℕ, ◌≡◌, ◌+◌, ◌==◌, Bool, true, false, cond, List, [], ◌∷◌, ◌++◌, Option, Some, None, map, sum_by}
-use Rattle.std.specs.FinMap.{FinMap, get, len}
+-- the core that a hall lends, and the semaphore that it stands for
+use Rattle.std.specs.Prelude.{ℕ, ◌≡◌, ◌==◌, cond, List, [], ◌∷◌, map}
+use Rattle.std.specs.FinMap.{len}
 use Rattle.mea_base.specs.Totals.{total}
-use Rattle.mea_sem_model.specs.Hall.{Hall, Future, Stage, New, Waiting, Granted, Who, Waiter, Debt, free, live, queue_at, waker_of_who}
+use Rattle.mea_sem_model.specs.Hall.{Hall, Future, Stage, New, Waiting, Granted, Who, free, live, queue_at, waker_of_who}
 use Rattle.mea_sem_core.specs.Core as cores
 
--- what a hall's waiter keeps: no waker for a debt
-abbrev pub is_debt : Who → Bool
-is_debt (Waiter f) = false
-is_debt Debt = true
-
+-- the waker of who waits; a debt has none
 abbrev pub core_waker : cores.Waiter ℕ → List ℕ
 core_waker (cores.Acquires n d w) = w ∷ []
 core_waker cores.Owes = []
@@ -23,7 +19,7 @@ one_if_granted Granted = 1
 abbrev pub granted_futures : Hall → ℕ → ℕ
 granted_futures h s = total {X = Future} (λ f x. cond (x.semaphore == s) (one_if_granted x.stage) 0) h.futures
 
--- equal free and live permits, the same lacks and wakers in queue order (a debt has no waker), and as many
+-- equal free and live permits, the same wakers and lacks in queue order (a debt has no waker), and as many
 -- granted numbers as the semaphore has granted futures
 pub record StandsFor (h : Hall) (s : ℕ) (c : cores.Core ℕ) : Type 0 where
   pub free : c.free ≡ free h s

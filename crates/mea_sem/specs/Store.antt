@@ -108,6 +108,7 @@ pub record IsNumbered (c : cores.Core ℕ) : Type 0 where
 pub record IsLinked (st : Store) (bound : ℕ) : Type 0 where
   pub home : (f : ℕ) (x : FutureEntry) → get st.futures f ≡ Some x → IsHome st x
   pub owned : (s : ℕ) (e : SemaphoreEntry) (n demand lack : ℕ) → get st.semaphores s ≡ Some e → cores.waiting e.core.queue n ≡ Some (demand, lack) → IsOwned st s n demand
+  pub granted : (s : ℕ) (e : SemaphoreEntry) (n demand : ℕ) → get st.semaphores s ≡ Some e → get e.core.granted n ≡ Some demand → IsOwned st s n demand
   pub apart : (f g n : ℕ) → (x y : FutureEntry) → get st.futures f ≡ Some x → get st.futures g ≡ Some y → x.semaphore ≡ y.semaphore → is_under x.acquire n ≡ true → is_under y.acquire n ≡ true → f ≡ g
   pub below : (f : ℕ) (x : FutureEntry) → get st.futures f ≡ Some x → f < bound
   pub numbered : (s : ℕ) (e : SemaphoreEntry) → get st.semaphores s ≡ Some e → IsNumbered e.core

@@ -1,6 +1,12 @@
-ghost use Rattle.std.specs.Prelude.{◌≡◌, Some, IsTrue, ◌↔◌};
-ghost use Rattle.mea_sem_model.specs.Cause.{cause_of, is_named, is_future, is_permit, can_merge, unknown_unless};
+ghost use Rattle.std.specs.Prelude.{◌≡◌, is_some, IfSome, Some};
+ghost use Rattle.std.specs.Option.{option_map, option_copied};
+ghost use Rattle.std.specs.FinMap as map;
+ghost use Rattle.mea_sem_model.specs.Hall.{live, plain_things};
+ghost use Rattle.mea_sem_model.specs.Cause.{cause_of, is_named, is_future, is_permit, can_merge, are_of_one_kind, unknown_unless};
+ghost use Rattle.mea_sem.specs.Store.{permit_of};
+ghost use Rattle.mea_sem.specs.StandsFor.{StandsFor};
 
+use crate::entries::{PermitEntry, SemaphoreEntry};
 use crate::hall::SemHall;
 use mea_base::Stop;
 use mea_sem_model::SemEvent;
@@ -32,38 +38,40 @@ impl SemHall {
     fn cause_of_release(&self, s: u64, n: u64) -> Option<Stop>
         ensures { result ≡ cause_of self.now.hall (SemEvent.Release s n) }
     {
-        match self.semaphores.get(&s) {
-            Some(entry) if entry.named => {
-                if entry.core.live().checked_add(n as usize).is_none() {
-                    return Some(Stop::Overflow);
-                }
-                None
-            }
-            _ => Some(Stop::Unknown),
+        match self.named_entry(s) {
+            Some(entry) => match entry.core.live().checked_add(n as usize) {
+                Some(_) => None,
+                None => Some(Stop::Overflow),
+            },
+            None => Some(Stop::Unknown),
         }
     }
 
     fn cause_of_end_name(&self, s: u64) -> Option<Stop>
         ensures { result ≡ cause_of self.now.hall (SemEvent.Endsem s) }
     {
-        match self.semaphores.get(&s) {
-            Some(entry) if entry.named => {
-                if entry.plain > 0 {
-                    return Some(Stop::Borrowed);
-                }
-                None
-            }
-            _ => Some(Stop::Unknown),
+        match self.named_entry(s) {
+            Some(entry) if entry.plain > 0 => Some(Stop::Borrowed),
+            Some(_) => None,
+            None => Some(Stop::Unknown),
         }
+    }
+
+    // What is kept of a semaphore that is named.
+    pub(crate) fn named_entry(&self, s: u64) -> Option<&SemaphoreEntry>
+        ensures named { is_some result ≡ is_named self.now.hall s }
+        ensures live { IfSome result (λ entry. entry.now.core.live ≡ live self.now.hall s) }
+        ensures plain { IfSome result (λ entry. entry.now.plain ≡ plain_things self.now.hall s) }
+        ensures stands { IfSome result (λ entry. StandsFor self.now.hall s entry.now.core) }
+    {
+        let entry = self.semaphores.get(&s)?;
+        if entry.named { Some(entry) } else { None }
     }
 
     fn is_named(&self, s: u64) -> bool
         ensures { result ≡ is_named self.now.hall s }
     {
-        match self.semaphores.get(&s) {
-            Some(entry) => entry.named,
-            None => false,
-        }
+        self.named_entry(s).is_some()
     }
 
     pub(crate) fn is_future(&self, f: u64) -> bool
@@ -81,11 +89,29 @@ impl SemHall {
     fn can_merge(&self, p: u64, q: u64) -> bool
         ensures { result ≡ can_merge self.now.hall p q }
     {
-        match (self.permits.get(&p), self.permits.get(&q)) {
-            (Some(x), Some(y)) => p != q && x.semaphore == y.semaphore && x.plain == y.plain,
+        p != q && self.are_of_one_kind(p, q)
+    }
+
+    fn are_of_one_kind(&self, p: u64, q: u64) -> bool
+        ensures { result ≡ are_of_one_kind (map.get self.now.hall.permits p) (map.get self.now.hall.permits q) }
+    {
+        match (self.kept_permit(p), self.kept_permit(q)) {
+            (Some(x), Some(y)) => are_alike(x, y),
             _ => false,
         }
     }
+
+    fn kept_permit(&self, p: u64) -> Option<&PermitEntry>
+        ensures { map.get self.now.hall.permits p ≡ option_map permit_of (option_copied result) }
+    {
+        self.permits.get(&p)
+    }
+}
+
+fn are_alike(x: &PermitEntry, y: &PermitEntry) -> bool
+    ensures { result ≡ are_of_one_kind (Some (permit_of x.now)) (Some (permit_of y.now)) }
+{
+    x.semaphore == y.semaphore && x.plain == y.plain
 }
 
 fn unknown_unless(known: bool) -> Option<Stop>

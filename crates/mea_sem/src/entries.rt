@@ -1,7 +1,7 @@
 ghost use Rattle.std.specs.Prelude.{◌≡◌, ◌≢◌, ◌+◌, ◌-◌, ◌<◌, ◌≤◌, ◌^◌, ◌++◌, [], length, min, cond, ℕ, true, false, Some, IsOk, OnOk, OnErr, IfOk, MatchResult};
 ghost use Rattle.mea_base.specs.Queue.{granted_in};
 ghost use Rattle.mea_sem_core.specs.Acquire.{demand_of};
-ghost use Rattle.mea_sem_core.specs.Core.{held_of, poured, wakers_of, debts};
+ghost use Rattle.mea_sem_core.specs.Core.{held_of, paid_of, poured, wakers_of, debts};
 ghost use Rattle.mea_sem_core.specs.Calls.{Belongs, Queues, forgetting, forgetting_exactly, with_waker};
 
 use crate::moving::hand_on;
@@ -161,7 +161,8 @@ impl SemaphoreEntry {
     pub fn ledger(&self) -> Ledger
         requires account { self.now.core.live + self.now.forgotten ≡ self.now.made + self.now.released + debts self.now.core.queue }
         requires few { self.now.core.live + self.now.forgotten < 2 ^ 128 }
-        ensures { result ≡ ledger_of_entry self.now }
+        ensures is { result ≡ ledger_of_entry self.now }
+        ensures total { self.now.core.free + held_of self.now.core + paid_of self.now.core ≡ self.now.core.live }
     {
         let live = self.core.live() as u128;
         let free = self.core.available_permits() as u128;

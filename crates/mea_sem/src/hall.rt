@@ -1,7 +1,5 @@
-ghost use Rattle.std.specs.Prelude.{◌≡◌, ◌≢◌, ◌+◌, ◌-◌, ◌^◌, ◌<◌, ◌≤◌, ◌∷◌, [], ◌⊎◌, ℕ, length, is_some, true, OnOk, OnErr, IfOk, IfErr, IfSome, IfNone, None, Some};
-ghost use Rattle.std.specs.Option.{option_map, option_copied};
-ghost use Rattle.std.specs.FinMap as map;
-ghost use Rattle.mea_sem_model.specs.Hall.{empty_hall, live, plain_things};
+ghost use Rattle.std.specs.Prelude.{◌≡◌, ◌≢◌, ◌≤◌, ◌∷◌, [], ◌⊎◌, ℕ, length, is_some, OnOk, OnErr, IfOk, IfErr, IfSome, IfNone, None, Some};
+ghost use Rattle.mea_sem_model.specs.Hall.{empty_hall};
 ghost use Rattle.mea_sem_model.specs.Cause.{cause_of, is_named};
 ghost use Rattle.mea_sem_model.specs.Step.{step};
 ghost use Rattle.mea_sem_model.specs.declared.event.SemEvent.{SemEvent as Event};
@@ -91,10 +89,8 @@ impl SemHall {
         ensures named { is_some result ≡ is_named self.now.hall name }
         ensures stands { IfSome result (λ core. StandsFor self.now.hall name core.now) }
     {
-        match self.semaphores.get(&name) {
-            Some(entry) if entry.named => Some(&entry.core),
-            _ => None,
-        }
+        let entry = self.named_entry(name)?;
+        Some(&entry.core)
     }
 
     /// Plays an event, whose number is greater than each that was played before; the wakers that it makes

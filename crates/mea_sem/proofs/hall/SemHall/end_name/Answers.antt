@@ -1,17 +1,18 @@
-use Rattle.std.proofs.Common.{rules, ◌≡◌, ◌≤◌, OnErr, IfOk, IfErr, None, true, false, ℕ, ◌+◌, ◌-◌, ◌*◌, ◌<◌, length, ◌/◌, ◌%◌, Bool, nat_eq, nat_lt, List, [], ◌∷◌, ◌++◌, slice_index_or, slice_set, bit_and, bit_or, Fits, w8, w32, w64, Bor, MutBor}
-use Rattle.mea_sem_model.specs.Cause.{cause_of}
-use Rattle.mea_sem_model.specs.Step.{try_and_forget}
-use Rattle.mea_sem.specs.Play.{Play, Plays, Yields}
+use Rattle.std.proofs.Common.{rules, ◌≡◌, Some, sym, ap, ◌∙◌, arith, false, refl}
+use Rattle.std.specs.Option.{option_copied_mut}
+use Rattle.mea_base.specs.Named.{at}
+use Rattle.mea_sem.proofs.StandingSemaphores.{never_gone, done_endsem}
 use Rattle.mea_sem.proofs.hall.SemHall.end_name.Goals as goal
 
--- src/semaphores.rt:119:13
 pub unreachable-requires : goal.unreachable-requires
-unreachable-requires c = ?
+unreachable-requires c = never_gone c.self.inside c.args.self.now c.args.s _ c.self.view_is c.requires.allowed (sym c.get_mut.ensures.value ∙ ap option_copied_mut c.in_default.is)
 
--- src/semaphores.rt:113:5
 pub invariant_of-self : goal.invariant_of-self
-invariant_of-self c = ?
+invariant_of-self c =
+    let there : at c.self.inside.semaphores.entries c.args.s ≡ Some c.in-Some.entry.now = sym c.get_mut.ensures.value ∙ ap option_copied_mut c.in-Some.is in
+    (done_endsem c.self.inside c.args.self.now c.args.number c.args.s c.in-Some.entry.now c.self.view_is c.self.invariant c.requires.next (omega arith) there _ _ ((c.get_mut.follows.holds (record c.in-Some.entry.now { named = false })).3 (search rules)).0 c.requires.allowed refl).kept
 
--- src/semaphores.rt:113:5
 pub returns : goal.returns
-returns c = ?
+returns c =
+    let there : at c.self.inside.semaphores.entries c.args.s ≡ Some c.in-Some.entry.now = sym c.get_mut.ensures.value ∙ ap option_copied_mut c.in-Some.is in
+    (done_endsem c.self.inside c.args.self.now c.args.number c.args.s c.in-Some.entry.now c.self.view_is c.self.invariant c.requires.next (omega arith) there _ _ ((c.get_mut.follows.holds (record c.in-Some.entry.now { named = false })).3 (search rules)).0 c.requires.allowed refl).yields

@@ -1,29 +1,33 @@
-use Rattle.std.proofs.Common.{rules, ◌≡◌, ◌≤◌, OnErr, IfOk, IfErr, None, true, false, ℕ, ◌+◌, ◌-◌, ◌*◌, ◌<◌, length, ◌/◌, ◌%◌, Bool, nat_eq, nat_lt, List, [], ◌∷◌, ◌++◌, slice_index_or, slice_set, bit_and, bit_or, Fits, w8, w32, w64, Bor, MutBor}
-use Rattle.mea_sem_model.specs.Cause.{cause_of}
-use Rattle.mea_sem_model.specs.Step.{try_and_forget}
-use Rattle.mea_sem.specs.Play.{Play, Plays, Yields}
+use Rattle.std.proofs.Common.{rules, ◌≡◌, None, Some, sym, ap, ◌∙◌, arith}
+use Rattle.std.specs.Option.{option_copied_mut}
+use Rattle.mea_base.specs.Named.{at}
+use Rattle.mea_sem.proofs.StandingSemaphores.{never_gone, small_forgotten, kept_unchanged, seen_unchanged, done_forgetx}
 use Rattle.mea_sem.proofs.hall.SemHall.forget_exact.Goals as goal
 
--- src/semaphores.rt:71:13
 pub unreachable-requires : goal.unreachable-requires
-unreachable-requires c = ?
+unreachable-requires c = never_gone c.self.inside c.args.self.now c.args.s None c.self.view_is c.requires.allowed (sym c.get_mut.ensures.value ∙ ap option_copied_mut c.in_default.is)
 
--- src/semaphores.rt:73:15
 pub forget_exact-requires : goal.forget_exact-requires
-forget_exact-requires c = ?
+forget_exact-requires c =
+    let there : at c.self.inside.semaphores.entries c.args.s ≡ Some c.in-Some.entry.now = sym c.get_mut.ensures.value ∙ ap option_copied_mut c.in-Some.is in
+    small_forgotten c.self.inside c.args.self.now c.args.number c.args.s c.in-Some.entry.now c.self.view_is c.self.invariant c.requires.next (omega arith) there c.args.n (omega arith)
 
--- src/semaphores.rt:74:23
 pub invariant_of-self : goal.invariant_of-self
-invariant_of-self c = ?
+invariant_of-self c =
+    let there : at c.self.inside.semaphores.entries c.args.s ≡ Some c.in-Some.entry.now = sym c.get_mut.ensures.value ∙ ap option_copied_mut c.in-Some.is in
+    kept_unchanged c.self.inside c.args.self.now c.args.number c.args.s c.in-Some.entry.now c.self.view_is c.self.invariant c.requires.next (omega arith) there _ c.forget_exact.new.self ((c.get_mut.follows.holds c.forget_exact.new.self).3 (search rules)).0 c.in-Err.ensures.err
 
--- src/semaphores.rt:77:17
 pub invariant_of-self-in-Ok : goal.invariant_of-self-in-Ok
-invariant_of-self-in-Ok c = ?
+invariant_of-self-in-Ok c =
+    let there : at c.self.inside.semaphores.entries c.args.s ≡ Some c.in-Some.entry.now = sym c.get_mut.ensures.value ∙ ap option_copied_mut c.in-Some.is in
+    (done_forgetx c.self.inside c.args.self.now c.args.number c.args.s c.in-Some.entry.now c.self.view_is c.self.invariant c.requires.next (omega arith) there _ c.forget_exact.new.self ((c.get_mut.follows.holds c.forget_exact.new.self).3 (search rules)).0 c.args.n (omega arith) c.requires.allowed c.in-Ok.ensures.is c.forget_exact.ensures.held c.forget_exact.ensures.within).kept
 
--- src/semaphores.rt:63:5
 pub returns-in-Err-clause-err : goal.returns-in-Err-clause-err
-returns-in-Err-clause-err c = ?
+returns-in-Err-clause-err c =
+    let there : at c.self.inside.semaphores.entries c.args.s ≡ Some c.in-Some.entry.now = sym c.get_mut.ensures.value ∙ ap option_copied_mut c.in-Some.is in
+    seen_unchanged c.self.inside c.args.self.now c.args.number c.args.s c.in-Some.entry.now c.self.view_is c.self.invariant c.requires.next (omega arith) there _ c.forget_exact.new.self ((c.get_mut.follows.holds c.forget_exact.new.self).3 (search rules)).0 c.in-Err.ensures.err
 
--- src/semaphores.rt:63:5
 pub returns-in-Ok-clause-played : goal.returns-in-Ok-clause-played
-returns-in-Ok-clause-played c = ?
+returns-in-Ok-clause-played c =
+    let there : at c.self.inside.semaphores.entries c.args.s ≡ Some c.in-Some.entry.now = sym c.get_mut.ensures.value ∙ ap option_copied_mut c.in-Some.is in
+    (done_forgetx c.self.inside c.args.self.now c.args.number c.args.s c.in-Some.entry.now c.self.view_is c.self.invariant c.requires.next (omega arith) there _ c.forget_exact.new.self ((c.get_mut.follows.holds c.forget_exact.new.self).3 (search rules)).0 c.args.n (omega arith) c.requires.allowed c.in-Ok.ensures.is c.forget_exact.ensures.held c.forget_exact.ensures.within).yields

@@ -1,17 +1,18 @@
-use Rattle.std.proofs.Common.{rules, ◌≡◌, ◌≤◌, OnErr, IfOk, IfErr, None, true, false, ℕ, ◌+◌, ◌-◌, ◌*◌, ◌<◌, length, ◌/◌, ◌%◌, Bool, nat_eq, nat_lt, List, [], ◌∷◌, ◌++◌, slice_index_or, slice_set, bit_and, bit_or, Fits, w8, w32, w64, Bor, MutBor}
-use Rattle.mea_sem_model.specs.Cause.{cause_of}
-use Rattle.mea_sem_model.specs.Step.{try_and_forget}
-use Rattle.mea_sem.specs.Play.{Play, Plays, Yields}
+use Rattle.std.proofs.Common.{None, ◌≡◌, Some, sym, ap, ◌∙◌, arith}
+use Rattle.std.specs.Option.{option_copied}
+use Rattle.mea_base.specs.Named.{at}
+use Rattle.mea_sem.proofs.StandingSemaphores.{never_gone, done_free}
 use Rattle.mea_sem.proofs.hall.SemHall.free.Goals as goal
 
--- src/semaphores.rt:43:13
 pub unreachable-requires : goal.unreachable-requires
-unreachable-requires c = ?
+unreachable-requires c = never_gone c.self.inside c.args.self.now c.args.s None c.self.view_is c.requires.allowed (sym c.get.ensures.value ∙ ap option_copied c.in_default.is)
 
--- src/semaphores.rt:37:5
 pub invariant_of-self : goal.invariant_of-self
-invariant_of-self c = ?
+invariant_of-self c =
+    let there : at c.self.inside.semaphores.entries c.args.s ≡ Some c.in-Some.entry.now = sym c.get.ensures.value ∙ ap option_copied c.in-Some.is in
+    (done_free c.self.inside c.args.self.now c.args.number c.args.s c.in-Some.entry.now c.self.view_is c.self.invariant c.requires.next (omega arith) there _ c.available_permits-free.ensures.is).kept
 
--- src/semaphores.rt:37:5
 pub returns : goal.returns
-returns c = ?
+returns c =
+    let there : at c.self.inside.semaphores.entries c.args.s ≡ Some c.in-Some.entry.now = sym c.get.ensures.value ∙ ap option_copied c.in-Some.is in
+    (done_free c.self.inside c.args.self.now c.args.number c.args.s c.in-Some.entry.now c.self.view_is c.self.invariant c.requires.next (omega arith) there _ c.available_permits-free.ensures.is).yields

@@ -1,7 +1,10 @@
-use Rattle.std.proofs.Common.{rules, ◌≡◌, Some, IsTrue, ◌↔◌, ℕ, ◌+◌, ◌-◌, ◌*◌, ◌<◌, ◌≤◌, length, ◌/◌, ◌%◌, Bool, true, false, nat_eq, nat_lt, List, [], ◌∷◌, ◌++◌, slice_index_or, slice_set, bit_and, bit_or, Fits, w8, w32, w64, Bor, MutBor}
-use Rattle.mea_sem_model.specs.Cause.{cause_of, is_named, is_future, is_permit, can_merge, unknown_unless}
+use Rattle.std.proofs.Common.{◌≡◌, sym, subst, ◌∙◌}
+use Rattle.std.specs.Option.{is_some}
+use Rattle.mea_base.specs.Named.{at}
+use Rattle.mea_sem_model.specs.Cause.{is_permit}
+use Rattle.mea_sem.specs.Play.{Play}
+use Rattle.mea_sem.proofs.Refusals.{is_permit-at}
 use Rattle.mea_sem.proofs.hall.SemHall.is_permit.Goals as goal
 
--- src/causes.rt:75:5
 pub returns : goal.returns
-returns c = ?
+returns c = c.contains_key.ensures ∙ sym (subst (λ (p : Play). is_permit p.hall c.args.p ≡ is_some (at c.self.inside.permits.entries c.args.p)) c.self.view_is (is_permit-at c.self.inside.semaphores.entries c.self.inside.futures.entries c.self.inside.permits.entries c.self.inside.next c.args.p))

@@ -1,25 +1,28 @@
-use Rattle.std.proofs.Common.{rules, ◌≡◌, ◌≤◌, OnErr, IfOk, IfErr, None, true, false, ℕ, ◌+◌, ◌-◌, ◌*◌, ◌<◌, length, ◌/◌, ◌%◌, Bool, nat_eq, nat_lt, List, [], ◌∷◌, ◌++◌, slice_index_or, slice_set, bit_and, bit_or, Fits, w8, w32, w64, Bor, MutBor}
-use Rattle.mea_sem_model.specs.Cause.{cause_of}
-use Rattle.mea_sem_model.specs.Step.{try_and_forget}
-use Rattle.mea_sem.specs.Play.{Play, Plays, Yields}
+use Rattle.std.proofs.Common.{◌≡◌, None, Some, sym, ap, ◌∙◌, arith}
+use Rattle.std.specs.Option.{option_copied}
+use Rattle.mea_base.specs.Named.{at}
+use Rattle.mea_sem.proofs.StandingSemaphores.{never_gone, is_accounted, small_account, done_ledger}
 use Rattle.mea_sem.proofs.hall.SemHall.ledger.Goals as goal
 
--- src/semaphores.rt:132:13
 pub unreachable-requires : goal.unreachable-requires
-unreachable-requires c = ?
+unreachable-requires c = never_gone c.self.inside c.args.self.now c.args.s None c.self.view_is c.requires.allowed (sym c.get.ensures.value ∙ ap option_copied c.in_default.is)
 
--- src/semaphores.rt:134:13
 pub ledger-ledger-requires-clause-account : goal.ledger-ledger-requires-clause-account
-ledger-ledger-requires-clause-account c = ?
+ledger-ledger-requires-clause-account c =
+    let there : at c.self.inside.semaphores.entries c.args.s ≡ Some c.in-Some.entry.now = sym c.get.ensures.value ∙ ap option_copied c.in-Some.is in
+    is_accounted c.self.inside c.args.self.now c.args.number c.args.s c.in-Some.entry.now c.self.view_is c.self.invariant c.requires.next (omega arith) there
 
--- src/semaphores.rt:134:13
 pub ledger-ledger-requires-clause-few : goal.ledger-ledger-requires-clause-few
-ledger-ledger-requires-clause-few c = ?
+ledger-ledger-requires-clause-few c =
+    let there : at c.self.inside.semaphores.entries c.args.s ≡ Some c.in-Some.entry.now = sym c.get.ensures.value ∙ ap option_copied c.in-Some.is in
+    small_account c.self.inside c.args.self.now c.args.number c.args.s c.in-Some.entry.now c.self.view_is c.self.invariant c.requires.next (omega arith) there
 
--- src/semaphores.rt:126:5
 pub invariant_of-self : goal.invariant_of-self
-invariant_of-self c = ?
+invariant_of-self c =
+    let there : at c.self.inside.semaphores.entries c.args.s ≡ Some c.in-Some.entry.now = sym c.get.ensures.value ∙ ap option_copied c.in-Some.is in
+    (done_ledger c.self.inside c.args.self.now c.args.number c.args.s c.in-Some.entry.now c.self.view_is c.self.invariant c.requires.next (omega arith) there _ c.ledger-ledger.ensures.total c.ledger-ledger.ensures.is).kept
 
--- src/semaphores.rt:126:5
 pub returns : goal.returns
-returns c = ?
+returns c =
+    let there : at c.self.inside.semaphores.entries c.args.s ≡ Some c.in-Some.entry.now = sym c.get.ensures.value ∙ ap option_copied c.in-Some.is in
+    (done_ledger c.self.inside c.args.self.now c.args.number c.args.s c.in-Some.entry.now c.self.view_is c.self.invariant c.requires.next (omega arith) there _ c.ledger-ledger.ensures.total c.ledger-ledger.ensures.is).yields
