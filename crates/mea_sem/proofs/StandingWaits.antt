@@ -1,14 +1,15 @@
 -- what a poll that waits, and the end of a future, leave of the maps of a `SemHall`
-use Rattle.std.proofs.Common.{◌≡◌, ◌≢◌, ◌⊎◌, inl, inr, ℕ, ◌+◌, ◌-◌, ◌*◌, ◌^◌, ◌<◌, ◌≤◌, ◌==◌, ◌++◌, Bool, true, false, cond, List, [], length, refl, ap, sym, subst, ◌∙◌, arith, Option, Some, None, append-nil, is_some, if◌then◌else◌}
+use Rattle.std.proofs.Common.{◌≡◌, ◌≢◌, ◌⊎◌, inl, inr, ℕ, ◌+◌, ◌-◌, ◌*◌, ◌^◌, ◌<◌, ◌≤◌, ◌==◌, ◌++◌, Bool, true, false, cond, List, [], ◌∷◌, length, refl, ap, sym, subst, ◌∙◌, arith, Option, Some, None, append-nil, is_some, if◌then◌else◌}
 use Rattle.std.specs.Option.{option_map, IfSome, IsSome}
 use Rattle.std.specs.Ordering.{nat_cmp}
 use Rattle.std.specs.FinMap.{FinMap, get, insert, remove}
 use Rattle.std.proofs.lemmas.Bool.{eqb-true, cases_lt}
 use Rattle.mea_base.specs.declared.answer.Answer.{Answer}
 use Rattle.mea_base.specs.declared.answer.Answer.TheVariants as answers
-use Rattle.mea_base.specs.Named.{named, at, same_named}
+use Rattle.mea_base.specs.Named.{named, at}
 use Rattle.mea_base.specs.Queue.{granted_in}
 use Rattle.mea_base.specs.Totals.{total, weight}
+use Rattle.mea_base.proofs.NamedMaps.{same_named}
 use Rattle.mea_base.proofs.Totals.{total-remove}
 use Rattle.mea_sem_model.specs.declared.event.SemEvent.TheVariants as events
 use Rattle.mea_sem_model.specs.Hall.{Hall, Semaphore, Future, Stage, New, Waiting, Granted, semaphore_at, queue_at, lack_of, paid_to}
@@ -129,9 +130,9 @@ module _ (ss ss' : Semaphores) (fs : Futures) (ps : Permits) (w sp next i f v : 
   old_hall = hall_of old_store next
 
   -- ---- a first poll that waits
-  pub queue_done : (fs' : Futures) (sp' d m : ℕ) (x2 : FutureEntry) → ChangesAt fs fs' f (Some x2) → x.acquire ≡ acquires.New d → x2 ≡ record x { acquire = acquires.Queued d m } → Queues e.core e2.core d v m → e2 ≡ record e { core = e2.core } → cores.held_of e2.core ≡ cores.held_of e.core
-      → e.core.free < d → w + 1 ≤ sp' → Done old_store (store_of ss' fs' ps) (w + 1) sp' next i wakes wakes (step old_hall i (events.Poll f v)) answers.Pending
-  queue_done fs' sp' d m x2 put new x2_is queues rest held lacks room =
+  pub queue_done : (fs' : Futures) (w' sp' d m : ℕ) (wakes' : List ℕ) (x2 : FutureEntry) → w' ≡ w + 1 → wakes' ≡ wakes → ChangesAt fs fs' f (Some x2) → x.acquire ≡ acquires.New d → x2 ≡ record x { acquire = acquires.Queued d m } → Queues e.core e2.core d v m → e2 ≡ record e { core = e2.core } → cores.held_of e2.core ≡ cores.held_of e.core
+      → e.core.free < d → w' ≤ sp' → Done old_store (store_of ss' fs' ps) w' sp' next i wakes wakes' (step old_hall i (events.Poll f v)) answers.Pending
+  queue_done fs' w' sp' d m wakes' x2 one_more same put new x2_is queues rest held lacks room =
       let st' : Store = store_of ss' fs' ps in
       let chosen = pending_new ss fs ps w sp next f x k is e there i v d new lacks in
       let hall : (step old_hall i (events.Poll f v)).hall ≡ queueing old_hall f v (record { semaphore = x.semaphore; demand = d; plain = x.plain; forgets = x.forgets; stage = New }) =
@@ -139,8 +140,9 @@ module _ (ss ss' : Semaphores) (fs : Futures) (ps : Permits) (w sp next i f v : 
       let core : e2 ≡ record e { core = record e.core { free = 0; queue = e.core.queue ++ (cores.Acquires m d v, d - e.core.free) ∷ [] } } = rest ∙ ap (λ (c : cores.Core ℕ). record e { core = c }) queues.is in
       let plays = plays_queued old_store st' w sp sp' next i x.semaphore f v d m x e k less low refl new (found ss x.semaphore e there) (semaphores_of ss ss' x.semaphore e2 _ changes core) (found fs f x is)
         (λ g. kept-changed fs fs' f (Some x2) put g ∙ ap (λ y. cond (f == g) (Some y) (get old_store.futures g)) x2_is) refl queues.not_waiting queues.not_granted allowed hall
-        (subst (λ (c : cores.Core ℕ). cores.held_of c ≡ cores.held_of e.core) queues.is held) room in
-      done_from old_store st' (w + 1) sp' next i wakes wakes (events.Poll f v) _ answers.Pending refl plays (quiet_wakes wakes _ (ap (λ o. o.wakes) chosen)) (sym (ap (λ o. o.reply) chosen))
+        (subst (λ (c : cores.Core ℕ). cores.held_of c ≡ cores.held_of e.core) queues.is held) (subst (λ r. r ≤ sp') one_more room) in
+      let settled = subst (λ r. Plays old_store st' next i (events.Poll f v) r sp') (sym one_more) plays in
+      done_from old_store st' w' sp' next i wakes wakes' (events.Poll f v) _ answers.Pending refl settled (same ∙ quiet_wakes wakes _ (ap (λ o. o.wakes) chosen)) (sym (ap (λ o. o.reply) chosen))
 
   -- ---- a further poll that waits
   pub again_done : (d m : ℕ) → x.acquire ≡ acquires.Queued d m → Waits e.core (acquires.Queued d m) → e2 ≡ record e { core = record e.core { queue = with_waker e.core.queue m v } } → cores.held_of e2.core ≡ cores.held_of e.core
@@ -159,15 +161,15 @@ pub end_allowed : (h : Hall) (f : ℕ) → IsSome (get h.futures f) → cause_of
 end_allowed h f there = by_value (get h.futures f) there
   where
     by_value : (o : Option Future) → IsSome o → unknown_unless (if is_some o then true else is_permit h f) ≡ None
-    by_value None no = absurd no
-    by_value (Some y) yes = refl
+    by_value None missing = absurd (cc)
+    by_value (Some y) here = refl
 
 pub end_found : (ss : Semaphores) (fs : Futures) (ps : Permits) (next f : ℕ) → IsSome (get (hall_of (store_of ss fs ps) next).futures f) → at fs f ≡ None → ⊥
 end_found ss fs ps next f there none = future_found ss fs ps next f (by_value (get (hall_of (store_of ss fs ps) next).futures f) there) none
   where
     by_value : (o : Option Future) → IsSome o → is_some o ≡ true
-    by_value None no = absurd no
-    by_value (Some y) yes = refl
+    by_value None missing = absurd (cc)
+    by_value (Some y) here = refl
 
 -- the wakers of one queue are among those that are registered
 pub wakers_registered : (ss : Semaphores) (fs : Futures) (ps : Permits) (w sp next s : ℕ) (e : SemaphoreEntry) → IsKept (store_of ss fs ps) w sp next → at ss s ≡ Some e → wakers_in e.core.queue ≤ w

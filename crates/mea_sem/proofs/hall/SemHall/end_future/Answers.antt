@@ -54,7 +54,7 @@ pub overflow_sub-self : goal.overflow_sub-self
 overflow_sub-self c =
     let is : at c.self.inside.futures.entries c.args.f ≡ Some c.in-Some.future = sym c.remove.ensures.value ∙ c.in-Some.is in
     let there : at c.self.inside.semaphores.entries c.in-Some.future.semaphore ≡ Some c.in-Some-get_mut.entry.now = sym c.get_mut.ensures.value ∙ ap option_copied_mut c.in-Some-get_mut.is in
-    left_within c.self.inside.semaphores.entries _ c.self.inside.futures.entries _ c.self.inside.permits.entries c.self.inside.registered c.self.inside.outbox.spare c.end.new.outbox.spare c.self.inside.next c.args.number c.args.f c.end.result c.self.inside.outbox.wakers c.end.new.outbox.wakers c.in-Some.future c.in-Some-get_mut.entry.now c.end.new.self c.self.invariant is there c.end.ensures.ends
+    left_within c.self.inside.semaphores.entries c.self.inside.semaphores.entries c.self.inside.futures.entries c.self.inside.futures.entries c.self.inside.permits.entries c.self.inside.registered c.self.inside.outbox.spare c.end.new.outbox.spare c.self.inside.next c.args.number c.args.f c.end.result c.self.inside.outbox.wakers c.end.new.outbox.wakers c.in-Some.future c.in-Some-get_mut.entry.now c.end.new.self c.self.invariant is there c.end.ensures.ends
 
 pub invariant_of-self : goal.invariant_of-self
 invariant_of-self c =
