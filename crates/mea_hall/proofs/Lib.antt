@@ -1,0 +1,5 @@
+pub mod Digits
+pub mod Fronts
+pub mod Wakes
+pub mod HandedOver
+pub mod Puts
