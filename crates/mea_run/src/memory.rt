@@ -54,7 +54,16 @@ impl Source for MemSource {
 
     ghost faults = { λ s. s.faults };
 
-    fn take(&mut self, into: &mut [u8]) -> Result<usize, Failed> {
+    fn take(&mut self, into: &mut [u8]) -> Result<usize, Failed>
+        ensures faults { self.old.faults ≤ self.new.faults }
+        ensures failed { OnErr result (Rose self.old.faults self.new.faults) }
+        ensures within { IfOk result (λ k. k ≤ length into.old) }
+        ensures told { IfOk result (Takes (Some self.old.left) (Some self.new.left) into.new) }
+
+        // Exactly the calls that it was told to fail fail.
+        ensures fails { OnErr result ((fails_at self.old.fails self.old.calls ≡ true) × (self.new ≡ failed_read self.old)) }
+        ensures gives { IfOk result (λ k. (fails_at self.old.fails self.old.calls ≡ false) × (k ≡ min (min (length self.old.left) self.old.most) (length into.old)) × (self.new ≡ given self.old k)) }
+    {
         let fails = self.fails.contains(&self.calls);
         self.calls = self.calls.saturating_add(1);
         if fails {
@@ -121,7 +130,18 @@ impl Sink for MemSink {
 
     ghost faults = { λ s. s.faults };
 
-    fn put(&mut self, piece: &[u8]) -> Result<usize, PutFault> {
+    fn put(&mut self, piece: &[u8]) -> Result<usize, PutFault>
+        ensures faults { self.old.faults ≤ self.new.faults }
+        ensures failed { result ≡ Err PutFault.Failed → Rose self.old.faults self.new.faults }
+        ensures within { IfOk result (λ k. k ≤ length piece.now) }
+        ensures some { IfOk result (λ k. 0 < length piece.now → 0 < k) }
+        ensures told { IfOk result (Puts (Some self.old.bytes) (Some self.new.bytes) piece.now) }
+        ensures err { OnErr result (Some self.new.bytes ≡ Some self.old.bytes) }
+
+        // Exactly the calls that it was told to fail fail.
+        ensures fails { result ≡ Err PutFault.Failed → (fails_at self.old.fails self.old.calls ≡ true) × (self.new ≡ failed_write self.old) }
+        ensures takes { IfOk result (λ k. (fails_at self.old.fails self.old.calls ≡ false) × (k ≡ min (length piece.now) self.old.most) × (self.new ≡ taken self.old piece.now k)) }
+    {
         let fails = self.fails.contains(&self.calls);
         self.calls = self.calls.saturating_add(1);
         if fails {
@@ -129,9 +149,9 @@ impl Sink for MemSink {
             return Err(PutFault::Failed);
         }
         let count = piece.len().min(self.most);
-        match self.bytes.extend_from_slice(&piece[..count]) {
-            Ok(()) => Ok(count),
-            Err(_) => Err(PutFault::NoMemory),
+        if self.bytes.extend_from_slice(&piece[..count]).is_err() {
+            return Err(PutFault::NoMemory);
         }
+        Ok(count)
     }
 }

@@ -1,4 +1,5 @@
-ghost use Rattle.std.specs.Prelude.{◌≡◌, ◌<◌, [], Some, length};
+ghost use Rattle.std.specs.Prelude.{◌≡◌, ◌≢◌, ◌<◌, ◌≤◌, [], Some, IsOk, IfOk, OnErr, length, min, drop};
+ghost use Rattle.mea_run.specs.Bytes.{Takes, Puts};
 ghost use Rattle.mea_run.specs.Sure.{Sure, Kept};
 
 use crate::sink::{PutFault, Sink};
@@ -42,7 +43,12 @@ impl Source for SureSource {
 
     ghost faults = { λ _. 0 };
 
-    fn take(&mut self, into: &mut [u8]) -> Result<usize, Failed> {
+    fn take(&mut self, into: &mut [u8]) -> Result<usize, Failed>
+        ensures succeeds { IsOk result }
+        ensures within { IfOk result (λ k. k ≤ length into.old) }
+        ensures told { IfOk result (Takes (Some self.old.left) (Some self.new.left) into.new) }
+        ensures gives { IfOk result (λ k. (k ≡ min (min (length self.old.left) self.old.most) (length into.old)) × (self.new ≡ record self.old { left = drop k self.old.left })) }
+    {
         let left = self.bytes.len() - self.at;
         let count = left.min(self.most).min(into.len());
         into[..count].copy_from_slice(&self.bytes[self.at..self.at + count]);
@@ -96,7 +102,14 @@ impl Sink for SureSink {
 
     ghost faults = { λ _. 0 };
 
-    fn put(&mut self, piece: &[u8]) -> Result<usize, PutFault> {
+    fn put(&mut self, piece: &[u8]) -> Result<usize, PutFault>
+        ensures failed { result ≢ Err PutFault.Failed }
+        ensures within { IfOk result (λ k. k ≤ length piece.now) }
+        ensures some { IfOk result (λ k. 0 < length piece.now → 0 < k) }
+        ensures told { IfOk result (Puts (Some self.old.bytes) (Some self.new.bytes) piece.now) }
+        ensures takes { IfOk result (λ k. k ≡ min (length piece.now) self.old.most) }
+        ensures err { OnErr result (self.new ≡ self.old) }
+    {
         let count = piece.len().min(self.most);
         match self.bytes.extend_from_slice(&piece[..count]) {
             Ok(()) => Ok(count),
