@@ -20,3 +20,6 @@ pub use source::{Failed, Source};
 pub use standard::{StdSink, StdSource};
 pub use status::Status;
 pub use sure::{SureSink, SureSource};
+
+#[cfg(test)]
+mod tests;
