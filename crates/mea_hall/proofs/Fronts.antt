@@ -2,6 +2,8 @@
 use Rattle.std.proofs.Common.{◌≡◌, ◌≢◌, ◌⊎◌, inl, inr, refl, ℕ, suc, ◌+◌, ◌<◌, List, [], ◌∷◌, ◌++◌, Some, None, length, take, drop, get_or, ap, sym, ◌∙◌, arith, append-nil}
 use Rattle.std.proofs.lemmas.List.{take_more, length-take-le, take-append-drop}
 use Rattle.std.proofs.Math.Seq.{drop-cons}
+use Rattle.std.specs.List.{slice_get}
+use Rattle.std.proofs.lemmas.Option.{slice_get-get_or}
 use Rattle.mea_base.specs.declared.answer.Answer.{Answer}
 use Rattle.mea_base.specs.declared.stop.Stop.{Stop}
 use Rattle.mea_base.specs.declared.stop.Stop.TheVariants.{Unknown, Borrowed, Zero, Overflow, NoMemory}
@@ -61,3 +63,7 @@ legal_ends es w rs stop caused legal = elim (no_memory_or_not stop) [
   | inl is ↦ is
   | inr not ↦ absurd (let no : Some stop ≡ None = ap (λ f. f.cause) (sym (caused not)) ∙ legal in cc)
 ]
+
+-- the event at which events stopped
+pub stopped_at : (es : List Event) (i : ℕ) (d : Event) (w v : World) (stop : Stop) (n : ℕ) → i < length es → n ≡ i → w ≡ v → cause_of v (get_or es i d) ≡ Some stop → (e : Event) × (slice_get es n ≡ Some e) × (cause_of w e ≡ Some stop)
+stopped_at es i d w v stop n more here world refused = (get_or es i d, ap (slice_get es) here ∙ slice_get-get_or es i d more, ap (λ u. cause_of u (get_or es i d)) world ∙ refused)

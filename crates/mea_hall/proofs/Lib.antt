@@ -3,3 +3,4 @@ pub mod Fronts
 pub mod Wakes
 pub mod HandedOver
 pub mod Puts
+pub mod Spellings

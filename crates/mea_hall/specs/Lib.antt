@@ -5,3 +5,4 @@ pub mod RepliesInside
 pub mod Number
 pub mod Lines
 pub mod Text
+pub mod Spelling

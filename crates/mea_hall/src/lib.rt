@@ -13,7 +13,7 @@ mod words;
 
 pub use event::Event;
 pub use hall::Hall;
-pub use lines::{cut, event_of_line};
+pub use lines::{cut, event_of_line, lines_have_one_spelling};
 pub use number::number_of;
 pub use played::{Played, replay};
 pub use replies::Replies;

@@ -1,6 +1,8 @@
-ghost use Rattle.std.specs.Prelude.{◌≡◌, ◌<◌, length, position, IfSome, ◌==◌};
+ghost use Rattle.std.specs.Prelude.{◌≡◌, ◌<◌, ◌↔◌, ℕ, List, Some, length, position, IfSome, ◌==◌};
 ghost use Rattle.std.specs.Option.{option_map};
+ghost use Rattle.mea_hall.specs.declared.event.Event.{Event as Line};
 ghost use Rattle.mea_hall.specs.Lines.{cut, event_of};
+ghost use Rattle.mea_hall.specs.Spelling.{spelling, Fits};
 
 use crate::event::Event;
 use crate::words::semaphore_event;
@@ -30,3 +32,9 @@ fn place_of(bytes: &[u8], byte: u8) -> Option<usize>
 {
     bytes.iter().position(|b| *b == byte)
 }
+
+/// Each event has one spelling: a line stands for an event exactly where it is the spelling of the event,
+/// whose numbers fit their type. It does nothing.
+pub fn lines_have_one_spelling()
+    ensures { (line : List ℕ) (event : Line) → (event_of line ≡ Some event) ↔ ((line ≡ spelling event) × Fits event) }
+{}

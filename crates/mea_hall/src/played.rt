@@ -26,6 +26,7 @@ pub fn replay(alloc: Global, events: &[Event]) -> Played
     ensures handed_over { result.hall.wakes ≡ [] }
     ensures whole { OnOk result.ended (length result.replies.replies ≡ length events.now) }
     ensures caused { IfErr result.ended (λ stop. stop ≢ Stop.NoMemory → front_of events.now ≡ record { world = result.hall.world; replies = result.replies.replies; cause = Some stop }) }
+    ensures refused { IfErr result.ended (λ stop. stop ≢ Stop.NoMemory → (event : Line) × (slice_get events.now (length result.replies.replies) ≡ Some event) × (cause_of result.hall.world event ≡ Some stop)) }
     ensures legal { IsLegal events.now → (result.ended ≡ Ok tt) ⊎ (result.ended ≡ Err Stop.NoMemory) }
 {
     let mut hall = Hall::new(alloc);

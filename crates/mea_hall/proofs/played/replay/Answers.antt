@@ -1,6 +1,6 @@
-use Rattle.std.proofs.Common.{◌+◌, arith, ap, ◌∙◌, inr, Err}
+use Rattle.std.proofs.Common.{length, ◌+◌, arith, ap, ◌∙◌, inr, Err}
 use Rattle.std.proofs.lemmas.Grind.{common_steps}
-use Rattle.mea_hall.proofs.Fronts.{front_step, front_stops, legal_ends}
+use Rattle.mea_hall.proofs.Fronts.{front_step, front_stops, legal_ends, stopped_at}
 use Rattle.mea_hall.proofs.played.replay.Goals as goal
 
 pub returns-in-Err-clause-caused : goal.returns-in-Err-clause-caused
@@ -23,3 +23,8 @@ loop-event-preserved c =
       quiet = ap (λ p. p.wakes) hall;
       replied = rw c.in-Ok.ensures.replies (grind (arith, common_steps, c.loop-event.invariant.replied));
     }
+
+pub returns-in-Err-clause-refused : goal.returns-in-Err-clause-refused
+returns-in-Err-clause-refused c = λ other.
+    stopped_at c.args.events.now c.loop-event.event-index _ c.play.new.hall.world c.loop-event.hall.world c.in-Err.stop (length c.play.new.replies.replies) c.loop-event-test.true
+    (ap length c.in-Err.ensures.err.1 ∙ c.loop-event.invariant.replied) (ap (λ p. p.world) c.in-Err.ensures.err.0) (c.in-Err.ensures.refused other)
