@@ -1,0 +1,23 @@
+//! The halls of all families of primitives: events, their replay, the lines of a script that stand for
+//! events and the text of their replies. Below it stands a crate for each family; above it the program.
+#![tactic(auto)]
+
+mod event;
+mod hall;
+mod lines;
+mod number;
+mod played;
+mod replies;
+mod text;
+mod words;
+
+pub use event::Event;
+pub use hall::Hall;
+pub use lines::{cut, event_of_line, lines_have_one_spelling};
+pub use number::number_of;
+pub use played::{Played, replay};
+pub use replies::Replies;
+pub use text::{put_number, put_reply, put_text};
+
+#[cfg(test)]
+mod tests;

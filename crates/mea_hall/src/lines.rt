@@ -1,0 +1,40 @@
+ghost use Rattle.std.specs.Prelude.{◌≡◌, ◌<◌, ◌↔◌, ℕ, List, Some, length, position, IfSome, ◌==◌};
+ghost use Rattle.std.specs.Option.{option_map};
+ghost use Rattle.mea_hall.specs.declared.event.Event.{Event as Line};
+ghost use Rattle.mea_hall.specs.Lines.{cut, event_of};
+ghost use Rattle.mea_hall.specs.Spelling.{spelling, Fits};
+
+use crate::event::Event;
+use crate::words::semaphore_event;
+
+/// The event of a line without its newline, if it is one: a word and its numbers, each after one space. It
+/// takes no memory.
+pub fn event_of_line(line: &[u8]) -> Option<Event>
+    ensures { result ≡ event_of line.now }
+{
+    let (word, rest) = cut(line, b' ')?;
+    Some(Event::Sem(semaphore_event(word, rest)?))
+}
+
+/// What stands before and after the first such byte, if there is one. It takes no memory.
+pub fn cut(bytes: &[u8], byte: u8) -> Option<(&[u8], &[u8])>
+    ensures { option_map (λ parts. (parts.0.now, parts.1.now)) result ≡ cut byte bytes.now }
+{
+    match place_of(bytes, byte) {
+        None => None,
+        Some(at) => Some((&bytes[..at], &bytes[at + 1..])),
+    }
+}
+
+fn place_of(bytes: &[u8], byte: u8) -> Option<usize>
+    ensures place { result ≡ position (λ b. b == byte) bytes.now }
+    ensures within { IfSome result (λ at. at < length bytes.now) }
+{
+    bytes.iter().position(|b| *b == byte)
+}
+
+/// Each event has one spelling: a line stands for an event exactly where it is the spelling of the event,
+/// whose numbers fit their type. It does nothing.
+pub fn lines_have_one_spelling()
+    ensures { (line : List ℕ) (event : Line) → (event_of line ≡ Some event) ↔ ((line ≡ spelling event) × Fits event) }
+{}

@@ -1,0 +1,17 @@
+//! Scripts with the text and the status that each must have, played by `run`. It has no code but tests.
+#![tactic(auto)]
+
+#[cfg(test)]
+mod faults;
+#[cfg(test)]
+mod limits;
+#[cfg(test)]
+mod permits;
+#[cfg(test)]
+mod refusals;
+#[cfg(test)]
+mod rows;
+#[cfg(test)]
+mod usage;
+#[cfg(test)]
+mod waiting;
