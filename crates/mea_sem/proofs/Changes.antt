@@ -1,24 +1,21 @@
 -- what a change of one semaphore and one future does to the links, and to the hall that is stood for
-use Rattle.std.proofs.Common.{◌≡◌, ◌≢◌, ◌⊎◌, inl, inr, ℕ, ◌+◌, ◌<◌, ◌≤◌, ◌==◌, ◌&&◌, Bool, true, false, cond, List, [], ◌∷◌, map, refl, ap, sym, subst, ◌∙◌, arith, Option, Some, None}
-use Rattle.std.specs.List.{AllByRecursion}
+use Rattle.std.proofs.Common.{◌≡◌, ◌⊎◌, inl, inr, ℕ, ◌<◌, ◌≤◌, ◌==◌, Bool, true, false, cond, refl, ap, sym, subst, ◌∙◌, arith, Option, Some, None}
 use Rattle.std.specs.Option.{option_map}
-use Rattle.std.specs.Ordering.{nat_cmp}
-use Rattle.std.specs.FinMap.{FinMap, get, insert, remove, entries}
-use Rattle.std.proofs.lemmas.Bool.{eqb-true, eqb-false, eq-eqb, ne_eqb}
-use Rattle.mea_base.specs.Named.{named}
+use Rattle.std.specs.FinMap.{get, insert, remove}
+use Rattle.std.proofs.lemmas.Bool.{eqb-true, eqb-false}
 use Rattle.mea_base.proofs.NamedMaps.{same_named}
 use Rattle.mea_base.proofs.Totals.{get_inserted, get_removed}
-use Rattle.mea_sem_model.specs.Hall.{Hall, Semaphore, Future, Who, Waiter, Debt}
+use Rattle.mea_sem_model.specs.Hall.{Future, Waiter}
 use Rattle.mea_sem_core.specs.declared.acquire.Acquire.{Acquire}
 use Rattle.mea_sem_core.specs.declared.acquire.Acquire.TheVariants.{New, Queued, Done}
 use Rattle.mea_sem_core.specs.Acquire.{demand_of}
 use Rattle.mea_sem_core.specs.Core as cores
-use Rattle.mea_sem_core.specs.Calls.{Belongs, IsWaitingAs, IsGrantedAs}
+use Rattle.mea_sem_core.specs.Calls.{Belongs}
 use Rattle.mea_sem.specs.declared.entries.SemaphoreEntry.{SemaphoreEntry}
 use Rattle.mea_sem.specs.declared.entries.FutureEntry.{FutureEntry}
 use Rattle.mea_sem.specs.Store.{Store, is_under, has, name_of, who_of, queue_of, semaphore_of, stage_of, stage_under, queue_in, future_of, hall_of, IsOpen, IsHome, IsOwned, IsNumbered, IsLinked}
-use Rattle.mea_sem.proofs.Cores.{Queue, IsAt, all_at, all_by, at_same, at_apart}
-use Rattle.mea_sem.proofs.Names.{get-seen, has-parts, has-from, under-queued, owner_has, name-has, name-owner, queue_of-same}
+use Rattle.mea_sem.proofs.Cores.{IsAt, all_at, all_by, at_same, at_apart}
+use Rattle.mea_sem.proofs.Names.{get-seen, has-parts, under-queued, owner_has, name-owner, queue_of-same}
 
 -- in s, e becomes e'; and the future f, o before, becomes o'
 pub record Changes (st st' : Store) (b b' s f : ℕ) (e e' : SemaphoreEntry) (o o' : Option FutureEntry) : Type 0 where
@@ -85,15 +82,15 @@ module _ (st st' : Store) (b b' s f : ℕ) (e e' : SemaphoreEntry) (o o' : Optio
       by_test : (t : Bool) → (s == y.semaphore) ≡ t → IsHome st' y
       by_test false h = record { entry = old.entry; there = semaphore_other y.semaphore (eqb-false s y.semaphore h) ∙ old.there; belongs = old.belongs; open_still = old.open_still }
       by_test true h =
-        let mine : s ≡ y.semaphore = eqb-true s y.semaphore h in
-        let both : Some e ≡ Some old.entry = sym c.there ∙ ap (get st.semaphores) mine ∙ old.there in
-        let same : e ≡ old.entry = cc in
-        record {
-          entry = e';
-          there = ap (get st'.semaphores) (sym mine) ∙ semaphore_there;
-          belongs = home_kept y y.acquire refl (λ n under. not_mine g n y apart is (sym mine) under) (subst (λ (d : SemaphoreEntry). Belongs d.core y.acquire) (sym same) old.belongs) old.open_still;
-          open_still = old.open_still;
-        }
+          let mine : s ≡ y.semaphore = eqb-true s y.semaphore h in
+          let both : Some e ≡ Some old.entry = sym c.there ∙ ap (get st.semaphores) mine ∙ old.there in
+          let same : e ≡ old.entry = cc in
+          record {
+            entry = e';
+            there = ap (get st'.semaphores) (sym mine) ∙ semaphore_there;
+            belongs = home_kept y y.acquire refl (λ n under. not_mine g n y apart is (sym mine) under) (subst (λ (d : SemaphoreEntry). Belongs d.core y.acquire) (sym same) old.belongs) old.open_still;
+            open_still = old.open_still;
+          }
 
   home_all : (g : ℕ) (y : FutureEntry) → get st'.futures g ≡ Some y → IsHome st' y
   home_all g y is = by_test (f == g) refl
@@ -101,8 +98,8 @@ module _ (st st' : Store) (b b' s f : ℕ) (e e' : SemaphoreEntry) (o o' : Optio
       by_test : (t : Bool) → (f == g) ≡ t → IsHome st' y
       by_test false h = home_other g y (eqb-false f g h) (sym (future_other g (eqb-false f g h)) ∙ is)
       by_test true h =
-        let here : o' ≡ Some y = sym (future_there refl) ∙ ap (get st'.futures) (eqb-true f g h) ∙ is in
-        record { entry = e'; there = ap (get st'.semaphores) (c.is_of y here) ∙ semaphore_there; belongs = (c.home y here).0; open_still = (c.home y here).1 }
+          let here : o' ≡ Some y = sym (future_there refl) ∙ ap (get st'.futures) (eqb-true f g h) ∙ is in
+          record { entry = e'; there = ap (get st'.semaphores) (c.is_of y here) ∙ semaphore_there; belongs = (c.home y here).0; open_still = (c.home y here).1 }
 
   -- an owner that is not f owns still
   abbrev owned_still : (q n d : ℕ) (w : IsOwned st q n d) → (f ≡ w.name → ⊥) → IsOwned st' q n d
@@ -133,29 +130,29 @@ module _ (st st' : Store) (b b' s f : ℕ) (e e' : SemaphoreEntry) (o o' : Optio
 
       by_test : (t : Bool) → (s == q) ≡ t → IsOwned st' q n demand
       by_test true h =
-        let same : s ≡ q = eqb-true s q h in
-        let both : Some e' ≡ Some d = sym semaphore_there ∙ ap (get st'.semaphores) same ∙ is in
-        let one : d ≡ e' = cc in
-        at_s same (ap (λ (x : SemaphoreEntry). cores.waiting x.core.queue n) (sym one) ∙ waits)
+          let same : s ≡ q = eqb-true s q h in
+          let both : Some e' ≡ Some d = sym semaphore_there ∙ ap (get st'.semaphores) same ∙ is in
+          let one : d ≡ e' = cc in
+          at_s same (ap (λ (x : SemaphoreEntry). cores.waiting x.core.queue n) (sym one) ∙ waits)
       by_test false h =
-        let old : get st.semaphores q ≡ Some d = sym (semaphore_other q (eqb-false s q h)) ∙ is in
-        let w = linked.owned q d n demand l old waits in
-        owned_still q n demand w (elsewhere_apart q n demand w (eqb-false s q h))
+          let old : get st.semaphores q ≡ Some d = sym (semaphore_other q (eqb-false s q h)) ∙ is in
+          let w = linked.owned q d n demand l old waits in
+          owned_still q n demand w (elsewhere_apart q n demand w (eqb-false s q h))
 
   granted_all : (q : ℕ) (d : SemaphoreEntry) (n demand : ℕ) → get st'.semaphores q ≡ Some d → get d.core.granted n ≡ Some demand → IsOwned st' q n demand
   granted_all q d n demand is grants = by_test (s == q) refl
     where
       by_test : (t : Bool) → (s == q) ≡ t → IsOwned st' q n demand
       by_test true h =
-        let same : s ≡ q = eqb-true s q h in
-        let both : Some e' ≡ Some d = sym semaphore_there ∙ ap (get st'.semaphores) same ∙ is in
-        let one : d ≡ e' = cc in
-        let before = c.grants n demand (ap (λ (x : SemaphoreEntry). get x.core.granted n) (sym one) ∙ grants) in
-        let w = linked.granted s e n demand c.there before.1 in
-        subst (λ p. IsOwned st' p n demand) same (owned_still s n demand w (owner_apart n demand w before.0))
+          let same : s ≡ q = eqb-true s q h in
+          let both : Some e' ≡ Some d = sym semaphore_there ∙ ap (get st'.semaphores) same ∙ is in
+          let one : d ≡ e' = cc in
+          let before = c.grants n demand (ap (λ (x : SemaphoreEntry). get x.core.granted n) (sym one) ∙ grants) in
+          let w = linked.granted s e n demand c.there before.1 in
+          subst (λ p. IsOwned st' p n demand) same (owned_still s n demand w (owner_apart n demand w before.0))
       by_test false h =
-        let w = linked.granted q d n demand (sym (semaphore_other q (eqb-false s q h)) ∙ is) grants in
-        owned_still q n demand w (elsewhere_apart q n demand w (eqb-false s q h))
+          let w = linked.granted q d n demand (sym (semaphore_other q (eqb-false s q h)) ∙ is) grants in
+          owned_still q n demand w (elsewhere_apart q n demand w (eqb-false s q h))
 
   apart_all : (g h n : ℕ) (x y : FutureEntry) → get st'.futures g ≡ Some x → get st'.futures h ≡ Some y → x.semaphore ≡ y.semaphore → is_under x.acquire n ≡ true → is_under y.acquire n ≡ true → g ≡ h
   apart_all g h n x y isx isy same ux uy = by_tests (f == g) (f == h) refl refl
@@ -166,35 +163,35 @@ module _ (st st' : Store) (b b' s f : ℕ) (e e' : SemaphoreEntry) (o o' : Optio
       by_tests : (t u : Bool) → (f == g) ≡ t → (f == h) ≡ u → g ≡ h
       by_tests true true p q = sym (eqb-true f g p) ∙ eqb-true f h q
       by_tests true false p q =
-        let here = mine g x (eqb-true f g p) isx in
-        absurd (c.alone h n x y here (eqb-false f h q) (sym (future_other h (eqb-false f h q)) ∙ isy) (sym same ∙ c.is_of x here) ux uy)
+          let here = mine g x (eqb-true f g p) isx in
+          absurd (c.alone h n x y here (eqb-false f h q) (sym (future_other h (eqb-false f h q)) ∙ isy) (sym same ∙ c.is_of x here) ux uy)
       by_tests false true p q =
-        let here = mine h y (eqb-true f h q) isy in
-        absurd (c.alone g n y x here (eqb-false f g p) (sym (future_other g (eqb-false f g p)) ∙ isx) (same ∙ c.is_of y here) uy ux)
+          let here = mine h y (eqb-true f h q) isy in
+          absurd (c.alone g n y x here (eqb-false f g p) (sym (future_other g (eqb-false f g p)) ∙ isx) (same ∙ c.is_of y here) uy ux)
       by_tests false false p q =
-        linked.apart g h n x y (sym (future_other g (eqb-false f g p)) ∙ isx) (sym (future_other h (eqb-false f h q)) ∙ isy) same ux uy
+          linked.apart g h n x y (sym (future_other g (eqb-false f g p)) ∙ isx) (sym (future_other h (eqb-false f h q)) ∙ isy) same ux uy
 
   below_all : (g : ℕ) (y : FutureEntry) → get st'.futures g ≡ Some y → g < b'
   below_all g y is = by_test (f == g) refl
     where
       by_test : (t : Bool) → (f == g) ≡ t → g < b'
       by_test true h =
-        let same : f ≡ g = eqb-true f g h in
-        let small : f < b' = c.inside y (sym (future_there refl) ∙ ap (get st'.futures) same ∙ is) in
-        omega arith
+          let same : f ≡ g = eqb-true f g h in
+          let small : f < b' = c.inside y (sym (future_there refl) ∙ ap (get st'.futures) same ∙ is) in
+          omega arith
       by_test false h =
-        let small : g < b = linked.below g y (sym (future_other g (eqb-false f g h)) ∙ is) in
-        let more : b ≤ b' = c.rises in
-        omega arith
+          let small : g < b = linked.below g y (sym (future_other g (eqb-false f g h)) ∙ is) in
+          let more : b ≤ b' = c.rises in
+          omega arith
 
   numbered_all : (q : ℕ) (d : SemaphoreEntry) → get st'.semaphores q ≡ Some d → IsNumbered d.core
   numbered_all q d is = by_test (s == q) refl
     where
       by_test : (t : Bool) → (s == q) ≡ t → IsNumbered d.core
       by_test true h =
-        let both : Some e' ≡ Some d = sym semaphore_there ∙ ap (get st'.semaphores) (eqb-true s q h) ∙ is in
-        let one : e' ≡ d = cc in
-        subst (λ (x : SemaphoreEntry). IsNumbered x.core) one c.numbered
+          let both : Some e' ≡ Some d = sym semaphore_there ∙ ap (get st'.semaphores) (eqb-true s q h) ∙ is in
+          let one : e' ≡ d = cc in
+          subst (λ (x : SemaphoreEntry). IsNumbered x.core) one c.numbered
       by_test false h = linked.numbered q d (sym (semaphore_other q (eqb-false s q h)) ∙ is)
 
   pub linked_after : IsLinked st' b'
@@ -243,16 +240,15 @@ module _ (st st' : Store) (b b' s f : ℕ) (e e' : SemaphoreEntry) (o o' : Optio
   future_kept : (g : ℕ) (y : FutureEntry) → (f ≡ g → ⊥) → get st.futures g ≡ Some y → future_of st'.semaphores y ≡ future_of st.semaphores y
   future_kept g y apart is = by_test (s == y.semaphore) refl
     where
-
       by_test : (t : Bool) → (s == y.semaphore) ≡ t → future_of st'.semaphores y ≡ future_of st.semaphores y
       by_test false h = λ i. record { semaphore = y.semaphore; demand = demand_of y.acquire; plain = y.plain; forgets = y.forgets; stage = stage_of y.acquire (queue_in (semaphore_other y.semaphore (eqb-false s y.semaphore h) i)) }
       by_test true h =
-        let mine : s ≡ y.semaphore = eqb-true s y.semaphore h in
-        let now : get st'.semaphores y.semaphore ≡ Some e' = ap (get st'.semaphores) (sym mine) ∙ semaphore_there in
-        let then : get st.semaphores y.semaphore ≡ Some e = ap (get st.semaphores) (sym mine) ∙ c.there in
-        let same : stage_of y.acquire (queue_in (get st'.semaphores y.semaphore)) ≡ stage_of y.acquire (queue_in (get st.semaphores y.semaphore)) =
+          let mine : s ≡ y.semaphore = eqb-true s y.semaphore h in
+          let now : get st'.semaphores y.semaphore ≡ Some e' = ap (get st'.semaphores) (sym mine) ∙ semaphore_there in
+          let then : get st.semaphores y.semaphore ≡ Some e = ap (get st.semaphores) (sym mine) ∙ c.there in
+          let same : stage_of y.acquire (queue_in (get st'.semaphores y.semaphore)) ≡ stage_of y.acquire (queue_in (get st.semaphores y.semaphore)) =
           ap (λ d. stage_of y.acquire (queue_in d)) now ∙ stage_kept g y y.acquire refl apart is (sym mine) ∙ sym (ap (λ d. stage_of y.acquire (queue_in d)) then) in
-        λ i. record { semaphore = y.semaphore; demand = demand_of y.acquire; plain = y.plain; forgets = y.forgets; stage = same i }
+          λ i. record { semaphore = y.semaphore; demand = demand_of y.acquire; plain = y.plain; forgets = y.forgets; stage = same i }
 
   futures_at : (g : ℕ) → get (hall_of st' b').futures g ≡ cond (f == g) (option_map (future_of st'.semaphores) o') (get (hall_of st b).futures g)
   futures_at g =

@@ -1,14 +1,13 @@
 -- what stands under each number of a core's queue, after each change of it
-use Rattle.std.proofs.Common.{◌≡◌, ◌≢◌, ◌⊎◌, inl, inr, ℕ, ◌+◌, ◌-◌, ◌<◌, ◌≤◌, ◌==◌, ◌||◌, ◌++◌, Bool, true, false, cond, List, [], ◌∷◌, map, filter, min, nat_lt, refl, ap, sym, subst, ◌∙◌, arith, Option, Some, None, if◌then◌else◌}
+use Rattle.std.proofs.Common.{◌≡◌, ◌⊎◌, inl, inr, ℕ, ◌+◌, ◌-◌, ◌≤◌, ◌==◌, ◌||◌, ◌++◌, Bool, true, false, cond, List, [], ◌∷◌, map, filter, min, nat_lt, refl, ap, sym, subst, ◌∙◌, arith, Option, Some, None, if◌then◌else◌}
 use Rattle.std.specs.List.{AllByRecursion}
-use Rattle.std.specs.Option.{option_map}
 use Rattle.std.specs.Ordering.{nat_cmp}
-use Rattle.std.specs.FinMap.{FinMap, get, insert, remove}
+use Rattle.std.specs.FinMap.{FinMap, get, insert}
 use Rattle.std.proofs.lemmas.Bool.{eqb-true, eqb-false, eq-eqb, ne_eqb}
 use Rattle.std.proofs.lemmas.Bool.Decides.{nat_tests}
 use Rattle.std.proofs.lemmas.List.Sums.{sum_by-cons}
 use Rattle.mea_base.specs.Queue.{lacks_after, waiting_after, granted_in}
-use Rattle.mea_base.proofs.Totals.{get_inserted, get_removed}
+use Rattle.mea_base.proofs.Totals.{get_inserted}
 use Rattle.mea_sem_core.specs.Core.{Waiter, Acquires, Owes, waiting, waker_under, AreApart, granting, debts, debt_of}
 use Rattle.mea_sem_core.specs.Calls.{with_waker, without_acquire, with_debt}
 
@@ -77,8 +76,8 @@ waiting-push ((Acquires k e v, j) ∷ q) m d w l n h =
     let parts = parts_of (k == m) refl h in
     ap (λ o. cond (k == n) (Some (e, j)) o) (waiting-push q m d w l n parts.1)
     ∙ by_same k n (Some (e, j)) (cond (m == n) (Some (d, l)) (waiting q n)) (cond (m == n) (Some (d, l)) (cond (k == n) (Some (e, j)) (waiting q n)))
-      (λ same. sym (at_apart m n (Some (d, l)) (cond (k == n) (Some (e, j)) (waiting q n)) (λ eq. parts.0 (same ∙ sym eq)) ∙ at_same k n (Some (e, j)) (waiting q n) same))
-      (λ apart. ap (λ o. cond (m == n) (Some (d, l)) o) (sym (at_apart k n (Some (e, j)) (waiting q n) apart)))
+    (λ same. sym (at_apart m n (Some (d, l)) (cond (k == n) (Some (e, j)) (waiting q n)) (λ eq. parts.0 (same ∙ sym eq)) ∙ at_same k n (Some (e, j)) (waiting q n) same))
+    (λ apart. ap (λ o. cond (m == n) (Some (d, l)) o) (sym (at_apart k n (Some (e, j)) (waiting q n) apart)))
   where
     parts_of : (b : Bool) → (k == m) ≡ b → cond b (Some (e, j)) (waiting q m) ≡ None → (k ≡ m → ⊥) × (waiting q m ≡ None)
     parts_of true t h = absurd (cc)
@@ -91,8 +90,8 @@ waker-push ((Acquires k e v, j) ∷ q) m d w l n h =
     let parts = parts_of (k == m) refl h in
     ap (λ o. cond (k == n) (Some v) o) (waker-push q m d w l n parts.1)
     ∙ by_same k n (Some v) (cond (m == n) (Some w) (waker_under q n)) (cond (m == n) (Some w) (cond (k == n) (Some v) (waker_under q n)))
-      (λ same. sym (at_apart m n (Some w) (cond (k == n) (Some v) (waker_under q n)) (λ eq. parts.0 (same ∙ sym eq)) ∙ at_same k n (Some v) (waker_under q n) same))
-      (λ apart. ap (λ o. cond (m == n) (Some w) o) (sym (at_apart k n (Some v) (waker_under q n) apart)))
+    (λ same. sym (at_apart m n (Some w) (cond (k == n) (Some v) (waker_under q n)) (λ eq. parts.0 (same ∙ sym eq)) ∙ at_same k n (Some v) (waker_under q n) same))
+    (λ apart. ap (λ o. cond (m == n) (Some w) o) (sym (at_apart k n (Some v) (waker_under q n) apart)))
   where
     parts_of : (b : Bool) → (k == m) ≡ b → cond b (Some (e, j)) (waiting q m) ≡ None → (k ≡ m → ⊥) × (waiting q m ≡ None)
     parts_of true t h = absurd (cc)
@@ -115,8 +114,8 @@ waker-with_waker [] m w n apart = refl
 waker-with_waker ((Acquires k d v, l) ∷ q) m w n apart =
     ap (λ o. cond (k == n) (Some (if k == m then w else v)) o) (waker-with_waker q m w n apart)
     ∙ by_same k n (Some (if k == m then w else v)) (waker_under q n) (cond (k == n) (Some v) (waker_under q n))
-      (λ same. ap (λ (x : ℕ). Some x) (at_apart k m w v (λ e. apart (sym e ∙ same))) ∙ sym (at_same k n (Some v) (waker_under q n) same))
-      (λ differ. sym (at_apart k n (Some v) (waker_under q n) differ))
+    (λ same. ap (λ (x : ℕ). Some x) (at_apart k m w v (λ e. apart (sym e ∙ same))) ∙ sym (at_same k n (Some v) (waker_under q n) same))
+    (λ differ. sym (at_apart k n (Some v) (waker_under q n) differ))
 waker-with_waker ((Owes, l) ∷ q) m w n apart = waker-with_waker q m w n apart
 
 pub waker-with_waker_same : (q : Queue) (m w : ℕ) (p : ℕ × ℕ) → waiting q m ≡ Some p → waker_under (with_waker q m w) m ≡ Some w
@@ -383,8 +382,8 @@ granting-among g (Acquires m e w ∷ ws) n d all h = by_rest (is_among ws n) ref
     by_rest : (b : Bool) → is_among ws n ≡ b → (is_among ws n ≡ true → get (granting (insert g m e) ws) n ≡ Some d) → get (granting (insert g m e) ws) n ≡ Some d
     by_rest true t rest = rest t
     by_rest false t rest =
-      let here : (m == n) ≡ true = first_true (m == n) (is_among ws n) h t in
-      granting-other (insert g m e) ws n t ∙ get_inserted g m n e ∙ at_same m n (Some e) (get g n) (eqb-true m n here) ∙ ap (λ (x : ℕ). Some x) (all.0 (eqb-true m n here))
+        let here : (m == n) ≡ true = first_true (m == n) (is_among ws n) h t in
+        granting-other (insert g m e) ws n t ∙ get_inserted g m n e ∙ at_same m n (Some e) (get g n) (eqb-true m n here) ∙ ap (λ (x : ℕ). Some x) (all.0 (eqb-true m n here))
 granting-among g (Owes ∷ ws) n d all h = granting-among g ws n d all h
 
 -- each of a queue that has the number has this demand

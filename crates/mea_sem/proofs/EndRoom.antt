@@ -1,6 +1,6 @@
 -- an end makes at most the wakers of the queue ready
-use Rattle.std.proofs.Common.{◌≡◌, ◌⊎◌, inl, inr, ℕ, ◌+◌, ◌-◌, ◌<◌, ◌≤◌, ◌==◌, ◌++◌, Bool, true, false, cond, List, [], ◌∷◌, length, refl, ap, sym, subst, ◌∙◌, arith, Option, Some, None}
-use Rattle.std.specs.FinMap.{get, remove}
+use Rattle.std.proofs.Common.{◌≡◌, inl, inr, ℕ, ◌+◌, ◌-◌, ◌≤◌, ◌==◌, ◌++◌, true, false, cond, List, [], ◌∷◌, length, ap, ◌∙◌, arith, Some}
+use Rattle.std.specs.FinMap.{remove}
 use Rattle.mea_base.specs.Queue.{granted_in}
 use Rattle.mea_sem_core.specs.declared.acquire.Acquire.{Acquire}
 use Rattle.mea_sem_core.specs.declared.acquire.Acquire.TheVariants as acquires

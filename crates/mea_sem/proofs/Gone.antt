@@ -1,9 +1,8 @@
 -- a future that leaves while everybody who waits stays where they are
-use Rattle.std.proofs.Common.{◌≡◌, ◌≢◌, ◌⊎◌, inl, inr, ℕ, ◌+◌, ◌<◌, ◌≤◌, ◌==◌, Bool, true, false, cond, List, [], ◌∷◌, refl, ap, sym, subst, ◌∙◌, arith, Option, Some, None}
+use Rattle.std.proofs.Common.{◌≡◌, inl, inr, ℕ, ◌+◌, ◌≤◌, ◌==◌, Bool, true, false, cond, refl, ap, sym, subst, ◌∙◌, arith, Option, Some, None}
 use Rattle.std.specs.Option.{option_map}
-use Rattle.std.specs.Ordering.{nat_cmp}
-use Rattle.std.specs.FinMap.{FinMap, get, insert, remove}
-use Rattle.mea_sem_model.specs.Hall.{Hall, Semaphore, Future, Stage, New, Waiting, Granted, Permit, Who}
+use Rattle.std.specs.FinMap.{get, insert, remove}
+use Rattle.mea_sem_model.specs.Hall.{Stage}
 use Rattle.mea_sem_core.specs.declared.acquire.Acquire.{Acquire}
 use Rattle.mea_sem_core.specs.declared.acquire.Acquire.TheVariants as acquires
 use Rattle.mea_sem_core.specs.Acquire.{demand_of}
@@ -11,7 +10,7 @@ use Rattle.mea_sem_core.specs.Core as cores
 use Rattle.mea_sem_core.specs.Calls.{Belongs}
 use Rattle.mea_sem.specs.declared.entries.SemaphoreEntry.{SemaphoreEntry}
 use Rattle.mea_sem.specs.declared.entries.FutureEntry.{FutureEntry}
-use Rattle.mea_sem.specs.Store.{Store, has, queue_of, queue_in, semaphore_of, stage_of, stage_under, future_of, hall_of, IsNumbered, IsLinked}
+use Rattle.mea_sem.specs.Store.{Store, has, queue_of, queue_in, stage_of, future_of, hall_of, IsNumbered, IsLinked}
 use Rattle.std.proofs.lemmas.Bool.{eqb-true, eq-eqb, and_from, and_parts}
 use Rattle.std.proofs.Common.{◌&&◌}
 use Rattle.mea_base.proofs.Totals.{get_removed}
@@ -85,7 +84,7 @@ module _ (st st' : Store) (next i s f : ℕ) (x : FutureEntry) (e e' : Semaphore
   pub hall_gone : hall_of st' (i + 1) ≡ record { semaphores = insert (hall_of st next).semaphores s (record { free = e'.core.free; queue = queue_of st.futures next s e.core.queue; made = e'.made; released = e'.released; forgotten = e'.forgotten; named = e'.named }); futures = remove (hall_of st next).futures f; permits = st'.permits }
   hall_gone = λ j. record {
     semaphores = (semaphores_after st st' next (i + 1) s f e e' (Some x) None linked changes_gone
-      ∙ ap (λ p. insert (hall_of st next).semaphores s (record { free = e'.core.free; queue = p; made = e'.made; released = e'.released; forgotten = e'.forgotten; named = e'.named }))
+        ∙ ap (λ p. insert (hall_of st next).semaphores s (record { free = e'.core.free; queue = p; made = e'.made; released = e'.released; forgotten = e'.forgotten; named = e'.named }))
         (ap (queue_of st'.futures (i + 1) s) c.queue ∙ queue_kept st st' next (i + 1) s f e e' (Some x) None linked changes_gone c.idle)) j;
     futures = futures_gone st st' next (i + 1) s f e e' (Some x) None linked changes_gone refl j;
     permits = st'.permits;
@@ -98,17 +97,17 @@ pub leaves_new : (st st' : Store) (s f d : ℕ) (x : FutureEntry) (e e' : Semaph
     → get st.futures f ≡ Some x → ((g : ℕ) → get st'.futures g ≡ cond (f == g) None (get st.futures g)) → x.semaphore ≡ s → x.acquire ≡ acquires.New d
     → e'.core.queue ≡ e.core.queue → e'.core.granted ≡ e.core.granted → Leaves st st' s f x e e'
 leaves_new st st' s f d x e e' there semaphores was futures mine acquire queue granted = record {
-    there = there;
-    semaphores = semaphores;
-    was = was;
-    futures = futures;
-    is_of = mine;
-    queue = queue;
-    idle = λ n d l is. not_under n;
-    granted = λ n free. ap (λ g. get g n) granted;
-    freed = λ n under. absurd (let no = not_under n in cc);
-    none_more = λ n none. ap (λ g. get g n) granted ∙ none;
-  }
+  there = there;
+  semaphores = semaphores;
+  was = was;
+  futures = futures;
+  is_of = mine;
+  queue = queue;
+  idle = λ n d l is. not_under n;
+  granted = λ n free. ap (λ g. get g n) granted;
+  freed = λ n under. absurd (let no = not_under n in cc);
+  none_more = λ n none. ap (λ g. get g n) granted ∙ none;
+}
   where
     both_false : (t : Bool) → (t && false) ≡ false
     both_false true = refl
@@ -122,17 +121,17 @@ pub leaves_granted : (st st' : Store) (next s f d n : ℕ) (x : FutureEntry) (e 
     → get st.futures f ≡ Some x → ((g : ℕ) → get st'.futures g ≡ cond (f == g) None (get st.futures g)) → x.semaphore ≡ s → x.acquire ≡ acquires.Queued d n → get e.core.granted n ≡ Some d
     → e'.core.queue ≡ e.core.queue → e'.core.granted ≡ remove e.core.granted n → Leaves st st' s f x e e'
 leaves_granted st st' next s f d n x e e' linked there semaphores was futures mine acquire is_granted queue granted = record {
-    there = there;
-    semaphores = semaphores;
-    was = was;
-    futures = futures;
-    is_of = mine;
-    queue = queue;
-    idle = λ m b l is. not_under m b l is (has s m (Some x)) refl;
-    granted = λ m free. ap (λ g. get g m) granted ∙ get_removed e.core.granted n m ∙ at_apart n m None (get e.core.granted m) (λ same. absurd (let here = under m same in cc));
-    freed = λ m mine_too. ap (λ g. get g m) granted ∙ get_removed e.core.granted n m ∙ at_same n m None (get e.core.granted m) (eqb-true n m (ap (λ a. is_under a m) (sym acquire) ∙ (and_parts _ _ mine_too).1));
-    none_more = λ m none. ap (λ g. get g m) granted ∙ get_removed e.core.granted n m ∙ still (n == m) (get e.core.granted m) none;
-  }
+  there = there;
+  semaphores = semaphores;
+  was = was;
+  futures = futures;
+  is_of = mine;
+  queue = queue;
+  idle = λ m b l is. not_under m b l is (has s m (Some x)) refl;
+  granted = λ m free. ap (λ g. get g m) granted ∙ get_removed e.core.granted n m ∙ at_apart n m None (get e.core.granted m) (λ same. absurd (let here = under m same in cc));
+  freed = λ m mine_too. ap (λ g. get g m) granted ∙ get_removed e.core.granted n m ∙ at_same n m None (get e.core.granted m) (eqb-true n m (ap (λ a. is_under a m) (sym acquire) ∙ (and_parts _ _ mine_too).1));
+  none_more = λ m none. ap (λ g. get g m) granted ∙ get_removed e.core.granted n m ∙ still (n == m) (get e.core.granted m) none;
+}
   where
     still : (t : Bool) (o : Option ℕ) → o ≡ None → cond t None o ≡ None
     still true o h = refl
@@ -144,7 +143,7 @@ leaves_granted st st' next s f d n x e e' linked there semaphores was futures mi
     not_under : (m b l : ℕ) → cores.waiting e.core.queue m ≡ Some (b, l) → (t : Bool) → has s m (Some x) ≡ t → t ≡ false
     not_under m b l is false h = refl
     not_under m b l is true h =
-      let parts = and_parts _ _ h in
-      let same : n ≡ m = eqb-true n m (ap (λ a. is_under a m) (sym acquire) ∙ parts.1) in
-      let none : get e.core.granted m ≡ None = (linked.numbered s e there).granted_apart m (λ none. absurd (let no : None ≡ Some (b, l) = sym none ∙ is in cc)) in
-      absurd (let some : get e.core.granted m ≡ Some d = ap (get e.core.granted) (sym same) ∙ is_granted in cc)
+        let parts = and_parts _ _ h in
+        let same : n ≡ m = eqb-true n m (ap (λ a. is_under a m) (sym acquire) ∙ parts.1) in
+        let none : get e.core.granted m ≡ None = (linked.numbered s e there).granted_apart m (λ none. absurd (let no : None ≡ Some (b, l) = sym none ∙ is in cc)) in
+        absurd (let some : get e.core.granted m ≡ Some d = ap (get e.core.granted) (sym same) ∙ is_granted in cc)

@@ -1,12 +1,11 @@
 -- as many numbers of a core are granted as its semaphore has granted futures
-use Rattle.std.proofs.Common.{◌≡◌, ◌≢◌, ◌⊎◌, inl, inr, ℕ, ◌==◌, Bool, true, false, cond, Option, Some, None, refl, ap, sym, subst, ◌∙◌, arith}
-use Rattle.std.specs.Ordering.{nat_cmp}
+use Rattle.std.proofs.Common.{◌≡◌, ◌⊎◌, inl, inr, ℕ, ◌==◌, Bool, true, false, cond, Option, Some, None, refl, ap, sym, subst, ◌∙◌}
 use Rattle.std.specs.Option.{option_map}
-use Rattle.std.specs.FinMap.{FinMap, get, len}
+use Rattle.std.specs.FinMap.{get, len}
 use Rattle.std.proofs.lemmas.Bool.{eqb-true, eq-eqb}
-use Rattle.mea_base.specs.Totals.{total, weight}
+use Rattle.mea_base.specs.Totals.{weight}
 use Rattle.mea_base.proofs.Totals.{total-alike}
-use Rattle.mea_sem_model.specs.Hall.{Future, Stage}
+use Rattle.mea_sem_model.specs.Hall.{Future}
 use Rattle.mea_sem_core.specs.declared.acquire.Acquire.{Acquire}
 use Rattle.mea_sem_core.specs.declared.acquire.Acquire.TheVariants as acquires
 use Rattle.mea_sem_core.specs.Core as cores
@@ -16,7 +15,7 @@ use Rattle.mea_sem.specs.declared.entries.FutureEntry.{FutureEntry}
 use Rattle.mea_sem.specs.Store.{Store, is_under, stage_of, stage_under, queue_in, future_of, hall_of, IsLinked}
 use Rattle.mea_sem.specs.StandsFor.{one_if_granted, granted_futures}
 use Rattle.mea_sem.proofs.Cores.{waker-none, waker-some}
-use Rattle.mea_sem.proofs.Matching.{Counts, Matches, matches_count}
+use Rattle.mea_sem.proofs.Matching.{Matches, matches_count}
 use Rattle.mea_sem.proofs.Names.{get-seen}
 
 abbrev number_of : Acquire → ℕ

@@ -1,12 +1,12 @@
 -- an event that changes one semaphore keeps what a hall keeps to
-use Rattle.std.proofs.Common.{◌≡◌, ℕ, ◌+◌, ◌*◌, ◌^◌, ◌<◌, ◌≤◌, ◌==◌, Bool, true, false, cond, List, refl, ap, sym, subst, ◌∙◌, arith, Option, Some, None, []}
-use Rattle.std.specs.FinMap.{FinMap, get, insert}
+use Rattle.std.proofs.Common.{◌≡◌, ℕ, ◌+◌, ◌^◌, ◌<◌, ◌≤◌, ◌==◌, Bool, true, false, cond, refl, ap, sym, subst, ◌∙◌, arith, Some, None, []}
+use Rattle.std.specs.FinMap.{get, insert}
 use Rattle.std.proofs.lemmas.Bool.{eqb-true, eqb-false}
 use Rattle.mea_base.specs.Totals.{total, weight}
 use Rattle.mea_base.proofs.NamedMaps.{same_named}
 use Rattle.mea_base.proofs.Totals.{get_inserted, total-insert}
 use Rattle.mea_sem_model.specs.declared.event.SemEvent.{SemEvent}
-use Rattle.mea_sem_model.specs.Hall.{Hall, held, plain_things}
+use Rattle.mea_sem_model.specs.Hall.{Hall}
 use Rattle.mea_sem_model.specs.Cause.{cause_of}
 use Rattle.mea_sem_model.specs.Step.{step}
 use Rattle.mea_sem_model.specs.Valid.{IsValid, IsBelow, IsAccounted, Fits}
@@ -80,10 +80,10 @@ module _ (st st' : Store) (w sp next i s : ℕ) (event : SemEvent) (e e' : Semap
 
       by_test : (q : ℕ) (d : SemaphoreEntry) → get st'.semaphores q ≡ Some d → (t : Bool) → (s == q) ≡ t → IsKeptEntry (step (hall_of st next) i event).hall (i + 1) q d
       by_test q d is true h =
-        let mine : s ≡ q = eqb-true s q h in
-        let both : Some e' ≡ Some d = sym (at_same s q (Some e') (get st.semaphores q) mine) ∙ sym (semaphores q) ∙ is in
-        let one : e' ≡ d = cc in
-        subst (λ (x : SemaphoreEntry). IsKeptEntry (step (hall_of st next) i event).hall (i + 1) q x) one (subst (λ x. IsKeptEntry (step (hall_of st next) i event).hall (i + 1) x e') mine here)
+          let mine : s ≡ q = eqb-true s q h in
+          let both : Some e' ≡ Some d = sym (at_same s q (Some e') (get st.semaphores q) mine) ∙ sym (semaphores q) ∙ is in
+          let one : e' ≡ d = cc in
+          subst (λ (x : SemaphoreEntry). IsKeptEntry (step (hall_of st next) i event).hall (i + 1) q x) one (subst (λ x. IsKeptEntry (step (hall_of st next) i event).hall (i + 1) x e') mine here)
       by_test q d is false h = other q d (eqb-false s q h) (k.each q d (sym (at_apart s q (Some e') (get st.semaphores q) (eqb-false s q h)) ∙ sym (semaphores q) ∙ is))
 
       inserted : st'.semaphores ≡ insert st.semaphores s e'
@@ -91,11 +91,11 @@ module _ (st st' : Store) (w sp next i s : ℕ) (event : SemEvent) (e e' : Semap
 
       count_now : w' ≡ total (λ q (x : SemaphoreEntry). wakers_in x.core.queue) st'.semaphores
       count_now =
-        let sums = total-insert (λ q (x : SemaphoreEntry). wakers_in x.core.queue) st.semaphores s e' in
-        let mine : weight (λ q (x : SemaphoreEntry). wakers_in x.core.queue) s (get st.semaphores s) ≡ wakers_in e.core.queue = ap (weight (λ q (x : SemaphoreEntry). wakers_in x.core.queue) s) there in
-        let now : total (λ q (x : SemaphoreEntry). wakers_in x.core.queue) st'.semaphores ≡ total (λ q (x : SemaphoreEntry). wakers_in x.core.queue) (insert st.semaphores s e') = ap (total (λ q (x : SemaphoreEntry). wakers_in x.core.queue)) inserted in
-        let before = k.counted in
-        omega (arith, sums, mine, now, before, registered)
+          let sums = total-insert (λ q (x : SemaphoreEntry). wakers_in x.core.queue) st.semaphores s e' in
+          let mine : weight (λ q (x : SemaphoreEntry). wakers_in x.core.queue) s (get st.semaphores s) ≡ wakers_in e.core.queue = ap (weight (λ q (x : SemaphoreEntry). wakers_in x.core.queue) s) there in
+          let now : total (λ q (x : SemaphoreEntry). wakers_in x.core.queue) st'.semaphores ≡ total (λ q (x : SemaphoreEntry). wakers_in x.core.queue) (insert st.semaphores s e') = ap (total (λ q (x : SemaphoreEntry). wakers_in x.core.queue)) inserted in
+          let before = k.counted in
+          omega (arith, sums, mine, now, before, registered)
 
   -- the same, where the outcome of the event is known under another name
   pub settled_as : (h' : Hall) → (step (hall_of st next) i event).hall ≡ h' → (w' sp' a b p r : ℕ) → get st.semaphores s ≡ Some e → ((q : ℕ) → get st'.semaphores q ≡ cond (s == q) (Some e') (get st.semaphores q))

@@ -1,19 +1,17 @@
 -- a future that leaves the queue
-use Rattle.std.proofs.Common.{◌≡◌, ◌≢◌, ◌⊎◌, inl, inr, ℕ, ◌+◌, ◌-◌, ◌<◌, ◌≤◌, ◌==◌, ◌&&◌, Bool, true, false, not, cond, List, [], ◌∷◌, map, filter, refl, ap, sym, subst, ◌∙◌, arith, Option, Some, None, sum_by}
+use Rattle.std.proofs.Common.{◌≡◌, inl, inr, ℕ, ◌+◌, ◌≤◌, ◌==◌, Bool, true, false, not, cond, [], ◌∷◌, map, refl, ap, sym, subst, ◌∙◌, arith, Option, Some, None}
 use Rattle.std.specs.List.{AllByRecursion}
-use Rattle.std.specs.Option.{option_map}
-use Rattle.std.specs.Ordering.{nat_cmp}
-use Rattle.std.specs.FinMap.{FinMap, get, insert, remove}
+use Rattle.std.specs.FinMap.{get, insert, remove}
 use Rattle.std.proofs.lemmas.List.Sums.{sum_by-cons}
 use Rattle.std.proofs.lemmas.Bool.{eqb-true, eqb-false, eq-eqb, and_from, and_parts}
-use Rattle.mea_sem_model.specs.Hall.{Hall, Semaphore, Future, Who, Waiter, Debt, names, lack_of}
+use Rattle.mea_sem_model.specs.Hall.{Who, Waiter, Debt, names, lack_of}
 use Rattle.mea_sem_model.specs.Step.{without}
 use Rattle.mea_sem_core.specs.declared.acquire.Acquire.TheVariants as acquires
 use Rattle.mea_sem_core.specs.Core as cores
 use Rattle.mea_sem_core.specs.Calls.{Belongs, without_acquire}
 use Rattle.mea_sem.specs.declared.entries.SemaphoreEntry.{SemaphoreEntry}
 use Rattle.mea_sem.specs.declared.entries.FutureEntry.{FutureEntry}
-use Rattle.mea_sem.specs.Store.{Store, is_under, has, who_of, queue_of, semaphore_of, hall_of, IsNumbered, IsLinked}
+use Rattle.mea_sem.specs.Store.{Store, is_under, has, who_of, queue_of, hall_of, IsNumbered, IsLinked}
 use Rattle.mea_sem.specs.Kept.{wakers_in}
 use Rattle.mea_sem.proofs.Cores.{Queue, IsAt, all_at, all_by, at_apart, is_number, waiting-without, waker-without, AreApart-without}
 use Rattle.mea_sem.proofs.PourHalls.{names-number}
@@ -32,8 +30,8 @@ without_seen who f n ((cores.Acquires m d w, l) ∷ q) h =
     ∙ ap (λ t. cond (not t) ((who (cores.Acquires m d w), l) ∷ without (map {A = cores.Waiter ℕ × ℕ} {B = Who × ℕ} (λ e. (who e.0, e.1)) q) f) (without (map {A = cores.Waiter ℕ × ℕ} {B = Who × ℕ} (λ e. (who e.0, e.1)) q) f)) (sym h.0)
   where
     by_test : (t : Bool) → map {A = cores.Waiter ℕ × ℕ} {B = Who × ℕ} (λ e. (who e.0, e.1)) (without_acquire q n) ≡ without (map {A = cores.Waiter ℕ × ℕ} {B = Who × ℕ} (λ e. (who e.0, e.1)) q) f
-      → map {A = cores.Waiter ℕ × ℕ} {B = Who × ℕ} (λ e. (who e.0, e.1)) (cond t (without_acquire q n) ((cores.Acquires m d w, l) ∷ without_acquire q n))
-      ≡ cond (not t) ((who (cores.Acquires m d w), l) ∷ without (map {A = cores.Waiter ℕ × ℕ} {B = Who × ℕ} (λ e. (who e.0, e.1)) q) f) (without (map {A = cores.Waiter ℕ × ℕ} {B = Who × ℕ} (λ e. (who e.0, e.1)) q) f)
+        → map {A = cores.Waiter ℕ × ℕ} {B = Who × ℕ} (λ e. (who e.0, e.1)) (cond t (without_acquire q n) ((cores.Acquires m d w, l) ∷ without_acquire q n))
+        ≡ cond (not t) ((who (cores.Acquires m d w), l) ∷ without (map {A = cores.Waiter ℕ × ℕ} {B = Who × ℕ} (λ e. (who e.0, e.1)) q) f) (without (map {A = cores.Waiter ℕ × ℕ} {B = Who × ℕ} (λ e. (who e.0, e.1)) q) f)
     by_test true rest = rest
     by_test false rest = ap (λ t. (who (cores.Acquires m d w), l) ∷ t) rest
 without_seen who f n ((cores.Owes, l) ∷ q) h =
@@ -50,11 +48,11 @@ lack_absent who f n [] h none = refl
 lack_absent who f n ((cores.Acquires m d w, l) ∷ q) h none = by_test (m == n) refl none (λ rest. lack_absent who f n q h.1 rest)
   where
     by_test : (t : Bool) → (m == n) ≡ t → cond t (Some (d, l)) (cores.waiting q n) ≡ None → (cores.waiting q n ≡ None → lack_of (map {A = cores.Waiter ℕ × ℕ} {B = Who × ℕ} (λ e. (who e.0, e.1)) q) f ≡ 0)
-      → lack_of ((who (cores.Acquires m d w), l) ∷ map {A = cores.Waiter ℕ × ℕ} {B = Who × ℕ} (λ e. (who e.0, e.1)) q) f ≡ 0
+        → lack_of ((who (cores.Acquires m d w), l) ∷ map {A = cores.Waiter ℕ × ℕ} {B = Who × ℕ} (λ e. (who e.0, e.1)) q) f ≡ 0
     by_test true e none rest = absurd (cc)
     by_test false e none rest =
-      let here : cond (names (who (cores.Acquires m d w)) f) l 0 ≡ 0 = ap (λ t. cond t l 0) (h.0 ∙ e) in
-      omega (arith, here, rest none, sum_by-cons {X = Who × ℕ} (λ x. cond (names x.0 f) x.1 0) (who (cores.Acquires m d w), l) (map {A = cores.Waiter ℕ × ℕ} {B = Who × ℕ} (λ x. (who x.0, x.1)) q))
+        let here : cond (names (who (cores.Acquires m d w)) f) l 0 ≡ 0 = ap (λ t. cond t l 0) (h.0 ∙ e) in
+        omega (arith, here, rest none, sum_by-cons {X = Who × ℕ} (λ x. cond (names x.0 f) x.1 0) (who (cores.Acquires m d w), l) (map {A = cores.Waiter ℕ × ℕ} {B = Who × ℕ} (λ x. (who x.0, x.1)) q))
 lack_absent who f n ((cores.Owes, l) ∷ q) h none =
     let here : cond (names (who cores.Owes) f) l 0 ≡ 0 = ap (λ t. cond t l 0) h.0 in
     omega (arith, here, lack_absent who f n q h.1 none, sum_by-cons {X = Who × ℕ} (λ x. cond (names x.0 f) x.1 0) (who cores.Owes, l) (map {A = cores.Waiter ℕ × ℕ} {B = Who × ℕ} (λ x. (who x.0, x.1)) q))
@@ -64,15 +62,15 @@ lack_seen who f n d k [] h apart is = absurd (cc)
 lack_seen who f n d k ((cores.Acquires m b w, l) ∷ q) h apart is = by_test (m == n) refl is (λ rest. lack_seen who f n d k q h.1 apart.1 rest)
   where
     by_test : (t : Bool) → (m == n) ≡ t → cond t (Some (b, l)) (cores.waiting q n) ≡ Some (d, k) → (cores.waiting q n ≡ Some (d, k) → lack_of (map {A = cores.Waiter ℕ × ℕ} {B = Who × ℕ} (λ e. (who e.0, e.1)) q) f ≡ k)
-      → lack_of ((who (cores.Acquires m b w), l) ∷ map {A = cores.Waiter ℕ × ℕ} {B = Who × ℕ} (λ e. (who e.0, e.1)) q) f ≡ k
+        → lack_of ((who (cores.Acquires m b w), l) ∷ map {A = cores.Waiter ℕ × ℕ} {B = Who × ℕ} (λ e. (who e.0, e.1)) q) f ≡ k
     by_test true e some rest =
-      let here : cond (names (who (cores.Acquires m b w)) f) l 0 ≡ l = ap (λ t. cond t l 0) (h.0 ∙ e) in
-      let mine : l ≡ k = ap second_or_none some in
-      let none : cores.waiting q n ≡ None = ap (cores.waiting q) (sym (eqb-true m n e)) ∙ apart.0 in
-      omega (arith, here, mine, lack_absent who f n q h.1 none, sum_by-cons {X = Who × ℕ} (λ x. cond (names x.0 f) x.1 0) (who (cores.Acquires m b w), l) (map {A = cores.Waiter ℕ × ℕ} {B = Who × ℕ} (λ x. (who x.0, x.1)) q))
+        let here : cond (names (who (cores.Acquires m b w)) f) l 0 ≡ l = ap (λ t. cond t l 0) (h.0 ∙ e) in
+        let mine : l ≡ k = ap second_or_none some in
+        let none : cores.waiting q n ≡ None = ap (cores.waiting q) (sym (eqb-true m n e)) ∙ apart.0 in
+        omega (arith, here, mine, lack_absent who f n q h.1 none, sum_by-cons {X = Who × ℕ} (λ x. cond (names x.0 f) x.1 0) (who (cores.Acquires m b w), l) (map {A = cores.Waiter ℕ × ℕ} {B = Who × ℕ} (λ x. (who x.0, x.1)) q))
     by_test false e some rest =
-      let here : cond (names (who (cores.Acquires m b w)) f) l 0 ≡ 0 = ap (λ t. cond t l 0) (h.0 ∙ e) in
-      omega (arith, here, rest some, sum_by-cons {X = Who × ℕ} (λ x. cond (names x.0 f) x.1 0) (who (cores.Acquires m b w), l) (map {A = cores.Waiter ℕ × ℕ} {B = Who × ℕ} (λ x. (who x.0, x.1)) q))
+        let here : cond (names (who (cores.Acquires m b w)) f) l 0 ≡ 0 = ap (λ t. cond t l 0) (h.0 ∙ e) in
+        omega (arith, here, rest some, sum_by-cons {X = Who × ℕ} (λ x. cond (names x.0 f) x.1 0) (who (cores.Acquires m b w), l) (map {A = cores.Waiter ℕ × ℕ} {B = Who × ℕ} (λ x. (who x.0, x.1)) q))
 lack_seen who f n d k ((cores.Owes, l) ∷ q) h apart is =
     let here : cond (names (who cores.Owes) f) l 0 ≡ 0 = ap (λ t. cond t l 0) h.0 in
     omega (arith, here, lack_seen who f n d k q h.1 apart is, sum_by-cons {X = Who × ℕ} (λ x. cond (names x.0 f) x.1 0) (who cores.Owes, l) (map {A = cores.Waiter ℕ × ℕ} {B = Who × ℕ} (λ x. (who x.0, x.1)) q))
@@ -159,8 +157,8 @@ module _ (st st' : Store) (next i s f n d k : ℕ) (x : FutureEntry) (e e' : Sem
       grants_on : (m b : ℕ) → get e.core.granted m ≡ Some b → (t : Bool) → (n == m) ≡ t → (has s m (Some x) ≡ false) × (get e.core.granted m ≡ Some b)
       grants_on m b is false h = (not_under m (eqb-false n m h) (has s m (Some x)) refl, is)
       grants_on m b is true h = absurd (
-        let none : get e.core.granted m ≡ None = numbered.granted_apart m (λ gone. absurd (let some : cores.waiting e.core.queue m ≡ Some (d, k) = ap (cores.waiting e.core.queue) (sym (eqb-true n m h)) ∙ waits in cc)) in
-        cc)
+          let none : get e.core.granted m ≡ None = numbered.granted_apart m (λ gone. absurd (let some : cores.waiting e.core.queue m ≡ Some (d, k) = ap (cores.waiting e.core.queue) (sym (eqb-true n m h)) ∙ waits in cc)) in
+          cc)
 
   pub linked_left : IsLinked st' (i + 1)
   linked_left = linked_after st st' next (i + 1) s f e e' (Some x) None linked changes_left
@@ -178,17 +176,17 @@ module _ (st st' : Store) (next i s f n d k : ℕ) (x : FutureEntry) (e e' : Sem
   same_names ((cores.Acquires m b w, l) ∷ q) h = by_test (m == n) refl (same_names q h.1)
     where
       by_test : (t : Bool) → (m == n) ≡ t → queue_of st'.futures (i + 1) s (without_acquire q n) ≡ queue_of st.futures next s (without_acquire q n)
-        → queue_of st'.futures (i + 1) s (cond t (without_acquire q n) ((cores.Acquires m b w, l) ∷ without_acquire q n)) ≡ queue_of st.futures next s (cond t (without_acquire q n) ((cores.Acquires m b w, l) ∷ without_acquire q n))
+          → queue_of st'.futures (i + 1) s (cond t (without_acquire q n) ((cores.Acquires m b w, l) ∷ without_acquire q n)) ≡ queue_of st.futures next s (cond t (without_acquire q n) ((cores.Acquires m b w, l) ∷ without_acquire q n))
       by_test true e rest = rest
       by_test false t rest =
-        let free : has s m (Some x) ≡ false = not_under m (λ same. eqb-false m n t (sym same)) (has s m (Some x)) refl in
-        λ j. (Waiter (name_kept st st' next (i + 1) s f e e' (Some x) None linked changes_left m b (linked.owned s e m b l there h.0.0) free j), l) ∷ rest j
+          let free : has s m (Some x) ≡ false = not_under m (λ same. eqb-false m n t (sym same)) (has s m (Some x)) refl in
+          λ j. (Waiter (name_kept st st' next (i + 1) s f e e' (Some x) None linked changes_left m b (linked.owned s e m b l there h.0.0) free j), l) ∷ rest j
   same_names ((cores.Owes, l) ∷ q) h = ap (λ t. (Debt, l) ∷ t) (same_names q h.1)
 
   pub hall_left : hall_of st' (i + 1) ≡ record { semaphores = insert (hall_of st next).semaphores s (record { free = e'.core.free; queue = without (queue_of st.futures next s e.core.queue) f; made = e'.made; released = e'.released; forgotten = e'.forgotten; named = e'.named }); futures = remove (hall_of st next).futures f; permits = st'.permits }
   hall_left = λ j. record {
     semaphores = (semaphores_after st st' next (i + 1) s f e e' (Some x) None linked changes_left
-      ∙ ap (λ p. insert (hall_of st next).semaphores s (record { free = e'.core.free; queue = p; made = e'.made; released = e'.released; forgotten = e'.forgotten; named = e'.named }))
+        ∙ ap (λ p. insert (hall_of st next).semaphores s (record { free = e'.core.free; queue = p; made = e'.made; released = e'.released; forgotten = e'.forgotten; named = e'.named }))
         (ap (queue_of st'.futures (i + 1) s) queue ∙ same_names e.core.queue (all_at e.core.queue numbered.apart) ∙ without_seen (who_of st.futures next s) f n e.core.queue all_named)) j;
     futures = futures_gone st st' next (i + 1) s f e e' (Some x) None linked changes_left refl j;
     permits = st'.permits;

@@ -1,12 +1,11 @@
 -- the core that a hall lends stands for its semaphore
-use Rattle.std.proofs.Common.{◌≡◌, ℕ, List, [], ◌∷◌, map, refl, ap, sym, ◌∙◌, Option, Some, None}
+use Rattle.std.proofs.Common.{◌≡◌, ℕ, List, [], ◌∷◌, map, refl, ap, sym, ◌∙◌, Some}
 use Rattle.std.specs.List.{AllByRecursion}
 use Rattle.std.specs.Option.{option_map}
 use Rattle.std.specs.FinMap.{get}
 use Rattle.mea_sem_model.specs.Hall.{Semaphore, Who, waker_of, waker_of_future, waker_of_who}
 use Rattle.mea_sem_core.specs.Core as cores
 use Rattle.mea_sem.specs.declared.entries.SemaphoreEntry.{SemaphoreEntry}
-use Rattle.mea_sem.specs.declared.entries.FutureEntry.{FutureEntry}
 use Rattle.mea_sem.specs.Store.{Store, name_of, who_of, queue_of, stage_of, stage_under, queue_in, future_of, hall_of, IsOwned, IsLinked}
 use Rattle.mea_sem.specs.Kept.{IsKept}
 use Rattle.mea_sem.specs.StandsFor.{core_waker, StandsFor}

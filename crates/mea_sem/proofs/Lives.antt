@@ -37,21 +37,21 @@ module _ (st : Store) (w sp next s : ℕ) (e : SemaphoreEntry) (k : IsKept st w 
   -- as many permits live in the core as in the hall
   pub live-seen : live (hall_of st next) s ≡ e.core.live
   live-seen =
-    let account = (k.each s e there).account in
-    let tally = k.accounted s in
-    let made : (semaphore_at (hall_of st next) s).made ≡ e.made = ap (λ r. r.made) seen in
-    let released : (semaphore_at (hall_of st next) s).released ≡ e.released = ap (λ r. r.released) seen in
-    let forgotten : (semaphore_at (hall_of st next) s).forgotten ≡ e.forgotten = ap (λ r. r.forgotten) seen in
-    let owing = owed-seen in
-    omega (arith, account, tally, made, released, forgotten, owing)
+      let account = (k.each s e there).account in
+      let tally = k.accounted s in
+      let made : (semaphore_at (hall_of st next) s).made ≡ e.made = ap (λ r. r.made) seen in
+      let released : (semaphore_at (hall_of st next) s).released ≡ e.released = ap (λ r. r.released) seen in
+      let forgotten : (semaphore_at (hall_of st next) s).forgotten ≡ e.forgotten = ap (λ r. r.forgotten) seen in
+      let owing = owed-seen in
+      omega (arith, account, tally, made, released, forgotten, owing)
 
   -- what is paid follows from what lives
   pub paid-seen : e.core.free + cores.held_of e.core + cores.paid_of e.core ≡ e.core.live → paid (hall_of st next) s ≡ cores.paid_of e.core
   paid-seen whole =
-    let lives = live-seen in
-    let idle : free (hall_of st next) s ≡ e.core.free = ap (λ r. r.free) seen in
-    let holds = (k.each s e there).held in
-    omega (arith, whole, lives, idle, holds)
+      let lives = live-seen in
+      let idle : free (hall_of st next) s ≡ e.core.free = ap (λ r. r.free) seen in
+      let holds = (k.each s e there).held in
+      omega (arith, whole, lives, idle, holds)
 
   pub ledger-seen : e.core.free + cores.held_of e.core + cores.paid_of e.core ≡ e.core.live → ledger_of (hall_of st next) s ≡ ledger_of_entry e
   ledger-seen whole = λ j. record {

@@ -1,21 +1,18 @@
 -- which future a number of a core names
-use Rattle.std.proofs.Common.{◌≡◌, ℕ, zero, suc, ◌+◌, ◌<◌, ◌≤◌, ◌==◌, ◌&&◌, Bool, true, false, cond, List, [], ◌∷◌, map, refl, ap, sym, ◌∙◌, arith, Option, Some, None, inl, inr}
+use Rattle.std.proofs.Common.{◌≡◌, ℕ, zero, suc, ◌<◌, Bool, true, false, cond, List, [], ◌∷◌, refl, ap, sym, ◌∙◌, arith, Option, Some, None, inl, inr}
 use Rattle.std.specs.List.{AllByRecursion}
 use Rattle.std.specs.Option.{option_map}
 use Rattle.std.specs.Ordering.{nat_cmp}
 use Rattle.std.specs.BTreeMap.{is_at}
 use Rattle.std.specs.FinMap.{FinMap, find, get, entries, get-entries}
-use Rattle.std.proofs.lemmas.Bool.{eqb-true, eqb-false, eq-eqb, ne_eqb, and_from, and_parts, cases_eq}
+use Rattle.std.proofs.lemmas.Bool.{eqb-true, eq-eqb, and_from, and_parts, cases_eq}
 use Rattle.mea_base.specs.Named.{named, at}
 use Rattle.mea_base.proofs.NamedMaps.{get-named}
-use Rattle.mea_sem_model.specs.Hall.{Who, Waiter, Debt}
 use Rattle.mea_sem_core.specs.declared.acquire.Acquire.{Acquire}
-use Rattle.mea_sem_core.specs.declared.acquire.Acquire.TheVariants.{New, Queued, Done}
-use Rattle.mea_sem_core.specs.Core.{waiting, Acquires, Owes} 
-use Rattle.mea_sem.specs.declared.entries.SemaphoreEntry.{SemaphoreEntry}
+use Rattle.mea_sem_core.specs.declared.acquire.Acquire.TheVariants.{Queued}
 use Rattle.mea_sem.specs.declared.entries.FutureEntry.{FutureEntry}
 use Rattle.mea_sem.specs.Store.{Store, is_under, has, name_of, who_of, queue_of, IsOwned, IsLinked}
-use Rattle.mea_sem.proofs.Cores.{Queue, IsAt, all_at, all_by}
+use Rattle.mea_sem.proofs.Cores.{Queue}
 
 -- ---- what is seen of a map
 find-at : {X : Type 0} (es : List (ℕ × X)) (q : ℕ) → find nat_cmp q es ≡ at es q

@@ -1,18 +1,12 @@
 -- a future that waits on, with another waker
-use Rattle.std.proofs.Common.{◌≡◌, ◌≢◌, ◌⊎◌, inl, inr, ℕ, ◌+◌, ◌-◌, ◌*◌, ◌^◌, ◌<◌, ◌≤◌, ◌==◌, ◌&&◌, ◌++◌, Bool, true, false, cond, List, [], ◌∷◌, map, refl, ap, sym, subst, ◌∙◌, arith, Option, Some, None}
-use Rattle.std.specs.List.{AllByRecursion}
+use Rattle.std.proofs.Common.{◌≡◌, ◌⊎◌, inl, inr, ℕ, ◌+◌, ◌^◌, ◌<◌, ◌≤◌, ◌==◌, Bool, true, false, cond, List, [], ◌∷◌, refl, ap, sym, subst, ◌∙◌, arith, Option, Some, None}
 use Rattle.std.specs.Option.{option_map}
-use Rattle.std.specs.Ordering.{nat_cmp}
-use Rattle.std.specs.FinMap.{FinMap, get, insert, remove}
-use Rattle.std.proofs.lemmas.Bool.{eqb-true, eqb-false, eq-eqb, and_from, and_parts}
-use Rattle.mea_base.specs.declared.answer.Answer.TheVariants as answers
-use Rattle.mea_sem_model.specs.declared.event.SemEvent.{SemEvent}
+use Rattle.std.specs.FinMap.{get, insert}
+use Rattle.std.proofs.lemmas.Bool.{eqb-true, eq-eqb, and_from, and_parts}
 use Rattle.mea_sem_model.specs.declared.event.SemEvent.TheVariants as events
-use Rattle.mea_sem_model.specs.Hall.{Hall, Semaphore, Future, Permit, Stage, New, Waiting, Granted, Who, Waiter, Debt, semaphore_at, with_semaphore}
+use Rattle.mea_sem_model.specs.Hall.{Hall, Future, Waiting, Waiter, Debt}
 use Rattle.mea_sem_model.specs.Cause.{cause_of}
-use Rattle.mea_sem_model.specs.Valid.{Fits}
-use Rattle.mea_sem_model.specs.Step.{Outcome, step, quietly, with_future, acquire_of, queueing}
-use Rattle.mea_sem_core.specs.declared.acquire.Acquire.{Acquire}
+use Rattle.mea_sem_model.specs.Step.{step, with_future}
 use Rattle.mea_sem_core.specs.declared.acquire.Acquire.TheVariants as acquires
 use Rattle.mea_sem_core.specs.Acquire.{demand_of}
 use Rattle.mea_sem_core.specs.Core as cores
@@ -21,13 +15,11 @@ use Rattle.mea_sem.specs.declared.entries.SemaphoreEntry.{SemaphoreEntry}
 use Rattle.mea_sem.specs.declared.entries.FutureEntry.{FutureEntry}
 use Rattle.mea_sem.specs.Store.{Store, is_under, has, name_of, who_of, queue_of, queue_in, semaphore_of, stage_of, stage_under, future_of, hall_of, IsOpen, IsOwned, IsNumbered, IsLinked}
 use Rattle.mea_sem.specs.Kept.{wakers_in, IsKept}
-use Rattle.mea_sem.proofs.Cores.{IsAt, all_at, all_by, at_same, at_apart, waiting-push, waker-push, debts-push, AreApart-push, waiting-with_waker, waker-with_waker, waker-with_waker_same, debts-with_waker, AreApart-with_waker}
-use Rattle.mea_sem.proofs.Names.{get-seen, has-from, under-queued, name-has, name-owner, queue_of-same}
-use Rattle.mea_sem.proofs.PourHalls.{seen_at}
-use Rattle.mea_sem.proofs.Still.{no_future}
-use Rattle.mea_sem.proofs.Changes.{Changes, linked_after, queue_kept, semaphores_after, futures_put}
-use Rattle.mea_sem.proofs.Weighs.{Weighs, one, weighs_new_future, weighs_future}
-use Rattle.mea_sem.proofs.Keeping.{Plays, Settles, settled_as}
+use Rattle.mea_sem.proofs.Cores.{IsAt, all_at, all_by, at_same, waiting-with_waker, waker-with_waker, waker-with_waker_same, debts-with_waker, AreApart-with_waker}
+use Rattle.mea_sem.proofs.Names.{get-seen, name-owner, queue_of-same}
+use Rattle.mea_sem.proofs.Changes.{Changes, linked_after, semaphores_after, futures_put}
+use Rattle.mea_sem.proofs.Weighs.{weighs_future}
+use Rattle.mea_sem.proofs.Keeping.{Plays, settled_as}
 use Rattle.mea_sem.proofs.PlaysPermits.{as_it_was}
 
 abbrev first_or_none : Option (ℕ × ℕ) → ℕ
@@ -71,10 +63,10 @@ module _ (st st' : Store) (w sp next i s f v d m l : ℕ) (x : FutureEntry) (e :
         by_test : (t : Bool) → has s q (Some x) ≡ t → ((y : FutureEntry) × (Some x ≡ Some y) × (y.acquire ≡ acquires.Queued b q)) ⊎ ((has s q (Some x) ≡ false) × ((c : ℕ) × (cores.waiting e.core.queue q ≡ Some (b, c))))
         by_test false h = inr (h, (j, was_so))
         by_test true h =
-          let parts = and_parts _ _ h in
-          let same : m ≡ q = eqb-true m q (ap (λ a. is_under a q) (sym acquire) ∙ parts.1) in
-          let both : Some (d, l) ≡ Some (b, j) = sym waits ∙ ap (cores.waiting e.core.queue) same ∙ was_so in
-          inl (x, refl, acquire ∙ (λ z. acquires.Queued (ap first_or_none both z) (same z)))
+            let parts = and_parts _ _ h in
+            let same : m ≡ q = eqb-true m q (ap (λ a. is_under a q) (sym acquire) ∙ parts.1) in
+            let both : Some (d, l) ≡ Some (b, j) = sym waits ∙ ap (cores.waiting e.core.queue) same ∙ was_so in
+            inl (x, refl, acquire ∙ (λ z. acquires.Queued (ap first_or_none both z) (same z)))
 
     -- what was granted is not the number that waits
     not_mine : (q b : ℕ) → get e.core.granted q ≡ Some b → (t : Bool) → has s q (Some x) ≡ t → t ≡ false
@@ -139,20 +131,26 @@ module _ (st st' : Store) (w sp next i s f v d m l : ℕ) (x : FutureEntry) (e :
         let seen : get this_hall.semaphores s ≡ Some (semaphore_of st.futures next s e) = get-seen (semaphore_of st.futures next) st.semaphores s ∙ ap (option_map (semaphore_of st.futures next s)) there in
         let queue : queue_of st'.futures (i + 1) s woken_core.queue ≡ queue_of st.futures next s e.core.queue = queue_waker e.core.queue ∙ queue_of-same st.futures st'.futures next (i + 1) s e.core.queue (all_by (IsAt e.core.queue) _ who_same e.core.queue (all_at e.core.queue (k.linked.numbered s e there).apart)) in
         let future : future_of st'.semaphores x ≡ again_future =
-          (λ j. record { semaphore = mine j; demand = demand_is j; plain = x.plain; forgets = x.forgets; stage = (
-            ap (λ a. stage_of a (queue_in (get st'.semaphores x.semaphore))) acquire
-            ∙ ap (λ q. stage_under (cores.waker_under (queue_in (get st'.semaphores q)) m)) mine
-            ∙ ap (λ o. stage_under (cores.waker_under (queue_in o) m)) (semaphores s ∙ at_same s s (Some waker_entry) (get st.semaphores s) refl)
-            ∙ ap stage_under (waker-with_waker_same e.core.queue m v (d, l) waits)) j }) in
+        (λ j. record {
+          semaphore = mine j;
+          demand = demand_is j;
+          plain = x.plain;
+          forgets = x.forgets;
+          stage = (
+              ap (λ a. stage_of a (queue_in (get st'.semaphores x.semaphore))) acquire
+              ∙ ap (λ q. stage_under (cores.waker_under (queue_in (get st'.semaphores q)) m)) mine
+              ∙ ap (λ o. stage_under (cores.waker_under (queue_in o) m)) (semaphores s ∙ at_same s s (Some waker_entry) (get st.semaphores s) refl)
+              ∙ ap stage_under (waker-with_waker_same e.core.queue m v (d, l) waits)) j;
+        }) in
         let before : get this_hall.futures f ≡ Some (future_of st.semaphores x) = get-seen (λ g z. future_of st.semaphores z) st.futures f ∙ ap (option_map (future_of st.semaphores)) was in
         settled_as st st' w sp next i s (events.Poll f v) e waker_entry k less low tt allowed (with_future this_hall f again_future) is w sp 0 0 0 0 there semaphores
         ((λ j. record {
-            semaphores = (semaphores_after st st' next (i + 1) s f e waker_entry (Some x) (Some x) k.linked c
+          semaphores = (semaphores_after st st' next (i + 1) s f e waker_entry (Some x) (Some x) k.linked c
               ∙ ap (λ q. insert this_hall.semaphores s (record { free = e.core.free; queue = q; made = e.made; released = e.released; forgotten = e.forgotten; named = e.named })) queue
               ∙ ap (λ z. z.semaphores) (as_it_was this_hall s (semaphore_of st.futures next s e) seen this_hall.permits)) j;
-            futures = (futures_put st st' next (i + 1) s f e waker_entry (Some x) (Some x) k.linked c x refl ∙ ap (insert this_hall.futures f) future) j;
-            permits = permits j;
-          }))
+          futures = (futures_put st st' next (i + 1) s f e waker_entry (Some x) (Some x) k.linked c x refl ∙ ap (insert this_hall.futures f) future) j;
+          permits = permits j;
+        }))
         linked_now
         (weighs_future this_hall f again_future (future_of st.semaphores x) before mine refl)
         (record {

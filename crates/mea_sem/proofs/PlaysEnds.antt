@@ -1,29 +1,28 @@
 -- releases, and the ends of futures and permits
-use Rattle.std.proofs.Common.{◌≡◌, ◌≢◌, ℕ, ◌+◌, ◌-◌, ◌*◌, ◌^◌, ◌<◌, ◌≤◌, ◌==◌, Bool, true, false, cond, List, [], length, refl, ap, sym, subst, ◌∙◌, arith, Option, Some, None}
+use Rattle.std.proofs.Common.{◌≡◌, ℕ, ◌+◌, ◌-◌, ◌^◌, ◌<◌, ◌≤◌, ◌==◌, cond, List, [], length, refl, ap, sym, subst, ◌∙◌, arith, Option, Some, None}
 use Rattle.std.specs.Option.{option_map}
-use Rattle.std.specs.Ordering.{nat_cmp}
-use Rattle.std.specs.FinMap.{FinMap, get, insert, remove}
+use Rattle.std.specs.FinMap.{get, insert, remove}
 use Rattle.mea_base.specs.Queue.{granted_in}
 use Rattle.mea_sem_model.specs.declared.event.SemEvent.{SemEvent}
 use Rattle.mea_sem_model.specs.declared.event.SemEvent.TheVariants as events
-use Rattle.mea_sem_model.specs.Hall.{Hall, Semaphore, Future, Permit, Stage, New, Waiting, Granted, semaphore_at, queue_at, with_semaphore, lack_of, pour, wakes_of}
+use Rattle.mea_sem_model.specs.Hall.{Hall, Future, Permit, Stage, New, Waiting, Granted, semaphore_at, queue_at, with_semaphore, lack_of}
 use Rattle.mea_sem_model.specs.Cause.{cause_of}
-use Rattle.mea_sem_model.specs.Step.{Outcome, step, quietly, pouring, without_future, without_permit, without, leaving, released_to, end_future, end_permit, end_of}
+use Rattle.mea_sem_model.specs.Step.{step, pouring, without_future, without_permit, without, leaving, released_to, end_future, end_permit, end_of}
 use Rattle.mea_sem_core.specs.declared.acquire.Acquire.TheVariants as acquires
 use Rattle.mea_sem_core.specs.Core as cores
 use Rattle.mea_sem_core.specs.Calls.{without_acquire}
 use Rattle.mea_sem.specs.declared.entries.SemaphoreEntry.{SemaphoreEntry}
 use Rattle.mea_sem.specs.declared.entries.FutureEntry.{FutureEntry}
-use Rattle.mea_sem.specs.Store.{Store, queue_of, semaphore_of, stage_of, stage_under, hall_of, IsLinked}
-use Rattle.mea_sem.specs.Kept.{wakers_in, IsKept}
-use Rattle.mea_sem.proofs.Cores.{at_same, waker-none, waker-some, debts-without}
+use Rattle.mea_sem.specs.Store.{Store, queue_of, semaphore_of, stage_under, hall_of}
+use Rattle.mea_sem.specs.Kept.{IsKept}
+use Rattle.mea_sem.proofs.Cores.{waker-none, waker-some, debts-without}
 use Rattle.mea_sem.proofs.Names.{get-seen}
 use Rattle.mea_sem.proofs.PourHalls.{seen_at}
 use Rattle.mea_sem.proofs.Still.{IsStill, still_queue, linked_still, queue_still, hall_still}
 use Rattle.mea_sem.proofs.Gone.{seen_future, Leaves, linked_gone, hall_gone, leaves_new, leaves_granted}
 use Rattle.mea_sem.proofs.Left.{linked_left, hall_left, lack_left, wakers_without}
-use Rattle.mea_sem.proofs.Weighs.{Weighs, one, weighs_same, weighs_semaphore, weighs_lost_permit, weighs_lost_future}
-use Rattle.mea_sem.proofs.Keeping.{Plays, Settles, settled_as}
+use Rattle.mea_sem.proofs.Weighs.{Weighs, one, weighs_semaphore, weighs_lost_permit, weighs_lost_future}
+use Rattle.mea_sem.proofs.Keeping.{Plays, settled_as}
 use Rattle.mea_sem.proofs.PlaysPermits.{as_it_was, permit_counts}
 use Rattle.mea_sem.proofs.PlaysReady.{future_counts}
 use Rattle.mea_sem.proofs.PlaysPours.{poured_entry, between, between_at, wakes_poured, plays_poured}
@@ -57,13 +56,13 @@ module _ (st st' : Store) (w w' sp' sp next i s n : ℕ) (e : SemaphoreEntry) (k
       let old = k.each s e there in
       let h1 : Hall = released_to h s n in
       let hall : hall_of st1 (i + 1) ≡ h1 =
-        hall_still st st1 next i s e e1 k.linked less there (between_at st st' s e1) futures still (queue_of st.futures next s e.core.queue) (queue_still st st1 next i s e e1 k.linked less there (between_at st st' s e1) futures still)
-        ∙ (λ j. record { semaphores = insert h.semaphores s (record (sym seen j) { released = (sym seen j).released + n }); futures = h.futures; permits = permits j }) in
+      hall_still st st1 next i s e e1 k.linked less there (between_at st st' s e1) futures still (queue_of st.futures next s e.core.queue) (queue_still st st1 next i s e e1 k.linked less there (between_at st st' s e1) futures still)
+      ∙ (λ j. record { semaphores = insert h.semaphores s (record (sym seen j) { released = (sym seen j).released + n }); futures = h.futures; permits = permits j }) in
       let linked = linked_still st st1 next i s e e1 k.linked less there (between_at st st' s e1) futures still in
       record {
         plays = plays_poured st st' w sp next i s n (events.Release s n) e e1 k less low there semaphores h1 w w' sp' 0 0 0 0 tt allowed refl hall linked
-          (weighs_semaphore h s s (record (semaphore_at h s) { released = (semaphore_at h s).released + n }))
-          (let o = old.account in omega (arith, o)) (omega (arith, held)) refl (omega arith) (omega arith) (omega arith) refl woken room;
+            (weighs_semaphore h s s (record (semaphore_at h s) { released = (semaphore_at h s).released + n }))
+            (let o = old.account in omega (arith, o)) (omega (arith, held)) refl (omega arith) (omega arith) (omega arith) refl woken room;
         wakes = wakes_poured st st' w sp next i s n (events.Release s n) e e1 k less low there semaphores h1 hall linked;
       }
 
@@ -83,14 +82,14 @@ module _ (st st' : Store) (w w' sp' sp next i s n : ℕ) (e : SemaphoreEntry) (k
       let h1 : Hall = without_permit h p in
       let counts = permit_counts st w sp next p x e k is (ap (get st.semaphores) mine ∙ there) in
       let hall : hall_of st1 (i + 1) ≡ h1 =
-        hall_still st st1 next i s e e1 k.linked less there (between_at st st' s e1) futures still (queue_of st.futures next s e.core.queue) (queue_still st st1 next i s e e1 k.linked less there (between_at st st' s e1) futures still)
-        ∙ as_it_was h s (semaphore_of st.futures next s e) seen_there st'.permits ∙ (λ j. record { semaphores = h.semaphores; futures = h.futures; permits = permits j }) in
+      hall_still st st1 next i s e e1 k.linked less there (between_at st st' s e1) futures still (queue_of st.futures next s e.core.queue) (queue_still st st1 next i s e e1 k.linked less there (between_at st st' s e1) futures still)
+      ∙ as_it_was h s (semaphore_of st.futures next s e) seen_there st'.permits ∙ (λ j. record { semaphores = h.semaphores; futures = h.futures; permits = permits j }) in
       let linked = linked_still st st1 next i s e e1 k.linked less there (between_at st st' s e1) futures still in
       let outcome : step h i (events.End p) ≡ pouring h1 s x.size = ap (end_of h p) no_future ∙ ap (end_permit h p) is ∙ ap (λ q. pouring h1 q x.size) mine in
       record {
         plays = plays_poured st st' w sp next i s x.size (events.End p) e e1 k less low there semaphores h1 w w' sp' x.size 0 (one x.plain) 0 tt allowed (ap (λ o. o.hall) outcome) hall linked
-          (subst (λ q. Weighs h h1 q x.size 0 (one x.plain) 0) mine (weighs_lost_permit h p x is))
-          (let o = old.account in let c = counts.0 in omega (arith, o, c)) (omega (arith, held)) (let c = counts.1 in omega (arith, c)) (omega arith) (omega arith) (omega arith) refl woken room;
+            (subst (λ q. Weighs h h1 q x.size 0 (one x.plain) 0) mine (weighs_lost_permit h p x is))
+            (let o = old.account in let c = counts.0 in omega (arith, o, c)) (omega (arith, held)) (let c = counts.1 in omega (arith, c)) (omega arith) (omega arith) (omega arith) refl woken room;
         wakes = ap (λ o. o.wakes) outcome ∙ wakes_poured st st' w sp next i s x.size (events.End p) e e1 k less low there semaphores h1 hall linked;
       }
 
@@ -118,12 +117,12 @@ module _ (st st' : Store) (w w' sp' sp next i s n : ℕ) (e : SemaphoreEntry) (k
         let old = k.each s e there in
         record {
           plays = settled_as st st' w sp next i s (events.End f) e fewer_entry k less low tt allowed (without_future h f) (ap (λ o. o.hall) outcome) w sp 0 0 (one x.plain) 0 there semaphores
-            (hall_gone st st' next i s f x e fewer_entry k.linked less c
+              (hall_gone st st' next i s f x e fewer_entry k.linked less c
               ∙ (λ j. record { semaphores = (as_it_was h s (semaphore_of st.futures next s e) seen_there h.permits j).semaphores; futures = remove h.futures f; permits = permits j }))
-            (linked_gone st st' next i s f x e fewer_entry k.linked less c)
-            (lost New is)
-            (record { account = old.account; held = refl; plain = omega (arith, counts); few = omega arith; quiet = old.quiet; released = omega arith; forgotten = omega arith })
-            refl k.room;
+              (linked_gone st st' next i s f x e fewer_entry k.linked less c)
+              (lost New is)
+              (record { account = old.account; held = refl; plain = omega (arith, counts); few = omega arith; quiet = old.quiet; released = omega arith; forgotten = omega arith })
+              refl k.room;
           wakes = ap (λ o. o.wakes) outcome;
         }
 
@@ -149,7 +148,7 @@ module _ (st st' : Store) (w w' sp' sp next i s n : ℕ) (e : SemaphoreEntry) (k
         let old = k.each s e there in
         record {
           plays = plays_poured st st' w sp next i s d (events.End f) e e1 k less low there semaphores h1 w w' sp' 0 0 (one x.plain) 0 tt allowed (ap (λ o. o.hall) outcome) hall linked (lost Granted is)
-            (let o = old.account in omega (arith, o, within)) (omega (arith, held)) (omega (arith, counts)) (omega arith) (omega arith) (omega arith) refl woken room;
+              (let o = old.account in omega (arith, o, within)) (omega (arith, held)) (omega (arith, counts)) (omega arith) (omega arith) (omega arith) refl woken room;
           wakes = ap (λ o. o.wakes) outcome ∙ wakes_poured st st' w sp next i s d (events.End f) e e1 k less low there semaphores h1 hall linked;
         }
       where
@@ -175,21 +174,21 @@ module _ (st st' : Store) (w w' sp' sp next i s n : ℕ) (e : SemaphoreEntry) (k
         let lack : lack_of (queue_of st.futures next s e.core.queue) f ≡ l = lack_left st st1 next i s f m d l x e e1 k.linked less there (between_at st st' s e1) was futures mine acquire waits refl refl in
         let h1 : Hall = leaving h f (at_stage (Waiting v.0)) in
         let outcome : step h i (events.End f) ≡ pouring h1 s (d - l) =
-          ap (end_of h f) is
-          ∙ ap (λ q. pouring h1 q (d - lack_of (queue_at h q) f)) mine
-          ∙ ap (λ r. pouring h1 s (d - lack_of r.queue f)) seen
-          ∙ ap (λ j. pouring h1 s (d - j)) lack in
+        ap (end_of h f) is
+        ∙ ap (λ q. pouring h1 q (d - lack_of (queue_at h q) f)) mine
+        ∙ ap (λ r. pouring h1 s (d - lack_of r.queue f)) seen
+        ∙ ap (λ j. pouring h1 s (d - j)) lack in
         let hall : hall_of st1 (i + 1) ≡ h1 =
-          hall_left st st1 next i s f m d l x e e1 k.linked less there (between_at st st' s e1) was futures mine acquire waits refl refl
-          ∙ (λ j. record { semaphores = insert h.semaphores s (record (sym seen j) { queue = without (sym seen j).queue f }); futures = remove h.futures f; permits = permits j })
-          ∙ ap (λ q. without_future (with_semaphore h q (record (semaphore_at h q) { queue = without (queue_at h q) f })) f) (sym mine) in
+        hall_left st st1 next i s f m d l x e e1 k.linked less there (between_at st st' s e1) was futures mine acquire waits refl refl
+        ∙ (λ j. record { semaphores = insert h.semaphores s (record (sym seen j) { queue = without (sym seen j).queue f }); futures = remove h.futures f; permits = permits j })
+        ∙ ap (λ q. without_future (with_semaphore h q (record (semaphore_at h q) { queue = without (queue_at h q) f })) f) (sym mine) in
         let linked = linked_left st st1 next i s f m d l x e e1 k.linked less there (between_at st st' s e1) was futures mine acquire waits refl refl in
         let counts = future_counts st w sp next f (at_stage (Waiting v.0)) e k is home in
         let old = k.each s e there in
         let left = wakers_without e.core.queue m d l numbered.apart waits in
         record {
           plays = plays_poured st st' w sp next i s (d - l) (events.End f) e e1 k less low there semaphores h1 (w' + length (cores.wakers_of (granted_in (without_acquire e.core.queue m) (d - l)))) w' sp' 0 0 (one x.plain) 0 tt allowed (ap (λ o. o.hall) outcome) hall linked
-            (let z = lost (Waiting v.0) is in record { held = λ q. z.held q; plain = λ q. z.plain q })
-            (let o = old.account in let t = debts-without e.core.queue m in omega (arith, o, within, t)) (omega (arith, held)) (omega (arith, counts)) (omega arith) (omega arith) (omega arith) (omega (arith, woken, left)) refl room;
+              (let z = lost (Waiting v.0) is in record { held = λ q. z.held q; plain = λ q. z.plain q })
+              (let o = old.account in let t = debts-without e.core.queue m in omega (arith, o, within, t)) (omega (arith, held)) (omega (arith, counts)) (omega arith) (omega arith) (omega arith) (omega (arith, woken, left)) refl room;
           wakes = ap (λ o. o.wakes) outcome ∙ wakes_poured st st' w sp next i s (d - l) (events.End f) e e1 k less low there semaphores h1 hall linked;
         }

@@ -1,33 +1,29 @@
 -- futures that are made, and begin to wait
-use Rattle.std.proofs.Common.{◌≡◌, ◌≢◌, ◌⊎◌, inl, inr, ℕ, ◌+◌, ◌-◌, ◌*◌, ◌^◌, ◌<◌, ◌≤◌, ◌==◌, ◌&&◌, ◌++◌, Bool, true, false, cond, List, [], ◌∷◌, map, refl, ap, sym, subst, ◌∙◌, arith, Option, Some, None}
-use Rattle.std.specs.List.{AllByRecursion}
+use Rattle.std.proofs.Common.{◌≡◌, ◌≢◌, ◌⊎◌, inl, inr, ℕ, ◌+◌, ◌-◌, ◌^◌, ◌<◌, ◌≤◌, ◌==◌, ◌&&◌, ◌++◌, Bool, true, false, cond, List, [], ◌∷◌, refl, ap, sym, subst, ◌∙◌, arith, Option, Some, None}
 use Rattle.std.specs.Option.{option_map}
-use Rattle.std.specs.Ordering.{nat_cmp}
-use Rattle.std.specs.FinMap.{FinMap, get, insert, remove}
-use Rattle.std.proofs.lemmas.Bool.{eqb-true, eqb-false, eq-eqb, and_from, and_parts}
-use Rattle.mea_base.specs.declared.answer.Answer.TheVariants as answers
+use Rattle.std.specs.FinMap.{get, insert}
+use Rattle.std.proofs.lemmas.Bool.{eqb-true, eqb-false, eq-eqb, and_from}
 use Rattle.mea_sem_model.specs.declared.event.SemEvent.{SemEvent}
 use Rattle.mea_sem_model.specs.declared.event.SemEvent.TheVariants as events
-use Rattle.mea_sem_model.specs.Hall.{Hall, Semaphore, Future, Permit, Stage, New, Waiting, Granted, Who, Waiter, Debt, semaphore_at, with_semaphore}
+use Rattle.mea_sem_model.specs.Hall.{Hall, Future, New, Waiting, Waiter, semaphore_at}
 use Rattle.mea_sem_model.specs.Cause.{cause_of}
 use Rattle.mea_sem_model.specs.Valid.{Fits}
-use Rattle.mea_sem_model.specs.Step.{Outcome, step, quietly, with_future, acquire_of, queueing}
+use Rattle.mea_sem_model.specs.Step.{step, with_future, acquire_of, queueing}
 use Rattle.mea_sem_core.specs.declared.acquire.Acquire.{Acquire}
 use Rattle.mea_sem_core.specs.declared.acquire.Acquire.TheVariants as acquires
-use Rattle.mea_sem_core.specs.Acquire.{demand_of}
 use Rattle.mea_sem_core.specs.Core as cores
-use Rattle.mea_sem_core.specs.Calls.{Belongs, with_waker}
+use Rattle.mea_sem_core.specs.Calls.{Belongs}
 use Rattle.mea_sem.specs.declared.entries.SemaphoreEntry.{SemaphoreEntry}
 use Rattle.mea_sem.specs.declared.entries.FutureEntry.{FutureEntry}
-use Rattle.mea_sem.specs.Store.{Store, is_under, has, name_of, who_of, queue_of, queue_in, semaphore_of, stage_of, stage_under, future_of, hall_of, IsOpen, IsOwned, IsNumbered, IsLinked}
+use Rattle.mea_sem.specs.Store.{Store, is_under, has, name_of, who_of, queue_of, queue_in, semaphore_of, stage_under, future_of, hall_of, IsOpen, IsNumbered}
 use Rattle.mea_sem.specs.Kept.{wakers_in, IsKept}
-use Rattle.mea_sem.proofs.Cores.{IsAt, all_at, all_by, at_same, at_apart, waiting-push, waker-push, debts-push, AreApart-push, waiting-with_waker, waker-with_waker, waker-with_waker_same, debts-with_waker, AreApart-with_waker}
-use Rattle.mea_sem.proofs.Names.{get-seen, has-from, under-queued, name-has, name-owner, queue_of-same}
+use Rattle.mea_sem.proofs.Cores.{at_same, at_apart, waiting-push, waker-push, debts-push, AreApart-push}
+use Rattle.mea_sem.proofs.Names.{get-seen, has-from, name-has}
 use Rattle.mea_sem.proofs.PourHalls.{seen_at}
 use Rattle.mea_sem.proofs.Still.{no_future}
 use Rattle.mea_sem.proofs.Changes.{Changes, linked_after, queue_kept, semaphores_after, futures_put}
-use Rattle.mea_sem.proofs.Weighs.{Weighs, one, weighs_new_future, weighs_future}
-use Rattle.mea_sem.proofs.Keeping.{Plays, Settles, settled_as}
+use Rattle.mea_sem.proofs.Weighs.{one, weighs_new_future, weighs_future}
+use Rattle.mea_sem.proofs.Keeping.{Plays, settled_as}
 use Rattle.mea_sem.proofs.PlaysPermits.{as_it_was}
 
 abbrev first_or_none : Option (ℕ × ℕ) → ℕ
@@ -78,12 +74,12 @@ module _ (st st' : Store) (w sp next i s n : ℕ) (e : SemaphoreEntry) (k : IsKe
       let absent : get h.futures i ≡ None = get-seen (λ g z. future_of st.semaphores z) st.futures i ∙ ap (option_map (future_of st.semaphores)) (no_future st next i k.linked less) in
       settled_as st st' w sp next i s event e e' k less low fits allowed (with_future h i y) is w sp 0 0 0 (one plain) there semaphores
       ((λ j. record {
-          semaphores = (semaphores_after st st' next (i + 1) s i e e' None (Some x) k.linked c
+        semaphores = (semaphores_after st st' next (i + 1) s i e e' None (Some x) k.linked c
             ∙ ap (λ q. insert h.semaphores s (record { free = e.core.free; queue = q; made = e.made; released = e.released; forgotten = e.forgotten; named = e.named })) (queue_kept st st' next (i + 1) s i e e' None (Some x) k.linked c (λ m d l is. refl))
             ∙ ap (λ z. z.semaphores) (as_it_was h s (semaphore_of st.futures next s e) seen h.permits)) j;
-          futures = futures_put st st' next (i + 1) s i e e' None (Some x) k.linked c x refl j;
-          permits = permits j;
-        }))
+        futures = futures_put st st' next (i + 1) s i e e' None (Some x) k.linked c x refl j;
+        permits = permits j;
+      }))
       (linked_after st st' next (i + 1) s i e e' None (Some x) k.linked c)
       (weighs_new_future h i y absent)
       (record { account = old.account; held = refl; plain = omega arith; few = at_most plain; quiet = old.quiet; released = omega arith; forgotten = omega arith })
@@ -203,22 +199,28 @@ module _ (st st' : Store) (w sp sp' next i s f v d m : ℕ) (x : FutureEntry) (e
         let r : semaphore_at hall s ≡ semaphore_of st.futures next s e = seen_at st next s e k.linked there in
         let name : name_of st'.futures (i + 1) s m ≡ f = name-has st' (i + 1) s m f linked (has-from s m (get st'.futures f) queued_future (futures f ∙ at_same f f (Some queued_future) (get st.futures f) refl) mine (eq-eqb m m refl)) in
         let queue : queue_of st'.futures (i + 1) s queued_core.queue ≡ queue_of st.futures next s e.core.queue ++ (Waiter f, d - e.core.free) ∷ [] =
-          queue_pushed (i + 1) e.core.queue (cores.Acquires m d v, d - e.core.free)
-          ∙ ap (λ q. q ++ (Waiter (name_of st'.futures (i + 1) s m), d - e.core.free) ∷ []) (queue_kept st st' next (i + 1) s f e queued_entry (Some x) (Some queued_future) k.linked c (λ q b l is. never_under q))
-          ∙ ap (λ g. queue_of st.futures next s e.core.queue ++ (Waiter g, d - e.core.free) ∷ []) name in
+        queue_pushed (i + 1) e.core.queue (cores.Acquires m d v, d - e.core.free)
+        ∙ ap (λ q. q ++ (Waiter (name_of st'.futures (i + 1) s m), d - e.core.free) ∷ []) (queue_kept st st' next (i + 1) s f e queued_entry (Some x) (Some queued_future) k.linked c (λ q b l is. never_under q))
+        ∙ ap (λ g. queue_of st.futures next s e.core.queue ++ (Waiter g, d - e.core.free) ∷ []) name in
         let future : future_of st'.semaphores queued_future ≡ y =
-          (λ j. record { semaphore = mine j; demand = d; plain = x.plain; forgets = x.forgets; stage = (
-            ap (λ q. stage_under (cores.waker_under (queue_in (get st'.semaphores q)) m)) mine
-            ∙ ap (λ o. stage_under (cores.waker_under (queue_in o) m)) (semaphores s ∙ at_same s s (Some queued_entry) (get st.semaphores s) refl)
-            ∙ ap stage_under (waker-push e.core.queue m d v (d - e.core.free) m not_waiting ∙ at_same m m (Some v) (cores.waker_under e.core.queue m) refl)) j }) in
+        (λ j. record {
+          semaphore = mine j;
+          demand = d;
+          plain = x.plain;
+          forgets = x.forgets;
+          stage = (
+              ap (λ q. stage_under (cores.waker_under (queue_in (get st'.semaphores q)) m)) mine
+              ∙ ap (λ o. stage_under (cores.waker_under (queue_in o) m)) (semaphores s ∙ at_same s s (Some queued_entry) (get st.semaphores s) refl)
+              ∙ ap stage_under (waker-push e.core.queue m d v (d - e.core.free) m not_waiting ∙ at_same m m (Some v) (cores.waker_under e.core.queue m) refl)) j;
+        }) in
         let before : get hall.futures f ≡ Some (future_of st.semaphores x) = get-seen (λ g z. future_of st.semaphores z) st.futures f ∙ ap (option_map (future_of st.semaphores)) was in
         settled_as st st' w sp next i s (events.Poll f v) e queued_entry k less low tt allowed queued_hall is (w + 1) sp' 0 0 0 0 there semaphores
         ((λ j. record {
-            semaphores = (semaphores_after st st' next (i + 1) s f e queued_entry (Some x) (Some queued_future) k.linked c
+          semaphores = (semaphores_after st st' next (i + 1) s f e queued_entry (Some x) (Some queued_future) k.linked c
               ∙ ap (λ q. insert hall.semaphores s (record { free = 0; queue = q; made = e.made; released = e.released; forgotten = e.forgotten; named = e.named })) queue) j;
-            futures = (futures_put st st' next (i + 1) s f e queued_entry (Some x) (Some queued_future) k.linked c queued_future refl ∙ ap (insert hall.futures f) future) j;
-            permits = permits j;
-          }) ∙ (λ j. record { semaphores = insert hall.semaphores s (record (sym r j) { free = 0; queue = (sym r j).queue ++ (Waiter f, d - (sym r j).free) ∷ [] }); futures = insert hall.futures f y; permits = hall.permits }))
+          futures = (futures_put st st' next (i + 1) s f e queued_entry (Some x) (Some queued_future) k.linked c queued_future refl ∙ ap (insert hall.futures f) future) j;
+          permits = permits j;
+        }) ∙ (λ j. record { semaphores = insert hall.semaphores s (record (sym r j) { free = 0; queue = (sym r j).queue ++ (Waiter f, d - (sym r j).free) ∷ [] }); futures = insert hall.futures f y; permits = hall.permits }))
         linked
         (let l = weighs_future hall f y (future_of st.semaphores x) before mine refl in record { held = λ q. l.held q; plain = λ q. l.plain q })
         (record {

@@ -1,25 +1,24 @@
 -- a new semaphore
-use Rattle.std.proofs.Common.{◌≡◌, ◌≢◌, ℕ, ◌+◌, ◌*◌, ◌^◌, ◌<◌, ◌≤◌, ◌==◌, ◌&&◌, Bool, true, false, cond, List, [], refl, ap, sym, subst, ◌∙◌, arith, Option, Some, None, is_some}
+use Rattle.std.proofs.Common.{◌≡◌, ℕ, ◌+◌, ◌^◌, ◌<◌, ◌≤◌, ◌==◌, ◌&&◌, Bool, true, false, cond, [], refl, ap, sym, subst, ◌∙◌, arith, Option, Some, None, is_some}
 use Rattle.std.specs.Option.{IsSome, option_map}
 use Rattle.std.specs.Ordering.{nat_cmp}
-use Rattle.std.specs.FinMap.{FinMap, get, insert, empty, get-empty}
+use Rattle.std.specs.FinMap.{get, insert, empty, get-empty}
 use Rattle.std.proofs.lemmas.Bool.{eqb-true, eqb-false}
 use Rattle.mea_base.specs.Totals.{total, weight}
 use Rattle.mea_base.proofs.NamedMaps.{same_named}
 use Rattle.mea_base.proofs.Totals.{get_inserted, total-insert, total-zero}
 use Rattle.mea_sem_model.specs.declared.event.SemEvent.TheVariants as events
-use Rattle.mea_sem_model.specs.Hall.{Hall, Semaphore, Future, Permit, made_with, held, plain_things, with_semaphore}
-use Rattle.mea_sem_model.specs.Step.{step}
+use Rattle.mea_sem_model.specs.Hall.{Hall, Future, Permit, made_with, held, plain_things, with_semaphore}
 use Rattle.mea_sem_model.specs.Valid.{IsValid, IsBelow, IsAccounted}
 use Rattle.mea_sem_model.proofs.Keeps.{keeps_valid, keeps_below, keeps_account, below_later}
 use Rattle.mea_sem_core.specs.Core as cores
 use Rattle.mea_sem.specs.declared.entries.SemaphoreEntry.{SemaphoreEntry}
 use Rattle.mea_sem.specs.declared.entries.FutureEntry.{FutureEntry}
-use Rattle.mea_sem.specs.Store.{Store, queue_of, semaphore_of, stage_of, queue_in, future_of, hall_of, IsHome, IsOwned, IsNumbered, IsLinked}
+use Rattle.mea_sem.specs.Store.{Store, semaphore_of, stage_of, queue_in, future_of, hall_of, IsHome, IsOwned, IsNumbered, IsLinked}
 use Rattle.mea_sem.specs.Kept.{wakers_in, IsKeptEntry, IsKept}
 use Rattle.mea_sem.proofs.Cores.{at_same, at_apart}
 use Rattle.mea_sem.proofs.Names.{get-seen}
-use Rattle.mea_sem.proofs.Renumbered.{linked_later, hall_renumbered}
+use Rattle.mea_sem.proofs.Renumbered.{hall_renumbered}
 use Rattle.mea_sem.proofs.Keeping.{Plays}
 use Rattle.mea_sem_core.specs.Acquire.{demand_of}
 
@@ -37,9 +36,9 @@ module _ (st : Store) (w sp next i : ℕ) (k : IsKept st w sp next) (less : next
       at_value : (o : Option SemaphoreEntry) → get st.semaphores i ≡ o → o ≡ None
       at_value None is = refl
       at_value (Some e) is =
-        let seen : get (hall_of st next).semaphores i ≡ Some (semaphore_of st.futures next i e) = get-seen (semaphore_of st.futures next) st.semaphores i ∙ ap (option_map (semaphore_of st.futures next i)) is in
-        let small : i < next = k.below.semaphores i (ap is_some seen) in
-        absurd (omega arith)
+          let seen : get (hall_of st next).semaphores i ≡ Some (semaphore_of st.futures next i e) = get-seen (semaphore_of st.futures next) st.semaphores i ∙ ap (option_map (semaphore_of st.futures next i)) is in
+          let small : i < next = k.below.semaphores i (ap is_some seen) in
+          absurd (omega arith)
 
   none_seen : is_some (get (hall_of st next).semaphores i) ≡ false
   none_seen = ap is_some (get-seen (semaphore_of st.futures next) st.semaphores i ∙ ap (option_map (semaphore_of st.futures next i)) no_semaphore)
@@ -95,14 +94,14 @@ module _ (st : Store) (w sp next i : ℕ) (k : IsKept st w sp next) (less : next
         owned_at : (q : ℕ) (e : SemaphoreEntry) (m d l : ℕ) → get st'.semaphores q ≡ Some e → cores.waiting e.core.queue m ≡ Some (d, l) → (t : Bool) → (i == q) ≡ t → IsOwned st' q m d
         owned_at q e m d l is waits true h = absurd (let same = semaphore_here q e (eqb-true i q h) is in let none : cores.waiting (fresh_core n).queue m ≡ Some (d, l) = ap (λ (x : SemaphoreEntry). cores.waiting x.core.queue m) same ∙ waits in cc)
         owned_at q e m d l is waits false h =
-          let o = k.linked.owned q e m d l (sym (semaphore_other q (eqb-false i q h)) ∙ is) waits in
-          record { name = o.name; entry = o.entry; there = ap (λ x. get x o.name) futures ∙ o.there; semaphore = o.semaphore; acquire = o.acquire }
+            let o = k.linked.owned q e m d l (sym (semaphore_other q (eqb-false i q h)) ∙ is) waits in
+            record { name = o.name; entry = o.entry; there = ap (λ x. get x o.name) futures ∙ o.there; semaphore = o.semaphore; acquire = o.acquire }
 
         granted_at : (q : ℕ) (e : SemaphoreEntry) (m d : ℕ) → get st'.semaphores q ≡ Some e → get e.core.granted m ≡ Some d → (t : Bool) → (i == q) ≡ t → IsOwned st' q m d
         granted_at q e m d is grants true h = absurd (let same = semaphore_here q e (eqb-true i q h) is in let none : get (fresh_core n).granted m ≡ Some d = ap (λ (x : SemaphoreEntry). get x.core.granted m) same ∙ grants in let nothing = get-empty {X = ℕ} nat_cmp m in cc)
         granted_at q e m d is grants false h =
-          let o = k.linked.granted q e m d (sym (semaphore_other q (eqb-false i q h)) ∙ is) grants in
-          record { name = o.name; entry = o.entry; there = ap (λ x. get x o.name) futures ∙ o.there; semaphore = o.semaphore; acquire = o.acquire }
+            let o = k.linked.granted q e m d (sym (semaphore_other q (eqb-false i q h)) ∙ is) grants in
+            record { name = o.name; entry = o.entry; there = ap (λ x. get x o.name) futures ∙ o.there; semaphore = o.semaphore; acquire = o.acquire }
 
         numbered_at : (q : ℕ) (e : SemaphoreEntry) → get st'.semaphores q ≡ Some e → (t : Bool) → (i == q) ≡ t → IsNumbered e.core
         numbered_at q e is true h = subst (λ (x : SemaphoreEntry). IsNumbered x.core) (semaphore_here q e (eqb-true i q h) is) (record { apart = tt; granted_apart = λ m waits. absurd (waits refl) })
@@ -127,8 +126,8 @@ module _ (st : Store) (w sp next i : ℕ) (k : IsKept st w sp next) (less : next
         at_each : (g : ℕ) (o : Option FutureEntry) → get st.futures g ≡ o → option_map (future_of st'.semaphores) o ≡ option_map (future_of st.semaphores) o
         at_each g None is = refl
         at_each g (Some x) is =
-          let h = home_of g x is in
-          λ j. Some (record { semaphore = x.semaphore; demand = demand_of x.acquire; plain = x.plain; forgets = x.forgets; stage = stage_of x.acquire (queue_in (semaphore_other x.semaphore (not_there x.semaphore h.entry h.there) j)) })
+            let h = home_of g x is in
+            λ j. Some (record { semaphore = x.semaphore; demand = demand_of x.acquire; plain = x.plain; forgets = x.forgets; stage = stage_of x.acquire (queue_in (semaphore_other x.semaphore (not_there x.semaphore h.entry h.there) j)) })
 
     hall_now : hall_of st' (i + 1) ≡ with_semaphore (hall_of st next) i (made_with n)
     hall_now =
@@ -184,8 +183,8 @@ module _ (st : Store) (w sp next i : ℕ) (k : IsKept st w sp next) (less : next
 
         counted_now : w ≡ total (λ q (x : SemaphoreEntry). wakers_in x.core.queue) st'.semaphores
         counted_now =
-          let sums = total-insert (λ q (x : SemaphoreEntry). wakers_in x.core.queue) st.semaphores i (fresh_entry n) in
-          let mine : weight (λ q (x : SemaphoreEntry). wakers_in x.core.queue) i (get st.semaphores i) ≡ 0 = ap (weight (λ q (x : SemaphoreEntry). wakers_in x.core.queue) i) no_semaphore in
-          let now : total (λ q (x : SemaphoreEntry). wakers_in x.core.queue) st'.semaphores ≡ total (λ q (x : SemaphoreEntry). wakers_in x.core.queue) (insert st.semaphores i (fresh_entry n)) = ap (total (λ q (x : SemaphoreEntry). wakers_in x.core.queue)) inserted in
-          let before = k.counted in
-          omega (arith, sums, mine, now, before)
+            let sums = total-insert (λ q (x : SemaphoreEntry). wakers_in x.core.queue) st.semaphores i (fresh_entry n) in
+            let mine : weight (λ q (x : SemaphoreEntry). wakers_in x.core.queue) i (get st.semaphores i) ≡ 0 = ap (weight (λ q (x : SemaphoreEntry). wakers_in x.core.queue) i) no_semaphore in
+            let now : total (λ q (x : SemaphoreEntry). wakers_in x.core.queue) st'.semaphores ≡ total (λ q (x : SemaphoreEntry). wakers_in x.core.queue) (insert st.semaphores i (fresh_entry n)) = ap (total (λ q (x : SemaphoreEntry). wakers_in x.core.queue)) inserted in
+            let before = k.counted in
+            omega (arith, sums, mine, now, before)

@@ -1,5 +1,5 @@
 -- events that make, change and end permits, and give nothing back
-use Rattle.std.proofs.Common.{◌≡◌, ◌≢◌, ℕ, ◌+◌, ◌-◌, ◌*◌, ◌^◌, ◌<◌, ◌≤◌, ◌==◌, Bool, true, false, cond, List, [], nat_le, refl, ap, sym, subst, ◌∙◌, arith, Option, Some, None, is_some, if◌then◌else◌}
+use Rattle.std.proofs.Common.{◌≡◌, ℕ, ◌+◌, ◌-◌, ◌^◌, ◌<◌, ◌≤◌, ◌==◌, Bool, true, false, cond, nat_le, refl, ap, sym, subst, ◌∙◌, arith, Option, Some, None, is_some, if◌then◌else◌}
 use Rattle.std.specs.Ordering.{nat_cmp}
 use Rattle.std.specs.FinMap.{FinMap, get, insert, remove}
 use Rattle.std.proofs.lemmas.Bool.{le-leb, eqb-true}
@@ -10,19 +10,19 @@ use Rattle.mea_base.specs.declared.answer.Answer.TheVariants as answers
 use Rattle.mea_base.proofs.Totals.{get_removed, get_inserted}
 use Rattle.mea_sem_model.specs.declared.event.SemEvent.{SemEvent}
 use Rattle.mea_sem_model.specs.declared.event.SemEvent.TheVariants as events
-use Rattle.mea_sem_model.specs.Hall.{Hall, Semaphore, Permit, semaphore_at, with_semaphore, free, held, plain_things}
+use Rattle.mea_sem_model.specs.Hall.{Hall, Semaphore, Permit, semaphore_at, with_semaphore, free, held}
 use Rattle.mea_sem_model.specs.Cause.{cause_of}
 use Rattle.mea_sem_model.specs.Valid.{Fits}
-use Rattle.mea_sem_model.specs.Step.{Outcome, step, quietly, taking, with_permit, without_permit, try_of, lose_of, merge_of, split_of}
+use Rattle.mea_sem_model.specs.Step.{step, quietly, taking, with_permit, without_permit, try_of, lose_of, merge_of, split_of}
 use Rattle.mea_sem_core.specs.Core as cores
 use Rattle.mea_sem.specs.declared.entries.SemaphoreEntry.{SemaphoreEntry}
-use Rattle.mea_sem.specs.Store.{Store, queue_of, semaphore_of, hall_of, IsLinked}
-use Rattle.mea_sem.specs.Kept.{wakers_in, IsKept, IsKeptEntry}
+use Rattle.mea_sem.specs.Store.{Store, queue_of, semaphore_of, hall_of}
+use Rattle.mea_sem.specs.Kept.{IsKept}
 use Rattle.mea_sem.proofs.Cores.{at_same, at_apart}
 use Rattle.mea_sem.proofs.PourHalls.{seen_at}
 use Rattle.mea_sem.proofs.Still.{IsStill, still_queue, linked_still, queue_still, hall_still}
 use Rattle.mea_sem.proofs.Weighs.{Weighs, one, weighs_after, weighs_as, weighs_new_permit, weighs_permit, weighs_lost_permit}
-use Rattle.mea_sem.proofs.Keeping.{Plays, Settles, settled, settled_as}
+use Rattle.mea_sem.proofs.Keeping.{Plays, settled_as}
 use Rattle.mea_sem.proofs.PlaysSemaphores.{Puts}
 
 -- there is no permit of a number that was not given

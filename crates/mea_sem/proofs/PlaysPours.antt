@@ -1,18 +1,12 @@
 -- events that pour: first one thing leaves, and then what it had is poured
-use Rattle.std.proofs.Common.{◌≡◌, ◌≢◌, ◌⊎◌, inl, inr, ℕ, ◌+◌, ◌-◌, ◌*◌, ◌^◌, ◌<◌, ◌≤◌, ◌==◌, ◌&&◌, ◌||◌, ◌++◌, Bool, true, false, not, cond, List, [], ◌∷◌, map, filter, length, min, refl, ap, sym, subst, ◌∙◌, arith, Option, Some, None, sum_by, zero, suc}
-use Rattle.std.specs.List.{AllByRecursion}
-use Rattle.std.specs.Option.{option_map}
-use Rattle.std.specs.Ordering.{nat_cmp}
-use Rattle.std.specs.FinMap.{FinMap, get, insert, remove}
-use Rattle.std.proofs.lemmas.List.Sums.{sum_by-cons}
-use Rattle.std.proofs.lemmas.Bool.{eqb-true, eqb-false, eq-eqb, and_from, and_parts}
-use Rattle.mea_base.specs.Queue.{lacks_after, waiting_after, granted_in, left_over}
+use Rattle.std.proofs.Common.{◌≡◌, ℕ, ◌+◌, ◌-◌, ◌^◌, ◌<◌, ◌≤◌, ◌==◌, Bool, true, false, cond, List, [], ◌∷◌, filter, length, min, refl, ap, sym, ◌∙◌, arith, Some, None}
+use Rattle.std.specs.FinMap.{get, insert}
+use Rattle.mea_base.specs.Queue.{lacks_after, waiting_after, granted_in}
 use Rattle.mea_sem_model.specs.declared.event.SemEvent.{SemEvent}
-use Rattle.mea_sem_model.specs.declared.event.SemEvent.TheVariants as events
-use Rattle.mea_sem_model.specs.Hall.{Hall, Semaphore, Future, Permit, Stage, New, Waiting, Granted, Who, Waiter, Debt, semaphore_at, with_semaphore, pour, wakes_of}
+use Rattle.mea_sem_model.specs.Hall.{Hall, pour, wakes_of}
 use Rattle.mea_sem_model.specs.Cause.{cause_of}
 use Rattle.mea_sem_model.specs.Valid.{Fits}
-use Rattle.mea_sem_model.specs.Step.{Outcome, step, pouring}
+use Rattle.mea_sem_model.specs.Step.{step}
 use Rattle.mea_sem_core.specs.Core as cores
 use Rattle.mea_sem.specs.declared.entries.SemaphoreEntry.{SemaphoreEntry}
 use Rattle.mea_sem.specs.Store.{Store, hall_of, IsLinked}
@@ -21,7 +15,7 @@ use Rattle.mea_base.proofs.Totals.{get_inserted}
 use Rattle.mea_sem.proofs.Cores.{debts-pour, still_waiting, paid_whole, one_more, at_same}
 use Rattle.mea_sem.proofs.PourHalls.{PoursInto, hall_poured, linked_poured, wakes_seen}
 use Rattle.mea_sem.proofs.Weighs.{Weighs, weighs_after, weighs_as, weighs_pour}
-use Rattle.mea_sem.proofs.Keeping.{Plays, Settles, settled_as}
+use Rattle.mea_sem.proofs.Keeping.{Plays, settled_as}
 
 -- ---- the wakers of those who are granted leave the queue
 wakers_split : (q : List (cores.Waiter ℕ × ℕ)) (before n : ℕ) → wakers_in (still_waiting (lacks_after before q n)) + length (cores.wakers_of (paid_whole (lacks_after before q n))) ≡ wakers_in q

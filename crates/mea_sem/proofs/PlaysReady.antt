@@ -1,27 +1,25 @@
 -- a poll that is ready: the future is gone, and its permits are forgotten or become a permit
-use Rattle.std.proofs.Common.{◌≡◌, ◌≢◌, ℕ, ◌+◌, ◌-◌, ◌*◌, ◌^◌, ◌<◌, ◌≤◌, ◌==◌, Bool, true, false, cond, List, [], refl, ap, sym, subst, ◌∙◌, arith, Option, Some, None, if◌then◌else◌}
-use Rattle.std.specs.Option.{option_map}
+use Rattle.std.proofs.Common.{◌≡◌, ℕ, ◌+◌, ◌-◌, ◌^◌, ◌<◌, ◌≤◌, ◌==◌, Bool, true, false, cond, refl, ap, sym, subst, ◌∙◌, arith, Some, None, if◌then◌else◌}
 use Rattle.std.specs.Ordering.{nat_cmp}
 use Rattle.std.specs.FinMap.{FinMap, get, insert, remove}
-use Rattle.std.proofs.lemmas.Bool.{eqb-true}
 use Rattle.mea_base.specs.declared.answer.Answer.{Answer}
 use Rattle.mea_base.proofs.NamedMaps.{same_named}
 use Rattle.mea_base.proofs.Totals.{get_inserted}
 use Rattle.mea_sem_model.specs.declared.event.SemEvent.TheVariants as events
-use Rattle.mea_sem_model.specs.Hall.{Hall, Semaphore, Future, Permit, Stage, semaphore_at, with_semaphore}
+use Rattle.mea_sem_model.specs.Hall.{Hall, Semaphore, Future, Permit, semaphore_at, with_semaphore}
 use Rattle.mea_sem_model.specs.Cause.{cause_of}
-use Rattle.mea_sem_model.specs.Step.{Outcome, step, quietly, without_future, with_permit, made_ready}
+use Rattle.mea_sem_model.specs.Step.{step, quietly, without_future, with_permit, made_ready}
 use Rattle.mea_sem_core.specs.Core as cores
 use Rattle.mea_sem.specs.declared.entries.SemaphoreEntry.{SemaphoreEntry}
 use Rattle.mea_sem.specs.declared.entries.FutureEntry.{FutureEntry}
-use Rattle.mea_sem.specs.Store.{Store, queue_of, semaphore_of, future_of, hall_of, IsLinked}
+use Rattle.mea_sem.specs.Store.{Store, queue_of, hall_of}
 use Rattle.mea_sem.specs.Kept.{wakers_in, IsKept}
 use Rattle.mea_sem.proofs.Cores.{at_same}
 use Rattle.mea_sem_model.proofs.HallLemmas.{semaphore_put}
 use Rattle.mea_sem.proofs.Gone.{Leaves, linked_gone, hall_gone}
 use Rattle.mea_sem.proofs.Weighs.{Weighs, one, weighs_after, weighs_as, weighs_new_permit, weighs_lost_future}
-use Rattle.mea_sem.proofs.Keeping.{Plays, Settles, settled_as}
-use Rattle.mea_sem.proofs.PlaysPermits.{no_permit, weighs_besides}
+use Rattle.mea_sem.proofs.Keeping.{Plays, settled_as}
+use Rattle.mea_sem.proofs.PlaysPermits.{no_permit}
 
 -- what is put twice is what was put last
 pub insert_twice : {X : Type 0} (m : FinMap nat_cmp X) (k : ℕ) (v w : X) → insert (insert m k v) k w ≡ insert m k w
@@ -69,9 +67,9 @@ module _ (st st' : Store) (w sp next i s f v : ℕ) (x : FutureEntry) (y : Futur
       let old = k.each s e c.there in
       let counts = future_counts st w sp next f y e k seen (ap (get st.semaphores) mine ∙ c.there) in
       let forgot : with_semaphore (without_future h1 f) y.semaphore (record (semaphore_at h1 y.semaphore) { forgotten = (semaphore_at h1 y.semaphore).forgotten + y.demand }) ≡ forgot_hall =
-        ap (λ q. with_semaphore (without_future h1 f) q (record (semaphore_at h1 q) { forgotten = (semaphore_at h1 q).forgotten + y.demand })) mine
-        ∙ ap (λ r. with_semaphore (without_future h1 f) s (record r { forgotten = r.forgotten + y.demand })) m_at
-        ∙ (λ j. record { semaphores = insert_twice h.semaphores s m (record m { forgotten = m.forgotten + y.demand }) j; futures = remove h.futures f; permits = h.permits }) in
+      ap (λ q. with_semaphore (without_future h1 f) q (record (semaphore_at h1 q) { forgotten = (semaphore_at h1 q).forgotten + y.demand })) mine
+      ∙ ap (λ r. with_semaphore (without_future h1 f) s (record r { forgotten = r.forgotten + y.demand })) m_at
+      ∙ (λ j. record { semaphores = insert_twice h.semaphores s m (record m { forgotten = m.forgotten + y.demand }) j; futures = remove h.futures f; permits = h.permits }) in
       let target : (step h i (events.Poll f v)).hall ≡ forgot_hall = ap (λ o. o.hall) chosen ∙ ap (λ b. (if b then with_semaphore (without_future h1 f) y.semaphore (record (semaphore_at h1 y.semaphore) { forgotten = (semaphore_at h1 y.semaphore).forgotten + y.demand }) else with_permit (without_future h1 f) i (record { semaphore = y.semaphore; size = y.demand; plain = y.plain }))) forgets ∙ forgot in
       let lost : Weighs h forgot_hall s 0 0 (one x.plain) 0 = (let l = subst (λ q. Weighs h (without_future h f) q 0 0 (one y.plain) 0) mine (weighs_lost_future h f y seen) in
       let l2 = subst (λ b. Weighs h (without_future h f) s 0 0 (one b) 0) form l in record { held = λ q. l2.held q; plain = λ q. l2.plain q }) in
@@ -110,7 +108,7 @@ module _ (st st' : Store) (w sp next i s f v : ℕ) (x : FutureEntry) (y : Futur
       let old = k.each s e c.there in
       let z : Permit = record { semaphore = s; size = y.demand; plain = x.plain } in
       let target : (step h i (events.Poll f v)).hall ≡ permit_hall = ap (λ o. o.hall) chosen ∙ ap (λ b. (if b then with_semaphore (without_future h1 f) y.semaphore (record (semaphore_at h1 y.semaphore) { forgotten = (semaphore_at h1 y.semaphore).forgotten + y.demand }) else with_permit (without_future h1 f) i (record { semaphore = y.semaphore; size = y.demand; plain = y.plain }))) forgets
-        ∙ (λ j. record { semaphores = insert h.semaphores s m; futures = remove h.futures f; permits = insert h.permits i (record { semaphore = mine j; size = y.demand; plain = form j }) }) in
+      ∙ (λ j. record { semaphores = insert h.semaphores s m; futures = remove h.futures f; permits = insert h.permits i (record { semaphore = mine j; size = y.demand; plain = form j }) }) in
       let lost : Weighs h (without_future h f) s 0 0 (one x.plain) 0 = subst (λ b. Weighs h (without_future h f) s 0 0 (one b) 0) form (subst (λ q. Weighs h (without_future h f) q 0 0 (one y.plain) 0) mine (weighs_lost_future h f y seen)) in
       let come : Weighs (without_future h f) permit_hall s 0 y.demand 0 (one x.plain) = (let l = weighs_new_permit (without_future h f) i z (no_permit st w sp next i k less) in record { held = λ q. l.held q; plain = λ q. l.plain q }) in
       let both = weighs_after h (without_future h f) permit_hall s 0 0 (one x.plain) 0 0 y.demand 0 (one x.plain) lost come in

@@ -1,26 +1,24 @@
 -- events that change a semaphore and nothing else
-use Rattle.std.proofs.Common.{◌≡◌, ◌≢◌, ◌⊎◌, inl, inr, ℕ, ◌+◌, ◌-◌, ◌*◌, ◌^◌, ◌<◌, ◌≤◌, ◌==◌, Bool, true, false, cond, List, [], ◌∷◌, min, nat_le, refl, ap, sym, subst, ◌∙◌, arith, Option, Some, None, if◌then◌else◌}
-use Rattle.std.specs.Ordering.{nat_cmp}
-use Rattle.std.specs.FinMap.{FinMap, get, insert}
-use Rattle.std.proofs.lemmas.Bool.Decides.{nat_tests}
+use Rattle.std.proofs.Common.{◌≡◌, ℕ, ◌+◌, ◌-◌, ◌^◌, ◌<◌, ◌≤◌, ◌==◌, true, false, cond, List, ◌∷◌, min, nat_le, refl, ap, sym, ◌∙◌, arith, Some, None, if◌then◌else◌}
+use Rattle.std.specs.FinMap.{get, insert}
 use Rattle.mea_sem_model.specs.declared.event.SemEvent.{SemEvent}
 use Rattle.mea_sem_model.specs.declared.event.SemEvent.TheVariants as events
-use Rattle.mea_sem_model.specs.Hall.{Hall, Semaphore, Permit, Who, Debt, semaphore_at, with_semaphore, free}
+use Rattle.mea_sem_model.specs.Hall.{Hall, Debt, semaphore_at, with_semaphore, free}
 use Rattle.mea_sem_model.specs.Cause.{cause_of}
 use Rattle.mea_sem_model.specs.Valid.{Fits}
-use Rattle.mea_sem_model.specs.Step.{Outcome, step, quietly, forgetting, forgetting_exactly, with_debt, try_and_forget}
+use Rattle.mea_sem_model.specs.Step.{step, quietly, forgetting, forgetting_exactly, with_debt, try_and_forget}
 use Rattle.mea_base.specs.declared.answer.Answer.TheVariants as answers
 use Rattle.std.proofs.lemmas.Bool.{le-leb}
 use Rattle.mea_sem_core.specs.Core as cores
 use Rattle.mea_sem_core.specs.Calls as calls
 use Rattle.mea_sem.specs.declared.entries.SemaphoreEntry.{SemaphoreEntry}
-use Rattle.mea_sem.specs.Store.{Store, queue_of, semaphore_of, hall_of, IsLinked}
+use Rattle.mea_sem.specs.Store.{Store, queue_of, semaphore_of, hall_of}
 use Rattle.mea_sem.specs.Kept.{wakers_in, IsKept}
 use Rattle.mea_sem.proofs.PourHalls.{seen_at}
 use Rattle.mea_sem.proofs.Renumbered.{hall_renumbered, kept_renumbered}
 use Rattle.mea_sem.proofs.Still.{IsStill, still_queue, linked_still, queue_still, hall_still}
-use Rattle.mea_sem.proofs.Weighs.{Weighs, weighs_semaphore}
-use Rattle.mea_sem.proofs.Keeping.{Plays, Settles, settled, settled_as}
+use Rattle.mea_sem.proofs.Weighs.{weighs_semaphore}
+use Rattle.mea_sem.proofs.Keeping.{Plays, settled, settled_as}
 use Rattle.mea_sem.proofs.Cores.{waiting-debt, waker-debt, AreApart-debt, debts-debt}
 
 -- s alone is changed, and has e' now
@@ -108,7 +106,7 @@ module _ (st st' : Store) (w sp next i s n : ℕ) (e : SemaphoreEntry) (k : IsKe
       let old = k.each s e c.there in
       let h : Hall = hall_of st next in
       let queue : queue_of st'.futures (i + 1) s exactly_entry.core.queue ≡ with_debt (queue_of st.futures next s e.core.queue) (n - min n e.core.free) =
-        seen_debt (i + 1) (n - min n e.core.free) e.core.queue ∙ ap (λ q. with_debt q (n - min n e.core.free)) (queue_still st st' next i s e exactly_entry k.linked less c.there c.semaphores c.futures still) in
+      seen_debt (i + 1) (n - min n e.core.free) e.core.queue ∙ ap (λ q. with_debt q (n - min n e.core.free)) (queue_still st st' next i s e exactly_entry k.linked less c.there c.semaphores c.futures still) in
       settled st st' w sp next i s (events.Forgetx s n) e exactly_entry k less low tt allowed w sp 0 0 0 0 c.there c.semaphores
       (hall_still st st' next i s e exactly_entry k.linked less c.there c.semaphores c.futures still (with_debt (queue_of st.futures next s e.core.queue) (n - min n e.core.free)) queue
       ∙ (λ j. record { semaphores = insert h.semaphores s (forgetting_exactly (sym (seen_at st next s e k.linked c.there) j) n); futures = h.futures; permits = permits j }))

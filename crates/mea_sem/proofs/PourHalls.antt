@@ -1,26 +1,25 @@
 -- a pour into a core is a pour into the hall that is stood for
-use Rattle.std.proofs.Common.{◌≡◌, ◌≢◌, ◌⊎◌, inl, inr, ℕ, ◌+◌, ◌-◌, ◌<◌, ◌≤◌, ◌==◌, ◌||◌, ◌++◌, Bool, true, false, cond, List, [], ◌∷◌, map, refl, ap, sym, subst, ◌∙◌, arith, Option, Some, None, unwrap_or}
+use Rattle.std.proofs.Common.{◌≡◌, ◌≢◌, inl, inr, ℕ, ◌+◌, ◌-◌, ◌==◌, ◌||◌, ◌++◌, Bool, true, false, cond, List, [], ◌∷◌, map, refl, ap, sym, subst, ◌∙◌, Option, Some, None, unwrap_or}
 use Rattle.std.specs.List.{AllByRecursion, flat_map}
 use Rattle.std.specs.Option.{option_map}
 use Rattle.std.specs.Ordering.{nat_cmp}
-use Rattle.std.specs.FinMap.{FinMap, get, insert, remove, entries}
-use Rattle.std.proofs.lemmas.Bool.{eqb-true, eqb-false, eq-eqb, ne_eqb}
-use Rattle.mea_base.specs.Named.{named}
-use Rattle.mea_base.specs.Queue.{lacks, waiting_after, granted_in, left_over}
+use Rattle.std.specs.FinMap.{FinMap, get}
+use Rattle.std.proofs.lemmas.Bool.{eqb-true, eqb-false, eq-eqb}
+use Rattle.mea_base.specs.Queue.{waiting_after, granted_in, left_over}
 use Rattle.mea_base.proofs.NamedMaps.{same_named}
 use Rattle.mea_base.proofs.Totals.{get_inserted}
-use Rattle.mea_base.proofs.Queues.{waiting_after-map, granted_in-map, lacks-map, granted_in_keeps, waiting_after_keeps}
-use Rattle.mea_sem_model.specs.Hall.{Hall, Semaphore, Future, Stage, New, Waiting, Granted, Who, Waiter, Debt, made_with, semaphore_at, queue_at, poured, granted, grant_if, grant_who, grant_all, pour, waker_of, waker_of_future, waker_of_who, wakes_of, names}
+use Rattle.mea_base.proofs.Queues.{waiting_after-map, granted_in-map, lacks-map, granted_in_keeps}
+use Rattle.mea_sem_model.specs.Hall.{Future, Stage, Granted, Who, Waiter, Debt, made_with, semaphore_at, queue_at, poured, granted, grant_if, grant_who, grant_all, pour, waker_of, waker_of_future, waker_of_who, wakes_of, names}
 use Rattle.mea_sem_core.specs.declared.acquire.Acquire.{Acquire}
 use Rattle.mea_sem_core.specs.declared.acquire.Acquire.TheVariants as acquires
 use Rattle.mea_sem_core.specs.Acquire.{demand_of}
 use Rattle.mea_sem_core.specs.Core as cores
-use Rattle.mea_sem_core.specs.Calls.{Belongs, IsWaitingAs, IsGrantedAs}
+use Rattle.mea_sem_core.specs.Calls.{Belongs}
 use Rattle.mea_sem.specs.declared.entries.SemaphoreEntry.{SemaphoreEntry}
 use Rattle.mea_sem.specs.declared.entries.FutureEntry.{FutureEntry}
-use Rattle.mea_sem.specs.Store.{Store, is_under, has, name_of, who_of, queue_of, semaphore_of, stage_of, stage_under, queue_in, future_of, hall_of, IsOpen, IsHome, IsOwned, IsNumbered, IsLinked}
-use Rattle.mea_sem.proofs.Cores.{Queue, IsAt, all_at, all_by, at_same, at_apart, is_number, is_among, Splits, pour_splits, AreApart-waiting_after, granting-other, granted-poured, waker-none}
-use Rattle.mea_sem.proofs.Names.{get-seen, has-parts, has-from, under-queued, owner_has, name-has, name-owner, only_owner}
+use Rattle.mea_sem.specs.Store.{Store, is_under, has, name_of, who_of, queue_of, semaphore_of, stage_of, stage_under, queue_in, future_of, hall_of, IsHome, IsOwned, IsNumbered, IsLinked}
+use Rattle.mea_sem.proofs.Cores.{IsAt, all_at, all_by, at_same, at_apart, is_number, is_among, Splits, pour_splits, AreApart-waiting_after, granting-other, granted-poured}
+use Rattle.mea_sem.proofs.Names.{get-seen, has-parts, has-from, owner_has, name-has, name-owner}
 
 -- the core after a pour, as the queue and the granted numbers see it
 pub record PoursInto (st st' : Store) (s n : ℕ) (e e' : SemaphoreEntry) : Type 0 where
@@ -44,9 +43,9 @@ among (w ∷ ws) f = names w f || among ws f
 -- ---- what granting does to each future
 get-grant_if : (m : FinMap nat_cmp Future) (f q : ℕ) (o : Option Future) → get m f ≡ o → get (grant_if m f o) q ≡ cond (f == q) (option_map granted (get m q)) (get m q)
 get-grant_if m f q None is = elim (f == q) as (λ b. (f == q) ≡ b → get m q ≡ cond b (option_map granted (get m q)) (get m q)) [
-    | true ↦ λ h. let gone : get m q ≡ None = ap (get m) (sym (eqb-true f q h)) ∙ is in rw gone
-    | false ↦ λ h. refl
-  ] refl
+  | true ↦ λ h. let gone : get m q ≡ None = ap (get m) (sym (eqb-true f q h)) ∙ is in rw gone
+  | false ↦ λ h. refl
+] refl
 get-grant_if m f q (Some x) is = get_inserted m f q (granted x)
     ∙ elim (f == q) as (λ b. (f == q) ≡ b → cond b (Some (granted x)) (get m q) ≡ cond b (option_map granted (get m q)) (get m q)) [
       | true ↦ λ h. let there : get m q ≡ Some x = ap (get m) (sym (eqb-true f q h)) ∙ is in rw there
@@ -90,17 +89,17 @@ module _ (st : Store) (b s : ℕ) (e : SemaphoreEntry) (linked : IsLinked st b) 
 
       to : (name_of st.futures b s m == q) ≡ true → (m == n) ≡ true
       to h =
-        let named : owner.name ≡ q = sym (name-owner st b s m f linked owner) ∙ eqb-true _ _ h in
-        let both : Some x ≡ Some owner.entry = sym is ∙ ap (get st.futures) (sym named) ∙ owner.there in
-        let same : x ≡ owner.entry = cc in
-        let number : acquires.Queued d n ≡ acquires.Queued f m = sym acquire ∙ ap (λ (z : FutureEntry). z.acquire) same ∙ owner.acquire in
-        eq-eqb m n (let e : n ≡ m = cc in sym e)
+          let named : owner.name ≡ q = sym (name-owner st b s m f linked owner) ∙ eqb-true _ _ h in
+          let both : Some x ≡ Some owner.entry = sym is ∙ ap (get st.futures) (sym named) ∙ owner.there in
+          let same : x ≡ owner.entry = cc in
+          let number : acquires.Queued d n ≡ acquires.Queued f m = sym acquire ∙ ap (λ (z : FutureEntry). z.acquire) same ∙ owner.acquire in
+          eq-eqb m n (let e : n ≡ m = cc in sym e)
 
       from : (m == n) ≡ true → (name_of st.futures b s m == q) ≡ true
       from h =
-        let same : m ≡ n = eqb-true m n h in
-        let here : has s m (get st.futures q) ≡ true = has-from s m (get st.futures q) x is mine (ap (λ a. is_under a m) acquire ∙ eq-eqb n m (sym same)) in
-        eq-eqb _ _ (name-has st b s m q linked here)
+          let same : m ≡ n = eqb-true m n h in
+          let here : has s m (get st.futures q) ≡ true = has-from s m (get st.futures q) x is mine (ap (λ a. is_under a m) acquire ∙ eq-eqb n m (sym same)) in
+          eq-eqb _ _ (name-has st b s m q linked here)
   names-number q x cores.Owes l is mine at n d acquire = refl
 
   -- each of them is found in the queue
@@ -126,10 +125,10 @@ module _ (st : Store) (b s : ℕ) (e : SemaphoreEntry) (linked : IsLinked st b) 
       by_test : (t : Bool) → (name_of st.futures b s m == q) ≡ t → t ≡ false
       by_test false h = refl
       by_test true h =
-        let named : owner.name ≡ q = sym (name-owner st b s m f linked owner) ∙ eqb-true _ _ h in
-        let here : has s m (get st.futures q) ≡ true = ap (λ k. has s m (get st.futures k)) (sym named) ∙ owner_has st s m f owner in
-        let no : has s m (get st.futures q) ≡ false = none m in
-        absurd (cc)
+          let named : owner.name ≡ q = sym (name-owner st b s m f linked owner) ∙ eqb-true _ _ h in
+          let here : has s m (get st.futures q) ≡ true = ap (λ k. has s m (get st.futures k)) (sym named) ∙ owner_has st s m f owner in
+          let no : has s m (get st.futures q) ≡ false = none m in
+          absurd (cc)
   unnamed q cores.Owes l at none = refl
 
   among-unnamed : (q : ℕ) → ((n : ℕ) → has s n (get st.futures q) ≡ false) → (ws : List (cores.Waiter ℕ)) → AllByRecursion IsFound ws → among (map (who_of st.futures b s) ws) q ≡ false
@@ -149,11 +148,11 @@ module _ (st : Store) (b s : ℕ) (e : SemaphoreEntry) (linked : IsLinked st b) 
 
       here : waker_of_who (hall_of st b).futures (who_of st.futures b s (cores.Acquires m f v)) ≡ v ∷ []
       here =
-        ap waker_of_future (get-seen (λ g x. future_of st.semaphores x) st.futures (name_of st.futures b s m) ∙ ap (option_map (future_of st.semaphores)) (ap (get st.futures) (name-owner st b s m f linked owner) ∙ owner.there))
-        ∙ ap (λ a. waker_of (stage_of a (queue_in (get st.semaphores owner.entry.semaphore)))) owner.acquire
-        ∙ ap (λ k. waker_of (stage_under (cores.waker_under (queue_in (get st.semaphores k)) m))) owner.semaphore
-        ∙ ap (λ d. waker_of (stage_under (cores.waker_under (queue_in d) m))) there
-        ∙ ap (λ o. waker_of (stage_under o)) found.0.1.1
+          ap waker_of_future (get-seen (λ g x. future_of st.semaphores x) st.futures (name_of st.futures b s m) ∙ ap (option_map (future_of st.semaphores)) (ap (get st.futures) (name-owner st b s m f linked owner) ∙ owner.there))
+          ∙ ap (λ a. waker_of (stage_of a (queue_in (get st.semaphores owner.entry.semaphore)))) owner.acquire
+          ∙ ap (λ k. waker_of (stage_under (cores.waker_under (queue_in (get st.semaphores k)) m))) owner.semaphore
+          ∙ ap (λ d. waker_of (stage_under (cores.waker_under (queue_in d) m))) there
+          ∙ ap (λ o. waker_of (stage_under o)) found.0.1.1
   wakers_seen (cores.Owes ∷ ws) found = wakers_seen ws found.1
 
   pub wakes_seen : (n : ℕ) → wakes_of (hall_of st b) s n ≡ cores.wakers_of (granted_in e.core.queue n)
@@ -207,15 +206,15 @@ module _ (st st' : Store) (b s n : ℕ) (e e' : SemaphoreEntry) (linked : IsLink
       by_test : (t : Bool) → (s == y.semaphore) ≡ t → IsHome st' y
       by_test false h = record { entry = old.entry; there = semaphore_other y.semaphore (eqb-false s y.semaphore h) ∙ old.there; belongs = old.belongs; open_still = old.open_still }
       by_test true h =
-        let mine : s ≡ y.semaphore = eqb-true s y.semaphore h in
-        let both : Some e ≡ Some old.entry = sym c.there ∙ ap (get st.semaphores) mine ∙ old.there in
-        let same : e ≡ old.entry = cc in
-        record {
-          entry = e';
-          there = ap (get st'.semaphores) (sym mine) ∙ semaphore_there;
-          belongs = belongs_still y.acquire (subst (λ (d : SemaphoreEntry). Belongs d.core y.acquire) (sym same) old.belongs);
-          open_still = old.open_still;
-        }
+          let mine : s ≡ y.semaphore = eqb-true s y.semaphore h in
+          let both : Some e ≡ Some old.entry = sym c.there ∙ ap (get st.semaphores) mine ∙ old.there in
+          let same : e ≡ old.entry = cc in
+          record {
+            entry = e';
+            there = ap (get st'.semaphores) (sym mine) ∙ semaphore_there;
+            belongs = belongs_still y.acquire (subst (λ (d : SemaphoreEntry). Belongs d.core y.acquire) (sym same) old.belongs);
+            open_still = old.open_still;
+          }
 
   owned_moved : (q k d : ℕ) → IsOwned st q k d → IsOwned st' q k d
   owned_moved q k d w = record { name = w.name; entry = w.entry; there = ap (λ m. get m w.name) c.futures ∙ w.there; semaphore = w.semaphore; acquire = w.acquire }
@@ -226,12 +225,12 @@ module _ (st st' : Store) (b s n : ℕ) (e e' : SemaphoreEntry) (linked : IsLink
       by_test : (t : Bool) → (s == q) ≡ t → IsOwned st' q k demand
       by_test false h = owned_moved q k demand (linked.owned q d k demand l (sym (semaphore_other q (eqb-false s q h)) ∙ is) waits)
       by_test true h =
-        let same : s ≡ q = eqb-true s q h in
-        let both : Some e' ≡ Some d = sym semaphore_there ∙ ap (get st'.semaphores) same ∙ is in
-        let one : d ≡ e' = cc in
-        let now : cores.waiting (waiting_after e.core.queue n) k ≡ Some (demand, l) = ap (λ p. cores.waiting p k) (sym c.queue) ∙ ap (λ (x : SemaphoreEntry). cores.waiting x.core.queue k) (sym one) ∙ waits in
-        let before = (split_at k).waits demand l now in
-        subst (λ p. IsOwned st' p k demand) same (owned_moved s k demand (linked.owned s e k demand before.0 c.there before.1))
+          let same : s ≡ q = eqb-true s q h in
+          let both : Some e' ≡ Some d = sym semaphore_there ∙ ap (get st'.semaphores) same ∙ is in
+          let one : d ≡ e' = cc in
+          let now : cores.waiting (waiting_after e.core.queue n) k ≡ Some (demand, l) = ap (λ p. cores.waiting p k) (sym c.queue) ∙ ap (λ (x : SemaphoreEntry). cores.waiting x.core.queue k) (sym one) ∙ waits in
+          let before = (split_at k).waits demand l now in
+          subst (λ p. IsOwned st' p k demand) same (owned_moved s k demand (linked.owned s e k demand before.0 c.there before.1))
 
   -- who is granted now was so before, or waited
   granted_from : (k d : ℕ) → get e'.core.granted k ≡ Some d → IsOwned st s k d
@@ -243,9 +242,9 @@ module _ (st st' : Store) (b s n : ℕ) (e e' : SemaphoreEntry) (linked : IsLink
       waited : (o : Option (ℕ × ℕ)) → cores.waiting e.core.queue k ≡ o → is_among (granted_in e.core.queue n) k ≡ true → IsOwned st s k d
       waited None none among = absurd (let no = ((split_at k).none none).1 in cc)
       waited (Some p) some among =
-        let both : Some p.0 ≡ Some d = sym (granted-poured e.core.granted e.core.queue n k p.0 p.1 apart_before some among) ∙ now in
-        let demand : p.0 ≡ d = cc in
-        subst (IsOwned st s k) demand (linked.owned s e k p.0 p.1 c.there some)
+          let both : Some p.0 ≡ Some d = sym (granted-poured e.core.granted e.core.queue n k p.0 p.1 apart_before some among) ∙ now in
+          let demand : p.0 ≡ d = cc in
+          subst (IsOwned st s k) demand (linked.owned s e k p.0 p.1 c.there some)
 
       by_test : (t : Bool) → is_among (granted_in e.core.queue n) k ≡ t → IsOwned st s k d
       by_test true h = waited (cores.waiting e.core.queue k) refl h
@@ -257,10 +256,10 @@ module _ (st st' : Store) (b s n : ℕ) (e e' : SemaphoreEntry) (linked : IsLink
       by_test : (t : Bool) → (s == q) ≡ t → IsOwned st' q k demand
       by_test false h = owned_moved q k demand (linked.granted q d k demand (sym (semaphore_other q (eqb-false s q h)) ∙ is) grants)
       by_test true h =
-        let same : s ≡ q = eqb-true s q h in
-        let both : Some e' ≡ Some d = sym semaphore_there ∙ ap (get st'.semaphores) same ∙ is in
-        let one : d ≡ e' = cc in
-        subst (λ p. IsOwned st' p k demand) same (owned_moved s k demand (granted_from k demand (ap (λ (x : SemaphoreEntry). get x.core.granted k) (sym one) ∙ grants)))
+          let same : s ≡ q = eqb-true s q h in
+          let both : Some e' ≡ Some d = sym semaphore_there ∙ ap (get st'.semaphores) same ∙ is in
+          let one : d ≡ e' = cc in
+          subst (λ p. IsOwned st' p k demand) same (owned_moved s k demand (granted_from k demand (ap (λ (x : SemaphoreEntry). get x.core.granted k) (sym one) ∙ grants)))
 
   none_granted : (k : ℕ) → cores.waiting (waiting_after e.core.queue n) k ≢ None → (o : Option (ℕ × ℕ)) → cores.waiting (waiting_after e.core.queue n) k ≡ o → get (cores.granting e.core.granted (granted_in e.core.queue n)) k ≡ None
   none_granted k waits None is = absurd (waits is)
@@ -280,9 +279,9 @@ module _ (st st' : Store) (b s n : ℕ) (e e' : SemaphoreEntry) (linked : IsLink
     where
       by_test : (t : Bool) → (s == q) ≡ t → IsNumbered d.core
       by_test true h =
-        let both : Some e' ≡ Some d = sym semaphore_there ∙ ap (get st'.semaphores) (eqb-true s q h) ∙ is in
-        let one : e' ≡ d = cc in
-        subst (λ (x : SemaphoreEntry). IsNumbered x.core) one numbered_now
+          let both : Some e' ≡ Some d = sym semaphore_there ∙ ap (get st'.semaphores) (eqb-true s q h) ∙ is in
+          let one : e' ≡ d = cc in
+          subst (λ (x : SemaphoreEntry). IsNumbered x.core) one numbered_now
       by_test false h = linked.numbered q d (sym (semaphore_other q (eqb-false s q h)) ∙ is)
 
   pub linked_poured : IsLinked st' b
@@ -351,18 +350,18 @@ module _ (st st' : Store) (b s n : ℕ) (e e' : SemaphoreEntry) (linked : IsLink
     where
       not_under : (k : ℕ) → (x : FutureEntry) × (get st.futures g ≡ Some x) × (x.semaphore ≡ s) × (is_under x.acquire k ≡ true) → ⊥
       not_under k p =
-        let both : Some y ≡ Some p.0 = sym is ∙ p.1 in
-        let same : p.0 ≡ y = cc in
-        let under : is_under (acquires.New d) k ≡ true = ap (λ a. is_under a k) (sym acquire) ∙ ap (λ (x : FutureEntry). is_under x.acquire k) (sym same) ∙ p.3 in
-        cc
+          let both : Some y ≡ Some p.0 = sym is ∙ p.1 in
+          let same : p.0 ≡ y = cc in
+          let under : is_under (acquires.New d) k ≡ true = ap (λ a. is_under a k) (sym acquire) ∙ ap (λ (x : FutureEntry). is_under x.acquire k) (sym same) ∙ p.3 in
+          cc
   moved_of_s g y (acquires.Done d) acquire is mine = unmoved g y is (λ k h. not_under k (has-parts s k (get st.futures g) h)) (ap (λ a. stage_of a (queue_in (get st'.semaphores y.semaphore))) acquire ∙ sym (ap (λ a. stage_of a (queue_in (get st.semaphores y.semaphore))) acquire))
     where
       not_under : (k : ℕ) → (x : FutureEntry) × (get st.futures g ≡ Some x) × (x.semaphore ≡ s) × (is_under x.acquire k ≡ true) → ⊥
       not_under k p =
-        let both : Some y ≡ Some p.0 = sym is ∙ p.1 in
-        let same : p.0 ≡ y = cc in
-        let under : is_under (acquires.Done d) k ≡ true = ap (λ a. is_under a k) (sym acquire) ∙ ap (λ (x : FutureEntry). is_under x.acquire k) (sym same) ∙ p.3 in
-        cc
+          let both : Some y ≡ Some p.0 = sym is ∙ p.1 in
+          let same : p.0 ≡ y = cc in
+          let under : is_under (acquires.Done d) k ≡ true = ap (λ a. is_under a k) (sym acquire) ∙ ap (λ (x : FutureEntry). is_under x.acquire k) (sym same) ∙ p.3 in
+          cc
   moved_of_s g y (acquires.Queued d k) acquire is mine =
       let now : get st'.semaphores y.semaphore ≡ Some e' = ap (get st'.semaphores) (sym mine) ∙ semaphore_there in
       let then : get st.semaphores y.semaphore ≡ Some e = ap (get st.semaphores) (sym mine) ∙ c.there in
@@ -370,7 +369,7 @@ module _ (st st' : Store) (b s n : ℕ) (e e' : SemaphoreEntry) (linked : IsLink
       let old_stage : stage_of y.acquire (queue_in (get st.semaphores y.semaphore)) ≡ stage_under (cores.waker_under e.core.queue k) = ap (λ d. stage_of y.acquire (queue_in d)) then ∙ ap (λ a. stage_of a e.core.queue) acquire in
       let waker : cores.waker_under e'.core.queue k ≡ cond (is_among (granted_in e.core.queue n) k) None (cores.waker_under e.core.queue k) = ap (λ q. cores.waker_under q k) c.queue ∙ (split_at k).waker in
       let stage : stage_of y.acquire (queue_in (get st'.semaphores y.semaphore)) ≡ cond (is_among (granted_in e.core.queue n) k) Granted (stage_of y.acquire (queue_in (get st.semaphores y.semaphore))) =
-        new_stage ∙ ap stage_under waker ∙ stage_paid (is_among (granted_in e.core.queue n) k) (cores.waker_under e.core.queue k) ∙ ap (cond (is_among (granted_in e.core.queue n) k) Granted) (sym old_stage) in
+      new_stage ∙ ap stage_under waker ∙ stage_paid (is_among (granted_in e.core.queue n) k) (cores.waker_under e.core.queue k) ∙ ap (cond (is_among (granted_in e.core.queue n) k) Granted) (sym old_stage) in
       granted_by (future_of st.semaphores y) _ (is_among (granted_in e.core.queue n) k) stage
       ∙ ap (λ t. cond t (granted (future_of st.semaphores y)) (future_of st.semaphores y)) (sym (among-number st b s e linked c.there g y is (sym mine) k d acquire (granted_in e.core.queue n) (all_granted_found st b s e linked c.there n)))
 
@@ -380,9 +379,9 @@ module _ (st st' : Store) (b s n : ℕ) (e e' : SemaphoreEntry) (linked : IsLink
     where
       away : (k : ℕ) → (x : FutureEntry) × (get st.futures g ≡ Some x) × (x.semaphore ≡ s) × (is_under x.acquire k ≡ true) → ⊥
       away k p =
-        let both : Some y ≡ Some p.0 = sym is ∙ p.1 in
-        let same : p.0 ≡ y = cc in
-        eqb-false s y.semaphore h (sym p.2 ∙ ap (λ (x : FutureEntry). x.semaphore) same)
+          let both : Some y ≡ Some p.0 = sym is ∙ p.1 in
+          let same : p.0 ≡ y = cc in
+          eqb-false s y.semaphore h (sym p.2 ∙ ap (λ (x : FutureEntry). x.semaphore) same)
 
   futures_poured : (hall_of st' b).futures ≡ (pour (hall_of st b) s n).futures
   futures_poured = same_named _ _ (λ g.

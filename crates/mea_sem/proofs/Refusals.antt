@@ -1,13 +1,11 @@
 -- what a look-up among the kept entries says of the hall
-use Rattle.std.proofs.Common.{◌≡◌, ℕ, Bool, true, false, List, refl, ap, sym, ◌∙◌, Option, Some, None, is_some}
+use Rattle.std.proofs.Common.{◌≡◌, ℕ, false, refl, ap, ◌∙◌, Option, Some, None, is_some}
 use Rattle.std.specs.Option.{option_map}
 use Rattle.std.specs.FinMap.{get}
 use Rattle.mea_base.specs.Named.{at}
 use Rattle.mea_base.proofs.NamedMaps.{get-named}
-use Rattle.mea_sem_model.specs.Hall.{Permit}
 use Rattle.mea_sem_model.specs.Cause.{is_named, is_named_semaphore, is_future, is_permit}
 use Rattle.mea_sem.specs.declared.entries.SemaphoreEntry.{SemaphoreEntry}
-use Rattle.mea_sem.specs.declared.entries.PermitEntry.{PermitEntry}
 use Rattle.mea_sem.specs.Store.{store_of, permit_of, semaphore_of, future_of, hall_of}
 use Rattle.mea_sem.proofs.Names.{get-seen}
 use Rattle.mea_sem.proofs.Standing.{Semaphores, Futures, Permits, kept-at}

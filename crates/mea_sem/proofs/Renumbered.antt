@@ -1,16 +1,14 @@
 -- a greater bound on the names changes nothing
-use Rattle.std.proofs.Common.{◌≡◌, ℕ, ◌+◌, ◌*◌, ◌^◌, ◌<◌, ◌≤◌, refl, ap, sym, subst, ◌∙◌, arith, Option, Some, None}
+use Rattle.std.proofs.Common.{◌≡◌, ℕ, ◌+◌, ◌^◌, ◌<◌, ◌≤◌, refl, ap, sym, subst, ◌∙◌, arith, Option, Some, None}
 use Rattle.std.specs.Option.{option_map}
-use Rattle.std.specs.FinMap.{FinMap, get, entries}
-use Rattle.mea_base.specs.Named.{named}
+use Rattle.std.specs.FinMap.{get}
 use Rattle.mea_base.proofs.NamedMaps.{same_named}
-use Rattle.mea_sem_model.specs.Hall.{Hall, Waiter}
+use Rattle.mea_sem_model.specs.Hall.{Waiter}
 use Rattle.mea_sem_model.specs.Valid.{IsValid, IsBelow, IsAccounted}
 use Rattle.mea_sem_model.proofs.Keeps.{below_later}
 use Rattle.mea_sem_core.specs.Core as cores
 use Rattle.mea_sem.specs.declared.entries.SemaphoreEntry.{SemaphoreEntry}
-use Rattle.mea_sem.specs.declared.entries.FutureEntry.{FutureEntry}
-use Rattle.mea_sem.specs.Store.{Store, who_of, queue_of, semaphore_of, future_of, hall_of, IsLinked}
+use Rattle.mea_sem.specs.Store.{Store, who_of, queue_of, semaphore_of, hall_of, IsLinked}
 use Rattle.mea_sem.specs.Kept.{IsKeptEntry, IsKept}
 use Rattle.mea_sem.proofs.Cores.{IsAt, all_at, all_by}
 use Rattle.mea_sem.proofs.Names.{get-seen, name-owner, queue_of-same}

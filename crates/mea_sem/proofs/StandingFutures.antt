@@ -1,18 +1,16 @@
 -- what the events on futures leave of the maps of a `SemHall`
-use Rattle.std.proofs.Common.{◌≡◌, ◌≢◌, ◌⊎◌, inl, inr, ℕ, ◌+◌, ◌-◌, ◌*◌, ◌^◌, ◌<◌, ◌≤◌, ◌==◌, ◌++◌, Bool, true, false, cond, List, [], length, refl, ap, sym, subst, ◌∙◌, arith, Option, Some, None, append-nil, is_some, nat_le, if◌then◌else◌}
+use Rattle.std.proofs.Common.{◌≡◌, inl, inr, ℕ, ◌+◌, ◌-◌, ◌^◌, ◌<◌, ◌≤◌, ◌==◌, ◌++◌, Bool, true, false, cond, List, [], refl, ap, sym, subst, ◌∙◌, arith, Option, Some, None, append-nil, is_some, nat_le, if◌then◌else◌}
 use Rattle.std.specs.Option.{option_map, IfSome}
-use Rattle.std.specs.Ordering.{nat_cmp}
-use Rattle.std.specs.BTreeMap.{is_at}
-use Rattle.std.specs.FinMap.{FinMap, get, insert, remove}
+use Rattle.std.specs.FinMap.{get, insert, remove}
 use Rattle.mea_base.specs.declared.answer.Answer.{Answer}
 use Rattle.mea_base.specs.declared.answer.Answer.TheVariants as answers
 use Rattle.mea_base.specs.Named.{named, at}
-use Rattle.mea_base.specs.Totals.{total, weight}
-use Rattle.mea_base.proofs.NamedMaps.{get-named, named_put, named_remove}
+use Rattle.mea_base.specs.Totals.{weight}
+use Rattle.mea_base.proofs.NamedMaps.{named_put}
 use Rattle.mea_base.proofs.Totals.{total-remove}
 use Rattle.mea_sem_model.specs.declared.event.SemEvent.{SemEvent}
 use Rattle.mea_sem_model.specs.declared.event.SemEvent.TheVariants as events
-use Rattle.mea_sem_model.specs.Hall.{Hall, Semaphore, Future, Permit, Stage, New, Waiting, Granted, semaphore_at, queue_at, with_semaphore, free, held, paid, live, paid_to}
+use Rattle.mea_sem_model.specs.Hall.{Hall, Semaphore, Future, Stage, New, Waiting, Granted, semaphore_at, queue_at, with_semaphore, free, held, paid_to}
 use Rattle.mea_sem_model.specs.Cause.{cause_of, is_future, unknown_unless}
 use Rattle.mea_sem_model.specs.Valid.{Fits}
 use Rattle.mea_sem_model.specs.Step.{Outcome, step, quietly, taking, with_future, queueing, made_ready, poll_of, acquire_of}
@@ -33,12 +31,12 @@ use Rattle.mea_sem.specs.declared.entries.SemaphoreEntry.{SemaphoreEntry}
 use Rattle.mea_sem.specs.declared.entries.FutureEntry.{FutureEntry}
 use Rattle.mea_sem.specs.declared.entries.PermitEntry.{PermitEntry}
 use Rattle.mea_sem.specs.Store.{Store, permit_of, store_of, queue_of, semaphore_of, future_of, stage_of, stage_under, hall_of, IsHome, IsOpen}
-use Rattle.mea_sem.specs.Kept.{wakers_in, IsKept, IsKeptEntry}
-use Rattle.mea_sem.specs.Play.{Play, after, Yields}
+use Rattle.mea_sem.specs.Kept.{IsKept}
+use Rattle.mea_sem.specs.Play.{Yields}
 use Rattle.mea_sem.proofs.Names.{get-seen}
 use Rattle.mea_sem.proofs.Keeping.{Plays}
 use Rattle.mea_sem.proofs.Standing.{Semaphores, Futures, Permits, ChangesAt, kept-at, kept-changed, found, semaphores_of}
-use Rattle.mea_sem.proofs.PlaysFutures.{plays_acquire, made_entry, made_future}
+use Rattle.mea_sem.proofs.PlaysFutures.{plays_acquire}
 
 -- what an event leaves: what is kept, and what it yields
 pub record Done (st st' : Store) (w' sp' next i : ℕ) (wakes wakes' : List ℕ) (o : Outcome) (reply : Answer) : Type 0 where
@@ -48,9 +46,9 @@ pub record Done (st st' : Store) (w' sp' next i : ℕ) (wakes wakes' : List ℕ)
 pub done_from : (st st' : Store) (w' sp' next i : ℕ) (wakes wakes' : List ℕ) (event : SemEvent) (o : Outcome) (reply : Answer) → step (hall_of st next) i event ≡ o → Plays st st' next i event w' sp' → wakes' ≡ wakes ++ o.wakes → reply ≡ o.reply
     → Done st st' w' sp' next i wakes wakes' o reply
 done_from st st' w' sp' next i wakes wakes' event o reply is plays woken replied = record {
-    kept = plays.kept;
-    yields = record { replied = replied; moved = λ j. record { hall = (plays.hall ∙ ap (λ p. p.hall) is) j; wakes = woken j; next = i + 1 } };
-  }
+  kept = plays.kept;
+  yields = record { replied = replied; moved = λ j. record { hall = (plays.hall ∙ ap (λ p. p.hall) is) j; wakes = woken j; next = i + 1 } };
+}
 
 pub quiet_wakes : (wakes ws : List ℕ) → ws ≡ [] → wakes ≡ wakes ++ ws
 quiet_wakes wakes ws none = sym (append-nil wakes) ∙ ap (λ x. wakes ++ x) (sym none)
@@ -198,7 +196,7 @@ acquire_done ss ss' fs fs' ps w sp next i s n wakes e e2 x plain forgets k less 
     let h : Hall = hall_of st next in
     done_from st (store_of ss' fs' ps) w sp next i wakes wakes (acq_event s n plain forgets) _ answers.Made (acq_step h i s n plain forgets)
     (plays_acquire st (store_of ss' fs' ps) w sp next i s n e k less low (acq_event s n plain forgets) plain forgets (acq_fits s n plain forgets) (acq_cause h s n plain forgets allowed) (ap (λ o. o.hall) (acq_step h i s n plain forgets))
-      (found ss s e there) (semaphores_of ss ss' s e2 _ changes is) (λ g. kept-changed fs fs' i (Some x) put g ∙ ap (λ y. cond (i == g) (Some y) (get st.futures g)) new) refl)
+    (found ss s e there) (semaphores_of ss ss' s e2 _ changes is) (λ g. kept-changed fs fs' i (Some x) put g ∙ ap (λ y. cond (i == g) (Some y) (get st.futures g)) new) refl)
     (quiet_wakes wakes [] refl) refl
 
 -- ---- a future is ready
@@ -263,19 +261,19 @@ module _ (ss ss' : Semaphores) (fs fs' : Futures) (ps ps' : Permits) (w sp next 
     where
       by_acquire : (a : Acquire) → x.acquire ≡ a → IsReady e.core a → Done old_store new_store w sp next i wakes wakes (step old_hall i (events.Poll f v)) answers.Ready
       by_acquire (acquires.New d) new r =
-        let c_is : finished e.core x.acquire ≡ record e.core { free = e.core.free - d } = ap (finished e.core) new in
-        forgets_at New (record e.core { free = e.core.free - d }) (taking (semaphore_at old_hall x.semaphore) d) (seen_as ss fs ps w sp next f x k is e there New (ap (λ a. stage_of a e.core.queue) new)) c_is refl refl refl
-        (subst (λ (c : cores.Core ℕ). cores.held_of c ≡ cores.held_of e.core + demand_of x.acquire) c_is rises)
-        (ap (λ r. taking r d) seen_s) (ready_new ss fs ps w sp next f x k is e there i v d new r)
-        (λ e' puts queue granted. leaves_new old_store new_store x.semaphore f d x e e' s_there puts (found fs f x is) futures_now refl new queue granted)
-        forgets same changed held
+          let c_is : finished e.core x.acquire ≡ record e.core { free = e.core.free - d } = ap (finished e.core) new in
+          forgets_at New (record e.core { free = e.core.free - d }) (taking (semaphore_at old_hall x.semaphore) d) (seen_as ss fs ps w sp next f x k is e there New (ap (λ a. stage_of a e.core.queue) new)) c_is refl refl refl
+          (subst (λ (c : cores.Core ℕ). cores.held_of c ≡ cores.held_of e.core + demand_of x.acquire) c_is rises)
+          (ap (λ r. taking r d) seen_s) (ready_new ss fs ps w sp next f x k is e there i v d new r)
+          (λ e' puts queue granted. leaves_new old_store new_store x.semaphore f d x e e' s_there puts (found fs f x is) futures_now refl new queue granted)
+          forgets same changed held
       by_acquire (acquires.Queued d n) queued r =
-        let c_is : finished e.core x.acquire ≡ record e.core { granted = remove e.core.granted n } = ap (finished e.core) queued in
-        forgets_at Granted (record e.core { granted = remove e.core.granted n }) (semaphore_of old_store.futures next x.semaphore e) (seen_as ss fs ps w sp next f x k is e there Granted (granted_stage ss fs ps w sp next f x k is e there d n queued r)) c_is refl refl refl
-        (subst (λ (c : cores.Core ℕ). cores.held_of c ≡ cores.held_of e.core + demand_of x.acquire) c_is rises)
-        refl (ready_granted ss fs ps w sp next f x k is e there i v d n queued r ∙ ap (λ h. quietly (made_ready h i f (as_seen Granted)) answers.Ready) (sym same_hall))
-        (λ e' puts queue granted. leaves_granted old_store new_store next x.semaphore f d n x e e' k.linked s_there puts (found fs f x is) futures_now refl queued r queue granted)
-        forgets same changed held
+          let c_is : finished e.core x.acquire ≡ record e.core { granted = remove e.core.granted n } = ap (finished e.core) queued in
+          forgets_at Granted (record e.core { granted = remove e.core.granted n }) (semaphore_of old_store.futures next x.semaphore e) (seen_as ss fs ps w sp next f x k is e there Granted (granted_stage ss fs ps w sp next f x k is e there d n queued r)) c_is refl refl refl
+          (subst (λ (c : cores.Core ℕ). cores.held_of c ≡ cores.held_of e.core + demand_of x.acquire) c_is rises)
+          refl (ready_granted ss fs ps w sp next f x k is e there i v d n queued r ∙ ap (λ h. quietly (made_ready h i f (as_seen Granted)) answers.Ready) (sym same_hall))
+          (λ e' puts queue granted. leaves_granted old_store new_store next x.semaphore f d n x e e' k.linked s_there puts (found fs f x is) futures_now refl queued r queue granted)
+          forgets same changed held
       by_acquire (acquires.Done d) done r = absurd r
 
   pub kept_done : x.forgets ≡ false → (p : PermitEntry) → ChangesAt ps ps' i (Some p) → p ≡ record { semaphore = x.semaphore; size = demand_of x.acquire; plain = x.plain } → e2 ≡ record e { core = finished e.core x.acquire }
@@ -288,19 +286,19 @@ module _ (ss ss' : Semaphores) (fs fs' : Futures) (ps ps' : Permits) (w sp next 
 
       by_acquire : (a : Acquire) → x.acquire ≡ a → IsReady e.core a → Done old_store new_store w sp next i wakes wakes (step old_hall i (events.Poll f v)) answers.Ready
       by_acquire (acquires.New d) new r =
-        let c_is : finished e.core x.acquire ≡ record e.core { free = e.core.free - d } = ap (finished e.core) new in
-        keeps_at New (record e.core { free = e.core.free - d }) (taking (semaphore_at old_hall x.semaphore) d) (seen_as ss fs ps w sp next f x k is e there New (ap (λ a. stage_of a e.core.queue) new)) c_is refl refl refl
-        (subst (λ (c : cores.Core ℕ). cores.held_of c ≡ cores.held_of e.core + demand_of x.acquire) c_is rises)
-        (ap (λ r. taking r d) seen_s) (ready_new ss fs ps w sp next f x k is e there i v d new r)
-        (λ e' puts queue granted. leaves_new old_store new_store x.semaphore f d x e e' s_there puts (found fs f x is) futures_now refl new queue granted)
-        keeps p put permit changed
+          let c_is : finished e.core x.acquire ≡ record e.core { free = e.core.free - d } = ap (finished e.core) new in
+          keeps_at New (record e.core { free = e.core.free - d }) (taking (semaphore_at old_hall x.semaphore) d) (seen_as ss fs ps w sp next f x k is e there New (ap (λ a. stage_of a e.core.queue) new)) c_is refl refl refl
+          (subst (λ (c : cores.Core ℕ). cores.held_of c ≡ cores.held_of e.core + demand_of x.acquire) c_is rises)
+          (ap (λ r. taking r d) seen_s) (ready_new ss fs ps w sp next f x k is e there i v d new r)
+          (λ e' puts queue granted. leaves_new old_store new_store x.semaphore f d x e e' s_there puts (found fs f x is) futures_now refl new queue granted)
+          keeps p put permit changed
       by_acquire (acquires.Queued d n) queued r =
-        let c_is : finished e.core x.acquire ≡ record e.core { granted = remove e.core.granted n } = ap (finished e.core) queued in
-        keeps_at Granted (record e.core { granted = remove e.core.granted n }) (semaphore_of old_store.futures next x.semaphore e) (seen_as ss fs ps w sp next f x k is e there Granted (granted_stage ss fs ps w sp next f x k is e there d n queued r)) c_is refl refl refl
-        (subst (λ (c : cores.Core ℕ). cores.held_of c ≡ cores.held_of e.core + demand_of x.acquire) c_is rises)
-        refl (ready_granted ss fs ps w sp next f x k is e there i v d n queued r ∙ ap (λ h. quietly (made_ready h i f (as_seen Granted)) answers.Ready) (sym same_hall))
-        (λ e' puts queue granted. leaves_granted old_store new_store next x.semaphore f d n x e e' k.linked s_there puts (found fs f x is) futures_now refl queued r queue granted)
-        keeps p put permit changed
+          let c_is : finished e.core x.acquire ≡ record e.core { granted = remove e.core.granted n } = ap (finished e.core) queued in
+          keeps_at Granted (record e.core { granted = remove e.core.granted n }) (semaphore_of old_store.futures next x.semaphore e) (seen_as ss fs ps w sp next f x k is e there Granted (granted_stage ss fs ps w sp next f x k is e there d n queued r)) c_is refl refl refl
+          (subst (λ (c : cores.Core ℕ). cores.held_of c ≡ cores.held_of e.core + demand_of x.acquire) c_is rises)
+          refl (ready_granted ss fs ps w sp next f x k is e there i v d n queued r ∙ ap (λ h. quietly (made_ready h i f (as_seen Granted)) answers.Ready) (sym same_hall))
+          (λ e' puts queue granted. leaves_granted old_store new_store next x.semaphore f d n x e e' k.linked s_there puts (found fs f x is) futures_now refl queued r queue granted)
+          keeps p put permit changed
       by_acquire (acquires.Done d) done r = absurd r
 
 -- a future as the hall has it
@@ -334,7 +332,7 @@ module _ (ss : Semaphores) (fs : Futures) (ps : Permits) (w sp next f : ℕ) (x 
       let s : ℕ = x.semaphore in
       let sums = total-remove (λ g (z : Future). cond (z.semaphore == s) (paid_to (queue_at its_hall s) g z.demand z.stage) 0) its_hall.futures f in
       let here : weight (λ g (z : Future). cond (z.semaphore == s) (paid_to (queue_at its_hall s) g z.demand z.stage) 0) f (get its_hall.futures f) ≡ paid_to (queue_at its_hall s) f y.demand y.stage =
-        ap (weight (λ g (z : Future). cond (z.semaphore == s) (paid_to (queue_at its_hall s) g z.demand z.stage) 0) f) seen ∙ at_same y.semaphore s (paid_to (queue_at its_hall s) f y.demand y.stage) 0 mine in
+      ap (weight (λ g (z : Future). cond (z.semaphore == s) (paid_to (queue_at its_hall s) g z.demand z.stage) 0) f) seen ∙ at_same y.semaphore s (paid_to (queue_at its_hall s) f y.demand y.stage) 0 mine in
       let all = live-seen its_store w sp next s e k (found ss s e there) in
       omega (arith, sums, here, all)
 
@@ -349,14 +347,14 @@ module _ (ss : Semaphores) (fs : Futures) (ps : Permits) (w sp next f : ℕ) (x 
     where
       by_acquire : (a : Acquire) → x.acquire ≡ a → IsReady e.core a → demand_of x.acquire < 2 ^ 64
       by_acquire (acquires.New d) same r =
-        let all = live-seen its_store w sp next x.semaphore e k (found ss x.semaphore e there) in
-        let fits = k.valid.fits x.semaphore in
-        let demand : demand_of x.acquire ≡ d = ap demand_of same in
-        let part : free its_hall x.semaphore ≡ e.core.free = seen_free ss fs ps w sp next f x k is e there in
-        omega (arith, fits, demand, part)
+          let all = live-seen its_store w sp next x.semaphore e k (found ss x.semaphore e there) in
+          let fits = k.valid.fits x.semaphore in
+          let demand : demand_of x.acquire ≡ d = ap demand_of same in
+          let part : free its_hall x.semaphore ≡ e.core.free = seen_free ss fs ps w sp next f x k is e there in
+          omega (arith, fits, demand, part)
       by_acquire (acquires.Queued d n) same r =
-        let all = live-seen its_store w sp next x.semaphore e k (found ss x.semaphore e there) in
-        let fits = k.valid.fits x.semaphore in
-        let demand : demand_of x.acquire ≡ d = ap demand_of same in
-        omega (arith, all, fits, demand, granted_live d n same r)
+          let all = live-seen its_store w sp next x.semaphore e k (found ss x.semaphore e there) in
+          let fits = k.valid.fits x.semaphore in
+          let demand : demand_of x.acquire ≡ d = ap demand_of same in
+          omega (arith, all, fits, demand, granted_live d n same r)
       by_acquire (acquires.Done d) same r = absurd r

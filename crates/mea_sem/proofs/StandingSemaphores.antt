@@ -221,7 +221,7 @@ module _ (a : Inside) (v : Play) (i s : ℕ) (e : SemaphoreEntry) (seen : seen_i
         let room = k.room in
         let few = wakers_few n in
         let with = plays_release (store_in a) st' a.registered (a.registered - r) spare a.outbox.spare a.next i s n e k less low here small (cause (events.Release s n) allowed)
-          (puts _ is).semaphores refl refl (held_by _ is held) (omega (arith, few, count)) (omega (arith, room, left)) in
+        (puts _ is).semaphores refl refl (held_by _ is held) (omega (arith, few, count)) (omega (arith, room, left)) in
         record {
           kept = with.plays.kept;
           yields = yields v (store_in a) st' a.next i (a.registered - r) spare a.outbox.wakers wakers (events.Release s n) answers.Done seen with.plays (moved ∙ ap (λ ws. a.outbox.wakers ++ ws) (sym with.wakes)) refl;
@@ -234,8 +234,8 @@ pub done_new : (a : Inside) (v : Play) (i n : ℕ) → seen_in a ≡ v → IsKep
 done_new a v i n seen k least low small ss' core changes is held =
     let less : a.next ≤ i = subst (λ (p : Play). p.next ≤ i) (sym seen) least in
     let plays = plays_new (store_in a) a.registered a.outbox.spare a.next i k less low (store_of ss' a.futures.entries a.permits.entries) n small
-      (semaphores_of a.semaphores.entries ss' i _ (fresh_entry n) changes (ap (λ (x : cores.Core ℕ). record (fresh_entry n) { core = x }) is)) refl refl
-      (subst (λ (x : cores.Core ℕ). cores.held_of x ≡ 0) is held) in
+    (semaphores_of a.semaphores.entries ss' i _ (fresh_entry n) changes (ap (λ (x : cores.Core ℕ). record (fresh_entry n) { core = x }) is)) refl refl
+    (subst (λ (x : cores.Core ℕ). cores.held_of x ≡ 0) is held) in
     record {
       kept = plays.kept;
       yields = yields_quietly v (store_in a) (store_of ss' a.futures.entries a.permits.entries) a.next i a.registered a.outbox.spare a.outbox.wakers (events.New n) answers.Made seen plays refl refl;

@@ -1,20 +1,17 @@
 -- what a poll that waits, and the end of a future, leave of the maps of a `SemHall`
-use Rattle.std.proofs.Common.{◌≡◌, ◌≢◌, ◌⊎◌, inl, inr, ℕ, ◌+◌, ◌-◌, ◌*◌, ◌^◌, ◌<◌, ◌≤◌, ◌==◌, ◌++◌, Bool, true, false, cond, List, [], ◌∷◌, length, refl, ap, sym, subst, ◌∙◌, arith, Option, Some, None, append-nil, is_some, if◌then◌else◌}
-use Rattle.std.specs.Option.{option_map, IfSome, IsSome}
-use Rattle.std.specs.Ordering.{nat_cmp}
-use Rattle.std.specs.FinMap.{FinMap, get, insert, remove}
+use Rattle.std.proofs.Common.{◌≡◌, ◌≢◌, inl, inr, ℕ, ◌+◌, ◌-◌, ◌^◌, ◌<◌, ◌≤◌, ◌==◌, ◌++◌, Bool, true, false, cond, List, [], ◌∷◌, refl, ap, sym, subst, ◌∙◌, arith, Option, Some, None, append-nil, is_some, if◌then◌else◌}
+use Rattle.std.specs.Option.{IfSome, IsSome}
+use Rattle.std.specs.FinMap.{get}
 use Rattle.std.proofs.lemmas.Bool.{eqb-true, cases_lt}
-use Rattle.mea_base.specs.declared.answer.Answer.{Answer}
 use Rattle.mea_base.specs.declared.answer.Answer.TheVariants as answers
-use Rattle.mea_base.specs.Named.{named, at}
-use Rattle.mea_base.specs.Queue.{granted_in}
-use Rattle.mea_base.specs.Totals.{total, weight}
+use Rattle.mea_base.specs.Named.{at}
+use Rattle.mea_base.specs.Totals.{weight}
 use Rattle.mea_base.proofs.NamedMaps.{same_named}
 use Rattle.mea_base.proofs.Totals.{total-remove}
 use Rattle.mea_sem_model.specs.declared.event.SemEvent.TheVariants as events
-use Rattle.mea_sem_model.specs.Hall.{Hall, Semaphore, Future, Stage, New, Waiting, Granted, semaphore_at, queue_at, lack_of, paid_to}
-use Rattle.mea_sem_model.specs.Cause.{cause_of, is_future, is_permit, unknown_unless}
-use Rattle.mea_sem_model.specs.Step.{Outcome, step, quietly, queueing, with_future, end_of}
+use Rattle.mea_sem_model.specs.Hall.{Hall, Semaphore, Future, Stage, New, Waiting, Granted, queue_at, lack_of}
+use Rattle.mea_sem_model.specs.Cause.{cause_of, is_permit, unknown_unless}
+use Rattle.mea_sem_model.specs.Step.{step, queueing, with_future, end_of}
 use Rattle.mea_sem_core.specs.declared.acquire.Acquire.{Acquire}
 use Rattle.mea_sem_core.specs.declared.acquire.Acquire.TheVariants as acquires
 use Rattle.mea_sem_core.specs.Acquire.{demand_of}
@@ -22,17 +19,16 @@ use Rattle.mea_sem_core.specs.Core as cores
 use Rattle.mea_sem_core.specs.Calls.{Belongs, Queues, with_waker, without_acquire}
 use Rattle.mea_sem.specs.declared.entries.SemaphoreEntry.{SemaphoreEntry}
 use Rattle.mea_sem.specs.declared.entries.FutureEntry.{FutureEntry}
-use Rattle.mea_sem.specs.Entries.{IsReady, Waits, Repays, Ends}
-use Rattle.mea_sem.specs.Store.{Store, store_of, queue_of, semaphore_of, stage_of, hall_of, IsOpen}
+use Rattle.mea_sem.specs.Entries.{Waits, Ends}
+use Rattle.mea_sem.specs.Store.{Store, store_of, stage_of, hall_of, IsOpen}
 use Rattle.mea_sem.specs.Kept.{wakers_in, IsKept}
-use Rattle.mea_sem.specs.Play.{Play, Yields}
 use Rattle.mea_sem.proofs.Keeping.{Plays}
 use Rattle.mea_sem.proofs.Left.{lack_left, wakers_without}
 use Rattle.mea_sem.proofs.PourHalls.{seen_at}
 use Rattle.mea_sem.proofs.PlaysAgain.{plays_again}
 use Rattle.mea_sem.proofs.PlaysFutures.{plays_queued}
-use Rattle.mea_sem.proofs.PlaysPours.{poured_entry, between, between_at, wakers_poured}
-use Rattle.mea_sem.proofs.PlaysEnds.{PlaysWith, plays_end_new, plays_end_granted, plays_end_waiting, fewer_entry, ungranted_entry, unqueued_entry}
+use Rattle.mea_sem.proofs.PlaysPours.{between, between_at, wakers_poured}
+use Rattle.mea_sem.proofs.PlaysEnds.{PlaysWith, plays_end_new, plays_end_granted, plays_end_waiting}
 use Rattle.mea_sem.proofs.Standing.{Semaphores, Futures, Permits, ChangesAt, kept-at, kept-changed, found, semaphores_of}
 use Rattle.mea_sem.proofs.StandingFutures.{Done, done_from, quiet_wakes, future_found, its_home, its_belongs, seen_as, granted_stage, ready_new, pending_new, waiting_as, pending_again, paid_part, granted_live}
 
@@ -136,11 +132,11 @@ module _ (ss ss' : Semaphores) (fs : Futures) (ps : Permits) (w sp next i f v : 
       let st' : Store = store_of ss' fs' ps in
       let chosen = pending_new ss fs ps w sp next f x k is e there i v d new lacks in
       let hall : (step old_hall i (events.Poll f v)).hall ≡ queueing old_hall f v (record { semaphore = x.semaphore; demand = d; plain = x.plain; forgets = x.forgets; stage = New }) =
-        ap (λ o. o.hall) chosen ∙ ap (λ a. queueing old_hall f v (record { semaphore = x.semaphore; demand = demand_of a; plain = x.plain; forgets = x.forgets; stage = New })) new in
+      ap (λ o. o.hall) chosen ∙ ap (λ a. queueing old_hall f v (record { semaphore = x.semaphore; demand = demand_of a; plain = x.plain; forgets = x.forgets; stage = New })) new in
       let core : e2 ≡ record e { core = record e.core { free = 0; queue = e.core.queue ++ (cores.Acquires m d v, d - e.core.free) ∷ [] } } = rest ∙ ap (λ (c : cores.Core ℕ). record e { core = c }) queues.is in
       let plays = plays_queued old_store st' w sp sp' next i x.semaphore f v d m x e k less low refl new (found ss x.semaphore e there) (semaphores_of ss ss' x.semaphore e2 _ changes core) (found fs f x is)
-        (λ g. kept-changed fs fs' f (Some x2) put g ∙ ap (λ y. cond (f == g) (Some y) (get old_store.futures g)) x2_is) refl queues.not_waiting queues.not_granted allowed hall
-        (subst (λ (c : cores.Core ℕ). cores.held_of c ≡ cores.held_of e.core) queues.is held) (subst (λ r. r ≤ sp') one_more room) in
+      (λ g. kept-changed fs fs' f (Some x2) put g ∙ ap (λ y. cond (f == g) (Some y) (get old_store.futures g)) x2_is) refl queues.not_waiting queues.not_granted allowed hall
+      (subst (λ (c : cores.Core ℕ). cores.held_of c ≡ cores.held_of e.core) queues.is held) (subst (λ r. r ≤ sp') one_more room) in
       let settled = subst (λ r. Plays old_store st' next i (events.Poll f v) r sp') (sym one_more) plays in
       done_from old_store st' w' sp' next i wakes wakes' (events.Poll f v) _ answers.Pending refl settled (same ∙ quiet_wakes wakes _ (ap (λ o. o.wakes) chosen)) (sym (ap (λ o. o.reply) chosen))
 
@@ -151,9 +147,9 @@ module _ (ss ss' : Semaphores) (fs : Futures) (ps : Permits) (w sp next i f v : 
       let st' : Store = store_of ss' fs ps in
       let chosen = pending_again ss fs ps w sp next f x k is e there i v d m waits.0 queued waits.1 in
       let hall : (step old_hall i (events.Poll f v)).hall ≡ with_future old_hall f (record { semaphore = x.semaphore; demand = d; plain = x.plain; forgets = x.forgets; stage = Waiting v }) =
-        ap (λ o. o.hall) chosen ∙ ap (λ a. with_future old_hall f (record { semaphore = x.semaphore; demand = demand_of a; plain = x.plain; forgets = x.forgets; stage = Waiting v })) queued in
+      ap (λ o. o.hall) chosen ∙ ap (λ a. with_future old_hall f (record { semaphore = x.semaphore; demand = demand_of a; plain = x.plain; forgets = x.forgets; stage = Waiting v })) queued in
       let plays = plays_again old_store st' w sp next i x.semaphore f v d m waits.0 x e k less low refl queued (found ss x.semaphore e there) (semaphores_of ss ss' x.semaphore e2 _ changes core) (found fs f x is) refl refl waits.1 allowed hall
-        (subst (λ (y : SemaphoreEntry). cores.held_of y.core ≡ cores.held_of e.core) core held) in
+      (subst (λ (y : SemaphoreEntry). cores.held_of y.core ≡ cores.held_of e.core) core held) in
       done_from old_store st' w sp next i wakes wakes (events.Poll f v) _ answers.Pending refl plays (quiet_wakes wakes _ (ap (λ o. o.wakes) chosen)) (sym (ap (λ o. o.reply) chosen))
 
 -- ---- a future ends
@@ -190,11 +186,11 @@ module _ (ss ss' : Semaphores) (fs fs' : Futures) (ps : Permits) (w sp sp' next 
       by_acquire (acquires.Queued d n) h same home = elim (subst (Belongs e.core) same home.0) [
         | inl granted ↦ (let count = (h.0 granted).count in let all = wakers_registered ss fs ps w sp next x.semaphore e k there in let part = wakers_poured e.core.queue d in omega (arith, count, all, part))
         | inr still ↦ (
-          let count = (h.1 still.0 still.1).count in
-          let all = wakers_registered ss fs ps w sp next x.semaphore e k there in
-          let part = wakers_poured (without_acquire e.core.queue n) (d - still.0) in
-          let fewer = wakers_without e.core.queue n d still.0 (k.linked.numbered x.semaphore e (found ss x.semaphore e there)).apart still.1 in
-          omega (arith, count, all, part, fewer))
+            let count = (h.1 still.0 still.1).count in
+            let all = wakers_registered ss fs ps w sp next x.semaphore e k there in
+            let part = wakers_poured (without_acquire e.core.queue n) (d - still.0) in
+            let fewer = wakers_without e.core.queue n d still.0 (k.linked.numbered x.semaphore e (found ss x.semaphore e there)).apart still.1 in
+            omega (arith, count, all, part, fewer))
       ]
 
   module _ (less : next ≤ i) (low : i < 2 ^ 64) (allowed : cause_of (hall_of (store_of ss fs ps) next) (events.End f) ≡ None) (gone : ChangesAt fs fs' f None) (changes : ChangesAt ss ss' x.semaphore (Some e2)) (spare : sp ≤ sp' + left) (held : cores.held_of e2.core ≡ cores.held_of e.core) where
@@ -227,12 +223,12 @@ module _ (ss ss' : Semaphores) (fs fs' : Futures) (ps : Permits) (w sp sp' next 
 
         by_new : (d : ℕ) → x.acquire ≡ acquires.New d → e2 ≡ record e { plain = e.plain - cond x.plain 1 0 } → wakes' ≡ wakes → left ≡ 0 → Finishes
         by_new d new changed quiet none =
-          let with = plays_end_new st st' w w sp sp next i x.semaphore d e k less low s_there f d x refl (found fs f x is) futures_now refl new allowed (semaphores_of ss ss' x.semaphore e2 _ changes changed) in
-          let fewer : w ≡ w - left = omega (arith, none) in
-          done [] (record {
-            plays = record { hall = with.plays.hall; kept = subst (λ r. IsKept st' r sp' (i + 1)) fewer (kept_room st' w sp sp' (i + 1) with.plays.kept (let r = room in omega (arith, r, none))) };
-            wakes = with.wakes;
-          }) (quiet ∙ sym (append-nil wakes)) (ap (λ o. o.reply) (ap_end New (seen_as ss fs ps w sp next f x k is e there New (ap (λ a. stage_of a e.core.queue) new))))
+            let with = plays_end_new st st' w w sp sp next i x.semaphore d e k less low s_there f d x refl (found fs f x is) futures_now refl new allowed (semaphores_of ss ss' x.semaphore e2 _ changes changed) in
+            let fewer : w ≡ w - left = omega (arith, none) in
+            done [] (record {
+              plays = record { hall = with.plays.hall; kept = subst (λ r. IsKept st' r sp' (i + 1)) fewer (kept_room st' w sp sp' (i + 1) with.plays.kept (let r = room in omega (arith, r, none))) };
+              wakes = with.wakes;
+            }) (quiet ∙ sym (append-nil wakes)) (ap (λ o. o.reply) (ap_end New (seen_as ss fs ps w sp next f x k is e there New (ap (λ a. stage_of a e.core.queue) new))))
           where
             ap_end : (z : Stage) → get h.futures f ≡ Some (record { semaphore = x.semaphore; demand = demand_of x.acquire; plain = x.plain; forgets = x.forgets; stage = z }) → step h i (events.End f) ≡ end_of h f (Some (record { semaphore = x.semaphore; demand = demand_of x.acquire; plain = x.plain; forgets = x.forgets; stage = z }))
             ap_end z seen = ap (end_of h f) seen
@@ -242,25 +238,25 @@ module _ (ss ss' : Semaphores) (fs fs' : Futures) (ps : Permits) (w sp sp' next 
         by_acquire (acquires.Done d) z same home = absurd (subst IsOpen same home.1)
         by_acquire (acquires.Queued d n) z same home = elim (subst (Belongs e.core) same home.0) [
           | inl granted ↦ (
-            let r = z.0 granted in
-            let l = left_within in
-            let count = r.count in
-            let with = plays_end_granted st st' w (w - left) sp' sp next i x.semaphore d e k less low s_there f d x refl (found fs f x is) futures_now refl n same granted (granted_live ss fs ps w sp next f x e k is there d n same granted) allowed (semaphores_of ss ss' x.semaphore e2 _ changes r.is)
+              let r = z.0 granted in
+              let l = left_within in
+              let count = r.count in
+              let with = plays_end_granted st st' w (w - left) sp' sp next i x.semaphore d e k less low s_there f d x refl (found fs f x is) futures_now refl n same granted (granted_live ss fs ps w sp next f x e k is there d n same granted) allowed (semaphores_of ss ss' x.semaphore e2 _ changes r.is)
               (subst (λ (y : SemaphoreEntry). cores.held_of y.core ≡ cores.held_of e.core) r.is held) (omega (arith, l, count)) room in
-            done _ with r.moved (ap (λ o. o.reply) (ap (end_of h f) (seen_as ss fs ps w sp next f x k is e there Granted (granted_stage ss fs ps w sp next f x k is e there d n same granted)))))
+              done _ with r.moved (ap (λ o. o.reply) (ap (end_of h f) (seen_as ss fs ps w sp next f x k is e there Granted (granted_stage ss fs ps w sp next f x k is e there d n same granted)))))
           | inr still ↦ (
-            let r = z.1 still.0 still.1 in
-            let l = left_within in
-            let count = r.count in
-            let u = waiting_as ss fs ps w sp next f x k is e there d n still.0 same still.1 in
-            let part = paid_part ss fs ps w sp next f x e k is there (record { semaphore = x.semaphore; demand = demand_of x.acquire; plain = x.plain; forgets = x.forgets; stage = Waiting u.0 }) u.1 refl in
-            let e1 : SemaphoreEntry = record e { core = record e.core { live = e.core.live - (d - still.0); queue = without_acquire e.core.queue n }; plain = e.plain - cond x.plain 1 0 } in
-            let lack : lack_of (queue_at h x.semaphore) f ≡ still.0 =
+              let r = z.1 still.0 still.1 in
+              let l = left_within in
+              let count = r.count in
+              let u = waiting_as ss fs ps w sp next f x k is e there d n still.0 same still.1 in
+              let part = paid_part ss fs ps w sp next f x e k is there (record { semaphore = x.semaphore; demand = demand_of x.acquire; plain = x.plain; forgets = x.forgets; stage = Waiting u.0 }) u.1 refl in
+              let e1 : SemaphoreEntry = record e { core = record e.core { live = e.core.live - (d - still.0); queue = without_acquire e.core.queue n }; plain = e.plain - cond x.plain 1 0 } in
+              let lack : lack_of (queue_at h x.semaphore) f ≡ still.0 =
               ap (λ (y : Semaphore). lack_of y.queue f) (seen_at st next x.semaphore e k.linked s_there)
               ∙ lack_left st (between st st' x.semaphore e1) next i x.semaphore f n d still.0 x e e1 k.linked less s_there (between_at st st' x.semaphore e1) (found fs f x is) futures_now refl same still.1 refl refl in
-            let asked : demand_of x.acquire ≡ d = ap demand_of same in
-            let within : d - still.0 ≤ e.core.live = omega (arith, part, lack, asked) in
-            let with = plays_end_waiting st st' w (w - left) sp' sp next i x.semaphore d e k less low s_there f d x refl (found fs f x is) futures_now refl n still.0 same still.1 within allowed (semaphores_of ss ss' x.semaphore e2 _ changes r.is)
+              let asked : demand_of x.acquire ≡ d = ap demand_of same in
+              let within : d - still.0 ≤ e.core.live = omega (arith, part, lack, asked) in
+              let with = plays_end_waiting st st' w (w - left) sp' sp next i x.semaphore d e k less low s_there f d x refl (found fs f x is) futures_now refl n still.0 same still.1 within allowed (semaphores_of ss ss' x.semaphore e2 _ changes r.is)
               (subst (λ (y : SemaphoreEntry). cores.held_of y.core ≡ cores.held_of e.core) r.is held) (omega (arith, l, count)) room in
-            done _ with r.moved (ap (λ o. o.reply) (ap (end_of h f) u.1)))
+              done _ with r.moved (ap (λ o. o.reply) (ap (end_of h f) u.1)))
         ]

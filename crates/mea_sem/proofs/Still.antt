@@ -1,16 +1,14 @@
 -- changes of a semaphore that leave everybody who waits and every future where they are
-use Rattle.std.proofs.Common.{◌≡◌, ◌≢◌, ◌⊎◌, inl, inr, ℕ, ◌+◌, ◌<◌, ◌≤◌, ◌==◌, Bool, true, false, cond, List, [], ◌∷◌, refl, ap, sym, subst, ◌∙◌, arith, Option, Some, None}
-use Rattle.std.specs.Ordering.{nat_cmp}
-use Rattle.std.specs.FinMap.{FinMap, get, insert}
-use Rattle.std.proofs.lemmas.Bool.{eqb-true, eqb-false}
-use Rattle.mea_sem_model.specs.Hall.{Hall, Semaphore, Permit, Who}
+use Rattle.std.proofs.Common.{◌≡◌, inl, inr, ℕ, ◌+◌, ◌<◌, ◌≤◌, ◌==◌, Bool, true, false, cond, List, refl, ap, sym, subst, ◌∙◌, arith, Option, Some, None}
+use Rattle.std.specs.FinMap.{get, insert}
+use Rattle.std.proofs.lemmas.Bool.{eqb-true}
+use Rattle.mea_sem_model.specs.Hall.{Who}
 use Rattle.mea_sem_core.specs.declared.acquire.Acquire.TheVariants.{Queued}
 use Rattle.mea_sem_core.specs.Core as cores
 use Rattle.mea_sem_core.specs.Calls.{Belongs}
 use Rattle.mea_sem.specs.declared.entries.SemaphoreEntry.{SemaphoreEntry}
 use Rattle.mea_sem.specs.declared.entries.FutureEntry.{FutureEntry}
-use Rattle.mea_sem.specs.Store.{Store, has, queue_of, semaphore_of, hall_of, IsNumbered, IsLinked}
-use Rattle.mea_sem.proofs.Cores.{at_same, at_apart}
+use Rattle.mea_sem.specs.Store.{Store, queue_of, hall_of, IsNumbered, IsLinked}
 use Rattle.mea_sem.proofs.Changes.{Changes, linked_after, queue_kept, semaphores_after, futures_same}
 
 -- every number of the core has what it had
@@ -83,7 +81,7 @@ module _ (st st' : Store) (next i s : ℕ) (e e' : SemaphoreEntry) (linked : IsL
       → hall_of st' (i + 1) ≡ record { semaphores = insert (hall_of st next).semaphores s (record { free = e'.core.free; queue = q; made = e'.made; released = e'.released; forgotten = e'.forgotten; named = e'.named }); futures = (hall_of st next).futures; permits = st'.permits }
   hall_still q seen = λ j. record {
     semaphores = (semaphores_after st st' next (i + 1) s i e e' None None linked changes_still
-      ∙ ap (λ p. insert (hall_of st next).semaphores s (record { free = e'.core.free; queue = p; made = e'.made; released = e'.released; forgotten = e'.forgotten; named = e'.named })) seen) j;
+        ∙ ap (λ p. insert (hall_of st next).semaphores s (record { free = e'.core.free; queue = p; made = e'.made; released = e'.released; forgotten = e'.forgotten; named = e'.named })) seen) j;
     futures = futures_same st st' next (i + 1) s i e e' None None linked changes_still refl refl j;
     permits = st'.permits;
   }

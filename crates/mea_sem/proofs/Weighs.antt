@@ -1,13 +1,11 @@
 -- what changes of futures and permits do to the held permits and the plain things of each semaphore
-use Rattle.std.proofs.Common.{◌≡◌, ℕ, ◌+◌, ◌-◌, ◌<◌, ◌≤◌, ◌==◌, ◌&&◌, Bool, true, false, cond, refl, ap, sym, ◌∙◌, arith, Option, Some, None, List}
-use Rattle.std.specs.Ordering.{nat_cmp}
+use Rattle.std.proofs.Common.{◌≡◌, ℕ, ◌+◌, ◌==◌, ◌&&◌, Bool, true, false, cond, refl, ap, ◌∙◌, arith, Option, Some, None}
 use Rattle.std.specs.Option.{option_map}
-use Rattle.std.specs.FinMap.{FinMap, get, insert, remove}
-use Rattle.std.proofs.lemmas.Bool.{eqb-true}
+use Rattle.std.specs.FinMap.{get}
 use Rattle.mea_base.specs.Queue.{granted_in}
-use Rattle.mea_base.specs.Totals.{total, weight}
+use Rattle.mea_base.specs.Totals.{weight}
 use Rattle.mea_base.proofs.Totals.{total-insert, total-remove, total-alike}
-use Rattle.mea_sem_model.specs.Hall.{Hall, Semaphore, Future, Permit, Who, queue_at, held, plain_things, granted, grant_all, pour, with_semaphore}
+use Rattle.mea_sem_model.specs.Hall.{Hall, Semaphore, Future, Permit, queue_at, held, plain_things, granted, pour, with_semaphore}
 use Rattle.mea_sem_model.specs.Step.{with_future, without_future, with_permit, without_permit}
 use Rattle.mea_sem_model.proofs.HallLemmas.{among, get-grant_all}
 
@@ -59,32 +57,32 @@ module _ (h : Hall) (k : ℕ) where
   pub weighs_new_permit : (x : Permit) → get h.permits k ≡ None → Weighs h (with_permit h k x) x.semaphore 0 x.size 0 (one x.plain)
   weighs_new_permit x none = record {
     held = λ q. (let w = total-insert (λ j (p : Permit). cond (p.semaphore == q) p.size 0) h.permits k x in
-      let n : weight (λ j (p : Permit). cond (p.semaphore == q) p.size 0) k (get h.permits k) ≡ 0 = ap (weight (λ j (p : Permit). cond (p.semaphore == q) p.size 0) k) none in
-      let z = nothing_if (x.semaphore == q) in omega (arith, w, n, z));
+        let n : weight (λ j (p : Permit). cond (p.semaphore == q) p.size 0) k (get h.permits k) ≡ 0 = ap (weight (λ j (p : Permit). cond (p.semaphore == q) p.size 0) k) none in
+        let z = nothing_if (x.semaphore == q) in omega (arith, w, n, z));
     plain = λ q. (let w = total-insert (λ j (p : Permit). cond (p.semaphore == q && p.plain) 1 0) h.permits k x in
-      let n : weight (λ j (p : Permit). cond (p.semaphore == q && p.plain) 1 0) k (get h.permits k) ≡ 0 = ap (weight (λ j (p : Permit). cond (p.semaphore == q && p.plain) 1 0) k) none in
-      let z = nothing_if (x.semaphore == q) in omega (arith, w, n, z, plain_if (x.semaphore == q) x.plain));
+        let n : weight (λ j (p : Permit). cond (p.semaphore == q && p.plain) 1 0) k (get h.permits k) ≡ 0 = ap (weight (λ j (p : Permit). cond (p.semaphore == q && p.plain) 1 0) k) none in
+        let z = nothing_if (x.semaphore == q) in omega (arith, w, n, z, plain_if (x.semaphore == q) x.plain));
   }
 
   -- another size
   pub weighs_permit : (x y : Permit) → get h.permits k ≡ Some y → y.semaphore ≡ x.semaphore → y.plain ≡ x.plain → Weighs h (with_permit h k x) x.semaphore y.size x.size 0 0
   weighs_permit x y there mine form = record {
     held = λ q. (let w = total-insert (λ j (p : Permit). cond (p.semaphore == q) p.size 0) h.permits k x in
-      let n : weight (λ j (p : Permit). cond (p.semaphore == q) p.size 0) k (get h.permits k) ≡ cond (x.semaphore == q) y.size 0 = ap (weight (λ j (p : Permit). cond (p.semaphore == q) p.size 0) k) there ∙ ap (λ s. cond (s == q) y.size 0) mine in
-      omega (arith, w, n));
+        let n : weight (λ j (p : Permit). cond (p.semaphore == q) p.size 0) k (get h.permits k) ≡ cond (x.semaphore == q) y.size 0 = ap (weight (λ j (p : Permit). cond (p.semaphore == q) p.size 0) k) there ∙ ap (λ s. cond (s == q) y.size 0) mine in
+        omega (arith, w, n));
     plain = λ q. (let w = total-insert (λ j (p : Permit). cond (p.semaphore == q && p.plain) 1 0) h.permits k x in
-      let n : weight (λ j (p : Permit). cond (p.semaphore == q && p.plain) 1 0) k (get h.permits k) ≡ cond (x.semaphore == q && x.plain) 1 0 = ap (weight (λ j (p : Permit). cond (p.semaphore == q && p.plain) 1 0) k) there ∙ ap (λ s. cond (s == q && y.plain) 1 0) mine ∙ ap (λ t. cond (x.semaphore == q && t) 1 0) form in
-      omega (arith, w, n));
+        let n : weight (λ j (p : Permit). cond (p.semaphore == q && p.plain) 1 0) k (get h.permits k) ≡ cond (x.semaphore == q && x.plain) 1 0 = ap (weight (λ j (p : Permit). cond (p.semaphore == q && p.plain) 1 0) k) there ∙ ap (λ s. cond (s == q && y.plain) 1 0) mine ∙ ap (λ t. cond (x.semaphore == q && t) 1 0) form in
+        omega (arith, w, n));
   }
 
   pub weighs_lost_permit : (y : Permit) → get h.permits k ≡ Some y → Weighs h (without_permit h k) y.semaphore y.size 0 (one y.plain) 0
   weighs_lost_permit y there = record {
     held = λ q. (let w = total-remove (λ j (p : Permit). cond (p.semaphore == q) p.size 0) h.permits k in
-      let n : weight (λ j (p : Permit). cond (p.semaphore == q) p.size 0) k (get h.permits k) ≡ cond (y.semaphore == q) y.size 0 = ap (weight (λ j (p : Permit). cond (p.semaphore == q) p.size 0) k) there in
-      let z = nothing_if (y.semaphore == q) in omega (arith, w, n, z));
+        let n : weight (λ j (p : Permit). cond (p.semaphore == q) p.size 0) k (get h.permits k) ≡ cond (y.semaphore == q) y.size 0 = ap (weight (λ j (p : Permit). cond (p.semaphore == q) p.size 0) k) there in
+        let z = nothing_if (y.semaphore == q) in omega (arith, w, n, z));
     plain = λ q. (let w = total-remove (λ j (p : Permit). cond (p.semaphore == q && p.plain) 1 0) h.permits k in
-      let n : weight (λ j (p : Permit). cond (p.semaphore == q && p.plain) 1 0) k (get h.permits k) ≡ cond (y.semaphore == q && y.plain) 1 0 = ap (weight (λ j (p : Permit). cond (p.semaphore == q && p.plain) 1 0) k) there in
-      let z = nothing_if (y.semaphore == q) in omega (arith, w, n, z, plain_if (y.semaphore == q) y.plain));
+        let n : weight (λ j (p : Permit). cond (p.semaphore == q && p.plain) 1 0) k (get h.permits k) ≡ cond (y.semaphore == q && y.plain) 1 0 = ap (weight (λ j (p : Permit). cond (p.semaphore == q && p.plain) 1 0) k) there in
+        let z = nothing_if (y.semaphore == q) in omega (arith, w, n, z, plain_if (y.semaphore == q) y.plain));
   }
 
   -- ---- futures
@@ -92,8 +90,8 @@ module _ (h : Hall) (k : ℕ) where
   weighs_new_future x none = record {
     held = λ q. refl;
     plain = λ q. (let w = total-insert (λ j (p : Future). cond (p.semaphore == q && p.plain) 1 0) h.futures k x in
-      let n : weight (λ j (p : Future). cond (p.semaphore == q && p.plain) 1 0) k (get h.futures k) ≡ 0 = ap (weight (λ j (p : Future). cond (p.semaphore == q && p.plain) 1 0) k) none in
-      let z = nothing_if (x.semaphore == q) in omega (arith, w, n, z, plain_if (x.semaphore == q) x.plain));
+        let n : weight (λ j (p : Future). cond (p.semaphore == q && p.plain) 1 0) k (get h.futures k) ≡ 0 = ap (weight (λ j (p : Future). cond (p.semaphore == q && p.plain) 1 0) k) none in
+        let z = nothing_if (x.semaphore == q) in omega (arith, w, n, z, plain_if (x.semaphore == q) x.plain));
   }
 
   -- another stage
@@ -101,16 +99,16 @@ module _ (h : Hall) (k : ℕ) where
   weighs_future x y there mine form = record {
     held = λ q. refl;
     plain = λ q. (let w = total-insert (λ j (p : Future). cond (p.semaphore == q && p.plain) 1 0) h.futures k x in
-      let n : weight (λ j (p : Future). cond (p.semaphore == q && p.plain) 1 0) k (get h.futures k) ≡ cond (x.semaphore == q && x.plain) 1 0 = ap (weight (λ j (p : Future). cond (p.semaphore == q && p.plain) 1 0) k) there ∙ ap (λ s. cond (s == q && y.plain) 1 0) mine ∙ ap (λ t. cond (x.semaphore == q && t) 1 0) form in
-      omega (arith, w, n));
+        let n : weight (λ j (p : Future). cond (p.semaphore == q && p.plain) 1 0) k (get h.futures k) ≡ cond (x.semaphore == q && x.plain) 1 0 = ap (weight (λ j (p : Future). cond (p.semaphore == q && p.plain) 1 0) k) there ∙ ap (λ s. cond (s == q && y.plain) 1 0) mine ∙ ap (λ t. cond (x.semaphore == q && t) 1 0) form in
+        omega (arith, w, n));
   }
 
   pub weighs_lost_future : (y : Future) → get h.futures k ≡ Some y → Weighs h (without_future h k) y.semaphore 0 0 (one y.plain) 0
   weighs_lost_future y there = record {
     held = λ q. refl;
     plain = λ q. (let w = total-remove (λ j (p : Future). cond (p.semaphore == q && p.plain) 1 0) h.futures k in
-      let n : weight (λ j (p : Future). cond (p.semaphore == q && p.plain) 1 0) k (get h.futures k) ≡ cond (y.semaphore == q && y.plain) 1 0 = ap (weight (λ j (p : Future). cond (p.semaphore == q && p.plain) 1 0) k) there in
-      let z = nothing_if (y.semaphore == q) in omega (arith, w, n, z, plain_if (y.semaphore == q) y.plain));
+        let n : weight (λ j (p : Future). cond (p.semaphore == q && p.plain) 1 0) k (get h.futures k) ≡ cond (y.semaphore == q && y.plain) 1 0 = ap (weight (λ j (p : Future). cond (p.semaphore == q && p.plain) 1 0) k) there in
+        let z = nothing_if (y.semaphore == q) in omega (arith, w, n, z, plain_if (y.semaphore == q) y.plain));
   }
 
 -- ---- pours
@@ -124,5 +122,5 @@ weighs_pour h s q n = record {
   held = λ k. refl;
   plain = λ k. (let w = total-alike (λ j (p : Future). cond (p.semaphore == k && p.plain) 1 0) (λ j (p : Future). cond (p.semaphore == k && p.plain) 1 0) (pour h s n).futures h.futures
       (λ f. ap (weight (λ j (p : Future). cond (p.semaphore == k && p.plain) 1 0) f) (get-grant_all (granted_in (queue_at h s) n) h.futures f) ∙ same_weight k f (among (granted_in (queue_at h s) n) f) (get h.futures f)) in
-    omega (arith, w));
+      omega (arith, w));
 }

@@ -1,5 +1,5 @@
 -- what a `SemHall` keeps to
-use Rattle.std.specs.Prelude.{ℕ, ◌≡◌, ◌+◌, ◌*◌, ◌^◌, ◌<◌, ◌≤◌, List, [], ◌∷◌, Some}
+use Rattle.std.specs.Prelude.{ℕ, ◌≡◌, ◌+◌, ◌*◌, ◌^◌, ◌≤◌, List, [], ◌∷◌, Some}
 use Rattle.std.specs.FinMap.{get}
 use Rattle.mea_base.specs.Totals.{total}
 use Rattle.mea_sem_model.specs.Hall.{Hall, held, plain_things}

@@ -296,6 +296,7 @@ fn demand(acquire: &Acquire) -> usize
     ensures { result ≡ demand_of acquire.now }
 {
     match *acquire {
-        Acquire::New { demand } | Acquire::Queued { demand, .. } | Acquire::Done { demand } => demand,
+        Acquire::New { demand } | Acquire::Queued { demand, .. } | Acquire::Done { demand } =>
+            demand,
     }
 }

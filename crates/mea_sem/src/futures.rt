@@ -14,7 +14,14 @@ use mea_sem_model::SemEvent;
 // What the events on futures do, where they have no cause for refusal.
 impl SemHall {
     // `acq` and its three other forms.
-    pub(crate) fn acquire(&mut self, number: u64, s: u64, n: u64, plain: bool, forgets: bool) -> Result<Answer, Stop>
+    pub(crate) fn acquire(
+        &mut self,
+        number: u64,
+        s: u64,
+        n: u64,
+        plain: bool,
+        forgets: bool,
+    ) -> Result<Answer, Stop>
         requires next { self.old.next ≤ number }
         requires allowed { cause_of self.old.hall (SemEvent.Acq s n) ≡ None }
         ensures played { IfOk result (λ reply. Yields self.old number (acquire_of self.old.hall number s n plain forgets) reply self.new) }

@@ -1,4 +1,4 @@
-use Rattle.std.proofs.Common.{◌≡◌, Some, sym, ap, ◌∙◌, rules, arith}
+use Rattle.std.proofs.Common.{sym, ap, ◌∙◌, rules, arith}
 use Rattle.std.specs.Option.{option_copied_mut}
 use Rattle.mea_sem.proofs.StandingPermits.{known_as_permit, semaphore_found, permit_held, permit_counted, wakes_within, wakes_have_room, handed_on, ended}
 use Rattle.mea_sem.proofs.hall.SemHall.end_permit.Goals as goal

@@ -1,4 +1,4 @@
-use Rattle.std.proofs.Common.{rules, ◌≡◌, ◌≤◌, None, Some, sym, subst, ap, refl, ◌∙◌, arith, cond, false}
+use Rattle.std.proofs.Common.{rules, ◌≡◌, None, Some, sym, subst, ap, ◌∙◌, arith, false}
 use Rattle.std.specs.Option.{option_copied, option_copied_mut, IfSome}
 use Rattle.std.specs.FinMap.{get}
 use Rattle.mea_base.specs.Named.{at}
@@ -9,7 +9,6 @@ use Rattle.mea_sem_model.specs.declared.event.SemEvent.TheVariants as events
 use Rattle.mea_sem_model.proofs.HallLemmas.{inside}
 use Rattle.mea_sem_core.specs.Acquire.{demand_of}
 use Rattle.mea_sem.specs.declared.entries.FutureEntry.{FutureEntry}
-use Rattle.mea_sem.specs.declared.entries.PermitEntry.{PermitEntry}
 use Rattle.mea_sem.specs.Play.{Play}
 use Rattle.mea_sem.specs.Store.{store_of}
 use Rattle.mea_sem.specs.Kept.{IsKept}
@@ -51,7 +50,7 @@ invariant_of-self-2 c =
     let same : c.in-Some.future.now ≡ c.in-Some-remove.future = inside (sym first ∙ is) in
     let permit : c.permit-permit.result ≡ record { semaphore = c.in-Some-remove.future.semaphore; size = demand_of c.in-Some-remove.future.acquire; plain = c.in-Some-remove.future.plain } = c.permit-permit.ensures ∙ ap (λ (y : FutureEntry). record { semaphore = y.semaphore; size = demand_of y.acquire; plain = y.plain }) same in
     (kept_done c.self.inside.semaphores.entries _ c.self.inside.futures.entries _ c.self.inside.permits.entries _ c.self.inside.registered c.self.inside.outbox.spare c.self.inside.next c.args.number c.args.f c.args.waker c.self.inside.outbox.wakers c.in-Some-remove.future c.in-Some-get_mut.entry.now c.finish.new.self c.self.invariant less (omega arith) small allowed is c.in-Some-remove.ensures.updates.0 there ((c.get_mut.follows.holds c.finish.new.self).3 (search rules)).0 ready
-      keeps c.permit-permit.result c.in-Ok.ensures.updates.0 permit c.finish.ensures.is c.finish.ensures.held).kept
+    keeps c.permit-permit.result c.in-Ok.ensures.updates.0 permit c.finish.ensures.is c.finish.ensures.held).kept
 
 pub returns-clause-played : goal.returns-clause-played
 returns-clause-played c =
@@ -67,4 +66,4 @@ returns-clause-played c =
     let same : c.in-Some.future.now ≡ c.in-Some-remove.future = inside (sym first ∙ is) in
     let permit : c.permit-permit.result ≡ record { semaphore = c.in-Some-remove.future.semaphore; size = demand_of c.in-Some-remove.future.acquire; plain = c.in-Some-remove.future.plain } = c.permit-permit.ensures ∙ ap (λ (y : FutureEntry). record { semaphore = y.semaphore; size = demand_of y.acquire; plain = y.plain }) same in
     rw (← c.self.view_is) (kept_done c.self.inside.semaphores.entries _ c.self.inside.futures.entries _ c.self.inside.permits.entries _ c.self.inside.registered c.self.inside.outbox.spare c.self.inside.next c.args.number c.args.f c.args.waker c.self.inside.outbox.wakers c.in-Some-remove.future c.in-Some-get_mut.entry.now c.finish.new.self c.self.invariant less (omega arith) small allowed is c.in-Some-remove.ensures.updates.0 there ((c.get_mut.follows.holds c.finish.new.self).3 (search rules)).0 ready
-      keeps c.permit-permit.result c.in-Ok.ensures.updates.0 permit c.finish.ensures.is c.finish.ensures.held).yields
+    keeps c.permit-permit.result c.in-Ok.ensures.updates.0 permit c.finish.ensures.is c.finish.ensures.held).yields

@@ -1,9 +1,8 @@
-use Rattle.std.proofs.Common.{rules, ◌≡◌, ◌≤◌, None, Some, sym, subst, ap, refl, ◌∙◌, arith, cond, true}
+use Rattle.std.proofs.Common.{rules, ◌≡◌, None, Some, sym, subst, ap, refl, ◌∙◌, arith, true}
 use Rattle.std.specs.Option.{option_copied_mut, IfSome}
 use Rattle.std.specs.FinMap.{get}
 use Rattle.mea_base.specs.Named.{at}
 use Rattle.mea_base.specs.declared.answer.Answer.TheVariants as answers
-use Rattle.mea_sem_model.specs.Hall.{Future}
 use Rattle.mea_sem_model.specs.Cause.{cause_of}
 use Rattle.mea_sem_model.specs.Step.{step}
 use Rattle.mea_sem_model.specs.declared.event.SemEvent.TheVariants as events
@@ -56,7 +55,7 @@ invariant_of-self c =
     let allowed = subst (λ (p : Play). cause_of p.hall (events.Poll c.args.f c.args.waker) ≡ None) (sym c.self.view_is) c.requires.allowed in
     let forgets = forgets_seen c.self.inside.semaphores.entries c.self.inside.futures.entries c.self.inside.permits.entries c.self.inside.next c.args.f c.in-Some.future true is (subst (λ (p : Play). IfSome (get p.hall.futures c.args.f) (λ y. y.forgets ≡ true)) (sym c.self.view_is) c.requires.forgets) in
     (forgotten_done c.self.inside.semaphores.entries _ c.self.inside.futures.entries _ c.self.inside.permits.entries c.self.inside.permits.entries c.self.inside.registered c.self.inside.outbox.spare c.self.inside.next c.args.number c.args.f c.args.waker c.self.inside.outbox.wakers c.in-Some.future c.in-Some-get_mut.entry.now c.finish_forgetting.new.self c.self.invariant less (omega arith) small allowed is c.in-Some.ensures.updates.0 there ((c.get_mut.follows.holds c.finish_forgetting.new.self).3 (search rules)).0 ready
-      forgets refl c.finish_forgetting.ensures.is c.finish_forgetting.ensures.rises c.finish_forgetting.ensures.held).kept
+    forgets refl c.finish_forgetting.ensures.is c.finish_forgetting.ensures.rises c.finish_forgetting.ensures.held).kept
 
 pub returns : goal.returns
 returns c =
@@ -69,4 +68,4 @@ returns c =
     let allowed = subst (λ (p : Play). cause_of p.hall (events.Poll c.args.f c.args.waker) ≡ None) (sym c.self.view_is) c.requires.allowed in
     let forgets = forgets_seen c.self.inside.semaphores.entries c.self.inside.futures.entries c.self.inside.permits.entries c.self.inside.next c.args.f c.in-Some.future true is (subst (λ (p : Play). IfSome (get p.hall.futures c.args.f) (λ y. y.forgets ≡ true)) (sym c.self.view_is) c.requires.forgets) in
     rw (← c.self.view_is) (forgotten_done c.self.inside.semaphores.entries _ c.self.inside.futures.entries _ c.self.inside.permits.entries c.self.inside.permits.entries c.self.inside.registered c.self.inside.outbox.spare c.self.inside.next c.args.number c.args.f c.args.waker c.self.inside.outbox.wakers c.in-Some.future c.in-Some-get_mut.entry.now c.finish_forgetting.new.self c.self.invariant less (omega arith) small allowed is c.in-Some.ensures.updates.0 there ((c.get_mut.follows.holds c.finish_forgetting.new.self).3 (search rules)).0 ready
-      forgets refl c.finish_forgetting.ensures.is c.finish_forgetting.ensures.rises c.finish_forgetting.ensures.held).yields
+    forgets refl c.finish_forgetting.ensures.is c.finish_forgetting.ensures.rises c.finish_forgetting.ensures.held).yields

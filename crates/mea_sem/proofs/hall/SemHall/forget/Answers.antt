@@ -5,7 +5,6 @@ use Rattle.mea_sem_model.specs.Cause.{cause_of}
 use Rattle.mea_sem_model.specs.declared.event.SemEvent.TheVariants as events
 use Rattle.mea_sem_core.specs.Core.{held_of}
 use Rattle.mea_sem.specs.Play.{Play}
-use Rattle.mea_sem.specs.Store.{store_of}
 use Rattle.mea_sem.specs.declared.entries.SemaphoreEntry.{SemaphoreEntry}
 use Rattle.mea_base.specs.declared.answer.Answer.TheVariants as answers
 use Rattle.mea_sem_model.specs.Hall.{Semaphore}
@@ -32,7 +31,7 @@ invariant_of-self c =
     let there : at c.self.inside.semaphores.entries c.args.s ≡ Some c.in-Some.entry.now = sym c.get_mut.ensures.value ∙ ap option_copied_mut c.in-Some.is in
     let puts = puts_of c.self.inside.semaphores.entries _ c.self.inside.futures.entries c.self.inside.permits.entries c.self.inside.permits.entries c.args.s c.in-Some.entry.now c.forget-forgotten.new.self _ there ((c.get_mut.follows.holds c.forget-forgotten.new.self).3 (search rules)).0 c.forget-forgotten.ensures.is in
     (plays_forget _ _ c.self.inside.registered c.self.inside.outbox.spare c.self.inside.next c.args.number c.args.s c.args.n c.in-Some.entry.now c.self.invariant (rw (← c.self.view_is) at c.requires.next) (omega arith) (omega arith) allowed puts refl
-      (subst (λ (x : SemaphoreEntry). held_of x.core ≡ held_of c.in-Some.entry.now.core) c.forget-forgotten.ensures.is c.forget-forgotten.ensures.held) (omega arith)).kept
+    (subst (λ (x : SemaphoreEntry). held_of x.core ≡ held_of c.in-Some.entry.now.core) c.forget-forgotten.ensures.is c.forget-forgotten.ensures.held) (omega arith)).kept
 
 pub returns : goal.returns
 returns c =
@@ -40,5 +39,5 @@ returns c =
     let there : at c.self.inside.semaphores.entries c.args.s ≡ Some c.in-Some.entry.now = sym c.get_mut.ensures.value ∙ ap option_copied_mut c.in-Some.is in
     let puts = puts_of c.self.inside.semaphores.entries _ c.self.inside.futures.entries c.self.inside.permits.entries c.self.inside.permits.entries c.args.s c.in-Some.entry.now c.forget-forgotten.new.self _ there ((c.get_mut.follows.holds c.forget-forgotten.new.self).3 (search rules)).0 c.forget-forgotten.ensures.is in
     let plays = plays_forget _ _ c.self.inside.registered c.self.inside.outbox.spare c.self.inside.next c.args.number c.args.s c.args.n c.in-Some.entry.now c.self.invariant (rw (← c.self.view_is) at c.requires.next) (omega arith) (omega arith) allowed puts refl
-      (subst (λ (x : SemaphoreEntry). held_of x.core ≡ held_of c.in-Some.entry.now.core) c.forget-forgotten.ensures.is c.forget-forgotten.ensures.held) (omega arith) in
+    (subst (λ (x : SemaphoreEntry). held_of x.core ≡ held_of c.in-Some.entry.now.core) c.forget-forgotten.ensures.is c.forget-forgotten.ensures.held) (omega arith) in
     yields_quietly c.args.self.now _ _ c.self.inside.next c.args.number _ _ c.self.inside.outbox.wakers (events.Forget c.args.s c.args.n) _ c.self.view_is plays refl (ap (λ k. answers.Forgot k) (c.forget-forgotten.ensures.taken ∙ ap (λ (r : Semaphore). min c.args.n r.free) (sym (seen_at _ c.self.inside.next c.args.s c.in-Some.entry.now c.self.invariant.linked puts.there))))

@@ -1,6 +1,5 @@
-use Rattle.std.proofs.Common.{◌≡◌, Some, sym, ap, ◌∙◌, rules, arith, refl}
+use Rattle.std.proofs.Common.{sym, ap, ◌∙◌, rules, arith}
 use Rattle.std.specs.Option.{option_copied_mut}
-use Rattle.mea_base.specs.Named.{at}
 use Rattle.mea_sem.proofs.StandingPermits.{permit_found, semaphore_found, permit_held, permit_counted, permit_small, forgotten_fits, lost, later_than}
 use Rattle.mea_sem.proofs.hall.SemHall.lose.Goals as goal
 

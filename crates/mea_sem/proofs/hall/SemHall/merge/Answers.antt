@@ -1,4 +1,4 @@
-use Rattle.std.proofs.Common.{◌≡◌, Some, sym, ap, ◌∙◌, ◌+◌, rules, arith}
+use Rattle.std.proofs.Common.{sym, ap, ◌∙◌, ◌+◌, rules, arith}
 use Rattle.std.specs.Option.{option_copied_mut}
 use Rattle.mea_sem.proofs.StandingPermits.{semaphore_found, permit_counted, other_found, first_found, sizes_fit, merged}
 use Rattle.mea_sem.proofs.hall.SemHall.merge.Goals as goal

@@ -1,4 +1,4 @@
-use Rattle.std.proofs.Common.{rules, ℕ, ◌≡◌, ◌≤◌, None, Some, true, false, sym, subst, ap, refl, ◌∙◌, arith}
+use Rattle.std.proofs.Common.{ℕ, ◌≡◌, None, Some, true, false, sym, subst, ap, ◌∙◌}
 use Rattle.std.specs.Option.{option_copied, IfSome}
 use Rattle.std.specs.FinMap.{get}
 use Rattle.mea_base.specs.Named.{at}

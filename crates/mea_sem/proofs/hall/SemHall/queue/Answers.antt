@@ -1,4 +1,4 @@
-use Rattle.std.proofs.Common.{rules, ℕ, ◌≡◌, ◌≤◌, ◌+◌, None, Some, sym, subst, ap, refl, ◌∙◌, arith}
+use Rattle.std.proofs.Common.{rules, ℕ, ◌≡◌, ◌+◌, None, Some, sym, subst, ap, ◌∙◌, arith}
 use Rattle.std.specs.Option.{option_copied, option_copied_mut, IfSome}
 use Rattle.std.specs.FinMap.{get}
 use Rattle.mea_base.specs.Named.{at}
@@ -9,7 +9,6 @@ use Rattle.mea_sem_model.specs.Cause.{cause_of}
 use Rattle.mea_sem_model.specs.Step.{step}
 use Rattle.mea_sem_model.specs.declared.event.SemEvent.TheVariants as events
 use Rattle.mea_sem_model.proofs.HallLemmas.{inside}
-use Rattle.mea_sem.specs.declared.entries.FutureEntry.{FutureEntry}
 use Rattle.mea_sem.specs.Play.{Play}
 use Rattle.mea_sem.specs.Store.{Store, hall_of}
 use Rattle.mea_sem.specs.Kept.{IsKept}

@@ -1,4 +1,4 @@
-use Rattle.std.proofs.Common.{◌≡◌, Some, sym, ap, ◌∙◌, arith}
+use Rattle.std.proofs.Common.{sym, ap, ◌∙◌, arith}
 use Rattle.std.specs.Option.{option_copied}
 use Rattle.mea_sem.proofs.StandingPermits.{permit_found, sized}
 use Rattle.mea_sem.proofs.hall.SemHall.size.Goals as goal

@@ -1,4 +1,4 @@
-use Rattle.std.proofs.Common.{◌≡◌, Some, sym, ap, subst, ◌∙◌, ◌-◌, rules, arith}
+use Rattle.std.proofs.Common.{sym, ap, subst, ◌∙◌, ◌-◌, rules, arith}
 use Rattle.std.specs.Option.{option_copied_mut}
 use Rattle.mea_sem.specs.Kept.{IsKept}
 use Rattle.mea_sem.specs.Store.{store_of}

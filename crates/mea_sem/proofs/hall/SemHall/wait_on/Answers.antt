@@ -1,8 +1,8 @@
-use Rattle.std.proofs.Common.{rules, ℕ, ◌≡◌, ◌≤◌, None, Some, sym, subst, ap, refl, ◌∙◌, arith}
+use Rattle.std.proofs.Common.{rules, ℕ, ◌≡◌, None, Some, sym, subst, ap, ◌∙◌, arith}
 use Rattle.std.specs.Option.{option_copied, option_copied_mut, IfSome}
 use Rattle.std.specs.FinMap.{get}
 use Rattle.mea_base.specs.Named.{at}
-use Rattle.mea_sem_model.specs.Hall.{Future, New, Waiting}
+use Rattle.mea_sem_model.specs.Hall.{Future, Waiting}
 use Rattle.mea_sem_model.specs.Cause.{cause_of}
 use Rattle.mea_sem_model.specs.declared.event.SemEvent.TheVariants as events
 use Rattle.mea_sem.specs.Play.{Play}
