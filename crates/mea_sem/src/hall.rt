@@ -53,7 +53,7 @@ impl SemHall {
 
     /// At least the number of wakers that an event may make ready. It takes no memory.
     pub fn registered(&self) -> usize
-        ensures most { (i : ℕ) (event : Line) → cause_of self.now.hall event ≡ None → length (step self.now.hall i event).wakes ≤ result }
+        ensures most { (i : ℕ) (event : Line) → length (step self.now.hall i event).wakes ≤ result }
     {
         let _next = self.next;
         0
