@@ -1,3 +1,6 @@
 pub mod NamedMaps
 pub mod Queues
 pub mod Totals
+pub mod Trims
+pub mod WaitPlaces
+pub mod Waits

@@ -2,3 +2,6 @@ pub mod Named
 pub mod Outbox
 pub mod Queue
 pub mod Totals
+pub mod WaitList
+pub mod WaitListLends
+pub mod WaitListPlaces

@@ -7,6 +7,7 @@ pub record Wakes (W : Type 0) : Type 0 where
   pub wakers : List W
   pub spare : ℕ
 
+-- what lets a `Wakes` be the value of a model
 abbrev pub wakes_code : {W : Type 0} → Coded W → Coded (Wakes W)
 wakes_code {W} code =
     code_by

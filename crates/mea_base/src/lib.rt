@@ -8,7 +8,10 @@ mod no_memory;
 mod outbox;
 mod overflow;
 mod stop;
+#[cfg(test)]
+mod tests;
 mod turn;
+mod wait_list;
 mod wake;
 
 pub use answer::Answer;
@@ -19,4 +22,5 @@ pub use outbox::Outbox;
 pub use overflow::Overflow;
 pub use stop::Stop;
 pub use turn::Turn;
+pub use wait_list::WaitList;
 pub use wake::Wake;

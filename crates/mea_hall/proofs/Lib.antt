@@ -4,3 +4,4 @@ pub mod Wakes
 pub mod HandedOver
 pub mod Puts
 pub mod Spellings
+pub mod Histories

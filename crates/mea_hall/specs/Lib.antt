@@ -6,3 +6,4 @@ pub mod Number
 pub mod Lines
 pub mod Text
 pub mod Spelling
+pub mod History

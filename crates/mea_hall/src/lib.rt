@@ -4,6 +4,7 @@
 
 mod event;
 mod hall;
+mod history;
 mod lines;
 mod number;
 mod played;
@@ -13,6 +14,7 @@ mod words;
 
 pub use event::Event;
 pub use hall::Hall;
+pub use history::{no_wake_is_lost, permits_balance};
 pub use lines::{cut, event_of_line, lines_have_one_spelling};
 pub use number::number_of;
 pub use played::{Played, replay};

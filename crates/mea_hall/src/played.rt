@@ -3,6 +3,7 @@ ghost use Rattle.mea_base.specs.declared.answer.Answer.{Answer as Reply};
 ghost use Rattle.mea_hall.specs.declared.event.Event.{Event as Line};
 ghost use Rattle.mea_hall.specs.World.{cause_of, step};
 ghost use Rattle.mea_hall.specs.Front.{Front, front_of, IsLegal};
+ghost use Rattle.mea_hall.specs.History.{AreBalanced, LoseNoWake};
 ghost use Rattle.mea_hall.specs.Replies.{with_wakes};
 
 use crate::event::Event;
@@ -27,6 +28,8 @@ pub fn replay(alloc: Global, events: &[Event]) -> Played
     ensures whole { OnOk result.ended (length result.replies.replies ≡ length events.now) }
     ensures caused { IfErr result.ended (λ stop. stop ≢ Stop.NoMemory → front_of events.now ≡ record { world = result.hall.world; replies = result.replies.replies; cause = Some stop }) }
     ensures refused { IfErr result.ended (λ stop. stop ≢ Stop.NoMemory → (event : Line) × (slice_get events.now (length result.replies.replies) ≡ Some event) × (cause_of result.hall.world event ≡ Some stop)) }
+    ensures balance { AreBalanced events.now result.replies.replies }
+    ensures woken { LoseNoWake events.now result.replies.replies }
     ensures legal { IsLegal events.now → (result.ended ≡ Ok tt) ⊎ (result.ended ≡ Err Stop.NoMemory) }
 {
     let mut hall = Hall::new(alloc);

@@ -1,1 +1,5 @@
 pub mod Play
+pub mod Store
+pub mod Kept
+pub mod Entries
+pub mod StandsFor

@@ -1,31 +1,48 @@
-ghost use Rattle.std.specs.Prelude.{◌≡◌, ◌≤◌, [], ◌∷◌, ◌⊎◌, ℕ, length, OnOk, OnErr, IfOk, IfErr, IfSome, IfNone, None, Some};
-ghost use Rattle.mea_sem_model.specs.declared.event.SemEvent.{SemEvent as Line};
+ghost use Rattle.std.specs.Prelude.{◌≡◌, ◌≢◌, ◌≤◌, ◌∷◌, [], ◌⊎◌, ℕ, length, is_some, OnOk, OnErr, IfOk, IfErr, IfSome, IfNone, None, Some};
 ghost use Rattle.mea_sem_model.specs.Hall.{empty_hall};
-ghost use Rattle.mea_sem_model.specs.Cause.{cause_of};
+ghost use Rattle.mea_sem_model.specs.Cause.{cause_of, is_named};
 ghost use Rattle.mea_sem_model.specs.Step.{step};
-ghost use Rattle.mea_sem.specs.Play.{Play, Plays};
+ghost use Rattle.mea_sem_model.specs.declared.event.SemEvent.{SemEvent as Event};
+ghost use Rattle.mea_sem.specs.Play.{Play, Plays, TakesNoMemory};
+ghost use Rattle.mea_sem.specs.StandsFor.{StandsFor};
 
+use crate::entries::{FutureEntry, PermitEntry, SemaphoreEntry};
 use mea_base::{Answer, Outbox, Stop};
+use mea_sem_core::SemCore;
 use mea_sem_model::SemEvent;
 use std::alloc::Global;
+use std::collections::BTreeMap;
 use std::marker::Model;
 
-/// Many semaphores with their futures and permits, each by its name.
+/// Many semaphores with their futures and permits, each by the number of the event that made it.
+///
+/// Each semaphore is a core of its own; a future keeps its acquire. Each event costs a look-up by name and
+/// the waiters that it pays; the end of a waiting future also looks at its semaphore's queue.
 #[derive(Drop)]
 pub struct SemHall {
-    outbox: Outbox<u64>,
-    next: u64,
+    pub(crate) alloc: Global,
+    pub(crate) semaphores: BTreeMap<u64, SemaphoreEntry>,
+    pub(crate) futures: BTreeMap<u64, FutureEntry>,
+    pub(crate) permits: BTreeMap<u64, PermitEntry>,
+    // How many futures wait. The outbox has room for the waker of each.
+    pub(crate) registered: usize,
+    pub(crate) outbox: Outbox<u64>,
+    pub(crate) next: u128,
 }
 
 impl Model for SemHall {
-    ghost use Rattle.mea_sem_model.specs.Hall.{empty_hall};
     ghost use Rattle.mea_sem.specs.Play.{Play, play_code};
 
     ghost Value = { Play };
 
     ghost coded = { play_code };
 
-    ghost view = { λ a. record { hall = empty_hall; wakes = a.outbox.wakers; next = a.next } };
+    ghost use Rattle.mea_sem.specs.Store.{store_of, hall_of};
+    ghost use Rattle.mea_sem.specs.Kept.{IsKept};
+
+    ghost view = { λ a. record { hall = hall_of (store_of a.semaphores.entries a.futures.entries a.permits.entries) a.next; wakes = a.outbox.wakers; next = a.next } };
+
+    ghost invariant = { λ a. IsKept (store_of a.semaphores.entries a.futures.entries a.permits.entries) a.registered a.outbox.spare a.next };
 }
 
 impl SemHall {
@@ -34,29 +51,14 @@ impl SemHall {
         ensures { result ≡ record { hall = empty_hall; wakes = []; next = 0 } }
     {
         SemHall {
+            alloc,
+            semaphores: BTreeMap::new(alloc),
+            futures: BTreeMap::new(alloc),
+            permits: BTreeMap::new(alloc),
+            registered: 0,
             outbox: Outbox::new(alloc),
             next: 0,
         }
-    }
-
-    /// Plays event number `number`.
-    pub fn act(&mut self, number: u64, event: &SemEvent) -> Result<Answer, Stop>
-        requires { self.old.next ≤ number }
-        ensures played { IfOk result (λ answer. Plays self.old number event.now answer self.new) }
-        ensures allowed { OnOk result (cause_of self.old.hall event.now ≡ None) }
-        ensures refused { IfErr result (λ stop. (cause_of self.old.hall event.now ≡ Some stop) ⊎ ((cause_of self.old.hall event.now ≡ None) × (stop ≡ Stop.NoMemory))) }
-        ensures err { OnErr result (self.new ≡ self.old) }
-    {
-        let _next = self.next;
-        Err(refusal(event))
-    }
-
-    /// At least the number of wakers that an event may make ready. It takes no memory.
-    pub fn registered(&self) -> usize
-        ensures most { (i : ℕ) (event : Line) → length (step self.now.hall i event).wakes ≤ result }
-    {
-        let _next = self.next;
-        0
     }
 
     /// How many wakers are ready. It takes no memory.
@@ -73,13 +75,70 @@ impl SemHall {
     {
         self.outbox.pop()
     }
-}
 
-fn refusal(event: &SemEvent) -> Stop
-    ensures { (cause_of empty_hall event.now ≡ Some result) ⊎ ((cause_of empty_hall event.now ≡ None) × (result ≡ Stop.NoMemory)) }
-{
-    match *event {
-        SemEvent::New(_) => Stop::NoMemory,
-        _ => Stop::Unknown,
+    /// At least the number of wakers that one event can make ready without a further registration: one for
+    /// each future that waits. It takes no memory.
+    pub fn registered(&self) -> usize
+        ensures most { (i : ℕ) (event : Event) → length (step self.now.hall i event).wakes ≤ result }
+    {
+        self.registered
+    }
+
+    /// The core of the semaphore of this name, where it is still named. It takes no memory.
+    pub fn core(&self, name: u64) -> Option<&SemCore<u64>>
+        ensures named { is_some result ≡ is_named self.now.hall name }
+        ensures stands { IfSome result (λ core. StandsFor self.now.hall name core.now) }
+    {
+        let entry = self.named_entry(name)?;
+        Some(&entry.core)
+    }
+
+    /// Plays an event, whose number is greater than each that was played before; the wakers that it makes
+    /// ready are appended to those that are. Where it is refused, nothing has changed.
+    pub fn act(&mut self, number: u64, event: &SemEvent) -> Result<Answer, Stop>
+        requires { self.old.next ≤ number }
+        ensures played { IfOk result (λ reply. Plays self.old number event.now reply self.new) }
+        ensures allowed { OnOk result (cause_of self.old.hall event.now ≡ None) }
+        ensures refused { IfErr result (λ stop. (cause_of self.old.hall event.now ≡ Some stop) ⊎ ((cause_of self.old.hall event.now ≡ None) × (stop ≡ Stop.NoMemory))) }
+        ensures no_memory { TakesNoMemory event.now → result ≢ Err Stop.NoMemory }
+        ensures err { OnErr result (self.new ≡ self.old) }
+    {
+        if let Some(stop) = self.cause(event) {
+            return Err(stop);
+        }
+        match *event {
+            SemEvent::New(n) => self.make(number, n),
+            SemEvent::Free(s) => Ok(self.free(number, s)),
+            SemEvent::Forget(s, n) => Ok(self.forget(number, s, n)),
+            SemEvent::Forgetx(s, n) => self.forget_exact(number, s, n),
+            SemEvent::Release(s, n) => Ok(self.release(number, s, n)),
+            SemEvent::Try(s, n) => self.try_permit(number, s, n, true),
+            SemEvent::Tryo(s, n) => self.try_permit(number, s, n, false),
+            SemEvent::Tryf(s, n) | SemEvent::Tryof(s, n) => Ok(self.try_and_forget(number, s, n)),
+            SemEvent::Acq(s, n) => self.acquire(number, s, n, true, false),
+            SemEvent::Acqo(s, n) => self.acquire(number, s, n, false, false),
+            SemEvent::Acqf(s, n) => self.acquire(number, s, n, true, true),
+            SemEvent::Acqof(s, n) => self.acquire(number, s, n, false, true),
+            SemEvent::Poll(f, waker) => self.poll(number, f, waker),
+            SemEvent::End(x) => Ok(self.end(number, x)),
+            SemEvent::Lose(p) => Ok(self.lose(number, p)),
+            SemEvent::Merge(p, q) => Ok(self.merge(number, p, q)),
+            SemEvent::Split(p, n) => self.split(number, p, n),
+            SemEvent::Size(p) => Ok(self.size(number, p)),
+            SemEvent::Endsem(s) => Ok(self.end_name(number, s)),
+            SemEvent::Ledger(s) => Ok(self.ledger(number, s)),
+        }
+    }
+
+    fn end(&mut self, number: u64, x: u64) -> Answer
+        requires next { self.old.next ≤ number }
+        requires allowed { cause_of self.old.hall (SemEvent.End x) ≡ None }
+        ensures { Plays self.old number (SemEvent.End x) result self.new }
+    {
+        if self.is_future(x) {
+            self.end_future(number, x)
+        } else {
+            self.end_permit(number, x)
+        }
     }
 }

@@ -1,7 +1,16 @@
-//! Semaphores: many of them by name, with their futures and permits.
+//! Semaphores by name: the hall that plays the events of scripts on cores. It is proved against the queue
+//! model of `mea_sem_model`, stands on the core of `mea_sem_core` by its contract alone, and gives the
+//! names of both again.
 #![tactic(auto)]
 
+mod causes;
+mod entries;
+mod futures;
 mod hall;
+mod moving;
+mod permits;
+mod semaphores;
 
 pub use hall::SemHall;
+pub use mea_sem_core::{Acquire, SemCore};
 pub use mea_sem_model::SemEvent;

@@ -1,0 +1,15 @@
+pub mod HallLemmas
+pub mod Pours
+pub mod Waiting
+pub mod Matched
+pub mod Orderly
+pub mod Changes
+pub mod Events
+pub mod Tallies
+pub mod Paid
+pub mod StaysValid
+pub mod Keeps
+pub mod Balanced
+pub mod LostWakes
+pub mod HeadFirst
+pub mod SmallLaws

@@ -3,3 +3,4 @@ pub mod Cause
 pub mod Step
 pub mod Valid
 pub mod Runs
+pub mod Waiters

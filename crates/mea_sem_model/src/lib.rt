@@ -3,6 +3,18 @@
 //! code that runs but the type of an event; the halls above are proved against it.
 #![tactic(auto)]
 
+mod balance;
 mod event;
+mod semaphore_laws;
+mod validity;
+mod waiters;
+mod wakes;
 
+pub use balance::permits_balance;
 pub use event::SemEvent;
+pub use semaphore_laws::{
+    an_end_gives_back_what_was_paid, nobody_overtakes, the_head_is_paid_first,
+};
+pub use validity::{names_stay_below, tallies_account, validity_is_kept};
+pub use waiters::wakes_are_of_waiters;
+pub use wakes::no_wake_is_lost;

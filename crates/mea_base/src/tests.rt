@@ -1,0 +1,54 @@
+use crate::{Outbox, WaitList};
+use std::test::Fail;
+
+// With memory at hand, no call answers that there is none.
+#[test]
+fn ample(rt: HostRuntime) -> Result<(), Fail> {
+    let mut list: WaitList<u64> = WaitList::new(rt.alloc());
+    let mut outbox: Outbox<u64> = Outbox::new(rt.alloc());
+    list.reserve(1)?;
+    let second = list.push_tail(20)?;
+    let first = list.push_head(10)?;
+    outbox.reserve(2)?;
+    assert_eq!(rt; list.len(), 2);
+    assert_eq!(rt; list.first(), Some(first));
+    assert_eq!(rt; outbox.len(), 0);
+    assert!(rt; first != second);
+    Ok(())
+}
+
+// A value stays under its number until it is removed, and its number is the next to serve again.
+#[test]
+fn numbers(rt: HostRuntime) -> Result<(), Fail> {
+    let mut list: WaitList<u64> = WaitList::new(rt.alloc());
+    let first = list.push_tail(10)?;
+    let second = list.push_tail(20)?;
+    assert!(rt; list.is_in_use(second));
+    *list.get_mut(second) += 1;
+    assert!(rt; list.is_in_use(second));
+    list.unlink(second);
+    assert!(rt; list.is_in_use(second));
+    assert!(rt; !list.is_linked(second));
+    assert_eq!(rt; *list.get(second), 21);
+    assert_eq!(rt; list.remove_unlinked(second), 21);
+    assert!(rt; !list.is_in_use(second));
+    assert_eq!(rt; list.push_head(30)?, second);
+    assert_eq!(rt; list.unlink_first(), Some(second));
+    assert_eq!(rt; list.unlink_first(), Some(first));
+    assert_eq!(rt; list.unlink_first(), None);
+    assert!(rt; list.is_empty());
+    Ok(())
+}
+
+// Wakers leave in the order in which they came.
+#[test]
+fn wakers(rt: HostRuntime) -> Result<(), Fail> {
+    let mut outbox: Outbox<u64> = Outbox::new(rt.alloc());
+    outbox.reserve(2)?;
+    outbox.push(10);
+    outbox.push(20);
+    for waker in [Some(10), Some(20), None] {
+        assert_eq!(rt; outbox.pop(), waker);
+    }
+    Ok(())
+}

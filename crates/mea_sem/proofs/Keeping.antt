@@ -1,0 +1,106 @@
+-- an event that changes one semaphore keeps what a hall keeps to
+use Rattle.std.proofs.Common.{◌≡◌, ℕ, ◌+◌, ◌^◌, ◌<◌, ◌≤◌, ◌==◌, Bool, true, false, cond, refl, ap, sym, subst, ◌∙◌, arith, Some, None, []}
+use Rattle.std.specs.FinMap.{get, insert}
+use Rattle.std.proofs.lemmas.Bool.{eqb-true, eqb-false}
+use Rattle.mea_base.specs.Totals.{total, weight}
+use Rattle.mea_base.proofs.NamedMaps.{same_named}
+use Rattle.mea_base.proofs.Totals.{get_inserted, total-insert}
+use Rattle.mea_sem_model.specs.declared.event.SemEvent.{SemEvent}
+use Rattle.mea_sem_model.specs.Hall.{Hall}
+use Rattle.mea_sem_model.specs.Cause.{cause_of}
+use Rattle.mea_sem_model.specs.Step.{step}
+use Rattle.mea_sem_model.specs.Valid.{IsValid, IsBelow, IsAccounted, Fits}
+use Rattle.mea_sem_model.proofs.Keeps.{keeps_valid, keeps_below, keeps_account, below_later}
+use Rattle.mea_sem_core.specs.Core as cores
+use Rattle.mea_sem.specs.declared.entries.SemaphoreEntry.{SemaphoreEntry}
+use Rattle.mea_sem.specs.Store.{Store, hall_of, IsLinked}
+use Rattle.mea_sem.specs.Kept.{wakers_in, IsKeptEntry, IsKept}
+use Rattle.mea_sem.proofs.Cores.{at_same, at_apart}
+use Rattle.mea_sem.proofs.Weighs.{Weighs}
+
+-- event i is played on what is kept
+pub record Plays (st st' : Store) (next i : ℕ) (event : SemEvent) (w' sp' : ℕ) : Type 0 where
+  pub hall : hall_of st' (i + 1) ≡ (step (hall_of st next) i event).hall
+  pub kept : IsKept st' w' sp' (i + 1)
+
+-- what is known of the semaphore that an event changes; a, b, p and r are as in Weighs
+pub record Settles (e e' : SemaphoreEntry) (a b p r : ℕ) : Type 0 where
+  pub account : e'.core.live + e'.forgotten ≡ e'.made + e'.released + cores.debts e'.core.queue
+  pub held : cores.held_of e'.core + a ≡ cores.held_of e.core + b
+  pub plain : e'.plain + p ≡ e.plain + r
+  pub few : r ≤ 1
+  pub quiet : e'.core.wakes ≡ []
+  pub released : e'.released ≤ e.released + 2 ^ 64
+  pub forgotten : e'.forgotten ≤ e.forgotten + 2 ^ 64
+
+module _ (st st' : Store) (w sp next i s : ℕ) (event : SemEvent) (e e' : SemaphoreEntry) (k : IsKept st w sp next) (less : next ≤ i) (low : i < 2 ^ 64) (fits : Fits event) (allowed : cause_of (hall_of st next) event ≡ None) where
+  pub settled : (w' sp' a b p r : ℕ) → get st.semaphores s ≡ Some e → ((q : ℕ) → get st'.semaphores q ≡ cond (s == q) (Some e') (get st.semaphores q))
+      → hall_of st' (i + 1) ≡ (step (hall_of st next) i event).hall → IsLinked st' (i + 1)
+      → Weighs (hall_of st next) (step (hall_of st next) i event).hall s a b p r → Settles e e' a b p r
+      → w' + wakers_in e.core.queue ≡ w + wakers_in e'.core.queue → w' ≤ sp'
+      → Plays st st' next i event w' sp'
+  settled w' sp' a b p r there semaphores same linked weighs settles registered room = record {
+    hall = same;
+    kept = record {
+      valid = subst IsValid (sym same) (keeps_valid (hall_of st next) i event k.valid (below_later (hall_of st next) next i less k.below) fits allowed);
+      below = subst (λ h. IsBelow h (i + 1)) (sym same) (keeps_below (hall_of st next) i event k.valid (below_later (hall_of st next) next i less k.below) allowed);
+      accounted = λ q. subst (λ h. IsAccounted h q) (sym same) (keeps_account (hall_of st next) i event k.valid (below_later (hall_of st next) next i less k.below) allowed k.accounted q);
+      linked = linked;
+      each = λ q d is. subst (λ h. IsKeptEntry h (i + 1) q d) (sym same) (by_test q d is (s == q) refl);
+      counted = count_now;
+      room = room;
+      low = omega arith;
+    };
+  }
+    where
+      old : IsKeptEntry (hall_of st next) next s e
+      old = k.each s e there
+
+      here : IsKeptEntry (step (hall_of st next) i event).hall (i + 1) s e'
+      here = record {
+        account = settles.account;
+        held = (let x = weighs.held s in let y = at_same s s a 0 refl in let z = at_same s s b 0 refl in let o = old.held in let t = settles.held in omega (arith, x, y, z, o, t));
+        plain = (let x = weighs.plain s in let y = at_same s s p 0 refl in let z = at_same s s r 0 refl in let o = old.plain in let t = settles.plain in omega (arith, x, y, z, o, t));
+        few = (let o = old.few in let t = settles.plain in let u = settles.few in omega (arith, o, t, u));
+        quiet = settles.quiet;
+        released = (let o = old.released in let t = settles.released in omega (arith, o, t));
+        forgotten = (let o = old.forgotten in let t = settles.forgotten in omega (arith, o, t));
+      }
+
+      other : (q : ℕ) (d : SemaphoreEntry) → (s ≡ q → ⊥) → IsKeptEntry (hall_of st next) next q d → IsKeptEntry (step (hall_of st next) i event).hall (i + 1) q d
+      other q d apart o = record {
+        account = o.account;
+        held = (let x = weighs.held q in let y = at_apart s q a 0 apart in let z = at_apart s q b 0 apart in let t = o.held in omega (arith, x, y, z, t));
+        plain = (let x = weighs.plain q in let y = at_apart s q p 0 apart in let z = at_apart s q r 0 apart in let t = o.plain in omega (arith, x, y, z, t));
+        few = (let t = o.few in omega (arith, t));
+        quiet = o.quiet;
+        released = (let t = o.released in omega (arith, t));
+        forgotten = (let t = o.forgotten in omega (arith, t));
+      }
+
+      by_test : (q : ℕ) (d : SemaphoreEntry) → get st'.semaphores q ≡ Some d → (t : Bool) → (s == q) ≡ t → IsKeptEntry (step (hall_of st next) i event).hall (i + 1) q d
+      by_test q d is true h =
+          let mine : s ≡ q = eqb-true s q h in
+          let both : Some e' ≡ Some d = sym (at_same s q (Some e') (get st.semaphores q) mine) ∙ sym (semaphores q) ∙ is in
+          let one : e' ≡ d = cc in
+          subst (λ (x : SemaphoreEntry). IsKeptEntry (step (hall_of st next) i event).hall (i + 1) q x) one (subst (λ x. IsKeptEntry (step (hall_of st next) i event).hall (i + 1) x e') mine here)
+      by_test q d is false h = other q d (eqb-false s q h) (k.each q d (sym (at_apart s q (Some e') (get st.semaphores q) (eqb-false s q h)) ∙ sym (semaphores q) ∙ is))
+
+      inserted : st'.semaphores ≡ insert st.semaphores s e'
+      inserted = same_named _ _ (λ q. semaphores q ∙ sym (get_inserted st.semaphores s q e'))
+
+      count_now : w' ≡ total (λ q (x : SemaphoreEntry). wakers_in x.core.queue) st'.semaphores
+      count_now =
+          let sums = total-insert (λ q (x : SemaphoreEntry). wakers_in x.core.queue) st.semaphores s e' in
+          let mine : weight (λ q (x : SemaphoreEntry). wakers_in x.core.queue) s (get st.semaphores s) ≡ wakers_in e.core.queue = ap (weight (λ q (x : SemaphoreEntry). wakers_in x.core.queue) s) there in
+          let now : total (λ q (x : SemaphoreEntry). wakers_in x.core.queue) st'.semaphores ≡ total (λ q (x : SemaphoreEntry). wakers_in x.core.queue) (insert st.semaphores s e') = ap (total (λ q (x : SemaphoreEntry). wakers_in x.core.queue)) inserted in
+          let before = k.counted in
+          omega (arith, sums, mine, now, before, registered)
+
+  -- the same, where the outcome of the event is known under another name
+  pub settled_as : (h' : Hall) → (step (hall_of st next) i event).hall ≡ h' → (w' sp' a b p r : ℕ) → get st.semaphores s ≡ Some e → ((q : ℕ) → get st'.semaphores q ≡ cond (s == q) (Some e') (get st.semaphores q))
+      → hall_of st' (i + 1) ≡ h' → IsLinked st' (i + 1) → Weighs (hall_of st next) h' s a b p r → Settles e e' a b p r
+      → w' + wakers_in e.core.queue ≡ w + wakers_in e'.core.queue → w' ≤ sp'
+      → Plays st st' next i event w' sp'
+  settled_as h' is w' sp' a b p r there semaphores same linked weighs settles registered room =
+      settled w' sp' a b p r there semaphores (same ∙ sym is) linked (subst (λ g. Weighs (hall_of st next) g s a b p r) (sym is) weighs) settles registered room

@@ -1,0 +1,16 @@
+use Rattle.std.proofs.Common.{◌≡◌, arith, ap, length}
+use Rattle.mea_sem.specs.declared.entries.SemaphoreEntry.{SemaphoreEntry}
+use Rattle.mea_sem.proofs.EndRoom.{end_room}
+use Rattle.mea_sem.proofs.entries.SemaphoreEntry.end.Goals as goal
+
+pub hand_on-requires : goal.hand_on-requires
+hand_on-requires c =
+    let room = end_room c.args.self.now.core c.cancel.new.self c.args.acquire c.waited-waited.result c.requires.quiet c.requires.belongs c.cancel.ensures.cancels c.waited-waited.ensures in
+    let same : length c.discount.new.self.core.wakes ≡ length c.cancel.new.self.wakes = ap (λ (x : SemaphoreEntry). length x.core.wakes) c.discount.ensures in
+    omega (arith, room, same)
+
+pub overflow_add-result : goal.overflow_add-result
+overflow_add-result c =
+    let room = end_room c.args.self.now.core c.cancel.new.self c.args.acquire c.waited-waited.result c.requires.quiet c.requires.belongs c.cancel.ensures.cancels c.waited-waited.ensures in
+    let same : length c.discount.new.self.core.wakes ≡ length c.cancel.new.self.wakes = ap (λ (x : SemaphoreEntry). length x.core.wakes) c.discount.ensures in
+    omega (arith, room, same)

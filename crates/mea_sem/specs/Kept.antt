@@ -1,0 +1,37 @@
+-- what a `SemHall` keeps to
+use Rattle.std.specs.Prelude.{ℕ, ◌≡◌, ◌+◌, ◌*◌, ◌^◌, ◌≤◌, List, [], ◌∷◌, Some}
+use Rattle.std.specs.FinMap.{get}
+use Rattle.mea_base.specs.Totals.{total}
+use Rattle.mea_sem_model.specs.Hall.{Hall, held, plain_things}
+use Rattle.mea_sem_model.specs.Valid.{IsValid, IsBelow, IsAccounted}
+use Rattle.mea_sem_core.specs.Core as cores
+use Rattle.mea_sem.specs.declared.entries.SemaphoreEntry.{SemaphoreEntry}
+use Rattle.mea_sem.specs.Store.{Store, hall_of, IsLinked}
+
+-- how many of a core's queue have a waker
+abbrev pub wakers_in : List (cores.Waiter ℕ × ℕ) → ℕ
+wakers_in [] = 0
+wakers_in ((cores.Acquires n d w, l) ∷ q) = wakers_in q + 1
+wakers_in ((cores.Owes, l) ∷ q) = wakers_in q
+
+-- the core of s and its tallies go with the hall; a tally fits, since each event adds less than 2 ^ 64
+pub record IsKeptEntry (h : Hall) (next s : ℕ) (e : SemaphoreEntry) : Type 0 where
+  pub account : e.core.live + e.forgotten ≡ e.made + e.released + cores.debts e.core.queue
+  pub held : cores.held_of e.core ≡ held h s
+  pub plain : e.plain ≡ plain_things h s
+  pub few : e.plain ≤ next
+  -- its wakers are handed on after each event
+  pub quiet : e.core.wakes ≡ []
+  pub released : e.released ≤ next * 2 ^ 64
+  pub forgotten : e.forgotten ≤ next * 2 ^ 64
+
+pub record IsKept (st : Store) (registered spare next : ℕ) : Type 0 where
+  pub valid : IsValid (hall_of st next)
+  pub below : IsBelow (hall_of st next) next
+  pub accounted : (s : ℕ) → IsAccounted (hall_of st next) s
+  pub linked : IsLinked st next
+  pub each : (s : ℕ) (e : SemaphoreEntry) → get st.semaphores s ≡ Some e → IsKeptEntry (hall_of st next) next s e
+  -- each waker that is kept has its place in the outbox
+  pub counted : registered ≡ total (λ s (e : SemaphoreEntry). wakers_in e.core.queue) st.semaphores
+  pub room : registered ≤ spare
+  pub low : next ≤ 2 ^ 64

@@ -1,0 +1,302 @@
+ghost use Rattle.std.specs.Prelude.{◌≡◌, ◌≢◌, ◌+◌, ◌-◌, ◌<◌, ◌≤◌, ◌^◌, ◌++◌, [], length, min, cond, ℕ, true, false, Some, IsOk, OnOk, OnErr, IfOk, MatchResult};
+ghost use Rattle.mea_base.specs.Queue.{granted_in};
+ghost use Rattle.mea_sem_core.specs.Acquire.{demand_of};
+ghost use Rattle.mea_sem_core.specs.Core.{held_of, paid_of, poured, wakers_of, debts};
+ghost use Rattle.mea_sem_core.specs.Calls.{Belongs, Queues, forgetting, forgetting_exactly, with_waker};
+
+use crate::moving::hand_on;
+use mea_base::{Ledger, NoMemory, Outbox};
+use mea_sem_core::{Acquire, SemCore};
+
+/// What a hall keeps of a semaphore.
+#[derive(Drop)]
+pub struct SemaphoreEntry {
+    pub core: SemCore<u64>,
+    pub made: u64,
+    pub released: u128,
+    pub forgotten: u128,
+    pub named: bool,
+    // How many plain futures and plain permits it has.
+    pub plain: u128,
+}
+
+/// What a hall keeps of a future.
+#[derive(Drop)]
+pub struct FutureEntry {
+    pub semaphore: u64,
+    pub acquire: Acquire,
+    pub plain: bool,
+    pub forgets: bool,
+}
+
+/// What a hall keeps of a permit.
+#[derive(Clone, Copy)]
+pub struct PermitEntry {
+    pub semaphore: u64,
+    pub size: usize,
+    pub plain: bool,
+}
+
+impl FutureEntry {
+    /// The permit that it becomes.
+    pub fn permit(&self) -> PermitEntry
+        ensures { result ≡ record { semaphore = self.now.semaphore; size = demand_of self.now.acquire; plain = self.now.plain } }
+    {
+        PermitEntry {
+            semaphore: self.semaphore,
+            size: demand(&self.acquire),
+            plain: self.plain,
+        }
+    }
+
+    /// Whether it was never polled.
+    pub fn is_new(&self) -> bool
+        ensures new { result ≡ true → (d : ℕ) × (self.now.acquire ≡ Acquire.New d) }
+        ensures polled { result ≡ false → (d : ℕ) → self.now.acquire ≢ Acquire.New d }
+    {
+        matches!(self.acquire, Acquire::New { .. })
+    }
+}
+
+/// 1 for a plain thing.
+pub fn one_if(plain: bool) -> u128
+    ensures { result ≡ cond plain 1 0 }
+{
+    if plain { 1 } else { 0 }
+}
+
+impl SemaphoreEntry {
+    ghost use Rattle.mea_sem.specs.Entries.{ledger_of_entry};
+
+    /// Takes at most `n` free permits away for ever, and tells how many.
+    pub fn forget(&mut self, n: usize) -> usize
+        requires { self.old.forgotten + n < 2 ^ 128 }
+        ensures is { self.new ≡ record self.old { core = forgetting self.old.core n; forgotten = self.old.forgotten + min n self.old.core.free } }
+        ensures taken { result ≡ min n self.old.core.free }
+        ensures within { result ≤ self.old.core.live }
+        ensures held { held_of self.new.core ≡ held_of self.old.core }
+    {
+        let taken = self.core.forget(n);
+        self.forgotten += taken as u128;
+        taken
+    }
+
+    /// Takes `n` permits away for ever, those that are not free as a debt.
+    pub fn forget_exact(&mut self, n: usize) -> Result<(), NoMemory>
+        requires { self.old.forgotten + n < 2 ^ 128 }
+        ensures is { OnOk result (self.new ≡ record self.old { core = forgetting_exactly self.old.core n; forgotten = self.old.forgotten + n }) }
+        ensures held { held_of self.new.core ≡ held_of self.old.core }
+        ensures within { min n self.old.core.free ≤ self.old.core.live }
+        ensures err { OnErr result (self.new ≡ self.old) }
+    {
+        let _live = self.core.live();
+        self.core.forget_exact(n)?;
+        self.forgotten += n as u128;
+        Ok(())
+    }
+
+    /// Takes `n` permits, which are free, for a permit.
+    pub fn take(&mut self, n: usize, plain: bool)
+        requires free { n ≤ self.old.core.free }
+        requires few { self.old.plain + 1 < 2 ^ 128 }
+        ensures is { self.new ≡ record self.old { core = record self.old.core { free = self.old.core.free - n }; plain = self.old.plain + cond plain 1 0 } }
+        ensures held { held_of self.new.core ≡ held_of self.old.core + n }
+    {
+        let _taken = self.core.try_acquire(n);
+        self.plain += one_if(plain);
+    }
+
+    /// Ends a permit of this size, and gives nothing back.
+    pub fn lose(&mut self, n: usize, plain: bool)
+        requires held { n ≤ held_of self.old.core }
+        requires plain { cond plain 1 0 ≤ self.old.plain }
+        requires tally { self.old.forgotten + n < 2 ^ 128 }
+        ensures is { self.new ≡ record self.old { core = record self.old.core { live = self.old.core.live - n }; forgotten = self.old.forgotten + n; plain = self.old.plain - cond plain 1 0 } }
+        ensures held { held_of self.new.core + n ≡ held_of self.old.core }
+    {
+        self.core.lose(n);
+        self.forgotten += n as u128;
+        self.plain -= one_if(plain);
+    }
+
+    /// Adds `n` permits, hands the wakers on, and tells how many they were.
+    pub fn release(&mut self, n: usize, outbox: &mut Outbox<u64>) -> usize
+        requires fits { self.old.core.live + n < 2 ^ 64 }
+        requires tally { self.old.released + n < 2 ^ 128 }
+        requires quiet { self.old.core.wakes ≡ [] }
+        requires room { length (wakers_of (granted_in self.old.core.queue n)) ≤ outbox.old.spare }
+        ensures is { self.new ≡ record self.old { core = record (poured self.old.core n) { wakes = [] }; released = self.old.released + n } }
+        ensures held { held_of self.new.core ≡ held_of self.old.core }
+        ensures moved { outbox.new.wakers ≡ outbox.old.wakers ++ wakers_of (granted_in self.old.core.queue n) }
+        ensures spare { outbox.new.spare + result ≡ outbox.old.spare }
+        ensures count { result ≡ length (wakers_of (granted_in self.old.core.queue n)) }
+    {
+        match self.core.release(n) {
+            Err(_) => unreachable!(),
+            Ok(()) => {
+                self.released += n as u128;
+                hand_on(&mut self.core, outbox)
+            }
+        }
+    }
+
+    /// Ends a permit of this size, which is poured; hands the wakers on, and tells how many they were.
+    pub fn give_back(&mut self, n: usize, plain: bool, outbox: &mut Outbox<u64>) -> usize
+        requires held { n ≤ held_of self.old.core }
+        requires plain { cond plain 1 0 ≤ self.old.plain }
+        requires quiet { self.old.core.wakes ≡ [] }
+        requires room { length (wakers_of (granted_in self.old.core.queue n)) ≤ outbox.old.spare }
+        ensures is { self.new ≡ record self.old { core = record (poured (record self.old.core { live = self.old.core.live - n }) n) { wakes = [] }; plain = self.old.plain - cond plain 1 0 } }
+        ensures held { held_of self.new.core + n ≡ held_of self.old.core }
+        ensures moved { outbox.new.wakers ≡ outbox.old.wakers ++ wakers_of (granted_in self.old.core.queue n) }
+        ensures spare { outbox.new.spare + result ≡ outbox.old.spare }
+        ensures count { result ≡ length (wakers_of (granted_in self.old.core.queue n)) }
+    {
+        self.core.give_back(n);
+        self.plain -= one_if(plain);
+        hand_on(&mut self.core, outbox)
+    }
+
+    /// The account of the semaphore. What is paid and owed follows from the other numbers.
+    pub fn ledger(&self) -> Ledger
+        requires account { self.now.core.live + self.now.forgotten ≡ self.now.made + self.now.released + debts self.now.core.queue }
+        requires few { self.now.core.live + self.now.forgotten < 2 ^ 128 }
+        ensures is { result ≡ ledger_of_entry self.now }
+        ensures total { self.now.core.free + held_of self.now.core + paid_of self.now.core ≡ self.now.core.live }
+    {
+        let live = self.core.live() as u128;
+        let free = self.core.available_permits() as u128;
+        let held = self.core.held() as u128;
+        let made = self.made as u128;
+        Ledger {
+            made,
+            released: self.released,
+            owed: live + self.forgotten - made - self.released,
+            free,
+            held,
+            paid: live - free - held,
+            forgotten: self.forgotten,
+        }
+    }
+
+    /// Counts a new plain thing.
+    pub fn count(&mut self, plain: bool)
+        requires { self.old.plain + 1 < 2 ^ 128 }
+        ensures { self.new ≡ record self.old { plain = self.old.plain + cond plain 1 0 } }
+    {
+        self.plain += one_if(plain);
+    }
+
+    /// Counts a plain thing that is gone.
+    pub fn discount(&mut self, plain: bool)
+        requires { cond plain 1 0 ≤ self.old.plain }
+        ensures { self.new ≡ record self.old { plain = self.old.plain - cond plain 1 0 } }
+    {
+        self.plain -= one_if(plain);
+    }
+}
+
+impl SemaphoreEntry {
+    ghost use Rattle.mea_sem.specs.Entries.{IsReady, Waits, WaitedFor, finished, Ends};
+    ghost use Rattle.mea_sem.specs.Kept.{wakers_in};
+
+    /// Whether the next poll of the acquire is ready.
+    pub fn is_ready(&self, acquire: &Acquire) -> bool
+        requires { Belongs self.now.core acquire.now }
+        ensures ready { result ≡ true → IsReady self.now.core acquire.now }
+        ensures waits { result ≡ false → Waits self.now.core acquire.now }
+    {
+        match *acquire {
+            Acquire::New { demand } => demand <= self.core.available_permits(),
+            _ => self.core.is_granted(acquire),
+        }
+    }
+
+    /// Polls an acquire that is ready.
+    pub fn finish(&mut self, acquire: Acquire, waker: u64)
+        requires { IsReady self.old.core acquire }
+        ensures is { self.new ≡ record self.old { core = finished self.old.core acquire } }
+        ensures held { held_of self.new.core ≡ held_of self.old.core + demand_of acquire }
+    {
+        let mut acquire = acquire;
+        let _turn = self.core.poll(&mut acquire, waker);
+    }
+
+    /// Polls an acquire that is ready, and takes its permits away for ever.
+    pub fn finish_forgetting(&mut self, acquire: Acquire, waker: u64, plain: bool)
+        requires ready { IsReady self.old.core acquire }
+        requires plain { cond plain 1 0 ≤ self.old.plain }
+        requires tally { self.old.forgotten + demand_of acquire < 2 ^ 128 }
+        ensures is { self.new ≡ record self.old { core = record (finished self.old.core acquire) { live = (finished self.old.core acquire).live - demand_of acquire }; forgotten = self.old.forgotten + demand_of acquire; plain = self.old.plain - cond plain 1 0 } }
+        ensures rises { held_of (finished self.old.core acquire) ≡ held_of self.old.core + demand_of acquire }
+        ensures held { held_of self.new.core ≡ held_of self.old.core }
+    {
+        let demand = demand(&acquire);
+        self.finish(acquire, waker);
+        self.lose(demand, plain);
+    }
+
+    /// Polls a new acquire that has to wait. Where there is no memory, nothing has changed.
+    pub fn queue(&mut self, demand: usize, waker: u64) -> Result<Acquire, NoMemory>
+        requires { self.old.core.free < demand }
+        ensures queued { IfOk result (λ acquire. (number : ℕ) × Queues self.old.core self.new.core demand waker number × (acquire ≡ Acquire.Queued demand number)) }
+        ensures rest { OnOk result (self.new ≡ record self.old { core = self.new.core }) }
+        ensures held { OnOk result (held_of self.new.core ≡ held_of self.old.core) }
+        ensures err { OnErr result (self.new ≡ self.old) }
+    {
+        let mut acquire = Acquire::new(demand);
+        match self.core.poll(&mut acquire, waker) {
+            Ok(_) => Ok(acquire),
+            Err(_) => Err(NoMemory),
+        }
+    }
+
+    /// Polls an acquire that waits under this number.
+    pub fn wait_on(&mut self, demand: usize, number: usize, waker: u64)
+        requires { Waits self.old.core (Acquire.Queued demand number) }
+        ensures is { self.new ≡ record self.old { core = record self.old.core { queue = with_waker self.old.core.queue number waker } } }
+        ensures held { held_of self.new.core ≡ held_of self.old.core }
+    {
+        let mut acquire = Acquire::Queued { demand, number };
+        let _turn = self.core.poll(&mut acquire, waker);
+    }
+
+    /// Ends an acquire, and pours what it was paid; hands the wakers on, and tells how many wakers left
+    /// the queue.
+    pub fn end(&mut self, acquire: Acquire, plain: bool, outbox: &mut Outbox<u64>) -> usize
+        requires belongs { Belongs self.old.core acquire }
+        requires plain { cond plain 1 0 ≤ self.old.plain }
+        requires quiet { self.old.core.wakes ≡ [] }
+        requires room { wakers_in self.old.core.queue ≤ outbox.old.spare }
+        requires few { wakers_in self.old.core.queue < 2 ^ 64 }
+        ensures ends { Ends self.old acquire plain self.new outbox.old.wakers outbox.new.wakers result }
+        ensures spare { outbox.old.spare ≤ outbox.new.spare + result }
+        ensures held { held_of self.new.core ≡ held_of self.old.core }
+    {
+        let waited = self.waited(&acquire);
+        self.core.cancel(acquire);
+        self.discount(plain);
+        hand_on(&mut self.core, outbox) + waited
+    }
+
+    // 1 for an acquire that waits.
+    fn waited(&self, acquire: &Acquire) -> usize
+        requires { Belongs self.now.core acquire.now }
+        ensures { WaitedFor self.now.core acquire.now result }
+    {
+        match *acquire {
+            Acquire::Queued { .. } if !self.core.is_granted(acquire) => 1,
+            _ => 0,
+        }
+    }
+}
+
+/// What an acquire asks for.
+fn demand(acquire: &Acquire) -> usize
+    ensures { result ≡ demand_of acquire.now }
+{
+    match *acquire {
+        Acquire::New { demand } | Acquire::Queued { demand, .. } | Acquire::Done { demand } =>
+            demand,
+    }
+}

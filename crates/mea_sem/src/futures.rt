@@ -1,0 +1,207 @@
+ghost use Rattle.std.specs.Prelude.{◌≡◌, ◌≤◌, OnErr, IfOk, IfErr, None, IsSome, IfSome, ℕ, true, false};
+ghost use Rattle.std.specs.FinMap as map;
+ghost use Rattle.mea_sem_model.specs.Cause.{cause_of};
+ghost use Rattle.mea_sem_model.specs.Hall.{New, Waiting};
+ghost use Rattle.mea_sem_model.specs.Step.{step, acquire_of};
+ghost use Rattle.mea_sem.specs.Play.{Play, Plays, Yields};
+
+use crate::entries::{FutureEntry, PermitEntry};
+use crate::hall::SemHall;
+use mea_base::{Answer, Stop};
+use mea_sem_core::Acquire;
+use mea_sem_model::SemEvent;
+
+// What the events on futures do, where they have no cause for refusal.
+impl SemHall {
+    // `acq` and its three other forms.
+    pub(crate) fn acquire(
+        &mut self,
+        number: u64,
+        s: u64,
+        n: u64,
+        plain: bool,
+        forgets: bool,
+    ) -> Result<Answer, Stop>
+        requires next { self.old.next ≤ number }
+        requires allowed { cause_of self.old.hall (SemEvent.Acq s n) ≡ None }
+        ensures played { IfOk result (λ reply. Yields self.old number (acquire_of self.old.hall number s n plain forgets) reply self.new) }
+        ensures memory { IfErr result (λ stop. stop ≡ Stop.NoMemory) }
+        ensures err { OnErr result (self.new ≡ self.old) }
+    {
+        let future = FutureEntry {
+            semaphore: s,
+            acquire: Acquire::new(n as usize),
+            plain,
+            forgets,
+        };
+        match self.futures.insert(number, future) {
+            Err(_) => return Err(Stop::NoMemory),
+            Ok(_) => {}
+        }
+        let Some(entry) = self.semaphores.get_mut(&s) else {
+            unreachable!()
+        };
+        entry.count(plain);
+        self.next = number as u128 + 1;
+        Ok(Answer::Made)
+    }
+
+    pub(crate) fn poll(&mut self, number: u64, f: u64, waker: u64) -> Result<Answer, Stop>
+        requires next { self.old.next ≤ number }
+        requires allowed { cause_of self.old.hall (SemEvent.Poll f waker) ≡ None }
+        ensures played { IfOk result (λ reply. Plays self.old number (SemEvent.Poll f waker) reply self.new) }
+        ensures memory { IfErr result (λ stop. stop ≡ Stop.NoMemory) }
+        ensures err { OnErr result (self.new ≡ self.old) }
+    {
+        let Some(future) = self.futures.get(&f) else {
+            unreachable!()
+        };
+        let Some(entry) = self.semaphores.get(&future.semaphore) else {
+            unreachable!()
+        };
+        let ready = entry.is_ready(&future.acquire);
+        let forgets = future.forgets;
+        let new = future.is_new();
+        if ready {
+            return if forgets {
+                Ok(self.finish_forgetting(number, f, waker))
+            } else {
+                self.finish(number, f, waker)
+            };
+        }
+        if new {
+            return self.queue(number, f, waker);
+        }
+        Ok(self.wait_on(number, f, waker))
+    }
+
+    // A poll that is ready, of a future that forgets what it takes.
+    fn finish_forgetting(&mut self, number: u64, f: u64, waker: u64) -> Answer
+        requires next { self.old.next ≤ number }
+        requires allowed { cause_of self.old.hall (SemEvent.Poll f waker) ≡ None }
+        requires ready { (step self.old.hall number (SemEvent.Poll f waker)).reply ≡ Answer.Ready }
+        requires forgets { IfSome (map.get self.old.hall.futures f) (λ x. x.forgets ≡ true) }
+        ensures { Plays self.old number (SemEvent.Poll f waker) result self.new }
+    {
+        let Some(future) = self.futures.remove(&f) else {
+            unreachable!()
+        };
+        let Some(entry) = self.semaphores.get_mut(&future.semaphore) else {
+            unreachable!()
+        };
+        entry.finish_forgetting(future.acquire, waker, future.plain);
+        self.next = number as u128 + 1;
+        Answer::Ready
+    }
+
+    // A poll that is ready, of a future that becomes a permit.
+    fn finish(&mut self, number: u64, f: u64, waker: u64) -> Result<Answer, Stop>
+        requires next { self.old.next ≤ number }
+        requires allowed { cause_of self.old.hall (SemEvent.Poll f waker) ≡ None }
+        requires ready { (step self.old.hall number (SemEvent.Poll f waker)).reply ≡ Answer.Ready }
+        requires keeps { IfSome (map.get self.old.hall.futures f) (λ x. x.forgets ≡ false) }
+        ensures played { IfOk result (λ reply. Plays self.old number (SemEvent.Poll f waker) reply self.new) }
+        ensures memory { IfErr result (λ stop. stop ≡ Stop.NoMemory) }
+        ensures err { OnErr result (self.new ≡ self.old) }
+    {
+        let Some(future) = self.futures.get(&f) else {
+            unreachable!()
+        };
+        let permit = future.permit();
+        match self.permits.insert(number, permit) {
+            Err(_) => return Err(Stop::NoMemory),
+            Ok(_) => {}
+        }
+        let Some(future) = self.futures.remove(&f) else {
+            unreachable!()
+        };
+        let Some(entry) = self.semaphores.get_mut(&future.semaphore) else {
+            unreachable!()
+        };
+        entry.finish(future.acquire, waker);
+        self.next = number as u128 + 1;
+        Ok(Answer::Ready)
+    }
+
+    // A first poll that has to wait.
+    fn queue(&mut self, number: u64, f: u64, waker: u64) -> Result<Answer, Stop>
+        requires next { self.old.next ≤ number }
+        requires allowed { cause_of self.old.hall (SemEvent.Poll f waker) ≡ None }
+        requires pending { (step self.old.hall number (SemEvent.Poll f waker)).reply ≡ Answer.Pending }
+        requires new { IfSome (map.get self.old.hall.futures f) (λ x. x.stage ≡ New) }
+        ensures played { IfOk result (λ reply. Plays self.old number (SemEvent.Poll f waker) reply self.new) }
+        ensures memory { IfErr result (λ stop. stop ≡ Stop.NoMemory) }
+        ensures err { OnErr result (self.new ≡ self.old) }
+    {
+        let Some(future) = self.futures.get(&f) else {
+            unreachable!()
+        };
+        let Acquire::New { demand } = future.acquire else {
+            unreachable!()
+        };
+        let semaphore = future.semaphore;
+        let Some(registered) = self.registered.checked_add(1) else {
+            return Err(Stop::NoMemory);
+        };
+        match self.outbox.reserve(registered) {
+            Err(_) => return Err(Stop::NoMemory),
+            Ok(()) => {}
+        }
+        let Some(entry) = self.semaphores.get_mut(&semaphore) else {
+            unreachable!()
+        };
+        let acquire = match entry.queue(demand, waker) {
+            Err(_) => return Err(Stop::NoMemory),
+            Ok(acquire) => acquire,
+        };
+        let Some(future) = self.futures.get_mut(&f) else {
+            unreachable!()
+        };
+        future.acquire = acquire;
+        self.registered = registered;
+        self.next = number as u128 + 1;
+        Ok(Answer::Pending)
+    }
+
+    // A further poll of a future that waits.
+    fn wait_on(&mut self, number: u64, f: u64, waker: u64) -> Answer
+        requires next { self.old.next ≤ number }
+        requires allowed { cause_of self.old.hall (SemEvent.Poll f waker) ≡ None }
+        requires waits { IfSome (map.get self.old.hall.futures f) (λ x. (v : ℕ) × (x.stage ≡ Waiting v)) }
+        ensures { Plays self.old number (SemEvent.Poll f waker) result self.new }
+    {
+        let Some(future) = self.futures.get(&f) else {
+            unreachable!()
+        };
+        let Some(entry) = self.semaphores.get_mut(&future.semaphore) else {
+            unreachable!()
+        };
+        let Acquire::Queued {
+            demand,
+            number: place,
+        } = future.acquire
+        else {
+            unreachable!()
+        };
+        entry.wait_on(demand, place, waker);
+        self.next = number as u128 + 1;
+        Answer::Pending
+    }
+
+    // `end` of a future.
+    pub(crate) fn end_future(&mut self, number: u64, f: u64) -> Answer
+        requires next { self.old.next ≤ number }
+        requires there { IsSome (map.get self.old.hall.futures f) }
+        ensures { Plays self.old number (SemEvent.End f) result self.new }
+    {
+        let Some(future) = self.futures.remove(&f) else {
+            unreachable!()
+        };
+        let Some(entry) = self.semaphores.get_mut(&future.semaphore) else {
+            unreachable!()
+        };
+        self.registered -= entry.end(future.acquire, future.plain, &mut self.outbox);
+        self.next = number as u128 + 1;
+        Answer::Done
+    }
+}

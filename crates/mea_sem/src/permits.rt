@@ -1,0 +1,150 @@
+ghost use Rattle.std.specs.Prelude.{◌≡◌, ◌≤◌, OnErr, IfOk, IfErr, None, true, false};
+ghost use Rattle.std.specs.FinMap as map;
+ghost use Rattle.mea_sem_model.specs.Cause.{cause_of};
+ghost use Rattle.mea_sem_model.specs.Step.{try_of};
+ghost use Rattle.mea_sem.specs.Play.{Play, Plays, Yields};
+
+use crate::entries::PermitEntry;
+use crate::hall::SemHall;
+use mea_base::{Answer, Stop};
+use mea_sem_model::SemEvent;
+
+// What the events that make, change and end permits do, where they have no cause for refusal.
+impl SemHall {
+    // `try` and `tryo`.
+    pub(crate) fn try_permit(
+        &mut self,
+        number: u64,
+        s: u64,
+        n: u64,
+        plain: bool,
+    ) -> Result<Answer, Stop>
+        requires next { self.old.next ≤ number }
+        requires allowed { cause_of self.old.hall (SemEvent.Try s n) ≡ None }
+        ensures played { IfOk result (λ reply. Yields self.old number (try_of self.old.hall number s n plain) reply self.new) }
+        ensures memory { IfErr result (λ stop. stop ≡ Stop.NoMemory) }
+        ensures err { OnErr result (self.new ≡ self.old) }
+    {
+        let Some(entry) = self.semaphores.get(&s) else {
+            unreachable!()
+        };
+        if n as usize > entry.core.available_permits() {
+            self.next = number as u128 + 1;
+            return Ok(Answer::Lacking);
+        }
+        let permit = PermitEntry {
+            semaphore: s,
+            size: n as usize,
+            plain,
+        };
+        if self.permits.insert(number, permit).is_err() {
+            return Err(Stop::NoMemory);
+        }
+        let Some(entry) = self.semaphores.get_mut(&s) else {
+            unreachable!()
+        };
+        entry.take(n as usize, plain);
+        self.next = number as u128 + 1;
+        Ok(Answer::Held)
+    }
+
+    pub(crate) fn lose(&mut self, number: u64, p: u64) -> Answer
+        requires next { self.old.next ≤ number }
+        requires allowed { cause_of self.old.hall (SemEvent.Lose p) ≡ None }
+        ensures { Plays self.old number (SemEvent.Lose p) result self.new }
+    {
+        let Some(permit) = self.permits.remove(&p) else {
+            unreachable!()
+        };
+        let Some(entry) = self.semaphores.get_mut(&permit.semaphore) else {
+            unreachable!()
+        };
+        entry.lose(permit.size, permit.plain);
+        self.next = number as u128 + 1;
+        Answer::Forgot(permit.size as u64)
+    }
+
+    pub(crate) fn merge(&mut self, number: u64, p: u64, q: u64) -> Answer
+        requires next { self.old.next ≤ number }
+        requires allowed { cause_of self.old.hall (SemEvent.Merge p q) ≡ None }
+        ensures { Plays self.old number (SemEvent.Merge p q) result self.new }
+    {
+        let Some(other) = self.permits.remove(&q) else {
+            unreachable!()
+        };
+        let Some(permit) = self.permits.get_mut(&p) else {
+            unreachable!()
+        };
+        permit.size += other.size;
+        let Some(entry) = self.semaphores.get_mut(&other.semaphore) else {
+            unreachable!()
+        };
+        entry.discount(other.plain);
+        self.next = number as u128 + 1;
+        Answer::Done
+    }
+
+    pub(crate) fn split(&mut self, number: u64, p: u64, n: u64) -> Result<Answer, Stop>
+        requires next { self.old.next ≤ number }
+        requires allowed { cause_of self.old.hall (SemEvent.Split p n) ≡ None }
+        ensures played { IfOk result (λ reply. Plays self.old number (SemEvent.Split p n) reply self.new) }
+        ensures memory { IfErr result (λ stop. stop ≡ Stop.NoMemory) }
+        ensures err { OnErr result (self.new ≡ self.old) }
+    {
+        let Some(permit) = self.permits.get(&p).copied() else {
+            unreachable!()
+        };
+        if n as usize > permit.size {
+            self.next = number as u128 + 1;
+            return Ok(Answer::Lacking);
+        }
+        let part = PermitEntry {
+            size: n as usize,
+            ..permit
+        };
+        if self.permits.insert(number, part).is_err() {
+            return Err(Stop::NoMemory);
+        }
+        let Some(whole) = self.permits.get_mut(&p) else {
+            unreachable!()
+        };
+        whole.size -= n as usize;
+        let Some(entry) = self.semaphores.get_mut(&permit.semaphore) else {
+            unreachable!()
+        };
+        entry.count(permit.plain);
+        self.next = number as u128 + 1;
+        Ok(Answer::Held)
+    }
+
+    pub(crate) fn size(&mut self, number: u64, p: u64) -> Answer
+        requires next { self.old.next ≤ number }
+        requires allowed { cause_of self.old.hall (SemEvent.Size p) ≡ None }
+        ensures { Plays self.old number (SemEvent.Size p) result self.new }
+    {
+        let Some(permit) = self.permits.get(&p) else {
+            unreachable!()
+        };
+        let size = permit.size;
+        self.next = number as u128 + 1;
+        Answer::Permits(size as u64)
+    }
+
+    // `end` of a permit.
+    pub(crate) fn end_permit(&mut self, number: u64, p: u64) -> Answer
+        requires next { self.old.next ≤ number }
+        requires allowed { cause_of self.old.hall (SemEvent.End p) ≡ None }
+        requires no_future { map.get self.old.hall.futures p ≡ None }
+        ensures { Plays self.old number (SemEvent.End p) result self.new }
+    {
+        let Some(permit) = self.permits.remove(&p) else {
+            unreachable!()
+        };
+        let Some(entry) = self.semaphores.get_mut(&permit.semaphore) else {
+            unreachable!()
+        };
+        self.registered -= entry.give_back(permit.size, permit.plain, &mut self.outbox);
+        self.next = number as u128 + 1;
+        Answer::Done
+    }
+}

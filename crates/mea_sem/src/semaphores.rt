@@ -1,0 +1,138 @@
+ghost use Rattle.std.specs.Prelude.{◌≡◌, ◌≤◌, OnErr, IfOk, IfErr, None, true, false};
+ghost use Rattle.mea_sem_model.specs.Cause.{cause_of};
+ghost use Rattle.mea_sem_model.specs.Step.{try_and_forget};
+ghost use Rattle.mea_sem.specs.Play.{Play, Plays, Yields};
+
+use crate::entries::SemaphoreEntry;
+use crate::hall::SemHall;
+use mea_base::{Answer, Ledger, Stop};
+use mea_sem_core::SemCore;
+use mea_sem_model::SemEvent;
+
+// What the events on semaphores do, where they have no cause for refusal.
+impl SemHall {
+    pub(crate) fn make(&mut self, number: u64, n: u64) -> Result<Answer, Stop>
+        requires { self.old.next ≤ number }
+        ensures played { IfOk result (λ reply. Plays self.old number (SemEvent.New n) reply self.new) }
+        ensures memory { IfErr result (λ stop. stop ≡ Stop.NoMemory) }
+        ensures err { OnErr result (self.new ≡ self.old) }
+    {
+        let entry = SemaphoreEntry {
+            core: SemCore::new(self.alloc, n as usize),
+            made: n,
+            released: 0,
+            forgotten: 0,
+            named: true,
+            plain: 0,
+        };
+        match self.semaphores.insert(number, entry) {
+            Err(_) => Err(Stop::NoMemory),
+            Ok(_) => {
+                self.next = number as u128 + 1;
+                Ok(Answer::Made)
+            }
+        }
+    }
+
+    pub(crate) fn free(&mut self, number: u64, s: u64) -> Answer
+        requires next { self.old.next ≤ number }
+        requires allowed { cause_of self.old.hall (SemEvent.Free s) ≡ None }
+        ensures { Plays self.old number (SemEvent.Free s) result self.new }
+    {
+        let Some(entry) = self.semaphores.get(&s) else {
+            unreachable!()
+        };
+        let free = entry.core.available_permits();
+        self.next = number as u128 + 1;
+        Answer::Free(free as u64)
+    }
+
+    pub(crate) fn forget(&mut self, number: u64, s: u64, n: u64) -> Answer
+        requires next { self.old.next ≤ number }
+        requires allowed { cause_of self.old.hall (SemEvent.Forget s n) ≡ None }
+        ensures { Plays self.old number (SemEvent.Forget s n) result self.new }
+    {
+        let Some(entry) = self.semaphores.get_mut(&s) else {
+            unreachable!()
+        };
+        let forgotten = entry.forget(n as usize);
+        self.next = number as u128 + 1;
+        Answer::Forgot(forgotten as u64)
+    }
+
+    pub(crate) fn forget_exact(&mut self, number: u64, s: u64, n: u64) -> Result<Answer, Stop>
+        requires next { self.old.next ≤ number }
+        requires allowed { cause_of self.old.hall (SemEvent.Forgetx s n) ≡ None }
+        ensures played { IfOk result (λ reply. Plays self.old number (SemEvent.Forgetx s n) reply self.new) }
+        ensures memory { IfErr result (λ stop. stop ≡ Stop.NoMemory) }
+        ensures err { OnErr result (self.new ≡ self.old) }
+    {
+        let Some(entry) = self.semaphores.get_mut(&s) else {
+            unreachable!()
+        };
+        match entry.forget_exact(n as usize) {
+            Err(_) => Err(Stop::NoMemory),
+            Ok(()) => {
+                self.next = number as u128 + 1;
+                Ok(Answer::Done)
+            }
+        }
+    }
+
+    pub(crate) fn release(&mut self, number: u64, s: u64, n: u64) -> Answer
+        requires next { self.old.next ≤ number }
+        requires allowed { cause_of self.old.hall (SemEvent.Release s n) ≡ None }
+        ensures { Plays self.old number (SemEvent.Release s n) result self.new }
+    {
+        let Some(entry) = self.semaphores.get_mut(&s) else {
+            unreachable!()
+        };
+        self.registered -= entry.release(n as usize, &mut self.outbox);
+        self.next = number as u128 + 1;
+        Answer::Done
+    }
+
+    // `tryf` and `tryof`: nothing is left of the permit that could borrow the semaphore.
+    pub(crate) fn try_and_forget(&mut self, number: u64, s: u64, n: u64) -> Answer
+        requires next { self.old.next ≤ number }
+        requires allowed { cause_of self.old.hall (SemEvent.Tryf s n) ≡ None }
+        ensures { Yields self.old number (try_and_forget self.old.hall s n) result self.new }
+    {
+        let Some(entry) = self.semaphores.get_mut(&s) else {
+            unreachable!()
+        };
+        if n as usize > entry.core.available_permits() {
+            self.next = number as u128 + 1;
+            return Answer::No;
+        }
+        let _all = entry.forget(n as usize);
+        self.next = number as u128 + 1;
+        Answer::Yes
+    }
+
+    pub(crate) fn end_name(&mut self, number: u64, s: u64) -> Answer
+        requires next { self.old.next ≤ number }
+        requires allowed { cause_of self.old.hall (SemEvent.Endsem s) ≡ None }
+        ensures { Plays self.old number (SemEvent.Endsem s) result self.new }
+    {
+        let Some(entry) = self.semaphores.get_mut(&s) else {
+            unreachable!()
+        };
+        entry.named = false;
+        self.next = number as u128 + 1;
+        Answer::Done
+    }
+
+    pub(crate) fn ledger(&mut self, number: u64, s: u64) -> Answer
+        requires next { self.old.next ≤ number }
+        requires allowed { cause_of self.old.hall (SemEvent.Ledger s) ≡ None }
+        ensures { Plays self.old number (SemEvent.Ledger s) result self.new }
+    {
+        let Some(entry) = self.semaphores.get(&s) else {
+            unreachable!()
+        };
+        let ledger = entry.ledger();
+        self.next = number as u128 + 1;
+        Answer::Account(ledger)
+    }
+}

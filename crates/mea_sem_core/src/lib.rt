@@ -1,0 +1,15 @@
+//! The semaphore's core: permits, and the acquires and debts that wait for them, as pure state that is
+//! changed by `&mut self`. It stands on the wait list and the outbox of `mea_base` by their contracts
+//! alone; locks, channels, once cells, pools and the hall of semaphores stand on it.
+#![tactic(auto)]
+
+mod acquire;
+mod checked;
+mod place;
+mod pouring;
+mod sem_core;
+#[cfg(test)]
+mod tests;
+
+pub use acquire::Acquire;
+pub use sem_core::SemCore;

@@ -1,0 +1,156 @@
+-- what stands at each name of a hall after a change
+use Rattle.std.proofs.Common.{◌≡◌, ℕ, ◌+◌, ◌-◌, ◌≤◌, ◌==◌, ◌||◌, Bool, true, false, cond, List, [], ◌∷◌, Option, Some, None, unwrap_or, refl, ap, sym, subst, ◌∙◌, arith, is_some, min, nat_lt, filter}
+use Rattle.std.specs.Option.{option_map, IsSome}
+use Rattle.std.specs.Ordering.{nat_cmp}
+use Rattle.std.specs.FinMap.{FinMap, get, insert, remove}
+use Rattle.std.proofs.lemmas.Bool.{eqb-true, eqb-false, eq-eqb, ne_eqb}
+use Rattle.std.proofs.lemmas.Bool.Decides.{nat_tests}
+use Rattle.std.proofs.lemmas.List.Sums.{sum_by-cons}
+use Rattle.mea_base.specs.Queue.{lacks_after, waiting_after}
+use Rattle.mea_base.proofs.Totals.{get_inserted, get_removed}
+use Rattle.mea_sem_model.specs.Hall.{Hall, Semaphore, Future, Who, Waiter, Debt, names, made_with, semaphore_at, granted, grant_if, grant_who, grant_all, with_semaphore, debt_of, debts}
+use Rattle.mea_sem_model.specs.Cause.{is_named, is_named_semaphore}
+
+-- ---- one name of a map
+module _ {X : Type 0} where
+  -- what holds of a value put, and of each other name as it was
+  pub by_put : (m : FinMap nat_cmp X) (k : ℕ) (x : X) (P : ℕ → Option X → Type 0) → P k (Some x) → ((f : ℕ) → (k ≡ f → ⊥) → P f (get m f)) → (f : ℕ) → P f (get (insert m k x) f)
+  by_put m k x P here others f = subst (P f) (sym (get_inserted m k f x)) (at_test (k == f) refl)
+    where
+      at_test : (b : Bool) → (k == f) ≡ b → P f (cond b (Some x) (get m f))
+      at_test true e = subst (λ j. P j (Some x)) (eqb-true k f e) here
+      at_test false e = others f (eqb-false k f e)
+
+  pub by_gone : (m : FinMap nat_cmp X) (k : ℕ) (P : ℕ → Option X → Type 0) → P k None → ((f : ℕ) → (k ≡ f → ⊥) → P f (get m f)) → (f : ℕ) → P f (get (remove m k) f)
+  by_gone m k P here others f = subst (P f) (sym (get_removed m k f)) (at_test (k == f) refl)
+    where
+      at_test : (b : Bool) → (k == f) ≡ b → P f (cond b None (get m f))
+      at_test true e = subst (λ j. P j None) (eqb-true k f e) here
+      at_test false e = others f (eqb-false k f e)
+
+  pub inside : {x y : X} → Some x ≡ Some y → x ≡ y
+  inside {x} e = ap (λ o. unwrap_or o x) e
+
+  -- the value of an option that has one
+  pub value_in : (o : Option X) → IsSome o → (x : X) × (o ≡ Some x)
+  value_in None some = absurd (cc)
+  value_in (Some x) some = (x, refl)
+
+  pub is_there : (o : Option X) (x : X) → o ≡ Some x → IsSome o
+  is_there o x is = ap is_some is
+
+  pub is_absent : (o : Option X) → (IsSome o → ⊥) → o ≡ None
+  is_absent None none = refl
+  is_absent (Some x) none = absurd (none refl)
+
+  pub get-there : (m : FinMap nat_cmp X) (k : ℕ) (x : X) → get (insert m k x) k ≡ Some x
+  get-there m k x = get_inserted m k k x ∙ ap (λ b. cond b (Some x) (get m k)) (eq-eqb k k refl)
+
+  pub get-other : (m : FinMap nat_cmp X) (k q : ℕ) (x : X) → (k ≡ q → ⊥) → get (insert m k x) q ≡ get m q
+  get-other m k q x apart = get_inserted m k q x ∙ ap (λ b. cond b (Some x) (get m q)) (ne_eqb k q apart)
+
+  pub get-removed_other : (m : FinMap nat_cmp X) (k q : ℕ) → (k ≡ q → ⊥) → get (remove m k) q ≡ get m q
+  get-removed_other m k q apart = get_removed m k q ∙ ap (λ b. cond b None (get m q)) (ne_eqb k q apart)
+
+  pub get-gone : (m : FinMap nat_cmp X) (k : ℕ) → get (remove m k) k ≡ None
+  get-gone m k = get_removed m k k ∙ ap (λ b. cond b None (get m k)) (eq-eqb k k refl)
+
+-- ---- semaphores
+pub semaphore_put : (h : Hall) (q s : ℕ) (r : Semaphore) → semaphore_at (with_semaphore h q r) s ≡ cond (q == s) r (semaphore_at h s)
+semaphore_put h q s r = ap (λ o. unwrap_or o (made_with 0)) (get_inserted h.semaphores q s r) ∙ out (q == s)
+  where
+    out : (b : Bool) → unwrap_or (cond b (Some r) (get h.semaphores s)) (made_with 0) ≡ cond b r (semaphore_at h s)
+    out true = refl
+    out false = refl
+
+-- what holds of the new semaphore there, and of each other as it was
+pub by_semaphore : (h : Hall) (q : ℕ) (r : Semaphore) (P : ℕ → Semaphore → Type 0) → P q r → ((s : ℕ) → (q ≡ s → ⊥) → P s (semaphore_at h s)) → (s : ℕ) → P s (semaphore_at (with_semaphore h q r) s)
+by_semaphore h q r P here others s = subst (P s) (sym (semaphore_put h q s r)) (at_test (q == s) refl)
+  where
+    at_test : (b : Bool) → (q == s) ≡ b → P s (cond b r (semaphore_at h s))
+    at_test true e = subst (λ k. P k r) (eqb-true q s e) here
+    at_test false e = others s (eqb-false q s e)
+
+-- a semaphore that is found to be named is named
+pub semaphore_named : (h : Hall) (q : ℕ) → is_named h q ≡ true → (semaphore_at h q).named ≡ true
+semaphore_named h q = by_option (get h.semaphores q)
+  where
+    by_option : (o : Option Semaphore) → is_named_semaphore o ≡ true → (unwrap_or o (made_with 0)).named ≡ true
+    by_option None e = absurd (cc)
+    by_option (Some r) e = e
+
+-- ---- who is granted
+-- whether a future is among those
+abbrev pub among : List Who → ℕ → Bool
+among [] f = false
+among (w ∷ ws) f = names w f || among ws f
+
+get-grant_if : (m : FinMap nat_cmp Future) (f q : ℕ) (o : Option Future) → get m f ≡ o → get (grant_if m f o) q ≡ cond (f == q) (option_map granted (get m q)) (get m q)
+get-grant_if m f q None is = elim (f == q) as (λ b. (f == q) ≡ b → get m q ≡ cond b (option_map granted (get m q)) (get m q)) [
+  | true ↦ λ h. let gone : get m q ≡ None = ap (get m) (sym (eqb-true f q h)) ∙ is in rw gone
+  | false ↦ λ h. refl
+] refl
+get-grant_if m f q (Some x) is = get_inserted m f q (granted x)
+    ∙ elim (f == q) as (λ b. (f == q) ≡ b → cond b (Some (granted x)) (get m q) ≡ cond b (option_map granted (get m q)) (get m q)) [
+      | true ↦ λ h. let there : get m q ≡ Some x = ap (get m) (sym (eqb-true f q h)) ∙ is in rw there
+      | false ↦ λ h. refl
+    ] refl
+
+pub get-grant_who : (m : FinMap nat_cmp Future) (w : Who) (q : ℕ) → get (grant_who m w) q ≡ cond (names w q) (option_map granted (get m q)) (get m q)
+get-grant_who m (Waiter f) q = get-grant_if m f q (get m f) refl
+get-grant_who m Debt q = refl
+
+twice : (a b : Bool) (o : Option Future) → cond b (option_map granted (cond a (option_map granted o) o)) (cond a (option_map granted o) o) ≡ cond (a || b) (option_map granted o) o
+twice true true None = refl
+twice true true (Some x) = refl
+twice true false o = refl
+twice false b o = refl
+
+-- what a future is after some are granted
+pub get-grant_all : (ws : List Who) (m : FinMap nat_cmp Future) (q : ℕ) → get (grant_all ws m) q ≡ cond (among ws q) (option_map granted (get m q)) (get m q)
+get-grant_all [] m q = refl
+get-grant_all (w ∷ ws) m q = get-grant_all ws (grant_who m w) q
+    ∙ ap (λ o. cond (among ws q) (option_map granted o) o) (get-grant_who m w q) ∙ twice (names w q) (among ws q) (get m q)
+
+-- a future that was granted, or not, was there before, the same but for its stage
+pub granted_was : (b : Bool) (o : Option Future) (y : Future) → cond b (option_map granted o) o ≡ Some y → (x : Future) × (o ≡ Some x) × (x.demand ≡ y.demand) × (x.semaphore ≡ y.semaphore) × (x.plain ≡ y.plain)
+granted_was true None y e = absurd (cc)
+granted_was false None y e = absurd (cc)
+granted_was true (Some x) y e = (x, refl, ap (λ (z : Future). z.demand) (inside e), ap (λ (z : Future). z.semaphore) (inside e), ap (λ (z : Future). z.plain) (inside e))
+granted_was false (Some x) y e = (x, refl, ap (λ (z : Future). z.demand) (inside e), ap (λ (z : Future). z.semaphore) (inside e), ap (λ (z : Future). z.plain) (inside e))
+
+-- granting makes no name and takes none away
+pub granted_there : (b : Bool) (o : Option Future) → is_some (cond b (option_map granted o) o) ≡ is_some o
+granted_there true None = refl
+granted_there true (Some x) = refl
+granted_there false o = refl
+
+-- ---- debts
+debts-after : (q : List (Who × ℕ)) (before n : ℕ) → debts (lacks_after before q n) ≤ debts q
+debts-after [] before n = omega arith
+debts-after ((Waiter f, k) ∷ q) before n = omega (
+  arith,
+  debts-after q (before + k) n,
+  sum_by-cons {X = Who × ℕ} (λ e. debt_of e.0 e.1) (Waiter f, k) q,
+  sum_by-cons {X = Who × ℕ} (λ e. debt_of e.0 e.1) (Waiter f, min k (before + k - n)) (lacks_after (before + k) q n),
+)
+debts-after ((Debt, k) ∷ q) before n =
+    let less : min k (before + k - n) ≤ k = grind (arith, nat_tests) in
+    omega (
+      arith,
+      less,
+      debts-after q (before + k) n,
+      sum_by-cons {X = Who × ℕ} (λ e. debt_of e.0 e.1) (Debt, k) q,
+      sum_by-cons {X = Who × ℕ} (λ e. debt_of e.0 e.1) (Debt, min k (before + k - n)) (lacks_after (before + k) q n),
+    )
+
+pub filtered-owed : (p : Who × ℕ → Bool) (q : List (Who × ℕ)) → debts (filter {X = Who × ℕ} p q) ≤ debts q
+filtered-owed p [] = omega arith
+filtered-owed p (e ∷ q) = elim (p e) as (λ b. debts (cond b (e ∷ filter {X = Who × ℕ} p q) (filter {X = Who × ℕ} p q)) ≤ debts (e ∷ q)) [
+  | true ↦ omega (arith, filtered-owed p q, sum_by-cons {X = Who × ℕ} (λ d. debt_of d.0 d.1) e q, sum_by-cons {X = Who × ℕ} (λ d. debt_of d.0 d.1) e (filter {X = Who × ℕ} p q))
+  | false ↦ omega (arith, filtered-owed p q, sum_by-cons {X = Who × ℕ} (λ d. debt_of d.0 d.1) e q)
+]
+
+-- a pour makes no debt greater
+pub poured-owed : (q : List (Who × ℕ)) (n : ℕ) → debts (waiting_after q n) ≤ debts q
+poured-owed q n = omega (arith, filtered-owed (λ e. nat_lt 0 e.1) (lacks_after 0 q n), debts-after q 0 n)
