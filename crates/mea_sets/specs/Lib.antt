@@ -1,0 +1,3 @@
+pub mod Poll
+pub mod WaitSet
+pub mod Countdown
