@@ -1,0 +1,10 @@
+pub mod Debts
+pub mod Enqueues
+pub mod Grants
+pub mod Held
+pub mod Leaves
+pub mod Places
+pub mod PourSteps
+pub mod Pours
+pub mod Sound
+pub mod Steadies

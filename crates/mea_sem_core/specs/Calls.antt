@@ -80,7 +80,19 @@ module _ {W : Type 0} where
       × ((lack : ℕ) → waiting s.queue number ≡ Some (demand, lack) → s' ≡ record s { live = s.live - (demand - lack); queue = without_acquire s.queue number })
   Loses s (Done _) s' = s' ≡ s
 
-  -- where the acquire stands, by whether it is granted; none is both
+  -- the acquire was granted, and was not polled since
+  abbrev pub IsGranted : Core W → Acquire → Type 0
+  IsGranted s (New _) = ⊥
+  IsGranted s (Done _) = ⊥
+  IsGranted s (Queued demand number) = IsGrantedAs s demand number
+
+  -- no acquire waits under its number
+  abbrev pub IsApart : Core W → Acquire → Type 0
+  IsApart s (New _) = Unit {0}
+  IsApart s (Done _) = Unit {0}
+  IsApart s (Queued _ number) = waiting s.queue number ≡ None
+
+  -- where an acquire that belongs stands, by whether it is granted; none is both
   abbrev pub StandsAs : Core W → Acquire → Bool → Type 0
   StandsAs s (New _) granted = granted ≡ false
   StandsAs s (Done _) granted = granted ≡ false

@@ -1,3 +1,4 @@
 pub mod Acquire
 pub mod Core
 pub mod Calls
+pub mod Places

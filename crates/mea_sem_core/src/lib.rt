@@ -4,5 +4,10 @@
 #![tactic(auto)]
 
 mod acquire;
+mod checked;
+mod place;
+mod pouring;
+mod sem_core;
 
 pub use acquire::Acquire;
+pub use sem_core::SemCore;

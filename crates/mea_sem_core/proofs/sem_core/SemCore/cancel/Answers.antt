@@ -1,0 +1,81 @@
+use Rattle.std.proofs.Common.{◌≡◌, ◌≤◌, ◌-◌, None, ap, ◌∙◌, arith}
+use Rattle.mea_base.specs.WaitList.{without}
+use Rattle.mea_sem_core.specs.declared.acquire.Acquire.TheVariants.{Queued}
+use Rattle.mea_sem_core.specs.Core.{Core, poured}
+use Rattle.mea_sem_core.specs.Places.{queue_of, granted_of}
+use Rattle.mea_sem_core.specs.Calls.{Cancels, Steady}
+use Rattle.mea_sem_core.proofs.Leaves.{place_of, in_use_at, within_at, departs, Updates-unlinked, unlinked_after}
+use Rattle.mea_sem_core.proofs.Held.{paid-view}
+use Rattle.mea_sem_core.proofs.Steadies.{steady_cancels}
+use Rattle.mea_sem_core.proofs.sem_core.SemCore.cancel.Goals as goal
+
+pub get-requires : goal.get-requires
+get-requires g c =
+    let place = place_of c.self.inside.waiters c.in-Queued.demand c.in-Queued.number (rw (c.in-Queued.is, ← c.self.view_is) at c.requires) in
+    in_use_at c.self.inside.waiters c.in-Queued.demand c.in-Queued.number place
+
+pub paid-paid-requires : goal.paid-paid-requires
+paid-paid-requires g c =
+    let place = place_of c.self.inside.waiters c.in-Queued.demand c.in-Queued.number (rw (c.in-Queued.is, ← c.self.view_is) at c.requires) in
+    within_at c.self.inside.waiters c.in-Queued.demand c.in-Queued.number c.get.result.now c.self.invariant.kept c.get.ensures place
+
+pub remove_unlinked-requires-clause-unlinked : goal.remove_unlinked-requires-clause-unlinked
+remove_unlinked-requires-clause-unlinked g c = rw c.unlink.ensures (unlinked_after c.in-Queued.number c.self.inside.waiters.order)
+
+pub invariant_of-self : goal.invariant_of-self
+invariant_of-self g c =
+    let place = place_of c.self.inside.waiters c.in-Queued.demand c.in-Queued.number (rw (c.in-Queued.is, ← c.self.view_is) at c.requires) in
+    let order : c.remove_unlinked.new.self.order ≡ without c.in-Queued.number c.self.inside.waiters.order = c.remove_unlinked.ensures.order ∙ ap (λ w. w.order) c.unlink.ensures in
+    let updates = Updates-unlinked c.self.inside.waiters c.unlink.new.self c.remove_unlinked.new.self c.in-Queued.number None (ap (λ w. w.slots) c.unlink.ensures) c.remove_unlinked.ensures.updates in
+    let departed = departs c.self.inside.waiters c.remove_unlinked.new.self c.in-Queued.demand c.in-Queued.number c.get.result.now c.self.invariant.kept c.get.ensures updates order place in
+    record {
+      kept = departed.kept;
+      room = omega (arith, departed.shorter, c.self.invariant.room);
+      paid = omega (arith, departed.paid, c.self.invariant.paid, c.paid-paid.ensures);
+      total = omega (arith, departed.paid, c.self.invariant.paid, c.paid-paid.ensures, c.self.invariant.total);
+      fits = omega (arith, c.self.invariant.fits);
+      idle = λ some. order ∙ ap (without c.in-Queued.number) (c.self.invariant.idle some);
+    }
+
+pub returns-clause-cancels : goal.returns-clause-cancels
+returns-clause-cancels g c =
+    let place = place_of c.self.inside.waiters c.in-Queued.demand c.in-Queued.number (rw (c.in-Queued.is, ← c.self.view_is) at c.requires) in
+    let order : c.remove_unlinked.new.self.order ≡ without c.in-Queued.number c.self.inside.waiters.order = c.remove_unlinked.ensures.order ∙ ap (λ w. w.order) c.unlink.ensures in
+    let updates = Updates-unlinked c.self.inside.waiters c.unlink.new.self c.remove_unlinked.new.self c.in-Queued.number None (ap (λ w. w.slots) c.unlink.ensures) c.remove_unlinked.ensures.updates in
+    let departed = departs c.self.inside.waiters c.remove_unlinked.new.self c.in-Queued.demand c.in-Queued.number c.get.result.now c.self.invariant.kept c.get.ensures updates order place in
+    rw (c.in-Queued.is, ← c.self.view_is, c.pour.ensures.poured) (
+      (λ is.
+          let granted = departed.granted is in
+          let part : c.paid-paid.result ≡ c.in-Queued.demand = c.paid-paid.ensures ∙ granted.0 in
+          λ i. poured (record { free = c.self.inside.free; live = c.self.inside.live - part i; queue = granted.1 i; granted = granted.2 i; wakes = c.self.inside.outbox.wakers }) (part i)),
+      (λ lack is.
+          let waits = departed.waits lack is in
+          let part : c.paid-paid.result ≡ c.in-Queued.demand - lack = c.paid-paid.ensures ∙ waits.0 in
+          λ i. poured (record { free = c.self.inside.free; live = c.self.inside.live - part i; queue = waits.1 i; granted = waits.2 i; wakes = c.self.inside.outbox.wakers }) (part i)),
+    )
+
+pub returns-clause-steady : goal.returns-clause-steady
+returns-clause-steady g c =
+    let place = place_of c.self.inside.waiters c.in-Queued.demand c.in-Queued.number (rw (c.in-Queued.is, ← c.self.view_is) at c.requires) in
+    let order : c.remove_unlinked.new.self.order ≡ without c.in-Queued.number c.self.inside.waiters.order = c.remove_unlinked.ensures.order ∙ ap (λ w. w.order) c.unlink.ensures in
+    let updates = Updates-unlinked c.self.inside.waiters c.unlink.new.self c.remove_unlinked.new.self c.in-Queued.number None (ap (λ w. w.slots) c.unlink.ensures) c.remove_unlinked.ensures.updates in
+    let departed = departs c.self.inside.waiters c.remove_unlinked.new.self c.in-Queued.demand c.in-Queued.number c.get.result.now c.self.invariant.kept c.get.ensures updates order place in
+    let seen : Core g.row.W.Denot = record { free = c.self.inside.free; live = c.self.inside.live; queue = queue_of c.self.inside.waiters; granted = granted_of c.self.inside.waiters; wakes = c.self.inside.outbox.wakers } in
+    let fits : c.paid-paid.result ≤ c.self.inside.live = omega (arith, departed.paid, c.self.invariant.paid, c.paid-paid.ensures, c.self.invariant.total) in
+    let cancels = rw (c.in-Queued.is, ← c.self.view_is) at (returns-clause-cancels g c) in
+    let belongs = rw (c.in-Queued.is, ← c.self.view_is) at c.requires in
+    rw (← c.self.view_is) (
+    steady_cancels seen c.pour.new.self c.in-Queued.demand c.in-Queued.number c.paid-paid.result
+    (λ is. c.paid-paid.ensures ∙ (departed.granted is).0)
+    (λ lack is. c.paid-paid.ensures ∙ (departed.waits lack is).0)
+    fits belongs cancels)
+
+pub returns-clause-held : goal.returns-clause-held
+returns-clause-held g c =
+    let place = place_of c.self.inside.waiters c.in-Queued.demand c.in-Queued.number (rw (c.in-Queued.is, ← c.self.view_is) at c.requires) in
+    let order : c.remove_unlinked.new.self.order ≡ without c.in-Queued.number c.self.inside.waiters.order = c.remove_unlinked.ensures.order ∙ ap (λ w. w.order) c.unlink.ensures in
+    let updates = Updates-unlinked c.self.inside.waiters c.unlink.new.self c.remove_unlinked.new.self c.in-Queued.number None (ap (λ w. w.slots) c.unlink.ensures) c.remove_unlinked.ensures.updates in
+    let departed = departs c.self.inside.waiters c.remove_unlinked.new.self c.in-Queued.demand c.in-Queued.number c.get.result.now c.self.invariant.kept c.get.ensures updates order place in
+    let before = paid-view c.self.inside.waiters c.self.invariant.kept in
+    let after = paid-view c.remove_unlinked.new.self departed.kept in
+    rw (← c.self.view_is) (omega (arith, before, after, c.pour.ensures.held, departed.paid, c.self.invariant.paid, c.paid-paid.ensures, c.self.invariant.total))

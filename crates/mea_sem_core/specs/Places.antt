@@ -1,0 +1,149 @@
+-- how a wait list of places stands for the queue and the granted pairs of a semaphore
+use Rattle.std.specs.Prelude.{◌≡◌, ℕ, ◌+◌, ◌-◌, ◌≤◌, List, [], ◌∷◌, ◌++◌, Option, Some, None, length, slice_index_or, Bool, false, ◌==◌, sum_by}
+use Rattle.std.specs.Ordering.{nat_cmp}
+use Rattle.std.specs.FinMap as map
+use Rattle.mea_base.specs.WaitList.{Waits, get, is_linked, IsDistinct}
+use Rattle.mea_base.specs.Outbox.{Wakes}
+use Rattle.mea_base.specs.Queue.{lacks, waiting_after, granted_in}
+use Rattle.mea_sem_core.specs.declared.place.Place.{Place}
+use Rattle.mea_sem_core.specs.declared.place.Place.TheVariants.{Acquire, Debt, Granted}
+use Rattle.mea_sem_core.specs.Core.{Waiter, Acquires, Owes, debt_of, paid_to_debts, granting, wakers_of, HasDebtsFirst}
+
+module _ {W : Type 0} where
+  -- ---- one place
+  abbrev pub lack_of : Place W → ℕ
+  lack_of (Acquire demand lack waker) = lack
+  lack_of (Debt lack) = lack
+  lack_of (Granted demand) = 0
+
+  abbrev pub debt_in : Place W → ℕ
+  debt_in (Acquire demand lack waker) = 0
+  debt_in (Debt lack) = lack
+  debt_in (Granted demand) = 0
+
+  abbrev pub is_acquire_of : Place W → ℕ → Bool
+  is_acquire_of (Acquire own lack waker) demand = own == demand
+  is_acquire_of (Debt lack) demand = false
+  is_acquire_of (Granted own) demand = own == demand
+
+  abbrev pub is_grant_of : Place W → ℕ → Bool
+  is_grant_of (Acquire own lack waker) demand = false
+  is_grant_of (Debt lack) demand = false
+  is_grant_of (Granted own) demand = own == demand
+
+  abbrev pub with_new_waker : Place W → W → Place W
+  with_new_waker (Acquire demand lack waker) w = Acquire demand lack w
+  with_new_waker (Debt lack) w = Debt lack
+  with_new_waker (Granted demand) w = Granted demand
+
+  -- the place after a part payment
+  abbrev pub after_payment : Place W → ℕ → Place W
+  after_payment (Acquire demand lack waker) n = Acquire demand (lack - n) waker
+  after_payment (Debt lack) n = Debt (lack - n)
+  after_payment (Granted demand) n = Granted demand
+
+  -- the place after it was paid whole
+  abbrev pub after_grant : Place W → Place W
+  after_grant (Acquire demand lack waker) = Granted demand
+  after_grant (Debt lack) = Debt lack
+  after_grant (Granted demand) = Granted demand
+
+  abbrev pub waker_of : Place W → Option W
+  waker_of (Acquire demand lack waker) = Some waker
+  waker_of (Debt lack) = None
+  waker_of (Granted demand) = None
+
+  -- an acquire lacks at most its demand
+  abbrev pub LacksAtMost : Place W → Type 0
+  LacksAtMost (Acquire demand lack waker) = lack ≤ demand
+  LacksAtMost (Debt lack) = Unit {0}
+  LacksAtMost (Granted demand) = Unit {0}
+
+  -- ---- all places
+
+  -- the waiter in a place, and what it lacks
+  abbrev pub entry : ℕ → Option (Place W) → Waiter W × ℕ
+  entry number None = (Owes, 0)
+  entry number (Some (Acquire demand lack waker)) = (Acquires number demand waker, lack)
+  entry number (Some (Debt lack)) = (Owes, lack)
+  entry number (Some (Granted demand)) = (Owes, 0)
+
+  abbrev pub entries : List (Option (Place W)) → List ℕ → List (Waiter W × ℕ)
+  entries slots [] = []
+  entries slots (n ∷ ns) = entry n (slice_index_or slots n None) ∷ entries slots ns
+
+  abbrev pub grant_of : Option (Place W) → Option ℕ
+  grant_of None = None
+  grant_of (Some (Acquire demand lack waker)) = None
+  grant_of (Some (Debt lack)) = None
+  grant_of (Some (Granted demand)) = Some demand
+
+  -- the granted pairs, where the first slot has this number
+  abbrev pub pairs_from : ℕ → List (Option (Place W)) → List (ℕ × ℕ)
+  pairs_from k [] = []
+  pairs_from k (None ∷ rest) = pairs_from (k + 1) rest
+  pairs_from k (Some (Acquire demand lack waker) ∷ rest) = pairs_from (k + 1) rest
+  pairs_from k (Some (Debt lack) ∷ rest) = pairs_from (k + 1) rest
+  pairs_from k (Some (Granted demand) ∷ rest) = (k, demand) ∷ pairs_from (k + 1) rest
+
+  abbrev pub queue_of : Waits (Place W) → List (Waiter W × ℕ)
+  queue_of w = entries w.slots w.order
+
+  abbrev pub granted_of : Waits (Place W) → map.FinMap nat_cmp ℕ
+  granted_of w = map.from_entries (pairs_from 0 w.slots)
+
+  -- what has been paid to the acquire in a place
+  abbrev pub paid_slot : Option (Place W) → ℕ
+  paid_slot None = 0
+  paid_slot (Some (Acquire demand lack waker)) = demand - lack
+  paid_slot (Some (Debt lack)) = 0
+  paid_slot (Some (Granted demand)) = demand
+
+  abbrev pub paid_in : Waits (Place W) → ℕ
+  paid_in w = sum_by paid_slot w.slots
+
+  -- who waits in the queue lacks at least 1, and an acquire at most its demand
+  abbrev pub IsWaiting : Option (Place W) → Type 0
+  IsWaiting None = ⊥
+  IsWaiting (Some (Acquire demand lack waker)) = (1 ≤ lack) × (lack ≤ demand)
+  IsWaiting (Some (Debt lack)) = 1 ≤ lack
+  IsWaiting (Some (Granted demand)) = ⊥
+
+  -- what a number that is not in the queue has: nothing, or a granted acquire
+  abbrev pub IsIdle : Option (Place W) → Type 0
+  IsIdle None = Unit {0}
+  IsIdle (Some (Acquire demand lack waker)) = ⊥
+  IsIdle (Some (Debt lack)) = ⊥
+  IsIdle (Some (Granted demand)) = Unit {0}
+
+  abbrev pub AllWaiting : List (Option (Place W)) → List ℕ → Type 0
+  AllWaiting slots [] = Unit {0}
+  AllWaiting slots (n ∷ ns) = IsWaiting (slice_index_or slots n None) × AllWaiting slots ns
+
+  -- the numbers in the queue wait, the debts first, and all others are granted or free
+  pub record IsQueue (w : Waits (Place W)) : Type 0 where
+    pub distinct : IsDistinct w.order
+    pub waiting : AllWaiting w.slots w.order
+    pub idle : (n : ℕ) → is_linked w n ≡ false → IsIdle (get w n)
+    pub debts_first : HasDebtsFirst (queue_of w)
+
+  -- ---- what the loop of a pour does
+
+  -- the first waiter was paid whole: it left the queue, and an acquire was granted and its waker is ready
+  pub record GrantsFirst (old new : Waits (Place W)) (old_box new_box : Wakes W) (first : Waiter W × ℕ) : Type 0 where
+    pub queue : queue_of old ≡ first ∷ queue_of new
+    pub granted : granted_of new ≡ granting (granted_of old) (first.0 ∷ [])
+    pub wakers : new_box.wakers ≡ old_box.wakers ++ wakers_of (first.0 ∷ [])
+    pub kept : IsQueue new
+    pub room : length new.order ≤ new_box.spare
+    pub shorter : length new.order + 1 ≡ length old.order
+    pub paid : paid_in new + debt_of first.0 first.1 ≡ paid_in old + first.1
+
+  -- n was poured: the queue, the granted pairs and the wakers are those of the sums
+  pub record Pours (old new : Waits (Place W)) (old_box new_box : Wakes W) (n : ℕ) : Type 0 where
+    pub queue : queue_of new ≡ waiting_after (queue_of old) n
+    pub granted : granted_of new ≡ granting (granted_of old) (granted_in (queue_of old) n)
+    pub wakers : new_box.wakers ≡ old_box.wakers ++ wakers_of (granted_in (queue_of old) n)
+    pub kept : IsQueue new
+    pub room : length new.order ≤ new_box.spare
+    pub paid : paid_in new + (n - lacks (queue_of old)) + paid_to_debts (queue_of old) n ≡ paid_in old + n

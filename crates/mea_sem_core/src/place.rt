@@ -1,0 +1,138 @@
+ghost use Rattle.std.specs.Prelude.{◌≡◌, ◌+◌, ◌<◌, ◌≤◌, Some, OnOk, length};
+
+use mea_base::{NoMemory, Outbox, WaitList};
+use std::mem;
+
+/// What stands under a number of a semaphore's wait list.
+#[derive(Drop)]
+pub(crate) enum Place<W> {
+    /// An acquire that waits.
+    Acquire {
+        demand: usize,
+        lack: usize,
+        waker: W,
+    },
+    /// Permits that were taken away before they were free.
+    Debt {
+        lack: usize,
+    },
+    /// An acquire that was paid whole, and not polled since. It has left the queue.
+    Granted {
+        demand: usize,
+    },
+}
+
+impl<W> Place<W> {
+    ghost use Rattle.mea_sem_core.specs.Places.{lack_of, debt_in, is_acquire_of, is_grant_of, with_new_waker, paid_slot, LacksAtMost, after_payment, after_grant, waker_of};
+
+    /// What it lacks, and 0 where it was granted.
+    pub(crate) fn lack(&self) -> usize
+        ensures { result ≡ lack_of self.now }
+    {
+        match self {
+            Place::Acquire { lack, .. } | Place::Debt { lack } => *lack,
+            Place::Granted { .. } => 0,
+        }
+    }
+
+    /// What a debt lacks, and 0 for an acquire.
+    pub(crate) fn debt(&self) -> usize
+        ensures { result ≡ debt_in self.now }
+    {
+        match self {
+            Place::Debt { lack } => *lack,
+            _ => 0,
+        }
+    }
+
+    /// What has been paid to an acquire. A payment to a debt is gone.
+    pub(crate) fn paid(&self) -> usize
+        requires { LacksAtMost self.now }
+        ensures { result ≡ paid_slot (Some self.now) }
+    {
+        match self {
+            Place::Acquire { demand, lack, .. } => *demand - *lack,
+            Place::Debt { .. } => 0,
+            Place::Granted { demand } => *demand,
+        }
+    }
+
+    /// Whether it is an acquire of this demand, that waits or was granted.
+    pub(crate) fn is_acquire_of(&self, demand: usize) -> bool
+        ensures { result ≡ is_acquire_of self.now demand }
+    {
+        match self {
+            Place::Acquire { demand: own, .. } | Place::Granted { demand: own } => *own == demand,
+            Place::Debt { .. } => false,
+        }
+    }
+
+    /// Whether it is an acquire of this demand that was granted.
+    pub(crate) fn is_grant_of(&self, demand: usize) -> bool
+        ensures { result ≡ is_grant_of self.now demand }
+    {
+        match self {
+            Place::Granted { demand: own } => *own == demand,
+            _ => false,
+        }
+    }
+
+    /// Keeps another waker for an acquire that waits.
+    pub(crate) fn set_waker(&mut self, new: W)
+    where
+        W: Drop,
+        ensures { self.new ≡ with_new_waker self.old new }
+    {
+        if let Place::Acquire { waker, .. } = self {
+            *waker = new;
+        }
+    }
+
+    /// Pays a part of the lack.
+    pub(crate) fn pay(&mut self, amount: usize)
+        requires { amount < lack_of self.old }
+        ensures { self.new ≡ after_payment self.old amount }
+    {
+        match self {
+            Place::Acquire { lack, .. } => *lack -= amount,
+            Place::Debt { lack } => *lack -= amount,
+            Place::Granted { .. } => {}
+        }
+    }
+
+    /// Grants an acquire, and takes its waker.
+    pub(crate) fn grant(&mut self) -> Option<W>
+    where
+        W: Drop,
+        ensures waker { result ≡ waker_of self.old }
+        ensures granted { self.new ≡ after_grant self.old }
+    {
+        let Place::Acquire { demand, .. } = self else {
+            return None;
+        };
+        let granted = Place::Granted { demand: *demand };
+        match mem::replace(self, granted) {
+            Place::Acquire { waker, .. } => Some(waker),
+            _ => unreachable!(),
+        }
+    }
+}
+
+/// Makes room for one more waiter: for its place, and for the wakers of all that then wait. Nothing else
+/// changes.
+pub(crate) fn reserve_place<W>(
+    waiters: &mut WaitList<Place<W>>,
+    outbox: &mut Outbox<W>,
+) -> Result<(), NoMemory>
+    ensures waiters { waiters.new ≡ record waiters.old { spare = waiters.new.spare } }
+    ensures outbox { outbox.new ≡ record outbox.old { spare = outbox.new.spare } }
+    ensures grows { outbox.old.spare ≤ outbox.new.spare }
+    ensures place { OnOk result (1 ≤ waiters.new.spare) }
+    ensures room { OnOk result (length waiters.old.order + 1 ≤ outbox.new.spare) }
+{
+    let Some(most) = waiters.len().checked_add(1) else {
+        return Err(NoMemory);
+    };
+    waiters.reserve(1)?;
+    outbox.reserve(most)
+}

@@ -1,0 +1,418 @@
+ghost use Rattle.std.specs.Prelude.{◌≡◌, ◌≢◌, ◌+◌, ◌-◌, ◌<◌, ◌≤◌, ◌⊎◌, ◌↔◌, ℕ, [], ◌∷◌, length, min, true, false, IsTrue, IsOk, IsErr, OnOk, OnErr, IfOk, IfSome, IfNone, MatchResult};
+ghost use Rattle.std.specs.FinMap as map;
+
+use crate::acquire::Acquire;
+use crate::place::{Place, reserve_place};
+use crate::pouring::{Poured, pour};
+use mea_base::{NoMemory, Outbox, Overflow, Turn, WaitList};
+use std::alloc::Global;
+use std::marker::Model;
+
+/// A semaphore: permits, the acquires and debts that wait for them, and the wakers to call.
+///
+/// An acquire waits or is granted under a number of the core that has polled it, and keeps it until it is
+/// polled ready or ended. Room for the waker of each waiter is reserved when it begins to wait, so that
+/// permits that come in take no memory. It ports `mea`'s internal `Semaphore`, as pure state: its calls
+/// make wakers ready and call none.
+#[derive(Drop)]
+pub struct SemCore<W> {
+    free: usize,
+    live: usize,
+    // What has been paid to the acquires that wait or were granted.
+    paid: usize,
+    waiters: WaitList<Place<W>>,
+    outbox: Outbox<W>,
+}
+
+impl<W> Model for SemCore<W> {
+    ghost use Rattle.std.specs.Prelude.{◌≡◌, ◌+◌, ◌^◌, ◌<◌, ◌≤◌, [], length};
+    ghost use Rattle.mea_sem_core.specs.Core.{Core, core_code};
+    ghost use Rattle.mea_sem_core.specs.Places.{queue_of, granted_of, paid_in, IsQueue};
+
+    ghost Value = { Core W };
+
+    ghost coded = { core_code W.code };
+
+    ghost view = { λ s. record {
+      free = s.free;
+      live = s.live;
+      queue = queue_of s.waiters;
+      granted = granted_of s.waiters;
+      wakes = s.outbox.wakers;
+    } };
+
+    ghost invariant = { λ s. record {
+      kept : IsQueue s.waiters;
+      room : length s.waiters.order ≤ s.outbox.spare;
+      paid : s.paid ≡ paid_in s.waiters;
+      total : s.free + s.paid ≤ s.live;
+      fits : s.live < 2 ^ 64;
+      idle : 0 < s.free → s.waiters.order ≡ [];
+    } };
+}
+
+// What a first poll comes to.
+#[derive(Drop)]
+enum Start<W> {
+    Taken(W),
+    Waits(usize),
+}
+
+impl<W: Drop> SemCore<W> {
+    ghost use Rattle.mea_base.specs.Queue.{lacks};
+    ghost use Rattle.mea_sem_core.specs.Core.{held_of, poured, HasNoDebt, IsSound};
+    ghost use Rattle.mea_sem_core.specs.Calls.{Belongs, IsGrantedAs, IsWaitingAs, IsGranted, IsApart, Queues, Polls, HoldsAfter, Steady, Cancels, Loses, StandsAs, with_waker, given_back, forgetting, forgetting_exactly};
+
+    /// A semaphore with these permits, all of them free. It takes no memory.
+    pub fn new(alloc: Global, permits: usize) -> Self
+        ensures is { result ≡ record { free = permits; live = permits; queue = []; granted = map.empty; wakes = [] } }
+        ensures held { held_of result ≡ 0 }
+        ensures sound { IsSound result }
+    {
+        SemCore {
+            free: permits,
+            live: permits,
+            paid: 0,
+            waiters: WaitList::new(alloc),
+            outbox: Outbox::new(alloc),
+        }
+    }
+
+    /// The free permits. It takes no memory.
+    pub fn available_permits(&self) -> usize
+        ensures is { result ≡ self.now.free }
+        ensures sound { IsSound self.now }
+    {
+        self.free
+    }
+
+    /// The permits that are free, held, or paid to acquires. It takes no memory.
+    pub fn live(&self) -> usize
+        ensures is { result ≡ self.now.live }
+        ensures sound { IsSound self.now }
+    {
+        self.live
+    }
+
+    /// The live permits that are neither free nor paid to an acquire: those that callers hold. It takes no
+    /// memory.
+    pub fn held(&self) -> usize
+        ensures { result ≡ held_of self.now }
+    {
+        self.live - self.free - self.paid
+    }
+
+    /// Whether any acquire or debt waits. It takes no memory.
+    pub fn is_waiting(&self) -> bool
+        ensures is { IsTrue result ↔ (self.now.queue ≢ []) }
+        ensures sound { IsSound self.now }
+    {
+        self.queue_len() != 0
+    }
+
+    /// How many acquires and debts wait. It takes no memory.
+    pub fn queue_len(&self) -> usize
+        ensures is { result ≡ length self.now.queue }
+        ensures sound { IsSound self.now }
+    {
+        self.waiters.len()
+    }
+
+    /// Adds `n` permits, and pays those who wait from the head of the queue. It takes no memory.
+    pub fn release(&mut self, n: usize) -> Result<(), Overflow>
+        ensures overflow { IsErr result ↔ (usize.MAX < self.old.live + n) }
+        ensures ok { OnOk result (self.new ≡ poured self.old n) }
+        ensures err { OnErr result (self.new ≡ self.old) }
+        ensures held { held_of self.new ≡ held_of self.old }
+        ensures no_debt { HasNoDebt self.old.queue → HasNoDebt self.new.queue }
+        ensures sound { IsSound self.new }
+    {
+        if n > usize::MAX - self.live {
+            return Err(Overflow);
+        }
+        self.pour(n);
+        Ok(())
+    }
+
+    /// Takes at most `n` free permits away for ever, and tells how many. It takes no memory.
+    pub fn forget(&mut self, n: usize) -> usize
+        ensures taken { result ≡ min n self.old.free }
+        ensures is { self.new ≡ forgetting self.old n }
+        ensures held { held_of self.new ≡ held_of self.old }
+        ensures idle { 0 < self.old.free → self.old.queue ≡ [] }
+        ensures within { result ≤ self.old.live }
+        ensures sound { IsSound self.new }
+    {
+        let taken = n.min(self.free);
+        self.free -= taken;
+        self.live -= taken;
+        taken
+    }
+
+    /// Takes `n` permits away for ever. Those that are not free become a debt at the head of the queue,
+    /// which is paid before all others. It takes memory for that debt alone.
+    pub fn forget_exact(&mut self, n: usize) -> Result<(), NoMemory>
+        ensures ok { OnOk result (self.new ≡ forgetting_exactly self.old n) }
+        ensures err { OnErr result (self.new ≡ self.old) }
+        ensures enough { n ≤ self.old.free → IsOk result }
+        ensures held { held_of self.new ≡ held_of self.old }
+        ensures sound { IsSound self.new }
+    {
+        if n <= self.free {
+            self.forget(n);
+            return Ok(());
+        }
+        reserve_place(&mut self.waiters, &mut self.outbox)?;
+        let debt = Place::Debt {
+            lack: n - self.free,
+        };
+        match self.waiters.push_head(debt) {
+            Ok(_) => {}
+            Err(_) => unreachable!(),
+        }
+        self.live -= self.free;
+        self.free = 0;
+        Ok(())
+    }
+
+    /// Takes `n` permits if they are free, past all who wait. It takes no memory.
+    pub fn try_acquire(&mut self, n: usize) -> bool
+        ensures taken { n ≤ self.old.free → (result ≡ true) × (self.new ≡ record self.old { free = self.old.free - n }) }
+        ensures refused { self.old.free < n → (result ≡ false) × (self.new ≡ self.old) }
+        ensures held { n ≤ self.old.free → held_of self.new ≡ held_of self.old + n }
+        ensures sound { IsSound self.new }
+    {
+        if n <= self.free {
+            self.free -= n;
+            true
+        } else {
+            false
+        }
+    }
+
+    /// Polls an acquire: ready with the waker handed back, or pending with the waker kept until the next
+    /// poll. It takes memory only where a new acquire has to wait, and where there is none it hands the
+    /// waker back.
+    pub fn poll(&mut self, acquire: &mut Acquire, waker: W) -> Result<Turn<W>, (W, NoMemory)>
+        requires { Belongs self.old acquire.old }
+        ensures polls { Polls self.old acquire.old waker result self.new acquire.new }
+        ensures holds { IfOk result (λ turn. HoldsAfter self.old acquire.old turn self.new) }
+        ensures steady { Steady self.old self.new }
+        ensures err { OnErr result ((self.new ≡ self.old) × (acquire.new ≡ acquire.old)) }
+        ensures sound { IsSound self.old → IsSound self.new }
+    {
+        match *acquire {
+            Acquire::New { demand } => match self.start(demand, waker)? {
+                Start::Taken(waker) => {
+                    *acquire = Acquire::Done { demand };
+                    Ok(Turn::Ready(waker))
+                }
+                Start::Waits(number) => {
+                    *acquire = Acquire::Queued { demand, number };
+                    Ok(Turn::Pending)
+                }
+            },
+            Acquire::Queued { demand, number } => {
+                let turn = self.resume(demand, number, waker);
+                if let Turn::Ready(_) = turn {
+                    *acquire = Acquire::Done { demand };
+                }
+                Ok(turn)
+            }
+            Acquire::Done { .. } => Ok(Turn::Ready(waker)),
+        }
+    }
+
+    /// Ends an acquire, and pours what it was paid. It takes no memory, and looks at the whole queue.
+    pub fn cancel(&mut self, acquire: Acquire)
+        requires { Belongs self.old acquire }
+        ensures cancels { Cancels self.old acquire self.new }
+        ensures steady { Steady self.old self.new }
+        ensures held { held_of self.new ≡ held_of self.old }
+        ensures sound { IsSound self.old → IsSound self.new }
+    {
+        let Acquire::Queued { number, .. } = acquire else {
+            return;
+        };
+        let paid = self.waiters.get(number).paid();
+        self.waiters.unlink(number);
+        let _ = self.waiters.remove_unlinked(number);
+        self.live -= paid;
+        self.paid -= paid;
+        self.pour(paid);
+    }
+
+    /// Ends an acquire. What it was paid is gone for ever. It takes no memory, and looks at the whole
+    /// queue.
+    pub fn lose_acquire(&mut self, acquire: Acquire)
+        requires { Belongs self.old acquire }
+        ensures loses { Loses self.old acquire self.new }
+        ensures held { held_of self.new ≡ held_of self.old }
+        ensures sound { IsSound self.old → IsSound self.new }
+    {
+        let Acquire::Queued { number, .. } = acquire else {
+            return;
+        };
+        let paid = self.waiters.get(number).paid();
+        self.waiters.unlink(number);
+        let _ = self.waiters.remove_unlinked(number);
+        self.live -= paid;
+        self.paid -= paid;
+    }
+
+    /// Takes `n` held permits back, and pays those who wait from the head of the queue. It takes no
+    /// memory.
+    pub fn give_back(&mut self, n: usize)
+        requires { n ≤ held_of self.old }
+        ensures given { self.new ≡ given_back self.old n }
+        ensures steady { Steady self.old self.new }
+        ensures held { held_of self.new + n ≡ held_of self.old }
+        ensures sound { IsSound self.new }
+    {
+        self.live -= n;
+        self.pour(n);
+    }
+
+    /// Takes `n` held permits away for ever. It takes no memory.
+    pub fn lose(&mut self, n: usize)
+        requires { n ≤ held_of self.old }
+        ensures lost { self.new ≡ record self.old { live = self.old.live - n } }
+        ensures held { held_of self.new + n ≡ held_of self.old }
+        ensures sound { IsSound self.new }
+    {
+        self.live -= n;
+    }
+
+    /// Adds `n` permits only where somebody waits for them. It takes no memory.
+    pub fn release_if_waiting(&mut self, n: usize)
+        requires { self.old.live + n ≤ usize.MAX }
+        ensures waits { self.old.queue ≢ [] → self.new ≡ poured self.old n }
+        ensures idle { self.old.queue ≡ [] → self.new ≡ self.old }
+        ensures held { held_of self.new ≡ held_of self.old }
+        ensures no_debt { HasNoDebt self.old.queue → HasNoDebt self.new.queue }
+        ensures sound { IsSound self.new }
+    {
+        if self.is_waiting() {
+            self.pour(n);
+        }
+    }
+
+    /// Adds what all who wait lack together, so that each of them is granted. It takes no memory.
+    pub fn wake_queue(&mut self)
+        requires no_debt { HasNoDebt self.old.queue }
+        requires few { self.old.live + lacks self.old.queue ≤ usize.MAX }
+        ensures is { self.new ≡ poured self.old (lacks self.old.queue) }
+        ensures empty { self.new.queue ≡ [] }
+        ensures held { held_of self.new ≡ held_of self.old }
+        ensures sound { IsSound self.new }
+    {
+        let Poured { left, to_debts: _ } = pour(&mut self.waiters, &mut self.outbox, usize::MAX);
+        self.live += usize::MAX - left;
+        self.paid += usize::MAX - left;
+    }
+
+    /// Whether the acquire was granted, and was not polled since. It takes no memory.
+    pub fn is_granted(&self, acquire: &Acquire) -> bool
+        ensures granted { IsTrue result ↔ IsGranted self.now acquire.now }
+        ensures apart { IsTrue result → IsApart self.now acquire.now }
+        ensures stands { Belongs self.now acquire.now → StandsAs self.now acquire.now result }
+    {
+        match *acquire {
+            Acquire::Queued { demand, number } => {
+                self.waiters.is_in_use(number) && self.waiters.get(number).is_grant_of(demand)
+            }
+            _ => false,
+        }
+    }
+
+    /// Whether the acquire is one of this core, which `poll` asks for. It takes no memory.
+    pub fn poll_allowed(&self, acquire: &Acquire) -> bool
+        ensures { IsTrue result ↔ Belongs self.now acquire.now }
+    {
+        match *acquire {
+            Acquire::Queued { demand, number } => {
+                self.waiters.is_in_use(number) && self.waiters.get(number).is_acquire_of(demand)
+            }
+            _ => true,
+        }
+    }
+
+    /// How many wakers are to be called. It takes no memory.
+    pub fn wakes_ready(&self) -> usize
+        ensures { result ≡ length self.now.wakes }
+    {
+        self.outbox.len()
+    }
+
+    /// Takes the first waker that is to be called. It takes no memory.
+    pub fn next_wake(&mut self) -> Option<W>
+        ensures some { IfSome result (λ waker. self.old ≡ record self.new { wakes = waker ∷ self.new.wakes }) }
+        ensures none { IfNone result ((self.old.wakes ≡ []) × (self.new ≡ self.old)) }
+        ensures sound { IsSound self.new }
+    {
+        self.outbox.pop()
+    }
+
+    // Pours `n` permits, which the live ones do not count yet.
+    fn pour(&mut self, n: usize)
+        requires { self.old.live + n ≤ usize.MAX }
+        ensures poured { self.new ≡ poured self.old n }
+        ensures held { held_of self.new ≡ held_of self.old }
+        ensures no_debt { HasNoDebt self.old.queue → HasNoDebt self.new.queue }
+        ensures sound { IsSound self.new }
+    {
+        let Poured { left, to_debts } = pour(&mut self.waiters, &mut self.outbox, n);
+        self.free += left;
+        self.live += n - to_debts;
+        self.paid += n - left - to_debts;
+    }
+
+    // The first poll of an acquire: the demand where it is free, or else a number in the queue.
+    fn start(&mut self, demand: usize, waker: W) -> Result<Start<W>, (W, NoMemory)>
+        ensures taken { demand ≤ self.old.free → (result ≡ Ok (Start.Taken waker)) × (self.new ≡ record self.old { free = self.old.free - demand }) }
+        ensures waits { self.old.free < demand → MatchResult result (λ start. (number : ℕ) × (start ≡ Start.Waits number) × Queues self.old self.new demand waker number) (λ e. (e.0 ≡ waker) × (self.new ≡ self.old)) }
+        ensures holds { demand ≤ self.old.free → held_of self.new ≡ held_of self.old + demand }
+        ensures held { self.old.free < demand → held_of self.new ≡ held_of self.old }
+        ensures steady { Steady self.old self.new }
+        ensures sound { IsSound self.new }
+    {
+        if demand <= self.free {
+            self.free -= demand;
+            return Ok(Start::Taken(waker));
+        }
+        if reserve_place(&mut self.waiters, &mut self.outbox).is_err() {
+            return Err((waker, NoMemory));
+        }
+        let waiter = Place::Acquire {
+            demand,
+            lack: demand - self.free,
+            waker,
+        };
+        let number = match self.waiters.push_tail(waiter) {
+            Ok(number) => number,
+            Err(_) => unreachable!(),
+        };
+        self.paid += self.free;
+        self.free = 0;
+        Ok(Start::Waits(number))
+    }
+
+    // A further poll of an acquire that waits or was granted.
+    fn resume(&mut self, demand: usize, number: usize, waker: W) -> Turn<W>
+        requires { IsGrantedAs self.old demand number ⊎ IsWaitingAs self.old demand number }
+        ensures granted { IsGrantedAs self.old demand number → (result ≡ Turn.Ready waker) × (self.new ≡ record self.old { granted = map.remove self.old.granted number }) }
+        ensures waits { IsWaitingAs self.old demand number → (result ≡ Turn.Pending) × (self.new ≡ record self.old { queue = with_waker self.old.queue number waker }) }
+        ensures holds { IsGrantedAs self.old demand number → held_of self.new ≡ held_of self.old + demand }
+        ensures held { IsWaitingAs self.old demand number → held_of self.new ≡ held_of self.old }
+        ensures steady { Steady self.old self.new }
+        ensures sound { IsSound self.new }
+    {
+        if self.waiters.get(number).is_grant_of(demand) {
+            let _ = self.waiters.remove_unlinked(number);
+            self.paid -= demand;
+            return Turn::Ready(waker);
+        }
+        self.waiters.get_mut(number).set_waker(waker);
+        Turn::Pending
+    }
+}
