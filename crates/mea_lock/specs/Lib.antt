@@ -1,0 +1,5 @@
+pub mod Lock
+pub mod LockLends
+pub mod RwLends
+pub mod RwLock
+pub mod Then
