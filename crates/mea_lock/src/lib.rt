@@ -4,16 +4,24 @@
 //! the mutex. The hall of locks and the locks that threads share stand on them.
 #![tactic(auto)]
 
+mod cond_wait;
+mod condvar_core;
+mod condvar_while;
 mod lock_wait;
 mod mutex_core;
+mod note;
 mod part;
 mod rw_core;
 mod rw_wait;
 mod then;
+mod wait_while;
 
+pub use cond_wait::CondWait;
+pub use condvar_core::CondvarCore;
 pub use lock_wait::LockWait;
 pub use mutex_core::MutexCore;
 pub use part::{Part, with_part, with_part_mut};
 pub use rw_core::RwCore;
 pub use rw_wait::RwWait;
 pub use then::Then;
+pub use wait_while::WaitWhile;
