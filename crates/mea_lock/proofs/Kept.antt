@@ -4,7 +4,7 @@ use Rattle.std.proofs.lemmas.Bool.{cases_eq}
 use Rattle.std.proofs.lemmas.List.{get_or-set_same, get_or-set_other, get_or_past}
 use Rattle.std.specs.List.{list_any}
 use Rattle.mea_base.specs.WaitList.{Waits, get, is_linked, with_value, Updates, without, IsDistinct}
-use Rattle.mea_lock.specs.Notes.{AreNoted, IsWaiting, IsIdle, waker_in}
+use Rattle.mea_lock.specs.Notes.{AreNoted, IsWaiting, IsIdle, notified_in}
 use Rattle.mea_lock.specs.declared.note.Note.{Note}
 use Rattle.mea_lock.specs.declared.note.Note.TheVariants.{Waiting, Notified}
 use Rattle.mea_lock.proofs.Numbers.{any_cons, absent_any, any_absent, any_end, any_end_here, any_without, distinct_end, distinct_without, unlinked_after}
@@ -98,6 +98,10 @@ module _ {W : Type 0} where
       (λ _. rw updates.changed tt)
       (λ unlinked. absurd (let linked = linked_waiting w n was found noted in let same = ap (λ o. list_any (λ k. eqb k n) o) order in cc))
       noted
+
+  pub noted_rewoken_by : (w : Waits (Note W)) (n : ℕ) (note : Note W) (waker : W) → get w n ≡ Some note → notified_in (Some note) ≡ None → AreNoted w → AreNoted (with_value w n (Waiting waker))
+  noted_rewoken_by w n (Waiting was) waker found waits noted = noted_rewoken w (with_value w n (Waiting waker)) n was waker found refl (written w n (Waiting was) (Waiting waker) found) noted
+  noted_rewoken_by w n (Notified b) waker found waits noted = absurd (cc)
 
   -- reserved places change nothing
   pub noted_same : (w v : Waits (Note W)) → v ≡ record w { spare = v.spare } → AreNoted w → AreNoted v

@@ -84,7 +84,6 @@ impl<W: Drop> CondvarCore<W> {
     }
 
     /// Notifies the first that waits, if any does. It takes no memory.
-    #[tactic(auto, using(crate::proofs::Changes::sound_of))]
     pub fn notify_one(&mut self)
         ensures is { self.new ≡ notified_one self.old }
         ensures sound { IsSound self.new }
@@ -93,7 +92,6 @@ impl<W: Drop> CondvarCore<W> {
     }
 
     /// Notifies each that waits, in their order. It takes no memory.
-    #[tactic(auto, using(crate::proofs::Changes::sound_of))]
     pub fn notify_all(&mut self)
         ensures is { self.new ≡ notified_all self.old }
         ensures sound { IsSound self.new }
@@ -115,6 +113,7 @@ impl<W: Drop> CondvarCore<W> {
         requires { MayPollWait self.old lock.old wait.old }
         ensures polls { PollsWait self.old lock.old wait.old waker result self.new lock.new wait.new }
         ensures holds { IfOk result (λ turn. HoldsLock turn lock.new) }
+        ensures sound { IsSound self.old → IsSound self.new }
     {
         match wait {
             CondWait::New => self.enter(lock, wait, waker),
@@ -136,7 +135,9 @@ impl<W: Drop> CondvarCore<W> {
     ) -> Result<Turn<W>, (W, NoMemory)>
         requires held { 1 ≤ held_of lock.old.permits }
         requires new { wait.old ≡ CondWait.New }
-        ensures { Enters self.old lock.old waker result self.new lock.new wait.new }
+        ensures enters { Enters self.old lock.old waker result self.new lock.new wait.new }
+        ensures holds { IfOk result (λ turn. HoldsLock turn lock.new) }
+        ensures sound { IsSound self.old → IsSound self.new }
     {
         if reserve(&mut self.waiters, &mut self.outbox).is_err() {
             return Err((waker, NoMemory));
@@ -148,7 +149,6 @@ impl<W: Drop> CondvarCore<W> {
     }
 
     // A poll of a wait that the condition variable knows.
-    #[tactic(auto, using(crate::proofs::Changes::in_use, crate::proofs::Changes::polls_waiting, crate::proofs::Changes::polls_asking, crate::proofs::Changes::left_after))]
     fn poll_listed<V>(
         &mut self,
         lock: &mut MutexCore<V, W>,
@@ -160,6 +160,7 @@ impl<W: Drop> CondvarCore<W> {
         requires known { Knows self.old number }
         ensures polls { PollsListed self.old lock.old number waker result self.new lock.new wait.new }
         ensures holds { IfOk result (λ turn. HoldsLock turn lock.new) }
+        ensures sound { IsSound self.old → IsSound self.new }
     {
         let Some(by_one) = self.waiters.get(number).notified() else {
             *self.waiters.get_mut(number) = Note::Waiting(waker);
@@ -176,7 +177,8 @@ impl<W: Drop> CondvarCore<W> {
     /// that on to the next that waits. It takes no memory, and looks at all that wait.
     pub fn end_wait<V>(&mut self, lock: &mut MutexCore<V, W>, wait: CondWait)
         requires { MayEndWait self.old lock.old wait }
-        ensures { EndsWait self.old lock.old wait self.new lock.new }
+        ensures ends { EndsWait self.old lock.old wait self.new lock.new }
+        ensures sound { IsSound self.old → IsSound self.new }
     {
         match wait {
             CondWait::New => lock.unlock(),
@@ -194,7 +196,8 @@ impl<W: Drop> CondvarCore<W> {
     // The end of a wait that the condition variable knows.
     fn end_listed(&mut self, number: usize)
         requires { Knows self.old number }
-        ensures { EndsListed self.old number self.new }
+        ensures ends { EndsListed self.old number self.new }
+        ensures sound { IsSound self.old → IsSound self.new }
     {
         let note = take_out(&mut self.waiters, number);
         if note.is_by_one() {
@@ -204,7 +207,8 @@ impl<W: Drop> CondvarCore<W> {
 
     /// How many wakers are to be called. It takes no memory.
     pub fn wakes_ready(&self) -> usize
-        ensures { result ≡ length self.now.wakes }
+        ensures is { result ≡ length self.now.wakes }
+        ensures sound { IsSound self.now }
     {
         self.outbox.len()
     }
@@ -213,6 +217,7 @@ impl<W: Drop> CondvarCore<W> {
     pub fn next_wake(&mut self) -> Option<W>
         ensures some { IfSome result (λ waker. self.old ≡ record self.new { wakes = waker ∷ self.new.wakes }) }
         ensures none { IfNone result ((self.old.wakes ≡ []) × (self.new ≡ self.old)) }
+        ensures sound { IsSound self.old → IsSound self.new }
     {
         self.outbox.pop()
     }
@@ -247,6 +252,7 @@ impl<W: Drop> CondvarCore<W> {
         ensures allowed { MayPollWait self.old lock.old wait.old → PollsWait self.old lock.old wait.old waker result self.new lock.new wait.new }
         ensures renewed { ¬ MayPollWait self.old lock.old wait.old → PollsWait self.old lock.old renewed_wait waker result self.new lock.new wait.new }
         ensures holds { IfOk result (λ turn. HoldsLock turn lock.new) }
+        ensures sound { IsSound self.old → IsSound self.new }
     {
         if !self.poll_wait_allowed(lock, wait) {
             wait.renew();
@@ -271,6 +277,7 @@ impl<W: Drop> CondvarCore<W> {
     pub fn end_wait_checked<V>(&mut self, lock: &mut MutexCore<V, W>, wait: CondWait)
         ensures allowed { MayEndWait self.old lock.old wait → EndsWait self.old lock.old wait self.new lock.new }
         ensures refused { ¬ MayEndWait self.old lock.old wait → (self.new ≡ self.old) × (lock.new ≡ lock.old) }
+        ensures sound { IsSound self.old → IsSound self.new }
     {
         if self.end_wait_allowed(lock, &wait) {
             self.end_wait(lock, wait);

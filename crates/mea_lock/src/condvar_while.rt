@@ -1,7 +1,7 @@
 ghost use Rattle.std.specs.Prelude.{◌≡◌, ◌≤◌, ◌+◌, ◌↔◌, length, IsTrue, IfOk, MatchResult};
 ghost use Rattle.std.specs.Fn.{CalledAtMut};
 ghost use Rattle.mea_sem_core.specs.Core.{held_of};
-ghost use Rattle.mea_lock.specs.Condvar.{Knows};
+ghost use Rattle.mea_lock.specs.Condvar.{IsSound, Knows};
 ghost use Rattle.mea_lock.specs.CondWaits.{MayPollWait, HoldsLock, IsLocking, MayEndWait, EndsWait};
 ghost use Rattle.mea_lock.specs.Notes.{condvar_of, AreNoted};
 ghost use Rattle.mea_lock.specs.Whiles.{renewed_while, Settles, Continues, Goes, KeepsAll, PollsWhile};
@@ -40,6 +40,7 @@ fn settle<V, W: Drop, F: FnMut(&mut V) -> bool>(
     ensures holds { HoldsLock result lock.new }
     ensures room { length waiters.new.order ≤ outbox.now.spare }
     ensures noted { AreNoted waiters.new }
+    ensures sound { IsSound (condvar_of waiters.new outbox.now) }
     ensures callable { F.IsAlwaysCallable wait.new.condition }
 {
     if !goes_on(&mut wait.condition, lock.value_mut()) {
@@ -69,6 +70,7 @@ fn go_on<V, W: Drop, F: FnMut(&mut V) -> bool>(
     ensures holds { HoldsLock result lock.new }
     ensures room { length waiters.new.order ≤ outbox.now.spare }
     ensures noted { AreNoted waiters.new }
+    ensures sound { IsSound (condvar_of waiters.new outbox.now) }
     ensures callable { F.IsAlwaysCallable wait.new.condition }
 {
     match turn {
@@ -95,6 +97,7 @@ impl<W: Drop> CondvarCore<W> {
         ensures polls { PollsWhile F.FnMut self.old lock.old wait.old waker result self.new lock.new wait.new }
         ensures holds { IfOk result (λ turn. HoldsLock turn lock.new) }
         ensures callable { F.IsAlwaysCallable wait.new.condition }
+        ensures sound { IsSound self.old → IsSound self.new }
     {
         match wait.wait {
             CondWait::New => self.while_new(lock, wait, waker),
@@ -116,6 +119,7 @@ impl<W: Drop> CondvarCore<W> {
         ensures polls { MatchResult result (λ turn. Settles F.FnMut self.old lock.old wait.old.condition waker turn self.new lock.new wait.new) (λ e. KeepsAll F.FnMut self.old lock.old wait.old waker self.new lock.new wait.new e) }
         ensures holds { IfOk result (λ turn. HoldsLock turn lock.new) }
         ensures callable { F.IsAlwaysCallable wait.new.condition }
+        ensures sound { IsSound self.old → IsSound self.new }
     {
         if reserve(&mut self.waiters, &mut self.outbox).is_err() {
             return Err((waker, NoMemory));
@@ -135,6 +139,7 @@ impl<W: Drop> CondvarCore<W> {
         ensures polls { MatchResult result (λ turn. Goes F.FnMut self.old lock.old wait.old.wait wait.old.condition waker turn self.new lock.new wait.new) (λ e. KeepsAll F.FnMut self.old lock.old wait.old waker self.new lock.new wait.new e) }
         ensures holds { IfOk result (λ turn. HoldsLock turn lock.new) }
         ensures callable { F.IsAlwaysCallable wait.new.condition }
+        ensures sound { IsSound self.old → IsSound self.new }
     {
         if reserve(&mut self.waiters, &mut self.outbox).is_err() {
             return Err((waker, NoMemory));
@@ -157,6 +162,7 @@ impl<W: Drop> CondvarCore<W> {
         ensures polls { MatchResult result (λ turn. Goes F.FnMut self.old lock.old (CondWait.Listed number) wait.old.condition waker turn self.new lock.new wait.new) (λ e. KeepsAll F.FnMut self.old lock.old wait.old waker self.new lock.new wait.new e) }
         ensures holds { IfOk result (λ turn. HoldsLock turn lock.new) }
         ensures callable { F.IsAlwaysCallable wait.new.condition }
+        ensures sound { IsSound self.old → IsSound self.new }
     {
         let Some(by_one) = self.waiters.get(number).notified() else {
             *self.waiters.get_mut(number) = Note::Waiting(waker);
@@ -176,7 +182,8 @@ impl<W: Drop> CondvarCore<W> {
     /// at all that wait.
     pub fn end_while<V, F: Drop>(&mut self, lock: &mut MutexCore<V, W>, wait: WaitWhile<F>)
         requires { MayEndWait self.old lock.old wait.wait }
-        ensures { EndsWait self.old lock.old wait.wait self.new lock.new }
+        ensures ends { EndsWait self.old lock.old wait.wait self.new lock.new }
+        ensures sound { IsSound self.old → IsSound self.new }
     {
         self.end_wait(lock, wait.wait);
     }
@@ -201,6 +208,7 @@ impl<W: Drop> CondvarCore<W> {
         ensures renewed { ¬ MayPollWait self.old lock.old wait.old.wait → PollsWhile F.FnMut self.old lock.old (renewed_while wait.old) waker result self.new lock.new wait.new }
         ensures holds { IfOk result (λ turn. HoldsLock turn lock.new) }
         ensures callable { F.IsAlwaysCallable wait.new.condition }
+        ensures sound { IsSound self.old → IsSound self.new }
     {
         if !self.poll_while_allowed(lock, wait) {
             wait.renew();
@@ -220,6 +228,7 @@ impl<W: Drop> CondvarCore<W> {
     pub fn end_while_checked<V, F: Drop>(&mut self, lock: &mut MutexCore<V, W>, wait: WaitWhile<F>)
         ensures allowed { MayEndWait self.old lock.old wait.wait → EndsWait self.old lock.old wait.wait self.new lock.new }
         ensures refused { ¬ MayEndWait self.old lock.old wait.wait → (self.new ≡ self.old) × (lock.new ≡ lock.old) }
+        ensures sound { IsSound self.old → IsSound self.new }
     {
         self.end_wait_checked(lock, wait.wait);
     }

@@ -1,6 +1,6 @@
 ghost use Rattle.std.specs.Prelude.{◌≡◌, ◌≤◌, ◌+◌, ◌-◌, length, OnOk, Some, None};
 ghost use Rattle.mea_base.specs.WaitList.{get, IsInUse, Updates, without};
-ghost use Rattle.mea_lock.specs.Condvar.{Lists, first_notified, notified_all};
+ghost use Rattle.mea_lock.specs.Condvar.{IsSound, Lists, first_notified, notified_all};
 ghost use Rattle.mea_lock.specs.Notes.{condvar_of, notified_in, is_by_one, AreNoted};
 
 use mea_base::{NoMemory, Outbox, WaitList};
@@ -63,6 +63,7 @@ pub(crate) fn push_wait<W>(waiters: &mut WaitList<Note<W>>, outbox: &Outbox<W>, 
     requires noted { AreNoted waiters.old }
     ensures lists { Lists (condvar_of waiters.old outbox.now) (condvar_of waiters.new outbox.now) result waker }
     ensures noted { AreNoted waiters.new }
+    ensures sound { IsSound (condvar_of waiters.new outbox.now) }
     ensures room { length waiters.new.order ≤ outbox.now.spare }
 {
     match waiters.push_tail(Note::Waiting(waker)) {
@@ -72,7 +73,6 @@ pub(crate) fn push_wait<W>(waiters: &mut WaitList<Note<W>>, outbox: &Outbox<W>, 
 }
 
 // Notifies the first that waits, if any does.
-#[tactic(auto, using(crate::proofs::Changes::first_notified_is, crate::proofs::Kept::first_noted))]
 pub(crate) fn notify_first<W: Drop>(
     waiters: &mut WaitList<Note<W>>,
     outbox: &mut Outbox<W>,
@@ -82,6 +82,7 @@ pub(crate) fn notify_first<W: Drop>(
     requires noted { AreNoted waiters.old }
     ensures notified { condvar_of waiters.new outbox.new ≡ first_notified by_one (condvar_of waiters.old outbox.old).waiting (condvar_of waiters.old outbox.old) }
     ensures noted { AreNoted waiters.new }
+    ensures sound { IsSound (condvar_of waiters.new outbox.new) }
     ensures room { length waiters.new.order ≤ outbox.new.spare }
     ensures shorter { length waiters.new.order ≡ length waiters.old.order - 1 }
 {
@@ -101,6 +102,7 @@ pub(crate) fn notify_each<W: Drop>(waiters: &mut WaitList<Note<W>>, outbox: &mut
     requires noted { AreNoted waiters.old }
     ensures notified { condvar_of waiters.new outbox.new ≡ notified_all (condvar_of waiters.old outbox.old) }
     ensures noted { AreNoted waiters.new }
+    ensures sound { IsSound (condvar_of waiters.new outbox.new) }
     ensures room { length waiters.new.order ≤ outbox.new.spare }
 {
     while let Some(_) = waiters.first() {

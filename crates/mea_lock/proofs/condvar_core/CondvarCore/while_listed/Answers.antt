@@ -2,7 +2,8 @@ use Rattle.std.proofs.Common.{rules, refl, ◌∙◌, sym}
 use Rattle.mea_base.specs.declared.turn.Turn.TheVariants.{Pending}
 use Rattle.mea_lock.specs.Notes.{condvar_of}
 use Rattle.mea_lock.specs.declared.cond_wait.CondWait.TheVariants.{Listed}
-use Rattle.mea_lock.proofs.Changes.{in_use, polls_waiting, polls_asking, left_after}
+use Rattle.mea_lock.proofs.Changes.{in_use, polls_waiting, polls_asking, left_after, sound_of}
+use Rattle.mea_lock.proofs.Kept.{noted_rewoken_by}
 use Rattle.mea_lock.proofs.condvar_core.CondvarCore.while_listed.Goals as goal
 
 pub get-requires : goal.get-requires
@@ -30,3 +31,6 @@ returns-clause-polls g c =
       polls = polls_asking c.self.inside.waiters c.self.inside.outbox c.args.self.now c.args.lock.now c.args.number c.in-Some.by_one c.args.waker c.get.result.now _ _ _ _ c.self.view_is c.get.ensures (search rules) (rw (← c.self.view_is) left, c.in_ok-turn.ensures.value, (c.poll.new.wait, search rules, c.after_lock-wait.ensures));
       continues = c.go_on.ensures.continues;
     }
+
+pub returns-in_default-clause-sound : goal.returns-in_default-clause-sound
+returns-in_default-clause-sound g c = λ _. sound_of _ c.self.inside.outbox (noted_rewoken_by c.self.inside.waiters c.args.number c.get.result.now c.args.waker c.get.ensures (sym c.notified.ensures ∙ c.in_default.is) c.self.invariant.noted)
