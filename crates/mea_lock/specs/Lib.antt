@@ -1,5 +1,6 @@
 pub mod CondWaits
 pub mod Condvar
+pub mod FirstItem
 pub mod Lock
 pub mod LockLends
 pub mod Notes

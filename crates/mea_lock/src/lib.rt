@@ -11,8 +11,12 @@ mod lock_wait;
 mod mutex_core;
 mod note;
 mod part;
+#[cfg(test)]
+mod part_tests;
 mod rw_core;
 mod rw_wait;
+#[cfg(test)]
+mod tests;
 mod then;
 mod wait_while;
 
