@@ -11,8 +11,6 @@ mod lock_wait;
 mod mutex_core;
 mod note;
 mod part;
-#[cfg(test)]
-mod part_tests;
 mod rw_core;
 mod rw_wait;
 #[cfg(test)]
