@@ -1,5 +1,5 @@
 -- a write is alone
-use Rattle.std.proofs.Common.{◌≡◌, ◌≤◌, ◌<◌, ◌+◌, ℕ, Bool, true, false, cond, ◌||◌, refl, arith}
+use Rattle.std.proofs.Common.{◌≡◌, ◌+◌, ℕ, Bool, true, false, cond, ◌||◌, refl, arith}
 use Rattle.mea_base.specs.declared.turn.Turn.{Turn}
 use Rattle.mea_base.specs.declared.turn.Turn.TheVariants.{Ready, Pending}
 use Rattle.mea_sem_core.specs.Acquire.{demand_of}
@@ -8,7 +8,7 @@ use Rattle.mea_sem_core.specs.Core.{Core, held_of}
 use Rattle.mea_sem_core.specs.declared.acquire.Acquire.{Acquire}
 use Rattle.mea_sem_core.specs.declared.acquire.Acquire.TheVariants.{New, Queued, Done}
 use Rattle.mea_lock.specs.Lock.{IsUnready}
-use Rattle.mea_lock.specs.RwLock.{RwLock, is_ready, readers_of, IsAlone, IsSound, LetsIn}
+use Rattle.mea_lock.specs.RwLock.{RwLock, is_ready, IsAlone, IsSound, LetsIn}
 
 module _ {W : Type 0} where
   -- n more are held, of all that live

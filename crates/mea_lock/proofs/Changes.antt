@@ -1,5 +1,5 @@
 -- what each change of a list of notes does to those that wait and those that were notified
-use Rattle.std.proofs.Common.{◌≡◌, ◌≢◌, ℕ, List, [], ◌∷◌, ◌++◌, Bool, true, false, Option, Some, None, is_some, IsSome, Ok, Result, map, get_or, refl, sym, ap, ap₂, ◌∙◌, inl, inr, append_assoc}
+use Rattle.std.proofs.Common.{◌≡◌, ◌≢◌, ℕ, List, [], ◌∷◌, ◌++◌, Bool, false, Option, Some, None, IsSome, Ok, Result, map, refl, sym, ap, ap₂, ◌∙◌, inl, inr, append_assoc}
 use Rattle.std.proofs.lemmas.Bool.{cases_eq}
 use Rattle.std.proofs.lemmas.List.{append-nil}
 use Rattle.std.specs.FinMap as fin
@@ -8,7 +8,7 @@ use Rattle.mea_base.specs.declared.turn.Turn.{Turn}
 use Rattle.mea_base.specs.declared.turn.Turn.TheVariants.{Pending}
 use Rattle.mea_base.specs.Outbox.{Wakes}
 use Rattle.mea_base.specs.WaitList.{Waits, get, with_value, without, IsInUse, IsAbsent, Updates}
-use Rattle.mea_lock.specs.Condvar.{Condvar, IsSound, Knows, Lists, AreApart, waker_under, with_waker, without_wait, first_notified, notifying, notified_all, passed_on}
+use Rattle.mea_lock.specs.Condvar.{Condvar, IsSound, Knows, Lists, waker_under, with_waker, without_wait, first_notified, notifying, notified_all, passed_on}
 use Rattle.mea_lock.specs.CondWaits.{AsksLock, PollsListed, EndsListed}
 use Rattle.mea_lock.specs.Lock.{Lock}
 use Rattle.mea_lock.specs.Notes.{waker_in, notified_in, is_by_one, with_wait, waits_in, notified_of, condvar_of, AreNoted}
@@ -150,18 +150,18 @@ module _ {W : Type 0} where
       ∙ (λ i. record { waiting = sym line i; notified = notified_of w.slots; wakes = append-nil o.wakers i })
 
   -- ---- ending
-  pub ends_listed : (w v : Waits (Note W)) (o p : Wakes W) (n : ℕ) (note : Note W) (s' : Condvar W) → get w n ≡ Some note → Updates w v n None → v.order ≡ without n w.order → p.wakers ≡ o.wakers → AreNoted w
-      → s' ≡ passed_on (is_by_one note) (condvar_of v p) → EndsListed (condvar_of w o) n s'
-  ends_listed w v o p n (Waiting x) s' found updates order sent noted after = (
-    λ _. after ∙ left_waiting w v o p n x found updates order sent,
+  pub ends_listed : (w v : Waits (Note W)) (o p : Wakes W) (n : ℕ) (note : Note W) (by_one : Bool) (s' : Condvar W) → get w n ≡ Some note → Updates w v n None → v.order ≡ without n w.order → p.wakers ≡ o.wakers → AreNoted w
+      → by_one ≡ is_by_one note → s' ≡ passed_on by_one (condvar_of v p) → EndsListed (condvar_of w o) n s'
+  ends_listed w v o p n (Waiting x) by_one s' found updates order sent noted is after = (
+    λ _. after ∙ ap (λ b. passed_on b (condvar_of v p)) is ∙ left_waiting w v o p n x found updates order sent,
     λ b told. absurd (let none = notified_at w n (Some (Waiting x)) found in cc),
   )
-  ends_listed w v o p n (Notified by_one) s' found updates order sent noted after = (
-    λ some. absurd (not_some _ (idle_at w n (Some (Notified by_one)) found refl) some),
+  ends_listed w v o p n (Notified alone) by_one s' found updates order sent noted is after = (
+    λ some. absurd (not_some _ (idle_at w n (Some (Notified alone)) found refl) some),
     λ b told.
-        let some = notified_at w n (Some (Notified by_one)) found in
+        let some = notified_at w n (Some (Notified alone)) found in
         let same : by_one ≡ b = cc in
-        after ∙ ap₂ passed_on same (left_notified w v o p n by_one found updates order sent noted),
+        after ∙ ap₂ passed_on same (left_notified w v o p n alone found updates order sent noted),
   )
 
   -- what is left where one that was notified has left, for its poll

@@ -1,5 +1,5 @@
 -- a poll that is ready takes the lock
-use Rattle.std.proofs.Common.{◌≡◌, refl, arith}
+use Rattle.std.proofs.Common.{◌≡◌, arith}
 use Rattle.mea_base.specs.declared.turn.Turn.{Turn}
 use Rattle.mea_base.specs.declared.turn.Turn.TheVariants.{Ready, Pending}
 use Rattle.mea_sem_core.specs.Acquire.{demand_of}

@@ -1,5 +1,5 @@
 -- what polling and ending a wait of a condition variable do, and what they ask for
-use Rattle.std.specs.Prelude.{◌≡◌, ◌≤◌, ◌+◌, ◌⊎◌, ℕ, Some, Bool, true, false, Result, Ok, Err, MatchResult, IsSome}
+use Rattle.std.specs.Prelude.{◌≡◌, ◌≤◌, ℕ, Some, Bool, false, Result, Ok, MatchResult, IsSome}
 use Rattle.std.specs.FinMap as map
 use Rattle.mea_base.specs.declared.no_memory.NoMemory.{NoMemory}
 use Rattle.mea_base.specs.declared.turn.Turn.{Turn}

@@ -1,5 +1,5 @@
 -- what a contract sees of a reader-writer lock
-use Rattle.std.specs.Prelude.{◌≡◌, ◌≤◌, ◌<◌, ◌-◌, ◌||◌, ◌⊎◌, if◌then◌else◌, ℕ, Bool, true, false, Result, MatchResult, refl}
+use Rattle.std.specs.Prelude.{◌≡◌, ◌≤◌, ◌<◌, ◌||◌, ◌⊎◌, if◌then◌else◌, ℕ, Bool, true, false, Result, MatchResult, refl}
 use Rattle.std.specs.Coded.{Coded, code_by, coded×, coded_ℕ, coded_bool}
 use Rattle.mea_base.specs.declared.no_memory.NoMemory.{NoMemory}
 use Rattle.mea_base.specs.declared.turn.Turn.{Turn}

@@ -7,7 +7,7 @@ ghost use Rattle.mea_lock.specs.CondWaits.{renewed_wait, after_lock, MayPollWait
 use crate::cond_wait::CondWait;
 use crate::lock_wait::LockWait;
 use crate::mutex_core::MutexCore;
-use crate::note::{Note, notify_each, notify_first, push_wait, reserve, take_out};
+use crate::note::{Note, notify_each, notify_first, pass_on, push_wait, reserve, take_out};
 use mea_base::{NoMemory, Outbox, Turn, WaitList};
 use std::alloc::Global;
 use std::marker::Model;
@@ -200,9 +200,7 @@ impl<W: Drop> CondvarCore<W> {
         ensures sound { IsSound self.old → IsSound self.new }
     {
         let note = take_out(&mut self.waiters, number);
-        if note.is_by_one() {
-            notify_first(&mut self.waiters, &mut self.outbox, true);
-        }
+        pass_on(&mut self.waiters, &mut self.outbox, note.is_by_one());
     }
 
     /// How many wakers are to be called. It takes no memory.

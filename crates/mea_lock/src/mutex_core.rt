@@ -141,8 +141,7 @@ impl<V, W: Drop> MutexCore<V, W> {
         requires { self.permits.free ≡ 1 }
         ensures { result ≡ self.value }
     {
-        let MutexCore { permits: _, value } = self;
-        value
+        self.into_inner_checked()
     }
 
     /// How many wakers are to be called. It takes no memory.
@@ -221,7 +220,7 @@ impl<V, W: Drop> MutexCore<V, W> {
     pub fn into_inner_checked(self) -> V
         ensures { result ≡ self.value }
     {
-        let MutexCore { permits: _, value } = self;
+        let MutexCore { value, .. } = self;
         value
     }
 }

@@ -1,6 +1,6 @@
 ghost use Rattle.std.specs.Prelude.{◌≡◌, ◌≤◌, ◌+◌, ◌-◌, length, OnOk, Some, None};
 ghost use Rattle.mea_base.specs.WaitList.{get, IsInUse, Updates, without};
-ghost use Rattle.mea_lock.specs.Condvar.{IsSound, Lists, first_notified, notified_all};
+ghost use Rattle.mea_lock.specs.Condvar.{IsSound, Lists, first_notified, notified_all, passed_on};
 ghost use Rattle.mea_lock.specs.Notes.{condvar_of, notified_in, is_by_one, AreNoted};
 
 use mea_base::{NoMemory, Outbox, WaitList};
@@ -92,6 +92,23 @@ pub(crate) fn notify_first<W: Drop>(
     let note = Note::Notified { by_one };
     if let Note::Waiting(waker) = mem::replace(waiters.get_mut(number), note) {
         outbox.push(waker);
+    }
+}
+
+// Passes a notification that was for one alone on to the next that waits.
+pub(crate) fn pass_on<W: Drop>(
+    waiters: &mut WaitList<Note<W>>,
+    outbox: &mut Outbox<W>,
+    by_one: bool,
+)
+    requires room { length waiters.old.order ≤ outbox.old.spare }
+    requires noted { AreNoted waiters.old }
+    ensures passed { condvar_of waiters.new outbox.new ≡ passed_on by_one (condvar_of waiters.old outbox.old) }
+    ensures noted { AreNoted waiters.new }
+    ensures room { length waiters.new.order ≤ outbox.new.spare }
+{
+    if by_one {
+        notify_first(waiters, outbox, true);
     }
 }
 

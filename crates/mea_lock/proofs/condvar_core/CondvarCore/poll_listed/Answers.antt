@@ -1,5 +1,4 @@
 use Rattle.std.proofs.Common.{refl, rules, sym, ◌∙◌}
-use Rattle.mea_lock.specs.Notes.{condvar_of}
 use Rattle.mea_lock.proofs.Changes.{in_use, polls_waiting, polls_asking, left_after, sound_of}
 use Rattle.mea_lock.proofs.Kept.{noted_rewoken_by}
 use Rattle.mea_lock.proofs.condvar_core.CondvarCore.poll_listed.Goals as goal
