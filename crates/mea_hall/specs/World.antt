@@ -6,6 +6,7 @@ use Rattle.mea_base.specs.declared.stop.Stop.{Stop}
 use Rattle.mea_sem_model.specs.Hall.{Hall, empty_hall, hall_code}
 use Rattle.mea_sem_model.specs.Cause as cause
 use Rattle.mea_sem_model.specs.Step as sem
+use Rattle.mea_sem.specs.Play as plays
 use Rattle.mea_hall.specs.declared.event.Event.{Event}
 use Rattle.mea_hall.specs.declared.event.Event.TheVariants.{Sem}
 
@@ -46,3 +47,7 @@ pub record Plays (old : Play) (event : Event) (answer : Answer) (new : Play) : T
   pub world : new.world ≡ (step old.world old.events event).world
   pub woken : new.wakes ≡ old.wakes ++ (step old.world old.events event).reply.1
   pub counted : new.events ≡ old.events + 1
+
+-- the events that take no memory
+abbrev pub TakesNoMemory : Event → Type 0
+TakesNoMemory (Sem e) = plays.TakesNoMemory e

@@ -1,6 +1,6 @@
-ghost use Rattle.std.specs.Prelude.{◌≡◌, ◌+◌, ◌-◌, ◌^◌, ◌<◌, ◌≤◌, ◌∷◌, [], ◌++◌, ◌⊎◌, ℕ, length, None, Some, OnOk, OnErr, IfOk, IfErr, IfSome, IfNone};
+ghost use Rattle.std.specs.Prelude.{◌≡◌, ◌≢◌, ◌+◌, ◌-◌, ◌^◌, ◌<◌, ◌≤◌, ◌∷◌, [], ◌++◌, ◌⊎◌, ℕ, length, None, Some, OnOk, OnErr, IfOk, IfErr, IfSome, IfNone};
 ghost use Rattle.mea_hall.specs.declared.event.Event.{Event as Line};
-ghost use Rattle.mea_hall.specs.World.{empty_world, Play, Plays, cause_of, step};
+ghost use Rattle.mea_hall.specs.World.{empty_world, Play, Plays, TakesNoMemory, cause_of, step};
 
 use crate::event::Event;
 use mea_base::{Answer, Stop};
@@ -54,6 +54,7 @@ impl Hall {
         ensures played { IfOk result (λ answer. Plays self.old event.now answer self.new) }
         ensures allowed { OnOk result (cause_of self.old.world event.now ≡ None) }
         ensures refused { IfErr result (λ stop. (cause_of self.old.world event.now ≡ Some stop) ⊎ ((cause_of self.old.world event.now ≡ None) × (stop ≡ Stop.NoMemory))) }
+        ensures no_memory { TakesNoMemory event.now → result ≢ Err Stop.NoMemory }
         ensures err { OnErr result (self.new ≡ self.old) }
     {
         let answer = match event {
