@@ -1,6 +1,6 @@
 ghost use Rattle.std.specs.Prelude.{◌≡◌, ◌≢◌, ◌↔◌, ◌⊎◌, ℕ, List, Some, IsTrue, map, string_bytes};
 ghost use Rattle.mea_run.specs.Bytes.{Rose};
-ghost use Rattle.mea_run.specs.Script.{status_of};
+ghost use Rattle.mea_run.specs.Script.{status_of, IsBalanced, LosesNoWake};
 ghost use Rattle.mea_run.specs.Runs.{IsPlay, IsFault, IsAnswered, IsTold};
 
 use crate::script::answer;
@@ -9,6 +9,7 @@ use crate::source::Source;
 use crate::status::Status;
 use crate::transfer::{Fault, read_script, write_text};
 use mea_base::Stop;
+use mea_hall::{no_wake_is_lost, permits_balance};
 use std::alloc::Global;
 
 /// All that the program does, with the words of its command line after its name. With `play` it reads a
@@ -36,7 +37,13 @@ pub fn run<S: Source, K: Sink>(
     ensures whole { (script before : List ℕ) → IsPlay (map string_bytes words.now) → S.left source.old ≡ Some script → K.taken sink.old ≡ Some before
         → ¬ Rose (S.faults source.old) (S.faults source.new) → ¬ Rose (K.faults sink.old) (K.faults sink.new)
         → (result ≡ Status.NoMemory) ⊎ IsAnswered script result before (K.taken sink.new) }
+
+    // At every point of the script that is played, whose replies its text tells.
+    ensures balance { (script : List ℕ) → IsPlay (map string_bytes words.now) → S.left source.old ≡ Some script → IsBalanced script }
+    ensures woken { (script : List ℕ) → IsPlay (map string_bytes words.now) → S.left source.old ≡ Some script → LosesNoWake script }
 {
+    permits_balance();
+    no_wake_is_lost();
     if !is_play(words) {
         return Status::Usage;
     }
