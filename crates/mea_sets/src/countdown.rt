@@ -2,12 +2,10 @@ ghost use Rattle.std.specs.Prelude.{◌≡◌, ◌+◌, ◌-◌, ◌<◌, ◌≤
 ghost use Rattle.mea_sets.specs.WaitSet.{is_registered, has_given, length_with};
 ghost use Rattle.mea_sets.specs.Countdown.{Counting, count_from, decreasing, PollsCount};
 
-use mea_base::NoMemory;
-use mea_base::Outbox;
-use mea_base::Overflow;
 use crate::place::Place;
 use crate::wait_set::WaitSet;
 use futures::task::Poll;
+use mea_base::{NoMemory, Outbox, Overflow};
 use std::alloc::Global;
 use std::marker::Model;
 

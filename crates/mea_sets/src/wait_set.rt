@@ -1,9 +1,8 @@
 ghost use Rattle.std.specs.Prelude.{◌≡◌, ◌+◌, ◌-◌, ◌<◌, ◌≤◌, ◌^◌, ◌↔◌, [], ◌++◌, length, true, IsTrue, IsOk, IsSome, IfErr, IfSome, OnOk};
 ghost use Rattle.mea_sets.specs.WaitSet.{Registered, is_registered, has_given, length_with, with_waker, slot_after, drained};
 
-use mea_base::NoMemory;
-use mea_base::Outbox;
 use crate::place::Place;
+use mea_base::{NoMemory, Outbox};
 use std::alloc::Global;
 use std::collections::VecDeque;
 use std::marker::Model;
