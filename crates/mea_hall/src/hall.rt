@@ -68,6 +68,7 @@ impl Hall {
     /// before it is played. It takes no memory.
     pub fn registered(&self) -> usize
         ensures most { (i : ℕ) (event : Line) → cause_of self.now.world event ≡ None → length (step self.now.world i event).reply.1 ≤ result }
+        ensures few { result ≤ self.now.events }
     {
         self.semaphores.registered()
     }

@@ -37,9 +37,9 @@ module _ (st st' : Store) (w sp next i s : ℕ) (event : SemEvent) (e e' : Semap
   pub settled : (w' sp' a b p r : ℕ) → get st.semaphores s ≡ Some e → ((q : ℕ) → get st'.semaphores q ≡ cond (s == q) (Some e') (get st.semaphores q))
       → hall_of st' (i + 1) ≡ (step (hall_of st next) i event).hall → IsLinked st' (i + 1)
       → Weighs (hall_of st next) (step (hall_of st next) i event).hall s a b p r → Settles e e' a b p r
-      → w' + wakers_in e.core.queue ≡ w + wakers_in e'.core.queue → w' ≤ sp'
+      → w' + wakers_in e.core.queue ≡ w + wakers_in e'.core.queue → w' ≤ sp' → w' ≤ i + 1
       → Plays st st' next i event w' sp'
-  settled w' sp' a b p r there semaphores same linked weighs settles registered room = record {
+  settled w' sp' a b p r there semaphores same linked weighs settles registered room few = record {
     hall = same;
     kept = record {
       valid = subst IsValid (sym same) (keeps_valid (hall_of st next) i event k.valid (below_later (hall_of st next) next i less k.below) fits allowed);
@@ -49,6 +49,7 @@ module _ (st st' : Store) (w sp next i s : ℕ) (event : SemEvent) (e e' : Semap
       each = λ q d is. subst (λ h. IsKeptEntry h (i + 1) q d) (sym same) (by_test q d is (s == q) refl);
       counted = count_now;
       room = room;
+      few = few;
       low = omega arith;
     };
   }
@@ -100,7 +101,7 @@ module _ (st st' : Store) (w sp next i s : ℕ) (event : SemEvent) (e e' : Semap
   -- the same, where the outcome of the event is known under another name
   pub settled_as : (h' : Hall) → (step (hall_of st next) i event).hall ≡ h' → (w' sp' a b p r : ℕ) → get st.semaphores s ≡ Some e → ((q : ℕ) → get st'.semaphores q ≡ cond (s == q) (Some e') (get st.semaphores q))
       → hall_of st' (i + 1) ≡ h' → IsLinked st' (i + 1) → Weighs (hall_of st next) h' s a b p r → Settles e e' a b p r
-      → w' + wakers_in e.core.queue ≡ w + wakers_in e'.core.queue → w' ≤ sp'
+      → w' + wakers_in e.core.queue ≡ w + wakers_in e'.core.queue → w' ≤ sp' → w' ≤ i + 1
       → Plays st st' next i event w' sp'
-  settled_as h' is w' sp' a b p r there semaphores same linked weighs settles registered room =
-      settled w' sp' a b p r there semaphores (same ∙ sym is) linked (subst (λ g. Weighs (hall_of st next) g s a b p r) (sym is) weighs) settles registered room
+  settled_as h' is w' sp' a b p r there semaphores same linked weighs settles registered room few =
+      settled w' sp' a b p r there semaphores (same ∙ sym is) linked (subst (λ g. Weighs (hall_of st next) g s a b p r) (sym is) weighs) settles registered room few

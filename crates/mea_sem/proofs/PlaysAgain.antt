@@ -162,7 +162,7 @@ module _ (st st' : Store) (w sp next i s f v d m l : ℕ) (x : FutureEntry) (e :
           released = omega arith;
           forgotten = omega arith;
         })
-        (ap (λ t. w + t) (sym (wakers_same e.core.queue))) k.room
+        (ap (λ t. w + t) (sym (wakers_same e.core.queue))) k.room (let f = k.few in omega (arith, f))
       where
         demand_is : demand_of x.acquire ≡ d
         demand_is = ap demand_of acquire

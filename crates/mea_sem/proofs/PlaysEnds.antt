@@ -62,7 +62,7 @@ module _ (st st' : Store) (w w' sp' sp next i s n : ℕ) (e : SemaphoreEntry) (k
       record {
         plays = plays_poured st st' w sp next i s n (events.Release s n) e e1 k less low there semaphores h1 w w' sp' 0 0 0 0 tt allowed refl hall linked
             (weighs_semaphore h s s (record (semaphore_at h s) { released = (semaphore_at h s).released + n }))
-            (let o = old.account in omega (arith, o)) (omega (arith, held)) refl (omega arith) (omega arith) (omega arith) refl woken room;
+            (let o = old.account in omega (arith, o)) (omega (arith, held)) refl (omega arith) (omega arith) (omega arith) refl woken room (let f = k.few in omega (arith, f));
         wakes = wakes_poured st st' w sp next i s n (events.Release s n) e e1 k less low there semaphores h1 hall linked;
       }
 
@@ -89,7 +89,7 @@ module _ (st st' : Store) (w w' sp' sp next i s n : ℕ) (e : SemaphoreEntry) (k
       record {
         plays = plays_poured st st' w sp next i s x.size (events.End p) e e1 k less low there semaphores h1 w w' sp' x.size 0 (one x.plain) 0 tt allowed (ap (λ o. o.hall) outcome) hall linked
             (subst (λ q. Weighs h h1 q x.size 0 (one x.plain) 0) mine (weighs_lost_permit h p x is))
-            (let o = old.account in let c = counts.0 in omega (arith, o, c)) (omega (arith, held)) (let c = counts.1 in omega (arith, c)) (omega arith) (omega arith) (omega arith) refl woken room;
+            (let o = old.account in let c = counts.0 in omega (arith, o, c)) (omega (arith, held)) (let c = counts.1 in omega (arith, c)) (omega arith) (omega arith) (omega arith) refl woken room (let f = k.few in omega (arith, f));
         wakes = ap (λ o. o.wakes) outcome ∙ wakes_poured st st' w sp next i s x.size (events.End p) e e1 k less low there semaphores h1 hall linked;
       }
 
@@ -122,7 +122,7 @@ module _ (st st' : Store) (w w' sp' sp next i s n : ℕ) (e : SemaphoreEntry) (k
               (linked_gone st st' next i s f x e fewer_entry k.linked less c)
               (lost New is)
               (record { account = old.account; held = refl; plain = omega (arith, counts); few = omega arith; quiet = old.quiet; released = omega arith; forgotten = omega arith })
-              refl k.room;
+              refl k.room (let f = k.few in omega (arith, f));
           wakes = ap (λ o. o.wakes) outcome;
         }
 
@@ -148,7 +148,7 @@ module _ (st st' : Store) (w w' sp' sp next i s n : ℕ) (e : SemaphoreEntry) (k
         let old = k.each s e there in
         record {
           plays = plays_poured st st' w sp next i s d (events.End f) e e1 k less low there semaphores h1 w w' sp' 0 0 (one x.plain) 0 tt allowed (ap (λ o. o.hall) outcome) hall linked (lost Granted is)
-              (let o = old.account in omega (arith, o, within)) (omega (arith, held)) (omega (arith, counts)) (omega arith) (omega arith) (omega arith) refl woken room;
+              (let o = old.account in omega (arith, o, within)) (omega (arith, held)) (omega (arith, counts)) (omega arith) (omega arith) (omega arith) refl woken room (let f = k.few in omega (arith, f));
           wakes = ap (λ o. o.wakes) outcome ∙ wakes_poured st st' w sp next i s d (events.End f) e e1 k less low there semaphores h1 hall linked;
         }
       where
@@ -189,6 +189,6 @@ module _ (st st' : Store) (w w' sp' sp next i s n : ℕ) (e : SemaphoreEntry) (k
         record {
           plays = plays_poured st st' w sp next i s (d - l) (events.End f) e e1 k less low there semaphores h1 (w' + length (cores.wakers_of (granted_in (without_acquire e.core.queue m) (d - l)))) w' sp' 0 0 (one x.plain) 0 tt allowed (ap (λ o. o.hall) outcome) hall linked
               (let z = lost (Waiting v.0) is in record { held = λ q. z.held q; plain = λ q. z.plain q })
-              (let o = old.account in let t = debts-without e.core.queue m in omega (arith, o, within, t)) (omega (arith, held)) (omega (arith, counts)) (omega arith) (omega arith) (omega arith) (omega (arith, woken, left)) refl room;
+              (let o = old.account in let t = debts-without e.core.queue m in omega (arith, o, within, t)) (omega (arith, held)) (omega (arith, counts)) (omega arith) (omega arith) (omega arith) (omega (arith, woken, left)) refl room (let f = k.few in omega (arith, f, woken));
           wakes = ap (λ o. o.wakes) outcome ∙ wakes_poured st st' w sp next i s (d - l) (events.End f) e e1 k less low there semaphores h1 hall linked;
         }

@@ -83,7 +83,7 @@ module _ (st st' : Store) (w sp next i s n : ℕ) (e : SemaphoreEntry) (k : IsKe
       (linked_after st st' next (i + 1) s i e e' None (Some x) k.linked c)
       (weighs_new_future h i y absent)
       (record { account = old.account; held = refl; plain = omega arith; few = at_most plain; quiet = old.quiet; released = omega arith; forgotten = omega arith })
-      refl k.room
+      refl k.room (let f = k.few in omega (arith, f))
     where
       at_most : (t : Bool) → one t ≤ 1
       at_most true = omega arith
@@ -232,4 +232,4 @@ module _ (st st' : Store) (w sp sp' next i s f v d m : ℕ) (x : FutureEntry) (e
           released = omega arith;
           forgotten = omega arith;
         })
-        (let t = wakers_pushed e.core.queue (d - e.core.free) in omega (arith, t)) room
+        (let t = wakers_pushed e.core.queue (d - e.core.free) in omega (arith, t)) room (let f = k.few in omega (arith, f))

@@ -174,6 +174,7 @@ module _ (st : Store) (w sp next i : ℕ) (k : IsKept st w sp next) (less : next
         each = λ q e is. subst (λ h. IsKeptEntry h (i + 1) q e) (sym hall_now) (each_now held q e is (i == q) refl);
         counted = counted_now;
         room = k.room;
+        few = (let f = k.few in omega (arith, f));
         low = omega arith;
       };
     }

@@ -108,7 +108,7 @@ module _ (st st' : Store) (w sp next i s n : ℕ) (e : SemaphoreEntry) (k : IsKe
         released = omega arith;
         forgotten = omega arith;
       })
-      refl k.room
+      refl k.room (let f = k.few in omega (arith, f))
     where
       at_most : (t : Bool) → one t ≤ 1
       at_most true = omega arith
@@ -146,7 +146,7 @@ module _ (st st' : Store) (w sp next i s n : ℕ) (e : SemaphoreEntry) (k : IsKe
         released = omega arith;
         forgotten = omega arith;
       })
-      refl k.room
+      refl k.room (let f = k.few in omega (arith, f))
 
   -- ---- a permit is added to another
   abbrev fewer_entry : Bool → SemaphoreEntry
@@ -183,7 +183,7 @@ module _ (st st' : Store) (w sp next i s n : ℕ) (e : SemaphoreEntry) (k : IsKe
         released = omega arith;
         forgotten = omega arith;
       })
-      refl k.room
+      refl k.room (let f = k.few in omega (arith, f))
     where
       get_semaphore : get st.semaphores s ≡ Some e → get (hall_of st next).semaphores s ≡ Some (semaphore_of st.futures next s e)
       get_semaphore is = get-seen (semaphore_of st.futures next) st.semaphores s ∙ ap (option_map (semaphore_of st.futures next s)) is
@@ -222,7 +222,7 @@ module _ (st st' : Store) (w sp next i s n : ℕ) (e : SemaphoreEntry) (k : IsKe
         released = omega arith;
         forgotten = omega arith;
       })
-      refl k.room
+      refl k.room (let f = k.few in omega (arith, f))
     where
       at_most : (t : Bool) → one t ≤ 1
       at_most true = omega arith

@@ -75,9 +75,9 @@ module _ (st st' : Store) (w sp next i s n : ℕ) (event : SemEvent) (e e1 : Sem
       → e1.core.live + n + e1.forgotten ≡ e1.made + e1.released + cores.debts e1.core.queue
       → cores.held_of (cores.poured e1.core n) + a ≡ cores.held_of e.core + b
       → e1.plain + p ≡ e.plain + r → r ≤ 1 → e1.released ≤ e.released + 2 ^ 64 → e1.forgotten ≤ e.forgotten + 2 ^ 64
-      → w1 + wakers_in e.core.queue ≡ w + wakers_in e1.core.queue → w' + length (cores.wakers_of (granted_in e1.core.queue n)) ≡ w1 → w' ≤ sp'
+      → w1 + wakers_in e.core.queue ≡ w + wakers_in e1.core.queue → w' + length (cores.wakers_of (granted_in e1.core.queue n)) ≡ w1 → w' ≤ sp' → w1 ≤ i + 1
       → Plays st st' next i event w' sp'
-  plays_poured h1 w1 w' sp' a b p r fits allowed is hall linked weighs account held plain few released forgotten registered woken room =
+  plays_poured h1 w1 w' sp' a b p r fits allowed is hall linked weighs account held plain few released forgotten registered woken room within =
       let e' : SemaphoreEntry = poured_entry e1 n in
       let poured : Weighs h1 (pour h1 s n) s 0 0 0 0 = weighs_pour h1 s s n in
       settled_as st st' w sp next i s event e e' k less low fits allowed (pour h1 s n) is w' sp' a b p r there semaphores
@@ -93,4 +93,4 @@ module _ (st st' : Store) (w sp next i s n : ℕ) (event : SemEvent) (e e1 : Sem
         released = released;
         forgotten = forgotten;
       })
-      (let v = wakers_poured e1.core.queue n in omega (arith, registered, woken, v)) room
+      (let v = wakers_poured e1.core.queue n in omega (arith, registered, woken, v)) room (omega (arith, woken, within))

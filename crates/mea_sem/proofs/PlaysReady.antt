@@ -86,7 +86,7 @@ module _ (st st' : Store) (w sp next i s f v : ℕ) (x : FutureEntry) (y : Futur
         released = omega arith;
         forgotten = omega arith;
       })
-      (ap (λ q. w + wakers_in q) (sym queue)) k.room
+      (ap (λ q. w + wakers_in q) (sym queue)) k.room (let f = k.few in omega (arith, f))
     where
       ap_one : one y.plain ≤ e.plain → one x.plain ≤ e.plain
       ap_one counts = subst (λ b. one b ≤ e.plain) form counts
@@ -125,4 +125,4 @@ module _ (st st' : Store) (w sp next i s f v : ℕ) (x : FutureEntry) (y : Futur
         released = omega arith;
         forgotten = omega arith;
       })
-      (ap (λ q. w + wakers_in q) (sym queue)) k.room
+      (ap (λ q. w + wakers_in q) (sym queue)) k.room (let f = k.few in omega (arith, f))

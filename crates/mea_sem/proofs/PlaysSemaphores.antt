@@ -51,7 +51,7 @@ module _ (st st' : Store) (w sp next i s n : ℕ) (e : SemaphoreEntry) (k : IsKe
         released = omega arith;
         forgotten = omega arith;
       })
-      refl k.room
+      refl k.room (let f = k.few in omega (arith, f))
 
   -- n free permits are forgotten at once
   pub plays_tried : (event : SemEvent) → Fits event → cause_of (hall_of st next) event ≡ None → (step (hall_of st next) i event).hall ≡ (try_and_forget (hall_of st next) s n).hall
@@ -81,7 +81,7 @@ module _ (st st' : Store) (w sp next i s n : ℕ) (e : SemaphoreEntry) (k : IsKe
         released = omega arith;
         forgotten = omega arith;
       })
-      refl k.room
+      refl k.room (let f = k.few in omega (arith, f))
 
   abbrev exactly_entry : SemaphoreEntry
   exactly_entry = record e { core = calls.forgetting_exactly e.core n; forgotten = e.forgotten + n }
@@ -121,7 +121,7 @@ module _ (st st' : Store) (w sp next i s n : ℕ) (e : SemaphoreEntry) (k : IsKe
         released = omega arith;
         forgotten = omega arith;
       })
-      (ap (λ m. w + m) (sym (wakers-debt (n - min n e.core.free) e.core.queue))) k.room
+      (ap (λ m. w + m) (sym (wakers-debt (n - min n e.core.free) e.core.queue))) k.room (let f = k.few in omega (arith, f))
 
   abbrev unnamed_entry : SemaphoreEntry
   unnamed_entry = record e { named = false }
@@ -137,7 +137,7 @@ module _ (st st' : Store) (w sp next i s n : ℕ) (e : SemaphoreEntry) (k : IsKe
       (linked_still st st' next i s e unnamed_entry k.linked less c.there c.semaphores c.futures still)
       (weighs_semaphore h s s (record (semaphore_at h s) { named = false }))
       (record { account = old.account; held = refl; plain = refl; few = omega arith; quiet = old.quiet; released = omega arith; forgotten = omega arith })
-      refl k.room
+      refl k.room (let f = k.few in omega (arith, f))
 
 -- an event whose outcome leaves the hall as it is
 pub plays_nothing : (st : Store) (w sp next i : ℕ) (event : SemEvent) → IsKept st w sp next → next ≤ i → i < 2 ^ 64 → (step (hall_of st next) i event).hall ≡ hall_of st next → Plays st st next i event w sp

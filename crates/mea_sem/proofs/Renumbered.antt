@@ -55,6 +55,7 @@ kept_renumbered st w sp next i k less low =
       each = λ s e is. subst (λ h. IsKeptEntry h (i + 1) s e) (sym same) (later s e (k.each s e is));
       counted = k.counted;
       room = k.room;
+      few = (let f = k.few in omega (arith, f));
       low = omega arith;
     }
   where

@@ -273,6 +273,7 @@ kept_nothing spare = record {
   each = λ s e is. absurd (none_at s e is);
   counted = sym (ap (total (λ s (e : SemaphoreEntry). wakers_in e.core.queue)) (named_nothing (λ k (e : SemaphoreEntry). e)) ∙ total-empty (λ s (e : SemaphoreEntry). wakers_in e.core.queue));
   room = omega arith;
+  few = omega arith;
   low = omega arith;
 }
 

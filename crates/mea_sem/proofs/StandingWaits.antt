@@ -115,7 +115,7 @@ same_store ss ss' fs ps s e e2 there changes is = λ j. record { semaphores = sa
 
 -- more room is room
 pub kept_room : (st : Store) (w sp sp' n : ℕ) → IsKept st w sp n → w ≤ sp' → IsKept st w sp' n
-kept_room st w sp sp' n k room = record { valid = k.valid; below = k.below; accounted = k.accounted; linked = k.linked; each = k.each; counted = k.counted; room = room; low = k.low }
+kept_room st w sp sp' n k room = record { valid = k.valid; below = k.below; accounted = k.accounted; linked = k.linked; each = k.each; counted = k.counted; room = room; few = k.few; low = k.low }
 
 module _ (ss ss' : Semaphores) (fs : Futures) (ps : Permits) (w sp next i f v : ℕ) (wakes : List ℕ) (x : FutureEntry) (e e2 : SemaphoreEntry) (k : IsKept (store_of ss fs ps) w sp next) (less : next ≤ i) (low : i < 2 ^ 64)
     (allowed : cause_of (hall_of (store_of ss fs ps) next) (events.Poll f v) ≡ None) (is : at fs f ≡ Some x) (there : at ss x.semaphore ≡ Some e) (changes : ChangesAt ss ss' x.semaphore (Some e2)) where

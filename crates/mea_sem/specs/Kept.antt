@@ -34,4 +34,6 @@ pub record IsKept (st : Store) (registered spare next : ℕ) : Type 0 where
   -- each waker that is kept has its place in the outbox
   pub counted : registered ≡ total (λ s (e : SemaphoreEntry). wakers_in e.core.queue) st.semaphores
   pub room : registered ≤ spare
+  -- an event registers one waker at the most
+  pub few : registered ≤ next
   pub low : next ≤ 2 ^ 64

@@ -77,9 +77,10 @@ impl SemHall {
     }
 
     /// At least the number of wakers that one event can make ready without a further registration: one for
-    /// each future that waits. It takes no memory.
+    /// each future that waits, and so at most one for each event. It takes no memory.
     pub fn registered(&self) -> usize
         ensures most { (i : ℕ) (event : Event) → length (step self.now.hall i event).wakes ≤ result }
+        ensures few { result ≤ self.now.next }
     {
         self.registered
     }
