@@ -4,14 +4,14 @@ use std::process::Abort;
 use std::test::Fail;
 
 /// A script with its text and its status. A slash stands for a newline, and each ends with one.
-pub struct Row {
+pub(crate) struct Row {
     pub script: &'static str,
     pub text: &'static str,
     pub status: Status,
 }
 
 /// The bytes of a script or of a text.
-pub fn bytes_of(alloc: Global, text: &str) -> Result<Vec<u8>, AllocError> {
+pub(crate) fn bytes_of(alloc: Global, text: &str) -> Result<Vec<u8>, AllocError> {
     let mut bytes = Vec::from_slice(alloc, text.as_bytes())?;
     for byte in bytes.iter_mut() {
         if *byte == b'/' {
@@ -23,7 +23,7 @@ pub fn bytes_of(alloc: Global, text: &str) -> Result<Vec<u8>, AllocError> {
 }
 
 /// The words of a command line.
-pub fn words_of(alloc: Global, words: &[&str]) -> Result<Vec<String>, AllocError> {
+pub(crate) fn words_of(alloc: Global, words: &[&str]) -> Result<Vec<String>, AllocError> {
     let mut owned = Vec::new(alloc);
     for word in words {
         owned.push(String::from_str(alloc, word)?)?;
@@ -32,7 +32,7 @@ pub fn words_of(alloc: Global, words: &[&str]) -> Result<Vec<String>, AllocError
 }
 
 /// Plays each script, a few bytes at a time.
-pub fn check_rows(rt: &(impl Abort + AllocGlobal), rows: &[Row]) -> Result<(), Fail> {
+pub(crate) fn check_rows(rt: &(impl Abort + AllocGlobal), rows: &[Row]) -> Result<(), Fail> {
     for row in rows {
         let script = bytes_of(rt.alloc(), row.script)?;
         let text = bytes_of(rt.alloc(), row.text)?;
@@ -42,7 +42,7 @@ pub fn check_rows(rt: &(impl Abort + AllocGlobal), rows: &[Row]) -> Result<(), F
 }
 
 /// Plays one script, a few bytes at a time.
-pub fn check(
+pub(crate) fn check(
     rt: &(impl Abort + AllocGlobal),
     script: Vec<u8>,
     text: &[u8],
