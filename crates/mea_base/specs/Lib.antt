@@ -5,3 +5,5 @@ pub mod Totals
 pub mod WaitList
 pub mod WaitListLends
 pub mod WaitListPlaces
+pub mod Family
+pub mod Ready

@@ -7,6 +7,7 @@ mod ledger;
 mod no_memory;
 mod outbox;
 mod overflow;
+mod ready;
 mod stop;
 #[cfg(test)]
 mod tests;
@@ -20,6 +21,7 @@ pub use ledger::Ledger;
 pub use no_memory::NoMemory;
 pub use outbox::Outbox;
 pub use overflow::Overflow;
+pub use ready::Ready;
 pub use stop::Stop;
 pub use turn::Turn;
 pub use wait_list::WaitList;

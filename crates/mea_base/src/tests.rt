@@ -1,4 +1,4 @@
-use crate::{Outbox, WaitList};
+use crate::{Outbox, Ready, WaitList};
 use std::test::Fail;
 
 // With memory at hand, no call answers that there is none.
@@ -9,10 +9,13 @@ fn ample(rt: HostRuntime) -> Result<(), Fail> {
     list.reserve(1)?;
     let second = list.push_tail(20)?;
     let first = list.push_head(10)?;
+    let mut ready: Ready<u64> = Ready::new(rt.alloc());
     outbox.reserve(2)?;
+    ready.register()?;
     assert_eq!(rt; list.len(), 2);
     assert_eq!(rt; list.first(), Some(first));
     assert_eq!(rt; outbox.len(), 0);
+    assert_eq!(rt; ready.registered(), 1);
     assert!(rt; first != second);
     Ok(())
 }
@@ -50,5 +53,21 @@ fn wakers(rt: HostRuntime) -> Result<(), Fail> {
     for waker in [Some(10), Some(20), None] {
         assert_eq!(rt; outbox.pop(), waker);
     }
+    Ok(())
+}
+
+// Of two registered wakers one is woken and one is forgotten.
+#[test]
+fn registered_wakers(rt: HostRuntime) -> Result<(), Fail> {
+    let mut ready: Ready<u64> = Ready::new(rt.alloc());
+    ready.register()?;
+    ready.register()?;
+    ready.wake(7);
+    assert_eq!(rt; ready.registered(), 1);
+    ready.unregister(1);
+    assert_eq!(rt; ready.registered(), 0);
+    assert_eq!(rt; ready.len(), 1);
+    assert_eq!(rt; ready.pop(), Some(7));
+    assert_eq!(rt; ready.pop(), None);
     Ok(())
 }

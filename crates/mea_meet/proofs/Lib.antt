@@ -1,4 +1,0 @@
-pub mod BarrierLaws
-pub mod Barriers
-pub mod LatchLaws
-pub mod Rounds

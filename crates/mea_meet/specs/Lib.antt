@@ -1,5 +1,4 @@
-pub mod Barrier
-pub mod BarrierRuns
-pub mod Count
-pub mod CountRuns
-pub mod Shutdown
+pub mod Names
+pub mod Play
+pub mod BarrierHall
+pub mod StandsFor

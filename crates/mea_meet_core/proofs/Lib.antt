@@ -1,0 +1,4 @@
+pub mod BarrierLaws
+pub mod Barriers
+pub mod LatchLaws
+pub mod Rounds

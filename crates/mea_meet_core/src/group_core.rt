@@ -1,0 +1,202 @@
+ghost use Rattle.std.specs.Prelude.{◌≡◌, ◌+◌, ◌<◌, ◌≤◌, ◌↔◌, [], ◌∷◌, ◌++◌, length, true, IsTrue, IsOk, IsErr, IsSome, IfNone, IfSome, OnErr, OnOk};
+ghost use Rattle.mea_sets.specs.WaitSet.{has_given, is_registered, length_with};
+ghost use Rattle.mea_sets.specs.Countdown.{Counting, count_from, decreasing, PollsCount};
+ghost use Rattle.mea_meet_core.specs.Count.{increased, usable};
+
+use crate::group_wait::GroupWait;
+use mea_base::{NoMemory, Outbox, Overflow, Poll};
+use mea_sets::Countdown;
+use std::alloc::Global;
+use std::marker::Model;
+
+/// The core of a wait group: a count of handles, and those who wait for the end of the last.
+///
+/// It ports `mea`'s `WaitGroup` without its lock. A further handle is refused where the crate panics.
+#[derive(Drop)]
+pub struct GroupCore<W> {
+    countdown: Countdown<W>,
+}
+
+impl<W> Model for GroupCore<W> {
+    ghost use Rattle.mea_sets.specs.Countdown.{Counting, counting_code};
+
+    ghost Value = { Counting W };
+
+    ghost coded = { counting_code W.code };
+
+    ghost view = { λ g. g.countdown };
+}
+
+impl<W: Drop> GroupCore<W> {
+    /// A group with one handle. It takes no memory.
+    pub fn new(alloc: Global) -> Self
+        ensures { result ≡ record { count = count_from 1; wakes = [] } }
+    {
+        Self::at_count(alloc, 1)
+    }
+
+    /// A group with this many handles. It takes no memory.
+    pub fn at_count(alloc: Global, count: u32) -> Self
+        ensures { result ≡ record { count = count_from count; wakes = [] } }
+    {
+        GroupCore {
+            countdown: Countdown::new(alloc, count),
+        }
+    }
+
+    /// One handle more, where one lives. It takes no memory.
+    pub fn add(&mut self) -> Result<(), Overflow>
+        requires { 0 < self.old.count.number }
+        ensures ok { OnOk result (self.new ≡ record self.old { count = increased self.old.count }) }
+        ensures overflow { IsErr result ↔ (self.old.count.number ≡ u32.MAX) }
+        ensures err { OnErr result (self.new ≡ self.old) }
+    {
+        self.countdown.increment(1)
+    }
+
+    /// Whether a handle lives, as `add` asks. It takes no memory.
+    pub fn add_allowed(&self) -> bool
+        ensures { IsTrue result ↔ (0 < self.now.count.number) }
+    {
+        self.countdown.count() > 0
+    }
+
+    /// As `add`; where no handle lives it is Ok and changes nothing. It takes no memory.
+    pub fn add_checked(&mut self) -> Result<(), Overflow>
+        ensures ok { OnOk result (0 < self.old.count.number → self.new ≡ record self.old { count = increased self.old.count }) }
+        ensures overflow { IsErr result ↔ (self.old.count.number ≡ u32.MAX) }
+        ensures err { OnErr result (self.new ≡ self.old) }
+        ensures ended { self.old.count.number ≡ 0 → self.new ≡ self.old }
+    {
+        if self.add_allowed() {
+            self.add()
+        } else {
+            Ok(())
+        }
+    }
+
+    /// One handle less, where one lives; at the last it wakes those who wait. It takes no memory.
+    pub fn leave(&mut self)
+        requires { 0 < self.old.count.number }
+        ensures { self.new ≡ decreasing self.old 1 }
+    {
+        self.countdown.decrement(1);
+    }
+
+    /// Whether a handle lives, as `leave` asks. It takes no memory.
+    pub fn leave_allowed(&self) -> bool
+        ensures { IsTrue result ↔ (0 < self.now.count.number) }
+    {
+        self.countdown.count() > 0
+    }
+
+    /// As `leave`; where no handle lives it changes nothing. It takes no memory.
+    pub fn leave_checked(&mut self)
+        ensures leaves { 0 < self.old.count.number → self.new ≡ decreasing self.old 1 }
+        ensures ended { self.old.count.number ≡ 0 → self.new ≡ self.old }
+    {
+        if self.leave_allowed() {
+            self.leave();
+        }
+    }
+
+    /// Is ready where no handle lives. Else the waker is registered, in place of this wait's earlier one
+    /// if that is registered; with no memory for a further one nothing has changed.
+    pub fn poll(&mut self, wait: &mut GroupWait, waker: W) -> Result<Poll<()>, (W, NoMemory)>
+        requires { has_given self.old.count.waiting wait.old ≡ true }
+        ensures polls { PollsCount self.old.count wait.old waker result self.new.count wait.new }
+        ensures wakes { self.new.wakes ≡ self.old.wakes }
+        ensures replaces { is_registered self.old.count.waiting wait.old ≡ true → IsOk result }
+    {
+        self.countdown.poll(&mut wait.slot, waker)
+    }
+
+    /// Whether the wait belongs to this group, as `poll` asks. It takes no memory.
+    pub fn poll_allowed(&self, wait: &GroupWait) -> bool
+        ensures { result ≡ has_given self.now.count.waiting wait.now }
+    {
+        self.countdown.has_given(&wait.slot)
+    }
+
+    /// As `poll`, of a renewed wait where the wait does not belong to this group.
+    pub fn poll_checked(
+        &mut self,
+        wait: &mut GroupWait,
+        waker: W,
+    ) -> Result<Poll<()>, (W, NoMemory)>
+        ensures polls { PollsCount self.old.count (usable self.old.count wait.old) waker result self.new.count wait.new }
+        ensures wakes { self.new.wakes ≡ self.old.wakes }
+        ensures replaces { is_registered self.old.count.waiting wait.old ≡ true → IsOk result }
+    {
+        if !self.poll_allowed(wait) {
+            wait.renew();
+        }
+        self.poll(wait, waker)
+    }
+
+    /// Ends a wait, whose waker stays. It takes no memory.
+    pub fn end(&mut self, wait: GroupWait)
+        requires { has_given self.old.count.waiting wait ≡ true }
+        ensures { self.new ≡ self.old }
+    {
+        let _ = wait;
+    }
+
+    /// Whether the wait belongs to this group, as `end` asks. It takes no memory.
+    pub fn end_allowed(&self, wait: &GroupWait) -> bool
+        ensures { result ≡ has_given self.now.count.waiting wait.now }
+    {
+        self.poll_allowed(wait)
+    }
+
+    /// As `end`; it changes nothing in any case. It takes no memory.
+    pub fn end_checked(&mut self, wait: GroupWait)
+        ensures { self.new ≡ self.old }
+    {
+        if self.end_allowed(&wait) {
+            self.end(wait);
+        }
+    }
+
+    /// How many wakers are registered. It takes no memory.
+    pub fn registered(&self) -> usize
+        ensures count { result ≡ length self.now.count.waiting.wakers }
+        ensures over { self.now.count.number ≡ 0 → result ≡ 0 }
+    {
+        self.countdown.registered()
+    }
+
+    /// How many wakers are registered once that of this wait is; None where that passes its type. It
+    /// takes no memory.
+    pub fn registered_with(&self, wait: &GroupWait) -> Option<usize>
+        ensures count { IfSome result (λ n. n ≡ length_with self.now.count.waiting wait.now) }
+        ensures registered { is_registered self.now.count.waiting wait.now ≡ true → IsSome result }
+    {
+        self.countdown.registered_with(&wait.slot)
+    }
+
+    /// Moves the wakers that are ready to another outbox, in their order. It takes no memory.
+    pub fn move_wakes(&mut self, out: &mut Outbox<W>)
+        requires { length self.old.wakes ≤ out.old.spare }
+        ensures moved { self.new ≡ record self.old { wakes = [] } }
+        ensures wakers { out.new.wakers ≡ out.old.wakers ++ self.old.wakes }
+        ensures spare { out.new.spare + length self.old.wakes ≡ out.old.spare }
+    {
+        self.countdown.move_wakes(out);
+    }
+
+    /// How many wakers are ready. It takes no memory.
+    pub fn wakes_ready(&self) -> usize
+        ensures { result ≡ length self.now.wakes }
+    {
+        self.countdown.wakes_ready()
+    }
+
+    /// Takes the first waker that is ready. It takes no memory.
+    pub fn next_wake(&mut self) -> Option<W>
+        ensures first { IfSome result (λ w. self.old ≡ record self.new { wakes = w ∷ self.new.wakes }) }
+        ensures empty { IfNone result ((self.old.wakes ≡ []) × (self.new ≡ self.old)) }
+    {
+        self.countdown.next_wake()
+    }
+}

@@ -1,0 +1,38 @@
+-- a count whose end is waited for: of a latch, of a wait group, of a shutdown's signal and its receivers
+use Rattle.std.specs.Prelude.{ℕ, ◌+◌, ◌-◌, ◌&&◌, Bool, List, [], nat_lt, nat_le, if◌then◌else◌, refl}
+use Rattle.std.specs.Coded.{Coded, code_by, coded×, coded_ℕ}
+use Rattle.mea_meet_model.specs.Waiting.{Whose, registering, ending, wakers, waiting_code}
+
+pub record Count : Type 0 where
+  pub number : ℕ
+  pub waiting : List (Whose × ℕ)
+
+-- a count that nobody waits for
+abbrev pub count_from : ℕ → Count
+count_from n = record { number = n; waiting = [] }
+
+-- n less would bring the count to 0 from above
+abbrev pub ends : Count → ℕ → Bool
+ends c n = nat_lt 0 c.number && nat_le c.number n
+
+-- n less, at the least 0; where the count ends, all registered wakers leave
+abbrev pub decreased : Count → ℕ → Count
+decreased c n = record { number = c.number - n; waiting = if ends c n then [] else c.waiting }
+
+-- the wakers that n less makes ready, in the order of their registration
+abbrev pub woken_by : Count → ℕ → List ℕ
+woken_by c n = if ends c n then wakers c.waiting else []
+
+abbrev pub increased : Count → Count
+increased c = record c { number = c.number + 1 }
+
+-- a waker is registered for f
+abbrev pub with_waker : Count → ℕ → ℕ → Count
+with_waker c f w = record c { waiting = registering c.waiting f w }
+
+-- f has ended; its waker stays
+abbrev pub without_future : Count → ℕ → Count
+without_future c f = record c { waiting = ending c.waiting f }
+
+abbrev pub count_code : Coded Count
+count_code = code_by (ℕ × List (Whose × ℕ)) (coded× coded_ℕ waiting_code) (λ c. (c.number, c.waiting)) (λ p. record { number = p.0; waiting = p.1 }) (λ _. refl)

@@ -1,0 +1,10 @@
+pub mod Waiting
+pub mod Count
+pub mod Barriers
+pub mod Latches
+pub mod Groups
+pub mod Shutdowns
+pub mod Hall
+pub mod Cause
+pub mod Step
+pub mod Meets

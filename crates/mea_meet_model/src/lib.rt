@@ -1,0 +1,8 @@
+//! The model of the meeting points: what each event does to barriers, latches, wait groups and shutdowns
+//! with the futures that wait for them, as records, lists and finite maps, and the laws that hold of every
+//! list of events. It has no code that runs but the type of an event; the hall above is proved against it.
+#![tactic(auto)]
+
+mod event;
+
+pub use event::MeetEvent;
