@@ -4,3 +4,4 @@ pub mod Totals
 pub mod Trims
 pub mod WaitPlaces
 pub mod Waits
+pub mod Wakes

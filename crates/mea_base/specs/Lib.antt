@@ -5,3 +5,4 @@ pub mod Totals
 pub mod WaitList
 pub mod WaitListLends
 pub mod WaitListPlaces
+pub mod Family
