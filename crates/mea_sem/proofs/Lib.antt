@@ -21,7 +21,7 @@ pub mod Lives
 pub mod Matching
 pub mod Granted
 pub mod Lends
-pub mod MostWoken
+pub mod Registered
 pub mod Refusals
 pub mod EndRoom
 pub mod StandingSemaphores

@@ -11,9 +11,9 @@ use crate::hall::SemHall;
 use mea_base::Stop;
 use mea_sem_model::SemEvent;
 
-// Why an event is refused. Nothing is changed, and no memory is taken.
 impl SemHall {
-    /// Why an event is refused, if it is. It takes no memory.
+    /// Why an event would be refused, but for want of memory; `None` where it would not be. It takes no
+    /// memory.
     pub fn cause(&self, event: &SemEvent) -> Option<Stop>
         ensures { result ≡ cause_of self.now.hall event.now }
     {

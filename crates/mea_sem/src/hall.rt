@@ -1,8 +1,7 @@
 ghost use Rattle.std.specs.Prelude.{◌≡◌, ◌≢◌, ◌≤◌, ◌∷◌, [], ◌⊎◌, ℕ, length, is_some, OnOk, OnErr, IfOk, IfErr, IfSome, IfNone, None, Some};
 ghost use Rattle.mea_sem_model.specs.Hall.{empty_hall};
 ghost use Rattle.mea_sem_model.specs.Cause.{cause_of, is_named};
-ghost use Rattle.mea_sem_model.specs.Step.{step};
-ghost use Rattle.mea_sem_model.specs.declared.event.SemEvent.{SemEvent as Event};
+ghost use Rattle.mea_sem_model.specs.Waiters.{waiters};
 ghost use Rattle.mea_sem.specs.Play.{Play, Plays, TakesNoMemory};
 ghost use Rattle.mea_sem.specs.StandsFor.{StandsFor};
 
@@ -76,10 +75,10 @@ impl SemHall {
         self.outbox.pop()
     }
 
-    /// At least the number of wakers that one event can make ready without a further registration: one for
-    /// each future that waits, and so at most one for each event. It takes no memory.
+    /// How many futures wait. One event makes at most so many wakers ready, and at most one future waits for
+    /// each event that was played. It takes no memory.
     pub fn registered(&self) -> usize
-        ensures most { (i : ℕ) (event : Event) → length (step self.now.hall i event).wakes ≤ result }
+        ensures count { result ≡ waiters self.now.hall }
         ensures few { result ≤ self.now.next }
     {
         self.registered

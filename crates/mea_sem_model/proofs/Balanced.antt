@@ -1,13 +1,14 @@
 -- the permits balance after every run
 use Rattle.std.proofs.Common.{◌≡◌, ℕ, ◌+◌, ◌≤◌, ap, arith, None}
 use Rattle.std.proofs.lemmas.List.Sums.{sum_by-cons}
+use Rattle.mea_base.specs.Family.{told, goes_on, Starts, Goes}
 use Rattle.mea_base.specs.Queue.{lacks}
 use Rattle.mea_base.proofs.Totals.{total-empty}
 use Rattle.mea_sem_model.specs.declared.event.SemEvent.{SemEvent}
 use Rattle.mea_sem_model.specs.Hall.{empty_hall, queue_at, free, held}
 use Rattle.mea_sem_model.specs.Cause.{cause_of}
 use Rattle.mea_sem_model.specs.Valid.{IsBelow}
-use Rattle.mea_sem_model.specs.Runs.{Told, Run, told, goes_on, Runs, Starts, Goes, made_by, released_by, forgotten_by, made, released, forgotten, Balances}
+use Rattle.mea_sem_model.specs.Runs.{Told, Run, Runs, semaphores, made_by, released_by, forgotten_by, made, released, forgotten, Balances}
 use Rattle.mea_sem_model.proofs.Matched.{IsMatched, matched}
 use Rattle.mea_sem_model.proofs.Orderly.{IsOrderly, orderly}
 use Rattle.mea_sem_model.proofs.Changes.{taken_by, committed}
@@ -22,10 +23,10 @@ pub record Kept (r : Run) : Type 0 where
   pub below : IsBelow r.hall r.next
   pub sums : (s : ℕ) → made r.trace s + released r.trace s + lacks (queue_at r.hall s) ≡ free r.hall s + held r.hall s + committed r.hall.futures s + forgotten r.trace s
 
-keeps : (r : Run) (i : ℕ) (e : SemEvent) → Kept r → r.next ≤ i → cause_of r.hall e ≡ None → Kept (goes_on r i e)
+keeps : (r : Run) (i : ℕ) (e : SemEvent) → Kept r → r.next ≤ i → cause_of r.hall e ≡ None → Kept (goes_on semaphores r i e)
 keeps r i e k later cause =
     let c = steps r.hall i k.matched k.orderly (below_later r.hall r.next i later k.below) e cause in
-    let t : Told = told r i e in
+    let t : Told = told semaphores r i e in
     record {
       matched = c.matched;
       orderly = c.orderly;

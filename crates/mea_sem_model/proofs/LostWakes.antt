@@ -1,73 +1,46 @@
--- no wake is lost
-use Rattle.std.proofs.Common.{◌≡◌, ℕ, ◌+◌, ◌-◌, ◌<◌, ◌≤◌, ◌==◌, ◌||◌, Bool, true, false, cond, List, [], ◌∷◌, ◌++◌, Option, Some, None, refl, ap, sym, subst, ◌∙◌, arith, if◌then◌else◌, nat_le}
+-- semaphores keep the wakers of who waits, and so lose no wake
+use Rattle.std.proofs.Common.{◌≡◌, ℕ, ◌+◌, ◌-◌, ◌<◌, ◌==◌, ◌||◌, ◌++◌, ◌⊎◌, inl, inr, Bool, true, false, cond, List, [], ◌∷◌, Option, Some, None, refl, ap, sym, subst, ◌∙◌, arith, is_some, if◌then◌else◌, nat_le}
 use Rattle.std.specs.List.{flat_map, Contains}
 use Rattle.std.specs.Option.{option_map}
 use Rattle.std.specs.Ordering.{nat_cmp}
 use Rattle.std.specs.FinMap.{FinMap, get, insert, remove}
-use Rattle.std.proofs.lemmas.Bool.{eqb-true, eqb-false, eq-eqb}
+use Rattle.std.proofs.lemmas.Bool.{eqb-true, eqb-false}
 use Rattle.std.proofs.lemmas.Option.{cond_some}
 use Rattle.std.proofs.lemmas.List.Elements.{Contains-append_left, Contains-append_right, Contains-push}
+use Rattle.mea_base.specs.Family.{goes_on, Goes, KeepsWakers, NamesFutures, LosesNoWake}
 use Rattle.mea_base.specs.Queue.{granted_in}
-use Rattle.mea_base.specs.declared.answer.Answer.{Answer}
 use Rattle.mea_base.specs.declared.answer.Answer.TheVariants as answers
+use Rattle.mea_base.proofs.Wakes as wakes
 use Rattle.mea_sem_model.specs.declared.event.SemEvent.{SemEvent}
 use Rattle.mea_sem_model.specs.declared.event.SemEvent.TheVariants as events
 use Rattle.mea_sem_model.specs.Hall.{Hall, Future, Permit, Stage, New, Waiting, Granted, Who, Waiter, Debt, names, semaphore_at, queue_at, free, granted, waker_of, waker_of_future, waker_of_who, wakes_of, with_semaphore}
 use Rattle.mea_sem_model.specs.Cause.{cause_of}
 use Rattle.mea_sem_model.specs.Step.{Outcome, quietly, pouring, with_future, without_future, with_permit, without_permit, taking, try_of, try_and_forget, made_ready, queueing, poll_at, poll_of, leaving, end_future, end_permit, end_of, lose_of, merge_of, split_of, released_to, step}
-use Rattle.mea_sem_model.specs.Valid.{IsBelow}
-use Rattle.mea_sem_model.specs.Runs.{Told, Run, told, goes_on, Runs, Starts, Goes, waker_in, is_pending, kept_waker, last_waker_at, last_waker, wakes_at, wakes_since, LosesNoWake}
+use Rattle.mea_sem_model.specs.Runs.{Run, Runs, semaphores, waker_in, waker_at, waker_kept}
 use Rattle.mea_sem_model.proofs.HallLemmas.{inside, value_in, is_there, get-there, get-other, get-removed_other, among, get-grant_all, by_gone}
 use Rattle.mea_sem_model.proofs.Events.{known}
 use Rattle.mea_sem_model.proofs.Balanced as balance
 
--- ---- whether a list has a waker
-abbrev is_in : List ℕ → ℕ → Bool
-is_in [] w = false
-is_in (v ∷ vs) w = (v == w) || is_in vs w
-
-is_in-append : (xs ys : List ℕ) (w : ℕ) → is_in (xs ++ ys) w ≡ (is_in xs w || is_in ys w)
-is_in-append [] ys w = refl
-is_in-append (x ∷ xs) ys w = elim (x == w) as (λ b. (b || is_in (xs ++ ys) w) ≡ ((b || is_in xs w) || is_in ys w)) [ true ↦ refl | false ↦ is_in-append xs ys w ]
-
-is_in-contains : (ws : List ℕ) (w : ℕ) → is_in ws w ≡ true → Contains ws w
-is_in-contains [] w h = absurd (cc)
-is_in-contains (v ∷ vs) w h = elim (v == w) as (λ b. (v == w) ≡ b → (b || is_in vs w) ≡ true → Contains (v ∷ vs) w) [
-  | true ↦ λ e t. subst (λ k. Contains (v ∷ vs) k) (eqb-true v w e) (Contains-append_left (v ∷ []) vs v (Contains-push [] v))
-  | false ↦ λ e t. Contains-append_right (v ∷ []) vs w (is_in-contains vs w t)
-] refl h
-
-neither : (a b : Bool) → (a || b) ≡ false → (a ≡ false) × (b ≡ false)
-neither false false e = (refl, refl)
-neither false true e = absurd (cc)
-neither true b e = absurd (cc)
-
 -- ---- who is granted while it waits is woken
-woken_one : (m : FinMap nat_cmp Future) (ws : List Who) (f w : ℕ) (x : Future) → get m f ≡ Some x → x.stage ≡ Waiting w → among ws f ≡ true → is_in (flat_map (waker_of_who m) ws) w ≡ true
+woken_one : (m : FinMap nat_cmp Future) (ws : List Who) (f w : ℕ) (x : Future) → get m f ≡ Some x → x.stage ≡ Waiting w → among ws f ≡ true → Contains (flat_map (waker_of_who m) ws) w
 woken_one m [] f w x there waits h = absurd (cc)
-woken_one m (who ∷ ws) f w x there waits h =
-    is_in-append (waker_of_who m who) (flat_map (waker_of_who m) ws) w
-    ∙ elim (names who f) as (λ b. names who f ≡ b → (b || among ws f) ≡ true → (is_in (waker_of_who m who) w || is_in (flat_map (waker_of_who m) ws) w) ≡ true) [
-      | true ↦ λ e t. ap (λ vs. is_in vs w || is_in (flat_map (waker_of_who m) ws) w) (waker who e) ∙ ap (λ b. (b || false) || is_in (flat_map (waker_of_who m) ws) w) (eq-eqb w w refl)
-      | false ↦ λ e t. ap (λ b. is_in (waker_of_who m who) w || b) (woken_one m ws f w x there waits t) ∙ or_true (is_in (waker_of_who m who) w)
-    ] refl h
+woken_one m (who ∷ ws) f w x there waits h = elim (names who f) as (λ b. names who f ≡ b → (b || among ws f) ≡ true → Contains (waker_of_who m who ++ flat_map (waker_of_who m) ws) w) [
+  | true ↦ λ e t. Contains-append_left (waker_of_who m who) (flat_map (waker_of_who m) ws) w (subst (λ vs. Contains vs w) (sym (waker who e)) (Contains-push [] w))
+  | false ↦ λ e t. Contains-append_right (waker_of_who m who) (flat_map (waker_of_who m) ws) w (woken_one m ws f w x there waits t)
+] refl h
   where
-    or_true : (b : Bool) → (b || true) ≡ true
-    or_true true = refl
-    or_true false = refl
-
     waker : (v : Who) → names v f ≡ true → waker_of_who m v ≡ w ∷ []
     waker (Waiter g) e = ap (λ k. waker_of_future (get m k)) (eqb-true g f e) ∙ ap waker_of_future there ∙ ap waker_of waits
     waker Debt e = absurd (cc)
 
 -- ---- what an event that polls nobody leaves of the futures
--- each future below i was there before, and still waits with its waker unless that was woken
+-- each future below i was there before, and still waits with its waker or that was woken
 record Passes (h : Hall) (o : Outcome) (i : ℕ) : Type 0 where
-  each : (f : ℕ) (y : Future) → f < i → get o.hall.futures f ≡ Some y → (x : Future) × (get h.futures f ≡ Some x) × ((w : ℕ) → x.stage ≡ Waiting w → is_in o.wakes w ≡ false → y.stage ≡ Waiting w)
+  each : (f : ℕ) (y : Future) → f < i → get o.hall.futures f ≡ Some y → (x : Future) × (get h.futures f ≡ Some x) × ((w : ℕ) → x.stage ≡ Waiting w → (y.stage ≡ Waiting w) ⊎ Contains o.wakes w)
 
 -- the futures are among those before, and nobody is woken
 passes_some : (h : Hall) (o : Outcome) (i : ℕ) → ((f : ℕ) (y : Future) → f < i → get o.hall.futures f ≡ Some y → get h.futures f ≡ Some y) → Passes h o i
-passes_some h o i some = record { each = λ f y less is. (y, some f y less is, λ w waits quiet. waits) }
+passes_some h o i some = record { each = λ f y less is. (y, some f y less is, λ w waits. inl waits) }
 
 passes_same : (h : Hall) (o : Outcome) (i : ℕ) → o.hall.futures ≡ h.futures → Passes h o i
 passes_same h o i same = passes_some h o i (λ f y less is. ap (λ m. get m f) (sym same) ∙ is)
@@ -84,11 +57,11 @@ passes_pour h g s n i some = record {
 }
   where
     by_grant : (f : ℕ) (y : Future) (b : Bool) (o : Option Future) → among (granted_in (queue_at g s) n) f ≡ b → get g.futures f ≡ o → cond b (option_map granted o) o ≡ Some y
-        → (x : Future) × (get h.futures f ≡ Some x) × ((w : ℕ) → x.stage ≡ Waiting w → is_in (wakes_of g s n) w ≡ false → y.stage ≡ Waiting w)
+        → (x : Future) × (get h.futures f ≡ Some x) × ((w : ℕ) → x.stage ≡ Waiting w → (y.stage ≡ Waiting w) ⊎ Contains (wakes_of g s n) w)
     by_grant f y true None a is e = absurd (cc)
     by_grant f y false None a is e = absurd (cc)
-    by_grant f y true (Some x) a is e = (x, some f x is, λ w waits quiet. absurd (let woken : is_in (wakes_of g s n) w ≡ true = woken_one g.futures (granted_in (queue_at g s) n) f w x is waits a in cc))
-    by_grant f y false (Some x) a is e = (x, some f x is, λ w waits quiet. ap (λ (z : Future). z.stage) (sym (inside e)) ∙ waits)
+    by_grant f y true (Some x) a is e = (x, some f x is, λ w waits. inr (woken_one g.futures (granted_in (queue_at g s) n) f w x is waits a))
+    by_grant f y false (Some x) a is e = (x, some f x is, λ w waits. inl (ap (λ (z : Future). z.stage) (sym (inside e)) ∙ waits))
 
 module _ (h : Hall) (i : ℕ) where
   ends_permit : (k : ℕ) (o : Option Permit) → Passes h (end_permit h k o) i
@@ -137,19 +110,19 @@ module _ (h : Hall) (i : ℕ) where
 
 -- ---- what a poll of g with the waker v leaves of the futures
 record Polled (h : Hall) (g v : ℕ) (o : Outcome) : Type 0 where
-  others : (f : ℕ) (y : Future) → (g ≡ f → ⊥) → get o.hall.futures f ≡ Some y → get h.futures f ≡ Some y
-  waits : is_pending o.reply ≡ true → (y : Future) → get o.hall.futures g ≡ Some y → y.stage ≡ Waiting v
+  others : (f : ℕ) → (g ≡ f → ⊥) → get o.hall.futures f ≡ get h.futures f
+  places : o.reply ≡ answers.Pending → waker_kept (get o.hall.futures g) ≡ Some v
 
 polled_ready : (h k : Hall) (g v : ℕ) → k.futures ≡ remove h.futures g → Polled h g v (quietly k answers.Ready)
 polled_ready h k g v gone = record {
-  others = λ f y apart is. sym (get-removed_other h.futures g f apart) ∙ ap (λ m. get m f) (sym gone) ∙ is;
-  waits = λ no_more. absurd (cc);
+  others = λ f apart. ap (λ m. get m f) gone ∙ get-removed_other h.futures g f apart;
+  places = λ pending. absurd (cc);
 }
 
 polled_pending : (h k : Hall) (g v : ℕ) (x : Future) → k.futures ≡ insert h.futures g x → x.stage ≡ Waiting v → Polled h g v (quietly k answers.Pending)
 polled_pending h k g v x put waiting = record {
-  others = λ f y apart is. sym (get-other h.futures g f x apart) ∙ ap (λ m. get m f) (sym put) ∙ is;
-  waits = λ _ y is. ap (λ (z : Future). z.stage) (sym (inside (sym (get-there h.futures g x) ∙ ap (λ m. get m g) (sym put) ∙ is))) ∙ waiting;
+  others = λ f apart. ap (λ m. get m f) put ∙ get-other h.futures g f x apart;
+  places = λ pending. ap (λ m. waker_kept (get m g)) put ∙ ap waker_kept (get-there h.futures g x) ∙ ap waker_at waiting;
 }
 
 ready_futures : (h : Hall) (i f : ℕ) (x : Future) → (made_ready h i f x).futures ≡ remove h.futures f
@@ -166,115 +139,148 @@ polled_at h i g v x New = elim (nat_le x.demand (free h x.semaphore)) as (λ b. 
 polled_at h i g v x (Waiting u) = polled_pending h _ g v (record x { stage = Waiting v }) refl refl
 polled_at h i g v x Granted = polled_ready h _ g v (ready_futures h i g x)
 
--- ---- a waker that is told at a poll and was not woken since
-abbrev unless_in : List ℕ → Option ℕ → Option ℕ
-unless_in ws None = None
-unless_in ws (Some w) = if is_in ws w then None else Some w
+-- ---- each event
+-- the event that polls f with the waker w
+poll_is : (e : SemEvent) (f w : ℕ) → waker_in e f ≡ Some w → e ≡ events.Poll f w
+poll_is (events.New n) f w is = absurd (cc)
+poll_is (events.Free s) f w is = absurd (cc)
+poll_is (events.Forget s n) f w is = absurd (cc)
+poll_is (events.Forgetx s n) f w is = absurd (cc)
+poll_is (events.Release s n) f w is = absurd (cc)
+poll_is (events.Try s n) f w is = absurd (cc)
+poll_is (events.Tryo s n) f w is = absurd (cc)
+poll_is (events.Tryf s n) f w is = absurd (cc)
+poll_is (events.Tryof s n) f w is = absurd (cc)
+poll_is (events.Acq s n) f w is = absurd (cc)
+poll_is (events.Acqo s n) f w is = absurd (cc)
+poll_is (events.Acqf s n) f w is = absurd (cc)
+poll_is (events.Acqof s n) f w is = absurd (cc)
+poll_is (events.Poll g v) f w is =
+    let same = cond_some (g == f) v w is in
+    ap (λ k. events.Poll k v) (eqb-true g f same.0) ∙ ap (λ k. events.Poll f k) same.1
+poll_is (events.End x) f w is = absurd (cc)
+poll_is (events.Lose p) f w is = absurd (cc)
+poll_is (events.Merge p q) f w is = absurd (cc)
+poll_is (events.Split p n) f w is = absurd (cc)
+poll_is (events.Size p) f w is = absurd (cc)
+poll_is (events.Endsem s) f w is = absurd (cc)
+poll_is (events.Ledger s) f w is = absurd (cc)
 
-abbrev unwoken : List Told → ℕ → Option ℕ
-unwoken trace f = unless_in (wakes_since trace f) (last_waker trace f)
+-- a future that is polled lives
+polls_living : (h : Hall) (e : SemEvent) → cause_of h e ≡ None → (f w : ℕ) → waker_in e f ≡ Some w → is_some (get h.futures f) ≡ true
+polls_living h e cause f w polls = known _ (subst (λ d. cause_of h d ≡ None) (poll_is e f w polls) cause)
 
-unless_some : (ws : List ℕ) (o : Option ℕ) (w : ℕ) → unless_in ws o ≡ Some w → (o ≡ Some w) × (is_in ws w ≡ false)
-unless_some ws None w h = absurd (cc)
-unless_some ws (Some v) w h = elim (is_in ws v) as (λ b. is_in ws v ≡ b → (if b then None else Some v) ≡ Some w → (Some v ≡ Some w) × (is_in ws w ≡ false)) [
-  | true ↦ λ e g. absurd (cc)
-  | false ↦ λ e g. (g, let same : v ≡ w = cc in subst (λ k. is_in ws k ≡ false) same e)
-] refl h
+polled_by : (h : Hall) (i f w : ℕ) (o : Option Future) → is_some o ≡ true → Polled h f w (poll_of h i f w o)
+polled_by h i f w None living = absurd (cc)
+polled_by h i f w (Some x) living = polled_at h i f w x x.stage
 
-unless_from : (ws : List ℕ) (o : Option ℕ) (w : ℕ) → o ≡ Some w → is_in ws w ≡ false → unless_in ws o ≡ Some w
-unless_from ws o w is absent = ap (unless_in ws) is ∙ ap (λ b. if b then None else Some w) absent
+places_waker : (h : Hall) (i : ℕ) (e : SemEvent) → cause_of h e ≡ None → (f w : ℕ) → waker_in e f ≡ Some w → (step h i e).reply ≡ answers.Pending → waker_kept (get (step h i e).hall.futures f) ≡ Some w
+places_waker h i e cause f w polls =
+    let living = polls_living h e cause f w polls in
+    subst (λ d. (step h i d).reply ≡ answers.Pending → waker_kept (get (step h i d).hall.futures f) ≡ Some w) (sym (poll_is e f w polls)) (polled_by h i f w (get h.futures f) living).places
 
--- who has such a waker waits with it, and was polled before
-record Owes (r : Run) : Type 0 where
-  waits : (f w : ℕ) (x : Future) → unwoken r.trace f ≡ Some w → get r.hall.futures f ≡ Some x → x.stage ≡ Waiting w
-  polled : (f w : ℕ) → last_waker r.trace f ≡ Some w → f < r.next
-
--- an event that polls nobody
-keeps_unpolled : (r : Run) (i : ℕ) (e : SemEvent) → ((f : ℕ) → waker_in e f ≡ None) → Passes r.hall (step r.hall i e) i → r.next ≤ i → Owes r → Owes (goes_on r i e)
-keeps_unpolled r i e silent passes later k = record {
-  waits = λ f w y owing is.
-      let t : Told = told r i e in
-      let ws : List ℕ = wakes_since r.trace f in
-      let before : unless_in (ws ++ t.wakes) (last_waker r.trace f) ≡ Some w = subst (λ o. unless_in (wakes_at t o ws) (last_waker_at t o (last_waker r.trace f)) ≡ Some w) (silent f) owing in
-      let parts = unless_some (ws ++ t.wakes) (last_waker r.trace f) w before in
-      let absent = neither (is_in ws w) (is_in t.wakes w) (sym (is_in-append ws t.wakes w) ∙ parts.1) in
-      let small : f < i = omega (arith, k.polled f w parts.0) in
-      let was = passes.each f y small is in
-      was.2 w (k.waits f w was.0 (unless_from ws (last_waker r.trace f) w parts.0 absent.0) was.1) absent.1;
-  polled = λ f w last.
-      let before : last_waker r.trace f ≡ Some w = subst (λ o. last_waker_at (told r i e) o (last_waker r.trace f) ≡ Some w) (silent f) last in
-      omega (arith, k.polled f w before);
-}
-
--- a poll
-keeps_polled : (r : Run) (i g v : ℕ) → Polled r.hall g v (step r.hall i (events.Poll g v)) → g < i → r.next ≤ i → Owes r → Owes (goes_on r i (events.Poll g v))
-keeps_polled r i g v gives small later k = record {
-  waits = λ f w x owing is. waits_by f w x (g == f) refl owing is;
-  polled = λ f w last. polled_by f w (g == f) refl last;
-}
+-- a future whose waker is kept waits with it
+waits_with : (o : Option Future) (w : ℕ) → waker_kept o ≡ Some w → (x : Future) × (o ≡ Some x) × (x.stage ≡ Waiting w)
+waits_with None w kept = absurd (cc)
+waits_with (Some x) w kept = (x, refl, by_stage x.stage kept)
   where
-    waits_by : (f w : ℕ) (x : Future) (b : Bool) → (g == f) ≡ b → unless_in (wakes_at (told r i (events.Poll g v)) (cond b (Some v) None) (wakes_since r.trace f)) (last_waker_at (told r i (events.Poll g v)) (cond b (Some v) None) (last_waker r.trace f)) ≡ Some w
-        → get (step r.hall i (events.Poll g v)).hall.futures f ≡ Some x → x.stage ≡ Waiting w
-    waits_by f w x true e owing is =
-        let reply : Answer = (step r.hall i (events.Poll g v)).reply in
-        let pending = cond_some (is_pending reply) v w (unless_some [] (kept_waker reply v) w owing).0 in
-        gives.waits pending.0 x (ap (get (step r.hall i (events.Poll g v)).hall.futures) (eqb-true g f e) ∙ is) ∙ ap (λ (n : ℕ). Waiting n) pending.1
-    waits_by f w x false e owing is =
-        let wakes : List ℕ = (step r.hall i (events.Poll g v)).wakes in
-        let ws : List ℕ = wakes_since r.trace f in
-        let parts = unless_some (ws ++ wakes) (last_waker r.trace f) w owing in
-        let absent = neither (is_in ws w) (is_in wakes w) (sym (is_in-append ws wakes w) ∙ parts.1) in
-        k.waits f w x (unless_from ws (last_waker r.trace f) w parts.0 absent.0) (gives.others f x (eqb-false g f e) is)
+    by_stage : (t : Stage) → waker_at t ≡ Some w → t ≡ Waiting w
+    by_stage New is = absurd (cc)
+    by_stage (Waiting v) is = ap (λ (n : ℕ). Waiting n) (inside is)
+    by_stage Granted is = absurd (cc)
 
-    polled_by : (f w : ℕ) (b : Bool) → (g == f) ≡ b → last_waker_at (told r i (events.Poll g v)) (cond b (Some v) None) (last_waker r.trace f) ≡ Some w → f < i + 1
-    polled_by f w true e last = let same : g ≡ f = eqb-true g f e in omega arith
-    polled_by f w false e last = omega (arith, k.polled f w last)
+waits_on : (h : Hall) (i : ℕ) (e : SemEvent) (f w v : ℕ) → waker_kept (get h.futures f) ≡ Some w → waker_in e f ≡ Some v → (step h i e).reply ≡ answers.Pending
+waits_on h i e f w v kept polls =
+    let there = waits_with (get h.futures f) w kept in
+    ap (λ d. (step h i d).reply) (poll_is e f v polls) ∙ ap (λ o. (poll_of h i f v o).reply) there.1 ∙ ap (λ t. (poll_at h i f v there.0 t).reply) there.2
 
-module _ (r : Run) (i : ℕ) (low : IsBelow r.hall r.next) (later : r.next ≤ i) (k : Owes r) where
-  quiet : (e : SemEvent) → ((f : ℕ) → waker_in e f ≡ None) → Passes r.hall (step r.hall i e) i → Owes (goes_on r i e)
-  quiet e silent passes = keeps_unpolled r i e silent passes later k
+-- a future below i after an event was there before, and still waits with its waker, was polled or woken
+record Leaves (h : Hall) (e : SemEvent) (i : ℕ) : Type 0 where
+  was : (f : ℕ) → f < i → is_some (get (step h i e).hall.futures f) ≡ true → is_some (get h.futures f) ≡ true
+  stays : (f w : ℕ) → f < i → is_some (get (step h i e).hall.futures f) ≡ true → waker_kept (get h.futures f) ≡ Some w → waker_in e f ≡ None → (waker_kept (get (step h i e).hall.futures f) ≡ Some w) ⊎ Contains (step h i e).wakes w
 
-  polls : (g v : ℕ) → (x : Future) × (get r.hall.futures g ≡ Some x) → Owes (goes_on r i (events.Poll g v))
-  polls g v there =
-      let gives : Polled r.hall g v (step r.hall i (events.Poll g v)) = subst (λ o. Polled r.hall g v (poll_of r.hall i g v o)) (sym there.1) (polled_at r.hall i g v there.0 there.0.stage) in
-      let small : g < i = omega (arith, low.futures g (is_there (get r.hall.futures g) there.0 there.1)) in
-      keeps_polled r i g v gives small later k
+passing : (h : Hall) (e : SemEvent) (i : ℕ) → Passes h (step h i e) i → Leaves h e i
+passing h e i passes = record {
+  was = λ f less living.
+      let y = value_in (get (step h i e).hall.futures f) living in
+      let x = passes.each f y.0 less y.1 in
+      is_there (get h.futures f) x.0 x.1;
+  stays = λ f w less living kept polls.
+      let y = value_in (get (step h i e).hall.futures f) living in
+      let x = passes.each f y.0 less y.1 in
+      let before = waits_with (get h.futures f) w kept in
+      let same : before.0 ≡ x.0 = inside (sym before.1 ∙ x.1) in
+      elim (x.2 w (ap (λ (z : Future). z.stage) (sym same) ∙ before.2)) [
+        | inl waits ↦ inl (ap waker_kept y.1 ∙ ap waker_at waits)
+        | inr woken ↦ inr woken
+      ];
+}
 
-  keeps : (e : SemEvent) → cause_of r.hall e ≡ None → Owes (goes_on r i e)
-  keeps (events.New n) cause = quiet (events.New n) (λ f. refl) (passes_same r.hall _ i refl)
-  keeps (events.Free s) cause = quiet (events.Free s) (λ f. refl) (passes_same r.hall _ i refl)
-  keeps (events.Forget s n) cause = quiet (events.Forget s n) (λ f. refl) (passes_same r.hall _ i refl)
-  keeps (events.Forgetx s n) cause = quiet (events.Forgetx s n) (λ f. refl) (passes_same r.hall _ i refl)
-  keeps (events.Release s n) cause = quiet (events.Release s n) (λ f. refl) (passes_pour r.hall (released_to r.hall s n) s n i (λ f y is. is))
-  keeps (events.Try s n) cause = quiet (events.Try s n) (λ f. refl) (tries r.hall i s n true)
-  keeps (events.Tryo s n) cause = quiet (events.Tryo s n) (λ f. refl) (tries r.hall i s n false)
-  keeps (events.Tryf s n) cause = quiet (events.Tryf s n) (λ f. refl) (tries_and_forgets r.hall i s n)
-  keeps (events.Tryof s n) cause = quiet (events.Tryof s n) (λ f. refl) (tries_and_forgets r.hall i s n)
-  keeps (events.Acq s n) cause = quiet (events.Acq s n) (λ f. refl) (acquires r.hall i _)
-  keeps (events.Acqo s n) cause = quiet (events.Acqo s n) (λ f. refl) (acquires r.hall i _)
-  keeps (events.Acqf s n) cause = quiet (events.Acqf s n) (λ f. refl) (acquires r.hall i _)
-  keeps (events.Acqof s n) cause = quiet (events.Acqof s n) (λ f. refl) (acquires r.hall i _)
-  keeps (events.Poll g v) cause = polls g v (value_in (get r.hall.futures g) (known _ cause))
-  keeps (events.End x) cause = quiet (events.End x) (λ f. refl) (ends r.hall i x (get r.hall.futures x))
-  keeps (events.Lose p) cause = quiet (events.Lose p) (λ f. refl) (loses r.hall i p (get r.hall.permits p))
-  keeps (events.Merge p q) cause = quiet (events.Merge p q) (λ f. refl) (merges r.hall i p q (get r.hall.permits p) (get r.hall.permits q))
-  keeps (events.Split p n) cause = quiet (events.Split p n) (λ f. refl) (splits r.hall i p n (get r.hall.permits p))
-  keeps (events.Size p) cause = quiet (events.Size p) (λ f. refl) (passes_same r.hall _ i refl)
-  keeps (events.Endsem s) cause = quiet (events.Endsem s) (λ f. refl) (passes_same r.hall _ i refl)
-  keeps (events.Ledger s) cause = quiet (events.Ledger s) (λ f. refl) (passes_same r.hall _ i refl)
+polling : (h : Hall) (i g v : ℕ) → is_some (get h.futures g) ≡ true → Leaves h (events.Poll g v) i
+polling h i g v lived =
+    let o : Outcome = step h i (events.Poll g v) in
+    let gives : Polled h g v o = polled_by h i g v (get h.futures g) lived in
+    record {
+      was = λ f less living. elim (g == f) as (λ b. (g == f) ≡ b → is_some (get h.futures f) ≡ true) [
+        | true ↦ λ e. ap (λ k. is_some (get h.futures k)) (sym (eqb-true g f e)) ∙ lived
+        | false ↦ λ e. ap is_some (sym (gives.others f (eqb-false g f e))) ∙ living
+      ] refl;
+      stays = λ f w less living kept polls. elim (g == f) as (λ b. (g == f) ≡ b → cond b (Some v) None ≡ None → (waker_kept (get o.hall.futures f) ≡ Some w) ⊎ Contains o.wakes w) [
+        | true ↦ λ e p. absurd (cc)
+        | false ↦ λ e p. inl (ap waker_kept (gives.others f (eqb-false g f e)) ∙ kept)
+      ] refl polls;
+    }
 
-owes : (r : Run) → Runs r → Owes r
-owes _ Starts = record { waits = λ f w x owing is. absurd (cc); polled = λ f w last. absurd (cc) }
-owes _ (Goes r i e runs later cause) = keeps r i (balance.kept r runs).below later (owes r runs) e cause
+module _ (h : Hall) (i : ℕ) where
+  leaves : (e : SemEvent) → cause_of h e ≡ None → Leaves h e i
+  leaves (events.New n) cause = passing h (events.New n) i (passes_same h _ i refl)
+  leaves (events.Free s) cause = passing h (events.Free s) i (passes_same h _ i refl)
+  leaves (events.Forget s n) cause = passing h (events.Forget s n) i (passes_same h _ i refl)
+  leaves (events.Forgetx s n) cause = passing h (events.Forgetx s n) i (passes_same h _ i refl)
+  leaves (events.Release s n) cause = passing h (events.Release s n) i (passes_pour h (released_to h s n) s n i (λ f y is. is))
+  leaves (events.Try s n) cause = passing h (events.Try s n) i (tries h i s n true)
+  leaves (events.Tryo s n) cause = passing h (events.Tryo s n) i (tries h i s n false)
+  leaves (events.Tryf s n) cause = passing h (events.Tryf s n) i (tries_and_forgets h i s n)
+  leaves (events.Tryof s n) cause = passing h (events.Tryof s n) i (tries_and_forgets h i s n)
+  leaves (events.Acq s n) cause = passing h (events.Acq s n) i (acquires h i _)
+  leaves (events.Acqo s n) cause = passing h (events.Acqo s n) i (acquires h i _)
+  leaves (events.Acqf s n) cause = passing h (events.Acqf s n) i (acquires h i _)
+  leaves (events.Acqof s n) cause = passing h (events.Acqof s n) i (acquires h i _)
+  leaves (events.Poll g v) cause = polling h i g v (known _ cause)
+  leaves (events.End x) cause = passing h (events.End x) i (ends h i x (get h.futures x))
+  leaves (events.Lose p) cause = passing h (events.Lose p) i (loses h i p (get h.permits p))
+  leaves (events.Merge p q) cause = passing h (events.Merge p q) i (merges h i p q (get h.permits p) (get h.permits q))
+  leaves (events.Split p n) cause = passing h (events.Split p n) i (splits h i p n (get h.permits p))
+  leaves (events.Size p) cause = passing h (events.Size p) i (passes_same h _ i refl)
+  leaves (events.Endsem s) cause = passing h (events.Endsem s) i (passes_same h _ i refl)
+  leaves (events.Ledger s) cause = passing h (events.Ledger s) i (passes_same h _ i refl)
 
--- ---- in the words of the law
-pub loses_no_wake : (r : Run) → Runs r → LosesNoWake r
-loses_no_wake r runs f w v living last ready = elim (is_in (wakes_since r.trace f) w) as (λ b. is_in (wakes_since r.trace f) w ≡ b → Contains (wakes_since r.trace f) w) [
-  | true ↦ λ e. is_in-contains (wakes_since r.trace f) w e
-  | false ↦ λ e. absurd (ready (pending (value_in (get r.hall.futures f) living) e))
+-- ---- in the words of the laws
+lives_below : (r : Run) → Runs r → (f : ℕ) → is_some (get r.hall.futures f) ≡ true → f < r.next
+lives_below r runs f living = (balance.kept r runs).below.futures f living
+
+below_or_made : (r : Run) (i : ℕ) (e : SemEvent) → Runs r → cause_of r.hall e ≡ None → (f : ℕ) → f < i + 1 → is_some (get (step r.hall i e).hall.futures f) ≡ true → (is_some (get r.hall.futures f) ≡ true) ⊎ (f ≡ i)
+below_or_made r i e runs cause f less living = elim (f == i) as (λ b. (f == i) ≡ b → (is_some (get r.hall.futures f) ≡ true) ⊎ (f ≡ i)) [
+  | true ↦ λ t. inr (eqb-true f i t)
+  | false ↦ λ t. inl ((leaves r.hall i e cause).was f (let apart = eqb-false f i t in omega (arith, less, apart)) living)
 ] refl
-  where
-    pending : (x : Future) × (get r.hall.futures f ≡ Some x) → is_in (wakes_since r.trace f) w ≡ false → (step r.hall r.next (events.Poll f v)).reply ≡ answers.Pending
-    pending there absent =
-        let waiting : there.0.stage ≡ Waiting w = (owes r runs).waits f w there.0 (unless_from (wakes_since r.trace f) (last_waker r.trace f) w last absent) there.1 in
-        ap (λ o. (poll_of r.hall r.next f v o).reply) there.1 ∙ ap (λ t. (poll_at r.hall r.next f v there.0 t).reply) waiting
+
+pub names_futures : NamesFutures semaphores
+names_futures = record {
+  polls = λ h e cause f w polls. polls_living h e cause f w polls;
+  below = λ r runs f living. lives_below r runs f living;
+  made = λ r i e runs later cause f living.
+      below_or_made r i e runs cause f (lives_below (goes_on semaphores r i e) (Goes r i e runs later cause) f living) living;
+}
+
+pub keeps_wakers : KeepsWakers semaphores
+keeps_wakers = record {
+  places = λ r i e runs later cause f w polls pending. places_waker r.hall i e cause f w polls pending;
+  waits = λ r i e runs f w v living placed polls. waits_on r.hall i e f w v placed polls;
+  wakes = λ r i e runs later cause f w living placed polls living_on.
+      let low = lives_below r runs f living in
+      (leaves r.hall i e cause).stays f w (omega (arith, low, later)) living_on placed polls;
+}
+
+pub loses_no_wake : (r : Run) → Runs r → LosesNoWake semaphores r
+loses_no_wake r runs = wakes.loses_no_wake semaphores keeps_wakers names_futures r runs

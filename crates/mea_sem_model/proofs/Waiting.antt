@@ -1,24 +1,23 @@
 -- how many futures wait, and how many of them an event wakes
-use Rattle.std.proofs.Common.{◌≡◌, ℕ, ◌+◌, ◌-◌, ◌≤◌, ◌==◌, Bool, true, false, cond, not, length, map, filter, List, [], ◌∷◌, ◌++◌, Option, Some, None, unwrap_or, refl, ap, ◌∙◌, arith, nat_lt, nat_le, if◌then◌else◌}
+use Rattle.std.proofs.Common.{◌≡◌, ℕ, ◌+◌, ◌-◌, ◌≤◌, ◌==◌, Bool, true, false, cond, not, length, map, filter, List, [], ◌∷◌, ◌++◌, Option, Some, None, unwrap_or, refl, ap, ◌∙◌, arith, nat_lt, nat_le, min, if◌then◌else◌}
 use Rattle.std.specs.List.{flat_map}
 use Rattle.std.specs.Ordering.{nat_cmp}
 use Rattle.std.specs.FinMap.{FinMap, get}
 use Rattle.std.proofs.lemmas.Bool.Decides.{nat_tests}
 use Rattle.std.proofs.lemmas.List.{length-append}
 use Rattle.std.proofs.lemmas.List.Sums.{sum_by-cons}
-use Rattle.std.proofs.lemmas.Bool.{eq-eqb}
 use Rattle.mea_base.specs.Queue.{lacks_after, waiting_after, granted_in}
 use Rattle.mea_base.specs.Totals.{weight}
-use Rattle.mea_base.proofs.Totals.{total-insert, total-remove}
+use Rattle.mea_base.proofs.Totals.{total-insert}
 use Rattle.mea_base.specs.declared.answer.Answer.{Answer}
+use Rattle.mea_base.specs.declared.answer.Answer.TheVariants as answers
 use Rattle.mea_sem_model.specs.declared.event.SemEvent.{SemEvent}
 use Rattle.mea_sem_model.specs.declared.event.SemEvent.TheVariants as events
 use Rattle.mea_sem_model.specs.Hall.{Hall, Semaphore, Future, Permit, Stage, New, Waiting, Granted, Who, Waiter, Debt, names, made_with, semaphore_at, queue_at, free, lack_of, poured, pour, waker_of, waker_of_future, waker_of_who, wakes_of, with_semaphore}
-use Rattle.mea_sem_model.specs.Step.{quietly, without_permit, without_future, with_debt, try_of, try_and_forget, poll_at, poll_of, without, leaving, end_future, end_permit, end_of, lose_of, split_of, released_to, step}
+use Rattle.mea_sem_model.specs.Step.{Outcome, quietly, pouring, without_permit, with_permit, without_future, with_debt, forgetting, forgetting_exactly, taking, try_of, try_and_forget, made_ready, queueing, first_poll, poll_at, poll_of, without, leaving, end_future, end_permit, end_of, lose_of, merge_of, split_of, released_to, step}
 use Rattle.mea_sem_model.specs.Valid.{count}
-use Rattle.mea_sem_model.specs.Waiters.{waiters_in, waiters}
+use Rattle.mea_sem_model.specs.Waiters.{waiters_in, waiters, registers}
 use Rattle.mea_sem_model.proofs.Pours.{on_true, on_false}
-use Rattle.mea_sem_model.proofs.HallLemmas.{semaphore_put}
 
 -- how many of these are futures
 abbrev pub waiters_among : List Who → ℕ
@@ -64,19 +63,19 @@ waiters-parts ((Debt, k) ∷ q) = ap (λ b. waiters_in (cond b ((Debt, k) ∷ st
     ]
 
 -- who waited waits on or is granted
-pub waiters-pour : (q : List (Who × ℕ)) (n : ℕ) → waiters_in (waiting_after q n) + waiters_among (granted_in q n) ≡ waiters_in q
+waiters-pour : (q : List (Who × ℕ)) (n : ℕ) → waiters_in (waiting_after q n) + waiters_among (granted_in q n) ≡ waiters_in q
 waiters-pour q n = omega (arith, waiters-parts (lacks_after 0 q n), waiters-after q 0 n, waiters-who (full (lacks_after 0 q n)))
 
-pub waiters-append : (q : List (Who × ℕ)) (f n : ℕ) → waiters_in (q ++ (Waiter f, n) ∷ []) ≡ waiters_in q + 1
+waiters-append : (q : List (Who × ℕ)) (f n : ℕ) → waiters_in (q ++ (Waiter f, n) ∷ []) ≡ waiters_in q + 1
 waiters-append [] f n = refl
 waiters-append ((Waiter g, k) ∷ q) f n = ap (λ m. m + 1) (waiters-append q f n)
 waiters-append ((Debt, k) ∷ q) f n = waiters-append q f n
 
-pub waiters-debt : (q : List (Who × ℕ)) (n : ℕ) → waiters_in (with_debt q n) ≡ waiters_in q
+waiters-debt : (q : List (Who × ℕ)) (n : ℕ) → waiters_in (with_debt q n) ≡ waiters_in q
 waiters-debt q n = elim (n == 0) as (λ b. waiters_in (cond b q ((Debt, n) ∷ q)) ≡ waiters_in q) [ true ↦ refl | false ↦ refl ]
 
 -- a future that leaves is no waiter any more
-pub waiters-without : (q : List (Who × ℕ)) (f : ℕ) → waiters_in (without q f) + count q f ≡ waiters_in q
+waiters-without : (q : List (Who × ℕ)) (f : ℕ) → waiters_in (without q f) + count q f ≡ waiters_in q
 waiters-without [] f = refl
 waiters-without ((Waiter g, k) ∷ q) f =
     let counts = sum_by-cons {X = Who × ℕ} (λ e. cond (names e.0 f) 1 0) (Waiter g, k) q in
@@ -91,14 +90,11 @@ weighs : (s : ℕ) (o : Option Semaphore) → weight (λ k (r : Semaphore). wait
 weighs s None = refl
 weighs s (Some r) = refl
 
-pub waiters-put : (h : Hall) (s : ℕ) (r : Semaphore) → waiters (with_semaphore h s r) + waiters_in (queue_at h s) ≡ waiters h + waiters_in r.queue
+waiters-put : (h : Hall) (s : ℕ) (r : Semaphore) → waiters (with_semaphore h s r) + waiters_in (queue_at h s) ≡ waiters h + waiters_in r.queue
 waiters-put h s r = omega (arith, weighs s (get h.semaphores s), total-insert {X = Semaphore} (λ k r. waiters_in r.queue) h.semaphores s r)
 
-pub waiters-of_one : (h : Hall) (s : ℕ) → waiters_in (queue_at h s) ≤ waiters h
-waiters-of_one h s = omega (arith, weighs s (get h.semaphores s), total-remove {X = Semaphore} (λ k r. waiters_in r.queue) h.semaphores s)
-
 -- who waited in a hall before a pour waits on or is granted
-pub waiters-poured : (h : Hall) (s n : ℕ) → waiters (pour h s n) + waiters_among (granted_in (queue_at h s) n) ≡ waiters h
+waiters-poured : (h : Hall) (s n : ℕ) → waiters (pour h s n) + waiters_among (granted_in (queue_at h s) n) ≡ waiters h
 waiters-poured h s n = omega (arith, waiters-put h s (poured (semaphore_at h s) n), waiters-pour (queue_at h s) n)
 
 -- ---- wakes
@@ -117,95 +113,122 @@ wakers m (Waiter f ∷ ws) = omega (arith, one_waker (get m f), wakers m ws, len
 wakers m (Debt ∷ ws) = wakers m ws
 
 -- a pour wakes those at most that it grants
-pub wakes-granted : (h : Hall) (s n : ℕ) → length (wakes_of h s n) ≤ waiters_among (granted_in (queue_at h s) n)
+wakes-granted : (h : Hall) (s n : ℕ) → length (wakes_of h s n) ≤ waiters_among (granted_in (queue_at h s) n)
 wakes-granted h s n = wakers h.futures (granted_in (queue_at h s) n)
 
-pub wakes-pour : (h : Hall) (s n : ℕ) → length (wakes_of h s n) ≤ waiters_in (queue_at h s)
-wakes-pour h s n = omega (arith, wakes-granted h s n, waiters-pour (queue_at h s) n)
-
--- a pour into a hall g wakes at most the waiters of h, where the queue has no more of them in g than in h
-wakes-poured : (h g : Hall) (s n : ℕ) → waiters_in (queue_at g s) ≤ waiters_in (queue_at h s) → length (wakes_of g s n) ≤ waiters h
-wakes-poured h g s n fewer = omega (arith, fewer, wakes-pour g s n, waiters-of_one h s)
-
-queue_put : (h : Hall) (s : ℕ) (r : Semaphore) → queue_at (with_semaphore h s r) s ≡ r.queue
-queue_put h s r = ap (λ (x : Semaphore). x.queue) (semaphore_put h s s r) ∙ ap (λ b. (cond b r (semaphore_at h s)).queue) (eq-eqb s s refl)
-
 -- ---- each event
+-- after this outcome at most as many futures wait or are woken as waited before; or one more, where the
+-- event may register
+pub record Settles (h : Hall) (o : Outcome) (registering : Bool) : Type 0 where
+  pub most : length o.wakes ≤ waiters h
+  pub grows : waiters o.hall + length o.wakes ≤ waiters h + 1
+  pub falls : registering ≡ false → waiters o.hall + length o.wakes ≤ waiters h
+
+settled : (h : Hall) (o : Outcome) (b : Bool) → waiters o.hall + length o.wakes ≤ waiters h → Settles h o b
+settled h o b few = record { most = omega (arith, few); grows = omega (arith, few); falls = λ not_one. few }
+
+quiet : (h k : Hall) (reply : Answer) (b : Bool) → waiters k ≤ waiters h → Settles h (quietly k reply) b
+quiet h k reply b few = settled h (quietly k reply) b (omega (arith, few))
+
+one_more : (h k : Hall) (reply : Answer) → waiters k ≤ waiters h + 1 → Settles h (quietly k reply) true
+one_more h k reply few = record { most = omega arith; grows = omega (arith, few); falls = λ not_one. absurd (cc) }
+
+pours : (h g : Hall) (s n : ℕ) (b : Bool) → waiters g ≤ waiters h → Settles h (pouring g s n) b
+pours h g s n b few = settled h (pouring g s n) b (omega (arith, few, wakes-granted g s n, waiters-poured g s n))
+
+-- a test between two that wake nobody
+quiet_if : (h : Hall) (c : Bool) (k l : Hall) (x y : Answer) (b : Bool) → waiters k ≤ waiters h → waiters l ≤ waiters h → Settles h (if c then quietly k x else quietly l y) b
+quiet_if h true k l x y b few _ = quiet h k x b few
+quiet_if h false k l x y b _ few = quiet h l y b few
+
+-- a semaphore is put in whose queue has no more futures than the one there
+put_few : (h : Hall) (s : ℕ) (r : Semaphore) → waiters_in r.queue ≤ waiters_in (queue_at h s) → waiters (with_semaphore h s r) ≤ waiters h
+put_few h s r fewer = omega (arith, fewer, waiters-put h s r)
+
+ready_few : (h : Hall) (i f : ℕ) (x : Future) → waiters (made_ready h i f x) ≤ waiters h
+ready_few h i f x = elim x.forgets as (λ b. waiters (if b then with_semaphore (without_future h f) x.semaphore (record (semaphore_at h x.semaphore) { forgotten = (semaphore_at h x.semaphore).forgotten + x.demand }) else with_permit (without_future h f) i (record { semaphore = x.semaphore; size = x.demand; plain = x.plain })) ≤ waiters h) [
+  | true ↦ put_few (without_future h f) x.semaphore (record (semaphore_at h x.semaphore) { forgotten = (semaphore_at h x.semaphore).forgotten + x.demand }) (omega arith)
+  | false ↦ omega arith
+]
+
 module _ (h : Hall) (i : ℕ) where
-  quiet : 0 ≤ waiters h
-  quiet = omega arith
+  as_many : waiters h ≤ waiters h
+  as_many = omega arith
 
-  wakes-release : (s n : ℕ) → length (wakes_of (released_to h s n) s n) ≤ waiters h
-  wakes-release s n =
-      let same = ap waiters_in (queue_put h s (record (semaphore_at h s) { released = (semaphore_at h s).released + n })) in
-      wakes-poured h (released_to h s n) s n (omega (arith, same))
+  settles-first_poll : (f w : ℕ) (x : Future) → Settles h (first_poll h i f w x) true
+  settles-first_poll f w x = elim (nat_le x.demand (free h x.semaphore)) as (λ b. Settles h (if b then quietly (made_ready taken i f x) answers.Ready else quietly (queueing h f w x) answers.Pending) true) [
+    | true ↦ quiet h (made_ready taken i f x) answers.Ready true (omega (arith, ready_few taken i f x, put_few h x.semaphore (taking r x.demand) (omega arith)))
+    | false ↦ one_more h (queueing h f w x) answers.Pending (omega (arith, waiters-put h x.semaphore (record r { free = 0; queue = r.queue ++ (Waiter f, x.demand - r.free) ∷ [] }), waiters-append r.queue f (x.demand - r.free)))
+  ]
+    where
+      r : Semaphore
+      r = semaphore_at h x.semaphore
 
-  wakes-leave : (f n : ℕ) (x : Future) → length (wakes_of (leaving h f x) x.semaphore n) ≤ waiters h
-  wakes-leave f n x =
-      let fewer = ap waiters_in (queue_put h x.semaphore (record (semaphore_at h x.semaphore) { queue = without (queue_at h x.semaphore) f })) in
-      wakes-poured h (leaving h f x) x.semaphore n (omega (arith, fewer, waiters-without (queue_at h x.semaphore) f))
+      taken : Hall
+      taken = with_semaphore h x.semaphore (taking r x.demand)
 
-  wakes-end_permit : (p : ℕ) (o : Option Permit) → length (end_permit h p o).wakes ≤ waiters h
-  wakes-end_permit p None = quiet
-  wakes-end_permit p (Some x) = wakes-poured h (without_permit h p) x.semaphore x.size (omega arith)
+  settles-poll_at : (f w : ℕ) (x : Future) (t : Stage) → Settles h (poll_at h i f w x t) true
+  settles-poll_at f w x New = settles-first_poll f w x
+  settles-poll_at f w x (Waiting v) = quiet h _ answers.Pending true as_many
+  settles-poll_at f w x Granted = quiet h (made_ready h i f x) answers.Ready true (ready_few h i f x)
 
-  wakes-end_future : (f : ℕ) (x : Future) (t : Stage) → length (end_future h f x t).wakes ≤ waiters h
-  wakes-end_future f x New = quiet
-  wakes-end_future f x (Waiting w) = wakes-leave f (x.demand - lack_of (queue_at h x.semaphore) f) x
-  wakes-end_future f x Granted = wakes-poured h (without_future h f) x.semaphore x.demand (omega arith)
+  settles-poll : (f w : ℕ) (o : Option Future) → Settles h (poll_of h i f w o) true
+  settles-poll f w None = quiet h h answers.Done true as_many
+  settles-poll f w (Some x) = settles-poll_at f w x x.stage
 
-  wakes-end : (k : ℕ) (o : Option Future) → length (end_of h k o).wakes ≤ waiters h
-  wakes-end k None = wakes-end_permit k (get h.permits k)
-  wakes-end k (Some x) = wakes-end_future k x x.stage
+  settles-end_permit : (p : ℕ) (o : Option Permit) → Settles h (end_permit h p o) false
+  settles-end_permit p None = quiet h h answers.Done false as_many
+  settles-end_permit p (Some x) = pours h (without_permit h p) x.semaphore x.size false as_many
 
-  -- a test between two that wake nobody
-  wakes-if : (b : Bool) (k l : Hall) (x y : Answer) → length (if b then quietly k x else quietly l y).wakes ≤ waiters h
-  wakes-if true k l x y = quiet
-  wakes-if false k l x y = quiet
+  settles-end_future : (f : ℕ) (x : Future) (t : Stage) → Settles h (end_future h f x t) false
+  settles-end_future f x New = quiet h _ answers.Done false as_many
+  settles-end_future f x (Waiting w) =
+      let fewer = put_few h x.semaphore (record (semaphore_at h x.semaphore) { queue = without (queue_at h x.semaphore) f }) (omega (arith, waiters-without (queue_at h x.semaphore) f)) in
+      pours h (leaving h f x) x.semaphore (x.demand - lack_of (queue_at h x.semaphore) f) false fewer
+  settles-end_future f x Granted = pours h (without_future h f) x.semaphore x.demand false as_many
 
-  wakes-poll_at : (f w : ℕ) (x : Future) (t : Stage) → length (poll_at h i f w x t).wakes ≤ waiters h
-  wakes-poll_at f w x New = wakes-if (nat_le x.demand (free h x.semaphore)) _ _ _ _
-  wakes-poll_at f w x (Waiting v) = quiet
-  wakes-poll_at f w x Granted = quiet
+  settles-end : (k : ℕ) (o : Option Future) → Settles h (end_of h k o) false
+  settles-end k None = settles-end_permit k (get h.permits k)
+  settles-end k (Some x) = settles-end_future k x x.stage
 
-  wakes-poll : (f w : ℕ) (o : Option Future) → length (poll_of h i f w o).wakes ≤ waiters h
-  wakes-poll f w None = quiet
-  wakes-poll f w (Some x) = wakes-poll_at f w x x.stage
+  settles-lose : (p : ℕ) (o : Option Permit) → Settles h (lose_of h p o) false
+  settles-lose p None = quiet h h answers.Done false as_many
+  settles-lose p (Some x) = quiet h _ (answers.Forgot x.size) false (put_few (without_permit h p) x.semaphore (record (semaphore_at h x.semaphore) { forgotten = (semaphore_at h x.semaphore).forgotten + x.size }) (omega arith))
 
-  wakes-lose : (p : ℕ) (o : Option Permit) → length (lose_of h p o).wakes ≤ waiters h
-  wakes-lose p None = quiet
-  wakes-lose p (Some x) = quiet
+  settles-merge : (p q : ℕ) (o u : Option Permit) → Settles h (quietly (merge_of h p q o u) answers.Done) false
+  settles-merge p q None u = quiet h h answers.Done false as_many
+  settles-merge p q (Some x) None = quiet h h answers.Done false as_many
+  settles-merge p q (Some x) (Some y) = quiet h _ answers.Done false as_many
 
-  wakes-split : (p n : ℕ) (o : Option Permit) → length (split_of h i p n o).wakes ≤ waiters h
-  wakes-split p n None = quiet
-  wakes-split p n (Some x) = wakes-if (nat_le n x.size) _ _ _ _
+  settles-split : (p n : ℕ) (o : Option Permit) → Settles h (split_of h i p n o) false
+  settles-split p n None = quiet h h answers.Lacking false as_many
+  settles-split p n (Some x) = quiet_if h (nat_le n x.size) _ h answers.Held answers.Lacking false as_many as_many
 
-  wakes-try : (s n : ℕ) (plain : Bool) → length (try_of h i s n plain).wakes ≤ waiters h
-  wakes-try s n plain = wakes-if (nat_le n (free h s)) _ _ _ _
+  settles-try : (s n : ℕ) (plain : Bool) → Settles h (try_of h i s n plain) false
+  settles-try s n plain = quiet_if h (nat_le n (free h s)) _ h answers.Held answers.Lacking false (put_few h s (taking (semaphore_at h s) n) (omega arith)) as_many
 
-  wakes-try_and_forget : (s n : ℕ) → length (try_and_forget h s n).wakes ≤ waiters h
-  wakes-try_and_forget s n = wakes-if (nat_le n (free h s)) _ _ _ _
+  settles-try_and_forget : (s n : ℕ) → Settles h (try_and_forget h s n) false
+  settles-try_and_forget s n = quiet_if h (nat_le n (free h s)) _ h answers.Yes answers.No false (put_few h s (record (semaphore_at h s) { free = free h s - n; forgotten = (semaphore_at h s).forgotten + n }) (omega arith)) as_many
 
-  -- an event wakes at most the waiters
-  pub wakes-step : (e : SemEvent) → length (step h i e).wakes ≤ waiters h
-  wakes-step (events.New n) = quiet
-  wakes-step (events.Free s) = quiet
-  wakes-step (events.Forget s n) = quiet
-  wakes-step (events.Forgetx s n) = quiet
-  wakes-step (events.Release s n) = wakes-release s n
-  wakes-step (events.Try s n) = wakes-try s n true
-  wakes-step (events.Tryo s n) = wakes-try s n false
-  wakes-step (events.Tryf s n) = wakes-try_and_forget s n
-  wakes-step (events.Tryof s n) = wakes-try_and_forget s n
-  wakes-step (events.Acq s n) = quiet
-  wakes-step (events.Acqo s n) = quiet
-  wakes-step (events.Acqf s n) = quiet
-  wakes-step (events.Acqof s n) = quiet
-  wakes-step (events.Poll f w) = wakes-poll f w (get h.futures f)
-  wakes-step (events.End x) = wakes-end x (get h.futures x)
-  wakes-step (events.Lose p) = wakes-lose p (get h.permits p)
-  wakes-step (events.Merge p q) = quiet
-  wakes-step (events.Split p n) = wakes-split p n (get h.permits p)
-  wakes-step (events.Size p) = quiet
-  wakes-step (events.Endsem s) = quiet
-  wakes-step (events.Ledger s) = quiet
+  pub settles : (e : SemEvent) → Settles h (step h i e) (registers e)
+  settles (events.New n) = quiet h _ answers.Made false (put_few h i (made_with n) (omega arith))
+  settles (events.Free s) = quiet h h (answers.Free (free h s)) false as_many
+  settles (events.Forget s n) = quiet h _ (answers.Forgot (min n (free h s))) false (put_few h s (forgetting (semaphore_at h s) n) (omega arith))
+  settles (events.Forgetx s n) = quiet h _ answers.Done false (put_few h s (forgetting_exactly (semaphore_at h s) n) (let same = waiters-debt (queue_at h s) (n - min n (free h s)) in omega (arith, same)))
+  settles (events.Release s n) = pours h (released_to h s n) s n false (put_few h s (record (semaphore_at h s) { released = (semaphore_at h s).released + n }) (omega arith))
+  settles (events.Try s n) = settles-try s n true
+  settles (events.Tryo s n) = settles-try s n false
+  settles (events.Tryf s n) = settles-try_and_forget s n
+  settles (events.Tryof s n) = settles-try_and_forget s n
+  settles (events.Acq s n) = quiet h _ answers.Made false as_many
+  settles (events.Acqo s n) = quiet h _ answers.Made false as_many
+  settles (events.Acqf s n) = quiet h _ answers.Made false as_many
+  settles (events.Acqof s n) = quiet h _ answers.Made false as_many
+  settles (events.Poll f w) = settles-poll f w (get h.futures f)
+  settles (events.End x) = settles-end x (get h.futures x)
+  settles (events.Lose p) = settles-lose p (get h.permits p)
+  settles (events.Merge p q) = settles-merge p q (get h.permits p) (get h.permits q)
+  settles (events.Split p n) = settles-split p n (get h.permits p)
+  settles (events.Size p) = quiet h h _ false as_many
+  settles (events.Endsem s) = quiet h _ answers.Done false (put_few h s (record (semaphore_at h s) { named = false }) (omega arith))
+  settles (events.Ledger s) = quiet h h _ false as_many

@@ -1,43 +1,58 @@
--- events that were played one after another with no cause for refusal, and what was told of them
-use Rattle.std.specs.Prelude.{ℕ, ◌≡◌, ◌≢◌, ◌+◌, ◌≤◌, ◌==◌, ◌&&◌, ◌++◌, Bool, true, false, cond, List, [], ◌∷◌, Option, Some, None, IsSome, Contains}
+-- semaphores as a family of primitives, and the permits that a run of their events made, released and forgot
+use Rattle.std.specs.Prelude.{ℕ, ◌≡◌, ◌+◌, ◌==◌, ◌&&◌, cond, List, Option, Some, None, is_some}
 use Rattle.std.specs.List.{sum_by}
 use Rattle.std.specs.FinMap as map
 use Rattle.mea_base.specs.declared.answer.Answer.{Answer}
 use Rattle.mea_base.specs.declared.answer.Answer.TheVariants as answers
+use Rattle.mea_base.specs.Family as family
+use Rattle.mea_base.specs.Family.{Family}
 use Rattle.mea_sem_model.specs.declared.event.SemEvent.{SemEvent}
 use Rattle.mea_sem_model.specs.declared.event.SemEvent.TheVariants as events
-use Rattle.mea_sem_model.specs.Hall.{Hall, Future, Permit, empty_hall, free, held, paid, owed}
+use Rattle.mea_sem_model.specs.Hall.{Hall, Future, Permit, Stage, New, Waiting, Granted, empty_hall, free, held, paid, owed}
 use Rattle.mea_sem_model.specs.Cause.{cause_of}
 use Rattle.mea_sem_model.specs.Step.{step}
 
--- an event as it was told: its number, the hall before it, its reply and its wakes
-pub record Told : Type 0 where
-  pub number : ℕ
-  pub before : Hall
-  pub event : SemEvent
-  pub reply : Answer
-  pub wakes : List ℕ
+-- the waker with which this event polls f, if it does
+abbrev pub waker_in : SemEvent → ℕ → Option ℕ
+waker_in (events.Poll g w) f = cond (g == f) (Some w) None
+waker_in _ f = None
 
--- a hall with all that was told so far, the newest first, and the least number that may come next
-pub record Run : Type 0 where
-  pub hall : Hall
-  pub trace : List Told
-  pub next : ℕ
+-- the waker of a future that waits
+abbrev pub waker_at : Stage → Option ℕ
+waker_at New = None
+waker_at (Waiting w) = Some w
+waker_at Granted = None
 
-abbrev pub start : Run
-start = record { hall = empty_hall; trace = []; next = 0 }
+abbrev pub waker_kept : Option Future → Option ℕ
+waker_kept None = None
+waker_kept (Some x) = waker_at x.stage
 
-abbrev pub told : Run → ℕ → SemEvent → Told
-told r i e = record { number = i; before = r.hall; event = e; reply = (step r.hall i e).reply; wakes = (step r.hall i e).wakes }
+-- semaphores as a family of primitives; a future is known by its name
+abbrev pub semaphores : Family
+semaphores = record {
+  Hall = Hall;
+  Event = SemEvent;
+  Future = ℕ;
+  empty = empty_hall;
+  cause = cause_of;
+  step = step;
+  polled = waker_in;
+  name = λ f. f;
+  lives = λ h f. is_some (map.get h.futures f);
+  placed = λ h f. waker_kept (map.get h.futures f);
+}
 
--- event number i is played
-abbrev pub goes_on : Run → ℕ → SemEvent → Run
-goes_on r i e = record { hall = (step r.hall i e).hall; trace = told r i e ∷ r.trace; next = i + 1 }
+-- an event of semaphores as it was told
+abbrev pub Told : Type 0
+Told = family.ToldOf semaphores
 
--- a run of events with rising numbers, each played where it has no cause for refusal
-pub data Runs : Run → Type 0 where
-  Starts : Runs start
-  Goes : (r : Run) (i : ℕ) (e : SemEvent) → Runs r → r.next ≤ i → cause_of r.hall e ≡ None → Runs (goes_on r i e)
+-- semaphores with all that was told of them so far
+abbrev pub Run : Type 0
+Run = family.RunOf semaphores
+
+-- a run of events of semaphores that had no cause for refusal
+abbrev pub Runs : Run → Type 0
+Runs r = family.Runs semaphores r
 
 -- ---- the permits that events made, released and forgot, summed again from the events and their replies
 
@@ -99,41 +114,3 @@ forgotten trace s = sum_by {X = Told} (λ t. forgotten_by s t t.event) trace
 -- the permits of s that were made, released and are owed are those that are free, held, paid and forgotten
 abbrev pub Balances : Run → ℕ → Type 0
 Balances r s = made r.trace s + released r.trace s + owed r.hall s ≡ free r.hall s + held r.hall s + paid r.hall s + forgotten r.trace s
-
--- ---- wakes
-
--- the waker of this event, if it polled f
-abbrev pub waker_in : SemEvent → ℕ → Option ℕ
-waker_in (events.Poll g w) f = cond (g == f) (Some w) None
-waker_in _ f = None
-
-abbrev pub is_pending : Answer → Bool
-is_pending answers.Pending = true
-is_pending _ = false
-
--- the waker, if the reply was `pending`
-abbrev pub kept_waker : Answer → ℕ → Option ℕ
-kept_waker reply w = cond (is_pending reply) (Some w) None
-
-abbrev pub last_waker_at : Told → Option ℕ → Option ℕ → Option ℕ
-last_waker_at t (Some w) before = kept_waker t.reply w
-last_waker_at t None before = before
-
--- the waker of the last poll of f, if that replied `pending`
-abbrev pub last_waker : List Told → ℕ → Option ℕ
-last_waker [] f = None
-last_waker (t ∷ older) f = last_waker_at t (waker_in t.event f) (last_waker older f)
-
-abbrev pub wakes_at : Told → Option ℕ → List ℕ → List ℕ
-wakes_at t (Some w) before = []
-wakes_at t None before = before ++ t.wakes
-
--- the wakes that were told after the last poll of f
-abbrev pub wakes_since : List Told → ℕ → List ℕ
-wakes_since [] f = []
-wakes_since (t ∷ older) f = wakes_at t (waker_in t.event f) (wakes_since older f)
-
--- a living future whose last poll replied `pending`, and whose next poll would reply something else, has
--- had the waker of that last poll woken since
-abbrev pub LosesNoWake : Run → Type 0
-LosesNoWake r = (f w v : ℕ) → IsSome (map.get r.hall.futures f) → last_waker r.trace f ≡ Some w → (step r.hall r.next (events.Poll f v)).reply ≢ answers.Pending → Contains (wakes_since r.trace f) w

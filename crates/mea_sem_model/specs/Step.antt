@@ -1,21 +1,17 @@
 -- what an event does to a hall, where it has no cause for refusal; a thing made by event i has the name i
 use Rattle.std.specs.Prelude.{ℕ, ◌+◌, ◌-◌, ◌==◌, ◌++◌, not, Bool, true, false, List, [], ◌∷◌, Option, Some, None, filter, nat_le, min, if◌then◌else◌}
 use Rattle.std.specs.FinMap as map
-use Rattle.mea_base.specs.declared.answer.Answer.{Answer}
 use Rattle.mea_base.specs.declared.answer.Answer.TheVariants as answers
 use Rattle.mea_base.specs.declared.ledger.Ledger.{Ledger}
+use Rattle.mea_base.specs.Family as family
+pub use Rattle.mea_base.specs.Family.{quietly}
 use Rattle.mea_sem_model.specs.declared.event.SemEvent.{SemEvent}
 use Rattle.mea_sem_model.specs.declared.event.SemEvent.TheVariants as events
 use Rattle.mea_sem_model.specs.Hall.{Hall, Semaphore, Future, Permit, Stage, New, Waiting, Granted, Who, Waiter, Debt, made_with, semaphore_at, queue_at, with_semaphore, names, lack_of, free, held, paid, owed, pour, wakes_of}
 
-pub record Outcome : Type 0 where
-  pub hall : Hall
-  pub reply : Answer
-  pub wakes : List ℕ
-
--- no waker is made ready
-abbrev pub quietly : Hall → Answer → Outcome
-quietly h reply = record { hall = h; reply = reply; wakes = [] }
+-- what an event of semaphores gives
+abbrev pub Outcome : Type 0
+Outcome = family.Outcome Hall
 
 -- n permits are poured into s of a hall
 abbrev pub pouring : Hall → ℕ → ℕ → Outcome

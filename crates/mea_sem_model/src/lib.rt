@@ -17,4 +17,4 @@ pub use semaphore_laws::{
 };
 pub use validity::{names_stay_below, tallies_account, validity_is_kept};
 pub use waiters::wakes_are_of_waiters;
-pub use wakes::no_wake_is_lost;
+pub use wakes::{no_wake_is_lost, wakers_are_kept};

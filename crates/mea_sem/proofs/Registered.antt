@@ -1,15 +1,12 @@
--- an event wakes at most as many futures as a `SemHall` has registered
-use Rattle.std.proofs.Common.{◌≡◌, ℕ, ◌+◌, ◌≤◌, length, List, [], ◌∷◌, refl, ap, sym, ◌∙◌, arith, Option, Some, None}
+-- what a `SemHall` counts as registered are the futures that wait
+use Rattle.std.proofs.Common.{◌≡◌, ℕ, ◌+◌, List, [], ◌∷◌, refl, ap, sym, ◌∙◌, Option, Some, None}
 use Rattle.std.specs.Option.{option_map}
 use Rattle.std.specs.Ordering.{nat_cmp}
 use Rattle.std.specs.FinMap.{FinMap, get}
 use Rattle.mea_base.specs.Totals.{weight}
 use Rattle.mea_base.proofs.Totals.{total-alike}
-use Rattle.mea_sem_model.specs.declared.event.SemEvent.{SemEvent}
 use Rattle.mea_sem_model.specs.Hall.{Semaphore}
-use Rattle.mea_sem_model.specs.Step.{step}
 use Rattle.mea_sem_model.specs.Waiters.{waiters_in, waiters}
-use Rattle.mea_sem_model.proofs.Waiting.{wakes-step}
 use Rattle.mea_sem_core.specs.Core as cores
 use Rattle.mea_sem.specs.declared.entries.SemaphoreEntry.{SemaphoreEntry}
 use Rattle.mea_sem.specs.declared.entries.FutureEntry.{FutureEntry}
@@ -30,6 +27,3 @@ pub waiters-counted : (st : Store) (w sp next : ℕ) → IsKept st w sp next →
 waiters-counted st w sp next kept = kept.counted
     ∙ sym (total-alike (λ k (r : Semaphore). waiters_in r.queue) (λ k (e : SemaphoreEntry). wakers_in e.core.queue) (hall_of st next).semaphores st.semaphores
     (λ k. ap (weight (λ k (r : Semaphore). waiters_in r.queue) k) (get-seen (semaphore_of st.futures next) st.semaphores k) ∙ weight-seen st.futures next k (get st.semaphores k)))
-
-pub most_woken : (st : Store) (w sp next : ℕ) → IsKept st w sp next → (i : ℕ) (e : SemEvent) → length (step (hall_of st next) i e).wakes ≤ w
-most_woken st w sp next kept i e = omega (arith, waiters-counted st w sp next kept, wakes-step (hall_of st next) i e)

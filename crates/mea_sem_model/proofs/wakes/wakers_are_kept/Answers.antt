@@ -1,0 +1,5 @@
+use Rattle.mea_sem_model.proofs.LostWakes.{keeps_wakers}
+use Rattle.mea_sem_model.proofs.wakes.wakers_are_kept.Goals as goal
+
+pub returns : goal.returns
+returns c = keeps_wakers
