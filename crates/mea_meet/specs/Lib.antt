@@ -2,3 +2,4 @@ pub mod Names
 pub mod Play
 pub mod BarrierHall
 pub mod StandsFor
+pub mod Parts
