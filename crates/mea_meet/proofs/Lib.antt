@@ -1,0 +1,3 @@
+pub mod BarrierStores
+pub mod Names
+pub mod Stores
