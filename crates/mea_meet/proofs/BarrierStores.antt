@@ -11,6 +11,7 @@ use Rattle.mea_meet.specs.Names.{Slots, waiting_at, AreNamed}
 use Rattle.mea_meet.specs.BarrierHall.{Store, store_of, slot_of, round_of, slots_of, barrier_of, wait_of, barriers_of, IsKeptEntry, IsHome, IsKept}
 use Rattle.mea_meet.specs.declared.barriers.BarrierEntry.{BarrierEntry}
 use Rattle.mea_meet.specs.declared.barriers.BarrierWaitEntry.{BarrierWaitEntry}
+use Rattle.mea_meet.proofs.BarrierOutcomes.{goes}
 use Rattle.mea_meet.proofs.Stores.{kept-at, get-seen, is_some-map}
 
 abbrev pub Entries : Type 0

@@ -1,3 +1,6 @@
+pub mod BarrierChanges
+pub mod BarrierOutcomes
+pub mod BarrierPlays
 pub mod BarrierStores
 pub mod Names
 pub mod Stores

@@ -57,6 +57,14 @@ kept-unchanged {X} old new k v is h = same_named _ _ (λ q. kept-changed old new
     (λ same. at_same k q (Some v) (get (named (λ k x. x) old) q) same ∙ sym (kept-at old k ∙ is) ∙ ap (get (named (λ k x. x) old)) same)
     (λ apart. at_apart k q (Some v) (get (named (λ k x. x) old) q) apart))
 
+-- what is written last at a name stays
+pub changes_twice : {X : Type 0} (old mid new : List (ℕ × X)) (k : ℕ) (o p : Option X) → ChangesAt old mid k o → ChangesAt mid new k p → ChangesAt old new k p
+changes_twice {X} old mid new k o p first second q = second q ∙ ap (cond (is_at (nat_cmp k) q) p) (first q) ∙ once (is_at (nat_cmp k) q) p o (at old q)
+  where
+    once : (t : Bool) (u v w : Option X) → cond t u (cond t v w) ≡ cond t u w
+    once true u v w = refl
+    once false u v w = refl
+
 module _ {X : Type 0} (m m' : FinMap nat_cmp X) (k : ℕ) (o : Option X) (sets : Sets m m' k o) where
   pub sets_there : (q : ℕ) → k ≡ q → get m' q ≡ o
   sets_there q same = sets q ∙ at_same k q o (get m q) same

@@ -81,19 +81,27 @@ pub record Turn : Type 0 where
   pub answer : Poll Answer
   pub wakes : List ℕ
 
--- a first poll: its arrival leads, and wakes all who are registered, or it waits
-abbrev pub first_turn : BarrierEntry → ℕ → Turn
-first_turn e w =
-    if leads e.core
-    then record { entry = record { core = record (led e.core) { wakes = [] }; waits = e.waits - 1 }; wait = waits.Done; answer = Ready answers.Leader; wakes = e.core.waiting.wakers }
-    else record { entry = record e { core = joined e.core w }; wait = waits.Arrived (round_under_way e.core) (slot_after e.core.waiting None); answer = Pending; wakes = [] }
+-- an arrival that leads wakes all who are registered
+abbrev pub leading_turn : BarrierEntry → Turn
+leading_turn e = record { entry = record { core = record (led e.core) { wakes = [] }; waits = e.waits - 1 }; wait = waits.Done; answer = Ready answers.Leader; wakes = e.core.waiting.wakers }
 
--- a later poll: its round is completed, or it waits on
+-- an arrival that waits
+abbrev pub joining_turn : BarrierEntry → ℕ → Turn
+joining_turn e w = record { entry = record e { core = joined e.core w }; wait = waits.Arrived (round_under_way e.core) (slot_after e.core.waiting None); answer = Pending; wakes = [] }
+
+-- a future whose round is completed is ready
+abbrev pub ready_turn : BarrierEntry → Turn
+ready_turn e = record { entry = record e { waits = e.waits - 1 }; wait = waits.Done; answer = Ready answers.Ready; wakes = [] }
+
+-- a future that has arrived waits on
+abbrev pub waiting_turn : BarrierEntry → ℕ → Option Place → ℕ → Turn
+waiting_turn e round slot w = record { entry = record e { core = record e.core { waiting = with_waker e.core.waiting slot w } }; wait = waits.Arrived round (slot_after e.core.waiting slot); answer = Pending; wakes = [] }
+
+abbrev pub first_turn : BarrierEntry → ℕ → Turn
+first_turn e w = if leads e.core then leading_turn e else joining_turn e w
+
 abbrev pub later_turn : BarrierEntry → ℕ → Option Place → ℕ → Turn
-later_turn e round slot w =
-    if nat_le ((round + 1) * e.core.size) e.core.arrivals
-    then record { entry = record e { waits = e.waits - 1 }; wait = waits.Done; answer = Ready answers.Ready; wakes = [] }
-    else record { entry = record e { core = record e.core { waiting = with_waker e.core.waiting slot w } }; wait = waits.Arrived round (slot_after e.core.waiting slot); answer = Pending; wakes = [] }
+later_turn e round slot w = if nat_le ((round + 1) * e.core.size) e.core.arrivals then ready_turn e else waiting_turn e round slot w
 
 -- a poll; a wait that was ready is not polled again
 abbrev pub turn_of : BarrierEntry → Wait → ℕ → Turn
