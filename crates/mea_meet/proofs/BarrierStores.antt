@@ -1,29 +1,70 @@
--- from the maps of a `BarrierHall` to its barriers
-use Rattle.std.proofs.Common.{◌≡◌, ℕ, ◌+◌, ◌-◌, ◌*◌, ◌/◌, ◌^◌, ◌<◌, ◌≤◌, ◌==◌, Bool, true, false, cond, List, [], ◌∷◌, length, Option, Some, None, IsSome, is_some, nat_le, nat_lt, refl, ap, sym, subst, ◌∙◌, arith}
+-- what a look-up among the entries of a `BarrierHall` says of its barriers
+use Rattle.std.proofs.Common.{◌≡◌, ℕ, ◌==◌, Bool, cond, Option, Some, None, IsSome, is_some, nat_lt, refl, ap, sym, subst, ◌∙◌}
 use Rattle.std.specs.Option.{option_map}
-use Rattle.std.specs.FinMap.{FinMap, get, entries}
-use Rattle.mea_base.specs.Named.{named, at}
-use Rattle.mea_meet_core.specs.Barrier.{is_open}
-use Rattle.mea_meet_core.specs.declared.barrier_wait.BarrierWait.{BarrierWait as Wait}
-use Rattle.mea_meet_core.specs.declared.barrier_wait.BarrierWait.TheVariants.{New, Arrived, Done}
-use Rattle.mea_meet_model.specs.Barriers.{Barrier, BarrierWait, Barriers, waits_of, barrier_at, registered}
-use Rattle.mea_meet.specs.Names.{Slots, waiting_at, AreNamed}
-use Rattle.mea_meet.specs.BarrierHall.{Store, store_of, slot_of, round_of, slots_of, barrier_of, wait_of, barriers_of, IsKeptEntry, IsHome, IsKept}
+use Rattle.std.specs.FinMap.{get}
+use Rattle.mea_base.specs.Named.{at}
+use Rattle.mea_base.specs.Totals.{total, weight}
+use Rattle.mea_base.proofs.Totals.{total-alike}
+use Rattle.mea_meet_model.specs.Waiting.{wakers}
+use Rattle.mea_meet_model.specs.Barriers.{Barrier, BarrierWait, Barriers, waits_of, barrier_at}
+use Rattle.mea_meet.specs.Play.{Part}
+use Rattle.mea_meet.specs.StandsFor.{StandsForBarrier}
+use Rattle.mea_meet.specs.BarrierHall.{Store, slots_of, barrier_of, wait_of, barriers_of, IsKept}
 use Rattle.mea_meet.specs.declared.barriers.BarrierEntry.{BarrierEntry}
 use Rattle.mea_meet.specs.declared.barriers.BarrierWaitEntry.{BarrierWaitEntry}
-use Rattle.mea_meet.proofs.BarrierOutcomes.{goes}
-use Rattle.mea_meet.proofs.Stores.{kept-at, get-seen, is_some-map}
+use Rattle.mea_meet.specs.declared.barriers.BarrierHall.TheInside.{Inside}
+use Rattle.mea_meet.proofs.Names.{waiting-wakers}
+use Rattle.mea_meet.proofs.Stores.{kept-at, get-seen, seen-none, is_some-map, not_none}
+use Rattle.mea_meet.proofs.BarrierChanges.{at_barrier, barrier_seen}
+use Rattle.mea_meet.proofs.BarrierPlays.{store_in, seen_in, IsKeptIn}
 
-abbrev pub Entries : Type 0
-Entries = List (ℕ × BarrierEntry)
+-- ---- how many futures wait at a barrier, seen among those that are kept
+waits_counted : (st : Store) (n b : ℕ) → waits_of (barriers_of st n) b ≡ total (at_barrier b) st.waits
+waits_counted st n b = sym (total-alike (at_barrier b) (λ f (x : BarrierWait). cond (x.barrier == b) 1 0) st.waits (barriers_of st n).waits (λ f. at_each f (get st.waits f) ∙ sym (ap (weight (λ g (x : BarrierWait). cond (x.barrier == b) 1 0) f) (get-seen (λ g y. wait_of y) st.waits f))))
+  where
+    at_each : (f : ℕ) (o : Option BarrierWaitEntry) → weight (at_barrier b) f o ≡ weight (λ g (x : BarrierWait). cond (x.barrier == b) 1 0) f (option_map wait_of o)
+    at_each f None = refl
+    at_each f (Some x) = refl
 
-abbrev pub Waits : Type 0
-Waits = List (ℕ × BarrierWaitEntry)
-
-module _ (bs : Entries) (ws : Waits) (next : ℕ) where
+module _ (a : Inside) (v : Part Barriers) (seen : seen_in a ≡ v) where
   -- a look-up among the entries answers as one in the hall
-  pub barrier-known : (b : ℕ) → is_some (get (barriers_of (store_of bs ws) next).barriers b) ≡ is_some (at bs b)
-  barrier-known b = ap is_some (get-seen (barrier_of (store_of bs ws).waits next) (store_of bs ws).barriers b ∙ ap (option_map (barrier_of (store_of bs ws).waits next b)) (kept-at bs b)) ∙ is_some-map (barrier_of (store_of bs ws).waits next b) (at bs b)
+  pub barrier-known : (b : ℕ) → is_some (get v.hall.barriers b) ≡ is_some (at a.barriers.entries b)
+  barrier-known b = subst (λ (p : Part Barriers). is_some (get p.hall.barriers b) ≡ is_some (at a.barriers.entries b)) seen (
+      ap is_some (get-seen (barrier_of (store_in a).waits a.next) (store_in a).barriers b ∙ ap (option_map (barrier_of (store_in a).waits a.next b)) (kept-at a.barriers.entries b))
+      ∙ is_some-map (barrier_of (store_in a).waits a.next b) (at a.barriers.entries b))
 
-  pub wait-known : (f : ℕ) → is_some (get (barriers_of (store_of bs ws) next).waits f) ≡ is_some (at ws f)
-  wait-known f = ap is_some (get-seen (λ g x. wait_of x) (store_of bs ws).waits f ∙ ap (option_map wait_of) (kept-at ws f)) ∙ is_some-map wait_of (at ws f)
+  pub wait-known : (f : ℕ) → is_some (get v.hall.waits f) ≡ is_some (at a.waits.entries f)
+  wait-known f = subst (λ (p : Part Barriers). is_some (get p.hall.waits f) ≡ is_some (at a.waits.entries f)) seen (
+      ap is_some (get-seen (λ g x. wait_of x) (store_in a).waits f ∙ ap (option_map wait_of) (kept-at a.waits.entries f))
+      ∙ is_some-map wait_of (at a.waits.entries f))
+
+  pub barrier_found : (b : ℕ) → IsSome (get v.hall.barriers b) → at a.barriers.entries b ≡ None → ⊥
+  barrier_found b there none = not_none (get (seen_in a).hall.barriers b) (subst (λ (p : Part Barriers). IsSome (get p.hall.barriers b)) (sym seen) there) (seen-none (barrier_of (store_in a).waits a.next) (store_in a).barriers b (kept-at a.barriers.entries b ∙ none))
+
+  pub wait_found : (f : ℕ) → IsSome (get v.hall.waits f) → at a.waits.entries f ≡ None → ⊥
+  wait_found f there none = not_none (get (seen_in a).hall.waits f) (subst (λ (p : Part Barriers). IsSome (get p.hall.waits f)) (sym seen) there) (seen-none (λ g x. wait_of x) (store_in a).waits f (kept-at a.waits.entries f ∙ none))
+
+  module _ (k : IsKeptIn a) where
+    -- the barrier of a future is there
+    pub its_barrier : (f : ℕ) (x : BarrierWaitEntry) → at a.waits.entries f ≡ Some x → at a.barriers.entries x.barrier ≡ None → ⊥
+    its_barrier f x is none = let h = k.home f x (kept-at a.waits.entries f ∙ is) in absurd (let there : None ≡ Some h.entry = sym (kept-at a.barriers.entries x.barrier ∙ none) ∙ h.there in cc)
+
+    module _ (b : ℕ) (e : BarrierEntry) (is : at a.barriers.entries b ≡ Some e) where
+      there : get (store_in a).barriers b ≡ Some e
+      there = kept-at a.barriers.entries b ∙ is
+
+      pub counts : e.waits ≡ waits_of v.hall b
+      counts = (k.each b e there).counted ∙ sym (waits_counted (store_in a) a.next b) ∙ ap (λ (p : Part Barriers). waits_of p.hall b) seen
+
+      pub borrowed : nat_lt 0 e.waits ≡ nat_lt 0 (waits_of v.hall b)
+      borrowed = ap (nat_lt 0) counts
+
+      -- the core that a hall lends stands for its barrier
+      pub stands_for : StandsForBarrier v.hall b e.core
+      stands_for =
+          let as_seen = barrier_seen (store_in a) a.next b e there in
+          subst (λ (p : Part Barriers). StandsForBarrier p.hall b e.core) seen (record {
+            size = ap (λ (r : Barrier). r.size) (sym as_seen);
+            arrivals = ap (λ (r : Barrier). r.arrivals) (sym as_seen);
+            waiting = sym (waiting-wakers (slots_of (store_in a).waits) a.next b e.core.waiting) ∙ ap (λ (r : Barrier). wakers r.waiting) (sym as_seen);
+          })

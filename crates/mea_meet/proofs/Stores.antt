@@ -1,5 +1,5 @@
 -- maps by name in the halls of meeting points: what is kept and what is seen of it, and both after a change
-use Rattle.std.proofs.Common.{◌≡◌, ℕ, ◌+◌, ◌≤◌, ◌==◌, Bool, true, false, cond, List, [], ◌∷◌, Option, Some, None, is_some, refl, ap, sym, ◌∙◌, arith}
+use Rattle.std.proofs.Common.{◌≡◌, ℕ, ◌+◌, ◌≤◌, ◌==◌, Bool, true, false, cond, List, [], ◌∷◌, Option, Some, None, IsSome, is_some, refl, ap, sym, ◌∙◌, arith}
 use Rattle.std.specs.Option.{option_map}
 use Rattle.std.specs.Ordering.{nat_cmp}
 use Rattle.std.specs.BTreeMap.{is_at}
@@ -33,6 +33,11 @@ option_map-same (Some x) = refl
 pub is_some-map : {X Y : Type 0} (f : X → Y) (o : Option X) → is_some (option_map f o) ≡ is_some o
 is_some-map f None = refl
 is_some-map f (Some x) = refl
+
+-- what is there is not none
+pub not_none : {X : Type 0} (o : Option X) → IsSome o → o ≡ None → ⊥
+not_none None there none = absurd (cc)
+not_none (Some x) there none = absurd (cc)
 
 pub kept-at : {X : Type 0} (es : List (ℕ × X)) (q : ℕ) → get (named (λ k x. x) es) q ≡ at es q
 kept-at es q = get-named (λ k x. x) es q ∙ option_map-same (at es q)
