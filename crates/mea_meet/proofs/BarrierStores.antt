@@ -1,5 +1,5 @@
 -- what a look-up among the entries of a `BarrierHall` says of its barriers
-use Rattle.std.proofs.Common.{◌≡◌, ℕ, ◌==◌, Bool, cond, Option, Some, None, IsSome, is_some, nat_lt, refl, ap, sym, subst, ◌∙◌}
+use Rattle.std.proofs.Common.{◌≡◌, ℕ, ◌==◌, Bool, cond, List, Option, Some, None, IsSome, is_some, nat_lt, refl, ap, sym, subst, ◌∙◌}
 use Rattle.std.specs.Option.{option_map}
 use Rattle.std.specs.FinMap.{get}
 use Rattle.mea_base.specs.Named.{at}
@@ -9,12 +9,12 @@ use Rattle.mea_meet_model.specs.Waiting.{wakers}
 use Rattle.mea_meet_model.specs.Barriers.{Barrier, BarrierWait, Barriers, waits_of, barrier_at}
 use Rattle.mea_meet.specs.Play.{Part}
 use Rattle.mea_meet.specs.StandsFor.{StandsForBarrier}
-use Rattle.mea_meet.specs.BarrierHall.{Store, slots_of, barrier_of, wait_of, barriers_of, IsKept}
+use Rattle.mea_meet.specs.BarrierHall.{Store, store_of, slots_of, barrier_of, wait_of, barriers_of, IsKept}
 use Rattle.mea_meet.specs.declared.barriers.BarrierEntry.{BarrierEntry}
 use Rattle.mea_meet.specs.declared.barriers.BarrierWaitEntry.{BarrierWaitEntry}
 use Rattle.mea_meet.specs.declared.barriers.BarrierHall.TheInside.{Inside}
 use Rattle.mea_meet.proofs.Names.{waiting-wakers}
-use Rattle.mea_meet.proofs.Stores.{kept-at, get-seen, seen-none, is_some-map, not_none}
+use Rattle.mea_meet.proofs.Stores.{ChangesAt, kept-at, kept-unchanged, get-seen, seen-none, is_some-map, not_none}
 use Rattle.mea_meet.proofs.BarrierChanges.{at_barrier, barrier_seen}
 use Rattle.mea_meet.proofs.BarrierPlays.{store_in, seen_in, IsKeptIn}
 
@@ -68,3 +68,18 @@ module _ (a : Inside) (v : Part Barriers) (seen : seen_in a ≡ v) where
             arrivals = ap (λ (r : Barrier). r.arrivals) (sym as_seen);
             waiting = sym (waiting-wakers (slots_of (store_in a).waits) a.next b e.core.waiting) ∙ ap (λ (r : Barrier). wakers r.waiting) (sym as_seen);
           })
+
+-- ---- a future and its barrier are written as they were
+module _ (a : Inside) (v : Part Barriers) (seen : seen_in a ≡ v) (f b : ℕ) (x y : BarrierWaitEntry) (e e' : BarrierEntry) (is : at a.waits.entries f ≡ Some x) (there : at a.barriers.entries b ≡ Some e)
+    (bs' : List (ℕ × BarrierEntry)) (ws' : List (ℕ × BarrierWaitEntry)) (puts : ChangesAt a.barriers.entries bs' b (Some e')) (writes : ChangesAt a.waits.entries ws' f (Some y)) (same_e : e' ≡ e) (same_x : y ≡ x) where
+  as_it_was : store_of bs' ws' ≡ store_in a
+  as_it_was =
+      let barriers = kept-unchanged a.barriers.entries bs' b e there (subst (λ d. ChangesAt a.barriers.entries bs' b (Some d)) same_e puts) in
+      let waits = kept-unchanged a.waits.entries ws' f x is (subst (λ d. ChangesAt a.waits.entries ws' f (Some d)) same_x writes) in
+      λ j. record { barriers = barriers j; waits = waits j }
+
+  pub kept_unchanged : IsKeptIn a → IsKept (store_of bs' ws') a.next
+  kept_unchanged k = subst (λ st. IsKept st a.next) (sym as_it_was) k
+
+  pub seen_unchanged : record { hall = barriers_of (store_of bs' ws') a.next; next = a.next } ≡ v
+  seen_unchanged = ap (λ st. record { hall = barriers_of st a.next; next = a.next }) as_it_was ∙ seen
