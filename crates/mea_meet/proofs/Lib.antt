@@ -1,4 +1,5 @@
 pub mod BarrierChanges
+pub mod BarrierMakes
 pub mod BarrierOutcomes
 pub mod BarrierPlays
 pub mod BarrierStores
