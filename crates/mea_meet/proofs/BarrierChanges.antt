@@ -1,5 +1,5 @@
 -- what a change of one barrier and one of its futures does to what is kept, and to the barriers that are stood for
-use Rattle.std.proofs.Common.{◌≡◌, ℕ, ◌+◌, ◌*◌, ◌/◌, ◌%◌, ◌^◌, ◌<◌, ◌≤◌, ◌==◌, ◌&&◌, Bool, true, cond, List, length, Option, Some, None, nat_le, unwrap_or, refl, ap, sym, subst, ◌∙◌, arith}
+use Rattle.std.proofs.Common.{◌≡◌, ℕ, ◌+◌, ◌/◌, ◌^◌, ◌<◌, ◌≤◌, ◌==◌, true, cond, length, Option, Some, None, nat_le, unwrap_or, refl, ap, sym, subst, ◌∙◌, arith}
 use Rattle.std.specs.Option.{option_map}
 use Rattle.std.specs.Ordering.{nat_cmp}
 use Rattle.std.specs.FinMap.{FinMap, get, insert, remove, entries}
@@ -14,14 +14,13 @@ use Rattle.mea_meet_core.specs.Barrier as cores
 use Rattle.mea_meet_core.specs.Barrier.{is_open}
 use Rattle.mea_meet_core.specs.declared.barrier_wait.BarrierWait.{BarrierWait as Wait}
 use Rattle.mea_meet_core.specs.declared.barrier_wait.BarrierWait.TheVariants.{New, Arrived, Done}
-use Rattle.mea_meet_model.specs.Waiting.{Whose}
-use Rattle.mea_meet_model.specs.Barriers.{Barrier, BarrierWait, Barriers, new_barrier, barrier_at, registered}
-use Rattle.mea_meet.specs.Names.{Slots, waiting_at, AreNamed, AreGiven}
+use Rattle.mea_meet_model.specs.Barriers.{Barrier, Barriers, new_barrier, barrier_at, registered}
+use Rattle.mea_meet.specs.Names.{waiting_at, AreNamed, AreGiven}
 use Rattle.mea_meet.specs.BarrierHall.{Store, slot_of, slots_of, barrier_of, wait_of, barriers_of, IsKeptEntry, IsHome, IsKept}
 use Rattle.mea_meet.specs.declared.barriers.BarrierEntry.{BarrierEntry}
 use Rattle.mea_meet.specs.declared.barriers.BarrierWaitEntry.{BarrierWaitEntry}
 use Rattle.mea_meet.proofs.Names.{waiting-length, waiting-alike}
-use Rattle.mea_meet.proofs.Stores.{at_same, at_apart, by_name, Sets, sets_there, sets_other, total-sets, weight-within, get-seen, seen-some, seen_put, seen_gone}
+use Rattle.mea_meet.proofs.Stores.{at_same, at_apart, by_name, Sets, sets_there, sets_other, total-sets, weight-within, seen-some, seen_put, seen_gone}
 
 -- ---- the slots of the futures
 abbrev pub slot_entry : BarrierWaitEntry → ℕ × Option Place

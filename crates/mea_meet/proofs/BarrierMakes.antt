@@ -1,5 +1,5 @@
 -- barriers and futures that are made, and barriers that are dropped
-use Rattle.std.proofs.Common.{◌≡◌, ℕ, ◌+◌, ◌-◌, ◌^◌, ◌<◌, ◌≤◌, ◌==◌, Bool, true, cond, List, [], length, max, Option, Some, None, IsSome, refl, ap, sym, subst, ◌∙◌, arith, append-nil}
+use Rattle.std.proofs.Common.{◌≡◌, ℕ, ◌+◌, ◌-◌, ◌^◌, ◌<◌, ◌≤◌, ◌==◌, true, cond, List, [], length, max, Option, Some, None, refl, ap, sym, subst, ◌∙◌, arith, append-nil}
 use Rattle.std.specs.Option.{option_map}
 use Rattle.std.specs.Ordering.{nat_cmp}
 use Rattle.std.specs.FinMap.{FinMap, get, insert, remove, empty, entries, get-empty}
@@ -7,7 +7,7 @@ use Rattle.mea_base.specs.declared.answer.Answer.TheVariants as answers
 use Rattle.mea_base.specs.Named.{named, at}
 use Rattle.mea_base.specs.Ready.{Waking}
 use Rattle.mea_base.specs.Totals.{total, weight}
-use Rattle.mea_base.proofs.NamedMaps.{same_named, get-named}
+use Rattle.mea_base.proofs.NamedMaps.{same_named}
 use Rattle.mea_base.proofs.Totals.{total-insert, total-remove, total-zero}
 use Rattle.mea_sets.specs.declared.place.Place.{Place}
 use Rattle.mea_meet_core.specs.Barrier as cores
@@ -17,13 +17,13 @@ use Rattle.mea_meet_model.specs.Barriers as model
 use Rattle.mea_meet_model.specs.Barriers.{Barrier, Barriers, no_barriers, new_barrier, registered}
 use Rattle.mea_meet.specs.Names.{AreNamed}
 use Rattle.mea_meet.specs.Play.{Part, Yields, Rests}
-use Rattle.mea_meet.specs.BarrierHall.{Store, store_of, slot_of, round_of, slots_of, barrier_of, wait_of, barriers_of, IsKeptEntry, IsHome, IsKept}
+use Rattle.mea_meet.specs.BarrierHall.{Store, store_of, slot_of, round_of, slots_of, barrier_of, wait_of, barriers_of, IsKeptEntry, IsKept}
 use Rattle.mea_meet.specs.declared.barriers.BarrierEntry.{BarrierEntry}
 use Rattle.mea_meet.specs.declared.barriers.BarrierWaitEntry.{BarrierWaitEntry}
 use Rattle.mea_meet.specs.declared.barriers.BarrierHall.TheInside.{Inside}
 use Rattle.mea_meet.proofs.Names.{waiting-length, waiting-alike, named-later, named-new}
-use Rattle.mea_meet.proofs.Stores.{ChangesAt, Sets, sets_there, sets_other, by_name, at_same, at_apart, kept-at, kept-changed, get-seen, seen-some, seen-none, seen_put, seen_gone, insert_same, weight-within}
-use Rattle.mea_meet.proofs.BarrierChanges.{Changes, slot_entry, slot_owner, slots_there, slots_other, at_barrier, kept_after, hall_put, registered_after, wakers_within}
+use Rattle.mea_meet.proofs.Stores.{ChangesAt, Sets, sets_there, sets_other, by_name, at_same, at_apart, kept-at, kept-changed, seen-some, seen-none, seen_put, seen_gone, insert_same, weight-within}
+use Rattle.mea_meet.proofs.BarrierChanges.{Changes, slot_entry, slot_owner, slots_there, slots_other, at_barrier, kept_after, hall_put}
 use Rattle.mea_meet.proofs.BarrierPlays.{Rested, Played, store_in, seen_in, IsKeptIn}
 use Rattle.mea_meet.proofs.BarrierStores.{counts}
 
@@ -235,12 +235,6 @@ module _ (a : Inside) (v : Part Barriers) (i : ℕ) (seen : seen_in a ≡ v) (k 
           }
 
     -- ---- the barrier is dropped
-    pub room : (spare : ℕ) → registered v.hall ≤ spare → length e.core.waiting.wakers ≤ spare
-    room spare enough =
-        let mine = wakers_within st n b e entry_there in
-        let all : registered h ≡ registered v.hall = ap (λ (p : Part Barriers). registered p.hall) seen in
-        omega (arith, mine, all, enough)
-
     pub drops : (bs' : List (ℕ × BarrierEntry)) (before after : Waking ℕ) → ChangesAt a.barriers.entries bs' b None → model.waits_of v.hall b ≡ 0 → length e.core.waiting.wakers ≤ before.registered
         → after ≡ record before { registered = before.registered - length e.core.waiting.wakers }
         → Played v i (model.drop v.hall b) answers.Done (store_of bs' a.waits.entries) before after

@@ -1,13 +1,11 @@
 -- the methods of a `BarrierHall`: what they keep, and their outcomes as the contracts say them
-use Rattle.std.proofs.Common.{◌≡◌, ℕ, ◌+◌, ◌-◌, ◌*◌, ◌/◌, ◌%◌, ◌^◌, ◌<◌, ◌≤◌, ◌==◌, ◌++◌, Bool, true, false, cond, List, [], length, max, Option, Some, None, IsSome, is_some, nat_le, nat_lt, refl, ap, sym, subst, ◌∙◌, inl, inr, arith, append-nil, if◌then◌else◌}
-use Rattle.std.specs.Option.{option_map}
-use Rattle.std.specs.Ordering.{nat_cmp}
-use Rattle.std.specs.FinMap.{FinMap, get, insert, remove, empty, entries, get-empty}
+use Rattle.std.proofs.Common.{◌≡◌, ℕ, ◌+◌, ◌-◌, ◌*◌, ◌/◌, ◌^◌, ◌<◌, ◌≤◌, ◌++◌, Bool, true, false, List, [], length, Option, Some, None, nat_le, refl, ap, sym, subst, ◌∙◌, inl, inr, arith, if◌then◌else◌}
+use Rattle.std.specs.FinMap.{get, insert, remove}
 use Rattle.std.proofs.lemmas.Bool.{le-leb, and_parts, cases_Bool}
 use Rattle.mea_base.specs.declared.answer.Answer.{Answer}
 use Rattle.mea_base.specs.declared.answer.Answer.TheVariants as answers
 use Rattle.mea_base.specs.Family.{Outcome, quietly}
-use Rattle.mea_base.specs.Named.{named, at}
+use Rattle.mea_base.specs.Named.{at}
 use Rattle.mea_base.specs.Ready.{Waking}
 use Rattle.mea_sets.specs.declared.place.Place.{Place}
 use Rattle.mea_sets.specs.Poll.{Poll, Ready, Pending}
@@ -16,18 +14,17 @@ use Rattle.mea_meet_core.specs.Barrier as cores
 use Rattle.mea_meet_core.specs.Barrier.{is_open, is_own, leads, round_of as round_under_way}
 use Rattle.mea_meet_core.specs.declared.barrier_wait.BarrierWait.{BarrierWait as Wait}
 use Rattle.mea_meet_core.specs.declared.barrier_wait.BarrierWait.TheVariants.{New, Arrived, Done}
-use Rattle.mea_meet_model.specs.Waiting.{Whose, registering, ending, wakers}
+use Rattle.mea_meet_model.specs.Waiting.{registering, ending, wakers}
 use Rattle.mea_meet_model.specs.Barriers as model
 use Rattle.mea_meet_model.specs.Barriers.{Barrier, BarrierWait, Barriers, barrier_at, registered}
-use Rattle.mea_meet.specs.Names.{Slots, waiting_at, AreNamed, AreGiven}
 use Rattle.mea_meet.specs.Play.{Part, Yields, Rests}
-use Rattle.mea_meet.specs.BarrierHall.{Store, store_of, slot_of, round_of, slots_of, barrier_of, wait_of, barriers_of, IsKept, Turn, leading_turn, joining_turn, ready_turn, waiting_turn, first_turn, later_turn, turn_of, Turns}
+use Rattle.mea_meet.specs.BarrierHall.{Store, store_of, slot_of, round_of, slots_of, barrier_of, wait_of, barriers_of, IsKept, Turn, leading_turn, joining_turn, ready_turn, waiting_turn, turn_of, Turns}
 use Rattle.mea_meet.specs.declared.barriers.BarrierEntry.{BarrierEntry}
 use Rattle.mea_meet.specs.declared.barriers.BarrierWaitEntry.{BarrierWaitEntry}
 use Rattle.mea_meet.specs.declared.barriers.BarrierHall.TheInside.{Inside}
 use Rattle.mea_meet.proofs.Names.{waiting-wakers, given-drained}
 use Rattle.mea_meet.proofs.Stores.{ChangesAt, Sets, kept-at, kept-changed, seen-some, insert_same}
-use Rattle.mea_meet.proofs.BarrierChanges.{Changes, later_round, home_open, kept_after, registered_after, barrier_seen, wakers_within, waits_within}
+use Rattle.mea_meet.proofs.BarrierChanges.{later_round, home_open, kept_after, registered_after, barrier_seen, waits_within}
 use Rattle.mea_meet.proofs.BarrierPlays.{Rested, Played, store_in, seen_in, IsKeptIn, registers, hall_registering, leaves, hall_ending, hall_led}
 
 -- ---- a future f, x as it is kept, whose barrier is kept as e
@@ -77,12 +74,6 @@ module _ (a : Inside) (v : Part Barriers) (i f : ℕ) (x : BarrierWaitEntry) (e 
 
   pub waits : 1 ≤ e.waits
   waits = waits_within st n f b x e k wait_there refl entry_there
-
-  pub room : (spare : ℕ) → registered v.hall ≤ spare → length e.core.waiting.wakers ≤ spare
-  room spare enough =
-      let mine = wakers_within st n b e entry_there in
-      let all : registered h ≡ registered v.hall = ap (λ (p : Part Barriers). registered p.hall) seen in
-      omega (arith, mine, all, enough)
 
   -- ---- the model's outcomes, by the barrier as it is kept
   future_seen : get h.waits f ≡ Some (wait_of x)

@@ -1,35 +1,27 @@
 -- what the methods of a `BarrierHall` do to the barriers that it stands for
-use Rattle.std.proofs.Common.{◌≡◌, ℕ, ◌+◌, ◌-◌, ◌*◌, ◌/◌, ◌%◌, ◌^◌, ◌<◌, ◌≤◌, ◌==◌, ◌++◌, Bool, true, false, cond, List, [], length, max, Option, Some, None, IsSome, is_some, nat_le, nat_lt, refl, ap, sym, subst, ◌∙◌, arith, append-nil, if◌then◌else◌}
+use Rattle.std.proofs.Common.{◌≡◌, ℕ, ◌+◌, ◌-◌, ◌/◌, ◌^◌, ◌<◌, ◌≤◌, true, [], Option, Some, None, nat_le, refl, ap, sym, subst, ◌∙◌, arith}
 use Rattle.std.specs.Option.{option_map}
-use Rattle.std.specs.Ordering.{nat_cmp}
-use Rattle.std.specs.FinMap.{FinMap, get, insert, remove, empty, entries, get-empty}
-use Rattle.std.proofs.lemmas.Bool.{le-leb, and_from}
+use Rattle.std.specs.FinMap.{get, insert, remove}
+use Rattle.std.proofs.lemmas.Bool.{and_from}
 use Rattle.mea_base.specs.declared.answer.Answer.{Answer}
-use Rattle.mea_base.specs.declared.answer.Answer.TheVariants as answers
-use Rattle.mea_base.specs.Family.{Outcome, quietly}
-use Rattle.mea_base.specs.Named.{named, at}
+use Rattle.mea_base.specs.Family.{Outcome}
 use Rattle.mea_base.specs.Ready.{Waking}
-use Rattle.mea_base.specs.Totals.{total, weight}
-use Rattle.mea_base.proofs.NamedMaps.{same_named}
 use Rattle.mea_sets.specs.declared.place.Place.{Place}
-use Rattle.mea_sets.specs.Poll.{Poll, Ready, Pending}
-use Rattle.mea_sets.specs.WaitSet.{Registered, has_given, with_waker, slot_after, drained}
+use Rattle.mea_sets.specs.WaitSet.{has_given, with_waker, slot_after, drained}
 use Rattle.mea_meet_core.specs.Barrier as cores
 use Rattle.mea_meet_core.specs.Barrier.{is_open, is_own, leads}
-use Rattle.mea_meet_core.specs.declared.barrier_wait.BarrierWait.{BarrierWait as Wait}
-use Rattle.mea_meet_core.specs.declared.barrier_wait.BarrierWait.TheVariants.{New, Arrived, Done}
-use Rattle.mea_meet_model.specs.Waiting.{Whose, registering, ending, wakers}
-use Rattle.mea_meet_model.specs.Barriers as model
-use Rattle.mea_meet_model.specs.Barriers.{Barrier, BarrierWait, Barriers, barrier_at, registered}
-use Rattle.mea_meet.specs.Names.{Slots, waiting_at, AreNamed, AreGiven}
+use Rattle.mea_meet_core.specs.declared.barrier_wait.BarrierWait.TheVariants.{Arrived}
+use Rattle.mea_meet_model.specs.Waiting.{registering, ending}
+use Rattle.mea_meet_model.specs.Barriers.{Barrier, Barriers, registered}
+use Rattle.mea_meet.specs.Names.{waiting_at, AreNamed, AreGiven}
 use Rattle.mea_meet.specs.Play.{Part, Yields, Rests}
-use Rattle.mea_meet.specs.BarrierHall.{Store, store_of, slot_of, round_of, slots_of, barrier_of, wait_of, barriers_of, IsKeptEntry, IsHome, IsKept, Turn, leading_turn, joining_turn, ready_turn, waiting_turn, first_turn, later_turn, turn_of, Turns}
+use Rattle.mea_meet.specs.BarrierHall.{Store, store_of, slot_of, round_of, slots_of, barrier_of, barriers_of, IsKept}
 use Rattle.mea_meet.specs.declared.barriers.BarrierEntry.{BarrierEntry}
 use Rattle.mea_meet.specs.declared.barriers.BarrierWaitEntry.{BarrierWaitEntry}
 use Rattle.mea_meet.specs.declared.barriers.BarrierHall.TheInside.{Inside}
-use Rattle.mea_meet.proofs.Names.{waiting-wakers, waiting-registers, waiting-ends, named-ends, named-new, named-registers, given-drained, given-with, given-registers}
-use Rattle.mea_meet.proofs.Stores.{ChangesAt, Sets, kept-at, kept-changed, kept-unchanged, get-seen, seen-some, insert_same}
-use Rattle.mea_meet.proofs.BarrierChanges.{Changes, slot_entry, slots_there, slots_other, goes_on, open_given, home_open, are_given, kept_after, hall_put, hall_gone, registered_after, barrier_seen, wakers_within, waits_within}
+use Rattle.mea_meet.proofs.Names.{waiting-registers, waiting-ends, named-ends, named-registers, given-with, given-registers}
+use Rattle.mea_meet.proofs.Stores.{Sets}
+use Rattle.mea_meet.proofs.BarrierChanges.{Changes, slot_entry, slots_there, slots_other, goes_on, home_open, are_given, hall_put, hall_gone, waits_within}
 
 -- event i had this outcome, which touches no waker: what is kept now, and what the contract says
 pub record Rested (v : Part Barriers) (i : ℕ) (o : Outcome Barriers) (answer : Answer) (st' : Store) : Type 0 where

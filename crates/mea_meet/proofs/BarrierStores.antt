@@ -1,12 +1,12 @@
 -- what a look-up among the entries of a `BarrierHall` says of its barriers
-use Rattle.std.proofs.Common.{◌≡◌, ℕ, ◌==◌, Bool, cond, List, Option, Some, None, IsSome, is_some, nat_lt, refl, ap, sym, subst, ◌∙◌}
+use Rattle.std.proofs.Common.{◌≡◌, ℕ, ◌≤◌, ◌==◌, cond, List, Option, Some, None, IsSome, is_some, nat_lt, refl, ap, sym, subst, ◌∙◌, length, arith}
 use Rattle.std.specs.Option.{option_map}
 use Rattle.std.specs.FinMap.{get}
 use Rattle.mea_base.specs.Named.{at}
 use Rattle.mea_base.specs.Totals.{total, weight}
 use Rattle.mea_base.proofs.Totals.{total-alike}
 use Rattle.mea_meet_model.specs.Waiting.{wakers}
-use Rattle.mea_meet_model.specs.Barriers.{Barrier, BarrierWait, Barriers, waits_of, barrier_at}
+use Rattle.mea_meet_model.specs.Barriers.{Barrier, BarrierWait, Barriers, waits_of, registered}
 use Rattle.mea_meet.specs.Play.{Part}
 use Rattle.mea_meet.specs.StandsFor.{StandsForBarrier}
 use Rattle.mea_meet.specs.BarrierHall.{Store, store_of, slots_of, barrier_of, wait_of, barriers_of, IsKept}
@@ -15,7 +15,7 @@ use Rattle.mea_meet.specs.declared.barriers.BarrierWaitEntry.{BarrierWaitEntry}
 use Rattle.mea_meet.specs.declared.barriers.BarrierHall.TheInside.{Inside}
 use Rattle.mea_meet.proofs.Names.{waiting-wakers}
 use Rattle.mea_meet.proofs.Stores.{ChangesAt, kept-at, kept-unchanged, get-seen, seen-none, is_some-map, not_none}
-use Rattle.mea_meet.proofs.BarrierChanges.{at_barrier, barrier_seen}
+use Rattle.mea_meet.proofs.BarrierChanges.{at_barrier, barrier_seen, wakers_within}
 use Rattle.mea_meet.proofs.BarrierPlays.{store_in, seen_in, IsKeptIn}
 
 -- ---- how many futures wait at a barrier, seen among those that are kept
@@ -58,6 +58,13 @@ module _ (a : Inside) (v : Part Barriers) (seen : seen_in a ≡ v) where
 
       pub borrowed : nat_lt 0 e.waits ≡ nat_lt 0 (waits_of v.hall b)
       borrowed = ap (nat_lt 0) counts
+
+      -- where there is room for all wakers of the hall, there is for those of a barrier
+      pub room : (spare : ℕ) → registered v.hall ≤ spare → length e.core.waiting.wakers ≤ spare
+      room spare enough =
+          let mine = wakers_within (store_in a) a.next b e there in
+          let all : registered (seen_in a).hall ≡ registered v.hall = ap (λ (p : Part Barriers). registered p.hall) seen in
+          omega (arith, mine, all, enough)
 
       -- the core that a hall lends stands for its barrier
       pub stands_for : StandsForBarrier v.hall b e.core

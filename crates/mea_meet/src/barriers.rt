@@ -197,7 +197,7 @@ impl BarrierHall {
         Ok(Answer::Made)
     }
 
-    /// `bar.poll f`.
+    /// `bar.poll f`: a first poll arrives, and one that is ready is gone. On an error nothing has changed.
     pub fn poll(
         &mut self,
         number: u64,
@@ -232,7 +232,7 @@ impl BarrierHall {
         }
     }
 
-    /// `bar.end f`.
+    /// `bar.end f`: its arrival and its waker stay. It takes no memory.
     pub fn end(&mut self, number: u64, f: u64) -> Answer
         requires next { self.old.next ≤ number }
         requires there { IsSome (map.get self.old.hall.waits f) }
@@ -249,7 +249,7 @@ impl BarrierHall {
         Answer::Done
     }
 
-    /// `bar.drop b`.
+    /// `bar.drop b`: no future waits there. It takes no memory.
     pub fn drop(&mut self, number: u64, b: u64, ready: &mut Ready<u64>) -> Answer
         requires next { self.old.next ≤ number }
         requires there { IsSome (map.get self.old.hall.barriers b) }

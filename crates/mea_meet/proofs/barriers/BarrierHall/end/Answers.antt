@@ -1,6 +1,5 @@
-use Rattle.std.proofs.Common.{rules, ◌≡◌, Some, sym, ap, ◌∙◌, arith}
+use Rattle.std.proofs.Common.{rules, sym, ap, ◌∙◌, arith}
 use Rattle.std.specs.Option.{option_copied_mut}
-use Rattle.mea_base.specs.Named.{at}
 use Rattle.mea_meet.proofs.BarrierStores.{wait_found, its_barrier}
 use Rattle.mea_meet.proofs.BarrierOutcomes as outcomes
 use Rattle.mea_meet.proofs.barriers.BarrierHall.end.Goals as goal

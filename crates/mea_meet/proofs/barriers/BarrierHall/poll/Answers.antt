@@ -1,7 +1,7 @@
-use Rattle.std.proofs.Common.{rules, ◌≡◌, Some, None, refl, sym, ap, ◌∙◌, arith}
+use Rattle.std.proofs.Common.{rules, Some, None, refl, sym, ap, ◌∙◌, arith}
 use Rattle.std.specs.Option.{option_copied_mut}
 use Rattle.mea_meet.proofs.Stores.{changes_twice}
-use Rattle.mea_meet.proofs.BarrierStores.{wait_found, its_barrier, kept_unchanged, seen_unchanged}
+use Rattle.mea_meet.proofs.BarrierStores.{wait_found, its_barrier, room, kept_unchanged, seen_unchanged}
 use Rattle.mea_meet.proofs.BarrierOutcomes as outcomes
 use Rattle.mea_meet.proofs.barriers.BarrierHall.poll.Goals as goal
 
@@ -29,8 +29,7 @@ poll-requires-clause-waits c = outcomes.waits c.self.inside c.args.self.now c.ar
     (sym c.get_mut.ensures.value ∙ ap option_copied_mut c.in-Some.is) (sym c.get_mut-2.ensures.value ∙ ap option_copied_mut c.in-Some-get_mut.is)
 
 pub poll-requires-clause-room : goal.poll-requires-clause-room
-poll-requires-clause-room c = outcomes.room c.self.inside c.args.self.now c.args.number c.args.f c.in-Some.future.now c.in-Some-get_mut.entry.now c.self.view_is c.self.invariant c.requires.next (omega arith)
-    (sym c.get_mut.ensures.value ∙ ap option_copied_mut c.in-Some.is) (sym c.get_mut-2.ensures.value ∙ ap option_copied_mut c.in-Some-get_mut.is) c.args.ready.now.registered c.requires.room
+poll-requires-clause-room c = room c.self.inside c.args.self.now c.self.view_is c.self.invariant c.in-Some.future.now.barrier c.in-Some-get_mut.entry.now (sym c.get_mut-2.ensures.value ∙ ap option_copied_mut c.in-Some-get_mut.is) c.args.ready.now.registered c.requires.room
 
 pub invariant_of-self : goal.invariant_of-self
 invariant_of-self c = kept_unchanged c.self.inside c.args.self.now c.self.view_is c.args.f c.in-Some.future.now.barrier c.in-Some.future.now (record c.in-Some.future.now { wait = c.poll.new.wait }) c.in-Some-get_mut.entry.now c.poll.new.self
@@ -38,9 +37,12 @@ invariant_of-self c = kept_unchanged c.self.inside c.args.self.now c.self.view_i
     _ _ ((c.get_mut-2.follows.holds c.poll.new.self).3 (search rules)).0 ((c.get_mut.follows.holds (record c.in-Some.future.now { wait = c.poll.new.wait })).3 (search rules)).0 c.in-Err.ensures.err.0 (λ j. record c.in-Some.future.now { wait = c.in-Err.ensures.err.1 j }) c.self.invariant
 
 pub returns-in-Err-clause-err : goal.returns-in-Err-clause-err
-returns-in-Err-clause-err c = (seen_unchanged c.self.inside c.args.self.now c.self.view_is c.args.f c.in-Some.future.now.barrier c.in-Some.future.now (record c.in-Some.future.now { wait = c.poll.new.wait }) c.in-Some-get_mut.entry.now c.poll.new.self
-    (sym c.get_mut.ensures.value ∙ ap option_copied_mut c.in-Some.is) (sym c.get_mut-2.ensures.value ∙ ap option_copied_mut c.in-Some-get_mut.is)
-    _ _ ((c.get_mut-2.follows.holds c.poll.new.self).3 (search rules)).0 ((c.get_mut.follows.holds (record c.in-Some.future.now { wait = c.poll.new.wait })).3 (search rules)).0 c.in-Err.ensures.err.0 (λ j. record c.in-Some.future.now { wait = c.in-Err.ensures.err.1 j }), c.in-Err.ensures.err.2)
+returns-in-Err-clause-err c = (
+  seen_unchanged c.self.inside c.args.self.now c.self.view_is c.args.f c.in-Some.future.now.barrier c.in-Some.future.now (record c.in-Some.future.now { wait = c.poll.new.wait }) c.in-Some-get_mut.entry.now c.poll.new.self
+      (sym c.get_mut.ensures.value ∙ ap option_copied_mut c.in-Some.is) (sym c.get_mut-2.ensures.value ∙ ap option_copied_mut c.in-Some-get_mut.is)
+      _ _ ((c.get_mut-2.follows.holds c.poll.new.self).3 (search rules)).0 ((c.get_mut.follows.holds (record c.in-Some.future.now { wait = c.poll.new.wait })).3 (search rules)).0 c.in-Err.ensures.err.0 (λ j. record c.in-Some.future.now { wait = c.in-Err.ensures.err.1 j }),
+  c.in-Err.ensures.err.2,
+)
 
 pub invariant_of-self-in-Ok-Pending : goal.invariant_of-self-in-Ok-Pending
 invariant_of-self-in-Ok-Pending c =
