@@ -1,4 +1,4 @@
-ghost use Rattle.std.specs.Prelude.{◌≡◌, ◌≤◌, OnErr, IfOk, IfErr, IfSome, IsSome, is_some, nat_lt};
+ghost use Rattle.std.specs.Prelude.{◌≡◌, ◌-◌, ◌<◌, ◌≤◌, [], length, true, OnErr, IfOk, IfErr, IfSome, IsSome, is_some, nat_lt};
 ghost use Rattle.std.specs.FinMap as map;
 ghost use Rattle.mea_meet_model.specs.Barriers as model;
 ghost use Rattle.mea_meet_model.specs.Barriers.{no_barriers, registered};
@@ -6,8 +6,8 @@ ghost use Rattle.mea_meet.specs.Play.{Yields, Rests};
 ghost use Rattle.mea_meet.specs.StandsFor.{StandsForBarrier};
 
 use crate::moving::hand_on_barrier;
-use mea_base::{Answer, Poll, Ready, Stop};
-use mea_meet_core::{BarrierCore, BarrierFault, BarrierWait};
+use mea_base::{Answer, NoMemory, Poll, Ready, Stop};
+use mea_meet_core::{BarrierCore, BarrierWait};
 use std::alloc::Global;
 use std::collections::BTreeMap;
 use std::marker::Model;
@@ -25,6 +25,60 @@ pub struct BarrierEntry {
 pub struct BarrierWaitEntry {
     pub barrier: u64,
     pub wait: BarrierWait,
+}
+
+impl BarrierEntry {
+    ghost use Rattle.mea_meet_core.specs.Barrier.{is_open, is_own};
+    ghost use Rattle.mea_meet.specs.BarrierHall.{Turns};
+
+    // Polls a future of the barrier; one that is ready waits no longer.
+    fn poll(
+        &mut self,
+        wait: &mut BarrierWait,
+        waker: u64,
+        ready: &mut Ready<u64>,
+    ) -> Result<Poll<Answer>, NoMemory>
+        requires opened { is_open self.old.core wait.old ≡ true }
+        requires quiet { self.old.core.wakes ≡ [] }
+        requires few { self.old.core.arrivals < 18446744073709551615 }
+        requires waits { 1 ≤ self.old.waits }
+        requires room { length self.old.core.waiting.wakers ≤ ready.old.registered }
+        ensures turns { IfOk result (λ answer. Turns self.old wait.old waker answer self.new wait.new ready.old ready.new) }
+        ensures err { OnErr result ((self.new ≡ self.old) × (wait.new ≡ wait.old) × (ready.new ≡ ready.old)) }
+    {
+        let before = self.core.registered();
+        ready.register()?;
+        match self.core.poll(wait, waker) {
+            Err(_) => {
+                ready.unregister(1);
+                Err(NoMemory)
+            }
+            Ok(Poll::Pending) => {
+                ready.unregister(1 - (self.core.registered() - before));
+                Ok(Poll::Pending)
+            }
+            Ok(Poll::Ready(result)) => {
+                ready.unregister(1);
+                hand_on_barrier(&mut self.core, ready);
+                self.waits -= 1;
+                if result.is_leader() {
+                    Ok(Poll::Ready(Answer::Leader))
+                } else {
+                    Ok(Poll::Ready(Answer::Ready))
+                }
+            }
+        }
+    }
+
+    // Ends a future of the barrier.
+    fn end(&mut self, wait: BarrierWait)
+        requires own { is_own self.old.core wait ≡ true }
+        requires waits { 1 ≤ self.old.waits }
+        ensures { self.new ≡ record self.old { waits = self.old.waits - 1 } }
+    {
+        self.core.end(wait);
+        self.waits -= 1;
+    }
 }
 
 /// Barriers with the futures that wait at them, each by the number of the event that made it. Each call
@@ -143,5 +197,71 @@ impl BarrierHall {
         Ok(Answer::Made)
     }
 
-    // bar.poll, bar.end and bar.drop: to be written by the owner of this file.
+    /// `bar.poll f`: a first poll arrives, and one that is ready is gone. On an error nothing has changed.
+    pub fn poll(
+        &mut self,
+        number: u64,
+        f: u64,
+        waker: u64,
+        ready: &mut Ready<u64>,
+    ) -> Result<Answer, Stop>
+        requires next { self.old.next ≤ number }
+        requires there { IsSome (map.get self.old.hall.waits f) }
+        requires room { registered self.old.hall ≤ ready.old.registered }
+        ensures played { IfOk result (λ answer. Yields registered self.old number (model.poll_of self.old.hall f waker (map.get self.old.hall.waits f)) answer self.new ready.old ready.new) }
+        ensures memory { IfErr result (λ stop. stop ≡ Stop.NoMemory) }
+        ensures err { OnErr result ((self.new ≡ self.old) × (ready.new ≡ ready.old)) }
+    {
+        let Some(future) = self.waits.get_mut(&f) else {
+            unreachable!()
+        };
+        let Some(entry) = self.barriers.get_mut(&future.barrier) else {
+            unreachable!()
+        };
+        match entry.poll(&mut future.wait, waker, ready) {
+            Err(_) => Err(Stop::NoMemory),
+            Ok(Poll::Pending) => {
+                self.next = number as u128 + 1;
+                Ok(Answer::Pending)
+            }
+            Ok(Poll::Ready(answer)) => {
+                let _gone = self.waits.remove(&f);
+                self.next = number as u128 + 1;
+                Ok(answer)
+            }
+        }
+    }
+
+    /// `bar.end f`: its arrival and its waker stay. It takes no memory.
+    pub fn end(&mut self, number: u64, f: u64) -> Answer
+        requires next { self.old.next ≤ number }
+        requires there { IsSome (map.get self.old.hall.waits f) }
+        ensures { Rests registered self.old number (model.end_of self.old.hall f (map.get self.old.hall.waits f)) result self.new }
+    {
+        let Some(future) = self.waits.remove(&f) else {
+            unreachable!()
+        };
+        let Some(entry) = self.barriers.get_mut(&future.barrier) else {
+            unreachable!()
+        };
+        entry.end(future.wait);
+        self.next = number as u128 + 1;
+        Answer::Done
+    }
+
+    /// `bar.drop b`: no future waits there. It takes no memory.
+    pub fn drop(&mut self, number: u64, b: u64, ready: &mut Ready<u64>) -> Answer
+        requires next { self.old.next ≤ number }
+        requires there { IsSome (map.get self.old.hall.barriers b) }
+        requires free { model.waits_of self.old.hall b ≡ 0 }
+        requires room { registered self.old.hall ≤ ready.old.registered }
+        ensures { Yields registered self.old number (model.drop self.old.hall b) result self.new ready.old ready.new }
+    {
+        let Some(entry) = self.barriers.remove(&b) else {
+            unreachable!()
+        };
+        ready.unregister(entry.core.registered());
+        self.next = number as u128 + 1;
+        Answer::Done
+    }
 }

@@ -1,0 +1,239 @@
+-- what a change of one barrier and one of its futures does to what is kept, and to the barriers that are stood for
+use Rattle.std.proofs.Common.{◌≡◌, ℕ, ◌+◌, ◌/◌, ◌^◌, ◌<◌, ◌≤◌, ◌==◌, true, cond, length, Option, Some, None, nat_le, unwrap_or, refl, ap, sym, subst, ◌∙◌, arith}
+use Rattle.std.specs.Option.{option_map}
+use Rattle.std.specs.Ordering.{nat_cmp}
+use Rattle.std.specs.FinMap.{FinMap, get, insert, remove, entries}
+use Rattle.std.proofs.lemmas.Bool.{and_parts, and_from, leb-true, le-leb}
+use Rattle.std.proofs.lemmas.Nat.{div-add-mod', le-div}
+use Rattle.mea_base.specs.Named.{named}
+use Rattle.mea_base.specs.Totals.{total, weight}
+use Rattle.mea_base.proofs.Totals.{total-insert}
+use Rattle.mea_sets.specs.declared.place.Place.{Place}
+use Rattle.mea_sets.specs.WaitSet.{has_given}
+use Rattle.mea_meet_core.specs.Barrier as cores
+use Rattle.mea_meet_core.specs.Barrier.{is_open}
+use Rattle.mea_meet_core.specs.declared.barrier_wait.BarrierWait.{BarrierWait as Wait}
+use Rattle.mea_meet_core.specs.declared.barrier_wait.BarrierWait.TheVariants.{New, Arrived, Done}
+use Rattle.mea_meet_model.specs.Barriers.{Barrier, Barriers, new_barrier, barrier_at, registered}
+use Rattle.mea_meet.specs.Names.{waiting_at, AreNamed, AreGiven}
+use Rattle.mea_meet.specs.BarrierHall.{Store, slot_of, slots_of, barrier_of, wait_of, barriers_of, IsKeptEntry, IsHome, IsKept}
+use Rattle.mea_meet.specs.declared.barriers.BarrierEntry.{BarrierEntry}
+use Rattle.mea_meet.specs.declared.barriers.BarrierWaitEntry.{BarrierWaitEntry}
+use Rattle.mea_meet.proofs.Names.{waiting-length, waiting-alike}
+use Rattle.mea_meet.proofs.Stores.{at_same, at_apart, by_name, Sets, sets_there, sets_other, total-sets, weight-within, seen-some, seen_put, seen_gone}
+
+-- ---- the slots of the futures
+abbrev pub slot_entry : BarrierWaitEntry → ℕ × Option Place
+slot_entry x = (x.barrier, slot_of x.wait)
+
+-- whose slot it is
+pub slot_owner : (o : Option BarrierWaitEntry) (q : ℕ) (slot : Option Place) → option_map slot_entry o ≡ Some (q, slot) → (x : BarrierWaitEntry) × (o ≡ Some x) × (x.barrier ≡ q) × (slot_of x.wait ≡ slot)
+slot_owner None q slot is = absurd (cc)
+slot_owner (Some x) q slot is = (x, refl, ap (λ (p : Option (ℕ × Option Place)). object_in x.barrier p) is, ap (λ (p : Option (ℕ × Option Place)). slot_in None p) is)
+  where
+    object_in : ℕ → Option (ℕ × Option Place) → ℕ
+    object_in n None = n
+    object_in n (Some p) = p.0
+
+    slot_in : Option Place → Option (ℕ × Option Place) → Option Place
+    slot_in t None = t
+    slot_in t (Some p) = p.1
+
+module _ (m m' : FinMap nat_cmp BarrierWaitEntry) (f : ℕ) (o' : Option BarrierWaitEntry) (sets : Sets m m' f o') where
+  pub slots_there : slots_of m' f ≡ option_map slot_entry o'
+  slots_there = ap (option_map slot_entry) (sets_there m m' f o' sets f refl)
+
+  pub slots_other : (g : ℕ) → (f ≡ g → ⊥) → slots_of m' g ≡ slots_of m g
+  slots_other g apart = ap (option_map slot_entry) (sets_other m m' f o' sets g apart)
+
+-- ---- a barrier that goes on keeps the waits that belong to it
+pub later_round : (round a a' n : ℕ) → 0 < n → a ≤ a' → nat_le round (a / n) ≡ true → nat_le round (a' / n) ≡ true
+later_round round a a' n positive more h =
+    let least : a / n ≤ a' / n = le-div (a / n) a' n positive (omega (arith, div-add-mod' a n, more)) in
+    let before : round ≤ a / n = leb-true round (a / n) h in
+    le-leb round (a' / n) (omega (arith, least, before))
+
+pub goes_on : (b b' : cores.Barrier ℕ) → b'.size ≡ b.size → 1 ≤ b.size → b.arrivals ≤ b'.arrivals → ((t : Option Place) → has_given b.waiting t ≡ true → has_given b'.waiting t ≡ true)
+    → (w : Wait) → is_open b w ≡ true → is_open b' w ≡ true
+goes_on b b' size positive more given New h = refl
+goes_on b b' size positive more given (Arrived round slot) h =
+    let parts = and_parts (nat_le round (b.arrivals / b.size)) (has_given b.waiting slot) h in
+    and_from (nat_le round (b'.arrivals / b'.size)) (has_given b'.waiting slot)
+    (ap (λ n. nat_le round (b'.arrivals / n)) size ∙ later_round round b.arrivals b'.arrivals b.size (omega arith) more parts.0)
+    (given slot parts.1)
+goes_on b b' size positive more given Done h = absurd (cc)
+
+-- the numbers of the futures were given by the barrier
+pub open_given : (b : cores.Barrier ℕ) (w : Wait) → is_open b w ≡ true → has_given b.waiting (slot_of w) ≡ true
+open_given b New h = refl
+open_given b (Arrived round slot) h = (and_parts (nat_le round (b.arrivals / b.size)) (has_given b.waiting slot) h).1
+open_given b Done h = absurd (cc)
+
+pub home_open : (st : Store) (n f b : ℕ) (x : BarrierWaitEntry) (e : BarrierEntry) → IsKept st n → get st.waits f ≡ Some x → x.barrier ≡ b → get st.barriers b ≡ Some e → is_open e.core x.wait ≡ true
+home_open st n f b x e k is mine there =
+    let h = k.home f x is in
+    let both : Some h.entry ≡ Some e = sym h.there ∙ ap (get st.barriers) mine ∙ there in
+    let same : h.entry ≡ e = cc in
+    subst (λ (d : BarrierEntry). is_open d.core x.wait ≡ true) same h.belongs
+
+pub are_given : (st : Store) (n b : ℕ) (e : BarrierEntry) → IsKept st n → get st.barriers b ≡ Some e → AreGiven (slots_of st.waits) b e.core.waiting
+are_given st n b e k there f slot is =
+    let x = slot_owner (get st.waits f) b slot is in
+    ap (has_given e.core.waiting) (sym x.3) ∙ open_given e.core x.0.wait (home_open st n f b x.0 e k x.1 x.2 there)
+
+-- ---- how many wait at a barrier
+abbrev pub at_barrier : ℕ → ℕ → BarrierWaitEntry → ℕ
+at_barrier b f x = cond (x.barrier == b) 1 0
+
+abbrev pub one_of : Option BarrierWaitEntry → ℕ
+one_of None = 0
+one_of (Some x) = 1
+
+pub one-least : (o : Option BarrierWaitEntry) → one_of o ≤ 1
+one-least None = omega arith
+one-least (Some x) = omega arith
+
+weighs_here : (b f : ℕ) (o : Option BarrierWaitEntry) → ((x : BarrierWaitEntry) → o ≡ Some x → x.barrier ≡ b) → weight (at_barrier b) f o ≡ one_of o
+weighs_here b f None mine = refl
+weighs_here b f (Some x) mine = at_same x.barrier b 1 0 (mine x refl)
+
+weighs_elsewhere : (b q f : ℕ) (o : Option BarrierWaitEntry) → ((x : BarrierWaitEntry) → o ≡ Some x → x.barrier ≡ b) → (b ≡ q → ⊥) → weight (at_barrier q) f o ≡ 0
+weighs_elsewhere b q f None mine apart = refl
+weighs_elsewhere b q f (Some x) mine apart = at_apart x.barrier q 1 0 (λ same. apart (sym (mine x refl) ∙ same))
+
+-- the barrier b, e before, becomes e'; and its future f, o before, becomes o'
+pub record Changes (st st' : Store) (n n' b f : ℕ) (e e' : BarrierEntry) (o o' : Option BarrierWaitEntry) : Type 0 where
+  pub there : get st.barriers b ≡ Some e
+  pub barriers : Sets st.barriers st'.barriers b (Some e')
+  pub was : get st.waits f ≡ o
+  pub waits : Sets st.waits st'.waits f o'
+  pub rises : n < n'
+  pub low : n' ≤ 2 ^ 64
+  pub was_of : (x : BarrierWaitEntry) → o ≡ Some x → x.barrier ≡ b
+  pub is_of : (x : BarrierWaitEntry) → o' ≡ Some x → x.barrier ≡ b
+  pub named : AreNamed (slots_of st'.waits) n'
+  pub opens : (w : Wait) → is_open e.core w ≡ true → is_open e'.core w ≡ true
+  pub home : (x : BarrierWaitEntry) → o' ≡ Some x → is_open e'.core x.wait ≡ true
+  pub same_wakes : e'.core.wakes ≡ e.core.wakes
+  pub same_size : e'.core.size ≡ e.core.size
+  pub few : e'.core.arrivals ≤ e.core.arrivals + 1
+  pub counted : e'.waits + one_of o ≡ e.waits + one_of o'
+
+module _ (st st' : Store) (n n' b f : ℕ) (e e' : BarrierEntry) (o o' : Option BarrierWaitEntry) (k : IsKept st n) (c : Changes st st' n n' b f e e' o o') where
+  barrier_other : (q : ℕ) → (b ≡ q → ⊥) → get st'.barriers q ≡ get st.barriers q
+  barrier_other = sets_other st.barriers st'.barriers b (Some e') c.barriers
+
+  barrier_there : (q : ℕ) → b ≡ q → get st'.barriers q ≡ Some e'
+  barrier_there = sets_there st.barriers st'.barriers b (Some e') c.barriers
+
+  wait_other : (g : ℕ) → (f ≡ g → ⊥) → get st'.waits g ≡ get st.waits g
+  wait_other = sets_other st.waits st'.waits f o' c.waits
+
+  wait_there : (g : ℕ) → f ≡ g → get st'.waits g ≡ o'
+  wait_there = sets_there st.waits st'.waits f o' c.waits
+
+  abbrev old_entry : IsKeptEntry st n b e
+  old_entry = k.each b e c.there
+
+  -- ---- what is kept
+  waits_at : (q : ℕ) → total (at_barrier q) st'.waits + weight (at_barrier q) f o ≡ total (at_barrier q) st.waits + weight (at_barrier q) f o'
+  waits_at q = total-sets st.waits st'.waits f o' c.waits (at_barrier q) o c.was
+
+  entry_here : IsKeptEntry st' n' b e'
+  entry_here = record {
+    quiet = c.same_wakes ∙ old_entry.quiet;
+    sized = subst (λ m. 1 ≤ m) (sym c.same_size) old_entry.sized;
+    few = (let before = old_entry.few in let more = c.few in let later = c.rises in omega (arith, before, more, later));
+    counted = (let before = old_entry.counted in let sums = waits_at b in let was = weighs_here b f o c.was_of in let is = weighs_here b f o' c.is_of in let counts = c.counted in omega (arith, before, sums, was, is, counts));
+    few_waits = (let before = old_entry.few_waits in let counts = c.counted in let most = one-least o' in let later = c.rises in omega (arith, before, counts, most, later));
+    below = (let before = old_entry.below in let later = c.rises in omega (arith, before, later));
+  }
+
+  entry_elsewhere : (q : ℕ) (d : BarrierEntry) → (b ≡ q → ⊥) → IsKeptEntry st n q d → IsKeptEntry st' n' q d
+  entry_elsewhere q d apart old = record {
+    quiet = old.quiet;
+    sized = old.sized;
+    few = (let before = old.few in let later = c.rises in omega (arith, before, later));
+    counted = (let before = old.counted in let sums = waits_at q in let was = weighs_elsewhere b q f o c.was_of apart in let is = weighs_elsewhere b q f o' c.is_of apart in omega (arith, before, sums, was, is));
+    few_waits = (let before = old.few_waits in let later = c.rises in omega (arith, before, later));
+    below = (let before = old.below in let later = c.rises in omega (arith, before, later));
+  }
+
+  each_after : (q : ℕ) (d : BarrierEntry) → get st'.barriers q ≡ Some d → IsKeptEntry st' n' q d
+  each_after q d is = by_name b q
+      (λ same. let both : Some e' ≡ Some d = sym (barrier_there q same) ∙ is in let one : e' ≡ d = cc in subst (λ p. IsKeptEntry st' n' p d) same (subst (IsKeptEntry st' n' b) one entry_here))
+      (λ apart. entry_elsewhere q d apart (k.each q d (sym (barrier_other q apart) ∙ is)))
+
+  home_other : (g : ℕ) (x : BarrierWaitEntry) → get st.waits g ≡ Some x → IsHome st' x
+  home_other g x is = by_name b x.barrier
+      (λ same. record { entry = e'; there = barrier_there x.barrier same; belongs = c.opens x.wait (home_open st n g b x e k is (sym same) c.there) })
+      (λ apart. let h = k.home g x is in record { entry = h.entry; there = barrier_other x.barrier apart ∙ h.there; belongs = h.belongs })
+
+  home_after : (g : ℕ) (x : BarrierWaitEntry) → get st'.waits g ≡ Some x → IsHome st' x
+  home_after g x is = by_name f g
+      (λ same. let here : o' ≡ Some x = sym (wait_there g same) ∙ is in record { entry = e'; there = barrier_there x.barrier (sym (c.is_of x here)); belongs = c.home x here })
+      (λ apart. home_other g x (sym (wait_other g apart) ∙ is))
+
+  pub kept_after : IsKept st' n'
+  kept_after = record { each = each_after; home = home_after; named = c.named; low = c.low }
+
+  -- ---- the barriers that are stood for
+  slot_stays : (q g : ℕ) (place : Place) → (b ≡ q → ⊥) → slots_of st.waits g ≡ Some (q, Some place) → slots_of st'.waits g ≡ Some (q, Some place)
+  slot_stays q g place apart is = by_name f g
+      (λ same. let x = slot_owner (get st.waits g) q (Some place) is in absurd (apart (sym (c.was_of x.0 (sym c.was ∙ ap (get st.waits) same ∙ x.1)) ∙ x.2)))
+      (λ other. slots_other st.waits st'.waits f o' c.waits g other ∙ is)
+
+  slot_stood : (q g : ℕ) (place : Place) → (b ≡ q → ⊥) → slots_of st'.waits g ≡ Some (q, Some place) → slots_of st.waits g ≡ Some (q, Some place)
+  slot_stood q g place apart is = by_name f g
+      (λ same. let x = slot_owner (get st'.waits g) q (Some place) is in absurd (apart (sym (c.is_of x.0 (sym (wait_there g same) ∙ x.1)) ∙ x.2)))
+      (λ other. sym (slots_other st.waits st'.waits f o' c.waits g other) ∙ is)
+
+  barrier_alike : (q : ℕ) (d : BarrierEntry) → (b ≡ q → ⊥) → get st.barriers q ≡ Some d → barrier_of st'.waits n' q d ≡ barrier_of st.waits n q d
+  barrier_alike q d apart is =
+      let same = waiting-alike (slots_of st.waits) (slots_of st'.waits) n n' q d.core.waiting k.named c.named (λ g place. slot_stays q g place apart) (λ g place. slot_stood q g place apart) in
+      λ j. record { size = d.core.size; arrivals = d.core.arrivals; waiting = same j }
+
+  abbrev h : Barriers
+  h = barriers_of st n
+
+  barriers_now : named (barrier_of st'.waits n') (entries st'.barriers) ≡ insert h.barriers b (barrier_of st'.waits n' b e')
+  barriers_now = seen_put (barrier_of st.waits n) (barrier_of st'.waits n') st.barriers st'.barriers b e' c.barriers barrier_alike
+
+  -- where the future is there, or still there
+  pub hall_put : (x : BarrierWaitEntry) → o' ≡ Some x → (r : Barrier) → barrier_of st'.waits n' b e' ≡ r → barriers_of st' n' ≡ record { barriers = insert h.barriers b r; waits = insert h.waits f (wait_of x) }
+  hall_put x is r seen =
+      let waits = seen_put (λ (g : ℕ) y. wait_of y) (λ g y. wait_of y) st.waits st'.waits f x (λ g. c.waits g ∙ ap (λ p. cond (f == g) p (get st.waits g)) is) (λ g y apart there. refl) in
+      (λ j. record { barriers = barriers_now j; waits = waits j }) ∙ ap (λ s. record { barriers = insert h.barriers b s; waits = insert h.waits f (wait_of x) }) seen
+
+  -- where it is gone
+  pub hall_gone : o' ≡ None → (r : Barrier) → barrier_of st'.waits n' b e' ≡ r → barriers_of st' n' ≡ record { barriers = insert h.barriers b r; waits = remove h.waits f }
+  hall_gone is r seen =
+      let waits = seen_gone (λ (g : ℕ) y. wait_of y) (λ g y. wait_of y) st.waits st'.waits f (λ g. c.waits g ∙ ap (λ p. cond (f == g) p (get st.waits g)) is) (λ g y apart there. refl) in
+      (λ j. record { barriers = barriers_now j; waits = waits j }) ∙ ap (λ s. record { barriers = insert h.barriers b s; waits = remove h.waits f }) seen
+
+  -- the wakers that are registered, by those of the barrier
+  pub registered_after : registered (barriers_of st' n') + length e.core.waiting.wakers ≡ registered h + length e'.core.waiting.wakers
+  registered_after =
+      let sums = total-insert (λ q (r : Barrier). length r.waiting) h.barriers b (barrier_of st'.waits n' b e') in
+      let was : weight (λ q (r : Barrier). length r.waiting) b (get h.barriers b) ≡ length e.core.waiting.wakers = ap (weight (λ q (r : Barrier). length r.waiting) b) (seen-some (barrier_of st.waits n) st.barriers b e c.there) ∙ waiting-length (slots_of st.waits) n b e.core.waiting in
+      let is : length (waiting_at (slots_of st'.waits) n' b e'.core.waiting) ≡ length e'.core.waiting.wakers = waiting-length (slots_of st'.waits) n' b e'.core.waiting in
+      let now : registered (barriers_of st' n') ≡ total (λ q (r : Barrier). length r.waiting) (insert h.barriers b (barrier_of st'.waits n' b e')) = ap (total (λ q (r : Barrier). length r.waiting)) barriers_now in
+      omega (arith, sums, was, is, now)
+
+-- a barrier as it is seen
+pub barrier_seen : (st : Store) (n b : ℕ) (e : BarrierEntry) → get st.barriers b ≡ Some e → barrier_at (barriers_of st n) b ≡ barrier_of st.waits n b e
+barrier_seen st n b e there = ap (λ o. unwrap_or o (new_barrier 1)) (seen-some (barrier_of st.waits n) st.barriers b e there)
+
+-- its wakers are registered in the hall
+pub wakers_within : (st : Store) (n b : ℕ) (e : BarrierEntry) → get st.barriers b ≡ Some e → length e.core.waiting.wakers ≤ registered (barriers_of st n)
+wakers_within st n b e there =
+    let mine : length (waiting_at (slots_of st.waits) n b e.core.waiting) ≤ registered (barriers_of st n) = weight-within (λ q (r : Barrier). length r.waiting) (barriers_of st n).barriers b (barrier_of st.waits n b e) (seen-some (barrier_of st.waits n) st.barriers b e there) in
+    omega (arith, mine, waiting-length (slots_of st.waits) n b e.core.waiting)
+
+-- a future counts at its barrier
+pub waits_within : (st : Store) (n f b : ℕ) (x : BarrierWaitEntry) (e : BarrierEntry) → IsKept st n → get st.waits f ≡ Some x → x.barrier ≡ b → get st.barriers b ≡ Some e → 1 ≤ e.waits
+waits_within st n f b x e k is mine there =
+    let one : at_barrier b f x ≡ 1 = at_same x.barrier b 1 0 mine in
+    let all : at_barrier b f x ≤ total (at_barrier b) st.waits = weight-within (at_barrier b) st.waits f x is in
+    let counts = (k.each b e there).counted in
+    omega (arith, one, all, counts)
