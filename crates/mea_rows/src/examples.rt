@@ -22,6 +22,18 @@ const EXAMPLES: &[Row] = &[
         text: "made/made/ready/made/ready/made/ready/made/pending/made/pending/made/pending/made/pending/made/pending/free 0/done/done wake 104/ready/done wake 106/ready/free 0/done wake 107/ready/done wake 108/ready/none/done/free 1/done/done/free 3/some/some/permits 2/done/done/ledger 3 0 0 3 0 0 0/done 40",
         status: Status::Done,
     },
+    // A latch at start-up: who waits is woken when the last of three is up.
+    Row {
+        script: "lat.new 3/lat.wait 0/lat.poll 1 10/lat.down 0/lat.waito 0/lat.poll 4 11/lat.arrive 0 2/lat.poll 1 12/lat.poll 4 13/lat.try 0/lat.drop 0",
+        text: "made/made/pending/done/made/pending/done wake 10 11/ready/ready/ok/done/done 11",
+        status: Status::Done,
+    },
+    // A shutdown: two workers learn of the signal, and who asked for it waits until both are gone.
+    Row {
+        script: "sd.new/sd.copyr 0/sd.is 0/sd.poll 2 10/sd.is 1/sd.poll 4 11/sd.watch 0/sd.now 6/sd.signal 0/sd.now 6/sd.poll 2 12/sd.poll 4 13/sd.await 0/sd.poll 12 14/sd.endr 0/sd.endr 1/sd.poll 12 15/sd.endr 6",
+        text: "made/made/made/pending/made/pending/made/no/done wake 10 11/yes/ready/ready/made/pending/done/done wake 14/ready/done/done 18",
+        status: Status::Done,
+    },
 ];
 
 #[test]

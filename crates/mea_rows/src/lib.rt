@@ -8,6 +8,8 @@ mod faults;
 #[cfg(test)]
 mod limits;
 #[cfg(test)]
+mod meeting_points;
+#[cfg(test)]
 mod permits;
 #[cfg(test)]
 mod refusals;

@@ -1,4 +1,5 @@
 use crate::rows::{Row, check_rows};
+use mea_base::Stop;
 use mea_run::Status;
 use std::test::Fail;
 
