@@ -1,7 +1,9 @@
 -- a waker that goes from the halls to the last reply
 use Rattle.std.proofs.Common.{◌≡◌, ◌≢◌, ℕ, ◌-◌, ◌≤◌, List, [], ◌∷◌, ◌++◌, length, ap, sym, ◌∙◌, arith}
 use Rattle.mea_base.specs.declared.answer.Answer.{Answer}
-use Rattle.mea_hall.specs.World.{Play}
+use Rattle.mea_hall.specs.declared.event.Event.{Event}
+use Rattle.mea_hall.specs.World.{Play, Plays, registered, step}
+use Rattle.mea_hall.proofs.Families.{most_woken}
 use Rattle.mea_hall.specs.Replies.{Told, with_wake, with_wakes}
 use Rattle.mea_hall.proofs.Wakes.{length-with_wake, with_wakes-append}
 
@@ -36,3 +38,9 @@ pub told_reply : (rs pushed final : List (Answer × List ℕ)) (answer : Answer)
 told_reply rs pushed final answer before ws reply push over same woken quiet =
     let all : ws ≡ reply.1 = woken ∙ ap (λ q. q ++ reply.1) quiet in
     over ∙ ap (λ told. with_wakes told ws) push ∙ with_wakes-append rs answer [] ws ∙ (λ i. rs ++ (same i, all i) ∷ [])
+
+-- the wakers of an event have room where there is room for as many as are registered before it
+pub room_for : (old new : Play) (e : Event) (answer : Answer) (n spare after : ℕ) → Plays old e answer new → old.wakes ≡ [] → n ≡ registered old.world → n ≤ spare → after ≡ spare → length new.wakes ≤ after
+room_for old new e answer n spare after plays quiet count room same =
+    let all : length new.wakes ≡ length (step old.world old.events e).reply.1 = ap length (plays.woken ∙ ap (λ ws. ws ++ (step old.world old.events e).reply.1) quiet) in
+    omega (arith, all, most_woken old.world old.events e, count, room, same)

@@ -1,7 +1,14 @@
 pub mod Digits
+pub mod Families
 pub mod Fronts
 pub mod Wakes
 pub mod HandedOver
 pub mod Puts
+pub mod Numbers
+pub mod Cuts
+pub mod Marks
+pub mod Readings
+pub mod SemSpellings
+pub mod MeetSpellings
 pub mod Spellings
 pub mod Histories

@@ -1,27 +1,50 @@
--- what was told of the semaphores by events and their replies, and the two laws of every such history
-use Rattle.std.specs.Prelude.{ℕ, ◌+◌, ◌≤◌, List, [], ◌∷◌, length, take}
+-- what was told of each family by events and their replies, and the laws of every such history
+use Rattle.std.specs.Prelude.{ℕ, ◌+◌, ◌≤◌, List, [], ◌∷◌, Option, Some, None, length, take}
 use Rattle.mea_base.specs.declared.answer.Answer.{Answer}
-use Rattle.mea_sem_model.specs.Step.{step}
-use Rattle.mea_sem_model.specs.Runs.{Run, start, Balances, LosesNoWake}
+use Rattle.mea_base.specs.Family.{Family, RunOf, start, LosesNoWake}
+use Rattle.mea_sem_model.specs.declared.event.SemEvent.{SemEvent}
+use Rattle.mea_sem_model.specs.Runs.{semaphores, Balances}
+use Rattle.mea_meet_model.specs.declared.event.MeetEvent.{MeetEvent}
+use Rattle.mea_meet_model.specs.Meets.{meets}
 use Rattle.mea_hall.specs.declared.event.Event.{Event}
-use Rattle.mea_hall.specs.declared.event.Event.TheVariants.{Sem}
+use Rattle.mea_hall.specs.declared.event.Event.TheVariants.{Sem, Meet}
 
--- how a run of the semaphores goes on with these events and replies, the first of which has the number i
-abbrev pub run_from : Run → ℕ → List Event → List (Answer × List ℕ) → Run
-run_from r i [] rs = r
-run_from r i (Sem e ∷ es) [] = r
-run_from r i (Sem e ∷ es) (reply ∷ rs) = run_from (record { hall = (step r.hall i e).hall; trace = record { number = i; before = r.hall; event = e; reply = reply.0; wakes = reply.1 } ∷ r.trace; next = i + 1 }) (i + 1) es rs
+-- the event as one of a family, if it is one
+abbrev pub semaphore_part : Event → Option SemEvent
+semaphore_part (Sem e) = Some e
+semaphore_part (Meet e) = None
 
--- the run of the semaphores after the first i of these events and replies
-abbrev pub run_after : List Event → List (Answer × List ℕ) → ℕ → Run
-run_after es rs i = run_from start 0 (take i es) (take i rs)
+abbrev pub meet_part : Event → Option MeetEvent
+meet_part (Sem e) = None
+meet_part (Meet e) = Some e
+
+module _ (F : Family) (part : Event → Option F.Event) where
+  -- how a run of the family goes on with one more event, which had this reply
+  abbrev pub hears : RunOf F → ℕ → Option F.Event → Answer × List ℕ → RunOf F
+  hears r i None reply = r
+  hears r i (Some e) reply = record { hall = (F.step r.hall i e).hall; trace = record { number = i; before = r.hall; event = e; reply = reply.0; wakes = reply.1 } ∷ r.trace; next = i + 1 }
+
+  -- and with these events and replies, the first of which has the number i
+  abbrev pub run_from : RunOf F → ℕ → List Event → List (Answer × List ℕ) → RunOf F
+  run_from r i [] rs = r
+  run_from r i (e ∷ es) [] = r
+  run_from r i (e ∷ es) (reply ∷ rs) = run_from (hears r i (part e) reply) (i + 1) es rs
+
+  -- the run of the family after the first i of these events and replies
+  abbrev pub run_after : List Event → List (Answer × List ℕ) → ℕ → RunOf F
+  run_after es rs i = run_from (start F) 0 (take i es) (take i rs)
+
+  -- at every point: each living future that waits by its last poll, and would not by its next, has had the
+  -- waker of that last poll woken since
+  abbrev pub AreWoken : List Event → List (Answer × List ℕ) → Type 0
+  AreWoken es rs = (i : ℕ) → i ≤ length rs → LosesNoWake F (run_after es rs i)
 
 -- at every point, of every semaphore: the permits that were made, released and are owed are those that are
 -- free, held, paid and forgotten
 abbrev pub AreBalanced : List Event → List (Answer × List ℕ) → Type 0
-AreBalanced es rs = (i : ℕ) → i ≤ length rs → (s : ℕ) → Balances (run_after es rs i) s
+AreBalanced es rs = (i : ℕ) → i ≤ length rs → (s : ℕ) → Balances (run_after semaphores semaphore_part es rs i) s
 
--- at every point: each living future that waits by its last poll, and would not by its next, has had the
--- waker of that last poll woken since
-abbrev pub LoseNoWake : List Event → List (Answer × List ℕ) → Type 0
-LoseNoWake es rs = (i : ℕ) → i ≤ length rs → LosesNoWake (run_after es rs i)
+-- of no family is a wake lost
+pub record LoseNoWake (es : List Event) (rs : List (Answer × List ℕ)) : Type 0 where
+  pub semaphores_woken : AreWoken semaphores semaphore_part es rs
+  pub meets_woken : AreWoken meets meet_part es rs

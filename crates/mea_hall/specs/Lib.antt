@@ -1,9 +1,15 @@
 pub mod World
+pub mod Families
 pub mod Front
 pub mod Replies
 pub mod RepliesInside
 pub mod Number
+pub mod Words
+pub mod SemLines
+pub mod MeetLines
 pub mod Lines
 pub mod Text
+pub mod SemSpelling
+pub mod MeetSpelling
 pub mod Spelling
 pub mod History

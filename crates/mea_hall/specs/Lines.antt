@@ -1,77 +1,20 @@
--- the event of a line: a word and its numbers, with one space between
-use Rattle.std.specs.Prelude.{ℕ, ◌==◌, List, length, Option, Some, None, codes, nat_lt, if◌then◌else◌, option_and_then}
+-- the event of a line: the families of events in turn
+use Rattle.std.specs.Prelude.{ℕ, List, Option, Some}
 use Rattle.std.specs.Option.{option_or}
-use Rattle.std.specs.List.{position_or_len, before_first, after_first}
-use Rattle.std.specs.Str.{bytes_eq}
-use Rattle.mea_sem_model.specs.declared.event.SemEvent.TheVariants.{New, Free, Forget, Forgetx, Release, Try, Tryo, Tryf, Tryof, Acq, Acqo, Acqf, Acqof, Poll, End, Lose, Merge, Split, Size, Endsem, Ledger}
-use Rattle.mea_sem_model.specs.declared.event.SemEvent.{SemEvent}
 use Rattle.mea_hall.specs.declared.event.Event.{Event}
-use Rattle.mea_hall.specs.declared.event.Event.TheVariants.{Sem}
-use Rattle.mea_hall.specs.Number.{number_of}
+use Rattle.mea_hall.specs.declared.event.Event.TheVariants.{Sem, Meet}
+use Rattle.mea_hall.specs.Words.{◌>>=◌}
+use Rattle.mea_hall.specs.SemLines.{semaphore_event}
+use Rattle.mea_hall.specs.MeetLines.{meet_event, bare_meet_event}
+pub use Rattle.mea_hall.specs.Words.{cut}
 
-infixl 10 ◌>>=◌
-abbrev pub ◌>>=◌ : {A B : Type 0} → Option A → (A → Option B) → Option B
-o >>= f = option_and_then f o
+-- the event of a word, and of the numbers after it
+abbrev pub numbered_event : List ℕ → List ℕ → Option Event
+numbered_event word rest = option_or (semaphore_event word rest >>= (λ event. Some (Sem event))) (meet_event word rest >>= (λ event. Some (Meet event)))
 
--- what stands before and after the first such byte, if there is one
-abbrev pub cut : ℕ → List ℕ → Option (List ℕ × List ℕ)
-cut byte bytes = if nat_lt (position_or_len (λ b. b == byte) bytes) (length bytes) then Some (before_first (λ b. b == byte) bytes, after_first (λ b. b == byte) bytes) else None
-
--- two numbers with a space between
-abbrev pub numbers_of : List ℕ → Option (ℕ × ℕ)
-numbers_of bytes = do
-  parts ← cut 32 bytes
-  first ← number_of parts.0
-  second ← number_of parts.1
-  Some (first, second)
-
--- an event of one number
-abbrev pub with_number : (ℕ → SemEvent) → List ℕ → Option SemEvent
-with_number event rest = number_of rest >>= (λ n. Some (event n))
-
--- an event of two numbers
-abbrev pub with_numbers : (ℕ → ℕ → SemEvent) → List ℕ → Option SemEvent
-with_numbers event rest = numbers_of rest >>= (λ p. Some (event p.0 p.1))
-
--- the lines that speak of a semaphore and its free permits
-abbrev pub permits_event : List ℕ → List ℕ → Option SemEvent
-permits_event word rest =
-    if bytes_eq word (codes "new") then with_number New rest
-    else if bytes_eq word (codes "free") then with_number Free rest
-    else if bytes_eq word (codes "forget") then with_numbers Forget rest
-    else if bytes_eq word (codes "forgetx") then with_numbers Forgetx rest
-    else if bytes_eq word (codes "release") then with_numbers Release rest
-    else if bytes_eq word (codes "endsem") then with_number Endsem rest
-    else if bytes_eq word (codes "ledger") then with_number Ledger rest
-    else None
-
--- the lines that ask for permits
-abbrev pub asking_event : List ℕ → List ℕ → Option SemEvent
-asking_event word rest =
-    if bytes_eq word (codes "try") then with_numbers Try rest
-    else if bytes_eq word (codes "tryo") then with_numbers Tryo rest
-    else if bytes_eq word (codes "tryf") then with_numbers Tryf rest
-    else if bytes_eq word (codes "tryof") then with_numbers Tryof rest
-    else if bytes_eq word (codes "acq") then with_numbers Acq rest
-    else if bytes_eq word (codes "acqo") then with_numbers Acqo rest
-    else if bytes_eq word (codes "acqf") then with_numbers Acqf rest
-    else if bytes_eq word (codes "acqof") then with_numbers Acqof rest
-    else None
-
--- the lines that speak of a future or a permit
-abbrev pub holding_event : List ℕ → List ℕ → Option SemEvent
-holding_event word rest =
-    if bytes_eq word (codes "poll") then with_numbers Poll rest
-    else if bytes_eq word (codes "end") then with_number End rest
-    else if bytes_eq word (codes "lose") then with_number Lose rest
-    else if bytes_eq word (codes "merge") then with_numbers Merge rest
-    else if bytes_eq word (codes "split") then with_numbers Split rest
-    else if bytes_eq word (codes "size") then with_number Size rest
-    else None
-
--- the semaphore event of a word, and of what stands after it
-abbrev pub semaphore_event : List ℕ → List ℕ → Option SemEvent
-semaphore_event word rest = option_or (permits_event word rest) (option_or (asking_event word rest) (holding_event word rest))
+-- the event of a word alone
+abbrev pub bare_event : List ℕ → Option Event
+bare_event line = bare_meet_event line >>= (λ event. Some (Meet event))
 
 abbrev pub event_of : List ℕ → Option Event
-event_of line = cut 32 line >>= (λ parts. semaphore_event parts.0 parts.1 >>= (λ event. Some (Sem event)))
+event_of line = option_or (cut 32 line >>= (λ parts. numbered_event parts.0 parts.1)) (bare_event line)

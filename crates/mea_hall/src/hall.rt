@@ -1,10 +1,13 @@
-ghost use Rattle.std.specs.Prelude.{◌≡◌, ◌≢◌, ◌+◌, ◌-◌, ◌^◌, ◌<◌, ◌≤◌, ◌∷◌, [], ◌++◌, ◌⊎◌, ℕ, length, None, Some, OnOk, OnErr, IfOk, IfErr, IfSome, IfNone};
+ghost use Rattle.std.specs.Prelude.{◌≡◌, ◌≢◌, ◌+◌, ◌-◌, ◌^◌, ◌<◌, ◌≤◌, ◌∷◌, [], ◌++◌, ◌⊎◌, ℕ, length, true, false, None, Some, OnOk, OnErr, IfOk, IfErr, IfSome, IfNone};
 ghost use Rattle.mea_hall.specs.declared.event.Event.{Event as Line};
-ghost use Rattle.mea_hall.specs.World.{empty_world, Play, Plays, TakesNoMemory, cause_of, step};
+ghost use Rattle.mea_hall.specs.World.{empty_world, Play, Plays, OthersStay, TakesNoMemory, cause_of, registered, registers};
+ghost use Rattle.mea_hall.specs.Families.{world_of, PlaysFamilies};
 
 use crate::event::Event;
-use mea_base::{Answer, Stop};
+use mea_base::{Answer, NoMemory, Outbox, Stop};
+use mea_meet::{MeetEvent, MeetHall};
 use mea_sem::SemHall;
+use mea_sem_model::SemEvent;
 use std::alloc::Global;
 use std::marker::Model;
 
@@ -13,20 +16,32 @@ use std::marker::Model;
 #[derive(Drop)]
 pub struct Hall {
     semaphores: SemHall,
+    meets: MeetHall,
+    // What the families have made ready, in the order of the events; there is room for each waker that is
+    // registered.
+    outbox: Outbox<u64>,
     events: u64,
 }
 
 impl Model for Hall {
-    ghost use Rattle.std.specs.Prelude.{◌≤◌};
-    ghost use Rattle.mea_hall.specs.World.{Play, play_code};
+    ghost use Rattle.std.specs.Prelude.{◌≡◌, ◌<◌, ◌≤◌, ◌^◌, []};
+    ghost use Rattle.mea_hall.specs.World.{Play, play_code, registered};
 
     ghost Value = { Play };
 
     ghost coded = { play_code };
 
-    ghost view = { λ a. record { world = record { semaphores = a.semaphores.hall }; wakes = a.semaphores.wakes; events = a.events } };
+    ghost view = { λ a. record { world = record { semaphores = a.semaphores.hall; meets = a.meets.hall }; wakes = a.outbox.wakers; events = a.events } };
 
-    ghost invariant = { λ a. a.semaphores.next ≤ a.events };
+    ghost invariant = { λ a. record {
+      fits : a.events < 2 ^ 64;
+      semaphores : a.semaphores.next ≤ a.events;
+      meets : a.meets.next ≤ a.events;
+      semaphores_moved : a.semaphores.wakes ≡ [];
+      meets_moved : a.meets.wakes ≡ [];
+      room : registered (record { semaphores = a.semaphores.hall; meets = a.meets.hall }) ≤ a.outbox.spare;
+      few : registered (record { semaphores = a.semaphores.hall; meets = a.meets.hall }) ≤ a.events;
+    } };
 }
 
 impl Hall {
@@ -36,6 +51,8 @@ impl Hall {
     {
         Hall {
             semaphores: SemHall::new(alloc),
+            meets: MeetHall::new(alloc),
+            outbox: Outbox::new(alloc),
             events: 0,
         }
     }
@@ -47,37 +64,53 @@ impl Hall {
         self.events
     }
 
+    /// Why an event would be refused; None where it would not. It takes no memory.
+    pub fn cause(&self, event: &Event) -> Option<Stop>
+        ensures { result ≡ cause_of self.now.world event.now }
+    {
+        match event {
+            Event::Sem(event) => self.semaphores.cause(event),
+            Event::Meet(event) => self.meets.cause(event),
+        }
+    }
+
     /// Plays the next event, and makes the wakers ready that it wakes. A cause for refusal comes before want
     /// of memory.
     pub fn act(&mut self, event: &Event) -> Result<Answer, Stop>
         requires { self.old.events < 2 ^ 64 - 1 }
         ensures played { IfOk result (λ answer. Plays self.old event.now answer self.new) }
+        ensures alone { OnOk result (OthersStay event.now self.old.world self.new.world) }
         ensures allowed { OnOk result (cause_of self.old.world event.now ≡ None) }
         ensures refused { IfErr result (λ stop. (cause_of self.old.world event.now ≡ Some stop) ⊎ ((cause_of self.old.world event.now ≡ None) × (stop ≡ Stop.NoMemory))) }
         ensures no_memory { TakesNoMemory event.now → result ≢ Err Stop.NoMemory }
         ensures err { OnErr result (self.new ≡ self.old) }
     {
-        let answer = match event {
-            Event::Sem(event) => self.semaphores.act(self.events, event)?,
-        };
+        let registered = self.registered();
+        if reserve_for(&mut self.outbox, event, registered).is_err() {
+            return Err(self.cause(event).unwrap_or(Stop::NoMemory));
+        }
+        let answer = play(&mut self.semaphores, &mut self.meets, self.events, event)?;
+        move_wakes_of_semaphores(&mut self.semaphores, &mut self.outbox);
+        move_wakes_of_meets(&mut self.meets, &mut self.outbox);
         self.events += 1;
         Ok(answer)
     }
 
-    /// At least the number of wakers that the next event may make ready, so that room for them can be made
-    /// before it is played. It takes no memory.
+    /// How many wakers an event may still make ready, so that room for them can be made before it is played:
+    /// those of futures that wait, and those that futures have left registered when they ended. It takes no
+    /// memory.
     pub fn registered(&self) -> usize
-        ensures most { (i : ℕ) (event : Line) → cause_of self.now.world event ≡ None → length (step self.now.world i event).reply.1 ≤ result }
+        ensures count { result ≡ registered self.now.world }
         ensures few { result ≤ self.now.events }
     {
-        self.semaphores.registered()
+        self.semaphores.registered() + self.meets.registered()
     }
 
     /// How many wakers are ready. It takes no memory.
     pub fn wakes_ready(&self) -> usize
         ensures { result ≡ length self.now.wakes }
     {
-        self.semaphores.wakes_ready()
+        self.outbox.len()
     }
 
     /// Takes the first waker that is ready. It takes no memory.
@@ -85,14 +118,97 @@ impl Hall {
         ensures some { IfSome result (λ waker. self.old ≡ record self.new { wakes = waker ∷ self.new.wakes }) }
         ensures none { IfNone result ((self.old.wakes ≡ []) × (self.new ≡ self.old)) }
     {
-        self.semaphores.next_wake()
+        self.outbox.pop()
     }
 
     /// The hall of the semaphores. It takes no memory.
     pub fn semaphores(&self) -> &SemHall
-        ensures hall { result.now.hall ≡ self.now.world.semaphores }
-        ensures wakes { result.now.wakes ≡ self.now.wakes }
+        ensures { result.now.hall ≡ self.now.world.semaphores }
     {
         &self.semaphores
+    }
+
+    /// The hall of the meeting points. It takes no memory.
+    pub fn meets(&self) -> &MeetHall
+        ensures { result.now.hall ≡ self.now.world.meets }
+    {
+        &self.meets
+    }
+}
+
+// Makes room for the waker that the event may register, beside those that are registered.
+fn reserve_for(outbox: &mut Outbox<u64>, event: &Event, registered: usize) -> Result<(), NoMemory>
+    requires { registered < 2 ^ 64 - 1 }
+    ensures room { OnOk result (registers event.now ≡ true → registered + 1 ≤ outbox.new.spare) }
+    ensures no_memory { registers event.now ≡ false → result ≡ Ok tt }
+    ensures grows { outbox.old.spare ≤ outbox.new.spare }
+    ensures wakers { outbox.new.wakers ≡ outbox.old.wakers }
+{
+    if registers(event) {
+        outbox.reserve(registered + 1)
+    } else {
+        Ok(())
+    }
+}
+
+// Plays the event on the hall of its family.
+fn play(
+    semaphores: &mut SemHall,
+    meets: &mut MeetHall,
+    number: u64,
+    event: &Event,
+) -> Result<Answer, Stop>
+    requires next { (semaphores.old.next ≤ number) × (meets.old.next ≤ number) }
+    requires moved { (semaphores.old.wakes ≡ []) × (meets.old.wakes ≡ []) }
+    ensures played { IfOk result (λ answer. PlaysFamilies (world_of semaphores.old meets.old) number event.now answer semaphores.new meets.new) }
+    ensures allowed { OnOk result (cause_of (world_of semaphores.old meets.old) event.now ≡ None) }
+    ensures refused { IfErr result (λ stop. (cause_of (world_of semaphores.old meets.old) event.now ≡ Some stop) ⊎ ((cause_of (world_of semaphores.old meets.old) event.now ≡ None) × (stop ≡ Stop.NoMemory))) }
+    ensures no_memory { TakesNoMemory event.now → result ≢ Err Stop.NoMemory }
+    ensures err { OnErr result ((semaphores.new ≡ semaphores.old) × (meets.new ≡ meets.old)) }
+{
+    match event {
+        Event::Sem(event) => semaphores.act(number, event),
+        Event::Meet(event) => meets.act(number, event),
+    }
+}
+
+// Whether the event is a poll, which may register a waker.
+fn registers(event: &Event) -> bool
+    ensures { result ≡ registers event.now }
+{
+    match event {
+        Event::Sem(SemEvent::Poll(..)) => true,
+        Event::Sem(_) => false,
+        Event::Meet(
+            MeetEvent::BarPoll(..)
+            | MeetEvent::LatPoll(..)
+            | MeetEvent::WgPoll(..)
+            | MeetEvent::SdPoll(..),
+        ) => true,
+        Event::Meet(_) => false,
+    }
+}
+
+// Moves the wakers that the semaphores have ready, in their order.
+fn move_wakes_of_semaphores(hall: &mut SemHall, outbox: &mut Outbox<u64>)
+    requires { length hall.old.wakes ≤ outbox.old.spare }
+    ensures hall { hall.new ≡ record hall.old { wakes = [] } }
+    ensures moved { outbox.new.wakers ≡ outbox.old.wakers ++ hall.old.wakes }
+    ensures spare { outbox.old.spare ≤ outbox.new.spare + length hall.old.wakes }
+{
+    while let Some(waker) = hall.next_wake() {
+        outbox.push(waker);
+    }
+}
+
+// Moves the wakers that the meeting points have ready, in their order.
+fn move_wakes_of_meets(hall: &mut MeetHall, outbox: &mut Outbox<u64>)
+    requires { length hall.old.wakes ≤ outbox.old.spare }
+    ensures hall { hall.new ≡ record hall.old { wakes = [] } }
+    ensures moved { outbox.new.wakers ≡ outbox.old.wakers ++ hall.old.wakes }
+    ensures spare { outbox.old.spare ≤ outbox.new.spare + length hall.old.wakes }
+{
+    while let Some(waker) = hall.next_wake() {
+        outbox.push(waker);
     }
 }

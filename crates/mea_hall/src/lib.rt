@@ -6,11 +6,12 @@ mod event;
 mod hall;
 mod history;
 mod lines;
+mod meet_words;
 mod number;
 mod played;
 mod replies;
+mod sem_words;
 mod text;
-mod words;
 
 pub use event::Event;
 pub use hall::Hall;

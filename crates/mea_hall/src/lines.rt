@@ -1,19 +1,37 @@
 ghost use Rattle.std.specs.Prelude.{◌≡◌, ◌<◌, ◌↔◌, ℕ, List, Some, length, position, IfSome, ◌==◌};
 ghost use Rattle.std.specs.Option.{option_map};
 ghost use Rattle.mea_hall.specs.declared.event.Event.{Event as Line};
-ghost use Rattle.mea_hall.specs.Lines.{cut, event_of};
+ghost use Rattle.mea_hall.specs.Lines.{cut, numbered_event, bare_event, event_of};
 ghost use Rattle.mea_hall.specs.Spelling.{spelling, Fits};
 
 use crate::event::Event;
-use crate::words::semaphore_event;
+use crate::meet_words::{bare_meet_event, meet_event};
+use crate::sem_words::semaphore_event;
 
 /// The event of a line without its newline, if it is one: a word and its numbers, each after one space. It
 /// takes no memory.
 pub fn event_of_line(line: &[u8]) -> Option<Event>
     ensures { result ≡ event_of line.now }
 {
-    let (word, rest) = cut(line, b' ')?;
-    Some(Event::Sem(semaphore_event(word, rest)?))
+    cut(line, b' ')
+        .and_then(|(word, rest)| numbered_event(word, rest))
+        .or_else(|| bare_event(line))
+}
+
+/// The event of a word, and of the numbers after it.
+fn numbered_event(word: &[u8], rest: &[u8]) -> Option<Event>
+    ensures { result ≡ numbered_event word.now rest.now }
+{
+    semaphore_event(word, rest)
+        .map(Event::Sem)
+        .or_else(|| meet_event(word, rest).map(Event::Meet))
+}
+
+/// The event of a word alone.
+fn bare_event(line: &[u8]) -> Option<Event>
+    ensures { result ≡ bare_event line.now }
+{
+    bare_meet_event(line).map(Event::Meet)
 }
 
 /// What stands before and after the first such byte, if there is one. It takes no memory.

@@ -1,17 +1,16 @@
 ghost use Rattle.std.specs.Prelude.{◌≡◌};
-ghost use Rattle.mea_hall.specs.Lines.{numbers_of, permits_event, asking_event, holding_event, semaphore_event};
+ghost use Rattle.mea_hall.specs.SemLines.{permits_event, asking_event, holding_event, semaphore_event};
 
-use crate::lines::cut;
-use crate::number::number_of;
+use crate::number::{number_of, numbers_of};
 use mea_sem_model::SemEvent;
 
 /// The semaphore event of a word, and of the numbers after it.
 pub fn semaphore_event(word: &[u8], rest: &[u8]) -> Option<SemEvent>
     ensures { result ≡ semaphore_event word.now rest.now }
 {
-    permits_event(word, rest).or_else(|| asking_event(word, rest).or_else(|| holding_event(
-        word, rest,
-    )))
+    permits_event(word, rest)
+        .or_else(|| asking_event(word, rest))
+        .or_else(|| holding_event(word, rest))
 }
 
 /// The lines that speak of a semaphore and its free permits.
@@ -110,12 +109,4 @@ fn holding_event(word: &[u8], rest: &[u8]) -> Option<SemEvent>
         return Some(SemEvent::Size(number_of(rest)?));
     }
     None
-}
-
-/// Two numbers with one space between.
-fn numbers_of(bytes: &[u8]) -> Option<(u64, u64)>
-    ensures { result ≡ numbers_of bytes.now }
-{
-    let (first, second) = cut(bytes, b' ')?;
-    Some((number_of(first)?, number_of(second)?))
 }

@@ -1,0 +1,15 @@
+-- to which family a word belongs: by what stands before its dot
+use Rattle.std.proofs.Common.{ℕ, ◌==◌, ◌||◌, Bool, cond, List, codes}
+use Rattle.std.specs.List.{before_first}
+use Rattle.std.specs.Str.{bytes_eq}
+
+-- what the words of meeting points begin with
+abbrev is_meet_mark : List ℕ → Bool
+is_meet_mark mark = bytes_eq mark (codes "bar") || bytes_eq mark (codes "lat") || bytes_eq mark (codes "wg") || bytes_eq mark (codes "sd")
+
+-- the number of a family: 1 for meeting points, and 0 for semaphores, whose words have no dot
+abbrev kind_at : List ℕ → ℕ
+kind_at mark = cond (is_meet_mark mark) 1 0
+
+abbrev pub kind_of : List ℕ → ℕ
+kind_of word = kind_at (before_first (λ b. b == 46) word)
