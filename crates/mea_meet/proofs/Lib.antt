@@ -6,3 +6,7 @@ pub mod BarrierStores
 pub mod Names
 pub mod Playing
 pub mod Stores
+pub mod LatchMaps
+pub mod LatchStore
+pub mod LatchPlays
+pub mod LatchStanding

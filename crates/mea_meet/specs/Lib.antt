@@ -1,5 +1,6 @@
 pub mod Names
 pub mod Play
 pub mod BarrierHall
+pub mod LatchHall
 pub mod StandsFor
 pub mod Parts
