@@ -1,0 +1,14 @@
+pub mod Maps
+pub mod Waiting
+pub mod Registrations
+pub mod Belongs
+pub mod Going
+pub mod LatchWakes
+pub mod Rounds
+pub mod BarrierWakes
+pub mod GroupWakes
+pub mod ShutdownKept
+pub mod ShutdownWakes
+pub mod EachEvent
+pub mod KeptWakers
+pub mod MostWoken
