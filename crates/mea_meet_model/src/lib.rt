@@ -4,5 +4,7 @@
 #![tactic(auto)]
 
 mod event;
+mod registered;
 
 pub use event::MeetEvent;
+pub use registered::wakes_are_of_the_registered;
