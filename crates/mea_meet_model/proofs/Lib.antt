@@ -1,3 +1,12 @@
 pub mod Maps
 pub mod Waiting
 pub mod Registrations
+pub mod Belongs
+pub mod Going
+pub mod LatchWakes
+pub mod Rounds
+pub mod BarrierWakes
+pub mod GroupWakes
+pub mod ShutdownKept
+pub mod ShutdownWakes
+pub mod EachEvent

@@ -40,6 +40,10 @@ module _ {X : Type 0} where
   pub is_there : (o : Option X) (x : X) → o ≡ Some x → IsSome o
   is_there o x is = ap is_some is
 
+  pub is_absent : (o : Option X) → (IsSome o → ⊥) → o ≡ None
+  is_absent None none = refl
+  is_absent (Some x) none = absurd (none refl)
+
   pub get-there : (m : FinMap nat_cmp X) (k : ℕ) (x : X) → get (insert m k x) k ≡ Some x
   get-there m k x = get_inserted m k k x ∙ ap (λ b. cond b (Some x) (get m k)) (eq-eqb k k refl)
 

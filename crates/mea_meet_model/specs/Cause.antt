@@ -1,6 +1,6 @@
 -- why an event on meeting points is refused: a name that is unknown, then a thing that is borrowed, then a
 -- count at its end
-use Rattle.std.specs.Prelude.{ℕ, ◌+◌, ◌==◌, not, Bool, true, false, Option, Some, None, is_some, nat_lt, if◌then◌else◌}
+use Rattle.std.specs.Prelude.{ℕ, ◌==◌, not, Bool, true, false, Option, Some, None, is_some, nat_lt, if◌then◌else◌}
 use Rattle.std.specs.FinMap as map
 use Rattle.mea_base.specs.declared.stop.Stop.{Stop}
 use Rattle.mea_base.specs.declared.stop.Stop.TheVariants as stops

@@ -8,3 +8,4 @@ pub mod Hall
 pub mod Cause
 pub mod Step
 pub mod Meets
+pub mod Valid

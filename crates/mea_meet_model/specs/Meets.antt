@@ -1,7 +1,5 @@
 -- the meeting points as one of the families
-use Rattle.std.specs.Prelude.{ℕ, ◌==◌, Bool, cond, Option, Some, None, is_some}
-use Rattle.std.specs.FinMap as map
-use Rattle.mea_base.specs.Family as families
+use Rattle.std.specs.Prelude.{ℕ, ◌==◌, Bool, cond, Option, Some, None}
 use Rattle.mea_base.specs.Family.{Family}
 use Rattle.mea_meet_model.specs.declared.event.MeetEvent.{MeetEvent}
 use Rattle.mea_meet_model.specs.declared.event.MeetEvent.TheVariants.{BarPoll, LatPoll, WgPoll, SdPoll}

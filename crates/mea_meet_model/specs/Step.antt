@@ -1,8 +1,8 @@
 -- what an event does to meeting points, where it has no cause for refusal; a thing made by event i has the
 -- name i
-use Rattle.std.specs.Prelude.{ℕ, Bool, true, false, Option, Some, None}
+use Rattle.std.specs.Prelude.{ℕ, Bool, true, false, Some, None}
 use Rattle.std.specs.FinMap as map
-use Rattle.mea_base.specs.Family.{Outcome, quietly}
+use Rattle.mea_base.specs.Family.{Outcome}
 use Rattle.mea_meet_model.specs.declared.event.MeetEvent.{MeetEvent}
 use Rattle.mea_meet_model.specs.declared.event.MeetEvent.TheVariants.{BarNew, BarWait, BarPoll, BarEnd, BarDrop, LatNew, LatCount, LatDown, LatArrive, LatTry, LatWait, LatWaito, LatPoll, LatEnd, LatDrop, WgNew, WgClone, WgInto, WgCopy, WgPoll, WgEnd, SdNew, SdCopys, SdCopyr, SdSignal, SdNow, SdWatch, SdIs, SdIso, SdAwait, SdPoll, SdEnd, SdEnds, SdEndr}
 use Rattle.mea_meet_model.specs.Barriers as barriers

@@ -5,6 +5,8 @@
 
 mod event;
 mod registered;
+mod validity;
 
 pub use event::MeetEvent;
 pub use registered::wakes_are_of_the_registered;
+pub use validity::validity_is_kept;
