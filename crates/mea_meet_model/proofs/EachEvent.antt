@@ -27,7 +27,7 @@ use Rattle.mea_meet_model.proofs.ShutdownKept.{shutdowns-empty, shutdowns-later}
 use Rattle.mea_meet_model.proofs.ShutdownWakes as at_shutdowns
 
 -- ---- causes
-known : (b : Bool) → unknown_unless b ≡ None → b ≡ true
+pub known : (b : Bool) → unknown_unless b ≡ None → b ≡ true
 known true cause = refl
 known false cause = absurd (cc)
 

@@ -10,3 +10,4 @@ pub mod GroupWakes
 pub mod ShutdownKept
 pub mod ShutdownWakes
 pub mod EachEvent
+pub mod KeptWakers

@@ -4,9 +4,11 @@
 #![tactic(auto)]
 
 mod event;
+mod laws;
 mod registered;
 mod validity;
 
 pub use event::MeetEvent;
+pub use laws::{no_wake_is_lost, wakers_are_kept};
 pub use registered::wakes_are_of_the_registered;
 pub use validity::validity_is_kept;

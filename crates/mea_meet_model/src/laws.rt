@@ -1,0 +1,15 @@
+ghost use Rattle.mea_base.specs.Family.{RunOf, Runs, KeepsWakers, LosesNoWake};
+ghost use Rattle.mea_meet_model.specs.Meets.{meets};
+
+/// In every hall that events reach: an event that replies `pending` to a poll places the waker given;
+/// while a waker is placed for a future, a poll of it replies `pending`; and an event that takes a placed
+/// waker away, and neither polls nor ends its future, has that waker among its wakes.
+pub fn wakers_are_kept()
+    ensures { KeepsWakers meets }
+{}
+
+/// A living future whose last poll replied `pending`, and which a poll would answer otherwise now, has had
+/// the waker of that last poll woken since.
+pub fn no_wake_is_lost()
+    ensures { (run : RunOf meets) → Runs meets run → LosesNoWake meets run }
+{}
