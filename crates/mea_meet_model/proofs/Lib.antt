@@ -11,3 +11,4 @@ pub mod ShutdownKept
 pub mod ShutdownWakes
 pub mod EachEvent
 pub mod KeptWakers
+pub mod EndedCounts
