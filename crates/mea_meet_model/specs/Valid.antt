@@ -1,11 +1,11 @@
 -- what holds of every hall that events reach, where n is the least number of the next event
-use Rattle.std.specs.Prelude.{ℕ, ◌≡◌, ◌<◌, ◌≤◌, ◌==◌, ◌&&◌, not, false, cond, [], Some, IsSome}
+use Rattle.std.specs.Prelude.{ℕ, ◌*◌, ◌/◌, ◌≡◌, ◌<◌, ◌≤◌, ◌==◌, ◌&&◌, not, cond, [], Some, IsSome}
 use Rattle.std.specs.Ordering.{nat_cmp}
 use Rattle.std.specs.FinMap as map
 use Rattle.mea_base.specs.Totals.{total}
 use Rattle.mea_meet_model.specs.Waiting.{waker_for}
 use Rattle.mea_meet_model.specs.Count.{Count}
-use Rattle.mea_meet_model.specs.Barriers.{Barriers, BarrierWait, barrier_at, has_completed}
+use Rattle.mea_meet_model.specs.Barriers.{Barriers, Barrier, BarrierWait, barrier_at}
 use Rattle.mea_meet_model.specs.Latches.{Latches, LatchWait, latch_at}
 use Rattle.mea_meet_model.specs.Groups.{Groups, group_at, handles_of}
 use Rattle.mea_meet_model.specs.Shutdowns.{Shutdowns, Receiver, ShutdownWait, shutdown_at}
@@ -23,17 +23,25 @@ AreOf {X} object m objects = (k : ℕ) (x : X) → map.get m k ≡ Some x → Is
 abbrev pub IsLeft : Count → Type 0
 IsLeft c = c.number ≡ 0 → c.waiting ≡ []
 
--- f waits at b, in a round that has not completed
-abbrev pub IsInRound : Barriers → ℕ → ℕ → Type 0
-IsInRound h b f = (round : ℕ) × (map.get h.waits f ≡ Some (record { barrier = b; round = Some round })) × (has_completed (barrier_at h b) round ≡ false)
+-- the number of the round under way
+abbrev pub round_now : Barrier → ℕ
+round_now r = r.arrivals / r.size
+
+-- a future that waits at b and arrived in this round
+abbrev pub arrived_in : ℕ → ℕ → BarrierWait
+arrived_in b round = record { barrier = b; round = Some round }
 
 pub record HasBarriers (h : Barriers) (n : ℕ) : Type 0 where
   pub barriers_below : AreBelow h.barriers n
   pub waits_below : AreBelow h.waits n
   pub waits_known : AreOf (λ (x : BarrierWait). x.barrier) h.waits h.barriers
   pub sized : (b : ℕ) → 1 ≤ (barrier_at h b).size
-  -- whose waker is registered waits there
-  pub in_round : (b f w : ℕ) → waker_for (barrier_at h b).waiting f ≡ Some w → IsInRound h b f
+  -- each arrival is an event of its own
+  pub few : (b : ℕ) → (barrier_at h b).arrivals ≤ n
+  -- who has arrived did so in a round that has begun
+  pub begun : (b f round : ℕ) → map.get h.waits f ≡ Some (arrived_in b round) → round * (barrier_at h b).size ≤ (barrier_at h b).arrivals
+  -- whose waker is registered waits there and arrived in the round under way
+  pub in_round : (b f w : ℕ) → waker_for (barrier_at h b).waiting f ≡ Some w → map.get h.waits f ≡ Some (arrived_in b (round_now (barrier_at h b)))
 
 pub record HasLatches (h : Latches) (n : ℕ) : Type 0 where
   pub latches_below : AreBelow h.latches n
