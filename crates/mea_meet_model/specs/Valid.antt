@@ -20,8 +20,8 @@ abbrev pub AreOf : {X Y : Type 0} → (X → ℕ) → map.FinMap nat_cmp X → m
 AreOf {X} object m objects = (k : ℕ) (x : X) → map.get m k ≡ Some x → IsSome (map.get objects (object x))
 
 -- nobody is registered where the count has ended
-abbrev pub IsLeft : Count → Type 0
-IsLeft c = c.number ≡ 0 → c.waiting ≡ []
+abbrev pub IsQuietAtEnd : Count → Type 0
+IsQuietAtEnd c = c.number ≡ 0 → c.waiting ≡ []
 
 -- the number of the round under way
 abbrev pub round_now : Barrier → ℕ
@@ -47,7 +47,7 @@ pub record HasLatches (h : Latches) (n : ℕ) : Type 0 where
   pub latches_below : AreBelow h.latches n
   pub waits_below : AreBelow h.waits n
   pub waits_known : AreOf (λ (x : LatchWait). x.latch) h.waits h.latches
-  pub left : (l : ℕ) → IsLeft (latch_at h l).count
+  pub quiet : (l : ℕ) → IsQuietAtEnd (latch_at h l).count
 
 pub record HasGroups (h : Groups) (n : ℕ) : Type 0 where
   pub groups_below : AreBelow h.groups n
@@ -55,7 +55,7 @@ pub record HasGroups (h : Groups) (n : ℕ) : Type 0 where
   pub waits_below : AreBelow h.waits n
   pub handles_known : AreOf (λ (g : ℕ). g) h.handles h.groups
   pub waits_known : AreOf (λ (g : ℕ). g) h.waits h.groups
-  pub left : (g : ℕ) → IsLeft (group_at h g)
+  pub quiet : (g : ℕ) → IsQuietAtEnd (group_at h g)
   -- the number of a group is that of its handles
   pub counted : (g : ℕ) → (group_at h g).number ≡ handles_of h g
 
@@ -71,8 +71,8 @@ pub record HasShutdowns (h : Shutdowns) (n : ℕ) : Type 0 where
   pub senders_known : AreOf (λ (s : ℕ). s) h.senders h.shutdowns
   pub receivers_known : AreOf (λ (x : Receiver). x.shutdown) h.receivers h.shutdowns
   pub waits_known : AreOf (λ (x : ShutdownWait). x.shutdown) h.waits h.shutdowns
-  pub signal_left : (s : ℕ) → IsLeft (shutdown_at h s).signal
-  pub receivers_left : (s : ℕ) → IsLeft (shutdown_at h s).receivers
+  pub signal_quiet : (s : ℕ) → IsQuietAtEnd (shutdown_at h s).signal
+  pub receivers_quiet : (s : ℕ) → IsQuietAtEnd (shutdown_at h s).receivers
   -- the count of the receivers is that of those that are no watches
   pub counted : (s : ℕ) → IsSome (map.get h.shutdowns s) → (shutdown_at h s).receivers.number ≡ counted_receivers h s
 
