@@ -1,5 +1,5 @@
 -- what the events on barriers keep
-use Rattle.std.proofs.Common.{◌≡◌, ℕ, ◌+◌, ◌*◌, ◌/◌, ◌≤◌, ◌==◌, ◌⊎◌, inl, inr, true, false, List, [], Option, Some, None, refl, ap, sym, subst, ◌∙◌, arith, nat_le, if◌then◌else◌}
+use Rattle.std.proofs.Common.{◌≡◌, ℕ, ◌+◌, ◌*◌, ◌/◌, ◌≤◌, ◌==◌, ◌⊎◌, inl, inr, true, false, List, [], Option, Some, None, unwrap_or, refl, ap, sym, subst, ◌∙◌, arith, if◌then◌else◌}
 use Rattle.std.specs.List.{Contains}
 use Rattle.std.specs.Option.{IsSome}
 use Rattle.std.specs.Ordering.{nat_cmp}
@@ -11,12 +11,12 @@ use Rattle.mea_base.specs.declared.answer.Answer.{Answer}
 use Rattle.mea_base.specs.declared.answer.Answer.TheVariants as answers
 use Rattle.mea_meet_model.specs.Waiting.{waker_for, registering, ending, wakers}
 use Rattle.mea_meet_model.specs.Barriers.{Barriers, Barrier, BarrierWait, no_barriers, new_barrier, barrier_at, waits_of, placed, placed_of, make, wait, drop, gone, end_of, leads, has_completed, leading, joining, waiting_on, poll_at, poll_of}
-use Rattle.mea_meet_model.specs.Valid.{HasBarriers}
-use Rattle.mea_meet_model.proofs.Maps.{by_at_put, by_at_gone, at-there, at-other, at-removed_other, at-empty, get-there, get-other, get-removed_other, is_there, inside}
+use Rattle.mea_meet_model.specs.Valid.{round_now, arrived_in, HasBarriers}
+use Rattle.mea_meet_model.proofs.Maps.{by_put, by_at_put, by_at_gone, at-there, at-other, at-removed_other, at-empty, get-there, get-other, get-removed_other, is_there, inside, removed_there, nothing_at}
 use Rattle.mea_meet_model.proofs.Waiting.{registering-there, registering-other, ending-other, ending-there, wakers-have}
 use Rattle.mea_meet_model.proofs.Going as going
 use Rattle.mea_meet_model.proofs.Belongs.{below-none, of-none, below-later, below-put, below-over, below-gone, fresh, of-objects_put, of-put, of-gone, of-objects_gone, none_of, made-same, made-put, made-over, made-gone, apart_from_gone}
-use Rattle.mea_meet_model.proofs.Rounds.{completes_none, under_way}
+use Rattle.mea_meet_model.proofs.Rounds.{same_round, the_round, under_way, has_begun}
 
 -- a barrier takes at least one arrival
 pub size_of_new : (n : ℕ) → 1 ≤ (new_barrier n).size
@@ -25,9 +25,13 @@ size_of_new n = grind (arith, nat_tests)
 abbrev waiting_at : ℕ → Option ℕ → BarrierWait
 waiting_at b o = record { barrier = b; round = o }
 
--- whose waker is registered with r, the barrier b, waits there in a round that has not completed
+-- whose waker is registered with r, the barrier b, waits there and arrived in the round under way
 abbrev InRound : FinMap nat_cmp BarrierWait → ℕ → Barrier → Type 0
-InRound m b r = (f w : ℕ) → waker_for r.waiting f ≡ Some w → (round : ℕ) × (get m f ≡ Some (record { barrier = b; round = Some round })) × (has_completed r round ≡ false)
+InRound m b r = (f w : ℕ) → waker_for r.waiting f ≡ Some w → get m f ≡ Some (arrived_in b (round_now r))
+
+-- who has arrived at r, the barrier b, did so in a round that has begun
+abbrev Begun : FinMap nat_cmp BarrierWait → ℕ → Barrier → Type 0
+Begun m b r = (f round : ℕ) → get m f ≡ Some (arrived_in b round) → round * r.size ≤ r.arrivals
 
 -- nobody is registered
 none_in_round : (m : FinMap nat_cmp BarrierWait) (b : ℕ) (r : Barrier) → r.waiting ≡ [] → InRound m b r
@@ -39,6 +43,8 @@ barriers-empty = record {
   waits_below = below-none BarrierWait 0;
   waits_known = of-none BarrierWait Barrier (λ x. x.barrier) no_barriers.barriers;
   sized = λ b. subst (λ (r : Barrier). 1 ≤ r.size) (sym (at-empty (new_barrier 1) b)) (size_of_new 1);
+  few = λ b. subst (λ (r : Barrier). r.arrivals ≤ 0) (sym (at-empty (new_barrier 1) b)) (omega arith);
+  begun = λ b f round is. absurd (nothing_at BarrierWait f (arrived_in b round) is);
   in_round = λ b. subst (λ (r : Barrier). InRound no_barriers.waits b r) (sym (at-empty (new_barrier 1) b)) (none_in_round no_barriers.waits b (new_barrier 1) refl);
 }
 
@@ -50,6 +56,8 @@ module _ (h : Barriers) (n i : ℕ) (later : n ≤ i) (v : HasBarriers h n) wher
     waits_below = below-later h.waits n i later v.waits_below;
     waits_known = v.waits_known;
     sized = v.sized;
+    few = λ b. omega (arith, later, v.few b);
+    begun = v.begun;
     in_round = v.in_round;
   }
 
@@ -59,27 +67,38 @@ module _ (h : Barriers) (n i : ℕ) (later : n ≤ i) (v : HasBarriers h n) wher
     waits_below = below-later h.waits n i later v.waits_below;
     waits_known = of-objects_put h.waits (λ x. x.barrier) h.barriers i (new_barrier k) v.waits_known;
     sized = by_at_put (new_barrier 1) h.barriers i (new_barrier k) (λ b r. 1 ≤ r.size) (size_of_new k) (λ b apart. v.sized b);
+    few = by_at_put (new_barrier 1) h.barriers i (new_barrier k) (λ b r. r.arrivals ≤ i + 1) (omega arith) (λ b apart. omega (arith, later, v.few b));
+    begun = by_at_put (new_barrier 1) h.barriers i (new_barrier k) (λ b r. Begun h.waits b r) (λ f round is. absurd (fresh h.barriers n i i later v.barriers_below (v.waits_known f (arrived_in i round) is) refl)) (λ b apart. v.begun b);
     in_round = by_at_put (new_barrier 1) h.barriers i (new_barrier k) (λ b r. InRound h.waits b r) (none_in_round h.waits i (new_barrier k) refl) (λ b apart. v.in_round b);
   }
 
   barriers-wait : (b : ℕ) → IsSome (get h.barriers b) → HasBarriers (wait h i b).hall (i + 1)
-  barriers-wait b there = record {
-    barriers_below = below-later h.barriers n i later v.barriers_below;
-    waits_below = below-put h.waits n i (record { barrier = b; round = None }) later v.waits_below;
-    waits_known = of-put h.waits (λ x. x.barrier) h.barriers i (record { barrier = b; round = None }) there v.waits_known;
-    sized = v.sized;
-    in_round = λ c f w is.
-        let was = v.in_round c f w is in
-        (was.0, get-other h.waits i f _ (fresh h.waits n i f later v.waits_below (is_there (get h.waits f) _ was.1)) ∙ was.1, was.2);
-  }
+  barriers-wait b there =
+      let x : BarrierWait = record { barrier = b; round = None } in
+      record {
+        barriers_below = below-later h.barriers n i later v.barriers_below;
+        waits_below = below-put h.waits n i x later v.waits_below;
+        waits_known = of-put h.waits (λ y. y.barrier) h.barriers i x there v.waits_known;
+        sized = v.sized;
+        few = λ c. omega (arith, later, v.few c);
+        begun = λ c f round. by_put h.waits i x (λ g o. o ≡ Some (arrived_in c round) → round * (barrier_at h c).size ≤ (barrier_at h c).arrivals)
+            (λ is. absurd (let clash : None ≡ Some round = ap (λ (y : BarrierWait). y.round) (inside is) in cc))
+            (λ g apart is. v.begun c g round is) f;
+        in_round = λ c f w is.
+            let was = v.in_round c f w is in
+            get-other h.waits i f x (fresh h.waits n i f later v.waits_below (is_there (get h.waits f) (arrived_in c (round_now (barrier_at h c))) was)) ∙ was;
+      }
 
 module _ (h : Barriers) (n : ℕ) (v : HasBarriers h n) where
-  barriers-with : (b : ℕ) (r : Barrier) → IsSome (get h.barriers b) → 1 ≤ r.size → InRound h.waits b r → HasBarriers (record h { barriers = insert h.barriers b r }) n
-  barriers-with b r there sized in_round = record {
+  -- a barrier of the same size, with no fewer arrivals
+  barriers-with : (b : ℕ) (r : Barrier) → IsSome (get h.barriers b) → r.size ≡ (barrier_at h b).size → (barrier_at h b).arrivals ≤ r.arrivals → r.arrivals ≤ n → InRound h.waits b r → HasBarriers (record h { barriers = insert h.barriers b r }) n
+  barriers-with b r there size more few in_round = record {
     barriers_below = below-over h.barriers n b r there v.barriers_below;
     waits_below = v.waits_below;
     waits_known = of-objects_put h.waits (λ x. x.barrier) h.barriers b r v.waits_known;
-    sized = by_at_put (new_barrier 1) h.barriers b r (λ c s. 1 ≤ s.size) sized (λ c apart. v.sized c);
+    sized = by_at_put (new_barrier 1) h.barriers b r (λ c s. 1 ≤ s.size) (subst (λ k. 1 ≤ k) (sym size) (v.sized b)) (λ c apart. v.sized c);
+    few = by_at_put (new_barrier 1) h.barriers b r (λ c s. s.arrivals ≤ n) few (λ c apart. v.few c);
+    begun = by_at_put (new_barrier 1) h.barriers b r (λ c s. Begun h.waits c s) (λ f round is. subst (λ k. round * k ≤ r.arrivals) (sym size) (let was = v.begun b f round is in omega (arith, was, more))) (λ c apart. v.begun c);
     in_round = by_at_put (new_barrier 1) h.barriers b r (λ c s. InRound h.waits c s) in_round (λ c apart. v.in_round c);
   }
 
@@ -90,22 +109,30 @@ module _ (h : Barriers) (n : ℕ) (v : HasBarriers h n) where
     waits_below = below-gone h.waits n f v.waits_below;
     waits_known = of-gone h.waits (λ x. x.barrier) h.barriers f v.waits_known;
     sized = v.sized;
-    in_round = λ b g w is.
-        let was = v.in_round b g w is in
-        (was.0, get-removed_other h.waits f g (λ same. none b w (ap (waker_for (barrier_at h b).waiting) same ∙ is)) ∙ was.1, was.2);
+    few = v.few;
+    begun = λ b g round is. v.begun b g round (removed_there h.waits f g (arrived_in b round) is);
+    in_round = λ b g w is. get-removed_other h.waits f g (λ same. none b w (ap (waker_for (barrier_at h b).waiting) same ∙ is)) ∙ v.in_round b g w is;
   }
 
-  -- f, for whom no waker is registered, waits as x
-  barriers-rewait : (f : ℕ) (x : BarrierWait) → IsSome (get h.waits f) → IsSome (get h.barriers x.barrier) → ((b w : ℕ) → waker_for (barrier_at h b).waiting f ≡ Some w → ⊥) → HasBarriers (record h { waits = insert h.waits f x }) n
-  barriers-rewait f x known there none = record {
-    barriers_below = v.barriers_below;
-    waits_below = below-over h.waits n f x known v.waits_below;
-    waits_known = of-put h.waits (λ y. y.barrier) h.barriers f x there v.waits_known;
-    sized = v.sized;
-    in_round = λ b g w is.
-        let was = v.in_round b g w is in
-        (was.0, get-other h.waits f g x (λ same. none b w (ap (waker_for (barrier_at h b).waiting) same ∙ is)) ∙ was.1, was.2);
-  }
+  -- f, for whom no waker is registered, arrives in the round under way
+  barriers-arrive : (f b : ℕ) → IsSome (get h.waits f) → IsSome (get h.barriers b) → ((c w : ℕ) → waker_for (barrier_at h c).waiting f ≡ Some w → ⊥) → HasBarriers (record h { waits = insert h.waits f (arrived_in b (round_now (barrier_at h b))) }) n
+  barriers-arrive f b known there none =
+      let x : BarrierWait = arrived_in b (round_now (barrier_at h b)) in
+      record {
+        barriers_below = v.barriers_below;
+        waits_below = below-over h.waits n f x known v.waits_below;
+        waits_known = of-put h.waits (λ y. y.barrier) h.barriers f x there v.waits_known;
+        sized = v.sized;
+        few = v.few;
+        begun = λ c g round. by_put h.waits f x (λ j o. o ≡ Some (arrived_in c round) → round * (barrier_at h c).size ≤ (barrier_at h c).arrivals) (λ is. begins_now b c round (inside is)) (λ j apart is. v.begun c j round is) g;
+        in_round = λ c g w is. get-other h.waits f g x (λ same. none c w (ap (waker_for (barrier_at h c).waiting) same ∙ is)) ∙ v.in_round c g w is;
+      }
+    where
+      begins_now : (b c round : ℕ) → arrived_in b (round_now (barrier_at h b)) ≡ arrived_in c round → round * (barrier_at h c).size ≤ (barrier_at h c).arrivals
+      begins_now b c round same =
+          let place : b ≡ c = ap (λ (y : BarrierWait). y.barrier) same in
+          let number : round_now (barrier_at h b) ≡ round = ap (λ (o : Option ℕ). unwrap_or o 0) (ap (λ (y : BarrierWait). y.round) same) in
+          subst (λ k. k * (barrier_at h c).size ≤ (barrier_at h c).arrivals) (ap (λ k. round_now (barrier_at h k)) (sym place) ∙ number) (has_begun (barrier_at h c).size (barrier_at h c).arrivals)
 
   barriers-drop : (b : ℕ) → waits_of h b ≡ 0 → HasBarriers (record h { barriers = remove h.barriers b }) n
   barriers-drop b none = record {
@@ -113,18 +140,19 @@ module _ (h : Barriers) (n : ℕ) (v : HasBarriers h n) where
     waits_below = v.waits_below;
     waits_known = of-objects_gone h.waits (λ x. x.barrier) h.barriers b none v.waits_known;
     sized = by_at_gone (new_barrier 1) h.barriers b (λ c r. 1 ≤ r.size) (size_of_new 1) (λ c apart. v.sized c);
+    few = by_at_gone (new_barrier 1) h.barriers b (λ c r. r.arrivals ≤ n) (omega arith) (λ c apart. v.few c);
+    begun = by_at_gone (new_barrier 1) h.barriers b (λ c r. Begun h.waits c r) (λ f round is. absurd (none_of h.waits (λ x. x.barrier) b f (arrived_in b round) none is refl)) (λ c apart. v.begun c);
     in_round = by_at_gone (new_barrier 1) h.barriers b (λ c r. InRound h.waits c r) (none_in_round h.waits b (new_barrier 1) refl) (λ c apart. v.in_round c);
   }
 
   -- a waker of f is registered with its own barrier alone
   at_its_own : (f b w : ℕ) (x : BarrierWait) → get h.waits f ≡ Some x → waker_for (barrier_at h b).waiting f ≡ Some w → x.barrier ≡ b
-  at_its_own f b w x is has = let was = v.in_round b f w has in ap (λ (y : BarrierWait). y.barrier) (inside (sym is ∙ was.1))
+  at_its_own f b w x is has = ap (λ (y : BarrierWait). y.barrier) (inside (sym is ∙ v.in_round b f w has))
 
   -- and not before it has arrived
   not_arrived : (f : ℕ) (x : BarrierWait) → get h.waits f ≡ Some x → x.round ≡ None → (b w : ℕ) → waker_for (barrier_at h b).waiting f ≡ Some w → ⊥
   not_arrived f x is none b w has =
-      let was = v.in_round b f w has in
-      let some : x.round ≡ Some was.0 = ap (λ (y : BarrierWait). y.round) (inside (sym is ∙ was.1)) in
+      let some : x.round ≡ Some (round_now (barrier_at h b)) = ap (λ (y : BarrierWait). y.round) (inside (sym is ∙ v.in_round b f w has)) in
       absurd (cc)
 
   -- its barrier has another list, which has no waker of it
@@ -185,14 +213,17 @@ module _ (h : Barriers) (n i : ℕ) (later : n ≤ i) (v : HasBarriers h n) wher
     passes = λ f. passes-by h _ [] f (λ x w is has there. (is, inl (ap (λ (r : Barrier). waker_for r.waiting f) (at-removed_other (new_barrier 1) h.barriers b x.barrier (none_of h.waits (λ y. y.barrier) b f x none is)) ∙ has)));
   }
 
+  now : HasBarriers h (i + 1)
+  now = barriers-later h n i later v
+
   goes-gone : (g : ℕ) (x : BarrierWait) → get h.waits g ≡ Some x → (reply : Answer) → Goes h (quietly (gone h g x) reply) i
   goes-gone g x at_g reply =
       let r : Barrier = barrier_at h x.barrier in
       let s : Barrier = record r { waiting = ending r.waiting g } in
       let stays : InRound h.waits x.barrier s = (λ f w has. v.in_round x.barrier f w (sym (ending-other r.waiting g f (λ same. absurd (let none : waker_for (ending r.waiting g) f ≡ None = ap (waker_for (ending r.waiting g)) (sym same) ∙ ending-there r.waiting g in cc))) ∙ has)) in
-      let ended = barriers-with h n v x.barrier s (v.waits_known g x at_g) (v.sized x.barrier) stays in
+      let ended = barriers-with h (i + 1) now x.barrier s (v.waits_known g x at_g) refl (omega arith) (now.few x.barrier) stays in
       record {
-        valid = barriers-later _ n i later (barriers-without (record h { barriers = insert h.barriers x.barrier s }) n ended g (left_by_all h n v g x s at_g (ending-there r.waiting g)));
+        valid = barriers-without (record h { barriers = insert h.barriers x.barrier s }) (i + 1) ended g (left_by_all h n v g x s at_g (ending-there r.waiting g));
         made = made-gone h.waits i g;
         passes = λ f. passes-by h _ [] f (λ y w is has there. (
           get-removed_other h.waits g f (apart_from_gone h.waits g f there) ∙ is,
@@ -208,9 +239,10 @@ module _ (h : Barriers) (n i : ℕ) (later : n ≤ i) (v : HasBarriers h n) wher
   goes-leading g x at_g =
       let r : Barrier = barrier_at h x.barrier in
       let s : Barrier = record r { arrivals = r.arrivals + 1; waiting = [] } in
-      let led = barriers-with h n v x.barrier s (v.waits_known g x at_g) (v.sized x.barrier) (none_in_round h.waits x.barrier s refl) in
+      let one_more : r.arrivals + 1 ≤ i + 1 = (let before = v.few x.barrier in omega (arith, later, before)) in
+      let led = barriers-with h (i + 1) now x.barrier s (v.waits_known g x at_g) refl (omega arith) one_more (none_in_round h.waits x.barrier s refl) in
       record {
-        valid = barriers-later _ n i later (barriers-without (record h { barriers = insert h.barriers x.barrier s }) n led g (left_by_all h n v g x s at_g refl));
+        valid = barriers-without (record h { barriers = insert h.barriers x.barrier s }) (i + 1) led g (left_by_all h n v g x s at_g refl);
         made = made-gone h.waits i g;
         passes = λ f. passes-by h _ _ f (λ y w is has there. (
           get-removed_other h.waits g f (apart_from_gone h.waits g f there) ∙ is,
@@ -218,33 +250,30 @@ module _ (h : Barriers) (n i : ℕ) (later : n ≤ i) (v : HasBarriers h n) wher
         ));
       }
 
-  -- whose waker is registered after that of g is
+  -- who is registered when g has arrived
   joined : (g w : ℕ) (x : BarrierWait) → get h.waits g ≡ Some x → leads (barrier_at h x.barrier) ≡ false
-      → InRound (insert h.waits g (record x { round = Some ((barrier_at h x.barrier).arrivals / (barrier_at h x.barrier).size) })) x.barrier (record (barrier_at h x.barrier) { arrivals = (barrier_at h x.barrier).arrivals + 1; waiting = registering (barrier_at h x.barrier).waiting g w })
+      → InRound (insert h.waits g (arrived_in x.barrier (round_now (barrier_at h x.barrier)))) x.barrier (record (barrier_at h x.barrier) { arrivals = (barrier_at h x.barrier).arrivals + 1; waiting = registering (barrier_at h x.barrier).waiting g w })
   joined g w x at_g follows f u has =
       let r : Barrier = barrier_at h x.barrier in
-      let y : BarrierWait = record x { round = Some (r.arrivals / r.size) } in
-      elim (g == f) as (λ b. (g == f) ≡ b → (round : ℕ) × (get (insert h.waits g y) f ≡ Some (record { barrier = x.barrier; round = Some round })) × (nat_le ((round + 1) * r.size) (r.arrivals + 1) ≡ false)) [
-        | true ↦ λ e. (
-          r.arrivals / r.size,
-          ap (get (insert h.waits g y)) (sym (eqb-true g f e)) ∙ get-there h.waits g y,
-          completes_none r.size (r.arrivals / r.size) r.arrivals (under_way r.size r.arrivals (v.sized x.barrier)) follows,
-        )
+      let y : BarrierWait = arrived_in x.barrier (round_now r) in
+      let same : Some y ≡ Some (arrived_in x.barrier ((r.arrivals + 1) / r.size)) = ap (λ k. Some (arrived_in x.barrier k)) (sym (same_round r.size r.arrivals (v.sized x.barrier) follows)) in
+      elim (g == f) as (λ b. (g == f) ≡ b → get (insert h.waits g y) f ≡ Some (arrived_in x.barrier ((r.arrivals + 1) / r.size))) [
+        | true ↦ λ e. ap (get (insert h.waits g y)) (sym (eqb-true g f e)) ∙ get-there h.waits g y ∙ same
         | false ↦ λ e.
             let apart : g ≡ f → ⊥ = eqb-false g f e in
-            let was = v.in_round x.barrier f u (sym (registering-other r.waiting g f w apart) ∙ has) in
-            (was.0, get-other h.waits g f y apart ∙ was.1, completes_none r.size was.0 r.arrivals was.2 follows)
+            get-other h.waits g f y apart ∙ v.in_round x.barrier f u (sym (registering-other r.waiting g f w apart) ∙ has) ∙ same
       ] refl
 
   goes-joining : (g w : ℕ) (x : BarrierWait) → get h.waits g ≡ Some x → x.round ≡ None → leads (barrier_at h x.barrier) ≡ false → GoesFor g h (joining h g w x) i
   goes-joining g w x at_g new follows =
       let r : Barrier = barrier_at h x.barrier in
       let s : Barrier = record r { arrivals = r.arrivals + 1; waiting = registering r.waiting g w } in
-      let y : BarrierWait = record x { round = Some (r.arrivals / r.size) } in
+      let y : BarrierWait = arrived_in x.barrier (round_now r) in
       let there : IsSome (get h.waits g) = is_there (get h.waits g) x at_g in
-      let arrived = barriers-rewait h n v g y there (v.waits_known g x at_g) (not_arrived h n v g x at_g new) in
+      let one_more : r.arrivals + 1 ≤ i + 1 = (let before = v.few x.barrier in omega (arith, later, before)) in
+      let arrived = barriers-arrive h (i + 1) now g x.barrier there (v.waits_known g x at_g) (not_arrived h n v g x at_g new) in
       record {
-        valid = barriers-later _ n i later (barriers-with (record h { waits = insert h.waits g y }) n arrived x.barrier s (v.waits_known g x at_g) (v.sized x.barrier) (joined g w x at_g follows));
+        valid = barriers-with (record h { waits = insert h.waits g y }) (i + 1) arrived x.barrier s (v.waits_known g x at_g) refl (omega arith) one_more (joined g w x at_g follows);
         made = made-over h.waits i g y there;
         passes = λ f apart. passes-by h _ [] f (λ z u is has _. (
           get-other h.waits g f y apart ∙ is,
@@ -252,12 +281,15 @@ module _ (h : Barriers) (n i : ℕ) (later : n ≤ i) (v : HasBarriers h n) wher
         ));
       }
 
+  -- who is registered when g, which has arrived, waits on
   stayed : (g w round : ℕ) (x : BarrierWait) → get h.waits g ≡ Some x → x.round ≡ Some round → has_completed (barrier_at h x.barrier) round ≡ false
       → InRound h.waits x.barrier (record (barrier_at h x.barrier) { waiting = registering (barrier_at h x.barrier).waiting g w })
   stayed g w round x at_g arrived runs f u has =
       let r : Barrier = barrier_at h x.barrier in
-      elim (g == f) as (λ b. (g == f) ≡ b → (k : ℕ) × (get h.waits f ≡ Some (record { barrier = x.barrier; round = Some k })) × (has_completed r k ≡ false)) [
-        | true ↦ λ e. (round, ap (get h.waits) (sym (eqb-true g f e)) ∙ at_g ∙ ap (λ o. Some (waiting_at x.barrier o)) arrived, runs)
+      let at_round : get h.waits g ≡ Some (arrived_in x.barrier round) = at_g ∙ ap (λ o. Some (waiting_at x.barrier o)) arrived in
+      let this : round_now r ≡ round = the_round r.size round r.arrivals (v.begun x.barrier g round at_round) runs in
+      elim (g == f) as (λ b. (g == f) ≡ b → get h.waits f ≡ Some (arrived_in x.barrier (round_now r))) [
+        | true ↦ λ e. ap (get h.waits) (sym (eqb-true g f e)) ∙ at_round ∙ ap (λ k. Some (arrived_in x.barrier k)) (sym this)
         | false ↦ λ e. v.in_round x.barrier f u (sym (registering-other r.waiting g f w (eqb-false g f e)) ∙ has)
       ] refl
 
@@ -266,7 +298,7 @@ module _ (h : Barriers) (n i : ℕ) (later : n ≤ i) (v : HasBarriers h n) wher
       let r : Barrier = barrier_at h x.barrier in
       let s : Barrier = record r { waiting = registering r.waiting g w } in
       record {
-        valid = barriers-later _ n i later (barriers-with h n v x.barrier s (v.waits_known g x at_g) (v.sized x.barrier) (stayed g w round x at_g arrived runs));
+        valid = barriers-with h (i + 1) now x.barrier s (v.waits_known g x at_g) refl (omega arith) (now.few x.barrier) (stayed g w round x at_g arrived runs);
         made = made-same h.waits i;
         passes = λ f apart. passes-by h _ [] f (λ z u is has _. (is, keeps-put h x.barrier s [] f u (λ p. inl (registering-other r.waiting g f w apart ∙ p)) z.barrier has));
       }
@@ -315,6 +347,6 @@ places h f w (Some x) is known = places_at h f w x is x.round
 pub waits : (h : Barriers) (n : ℕ) → HasBarriers h n → (f w u : ℕ) (o : Option BarrierWait) → get h.waits f ≡ o → placed_of h f o ≡ Some u → (poll_of h f w o).reply ≡ answers.Pending
 waits h n v f w u None is has = refl
 waits h n v f w u (Some x) is has =
-    let was = v.in_round x.barrier f u has in
-    let arrived : x.round ≡ Some was.0 = ap (λ (y : BarrierWait). y.round) (inside (sym is ∙ was.1)) in
-    ap (λ o. (poll_at h f w x o).reply) arrived ∙ ap (λ b. (if b then quietly (gone h f x) answers.Ready else waiting_on h f w x).reply) was.2
+    let r : Barrier = barrier_at h x.barrier in
+    let arrived : x.round ≡ Some (round_now r) = ap (λ (y : BarrierWait). y.round) (inside (sym is ∙ v.in_round x.barrier f u has)) in
+    ap (λ o. (poll_at h f w x o).reply) arrived ∙ ap (λ b. (if b then quietly (gone h f x) answers.Ready else waiting_on h f w x).reply) (under_way r.size r.arrivals (v.sized x.barrier))

@@ -11,9 +11,9 @@ use Rattle.mea_base.proofs.Totals.{total-empty}
 use Rattle.mea_meet_model.specs.Waiting.{waker_for}
 use Rattle.mea_meet_model.specs.Count.{Count, count_from, decreased, increased, woken_by, with_waker, without_future}
 use Rattle.mea_meet_model.specs.Groups.{Groups, no_groups, group_at, handles_of, waits_of, placed, placed_of, tidied, make, clone_of, leaving, into_of, copy_of, gone, poll_of, end_wait, end_of}
-use Rattle.mea_meet_model.specs.Valid.{IsLeft, HasGroups}
+use Rattle.mea_meet_model.specs.Valid.{IsQuietAtEnd, HasGroups}
 use Rattle.mea_meet_model.proofs.Maps.{by_at_put, by_at_gone, at-there, at-other, at-removed_other, at-empty, get-there, get-other, get-removed_other, is_there}
-use Rattle.mea_meet_model.proofs.Waiting.{registering-there, registering-other, ending-other, decreased-keeps, left-decreased, left-registering, left-ending, left-increased, left-runs}
+use Rattle.mea_meet_model.proofs.Waiting.{registering-there, registering-other, ending-other, decreased-keeps, quiet-decreased, quiet-registering, quiet-ending, quiet-increased, quiet-runs}
 use Rattle.mea_meet_model.proofs.Going as going
 use Rattle.mea_meet_model.proofs.Belongs.{on_true, on_false, below-none, of-none, below-later, below-put, below-over, below-gone, fresh, of-objects_put, of-put, of-gone, of-objects_gone, sum-put, sum-gone, none_of, none_yet, IsMade, made-same, made-put, made-gone, apart_from_gone}
 
@@ -24,7 +24,7 @@ groups-empty = record {
   waits_below = below-none ℕ 0;
   handles_known = of-none ℕ Count (λ g. g) no_groups.groups;
   waits_known = of-none ℕ Count (λ g. g) no_groups.groups;
-  left = λ g. subst IsLeft (sym (at-empty (count_from 0) g)) (λ zero. refl);
+  quiet = λ g. subst IsQuietAtEnd (sym (at-empty (count_from 0) g)) (λ zero. refl);
   counted = λ g. ap (λ (c : Count). c.number) (at-empty (count_from 0) g) ∙ sym (total-empty (λ k (o : ℕ). cond (o == g) 1 0));
 }
 
@@ -37,7 +37,7 @@ module _ (h : Groups) (n i : ℕ) (later : n ≤ i) (v : HasGroups h n) where
     waits_below = below-later h.waits n i later v.waits_below;
     handles_known = v.handles_known;
     waits_known = v.waits_known;
-    left = v.left;
+    quiet = v.quiet;
     counted = v.counted;
   }
 
@@ -48,7 +48,7 @@ module _ (h : Groups) (n i : ℕ) (later : n ≤ i) (v : HasGroups h n) where
     waits_below = below-later h.waits n i later v.waits_below;
     handles_known = of-put h.handles (λ g. g) (insert h.groups i (count_from 1)) i i (is_there (get (insert h.groups i (count_from 1)) i) (count_from 1) (get-there h.groups i (count_from 1))) (of-objects_put h.handles (λ g. g) h.groups i (count_from 1) v.handles_known);
     waits_known = of-objects_put h.waits (λ g. g) h.groups i (count_from 1) v.waits_known;
-    left = by_at_put (count_from 0) h.groups i (count_from 1) (λ g c. IsLeft c) (λ zero. refl) (λ g apart. v.left g);
+    quiet = by_at_put (count_from 0) h.groups i (count_from 1) (λ g c. IsQuietAtEnd c) (λ zero. refl) (λ g apart. v.quiet g);
     counted = by_at_put (count_from 0) h.groups i (count_from 1) (λ g c. c.number ≡ handles_of (make h i).hall g)
         (let one = on_true (i == i) 1 (eq-eqb i i refl) in omega (arith, one, sum-put h.handles (λ o. cond (o == i) 1 0) n i i later v.handles_below, none_yet h.handles (λ g. g) h.groups n i later v.groups_below v.handles_known))
         (λ g apart. let none = on_false (i == g) 1 (ne_eqb i g apart) in omega (arith, none, v.counted g, sum-put h.handles (λ o. cond (o == g) 1 0) n i i later v.handles_below));
@@ -61,7 +61,7 @@ module _ (h : Groups) (n i : ℕ) (later : n ≤ i) (v : HasGroups h n) where
     waits_below = below-later h.waits n i later v.waits_below;
     handles_known = of-objects_put _ (λ o. o) h.groups g (increased (group_at h g)) (of-put h.handles (λ o. o) h.groups i g there v.handles_known);
     waits_known = of-objects_put h.waits (λ o. o) h.groups g (increased (group_at h g)) v.waits_known;
-    left = by_at_put (count_from 0) h.groups g (increased (group_at h g)) (λ o c. IsLeft c) (left-increased (group_at h g)) (λ o apart. v.left o);
+    quiet = by_at_put (count_from 0) h.groups g (increased (group_at h g)) (λ o c. IsQuietAtEnd c) (quiet-increased (group_at h g)) (λ o apart. v.quiet o);
     counted = by_at_put (count_from 0) h.groups g (increased (group_at h g)) (λ o c. c.number ≡ handles_of (record h { handles = insert h.handles i g }) o)
         (let one = on_true (g == g) 1 (eq-eqb g g refl) in omega (arith, one, v.counted g, sum-put h.handles (λ o. cond (o == g) 1 0) n i g later v.handles_below))
         (λ o apart. let none = on_false (g == o) 1 (ne_eqb g o apart) in omega (arith, none, v.counted o, sum-put h.handles (λ k. cond (k == o) 1 0) n i g later v.handles_below));
@@ -74,20 +74,20 @@ module _ (h : Groups) (n i : ℕ) (later : n ≤ i) (v : HasGroups h n) where
     waits_below = below-put h.waits n i g later v.waits_below;
     handles_known = v.handles_known;
     waits_known = of-put h.waits (λ o. o) h.groups i g there v.waits_known;
-    left = v.left;
+    quiet = v.quiet;
     counted = v.counted;
   }
 
 module _ (h : Groups) (n : ℕ) (v : HasGroups h n) where
   -- a group of as many
-  groups-with : (g : ℕ) (c : Count) → IsSome (get h.groups g) → c.number ≡ (group_at h g).number → IsLeft c → HasGroups (record h { groups = insert h.groups g c }) n
+  groups-with : (g : ℕ) (c : Count) → IsSome (get h.groups g) → c.number ≡ (group_at h g).number → IsQuietAtEnd c → HasGroups (record h { groups = insert h.groups g c }) n
   groups-with g c there same left = record {
     groups_below = below-over h.groups n g c there v.groups_below;
     handles_below = v.handles_below;
     waits_below = v.waits_below;
     handles_known = of-objects_put h.handles (λ o. o) h.groups g c v.handles_known;
     waits_known = of-objects_put h.waits (λ o. o) h.groups g c v.waits_known;
-    left = by_at_put (count_from 0) h.groups g c (λ o d. IsLeft d) left (λ o apart. v.left o);
+    quiet = by_at_put (count_from 0) h.groups g c (λ o d. IsQuietAtEnd d) left (λ o apart. v.quiet o);
     counted = by_at_put (count_from 0) h.groups g c (λ o d. d.number ≡ handles_of h o) (same ∙ v.counted g) (λ o apart. v.counted o);
   }
 
@@ -98,7 +98,7 @@ module _ (h : Groups) (n : ℕ) (v : HasGroups h n) where
     waits_below = below-gone h.waits n f v.waits_below;
     handles_known = v.handles_known;
     waits_known = of-gone h.waits (λ o. o) h.groups f v.waits_known;
-    left = v.left;
+    quiet = v.quiet;
     counted = v.counted;
   }
 
@@ -109,7 +109,7 @@ module _ (h : Groups) (n : ℕ) (v : HasGroups h n) where
     waits_below = v.waits_below;
     handles_known = of-gone h.handles (λ o. o) _ k (of-objects_put h.handles (λ o. o) h.groups g (decreased (group_at h g) 1) v.handles_known);
     waits_known = of-objects_put h.waits (λ o. o) h.groups g (decreased (group_at h g) 1) v.waits_known;
-    left = by_at_put (count_from 0) h.groups g (decreased (group_at h g) 1) (λ o c. IsLeft c) (left-decreased (group_at h g) 1 (v.left g)) (λ o apart. v.left o);
+    quiet = by_at_put (count_from 0) h.groups g (decreased (group_at h g) 1) (λ o c. IsQuietAtEnd c) (quiet-decreased (group_at h g) 1 (v.quiet g)) (λ o apart. v.quiet o);
     counted = by_at_put (count_from 0) h.groups g (decreased (group_at h g) 1) (λ o c. c.number ≡ handles_of (record h { handles = remove h.handles k }) o)
         (let one = on_true (g == g) 1 (eq-eqb g g refl) in omega (arith, one, v.counted g, sum-gone h.handles (λ o. cond (o == g) 1 0) k g is))
         (λ o apart. let none = on_false (g == o) 1 (ne_eqb g o apart) in omega (arith, none, v.counted o, sum-gone h.handles (λ j. cond (j == o) 1 0) k g is));
@@ -122,7 +122,7 @@ module _ (h : Groups) (n : ℕ) (v : HasGroups h n) where
     waits_below = v.waits_below;
     handles_known = of-objects_gone h.handles (λ o. o) h.groups g no_handle v.handles_known;
     waits_known = of-objects_gone h.waits (λ o. o) h.groups g no_wait v.waits_known;
-    left = by_at_gone (count_from 0) h.groups g (λ o c. IsLeft c) (λ zero. refl) (λ o apart. v.left o);
+    quiet = by_at_gone (count_from 0) h.groups g (λ o c. IsQuietAtEnd c) (λ zero. refl) (λ o apart. v.quiet o);
     counted = by_at_gone (count_from 0) h.groups g (λ o c. c.number ≡ handles_of h o) (sym no_handle) (λ o apart. v.counted o);
   }
 
@@ -248,7 +248,7 @@ module _ (h : Groups) (n i : ℕ) (later : n ≤ i) (v : HasGroups h n) where
       let c : Count = group_at h g in
       let d : Count = without_future c f in
       record {
-        valid = groups-later _ n i later (groups-without (record h { groups = insert h.groups g d }) n (groups-with h n v g d (v.waits_known f g at_f) refl (left-ending c f (v.left g))) f);
+        valid = groups-later _ n i later (groups-without (record h { groups = insert h.groups g d }) n (groups-with h n v g d (v.waits_known f g at_f) refl (quiet-ending c f (v.quiet g))) f);
         made = made-gone h.waits i f;
         passes = λ k. passes-by h (left_by f g) [] k (λ o w is has there. (
           get-removed_other h.waits f k (apart_from_gone h.waits f k there) ∙ is,
@@ -279,7 +279,7 @@ module _ (h : Groups) (n i : ℕ) (later : n ≤ i) (v : HasGroups h n) where
       let c : Count = group_at h g in
       let d : Count = with_waker c f w in
       record {
-        valid = groups-later _ n i later (groups-with h n v g d (v.waits_known f g at_f) refl (left-registering c f w runs));
+        valid = groups-later _ n i later (groups-with h n v g d (v.waits_known f g at_f) refl (quiet-registering c f w runs));
         made = made-same h.waits i;
         passes = λ k apart. passes-by h (record h { groups = insert h.groups g d }) [] k (λ o u is has there. (is, keeps-put h g d [] k u (λ p. inl (registering-other c.waiting f k w apart ∙ p)) o has));
       }
@@ -310,4 +310,4 @@ pub waits : (h : Groups) (n : ℕ) → HasGroups h n → (f w u : ℕ) (o : Opti
 waits h n v f w u None is = refl
 waits h n v f w u (Some g) is =
     let c : Count = group_at h g in
-    ap (λ b. (if b then quietly (gone h f g) answers.Ready else quietly (record h { groups = insert h.groups g (with_waker c f w) }) answers.Pending).reply) (left-runs c f u (v.left g) is)
+    ap (λ b. (if b then quietly (gone h f g) answers.Ready else quietly (record h { groups = insert h.groups g (with_waker c f w) }) answers.Pending).reply) (quiet-runs c f u (v.quiet g) is)

@@ -10,9 +10,9 @@ use Rattle.mea_base.specs.declared.answer.Answer.TheVariants as answers
 use Rattle.mea_meet_model.specs.Waiting.{waker_for}
 use Rattle.mea_meet_model.specs.Count.{decreased, woken_by, with_waker, without_future}
 use Rattle.mea_meet_model.specs.Latches.{Latches, Latch, LatchWait, no_latches, new_latch, latch_at, is_named, waits_of, placed, placed_of, with_latch, tidied, make, arrive, wait, gone, poll_of, end_of, drop}
-use Rattle.mea_meet_model.specs.Valid.{IsLeft, HasLatches}
+use Rattle.mea_meet_model.specs.Valid.{IsQuietAtEnd, HasLatches}
 use Rattle.mea_meet_model.proofs.Maps.{by_at_put, by_at_gone, at-there, at-other, at-removed_other, at-empty, get-other, get-removed_other, is_there}
-use Rattle.mea_meet_model.proofs.Waiting.{registering-there, registering-other, ending-other, decreased-keeps, left-decreased, left-registering, left-ending, left-runs}
+use Rattle.mea_meet_model.proofs.Waiting.{registering-there, registering-other, ending-other, decreased-keeps, quiet-decreased, quiet-registering, quiet-ending, quiet-runs}
 use Rattle.mea_meet_model.proofs.Going as going
 use Rattle.mea_meet_model.proofs.Belongs.{below-none, of-none, below-later, below-put, below-over, below-gone, fresh, of-objects_put, of-put, of-gone, of-objects_gone, none_of, IsMade, made-same, made-put, made-gone, apart_from_gone}
 
@@ -22,7 +22,7 @@ latches-empty = record {
   latches_below = below-none Latch 0;
   waits_below = below-none LatchWait 0;
   waits_known = of-none LatchWait Latch (λ x. x.latch) no_latches.latches;
-  left = λ l. subst (λ (r : Latch). IsLeft r.count) (sym (at-empty (new_latch 0) l)) (λ zero. refl);
+  quiet = λ l. subst (λ (r : Latch). IsQuietAtEnd r.count) (sym (at-empty (new_latch 0) l)) (λ zero. refl);
 }
 
 -- ---- validity
@@ -32,7 +32,7 @@ module _ (h : Latches) (n i : ℕ) (later : n ≤ i) (v : HasLatches h n) where
     latches_below = below-later h.latches n i later v.latches_below;
     waits_below = below-later h.waits n i later v.waits_below;
     waits_known = v.waits_known;
-    left = v.left;
+    quiet = v.quiet;
   }
 
   latches-new : (k : ℕ) → HasLatches (make h i k).hall (i + 1)
@@ -40,7 +40,7 @@ module _ (h : Latches) (n i : ℕ) (later : n ≤ i) (v : HasLatches h n) where
     latches_below = below-put h.latches n i (new_latch k) later v.latches_below;
     waits_below = below-later h.waits n i later v.waits_below;
     waits_known = of-objects_put h.waits (λ x. x.latch) h.latches i (new_latch k) v.waits_known;
-    left = by_at_put (new_latch 0) h.latches i (new_latch k) (λ l r. IsLeft r.count) (λ zero. refl) (λ l apart. v.left l);
+    quiet = by_at_put (new_latch 0) h.latches i (new_latch k) (λ l r. IsQuietAtEnd r.count) (λ zero. refl) (λ l apart. v.quiet l);
   }
 
   latches-wait : (l : ℕ) (plain : Bool) → IsSome (get h.latches l) → HasLatches (wait h i l plain).hall (i + 1)
@@ -48,16 +48,16 @@ module _ (h : Latches) (n i : ℕ) (later : n ≤ i) (v : HasLatches h n) where
     latches_below = below-later h.latches n i later v.latches_below;
     waits_below = below-put h.waits n i (record { latch = l; plain = plain }) later v.waits_below;
     waits_known = of-put h.waits (λ x. x.latch) h.latches i (record { latch = l; plain = plain }) there v.waits_known;
-    left = v.left;
+    quiet = v.quiet;
   }
 
 module _ (h : Latches) (n : ℕ) (v : HasLatches h n) where
-  latches-with : (l : ℕ) (r : Latch) → IsSome (get h.latches l) → IsLeft r.count → HasLatches (with_latch h l r) n
+  latches-with : (l : ℕ) (r : Latch) → IsSome (get h.latches l) → IsQuietAtEnd r.count → HasLatches (with_latch h l r) n
   latches-with l r there left = record {
     latches_below = below-over h.latches n l r there v.latches_below;
     waits_below = v.waits_below;
     waits_known = of-objects_put h.waits (λ x. x.latch) h.latches l r v.waits_known;
-    left = by_at_put (new_latch 0) h.latches l r (λ k s. IsLeft s.count) left (λ k apart. v.left k);
+    quiet = by_at_put (new_latch 0) h.latches l r (λ k s. IsQuietAtEnd s.count) left (λ k apart. v.quiet k);
   }
 
   latches-without : (f : ℕ) → HasLatches (record h { waits = remove h.waits f }) n
@@ -65,7 +65,7 @@ module _ (h : Latches) (n : ℕ) (v : HasLatches h n) where
     latches_below = v.latches_below;
     waits_below = below-gone h.waits n f v.waits_below;
     waits_known = of-gone h.waits (λ x. x.latch) h.latches f v.waits_known;
-    left = v.left;
+    quiet = v.quiet;
   }
 
   latches-drop : (l : ℕ) → waits_of h l ≡ 0 → HasLatches (record h { latches = remove h.latches l }) n
@@ -73,7 +73,7 @@ module _ (h : Latches) (n : ℕ) (v : HasLatches h n) where
     latches_below = below-gone h.latches n l v.latches_below;
     waits_below = v.waits_below;
     waits_known = of-objects_gone h.waits (λ x. x.latch) h.latches l none v.waits_known;
-    left = by_at_gone (new_latch 0) h.latches l (λ k s. IsLeft s.count) (λ zero. refl) (λ k apart. v.left k);
+    quiet = by_at_gone (new_latch 0) h.latches l (λ k s. IsQuietAtEnd s.count) (λ zero. refl) (λ k apart. v.quiet k);
   }
 
 -- who has neither a name nor a future has no future
@@ -164,13 +164,13 @@ module _ (h : Latches) (n i : ℕ) (later : n ≤ i) (v : HasLatches h n) where
       let r : Latch = latch_at h l in
       let s : Latch = record r { count = decreased r.count k } in
       record {
-        valid = latches-later (with_latch h l s) n i later (latches-with h n v l s known (left-decreased r.count k (v.left l)));
+        valid = latches-later (with_latch h l s) n i later (latches-with h n v l s known (quiet-decreased r.count k (v.quiet l)));
         made = made-same h.waits i;
         passes = λ f. passes-by h _ _ f (λ x w is has there. (is, by_at_put (new_latch 0) h.latches l s (λ j t. waker_for (latch_at h j).count.waiting f ≡ Some w → (waker_for t.count.waiting f ≡ Some w) ⊎ Contains (woken_by r.count k) w) (λ p. decreased-keeps r.count k f w p) (λ j apart p. inl p) x.latch has));
       }
 
   -- a latch whose wakers are as they were
-  goes-with : (l : ℕ) (r : Latch) → IsSome (get h.latches l) → IsLeft r.count → r.count.waiting ≡ (latch_at h l).count.waiting → (reply : Answer) → Goes h (quietly (with_latch h l r) reply) i
+  goes-with : (l : ℕ) (r : Latch) → IsSome (get h.latches l) → IsQuietAtEnd r.count → r.count.waiting ≡ (latch_at h l).count.waiting → (reply : Answer) → Goes h (quietly (with_latch h l r) reply) i
   goes-with l r known left same reply = record {
     valid = latches-later (with_latch h l r) n i later (latches-with h n v l r known left);
     made = made-same h.waits i;
@@ -180,7 +180,7 @@ module _ (h : Latches) (n i : ℕ) (later : n ≤ i) (v : HasLatches h n) where
   pub goes-drop : (l : ℕ) → IsSome (get h.latches l) → Goes h (drop h l) i
   goes-drop l known =
       let r : Latch = record (latch_at h l) { named = false } in
-      let before = goes-with l r known (v.left l) refl answers.Done in
+      let before = goes-with l r known (v.quiet l) refl answers.Done in
       record {
         valid = latches-tidied (with_latch h l r) (i + 1) l before.valid;
         made = subst (λ m. IsMade h.waits m i) (sym (waits-tidied (with_latch h l r) l)) before.made;
@@ -199,7 +199,7 @@ module _ (h : Latches) (n i : ℕ) (later : n ≤ i) (v : HasLatches h n) where
       let r : Latch = latch_at h x.latch in
       let s : Latch = record r { count = without_future r.count g } in
       record {
-        valid = latches-later _ n i later (latches-without (with_latch h x.latch s) n (latches-with h n v x.latch s (v.waits_known g x at_g) (left-ending r.count g (v.left x.latch))) g);
+        valid = latches-later _ n i later (latches-without (with_latch h x.latch s) n (latches-with h n v x.latch s (v.waits_known g x at_g) (quiet-ending r.count g (v.quiet x.latch))) g);
         made = made-gone h.waits i g;
         passes = λ f. passes-by h _ [] f (λ y w is has there. (
           get-removed_other h.waits g f (apart_from_gone h.waits g f there) ∙ is,
@@ -227,7 +227,7 @@ module _ (h : Latches) (n i : ℕ) (later : n ≤ i) (v : HasLatches h n) where
       let r : Latch = latch_at h x.latch in
       let s : Latch = record r { count = with_waker r.count g w } in
       record {
-        valid = latches-later (with_latch h x.latch s) n i later (latches-with h n v x.latch s (v.waits_known g x at_g) (left-registering r.count g w runs));
+        valid = latches-later (with_latch h x.latch s) n i later (latches-with h n v x.latch s (v.waits_known g x at_g) (quiet-registering r.count g w runs));
         made = made-same h.waits i;
         passes = λ f apart. passes-by h _ [] f (λ y u is has there. (is, inl (by_at_put (new_latch 0) h.latches x.latch s (λ j t. waker_for (latch_at h j).count.waiting f ≡ Some u → waker_for t.count.waiting f ≡ Some u) (λ p. registering-other r.count.waiting g f w apart ∙ p) (λ j other p. p) y.latch has)));
       }
@@ -258,4 +258,4 @@ pub waits : (h : Latches) (n : ℕ) → HasLatches h n → (f w u : ℕ) (o : Op
 waits h n v f w u None is = refl
 waits h n v f w u (Some x) is =
     let r : Latch = latch_at h x.latch in
-    ap (λ b. (if b then quietly (gone h f x) answers.Ready else quietly (with_latch h x.latch (record r { count = with_waker r.count f w })) answers.Pending).reply) (left-runs r.count f u (v.left x.latch) is)
+    ap (λ b. (if b then quietly (gone h f x) answers.Ready else quietly (with_latch h x.latch (record r { count = with_waker r.count f w })) answers.Pending).reply) (quiet-runs r.count f u (v.quiet x.latch) is)

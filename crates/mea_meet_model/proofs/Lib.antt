@@ -11,4 +11,5 @@ pub mod ShutdownKept
 pub mod ShutdownWakes
 pub mod EachEvent
 pub mod KeptWakers
+pub mod EndedCounts
 pub mod MostWoken

@@ -3,6 +3,7 @@ use Rattle.std.proofs.Common.{◌≡◌, ℕ, ◌+◌, ◌≤◌, ◌==◌, ◌|
 use Rattle.std.specs.FinMap.{get, insert, remove}
 use Rattle.mea_base.specs.Family.{Outcome, quietly}
 use Rattle.mea_base.specs.declared.answer.Answer.TheVariants as answers
+use Rattle.mea_base.proofs.Totals.{total-empty}
 use Rattle.mea_meet_model.specs.declared.event.MeetEvent.{MeetEvent}
 use Rattle.mea_meet_model.specs.declared.event.MeetEvent.TheVariants as events
 use Rattle.mea_meet_model.specs.Waiting.{registering, ending}
@@ -15,7 +16,7 @@ use Rattle.mea_meet_model.specs.Groups as groups
 use Rattle.mea_meet_model.specs.Groups.{Groups}
 use Rattle.mea_meet_model.specs.Shutdowns as shutdowns
 use Rattle.mea_meet_model.specs.Shutdowns.{Shutdowns, Shutdown, Receiver, ShutdownWait, Awaited, Signal, Receivers}
-use Rattle.mea_meet_model.specs.Hall.{Hall, registered}
+use Rattle.mea_meet_model.specs.Hall.{Hall, empty_hall, registered}
 use Rattle.mea_meet_model.specs.Step.{step, registers}
 use Rattle.mea_meet_model.proofs.Maps.{sizes-put, total-gone}
 use Rattle.mea_meet_model.proofs.Waiting.{length-registering, length-ending, length-wakers, length-decreased}
@@ -328,3 +329,12 @@ grows h i e = omega (arith, settles h i e, at_most_one (registers e))
 
 pub falls : (h : Hall) (i : ℕ) (e : MeetEvent) → registers e ≡ false → Settles registered (step h i e) (registered h)
 falls h i e none = omega (arith, settles h i e, none_at_false (registers e) none)
+
+-- in an empty hall no waker is registered
+pub none_registered : registered empty_hall ≡ 0
+none_registered =
+    let none_at_barriers : barriers.registered barriers.no_barriers ≡ 0 = total-empty (λ b (x : Barrier). length x.waiting) in
+    let none_at_latches : latches.registered latches.no_latches ≡ 0 = total-empty (λ l (x : Latch). length x.count.waiting) in
+    let none_at_groups : groups.registered groups.no_groups ≡ 0 = total-empty (λ g (x : Count). length x.waiting) in
+    let none_at_shutdowns : shutdowns.registered shutdowns.no_shutdowns ≡ 0 = total-empty (λ s (x : Shutdown). length x.signal.waiting + length x.receivers.waiting) in
+    omega arith

@@ -1,19 +1,34 @@
 -- rounds of a size, counted by all arrivals
-use Rattle.std.proofs.Common.{◌≡◌, ℕ, ◌+◌, ◌*◌, ◌/◌, ◌%◌, ◌<◌, ◌≤◌, ◌==◌, Bool, true, false, refl, ap, ◌∙◌, arith, nat_le}
-use Rattle.std.proofs.lemmas.Bool.{leb-true, leb-false, lt-leb, eq-eqb}
-use Rattle.std.proofs.lemmas.Nat.{div-add-mod'}
+use Rattle.std.proofs.Common.{◌≡◌, ℕ, ◌+◌, ◌-◌, ◌*◌, ◌/◌, ◌%◌, ◌<◌, ◌≤◌, ◌==◌, inl, inr, false, ap, ◌∙◌, arith, nat_le}
+use Rattle.std.proofs.lemmas.Bool.{leb-false, lt-leb, eq-eqb, cases_lt}
+use Rattle.std.proofs.lemmas.Nat.{div-add-mod', div-mul-add}
 use Rattle.std.proofs.Math.Nat.{add-mul, mul-mod_left, mod-lt}
 
--- an arrival that does not lead completes no round
-pub completes_none : (size round arrivals : ℕ) → nat_le ((round + 1) * size) arrivals ≡ false → ((arrivals + 1) % size == 0) ≡ false → nat_le ((round + 1) * size) (arrivals + 1) ≡ false
-completes_none size round arrivals before follows = by_test (nat_le ((round + 1) * size) (arrivals + 1)) refl
-  where
-    by_test : (b : Bool) → nat_le ((round + 1) * size) (arrivals + 1) ≡ b → b ≡ false
-    by_test false e = refl
-    by_test true e =
-        let last : arrivals + 1 ≡ (round + 1) * size = (let over = leb-false ((round + 1) * size) arrivals before in let reached = leb-true ((round + 1) * size) (arrivals + 1) e in omega (arith, over, reached)) in
-        let multiple : (arrivals + 1) % size ≡ 0 = ap (λ a. a % size) last ∙ mul-mod_left (round + 1) size in
-        absurd (let leads = eq-eqb ((arrivals + 1) % size) 0 multiple in cc)
+-- an arrival that does not lead is of the round under way, as the next is
+pub same_round : (size arrivals : ℕ) → 1 ≤ size → ((arrivals + 1) % size == 0) ≡ false → (arrivals + 1) / size ≡ arrivals / size
+same_round size arrivals some follows =
+    let round : ℕ = arrivals / size in
+    let rest : ℕ = arrivals % size in
+    let parts : round * size + rest ≡ arrivals = div-add-mod' arrivals size in
+    let within : rest < size = mod-lt arrivals (omega (arith, some)) in
+    let next : arrivals + 1 ≡ round * size + (rest + 1) = omega (arith, parts) in
+    elim (cases_lt (rest + 1) size) [
+      | inl before ↦ ap (λ a. a / size) next ∙ div-mul-add round size (rest + 1) before
+      | inr end ↦
+          let product : (round + 1) * size ≡ round * size + 1 * size = add-mul round 1 size in
+          let last : arrivals + 1 ≡ (round + 1) * size = omega (arith, next, product, within, end) in
+          let multiple : (arrivals + 1) % size ≡ 0 = ap (λ a. a % size) last ∙ mul-mod_left (round + 1) size in
+          absurd (let leads = eq-eqb ((arrivals + 1) % size) 0 multiple in cc)
+    ]
+
+-- a round that has begun and has not completed is the one under way
+pub the_round : (size round arrivals : ℕ) → round * size ≤ arrivals → nat_le ((round + 1) * size) arrivals ≡ false → arrivals / size ≡ round
+the_round size round arrivals begun runs =
+    let over : arrivals < (round + 1) * size = leb-false ((round + 1) * size) arrivals runs in
+    let product : (round + 1) * size ≡ round * size + 1 * size = add-mul round 1 size in
+    let rest : ℕ = arrivals - round * size in
+    let whole : arrivals ≡ round * size + rest = omega (arith, begun) in
+    ap (λ a. a / size) whole ∙ div-mul-add round size rest (omega (arith, over, product, begun))
 
 -- the round under way has not completed
 pub under_way : (size arrivals : ℕ) → 1 ≤ size → nat_le ((arrivals / size + 1) * size) arrivals ≡ false
@@ -21,3 +36,7 @@ under_way size arrivals some =
     let rest : arrivals % size < size = mod-lt arrivals (omega (arith, some)) in
     let product : (arrivals / size + 1) * size ≡ arrivals / size * size + 1 * size = add-mul (arrivals / size) 1 size in
     lt-leb ((arrivals / size + 1) * size) arrivals (omega (arith, rest, product, div-add-mod' arrivals size))
+
+-- and it has begun
+pub has_begun : (size arrivals : ℕ) → arrivals / size * size ≤ arrivals
+has_begun size arrivals = omega (arith, div-add-mod' arrivals size)

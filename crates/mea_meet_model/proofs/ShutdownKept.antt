@@ -6,9 +6,9 @@ use Rattle.std.proofs.lemmas.Bool.{ltb-false, eq-eqb, ne_eqb}
 use Rattle.mea_base.proofs.Totals.{total-zero}
 use Rattle.mea_meet_model.specs.Count.{Count, decreased, increased}
 use Rattle.mea_meet_model.specs.Shutdowns.{Shutdowns, Shutdown, Receiver, ShutdownWait, Awaited, Signal, Receivers, no_shutdowns, new_shutdown, shutdown_at, senders_of, receivers_of, waits_of, awaited, with_awaited, with_shutdown, tidied, make}
-use Rattle.mea_meet_model.specs.Valid.{IsLeft, counted_receivers, HasShutdowns}
+use Rattle.mea_meet_model.specs.Valid.{IsQuietAtEnd, counted_receivers, HasShutdowns}
 use Rattle.mea_meet_model.proofs.Maps.{by_put, by_gone, by_at_put, by_at_gone, at-empty, get-there, is_there, nothing_there}
-use Rattle.mea_meet_model.proofs.Waiting.{left-decreased, left-increased}
+use Rattle.mea_meet_model.proofs.Waiting.{quiet-decreased, quiet-increased}
 use Rattle.mea_meet_model.proofs.Belongs.{below-none, of-none, below-later, below-put, below-over, below-gone, of-objects_put, of-put, of-gone, of-objects_gone, sum-put, sum-gone}
 
 -- ---- who counts as a receiver of s
@@ -27,17 +27,17 @@ counts_elsewhere false b n d = refl
 counts_elsewhere true b n d = absurd (cc)
 
 -- ---- what is awaited
-pub left-awaited : (r : Shutdown) (a : Awaited) → IsLeft r.signal → IsLeft r.receivers → IsLeft (awaited r a)
-left-awaited r (Signal borrowed) signal receivers = signal
-left-awaited r Receivers signal receivers = receivers
+pub quiet-awaited : (r : Shutdown) (a : Awaited) → IsQuietAtEnd r.signal → IsQuietAtEnd r.receivers → IsQuietAtEnd (awaited r a)
+quiet-awaited r (Signal borrowed) signal receivers = signal
+quiet-awaited r Receivers signal receivers = receivers
 
-left-signal : (r : Shutdown) (a : Awaited) (c : Count) → IsLeft c → IsLeft r.signal → IsLeft (with_awaited r a c).signal
-left-signal r (Signal borrowed) c left was = left
-left-signal r Receivers c left was = was
+quiet-signal : (r : Shutdown) (a : Awaited) (c : Count) → IsQuietAtEnd c → IsQuietAtEnd r.signal → IsQuietAtEnd (with_awaited r a c).signal
+quiet-signal r (Signal borrowed) c left was = left
+quiet-signal r Receivers c left was = was
 
-left-receivers : (r : Shutdown) (a : Awaited) (c : Count) → IsLeft c → IsLeft r.receivers → IsLeft (with_awaited r a c).receivers
-left-receivers r (Signal borrowed) c left was = was
-left-receivers r Receivers c left was = left
+quiet-receivers : (r : Shutdown) (a : Awaited) (c : Count) → IsQuietAtEnd c → IsQuietAtEnd r.receivers → IsQuietAtEnd (with_awaited r a c).receivers
+quiet-receivers r (Signal borrowed) c left was = was
+quiet-receivers r Receivers c left was = left
 
 same-number : (r : Shutdown) (a : Awaited) (c : Count) → c.number ≡ (awaited r a).number → (with_awaited r a c).receivers.number ≡ r.receivers.number
 same-number r (Signal borrowed) c same = refl
@@ -52,8 +52,8 @@ shutdowns-empty = record {
   senders_known = of-none ℕ Shutdown (λ s. s) no_shutdowns.shutdowns;
   receivers_known = of-none Receiver Shutdown (λ x. x.shutdown) no_shutdowns.shutdowns;
   waits_known = of-none ShutdownWait Shutdown (λ x. x.shutdown) no_shutdowns.shutdowns;
-  signal_left = λ s. subst (λ (r : Shutdown). IsLeft r.signal) (sym (at-empty new_shutdown s)) (λ zero. absurd (omega (arith, zero)));
-  receivers_left = λ s. subst (λ (r : Shutdown). IsLeft r.receivers) (sym (at-empty new_shutdown s)) (λ zero. absurd (omega (arith, zero)));
+  signal_quiet = λ s. subst (λ (r : Shutdown). IsQuietAtEnd r.signal) (sym (at-empty new_shutdown s)) (λ zero. absurd (omega (arith, zero)));
+  receivers_quiet = λ s. subst (λ (r : Shutdown). IsQuietAtEnd r.receivers) (sym (at-empty new_shutdown s)) (λ zero. absurd (omega (arith, zero)));
   counted = λ s there. absurd (nothing_there Shutdown s there);
 }
 
@@ -68,8 +68,8 @@ module _ (h : Shutdowns) (n i : ℕ) (later : n ≤ i) (v : HasShutdowns h n) wh
     senders_known = v.senders_known;
     receivers_known = v.receivers_known;
     waits_known = v.waits_known;
-    signal_left = v.signal_left;
-    receivers_left = v.receivers_left;
+    signal_quiet = v.signal_quiet;
+    receivers_quiet = v.receivers_quiet;
     counted = v.counted;
   }
 
@@ -88,8 +88,8 @@ module _ (h : Shutdowns) (n i : ℕ) (later : n ≤ i) (v : HasShutdowns h n) wh
         senders_known = of-put h.senders (λ s. s) (insert h.shutdowns i new_shutdown) i i there (of-objects_put h.senders (λ s. s) h.shutdowns i new_shutdown v.senders_known);
         receivers_known = of-put h.receivers (λ x. x.shutdown) (insert h.shutdowns i new_shutdown) i first there (of-objects_put h.receivers (λ x. x.shutdown) h.shutdowns i new_shutdown v.receivers_known);
         waits_known = of-objects_put h.waits (λ x. x.shutdown) h.shutdowns i new_shutdown v.waits_known;
-        signal_left = by_at_put new_shutdown h.shutdowns i new_shutdown (λ s r. IsLeft r.signal) (λ zero. absurd (omega (arith, zero))) (λ s apart. v.signal_left s);
-        receivers_left = by_at_put new_shutdown h.shutdowns i new_shutdown (λ s r. IsLeft r.receivers) (λ zero. absurd (omega (arith, zero))) (λ s apart. v.receivers_left s);
+        signal_quiet = by_at_put new_shutdown h.shutdowns i new_shutdown (λ s r. IsQuietAtEnd r.signal) (λ zero. absurd (omega (arith, zero))) (λ s apart. v.signal_quiet s);
+        receivers_quiet = by_at_put new_shutdown h.shutdowns i new_shutdown (λ s r. IsQuietAtEnd r.receivers) (λ zero. absurd (omega (arith, zero))) (λ s apart. v.receivers_quiet s);
         counted = by_put h.shutdowns i new_shutdown (λ s o. IsSome o → (unwrap_or o new_shutdown).receivers.number ≡ counted_receivers (make h i).hall s)
             (λ is. let one = counts_here (i == i) false 1 (eq-eqb i i refl) refl in omega (arith, one, no_receiver_yet, sum-put h.receivers (λ x. cond (x.shutdown == i && not x.watch) 1 0) n i first later v.receivers_below))
             (λ s apart is. let none = counts_elsewhere (i == s) false 1 (ne_eqb i s apart) in omega (arith, none, v.counted s is, sum-put h.receivers (λ x. cond (x.shutdown == s && not x.watch) 1 0) n i first later v.receivers_below));
@@ -104,8 +104,8 @@ module _ (h : Shutdowns) (n i : ℕ) (later : n ≤ i) (v : HasShutdowns h n) wh
     senders_known = of-put h.senders (λ o. o) h.shutdowns i s there v.senders_known;
     receivers_known = v.receivers_known;
     waits_known = v.waits_known;
-    signal_left = v.signal_left;
-    receivers_left = v.receivers_left;
+    signal_quiet = v.signal_quiet;
+    receivers_quiet = v.receivers_quiet;
     counted = v.counted;
   }
 
@@ -118,8 +118,8 @@ module _ (h : Shutdowns) (n i : ℕ) (later : n ≤ i) (v : HasShutdowns h n) wh
     senders_known = v.senders_known;
     receivers_known = v.receivers_known;
     waits_known = of-put h.waits (λ y. y.shutdown) h.shutdowns i x there v.waits_known;
-    signal_left = v.signal_left;
-    receivers_left = v.receivers_left;
+    signal_quiet = v.signal_quiet;
+    receivers_quiet = v.receivers_quiet;
     counted = v.counted;
   }
 
@@ -133,8 +133,8 @@ module _ (h : Shutdowns) (n i : ℕ) (later : n ≤ i) (v : HasShutdowns h n) wh
     senders_known = v.senders_known;
     receivers_known = of-put h.receivers (λ y. y.shutdown) h.shutdowns i x there v.receivers_known;
     waits_known = v.waits_known;
-    signal_left = v.signal_left;
-    receivers_left = v.receivers_left;
+    signal_quiet = v.signal_quiet;
+    receivers_quiet = v.receivers_quiet;
     counted = λ s is. let none = counts_not (x.shutdown == s) x.watch 1 watches in omega (arith, none, v.counted s is, sum-put h.receivers (λ y. cond (y.shutdown == s && not y.watch) 1 0) n i x later v.receivers_below);
   }
 
@@ -152,8 +152,8 @@ module _ (h : Shutdowns) (n i : ℕ) (later : n ≤ i) (v : HasShutdowns h n) wh
         senders_known = of-objects_put h.senders (λ s. s) h.shutdowns x.shutdown t v.senders_known;
         receivers_known = of-objects_put _ (λ y. y.shutdown) h.shutdowns x.shutdown t (of-put h.receivers (λ y. y.shutdown) h.shutdowns i x there v.receivers_known);
         waits_known = of-objects_put h.waits (λ y. y.shutdown) h.shutdowns x.shutdown t v.waits_known;
-        signal_left = by_at_put new_shutdown h.shutdowns x.shutdown t (λ s q. IsLeft q.signal) (v.signal_left x.shutdown) (λ s apart. v.signal_left s);
-        receivers_left = by_at_put new_shutdown h.shutdowns x.shutdown t (λ s q. IsLeft q.receivers) (left-increased r.receivers) (λ s apart. v.receivers_left s);
+        signal_quiet = by_at_put new_shutdown h.shutdowns x.shutdown t (λ s q. IsQuietAtEnd q.signal) (v.signal_quiet x.shutdown) (λ s apart. v.signal_quiet s);
+        receivers_quiet = by_at_put new_shutdown h.shutdowns x.shutdown t (λ s q. IsQuietAtEnd q.receivers) (quiet-increased r.receivers) (λ s apart. v.receivers_quiet s);
         counted = by_put h.shutdowns x.shutdown t (λ s o. IsSome o → (unwrap_or o new_shutdown).receivers.number ≡ counted_receivers (record h { receivers = insert h.receivers i x }) s)
             (λ is. let one = counts_here (x.shutdown == x.shutdown) x.watch 1 (eq-eqb x.shutdown x.shutdown refl) counts in omega (arith, one, v.counted x.shutdown there, sum-put h.receivers (λ y. cond (y.shutdown == x.shutdown && not y.watch) 1 0) n i x later v.receivers_below))
             (λ s apart is. let none = counts_elsewhere (x.shutdown == s) x.watch 1 (ne_eqb x.shutdown s apart) in omega (arith, none, v.counted s is, sum-put h.receivers (λ y. cond (y.shutdown == s && not y.watch) 1 0) n i x later v.receivers_below));
@@ -162,7 +162,7 @@ module _ (h : Shutdowns) (n i : ℕ) (later : n ≤ i) (v : HasShutdowns h n) wh
 -- ---- a change of what is there, or its end
 module _ (h : Shutdowns) (n : ℕ) (v : HasShutdowns h n) where
   -- a shutdown of as many receivers
-  pub shutdowns-with : (s : ℕ) (r : Shutdown) → IsSome (get h.shutdowns s) → r.receivers.number ≡ (shutdown_at h s).receivers.number → IsLeft r.signal → IsLeft r.receivers → HasShutdowns (with_shutdown h s r) n
+  pub shutdowns-with : (s : ℕ) (r : Shutdown) → IsSome (get h.shutdowns s) → r.receivers.number ≡ (shutdown_at h s).receivers.number → IsQuietAtEnd r.signal → IsQuietAtEnd r.receivers → HasShutdowns (with_shutdown h s r) n
   shutdowns-with s r there same signal receivers = record {
     shutdowns_below = below-over h.shutdowns n s r there v.shutdowns_below;
     senders_below = v.senders_below;
@@ -171,16 +171,16 @@ module _ (h : Shutdowns) (n : ℕ) (v : HasShutdowns h n) where
     senders_known = of-objects_put h.senders (λ o. o) h.shutdowns s r v.senders_known;
     receivers_known = of-objects_put h.receivers (λ y. y.shutdown) h.shutdowns s r v.receivers_known;
     waits_known = of-objects_put h.waits (λ y. y.shutdown) h.shutdowns s r v.waits_known;
-    signal_left = by_at_put new_shutdown h.shutdowns s r (λ o q. IsLeft q.signal) signal (λ o apart. v.signal_left o);
-    receivers_left = by_at_put new_shutdown h.shutdowns s r (λ o q. IsLeft q.receivers) receivers (λ o apart. v.receivers_left o);
+    signal_quiet = by_at_put new_shutdown h.shutdowns s r (λ o q. IsQuietAtEnd q.signal) signal (λ o apart. v.signal_quiet o);
+    receivers_quiet = by_at_put new_shutdown h.shutdowns s r (λ o q. IsQuietAtEnd q.receivers) receivers (λ o apart. v.receivers_quiet o);
     counted = by_put h.shutdowns s r (λ o p. IsSome p → (unwrap_or p new_shutdown).receivers.number ≡ counted_receivers h o) (λ is. same ∙ v.counted s there) (λ o apart is. v.counted o is);
   }
 
   -- another list of who waits
-  pub shutdowns-awaited : (s : ℕ) (a : Awaited) (c : Count) → IsSome (get h.shutdowns s) → c.number ≡ (awaited (shutdown_at h s) a).number → IsLeft c → HasShutdowns (with_shutdown h s (with_awaited (shutdown_at h s) a c)) n
+  pub shutdowns-awaited : (s : ℕ) (a : Awaited) (c : Count) → IsSome (get h.shutdowns s) → c.number ≡ (awaited (shutdown_at h s) a).number → IsQuietAtEnd c → HasShutdowns (with_shutdown h s (with_awaited (shutdown_at h s) a c)) n
   shutdowns-awaited s a c there same left =
       let r : Shutdown = shutdown_at h s in
-      shutdowns-with s (with_awaited r a c) there (same-number r a c same) (left-signal r a c left (v.signal_left s)) (left-receivers r a c left (v.receivers_left s))
+      shutdowns-with s (with_awaited r a c) there (same-number r a c same) (quiet-signal r a c left (v.signal_quiet s)) (quiet-receivers r a c left (v.receivers_quiet s))
 
   pub shutdowns-no_sender : (k : ℕ) → HasShutdowns (record h { senders = remove h.senders k }) n
   shutdowns-no_sender k = record {
@@ -191,8 +191,8 @@ module _ (h : Shutdowns) (n : ℕ) (v : HasShutdowns h n) where
     senders_known = of-gone h.senders (λ s. s) h.shutdowns k v.senders_known;
     receivers_known = v.receivers_known;
     waits_known = v.waits_known;
-    signal_left = v.signal_left;
-    receivers_left = v.receivers_left;
+    signal_quiet = v.signal_quiet;
+    receivers_quiet = v.receivers_quiet;
     counted = v.counted;
   }
 
@@ -205,8 +205,8 @@ module _ (h : Shutdowns) (n : ℕ) (v : HasShutdowns h n) where
     senders_known = v.senders_known;
     receivers_known = v.receivers_known;
     waits_known = of-gone h.waits (λ x. x.shutdown) h.shutdowns f v.waits_known;
-    signal_left = v.signal_left;
-    receivers_left = v.receivers_left;
+    signal_quiet = v.signal_quiet;
+    receivers_quiet = v.receivers_quiet;
     counted = v.counted;
   }
 
@@ -219,8 +219,8 @@ module _ (h : Shutdowns) (n : ℕ) (v : HasShutdowns h n) where
     senders_known = v.senders_known;
     receivers_known = of-gone h.receivers (λ y. y.shutdown) h.shutdowns k v.receivers_known;
     waits_known = v.waits_known;
-    signal_left = v.signal_left;
-    receivers_left = v.receivers_left;
+    signal_quiet = v.signal_quiet;
+    receivers_quiet = v.receivers_quiet;
     counted = λ s is. let none = counts_not (x.shutdown == s) x.watch 1 watches in omega (arith, none, v.counted s is, sum-gone h.receivers (λ y. cond (y.shutdown == s && not y.watch) 1 0) k x at_k);
   }
 
@@ -238,8 +238,8 @@ module _ (h : Shutdowns) (n : ℕ) (v : HasShutdowns h n) where
         senders_known = of-objects_put h.senders (λ s. s) h.shutdowns x.shutdown t v.senders_known;
         receivers_known = of-gone h.receivers (λ y. y.shutdown) _ k (of-objects_put h.receivers (λ y. y.shutdown) h.shutdowns x.shutdown t v.receivers_known);
         waits_known = of-objects_put h.waits (λ y. y.shutdown) h.shutdowns x.shutdown t v.waits_known;
-        signal_left = by_at_put new_shutdown h.shutdowns x.shutdown t (λ s q. IsLeft q.signal) (v.signal_left x.shutdown) (λ s apart. v.signal_left s);
-        receivers_left = by_at_put new_shutdown h.shutdowns x.shutdown t (λ s q. IsLeft q.receivers) (left-decreased r.receivers 1 (v.receivers_left x.shutdown)) (λ s apart. v.receivers_left s);
+        signal_quiet = by_at_put new_shutdown h.shutdowns x.shutdown t (λ s q. IsQuietAtEnd q.signal) (v.signal_quiet x.shutdown) (λ s apart. v.signal_quiet s);
+        receivers_quiet = by_at_put new_shutdown h.shutdowns x.shutdown t (λ s q. IsQuietAtEnd q.receivers) (quiet-decreased r.receivers 1 (v.receivers_quiet x.shutdown)) (λ s apart. v.receivers_quiet s);
         counted = by_put h.shutdowns x.shutdown t (λ s o. IsSome o → (unwrap_or o new_shutdown).receivers.number ≡ counted_receivers (record h { receivers = remove h.receivers k }) s)
             (λ is. let one = counts_here (x.shutdown == x.shutdown) x.watch 1 (eq-eqb x.shutdown x.shutdown refl) counts in omega (arith, one, v.counted x.shutdown there, sum-gone h.receivers (λ y. cond (y.shutdown == x.shutdown && not y.watch) 1 0) k x at_k))
             (λ s apart is. let none = counts_elsewhere (x.shutdown == s) x.watch 1 (ne_eqb x.shutdown s apart) in omega (arith, none, v.counted s is, sum-gone h.receivers (λ y. cond (y.shutdown == s && not y.watch) 1 0) k x at_k));
@@ -254,8 +254,8 @@ module _ (h : Shutdowns) (n : ℕ) (v : HasShutdowns h n) where
     senders_known = of-objects_gone h.senders (λ o. o) h.shutdowns s no_sender v.senders_known;
     receivers_known = of-objects_gone h.receivers (λ x. x.shutdown) h.shutdowns s no_receiver v.receivers_known;
     waits_known = of-objects_gone h.waits (λ x. x.shutdown) h.shutdowns s no_wait v.waits_known;
-    signal_left = by_at_gone new_shutdown h.shutdowns s (λ o q. IsLeft q.signal) (λ zero. absurd (omega (arith, zero))) (λ o apart. v.signal_left o);
-    receivers_left = by_at_gone new_shutdown h.shutdowns s (λ o q. IsLeft q.receivers) (λ zero. absurd (omega (arith, zero))) (λ o apart. v.receivers_left o);
+    signal_quiet = by_at_gone new_shutdown h.shutdowns s (λ o q. IsQuietAtEnd q.signal) (λ zero. absurd (omega (arith, zero))) (λ o apart. v.signal_quiet o);
+    receivers_quiet = by_at_gone new_shutdown h.shutdowns s (λ o q. IsQuietAtEnd q.receivers) (λ zero. absurd (omega (arith, zero))) (λ o apart. v.receivers_quiet o);
     counted = by_gone h.shutdowns s (λ o p. IsSome p → (unwrap_or p new_shutdown).receivers.number ≡ counted_receivers h o) (λ is. absurd (cc)) (λ o apart is. v.counted o is);
   }
 

@@ -9,12 +9,12 @@ use Rattle.mea_base.specs.declared.answer.Answer.TheVariants as answers
 use Rattle.mea_meet_model.specs.Waiting.{waker_for}
 use Rattle.mea_meet_model.specs.Count.{Count, decreased, increased, woken_by, with_waker, without_future}
 use Rattle.mea_meet_model.specs.Shutdowns.{Shutdowns, Shutdown, Receiver, ShutdownWait, Awaited, Signal, Receivers, new_shutdown, shutdown_at, senders_of, receivers_of, waits_of, placed, placed_of, awaited, with_awaited, with_shutdown, with_wait, tidied, make, copy_sender_of, copied, copy_receiver_of, signal_of, now_of, watch_of, wait_of, await_of, gone, poll_of, end_of, end_sender_of, end_receiver_of}
-use Rattle.mea_meet_model.specs.Valid.{IsLeft, HasShutdowns}
+use Rattle.mea_meet_model.specs.Valid.{IsQuietAtEnd, HasShutdowns}
 use Rattle.mea_meet_model.proofs.Maps.{by_at_put, at-there, at-other, at-removed_other, get-other, get-removed_other, is_there}
-use Rattle.mea_meet_model.proofs.Waiting.{registering-there, registering-other, ending-other, decreased-keeps, left-decreased, left-registering, left-ending, left-runs}
+use Rattle.mea_meet_model.proofs.Waiting.{registering-there, registering-other, ending-other, decreased-keeps, quiet-decreased, quiet-registering, quiet-ending, quiet-runs}
 use Rattle.mea_meet_model.proofs.Going as going
 use Rattle.mea_meet_model.proofs.Belongs.{fresh, none_of, IsMade, made-same, made-put, made-gone, apart_from_gone}
-use Rattle.mea_meet_model.proofs.ShutdownKept.{left-awaited, shutdowns-later, shutdowns-new, shutdowns-sender, shutdowns-wait, shutdowns-watch, shutdowns-receiver, shutdowns-with, shutdowns-awaited, shutdowns-no_sender, shutdowns-no_wait, shutdowns-no_watch, shutdowns-no_receiver, none_left, shutdowns-tidied}
+use Rattle.mea_meet_model.proofs.ShutdownKept.{quiet-awaited, shutdowns-later, shutdowns-new, shutdowns-sender, shutdowns-wait, shutdowns-watch, shutdowns-receiver, shutdowns-with, shutdowns-awaited, shutdowns-no_sender, shutdowns-no_wait, shutdowns-no_watch, shutdowns-no_receiver, none_left, shutdowns-tidied}
 
 -- ---- a tidying
 waits-tidied : (h : Shutdowns) (s : ℕ) → (tidied h s).waits ≡ h.waits
@@ -144,7 +144,7 @@ module _ (h : Shutdowns) (n i : ℕ) (later : n ≤ i) (v : HasShutdowns h n) wh
       let r : Shutdown = shutdown_at h s in
       let t : Shutdown = record r { signal = decreased r.signal 1 } in
       record {
-        valid = shutdowns-later (with_shutdown h s t) n i later (shutdowns-with h n v s t (v.senders_known k s at_k) refl (left-decreased r.signal 1 (v.signal_left s)) (v.receivers_left s));
+        valid = shutdowns-later (with_shutdown h s t) n i later (shutdowns-with h n v s t (v.senders_known k s at_k) refl (quiet-decreased r.signal 1 (v.signal_quiet s)) (v.receivers_quiet s));
         made = made-same h.waits i;
         passes = λ f. passes-by h (with_shutdown h s t) (woken_by r.signal 1) f (λ y w is has there. (is, keeps-put h s t (woken_by r.signal 1) y.awaits f w (λ p. keeps-signal r y.awaits f w p) y.shutdown has));
       }
@@ -230,7 +230,7 @@ module _ (h : Shutdowns) (n i : ℕ) (later : n ≤ i) (v : HasShutdowns h n) wh
       let c : Count = awaited r x.awaits in
       let d : Count = without_future c f in
       let t : Shutdown = with_awaited r x.awaits d in
-      let left : IsLeft d = left-ending c f (left-awaited r x.awaits (v.signal_left x.shutdown) (v.receivers_left x.shutdown)) in
+      let left : IsQuietAtEnd d = quiet-ending c f (quiet-awaited r x.awaits (v.signal_quiet x.shutdown) (v.receivers_quiet x.shutdown)) in
       record {
         valid = shutdowns-later (ended_by f x) n i later (shutdowns-no_wait (with_shutdown h x.shutdown t) n (shutdowns-awaited h n v x.shutdown x.awaits d (v.waits_known f x at_f) refl left) f);
         made = made-gone h.waits i f;
@@ -261,7 +261,7 @@ module _ (h : Shutdowns) (n i : ℕ) (later : n ≤ i) (v : HasShutdowns h n) wh
       let d : Count = with_waker c f w in
       let t : Shutdown = with_awaited r x.awaits d in
       record {
-        valid = shutdowns-later (with_shutdown h x.shutdown t) n i later (shutdowns-awaited h n v x.shutdown x.awaits d (v.waits_known f x at_f) refl (left-registering c f w runs));
+        valid = shutdowns-later (with_shutdown h x.shutdown t) n i later (shutdowns-awaited h n v x.shutdown x.awaits d (v.waits_known f x at_f) refl (quiet-registering c f w runs));
         made = made-same h.waits i;
         passes = λ g apart. passes-by h (with_shutdown h x.shutdown t) [] g (λ y u is has there. (is, keeps-put h x.shutdown t [] y.awaits g u (λ p. inl (keeps-awaited r x.awaits y.awaits d g u (λ q. registering-other c.waiting f g w apart ∙ q) p)) y.shutdown has));
       }
@@ -315,4 +315,4 @@ waits h n v f w u (Some x) is =
     let r : Shutdown = shutdown_at h x.shutdown in
     let c : Count = awaited r x.awaits in
     let m : Shutdowns = with_shutdown h x.shutdown (with_awaited r x.awaits (with_waker c f w)) in
-    ap (λ b. (if b then quietly (gone h f x) answers.Ready else quietly m answers.Pending).reply) (left-runs c f u (left-awaited r x.awaits (v.signal_left x.shutdown) (v.receivers_left x.shutdown)) is)
+    ap (λ b. (if b then quietly (gone h f x) answers.Ready else quietly m answers.Pending).reply) (quiet-runs c f u (quiet-awaited r x.awaits (v.signal_quiet x.shutdown) (v.receivers_quiet x.shutdown)) is)

@@ -6,7 +6,7 @@ use Rattle.std.proofs.lemmas.Bool.Decides.{nat_tests}
 use Rattle.std.proofs.lemmas.List.Elements.{Contains-append_left, Contains-append_right, Contains-push}
 use Rattle.mea_meet_model.specs.Waiting.{Whose, Of, Ended, is_of, waker_for, registering, ended_if, ending, wakers}
 use Rattle.mea_meet_model.specs.Count.{Count, ends, decreased, increased, woken_by, with_waker, without_future}
-use Rattle.mea_meet_model.specs.Valid.{IsLeft}
+use Rattle.mea_meet_model.specs.Valid.{IsQuietAtEnd}
 
 -- ---- how many there are
 pub length-registering : (q : List (Whose × ℕ)) (f w : ℕ) → length (registering q f w) ≤ length q + 1
@@ -85,23 +85,23 @@ decreased-keeps c n f w is = elim (ends c n) as (λ b. (waker_for (if b then [] 
 at_end : (k m : ℕ) → (nat_lt 0 k && nat_le k m) ≡ false → k - m ≡ 0 → k ≡ 0
 at_end k m e none = grind (arith, nat_tests)
 
-pub left-decreased : (c : Count) (n : ℕ) → IsLeft c → IsLeft (decreased c n)
-left-decreased c n left zero = by_test (ends c n) refl
+pub quiet-decreased : (c : Count) (n : ℕ) → IsQuietAtEnd c → IsQuietAtEnd (decreased c n)
+quiet-decreased c n left zero = by_test (ends c n) refl
   where
     by_test : (b : Bool) → ends c n ≡ b → (if b then [] else c.waiting) ≡ []
     by_test true e = refl
     by_test false e = left (at_end c.number n e zero)
 
-pub left-registering : (c : Count) (f w : ℕ) → (c.number == 0) ≡ false → IsLeft (with_waker c f w)
-left-registering c f w some zero = absurd (let none : (c.number == 0) ≡ true = eq-eqb c.number 0 zero in cc)
+pub quiet-registering : (c : Count) (f w : ℕ) → (c.number == 0) ≡ false → IsQuietAtEnd (with_waker c f w)
+quiet-registering c f w some zero = absurd (let none : (c.number == 0) ≡ true = eq-eqb c.number 0 zero in cc)
 
-pub left-ending : (c : Count) (f : ℕ) → IsLeft c → IsLeft (without_future c f)
-left-ending c f left zero = ap (λ q. ending q f) (left zero)
+pub quiet-ending : (c : Count) (f : ℕ) → IsQuietAtEnd c → IsQuietAtEnd (without_future c f)
+quiet-ending c f left zero = ap (λ q. ending q f) (left zero)
 
 -- a count that nobody waits for
-pub left-increased : (c : Count) → IsLeft (increased c)
-left-increased c zero = absurd (omega (arith, zero))
+pub quiet-increased : (c : Count) → IsQuietAtEnd (increased c)
+quiet-increased c zero = absurd (omega (arith, zero))
 
 -- where a waker is registered the count has not ended
-pub left-runs : (c : Count) (f w : ℕ) → IsLeft c → waker_for c.waiting f ≡ Some w → (c.number == 0) ≡ false
-left-runs c f w left is = ne_eqb c.number 0 (λ zero. absurd (let none : waker_for c.waiting f ≡ None = ap (λ q. waker_for q f) (left zero) in cc))
+pub quiet-runs : (c : Count) (f w : ℕ) → IsQuietAtEnd c → waker_for c.waiting f ≡ Some w → (c.number == 0) ≡ false
+quiet-runs c f w left is = ne_eqb c.number 0 (λ zero. absurd (let none : waker_for c.waiting f ≡ None = ap (λ q. waker_for q f) (left zero) in cc))

@@ -1,11 +1,11 @@
 -- what holds of every hall that events reach, where n is the least number of the next event
-use Rattle.std.specs.Prelude.{ℕ, ◌≡◌, ◌<◌, ◌≤◌, ◌==◌, ◌&&◌, not, false, cond, [], Some, IsSome}
+use Rattle.std.specs.Prelude.{ℕ, ◌*◌, ◌/◌, ◌≡◌, ◌<◌, ◌≤◌, ◌==◌, ◌&&◌, not, cond, [], Some, IsSome}
 use Rattle.std.specs.Ordering.{nat_cmp}
 use Rattle.std.specs.FinMap as map
 use Rattle.mea_base.specs.Totals.{total}
 use Rattle.mea_meet_model.specs.Waiting.{waker_for}
 use Rattle.mea_meet_model.specs.Count.{Count}
-use Rattle.mea_meet_model.specs.Barriers.{Barriers, BarrierWait, barrier_at, has_completed}
+use Rattle.mea_meet_model.specs.Barriers.{Barriers, Barrier, BarrierWait, barrier_at}
 use Rattle.mea_meet_model.specs.Latches.{Latches, LatchWait, latch_at}
 use Rattle.mea_meet_model.specs.Groups.{Groups, group_at, handles_of}
 use Rattle.mea_meet_model.specs.Shutdowns.{Shutdowns, Receiver, ShutdownWait, shutdown_at}
@@ -20,26 +20,34 @@ abbrev pub AreOf : {X Y : Type 0} → (X → ℕ) → map.FinMap nat_cmp X → m
 AreOf {X} object m objects = (k : ℕ) (x : X) → map.get m k ≡ Some x → IsSome (map.get objects (object x))
 
 -- nobody is registered where the count has ended
-abbrev pub IsLeft : Count → Type 0
-IsLeft c = c.number ≡ 0 → c.waiting ≡ []
+abbrev pub IsQuietAtEnd : Count → Type 0
+IsQuietAtEnd c = c.number ≡ 0 → c.waiting ≡ []
 
--- f waits at b, in a round that has not completed
-abbrev pub IsInRound : Barriers → ℕ → ℕ → Type 0
-IsInRound h b f = (round : ℕ) × (map.get h.waits f ≡ Some (record { barrier = b; round = Some round })) × (has_completed (barrier_at h b) round ≡ false)
+-- the number of the round under way
+abbrev pub round_now : Barrier → ℕ
+round_now r = r.arrivals / r.size
+
+-- a future that waits at b and arrived in this round
+abbrev pub arrived_in : ℕ → ℕ → BarrierWait
+arrived_in b round = record { barrier = b; round = Some round }
 
 pub record HasBarriers (h : Barriers) (n : ℕ) : Type 0 where
   pub barriers_below : AreBelow h.barriers n
   pub waits_below : AreBelow h.waits n
   pub waits_known : AreOf (λ (x : BarrierWait). x.barrier) h.waits h.barriers
   pub sized : (b : ℕ) → 1 ≤ (barrier_at h b).size
-  -- whose waker is registered waits there
-  pub in_round : (b f w : ℕ) → waker_for (barrier_at h b).waiting f ≡ Some w → IsInRound h b f
+  -- each arrival is an event of its own
+  pub few : (b : ℕ) → (barrier_at h b).arrivals ≤ n
+  -- who has arrived did so in a round that has begun
+  pub begun : (b f round : ℕ) → map.get h.waits f ≡ Some (arrived_in b round) → round * (barrier_at h b).size ≤ (barrier_at h b).arrivals
+  -- whose waker is registered waits there and arrived in the round under way
+  pub in_round : (b f w : ℕ) → waker_for (barrier_at h b).waiting f ≡ Some w → map.get h.waits f ≡ Some (arrived_in b (round_now (barrier_at h b)))
 
 pub record HasLatches (h : Latches) (n : ℕ) : Type 0 where
   pub latches_below : AreBelow h.latches n
   pub waits_below : AreBelow h.waits n
   pub waits_known : AreOf (λ (x : LatchWait). x.latch) h.waits h.latches
-  pub left : (l : ℕ) → IsLeft (latch_at h l).count
+  pub quiet : (l : ℕ) → IsQuietAtEnd (latch_at h l).count
 
 pub record HasGroups (h : Groups) (n : ℕ) : Type 0 where
   pub groups_below : AreBelow h.groups n
@@ -47,7 +55,7 @@ pub record HasGroups (h : Groups) (n : ℕ) : Type 0 where
   pub waits_below : AreBelow h.waits n
   pub handles_known : AreOf (λ (g : ℕ). g) h.handles h.groups
   pub waits_known : AreOf (λ (g : ℕ). g) h.waits h.groups
-  pub left : (g : ℕ) → IsLeft (group_at h g)
+  pub quiet : (g : ℕ) → IsQuietAtEnd (group_at h g)
   -- the number of a group is that of its handles
   pub counted : (g : ℕ) → (group_at h g).number ≡ handles_of h g
 
@@ -63,8 +71,8 @@ pub record HasShutdowns (h : Shutdowns) (n : ℕ) : Type 0 where
   pub senders_known : AreOf (λ (s : ℕ). s) h.senders h.shutdowns
   pub receivers_known : AreOf (λ (x : Receiver). x.shutdown) h.receivers h.shutdowns
   pub waits_known : AreOf (λ (x : ShutdownWait). x.shutdown) h.waits h.shutdowns
-  pub signal_left : (s : ℕ) → IsLeft (shutdown_at h s).signal
-  pub receivers_left : (s : ℕ) → IsLeft (shutdown_at h s).receivers
+  pub signal_quiet : (s : ℕ) → IsQuietAtEnd (shutdown_at h s).signal
+  pub receivers_quiet : (s : ℕ) → IsQuietAtEnd (shutdown_at h s).receivers
   -- the count of the receivers is that of those that are no watches
   pub counted : (s : ℕ) → IsSome (map.get h.shutdowns s) → (shutdown_at h s).receivers.number ≡ counted_receivers h s
 

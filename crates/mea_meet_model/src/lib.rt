@@ -3,11 +3,13 @@
 //! list of events. It has no code that runs but the type of an event; the hall above is proved against it.
 #![tactic(auto)]
 
+mod counts;
 mod event;
 mod laws;
 mod registered;
 mod validity;
 
+pub use counts::an_ended_count_stays_ended;
 pub use event::MeetEvent;
 pub use laws::{no_wake_is_lost, wakers_are_kept};
 pub use registered::wakes_are_of_the_registered;
