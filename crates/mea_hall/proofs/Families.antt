@@ -13,10 +13,6 @@ use Rattle.mea_sem.specs.Play as sem
 use Rattle.mea_meet_model.specs.declared.event.MeetEvent.{MeetEvent}
 use Rattle.mea_meet_model.specs.Hall as meet_hall
 use Rattle.mea_meet_model.specs.Step as meet_step
-use Rattle.mea_meet_model.specs.Barriers as barriers
-use Rattle.mea_meet_model.specs.Latches as latches
-use Rattle.mea_meet_model.specs.Groups as groups
-use Rattle.mea_meet_model.specs.Shutdowns as shutdowns
 use Rattle.mea_meet_model.proofs.MostWoken as meet_most
 use Rattle.mea_meet_model.proofs.Registrations as meet_laws
 use Rattle.mea_meet.specs.Play as meet
@@ -36,13 +32,7 @@ most_woken w i (Meet e) = omega (arith, meet_most.most w.meets i e)
 
 -- in an empty world no waker is registered
 pub none_registered : registered empty_world ≡ 0
-none_registered =
-    let semaphores : sem_waiters.waiters sem_hall.empty_hall ≡ 0 = total-empty (λ s r. sem_waiters.waiters_in r.queue) in
-    let barriers : barriers.registered barriers.no_barriers ≡ 0 = total-empty (λ b r. length r.waiting) in
-    let latches : latches.registered latches.no_latches ≡ 0 = total-empty (λ l r. length r.count.waiting) in
-    let groups : groups.registered groups.no_groups ≡ 0 = total-empty (λ g c. length c.waiting) in
-    let shutdowns : shutdowns.registered shutdowns.no_shutdowns ≡ 0 = total-empty (λ s r. length r.signal.waiting + length r.receivers.waiting) in
-    omega arith
+none_registered = let semaphores : sem_waiters.waiters sem_hall.empty_hall ≡ 0 = total-empty (λ s r. sem_waiters.waiters_in r.queue) in omega (arith, semaphores, meet_laws.none_registered)
 
 -- ---- a semaphore event
 semaphores_played : (old : sem.Play) (m : meet.Play) (i : ℕ) (e : SemEvent) (answer : Answer) (new : sem.Play) → sem.Plays old i e answer new → old.wakes ≡ [] → m.wakes ≡ [] → m.next ≤ i → PlaysFamilies (world_of old m) i (Sem e) answer new m

@@ -4,7 +4,6 @@ pub mod BarrierOutcomes
 pub mod BarrierPlays
 pub mod BarrierStores
 pub mod Names
-pub mod Playing
 pub mod Stores
 pub mod LatchMaps
 pub mod LatchStore
