@@ -1,5 +1,6 @@
 pub mod Names
 pub mod Play
 pub mod BarrierHall
+pub mod GroupHall
 pub mod StandsFor
 pub mod Parts

@@ -4,4 +4,5 @@
 #![tactic(auto)]
 
 mod barriers;
+mod groups;
 mod moving;
