@@ -10,6 +10,7 @@ use Rattle.mea_base.specs.declared.answer.Answer.TheVariants as answers
 use Rattle.mea_base.specs.Family.{Outcome, quietly}
 use Rattle.mea_base.specs.Named.{named, at}
 use Rattle.mea_base.specs.Ready.{Waking}
+use Rattle.mea_base.proofs.NamedMaps.{same_named}
 use Rattle.mea_sets.specs.declared.place.Place.{Place}
 use Rattle.mea_sets.specs.Countdown as cores
 use Rattle.mea_sets.specs.Countdown.{Counting, decreased, ends, woken_by}
@@ -78,12 +79,12 @@ wakers_used e some = by_test (is_used e) (used_left e some)
     by_test false h = absurd (cc)
 
 -- ---- a group is written, and then tidied
-module _ (old mid new : List (ℕ × GroupEntry)) (g : ℕ) (d : GroupEntry) (writes : ChangesAt old mid g (Some d)) where
+module _ (old mid : List (ℕ × GroupEntry)) (g : ℕ) (d : GroupEntry) (writes : ChangesAt old mid g (Some d)) where
   written : at mid g ≡ Some d
   written = sym (kept-at mid g) ∙ sets_there (named (λ (k : ℕ) (x : GroupEntry). x) old) (named (λ k x. x) mid) g (Some d) (kept-changed old mid g (Some d) writes) g refl
 
-  pub tidied_at : ((q : ℕ) → at new q ≡ cond (is_at (nat_cmp g) q) (left_at (at mid g)) (at mid q)) → ChangesAt old new g (left d)
-  tidied_at tidies = changes_twice old mid new g (Some d) (left d) writes (λ q. tidies q ∙ ap (λ o. cond (is_at (nat_cmp g) q) (left_at o) (at mid q)) written)
+  pub tidied_at : (new : List (ℕ × GroupEntry)) → ((q : ℕ) → at new q ≡ cond (is_at (nat_cmp g) q) (left_at (at mid g)) (at mid q)) → ChangesAt old new g (left d)
+  tidied_at new tidies = changes_twice old mid new g (Some d) (left d) writes (λ q. tidies q ∙ ap (λ o. cond (is_at (nat_cmp g) q) (left_at o) (at mid q)) written)
 
   pub tidied_if : (P : GroupEntry → Type 0) → IfSome (at mid g) P → P d
   tidied_if P is = subst (λ o. IfSome o P) written is
@@ -158,6 +159,19 @@ module _ (a : Inside) (v : Part Groups) (i : ℕ) (seen : seen_in a ≡ v) (k : 
           counted = counted ∙ ap (λ u. before.registered + registered u) hall_is;
         }));
   }
+
+  -- ---- a handle is made, and undone where there is no memory for its group
+  module _ (gs' : List (ℕ × GroupEntry)) (hs' : List (ℕ × ℕ)) (same : gs' ≡ a.groups.entries) (undoes : ChangesAt a.handles.entries hs' i None) where
+    undone : store_of gs' hs' a.waits.entries ≡ st
+    undone =
+        let handles : (store_of gs' hs' a.waits.entries).handles ≡ st.handles = same_named _ _ (λ q. kept-changed a.handles.entries hs' i None undoes q ∙ sym (same_handles q)) in
+        λ j. record { groups = named (λ q e. e) (same j); handles = handles j; waits = st.waits }
+
+    pub kept_undone : IsKept (store_of gs' hs' a.waits.entries) n
+    kept_undone = subst (λ u. IsKept u n) (sym undone) k
+
+    pub seen_undone : record { hall = groups_of (store_of gs' hs' a.waits.entries) n; next = n } ≡ v
+    seen_undone = ap (λ u. record { hall = groups_of u n; next = n }) undone ∙ seen
 
   -- ---- the futures stay
   named_same : AreNamed (slots_of st.waits) (i + 1)
@@ -239,6 +253,13 @@ module _ (a : Inside) (v : Part Groups) (i : ℕ) (seen : seen_in a ≡ v) (k : 
 
     at_g : group_at h g ≡ c
     at_g = group_seen st n g e entry_there
+
+    -- where there is room for its wakers, there is for those that stay when a handle ends
+    pub left_room : (d : GroupEntry) (m before middle : ℕ) → d ≡ leaving e m → length s.wakers ≤ before → middle + length (woken_by e.core.count 1) ≡ before → length d.core.count.waiting.wakers ≤ middle
+    left_room d m before middle is fits first =
+        let same : length d.core.count.waiting.wakers ≡ length (leaving e m).core.count.waiting.wakers = ap (λ (u : GroupEntry). length u.core.count.waiting.wakers) is in
+        let all : length (woken_by e.core.count 1) + length (leaving e m).core.count.waiting.wakers ≡ length s.wakers = leaves-counted s (ends e.core.count 1) in
+        omega (arith, same, all, fits, first)
 
     -- a used group is written
     used : (gs' : List (ℕ × GroupEntry)) (d : GroupEntry) → ChangesAt a.groups.entries gs' g (Some d) → 0 < d.handles + d.waits → Sets st.groups (named (λ (k : ℕ) (x : GroupEntry). x) gs') g (left d)
@@ -340,8 +361,11 @@ module _ (a : Inside) (v : Part Groups) (i : ℕ) (seen : seen_in a ≡ v) (k : 
       handle_there : get st.handles m ≡ Some g
       handle_there = kept-at a.handles.entries m ∙ handle
 
-      pub lives : 1 ≤ e.handles
+      lives : 1 ≤ e.handles
       lives = handles_within st n m g e k handle_there entry_there
+
+      pub core_lives : 0 < e.core.count.number
+      core_lives = let one = lives in let same = known in omega (arith, one, same)
 
       handle_below : m < i + 1
       handle_below = let before = (k.owned m g handle_there).below in omega (arith, before, less)
@@ -350,7 +374,7 @@ module _ (a : Inside) (v : Part Groups) (i : ℕ) (seen : seen_in a ≡ v) (k : 
       its p same = let one : g ≡ p = cc in sym one
 
       -- it is cloned
-      module _ (gs' : List (ℕ × GroupEntry)) (hs' : List (ℕ × ℕ)) (adds : ChangesAt a.handles.entries hs' i (Some g)) (puts : ChangesAt a.groups.entries gs' g (Some (record e { core = record e.core { count = increased e.core.count }; handles = e.handles + 1 }))) where
+      module _ (gs' : List (ℕ × GroupEntry)) (hs' : List (ℕ × ℕ)) (adds : ChangesAt a.handles.entries hs' i (Some g)) (d : GroupEntry) (puts : ChangesAt a.groups.entries gs' g (Some d)) (is : d ≡ record e { core = record e.core { count = increased e.core.count }; handles = e.handles + 1 }) where
         abbrev st_cloned : Store
         st_cloned = store_of gs' hs' a.waits.entries
 
@@ -363,7 +387,7 @@ module _ (a : Inside) (v : Part Groups) (i : ℕ) (seen : seen_in a ≡ v) (k : 
         change_cloned : Changes st st_cloned n (i + 1) g i i (Some e) cloned_entry None (Some g) None None
         change_cloned = record {
           was = entry_there;
-          groups = used gs' cloned_entry puts (omega arith);
+          groups = used gs' cloned_entry (subst (λ (u : GroupEntry). ChangesAt a.groups.entries gs' g (Some u)) is puts) (omega arith);
           handle_was = no_handle;
           handles = handles_cloned;
           wait_was = no_wait;

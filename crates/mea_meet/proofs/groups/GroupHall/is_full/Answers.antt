@@ -1,26 +1,13 @@
-use Rattle.std.proofs.Common.{rules, ℕ, ◌≡◌, ◌≢◌, ◌+◌, ◌-◌, ◌<◌, ◌≤◌, ◌++◌, [], cond, length, true, false, OnErr, IfOk, IfErr, IfSome, IsSome, is_some, ◌*◌, ◌/◌, ◌%◌, Bool, nat_eq, nat_lt, List, ◌∷◌, slice_index_or, slice_set, bit_and, bit_or, Fits, w8, w32, w64, Bor, MutBor}
-use Rattle.std.specs.Ordering.{nat_cmp}
-use Rattle.std.specs.BTreeMap.{is_at}
-use Rattle.std.specs.FinMap as map
-use Rattle.mea_base.specs.Named.{at}
-use Rattle.mea_sets.specs.Countdown.{decreased, woken_by}
-use Rattle.mea_sets.specs.WaitSet.{has_given}
-use Rattle.mea_meet_core.specs.Count.{increased}
-use Rattle.mea_meet_model.specs.Groups as model
-use Rattle.mea_meet_model.specs.Groups.{no_groups, registered}
-use Rattle.mea_meet.specs.Play.{Yields, Rests}
-use Rattle.mea_meet.specs.StandsFor.{StandsForGroup}
-use Rattle.mea_meet.specs.GroupHall.{left_at, wakers_left, is_full}
+use Rattle.std.proofs.Common.{sym, ap, ◌∙◌}
+use Rattle.std.specs.Option.{option_copied}
+use Rattle.mea_meet.proofs.GroupStores.{handle_found, group_of_handle, full}
 use Rattle.mea_meet.proofs.groups.GroupHall.is_full.Goals as goal
 
--- src/groups.rt:196:13
 pub unreachable-requires : goal.unreachable-requires
-unreachable-requires c = ?
+unreachable-requires c = handle_found c.self.inside c.args.self.now c.self.view_is c.args.k c.requires (sym c.get.ensures.value ∙ ap option_copied c.in_default.is)
 
--- src/groups.rt:199:13
 pub unreachable-requires-in_default-get : goal.unreachable-requires-in_default-get
-unreachable-requires-in_default-get c = ?
+unreachable-requires-in_default-get c = group_of_handle c.self.inside c.args.self.now c.self.view_is c.self.invariant c.args.k c.in-Some.g.now (sym c.get.ensures.value ∙ ap option_copied c.in-Some.is) (sym c.get-2.ensures.value ∙ ap option_copied c.in_default-get.is)
 
--- src/groups.rt:191:5
 pub returns : goal.returns
-returns c = ?
+returns c = full c.self.inside c.args.self.now c.self.view_is c.self.invariant c.in-Some.g.now c.in-Some-get.entry.now (sym c.get-2.ensures.value ∙ ap option_copied c.in-Some-get.is) c.args.k (sym c.get.ensures.value ∙ ap option_copied c.in-Some.is)
