@@ -233,15 +233,15 @@ module _ (st st' : Store) (n n' g k f : ℕ) (q : Option GroupEntry) (d : GroupE
     quiet = old.quiet;
     known = old.known;
     handles_counted = (let before = old.handles_counted in
-    let sums = total-sets st.handles st'.handles k p' c.handles (of_group j) p c.handle_was in
-    let was = weighs_elsewhere (λ u. u) g j k p c.handle_was_of apart in
-    let is = weighs_elsewhere (λ u. u) g j k p' c.handle_is_of apart in
-    omega (arith, before, sums, was, is));
+        let sums = total-sets st.handles st'.handles k p' c.handles (of_group j) p c.handle_was in
+        let was = weighs_elsewhere (λ u. u) g j k p c.handle_was_of apart in
+        let is = weighs_elsewhere (λ u. u) g j k p' c.handle_is_of apart in
+        omega (arith, before, sums, was, is));
     waits_counted = (let before = old.waits_counted in
-    let sums = total-sets st.waits st'.waits f o' c.waits (at_group j) o c.wait_was in
-    let was = weighs_elsewhere (λ (x : GroupWaitEntry). x.group) g j f o c.wait_was_of apart in
-    let is = weighs_elsewhere (λ (x : GroupWaitEntry). x.group) g j f o' c.wait_is_of apart in
-    omega (arith, before, sums, was, is));
+        let sums = total-sets st.waits st'.waits f o' c.waits (at_group j) o c.wait_was in
+        let was = weighs_elsewhere (λ (x : GroupWaitEntry). x.group) g j f o c.wait_was_of apart in
+        let is = weighs_elsewhere (λ (x : GroupWaitEntry). x.group) g j f o' c.wait_is_of apart in
+        omega (arith, before, sums, was, is));
     few_waits = (let before = old.few_waits in let later = c.rises in omega (arith, before, later));
     below = (let before = old.below in let later = c.rises in omega (arith, before, later));
   }
@@ -326,29 +326,29 @@ module _ (st st' : Store) (n n' g k f : ℕ) (q : Option GroupEntry) (d : GroupE
     pub hall_tidied : groups_of st' n' ≡ tidied hall g
     hall_tidied = elim (cases_Bool (is_used d)) [
       | inl used ↦
-        (let put = groups_put (ap (λ t. if t then Some d else None) used) in
-        (λ i. record { groups = put i; handles = handles i; waits = waits i }) ∙ ap (λ u. record { groups = insert h.groups g u; handles = hs; waits = ws }) seen
-        ∙ sym (ap (λ t. if t then hall else record hall { groups = remove hall.groups g }) (tested ∙ used)))
+          (let put = groups_put (ap (λ t. if t then Some d else None) used) in
+          (λ i. record { groups = put i; handles = handles i; waits = waits i }) ∙ ap (λ u. record { groups = insert h.groups g u; handles = hs; waits = ws }) seen
+          ∙ sym (ap (λ t. if t then hall else record hall { groups = remove hall.groups g }) (tested ∙ used)))
       | inr unused ↦
-        (let gone = groups_gone (ap (λ t. if t then Some d else None) unused) in
-        (λ i. record { groups = gone i; handles = handles i; waits = waits i }) ∙ ap (λ u. record { groups = u; handles = hs; waits = ws }) (sym (remove-insert h.groups g r))
-        ∙ sym (ap (λ t. if t then hall else record hall { groups = remove hall.groups g }) (tested ∙ unused)))
+          (let gone = groups_gone (ap (λ t. if t then Some d else None) unused) in
+          (λ i. record { groups = gone i; handles = handles i; waits = waits i }) ∙ ap (λ u. record { groups = u; handles = hs; waits = ws }) (sym (remove-insert h.groups g r))
+          ∙ sym (ap (λ t. if t then hall else record hall { groups = remove hall.groups g }) (tested ∙ unused)))
     ]
 
   -- the wakers that are registered, by those of the group
   pub registered_after : registered (groups_of st' n') + wakers_in q ≡ registered h + wakers_left d
   registered_after = elim (cases_Bool (is_used d)) [
     | inl used ↦
-      (let sums = total-insert (λ j (r : Count). length r.waiting) h.groups g (count_of st'.waits n' g d) in
-      let is : length (waiting_at (slots_of st'.waits) n' g d.core.count.waiting) ≡ length d.core.count.waiting.wakers = waiting-length (slots_of st'.waits) n' g d.core.count.waiting in
-      let now : registered (groups_of st' n') ≡ total (λ j (r : Count). length r.waiting) (insert h.groups g (count_of st'.waits n' g d)) = ap (total (λ j (r : Count). length r.waiting)) (groups_put (ap (λ t. if t then Some d else None) used)) in
-      let stays : wakers_left d ≡ length d.core.count.waiting.wakers = ap (λ t. if t then length d.core.count.waiting.wakers else 0) used in
-      omega (arith, sums, wakers_seen st n g q c.was, is, now, stays))
+        (let sums = total-insert (λ j (r : Count). length r.waiting) h.groups g (count_of st'.waits n' g d) in
+        let is : length (waiting_at (slots_of st'.waits) n' g d.core.count.waiting) ≡ length d.core.count.waiting.wakers = waiting-length (slots_of st'.waits) n' g d.core.count.waiting in
+        let now : registered (groups_of st' n') ≡ total (λ j (r : Count). length r.waiting) (insert h.groups g (count_of st'.waits n' g d)) = ap (total (λ j (r : Count). length r.waiting)) (groups_put (ap (λ t. if t then Some d else None) used)) in
+        let stays : wakers_left d ≡ length d.core.count.waiting.wakers = ap (λ t. if t then length d.core.count.waiting.wakers else 0) used in
+        omega (arith, sums, wakers_seen st n g q c.was, is, now, stays))
     | inr unused ↦
-      (let sums = total-remove (λ j (r : Count). length r.waiting) h.groups g in
-      let now : registered (groups_of st' n') ≡ total (λ j (r : Count). length r.waiting) (remove h.groups g) = ap (total (λ j (r : Count). length r.waiting)) (groups_gone (ap (λ t. if t then Some d else None) unused)) in
-      let goes : wakers_left d ≡ 0 = ap (λ t. if t then length d.core.count.waiting.wakers else 0) unused in
-      omega (arith, sums, wakers_seen st n g q c.was, now, goes))
+        (let sums = total-remove (λ j (r : Count). length r.waiting) h.groups g in
+        let now : registered (groups_of st' n') ≡ total (λ j (r : Count). length r.waiting) (remove h.groups g) = ap (total (λ j (r : Count). length r.waiting)) (groups_gone (ap (λ t. if t then Some d else None) unused)) in
+        let goes : wakers_left d ≡ 0 = ap (λ t. if t then length d.core.count.waiting.wakers else 0) unused in
+        omega (arith, sums, wakers_seen st n g q c.was, now, goes))
   ]
 
 -- a group as it is seen

@@ -16,14 +16,14 @@ use Rattle.mea_sets.specs.Countdown as cores
 use Rattle.mea_sets.specs.Countdown.{Counting, decreased, ends, woken_by}
 use Rattle.mea_sets.specs.WaitSet.{Registered, has_given, with_waker, slot_after, drained}
 use Rattle.mea_meet_core.specs.Count.{increased}
-use Rattle.mea_meet_model.specs.Waiting.{Whose, registering, ending, wakers}
+use Rattle.mea_meet_model.specs.Waiting.{wakers}
 use Rattle.mea_meet_model.specs.Count as counts
 use Rattle.mea_meet_model.specs.Count.{Count}
 use Rattle.mea_meet_model.specs.Groups as model
 use Rattle.mea_meet_model.specs.Groups.{Groups, group_at, tidied, registered}
 use Rattle.mea_meet.specs.Names.{Slots, waiting_at, AreNamed, AreGiven}
 use Rattle.mea_meet.specs.Play.{Part, Yields, Rests}
-use Rattle.mea_meet.specs.GroupHall.{Store, store_of, slots_of, count_of, groups_of, IsKept, left, left_at, is_used, wakers_left, Readies, Registers}
+use Rattle.mea_meet.specs.GroupHall.{Store, store_of, slots_of, count_of, groups_of, IsKept, left, left_at, is_used, wakers_left, Registers}
 use Rattle.mea_meet.specs.declared.groups.GroupEntry.{GroupEntry}
 use Rattle.mea_meet.specs.declared.groups.GroupWaitEntry.{GroupWaitEntry}
 use Rattle.mea_meet.specs.declared.groups.GroupHall.TheInside.{Inside}

@@ -263,12 +263,7 @@ impl GroupHall {
     }
 
     /// `wg.into k`: the handle becomes a future.
-    pub fn into_wait(
-        &mut self,
-        number: u64,
-        k: u64,
-        ready: &mut Ready<u64>,
-    ) -> Result<Answer, Stop>
+    pub fn into_wait(&mut self, number: u64, k: u64, ready: &mut Ready<u64>) -> Result<Answer, Stop>
         requires next { self.old.next ≤ number }
         requires there { IsSome (map.get self.old.hall.handles k) }
         requires room { registered self.old.hall ≤ ready.old.registered }

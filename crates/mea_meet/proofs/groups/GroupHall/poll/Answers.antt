@@ -1,4 +1,4 @@
-use Rattle.std.proofs.Common.{rules, ℕ, ◌≡◌, ◌+◌, ◌≤◌, Some, None, length, refl, sym, subst, ap, ◌∙◌, arith}
+use Rattle.std.proofs.Common.{rules, ◌≡◌, ◌+◌, ◌≤◌, Some, None, length, refl, sym, subst, ap, ◌∙◌, arith}
 use Rattle.std.specs.Option.{option_copied_mut}
 use Rattle.mea_meet.specs.GroupHall.{wakers_left}
 use Rattle.mea_meet.specs.declared.groups.GroupEntry.{GroupEntry}
