@@ -7,7 +7,9 @@ pub unreachable-requires : goal.unreachable-requires
 unreachable-requires c = handle_found c.self.inside c.args.self.now c.self.view_is c.args.k c.requires (sym c.get.ensures.value ∙ ap option_copied c.in_default.is)
 
 pub unreachable-requires-in_default-get : goal.unreachable-requires-in_default-get
-unreachable-requires-in_default-get c = group_of_handle c.self.inside c.args.self.now c.self.view_is c.self.invariant c.args.k c.in-Some.g.now (sym c.get.ensures.value ∙ ap option_copied c.in-Some.is) (sym c.get-2.ensures.value ∙ ap option_copied c.in_default-get.is)
+unreachable-requires-in_default-get c = group_of_handle c.self.inside c.args.self.now c.self.view_is c.self.invariant c.args.k c.in-Some.g.now (sym c.get.ensures.value ∙ ap option_copied c.in-Some.is)
+    (sym c.get-2.ensures.value ∙ ap option_copied c.in_default-get.is)
 
 pub returns : goal.returns
-returns c = full c.self.inside c.args.self.now c.self.view_is c.self.invariant c.in-Some.g.now c.in-Some-get.entry.now (sym c.get-2.ensures.value ∙ ap option_copied c.in-Some-get.is) c.args.k (sym c.get.ensures.value ∙ ap option_copied c.in-Some.is)
+returns c = full c.self.inside c.args.self.now c.self.view_is c.self.invariant c.in-Some.g.now c.in-Some-get.entry.now (sym c.get-2.ensures.value ∙ ap option_copied c.in-Some-get.is) c.args.k
+    (sym c.get.ensures.value ∙ ap option_copied c.in-Some.is)
