@@ -3,6 +3,9 @@ pub mod BarrierMakes
 pub mod BarrierOutcomes
 pub mod BarrierPlays
 pub mod BarrierStores
+pub mod GroupChanges
+pub mod GroupPlays
+pub mod GroupStores
 pub mod Names
 pub mod Stores
 pub mod LatchMaps

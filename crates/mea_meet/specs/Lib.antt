@@ -2,5 +2,6 @@ pub mod Names
 pub mod Play
 pub mod BarrierHall
 pub mod LatchHall
+pub mod GroupHall
 pub mod StandsFor
 pub mod Parts

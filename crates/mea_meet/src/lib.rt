@@ -4,5 +4,7 @@
 #![tactic(auto)]
 
 mod barriers;
+mod groups;
 mod latches;
 mod moving;
+

@@ -1,0 +1,378 @@
+-- what a change of one group, of one of its handles and of one of its futures does to what is kept, and to
+-- the groups that are stood for
+use Rattle.std.proofs.Common.{◌≡◌, ℕ, ◌+◌, ◌^◌, ◌<◌, ◌≤◌, ◌==◌, Bool, true, false, cond, [], length, Option, Some, None, nat_lt, unwrap_or, refl, ap, sym, subst, ◌∙◌, arith, inl, inr, if◌then◌else◌}
+use Rattle.std.specs.Option.{option_map}
+use Rattle.std.specs.Ordering.{nat_cmp}
+use Rattle.std.specs.FinMap.{FinMap, get, insert, remove, entries}
+use Rattle.std.proofs.lemmas.Bool.{cases_Bool}
+use Rattle.std.proofs.lemmas.Bool.Decides.{nat_tests}
+use Rattle.mea_base.specs.Named.{named}
+use Rattle.mea_base.specs.Totals.{total, weight}
+use Rattle.mea_base.proofs.NamedMaps.{same_named}
+use Rattle.mea_base.proofs.Totals.{get_inserted, get_removed, total-insert, total-remove, total-zero, total-alike}
+use Rattle.mea_sets.specs.declared.place.Place.{Place}
+use Rattle.mea_sets.specs.WaitSet.{has_given}
+use Rattle.mea_meet_model.specs.Count.{Count, count_from}
+use Rattle.mea_meet_model.specs.Groups.{Groups, group_at, handles_of, waits_of, registered, tidied}
+use Rattle.mea_meet.specs.Names.{waiting_at, AreNamed, AreGiven}
+use Rattle.mea_meet.specs.GroupHall.{Store, slots_of, count_of, groups_of, IsKeptEntry, IsOwned, IsHome, IsKept, is_used, left, wakers_left}
+use Rattle.mea_meet.specs.declared.groups.GroupEntry.{GroupEntry}
+use Rattle.mea_meet.specs.declared.groups.GroupWaitEntry.{GroupWaitEntry}
+use Rattle.mea_meet.proofs.Names.{waiting-length, waiting-alike}
+use Rattle.mea_meet.proofs.Stores.{at_same, at_apart, by_name, Sets, sets_there, sets_other, total-sets, weight-within, get-seen, seen-some, seen-none, seen_put, seen_gone}
+
+-- ---- maps of which one name has changed
+pub sets_none : {X : Type 0} (m : FinMap nat_cmp X) (k : ℕ) → get m k ≡ None → Sets m m k None
+sets_none {X} m k none q = by_name {Z = get m q ≡ cond (k == q) None (get m q)} k q
+    (λ same. ap (get m) (sym same) ∙ none ∙ sym (at_same k q None (get m q) same))
+    (λ apart. sym (at_apart k q None (get m q) apart))
+
+pub sets_put : {X : Type 0} (m m' : FinMap nat_cmp X) (k : ℕ) (v : X) → Sets m m' k (Some v) → m' ≡ insert m k v
+sets_put m m' k v sets = same_named _ _ (λ q. sets q ∙ sym (get_inserted m k q v))
+
+pub sets_gone : {X : Type 0} (m m' : FinMap nat_cmp X) (k : ℕ) → Sets m m' k None → m' ≡ remove m k
+sets_gone m m' k sets = same_named _ _ (λ q. sets q ∙ sym (get_removed m k q))
+
+-- what is put and then taken away is gone
+pub remove-insert : {X : Type 0} (m : FinMap nat_cmp X) (k : ℕ) (v : X) → remove (insert m k v) k ≡ remove m k
+remove-insert {X} m k v = same_named _ _ (λ q. get_removed (insert m k v) k q ∙ ap (cond (k == q) None) (get_inserted m k q v) ∙ once (k == q) (get m q) ∙ sym (get_removed m k q))
+  where
+    once : (t : Bool) (o : Option X) → cond t None (cond t (Some v) o) ≡ cond t None o
+    once true o = refl
+    once false o = refl
+
+-- ---- the slots of the futures
+abbrev pub slot_entry : GroupWaitEntry → ℕ × Option Place
+slot_entry x = (x.group, x.wait)
+
+-- whose slot it is
+pub slot_owner : (o : Option GroupWaitEntry) (q : ℕ) (slot : Option Place) → option_map slot_entry o ≡ Some (q, slot) → (x : GroupWaitEntry) × (o ≡ Some x) × (x.group ≡ q) × (x.wait ≡ slot)
+slot_owner None q slot is = absurd (cc)
+slot_owner (Some x) q slot is = (x, refl, ap (λ (p : Option (ℕ × Option Place)). object_in x.group p) is, ap (λ (p : Option (ℕ × Option Place)). slot_in None p) is)
+  where
+    object_in : ℕ → Option (ℕ × Option Place) → ℕ
+    object_in n None = n
+    object_in n (Some p) = p.0
+
+    slot_in : Option Place → Option (ℕ × Option Place) → Option Place
+    slot_in t None = t
+    slot_in t (Some p) = p.1
+
+module _ (m m' : FinMap nat_cmp GroupWaitEntry) (f : ℕ) (o' : Option GroupWaitEntry) (sets : Sets m m' f o') where
+  pub slots_there : slots_of m' f ≡ option_map slot_entry o'
+  slots_there = ap (option_map slot_entry) (sets_there m m' f o' sets f refl)
+
+  pub slots_other : (g : ℕ) → (f ≡ g → ⊥) → slots_of m' g ≡ slots_of m g
+  slots_other g apart = ap (option_map slot_entry) (sets_other m m' f o' sets g apart)
+
+pub home_given : (st : Store) (n f g : ℕ) (x : GroupWaitEntry) (e : GroupEntry) → IsKept st n → get st.waits f ≡ Some x → x.group ≡ g → get st.groups g ≡ Some e → has_given e.core.count.waiting x.wait ≡ true
+home_given st n f g x e k is mine there =
+    let h = k.home f x is in
+    let both : Some h.entry ≡ Some e = sym h.there ∙ ap (get st.groups) mine ∙ there in
+    let same : h.entry ≡ e = cc in
+    subst (λ (d : GroupEntry). has_given d.core.count.waiting x.wait ≡ true) same h.given
+
+pub are_given : (st : Store) (n g : ℕ) (e : GroupEntry) → IsKept st n → get st.groups g ≡ Some e → AreGiven (slots_of st.waits) g e.core.count.waiting
+are_given st n g e k there f slot is =
+    let x = slot_owner (get st.waits f) g slot is in
+    ap (has_given e.core.count.waiting) (sym x.3) ∙ home_given st n f g x.0 e k x.1 x.2 there
+
+-- ---- how many handles and futures a group has
+abbrev pub of_group : ℕ → ℕ → ℕ → ℕ
+of_group g k j = cond (j == g) 1 0
+
+abbrev pub at_group : ℕ → ℕ → GroupWaitEntry → ℕ
+at_group g f x = cond (x.group == g) 1 0
+
+abbrev pub one_of : {X : Type 0} → Option X → ℕ
+one_of None = 0
+one_of (Some x) = 1
+
+pub one-least : {X : Type 0} (o : Option X) → one_of o ≤ 1
+one-least None = omega arith
+one-least (Some x) = omega arith
+
+module _ {X : Type 0} (owner : X → ℕ) where
+  weighs_here : (g k : ℕ) (o : Option X) → ((x : X) → o ≡ Some x → owner x ≡ g) → weight (λ k x. cond (owner x == g) 1 0) k o ≡ one_of o
+  weighs_here g k None mine = refl
+  weighs_here g k (Some x) mine = at_same (owner x) g 1 0 (mine x refl)
+
+  weighs_elsewhere : (g q k : ℕ) (o : Option X) → ((x : X) → o ≡ Some x → owner x ≡ g) → (g ≡ q → ⊥) → weight (λ k x. cond (owner x == q) 1 0) k o ≡ 0
+  weighs_elsewhere g q k None mine apart = refl
+  weighs_elsewhere g q k (Some x) mine apart = at_apart (owner x) q 1 0 (λ same. apart (sym (mine x refl) ∙ same))
+
+-- what a group has that may not be there
+abbrev pub handles_in : Option GroupEntry → ℕ
+handles_in None = 0
+handles_in (Some e) = e.handles
+
+abbrev pub waits_in : Option GroupEntry → ℕ
+waits_in None = 0
+waits_in (Some e) = e.waits
+
+abbrev pub wakers_in : Option GroupEntry → ℕ
+wakers_in None = 0
+wakers_in (Some e) = length e.core.count.waiting.wakers
+
+-- ---- a group that is left
+pub used_left : (e : GroupEntry) → 0 < e.handles + e.waits → left e ≡ Some e
+used_left e some = let used : nat_lt 0 (e.handles + e.waits) ≡ true = grind (arith, nat_tests, some) in ap (λ t. if t then Some e else None) used
+
+pub left_is : (e d : GroupEntry) → left e ≡ Some d → e ≡ d
+left_is e d is = by_test (is_used e) is
+  where
+    by_test : (t : Bool) → (if t then Some e else None) ≡ Some d → e ≡ d
+    by_test true h = cc
+    by_test false h = absurd (cc)
+
+-- the group g, q before, becomes d, and stays if it is used; its handle k, p before, becomes p'; and its
+-- future f, o before, becomes o'
+pub record Changes (st st' : Store) (n n' g k f : ℕ) (q : Option GroupEntry) (d : GroupEntry) (p p' : Option ℕ) (o o' : Option GroupWaitEntry) : Type 0 where
+  pub was : get st.groups g ≡ q
+  pub groups : Sets st.groups st'.groups g (left d)
+  pub handle_was : get st.handles k ≡ p
+  pub handles : Sets st.handles st'.handles k p'
+  pub wait_was : get st.waits f ≡ o
+  pub waits : Sets st.waits st'.waits f o'
+  pub rises : n < n'
+  pub low : n' ≤ 2 ^ 64
+  pub below : g < n'
+  pub handle_below : k < n'
+  pub handle_was_of : (j : ℕ) → p ≡ Some j → j ≡ g
+  pub handle_is_of : (j : ℕ) → p' ≡ Some j → j ≡ g
+  pub wait_was_of : (x : GroupWaitEntry) → o ≡ Some x → x.group ≡ g
+  pub wait_is_of : (x : GroupWaitEntry) → o' ≡ Some x → x.group ≡ g
+  pub named : AreNamed (slots_of st'.waits) n'
+  pub given : AreGiven (slots_of st'.waits) g d.core.count.waiting
+  pub quiet : d.core.wakes ≡ []
+  pub known : d.handles ≡ d.core.count.number
+  pub handles_counted : d.handles + one_of p ≡ handles_in q + one_of p'
+  pub waits_counted : d.waits + one_of o ≡ waits_in q + one_of o'
+
+-- ---- the counts of a group that may not be there
+module _ (st : Store) (n g : ℕ) (k : IsKept st n) where
+  pub handles_before : (q : Option GroupEntry) → get st.groups g ≡ q → total (of_group g) st.handles ≡ handles_in q
+  handles_before None none = total-zero (of_group g) st.handles (λ j q is. by_name q g
+      (λ same. absurd (let own = k.owned j q is in let clash : None ≡ Some own.entry = sym none ∙ ap (get st.groups) (sym same) ∙ own.there in cc))
+      (λ apart. at_apart q g 1 0 apart))
+  handles_before (Some e) there = sym (k.each g e there).handles_counted
+
+  pub waits_before : (q : Option GroupEntry) → get st.groups g ≡ q → total (at_group g) st.waits ≡ waits_in q
+  waits_before None none = total-zero (at_group g) st.waits (λ f x is. by_name x.group g
+      (λ same. absurd (let home = k.home f x is in let clash : None ≡ Some home.entry = sym none ∙ ap (get st.groups) (sym same) ∙ home.there in cc))
+      (λ apart. at_apart x.group g 1 0 apart))
+  waits_before (Some e) there = sym (k.each g e there).waits_counted
+
+  pub few_before : (q : Option GroupEntry) → get st.groups g ≡ q → waits_in q ≤ n
+  few_before None none = omega arith
+  few_before (Some e) there = (k.each g e there).few_waits
+
+-- ---- the futures of a group, as they are seen
+pub waits_seen : (st : Store) (n g : ℕ) → waits_of (groups_of st n) g ≡ total (at_group g) st.waits
+waits_seen st n g = sym (total-alike (at_group g) (of_group g) st.waits (groups_of st n).waits (λ f. at_each f (get st.waits f) ∙ sym (ap (weight (of_group g) f) (get-seen (λ g (y : GroupWaitEntry). y.group) st.waits f))))
+  where
+    at_each : (f : ℕ) (o : Option GroupWaitEntry) → weight (at_group g) f o ≡ weight (of_group g) f (option_map (λ (y : GroupWaitEntry). y.group) o)
+    at_each f None = refl
+    at_each f (Some x) = refl
+
+-- how many wakers of a group are registered, as they are seen
+pub wakers_seen : (st : Store) (n g : ℕ) (q : Option GroupEntry) → get st.groups g ≡ q → weight (λ j (c : Count). length c.waiting) g (get (groups_of st n).groups g) ≡ wakers_in q
+wakers_seen st n g None none = ap (weight (λ j (c : Count). length c.waiting) g) (seen-none (count_of st.waits n) st.groups g none)
+wakers_seen st n g (Some e) there = ap (weight (λ j (c : Count). length c.waiting) g) (seen-some (count_of st.waits n) st.groups g e there) ∙ waiting-length (slots_of st.waits) n g e.core.count.waiting
+
+module _ (st st' : Store) (n n' g k f : ℕ) (q : Option GroupEntry) (d : GroupEntry) (p p' : Option ℕ) (o o' : Option GroupWaitEntry) (kept : IsKept st n) (c : Changes st st' n n' g k f q d p p' o o') where
+  group_other : (j : ℕ) → (g ≡ j → ⊥) → get st'.groups j ≡ get st.groups j
+  group_other = sets_other st.groups st'.groups g (left d) c.groups
+
+  group_there : (j : ℕ) → g ≡ j → get st'.groups j ≡ left d
+  group_there = sets_there st.groups st'.groups g (left d) c.groups
+
+  handle_other : (j : ℕ) → (k ≡ j → ⊥) → get st'.handles j ≡ get st.handles j
+  handle_other = sets_other st.handles st'.handles k p' c.handles
+
+  handle_there : (j : ℕ) → k ≡ j → get st'.handles j ≡ p'
+  handle_there = sets_there st.handles st'.handles k p' c.handles
+
+  wait_other : (j : ℕ) → (f ≡ j → ⊥) → get st'.waits j ≡ get st.waits j
+  wait_other = sets_other st.waits st'.waits f o' c.waits
+
+  wait_there : (j : ℕ) → f ≡ j → get st'.waits j ≡ o'
+  wait_there = sets_there st.waits st'.waits f o' c.waits
+
+  -- ---- what is kept
+  handles_now : d.handles ≡ total (of_group g) st'.handles
+  handles_now =
+      let sums = total-sets st.handles st'.handles k p' c.handles (of_group g) p c.handle_was in
+      let was = weighs_here (λ j. j) g k p c.handle_was_of in
+      let is = weighs_here (λ j. j) g k p' c.handle_is_of in
+      let before = handles_before st n g kept q c.was in
+      let counts = c.handles_counted in
+      omega (arith, sums, was, is, before, counts)
+
+  waits_now : d.waits ≡ total (at_group g) st'.waits
+  waits_now =
+      let sums = total-sets st.waits st'.waits f o' c.waits (at_group g) o c.wait_was in
+      let was = weighs_here (λ (x : GroupWaitEntry). x.group) g f o c.wait_was_of in
+      let is = weighs_here (λ (x : GroupWaitEntry). x.group) g f o' c.wait_is_of in
+      let before = waits_before st n g kept q c.was in
+      let counts = c.waits_counted in
+      omega (arith, sums, was, is, before, counts)
+
+  entry_here : IsKeptEntry st' n' g d
+  entry_here = record {
+    quiet = c.quiet;
+    known = c.known;
+    handles_counted = handles_now;
+    waits_counted = waits_now;
+    few_waits = (let before = few_before st n g kept q c.was in let counts = c.waits_counted in let most = one-least o' in let later = c.rises in omega (arith, before, counts, most, later));
+    below = c.below;
+  }
+
+  entry_elsewhere : (j : ℕ) (e : GroupEntry) → (g ≡ j → ⊥) → IsKeptEntry st n j e → IsKeptEntry st' n' j e
+  entry_elsewhere j e apart old = record {
+    quiet = old.quiet;
+    known = old.known;
+    handles_counted = (let before = old.handles_counted in
+        let sums = total-sets st.handles st'.handles k p' c.handles (of_group j) p c.handle_was in
+        let was = weighs_elsewhere (λ u. u) g j k p c.handle_was_of apart in
+        let is = weighs_elsewhere (λ u. u) g j k p' c.handle_is_of apart in
+        omega (arith, before, sums, was, is));
+    waits_counted = (let before = old.waits_counted in
+        let sums = total-sets st.waits st'.waits f o' c.waits (at_group j) o c.wait_was in
+        let was = weighs_elsewhere (λ (x : GroupWaitEntry). x.group) g j f o c.wait_was_of apart in
+        let is = weighs_elsewhere (λ (x : GroupWaitEntry). x.group) g j f o' c.wait_is_of apart in
+        omega (arith, before, sums, was, is));
+    few_waits = (let before = old.few_waits in let later = c.rises in omega (arith, before, later));
+    below = (let before = old.below in let later = c.rises in omega (arith, before, later));
+  }
+
+  each_after : (j : ℕ) (e : GroupEntry) → get st'.groups j ≡ Some e → IsKeptEntry st' n' j e
+  each_after j e is = by_name g j
+      (λ same. subst (λ u. IsKeptEntry st' n' u e) same (subst (IsKeptEntry st' n' g) (left_is d e (sym (group_there j same) ∙ is)) entry_here))
+      (λ apart. entry_elsewhere j e apart (kept.each j e (sym (group_other j apart) ∙ is)))
+
+  handle_low : (j u : ℕ) → get st'.handles j ≡ Some u → j < n'
+  handle_low j u is = by_name k j
+      (λ same. subst (λ w. w < n') same c.handle_below)
+      (λ apart. let before = (kept.owned j u (sym (handle_other j apart) ∙ is)).below in let later = c.rises in omega (arith, before, later))
+
+  owned_after : (j u : ℕ) → get st'.handles j ≡ Some u → IsOwned st' n' j u
+  owned_after j u is = by_name g u
+      (λ same. let one : of_group g j u ≡ 1 = at_same u g 1 0 (sym same) in
+      let all : of_group g j u ≤ total (of_group g) st'.handles = weight-within (of_group g) st'.handles j u is in
+      let counts = handles_now in
+      record { entry = d; there = group_there u same ∙ used_left d (omega (arith, one, all, counts)); below = handle_low j u is })
+      (λ apart. let old = kept.owned j u (sym (handle_other j (λ mine. apart (sym (c.handle_is_of u (sym (handle_there j mine) ∙ is))))) ∙ is) in
+      record { entry = old.entry; there = group_other u apart ∙ old.there; below = handle_low j u is })
+
+  home_after : (j : ℕ) (x : GroupWaitEntry) → get st'.waits j ≡ Some x → IsHome st' x
+  home_after j x is = by_name g x.group
+      (λ same. let one : at_group g j x ≡ 1 = at_same x.group g 1 0 (sym same) in
+      let all : at_group g j x ≤ total (at_group g) st'.waits = weight-within (at_group g) st'.waits j x is in
+      let counts = waits_now in
+      let slot : slots_of st'.waits j ≡ Some (g, x.wait) = ap (option_map slot_entry) is ∙ (λ u. Some (sym same u, x.wait)) in
+      record { entry = d; there = group_there x.group same ∙ used_left d (omega (arith, one, all, counts)); given = c.given j x.wait slot })
+      (λ apart. let old = kept.home j x (sym (wait_other j (λ mine. apart (sym (c.wait_is_of x (sym (wait_there j mine) ∙ is))))) ∙ is) in
+      record { entry = old.entry; there = group_other x.group apart ∙ old.there; given = old.given })
+
+  pub kept_after : IsKept st' n'
+  kept_after = record { each = each_after; owned = owned_after; home = home_after; named = c.named; low = c.low }
+
+  -- ---- the groups that are stood for
+  slot_stays : (j u : ℕ) (place : Place) → (g ≡ j → ⊥) → slots_of st.waits u ≡ Some (j, Some place) → slots_of st'.waits u ≡ Some (j, Some place)
+  slot_stays j u place apart is = by_name f u
+      (λ same. let x = slot_owner (get st.waits u) j (Some place) is in absurd (apart (sym (c.wait_was_of x.0 (sym c.wait_was ∙ ap (get st.waits) same ∙ x.1)) ∙ x.2)))
+      (λ other. slots_other st.waits st'.waits f o' c.waits u other ∙ is)
+
+  slot_stood : (j u : ℕ) (place : Place) → (g ≡ j → ⊥) → slots_of st'.waits u ≡ Some (j, Some place) → slots_of st.waits u ≡ Some (j, Some place)
+  slot_stood j u place apart is = by_name f u
+      (λ same. let x = slot_owner (get st'.waits u) j (Some place) is in absurd (apart (sym (c.wait_is_of x.0 (sym (wait_there u same) ∙ x.1)) ∙ x.2)))
+      (λ other. sym (slots_other st.waits st'.waits f o' c.waits u other) ∙ is)
+
+  count_alike : (j : ℕ) (e : GroupEntry) → (g ≡ j → ⊥) → get st.groups j ≡ Some e → count_of st'.waits n' j e ≡ count_of st.waits n j e
+  count_alike j e apart is =
+      let same = waiting-alike (slots_of st.waits) (slots_of st'.waits) n n' j e.core.count.waiting kept.named c.named (λ u place. slot_stays j u place apart) (λ u place. slot_stood j u place apart) in
+      λ i. record { number = e.core.count.number; waiting = same i }
+
+  abbrev h : Groups
+  h = groups_of st n
+
+  abbrev seen_groups : FinMap nat_cmp Count
+  seen_groups = named (count_of st'.waits n') (entries st'.groups)
+
+  groups_put : left d ≡ Some d → seen_groups ≡ insert h.groups g (count_of st'.waits n' g d)
+  groups_put stays = seen_put (count_of st.waits n) (count_of st'.waits n') st.groups st'.groups g d (λ j. c.groups j ∙ ap (λ u. cond (g == j) u (get st.groups j)) stays) count_alike
+
+  groups_gone : left d ≡ None → seen_groups ≡ remove h.groups g
+  groups_gone goes = seen_gone (count_of st.waits n) (count_of st'.waits n') st.groups st'.groups g (λ j. c.groups j ∙ ap (λ u. cond (g == j) u (get st.groups j)) goes) count_alike
+
+  module _ (r : Count) (hs ws : FinMap nat_cmp ℕ) (seen : count_of st'.waits n' g d ≡ r) (handles : st'.handles ≡ hs) (waits : (groups_of st' n').waits ≡ ws) where
+    abbrev hall : Groups
+    hall = record { groups = insert h.groups g r; handles = hs; waits = ws }
+
+    -- where the group is used
+    pub hall_used : 0 < d.handles + d.waits → groups_of st' n' ≡ hall
+    hall_used some =
+        let put = groups_put (used_left d some) in
+        (λ i. record { groups = put i; handles = handles i; waits = waits i }) ∙ ap (λ u. record { groups = insert h.groups g u; handles = hs; waits = ws }) seen
+
+    tested : nat_lt 0 (handles_of hall g + waits_of hall g) ≡ is_used d
+    tested =
+        let as_many : handles_of hall g ≡ d.handles = ap (total (of_group g)) (sym handles) ∙ sym handles_now in
+        let as_many_waits : waits_of hall g ≡ d.waits = ap (total (of_group g)) (sym waits) ∙ waits_seen st' n' g ∙ sym waits_now in
+        λ i. nat_lt 0 (as_many i + as_many_waits i)
+
+    -- where it may be gone
+    pub hall_tidied : groups_of st' n' ≡ tidied hall g
+    hall_tidied = elim (cases_Bool (is_used d)) [
+      | inl used ↦
+          (let put = groups_put (ap (λ t. if t then Some d else None) used) in
+          (λ i. record { groups = put i; handles = handles i; waits = waits i }) ∙ ap (λ u. record { groups = insert h.groups g u; handles = hs; waits = ws }) seen
+          ∙ sym (ap (λ t. if t then hall else record hall { groups = remove hall.groups g }) (tested ∙ used)))
+      | inr unused ↦
+          (let gone = groups_gone (ap (λ t. if t then Some d else None) unused) in
+          (λ i. record { groups = gone i; handles = handles i; waits = waits i }) ∙ ap (λ u. record { groups = u; handles = hs; waits = ws }) (sym (remove-insert h.groups g r))
+          ∙ sym (ap (λ t. if t then hall else record hall { groups = remove hall.groups g }) (tested ∙ unused)))
+    ]
+
+  -- the wakers that are registered, by those of the group
+  pub registered_after : registered (groups_of st' n') + wakers_in q ≡ registered h + wakers_left d
+  registered_after = elim (cases_Bool (is_used d)) [
+    | inl used ↦
+        (let sums = total-insert (λ j (r : Count). length r.waiting) h.groups g (count_of st'.waits n' g d) in
+        let is : length (waiting_at (slots_of st'.waits) n' g d.core.count.waiting) ≡ length d.core.count.waiting.wakers = waiting-length (slots_of st'.waits) n' g d.core.count.waiting in
+        let now : registered (groups_of st' n') ≡ total (λ j (r : Count). length r.waiting) (insert h.groups g (count_of st'.waits n' g d)) = ap (total (λ j (r : Count). length r.waiting)) (groups_put (ap (λ t. if t then Some d else None) used)) in
+        let stays : wakers_left d ≡ length d.core.count.waiting.wakers = ap (λ t. if t then length d.core.count.waiting.wakers else 0) used in
+        omega (arith, sums, wakers_seen st n g q c.was, is, now, stays))
+    | inr unused ↦
+        (let sums = total-remove (λ j (r : Count). length r.waiting) h.groups g in
+        let now : registered (groups_of st' n') ≡ total (λ j (r : Count). length r.waiting) (remove h.groups g) = ap (total (λ j (r : Count). length r.waiting)) (groups_gone (ap (λ t. if t then Some d else None) unused)) in
+        let goes : wakers_left d ≡ 0 = ap (λ t. if t then length d.core.count.waiting.wakers else 0) unused in
+        omega (arith, sums, wakers_seen st n g q c.was, now, goes))
+  ]
+
+-- a group as it is seen
+pub group_seen : (st : Store) (n g : ℕ) (e : GroupEntry) → get st.groups g ≡ Some e → group_at (groups_of st n) g ≡ count_of st.waits n g e
+group_seen st n g e there = ap (λ o. unwrap_or o (count_from 0)) (seen-some (count_of st.waits n) st.groups g e there)
+
+-- its wakers are registered in the hall
+pub wakers_within : (st : Store) (n g : ℕ) (e : GroupEntry) → get st.groups g ≡ Some e → length e.core.count.waiting.wakers ≤ registered (groups_of st n)
+wakers_within st n g e there =
+    let mine : length (waiting_at (slots_of st.waits) n g e.core.count.waiting) ≤ registered (groups_of st n) = weight-within (λ j (r : Count). length r.waiting) (groups_of st n).groups g (count_of st.waits n g e) (seen-some (count_of st.waits n) st.groups g e there) in
+    omega (arith, mine, waiting-length (slots_of st.waits) n g e.core.count.waiting)
+
+-- a future counts at its group
+pub waits_within : (st : Store) (n f g : ℕ) (x : GroupWaitEntry) (e : GroupEntry) → IsKept st n → get st.waits f ≡ Some x → x.group ≡ g → get st.groups g ≡ Some e → 1 ≤ e.waits
+waits_within st n f g x e k is mine there =
+    let one : at_group g f x ≡ 1 = at_same x.group g 1 0 mine in
+    let all : at_group g f x ≤ total (at_group g) st.waits = weight-within (at_group g) st.waits f x is in
+    let counts = (k.each g e there).waits_counted in
+    omega (arith, one, all, counts)
+
+-- a handle counts at its group
+pub handles_within : (st : Store) (n k g : ℕ) (e : GroupEntry) → IsKept st n → get st.handles k ≡ Some g → get st.groups g ≡ Some e → 1 ≤ e.handles
+handles_within st n k g e kept is there =
+    let one : of_group g k g ≡ 1 = at_same g g 1 0 refl in
+    let all : of_group g k g ≤ total (of_group g) st.handles = weight-within (of_group g) st.handles k g is in
+    let counts = (kept.each g e there).handles_counted in
+    omega (arith, one, all, counts)
