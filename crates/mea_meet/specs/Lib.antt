@@ -1,4 +1,4 @@
 pub mod Names
 pub mod Play
-pub mod BarrierHall
+pub mod ShutdownHall
 pub mod StandsFor

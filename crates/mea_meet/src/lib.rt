@@ -3,5 +3,5 @@
 //! `mea_meet_core` by their contracts alone, and gives the names of both again.
 #![tactic(auto)]
 
-mod barriers;
 mod moving;
+mod shutdowns;
