@@ -1,3 +1,4 @@
 pub mod Names
 pub mod ShutdownChanges
 pub mod ShutdownMaps
+pub mod ShutdownSeen
