@@ -1,4 +1,9 @@
 pub mod Names
 pub mod ShutdownChanges
+pub mod ShutdownCounts
 pub mod ShutdownMaps
+pub mod ShutdownPlays
+pub mod ShutdownReceivers
 pub mod ShutdownSeen
+pub mod ShutdownStill
+pub mod ShutdownTidies

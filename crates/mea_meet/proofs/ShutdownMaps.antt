@@ -36,6 +36,10 @@ kept-puts old new k o h q =
     ∙ ap (λ p. cond (k == q) p (option_map (λ x. x) (at old q))) (option_map-same o)
     ∙ ap (cond (k == q) o) (sym (get-named (λ k x. x) old q))
 
+-- the same where what was put is this
+pub kept-puts-as : {X : Type 0} (old new : List (ℕ × X)) (k : ℕ) (v w : X) → ChangesAt old new k (Some v) → v ≡ w → Puts (named (λ k x. x) old) (named (λ k x. x) new) k (Some w)
+kept-puts-as old new k v w h is q = kept-puts old new k (Some v) h q ∙ ap (λ x. cond (k == q) (Some x) (get (named (λ k x. x) old) q)) is
+
 -- what is seen of a map
 pub get-seen : {X Y : Type 0} (f : ℕ → X → Y) (m : FinMap nat_cmp X) (q : ℕ) → get (named f (entries m)) q ≡ option_map (f q) (get m q)
 get-seen f m q = get-named f (entries m) q ∙ ap (option_map (f q)) (sym (find-at (entries m) q) ∙ sym (get-entries m q))

@@ -2,7 +2,7 @@
 use Rattle.std.proofs.Common.{◌≡◌, ℕ, ◌+◌, ◌<◌, ◌≤◌, ◌==◌, ◌&&◌, not, Bool, true, false, cond, List, [], refl, ap, sym, subst, ◌∙◌, arith, Option, Some, None, is_some, nat_lt, unwrap_or}
 use Rattle.std.specs.Option.{option_map, IsSome, IfSome}
 use Rattle.std.specs.Ordering.{nat_cmp}
-use Rattle.std.specs.FinMap.{get, entries, empty, get-empty}
+use Rattle.std.specs.FinMap.{FinMap, get, entries, empty, get-empty}
 use Rattle.mea_base.specs.Named.{named, at}
 use Rattle.mea_base.specs.Totals.{total}
 use Rattle.mea_base.proofs.NamedMaps.{same_named, get-named}
@@ -17,7 +17,7 @@ use Rattle.mea_meet.specs.declared.shutdowns.ShutdownHall.TheInside.{Inside}
 use Rattle.mea_meet.specs.StandsFor.{StandsForShutdown, StandsForCount}
 use Rattle.mea_meet.specs.ShutdownHall.{Store, store_of, End, slot_in, OfSignal, OfReceivers, slots_of, count_of, shutdown_of, receiver_of, wait_of, hall_of, senders_in, receivers_in, waits_in, borrowers_in, awaits_of, is_full, IsKept}
 use Rattle.mea_meet.proofs.Names.{waiting-wakers}
-use Rattle.mea_meet.proofs.ShutdownMaps.{get-seen, total-named, kept-at}
+use Rattle.mea_meet.proofs.ShutdownMaps.{Puts, put_here, get-seen, total-named, kept-at}
 
 module _ (st : Store) (n : ℕ) where
   pub shutdown-seen : (q : ℕ) → get (hall_of st n).shutdowns q ≡ option_map (shutdown_of st.waits n q) (get st.shutdowns q)
@@ -70,6 +70,9 @@ pub asked : {X : Type 0} (o : Option X) → is_some o ≡ true → o ≡ None �
 asked None there none = absurd (cc)
 asked (Some x) there none = absurd (cc)
 
+pub if_some : {X : Type 0} (P : X → Type 0) (o : Option X) (x : X) → o ≡ Some x → P x → IfSome o P
+if_some P o x is p = subst (λ q. IfSome q P) (sym is) p
+
 -- nothing is kept, and that stands for no shutdown
 none : {X : Type 0} (q : ℕ) → get (named (λ k (x : X). x) []) q ≡ None
 none q = get-named (λ k x. x) [] q
@@ -115,3 +118,7 @@ module _ (a : Inside) where
 
   pub shutdown-kept : (q : ℕ) → get (kept_in a).shutdowns q ≡ at a.shutdowns.entries q
   shutdown-kept q = kept-at a.shutdowns.entries q
+
+-- a shutdown that was put is there
+pub still-there : (ws : FinMap nat_cmp ShutdownWaitEntry) (ss ss' : FinMap nat_cmp ShutdownEntry) (n s : ℕ) (e : ShutdownEntry) → Puts ss ss' s (Some e) → IsSome (get (named (shutdown_of ws n) (entries ss')) s)
+still-there ws ss ss' n s e puts = ap is_some (get-seen (shutdown_of ws n) ss' s ∙ ap (option_map (shutdown_of ws n s)) (put_here ss ss' s (Some e) puts))

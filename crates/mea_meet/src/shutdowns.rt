@@ -117,6 +117,13 @@ impl ShutdownEntry {
         }
     }
 
+    /// Whether the signal is set.
+    pub fn is_set(&self) -> bool
+        ensures { result ≡ (self.now.core.signal.number == 0) }
+    {
+        self.core.is_shutdown_now()
+    }
+
     /// How many wakers are registered on what the wait waits for.
     pub fn registered(&self, wait: &ShutdownWait) -> usize
         ensures { result ≡ length (set_at self.now wait.now).wakers }
@@ -475,8 +482,9 @@ impl ShutdownHall {
         let Some(entry) = self.shutdowns.get(&receiver.shutdown) else {
             unreachable!()
         };
+        let answer = yes_if(entry.is_set());
         self.next = number as u128 + 1;
-        yes_if(entry.core.is_shutdown_now())
+        answer
     }
 
     /// `sd.watch k`.
