@@ -7,3 +7,4 @@ pub mod ShutdownReceivers
 pub mod ShutdownSeen
 pub mod ShutdownStill
 pub mod ShutdownTidies
+pub mod ShutdownWaits

@@ -70,6 +70,10 @@ pub asked : {X : Type 0} (o : Option X) → is_some o ≡ true → o ≡ None �
 asked None there none = absurd (cc)
 asked (Some x) there none = absurd (cc)
 
+pub some_found : {X : Type 0} (o : Option X) → IsSome o → (x : X) × (o ≡ Some x)
+some_found None there = absurd (cc)
+some_found (Some x) there = (x, refl)
+
 pub if_some : {X : Type 0} (P : X → Type 0) (o : Option X) (x : X) → o ≡ Some x → P x → IfSome o P
 if_some P o x is p = subst (λ q. IfSome q P) (sym is) p
 

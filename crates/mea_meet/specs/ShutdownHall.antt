@@ -4,7 +4,7 @@ use Rattle.std.specs.Option.{option_map}
 use Rattle.std.specs.BTreeMap.{is_at}
 use Rattle.std.specs.Ordering.{nat_cmp}
 use Rattle.std.specs.FinMap.{FinMap, get, insert, remove, entries}
-use Rattle.mea_base.specs.Named.{named}
+use Rattle.mea_base.specs.Named.{named, at}
 use Rattle.mea_base.specs.Totals.{total}
 use Rattle.mea_sets.specs.declared.place.Place.{Place}
 use Rattle.mea_sets.specs.WaitSet.{Registered, with_waker, slot_after}
@@ -201,7 +201,7 @@ without_receiver h k x =
 abbrev pub woken_at_end : Shutdowns → Receiver → List ℕ
 woken_at_end h x = if x.watch then [] else woken_by (shutdown_at h x.shutdown).receivers 1
 
--- what stands at q, where one future less borrows
-abbrev pub given_back : Option ℕ → ℕ → Option ReceiverEntry → Option ReceiverEntry
-given_back None q o = o
-given_back (Some k) q o = cond (is_at (nat_cmp k) q) (option_map (λ (x : ReceiverEntry). record x { plain = x.plain - 1 }) o) o
+-- one future less borrows what it borrowed, if it did
+abbrev pub GivesBack : List (ℕ × ReceiverEntry) → List (ℕ × ReceiverEntry) → Option ℕ → Type 0
+GivesBack old new None = (q : ℕ) → at new q ≡ at old q
+GivesBack old new (Some k) = (q : ℕ) → at new q ≡ cond (is_at (nat_cmp k) q) (option_map (λ (x : ReceiverEntry). record x { plain = x.plain - 1 }) (at old k)) (at old q)

@@ -1,7 +1,7 @@
 ghost use Rattle.std.specs.Prelude.{ℕ, ◌≡◌, ◌≢◌, ◌+◌, ◌-◌, ◌≤◌, ◌<◌, ◌^◌, ◌++◌, ◌==◌, cond, length, not, true, false, [], Some, None, OnErr, OnOk, IfOk, IfErr, IfSome, IsSome, is_some, nat_lt};
 ghost use Rattle.std.specs.FinMap as map;
 ghost use Rattle.mea_base.specs.Named.{at};
-ghost use Rattle.mea_meet.specs.ShutdownHall.{given_back};
+ghost use Rattle.mea_meet.specs.ShutdownHall.{GivesBack};
 ghost use Rattle.mea_base.specs.Family.{quietly};
 ghost use Rattle.mea_sets.specs.WaitSet.{has_given};
 ghost use Rattle.mea_sets.specs.Countdown.{decreased, woken_by};
@@ -81,7 +81,7 @@ fn yes_if(holds: bool) -> Answer
 // A receiver or watch is borrowed by one future less.
 fn give_back(receivers: &mut BTreeMap<u64, ReceiverEntry>, borrowed: Option<u64>)
     requires { IfSome borrowed (λ k. IfSome (at receivers.old.entries k) (λ x. 1 ≤ x.plain)) }
-    ensures { (q : ℕ) → at receivers.new.entries q ≡ given_back borrowed q (at receivers.old.entries q) }
+    ensures { GivesBack receivers.old.entries receivers.new.entries borrowed }
 {
     if let Some(k) = borrowed {
         if let Some(receiver) = receivers.get_mut(&k) {
