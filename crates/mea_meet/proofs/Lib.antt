@@ -1,8 +1,10 @@
 pub mod Names
 pub mod ShutdownChanges
 pub mod ShutdownCounts
+pub mod ShutdownEnds
 pub mod ShutdownMaps
 pub mod ShutdownPlays
+pub mod ShutdownPolls
 pub mod ShutdownReceivers
 pub mod ShutdownSeen
 pub mod ShutdownStill
