@@ -53,7 +53,7 @@ at_home OfSignal (waits.Receivers slot) r p t e = absurd (cc)
 at_home OfReceivers (waits.Signal slot borrowed) r p t e = absurd (cc)
 at_home OfReceivers (waits.Receivers slot) r p t e = sym (ap (object_in p) e)
 
-slot_home : (end : End) (o : Option ShutdownWaitEntry) (s p : ℕ) (t : Option Place) → Belongs (λ x. x.shutdown) s o → slot_in end o ≡ Some (p, t) → p ≡ s
+pub slot_home : (end : End) (o : Option ShutdownWaitEntry) (s p : ℕ) (t : Option Place) → Belongs (λ x. x.shutdown) s o → slot_in end o ≡ Some (p, t) → p ≡ s
 slot_home end None s p t mine e = absurd (cc)
 slot_home end (Some x) s p t mine e = at_home end x.wait x.shutdown p t e ∙ mine x refl
 

@@ -92,6 +92,14 @@ puts_same m k o there q = by_test (k == q) refl
     by_test true e = ap (get m) (sym (eqb-true k q e)) ∙ there
     by_test false e = refl
 
+-- a name that was put and taken away again
+pub put_undone : {X : Type 0} (m n p : FinMap nat_cmp X) (k : ℕ) (v : X) → get m k ≡ None → Puts m n k (Some v) → Puts n p k None → p ≡ m
+put_undone m n p k v none puts gone = is_same m p k None none (λ q. gone q ∙ ap (cond (k == q) None) (puts q) ∙ by_test q (k == q))
+  where
+    by_test : (q : ℕ) (t : Bool) → cond t None (cond t (Some v) (get m q)) ≡ cond t None (get m q)
+    by_test q true = refl
+    by_test q false = refl
+
 -- a sum over what is seen
 pub total-named : {X Y : Type 0} (g : ℕ → X → Y) (w : ℕ → Y → ℕ) (m : FinMap nat_cmp X) → total w (named g (entries m)) ≡ total (λ k x. w k (g k x)) m
 total-named {X} {Y} g w m = total-alike w (λ k x. w k (g k x)) (named g (entries m)) m (λ k. ap (weight w k) (get-seen g m k) ∙ seen (get m k) k)
