@@ -2,6 +2,7 @@ pub mod Names
 pub mod ShutdownChanges
 pub mod ShutdownCounts
 pub mod ShutdownEnds
+pub mod ShutdownGone
 pub mod ShutdownMakes
 pub mod ShutdownMaps
 pub mod ShutdownPlays

@@ -422,7 +422,9 @@ impl ShutdownHall {
         let Some(receiver) = self.receivers.get(&k) else {
             unreachable!()
         };
-        self.add_receiver(number, receiver.shutdown, receiver.watch)
+        let s = receiver.shutdown;
+        let watch = receiver.watch;
+        self.add_receiver(number, s, watch)
     }
 
     // One receiver or watch more of a shutdown that has a receiver or a watch of this kind.
@@ -498,7 +500,8 @@ impl ShutdownHall {
         let Some(receiver) = self.receivers.get(&k) else {
             unreachable!()
         };
-        self.add_receiver(number, receiver.shutdown, true)
+        let s = receiver.shutdown;
+        self.add_receiver(number, s, true)
     }
 
     /// `sd.is k`, which is plain, and `sd.iso k`.
