@@ -1,8 +1,9 @@
 -- what the events do that make or end a receiver or a watch
-use Rattle.std.proofs.Common.{◌≡◌, ◌⊎◌, inl, inr, ℕ, ◌+◌, ◌-◌, ◌<◌, ◌≤◌, ◌^◌, ◌==◌, ◌++◌, Bool, true, false, cond, List, [], length, refl, ap, sym, subst, ◌∙◌, arith, Option, Some, None, is_some}
+use Rattle.std.proofs.Common.{◌≡◌, ◌⊎◌, inl, inr, ℕ, ◌+◌, ◌-◌, ◌<◌, ◌≤◌, ◌^◌, ◌==◌, ◌++◌, ◌&&◌, not, Bool, true, false, cond, List, [], length, refl, ap, sym, subst, ◌∙◌, arith, Option, Some, None, is_some}
 use Rattle.std.specs.Option.{option_map, IsSome}
 use Rattle.std.specs.Ordering.{nat_cmp}
 use Rattle.std.specs.FinMap.{FinMap, get, insert, remove}
+use Rattle.std.proofs.lemmas.Bool.{eq-eqb}
 use Rattle.mea_base.specs.Totals.{total, weight}
 use Rattle.mea_sets.specs.Countdown.{decreased, woken_by}
 use Rattle.mea_meet_core.specs.Count.{increased}
@@ -12,10 +13,10 @@ use Rattle.mea_meet.specs.Names.{AreNamed, AreGiven}
 use Rattle.mea_meet.specs.declared.shutdowns.ShutdownEntry.{ShutdownEntry}
 use Rattle.mea_meet.specs.declared.shutdowns.ReceiverEntry.{ReceiverEntry}
 use Rattle.mea_meet.specs.declared.shutdowns.ShutdownWaitEntry.{ShutdownWaitEntry}
-use Rattle.mea_meet.specs.ShutdownHall.{Store, End, OfSignal, OfReceivers, count_at, slots_of, count_of, shutdown_of, receiver_of, hall_of, counting, borrowers_in, without_receiver, woken_at_end, IsKeptEntry, IsKept}
+use Rattle.mea_meet.specs.ShutdownHall.{Store, End, OfSignal, OfReceivers, count_at, slots_of, count_of, shutdown_of, receiver_of, hall_of, counting, borrowers_in, without_receiver, woken_at_end, is_full, IsKeptEntry, IsKept}
 use Rattle.mea_meet.proofs.ShutdownMaps.{Puts, Belongs, puts_same, puts_seen, is_same, is_insert, is_remove}
 use Rattle.mea_meet.proofs.ShutdownChanges.{Changes, wakers_at}
-use Rattle.mea_meet.proofs.ShutdownSeen.{shutdown-at}
+use Rattle.mea_meet.proofs.ShutdownSeen.{shutdown-at, shutdown-there, receiver-seen, some_found}
 use Rattle.mea_meet.proofs.ShutdownStill.{no-sender, no-receiver, no-wait, belongs-none, belongs-some, own, inside, unborrowed, total-member, entry_after}
 use Rattle.mea_meet.proofs.ShutdownCounts.{decreased-seen, woken-seen, given-decreased, woken-all}
 use Rattle.mea_meet.proofs.ShutdownPlays.{Goes, Wakes, seen_before, kept_all, given, shutdowns_put, waits_same, counts_after}
@@ -231,3 +232,24 @@ module _ (st : Store) (ss' : FinMap nat_cmp ShutdownEntry) (rs' : FinMap nat_cmp
       by_watch : (w : Bool) → woken_at_end h_before (record { shutdown = s; watch = w }) ≡ cond w [] (woken_by e.core.receivers 1)
       by_watch true = refl
       by_watch false = ap (λ (r : Shutdown). model.woken_by r.receivers 1) (shutdown-at st next s e there) ∙ woken-seen (slots_of OfReceivers st.waits) next s e.core.receivers
+
+-- ---- a receiver or watch that is copied
+module _ (st : Store) (next b : ℕ) (x : ReceiverEntry) (k : IsKept st next) (receiver : get st.receivers b ≡ Some x) where
+  -- its shutdown is there
+  pub copy_there : IsSome (get (hall_of st next).shutdowns x.shutdown)
+  copy_there = shutdown-there st next x.shutdown ∙ (k.receiver b x receiver).there
+
+  -- a receiver counts
+  pub copy_lives : x.watch ≡ false → 0 < (shutdown_at (hall_of st next) x.shutdown).receivers.number
+  copy_lives plain =
+      let found = some_found (get st.shutdowns x.shutdown) (k.receiver b x receiver).there in
+      let same : (shutdown_at (hall_of st next) x.shutdown).receivers.number ≡ found.0.core.receivers.number = ap (λ (r : Shutdown). r.receivers.number) (shutdown-at st next x.shutdown found.0 found.1) in
+      let lives = receiver_lives st next 0 b x.shutdown found.0 x k found.1 receiver refl plain in
+      omega (arith, same, lives)
+
+  -- where it is not full, one more fits
+  pub copy_fits : is_full (hall_of st next) (get (hall_of st next).receivers b) ≡ false → x.watch ≡ false → (shutdown_at (hall_of st next) x.shutdown).receivers.number ≡ 4294967295 → ⊥
+  copy_fits fits plain full =
+      let seen : is_full (hall_of st next) (get (hall_of st next).receivers b) ≡ (not x.watch && (shutdown_at (hall_of st next) x.shutdown).receivers.number == 4294967295) = ap (is_full (hall_of st next)) (receiver-seen st next b ∙ ap (option_map receiver_of) receiver) in
+      let clash : false ≡ true = sym fits ∙ seen ∙ ap (λ t. not t && (shutdown_at (hall_of st next) x.shutdown).receivers.number == 4294967295) plain ∙ eq-eqb (shutdown_at (hall_of st next) x.shutdown).receivers.number 4294967295 full in
+      cc
