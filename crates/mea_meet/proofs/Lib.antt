@@ -12,3 +12,16 @@ pub mod LatchMaps
 pub mod LatchStore
 pub mod LatchPlays
 pub mod LatchStanding
+pub mod ShutdownChanges
+pub mod ShutdownCounts
+pub mod ShutdownEnds
+pub mod ShutdownGone
+pub mod ShutdownMakes
+pub mod ShutdownMaps
+pub mod ShutdownPlays
+pub mod ShutdownPolls
+pub mod ShutdownReceivers
+pub mod ShutdownSeen
+pub mod ShutdownStill
+pub mod ShutdownTidies
+pub mod ShutdownWaits

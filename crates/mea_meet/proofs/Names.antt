@@ -1,11 +1,11 @@
 -- whose the registered wakers are, after a change
-use Rattle.std.proofs.Common.{◌≡◌, ℕ, zero, suc, ◌+◌, ◌<◌, ◌≤◌, ◌==◌, ◌&&◌, ◌||◌, Bool, true, false, List, [], ◌∷◌, ◌++◌, length, Option, Some, None, IsSome, refl, ap, sym, subst, ◌∙◌, arith, nat_lt, if◌then◌else◌, slice_set}
+use Rattle.std.proofs.Common.{◌≡◌, ℕ, zero, suc, ◌+◌, ◌<◌, ◌≤◌, ◌==◌, ◌&&◌, ◌||◌, Bool, true, false, List, [], ◌∷◌, ◌++◌, length, Option, Some, None, refl, ap, sym, subst, ◌∙◌, arith, nat_lt, if◌then◌else◌, slice_set}
 use Rattle.std.proofs.lemmas.Bool.{eqb-true, eqb-false, eq-eqb, ne_eqb}
 use Rattle.std.proofs.lemmas.Bool.Decides.{nat_tests}
 use Rattle.std.proofs.lemmas.List.{length-append, length-set}
 use Rattle.mea_sets.specs.declared.place.Place.{Place}
 use Rattle.mea_sets.specs.WaitSet.{Registered, is_registered, has_given, fresh_place, with_waker, slot_after, drained, index_of}
-use Rattle.mea_meet_model.specs.Waiting.{Whose, Of, Ended, is_of, waker_for, registering, ended_if, ending, wakers}
+use Rattle.mea_meet_model.specs.Waiting.{Of, Ended, is_of, registering, ended_if, ending, wakers}
 use Rattle.mea_meet.specs.Names.{Slots, holds, whose_at, named_from, waiting_at, AreNamed, AreGiven}
 
 -- ---- tests on booleans

@@ -1,7 +1,6 @@
 -- the cores that a hall lends, and the records that they stand for: the same numbers, and the same wakers in
 -- the same order
 use Rattle.std.specs.Prelude.{ℕ, ◌≡◌}
-use Rattle.mea_sets.specs.WaitSet.{Registered}
 use Rattle.mea_sets.specs.Countdown as cores
 use Rattle.mea_meet_core.specs.Barrier as cores_of_barriers
 use Rattle.mea_meet_core.specs.Shutdown as cores_of_shutdowns

@@ -5,6 +5,18 @@
 
 mod barriers;
 mod groups;
+mod hall;
 mod latches;
 mod moving;
+mod parts;
+mod shutdowns;
 
+pub use hall::MeetHall;
+pub use mea_meet_core::{
+    BarrierCore, BarrierFault, BarrierWait, BarrierWaitResult, GroupCore, GroupWait, LatchCore,
+    LatchWait, ShutdownCore,
+};
+pub use mea_meet_model::MeetEvent;
+
+#[cfg(test)]
+mod tests;

@@ -1,0 +1,267 @@
+-- what a change of one shutdown, with one sender, one receiver or watch and one future of it, does to what is
+-- kept, and to the shutdowns that it stands for
+use Rattle.std.proofs.Common.{◌≡◌, ◌⊎◌, inl, inr, ℕ, ◌+◌, ◌<◌, ◌≤◌, ◌^◌, ◌==◌, Bool, true, false, cond, length, refl, ap, sym, subst, ◌∙◌, arith, Option, Some, None, is_some}
+use Rattle.std.specs.Option.{option_map, IsSome}
+use Rattle.std.specs.FinMap.{get}
+use Rattle.std.proofs.lemmas.Bool.{eqb-true, eqb-false}
+use Rattle.mea_base.specs.Totals.{total, weight}
+use Rattle.mea_base.proofs.Totals.{total-same}
+use Rattle.mea_sets.specs.declared.place.Place.{Place}
+use Rattle.mea_sets.specs.WaitSet.{Registered, has_given}
+use Rattle.mea_meet_model.specs.Shutdowns.{Shutdown, borrows, registered}
+use Rattle.mea_meet.specs.Names.{waiting_at, AreNamed, AreGiven}
+use Rattle.mea_meet.specs.declared.shutdowns.ShutdownEntry.{ShutdownEntry}
+use Rattle.mea_meet.specs.declared.shutdowns.ReceiverEntry.{ReceiverEntry}
+use Rattle.mea_meet.specs.declared.shutdowns.ShutdownWaitEntry.{ShutdownWaitEntry}
+use Rattle.mea_meet.specs.declared.shutdowns.ShutdownWait.{ShutdownWait as Wait}
+use Rattle.mea_meet.specs.declared.shutdowns.ShutdownWait.TheVariants as waits
+use Rattle.mea_meet.specs.ShutdownHall.{Store, End, OfSignal, OfReceivers, awaits_of, slot_at, slot_in, slots_of, shutdown_of, receiver_of, wait_of, hall_of, borrowers_in, is_of, IsKeptEntry, IsKeptSender, IsKeptReceiver, IsKeptWait, IsKept}
+use Rattle.mea_meet.proofs.Names.{waiting-length, waiting-alike, named-ends, named-new}
+use Rattle.mea_meet.proofs.ShutdownMaps.{Puts, Belongs, get-seen, put_here, put_other, total_puts, by_put, puts_seen, total-named, total_elsewhere}
+
+-- s becomes e2; a sender, a receiver or watch and a future of it are put, or are gone
+pub record Changes (st st' : Store) (s a b f : ℕ) (e2 : ShutdownEntry) (oa : Option ℕ) (ob : Option ReceiverEntry) (ow : Option ShutdownWaitEntry) : Type 0 where
+  pub shutdowns : Puts st.shutdowns st'.shutdowns s (Some e2)
+  pub senders : Puts st.senders st'.senders a oa
+  pub receivers : Puts st.receivers st'.receivers b ob
+  pub waits : Puts st.waits st'.waits f ow
+  pub sender_was : Belongs {X = ℕ} (λ p. p) s (get st.senders a)
+  pub sender_is : Belongs {X = ℕ} (λ p. p) s oa
+  pub receiver_was : Belongs {X = ReceiverEntry} (λ x. x.shutdown) s (get st.receivers b)
+  pub receiver_is : Belongs {X = ReceiverEntry} (λ x. x.shutdown) s ob
+  pub wait_was : Belongs {X = ShutdownWaitEntry} (λ x. x.shutdown) s (get st.waits f)
+  pub wait_is : Belongs {X = ShutdownWaitEntry} (λ x. x.shutdown) s ow
+
+-- ---- whose the slots are
+-- the parts of a slot, and what stands there
+abbrev object_in : ℕ → Option (ℕ × Option Place) → ℕ
+object_in p None = p
+object_in p (Some x) = x.0
+
+abbrev place_in : Option (ℕ × Option Place) → Option Place
+place_in None = None
+place_in (Some x) = x.1
+
+abbrev entry_in : ShutdownEntry → Option ShutdownEntry → ShutdownEntry
+entry_in e None = e
+entry_in e (Some x) = x
+
+at_home : (end : End) (w : Wait) (r p : ℕ) (t : Option Place) → slot_at end w r ≡ Some (p, t) → p ≡ r
+at_home OfSignal (waits.Signal slot borrowed) r p t e = sym (ap (object_in p) e)
+at_home OfSignal (waits.Receivers slot) r p t e = absurd (cc)
+at_home OfReceivers (waits.Signal slot borrowed) r p t e = absurd (cc)
+at_home OfReceivers (waits.Receivers slot) r p t e = sym (ap (object_in p) e)
+
+pub slot_home : (end : End) (o : Option ShutdownWaitEntry) (s p : ℕ) (t : Option Place) → Belongs (λ x. x.shutdown) s o → slot_in end o ≡ Some (p, t) → p ≡ s
+slot_home end None s p t mine e = absurd (cc)
+slot_home end (Some x) s p t mine e = at_home end x.wait x.shutdown p t e ∙ mine x refl
+
+no_slot : (p : ℕ) (place : Place) → ◌≡◌ {A = Option (ℕ × Option Place)} None (Some (p, Some place)) → ⊥
+no_slot p place e = absurd (cc)
+
+no_place : (place : Place) → ◌≡◌ {A = Option Place} None (Some place) → ⊥
+no_place place e = absurd (cc)
+
+-- no number is in the slot
+abbrev pub Unplaced : End → Option ShutdownWaitEntry → Type 0
+Unplaced end o = (slot_in end o ≡ None) ⊎ ((r : ℕ) × (slot_in end o ≡ Some (r, None)))
+
+-- how many wakers are registered on a shutdown
+abbrev pub wakers_at : ShutdownEntry → ℕ
+wakers_at e = length e.core.signal.waiting.wakers + length e.core.receivers.waiting.wakers
+
+pub registered-seen : (st : Store) (n : ℕ) → registered (hall_of st n) ≡ total (λ s (e : ShutdownEntry). wakers_at e) st.shutdowns
+registered-seen st n =
+    total-named (shutdown_of st.waits n) (λ s (r : Shutdown). length r.signal.waiting + length r.receivers.waiting) st.shutdowns
+    ∙ total-same _ _ st.shutdowns (λ s e is. (λ j. waiting-length (slots_of OfSignal st.waits) n s e.core.signal.waiting j + waiting-length (slots_of OfReceivers st.waits) n s e.core.receivers.waiting j))
+
+module _ (st st' : Store) (next next' s a b f : ℕ) (e2 : ShutdownEntry) (oa : Option ℕ) (ob : Option ReceiverEntry) (ow : Option ShutdownWaitEntry) (k : IsKept st next) (c : Changes st st' s a b f e2 oa ob ow) (later : next ≤ next') where
+  there_still : (q : ℕ) → IsSome (get st.shutdowns q) → IsSome (get st'.shutdowns q)
+  there_still q there = ap is_some (c.shutdowns q) ∙ by_test (s == q)
+    where
+      by_test : (t : Bool) → is_some (cond t (Some e2) (get st.shutdowns q)) ≡ true
+      by_test true = refl
+      by_test false = there
+
+  there_now : (q : ℕ) → q ≡ s → IsSome (get st'.shutdowns q)
+  there_now q is = ap (λ r. is_some (get st'.shutdowns r)) is ∙ ap is_some (put_here st.shutdowns st'.shutdowns s (Some e2) c.shutdowns)
+
+  -- ---- the slots
+  pub slot_now : (end : End) → slots_of end st'.waits f ≡ slot_in end ow
+  slot_now end = ap (slot_in end) (put_here st.waits st'.waits f ow c.waits)
+
+  pub slot_other : (end : End) (g : ℕ) → (f ≡ g → ⊥) → slots_of end st'.waits g ≡ slots_of end st.waits g
+  slot_other end g apart = ap (slot_in end) (put_other st.waits st'.waits f ow c.waits g apart)
+
+  -- at other shutdowns they stay
+  slot_back : (end : End) (q : ℕ) → (s ≡ q → ⊥) → (g : ℕ) (t : Option Place) → slots_of end st'.waits g ≡ Some (q, t) → slots_of end st.waits g ≡ Some (q, t)
+  slot_back end q apart g t is = by_test (f == g) refl
+    where
+      by_test : (u : Bool) → (f == g) ≡ u → slots_of end st.waits g ≡ Some (q, t)
+      by_test true h = absurd (apart (sym (slot_home end ow s q t c.wait_is (sym (slot_now end) ∙ ap (slots_of end st'.waits) (eqb-true f g h) ∙ is))))
+      by_test false h = sym (slot_other end g (eqb-false f g h)) ∙ is
+
+  slot_forth : (end : End) (q : ℕ) → (s ≡ q → ⊥) → (g : ℕ) (t : Option Place) → slots_of end st.waits g ≡ Some (q, t) → slots_of end st'.waits g ≡ Some (q, t)
+  slot_forth end q apart g t is = by_test (f == g) refl
+    where
+      by_test : (u : Bool) → (f == g) ≡ u → slots_of end st'.waits g ≡ Some (q, t)
+      by_test true h = absurd (apart (sym (slot_home end (get st.waits f) s q t c.wait_was (ap (slots_of end st.waits) (eqb-true f g h) ∙ is))))
+      by_test false h = slot_other end g (eqb-false f g h) ∙ is
+
+  -- a future with no number changes nobody's
+  pub named_unplaced : (end : End) → Unplaced end ow → f < next' → AreNamed (slots_of end st'.waits) next'
+  named_unplaced end none low = elim none [
+    | inl gone ↦ named-ends (slots_of end st.waits) (slots_of end st'.waits) next next' f (k.named end) later (slot_other end) (slot_now end ∙ gone)
+    | inr new ↦ named-new (slots_of end st.waits) (slots_of end st'.waits) next next' f (k.named end) later (slot_other end) new.0 low (slot_now end ∙ new.1)
+  ]
+
+  unplaced_clash : (end : End) (o : Option ShutdownWaitEntry) (p : ℕ) (place : Place) → Unplaced end o → slot_in end o ≡ Some (p, Some place) → ⊥
+  unplaced_clash end o p place none is = elim none [
+    | inl gone ↦ no_slot p place (sym gone ∙ is)
+    | inr new ↦ no_place place (ap place_in (sym new.1 ∙ is))
+  ]
+
+  pub given_unplaced : (end : End) (set : Registered ℕ) → Unplaced end ow → AreGiven (slots_of end st.waits) s set → AreGiven (slots_of end st'.waits) s set
+  given_unplaced end set none given g t is = by_test (f == g) refl
+    where
+      by_slot : (u : Option Place) → t ≡ u → slot_in end ow ≡ Some (s, t) → has_given set t ≡ true
+      by_slot None same here = ap (has_given set) same
+      by_slot (Some place) same here = absurd (unplaced_clash end ow s place none (here ∙ ap (λ v. Some (s, v)) same))
+
+      by_test : (u : Bool) → (f == g) ≡ u → has_given set t ≡ true
+      by_test true h = by_slot t refl (sym (slot_now end) ∙ ap (slots_of end st'.waits) (eqb-true f g h) ∙ is)
+      by_test false h = given g t (sym (slot_other end g (eqb-false f g h)) ∙ is)
+
+  module _ (named : (end : End) → AreNamed (slots_of end st'.waits) next') where
+    pub alike_unplaced : (end : End) (set : Registered ℕ) → Unplaced end (get st.waits f) → Unplaced end ow → waiting_at (slots_of end st'.waits) next' s set ≡ waiting_at (slots_of end st.waits) next s set
+    alike_unplaced end set was is = waiting-alike (slots_of end st.waits) (slots_of end st'.waits) next next' s set (k.named end) (named end) forth back
+      where
+        forth : (g : ℕ) (place : Place) → slots_of end st.waits g ≡ Some (s, Some place) → slots_of end st'.waits g ≡ Some (s, Some place)
+        forth g place there = by_test (f == g) refl
+          where
+            by_test : (u : Bool) → (f == g) ≡ u → slots_of end st'.waits g ≡ Some (s, Some place)
+            by_test true h = absurd (unplaced_clash end (get st.waits f) s place was (ap (slots_of end st.waits) (eqb-true f g h) ∙ there))
+            by_test false h = slot_other end g (eqb-false f g h) ∙ there
+
+        back : (g : ℕ) (place : Place) → slots_of end st'.waits g ≡ Some (s, Some place) → slots_of end st.waits g ≡ Some (s, Some place)
+        back g place there = by_test (f == g) refl
+          where
+            by_test : (u : Bool) → (f == g) ≡ u → slots_of end st.waits g ≡ Some (s, Some place)
+            by_test true h = absurd (unplaced_clash end ow s place is (sym (slot_now end) ∙ ap (slots_of end st'.waits) (eqb-true f g h) ∙ there))
+            by_test false h = sym (slot_other end g (eqb-false f g h)) ∙ there
+
+    alike : (end : End) (q : ℕ) (set : Registered ℕ) → (s ≡ q → ⊥) → waiting_at (slots_of end st'.waits) next' q set ≡ waiting_at (slots_of end st.waits) next q set
+    alike end q set apart = waiting-alike (slots_of end st.waits) (slots_of end st'.waits) next next' q set (k.named end) (named end) (λ g place. slot_forth end q apart g (Some place)) (λ g place. slot_back end q apart g (Some place))
+
+    seen_other : (q : ℕ) (e : ShutdownEntry) → (s ≡ q → ⊥) → shutdown_of st'.waits next' q e ≡ shutdown_of st.waits next q e
+    seen_other q e apart = λ j. record {
+      signal = record { number = e.core.signal.number; waiting = alike OfSignal q e.core.signal.waiting apart j };
+      receivers = record { number = e.core.receivers.number; waiting = alike OfReceivers q e.core.receivers.waiting apart j };
+    }
+
+    -- ---- the shutdowns that are stood for
+    pub shutdowns_after : Puts (hall_of st next).shutdowns (hall_of st' next').shutdowns s (Some (shutdown_of st'.waits next' s e2))
+    shutdowns_after q = get-seen (shutdown_of st'.waits next') st'.shutdowns q ∙ ap (option_map (shutdown_of st'.waits next' q)) (c.shutdowns q) ∙ by_test (s == q) refl ∙ ap (cond (s == q) (Some (shutdown_of st'.waits next' s e2))) (sym (get-seen (shutdown_of st.waits next) st.shutdowns q))
+      where
+        by_value : (o : Option ShutdownEntry) → (s ≡ q → ⊥) → option_map (shutdown_of st'.waits next' q) o ≡ option_map (shutdown_of st.waits next q) o
+        by_value None apart = refl
+        by_value (Some e) apart = ap (λ r. Some r) (seen_other q e apart)
+
+        by_test : (t : Bool) → (s == q) ≡ t → option_map (shutdown_of st'.waits next' q) (cond t (Some e2) (get st.shutdowns q)) ≡ cond t (Some (shutdown_of st'.waits next' s e2)) (option_map (shutdown_of st.waits next q) (get st.shutdowns q))
+        by_test true h = ap (λ r. Some (shutdown_of st'.waits next' r e2)) (sym (eqb-true s q h))
+        by_test false h = by_value (get st.shutdowns q) (eqb-false s q h)
+
+    pub receivers_after : Puts (hall_of st next).receivers (hall_of st' next').receivers b (option_map receiver_of ob)
+    receivers_after = puts_seen receiver_of st.receivers st'.receivers b ob c.receivers
+
+    pub waits_after : Puts (hall_of st next).waits (hall_of st' next').waits f (option_map wait_of ow)
+    waits_after = puts_seen wait_of st.waits st'.waits f ow c.waits
+
+    pub registered_after : registered (hall_of st' next') + weight (λ q (e : ShutdownEntry). wakers_at e) s (get st.shutdowns s) ≡ registered (hall_of st next) + wakers_at e2
+    registered_after =
+        let all = total_puts st.shutdowns st'.shutdowns s (λ q (e : ShutdownEntry). wakers_at e) (Some e2) c.shutdowns in
+        let before = registered-seen st next in
+        let after = registered-seen st' next' in
+        omega (arith, all, before, after)
+
+    -- ---- what is kept
+    pub record Keeps : Type 0 where
+      pub low : next' ≤ 2 ^ 64
+      pub entry : IsKeptEntry st' next' s e2
+      pub sender_below : (p : ℕ) → oa ≡ Some p → a < next'
+      pub counted : (x : ReceiverEntry) → ob ≡ Some x → x.plain ≡ borrowers_in st' b
+      pub few : (x : ReceiverEntry) → ob ≡ Some x → x.plain ≤ next'
+      pub receiver_below : (x : ReceiverEntry) → ob ≡ Some x → b < next'
+      -- nothing but b is borrowed by more or fewer
+      pub lends : (q : ℕ) → (b ≡ q → ⊥) → weight (λ g (y : ShutdownWaitEntry). cond (borrows (awaits_of y.wait) q) 1 0) f (get st.waits f) ≡ weight (λ g (y : ShutdownWaitEntry). cond (borrows (awaits_of y.wait) q) 1 0) f ow
+      -- b stays while it is borrowed
+      pub stays : (p g : ℕ) (y : ShutdownWaitEntry) → is_of (get st.receivers b) p ≡ true → get st'.waits g ≡ Some y → borrows (awaits_of y.wait) b ≡ true → is_of ob p ≡ true
+      pub borrowed : (y : ShutdownWaitEntry) → ow ≡ Some y → (q : ℕ) → borrows (awaits_of y.wait) q ≡ true → is_of (get st'.receivers q) s ≡ true
+      pub wait_below : (y : ShutdownWaitEntry) → ow ≡ Some y → f < next'
+
+    module _ (w : Keeps) where
+      entry_other : (q : ℕ) (e : ShutdownEntry) → (s ≡ q → ⊥) → get st.shutdowns q ≡ Some e → IsKeptEntry st' next' q e
+      entry_other q e apart is =
+          let old = k.each q e is in
+          let senders = total_elsewhere (λ (p : ℕ). p) (λ p. 1) st.senders st'.senders a oa s q c.senders c.sender_was c.sender_is apart in
+          let receivers = total_elsewhere (λ (x : ReceiverEntry). x.shutdown) (λ x. 1) st.receivers st'.receivers b ob s q c.receivers c.receiver_was c.receiver_is apart in
+          let futures = total_elsewhere (λ (x : ShutdownWaitEntry). x.shutdown) (λ x. 1) st.waits st'.waits f ow s q c.waits c.wait_was c.wait_is apart in
+          let counted = total_elsewhere (λ (x : ReceiverEntry). x.shutdown) (λ x. cond x.watch 0 1) st.receivers st'.receivers b ob s q c.receivers c.receiver_was c.receiver_is apart in
+          record {
+            quiet = old.quiet;
+            known = old.known;
+            counted = old.counted ∙ sym counted;
+            things = old.things ∙ (λ j. sym senders j + sym receivers j + sym futures j);
+            few = (let few = old.few in omega (arith, few, later));
+            given = λ end g t there. old.given end g t (slot_back end q apart g t there);
+            below = (let below = old.below in omega (arith, below, later));
+          }
+
+      receiver_other : (q : ℕ) (x : ReceiverEntry) → (b ≡ q → ⊥) → get st.receivers q ≡ Some x → IsKeptReceiver st' next' q x
+      receiver_other q x apart is =
+          let old = k.receiver q x is in
+          let all = total_puts st.waits st'.waits f (λ g (y : ShutdownWaitEntry). cond (borrows (awaits_of y.wait) q) 1 0) ow c.waits in
+          let lends = w.lends q apart in
+          let same : borrowers_in st q ≡ borrowers_in st' q = omega (arith, all, lends) in
+          record {
+            there = there_still x.shutdown old.there;
+            counted = old.counted ∙ same;
+            few = (let few = old.few in omega (arith, few, later));
+            below = (let below = old.below in omega (arith, below, later));
+          }
+
+      borrowed_other : (g : ℕ) (y : ShutdownWaitEntry) → (f ≡ g → ⊥) → get st.waits g ≡ Some y → (q : ℕ) → borrows (awaits_of y.wait) q ≡ true → is_of (get st'.receivers q) y.shutdown ≡ true
+      borrowed_other g y apart is q lent = by_test (b == q) refl
+        where
+          old : is_of (get st.receivers q) y.shutdown ≡ true
+          old = (k.wait g y is).borrowed q lent
+
+          by_test : (t : Bool) → (b == q) ≡ t → is_of (get st'.receivers q) y.shutdown ≡ true
+          by_test true h =
+              let same : b ≡ q = eqb-true b q h in
+              ap (λ o. is_of o y.shutdown) (ap (get st'.receivers) (sym same) ∙ put_here st.receivers st'.receivers b ob c.receivers)
+              ∙ w.stays y.shutdown g y (ap (λ r. is_of (get st.receivers r) y.shutdown) same ∙ old) (put_other st.waits st'.waits f ow c.waits g apart ∙ is) (ap (borrows (awaits_of y.wait)) same ∙ lent)
+          by_test false h = ap (λ o. is_of o y.shutdown) (put_other st.receivers st'.receivers b ob c.receivers q (eqb-false b q h)) ∙ old
+
+      pub kept_after : IsKept st' next'
+      kept_after = record {
+        each = by_put st.shutdowns st'.shutdowns s (Some e2) c.shutdowns (λ q e. IsKeptEntry st' next' q e) (λ e is. subst (IsKeptEntry st' next' s) (inside is) w.entry) entry_other;
+        sender = by_put st.senders st'.senders a oa c.senders (λ q p. IsKeptSender st' next' q p)
+            (λ p is. record { there = there_now p (c.sender_is p is); below = w.sender_below p is })
+            (λ q p apart is. let old = k.sender q p is in record { there = there_still p old.there; below = (let below = old.below in omega (arith, below, later)) });
+        receiver = by_put st.receivers st'.receivers b ob c.receivers (λ q x. IsKeptReceiver st' next' q x)
+            (λ x is. record { there = there_now x.shutdown (c.receiver_is x is); counted = w.counted x is; few = w.few x is; below = w.receiver_below x is })
+            receiver_other;
+        wait = by_put st.waits st'.waits f ow c.waits (λ g y. IsKeptWait st' next' g y)
+            (λ y is. record {
+              there = there_now y.shutdown (c.wait_is y is);
+              borrowed = λ q lent. ap (is_of (get st'.receivers q)) (c.wait_is y is) ∙ w.borrowed y is q lent;
+              below = w.wait_below y is;
+            })
+            (λ g y apart is. let old = k.wait g y is in record { there = there_still y.shutdown old.there; borrowed = borrowed_other g y apart is; below = (let below = old.below in omega (arith, below, later)) });
+        named = named;
+        low = w.low;
+      }
+        where
+          inside : {e : ShutdownEntry} → Some e2 ≡ Some e → e2 ≡ e
+          inside {e} is = ap (entry_in e2) is

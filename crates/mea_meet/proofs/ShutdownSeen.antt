@@ -1,0 +1,126 @@
+-- what is seen of the shutdowns that a store stands for
+use Rattle.std.proofs.Common.{◌≡◌, ℕ, ◌==◌, ◌&&◌, not, true, cond, [], refl, ap, sym, subst, ◌∙◌, arith, Option, Some, None, is_some, unwrap_or}
+use Rattle.std.specs.Option.{option_map, IsSome, IfSome}
+use Rattle.std.specs.Ordering.{nat_cmp}
+use Rattle.std.specs.FinMap.{FinMap, get, entries, empty, get-empty}
+use Rattle.mea_base.specs.Named.{named, at}
+use Rattle.mea_base.proofs.NamedMaps.{same_named, get-named}
+use Rattle.mea_sets.specs.declared.place.Place.{Place}
+use Rattle.mea_meet_model.specs.Shutdowns.{Shutdown, Receiver, ShutdownWait, Shutdowns, no_shutdowns, new_shutdown, shutdown_at, receivers_of, waits_of, borrowers_of, borrows}
+use Rattle.mea_meet.specs.declared.shutdowns.ShutdownEntry.{ShutdownEntry}
+use Rattle.mea_meet.specs.declared.shutdowns.ReceiverEntry.{ReceiverEntry}
+use Rattle.mea_meet.specs.declared.shutdowns.ShutdownWaitEntry.{ShutdownWaitEntry}
+use Rattle.mea_meet.specs.Play.{Part}
+use Rattle.mea_meet.specs.declared.shutdowns.ShutdownHall.TheInside.{Inside}
+use Rattle.mea_meet.specs.StandsFor.{StandsForShutdown, StandsForCount}
+use Rattle.mea_meet.specs.ShutdownHall.{Store, store_of, End, slot_in, OfSignal, OfReceivers, slots_of, shutdown_of, receiver_of, wait_of, hall_of, receivers_in, waits_in, borrowers_in, is_full, IsKept}
+use Rattle.mea_meet.proofs.Names.{waiting-wakers}
+use Rattle.mea_meet.proofs.ShutdownMaps.{Puts, put_here, get-seen, total-named, kept-at}
+
+module _ (st : Store) (n : ℕ) where
+  pub shutdown-seen : (q : ℕ) → get (hall_of st n).shutdowns q ≡ option_map (shutdown_of st.waits n q) (get st.shutdowns q)
+  shutdown-seen q = get-seen (shutdown_of st.waits n) st.shutdowns q
+
+  pub receiver-seen : (q : ℕ) → get (hall_of st n).receivers q ≡ option_map receiver_of (get st.receivers q)
+  receiver-seen q = get-seen (λ k x. receiver_of x) st.receivers q
+
+  pub wait-seen : (q : ℕ) → get (hall_of st n).waits q ≡ option_map wait_of (get st.waits q)
+  wait-seen q = get-seen (λ k x. wait_of x) st.waits q
+
+  some-mapped : {X Y : Type 0} (g : X → Y) (o : Option X) → is_some (option_map g o) ≡ is_some o
+  some-mapped g None = refl
+  some-mapped g (Some x) = refl
+
+  pub shutdown-there : (q : ℕ) → is_some (get (hall_of st n).shutdowns q) ≡ is_some (get st.shutdowns q)
+  shutdown-there q = ap is_some (shutdown-seen q) ∙ some-mapped (shutdown_of st.waits n q) (get st.shutdowns q)
+
+  pub receiver-there : (q : ℕ) → is_some (get (hall_of st n).receivers q) ≡ is_some (get st.receivers q)
+  receiver-there q = ap is_some (receiver-seen q) ∙ some-mapped receiver_of (get st.receivers q)
+
+  pub wait-there : (q : ℕ) → is_some (get (hall_of st n).waits q) ≡ is_some (get st.waits q)
+  wait-there q = ap is_some (wait-seen q) ∙ some-mapped wait_of (get st.waits q)
+
+  pub shutdown-at : (s : ℕ) (e : ShutdownEntry) → get st.shutdowns s ≡ Some e → shutdown_at (hall_of st n) s ≡ shutdown_of st.waits n s e
+  shutdown-at s e is = ap (λ o. unwrap_or o new_shutdown) (shutdown-seen s ∙ ap (option_map (shutdown_of st.waits n s)) is)
+
+  pub receivers-seen : (s : ℕ) → receivers_of (hall_of st n) s ≡ receivers_in st s
+  receivers-seen s = total-named (λ k x. receiver_of x) (λ k (x : Receiver). cond (x.shutdown == s) 1 0) st.receivers
+
+  pub waits-seen : (s : ℕ) → waits_of (hall_of st n) s ≡ waits_in st s
+  waits-seen s = total-named (λ f x. wait_of x) (λ f (x : ShutdownWait). cond (x.shutdown == s) 1 0) st.waits
+
+  pub borrowers-seen : (k : ℕ) → borrowers_of (hall_of st n) k ≡ borrowers_in st k
+  borrowers-seen k = total-named (λ f x. wait_of x) (λ f (x : ShutdownWait). cond (borrows x.awaits k) 1 0) st.waits
+
+  pub stands : (s : ℕ) (e : ShutdownEntry) → get st.shutdowns s ≡ Some e → StandsForShutdown (hall_of st n) s e.core
+  stands s e is = record {
+    signal = subst (λ (r : Shutdown). StandsForCount r.signal e.core.signal) (sym (shutdown-at s e is)) (record { number = refl; waiting = sym (waiting-wakers (slots_of OfSignal st.waits) n s e.core.signal.waiting) });
+    receivers = subst (λ (r : Shutdown). StandsForCount r.receivers e.core.receivers) (sym (shutdown-at s e is)) (record { number = refl; waiting = sym (waiting-wakers (slots_of OfReceivers st.waits) n s e.core.receivers.waiting) });
+  }
+
+  pub full-seen : (k : ℕ) (x : ReceiverEntry) (e : ShutdownEntry) → IsKept st n → get st.receivers k ≡ Some x → get st.shutdowns x.shutdown ≡ Some e → is_full (hall_of st n) (get (hall_of st n).receivers k) ≡ (not x.watch && e.receivers == 4294967295)
+  full-seen k x e kept is there = ap (is_full (hall_of st n)) (receiver-seen k ∙ ap (option_map receiver_of) is)
+      ∙ ap (λ (r : Shutdown). not x.watch && r.receivers.number == 4294967295) (shutdown-at x.shutdown e there)
+      ∙ ap (λ m. not x.watch && m == 4294967295) (sym (kept.each x.shutdown e there).known)
+
+-- one that is asked for is found
+pub asked : {X : Type 0} (o : Option X) → is_some o ≡ true → o ≡ None → ⊥
+asked None there none = absurd (cc)
+asked (Some x) there none = absurd (cc)
+
+pub some_found : {X : Type 0} (o : Option X) → IsSome o → (x : X) × (o ≡ Some x)
+some_found None there = absurd (cc)
+some_found (Some x) there = (x, refl)
+
+pub if_some : {X : Type 0} (P : X → Type 0) (o : Option X) (x : X) → o ≡ Some x → P x → IfSome o P
+if_some P o x is p = subst (λ q. IfSome q P) (sym is) p
+
+-- nothing is kept, and that stands for no shutdown
+none : {X : Type 0} (q : ℕ) → get (named (λ k (x : X). x) []) q ≡ None
+none q = get-named (λ k x. x) [] q
+
+no_slot : (end : End) (f : ℕ) (x : ℕ × Option Place) → slots_of end (store_of [] [] [] []).waits f ≡ Some x → ⊥
+no_slot end f x is = (let clash : None ≡ Some x = sym (ap (slot_in end) (none f)) ∙ is in absurd (cc))
+
+pub none-kept : IsKept (store_of [] [] [] []) 0
+none-kept = record {
+  each = λ s e is. absurd (let clash : None ≡ Some e = sym (none s) ∙ is in cc);
+  sender = λ k s is. absurd (let clash : None ≡ Some s = sym (none k) ∙ is in cc);
+  receiver = λ k x is. absurd (let clash : None ≡ Some x = sym (none k) ∙ is in cc);
+  wait = λ f x is. absurd (let clash : None ≡ Some x = sym (none f) ∙ is in cc);
+  named = λ end. record { below = λ f x is. absurd (no_slot end f x is); apart = λ f g o place is also. absurd (no_slot end f (o, Some place) is) };
+  low = omega arith;
+}
+
+nothing : {X Y : Type 0} (g : ℕ → X → Y) → named g (entries (named (λ k (x : X). x) [])) ≡ empty
+nothing {X} g = same_named _ _ (λ q. get-seen g (named (λ k (x : X). x) []) q ∙ ap (option_map (g q)) (none q) ∙ sym (get-empty nat_cmp q))
+
+empty_named : {X : Type 0} → named (λ k (x : X). x) [] ≡ empty
+empty_named = same_named _ _ (λ q. none q ∙ sym (get-empty nat_cmp q))
+
+pub no-hall : ◌≡◌ {A = Part Shutdowns} (record { hall = hall_of (store_of [] [] [] []) 0; next = 0 }) (record { hall = no_shutdowns; next = 0 })
+no-hall = λ j. record {
+  hall = record { shutdowns = nothing (shutdown_of (store_of [] [] [] []).waits 0) j; senders = empty_named {X = ℕ} j; receivers = nothing (λ k x. receiver_of x) j; waits = nothing (λ f x. wait_of x) j };
+  next = 0;
+}
+
+-- ---- what a hall keeps
+abbrev pub kept_in : Inside → Store
+kept_in a = store_of a.shutdowns.entries a.senders.entries a.receivers.entries a.waits.entries
+
+module _ (a : Inside) where
+  pub sender-at : (q : ℕ) → get (kept_in a).senders q ≡ at a.senders.entries q
+  sender-at q = kept-at a.senders.entries q
+
+  pub receiver-at : (q : ℕ) → get (kept_in a).receivers q ≡ at a.receivers.entries q
+  receiver-at q = kept-at a.receivers.entries q
+
+  pub wait-at : (q : ℕ) → get (kept_in a).waits q ≡ at a.waits.entries q
+  wait-at q = kept-at a.waits.entries q
+
+  pub shutdown-kept : (q : ℕ) → get (kept_in a).shutdowns q ≡ at a.shutdowns.entries q
+  shutdown-kept q = kept-at a.shutdowns.entries q
+
+-- a shutdown that was put is there
+pub still-there : (ws : FinMap nat_cmp ShutdownWaitEntry) (ss ss' : FinMap nat_cmp ShutdownEntry) (n s : ℕ) (e : ShutdownEntry) → Puts ss ss' s (Some e) → IsSome (get (named (shutdown_of ws n) (entries ss')) s)
+still-there ws ss ss' n s e puts = ap is_some (get-seen (shutdown_of ws n) ss' s ∙ ap (option_map (shutdown_of ws n s)) (put_here ss ss' s (Some e) puts))

@@ -1,0 +1,143 @@
+ghost use Rattle.std.specs.Prelude.{◌≡◌, ◌≢◌, ◌≤◌, ◌∷◌, [], ◌⊎◌, length, is_some, OnOk, OnErr, IfOk, IfErr, IfSome, IfNone, None, Some};
+ghost use Rattle.std.specs.FinMap as map;
+ghost use Rattle.mea_meet_model.specs.Hall.{empty_hall, registered};
+ghost use Rattle.mea_meet_model.specs.Latches.{is_named};
+ghost use Rattle.mea_meet_model.specs.Cause.{cause_of};
+ghost use Rattle.mea_meet.specs.Play.{Play, Plays, TakesNoMemory};
+ghost use Rattle.mea_meet.specs.StandsFor.{StandsForBarrier, StandsForLatch, StandsForGroup, StandsForShutdown};
+
+use crate::parts::Parts;
+use mea_base::{Answer, Ready, Stop};
+use mea_meet_core::{BarrierCore, GroupCore, LatchCore, ShutdownCore};
+use mea_meet_model::MeetEvent;
+use std::alloc::Global;
+use std::marker::Model;
+
+/// Many barriers, latches, wait groups and shutdowns with the futures that wait for them, each by the number
+/// of the event that made it. One number may name things of different kinds.
+///
+/// Each object is a core of its own; a future keeps its wait. Each event costs a look-up by name and the
+/// wakers that it makes ready. It stands on the cores by their contracts alone.
+#[derive(Drop)]
+pub struct MeetHall {
+    parts: Parts,
+    ready: Ready<u64>,
+    next: u128,
+}
+
+impl Model for MeetHall {
+    ghost use Rattle.mea_meet.specs.Play.{Play, play_code};
+
+    ghost Value = { Play };
+
+    ghost coded = { play_code };
+
+    ghost use Rattle.std.specs.Prelude.{◌≡◌, ◌≤◌};
+    ghost use Rattle.mea_meet_model.specs.Hall.{registered};
+    ghost use Rattle.mea_meet.specs.Parts.{hall_of, IsLow};
+
+    ghost view = { λ a. record { hall = hall_of a.parts.barriers a.parts.latches a.parts.groups a.parts.shutdowns; wakes = a.ready.wakers; next = a.next } };
+
+    ghost invariant = { λ a. record {
+      low : IsLow a.parts.barriers a.parts.latches a.parts.groups a.parts.shutdowns a.next;
+      counted : a.ready.registered ≡ registered (hall_of a.parts.barriers a.parts.latches a.parts.groups a.parts.shutdowns);
+      few : a.ready.registered ≤ a.next;
+    } };
+}
+
+impl MeetHall {
+    /// A hall with nothing in it. It takes no memory.
+    pub fn new(alloc: Global) -> MeetHall
+        ensures { result ≡ record { hall = empty_hall; wakes = []; next = 0 } }
+    {
+        MeetHall {
+            parts: Parts::new(alloc),
+            ready: Ready::new(alloc),
+            next: 0,
+        }
+    }
+
+    /// How many wakers are ready. It takes no memory.
+    pub fn wakes_ready(&self) -> usize
+        ensures { result ≡ length self.now.wakes }
+    {
+        self.ready.len()
+    }
+
+    /// Takes the first waker that is ready. It takes no memory.
+    pub fn next_wake(&mut self) -> Option<u64>
+        ensures some { IfSome result (λ waker. self.old ≡ record self.new { wakes = waker ∷ self.new.wakes }) }
+        ensures none { IfNone result ((self.old.wakes ≡ []) × (self.new ≡ self.old)) }
+    {
+        self.ready.pop()
+    }
+
+    /// How many wakers an event may still make ready: those of futures that wait, and those that futures
+    /// have left registered when they ended. It takes no memory.
+    pub fn registered(&self) -> usize
+        ensures count { result ≡ registered self.now.hall }
+        ensures few { result ≤ self.now.next }
+    {
+        self.ready.registered()
+    }
+
+    /// The core of the barrier of this name, where it was not dropped. It takes no memory.
+    pub fn barrier(&self, name: u64) -> Option<&BarrierCore<u64>>
+        ensures lives { is_some result ≡ is_some (map.get self.now.hall.barriers.barriers name) }
+        ensures stands { IfSome result (λ core. StandsForBarrier self.now.hall.barriers name core.now) }
+    {
+        self.parts.barriers.core(name)
+    }
+
+    /// The core of the latch of this name, where it was not dropped. It takes no memory.
+    pub fn latch(&self, name: u64) -> Option<&LatchCore<u64>>
+        ensures lives { is_some result ≡ is_named self.now.hall.latches name }
+        ensures stands { IfSome result (λ core. StandsForLatch self.now.hall.latches name core.now) }
+    {
+        self.parts.latches.core(name)
+    }
+
+    /// The core of the wait group of this name, while a handle or a future of it lives. It takes no
+    /// memory.
+    pub fn group(&self, name: u64) -> Option<&GroupCore<u64>>
+        ensures lives { is_some result ≡ is_some (map.get self.now.hall.groups.groups name) }
+        ensures stands { IfSome result (λ core. StandsForGroup self.now.hall.groups name core.now) }
+    {
+        self.parts.groups.core(name)
+    }
+
+    /// The core of the shutdown of this name, while a sender, receiver, watch or future of it lives. It
+    /// takes no memory.
+    pub fn shutdown(&self, name: u64) -> Option<&ShutdownCore<u64>>
+        ensures lives { is_some result ≡ is_some (map.get self.now.hall.shutdowns.shutdowns name) }
+        ensures stands { IfSome result (λ core. StandsForShutdown self.now.hall.shutdowns name core.now) }
+    {
+        self.parts.shutdowns.core(name)
+    }
+
+    /// Why the event would be refused; None where it would not. It takes no memory.
+    pub fn cause(&self, event: &MeetEvent) -> Option<Stop>
+        ensures { result ≡ cause_of self.now.hall event.now }
+    {
+        self.parts.cause(event)
+    }
+
+    /// Plays an event, whose number is greater than each that was played before; the wakers that it makes
+    /// ready are appended to those that are. A cause for refusal comes before want of memory; where the
+    /// event is refused, nothing has changed.
+    pub fn act(&mut self, number: u64, event: &MeetEvent) -> Result<Answer, Stop>
+        requires { self.old.next ≤ number }
+        ensures played { IfOk result (λ reply. Plays self.old number event.now reply self.new) }
+        ensures allowed { OnOk result (cause_of self.old.hall event.now ≡ None) }
+        ensures refused { IfErr result (λ stop. (cause_of self.old.hall event.now ≡ Some stop) ⊎ ((cause_of self.old.hall event.now ≡ None) × (stop ≡ Stop.NoMemory))) }
+        ensures no_memory { TakesNoMemory event.now → result ≢ Err Stop.NoMemory }
+        ensures err { OnErr result (self.new ≡ self.old) }
+    {
+        if let Some(stop) = self.cause(event) {
+            return Err(stop);
+        }
+        let answer = self.parts.play(number, event, &mut self.ready)?;
+        self.next = number as u128 + 1;
+        Ok(answer)
+    }
+}

@@ -1,0 +1,753 @@
+ghost use Rattle.std.specs.Prelude.{ℕ, ◌≡◌, ◌≢◌, ◌+◌, ◌-◌, ◌≤◌, ◌<◌, ◌^◌, ◌++◌, ◌==◌, cond, length, not, true, false, [], Some, None, OnErr, OnOk, IfOk, IfErr, IfSome, IsSome, is_some, nat_lt};
+ghost use Rattle.std.specs.FinMap as map;
+ghost use Rattle.mea_base.specs.Named.{at};
+ghost use Rattle.mea_meet.specs.ShutdownHall.{GivesBack};
+ghost use Rattle.mea_base.specs.Family.{quietly};
+ghost use Rattle.mea_sets.specs.WaitSet.{has_given};
+ghost use Rattle.mea_sets.specs.Countdown.{decreased, woken_by};
+ghost use Rattle.mea_meet_core.specs.Count.{increased};
+ghost use Rattle.mea_meet_model.specs.Cause.{counts};
+ghost use Rattle.mea_meet_model.specs.Shutdowns as model;
+ghost use Rattle.mea_meet_model.specs.Shutdowns.{no_shutdowns, registered};
+ghost use Rattle.mea_meet.specs.Play.{Yields, Rests};
+ghost use Rattle.mea_meet.specs.StandsFor.{StandsForShutdown};
+
+use crate::moving::hand_on_shutdown;
+use mea_base::{Answer, Poll, Ready, Stop};
+use mea_meet_core::{GroupWait, LatchWait, ShutdownCore};
+use std::alloc::Global;
+use std::collections::BTreeMap;
+use std::marker::Model;
+
+/// What a hall keeps of a shutdown.
+#[derive(Drop)]
+pub struct ShutdownEntry {
+    pub core: ShutdownCore<u64>,
+    // How many receivers its core counts.
+    pub receivers: u32,
+    // How many senders, receivers, watches and futures it has.
+    pub things: u128,
+}
+
+/// What a hall keeps of a receiver or a watch.
+#[derive(Clone, Copy)]
+pub struct ReceiverEntry {
+    pub shutdown: u64,
+    pub watch: bool,
+    // How many plain futures borrow it.
+    pub plain: u128,
+}
+
+/// The wait of a future.
+#[derive(Drop)]
+pub enum ShutdownWait {
+    /// For the signal. That of a plain future borrows a receiver or a watch.
+    Signal {
+        wait: LatchWait,
+        borrowed: Option<u64>,
+    },
+    /// For the end of all receivers.
+    Receivers {
+        wait: GroupWait,
+    },
+}
+
+/// What a hall keeps of a future.
+#[derive(Drop)]
+pub struct ShutdownWaitEntry {
+    pub shutdown: u64,
+    pub wait: ShutdownWait,
+}
+
+// 1 for a plain future.
+fn one_if(plain: bool) -> u128
+    ensures { result ≡ cond plain 1 0 }
+{
+    if plain { 1 } else { 0 }
+}
+
+// What a future borrows.
+fn borrowed_if(plain: bool, k: u64) -> Option<u64>
+    ensures { result ≡ cond plain (Some k) None }
+{
+    if plain { Some(k) } else { None }
+}
+
+// The answer `yes` or `no`.
+fn yes_if(holds: bool) -> Answer
+    ensures { result ≡ cond holds Answer.Yes Answer.No }
+{
+    if holds { Answer::Yes } else { Answer::No }
+}
+
+// A receiver or watch is borrowed by one future less.
+fn give_back(receivers: &mut BTreeMap<u64, ReceiverEntry>, borrowed: Option<u64>)
+    requires { IfSome borrowed (λ k. IfSome (at receivers.old.entries k) (λ x. 1 ≤ x.plain)) }
+    ensures { GivesBack receivers.old.entries receivers.new.entries borrowed }
+{
+    if let Some(k) = borrowed {
+        if let Some(receiver) = receivers.get_mut(&k) {
+            receiver.plain -= 1;
+        }
+    }
+}
+
+impl ShutdownWait {
+    ghost use Rattle.mea_meet.specs.ShutdownHall.{borrowed_of};
+
+    /// The receiver or watch that it borrows.
+    pub fn borrowed(&self) -> Option<u64>
+        ensures { result ≡ borrowed_of self.now }
+    {
+        match self {
+            ShutdownWait::Signal { wait: _, borrowed } => *borrowed,
+            ShutdownWait::Receivers { wait: _ } => None,
+        }
+    }
+}
+
+impl ShutdownEntry {
+    ghost use Rattle.mea_meet.specs.ShutdownHall.{count_at, end_of, slot_of, set_at, polled, polled_wait};
+
+    /// Whether the wait is over.
+    pub fn is_over(&self, wait: &ShutdownWait) -> bool
+        ensures { result ≡ ((count_at (end_of wait.now) self.now.core).number == 0) }
+    {
+        match wait {
+            ShutdownWait::Signal { .. } => self.core.is_shutdown_now(),
+            ShutdownWait::Receivers { .. } => !self.core.add_receiver_allowed(),
+        }
+    }
+
+    /// Whether the signal is set.
+    pub fn is_set(&self) -> bool
+        ensures { result ≡ (self.now.core.signal.number == 0) }
+    {
+        self.core.is_shutdown_now()
+    }
+
+    /// How many wakers are registered on what the wait waits for.
+    pub fn registered(&self, wait: &ShutdownWait) -> usize
+        ensures { result ≡ length (set_at self.now wait.now).wakers }
+    {
+        match wait {
+            ShutdownWait::Signal { .. } => self.core.registered_on_signal(),
+            ShutdownWait::Receivers { .. } => self.core.registered_on_receivers(),
+        }
+    }
+
+    // Registers the waker of a wait that is not over.
+    fn poll_core(&mut self, wait: &mut ShutdownWait, waker: u64) -> Result<(), Stop>
+        requires given { has_given (set_at self.old wait.old) (slot_of wait.old) ≡ true }
+        requires waits { 0 < (count_at (end_of wait.old) self.old.core).number }
+        ensures ok { OnOk result ((self.new ≡ polled self.old wait.old waker) × (wait.new ≡ polled_wait self.old wait.old)) }
+        ensures memory { IfErr result (λ stop. stop ≡ Stop.NoMemory) }
+        ensures err { OnErr result ((self.new ≡ self.old) × (wait.new ≡ wait.old)) }
+    {
+        let failed = match wait {
+            ShutdownWait::Signal { wait, .. } => self.core.poll_signal(wait, waker).is_err(),
+            ShutdownWait::Receivers { wait } => self.core.poll_receivers(wait, waker).is_err(),
+        };
+        if failed { Err(Stop::NoMemory) } else { Ok(()) }
+    }
+
+    /// Registers the waker of a wait that is not over, and counts it where it replaced none.
+    pub fn poll(
+        &mut self,
+        wait: &mut ShutdownWait,
+        waker: u64,
+        ready: &mut Ready<u64>,
+    ) -> Result<(), Stop>
+        requires given { has_given (set_at self.old wait.old) (slot_of wait.old) ≡ true }
+        requires waits { 0 < (count_at (end_of wait.old) self.old.core).number }
+        ensures ok { OnOk result ((self.new ≡ polled self.old wait.old waker) × (wait.new ≡ polled_wait self.old wait.old)) }
+        ensures wakers { ready.new.wakers ≡ ready.old.wakers }
+        ensures counted { OnOk result (ready.new.registered + length (set_at self.old wait.old).wakers ≡ ready.old.registered + length (set_at self.new wait.old).wakers) }
+        ensures memory { IfErr result (λ stop. stop ≡ Stop.NoMemory) }
+        ensures err { OnErr result ((self.new ≡ self.old) × (wait.new ≡ wait.old) × (ready.new ≡ ready.old)) }
+    {
+        match ready.register() {
+            Err(_) => return Err(Stop::NoMemory),
+            Ok(()) => {}
+        }
+        let before = self.registered(wait);
+        match self.poll_core(wait, waker) {
+            Err(stop) => {
+                ready.unregister(1);
+                Err(stop)
+            }
+            Ok(()) => {
+                if self.registered(wait) == before {
+                    ready.unregister(1);
+                }
+                Ok(())
+            }
+        }
+    }
+
+    /// Sets the signal, and hands the wakers on.
+    pub fn signal(&mut self, ready: &mut Ready<u64>)
+        requires quiet { self.old.core.wakes ≡ [] }
+        requires room { length self.old.core.signal.waiting.wakers ≤ ready.old.registered }
+        ensures is { self.new ≡ record self.old { core = record self.old.core { signal = decreased self.old.core.signal 1 } } }
+        ensures woken { ready.new.wakers ≡ ready.old.wakers ++ woken_by self.old.core.signal 1 }
+        ensures counted { ready.new.registered + length (woken_by self.old.core.signal 1) ≡ ready.old.registered }
+    {
+        self.core.signal();
+        hand_on_shutdown(&mut self.core, ready);
+    }
+
+    /// Counts one receiver more, or one watch.
+    pub fn add_receiver(&mut self, watch: bool)
+        requires known { self.old.receivers ≡ self.old.core.receivers.number }
+        requires few { self.old.things + 1 < 2 ^ 128 }
+        requires live { watch ≡ false → 0 < self.old.core.receivers.number }
+        requires fits { watch ≡ false → self.old.core.receivers.number ≢ 4294967295 }
+        ensures { self.new ≡ record { core = cond watch self.old.core (record self.old.core { receivers = increased self.old.core.receivers }); receivers = self.old.receivers + cond watch 0 1; things = self.old.things + 1 } }
+    {
+        self.things += 1;
+        if !watch {
+            match self.core.add_receiver() {
+                Err(_) => unreachable!(),
+                Ok(()) => self.receivers += 1,
+            }
+        }
+    }
+
+    /// Counts one receiver less, or one watch, and hands the wakers on.
+    pub fn end_receiver(&mut self, watch: bool, ready: &mut Ready<u64>)
+        requires known { self.old.receivers ≡ self.old.core.receivers.number }
+        requires quiet { self.old.core.wakes ≡ [] }
+        requires some { 1 ≤ self.old.things }
+        requires live { watch ≡ false → 0 < self.old.core.receivers.number }
+        requires room { length self.old.core.receivers.waiting.wakers ≤ ready.old.registered }
+        ensures is { self.new ≡ record { core = cond watch self.old.core (record self.old.core { receivers = decreased self.old.core.receivers 1 }); receivers = self.old.receivers - cond watch 0 1; things = self.old.things - 1 } }
+        ensures woken { ready.new.wakers ≡ ready.old.wakers ++ cond watch [] (woken_by self.old.core.receivers 1) }
+        ensures counted { ready.new.registered + length (cond watch [] (woken_by self.old.core.receivers 1)) ≡ ready.old.registered }
+    {
+        self.things -= 1;
+        if !watch {
+            self.receivers -= 1;
+            self.core.end_receiver();
+            hand_on_shutdown(&mut self.core, ready);
+        }
+    }
+}
+
+/// Shutdowns with their senders, receivers, watches and futures, each by the number of the event that made
+/// it. Each call costs a look-up by name and the wakers that it makes ready.
+#[derive(Drop)]
+pub struct ShutdownHall {
+    alloc: Global,
+    shutdowns: BTreeMap<u64, ShutdownEntry>,
+    senders: BTreeMap<u64, u64>,
+    receivers: BTreeMap<u64, ReceiverEntry>,
+    waits: BTreeMap<u64, ShutdownWaitEntry>,
+    next: u128,
+}
+
+impl Model for ShutdownHall {
+    ghost use Rattle.mea_meet_model.specs.Shutdowns.{Shutdowns, shutdowns_code};
+    ghost use Rattle.mea_meet.specs.Play.{Part, part_code};
+
+    ghost Value = { Part Shutdowns };
+
+    ghost coded = { part_code shutdowns_code };
+
+    ghost use Rattle.mea_meet.specs.ShutdownHall.{store_of, hall_of, IsKept};
+
+    ghost view = { λ a. record { hall = hall_of (store_of a.shutdowns.entries a.senders.entries a.receivers.entries a.waits.entries) a.next; next = a.next } };
+
+    ghost invariant = { λ a. IsKept (store_of a.shutdowns.entries a.senders.entries a.receivers.entries a.waits.entries) a.next };
+}
+
+impl ShutdownHall {
+    ghost use Rattle.mea_meet.specs.ShutdownHall.{is_full, without_wait, without_receiver, woken_at_end};
+
+    /// No shutdown. It takes no memory.
+    pub fn new(alloc: Global) -> Self
+        ensures { result ≡ record { hall = no_shutdowns; next = 0 } }
+    {
+        ShutdownHall {
+            alloc,
+            shutdowns: BTreeMap::new(alloc),
+            senders: BTreeMap::new(alloc),
+            receivers: BTreeMap::new(alloc),
+            waits: BTreeMap::new(alloc),
+            next: 0,
+        }
+    }
+
+    /// Whether there is a sender of this name.
+    pub fn is_sender(&self, k: u64) -> bool
+        ensures { result ≡ is_some (map.get self.now.hall.senders k) }
+    {
+        self.senders.contains_key(&k)
+    }
+
+    /// Whether there is a receiver or a watch of this name.
+    pub fn is_receiver(&self, k: u64) -> bool
+        ensures { result ≡ is_some (map.get self.now.hall.receivers k) }
+    {
+        self.receivers.contains_key(&k)
+    }
+
+    /// Whether there is a receiver of this name, and no watch.
+    pub fn is_counted(&self, k: u64) -> bool
+        ensures { result ≡ counts (map.get self.now.hall.receivers k) }
+    {
+        match self.receivers.get(&k) {
+            None => false,
+            Some(receiver) => !receiver.watch,
+        }
+    }
+
+    /// Whether there is a future of this name.
+    pub fn is_wait(&self, f: u64) -> bool
+        ensures { result ≡ is_some (map.get self.now.hall.waits f) }
+    {
+        self.waits.contains_key(&f)
+    }
+
+    /// Whether this is a receiver whose shutdown counts as many receivers as it can.
+    pub fn is_full(&self, k: u64) -> bool
+        requires { IsSome (map.get self.now.hall.receivers k) }
+        ensures { result ≡ is_full self.now.hall (map.get self.now.hall.receivers k) }
+    {
+        let Some(receiver) = self.receivers.get(&k) else {
+            unreachable!()
+        };
+        let Some(entry) = self.shutdowns.get(&receiver.shutdown) else {
+            unreachable!()
+        };
+        !receiver.watch && entry.receivers == u32::MAX
+    }
+
+    /// Whether a plain future borrows the receiver or watch.
+    pub fn is_borrowed(&self, k: u64) -> bool
+        requires { IsSome (map.get self.now.hall.receivers k) }
+        ensures { result ≡ nat_lt 0 (model.borrowers_of self.now.hall k) }
+    {
+        let Some(receiver) = self.receivers.get(&k) else {
+            unreachable!()
+        };
+        receiver.plain > 0
+    }
+
+    /// The core of the shutdown of this name, where there is one.
+    pub fn core(&self, s: u64) -> Option<&ShutdownCore<u64>>
+        ensures there { is_some result ≡ is_some (map.get self.now.hall.shutdowns s) }
+        ensures stands { IfSome result (λ core. StandsForShutdown self.now.hall s core.now) }
+    {
+        let entry = self.shutdowns.get(&s)?;
+        Some(&entry.core)
+    }
+
+    /// `sd.new`.
+    pub fn make(&mut self, number: u64) -> Result<Answer, Stop>
+        requires { self.old.next ≤ number }
+        ensures rests { IfOk result (λ answer. Rests registered self.old number (model.make self.old.hall number) answer self.new) }
+        ensures memory { IfErr result (λ stop. stop ≡ Stop.NoMemory) }
+        ensures err { OnErr result (self.new ≡ self.old) }
+    {
+        match self.senders.insert(number, number) {
+            Err(_) => return Err(Stop::NoMemory),
+            Ok(_) => {}
+        }
+        let receiver = ReceiverEntry {
+            shutdown: number,
+            watch: false,
+            plain: 0,
+        };
+        match self.receivers.insert(number, receiver) {
+            Err(_) => {
+                let _sender = self.senders.remove(&number);
+                return Err(Stop::NoMemory);
+            }
+            Ok(_) => {}
+        }
+        let entry = ShutdownEntry {
+            core: ShutdownCore::new(self.alloc),
+            receivers: 1,
+            things: 2,
+        };
+        match self.shutdowns.insert(number, entry) {
+            Err(_) => {
+                let _sender = self.senders.remove(&number);
+                let _receiver = self.receivers.remove(&number);
+                Err(Stop::NoMemory)
+            }
+            Ok(_) => {
+                self.next = number as u128 + 1;
+                Ok(Answer::Made)
+            }
+        }
+    }
+
+    /// `sd.copys k`.
+    pub fn copy_sender(&mut self, number: u64, k: u64) -> Result<Answer, Stop>
+        requires next { self.old.next ≤ number }
+        requires there { IsSome (map.get self.old.hall.senders k) }
+        ensures rests { IfOk result (λ answer. Rests registered self.old number (model.copy_sender_of self.old.hall number (map.get self.old.hall.senders k)) answer self.new) }
+        ensures memory { IfErr result (λ stop. stop ≡ Stop.NoMemory) }
+        ensures err { OnErr result (self.new ≡ self.old) }
+    {
+        let Some(sender) = self.senders.get(&k) else {
+            unreachable!()
+        };
+        let s = *sender;
+        match self.senders.insert(number, s) {
+            Err(_) => return Err(Stop::NoMemory),
+            Ok(_) => {}
+        }
+        let Some(entry) = self.shutdowns.get_mut(&s) else {
+            unreachable!()
+        };
+        entry.things += 1;
+        self.next = number as u128 + 1;
+        Ok(Answer::Made)
+    }
+
+    /// `sd.copyr k`.
+    pub fn copy_receiver(&mut self, number: u64, k: u64) -> Result<Answer, Stop>
+        requires next { self.old.next ≤ number }
+        requires there { IsSome (map.get self.old.hall.receivers k) }
+        requires fits { is_full self.old.hall (map.get self.old.hall.receivers k) ≡ false }
+        ensures rests { IfOk result (λ answer. Rests registered self.old number (model.copy_receiver_of self.old.hall number (map.get self.old.hall.receivers k)) answer self.new) }
+        ensures memory { IfErr result (λ stop. stop ≡ Stop.NoMemory) }
+        ensures err { OnErr result (self.new ≡ self.old) }
+    {
+        let Some(receiver) = self.receivers.get(&k) else {
+            unreachable!()
+        };
+        let s = receiver.shutdown;
+        let watch = receiver.watch;
+        self.add_receiver(number, s, watch)
+    }
+
+    // One receiver or watch more of a shutdown that has a receiver or a watch of this kind.
+    fn add_receiver(&mut self, number: u64, s: u64, watch: bool) -> Result<Answer, Stop>
+        requires next { self.old.next ≤ number }
+        requires there { IsSome (map.get self.old.hall.shutdowns s) }
+        requires live { watch ≡ false → 0 < (model.shutdown_at self.old.hall s).receivers.number }
+        requires fits { watch ≡ false → (model.shutdown_at self.old.hall s).receivers.number ≢ 4294967295 }
+        ensures rests { IfOk result (λ answer. Rests registered self.old number (quietly (model.copied self.old.hall number (record { shutdown = s; watch = watch })) Answer.Made) answer self.new) }
+        ensures memory { IfErr result (λ stop. stop ≡ Stop.NoMemory) }
+        ensures err { OnErr result (self.new ≡ self.old) }
+    {
+        let receiver = ReceiverEntry {
+            shutdown: s,
+            watch,
+            plain: 0,
+        };
+        match self.receivers.insert(number, receiver) {
+            Err(_) => return Err(Stop::NoMemory),
+            Ok(_) => {}
+        }
+        let Some(entry) = self.shutdowns.get_mut(&s) else {
+            unreachable!()
+        };
+        entry.add_receiver(watch);
+        self.next = number as u128 + 1;
+        Ok(Answer::Made)
+    }
+
+    /// `sd.signal k`.
+    pub fn signal(&mut self, number: u64, k: u64, ready: &mut Ready<u64>) -> Answer
+        requires next { self.old.next ≤ number }
+        requires there { IsSome (map.get self.old.hall.senders k) }
+        requires room { registered self.old.hall ≤ ready.old.registered }
+        ensures { Yields registered self.old number (model.signal_of self.old.hall (map.get self.old.hall.senders k)) result self.new ready.old ready.new }
+    {
+        let Some(sender) = self.senders.get(&k) else {
+            unreachable!()
+        };
+        let Some(entry) = self.shutdowns.get_mut(sender) else {
+            unreachable!()
+        };
+        entry.signal(ready);
+        self.next = number as u128 + 1;
+        Answer::Done
+    }
+
+    /// `sd.now k`.
+    pub fn now(&mut self, number: u64, k: u64) -> Answer
+        requires next { self.old.next ≤ number }
+        requires there { IsSome (map.get self.old.hall.receivers k) }
+        ensures { Rests registered self.old number (model.now_of self.old.hall (map.get self.old.hall.receivers k)) result self.new }
+    {
+        let Some(receiver) = self.receivers.get(&k) else {
+            unreachable!()
+        };
+        let Some(entry) = self.shutdowns.get(&receiver.shutdown) else {
+            unreachable!()
+        };
+        let answer = yes_if(entry.is_set());
+        self.next = number as u128 + 1;
+        answer
+    }
+
+    /// `sd.watch k`.
+    pub fn watch(&mut self, number: u64, k: u64) -> Result<Answer, Stop>
+        requires next { self.old.next ≤ number }
+        requires there { IsSome (map.get self.old.hall.receivers k) }
+        ensures rests { IfOk result (λ answer. Rests registered self.old number (model.watch_of self.old.hall number (map.get self.old.hall.receivers k)) answer self.new) }
+        ensures memory { IfErr result (λ stop. stop ≡ Stop.NoMemory) }
+        ensures err { OnErr result (self.new ≡ self.old) }
+    {
+        let Some(receiver) = self.receivers.get(&k) else {
+            unreachable!()
+        };
+        let s = receiver.shutdown;
+        self.add_receiver(number, s, true)
+    }
+
+    /// `sd.is k`, which is plain, and `sd.iso k`.
+    pub fn wait_on_signal(&mut self, number: u64, k: u64, plain: bool) -> Result<Answer, Stop>
+        requires next { self.old.next ≤ number }
+        requires there { IsSome (map.get self.old.hall.receivers k) }
+        ensures rests { IfOk result (λ answer. Rests registered self.old number (model.wait_of self.old.hall number (cond plain (Some k) None) (map.get self.old.hall.receivers k)) answer self.new) }
+        ensures memory { IfErr result (λ stop. stop ≡ Stop.NoMemory) }
+        ensures err { OnErr result (self.new ≡ self.old) }
+    {
+        let Some(receiver) = self.receivers.get(&k) else {
+            unreachable!()
+        };
+        let s = receiver.shutdown;
+        let wait = ShutdownWait::Signal {
+            wait: LatchWait::new(),
+            borrowed: borrowed_if(plain, k),
+        };
+        match self
+            .waits
+            .insert(number, ShutdownWaitEntry { shutdown: s, wait })
+        {
+            Err(_) => return Err(Stop::NoMemory),
+            Ok(_) => {}
+        }
+        let Some(receiver) = self.receivers.get_mut(&k) else {
+            unreachable!()
+        };
+        receiver.plain += one_if(plain);
+        let Some(entry) = self.shutdowns.get_mut(&s) else {
+            unreachable!()
+        };
+        entry.things += 1;
+        self.next = number as u128 + 1;
+        Ok(Answer::Made)
+    }
+
+    /// `sd.await k`: the sender becomes a future.
+    pub fn wait_on_receivers(&mut self, number: u64, k: u64) -> Result<Answer, Stop>
+        requires next { self.old.next ≤ number }
+        requires there { IsSome (map.get self.old.hall.senders k) }
+        ensures rests { IfOk result (λ answer. Rests registered self.old number (model.await_of self.old.hall number k (map.get self.old.hall.senders k)) answer self.new) }
+        ensures memory { IfErr result (λ stop. stop ≡ Stop.NoMemory) }
+        ensures err { OnErr result (self.new ≡ self.old) }
+    {
+        let Some(sender) = self.senders.get(&k) else {
+            unreachable!()
+        };
+        let entry = ShutdownWaitEntry {
+            shutdown: *sender,
+            wait: ShutdownWait::Receivers {
+                wait: GroupWait::new(),
+            },
+        };
+        match self.waits.insert(number, entry) {
+            Err(_) => return Err(Stop::NoMemory),
+            Ok(_) => {}
+        }
+        let _sender = self.senders.remove(&k);
+        self.next = number as u128 + 1;
+        Ok(Answer::Made)
+    }
+
+    /// `sd.poll f w`.
+    pub fn poll(
+        &mut self,
+        number: u64,
+        f: u64,
+        waker: u64,
+        ready: &mut Ready<u64>,
+    ) -> Result<Answer, Stop>
+        requires next { self.old.next ≤ number }
+        requires there { IsSome (map.get self.old.hall.waits f) }
+        requires room { registered self.old.hall ≤ ready.old.registered }
+        ensures yields { IfOk result (λ answer. Yields registered self.old number (model.poll_of self.old.hall f waker (map.get self.old.hall.waits f)) answer self.new ready.old ready.new) }
+        ensures memory { IfErr result (λ stop. stop ≡ Stop.NoMemory) }
+        ensures err { OnErr result ((self.new ≡ self.old) × (ready.new ≡ ready.old)) }
+    {
+        let Some(wait) = self.waits.get(&f) else {
+            unreachable!()
+        };
+        let Some(entry) = self.shutdowns.get(&wait.shutdown) else {
+            unreachable!()
+        };
+        if entry.is_over(&wait.wait) {
+            self.finish(number, f, ready);
+            Ok(Answer::Ready)
+        } else {
+            self.wait_on(number, f, waker, ready)
+        }
+    }
+
+    // A poll of a future that waits.
+    fn wait_on(
+        &mut self,
+        number: u64,
+        f: u64,
+        waker: u64,
+        ready: &mut Ready<u64>,
+    ) -> Result<Answer, Stop>
+        requires next { self.old.next ≤ number }
+        requires waits { IfSome (map.get self.old.hall.waits f) (λ x. 0 < (model.awaited (model.shutdown_at self.old.hall x.shutdown) x.awaits).number) }
+        requires there { IsSome (map.get self.old.hall.waits f) }
+        requires room { registered self.old.hall ≤ ready.old.registered }
+        ensures yields { IfOk result (λ answer. Yields registered self.old number (model.poll_of self.old.hall f waker (map.get self.old.hall.waits f)) answer self.new ready.old ready.new) }
+        ensures memory { IfErr result (λ stop. stop ≡ Stop.NoMemory) }
+        ensures err { OnErr result ((self.new ≡ self.old) × (ready.new ≡ ready.old)) }
+    {
+        let Some(wait) = self.waits.get_mut(&f) else {
+            unreachable!()
+        };
+        let Some(entry) = self.shutdowns.get_mut(&wait.shutdown) else {
+            unreachable!()
+        };
+        match entry.poll(&mut wait.wait, waker, ready) {
+            Err(stop) => Err(stop),
+            Ok(()) => {
+                self.next = number as u128 + 1;
+                Ok(Answer::Pending)
+            }
+        }
+    }
+
+    /// `sd.end f`.
+    pub fn end(&mut self, number: u64, f: u64, ready: &mut Ready<u64>) -> Answer
+        requires next { self.old.next ≤ number }
+        requires there { IsSome (map.get self.old.hall.waits f) }
+        requires room { registered self.old.hall ≤ ready.old.registered }
+        ensures { Yields registered self.old number (model.end_of self.old.hall f (map.get self.old.hall.waits f)) result self.new ready.old ready.new }
+    {
+        self.finish(number, f, ready);
+        Answer::Done
+    }
+
+    // A future is gone, and its shutdown where nothing of it is left.
+    fn finish(&mut self, number: u64, f: u64, ready: &mut Ready<u64>)
+        requires next { self.old.next ≤ number }
+        requires there { IsSome (map.get self.old.hall.waits f) }
+        requires room { registered self.old.hall ≤ ready.old.registered }
+        ensures gone { IfSome (map.get self.old.hall.waits f) (λ x. self.new ≡ record { hall = model.gone self.old.hall f x; next = number + 1 }) }
+        ensures woken { ready.new.wakers ≡ ready.old.wakers }
+        ensures counted { ready.new.registered + registered self.old.hall ≡ ready.old.registered + registered self.new.hall }
+    {
+        let s = self.remove_wait(number, f);
+        self.tidy(s, ready);
+    }
+
+    // A future is gone, and its shutdown is told.
+    fn remove_wait(&mut self, number: u64, f: u64) -> u64
+        requires next { self.old.next ≤ number }
+        requires there { IsSome (map.get self.old.hall.waits f) }
+        ensures gone { IfSome (map.get self.old.hall.waits f) (λ x. (x.shutdown ≡ result) × (self.new ≡ record { hall = without_wait self.old.hall f x; next = number + 1 })) }
+        ensures there { IsSome (map.get self.new.hall.shutdowns result) }
+        ensures counted { registered self.new.hall ≡ registered self.old.hall }
+    {
+        let Some(wait) = self.waits.remove(&f) else {
+            unreachable!()
+        };
+        give_back(&mut self.receivers, wait.wait.borrowed());
+        let Some(entry) = self.shutdowns.get_mut(&wait.shutdown) else {
+            unreachable!()
+        };
+        entry.things -= 1;
+        self.next = number as u128 + 1;
+        wait.shutdown
+    }
+
+    // A shutdown is gone where nothing of it is left, with the wakers that are registered on it.
+    fn tidy(&mut self, s: u64, ready: &mut Ready<u64>)
+        requires there { IsSome (map.get self.old.hall.shutdowns s) }
+        requires room { registered self.old.hall ≤ ready.old.registered }
+        ensures gone { self.new ≡ record { hall = model.tidied self.old.hall s; next = self.old.next } }
+        ensures woken { ready.new.wakers ≡ ready.old.wakers }
+        ensures counted { ready.new.registered + registered self.old.hall ≡ ready.old.registered + registered self.new.hall }
+    {
+        let Some(entry) = self.shutdowns.get(&s) else {
+            unreachable!()
+        };
+        if entry.things > 0 {
+            return;
+        }
+        ready.unregister(entry.core.registered_on_signal());
+        ready.unregister(entry.core.registered_on_receivers());
+        let _entry = self.shutdowns.remove(&s);
+    }
+
+    /// `sd.ends k`.
+    pub fn end_sender(&mut self, number: u64, k: u64, ready: &mut Ready<u64>) -> Answer
+        requires next { self.old.next ≤ number }
+        requires there { IsSome (map.get self.old.hall.senders k) }
+        requires room { registered self.old.hall ≤ ready.old.registered }
+        ensures { Yields registered self.old number (model.end_sender_of self.old.hall k (map.get self.old.hall.senders k)) result self.new ready.old ready.new }
+    {
+        let s = self.remove_sender(number, k);
+        self.tidy(s, ready);
+        Answer::Done
+    }
+
+    // A sender is gone, and its shutdown is told.
+    fn remove_sender(&mut self, number: u64, k: u64) -> u64
+        requires next { self.old.next ≤ number }
+        requires there { IsSome (map.get self.old.hall.senders k) }
+        ensures gone { IfSome (map.get self.old.hall.senders k) (λ s. (s ≡ result) × (self.new ≡ record { hall = record self.old.hall { senders = map.remove self.old.hall.senders k }; next = number + 1 })) }
+        ensures there { IsSome (map.get self.new.hall.shutdowns result) }
+        ensures counted { registered self.new.hall ≡ registered self.old.hall }
+    {
+        let Some(s) = self.senders.remove(&k) else {
+            unreachable!()
+        };
+        let Some(entry) = self.shutdowns.get_mut(&s) else {
+            unreachable!()
+        };
+        entry.things -= 1;
+        self.next = number as u128 + 1;
+        s
+    }
+
+    /// `sd.endr k`.
+    pub fn end_receiver(&mut self, number: u64, k: u64, ready: &mut Ready<u64>) -> Answer
+        requires next { self.old.next ≤ number }
+        requires there { IsSome (map.get self.old.hall.receivers k) }
+        requires free { model.borrowers_of self.old.hall k ≡ 0 }
+        requires room { registered self.old.hall ≤ ready.old.registered }
+        ensures { Yields registered self.old number (model.end_receiver_of self.old.hall k (map.get self.old.hall.receivers k)) result self.new ready.old ready.new }
+    {
+        let s = self.remove_receiver(number, k, ready);
+        self.tidy(s, ready);
+        Answer::Done
+    }
+
+    // A receiver or watch is gone, and its shutdown is told.
+    fn remove_receiver(&mut self, number: u64, k: u64, ready: &mut Ready<u64>) -> u64
+        requires next { self.old.next ≤ number }
+        requires there { IsSome (map.get self.old.hall.receivers k) }
+        requires free { model.borrowers_of self.old.hall k ≡ 0 }
+        requires room { registered self.old.hall ≤ ready.old.registered }
+        ensures gone { IfSome (map.get self.old.hall.receivers k) (λ x. (x.shutdown ≡ result) × (self.new ≡ record { hall = without_receiver self.old.hall k x; next = number + 1 }) × (ready.new.wakers ≡ ready.old.wakers ++ woken_at_end self.old.hall x)) }
+        ensures there { IsSome (map.get self.new.hall.shutdowns result) }
+        ensures counted { ready.new.registered + registered self.old.hall ≡ ready.old.registered + registered self.new.hall }
+    {
+        let Some(receiver) = self.receivers.remove(&k) else {
+            unreachable!()
+        };
+        let Some(entry) = self.shutdowns.get_mut(&receiver.shutdown) else {
+            unreachable!()
+        };
+        entry.end_receiver(receiver.watch, ready);
+        self.next = number as u128 + 1;
+        receiver.shutdown
+    }
+}
