@@ -2,21 +2,20 @@
 -- kept, and to the shutdowns that it stands for
 use Rattle.std.proofs.Common.{◌≡◌, ◌⊎◌, inl, inr, ℕ, ◌+◌, ◌<◌, ◌≤◌, ◌^◌, ◌==◌, Bool, true, false, cond, length, refl, ap, sym, subst, ◌∙◌, arith, Option, Some, None, is_some}
 use Rattle.std.specs.Option.{option_map, IsSome}
-use Rattle.std.specs.FinMap.{FinMap, get}
+use Rattle.std.specs.FinMap.{get}
 use Rattle.std.proofs.lemmas.Bool.{eqb-true, eqb-false}
 use Rattle.mea_base.specs.Totals.{total, weight}
 use Rattle.mea_base.proofs.Totals.{total-same}
 use Rattle.mea_sets.specs.declared.place.Place.{Place}
 use Rattle.mea_sets.specs.WaitSet.{Registered, has_given}
-use Rattle.mea_meet_core.specs.Shutdown as cores
-use Rattle.mea_meet_model.specs.Shutdowns.{Shutdown, Shutdowns, borrows, registered}
-use Rattle.mea_meet.specs.Names.{Slots, waiting_at, AreNamed, AreGiven}
+use Rattle.mea_meet_model.specs.Shutdowns.{Shutdown, borrows, registered}
+use Rattle.mea_meet.specs.Names.{waiting_at, AreNamed, AreGiven}
 use Rattle.mea_meet.specs.declared.shutdowns.ShutdownEntry.{ShutdownEntry}
 use Rattle.mea_meet.specs.declared.shutdowns.ReceiverEntry.{ReceiverEntry}
 use Rattle.mea_meet.specs.declared.shutdowns.ShutdownWaitEntry.{ShutdownWaitEntry}
 use Rattle.mea_meet.specs.declared.shutdowns.ShutdownWait.{ShutdownWait as Wait}
 use Rattle.mea_meet.specs.declared.shutdowns.ShutdownWait.TheVariants as waits
-use Rattle.mea_meet.specs.ShutdownHall.{Store, End, OfSignal, OfReceivers, awaits_of, slot_of, slot_at, slot_in, slots_of, count_of, shutdown_of, receiver_of, wait_of, hall_of, borrowers_in, is_of, IsKeptEntry, IsKeptSender, IsKeptReceiver, IsKeptWait, IsKept}
+use Rattle.mea_meet.specs.ShutdownHall.{Store, End, OfSignal, OfReceivers, awaits_of, slot_at, slot_in, slots_of, shutdown_of, receiver_of, wait_of, hall_of, borrowers_in, is_of, IsKeptEntry, IsKeptSender, IsKeptReceiver, IsKeptWait, IsKept}
 use Rattle.mea_meet.proofs.Names.{waiting-length, waiting-alike, named-ends, named-new}
 use Rattle.mea_meet.proofs.ShutdownMaps.{Puts, Belongs, get-seen, put_here, put_other, total_puts, by_put, puts_seen, total-named, total_elsewhere}
 
@@ -172,12 +171,6 @@ module _ (st st' : Store) (next next' s a b f : ℕ) (e2 : ShutdownEntry) (oa : 
         by_test true h = ap (λ r. Some (shutdown_of st'.waits next' r e2)) (sym (eqb-true s q h))
         by_test false h = by_value (get st.shutdowns q) (eqb-false s q h)
 
-    pub receivers_after : Puts (hall_of st next).receivers (hall_of st' next').receivers b (option_map receiver_of ob)
-    receivers_after = puts_seen receiver_of st.receivers st'.receivers b ob c.receivers
-
-    pub waits_after : Puts (hall_of st next).waits (hall_of st' next').waits f (option_map wait_of ow)
-    waits_after = puts_seen wait_of st.waits st'.waits f ow c.waits
-
     pub registered_after : registered (hall_of st' next') + weight (λ q (e : ShutdownEntry). wakers_at e) s (get st.shutdowns s) ≡ registered (hall_of st next) + wakers_at e2
     registered_after =
         let all = total_puts st.shutdowns st'.shutdowns s (λ q (e : ShutdownEntry). wakers_at e) (Some e2) c.shutdowns in
@@ -248,18 +241,18 @@ module _ (st st' : Store) (next next' s a b f : ℕ) (e2 : ShutdownEntry) (oa : 
       kept_after = record {
         each = by_put st.shutdowns st'.shutdowns s (Some e2) c.shutdowns (λ q e. IsKeptEntry st' next' q e) (λ e is. subst (IsKeptEntry st' next' s) (inside is) w.entry) entry_other;
         sender = by_put st.senders st'.senders a oa c.senders (λ q p. IsKeptSender st' next' q p)
-          (λ p is. record { there = there_now p (c.sender_is p is); below = w.sender_below p is })
-          (λ q p apart is. let old = k.sender q p is in record { there = there_still p old.there; below = (let below = old.below in omega (arith, below, later)) });
+            (λ p is. record { there = there_now p (c.sender_is p is); below = w.sender_below p is })
+            (λ q p apart is. let old = k.sender q p is in record { there = there_still p old.there; below = (let below = old.below in omega (arith, below, later)) });
         receiver = by_put st.receivers st'.receivers b ob c.receivers (λ q x. IsKeptReceiver st' next' q x)
-          (λ x is. record { there = there_now x.shutdown (c.receiver_is x is); counted = w.counted x is; few = w.few x is; below = w.receiver_below x is })
-          receiver_other;
+            (λ x is. record { there = there_now x.shutdown (c.receiver_is x is); counted = w.counted x is; few = w.few x is; below = w.receiver_below x is })
+            receiver_other;
         wait = by_put st.waits st'.waits f ow c.waits (λ g y. IsKeptWait st' next' g y)
-          (λ y is. record {
-            there = there_now y.shutdown (c.wait_is y is);
-            borrowed = λ q lent. ap (is_of (get st'.receivers q)) (c.wait_is y is) ∙ w.borrowed y is q lent;
-            below = w.wait_below y is;
-          })
-          (λ g y apart is. let old = k.wait g y is in record { there = there_still y.shutdown old.there; borrowed = borrowed_other g y apart is; below = (let below = old.below in omega (arith, below, later)) });
+            (λ y is. record {
+              there = there_now y.shutdown (c.wait_is y is);
+              borrowed = λ q lent. ap (is_of (get st'.receivers q)) (c.wait_is y is) ∙ w.borrowed y is q lent;
+              below = w.wait_below y is;
+            })
+            (λ g y apart is. let old = k.wait g y is in record { there = there_still y.shutdown old.there; borrowed = borrowed_other g y apart is; below = (let below = old.below in omega (arith, below, later)) });
         named = named;
         low = w.low;
       }

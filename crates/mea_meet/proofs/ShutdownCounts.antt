@@ -1,7 +1,7 @@
 -- what one less does to a count, and to the count that it stands for
-use Rattle.std.proofs.Common.{◌≡◌, ℕ, ◌+◌, ◌-◌, ◌≤◌, Bool, true, false, if◌then◌else◌, List, [], length, refl, ap, sym, ◌∙◌, arith, Some}
+use Rattle.std.proofs.Common.{◌≡◌, ℕ, ◌+◌, ◌-◌, ◌≤◌, Bool, true, false, if◌then◌else◌, [], length, refl, arith, Some}
 use Rattle.std.specs.FinMap.{get}
-use Rattle.mea_sets.specs.WaitSet.{Registered, drained, has_given}
+use Rattle.mea_sets.specs.WaitSet.{drained, has_given}
 use Rattle.mea_sets.specs.Countdown as counts
 use Rattle.mea_meet_model.specs.Count as model
 use Rattle.mea_meet_model.specs.Waiting.{wakers}

@@ -1,15 +1,15 @@
 -- what the end of a future does
-use Rattle.std.proofs.Common.{◌≡◌, ◌⊎◌, inl, inr, ℕ, ◌+◌, ◌-◌, ◌<◌, ◌≤◌, ◌^◌, ◌==◌, Bool, true, false, cond, List, [], length, refl, ap, sym, subst, ◌∙◌, arith, Option, Some, None, is_some}
-use Rattle.std.specs.Option.{option_map, IsSome, IfSome}
+use Rattle.std.proofs.Common.{◌≡◌, inl, ℕ, ◌+◌, ◌-◌, ◌<◌, ◌≤◌, ◌^◌, ◌==◌, Bool, true, false, cond, List, refl, ap, sym, ◌∙◌, arith, Option, Some, None}
+use Rattle.std.specs.Option.{option_map, IfSome}
 use Rattle.std.specs.Ordering.{nat_cmp}
-use Rattle.std.specs.FinMap.{FinMap, get, insert, remove}
+use Rattle.std.specs.FinMap.{FinMap, get, insert}
 use Rattle.std.proofs.lemmas.Bool.{eqb-true, eq-eqb, ne_eqb}
 use Rattle.mea_base.specs.Named.{named, at}
 use Rattle.mea_base.specs.Totals.{total, weight}
 use Rattle.mea_sets.specs.declared.place.Place.{Place}
 use Rattle.mea_meet_model.specs.Count.{without_future}
-use Rattle.mea_meet_model.specs.Shutdowns.{Shutdown, Shutdowns, Receiver, ShutdownWait, borrows, shutdown_at, awaited, with_awaited, registered}
-use Rattle.mea_meet.specs.Names.{AreNamed, AreGiven}
+use Rattle.mea_meet_model.specs.Shutdowns.{Shutdown, borrows, awaited, with_awaited}
+use Rattle.mea_meet.specs.Names.{AreNamed}
 use Rattle.mea_meet.specs.declared.shutdowns.ShutdownEntry.{ShutdownEntry}
 use Rattle.mea_meet.specs.declared.shutdowns.ReceiverEntry.{ReceiverEntry}
 use Rattle.mea_meet.specs.declared.shutdowns.ShutdownWaitEntry.{ShutdownWaitEntry}
@@ -17,9 +17,9 @@ use Rattle.mea_meet.specs.declared.shutdowns.ShutdownWait.{ShutdownWait as Wait}
 use Rattle.mea_meet.specs.declared.shutdowns.ShutdownWait.TheVariants as waits
 use Rattle.mea_meet.specs.ShutdownHall.{Store, End, OfSignal, OfReceivers, awaits_of, borrowed_of, slot_at, slot_in, count_at, slots_of, count_of, shutdown_of, receiver_of, wait_of, hall_of, counting, borrowers_in, is_of, GivesBack, without_wait, IsKeptEntry, IsKept}
 use Rattle.mea_meet.proofs.Names.{waiting-ends}
-use Rattle.mea_meet.proofs.ShutdownMaps.{Puts, Belongs, kept-at, kept-puts, puts_same, puts_seen, put_here, total_puts, is_same, is_insert, is_remove}
-use Rattle.mea_meet.proofs.ShutdownChanges.{Changes, Unplaced, Keeps, kept_after, registered_after, wakers_at, slot_now, slot_other, named_unplaced, given_unplaced, alike_unplaced, shutdowns_after}
-use Rattle.mea_meet.proofs.ShutdownSeen.{receiver-seen, shutdown-at, some_found}
+use Rattle.mea_meet.proofs.ShutdownMaps.{Puts, Belongs, kept-at, kept-puts, puts_same, puts_seen, total_puts, is_same, is_insert, is_remove}
+use Rattle.mea_meet.proofs.ShutdownChanges.{Changes, Unplaced, kept_after, registered_after, wakers_at, slot_now, slot_other, named_unplaced, given_unplaced, alike_unplaced, shutdowns_after}
+use Rattle.mea_meet.proofs.ShutdownSeen.{receiver-seen, shutdown-at}
 use Rattle.mea_meet.proofs.ShutdownStill.{no-sender, no-receiver, belongs-none, belongs-some, own, inside, total-member, entry_after}
 use Rattle.mea_meet.proofs.ShutdownPlays.{Goes}
 
@@ -136,10 +136,10 @@ module _ (st : Store) (ss' : FinMap nat_cmp ShutdownEntry) (rs' : FinMap nat_cmp
     entry = entry_after st after next i s i b f less_entry None ob None k changes e there less (k.each s e there).quiet (k.each s e there).known
         (ap (λ n. e.core.receivers.number + n) counts_same)
         (let senders : weight (λ q (p : ℕ). cond (p == s) 1 0) i (get st.senders i) ≡ 0 = ap (weight (λ q (p : ℕ). cond (p == s) 1 0) i) (no-sender st next i k less) in
-         let mine : weight (λ q (y : ShutdownWaitEntry). cond (y.shutdown == s) 1 0) f (get st.waits f) ≡ cond (s == s) 1 0 = ap (weight (λ q (y : ShutdownWaitEntry). cond (y.shutdown == s) 1 0) f) is in
-         let one : ◌≡◌ {A = ℕ} (cond (s == s) 1 0) 1 = own s 1 in
-         let some = wait_counted st next f x e k is there in
-         omega (arith, senders, mine, one, some, things_same))
+        let mine : weight (λ q (y : ShutdownWaitEntry). cond (y.shutdown == s) 1 0) f (get st.waits f) ≡ cond (s == s) 1 0 = ap (weight (λ q (y : ShutdownWaitEntry). cond (y.shutdown == s) 1 0) f) is in
+        let one : ◌≡◌ {A = ℕ} (cond (s == s) 1 0) 1 = own s 1 in
+        let some = wait_counted st next f x e k is there in
+        omega (arith, senders, mine, one, some, things_same))
         (omega arith)
         (λ end. given_unplaced st after next (i + 1) s i b f less_entry None ob None k changes later end (count_at end e.core).waiting (inl refl) ((k.each s e there).given end))
 
@@ -159,15 +159,15 @@ module _ (st : Store) (ss' : FinMap nat_cmp ShutdownEntry) (rs' : FinMap nat_cmp
       });
       moved = λ j. record {
         shutdowns = (is_insert _ _ s (shutdown_of after.waits (i + 1) s less_entry) (shutdowns_after st after next (i + 1) s i b f less_entry None ob None k changes later named_after)
-          ∙ ap (insert (hall_of st next).shutdowns s) (seen_after x.wait refl ∙ ap (λ (q : Shutdown). with_awaited q (awaits_of x.wait) (without_future (awaited q (awaits_of x.wait)) f)) (sym (shutdown-at st next s e there)))) j;
+            ∙ ap (insert (hall_of st next).shutdowns s) (seen_after x.wait refl ∙ ap (λ (q : Shutdown). with_awaited q (awaits_of x.wait) (without_future (awaited q (awaits_of x.wait)) f)) (sym (shutdown-at st next s e there)))) j;
         senders = st.senders;
         receivers = is_same (hall_of st next).receivers _ b (option_map receiver_of ob) (receiver-seen st next b ∙ seen_same) (puts_seen receiver_of st.receivers rs' b ob receivers) j;
         waits = is_remove (hall_of st next).waits _ f (puts_seen wait_of st.waits ws' f None futures) j;
       };
       counted = (
-        let all = registered_after st after next (i + 1) s i b f less_entry None ob None k changes later named_after in
-        let before : weight (λ q (d : ShutdownEntry). wakers_at d) s (get st.shutdowns s) ≡ wakers_at e = ap (weight (λ q (d : ShutdownEntry). wakers_at d) s) there in
-        omega (arith, all, before));
+          let all = registered_after st after next (i + 1) s i b f less_entry None ob None k changes later named_after in
+          let before : weight (λ q (d : ShutdownEntry). wakers_at d) s (get st.shutdowns s) ≡ wakers_at e = ap (weight (λ q (d : ShutdownEntry). wakers_at d) s) there in
+          omega (arith, all, before));
     }
 
 -- the receivers as lists
@@ -181,10 +181,10 @@ module _ (st : Store) (ss' : FinMap nat_cmp ShutdownEntry) (old new : List (ℕ 
       let none = no-receiver st next i k less in
       let puts : Puts st.receivers (named (λ k x. x) new) i None = λ q. kept-at new q ∙ same q ∙ sym (kept-at old q) ∙ ap (λ m. get m q) (sym receivers) ∙ puts_same st.receivers i None none q in
       ends_goes st ss' (named (λ k x. x) new) ws' next i f i e x None k less low is there shutdowns puts futures
-        (belongs-none (λ y. y.shutdown) x.shutdown (get st.receivers i) none) (belongs-none (λ y. y.shutdown) x.shutdown None refl)
-        (ap (weight (λ q (y : ReceiverEntry). counting x.shutdown y) i) none) (ap (weight (λ q (y : ReceiverEntry). cond (y.shutdown == x.shutdown) 1 0) i) none) (ap (option_map receiver_of) none)
-        (λ p was. ap (λ o. is_of o p) (sym none) ∙ was) (λ y some. absurd (cc)) (λ y some. absurd (cc)) (λ y some. absurd (cc))
-        (λ q apart. ap (λ t. cond t 1 0) (borrows-of x.wait q ∙ ap (λ o. lent o q) borrowed))
+      (belongs-none (λ y. y.shutdown) x.shutdown (get st.receivers i) none) (belongs-none (λ y. y.shutdown) x.shutdown None refl)
+      (ap (weight (λ q (y : ReceiverEntry). counting x.shutdown y) i) none) (ap (weight (λ q (y : ReceiverEntry). cond (y.shutdown == x.shutdown) 1 0) i) none) (ap (option_map receiver_of) none)
+      (λ p was. ap (λ o. is_of o p) (sym none) ∙ was) (λ y some. absurd (cc)) (λ y some. absurd (cc)) (λ y some. absurd (cc))
+      (λ q apart. ap (λ t. cond t 1 0) (borrows-of x.wait q ∙ ap (λ o. lent o q) borrowed))
   remove_wait_goes (Some r) borrowed same =
       let y = (its-receiver st next f r x k is borrowed).0 in
       let found : get st.receivers r ≡ Some y = (its-receiver st next f r x k is borrowed).1 in
@@ -193,16 +193,16 @@ module _ (st : Store) (ss' : FinMap nat_cmp ShutdownEntry) (old new : List (ℕ 
       let value : option_map (λ (z : ReceiverEntry). record z { plain = z.plain - 1 }) (at old r) ≡ Some back = ap (option_map (λ (z : ReceiverEntry). record z { plain = z.plain - 1 })) (sym (kept-at old r) ∙ ap (λ m. get m r) (sym receivers) ∙ found) in
       let puts : Puts st.receivers (named (λ k x. x) new) r (Some back) = λ q. kept-puts old new r _ same q ∙ (λ j. cond (r == q) (value j) (get (sym receivers j) q)) in
       ends_goes st ss' (named (λ k x. x) new) ws' next i f r e x (Some back) k less low is there shutdowns puts futures
-        (belongs-some (λ z. z.shutdown) x.shutdown (get st.receivers r) y found mine) (belongs-some (λ z. z.shutdown) x.shutdown (Some back) back refl mine)
-        (ap (weight (λ q (z : ReceiverEntry). counting x.shutdown z) r) found) (ap (weight (λ q (z : ReceiverEntry). cond (z.shutdown == x.shutdown) 1 0) r) found) (ap (option_map receiver_of) found)
-        (λ p was. ap (λ o. is_of o p) (sym found) ∙ was)
-        (λ z some. ap (λ (v : ReceiverEntry). v.plain) (sym (inside back z some)) ∙ borrowers_now y found)
-        (λ z some. (
-          let same : z.plain ≡ y.plain - 1 = ap (λ (v : ReceiverEntry). v.plain) (sym (inside back z some)) in
-          let few = (k.receiver r y found).few in
-          omega (arith, same, few, less)))
-        (λ z some. (let below = (k.receiver r y found).below in omega (arith, below, less)))
-        (λ q apart. ap (λ t. cond t 1 0) (borrows-of x.wait q ∙ ap (λ o. lent o q) borrowed ∙ ne_eqb r q apart))
+      (belongs-some (λ z. z.shutdown) x.shutdown (get st.receivers r) y found mine) (belongs-some (λ z. z.shutdown) x.shutdown (Some back) back refl mine)
+      (ap (weight (λ q (z : ReceiverEntry). counting x.shutdown z) r) found) (ap (weight (λ q (z : ReceiverEntry). cond (z.shutdown == x.shutdown) 1 0) r) found) (ap (option_map receiver_of) found)
+      (λ p was. ap (λ o. is_of o p) (sym found) ∙ was)
+      (λ z some. ap (λ (v : ReceiverEntry). v.plain) (sym (inside back z some)) ∙ borrowers_now y found)
+      (λ z some. (
+      let same : z.plain ≡ y.plain - 1 = ap (λ (v : ReceiverEntry). v.plain) (sym (inside back z some)) in
+      let few = (k.receiver r y found).few in
+      omega (arith, same, few, less)))
+      (λ z some. (let below = (k.receiver r y found).below in omega (arith, below, less)))
+      (λ q apart. ap (λ t. cond t 1 0) (borrows-of x.wait q ∙ ap (λ o. lent o q) borrowed ∙ ne_eqb r q apart))
     where
       borrowers_now : (y : ReceiverEntry) → get st.receivers r ≡ Some y → y.plain - 1 ≡ total (λ g (z : ShutdownWaitEntry). cond (borrows (awaits_of z.wait) r) 1 0) ws'
       borrowers_now y found =

@@ -1,5 +1,5 @@
 -- events that end a thing, and tidy its shutdown away where nothing is left of it
-use Rattle.std.proofs.Common.{◌≡◌, ℕ, ◌+◌, ◌==◌, ◌++◌, Bool, true, false, if◌then◌else◌, List, [], refl, ap, sym, subst, ◌<◌, ◌∙◌, arith, Option, Some, None, append-nil}
+use Rattle.std.proofs.Common.{◌≡◌, ℕ, ◌+◌, ◌==◌, ◌++◌, Bool, true, false, if◌then◌else◌, refl, ap, sym, subst, ◌<◌, ◌∙◌, arith, Option, Some, None, append-nil}
 use Rattle.std.proofs.lemmas.Bool.{eqb-false}
 use Rattle.std.specs.Option.{option_map, IsSome, IfSome}
 use Rattle.std.specs.FinMap.{get, remove}
@@ -8,7 +8,7 @@ use Rattle.mea_base.specs.Ready.{Waking}
 use Rattle.mea_base.specs.declared.answer.Answer.{Answer}
 use Rattle.mea_base.specs.declared.answer.Answer.TheVariants as answers
 use Rattle.mea_meet_model.specs.Shutdowns.{Shutdown, Shutdowns, Receiver, ShutdownWait, shutdown_at, awaited, with_awaited, with_shutdown, tidied, gone, poll_of, end_sender_of, end_receiver_of, registered}
-use Rattle.mea_meet_model.specs.Count.{with_waker, woken_by}
+use Rattle.mea_meet_model.specs.Count.{with_waker}
 use Rattle.mea_meet.specs.Play.{Part, Yields}
 use Rattle.mea_meet.specs.declared.shutdowns.ShutdownEntry.{ShutdownEntry}
 use Rattle.mea_meet.specs.declared.shutdowns.ShutdownWaitEntry.{ShutdownWaitEntry}
@@ -86,7 +86,7 @@ module _ (st : Store) (next f v : ℕ) (e : ShutdownEntry) (x : ShutdownWaitEntr
   poll-ready : ((count_at (end_of x.wait) e.core).number == 0) ≡ true → poll_of (hall_of st next) f v (get (hall_of st next).waits f) ≡ quietly (gone (hall_of st next) f (wait_of x)) answers.Ready
   poll-ready over = ap (poll_of (hall_of st next) f v) (wait-seen st next f ∙ ap (option_map wait_of) is)
       ∙ ap (λ t. if t then quietly (gone (hall_of st next) f (wait_of x)) answers.Ready else quietly (with_shutdown (hall_of st next) x.shutdown (with_awaited (shutdown_at (hall_of st next) x.shutdown) (awaits_of x.wait) (with_waker (awaited (shutdown_at (hall_of st next) x.shutdown) (awaits_of x.wait)) f v))) answers.Pending)
-        (ap (λ n. n == 0) number-seen ∙ over)
+      (ap (λ n. n == 0) number-seen ∙ over)
 
   pub poll_finished : (i : ℕ) (new : Part Shutdowns) (before after : Waking ℕ) → ((count_at (end_of x.wait) e.core).number == 0) ≡ true → IfSome (get (hall_of st next).waits f) (λ y. new ≡ record { hall = gone (hall_of st next) f y; next = i + 1 })
       → after.wakers ≡ before.wakers → after.registered + registered (hall_of st next) ≡ before.registered + registered new.hall
@@ -95,4 +95,4 @@ module _ (st : Store) (next f v : ℕ) (e : ShutdownEntry) (x : ShutdownWaitEntr
       let is_ready = poll-ready over in
       let left : new ≡ record { hall = gone (hall_of st next) f (wait_of x); next = i + 1 } = subst (λ o. IfSome o (λ (y : ShutdownWait). new ≡ record { hall = gone (hall_of st next) f y; next = i + 1 })) (wait-seen st next f ∙ ap (option_map wait_of) is) ends in
       yields-from (record { hall = hall_of st next; next = next }) new new i (poll_of (hall_of st next) f v (get (hall_of st next).waits f)) answers.Ready before after (sym (ap (λ (p : Outcome Shutdowns). p.reply) is_ready))
-        (left ∙ (λ j. record { hall = (sym is_ready j).hall; next = i + 1 })) (wakers ∙ sym (append-nil before.wakers) ∙ ap (λ (p : Outcome Shutdowns). before.wakers ++ p.wakes) (sym is_ready)) counted
+      (left ∙ (λ j. record { hall = (sym is_ready j).hall; next = i + 1 })) (wakers ∙ sym (append-nil before.wakers) ∙ ap (λ (p : Outcome Shutdowns). before.wakers ++ p.wakes) (sym is_ready)) counted

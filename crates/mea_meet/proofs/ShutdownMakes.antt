@@ -1,20 +1,19 @@
 -- what the event does that makes a shutdown
-use Rattle.std.proofs.Common.{◌≡◌, ◌⊎◌, inl, inr, ℕ, ◌+◌, ◌<◌, ◌≤◌, ◌^◌, ◌==◌, Bool, true, false, cond, List, [], length, refl, ap, sym, subst, ◌∙◌, arith, Option, Some, None, is_some}
-use Rattle.std.specs.Option.{option_map, IsSome}
+use Rattle.std.proofs.Common.{◌≡◌, inl, ℕ, ◌+◌, ◌<◌, ◌≤◌, ◌^◌, ◌==◌, true, false, cond, [], refl, ap, sym, ◌∙◌, arith, Option, Some, None, is_some}
+use Rattle.std.specs.Option.{IsSome}
 use Rattle.std.specs.Ordering.{nat_cmp}
 use Rattle.std.specs.FinMap.{FinMap, get, insert}
 use Rattle.std.proofs.lemmas.Bool.{ne_eqb}
 use Rattle.mea_base.specs.Totals.{total, weight}
 use Rattle.mea_base.proofs.Totals.{total-zero}
-use Rattle.mea_sets.specs.declared.place.Place.{Place}
 use Rattle.mea_sets.specs.WaitSet.{Registered, has_given}
 use Rattle.mea_sets.specs.Countdown.{count_from}
-use Rattle.mea_meet_model.specs.Shutdowns.{Shutdown, Shutdowns, new_shutdown, registered}
-use Rattle.mea_meet.specs.Names.{AreNamed, AreGiven}
+use Rattle.mea_meet_model.specs.Shutdowns.{new_shutdown}
+use Rattle.mea_meet.specs.Names.{AreGiven}
 use Rattle.mea_meet.specs.declared.shutdowns.ShutdownEntry.{ShutdownEntry}
 use Rattle.mea_meet.specs.declared.shutdowns.ReceiverEntry.{ReceiverEntry}
 use Rattle.mea_meet.specs.declared.shutdowns.ShutdownWaitEntry.{ShutdownWaitEntry}
-use Rattle.mea_meet.specs.ShutdownHall.{Store, End, OfSignal, OfReceivers, count_at, slot_in, slots_of, shutdown_of, receiver_of, hall_of, counting, senders_in, receivers_in, waits_in, IsKeptEntry, IsKept}
+use Rattle.mea_meet.specs.ShutdownHall.{Store, End, count_at, slot_in, slots_of, receiver_of, hall_of, counting, senders_in, receivers_in, waits_in, IsKeptEntry, IsKept}
 use Rattle.mea_meet.proofs.ShutdownMaps.{Puts, puts_same, puts_seen, total_puts, is_insert}
 use Rattle.mea_meet.proofs.ShutdownChanges.{Changes, slot_home, wakers_at}
 use Rattle.mea_meet.proofs.ShutdownStill.{no-sender, no-receiver, no-wait, no-shutdown, belongs-none, belongs-some, own, inside, unborrowed}
@@ -78,21 +77,21 @@ module _ (st : Store) (ss' : FinMap nat_cmp ShutdownEntry) (ks' : FinMap nat_cmp
     quiet = refl;
     known = refl;
     counted = (
-      let all = total_puts st.receivers rs' i (λ q (x : ReceiverEntry). counting i x) (Some first) receivers in
-      let before : weight (λ q (x : ReceiverEntry). counting i x) i (get st.receivers i) ≡ 0 = ap (weight (λ q (x : ReceiverEntry). counting i x) i) (no-receiver st next i k less) in
-      let one : ◌≡◌ {A = ℕ} (cond (i == i) 1 0) 1 = own i 1 in
-      let zero = none-counted st next i k none in
-      omega (arith, all, before, one, zero));
+        let all = total_puts st.receivers rs' i (λ q (x : ReceiverEntry). counting i x) (Some first) receivers in
+        let before : weight (λ q (x : ReceiverEntry). counting i x) i (get st.receivers i) ≡ 0 = ap (weight (λ q (x : ReceiverEntry). counting i x) i) (no-receiver st next i k less) in
+        let one : ◌≡◌ {A = ℕ} (cond (i == i) 1 0) 1 = own i 1 in
+        let zero = none-counted st next i k none in
+        omega (arith, all, before, one, zero));
     things = (
-      let all = total_puts st.senders ks' i (λ q (p : ℕ). cond (p == i) 1 0) (Some i) senders in
-      let some = total_puts st.receivers rs' i (λ q (x : ReceiverEntry). cond (x.shutdown == i) 1 0) (Some first) receivers in
-      let before : weight (λ q (p : ℕ). cond (p == i) 1 0) i (get st.senders i) ≡ 0 = ap (weight (λ q (p : ℕ). cond (p == i) 1 0) i) (no-sender st next i k less) in
-      let earlier : weight (λ q (x : ReceiverEntry). cond (x.shutdown == i) 1 0) i (get st.receivers i) ≡ 0 = ap (weight (λ q (x : ReceiverEntry). cond (x.shutdown == i) 1 0) i) (no-receiver st next i k less) in
-      let one : ◌≡◌ {A = ℕ} (cond (i == i) 1 0) 1 = own i 1 in
-      let zero = no-senders st next i k none in
-      let nothing = no-receivers st next i k none in
-      let nobody = no-waits st next i k none in
-      omega (arith, all, some, before, earlier, one, zero, nothing, nobody));
+        let all = total_puts st.senders ks' i (λ q (p : ℕ). cond (p == i) 1 0) (Some i) senders in
+        let some = total_puts st.receivers rs' i (λ q (x : ReceiverEntry). cond (x.shutdown == i) 1 0) (Some first) receivers in
+        let before : weight (λ q (p : ℕ). cond (p == i) 1 0) i (get st.senders i) ≡ 0 = ap (weight (λ q (p : ℕ). cond (p == i) 1 0) i) (no-sender st next i k less) in
+        let earlier : weight (λ q (x : ReceiverEntry). cond (x.shutdown == i) 1 0) i (get st.receivers i) ≡ 0 = ap (weight (λ q (x : ReceiverEntry). cond (x.shutdown == i) 1 0) i) (no-receiver st next i k less) in
+        let one : ◌≡◌ {A = ℕ} (cond (i == i) 1 0) 1 = own i 1 in
+        let zero = no-senders st next i k none in
+        let nothing = no-receivers st next i k none in
+        let nobody = no-waits st next i k none in
+        omega (arith, all, some, before, earlier, one, zero, nothing, nobody));
     few = omega arith;
     given = λ end. none-given st next i k none end (count_at end made.core).waiting;
     below = omega arith;
@@ -106,8 +105,8 @@ module _ (st : Store) (ss' : FinMap nat_cmp ShutdownEntry) (ks' : FinMap nat_cmp
   })
   make_goes = record {
     kept = kept_all st after next i i i i made (Some i) (Some first) k less changes low entry (λ p some. omega arith)
-      (λ x some. (ap (λ (y : ReceiverEntry). y.plain) (sym (inside first x some)), unborrowed st next i k (no-receiver st next i k less), omega arith))
-      (inl (unborrowed st next i k (no-receiver st next i k less)));
+        (λ x some. (ap (λ (y : ReceiverEntry). y.plain) (sym (inside first x some)), unborrowed st next i k (no-receiver st next i k less), omega arith))
+        (inl (unborrowed st next i k (no-receiver st next i k less)));
     moved = λ j. record {
       shutdowns = is_insert (hall_of st next).shutdowns _ i new_shutdown (shutdowns_put st after next i i i i made (Some i) (Some first) k less changes) j;
       senders = is_insert st.senders ks' i i senders j;
@@ -115,7 +114,7 @@ module _ (st : Store) (ss' : FinMap nat_cmp ShutdownEntry) (ks' : FinMap nat_cmp
       waits = waits_same st after next i i i i made (Some i) (Some first) k less changes j;
     };
     counted = (
-      let all = counts_after st after next i i i i made (Some i) (Some first) k less changes in
-      let before : weight (λ q (d : ShutdownEntry). wakers_at d) i (get st.shutdowns i) ≡ 0 = ap (weight (λ q (d : ShutdownEntry). wakers_at d) i) none in
-      omega (arith, all, before));
+        let all = counts_after st after next i i i i made (Some i) (Some first) k less changes in
+        let before : weight (λ q (d : ShutdownEntry). wakers_at d) i (get st.shutdowns i) ≡ 0 = ap (weight (λ q (d : ShutdownEntry). wakers_at d) i) none in
+        omega (arith, all, before));
   }

@@ -1,6 +1,6 @@
 -- what the events do that change no future
-use Rattle.std.proofs.Common.{◌≡◌, ◌⊎◌, inl, inr, ℕ, ◌+◌, ◌-◌, ◌<◌, ◌≤◌, ◌^◌, ◌==◌, ◌++◌, Bool, true, false, cond, List, [], length, refl, ap, sym, subst, ◌∙◌, arith, Option, Some, None, is_some}
-use Rattle.std.specs.Option.{option_map, IsSome}
+use Rattle.std.proofs.Common.{◌≡◌, ◌⊎◌, inl, inr, ℕ, ◌+◌, ◌-◌, ◌<◌, ◌≤◌, ◌^◌, ◌==◌, ◌++◌, cond, List, [], length, refl, ap, sym, ◌∙◌, arith, Option, Some, None}
+use Rattle.std.specs.Option.{option_map}
 use Rattle.std.specs.Ordering.{nat_cmp}
 use Rattle.std.specs.FinMap.{FinMap, get, insert, remove}
 use Rattle.mea_base.specs.Totals.{total, weight}
@@ -11,16 +11,16 @@ use Rattle.mea_sets.specs.Countdown.{decreased, woken_by}
 use Rattle.mea_meet_model.specs.Count as model
 use Rattle.mea_meet_model.specs.Shutdowns.{Shutdown, Shutdowns, shutdown_at, borrows, registered}
 use Rattle.mea_meet.specs.Names.{AreNamed, AreGiven}
-use Rattle.mea_meet.specs.Play.{Part, Rests, Yields}
+use Rattle.mea_meet.specs.Play.{Rests, Yields}
 use Rattle.mea_meet.specs.declared.shutdowns.ShutdownEntry.{ShutdownEntry}
 use Rattle.mea_meet.specs.declared.shutdowns.ReceiverEntry.{ReceiverEntry}
 use Rattle.mea_meet.specs.declared.shutdowns.ShutdownWaitEntry.{ShutdownWaitEntry}
-use Rattle.mea_meet.specs.ShutdownHall.{Store, End, OfSignal, OfReceivers, awaits_of, wait_of, count_at, slot_in, slots_of, count_of, shutdown_of, receiver_of, hall_of, counting, borrowers_in, is_of, IsKeptEntry, IsKept}
-use Rattle.mea_meet.proofs.ShutdownMaps.{Puts, Belongs, puts_same, puts_seen, put_here, is_same, is_insert, is_remove}
-use Rattle.mea_meet.proofs.ShutdownChanges.{Changes, Unplaced, Keeps, kept_after, receivers_after, registered_after, wakers_at}
+use Rattle.mea_meet.specs.ShutdownHall.{Store, End, OfSignal, OfReceivers, awaits_of, wait_of, count_at, slot_in, slots_of, count_of, shutdown_of, hall_of, counting, borrowers_in, is_of, IsKeptEntry, IsKept}
+use Rattle.mea_meet.proofs.ShutdownMaps.{Puts, Belongs, puts_same, puts_seen, is_same, is_insert, is_remove}
+use Rattle.mea_meet.proofs.ShutdownChanges.{Changes, Unplaced, kept_after, registered_after, wakers_at}
 use Rattle.mea_meet.proofs.ShutdownCounts.{decreased-seen, woken-seen, given-decreased, woken-all}
 use Rattle.mea_meet.proofs.ShutdownSeen.{shutdown-seen, shutdown-at, wait-seen}
-use Rattle.mea_meet.proofs.ShutdownStill.{total-member, no-sender, no-receiver, no-wait, no-shutdown, belongs-none, belongs-some, own, unborrowed, borrows-nothing, entry_after, still_named, still_given, still_shutdowns}
+use Rattle.mea_meet.proofs.ShutdownStill.{total-member, no-sender, no-receiver, no-wait, belongs-none, belongs-some, own, borrows-nothing, entry_after, still_named, still_given, still_shutdowns}
 
 -- an event leaves these shutdowns, and no waker is registered or woken
 pub record Goes (st st' : Store) (next i : ℕ) (h : Shutdowns) : Type 0 where
@@ -49,9 +49,9 @@ yields st st' next i h o reply woken before after wakes is moved counted = recor
   moved = (λ j. record { hall = (wakes.moved ∙ sym (ap (λ (p : Outcome Shutdowns). p.hall) is)) j; next = i + 1 });
   woken = moved ∙ ap (λ ws. before.wakers ++ ws) (sym (ap (λ (p : Outcome Shutdowns). p.wakes) is));
   counted = (
-    let halls : registered o.hall ≡ registered (hall_of st' (i + 1)) = ap (λ (p : Outcome Shutdowns). registered p.hall) is ∙ sym (ap registered wakes.moved) in
-    let all = wakes.counted in
-    omega (arith, halls, all, counted));
+      let halls : registered o.hall ≡ registered (hall_of st' (i + 1)) = ap (λ (p : Outcome Shutdowns). registered p.hall) is ∙ sym (ap registered wakes.moved) in
+      let all = wakes.counted in
+      omega (arith, halls, all, counted));
 }
 
 -- no future changes: those of the number of the event are none
@@ -126,12 +126,12 @@ module _ (st : Store) (ss' : FinMap nat_cmp ShutdownEntry) (ks' : FinMap nat_cmp
       → ((end : End) → AreGiven (slots_of end st.waits) s (count_at end e2.core).waiting) → ((p : ℕ) → oa ≡ Some p → a < i + 1) → IsKept by_sender (i + 1)
   sender_kept quiet known number things few given_still below = kept_all st by_sender next i s a i e2 oa None k less sender_changes low
       (entry_after st by_sender next i s a i i e2 oa None None k sender_changes e there less quiet known
-        (let none : weight (λ q (x : ReceiverEntry). counting s x) i (get st.receivers i) ≡ 0 = ap (weight (λ q (x : ReceiverEntry). counting s x) i) (no-receiver st next i k less) in omega (arith, number, none))
-        (let receivers : weight (λ q (x : ReceiverEntry). cond (x.shutdown == s) 1 0) i (get st.receivers i) ≡ 0 = ap (weight (λ q (x : ReceiverEntry). cond (x.shutdown == s) 1 0) i) (no-receiver st next i k less) in
-         let futures : weight (λ q (x : ShutdownWaitEntry). cond (x.shutdown == s) 1 0) i (get st.waits i) ≡ 0 = ap (weight (λ q (x : ShutdownWaitEntry). cond (x.shutdown == s) 1 0) i) (no-wait st next i k less) in
-         omega (arith, things, receivers, futures))
-        few
-        (λ end. given st by_sender next i s a i e2 oa None k less sender_changes end (given_still end)))
+      (let none : weight (λ q (x : ReceiverEntry). counting s x) i (get st.receivers i) ≡ 0 = ap (weight (λ q (x : ReceiverEntry). counting s x) i) (no-receiver st next i k less) in omega (arith, number, none))
+      (let receivers : weight (λ q (x : ReceiverEntry). cond (x.shutdown == s) 1 0) i (get st.receivers i) ≡ 0 = ap (weight (λ q (x : ReceiverEntry). cond (x.shutdown == s) 1 0) i) (no-receiver st next i k less) in
+      let futures : weight (λ q (x : ShutdownWaitEntry). cond (x.shutdown == s) 1 0) i (get st.waits i) ≡ 0 = ap (weight (λ q (x : ShutdownWaitEntry). cond (x.shutdown == s) 1 0) i) (no-wait st next i k less) in
+      omega (arith, things, receivers, futures))
+      few
+      (λ end. given st by_sender next i s a i e2 oa None k less sender_changes end (given_still end)))
       below (λ x none. absurd (cc)) (inr (sym (no-receiver st next i k less)))
 
   -- the shutdown is seen as this
@@ -163,10 +163,10 @@ module _ (st : Store) (ss' : FinMap nat_cmp ShutdownEntry) (ks' : FinMap nat_cmp
   pub copy_sender_goes : Goes st (record { shutdowns = ss'; senders = ks'; receivers = st.receivers; waits = st.waits }) next i (record (hall_of st next) { senders = insert (hall_of st next).senders i s })
   copy_sender_goes = record {
     kept = sender_kept st ss' ks' next i s i e e2 (Some s) k less low there shutdowns senders was is (k.each s e there).quiet (k.each s e there).known refl
-      (let none : weight (λ q (p : ℕ). cond (p == s) 1 0) i (get st.senders i) ≡ 0 = ap (weight (λ q (p : ℕ). cond (p == s) 1 0) i) (no-sender st next i k less) in
-       let one : ◌≡◌ {A = ℕ} (cond (s == s) 1 0) 1 = own s 1 in
-       omega (arith, none, one))
-      (omega arith) (k.each s e there).given (λ p some. omega arith);
+        (let none : weight (λ q (p : ℕ). cond (p == s) 1 0) i (get st.senders i) ≡ 0 = ap (weight (λ q (p : ℕ). cond (p == s) 1 0) i) (no-sender st next i k less) in
+        let one : ◌≡◌ {A = ℕ} (cond (s == s) 1 0) 1 = own s 1 in
+        omega (arith, none, one))
+        (omega arith) (k.each s e there).given (λ p some. omega arith);
     moved = λ j. record {
       shutdowns = is_same _ _ s (Some (shutdown_of st.waits next s e)) (seen_before st next s e there) (sender_shutdowns st ss' ks' next i s i e e2 (Some s) k less low there shutdowns senders was is) j;
       senders = is_insert st.senders ks' i s senders j;
@@ -177,41 +177,41 @@ module _ (st : Store) (ss' : FinMap nat_cmp ShutdownEntry) (ks' : FinMap nat_cmp
   }
 
 -- ---- a sender less
-module _ (st : Store) (ss' : FinMap nat_cmp ShutdownEntry) (ks' : FinMap nat_cmp ℕ) (next i a s : ℕ) (e : ShutdownEntry) (k : IsKept st next) (less : next ≤ i) (low : i < 2 ^ 64) (there : get st.shutdowns s ≡ Some e) (sender : get st.senders a ≡ Some s) where
-  -- its shutdown counts it
-  pub sender_counted : 1 ≤ e.things
-  sender_counted =
-      let part = total-member (λ q (p : ℕ). cond (p == s) 1 0) st.senders a s sender in
-      let one : ◌≡◌ {A = ℕ} (cond (s == s) 1 0) 1 = own s 1 in
-      let all = (k.each s e there).things in
-      omega (arith, part, one, all)
+-- its shutdown counts it
+pub sender_counted : (st : Store) (next a s : ℕ) (e : ShutdownEntry) → IsKept st next → get st.shutdowns s ≡ Some e → get st.senders a ≡ Some s → 1 ≤ e.things
+sender_counted st next a s e k there sender =
+    let part = total-member (λ q (p : ℕ). cond (p == s) 1 0) st.senders a s sender in
+    let one : ◌≡◌ {A = ℕ} (cond (s == s) 1 0) 1 = own s 1 in
+    let all = (k.each s e there).things in
+    omega (arith, part, one, all)
 
-  module _ (shutdowns : Puts st.shutdowns ss' s (Some (record e { things = e.things - 1 }))) (senders : Puts st.senders ks' a None) where
-    abbrev less_sender : ShutdownEntry
-    less_sender = record e { things = e.things - 1 }
+module _ (st : Store) (ss' : FinMap nat_cmp ShutdownEntry) (ks' : FinMap nat_cmp ℕ) (next i a s : ℕ) (e : ShutdownEntry) (k : IsKept st next) (less : next ≤ i) (low : i < 2 ^ 64) (there : get st.shutdowns s ≡ Some e) (sender : get st.senders a ≡ Some s)
+    (shutdowns : Puts st.shutdowns ss' s (Some (record e { things = e.things - 1 }))) (senders : Puts st.senders ks' a None) where
+  abbrev less_sender : ShutdownEntry
+  less_sender = record e { things = e.things - 1 }
 
-    abbrev sender_of : Belongs {X = ℕ} (λ p. p) s (get st.senders a)
-    sender_of = belongs-some (λ p. p) s (get st.senders a) s sender refl
+  abbrev sender_of : Belongs {X = ℕ} (λ p. p) s (get st.senders a)
+  sender_of = belongs-some (λ p. p) s (get st.senders a) s sender refl
 
-    abbrev sender_gone : Belongs {X = ℕ} (λ p. p) s None
-    sender_gone = belongs-none (λ p. p) s None refl
+  abbrev sender_gone : Belongs {X = ℕ} (λ p. p) s None
+  sender_gone = belongs-none (λ p. p) s None refl
 
-    pub remove_sender_goes : Goes st (record { shutdowns = ss'; senders = ks'; receivers = st.receivers; waits = st.waits }) next i (record (hall_of st next) { senders = remove (hall_of st next).senders a })
-    remove_sender_goes = record {
-      kept = sender_kept st ss' ks' next i s a e less_sender None k less low there shutdowns senders sender_of sender_gone (k.each s e there).quiet (k.each s e there).known refl
-        (let counted = sender_counted in
-         let one : ◌≡◌ {A = ℕ} (cond (s == s) 1 0) 1 = own s 1 in
-         let was : weight (λ q (p : ℕ). cond (p == s) 1 0) a (get st.senders a) ≡ cond (s == s) 1 0 = ap (weight (λ q (p : ℕ). cond (p == s) 1 0) a) sender in
-         omega (arith, counted, one, was))
+  pub remove_sender_goes : Goes st (record { shutdowns = ss'; senders = ks'; receivers = st.receivers; waits = st.waits }) next i (record (hall_of st next) { senders = remove (hall_of st next).senders a })
+  remove_sender_goes = record {
+    kept = sender_kept st ss' ks' next i s a e less_sender None k less low there shutdowns senders sender_of sender_gone (k.each s e there).quiet (k.each s e there).known refl
+        (let counted = sender_counted st next a s e k there sender in
+        let one : ◌≡◌ {A = ℕ} (cond (s == s) 1 0) 1 = own s 1 in
+        let was : weight (λ q (p : ℕ). cond (p == s) 1 0) a (get st.senders a) ≡ cond (s == s) 1 0 = ap (weight (λ q (p : ℕ). cond (p == s) 1 0) a) sender in
+        omega (arith, counted, one, was))
         (omega arith) (k.each s e there).given (λ p none. absurd (cc));
-      moved = λ j. record {
-        shutdowns = is_same _ _ s (Some (shutdown_of st.waits next s e)) (seen_before st next s e there) (sender_shutdowns st ss' ks' next i s a e less_sender None k less low there shutdowns senders sender_of sender_gone) j;
-        senders = is_remove st.senders ks' a senders j;
-        receivers = (hall_of st next).receivers;
-        waits = sender_waits st ss' ks' next i s a e less_sender None k less low there shutdowns senders sender_of sender_gone j;
-      };
-      counted = (let all = sender_counts st ss' ks' next i s a e less_sender None k less low there shutdowns senders sender_of sender_gone in omega (arith, all));
-    }
+    moved = λ j. record {
+      shutdowns = is_same _ _ s (Some (shutdown_of st.waits next s e)) (seen_before st next s e there) (sender_shutdowns st ss' ks' next i s a e less_sender None k less low there shutdowns senders sender_of sender_gone) j;
+      senders = is_remove st.senders ks' a senders j;
+      receivers = (hall_of st next).receivers;
+      waits = sender_waits st ss' ks' next i s a e less_sender None k less low there shutdowns senders sender_of sender_gone j;
+    };
+    counted = (let all = sender_counts st ss' ks' next i s a e less_sender None k less low there shutdowns senders sender_of sender_gone in omega (arith, all));
+  }
 
 -- ---- the signal is set
 module _ (st : Store) (ss' : FinMap nat_cmp ShutdownEntry) (next i s : ℕ) (e : ShutdownEntry) (k : IsKept st next) (less : next ≤ i) (low : i < 2 ^ 64) (there : get st.shutdowns s ≡ Some e)
@@ -236,8 +236,8 @@ module _ (st : Store) (ss' : FinMap nat_cmp ShutdownEntry) (next i s : ℕ) (e :
       (record (hall_of st next) { shutdowns = insert (hall_of st next).shutdowns s (record (shutdown_at (hall_of st next) s) { signal = model.decreased (shutdown_at (hall_of st next) s).signal 1 }) }) (woken_by e.core.signal 1)
   signal_wakes = record {
     kept = sender_kept st ss' st.senders next i s i e signalled None k less low there shutdowns same_senders no_sender_there no_sender_new (k.each s e there).quiet (k.each s e there).known refl
-      (let none : weight (λ q (p : ℕ). cond (p == s) 1 0) i (get st.senders i) ≡ 0 = ap (weight (λ q (p : ℕ). cond (p == s) 1 0) i) (no-sender st next i k less) in omega (arith, none))
-      (omega arith) given_signalled (λ p none. absurd (cc));
+        (let none : weight (λ q (p : ℕ). cond (p == s) 1 0) i (get st.senders i) ≡ 0 = ap (weight (λ q (p : ℕ). cond (p == s) 1 0) i) (no-sender st next i k less) in omega (arith, none))
+        (omega arith) given_signalled (λ p none. absurd (cc));
     moved = λ j. record {
       shutdowns = (is_insert _ _ s (shutdown_of st.waits next s signalled) (sender_shutdowns st ss' st.senders next i s i e signalled None k less low there shutdowns same_senders no_sender_there no_sender_new) ∙ ap (insert (hall_of st next).shutdowns s) signal_seen) j;
       senders = st.senders;
@@ -245,9 +245,9 @@ module _ (st : Store) (ss' : FinMap nat_cmp ShutdownEntry) (next i s : ℕ) (e :
       waits = sender_waits st ss' st.senders next i s i e signalled None k less low there shutdowns same_senders no_sender_there no_sender_new j;
     };
     counted = (
-      let all = sender_counts st ss' st.senders next i s i e signalled None k less low there shutdowns same_senders no_sender_there no_sender_new in
-      let woken = woken-all e.core.signal in
-      omega (arith, all, woken));
+        let all = sender_counts st ss' st.senders next i s i e signalled None k less low there shutdowns same_senders no_sender_there no_sender_new in
+        let woken = woken-all e.core.signal in
+        omega (arith, all, woken));
   }
     where
       signal_seen : shutdown_of st.waits next s signalled ≡ record (shutdown_at (hall_of st next) s) { signal = model.decreased (shutdown_at (hall_of st next) s).signal 1 }
@@ -269,8 +269,8 @@ module _ (st : Store) (next i s : ℕ) (e : ShutdownEntry) (k : IsKept st next) 
       let same = puts_same st.senders i None (no-sender st next i k less) in
       record {
         kept = sender_kept st st.shutdowns st.senders next i s i e e None k less low there same_shutdowns same was is (k.each s e there).quiet (k.each s e there).known refl
-          (let none : weight (λ q (p : ℕ). cond (p == s) 1 0) i (get st.senders i) ≡ 0 = ap (weight (λ q (p : ℕ). cond (p == s) 1 0) i) (no-sender st next i k less) in omega (arith, none))
-          (omega arith) (k.each s e there).given (λ p none. absurd (cc));
+            (let none : weight (λ q (p : ℕ). cond (p == s) 1 0) i (get st.senders i) ≡ 0 = ap (weight (λ q (p : ℕ). cond (p == s) 1 0) i) (no-sender st next i k less) in omega (arith, none))
+            (omega arith) (k.each s e there).given (λ p none. absurd (cc));
         moved = λ j. record {
           shutdowns = is_same _ _ s (Some (shutdown_of st.waits next s e)) (seen_before st next s e there) (sender_shutdowns st st.shutdowns st.senders next i s i e e None k less low there same_shutdowns same was is) j;
           senders = st.senders;

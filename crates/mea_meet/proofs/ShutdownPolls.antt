@@ -1,27 +1,27 @@
 -- what a poll of a future does that is not over
-use Rattle.std.proofs.Common.{◌≡◌, ◌⊎◌, inl, inr, ℕ, ◌+◌, ◌<◌, ◌≤◌, ◌^◌, ◌==◌, ◌++◌, Bool, true, false, cond, if◌then◌else◌, List, [], length, refl, ap, sym, subst, ◌∙◌, arith, Option, Some, None, is_some, append-nil}
-use Rattle.std.specs.Option.{option_map, IsSome, IfSome}
+use Rattle.std.proofs.Common.{◌≡◌, inl, ℕ, ◌+◌, ◌<◌, ◌≤◌, ◌^◌, ◌==◌, ◌++◌, true, cond, if◌then◌else◌, length, refl, ap, sym, subst, ◌∙◌, arith, Option, Some, None, append-nil}
+use Rattle.std.specs.Option.{option_map, IfSome}
 use Rattle.std.specs.Ordering.{nat_cmp}
 use Rattle.std.specs.FinMap.{FinMap, get, insert}
 use Rattle.std.proofs.lemmas.Bool.{ne_eqb}
-use Rattle.mea_base.specs.Totals.{total, weight}
+use Rattle.mea_base.specs.Totals.{weight}
 use Rattle.mea_base.specs.Family.{Outcome, quietly}
 use Rattle.mea_base.specs.Ready.{Waking}
 use Rattle.mea_base.specs.declared.answer.Answer.TheVariants as answers
 use Rattle.mea_sets.specs.declared.place.Place.{Place}
-use Rattle.mea_sets.specs.WaitSet.{Registered, has_given, with_waker, slot_after}
+use Rattle.mea_sets.specs.WaitSet.{has_given, with_waker, slot_after}
 use Rattle.mea_meet_model.specs.Count as model
 use Rattle.mea_meet_model.specs.Shutdowns.{Shutdown, Shutdowns, ShutdownWait, borrows, shutdown_at, awaited, with_awaited, with_shutdown, poll_of, gone, registered}
 use Rattle.mea_meet.specs.Names.{AreNamed, AreGiven}
-use Rattle.mea_meet.specs.Play.{Part, Yields}
+use Rattle.mea_meet.specs.Play.{Yields}
 use Rattle.mea_meet.specs.declared.shutdowns.ShutdownEntry.{ShutdownEntry}
 use Rattle.mea_meet.specs.declared.shutdowns.ReceiverEntry.{ReceiverEntry}
 use Rattle.mea_meet.specs.declared.shutdowns.ShutdownWaitEntry.{ShutdownWaitEntry}
 use Rattle.mea_meet.specs.declared.shutdowns.ShutdownWait.{ShutdownWait as Wait}
 use Rattle.mea_meet.specs.declared.shutdowns.ShutdownWait.TheVariants as waits
-use Rattle.mea_meet.specs.ShutdownHall.{Store, End, OfSignal, OfReceivers, end_of, slot_of, awaits_of, set_at, polled, polled_wait, slot_at, slot_in, count_at, slots_of, count_of, shutdown_of, receiver_of, wait_of, hall_of, counting, borrowers_in, is_of, IsKeptEntry, IsKept}
+use Rattle.mea_meet.specs.ShutdownHall.{Store, End, OfSignal, OfReceivers, end_of, slot_of, awaits_of, set_at, polled, polled_wait, slot_at, slot_in, count_at, slots_of, count_of, shutdown_of, wait_of, hall_of, counting, is_of, IsKeptEntry, IsKept}
 use Rattle.mea_meet.proofs.Names.{waiting-registers, named-registers, given-registers}
-use Rattle.mea_meet.proofs.ShutdownMaps.{Puts, Belongs, puts_same, puts_seen, total_puts, is_same, is_insert}
+use Rattle.mea_meet.proofs.ShutdownMaps.{Puts, puts_same, puts_seen, is_same, is_insert}
 use Rattle.mea_meet.proofs.ShutdownChanges.{Changes, Unplaced, kept_after, registered_after, wakers_at, slot_now, slot_other, named_unplaced, given_unplaced, alike_unplaced, shutdowns_after}
 use Rattle.mea_meet.proofs.ShutdownSeen.{wait-seen, shutdown-at}
 use Rattle.mea_meet.proofs.ShutdownStill.{no-sender, no-receiver, belongs-none, belongs-some, inside, entry_after}
@@ -166,12 +166,12 @@ module _ (st : Store) (ss' : FinMap nat_cmp ShutdownEntry) (ws' : FinMap nat_cmp
   entry = entry_after st after next i s i i f e2 None None (Some waiting) k changes e there less (polled-quiet e x.wait v ∙ (k.each s e there).quiet)
       ((k.each s e there).known ∙ sym (polled-number e x.wait v))
       (let same = polled-number e x.wait v in
-       let none : weight (λ q (y : ReceiverEntry). counting s y) i (get st.receivers i) ≡ 0 = ap (weight (λ q (y : ReceiverEntry). counting s y) i) (no-receiver st next i k less) in
-       omega (arith, same, none))
+      let none : weight (λ q (y : ReceiverEntry). counting s y) i (get st.receivers i) ≡ 0 = ap (weight (λ q (y : ReceiverEntry). counting s y) i) (no-receiver st next i k less) in
+      omega (arith, same, none))
       (let senders : weight (λ q (p : ℕ). cond (p == s) 1 0) i (get st.senders i) ≡ 0 = ap (weight (λ q (p : ℕ). cond (p == s) 1 0) i) (no-sender st next i k less) in
-       let none : weight (λ q (y : ReceiverEntry). cond (y.shutdown == s) 1 0) i (get st.receivers i) ≡ 0 = ap (weight (λ q (y : ReceiverEntry). cond (y.shutdown == s) 1 0) i) (no-receiver st next i k less) in
-       let mine : weight (λ q (y : ShutdownWaitEntry). cond (y.shutdown == s) 1 0) f (get st.waits f) ≡ cond (s == s) 1 0 = ap (weight (λ q (y : ShutdownWaitEntry). cond (y.shutdown == s) 1 0) f) is in
-       omega (arith, senders, none, mine))
+      let none : weight (λ q (y : ReceiverEntry). cond (y.shutdown == s) 1 0) i (get st.receivers i) ≡ 0 = ap (weight (λ q (y : ReceiverEntry). cond (y.shutdown == s) 1 0) i) (no-receiver st next i k less) in
+      let mine : weight (λ q (y : ShutdownWaitEntry). cond (y.shutdown == s) 1 0) f (get st.waits f) ≡ cond (s == s) 1 0 = ap (weight (λ q (y : ShutdownWaitEntry). cond (y.shutdown == s) 1 0) f) is in
+      omega (arith, senders, none, mine))
       (omega arith)
       (λ end. given_by end x.wait refl)
 
@@ -192,7 +192,7 @@ module _ (st : Store) (ss' : FinMap nat_cmp ShutdownEntry) (ws' : FinMap nat_cmp
   pub wait_on_moved : hall_of after (i + 1) ≡ with_shutdown (hall_of st next) s (with_awaited (shutdown_at (hall_of st next) s) (awaits_of x.wait) (model.with_waker (awaited (shutdown_at (hall_of st next) s) (awaits_of x.wait)) f v))
   wait_on_moved = λ j. record {
     shutdowns = (is_insert _ _ s (shutdown_of after.waits (i + 1) s e2) (shutdowns_after st after next (i + 1) s i i f e2 None None (Some waiting) k changes later named)
-      ∙ ap (insert (hall_of st next).shutdowns s) (seen_after x.wait refl ∙ ap (λ (q : Shutdown). with_awaited q (awaits_of x.wait) (model.with_waker (awaited q (awaits_of x.wait)) f v)) (sym (shutdown-at st next s e there)))) j;
+        ∙ ap (insert (hall_of st next).shutdowns s) (seen_after x.wait refl ∙ ap (λ (q : Shutdown). with_awaited q (awaits_of x.wait) (model.with_waker (awaited q (awaits_of x.wait)) f v)) (sym (shutdown-at st next s e there)))) j;
     senders = st.senders;
     receivers = (hall_of st next).receivers;
     waits = is_same (hall_of st next).waits _ f (Some (wait_of waiting)) (wait-seen st next f ∙ ap (option_map wait_of) is ∙ ap (λ a. Some (record { shutdown = s; awaits = a })) (sym (polled-awaits e x.wait))) (puts_seen wait_of st.waits ws' f (Some waiting) futures) j;
@@ -212,7 +212,7 @@ module _ (st : Store) (ss' : FinMap nat_cmp ShutdownEntry) (ws' : FinMap nat_cmp
       let number : (awaited (shutdown_at (hall_of st next) s) (awaits_of x.wait)).number ≡ (count_at (end_of x.wait) e.core).number = ap (λ (q : Shutdown). (awaited q (awaits_of x.wait)).number) (shutdown-at st next s e there) ∙ awaited-number st next s e x.wait in
       ap (poll_of (hall_of st next) f v) (wait-seen st next f ∙ ap (option_map wait_of) is)
       ∙ ap (λ t. if t then quietly (gone (hall_of st next) f (wait_of x)) answers.Ready else quietly (with_shutdown (hall_of st next) s (with_awaited (shutdown_at (hall_of st next) s) (awaits_of x.wait) (model.with_waker (awaited (shutdown_at (hall_of st next) s) (awaits_of x.wait)) f v))) answers.Pending)
-        (ne_eqb (awaited (shutdown_at (hall_of st next) s) (awaits_of x.wait)).number 0 (λ zero. omega (arith, zero, number, some)))
+      (ne_eqb (awaited (shutdown_at (hall_of st next) s) (awaits_of x.wait)).number 0 (λ zero. omega (arith, zero, number, some)))
 
   pub wait_on_yields : (before now : Waking ℕ) → 0 < (count_at (end_of x.wait) e.core).number → now.wakers ≡ before.wakers → now.registered + length (set_at e x.wait).wakers ≡ before.registered + length (set_at e2 x.wait).wakers
       → Yields registered (record { hall = hall_of st next; next = next }) i (poll_of (hall_of st next) f v (get (hall_of st next).waits f)) answers.Pending (record { hall = hall_of after (i + 1); next = i + 1 }) before now
@@ -221,7 +221,7 @@ module _ (st : Store) (ss' : FinMap nat_cmp ShutdownEntry) (ws' : FinMap nat_cmp
     moved = (λ j. record { hall = (wait_on_moved ∙ sym (ap (λ (o : Outcome Shutdowns). o.hall) (pending some))) j; next = i + 1 });
     woken = wakers ∙ sym (append-nil before.wakers) ∙ ap (λ ws. before.wakers ++ ws) (sym (ap (λ (o : Outcome Shutdowns). o.wakes) (pending some)));
     counted = (
-      let halls : registered (poll_of (hall_of st next) f v (get (hall_of st next).waits f)).hall ≡ registered (hall_of after (i + 1)) = ap (λ (o : Outcome Shutdowns). registered o.hall) (pending some) ∙ sym (ap registered wait_on_moved) in
-      let all = wait_on_counted in
-      omega (arith, halls, all, counted));
+        let halls : registered (poll_of (hall_of st next) f v (get (hall_of st next).waits f)).hall ≡ registered (hall_of after (i + 1)) = ap (λ (o : Outcome Shutdowns). registered o.hall) (pending some) ∙ sym (ap registered wait_on_moved) in
+        let all = wait_on_counted in
+        omega (arith, halls, all, counted));
   }

@@ -1,19 +1,19 @@
 -- what the events do that make or end a receiver or a watch
-use Rattle.std.proofs.Common.{◌≡◌, ◌⊎◌, inl, inr, ℕ, ◌+◌, ◌-◌, ◌<◌, ◌≤◌, ◌^◌, ◌==◌, ◌++◌, ◌&&◌, not, Bool, true, false, cond, List, [], length, refl, ap, sym, subst, ◌∙◌, arith, Option, Some, None, is_some}
+use Rattle.std.proofs.Common.{◌≡◌, inl, ℕ, ◌+◌, ◌-◌, ◌<◌, ◌≤◌, ◌^◌, ◌==◌, ◌&&◌, not, Bool, true, false, cond, [], length, refl, ap, sym, subst, ◌∙◌, arith, Option, Some, None}
 use Rattle.std.specs.Option.{option_map, IsSome}
 use Rattle.std.specs.Ordering.{nat_cmp}
 use Rattle.std.specs.FinMap.{FinMap, get, insert, remove}
 use Rattle.std.proofs.lemmas.Bool.{eq-eqb}
-use Rattle.mea_base.specs.Totals.{total, weight}
+use Rattle.mea_base.specs.Totals.{weight}
 use Rattle.mea_sets.specs.Countdown.{decreased, woken_by}
 use Rattle.mea_meet_core.specs.Count.{increased}
 use Rattle.mea_meet_model.specs.Count as model
 use Rattle.mea_meet_model.specs.Shutdowns.{Shutdown, Shutdowns, Receiver, ShutdownWait, shutdown_at, copied, registered}
-use Rattle.mea_meet.specs.Names.{AreNamed, AreGiven}
+use Rattle.mea_meet.specs.Names.{AreGiven}
 use Rattle.mea_meet.specs.declared.shutdowns.ShutdownEntry.{ShutdownEntry}
 use Rattle.mea_meet.specs.declared.shutdowns.ReceiverEntry.{ReceiverEntry}
 use Rattle.mea_meet.specs.declared.shutdowns.ShutdownWaitEntry.{ShutdownWaitEntry}
-use Rattle.mea_meet.specs.ShutdownHall.{Store, End, OfSignal, OfReceivers, count_at, slots_of, count_of, shutdown_of, receiver_of, hall_of, counting, borrowers_in, without_receiver, woken_at_end, is_full, IsKeptEntry, IsKept}
+use Rattle.mea_meet.specs.ShutdownHall.{Store, End, OfSignal, OfReceivers, count_at, slots_of, count_of, shutdown_of, receiver_of, hall_of, counting, borrowers_in, without_receiver, woken_at_end, is_full, IsKept}
 use Rattle.mea_meet.proofs.ShutdownMaps.{Puts, Belongs, puts_same, puts_seen, is_same, is_insert, is_remove}
 use Rattle.mea_meet.proofs.ShutdownChanges.{Changes, wakers_at}
 use Rattle.mea_meet.proofs.ShutdownSeen.{shutdown-at, shutdown-there, receiver-seen, some_found}
@@ -47,11 +47,11 @@ module _ (st : Store) (ss' : FinMap nat_cmp ShutdownEntry) (rs' : FinMap nat_cmp
       → borrowers_in st b ≡ 0 → ((x : ReceiverEntry) → ob ≡ Some x → (x.plain ≡ 0) × (b < i + 1)) → IsKept by_receiver (i + 1)
   receiver_kept quiet known number things few given_still free new = kept_all st by_receiver next i s i b e2 None ob k less receiver_changes low
       (entry_after st by_receiver next i s i b i e2 None ob None k receiver_changes e there less quiet known number
-        (let senders : weight (λ q (p : ℕ). cond (p == s) 1 0) i (get st.senders i) ≡ 0 = ap (weight (λ q (p : ℕ). cond (p == s) 1 0) i) (no-sender st next i k less) in
-         let futures : weight (λ q (x : ShutdownWaitEntry). cond (x.shutdown == s) 1 0) i (get st.waits i) ≡ 0 = ap (weight (λ q (x : ShutdownWaitEntry). cond (x.shutdown == s) 1 0) i) (no-wait st next i k less) in
-         omega (arith, things, senders, futures))
-        few
-        (λ end. given st by_receiver next i s i b e2 None ob k less receiver_changes end (given_still end)))
+      (let senders : weight (λ q (p : ℕ). cond (p == s) 1 0) i (get st.senders i) ≡ 0 = ap (weight (λ q (p : ℕ). cond (p == s) 1 0) i) (no-sender st next i k less) in
+      let futures : weight (λ q (x : ShutdownWaitEntry). cond (x.shutdown == s) 1 0) i (get st.waits i) ≡ 0 = ap (weight (λ q (x : ShutdownWaitEntry). cond (x.shutdown == s) 1 0) i) (no-wait st next i k less) in
+      omega (arith, things, senders, futures))
+      few
+      (λ end. given st by_receiver next i s i b e2 None ob k less receiver_changes end (given_still end)))
       (λ p none. absurd (cc)) (λ x some. ((new x some).0, free, (new x some).1)) (inl free)
 
   receiver_shutdowns : Puts (hall_of st next).shutdowns (hall_of by_receiver (i + 1)).shutdowns s (Some (shutdown_of st.waits next s e2))
@@ -113,25 +113,25 @@ module _ (st : Store) (ss' : FinMap nat_cmp ShutdownEntry) (rs' : FinMap nat_cmp
   pub add_receiver_goes : Goes st (record { shutdowns = ss'; senders = st.senders; receivers = rs'; waits = st.waits }) next i (copied h i (record { shutdown = s; watch = watch }))
   add_receiver_goes = record {
     kept = receiver_kept st ss' rs' next i s i e (added e watch) (Some the_receiver) k less low there shutdowns receivers added_was added_is (added_quiet e watch (k.each s e there).quiet)
-      (let known = (k.each s e there).known in let number = added_number e watch in omega (arith, known, number))
-      (let number = added_number e watch in
-       let none : weight (λ q (x : ReceiverEntry). counting s x) i (get st.receivers i) ≡ 0 = ap (weight (λ q (x : ReceiverEntry). counting s x) i) (no-receiver st next i k less) in
-       let mine : cond (s == s) (cond watch 0 1) 0 ≡ cond watch 0 1 = own s (cond watch 0 1) in
-       omega (arith, number, none, mine))
-      (let none : weight (λ q (x : ReceiverEntry). cond (x.shutdown == s) 1 0) i (get st.receivers i) ≡ 0 = ap (weight (λ q (x : ReceiverEntry). cond (x.shutdown == s) 1 0) i) (no-receiver st next i k less) in
-       let one : ◌≡◌ {A = ℕ} (cond (s == s) 1 0) 1 = own s 1 in
-       omega (arith, none, one))
-      (omega arith)
-      (λ end. subst (AreGiven (slots_of end st.waits) s) (sym (added_set e watch end)) ((k.each s e there).given end))
-      (unborrowed st next i k (no-receiver st next i k less))
-      (λ x some. (ap (λ (y : ReceiverEntry). y.plain) (sym (inside the_receiver x some)), omega arith));
+        (let known = (k.each s e there).known in let number = added_number e watch in omega (arith, known, number))
+        (let number = added_number e watch in
+        let none : weight (λ q (x : ReceiverEntry). counting s x) i (get st.receivers i) ≡ 0 = ap (weight (λ q (x : ReceiverEntry). counting s x) i) (no-receiver st next i k less) in
+        let mine : cond (s == s) (cond watch 0 1) 0 ≡ cond watch 0 1 = own s (cond watch 0 1) in
+        omega (arith, number, none, mine))
+        (let none : weight (λ q (x : ReceiverEntry). cond (x.shutdown == s) 1 0) i (get st.receivers i) ≡ 0 = ap (weight (λ q (x : ReceiverEntry). cond (x.shutdown == s) 1 0) i) (no-receiver st next i k less) in
+        let one : ◌≡◌ {A = ℕ} (cond (s == s) 1 0) 1 = own s 1 in
+        omega (arith, none, one))
+        (omega arith)
+        (λ end. subst (AreGiven (slots_of end st.waits) s) (sym (added_set e watch end)) ((k.each s e there).given end))
+        (unborrowed st next i k (no-receiver st next i k less))
+        (λ x some. (ap (λ (y : ReceiverEntry). y.plain) (sym (inside the_receiver x some)), omega arith));
     moved = moved_at watch _ _ _ (receiver_shutdowns st ss' rs' next i s i e (added e watch) (Some the_receiver) k less low there shutdowns receivers added_was added_is)
-      (is_insert h.receivers _ i (receiver_of the_receiver) (puts_seen receiver_of st.receivers rs' i (Some the_receiver) receivers))
-      (receiver_waits st ss' rs' next i s i e (added e watch) (Some the_receiver) k less low there shutdowns receivers added_was added_is);
+        (is_insert h.receivers _ i (receiver_of the_receiver) (puts_seen receiver_of st.receivers rs' i (Some the_receiver) receivers))
+        (receiver_waits st ss' rs' next i s i e (added e watch) (Some the_receiver) k less low there shutdowns receivers added_was added_is);
     counted = (
-      let all = receiver_counts st ss' rs' next i s i e (added e watch) (Some the_receiver) k less low there shutdowns receivers added_was added_is in
-      let same = added_wakers e watch in
-      omega (arith, all, same));
+        let all = receiver_counts st ss' rs' next i s i e (added e watch) (Some the_receiver) k less low there shutdowns receivers added_was added_is in
+        let same = added_wakers e watch in
+        omega (arith, all, same));
   }
 
 -- ---- a receiver or watch less
@@ -207,23 +207,23 @@ module _ (st : Store) (ss' : FinMap nat_cmp ShutdownEntry) (rs' : FinMap nat_cmp
   pub remove_receiver_wakes : Wakes st (record { shutdowns = ss'; senders = st.senders; receivers = rs'; waits = st.waits }) next i (without_receiver h_before b (receiver_of x)) (cond x.watch [] (woken_by e.core.receivers 1))
   remove_receiver_wakes = record {
     kept = receiver_kept st ss' rs' next i s b e (lessened e x.watch) None k less low there shutdowns receivers lessened_was lessened_is (lessened_quiet e x.watch (k.each s e there).quiet)
-      (let known = (k.each s e there).known in let number = lessened_number e x.watch in omega (arith, known, number))
-      (let number = lessened_number e x.watch in
-       let some = number_counts st next i b s e x k there receiver mine in
-       let was : weight (λ q (y : ReceiverEntry). counting s y) b (get st.receivers b) ≡ cond x.watch 0 1 = ap (weight (λ q (y : ReceiverEntry). counting s y) b) receiver ∙ ap (λ r. cond (r == s) (cond x.watch 0 1) 0) mine ∙ own s (cond x.watch 0 1) in
-       omega (arith, number, some, was))
-      (let some = receiver_counted st next i b s e x k there receiver mine in
-       let was : weight (λ q (y : ReceiverEntry). cond (y.shutdown == s) 1 0) b (get st.receivers b) ≡ 1 = ap (weight (λ q (y : ReceiverEntry). cond (y.shutdown == s) 1 0) b) receiver ∙ ap (λ r. cond (r == s) 1 0) mine ∙ own s 1 in
-       omega (arith, some, was))
-      (omega arith) (lessened_given x.watch) free (λ y none. absurd (cc));
+        (let known = (k.each s e there).known in let number = lessened_number e x.watch in omega (arith, known, number))
+        (let number = lessened_number e x.watch in
+        let some = number_counts st next i b s e x k there receiver mine in
+        let was : weight (λ q (y : ReceiverEntry). counting s y) b (get st.receivers b) ≡ cond x.watch 0 1 = ap (weight (λ q (y : ReceiverEntry). counting s y) b) receiver ∙ ap (λ r. cond (r == s) (cond x.watch 0 1) 0) mine ∙ own s (cond x.watch 0 1) in
+        omega (arith, number, some, was))
+        (let some = receiver_counted st next i b s e x k there receiver mine in
+        let was : weight (λ q (y : ReceiverEntry). cond (y.shutdown == s) 1 0) b (get st.receivers b) ≡ 1 = ap (weight (λ q (y : ReceiverEntry). cond (y.shutdown == s) 1 0) b) receiver ∙ ap (λ r. cond (r == s) 1 0) mine ∙ own s 1 in
+        omega (arith, some, was))
+        (omega arith) (lessened_given x.watch) free (λ y none. absurd (cc));
     moved = lessened_at x.watch _ _ _ (receiver_shutdowns st ss' rs' next i s b e (lessened e x.watch) None k less low there shutdowns receivers lessened_was lessened_is)
-      (is_remove h_before.receivers _ b (puts_seen receiver_of st.receivers rs' b None receivers))
-      (receiver_waits st ss' rs' next i s b e (lessened e x.watch) None k less low there shutdowns receivers lessened_was lessened_is)
-      ∙ ap (λ r. without_receiver h_before b (record { shutdown = r; watch = x.watch })) (sym mine);
+        (is_remove h_before.receivers _ b (puts_seen receiver_of st.receivers rs' b None receivers))
+        (receiver_waits st ss' rs' next i s b e (lessened e x.watch) None k less low there shutdowns receivers lessened_was lessened_is)
+        ∙ ap (λ r. without_receiver h_before b (record { shutdown = r; watch = x.watch })) (sym mine);
     counted = (
-      let all = receiver_counts st ss' rs' next i s b e (lessened e x.watch) None k less low there shutdowns receivers lessened_was lessened_is in
-      let woken = lessened_wakers e x.watch in
-      omega (arith, all, woken));
+        let all = receiver_counts st ss' rs' next i s b e (lessened e x.watch) None k less low there shutdowns receivers lessened_was lessened_is in
+        let woken = lessened_wakers e x.watch in
+        omega (arith, all, woken));
   }
 
   pub remove_receiver_woken : woken_at_end h_before (receiver_of x) ≡ cond x.watch [] (woken_by e.core.receivers 1)

@@ -1,20 +1,18 @@
 -- events that register no waker, and end no future: what is kept, and the wakers that are seen
-use Rattle.std.proofs.Common.{◌≡◌, ◌⊎◌, inl, inr, ℕ, ◌+◌, ◌<◌, ◌≤◌, ◌^◌, ◌==◌, Bool, true, false, cond, [], length, refl, ap, sym, subst, ◌∙◌, arith, Option, Some, None, is_some}
-use Rattle.std.specs.Option.{option_map, IsSome}
+use Rattle.std.proofs.Common.{◌≡◌, ℕ, ◌+◌, ◌<◌, ◌≤◌, ◌==◌, Bool, true, false, cond, [], refl, ap, sym, ◌∙◌, arith, Option, Some, None}
 use Rattle.std.specs.Ordering.{nat_cmp}
 use Rattle.std.specs.FinMap.{FinMap, get}
-use Rattle.std.proofs.lemmas.Bool.{eqb-true, eqb-false, eq-eqb}
+use Rattle.std.proofs.lemmas.Bool.{eq-eqb}
 use Rattle.mea_base.specs.Totals.{total, weight}
 use Rattle.mea_base.proofs.Totals.{total-zero, total-remove}
 use Rattle.mea_sets.specs.WaitSet.{Registered}
 use Rattle.mea_sets.specs.Countdown as counts
-use Rattle.mea_meet_model.specs.Count.{Count}
-use Rattle.mea_meet_model.specs.Shutdowns.{Shutdown, Shutdowns, borrows, registered}
+use Rattle.mea_meet_model.specs.Shutdowns.{borrows}
 use Rattle.mea_meet.specs.Names.{AreNamed, AreGiven}
 use Rattle.mea_meet.specs.declared.shutdowns.ShutdownEntry.{ShutdownEntry}
 use Rattle.mea_meet.specs.declared.shutdowns.ReceiverEntry.{ReceiverEntry}
 use Rattle.mea_meet.specs.declared.shutdowns.ShutdownWaitEntry.{ShutdownWaitEntry}
-use Rattle.mea_meet.specs.ShutdownHall.{Store, End, OfSignal, OfReceivers, awaits_of, count_at, slot_in, slots_of, count_of, shutdown_of, hall_of, counting, senders_in, receivers_in, waits_in, borrowers_in, is_of, IsKeptEntry, IsKept}
+use Rattle.mea_meet.specs.ShutdownHall.{Store, End, OfSignal, OfReceivers, awaits_of, count_at, slots_of, count_of, shutdown_of, hall_of, counting, borrowers_in, is_of, IsKeptEntry, IsKept}
 use Rattle.mea_meet.proofs.ShutdownMaps.{Puts, Belongs, total_puts}
 use Rattle.mea_meet.proofs.ShutdownChanges.{Changes, Unplaced, named_unplaced, alike_unplaced, given_unplaced, shutdowns_after}
 
@@ -92,7 +90,7 @@ module _ (st st' : Store) (next i s a b f : ℕ) (e2 : ShutdownEntry) (oa : Opti
   pub entry_after : (e : ShutdownEntry) → get st.shutdowns s ≡ Some e → next ≤ i → e2.core.wakes ≡ [] → e2.receivers ≡ e2.core.receivers.number
       → e2.core.receivers.number + weight (λ q (x : ReceiverEntry). counting s x) b (get st.receivers b) ≡ e.core.receivers.number + weight (λ q (x : ReceiverEntry). counting s x) b ob
       → e2.things + (weight (λ q (p : ℕ). cond (p == s) 1 0) a (get st.senders a) + weight (λ q (x : ReceiverEntry). cond (x.shutdown == s) 1 0) b (get st.receivers b) + weight (λ q (x : ShutdownWaitEntry). cond (x.shutdown == s) 1 0) f (get st.waits f))
-          ≡ e.things + (weight (λ q (p : ℕ). cond (p == s) 1 0) a oa + weight (λ q (x : ReceiverEntry). cond (x.shutdown == s) 1 0) b ob + weight (λ q (x : ShutdownWaitEntry). cond (x.shutdown == s) 1 0) f ow)
+      ≡ e.things + (weight (λ q (p : ℕ). cond (p == s) 1 0) a oa + weight (λ q (x : ReceiverEntry). cond (x.shutdown == s) 1 0) b ob + weight (λ q (x : ShutdownWaitEntry). cond (x.shutdown == s) 1 0) f ow)
       → e2.things ≤ e.things + 1 → ((end : End) → AreGiven (slots_of end st'.waits) s (count_at end e2.core).waiting) → IsKeptEntry st' (i + 1) s e2
   entry_after e there less quiet known counted things few given =
       let old = k.each s e there in

@@ -1,17 +1,16 @@
 -- a shutdown of which nothing is left is gone
-use Rattle.std.proofs.Common.{◌≡◌, ℕ, ◌+◌, ◌<◌, ◌≤◌, ◌==◌, Bool, true, false, cond, if◌then◌else◌, nat_lt, refl, ap, sym, ◌∙◌, arith, Option, Some, None, is_some}
+use Rattle.std.proofs.Common.{◌≡◌, ℕ, ◌+◌, ◌<◌, ◌==◌, Bool, true, false, cond, if◌then◌else◌, nat_lt, refl, ap, sym, ◌∙◌, arith, Option, Some, None, is_some}
 use Rattle.std.specs.Option.{option_map, IsSome}
 use Rattle.std.specs.Ordering.{nat_cmp}
 use Rattle.std.specs.FinMap.{FinMap, get, remove, entries}
 use Rattle.std.proofs.lemmas.Bool.Decides.{nat_tests}
 use Rattle.mea_base.specs.Named.{named}
-use Rattle.mea_base.specs.Totals.{total, weight}
-use Rattle.mea_meet_model.specs.Shutdowns.{Shutdown, Shutdowns, tidied, senders_of, receivers_of, waits_of, registered}
-use Rattle.mea_meet.specs.Play.{Part}
+use Rattle.mea_base.specs.Totals.{weight}
+use Rattle.mea_meet_model.specs.Shutdowns.{tidied, senders_of, receivers_of, waits_of, registered}
 use Rattle.mea_meet.specs.declared.shutdowns.ShutdownEntry.{ShutdownEntry}
 use Rattle.mea_meet.specs.declared.shutdowns.ReceiverEntry.{ReceiverEntry}
 use Rattle.mea_meet.specs.declared.shutdowns.ShutdownWaitEntry.{ShutdownWaitEntry}
-use Rattle.mea_meet.specs.ShutdownHall.{Store, shutdown_of, hall_of, senders_in, receivers_in, waits_in, IsKeptEntry, IsKeptSender, IsKeptReceiver, IsKeptWait, IsKept}
+use Rattle.mea_meet.specs.ShutdownHall.{Store, shutdown_of, hall_of, senders_in, IsKeptEntry, IsKept}
 use Rattle.mea_meet.proofs.ShutdownMaps.{Puts, get-seen, put_other, total_puts, by_put, is_remove}
 use Rattle.mea_meet.proofs.ShutdownChanges.{wakers_at, registered-seen}
 use Rattle.mea_meet.proofs.ShutdownSeen.{receivers-seen, waits-seen}
@@ -70,7 +69,7 @@ module _ (st : Store) (next s : ℕ) (e : ShutdownEntry) (k : IsKept st next) (t
     pub tidy_kept : IsKept st' next
     tidy_kept = record {
       each = by_put st.shutdowns ss' s None gone (λ q d. IsKeptEntry st' next q d) (λ d is. absurd (cc))
-        (λ q d apart is. let old = k.each q d is in record { quiet = old.quiet; known = old.known; counted = old.counted; things = old.things; few = old.few; given = old.given; below = old.below });
+          (λ q d apart is. let old = k.each q d is in record { quiet = old.quiet; known = old.known; counted = old.counted; things = old.things; few = old.few; given = old.given; below = old.below });
       sender = λ a p is. let old = k.sender a p is in record { there = there_still p old.there (sender_apart a p is); below = old.below };
       receiver = λ b x is. let old = k.receiver b x is in record { there = there_still x.shutdown old.there (receiver_apart b x is); counted = old.counted; few = old.few; below = old.below };
       wait = λ f x is. let old = k.wait f x is in record { there = there_still x.shutdown old.there (wait_apart f x is); borrowed = old.borrowed; below = old.below };

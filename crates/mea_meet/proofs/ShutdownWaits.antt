@@ -1,21 +1,21 @@
 -- what the events do that make a future
-use Rattle.std.proofs.Common.{◌≡◌, ◌⊎◌, inl, inr, ℕ, ◌+◌, ◌-◌, ◌<◌, ◌≤◌, ◌^◌, ◌==◌, Bool, true, false, cond, List, [], length, refl, ap, sym, subst, ◌∙◌, arith, Option, Some, None, is_some}
-use Rattle.std.specs.Option.{option_map, IsSome}
+use Rattle.std.proofs.Common.{◌≡◌, inl, inr, ℕ, ◌+◌, ◌<◌, ◌≤◌, ◌^◌, ◌==◌, Bool, true, false, cond, refl, ap, sym, ◌∙◌, arith, Option, Some, None}
+use Rattle.std.specs.Option.{option_map}
 use Rattle.std.specs.Ordering.{nat_cmp}
-use Rattle.std.specs.FinMap.{FinMap, get, insert, remove}
+use Rattle.std.specs.FinMap.{FinMap, get, remove}
 use Rattle.std.proofs.lemmas.Bool.{eqb-true, eq-eqb, ne_eqb}
-use Rattle.mea_base.specs.Totals.{total, weight}
-use Rattle.mea_meet_model.specs.Shutdowns.{Shutdown, Shutdowns, Receiver, Awaited, Signal, Receivers, ShutdownWait, with_wait, borrows, registered}
-use Rattle.mea_meet.specs.Names.{AreNamed, AreGiven}
+use Rattle.mea_base.specs.Totals.{weight}
+use Rattle.mea_meet_model.specs.Shutdowns.{Signal, Receivers, with_wait, borrows}
+use Rattle.mea_meet.specs.Names.{AreNamed}
 use Rattle.mea_meet.specs.declared.shutdowns.ShutdownEntry.{ShutdownEntry}
 use Rattle.mea_meet.specs.declared.shutdowns.ReceiverEntry.{ReceiverEntry}
 use Rattle.mea_meet.specs.declared.shutdowns.ShutdownWaitEntry.{ShutdownWaitEntry}
 use Rattle.mea_meet.specs.declared.shutdowns.ShutdownWait.TheVariants as waits
 use Rattle.mea_meet.specs.ShutdownHall.{Store, End, OfSignal, OfReceivers, awaits_of, slot_in, count_at, slots_of, shutdown_of, receiver_of, wait_of, hall_of, counting, borrowers_in, is_of, IsKeptEntry, IsKept}
-use Rattle.mea_meet.proofs.ShutdownMaps.{Puts, Belongs, puts_same, puts_seen, put_here, total_puts, is_same, is_insert, is_remove}
+use Rattle.mea_meet.proofs.ShutdownMaps.{Puts, puts_same, puts_seen, put_here, total_puts, is_same, is_insert, is_remove}
 use Rattle.mea_meet.proofs.ShutdownChanges.{Changes, Unplaced, Keeps, kept_after, registered_after, wakers_at}
 use Rattle.mea_meet.proofs.ShutdownSeen.{receiver-seen}
-use Rattle.mea_meet.proofs.ShutdownStill.{no-sender, no-receiver, no-wait, belongs-none, belongs-some, own, inside, total-member, entry_after, still_named, still_given, still_shutdowns}
+use Rattle.mea_meet.proofs.ShutdownStill.{no-sender, no-receiver, no-wait, belongs-none, belongs-some, own, inside, entry_after, still_named, still_given, still_shutdowns}
 use Rattle.mea_meet.proofs.ShutdownPlays.{Goes, seen_before}
 
 -- a future was not polled
@@ -87,10 +87,10 @@ module _ (st : Store) (ss' : FinMap nat_cmp ShutdownEntry) (rs' : FinMap nat_cmp
   entry = entry_after st after next i s i r i new_entry None (Some lent) (Some new_wait) k changes e there less (k.each s e there).quiet (k.each s e there).known
       (ap (λ o. e.core.receivers.number + weight (λ q (y : ReceiverEntry). counting s y) r o) receiver)
       (let senders : weight (λ q (p : ℕ). cond (p == s) 1 0) i (get st.senders i) ≡ 0 = ap (weight (λ q (p : ℕ). cond (p == s) 1 0) i) (no-sender st next i k less) in
-       let before : weight (λ q (y : ReceiverEntry). cond (y.shutdown == s) 1 0) r (get st.receivers r) ≡ cond (x.shutdown == s) 1 0 = ap (weight (λ q (y : ReceiverEntry). cond (y.shutdown == s) 1 0) r) receiver in
-       let none : weight (λ q (y : ShutdownWaitEntry). cond (y.shutdown == s) 1 0) i (get st.waits i) ≡ 0 = ap (weight (λ q (y : ShutdownWaitEntry). cond (y.shutdown == s) 1 0) i) (no-wait st next i k less) in
-       let one : ◌≡◌ {A = ℕ} (cond (s == s) 1 0) 1 = own s 1 in
-       omega (arith, senders, before, none, one))
+      let before : weight (λ q (y : ReceiverEntry). cond (y.shutdown == s) 1 0) r (get st.receivers r) ≡ cond (x.shutdown == s) 1 0 = ap (weight (λ q (y : ReceiverEntry). cond (y.shutdown == s) 1 0) r) receiver in
+      let none : weight (λ q (y : ShutdownWaitEntry). cond (y.shutdown == s) 1 0) i (get st.waits i) ≡ 0 = ap (weight (λ q (y : ShutdownWaitEntry). cond (y.shutdown == s) 1 0) i) (no-wait st next i k less) in
+      let one : ◌≡◌ {A = ℕ} (cond (s == s) 1 0) 1 = own s 1 in
+      omega (arith, senders, before, none, one))
       (omega arith)
       (λ end. still_given st after next i s i r i new_entry None (Some lent) (Some new_wait) k changes later (omega arith) was_unplaced (unplaced s (cond plain (Some r) None)) end (count_at end e.core).waiting ((k.each s e there).given end))
 
@@ -109,10 +109,10 @@ module _ (st : Store) (ss' : FinMap nat_cmp ShutdownEntry) (rs' : FinMap nat_cmp
     sender_below = λ p none. absurd (cc);
     counted = λ y is. ap (λ (z : ReceiverEntry). z.plain) (sym (inside lent y is)) ∙ borrowers_now;
     few = λ y is. (
-      let same : y.plain ≡ x.plain + cond plain 1 0 = ap (λ (z : ReceiverEntry). z.plain) (sym (inside lent y is)) in
-      let few = (k.receiver r x receiver).few in
-      let one = at_most_one plain in
-      omega (arith, same, few, one, less));
+        let same : y.plain ≡ x.plain + cond plain 1 0 = ap (λ (z : ReceiverEntry). z.plain) (sym (inside lent y is)) in
+        let few = (k.receiver r x receiver).few in
+        let one = at_most_one plain in
+        omega (arith, same, few, one, less));
     receiver_below = λ y is. (let below = (k.receiver r x receiver).below in omega (arith, below, less));
     lends = λ q apart. ap (weight (λ g (y : ShutdownWaitEntry). cond (borrows (awaits_of y.wait) q) 1 0) i) (no-wait st next i k less) ∙ sym (borrowed-other plain r q apart);
     stays = λ p g y was is lends. ap (λ o. is_of o p) (sym receiver) ∙ was;
@@ -130,9 +130,9 @@ module _ (st : Store) (ss' : FinMap nat_cmp ShutdownEntry) (rs' : FinMap nat_cmp
       waits = is_insert _ _ i (wait_of new_wait) (puts_seen wait_of st.waits ws' i (Some new_wait) futures) j;
     };
     counted = (
-      let all = registered_after st after next (i + 1) s i r i new_entry None (Some lent) (Some new_wait) k changes later named in
-      let before : weight (λ q (d : ShutdownEntry). wakers_at d) s (get st.shutdowns s) ≡ wakers_at e = ap (weight (λ q (d : ShutdownEntry). wakers_at d) s) there in
-      omega (arith, all, before));
+        let all = registered_after st after next (i + 1) s i r i new_entry None (Some lent) (Some new_wait) k changes later named in
+        let before : weight (λ q (d : ShutdownEntry). wakers_at d) s (get st.shutdowns s) ≡ wakers_at e = ap (weight (λ q (d : ShutdownEntry). wakers_at d) s) there in
+        omega (arith, all, before));
   }
 
 -- ---- a sender becomes a future on the end of all receivers
@@ -171,9 +171,9 @@ module _ (st : Store) (ks' : FinMap nat_cmp ℕ) (ws' : FinMap nat_cmp ShutdownW
   its_entry = entry_after st awaiting next i s a i i e None None (Some the_wait) k awaits e there less (k.each s e there).quiet (k.each s e there).known
       (ap (λ o. e.core.receivers.number + weight (λ q (y : ReceiverEntry). counting s y) i o) (no-receiver st next i k less))
       (let before : weight (λ q (p : ℕ). cond (p == s) 1 0) a (get st.senders a) ≡ cond (s == s) 1 0 = ap (weight (λ q (p : ℕ). cond (p == s) 1 0) a) sender in
-       let none : weight (λ q (y : ReceiverEntry). cond (y.shutdown == s) 1 0) i (get st.receivers i) ≡ 0 = ap (weight (λ q (y : ReceiverEntry). cond (y.shutdown == s) 1 0) i) (no-receiver st next i k less) in
-       let nothing : weight (λ q (y : ShutdownWaitEntry). cond (y.shutdown == s) 1 0) i (get st.waits i) ≡ 0 = ap (weight (λ q (y : ShutdownWaitEntry). cond (y.shutdown == s) 1 0) i) (no-wait st next i k less) in
-       omega (arith, before, none, nothing))
+      let none : weight (λ q (y : ReceiverEntry). cond (y.shutdown == s) 1 0) i (get st.receivers i) ≡ 0 = ap (weight (λ q (y : ReceiverEntry). cond (y.shutdown == s) 1 0) i) (no-receiver st next i k less) in
+      let nothing : weight (λ q (y : ShutdownWaitEntry). cond (y.shutdown == s) 1 0) i (get st.waits i) ≡ 0 = ap (weight (λ q (y : ShutdownWaitEntry). cond (y.shutdown == s) 1 0) i) (no-wait st next i k less) in
+      omega (arith, before, none, nothing))
       (omega arith)
       (λ end. still_given st awaiting next i s a i i e None None (Some the_wait) k awaits rises (omega arith) unplaced_before (unplaced_still s) end (count_at end e.core).waiting ((k.each s e there).given end))
 
@@ -201,7 +201,7 @@ module _ (st : Store) (ks' : FinMap nat_cmp ℕ) (ws' : FinMap nat_cmp ShutdownW
       waits = is_insert _ _ i (wait_of the_wait) (puts_seen wait_of st.waits ws' i (Some the_wait) futures) j;
     };
     counted = (
-      let all = registered_after st awaiting next (i + 1) s a i i e None None (Some the_wait) k awaits rises all_named in
-      let before : weight (λ q (d : ShutdownEntry). wakers_at d) s (get st.shutdowns s) ≡ wakers_at e = ap (weight (λ q (d : ShutdownEntry). wakers_at d) s) there in
-      omega (arith, all, before));
+        let all = registered_after st awaiting next (i + 1) s a i i e None None (Some the_wait) k awaits rises all_named in
+        let before : weight (λ q (d : ShutdownEntry). wakers_at d) s (get st.shutdowns s) ≡ wakers_at e = ap (weight (λ q (d : ShutdownEntry). wakers_at d) s) there in
+        omega (arith, all, before));
   }

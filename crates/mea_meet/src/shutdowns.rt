@@ -47,7 +47,9 @@ pub enum ShutdownWait {
         borrowed: Option<u64>,
     },
     /// For the end of all receivers.
-    Receivers { wait: GroupWait },
+    Receivers {
+        wait: GroupWait,
+    },
 }
 
 /// What a hall keeps of a future.
@@ -146,11 +148,7 @@ impl ShutdownEntry {
             ShutdownWait::Signal { wait, .. } => self.core.poll_signal(wait, waker).is_err(),
             ShutdownWait::Receivers { wait } => self.core.poll_receivers(wait, waker).is_err(),
         };
-        if failed {
-            Err(Stop::NoMemory)
-        } else {
-            Ok(())
-        }
+        if failed { Err(Stop::NoMemory) } else { Ok(()) }
     }
 
     /// Registers the waker of a wait that is not over, and counts it where it replaced none.
@@ -520,7 +518,10 @@ impl ShutdownHall {
             wait: LatchWait::new(),
             borrowed: borrowed_if(plain, k),
         };
-        match self.waits.insert(number, ShutdownWaitEntry { shutdown: s, wait }) {
+        match self
+            .waits
+            .insert(number, ShutdownWaitEntry { shutdown: s, wait })
+        {
             Err(_) => return Err(Stop::NoMemory),
             Ok(_) => {}
         }

@@ -1,11 +1,9 @@
-use Rattle.std.proofs.Common.{rules, ◌+◌, ◌-◌, ◌≡◌, ◌==◌, ◌≤◌, ℕ, cond, None, Some, sym, ap, subst, ◌∙◌, is_some, length, refl, arith}
-use Rattle.std.specs.Option.{option_map, option_copied, option_copied_mut, IsSome}
+use Rattle.std.proofs.Common.{rules, ◌≡◌, None, Some, sym, ap, ◌∙◌, refl, arith}
+use Rattle.std.specs.Option.{option_copied_mut}
 use Rattle.std.specs.FinMap.{get}
 use Rattle.mea_base.specs.declared.answer.Answer.TheVariants as answers
-use Rattle.mea_meet.specs.ShutdownHall.{hall_of}
 use Rattle.mea_meet.proofs.ShutdownMaps.{kept-puts, kept-puts-as}
-use Rattle.mea_base.specs.Family.{quietly}
-use Rattle.mea_meet_model.specs.Shutdowns.{Shutdown, copied}
+use Rattle.mea_meet_model.specs.Shutdowns.{Shutdown}
 use Rattle.mea_meet.proofs.ShutdownSeen.{kept_in, shutdown-there, shutdown-at, shutdown-kept, asked}
 use Rattle.mea_meet.proofs.ShutdownPlays.{rests}
 use Rattle.mea_meet.proofs.ShutdownReceivers.{add_receiver_goes}
@@ -49,13 +47,13 @@ invariant_of-self-2 c =
     let there : get (kept_in c.self.inside).shutdowns c.args.s ≡ Some c.in-Some.entry.now = shutdown-kept c.self.inside c.args.s ∙ sym c.get_mut.ensures.value ∙ ap option_copied_mut c.in-Some.is in
     let e = c.in-Some.entry.now in
     (add_receiver_goes (kept_in c.self.inside) _ _ c.self.inside.next c.args.number c.args.s e c.args.watch c.self.invariant (rw (← c.self.view_is) at c.requires.next) (omega arith) there
-      (kept-puts-as c.self.inside.shutdowns.entries _ c.args.s c.add_receiver.new.self _ ((c.get_mut.follows.holds c.add_receiver.new.self).3 (search rules)).0 c.add_receiver.ensures)
-      (kept-puts c.self.inside.receivers.entries _ c.args.number (Some (record { shutdown = c.args.s; watch = c.args.watch; plain = 0 })) c.in-Ok.ensures.updates.0)).kept
+    (kept-puts-as c.self.inside.shutdowns.entries _ c.args.s c.add_receiver.new.self _ ((c.get_mut.follows.holds c.add_receiver.new.self).3 (search rules)).0 c.add_receiver.ensures)
+    (kept-puts c.self.inside.receivers.entries _ c.args.number (Some (record { shutdown = c.args.s; watch = c.args.watch; plain = 0 })) c.in-Ok.ensures.updates.0)).kept
 
 pub returns-clause-rests : goal.returns-clause-rests
 returns-clause-rests c =
     let there : get (kept_in c.self.inside).shutdowns c.args.s ≡ Some c.in-Some.entry.now = shutdown-kept c.self.inside c.args.s ∙ sym c.get_mut.ensures.value ∙ ap option_copied_mut c.in-Some.is in
     let e = c.in-Some.entry.now in
     rw (← c.self.view_is) (rests (kept_in c.self.inside) _ c.self.inside.next c.args.number _ _ answers.Made (add_receiver_goes (kept_in c.self.inside) _ _ c.self.inside.next c.args.number c.args.s e c.args.watch c.self.invariant (rw (← c.self.view_is) at c.requires.next) (omega arith) there
-      (kept-puts-as c.self.inside.shutdowns.entries _ c.args.s c.add_receiver.new.self _ ((c.get_mut.follows.holds c.add_receiver.new.self).3 (search rules)).0 c.add_receiver.ensures)
-      (kept-puts c.self.inside.receivers.entries _ c.args.number (Some (record { shutdown = c.args.s; watch = c.args.watch; plain = 0 })) c.in-Ok.ensures.updates.0)) refl)
+    (kept-puts-as c.self.inside.shutdowns.entries _ c.args.s c.add_receiver.new.self _ ((c.get_mut.follows.holds c.add_receiver.new.self).3 (search rules)).0 c.add_receiver.ensures)
+    (kept-puts c.self.inside.receivers.entries _ c.args.number (Some (record { shutdown = c.args.s; watch = c.args.watch; plain = 0 })) c.in-Ok.ensures.updates.0)) refl)

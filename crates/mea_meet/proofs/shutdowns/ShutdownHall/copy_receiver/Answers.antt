@@ -1,11 +1,11 @@
-use Rattle.std.proofs.Common.{rules, ◌+◌, ◌-◌, ◌<◌, ◌≡◌, ◌==◌, ◌≤◌, ℕ, Bool, true, false, cond, List, [], Option, None, Some, sym, ap, subst, ◌∙◌, is_some, length, refl, arith, IfOk}
-use Rattle.std.specs.Option.{option_map, option_copied, option_copied_mut, IsSome, IfSome}
+use Rattle.std.proofs.Common.{◌≡◌, None, Some, sym, ap, subst, ◌∙◌, IfOk}
+use Rattle.std.specs.Option.{option_map, option_copied}
 use Rattle.std.specs.FinMap.{get}
 use Rattle.mea_base.specs.Family.{Outcome}
 use Rattle.mea_base.specs.declared.answer.Answer.{Answer}
-use Rattle.mea_meet_model.specs.Shutdowns.{Shutdowns, shutdown_at, registered, copy_receiver_of, watch_of}
-use Rattle.mea_meet.specs.Play.{Part, Rests}
-use Rattle.mea_meet.specs.ShutdownHall.{receiver_of, is_full}
+use Rattle.mea_meet_model.specs.Shutdowns.{Shutdowns, registered, copy_receiver_of}
+use Rattle.mea_meet.specs.Play.{Rests}
+use Rattle.mea_meet.specs.ShutdownHall.{receiver_of}
 use Rattle.mea_meet.proofs.ShutdownSeen.{kept_in, receiver-at, receiver-there, receiver-seen, asked}
 use Rattle.mea_meet.proofs.ShutdownReceivers.{copy_there, copy_lives, copy_fits}
 use Rattle.mea_meet.proofs.shutdowns.ShutdownHall.copy_receiver.Goals as goal

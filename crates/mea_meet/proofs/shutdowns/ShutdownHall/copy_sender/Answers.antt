@@ -1,4 +1,4 @@
-use Rattle.std.proofs.Common.{rules, ◌+◌, ◌≡◌, None, Some, sym, ap, subst, ◌∙◌, is_some, arith}
+use Rattle.std.proofs.Common.{rules, ◌+◌, ◌≡◌, None, Some, sym, ap, ◌∙◌, arith}
 use Rattle.std.specs.Option.{option_copied, option_copied_mut}
 use Rattle.std.specs.FinMap.{get}
 use Rattle.mea_base.specs.declared.answer.Answer.TheVariants as answers
@@ -31,8 +31,8 @@ invariant_of-self-2 c =
     let there : get (kept_in c.self.inside).shutdowns c.in-Some.sender.now ≡ Some c.in-Some-get_mut.entry.now = shutdown-kept c.self.inside c.in-Some.sender.now ∙ sym c.get_mut.ensures.value ∙ ap option_copied_mut c.in-Some-get_mut.is in
     let e = c.in-Some-get_mut.entry.now in
     (copy_sender_goes (kept_in c.self.inside) _ _ c.self.inside.next c.args.number c.in-Some.sender.now e c.self.invariant (rw (← c.self.view_is) at c.requires.next) (omega arith) there
-      (kept-puts c.self.inside.shutdowns.entries _ c.in-Some.sender.now (Some (record e { things = e.things + 1 })) ((c.get_mut.follows.holds (record e { things = e.things + 1 })).3 (search rules)).0)
-      (kept-puts c.self.inside.senders.entries _ c.args.number (Some c.in-Some.sender.now) c.in-Ok.ensures.updates.0)).kept
+    (kept-puts c.self.inside.shutdowns.entries _ c.in-Some.sender.now (Some (record e { things = e.things + 1 })) ((c.get_mut.follows.holds (record e { things = e.things + 1 })).3 (search rules)).0)
+    (kept-puts c.self.inside.senders.entries _ c.args.number (Some c.in-Some.sender.now) c.in-Ok.ensures.updates.0)).kept
 
 pub returns-clause-rests : goal.returns-clause-rests
 returns-clause-rests c =
@@ -40,7 +40,7 @@ returns-clause-rests c =
     let there : get (kept_in c.self.inside).shutdowns c.in-Some.sender.now ≡ Some c.in-Some-get_mut.entry.now = shutdown-kept c.self.inside c.in-Some.sender.now ∙ sym c.get_mut.ensures.value ∙ ap option_copied_mut c.in-Some-get_mut.is in
     let e = c.in-Some-get_mut.entry.now in
     rw (← c.self.view_is) (rests (kept_in c.self.inside) _ c.self.inside.next c.args.number _ _ answers.Made
-      (copy_sender_goes (kept_in c.self.inside) _ _ c.self.inside.next c.args.number c.in-Some.sender.now e c.self.invariant (rw (← c.self.view_is) at c.requires.next) (omega arith) there
-        (kept-puts c.self.inside.shutdowns.entries _ c.in-Some.sender.now (Some (record e { things = e.things + 1 })) ((c.get_mut.follows.holds (record e { things = e.things + 1 })).3 (search rules)).0)
-        (kept-puts c.self.inside.senders.entries _ c.args.number (Some c.in-Some.sender.now) c.in-Ok.ensures.updates.0))
-      (ap (copy_sender_of (hall_of (kept_in c.self.inside) c.self.inside.next) c.args.number) is))
+    (copy_sender_goes (kept_in c.self.inside) _ _ c.self.inside.next c.args.number c.in-Some.sender.now e c.self.invariant (rw (← c.self.view_is) at c.requires.next) (omega arith) there
+    (kept-puts c.self.inside.shutdowns.entries _ c.in-Some.sender.now (Some (record e { things = e.things + 1 })) ((c.get_mut.follows.holds (record e { things = e.things + 1 })).3 (search rules)).0)
+    (kept-puts c.self.inside.senders.entries _ c.args.number (Some c.in-Some.sender.now) c.in-Ok.ensures.updates.0))
+    (ap (copy_sender_of (hall_of (kept_in c.self.inside) c.self.inside.next) c.args.number) is))

@@ -1,5 +1,5 @@
-use Rattle.std.proofs.Common.{◌≡◌, None, Some, sym, ap, subst, ◌∙◌, is_some}
-use Rattle.std.specs.Option.{option_map, option_copied}
+use Rattle.std.proofs.Common.{sym, ap, subst, ◌∙◌, is_some}
+use Rattle.std.specs.Option.{option_copied}
 use Rattle.mea_meet_model.specs.Shutdowns.{Shutdowns}
 use Rattle.mea_meet.specs.Play.{Part}
 use Rattle.mea_meet.specs.StandsFor.{StandsForShutdown}

@@ -1,6 +1,3 @@
-use Rattle.std.proofs.Common.{rules, ◌+◌, ◌-◌, ◌<◌, ◌≡◌, ◌==◌, ◌≤◌, ℕ, Bool, true, false, cond, List, [], Option, None, Some, sym, ap, subst, ◌∙◌, is_some, length, refl, arith}
-use Rattle.std.specs.Option.{option_map, option_copied, option_copied_mut, IsSome, IfSome}
-use Rattle.std.specs.FinMap.{get}
 use Rattle.mea_meet.proofs.ShutdownGone.{sender_ended}
 use Rattle.mea_meet.proofs.shutdowns.ShutdownHall.end_sender.Goals as goal
 

@@ -1,5 +1,4 @@
-use Rattle.std.proofs.Common.{◌≡◌, sym, ap, ◌∙◌, is_some}
-use Rattle.mea_meet.proofs.ShutdownChanges.{Changes, kept_after}
+use Rattle.std.proofs.Common.{sym, ap, ◌∙◌, is_some}
 use Rattle.mea_meet.proofs.ShutdownMaps.{kept-at}
 use Rattle.mea_meet.proofs.shutdowns.ShutdownHall.is_sender.Goals as goal
 

@@ -1,4 +1,4 @@
-use Rattle.std.proofs.Common.{◌≡◌, sym, ap, ◌∙◌, is_some}
+use Rattle.std.proofs.Common.{sym, ap, ◌∙◌, is_some}
 use Rattle.mea_meet.proofs.ShutdownSeen.{kept_in, wait-at, wait-there}
 use Rattle.mea_meet.proofs.shutdowns.ShutdownHall.is_wait.Goals as goal
 

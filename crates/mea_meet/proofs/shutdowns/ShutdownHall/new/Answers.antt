@@ -1,4 +1,3 @@
-use Rattle.std.proofs.Common.{◌≡◌, None, Some, sym, ap, subst, ◌∙◌, is_some}
 use Rattle.mea_meet.proofs.ShutdownSeen.{none-kept, no-hall}
 use Rattle.mea_meet.proofs.shutdowns.ShutdownHall.new.Goals as goal
 

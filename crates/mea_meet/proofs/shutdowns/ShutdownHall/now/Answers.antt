@@ -1,9 +1,8 @@
-use Rattle.std.proofs.Common.{rules, ◌+◌, ◌-◌, ◌≡◌, ◌==◌, ◌≤◌, ℕ, cond, None, Some, sym, ap, subst, ◌∙◌, is_some, length, arith}
-use Rattle.std.specs.Option.{option_map, option_copied, option_copied_mut, IsSome}
+use Rattle.std.proofs.Common.{◌≡◌, ◌==◌, cond, None, Some, sym, ap, ◌∙◌, arith}
+use Rattle.std.specs.Option.{option_map, option_copied}
 use Rattle.std.specs.FinMap.{get}
 use Rattle.mea_base.specs.declared.answer.Answer.TheVariants as answers
 use Rattle.mea_meet.specs.ShutdownHall.{hall_of}
-use Rattle.mea_meet.proofs.ShutdownMaps.{kept-puts, kept-puts-as}
 use Rattle.mea_base.specs.Family.{quietly}
 use Rattle.mea_meet_model.specs.Shutdowns.{Shutdown, now_of}
 use Rattle.mea_meet.specs.ShutdownHall.{receiver_of}
@@ -32,6 +31,6 @@ returns c =
     let there : get (kept_in c.self.inside).shutdowns c.in-Some.receiver.now.shutdown ≡ Some c.in-Some-get.entry.now = shutdown-kept c.self.inside c.in-Some.receiver.now.shutdown ∙ sym c.get-2.ensures.value ∙ ap option_copied c.in-Some-get.is in
     let h = hall_of (kept_in c.self.inside) c.self.inside.next in
     rw (← c.self.view_is) (rests (kept_in c.self.inside) _ c.self.inside.next c.args.number _ _ c.yes_if-answer.result (stays_goes (kept_in c.self.inside) c.self.inside.next c.args.number c.in-Some.receiver.now.shutdown c.in-Some-get.entry.now c.self.invariant (rw (← c.self.view_is) at c.requires.next) (omega arith) there)
-      (ap (now_of h) (receiver-seen (kept_in c.self.inside) c.self.inside.next c.args.k ∙ ap (option_map receiver_of) is)
-      ∙ ap (λ (r : Shutdown). quietly h (cond (r.signal.number == 0) answers.Yes answers.No)) (shutdown-at (kept_in c.self.inside) c.self.inside.next c.in-Some.receiver.now.shutdown c.in-Some-get.entry.now there)
-      ∙ ap (quietly h) (sym (c.yes_if-answer.ensures ∙ ap (λ t. cond t answers.Yes answers.No) c.is_set.ensures))))
+    (ap (now_of h) (receiver-seen (kept_in c.self.inside) c.self.inside.next c.args.k ∙ ap (option_map receiver_of) is)
+    ∙ ap (λ (r : Shutdown). quietly h (cond (r.signal.number == 0) answers.Yes answers.No)) (shutdown-at (kept_in c.self.inside) c.self.inside.next c.in-Some.receiver.now.shutdown c.in-Some-get.entry.now there)
+    ∙ ap (quietly h) (sym (c.yes_if-answer.ensures ∙ ap (λ t. cond t answers.Yes answers.No) c.is_set.ensures))))

@@ -1,8 +1,6 @@
-use Rattle.std.proofs.Common.{rules, ◌+◌, ◌-◌, ◌<◌, ◌≡◌, ◌==◌, ◌≤◌, ℕ, Bool, true, false, cond, List, [], Option, None, Some, sym, ap, subst, ◌∙◌, is_some, length, refl, arith}
-use Rattle.std.specs.Option.{option_map, option_copied, option_copied_mut, IsSome, IfSome}
+use Rattle.std.proofs.Common.{◌≡◌, None, Some, sym, ap, ◌∙◌}
+use Rattle.std.specs.Option.{option_copied}
 use Rattle.std.specs.FinMap.{get}
-use Rattle.mea_meet_model.specs.Shutdowns.{Shutdowns, awaited, shutdown_at, gone}
-use Rattle.mea_meet.specs.Play.{Part}
 use Rattle.mea_meet.proofs.ShutdownSeen.{kept_in, wait-at, wait-there, shutdown-kept, asked}
 use Rattle.mea_meet.proofs.ShutdownGone.{waits-seen, poll_finished}
 use Rattle.mea_meet.proofs.shutdowns.ShutdownHall.poll.Goals as goal
@@ -32,4 +30,4 @@ returns-then-is_over-clause-yields c =
     let e = c.in-Some-get.entry.now in
     let x = c.in-Some.wait.now in
     rw (← c.self.view_is) (poll_finished (kept_in c.self.inside) c.self.inside.next c.args.f c.args.waker e x is there c.args.number c.finish.new.self c.args.ready.now c.finish.new.ready (sym c.is_over.ensures ∙ c.if-is_over.true)
-      (rw (← c.self.view_is) at c.finish.ensures.gone) c.finish.ensures.woken (rw (← c.self.view_is) at c.finish.ensures.counted))
+    (rw (← c.self.view_is) at c.finish.ensures.gone) c.finish.ensures.woken (rw (← c.self.view_is) at c.finish.ensures.counted))

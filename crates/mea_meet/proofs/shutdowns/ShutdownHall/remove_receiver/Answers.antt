@@ -1,8 +1,6 @@
-use Rattle.std.proofs.Common.{rules, ◌++◌, ◌+◌, ◌-◌, ◌≡◌, ◌==◌, ◌≤◌, ℕ, cond, None, Some, sym, ap, subst, ◌∙◌, is_some, length, refl, arith}
-use Rattle.std.specs.Option.{option_map, option_copied, option_copied_mut, IsSome}
+use Rattle.std.proofs.Common.{rules, ◌++◌, ◌+◌, ◌≡◌, None, Some, sym, ap, ◌∙◌, refl, arith}
+use Rattle.std.specs.Option.{option_map, option_copied_mut}
 use Rattle.std.specs.FinMap.{get}
-use Rattle.mea_base.specs.declared.answer.Answer.TheVariants as answers
-use Rattle.mea_meet.specs.ShutdownHall.{hall_of}
 use Rattle.mea_meet.proofs.ShutdownMaps.{kept-puts, kept-puts-as}
 use Rattle.mea_meet.specs.ShutdownHall.{receiver_of, borrowers_in}
 use Rattle.mea_meet.proofs.ShutdownSeen.{kept_in, receiver-at, receiver-there, receiver-seen, borrowers-seen, shutdown-kept, asked, if_some, still-there}
@@ -61,8 +59,8 @@ invariant_of-self c =
     let e = c.in-Some-get_mut.entry.now in
     let free : borrowers_in (kept_in c.self.inside) c.args.k ≡ 0 = sym (borrowers-seen (kept_in c.self.inside) c.self.inside.next c.args.k) ∙ (rw (← c.self.view_is) at c.requires.free) in
     (remove_receiver_wakes (kept_in c.self.inside) _ _ c.self.inside.next c.args.number c.args.k c.in-Some.receiver.shutdown e c.in-Some.receiver c.self.invariant (rw (← c.self.view_is) at c.requires.next) (omega arith) there is refl
-      (kept-puts-as c.self.inside.shutdowns.entries _ c.in-Some.receiver.shutdown c.end_receiver.new.self _ ((c.get_mut.follows.holds c.end_receiver.new.self).3 (search rules)).0 c.end_receiver.ensures.is)
-      (kept-puts c.self.inside.receivers.entries _ c.args.k None c.in-Some.ensures.updates.0) free).kept
+    (kept-puts-as c.self.inside.shutdowns.entries _ c.in-Some.receiver.shutdown c.end_receiver.new.self _ ((c.get_mut.follows.holds c.end_receiver.new.self).3 (search rules)).0 c.end_receiver.ensures.is)
+    (kept-puts c.self.inside.receivers.entries _ c.args.k None c.in-Some.ensures.updates.0) free).kept
 
 pub returns-clause-gone : goal.returns-clause-gone
 returns-clause-gone c =
@@ -71,20 +69,20 @@ returns-clause-gone c =
     let e = c.in-Some-get_mut.entry.now in
     let free : borrowers_in (kept_in c.self.inside) c.args.k ≡ 0 = sym (borrowers-seen (kept_in c.self.inside) c.self.inside.next c.args.k) ∙ (rw (← c.self.view_is) at c.requires.free) in
     let goes = (remove_receiver_wakes (kept_in c.self.inside) _ _ c.self.inside.next c.args.number c.args.k c.in-Some.receiver.shutdown e c.in-Some.receiver c.self.invariant (rw (← c.self.view_is) at c.requires.next) (omega arith) there is refl
-      (kept-puts-as c.self.inside.shutdowns.entries _ c.in-Some.receiver.shutdown c.end_receiver.new.self _ ((c.get_mut.follows.holds c.end_receiver.new.self).3 (search rules)).0 c.end_receiver.ensures.is)
-      (kept-puts c.self.inside.receivers.entries _ c.args.k None c.in-Some.ensures.updates.0) free) in
+    (kept-puts-as c.self.inside.shutdowns.entries _ c.in-Some.receiver.shutdown c.end_receiver.new.self _ ((c.get_mut.follows.holds c.end_receiver.new.self).3 (search rules)).0 c.end_receiver.ensures.is)
+    (kept-puts c.self.inside.receivers.entries _ c.args.k None c.in-Some.ensures.updates.0) free) in
     let woken = (remove_receiver_woken (kept_in c.self.inside) _ _ c.self.inside.next c.args.number c.args.k c.in-Some.receiver.shutdown e c.in-Some.receiver c.self.invariant (rw (← c.self.view_is) at c.requires.next) (omega arith) there is refl
-      (kept-puts-as c.self.inside.shutdowns.entries _ c.in-Some.receiver.shutdown c.end_receiver.new.self _ ((c.get_mut.follows.holds c.end_receiver.new.self).3 (search rules)).0 c.end_receiver.ensures.is)
-      (kept-puts c.self.inside.receivers.entries _ c.args.k None c.in-Some.ensures.updates.0) free) in
+    (kept-puts-as c.self.inside.shutdowns.entries _ c.in-Some.receiver.shutdown c.end_receiver.new.self _ ((c.get_mut.follows.holds c.end_receiver.new.self).3 (search rules)).0 c.end_receiver.ensures.is)
+    (kept-puts c.self.inside.receivers.entries _ c.args.k None c.in-Some.ensures.updates.0) free) in
     rw (← c.self.view_is) (if_some _ _ (receiver_of c.in-Some.receiver) (receiver-seen (kept_in c.self.inside) c.self.inside.next c.args.k ∙ ap (option_map receiver_of) is)
-      (refl, (λ j. record { hall = goes.moved j; next = c.args.number + 1 }), c.end_receiver.ensures.woken ∙ ap (λ ws. c.args.ready.now.wakers ++ ws) (sym woken)))
+    (refl, (λ j. record { hall = goes.moved j; next = c.args.number + 1 }), c.end_receiver.ensures.woken ∙ ap (λ ws. c.args.ready.now.wakers ++ ws) (sym woken)))
 
 pub returns-clause-there : goal.returns-clause-there
 returns-clause-there c =
     let there : get (kept_in c.self.inside).shutdowns c.in-Some.receiver.shutdown ≡ Some c.in-Some-get_mut.entry.now = shutdown-kept c.self.inside c.in-Some.receiver.shutdown ∙ sym c.get_mut.ensures.value ∙ ap option_copied_mut c.in-Some-get_mut.is in
     let e = c.in-Some-get_mut.entry.now in
     still-there (kept_in c.self.inside).waits (kept_in c.self.inside).shutdowns _ (c.args.number + 1) c.in-Some.receiver.shutdown _
-      (kept-puts-as c.self.inside.shutdowns.entries _ c.in-Some.receiver.shutdown c.end_receiver.new.self _ ((c.get_mut.follows.holds c.end_receiver.new.self).3 (search rules)).0 c.end_receiver.ensures.is)
+    (kept-puts-as c.self.inside.shutdowns.entries _ c.in-Some.receiver.shutdown c.end_receiver.new.self _ ((c.get_mut.follows.holds c.end_receiver.new.self).3 (search rules)).0 c.end_receiver.ensures.is)
 
 pub returns-clause-counted : goal.returns-clause-counted
 returns-clause-counted c =
@@ -93,8 +91,8 @@ returns-clause-counted c =
     let e = c.in-Some-get_mut.entry.now in
     let free : borrowers_in (kept_in c.self.inside) c.args.k ≡ 0 = sym (borrowers-seen (kept_in c.self.inside) c.self.inside.next c.args.k) ∙ (rw (← c.self.view_is) at c.requires.free) in
     let goes = (remove_receiver_wakes (kept_in c.self.inside) _ _ c.self.inside.next c.args.number c.args.k c.in-Some.receiver.shutdown e c.in-Some.receiver c.self.invariant (rw (← c.self.view_is) at c.requires.next) (omega arith) there is refl
-      (kept-puts-as c.self.inside.shutdowns.entries _ c.in-Some.receiver.shutdown c.end_receiver.new.self _ ((c.get_mut.follows.holds c.end_receiver.new.self).3 (search rules)).0 c.end_receiver.ensures.is)
-      (kept-puts c.self.inside.receivers.entries _ c.args.k None c.in-Some.ensures.updates.0) free) in
+    (kept-puts-as c.self.inside.shutdowns.entries _ c.in-Some.receiver.shutdown c.end_receiver.new.self _ ((c.get_mut.follows.holds c.end_receiver.new.self).3 (search rules)).0 c.end_receiver.ensures.is)
+    (kept-puts c.self.inside.receivers.entries _ c.args.k None c.in-Some.ensures.updates.0) free) in
     let all = goes.counted in
     let left = c.end_receiver.ensures.counted in
     rw (← c.self.view_is) (omega (arith, all, left))

@@ -1,9 +1,7 @@
-use Rattle.std.proofs.Common.{rules, ◌+◌, ◌-◌, ◌≡◌, ◌==◌, ◌≤◌, ℕ, cond, None, Some, sym, ap, subst, ◌∙◌, is_some, length, refl, arith}
-use Rattle.std.specs.Option.{option_map, option_copied, option_copied_mut, IsSome}
+use Rattle.std.proofs.Common.{rules, ◌+◌, ◌-◌, ◌≡◌, None, Some, sym, ap, ◌∙◌, refl, arith}
+use Rattle.std.specs.Option.{option_copied_mut}
 use Rattle.std.specs.FinMap.{get}
-use Rattle.mea_base.specs.declared.answer.Answer.TheVariants as answers
-use Rattle.mea_meet.specs.ShutdownHall.{hall_of}
-use Rattle.mea_meet.proofs.ShutdownMaps.{kept-puts, kept-puts-as}
+use Rattle.mea_meet.proofs.ShutdownMaps.{kept-puts}
 use Rattle.mea_meet.proofs.ShutdownSeen.{kept_in, sender-at, shutdown-kept, asked, if_some, still-there}
 use Rattle.mea_meet.proofs.ShutdownPlays.{sender_counted, remove_sender_goes}
 use Rattle.mea_meet.proofs.shutdowns.ShutdownHall.remove_sender.Goals as goal
@@ -23,7 +21,7 @@ overflow_sub-entry c =
     let is : get (kept_in c.self.inside).senders c.args.k ≡ Some c.in-Some.s = sender-at c.self.inside c.args.k ∙ sym c.remove.ensures.value ∙ c.in-Some.is in
     let there : get (kept_in c.self.inside).shutdowns c.in-Some.s ≡ Some c.in-Some-get_mut.entry.now = shutdown-kept c.self.inside c.in-Some.s ∙ sym c.get_mut.ensures.value ∙ ap option_copied_mut c.in-Some-get_mut.is in
     let e = c.in-Some-get_mut.entry.now in
-    sender_counted (kept_in c.self.inside) (kept_in c.self.inside).shutdowns (kept_in c.self.inside).senders c.self.inside.next c.args.number c.args.k c.in-Some.s e c.self.invariant (rw (← c.self.view_is) at c.requires.next) (omega arith) there is
+    sender_counted (kept_in c.self.inside) c.self.inside.next c.args.k c.in-Some.s e c.self.invariant there is
 
 pub invariant_of-self : goal.invariant_of-self
 invariant_of-self c =
@@ -31,8 +29,8 @@ invariant_of-self c =
     let there : get (kept_in c.self.inside).shutdowns c.in-Some.s ≡ Some c.in-Some-get_mut.entry.now = shutdown-kept c.self.inside c.in-Some.s ∙ sym c.get_mut.ensures.value ∙ ap option_copied_mut c.in-Some-get_mut.is in
     let e = c.in-Some-get_mut.entry.now in
     (remove_sender_goes (kept_in c.self.inside) _ _ c.self.inside.next c.args.number c.args.k c.in-Some.s e c.self.invariant (rw (← c.self.view_is) at c.requires.next) (omega arith) there is
-      (kept-puts c.self.inside.shutdowns.entries _ c.in-Some.s (Some (record e { things = e.things - 1 })) ((c.get_mut.follows.holds (record e { things = e.things - 1 })).3 (search rules)).0)
-      (kept-puts c.self.inside.senders.entries _ c.args.k None c.in-Some.ensures.updates.0)).kept
+    (kept-puts c.self.inside.shutdowns.entries _ c.in-Some.s (Some (record e { things = e.things - 1 })) ((c.get_mut.follows.holds (record e { things = e.things - 1 })).3 (search rules)).0)
+    (kept-puts c.self.inside.senders.entries _ c.args.k None c.in-Some.ensures.updates.0)).kept
 
 pub returns-clause-gone : goal.returns-clause-gone
 returns-clause-gone c =
@@ -40,8 +38,8 @@ returns-clause-gone c =
     let there : get (kept_in c.self.inside).shutdowns c.in-Some.s ≡ Some c.in-Some-get_mut.entry.now = shutdown-kept c.self.inside c.in-Some.s ∙ sym c.get_mut.ensures.value ∙ ap option_copied_mut c.in-Some-get_mut.is in
     let e = c.in-Some-get_mut.entry.now in
     let goes = (remove_sender_goes (kept_in c.self.inside) _ _ c.self.inside.next c.args.number c.args.k c.in-Some.s e c.self.invariant (rw (← c.self.view_is) at c.requires.next) (omega arith) there is
-      (kept-puts c.self.inside.shutdowns.entries _ c.in-Some.s (Some (record e { things = e.things - 1 })) ((c.get_mut.follows.holds (record e { things = e.things - 1 })).3 (search rules)).0)
-      (kept-puts c.self.inside.senders.entries _ c.args.k None c.in-Some.ensures.updates.0)) in
+    (kept-puts c.self.inside.shutdowns.entries _ c.in-Some.s (Some (record e { things = e.things - 1 })) ((c.get_mut.follows.holds (record e { things = e.things - 1 })).3 (search rules)).0)
+    (kept-puts c.self.inside.senders.entries _ c.args.k None c.in-Some.ensures.updates.0)) in
     rw (← c.self.view_is) (if_some _ _ c.in-Some.s is (refl, λ j. record { hall = goes.moved j; next = c.args.number + 1 }))
 
 pub returns-clause-there : goal.returns-clause-there
@@ -50,7 +48,7 @@ returns-clause-there c =
     let there : get (kept_in c.self.inside).shutdowns c.in-Some.s ≡ Some c.in-Some-get_mut.entry.now = shutdown-kept c.self.inside c.in-Some.s ∙ sym c.get_mut.ensures.value ∙ ap option_copied_mut c.in-Some-get_mut.is in
     let e = c.in-Some-get_mut.entry.now in
     still-there (kept_in c.self.inside).waits (kept_in c.self.inside).shutdowns _ (c.args.number + 1) c.in-Some.s (record e { things = e.things - 1 })
-      (kept-puts c.self.inside.shutdowns.entries _ c.in-Some.s (Some (record e { things = e.things - 1 })) ((c.get_mut.follows.holds (record e { things = e.things - 1 })).3 (search rules)).0)
+    (kept-puts c.self.inside.shutdowns.entries _ c.in-Some.s (Some (record e { things = e.things - 1 })) ((c.get_mut.follows.holds (record e { things = e.things - 1 })).3 (search rules)).0)
 
 pub returns-clause-counted : goal.returns-clause-counted
 returns-clause-counted c =
@@ -58,6 +56,6 @@ returns-clause-counted c =
     let there : get (kept_in c.self.inside).shutdowns c.in-Some.s ≡ Some c.in-Some-get_mut.entry.now = shutdown-kept c.self.inside c.in-Some.s ∙ sym c.get_mut.ensures.value ∙ ap option_copied_mut c.in-Some-get_mut.is in
     let e = c.in-Some-get_mut.entry.now in
     let goes = (remove_sender_goes (kept_in c.self.inside) _ _ c.self.inside.next c.args.number c.args.k c.in-Some.s e c.self.invariant (rw (← c.self.view_is) at c.requires.next) (omega arith) there is
-      (kept-puts c.self.inside.shutdowns.entries _ c.in-Some.s (Some (record e { things = e.things - 1 })) ((c.get_mut.follows.holds (record e { things = e.things - 1 })).3 (search rules)).0)
-      (kept-puts c.self.inside.senders.entries _ c.args.k None c.in-Some.ensures.updates.0)) in
+    (kept-puts c.self.inside.shutdowns.entries _ c.in-Some.s (Some (record e { things = e.things - 1 })) ((c.get_mut.follows.holds (record e { things = e.things - 1 })).3 (search rules)).0)
+    (kept-puts c.self.inside.senders.entries _ c.args.k None c.in-Some.ensures.updates.0)) in
     rw (← c.self.view_is) goes.counted

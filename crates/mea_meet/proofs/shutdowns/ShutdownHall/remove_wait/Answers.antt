@@ -1,9 +1,7 @@
-use Rattle.std.proofs.Common.{rules, ◌+◌, ◌-◌, ◌≡◌, ◌==◌, ◌≤◌, ℕ, Bool, true, false, cond, List, Option, None, Some, sym, ap, subst, ◌∙◌, is_some, length, refl, arith}
-use Rattle.std.specs.Option.{option_map, option_copied, option_copied_mut, IsSome}
+use Rattle.std.proofs.Common.{rules, ◌+◌, ◌-◌, ◌≡◌, None, Some, sym, ap, ◌∙◌, refl, arith}
+use Rattle.std.specs.Option.{option_map, option_copied_mut}
 use Rattle.std.specs.FinMap.{get}
-use Rattle.mea_base.specs.declared.answer.Answer.TheVariants as answers
-use Rattle.mea_meet.specs.ShutdownHall.{Store, hall_of, store_of, IsKept}
-use Rattle.mea_meet.proofs.ShutdownMaps.{kept-puts, kept-puts-as}
+use Rattle.mea_meet.proofs.ShutdownMaps.{kept-puts}
 use Rattle.mea_meet.specs.ShutdownHall.{wait_of}
 use Rattle.mea_meet.proofs.ShutdownSeen.{kept_in, wait-at, wait-there, wait-seen, shutdown-kept, asked, if_some, still-there}
 use Rattle.mea_meet.proofs.ShutdownEnds.{can_give_back, wait_counted, remove_wait_goes}
@@ -37,8 +35,8 @@ invariant_of-self c =
     let there : get (kept_in c.self.inside).shutdowns c.in-Some.wait.shutdown ≡ Some c.in-Some-get_mut.entry.now = shutdown-kept c.self.inside c.in-Some.wait.shutdown ∙ sym c.get_mut.ensures.value ∙ ap option_copied_mut c.in-Some-get_mut.is in
     let e = c.in-Some-get_mut.entry.now in
     (remove_wait_goes (kept_in c.self.inside) _ c.self.inside.receivers.entries c.give_back.new.receivers.entries _ c.self.inside.next c.args.number c.args.f e c.in-Some.wait c.self.invariant (rw (← c.self.view_is) at c.requires.next) (omega arith) is there
-      (kept-puts c.self.inside.shutdowns.entries _ c.in-Some.wait.shutdown (Some (record e { things = e.things - 1 })) ((c.get_mut.follows.holds (record e { things = e.things - 1 })).3 (search rules)).0)
-      refl (kept-puts c.self.inside.waits.entries _ c.args.f None c.in-Some.ensures.updates.0) c.borrowed.result (sym c.borrowed.ensures) c.give_back.ensures).kept
+    (kept-puts c.self.inside.shutdowns.entries _ c.in-Some.wait.shutdown (Some (record e { things = e.things - 1 })) ((c.get_mut.follows.holds (record e { things = e.things - 1 })).3 (search rules)).0)
+    refl (kept-puts c.self.inside.waits.entries _ c.args.f None c.in-Some.ensures.updates.0) c.borrowed.result (sym c.borrowed.ensures) c.give_back.ensures).kept
 
 pub returns-clause-gone : goal.returns-clause-gone
 returns-clause-gone c =
@@ -46,17 +44,17 @@ returns-clause-gone c =
     let there : get (kept_in c.self.inside).shutdowns c.in-Some.wait.shutdown ≡ Some c.in-Some-get_mut.entry.now = shutdown-kept c.self.inside c.in-Some.wait.shutdown ∙ sym c.get_mut.ensures.value ∙ ap option_copied_mut c.in-Some-get_mut.is in
     let e = c.in-Some-get_mut.entry.now in
     let goes = (remove_wait_goes (kept_in c.self.inside) _ c.self.inside.receivers.entries c.give_back.new.receivers.entries _ c.self.inside.next c.args.number c.args.f e c.in-Some.wait c.self.invariant (rw (← c.self.view_is) at c.requires.next) (omega arith) is there
-      (kept-puts c.self.inside.shutdowns.entries _ c.in-Some.wait.shutdown (Some (record e { things = e.things - 1 })) ((c.get_mut.follows.holds (record e { things = e.things - 1 })).3 (search rules)).0)
-      refl (kept-puts c.self.inside.waits.entries _ c.args.f None c.in-Some.ensures.updates.0) c.borrowed.result (sym c.borrowed.ensures) c.give_back.ensures) in
+    (kept-puts c.self.inside.shutdowns.entries _ c.in-Some.wait.shutdown (Some (record e { things = e.things - 1 })) ((c.get_mut.follows.holds (record e { things = e.things - 1 })).3 (search rules)).0)
+    refl (kept-puts c.self.inside.waits.entries _ c.args.f None c.in-Some.ensures.updates.0) c.borrowed.result (sym c.borrowed.ensures) c.give_back.ensures) in
     rw (← c.self.view_is) (if_some _ _ (wait_of c.in-Some.wait) (wait-seen (kept_in c.self.inside) c.self.inside.next c.args.f ∙ ap (option_map wait_of) is)
-      (refl, λ j. record { hall = goes.moved j; next = c.args.number + 1 }))
+    (refl, λ j. record { hall = goes.moved j; next = c.args.number + 1 }))
 
 pub returns-clause-there : goal.returns-clause-there
 returns-clause-there c =
     let there : get (kept_in c.self.inside).shutdowns c.in-Some.wait.shutdown ≡ Some c.in-Some-get_mut.entry.now = shutdown-kept c.self.inside c.in-Some.wait.shutdown ∙ sym c.get_mut.ensures.value ∙ ap option_copied_mut c.in-Some-get_mut.is in
     let e = c.in-Some-get_mut.entry.now in
     still-there _ (kept_in c.self.inside).shutdowns _ (c.args.number + 1) c.in-Some.wait.shutdown (record e { things = e.things - 1 })
-      (kept-puts c.self.inside.shutdowns.entries _ c.in-Some.wait.shutdown (Some (record e { things = e.things - 1 })) ((c.get_mut.follows.holds (record e { things = e.things - 1 })).3 (search rules)).0)
+    (kept-puts c.self.inside.shutdowns.entries _ c.in-Some.wait.shutdown (Some (record e { things = e.things - 1 })) ((c.get_mut.follows.holds (record e { things = e.things - 1 })).3 (search rules)).0)
 
 pub returns-clause-counted : goal.returns-clause-counted
 returns-clause-counted c =
@@ -64,6 +62,6 @@ returns-clause-counted c =
     let there : get (kept_in c.self.inside).shutdowns c.in-Some.wait.shutdown ≡ Some c.in-Some-get_mut.entry.now = shutdown-kept c.self.inside c.in-Some.wait.shutdown ∙ sym c.get_mut.ensures.value ∙ ap option_copied_mut c.in-Some-get_mut.is in
     let e = c.in-Some-get_mut.entry.now in
     let goes = (remove_wait_goes (kept_in c.self.inside) _ c.self.inside.receivers.entries c.give_back.new.receivers.entries _ c.self.inside.next c.args.number c.args.f e c.in-Some.wait c.self.invariant (rw (← c.self.view_is) at c.requires.next) (omega arith) is there
-      (kept-puts c.self.inside.shutdowns.entries _ c.in-Some.wait.shutdown (Some (record e { things = e.things - 1 })) ((c.get_mut.follows.holds (record e { things = e.things - 1 })).3 (search rules)).0)
-      refl (kept-puts c.self.inside.waits.entries _ c.args.f None c.in-Some.ensures.updates.0) c.borrowed.result (sym c.borrowed.ensures) c.give_back.ensures) in
+    (kept-puts c.self.inside.shutdowns.entries _ c.in-Some.wait.shutdown (Some (record e { things = e.things - 1 })) ((c.get_mut.follows.holds (record e { things = e.things - 1 })).3 (search rules)).0)
+    refl (kept-puts c.self.inside.waits.entries _ c.args.f None c.in-Some.ensures.updates.0) c.borrowed.result (sym c.borrowed.ensures) c.give_back.ensures) in
     rw (← c.self.view_is) goes.counted

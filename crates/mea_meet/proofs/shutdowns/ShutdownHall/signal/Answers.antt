@@ -1,9 +1,9 @@
-use Rattle.std.proofs.Common.{rules, ◌+◌, ◌-◌, ◌≡◌, ◌==◌, ◌≤◌, ℕ, cond, None, Some, sym, ap, subst, ◌∙◌, is_some, length, arith}
-use Rattle.std.specs.Option.{option_map, option_copied, option_copied_mut, IsSome}
+use Rattle.std.proofs.Common.{rules, ◌≡◌, None, Some, sym, ap, ◌∙◌, arith}
+use Rattle.std.specs.Option.{option_copied, option_copied_mut}
 use Rattle.std.specs.FinMap.{get}
 use Rattle.mea_base.specs.declared.answer.Answer.TheVariants as answers
 use Rattle.mea_meet.specs.ShutdownHall.{hall_of}
-use Rattle.mea_meet.proofs.ShutdownMaps.{kept-puts, kept-puts-as}
+use Rattle.mea_meet.proofs.ShutdownMaps.{kept-puts-as}
 use Rattle.mea_meet_model.specs.Shutdowns.{signal_of, with_shutdown, shutdown_at}
 use Rattle.mea_meet_model.specs.Count.{decreased}
 use Rattle.mea_meet.proofs.ShutdownSeen.{kept_in, sender-at, shutdown-kept, asked}
@@ -37,7 +37,7 @@ pub invariant_of-self : goal.invariant_of-self
 invariant_of-self c =
     let there : get (kept_in c.self.inside).shutdowns c.in-Some.sender.now ≡ Some c.in-Some-get_mut.entry.now = shutdown-kept c.self.inside c.in-Some.sender.now ∙ sym c.get_mut.ensures.value ∙ ap option_copied_mut c.in-Some-get_mut.is in
     (signal_wakes (kept_in c.self.inside) _ c.self.inside.next c.args.number c.in-Some.sender.now c.in-Some-get_mut.entry.now c.self.invariant (rw (← c.self.view_is) at c.requires.next) (omega arith) there
-      (kept-puts-as c.self.inside.shutdowns.entries _ c.in-Some.sender.now c.signal.new.self _ ((c.get_mut.follows.holds c.signal.new.self).3 (search rules)).0 c.signal.ensures.is)).kept
+    (kept-puts-as c.self.inside.shutdowns.entries _ c.in-Some.sender.now c.signal.new.self _ ((c.get_mut.follows.holds c.signal.new.self).3 (search rules)).0 c.signal.ensures.is)).kept
 
 pub returns : goal.returns
 returns c =
@@ -45,6 +45,6 @@ returns c =
     let there : get (kept_in c.self.inside).shutdowns c.in-Some.sender.now ≡ Some c.in-Some-get_mut.entry.now = shutdown-kept c.self.inside c.in-Some.sender.now ∙ sym c.get_mut.ensures.value ∙ ap option_copied_mut c.in-Some-get_mut.is in
     let h = hall_of (kept_in c.self.inside) c.self.inside.next in
     rw (← c.self.view_is) (yields (kept_in c.self.inside) _ c.self.inside.next c.args.number _ _ answers.Done _ c.args.ready.now c.signal.new.ready (signal_wakes (kept_in c.self.inside) _ c.self.inside.next c.args.number c.in-Some.sender.now c.in-Some-get_mut.entry.now c.self.invariant (rw (← c.self.view_is) at c.requires.next) (omega arith) there
-      (kept-puts-as c.self.inside.shutdowns.entries _ c.in-Some.sender.now c.signal.new.self _ ((c.get_mut.follows.holds c.signal.new.self).3 (search rules)).0 c.signal.ensures.is))
-      (ap (signal_of h) is ∙ (λ j. record { hall = with_shutdown h c.in-Some.sender.now (record (shutdown_at h c.in-Some.sender.now) { signal = decreased (shutdown_at h c.in-Some.sender.now).signal 1 }); reply = answers.Done; wakes = signal_woken (kept_in c.self.inside) c.self.inside.next c.in-Some.sender.now c.in-Some-get_mut.entry.now there j }))
-      c.signal.ensures.woken c.signal.ensures.counted)
+    (kept-puts-as c.self.inside.shutdowns.entries _ c.in-Some.sender.now c.signal.new.self _ ((c.get_mut.follows.holds c.signal.new.self).3 (search rules)).0 c.signal.ensures.is))
+    (ap (signal_of h) is ∙ (λ j. record { hall = with_shutdown h c.in-Some.sender.now (record (shutdown_at h c.in-Some.sender.now) { signal = decreased (shutdown_at h c.in-Some.sender.now).signal 1 }); reply = answers.Done; wakes = signal_woken (kept_in c.self.inside) c.self.inside.next c.in-Some.sender.now c.in-Some-get_mut.entry.now there j }))
+    c.signal.ensures.woken c.signal.ensures.counted)

@@ -1,9 +1,7 @@
-use Rattle.std.proofs.Common.{rules, ◌+◌, ◌-◌, ◌≡◌, ◌==◌, ◌≤◌, ℕ, cond, None, Some, sym, ap, subst, ◌∙◌, is_some, length, refl, arith}
-use Rattle.std.specs.Option.{option_map, option_copied, option_copied_mut, IsSome}
+use Rattle.std.proofs.Common.{◌≡◌, ℕ, None, Some, sym, ap, ◌∙◌, arith}
+use Rattle.std.specs.Option.{option_copied}
 use Rattle.std.specs.FinMap.{get}
-use Rattle.mea_base.specs.declared.answer.Answer.TheVariants as answers
-use Rattle.mea_meet.specs.ShutdownHall.{hall_of}
-use Rattle.mea_meet.proofs.ShutdownMaps.{kept-puts, kept-puts-as}
+use Rattle.mea_meet.proofs.ShutdownMaps.{kept-puts}
 use Rattle.mea_base.specs.Ready.{Waking}
 use Rattle.mea_meet.proofs.ShutdownSeen.{kept_in, shutdown-there, shutdown-kept, asked}
 use Rattle.mea_meet.proofs.ShutdownCounts.{wakers-within}

@@ -1,13 +1,11 @@
-use Rattle.std.proofs.Common.{rules, ◌+◌, ◌-◌, ◌<◌, ◌≡◌, ◌==◌, ◌≤◌, ℕ, Bool, true, false, cond, List, Option, None, Some, sym, ap, subst, ◌∙◌, is_some, length, refl, arith}
-use Rattle.std.specs.Option.{option_map, option_copied, option_copied_mut, IsSome, IfSome}
+use Rattle.std.proofs.Common.{rules, ◌+◌, ◌<◌, ◌≡◌, None, Some, sym, ap, subst, ◌∙◌, length, arith}
+use Rattle.std.specs.Option.{option_copied_mut}
 use Rattle.std.specs.FinMap.{get}
-use Rattle.mea_base.specs.declared.answer.Answer.TheVariants as answers
-use Rattle.mea_meet.specs.ShutdownHall.{Store, hall_of, store_of, IsKept}
-use Rattle.mea_meet.proofs.ShutdownMaps.{kept-puts, kept-puts-as, is_same}
+use Rattle.mea_meet.specs.ShutdownHall.{Store, hall_of, IsKept}
+use Rattle.mea_meet.proofs.ShutdownMaps.{kept-puts-as, is_same}
 use Rattle.mea_meet.specs.declared.shutdowns.ShutdownEntry.{ShutdownEntry}
-use Rattle.mea_meet.specs.declared.shutdowns.ShutdownWaitEntry.{ShutdownWaitEntry}
 use Rattle.mea_meet.specs.ShutdownHall.{count_at, end_of, set_at}
-use Rattle.mea_meet.proofs.ShutdownSeen.{kept_in, wait-at, wait-there, wait-seen, shutdown-kept, asked}
+use Rattle.mea_meet.proofs.ShutdownSeen.{kept_in, wait-at, wait-there, shutdown-kept, asked}
 use Rattle.mea_meet.proofs.ShutdownPolls.{wait-given, waits-number, wait_on_kept, wait_on_yields}
 use Rattle.mea_meet.proofs.shutdowns.ShutdownHall.wait_on.Goals as goal
 
@@ -56,8 +54,8 @@ invariant_of-self-in-Ok c =
     let e = c.in-Some-get_mut.entry.now in
     let x = c.in-Some.wait.now in
     wait_on_kept (kept_in c.self.inside) _ _ c.self.inside.next c.args.number c.args.f c.args.waker e x c.self.invariant (rw (← c.self.view_is) at c.requires.next) (omega arith) is there
-      (kept-puts-as c.self.inside.shutdowns.entries _ x.shutdown c.poll.new.self _ ((c.get_mut-2.follows.holds c.poll.new.self).3 (search rules)).0 c.in-Ok.ensures.ok.0)
-      (kept-puts-as c.self.inside.waits.entries _ c.args.f (record { shutdown = x.shutdown; wait = c.poll.new.wait }) _ ((c.get_mut.follows.holds (record { shutdown = x.shutdown; wait = c.poll.new.wait })).3 (search rules)).0 (λ j. record { shutdown = x.shutdown; wait = c.in-Ok.ensures.ok.1 j }))
+    (kept-puts-as c.self.inside.shutdowns.entries _ x.shutdown c.poll.new.self _ ((c.get_mut-2.follows.holds c.poll.new.self).3 (search rules)).0 c.in-Ok.ensures.ok.0)
+    (kept-puts-as c.self.inside.waits.entries _ c.args.f (record { shutdown = x.shutdown; wait = c.poll.new.wait }) _ ((c.get_mut.follows.holds (record { shutdown = x.shutdown; wait = c.poll.new.wait })).3 (search rules)).0 (λ j. record { shutdown = x.shutdown; wait = c.in-Ok.ensures.ok.1 j }))
 
 pub returns-in-Err-clause-err : goal.returns-in-Err-clause-err
 returns-in-Err-clause-err c =
@@ -78,6 +76,6 @@ returns-in-Ok-clause-yields c =
     let x = c.in-Some.wait.now in
     let some : 0 < (count_at (end_of c.in-Some.wait.now.wait) e.core).number = waits-number (kept_in c.self.inside) c.self.inside.next c.args.f e x is there (rw (← c.self.view_is) at c.requires.waits) in
     rw (← c.self.view_is) (wait_on_yields (kept_in c.self.inside) _ _ c.self.inside.next c.args.number c.args.f c.args.waker e x c.self.invariant (rw (← c.self.view_is) at c.requires.next) (omega arith) is there
-      (kept-puts-as c.self.inside.shutdowns.entries _ x.shutdown c.poll.new.self _ ((c.get_mut-2.follows.holds c.poll.new.self).3 (search rules)).0 c.in-Ok.ensures.ok.0)
-      (kept-puts-as c.self.inside.waits.entries _ c.args.f (record { shutdown = x.shutdown; wait = c.poll.new.wait }) _ ((c.get_mut.follows.holds (record { shutdown = x.shutdown; wait = c.poll.new.wait })).3 (search rules)).0 (λ j. record { shutdown = x.shutdown; wait = c.in-Ok.ensures.ok.1 j }))
-      c.args.ready.now c.poll.new.ready some c.in-Ok.ensures.wakers (c.in-Ok.ensures.counted ∙ ap (λ (d : ShutdownEntry). c.args.ready.now.registered + length (set_at d x.wait).wakers) c.in-Ok.ensures.ok.0))
+    (kept-puts-as c.self.inside.shutdowns.entries _ x.shutdown c.poll.new.self _ ((c.get_mut-2.follows.holds c.poll.new.self).3 (search rules)).0 c.in-Ok.ensures.ok.0)
+    (kept-puts-as c.self.inside.waits.entries _ c.args.f (record { shutdown = x.shutdown; wait = c.poll.new.wait }) _ ((c.get_mut.follows.holds (record { shutdown = x.shutdown; wait = c.poll.new.wait })).3 (search rules)).0 (λ j. record { shutdown = x.shutdown; wait = c.in-Ok.ensures.ok.1 j }))
+    c.args.ready.now c.poll.new.ready some c.in-Ok.ensures.wakers (c.in-Ok.ensures.counted ∙ ap (λ (d : ShutdownEntry). c.args.ready.now.registered + length (set_at d x.wait).wakers) c.in-Ok.ensures.ok.0))

@@ -1,13 +1,13 @@
-use Rattle.std.proofs.Common.{rules, ◌+◌, ◌-◌, ◌≡◌, ◌==◌, ◌≤◌, ℕ, Bool, true, false, cond, List, Option, None, Some, sym, ap, subst, ◌∙◌, is_some, length, refl, arith}
-use Rattle.std.specs.Option.{option_map, option_copied, option_copied_mut, IsSome}
+use Rattle.std.proofs.Common.{◌≡◌, ℕ, List, None, Some, sym, ap, subst, ◌∙◌, arith}
+use Rattle.std.specs.Option.{option_copied}
 use Rattle.std.specs.FinMap.{get}
 use Rattle.mea_base.specs.declared.answer.Answer.TheVariants as answers
-use Rattle.mea_meet.specs.ShutdownHall.{Store, hall_of, store_of, IsKept}
+use Rattle.mea_meet.specs.ShutdownHall.{hall_of, store_of, IsKept}
 use Rattle.mea_meet.proofs.ShutdownMaps.{kept-puts, kept-puts-as}
 use Rattle.mea_meet_model.specs.Shutdowns.{await_of}
 use Rattle.mea_meet.specs.declared.shutdowns.ShutdownWaitEntry.{ShutdownWaitEntry}
 use Rattle.mea_meet.specs.declared.shutdowns.ShutdownWait.TheVariants as waits
-use Rattle.mea_meet.proofs.ShutdownSeen.{kept_in, sender-at, shutdown-kept, asked, some_found}
+use Rattle.mea_meet.proofs.ShutdownSeen.{kept_in, sender-at, asked, some_found}
 use Rattle.mea_meet.proofs.ShutdownPlays.{rests}
 use Rattle.mea_meet.proofs.ShutdownWaits.{wait_on_receivers_goes}
 use Rattle.mea_meet.proofs.shutdowns.ShutdownHall.wait_on_receivers.Goals as goal
@@ -25,14 +25,14 @@ invariant_of-self-2 c =
     let is : get (kept_in c.self.inside).senders c.args.k ≡ Some c.in-Some.sender.now = sender-at c.self.inside c.args.k ∙ sym c.get.ensures.value ∙ ap option_copied c.in-Some.is in
     let found = some_found _ (c.self.invariant.sender c.args.k c.in-Some.sender.now is).there in
     (wait_on_receivers_goes (kept_in c.self.inside) _ _ c.self.inside.next c.args.number c.args.k c.in-Some.sender.now found.0 c.self.invariant (rw (← c.self.view_is) at c.requires.next) (omega arith) found.1 is
-      (kept-puts c.self.inside.senders.entries _ c.args.k None c.remove-sender.ensures.updates.0)
-      (kept-puts-as c.self.inside.waits.entries _ c.args.number (record { shutdown = c.in-Some.sender.now; wait = waits.Receivers c.new.result }) _ c.in-Ok.ensures.updates.0 (λ j. record { shutdown = c.in-Some.sender.now; wait = waits.Receivers (c.new.ensures j) }))).kept
+    (kept-puts c.self.inside.senders.entries _ c.args.k None c.remove-sender.ensures.updates.0)
+    (kept-puts-as c.self.inside.waits.entries _ c.args.number (record { shutdown = c.in-Some.sender.now; wait = waits.Receivers c.new.result }) _ c.in-Ok.ensures.updates.0 (λ j. record { shutdown = c.in-Some.sender.now; wait = waits.Receivers (c.new.ensures j) }))).kept
 
 pub returns-clause-rests : goal.returns-clause-rests
 returns-clause-rests c =
     let is : get (kept_in c.self.inside).senders c.args.k ≡ Some c.in-Some.sender.now = sender-at c.self.inside c.args.k ∙ sym c.get.ensures.value ∙ ap option_copied c.in-Some.is in
     let found = some_found _ (c.self.invariant.sender c.args.k c.in-Some.sender.now is).there in
     rw (← c.self.view_is) (rests (kept_in c.self.inside) _ c.self.inside.next c.args.number _ _ answers.Made (wait_on_receivers_goes (kept_in c.self.inside) _ _ c.self.inside.next c.args.number c.args.k c.in-Some.sender.now found.0 c.self.invariant (rw (← c.self.view_is) at c.requires.next) (omega arith) found.1 is
-      (kept-puts c.self.inside.senders.entries _ c.args.k None c.remove-sender.ensures.updates.0)
-      (kept-puts-as c.self.inside.waits.entries _ c.args.number (record { shutdown = c.in-Some.sender.now; wait = waits.Receivers c.new.result }) _ c.in-Ok.ensures.updates.0 (λ j. record { shutdown = c.in-Some.sender.now; wait = waits.Receivers (c.new.ensures j) })))
-      (ap (await_of (hall_of (kept_in c.self.inside) c.self.inside.next) c.args.number c.args.k) is))
+    (kept-puts c.self.inside.senders.entries _ c.args.k None c.remove-sender.ensures.updates.0)
+    (kept-puts-as c.self.inside.waits.entries _ c.args.number (record { shutdown = c.in-Some.sender.now; wait = waits.Receivers c.new.result }) _ c.in-Ok.ensures.updates.0 (λ j. record { shutdown = c.in-Some.sender.now; wait = waits.Receivers (c.new.ensures j) })))
+    (ap (await_of (hall_of (kept_in c.self.inside) c.self.inside.next) c.args.number c.args.k) is))

@@ -1,8 +1,8 @@
-use Rattle.std.proofs.Common.{rules, ◌+◌, ◌-◌, ◌≡◌, ◌==◌, ◌≤◌, ℕ, Bool, true, false, cond, List, Option, None, Some, sym, ap, subst, ◌∙◌, is_some, length, refl, arith}
-use Rattle.std.specs.Option.{option_map, option_copied, option_copied_mut, IsSome}
+use Rattle.std.proofs.Common.{rules, ◌+◌, ◌≡◌, ℕ, cond, List, None, Some, sym, ap, subst, ◌∙◌, arith}
+use Rattle.std.specs.Option.{option_map, option_copied, option_copied_mut}
 use Rattle.std.specs.FinMap.{get}
 use Rattle.mea_base.specs.declared.answer.Answer.TheVariants as answers
-use Rattle.mea_meet.specs.ShutdownHall.{Store, hall_of, store_of, IsKept}
+use Rattle.mea_meet.specs.ShutdownHall.{hall_of, store_of, IsKept}
 use Rattle.mea_meet.proofs.ShutdownMaps.{kept-puts, kept-puts-as}
 use Rattle.mea_meet_model.specs.Shutdowns.{wait_of}
 use Rattle.mea_meet.specs.declared.shutdowns.ReceiverEntry.{ReceiverEntry}
@@ -55,9 +55,9 @@ invariant_of-self-2 c =
     let e = c.in-Some-get_mut-2.entry.now in
     let x = c.in-Some-get_mut.receiver.now in
     (wait_on_signal_goes (kept_in c.self.inside) _ _ _ c.self.inside.next c.args.number c.args.k c.in-Some.receiver.now.shutdown c.args.plain e x c.self.invariant (rw (← c.self.view_is) at c.requires.next) (omega arith) there again same
-      (kept-puts c.self.inside.shutdowns.entries _ c.in-Some.receiver.now.shutdown (Some (record e { things = e.things + 1 })) ((c.get_mut-2.follows.holds (record e { things = e.things + 1 })).3 (search rules)).0)
-      (kept-puts-as c.self.inside.receivers.entries _ c.args.k (record x { plain = x.plain + c.one_if.result }) _ ((c.get_mut.follows.holds (record x { plain = x.plain + c.one_if.result })).3 (search rules)).0 (λ j. record x { plain = x.plain + c.one_if.ensures j }))
-      (kept-puts-as c.self.inside.waits.entries _ c.args.number (record { shutdown = c.in-Some.receiver.now.shutdown; wait = waits.Signal c.new.result c.borrowed_if.result }) _ c.in-Ok.ensures.updates.0 (λ j. record { shutdown = c.in-Some.receiver.now.shutdown; wait = waits.Signal (c.new.ensures j) (c.borrowed_if.ensures j) }))).kept
+    (kept-puts c.self.inside.shutdowns.entries _ c.in-Some.receiver.now.shutdown (Some (record e { things = e.things + 1 })) ((c.get_mut-2.follows.holds (record e { things = e.things + 1 })).3 (search rules)).0)
+    (kept-puts-as c.self.inside.receivers.entries _ c.args.k (record x { plain = x.plain + c.one_if.result }) _ ((c.get_mut.follows.holds (record x { plain = x.plain + c.one_if.result })).3 (search rules)).0 (λ j. record x { plain = x.plain + c.one_if.ensures j }))
+    (kept-puts-as c.self.inside.waits.entries _ c.args.number (record { shutdown = c.in-Some.receiver.now.shutdown; wait = waits.Signal c.new.result c.borrowed_if.result }) _ c.in-Ok.ensures.updates.0 (λ j. record { shutdown = c.in-Some.receiver.now.shutdown; wait = waits.Signal (c.new.ensures j) (c.borrowed_if.ensures j) }))).kept
 
 pub returns-clause-rests : goal.returns-clause-rests
 returns-clause-rests c =
@@ -68,7 +68,7 @@ returns-clause-rests c =
     let e = c.in-Some-get_mut-2.entry.now in
     let x = c.in-Some-get_mut.receiver.now in
     rw (← c.self.view_is) (rests (kept_in c.self.inside) _ c.self.inside.next c.args.number _ _ answers.Made (wait_on_signal_goes (kept_in c.self.inside) _ _ _ c.self.inside.next c.args.number c.args.k c.in-Some.receiver.now.shutdown c.args.plain e x c.self.invariant (rw (← c.self.view_is) at c.requires.next) (omega arith) there again same
-      (kept-puts c.self.inside.shutdowns.entries _ c.in-Some.receiver.now.shutdown (Some (record e { things = e.things + 1 })) ((c.get_mut-2.follows.holds (record e { things = e.things + 1 })).3 (search rules)).0)
-      (kept-puts-as c.self.inside.receivers.entries _ c.args.k (record x { plain = x.plain + c.one_if.result }) _ ((c.get_mut.follows.holds (record x { plain = x.plain + c.one_if.result })).3 (search rules)).0 (λ j. record x { plain = x.plain + c.one_if.ensures j }))
-      (kept-puts-as c.self.inside.waits.entries _ c.args.number (record { shutdown = c.in-Some.receiver.now.shutdown; wait = waits.Signal c.new.result c.borrowed_if.result }) _ c.in-Ok.ensures.updates.0 (λ j. record { shutdown = c.in-Some.receiver.now.shutdown; wait = waits.Signal (c.new.ensures j) (c.borrowed_if.ensures j) })))
-      (ap (wait_of (hall_of (kept_in c.self.inside) c.self.inside.next) c.args.number (cond c.args.plain (Some c.args.k) None)) (receiver-seen (kept_in c.self.inside) c.self.inside.next c.args.k ∙ ap (option_map receiver_of) is)))
+    (kept-puts c.self.inside.shutdowns.entries _ c.in-Some.receiver.now.shutdown (Some (record e { things = e.things + 1 })) ((c.get_mut-2.follows.holds (record e { things = e.things + 1 })).3 (search rules)).0)
+    (kept-puts-as c.self.inside.receivers.entries _ c.args.k (record x { plain = x.plain + c.one_if.result }) _ ((c.get_mut.follows.holds (record x { plain = x.plain + c.one_if.result })).3 (search rules)).0 (λ j. record x { plain = x.plain + c.one_if.ensures j }))
+    (kept-puts-as c.self.inside.waits.entries _ c.args.number (record { shutdown = c.in-Some.receiver.now.shutdown; wait = waits.Signal c.new.result c.borrowed_if.result }) _ c.in-Ok.ensures.updates.0 (λ j. record { shutdown = c.in-Some.receiver.now.shutdown; wait = waits.Signal (c.new.ensures j) (c.borrowed_if.ensures j) })))
+    (ap (wait_of (hall_of (kept_in c.self.inside) c.self.inside.next) c.args.number (cond c.args.plain (Some c.args.k) None)) (receiver-seen (kept_in c.self.inside) c.self.inside.next c.args.k ∙ ap (option_map receiver_of) is)))
