@@ -15,9 +15,9 @@ use Rattle.mea_meet.specs.declared.shutdowns.ReceiverEntry.{ReceiverEntry}
 use Rattle.mea_meet.specs.declared.shutdowns.ShutdownWaitEntry.{ShutdownWaitEntry}
 use Rattle.mea_meet.specs.declared.shutdowns.ShutdownWait.{ShutdownWait as Wait}
 use Rattle.mea_meet.specs.declared.shutdowns.ShutdownWait.TheVariants as waits
-use Rattle.mea_meet.specs.ShutdownHall.{Store, End, OfSignal, OfReceivers, awaits_of, slot_at, slot_in, slots_of, shutdown_of, receiver_of, wait_of, hall_of, borrowers_in, is_of, IsKeptEntry, IsKeptSender, IsKeptReceiver, IsKeptWait, IsKept}
+use Rattle.mea_meet.specs.ShutdownHall.{Store, End, OfSignal, OfReceivers, awaits_of, slot_at, slot_in, slots_of, shutdown_of, hall_of, borrowers_in, is_of, IsKeptEntry, IsKeptSender, IsKeptReceiver, IsKeptWait, IsKept}
 use Rattle.mea_meet.proofs.Names.{waiting-length, waiting-alike, named-ends, named-new}
-use Rattle.mea_meet.proofs.ShutdownMaps.{Puts, Belongs, get-seen, put_here, put_other, total_puts, by_put, puts_seen, total-named, total_elsewhere}
+use Rattle.mea_meet.proofs.ShutdownMaps.{Puts, Belongs, get-seen, put_here, put_other, total_puts, by_put, total-named, total_elsewhere}
 
 -- s becomes e2; a sender, a receiver or watch and a future of it are put, or are gone
 pub record Changes (st st' : Store) (s a b f : ℕ) (e2 : ShutdownEntry) (oa : Option ℕ) (ob : Option ReceiverEntry) (ow : Option ShutdownWaitEntry) : Type 0 where
@@ -170,12 +170,6 @@ module _ (st st' : Store) (next next' s a b f : ℕ) (e2 : ShutdownEntry) (oa : 
         by_test : (t : Bool) → (s == q) ≡ t → option_map (shutdown_of st'.waits next' q) (cond t (Some e2) (get st.shutdowns q)) ≡ cond t (Some (shutdown_of st'.waits next' s e2)) (option_map (shutdown_of st.waits next q) (get st.shutdowns q))
         by_test true h = ap (λ r. Some (shutdown_of st'.waits next' r e2)) (sym (eqb-true s q h))
         by_test false h = by_value (get st.shutdowns q) (eqb-false s q h)
-
-    pub receivers_after : Puts (hall_of st next).receivers (hall_of st' next').receivers b (option_map receiver_of ob)
-    receivers_after = puts_seen receiver_of st.receivers st'.receivers b ob c.receivers
-
-    pub waits_after : Puts (hall_of st next).waits (hall_of st' next').waits f (option_map wait_of ow)
-    waits_after = puts_seen wait_of st.waits st'.waits f ow c.waits
 
     pub registered_after : registered (hall_of st' next') + weight (λ q (e : ShutdownEntry). wakers_at e) s (get st.shutdowns s) ≡ registered (hall_of st next) + wakers_at e2
     registered_after =

@@ -177,41 +177,41 @@ module _ (st : Store) (ss' : FinMap nat_cmp ShutdownEntry) (ks' : FinMap nat_cmp
   }
 
 -- ---- a sender less
-module _ (st : Store) (ss' : FinMap nat_cmp ShutdownEntry) (ks' : FinMap nat_cmp ℕ) (next i a s : ℕ) (e : ShutdownEntry) (k : IsKept st next) (less : next ≤ i) (low : i < 2 ^ 64) (there : get st.shutdowns s ≡ Some e) (sender : get st.senders a ≡ Some s) where
-  -- its shutdown counts it
-  pub sender_counted : 1 ≤ e.things
-  sender_counted =
-      let part = total-member (λ q (p : ℕ). cond (p == s) 1 0) st.senders a s sender in
-      let one : ◌≡◌ {A = ℕ} (cond (s == s) 1 0) 1 = own s 1 in
-      let all = (k.each s e there).things in
-      omega (arith, part, one, all)
+-- its shutdown counts it
+pub sender_counted : (st : Store) (next a s : ℕ) (e : ShutdownEntry) → IsKept st next → get st.shutdowns s ≡ Some e → get st.senders a ≡ Some s → 1 ≤ e.things
+sender_counted st next a s e k there sender =
+    let part = total-member (λ q (p : ℕ). cond (p == s) 1 0) st.senders a s sender in
+    let one : ◌≡◌ {A = ℕ} (cond (s == s) 1 0) 1 = own s 1 in
+    let all = (k.each s e there).things in
+    omega (arith, part, one, all)
 
-  module _ (shutdowns : Puts st.shutdowns ss' s (Some (record e { things = e.things - 1 }))) (senders : Puts st.senders ks' a None) where
-    abbrev less_sender : ShutdownEntry
-    less_sender = record e { things = e.things - 1 }
+module _ (st : Store) (ss' : FinMap nat_cmp ShutdownEntry) (ks' : FinMap nat_cmp ℕ) (next i a s : ℕ) (e : ShutdownEntry) (k : IsKept st next) (less : next ≤ i) (low : i < 2 ^ 64) (there : get st.shutdowns s ≡ Some e) (sender : get st.senders a ≡ Some s)
+    (shutdowns : Puts st.shutdowns ss' s (Some (record e { things = e.things - 1 }))) (senders : Puts st.senders ks' a None) where
+  abbrev less_sender : ShutdownEntry
+  less_sender = record e { things = e.things - 1 }
 
-    abbrev sender_of : Belongs {X = ℕ} (λ p. p) s (get st.senders a)
-    sender_of = belongs-some (λ p. p) s (get st.senders a) s sender refl
+  abbrev sender_of : Belongs {X = ℕ} (λ p. p) s (get st.senders a)
+  sender_of = belongs-some (λ p. p) s (get st.senders a) s sender refl
 
-    abbrev sender_gone : Belongs {X = ℕ} (λ p. p) s None
-    sender_gone = belongs-none (λ p. p) s None refl
+  abbrev sender_gone : Belongs {X = ℕ} (λ p. p) s None
+  sender_gone = belongs-none (λ p. p) s None refl
 
-    pub remove_sender_goes : Goes st (record { shutdowns = ss'; senders = ks'; receivers = st.receivers; waits = st.waits }) next i (record (hall_of st next) { senders = remove (hall_of st next).senders a })
-    remove_sender_goes = record {
-      kept = sender_kept st ss' ks' next i s a e less_sender None k less low there shutdowns senders sender_of sender_gone (k.each s e there).quiet (k.each s e there).known refl
-          (let counted = sender_counted in
-          let one : ◌≡◌ {A = ℕ} (cond (s == s) 1 0) 1 = own s 1 in
-          let was : weight (λ q (p : ℕ). cond (p == s) 1 0) a (get st.senders a) ≡ cond (s == s) 1 0 = ap (weight (λ q (p : ℕ). cond (p == s) 1 0) a) sender in
-          omega (arith, counted, one, was))
-          (omega arith) (k.each s e there).given (λ p none. absurd (cc));
-      moved = λ j. record {
-        shutdowns = is_same _ _ s (Some (shutdown_of st.waits next s e)) (seen_before st next s e there) (sender_shutdowns st ss' ks' next i s a e less_sender None k less low there shutdowns senders sender_of sender_gone) j;
-        senders = is_remove st.senders ks' a senders j;
-        receivers = (hall_of st next).receivers;
-        waits = sender_waits st ss' ks' next i s a e less_sender None k less low there shutdowns senders sender_of sender_gone j;
-      };
-      counted = (let all = sender_counts st ss' ks' next i s a e less_sender None k less low there shutdowns senders sender_of sender_gone in omega (arith, all));
-    }
+  pub remove_sender_goes : Goes st (record { shutdowns = ss'; senders = ks'; receivers = st.receivers; waits = st.waits }) next i (record (hall_of st next) { senders = remove (hall_of st next).senders a })
+  remove_sender_goes = record {
+    kept = sender_kept st ss' ks' next i s a e less_sender None k less low there shutdowns senders sender_of sender_gone (k.each s e there).quiet (k.each s e there).known refl
+        (let counted = sender_counted st next a s e k there sender in
+        let one : ◌≡◌ {A = ℕ} (cond (s == s) 1 0) 1 = own s 1 in
+        let was : weight (λ q (p : ℕ). cond (p == s) 1 0) a (get st.senders a) ≡ cond (s == s) 1 0 = ap (weight (λ q (p : ℕ). cond (p == s) 1 0) a) sender in
+        omega (arith, counted, one, was))
+        (omega arith) (k.each s e there).given (λ p none. absurd (cc));
+    moved = λ j. record {
+      shutdowns = is_same _ _ s (Some (shutdown_of st.waits next s e)) (seen_before st next s e there) (sender_shutdowns st ss' ks' next i s a e less_sender None k less low there shutdowns senders sender_of sender_gone) j;
+      senders = is_remove st.senders ks' a senders j;
+      receivers = (hall_of st next).receivers;
+      waits = sender_waits st ss' ks' next i s a e less_sender None k less low there shutdowns senders sender_of sender_gone j;
+    };
+    counted = (let all = sender_counts st ss' ks' next i s a e less_sender None k less low there shutdowns senders sender_of sender_gone in omega (arith, all));
+  }
 
 -- ---- the signal is set
 module _ (st : Store) (ss' : FinMap nat_cmp ShutdownEntry) (next i s : ℕ) (e : ShutdownEntry) (k : IsKept st next) (less : next ≤ i) (low : i < 2 ^ 64) (there : get st.shutdowns s ≡ Some e)

@@ -21,7 +21,7 @@ overflow_sub-entry c =
     let is : get (kept_in c.self.inside).senders c.args.k ≡ Some c.in-Some.s = sender-at c.self.inside c.args.k ∙ sym c.remove.ensures.value ∙ c.in-Some.is in
     let there : get (kept_in c.self.inside).shutdowns c.in-Some.s ≡ Some c.in-Some-get_mut.entry.now = shutdown-kept c.self.inside c.in-Some.s ∙ sym c.get_mut.ensures.value ∙ ap option_copied_mut c.in-Some-get_mut.is in
     let e = c.in-Some-get_mut.entry.now in
-    sender_counted (kept_in c.self.inside) (kept_in c.self.inside).shutdowns (kept_in c.self.inside).senders c.self.inside.next c.args.number c.args.k c.in-Some.s e c.self.invariant (rw (← c.self.view_is) at c.requires.next) (omega arith) there is
+    sender_counted (kept_in c.self.inside) c.self.inside.next c.args.k c.in-Some.s e c.self.invariant there is
 
 pub invariant_of-self : goal.invariant_of-self
 invariant_of-self c =
