@@ -107,7 +107,7 @@ module _ (F : Family) where
     pub wakes : (r : RunOf) (i : ℕ) (e : F.Event) → Runs r → r.next ≤ i → F.cause r.hall e ≡ None → (f : F.Future) (w : ℕ) → F.lives r.hall f ≡ true → F.placed r.hall f ≡ Some w → F.polled e f ≡ None → F.lives (F.step r.hall i e).hall f ≡ true
         → (F.placed (F.step r.hall i e).hall f ≡ Some w) ⊎ Contains (F.step r.hall i e).wakes w
 
-  -- the names of futures are the numbers of the events that made them
+  -- only futures that live are polled, and their names are the numbers of the events that made them
   pub record NamesFutures : Type 0 where
     pub polls : (h : F.Hall) (e : F.Event) → F.cause h e ≡ None → (f : F.Future) (w : ℕ) → F.polled e f ≡ Some w → F.lives h f ≡ true
     pub below : (r : RunOf) → Runs r → (f : F.Future) → F.lives r.hall f ≡ true → F.name f < r.next

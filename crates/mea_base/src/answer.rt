@@ -22,7 +22,7 @@ pub enum Answer {
     Leader,
     /// `done`
     Done,
-    /// `ok`: a message was accepted.
+    /// `ok`: a message was accepted, or a count has ended.
     Accepted,
     /// `full v`: a message was refused for want of a place.
     Full(u64),

@@ -9,7 +9,7 @@ use Rattle.mea_hall.specs.World.{World, OthersStay, registered, registers, step}
 abbrev pub world_of : sem.Play → meet.Play → World
 world_of s m = record { semaphores = s.hall; meets = m.hall }
 
--- event number i is played with this reply on the hall of its family, which alone has wakers ready
+-- event number i is played with this reply: the halls after it, and what they have ready
 pub record PlaysFamilies (old : World) (i : ℕ) (event : Event) (answer : Answer) (s : sem.Play) (m : meet.Play) : Type 0 where
   pub replied : answer ≡ (step old i event).reply.0
   pub world : world_of s m ≡ (step old i event).world

@@ -2,6 +2,9 @@
 //! names a part of a locked value. A lock is a semaphore and a value: each of these stands on the contract
 //! of `mea_sem_core`'s `SemCore` alone, and the condition variable on those of the list of waiters and of
 //! the mutex. The hall of locks and the locks that threads share stand on them.
+//!
+//! A wait is *one of* a core where the number that it keeps is in use there for it. A core can not tell one
+//! that another core has queued under the same number, so a user keeps the two together.
 #![tactic(auto)]
 
 mod cond_wait;

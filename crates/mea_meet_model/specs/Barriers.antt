@@ -29,7 +29,7 @@ no_barriers = record { barriers = map.empty; waits = map.empty }
 abbrev pub new_barrier : ℕ → Barrier
 new_barrier n = record { size = max n 1; arrivals = 0; waiting = [] }
 
--- the barrier of this name; only asked where there is one
+-- the barrier of this name; one that nobody waits for, where there is none
 abbrev pub barrier_at : Barriers → ℕ → Barrier
 barrier_at h b = unwrap_or (map.get h.barriers b) (new_barrier 1)
 

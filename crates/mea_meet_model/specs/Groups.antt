@@ -18,7 +18,7 @@ pub record Groups : Type 0 where
 abbrev pub no_groups : Groups
 no_groups = record { groups = map.empty; handles = map.empty; waits = map.empty }
 
--- the group of this name; only asked where there is one
+-- the group of this name; one that nobody waits for, where there is none
 abbrev pub group_at : Groups → ℕ → Count
 group_at h g = unwrap_or (map.get h.groups g) (count_from 0)
 

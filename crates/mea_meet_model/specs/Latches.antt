@@ -29,7 +29,7 @@ no_latches = record { latches = map.empty; waits = map.empty }
 abbrev pub new_latch : ℕ → Latch
 new_latch n = record { count = count_from n; named = true }
 
--- the latch of this name; only asked where there is one
+-- the latch of this name; one that nobody waits for, where there is none
 abbrev pub latch_at : Latches → ℕ → Latch
 latch_at h l = unwrap_or (map.get h.latches l) (new_latch 0)
 

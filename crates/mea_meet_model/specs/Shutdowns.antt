@@ -41,7 +41,7 @@ no_shutdowns = record { shutdowns = map.empty; senders = map.empty; receivers = 
 abbrev pub new_shutdown : Shutdown
 new_shutdown = record { signal = count_from 1; receivers = count_from 1 }
 
--- the shutdown of this name; only asked where there is one
+-- the shutdown of this name; one that nobody waits for, where there is none
 abbrev pub shutdown_at : Shutdowns → ℕ → Shutdown
 shutdown_at h s = unwrap_or (map.get h.shutdowns s) new_shutdown
 

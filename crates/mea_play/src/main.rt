@@ -1,14 +1,25 @@
 //! The program `mea_play`: plays a script from standard input to standard output. `mea_run` does the work.
 #![tactic(auto)]
 
-use mea_run::{StdSink, StdSource, run};
+use mea_run::{Status, StdSink, StdSource, run};
 use std::process::ExitCode;
 use std::{env, io};
 
-fn main(rt: HostRuntime) -> io::Result<ExitCode> {
-    let words: Vec<String> = env::args(&rt)?.skip(1).collect(rt.alloc())?;
-    let mut source = StdSource::new(rt.stdin());
-    let mut sink = StdSink::new(io::writer(&rt));
-    let status = run(rt.alloc(), words.as_slice(), &mut source, &mut sink);
-    Ok(ExitCode::from(status.code()))
+fn main(rt: HostRuntime) -> ExitCode {
+    let status = match words(&rt) {
+        Ok(words) => {
+            let mut source = StdSource::new(rt.stdin());
+            let mut sink = StdSink::new(io::writer(&rt));
+            run(rt.alloc(), words.as_slice(), &mut source, &mut sink)
+        }
+        Err(failed) if failed.kind() == io::ErrorKind::OutOfMemory => Status::NoMemory,
+        // A word that is no text.
+        Err(_) => Status::Usage,
+    };
+    ExitCode::from(status.code())
+}
+
+// The words of the command line, without the program's name.
+fn words(rt: &(impl env::Env + AllocGlobal)) -> io::Result<Vec<String>> {
+    Ok(env::args(rt)?.skip(1).collect(rt.alloc())?)
 }

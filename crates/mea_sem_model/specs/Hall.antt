@@ -53,7 +53,7 @@ empty_hall = record { semaphores = map.empty; futures = map.empty; permits = map
 abbrev pub made_with : ℕ → Semaphore
 made_with n = record { free = n; queue = []; made = n; released = 0; forgotten = 0; named = true }
 
--- the semaphore of this name; only asked where there is one
+-- the semaphore of this name; one with nothing, where there is none
 abbrev pub semaphore_at : Hall → ℕ → Semaphore
 semaphore_at h s = unwrap_or (map.get h.semaphores s) (made_with 0)
 

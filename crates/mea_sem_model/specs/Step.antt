@@ -154,7 +154,7 @@ ledger_of h s = record {
   forgotten = (semaphore_at h s).forgotten;
 }
 
--- n permits are released to s
+-- n more permits are counted as released to s
 abbrev pub released_to : Hall → ℕ → ℕ → Hall
 released_to h s n = with_semaphore h s (record (semaphore_at h s) { released = (semaphore_at h s).released + n })
 

@@ -26,12 +26,13 @@ abbrev pub AllLack : List (Who × ℕ) → Type 0
 AllLack [] = Unit {0}
 AllLack (e ∷ q) = (1 ≤ e.1) × AllLack q
 
--- a debt stands only where nobody, or debts alone, stand before it
+-- futures alone
 abbrev pub HasNoDebt : List (Who × ℕ) → Type 0
 HasNoDebt [] = Unit {0}
 HasNoDebt ((Waiter f, n) ∷ q) = HasNoDebt q
 HasNoDebt ((Debt, n) ∷ q) = ⊥
 
+-- a debt stands only where nobody, or debts alone, stand before it
 abbrev pub HasDebtsFirst : List (Who × ℕ) → Type 0
 HasDebtsFirst [] = Unit {0}
 HasDebtsFirst ((Waiter f, n) ∷ q) = HasNoDebt q
