@@ -18,7 +18,7 @@ use Rattle.mea_meet_model.specs.Hall.{Hall, empty_hall}
 use Rattle.mea_meet_model.specs.Cause.{cause_of, unknown_unless, borrowed_by}
 use Rattle.mea_meet_model.specs.Step.{step, on_barriers, on_latches, on_groups, on_shutdowns}
 use Rattle.mea_meet_model.specs.Meets.{Future, AtBarrier, ForLatch, ForGroup, ForShutdown, waker_if, polled, name, lives, placed}
-use Rattle.mea_meet_model.specs.Valid.{HasBarriers, HasLatches, HasGroups, HasShutdowns, IsValid}
+use Rattle.mea_meet_model.specs.Valid.{HasBarriers, HasGroups, HasShutdowns, IsValid}
 use Rattle.mea_meet_model.proofs.Belongs.{IsMade}
 use Rattle.mea_meet_model.proofs.BarrierWakes as at_barriers
 use Rattle.mea_meet_model.proofs.LatchWakes as at_latches
@@ -59,6 +59,7 @@ module _ (h : Hall) (n i : ℕ) (later : n ≤ i) (v : IsValid h n) (e : MeetEve
     valid = record {
       barriers = valid;
       latches = at_latches.latches-later h.latches n i later v.latches;
+      live_latches = v.live_latches;
       groups = at_groups.groups-later h.groups n i later v.groups;
       shutdowns = shutdowns-later h.shutdowns n i later v.shutdowns;
     };
@@ -84,11 +85,12 @@ module _ (h : Hall) (n i : ℕ) (later : n ≤ i) (v : IsValid h n) (e : MeetEve
   goes_for-barriers : (g w : ℕ) (o : Outcome Barriers) → ((f : ℕ) → polled e (AtBarrier f) ≡ waker_if g f w) → at_barriers.GoesFor g h.barriers o i → Steps h (on_barriers h o) i e
   goes_for-barriers g w o polls goes = steps-barriers o goes.valid goes.made (λ f silent. goes.passes f (other g f w (sym (polls f) ∙ silent)))
 
-  steps-latches : (o : Outcome Latches) → HasLatches o.hall (i + 1) → IsMade h.latches.waits o.hall.waits i → ((f : ℕ) → polled e (ForLatch f) ≡ None → at_latches.Passes h.latches o.hall o.wakes f) → Steps h (on_latches h o) i e
+  steps-latches : (o : Outcome Latches) → at_latches.Stands o.hall (i + 1) → IsMade h.latches.waits o.hall.waits i → ((f : ℕ) → polled e (ForLatch f) ≡ None → at_latches.Passes h.latches o.hall o.wakes f) → Steps h (on_latches h o) i e
   steps-latches o valid made passes = record {
     valid = record {
       barriers = at_barriers.barriers-later h.barriers n i later v.barriers;
-      latches = valid;
+      latches = valid.0;
+      live_latches = valid.1;
       groups = at_groups.groups-later h.groups n i later v.groups;
       shutdowns = shutdowns-later h.shutdowns n i later v.shutdowns;
     };
@@ -119,6 +121,7 @@ module _ (h : Hall) (n i : ℕ) (later : n ≤ i) (v : IsValid h n) (e : MeetEve
     valid = record {
       barriers = at_barriers.barriers-later h.barriers n i later v.barriers;
       latches = at_latches.latches-later h.latches n i later v.latches;
+      live_latches = v.live_latches;
       groups = valid;
       shutdowns = shutdowns-later h.shutdowns n i later v.shutdowns;
     };
@@ -149,6 +152,7 @@ module _ (h : Hall) (n i : ℕ) (later : n ≤ i) (v : IsValid h n) (e : MeetEve
     valid = record {
       barriers = at_barriers.barriers-later h.barriers n i later v.barriers;
       latches = at_latches.latches-later h.latches n i later v.latches;
+      live_latches = v.live_latches;
       groups = at_groups.groups-later h.groups n i later v.groups;
       shutdowns = valid;
     };
@@ -182,16 +186,16 @@ module _ (h : Hall) (n i : ℕ) (later : n ≤ i) (v : IsValid h n) where
   steps (events.BarPoll f w) cause = goes_for-barriers h n i later v (events.BarPoll f w) f w _ (λ g. refl) (at_barriers.goes-poll h.barriers n i later v.barriers f w (get h.barriers.waits f) refl)
   steps (events.BarEnd f) cause = goes-barriers h n i later v (events.BarEnd f) _ (at_barriers.goes-end h.barriers n i later v.barriers f (get h.barriers.waits f) refl)
   steps (events.BarDrop b) cause = goes-barriers h n i later v (events.BarDrop b) _ (at_barriers.goes-drop h.barriers n i later v.barriers b (not_borrowed _ (barriers.waits_of h.barriers b) cause).1)
-  steps (events.LatNew k) cause = goes-latches h n i later v (events.LatNew k) _ (at_latches.goes-make h.latches n i later v.latches k)
-  steps (events.LatCount l) cause = goes-latches h n i later v (events.LatCount l) _ (at_latches.goes-nowhere h.latches n i later v.latches _)
-  steps (events.LatDown l) cause = goes-latches h n i later v (events.LatDown l) _ (at_latches.goes-arrive h.latches n i later v.latches l 1 (latch_there _ (known _ cause)))
-  steps (events.LatArrive l k) cause = goes-latches h n i later v (events.LatArrive l k) _ (at_latches.goes-arrive h.latches n i later v.latches l k (latch_there _ (known _ cause)))
-  steps (events.LatTry l) cause = goes-latches h n i later v (events.LatTry l) _ (at_latches.goes-nowhere h.latches n i later v.latches _)
-  steps (events.LatWait l) cause = goes-latches h n i later v (events.LatWait l) _ (at_latches.goes-wait h.latches n i later v.latches l true (latch_there _ (known _ cause)))
-  steps (events.LatWaito l) cause = goes-latches h n i later v (events.LatWaito l) _ (at_latches.goes-wait h.latches n i later v.latches l false (latch_there _ (known _ cause)))
-  steps (events.LatPoll f w) cause = goes_for-latches h n i later v (events.LatPoll f w) f w _ (λ g. refl) (at_latches.goes-poll h.latches n i later v.latches f w (get h.latches.waits f) refl)
-  steps (events.LatEnd f) cause = goes-latches h n i later v (events.LatEnd f) _ (at_latches.goes-end h.latches n i later v.latches f (get h.latches.waits f) refl)
-  steps (events.LatDrop l) cause = goes-latches h n i later v (events.LatDrop l) _ (at_latches.goes-drop h.latches n i later v.latches l (latch_there _ (not_borrowed _ (latches.plain_waits_of h.latches l) cause).0))
+  steps (events.LatNew k) cause = goes-latches h n i later v (events.LatNew k) _ (at_latches.goes-make h.latches n i later v.latches v.live_latches k)
+  steps (events.LatCount l) cause = goes-latches h n i later v (events.LatCount l) _ (at_latches.goes-nowhere h.latches n i later v.latches v.live_latches _)
+  steps (events.LatDown l) cause = goes-latches h n i later v (events.LatDown l) _ (at_latches.goes-arrive h.latches n i later v.latches v.live_latches l 1 (latch_there _ (known _ cause)))
+  steps (events.LatArrive l k) cause = goes-latches h n i later v (events.LatArrive l k) _ (at_latches.goes-arrive h.latches n i later v.latches v.live_latches l k (latch_there _ (known _ cause)))
+  steps (events.LatTry l) cause = goes-latches h n i later v (events.LatTry l) _ (at_latches.goes-nowhere h.latches n i later v.latches v.live_latches _)
+  steps (events.LatWait l) cause = goes-latches h n i later v (events.LatWait l) _ (at_latches.goes-wait h.latches n i later v.latches v.live_latches l true (known _ cause))
+  steps (events.LatWaito l) cause = goes-latches h n i later v (events.LatWaito l) _ (at_latches.goes-wait h.latches n i later v.latches v.live_latches l false (known _ cause))
+  steps (events.LatPoll f w) cause = goes_for-latches h n i later v (events.LatPoll f w) f w _ (λ g. refl) (at_latches.goes-poll h.latches n i later v.latches v.live_latches f w (get h.latches.waits f) refl)
+  steps (events.LatEnd f) cause = goes-latches h n i later v (events.LatEnd f) _ (at_latches.goes-end h.latches n i later v.latches v.live_latches f (get h.latches.waits f) refl)
+  steps (events.LatDrop l) cause = goes-latches h n i later v (events.LatDrop l) _ (at_latches.goes-drop h.latches n i later v.latches v.live_latches l (not_borrowed _ (latches.plain_waits_of h.latches l) cause).0 (not_borrowed _ (latches.plain_waits_of h.latches l) cause).1)
   steps events.WgNew cause = goes-groups h n i later v events.WgNew _ (at_groups.goes-make h.groups n i later v.groups)
   steps (events.WgClone k) cause = goes-groups h n i later v (events.WgClone k) _ (at_groups.goes-clone h.groups n i later v.groups k (get h.groups.handles k) refl)
   steps (events.WgInto k) cause = goes-groups h n i later v (events.WgInto k) _ (at_groups.goes-into h.groups n i later v.groups k (get h.groups.handles k) refl)
@@ -214,4 +218,4 @@ module _ (h : Hall) (n i : ℕ) (later : n ≤ i) (v : IsValid h n) where
 
 -- ---- the empty hall
 pub valid_empty : IsValid empty_hall 0
-valid_empty = record { barriers = at_barriers.barriers-empty; latches = at_latches.latches-empty; groups = at_groups.groups-empty; shutdowns = shutdowns-empty }
+valid_empty = record { barriers = at_barriers.barriers-empty; latches = at_latches.latches-empty; live_latches = at_latches.live-empty; groups = at_groups.groups-empty; shutdowns = shutdowns-empty }

@@ -1,12 +1,13 @@
 -- what holds of every hall that events reach, where n is the least number of the next event
-use Rattle.std.specs.Prelude.{ℕ, ◌*◌, ◌/◌, ◌≡◌, ◌<◌, ◌≤◌, ◌==◌, ◌&&◌, not, cond, [], Some, IsSome}
+use Rattle.std.specs.Prelude.{ℕ, ◌*◌, ◌/◌, ◌≡◌, ◌<◌, ◌≤◌, ◌==◌, ◌&&◌, ◌⊎◌, not, Bool, true, cond, [], Some, IsSome}
 use Rattle.std.specs.Ordering.{nat_cmp}
 use Rattle.std.specs.FinMap as map
 use Rattle.mea_base.specs.Totals.{total}
 use Rattle.mea_meet_model.specs.Waiting.{waker_for}
 use Rattle.mea_meet_model.specs.Count.{Count}
 use Rattle.mea_meet_model.specs.Barriers.{Barriers, Barrier, BarrierWait, barrier_at}
-use Rattle.mea_meet_model.specs.Latches.{Latches, LatchWait, latch_at}
+use Rattle.mea_meet_model.specs.Latches.{Latches, LatchWait, latch_at, is_named, plain_waits_of}
+use Rattle.mea_meet_model.specs.Latches as latches
 use Rattle.mea_meet_model.specs.Groups.{Groups, group_at, handles_of}
 use Rattle.mea_meet_model.specs.Shutdowns.{Shutdowns, Receiver, ShutdownWait, shutdown_at}
 use Rattle.mea_meet_model.specs.Hall.{Hall}
@@ -43,11 +44,23 @@ pub record HasBarriers (h : Barriers) (n : ℕ) : Type 0 where
   -- whose waker is registered waits there and arrived in the round under way
   pub in_round : (b f w : ℕ) → waker_for (barrier_at h b).waiting f ≡ Some w → map.get h.waits f ≡ Some (arrived_in b (round_now (barrier_at h b)))
 
+-- a future that waits for l
+abbrev pub waiting_for : ℕ → Bool → LatchWait
+waiting_for l plain = record { latch = l; plain = plain }
+
 pub record HasLatches (h : Latches) (n : ℕ) : Type 0 where
   pub latches_below : AreBelow h.latches n
   pub waits_below : AreBelow h.waits n
   pub waits_known : AreOf (λ (x : LatchWait). x.latch) h.waits h.latches
   pub quiet : (l : ℕ) → IsQuietAtEnd (latch_at h l).count
+  -- a latch that a plain future waits for is named
+  pub plain_named : (l : ℕ) → 0 < plain_waits_of h l → is_named h l ≡ true
+  -- whose waker is registered waits there
+  pub waiting_there : (l f w : ℕ) → waker_for (latch_at h l).count.waiting f ≡ Some w → (plain : Bool) × (map.get h.waits f ≡ Some (waiting_for l plain))
+
+-- a latch that is there is named or has a future
+abbrev pub HasLiveLatches : Latches → Type 0
+HasLiveLatches h = (l : ℕ) → IsSome (map.get h.latches l) → (is_named h l ≡ true) ⊎ (0 < latches.waits_of h l)
 
 pub record HasGroups (h : Groups) (n : ℕ) : Type 0 where
   pub groups_below : AreBelow h.groups n
@@ -79,5 +92,6 @@ pub record HasShutdowns (h : Shutdowns) (n : ℕ) : Type 0 where
 pub record IsValid (h : Hall) (n : ℕ) : Type 0 where
   pub barriers : HasBarriers h.barriers n
   pub latches : HasLatches h.latches n
+  pub live_latches : HasLiveLatches h.latches
   pub groups : HasGroups h.groups n
   pub shutdowns : HasShutdowns h.shutdowns n
