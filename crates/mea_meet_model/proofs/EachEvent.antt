@@ -61,6 +61,7 @@ module _ (h : Hall) (n i : ℕ) (later : n ≤ i) (v : IsValid h n) (e : MeetEve
       latches = at_latches.latches-later h.latches n i later v.latches;
       live_latches = v.live_latches;
       groups = at_groups.groups-later h.groups n i later v.groups;
+      live_groups = v.live_groups;
       shutdowns = shutdowns-later h.shutdowns n i later v.shutdowns;
     };
     made = made_by;
@@ -92,6 +93,7 @@ module _ (h : Hall) (n i : ℕ) (later : n ≤ i) (v : IsValid h n) (e : MeetEve
       latches = valid.0;
       live_latches = valid.1;
       groups = at_groups.groups-later h.groups n i later v.groups;
+      live_groups = v.live_groups;
       shutdowns = shutdowns-later h.shutdowns n i later v.shutdowns;
     };
     made = made_by;
@@ -116,13 +118,14 @@ module _ (h : Hall) (n i : ℕ) (later : n ≤ i) (v : IsValid h n) (e : MeetEve
   goes_for-latches : (g w : ℕ) (o : Outcome Latches) → ((f : ℕ) → polled e (ForLatch f) ≡ waker_if g f w) → at_latches.GoesFor g h.latches o i → Steps h (on_latches h o) i e
   goes_for-latches g w o polls goes = steps-latches o goes.valid goes.made (λ f silent. goes.passes f (other g f w (sym (polls f) ∙ silent)))
 
-  steps-groups : (o : Outcome Groups) → HasGroups o.hall (i + 1) → IsMade h.groups.waits o.hall.waits i → ((f : ℕ) → polled e (ForGroup f) ≡ None → at_groups.Passes h.groups o.hall o.wakes f) → Steps h (on_groups h o) i e
+  steps-groups : (o : Outcome Groups) → at_groups.Stands o.hall (i + 1) → IsMade h.groups.waits o.hall.waits i → ((f : ℕ) → polled e (ForGroup f) ≡ None → at_groups.Passes h.groups o.hall o.wakes f) → Steps h (on_groups h o) i e
   steps-groups o valid made passes = record {
     valid = record {
       barriers = at_barriers.barriers-later h.barriers n i later v.barriers;
       latches = at_latches.latches-later h.latches n i later v.latches;
       live_latches = v.live_latches;
-      groups = valid;
+      groups = valid.0;
+      live_groups = valid.1;
       shutdowns = shutdowns-later h.shutdowns n i later v.shutdowns;
     };
     made = made_by;
@@ -154,6 +157,7 @@ module _ (h : Hall) (n i : ℕ) (later : n ≤ i) (v : IsValid h n) (e : MeetEve
       latches = at_latches.latches-later h.latches n i later v.latches;
       live_latches = v.live_latches;
       groups = at_groups.groups-later h.groups n i later v.groups;
+      live_groups = v.live_groups;
       shutdowns = valid;
     };
     made = made_by;
@@ -196,12 +200,12 @@ module _ (h : Hall) (n i : ℕ) (later : n ≤ i) (v : IsValid h n) where
   steps (events.LatPoll f w) cause = goes_for-latches h n i later v (events.LatPoll f w) f w _ (λ g. refl) (at_latches.goes-poll h.latches n i later v.latches v.live_latches f w (get h.latches.waits f) refl)
   steps (events.LatEnd f) cause = goes-latches h n i later v (events.LatEnd f) _ (at_latches.goes-end h.latches n i later v.latches v.live_latches f (get h.latches.waits f) refl)
   steps (events.LatDrop l) cause = goes-latches h n i later v (events.LatDrop l) _ (at_latches.goes-drop h.latches n i later v.latches v.live_latches l (not_borrowed _ (latches.plain_waits_of h.latches l) cause).0 (not_borrowed _ (latches.plain_waits_of h.latches l) cause).1)
-  steps events.WgNew cause = goes-groups h n i later v events.WgNew _ (at_groups.goes-make h.groups n i later v.groups)
-  steps (events.WgClone k) cause = goes-groups h n i later v (events.WgClone k) _ (at_groups.goes-clone h.groups n i later v.groups k (get h.groups.handles k) refl)
-  steps (events.WgInto k) cause = goes-groups h n i later v (events.WgInto k) _ (at_groups.goes-into h.groups n i later v.groups k (get h.groups.handles k) refl)
-  steps (events.WgCopy f) cause = goes-groups h n i later v (events.WgCopy f) _ (at_groups.goes-copy h.groups n i later v.groups f (get h.groups.waits f) refl)
-  steps (events.WgPoll f w) cause = goes_for-groups h n i later v (events.WgPoll f w) f w _ (λ g. refl) (at_groups.goes-poll h.groups n i later v.groups f w (get h.groups.waits f) refl)
-  steps (events.WgEnd x) cause = goes-groups h n i later v (events.WgEnd x) _ (at_groups.goes-end h.groups n i later v.groups x (get h.groups.handles x) refl)
+  steps events.WgNew cause = goes-groups h n i later v events.WgNew _ (at_groups.goes-make h.groups n i later v.groups v.live_groups)
+  steps (events.WgClone k) cause = goes-groups h n i later v (events.WgClone k) _ (at_groups.goes-clone h.groups n i later v.groups v.live_groups k (get h.groups.handles k) refl)
+  steps (events.WgInto k) cause = goes-groups h n i later v (events.WgInto k) _ (at_groups.goes-into h.groups n i later v.groups v.live_groups k (get h.groups.handles k) refl)
+  steps (events.WgCopy f) cause = goes-groups h n i later v (events.WgCopy f) _ (at_groups.goes-copy h.groups n i later v.groups v.live_groups f (get h.groups.waits f) refl)
+  steps (events.WgPoll f w) cause = goes_for-groups h n i later v (events.WgPoll f w) f w _ (λ g. refl) (at_groups.goes-poll h.groups n i later v.groups v.live_groups f w (get h.groups.waits f) refl)
+  steps (events.WgEnd x) cause = goes-groups h n i later v (events.WgEnd x) _ (at_groups.goes-end h.groups n i later v.groups v.live_groups x (get h.groups.handles x) refl)
   steps events.SdNew cause = goes-shutdowns h n i later v events.SdNew _ (at_shutdowns.goes-make h.shutdowns n i later v.shutdowns)
   steps (events.SdCopys k) cause = goes-shutdowns h n i later v (events.SdCopys k) _ (at_shutdowns.goes-copy_sender h.shutdowns n i later v.shutdowns k (get h.shutdowns.senders k) refl)
   steps (events.SdCopyr k) cause = goes-shutdowns h n i later v (events.SdCopyr k) _ (at_shutdowns.goes-copy_receiver h.shutdowns n i later v.shutdowns k (get h.shutdowns.receivers k) refl)
@@ -218,4 +222,4 @@ module _ (h : Hall) (n i : ℕ) (later : n ≤ i) (v : IsValid h n) where
 
 -- ---- the empty hall
 pub valid_empty : IsValid empty_hall 0
-valid_empty = record { barriers = at_barriers.barriers-empty; latches = at_latches.latches-empty; live_latches = at_latches.live-empty; groups = at_groups.groups-empty; shutdowns = shutdowns-empty }
+valid_empty = record { barriers = at_barriers.barriers-empty; latches = at_latches.latches-empty; live_latches = at_latches.live-empty; groups = at_groups.groups-empty; live_groups = at_groups.live-empty; shutdowns = shutdowns-empty }

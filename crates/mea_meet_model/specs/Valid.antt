@@ -1,5 +1,5 @@
 -- what holds of every hall that events reach, where n is the least number of the next event
-use Rattle.std.specs.Prelude.{ℕ, ◌*◌, ◌/◌, ◌≡◌, ◌<◌, ◌≤◌, ◌==◌, ◌&&◌, ◌⊎◌, not, Bool, true, cond, [], Some, IsSome}
+use Rattle.std.specs.Prelude.{ℕ, ◌+◌, ◌*◌, ◌/◌, ◌≡◌, ◌<◌, ◌≤◌, ◌==◌, ◌&&◌, ◌⊎◌, not, Bool, true, cond, [], Some, IsSome}
 use Rattle.std.specs.Ordering.{nat_cmp}
 use Rattle.std.specs.FinMap as map
 use Rattle.mea_base.specs.Totals.{total}
@@ -8,6 +8,7 @@ use Rattle.mea_meet_model.specs.Count.{Count}
 use Rattle.mea_meet_model.specs.Barriers.{Barriers, Barrier, BarrierWait, barrier_at}
 use Rattle.mea_meet_model.specs.Latches.{Latches, LatchWait, latch_at, is_named, plain_waits_of}
 use Rattle.mea_meet_model.specs.Latches as latches
+use Rattle.mea_meet_model.specs.Groups as groups
 use Rattle.mea_meet_model.specs.Groups.{Groups, group_at, handles_of}
 use Rattle.mea_meet_model.specs.Shutdowns.{Shutdowns, Receiver, ShutdownWait, shutdown_at}
 use Rattle.mea_meet_model.specs.Hall.{Hall}
@@ -71,6 +72,12 @@ pub record HasGroups (h : Groups) (n : ℕ) : Type 0 where
   pub quiet : (g : ℕ) → IsQuietAtEnd (group_at h g)
   -- the number of a group is that of its handles
   pub counted : (g : ℕ) → (group_at h g).number ≡ handles_of h g
+  -- whose waker is registered waits there
+  pub waiting_there : (g f w : ℕ) → waker_for (group_at h g).waiting f ≡ Some w → map.get h.waits f ≡ Some g
+
+-- a group that is there has a handle or a future
+abbrev pub HasLiveGroups : Groups → Type 0
+HasLiveGroups h = (g : ℕ) → IsSome (map.get h.groups g) → 0 < handles_of h g + groups.waits_of h g
 
 -- how many receivers s has that are no watches
 abbrev pub counted_receivers : Shutdowns → ℕ → ℕ
@@ -94,4 +101,5 @@ pub record IsValid (h : Hall) (n : ℕ) : Type 0 where
   pub latches : HasLatches h.latches n
   pub live_latches : HasLiveLatches h.latches
   pub groups : HasGroups h.groups n
+  pub live_groups : HasLiveGroups h.groups
   pub shutdowns : HasShutdowns h.shutdowns n
