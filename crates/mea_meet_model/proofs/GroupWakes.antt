@@ -209,8 +209,8 @@ module _ (h : Groups) (live : HasLiveGroups h) where
       let c : Count = without_future (group_at h g) f in
       let m : Groups = record h { groups = insert h.groups g c; waits = remove h.waits f } in
       live-tidied m g (λ o apart. subst (λ p. Lives m o p) (sym (get-other h.groups g o c apart)) (λ there.
-          let other = on_false (g == o) 1 (ne_eqb g o apart) in
-          omega (arith, other, live o there, sum-gone h.waits (λ j. cond (j == o) 1 0) f g is)))
+      let other = on_false (g == o) 1 (ne_eqb g o apart) in
+      omega (arith, other, live o there, sum-gone h.waits (λ j. cond (j == o) 1 0) f g is)))
 
 waits-tidied : (h : Groups) (g : ℕ) → (tidied h g).waits ≡ h.waits
 waits-tidied h g = elim (nat_lt 0 (handles_of h g + waits_of h g)) as (λ b. (if b then h else record h { groups = remove h.groups g }).waits ≡ h.waits) [ true ↦ refl | false ↦ refl ]

@@ -1,5 +1,5 @@
 -- what holds of every hall that events reach, where n is the least number of the next event
-use Rattle.std.specs.Prelude.{ℕ, ◌+◌, ◌*◌, ◌/◌, ◌≡◌, ◌<◌, ◌≤◌, ◌==◌, ◌&&◌, ◌⊎◌, not, Bool, true, cond, [], Some, IsSome}
+use Rattle.std.specs.Prelude.{ℕ, ◌+◌, ◌*◌, ◌/◌, ◌≡◌, ◌<◌, ◌≤◌, ◌==◌, ◌&&◌, ◌⊎◌, not, Bool, true, cond, [], Option, Some, IsSome}
 use Rattle.std.specs.Ordering.{nat_cmp}
 use Rattle.std.specs.FinMap as map
 use Rattle.mea_base.specs.Totals.{total}
@@ -10,7 +10,8 @@ use Rattle.mea_meet_model.specs.Latches.{Latches, LatchWait, latch_at, is_named,
 use Rattle.mea_meet_model.specs.Latches as latches
 use Rattle.mea_meet_model.specs.Groups as groups
 use Rattle.mea_meet_model.specs.Groups.{Groups, group_at, handles_of}
-use Rattle.mea_meet_model.specs.Shutdowns.{Shutdowns, Receiver, ShutdownWait, shutdown_at}
+use Rattle.mea_meet_model.specs.Shutdowns as shutdowns
+use Rattle.mea_meet_model.specs.Shutdowns.{Shutdowns, Receiver, ShutdownWait, Signal, Receivers, shutdown_at, senders_of, receivers_of}
 use Rattle.mea_meet_model.specs.Hall.{Hall}
 
 -- each name of the map is below n
@@ -83,6 +84,18 @@ HasLiveGroups h = (g : ℕ) → IsSome (map.get h.groups g) → 0 < handles_of h
 abbrev pub counted_receivers : Shutdowns → ℕ → ℕ
 counted_receivers h s = total {X = Receiver} (λ k x. cond (x.shutdown == s && not x.watch) 1 0) h.receivers
 
+-- a receiver or watch of s
+abbrev pub receiver_of : ℕ → Bool → Receiver
+receiver_of s watch = record { shutdown = s; watch = watch }
+
+-- a future that waits for the signal of s
+abbrev pub waiting_signal : ℕ → Option ℕ → ShutdownWait
+waiting_signal s borrowed = record { shutdown = s; awaits = Signal borrowed }
+
+-- a future that waits for the end of all receivers of s
+abbrev pub waiting_end : ℕ → ShutdownWait
+waiting_end s = record { shutdown = s; awaits = Receivers }
+
 pub record HasShutdowns (h : Shutdowns) (n : ℕ) : Type 0 where
   pub shutdowns_below : AreBelow h.shutdowns n
   pub senders_below : AreBelow h.senders n
@@ -95,6 +108,16 @@ pub record HasShutdowns (h : Shutdowns) (n : ℕ) : Type 0 where
   pub receivers_quiet : (s : ℕ) → IsQuietAtEnd (shutdown_at h s).receivers
   -- the count of the receivers is that of those that are no watches
   pub counted : (s : ℕ) → IsSome (map.get h.shutdowns s) → (shutdown_at h s).receivers.number ≡ counted_receivers h s
+  -- a receiver or watch that a plain future borrows is there, of the same shutdown
+  pub borrowed_there : (f s r : ℕ) → map.get h.waits f ≡ Some (waiting_signal s (Some r)) → (watch : Bool) × (map.get h.receivers r ≡ Some (receiver_of s watch))
+  -- whose waker is registered with the signal waits for it
+  pub signal_waiting : (s f w : ℕ) → waker_for (shutdown_at h s).signal.waiting f ≡ Some w → (borrowed : Option ℕ) × (map.get h.waits f ≡ Some (waiting_signal s borrowed))
+  -- whose waker is registered with the receivers waits for their end
+  pub receivers_waiting : (s f w : ℕ) → waker_for (shutdown_at h s).receivers.waiting f ≡ Some w → map.get h.waits f ≡ Some (waiting_end s)
+
+-- a shutdown that is there has a sender, a receiver, a watch or a future
+abbrev pub HasLiveShutdowns : Shutdowns → Type 0
+HasLiveShutdowns h = (s : ℕ) → IsSome (map.get h.shutdowns s) → 0 < senders_of h s + receivers_of h s + shutdowns.waits_of h s
 
 pub record IsValid (h : Hall) (n : ℕ) : Type 0 where
   pub barriers : HasBarriers h.barriers n
@@ -103,3 +126,4 @@ pub record IsValid (h : Hall) (n : ℕ) : Type 0 where
   pub groups : HasGroups h.groups n
   pub live_groups : HasLiveGroups h.groups
   pub shutdowns : HasShutdowns h.shutdowns n
+  pub live_shutdowns : HasLiveShutdowns h.shutdowns
