@@ -13,17 +13,20 @@ use Rattle.mea_meet_model.specs.Barriers.{Barriers}
 use Rattle.mea_meet_model.specs.Latches as latches
 use Rattle.mea_meet_model.specs.Latches.{Latches, Latch}
 use Rattle.mea_meet_model.specs.Groups.{Groups}
+use Rattle.mea_meet_model.specs.Shutdowns as shutdowns
 use Rattle.mea_meet_model.specs.Shutdowns.{Shutdowns}
 use Rattle.mea_meet_model.specs.Hall.{Hall, empty_hall}
 use Rattle.mea_meet_model.specs.Cause.{cause_of, unknown_unless, borrowed_by}
 use Rattle.mea_meet_model.specs.Step.{step, on_barriers, on_latches, on_groups, on_shutdowns}
 use Rattle.mea_meet_model.specs.Meets.{Future, AtBarrier, ForLatch, ForGroup, ForShutdown, waker_if, polled, name, lives, placed}
-use Rattle.mea_meet_model.specs.Valid.{HasBarriers, HasLatches, HasGroups, HasShutdowns, IsValid}
+use Rattle.mea_meet_model.specs.Valid.{HasBarriers, IsValid}
+use Rattle.mea_meet_model.proofs.Maps.{inside}
 use Rattle.mea_meet_model.proofs.Belongs.{IsMade}
 use Rattle.mea_meet_model.proofs.BarrierWakes as at_barriers
 use Rattle.mea_meet_model.proofs.LatchWakes as at_latches
 use Rattle.mea_meet_model.proofs.GroupWakes as at_groups
 use Rattle.mea_meet_model.proofs.ShutdownKept.{shutdowns-empty, shutdowns-later}
+use Rattle.mea_meet_model.proofs.LiveShutdowns.{live-empty}
 use Rattle.mea_meet_model.proofs.ShutdownWakes as at_shutdowns
 
 -- ---- causes
@@ -59,8 +62,11 @@ module _ (h : Hall) (n i : ℕ) (later : n ≤ i) (v : IsValid h n) (e : MeetEve
     valid = record {
       barriers = valid;
       latches = at_latches.latches-later h.latches n i later v.latches;
+      live_latches = v.live_latches;
       groups = at_groups.groups-later h.groups n i later v.groups;
+      live_groups = v.live_groups;
       shutdowns = shutdowns-later h.shutdowns n i later v.shutdowns;
+      live_shutdowns = v.live_shutdowns;
     };
     made = made_by;
     passes = passes_by;
@@ -84,13 +90,16 @@ module _ (h : Hall) (n i : ℕ) (later : n ≤ i) (v : IsValid h n) (e : MeetEve
   goes_for-barriers : (g w : ℕ) (o : Outcome Barriers) → ((f : ℕ) → polled e (AtBarrier f) ≡ waker_if g f w) → at_barriers.GoesFor g h.barriers o i → Steps h (on_barriers h o) i e
   goes_for-barriers g w o polls goes = steps-barriers o goes.valid goes.made (λ f silent. goes.passes f (other g f w (sym (polls f) ∙ silent)))
 
-  steps-latches : (o : Outcome Latches) → HasLatches o.hall (i + 1) → IsMade h.latches.waits o.hall.waits i → ((f : ℕ) → polled e (ForLatch f) ≡ None → at_latches.Passes h.latches o.hall o.wakes f) → Steps h (on_latches h o) i e
+  steps-latches : (o : Outcome Latches) → at_latches.Stands o.hall (i + 1) → IsMade h.latches.waits o.hall.waits i → ((f : ℕ) → polled e (ForLatch f) ≡ None → at_latches.Passes h.latches o.hall o.wakes f) → Steps h (on_latches h o) i e
   steps-latches o valid made passes = record {
     valid = record {
       barriers = at_barriers.barriers-later h.barriers n i later v.barriers;
-      latches = valid;
+      latches = valid.0;
+      live_latches = valid.1;
       groups = at_groups.groups-later h.groups n i later v.groups;
+      live_groups = v.live_groups;
       shutdowns = shutdowns-later h.shutdowns n i later v.shutdowns;
+      live_shutdowns = v.live_shutdowns;
     };
     made = made_by;
     passes = passes_by;
@@ -114,13 +123,16 @@ module _ (h : Hall) (n i : ℕ) (later : n ≤ i) (v : IsValid h n) (e : MeetEve
   goes_for-latches : (g w : ℕ) (o : Outcome Latches) → ((f : ℕ) → polled e (ForLatch f) ≡ waker_if g f w) → at_latches.GoesFor g h.latches o i → Steps h (on_latches h o) i e
   goes_for-latches g w o polls goes = steps-latches o goes.valid goes.made (λ f silent. goes.passes f (other g f w (sym (polls f) ∙ silent)))
 
-  steps-groups : (o : Outcome Groups) → HasGroups o.hall (i + 1) → IsMade h.groups.waits o.hall.waits i → ((f : ℕ) → polled e (ForGroup f) ≡ None → at_groups.Passes h.groups o.hall o.wakes f) → Steps h (on_groups h o) i e
+  steps-groups : (o : Outcome Groups) → at_groups.Stands o.hall (i + 1) → IsMade h.groups.waits o.hall.waits i → ((f : ℕ) → polled e (ForGroup f) ≡ None → at_groups.Passes h.groups o.hall o.wakes f) → Steps h (on_groups h o) i e
   steps-groups o valid made passes = record {
     valid = record {
       barriers = at_barriers.barriers-later h.barriers n i later v.barriers;
       latches = at_latches.latches-later h.latches n i later v.latches;
-      groups = valid;
+      live_latches = v.live_latches;
+      groups = valid.0;
+      live_groups = valid.1;
       shutdowns = shutdowns-later h.shutdowns n i later v.shutdowns;
+      live_shutdowns = v.live_shutdowns;
     };
     made = made_by;
     passes = passes_by;
@@ -144,13 +156,16 @@ module _ (h : Hall) (n i : ℕ) (later : n ≤ i) (v : IsValid h n) (e : MeetEve
   goes_for-groups : (g w : ℕ) (o : Outcome Groups) → ((f : ℕ) → polled e (ForGroup f) ≡ waker_if g f w) → at_groups.GoesFor g h.groups o i → Steps h (on_groups h o) i e
   goes_for-groups g w o polls goes = steps-groups o goes.valid goes.made (λ f silent. goes.passes f (other g f w (sym (polls f) ∙ silent)))
 
-  steps-shutdowns : (o : Outcome Shutdowns) → HasShutdowns o.hall (i + 1) → IsMade h.shutdowns.waits o.hall.waits i → ((f : ℕ) → polled e (ForShutdown f) ≡ None → at_shutdowns.Passes h.shutdowns o.hall o.wakes f) → Steps h (on_shutdowns h o) i e
+  steps-shutdowns : (o : Outcome Shutdowns) → at_shutdowns.Stands o.hall (i + 1) → IsMade h.shutdowns.waits o.hall.waits i → ((f : ℕ) → polled e (ForShutdown f) ≡ None → at_shutdowns.Passes h.shutdowns o.hall o.wakes f) → Steps h (on_shutdowns h o) i e
   steps-shutdowns o valid made passes = record {
     valid = record {
       barriers = at_barriers.barriers-later h.barriers n i later v.barriers;
       latches = at_latches.latches-later h.latches n i later v.latches;
+      live_latches = v.live_latches;
       groups = at_groups.groups-later h.groups n i later v.groups;
-      shutdowns = valid;
+      live_groups = v.live_groups;
+      shutdowns = valid.0;
+      live_shutdowns = valid.1;
     };
     made = made_by;
     passes = passes_by;
@@ -182,36 +197,36 @@ module _ (h : Hall) (n i : ℕ) (later : n ≤ i) (v : IsValid h n) where
   steps (events.BarPoll f w) cause = goes_for-barriers h n i later v (events.BarPoll f w) f w _ (λ g. refl) (at_barriers.goes-poll h.barriers n i later v.barriers f w (get h.barriers.waits f) refl)
   steps (events.BarEnd f) cause = goes-barriers h n i later v (events.BarEnd f) _ (at_barriers.goes-end h.barriers n i later v.barriers f (get h.barriers.waits f) refl)
   steps (events.BarDrop b) cause = goes-barriers h n i later v (events.BarDrop b) _ (at_barriers.goes-drop h.barriers n i later v.barriers b (not_borrowed _ (barriers.waits_of h.barriers b) cause).1)
-  steps (events.LatNew k) cause = goes-latches h n i later v (events.LatNew k) _ (at_latches.goes-make h.latches n i later v.latches k)
-  steps (events.LatCount l) cause = goes-latches h n i later v (events.LatCount l) _ (at_latches.goes-nowhere h.latches n i later v.latches _)
-  steps (events.LatDown l) cause = goes-latches h n i later v (events.LatDown l) _ (at_latches.goes-arrive h.latches n i later v.latches l 1 (latch_there _ (known _ cause)))
-  steps (events.LatArrive l k) cause = goes-latches h n i later v (events.LatArrive l k) _ (at_latches.goes-arrive h.latches n i later v.latches l k (latch_there _ (known _ cause)))
-  steps (events.LatTry l) cause = goes-latches h n i later v (events.LatTry l) _ (at_latches.goes-nowhere h.latches n i later v.latches _)
-  steps (events.LatWait l) cause = goes-latches h n i later v (events.LatWait l) _ (at_latches.goes-wait h.latches n i later v.latches l true (latch_there _ (known _ cause)))
-  steps (events.LatWaito l) cause = goes-latches h n i later v (events.LatWaito l) _ (at_latches.goes-wait h.latches n i later v.latches l false (latch_there _ (known _ cause)))
-  steps (events.LatPoll f w) cause = goes_for-latches h n i later v (events.LatPoll f w) f w _ (λ g. refl) (at_latches.goes-poll h.latches n i later v.latches f w (get h.latches.waits f) refl)
-  steps (events.LatEnd f) cause = goes-latches h n i later v (events.LatEnd f) _ (at_latches.goes-end h.latches n i later v.latches f (get h.latches.waits f) refl)
-  steps (events.LatDrop l) cause = goes-latches h n i later v (events.LatDrop l) _ (at_latches.goes-drop h.latches n i later v.latches l (latch_there _ (not_borrowed _ (latches.plain_waits_of h.latches l) cause).0))
-  steps events.WgNew cause = goes-groups h n i later v events.WgNew _ (at_groups.goes-make h.groups n i later v.groups)
-  steps (events.WgClone k) cause = goes-groups h n i later v (events.WgClone k) _ (at_groups.goes-clone h.groups n i later v.groups k (get h.groups.handles k) refl)
-  steps (events.WgInto k) cause = goes-groups h n i later v (events.WgInto k) _ (at_groups.goes-into h.groups n i later v.groups k (get h.groups.handles k) refl)
-  steps (events.WgCopy f) cause = goes-groups h n i later v (events.WgCopy f) _ (at_groups.goes-copy h.groups n i later v.groups f (get h.groups.waits f) refl)
-  steps (events.WgPoll f w) cause = goes_for-groups h n i later v (events.WgPoll f w) f w _ (λ g. refl) (at_groups.goes-poll h.groups n i later v.groups f w (get h.groups.waits f) refl)
-  steps (events.WgEnd x) cause = goes-groups h n i later v (events.WgEnd x) _ (at_groups.goes-end h.groups n i later v.groups x (get h.groups.handles x) refl)
-  steps events.SdNew cause = goes-shutdowns h n i later v events.SdNew _ (at_shutdowns.goes-make h.shutdowns n i later v.shutdowns)
-  steps (events.SdCopys k) cause = goes-shutdowns h n i later v (events.SdCopys k) _ (at_shutdowns.goes-copy_sender h.shutdowns n i later v.shutdowns k (get h.shutdowns.senders k) refl)
-  steps (events.SdCopyr k) cause = goes-shutdowns h n i later v (events.SdCopyr k) _ (at_shutdowns.goes-copy_receiver h.shutdowns n i later v.shutdowns k (get h.shutdowns.receivers k) refl)
-  steps (events.SdSignal k) cause = goes-shutdowns h n i later v (events.SdSignal k) _ (at_shutdowns.goes-signal h.shutdowns n i later v.shutdowns k (get h.shutdowns.senders k) refl)
-  steps (events.SdNow k) cause = goes-shutdowns h n i later v (events.SdNow k) _ (at_shutdowns.goes-now h.shutdowns n i later v.shutdowns (get h.shutdowns.receivers k))
-  steps (events.SdWatch k) cause = goes-shutdowns h n i later v (events.SdWatch k) _ (at_shutdowns.goes-watch h.shutdowns n i later v.shutdowns k (get h.shutdowns.receivers k) refl)
-  steps (events.SdIs k) cause = goes-shutdowns h n i later v (events.SdIs k) _ (at_shutdowns.goes-wait h.shutdowns n i later v.shutdowns k (Some k) (get h.shutdowns.receivers k) refl)
-  steps (events.SdIso k) cause = goes-shutdowns h n i later v (events.SdIso k) _ (at_shutdowns.goes-wait h.shutdowns n i later v.shutdowns k None (get h.shutdowns.receivers k) refl)
-  steps (events.SdAwait k) cause = goes-shutdowns h n i later v (events.SdAwait k) _ (at_shutdowns.goes-await h.shutdowns n i later v.shutdowns k (get h.shutdowns.senders k) refl)
-  steps (events.SdPoll f w) cause = goes_for-shutdowns h n i later v (events.SdPoll f w) f w _ (λ g. refl) (at_shutdowns.goes-poll h.shutdowns n i later v.shutdowns f w (get h.shutdowns.waits f) refl)
-  steps (events.SdEnd f) cause = goes-shutdowns h n i later v (events.SdEnd f) _ (at_shutdowns.goes-end h.shutdowns n i later v.shutdowns f (get h.shutdowns.waits f) refl)
-  steps (events.SdEnds k) cause = goes-shutdowns h n i later v (events.SdEnds k) _ (at_shutdowns.goes-end_sender h.shutdowns n i later v.shutdowns k (get h.shutdowns.senders k) refl)
-  steps (events.SdEndr k) cause = goes-shutdowns h n i later v (events.SdEndr k) _ (at_shutdowns.goes-end_receiver h.shutdowns n i later v.shutdowns k (get h.shutdowns.receivers k) refl)
+  steps (events.LatNew k) cause = goes-latches h n i later v (events.LatNew k) _ (at_latches.goes-make h.latches n i later v.latches v.live_latches k)
+  steps (events.LatCount l) cause = goes-latches h n i later v (events.LatCount l) _ (at_latches.goes-nowhere h.latches n i later v.latches v.live_latches _)
+  steps (events.LatDown l) cause = goes-latches h n i later v (events.LatDown l) _ (at_latches.goes-arrive h.latches n i later v.latches v.live_latches l 1 (latch_there _ (known _ cause)))
+  steps (events.LatArrive l k) cause = goes-latches h n i later v (events.LatArrive l k) _ (at_latches.goes-arrive h.latches n i later v.latches v.live_latches l k (latch_there _ (known _ cause)))
+  steps (events.LatTry l) cause = goes-latches h n i later v (events.LatTry l) _ (at_latches.goes-nowhere h.latches n i later v.latches v.live_latches _)
+  steps (events.LatWait l) cause = goes-latches h n i later v (events.LatWait l) _ (at_latches.goes-wait h.latches n i later v.latches v.live_latches l true (known _ cause))
+  steps (events.LatWaito l) cause = goes-latches h n i later v (events.LatWaito l) _ (at_latches.goes-wait h.latches n i later v.latches v.live_latches l false (known _ cause))
+  steps (events.LatPoll f w) cause = goes_for-latches h n i later v (events.LatPoll f w) f w _ (λ g. refl) (at_latches.goes-poll h.latches n i later v.latches v.live_latches f w (get h.latches.waits f) refl)
+  steps (events.LatEnd f) cause = goes-latches h n i later v (events.LatEnd f) _ (at_latches.goes-end h.latches n i later v.latches v.live_latches f (get h.latches.waits f) refl)
+  steps (events.LatDrop l) cause = goes-latches h n i later v (events.LatDrop l) _ (at_latches.goes-drop h.latches n i later v.latches v.live_latches l (not_borrowed _ (latches.plain_waits_of h.latches l) cause).0 (not_borrowed _ (latches.plain_waits_of h.latches l) cause).1)
+  steps events.WgNew cause = goes-groups h n i later v events.WgNew _ (at_groups.goes-make h.groups n i later v.groups v.live_groups)
+  steps (events.WgClone k) cause = goes-groups h n i later v (events.WgClone k) _ (at_groups.goes-clone h.groups n i later v.groups v.live_groups k (get h.groups.handles k) refl)
+  steps (events.WgInto k) cause = goes-groups h n i later v (events.WgInto k) _ (at_groups.goes-into h.groups n i later v.groups v.live_groups k (get h.groups.handles k) refl)
+  steps (events.WgCopy f) cause = goes-groups h n i later v (events.WgCopy f) _ (at_groups.goes-copy h.groups n i later v.groups v.live_groups f (get h.groups.waits f) refl)
+  steps (events.WgPoll f w) cause = goes_for-groups h n i later v (events.WgPoll f w) f w _ (λ g. refl) (at_groups.goes-poll h.groups n i later v.groups v.live_groups f w (get h.groups.waits f) refl)
+  steps (events.WgEnd x) cause = goes-groups h n i later v (events.WgEnd x) _ (at_groups.goes-end h.groups n i later v.groups v.live_groups x (get h.groups.handles x) refl)
+  steps events.SdNew cause = goes-shutdowns h n i later v events.SdNew _ (at_shutdowns.goes-make h.shutdowns n i later v.shutdowns v.live_shutdowns)
+  steps (events.SdCopys k) cause = goes-shutdowns h n i later v (events.SdCopys k) _ (at_shutdowns.goes-copy_sender h.shutdowns n i later v.shutdowns v.live_shutdowns k (get h.shutdowns.senders k) refl)
+  steps (events.SdCopyr k) cause = goes-shutdowns h n i later v (events.SdCopyr k) _ (at_shutdowns.goes-copy_receiver h.shutdowns n i later v.shutdowns v.live_shutdowns k (get h.shutdowns.receivers k) refl)
+  steps (events.SdSignal k) cause = goes-shutdowns h n i later v (events.SdSignal k) _ (at_shutdowns.goes-signal h.shutdowns n i later v.shutdowns v.live_shutdowns k (get h.shutdowns.senders k) refl)
+  steps (events.SdNow k) cause = goes-shutdowns h n i later v (events.SdNow k) _ (at_shutdowns.goes-now h.shutdowns n i later v.shutdowns v.live_shutdowns (get h.shutdowns.receivers k))
+  steps (events.SdWatch k) cause = goes-shutdowns h n i later v (events.SdWatch k) _ (at_shutdowns.goes-watch h.shutdowns n i later v.shutdowns v.live_shutdowns k (get h.shutdowns.receivers k) refl)
+  steps (events.SdIs k) cause = goes-shutdowns h n i later v (events.SdIs k) _ (at_shutdowns.goes-wait h.shutdowns n i later v.shutdowns v.live_shutdowns k (Some k) (λ r same. inside same) (get h.shutdowns.receivers k) refl)
+  steps (events.SdIso k) cause = goes-shutdowns h n i later v (events.SdIso k) _ (at_shutdowns.goes-wait h.shutdowns n i later v.shutdowns v.live_shutdowns k None (λ r same. absurd (cc)) (get h.shutdowns.receivers k) refl)
+  steps (events.SdAwait k) cause = goes-shutdowns h n i later v (events.SdAwait k) _ (at_shutdowns.goes-await h.shutdowns n i later v.shutdowns v.live_shutdowns k (get h.shutdowns.senders k) refl)
+  steps (events.SdPoll f w) cause = goes_for-shutdowns h n i later v (events.SdPoll f w) f w _ (λ g. refl) (at_shutdowns.goes-poll h.shutdowns n i later v.shutdowns v.live_shutdowns f w (get h.shutdowns.waits f) refl)
+  steps (events.SdEnd f) cause = goes-shutdowns h n i later v (events.SdEnd f) _ (at_shutdowns.goes-end h.shutdowns n i later v.shutdowns v.live_shutdowns f (get h.shutdowns.waits f) refl)
+  steps (events.SdEnds k) cause = goes-shutdowns h n i later v (events.SdEnds k) _ (at_shutdowns.goes-end_sender h.shutdowns n i later v.shutdowns v.live_shutdowns k (get h.shutdowns.senders k) refl)
+  steps (events.SdEndr k) cause = goes-shutdowns h n i later v (events.SdEndr k) _ (at_shutdowns.goes-end_receiver h.shutdowns n i later v.shutdowns v.live_shutdowns k (not_borrowed _ (shutdowns.borrowers_of h.shutdowns k) cause).1 (get h.shutdowns.receivers k) refl)
 
 -- ---- the empty hall
 pub valid_empty : IsValid empty_hall 0
-valid_empty = record { barriers = at_barriers.barriers-empty; latches = at_latches.latches-empty; groups = at_groups.groups-empty; shutdowns = shutdowns-empty }
+valid_empty = record { barriers = at_barriers.barriers-empty; latches = at_latches.latches-empty; live_latches = at_latches.live-empty; groups = at_groups.groups-empty; live_groups = at_groups.live-empty; shutdowns = shutdowns-empty; live_shutdowns = live-empty }

@@ -8,6 +8,7 @@ pub mod Rounds
 pub mod BarrierWakes
 pub mod GroupWakes
 pub mod ShutdownKept
+pub mod LiveShutdowns
 pub mod ShutdownWakes
 pub mod EachEvent
 pub mod KeptWakers

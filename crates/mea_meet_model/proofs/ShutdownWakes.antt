@@ -1,5 +1,5 @@
 -- what the events on shutdowns keep
-use Rattle.std.proofs.Common.{◌≡◌, ℕ, ◌+◌, ◌≤◌, ◌==◌, ◌⊎◌, inl, inr, true, false, List, [], Option, Some, None, refl, ap, sym, subst, ◌∙◌, nat_lt, if◌then◌else◌}
+use Rattle.std.proofs.Common.{◌≡◌, ℕ, ◌+◌, ◌≤◌, ◌==◌, ◌⊎◌, inl, inr, Bool, true, false, List, [], Option, Some, None, refl, ap, sym, subst, ◌∙◌, nat_lt, if◌then◌else◌}
 use Rattle.std.specs.List.{Contains}
 use Rattle.std.specs.Option.{IsSome}
 use Rattle.std.specs.FinMap.{get, insert, remove}
@@ -8,13 +8,14 @@ use Rattle.mea_base.specs.declared.answer.Answer.{Answer}
 use Rattle.mea_base.specs.declared.answer.Answer.TheVariants as answers
 use Rattle.mea_meet_model.specs.Waiting.{waker_for}
 use Rattle.mea_meet_model.specs.Count.{Count, decreased, increased, woken_by, with_waker, without_future}
-use Rattle.mea_meet_model.specs.Shutdowns.{Shutdowns, Shutdown, Receiver, ShutdownWait, Awaited, Signal, Receivers, new_shutdown, shutdown_at, senders_of, receivers_of, waits_of, placed, placed_of, awaited, with_awaited, with_shutdown, with_wait, tidied, make, copy_sender_of, copied, copy_receiver_of, signal_of, now_of, watch_of, wait_of, await_of, gone, poll_of, end_of, end_sender_of, end_receiver_of}
-use Rattle.mea_meet_model.specs.Valid.{IsQuietAtEnd, HasShutdowns}
-use Rattle.mea_meet_model.proofs.Maps.{by_at_put, at-there, at-other, at-removed_other, get-other, get-removed_other, is_there}
-use Rattle.mea_meet_model.proofs.Waiting.{registering-there, registering-other, ending-other, decreased-keeps, quiet-decreased, quiet-registering, quiet-ending, quiet-runs}
+use Rattle.mea_meet_model.specs.Shutdowns.{Shutdowns, Shutdown, Receiver, ShutdownWait, Awaited, Signal, Receivers, new_shutdown, shutdown_at, senders_of, receivers_of, waits_of, borrowers_of, placed, placed_of, awaited, awaited_number, with_awaited, with_shutdown, with_wait, tidied, make, copy_sender_of, copied, copy_receiver_of, signal_of, now_of, watch_of, wait_of, await_of, gone, poll_of, end_of, end_sender_of, end_receiver_of}
+use Rattle.mea_meet_model.specs.Valid.{receiver_of, waiting_signal, waiting_end, HasShutdowns, HasLiveShutdowns}
+use Rattle.mea_meet_model.proofs.Maps.{by_at_put, at-there, at-other, at-removed_other, get-other, get-removed_other, inside, is_there}
+use Rattle.mea_meet_model.proofs.Waiting.{registering-there, registering-other, ending-other, decreased-keeps, decreased-had, quiet-decreased, quiet-registering, quiet-runs}
 use Rattle.mea_meet_model.proofs.Going as going
 use Rattle.mea_meet_model.proofs.Belongs.{fresh, none_of, IsMade, made-same, made-put, made-gone, apart_from_gone}
-use Rattle.mea_meet_model.proofs.ShutdownKept.{quiet-awaited, shutdowns-later, shutdowns-new, shutdowns-sender, shutdowns-wait, shutdowns-watch, shutdowns-receiver, shutdowns-with, shutdowns-awaited, shutdowns-no_sender, shutdowns-no_wait, shutdowns-no_watch, shutdowns-no_receiver, none_left, shutdowns-tidied}
+use Rattle.mea_meet_model.proofs.ShutdownKept.{awaited-registering, shutdowns-left, quiet-awaited, shutdowns-later, shutdowns-new, shutdowns-sender, shutdowns-wait, shutdowns-watch, shutdowns-receiver, shutdowns-with, shutdowns-awaited, shutdowns-no_sender, shutdowns-no_watch, shutdowns-no_receiver, none_left, shutdowns-tidied}
+use Rattle.mea_meet_model.proofs.LiveShutdowns.{live-make, live-sender, live-receiver, live-wait, live-await, live-over, live-end_sender, live-end_watch, live-end_counted, live-gone}
 
 -- ---- a tidying
 waits-tidied : (h : Shutdowns) (s : ℕ) → (tidied h s).waits ≡ h.waits
@@ -35,17 +36,20 @@ placed-tidied h s f = ap (λ m. placed_of (tidied h s) f (get m f)) (waits-tidie
     at (Some x) is = ap (λ (r : Shutdown). waker_for (awaited r x.awaits).waiting f) (tidied-at h s f x is)
 
 -- ---- what an event leaves of the waker of a future that it does not poll: in its place, or woken
+abbrev pub Stands : Shutdowns → ℕ → Type 0
+Stands h n = HasShutdowns h n × HasLiveShutdowns h
+
 abbrev pub Passes : Shutdowns → Shutdowns → List ℕ → ℕ → Type 0
-Passes = going.Passes HasShutdowns (λ (h : Shutdowns). h.waits) placed
+Passes = going.Passes Stands (λ (h : Shutdowns). h.waits) placed
 
 abbrev pub Goes : Shutdowns → Outcome Shutdowns → ℕ → Type 0
-Goes = going.Goes HasShutdowns (λ (h : Shutdowns). h.waits) placed
+Goes = going.Goes Stands (λ (h : Shutdowns). h.waits) placed
 
 abbrev pub GoesFor : ℕ → Shutdowns → Outcome Shutdowns → ℕ → Type 0
-GoesFor = going.GoesFor HasShutdowns (λ (h : Shutdowns). h.waits) placed
+GoesFor = going.GoesFor Stands (λ (h : Shutdowns). h.waits) placed
 
 for_all : (g : ℕ) (h : Shutdowns) (o : Outcome Shutdowns) (i : ℕ) → Goes h o i → GoesFor g h o i
-for_all g h o i goes = going.for_all HasShutdowns (λ (m : Shutdowns). m.waits) placed g h o i goes
+for_all g h o i goes = going.for_all Stands (λ (m : Shutdowns). m.waits) placed g h o i goes
 
 passes-by : (h m : Shutdowns) (ws : List ℕ) (f : ℕ)
     → ((x : ShutdownWait) (w : ℕ) → get h.waits f ≡ Some x → waker_for (awaited (shutdown_at h x.shutdown) x.awaits).waiting f ≡ Some w → IsSome (get m.waits f) → (get m.waits f ≡ Some x) × ((waker_for (awaited (shutdown_at m x.shutdown) x.awaits).waiting f ≡ Some w) ⊎ Contains ws w))
@@ -89,17 +93,17 @@ keeps-increased : (r : Shutdown) (a : Awaited) (f w : ℕ) → waker_for (awaite
 keeps-increased r (Signal x) f w has = has
 keeps-increased r Receivers f w has = has
 
-module _ (h : Shutdowns) (n i : ℕ) (later : n ≤ i) (v : HasShutdowns h n) where
-  pub goes-nowhere : (reply : Answer) → Goes h (quietly h reply) i
-  goes-nowhere reply = record { valid = shutdowns-later h n i later v; made = made-same h.waits i; passes = λ f w is there. inl is }
+-- a new future is none of those that wait
+passes-with_wait : (h : Shutdowns) (n i : ℕ) → n ≤ i → HasShutdowns h n → (s : ℕ) (a : Awaited) (f : ℕ) → Passes h (with_wait h i s a) [] f
+passes-with_wait h n i later v s a f = passes-by h (with_wait h i s a) [] f (λ x w is has _. (get-other h.waits i f (record { shutdown = s; awaits = a }) (fresh h.waits n i f later v.waits_below (is_there (get h.waits f) x is)) ∙ is, inl has))
 
-  -- a new future is none of those that wait
-  not_new : (f : ℕ) (x : ShutdownWait) → get h.waits f ≡ Some x → i ≡ f → ⊥
-  not_new f x is = fresh h.waits n i f later v.waits_below (is_there (get h.waits f) x is)
+module _ (h : Shutdowns) (n i : ℕ) (later : n ≤ i) (v : HasShutdowns h n) (live : HasLiveShutdowns h) where
+  pub goes-nowhere : (reply : Answer) → Goes h (quietly h reply) i
+  goes-nowhere reply = record { valid = (shutdowns-later h n i later v, live); made = made-same h.waits i; passes = λ f w is there. inl is }
 
   pub goes-make : Goes h (make h i) i
   goes-make = record {
-    valid = shutdowns-new h n i later v;
+    valid = (shutdowns-new h n i later v, live-make h live n i later v);
     made = made-same h.waits i;
     passes = λ f. passes-by h (make h i).hall [] f (λ x w is has there. (is, inl (ap (λ (r : Shutdown). waker_for (awaited r x.awaits).waiting f) (at-other new_shutdown h.shutdowns i x.shutdown new_shutdown (fresh h.shutdowns n i x.shutdown later v.shutdowns_below (v.waits_known f x is))) ∙ has)));
   }
@@ -111,10 +115,14 @@ module _ (h : Shutdowns) (n i : ℕ) (later : n ≤ i) (v : HasShutdowns h n) wh
   pub goes-copy_sender : (k : ℕ) (o : Option ℕ) → get h.senders k ≡ o → Goes h (copy_sender_of h i o) i
   goes-copy_sender k None at_k = goes-nowhere answers.Made
   goes-copy_sender k (Some s) at_k = record {
-    valid = shutdowns-sender h n i later v s (v.senders_known k s at_k);
+    valid = (shutdowns-sender h n i later v s (v.senders_known k s at_k), live-sender h live n i later v s);
     made = made-same h.waits i;
     passes = unmoved (record h { senders = insert h.senders i s }) refl refl;
   }
+
+  -- a receiver more, and its shutdown in place of another
+  live-copy : (k : ℕ) (x : Receiver) (t : Shutdown) → get h.receivers k ≡ Some x → HasLiveShutdowns (record h { shutdowns = insert h.shutdowns x.shutdown t; receivers = insert h.receivers i x })
+  live-copy k x t at_k = live-over (record h { receivers = insert h.receivers i x }) (live-receiver h live n i later v x) x.shutdown t (v.receivers_known k x at_k)
 
   goes-copied : (k : ℕ) (x : Receiver) → get h.receivers k ≡ Some x → Goes h (quietly (copied h i x) answers.Made) i
   goes-copied k x at_k =
@@ -123,12 +131,12 @@ module _ (h : Shutdowns) (n i : ℕ) (later : n ≤ i) (v : HasShutdowns h n) wh
       let m : Shutdowns = record h { shutdowns = insert h.shutdowns x.shutdown t; receivers = insert h.receivers i x } in
       elim x.watch as (λ b. x.watch ≡ b → Goes h (quietly (if b then record h { receivers = insert h.receivers i x } else m) answers.Made) i) [
         | true ↦ λ e. record {
-          valid = shutdowns-watch h n i later v x e (v.receivers_known k x at_k);
+          valid = (shutdowns-watch h n i later v x e (v.receivers_known k x at_k), live-receiver h live n i later v x);
           made = made-same h.waits i;
           passes = unmoved (record h { receivers = insert h.receivers i x }) refl refl;
         }
         | false ↦ λ e. record {
-          valid = shutdowns-receiver h n i later v x e (v.receivers_known k x at_k);
+          valid = (shutdowns-receiver h n i later v x e (v.receivers_known k x at_k), live-copy k x t at_k);
           made = made-same h.waits i;
           passes = λ f. passes-by h m [] f (λ y w is has there. (is, keeps-put h x.shutdown t [] y.awaits f w (λ p. inl (keeps-increased r y.awaits f w p)) y.shutdown has));
         }
@@ -144,7 +152,10 @@ module _ (h : Shutdowns) (n i : ℕ) (later : n ≤ i) (v : HasShutdowns h n) wh
       let r : Shutdown = shutdown_at h s in
       let t : Shutdown = record r { signal = decreased r.signal 1 } in
       record {
-        valid = shutdowns-later (with_shutdown h s t) n i later (shutdowns-with h n v s t (v.senders_known k s at_k) refl (quiet-decreased r.signal 1 (v.signal_quiet s)) (v.receivers_quiet s));
+        valid = (
+          shutdowns-later (with_shutdown h s t) n i later (shutdowns-with h n v s t (v.senders_known k s at_k) refl (quiet-decreased r.signal 1 (v.signal_quiet s)) (v.receivers_quiet s) (λ f w has. v.signal_waiting s f w (decreased-had r.signal 1 f w has)) (v.receivers_waiting s)),
+          live-over h live s t (v.senders_known k s at_k),
+        );
         made = made-same h.waits i;
         passes = λ f. passes-by h (with_shutdown h s t) (woken_by r.signal 1) f (λ y w is has there. (is, keeps-put h s t (woken_by r.signal 1) y.awaits f w (λ p. keeps-signal r y.awaits f w p) y.shutdown has));
       }
@@ -156,38 +167,41 @@ module _ (h : Shutdowns) (n i : ℕ) (later : n ≤ i) (v : HasShutdowns h n) wh
   pub goes-watch : (k : ℕ) (o : Option Receiver) → get h.receivers k ≡ o → Goes h (watch_of h i o) i
   goes-watch k None at_k = goes-nowhere answers.Made
   goes-watch k (Some x) at_k = record {
-    valid = shutdowns-watch h n i later v (record { shutdown = x.shutdown; watch = true }) refl (v.receivers_known k x at_k);
+    valid = (shutdowns-watch h n i later v (record { shutdown = x.shutdown; watch = true }) refl (v.receivers_known k x at_k), live-receiver h live n i later v (record { shutdown = x.shutdown; watch = true }));
     made = made-same h.waits i;
     passes = unmoved (record h { receivers = insert h.receivers i (record { shutdown = x.shutdown; watch = true }) }) refl refl;
   }
 
-  -- a future more
-  goes-with_wait : (s : ℕ) (a : Awaited) → IsSome (get h.shutdowns s) → Goes h (quietly (with_wait h i s a) answers.Made) i
-  goes-with_wait s a there = record {
-    valid = shutdowns-wait h n i later v (record { shutdown = s; awaits = a }) there;
-    made = made-put h.waits i (record { shutdown = s; awaits = a });
-    passes = λ f. passes-by h (with_wait h i s a) [] f (λ x w is has _. (get-other h.waits i f (record { shutdown = s; awaits = a }) (not_new f x is) ∙ is, inl has));
+  -- a future more, which borrows k if anything
+  pub goes-wait : (k : ℕ) (borrowed : Option ℕ) → ((r : ℕ) → borrowed ≡ Some r → k ≡ r) → (o : Option Receiver) → get h.receivers k ≡ o → Goes h (wait_of h i borrowed o) i
+  goes-wait k borrowed it None at_k = goes-nowhere answers.Made
+  goes-wait k borrowed it (Some x) at_k = record {
+    valid = (shutdowns-wait h n i later v (waiting_signal x.shutdown borrowed) (v.receivers_known k x at_k) lent, live-wait h live n i later v x.shutdown (Signal borrowed));
+    made = made-put h.waits i (waiting_signal x.shutdown borrowed);
+    passes = passes-with_wait h n i later v x.shutdown (Signal borrowed);
   }
-
-  pub goes-wait : (k : ℕ) (borrowed : Option ℕ) (o : Option Receiver) → get h.receivers k ≡ o → Goes h (wait_of h i borrowed o) i
-  goes-wait k borrowed None at_k = goes-nowhere answers.Made
-  goes-wait k borrowed (Some x) at_k = goes-with_wait x.shutdown (Signal borrowed) (v.receivers_known k x at_k)
+    where
+      lent : (s r : ℕ) → waiting_signal x.shutdown borrowed ≡ waiting_signal s (Some r) → (watch : Bool) × (get h.receivers r ≡ Some (receiver_of s watch))
+      lent s r same =
+          let of : x.shutdown ≡ s = ap (λ (y : ShutdownWait). y.shutdown) same in
+          let named : borrowed ≡ Some r = inside (ap (λ (y : ShutdownWait). awaited_number y.awaits) same) in
+          (x.watch, ap (get h.receivers) (sym (it r named)) ∙ at_k ∙ ap (λ j. Some (receiver_of j x.watch)) of)
 
   pub goes-end_sender : (k : ℕ) (o : Option ℕ) → get h.senders k ≡ o → Goes h (end_sender_of h k o) i
   goes-end_sender k None at_k = goes-nowhere answers.Done
   goes-end_sender k (Some s) at_k =
       let m : Shutdowns = record h { senders = remove h.senders k } in
       record {
-        valid = shutdowns-tidied m (i + 1) s (shutdowns-later m n i later (shutdowns-no_sender h n v k));
+        valid = (shutdowns-tidied m (i + 1) s (shutdowns-later m n i later (shutdowns-no_sender h n v k)), live-end_sender h live k s at_k);
         made = subst (λ p. IsMade h.waits p i) (sym (waits-tidied m s)) (made-same h.waits i);
         passes = λ f. passes-tidied h m [] s f (unmoved m refl refl f);
       }
 
-  goes-end_watch : (k : ℕ) (x : Receiver) → get h.receivers k ≡ Some x → x.watch ≡ true → Goes h (quietly (tidied (record h { receivers = remove h.receivers k }) x.shutdown) answers.Done) i
-  goes-end_watch k x at_k watches =
+  goes-end_watch : (k : ℕ) (x : Receiver) → get h.receivers k ≡ Some x → x.watch ≡ true → borrowers_of h k ≡ 0 → Goes h (quietly (tidied (record h { receivers = remove h.receivers k }) x.shutdown) answers.Done) i
+  goes-end_watch k x at_k watches free =
       let m : Shutdowns = record h { receivers = remove h.receivers k } in
       record {
-        valid = shutdowns-tidied m (i + 1) x.shutdown (shutdowns-later m n i later (shutdowns-no_watch h n v k x at_k watches));
+        valid = (shutdowns-tidied m (i + 1) x.shutdown (shutdowns-later m n i later (shutdowns-no_watch h n v k x at_k watches free)), live-end_watch h live k x at_k);
         made = subst (λ p. IsMade h.waits p i) (sym (waits-tidied m x.shutdown)) (made-same h.waits i);
         passes = λ f. passes-tidied h m [] x.shutdown f (unmoved m refl refl f);
       }
@@ -196,25 +210,26 @@ module _ (h : Shutdowns) (n i : ℕ) (later : n ≤ i) (v : HasShutdowns h n) wh
   abbrev left_by : ℕ → Receiver → Shutdowns
   left_by k x = record h { shutdowns = insert h.shutdowns x.shutdown (record (shutdown_at h x.shutdown) { receivers = decreased (shutdown_at h x.shutdown).receivers 1 }); receivers = remove h.receivers k }
 
-  goes-end_counted : (k : ℕ) (x : Receiver) → get h.receivers k ≡ Some x → x.watch ≡ false → Goes h (record { hall = tidied (left_by k x) x.shutdown; reply = answers.Done; wakes = woken_by (shutdown_at h x.shutdown).receivers 1 }) i
-  goes-end_counted k x at_k counts =
+  goes-end_counted : (k : ℕ) (x : Receiver) → get h.receivers k ≡ Some x → x.watch ≡ false → borrowers_of h k ≡ 0 → Goes h (record { hall = tidied (left_by k x) x.shutdown; reply = answers.Done; wakes = woken_by (shutdown_at h x.shutdown).receivers 1 }) i
+  goes-end_counted k x at_k counts free =
       let r : Shutdown = shutdown_at h x.shutdown in
       let t : Shutdown = record r { receivers = decreased r.receivers 1 } in
       let ws : List ℕ = woken_by r.receivers 1 in
       record {
-        valid = shutdowns-tidied (left_by k x) (i + 1) x.shutdown (shutdowns-later (left_by k x) n i later (shutdowns-no_receiver h n v k x at_k counts));
+        valid = (shutdowns-tidied (left_by k x) (i + 1) x.shutdown (shutdowns-later (left_by k x) n i later (shutdowns-no_receiver h n v k x at_k counts free)), live-end_counted h live k x at_k);
         made = subst (λ p. IsMade h.waits p i) (sym (waits-tidied (left_by k x) x.shutdown)) (made-same h.waits i);
         passes = λ f. passes-tidied h (left_by k x) ws x.shutdown f (passes-by h (left_by k x) ws f (λ y w is has there. (is, keeps-put h x.shutdown t ws y.awaits f w (λ p. keeps-receivers r y.awaits f w p) y.shutdown has)));
       }
 
-  pub goes-end_receiver : (k : ℕ) (o : Option Receiver) → get h.receivers k ≡ o → Goes h (end_receiver_of h k o) i
-  goes-end_receiver k None at_k = goes-nowhere answers.Done
-  goes-end_receiver k (Some x) at_k =
+  -- a receiver that nobody borrows
+  pub goes-end_receiver : (k : ℕ) → borrowers_of h k ≡ 0 → (o : Option Receiver) → get h.receivers k ≡ o → Goes h (end_receiver_of h k o) i
+  goes-end_receiver k free None at_k = goes-nowhere answers.Done
+  goes-end_receiver k free (Some x) at_k =
       let watch : Outcome Shutdowns = quietly (tidied (record h { receivers = remove h.receivers k }) x.shutdown) answers.Done in
       let counted : Outcome Shutdowns = record { hall = tidied (left_by k x) x.shutdown; reply = answers.Done; wakes = woken_by (shutdown_at h x.shutdown).receivers 1 } in
       elim x.watch as (λ b. x.watch ≡ b → Goes h (if b then watch else counted) i) [
-        | true ↦ λ e. goes-end_watch k x at_k e
-        | false ↦ λ e. goes-end_counted k x at_k e
+        | true ↦ λ e. goes-end_watch k x at_k e free
+        | false ↦ λ e. goes-end_counted k x at_k e free
       ] refl
 
   -- f is gone, before its shutdown is tidied
@@ -224,29 +239,21 @@ module _ (h : Shutdowns) (n i : ℕ) (later : n ≤ i) (v : HasShutdowns h n) wh
     waits = remove h.waits f;
   }
 
-  leaves : (f : ℕ) (x : ShutdownWait) → get h.waits f ≡ Some x → (reply : Answer) → Goes h (quietly (ended_by f x) reply) i
-  leaves f x at_f reply =
+  passes-left : (f : ℕ) (x : ShutdownWait) (g : ℕ) → Passes h (ended_by f x) [] g
+  passes-left f x g =
       let r : Shutdown = shutdown_at h x.shutdown in
       let c : Count = awaited r x.awaits in
       let d : Count = without_future c f in
-      let t : Shutdown = with_awaited r x.awaits d in
-      let left : IsQuietAtEnd d = quiet-ending c f (quiet-awaited r x.awaits (v.signal_quiet x.shutdown) (v.receivers_quiet x.shutdown)) in
-      record {
-        valid = shutdowns-later (ended_by f x) n i later (shutdowns-no_wait (with_shutdown h x.shutdown t) n (shutdowns-awaited h n v x.shutdown x.awaits d (v.waits_known f x at_f) refl left) f);
-        made = made-gone h.waits i f;
-        passes = λ g. passes-by h (ended_by f x) [] g (λ y w is has there.
-            let apart : f ≡ g → ⊥ = apart_from_gone h.waits f g there in
-            (get-removed_other h.waits f g apart ∙ is, keeps-put h x.shutdown t [] y.awaits g w (λ p. inl (keeps-awaited r x.awaits y.awaits d g w (λ q. ending-other c.waiting f g apart ∙ q) p)) y.shutdown has));
-      }
+      passes-by h (ended_by f x) [] g (λ y w is has there.
+      let apart : f ≡ g → ⊥ = apart_from_gone h.waits f g there in
+      (get-removed_other h.waits f g apart ∙ is, keeps-put h x.shutdown (with_awaited r x.awaits d) [] y.awaits g w (λ p. inl (keeps-awaited r x.awaits y.awaits d g w (λ q. ending-other c.waiting f g apart ∙ q) p)) y.shutdown has))
 
   goes-gone : (f : ℕ) (x : ShutdownWait) → get h.waits f ≡ Some x → (reply : Answer) → Goes h (quietly (gone h f x) reply) i
-  goes-gone f x at_f reply =
-      let before = leaves f x at_f reply in
-      record {
-        valid = shutdowns-tidied (ended_by f x) (i + 1) x.shutdown before.valid;
-        made = subst (λ m. IsMade h.waits m i) (sym (waits-tidied (ended_by f x) x.shutdown)) before.made;
-        passes = λ g. passes-tidied h (ended_by f x) [] x.shutdown g (before.passes g);
-      }
+  goes-gone f x at_f reply = record {
+    valid = (shutdowns-tidied (ended_by f x) (i + 1) x.shutdown (shutdowns-later (ended_by f x) n i later (shutdowns-left h n v f x at_f)), live-gone h live f x at_f);
+    made = subst (λ m. IsMade h.waits m i) (sym (waits-tidied (ended_by f x) x.shutdown)) (made-gone h.waits i f);
+    passes = λ g. passes-tidied h (ended_by f x) [] x.shutdown g (passes-left f x g);
+  }
 
   pub goes-end : (f : ℕ) (o : Option ShutdownWait) → get h.waits f ≡ o → Goes h (end_of h f o) i
   goes-end f None is = goes-nowhere answers.Done
@@ -261,7 +268,10 @@ module _ (h : Shutdowns) (n i : ℕ) (later : n ≤ i) (v : HasShutdowns h n) wh
       let d : Count = with_waker c f w in
       let t : Shutdown = with_awaited r x.awaits d in
       record {
-        valid = shutdowns-later (with_shutdown h x.shutdown t) n i later (shutdowns-awaited h n v x.shutdown x.awaits d (v.waits_known f x at_f) refl (quiet-registering c f w runs));
+        valid = (
+          shutdowns-later (with_shutdown h x.shutdown t) n i later (shutdowns-awaited h n v x.shutdown x.awaits d (v.waits_known f x at_f) refl (quiet-registering c f w runs) (awaited-registering h.waits x.shutdown r x.awaits f w at_f (v.signal_waiting x.shutdown) (v.receivers_waiting x.shutdown))),
+          live-over h live x.shutdown t (v.waits_known f x at_f),
+        );
         made = made-same h.waits i;
         passes = λ g apart. passes-by h (with_shutdown h x.shutdown t) [] g (λ y u is has there. (is, keeps-put h x.shutdown t [] y.awaits g u (λ p. inl (keeps-awaited r x.awaits y.awaits d g u (λ q. registering-other c.waiting f g w apart ∙ q) p)) y.shutdown has));
       }
@@ -277,14 +287,17 @@ module _ (h : Shutdowns) (n i : ℕ) (later : n ≤ i) (v : HasShutdowns h n) wh
         | false ↦ λ e. registers f w x is e
       ] refl
 
--- a sender that becomes a future on the end of all receivers
-module _ (h : Shutdowns) (n i : ℕ) (later : n ≤ i) (v : HasShutdowns h n) where
+  -- a sender that becomes a future on the end of all receivers
   pub goes-await : (k : ℕ) (o : Option ℕ) → get h.senders k ≡ o → Goes h (await_of h i k o) i
-  goes-await k None at_k = goes-nowhere h n i later v answers.Made
+  goes-await k None at_k = goes-nowhere answers.Made
   goes-await k (Some s) at_k =
       let m : Shutdowns = record h { senders = remove h.senders k } in
-      let waits = goes-with_wait m n i later (shutdowns-no_sender h n v k) s Receivers (v.senders_known k s at_k) in
-      record { valid = waits.valid; made = waits.made; passes = waits.passes }
+      let fewer = shutdowns-no_sender h n v k in
+      record {
+        valid = (shutdowns-wait m n i later fewer (waiting_end s) (v.senders_known k s at_k) (λ t r same. absurd (let clash : Receivers ≡ Signal (Some r) = ap (λ (y : ShutdownWait). y.awaits) same in cc)), live-await h live n i later v k s at_k);
+        made = made-put h.waits i (waiting_end s);
+        passes = passes-with_wait m n i later fewer s Receivers;
+      }
 
 -- ---- polls
 awaited-there : (r : Shutdown) (a : Awaited) (c : Count) → awaited (with_awaited r a c) a ≡ c

@@ -1,7 +1,7 @@
 -- the wakers of a list after a poll, an end of a future, and an end of a count
 use Rattle.std.proofs.Common.{◌≡◌, ℕ, ◌+◌, ◌-◌, ◌≤◌, ◌==◌, ◌&&◌, ◌⊎◌, inl, inr, Bool, true, false, cond, length, List, [], ◌∷◌, Some, None, refl, ap, sym, subst, ◌∙◌, arith, nat_lt, nat_le, if◌then◌else◌}
 use Rattle.std.specs.List.{Contains}
-use Rattle.std.proofs.lemmas.Bool.{eqb-true, eq-eqb, ne_eqb}
+use Rattle.std.proofs.lemmas.Bool.{eqb-true, eqb-false, eq-eqb, ne_eqb}
 use Rattle.std.proofs.lemmas.Bool.Decides.{nat_tests}
 use Rattle.std.proofs.lemmas.List.Elements.{Contains-append_left, Contains-append_right, Contains-push}
 use Rattle.mea_meet_model.specs.Waiting.{Whose, Of, Ended, is_of, waker_for, registering, ended_if, ending, wakers}
@@ -65,6 +65,20 @@ ending-there (e ∷ q) f = elim (is_of e.0 f) as (λ b. is_of e.0 f ≡ b → co
   | false ↦ λ h. ap (λ b. cond b (Some e.1) (waker_for (ending q f) f)) h ∙ ending-there q f
 ] refl
 
+-- a waker that stays at an end is another's, and was there
+pub ending-apart : (q : List (Whose × ℕ)) (f g w : ℕ) → waker_for (ending q f) g ≡ Some w → f ≡ g → ⊥
+ending-apart q f g w is same = absurd (let none : waker_for (ending q f) g ≡ None = ap (waker_for (ending q f)) (sym same) ∙ ending-there q f in cc)
+
+pub ending-had : (q : List (Whose × ℕ)) (f g w : ℕ) → waker_for (ending q f) g ≡ Some w → waker_for q g ≡ Some w
+ending-had q f g w is = sym (ending-other q f g (ending-apart q f g w is)) ∙ is
+
+-- what holds of who is registered and of those who were holds of all who are then
+pub registering-had : (q : List (Whose × ℕ)) (f w g u : ℕ) (P : ℕ → Type 0) → P f → (waker_for q g ≡ Some u → P g) → waker_for (registering q f w) g ≡ Some u → P g
+registering-had q f w g u P here others is = elim (f == g) as (λ b. (f == g) ≡ b → P g) [
+  | true ↦ λ e. subst P (eqb-true f g e) here
+  | false ↦ λ e. others (sym (registering-other q f g w (eqb-false f g e)) ∙ is)
+] refl
+
 -- the waker of one is among all
 pub wakers-have : (q : List (Whose × ℕ)) (f w : ℕ) → waker_for q f ≡ Some w → Contains (wakers q) w
 wakers-have [] f w is = absurd (cc)
@@ -79,6 +93,13 @@ pub decreased-keeps : (c : Count) (n f w : ℕ) → waker_for c.waiting f ≡ So
 decreased-keeps c n f w is = elim (ends c n) as (λ b. (waker_for (if b then [] else c.waiting) f ≡ Some w) ⊎ Contains (if b then wakers c.waiting else []) w) [
   | true ↦ inr (wakers-have c.waiting f w is)
   | false ↦ inl is
+]
+
+-- a waker that n less leaves was there
+pub decreased-had : (c : Count) (n f w : ℕ) → waker_for (decreased c n).waiting f ≡ Some w → waker_for c.waiting f ≡ Some w
+decreased-had c n f w = elim (ends c n) as (λ b. waker_for (if b then [] else c.waiting) f ≡ Some w → waker_for c.waiting f ≡ Some w) [
+  | true ↦ λ is. absurd (cc)
+  | false ↦ λ is. is
 ]
 
 -- ---- nobody is registered where the count has ended
