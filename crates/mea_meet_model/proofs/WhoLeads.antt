@@ -1,13 +1,15 @@
 -- which events reply `leader`, and how many arrivals of a round do
-use Rattle.std.proofs.Common.{◌≡◌, ℕ, zero, suc, ◌+◌, ◌/◌, ◌≤◌, ◌==◌, Bool, true, false, cond, List, [], Option, Some, None, refl, ap, sym, ◌∙◌, arith, if◌then◌else◌}
-use Rattle.std.specs.FinMap.{get}
+use Rattle.std.proofs.Common.{◌≡◌, ℕ, zero, suc, ◌+◌, ◌/◌, ◌≤◌, ◌==◌, Bool, true, false, cond, List, [], Option, Some, None, unwrap_or, refl, ap, sym, ◌∙◌, arith, if◌then◌else◌}
+use Rattle.std.specs.Option.{IsSome}
+use Rattle.std.proofs.lemmas.Bool.{eq-eqb, ne_eqb}
+use Rattle.std.specs.FinMap.{get, insert}
 use Rattle.mea_base.specs.Family.{quietly}
 use Rattle.mea_base.specs.declared.answer.Answer.TheVariants as answers
 use Rattle.mea_meet_model.specs.declared.event.MeetEvent.{MeetEvent}
 use Rattle.mea_meet_model.specs.declared.event.MeetEvent.TheVariants as events
-use Rattle.mea_meet_model.specs.Waiting.{registering, wakers}
+use Rattle.mea_meet_model.specs.Waiting.{registering, ending, wakers}
 use Rattle.mea_meet_model.specs.Barriers as barriers
-use Rattle.mea_meet_model.specs.Barriers.{Barriers, Barrier, BarrierWait, new_barrier, barrier_at, leads, has_completed, leading, joining, waiting_on, gone, poll_at, poll_of}
+use Rattle.mea_meet_model.specs.Barriers.{Barriers, Barrier, BarrierWait, new_barrier, barrier_at, leads, make, drop, has_completed, leading, joining, waiting_on, gone, end_of, poll_at, poll_of}
 use Rattle.mea_meet_model.specs.Latches as latches
 use Rattle.mea_meet_model.specs.Latches.{LatchWait}
 use Rattle.mea_meet_model.specs.Groups as groups
@@ -15,8 +17,10 @@ use Rattle.mea_meet_model.specs.Shutdowns as shutdowns
 use Rattle.mea_meet_model.specs.Shutdowns.{Receiver, ShutdownWait}
 use Rattle.mea_meet_model.specs.Hall.{Hall}
 use Rattle.mea_meet_model.specs.Step.{step}
-use Rattle.mea_meet_model.specs.Leaders.{is_leader, leads_new, leads_wait, leads_by, leaders}
-use Rattle.mea_meet_model.proofs.Maps.{at-there}
+use Rattle.mea_meet_model.specs.Leaders.{is_leader, leads_new, leads_wait, leads_by, arrivals_new, arrivals_wait, arrivals_by, leaders}
+use Rattle.mea_meet_model.specs.Valid.{AreBelow, IsValid}
+use Rattle.mea_meet_model.proofs.Maps.{by_gone, by_at_put}
+use Rattle.mea_meet_model.proofs.Belongs.{on_true, on_false, fresh}
 use Rattle.mea_meet_model.proofs.Rounds.{same_round, next_round, one_round}
 
 -- ---- a poll at a barrier
@@ -32,13 +36,64 @@ wakes-at : (h : Barriers) (f w : ℕ) (x : BarrierWait) (o : Option ℕ) → lea
 wakes-at h f w x None e = ap (λ b. (if b then leading h f x else joining h f w x).wakes) e
 wakes-at h f w x (Some round) e = absurd (cc)
 
-arrives-at : (h : Barriers) (f w : ℕ) (x : BarrierWait) → (barrier_at (poll_at h f w x None).hall x.barrier).arrivals ≡ (barrier_at h x.barrier).arrivals + 1
-arrives-at h f w x =
-    let r : Barrier = barrier_at h x.barrier in
-    elim (leads r) as (λ b. (barrier_at (if b then leading h f x else joining h f w x).hall x.barrier).arrivals ≡ r.arrivals + 1) [
-      | true ↦ ap (λ (s : Barrier). s.arrivals) (at-there (new_barrier 1) h.barriers x.barrier (record r { arrivals = r.arrivals + 1; waiting = [] }))
-      | false ↦ ap (λ (s : Barrier). s.arrivals) (at-there (new_barrier 1) h.barriers x.barrier (record r { arrivals = r.arrivals + 1; waiting = registering r.waiting f w }))
-    ]
+-- ---- arrivals at a barrier
+-- of a barrier that stays: as many more as counted
+abbrev Arrives : Barriers → Barriers → (ℕ → ℕ) → Type 0
+Arrives h m count = (b : ℕ) → IsSome (get h.barriers b) → IsSome (get m.barriers b) → (barrier_at m b).arrivals ≡ (barrier_at h b).arrivals + count b
+
+arrives-same : (h : Barriers) → Arrives h h (λ b. 0)
+arrives-same h b there still = omega arith
+
+arrives-put : (h : Barriers) (a : ℕ) (r : Barrier) (count : ℕ → ℕ) → r.arrivals ≡ (barrier_at h a).arrivals + count a → ((b : ℕ) → (a ≡ b → ⊥) → count b ≡ 0) → Arrives h (record h { barriers = insert h.barriers a r }) count
+arrives-put h a r count here others b there still = by_at_put (new_barrier 1) h.barriers a r (λ c s. s.arrivals ≡ (barrier_at h c).arrivals + count c) here (λ c apart. let none = others c apart in omega (arith, none)) b
+
+-- nothing in place of nothing
+idle : (b : Bool) (n : ℕ) → n ≡ 0 → cond b n 0 ≡ 0
+idle true n none = none
+idle false n none = refl
+
+module _ (h : Barriers) where
+  arrives-gone : (f : ℕ) (x : BarrierWait) (count : ℕ → ℕ) → ((b : ℕ) → count b ≡ 0) → Arrives h (gone h f x) count
+  arrives-gone f x count none =
+      let r : Barrier = barrier_at h x.barrier in
+      arrives-put h x.barrier (record r { waiting = ending r.waiting f }) count (omega (arith, none x.barrier)) (λ b apart. none b)
+
+  arrives-at : (f w : ℕ) (x : BarrierWait) (o : Option ℕ) → Arrives h (poll_at h f w x o).hall (λ b. cond (x.barrier == b) (arrivals_new o) 0)
+  arrives-at f w x None =
+      let r : Barrier = barrier_at h x.barrier in
+      let one = on_true (x.barrier == x.barrier) 1 (eq-eqb x.barrier x.barrier refl) in
+      elim (leads r) as (λ b. Arrives h (if b then leading h f x else joining h f w x).hall (λ c. cond (x.barrier == c) 1 0)) [
+        | true ↦ arrives-put h x.barrier (record r { arrivals = r.arrivals + 1; waiting = [] }) (λ c. cond (x.barrier == c) 1 0) (omega (arith, one)) (λ c apart. on_false (x.barrier == c) 1 (ne_eqb x.barrier c apart))
+        | false ↦ arrives-put h x.barrier (record r { arrivals = r.arrivals + 1; waiting = registering r.waiting f w }) (λ c. cond (x.barrier == c) 1 0) (omega (arith, one)) (λ c apart. on_false (x.barrier == c) 1 (ne_eqb x.barrier c apart))
+      ]
+  arrives-at f w x (Some round) =
+      let r : Barrier = barrier_at h x.barrier in
+      let none : (c : ℕ) → cond (x.barrier == c) (arrivals_new (Some round)) 0 ≡ 0 = (λ c. idle (x.barrier == c) (arrivals_new (Some round)) refl) in
+      elim (has_completed r round) as (λ b. Arrives h (if b then quietly (gone h f x) answers.Ready else waiting_on h f w x).hall (λ c. cond (x.barrier == c) (arrivals_new (Some round)) 0)) [
+        | true ↦ arrives-gone f x (λ c. cond (x.barrier == c) (arrivals_new (Some round)) 0) none
+        | false ↦ arrives-put h x.barrier (record r { waiting = registering r.waiting f w }) (λ c. cond (x.barrier == c) (arrivals_new (Some round)) 0) (omega (arith, none x.barrier)) (λ c apart. none c)
+      ]
+
+  arrives-poll : (f w : ℕ) (o : Option BarrierWait) → Arrives h (poll_of h f w o).hall (arrivals_wait o)
+  arrives-poll f w None = arrives-same h
+  arrives-poll f w (Some x) = arrives-at f w x x.round
+
+  arrives-end : (f : ℕ) (o : Option BarrierWait) → Arrives h (end_of h f o).hall (λ b. 0)
+  arrives-end f None = arrives-same h
+  arrives-end f (Some x) = arrives-gone f x (λ b. 0) (λ b. refl)
+
+  arrives-drop : (a : ℕ) → Arrives h (drop h a).hall (λ b. 0)
+  arrives-drop a b there = by_gone h.barriers a (λ c o. IsSome o → (unwrap_or o (new_barrier 1)).arrivals ≡ (barrier_at h c).arrivals + 0) (λ still. absurd (cc)) (λ c apart still. omega arith) b
+
+  arrives-make : (n i k : ℕ) → n ≤ i → AreBelow h.barriers n → Arrives h (make h i k).hall (λ b. 0)
+  arrives-make n i k later below b there still = by_at_put (new_barrier 1) h.barriers i (new_barrier k) (λ c r. IsSome (get h.barriers c) → r.arrivals ≡ (barrier_at h c).arrivals + 0) (λ known. absurd (fresh h.barriers n i i later below known refl)) (λ c apart known. omega arith) b there
+
+pub arrives : (h : Hall) (n i : ℕ) (e : MeetEvent) → IsValid h n → n ≤ i → Arrives h.barriers (step h i e).hall.barriers (arrivals_by h e)
+arrives h n i (events.BarNew k) v later = arrives-make h.barriers n i k later v.barriers.barriers_below
+arrives h n i (events.BarPoll f w) v later = arrives-poll h.barriers f w (get h.barriers.waits f)
+arrives h n i (events.BarEnd f) v later = arrives-end h.barriers f (get h.barriers.waits f)
+arrives h n i (events.BarDrop b) v later = arrives-drop h.barriers b
+arrives h n i e v later = arrives-same h.barriers
 
 -- ---- the others
 module _ (h : Hall) where
@@ -174,12 +229,7 @@ module _ (h : Hall) where
   pub wakes : (i f w : ℕ) (x : BarrierWait) → get h.barriers.waits f ≡ Some x → leads_by h (events.BarPoll f w) ≡ true → (step h i (events.BarPoll f w)).wakes ≡ wakers (barrier_at h.barriers x.barrier).waiting
   wakes i f w x is e = ap (λ o. (poll_of h.barriers f w o).wakes) is ∙ wakes-at h.barriers f w x x.round (sym (ap (leads_wait h.barriers) is) ∙ e)
 
-  pub arrives : (i f w : ℕ) (x : BarrierWait) → get h.barriers.waits f ≡ Some x → x.round ≡ None → (barrier_at (step h i (events.BarPoll f w)).hall.barriers x.barrier).arrivals ≡ (barrier_at h.barriers x.barrier).arrivals + 1
-  arrives i f w x is new =
-      ap (λ o. (barrier_at (poll_of h.barriers f w o).hall x.barrier).arrivals) is
-      ∙ ap (λ o. (barrier_at (poll_at h.barriers f w x o).hall x.barrier).arrivals) new ∙ arrives-at h.barriers f w x
-
--- ---- arrivals
+-- ---- how many lead
 -- an arrival that leads ends a round, and no other does
 ends_round : (r : Barrier) → 1 ≤ r.size → cond (leads r) 1 0 + r.arrivals / r.size ≡ (r.arrivals + 1) / r.size
 ends_round r some = elim (leads r) as (λ b. leads r ≡ b → cond b 1 0 + r.arrivals / r.size ≡ (r.arrivals + 1) / r.size) [
