@@ -14,3 +14,4 @@ pub mod EachEvent
 pub mod KeptWakers
 pub mod EndedCounts
 pub mod MostWoken
+pub mod WhoLeads

@@ -1,5 +1,5 @@
 -- the changes of shutdowns that keep them valid
-use Rattle.std.proofs.Common.{◌≡◌, ℕ, ◌+◌, ◌≤◌, ◌==◌, ◌&&◌, not, Bool, true, false, cond, [], Option, Some, None, unwrap_or, refl, ap, sym, subst, ◌∙◌, arith, nat_lt, if◌then◌else◌}
+use Rattle.std.proofs.Common.{◌≡◌, ℕ, ◌+◌, ◌<◌, ◌≤◌, ◌==◌, ◌&&◌, not, Bool, true, false, cond, [], Option, Some, None, unwrap_or, refl, ap, sym, subst, ◌∙◌, arith, nat_lt, if◌then◌else◌}
 use Rattle.std.specs.Option.{IsSome}
 use Rattle.std.specs.Ordering.{nat_cmp}
 use Rattle.std.specs.FinMap.{FinMap, get, insert, remove}
@@ -12,7 +12,7 @@ use Rattle.mea_meet_model.specs.Shutdowns.{Shutdowns, Shutdown, Receiver, Shutdo
 use Rattle.mea_meet_model.specs.Valid.{AreBelow, IsQuietAtEnd, counted_receivers, receiver_of, waiting_signal, waiting_end, HasShutdowns}
 use Rattle.mea_meet_model.proofs.Maps.{by_put, by_gone, by_at_put, by_at_gone, at-empty, get-there, get-other, get-removed_other, removed_there, inside, is_there, nothing_at, nothing_there, total-has}
 use Rattle.mea_meet_model.proofs.Waiting.{registering-had, ending-there, ending-had, decreased-had, quiet-decreased, quiet-ending, quiet-increased}
-use Rattle.mea_meet_model.proofs.Belongs.{on_true, fresh, below-none, of-none, below-later, below-put, below-over, below-gone, of-objects_put, of-put, of-gone, of-objects_gone, sum-put, sum-gone}
+use Rattle.mea_meet_model.proofs.Belongs.{on_true, on_false, fresh, below-none, of-none, below-later, below-put, below-over, below-gone, of-objects_put, of-put, of-gone, of-objects_gone, sum-put, sum-gone}
 
 -- ---- who counts as a receiver of s
 pub counts_not : (a b : Bool) (n : ℕ) → b ≡ true → cond (a && not b) n 0 ≡ 0
@@ -411,4 +411,20 @@ pub shutdowns-tidied : (h : Shutdowns) (n s : ℕ) → HasShutdowns h n → HasS
 shutdowns-tidied h n s v = elim (nat_lt 0 (senders_of h s + receivers_of h s + waits_of h s)) as (λ b. nat_lt 0 (senders_of h s + receivers_of h s + waits_of h s) ≡ b → HasShutdowns (if b then h else record h { shutdowns = remove h.shutdowns s }) n) [
   | true ↦ λ e. v
   | false ↦ λ e. let none = none_left h s e in shutdowns-drop h n v s none.0 none.1 none.2
+] refl
+
+-- ---- who is borrowed is there
+nobody : (a : Awaited) (r : ℕ) → ((q : ℕ) → a ≡ Signal (Some q) → q ≡ r → ⊥) → borrows a r ≡ false
+nobody (Signal None) r none = refl
+nobody (Signal (Some q)) r none = ne_eqb q r (λ same. none q refl same)
+nobody Receivers r none = refl
+
+pub lender_there : (h : Shutdowns) (n : ℕ) → HasShutdowns h n → (r : ℕ) → 0 < borrowers_of h r → IsSome (get h.receivers r)
+lender_there h n v r some = elim (get h.receivers r) as (λ o. get h.receivers r ≡ o → IsSome o) [
+  | None ↦ λ e.
+      let none = total-zero (λ f (x : ShutdownWait). cond (borrows x.awaits r) 1 0) h.waits (λ f x is. on_false (borrows x.awaits r) 1 (nobody x.awaits r (λ q plain same.
+      let lent = v.borrowed_there f x.shutdown q (is ∙ ap (λ a. Some (record { shutdown = x.shutdown; awaits = a })) plain) in
+      absurd (let clash : None ≡ Some (receiver_of x.shutdown lent.0) = sym e ∙ ap (get h.receivers) (sym same) ∙ lent.1 in cc)))) in
+      absurd (omega (arith, some, none))
+  | Some x ↦ λ e. refl
 ] refl

@@ -7,5 +7,6 @@ pub mod Shutdowns
 pub mod Hall
 pub mod Cause
 pub mod Step
+pub mod Leaders
 pub mod Meets
 pub mod Valid

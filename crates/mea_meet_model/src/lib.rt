@@ -6,11 +6,13 @@
 mod counts;
 mod event;
 mod laws;
+mod leaders;
 mod registered;
 mod validity;
 
 pub use counts::an_ended_count_stays_ended;
 pub use event::MeetEvent;
 pub use laws::{no_wake_is_lost, wakers_are_kept};
+pub use leaders::a_round_has_one_leader;
 pub use registered::wakes_are_of_the_registered;
-pub use validity::validity_is_kept;
+pub use validity::{a_borrowed_receiver_is_there, validity_is_kept};

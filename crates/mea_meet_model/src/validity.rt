@@ -1,5 +1,7 @@
-ghost use Rattle.std.specs.Prelude.{◌≡◌, ℕ, ◌+◌, ◌≤◌, None};
+ghost use Rattle.std.specs.Prelude.{◌≡◌, ℕ, ◌+◌, ◌<◌, ◌≤◌, None, IsSome};
+ghost use Rattle.std.specs.FinMap as finmap;
 ghost use Rattle.mea_meet_model.specs.declared.event.MeetEvent.{MeetEvent as Event};
+ghost use Rattle.mea_meet_model.specs.Shutdowns.{borrowers_of};
 ghost use Rattle.mea_meet_model.specs.Hall.{Hall, empty_hall};
 ghost use Rattle.mea_meet_model.specs.Cause.{cause_of};
 ghost use Rattle.mea_meet_model.specs.Step.{step};
@@ -10,4 +12,9 @@ ghost use Rattle.mea_meet_model.specs.Valid.{IsValid};
 pub fn validity_is_kept()
     ensures empty { IsValid empty_hall 0 }
     ensures event { (h : Hall) (n i : ℕ) (e : Event) → IsValid h n → n ≤ i → cause_of h e ≡ None → IsValid (step h i e).hall (i + 1) }
+{}
+
+/// A receiver or watch that a plain future borrows is there.
+pub fn a_borrowed_receiver_is_there()
+    ensures { (h : Hall) (n : ℕ) → IsValid h n → (r : ℕ) → 0 < borrowers_of h.shutdowns r → IsSome (finmap.get h.shutdowns.receivers r) }
 {}

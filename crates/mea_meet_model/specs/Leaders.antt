@@ -1,0 +1,46 @@
+-- who leads a round of a barrier
+use Rattle.std.specs.Prelude.{ℕ, zero, suc, ◌+◌, ◌==◌, Bool, true, false, cond, Option, Some, None}
+use Rattle.std.specs.FinMap as map
+use Rattle.mea_base.specs.declared.answer.Answer.{Answer}
+use Rattle.mea_base.specs.declared.answer.Answer.TheVariants as answers
+use Rattle.mea_meet_model.specs.declared.event.MeetEvent.{MeetEvent}
+use Rattle.mea_meet_model.specs.declared.event.MeetEvent.TheVariants.{BarPoll}
+use Rattle.mea_meet_model.specs.Barriers.{Barriers, Barrier, BarrierWait, barrier_at, leads}
+use Rattle.mea_meet_model.specs.Hall.{Hall}
+
+abbrev pub is_leader : Answer → Bool
+is_leader answers.Leader = true
+is_leader _ = false
+
+-- a future that has not arrived leads where the next arrival does
+abbrev pub leads_new : Barrier → Option ℕ → Bool
+leads_new r None = leads r
+leads_new r (Some round) = false
+
+abbrev pub leads_wait : Barriers → Option BarrierWait → Bool
+leads_wait h None = false
+leads_wait h (Some x) = leads_new (barrier_at h x.barrier) x.round
+
+-- an event leads: it polls a new future of a barrier whose arrivals it brings to a multiple of the size
+abbrev pub leads_by : Hall → MeetEvent → Bool
+leads_by h (BarPoll f w) = leads_wait h.barriers (map.get h.barriers.waits f)
+leads_by h _ = false
+
+-- a future arrives at its barrier once, by its first poll
+abbrev pub arrivals_new : Option ℕ → ℕ
+arrivals_new None = 1
+arrivals_new (Some round) = 0
+
+abbrev pub arrivals_wait : Option BarrierWait → ℕ → ℕ
+arrivals_wait None b = 0
+arrivals_wait (Some x) b = cond (x.barrier == b) (arrivals_new x.round) 0
+
+-- how many arrivals at b an event makes
+abbrev pub arrivals_by : Hall → MeetEvent → ℕ → ℕ
+arrivals_by h (BarPoll f w) b = arrivals_wait (map.get h.barriers.waits f) b
+arrivals_by h _ b = 0
+
+-- how many of the next k arrivals at r lead
+abbrev pub leaders : Barrier → ℕ → ℕ
+leaders r zero = 0
+leaders r (suc k) = cond (leads r) 1 0 + leaders (record r { arrivals = r.arrivals + 1 }) k
