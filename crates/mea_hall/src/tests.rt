@@ -1,7 +1,8 @@
 use crate::{
     Event, Hall, Replies, lines_have_one_spelling, put_number, put_reply, put_text, replay,
 };
-use mea_base::Answer;
+use mea_base::{Answer, Stop};
+use mea_meet::MeetEvent;
 use mea_sem_model::SemEvent;
 
 // Each call that may find no memory finds some.
@@ -10,6 +11,10 @@ fn ample(rt: HostRuntime) {
     let event = Event::Sem(SemEvent::New(1));
     let mut hall = Hall::new(rt.alloc());
     assert!(rt; hall.act(&event) == Ok(Answer::Made));
+    assert!(rt; hall.act(&Event::Meet(MeetEvent::LatNew(1))) == Ok(Answer::Made));
+    assert!(rt; hall.act(&Event::Meet(MeetEvent::LatWait(1))) == Ok(Answer::Made));
+    assert!(rt; hall.act(&Event::Meet(MeetEvent::LatPoll(2, 5))) == Ok(Answer::Pending));
+    assert!(rt; hall.registered() == 1);
     let mut replies = Replies::new(rt.alloc());
     assert!(rt; replies.reserve(3) == Ok(()));
     let played = replay(rt.alloc(), &[event, Event::Sem(SemEvent::Free(0))]);
@@ -38,4 +43,45 @@ fn wakes_stand_beside_their_reply(rt: HostRuntime) {
     assert!(rt; played.replies.wakes(3) == [5].as_slice());
     assert!(rt; played.hall.registered() <= 4 && played.hall.semaphores().wakes_ready() == 0);
     lines_have_one_spelling();
+}
+
+// The families have their numbers in common, and each its own wakers.
+#[test]
+fn two_families_in_one_script(rt: HostRuntime) {
+    let events = [
+        Event::Sem(SemEvent::New(0)),
+        Event::Meet(MeetEvent::LatNew(2)),
+        Event::Sem(SemEvent::Acq(0, 1)),
+        Event::Meet(MeetEvent::LatWait(1)),
+        Event::Sem(SemEvent::Poll(2, 5)),
+        Event::Meet(MeetEvent::LatPoll(3, 6)),
+        Event::Meet(MeetEvent::LatArrive(1, 2)),
+        Event::Meet(MeetEvent::SdNew),
+        Event::Meet(MeetEvent::SdIso(7)),
+        Event::Meet(MeetEvent::SdPoll(8, 7)),
+        Event::Sem(SemEvent::Release(0, 1)),
+    ];
+    let played = replay(rt.alloc(), &events);
+    assert!(rt; played.ended == Ok(()));
+    assert!(rt; played.replies.len() == 11);
+    assert!(rt; played.replies.wakes(6) == [6].as_slice());
+    assert!(rt; *played.replies.answer(9) == Answer::Pending && played.replies.wakes(9).is_empty());
+    assert!(rt; played.replies.wakes(10) == [5].as_slice());
+    assert!(rt; played.hall.events() == 11 && played.hall.wakes_ready() == 0);
+    assert!(rt; played.hall.semaphores().registered() == 0);
+    assert!(rt; played.hall.meets().registered() == 1 && played.hall.registered() == 1);
+    assert!(rt; played.hall.meets().latch(1).map(|core| core.count()) == Some(0));
+    assert!(rt; played.hall.meets().shutdown(7).is_some());
+}
+
+// A line of one family finds nothing of another under its number.
+#[test]
+fn families_share_no_things(rt: HostRuntime) {
+    let events = [
+        Event::Sem(SemEvent::New(1)),
+        Event::Meet(MeetEvent::LatDown(0)),
+    ];
+    let played = replay(rt.alloc(), &events);
+    assert!(rt; played.ended == Err(Stop::Unknown));
+    assert!(rt; played.replies.len() == 1);
 }
