@@ -22,10 +22,11 @@ use Rattle.mea_meet.specs.declared.barriers.BarrierEntry.{BarrierEntry}
 use Rattle.mea_meet.specs.declared.barriers.BarrierWaitEntry.{BarrierWaitEntry}
 use Rattle.mea_meet.specs.declared.barriers.BarrierHall.TheInside.{Inside}
 use Rattle.mea_meet.proofs.Names.{waiting-length, waiting-alike, named-later, named-new}
-use Rattle.mea_meet.proofs.Stores.{ChangesAt, Sets, sets_there, sets_other, by_name, at_same, at_apart, kept-at, kept-changed, seen-some, seen-none, seen_put, seen_gone, insert_same, weight-within}
-use Rattle.mea_meet.proofs.BarrierChanges.{Changes, slot_entry, slot_owner, slots_there, slots_other, at_barrier, kept_after, hall_put}
+use Rattle.mea_meet.proofs.Maps.{ChangesAt, Puts, put_there, put_other, by_name, at_same, at_apart, kept-at, kept-puts, seen-some, seen-none, seen_put, seen_gone, insert_same, weight-within}
+use Rattle.mea_meet.proofs.BarrierChanges.{Changes, slot_entry, at_barrier, kept_after, hall_put}
 use Rattle.mea_meet.proofs.BarrierPlays.{Rested, Played, store_in, seen_in, IsKeptIn}
 use Rattle.mea_meet.proofs.BarrierStores.{counts}
+use Rattle.mea_meet.proofs.Slots.{slot_owner, slots_there, slots_other}
 
 -- ---- names that were not given yet
 pub no_barrier : (st : Store) (n i : ℕ) → IsKept st n → n ≤ i → get st.barriers i ≡ None
@@ -43,7 +44,7 @@ no_wait st n i k less = by_value (get st.waits i) refl
     by_value (Some x) is = absurd (let small = k.named.below i (slot_entry x) (ap (option_map slot_entry) is) in omega (arith, small, less))
 
 -- ---- a barrier at which nobody waits comes or goes: o' is what stands at b now
-module _ (st : Store) (m : FinMap nat_cmp BarrierEntry) (n i b : ℕ) (o' : Option BarrierEntry) (k : IsKept st n) (less : n ≤ i) (low : i < 2 ^ 64) (barriers : Sets st.barriers m b o')
+module _ (st : Store) (m : FinMap nat_cmp BarrierEntry) (n i b : ℕ) (o' : Option BarrierEntry) (k : IsKept st n) (less : n ≤ i) (low : i < 2 ^ 64) (barriers : Puts st.barriers m b o')
     (nobody : (f : ℕ) (x : BarrierWaitEntry) → get st.waits f ≡ Some x → x.barrier ≡ b → ⊥) where
   abbrev st' : Store
   st' = record { barriers = m; waits = st.waits }
@@ -67,9 +68,9 @@ module _ (st : Store) (m : FinMap nat_cmp BarrierEntry) (n i b : ℕ) (o' : Opti
   pub kept_beside : ((d : BarrierEntry) → o' ≡ Some d → IsKeptEntry st' (i + 1) b d) → IsKept st' (i + 1)
   kept_beside here = record {
     each = λ q d is. by_name b q
-        (λ same. subst (λ p. IsKeptEntry st' (i + 1) p d) same (here d (sym (sets_there st.barriers m b o' barriers q same) ∙ is)))
-        (λ apart. entry_later q d (k.each q d (sym (sets_other st.barriers m b o' barriers q apart) ∙ is)));
-    home = λ f x is. (let h = k.home f x is in record { entry = h.entry; there = sets_other st.barriers m b o' barriers x.barrier (λ same. nobody f x is (sym same)) ∙ h.there; belongs = h.belongs });
+        (λ same. subst (λ p. IsKeptEntry st' (i + 1) p d) same (here d (sym (put_there st.barriers m b o' barriers q same) ∙ is)))
+        (λ apart. entry_later q d (k.each q d (sym (put_other st.barriers m b o' barriers q apart) ∙ is)));
+    home = λ f x is. (let h = k.home f x is in record { entry = h.entry; there = put_other st.barriers m b o' barriers x.barrier (λ same. nobody f x is (sym same)) ∙ h.there; belongs = h.belongs });
     named = named_now;
     low = omega (arith, low);
   }
@@ -133,7 +134,7 @@ module _ (a : Inside) (v : Part Barriers) (i : ℕ) (seen : seen_in a ≡ v) (k 
   pub makes : (size : ℕ) (bs' : List (ℕ × BarrierEntry)) (core : cores.Barrier ℕ) → ChangesAt a.barriers.entries bs' i (Some (record { core = core; waits = 0 })) → core ≡ fresh_core size
       → Rested v i (model.make v.hall i size) answers.Made (store_of bs' a.waits.entries)
   makes size bs' core puts is =
-      let barriers : Sets st.barriers (store_of bs' a.waits.entries).barriers i (Some (fresh_entry size)) = kept-changed a.barriers.entries bs' i (Some (fresh_entry size)) (subst (λ (d : cores.Barrier ℕ). ChangesAt a.barriers.entries bs' i (Some (record { core = d; waits = 0 }))) is puts) in
+      let barriers : Puts st.barriers (store_of bs' a.waits.entries).barriers i (Some (fresh_entry size)) = kept-puts a.barriers.entries bs' i (Some (fresh_entry size)) (subst (λ (d : cores.Barrier ℕ). ChangesAt a.barriers.entries bs' i (Some (record { core = d; waits = 0 }))) is puts) in
       let nobody : (f : ℕ) (x : BarrierWaitEntry) → get st.waits f ≡ Some x → x.barrier ≡ i → ⊥ = λ f x there same. absurd (let home = k.home f x there in let clash : None ≡ Some home.entry = sym (no_barrier st n i k less) ∙ ap (get st.barriers) (sym same) ∙ home.there in cc) in
       let hall_is = hall_with st (store_of bs' a.waits.entries).barriers n i i (Some (fresh_entry size)) k less low barriers nobody (fresh_entry size) refl (new_barrier size) refl in
       let none : weight (λ q (r : Barrier). length r.waiting) i (get h.barriers i) ≡ 0 = ap (weight (λ q (r : Barrier). length r.waiting) i) (seen-none (barrier_of st.waits n) st.barriers i (no_barrier st n i k less)) in
@@ -169,14 +170,14 @@ module _ (a : Inside) (v : Part Barriers) (i : ℕ) (seen : seen_in a ≡ v) (k 
       abbrev e' : BarrierEntry
       e' = record e { waits = e.waits + 1 }
 
-      waits : Sets st.waits st_now.waits i (Some x)
-      waits = kept-changed a.waits.entries ws' i (Some x) adds
+      waits : Puts st.waits st_now.waits i (Some x)
+      waits = kept-puts a.waits.entries ws' i (Some x) adds
 
       slot_is : slots_of st_now.waits i ≡ Some (b, None)
-      slot_is = slots_there st.waits st_now.waits i (Some x) waits ∙ (λ j. Some (mine j, slot_of (new j)))
+      slot_is = slots_there slot_entry st.waits st_now.waits i (Some x) waits ∙ (λ j. Some (mine j, slot_of (new j)))
 
       others : (g : ℕ) → (i ≡ g → ⊥) → slots_of st_now.waits g ≡ slots_of st.waits g
-      others = slots_other st.waits st_now.waits i (Some x) waits
+      others = slots_other slot_entry st.waits st_now.waits i (Some x) waits
 
       named_with : AreNamed (slots_of st_now.waits) (i + 1)
       named_with = named-new (slots_of st.waits) (slots_of st_now.waits) n (i + 1) i k.named (omega (arith, less)) others b (omega arith) slot_is
@@ -184,7 +185,7 @@ module _ (a : Inside) (v : Part Barriers) (i : ℕ) (seen : seen_in a ≡ v) (k 
       change : Changes st st_now n (i + 1) b i e e' None (Some x)
       change = record {
         there = entry_there;
-        barriers = kept-changed a.barriers.entries bs' b (Some e') puts;
+        barriers = kept-puts a.barriers.entries bs' b (Some e') puts;
         was = no_wait st n i k less;
         waits = waits;
         rises = omega (arith, less);
@@ -208,8 +209,8 @@ module _ (a : Inside) (v : Part Barriers) (i : ℕ) (seen : seen_in a ≡ v) (k 
 
       slot_stood : (g : ℕ) (place : Place) → slots_of st_now.waits g ≡ Some (b, Some place) → slots_of st.waits g ≡ Some (b, Some place)
       slot_stood g place is = by_name i g
-          (λ same. absurd (let z = slot_owner (get st_now.waits g) b (Some place) is in
-          let one : Some x ≡ Some z.0 = sym (sets_there st.waits st_now.waits i (Some x) waits g same) ∙ z.1 in
+          (λ same. absurd (let z = slot_owner (λ (x : BarrierWaitEntry). x.barrier) (λ x. slot_of x.wait) (get st_now.waits g) b (Some place) is in
+          let one : Some x ≡ Some z.0 = sym (put_there st.waits st_now.waits i (Some x) waits g same) ∙ z.1 in
           let it : x ≡ z.0 = cc in
           let clash : None ≡ Some place = sym (ap slot_of new) ∙ ap (λ (u : BarrierWaitEntry). slot_of u.wait) it ∙ z.3 in cc))
           (λ apart. sym (others g apart) ∙ is)
@@ -239,7 +240,7 @@ module _ (a : Inside) (v : Part Barriers) (i : ℕ) (seen : seen_in a ≡ v) (k 
         → after ≡ record before { registered = before.registered - length e.core.waiting.wakers }
         → Played v i (model.drop v.hall b) answers.Done (store_of bs' a.waits.entries) before after
     drops bs' before after gone free enough is =
-        let barriers : Sets st.barriers (store_of bs' a.waits.entries).barriers b None = kept-changed a.barriers.entries bs' b None gone in
+        let barriers : Puts st.barriers (store_of bs' a.waits.entries).barriers b None = kept-puts a.barriers.entries bs' b None gone in
         let none : e.waits ≡ 0 = counts a v seen k b e there ∙ free in
         let all = (k.each b e entry_there).counted in
         let nobody : (f : ℕ) (x : BarrierWaitEntry) → get st.waits f ≡ Some x → x.barrier ≡ b → ⊥ = λ f x here same. absurd (

@@ -23,7 +23,7 @@ use Rattle.mea_meet.specs.declared.barriers.BarrierEntry.{BarrierEntry}
 use Rattle.mea_meet.specs.declared.barriers.BarrierWaitEntry.{BarrierWaitEntry}
 use Rattle.mea_meet.specs.declared.barriers.BarrierHall.TheInside.{Inside}
 use Rattle.mea_meet.proofs.Names.{waiting-wakers, given-drained}
-use Rattle.mea_meet.proofs.Stores.{ChangesAt, Sets, kept-at, kept-changed, seen-some, insert_same}
+use Rattle.mea_meet.proofs.Maps.{ChangesAt, Puts, kept-at, kept-puts, seen-some, insert_same}
 use Rattle.mea_meet.proofs.BarrierChanges.{later_round, home_open, kept_after, registered_after, barrier_seen, waits_within}
 use Rattle.mea_meet.proofs.BarrierPlays.{Rested, Played, store_in, seen_in, IsKeptIn, registers, hall_registering, leaves, hall_ending, hall_led}
 
@@ -124,8 +124,8 @@ module _ (a : Inside) (v : Part Barriers) (i f : ℕ) (x : BarrierWaitEntry) (e 
     abbrev now : Part Barriers
     now = record { hall = barriers_of st' (i + 1); next = i + 1 }
 
-    barriers : Sets st.barriers st'.barriers b (Some e')
-    barriers = kept-changed a.barriers.entries bs' b (Some e') puts
+    barriers : Puts st.barriers st'.barriers b (Some e')
+    barriers = kept-puts a.barriers.entries bs' b (Some e') puts
 
     done : (o : Outcome Barriers) (w : ℕ) (answer : Answer) (before after : Waking ℕ) → outcome w ≡ o → IsKept st' (i + 1) → barriers_of st' (i + 1) ≡ o.hall
         → registered (barriers_of st' (i + 1)) + length e.core.waiting.wakers ≡ registered h + length e'.core.waiting.wakers
@@ -144,8 +144,8 @@ module _ (a : Inside) (v : Part Barriers) (i f : ℕ) (x : BarrierWaitEntry) (e 
 
     -- ---- a poll that replies `pending`
     module _ (y : BarrierWaitEntry) (w : ℕ) (before after : Waking ℕ) (puts_wait : ChangesAt a.waits.entries ws' f (Some y)) (mine : y.barrier ≡ b) (turns : Turns e x.wait w Pending e' y.wait before after) where
-      waits_now : Sets st.waits st'.waits f (Some y)
-      waits_now = kept-changed a.waits.entries ws' f (Some y) puts_wait
+      waits_now : Puts st.waits st'.waits f (Some y)
+      waits_now = kept-puts a.waits.entries ws' f (Some y) puts_wait
 
       abbrev Stayed : Type 0
       Stayed = Played v i (model.poll_of v.hall f w (get v.hall.waits f)) answers.Pending st' before after
@@ -195,8 +195,8 @@ module _ (a : Inside) (v : Part Barriers) (i f : ℕ) (x : BarrierWaitEntry) (e 
 
     -- ---- the future is gone
     module _ (gone : ChangesAt a.waits.entries ws' f None) where
-      waits_gone : Sets st.waits st'.waits f None
-      waits_gone = kept-changed a.waits.entries ws' f None gone
+      waits_gone : Puts st.waits st'.waits f None
+      waits_gone = kept-puts a.waits.entries ws' f None gone
 
       -- a poll that replies otherwise
       module _ (w : ℕ) (answer : Answer) (wait' : Wait) (before after : Waking ℕ) (turns : Turns e x.wait w (Ready answer) e' wait' before after) where

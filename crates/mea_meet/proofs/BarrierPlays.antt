@@ -20,8 +20,9 @@ use Rattle.mea_meet.specs.declared.barriers.BarrierEntry.{BarrierEntry}
 use Rattle.mea_meet.specs.declared.barriers.BarrierWaitEntry.{BarrierWaitEntry}
 use Rattle.mea_meet.specs.declared.barriers.BarrierHall.TheInside.{Inside}
 use Rattle.mea_meet.proofs.Names.{waiting-registers, waiting-ends, named-ends, named-registers, given-with, given-registers}
-use Rattle.mea_meet.proofs.Stores.{Sets}
-use Rattle.mea_meet.proofs.BarrierChanges.{Changes, slot_entry, slots_there, slots_other, goes_on, home_open, are_given, hall_put, hall_gone, waits_within}
+use Rattle.mea_meet.proofs.Maps.{Puts}
+use Rattle.mea_meet.proofs.BarrierChanges.{Changes, slot_entry, goes_on, home_open, are_given, hall_put, hall_gone, waits_within}
+use Rattle.mea_meet.proofs.Slots.{slots_there, slots_other}
 
 -- event i had this outcome, which touches no waker: what is kept now, and what the contract says
 pub record Rested (v : Part Barriers) (i : ℕ) (o : Outcome Barriers) (answer : Answer) (st' : Store) : Type 0 where
@@ -44,7 +45,7 @@ IsKeptIn a = IsKept (store_in a) a.next
 
 -- ---- a future of a barrier is polled or ends
 module _ (st st' : Store) (n i f : ℕ) (x : BarrierWaitEntry) (e e' : BarrierEntry) (k : IsKept st n) (less : n ≤ i) (low : i < 2 ^ 64)
-    (is : get st.waits f ≡ Some x) (there : get st.barriers x.barrier ≡ Some e) (barriers : Sets st.barriers st'.barriers x.barrier (Some e')) where
+    (is : get st.waits f ≡ Some x) (there : get st.barriers x.barrier ≡ Some e) (barriers : Puts st.barriers st'.barriers x.barrier (Some e')) where
   abbrev h : Barriers
   h = barriers_of st n
 
@@ -64,13 +65,13 @@ module _ (st st' : Store) (n i f : ℕ) (x : BarrierWaitEntry) (e e' : BarrierEn
   sized = (k.each b e there).sized
 
   -- ---- its waker is registered
-  module _ (y : BarrierWaitEntry) (waits : Sets st.waits st'.waits f (Some y)) (w round arrivals : ℕ) (mine : y.barrier ≡ b) (wait_is : y.wait ≡ Arrived round (slot_after e.core.waiting (slot_of x.wait)))
+  module _ (y : BarrierWaitEntry) (waits : Puts st.waits st'.waits f (Some y)) (w round arrivals : ℕ) (mine : y.barrier ≡ b) (wait_is : y.wait ≡ Arrived round (slot_after e.core.waiting (slot_of x.wait)))
       (entry_is : e' ≡ record e { core = record e.core { arrivals = arrivals; waiting = with_waker e.core.waiting (slot_of x.wait) w } }) (rises : e.core.arrivals ≤ arrivals) (most : arrivals ≤ e.core.arrivals + 1) (seen : nat_le round (arrivals / e.core.size) ≡ true) where
     others : (g : ℕ) → (f ≡ g → ⊥) → slots_of st'.waits g ≡ slots_of st.waits g
-    others = slots_other st.waits st'.waits f (Some y) waits
+    others = slots_other slot_entry st.waits st'.waits f (Some y) waits
 
     slot_is : slots_of st'.waits f ≡ Some (b, slot_after e.core.waiting (slot_of x.wait))
-    slot_is = slots_there st.waits st'.waits f (Some y) waits ∙ (λ j. Some (mine j, slot_of (wait_is j)))
+    slot_is = slots_there slot_entry st.waits st'.waits f (Some y) waits ∙ (λ j. Some (mine j, slot_of (wait_is j)))
 
     named_now : AreNamed (slots_of st'.waits) (i + 1)
     named_now = named-registers (slots_of st.waits) (slots_of st'.waits) n (i + 1) f k.named (omega (arith, less)) others b (slot_of x.wait) e.core.waiting given slot_was slot_is
@@ -114,13 +115,13 @@ module _ (st st' : Store) (n i f : ℕ) (x : BarrierWaitEntry) (e e' : BarrierEn
         ∙ (λ j. record { barriers = insert h.barriers b registering_barrier; waits = insert h.waits f (record { barrier = mine j; round = round_of (wait_is j) }) })
 
   -- ---- it is gone
-  module _ (waits : Sets st.waits st'.waits f None) (fewer : e'.waits ≡ e.waits - 1) (same_wakes : e'.core.wakes ≡ e.core.wakes) (same_size : e'.core.size ≡ e.core.size) (rises : e.core.arrivals ≤ e'.core.arrivals) (most : e'.core.arrivals ≤ e.core.arrivals + 1)
+  module _ (waits : Puts st.waits st'.waits f None) (fewer : e'.waits ≡ e.waits - 1) (same_wakes : e'.core.wakes ≡ e.core.wakes) (same_size : e'.core.size ≡ e.core.size) (rises : e.core.arrivals ≤ e'.core.arrivals) (most : e'.core.arrivals ≤ e.core.arrivals + 1)
       (still : (t : Option Place) → has_given e.core.waiting t ≡ true → has_given e'.core.waiting t ≡ true) where
     others_gone : (g : ℕ) → (f ≡ g → ⊥) → slots_of st'.waits g ≡ slots_of st.waits g
-    others_gone = slots_other st.waits st'.waits f None waits
+    others_gone = slots_other slot_entry st.waits st'.waits f None waits
 
     slot_gone : slots_of st'.waits f ≡ None
-    slot_gone = slots_there st.waits st'.waits f None waits
+    slot_gone = slots_there slot_entry st.waits st'.waits f None waits
 
     named_gone : AreNamed (slots_of st'.waits) (i + 1)
     named_gone = named-ends (slots_of st.waits) (slots_of st'.waits) n (i + 1) f k.named (omega (arith, less)) others_gone slot_gone

@@ -28,8 +28,9 @@ use Rattle.mea_meet.specs.declared.groups.GroupEntry.{GroupEntry}
 use Rattle.mea_meet.specs.declared.groups.GroupWaitEntry.{GroupWaitEntry}
 use Rattle.mea_meet.specs.declared.groups.GroupHall.TheInside.{Inside}
 use Rattle.mea_meet.proofs.Names.{waiting-wakers, waiting-alike, waiting-registers, waiting-ends, named-later, named-new, named-registers, named-ends, given-drained, given-registers}
-use Rattle.mea_meet.proofs.Stores.{ChangesAt, Sets, sets_there, by_name, kept-at, kept-changed, changes_twice, insert_same, seen-some, seen_put, seen_gone}
-use Rattle.mea_meet.proofs.GroupChanges.{Changes, slot_entry, slot_owner, slots_there, slots_other, sets_none, sets_put, sets_gone, are_given, used_left, kept_after, hall_used, hall_tidied, registered_after, group_seen, waits_within, handles_within}
+use Rattle.mea_meet.proofs.Maps.{ChangesAt, Puts, put_there, by_name, kept-at, kept-puts, changes_twice, insert_same, seen-some, seen_put, seen_gone, puts_same, is_insert, is_remove}
+use Rattle.mea_meet.proofs.GroupChanges.{Changes, slot_entry, are_given, used_left, kept_after, hall_used, hall_tidied, registered_after, group_seen, waits_within, handles_within}
+use Rattle.mea_meet.proofs.Slots.{slot_owner, slots_there, slots_other}
 
 -- event i had this outcome, which touches no waker: what is kept now, and what the contract says
 pub record Rested (v : Part Groups) (i : ℕ) (o : Outcome Groups) (answer : Answer) (st' : Store) : Type 0 where
@@ -81,7 +82,7 @@ wakers_used e some = by_test (is_used e) (used_left e some)
 -- ---- a group is written, and then tidied
 module _ (old mid : List (ℕ × GroupEntry)) (g : ℕ) (d : GroupEntry) (writes : ChangesAt old mid g (Some d)) where
   written : at mid g ≡ Some d
-  written = sym (kept-at mid g) ∙ sets_there (named (λ (k : ℕ) (x : GroupEntry). x) old) (named (λ k x. x) mid) g (Some d) (kept-changed old mid g (Some d) writes) g refl
+  written = sym (kept-at mid g) ∙ put_there (named (λ (k : ℕ) (x : GroupEntry). x) old) (named (λ k x. x) mid) g (Some d) (kept-puts old mid g (Some d) writes) g refl
 
   pub tidied_at : (new : List (ℕ × GroupEntry)) → ((q : ℕ) → at new q ≡ cond (is_at (nat_cmp g) q) (left_at (at mid g)) (at mid q)) → ChangesAt old new g (left d)
   tidied_at new tidies = changes_twice old mid new g (Some d) (left d) writes (λ q. tidies q ∙ ap (λ o. cond (is_at (nat_cmp g) q) (left_at o) (at mid q)) written)
@@ -127,11 +128,11 @@ module _ (a : Inside) (v : Part Groups) (i : ℕ) (seen : seen_in a ≡ v) (k : 
       by_value None is = refl
       by_value (Some x) is = absurd (let small = k.named.below i (slot_entry x) (ap (option_map slot_entry) is) in omega (arith, small, less))
 
-  same_handles : Sets st.handles st.handles i None
-  same_handles = sets_none st.handles i no_handle
+  same_handles : Puts st.handles st.handles i None
+  same_handles = puts_same st.handles i None no_handle
 
-  same_waits : Sets st.waits st.waits i None
-  same_waits = sets_none st.waits i no_wait
+  same_waits : Puts st.waits st.waits i None
+  same_waits = puts_same st.waits i None no_wait
 
   -- ---- what the contracts say, by the outcome
   rested : (out : Groups → Outcome Groups) (o : Outcome Groups) (answer : Answer) (st' : Store) → out h ≡ o → IsKept st' (i + 1) → groups_of st' (i + 1) ≡ o.hall → answer ≡ o.reply → o.wakes ≡ []
@@ -164,7 +165,7 @@ module _ (a : Inside) (v : Part Groups) (i : ℕ) (seen : seen_in a ≡ v) (k : 
   module _ (gs' : List (ℕ × GroupEntry)) (hs' : List (ℕ × ℕ)) (same : gs' ≡ a.groups.entries) (undoes : ChangesAt a.handles.entries hs' i None) where
     undone : store_of gs' hs' a.waits.entries ≡ st
     undone =
-        let handles : (store_of gs' hs' a.waits.entries).handles ≡ st.handles = same_named _ _ (λ q. kept-changed a.handles.entries hs' i None undoes q ∙ sym (same_handles q)) in
+        let handles : (store_of gs' hs' a.waits.entries).handles ≡ st.handles = same_named _ _ (λ q. kept-puts a.handles.entries hs' i None undoes q ∙ sym (same_handles q)) in
         λ j. record { groups = named (λ q e. e) (same j); handles = handles j; waits = st.waits }
 
     pub kept_undone : IsKept (store_of gs' hs' a.waits.entries) n
@@ -191,13 +192,13 @@ module _ (a : Inside) (v : Part Groups) (i : ℕ) (seen : seen_in a ≡ v) (k : 
     abbrev st_made : Store
     st_made = store_of gs' hs' a.waits.entries
 
-    handles_made : Sets st.handles st_made.handles i (Some i)
-    handles_made = kept-changed a.handles.entries hs' i (Some i) adds
+    handles_made : Puts st.handles st_made.handles i (Some i)
+    handles_made = kept-puts a.handles.entries hs' i (Some i) adds
 
     change_made : Changes st st_made n (i + 1) i i i None fresh None (Some i) None None
     change_made = record {
       was = no_group;
-      groups = kept-changed a.groups.entries gs' i (Some fresh) (subst (λ (u : Counting ℕ). ChangesAt a.groups.entries gs' i (Some (record { core = u; handles = 1; waits = 0 }))) is puts);
+      groups = kept-puts a.groups.entries gs' i (Some fresh) (subst (λ (u : Counting ℕ). ChangesAt a.groups.entries gs' i (Some (record { core = u; handles = 1; waits = 0 }))) is puts);
       handle_was = no_handle;
       handles = handles_made;
       wait_was = no_wait;
@@ -211,7 +212,7 @@ module _ (a : Inside) (v : Part Groups) (i : ℕ) (seen : seen_in a ≡ v) (k : 
       wait_was_of = λ x same. absurd (cc);
       wait_is_of = λ x same. absurd (cc);
       named = named_same;
-      given = λ f slot there. (let x = slot_owner (get st.waits f) i slot there in let home = k.home f x.0 x.1 in absurd (let clash : None ≡ Some home.entry = sym no_group ∙ ap (get st.groups) (sym x.2) ∙ home.there in cc));
+      given = λ f slot there. (let x = slot_owner (λ (x : GroupWaitEntry). x.group) (λ x. x.wait) (get st.waits f) i slot there in let home = k.home f x.0 x.1 in absurd (let clash : None ≡ Some home.entry = sym no_group ∙ ap (get st.groups) (sym x.2) ∙ home.there in cc));
       quiet = refl;
       known = refl;
       handles_counted = refl;
@@ -222,7 +223,7 @@ module _ (a : Inside) (v : Part Groups) (i : ℕ) (seen : seen_in a ≡ v) (k : 
     makes =
         let counted = registered_after st st_made n (i + 1) i i i None fresh None (Some i) None None k change_made in
         rested (λ u. model.make u i) (model.make h i) answers.Made st_made refl (kept_after st st_made n (i + 1) i i i None fresh None (Some i) None None k change_made)
-        (hall_used st st_made n (i + 1) i i i None fresh None (Some i) None None k change_made (counts.count_from 1) (insert h.handles i i) h.waits refl (sets_put st.handles st_made.handles i i handles_made) refl (omega arith))
+        (hall_used st st_made n (i + 1) i i i None fresh None (Some i) None None k change_made (counts.count_from 1) (insert h.handles i i) h.waits refl (is_insert st.handles st_made.handles i i handles_made) refl (omega arith))
         refl refl (omega (arith, counted))
 
   -- ---- a group that is there
@@ -262,22 +263,22 @@ module _ (a : Inside) (v : Part Groups) (i : ℕ) (seen : seen_in a ≡ v) (k : 
         omega (arith, same, all, fits, first)
 
     -- a used group is written
-    used : (gs' : List (ℕ × GroupEntry)) (d : GroupEntry) → ChangesAt a.groups.entries gs' g (Some d) → 0 < d.handles + d.waits → Sets st.groups (named (λ (k : ℕ) (x : GroupEntry). x) gs') g (left d)
-    used gs' d puts some = subst (λ o. Sets st.groups (named (λ (k : ℕ) (x : GroupEntry). x) gs') g o) (sym (used_left d some)) (kept-changed a.groups.entries gs' g (Some d) puts)
+    used : (gs' : List (ℕ × GroupEntry)) (d : GroupEntry) → ChangesAt a.groups.entries gs' g (Some d) → 0 < d.handles + d.waits → Puts st.groups (named (λ (k : ℕ) (x : GroupEntry). x) gs') g (left d)
+    used gs' d puts some = subst (λ o. Puts st.groups (named (λ (k : ℕ) (x : GroupEntry). x) gs') g o) (sym (used_left d some)) (kept-puts a.groups.entries gs' g (Some d) puts)
 
     -- ---- a future is made
     module _ (ws' : List (ℕ × GroupWaitEntry)) (x : GroupWaitEntry) (adds : ChangesAt a.waits.entries ws' i (Some x)) (mine : x.group ≡ g) (new : x.wait ≡ None) where
       abbrev waits_now : FinMap nat_cmp GroupWaitEntry
       waits_now = named (λ f x. x) ws'
 
-      waits_new : Sets st.waits waits_now i (Some x)
-      waits_new = kept-changed a.waits.entries ws' i (Some x) adds
+      waits_new : Puts st.waits waits_now i (Some x)
+      waits_new = kept-puts a.waits.entries ws' i (Some x) adds
 
       slot_new : slots_of waits_now i ≡ Some (g, None)
-      slot_new = slots_there st.waits waits_now i (Some x) waits_new ∙ (λ j. Some (mine j, new j))
+      slot_new = slots_there slot_entry st.waits waits_now i (Some x) waits_new ∙ (λ j. Some (mine j, new j))
 
       others_new : (f : ℕ) → (i ≡ f → ⊥) → slots_of waits_now f ≡ slots_of st.waits f
-      others_new = slots_other st.waits waits_now i (Some x) waits_new
+      others_new = slots_other slot_entry st.waits waits_now i (Some x) waits_new
 
       named_more : AreNamed (slots_of waits_now) (i + 1)
       named_more = named-new (slots_of st.waits) (slots_of waits_now) n (i + 1) i k.named (omega (arith, less)) others_new g (omega arith) slot_new
@@ -289,8 +290,8 @@ module _ (a : Inside) (v : Part Groups) (i : ℕ) (seen : seen_in a ≡ v) (k : 
 
       slot_stood : (f : ℕ) (place : Place) → slots_of waits_now f ≡ Some (g, Some place) → slots_of st.waits f ≡ Some (g, Some place)
       slot_stood f place is = by_name i f
-          (λ same. absurd (let z = slot_owner (get waits_now f) g (Some place) is in
-          let one : Some x ≡ Some z.0 = sym (sets_there st.waits waits_now i (Some x) waits_new f same) ∙ z.1 in
+          (λ same. absurd (let z = slot_owner (λ (x : GroupWaitEntry). x.group) (λ x. x.wait) (get waits_now f) g (Some place) is in
+          let one : Some x ≡ Some z.0 = sym (put_there st.waits waits_now i (Some x) waits_new f same) ∙ z.1 in
           let it : x ≡ z.0 = cc in
           let clash : None ≡ Some place = sym new ∙ ap (λ (u : GroupWaitEntry). u.wait) it ∙ z.3 in cc))
           (λ apart. sym (others_new f apart) ∙ is)
@@ -300,8 +301,8 @@ module _ (a : Inside) (v : Part Groups) (i : ℕ) (seen : seen_in a ≡ v) (k : 
 
       given_more : AreGiven (slots_of waits_now) g s
       given_more f slot is = by_name i f
-          (λ same. let z = slot_owner (get waits_now f) g slot is in
-          let one : Some x ≡ Some z.0 = sym (sets_there st.waits waits_now i (Some x) waits_new f same) ∙ z.1 in
+          (λ same. let z = slot_owner (λ (x : GroupWaitEntry). x.group) (λ x. x.wait) (get waits_now f) g slot is in
+          let one : Some x ≡ Some z.0 = sym (put_there st.waits waits_now i (Some x) waits_new f same) ∙ z.1 in
           let it : x ≡ z.0 = cc in
           let none : None ≡ slot = sym new ∙ ap (λ (u : GroupWaitEntry). u.wait) it ∙ z.3 in
           subst (λ u. has_given s u ≡ true) none refl)
@@ -381,8 +382,8 @@ module _ (a : Inside) (v : Part Groups) (i : ℕ) (seen : seen_in a ≡ v) (k : 
         abbrev cloned_entry : GroupEntry
         cloned_entry = record e { core = record e.core { count = increased e.core.count }; handles = e.handles + 1 }
 
-        handles_cloned : Sets st.handles st_cloned.handles i (Some g)
-        handles_cloned = kept-changed a.handles.entries hs' i (Some g) adds
+        handles_cloned : Puts st.handles st_cloned.handles i (Some g)
+        handles_cloned = kept-puts a.handles.entries hs' i (Some g) adds
 
         change_cloned : Changes st st_cloned n (i + 1) g i i (Some e) cloned_entry None (Some g) None None
         change_cloned = record {
@@ -415,7 +416,7 @@ module _ (a : Inside) (v : Part Groups) (i : ℕ) (seen : seen_in a ≡ v) (k : 
             rested (λ u. model.clone_of u i (get u.handles m)) (quietly (record h { groups = insert h.groups g (counts.increased c); handles = insert h.handles i g }) answers.Made) answers.Made st_cloned
             (ap (model.clone_of h i) handle_there ∙ ap (λ r. quietly (record h { groups = insert h.groups g (counts.increased r); handles = insert h.handles i g }) answers.Made) at_g)
             (kept_after st st_cloned n (i + 1) g i i (Some e) cloned_entry None (Some g) None None k change_cloned)
-            (hall_used st st_cloned n (i + 1) g i i (Some e) cloned_entry None (Some g) None None k change_cloned (counts.increased c) (insert h.handles i g) h.waits (λ j. record { number = e.core.count.number + 1; waiting = list_same g s j }) (sets_put st.handles st_cloned.handles i g handles_cloned) refl (omega arith))
+            (hall_used st st_cloned n (i + 1) g i i (Some e) cloned_entry None (Some g) None None k change_cloned (counts.increased c) (insert h.handles i g) h.waits (λ j. record { number = e.core.count.number + 1; waiting = list_same g s j }) (is_insert st.handles st_cloned.handles i g handles_cloned) refl (omega arith))
             refl refl (omega (arith, counted, wakers_same))
 
       -- it ends
@@ -423,11 +424,11 @@ module _ (a : Inside) (v : Part Groups) (i : ℕ) (seen : seen_in a ≡ v) (k : 
         abbrev handles_now : FinMap nat_cmp ℕ
         handles_now = named (λ j p. p) hs'
 
-        handles_fewer : Sets st.handles handles_now m None
-        handles_fewer = kept-changed a.handles.entries hs' m None gone
+        handles_fewer : Puts st.handles handles_now m None
+        handles_fewer = kept-puts a.handles.entries hs' m None gone
 
         handles_are : handles_now ≡ remove h.handles m
-        handles_are = sets_gone st.handles handles_now m handles_fewer
+        handles_are = is_remove st.handles handles_now m handles_fewer
 
         abbrev over : Bool
         over = ends e.core.count 1
@@ -445,7 +446,7 @@ module _ (a : Inside) (v : Part Groups) (i : ℕ) (seen : seen_in a ≡ v) (k : 
           change_ended : Changes st st_ended n (i + 1) g m i (Some e) ended_entry (Some g) None None None
           change_ended = record {
             was = entry_there;
-            groups = kept-changed a.groups.entries gs' g (left ended_entry) (subst (λ (u : GroupEntry). ChangesAt a.groups.entries gs' g (left u)) is puts);
+            groups = kept-puts a.groups.entries gs' g (left ended_entry) (subst (λ (u : GroupEntry). ChangesAt a.groups.entries gs' g (left u)) is puts);
             handle_was = handle_there;
             handles = handles_fewer;
             wait_was = no_wait;
@@ -562,14 +563,14 @@ module _ (a : Inside) (v : Part Groups) (i : ℕ) (seen : seen_in a ≡ v) (k : 
         abbrev polled_entry : GroupEntry
         polled_entry = record e { core = record e.core { count = record e.core.count { waiting = with_waker s x.wait w } } }
 
-        waits_polled : Sets st.waits st_polled.waits f (Some y)
-        waits_polled = kept-changed a.waits.entries ws' f (Some y) writes
+        waits_polled : Puts st.waits st_polled.waits f (Some y)
+        waits_polled = kept-puts a.waits.entries ws' f (Some y) writes
 
         others : (j : ℕ) → (f ≡ j → ⊥) → slots_of st_polled.waits j ≡ slots_of st.waits j
-        others = slots_other st.waits st_polled.waits f (Some y) waits_polled
+        others = slots_other slot_entry st.waits st_polled.waits f (Some y) waits_polled
 
         slot_is : slots_of st_polled.waits f ≡ Some (g, slot_after s x.wait)
-        slot_is = slots_there st.waits st_polled.waits f (Some y) waits_polled ∙ (λ j. Some (stays j, registers.slot_is j))
+        slot_is = slots_there slot_entry st.waits st_polled.waits f (Some y) waits_polled ∙ (λ j. Some (stays j, registers.slot_is j))
 
         named_polled : AreNamed (slots_of st_polled.waits) (i + 1)
         named_polled = named-registers (slots_of st.waits) (slots_of st_polled.waits) n (i + 1) f k.named (omega (arith, less)) others g x.wait s given slot_was slot_is
@@ -623,14 +624,14 @@ module _ (a : Inside) (v : Part Groups) (i : ℕ) (seen : seen_in a ≡ v) (k : 
         abbrev fewer_entry : GroupEntry
         fewer_entry = record e { waits = e.waits - 1 }
 
-        waits_gone : Sets st.waits st_gone.waits f None
-        waits_gone = kept-changed a.waits.entries ws' f None gone
+        waits_gone : Puts st.waits st_gone.waits f None
+        waits_gone = kept-puts a.waits.entries ws' f None gone
 
         others_gone : (j : ℕ) → (f ≡ j → ⊥) → slots_of st_gone.waits j ≡ slots_of st.waits j
-        others_gone = slots_other st.waits st_gone.waits f None waits_gone
+        others_gone = slots_other slot_entry st.waits st_gone.waits f None waits_gone
 
         slot_gone : slots_of st_gone.waits f ≡ None
-        slot_gone = slots_there st.waits st_gone.waits f None waits_gone
+        slot_gone = slots_there slot_entry st.waits st_gone.waits f None waits_gone
 
         named_gone : AreNamed (slots_of st_gone.waits) (i + 1)
         named_gone = named-ends (slots_of st.waits) (slots_of st_gone.waits) n (i + 1) f k.named (omega (arith, less)) others_gone slot_gone
@@ -643,7 +644,7 @@ module _ (a : Inside) (v : Part Groups) (i : ℕ) (seen : seen_in a ≡ v) (k : 
         change_gone : Changes st st_gone n (i + 1) g i f (Some e) fewer_entry None None (Some x) None
         change_gone = record {
           was = entry_there;
-          groups = kept-changed a.groups.entries gs' g (left fewer_entry) (subst (λ (u : GroupEntry). ChangesAt a.groups.entries gs' g (left u)) is_fewer puts);
+          groups = kept-puts a.groups.entries gs' g (left fewer_entry) (subst (λ (u : GroupEntry). ChangesAt a.groups.entries gs' g (left u)) is_fewer puts);
           handle_was = no_handle;
           handles = same_handles;
           wait_was = wait_there;

@@ -16,7 +16,7 @@ use Rattle.mea_meet.specs.declared.groups.GroupEntry.{GroupEntry}
 use Rattle.mea_meet.specs.declared.groups.GroupWaitEntry.{GroupWaitEntry}
 use Rattle.mea_meet.specs.declared.groups.GroupHall.TheInside.{Inside}
 use Rattle.mea_meet.proofs.Names.{waiting-wakers}
-use Rattle.mea_meet.proofs.Stores.{ChangesAt, kept-at, kept-unchanged, get-seen, seen-none, is_some-map, not_none}
+use Rattle.mea_meet.proofs.Maps.{ChangesAt, kept-at, kept-unchanged, get-seen, seen-none, is_some-map, not_none}
 use Rattle.mea_meet.proofs.GroupChanges.{slot_entry, group_seen, wakers_within}
 use Rattle.mea_meet.proofs.GroupPlays.{store_in, seen_in, IsKeptIn}
 

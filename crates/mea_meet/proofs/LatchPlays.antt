@@ -25,7 +25,7 @@ use Rattle.mea_meet.specs.LatchHall.{Store, slot_of, slots_of, latch_of, wait_of
 use Rattle.mea_meet.specs.declared.latches.LatchEntry.{LatchEntry}
 use Rattle.mea_meet.specs.declared.latches.LatchWaitEntry.{LatchWaitEntry}
 use Rattle.mea_meet.proofs.Names.{waiting-alike, waiting-registers, waiting-ends, named-new, named-ends, named-registers, given-registers, given-with, waiting-wakers, given-drained}
-use Rattle.mea_meet.proofs.LatchMaps.{changed-over, at_same, at_apart, changed-there, changed-other, changed-put, changed-gone, same-again, total-most}
+use Rattle.mea_meet.proofs.Maps.{at_same, at_apart, put_here, put_other, is_insert, is_remove, weight-within, is_same, puts_over}
 use Rattle.mea_meet.proofs.LatchStore.{slot_in, slot_other, slot_was, slot_now, waits_after, waiting_other, waits_other, plain_other, others_other, waits_mine, plain_mine, latch_seen, wait_seen, registered_seen, waits_seen, later_kept, later_seen, Changes, kept_after, latches_after, registered_after, given_to, given_all}
 
 -- ---- what an event came to
@@ -99,8 +99,8 @@ module _ (st : Store) (b : ℕ) (k : IsKept st b) (ls' : FinMap nat_cmp LatchEnt
   given_after e d there stays own g x at_l is = (d, refl, by_test (f == g) refl)
     where
       by_test : (t : Bool) → (f == g) ≡ t → has_given d.core.count.waiting x.wait ≡ true
-      by_test true h = own x (sym (changed-there st.waits ws' f o' now) ∙ ap (get ws') (eqb-true f g h) ∙ is)
-      by_test false h = stays x (given_to st b l e k there g x (sym (changed-other st.waits ws' f o' now g (eqb-false f g h)) ∙ is) (sym at_l))
+      by_test true h = own x (sym (put_here st.waits ws' f o' now) ∙ ap (get ws') (eqb-true f g h) ∙ is)
+      by_test false h = stays x (given_to st b l e k there g x (sym (put_other st.waits ws' f o' now g (eqb-false f g h)) ∙ is) (sym at_l))
 
 -- ---- a latch that has neither a name nor a future is taken away
 module _ (st : Store) (b : ℕ) (k : IsKept st b) (ls' : FinMap nat_cmp LatchEntry) (l : ℕ) (e : LatchEntry) (there : get st.latches l ≡ Some e) (latches : (q : ℕ) → get ls' q ≡ cond (l == q) (tidied e) (get st.latches q)) where
@@ -114,7 +114,7 @@ module _ (st : Store) (b : ℕ) (k : IsKept st b) (ls' : FinMap nat_cmp LatchEnt
   no_futures : e.waits ≡ 0 → (f : ℕ) (x : LatchWaitEntry) → l ≡ x.latch → get st.waits f ≡ Some x → ⊥
   no_futures none f x own is =
       let all = (k.each l e there).waits in
-      let most = total-most (λ g (y : LatchWaitEntry). cond (y.latch == l) 1 0) st.waits f x is in
+      let most = weight-within (λ g (y : LatchWaitEntry). cond (y.latch == l) 1 0) st.waits f x is in
       let one : ◌≡◌ {A = ℕ} (cond (x.latch == l) 1 0) 1 = at_same x.latch l 1 0 (sym own) in
       absurd (omega (arith, none, all, most, one))
 
@@ -143,8 +143,8 @@ module _ (st : Store) (b : ℕ) (k : IsKept st b) (ls' : FinMap nat_cmp LatchEnt
       test_is = (λ j. named_is st b l e there j || nat_lt 0 ((waits_seen st b l ∙ sym (k.each l e there).waits) j))
 
       by_test : (t : Bool) → ((q : ℕ) → get (latches_of tidy_store b).latches q ≡ cond (l == q) (option_map (latch_of st.waits b l) (if t then Some e else None)) (get (latches_of st b).latches q)) → latches_of tidy_store b ≡ (if t then latches_of st b else record (latches_of st b) { latches = remove (latches_of st b).latches l })
-      by_test true now = λ j. record { latches = same-again (latches_of st b).latches (latches_of tidy_store b).latches l (latch_of st.waits b l e) (latch_there st b l e there) now j; waits = (latches_of st b).waits }
-      by_test false now = λ j. record { latches = changed-gone (latches_of st b).latches (latches_of tidy_store b).latches l now j; waits = (latches_of st b).waits }
+      by_test true now = λ j. record { latches = is_same (latches_of st b).latches (latches_of tidy_store b).latches l (Some (latch_of st.waits b l e)) (latch_there st b l e there) now j; waits = (latches_of st b).waits }
+      by_test false now = λ j. record { latches = is_remove (latches_of st b).latches (latches_of tidy_store b).latches l now j; waits = (latches_of st b).waits }
 
   pub tidy_counted : registered (latches_of tidy_store b) + let_go e ≡ registered (latches_of st b)
   tidy_counted =
@@ -230,7 +230,7 @@ module _ (st : Store) (next i : ℕ) (k : IsKept st next) (less : next ≤ i) (l
       let sums = registered_after st st' (i + 1) i (Some (made n)) k1 c in
       let none : weight (λ q (d : LatchEntry). length d.core.count.waiting.wakers) i (get st.latches i) ≡ 0 = ap (weight (λ q (d : LatchEntry). length d.core.count.waiting.wakers) i) no_latch in
       rested st' (λ h. model.make h i n) answers.Made (kept_after st st' (i + 1) i (Some (made n)) k1 c)
-      (λ j. record { latches = changed-put now.latches (latches_of st' (i + 1)).latches i (model.new_latch n) (latches_after st st' (i + 1) i (Some (made n)) k1 c) j; waits = now.waits })
+      (λ j. record { latches = is_insert now.latches (latches_of st' (i + 1)).latches i (model.new_latch n) (latches_after st st' (i + 1) i (Some (made n)) k1 c) j; waits = now.waits })
       refl refl (omega (arith, sums, none))
 
   -- ---- a latch becomes another that has the same futures
@@ -259,11 +259,11 @@ module _ (st : Store) (next i : ℕ) (k : IsKept st next) (less : next ≤ i) (l
       let sums = registered_after st st' (i + 1) l (Some d) k1 c in
       let was : weight (λ q (y : LatchEntry). length y.core.count.waiting.wakers) l (get st.latches l) ≡ length e.core.count.waiting.wakers = ap (weight (λ q (y : LatchEntry). length y.core.count.waiting.wakers) l) there in
       let all : length (if cores.ends e.core.count n then drained e.core.count.waiting else e.core.count.waiting).wakers + length (cores.woken_by e.core.count n) ≡ length e.core.count.waiting.wakers = by_count (cores.ends e.core.count n) in
-      let part = total-most (λ q (y : LatchEntry). length y.core.count.waiting.wakers) st.latches l e there in
+      let part = weight-within (λ q (y : LatchEntry). length y.core.count.waiting.wakers) st.latches l e there in
       let seen = registered_seen st next in
       let fewer : after.registered ≡ before.registered - length (cores.woken_by e.core.count n) = ap (λ (r : Waking ℕ). r.registered) ready in
       yielded st' (λ h. model.arrive h l n) answers.Done before after (kept_after st st' (i + 1) l (Some d) k1 c)
-      ((λ j. record { latches = changed-put now.latches (latches_of st' (i + 1)).latches l (latch_of st.waits (i + 1) l d) (latches_after st st' (i + 1) l (Some d) k1 c) j; waits = now.waits })
+      ((λ j. record { latches = is_insert now.latches (latches_of st' (i + 1)).latches l (latch_of st.waits (i + 1) l d) (latches_after st st' (i + 1) l (Some d) k1 c) j; waits = now.waits })
       ∙ ap (λ r. model.with_latch now l r) (seen_arrived ∙ ap (λ (r : Latch). record r { count = counts.decreased r.count n }) (sym (latch_is st (i + 1) l e there))))
       refl
       (ap (λ (r : Waking ℕ). r.wakers) ready ∙ ap (λ v. before.wakers ++ v) (seen_woken ∙ ap (λ (r : Latch). counts.woken_by r.count n) (sym (latch_is st (i + 1) l e there))))
@@ -301,9 +301,9 @@ module _ (st : Store) (next i : ℕ) (k : IsKept st next) (less : next ≤ i) (l
       let put : (q : ℕ) → get (insert st.latches l d) q ≡ cond (l == q) (Some d) (get st.latches q) = λ q. get_inserted st.latches l q d in
       let c = becomes (insert st.latches l d) l e d there put (k1.each l e there).quiet refl refl (λ x given. given) in
       let kept = kept_after st mid (i + 1) l (Some d) k1 c in
-      let mid_there = changed-there st.latches (insert st.latches l d) l (Some d) put in
-      let last : (q : ℕ) → get ls' q ≡ cond (l == q) (tidied d) (get (insert st.latches l d) q) = λ q. latches q ∙ sym (changed-over st.latches l d (tidied d) q) in
-      let mid_hall : latches_of mid (i + 1) ≡ model.with_latch now l (record (model.latch_at now l) { named = false }) = (λ j. record { latches = changed-put now.latches (latches_of mid (i + 1)).latches l (latch_of st.waits (i + 1) l d) (latches_after st mid (i + 1) l (Some d) k1 c) j; waits = now.waits })
+      let mid_there = put_here st.latches (insert st.latches l d) l (Some d) put in
+      let last : (q : ℕ) → get ls' q ≡ cond (l == q) (tidied d) (get (insert st.latches l d) q) = puts_over st.latches ls' l d (tidied d) latches in
+      let mid_hall : latches_of mid (i + 1) ≡ model.with_latch now l (record (model.latch_at now l) { named = false }) = (λ j. record { latches = is_insert now.latches (latches_of mid (i + 1)).latches l (latch_of st.waits (i + 1) l d) (latches_after st mid (i + 1) l (Some d) k1 c) j; waits = now.waits })
       ∙ ap (λ (r : Latch). model.with_latch now l (record r { named = false })) (sym (latch_is st (i + 1) l e there)) in
       let sums = registered_after st mid (i + 1) l (Some d) k1 c in
       let was : weight (λ q (y : LatchEntry). length y.core.count.waiting.wakers) l (get st.latches l) ≡ length e.core.count.waiting.wakers = ap (weight (λ q (y : LatchEntry). length y.core.count.waiting.wakers) l) there in
@@ -384,8 +384,8 @@ module _ (st : Store) (next i : ℕ) (k : IsKept st next) (less : next ≤ i) (l
         let was : weight (λ q (y : LatchEntry). length y.core.count.waiting.wakers) l (get st.latches l) ≡ length e.core.count.waiting.wakers = ap (weight (λ q (y : LatchEntry). length y.core.count.waiting.wakers) l) there in
         rested begun_store (λ h. model.wait h i l plain) answers.Made (kept_after st begun_store (i + 1) l (Some (begun e plain)) k1 begun_changes)
         (λ j. record {
-          latches = same-again now.latches (latches_of begun_store (i + 1)).latches l (latch_of st.waits (i + 1) l e) (latch_there st (i + 1) l e there) (λ q. latches_after st begun_store (i + 1) l (Some (begun e plain)) k1 begun_changes q ∙ ap (λ r. cond (l == q) (Some r) (get now.latches q)) begun_seen) j;
-          waits = changed-put now.waits (latches_of begun_store (i + 1)).waits i (record { latch = l; plain = plain }) (waits_after st ls' ws' (i + 1) i (Some (new_wait l plain)) waits) j;
+          latches = is_same now.latches (latches_of begun_store (i + 1)).latches l (Some (latch_of st.waits (i + 1) l e)) (latch_there st (i + 1) l e there) (λ q. latches_after st begun_store (i + 1) l (Some (begun e plain)) k1 begun_changes q ∙ ap (λ r. cond (l == q) (Some r) (get now.latches q)) begun_seen) j;
+          waits = is_insert now.waits (latches_of begun_store (i + 1)).waits i (record { latch = l; plain = plain }) (waits_after st ls' ws' (i + 1) i (Some (new_wait l plain)) waits) j;
         })
         refl refl (omega (arith, sums, was))
 
@@ -457,8 +457,8 @@ module _ (st : Store) (next i : ℕ) (k : IsKept st next) (less : next ≤ i) (l
         let step = poll_is more in
         yielded polled_store poll_step answers.Pending before after (kept_after st polled_store (i + 1) x.latch (Some (registering_entry e x w)) k1 polled_changes)
         ((λ j. record {
-          latches = (changed-put now.latches (latches_of polled_store (i + 1)).latches x.latch (latch_of ws' (i + 1) x.latch (registering_entry e x w)) (latches_after st polled_store (i + 1) x.latch (Some (registering_entry e x w)) k1 polled_changes) ∙ ap (insert now.latches x.latch) polled_seen) j;
-          waits = same-again now.waits (latches_of polled_store (i + 1)).waits f (wait_of x) (wait_there st (i + 1) f x is) (waits_after st ls' ws' (i + 1) f (Some (registering_wait e x)) waits) j;
+          latches = (is_insert now.latches (latches_of polled_store (i + 1)).latches x.latch (latch_of ws' (i + 1) x.latch (registering_entry e x w)) (latches_after st polled_store (i + 1) x.latch (Some (registering_entry e x w)) k1 polled_changes) ∙ ap (insert now.latches x.latch) polled_seen) j;
+          waits = is_same now.waits (latches_of polled_store (i + 1)).waits f (Some (wait_of x)) (wait_there st (i + 1) f x is) (waits_after st ls' ws' (i + 1) f (Some (registering_wait e x)) waits) j;
         }) ∙ sym (ap (λ (o : Outcome Latches). o.hall) step))
         (sym (ap (λ (o : Outcome Latches). o.reply) step))
         (ap (λ (r : Waking ℕ). r.wakers) ready ∙ sym (append-nil before.wakers) ∙ ap (λ v. before.wakers ++ v) (sym (ap (λ (o : Outcome Latches). o.wakes) step)))
@@ -509,17 +509,17 @@ module _ (st : Store) (next i : ℕ) (k : IsKept st next) (less : next ≤ i) (l
 
     left_hall : latches_of mid_store (i + 1) ≡ record { latches = insert now.latches x.latch (record (model.latch_at now x.latch) { count = counts.without_future (model.latch_at now x.latch).count f }); waits = remove now.waits f }
     left_hall = λ j. record {
-      latches = (changed-put now.latches (latches_of mid_store (i + 1)).latches x.latch (latch_of ws' (i + 1) x.latch (ended e x.plain)) (latches_after st mid_store (i + 1) x.latch (Some (ended e x.plain)) k1 left_changes)
+      latches = (is_insert now.latches (latches_of mid_store (i + 1)).latches x.latch (latch_of ws' (i + 1) x.latch (ended e x.plain)) (latches_after st mid_store (i + 1) x.latch (Some (ended e x.plain)) k1 left_changes)
           ∙ ap (insert now.latches x.latch) (left_seen ∙ ap (λ (r : Latch). record r { count = counts.without_future r.count f }) (sym (latch_is st (i + 1) x.latch e there)))) j;
-      waits = changed-gone now.waits (latches_of mid_store (i + 1)).waits f (waits_after st mid_latches ws' (i + 1) f None waits) j;
+      waits = is_remove now.waits (latches_of mid_store (i + 1)).waits f (waits_after st mid_latches ws' (i + 1) f None waits) j;
     }
 
     pub leaves : (F : Latches → Outcome Latches) (answer : Answer) (before after : Waking ℕ) → F now ≡ quietly (model.gone now f (wait_of x)) answer → registered (latches_of st next) ≤ before.registered → after ≡ record before { registered = before.registered - let_go (ended e x.plain) }
         → Yielded st (record { latches = ls'; waits = ws' }) next i (F (latches_of st next)) answer before after
     leaves F answer before after step room ready =
         let kept = kept_after st mid_store (i + 1) x.latch (Some (ended e x.plain)) k1 left_changes in
-        let mid_there = changed-there st.latches mid_latches x.latch (Some (ended e x.plain)) put in
-        let last : (q : ℕ) → get ls' q ≡ cond (x.latch == q) (tidied (ended e x.plain)) (get mid_latches q) = λ q. latches q ∙ sym (changed-over st.latches x.latch (ended e x.plain) (tidied (ended e x.plain)) q) in
+        let mid_there = put_here st.latches mid_latches x.latch (Some (ended e x.plain)) put in
+        let last : (q : ℕ) → get ls' q ≡ cond (x.latch == q) (tidied (ended e x.plain)) (get mid_latches q) = puts_over st.latches ls' x.latch (ended e x.plain) (tidied (ended e x.plain)) latches in
         let sums = registered_after st mid_store (i + 1) x.latch (Some (ended e x.plain)) k1 left_changes in
         let was : weight (λ q (y : LatchEntry). length y.core.count.waiting.wakers) x.latch (get st.latches x.latch) ≡ length e.core.count.waiting.wakers = ap (weight (λ q (y : LatchEntry). length y.core.count.waiting.wakers) x.latch) there in
         let gone = tidy_counted mid_store (i + 1) kept ls' x.latch (ended e x.plain) mid_there last in

@@ -26,7 +26,7 @@ use Rattle.mea_meet.specs.LatchHall.{Store, store_of, slot_of, slots_of, latch_o
 use Rattle.mea_meet.specs.declared.latches.LatchEntry.{LatchEntry}
 use Rattle.mea_meet.specs.declared.latches.LatchWaitEntry.{LatchWaitEntry}
 use Rattle.mea_meet.proofs.Names.{waiting-wakers}
-use Rattle.mea_meet.proofs.LatchMaps.{changed-there, same-again, kept-at, found, kept-changed, at_same, total-most}
+use Rattle.mea_meet.proofs.Maps.{put_here, kept-at, found, kept-puts, at_same, weight-within, is_same}
 use Rattle.mea_meet.proofs.LatchStore.{latch_seen, registered_seen, wait_seen, plain_seen, given_to}
 use Rattle.mea_meet.proofs.LatchPlays.{Rested, Yielded, latch_is, named_is, named_not, wait_there, stays, makes, arrives, drops, begins, registering_entry, registering_wait, polls_on, leaves}
 
@@ -92,7 +92,7 @@ module _ (ls : Latchs) (ws : Waits) (next : ℕ) (v : Part Latches) (seen : reco
   -- where a latch is, its wakers are among those that are registered
   pub room_at : (l : ℕ) (e : LatchEntry) → at ls l ≡ Some e → length e.core.count.waiting.wakers ≤ registered v.hall
   room_at l e is =
-      let most = total-most (λ q (y : LatchEntry). length y.core.count.waiting.wakers) (store_of ls ws).latches l e (found ls l e is) in
+      let most = weight-within (λ q (y : LatchEntry). length y.core.count.waiting.wakers) (store_of ls ws).latches l e (found ls l e is) in
       let all = registered_seen (store_of ls ws) next in
       let same : registered (latches_of (store_of ls ws) next) ≡ registered v.hall = ap (λ (p : Part Latches). registered p.hall) seen in
       omega (arith, most, all, same)
@@ -128,8 +128,8 @@ module _ (ls : Latchs) (ws : Waits) (next : ℕ) (v : Part Latches) (seen : reco
       let kept = k.each x.latch e (found ls x.latch e there) in
       let waits = kept.waits in
       let plain = kept.plain in
-      let most = total-most (λ g (y : LatchWaitEntry). cond (y.latch == x.latch) 1 0) (store_of ls ws).waits f x (found ws f x is) in
-      let most_plain = total-most (λ g (y : LatchWaitEntry). cond (y.latch == x.latch && y.plain) 1 0) (store_of ls ws).waits f x (found ws f x is) in
+      let most = weight-within (λ g (y : LatchWaitEntry). cond (y.latch == x.latch) 1 0) (store_of ls ws).waits f x (found ws f x is) in
+      let most_plain = weight-within (λ g (y : LatchWaitEntry). cond (y.latch == x.latch && y.plain) 1 0) (store_of ls ws).waits f x (found ws f x is) in
       let one : ◌≡◌ {A = ℕ} (cond (x.latch == x.latch) 1 0) 1 = at_same x.latch x.latch 1 0 refl in
       let one_plain : ◌≡◌ {A = ℕ} (cond (x.latch == x.latch && x.plain) 1 0) (cond x.plain 1 0) = ap (λ t. cond (t && x.plain) 1 0) (eq-eqb x.latch x.latch refl) in
       let all = room_at x.latch e there in
@@ -159,20 +159,13 @@ of_both ls ws f x e P is there holds =
 
 -- ---- changes of lists of entries
 pub changed_at : {X : Type 0} (old new : List (ℕ × X)) (k : ℕ) (o : Option X) → ChangesAt old new k o → at new k ≡ o
-changed_at old new k o change = sym (kept-at new k) ∙ changed-there (named (λ q x. x) old) (named (λ q x. x) new) k o (kept-changed old new k o change)
-
-pub changes_over : {X : Type 0} (old mid new : List (ℕ × X)) (k : ℕ) (o p : Option X) → ChangesAt old mid k o → ChangesAt mid new k p → ChangesAt old new k p
-changes_over old mid new k o p first second q = second q ∙ ap (cond (is_at (nat_cmp k) q) p) (first q) ∙ by_test (is_at (nat_cmp k) q)
-  where
-    by_test : (t : Bool) → cond t p (cond t o (at old q)) ≡ cond t p (at old q)
-    by_test true = refl
-    by_test false = refl
+changed_at old new k o change = sym (kept-at new k) ∙ put_here (named (λ q x. x) old) (named (λ q x. x) new) k o (kept-puts old new k o change)
 
 -- what stands at its names is put there again
 pub same_store : (ls ls' : Latchs) (ws ws' : Waits) (l f : ℕ) (e d : LatchEntry) (x y : LatchWaitEntry) → at ls l ≡ Some e → at ws f ≡ Some x → ChangesAt ls ls' l (Some d) → d ≡ e → ChangesAt ws ws' f (Some y) → y ≡ x → store_of ls' ws' ≡ store_of ls ws
 same_store ls ls' ws ws' l f e d x y there is change same change_wait same_wait = λ j. record {
-  latches = same-again (store_of ls ws).latches (store_of ls' ws').latches l e (found ls l e there) (λ q. kept-changed ls ls' l (Some d) change q ∙ ap (λ z. cond (l == q) (Some z) (get (store_of ls ws).latches q)) same) j;
-  waits = same-again (store_of ls ws).waits (store_of ls' ws').waits f x (found ws f x is) (λ g. kept-changed ws ws' f (Some y) change_wait g ∙ ap (λ z. cond (f == g) (Some z) (get (store_of ls ws).waits g)) same_wait) j;
+  latches = is_same (store_of ls ws).latches (store_of ls' ws').latches l (Some e) (found ls l e there) (λ q. kept-puts ls ls' l (Some d) change q ∙ ap (λ z. cond (l == q) (Some z) (get (store_of ls ws).latches q)) same) j;
+  waits = is_same (store_of ls ws).waits (store_of ls' ws').waits f (Some x) (found ws f x is) (λ g. kept-puts ws ws' f (Some y) change_wait g ∙ ap (λ z. cond (f == g) (Some z) (get (store_of ls ws).waits g)) same_wait) j;
 }
 
 -- where an insertion fails, all is as it was
@@ -223,7 +216,7 @@ module _ (ls : Latchs) (ws : Waits) (next i : ℕ) (v : Part Latches) (seen : re
 
   pub makes_at : (ls' : Latchs) (n : ℕ) (c : Counting ℕ) → c ≡ record { count = count_from n; wakes = [] } → ChangesAt ls ls' i (Some (record { core = c; named = true; waits = 0; plain = 0 })) → RestedAt v (store_of ls' ws) i (model.make v.hall i n) answers.Made
   makes_at ls' n c new change = rested_at (store_of ls' ws) (λ h. model.make h i n) answers.Made (makes (store_of ls ws) next i k less low (store_of ls' ws).latches n
-      (λ q. kept-changed ls ls' i (Some (record { core = c; named = true; waits = 0; plain = 0 })) change q ∙ ap (λ d. cond (i == q) (Some (record { core = d; named = true; waits = 0; plain = 0 })) (get (store_of ls ws).latches q)) new))
+      (λ q. kept-puts ls ls' i (Some (record { core = c; named = true; waits = 0; plain = 0 })) change q ∙ ap (λ d. cond (i == q) (Some (record { core = d; named = true; waits = 0; plain = 0 })) (get (store_of ls ws).latches q)) new))
 
   pub counts_at : (l m : ℕ) (e : LatchEntry) → at ls l ≡ Some e → m ≡ e.core.count.number → RestedAt v (store_of ls ws) i (model.count v.hall l) (answers.Count m)
   counts_at l m e is told = rested_at (store_of ls ws) (λ h. model.count h l) (answers.Count m) (stays (store_of ls ws) next i k less low (λ h. model.count h l) (answers.Count m) refl refl
@@ -240,29 +233,29 @@ module _ (ls : Latchs) (ws : Waits) (next i : ℕ) (v : Part Latches) (seen : re
   pub arrives_at : (ls' : Latchs) (l n : ℕ) (e d : LatchEntry) (before after : Waking ℕ) → at ls l ≡ Some e → d ≡ record e { core = record { count = cores.decreased e.core.count n; wakes = [] } } → ChangesAt ls ls' l (Some d) → registered v.hall ≤ before.registered
       → after ≡ record { wakers = before.wakers ++ cores.woken_by e.core.count n; registered = before.registered - length (cores.woken_by e.core.count n) } → YieldedAt v (store_of ls' ws) i (model.arrive v.hall l n) answers.Done before after
   arrives_at ls' l n e d before after is new change room ready = yielded_at (store_of ls' ws) (λ h. model.arrive h l n) answers.Done before after (arrives (store_of ls ws) next i k less low (store_of ls' ws).latches l n e before after (found ls l e is)
-      (λ q. kept-changed ls ls' l (Some d) change q ∙ ap (λ y. cond (l == q) (Some y) (get (store_of ls ws).latches q)) new) (room_then before.registered room) ready)
+      (λ q. kept-puts ls ls' l (Some d) change q ∙ ap (λ y. cond (l == q) (Some y) (get (store_of ls ws).latches q)) new) (room_then before.registered room) ready)
 
   pub drops_at : (ls' : Latchs) (l : ℕ) (e : LatchEntry) (before after : Waking ℕ) → at ls l ≡ Some e → ChangesAt ls ls' l (tidied (record e { named = false })) → registered v.hall ≤ before.registered
       → after ≡ record before { registered = before.registered - let_go (record e { named = false }) } → YieldedAt v (store_of ls' ws) i (model.drop v.hall l) answers.Done before after
   drops_at ls' l e before after is change room ready = yielded_at (store_of ls' ws) (λ h. model.drop h l) answers.Done before after (drops (store_of ls ws) next i k less low (store_of ls' ws).latches l e before after (found ls l e is)
-      (kept-changed ls ls' l (tidied (record e { named = false })) change) (room_then before.registered room) ready)
+      (kept-puts ls ls' l (tidied (record e { named = false })) change) (room_then before.registered room) ready)
 
   pub begins_at : (ls' : Latchs) (ws' : Waits) (l : ℕ) (plain : Bool) (e d : LatchEntry) (x : LatchWaitEntry) → at ls l ≡ Some e → d ≡ begun e plain → ChangesAt ls ls' l (Some d) → x ≡ record { latch = l; wait = None; plain = plain } → ChangesAt ws ws' i (Some x)
       → RestedAt v (store_of ls' ws') i (model.wait v.hall i l plain) answers.Made
   begins_at ls' ws' l plain e d x is new change future put = rested_at (store_of ls' ws') (λ h. model.wait h i l plain) answers.Made (begins (store_of ls ws) next i k less low (store_of ls' ws').latches (store_of ls' ws').waits l plain e (found ls l e is)
-      (λ q. kept-changed ls ls' l (Some d) change q ∙ ap (λ y. cond (l == q) (Some y) (get (store_of ls ws).latches q)) new)
-      (λ g. kept-changed ws ws' i (Some x) put g ∙ ap (λ y. cond (i == g) (Some y) (get (store_of ls ws).waits g)) future))
+      (λ q. kept-puts ls ls' l (Some d) change q ∙ ap (λ y. cond (l == q) (Some y) (get (store_of ls ws).latches q)) new)
+      (λ g. kept-puts ws ws' i (Some x) put g ∙ ap (λ y. cond (i == g) (Some y) (get (store_of ls ws).waits g)) future))
 
   pub ends_at : (ls' : Latchs) (ws' : Waits) (f : ℕ) (x : LatchWaitEntry) (e : LatchEntry) (before after : Waking ℕ) → at ws f ≡ Some x → at ls x.latch ≡ Some e → registered v.hall ≤ before.registered → EndsIn ls ws f x e before ls' ws' after
       → YieldedAt v (store_of ls' ws') i (model.end_of v.hall f (get v.hall.waits f)) answers.Done before after
   ends_at ls' ws' f x e before after is there room ends = yielded_at (store_of ls' ws') (λ h. model.end_of h f (get h.waits f)) answers.Done before after (leaves (store_of ls ws) next i k less low (store_of ls' ws').latches (store_of ls' ws').waits f x e (found ws f x is) (found ls x.latch e there)
-      (kept-changed ls ls' x.latch (tidied (ended e x.plain)) ends.latches) (kept-changed ws ws' f None ends.waits) (λ h. model.end_of h f (get h.waits f)) answers.Done before after
+      (kept-puts ls ls' x.latch (tidied (ended e x.plain)) ends.latches) (kept-puts ws ws' f None ends.waits) (λ h. model.end_of h f (get h.waits f)) answers.Done before after
       (ap (model.end_of (latches_of (store_of ls ws) (i + 1)) f) (wait_there (store_of ls ws) (i + 1) f x (found ws f x is))) (room_then before.registered room) ends.ready)
 
   pub readies_at : (ls' : Latchs) (ws' : Waits) (f w : ℕ) (x : LatchWaitEntry) (e : LatchEntry) (before after : Waking ℕ) → at ws f ≡ Some x → at ls x.latch ≡ Some e → e.core.count.number ≡ 0 → registered v.hall ≤ before.registered → EndsIn ls ws f x e before ls' ws' after
       → YieldedAt v (store_of ls' ws') i (model.poll_of v.hall f w (get v.hall.waits f)) answers.Ready before after
   readies_at ls' ws' f w x e before after is there over room ends = yielded_at (store_of ls' ws') (λ h. model.poll_of h f w (get h.waits f)) answers.Ready before after (leaves (store_of ls ws) next i k less low (store_of ls' ws').latches (store_of ls' ws').waits f x e (found ws f x is) (found ls x.latch e there)
-      (kept-changed ls ls' x.latch (tidied (ended e x.plain)) ends.latches) (kept-changed ws ws' f None ends.waits) (λ h. model.poll_of h f w (get h.waits f)) answers.Ready before after step (room_then before.registered room) ends.ready)
+      (kept-puts ls ls' x.latch (tidied (ended e x.plain)) ends.latches) (kept-puts ws ws' f None ends.waits) (λ h. model.poll_of h f w (get h.waits f)) answers.Ready before after step (room_then before.registered room) ends.ready)
     where
       step : model.poll_of (latches_of (store_of ls ws) (i + 1)) f w (get (latches_of (store_of ls ws) (i + 1)).waits f) ≡ quietly (model.gone (latches_of (store_of ls ws) (i + 1)) f (wait_of x)) answers.Ready
       step = ap (model.poll_of (latches_of (store_of ls ws) (i + 1)) f w) (wait_there (store_of ls ws) (i + 1) f x (found ws f x is))
@@ -276,8 +269,8 @@ module _ (ls : Latchs) (ws : Waits) (next i : ℕ) (v : Part Latches) (seen : re
       let entry : polls.entry ≡ registering_entry e x w = polls.entry_is ∙ ap (λ (c : Counting ℕ). record e { core = c }) p.1 in
       let future : polls.future ≡ registering_wait e x = polls.future_is ∙ ap (λ s. record x { wait = s }) p.2 in
       yielded_at (store_of ls' ws') (λ h. model.poll_of h f w (get h.waits f)) answers.Pending before after (polls_on (store_of ls ws) next i k less low (store_of ls' ws').latches (store_of ls' ws').waits f w x e (found ws f x is) (found ls x.latch e there)
-      (λ q. kept-changed ls ls' x.latch (Some polls.entry) polls.latches q ∙ ap (λ y. cond (x.latch == q) (Some y) (get (store_of ls ws).latches q)) entry)
-      (λ g. kept-changed ws ws' f (Some polls.future) polls.waits g ∙ ap (λ y. cond (f == g) (Some y) (get (store_of ls ws).waits g)) future)
+      (λ q. kept-puts ls ls' x.latch (Some polls.entry) polls.latches q ∙ ap (λ y. cond (x.latch == q) (Some y) (get (store_of ls ws).latches q)) entry)
+      (λ g. kept-puts ws ws' f (Some polls.future) polls.waits g ∙ ap (λ y. cond (f == g) (Some y) (get (store_of ls ws).waits g)) future)
       before after p.0 p.3)
 
 -- ---- a poll that is ready or fails changes nothing

@@ -15,7 +15,7 @@ use Rattle.mea_meet.specs.LatchHall.{Store, slot_of, slots_of, latch_of, wait_of
 use Rattle.mea_meet.specs.declared.latches.LatchEntry.{LatchEntry}
 use Rattle.mea_meet.specs.declared.latches.LatchWaitEntry.{LatchWaitEntry}
 use Rattle.mea_meet.proofs.Names.{waiting-length, waiting-alike, named-later}
-use Rattle.mea_meet.proofs.LatchMaps.{at_same, at_apart, get-seen, changed-there, changed-other, total-changed}
+use Rattle.mea_meet.proofs.Maps.{at_same, at_apart, get-seen, put_here, put_other, total_puts}
 
 -- the parts of what a future's slot is
 abbrev name_in : ℕ → Option (ℕ × Option Place) → ℕ
@@ -111,10 +111,10 @@ module _ (st st' : Store) (b l : ℕ) (e' : Option LatchEntry) (k : IsKept st b)
       by_test : (t : Bool) → (l == q) ≡ t → IsKeptEntry st' b q e
       by_test true h =
           let same : l ≡ q = eqb-true l q h in
-          subst (λ p. IsKeptEntry st' b p e) same (c.kept e (sym (changed-there st.latches st'.latches l e' c.latches) ∙ ap (get st'.latches) same ∙ is))
+          subst (λ p. IsKeptEntry st' b p e) same (c.kept e (sym (put_here st.latches st'.latches l e' c.latches) ∙ ap (get st'.latches) same ∙ is))
       by_test false h =
           let apart : l ≡ q → ⊥ = eqb-false l q h in
-          let old = k.each q e (sym (changed-other st.latches st'.latches l e' c.latches q apart) ∙ is) in
+          let old = k.each q e (sym (put_other st.latches st'.latches l e' c.latches q apart) ∙ is) in
           record { quiet = old.quiet; waits = old.waits ∙ sym (c.waits q apart); plain = old.plain ∙ sym (c.plain q apart); few = old.few; few_plain = old.few_plain; below = old.below }
 
   home_after : (f : ℕ) (x : LatchWaitEntry) → get st'.waits f ≡ Some x → IsHome st' x
@@ -124,11 +124,11 @@ module _ (st st' : Store) (b l : ℕ) (e' : Option LatchEntry) (k : IsKept st b)
       by_test true h =
           let same : l ≡ x.latch = eqb-true l x.latch h in
           let m = c.mine f x same is in
-          record { entry = m.0; there = ap (get st'.latches) (sym same) ∙ changed-there st.latches st'.latches l e' c.latches ∙ m.1; given = m.2 }
+          record { entry = m.0; there = ap (get st'.latches) (sym same) ∙ put_here st.latches st'.latches l e' c.latches ∙ m.1; given = m.2 }
       by_test false h =
           let apart : l ≡ x.latch → ⊥ = eqb-false l x.latch h in
           let old = k.home f x (c.others f x apart is) in
-          record { entry = old.entry; there = changed-other st.latches st'.latches l e' c.latches x.latch apart ∙ old.there; given = old.given }
+          record { entry = old.entry; there = put_other st.latches st'.latches l e' c.latches x.latch apart ∙ old.there; given = old.given }
 
   pub kept_after : IsKept st' b
   kept_after = record { each = each_after; home = home_after; named = c.named; low = k.low }
@@ -149,20 +149,20 @@ module _ (st st' : Store) (b l : ℕ) (e' : Option LatchEntry) (k : IsKept st b)
   registered_after =
       let after = registered_seen st' b in
       let before = registered_seen st b in
-      let sums = total-changed (λ q (e : LatchEntry). length e.core.count.waiting.wakers) st.latches st'.latches l e' c.latches in
+      let sums = total_puts st.latches st'.latches l (λ q (e : LatchEntry). length e.core.count.waiting.wakers) e' c.latches in
       omega (arith, after, before, sums)
 
 -- ---- a future f becomes this, or is gone
 module _ (ws ws' : Kept) (f : ℕ) (o o' : Option LatchWaitEntry) (was : get ws f ≡ o) (now : (g : ℕ) → get ws' g ≡ cond (f == g) o' (get ws g)) where
   -- the slots, before and after
   pub slot_other : (g : ℕ) → (f ≡ g → ⊥) → slots_of ws' g ≡ slots_of ws g
-  slot_other g apart = ap (option_map slot_of) (changed-other ws ws' f o' now g apart)
+  slot_other g apart = ap (option_map slot_of) (put_other ws ws' f o' now g apart)
 
   pub slot_was : slots_of ws f ≡ option_map slot_of o
   slot_was = ap (option_map slot_of) was
 
   pub slot_now : slots_of ws' f ≡ option_map slot_of o'
-  slot_now = ap (option_map slot_of) (changed-there ws ws' f o' now)
+  slot_now = ap (option_map slot_of) (put_here ws ws' f o' now)
 
 -- the futures as they are seen after it
 pub waits_after : (st : Store) (ls' : FinMap nat_cmp LatchEntry) (ws' : Kept) (b f : ℕ) (o' : Option LatchWaitEntry) → ((g : ℕ) → get ws' g ≡ cond (f == g) o' (get st.waits g)) → (g : ℕ) → get (latches_of (record { latches = ls'; waits = ws' }) b).waits g ≡ cond (f == g) (option_map wait_of o') (get (latches_of st b).waits g)
@@ -179,15 +179,15 @@ module _ (ws ws' : Kept) (b l f : ℕ) (o o' : Option LatchWaitEntry) (named : A
   other_wait q g x apart at_q is = by_test (f == g) refl
     where
       by_test : (t : Bool) → (f == g) ≡ t → get ws g ≡ Some x
-      by_test true h = absurd (apart (sym (mine' x (sym (changed-there ws ws' f o' now) ∙ ap (get ws') (eqb-true f g h) ∙ is)) ∙ at_q))
-      by_test false h = sym (changed-other ws ws' f o' now g (eqb-false f g h)) ∙ is
+      by_test true h = absurd (apart (sym (mine' x (sym (put_here ws ws' f o' now) ∙ ap (get ws') (eqb-true f g h) ∙ is)) ∙ at_q))
+      by_test false h = sym (put_other ws ws' f o' now g (eqb-false f g h)) ∙ is
 
   pub other_wait_back : (q g : ℕ) (x : LatchWaitEntry) → (l ≡ q → ⊥) → x.latch ≡ q → get ws g ≡ Some x → get ws' g ≡ Some x
   other_wait_back q g x apart at_q is = by_test (f == g) refl
     where
       by_test : (t : Bool) → (f == g) ≡ t → get ws' g ≡ Some x
       by_test true h = absurd (apart (sym (mine x (sym was ∙ ap (get ws) (eqb-true f g h) ∙ is)) ∙ at_q))
-      by_test false h = changed-other ws ws' f o' now g (eqb-false f g h) ∙ is
+      by_test false h = put_other ws ws' f o' now g (eqb-false f g h) ∙ is
 
   pub waiting_other : (q : ℕ) (s : Registered ℕ) → (l ≡ q → ⊥) → waiting_at (slots_of ws') b q s ≡ waiting_at (slots_of ws) b q s
   waiting_other q s apart = waiting-alike (slots_of ws) (slots_of ws') b b q s named named'
@@ -225,7 +225,7 @@ module _ (ws ws' : Kept) (b l f : ℕ) (o o' : Option LatchWaitEntry) (named : A
   -- the sums over the futures of l itself
   pub waits_mine : waits_in ws' l + cond (is_some o) 1 0 ≡ waits_in ws l + cond (is_some o') 1 0
   waits_mine =
-      let sums = total-changed (λ g (x : LatchWaitEntry). cond (x.latch == l) 1 0) ws ws' f o' now in
+      let sums = total_puts ws ws' f (λ g (x : LatchWaitEntry). cond (x.latch == l) 1 0) o' now in
       let old : weight (λ g (x : LatchWaitEntry). cond (x.latch == l) 1 0) f (get ws f) ≡ cond (is_some o) 1 0 = ap (weight (λ g (x : LatchWaitEntry). cond (x.latch == l) 1 0) f) was ∙ weighs o mine in
       let new : weight (λ g (x : LatchWaitEntry). cond (x.latch == l) 1 0) f o' ≡ cond (is_some o') 1 0 = weighs o' mine' in
       omega (arith, sums, old, new)
@@ -236,7 +236,7 @@ module _ (ws ws' : Kept) (b l f : ℕ) (o o' : Option LatchWaitEntry) (named : A
 
   pub plain_mine : plain_in ws' l + plain_of o ≡ plain_in ws l + plain_of o'
   plain_mine =
-      let sums = total-changed (λ g (x : LatchWaitEntry). cond (x.latch == l && x.plain) 1 0) ws ws' f o' now in
+      let sums = total_puts ws ws' f (λ g (x : LatchWaitEntry). cond (x.latch == l && x.plain) 1 0) o' now in
       let old : weight (λ g (x : LatchWaitEntry). cond (x.latch == l && x.plain) 1 0) f (get ws f) ≡ plain_of o = ap (weight (λ g (x : LatchWaitEntry). cond (x.latch == l && x.plain) 1 0) f) was ∙ weighs o mine in
       let new : weight (λ g (x : LatchWaitEntry). cond (x.latch == l && x.plain) 1 0) f o' ≡ plain_of o' = weighs o' mine' in
       omega (arith, sums, old, new)

@@ -7,8 +7,8 @@ pub mod GroupChanges
 pub mod GroupPlays
 pub mod GroupStores
 pub mod Names
-pub mod Stores
-pub mod LatchMaps
+pub mod Maps
+pub mod Slots
 pub mod LatchStore
 pub mod LatchPlays
 pub mod LatchStanding
@@ -17,7 +17,6 @@ pub mod ShutdownCounts
 pub mod ShutdownEnds
 pub mod ShutdownGone
 pub mod ShutdownMakes
-pub mod ShutdownMaps
 pub mod ShutdownPlays
 pub mod ShutdownPolls
 pub mod ShutdownReceivers

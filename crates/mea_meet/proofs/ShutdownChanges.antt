@@ -17,7 +17,7 @@ use Rattle.mea_meet.specs.declared.shutdowns.ShutdownWait.{ShutdownWait as Wait}
 use Rattle.mea_meet.specs.declared.shutdowns.ShutdownWait.TheVariants as waits
 use Rattle.mea_meet.specs.ShutdownHall.{Store, End, OfSignal, OfReceivers, awaits_of, slot_at, slot_in, slots_of, shutdown_of, hall_of, borrowers_in, is_of, IsKeptEntry, IsKeptSender, IsKeptReceiver, IsKeptWait, IsKept}
 use Rattle.mea_meet.proofs.Names.{waiting-length, waiting-alike, named-ends, named-new}
-use Rattle.mea_meet.proofs.ShutdownMaps.{Puts, Belongs, get-seen, put_here, put_other, total_puts, by_put, total-named, total_elsewhere}
+use Rattle.mea_meet.proofs.Maps.{Puts, Belongs, get-seen, put_here, put_other, total_puts, by_put, total-named, total_elsewhere}
 
 -- s becomes e2; a sender, a receiver or watch and a future of it are put, or are gone
 pub record Changes (st st' : Store) (s a b f : ℕ) (e2 : ShutdownEntry) (oa : Option ℕ) (ob : Option ReceiverEntry) (ow : Option ShutdownWaitEntry) : Type 0 where

@@ -11,7 +11,7 @@ use Rattle.mea_meet.specs.declared.shutdowns.ShutdownEntry.{ShutdownEntry}
 use Rattle.mea_meet.specs.ShutdownHall.{Store, count_of, hall_of}
 use Rattle.mea_meet.proofs.Names.{waiting-wakers, given-drained}
 use Rattle.mea_meet.proofs.ShutdownChanges.{wakers_at, registered-seen}
-use Rattle.mea_meet.proofs.ShutdownStill.{total-member}
+use Rattle.mea_meet.proofs.Maps.{weight-within}
 
 module _ (slots : Slots) (b s : ℕ) (c : counts.Count ℕ) where
   pub decreased-seen : count_of slots b s (counts.decreased c 1) ≡ model.decreased (count_of slots b s c) 1
@@ -46,6 +46,6 @@ woken-all c = by_test (counts.ends c 1)
 -- and are among all that are registered
 pub wakers-within : (st : Store) (n s : ℕ) (e : ShutdownEntry) → get st.shutdowns s ≡ Some e → wakers_at e ≤ registered (hall_of st n)
 wakers-within st n s e there =
-    let part = total-member (λ q (x : ShutdownEntry). wakers_at x) st.shutdowns s e there in
+    let part = weight-within (λ q (x : ShutdownEntry). wakers_at x) st.shutdowns s e there in
     let all = registered-seen st n in
     omega (arith, part, all)

@@ -14,9 +14,9 @@ use Rattle.mea_meet.specs.declared.shutdowns.ShutdownEntry.{ShutdownEntry}
 use Rattle.mea_meet.specs.declared.shutdowns.ReceiverEntry.{ReceiverEntry}
 use Rattle.mea_meet.specs.declared.shutdowns.ShutdownWaitEntry.{ShutdownWaitEntry}
 use Rattle.mea_meet.specs.ShutdownHall.{Store, End, count_at, slot_in, slots_of, receiver_of, hall_of, counting, senders_in, receivers_in, waits_in, IsKeptEntry, IsKept}
-use Rattle.mea_meet.proofs.ShutdownMaps.{Puts, puts_same, puts_seen, total_puts, is_insert}
+use Rattle.mea_meet.proofs.Maps.{Puts, puts_same, puts_seen, total_puts, is_insert, belongs-none, belongs-some, inside}
 use Rattle.mea_meet.proofs.ShutdownChanges.{Changes, slot_home, wakers_at}
-use Rattle.mea_meet.proofs.ShutdownStill.{no-sender, no-receiver, no-wait, no-shutdown, belongs-none, belongs-some, own, inside, unborrowed}
+use Rattle.mea_meet.proofs.ShutdownStill.{no-sender, no-receiver, no-wait, no-shutdown, own, unborrowed}
 use Rattle.mea_meet.proofs.ShutdownPlays.{Goes, kept_all, shutdowns_put, waits_same, counts_after}
 
 -- ---- nothing is of a shutdown that is not there

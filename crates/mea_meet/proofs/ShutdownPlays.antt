@@ -16,11 +16,11 @@ use Rattle.mea_meet.specs.declared.shutdowns.ShutdownEntry.{ShutdownEntry}
 use Rattle.mea_meet.specs.declared.shutdowns.ReceiverEntry.{ReceiverEntry}
 use Rattle.mea_meet.specs.declared.shutdowns.ShutdownWaitEntry.{ShutdownWaitEntry}
 use Rattle.mea_meet.specs.ShutdownHall.{Store, End, OfSignal, OfReceivers, awaits_of, wait_of, count_at, slot_in, slots_of, count_of, shutdown_of, hall_of, counting, borrowers_in, is_of, IsKeptEntry, IsKept}
-use Rattle.mea_meet.proofs.ShutdownMaps.{Puts, Belongs, puts_same, puts_seen, is_same, is_insert, is_remove}
+use Rattle.mea_meet.proofs.Maps.{Puts, Belongs, puts_same, puts_seen, is_same, is_insert, is_remove, weight-within, belongs-none, belongs-some}
 use Rattle.mea_meet.proofs.ShutdownChanges.{Changes, Unplaced, kept_after, registered_after, wakers_at}
 use Rattle.mea_meet.proofs.ShutdownCounts.{decreased-seen, woken-seen, given-decreased, woken-all}
 use Rattle.mea_meet.proofs.ShutdownSeen.{shutdown-seen, shutdown-at, wait-seen}
-use Rattle.mea_meet.proofs.ShutdownStill.{total-member, no-sender, no-receiver, no-wait, belongs-none, belongs-some, own, borrows-nothing, entry_after, still_named, still_given, still_shutdowns}
+use Rattle.mea_meet.proofs.ShutdownStill.{no-sender, no-receiver, no-wait, own, borrows-nothing, entry_after, still_named, still_given, still_shutdowns}
 
 -- an event leaves these shutdowns, and no waker is registered or woken
 pub record Goes (st st' : Store) (next i : ℕ) (h : Shutdowns) : Type 0 where
@@ -180,7 +180,7 @@ module _ (st : Store) (ss' : FinMap nat_cmp ShutdownEntry) (ks' : FinMap nat_cmp
 -- its shutdown counts it
 pub sender_counted : (st : Store) (next a s : ℕ) (e : ShutdownEntry) → IsKept st next → get st.shutdowns s ≡ Some e → get st.senders a ≡ Some s → 1 ≤ e.things
 sender_counted st next a s e k there sender =
-    let part = total-member (λ q (p : ℕ). cond (p == s) 1 0) st.senders a s sender in
+    let part = weight-within (λ q (p : ℕ). cond (p == s) 1 0) st.senders a s sender in
     let one : ◌≡◌ {A = ℕ} (cond (s == s) 1 0) 1 = own s 1 in
     let all = (k.each s e there).things in
     omega (arith, part, one, all)

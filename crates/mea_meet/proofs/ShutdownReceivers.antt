@@ -14,10 +14,10 @@ use Rattle.mea_meet.specs.declared.shutdowns.ShutdownEntry.{ShutdownEntry}
 use Rattle.mea_meet.specs.declared.shutdowns.ReceiverEntry.{ReceiverEntry}
 use Rattle.mea_meet.specs.declared.shutdowns.ShutdownWaitEntry.{ShutdownWaitEntry}
 use Rattle.mea_meet.specs.ShutdownHall.{Store, End, OfSignal, OfReceivers, count_at, slots_of, count_of, shutdown_of, receiver_of, hall_of, counting, borrowers_in, without_receiver, woken_at_end, is_full, IsKept}
-use Rattle.mea_meet.proofs.ShutdownMaps.{Puts, Belongs, puts_same, puts_seen, is_same, is_insert, is_remove}
+use Rattle.mea_meet.proofs.Maps.{Puts, Belongs, puts_same, puts_seen, is_same, is_insert, is_remove, belongs-none, belongs-some, inside, weight-within}
 use Rattle.mea_meet.proofs.ShutdownChanges.{Changes, wakers_at}
 use Rattle.mea_meet.proofs.ShutdownSeen.{shutdown-at, shutdown-there, receiver-seen, some_found}
-use Rattle.mea_meet.proofs.ShutdownStill.{no-sender, no-receiver, no-wait, belongs-none, belongs-some, own, inside, unborrowed, total-member, entry_after}
+use Rattle.mea_meet.proofs.ShutdownStill.{no-sender, no-receiver, no-wait, own, unborrowed, entry_after}
 use Rattle.mea_meet.proofs.ShutdownCounts.{decreased-seen, woken-seen, given-decreased, woken-all}
 use Rattle.mea_meet.proofs.ShutdownPlays.{Goes, Wakes, seen_before, kept_all, given, shutdowns_put, waits_same, counts_after}
 
@@ -155,14 +155,14 @@ module _ (st : Store) (next i b s : ℕ) (e : ShutdownEntry) (x : ReceiverEntry)
   -- its shutdown counts it
   pub receiver_counted : 1 ≤ e.things
   receiver_counted =
-      let part = total-member (λ q (y : ReceiverEntry). cond (y.shutdown == s) 1 0) st.receivers b x receiver in
+      let part = weight-within (λ q (y : ReceiverEntry). cond (y.shutdown == s) 1 0) st.receivers b x receiver in
       let one : ◌≡◌ {A = ℕ} (cond (x.shutdown == s) 1 0) 1 = ap (λ r. cond (r == s) 1 0) mine ∙ own s 1 in
       let all = (k.each s e there).things in
       omega (arith, part, one, all)
 
   number_counts : cond x.watch 0 1 ≤ e.core.receivers.number
   number_counts =
-      let part = total-member (λ q (y : ReceiverEntry). counting s y) st.receivers b x receiver in
+      let part = weight-within (λ q (y : ReceiverEntry). counting s y) st.receivers b x receiver in
       let one : counting s x ≡ cond x.watch 0 1 = ap (λ r. cond (r == s) (cond x.watch 0 1) 0) mine ∙ own s (cond x.watch 0 1) in
       let all = (k.each s e there).counted in
       omega (arith, part, one, all)

@@ -13,7 +13,7 @@ use Rattle.mea_meet.specs.declared.shutdowns.ShutdownEntry.{ShutdownEntry}
 use Rattle.mea_meet.specs.declared.shutdowns.ReceiverEntry.{ReceiverEntry}
 use Rattle.mea_meet.specs.declared.shutdowns.ShutdownWaitEntry.{ShutdownWaitEntry}
 use Rattle.mea_meet.specs.ShutdownHall.{Store, End, OfSignal, OfReceivers, awaits_of, count_at, slots_of, count_of, shutdown_of, hall_of, counting, borrowers_in, is_of, IsKeptEntry, IsKept}
-use Rattle.mea_meet.proofs.ShutdownMaps.{Puts, Belongs, total_puts}
+use Rattle.mea_meet.proofs.Maps.{Puts, total_puts, weight-within}
 use Rattle.mea_meet.proofs.ShutdownChanges.{Changes, Unplaced, named_unplaced, alike_unplaced, given_unplaced, shutdowns_after}
 
 -- ---- what is absent
@@ -45,30 +45,8 @@ no-shutdown st next i k less = by_value (get st.shutdowns i) refl
     by_value None is = is
     by_value (Some e) is = absurd (let below = (k.each i e is).below in omega (arith, below, less))
 
-pub belongs-none : {X : Type 0} (g : X → ℕ) (s : ℕ) (o : Option X) → o ≡ None → Belongs g s o
-belongs-none g s None none x is = absurd (cc)
-belongs-none g s (Some y) none x is = absurd (cc)
-
-value_in : {X : Type 0} → X → Option X → X
-value_in x None = x
-value_in x (Some y) = y
-
-pub inside : {X : Type 0} (x y : X) → Some x ≡ Some y → x ≡ y
-unfolding value_in
-inside x y is = ap (value_in x) is
-
-pub belongs-some : {X : Type 0} (g : X → ℕ) (s : ℕ) (o : Option X) (x : X) → o ≡ Some x → g x ≡ s → Belongs g s o
-belongs-some g s o x there mine y is = ap g (sym (inside x y (sym there ∙ is))) ∙ mine
-
 pub own : (s n : ℕ) → cond (s == s) n 0 ≡ n
 own s n = ap (λ t. cond t n 0) (eq-eqb s s refl)
-
--- what is there weighs no more than all
-pub total-member : {X : Type 0} (w : ℕ → X → ℕ) (m : FinMap nat_cmp X) (k : ℕ) (x : X) → get m k ≡ Some x → w k x ≤ total w m
-total-member w m k x is = (
-    let all = total-remove w m k in
-    let mine : weight w k (get m k) ≡ w k x = ap (weight w k) is in
-    omega (arith, all, mine))
 
 -- nobody borrows what is not there
 pub unborrowed : (st : Store) (next q : ℕ) → IsKept st next → get st.receivers q ≡ None → borrowers_in st q ≡ 0
@@ -81,7 +59,7 @@ unborrowed st next q k none = total-zero _ st.waits (λ g y is. by_test y (borro
 -- who borrows is counted
 pub borrows-nothing : (st : Store) (q g : ℕ) (y : ShutdownWaitEntry) → borrowers_in st q ≡ 0 → get st.waits g ≡ Some y → borrows (awaits_of y.wait) q ≡ true → ⊥
 borrows-nothing st q g y none is lent =
-    let part = total-member (λ f (x : ShutdownWaitEntry). cond (borrows (awaits_of x.wait) q) 1 0) st.waits g y is in
+    let part = weight-within (λ f (x : ShutdownWaitEntry). cond (borrows (awaits_of x.wait) q) 1 0) st.waits g y is in
     let one : ◌≡◌ {A = ℕ} (cond (borrows (awaits_of y.wait) q) 1 0) 1 = ap (λ t. cond t 1 0) lent in
     omega (arith, part, one, none)
 

@@ -11,10 +11,10 @@ use Rattle.mea_meet.specs.declared.shutdowns.ShutdownEntry.{ShutdownEntry}
 use Rattle.mea_meet.specs.declared.shutdowns.ReceiverEntry.{ReceiverEntry}
 use Rattle.mea_meet.specs.declared.shutdowns.ShutdownWaitEntry.{ShutdownWaitEntry}
 use Rattle.mea_meet.specs.ShutdownHall.{Store, shutdown_of, hall_of, senders_in, IsKeptEntry, IsKept}
-use Rattle.mea_meet.proofs.ShutdownMaps.{Puts, get-seen, put_other, total_puts, by_put, is_remove}
+use Rattle.mea_meet.proofs.Maps.{Puts, get-seen, put_other, total_puts, by_put, is_remove, weight-within}
 use Rattle.mea_meet.proofs.ShutdownChanges.{wakers_at, registered-seen}
 use Rattle.mea_meet.proofs.ShutdownSeen.{receivers-seen, waits-seen}
-use Rattle.mea_meet.proofs.ShutdownStill.{own, total-member}
+use Rattle.mea_meet.proofs.ShutdownStill.{own}
 
 -- a name that is gone is gone from what is seen
 puts_gone : {X Y : Type 0} (f : ℕ → X → Y) (m n : FinMap nat_cmp X) (k : ℕ) → Puts m n k None → Puts (named f (entries m)) (named f (entries n)) k None
@@ -47,21 +47,21 @@ module _ (st : Store) (next s : ℕ) (e : ShutdownEntry) (k : IsKept st next) (t
 
     sender_apart : (a p : ℕ) → get st.senders a ≡ Some p → s ≡ p → ⊥
     sender_apart a p is same =
-        let part = total-member (λ q (o : ℕ). cond (o == s) 1 0) st.senders a p is in
+        let part = weight-within (λ q (o : ℕ). cond (o == s) 1 0) st.senders a p is in
         let one : ◌≡◌ {A = ℕ} (cond (p == s) 1 0) 1 = ap (λ r. cond (r == s) 1 0) (sym same) ∙ own s 1 in
         let all = (k.each s e there).things in
         omega (arith, part, one, all, none)
 
     receiver_apart : (b : ℕ) (x : ReceiverEntry) → get st.receivers b ≡ Some x → s ≡ x.shutdown → ⊥
     receiver_apart b x is same =
-        let part = total-member (λ q (y : ReceiverEntry). cond (y.shutdown == s) 1 0) st.receivers b x is in
+        let part = weight-within (λ q (y : ReceiverEntry). cond (y.shutdown == s) 1 0) st.receivers b x is in
         let one : ◌≡◌ {A = ℕ} (cond (x.shutdown == s) 1 0) 1 = ap (λ r. cond (r == s) 1 0) (sym same) ∙ own s 1 in
         let all = (k.each s e there).things in
         omega (arith, part, one, all, none)
 
     wait_apart : (f : ℕ) (x : ShutdownWaitEntry) → get st.waits f ≡ Some x → s ≡ x.shutdown → ⊥
     wait_apart f x is same =
-        let part = total-member (λ q (y : ShutdownWaitEntry). cond (y.shutdown == s) 1 0) st.waits f x is in
+        let part = weight-within (λ q (y : ShutdownWaitEntry). cond (y.shutdown == s) 1 0) st.waits f x is in
         let one : ◌≡◌ {A = ℕ} (cond (x.shutdown == s) 1 0) 1 = ap (λ r. cond (r == s) 1 0) (sym same) ∙ own s 1 in
         let all = (k.each s e there).things in
         omega (arith, part, one, all, none)

@@ -2,7 +2,7 @@ use Rattle.std.proofs.Common.{rules, ◌≡◌, None, Some, sym, ap, ◌∙◌, 
 use Rattle.std.specs.Option.{option_copied_mut}
 use Rattle.std.specs.FinMap.{get}
 use Rattle.mea_base.specs.declared.answer.Answer.TheVariants as answers
-use Rattle.mea_meet.proofs.ShutdownMaps.{kept-puts, kept-puts-as}
+use Rattle.mea_meet.proofs.Maps.{kept-puts, kept-puts-as}
 use Rattle.mea_meet_model.specs.Shutdowns.{Shutdown}
 use Rattle.mea_meet.proofs.ShutdownSeen.{kept_in, shutdown-there, shutdown-at, shutdown-kept, asked}
 use Rattle.mea_meet.proofs.ShutdownPlays.{rests}

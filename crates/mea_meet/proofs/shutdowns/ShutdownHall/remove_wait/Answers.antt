@@ -1,7 +1,7 @@
 use Rattle.std.proofs.Common.{rules, ◌+◌, ◌-◌, ◌≡◌, None, Some, sym, ap, ◌∙◌, refl, arith}
 use Rattle.std.specs.Option.{option_map, option_copied_mut}
 use Rattle.std.specs.FinMap.{get}
-use Rattle.mea_meet.proofs.ShutdownMaps.{kept-puts}
+use Rattle.mea_meet.proofs.Maps.{kept-puts}
 use Rattle.mea_meet.specs.ShutdownHall.{wait_of}
 use Rattle.mea_meet.proofs.ShutdownSeen.{kept_in, wait-at, wait-there, wait-seen, shutdown-kept, asked, if_some, still-there}
 use Rattle.mea_meet.proofs.ShutdownEnds.{can_give_back, wait_counted, remove_wait_goes}

@@ -1,7 +1,7 @@
 use Rattle.std.proofs.Common.{◌≡◌, ℕ, None, Some, sym, ap, ◌∙◌, arith}
 use Rattle.std.specs.Option.{option_copied}
 use Rattle.std.specs.FinMap.{get}
-use Rattle.mea_meet.proofs.ShutdownMaps.{kept-puts}
+use Rattle.mea_meet.proofs.Maps.{kept-puts}
 use Rattle.mea_base.specs.Ready.{Waking}
 use Rattle.mea_meet.proofs.ShutdownSeen.{kept_in, shutdown-there, shutdown-kept, asked}
 use Rattle.mea_meet.proofs.ShutdownCounts.{wakers-within}

@@ -2,7 +2,7 @@ use Rattle.std.proofs.Common.{rules, ◌+◌, ◌<◌, ◌≡◌, None, Some, sy
 use Rattle.std.specs.Option.{option_copied_mut}
 use Rattle.std.specs.FinMap.{get}
 use Rattle.mea_meet.specs.ShutdownHall.{Store, hall_of, IsKept}
-use Rattle.mea_meet.proofs.ShutdownMaps.{kept-puts-as, is_same}
+use Rattle.mea_meet.proofs.Maps.{kept-puts-as, is_same}
 use Rattle.mea_meet.specs.declared.shutdowns.ShutdownEntry.{ShutdownEntry}
 use Rattle.mea_meet.specs.ShutdownHall.{count_at, end_of, set_at}
 use Rattle.mea_meet.proofs.ShutdownSeen.{kept_in, wait-at, wait-there, shutdown-kept, asked}

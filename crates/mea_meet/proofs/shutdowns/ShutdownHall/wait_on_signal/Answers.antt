@@ -3,14 +3,13 @@ use Rattle.std.specs.Option.{option_map, option_copied, option_copied_mut}
 use Rattle.std.specs.FinMap.{get}
 use Rattle.mea_base.specs.declared.answer.Answer.TheVariants as answers
 use Rattle.mea_meet.specs.ShutdownHall.{hall_of, store_of, IsKept}
-use Rattle.mea_meet.proofs.ShutdownMaps.{kept-puts, kept-puts-as}
+use Rattle.mea_meet.proofs.Maps.{kept-puts, kept-puts-as, inside}
 use Rattle.mea_meet_model.specs.Shutdowns.{wait_of}
 use Rattle.mea_meet.specs.declared.shutdowns.ReceiverEntry.{ReceiverEntry}
 use Rattle.mea_meet.specs.declared.shutdowns.ShutdownWaitEntry.{ShutdownWaitEntry}
 use Rattle.mea_meet.specs.declared.shutdowns.ShutdownWait.TheVariants as waits
 use Rattle.mea_meet.specs.ShutdownHall.{receiver_of}
 use Rattle.mea_meet.proofs.ShutdownSeen.{kept_in, receiver-at, receiver-there, receiver-seen, shutdown-kept, asked}
-use Rattle.mea_meet.proofs.ShutdownStill.{inside}
 use Rattle.mea_meet.proofs.ShutdownPlays.{rests}
 use Rattle.mea_meet.proofs.ShutdownWaits.{at_most_one, wait_on_signal_goes}
 use Rattle.mea_meet.proofs.shutdowns.ShutdownHall.wait_on_signal.Goals as goal
