@@ -21,7 +21,7 @@ use Rattle.mea_meet.specs.declared.barriers.BarrierEntry.{BarrierEntry}
 use Rattle.mea_meet.specs.declared.barriers.BarrierWaitEntry.{BarrierWaitEntry}
 use Rattle.mea_meet.proofs.Names.{waiting-length, waiting-alike}
 use Rattle.mea_meet.proofs.Maps.{at_same, at_apart, by_name, Puts, put_there, put_other, total_puts_was, weight-within, seen-some, seen_put, seen_gone, one_of, one-least, weighs_here, weighs_elsewhere}
-use Rattle.mea_meet.proofs.Slots.{slot_owner, slots_other}
+use Rattle.mea_meet.proofs.Slots.{slot_owner, apart_belongs, waiting_beside}
 
 -- ---- the slots of the futures
 abbrev pub slot_entry : BarrierWaitEntry → ℕ × Option Place
@@ -143,19 +143,11 @@ module _ (st st' : Store) (n n' b f : ℕ) (e e' : BarrierEntry) (o o' : Option 
   kept_after = record { each = each_after; home = home_after; named = c.named; low = c.low }
 
   -- ---- the barriers that are stood for
-  slot_stays : (q g : ℕ) (place : Place) → (b ≡ q → ⊥) → slots_of st.waits g ≡ Some (q, Some place) → slots_of st'.waits g ≡ Some (q, Some place)
-  slot_stays q g place apart is = by_name f g
-      (λ same. let x = slot_owner (λ (x : BarrierWaitEntry). x.barrier) (λ x. slot_of x.wait) (get st.waits g) q (Some place) is in absurd (apart (sym (c.was_of x.0 (sym c.was ∙ ap (get st.waits) same ∙ x.1)) ∙ x.2)))
-      (λ other. slots_other slot_entry st.waits st'.waits f o' c.waits g other ∙ is)
-
-  slot_stood : (q g : ℕ) (place : Place) → (b ≡ q → ⊥) → slots_of st'.waits g ≡ Some (q, Some place) → slots_of st.waits g ≡ Some (q, Some place)
-  slot_stood q g place apart is = by_name f g
-      (λ same. let x = slot_owner (λ (x : BarrierWaitEntry). x.barrier) (λ x. slot_of x.wait) (get st'.waits g) q (Some place) is in absurd (apart (sym (c.is_of x.0 (sym (wait_there g same) ∙ x.1)) ∙ x.2)))
-      (λ other. sym (slots_other slot_entry st.waits st'.waits f o' c.waits g other) ∙ is)
-
   barrier_alike : (q : ℕ) (d : BarrierEntry) → (b ≡ q → ⊥) → get st.barriers q ≡ Some d → barrier_of st'.waits n' q d ≡ barrier_of st.waits n q d
   barrier_alike q d apart is =
-      let same = waiting-alike (slots_of st.waits) (slots_of st'.waits) n n' q d.core.waiting k.named c.named (λ g place. slot_stays q g place apart) (λ g place. slot_stood q g place apart) in
+      let same = waiting_beside (option_map slot_entry) st.waits st'.waits f o' c.waits n n' k.named c.named q d.core.waiting
+      (apart_belongs (λ (x : BarrierWaitEntry). x.barrier) (λ x. slot_of x.wait) (get st.waits f) b q (λ x here. c.was_of x (sym c.was ∙ here)) apart)
+      (apart_belongs (λ (x : BarrierWaitEntry). x.barrier) (λ x. slot_of x.wait) o' b q c.is_of apart) in
       λ j. record { size = d.core.size; arrivals = d.core.arrivals; waiting = same j }
 
   abbrev h : Barriers

@@ -1,5 +1,5 @@
 -- barriers and futures that are made, and barriers that are dropped
-use Rattle.std.proofs.Common.{◌≡◌, ℕ, ◌+◌, ◌-◌, ◌^◌, ◌<◌, ◌≤◌, ◌==◌, true, cond, List, [], length, max, Option, Some, None, refl, ap, sym, subst, ◌∙◌, arith, append-nil}
+use Rattle.std.proofs.Common.{◌≡◌, ℕ, ◌+◌, ◌-◌, ◌^◌, ◌<◌, ◌≤◌, ◌==◌, true, cond, List, [], length, max, Option, Some, None, refl, ap, sym, subst, ◌∙◌, arith, append-nil, inl, inr}
 use Rattle.std.specs.Option.{option_map}
 use Rattle.std.specs.Ordering.{nat_cmp}
 use Rattle.std.specs.FinMap.{FinMap, get, insert, remove, empty, entries, get-empty}
@@ -26,7 +26,7 @@ use Rattle.mea_meet.proofs.Maps.{ChangesAt, Puts, put_there, put_other, by_name,
 use Rattle.mea_meet.proofs.BarrierChanges.{Changes, slot_entry, at_barrier, kept_after, hall_put}
 use Rattle.mea_meet.proofs.BarrierPlays.{Rested, Played, store_in, seen_in, IsKeptIn}
 use Rattle.mea_meet.proofs.BarrierStores.{counts}
-use Rattle.mea_meet.proofs.Slots.{slot_owner, slots_there, slots_other}
+use Rattle.mea_meet.proofs.Slots.{slots_there, slots_other, apart_unplaced, waiting_beside}
 
 -- ---- names that were not given yet
 pub no_barrier : (st : Store) (n i : ℕ) → IsKept st n → n ≤ i → get st.barriers i ≡ None
@@ -174,10 +174,10 @@ module _ (a : Inside) (v : Part Barriers) (i : ℕ) (seen : seen_in a ≡ v) (k 
       waits = kept-puts a.waits.entries ws' i (Some x) adds
 
       slot_is : slots_of st_now.waits i ≡ Some (b, None)
-      slot_is = slots_there slot_entry st.waits st_now.waits i (Some x) waits ∙ (λ j. Some (mine j, slot_of (new j)))
+      slot_is = slots_there (option_map slot_entry) st.waits st_now.waits i (Some x) waits ∙ (λ j. Some (mine j, slot_of (new j)))
 
       others : (g : ℕ) → (i ≡ g → ⊥) → slots_of st_now.waits g ≡ slots_of st.waits g
-      others = slots_other slot_entry st.waits st_now.waits i (Some x) waits
+      others = slots_other (option_map slot_entry) st.waits st_now.waits i (Some x) waits
 
       named_with : AreNamed (slots_of st_now.waits) (i + 1)
       named_with = named-new (slots_of st.waits) (slots_of st_now.waits) n (i + 1) i k.named (omega (arith, less)) others b (omega arith) slot_is
@@ -201,23 +201,12 @@ module _ (a : Inside) (v : Part Barriers) (i : ℕ) (seen : seen_in a ≡ v) (k 
         counted = omega arith;
       }
 
-      -- the slots of the others are as they were, and i has no number
-      slot_stays : (g : ℕ) (place : Place) → slots_of st.waits g ≡ Some (b, Some place) → slots_of st_now.waits g ≡ Some (b, Some place)
-      slot_stays g place is = by_name i g
-          (λ same. absurd (let clash : None ≡ Some (b, Some place) = sym (ap (option_map slot_entry) (no_wait st n i k less)) ∙ ap (slots_of st.waits) same ∙ is in cc))
-          (λ apart. others g apart ∙ is)
-
-      slot_stood : (g : ℕ) (place : Place) → slots_of st_now.waits g ≡ Some (b, Some place) → slots_of st.waits g ≡ Some (b, Some place)
-      slot_stood g place is = by_name i g
-          (λ same. absurd (let z = slot_owner (λ (x : BarrierWaitEntry). x.barrier) (λ x. slot_of x.wait) (get st_now.waits g) b (Some place) is in
-          let one : Some x ≡ Some z.0 = sym (put_there st.waits st_now.waits i (Some x) waits g same) ∙ z.1 in
-          let it : x ≡ z.0 = cc in
-          let clash : None ≡ Some place = sym (ap slot_of new) ∙ ap (λ (u : BarrierWaitEntry). slot_of u.wait) it ∙ z.3 in cc))
-          (λ apart. sym (others g apart) ∙ is)
-
+      -- i has no number
       seen_same : barrier_of st_now.waits (i + 1) b e' ≡ barrier_of st.waits n b e
       seen_same =
-          let list = waiting-alike (slots_of st.waits) (slots_of st_now.waits) n (i + 1) b e.core.waiting k.named named_with slot_stays slot_stood in
+          let list = waiting_beside (option_map slot_entry) st.waits st_now.waits i (Some x) waits n (i + 1) k.named named_with b e.core.waiting
+          (apart_unplaced b (slots_of st.waits i) (inl (ap (option_map slot_entry) (no_wait st n i k less))))
+          (apart_unplaced b (option_map slot_entry (Some x)) (inr (b, λ j. Some (mine j, slot_of (new j))))) in
           λ j. record { size = e.core.size; arrivals = e.core.arrivals; waiting = list j }
 
       pub waits_new : Rested v i (model.wait v.hall i b) answers.Made st_now

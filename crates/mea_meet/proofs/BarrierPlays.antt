@@ -68,10 +68,10 @@ module _ (st st' : Store) (n i f : ℕ) (x : BarrierWaitEntry) (e e' : BarrierEn
   module _ (y : BarrierWaitEntry) (waits : Puts st.waits st'.waits f (Some y)) (w round arrivals : ℕ) (mine : y.barrier ≡ b) (wait_is : y.wait ≡ Arrived round (slot_after e.core.waiting (slot_of x.wait)))
       (entry_is : e' ≡ record e { core = record e.core { arrivals = arrivals; waiting = with_waker e.core.waiting (slot_of x.wait) w } }) (rises : e.core.arrivals ≤ arrivals) (most : arrivals ≤ e.core.arrivals + 1) (seen : nat_le round (arrivals / e.core.size) ≡ true) where
     others : (g : ℕ) → (f ≡ g → ⊥) → slots_of st'.waits g ≡ slots_of st.waits g
-    others = slots_other slot_entry st.waits st'.waits f (Some y) waits
+    others = slots_other (option_map slot_entry) st.waits st'.waits f (Some y) waits
 
     slot_is : slots_of st'.waits f ≡ Some (b, slot_after e.core.waiting (slot_of x.wait))
-    slot_is = slots_there slot_entry st.waits st'.waits f (Some y) waits ∙ (λ j. Some (mine j, slot_of (wait_is j)))
+    slot_is = slots_there (option_map slot_entry) st.waits st'.waits f (Some y) waits ∙ (λ j. Some (mine j, slot_of (wait_is j)))
 
     named_now : AreNamed (slots_of st'.waits) (i + 1)
     named_now = named-registers (slots_of st.waits) (slots_of st'.waits) n (i + 1) f k.named (omega (arith, less)) others b (slot_of x.wait) e.core.waiting given slot_was slot_is
@@ -118,10 +118,10 @@ module _ (st st' : Store) (n i f : ℕ) (x : BarrierWaitEntry) (e e' : BarrierEn
   module _ (waits : Puts st.waits st'.waits f None) (fewer : e'.waits ≡ e.waits - 1) (same_wakes : e'.core.wakes ≡ e.core.wakes) (same_size : e'.core.size ≡ e.core.size) (rises : e.core.arrivals ≤ e'.core.arrivals) (most : e'.core.arrivals ≤ e.core.arrivals + 1)
       (still : (t : Option Place) → has_given e.core.waiting t ≡ true → has_given e'.core.waiting t ≡ true) where
     others_gone : (g : ℕ) → (f ≡ g → ⊥) → slots_of st'.waits g ≡ slots_of st.waits g
-    others_gone = slots_other slot_entry st.waits st'.waits f None waits
+    others_gone = slots_other (option_map slot_entry) st.waits st'.waits f None waits
 
     slot_gone : slots_of st'.waits f ≡ None
-    slot_gone = slots_there slot_entry st.waits st'.waits f None waits
+    slot_gone = slots_there (option_map slot_entry) st.waits st'.waits f None waits
 
     named_gone : AreNamed (slots_of st'.waits) (i + 1)
     named_gone = named-ends (slots_of st.waits) (slots_of st'.waits) n (i + 1) f k.named (omega (arith, less)) others_gone slot_gone

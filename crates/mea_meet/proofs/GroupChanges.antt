@@ -20,7 +20,7 @@ use Rattle.mea_meet.specs.declared.groups.GroupEntry.{GroupEntry}
 use Rattle.mea_meet.specs.declared.groups.GroupWaitEntry.{GroupWaitEntry}
 use Rattle.mea_meet.proofs.Names.{waiting-length, waiting-alike}
 use Rattle.mea_meet.proofs.Maps.{at_same, at_apart, by_name, Puts, put_there, put_other, total_puts_was, weight-within, get-seen, seen-some, seen-none, seen_put, seen_gone, one_of, one-least, weighs_here, weighs_elsewhere, remove-insert}
-use Rattle.mea_meet.proofs.Slots.{slot_owner, slots_other}
+use Rattle.mea_meet.proofs.Slots.{slot_owner, apart_belongs, waiting_beside}
 
 -- ---- the slots of the futures
 abbrev pub slot_entry : GroupWaitEntry → ℕ × Option Place
@@ -223,19 +223,11 @@ module _ (st st' : Store) (n n' g k f : ℕ) (q : Option GroupEntry) (d : GroupE
   kept_after = record { each = each_after; owned = owned_after; home = home_after; named = c.named; low = c.low }
 
   -- ---- the groups that are stood for
-  slot_stays : (j u : ℕ) (place : Place) → (g ≡ j → ⊥) → slots_of st.waits u ≡ Some (j, Some place) → slots_of st'.waits u ≡ Some (j, Some place)
-  slot_stays j u place apart is = by_name f u
-      (λ same. let x = slot_owner (λ (x : GroupWaitEntry). x.group) (λ x. x.wait) (get st.waits u) j (Some place) is in absurd (apart (sym (c.wait_was_of x.0 (sym c.wait_was ∙ ap (get st.waits) same ∙ x.1)) ∙ x.2)))
-      (λ other. slots_other slot_entry st.waits st'.waits f o' c.waits u other ∙ is)
-
-  slot_stood : (j u : ℕ) (place : Place) → (g ≡ j → ⊥) → slots_of st'.waits u ≡ Some (j, Some place) → slots_of st.waits u ≡ Some (j, Some place)
-  slot_stood j u place apart is = by_name f u
-      (λ same. let x = slot_owner (λ (x : GroupWaitEntry). x.group) (λ x. x.wait) (get st'.waits u) j (Some place) is in absurd (apart (sym (c.wait_is_of x.0 (sym (wait_there u same) ∙ x.1)) ∙ x.2)))
-      (λ other. sym (slots_other slot_entry st.waits st'.waits f o' c.waits u other) ∙ is)
-
   count_alike : (j : ℕ) (e : GroupEntry) → (g ≡ j → ⊥) → get st.groups j ≡ Some e → count_of st'.waits n' j e ≡ count_of st.waits n j e
   count_alike j e apart is =
-      let same = waiting-alike (slots_of st.waits) (slots_of st'.waits) n n' j e.core.count.waiting kept.named c.named (λ u place. slot_stays j u place apart) (λ u place. slot_stood j u place apart) in
+      let same = waiting_beside (option_map slot_entry) st.waits st'.waits f o' c.waits n n' kept.named c.named j e.core.count.waiting
+      (apart_belongs (λ (x : GroupWaitEntry). x.group) (λ x. x.wait) (get st.waits f) g j (λ x here. c.wait_was_of x (sym c.wait_was ∙ here)) apart)
+      (apart_belongs (λ (x : GroupWaitEntry). x.group) (λ x. x.wait) o' g j c.wait_is_of apart) in
       λ i. record { number = e.core.count.number; waiting = same i }
 
   abbrev h : Groups

@@ -1,5 +1,5 @@
 -- what the methods of a `GroupHall` keep, and their outcomes as the contracts say them
-use Rattle.std.proofs.Common.{◌≡◌, ℕ, ◌+◌, ◌-◌, ◌^◌, ◌<◌, ◌≤◌, ◌++◌, ◌==◌, Bool, true, false, cond, List, [], length, Option, Some, None, refl, ap, sym, subst, ◌∙◌, arith, append-nil, if◌then◌else◌}
+use Rattle.std.proofs.Common.{◌≡◌, ℕ, ◌+◌, ◌-◌, ◌^◌, ◌<◌, ◌≤◌, ◌++◌, ◌==◌, Bool, true, false, cond, List, [], length, Option, Some, None, refl, ap, sym, subst, ◌∙◌, arith, append-nil, if◌then◌else◌, inl, inr}
 use Rattle.std.specs.Option.{option_map, IfSome}
 use Rattle.std.specs.Ordering.{nat_cmp}
 use Rattle.std.specs.BTreeMap.{is_at}
@@ -30,7 +30,8 @@ use Rattle.mea_meet.specs.declared.groups.GroupHall.TheInside.{Inside}
 use Rattle.mea_meet.proofs.Names.{waiting-wakers, waiting-alike, waiting-registers, waiting-ends, named-later, named-new, named-registers, named-ends, given-drained, given-registers}
 use Rattle.mea_meet.proofs.Maps.{ChangesAt, Puts, put_there, by_name, kept-at, kept-puts, changes_twice, insert_same, seen-some, seen_put, seen_gone, puts_same, is_insert, is_remove}
 use Rattle.mea_meet.proofs.GroupChanges.{Changes, slot_entry, are_given, used_left, kept_after, hall_used, hall_tidied, registered_after, group_seen, waits_within, handles_within}
-use Rattle.mea_meet.proofs.Slots.{slot_owner, slots_there, slots_other}
+use Rattle.mea_meet.proofs.Slots.{slot_owner, slots_there, slots_other, IsApart, apart_unplaced, waiting_beside, given_beside}
+use Rattle.mea_meet.proofs.Counts.{decreased-seen, woken-seen, given-decreased, woken-all}
 
 -- event i had this outcome, which touches no waker: what is kept now, and what the contract says
 pub record Rested (v : Part Groups) (i : ℕ) (o : Outcome Groups) (answer : Answer) (st' : Store) : Type 0 where
@@ -54,23 +55,6 @@ IsKeptIn a = IsKept (store_in a) a.next
 -- ---- a handle less
 abbrev pub leaving : GroupEntry → ℕ → GroupEntry
 leaving e m = record { core = record e.core { count = decreased e.core.count 1 }; handles = e.handles - 1; waits = m }
-
-leaves-list : (slots slots' : Slots) (n n' g : ℕ) (s : Registered ℕ) (t : Bool) → waiting_at slots' n' g s ≡ waiting_at slots n g s → waiting_at slots' n' g (if t then drained s else s) ≡ (if t then [] else waiting_at slots n g s)
-leaves-list slots slots' n n' g s true same = refl
-leaves-list slots slots' n n' g s false same = same
-
-leaves-given : (slots : Slots) (g : ℕ) (s : Registered ℕ) (t : Bool) → AreGiven slots g s → AreGiven slots g (if t then drained s else s)
-leaves-given slots g s true given f slot is = given-drained s slot (given f slot is)
-leaves-given slots g s false given f slot is = given f slot is
-
-leaves-woken : (slots : Slots) (n g : ℕ) (s : Registered ℕ) (t : Bool) → (if t then s.wakers else []) ≡ (if t then wakers (waiting_at slots n g s) else [])
-leaves-woken slots n g s true = sym (waiting-wakers slots n g s)
-leaves-woken slots n g s false = refl
-
--- the wakers that leave and those that stay are those that there were
-leaves-counted : (s : Registered ℕ) (t : Bool) → length (if t then s.wakers else []) + length (if t then drained s else s).wakers ≡ length s.wakers
-leaves-counted s true = omega arith
-leaves-counted s false = omega arith
 
 wakers_used : (e : GroupEntry) → 0 < e.handles + e.waits → wakers_left e ≡ length e.core.count.waiting.wakers
 wakers_used e some = by_test (is_used e) (used_left e some)
@@ -259,7 +243,7 @@ module _ (a : Inside) (v : Part Groups) (i : ℕ) (seen : seen_in a ≡ v) (k : 
     pub left_room : (d : GroupEntry) (m before middle : ℕ) → d ≡ leaving e m → length s.wakers ≤ before → middle + length (woken_by e.core.count 1) ≡ before → length d.core.count.waiting.wakers ≤ middle
     left_room d m before middle is fits first =
         let same : length d.core.count.waiting.wakers ≡ length (leaving e m).core.count.waiting.wakers = ap (λ (u : GroupEntry). length u.core.count.waiting.wakers) is in
-        let all : length (woken_by e.core.count 1) + length (leaving e m).core.count.waiting.wakers ≡ length s.wakers = leaves-counted s (ends e.core.count 1) in
+        let all : length (leaving e m).core.count.waiting.wakers + length (woken_by e.core.count 1) ≡ length s.wakers = woken-all e.core.count 1 in
         omega (arith, same, all, fits, first)
 
     -- a used group is written
@@ -275,38 +259,22 @@ module _ (a : Inside) (v : Part Groups) (i : ℕ) (seen : seen_in a ≡ v) (k : 
       waits_new = kept-puts a.waits.entries ws' i (Some x) adds
 
       slot_new : slots_of waits_now i ≡ Some (g, None)
-      slot_new = slots_there slot_entry st.waits waits_now i (Some x) waits_new ∙ (λ j. Some (mine j, new j))
+      slot_new = slots_there (option_map slot_entry) st.waits waits_now i (Some x) waits_new ∙ (λ j. Some (mine j, new j))
 
       others_new : (f : ℕ) → (i ≡ f → ⊥) → slots_of waits_now f ≡ slots_of st.waits f
-      others_new = slots_other slot_entry st.waits waits_now i (Some x) waits_new
+      others_new = slots_other (option_map slot_entry) st.waits waits_now i (Some x) waits_new
 
       named_more : AreNamed (slots_of waits_now) (i + 1)
       named_more = named-new (slots_of st.waits) (slots_of waits_now) n (i + 1) i k.named (omega (arith, less)) others_new g (omega arith) slot_new
 
-      slot_stays : (f : ℕ) (place : Place) → slots_of st.waits f ≡ Some (g, Some place) → slots_of waits_now f ≡ Some (g, Some place)
-      slot_stays f place is = by_name i f
-          (λ same. absurd (let clash : None ≡ Some (g, Some place) = sym (ap (option_map slot_entry) no_wait) ∙ ap (slots_of st.waits) same ∙ is in cc))
-          (λ apart. others_new f apart ∙ is)
-
-      slot_stood : (f : ℕ) (place : Place) → slots_of waits_now f ≡ Some (g, Some place) → slots_of st.waits f ≡ Some (g, Some place)
-      slot_stood f place is = by_name i f
-          (λ same. absurd (let z = slot_owner (λ (x : GroupWaitEntry). x.group) (λ x. x.wait) (get waits_now f) g (Some place) is in
-          let one : Some x ≡ Some z.0 = sym (put_there st.waits waits_now i (Some x) waits_new f same) ∙ z.1 in
-          let it : x ≡ z.0 = cc in
-          let clash : None ≡ Some place = sym new ∙ ap (λ (u : GroupWaitEntry). u.wait) it ∙ z.3 in cc))
-          (λ apart. sym (others_new f apart) ∙ is)
+      unplaced_new : IsApart g (option_map slot_entry (Some x))
+      unplaced_new = apart_unplaced g (option_map slot_entry (Some x)) (inr (g, λ j. Some (mine j, new j)))
 
       list_more : waiting_at (slots_of waits_now) (i + 1) g s ≡ waiting_at (slots_of st.waits) n g s
-      list_more = waiting-alike (slots_of st.waits) (slots_of waits_now) n (i + 1) g s k.named named_more slot_stays slot_stood
+      list_more = waiting_beside (option_map slot_entry) st.waits waits_now i (Some x) waits_new n (i + 1) k.named named_more g s (apart_unplaced g (slots_of st.waits i) (inl (ap (option_map slot_entry) no_wait))) unplaced_new
 
       given_more : AreGiven (slots_of waits_now) g s
-      given_more f slot is = by_name i f
-          (λ same. let z = slot_owner (λ (x : GroupWaitEntry). x.group) (λ x. x.wait) (get waits_now f) g slot is in
-          let one : Some x ≡ Some z.0 = sym (put_there st.waits waits_now i (Some x) waits_new f same) ∙ z.1 in
-          let it : x ≡ z.0 = cc in
-          let none : None ≡ slot = sym new ∙ ap (λ (u : GroupWaitEntry). u.wait) it ∙ z.3 in
-          subst (λ u. has_given s u ≡ true) none refl)
-          (λ apart. given f slot (sym (others_new f apart) ∙ is))
+      given_more = given_beside (option_map slot_entry) st.waits waits_now i (Some x) waits_new g s unplaced_new given
 
       its_group : (z : GroupWaitEntry) → Some x ≡ Some z → z.group ≡ g
       its_group z same = let one : x ≡ z = cc in ap (λ (u : GroupWaitEntry). u.group) (sym one) ∙ mine
@@ -430,11 +398,8 @@ module _ (a : Inside) (v : Part Groups) (i : ℕ) (seen : seen_in a ≡ v) (k : 
         handles_are : handles_now ≡ remove h.handles m
         handles_are = is_remove st.handles handles_now m handles_fewer
 
-        abbrev over : Bool
-        over = ends e.core.count 1
-
         woken_seen : woken_by e.core.count 1 ≡ counts.woken_by c 1
-        woken_seen = leaves-woken (slots_of st.waits) n g s over
+        woken_seen = sym (woken-seen (slots_of st.waits) n g e.core.count 1)
 
         module _ (gs' : List (ℕ × GroupEntry)) (d : GroupEntry) (is : d ≡ leaving e e.waits) (puts : ChangesAt a.groups.entries gs' g (left d)) (before middle after : Waking ℕ) where
           abbrev st_ended : Store
@@ -460,7 +425,7 @@ module _ (a : Inside) (v : Part Groups) (i : ℕ) (seen : seen_in a ≡ v) (k : 
             wait_was_of = λ z same. absurd (cc);
             wait_is_of = λ z same. absurd (cc);
             named = named_same;
-            given = leaves-given (slots_of st.waits) g s over given;
+            given = given-decreased (slots_of st.waits) n g e.core.count 1 given;
             quiet = quiet;
             known = ap (λ j. j - 1) known;
             handles_counted = (let one = lives in omega (arith, one));
@@ -471,13 +436,13 @@ module _ (a : Inside) (v : Part Groups) (i : ℕ) (seen : seen_in a ≡ v) (k : 
               → after.registered + length d.core.count.waiting.wakers ≡ middle.registered + wakers_left d → Played v i (model.end_of v.hall m (get v.hall.handles m)) answers.Done st_ended before after
           ends_handle woken first still tidies =
               let counted = registered_after st st_ended n (i + 1) g m i (Some e) ended_entry (Some g) None None None k change_ended in
-              let all : length (woken_by e.core.count 1) + length ended_entry.core.count.waiting.wakers ≡ length s.wakers = leaves-counted s over in
+              let all : length ended_entry.core.count.waiting.wakers + length (woken_by e.core.count 1) ≡ length s.wakers = woken-all e.core.count 1 in
               let last : after.registered + length ended_entry.core.count.waiting.wakers ≡ middle.registered + wakers_left ended_entry = subst (λ (u : GroupEntry). after.registered + length u.core.count.waiting.wakers ≡ middle.registered + wakers_left u) is tidies in
               played (λ u. model.end_of u m (get u.handles m)) (record { hall = tidied (record { groups = insert h.groups g (counts.decreased c 1); handles = remove h.handles m; waits = h.waits }) g; reply = answers.Done; wakes = counts.woken_by c 1 }) answers.Done st_ended before after
               (ap (model.end_of h m) handle_there ∙ ap (λ r. record { hall = tidied (record { groups = insert h.groups g (counts.decreased r 1); handles = remove h.handles m; waits = h.waits }) g; reply = answers.Done; wakes = counts.woken_by r 1 }) at_g)
               (kept_after st st_ended n (i + 1) g m i (Some e) ended_entry (Some g) None None None k change_ended)
               (hall_tidied st st_ended n (i + 1) g m i (Some e) ended_entry (Some g) None None None k change_ended (counts.decreased c 1) (remove h.handles m) h.waits
-              (λ j. record { number = e.core.count.number - 1; waiting = leaves-list (slots_of st.waits) (slots_of st.waits) n (i + 1) g s over (list_same g s) j }) handles_are refl)
+              (decreased-seen (slots_of st.waits) (i + 1) g e.core.count 1 (list_same g s)) handles_are refl)
               refl (still ∙ woken ∙ ap (λ ws. before.wakers ++ ws) woken_seen) (omega (arith, counted, all, first, last))
 
         -- it becomes a future
@@ -505,7 +470,7 @@ module _ (a : Inside) (v : Part Groups) (i : ℕ) (seen : seen_in a ≡ v) (k : 
             wait_was_of = λ z same. absurd (cc);
             wait_is_of = its_group ws' x adds mine new;
             named = named_more ws' x adds mine new;
-            given = leaves-given (slots_of st_turned.waits) g s over (given_more ws' x adds mine new);
+            given = given-decreased (slots_of st_turned.waits) n g e.core.count 1 (given_more ws' x adds mine new);
             quiet = quiet;
             known = ap (λ j. j - 1) known;
             handles_counted = (let one = lives in omega (arith, one));
@@ -515,13 +480,13 @@ module _ (a : Inside) (v : Part Groups) (i : ℕ) (seen : seen_in a ≡ v) (k : 
           pub turns : after.wakers ≡ before.wakers ++ woken_by e.core.count 1 → after.registered + length (woken_by e.core.count 1) ≡ before.registered → Played v i (model.into_of v.hall i m (get v.hall.handles m)) answers.Made st_turned before after
           turns woken first =
               let counted = registered_after st st_turned n (i + 1) g m i (Some e) turned_entry (Some g) None None (Some x) k change_turned in
-              let all : length (woken_by e.core.count 1) + length turned_entry.core.count.waiting.wakers ≡ length s.wakers = leaves-counted s over in
+              let all : length turned_entry.core.count.waiting.wakers + length (woken_by e.core.count 1) ≡ length s.wakers = woken-all e.core.count 1 in
               let stay : wakers_left turned_entry ≡ length turned_entry.core.count.waiting.wakers = wakers_used turned_entry (omega arith) in
               played (λ u. model.into_of u i m (get u.handles m)) (record { hall = record { groups = insert h.groups g (counts.decreased c 1); handles = remove h.handles m; waits = insert h.waits i g }; reply = answers.Made; wakes = counts.woken_by c 1 }) answers.Made st_turned before after
               (ap (model.into_of h i m) handle_there ∙ ap (λ r. record { hall = record { groups = insert h.groups g (counts.decreased r 1); handles = remove h.handles m; waits = insert h.waits i g }; reply = answers.Made; wakes = counts.woken_by r 1 }) at_g)
               (kept_after st st_turned n (i + 1) g m i (Some e) turned_entry (Some g) None None (Some x) k change_turned)
               (hall_used st st_turned n (i + 1) g m i (Some e) turned_entry (Some g) None None (Some x) k change_turned (counts.decreased c 1) (remove h.handles m) (insert h.waits i g)
-              (λ j. record { number = e.core.count.number - 1; waiting = leaves-list (slots_of st.waits) (slots_of st_turned.waits) n (i + 1) g s over (list_more ws' x adds mine new) j }) handles_are (waits_are ws' x adds mine new) (omega arith))
+              (decreased-seen (slots_of st_turned.waits) (i + 1) g e.core.count 1 (list_more ws' x adds mine new)) handles_are (waits_are ws' x adds mine new) (omega arith))
               refl (woken ∙ ap (λ ws. before.wakers ++ ws) woken_seen) (omega (arith, counted, all, first, stay))
 
     -- ---- one of its futures
@@ -567,10 +532,10 @@ module _ (a : Inside) (v : Part Groups) (i : ℕ) (seen : seen_in a ≡ v) (k : 
         waits_polled = kept-puts a.waits.entries ws' f (Some y) writes
 
         others : (j : ℕ) → (f ≡ j → ⊥) → slots_of st_polled.waits j ≡ slots_of st.waits j
-        others = slots_other slot_entry st.waits st_polled.waits f (Some y) waits_polled
+        others = slots_other (option_map slot_entry) st.waits st_polled.waits f (Some y) waits_polled
 
         slot_is : slots_of st_polled.waits f ≡ Some (g, slot_after s x.wait)
-        slot_is = slots_there slot_entry st.waits st_polled.waits f (Some y) waits_polled ∙ (λ j. Some (stays j, registers.slot_is j))
+        slot_is = slots_there (option_map slot_entry) st.waits st_polled.waits f (Some y) waits_polled ∙ (λ j. Some (stays j, registers.slot_is j))
 
         named_polled : AreNamed (slots_of st_polled.waits) (i + 1)
         named_polled = named-registers (slots_of st.waits) (slots_of st_polled.waits) n (i + 1) f k.named (omega (arith, less)) others g x.wait s given slot_was slot_is
@@ -628,10 +593,10 @@ module _ (a : Inside) (v : Part Groups) (i : ℕ) (seen : seen_in a ≡ v) (k : 
         waits_gone = kept-puts a.waits.entries ws' f None gone
 
         others_gone : (j : ℕ) → (f ≡ j → ⊥) → slots_of st_gone.waits j ≡ slots_of st.waits j
-        others_gone = slots_other slot_entry st.waits st_gone.waits f None waits_gone
+        others_gone = slots_other (option_map slot_entry) st.waits st_gone.waits f None waits_gone
 
         slot_gone : slots_of st_gone.waits f ≡ None
-        slot_gone = slots_there slot_entry st.waits st_gone.waits f None waits_gone
+        slot_gone = slots_there (option_map slot_entry) st.waits st_gone.waits f None waits_gone
 
         named_gone : AreNamed (slots_of st_gone.waits) (i + 1)
         named_gone = named-ends (slots_of st.waits) (slots_of st_gone.waits) n (i + 1) f k.named (omega (arith, less)) others_gone slot_gone

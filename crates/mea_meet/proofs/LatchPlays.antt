@@ -1,5 +1,5 @@
 -- what the events on latches do to what a `LatchHall` keeps
-use Rattle.std.proofs.Common.{◌≡◌, ℕ, ◌+◌, ◌-◌, ◌<◌, ◌≤◌, ◌^◌, ◌==◌, ◌&&◌, ◌||◌, ◌++◌, Bool, true, false, cond, [], length, nat_lt, refl, ap, sym, subst, ◌∙◌, Option, Some, None, arith, unwrap_or, if◌then◌else◌, append-nil, slice_set, ◌∷◌, length-append, length-set}
+use Rattle.std.proofs.Common.{◌≡◌, ℕ, ◌+◌, ◌-◌, ◌<◌, ◌≤◌, ◌^◌, ◌==◌, ◌&&◌, ◌||◌, ◌++◌, Bool, true, false, cond, [], length, nat_lt, refl, ap, sym, subst, ◌∙◌, Option, Some, None, arith, unwrap_or, if◌then◌else◌, append-nil, slice_set, ◌∷◌, length-append, length-set, inl, inr}
 use Rattle.std.specs.Option.{option_map}
 use Rattle.std.specs.Ordering.{nat_cmp}
 use Rattle.std.specs.FinMap.{FinMap, get, insert, remove}
@@ -26,7 +26,9 @@ use Rattle.mea_meet.specs.declared.latches.LatchEntry.{LatchEntry}
 use Rattle.mea_meet.specs.declared.latches.LatchWaitEntry.{LatchWaitEntry}
 use Rattle.mea_meet.proofs.Names.{waiting-alike, waiting-registers, waiting-ends, named-new, named-ends, named-registers, given-registers, given-with, waiting-wakers, given-drained}
 use Rattle.mea_meet.proofs.Maps.{at_same, at_apart, put_here, put_other, is_insert, is_remove, weight-within, is_same, puts_over}
-use Rattle.mea_meet.proofs.LatchStore.{slot_in, slot_other, slot_was, slot_now, waits_after, waiting_other, waits_other, plain_other, others_other, waits_mine, plain_mine, latch_seen, wait_seen, registered_seen, waits_seen, later_kept, later_seen, Changes, kept_after, latches_after, registered_after, given_to, given_all}
+use Rattle.mea_meet.proofs.LatchStore.{slot_other, slot_was, slot_now, waits_after, waiting_other, waits_other, plain_other, others_other, waits_mine, plain_mine, latch_seen, wait_seen, registered_seen, waits_seen, later_kept, later_seen, Changes, kept_after, latches_after, registered_after, given_to, given_all}
+use Rattle.mea_meet.proofs.Counts.{decreased-seen, woken-seen, woken-all}
+use Rattle.mea_meet.proofs.Slots.{apart_unplaced, waiting_beside}
 
 -- ---- what an event came to
 pub record Rested (st st' : Store) (next i : ℕ) (o : Outcome Latches) (answer : Answer) : Type 0 where
@@ -258,7 +260,7 @@ module _ (st : Store) (next i : ℕ) (k : IsKept st next) (less : next ≤ i) (l
       let c = becomes ls' l e d there latches refl refl refl (λ x given. by_given x given (cores.ends e.core.count n)) in
       let sums = registered_after st st' (i + 1) l (Some d) k1 c in
       let was : weight (λ q (y : LatchEntry). length y.core.count.waiting.wakers) l (get st.latches l) ≡ length e.core.count.waiting.wakers = ap (weight (λ q (y : LatchEntry). length y.core.count.waiting.wakers) l) there in
-      let all : length (if cores.ends e.core.count n then drained e.core.count.waiting else e.core.count.waiting).wakers + length (cores.woken_by e.core.count n) ≡ length e.core.count.waiting.wakers = by_count (cores.ends e.core.count n) in
+      let all = woken-all e.core.count n in
       let part = weight-within (λ q (y : LatchEntry). length y.core.count.waiting.wakers) st.latches l e there in
       let seen = registered_seen st next in
       let fewer : after.registered ≡ before.registered - length (cores.woken_by e.core.count n) = ap (λ (r : Waking ℕ). r.registered) ready in
@@ -266,30 +268,15 @@ module _ (st : Store) (next i : ℕ) (k : IsKept st next) (less : next ≤ i) (l
       ((λ j. record { latches = is_insert now.latches (latches_of st' (i + 1)).latches l (latch_of st.waits (i + 1) l d) (latches_after st st' (i + 1) l (Some d) k1 c) j; waits = now.waits })
       ∙ ap (λ r. model.with_latch now l r) (seen_arrived ∙ ap (λ (r : Latch). record r { count = counts.decreased r.count n }) (sym (latch_is st (i + 1) l e there))))
       refl
-      (ap (λ (r : Waking ℕ). r.wakers) ready ∙ ap (λ v. before.wakers ++ v) (seen_woken ∙ ap (λ (r : Latch). counts.woken_by r.count n) (sym (latch_is st (i + 1) l e there))))
+      (ap (λ (r : Waking ℕ). r.wakers) ready ∙ ap (λ v. before.wakers ++ v) (sym (woken-seen (slots_of st.waits) (i + 1) l e.core.count n) ∙ ap (λ (r : Latch). counts.woken_by r.count n) (sym (latch_is st (i + 1) l e there))))
       (omega (arith, sums, was, all, part, seen, fewer, room))
     where
       by_given : (x : LatchWaitEntry) → has_given e.core.count.waiting x.wait ≡ true → (t : Bool) → has_given (if t then drained e.core.count.waiting else e.core.count.waiting) x.wait ≡ true
       by_given x given true = given-drained e.core.count.waiting x.wait given
       by_given x given false = given
 
-      by_count : (t : Bool) → length (if t then drained e.core.count.waiting else e.core.count.waiting).wakers + length (if t then e.core.count.waiting.wakers else []) ≡ length e.core.count.waiting.wakers
-      by_count true = omega arith
-      by_count false = omega arith
-
       seen_arrived : latch_of st.waits (i + 1) l (arrived e n) ≡ record (latch_of st.waits (i + 1) l e) { count = counts.decreased (latch_of st.waits (i + 1) l e).count n }
-      seen_arrived = λ j. record { count = record { number = e.core.count.number - n; waiting = by_end (cores.ends e.core.count n) j }; named = e.named }
-        where
-          by_end : (t : Bool) → waiting_at (slots_of st.waits) (i + 1) l (if t then drained e.core.count.waiting else e.core.count.waiting) ≡ (if t then [] else waiting_at (slots_of st.waits) (i + 1) l e.core.count.waiting)
-          by_end true = refl
-          by_end false = refl
-
-      seen_woken : cores.woken_by e.core.count n ≡ counts.woken_by (latch_of st.waits (i + 1) l e).count n
-      seen_woken = by_end (cores.ends e.core.count n)
-        where
-          by_end : (t : Bool) → (if t then e.core.count.waiting.wakers else []) ≡ (if t then wakers (waiting_at (slots_of st.waits) (i + 1) l e.core.count.waiting) else [])
-          by_end true = sym (waiting-wakers (slots_of st.waits) (i + 1) l e.core.count.waiting)
-          by_end false = refl
+      seen_arrived = λ j. record { count = decreased-seen (slots_of st.waits) (i + 1) l e.core.count n refl j; named = e.named }
 
   -- ---- `lat.drop`
   pub drops : (ls' : FinMap nat_cmp LatchEntry) (l : ℕ) (e : LatchEntry) (before after : Waking ℕ) → get st.latches l ≡ Some e → ((q : ℕ) → get ls' q ≡ cond (l == q) (tidied (record e { named = false })) (get st.latches q)) → registered (latches_of st next) ≤ before.registered
@@ -367,16 +354,10 @@ module _ (st : Store) (next i : ℕ) (k : IsKept st next) (less : next ≤ i) (l
     begun_seen : latch_of ws' (i + 1) l (begun e plain) ≡ latch_of st.waits (i + 1) l e
     begun_seen = λ j. record { count = record { number = e.core.count.number; waiting = same j }; named = e.named }
       where
-        by_test : (f : ℕ) (place : Place) (t : Bool) → (i == f) ≡ t → slots_of ws' f ≡ Some (l, Some place) → slots_of st.waits f ≡ Some (l, Some place)
-        by_test f place true h is = absurd (let new : slots_of ws' f ≡ Some (l, None) = ap (slots_of ws') (sym (eqb-true i f h)) ∙ slot_now st.waits ws' i None (Some (new_wait l plain)) no_future waits in let clash : ◌≡◌ {A = Option Place} None (Some place) = ap (slot_in None) (sym new ∙ is) in cc)
-        by_test f place false h is = sym (slot_other st.waits ws' i None (Some (new_wait l plain)) no_future waits f (eqb-false i f h)) ∙ is
-
-        by_test_back : (f : ℕ) (place : Place) (t : Bool) → (i == f) ≡ t → slots_of st.waits f ≡ Some (l, Some place) → slots_of ws' f ≡ Some (l, Some place)
-        by_test_back f place true h is = absurd (let old : slots_of st.waits f ≡ None = ap (slots_of st.waits) (sym (eqb-true i f h)) ∙ slot_was st.waits ws' i None (Some (new_wait l plain)) no_future waits in cc)
-        by_test_back f place false h is = slot_other st.waits ws' i None (Some (new_wait l plain)) no_future waits f (eqb-false i f h) ∙ is
-
         same : waiting_at (slots_of ws') (i + 1) l e.core.count.waiting ≡ waiting_at (slots_of st.waits) (i + 1) l e.core.count.waiting
-        same = waiting-alike (slots_of st.waits) (slots_of ws') (i + 1) (i + 1) l e.core.count.waiting k1.named new_named (λ f place is. by_test_back f place (i == f) refl is) (λ f place is. by_test f place (i == f) refl is)
+        same = waiting_beside (option_map slot_of) st.waits ws' i (Some (new_wait l plain)) waits (i + 1) (i + 1) k1.named new_named l e.core.count.waiting
+            (apart_unplaced l (slots_of st.waits i) (inl (ap (option_map slot_of) no_future)))
+            (apart_unplaced l (option_map slot_of (Some (new_wait l plain))) (inr (l, refl)))
 
     pub begins : Rested st begun_store next i (model.wait (latches_of st next) i l plain) answers.Made
     begins =

@@ -29,6 +29,7 @@ use Rattle.mea_meet.proofs.Names.{waiting-wakers}
 use Rattle.mea_meet.proofs.Maps.{put_here, kept-at, found, kept-puts, at_same, weight-within, is_same}
 use Rattle.mea_meet.proofs.LatchStore.{latch_seen, registered_seen, wait_seen, plain_seen, given_to}
 use Rattle.mea_meet.proofs.LatchPlays.{Rested, Yielded, latch_is, named_is, named_not, wait_there, stays, makes, arrives, drops, begins, registering_entry, registering_wait, polls_on, leaves}
+use Rattle.mea_meet.proofs.Counts.{woken-all}
 
 abbrev pub Latchs : Type 0
 Latchs = List (ℕ × LatchEntry)
@@ -181,11 +182,7 @@ let_go_most e = by_test (e.named || nat_lt 0 e.waits)
     by_test false = omega arith
 
 pub woken_most : (e : LatchEntry) (n : ℕ) → length (cores.woken_by e.core.count n) ≤ length e.core.count.waiting.wakers
-woken_most e n = by_test (cores.ends e.core.count n)
-  where
-    by_test : (t : Bool) → length (if t then e.core.count.waiting.wakers else []) ≤ length e.core.count.waiting.wakers
-    by_test true = omega arith
-    by_test false = omega arith
+woken_most e n = let all = woken-all e.core.count n in omega (arith, all)
 
 -- the reply to a try, by what the core told
 abbrev pub told_try : Result (Unit {0}) ℕ → Answer

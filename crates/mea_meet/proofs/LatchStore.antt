@@ -15,19 +15,8 @@ use Rattle.mea_meet.specs.LatchHall.{Store, slot_of, slots_of, latch_of, wait_of
 use Rattle.mea_meet.specs.declared.latches.LatchEntry.{LatchEntry}
 use Rattle.mea_meet.specs.declared.latches.LatchWaitEntry.{LatchWaitEntry}
 use Rattle.mea_meet.proofs.Names.{waiting-length, waiting-alike, named-later}
-use Rattle.mea_meet.proofs.Maps.{at_same, at_apart, get-seen, put_here, put_other, total_puts}
-
--- the parts of what a future's slot is
-abbrev name_in : ℕ → Option (ℕ × Option Place) → ℕ
-name_in d None = d
-name_in d (Some y) = y.0
-
-abbrev pub slot_in : Option Place → Option (ℕ × Option Place) → Option Place
-slot_in d None = d
-slot_in d (Some y) = y.1
-
-latch_is : (x : LatchWaitEntry) (p : ℕ) (slot : Option Place) → Some (slot_of x) ≡ Some (p, slot) → x.latch ≡ p
-latch_is x p slot is = ap (name_in x.latch) is
+use Rattle.mea_meet.proofs.Maps.{at_same, at_apart, get-seen, put_here, put_other, total_puts, seen_puts, puts_seen, Belongs, total_elsewhere, by_name, put_there}
+use Rattle.mea_meet.proofs.Slots.{slot_owner, slots_there, slots_other, apart_belongs, waiting_beside}
 
 -- 1 for a plain future
 abbrev pub plain_of : Option LatchWaitEntry → ℕ
@@ -134,15 +123,8 @@ module _ (st st' : Store) (b l : ℕ) (e' : Option LatchEntry) (k : IsKept st b)
   kept_after = record { each = each_after; home = home_after; named = c.named; low = k.low }
 
   pub latches_after : (q : ℕ) → get (latches_of st' b).latches q ≡ cond (l == q) (option_map (latch_of st'.waits b l) e') (get (latches_of st b).latches q)
-  latches_after q = latch_seen st' b q ∙ ap (option_map (latch_of st'.waits b q)) (c.latches q) ∙ by_test (l == q) refl
-    where
-      by_entry : (l ≡ q → ⊥) → (o : Option LatchEntry) → option_map (latch_of st'.waits b q) o ≡ option_map (latch_of st.waits b q) o
-      by_entry apart None = refl
-      by_entry apart (Some e) = λ j. Some (record { count = record { number = e.core.count.number; waiting = c.waiting q e.core.count.waiting apart j }; named = e.named })
-
-      by_test : (t : Bool) → (l == q) ≡ t → option_map (latch_of st'.waits b q) (cond t e' (get st.latches q)) ≡ cond t (option_map (latch_of st'.waits b l) e') (get (latches_of st b).latches q)
-      by_test true h = ap (λ p. option_map (latch_of st'.waits b p) e') (sym (eqb-true l q h))
-      by_test false h = by_entry (eqb-false l q h) (get st.latches q) ∙ sym (latch_seen st b q)
+  latches_after = seen_puts (latch_of st.waits b) (latch_of st'.waits b) st.latches st'.latches l e' c.latches
+      (λ q e apart there. λ j. record { count = record { number = e.core.count.number; waiting = c.waiting q e.core.count.waiting apart j }; named = e.named })
 
   -- how many wakers are registered
   pub registered_after : registered (latches_of st' b) + weight (λ q (e : LatchEntry). length e.core.count.waiting.wakers) l (get st.latches l) ≡ registered (latches_of st b) + weight (λ q (e : LatchEntry). length e.core.count.waiting.wakers) l e'
@@ -156,71 +138,47 @@ module _ (st st' : Store) (b l : ℕ) (e' : Option LatchEntry) (k : IsKept st b)
 module _ (ws ws' : Kept) (f : ℕ) (o o' : Option LatchWaitEntry) (was : get ws f ≡ o) (now : (g : ℕ) → get ws' g ≡ cond (f == g) o' (get ws g)) where
   -- the slots, before and after
   pub slot_other : (g : ℕ) → (f ≡ g → ⊥) → slots_of ws' g ≡ slots_of ws g
-  slot_other g apart = ap (option_map slot_of) (put_other ws ws' f o' now g apart)
+  slot_other = slots_other (option_map slot_of) ws ws' f o' now
 
   pub slot_was : slots_of ws f ≡ option_map slot_of o
   slot_was = ap (option_map slot_of) was
 
   pub slot_now : slots_of ws' f ≡ option_map slot_of o'
-  slot_now = ap (option_map slot_of) (put_here ws ws' f o' now)
+  slot_now = slots_there (option_map slot_of) ws ws' f o' now
 
 -- the futures as they are seen after it
 pub waits_after : (st : Store) (ls' : FinMap nat_cmp LatchEntry) (ws' : Kept) (b f : ℕ) (o' : Option LatchWaitEntry) → ((g : ℕ) → get ws' g ≡ cond (f == g) o' (get st.waits g)) → (g : ℕ) → get (latches_of (record { latches = ls'; waits = ws' }) b).waits g ≡ cond (f == g) (option_map wait_of o') (get (latches_of st b).waits g)
-waits_after st ls' ws' b f o' now g = wait_seen (record { latches = ls'; waits = ws' }) b g ∙ ap (option_map wait_of) (now g) ∙ by_test (f == g)
-  where
-    by_test : (t : Bool) → option_map wait_of (cond t o' (get st.waits g)) ≡ cond t (option_map wait_of o') (get (latches_of st b).waits g)
-    by_test true = refl
-    by_test false = sym (wait_seen st b g)
+waits_after st ls' ws' b f o' now = puts_seen wait_of st.waits ws' f o' now
 
 -- the same, of the latch l
 module _ (ws ws' : Kept) (b l f : ℕ) (o o' : Option LatchWaitEntry) (named : AreNamed (slots_of ws) b) (named' : AreNamed (slots_of ws') b) (was : get ws f ≡ o) (now : (g : ℕ) → get ws' g ≡ cond (f == g) o' (get ws g)) (mine : (x : LatchWaitEntry) → o ≡ Some x → x.latch ≡ l) (mine' : (x : LatchWaitEntry) → o' ≡ Some x → x.latch ≡ l) where
-  -- what a future of another latch is, before and after
-  pub other_wait : (q g : ℕ) (x : LatchWaitEntry) → (l ≡ q → ⊥) → x.latch ≡ q → get ws' g ≡ Some x → get ws g ≡ Some x
-  other_wait q g x apart at_q is = by_test (f == g) refl
-    where
-      by_test : (t : Bool) → (f == g) ≡ t → get ws g ≡ Some x
-      by_test true h = absurd (apart (sym (mine' x (sym (put_here ws ws' f o' now) ∙ ap (get ws') (eqb-true f g h) ∙ is)) ∙ at_q))
-      by_test false h = sym (put_other ws ws' f o' now g (eqb-false f g h)) ∙ is
-
-  pub other_wait_back : (q g : ℕ) (x : LatchWaitEntry) → (l ≡ q → ⊥) → x.latch ≡ q → get ws g ≡ Some x → get ws' g ≡ Some x
-  other_wait_back q g x apart at_q is = by_test (f == g) refl
-    where
-      by_test : (t : Bool) → (f == g) ≡ t → get ws' g ≡ Some x
-      by_test true h = absurd (apart (sym (mine x (sym was ∙ ap (get ws) (eqb-true f g h) ∙ is)) ∙ at_q))
-      by_test false h = put_other ws ws' f o' now g (eqb-false f g h) ∙ is
+  was_mine : Belongs {X = LatchWaitEntry} (λ x. x.latch) l (get ws f)
+  was_mine x is = mine x (sym was ∙ is)
 
   pub waiting_other : (q : ℕ) (s : Registered ℕ) → (l ≡ q → ⊥) → waiting_at (slots_of ws') b q s ≡ waiting_at (slots_of ws) b q s
-  waiting_other q s apart = waiting-alike (slots_of ws) (slots_of ws') b b q s named named'
-      (λ g place is. by_old g place (get ws g) refl is) (λ g place is. by_new g place (get ws' g) refl is)
-    where
-      by_old : (g : ℕ) (place : Place) (p : Option LatchWaitEntry) → get ws g ≡ p → option_map slot_of p ≡ Some (q, Some place) → slots_of ws' g ≡ Some (q, Some place)
-      by_old g place None at_g is = absurd (cc)
-      by_old g place (Some x) at_g is = ap (option_map slot_of) (other_wait_back q g x apart (latch_is x q (Some place) is) at_g) ∙ is
+  waiting_other q s apart = waiting_beside (option_map slot_of) ws ws' f o' now b b named named' q s
+      (apart_belongs (λ (x : LatchWaitEntry). x.latch) (λ x. x.wait) (get ws f) l q was_mine apart)
+      (apart_belongs (λ (x : LatchWaitEntry). x.latch) (λ x. x.wait) o' l q mine' apart)
 
-      by_new : (g : ℕ) (place : Place) (p : Option LatchWaitEntry) → get ws' g ≡ p → option_map slot_of p ≡ Some (q, Some place) → slots_of ws g ≡ Some (q, Some place)
-      by_new g place None at_g is = absurd (cc)
-      by_new g place (Some x) at_g is = ap (option_map slot_of) (other_wait q g x apart (latch_is x q (Some place) is) at_g) ∙ is
-
-  -- a sum over the futures of another latch
-  sum_other : (q : ℕ) (F : LatchWaitEntry → ℕ) → (l ≡ q → ⊥) → ((x : LatchWaitEntry) → x.latch ≡ l → F x ≡ 0) → total (λ g x. F x) ws' ≡ total (λ g x. F x) ws
-  sum_other q F apart none = total-alike (λ g x. F x) (λ g x. F x) ws' ws (λ g. ap (weight (λ h x. F x) g) (now g) ∙ by_test g (f == g) refl)
-    where
-      weightless : (g : ℕ) (p : Option LatchWaitEntry) → ((x : LatchWaitEntry) → p ≡ Some x → x.latch ≡ l) → weight (λ h x. F x) g p ≡ 0
-      weightless g None own = refl
-      weightless g (Some x) own = none x (own x refl)
-
-      by_test : (g : ℕ) (t : Bool) → (f == g) ≡ t → weight (λ h x. F x) g (cond t o' (get ws g)) ≡ weight (λ h x. F x) g (get ws g)
-      by_test g true h = weightless g o' mine' ∙ sym (ap (weight (λ h x. F x) g) (ap (get ws) (sym (eqb-true f g h)) ∙ was) ∙ weightless g o mine)
-      by_test g false h = refl
-
+  -- sums over the futures of another latch
   pub waits_other : (q : ℕ) → (l ≡ q → ⊥) → waits_in ws' q ≡ waits_in ws q
-  waits_other q apart = sum_other q (λ x. cond (x.latch == q) 1 0) apart (λ x own. at_apart x.latch q 1 0 (λ same. apart (sym own ∙ same)))
+  waits_other q apart = total_elsewhere (λ (x : LatchWaitEntry). x.latch) (λ x. 1) ws ws' f o' l q now was_mine mine' apart
 
   pub plain_other : (q : ℕ) → (l ≡ q → ⊥) → plain_in ws' q ≡ plain_in ws q
-  plain_other q apart = sum_other q (λ x. cond (x.latch == q && x.plain) 1 0) apart (λ x own. ap (λ t. cond (t && x.plain) 1 0) (ne_eqb x.latch q (λ same. apart (sym own ∙ same))))
+  plain_other q apart =
+      let all = total_puts ws ws' f (λ g (x : LatchWaitEntry). cond (x.latch == q && x.plain) 1 0) o' now in
+      let before = weighs (get ws f) was_mine in
+      let after = weighs o' mine' in
+      omega (arith, all, before, after)
+    where
+      weighs : (p : Option LatchWaitEntry) → Belongs (λ x. x.latch) l p → weight (λ g (x : LatchWaitEntry). cond (x.latch == q && x.plain) 1 0) f p ≡ 0
+      weighs None own = refl
+      weighs (Some x) own = ap (λ t. cond (t && x.plain) 1 0) (ne_eqb x.latch q (λ same. apart (sym (own x refl) ∙ same)))
 
   pub others_other : (g : ℕ) (x : LatchWaitEntry) → (l ≡ x.latch → ⊥) → get ws' g ≡ Some x → get ws g ≡ Some x
-  others_other g x apart is = other_wait x.latch g x apart refl is
+  others_other g x apart is = by_name f g
+      (λ same. absurd (apart (sym (mine' x (sym (put_there ws ws' f o' now g same) ∙ is)))))
+      (λ other. sym (put_other ws ws' f o' now g other) ∙ is)
 
   -- the sums over the futures of l itself
   pub waits_mine : waits_in ws' l + cond (is_some o) 1 0 ≡ waits_in ws l + cond (is_some o') 1 0
@@ -254,9 +212,6 @@ given_to st b l e k there f x is own =
     subst (λ (d : LatchEntry). has_given d.core.count.waiting x.wait ≡ true) same home.given
 
 pub given_all : (st : Store) (b l : ℕ) (e : LatchEntry) → IsKept st b → get st.latches l ≡ Some e → AreGiven (slots_of st.waits) l e.core.count.waiting
-given_all st b l e k there f slot is = by_wait (get st.waits f) refl is
-  where
-    by_wait : (p : Option LatchWaitEntry) → get st.waits f ≡ p → option_map slot_of p ≡ Some (l, slot) → has_given e.core.count.waiting slot ≡ true
-    by_wait None at_f h = absurd (cc)
-    by_wait (Some x) at_f h =
-        subst (λ s. has_given e.core.count.waiting s ≡ true) (ap (slot_in x.wait) h) (given_to st b l e k there f x at_f (ap (name_in x.latch) h))
+given_all st b l e k there f slot is =
+    let x = slot_owner (λ (x : LatchWaitEntry). x.latch) (λ x. x.wait) (get st.waits f) l slot is in
+    ap (has_given e.core.count.waiting) (sym x.3) ∙ given_to st b l e k there f x.0 x.1 x.2

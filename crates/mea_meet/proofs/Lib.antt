@@ -13,7 +13,7 @@ pub mod LatchStore
 pub mod LatchPlays
 pub mod LatchStanding
 pub mod ShutdownChanges
-pub mod ShutdownCounts
+pub mod Counts
 pub mod ShutdownEnds
 pub mod ShutdownGone
 pub mod ShutdownMakes

@@ -18,7 +18,7 @@ use Rattle.mea_meet.specs.declared.shutdowns.ShutdownWaitEntry.{ShutdownWaitEntr
 use Rattle.mea_meet.specs.ShutdownHall.{Store, End, OfSignal, OfReceivers, awaits_of, wait_of, count_at, slot_in, slots_of, count_of, shutdown_of, hall_of, counting, borrowers_in, is_of, IsKeptEntry, IsKept}
 use Rattle.mea_meet.proofs.Maps.{Puts, Belongs, puts_same, puts_seen, is_same, is_insert, is_remove, weight-within, belongs-none, belongs-some}
 use Rattle.mea_meet.proofs.ShutdownChanges.{Changes, Unplaced, kept_after, registered_after, wakers_at}
-use Rattle.mea_meet.proofs.ShutdownCounts.{decreased-seen, woken-seen, given-decreased, woken-all}
+use Rattle.mea_meet.proofs.Counts.{decreased-seen, woken-seen, given-decreased, woken-all}
 use Rattle.mea_meet.proofs.ShutdownSeen.{shutdown-seen, shutdown-at, wait-seen}
 use Rattle.mea_meet.proofs.ShutdownStill.{no-sender, no-receiver, no-wait, own, borrows-nothing, entry_after, still_named, still_given, still_shutdowns}
 
@@ -229,7 +229,7 @@ module _ (st : Store) (ss' : FinMap nat_cmp ShutdownEntry) (next i s : ℕ) (e :
   same_senders = puts_same st.senders i None (no-sender st next i k less)
 
   given_signalled : (end : End) → AreGiven (slots_of end st.waits) s (count_at end signalled.core).waiting
-  given_signalled OfSignal = given-decreased (slots_of OfSignal st.waits) next s e.core.signal ((k.each s e there).given OfSignal)
+  given_signalled OfSignal = given-decreased (slots_of OfSignal st.waits) next s e.core.signal 1 ((k.each s e there).given OfSignal)
   given_signalled OfReceivers = (k.each s e there).given OfReceivers
 
   pub signal_wakes : Wakes st (record { shutdowns = ss'; senders = st.senders; receivers = st.receivers; waits = st.waits }) next i
@@ -246,16 +246,16 @@ module _ (st : Store) (ss' : FinMap nat_cmp ShutdownEntry) (next i s : ℕ) (e :
     };
     counted = (
         let all = sender_counts st ss' st.senders next i s i e signalled None k less low there shutdowns same_senders no_sender_there no_sender_new in
-        let woken = woken-all e.core.signal in
+        let woken = woken-all e.core.signal 1 in
         omega (arith, all, woken));
   }
     where
       signal_seen : shutdown_of st.waits next s signalled ≡ record (shutdown_at (hall_of st next) s) { signal = model.decreased (shutdown_at (hall_of st next) s).signal 1 }
-      signal_seen = (λ j. record { signal = decreased-seen (slots_of OfSignal st.waits) next s e.core.signal j; receivers = count_of (slots_of OfReceivers st.waits) next s e.core.receivers })
+      signal_seen = (λ j. record { signal = decreased-seen (slots_of OfSignal st.waits) next s e.core.signal 1 refl j; receivers = count_of (slots_of OfReceivers st.waits) next s e.core.receivers })
           ∙ ap (λ (r : Shutdown). record r { signal = model.decreased r.signal 1 }) (sym (shutdown-at st next s e there))
 
 pub signal_woken : (st : Store) (next s : ℕ) (e : ShutdownEntry) → get st.shutdowns s ≡ Some e → model.woken_by (shutdown_at (hall_of st next) s).signal 1 ≡ woken_by e.core.signal 1
-signal_woken st next s e there = ap (λ (r : Shutdown). model.woken_by r.signal 1) (shutdown-at st next s e there) ∙ woken-seen (slots_of OfSignal st.waits) next s e.core.signal
+signal_woken st next s e there = ap (λ (r : Shutdown). model.woken_by r.signal 1) (shutdown-at st next s e there) ∙ woken-seen (slots_of OfSignal st.waits) next s e.core.signal 1
 
 -- ---- nothing changes
 module _ (st : Store) (next i s : ℕ) (e : ShutdownEntry) (k : IsKept st next) (less : next ≤ i) (low : i < 2 ^ 64) (there : get st.shutdowns s ≡ Some e) where

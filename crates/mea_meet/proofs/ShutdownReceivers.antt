@@ -18,7 +18,7 @@ use Rattle.mea_meet.proofs.Maps.{Puts, Belongs, puts_same, puts_seen, is_same, i
 use Rattle.mea_meet.proofs.ShutdownChanges.{Changes, wakers_at}
 use Rattle.mea_meet.proofs.ShutdownSeen.{shutdown-at, shutdown-there, receiver-seen, some_found}
 use Rattle.mea_meet.proofs.ShutdownStill.{no-sender, no-receiver, no-wait, own, unborrowed, entry_after}
-use Rattle.mea_meet.proofs.ShutdownCounts.{decreased-seen, woken-seen, given-decreased, woken-all}
+use Rattle.mea_meet.proofs.Counts.{decreased-seen, woken-seen, given-decreased, woken-all}
 use Rattle.mea_meet.proofs.ShutdownPlays.{Goes, Wakes, seen_before, kept_all, given, shutdowns_put, waits_same, counts_after}
 
 module _ (st : Store) (ss' : FinMap nat_cmp ShutdownEntry) (rs' : FinMap nat_cmp ReceiverEntry) (next i s b : ℕ) (e e2 : ShutdownEntry) (ob : Option ReceiverEntry) (k : IsKept st next) (less : next ≤ i) (low : i < 2 ^ 64)
@@ -149,7 +149,7 @@ lessened_number e false = refl
 
 lessened_wakers : (e : ShutdownEntry) (w : Bool) → wakers_at (lessened e w) + length (cond w [] (woken_by e.core.receivers 1)) ≡ wakers_at e
 lessened_wakers e true = omega arith
-lessened_wakers e false = (let all = woken-all e.core.receivers in omega (arith, all))
+lessened_wakers e false = (let all = woken-all e.core.receivers 1 in omega (arith, all))
 
 module _ (st : Store) (next i b s : ℕ) (e : ShutdownEntry) (x : ReceiverEntry) (k : IsKept st next) (there : get st.shutdowns s ≡ Some e) (receiver : get st.receivers b ≡ Some x) (mine : x.shutdown ≡ s) where
   -- its shutdown counts it
@@ -188,10 +188,10 @@ module _ (st : Store) (ss' : FinMap nat_cmp ShutdownEntry) (rs' : FinMap nat_cmp
   lessened_given : (w : Bool) (end : End) → AreGiven (slots_of end st.waits) s (count_at end (lessened e w).core).waiting
   lessened_given true end = (k.each s e there).given end
   lessened_given false OfSignal = (k.each s e there).given OfSignal
-  lessened_given false OfReceivers = given-decreased (slots_of OfReceivers st.waits) next s e.core.receivers ((k.each s e there).given OfReceivers)
+  lessened_given false OfReceivers = given-decreased (slots_of OfReceivers st.waits) next s e.core.receivers 1 ((k.each s e there).given OfReceivers)
 
   lessened_seen : shutdown_of st.waits next s (lessened e false) ≡ record (shutdown_at h_before s) { receivers = model.decreased (shutdown_at h_before s).receivers 1 }
-  lessened_seen = (λ j. record { signal = count_of (slots_of OfSignal st.waits) next s e.core.signal; receivers = decreased-seen (slots_of OfReceivers st.waits) next s e.core.receivers j })
+  lessened_seen = (λ j. record { signal = count_of (slots_of OfSignal st.waits) next s e.core.signal; receivers = decreased-seen (slots_of OfReceivers st.waits) next s e.core.receivers 1 refl j })
       ∙ ap (λ (r : Shutdown). record r { receivers = model.decreased r.receivers 1 }) (sym (shutdown-at st next s e there))
 
   lessened_at : (w : Bool) (ss2 : FinMap nat_cmp Shutdown) (rs2 : FinMap nat_cmp Receiver) (ws2 : FinMap nat_cmp ShutdownWait) → Puts h_before.shutdowns ss2 s (Some (shutdown_of st.waits next s (lessened e w))) → rs2 ≡ remove h_before.receivers b → ws2 ≡ h_before.waits
@@ -231,7 +231,7 @@ module _ (st : Store) (ss' : FinMap nat_cmp ShutdownEntry) (rs' : FinMap nat_cmp
     where
       by_watch : (w : Bool) → woken_at_end h_before (record { shutdown = s; watch = w }) ≡ cond w [] (woken_by e.core.receivers 1)
       by_watch true = refl
-      by_watch false = ap (λ (r : Shutdown). model.woken_by r.receivers 1) (shutdown-at st next s e there) ∙ woken-seen (slots_of OfReceivers st.waits) next s e.core.receivers
+      by_watch false = ap (λ (r : Shutdown). model.woken_by r.receivers 1) (shutdown-at st next s e there) ∙ woken-seen (slots_of OfReceivers st.waits) next s e.core.receivers 1
 
 -- ---- a receiver or watch that is copied
 module _ (st : Store) (next b : ℕ) (x : ReceiverEntry) (k : IsKept st next) (receiver : get st.receivers b ≡ Some x) where

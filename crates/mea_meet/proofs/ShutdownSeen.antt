@@ -15,7 +15,7 @@ use Rattle.mea_meet.specs.declared.shutdowns.ShutdownHall.TheInside.{Inside}
 use Rattle.mea_meet.specs.StandsFor.{StandsForShutdown, StandsForCount}
 use Rattle.mea_meet.specs.ShutdownHall.{Store, store_of, End, slot_in, OfSignal, OfReceivers, slots_of, shutdown_of, receiver_of, wait_of, hall_of, receivers_in, waits_in, borrowers_in, is_full, IsKept}
 use Rattle.mea_meet.proofs.Names.{waiting-wakers}
-use Rattle.mea_meet.proofs.Maps.{Puts, put_here, get-seen, total-named, kept-at}
+use Rattle.mea_meet.proofs.Maps.{Puts, put_here, get-seen, total-named, kept-at, is_some-map}
 
 module _ (st : Store) (n : ℕ) where
   pub shutdown-seen : (q : ℕ) → get (hall_of st n).shutdowns q ≡ option_map (shutdown_of st.waits n q) (get st.shutdowns q)
@@ -27,18 +27,14 @@ module _ (st : Store) (n : ℕ) where
   pub wait-seen : (q : ℕ) → get (hall_of st n).waits q ≡ option_map wait_of (get st.waits q)
   wait-seen q = get-seen (λ k x. wait_of x) st.waits q
 
-  some-mapped : {X Y : Type 0} (g : X → Y) (o : Option X) → is_some (option_map g o) ≡ is_some o
-  some-mapped g None = refl
-  some-mapped g (Some x) = refl
-
   pub shutdown-there : (q : ℕ) → is_some (get (hall_of st n).shutdowns q) ≡ is_some (get st.shutdowns q)
-  shutdown-there q = ap is_some (shutdown-seen q) ∙ some-mapped (shutdown_of st.waits n q) (get st.shutdowns q)
+  shutdown-there q = ap is_some (shutdown-seen q) ∙ is_some-map (shutdown_of st.waits n q) (get st.shutdowns q)
 
   pub receiver-there : (q : ℕ) → is_some (get (hall_of st n).receivers q) ≡ is_some (get st.receivers q)
-  receiver-there q = ap is_some (receiver-seen q) ∙ some-mapped receiver_of (get st.receivers q)
+  receiver-there q = ap is_some (receiver-seen q) ∙ is_some-map receiver_of (get st.receivers q)
 
   pub wait-there : (q : ℕ) → is_some (get (hall_of st n).waits q) ≡ is_some (get st.waits q)
-  wait-there q = ap is_some (wait-seen q) ∙ some-mapped wait_of (get st.waits q)
+  wait-there q = ap is_some (wait-seen q) ∙ is_some-map wait_of (get st.waits q)
 
   pub shutdown-at : (s : ℕ) (e : ShutdownEntry) → get st.shutdowns s ≡ Some e → shutdown_at (hall_of st n) s ≡ shutdown_of st.waits n s e
   shutdown-at s e is = ap (λ o. unwrap_or o new_shutdown) (shutdown-seen s ∙ ap (option_map (shutdown_of st.waits n s)) is)

@@ -4,7 +4,7 @@ use Rattle.std.specs.FinMap.{get}
 use Rattle.mea_meet.proofs.Maps.{kept-puts, kept-puts-as}
 use Rattle.mea_meet.specs.ShutdownHall.{receiver_of, borrowers_in}
 use Rattle.mea_meet.proofs.ShutdownSeen.{kept_in, receiver-at, receiver-there, receiver-seen, borrowers-seen, shutdown-kept, asked, if_some, still-there}
-use Rattle.mea_meet.proofs.ShutdownCounts.{wakers-within}
+use Rattle.mea_meet.proofs.ShutdownChanges.{wakers-within}
 use Rattle.mea_meet.proofs.ShutdownReceivers.{receiver_counted, receiver_lives, remove_receiver_wakes, remove_receiver_woken}
 use Rattle.mea_meet.proofs.shutdowns.ShutdownHall.remove_receiver.Goals as goal
 

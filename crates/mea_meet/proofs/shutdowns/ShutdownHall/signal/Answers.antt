@@ -7,7 +7,7 @@ use Rattle.mea_meet.proofs.Maps.{kept-puts-as}
 use Rattle.mea_meet_model.specs.Shutdowns.{signal_of, with_shutdown, shutdown_at}
 use Rattle.mea_meet_model.specs.Count.{decreased}
 use Rattle.mea_meet.proofs.ShutdownSeen.{kept_in, sender-at, shutdown-kept, asked}
-use Rattle.mea_meet.proofs.ShutdownCounts.{wakers-within}
+use Rattle.mea_meet.proofs.ShutdownChanges.{wakers-within}
 use Rattle.mea_meet.proofs.ShutdownPlays.{yields, signal_wakes, signal_woken}
 use Rattle.mea_meet.proofs.shutdowns.ShutdownHall.signal.Goals as goal
 

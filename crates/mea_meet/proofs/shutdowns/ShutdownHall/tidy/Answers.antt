@@ -4,7 +4,7 @@ use Rattle.std.specs.FinMap.{get}
 use Rattle.mea_meet.proofs.Maps.{kept-puts}
 use Rattle.mea_base.specs.Ready.{Waking}
 use Rattle.mea_meet.proofs.ShutdownSeen.{kept_in, shutdown-there, shutdown-kept, asked}
-use Rattle.mea_meet.proofs.ShutdownCounts.{wakers-within}
+use Rattle.mea_meet.proofs.ShutdownChanges.{wakers-within}
 use Rattle.mea_meet.proofs.ShutdownTidies.{tidied-left, tidy_kept, tidy_moved, tidy_counted}
 use Rattle.mea_meet.proofs.shutdowns.ShutdownHall.tidy.Goals as goal
 
