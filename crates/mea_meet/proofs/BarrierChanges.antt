@@ -20,8 +20,8 @@ use Rattle.mea_meet.specs.BarrierHall.{Store, slot_of, slots_of, barrier_of, wai
 use Rattle.mea_meet.specs.declared.barriers.BarrierEntry.{BarrierEntry}
 use Rattle.mea_meet.specs.declared.barriers.BarrierWaitEntry.{BarrierWaitEntry}
 use Rattle.mea_meet.proofs.Names.{waiting-length, waiting-alike}
-use Rattle.mea_meet.proofs.Maps.{at_same, at_apart, by_name, Puts, put_there, put_other, total_puts_was, weight-within, seen-some, seen_put, seen_gone, one_of, one-least, weighs_here, weighs_elsewhere}
-use Rattle.mea_meet.proofs.Slots.{slot_owner, apart_belongs, waiting_beside}
+use Rattle.mea_meet.proofs.Maps.{at_same, at_apart, by_name, Puts, put_there, put_other, total_puts_was, weight-within, seen-some, seen_put, seen_gone, one_of, one-least, weighs_here, weighs_elsewhere, one_entry}
+use Rattle.mea_meet.proofs.Slots.{apart_belongs, waiting_beside, given_by}
 
 -- ---- the slots of the futures
 abbrev pub slot_entry : BarrierWaitEntry → ℕ × Option Place
@@ -53,14 +53,10 @@ open_given b Done h = absurd (cc)
 pub home_open : (st : Store) (n f b : ℕ) (x : BarrierWaitEntry) (e : BarrierEntry) → IsKept st n → get st.waits f ≡ Some x → x.barrier ≡ b → get st.barriers b ≡ Some e → is_open e.core x.wait ≡ true
 home_open st n f b x e k is mine there =
     let h = k.home f x is in
-    let both : Some h.entry ≡ Some e = sym h.there ∙ ap (get st.barriers) mine ∙ there in
-    let same : h.entry ≡ e = cc in
-    subst (λ (d : BarrierEntry). is_open d.core x.wait ≡ true) same h.belongs
+    subst (λ (d : BarrierEntry). is_open d.core x.wait ≡ true) (one_entry st.barriers x.barrier b h.entry e h.there mine there) h.belongs
 
 pub are_given : (st : Store) (n b : ℕ) (e : BarrierEntry) → IsKept st n → get st.barriers b ≡ Some e → AreGiven (slots_of st.waits) b e.core.waiting
-are_given st n b e k there f slot is =
-    let x = slot_owner (λ (x : BarrierWaitEntry). x.barrier) (λ x. slot_of x.wait) (get st.waits f) b slot is in
-    ap (has_given e.core.waiting) (sym x.3) ∙ open_given e.core x.0.wait (home_open st n f b x.0 e k x.1 x.2 there)
+are_given st n b e k there = given_by (λ (x : BarrierWaitEntry). x.barrier) (λ x. slot_of x.wait) st.waits b e.core.waiting (λ f x is mine. open_given e.core x.wait (home_open st n f b x e k is mine there))
 
 -- ---- how many wait at a barrier
 abbrev pub at_barrier : ℕ → ℕ → BarrierWaitEntry → ℕ

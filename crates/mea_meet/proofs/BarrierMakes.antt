@@ -22,26 +22,18 @@ use Rattle.mea_meet.specs.declared.barriers.BarrierEntry.{BarrierEntry}
 use Rattle.mea_meet.specs.declared.barriers.BarrierWaitEntry.{BarrierWaitEntry}
 use Rattle.mea_meet.specs.declared.barriers.BarrierHall.TheInside.{Inside}
 use Rattle.mea_meet.proofs.Names.{waiting-length, waiting-alike, named-later, named-new}
-use Rattle.mea_meet.proofs.Maps.{ChangesAt, Puts, put_there, put_other, by_name, at_same, at_apart, kept-at, kept-puts, seen-some, seen-none, seen_put, seen_gone, insert_same, weight-within}
+use Rattle.mea_meet.proofs.Maps.{ChangesAt, Puts, put_there, put_other, by_name, at_same, at_apart, kept-at, kept-puts, seen-some, seen-none, seen_put, seen_gone, insert_same, weight-within, none_if, kept-none, seen-empty}
 use Rattle.mea_meet.proofs.BarrierChanges.{Changes, slot_entry, at_barrier, kept_after, hall_put}
 use Rattle.mea_meet.proofs.BarrierPlays.{Rested, Played, store_in, seen_in, IsKeptIn}
 use Rattle.mea_meet.proofs.BarrierStores.{counts}
-use Rattle.mea_meet.proofs.Slots.{slots_there, slots_other, apart_unplaced, waiting_beside}
+use Rattle.mea_meet.proofs.Slots.{slots_there, slots_other, apart_unplaced, waiting_beside, named_none}
 
 -- ---- names that were not given yet
 pub no_barrier : (st : Store) (n i : ℕ) → IsKept st n → n ≤ i → get st.barriers i ≡ None
-no_barrier st n i k less = by_value (get st.barriers i) refl
-  where
-    by_value : (o : Option BarrierEntry) → get st.barriers i ≡ o → o ≡ None
-    by_value None is = refl
-    by_value (Some e) is = absurd (let small = (k.each i e is).below in omega (arith, small, less))
+no_barrier st n i k less = none_if (get st.barriers i) (λ e is. let small = (k.each i e is).below in omega (arith, small, less))
 
 pub no_wait : (st : Store) (n i : ℕ) → IsKept st n → n ≤ i → get st.waits i ≡ None
-no_wait st n i k less = by_value (get st.waits i) refl
-  where
-    by_value : (o : Option BarrierWaitEntry) → get st.waits i ≡ o → o ≡ None
-    by_value None is = refl
-    by_value (Some x) is = absurd (let small = k.named.below i (slot_entry x) (ap (option_map slot_entry) is) in omega (arith, small, less))
+no_wait st n i k less = none_if (get st.waits i) (λ x is. let small = k.named.below i (slot_entry x) (ap (option_map slot_entry) is) in omega (arith, small, less))
 
 -- ---- a barrier at which nobody waits comes or goes: o' is what stands at b now
 module _ (st : Store) (m : FinMap nat_cmp BarrierEntry) (n i b : ℕ) (o' : Option BarrierEntry) (k : IsKept st n) (less : n ≤ i) (low : i < 2 ^ 64) (barriers : Puts st.barriers m b o')
@@ -93,22 +85,19 @@ module _ (st : Store) (m : FinMap nat_cmp BarrierEntry) (n i b : ℕ) (o' : Opti
 -- ---- no barrier
 pub kept_empty : (bs : List (ℕ × BarrierEntry)) (ws : List (ℕ × BarrierWaitEntry)) → bs ≡ [] → ws ≡ [] → IsKept (store_of bs ws) 0
 kept_empty bs ws no_bs no_ws =
-    let nothing : (b : ℕ) → get (store_of bs ws).barriers b ≡ None = λ b. kept-at bs b ∙ ap (λ es. at es b) no_bs in
-    let nobody : (f : ℕ) → get (store_of bs ws).waits f ≡ None = λ f. kept-at ws f ∙ ap (λ es. at es f) no_ws in
+    let nothing = kept-none bs no_bs in
+    let nobody = kept-none ws no_ws in
     record {
       each = λ b e is. absurd (let clash : None ≡ Some e = sym (nothing b) ∙ is in cc);
       home = λ f x is. absurd (let clash : None ≡ Some x = sym (nobody f) ∙ is in cc);
-      named = record {
-        below = λ f p is. absurd (let clash : None ≡ Some p = sym (ap (option_map slot_entry) (nobody f)) ∙ is in cc);
-        apart = λ f g q place is also. absurd (let clash : None ≡ Some (q, Some place) = sym (ap (option_map slot_entry) (nobody f)) ∙ is in cc);
-      };
+      named = named_none (slots_of (store_of bs ws).waits) 0 (λ f. ap (option_map slot_entry) (nobody f));
       low = omega arith;
     }
 
 pub seen_empty : (bs : List (ℕ × BarrierEntry)) (ws : List (ℕ × BarrierWaitEntry)) → bs ≡ [] → ws ≡ [] → barriers_of (store_of bs ws) 0 ≡ no_barriers
 seen_empty bs ws no_bs no_ws =
-    let barriers = same_named (named (barrier_of (store_of bs ws).waits 0) (entries (store_of bs ws).barriers)) empty (λ b. seen-none (barrier_of (store_of bs ws).waits 0) (store_of bs ws).barriers b (kept-at bs b ∙ ap (λ es. at es b) no_bs) ∙ sym (get-empty nat_cmp b)) in
-    let waits = same_named (named (λ f x. wait_of x) (entries (store_of bs ws).waits)) empty (λ f. seen-none (λ f x. wait_of x) (store_of bs ws).waits f (kept-at ws f ∙ ap (λ es. at es f) no_ws) ∙ sym (get-empty nat_cmp f)) in
+    let barriers = seen-empty (barrier_of (store_of bs ws).waits 0) (store_of bs ws).barriers (kept-none bs no_bs) in
+    let waits = seen-empty (λ f x. wait_of x) (store_of bs ws).waits (kept-none ws no_ws) in
     λ j. record { barriers = barriers j; waits = waits j }
 
 -- ---- what is kept of a barrier that is new

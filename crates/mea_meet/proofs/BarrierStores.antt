@@ -14,17 +14,13 @@ use Rattle.mea_meet.specs.declared.barriers.BarrierEntry.{BarrierEntry}
 use Rattle.mea_meet.specs.declared.barriers.BarrierWaitEntry.{BarrierWaitEntry}
 use Rattle.mea_meet.specs.declared.barriers.BarrierHall.TheInside.{Inside}
 use Rattle.mea_meet.proofs.Names.{waiting-wakers}
-use Rattle.mea_meet.proofs.Maps.{ChangesAt, kept-at, kept-unchanged, get-seen, seen-none, is_some-map, not_none}
+use Rattle.mea_meet.proofs.Maps.{ChangesAt, kept-at, kept-unchanged, get-seen, seen-none, is_some-map, not_none, total-named}
 use Rattle.mea_meet.proofs.BarrierChanges.{at_barrier, barrier_seen, wakers_within}
 use Rattle.mea_meet.proofs.BarrierPlays.{store_in, seen_in, IsKeptIn}
 
 -- ---- how many futures wait at a barrier, seen among those that are kept
 waits_counted : (st : Store) (n b : ℕ) → waits_of (barriers_of st n) b ≡ total (at_barrier b) st.waits
-waits_counted st n b = sym (total-alike (at_barrier b) (λ f (x : BarrierWait). cond (x.barrier == b) 1 0) st.waits (barriers_of st n).waits (λ f. at_each f (get st.waits f) ∙ sym (ap (weight (λ g (x : BarrierWait). cond (x.barrier == b) 1 0) f) (get-seen (λ g y. wait_of y) st.waits f))))
-  where
-    at_each : (f : ℕ) (o : Option BarrierWaitEntry) → weight (at_barrier b) f o ≡ weight (λ g (x : BarrierWait). cond (x.barrier == b) 1 0) f (option_map wait_of o)
-    at_each f None = refl
-    at_each f (Some x) = refl
+waits_counted st n b = total-named (λ f y. wait_of y) (λ f (x : BarrierWait). cond (x.barrier == b) 1 0) st.waits
 
 module _ (a : Inside) (v : Part Barriers) (seen : seen_in a ≡ v) where
   -- a look-up among the entries answers as one in the hall

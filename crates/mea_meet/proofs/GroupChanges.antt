@@ -19,8 +19,8 @@ use Rattle.mea_meet.specs.GroupHall.{Store, slots_of, count_of, groups_of, IsKep
 use Rattle.mea_meet.specs.declared.groups.GroupEntry.{GroupEntry}
 use Rattle.mea_meet.specs.declared.groups.GroupWaitEntry.{GroupWaitEntry}
 use Rattle.mea_meet.proofs.Names.{waiting-length, waiting-alike}
-use Rattle.mea_meet.proofs.Maps.{at_same, at_apart, by_name, Puts, put_there, put_other, total_puts_was, weight-within, get-seen, seen-some, seen-none, seen_put, seen_gone, one_of, one-least, weighs_here, weighs_elsewhere, remove-insert}
-use Rattle.mea_meet.proofs.Slots.{slot_owner, apart_belongs, waiting_beside}
+use Rattle.mea_meet.proofs.Maps.{at_same, at_apart, by_name, Puts, put_there, put_other, total_puts_was, weight-within, get-seen, seen-some, seen-none, seen_put, seen_gone, one_of, one-least, weighs_here, weighs_elsewhere, remove-insert, one_entry, total-named}
+use Rattle.mea_meet.proofs.Slots.{apart_belongs, waiting_beside, given_by}
 
 -- ---- the slots of the futures
 abbrev pub slot_entry : GroupWaitEntry → ℕ × Option Place
@@ -29,14 +29,10 @@ slot_entry x = (x.group, x.wait)
 pub home_given : (st : Store) (n f g : ℕ) (x : GroupWaitEntry) (e : GroupEntry) → IsKept st n → get st.waits f ≡ Some x → x.group ≡ g → get st.groups g ≡ Some e → has_given e.core.count.waiting x.wait ≡ true
 home_given st n f g x e k is mine there =
     let h = k.home f x is in
-    let both : Some h.entry ≡ Some e = sym h.there ∙ ap (get st.groups) mine ∙ there in
-    let same : h.entry ≡ e = cc in
-    subst (λ (d : GroupEntry). has_given d.core.count.waiting x.wait ≡ true) same h.given
+    subst (λ (d : GroupEntry). has_given d.core.count.waiting x.wait ≡ true) (one_entry st.groups x.group g h.entry e h.there mine there) h.given
 
 pub are_given : (st : Store) (n g : ℕ) (e : GroupEntry) → IsKept st n → get st.groups g ≡ Some e → AreGiven (slots_of st.waits) g e.core.count.waiting
-are_given st n g e k there f slot is =
-    let x = slot_owner (λ (x : GroupWaitEntry). x.group) (λ x. x.wait) (get st.waits f) g slot is in
-    ap (has_given e.core.count.waiting) (sym x.3) ∙ home_given st n f g x.0 e k x.1 x.2 there
+are_given st n g e k there = given_by (λ (x : GroupWaitEntry). x.group) (λ x. x.wait) st.waits g e.core.count.waiting (λ f x is mine. home_given st n f g x e k is mine there)
 
 -- ---- how many handles and futures a group has
 abbrev pub of_group : ℕ → ℕ → ℕ → ℕ
@@ -113,11 +109,7 @@ module _ (st : Store) (n g : ℕ) (k : IsKept st n) where
 
 -- ---- the futures of a group, as they are seen
 pub waits_seen : (st : Store) (n g : ℕ) → waits_of (groups_of st n) g ≡ total (at_group g) st.waits
-waits_seen st n g = sym (total-alike (at_group g) (of_group g) st.waits (groups_of st n).waits (λ f. at_each f (get st.waits f) ∙ sym (ap (weight (of_group g) f) (get-seen (λ g (y : GroupWaitEntry). y.group) st.waits f))))
-  where
-    at_each : (f : ℕ) (o : Option GroupWaitEntry) → weight (at_group g) f o ≡ weight (of_group g) f (option_map (λ (y : GroupWaitEntry). y.group) o)
-    at_each f None = refl
-    at_each f (Some x) = refl
+waits_seen st n g = total-named (λ f (y : GroupWaitEntry). y.group) (of_group g) st.waits
 
 -- how many wakers of a group are registered, as they are seen
 pub wakers_seen : (st : Store) (n g : ℕ) (q : Option GroupEntry) → get st.groups g ≡ q → weight (λ j (c : Count). length c.waiting) g (get (groups_of st n).groups g) ≡ wakers_in q

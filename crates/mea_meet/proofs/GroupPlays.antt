@@ -28,7 +28,7 @@ use Rattle.mea_meet.specs.declared.groups.GroupEntry.{GroupEntry}
 use Rattle.mea_meet.specs.declared.groups.GroupWaitEntry.{GroupWaitEntry}
 use Rattle.mea_meet.specs.declared.groups.GroupHall.TheInside.{Inside}
 use Rattle.mea_meet.proofs.Names.{waiting-wakers, waiting-alike, waiting-registers, waiting-ends, named-later, named-new, named-registers, named-ends, given-drained, given-registers}
-use Rattle.mea_meet.proofs.Maps.{ChangesAt, Puts, put_there, by_name, kept-at, kept-puts, changes_twice, insert_same, seen-some, seen_put, seen_gone, puts_same, is_insert, is_remove}
+use Rattle.mea_meet.proofs.Maps.{ChangesAt, Puts, put_there, by_name, kept-at, kept-puts, changes_twice, insert_same, seen-some, seen_put, seen_gone, puts_same, is_insert, is_remove, none_if, changed_at, some_if, if_some}
 use Rattle.mea_meet.proofs.GroupChanges.{Changes, slot_entry, are_given, used_left, kept_after, hall_used, hall_tidied, registered_after, group_seen, waits_within, handles_within}
 use Rattle.mea_meet.proofs.Slots.{slot_owner, slots_there, slots_other, IsApart, apart_unplaced, waiting_beside, given_beside}
 use Rattle.mea_meet.proofs.Counts.{decreased-seen, woken-seen, given-decreased, woken-all}
@@ -66,16 +66,16 @@ wakers_used e some = by_test (is_used e) (used_left e some)
 -- ---- a group is written, and then tidied
 module _ (old mid : List (ℕ × GroupEntry)) (g : ℕ) (d : GroupEntry) (writes : ChangesAt old mid g (Some d)) where
   written : at mid g ≡ Some d
-  written = sym (kept-at mid g) ∙ put_there (named (λ (k : ℕ) (x : GroupEntry). x) old) (named (λ k x. x) mid) g (Some d) (kept-puts old mid g (Some d) writes) g refl
+  written = changed_at old mid g (Some d) writes
 
   pub tidied_at : (new : List (ℕ × GroupEntry)) → ((q : ℕ) → at new q ≡ cond (is_at (nat_cmp g) q) (left_at (at mid g)) (at mid q)) → ChangesAt old new g (left d)
   tidied_at new tidies = changes_twice old mid new g (Some d) (left d) writes (λ q. tidies q ∙ ap (λ o. cond (is_at (nat_cmp g) q) (left_at o) (at mid q)) written)
 
   pub tidied_if : (P : GroupEntry → Type 0) → IfSome (at mid g) P → P d
-  tidied_if P is = subst (λ o. IfSome o P) written is
+  tidied_if P is = some_if P (at mid g) d written is
 
   pub if_tidied : (P : GroupEntry → Type 0) → P d → IfSome (at mid g) P
-  if_tidied P is = subst (λ o. IfSome o P) (sym written) is
+  if_tidied P is = if_some P (at mid g) d written is
 
 module _ (a : Inside) (v : Part Groups) (i : ℕ) (seen : seen_in a ≡ v) (k : IsKeptIn a) (least : v.next ≤ i) (low : i < 2 ^ 64) where
   abbrev st : Store
@@ -92,25 +92,13 @@ module _ (a : Inside) (v : Part Groups) (i : ℕ) (seen : seen_in a ≡ v) (k : 
 
   -- ---- names that were not given yet
   no_group : get st.groups i ≡ None
-  no_group = by_value (get st.groups i) refl
-    where
-      by_value : (o : Option GroupEntry) → get st.groups i ≡ o → o ≡ None
-      by_value None is = refl
-      by_value (Some e) is = absurd (let small = (k.each i e is).below in omega (arith, small, less))
+  no_group = none_if (get st.groups i) (λ e is. let small = (k.each i e is).below in omega (arith, small, less))
 
   no_handle : get st.handles i ≡ None
-  no_handle = by_value (get st.handles i) refl
-    where
-      by_value : (o : Option ℕ) → get st.handles i ≡ o → o ≡ None
-      by_value None is = refl
-      by_value (Some g) is = absurd (let small = (k.owned i g is).below in omega (arith, small, less))
+  no_handle = none_if (get st.handles i) (λ g is. let small = (k.owned i g is).below in omega (arith, small, less))
 
   no_wait : get st.waits i ≡ None
-  no_wait = by_value (get st.waits i) refl
-    where
-      by_value : (o : Option GroupWaitEntry) → get st.waits i ≡ o → o ≡ None
-      by_value None is = refl
-      by_value (Some x) is = absurd (let small = k.named.below i (slot_entry x) (ap (option_map slot_entry) is) in omega (arith, small, less))
+  no_wait = none_if (get st.waits i) (λ x is. let small = k.named.below i (slot_entry x) (ap (option_map slot_entry) is) in omega (arith, small, less))
 
   same_handles : Puts st.handles st.handles i None
   same_handles = puts_same st.handles i None no_handle

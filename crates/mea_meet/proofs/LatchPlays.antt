@@ -25,7 +25,7 @@ use Rattle.mea_meet.specs.LatchHall.{Store, slot_of, slots_of, latch_of, wait_of
 use Rattle.mea_meet.specs.declared.latches.LatchEntry.{LatchEntry}
 use Rattle.mea_meet.specs.declared.latches.LatchWaitEntry.{LatchWaitEntry}
 use Rattle.mea_meet.proofs.Names.{waiting-alike, waiting-registers, waiting-ends, named-new, named-ends, named-registers, given-registers, given-with, waiting-wakers, given-drained}
-use Rattle.mea_meet.proofs.Maps.{at_same, at_apart, put_here, put_other, is_insert, is_remove, weight-within, is_same, puts_over}
+use Rattle.mea_meet.proofs.Maps.{at_same, at_apart, put_here, put_other, is_insert, is_remove, weight-within, is_same, puts_over, none_if, Puts}
 use Rattle.mea_meet.proofs.LatchStore.{slot_other, slot_was, slot_now, waits_after, waiting_other, waits_other, plain_other, others_other, waits_mine, plain_mine, latch_seen, wait_seen, registered_seen, waits_seen, later_kept, later_seen, Changes, kept_after, latches_after, registered_after, given_to, given_all}
 use Rattle.mea_meet.proofs.Counts.{decreased-seen, woken-seen, woken-all}
 use Rattle.mea_meet.proofs.Slots.{apart_unplaced, waiting_beside}
@@ -65,7 +65,7 @@ grown s slot w = by_test (is_registered s slot)
 
 -- ---- a latch changes, and no future
 module _ (st : Store) (b : ℕ) (k : IsKept st b) (ls' : FinMap nat_cmp LatchEntry) (l : ℕ) where
-  pub alone : (e' : Option LatchEntry) → ((q : ℕ) → get ls' q ≡ cond (l == q) e' (get st.latches q))
+  pub alone : (e' : Option LatchEntry) → Puts st.latches ls' l e'
       → ((f : ℕ) (x : LatchWaitEntry) → l ≡ x.latch → get st.waits f ≡ Some x → (e : LatchEntry) × (e' ≡ Some e) × (has_given e.core.count.waiting x.wait ≡ true))
       → ((e : LatchEntry) → e' ≡ Some e → IsKeptEntry st b l e) → Changes st (record { latches = ls'; waits = st.waits }) b l e'
   alone e' latches mine kept = record {
@@ -80,8 +80,8 @@ module _ (st : Store) (b : ℕ) (k : IsKept st b) (ls' : FinMap nat_cmp LatchEnt
   }
 
 -- ---- a latch changes, and one of its futures
-module _ (st : Store) (b : ℕ) (k : IsKept st b) (ls' : FinMap nat_cmp LatchEntry) (ws' : FinMap nat_cmp LatchWaitEntry) (l f : ℕ) (o o' : Option LatchWaitEntry) (named' : AreNamed (slots_of ws') b) (was : get st.waits f ≡ o) (now : (g : ℕ) → get ws' g ≡ cond (f == g) o' (get st.waits g)) (mine : (x : LatchWaitEntry) → o ≡ Some x → x.latch ≡ l) (mine' : (x : LatchWaitEntry) → o' ≡ Some x → x.latch ≡ l) where
-  pub joined : (e' : Option LatchEntry) → ((q : ℕ) → get ls' q ≡ cond (l == q) e' (get st.latches q))
+module _ (st : Store) (b : ℕ) (k : IsKept st b) (ls' : FinMap nat_cmp LatchEntry) (ws' : FinMap nat_cmp LatchWaitEntry) (l f : ℕ) (o o' : Option LatchWaitEntry) (named' : AreNamed (slots_of ws') b) (was : get st.waits f ≡ o) (now : Puts st.waits ws' f o') (mine : (x : LatchWaitEntry) → o ≡ Some x → x.latch ≡ l) (mine' : (x : LatchWaitEntry) → o' ≡ Some x → x.latch ≡ l) where
+  pub joined : (e' : Option LatchEntry) → Puts st.latches ls' l e'
       → ((g : ℕ) (x : LatchWaitEntry) → l ≡ x.latch → get ws' g ≡ Some x → (e : LatchEntry) × (e' ≡ Some e) × (has_given e.core.count.waiting x.wait ≡ true))
       → ((e : LatchEntry) → e' ≡ Some e → IsKeptEntry (record { latches = ls'; waits = ws' }) b l e) → Changes st (record { latches = ls'; waits = ws' }) b l e'
   joined e' latches given kept = record {
@@ -105,7 +105,7 @@ module _ (st : Store) (b : ℕ) (k : IsKept st b) (ls' : FinMap nat_cmp LatchEnt
       by_test false h = stays x (given_to st b l e k there g x (sym (put_other st.waits ws' f o' now g (eqb-false f g h)) ∙ is) (sym at_l))
 
 -- ---- a latch that has neither a name nor a future is taken away
-module _ (st : Store) (b : ℕ) (k : IsKept st b) (ls' : FinMap nat_cmp LatchEntry) (l : ℕ) (e : LatchEntry) (there : get st.latches l ≡ Some e) (latches : (q : ℕ) → get ls' q ≡ cond (l == q) (tidied e) (get st.latches q)) where
+module _ (st : Store) (b : ℕ) (k : IsKept st b) (ls' : FinMap nat_cmp LatchEntry) (l : ℕ) (e : LatchEntry) (there : get st.latches l ≡ Some e) (latches : Puts st.latches ls' l (tidied e)) where
   abbrev tidy_store : Store
   tidy_store = record { latches = ls'; waits = st.waits }
 
@@ -144,7 +144,7 @@ module _ (st : Store) (b : ℕ) (k : IsKept st b) (ls' : FinMap nat_cmp LatchEnt
       test_is : (model.is_named (latches_of st b) l || nat_lt 0 (model.waits_of (latches_of st b) l)) ≡ (e.named || nat_lt 0 e.waits)
       test_is = (λ j. named_is st b l e there j || nat_lt 0 ((waits_seen st b l ∙ sym (k.each l e there).waits) j))
 
-      by_test : (t : Bool) → ((q : ℕ) → get (latches_of tidy_store b).latches q ≡ cond (l == q) (option_map (latch_of st.waits b l) (if t then Some e else None)) (get (latches_of st b).latches q)) → latches_of tidy_store b ≡ (if t then latches_of st b else record (latches_of st b) { latches = remove (latches_of st b).latches l })
+      by_test : (t : Bool) → Puts (latches_of st b).latches (latches_of tidy_store b).latches l (option_map (latch_of st.waits b l) (if t then Some e else None)) → latches_of tidy_store b ≡ (if t then latches_of st b else record (latches_of st b) { latches = remove (latches_of st b).latches l })
       by_test true now = λ j. record { latches = is_same (latches_of st b).latches (latches_of tidy_store b).latches l (Some (latch_of st.waits b l e)) (latch_there st b l e there) now j; waits = (latches_of st b).waits }
       by_test false now = λ j. record { latches = is_remove (latches_of st b).latches (latches_of tidy_store b).latches l now j; waits = (latches_of st b).waits }
 
@@ -206,11 +206,7 @@ module _ (st : Store) (next i : ℕ) (k : IsKept st next) (less : next ≤ i) (l
 
   -- ---- `lat.new`
   no_latch : get st.latches i ≡ None
-  no_latch = by_entry (get st.latches i) refl
-    where
-      by_entry : (o : Option LatchEntry) → get st.latches i ≡ o → get st.latches i ≡ None
-      by_entry None is = is
-      by_entry (Some e) is = absurd (let below = (k.each i e is).below in omega (arith, below, less))
+  no_latch = none_if (get st.latches i) (λ e is. let below = (k.each i e is).below in omega (arith, below, less))
 
   no_waits : (f : ℕ) (x : LatchWaitEntry) → i ≡ x.latch → get st.waits f ≡ Some x → ⊥
   no_waits f x own is = let home = k.home f x is in absurd (let clash : ◌≡◌ {A = Option LatchEntry} None (Some home.entry) = sym no_latch ∙ ap (get st.latches) own ∙ home.there in cc)
@@ -218,7 +214,7 @@ module _ (st : Store) (next i : ℕ) (k : IsKept st next) (less : next ≤ i) (l
   abbrev pub made : ℕ → LatchEntry
   made n = record { core = record { count = count_from n; wakes = [] }; named = true; waits = 0; plain = 0 }
 
-  pub makes : (ls' : FinMap nat_cmp LatchEntry) (n : ℕ) → ((q : ℕ) → get ls' q ≡ cond (i == q) (Some (made n)) (get st.latches q)) → Rested st (record { latches = ls'; waits = st.waits }) next i (model.make (latches_of st next) i n) answers.Made
+  pub makes : (ls' : FinMap nat_cmp LatchEntry) (n : ℕ) → Puts st.latches ls' i (Some (made n)) → Rested st (record { latches = ls'; waits = st.waits }) next i (model.make (latches_of st next) i n) answers.Made
   makes ls' n latches =
       let st' : Store = record { latches = ls'; waits = st.waits } in
       let c : Changes st st' (i + 1) i (Some (made n)) = alone st (i + 1) k1 ls' i (Some (made n)) latches (λ f x own is. absurd (no_waits f x own is)) (λ e is. (let same : made n ≡ e = cc in subst (λ y. IsKeptEntry st (i + 1) i y) same (record {
@@ -236,7 +232,7 @@ module _ (st : Store) (next i : ℕ) (k : IsKept st next) (less : next ≤ i) (l
       refl refl (omega (arith, sums, none))
 
   -- ---- a latch becomes another that has the same futures
-  becomes : (ls' : FinMap nat_cmp LatchEntry) (l : ℕ) (e d : LatchEntry) → get st.latches l ≡ Some e → ((q : ℕ) → get ls' q ≡ cond (l == q) (Some d) (get st.latches q)) → d.core.wakes ≡ [] → d.waits ≡ e.waits → d.plain ≡ e.plain
+  becomes : (ls' : FinMap nat_cmp LatchEntry) (l : ℕ) (e d : LatchEntry) → get st.latches l ≡ Some e → Puts st.latches ls' l (Some d) → d.core.wakes ≡ [] → d.waits ≡ e.waits → d.plain ≡ e.plain
       → ((x : LatchWaitEntry) → has_given e.core.count.waiting x.wait ≡ true → has_given d.core.count.waiting x.wait ≡ true) → Changes st (record { latches = ls'; waits = st.waits }) (i + 1) l (Some d)
   becomes ls' l e d there latches quiet waits plain given = alone st (i + 1) k1 ls' l (Some d) latches (λ f x own is. (d, refl, given x (given_to st (i + 1) l e k1 there f x is (sym own)))) (λ y is. (let same : d ≡ y = cc in subst (λ z. IsKeptEntry st (i + 1) l z) same entry_kept))
     where
@@ -251,7 +247,7 @@ module _ (st : Store) (next i : ℕ) (k : IsKept st next) (less : next ≤ i) (l
   abbrev pub arrived : LatchEntry → ℕ → LatchEntry
   arrived e n = record e { core = record { count = cores.decreased e.core.count n; wakes = [] } }
 
-  pub arrives : (ls' : FinMap nat_cmp LatchEntry) (l n : ℕ) (e : LatchEntry) (before after : Waking ℕ) → get st.latches l ≡ Some e → ((q : ℕ) → get ls' q ≡ cond (l == q) (Some (arrived e n)) (get st.latches q)) → registered (latches_of st next) ≤ before.registered
+  pub arrives : (ls' : FinMap nat_cmp LatchEntry) (l n : ℕ) (e : LatchEntry) (before after : Waking ℕ) → get st.latches l ≡ Some e → Puts st.latches ls' l (Some (arrived e n)) → registered (latches_of st next) ≤ before.registered
       → after ≡ record { wakers = before.wakers ++ cores.woken_by e.core.count n; registered = before.registered - length (cores.woken_by e.core.count n) }
       → Yielded st (record { latches = ls'; waits = st.waits }) next i (model.arrive (latches_of st next) l n) answers.Done before after
   arrives ls' l n e before after there latches room ready =
@@ -279,17 +275,17 @@ module _ (st : Store) (next i : ℕ) (k : IsKept st next) (less : next ≤ i) (l
       seen_arrived = λ j. record { count = decreased-seen (slots_of st.waits) (i + 1) l e.core.count n refl j; named = e.named }
 
   -- ---- `lat.drop`
-  pub drops : (ls' : FinMap nat_cmp LatchEntry) (l : ℕ) (e : LatchEntry) (before after : Waking ℕ) → get st.latches l ≡ Some e → ((q : ℕ) → get ls' q ≡ cond (l == q) (tidied (record e { named = false })) (get st.latches q)) → registered (latches_of st next) ≤ before.registered
+  pub drops : (ls' : FinMap nat_cmp LatchEntry) (l : ℕ) (e : LatchEntry) (before after : Waking ℕ) → get st.latches l ≡ Some e → Puts st.latches ls' l (tidied (record e { named = false })) → registered (latches_of st next) ≤ before.registered
       → after ≡ record before { registered = before.registered - let_go (record e { named = false }) }
       → Yielded st (record { latches = ls'; waits = st.waits }) next i (model.drop (latches_of st next) l) answers.Done before after
   drops ls' l e before after there latches room ready =
       let d : LatchEntry = record e { named = false } in
       let mid : Store = record { latches = insert st.latches l d; waits = st.waits } in
-      let put : (q : ℕ) → get (insert st.latches l d) q ≡ cond (l == q) (Some d) (get st.latches q) = λ q. get_inserted st.latches l q d in
+      let put : Puts st.latches (insert st.latches l d) l (Some d) = λ q. get_inserted st.latches l q d in
       let c = becomes (insert st.latches l d) l e d there put (k1.each l e there).quiet refl refl (λ x given. given) in
       let kept = kept_after st mid (i + 1) l (Some d) k1 c in
       let mid_there = put_here st.latches (insert st.latches l d) l (Some d) put in
-      let last : (q : ℕ) → get ls' q ≡ cond (l == q) (tidied d) (get (insert st.latches l d) q) = puts_over st.latches ls' l d (tidied d) latches in
+      let last : Puts (insert st.latches l d) ls' l (tidied d) = puts_over st.latches ls' l d (tidied d) latches in
       let mid_hall : latches_of mid (i + 1) ≡ model.with_latch now l (record (model.latch_at now l) { named = false }) = (λ j. record { latches = is_insert now.latches (latches_of mid (i + 1)).latches l (latch_of st.waits (i + 1) l d) (latches_after st mid (i + 1) l (Some d) k1 c) j; waits = now.waits })
       ∙ ap (λ (r : Latch). model.with_latch now l (record r { named = false })) (sym (latch_is st (i + 1) l e there)) in
       let sums = registered_after st mid (i + 1) l (Some d) k1 c in
@@ -305,17 +301,13 @@ module _ (st : Store) (next i : ℕ) (k : IsKept st next) (less : next ≤ i) (l
 
   -- ---- `lat.wait`
   no_future : get st.waits i ≡ None
-  no_future = by_wait (get st.waits i) refl
-    where
-      by_wait : (o : Option LatchWaitEntry) → get st.waits i ≡ o → get st.waits i ≡ None
-      by_wait None is = is
-      by_wait (Some x) is = absurd (let below = k.named.below i (slot_of x) (ap (option_map slot_of) is) in omega (arith, below, less))
+  no_future = none_if (get st.waits i) (λ x is. let below = k.named.below i (slot_of x) (ap (option_map slot_of) is) in omega (arith, below, less))
 
   abbrev pub new_wait : ℕ → Bool → LatchWaitEntry
   new_wait l plain = record { latch = l; wait = None; plain = plain }
 
   module _ (ls' : FinMap nat_cmp LatchEntry) (ws' : FinMap nat_cmp LatchWaitEntry) (l : ℕ) (plain : Bool) (e : LatchEntry) (there : get st.latches l ≡ Some e)
-      (latches : (q : ℕ) → get ls' q ≡ cond (l == q) (Some (begun e plain)) (get st.latches q)) (waits : (g : ℕ) → get ws' g ≡ cond (i == g) (Some (new_wait l plain)) (get st.waits g)) where
+      (latches : Puts st.latches ls' l (Some (begun e plain))) (waits : Puts st.waits ws' i (Some (new_wait l plain))) where
     abbrev begun_store : Store
     begun_store = record { latches = ls'; waits = ws' }
 
@@ -372,7 +364,7 @@ module _ (st : Store) (next i : ℕ) (k : IsKept st next) (less : next ≤ i) (l
 
   -- ---- `lat.poll` of a latch whose count has not ended
   module _ (ls' : FinMap nat_cmp LatchEntry) (ws' : FinMap nat_cmp LatchWaitEntry) (f w : ℕ) (x : LatchWaitEntry) (e : LatchEntry) (is : get st.waits f ≡ Some x) (there : get st.latches x.latch ≡ Some e)
-      (latches : (q : ℕ) → get ls' q ≡ cond (x.latch == q) (Some (registering_entry e x w)) (get st.latches q)) (waits : (g : ℕ) → get ws' g ≡ cond (f == g) (Some (registering_wait e x)) (get st.waits g)) where
+      (latches : Puts st.latches ls' x.latch (Some (registering_entry e x w))) (waits : Puts st.waits ws' f (Some (registering_wait e x))) where
     abbrev polled_store : Store
     polled_store = record { latches = ls'; waits = ws' }
 
@@ -447,14 +439,14 @@ module _ (st : Store) (next i : ℕ) (k : IsKept st next) (less : next ≤ i) (l
 
   -- ---- a future is gone
   module _ (ls' : FinMap nat_cmp LatchEntry) (ws' : FinMap nat_cmp LatchWaitEntry) (f : ℕ) (x : LatchWaitEntry) (e : LatchEntry) (is : get st.waits f ≡ Some x) (there : get st.latches x.latch ≡ Some e)
-      (latches : (q : ℕ) → get ls' q ≡ cond (x.latch == q) (tidied (ended e x.plain)) (get st.latches q)) (waits : (g : ℕ) → get ws' g ≡ cond (f == g) None (get st.waits g)) where
+      (latches : Puts st.latches ls' x.latch (tidied (ended e x.plain))) (waits : Puts st.waits ws' f None) where
     abbrev mid_latches : FinMap nat_cmp LatchEntry
     mid_latches = insert st.latches x.latch (ended e x.plain)
 
     abbrev mid_store : Store
     mid_store = record { latches = mid_latches; waits = ws' }
 
-    put : (q : ℕ) → get mid_latches q ≡ cond (x.latch == q) (Some (ended e x.plain)) (get st.latches q)
+    put : Puts st.latches mid_latches x.latch (Some (ended e x.plain))
     put q = get_inserted st.latches x.latch q (ended e x.plain)
 
     its_own : (y : LatchWaitEntry) → Some x ≡ Some y → y.latch ≡ x.latch
@@ -500,7 +492,7 @@ module _ (st : Store) (next i : ℕ) (k : IsKept st next) (less : next ≤ i) (l
     leaves F answer before after step room ready =
         let kept = kept_after st mid_store (i + 1) x.latch (Some (ended e x.plain)) k1 left_changes in
         let mid_there = put_here st.latches mid_latches x.latch (Some (ended e x.plain)) put in
-        let last : (q : ℕ) → get ls' q ≡ cond (x.latch == q) (tidied (ended e x.plain)) (get mid_latches q) = puts_over st.latches ls' x.latch (ended e x.plain) (tidied (ended e x.plain)) latches in
+        let last : Puts mid_latches ls' x.latch (tidied (ended e x.plain)) = puts_over st.latches ls' x.latch (ended e x.plain) (tidied (ended e x.plain)) latches in
         let sums = registered_after st mid_store (i + 1) x.latch (Some (ended e x.plain)) k1 left_changes in
         let was : weight (λ q (y : LatchEntry). length y.core.count.waiting.wakers) x.latch (get st.latches x.latch) ≡ length e.core.count.waiting.wakers = ap (weight (λ q (y : LatchEntry). length y.core.count.waiting.wakers) x.latch) there in
         let gone = tidy_counted mid_store (i + 1) kept ls' x.latch (ended e x.plain) mid_there last in

@@ -26,10 +26,11 @@ use Rattle.mea_meet.specs.LatchHall.{Store, store_of, slot_of, slots_of, latch_o
 use Rattle.mea_meet.specs.declared.latches.LatchEntry.{LatchEntry}
 use Rattle.mea_meet.specs.declared.latches.LatchWaitEntry.{LatchWaitEntry}
 use Rattle.mea_meet.proofs.Names.{waiting-wakers}
-use Rattle.mea_meet.proofs.Maps.{put_here, kept-at, found, kept-puts, at_same, weight-within, is_same}
+use Rattle.mea_meet.proofs.Maps.{put_here, kept-at, found, kept-puts, at_same, weight-within, is_same, Puts, kept-puts-as, changed_at, some_if, not_none, some_found, kept-none, seen-empty}
 use Rattle.mea_meet.proofs.LatchStore.{latch_seen, registered_seen, wait_seen, plain_seen, given_to}
 use Rattle.mea_meet.proofs.LatchPlays.{Rested, Yielded, latch_is, named_is, named_not, wait_there, stays, makes, arrives, drops, begins, registering_entry, registering_wait, polls_on, leaves}
 use Rattle.mea_meet.proofs.Counts.{woken-all}
+use Rattle.mea_meet.proofs.Slots.{named_none}
 
 abbrev pub Latchs : Type 0
 Latchs = List (ℕ × LatchEntry)
@@ -40,23 +41,17 @@ Waits = List (ℕ × LatchWaitEntry)
 -- ---- a hall with nothing in it
 pub kept_empty : (ls : Latchs) (ws : Waits) → ls ≡ [] → ws ≡ [] → IsKept (store_of ls ws) 0
 kept_empty ls ws none_l none_w = record {
-  each = λ l e is. absurd (let none : get (store_of ls ws).latches l ≡ None = kept-at ls l ∙ ap (λ es. at es l) none_l in cc);
-  home = λ f x is. absurd (let none : get (store_of ls ws).waits f ≡ None = kept-at ws f ∙ ap (λ es. at es f) none_w in cc);
-  named = record {
-    below = λ f x is. absurd (let none : slots_of (store_of ls ws).waits f ≡ None = no_slot f in cc);
-    apart = λ f g o place is also. absurd (let none : slots_of (store_of ls ws).waits f ≡ None = no_slot f in cc);
-  };
+  each = λ l e is. absurd (let none = kept-none ls none_l l in cc);
+  home = λ f x is. absurd (let none = kept-none ws none_w f in cc);
+  named = named_none (slots_of (store_of ls ws).waits) 0 (λ f. ap (option_map slot_of) (kept-none ws none_w f));
   low = omega arith;
 }
-  where
-    no_slot : (f : ℕ) → slots_of (store_of ls ws).waits f ≡ None
-    no_slot f = ap (option_map slot_of) (kept-at ws f ∙ ap (λ es. at es f) none_w)
 
 pub seen_empty : (ls : Latchs) (ws : Waits) → ls ≡ [] → ws ≡ [] → latches_of (store_of ls ws) 0 ≡ model.no_latches
-seen_empty ls ws none_l none_w = λ j. record {
-  latches = same_named (latches_of (store_of ls ws) 0).latches empty (λ q. latch_seen (store_of ls ws) 0 q ∙ ap (option_map (latch_of (store_of ls ws).waits 0 q)) (kept-at ls q ∙ ap (λ es. at es q) none_l) ∙ sym (get-empty nat_cmp q)) j;
-  waits = same_named (latches_of (store_of ls ws) 0).waits empty (λ q. wait_seen (store_of ls ws) 0 q ∙ ap (option_map wait_of) (kept-at ws q ∙ ap (λ es. at es q) none_w) ∙ sym (get-empty nat_cmp q)) j;
-}
+seen_empty ls ws none_l none_w =
+    let latches = seen-empty (latch_of (store_of ls ws).waits 0) (store_of ls ws).latches (kept-none ls none_l) in
+    let waits = seen-empty (λ f x. wait_of x) (store_of ls ws).waits (kept-none ws none_w) in
+    λ j. record { latches = latches j; waits = waits j }
 
 -- ---- what a look-up tells
 abbrev pub has_name : Option LatchEntry → Bool
@@ -100,7 +95,7 @@ module _ (ls : Latchs) (ws : Waits) (next : ℕ) (v : Part Latches) (seen : reco
 
   -- a future that is there, and its latch
   pub future_at : (f : ℕ) → IsSome (get v.hall.waits f) → at ws f ≡ None → ⊥
-  future_at f there none = absurd (let no : is_some (at ws f) ≡ false = ap is_some none in let both = wait_at f in cc)
+  future_at f there none = not_none (at ws f) (wait_at f ∙ there) none
 
   pub latch_at_wait : (f : ℕ) (x : LatchWaitEntry) → IsKept (store_of ls ws) next → at ws f ≡ Some x → (e : LatchEntry) × (at ls x.latch ≡ Some e)
   latch_at_wait f x k is = let home = k.home f x (found ws f x is) in (home.entry, sym (kept-at ls x.latch) ∙ home.there)
@@ -115,11 +110,7 @@ module _ (ls : Latchs) (ws : Waits) (next : ℕ) (v : Part Latches) (seen : reco
   quiet_at l e k is = (kept_at l e k is).quiet
 
   pub find_wait : (f : ℕ) → IsSome (get v.hall.waits f) → (x : LatchWaitEntry) × (at ws f ≡ Some x)
-  find_wait f there = by_wait (at ws f) refl
-    where
-      by_wait : (o : Option LatchWaitEntry) → at ws f ≡ o → (x : LatchWaitEntry) × (at ws f ≡ Some x)
-      by_wait None none = absurd (future_at f there none)
-      by_wait (Some x) is = (x, is)
+  find_wait f there = some_found (at ws f) (wait_at f ∙ there)
 
   pub given_at : (f : ℕ) (x : LatchWaitEntry) (e : LatchEntry) → IsKept (store_of ls ws) next → at ws f ≡ Some x → at ls x.latch ≡ Some e → has_given e.core.count.waiting x.wait ≡ true
   given_at f x e k is there = given_to (store_of ls ws) next x.latch e k (found ls x.latch e there) f x (found ws f x is) refl
@@ -148,25 +139,15 @@ module _ (ls : Latchs) (ws : Waits) (next : ℕ) (v : Part Latches) (seen : reco
       let e = latch_at_wait f x.0 k x.1 in
       record { future = x.0; entry = e.0; is_future = x.1; is_entry = e.1; holds = endable_with f x.0 e.0 ready k x.1 e.1 room }
 
--- what holds of what was found
-pub of_one : {X : Type 0} (es : List (ℕ × X)) (k : ℕ) (x : X) (P : X → Type 0) → at es k ≡ Some x → IfSome (at es k) P → P x
-of_one es k x P is holds = subst (λ o. IfSome o P) is holds
-
 -- what holds of a future and its latch, where both were found
 pub of_both : (ls : Latchs) (ws : Waits) (f : ℕ) (x : LatchWaitEntry) (e : LatchEntry) (P : LatchWaitEntry → LatchEntry → Type 0) → at ws f ≡ Some x → at ls x.latch ≡ Some e → IfSome (at ws f) (λ y. IfSome (at ls y.latch) (λ d. P y d)) → P x e
-of_both ls ws f x e P is there holds =
-    let first : IfSome (at ls x.latch) (λ d. P x d) = subst (λ o. IfSome o (λ y. IfSome (at ls y.latch) (λ d. P y d))) is holds in
-    subst (λ o. IfSome o (λ d. P x d)) there first
-
--- ---- changes of lists of entries
-pub changed_at : {X : Type 0} (old new : List (ℕ × X)) (k : ℕ) (o : Option X) → ChangesAt old new k o → at new k ≡ o
-changed_at old new k o change = sym (kept-at new k) ∙ put_here (named (λ q x. x) old) (named (λ q x. x) new) k o (kept-puts old new k o change)
+of_both ls ws f x e P is there holds = some_if (λ d. P x d) (at ls x.latch) e there (some_if (λ y. IfSome (at ls y.latch) (λ d. P y d)) (at ws f) x is holds)
 
 -- what stands at its names is put there again
 pub same_store : (ls ls' : Latchs) (ws ws' : Waits) (l f : ℕ) (e d : LatchEntry) (x y : LatchWaitEntry) → at ls l ≡ Some e → at ws f ≡ Some x → ChangesAt ls ls' l (Some d) → d ≡ e → ChangesAt ws ws' f (Some y) → y ≡ x → store_of ls' ws' ≡ store_of ls ws
 same_store ls ls' ws ws' l f e d x y there is change same change_wait same_wait = λ j. record {
-  latches = is_same (store_of ls ws).latches (store_of ls' ws').latches l (Some e) (found ls l e there) (λ q. kept-puts ls ls' l (Some d) change q ∙ ap (λ z. cond (l == q) (Some z) (get (store_of ls ws).latches q)) same) j;
-  waits = is_same (store_of ls ws).waits (store_of ls' ws').waits f (Some x) (found ws f x is) (λ g. kept-puts ws ws' f (Some y) change_wait g ∙ ap (λ z. cond (f == g) (Some z) (get (store_of ls ws).waits g)) same_wait) j;
+  latches = is_same (store_of ls ws).latches (store_of ls' ws').latches l (Some e) (found ls l e there) (kept-puts-as ls ls' l d _ change same) j;
+  waits = is_same (store_of ls ws).waits (store_of ls' ws').waits f (Some x) (found ws f x is) (kept-puts-as ws ws' f y _ change_wait same_wait) j;
 }
 
 -- where an insertion fails, all is as it was
@@ -230,7 +211,7 @@ module _ (ls : Latchs) (ws : Waits) (next i : ℕ) (v : Part Latches) (seen : re
   pub arrives_at : (ls' : Latchs) (l n : ℕ) (e d : LatchEntry) (before after : Waking ℕ) → at ls l ≡ Some e → d ≡ record e { core = record { count = cores.decreased e.core.count n; wakes = [] } } → ChangesAt ls ls' l (Some d) → registered v.hall ≤ before.registered
       → after ≡ record { wakers = before.wakers ++ cores.woken_by e.core.count n; registered = before.registered - length (cores.woken_by e.core.count n) } → YieldedAt v (store_of ls' ws) i (model.arrive v.hall l n) answers.Done before after
   arrives_at ls' l n e d before after is new change room ready = yielded_at (store_of ls' ws) (λ h. model.arrive h l n) answers.Done before after (arrives (store_of ls ws) next i k less low (store_of ls' ws).latches l n e before after (found ls l e is)
-      (λ q. kept-puts ls ls' l (Some d) change q ∙ ap (λ y. cond (l == q) (Some y) (get (store_of ls ws).latches q)) new) (room_then before.registered room) ready)
+      (kept-puts-as ls ls' l d _ change new) (room_then before.registered room) ready)
 
   pub drops_at : (ls' : Latchs) (l : ℕ) (e : LatchEntry) (before after : Waking ℕ) → at ls l ≡ Some e → ChangesAt ls ls' l (tidied (record e { named = false })) → registered v.hall ≤ before.registered
       → after ≡ record before { registered = before.registered - let_go (record e { named = false }) } → YieldedAt v (store_of ls' ws) i (model.drop v.hall l) answers.Done before after
@@ -240,8 +221,8 @@ module _ (ls : Latchs) (ws : Waits) (next i : ℕ) (v : Part Latches) (seen : re
   pub begins_at : (ls' : Latchs) (ws' : Waits) (l : ℕ) (plain : Bool) (e d : LatchEntry) (x : LatchWaitEntry) → at ls l ≡ Some e → d ≡ begun e plain → ChangesAt ls ls' l (Some d) → x ≡ record { latch = l; wait = None; plain = plain } → ChangesAt ws ws' i (Some x)
       → RestedAt v (store_of ls' ws') i (model.wait v.hall i l plain) answers.Made
   begins_at ls' ws' l plain e d x is new change future put = rested_at (store_of ls' ws') (λ h. model.wait h i l plain) answers.Made (begins (store_of ls ws) next i k less low (store_of ls' ws').latches (store_of ls' ws').waits l plain e (found ls l e is)
-      (λ q. kept-puts ls ls' l (Some d) change q ∙ ap (λ y. cond (l == q) (Some y) (get (store_of ls ws).latches q)) new)
-      (λ g. kept-puts ws ws' i (Some x) put g ∙ ap (λ y. cond (i == g) (Some y) (get (store_of ls ws).waits g)) future))
+      (kept-puts-as ls ls' l d _ change new)
+      (kept-puts-as ws ws' i x _ put future))
 
   pub ends_at : (ls' : Latchs) (ws' : Waits) (f : ℕ) (x : LatchWaitEntry) (e : LatchEntry) (before after : Waking ℕ) → at ws f ≡ Some x → at ls x.latch ≡ Some e → registered v.hall ≤ before.registered → EndsIn ls ws f x e before ls' ws' after
       → YieldedAt v (store_of ls' ws') i (model.end_of v.hall f (get v.hall.waits f)) answers.Done before after
@@ -266,8 +247,8 @@ module _ (ls : Latchs) (ws : Waits) (next i : ℕ) (v : Part Latches) (seen : re
       let entry : polls.entry ≡ registering_entry e x w = polls.entry_is ∙ ap (λ (c : Counting ℕ). record e { core = c }) p.1 in
       let future : polls.future ≡ registering_wait e x = polls.future_is ∙ ap (λ s. record x { wait = s }) p.2 in
       yielded_at (store_of ls' ws') (λ h. model.poll_of h f w (get h.waits f)) answers.Pending before after (polls_on (store_of ls ws) next i k less low (store_of ls' ws').latches (store_of ls' ws').waits f w x e (found ws f x is) (found ls x.latch e there)
-      (λ q. kept-puts ls ls' x.latch (Some polls.entry) polls.latches q ∙ ap (λ y. cond (x.latch == q) (Some y) (get (store_of ls ws).latches q)) entry)
-      (λ g. kept-puts ws ws' f (Some polls.future) polls.waits g ∙ ap (λ y. cond (f == g) (Some y) (get (store_of ls ws).waits g)) future)
+      (kept-puts-as ls ls' x.latch polls.entry _ polls.latches entry)
+      (kept-puts-as ws ws' f polls.future _ polls.waits future)
       before after p.0 p.3)
 
 -- ---- a poll that is ready or fails changes nothing

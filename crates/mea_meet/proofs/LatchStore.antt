@@ -6,7 +6,7 @@ use Rattle.std.specs.FinMap.{FinMap, get}
 use Rattle.std.proofs.lemmas.Bool.{eqb-true, eqb-false, eq-eqb, ne_eqb}
 use Rattle.mea_base.specs.Totals.{total, weight}
 use Rattle.mea_base.proofs.NamedMaps.{same_named}
-use Rattle.mea_base.proofs.Totals.{total-alike}
+use Rattle.mea_base.proofs.Totals.{total-same}
 use Rattle.mea_sets.specs.declared.place.Place.{Place}
 use Rattle.mea_sets.specs.WaitSet.{Registered, has_given}
 use Rattle.mea_meet_model.specs.Latches.{Latch, LatchWait, registered}
@@ -15,8 +15,8 @@ use Rattle.mea_meet.specs.LatchHall.{Store, slot_of, slots_of, latch_of, wait_of
 use Rattle.mea_meet.specs.declared.latches.LatchEntry.{LatchEntry}
 use Rattle.mea_meet.specs.declared.latches.LatchWaitEntry.{LatchWaitEntry}
 use Rattle.mea_meet.proofs.Names.{waiting-length, waiting-alike, named-later}
-use Rattle.mea_meet.proofs.Maps.{at_same, at_apart, get-seen, put_here, put_other, total_puts, seen_puts, puts_seen, Belongs, total_elsewhere, by_name, put_there}
-use Rattle.mea_meet.proofs.Slots.{slot_owner, slots_there, slots_other, apart_belongs, waiting_beside}
+use Rattle.mea_meet.proofs.Maps.{at_same, at_apart, get-seen, put_here, put_other, total_puts, seen_puts, puts_seen, Belongs, total_elsewhere, by_name, put_there, total-named, seen_alike, one_of, total_puts_was, weighs_here, one_entry, Puts}
+use Rattle.mea_meet.proofs.Slots.{slots_there, slots_other, apart_belongs, waiting_beside, given_by}
 
 -- 1 for a plain future
 abbrev pub plain_of : Option LatchWaitEntry → ℕ
@@ -38,25 +38,15 @@ abbrev pub wakers_in : FinMap nat_cmp LatchEntry → ℕ
 wakers_in ls = total (λ l (e : LatchEntry). length e.core.count.waiting.wakers) ls
 
 pub registered_seen : (st : Store) (b : ℕ) → registered (latches_of st b) ≡ wakers_in st.latches
-registered_seen st b = total-alike (λ l (r : Latch). length r.count.waiting) (λ l (e : LatchEntry). length e.core.count.waiting.wakers) (latches_of st b).latches st.latches (λ l. ap (weight (λ q (r : Latch). length r.count.waiting) l) (latch_seen st b l) ∙ by_entry l (get st.latches l))
-  where
-    by_entry : (l : ℕ) (o : Option LatchEntry) → weight (λ q (r : Latch). length r.count.waiting) l (option_map (latch_of st.waits b l) o) ≡ weight (λ q (e : LatchEntry). length e.core.count.waiting.wakers) l o
-    by_entry l None = refl
-    by_entry l (Some e) = waiting-length (slots_of st.waits) b l e.core.count.waiting
+registered_seen st b =
+    total-named (latch_of st.waits b) (λ l (r : Latch). length r.count.waiting) st.latches
+    ∙ total-same _ _ st.latches (λ l e is. waiting-length (slots_of st.waits) b l e.core.count.waiting)
 
 pub waits_seen : (st : Store) (b l : ℕ) → total (λ f (x : LatchWait). cond (x.latch == l) 1 0) (latches_of st b).waits ≡ waits_in st.waits l
-waits_seen st b l = total-alike (λ f (x : LatchWait). cond (x.latch == l) 1 0) (λ f (x : LatchWaitEntry). cond (x.latch == l) 1 0) (latches_of st b).waits st.waits (λ f. ap (weight (λ g (x : LatchWait). cond (x.latch == l) 1 0) f) (wait_seen st b f) ∙ by_entry f (get st.waits f))
-  where
-    by_entry : (f : ℕ) (o : Option LatchWaitEntry) → weight (λ g (x : LatchWait). cond (x.latch == l) 1 0) f (option_map wait_of o) ≡ weight (λ g (x : LatchWaitEntry). cond (x.latch == l) 1 0) f o
-    by_entry f None = refl
-    by_entry f (Some x) = refl
+waits_seen st b l = total-named (λ f x. wait_of x) (λ f (x : LatchWait). cond (x.latch == l) 1 0) st.waits
 
 pub plain_seen : (st : Store) (b l : ℕ) → total (λ f (x : LatchWait). cond (x.latch == l && x.plain) 1 0) (latches_of st b).waits ≡ plain_in st.waits l
-plain_seen st b l = total-alike (λ f (x : LatchWait). cond (x.latch == l && x.plain) 1 0) (λ f (x : LatchWaitEntry). cond (x.latch == l && x.plain) 1 0) (latches_of st b).waits st.waits (λ f. ap (weight (λ g (x : LatchWait). cond (x.latch == l && x.plain) 1 0) f) (wait_seen st b f) ∙ by_entry f (get st.waits f))
-  where
-    by_entry : (f : ℕ) (o : Option LatchWaitEntry) → weight (λ g (x : LatchWait). cond (x.latch == l && x.plain) 1 0) f (option_map wait_of o) ≡ weight (λ g (x : LatchWaitEntry). cond (x.latch == l && x.plain) 1 0) f o
-    by_entry f None = refl
-    by_entry f (Some x) = refl
+plain_seen st b l = total-named (λ f x. wait_of x) (λ f (x : LatchWait). cond (x.latch == l && x.plain) 1 0) st.waits
 
 -- ---- where nothing changes, and the bound rises
 module _ (st : Store) (b b' : ℕ) (k : IsKept st b) (rises : b ≤ b') where
@@ -73,18 +63,13 @@ module _ (st : Store) (b b' : ℕ) (k : IsKept st b) (rises : b ≤ b') where
   waiting_later q s = waiting-alike (slots_of st.waits) (slots_of st.waits) b b' q s k.named (named-later (slots_of st.waits) b b' k.named rises) (λ f place is. is) (λ f place is. is)
 
   pub later_seen : latches_of st b' ≡ latches_of st b
-  later_seen = λ j. record { latches = same j; waits = (latches_of st b).waits }
-    where
-      by_entry : (q : ℕ) (o : Option LatchEntry) → option_map (latch_of st.waits b' q) o ≡ option_map (latch_of st.waits b q) o
-      by_entry q None = refl
-      by_entry q (Some e) = λ j. Some (record { count = record { number = e.core.count.number; waiting = waiting_later q e.core.count.waiting j }; named = e.named })
-
-      same : (latches_of st b').latches ≡ (latches_of st b).latches
-      same = same_named _ _ (λ q. latch_seen st b' q ∙ by_entry q (get st.latches q) ∙ sym (latch_seen st b q))
+  later_seen =
+      let same = seen_alike (latch_of st.waits b) (latch_of st.waits b') st.latches (λ q e is. λ j. record { count = record { number = e.core.count.number; waiting = waiting_later q e.core.count.waiting j }; named = e.named }) in
+      λ j. record { latches = same j; waits = (latches_of st b).waits }
 
 -- ---- a latch l becomes this, or is gone; futures of others stay as they are
 pub record Changes (st st' : Store) (b l : ℕ) (e' : Option LatchEntry) : Type 0 where
-  pub latches : (q : ℕ) → get st'.latches q ≡ cond (l == q) e' (get st.latches q)
+  pub latches : Puts st.latches st'.latches l e'
   pub named : AreNamed (slots_of st'.waits) b
   pub waiting : (q : ℕ) (s : Registered ℕ) → (l ≡ q → ⊥) → waiting_at (slots_of st'.waits) b q s ≡ waiting_at (slots_of st.waits) b q s
   pub waits : (q : ℕ) → (l ≡ q → ⊥) → waits_in st'.waits q ≡ waits_in st.waits q
@@ -122,7 +107,7 @@ module _ (st st' : Store) (b l : ℕ) (e' : Option LatchEntry) (k : IsKept st b)
   pub kept_after : IsKept st' b
   kept_after = record { each = each_after; home = home_after; named = c.named; low = k.low }
 
-  pub latches_after : (q : ℕ) → get (latches_of st' b).latches q ≡ cond (l == q) (option_map (latch_of st'.waits b l) e') (get (latches_of st b).latches q)
+  pub latches_after : Puts (latches_of st b).latches (latches_of st' b).latches l (option_map (latch_of st'.waits b l) e')
   latches_after = seen_puts (latch_of st.waits b) (latch_of st'.waits b) st.latches st'.latches l e' c.latches
       (λ q e apart there. λ j. record { count = record { number = e.core.count.number; waiting = c.waiting q e.core.count.waiting apart j }; named = e.named })
 
@@ -135,7 +120,7 @@ module _ (st st' : Store) (b l : ℕ) (e' : Option LatchEntry) (k : IsKept st b)
       omega (arith, after, before, sums)
 
 -- ---- a future f becomes this, or is gone
-module _ (ws ws' : Kept) (f : ℕ) (o o' : Option LatchWaitEntry) (was : get ws f ≡ o) (now : (g : ℕ) → get ws' g ≡ cond (f == g) o' (get ws g)) where
+module _ (ws ws' : Kept) (f : ℕ) (o o' : Option LatchWaitEntry) (was : get ws f ≡ o) (now : Puts ws ws' f o') where
   -- the slots, before and after
   pub slot_other : (g : ℕ) → (f ≡ g → ⊥) → slots_of ws' g ≡ slots_of ws g
   slot_other = slots_other (option_map slot_of) ws ws' f o' now
@@ -147,11 +132,11 @@ module _ (ws ws' : Kept) (f : ℕ) (o o' : Option LatchWaitEntry) (was : get ws 
   slot_now = slots_there (option_map slot_of) ws ws' f o' now
 
 -- the futures as they are seen after it
-pub waits_after : (st : Store) (ls' : FinMap nat_cmp LatchEntry) (ws' : Kept) (b f : ℕ) (o' : Option LatchWaitEntry) → ((g : ℕ) → get ws' g ≡ cond (f == g) o' (get st.waits g)) → (g : ℕ) → get (latches_of (record { latches = ls'; waits = ws' }) b).waits g ≡ cond (f == g) (option_map wait_of o') (get (latches_of st b).waits g)
+pub waits_after : (st : Store) (ls' : FinMap nat_cmp LatchEntry) (ws' : Kept) (b f : ℕ) (o' : Option LatchWaitEntry) → Puts st.waits ws' f o' → Puts (latches_of st b).waits (latches_of (record { latches = ls'; waits = ws' }) b).waits f (option_map wait_of o')
 waits_after st ls' ws' b f o' now = puts_seen wait_of st.waits ws' f o' now
 
 -- the same, of the latch l
-module _ (ws ws' : Kept) (b l f : ℕ) (o o' : Option LatchWaitEntry) (named : AreNamed (slots_of ws) b) (named' : AreNamed (slots_of ws') b) (was : get ws f ≡ o) (now : (g : ℕ) → get ws' g ≡ cond (f == g) o' (get ws g)) (mine : (x : LatchWaitEntry) → o ≡ Some x → x.latch ≡ l) (mine' : (x : LatchWaitEntry) → o' ≡ Some x → x.latch ≡ l) where
+module _ (ws ws' : Kept) (b l f : ℕ) (o o' : Option LatchWaitEntry) (named : AreNamed (slots_of ws) b) (named' : AreNamed (slots_of ws') b) (was : get ws f ≡ o) (now : Puts ws ws' f o') (mine : (x : LatchWaitEntry) → o ≡ Some x → x.latch ≡ l) (mine' : (x : LatchWaitEntry) → o' ≡ Some x → x.latch ≡ l) where
   was_mine : Belongs {X = LatchWaitEntry} (λ x. x.latch) l (get ws f)
   was_mine x is = mine x (sym was ∙ is)
 
@@ -181,16 +166,12 @@ module _ (ws ws' : Kept) (b l f : ℕ) (o o' : Option LatchWaitEntry) (named : A
       (λ other. sym (put_other ws ws' f o' now g other) ∙ is)
 
   -- the sums over the futures of l itself
-  pub waits_mine : waits_in ws' l + cond (is_some o) 1 0 ≡ waits_in ws l + cond (is_some o') 1 0
+  pub waits_mine : waits_in ws' l + one_of o ≡ waits_in ws l + one_of o'
   waits_mine =
-      let sums = total_puts ws ws' f (λ g (x : LatchWaitEntry). cond (x.latch == l) 1 0) o' now in
-      let old : weight (λ g (x : LatchWaitEntry). cond (x.latch == l) 1 0) f (get ws f) ≡ cond (is_some o) 1 0 = ap (weight (λ g (x : LatchWaitEntry). cond (x.latch == l) 1 0) f) was ∙ weighs o mine in
-      let new : weight (λ g (x : LatchWaitEntry). cond (x.latch == l) 1 0) f o' ≡ cond (is_some o') 1 0 = weighs o' mine' in
+      let sums = total_puts_was ws ws' f (λ g (x : LatchWaitEntry). cond (x.latch == l) 1 0) o' o now was in
+      let old = weighs_here (λ (x : LatchWaitEntry). x.latch) l f o mine in
+      let new = weighs_here (λ (x : LatchWaitEntry). x.latch) l f o' mine' in
       omega (arith, sums, old, new)
-    where
-      weighs : (p : Option LatchWaitEntry) → ((x : LatchWaitEntry) → p ≡ Some x → x.latch ≡ l) → weight (λ g (x : LatchWaitEntry). cond (x.latch == l) 1 0) f p ≡ cond (is_some p) 1 0
-      weighs None own = refl
-      weighs (Some x) own = at_same x.latch l 1 0 (own x refl)
 
   pub plain_mine : plain_in ws' l + plain_of o ≡ plain_in ws l + plain_of o'
   plain_mine =
@@ -207,11 +188,7 @@ module _ (ws ws' : Kept) (b l f : ℕ) (o o' : Option LatchWaitEntry) (named : A
 pub given_to : (st : Store) (b l : ℕ) (e : LatchEntry) → IsKept st b → get st.latches l ≡ Some e → (f : ℕ) (x : LatchWaitEntry) → get st.waits f ≡ Some x → x.latch ≡ l → has_given e.core.count.waiting x.wait ≡ true
 given_to st b l e k there f x is own =
     let home = k.home f x is in
-    let both : Some home.entry ≡ Some e = sym home.there ∙ ap (get st.latches) own ∙ there in
-    let same : home.entry ≡ e = cc in
-    subst (λ (d : LatchEntry). has_given d.core.count.waiting x.wait ≡ true) same home.given
+    subst (λ (d : LatchEntry). has_given d.core.count.waiting x.wait ≡ true) (one_entry st.latches x.latch l home.entry e home.there own there) home.given
 
 pub given_all : (st : Store) (b l : ℕ) (e : LatchEntry) → IsKept st b → get st.latches l ≡ Some e → AreGiven (slots_of st.waits) l e.core.count.waiting
-given_all st b l e k there f slot is =
-    let x = slot_owner (λ (x : LatchWaitEntry). x.latch) (λ x. x.wait) (get st.waits f) l slot is in
-    ap (has_given e.core.count.waiting) (sym x.3) ∙ given_to st b l e k there f x.0 x.1 x.2
+given_all st b l e k there = given_by (λ (x : LatchWaitEntry). x.latch) (λ x. x.wait) st.waits l e.core.count.waiting (given_to st b l e k there)

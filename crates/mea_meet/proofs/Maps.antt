@@ -1,9 +1,9 @@
 -- maps by name in the halls of meeting points: what is kept and what is seen of it, and both after a change
 use Rattle.std.proofs.Common.{◌≡◌, ℕ, ◌+◌, ◌≤◌, ◌==◌, Bool, true, false, cond, List, [], ◌∷◌, Option, Some, None, IsSome, is_some, refl, ap, sym, subst, ◌∙◌, arith}
-use Rattle.std.specs.Option.{option_map}
+use Rattle.std.specs.Option.{option_map, IfSome}
 use Rattle.std.specs.Ordering.{nat_cmp}
 use Rattle.std.specs.BTreeMap.{is_at}
-use Rattle.std.specs.FinMap.{FinMap, find, get, insert, remove, entries, get-entries}
+use Rattle.std.specs.FinMap.{FinMap, find, get, insert, remove, empty, entries, get-entries, get-empty}
 use Rattle.std.proofs.lemmas.Bool.{eqb-true, eqb-false, eq-eqb, ne_eqb}
 use Rattle.mea_base.specs.Named.{named, at}
 use Rattle.mea_base.specs.Totals.{total, weight}
@@ -39,6 +39,22 @@ pub not_none : {X : Type 0} (o : Option X) → IsSome o → o ≡ None → ⊥
 not_none None there none = absurd (cc)
 not_none (Some x) there none = absurd (cc)
 
+-- what nothing can be is none
+pub none_if : {X : Type 0} (o : Option X) → ((x : X) → o ≡ Some x → ⊥) → o ≡ None
+none_if None nothing = refl
+none_if (Some x) nothing = absurd (nothing x refl)
+
+pub some_found : {X : Type 0} (o : Option X) → IsSome o → (x : X) × (o ≡ Some x)
+some_found None there = absurd (cc)
+some_found (Some x) there = (x, refl)
+
+-- what holds of what is there
+pub if_some : {X : Type 0} (P : X → Type 0) (o : Option X) (x : X) → o ≡ Some x → P x → IfSome o P
+if_some P o x is p = subst (λ q. IfSome q P) (sym is) p
+
+pub some_if : {X : Type 0} (P : X → Type 0) (o : Option X) (x : X) → o ≡ Some x → IfSome o P → P x
+some_if P o x is holds = subst (λ q. IfSome q P) is holds
+
 value_in : {X : Type 0} → X → Option X → X
 value_in x None = x
 value_in x (Some y) = y
@@ -54,6 +70,17 @@ kept-at es q = get-named (λ k x. x) es q ∙ option_map-same (at es q)
 
 pub found : {X : Type 0} (es : List (ℕ × X)) (k : ℕ) (x : X) → at es k ≡ Some x → get (named (λ k x. x) es) k ≡ Some x
 found es k x is = kept-at es k ∙ is
+
+-- nothing is kept
+pub kept-none : {X : Type 0} (es : List (ℕ × X)) → es ≡ [] → (q : ℕ) → get (named (λ k x. x) es) q ≡ None
+kept-none es is q = kept-at es q ∙ ap (λ fs. at fs q) is
+
+pub is_empty : {X : Type 0} (m : FinMap nat_cmp X) → ((q : ℕ) → get m q ≡ None) → m ≡ empty
+is_empty m none = same_named m empty (λ q. none q ∙ sym (get-empty nat_cmp q))
+
+-- one entry stands at a name
+pub one_entry : {X : Type 0} (m : FinMap nat_cmp X) (j k : ℕ) (x y : X) → get m j ≡ Some x → j ≡ k → get m k ≡ Some y → x ≡ y
+one_entry m j k x y is same there = inside x y (sym is ∙ ap (get m) same ∙ there)
 
 -- at one name there is this now, and every other name has what it had
 abbrev pub ChangesAt : {X : Type 0} → List (ℕ × X) → List (ℕ × X) → ℕ → Option X → Type 0
@@ -106,6 +133,10 @@ module _ {X : Type 0} (m n : FinMap nat_cmp X) (k : ℕ) where
   -- the same where what stood there is this
   pub total_puts_was : (w : ℕ → X → ℕ) (o p : Option X) → Puts m n k o → get m k ≡ p → total w n + weight w k p ≡ total w m + weight w k o
   total_puts_was w o p h was = ap (λ x. total w n + weight w k x) (sym was) ∙ total_puts w o h
+
+-- what stands at a name after it was written
+pub changed_at : {X : Type 0} (old new : List (ℕ × X)) (k : ℕ) (o : Option X) → ChangesAt old new k o → at new k ≡ o
+changed_at old new k o change = sym (kept-at new k) ∙ put_here (named (λ q x. x) old) (named (λ q x. x) new) k o (kept-puts old new k o change)
 
 -- nothing is put where there is what there was
 pub puts_same : {X : Type 0} (m : FinMap nat_cmp X) (k : ℕ) (o : Option X) → get m k ≡ o → Puts m m k o
@@ -204,6 +235,9 @@ seen-some f m q x is = get-seen f m q ∙ ap (option_map (f q)) is
 
 pub seen-none : {X Y : Type 0} (f : ℕ → X → Y) (m : FinMap nat_cmp X) (q : ℕ) → get m q ≡ None → get (named f (entries m)) q ≡ None
 seen-none f m q is = get-seen f m q ∙ ap (option_map (f q)) is
+
+pub seen-empty : {X Y : Type 0} (f : ℕ → X → Y) (m : FinMap nat_cmp X) → ((q : ℕ) → get m q ≡ None) → named f (entries m) ≡ empty
+seen-empty f m none = is_empty (named f (entries m)) (λ q. seen-none f m q (none q))
 
 -- a sum over what is seen
 pub total-named : {X Y : Type 0} (g : ℕ → X → Y) (w : ℕ → Y → ℕ) (m : FinMap nat_cmp X) → total w (named g (entries m)) ≡ total (λ k x. w k (g k x)) m

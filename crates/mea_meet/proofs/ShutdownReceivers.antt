@@ -14,9 +14,9 @@ use Rattle.mea_meet.specs.declared.shutdowns.ShutdownEntry.{ShutdownEntry}
 use Rattle.mea_meet.specs.declared.shutdowns.ReceiverEntry.{ReceiverEntry}
 use Rattle.mea_meet.specs.declared.shutdowns.ShutdownWaitEntry.{ShutdownWaitEntry}
 use Rattle.mea_meet.specs.ShutdownHall.{Store, End, OfSignal, OfReceivers, count_at, slots_of, count_of, shutdown_of, receiver_of, hall_of, counting, borrowers_in, without_receiver, woken_at_end, is_full, IsKept}
-use Rattle.mea_meet.proofs.Maps.{Puts, Belongs, puts_same, puts_seen, is_same, is_insert, is_remove, belongs-none, belongs-some, inside, weight-within}
+use Rattle.mea_meet.proofs.Maps.{Puts, Belongs, puts_same, puts_seen, is_same, is_insert, is_remove, belongs-none, belongs-some, inside, weight-within, some_found}
 use Rattle.mea_meet.proofs.ShutdownChanges.{Changes, wakers_at}
-use Rattle.mea_meet.proofs.ShutdownSeen.{shutdown-at, shutdown-there, receiver-seen, some_found}
+use Rattle.mea_meet.proofs.ShutdownSeen.{shutdown-at, shutdown-there, receiver-seen}
 use Rattle.mea_meet.proofs.ShutdownStill.{no-sender, no-receiver, no-wait, own, unborrowed, entry_after}
 use Rattle.mea_meet.proofs.Counts.{decreased-seen, woken-seen, given-decreased, woken-all}
 use Rattle.mea_meet.proofs.ShutdownPlays.{Goes, Wakes, seen_before, kept_all, given, shutdowns_put, waits_same, counts_after}

@@ -15,7 +15,8 @@ use Rattle.mea_meet.specs.declared.shutdowns.ShutdownHall.TheInside.{Inside}
 use Rattle.mea_meet.specs.StandsFor.{StandsForShutdown, StandsForCount}
 use Rattle.mea_meet.specs.ShutdownHall.{Store, store_of, End, slot_in, OfSignal, OfReceivers, slots_of, shutdown_of, receiver_of, wait_of, hall_of, receivers_in, waits_in, borrowers_in, is_full, IsKept}
 use Rattle.mea_meet.proofs.Names.{waiting-wakers}
-use Rattle.mea_meet.proofs.Maps.{Puts, put_here, get-seen, total-named, kept-at, is_some-map}
+use Rattle.mea_meet.proofs.Maps.{Puts, put_here, get-seen, total-named, kept-at, is_some-map, kept-none, is_empty, seen-empty}
+use Rattle.mea_meet.proofs.Slots.{named_none}
 
 module _ (st : Store) (n : ℕ) where
   pub shutdown-seen : (q : ℕ) → get (hall_of st n).shutdowns q ≡ option_map (shutdown_of st.waits n q) (get st.shutdowns q)
@@ -59,24 +60,9 @@ module _ (st : Store) (n : ℕ) where
       ∙ ap (λ (r : Shutdown). not x.watch && r.receivers.number == 4294967295) (shutdown-at x.shutdown e there)
       ∙ ap (λ m. not x.watch && m == 4294967295) (sym (kept.each x.shutdown e there).known)
 
--- one that is asked for is found
-pub asked : {X : Type 0} (o : Option X) → is_some o ≡ true → o ≡ None → ⊥
-asked None there none = absurd (cc)
-asked (Some x) there none = absurd (cc)
-
-pub some_found : {X : Type 0} (o : Option X) → IsSome o → (x : X) × (o ≡ Some x)
-some_found None there = absurd (cc)
-some_found (Some x) there = (x, refl)
-
-pub if_some : {X : Type 0} (P : X → Type 0) (o : Option X) (x : X) → o ≡ Some x → P x → IfSome o P
-if_some P o x is p = subst (λ q. IfSome q P) (sym is) p
-
 -- nothing is kept, and that stands for no shutdown
 none : {X : Type 0} (q : ℕ) → get (named (λ k (x : X). x) []) q ≡ None
-none q = get-named (λ k x. x) [] q
-
-no_slot : (end : End) (f : ℕ) (x : ℕ × Option Place) → slots_of end (store_of [] [] [] []).waits f ≡ Some x → ⊥
-no_slot end f x is = (let clash : None ≡ Some x = sym (ap (slot_in end) (none f)) ∙ is in absurd (cc))
+none = kept-none [] refl
 
 pub none-kept : IsKept (store_of [] [] [] []) 0
 none-kept = record {
@@ -84,19 +70,13 @@ none-kept = record {
   sender = λ k s is. absurd (let clash : None ≡ Some s = sym (none k) ∙ is in cc);
   receiver = λ k x is. absurd (let clash : None ≡ Some x = sym (none k) ∙ is in cc);
   wait = λ f x is. absurd (let clash : None ≡ Some x = sym (none f) ∙ is in cc);
-  named = λ end. record { below = λ f x is. absurd (no_slot end f x is); apart = λ f g o place is also. absurd (no_slot end f (o, Some place) is) };
+  named = λ end. named_none (slots_of end (store_of [] [] [] []).waits) 0 (λ f. ap (slot_in end) (none f));
   low = omega arith;
 }
 
-nothing : {X Y : Type 0} (g : ℕ → X → Y) → named g (entries (named (λ k (x : X). x) [])) ≡ empty
-nothing {X} g = same_named _ _ (λ q. get-seen g (named (λ k (x : X). x) []) q ∙ ap (option_map (g q)) (none q) ∙ sym (get-empty nat_cmp q))
-
-empty_named : {X : Type 0} → named (λ k (x : X). x) [] ≡ empty
-empty_named = same_named _ _ (λ q. none q ∙ sym (get-empty nat_cmp q))
-
 pub no-hall : ◌≡◌ {A = Part Shutdowns} (record { hall = hall_of (store_of [] [] [] []) 0; next = 0 }) (record { hall = no_shutdowns; next = 0 })
 no-hall = λ j. record {
-  hall = record { shutdowns = nothing (shutdown_of (store_of [] [] [] []).waits 0) j; senders = empty_named {X = ℕ} j; receivers = nothing (λ k x. receiver_of x) j; waits = nothing (λ f x. wait_of x) j };
+  hall = record { shutdowns = seen-empty (shutdown_of (store_of [] [] [] []).waits 0) (store_of [] [] [] []).shutdowns none j; senders = is_empty (store_of [] [] [] []).senders none j; receivers = seen-empty (λ k x. receiver_of x) (store_of [] [] [] []).receivers none j; waits = seen-empty (λ f x. wait_of x) (store_of [] [] [] []).waits none j };
   next = 0;
 }
 

@@ -13,37 +13,21 @@ use Rattle.mea_meet.specs.declared.shutdowns.ShutdownEntry.{ShutdownEntry}
 use Rattle.mea_meet.specs.declared.shutdowns.ReceiverEntry.{ReceiverEntry}
 use Rattle.mea_meet.specs.declared.shutdowns.ShutdownWaitEntry.{ShutdownWaitEntry}
 use Rattle.mea_meet.specs.ShutdownHall.{Store, End, OfSignal, OfReceivers, awaits_of, count_at, slots_of, count_of, shutdown_of, hall_of, counting, borrowers_in, is_of, IsKeptEntry, IsKept}
-use Rattle.mea_meet.proofs.Maps.{Puts, total_puts, weight-within}
+use Rattle.mea_meet.proofs.Maps.{Puts, total_puts, weight-within, none_if}
 use Rattle.mea_meet.proofs.ShutdownChanges.{Changes, Unplaced, named_unplaced, alike_unplaced, given_unplaced, shutdowns_after}
 
 -- ---- what is absent
 pub no-sender : (st : Store) (next i : ℕ) → IsKept st next → next ≤ i → get st.senders i ≡ None
-no-sender st next i k less = by_value (get st.senders i) refl
-  where
-    by_value : (o : Option ℕ) → get st.senders i ≡ o → get st.senders i ≡ None
-    by_value None is = is
-    by_value (Some s) is = absurd (let below = (k.sender i s is).below in omega (arith, below, less))
+no-sender st next i k less = none_if (get st.senders i) (λ s is. let below = (k.sender i s is).below in omega (arith, below, less))
 
 pub no-receiver : (st : Store) (next i : ℕ) → IsKept st next → next ≤ i → get st.receivers i ≡ None
-no-receiver st next i k less = by_value (get st.receivers i) refl
-  where
-    by_value : (o : Option ReceiverEntry) → get st.receivers i ≡ o → get st.receivers i ≡ None
-    by_value None is = is
-    by_value (Some x) is = absurd (let below = (k.receiver i x is).below in omega (arith, below, less))
+no-receiver st next i k less = none_if (get st.receivers i) (λ x is. let below = (k.receiver i x is).below in omega (arith, below, less))
 
 pub no-wait : (st : Store) (next i : ℕ) → IsKept st next → next ≤ i → get st.waits i ≡ None
-no-wait st next i k less = by_value (get st.waits i) refl
-  where
-    by_value : (o : Option ShutdownWaitEntry) → get st.waits i ≡ o → get st.waits i ≡ None
-    by_value None is = is
-    by_value (Some x) is = absurd (let below = (k.wait i x is).below in omega (arith, below, less))
+no-wait st next i k less = none_if (get st.waits i) (λ x is. let below = (k.wait i x is).below in omega (arith, below, less))
 
 pub no-shutdown : (st : Store) (next i : ℕ) → IsKept st next → next ≤ i → get st.shutdowns i ≡ None
-no-shutdown st next i k less = by_value (get st.shutdowns i) refl
-  where
-    by_value : (o : Option ShutdownEntry) → get st.shutdowns i ≡ o → get st.shutdowns i ≡ None
-    by_value None is = is
-    by_value (Some e) is = absurd (let below = (k.each i e is).below in omega (arith, below, less))
+no-shutdown st next i k less = none_if (get st.shutdowns i) (λ e is. let below = (k.each i e is).below in omega (arith, below, less))
 
 pub own : (s n : ℕ) → cond (s == s) n 0 ≡ n
 own s n = ap (λ t. cond t n 0) (eq-eqb s s refl)

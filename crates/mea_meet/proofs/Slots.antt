@@ -5,7 +5,7 @@ use Rattle.std.specs.Ordering.{nat_cmp}
 use Rattle.std.specs.FinMap.{FinMap, get}
 use Rattle.mea_sets.specs.declared.place.Place.{Place}
 use Rattle.mea_sets.specs.WaitSet.{Registered, has_given}
-use Rattle.mea_meet.specs.Names.{waiting_at, AreNamed, AreGiven}
+use Rattle.mea_meet.specs.Names.{Slots, waiting_at, AreNamed, AreGiven}
 use Rattle.mea_meet.proofs.Names.{waiting-alike}
 use Rattle.mea_meet.proofs.Maps.{Puts, Belongs, by_name, put_here, put_other}
 
@@ -47,6 +47,20 @@ apart_unplaced q s none place is = elim none [
 -- what belongs to p has no number of another
 pub apart_belongs : {X : Type 0} (object : X → ℕ) (slot : X → Option Place) (o : Option X) (p q : ℕ) → Belongs object p o → (p ≡ q → ⊥) → IsApart q (option_map {U = ℕ × Option Place} (λ x. (object x, slot x)) o)
 apart_belongs object slot o p q mine apart place is = let x = slot_owner object slot o q (Some place) is in apart (sym (mine x.0 x.1) ∙ x.2)
+
+-- ---- the slots of all futures
+pub named_none : (slots : Slots) (b : ℕ) → ((f : ℕ) → slots f ≡ None) → AreNamed slots b
+named_none slots b none = record {
+  below = λ f p is. absurd (let clash : None ≡ Some p = sym (none f) ∙ is in cc);
+  apart = λ f g q place is also. absurd (let clash : None ≡ Some (q, Some place) = sym (none f) ∙ is in cc);
+}
+
+-- what each future of q needs, all slots of q have
+pub given_by : {X : Type 0} (object : X → ℕ) (slot : X → Option Place) (m : FinMap nat_cmp X) (q : ℕ) (s : Registered ℕ) → ((f : ℕ) (x : X) → get m f ≡ Some x → object x ≡ q → has_given s (slot x) ≡ true)
+    → AreGiven (λ f. option_map {U = ℕ × Option Place} (λ x. (object x, slot x)) (get m f)) q s
+given_by object slot m q s each f t is =
+    let x = slot_owner object slot (get m f) q t is in
+    ap (has_given s) (sym x.3) ∙ each f x.0 x.1 x.2
 
 -- ---- the slots where the future f has changed
 module _ {X : Type 0} (h : Option X → Option (ℕ × Option Place)) (m n : FinMap nat_cmp X) (f : ℕ) (o : Option X) (puts : Puts m n f o) where
