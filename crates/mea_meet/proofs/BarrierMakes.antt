@@ -27,6 +27,7 @@ use Rattle.mea_meet.proofs.BarrierChanges.{Changes, slot_entry, at_barrier, kept
 use Rattle.mea_meet.proofs.BarrierPlays.{Rested, Played, store_in, seen_in, IsKeptIn}
 use Rattle.mea_meet.proofs.BarrierStores.{counts}
 use Rattle.mea_meet.proofs.Slots.{slots_there, slots_other, apart_unplaced, waiting_beside, named_none}
+use Rattle.mea_meet.proofs.Plays.{rests_by, yields_by}
 
 -- ---- names that were not given yet
 pub no_barrier : (st : Store) (n i : ℕ) → IsKept st n → n ≤ i → get st.barriers i ≡ None
@@ -136,12 +137,10 @@ module _ (a : Inside) (v : Part Barriers) (i : ℕ) (seen : seen_in a ≡ v) (k 
           few_waits = omega arith;
           below = omega arith;
         })));
-        rests = subst (λ (p : Part Barriers). Rests registered p i (model.make p.hall i size) answers.Made (record { hall = barriers_of (store_of bs' a.waits.entries) (i + 1); next = i + 1 })) seen (record {
-          replied = refl;
-          moved = λ j. record { hall = hall_is j; next = i + 1 };
-          silent = refl;
-          counted = (let sums = total-insert (λ q (r : Barrier). length r.waiting) h.barriers i (new_barrier size) in omega (arith, sums, none));
-        });
+        rests = rests_by registered (seen_in a) v i seen (λ u. model.make u i size) (model.make h i size) answers.Made (barriers_of (store_of bs' a.waits.entries) (i + 1)) refl hall_is refl refl (
+            let sums = total-insert (λ q (r : Barrier). length r.waiting) h.barriers i (new_barrier size) in
+            let same : registered (model.make h i size).hall ≡ registered h = omega (arith, sums, none) in
+            ap registered hall_is ∙ same);
       }
 
   -- ---- a future is made
@@ -205,12 +204,7 @@ module _ (a : Inside) (v : Part Barriers) (i : ℕ) (seen : seen_in a ≡ v) (k 
           ∙ (λ j. record { barriers = same j; waits = insert h.waits i (record { barrier = mine j; round = round_of (new j) }) }) in
           record {
             kept = kept_after st st_now n (i + 1) b i e e' None (Some x) k change;
-            rests = subst (λ (p : Part Barriers). Rests registered p i (model.wait p.hall i b) answers.Made (record { hall = barriers_of st_now (i + 1); next = i + 1 })) seen (record {
-              replied = refl;
-              moved = λ j. record { hall = hall_is j; next = i + 1 };
-              silent = refl;
-              counted = refl;
-            });
+            rests = rests_by registered (seen_in a) v i seen (λ u. model.wait u i b) (model.wait h i b) answers.Made (barriers_of st_now (i + 1)) refl hall_is refl refl (ap registered hall_is);
           }
 
     -- ---- the barrier is dropped
@@ -230,10 +224,9 @@ module _ (a : Inside) (v : Part Barriers) (i : ℕ) (seen : seen_in a ≡ v) (k 
         let mine : weight (λ q (r : Barrier). length r.waiting) b (get h.barriers b) ≡ length e.core.waiting.wakers = ap (weight (λ q (r : Barrier). length r.waiting) b) (seen-some (barrier_of st.waits n) st.barriers b e entry_there) ∙ waiting-length (slots_of st.waits) n b e.core.waiting in
         record {
           kept = kept_beside st (store_of bs' a.waits.entries).barriers n i b None k less low barriers nobody (λ d same. absurd (cc));
-          yields = subst (λ (p : Part Barriers). Yields registered p i (model.drop p.hall b) answers.Done (record { hall = barriers_of (store_of bs' a.waits.entries) (i + 1); next = i + 1 }) before after) seen (record {
-            replied = refl;
-            moved = λ j. record { hall = hall_is j; next = i + 1 };
-            woken = ap (λ (u : Waking ℕ). u.wakers) is ∙ sym (append-nil before.wakers);
-            counted = (let left : after.registered ≡ before.registered - length e.core.waiting.wakers = ap (λ (u : Waking ℕ). u.registered) is in omega (arith, sums, mine, left, enough));
-          });
+          yields = yields_by registered (seen_in a) v i seen (λ u. model.drop u b) (model.drop h b) answers.Done (barriers_of (store_of bs' a.waits.entries) (i + 1)) refl hall_is refl before after
+              (ap (λ (u : Waking ℕ). u.wakers) is ∙ sym (append-nil before.wakers))
+              (let left : after.registered ≡ before.registered - length e.core.waiting.wakers = ap (λ (u : Waking ℕ). u.registered) is in
+              let fewer : registered (barriers_of (store_of bs' a.waits.entries) (i + 1)) ≡ registered (model.drop h b).hall = ap registered hall_is in
+              omega (arith, sums, mine, left, enough, fewer));
         }

@@ -26,6 +26,7 @@ use Rattle.mea_meet.proofs.Names.{waiting-wakers, given-drained}
 use Rattle.mea_meet.proofs.Maps.{ChangesAt, Puts, kept-at, kept-puts, seen-some, insert_same}
 use Rattle.mea_meet.proofs.BarrierChanges.{later_round, home_open, kept_after, registered_after, barrier_seen, waits_within}
 use Rattle.mea_meet.proofs.BarrierPlays.{Rested, Played, store_in, seen_in, IsKeptIn, registers, hall_registering, leaves, hall_ending, hall_led}
+use Rattle.mea_meet.proofs.Plays.{rests_by, yields_by}
 
 -- ---- a future f, x as it is kept, whose barrier is kept as e
 module _ (a : Inside) (v : Part Barriers) (i f : ℕ) (x : BarrierWaitEntry) (e : BarrierEntry) (seen : seen_in a ≡ v) (k : IsKeptIn a) (least : v.next ≤ i) (low : i < 2 ^ 64)
@@ -133,13 +134,7 @@ module _ (a : Inside) (v : Part Barriers) (i f : ℕ) (x : BarrierWaitEntry) (e 
         → Played v i (model.poll_of v.hall f w (get v.hall.waits f)) answer st' before after
     done o w answer before after chosen kept hall_is registers replied woken counted = record {
       kept = kept;
-      yields = subst (λ (p : Part Barriers). Yields registered p i (model.poll_of p.hall f w (get p.hall.waits f)) answer now before after) seen
-          (subst (λ q. Yields registered (seen_in a) i q answer now before after) (sym chosen) (record {
-            replied = replied;
-            moved = λ j. record { hall = hall_is j; next = i + 1 };
-            woken = woken;
-            counted = (let all : registered (barriers_of st' (i + 1)) ≡ registered o.hall = ap registered hall_is in omega (arith, all, registers, counted));
-          }));
+      yields = yields_by registered (seen_in a) v i seen (λ u. model.poll_of u f w (get u.waits f)) o answer (barriers_of st' (i + 1)) chosen hall_is replied before after woken (omega (arith, registers, counted));
     }
 
     -- ---- a poll that replies `pending`
@@ -272,11 +267,5 @@ module _ (a : Inside) (v : Part Barriers) (i f : ℕ) (x : BarrierWaitEntry) (e 
           let as_many : length e'.core.waiting.wakers ≡ length e.core.waiting.wakers = ap (λ (d : cores.Barrier ℕ). length d.waiting.wakers) core_is in
           record {
             kept = kept_after st st' n (i + 1) b f e e' (Some x) None k c;
-            rests = subst (λ (p : Part Barriers). Rests registered p i (model.end_of p.hall f (get p.hall.waits f)) answers.Done now) seen
-                (subst (λ q. Rests registered (seen_in a) i q answers.Done now) (sym chosen) (record {
-                  replied = refl;
-                  moved = λ j. record { hall = hall_is j; next = i + 1 };
-                  silent = refl;
-                  counted = (let all : registered (barriers_of st' (i + 1)) ≡ registered (gone_with answers.Done r).hall = ap registered hall_is in omega (arith, all, counted, as_many));
-                }));
+            rests = rests_by registered (seen_in a) v i seen (λ u. model.end_of u f (get u.waits f)) (gone_with answers.Done r) answers.Done (barriers_of st' (i + 1)) chosen hall_is refl refl (omega (arith, counted, as_many));
           }

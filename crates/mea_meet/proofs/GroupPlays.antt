@@ -32,6 +32,7 @@ use Rattle.mea_meet.proofs.Maps.{ChangesAt, Puts, put_there, by_name, kept-at, k
 use Rattle.mea_meet.proofs.GroupChanges.{Changes, slot_entry, are_given, used_left, kept_after, hall_used, hall_tidied, registered_after, group_seen, waits_within, handles_within}
 use Rattle.mea_meet.proofs.Slots.{slot_owner, slots_there, slots_other, IsApart, apart_unplaced, waiting_beside, given_beside}
 use Rattle.mea_meet.proofs.Counts.{decreased-seen, woken-seen, given-decreased, woken-all}
+use Rattle.mea_meet.proofs.Plays.{rests_by, yields_by}
 
 -- event i had this outcome, which touches no waker: what is kept now, and what the contract says
 pub record Rested (v : Part Groups) (i : ℕ) (o : Outcome Groups) (answer : Answer) (st' : Store) : Type 0 where
@@ -109,29 +110,13 @@ module _ (a : Inside) (v : Part Groups) (i : ℕ) (seen : seen_in a ≡ v) (k : 
   -- ---- what the contracts say, by the outcome
   rested : (out : Groups → Outcome Groups) (o : Outcome Groups) (answer : Answer) (st' : Store) → out h ≡ o → IsKept st' (i + 1) → groups_of st' (i + 1) ≡ o.hall → answer ≡ o.reply → o.wakes ≡ []
       → registered (groups_of st' (i + 1)) ≡ registered h → Rested v i (out v.hall) answer st'
-  rested out o answer st' chosen kept hall_is replied silent counted = record {
-    kept = kept;
-    rests = subst (λ (p : Part Groups). Rests registered p i (out p.hall) answer (record { hall = groups_of st' (i + 1); next = i + 1 })) seen
-        (subst (λ u. Rests registered (seen_in a) i u answer (record { hall = groups_of st' (i + 1); next = i + 1 })) (sym chosen) (record {
-          replied = replied;
-          moved = λ j. record { hall = hall_is j; next = i + 1 };
-          silent = silent;
-          counted = sym (ap registered hall_is) ∙ counted;
-        }));
-  }
+  rested out o answer st' chosen kept hall_is replied silent counted =
+      record { kept = kept; rests = rests_by registered (seen_in a) v i seen out o answer (groups_of st' (i + 1)) chosen hall_is replied silent counted }
 
   played : (out : Groups → Outcome Groups) (o : Outcome Groups) (answer : Answer) (st' : Store) (before after : Waking ℕ) → out h ≡ o → IsKept st' (i + 1) → groups_of st' (i + 1) ≡ o.hall → answer ≡ o.reply
       → after.wakers ≡ before.wakers ++ o.wakes → after.registered + registered h ≡ before.registered + registered (groups_of st' (i + 1)) → Played v i (out v.hall) answer st' before after
-  played out o answer st' before after chosen kept hall_is replied woken counted = record {
-    kept = kept;
-    yields = subst (λ (p : Part Groups). Yields registered p i (out p.hall) answer (record { hall = groups_of st' (i + 1); next = i + 1 }) before after) seen
-        (subst (λ u. Yields registered (seen_in a) i u answer (record { hall = groups_of st' (i + 1); next = i + 1 }) before after) (sym chosen) (record {
-          replied = replied;
-          moved = λ j. record { hall = hall_is j; next = i + 1 };
-          woken = woken;
-          counted = counted ∙ ap (λ u. before.registered + registered u) hall_is;
-        }));
-  }
+  played out o answer st' before after chosen kept hall_is replied woken counted =
+      record { kept = kept; yields = yields_by registered (seen_in a) v i seen out o answer (groups_of st' (i + 1)) chosen hall_is replied before after woken counted }
 
   -- ---- a handle is made, and undone where there is no memory for its group
   module _ (gs' : List (ℕ × GroupEntry)) (hs' : List (ℕ × ℕ)) (same : gs' ≡ a.groups.entries) (undoes : ChangesAt a.handles.entries hs' i None) where

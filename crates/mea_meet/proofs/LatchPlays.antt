@@ -29,6 +29,7 @@ use Rattle.mea_meet.proofs.Maps.{at_same, at_apart, put_here, put_other, is_inse
 use Rattle.mea_meet.proofs.LatchStore.{slot_other, slot_was, slot_now, waits_after, waiting_other, waits_other, plain_other, others_other, waits_mine, plain_mine, latch_seen, wait_seen, registered_seen, waits_seen, later_kept, later_seen, Changes, kept_after, latches_after, registered_after, given_to, given_all}
 use Rattle.mea_meet.proofs.Counts.{decreased-seen, woken-seen, woken-all}
 use Rattle.mea_meet.proofs.Slots.{apart_unplaced, waiting_beside}
+use Rattle.mea_meet.proofs.Plays.{rests_by, yields_by}
 
 -- ---- what an event came to
 pub record Rested (st st' : Store) (next i : ℕ) (o : Outcome Latches) (answer : Answer) : Type 0 where
@@ -180,24 +181,14 @@ module _ (st : Store) (next i : ℕ) (k : IsKept st next) (less : next ≤ i) (l
   pub rested : (st' : Store) (F : Latches → Outcome Latches) (answer : Answer) → IsKept st' (i + 1) → latches_of st' (i + 1) ≡ (F now).hall → (F now).wakes ≡ [] → answer ≡ (F now).reply → registered (latches_of st' (i + 1)) ≡ registered now → Rested st st' next i (F (latches_of st next)) answer
   rested st' F answer kept hall quiet replied counted = record {
     kept = kept;
-    rests = subst (λ h. Rests registered (record { hall = h; next = next }) i (F h) answer (record { hall = latches_of st' (i + 1); next = i + 1 })) h1 (record {
-      replied = replied;
-      moved = λ j. record { hall = hall j; next = i + 1 };
-      silent = quiet;
-      counted = sym (ap registered hall) ∙ counted;
-    });
+    rests = rests_by registered (record { hall = now; next = next }) (record { hall = latches_of st next; next = next }) i (λ j. record { hall = h1 j; next = next }) F (F now) answer (latches_of st' (i + 1)) refl hall replied quiet counted;
   }
 
   pub yielded : (st' : Store) (F : Latches → Outcome Latches) (answer : Answer) (before after : Waking ℕ) → IsKept st' (i + 1) → latches_of st' (i + 1) ≡ (F now).hall → answer ≡ (F now).reply → after.wakers ≡ before.wakers ++ (F now).wakes
       → after.registered + registered now ≡ before.registered + registered (latches_of st' (i + 1)) → Yielded st st' next i (F (latches_of st next)) answer before after
   yielded st' F answer before after kept hall replied woken counted = record {
     kept = kept;
-    yields = subst (λ h. Yields registered (record { hall = h; next = next }) i (F h) answer (record { hall = latches_of st' (i + 1); next = i + 1 }) before after) h1 (record {
-      replied = replied;
-      moved = λ j. record { hall = hall j; next = i + 1 };
-      woken = woken;
-      counted = counted ∙ ap (λ h. before.registered + registered h) hall;
-    });
+    yields = yields_by registered (record { hall = now; next = next }) (record { hall = latches_of st next; next = next }) i (λ j. record { hall = h1 j; next = next }) F (F now) answer (latches_of st' (i + 1)) refl hall replied before after woken counted;
   }
 
   -- an event that changes nothing

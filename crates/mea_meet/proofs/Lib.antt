@@ -9,6 +9,7 @@ pub mod GroupStores
 pub mod Names
 pub mod Maps
 pub mod Slots
+pub mod Plays
 pub mod LatchStore
 pub mod LatchPlays
 pub mod LatchStanding

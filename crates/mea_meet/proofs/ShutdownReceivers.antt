@@ -14,10 +14,10 @@ use Rattle.mea_meet.specs.declared.shutdowns.ShutdownEntry.{ShutdownEntry}
 use Rattle.mea_meet.specs.declared.shutdowns.ReceiverEntry.{ReceiverEntry}
 use Rattle.mea_meet.specs.declared.shutdowns.ShutdownWaitEntry.{ShutdownWaitEntry}
 use Rattle.mea_meet.specs.ShutdownHall.{Store, End, OfSignal, OfReceivers, count_at, slots_of, count_of, shutdown_of, receiver_of, hall_of, counting, borrowers_in, without_receiver, woken_at_end, is_full, IsKept}
-use Rattle.mea_meet.proofs.Maps.{Puts, Belongs, puts_same, puts_seen, is_same, is_insert, is_remove, belongs-none, belongs-some, inside, weight-within, some_found}
+use Rattle.mea_meet.proofs.Maps.{Puts, Belongs, puts_same, puts_seen, is_same, is_insert, is_remove, belongs-none, belongs-some, inside, weight-within, some_found, at_same}
 use Rattle.mea_meet.proofs.ShutdownChanges.{Changes, wakers_at}
 use Rattle.mea_meet.proofs.ShutdownSeen.{shutdown-at, shutdown-there, receiver-seen}
-use Rattle.mea_meet.proofs.ShutdownStill.{no-sender, no-receiver, no-wait, own, unborrowed, entry_after}
+use Rattle.mea_meet.proofs.ShutdownStill.{no-sender, no-receiver, no-wait, unborrowed, entry_after}
 use Rattle.mea_meet.proofs.Counts.{decreased-seen, woken-seen, given-decreased, woken-all}
 use Rattle.mea_meet.proofs.ShutdownPlays.{Goes, Wakes, seen_before, kept_all, given, shutdowns_put, waits_same, counts_after}
 
@@ -116,10 +116,10 @@ module _ (st : Store) (ss' : FinMap nat_cmp ShutdownEntry) (rs' : FinMap nat_cmp
         (let known = (k.each s e there).known in let number = added_number e watch in omega (arith, known, number))
         (let number = added_number e watch in
         let none : weight (λ q (x : ReceiverEntry). counting s x) i (get st.receivers i) ≡ 0 = ap (weight (λ q (x : ReceiverEntry). counting s x) i) (no-receiver st next i k less) in
-        let mine : cond (s == s) (cond watch 0 1) 0 ≡ cond watch 0 1 = own s (cond watch 0 1) in
+        let mine : ◌≡◌ {A = ℕ} (cond (s == s) (cond watch 0 1) 0) (cond watch 0 1) = at_same s s (cond watch 0 1) 0 refl in
         omega (arith, number, none, mine))
         (let none : weight (λ q (x : ReceiverEntry). cond (x.shutdown == s) 1 0) i (get st.receivers i) ≡ 0 = ap (weight (λ q (x : ReceiverEntry). cond (x.shutdown == s) 1 0) i) (no-receiver st next i k less) in
-        let one : ◌≡◌ {A = ℕ} (cond (s == s) 1 0) 1 = own s 1 in
+        let one : ◌≡◌ {A = ℕ} (cond (s == s) 1 0) 1 = at_same s s 1 0 refl in
         omega (arith, none, one))
         (omega arith)
         (λ end. subst (AreGiven (slots_of end st.waits) s) (sym (added_set e watch end)) ((k.each s e there).given end))
@@ -156,14 +156,14 @@ module _ (st : Store) (next i b s : ℕ) (e : ShutdownEntry) (x : ReceiverEntry)
   pub receiver_counted : 1 ≤ e.things
   receiver_counted =
       let part = weight-within (λ q (y : ReceiverEntry). cond (y.shutdown == s) 1 0) st.receivers b x receiver in
-      let one : ◌≡◌ {A = ℕ} (cond (x.shutdown == s) 1 0) 1 = ap (λ r. cond (r == s) 1 0) mine ∙ own s 1 in
+      let one : ◌≡◌ {A = ℕ} (cond (x.shutdown == s) 1 0) 1 = ap (λ r. cond (r == s) 1 0) mine ∙ at_same s s 1 0 refl in
       let all = (k.each s e there).things in
       omega (arith, part, one, all)
 
   number_counts : cond x.watch 0 1 ≤ e.core.receivers.number
   number_counts =
       let part = weight-within (λ q (y : ReceiverEntry). counting s y) st.receivers b x receiver in
-      let one : counting s x ≡ cond x.watch 0 1 = ap (λ r. cond (r == s) (cond x.watch 0 1) 0) mine ∙ own s (cond x.watch 0 1) in
+      let one : counting s x ≡ cond x.watch 0 1 = ap (λ r. cond (r == s) (cond x.watch 0 1) 0) mine ∙ at_same s s (cond x.watch 0 1) 0 refl in
       let all = (k.each s e there).counted in
       omega (arith, part, one, all)
 
@@ -210,10 +210,10 @@ module _ (st : Store) (ss' : FinMap nat_cmp ShutdownEntry) (rs' : FinMap nat_cmp
         (let known = (k.each s e there).known in let number = lessened_number e x.watch in omega (arith, known, number))
         (let number = lessened_number e x.watch in
         let some = number_counts st next i b s e x k there receiver mine in
-        let was : weight (λ q (y : ReceiverEntry). counting s y) b (get st.receivers b) ≡ cond x.watch 0 1 = ap (weight (λ q (y : ReceiverEntry). counting s y) b) receiver ∙ ap (λ r. cond (r == s) (cond x.watch 0 1) 0) mine ∙ own s (cond x.watch 0 1) in
+        let was : weight (λ q (y : ReceiverEntry). counting s y) b (get st.receivers b) ≡ cond x.watch 0 1 = ap (weight (λ q (y : ReceiverEntry). counting s y) b) receiver ∙ ap (λ r. cond (r == s) (cond x.watch 0 1) 0) mine ∙ at_same s s (cond x.watch 0 1) 0 refl in
         omega (arith, number, some, was))
         (let some = receiver_counted st next i b s e x k there receiver mine in
-        let was : weight (λ q (y : ReceiverEntry). cond (y.shutdown == s) 1 0) b (get st.receivers b) ≡ 1 = ap (weight (λ q (y : ReceiverEntry). cond (y.shutdown == s) 1 0) b) receiver ∙ ap (λ r. cond (r == s) 1 0) mine ∙ own s 1 in
+        let was : weight (λ q (y : ReceiverEntry). cond (y.shutdown == s) 1 0) b (get st.receivers b) ≡ 1 = ap (weight (λ q (y : ReceiverEntry). cond (y.shutdown == s) 1 0) b) receiver ∙ ap (λ r. cond (r == s) 1 0) mine ∙ at_same s s 1 0 refl in
         omega (arith, some, was))
         (omega arith) (lessened_given x.watch) free (λ y none. absurd (cc));
     moved = lessened_at x.watch _ _ _ (receiver_shutdowns st ss' rs' next i s b e (lessened e x.watch) None k less low there shutdowns receivers lessened_was lessened_is)

@@ -29,9 +29,6 @@ no-wait st next i k less = none_if (get st.waits i) (λ x is. let below = (k.wai
 pub no-shutdown : (st : Store) (next i : ℕ) → IsKept st next → next ≤ i → get st.shutdowns i ≡ None
 no-shutdown st next i k less = none_if (get st.shutdowns i) (λ e is. let below = (k.each i e is).below in omega (arith, below, less))
 
-pub own : (s n : ℕ) → cond (s == s) n 0 ≡ n
-own s n = ap (λ t. cond t n 0) (eq-eqb s s refl)
-
 -- nobody borrows what is not there
 pub unborrowed : (st : Store) (next q : ℕ) → IsKept st next → get st.receivers q ≡ None → borrowers_in st q ≡ 0
 unborrowed st next q k none = total-zero _ st.waits (λ g y is. by_test y (borrows (awaits_of y.wait) q) refl (λ lent. ap (λ o. is_of o y.shutdown) (sym none) ∙ (k.wait g y is).borrowed q lent))
