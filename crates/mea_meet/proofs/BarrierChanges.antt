@@ -1,8 +1,7 @@
 -- what a change of one barrier and one of its futures does to what is kept, and to the barriers that are stood for
 use Rattle.std.proofs.Common.{◌≡◌, ℕ, ◌+◌, ◌/◌, ◌^◌, ◌<◌, ◌≤◌, ◌==◌, true, cond, length, Option, Some, None, nat_le, unwrap_or, refl, ap, sym, subst, ◌∙◌, arith}
 use Rattle.std.specs.Option.{option_map}
-use Rattle.std.specs.Ordering.{nat_cmp}
-use Rattle.std.specs.FinMap.{FinMap, get, insert, remove, entries}
+use Rattle.std.specs.FinMap.{get, insert, remove, entries}
 use Rattle.std.proofs.lemmas.Bool.{and_parts, and_from, leb-true, le-leb}
 use Rattle.std.proofs.lemmas.Nat.{div-add-mod', le-div}
 use Rattle.mea_base.specs.Named.{named}
@@ -19,8 +18,8 @@ use Rattle.mea_meet.specs.Names.{waiting_at, AreNamed, AreGiven}
 use Rattle.mea_meet.specs.BarrierHall.{Store, slot_of, slots_of, barrier_of, wait_of, barriers_of, IsKeptEntry, IsHome, IsKept}
 use Rattle.mea_meet.specs.declared.barriers.BarrierEntry.{BarrierEntry}
 use Rattle.mea_meet.specs.declared.barriers.BarrierWaitEntry.{BarrierWaitEntry}
-use Rattle.mea_meet.proofs.Names.{waiting-length, waiting-alike}
-use Rattle.mea_meet.proofs.Maps.{at_same, at_apart, by_name, Puts, put_there, put_other, total_puts_was, weight-within, seen-some, seen_put, seen_gone, one_of, one-least, weighs_here, weighs_elsewhere, one_entry}
+use Rattle.mea_meet.proofs.Names.{waiting-length}
+use Rattle.mea_meet.proofs.Maps.{at_same, by_name, Puts, put_there, put_other, total_puts_was, weight-within, seen-some, seen_put, seen_gone, one_of, one-least, weighs_here, weighs_elsewhere, one_entry}
 use Rattle.mea_meet.proofs.Slots.{apart_belongs, waiting_beside, given_by}
 
 -- ---- the slots of the futures

@@ -1,5 +1,5 @@
 -- what less does to a count, and to the count that it stands for
-use Rattle.std.proofs.Common.{◌≡◌, ℕ, ◌+◌, ◌-◌, Bool, true, false, if◌then◌else◌, List, [], length, refl, ap, ◌∙◌, arith}
+use Rattle.std.proofs.Common.{◌≡◌, ℕ, ◌+◌, ◌-◌, Bool, true, false, if◌then◌else◌, List, [], length, refl, arith}
 use Rattle.mea_sets.specs.WaitSet.{drained, has_given}
 use Rattle.mea_sets.specs.Countdown as counts
 use Rattle.mea_meet_model.specs.Count as model

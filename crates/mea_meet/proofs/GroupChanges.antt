@@ -8,8 +8,7 @@ use Rattle.std.proofs.lemmas.Bool.{cases_Bool}
 use Rattle.std.proofs.lemmas.Bool.Decides.{nat_tests}
 use Rattle.mea_base.specs.Named.{named}
 use Rattle.mea_base.specs.Totals.{total, weight}
-use Rattle.mea_base.proofs.NamedMaps.{same_named}
-use Rattle.mea_base.proofs.Totals.{get_inserted, get_removed, total-insert, total-remove, total-zero, total-alike}
+use Rattle.mea_base.proofs.Totals.{total-insert, total-remove, total-zero}
 use Rattle.mea_sets.specs.declared.place.Place.{Place}
 use Rattle.mea_sets.specs.WaitSet.{has_given}
 use Rattle.mea_meet_model.specs.Count.{Count, count_from}
@@ -18,8 +17,8 @@ use Rattle.mea_meet.specs.Names.{waiting_at, AreNamed, AreGiven}
 use Rattle.mea_meet.specs.GroupHall.{Store, slots_of, count_of, groups_of, IsKeptEntry, IsOwned, IsHome, IsKept, is_used, left, wakers_left}
 use Rattle.mea_meet.specs.declared.groups.GroupEntry.{GroupEntry}
 use Rattle.mea_meet.specs.declared.groups.GroupWaitEntry.{GroupWaitEntry}
-use Rattle.mea_meet.proofs.Names.{waiting-length, waiting-alike}
-use Rattle.mea_meet.proofs.Maps.{at_same, at_apart, by_name, Puts, put_there, put_other, total_puts_was, weight-within, get-seen, seen-some, seen-none, seen_put, seen_gone, one_of, one-least, weighs_here, weighs_elsewhere, remove-insert, one_entry, total-named}
+use Rattle.mea_meet.proofs.Names.{waiting-length}
+use Rattle.mea_meet.proofs.Maps.{at_same, at_apart, by_name, Puts, put_there, put_other, total_puts_was, weight-within, seen-some, seen-none, seen_put, seen_gone, one_of, one-least, weighs_here, weighs_elsewhere, remove-insert, one_entry, total-named}
 use Rattle.mea_meet.proofs.Slots.{apart_belongs, waiting_beside, given_by}
 
 -- ---- the slots of the futures

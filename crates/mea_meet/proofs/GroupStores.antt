@@ -1,11 +1,9 @@
 -- what a look-up among the entries of a `GroupHall` says of its groups
 use Rattle.std.proofs.Common.{◌≡◌, ℕ, ◌≤◌, ◌==◌, List, [], Some, None, IsSome, is_some, length, false, ap, sym, subst, ◌∙◌, arith}
 use Rattle.std.specs.Option.{option_map}
-use Rattle.std.specs.Ordering.{nat_cmp}
-use Rattle.std.specs.FinMap.{get, empty, get-empty, entries}
+use Rattle.std.specs.FinMap.{get}
 use Rattle.std.proofs.lemmas.Bool.{eqb-false}
-use Rattle.mea_base.specs.Named.{named, at}
-use Rattle.mea_base.proofs.NamedMaps.{same_named}
+use Rattle.mea_base.specs.Named.{at}
 use Rattle.mea_meet_model.specs.Waiting.{wakers}
 use Rattle.mea_meet_model.specs.Count.{Count}
 use Rattle.mea_meet_model.specs.Groups.{Groups, no_groups, group_at, registered}

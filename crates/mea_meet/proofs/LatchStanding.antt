@@ -1,9 +1,7 @@
 -- from the maps of a `LatchHall` to what its calls promise
 use Rattle.std.proofs.Common.{◌≡◌, ℕ, ◌+◌, ◌-◌, ◌<◌, ◌≤◌, ◌^◌, ◌==◌, ◌&&◌, ◌||◌, ◌++◌, Bool, true, false, cond, List, [], length, nat_lt, refl, ap, sym, subst, ◌∙◌, Option, Some, None, Result, Ok, Err, is_err, arith, if◌then◌else◌}
 use Rattle.std.specs.Option.{option_map, is_some, IfSome, IsSome}
-use Rattle.std.specs.Ordering.{nat_cmp}
-use Rattle.std.specs.BTreeMap.{is_at}
-use Rattle.std.specs.FinMap.{get, empty, get-empty}
+use Rattle.std.specs.FinMap.{get}
 use Rattle.std.proofs.lemmas.Bool.{eq-eqb}
 use Rattle.mea_base.specs.declared.answer.Answer.{Answer}
 use Rattle.mea_base.specs.declared.answer.Answer.TheVariants as answers
@@ -11,7 +9,6 @@ use Rattle.mea_base.specs.declared.no_memory.NoMemory.{NoMemory}
 use Rattle.mea_base.specs.Family.{Outcome, quietly}
 use Rattle.mea_base.specs.Named.{named, at}
 use Rattle.mea_base.specs.Ready.{Waking}
-use Rattle.mea_base.proofs.NamedMaps.{same_named}
 use Rattle.mea_sets.specs.Poll.{Poll, Ready, Pending}
 use Rattle.mea_sets.specs.WaitSet.{has_given}
 use Rattle.mea_sets.specs.Countdown as cores
@@ -26,8 +23,8 @@ use Rattle.mea_meet.specs.LatchHall.{Store, store_of, slot_of, slots_of, latch_o
 use Rattle.mea_meet.specs.declared.latches.LatchEntry.{LatchEntry}
 use Rattle.mea_meet.specs.declared.latches.LatchWaitEntry.{LatchWaitEntry}
 use Rattle.mea_meet.proofs.Names.{waiting-wakers}
-use Rattle.mea_meet.proofs.Maps.{put_here, kept-at, found, kept-puts, at_same, weight-within, is_same, Puts, kept-puts-as, changed_at, some_if, not_none, some_found, kept-none, seen-empty}
-use Rattle.mea_meet.proofs.LatchStore.{latch_seen, registered_seen, wait_seen, plain_seen, given_to}
+use Rattle.mea_meet.proofs.Maps.{kept-at, found, kept-puts, at_same, weight-within, is_same, kept-puts-as, changed_at, some_if, not_none, some_found, kept-none, seen-empty}
+use Rattle.mea_meet.proofs.LatchStore.{registered_seen, wait_seen, plain_seen, given_to}
 use Rattle.mea_meet.proofs.LatchPlays.{Rested, Yielded, latch_is, named_is, named_not, wait_there, stays, makes, arrives, drops, begins, registering_entry, registering_wait, polls_on, leaves}
 use Rattle.mea_meet.proofs.Counts.{woken-all}
 use Rattle.mea_meet.proofs.Slots.{named_none}

@@ -1,13 +1,13 @@
 -- what a change of one shutdown, with one sender, one receiver or watch and one future of it, does to what is
 -- kept, and to the shutdowns that it stands for
-use Rattle.std.proofs.Common.{◌≡◌, ◌⊎◌, inl, inr, ℕ, ◌+◌, ◌<◌, ◌≤◌, ◌^◌, ◌==◌, Bool, true, false, cond, length, refl, ap, sym, subst, ◌∙◌, arith, Option, Some, None, is_some}
-use Rattle.std.specs.Option.{option_map, IsSome}
+use Rattle.std.proofs.Common.{◌≡◌, inl, inr, ℕ, ◌+◌, ◌<◌, ◌≤◌, ◌^◌, ◌==◌, Bool, true, false, cond, length, refl, ap, sym, subst, ◌∙◌, arith, Option, Some, None, is_some}
+use Rattle.std.specs.Option.{IsSome}
 use Rattle.std.specs.FinMap.{get}
 use Rattle.std.proofs.lemmas.Bool.{eqb-true, eqb-false}
 use Rattle.mea_base.specs.Totals.{total, weight}
 use Rattle.mea_base.proofs.Totals.{total-same}
 use Rattle.mea_sets.specs.declared.place.Place.{Place}
-use Rattle.mea_sets.specs.WaitSet.{Registered, has_given}
+use Rattle.mea_sets.specs.WaitSet.{Registered}
 use Rattle.mea_meet_model.specs.Shutdowns.{Shutdown, borrows, registered}
 use Rattle.mea_meet.specs.Names.{waiting_at, AreNamed, AreGiven}
 use Rattle.mea_meet.specs.declared.shutdowns.ShutdownEntry.{ShutdownEntry}
@@ -16,8 +16,8 @@ use Rattle.mea_meet.specs.declared.shutdowns.ShutdownWaitEntry.{ShutdownWaitEntr
 use Rattle.mea_meet.specs.declared.shutdowns.ShutdownWait.{ShutdownWait as Wait}
 use Rattle.mea_meet.specs.declared.shutdowns.ShutdownWait.TheVariants as waits
 use Rattle.mea_meet.specs.ShutdownHall.{Store, End, OfSignal, OfReceivers, awaits_of, slot_at, slot_in, slots_of, shutdown_of, hall_of, borrowers_in, is_of, IsKeptEntry, IsKeptSender, IsKeptReceiver, IsKeptWait, IsKept}
-use Rattle.mea_meet.proofs.Names.{waiting-length, waiting-alike, named-ends, named-new}
-use Rattle.mea_meet.proofs.Maps.{Puts, Belongs, get-seen, put_here, put_other, total_puts, by_put, total-named, total_elsewhere, weight-within, seen_puts, inside}
+use Rattle.mea_meet.proofs.Names.{waiting-length, named-ends, named-new}
+use Rattle.mea_meet.proofs.Maps.{Puts, Belongs, put_here, put_other, total_puts, by_put, total-named, total_elsewhere, weight-within, seen_puts, inside}
 use Rattle.mea_meet.proofs.Slots.{object_in, IsUnplaced, slots_there, slots_other, apart_unplaced, waiting_beside, given_beside}
 
 -- s becomes e2; a sender, a receiver or watch and a future of it are put, or are gone

@@ -1,11 +1,9 @@
 -- what is seen of the shutdowns that a store stands for
-use Rattle.std.proofs.Common.{◌≡◌, ℕ, ◌==◌, ◌&&◌, not, true, cond, [], refl, ap, sym, subst, ◌∙◌, arith, Option, Some, None, is_some, unwrap_or}
-use Rattle.std.specs.Option.{option_map, IsSome, IfSome}
+use Rattle.std.proofs.Common.{◌≡◌, ℕ, ◌==◌, ◌&&◌, not, cond, [], refl, ap, sym, subst, ◌∙◌, arith, Some, None, is_some, unwrap_or}
+use Rattle.std.specs.Option.{option_map, IsSome}
 use Rattle.std.specs.Ordering.{nat_cmp}
-use Rattle.std.specs.FinMap.{FinMap, get, entries, empty, get-empty}
+use Rattle.std.specs.FinMap.{FinMap, get, entries}
 use Rattle.mea_base.specs.Named.{named, at}
-use Rattle.mea_base.proofs.NamedMaps.{same_named, get-named}
-use Rattle.mea_sets.specs.declared.place.Place.{Place}
 use Rattle.mea_meet_model.specs.Shutdowns.{Shutdown, Receiver, ShutdownWait, Shutdowns, no_shutdowns, new_shutdown, shutdown_at, receivers_of, waits_of, borrowers_of, borrows}
 use Rattle.mea_meet.specs.declared.shutdowns.ShutdownEntry.{ShutdownEntry}
 use Rattle.mea_meet.specs.declared.shutdowns.ReceiverEntry.{ReceiverEntry}
@@ -13,7 +11,7 @@ use Rattle.mea_meet.specs.declared.shutdowns.ShutdownWaitEntry.{ShutdownWaitEntr
 use Rattle.mea_meet.specs.Play.{Part}
 use Rattle.mea_meet.specs.declared.shutdowns.ShutdownHall.TheInside.{Inside}
 use Rattle.mea_meet.specs.StandsFor.{StandsForShutdown, StandsForCount}
-use Rattle.mea_meet.specs.ShutdownHall.{Store, store_of, End, slot_in, OfSignal, OfReceivers, slots_of, shutdown_of, receiver_of, wait_of, hall_of, receivers_in, waits_in, borrowers_in, is_full, IsKept}
+use Rattle.mea_meet.specs.ShutdownHall.{Store, store_of, slot_in, OfSignal, OfReceivers, slots_of, shutdown_of, receiver_of, wait_of, hall_of, receivers_in, waits_in, borrowers_in, is_full, IsKept}
 use Rattle.mea_meet.proofs.Names.{waiting-wakers}
 use Rattle.mea_meet.proofs.Maps.{Puts, put_here, get-seen, total-named, kept-at, is_some-map, kept-none, is_empty, seen-empty}
 use Rattle.mea_meet.proofs.Slots.{named_none}

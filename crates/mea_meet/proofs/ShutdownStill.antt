@@ -1,10 +1,8 @@
 -- events that register no waker, and end no future: what is kept, and the wakers that are seen
 use Rattle.std.proofs.Common.{◌≡◌, ℕ, ◌+◌, ◌<◌, ◌≤◌, ◌==◌, Bool, true, false, cond, [], refl, ap, sym, ◌∙◌, arith, Option, Some, None}
-use Rattle.std.specs.Ordering.{nat_cmp}
-use Rattle.std.specs.FinMap.{FinMap, get}
-use Rattle.std.proofs.lemmas.Bool.{eq-eqb}
-use Rattle.mea_base.specs.Totals.{total, weight}
-use Rattle.mea_base.proofs.Totals.{total-zero, total-remove}
+use Rattle.std.specs.FinMap.{get}
+use Rattle.mea_base.specs.Totals.{weight}
+use Rattle.mea_base.proofs.Totals.{total-zero}
 use Rattle.mea_sets.specs.WaitSet.{Registered}
 use Rattle.mea_sets.specs.Countdown as counts
 use Rattle.mea_meet_model.specs.Shutdowns.{borrows}
