@@ -24,7 +24,7 @@ use Rattle.mea_meet.proofs.Maps.{ChangesAt, Puts, put_there, put_other, by_name,
 use Rattle.mea_meet.proofs.BarrierChanges.{Changes, slot_entry, at_barrier, kept_after, hall_put}
 use Rattle.mea_meet.proofs.BarrierPlays.{Rested, Played, store_in, seen_in, IsKeptIn}
 use Rattle.mea_meet.proofs.BarrierStores.{counts}
-use Rattle.mea_meet.proofs.Slots.{slots_there, slots_other, apart_unplaced, waiting_beside, named_none}
+use Rattle.mea_meet.proofs.Slots.{slots_there, slots_other, apart_unplaced, waiting_beside, named_none, waiting_later}
 use Rattle.mea_meet.proofs.Plays.{rests_by, yields_by}
 
 -- ---- names that were not given yet
@@ -68,7 +68,7 @@ module _ (st : Store) (m : FinMap nat_cmp BarrierEntry) (n i b : ℕ) (o' : Opti
 
   alike_beside : (q : ℕ) (d : BarrierEntry) → barrier_of st.waits (i + 1) q d ≡ barrier_of st.waits n q d
   alike_beside q d =
-      let list = waiting-alike (slots_of st.waits) (slots_of st.waits) n (i + 1) q d.core.waiting k.named named_now (λ f place is. is) (λ f place is. is) in
+      let list = waiting_later (slots_of st.waits) n (i + 1) q d.core.waiting k.named (omega (arith, less)) in
       λ j. record { size = d.core.size; arrivals = d.core.arrivals; waiting = list j }
 
   pub hall_with : (d : BarrierEntry) → o' ≡ Some d → (r : Barrier) → barrier_of st.waits (i + 1) b d ≡ r → barriers_of st' (i + 1) ≡ record (barriers_of st n) { barriers = insert (barriers_of st n).barriers b r }

@@ -23,16 +23,15 @@ use Rattle.mea_meet.proofs.Names.{waiting-registers, waiting-ends, named-ends, n
 use Rattle.mea_meet.proofs.Maps.{Puts}
 use Rattle.mea_meet.proofs.BarrierChanges.{Changes, slot_entry, goes_on, home_open, are_given, hall_put, hall_gone, waits_within}
 use Rattle.mea_meet.proofs.Slots.{slots_there, slots_other}
+use Rattle.mea_meet.proofs.Plays.{RestedIn, PlayedIn}
 
--- event i had this outcome, which touches no waker: what is kept now, and what the contract says
-pub record Rested (v : Part Barriers) (i : ℕ) (o : Outcome Barriers) (answer : Answer) (st' : Store) : Type 0 where
-  pub kept : IsKept st' (i + 1)
-  pub rests : Rests registered v i o answer (record { hall = barriers_of st' (i + 1); next = i + 1 })
+-- event i had this outcome, which touches no waker
+abbrev pub Rested : Part Barriers → ℕ → Outcome Barriers → Answer → Store → Type 0
+Rested v i o answer st = RestedIn registered IsKept barriers_of v i o answer st
 
 -- the same of an outcome that may touch wakers
-pub record Played (v : Part Barriers) (i : ℕ) (o : Outcome Barriers) (answer : Answer) (st' : Store) (before after : Waking ℕ) : Type 0 where
-  pub kept : IsKept st' (i + 1)
-  pub yields : Yields registered v i o answer (record { hall = barriers_of st' (i + 1); next = i + 1 }) before after
+abbrev pub Played : Part Barriers → ℕ → Outcome Barriers → Answer → Store → Waking ℕ → Waking ℕ → Type 0
+Played v i o answer st before after = PlayedIn registered IsKept barriers_of v i o answer st before after
 
 abbrev pub store_in : Inside → Store
 store_in a = store_of a.barriers.entries a.waits.entries

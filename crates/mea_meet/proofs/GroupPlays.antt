@@ -28,19 +28,17 @@ use Rattle.mea_meet.specs.declared.groups.GroupHall.TheInside.{Inside}
 use Rattle.mea_meet.proofs.Names.{waiting-alike, waiting-registers, waiting-ends, named-later, named-new, named-registers, named-ends, given-registers}
 use Rattle.mea_meet.proofs.Maps.{ChangesAt, Puts, by_name, kept-at, kept-puts, changes_twice, insert_same, seen-some, seen_put, seen_gone, puts_same, is_insert, is_remove, none_if, changed_at, some_if, if_some}
 use Rattle.mea_meet.proofs.GroupChanges.{Changes, slot_entry, are_given, used_left, kept_after, hall_used, hall_tidied, registered_after, group_seen, waits_within, handles_within}
-use Rattle.mea_meet.proofs.Slots.{slot_owner, slots_there, slots_other, IsApart, apart_unplaced, waiting_beside, given_beside}
+use Rattle.mea_meet.proofs.Slots.{slot_owner, slots_there, slots_other, IsApart, apart_unplaced, waiting_beside, given_beside, waiting_later}
 use Rattle.mea_meet.proofs.Counts.{decreased-seen, woken-seen, given-decreased, woken-all}
-use Rattle.mea_meet.proofs.Plays.{rests_by, yields_by}
+use Rattle.mea_meet.proofs.Plays.{rests_by, yields_by, RestedIn, PlayedIn}
 
--- event i had this outcome, which touches no waker: what is kept now, and what the contract says
-pub record Rested (v : Part Groups) (i : ℕ) (o : Outcome Groups) (answer : Answer) (st' : Store) : Type 0 where
-  pub kept : IsKept st' (i + 1)
-  pub rests : Rests registered v i o answer (record { hall = groups_of st' (i + 1); next = i + 1 })
+-- event i had this outcome, which touches no waker
+abbrev pub Rested : Part Groups → ℕ → Outcome Groups → Answer → Store → Type 0
+Rested v i o answer st = RestedIn registered IsKept groups_of v i o answer st
 
 -- the same of an outcome that may touch wakers
-pub record Played (v : Part Groups) (i : ℕ) (o : Outcome Groups) (answer : Answer) (st' : Store) (before after : Waking ℕ) : Type 0 where
-  pub kept : IsKept st' (i + 1)
-  pub yields : Yields registered v i o answer (record { hall = groups_of st' (i + 1); next = i + 1 }) before after
+abbrev pub Played : Part Groups → ℕ → Outcome Groups → Answer → Store → Waking ℕ → Waking ℕ → Type 0
+Played v i o answer st before after = PlayedIn registered IsKept groups_of v i o answer st before after
 
 abbrev pub store_in : Inside → Store
 store_in a = store_of a.groups.entries a.handles.entries a.waits.entries
@@ -134,7 +132,7 @@ module _ (a : Inside) (v : Part Groups) (i : ℕ) (seen : seen_in a ≡ v) (k : 
   named_same = named-later (slots_of st.waits) n (i + 1) k.named (omega (arith, less))
 
   list_same : (g : ℕ) (s : Registered ℕ) → waiting_at (slots_of st.waits) (i + 1) g s ≡ waiting_at (slots_of st.waits) n g s
-  list_same g s = waiting-alike (slots_of st.waits) (slots_of st.waits) n (i + 1) g s k.named named_same (λ f place is. is) (λ f place is. is)
+  list_same g s = waiting_later (slots_of st.waits) n (i + 1) g s k.named (omega (arith, less))
 
   -- ---- a group is made, with its handle
   abbrev fresh_core : Counting ℕ

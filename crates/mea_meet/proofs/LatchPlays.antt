@@ -20,7 +20,7 @@ use Rattle.mea_meet_model.specs.Count as counts
 use Rattle.mea_meet_model.specs.Latches as model
 use Rattle.mea_meet_model.specs.Latches.{Latch, LatchWait, Latches, registered}
 use Rattle.mea_meet.specs.Names.{waiting_at, AreNamed}
-use Rattle.mea_meet.specs.Play.{Rests, Yields}
+use Rattle.mea_meet.specs.Play.{Part, Rests, Yields}
 use Rattle.mea_meet.specs.LatchHall.{Store, slot_of, slots_of, latch_of, wait_of, latches_of, IsKeptEntry, IsKept, begun, ended, tidied, let_go}
 use Rattle.mea_meet.specs.declared.latches.LatchEntry.{LatchEntry}
 use Rattle.mea_meet.specs.declared.latches.LatchWaitEntry.{LatchWaitEntry}
@@ -29,16 +29,21 @@ use Rattle.mea_meet.proofs.Maps.{at_same, at_apart, put_here, put_other, is_inse
 use Rattle.mea_meet.proofs.LatchStore.{slot_other, slot_was, slot_now, waits_after, waiting_other, waits_other, plain_other, others_other, waits_mine, plain_mine, latch_seen, wait_seen, registered_seen, waits_seen, later_kept, later_seen, Changes, kept_after, latches_after, registered_after, given_to, given_all}
 use Rattle.mea_meet.proofs.Counts.{decreased-seen, woken-seen, woken-all}
 use Rattle.mea_meet.proofs.Slots.{apart_unplaced, waiting_beside}
-use Rattle.mea_meet.proofs.Plays.{rests_by, yields_by}
+use Rattle.mea_meet.proofs.Plays.{rests_by, yields_by, RestedIn, PlayedIn}
 
 -- ---- what an event came to
-pub record Rested (st st' : Store) (next i : ℕ) (o : Outcome Latches) (answer : Answer) : Type 0 where
-  pub kept : IsKept st' (i + 1)
-  pub rests : Rests registered (record { hall = latches_of st next; next = next }) i o answer (record { hall = latches_of st' (i + 1); next = i + 1 })
+abbrev pub RestedAt : Part Latches → Store → ℕ → Outcome Latches → Answer → Type 0
+RestedAt v st i o answer = RestedIn registered IsKept latches_of v i o answer st
 
-pub record Yielded (st st' : Store) (next i : ℕ) (o : Outcome Latches) (answer : Answer) (before after : Waking ℕ) : Type 0 where
-  pub kept : IsKept st' (i + 1)
-  pub yields : Yields registered (record { hall = latches_of st next; next = next }) i o answer (record { hall = latches_of st' (i + 1); next = i + 1 }) before after
+abbrev pub YieldedAt : Part Latches → Store → ℕ → Outcome Latches → Answer → Waking ℕ → Waking ℕ → Type 0
+YieldedAt v st i o answer before after = PlayedIn registered IsKept latches_of v i o answer st before after
+
+-- the same where these latches were kept before
+abbrev pub Rested : Store → Store → ℕ → ℕ → Outcome Latches → Answer → Type 0
+Rested st st' next i o answer = RestedAt (record { hall = latches_of st next; next = next }) st' i o answer
+
+abbrev pub Yielded : Store → Store → ℕ → ℕ → Outcome Latches → Answer → Waking ℕ → Waking ℕ → Type 0
+Yielded st st' next i o answer before after = YieldedAt (record { hall = latches_of st next; next = next }) st' i o answer before after
 
 -- ---- what a look-up finds
 pub latch_there : (st : Store) (b l : ℕ) (e : LatchEntry) → get st.latches l ≡ Some e → get (latches_of st b).latches l ≡ Some (latch_of st.waits b l e)
@@ -109,9 +114,6 @@ module _ (st : Store) (b : ℕ) (k : IsKept st b) (ls' : FinMap nat_cmp LatchEnt
 module _ (st : Store) (b : ℕ) (k : IsKept st b) (ls' : FinMap nat_cmp LatchEntry) (l : ℕ) (e : LatchEntry) (there : get st.latches l ≡ Some e) (latches : Puts st.latches ls' l (tidied e)) where
   abbrev tidy_store : Store
   tidy_store = record { latches = ls'; waits = st.waits }
-
-  stays_test : Bool
-  stays_test = e.named || nat_lt 0 e.waits
 
   -- a latch without futures has none
   no_futures : e.waits ≡ 0 → (f : ℕ) (x : LatchWaitEntry) → l ≡ x.latch → get st.waits f ≡ Some x → ⊥

@@ -25,7 +25,7 @@ use Rattle.mea_meet.specs.declared.latches.LatchWaitEntry.{LatchWaitEntry}
 use Rattle.mea_meet.proofs.Names.{waiting-wakers}
 use Rattle.mea_meet.proofs.Maps.{kept-at, found, kept-puts, at_same, weight-within, is_same, kept-puts-as, changed_at, some_if, not_none, some_found, kept-none, seen-empty}
 use Rattle.mea_meet.proofs.LatchStore.{registered_seen, wait_seen, plain_seen, given_to}
-use Rattle.mea_meet.proofs.LatchPlays.{Rested, Yielded, latch_is, named_is, named_not, wait_there, stays, makes, arrives, drops, begins, registering_entry, registering_wait, polls_on, leaves}
+use Rattle.mea_meet.proofs.LatchPlays.{Rested, Yielded, latch_is, named_is, named_not, wait_there, stays, makes, arrives, drops, begins, registering_entry, registering_wait, polls_on, leaves, RestedAt, YieldedAt}
 use Rattle.mea_meet.proofs.Counts.{woken-all}
 use Rattle.mea_meet.proofs.Slots.{named_none}
 
@@ -90,15 +90,9 @@ module _ (ls : Latchs) (ws : Waits) (next : ℕ) (v : Part Latches) (seen : reco
       let same : registered (latches_of (store_of ls ws) next) ≡ registered v.hall = ap (λ (p : Part Latches). registered p.hall) seen in
       omega (arith, most, all, same)
 
-  -- a future that is there, and its latch
-  pub future_at : (f : ℕ) → IsSome (get v.hall.waits f) → at ws f ≡ None → ⊥
-  future_at f there none = not_none (at ws f) (wait_at f ∙ there) none
-
+  -- the latch of a future
   pub latch_at_wait : (f : ℕ) (x : LatchWaitEntry) → IsKept (store_of ls ws) next → at ws f ≡ Some x → (e : LatchEntry) × (at ls x.latch ≡ Some e)
   latch_at_wait f x k is = let home = k.home f x (found ws f x is) in (home.entry, sym (kept-at ls x.latch) ∙ home.there)
-
-  pub wait_seen_at : (f : ℕ) (x : LatchWaitEntry) → at ws f ≡ Some x → get v.hall.waits f ≡ Some (wait_of x)
-  wait_seen_at f x is = sym (ap (λ (p : Part Latches). get p.hall.waits f) seen) ∙ wait_there (store_of ls ws) next f x (found ws f x is)
 
   pub kept_at : (l : ℕ) (e : LatchEntry) → IsKept (store_of ls ws) next → at ls l ≡ Some e → IsKeptEntry (store_of ls ws) next l e
   kept_at l e k is = k.each l e (found ls l e is)
@@ -168,23 +162,15 @@ told_try (Ok u) = answers.Accepted
 told_try (Err m) = answers.Left m
 
 -- ---- what an event came to
-pub record RestedAt (v : Part Latches) (st' : Store) (i : ℕ) (o : Outcome Latches) (answer : Answer) : Type 0 where
-  pub kept : IsKept st' (i + 1)
-  pub rests : Rests registered v i o answer (record { hall = latches_of st' (i + 1); next = i + 1 })
-
-pub record YieldedAt (v : Part Latches) (st' : Store) (i : ℕ) (o : Outcome Latches) (answer : Answer) (before after : Waking ℕ) : Type 0 where
-  pub kept : IsKept st' (i + 1)
-  pub yields : Yields registered v i o answer (record { hall = latches_of st' (i + 1); next = i + 1 }) before after
-
 module _ (ls : Latchs) (ws : Waits) (next i : ℕ) (v : Part Latches) (seen : record { hall = latches_of (store_of ls ws) next; next = next } ≡ v) (k : IsKept (store_of ls ws) next) (later : v.next ≤ i) (low : i < 2 ^ 64) where
   less : next ≤ i
   less = let same : next ≡ v.next = ap (λ (p : Part Latches). p.next) seen in omega (arith, same, later)
 
   rested_at : (st' : Store) (F : Latches → Outcome Latches) (answer : Answer) → Rested (store_of ls ws) st' next i (F (latches_of (store_of ls ws) next)) answer → RestedAt v st' i (F v.hall) answer
-  rested_at st' F answer r = record { kept = r.kept; rests = subst (λ (p : Part Latches). Rests registered p i (F p.hall) answer (record { hall = latches_of st' (i + 1); next = i + 1 })) seen r.rests }
+  rested_at st' F answer r = subst (λ (p : Part Latches). RestedAt p st' i (F p.hall) answer) seen r
 
   yielded_at : (st' : Store) (F : Latches → Outcome Latches) (answer : Answer) (before after : Waking ℕ) → Yielded (store_of ls ws) st' next i (F (latches_of (store_of ls ws) next)) answer before after → YieldedAt v st' i (F v.hall) answer before after
-  yielded_at st' F answer before after r = record { kept = r.kept; yields = subst (λ (p : Part Latches). Yields registered p i (F p.hall) answer (record { hall = latches_of st' (i + 1); next = i + 1 }) before after) seen r.yields }
+  yielded_at st' F answer before after r = subst (λ (p : Part Latches). YieldedAt p st' i (F p.hall) answer before after) seen r
 
   room_then : (n : ℕ) → registered v.hall ≤ n → registered (latches_of (store_of ls ws) next) ≤ n
   room_then n room = let same : registered (latches_of (store_of ls ws) next) ≡ registered v.hall = ap (λ (p : Part Latches). registered p.hall) seen in omega (arith, same, room)

@@ -14,7 +14,7 @@ use Rattle.mea_meet.specs.declared.latches.LatchEntry.{LatchEntry}
 use Rattle.mea_meet.specs.declared.latches.LatchWaitEntry.{LatchWaitEntry}
 use Rattle.mea_meet.proofs.Names.{waiting-length, waiting-alike, named-later}
 use Rattle.mea_meet.proofs.Maps.{get-seen, put_here, put_other, total_puts, seen_puts, puts_seen, Belongs, total_elsewhere, by_name, put_there, total-named, seen_alike, one_of, total_puts_was, weighs_here, one_entry, Puts}
-use Rattle.mea_meet.proofs.Slots.{slots_there, slots_other, apart_belongs, waiting_beside, given_by}
+use Rattle.mea_meet.proofs.Slots.{slots_there, slots_other, apart_belongs, waiting_beside, given_by, waiting_later}
 
 -- 1 for a plain future
 abbrev pub plain_of : Option LatchWaitEntry → ℕ
@@ -57,12 +57,9 @@ module _ (st : Store) (b b' : ℕ) (k : IsKept st b) (rises : b ≤ b') where
     low = low;
   }
 
-  pub waiting_later : (q : ℕ) (s : Registered ℕ) → waiting_at (slots_of st.waits) b' q s ≡ waiting_at (slots_of st.waits) b q s
-  waiting_later q s = waiting-alike (slots_of st.waits) (slots_of st.waits) b b' q s k.named (named-later (slots_of st.waits) b b' k.named rises) (λ f place is. is) (λ f place is. is)
-
   pub later_seen : latches_of st b' ≡ latches_of st b
   later_seen =
-      let same = seen_alike (latch_of st.waits b) (latch_of st.waits b') st.latches (λ q e is. λ j. record { count = record { number = e.core.count.number; waiting = waiting_later q e.core.count.waiting j }; named = e.named }) in
+      let same = seen_alike (latch_of st.waits b) (latch_of st.waits b') st.latches (λ q e is. λ j. record { count = record { number = e.core.count.number; waiting = waiting_later (slots_of st.waits) b b' q e.core.count.waiting k.named rises j }; named = e.named }) in
       λ j. record { latches = same j; waits = (latches_of st b).waits }
 
 -- ---- a latch l becomes this, or is gone; futures of others stay as they are
@@ -78,29 +75,15 @@ pub record Changes (st st' : Store) (b l : ℕ) (e' : Option LatchEntry) : Type 
 
 module _ (st st' : Store) (b l : ℕ) (e' : Option LatchEntry) (k : IsKept st b) (c : Changes st st' b l e') where
   each_after : (q : ℕ) (e : LatchEntry) → get st'.latches q ≡ Some e → IsKeptEntry st' b q e
-  each_after q e is = by_test (l == q) refl
-    where
-      by_test : (t : Bool) → (l == q) ≡ t → IsKeptEntry st' b q e
-      by_test true h =
-          let same : l ≡ q = eqb-true l q h in
-          subst (λ p. IsKeptEntry st' b p e) same (c.kept e (sym (put_here st.latches st'.latches l e' c.latches) ∙ ap (get st'.latches) same ∙ is))
-      by_test false h =
-          let apart : l ≡ q → ⊥ = eqb-false l q h in
-          let old = k.each q e (sym (put_other st.latches st'.latches l e' c.latches q apart) ∙ is) in
-          record { quiet = old.quiet; waits = old.waits ∙ sym (c.waits q apart); plain = old.plain ∙ sym (c.plain q apart); few = old.few; few_plain = old.few_plain; below = old.below }
+  each_after q e is = by_name l q
+      (λ same. subst (λ p. IsKeptEntry st' b p e) same (c.kept e (sym (put_there st.latches st'.latches l e' c.latches q same) ∙ is)))
+      (λ apart. let old = k.each q e (sym (put_other st.latches st'.latches l e' c.latches q apart) ∙ is) in
+      record { quiet = old.quiet; waits = old.waits ∙ sym (c.waits q apart); plain = old.plain ∙ sym (c.plain q apart); few = old.few; few_plain = old.few_plain; below = old.below })
 
   home_after : (f : ℕ) (x : LatchWaitEntry) → get st'.waits f ≡ Some x → IsHome st' x
-  home_after f x is = by_test (l == x.latch) refl
-    where
-      by_test : (t : Bool) → (l == x.latch) ≡ t → IsHome st' x
-      by_test true h =
-          let same : l ≡ x.latch = eqb-true l x.latch h in
-          let m = c.mine f x same is in
-          record { entry = m.0; there = ap (get st'.latches) (sym same) ∙ put_here st.latches st'.latches l e' c.latches ∙ m.1; given = m.2 }
-      by_test false h =
-          let apart : l ≡ x.latch → ⊥ = eqb-false l x.latch h in
-          let old = k.home f x (c.others f x apart is) in
-          record { entry = old.entry; there = put_other st.latches st'.latches l e' c.latches x.latch apart ∙ old.there; given = old.given }
+  home_after f x is = by_name l x.latch
+      (λ same. let m = c.mine f x same is in record { entry = m.0; there = put_there st.latches st'.latches l e' c.latches x.latch same ∙ m.1; given = m.2 })
+      (λ apart. let old = k.home f x (c.others f x apart is) in record { entry = old.entry; there = put_other st.latches st'.latches l e' c.latches x.latch apart ∙ old.there; given = old.given })
 
   pub kept_after : IsKept st' b
   kept_after = record { each = each_after; home = home_after; named = c.named; low = k.low }

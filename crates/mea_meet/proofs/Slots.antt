@@ -1,12 +1,12 @@
 -- the slots of futures, each with the name of its object: what a change of one future does to them
-use Rattle.std.proofs.Common.{◌≡◌, ◌⊎◌, inl, inr, ℕ, Option, Some, None, true, refl, ap, sym, ◌∙◌}
+use Rattle.std.proofs.Common.{◌≡◌, ◌⊎◌, inl, inr, ℕ, Option, Some, None, true, refl, ap, sym, ◌∙◌, ◌≤◌}
 use Rattle.std.specs.Option.{option_map}
 use Rattle.std.specs.Ordering.{nat_cmp}
 use Rattle.std.specs.FinMap.{FinMap, get}
 use Rattle.mea_sets.specs.declared.place.Place.{Place}
 use Rattle.mea_sets.specs.WaitSet.{Registered, has_given}
 use Rattle.mea_meet.specs.Names.{Slots, waiting_at, AreNamed, AreGiven}
-use Rattle.mea_meet.proofs.Names.{waiting-alike}
+use Rattle.mea_meet.proofs.Names.{waiting-alike, named-later}
 use Rattle.mea_meet.proofs.Maps.{Puts, Belongs, by_name, put_here, put_other}
 
 -- ---- one slot
@@ -54,6 +54,10 @@ named_none slots b none = record {
   below = λ f p is. absurd (let clash : None ≡ Some p = sym (none f) ∙ is in cc);
   apart = λ f g q place is also. absurd (let clash : None ≡ Some (q, Some place) = sym (none f) ∙ is in cc);
 }
+
+-- where nothing changes, and the bound rises
+pub waiting_later : (slots : Slots) (b b' q : ℕ) (s : Registered ℕ) → AreNamed slots b → b ≤ b' → waiting_at slots b' q s ≡ waiting_at slots b q s
+waiting_later slots b b' q s named rises = waiting-alike slots slots b b' q s named (named-later slots b b' named rises) (λ f place is. is) (λ f place is. is)
 
 -- what each future of q needs, all slots of q have
 pub given_by : {X : Type 0} (object : X → ℕ) (slot : X → Option Place) (m : FinMap nat_cmp X) (q : ℕ) (s : Registered ℕ) → ((f : ℕ) (x : X) → get m f ≡ Some x → object x ≡ q → has_given s (slot x) ≡ true)
