@@ -20,7 +20,7 @@ use Rattle.mea_meet.specs.declared.barriers.BarrierEntry.{BarrierEntry}
 use Rattle.mea_meet.specs.declared.barriers.BarrierWaitEntry.{BarrierWaitEntry}
 use Rattle.mea_meet.specs.declared.barriers.BarrierHall.TheInside.{Inside}
 use Rattle.mea_meet.proofs.Names.{waiting-length, waiting-alike, named-later, named-new}
-use Rattle.mea_meet.proofs.Maps.{ChangesAt, Puts, put_there, put_other, by_name, at_same, at_apart, kept-at, kept-puts, seen-some, seen-none, seen_put, seen_gone, insert_same, weight-within, none_if, kept-none, seen-empty}
+use Rattle.mea_meet.proofs.Maps.{ChangesAt, Puts, put_there, put_other, by_name, at_same, at_apart, kept-at, kept-puts, seen-some, seen-none, seen_put, seen_gone, insert_same, weight-within, none_if, kept-none, seen-empty, found}
 use Rattle.mea_meet.proofs.BarrierChanges.{Changes, slot_entry, at_barrier, kept_after, hall_put}
 use Rattle.mea_meet.proofs.BarrierPlays.{Rested, Played, store_in, seen_in, IsKeptIn}
 use Rattle.mea_meet.proofs.BarrierStores.{counts}
@@ -144,7 +144,7 @@ module _ (a : Inside) (v : Part Barriers) (i : ℕ) (seen : seen_in a ≡ v) (k 
   -- ---- a future is made
   module _ (b : ℕ) (e : BarrierEntry) (there : at a.barriers.entries b ≡ Some e) where
     entry_there : get st.barriers b ≡ Some e
-    entry_there = kept-at a.barriers.entries b ∙ there
+    entry_there = found a.barriers.entries b e there
 
     pub few_waits : e.waits + 1 < 2 ^ 128
     few_waits = let before = (k.each b e entry_there).few_waits in omega (arith, before, less, low)

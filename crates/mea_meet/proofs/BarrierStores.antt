@@ -13,7 +13,7 @@ use Rattle.mea_meet.specs.declared.barriers.BarrierEntry.{BarrierEntry}
 use Rattle.mea_meet.specs.declared.barriers.BarrierWaitEntry.{BarrierWaitEntry}
 use Rattle.mea_meet.specs.declared.barriers.BarrierHall.TheInside.{Inside}
 use Rattle.mea_meet.proofs.Names.{waiting-wakers}
-use Rattle.mea_meet.proofs.Maps.{ChangesAt, kept-at, kept-unchanged, get-seen, seen-none, is_some-map, not_none, total-named}
+use Rattle.mea_meet.proofs.Maps.{ChangesAt, kept-at, kept-unchanged, get-seen, seen-none, is_some-map, not_none, total-named, found}
 use Rattle.mea_meet.proofs.BarrierChanges.{at_barrier, barrier_seen, wakers_within}
 use Rattle.mea_meet.proofs.BarrierPlays.{store_in, seen_in, IsKeptIn}
 
@@ -46,7 +46,7 @@ module _ (a : Inside) (v : Part Barriers) (seen : seen_in a ≡ v) where
 
     module _ (b : ℕ) (e : BarrierEntry) (is : at a.barriers.entries b ≡ Some e) where
       there : get (store_in a).barriers b ≡ Some e
-      there = kept-at a.barriers.entries b ∙ is
+      there = found a.barriers.entries b e is
 
       pub counts : e.waits ≡ waits_of v.hall b
       counts = (k.each b e there).counted ∙ sym (waits_counted (store_in a) a.next b) ∙ ap (λ (p : Part Barriers). waits_of p.hall b) seen
@@ -76,8 +76,8 @@ module _ (a : Inside) (v : Part Barriers) (seen : seen_in a ≡ v) (f b : ℕ) (
     (bs' : List (ℕ × BarrierEntry)) (ws' : List (ℕ × BarrierWaitEntry)) (puts : ChangesAt a.barriers.entries bs' b (Some e')) (writes : ChangesAt a.waits.entries ws' f (Some y)) (same_e : e' ≡ e) (same_x : y ≡ x) where
   as_it_was : store_of bs' ws' ≡ store_in a
   as_it_was =
-      let barriers = kept-unchanged a.barriers.entries bs' b e there (subst (λ d. ChangesAt a.barriers.entries bs' b (Some d)) same_e puts) in
-      let waits = kept-unchanged a.waits.entries ws' f x is (subst (λ d. ChangesAt a.waits.entries ws' f (Some d)) same_x writes) in
+      let barriers = kept-unchanged a.barriers.entries bs' b e e' there puts same_e in
+      let waits = kept-unchanged a.waits.entries ws' f x y is writes same_x in
       λ j. record { barriers = barriers j; waits = waits j }
 
   pub kept_unchanged : IsKeptIn a → IsKept (store_of bs' ws') a.next

@@ -26,7 +26,7 @@ use Rattle.mea_meet.specs.declared.groups.GroupEntry.{GroupEntry}
 use Rattle.mea_meet.specs.declared.groups.GroupWaitEntry.{GroupWaitEntry}
 use Rattle.mea_meet.specs.declared.groups.GroupHall.TheInside.{Inside}
 use Rattle.mea_meet.proofs.Names.{waiting-alike, waiting-registers, waiting-ends, named-later, named-new, named-registers, named-ends, given-registers}
-use Rattle.mea_meet.proofs.Maps.{ChangesAt, Puts, by_name, kept-at, kept-puts, changes_twice, insert_same, seen-some, seen_put, seen_gone, puts_same, is_insert, is_remove, none_if, changed_at, some_if, if_some}
+use Rattle.mea_meet.proofs.Maps.{ChangesAt, Puts, by_name, kept-at, kept-puts, changes_twice, insert_same, seen-some, seen_put, seen_gone, puts_same, is_insert, is_remove, none_if, changed_at, some_if, if_some, found}
 use Rattle.mea_meet.proofs.GroupChanges.{Changes, slot_entry, are_given, used_left, kept_after, hall_used, hall_tidied, registered_after, group_seen, waits_within, handles_within}
 use Rattle.mea_meet.proofs.Slots.{slot_owner, slots_there, slots_other, IsApart, apart_unplaced, waiting_beside, given_beside, waiting_later}
 use Rattle.mea_meet.proofs.Counts.{decreased-seen, woken-seen, given-decreased, woken-all}
@@ -182,7 +182,7 @@ module _ (a : Inside) (v : Part Groups) (i : ℕ) (seen : seen_in a ≡ v) (k : 
   -- ---- a group that is there
   module _ (g : ℕ) (e : GroupEntry) (there : at a.groups.entries g ≡ Some e) where
     entry_there : get st.groups g ≡ Some e
-    entry_there = kept-at a.groups.entries g ∙ there
+    entry_there = found a.groups.entries g e there
 
     pub known : e.handles ≡ e.core.count.number
     known = (k.each g e entry_there).known
@@ -461,7 +461,7 @@ module _ (a : Inside) (v : Part Groups) (i : ℕ) (seen : seen_in a ≡ v) (k : 
     -- ---- one of its futures
     module _ (f : ℕ) (x : GroupWaitEntry) (is : at a.waits.entries f ≡ Some x) (mine : x.group ≡ g) where
       wait_there : get st.waits f ≡ Some x
-      wait_there = kept-at a.waits.entries f ∙ is
+      wait_there = found a.waits.entries f x is
 
       pub waits : 1 ≤ e.waits
       waits = waits_within st n f g x e k wait_there mine entry_there

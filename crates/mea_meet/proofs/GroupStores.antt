@@ -14,7 +14,7 @@ use Rattle.mea_meet.specs.declared.groups.GroupEntry.{GroupEntry}
 use Rattle.mea_meet.specs.declared.groups.GroupWaitEntry.{GroupWaitEntry}
 use Rattle.mea_meet.specs.declared.groups.GroupHall.TheInside.{Inside}
 use Rattle.mea_meet.proofs.Names.{waiting-wakers}
-use Rattle.mea_meet.proofs.Maps.{ChangesAt, kept-at, kept-unchanged, get-seen, seen-none, is_some-map, not_none, kept-none, is_empty, seen-empty}
+use Rattle.mea_meet.proofs.Maps.{ChangesAt, kept-at, kept-unchanged, get-seen, seen-none, is_some-map, not_none, kept-none, is_empty, seen-empty, found}
 use Rattle.mea_meet.proofs.GroupChanges.{slot_entry, group_seen, wakers_within}
 use Rattle.mea_meet.proofs.GroupPlays.{store_in, seen_in, IsKeptIn}
 use Rattle.mea_meet.proofs.Slots.{named_none}
@@ -80,7 +80,7 @@ module _ (a : Inside) (v : Part Groups) (seen : seen_in a ≡ v) where
 
     module _ (g : ℕ) (e : GroupEntry) (is : at a.groups.entries g ≡ Some e) where
       there : get (store_in a).groups g ≡ Some e
-      there = kept-at a.groups.entries g ∙ is
+      there = found a.groups.entries g e is
 
       as_seen : count_of (store_in a).waits a.next g e ≡ group_at v.hall g
       as_seen = sym (group_seen (store_in a) a.next g e there) ∙ ap (λ (p : Part Groups). group_at p.hall g) seen
@@ -113,8 +113,8 @@ module _ (a : Inside) (v : Part Groups) (seen : seen_in a ≡ v) (f g : ℕ) (x 
     (gs' : List (ℕ × GroupEntry)) (ws' : List (ℕ × GroupWaitEntry)) (puts : ChangesAt a.groups.entries gs' g (Some e')) (writes : ChangesAt a.waits.entries ws' f (Some y)) (same_e : e' ≡ e) (same_x : y ≡ x) where
   as_it_was : store_of gs' a.handles.entries ws' ≡ store_in a
   as_it_was =
-      let groups = kept-unchanged a.groups.entries gs' g e there (subst (λ d. ChangesAt a.groups.entries gs' g (Some d)) same_e puts) in
-      let waits = kept-unchanged a.waits.entries ws' f x is (subst (λ d. ChangesAt a.waits.entries ws' f (Some d)) same_x writes) in
+      let groups = kept-unchanged a.groups.entries gs' g e e' there puts same_e in
+      let waits = kept-unchanged a.waits.entries ws' f x y is writes same_x in
       λ j. record { groups = groups j; handles = (store_in a).handles; waits = waits j }
 
   pub kept_unchanged : IsKeptIn a → IsKept (store_of gs' a.handles.entries ws') a.next

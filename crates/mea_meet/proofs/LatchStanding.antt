@@ -23,7 +23,7 @@ use Rattle.mea_meet.specs.LatchHall.{Store, store_of, slot_of, slots_of, latch_o
 use Rattle.mea_meet.specs.declared.latches.LatchEntry.{LatchEntry}
 use Rattle.mea_meet.specs.declared.latches.LatchWaitEntry.{LatchWaitEntry}
 use Rattle.mea_meet.proofs.Names.{waiting-wakers}
-use Rattle.mea_meet.proofs.Maps.{kept-at, found, kept-puts, at_same, weight-within, is_same, kept-puts-as, changed_at, some_if, not_none, some_found, kept-none, seen-empty}
+use Rattle.mea_meet.proofs.Maps.{kept-at, found, kept-puts, at_same, weight-within, is_same, kept-puts-as, changed_at, some_if, not_none, some_found, kept-none, seen-empty, kept-unchanged}
 use Rattle.mea_meet.proofs.LatchStore.{registered_seen, wait_seen, plain_seen, given_to}
 use Rattle.mea_meet.proofs.LatchPlays.{Rested, Yielded, latch_is, named_is, named_not, wait_there, stays, makes, arrives, drops, begins, registering_entry, registering_wait, polls_on, leaves, RestedAt, YieldedAt}
 use Rattle.mea_meet.proofs.Counts.{woken-all}
@@ -137,8 +137,8 @@ of_both ls ws f x e P is there holds = some_if (λ d. P x d) (at ls x.latch) e t
 -- what stands at its names is put there again
 pub same_store : (ls ls' : Latchs) (ws ws' : Waits) (l f : ℕ) (e d : LatchEntry) (x y : LatchWaitEntry) → at ls l ≡ Some e → at ws f ≡ Some x → ChangesAt ls ls' l (Some d) → d ≡ e → ChangesAt ws ws' f (Some y) → y ≡ x → store_of ls' ws' ≡ store_of ls ws
 same_store ls ls' ws ws' l f e d x y there is change same change_wait same_wait = λ j. record {
-  latches = is_same (store_of ls ws).latches (store_of ls' ws').latches l (Some e) (found ls l e there) (kept-puts-as ls ls' l d _ change same) j;
-  waits = is_same (store_of ls ws).waits (store_of ls' ws').waits f (Some x) (found ws f x is) (kept-puts-as ws ws' f y _ change_wait same_wait) j;
+  latches = kept-unchanged ls ls' l e d there change same j;
+  waits = kept-unchanged ws ws' f x y is change_wait same_wait j;
 }
 
 -- where an insertion fails, all is as it was

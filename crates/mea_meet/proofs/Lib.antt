@@ -1,3 +1,8 @@
+pub mod Names
+pub mod Maps
+pub mod Slots
+pub mod Counts
+pub mod Plays
 pub mod BarrierChanges
 pub mod BarrierMakes
 pub mod BarrierOutcomes
@@ -6,15 +11,10 @@ pub mod BarrierStores
 pub mod GroupChanges
 pub mod GroupPlays
 pub mod GroupStores
-pub mod Names
-pub mod Maps
-pub mod Slots
-pub mod Plays
 pub mod LatchStore
 pub mod LatchPlays
 pub mod LatchStanding
 pub mod ShutdownChanges
-pub mod Counts
 pub mod ShutdownEnds
 pub mod ShutdownGone
 pub mod ShutdownMakes

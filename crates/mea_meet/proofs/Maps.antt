@@ -151,8 +151,8 @@ pub insert_same : {X : Type 0} (m : FinMap nat_cmp X) (k : ℕ) (v : X) → get 
 insert_same m k v is = is_same m (insert m k v) k (Some v) is (λ q. get_inserted m k q v)
 
 -- a value is written that is what stood there
-pub kept-unchanged : {X : Type 0} (old new : List (ℕ × X)) (k : ℕ) (v : X) → at old k ≡ Some v → ChangesAt old new k (Some v) → named (λ k x. x) new ≡ named (λ k x. x) old
-kept-unchanged old new k v is h = is_same _ _ k (Some v) (found old k v is) (kept-puts old new k (Some v) h)
+pub kept-unchanged : {X : Type 0} (old new : List (ℕ × X)) (k : ℕ) (v w : X) → at old k ≡ Some v → ChangesAt old new k (Some w) → w ≡ v → named (λ k x. x) new ≡ named (λ k x. x) old
+kept-unchanged old new k v w is h same = is_same _ _ k (Some v) (found old k v is) (kept-puts-as old new k w v h same)
 
 -- what is put last at a name stays
 pub puts_twice : {X : Type 0} (m n p : FinMap nat_cmp X) (k : ℕ) (o u : Option X) → Puts m n k o → Puts n p k u → Puts m p k u
