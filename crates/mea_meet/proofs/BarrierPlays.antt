@@ -14,7 +14,7 @@ use Rattle.mea_meet_core.specs.declared.barrier_wait.BarrierWait.TheVariants.{Ar
 use Rattle.mea_meet_model.specs.Waiting.{registering, ending}
 use Rattle.mea_meet_model.specs.Barriers.{Barrier, Barriers, registered}
 use Rattle.mea_meet.specs.Names.{waiting_at, AreNamed, AreGiven}
-use Rattle.mea_meet.specs.Play.{Part, Yields, Rests}
+use Rattle.mea_meet.specs.Play.{Part}
 use Rattle.mea_meet.specs.BarrierHall.{Store, store_of, slot_of, round_of, slots_of, barrier_of, barriers_of, IsKept}
 use Rattle.mea_meet.specs.declared.barriers.BarrierEntry.{BarrierEntry}
 use Rattle.mea_meet.specs.declared.barriers.BarrierWaitEntry.{BarrierWaitEntry}

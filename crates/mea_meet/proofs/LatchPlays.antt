@@ -20,7 +20,7 @@ use Rattle.mea_meet_model.specs.Count as counts
 use Rattle.mea_meet_model.specs.Latches as model
 use Rattle.mea_meet_model.specs.Latches.{Latch, LatchWait, Latches, registered}
 use Rattle.mea_meet.specs.Names.{waiting_at, AreNamed}
-use Rattle.mea_meet.specs.Play.{Part, Rests, Yields}
+use Rattle.mea_meet.specs.Play.{Part}
 use Rattle.mea_meet.specs.LatchHall.{Store, slot_of, slots_of, latch_of, wait_of, latches_of, IsKeptEntry, IsKept, begun, ended, tidied, let_go}
 use Rattle.mea_meet.specs.declared.latches.LatchEntry.{LatchEntry}
 use Rattle.mea_meet.specs.declared.latches.LatchWaitEntry.{LatchWaitEntry}

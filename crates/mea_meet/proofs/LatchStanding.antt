@@ -17,13 +17,13 @@ use Rattle.mea_meet_core.specs.Count.{tried}
 use Rattle.mea_meet_model.specs.Count.{with_waker}
 use Rattle.mea_meet_model.specs.Latches as model
 use Rattle.mea_meet_model.specs.Latches.{Latch, Latches, registered}
-use Rattle.mea_meet.specs.Play.{Part, Rests, Yields}
+use Rattle.mea_meet.specs.Play.{Part}
 use Rattle.mea_meet.specs.StandsFor.{StandsForCount, StandsForLatch}
 use Rattle.mea_meet.specs.LatchHall.{Store, store_of, slot_of, slots_of, latch_of, latches_of, wait_of, IsKeptEntry, IsKept, ChangesAt, begun, ended, tidied, let_go, PollsIn, EndsIn, HasFuture, IsPollable, IsEndable}
 use Rattle.mea_meet.specs.declared.latches.LatchEntry.{LatchEntry}
 use Rattle.mea_meet.specs.declared.latches.LatchWaitEntry.{LatchWaitEntry}
 use Rattle.mea_meet.proofs.Names.{waiting-wakers}
-use Rattle.mea_meet.proofs.Maps.{kept-at, found, kept-puts, at_same, weight-within, is_same, kept-puts-as, changed_at, some_if, not_none, some_found, kept-none, seen-empty, kept-unchanged}
+use Rattle.mea_meet.proofs.Maps.{kept-at, found, kept-puts, at_same, weight-within, kept-puts-as, changed_at, some_if, some_found, kept-none, seen-empty, kept-unchanged}
 use Rattle.mea_meet.proofs.LatchStore.{registered_seen, wait_seen, plain_seen, given_to}
 use Rattle.mea_meet.proofs.LatchPlays.{Rested, Yielded, latch_is, named_is, named_not, wait_there, stays, makes, arrives, drops, begins, registering_entry, registering_wait, polls_on, leaves, RestedAt, YieldedAt}
 use Rattle.mea_meet.proofs.Counts.{woken-all}

@@ -1,9 +1,9 @@
 -- what a change of one latch does to what a `LatchHall` keeps, and to the latches that it stands for
-use Rattle.std.proofs.Common.{◌≡◌, ℕ, ◌+◌, ◌≤◌, ◌^◌, ◌==◌, ◌&&◌, Bool, true, false, cond, length, refl, ap, sym, subst, ◌∙◌, Option, Some, None, arith}
+use Rattle.std.proofs.Common.{◌≡◌, ℕ, ◌+◌, ◌≤◌, ◌^◌, ◌==◌, ◌&&◌, true, cond, length, refl, ap, sym, subst, ◌∙◌, Option, Some, None, arith}
 use Rattle.std.specs.Option.{option_map}
 use Rattle.std.specs.Ordering.{nat_cmp}
 use Rattle.std.specs.FinMap.{FinMap, get}
-use Rattle.std.proofs.lemmas.Bool.{eqb-true, eqb-false, eq-eqb, ne_eqb}
+use Rattle.std.proofs.lemmas.Bool.{eq-eqb, ne_eqb}
 use Rattle.mea_base.specs.Totals.{total, weight}
 use Rattle.mea_base.proofs.Totals.{total-same}
 use Rattle.mea_sets.specs.WaitSet.{Registered, has_given}
@@ -12,8 +12,8 @@ use Rattle.mea_meet.specs.Names.{waiting_at, AreNamed, AreGiven}
 use Rattle.mea_meet.specs.LatchHall.{Store, slot_of, slots_of, latch_of, wait_of, latches_of, waits_in, plain_in, IsKeptEntry, IsHome, IsKept}
 use Rattle.mea_meet.specs.declared.latches.LatchEntry.{LatchEntry}
 use Rattle.mea_meet.specs.declared.latches.LatchWaitEntry.{LatchWaitEntry}
-use Rattle.mea_meet.proofs.Names.{waiting-length, waiting-alike, named-later}
-use Rattle.mea_meet.proofs.Maps.{get-seen, put_here, put_other, total_puts, seen_puts, puts_seen, Belongs, total_elsewhere, by_name, put_there, total-named, seen_alike, one_of, total_puts_was, weighs_here, one_entry, Puts}
+use Rattle.mea_meet.proofs.Names.{waiting-length, named-later}
+use Rattle.mea_meet.proofs.Maps.{get-seen, put_other, total_puts, seen_puts, puts_seen, Belongs, total_elsewhere, by_name, put_there, total-named, seen_alike, one_of, total_puts_was, weighs_here, one_entry, Puts}
 use Rattle.mea_meet.proofs.Slots.{slots_there, slots_other, apart_belongs, waiting_beside, given_by, waiting_later}
 
 -- 1 for a plain future
