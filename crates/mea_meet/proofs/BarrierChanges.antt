@@ -1,8 +1,7 @@
 -- what a change of one barrier and one of its futures does to what is kept, and to the barriers that are stood for
 use Rattle.std.proofs.Common.{◌≡◌, ℕ, ◌+◌, ◌/◌, ◌^◌, ◌<◌, ◌≤◌, ◌==◌, true, cond, length, Option, Some, None, nat_le, unwrap_or, refl, ap, sym, subst, ◌∙◌, arith}
 use Rattle.std.specs.Option.{option_map}
-use Rattle.std.specs.Ordering.{nat_cmp}
-use Rattle.std.specs.FinMap.{FinMap, get, insert, remove, entries}
+use Rattle.std.specs.FinMap.{get, insert, remove, entries}
 use Rattle.std.proofs.lemmas.Bool.{and_parts, and_from, leb-true, le-leb}
 use Rattle.std.proofs.lemmas.Nat.{div-add-mod', le-div}
 use Rattle.mea_base.specs.Named.{named}
@@ -19,32 +18,13 @@ use Rattle.mea_meet.specs.Names.{waiting_at, AreNamed, AreGiven}
 use Rattle.mea_meet.specs.BarrierHall.{Store, slot_of, slots_of, barrier_of, wait_of, barriers_of, IsKeptEntry, IsHome, IsKept}
 use Rattle.mea_meet.specs.declared.barriers.BarrierEntry.{BarrierEntry}
 use Rattle.mea_meet.specs.declared.barriers.BarrierWaitEntry.{BarrierWaitEntry}
-use Rattle.mea_meet.proofs.Names.{waiting-length, waiting-alike}
-use Rattle.mea_meet.proofs.Stores.{at_same, at_apart, by_name, Sets, sets_there, sets_other, total-sets, weight-within, seen-some, seen_put, seen_gone}
+use Rattle.mea_meet.proofs.Names.{waiting-length}
+use Rattle.mea_meet.proofs.Maps.{at_same, by_name, Puts, put_there, put_other, total_puts_was, weight-within, seen-some, seen_put, seen_gone, one_of, one-least, weighs_here, weighs_elsewhere, one_entry}
+use Rattle.mea_meet.proofs.Slots.{apart_belongs, waiting_beside, given_by}
 
 -- ---- the slots of the futures
 abbrev pub slot_entry : BarrierWaitEntry → ℕ × Option Place
 slot_entry x = (x.barrier, slot_of x.wait)
-
--- whose slot it is
-pub slot_owner : (o : Option BarrierWaitEntry) (q : ℕ) (slot : Option Place) → option_map slot_entry o ≡ Some (q, slot) → (x : BarrierWaitEntry) × (o ≡ Some x) × (x.barrier ≡ q) × (slot_of x.wait ≡ slot)
-slot_owner None q slot is = absurd (cc)
-slot_owner (Some x) q slot is = (x, refl, ap (λ (p : Option (ℕ × Option Place)). object_in x.barrier p) is, ap (λ (p : Option (ℕ × Option Place)). slot_in None p) is)
-  where
-    object_in : ℕ → Option (ℕ × Option Place) → ℕ
-    object_in n None = n
-    object_in n (Some p) = p.0
-
-    slot_in : Option Place → Option (ℕ × Option Place) → Option Place
-    slot_in t None = t
-    slot_in t (Some p) = p.1
-
-module _ (m m' : FinMap nat_cmp BarrierWaitEntry) (f : ℕ) (o' : Option BarrierWaitEntry) (sets : Sets m m' f o') where
-  pub slots_there : slots_of m' f ≡ option_map slot_entry o'
-  slots_there = ap (option_map slot_entry) (sets_there m m' f o' sets f refl)
-
-  pub slots_other : (g : ℕ) → (f ≡ g → ⊥) → slots_of m' g ≡ slots_of m g
-  slots_other g apart = ap (option_map slot_entry) (sets_other m m' f o' sets g apart)
 
 -- ---- a barrier that goes on keeps the waits that belong to it
 pub later_round : (round a a' n : ℕ) → 0 < n → a ≤ a' → nat_le round (a / n) ≡ true → nat_le round (a' / n) ≡ true
@@ -72,41 +52,21 @@ open_given b Done h = absurd (cc)
 pub home_open : (st : Store) (n f b : ℕ) (x : BarrierWaitEntry) (e : BarrierEntry) → IsKept st n → get st.waits f ≡ Some x → x.barrier ≡ b → get st.barriers b ≡ Some e → is_open e.core x.wait ≡ true
 home_open st n f b x e k is mine there =
     let h = k.home f x is in
-    let both : Some h.entry ≡ Some e = sym h.there ∙ ap (get st.barriers) mine ∙ there in
-    let same : h.entry ≡ e = cc in
-    subst (λ (d : BarrierEntry). is_open d.core x.wait ≡ true) same h.belongs
+    subst (λ (d : BarrierEntry). is_open d.core x.wait ≡ true) (one_entry st.barriers x.barrier b h.entry e h.there mine there) h.belongs
 
 pub are_given : (st : Store) (n b : ℕ) (e : BarrierEntry) → IsKept st n → get st.barriers b ≡ Some e → AreGiven (slots_of st.waits) b e.core.waiting
-are_given st n b e k there f slot is =
-    let x = slot_owner (get st.waits f) b slot is in
-    ap (has_given e.core.waiting) (sym x.3) ∙ open_given e.core x.0.wait (home_open st n f b x.0 e k x.1 x.2 there)
+are_given st n b e k there = given_by (λ (x : BarrierWaitEntry). x.barrier) (λ x. slot_of x.wait) st.waits b e.core.waiting (λ f x is mine. open_given e.core x.wait (home_open st n f b x e k is mine there))
 
 -- ---- how many wait at a barrier
 abbrev pub at_barrier : ℕ → ℕ → BarrierWaitEntry → ℕ
 at_barrier b f x = cond (x.barrier == b) 1 0
 
-abbrev pub one_of : Option BarrierWaitEntry → ℕ
-one_of None = 0
-one_of (Some x) = 1
-
-pub one-least : (o : Option BarrierWaitEntry) → one_of o ≤ 1
-one-least None = omega arith
-one-least (Some x) = omega arith
-
-weighs_here : (b f : ℕ) (o : Option BarrierWaitEntry) → ((x : BarrierWaitEntry) → o ≡ Some x → x.barrier ≡ b) → weight (at_barrier b) f o ≡ one_of o
-weighs_here b f None mine = refl
-weighs_here b f (Some x) mine = at_same x.barrier b 1 0 (mine x refl)
-
-weighs_elsewhere : (b q f : ℕ) (o : Option BarrierWaitEntry) → ((x : BarrierWaitEntry) → o ≡ Some x → x.barrier ≡ b) → (b ≡ q → ⊥) → weight (at_barrier q) f o ≡ 0
-weighs_elsewhere b q f None mine apart = refl
-weighs_elsewhere b q f (Some x) mine apart = at_apart x.barrier q 1 0 (λ same. apart (sym (mine x refl) ∙ same))
-
 -- the barrier b, e before, becomes e'; and its future f, o before, becomes o'
 pub record Changes (st st' : Store) (n n' b f : ℕ) (e e' : BarrierEntry) (o o' : Option BarrierWaitEntry) : Type 0 where
   pub there : get st.barriers b ≡ Some e
-  pub barriers : Sets st.barriers st'.barriers b (Some e')
+  pub barriers : Puts st.barriers st'.barriers b (Some e')
   pub was : get st.waits f ≡ o
-  pub waits : Sets st.waits st'.waits f o'
+  pub waits : Puts st.waits st'.waits f o'
   pub rises : n < n'
   pub low : n' ≤ 2 ^ 64
   pub was_of : (x : BarrierWaitEntry) → o ≡ Some x → x.barrier ≡ b
@@ -121,30 +81,30 @@ pub record Changes (st st' : Store) (n n' b f : ℕ) (e e' : BarrierEntry) (o o'
 
 module _ (st st' : Store) (n n' b f : ℕ) (e e' : BarrierEntry) (o o' : Option BarrierWaitEntry) (k : IsKept st n) (c : Changes st st' n n' b f e e' o o') where
   barrier_other : (q : ℕ) → (b ≡ q → ⊥) → get st'.barriers q ≡ get st.barriers q
-  barrier_other = sets_other st.barriers st'.barriers b (Some e') c.barriers
+  barrier_other = put_other st.barriers st'.barriers b (Some e') c.barriers
 
   barrier_there : (q : ℕ) → b ≡ q → get st'.barriers q ≡ Some e'
-  barrier_there = sets_there st.barriers st'.barriers b (Some e') c.barriers
+  barrier_there = put_there st.barriers st'.barriers b (Some e') c.barriers
 
   wait_other : (g : ℕ) → (f ≡ g → ⊥) → get st'.waits g ≡ get st.waits g
-  wait_other = sets_other st.waits st'.waits f o' c.waits
+  wait_other = put_other st.waits st'.waits f o' c.waits
 
   wait_there : (g : ℕ) → f ≡ g → get st'.waits g ≡ o'
-  wait_there = sets_there st.waits st'.waits f o' c.waits
+  wait_there = put_there st.waits st'.waits f o' c.waits
 
   abbrev old_entry : IsKeptEntry st n b e
   old_entry = k.each b e c.there
 
   -- ---- what is kept
   waits_at : (q : ℕ) → total (at_barrier q) st'.waits + weight (at_barrier q) f o ≡ total (at_barrier q) st.waits + weight (at_barrier q) f o'
-  waits_at q = total-sets st.waits st'.waits f o' c.waits (at_barrier q) o c.was
+  waits_at q = total_puts_was st.waits st'.waits f (at_barrier q) o' o c.waits c.was
 
   entry_here : IsKeptEntry st' n' b e'
   entry_here = record {
     quiet = c.same_wakes ∙ old_entry.quiet;
     sized = subst (λ m. 1 ≤ m) (sym c.same_size) old_entry.sized;
     few = (let before = old_entry.few in let more = c.few in let later = c.rises in omega (arith, before, more, later));
-    counted = (let before = old_entry.counted in let sums = waits_at b in let was = weighs_here b f o c.was_of in let is = weighs_here b f o' c.is_of in let counts = c.counted in omega (arith, before, sums, was, is, counts));
+    counted = (let before = old_entry.counted in let sums = waits_at b in let was = weighs_here (λ (x : BarrierWaitEntry). x.barrier) b f o c.was_of in let is = weighs_here (λ (x : BarrierWaitEntry). x.barrier) b f o' c.is_of in let counts = c.counted in omega (arith, before, sums, was, is, counts));
     few_waits = (let before = old_entry.few_waits in let counts = c.counted in let most = one-least o' in let later = c.rises in omega (arith, before, counts, most, later));
     below = (let before = old_entry.below in let later = c.rises in omega (arith, before, later));
   }
@@ -154,7 +114,7 @@ module _ (st st' : Store) (n n' b f : ℕ) (e e' : BarrierEntry) (o o' : Option 
     quiet = old.quiet;
     sized = old.sized;
     few = (let before = old.few in let later = c.rises in omega (arith, before, later));
-    counted = (let before = old.counted in let sums = waits_at q in let was = weighs_elsewhere b q f o c.was_of apart in let is = weighs_elsewhere b q f o' c.is_of apart in omega (arith, before, sums, was, is));
+    counted = (let before = old.counted in let sums = waits_at q in let was = weighs_elsewhere (λ (x : BarrierWaitEntry). x.barrier) (λ x. 1) b q f o c.was_of apart in let is = weighs_elsewhere (λ (x : BarrierWaitEntry). x.barrier) (λ x. 1) b q f o' c.is_of apart in omega (arith, before, sums, was, is));
     few_waits = (let before = old.few_waits in let later = c.rises in omega (arith, before, later));
     below = (let before = old.below in let later = c.rises in omega (arith, before, later));
   }
@@ -178,19 +138,11 @@ module _ (st st' : Store) (n n' b f : ℕ) (e e' : BarrierEntry) (o o' : Option 
   kept_after = record { each = each_after; home = home_after; named = c.named; low = c.low }
 
   -- ---- the barriers that are stood for
-  slot_stays : (q g : ℕ) (place : Place) → (b ≡ q → ⊥) → slots_of st.waits g ≡ Some (q, Some place) → slots_of st'.waits g ≡ Some (q, Some place)
-  slot_stays q g place apart is = by_name f g
-      (λ same. let x = slot_owner (get st.waits g) q (Some place) is in absurd (apart (sym (c.was_of x.0 (sym c.was ∙ ap (get st.waits) same ∙ x.1)) ∙ x.2)))
-      (λ other. slots_other st.waits st'.waits f o' c.waits g other ∙ is)
-
-  slot_stood : (q g : ℕ) (place : Place) → (b ≡ q → ⊥) → slots_of st'.waits g ≡ Some (q, Some place) → slots_of st.waits g ≡ Some (q, Some place)
-  slot_stood q g place apart is = by_name f g
-      (λ same. let x = slot_owner (get st'.waits g) q (Some place) is in absurd (apart (sym (c.is_of x.0 (sym (wait_there g same) ∙ x.1)) ∙ x.2)))
-      (λ other. sym (slots_other st.waits st'.waits f o' c.waits g other) ∙ is)
-
   barrier_alike : (q : ℕ) (d : BarrierEntry) → (b ≡ q → ⊥) → get st.barriers q ≡ Some d → barrier_of st'.waits n' q d ≡ barrier_of st.waits n q d
   barrier_alike q d apart is =
-      let same = waiting-alike (slots_of st.waits) (slots_of st'.waits) n n' q d.core.waiting k.named c.named (λ g place. slot_stays q g place apart) (λ g place. slot_stood q g place apart) in
+      let same = waiting_beside (option_map slot_entry) st.waits st'.waits f o' c.waits n n' k.named c.named q d.core.waiting
+      (apart_belongs (λ (x : BarrierWaitEntry). x.barrier) (λ x. slot_of x.wait) (get st.waits f) b q (λ x here. c.was_of x (sym c.was ∙ here)) apart)
+      (apart_belongs (λ (x : BarrierWaitEntry). x.barrier) (λ x. slot_of x.wait) o' b q c.is_of apart) in
       λ j. record { size = d.core.size; arrivals = d.core.arrivals; waiting = same j }
 
   abbrev h : Barriers

@@ -1,49 +1,41 @@
 -- barriers and futures that are made, and barriers that are dropped
-use Rattle.std.proofs.Common.{◌≡◌, ℕ, ◌+◌, ◌-◌, ◌^◌, ◌<◌, ◌≤◌, ◌==◌, true, cond, List, [], length, max, Option, Some, None, refl, ap, sym, subst, ◌∙◌, arith, append-nil}
+use Rattle.std.proofs.Common.{◌≡◌, ℕ, ◌+◌, ◌-◌, ◌^◌, ◌<◌, ◌≤◌, ◌==◌, true, cond, List, [], length, max, Option, Some, None, refl, ap, sym, subst, ◌∙◌, arith, append-nil, inl, inr}
 use Rattle.std.specs.Option.{option_map}
 use Rattle.std.specs.Ordering.{nat_cmp}
-use Rattle.std.specs.FinMap.{FinMap, get, insert, remove, empty, entries, get-empty}
+use Rattle.std.specs.FinMap.{FinMap, get, insert, remove}
 use Rattle.mea_base.specs.declared.answer.Answer.TheVariants as answers
-use Rattle.mea_base.specs.Named.{named, at}
+use Rattle.mea_base.specs.Named.{at}
 use Rattle.mea_base.specs.Ready.{Waking}
 use Rattle.mea_base.specs.Totals.{total, weight}
-use Rattle.mea_base.proofs.NamedMaps.{same_named}
 use Rattle.mea_base.proofs.Totals.{total-insert, total-remove, total-zero}
-use Rattle.mea_sets.specs.declared.place.Place.{Place}
 use Rattle.mea_meet_core.specs.Barrier as cores
 use Rattle.mea_meet_core.specs.Barrier.{is_open}
 use Rattle.mea_meet_core.specs.declared.barrier_wait.BarrierWait.TheVariants.{New}
 use Rattle.mea_meet_model.specs.Barriers as model
 use Rattle.mea_meet_model.specs.Barriers.{Barrier, Barriers, no_barriers, new_barrier, registered}
 use Rattle.mea_meet.specs.Names.{AreNamed}
-use Rattle.mea_meet.specs.Play.{Part, Yields, Rests}
+use Rattle.mea_meet.specs.Play.{Part}
 use Rattle.mea_meet.specs.BarrierHall.{Store, store_of, slot_of, round_of, slots_of, barrier_of, wait_of, barriers_of, IsKeptEntry, IsKept}
 use Rattle.mea_meet.specs.declared.barriers.BarrierEntry.{BarrierEntry}
 use Rattle.mea_meet.specs.declared.barriers.BarrierWaitEntry.{BarrierWaitEntry}
 use Rattle.mea_meet.specs.declared.barriers.BarrierHall.TheInside.{Inside}
-use Rattle.mea_meet.proofs.Names.{waiting-length, waiting-alike, named-later, named-new}
-use Rattle.mea_meet.proofs.Stores.{ChangesAt, Sets, sets_there, sets_other, by_name, at_same, at_apart, kept-at, kept-changed, seen-some, seen-none, seen_put, seen_gone, insert_same, weight-within}
-use Rattle.mea_meet.proofs.BarrierChanges.{Changes, slot_entry, slot_owner, slots_there, slots_other, at_barrier, kept_after, hall_put}
+use Rattle.mea_meet.proofs.Names.{waiting-length, named-later, named-new}
+use Rattle.mea_meet.proofs.Maps.{ChangesAt, Puts, put_there, put_other, by_name, at_same, at_apart, kept-puts, seen-some, seen-none, seen_put, seen_gone, insert_same, weight-within, none_if, kept-none, seen-empty, found}
+use Rattle.mea_meet.proofs.BarrierChanges.{Changes, slot_entry, at_barrier, kept_after, hall_put}
 use Rattle.mea_meet.proofs.BarrierPlays.{Rested, Played, store_in, seen_in, IsKeptIn}
 use Rattle.mea_meet.proofs.BarrierStores.{counts}
+use Rattle.mea_meet.proofs.Slots.{slots_there, slots_other, apart_unplaced, waiting_beside, named_none, waiting_later}
+use Rattle.mea_meet.proofs.Plays.{rests_by, yields_by}
 
 -- ---- names that were not given yet
 pub no_barrier : (st : Store) (n i : ℕ) → IsKept st n → n ≤ i → get st.barriers i ≡ None
-no_barrier st n i k less = by_value (get st.barriers i) refl
-  where
-    by_value : (o : Option BarrierEntry) → get st.barriers i ≡ o → o ≡ None
-    by_value None is = refl
-    by_value (Some e) is = absurd (let small = (k.each i e is).below in omega (arith, small, less))
+no_barrier st n i k less = none_if (get st.barriers i) (λ e is. let small = (k.each i e is).below in omega (arith, small, less))
 
 pub no_wait : (st : Store) (n i : ℕ) → IsKept st n → n ≤ i → get st.waits i ≡ None
-no_wait st n i k less = by_value (get st.waits i) refl
-  where
-    by_value : (o : Option BarrierWaitEntry) → get st.waits i ≡ o → o ≡ None
-    by_value None is = refl
-    by_value (Some x) is = absurd (let small = k.named.below i (slot_entry x) (ap (option_map slot_entry) is) in omega (arith, small, less))
+no_wait st n i k less = none_if (get st.waits i) (λ x is. let small = k.named.below i (slot_entry x) (ap (option_map slot_entry) is) in omega (arith, small, less))
 
 -- ---- a barrier at which nobody waits comes or goes: o' is what stands at b now
-module _ (st : Store) (m : FinMap nat_cmp BarrierEntry) (n i b : ℕ) (o' : Option BarrierEntry) (k : IsKept st n) (less : n ≤ i) (low : i < 2 ^ 64) (barriers : Sets st.barriers m b o')
+module _ (st : Store) (m : FinMap nat_cmp BarrierEntry) (n i b : ℕ) (o' : Option BarrierEntry) (k : IsKept st n) (less : n ≤ i) (low : i < 2 ^ 64) (barriers : Puts st.barriers m b o')
     (nobody : (f : ℕ) (x : BarrierWaitEntry) → get st.waits f ≡ Some x → x.barrier ≡ b → ⊥) where
   abbrev st' : Store
   st' = record { barriers = m; waits = st.waits }
@@ -67,16 +59,16 @@ module _ (st : Store) (m : FinMap nat_cmp BarrierEntry) (n i b : ℕ) (o' : Opti
   pub kept_beside : ((d : BarrierEntry) → o' ≡ Some d → IsKeptEntry st' (i + 1) b d) → IsKept st' (i + 1)
   kept_beside here = record {
     each = λ q d is. by_name b q
-        (λ same. subst (λ p. IsKeptEntry st' (i + 1) p d) same (here d (sym (sets_there st.barriers m b o' barriers q same) ∙ is)))
-        (λ apart. entry_later q d (k.each q d (sym (sets_other st.barriers m b o' barriers q apart) ∙ is)));
-    home = λ f x is. (let h = k.home f x is in record { entry = h.entry; there = sets_other st.barriers m b o' barriers x.barrier (λ same. nobody f x is (sym same)) ∙ h.there; belongs = h.belongs });
+        (λ same. subst (λ p. IsKeptEntry st' (i + 1) p d) same (here d (sym (put_there st.barriers m b o' barriers q same) ∙ is)))
+        (λ apart. entry_later q d (k.each q d (sym (put_other st.barriers m b o' barriers q apart) ∙ is)));
+    home = λ f x is. (let h = k.home f x is in record { entry = h.entry; there = put_other st.barriers m b o' barriers x.barrier (λ same. nobody f x is (sym same)) ∙ h.there; belongs = h.belongs });
     named = named_now;
     low = omega (arith, low);
   }
 
   alike_beside : (q : ℕ) (d : BarrierEntry) → barrier_of st.waits (i + 1) q d ≡ barrier_of st.waits n q d
   alike_beside q d =
-      let list = waiting-alike (slots_of st.waits) (slots_of st.waits) n (i + 1) q d.core.waiting k.named named_now (λ f place is. is) (λ f place is. is) in
+      let list = waiting_later (slots_of st.waits) n (i + 1) q d.core.waiting k.named (omega (arith, less)) in
       λ j. record { size = d.core.size; arrivals = d.core.arrivals; waiting = list j }
 
   pub hall_with : (d : BarrierEntry) → o' ≡ Some d → (r : Barrier) → barrier_of st.waits (i + 1) b d ≡ r → barriers_of st' (i + 1) ≡ record (barriers_of st n) { barriers = insert (barriers_of st n).barriers b r }
@@ -92,22 +84,19 @@ module _ (st : Store) (m : FinMap nat_cmp BarrierEntry) (n i b : ℕ) (o' : Opti
 -- ---- no barrier
 pub kept_empty : (bs : List (ℕ × BarrierEntry)) (ws : List (ℕ × BarrierWaitEntry)) → bs ≡ [] → ws ≡ [] → IsKept (store_of bs ws) 0
 kept_empty bs ws no_bs no_ws =
-    let nothing : (b : ℕ) → get (store_of bs ws).barriers b ≡ None = λ b. kept-at bs b ∙ ap (λ es. at es b) no_bs in
-    let nobody : (f : ℕ) → get (store_of bs ws).waits f ≡ None = λ f. kept-at ws f ∙ ap (λ es. at es f) no_ws in
+    let nothing = kept-none bs no_bs in
+    let nobody = kept-none ws no_ws in
     record {
       each = λ b e is. absurd (let clash : None ≡ Some e = sym (nothing b) ∙ is in cc);
       home = λ f x is. absurd (let clash : None ≡ Some x = sym (nobody f) ∙ is in cc);
-      named = record {
-        below = λ f p is. absurd (let clash : None ≡ Some p = sym (ap (option_map slot_entry) (nobody f)) ∙ is in cc);
-        apart = λ f g q place is also. absurd (let clash : None ≡ Some (q, Some place) = sym (ap (option_map slot_entry) (nobody f)) ∙ is in cc);
-      };
+      named = named_none (slots_of (store_of bs ws).waits) 0 (λ f. ap (option_map slot_entry) (nobody f));
       low = omega arith;
     }
 
 pub seen_empty : (bs : List (ℕ × BarrierEntry)) (ws : List (ℕ × BarrierWaitEntry)) → bs ≡ [] → ws ≡ [] → barriers_of (store_of bs ws) 0 ≡ no_barriers
 seen_empty bs ws no_bs no_ws =
-    let barriers = same_named (named (barrier_of (store_of bs ws).waits 0) (entries (store_of bs ws).barriers)) empty (λ b. seen-none (barrier_of (store_of bs ws).waits 0) (store_of bs ws).barriers b (kept-at bs b ∙ ap (λ es. at es b) no_bs) ∙ sym (get-empty nat_cmp b)) in
-    let waits = same_named (named (λ f x. wait_of x) (entries (store_of bs ws).waits)) empty (λ f. seen-none (λ f x. wait_of x) (store_of bs ws).waits f (kept-at ws f ∙ ap (λ es. at es f) no_ws) ∙ sym (get-empty nat_cmp f)) in
+    let barriers = seen-empty (barrier_of (store_of bs ws).waits 0) (store_of bs ws).barriers (kept-none bs no_bs) in
+    let waits = seen-empty (λ f x. wait_of x) (store_of bs ws).waits (kept-none ws no_ws) in
     λ j. record { barriers = barriers j; waits = waits j }
 
 -- ---- what is kept of a barrier that is new
@@ -133,7 +122,7 @@ module _ (a : Inside) (v : Part Barriers) (i : ℕ) (seen : seen_in a ≡ v) (k 
   pub makes : (size : ℕ) (bs' : List (ℕ × BarrierEntry)) (core : cores.Barrier ℕ) → ChangesAt a.barriers.entries bs' i (Some (record { core = core; waits = 0 })) → core ≡ fresh_core size
       → Rested v i (model.make v.hall i size) answers.Made (store_of bs' a.waits.entries)
   makes size bs' core puts is =
-      let barriers : Sets st.barriers (store_of bs' a.waits.entries).barriers i (Some (fresh_entry size)) = kept-changed a.barriers.entries bs' i (Some (fresh_entry size)) (subst (λ (d : cores.Barrier ℕ). ChangesAt a.barriers.entries bs' i (Some (record { core = d; waits = 0 }))) is puts) in
+      let barriers : Puts st.barriers (store_of bs' a.waits.entries).barriers i (Some (fresh_entry size)) = kept-puts a.barriers.entries bs' i (Some (fresh_entry size)) (subst (λ (d : cores.Barrier ℕ). ChangesAt a.barriers.entries bs' i (Some (record { core = d; waits = 0 }))) is puts) in
       let nobody : (f : ℕ) (x : BarrierWaitEntry) → get st.waits f ≡ Some x → x.barrier ≡ i → ⊥ = λ f x there same. absurd (let home = k.home f x there in let clash : None ≡ Some home.entry = sym (no_barrier st n i k less) ∙ ap (get st.barriers) (sym same) ∙ home.there in cc) in
       let hall_is = hall_with st (store_of bs' a.waits.entries).barriers n i i (Some (fresh_entry size)) k less low barriers nobody (fresh_entry size) refl (new_barrier size) refl in
       let none : weight (λ q (r : Barrier). length r.waiting) i (get h.barriers i) ≡ 0 = ap (weight (λ q (r : Barrier). length r.waiting) i) (seen-none (barrier_of st.waits n) st.barriers i (no_barrier st n i k less)) in
@@ -146,18 +135,16 @@ module _ (a : Inside) (v : Part Barriers) (i : ℕ) (seen : seen_in a ≡ v) (k 
           few_waits = omega arith;
           below = omega arith;
         })));
-        rests = subst (λ (p : Part Barriers). Rests registered p i (model.make p.hall i size) answers.Made (record { hall = barriers_of (store_of bs' a.waits.entries) (i + 1); next = i + 1 })) seen (record {
-          replied = refl;
-          moved = λ j. record { hall = hall_is j; next = i + 1 };
-          silent = refl;
-          counted = (let sums = total-insert (λ q (r : Barrier). length r.waiting) h.barriers i (new_barrier size) in omega (arith, sums, none));
-        });
+        rests = rests_by registered (seen_in a) v i seen (λ u. model.make u i size) (model.make h i size) answers.Made (barriers_of (store_of bs' a.waits.entries) (i + 1)) refl hall_is refl refl (
+            let sums = total-insert (λ q (r : Barrier). length r.waiting) h.barriers i (new_barrier size) in
+            let same : registered (model.make h i size).hall ≡ registered h = omega (arith, sums, none) in
+            ap registered hall_is ∙ same);
       }
 
   -- ---- a future is made
   module _ (b : ℕ) (e : BarrierEntry) (there : at a.barriers.entries b ≡ Some e) where
     entry_there : get st.barriers b ≡ Some e
-    entry_there = kept-at a.barriers.entries b ∙ there
+    entry_there = found a.barriers.entries b e there
 
     pub few_waits : e.waits + 1 < 2 ^ 128
     few_waits = let before = (k.each b e entry_there).few_waits in omega (arith, before, less, low)
@@ -169,14 +156,14 @@ module _ (a : Inside) (v : Part Barriers) (i : ℕ) (seen : seen_in a ≡ v) (k 
       abbrev e' : BarrierEntry
       e' = record e { waits = e.waits + 1 }
 
-      waits : Sets st.waits st_now.waits i (Some x)
-      waits = kept-changed a.waits.entries ws' i (Some x) adds
+      waits : Puts st.waits st_now.waits i (Some x)
+      waits = kept-puts a.waits.entries ws' i (Some x) adds
 
       slot_is : slots_of st_now.waits i ≡ Some (b, None)
-      slot_is = slots_there st.waits st_now.waits i (Some x) waits ∙ (λ j. Some (mine j, slot_of (new j)))
+      slot_is = slots_there (option_map slot_entry) st.waits st_now.waits i (Some x) waits ∙ (λ j. Some (mine j, slot_of (new j)))
 
       others : (g : ℕ) → (i ≡ g → ⊥) → slots_of st_now.waits g ≡ slots_of st.waits g
-      others = slots_other st.waits st_now.waits i (Some x) waits
+      others = slots_other (option_map slot_entry) st.waits st_now.waits i (Some x) waits
 
       named_with : AreNamed (slots_of st_now.waits) (i + 1)
       named_with = named-new (slots_of st.waits) (slots_of st_now.waits) n (i + 1) i k.named (omega (arith, less)) others b (omega arith) slot_is
@@ -184,7 +171,7 @@ module _ (a : Inside) (v : Part Barriers) (i : ℕ) (seen : seen_in a ≡ v) (k 
       change : Changes st st_now n (i + 1) b i e e' None (Some x)
       change = record {
         there = entry_there;
-        barriers = kept-changed a.barriers.entries bs' b (Some e') puts;
+        barriers = kept-puts a.barriers.entries bs' b (Some e') puts;
         was = no_wait st n i k less;
         waits = waits;
         rises = omega (arith, less);
@@ -200,23 +187,12 @@ module _ (a : Inside) (v : Part Barriers) (i : ℕ) (seen : seen_in a ≡ v) (k 
         counted = omega arith;
       }
 
-      -- the slots of the others are as they were, and i has no number
-      slot_stays : (g : ℕ) (place : Place) → slots_of st.waits g ≡ Some (b, Some place) → slots_of st_now.waits g ≡ Some (b, Some place)
-      slot_stays g place is = by_name i g
-          (λ same. absurd (let clash : None ≡ Some (b, Some place) = sym (ap (option_map slot_entry) (no_wait st n i k less)) ∙ ap (slots_of st.waits) same ∙ is in cc))
-          (λ apart. others g apart ∙ is)
-
-      slot_stood : (g : ℕ) (place : Place) → slots_of st_now.waits g ≡ Some (b, Some place) → slots_of st.waits g ≡ Some (b, Some place)
-      slot_stood g place is = by_name i g
-          (λ same. absurd (let z = slot_owner (get st_now.waits g) b (Some place) is in
-          let one : Some x ≡ Some z.0 = sym (sets_there st.waits st_now.waits i (Some x) waits g same) ∙ z.1 in
-          let it : x ≡ z.0 = cc in
-          let clash : None ≡ Some place = sym (ap slot_of new) ∙ ap (λ (u : BarrierWaitEntry). slot_of u.wait) it ∙ z.3 in cc))
-          (λ apart. sym (others g apart) ∙ is)
-
+      -- i has no number
       seen_same : barrier_of st_now.waits (i + 1) b e' ≡ barrier_of st.waits n b e
       seen_same =
-          let list = waiting-alike (slots_of st.waits) (slots_of st_now.waits) n (i + 1) b e.core.waiting k.named named_with slot_stays slot_stood in
+          let list = waiting_beside (option_map slot_entry) st.waits st_now.waits i (Some x) waits n (i + 1) k.named named_with b e.core.waiting
+          (apart_unplaced b (slots_of st.waits i) (inl (ap (option_map slot_entry) (no_wait st n i k less))))
+          (apart_unplaced b (option_map slot_entry (Some x)) (inr (b, λ j. Some (mine j, slot_of (new j))))) in
           λ j. record { size = e.core.size; arrivals = e.core.arrivals; waiting = list j }
 
       pub waits_new : Rested v i (model.wait v.hall i b) answers.Made st_now
@@ -226,12 +202,7 @@ module _ (a : Inside) (v : Part Barriers) (i : ℕ) (seen : seen_in a ≡ v) (k 
           ∙ (λ j. record { barriers = same j; waits = insert h.waits i (record { barrier = mine j; round = round_of (new j) }) }) in
           record {
             kept = kept_after st st_now n (i + 1) b i e e' None (Some x) k change;
-            rests = subst (λ (p : Part Barriers). Rests registered p i (model.wait p.hall i b) answers.Made (record { hall = barriers_of st_now (i + 1); next = i + 1 })) seen (record {
-              replied = refl;
-              moved = λ j. record { hall = hall_is j; next = i + 1 };
-              silent = refl;
-              counted = refl;
-            });
+            rests = rests_by registered (seen_in a) v i seen (λ u. model.wait u i b) (model.wait h i b) answers.Made (barriers_of st_now (i + 1)) refl hall_is refl refl (ap registered hall_is);
           }
 
     -- ---- the barrier is dropped
@@ -239,7 +210,7 @@ module _ (a : Inside) (v : Part Barriers) (i : ℕ) (seen : seen_in a ≡ v) (k 
         → after ≡ record before { registered = before.registered - length e.core.waiting.wakers }
         → Played v i (model.drop v.hall b) answers.Done (store_of bs' a.waits.entries) before after
     drops bs' before after gone free enough is =
-        let barriers : Sets st.barriers (store_of bs' a.waits.entries).barriers b None = kept-changed a.barriers.entries bs' b None gone in
+        let barriers : Puts st.barriers (store_of bs' a.waits.entries).barriers b None = kept-puts a.barriers.entries bs' b None gone in
         let none : e.waits ≡ 0 = counts a v seen k b e there ∙ free in
         let all = (k.each b e entry_there).counted in
         let nobody : (f : ℕ) (x : BarrierWaitEntry) → get st.waits f ≡ Some x → x.barrier ≡ b → ⊥ = λ f x here same. absurd (
@@ -251,10 +222,9 @@ module _ (a : Inside) (v : Part Barriers) (i : ℕ) (seen : seen_in a ≡ v) (k 
         let mine : weight (λ q (r : Barrier). length r.waiting) b (get h.barriers b) ≡ length e.core.waiting.wakers = ap (weight (λ q (r : Barrier). length r.waiting) b) (seen-some (barrier_of st.waits n) st.barriers b e entry_there) ∙ waiting-length (slots_of st.waits) n b e.core.waiting in
         record {
           kept = kept_beside st (store_of bs' a.waits.entries).barriers n i b None k less low barriers nobody (λ d same. absurd (cc));
-          yields = subst (λ (p : Part Barriers). Yields registered p i (model.drop p.hall b) answers.Done (record { hall = barriers_of (store_of bs' a.waits.entries) (i + 1); next = i + 1 }) before after) seen (record {
-            replied = refl;
-            moved = λ j. record { hall = hall_is j; next = i + 1 };
-            woken = ap (λ (u : Waking ℕ). u.wakers) is ∙ sym (append-nil before.wakers);
-            counted = (let left : after.registered ≡ before.registered - length e.core.waiting.wakers = ap (λ (u : Waking ℕ). u.registered) is in omega (arith, sums, mine, left, enough));
-          });
+          yields = yields_by registered (seen_in a) v i seen (λ u. model.drop u b) (model.drop h b) answers.Done (barriers_of (store_of bs' a.waits.entries) (i + 1)) refl hall_is refl before after
+              (ap (λ (u : Waking ℕ). u.wakers) is ∙ sym (append-nil before.wakers))
+              (let left : after.registered ≡ before.registered - length e.core.waiting.wakers = ap (λ (u : Waking ℕ). u.registered) is in
+              let fewer : registered (barriers_of (store_of bs' a.waits.entries) (i + 1)) ≡ registered (model.drop h b).hall = ap registered hall_is in
+              omega (arith, sums, mine, left, enough, fewer));
         }

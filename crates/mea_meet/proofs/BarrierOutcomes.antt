@@ -17,15 +17,16 @@ use Rattle.mea_meet_core.specs.declared.barrier_wait.BarrierWait.TheVariants.{Ne
 use Rattle.mea_meet_model.specs.Waiting.{registering, ending, wakers}
 use Rattle.mea_meet_model.specs.Barriers as model
 use Rattle.mea_meet_model.specs.Barriers.{Barrier, BarrierWait, Barriers, barrier_at, registered}
-use Rattle.mea_meet.specs.Play.{Part, Yields, Rests}
+use Rattle.mea_meet.specs.Play.{Part}
 use Rattle.mea_meet.specs.BarrierHall.{Store, store_of, slot_of, round_of, slots_of, barrier_of, wait_of, barriers_of, IsKept, Turn, leading_turn, joining_turn, ready_turn, waiting_turn, turn_of, Turns}
 use Rattle.mea_meet.specs.declared.barriers.BarrierEntry.{BarrierEntry}
 use Rattle.mea_meet.specs.declared.barriers.BarrierWaitEntry.{BarrierWaitEntry}
 use Rattle.mea_meet.specs.declared.barriers.BarrierHall.TheInside.{Inside}
 use Rattle.mea_meet.proofs.Names.{waiting-wakers, given-drained}
-use Rattle.mea_meet.proofs.Stores.{ChangesAt, Sets, kept-at, kept-changed, seen-some, insert_same}
+use Rattle.mea_meet.proofs.Maps.{ChangesAt, Puts, kept-at, kept-puts, seen-some, insert_same}
 use Rattle.mea_meet.proofs.BarrierChanges.{later_round, home_open, kept_after, registered_after, barrier_seen, waits_within}
 use Rattle.mea_meet.proofs.BarrierPlays.{Rested, Played, store_in, seen_in, IsKeptIn, registers, hall_registering, leaves, hall_ending, hall_led}
+use Rattle.mea_meet.proofs.Plays.{rests_by, yields_by}
 
 -- ---- a future f, x as it is kept, whose barrier is kept as e
 module _ (a : Inside) (v : Part Barriers) (i f : ℕ) (x : BarrierWaitEntry) (e : BarrierEntry) (seen : seen_in a ≡ v) (k : IsKeptIn a) (least : v.next ≤ i) (low : i < 2 ^ 64)
@@ -124,8 +125,8 @@ module _ (a : Inside) (v : Part Barriers) (i f : ℕ) (x : BarrierWaitEntry) (e 
     abbrev now : Part Barriers
     now = record { hall = barriers_of st' (i + 1); next = i + 1 }
 
-    barriers : Sets st.barriers st'.barriers b (Some e')
-    barriers = kept-changed a.barriers.entries bs' b (Some e') puts
+    barriers : Puts st.barriers st'.barriers b (Some e')
+    barriers = kept-puts a.barriers.entries bs' b (Some e') puts
 
     done : (o : Outcome Barriers) (w : ℕ) (answer : Answer) (before after : Waking ℕ) → outcome w ≡ o → IsKept st' (i + 1) → barriers_of st' (i + 1) ≡ o.hall
         → registered (barriers_of st' (i + 1)) + length e.core.waiting.wakers ≡ registered h + length e'.core.waiting.wakers
@@ -133,19 +134,13 @@ module _ (a : Inside) (v : Part Barriers) (i f : ℕ) (x : BarrierWaitEntry) (e 
         → Played v i (model.poll_of v.hall f w (get v.hall.waits f)) answer st' before after
     done o w answer before after chosen kept hall_is registers replied woken counted = record {
       kept = kept;
-      yields = subst (λ (p : Part Barriers). Yields registered p i (model.poll_of p.hall f w (get p.hall.waits f)) answer now before after) seen
-          (subst (λ q. Yields registered (seen_in a) i q answer now before after) (sym chosen) (record {
-            replied = replied;
-            moved = λ j. record { hall = hall_is j; next = i + 1 };
-            woken = woken;
-            counted = (let all : registered (barriers_of st' (i + 1)) ≡ registered o.hall = ap registered hall_is in omega (arith, all, registers, counted));
-          }));
+      yields = yields_by registered (seen_in a) v i seen (λ u. model.poll_of u f w (get u.waits f)) o answer (barriers_of st' (i + 1)) chosen hall_is replied before after woken (omega (arith, registers, counted));
     }
 
     -- ---- a poll that replies `pending`
     module _ (y : BarrierWaitEntry) (w : ℕ) (before after : Waking ℕ) (puts_wait : ChangesAt a.waits.entries ws' f (Some y)) (mine : y.barrier ≡ b) (turns : Turns e x.wait w Pending e' y.wait before after) where
-      waits_now : Sets st.waits st'.waits f (Some y)
-      waits_now = kept-changed a.waits.entries ws' f (Some y) puts_wait
+      waits_now : Puts st.waits st'.waits f (Some y)
+      waits_now = kept-puts a.waits.entries ws' f (Some y) puts_wait
 
       abbrev Stayed : Type 0
       Stayed = Played v i (model.poll_of v.hall f w (get v.hall.waits f)) answers.Pending st' before after
@@ -195,8 +190,8 @@ module _ (a : Inside) (v : Part Barriers) (i f : ℕ) (x : BarrierWaitEntry) (e 
 
     -- ---- the future is gone
     module _ (gone : ChangesAt a.waits.entries ws' f None) where
-      waits_gone : Sets st.waits st'.waits f None
-      waits_gone = kept-changed a.waits.entries ws' f None gone
+      waits_gone : Puts st.waits st'.waits f None
+      waits_gone = kept-puts a.waits.entries ws' f None gone
 
       -- a poll that replies otherwise
       module _ (w : ℕ) (answer : Answer) (wait' : Wait) (before after : Waking ℕ) (turns : Turns e x.wait w (Ready answer) e' wait' before after) where
@@ -272,11 +267,5 @@ module _ (a : Inside) (v : Part Barriers) (i f : ℕ) (x : BarrierWaitEntry) (e 
           let as_many : length e'.core.waiting.wakers ≡ length e.core.waiting.wakers = ap (λ (d : cores.Barrier ℕ). length d.waiting.wakers) core_is in
           record {
             kept = kept_after st st' n (i + 1) b f e e' (Some x) None k c;
-            rests = subst (λ (p : Part Barriers). Rests registered p i (model.end_of p.hall f (get p.hall.waits f)) answers.Done now) seen
-                (subst (λ q. Rests registered (seen_in a) i q answers.Done now) (sym chosen) (record {
-                  replied = refl;
-                  moved = λ j. record { hall = hall_is j; next = i + 1 };
-                  silent = refl;
-                  counted = (let all : registered (barriers_of st' (i + 1)) ≡ registered (gone_with answers.Done r).hall = ap registered hall_is in omega (arith, all, counted, as_many));
-                }));
+            rests = rests_by registered (seen_in a) v i seen (λ u. model.end_of u f (get u.waits f)) (gone_with answers.Done r) answers.Done (barriers_of st' (i + 1)) chosen hall_is refl refl (omega (arith, counted, as_many));
           }

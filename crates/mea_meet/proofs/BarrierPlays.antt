@@ -14,24 +14,24 @@ use Rattle.mea_meet_core.specs.declared.barrier_wait.BarrierWait.TheVariants.{Ar
 use Rattle.mea_meet_model.specs.Waiting.{registering, ending}
 use Rattle.mea_meet_model.specs.Barriers.{Barrier, Barriers, registered}
 use Rattle.mea_meet.specs.Names.{waiting_at, AreNamed, AreGiven}
-use Rattle.mea_meet.specs.Play.{Part, Yields, Rests}
+use Rattle.mea_meet.specs.Play.{Part}
 use Rattle.mea_meet.specs.BarrierHall.{Store, store_of, slot_of, round_of, slots_of, barrier_of, barriers_of, IsKept}
 use Rattle.mea_meet.specs.declared.barriers.BarrierEntry.{BarrierEntry}
 use Rattle.mea_meet.specs.declared.barriers.BarrierWaitEntry.{BarrierWaitEntry}
 use Rattle.mea_meet.specs.declared.barriers.BarrierHall.TheInside.{Inside}
 use Rattle.mea_meet.proofs.Names.{waiting-registers, waiting-ends, named-ends, named-registers, given-with, given-registers}
-use Rattle.mea_meet.proofs.Stores.{Sets}
-use Rattle.mea_meet.proofs.BarrierChanges.{Changes, slot_entry, slots_there, slots_other, goes_on, home_open, are_given, hall_put, hall_gone, waits_within}
+use Rattle.mea_meet.proofs.Maps.{Puts}
+use Rattle.mea_meet.proofs.BarrierChanges.{Changes, slot_entry, goes_on, home_open, are_given, hall_put, hall_gone, waits_within}
+use Rattle.mea_meet.proofs.Slots.{slots_there, slots_other}
+use Rattle.mea_meet.proofs.Plays.{RestedIn, PlayedIn}
 
--- event i had this outcome, which touches no waker: what is kept now, and what the contract says
-pub record Rested (v : Part Barriers) (i : ℕ) (o : Outcome Barriers) (answer : Answer) (st' : Store) : Type 0 where
-  pub kept : IsKept st' (i + 1)
-  pub rests : Rests registered v i o answer (record { hall = barriers_of st' (i + 1); next = i + 1 })
+-- event i had this outcome, which touches no waker
+abbrev pub Rested : Part Barriers → ℕ → Outcome Barriers → Answer → Store → Type 0
+Rested v i o answer st = RestedIn registered IsKept barriers_of v i o answer st
 
 -- the same of an outcome that may touch wakers
-pub record Played (v : Part Barriers) (i : ℕ) (o : Outcome Barriers) (answer : Answer) (st' : Store) (before after : Waking ℕ) : Type 0 where
-  pub kept : IsKept st' (i + 1)
-  pub yields : Yields registered v i o answer (record { hall = barriers_of st' (i + 1); next = i + 1 }) before after
+abbrev pub Played : Part Barriers → ℕ → Outcome Barriers → Answer → Store → Waking ℕ → Waking ℕ → Type 0
+Played v i o answer st before after = PlayedIn registered IsKept barriers_of v i o answer st before after
 
 abbrev pub store_in : Inside → Store
 store_in a = store_of a.barriers.entries a.waits.entries
@@ -44,7 +44,7 @@ IsKeptIn a = IsKept (store_in a) a.next
 
 -- ---- a future of a barrier is polled or ends
 module _ (st st' : Store) (n i f : ℕ) (x : BarrierWaitEntry) (e e' : BarrierEntry) (k : IsKept st n) (less : n ≤ i) (low : i < 2 ^ 64)
-    (is : get st.waits f ≡ Some x) (there : get st.barriers x.barrier ≡ Some e) (barriers : Sets st.barriers st'.barriers x.barrier (Some e')) where
+    (is : get st.waits f ≡ Some x) (there : get st.barriers x.barrier ≡ Some e) (barriers : Puts st.barriers st'.barriers x.barrier (Some e')) where
   abbrev h : Barriers
   h = barriers_of st n
 
@@ -64,13 +64,13 @@ module _ (st st' : Store) (n i f : ℕ) (x : BarrierWaitEntry) (e e' : BarrierEn
   sized = (k.each b e there).sized
 
   -- ---- its waker is registered
-  module _ (y : BarrierWaitEntry) (waits : Sets st.waits st'.waits f (Some y)) (w round arrivals : ℕ) (mine : y.barrier ≡ b) (wait_is : y.wait ≡ Arrived round (slot_after e.core.waiting (slot_of x.wait)))
+  module _ (y : BarrierWaitEntry) (waits : Puts st.waits st'.waits f (Some y)) (w round arrivals : ℕ) (mine : y.barrier ≡ b) (wait_is : y.wait ≡ Arrived round (slot_after e.core.waiting (slot_of x.wait)))
       (entry_is : e' ≡ record e { core = record e.core { arrivals = arrivals; waiting = with_waker e.core.waiting (slot_of x.wait) w } }) (rises : e.core.arrivals ≤ arrivals) (most : arrivals ≤ e.core.arrivals + 1) (seen : nat_le round (arrivals / e.core.size) ≡ true) where
     others : (g : ℕ) → (f ≡ g → ⊥) → slots_of st'.waits g ≡ slots_of st.waits g
-    others = slots_other st.waits st'.waits f (Some y) waits
+    others = slots_other (option_map slot_entry) st.waits st'.waits f (Some y) waits
 
     slot_is : slots_of st'.waits f ≡ Some (b, slot_after e.core.waiting (slot_of x.wait))
-    slot_is = slots_there st.waits st'.waits f (Some y) waits ∙ (λ j. Some (mine j, slot_of (wait_is j)))
+    slot_is = slots_there (option_map slot_entry) st.waits st'.waits f (Some y) waits ∙ (λ j. Some (mine j, slot_of (wait_is j)))
 
     named_now : AreNamed (slots_of st'.waits) (i + 1)
     named_now = named-registers (slots_of st.waits) (slots_of st'.waits) n (i + 1) f k.named (omega (arith, less)) others b (slot_of x.wait) e.core.waiting given slot_was slot_is
@@ -114,13 +114,13 @@ module _ (st st' : Store) (n i f : ℕ) (x : BarrierWaitEntry) (e e' : BarrierEn
         ∙ (λ j. record { barriers = insert h.barriers b registering_barrier; waits = insert h.waits f (record { barrier = mine j; round = round_of (wait_is j) }) })
 
   -- ---- it is gone
-  module _ (waits : Sets st.waits st'.waits f None) (fewer : e'.waits ≡ e.waits - 1) (same_wakes : e'.core.wakes ≡ e.core.wakes) (same_size : e'.core.size ≡ e.core.size) (rises : e.core.arrivals ≤ e'.core.arrivals) (most : e'.core.arrivals ≤ e.core.arrivals + 1)
+  module _ (waits : Puts st.waits st'.waits f None) (fewer : e'.waits ≡ e.waits - 1) (same_wakes : e'.core.wakes ≡ e.core.wakes) (same_size : e'.core.size ≡ e.core.size) (rises : e.core.arrivals ≤ e'.core.arrivals) (most : e'.core.arrivals ≤ e.core.arrivals + 1)
       (still : (t : Option Place) → has_given e.core.waiting t ≡ true → has_given e'.core.waiting t ≡ true) where
     others_gone : (g : ℕ) → (f ≡ g → ⊥) → slots_of st'.waits g ≡ slots_of st.waits g
-    others_gone = slots_other st.waits st'.waits f None waits
+    others_gone = slots_other (option_map slot_entry) st.waits st'.waits f None waits
 
     slot_gone : slots_of st'.waits f ≡ None
-    slot_gone = slots_there st.waits st'.waits f None waits
+    slot_gone = slots_there (option_map slot_entry) st.waits st'.waits f None waits
 
     named_gone : AreNamed (slots_of st'.waits) (i + 1)
     named_gone = named-ends (slots_of st.waits) (slots_of st'.waits) n (i + 1) f k.named (omega (arith, less)) others_gone slot_gone

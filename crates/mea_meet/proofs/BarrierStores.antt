@@ -1,10 +1,9 @@
 -- what a look-up among the entries of a `BarrierHall` says of its barriers
-use Rattle.std.proofs.Common.{◌≡◌, ℕ, ◌≤◌, ◌==◌, cond, List, Option, Some, None, IsSome, is_some, nat_lt, refl, ap, sym, subst, ◌∙◌, length, arith}
+use Rattle.std.proofs.Common.{◌≡◌, ℕ, ◌≤◌, ◌==◌, cond, List, Some, None, IsSome, is_some, nat_lt, ap, sym, subst, ◌∙◌, length, arith}
 use Rattle.std.specs.Option.{option_map}
 use Rattle.std.specs.FinMap.{get}
 use Rattle.mea_base.specs.Named.{at}
-use Rattle.mea_base.specs.Totals.{total, weight}
-use Rattle.mea_base.proofs.Totals.{total-alike}
+use Rattle.mea_base.specs.Totals.{total}
 use Rattle.mea_meet_model.specs.Waiting.{wakers}
 use Rattle.mea_meet_model.specs.Barriers.{Barrier, BarrierWait, Barriers, waits_of, registered}
 use Rattle.mea_meet.specs.Play.{Part}
@@ -14,17 +13,13 @@ use Rattle.mea_meet.specs.declared.barriers.BarrierEntry.{BarrierEntry}
 use Rattle.mea_meet.specs.declared.barriers.BarrierWaitEntry.{BarrierWaitEntry}
 use Rattle.mea_meet.specs.declared.barriers.BarrierHall.TheInside.{Inside}
 use Rattle.mea_meet.proofs.Names.{waiting-wakers}
-use Rattle.mea_meet.proofs.Stores.{ChangesAt, kept-at, kept-unchanged, get-seen, seen-none, is_some-map, not_none}
+use Rattle.mea_meet.proofs.Maps.{ChangesAt, kept-at, kept-unchanged, get-seen, seen-none, is_some-map, not_none, total-named, found}
 use Rattle.mea_meet.proofs.BarrierChanges.{at_barrier, barrier_seen, wakers_within}
 use Rattle.mea_meet.proofs.BarrierPlays.{store_in, seen_in, IsKeptIn}
 
 -- ---- how many futures wait at a barrier, seen among those that are kept
 waits_counted : (st : Store) (n b : ℕ) → waits_of (barriers_of st n) b ≡ total (at_barrier b) st.waits
-waits_counted st n b = sym (total-alike (at_barrier b) (λ f (x : BarrierWait). cond (x.barrier == b) 1 0) st.waits (barriers_of st n).waits (λ f. at_each f (get st.waits f) ∙ sym (ap (weight (λ g (x : BarrierWait). cond (x.barrier == b) 1 0) f) (get-seen (λ g y. wait_of y) st.waits f))))
-  where
-    at_each : (f : ℕ) (o : Option BarrierWaitEntry) → weight (at_barrier b) f o ≡ weight (λ g (x : BarrierWait). cond (x.barrier == b) 1 0) f (option_map wait_of o)
-    at_each f None = refl
-    at_each f (Some x) = refl
+waits_counted st n b = total-named (λ f y. wait_of y) (λ f (x : BarrierWait). cond (x.barrier == b) 1 0) st.waits
 
 module _ (a : Inside) (v : Part Barriers) (seen : seen_in a ≡ v) where
   -- a look-up among the entries answers as one in the hall
@@ -51,7 +46,7 @@ module _ (a : Inside) (v : Part Barriers) (seen : seen_in a ≡ v) where
 
     module _ (b : ℕ) (e : BarrierEntry) (is : at a.barriers.entries b ≡ Some e) where
       there : get (store_in a).barriers b ≡ Some e
-      there = kept-at a.barriers.entries b ∙ is
+      there = found a.barriers.entries b e is
 
       pub counts : e.waits ≡ waits_of v.hall b
       counts = (k.each b e there).counted ∙ sym (waits_counted (store_in a) a.next b) ∙ ap (λ (p : Part Barriers). waits_of p.hall b) seen
@@ -81,8 +76,8 @@ module _ (a : Inside) (v : Part Barriers) (seen : seen_in a ≡ v) (f b : ℕ) (
     (bs' : List (ℕ × BarrierEntry)) (ws' : List (ℕ × BarrierWaitEntry)) (puts : ChangesAt a.barriers.entries bs' b (Some e')) (writes : ChangesAt a.waits.entries ws' f (Some y)) (same_e : e' ≡ e) (same_x : y ≡ x) where
   as_it_was : store_of bs' ws' ≡ store_in a
   as_it_was =
-      let barriers = kept-unchanged a.barriers.entries bs' b e there (subst (λ d. ChangesAt a.barriers.entries bs' b (Some d)) same_e puts) in
-      let waits = kept-unchanged a.waits.entries ws' f x is (subst (λ d. ChangesAt a.waits.entries ws' f (Some d)) same_x writes) in
+      let barriers = kept-unchanged a.barriers.entries bs' b e e' there puts same_e in
+      let waits = kept-unchanged a.waits.entries ws' f x y is writes same_x in
       λ j. record { barriers = barriers j; waits = waits j }
 
   pub kept_unchanged : IsKeptIn a → IsKept (store_of bs' ws') a.next

@@ -8,8 +8,7 @@ use Rattle.std.proofs.lemmas.Bool.{cases_Bool}
 use Rattle.std.proofs.lemmas.Bool.Decides.{nat_tests}
 use Rattle.mea_base.specs.Named.{named}
 use Rattle.mea_base.specs.Totals.{total, weight}
-use Rattle.mea_base.proofs.NamedMaps.{same_named}
-use Rattle.mea_base.proofs.Totals.{get_inserted, get_removed, total-insert, total-remove, total-zero, total-alike}
+use Rattle.mea_base.proofs.Totals.{total-insert, total-remove, total-zero}
 use Rattle.mea_sets.specs.declared.place.Place.{Place}
 use Rattle.mea_sets.specs.WaitSet.{has_given}
 use Rattle.mea_meet_model.specs.Count.{Count, count_from}
@@ -18,64 +17,21 @@ use Rattle.mea_meet.specs.Names.{waiting_at, AreNamed, AreGiven}
 use Rattle.mea_meet.specs.GroupHall.{Store, slots_of, count_of, groups_of, IsKeptEntry, IsOwned, IsHome, IsKept, is_used, left, wakers_left}
 use Rattle.mea_meet.specs.declared.groups.GroupEntry.{GroupEntry}
 use Rattle.mea_meet.specs.declared.groups.GroupWaitEntry.{GroupWaitEntry}
-use Rattle.mea_meet.proofs.Names.{waiting-length, waiting-alike}
-use Rattle.mea_meet.proofs.Stores.{at_same, at_apart, by_name, Sets, sets_there, sets_other, total-sets, weight-within, get-seen, seen-some, seen-none, seen_put, seen_gone}
-
--- ---- maps of which one name has changed
-pub sets_none : {X : Type 0} (m : FinMap nat_cmp X) (k : ℕ) → get m k ≡ None → Sets m m k None
-sets_none {X} m k none q = by_name {Z = get m q ≡ cond (k == q) None (get m q)} k q
-    (λ same. ap (get m) (sym same) ∙ none ∙ sym (at_same k q None (get m q) same))
-    (λ apart. sym (at_apart k q None (get m q) apart))
-
-pub sets_put : {X : Type 0} (m m' : FinMap nat_cmp X) (k : ℕ) (v : X) → Sets m m' k (Some v) → m' ≡ insert m k v
-sets_put m m' k v sets = same_named _ _ (λ q. sets q ∙ sym (get_inserted m k q v))
-
-pub sets_gone : {X : Type 0} (m m' : FinMap nat_cmp X) (k : ℕ) → Sets m m' k None → m' ≡ remove m k
-sets_gone m m' k sets = same_named _ _ (λ q. sets q ∙ sym (get_removed m k q))
-
--- what is put and then taken away is gone
-pub remove-insert : {X : Type 0} (m : FinMap nat_cmp X) (k : ℕ) (v : X) → remove (insert m k v) k ≡ remove m k
-remove-insert {X} m k v = same_named _ _ (λ q. get_removed (insert m k v) k q ∙ ap (cond (k == q) None) (get_inserted m k q v) ∙ once (k == q) (get m q) ∙ sym (get_removed m k q))
-  where
-    once : (t : Bool) (o : Option X) → cond t None (cond t (Some v) o) ≡ cond t None o
-    once true o = refl
-    once false o = refl
+use Rattle.mea_meet.proofs.Names.{waiting-length}
+use Rattle.mea_meet.proofs.Maps.{at_same, at_apart, by_name, Puts, put_there, put_other, total_puts_was, weight-within, seen-some, seen-none, seen_put, seen_gone, one_of, one-least, weighs_here, weighs_elsewhere, remove-insert, one_entry, total-named}
+use Rattle.mea_meet.proofs.Slots.{apart_belongs, waiting_beside, given_by}
 
 -- ---- the slots of the futures
 abbrev pub slot_entry : GroupWaitEntry → ℕ × Option Place
 slot_entry x = (x.group, x.wait)
 
--- whose slot it is
-pub slot_owner : (o : Option GroupWaitEntry) (q : ℕ) (slot : Option Place) → option_map slot_entry o ≡ Some (q, slot) → (x : GroupWaitEntry) × (o ≡ Some x) × (x.group ≡ q) × (x.wait ≡ slot)
-slot_owner None q slot is = absurd (cc)
-slot_owner (Some x) q slot is = (x, refl, ap (λ (p : Option (ℕ × Option Place)). object_in x.group p) is, ap (λ (p : Option (ℕ × Option Place)). slot_in None p) is)
-  where
-    object_in : ℕ → Option (ℕ × Option Place) → ℕ
-    object_in n None = n
-    object_in n (Some p) = p.0
-
-    slot_in : Option Place → Option (ℕ × Option Place) → Option Place
-    slot_in t None = t
-    slot_in t (Some p) = p.1
-
-module _ (m m' : FinMap nat_cmp GroupWaitEntry) (f : ℕ) (o' : Option GroupWaitEntry) (sets : Sets m m' f o') where
-  pub slots_there : slots_of m' f ≡ option_map slot_entry o'
-  slots_there = ap (option_map slot_entry) (sets_there m m' f o' sets f refl)
-
-  pub slots_other : (g : ℕ) → (f ≡ g → ⊥) → slots_of m' g ≡ slots_of m g
-  slots_other g apart = ap (option_map slot_entry) (sets_other m m' f o' sets g apart)
-
 pub home_given : (st : Store) (n f g : ℕ) (x : GroupWaitEntry) (e : GroupEntry) → IsKept st n → get st.waits f ≡ Some x → x.group ≡ g → get st.groups g ≡ Some e → has_given e.core.count.waiting x.wait ≡ true
 home_given st n f g x e k is mine there =
     let h = k.home f x is in
-    let both : Some h.entry ≡ Some e = sym h.there ∙ ap (get st.groups) mine ∙ there in
-    let same : h.entry ≡ e = cc in
-    subst (λ (d : GroupEntry). has_given d.core.count.waiting x.wait ≡ true) same h.given
+    subst (λ (d : GroupEntry). has_given d.core.count.waiting x.wait ≡ true) (one_entry st.groups x.group g h.entry e h.there mine there) h.given
 
 pub are_given : (st : Store) (n g : ℕ) (e : GroupEntry) → IsKept st n → get st.groups g ≡ Some e → AreGiven (slots_of st.waits) g e.core.count.waiting
-are_given st n g e k there f slot is =
-    let x = slot_owner (get st.waits f) g slot is in
-    ap (has_given e.core.count.waiting) (sym x.3) ∙ home_given st n f g x.0 e k x.1 x.2 there
+are_given st n g e k there = given_by (λ (x : GroupWaitEntry). x.group) (λ x. x.wait) st.waits g e.core.count.waiting (λ f x is mine. home_given st n f g x e k is mine there)
 
 -- ---- how many handles and futures a group has
 abbrev pub of_group : ℕ → ℕ → ℕ → ℕ
@@ -83,23 +39,6 @@ of_group g k j = cond (j == g) 1 0
 
 abbrev pub at_group : ℕ → ℕ → GroupWaitEntry → ℕ
 at_group g f x = cond (x.group == g) 1 0
-
-abbrev pub one_of : {X : Type 0} → Option X → ℕ
-one_of None = 0
-one_of (Some x) = 1
-
-pub one-least : {X : Type 0} (o : Option X) → one_of o ≤ 1
-one-least None = omega arith
-one-least (Some x) = omega arith
-
-module _ {X : Type 0} (owner : X → ℕ) where
-  weighs_here : (g k : ℕ) (o : Option X) → ((x : X) → o ≡ Some x → owner x ≡ g) → weight (λ k x. cond (owner x == g) 1 0) k o ≡ one_of o
-  weighs_here g k None mine = refl
-  weighs_here g k (Some x) mine = at_same (owner x) g 1 0 (mine x refl)
-
-  weighs_elsewhere : (g q k : ℕ) (o : Option X) → ((x : X) → o ≡ Some x → owner x ≡ g) → (g ≡ q → ⊥) → weight (λ k x. cond (owner x == q) 1 0) k o ≡ 0
-  weighs_elsewhere g q k None mine apart = refl
-  weighs_elsewhere g q k (Some x) mine apart = at_apart (owner x) q 1 0 (λ same. apart (sym (mine x refl) ∙ same))
 
 -- what a group has that may not be there
 abbrev pub handles_in : Option GroupEntry → ℕ
@@ -129,11 +68,11 @@ left_is e d is = by_test (is_used e) is
 -- future f, o before, becomes o'
 pub record Changes (st st' : Store) (n n' g k f : ℕ) (q : Option GroupEntry) (d : GroupEntry) (p p' : Option ℕ) (o o' : Option GroupWaitEntry) : Type 0 where
   pub was : get st.groups g ≡ q
-  pub groups : Sets st.groups st'.groups g (left d)
+  pub groups : Puts st.groups st'.groups g (left d)
   pub handle_was : get st.handles k ≡ p
-  pub handles : Sets st.handles st'.handles k p'
+  pub handles : Puts st.handles st'.handles k p'
   pub wait_was : get st.waits f ≡ o
-  pub waits : Sets st.waits st'.waits f o'
+  pub waits : Puts st.waits st'.waits f o'
   pub rises : n < n'
   pub low : n' ≤ 2 ^ 64
   pub below : g < n'
@@ -169,11 +108,7 @@ module _ (st : Store) (n g : ℕ) (k : IsKept st n) where
 
 -- ---- the futures of a group, as they are seen
 pub waits_seen : (st : Store) (n g : ℕ) → waits_of (groups_of st n) g ≡ total (at_group g) st.waits
-waits_seen st n g = sym (total-alike (at_group g) (of_group g) st.waits (groups_of st n).waits (λ f. at_each f (get st.waits f) ∙ sym (ap (weight (of_group g) f) (get-seen (λ g (y : GroupWaitEntry). y.group) st.waits f))))
-  where
-    at_each : (f : ℕ) (o : Option GroupWaitEntry) → weight (at_group g) f o ≡ weight (of_group g) f (option_map (λ (y : GroupWaitEntry). y.group) o)
-    at_each f None = refl
-    at_each f (Some x) = refl
+waits_seen st n g = total-named (λ f (y : GroupWaitEntry). y.group) (of_group g) st.waits
 
 -- how many wakers of a group are registered, as they are seen
 pub wakers_seen : (st : Store) (n g : ℕ) (q : Option GroupEntry) → get st.groups g ≡ q → weight (λ j (c : Count). length c.waiting) g (get (groups_of st n).groups g) ≡ wakers_in q
@@ -182,27 +117,27 @@ wakers_seen st n g (Some e) there = ap (weight (λ j (c : Count). length c.waiti
 
 module _ (st st' : Store) (n n' g k f : ℕ) (q : Option GroupEntry) (d : GroupEntry) (p p' : Option ℕ) (o o' : Option GroupWaitEntry) (kept : IsKept st n) (c : Changes st st' n n' g k f q d p p' o o') where
   group_other : (j : ℕ) → (g ≡ j → ⊥) → get st'.groups j ≡ get st.groups j
-  group_other = sets_other st.groups st'.groups g (left d) c.groups
+  group_other = put_other st.groups st'.groups g (left d) c.groups
 
   group_there : (j : ℕ) → g ≡ j → get st'.groups j ≡ left d
-  group_there = sets_there st.groups st'.groups g (left d) c.groups
+  group_there = put_there st.groups st'.groups g (left d) c.groups
 
   handle_other : (j : ℕ) → (k ≡ j → ⊥) → get st'.handles j ≡ get st.handles j
-  handle_other = sets_other st.handles st'.handles k p' c.handles
+  handle_other = put_other st.handles st'.handles k p' c.handles
 
   handle_there : (j : ℕ) → k ≡ j → get st'.handles j ≡ p'
-  handle_there = sets_there st.handles st'.handles k p' c.handles
+  handle_there = put_there st.handles st'.handles k p' c.handles
 
   wait_other : (j : ℕ) → (f ≡ j → ⊥) → get st'.waits j ≡ get st.waits j
-  wait_other = sets_other st.waits st'.waits f o' c.waits
+  wait_other = put_other st.waits st'.waits f o' c.waits
 
   wait_there : (j : ℕ) → f ≡ j → get st'.waits j ≡ o'
-  wait_there = sets_there st.waits st'.waits f o' c.waits
+  wait_there = put_there st.waits st'.waits f o' c.waits
 
   -- ---- what is kept
   handles_now : d.handles ≡ total (of_group g) st'.handles
   handles_now =
-      let sums = total-sets st.handles st'.handles k p' c.handles (of_group g) p c.handle_was in
+      let sums = total_puts_was st.handles st'.handles k (of_group g) p' p c.handles c.handle_was in
       let was = weighs_here (λ j. j) g k p c.handle_was_of in
       let is = weighs_here (λ j. j) g k p' c.handle_is_of in
       let before = handles_before st n g kept q c.was in
@@ -211,7 +146,7 @@ module _ (st st' : Store) (n n' g k f : ℕ) (q : Option GroupEntry) (d : GroupE
 
   waits_now : d.waits ≡ total (at_group g) st'.waits
   waits_now =
-      let sums = total-sets st.waits st'.waits f o' c.waits (at_group g) o c.wait_was in
+      let sums = total_puts_was st.waits st'.waits f (at_group g) o' o c.waits c.wait_was in
       let was = weighs_here (λ (x : GroupWaitEntry). x.group) g f o c.wait_was_of in
       let is = weighs_here (λ (x : GroupWaitEntry). x.group) g f o' c.wait_is_of in
       let before = waits_before st n g kept q c.was in
@@ -233,14 +168,14 @@ module _ (st st' : Store) (n n' g k f : ℕ) (q : Option GroupEntry) (d : GroupE
     quiet = old.quiet;
     known = old.known;
     handles_counted = (let before = old.handles_counted in
-        let sums = total-sets st.handles st'.handles k p' c.handles (of_group j) p c.handle_was in
-        let was = weighs_elsewhere (λ u. u) g j k p c.handle_was_of apart in
-        let is = weighs_elsewhere (λ u. u) g j k p' c.handle_is_of apart in
+        let sums = total_puts_was st.handles st'.handles k (of_group j) p' p c.handles c.handle_was in
+        let was = weighs_elsewhere (λ u. u) (λ x. 1) g j k p c.handle_was_of apart in
+        let is = weighs_elsewhere (λ u. u) (λ x. 1) g j k p' c.handle_is_of apart in
         omega (arith, before, sums, was, is));
     waits_counted = (let before = old.waits_counted in
-        let sums = total-sets st.waits st'.waits f o' c.waits (at_group j) o c.wait_was in
-        let was = weighs_elsewhere (λ (x : GroupWaitEntry). x.group) g j f o c.wait_was_of apart in
-        let is = weighs_elsewhere (λ (x : GroupWaitEntry). x.group) g j f o' c.wait_is_of apart in
+        let sums = total_puts_was st.waits st'.waits f (at_group j) o' o c.waits c.wait_was in
+        let was = weighs_elsewhere (λ (x : GroupWaitEntry). x.group) (λ x. 1) g j f o c.wait_was_of apart in
+        let is = weighs_elsewhere (λ (x : GroupWaitEntry). x.group) (λ x. 1) g j f o' c.wait_is_of apart in
         omega (arith, before, sums, was, is));
     few_waits = (let before = old.few_waits in let later = c.rises in omega (arith, before, later));
     below = (let before = old.below in let later = c.rises in omega (arith, before, later));
@@ -279,19 +214,11 @@ module _ (st st' : Store) (n n' g k f : ℕ) (q : Option GroupEntry) (d : GroupE
   kept_after = record { each = each_after; owned = owned_after; home = home_after; named = c.named; low = c.low }
 
   -- ---- the groups that are stood for
-  slot_stays : (j u : ℕ) (place : Place) → (g ≡ j → ⊥) → slots_of st.waits u ≡ Some (j, Some place) → slots_of st'.waits u ≡ Some (j, Some place)
-  slot_stays j u place apart is = by_name f u
-      (λ same. let x = slot_owner (get st.waits u) j (Some place) is in absurd (apart (sym (c.wait_was_of x.0 (sym c.wait_was ∙ ap (get st.waits) same ∙ x.1)) ∙ x.2)))
-      (λ other. slots_other st.waits st'.waits f o' c.waits u other ∙ is)
-
-  slot_stood : (j u : ℕ) (place : Place) → (g ≡ j → ⊥) → slots_of st'.waits u ≡ Some (j, Some place) → slots_of st.waits u ≡ Some (j, Some place)
-  slot_stood j u place apart is = by_name f u
-      (λ same. let x = slot_owner (get st'.waits u) j (Some place) is in absurd (apart (sym (c.wait_is_of x.0 (sym (wait_there u same) ∙ x.1)) ∙ x.2)))
-      (λ other. sym (slots_other st.waits st'.waits f o' c.waits u other) ∙ is)
-
   count_alike : (j : ℕ) (e : GroupEntry) → (g ≡ j → ⊥) → get st.groups j ≡ Some e → count_of st'.waits n' j e ≡ count_of st.waits n j e
   count_alike j e apart is =
-      let same = waiting-alike (slots_of st.waits) (slots_of st'.waits) n n' j e.core.count.waiting kept.named c.named (λ u place. slot_stays j u place apart) (λ u place. slot_stood j u place apart) in
+      let same = waiting_beside (option_map slot_entry) st.waits st'.waits f o' c.waits n n' kept.named c.named j e.core.count.waiting
+      (apart_belongs (λ (x : GroupWaitEntry). x.group) (λ x. x.wait) (get st.waits f) g j (λ x here. c.wait_was_of x (sym c.wait_was ∙ here)) apart)
+      (apart_belongs (λ (x : GroupWaitEntry). x.group) (λ x. x.wait) o' g j c.wait_is_of apart) in
       λ i. record { number = e.core.count.number; waiting = same i }
 
   abbrev h : Groups

@@ -1,5 +1,5 @@
 -- what the methods of a `GroupHall` keep, and their outcomes as the contracts say them
-use Rattle.std.proofs.Common.{◌≡◌, ℕ, ◌+◌, ◌-◌, ◌^◌, ◌<◌, ◌≤◌, ◌++◌, ◌==◌, Bool, true, false, cond, List, [], length, Option, Some, None, refl, ap, sym, subst, ◌∙◌, arith, append-nil, if◌then◌else◌}
+use Rattle.std.proofs.Common.{◌≡◌, ℕ, ◌+◌, ◌-◌, ◌^◌, ◌<◌, ◌≤◌, ◌++◌, ◌==◌, Bool, true, false, cond, List, [], length, Option, Some, None, refl, ap, sym, subst, ◌∙◌, arith, append-nil, if◌then◌else◌, inl, inr}
 use Rattle.std.specs.Option.{option_map, IfSome}
 use Rattle.std.specs.Ordering.{nat_cmp}
 use Rattle.std.specs.BTreeMap.{is_at}
@@ -11,35 +11,34 @@ use Rattle.mea_base.specs.Family.{Outcome, quietly}
 use Rattle.mea_base.specs.Named.{named, at}
 use Rattle.mea_base.specs.Ready.{Waking}
 use Rattle.mea_base.proofs.NamedMaps.{same_named}
-use Rattle.mea_sets.specs.declared.place.Place.{Place}
 use Rattle.mea_sets.specs.Countdown as cores
 use Rattle.mea_sets.specs.Countdown.{Counting, decreased, ends, woken_by}
-use Rattle.mea_sets.specs.WaitSet.{Registered, has_given, with_waker, slot_after, drained}
+use Rattle.mea_sets.specs.WaitSet.{Registered, has_given, with_waker, slot_after}
 use Rattle.mea_meet_core.specs.Count.{increased}
-use Rattle.mea_meet_model.specs.Waiting.{wakers}
 use Rattle.mea_meet_model.specs.Count as counts
 use Rattle.mea_meet_model.specs.Count.{Count}
 use Rattle.mea_meet_model.specs.Groups as model
 use Rattle.mea_meet_model.specs.Groups.{Groups, group_at, tidied, registered}
-use Rattle.mea_meet.specs.Names.{Slots, waiting_at, AreNamed, AreGiven}
-use Rattle.mea_meet.specs.Play.{Part, Yields, Rests}
+use Rattle.mea_meet.specs.Names.{waiting_at, AreNamed, AreGiven}
+use Rattle.mea_meet.specs.Play.{Part}
 use Rattle.mea_meet.specs.GroupHall.{Store, store_of, slots_of, count_of, groups_of, IsKept, left, left_at, is_used, wakers_left, Registers}
 use Rattle.mea_meet.specs.declared.groups.GroupEntry.{GroupEntry}
 use Rattle.mea_meet.specs.declared.groups.GroupWaitEntry.{GroupWaitEntry}
 use Rattle.mea_meet.specs.declared.groups.GroupHall.TheInside.{Inside}
-use Rattle.mea_meet.proofs.Names.{waiting-wakers, waiting-alike, waiting-registers, waiting-ends, named-later, named-new, named-registers, named-ends, given-drained, given-registers}
-use Rattle.mea_meet.proofs.Stores.{ChangesAt, Sets, sets_there, by_name, kept-at, kept-changed, changes_twice, insert_same, seen-some, seen_put, seen_gone}
-use Rattle.mea_meet.proofs.GroupChanges.{Changes, slot_entry, slot_owner, slots_there, slots_other, sets_none, sets_put, sets_gone, are_given, used_left, kept_after, hall_used, hall_tidied, registered_after, group_seen, waits_within, handles_within}
+use Rattle.mea_meet.proofs.Names.{waiting-registers, waiting-ends, named-later, named-new, named-registers, named-ends, given-registers}
+use Rattle.mea_meet.proofs.Maps.{ChangesAt, Puts, by_name, kept-at, kept-puts, changes_twice, insert_same, seen-some, seen_put, seen_gone, puts_same, is_insert, is_remove, none_if, changed_at, some_if, if_some, found}
+use Rattle.mea_meet.proofs.GroupChanges.{Changes, slot_entry, are_given, used_left, kept_after, hall_used, hall_tidied, registered_after, group_seen, waits_within, handles_within}
+use Rattle.mea_meet.proofs.Slots.{slot_owner, slots_there, slots_other, IsApart, apart_unplaced, waiting_beside, given_beside, waiting_later}
+use Rattle.mea_meet.proofs.Counts.{decreased-seen, woken-seen, given-decreased, woken-all}
+use Rattle.mea_meet.proofs.Plays.{rests_by, yields_by, RestedIn, PlayedIn}
 
--- event i had this outcome, which touches no waker: what is kept now, and what the contract says
-pub record Rested (v : Part Groups) (i : ℕ) (o : Outcome Groups) (answer : Answer) (st' : Store) : Type 0 where
-  pub kept : IsKept st' (i + 1)
-  pub rests : Rests registered v i o answer (record { hall = groups_of st' (i + 1); next = i + 1 })
+-- event i had this outcome, which touches no waker
+abbrev pub Rested : Part Groups → ℕ → Outcome Groups → Answer → Store → Type 0
+Rested v i o answer st = RestedIn registered IsKept groups_of v i o answer st
 
 -- the same of an outcome that may touch wakers
-pub record Played (v : Part Groups) (i : ℕ) (o : Outcome Groups) (answer : Answer) (st' : Store) (before after : Waking ℕ) : Type 0 where
-  pub kept : IsKept st' (i + 1)
-  pub yields : Yields registered v i o answer (record { hall = groups_of st' (i + 1); next = i + 1 }) before after
+abbrev pub Played : Part Groups → ℕ → Outcome Groups → Answer → Store → Waking ℕ → Waking ℕ → Type 0
+Played v i o answer st before after = PlayedIn registered IsKept groups_of v i o answer st before after
 
 abbrev pub store_in : Inside → Store
 store_in a = store_of a.groups.entries a.handles.entries a.waits.entries
@@ -54,23 +53,6 @@ IsKeptIn a = IsKept (store_in a) a.next
 abbrev pub leaving : GroupEntry → ℕ → GroupEntry
 leaving e m = record { core = record e.core { count = decreased e.core.count 1 }; handles = e.handles - 1; waits = m }
 
-leaves-list : (slots slots' : Slots) (n n' g : ℕ) (s : Registered ℕ) (t : Bool) → waiting_at slots' n' g s ≡ waiting_at slots n g s → waiting_at slots' n' g (if t then drained s else s) ≡ (if t then [] else waiting_at slots n g s)
-leaves-list slots slots' n n' g s true same = refl
-leaves-list slots slots' n n' g s false same = same
-
-leaves-given : (slots : Slots) (g : ℕ) (s : Registered ℕ) (t : Bool) → AreGiven slots g s → AreGiven slots g (if t then drained s else s)
-leaves-given slots g s true given f slot is = given-drained s slot (given f slot is)
-leaves-given slots g s false given f slot is = given f slot is
-
-leaves-woken : (slots : Slots) (n g : ℕ) (s : Registered ℕ) (t : Bool) → (if t then s.wakers else []) ≡ (if t then wakers (waiting_at slots n g s) else [])
-leaves-woken slots n g s true = sym (waiting-wakers slots n g s)
-leaves-woken slots n g s false = refl
-
--- the wakers that leave and those that stay are those that there were
-leaves-counted : (s : Registered ℕ) (t : Bool) → length (if t then s.wakers else []) + length (if t then drained s else s).wakers ≡ length s.wakers
-leaves-counted s true = omega arith
-leaves-counted s false = omega arith
-
 wakers_used : (e : GroupEntry) → 0 < e.handles + e.waits → wakers_left e ≡ length e.core.count.waiting.wakers
 wakers_used e some = by_test (is_used e) (used_left e some)
   where
@@ -81,16 +63,16 @@ wakers_used e some = by_test (is_used e) (used_left e some)
 -- ---- a group is written, and then tidied
 module _ (old mid : List (ℕ × GroupEntry)) (g : ℕ) (d : GroupEntry) (writes : ChangesAt old mid g (Some d)) where
   written : at mid g ≡ Some d
-  written = sym (kept-at mid g) ∙ sets_there (named (λ (k : ℕ) (x : GroupEntry). x) old) (named (λ k x. x) mid) g (Some d) (kept-changed old mid g (Some d) writes) g refl
+  written = changed_at old mid g (Some d) writes
 
   pub tidied_at : (new : List (ℕ × GroupEntry)) → ((q : ℕ) → at new q ≡ cond (is_at (nat_cmp g) q) (left_at (at mid g)) (at mid q)) → ChangesAt old new g (left d)
   tidied_at new tidies = changes_twice old mid new g (Some d) (left d) writes (λ q. tidies q ∙ ap (λ o. cond (is_at (nat_cmp g) q) (left_at o) (at mid q)) written)
 
   pub tidied_if : (P : GroupEntry → Type 0) → IfSome (at mid g) P → P d
-  tidied_if P is = subst (λ o. IfSome o P) written is
+  tidied_if P is = some_if P (at mid g) d written is
 
   pub if_tidied : (P : GroupEntry → Type 0) → P d → IfSome (at mid g) P
-  if_tidied P is = subst (λ o. IfSome o P) (sym written) is
+  if_tidied P is = if_some P (at mid g) d written is
 
 module _ (a : Inside) (v : Part Groups) (i : ℕ) (seen : seen_in a ≡ v) (k : IsKeptIn a) (least : v.next ≤ i) (low : i < 2 ^ 64) where
   abbrev st : Store
@@ -107,64 +89,36 @@ module _ (a : Inside) (v : Part Groups) (i : ℕ) (seen : seen_in a ≡ v) (k : 
 
   -- ---- names that were not given yet
   no_group : get st.groups i ≡ None
-  no_group = by_value (get st.groups i) refl
-    where
-      by_value : (o : Option GroupEntry) → get st.groups i ≡ o → o ≡ None
-      by_value None is = refl
-      by_value (Some e) is = absurd (let small = (k.each i e is).below in omega (arith, small, less))
+  no_group = none_if (get st.groups i) (λ e is. let small = (k.each i e is).below in omega (arith, small, less))
 
   no_handle : get st.handles i ≡ None
-  no_handle = by_value (get st.handles i) refl
-    where
-      by_value : (o : Option ℕ) → get st.handles i ≡ o → o ≡ None
-      by_value None is = refl
-      by_value (Some g) is = absurd (let small = (k.owned i g is).below in omega (arith, small, less))
+  no_handle = none_if (get st.handles i) (λ g is. let small = (k.owned i g is).below in omega (arith, small, less))
 
   no_wait : get st.waits i ≡ None
-  no_wait = by_value (get st.waits i) refl
-    where
-      by_value : (o : Option GroupWaitEntry) → get st.waits i ≡ o → o ≡ None
-      by_value None is = refl
-      by_value (Some x) is = absurd (let small = k.named.below i (slot_entry x) (ap (option_map slot_entry) is) in omega (arith, small, less))
+  no_wait = none_if (get st.waits i) (λ x is. let small = k.named.below i (slot_entry x) (ap (option_map slot_entry) is) in omega (arith, small, less))
 
-  same_handles : Sets st.handles st.handles i None
-  same_handles = sets_none st.handles i no_handle
+  same_handles : Puts st.handles st.handles i None
+  same_handles = puts_same st.handles i None no_handle
 
-  same_waits : Sets st.waits st.waits i None
-  same_waits = sets_none st.waits i no_wait
+  same_waits : Puts st.waits st.waits i None
+  same_waits = puts_same st.waits i None no_wait
 
   -- ---- what the contracts say, by the outcome
   rested : (out : Groups → Outcome Groups) (o : Outcome Groups) (answer : Answer) (st' : Store) → out h ≡ o → IsKept st' (i + 1) → groups_of st' (i + 1) ≡ o.hall → answer ≡ o.reply → o.wakes ≡ []
       → registered (groups_of st' (i + 1)) ≡ registered h → Rested v i (out v.hall) answer st'
-  rested out o answer st' chosen kept hall_is replied silent counted = record {
-    kept = kept;
-    rests = subst (λ (p : Part Groups). Rests registered p i (out p.hall) answer (record { hall = groups_of st' (i + 1); next = i + 1 })) seen
-        (subst (λ u. Rests registered (seen_in a) i u answer (record { hall = groups_of st' (i + 1); next = i + 1 })) (sym chosen) (record {
-          replied = replied;
-          moved = λ j. record { hall = hall_is j; next = i + 1 };
-          silent = silent;
-          counted = sym (ap registered hall_is) ∙ counted;
-        }));
-  }
+  rested out o answer st' chosen kept hall_is replied silent counted =
+      record { kept = kept; rests = rests_by registered (seen_in a) v i seen out o answer (groups_of st' (i + 1)) chosen hall_is replied silent counted }
 
   played : (out : Groups → Outcome Groups) (o : Outcome Groups) (answer : Answer) (st' : Store) (before after : Waking ℕ) → out h ≡ o → IsKept st' (i + 1) → groups_of st' (i + 1) ≡ o.hall → answer ≡ o.reply
       → after.wakers ≡ before.wakers ++ o.wakes → after.registered + registered h ≡ before.registered + registered (groups_of st' (i + 1)) → Played v i (out v.hall) answer st' before after
-  played out o answer st' before after chosen kept hall_is replied woken counted = record {
-    kept = kept;
-    yields = subst (λ (p : Part Groups). Yields registered p i (out p.hall) answer (record { hall = groups_of st' (i + 1); next = i + 1 }) before after) seen
-        (subst (λ u. Yields registered (seen_in a) i u answer (record { hall = groups_of st' (i + 1); next = i + 1 }) before after) (sym chosen) (record {
-          replied = replied;
-          moved = λ j. record { hall = hall_is j; next = i + 1 };
-          woken = woken;
-          counted = counted ∙ ap (λ u. before.registered + registered u) hall_is;
-        }));
-  }
+  played out o answer st' before after chosen kept hall_is replied woken counted =
+      record { kept = kept; yields = yields_by registered (seen_in a) v i seen out o answer (groups_of st' (i + 1)) chosen hall_is replied before after woken counted }
 
   -- ---- a handle is made, and undone where there is no memory for its group
   module _ (gs' : List (ℕ × GroupEntry)) (hs' : List (ℕ × ℕ)) (same : gs' ≡ a.groups.entries) (undoes : ChangesAt a.handles.entries hs' i None) where
     undone : store_of gs' hs' a.waits.entries ≡ st
     undone =
-        let handles : (store_of gs' hs' a.waits.entries).handles ≡ st.handles = same_named _ _ (λ q. kept-changed a.handles.entries hs' i None undoes q ∙ sym (same_handles q)) in
+        let handles : (store_of gs' hs' a.waits.entries).handles ≡ st.handles = same_named _ _ (λ q. kept-puts a.handles.entries hs' i None undoes q ∙ sym (same_handles q)) in
         λ j. record { groups = named (λ q e. e) (same j); handles = handles j; waits = st.waits }
 
     pub kept_undone : IsKept (store_of gs' hs' a.waits.entries) n
@@ -178,7 +132,7 @@ module _ (a : Inside) (v : Part Groups) (i : ℕ) (seen : seen_in a ≡ v) (k : 
   named_same = named-later (slots_of st.waits) n (i + 1) k.named (omega (arith, less))
 
   list_same : (g : ℕ) (s : Registered ℕ) → waiting_at (slots_of st.waits) (i + 1) g s ≡ waiting_at (slots_of st.waits) n g s
-  list_same g s = waiting-alike (slots_of st.waits) (slots_of st.waits) n (i + 1) g s k.named named_same (λ f place is. is) (λ f place is. is)
+  list_same g s = waiting_later (slots_of st.waits) n (i + 1) g s k.named (omega (arith, less))
 
   -- ---- a group is made, with its handle
   abbrev fresh_core : Counting ℕ
@@ -191,13 +145,13 @@ module _ (a : Inside) (v : Part Groups) (i : ℕ) (seen : seen_in a ≡ v) (k : 
     abbrev st_made : Store
     st_made = store_of gs' hs' a.waits.entries
 
-    handles_made : Sets st.handles st_made.handles i (Some i)
-    handles_made = kept-changed a.handles.entries hs' i (Some i) adds
+    handles_made : Puts st.handles st_made.handles i (Some i)
+    handles_made = kept-puts a.handles.entries hs' i (Some i) adds
 
     change_made : Changes st st_made n (i + 1) i i i None fresh None (Some i) None None
     change_made = record {
       was = no_group;
-      groups = kept-changed a.groups.entries gs' i (Some fresh) (subst (λ (u : Counting ℕ). ChangesAt a.groups.entries gs' i (Some (record { core = u; handles = 1; waits = 0 }))) is puts);
+      groups = kept-puts a.groups.entries gs' i (Some fresh) (subst (λ (u : Counting ℕ). ChangesAt a.groups.entries gs' i (Some (record { core = u; handles = 1; waits = 0 }))) is puts);
       handle_was = no_handle;
       handles = handles_made;
       wait_was = no_wait;
@@ -211,7 +165,7 @@ module _ (a : Inside) (v : Part Groups) (i : ℕ) (seen : seen_in a ≡ v) (k : 
       wait_was_of = λ x same. absurd (cc);
       wait_is_of = λ x same. absurd (cc);
       named = named_same;
-      given = λ f slot there. (let x = slot_owner (get st.waits f) i slot there in let home = k.home f x.0 x.1 in absurd (let clash : None ≡ Some home.entry = sym no_group ∙ ap (get st.groups) (sym x.2) ∙ home.there in cc));
+      given = λ f slot there. (let x = slot_owner (λ (x : GroupWaitEntry). x.group) (λ x. x.wait) (get st.waits f) i slot there in let home = k.home f x.0 x.1 in absurd (let clash : None ≡ Some home.entry = sym no_group ∙ ap (get st.groups) (sym x.2) ∙ home.there in cc));
       quiet = refl;
       known = refl;
       handles_counted = refl;
@@ -222,13 +176,13 @@ module _ (a : Inside) (v : Part Groups) (i : ℕ) (seen : seen_in a ≡ v) (k : 
     makes =
         let counted = registered_after st st_made n (i + 1) i i i None fresh None (Some i) None None k change_made in
         rested (λ u. model.make u i) (model.make h i) answers.Made st_made refl (kept_after st st_made n (i + 1) i i i None fresh None (Some i) None None k change_made)
-        (hall_used st st_made n (i + 1) i i i None fresh None (Some i) None None k change_made (counts.count_from 1) (insert h.handles i i) h.waits refl (sets_put st.handles st_made.handles i i handles_made) refl (omega arith))
+        (hall_used st st_made n (i + 1) i i i None fresh None (Some i) None None k change_made (counts.count_from 1) (insert h.handles i i) h.waits refl (is_insert st.handles st_made.handles i i handles_made) refl (omega arith))
         refl refl (omega (arith, counted))
 
   -- ---- a group that is there
   module _ (g : ℕ) (e : GroupEntry) (there : at a.groups.entries g ≡ Some e) where
     entry_there : get st.groups g ≡ Some e
-    entry_there = kept-at a.groups.entries g ∙ there
+    entry_there = found a.groups.entries g e there
 
     pub known : e.handles ≡ e.core.count.number
     known = (k.each g e entry_there).known
@@ -258,54 +212,38 @@ module _ (a : Inside) (v : Part Groups) (i : ℕ) (seen : seen_in a ≡ v) (k : 
     pub left_room : (d : GroupEntry) (m before middle : ℕ) → d ≡ leaving e m → length s.wakers ≤ before → middle + length (woken_by e.core.count 1) ≡ before → length d.core.count.waiting.wakers ≤ middle
     left_room d m before middle is fits first =
         let same : length d.core.count.waiting.wakers ≡ length (leaving e m).core.count.waiting.wakers = ap (λ (u : GroupEntry). length u.core.count.waiting.wakers) is in
-        let all : length (woken_by e.core.count 1) + length (leaving e m).core.count.waiting.wakers ≡ length s.wakers = leaves-counted s (ends e.core.count 1) in
+        let all : length (leaving e m).core.count.waiting.wakers + length (woken_by e.core.count 1) ≡ length s.wakers = woken-all e.core.count 1 in
         omega (arith, same, all, fits, first)
 
     -- a used group is written
-    used : (gs' : List (ℕ × GroupEntry)) (d : GroupEntry) → ChangesAt a.groups.entries gs' g (Some d) → 0 < d.handles + d.waits → Sets st.groups (named (λ (k : ℕ) (x : GroupEntry). x) gs') g (left d)
-    used gs' d puts some = subst (λ o. Sets st.groups (named (λ (k : ℕ) (x : GroupEntry). x) gs') g o) (sym (used_left d some)) (kept-changed a.groups.entries gs' g (Some d) puts)
+    used : (gs' : List (ℕ × GroupEntry)) (d : GroupEntry) → ChangesAt a.groups.entries gs' g (Some d) → 0 < d.handles + d.waits → Puts st.groups (named (λ (k : ℕ) (x : GroupEntry). x) gs') g (left d)
+    used gs' d puts some = subst (λ o. Puts st.groups (named (λ (k : ℕ) (x : GroupEntry). x) gs') g o) (sym (used_left d some)) (kept-puts a.groups.entries gs' g (Some d) puts)
 
     -- ---- a future is made
     module _ (ws' : List (ℕ × GroupWaitEntry)) (x : GroupWaitEntry) (adds : ChangesAt a.waits.entries ws' i (Some x)) (mine : x.group ≡ g) (new : x.wait ≡ None) where
       abbrev waits_now : FinMap nat_cmp GroupWaitEntry
       waits_now = named (λ f x. x) ws'
 
-      waits_new : Sets st.waits waits_now i (Some x)
-      waits_new = kept-changed a.waits.entries ws' i (Some x) adds
+      waits_new : Puts st.waits waits_now i (Some x)
+      waits_new = kept-puts a.waits.entries ws' i (Some x) adds
 
       slot_new : slots_of waits_now i ≡ Some (g, None)
-      slot_new = slots_there st.waits waits_now i (Some x) waits_new ∙ (λ j. Some (mine j, new j))
+      slot_new = slots_there (option_map slot_entry) st.waits waits_now i (Some x) waits_new ∙ (λ j. Some (mine j, new j))
 
       others_new : (f : ℕ) → (i ≡ f → ⊥) → slots_of waits_now f ≡ slots_of st.waits f
-      others_new = slots_other st.waits waits_now i (Some x) waits_new
+      others_new = slots_other (option_map slot_entry) st.waits waits_now i (Some x) waits_new
 
       named_more : AreNamed (slots_of waits_now) (i + 1)
       named_more = named-new (slots_of st.waits) (slots_of waits_now) n (i + 1) i k.named (omega (arith, less)) others_new g (omega arith) slot_new
 
-      slot_stays : (f : ℕ) (place : Place) → slots_of st.waits f ≡ Some (g, Some place) → slots_of waits_now f ≡ Some (g, Some place)
-      slot_stays f place is = by_name i f
-          (λ same. absurd (let clash : None ≡ Some (g, Some place) = sym (ap (option_map slot_entry) no_wait) ∙ ap (slots_of st.waits) same ∙ is in cc))
-          (λ apart. others_new f apart ∙ is)
-
-      slot_stood : (f : ℕ) (place : Place) → slots_of waits_now f ≡ Some (g, Some place) → slots_of st.waits f ≡ Some (g, Some place)
-      slot_stood f place is = by_name i f
-          (λ same. absurd (let z = slot_owner (get waits_now f) g (Some place) is in
-          let one : Some x ≡ Some z.0 = sym (sets_there st.waits waits_now i (Some x) waits_new f same) ∙ z.1 in
-          let it : x ≡ z.0 = cc in
-          let clash : None ≡ Some place = sym new ∙ ap (λ (u : GroupWaitEntry). u.wait) it ∙ z.3 in cc))
-          (λ apart. sym (others_new f apart) ∙ is)
+      unplaced_new : IsApart g (option_map slot_entry (Some x))
+      unplaced_new = apart_unplaced g (option_map slot_entry (Some x)) (inr (g, λ j. Some (mine j, new j)))
 
       list_more : waiting_at (slots_of waits_now) (i + 1) g s ≡ waiting_at (slots_of st.waits) n g s
-      list_more = waiting-alike (slots_of st.waits) (slots_of waits_now) n (i + 1) g s k.named named_more slot_stays slot_stood
+      list_more = waiting_beside (option_map slot_entry) st.waits waits_now i (Some x) waits_new n (i + 1) k.named named_more g s (apart_unplaced g (slots_of st.waits i) (inl (ap (option_map slot_entry) no_wait))) unplaced_new
 
       given_more : AreGiven (slots_of waits_now) g s
-      given_more f slot is = by_name i f
-          (λ same. let z = slot_owner (get waits_now f) g slot is in
-          let one : Some x ≡ Some z.0 = sym (sets_there st.waits waits_now i (Some x) waits_new f same) ∙ z.1 in
-          let it : x ≡ z.0 = cc in
-          let none : None ≡ slot = sym new ∙ ap (λ (u : GroupWaitEntry). u.wait) it ∙ z.3 in
-          subst (λ u. has_given s u ≡ true) none refl)
-          (λ apart. given f slot (sym (others_new f apart) ∙ is))
+      given_more = given_beside (option_map slot_entry) st.waits waits_now i (Some x) waits_new g s unplaced_new given
 
       its_group : (z : GroupWaitEntry) → Some x ≡ Some z → z.group ≡ g
       its_group z same = let one : x ≡ z = cc in ap (λ (u : GroupWaitEntry). u.group) (sym one) ∙ mine
@@ -381,8 +319,8 @@ module _ (a : Inside) (v : Part Groups) (i : ℕ) (seen : seen_in a ≡ v) (k : 
         abbrev cloned_entry : GroupEntry
         cloned_entry = record e { core = record e.core { count = increased e.core.count }; handles = e.handles + 1 }
 
-        handles_cloned : Sets st.handles st_cloned.handles i (Some g)
-        handles_cloned = kept-changed a.handles.entries hs' i (Some g) adds
+        handles_cloned : Puts st.handles st_cloned.handles i (Some g)
+        handles_cloned = kept-puts a.handles.entries hs' i (Some g) adds
 
         change_cloned : Changes st st_cloned n (i + 1) g i i (Some e) cloned_entry None (Some g) None None
         change_cloned = record {
@@ -415,7 +353,7 @@ module _ (a : Inside) (v : Part Groups) (i : ℕ) (seen : seen_in a ≡ v) (k : 
             rested (λ u. model.clone_of u i (get u.handles m)) (quietly (record h { groups = insert h.groups g (counts.increased c); handles = insert h.handles i g }) answers.Made) answers.Made st_cloned
             (ap (model.clone_of h i) handle_there ∙ ap (λ r. quietly (record h { groups = insert h.groups g (counts.increased r); handles = insert h.handles i g }) answers.Made) at_g)
             (kept_after st st_cloned n (i + 1) g i i (Some e) cloned_entry None (Some g) None None k change_cloned)
-            (hall_used st st_cloned n (i + 1) g i i (Some e) cloned_entry None (Some g) None None k change_cloned (counts.increased c) (insert h.handles i g) h.waits (λ j. record { number = e.core.count.number + 1; waiting = list_same g s j }) (sets_put st.handles st_cloned.handles i g handles_cloned) refl (omega arith))
+            (hall_used st st_cloned n (i + 1) g i i (Some e) cloned_entry None (Some g) None None k change_cloned (counts.increased c) (insert h.handles i g) h.waits (λ j. record { number = e.core.count.number + 1; waiting = list_same g s j }) (is_insert st.handles st_cloned.handles i g handles_cloned) refl (omega arith))
             refl refl (omega (arith, counted, wakers_same))
 
       -- it ends
@@ -423,17 +361,14 @@ module _ (a : Inside) (v : Part Groups) (i : ℕ) (seen : seen_in a ≡ v) (k : 
         abbrev handles_now : FinMap nat_cmp ℕ
         handles_now = named (λ j p. p) hs'
 
-        handles_fewer : Sets st.handles handles_now m None
-        handles_fewer = kept-changed a.handles.entries hs' m None gone
+        handles_fewer : Puts st.handles handles_now m None
+        handles_fewer = kept-puts a.handles.entries hs' m None gone
 
         handles_are : handles_now ≡ remove h.handles m
-        handles_are = sets_gone st.handles handles_now m handles_fewer
-
-        abbrev over : Bool
-        over = ends e.core.count 1
+        handles_are = is_remove st.handles handles_now m handles_fewer
 
         woken_seen : woken_by e.core.count 1 ≡ counts.woken_by c 1
-        woken_seen = leaves-woken (slots_of st.waits) n g s over
+        woken_seen = sym (woken-seen (slots_of st.waits) n g e.core.count 1)
 
         module _ (gs' : List (ℕ × GroupEntry)) (d : GroupEntry) (is : d ≡ leaving e e.waits) (puts : ChangesAt a.groups.entries gs' g (left d)) (before middle after : Waking ℕ) where
           abbrev st_ended : Store
@@ -445,7 +380,7 @@ module _ (a : Inside) (v : Part Groups) (i : ℕ) (seen : seen_in a ≡ v) (k : 
           change_ended : Changes st st_ended n (i + 1) g m i (Some e) ended_entry (Some g) None None None
           change_ended = record {
             was = entry_there;
-            groups = kept-changed a.groups.entries gs' g (left ended_entry) (subst (λ (u : GroupEntry). ChangesAt a.groups.entries gs' g (left u)) is puts);
+            groups = kept-puts a.groups.entries gs' g (left ended_entry) (subst (λ (u : GroupEntry). ChangesAt a.groups.entries gs' g (left u)) is puts);
             handle_was = handle_there;
             handles = handles_fewer;
             wait_was = no_wait;
@@ -459,7 +394,7 @@ module _ (a : Inside) (v : Part Groups) (i : ℕ) (seen : seen_in a ≡ v) (k : 
             wait_was_of = λ z same. absurd (cc);
             wait_is_of = λ z same. absurd (cc);
             named = named_same;
-            given = leaves-given (slots_of st.waits) g s over given;
+            given = given-decreased (slots_of st.waits) n g e.core.count 1 given;
             quiet = quiet;
             known = ap (λ j. j - 1) known;
             handles_counted = (let one = lives in omega (arith, one));
@@ -470,13 +405,13 @@ module _ (a : Inside) (v : Part Groups) (i : ℕ) (seen : seen_in a ≡ v) (k : 
               → after.registered + length d.core.count.waiting.wakers ≡ middle.registered + wakers_left d → Played v i (model.end_of v.hall m (get v.hall.handles m)) answers.Done st_ended before after
           ends_handle woken first still tidies =
               let counted = registered_after st st_ended n (i + 1) g m i (Some e) ended_entry (Some g) None None None k change_ended in
-              let all : length (woken_by e.core.count 1) + length ended_entry.core.count.waiting.wakers ≡ length s.wakers = leaves-counted s over in
+              let all : length ended_entry.core.count.waiting.wakers + length (woken_by e.core.count 1) ≡ length s.wakers = woken-all e.core.count 1 in
               let last : after.registered + length ended_entry.core.count.waiting.wakers ≡ middle.registered + wakers_left ended_entry = subst (λ (u : GroupEntry). after.registered + length u.core.count.waiting.wakers ≡ middle.registered + wakers_left u) is tidies in
               played (λ u. model.end_of u m (get u.handles m)) (record { hall = tidied (record { groups = insert h.groups g (counts.decreased c 1); handles = remove h.handles m; waits = h.waits }) g; reply = answers.Done; wakes = counts.woken_by c 1 }) answers.Done st_ended before after
               (ap (model.end_of h m) handle_there ∙ ap (λ r. record { hall = tidied (record { groups = insert h.groups g (counts.decreased r 1); handles = remove h.handles m; waits = h.waits }) g; reply = answers.Done; wakes = counts.woken_by r 1 }) at_g)
               (kept_after st st_ended n (i + 1) g m i (Some e) ended_entry (Some g) None None None k change_ended)
               (hall_tidied st st_ended n (i + 1) g m i (Some e) ended_entry (Some g) None None None k change_ended (counts.decreased c 1) (remove h.handles m) h.waits
-              (λ j. record { number = e.core.count.number - 1; waiting = leaves-list (slots_of st.waits) (slots_of st.waits) n (i + 1) g s over (list_same g s) j }) handles_are refl)
+              (decreased-seen (slots_of st.waits) (i + 1) g e.core.count 1 (list_same g s)) handles_are refl)
               refl (still ∙ woken ∙ ap (λ ws. before.wakers ++ ws) woken_seen) (omega (arith, counted, all, first, last))
 
         -- it becomes a future
@@ -504,7 +439,7 @@ module _ (a : Inside) (v : Part Groups) (i : ℕ) (seen : seen_in a ≡ v) (k : 
             wait_was_of = λ z same. absurd (cc);
             wait_is_of = its_group ws' x adds mine new;
             named = named_more ws' x adds mine new;
-            given = leaves-given (slots_of st_turned.waits) g s over (given_more ws' x adds mine new);
+            given = given-decreased (slots_of st_turned.waits) n g e.core.count 1 (given_more ws' x adds mine new);
             quiet = quiet;
             known = ap (λ j. j - 1) known;
             handles_counted = (let one = lives in omega (arith, one));
@@ -514,19 +449,19 @@ module _ (a : Inside) (v : Part Groups) (i : ℕ) (seen : seen_in a ≡ v) (k : 
           pub turns : after.wakers ≡ before.wakers ++ woken_by e.core.count 1 → after.registered + length (woken_by e.core.count 1) ≡ before.registered → Played v i (model.into_of v.hall i m (get v.hall.handles m)) answers.Made st_turned before after
           turns woken first =
               let counted = registered_after st st_turned n (i + 1) g m i (Some e) turned_entry (Some g) None None (Some x) k change_turned in
-              let all : length (woken_by e.core.count 1) + length turned_entry.core.count.waiting.wakers ≡ length s.wakers = leaves-counted s over in
+              let all : length turned_entry.core.count.waiting.wakers + length (woken_by e.core.count 1) ≡ length s.wakers = woken-all e.core.count 1 in
               let stay : wakers_left turned_entry ≡ length turned_entry.core.count.waiting.wakers = wakers_used turned_entry (omega arith) in
               played (λ u. model.into_of u i m (get u.handles m)) (record { hall = record { groups = insert h.groups g (counts.decreased c 1); handles = remove h.handles m; waits = insert h.waits i g }; reply = answers.Made; wakes = counts.woken_by c 1 }) answers.Made st_turned before after
               (ap (model.into_of h i m) handle_there ∙ ap (λ r. record { hall = record { groups = insert h.groups g (counts.decreased r 1); handles = remove h.handles m; waits = insert h.waits i g }; reply = answers.Made; wakes = counts.woken_by r 1 }) at_g)
               (kept_after st st_turned n (i + 1) g m i (Some e) turned_entry (Some g) None None (Some x) k change_turned)
               (hall_used st st_turned n (i + 1) g m i (Some e) turned_entry (Some g) None None (Some x) k change_turned (counts.decreased c 1) (remove h.handles m) (insert h.waits i g)
-              (λ j. record { number = e.core.count.number - 1; waiting = leaves-list (slots_of st.waits) (slots_of st_turned.waits) n (i + 1) g s over (list_more ws' x adds mine new) j }) handles_are (waits_are ws' x adds mine new) (omega arith))
+              (decreased-seen (slots_of st_turned.waits) (i + 1) g e.core.count 1 (list_more ws' x adds mine new)) handles_are (waits_are ws' x adds mine new) (omega arith))
               refl (woken ∙ ap (λ ws. before.wakers ++ ws) woken_seen) (omega (arith, counted, all, first, stay))
 
     -- ---- one of its futures
     module _ (f : ℕ) (x : GroupWaitEntry) (is : at a.waits.entries f ≡ Some x) (mine : x.group ≡ g) where
       wait_there : get st.waits f ≡ Some x
-      wait_there = kept-at a.waits.entries f ∙ is
+      wait_there = found a.waits.entries f x is
 
       pub waits : 1 ≤ e.waits
       waits = waits_within st n f g x e k wait_there mine entry_there
@@ -562,14 +497,14 @@ module _ (a : Inside) (v : Part Groups) (i : ℕ) (seen : seen_in a ≡ v) (k : 
         abbrev polled_entry : GroupEntry
         polled_entry = record e { core = record e.core { count = record e.core.count { waiting = with_waker s x.wait w } } }
 
-        waits_polled : Sets st.waits st_polled.waits f (Some y)
-        waits_polled = kept-changed a.waits.entries ws' f (Some y) writes
+        waits_polled : Puts st.waits st_polled.waits f (Some y)
+        waits_polled = kept-puts a.waits.entries ws' f (Some y) writes
 
         others : (j : ℕ) → (f ≡ j → ⊥) → slots_of st_polled.waits j ≡ slots_of st.waits j
-        others = slots_other st.waits st_polled.waits f (Some y) waits_polled
+        others = slots_other (option_map slot_entry) st.waits st_polled.waits f (Some y) waits_polled
 
         slot_is : slots_of st_polled.waits f ≡ Some (g, slot_after s x.wait)
-        slot_is = slots_there st.waits st_polled.waits f (Some y) waits_polled ∙ (λ j. Some (stays j, registers.slot_is j))
+        slot_is = slots_there (option_map slot_entry) st.waits st_polled.waits f (Some y) waits_polled ∙ (λ j. Some (stays j, registers.slot_is j))
 
         named_polled : AreNamed (slots_of st_polled.waits) (i + 1)
         named_polled = named-registers (slots_of st.waits) (slots_of st_polled.waits) n (i + 1) f k.named (omega (arith, less)) others g x.wait s given slot_was slot_is
@@ -623,14 +558,14 @@ module _ (a : Inside) (v : Part Groups) (i : ℕ) (seen : seen_in a ≡ v) (k : 
         abbrev fewer_entry : GroupEntry
         fewer_entry = record e { waits = e.waits - 1 }
 
-        waits_gone : Sets st.waits st_gone.waits f None
-        waits_gone = kept-changed a.waits.entries ws' f None gone
+        waits_gone : Puts st.waits st_gone.waits f None
+        waits_gone = kept-puts a.waits.entries ws' f None gone
 
         others_gone : (j : ℕ) → (f ≡ j → ⊥) → slots_of st_gone.waits j ≡ slots_of st.waits j
-        others_gone = slots_other st.waits st_gone.waits f None waits_gone
+        others_gone = slots_other (option_map slot_entry) st.waits st_gone.waits f None waits_gone
 
         slot_gone : slots_of st_gone.waits f ≡ None
-        slot_gone = slots_there st.waits st_gone.waits f None waits_gone
+        slot_gone = slots_there (option_map slot_entry) st.waits st_gone.waits f None waits_gone
 
         named_gone : AreNamed (slots_of st_gone.waits) (i + 1)
         named_gone = named-ends (slots_of st.waits) (slots_of st_gone.waits) n (i + 1) f k.named (omega (arith, less)) others_gone slot_gone
@@ -643,7 +578,7 @@ module _ (a : Inside) (v : Part Groups) (i : ℕ) (seen : seen_in a ≡ v) (k : 
         change_gone : Changes st st_gone n (i + 1) g i f (Some e) fewer_entry None None (Some x) None
         change_gone = record {
           was = entry_there;
-          groups = kept-changed a.groups.entries gs' g (left fewer_entry) (subst (λ (u : GroupEntry). ChangesAt a.groups.entries gs' g (left u)) is_fewer puts);
+          groups = kept-puts a.groups.entries gs' g (left fewer_entry) (subst (λ (u : GroupEntry). ChangesAt a.groups.entries gs' g (left u)) is_fewer puts);
           handle_was = no_handle;
           handles = same_handles;
           wait_was = wait_there;

@@ -1,11 +1,9 @@
 -- what a look-up among the entries of a `GroupHall` says of its groups
 use Rattle.std.proofs.Common.{◌≡◌, ℕ, ◌≤◌, ◌==◌, List, [], Some, None, IsSome, is_some, length, false, ap, sym, subst, ◌∙◌, arith}
 use Rattle.std.specs.Option.{option_map}
-use Rattle.std.specs.Ordering.{nat_cmp}
-use Rattle.std.specs.FinMap.{get, empty, get-empty, entries}
+use Rattle.std.specs.FinMap.{get}
 use Rattle.std.proofs.lemmas.Bool.{eqb-false}
-use Rattle.mea_base.specs.Named.{named, at}
-use Rattle.mea_base.proofs.NamedMaps.{same_named}
+use Rattle.mea_base.specs.Named.{at}
 use Rattle.mea_meet_model.specs.Waiting.{wakers}
 use Rattle.mea_meet_model.specs.Count.{Count}
 use Rattle.mea_meet_model.specs.Groups.{Groups, no_groups, group_at, registered}
@@ -16,9 +14,10 @@ use Rattle.mea_meet.specs.declared.groups.GroupEntry.{GroupEntry}
 use Rattle.mea_meet.specs.declared.groups.GroupWaitEntry.{GroupWaitEntry}
 use Rattle.mea_meet.specs.declared.groups.GroupHall.TheInside.{Inside}
 use Rattle.mea_meet.proofs.Names.{waiting-wakers}
-use Rattle.mea_meet.proofs.Stores.{ChangesAt, kept-at, kept-unchanged, get-seen, seen-none, is_some-map, not_none}
+use Rattle.mea_meet.proofs.Maps.{ChangesAt, kept-at, kept-unchanged, get-seen, seen-none, is_some-map, not_none, kept-none, is_empty, seen-empty, found}
 use Rattle.mea_meet.proofs.GroupChanges.{slot_entry, group_seen, wakers_within}
 use Rattle.mea_meet.proofs.GroupPlays.{store_in, seen_in, IsKeptIn}
+use Rattle.mea_meet.proofs.Slots.{named_none}
 
 -- ---- no group
 module _ (gs : List (ℕ × GroupEntry)) (hs : List (ℕ × ℕ)) (ws : List (ℕ × GroupWaitEntry)) (no_gs : gs ≡ []) (no_hs : hs ≡ []) (no_ws : ws ≡ []) where
@@ -26,31 +25,28 @@ module _ (gs : List (ℕ × GroupEntry)) (hs : List (ℕ × ℕ)) (ws : List (�
   st = store_of gs hs ws
 
   nothing : (g : ℕ) → get st.groups g ≡ None
-  nothing g = kept-at gs g ∙ ap (λ es. at es g) no_gs
+  nothing = kept-none gs no_gs
 
   no_handle : (k : ℕ) → get st.handles k ≡ None
-  no_handle k = kept-at hs k ∙ ap (λ es. at es k) no_hs
+  no_handle = kept-none hs no_hs
 
   nobody : (f : ℕ) → get st.waits f ≡ None
-  nobody f = kept-at ws f ∙ ap (λ es. at es f) no_ws
+  nobody = kept-none ws no_ws
 
   pub kept_empty : IsKept st 0
   kept_empty = record {
     each = λ g e is. absurd (let clash : None ≡ Some e = sym (nothing g) ∙ is in cc);
     owned = λ k g is. absurd (let clash : None ≡ Some g = sym (no_handle k) ∙ is in cc);
     home = λ f x is. absurd (let clash : None ≡ Some x = sym (nobody f) ∙ is in cc);
-    named = record {
-      below = λ f p is. absurd (let clash : None ≡ Some p = sym (ap (option_map slot_entry) (nobody f)) ∙ is in cc);
-      apart = λ f g q place is also. absurd (let clash : None ≡ Some (q, Some place) = sym (ap (option_map slot_entry) (nobody f)) ∙ is in cc);
-    };
+    named = named_none (slots_of st.waits) 0 (λ f. ap (option_map slot_entry) (nobody f));
     low = omega arith;
   }
 
   pub seen_empty : groups_of st 0 ≡ no_groups
   seen_empty =
-      let groups = same_named (named (count_of st.waits 0) (entries st.groups)) empty (λ g. seen-none (count_of st.waits 0) st.groups g (nothing g) ∙ sym (get-empty nat_cmp g)) in
-      let handles = same_named st.handles empty (λ k. no_handle k ∙ sym (get-empty nat_cmp k)) in
-      let waits = same_named (named (λ f (x : GroupWaitEntry). x.group) (entries st.waits)) empty (λ f. seen-none (λ f (x : GroupWaitEntry). x.group) st.waits f (nobody f) ∙ sym (get-empty nat_cmp f)) in
+      let groups = seen-empty (count_of st.waits 0) st.groups nothing in
+      let handles = is_empty st.handles no_handle in
+      let waits = seen-empty (λ f (x : GroupWaitEntry). x.group) st.waits nobody in
       λ j. record { groups = groups j; handles = handles j; waits = waits j }
 
 module _ (a : Inside) (v : Part Groups) (seen : seen_in a ≡ v) where
@@ -84,7 +80,7 @@ module _ (a : Inside) (v : Part Groups) (seen : seen_in a ≡ v) where
 
     module _ (g : ℕ) (e : GroupEntry) (is : at a.groups.entries g ≡ Some e) where
       there : get (store_in a).groups g ≡ Some e
-      there = kept-at a.groups.entries g ∙ is
+      there = found a.groups.entries g e is
 
       as_seen : count_of (store_in a).waits a.next g e ≡ group_at v.hall g
       as_seen = sym (group_seen (store_in a) a.next g e there) ∙ ap (λ (p : Part Groups). group_at p.hall g) seen
@@ -117,8 +113,8 @@ module _ (a : Inside) (v : Part Groups) (seen : seen_in a ≡ v) (f g : ℕ) (x 
     (gs' : List (ℕ × GroupEntry)) (ws' : List (ℕ × GroupWaitEntry)) (puts : ChangesAt a.groups.entries gs' g (Some e')) (writes : ChangesAt a.waits.entries ws' f (Some y)) (same_e : e' ≡ e) (same_x : y ≡ x) where
   as_it_was : store_of gs' a.handles.entries ws' ≡ store_in a
   as_it_was =
-      let groups = kept-unchanged a.groups.entries gs' g e there (subst (λ d. ChangesAt a.groups.entries gs' g (Some d)) same_e puts) in
-      let waits = kept-unchanged a.waits.entries ws' f x is (subst (λ d. ChangesAt a.waits.entries ws' f (Some d)) same_x writes) in
+      let groups = kept-unchanged a.groups.entries gs' g e e' there puts same_e in
+      let waits = kept-unchanged a.waits.entries ws' f x y is writes same_x in
       λ j. record { groups = groups j; handles = (store_in a).handles; waits = waits j }
 
   pub kept_unchanged : IsKeptIn a → IsKept (store_of gs' a.handles.entries ws') a.next

@@ -1,5 +1,5 @@
 -- what the events on latches do to what a `LatchHall` keeps
-use Rattle.std.proofs.Common.{◌≡◌, ℕ, ◌+◌, ◌-◌, ◌<◌, ◌≤◌, ◌^◌, ◌==◌, ◌&&◌, ◌||◌, ◌++◌, Bool, true, false, cond, [], length, nat_lt, refl, ap, sym, subst, ◌∙◌, Option, Some, None, arith, unwrap_or, if◌then◌else◌, append-nil, slice_set, ◌∷◌, length-append, length-set}
+use Rattle.std.proofs.Common.{◌≡◌, ℕ, ◌+◌, ◌-◌, ◌<◌, ◌≤◌, ◌^◌, ◌==◌, ◌&&◌, ◌||◌, ◌++◌, Bool, true, false, cond, [], length, nat_lt, refl, ap, sym, subst, ◌∙◌, Option, Some, None, arith, unwrap_or, if◌then◌else◌, append-nil, slice_set, ◌∷◌, length-append, length-set, inl, inr}
 use Rattle.std.specs.Option.{option_map}
 use Rattle.std.specs.Ordering.{nat_cmp}
 use Rattle.std.specs.FinMap.{FinMap, get, insert, remove}
@@ -15,27 +15,35 @@ use Rattle.mea_sets.specs.declared.place.Place.{Place}
 use Rattle.mea_sets.specs.WaitSet.{Registered, has_given, with_waker, slot_after, drained, length_with, is_registered, index_of}
 use Rattle.mea_sets.specs.Countdown as cores
 use Rattle.mea_sets.specs.Countdown.{count_from}
-use Rattle.mea_meet_model.specs.Waiting.{wakers, registering, ending}
+use Rattle.mea_meet_model.specs.Waiting.{registering, ending}
 use Rattle.mea_meet_model.specs.Count as counts
 use Rattle.mea_meet_model.specs.Latches as model
 use Rattle.mea_meet_model.specs.Latches.{Latch, LatchWait, Latches, registered}
 use Rattle.mea_meet.specs.Names.{waiting_at, AreNamed}
-use Rattle.mea_meet.specs.Play.{Rests, Yields}
+use Rattle.mea_meet.specs.Play.{Part}
 use Rattle.mea_meet.specs.LatchHall.{Store, slot_of, slots_of, latch_of, wait_of, latches_of, IsKeptEntry, IsKept, begun, ended, tidied, let_go}
 use Rattle.mea_meet.specs.declared.latches.LatchEntry.{LatchEntry}
 use Rattle.mea_meet.specs.declared.latches.LatchWaitEntry.{LatchWaitEntry}
-use Rattle.mea_meet.proofs.Names.{waiting-alike, waiting-registers, waiting-ends, named-new, named-ends, named-registers, given-registers, given-with, waiting-wakers, given-drained}
-use Rattle.mea_meet.proofs.LatchMaps.{changed-over, at_same, at_apart, changed-there, changed-other, changed-put, changed-gone, same-again, total-most}
-use Rattle.mea_meet.proofs.LatchStore.{slot_in, slot_other, slot_was, slot_now, waits_after, waiting_other, waits_other, plain_other, others_other, waits_mine, plain_mine, latch_seen, wait_seen, registered_seen, waits_seen, later_kept, later_seen, Changes, kept_after, latches_after, registered_after, given_to, given_all}
+use Rattle.mea_meet.proofs.Names.{waiting-registers, waiting-ends, named-new, named-ends, named-registers, given-registers, given-with, given-drained}
+use Rattle.mea_meet.proofs.Maps.{at_same, at_apart, put_here, put_other, is_insert, is_remove, weight-within, is_same, puts_over, none_if, Puts}
+use Rattle.mea_meet.proofs.LatchStore.{slot_other, slot_was, slot_now, waits_after, waiting_other, waits_other, plain_other, others_other, waits_mine, plain_mine, latch_seen, wait_seen, registered_seen, waits_seen, later_kept, later_seen, Changes, kept_after, latches_after, registered_after, given_to, given_all}
+use Rattle.mea_meet.proofs.Counts.{decreased-seen, woken-seen, woken-all}
+use Rattle.mea_meet.proofs.Slots.{apart_unplaced, waiting_beside}
+use Rattle.mea_meet.proofs.Plays.{rests_by, yields_by, RestedIn, PlayedIn}
 
 -- ---- what an event came to
-pub record Rested (st st' : Store) (next i : ℕ) (o : Outcome Latches) (answer : Answer) : Type 0 where
-  pub kept : IsKept st' (i + 1)
-  pub rests : Rests registered (record { hall = latches_of st next; next = next }) i o answer (record { hall = latches_of st' (i + 1); next = i + 1 })
+abbrev pub RestedAt : Part Latches → Store → ℕ → Outcome Latches → Answer → Type 0
+RestedAt v st i o answer = RestedIn registered IsKept latches_of v i o answer st
 
-pub record Yielded (st st' : Store) (next i : ℕ) (o : Outcome Latches) (answer : Answer) (before after : Waking ℕ) : Type 0 where
-  pub kept : IsKept st' (i + 1)
-  pub yields : Yields registered (record { hall = latches_of st next; next = next }) i o answer (record { hall = latches_of st' (i + 1); next = i + 1 }) before after
+abbrev pub YieldedAt : Part Latches → Store → ℕ → Outcome Latches → Answer → Waking ℕ → Waking ℕ → Type 0
+YieldedAt v st i o answer before after = PlayedIn registered IsKept latches_of v i o answer st before after
+
+-- the same where these latches were kept before
+abbrev pub Rested : Store → Store → ℕ → ℕ → Outcome Latches → Answer → Type 0
+Rested st st' next i o answer = RestedAt (record { hall = latches_of st next; next = next }) st' i o answer
+
+abbrev pub Yielded : Store → Store → ℕ → ℕ → Outcome Latches → Answer → Waking ℕ → Waking ℕ → Type 0
+Yielded st st' next i o answer before after = YieldedAt (record { hall = latches_of st next; next = next }) st' i o answer before after
 
 -- ---- what a look-up finds
 pub latch_there : (st : Store) (b l : ℕ) (e : LatchEntry) → get st.latches l ≡ Some e → get (latches_of st b).latches l ≡ Some (latch_of st.waits b l e)
@@ -63,7 +71,7 @@ grown s slot w = by_test (is_registered s slot)
 
 -- ---- a latch changes, and no future
 module _ (st : Store) (b : ℕ) (k : IsKept st b) (ls' : FinMap nat_cmp LatchEntry) (l : ℕ) where
-  pub alone : (e' : Option LatchEntry) → ((q : ℕ) → get ls' q ≡ cond (l == q) e' (get st.latches q))
+  pub alone : (e' : Option LatchEntry) → Puts st.latches ls' l e'
       → ((f : ℕ) (x : LatchWaitEntry) → l ≡ x.latch → get st.waits f ≡ Some x → (e : LatchEntry) × (e' ≡ Some e) × (has_given e.core.count.waiting x.wait ≡ true))
       → ((e : LatchEntry) → e' ≡ Some e → IsKeptEntry st b l e) → Changes st (record { latches = ls'; waits = st.waits }) b l e'
   alone e' latches mine kept = record {
@@ -78,8 +86,8 @@ module _ (st : Store) (b : ℕ) (k : IsKept st b) (ls' : FinMap nat_cmp LatchEnt
   }
 
 -- ---- a latch changes, and one of its futures
-module _ (st : Store) (b : ℕ) (k : IsKept st b) (ls' : FinMap nat_cmp LatchEntry) (ws' : FinMap nat_cmp LatchWaitEntry) (l f : ℕ) (o o' : Option LatchWaitEntry) (named' : AreNamed (slots_of ws') b) (was : get st.waits f ≡ o) (now : (g : ℕ) → get ws' g ≡ cond (f == g) o' (get st.waits g)) (mine : (x : LatchWaitEntry) → o ≡ Some x → x.latch ≡ l) (mine' : (x : LatchWaitEntry) → o' ≡ Some x → x.latch ≡ l) where
-  pub joined : (e' : Option LatchEntry) → ((q : ℕ) → get ls' q ≡ cond (l == q) e' (get st.latches q))
+module _ (st : Store) (b : ℕ) (k : IsKept st b) (ls' : FinMap nat_cmp LatchEntry) (ws' : FinMap nat_cmp LatchWaitEntry) (l f : ℕ) (o o' : Option LatchWaitEntry) (named' : AreNamed (slots_of ws') b) (was : get st.waits f ≡ o) (now : Puts st.waits ws' f o') (mine : (x : LatchWaitEntry) → o ≡ Some x → x.latch ≡ l) (mine' : (x : LatchWaitEntry) → o' ≡ Some x → x.latch ≡ l) where
+  pub joined : (e' : Option LatchEntry) → Puts st.latches ls' l e'
       → ((g : ℕ) (x : LatchWaitEntry) → l ≡ x.latch → get ws' g ≡ Some x → (e : LatchEntry) × (e' ≡ Some e) × (has_given e.core.count.waiting x.wait ≡ true))
       → ((e : LatchEntry) → e' ≡ Some e → IsKeptEntry (record { latches = ls'; waits = ws' }) b l e) → Changes st (record { latches = ls'; waits = ws' }) b l e'
   joined e' latches given kept = record {
@@ -99,22 +107,19 @@ module _ (st : Store) (b : ℕ) (k : IsKept st b) (ls' : FinMap nat_cmp LatchEnt
   given_after e d there stays own g x at_l is = (d, refl, by_test (f == g) refl)
     where
       by_test : (t : Bool) → (f == g) ≡ t → has_given d.core.count.waiting x.wait ≡ true
-      by_test true h = own x (sym (changed-there st.waits ws' f o' now) ∙ ap (get ws') (eqb-true f g h) ∙ is)
-      by_test false h = stays x (given_to st b l e k there g x (sym (changed-other st.waits ws' f o' now g (eqb-false f g h)) ∙ is) (sym at_l))
+      by_test true h = own x (sym (put_here st.waits ws' f o' now) ∙ ap (get ws') (eqb-true f g h) ∙ is)
+      by_test false h = stays x (given_to st b l e k there g x (sym (put_other st.waits ws' f o' now g (eqb-false f g h)) ∙ is) (sym at_l))
 
 -- ---- a latch that has neither a name nor a future is taken away
-module _ (st : Store) (b : ℕ) (k : IsKept st b) (ls' : FinMap nat_cmp LatchEntry) (l : ℕ) (e : LatchEntry) (there : get st.latches l ≡ Some e) (latches : (q : ℕ) → get ls' q ≡ cond (l == q) (tidied e) (get st.latches q)) where
+module _ (st : Store) (b : ℕ) (k : IsKept st b) (ls' : FinMap nat_cmp LatchEntry) (l : ℕ) (e : LatchEntry) (there : get st.latches l ≡ Some e) (latches : Puts st.latches ls' l (tidied e)) where
   abbrev tidy_store : Store
   tidy_store = record { latches = ls'; waits = st.waits }
-
-  stays_test : Bool
-  stays_test = e.named || nat_lt 0 e.waits
 
   -- a latch without futures has none
   no_futures : e.waits ≡ 0 → (f : ℕ) (x : LatchWaitEntry) → l ≡ x.latch → get st.waits f ≡ Some x → ⊥
   no_futures none f x own is =
       let all = (k.each l e there).waits in
-      let most = total-most (λ g (y : LatchWaitEntry). cond (y.latch == l) 1 0) st.waits f x is in
+      let most = weight-within (λ g (y : LatchWaitEntry). cond (y.latch == l) 1 0) st.waits f x is in
       let one : ◌≡◌ {A = ℕ} (cond (x.latch == l) 1 0) 1 = at_same x.latch l 1 0 (sym own) in
       absurd (omega (arith, none, all, most, one))
 
@@ -142,9 +147,9 @@ module _ (st : Store) (b : ℕ) (k : IsKept st b) (ls' : FinMap nat_cmp LatchEnt
       test_is : (model.is_named (latches_of st b) l || nat_lt 0 (model.waits_of (latches_of st b) l)) ≡ (e.named || nat_lt 0 e.waits)
       test_is = (λ j. named_is st b l e there j || nat_lt 0 ((waits_seen st b l ∙ sym (k.each l e there).waits) j))
 
-      by_test : (t : Bool) → ((q : ℕ) → get (latches_of tidy_store b).latches q ≡ cond (l == q) (option_map (latch_of st.waits b l) (if t then Some e else None)) (get (latches_of st b).latches q)) → latches_of tidy_store b ≡ (if t then latches_of st b else record (latches_of st b) { latches = remove (latches_of st b).latches l })
-      by_test true now = λ j. record { latches = same-again (latches_of st b).latches (latches_of tidy_store b).latches l (latch_of st.waits b l e) (latch_there st b l e there) now j; waits = (latches_of st b).waits }
-      by_test false now = λ j. record { latches = changed-gone (latches_of st b).latches (latches_of tidy_store b).latches l now j; waits = (latches_of st b).waits }
+      by_test : (t : Bool) → Puts (latches_of st b).latches (latches_of tidy_store b).latches l (option_map (latch_of st.waits b l) (if t then Some e else None)) → latches_of tidy_store b ≡ (if t then latches_of st b else record (latches_of st b) { latches = remove (latches_of st b).latches l })
+      by_test true now = λ j. record { latches = is_same (latches_of st b).latches (latches_of tidy_store b).latches l (Some (latch_of st.waits b l e)) (latch_there st b l e there) now j; waits = (latches_of st b).waits }
+      by_test false now = λ j. record { latches = is_remove (latches_of st b).latches (latches_of tidy_store b).latches l now j; waits = (latches_of st b).waits }
 
   pub tidy_counted : registered (latches_of tidy_store b) + let_go e ≡ registered (latches_of st b)
   tidy_counted =
@@ -178,24 +183,14 @@ module _ (st : Store) (next i : ℕ) (k : IsKept st next) (less : next ≤ i) (l
   pub rested : (st' : Store) (F : Latches → Outcome Latches) (answer : Answer) → IsKept st' (i + 1) → latches_of st' (i + 1) ≡ (F now).hall → (F now).wakes ≡ [] → answer ≡ (F now).reply → registered (latches_of st' (i + 1)) ≡ registered now → Rested st st' next i (F (latches_of st next)) answer
   rested st' F answer kept hall quiet replied counted = record {
     kept = kept;
-    rests = subst (λ h. Rests registered (record { hall = h; next = next }) i (F h) answer (record { hall = latches_of st' (i + 1); next = i + 1 })) h1 (record {
-      replied = replied;
-      moved = λ j. record { hall = hall j; next = i + 1 };
-      silent = quiet;
-      counted = sym (ap registered hall) ∙ counted;
-    });
+    rests = rests_by registered (record { hall = now; next = next }) (record { hall = latches_of st next; next = next }) i (λ j. record { hall = h1 j; next = next }) F (F now) answer (latches_of st' (i + 1)) refl hall replied quiet counted;
   }
 
   pub yielded : (st' : Store) (F : Latches → Outcome Latches) (answer : Answer) (before after : Waking ℕ) → IsKept st' (i + 1) → latches_of st' (i + 1) ≡ (F now).hall → answer ≡ (F now).reply → after.wakers ≡ before.wakers ++ (F now).wakes
       → after.registered + registered now ≡ before.registered + registered (latches_of st' (i + 1)) → Yielded st st' next i (F (latches_of st next)) answer before after
   yielded st' F answer before after kept hall replied woken counted = record {
     kept = kept;
-    yields = subst (λ h. Yields registered (record { hall = h; next = next }) i (F h) answer (record { hall = latches_of st' (i + 1); next = i + 1 }) before after) h1 (record {
-      replied = replied;
-      moved = λ j. record { hall = hall j; next = i + 1 };
-      woken = woken;
-      counted = counted ∙ ap (λ h. before.registered + registered h) hall;
-    });
+    yields = yields_by registered (record { hall = now; next = next }) (record { hall = latches_of st next; next = next }) i (λ j. record { hall = h1 j; next = next }) F (F now) answer (latches_of st' (i + 1)) refl hall replied before after woken counted;
   }
 
   -- an event that changes nothing
@@ -204,11 +199,7 @@ module _ (st : Store) (next i : ℕ) (k : IsKept st next) (less : next ≤ i) (l
 
   -- ---- `lat.new`
   no_latch : get st.latches i ≡ None
-  no_latch = by_entry (get st.latches i) refl
-    where
-      by_entry : (o : Option LatchEntry) → get st.latches i ≡ o → get st.latches i ≡ None
-      by_entry None is = is
-      by_entry (Some e) is = absurd (let below = (k.each i e is).below in omega (arith, below, less))
+  no_latch = none_if (get st.latches i) (λ e is. let below = (k.each i e is).below in omega (arith, below, less))
 
   no_waits : (f : ℕ) (x : LatchWaitEntry) → i ≡ x.latch → get st.waits f ≡ Some x → ⊥
   no_waits f x own is = let home = k.home f x is in absurd (let clash : ◌≡◌ {A = Option LatchEntry} None (Some home.entry) = sym no_latch ∙ ap (get st.latches) own ∙ home.there in cc)
@@ -216,7 +207,7 @@ module _ (st : Store) (next i : ℕ) (k : IsKept st next) (less : next ≤ i) (l
   abbrev pub made : ℕ → LatchEntry
   made n = record { core = record { count = count_from n; wakes = [] }; named = true; waits = 0; plain = 0 }
 
-  pub makes : (ls' : FinMap nat_cmp LatchEntry) (n : ℕ) → ((q : ℕ) → get ls' q ≡ cond (i == q) (Some (made n)) (get st.latches q)) → Rested st (record { latches = ls'; waits = st.waits }) next i (model.make (latches_of st next) i n) answers.Made
+  pub makes : (ls' : FinMap nat_cmp LatchEntry) (n : ℕ) → Puts st.latches ls' i (Some (made n)) → Rested st (record { latches = ls'; waits = st.waits }) next i (model.make (latches_of st next) i n) answers.Made
   makes ls' n latches =
       let st' : Store = record { latches = ls'; waits = st.waits } in
       let c : Changes st st' (i + 1) i (Some (made n)) = alone st (i + 1) k1 ls' i (Some (made n)) latches (λ f x own is. absurd (no_waits f x own is)) (λ e is. (let same : made n ≡ e = cc in subst (λ y. IsKeptEntry st (i + 1) i y) same (record {
@@ -230,11 +221,11 @@ module _ (st : Store) (next i : ℕ) (k : IsKept st next) (less : next ≤ i) (l
       let sums = registered_after st st' (i + 1) i (Some (made n)) k1 c in
       let none : weight (λ q (d : LatchEntry). length d.core.count.waiting.wakers) i (get st.latches i) ≡ 0 = ap (weight (λ q (d : LatchEntry). length d.core.count.waiting.wakers) i) no_latch in
       rested st' (λ h. model.make h i n) answers.Made (kept_after st st' (i + 1) i (Some (made n)) k1 c)
-      (λ j. record { latches = changed-put now.latches (latches_of st' (i + 1)).latches i (model.new_latch n) (latches_after st st' (i + 1) i (Some (made n)) k1 c) j; waits = now.waits })
+      (λ j. record { latches = is_insert now.latches (latches_of st' (i + 1)).latches i (model.new_latch n) (latches_after st st' (i + 1) i (Some (made n)) k1 c) j; waits = now.waits })
       refl refl (omega (arith, sums, none))
 
   -- ---- a latch becomes another that has the same futures
-  becomes : (ls' : FinMap nat_cmp LatchEntry) (l : ℕ) (e d : LatchEntry) → get st.latches l ≡ Some e → ((q : ℕ) → get ls' q ≡ cond (l == q) (Some d) (get st.latches q)) → d.core.wakes ≡ [] → d.waits ≡ e.waits → d.plain ≡ e.plain
+  becomes : (ls' : FinMap nat_cmp LatchEntry) (l : ℕ) (e d : LatchEntry) → get st.latches l ≡ Some e → Puts st.latches ls' l (Some d) → d.core.wakes ≡ [] → d.waits ≡ e.waits → d.plain ≡ e.plain
       → ((x : LatchWaitEntry) → has_given e.core.count.waiting x.wait ≡ true → has_given d.core.count.waiting x.wait ≡ true) → Changes st (record { latches = ls'; waits = st.waits }) (i + 1) l (Some d)
   becomes ls' l e d there latches quiet waits plain given = alone st (i + 1) k1 ls' l (Some d) latches (λ f x own is. (d, refl, given x (given_to st (i + 1) l e k1 there f x is (sym own)))) (λ y is. (let same : d ≡ y = cc in subst (λ z. IsKeptEntry st (i + 1) l z) same entry_kept))
     where
@@ -249,7 +240,7 @@ module _ (st : Store) (next i : ℕ) (k : IsKept st next) (less : next ≤ i) (l
   abbrev pub arrived : LatchEntry → ℕ → LatchEntry
   arrived e n = record e { core = record { count = cores.decreased e.core.count n; wakes = [] } }
 
-  pub arrives : (ls' : FinMap nat_cmp LatchEntry) (l n : ℕ) (e : LatchEntry) (before after : Waking ℕ) → get st.latches l ≡ Some e → ((q : ℕ) → get ls' q ≡ cond (l == q) (Some (arrived e n)) (get st.latches q)) → registered (latches_of st next) ≤ before.registered
+  pub arrives : (ls' : FinMap nat_cmp LatchEntry) (l n : ℕ) (e : LatchEntry) (before after : Waking ℕ) → get st.latches l ≡ Some e → Puts st.latches ls' l (Some (arrived e n)) → registered (latches_of st next) ≤ before.registered
       → after ≡ record { wakers = before.wakers ++ cores.woken_by e.core.count n; registered = before.registered - length (cores.woken_by e.core.count n) }
       → Yielded st (record { latches = ls'; waits = st.waits }) next i (model.arrive (latches_of st next) l n) answers.Done before after
   arrives ls' l n e before after there latches room ready =
@@ -258,52 +249,37 @@ module _ (st : Store) (next i : ℕ) (k : IsKept st next) (less : next ≤ i) (l
       let c = becomes ls' l e d there latches refl refl refl (λ x given. by_given x given (cores.ends e.core.count n)) in
       let sums = registered_after st st' (i + 1) l (Some d) k1 c in
       let was : weight (λ q (y : LatchEntry). length y.core.count.waiting.wakers) l (get st.latches l) ≡ length e.core.count.waiting.wakers = ap (weight (λ q (y : LatchEntry). length y.core.count.waiting.wakers) l) there in
-      let all : length (if cores.ends e.core.count n then drained e.core.count.waiting else e.core.count.waiting).wakers + length (cores.woken_by e.core.count n) ≡ length e.core.count.waiting.wakers = by_count (cores.ends e.core.count n) in
-      let part = total-most (λ q (y : LatchEntry). length y.core.count.waiting.wakers) st.latches l e there in
+      let all = woken-all e.core.count n in
+      let part = weight-within (λ q (y : LatchEntry). length y.core.count.waiting.wakers) st.latches l e there in
       let seen = registered_seen st next in
       let fewer : after.registered ≡ before.registered - length (cores.woken_by e.core.count n) = ap (λ (r : Waking ℕ). r.registered) ready in
       yielded st' (λ h. model.arrive h l n) answers.Done before after (kept_after st st' (i + 1) l (Some d) k1 c)
-      ((λ j. record { latches = changed-put now.latches (latches_of st' (i + 1)).latches l (latch_of st.waits (i + 1) l d) (latches_after st st' (i + 1) l (Some d) k1 c) j; waits = now.waits })
+      ((λ j. record { latches = is_insert now.latches (latches_of st' (i + 1)).latches l (latch_of st.waits (i + 1) l d) (latches_after st st' (i + 1) l (Some d) k1 c) j; waits = now.waits })
       ∙ ap (λ r. model.with_latch now l r) (seen_arrived ∙ ap (λ (r : Latch). record r { count = counts.decreased r.count n }) (sym (latch_is st (i + 1) l e there))))
       refl
-      (ap (λ (r : Waking ℕ). r.wakers) ready ∙ ap (λ v. before.wakers ++ v) (seen_woken ∙ ap (λ (r : Latch). counts.woken_by r.count n) (sym (latch_is st (i + 1) l e there))))
+      (ap (λ (r : Waking ℕ). r.wakers) ready ∙ ap (λ v. before.wakers ++ v) (sym (woken-seen (slots_of st.waits) (i + 1) l e.core.count n) ∙ ap (λ (r : Latch). counts.woken_by r.count n) (sym (latch_is st (i + 1) l e there))))
       (omega (arith, sums, was, all, part, seen, fewer, room))
     where
       by_given : (x : LatchWaitEntry) → has_given e.core.count.waiting x.wait ≡ true → (t : Bool) → has_given (if t then drained e.core.count.waiting else e.core.count.waiting) x.wait ≡ true
       by_given x given true = given-drained e.core.count.waiting x.wait given
       by_given x given false = given
 
-      by_count : (t : Bool) → length (if t then drained e.core.count.waiting else e.core.count.waiting).wakers + length (if t then e.core.count.waiting.wakers else []) ≡ length e.core.count.waiting.wakers
-      by_count true = omega arith
-      by_count false = omega arith
-
       seen_arrived : latch_of st.waits (i + 1) l (arrived e n) ≡ record (latch_of st.waits (i + 1) l e) { count = counts.decreased (latch_of st.waits (i + 1) l e).count n }
-      seen_arrived = λ j. record { count = record { number = e.core.count.number - n; waiting = by_end (cores.ends e.core.count n) j }; named = e.named }
-        where
-          by_end : (t : Bool) → waiting_at (slots_of st.waits) (i + 1) l (if t then drained e.core.count.waiting else e.core.count.waiting) ≡ (if t then [] else waiting_at (slots_of st.waits) (i + 1) l e.core.count.waiting)
-          by_end true = refl
-          by_end false = refl
-
-      seen_woken : cores.woken_by e.core.count n ≡ counts.woken_by (latch_of st.waits (i + 1) l e).count n
-      seen_woken = by_end (cores.ends e.core.count n)
-        where
-          by_end : (t : Bool) → (if t then e.core.count.waiting.wakers else []) ≡ (if t then wakers (waiting_at (slots_of st.waits) (i + 1) l e.core.count.waiting) else [])
-          by_end true = sym (waiting-wakers (slots_of st.waits) (i + 1) l e.core.count.waiting)
-          by_end false = refl
+      seen_arrived = λ j. record { count = decreased-seen (slots_of st.waits) (i + 1) l e.core.count n refl j; named = e.named }
 
   -- ---- `lat.drop`
-  pub drops : (ls' : FinMap nat_cmp LatchEntry) (l : ℕ) (e : LatchEntry) (before after : Waking ℕ) → get st.latches l ≡ Some e → ((q : ℕ) → get ls' q ≡ cond (l == q) (tidied (record e { named = false })) (get st.latches q)) → registered (latches_of st next) ≤ before.registered
+  pub drops : (ls' : FinMap nat_cmp LatchEntry) (l : ℕ) (e : LatchEntry) (before after : Waking ℕ) → get st.latches l ≡ Some e → Puts st.latches ls' l (tidied (record e { named = false })) → registered (latches_of st next) ≤ before.registered
       → after ≡ record before { registered = before.registered - let_go (record e { named = false }) }
       → Yielded st (record { latches = ls'; waits = st.waits }) next i (model.drop (latches_of st next) l) answers.Done before after
   drops ls' l e before after there latches room ready =
       let d : LatchEntry = record e { named = false } in
       let mid : Store = record { latches = insert st.latches l d; waits = st.waits } in
-      let put : (q : ℕ) → get (insert st.latches l d) q ≡ cond (l == q) (Some d) (get st.latches q) = λ q. get_inserted st.latches l q d in
+      let put : Puts st.latches (insert st.latches l d) l (Some d) = λ q. get_inserted st.latches l q d in
       let c = becomes (insert st.latches l d) l e d there put (k1.each l e there).quiet refl refl (λ x given. given) in
       let kept = kept_after st mid (i + 1) l (Some d) k1 c in
-      let mid_there = changed-there st.latches (insert st.latches l d) l (Some d) put in
-      let last : (q : ℕ) → get ls' q ≡ cond (l == q) (tidied d) (get (insert st.latches l d) q) = λ q. latches q ∙ sym (changed-over st.latches l d (tidied d) q) in
-      let mid_hall : latches_of mid (i + 1) ≡ model.with_latch now l (record (model.latch_at now l) { named = false }) = (λ j. record { latches = changed-put now.latches (latches_of mid (i + 1)).latches l (latch_of st.waits (i + 1) l d) (latches_after st mid (i + 1) l (Some d) k1 c) j; waits = now.waits })
+      let mid_there = put_here st.latches (insert st.latches l d) l (Some d) put in
+      let last : Puts (insert st.latches l d) ls' l (tidied d) = puts_over st.latches ls' l d (tidied d) latches in
+      let mid_hall : latches_of mid (i + 1) ≡ model.with_latch now l (record (model.latch_at now l) { named = false }) = (λ j. record { latches = is_insert now.latches (latches_of mid (i + 1)).latches l (latch_of st.waits (i + 1) l d) (latches_after st mid (i + 1) l (Some d) k1 c) j; waits = now.waits })
       ∙ ap (λ (r : Latch). model.with_latch now l (record r { named = false })) (sym (latch_is st (i + 1) l e there)) in
       let sums = registered_after st mid (i + 1) l (Some d) k1 c in
       let was : weight (λ q (y : LatchEntry). length y.core.count.waiting.wakers) l (get st.latches l) ≡ length e.core.count.waiting.wakers = ap (weight (λ q (y : LatchEntry). length y.core.count.waiting.wakers) l) there in
@@ -318,17 +294,13 @@ module _ (st : Store) (next i : ℕ) (k : IsKept st next) (less : next ≤ i) (l
 
   -- ---- `lat.wait`
   no_future : get st.waits i ≡ None
-  no_future = by_wait (get st.waits i) refl
-    where
-      by_wait : (o : Option LatchWaitEntry) → get st.waits i ≡ o → get st.waits i ≡ None
-      by_wait None is = is
-      by_wait (Some x) is = absurd (let below = k.named.below i (slot_of x) (ap (option_map slot_of) is) in omega (arith, below, less))
+  no_future = none_if (get st.waits i) (λ x is. let below = k.named.below i (slot_of x) (ap (option_map slot_of) is) in omega (arith, below, less))
 
   abbrev pub new_wait : ℕ → Bool → LatchWaitEntry
   new_wait l plain = record { latch = l; wait = None; plain = plain }
 
   module _ (ls' : FinMap nat_cmp LatchEntry) (ws' : FinMap nat_cmp LatchWaitEntry) (l : ℕ) (plain : Bool) (e : LatchEntry) (there : get st.latches l ≡ Some e)
-      (latches : (q : ℕ) → get ls' q ≡ cond (l == q) (Some (begun e plain)) (get st.latches q)) (waits : (g : ℕ) → get ws' g ≡ cond (i == g) (Some (new_wait l plain)) (get st.waits g)) where
+      (latches : Puts st.latches ls' l (Some (begun e plain))) (waits : Puts st.waits ws' i (Some (new_wait l plain))) where
     abbrev begun_store : Store
     begun_store = record { latches = ls'; waits = ws' }
 
@@ -367,16 +339,10 @@ module _ (st : Store) (next i : ℕ) (k : IsKept st next) (less : next ≤ i) (l
     begun_seen : latch_of ws' (i + 1) l (begun e plain) ≡ latch_of st.waits (i + 1) l e
     begun_seen = λ j. record { count = record { number = e.core.count.number; waiting = same j }; named = e.named }
       where
-        by_test : (f : ℕ) (place : Place) (t : Bool) → (i == f) ≡ t → slots_of ws' f ≡ Some (l, Some place) → slots_of st.waits f ≡ Some (l, Some place)
-        by_test f place true h is = absurd (let new : slots_of ws' f ≡ Some (l, None) = ap (slots_of ws') (sym (eqb-true i f h)) ∙ slot_now st.waits ws' i None (Some (new_wait l plain)) no_future waits in let clash : ◌≡◌ {A = Option Place} None (Some place) = ap (slot_in None) (sym new ∙ is) in cc)
-        by_test f place false h is = sym (slot_other st.waits ws' i None (Some (new_wait l plain)) no_future waits f (eqb-false i f h)) ∙ is
-
-        by_test_back : (f : ℕ) (place : Place) (t : Bool) → (i == f) ≡ t → slots_of st.waits f ≡ Some (l, Some place) → slots_of ws' f ≡ Some (l, Some place)
-        by_test_back f place true h is = absurd (let old : slots_of st.waits f ≡ None = ap (slots_of st.waits) (sym (eqb-true i f h)) ∙ slot_was st.waits ws' i None (Some (new_wait l plain)) no_future waits in cc)
-        by_test_back f place false h is = slot_other st.waits ws' i None (Some (new_wait l plain)) no_future waits f (eqb-false i f h) ∙ is
-
         same : waiting_at (slots_of ws') (i + 1) l e.core.count.waiting ≡ waiting_at (slots_of st.waits) (i + 1) l e.core.count.waiting
-        same = waiting-alike (slots_of st.waits) (slots_of ws') (i + 1) (i + 1) l e.core.count.waiting k1.named new_named (λ f place is. by_test_back f place (i == f) refl is) (λ f place is. by_test f place (i == f) refl is)
+        same = waiting_beside (option_map slot_of) st.waits ws' i (Some (new_wait l plain)) waits (i + 1) (i + 1) k1.named new_named l e.core.count.waiting
+            (apart_unplaced l (slots_of st.waits i) (inl (ap (option_map slot_of) no_future)))
+            (apart_unplaced l (option_map slot_of (Some (new_wait l plain))) (inr (l, refl)))
 
     pub begins : Rested st begun_store next i (model.wait (latches_of st next) i l plain) answers.Made
     begins =
@@ -384,14 +350,14 @@ module _ (st : Store) (next i : ℕ) (k : IsKept st next) (less : next ≤ i) (l
         let was : weight (λ q (y : LatchEntry). length y.core.count.waiting.wakers) l (get st.latches l) ≡ length e.core.count.waiting.wakers = ap (weight (λ q (y : LatchEntry). length y.core.count.waiting.wakers) l) there in
         rested begun_store (λ h. model.wait h i l plain) answers.Made (kept_after st begun_store (i + 1) l (Some (begun e plain)) k1 begun_changes)
         (λ j. record {
-          latches = same-again now.latches (latches_of begun_store (i + 1)).latches l (latch_of st.waits (i + 1) l e) (latch_there st (i + 1) l e there) (λ q. latches_after st begun_store (i + 1) l (Some (begun e plain)) k1 begun_changes q ∙ ap (λ r. cond (l == q) (Some r) (get now.latches q)) begun_seen) j;
-          waits = changed-put now.waits (latches_of begun_store (i + 1)).waits i (record { latch = l; plain = plain }) (waits_after st ls' ws' (i + 1) i (Some (new_wait l plain)) waits) j;
+          latches = is_same now.latches (latches_of begun_store (i + 1)).latches l (Some (latch_of st.waits (i + 1) l e)) (latch_there st (i + 1) l e there) (λ q. latches_after st begun_store (i + 1) l (Some (begun e plain)) k1 begun_changes q ∙ ap (λ r. cond (l == q) (Some r) (get now.latches q)) begun_seen) j;
+          waits = is_insert now.waits (latches_of begun_store (i + 1)).waits i (record { latch = l; plain = plain }) (waits_after st ls' ws' (i + 1) i (Some (new_wait l plain)) waits) j;
         })
         refl refl (omega (arith, sums, was))
 
   -- ---- `lat.poll` of a latch whose count has not ended
   module _ (ls' : FinMap nat_cmp LatchEntry) (ws' : FinMap nat_cmp LatchWaitEntry) (f w : ℕ) (x : LatchWaitEntry) (e : LatchEntry) (is : get st.waits f ≡ Some x) (there : get st.latches x.latch ≡ Some e)
-      (latches : (q : ℕ) → get ls' q ≡ cond (x.latch == q) (Some (registering_entry e x w)) (get st.latches q)) (waits : (g : ℕ) → get ws' g ≡ cond (f == g) (Some (registering_wait e x)) (get st.waits g)) where
+      (latches : Puts st.latches ls' x.latch (Some (registering_entry e x w))) (waits : Puts st.waits ws' f (Some (registering_wait e x))) where
     abbrev polled_store : Store
     polled_store = record { latches = ls'; waits = ws' }
 
@@ -457,8 +423,8 @@ module _ (st : Store) (next i : ℕ) (k : IsKept st next) (less : next ≤ i) (l
         let step = poll_is more in
         yielded polled_store poll_step answers.Pending before after (kept_after st polled_store (i + 1) x.latch (Some (registering_entry e x w)) k1 polled_changes)
         ((λ j. record {
-          latches = (changed-put now.latches (latches_of polled_store (i + 1)).latches x.latch (latch_of ws' (i + 1) x.latch (registering_entry e x w)) (latches_after st polled_store (i + 1) x.latch (Some (registering_entry e x w)) k1 polled_changes) ∙ ap (insert now.latches x.latch) polled_seen) j;
-          waits = same-again now.waits (latches_of polled_store (i + 1)).waits f (wait_of x) (wait_there st (i + 1) f x is) (waits_after st ls' ws' (i + 1) f (Some (registering_wait e x)) waits) j;
+          latches = (is_insert now.latches (latches_of polled_store (i + 1)).latches x.latch (latch_of ws' (i + 1) x.latch (registering_entry e x w)) (latches_after st polled_store (i + 1) x.latch (Some (registering_entry e x w)) k1 polled_changes) ∙ ap (insert now.latches x.latch) polled_seen) j;
+          waits = is_same now.waits (latches_of polled_store (i + 1)).waits f (Some (wait_of x)) (wait_there st (i + 1) f x is) (waits_after st ls' ws' (i + 1) f (Some (registering_wait e x)) waits) j;
         }) ∙ sym (ap (λ (o : Outcome Latches). o.hall) step))
         (sym (ap (λ (o : Outcome Latches). o.reply) step))
         (ap (λ (r : Waking ℕ). r.wakers) ready ∙ sym (append-nil before.wakers) ∙ ap (λ v. before.wakers ++ v) (sym (ap (λ (o : Outcome Latches). o.wakes) step)))
@@ -466,14 +432,14 @@ module _ (st : Store) (next i : ℕ) (k : IsKept st next) (less : next ≤ i) (l
 
   -- ---- a future is gone
   module _ (ls' : FinMap nat_cmp LatchEntry) (ws' : FinMap nat_cmp LatchWaitEntry) (f : ℕ) (x : LatchWaitEntry) (e : LatchEntry) (is : get st.waits f ≡ Some x) (there : get st.latches x.latch ≡ Some e)
-      (latches : (q : ℕ) → get ls' q ≡ cond (x.latch == q) (tidied (ended e x.plain)) (get st.latches q)) (waits : (g : ℕ) → get ws' g ≡ cond (f == g) None (get st.waits g)) where
+      (latches : Puts st.latches ls' x.latch (tidied (ended e x.plain))) (waits : Puts st.waits ws' f None) where
     abbrev mid_latches : FinMap nat_cmp LatchEntry
     mid_latches = insert st.latches x.latch (ended e x.plain)
 
     abbrev mid_store : Store
     mid_store = record { latches = mid_latches; waits = ws' }
 
-    put : (q : ℕ) → get mid_latches q ≡ cond (x.latch == q) (Some (ended e x.plain)) (get st.latches q)
+    put : Puts st.latches mid_latches x.latch (Some (ended e x.plain))
     put q = get_inserted st.latches x.latch q (ended e x.plain)
 
     its_own : (y : LatchWaitEntry) → Some x ≡ Some y → y.latch ≡ x.latch
@@ -509,17 +475,17 @@ module _ (st : Store) (next i : ℕ) (k : IsKept st next) (less : next ≤ i) (l
 
     left_hall : latches_of mid_store (i + 1) ≡ record { latches = insert now.latches x.latch (record (model.latch_at now x.latch) { count = counts.without_future (model.latch_at now x.latch).count f }); waits = remove now.waits f }
     left_hall = λ j. record {
-      latches = (changed-put now.latches (latches_of mid_store (i + 1)).latches x.latch (latch_of ws' (i + 1) x.latch (ended e x.plain)) (latches_after st mid_store (i + 1) x.latch (Some (ended e x.plain)) k1 left_changes)
+      latches = (is_insert now.latches (latches_of mid_store (i + 1)).latches x.latch (latch_of ws' (i + 1) x.latch (ended e x.plain)) (latches_after st mid_store (i + 1) x.latch (Some (ended e x.plain)) k1 left_changes)
           ∙ ap (insert now.latches x.latch) (left_seen ∙ ap (λ (r : Latch). record r { count = counts.without_future r.count f }) (sym (latch_is st (i + 1) x.latch e there)))) j;
-      waits = changed-gone now.waits (latches_of mid_store (i + 1)).waits f (waits_after st mid_latches ws' (i + 1) f None waits) j;
+      waits = is_remove now.waits (latches_of mid_store (i + 1)).waits f (waits_after st mid_latches ws' (i + 1) f None waits) j;
     }
 
     pub leaves : (F : Latches → Outcome Latches) (answer : Answer) (before after : Waking ℕ) → F now ≡ quietly (model.gone now f (wait_of x)) answer → registered (latches_of st next) ≤ before.registered → after ≡ record before { registered = before.registered - let_go (ended e x.plain) }
         → Yielded st (record { latches = ls'; waits = ws' }) next i (F (latches_of st next)) answer before after
     leaves F answer before after step room ready =
         let kept = kept_after st mid_store (i + 1) x.latch (Some (ended e x.plain)) k1 left_changes in
-        let mid_there = changed-there st.latches mid_latches x.latch (Some (ended e x.plain)) put in
-        let last : (q : ℕ) → get ls' q ≡ cond (x.latch == q) (tidied (ended e x.plain)) (get mid_latches q) = λ q. latches q ∙ sym (changed-over st.latches x.latch (ended e x.plain) (tidied (ended e x.plain)) q) in
+        let mid_there = put_here st.latches mid_latches x.latch (Some (ended e x.plain)) put in
+        let last : Puts mid_latches ls' x.latch (tidied (ended e x.plain)) = puts_over st.latches ls' x.latch (ended e x.plain) (tidied (ended e x.plain)) latches in
         let sums = registered_after st mid_store (i + 1) x.latch (Some (ended e x.plain)) k1 left_changes in
         let was : weight (λ q (y : LatchEntry). length y.core.count.waiting.wakers) x.latch (get st.latches x.latch) ≡ length e.core.count.waiting.wakers = ap (weight (λ q (y : LatchEntry). length y.core.count.waiting.wakers) x.latch) there in
         let gone = tidy_counted mid_store (i + 1) kept ls' x.latch (ended e x.plain) mid_there last in

@@ -1,9 +1,7 @@
 -- from the maps of a `LatchHall` to what its calls promise
 use Rattle.std.proofs.Common.{◌≡◌, ℕ, ◌+◌, ◌-◌, ◌<◌, ◌≤◌, ◌^◌, ◌==◌, ◌&&◌, ◌||◌, ◌++◌, Bool, true, false, cond, List, [], length, nat_lt, refl, ap, sym, subst, ◌∙◌, Option, Some, None, Result, Ok, Err, is_err, arith, if◌then◌else◌}
 use Rattle.std.specs.Option.{option_map, is_some, IfSome, IsSome}
-use Rattle.std.specs.Ordering.{nat_cmp}
-use Rattle.std.specs.BTreeMap.{is_at}
-use Rattle.std.specs.FinMap.{get, empty, get-empty}
+use Rattle.std.specs.FinMap.{get}
 use Rattle.std.proofs.lemmas.Bool.{eq-eqb}
 use Rattle.mea_base.specs.declared.answer.Answer.{Answer}
 use Rattle.mea_base.specs.declared.answer.Answer.TheVariants as answers
@@ -11,7 +9,6 @@ use Rattle.mea_base.specs.declared.no_memory.NoMemory.{NoMemory}
 use Rattle.mea_base.specs.Family.{Outcome, quietly}
 use Rattle.mea_base.specs.Named.{named, at}
 use Rattle.mea_base.specs.Ready.{Waking}
-use Rattle.mea_base.proofs.NamedMaps.{same_named}
 use Rattle.mea_sets.specs.Poll.{Poll, Ready, Pending}
 use Rattle.mea_sets.specs.WaitSet.{has_given}
 use Rattle.mea_sets.specs.Countdown as cores
@@ -20,15 +17,17 @@ use Rattle.mea_meet_core.specs.Count.{tried}
 use Rattle.mea_meet_model.specs.Count.{with_waker}
 use Rattle.mea_meet_model.specs.Latches as model
 use Rattle.mea_meet_model.specs.Latches.{Latch, Latches, registered}
-use Rattle.mea_meet.specs.Play.{Part, Rests, Yields}
+use Rattle.mea_meet.specs.Play.{Part}
 use Rattle.mea_meet.specs.StandsFor.{StandsForCount, StandsForLatch}
 use Rattle.mea_meet.specs.LatchHall.{Store, store_of, slot_of, slots_of, latch_of, latches_of, wait_of, IsKeptEntry, IsKept, ChangesAt, begun, ended, tidied, let_go, PollsIn, EndsIn, HasFuture, IsPollable, IsEndable}
 use Rattle.mea_meet.specs.declared.latches.LatchEntry.{LatchEntry}
 use Rattle.mea_meet.specs.declared.latches.LatchWaitEntry.{LatchWaitEntry}
 use Rattle.mea_meet.proofs.Names.{waiting-wakers}
-use Rattle.mea_meet.proofs.LatchMaps.{changed-there, same-again, kept-at, found, kept-changed, at_same, total-most}
-use Rattle.mea_meet.proofs.LatchStore.{latch_seen, registered_seen, wait_seen, plain_seen, given_to}
-use Rattle.mea_meet.proofs.LatchPlays.{Rested, Yielded, latch_is, named_is, named_not, wait_there, stays, makes, arrives, drops, begins, registering_entry, registering_wait, polls_on, leaves}
+use Rattle.mea_meet.proofs.Maps.{kept-at, found, kept-puts, at_same, weight-within, kept-puts-as, changed_at, some_if, some_found, kept-none, seen-empty, kept-unchanged}
+use Rattle.mea_meet.proofs.LatchStore.{registered_seen, wait_seen, plain_seen, given_to}
+use Rattle.mea_meet.proofs.LatchPlays.{Rested, Yielded, latch_is, named_is, named_not, wait_there, stays, makes, arrives, drops, begins, registering_entry, registering_wait, polls_on, leaves, RestedAt, YieldedAt}
+use Rattle.mea_meet.proofs.Counts.{woken-all}
+use Rattle.mea_meet.proofs.Slots.{named_none}
 
 abbrev pub Latchs : Type 0
 Latchs = List (ℕ × LatchEntry)
@@ -39,23 +38,17 @@ Waits = List (ℕ × LatchWaitEntry)
 -- ---- a hall with nothing in it
 pub kept_empty : (ls : Latchs) (ws : Waits) → ls ≡ [] → ws ≡ [] → IsKept (store_of ls ws) 0
 kept_empty ls ws none_l none_w = record {
-  each = λ l e is. absurd (let none : get (store_of ls ws).latches l ≡ None = kept-at ls l ∙ ap (λ es. at es l) none_l in cc);
-  home = λ f x is. absurd (let none : get (store_of ls ws).waits f ≡ None = kept-at ws f ∙ ap (λ es. at es f) none_w in cc);
-  named = record {
-    below = λ f x is. absurd (let none : slots_of (store_of ls ws).waits f ≡ None = no_slot f in cc);
-    apart = λ f g o place is also. absurd (let none : slots_of (store_of ls ws).waits f ≡ None = no_slot f in cc);
-  };
+  each = λ l e is. absurd (let none = kept-none ls none_l l in cc);
+  home = λ f x is. absurd (let none = kept-none ws none_w f in cc);
+  named = named_none (slots_of (store_of ls ws).waits) 0 (λ f. ap (option_map slot_of) (kept-none ws none_w f));
   low = omega arith;
 }
-  where
-    no_slot : (f : ℕ) → slots_of (store_of ls ws).waits f ≡ None
-    no_slot f = ap (option_map slot_of) (kept-at ws f ∙ ap (λ es. at es f) none_w)
 
 pub seen_empty : (ls : Latchs) (ws : Waits) → ls ≡ [] → ws ≡ [] → latches_of (store_of ls ws) 0 ≡ model.no_latches
-seen_empty ls ws none_l none_w = λ j. record {
-  latches = same_named (latches_of (store_of ls ws) 0).latches empty (λ q. latch_seen (store_of ls ws) 0 q ∙ ap (option_map (latch_of (store_of ls ws).waits 0 q)) (kept-at ls q ∙ ap (λ es. at es q) none_l) ∙ sym (get-empty nat_cmp q)) j;
-  waits = same_named (latches_of (store_of ls ws) 0).waits empty (λ q. wait_seen (store_of ls ws) 0 q ∙ ap (option_map wait_of) (kept-at ws q ∙ ap (λ es. at es q) none_w) ∙ sym (get-empty nat_cmp q)) j;
-}
+seen_empty ls ws none_l none_w =
+    let latches = seen-empty (latch_of (store_of ls ws).waits 0) (store_of ls ws).latches (kept-none ls none_l) in
+    let waits = seen-empty (λ f x. wait_of x) (store_of ls ws).waits (kept-none ws none_w) in
+    λ j. record { latches = latches j; waits = waits j }
 
 -- ---- what a look-up tells
 abbrev pub has_name : Option LatchEntry → Bool
@@ -92,20 +85,14 @@ module _ (ls : Latchs) (ws : Waits) (next : ℕ) (v : Part Latches) (seen : reco
   -- where a latch is, its wakers are among those that are registered
   pub room_at : (l : ℕ) (e : LatchEntry) → at ls l ≡ Some e → length e.core.count.waiting.wakers ≤ registered v.hall
   room_at l e is =
-      let most = total-most (λ q (y : LatchEntry). length y.core.count.waiting.wakers) (store_of ls ws).latches l e (found ls l e is) in
+      let most = weight-within (λ q (y : LatchEntry). length y.core.count.waiting.wakers) (store_of ls ws).latches l e (found ls l e is) in
       let all = registered_seen (store_of ls ws) next in
       let same : registered (latches_of (store_of ls ws) next) ≡ registered v.hall = ap (λ (p : Part Latches). registered p.hall) seen in
       omega (arith, most, all, same)
 
-  -- a future that is there, and its latch
-  pub future_at : (f : ℕ) → IsSome (get v.hall.waits f) → at ws f ≡ None → ⊥
-  future_at f there none = absurd (let no : is_some (at ws f) ≡ false = ap is_some none in let both = wait_at f in cc)
-
+  -- the latch of a future
   pub latch_at_wait : (f : ℕ) (x : LatchWaitEntry) → IsKept (store_of ls ws) next → at ws f ≡ Some x → (e : LatchEntry) × (at ls x.latch ≡ Some e)
   latch_at_wait f x k is = let home = k.home f x (found ws f x is) in (home.entry, sym (kept-at ls x.latch) ∙ home.there)
-
-  pub wait_seen_at : (f : ℕ) (x : LatchWaitEntry) → at ws f ≡ Some x → get v.hall.waits f ≡ Some (wait_of x)
-  wait_seen_at f x is = sym (ap (λ (p : Part Latches). get p.hall.waits f) seen) ∙ wait_there (store_of ls ws) next f x (found ws f x is)
 
   pub kept_at : (l : ℕ) (e : LatchEntry) → IsKept (store_of ls ws) next → at ls l ≡ Some e → IsKeptEntry (store_of ls ws) next l e
   kept_at l e k is = k.each l e (found ls l e is)
@@ -114,11 +101,7 @@ module _ (ls : Latchs) (ws : Waits) (next : ℕ) (v : Part Latches) (seen : reco
   quiet_at l e k is = (kept_at l e k is).quiet
 
   pub find_wait : (f : ℕ) → IsSome (get v.hall.waits f) → (x : LatchWaitEntry) × (at ws f ≡ Some x)
-  find_wait f there = by_wait (at ws f) refl
-    where
-      by_wait : (o : Option LatchWaitEntry) → at ws f ≡ o → (x : LatchWaitEntry) × (at ws f ≡ Some x)
-      by_wait None none = absurd (future_at f there none)
-      by_wait (Some x) is = (x, is)
+  find_wait f there = some_found (at ws f) (wait_at f ∙ there)
 
   pub given_at : (f : ℕ) (x : LatchWaitEntry) (e : LatchEntry) → IsKept (store_of ls ws) next → at ws f ≡ Some x → at ls x.latch ≡ Some e → has_given e.core.count.waiting x.wait ≡ true
   given_at f x e k is there = given_to (store_of ls ws) next x.latch e k (found ls x.latch e there) f x (found ws f x is) refl
@@ -128,8 +111,8 @@ module _ (ls : Latchs) (ws : Waits) (next : ℕ) (v : Part Latches) (seen : reco
       let kept = k.each x.latch e (found ls x.latch e there) in
       let waits = kept.waits in
       let plain = kept.plain in
-      let most = total-most (λ g (y : LatchWaitEntry). cond (y.latch == x.latch) 1 0) (store_of ls ws).waits f x (found ws f x is) in
-      let most_plain = total-most (λ g (y : LatchWaitEntry). cond (y.latch == x.latch && y.plain) 1 0) (store_of ls ws).waits f x (found ws f x is) in
+      let most = weight-within (λ g (y : LatchWaitEntry). cond (y.latch == x.latch) 1 0) (store_of ls ws).waits f x (found ws f x is) in
+      let most_plain = weight-within (λ g (y : LatchWaitEntry). cond (y.latch == x.latch && y.plain) 1 0) (store_of ls ws).waits f x (found ws f x is) in
       let one : ◌≡◌ {A = ℕ} (cond (x.latch == x.latch) 1 0) 1 = at_same x.latch x.latch 1 0 refl in
       let one_plain : ◌≡◌ {A = ℕ} (cond (x.latch == x.latch && x.plain) 1 0) (cond x.plain 1 0) = ap (λ t. cond (t && x.plain) 1 0) (eq-eqb x.latch x.latch refl) in
       let all = room_at x.latch e there in
@@ -147,32 +130,15 @@ module _ (ls : Latchs) (ws : Waits) (next : ℕ) (v : Part Latches) (seen : reco
       let e = latch_at_wait f x.0 k x.1 in
       record { future = x.0; entry = e.0; is_future = x.1; is_entry = e.1; holds = endable_with f x.0 e.0 ready k x.1 e.1 room }
 
--- what holds of what was found
-pub of_one : {X : Type 0} (es : List (ℕ × X)) (k : ℕ) (x : X) (P : X → Type 0) → at es k ≡ Some x → IfSome (at es k) P → P x
-of_one es k x P is holds = subst (λ o. IfSome o P) is holds
-
 -- what holds of a future and its latch, where both were found
 pub of_both : (ls : Latchs) (ws : Waits) (f : ℕ) (x : LatchWaitEntry) (e : LatchEntry) (P : LatchWaitEntry → LatchEntry → Type 0) → at ws f ≡ Some x → at ls x.latch ≡ Some e → IfSome (at ws f) (λ y. IfSome (at ls y.latch) (λ d. P y d)) → P x e
-of_both ls ws f x e P is there holds =
-    let first : IfSome (at ls x.latch) (λ d. P x d) = subst (λ o. IfSome o (λ y. IfSome (at ls y.latch) (λ d. P y d))) is holds in
-    subst (λ o. IfSome o (λ d. P x d)) there first
-
--- ---- changes of lists of entries
-pub changed_at : {X : Type 0} (old new : List (ℕ × X)) (k : ℕ) (o : Option X) → ChangesAt old new k o → at new k ≡ o
-changed_at old new k o change = sym (kept-at new k) ∙ changed-there (named (λ q x. x) old) (named (λ q x. x) new) k o (kept-changed old new k o change)
-
-pub changes_over : {X : Type 0} (old mid new : List (ℕ × X)) (k : ℕ) (o p : Option X) → ChangesAt old mid k o → ChangesAt mid new k p → ChangesAt old new k p
-changes_over old mid new k o p first second q = second q ∙ ap (cond (is_at (nat_cmp k) q) p) (first q) ∙ by_test (is_at (nat_cmp k) q)
-  where
-    by_test : (t : Bool) → cond t p (cond t o (at old q)) ≡ cond t p (at old q)
-    by_test true = refl
-    by_test false = refl
+of_both ls ws f x e P is there holds = some_if (λ d. P x d) (at ls x.latch) e there (some_if (λ y. IfSome (at ls y.latch) (λ d. P y d)) (at ws f) x is holds)
 
 -- what stands at its names is put there again
 pub same_store : (ls ls' : Latchs) (ws ws' : Waits) (l f : ℕ) (e d : LatchEntry) (x y : LatchWaitEntry) → at ls l ≡ Some e → at ws f ≡ Some x → ChangesAt ls ls' l (Some d) → d ≡ e → ChangesAt ws ws' f (Some y) → y ≡ x → store_of ls' ws' ≡ store_of ls ws
 same_store ls ls' ws ws' l f e d x y there is change same change_wait same_wait = λ j. record {
-  latches = same-again (store_of ls ws).latches (store_of ls' ws').latches l e (found ls l e there) (λ q. kept-changed ls ls' l (Some d) change q ∙ ap (λ z. cond (l == q) (Some z) (get (store_of ls ws).latches q)) same) j;
-  waits = same-again (store_of ls ws).waits (store_of ls' ws').waits f x (found ws f x is) (λ g. kept-changed ws ws' f (Some y) change_wait g ∙ ap (λ z. cond (f == g) (Some z) (get (store_of ls ws).waits g)) same_wait) j;
+  latches = kept-unchanged ls ls' l e d there change same j;
+  waits = kept-unchanged ws ws' f x y is change_wait same_wait j;
 }
 
 -- where an insertion fails, all is as it was
@@ -188,11 +154,7 @@ let_go_most e = by_test (e.named || nat_lt 0 e.waits)
     by_test false = omega arith
 
 pub woken_most : (e : LatchEntry) (n : ℕ) → length (cores.woken_by e.core.count n) ≤ length e.core.count.waiting.wakers
-woken_most e n = by_test (cores.ends e.core.count n)
-  where
-    by_test : (t : Bool) → length (if t then e.core.count.waiting.wakers else []) ≤ length e.core.count.waiting.wakers
-    by_test true = omega arith
-    by_test false = omega arith
+woken_most e n = let all = woken-all e.core.count n in omega (arith, all)
 
 -- the reply to a try, by what the core told
 abbrev pub told_try : Result (Unit {0}) ℕ → Answer
@@ -200,30 +162,22 @@ told_try (Ok u) = answers.Accepted
 told_try (Err m) = answers.Left m
 
 -- ---- what an event came to
-pub record RestedAt (v : Part Latches) (st' : Store) (i : ℕ) (o : Outcome Latches) (answer : Answer) : Type 0 where
-  pub kept : IsKept st' (i + 1)
-  pub rests : Rests registered v i o answer (record { hall = latches_of st' (i + 1); next = i + 1 })
-
-pub record YieldedAt (v : Part Latches) (st' : Store) (i : ℕ) (o : Outcome Latches) (answer : Answer) (before after : Waking ℕ) : Type 0 where
-  pub kept : IsKept st' (i + 1)
-  pub yields : Yields registered v i o answer (record { hall = latches_of st' (i + 1); next = i + 1 }) before after
-
 module _ (ls : Latchs) (ws : Waits) (next i : ℕ) (v : Part Latches) (seen : record { hall = latches_of (store_of ls ws) next; next = next } ≡ v) (k : IsKept (store_of ls ws) next) (later : v.next ≤ i) (low : i < 2 ^ 64) where
   less : next ≤ i
   less = let same : next ≡ v.next = ap (λ (p : Part Latches). p.next) seen in omega (arith, same, later)
 
   rested_at : (st' : Store) (F : Latches → Outcome Latches) (answer : Answer) → Rested (store_of ls ws) st' next i (F (latches_of (store_of ls ws) next)) answer → RestedAt v st' i (F v.hall) answer
-  rested_at st' F answer r = record { kept = r.kept; rests = subst (λ (p : Part Latches). Rests registered p i (F p.hall) answer (record { hall = latches_of st' (i + 1); next = i + 1 })) seen r.rests }
+  rested_at st' F answer r = subst (λ (p : Part Latches). RestedAt p st' i (F p.hall) answer) seen r
 
   yielded_at : (st' : Store) (F : Latches → Outcome Latches) (answer : Answer) (before after : Waking ℕ) → Yielded (store_of ls ws) st' next i (F (latches_of (store_of ls ws) next)) answer before after → YieldedAt v st' i (F v.hall) answer before after
-  yielded_at st' F answer before after r = record { kept = r.kept; yields = subst (λ (p : Part Latches). Yields registered p i (F p.hall) answer (record { hall = latches_of st' (i + 1); next = i + 1 }) before after) seen r.yields }
+  yielded_at st' F answer before after r = subst (λ (p : Part Latches). YieldedAt p st' i (F p.hall) answer before after) seen r
 
   room_then : (n : ℕ) → registered v.hall ≤ n → registered (latches_of (store_of ls ws) next) ≤ n
   room_then n room = let same : registered (latches_of (store_of ls ws) next) ≡ registered v.hall = ap (λ (p : Part Latches). registered p.hall) seen in omega (arith, same, room)
 
   pub makes_at : (ls' : Latchs) (n : ℕ) (c : Counting ℕ) → c ≡ record { count = count_from n; wakes = [] } → ChangesAt ls ls' i (Some (record { core = c; named = true; waits = 0; plain = 0 })) → RestedAt v (store_of ls' ws) i (model.make v.hall i n) answers.Made
   makes_at ls' n c new change = rested_at (store_of ls' ws) (λ h. model.make h i n) answers.Made (makes (store_of ls ws) next i k less low (store_of ls' ws).latches n
-      (λ q. kept-changed ls ls' i (Some (record { core = c; named = true; waits = 0; plain = 0 })) change q ∙ ap (λ d. cond (i == q) (Some (record { core = d; named = true; waits = 0; plain = 0 })) (get (store_of ls ws).latches q)) new))
+      (λ q. kept-puts ls ls' i (Some (record { core = c; named = true; waits = 0; plain = 0 })) change q ∙ ap (λ d. cond (i == q) (Some (record { core = d; named = true; waits = 0; plain = 0 })) (get (store_of ls ws).latches q)) new))
 
   pub counts_at : (l m : ℕ) (e : LatchEntry) → at ls l ≡ Some e → m ≡ e.core.count.number → RestedAt v (store_of ls ws) i (model.count v.hall l) (answers.Count m)
   counts_at l m e is told = rested_at (store_of ls ws) (λ h. model.count h l) (answers.Count m) (stays (store_of ls ws) next i k less low (λ h. model.count h l) (answers.Count m) refl refl
@@ -240,29 +194,29 @@ module _ (ls : Latchs) (ws : Waits) (next i : ℕ) (v : Part Latches) (seen : re
   pub arrives_at : (ls' : Latchs) (l n : ℕ) (e d : LatchEntry) (before after : Waking ℕ) → at ls l ≡ Some e → d ≡ record e { core = record { count = cores.decreased e.core.count n; wakes = [] } } → ChangesAt ls ls' l (Some d) → registered v.hall ≤ before.registered
       → after ≡ record { wakers = before.wakers ++ cores.woken_by e.core.count n; registered = before.registered - length (cores.woken_by e.core.count n) } → YieldedAt v (store_of ls' ws) i (model.arrive v.hall l n) answers.Done before after
   arrives_at ls' l n e d before after is new change room ready = yielded_at (store_of ls' ws) (λ h. model.arrive h l n) answers.Done before after (arrives (store_of ls ws) next i k less low (store_of ls' ws).latches l n e before after (found ls l e is)
-      (λ q. kept-changed ls ls' l (Some d) change q ∙ ap (λ y. cond (l == q) (Some y) (get (store_of ls ws).latches q)) new) (room_then before.registered room) ready)
+      (kept-puts-as ls ls' l d _ change new) (room_then before.registered room) ready)
 
   pub drops_at : (ls' : Latchs) (l : ℕ) (e : LatchEntry) (before after : Waking ℕ) → at ls l ≡ Some e → ChangesAt ls ls' l (tidied (record e { named = false })) → registered v.hall ≤ before.registered
       → after ≡ record before { registered = before.registered - let_go (record e { named = false }) } → YieldedAt v (store_of ls' ws) i (model.drop v.hall l) answers.Done before after
   drops_at ls' l e before after is change room ready = yielded_at (store_of ls' ws) (λ h. model.drop h l) answers.Done before after (drops (store_of ls ws) next i k less low (store_of ls' ws).latches l e before after (found ls l e is)
-      (kept-changed ls ls' l (tidied (record e { named = false })) change) (room_then before.registered room) ready)
+      (kept-puts ls ls' l (tidied (record e { named = false })) change) (room_then before.registered room) ready)
 
   pub begins_at : (ls' : Latchs) (ws' : Waits) (l : ℕ) (plain : Bool) (e d : LatchEntry) (x : LatchWaitEntry) → at ls l ≡ Some e → d ≡ begun e plain → ChangesAt ls ls' l (Some d) → x ≡ record { latch = l; wait = None; plain = plain } → ChangesAt ws ws' i (Some x)
       → RestedAt v (store_of ls' ws') i (model.wait v.hall i l plain) answers.Made
   begins_at ls' ws' l plain e d x is new change future put = rested_at (store_of ls' ws') (λ h. model.wait h i l plain) answers.Made (begins (store_of ls ws) next i k less low (store_of ls' ws').latches (store_of ls' ws').waits l plain e (found ls l e is)
-      (λ q. kept-changed ls ls' l (Some d) change q ∙ ap (λ y. cond (l == q) (Some y) (get (store_of ls ws).latches q)) new)
-      (λ g. kept-changed ws ws' i (Some x) put g ∙ ap (λ y. cond (i == g) (Some y) (get (store_of ls ws).waits g)) future))
+      (kept-puts-as ls ls' l d _ change new)
+      (kept-puts-as ws ws' i x _ put future))
 
   pub ends_at : (ls' : Latchs) (ws' : Waits) (f : ℕ) (x : LatchWaitEntry) (e : LatchEntry) (before after : Waking ℕ) → at ws f ≡ Some x → at ls x.latch ≡ Some e → registered v.hall ≤ before.registered → EndsIn ls ws f x e before ls' ws' after
       → YieldedAt v (store_of ls' ws') i (model.end_of v.hall f (get v.hall.waits f)) answers.Done before after
   ends_at ls' ws' f x e before after is there room ends = yielded_at (store_of ls' ws') (λ h. model.end_of h f (get h.waits f)) answers.Done before after (leaves (store_of ls ws) next i k less low (store_of ls' ws').latches (store_of ls' ws').waits f x e (found ws f x is) (found ls x.latch e there)
-      (kept-changed ls ls' x.latch (tidied (ended e x.plain)) ends.latches) (kept-changed ws ws' f None ends.waits) (λ h. model.end_of h f (get h.waits f)) answers.Done before after
+      (kept-puts ls ls' x.latch (tidied (ended e x.plain)) ends.latches) (kept-puts ws ws' f None ends.waits) (λ h. model.end_of h f (get h.waits f)) answers.Done before after
       (ap (model.end_of (latches_of (store_of ls ws) (i + 1)) f) (wait_there (store_of ls ws) (i + 1) f x (found ws f x is))) (room_then before.registered room) ends.ready)
 
   pub readies_at : (ls' : Latchs) (ws' : Waits) (f w : ℕ) (x : LatchWaitEntry) (e : LatchEntry) (before after : Waking ℕ) → at ws f ≡ Some x → at ls x.latch ≡ Some e → e.core.count.number ≡ 0 → registered v.hall ≤ before.registered → EndsIn ls ws f x e before ls' ws' after
       → YieldedAt v (store_of ls' ws') i (model.poll_of v.hall f w (get v.hall.waits f)) answers.Ready before after
   readies_at ls' ws' f w x e before after is there over room ends = yielded_at (store_of ls' ws') (λ h. model.poll_of h f w (get h.waits f)) answers.Ready before after (leaves (store_of ls ws) next i k less low (store_of ls' ws').latches (store_of ls' ws').waits f x e (found ws f x is) (found ls x.latch e there)
-      (kept-changed ls ls' x.latch (tidied (ended e x.plain)) ends.latches) (kept-changed ws ws' f None ends.waits) (λ h. model.poll_of h f w (get h.waits f)) answers.Ready before after step (room_then before.registered room) ends.ready)
+      (kept-puts ls ls' x.latch (tidied (ended e x.plain)) ends.latches) (kept-puts ws ws' f None ends.waits) (λ h. model.poll_of h f w (get h.waits f)) answers.Ready before after step (room_then before.registered room) ends.ready)
     where
       step : model.poll_of (latches_of (store_of ls ws) (i + 1)) f w (get (latches_of (store_of ls ws) (i + 1)).waits f) ≡ quietly (model.gone (latches_of (store_of ls ws) (i + 1)) f (wait_of x)) answers.Ready
       step = ap (model.poll_of (latches_of (store_of ls ws) (i + 1)) f w) (wait_there (store_of ls ws) (i + 1) f x (found ws f x is))
@@ -276,8 +230,8 @@ module _ (ls : Latchs) (ws : Waits) (next i : ℕ) (v : Part Latches) (seen : re
       let entry : polls.entry ≡ registering_entry e x w = polls.entry_is ∙ ap (λ (c : Counting ℕ). record e { core = c }) p.1 in
       let future : polls.future ≡ registering_wait e x = polls.future_is ∙ ap (λ s. record x { wait = s }) p.2 in
       yielded_at (store_of ls' ws') (λ h. model.poll_of h f w (get h.waits f)) answers.Pending before after (polls_on (store_of ls ws) next i k less low (store_of ls' ws').latches (store_of ls' ws').waits f w x e (found ws f x is) (found ls x.latch e there)
-      (λ q. kept-changed ls ls' x.latch (Some polls.entry) polls.latches q ∙ ap (λ y. cond (x.latch == q) (Some y) (get (store_of ls ws).latches q)) entry)
-      (λ g. kept-changed ws ws' f (Some polls.future) polls.waits g ∙ ap (λ y. cond (f == g) (Some y) (get (store_of ls ws).waits g)) future)
+      (kept-puts-as ls ls' x.latch polls.entry _ polls.latches entry)
+      (kept-puts-as ws ws' f polls.future _ polls.waits future)
       before after p.0 p.3)
 
 -- ---- a poll that is ready or fails changes nothing

@@ -1,33 +1,20 @@
 -- what a change of one latch does to what a `LatchHall` keeps, and to the latches that it stands for
-use Rattle.std.proofs.Common.{◌≡◌, ℕ, ◌+◌, ◌≤◌, ◌^◌, ◌==◌, ◌&&◌, Bool, true, false, cond, length, refl, ap, sym, subst, ◌∙◌, Option, Some, None, arith}
-use Rattle.std.specs.Option.{option_map, is_some}
+use Rattle.std.proofs.Common.{◌≡◌, ℕ, ◌+◌, ◌≤◌, ◌^◌, ◌==◌, ◌&&◌, true, cond, length, refl, ap, sym, subst, ◌∙◌, Option, Some, None, arith}
+use Rattle.std.specs.Option.{option_map}
 use Rattle.std.specs.Ordering.{nat_cmp}
 use Rattle.std.specs.FinMap.{FinMap, get}
-use Rattle.std.proofs.lemmas.Bool.{eqb-true, eqb-false, eq-eqb, ne_eqb}
+use Rattle.std.proofs.lemmas.Bool.{eq-eqb, ne_eqb}
 use Rattle.mea_base.specs.Totals.{total, weight}
-use Rattle.mea_base.proofs.NamedMaps.{same_named}
-use Rattle.mea_base.proofs.Totals.{total-alike}
-use Rattle.mea_sets.specs.declared.place.Place.{Place}
+use Rattle.mea_base.proofs.Totals.{total-same}
 use Rattle.mea_sets.specs.WaitSet.{Registered, has_given}
 use Rattle.mea_meet_model.specs.Latches.{Latch, LatchWait, registered}
 use Rattle.mea_meet.specs.Names.{waiting_at, AreNamed, AreGiven}
 use Rattle.mea_meet.specs.LatchHall.{Store, slot_of, slots_of, latch_of, wait_of, latches_of, waits_in, plain_in, IsKeptEntry, IsHome, IsKept}
 use Rattle.mea_meet.specs.declared.latches.LatchEntry.{LatchEntry}
 use Rattle.mea_meet.specs.declared.latches.LatchWaitEntry.{LatchWaitEntry}
-use Rattle.mea_meet.proofs.Names.{waiting-length, waiting-alike, named-later}
-use Rattle.mea_meet.proofs.LatchMaps.{at_same, at_apart, get-seen, changed-there, changed-other, total-changed}
-
--- the parts of what a future's slot is
-abbrev name_in : ℕ → Option (ℕ × Option Place) → ℕ
-name_in d None = d
-name_in d (Some y) = y.0
-
-abbrev pub slot_in : Option Place → Option (ℕ × Option Place) → Option Place
-slot_in d None = d
-slot_in d (Some y) = y.1
-
-latch_is : (x : LatchWaitEntry) (p : ℕ) (slot : Option Place) → Some (slot_of x) ≡ Some (p, slot) → x.latch ≡ p
-latch_is x p slot is = ap (name_in x.latch) is
+use Rattle.mea_meet.proofs.Names.{waiting-length, named-later}
+use Rattle.mea_meet.proofs.Maps.{get-seen, put_other, total_puts, seen_puts, puts_seen, Belongs, total_elsewhere, by_name, put_there, total-named, seen_alike, one_of, total_puts_was, weighs_here, one_entry, Puts}
+use Rattle.mea_meet.proofs.Slots.{slots_there, slots_other, apart_belongs, waiting_beside, given_by, waiting_later}
 
 -- 1 for a plain future
 abbrev pub plain_of : Option LatchWaitEntry → ℕ
@@ -49,25 +36,15 @@ abbrev pub wakers_in : FinMap nat_cmp LatchEntry → ℕ
 wakers_in ls = total (λ l (e : LatchEntry). length e.core.count.waiting.wakers) ls
 
 pub registered_seen : (st : Store) (b : ℕ) → registered (latches_of st b) ≡ wakers_in st.latches
-registered_seen st b = total-alike (λ l (r : Latch). length r.count.waiting) (λ l (e : LatchEntry). length e.core.count.waiting.wakers) (latches_of st b).latches st.latches (λ l. ap (weight (λ q (r : Latch). length r.count.waiting) l) (latch_seen st b l) ∙ by_entry l (get st.latches l))
-  where
-    by_entry : (l : ℕ) (o : Option LatchEntry) → weight (λ q (r : Latch). length r.count.waiting) l (option_map (latch_of st.waits b l) o) ≡ weight (λ q (e : LatchEntry). length e.core.count.waiting.wakers) l o
-    by_entry l None = refl
-    by_entry l (Some e) = waiting-length (slots_of st.waits) b l e.core.count.waiting
+registered_seen st b =
+    total-named (latch_of st.waits b) (λ l (r : Latch). length r.count.waiting) st.latches
+    ∙ total-same _ _ st.latches (λ l e is. waiting-length (slots_of st.waits) b l e.core.count.waiting)
 
 pub waits_seen : (st : Store) (b l : ℕ) → total (λ f (x : LatchWait). cond (x.latch == l) 1 0) (latches_of st b).waits ≡ waits_in st.waits l
-waits_seen st b l = total-alike (λ f (x : LatchWait). cond (x.latch == l) 1 0) (λ f (x : LatchWaitEntry). cond (x.latch == l) 1 0) (latches_of st b).waits st.waits (λ f. ap (weight (λ g (x : LatchWait). cond (x.latch == l) 1 0) f) (wait_seen st b f) ∙ by_entry f (get st.waits f))
-  where
-    by_entry : (f : ℕ) (o : Option LatchWaitEntry) → weight (λ g (x : LatchWait). cond (x.latch == l) 1 0) f (option_map wait_of o) ≡ weight (λ g (x : LatchWaitEntry). cond (x.latch == l) 1 0) f o
-    by_entry f None = refl
-    by_entry f (Some x) = refl
+waits_seen st b l = total-named (λ f x. wait_of x) (λ f (x : LatchWait). cond (x.latch == l) 1 0) st.waits
 
 pub plain_seen : (st : Store) (b l : ℕ) → total (λ f (x : LatchWait). cond (x.latch == l && x.plain) 1 0) (latches_of st b).waits ≡ plain_in st.waits l
-plain_seen st b l = total-alike (λ f (x : LatchWait). cond (x.latch == l && x.plain) 1 0) (λ f (x : LatchWaitEntry). cond (x.latch == l && x.plain) 1 0) (latches_of st b).waits st.waits (λ f. ap (weight (λ g (x : LatchWait). cond (x.latch == l && x.plain) 1 0) f) (wait_seen st b f) ∙ by_entry f (get st.waits f))
-  where
-    by_entry : (f : ℕ) (o : Option LatchWaitEntry) → weight (λ g (x : LatchWait). cond (x.latch == l && x.plain) 1 0) f (option_map wait_of o) ≡ weight (λ g (x : LatchWaitEntry). cond (x.latch == l && x.plain) 1 0) f o
-    by_entry f None = refl
-    by_entry f (Some x) = refl
+plain_seen st b l = total-named (λ f x. wait_of x) (λ f (x : LatchWait). cond (x.latch == l && x.plain) 1 0) st.waits
 
 -- ---- where nothing changes, and the bound rises
 module _ (st : Store) (b b' : ℕ) (k : IsKept st b) (rises : b ≤ b') where
@@ -80,22 +57,14 @@ module _ (st : Store) (b b' : ℕ) (k : IsKept st b) (rises : b ≤ b') where
     low = low;
   }
 
-  pub waiting_later : (q : ℕ) (s : Registered ℕ) → waiting_at (slots_of st.waits) b' q s ≡ waiting_at (slots_of st.waits) b q s
-  waiting_later q s = waiting-alike (slots_of st.waits) (slots_of st.waits) b b' q s k.named (named-later (slots_of st.waits) b b' k.named rises) (λ f place is. is) (λ f place is. is)
-
   pub later_seen : latches_of st b' ≡ latches_of st b
-  later_seen = λ j. record { latches = same j; waits = (latches_of st b).waits }
-    where
-      by_entry : (q : ℕ) (o : Option LatchEntry) → option_map (latch_of st.waits b' q) o ≡ option_map (latch_of st.waits b q) o
-      by_entry q None = refl
-      by_entry q (Some e) = λ j. Some (record { count = record { number = e.core.count.number; waiting = waiting_later q e.core.count.waiting j }; named = e.named })
-
-      same : (latches_of st b').latches ≡ (latches_of st b).latches
-      same = same_named _ _ (λ q. latch_seen st b' q ∙ by_entry q (get st.latches q) ∙ sym (latch_seen st b q))
+  later_seen =
+      let same = seen_alike (latch_of st.waits b) (latch_of st.waits b') st.latches (λ q e is. λ j. record { count = record { number = e.core.count.number; waiting = waiting_later (slots_of st.waits) b b' q e.core.count.waiting k.named rises j }; named = e.named }) in
+      λ j. record { latches = same j; waits = (latches_of st b).waits }
 
 -- ---- a latch l becomes this, or is gone; futures of others stay as they are
 pub record Changes (st st' : Store) (b l : ℕ) (e' : Option LatchEntry) : Type 0 where
-  pub latches : (q : ℕ) → get st'.latches q ≡ cond (l == q) e' (get st.latches q)
+  pub latches : Puts st.latches st'.latches l e'
   pub named : AreNamed (slots_of st'.waits) b
   pub waiting : (q : ℕ) (s : Registered ℕ) → (l ≡ q → ⊥) → waiting_at (slots_of st'.waits) b q s ≡ waiting_at (slots_of st.waits) b q s
   pub waits : (q : ℕ) → (l ≡ q → ⊥) → waits_in st'.waits q ≡ waits_in st.waits q
@@ -106,137 +75,88 @@ pub record Changes (st st' : Store) (b l : ℕ) (e' : Option LatchEntry) : Type 
 
 module _ (st st' : Store) (b l : ℕ) (e' : Option LatchEntry) (k : IsKept st b) (c : Changes st st' b l e') where
   each_after : (q : ℕ) (e : LatchEntry) → get st'.latches q ≡ Some e → IsKeptEntry st' b q e
-  each_after q e is = by_test (l == q) refl
-    where
-      by_test : (t : Bool) → (l == q) ≡ t → IsKeptEntry st' b q e
-      by_test true h =
-          let same : l ≡ q = eqb-true l q h in
-          subst (λ p. IsKeptEntry st' b p e) same (c.kept e (sym (changed-there st.latches st'.latches l e' c.latches) ∙ ap (get st'.latches) same ∙ is))
-      by_test false h =
-          let apart : l ≡ q → ⊥ = eqb-false l q h in
-          let old = k.each q e (sym (changed-other st.latches st'.latches l e' c.latches q apart) ∙ is) in
-          record { quiet = old.quiet; waits = old.waits ∙ sym (c.waits q apart); plain = old.plain ∙ sym (c.plain q apart); few = old.few; few_plain = old.few_plain; below = old.below }
+  each_after q e is = by_name l q
+      (λ same. subst (λ p. IsKeptEntry st' b p e) same (c.kept e (sym (put_there st.latches st'.latches l e' c.latches q same) ∙ is)))
+      (λ apart. let old = k.each q e (sym (put_other st.latches st'.latches l e' c.latches q apart) ∙ is) in
+      record { quiet = old.quiet; waits = old.waits ∙ sym (c.waits q apart); plain = old.plain ∙ sym (c.plain q apart); few = old.few; few_plain = old.few_plain; below = old.below })
 
   home_after : (f : ℕ) (x : LatchWaitEntry) → get st'.waits f ≡ Some x → IsHome st' x
-  home_after f x is = by_test (l == x.latch) refl
-    where
-      by_test : (t : Bool) → (l == x.latch) ≡ t → IsHome st' x
-      by_test true h =
-          let same : l ≡ x.latch = eqb-true l x.latch h in
-          let m = c.mine f x same is in
-          record { entry = m.0; there = ap (get st'.latches) (sym same) ∙ changed-there st.latches st'.latches l e' c.latches ∙ m.1; given = m.2 }
-      by_test false h =
-          let apart : l ≡ x.latch → ⊥ = eqb-false l x.latch h in
-          let old = k.home f x (c.others f x apart is) in
-          record { entry = old.entry; there = changed-other st.latches st'.latches l e' c.latches x.latch apart ∙ old.there; given = old.given }
+  home_after f x is = by_name l x.latch
+      (λ same. let m = c.mine f x same is in record { entry = m.0; there = put_there st.latches st'.latches l e' c.latches x.latch same ∙ m.1; given = m.2 })
+      (λ apart. let old = k.home f x (c.others f x apart is) in record { entry = old.entry; there = put_other st.latches st'.latches l e' c.latches x.latch apart ∙ old.there; given = old.given })
 
   pub kept_after : IsKept st' b
   kept_after = record { each = each_after; home = home_after; named = c.named; low = k.low }
 
-  pub latches_after : (q : ℕ) → get (latches_of st' b).latches q ≡ cond (l == q) (option_map (latch_of st'.waits b l) e') (get (latches_of st b).latches q)
-  latches_after q = latch_seen st' b q ∙ ap (option_map (latch_of st'.waits b q)) (c.latches q) ∙ by_test (l == q) refl
-    where
-      by_entry : (l ≡ q → ⊥) → (o : Option LatchEntry) → option_map (latch_of st'.waits b q) o ≡ option_map (latch_of st.waits b q) o
-      by_entry apart None = refl
-      by_entry apart (Some e) = λ j. Some (record { count = record { number = e.core.count.number; waiting = c.waiting q e.core.count.waiting apart j }; named = e.named })
-
-      by_test : (t : Bool) → (l == q) ≡ t → option_map (latch_of st'.waits b q) (cond t e' (get st.latches q)) ≡ cond t (option_map (latch_of st'.waits b l) e') (get (latches_of st b).latches q)
-      by_test true h = ap (λ p. option_map (latch_of st'.waits b p) e') (sym (eqb-true l q h))
-      by_test false h = by_entry (eqb-false l q h) (get st.latches q) ∙ sym (latch_seen st b q)
+  pub latches_after : Puts (latches_of st b).latches (latches_of st' b).latches l (option_map (latch_of st'.waits b l) e')
+  latches_after = seen_puts (latch_of st.waits b) (latch_of st'.waits b) st.latches st'.latches l e' c.latches
+      (λ q e apart there. λ j. record { count = record { number = e.core.count.number; waiting = c.waiting q e.core.count.waiting apart j }; named = e.named })
 
   -- how many wakers are registered
   pub registered_after : registered (latches_of st' b) + weight (λ q (e : LatchEntry). length e.core.count.waiting.wakers) l (get st.latches l) ≡ registered (latches_of st b) + weight (λ q (e : LatchEntry). length e.core.count.waiting.wakers) l e'
   registered_after =
       let after = registered_seen st' b in
       let before = registered_seen st b in
-      let sums = total-changed (λ q (e : LatchEntry). length e.core.count.waiting.wakers) st.latches st'.latches l e' c.latches in
+      let sums = total_puts st.latches st'.latches l (λ q (e : LatchEntry). length e.core.count.waiting.wakers) e' c.latches in
       omega (arith, after, before, sums)
 
 -- ---- a future f becomes this, or is gone
-module _ (ws ws' : Kept) (f : ℕ) (o o' : Option LatchWaitEntry) (was : get ws f ≡ o) (now : (g : ℕ) → get ws' g ≡ cond (f == g) o' (get ws g)) where
+module _ (ws ws' : Kept) (f : ℕ) (o o' : Option LatchWaitEntry) (was : get ws f ≡ o) (now : Puts ws ws' f o') where
   -- the slots, before and after
   pub slot_other : (g : ℕ) → (f ≡ g → ⊥) → slots_of ws' g ≡ slots_of ws g
-  slot_other g apart = ap (option_map slot_of) (changed-other ws ws' f o' now g apart)
+  slot_other = slots_other (option_map slot_of) ws ws' f o' now
 
   pub slot_was : slots_of ws f ≡ option_map slot_of o
   slot_was = ap (option_map slot_of) was
 
   pub slot_now : slots_of ws' f ≡ option_map slot_of o'
-  slot_now = ap (option_map slot_of) (changed-there ws ws' f o' now)
+  slot_now = slots_there (option_map slot_of) ws ws' f o' now
 
 -- the futures as they are seen after it
-pub waits_after : (st : Store) (ls' : FinMap nat_cmp LatchEntry) (ws' : Kept) (b f : ℕ) (o' : Option LatchWaitEntry) → ((g : ℕ) → get ws' g ≡ cond (f == g) o' (get st.waits g)) → (g : ℕ) → get (latches_of (record { latches = ls'; waits = ws' }) b).waits g ≡ cond (f == g) (option_map wait_of o') (get (latches_of st b).waits g)
-waits_after st ls' ws' b f o' now g = wait_seen (record { latches = ls'; waits = ws' }) b g ∙ ap (option_map wait_of) (now g) ∙ by_test (f == g)
-  where
-    by_test : (t : Bool) → option_map wait_of (cond t o' (get st.waits g)) ≡ cond t (option_map wait_of o') (get (latches_of st b).waits g)
-    by_test true = refl
-    by_test false = sym (wait_seen st b g)
+pub waits_after : (st : Store) (ls' : FinMap nat_cmp LatchEntry) (ws' : Kept) (b f : ℕ) (o' : Option LatchWaitEntry) → Puts st.waits ws' f o' → Puts (latches_of st b).waits (latches_of (record { latches = ls'; waits = ws' }) b).waits f (option_map wait_of o')
+waits_after st ls' ws' b f o' now = puts_seen wait_of st.waits ws' f o' now
 
 -- the same, of the latch l
-module _ (ws ws' : Kept) (b l f : ℕ) (o o' : Option LatchWaitEntry) (named : AreNamed (slots_of ws) b) (named' : AreNamed (slots_of ws') b) (was : get ws f ≡ o) (now : (g : ℕ) → get ws' g ≡ cond (f == g) o' (get ws g)) (mine : (x : LatchWaitEntry) → o ≡ Some x → x.latch ≡ l) (mine' : (x : LatchWaitEntry) → o' ≡ Some x → x.latch ≡ l) where
-  -- what a future of another latch is, before and after
-  pub other_wait : (q g : ℕ) (x : LatchWaitEntry) → (l ≡ q → ⊥) → x.latch ≡ q → get ws' g ≡ Some x → get ws g ≡ Some x
-  other_wait q g x apart at_q is = by_test (f == g) refl
-    where
-      by_test : (t : Bool) → (f == g) ≡ t → get ws g ≡ Some x
-      by_test true h = absurd (apart (sym (mine' x (sym (changed-there ws ws' f o' now) ∙ ap (get ws') (eqb-true f g h) ∙ is)) ∙ at_q))
-      by_test false h = sym (changed-other ws ws' f o' now g (eqb-false f g h)) ∙ is
-
-  pub other_wait_back : (q g : ℕ) (x : LatchWaitEntry) → (l ≡ q → ⊥) → x.latch ≡ q → get ws g ≡ Some x → get ws' g ≡ Some x
-  other_wait_back q g x apart at_q is = by_test (f == g) refl
-    where
-      by_test : (t : Bool) → (f == g) ≡ t → get ws' g ≡ Some x
-      by_test true h = absurd (apart (sym (mine x (sym was ∙ ap (get ws) (eqb-true f g h) ∙ is)) ∙ at_q))
-      by_test false h = changed-other ws ws' f o' now g (eqb-false f g h) ∙ is
+module _ (ws ws' : Kept) (b l f : ℕ) (o o' : Option LatchWaitEntry) (named : AreNamed (slots_of ws) b) (named' : AreNamed (slots_of ws') b) (was : get ws f ≡ o) (now : Puts ws ws' f o') (mine : (x : LatchWaitEntry) → o ≡ Some x → x.latch ≡ l) (mine' : (x : LatchWaitEntry) → o' ≡ Some x → x.latch ≡ l) where
+  was_mine : Belongs {X = LatchWaitEntry} (λ x. x.latch) l (get ws f)
+  was_mine x is = mine x (sym was ∙ is)
 
   pub waiting_other : (q : ℕ) (s : Registered ℕ) → (l ≡ q → ⊥) → waiting_at (slots_of ws') b q s ≡ waiting_at (slots_of ws) b q s
-  waiting_other q s apart = waiting-alike (slots_of ws) (slots_of ws') b b q s named named'
-      (λ g place is. by_old g place (get ws g) refl is) (λ g place is. by_new g place (get ws' g) refl is)
-    where
-      by_old : (g : ℕ) (place : Place) (p : Option LatchWaitEntry) → get ws g ≡ p → option_map slot_of p ≡ Some (q, Some place) → slots_of ws' g ≡ Some (q, Some place)
-      by_old g place None at_g is = absurd (cc)
-      by_old g place (Some x) at_g is = ap (option_map slot_of) (other_wait_back q g x apart (latch_is x q (Some place) is) at_g) ∙ is
+  waiting_other q s apart = waiting_beside (option_map slot_of) ws ws' f o' now b b named named' q s
+      (apart_belongs (λ (x : LatchWaitEntry). x.latch) (λ x. x.wait) (get ws f) l q was_mine apart)
+      (apart_belongs (λ (x : LatchWaitEntry). x.latch) (λ x. x.wait) o' l q mine' apart)
 
-      by_new : (g : ℕ) (place : Place) (p : Option LatchWaitEntry) → get ws' g ≡ p → option_map slot_of p ≡ Some (q, Some place) → slots_of ws g ≡ Some (q, Some place)
-      by_new g place None at_g is = absurd (cc)
-      by_new g place (Some x) at_g is = ap (option_map slot_of) (other_wait q g x apart (latch_is x q (Some place) is) at_g) ∙ is
-
-  -- a sum over the futures of another latch
-  sum_other : (q : ℕ) (F : LatchWaitEntry → ℕ) → (l ≡ q → ⊥) → ((x : LatchWaitEntry) → x.latch ≡ l → F x ≡ 0) → total (λ g x. F x) ws' ≡ total (λ g x. F x) ws
-  sum_other q F apart none = total-alike (λ g x. F x) (λ g x. F x) ws' ws (λ g. ap (weight (λ h x. F x) g) (now g) ∙ by_test g (f == g) refl)
-    where
-      weightless : (g : ℕ) (p : Option LatchWaitEntry) → ((x : LatchWaitEntry) → p ≡ Some x → x.latch ≡ l) → weight (λ h x. F x) g p ≡ 0
-      weightless g None own = refl
-      weightless g (Some x) own = none x (own x refl)
-
-      by_test : (g : ℕ) (t : Bool) → (f == g) ≡ t → weight (λ h x. F x) g (cond t o' (get ws g)) ≡ weight (λ h x. F x) g (get ws g)
-      by_test g true h = weightless g o' mine' ∙ sym (ap (weight (λ h x. F x) g) (ap (get ws) (sym (eqb-true f g h)) ∙ was) ∙ weightless g o mine)
-      by_test g false h = refl
-
+  -- sums over the futures of another latch
   pub waits_other : (q : ℕ) → (l ≡ q → ⊥) → waits_in ws' q ≡ waits_in ws q
-  waits_other q apart = sum_other q (λ x. cond (x.latch == q) 1 0) apart (λ x own. at_apart x.latch q 1 0 (λ same. apart (sym own ∙ same)))
+  waits_other q apart = total_elsewhere (λ (x : LatchWaitEntry). x.latch) (λ x. 1) ws ws' f o' l q now was_mine mine' apart
 
   pub plain_other : (q : ℕ) → (l ≡ q → ⊥) → plain_in ws' q ≡ plain_in ws q
-  plain_other q apart = sum_other q (λ x. cond (x.latch == q && x.plain) 1 0) apart (λ x own. ap (λ t. cond (t && x.plain) 1 0) (ne_eqb x.latch q (λ same. apart (sym own ∙ same))))
+  plain_other q apart =
+      let all = total_puts ws ws' f (λ g (x : LatchWaitEntry). cond (x.latch == q && x.plain) 1 0) o' now in
+      let before = weighs (get ws f) was_mine in
+      let after = weighs o' mine' in
+      omega (arith, all, before, after)
+    where
+      weighs : (p : Option LatchWaitEntry) → Belongs (λ x. x.latch) l p → weight (λ g (x : LatchWaitEntry). cond (x.latch == q && x.plain) 1 0) f p ≡ 0
+      weighs None own = refl
+      weighs (Some x) own = ap (λ t. cond (t && x.plain) 1 0) (ne_eqb x.latch q (λ same. apart (sym (own x refl) ∙ same)))
 
   pub others_other : (g : ℕ) (x : LatchWaitEntry) → (l ≡ x.latch → ⊥) → get ws' g ≡ Some x → get ws g ≡ Some x
-  others_other g x apart is = other_wait x.latch g x apart refl is
+  others_other g x apart is = by_name f g
+      (λ same. absurd (apart (sym (mine' x (sym (put_there ws ws' f o' now g same) ∙ is)))))
+      (λ other. sym (put_other ws ws' f o' now g other) ∙ is)
 
   -- the sums over the futures of l itself
-  pub waits_mine : waits_in ws' l + cond (is_some o) 1 0 ≡ waits_in ws l + cond (is_some o') 1 0
+  pub waits_mine : waits_in ws' l + one_of o ≡ waits_in ws l + one_of o'
   waits_mine =
-      let sums = total-changed (λ g (x : LatchWaitEntry). cond (x.latch == l) 1 0) ws ws' f o' now in
-      let old : weight (λ g (x : LatchWaitEntry). cond (x.latch == l) 1 0) f (get ws f) ≡ cond (is_some o) 1 0 = ap (weight (λ g (x : LatchWaitEntry). cond (x.latch == l) 1 0) f) was ∙ weighs o mine in
-      let new : weight (λ g (x : LatchWaitEntry). cond (x.latch == l) 1 0) f o' ≡ cond (is_some o') 1 0 = weighs o' mine' in
+      let sums = total_puts_was ws ws' f (λ g (x : LatchWaitEntry). cond (x.latch == l) 1 0) o' o now was in
+      let old = weighs_here (λ (x : LatchWaitEntry). x.latch) l f o mine in
+      let new = weighs_here (λ (x : LatchWaitEntry). x.latch) l f o' mine' in
       omega (arith, sums, old, new)
-    where
-      weighs : (p : Option LatchWaitEntry) → ((x : LatchWaitEntry) → p ≡ Some x → x.latch ≡ l) → weight (λ g (x : LatchWaitEntry). cond (x.latch == l) 1 0) f p ≡ cond (is_some p) 1 0
-      weighs None own = refl
-      weighs (Some x) own = at_same x.latch l 1 0 (own x refl)
 
   pub plain_mine : plain_in ws' l + plain_of o ≡ plain_in ws l + plain_of o'
   plain_mine =
-      let sums = total-changed (λ g (x : LatchWaitEntry). cond (x.latch == l && x.plain) 1 0) ws ws' f o' now in
+      let sums = total_puts ws ws' f (λ g (x : LatchWaitEntry). cond (x.latch == l && x.plain) 1 0) o' now in
       let old : weight (λ g (x : LatchWaitEntry). cond (x.latch == l && x.plain) 1 0) f (get ws f) ≡ plain_of o = ap (weight (λ g (x : LatchWaitEntry). cond (x.latch == l && x.plain) 1 0) f) was ∙ weighs o mine in
       let new : weight (λ g (x : LatchWaitEntry). cond (x.latch == l && x.plain) 1 0) f o' ≡ plain_of o' = weighs o' mine' in
       omega (arith, sums, old, new)
@@ -249,14 +169,7 @@ module _ (ws ws' : Kept) (b l f : ℕ) (o o' : Option LatchWaitEntry) (named : A
 pub given_to : (st : Store) (b l : ℕ) (e : LatchEntry) → IsKept st b → get st.latches l ≡ Some e → (f : ℕ) (x : LatchWaitEntry) → get st.waits f ≡ Some x → x.latch ≡ l → has_given e.core.count.waiting x.wait ≡ true
 given_to st b l e k there f x is own =
     let home = k.home f x is in
-    let both : Some home.entry ≡ Some e = sym home.there ∙ ap (get st.latches) own ∙ there in
-    let same : home.entry ≡ e = cc in
-    subst (λ (d : LatchEntry). has_given d.core.count.waiting x.wait ≡ true) same home.given
+    subst (λ (d : LatchEntry). has_given d.core.count.waiting x.wait ≡ true) (one_entry st.latches x.latch l home.entry e home.there own there) home.given
 
 pub given_all : (st : Store) (b l : ℕ) (e : LatchEntry) → IsKept st b → get st.latches l ≡ Some e → AreGiven (slots_of st.waits) l e.core.count.waiting
-given_all st b l e k there f slot is = by_wait (get st.waits f) refl is
-  where
-    by_wait : (p : Option LatchWaitEntry) → get st.waits f ≡ p → option_map slot_of p ≡ Some (l, slot) → has_given e.core.count.waiting slot ≡ true
-    by_wait None at_f h = absurd (cc)
-    by_wait (Some x) at_f h =
-        subst (λ s. has_given e.core.count.waiting s ≡ true) (ap (slot_in x.wait) h) (given_to st b l e k there f x at_f (ap (name_in x.latch) h))
+given_all st b l e k there = given_by (λ (x : LatchWaitEntry). x.latch) (λ x. x.wait) st.waits l e.core.count.waiting (given_to st b l e k there)

@@ -1,3 +1,8 @@
+pub mod Names
+pub mod Maps
+pub mod Slots
+pub mod Counts
+pub mod Plays
 pub mod BarrierChanges
 pub mod BarrierMakes
 pub mod BarrierOutcomes
@@ -6,18 +11,13 @@ pub mod BarrierStores
 pub mod GroupChanges
 pub mod GroupPlays
 pub mod GroupStores
-pub mod Names
-pub mod Stores
-pub mod LatchMaps
 pub mod LatchStore
 pub mod LatchPlays
 pub mod LatchStanding
 pub mod ShutdownChanges
-pub mod ShutdownCounts
 pub mod ShutdownEnds
 pub mod ShutdownGone
 pub mod ShutdownMakes
-pub mod ShutdownMaps
 pub mod ShutdownPlays
 pub mod ShutdownPolls
 pub mod ShutdownReceivers

@@ -183,10 +183,6 @@ slot-fresh s slot h = ap (λ t. if t then slot else Some (fresh_place s)) h
 fresh_given : (s : Registered ℕ) → has_given s (Some (fresh_place s)) ≡ false
 fresh_given s = ap (λ t. t || ((s.drains == s.drains) && nat_lt (length s.wakers) (length s.wakers))) (lt_false s.drains s.drains (omega arith)) ∙ ap (λ t. t && nat_lt (length s.wakers) (length s.wakers)) (eq-eqb s.drains s.drains refl) ∙ lt_false (length s.wakers) (length s.wakers) (omega arith)
 
--- a number that was given is not the fresh one
-given_apart : (s : Registered ℕ) (place : Place) → has_given s (Some place) ≡ true → (place ≡ fresh_place s) → ⊥
-given_apart s place given same = absurd (let clash : has_given s (Some (fresh_place s)) ≡ true = ap (λ p. has_given s (Some p)) (sym same) ∙ given in let not = fresh_given s in cc)
-
 module _ (slots : Slots) (b o d f : ℕ) (named : AreNamed slots b) where
   -- a number that f does not hold is not f's
   whose_not : (i : ℕ) → holds o d i (slots f) ≡ false → is_of (whose_at slots b o d i) f ≡ false

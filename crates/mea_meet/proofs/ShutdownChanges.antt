@@ -1,13 +1,13 @@
 -- what a change of one shutdown, with one sender, one receiver or watch and one future of it, does to what is
 -- kept, and to the shutdowns that it stands for
-use Rattle.std.proofs.Common.{◌≡◌, ◌⊎◌, inl, inr, ℕ, ◌+◌, ◌<◌, ◌≤◌, ◌^◌, ◌==◌, Bool, true, false, cond, length, refl, ap, sym, subst, ◌∙◌, arith, Option, Some, None, is_some}
-use Rattle.std.specs.Option.{option_map, IsSome}
+use Rattle.std.proofs.Common.{◌≡◌, inl, inr, ℕ, ◌+◌, ◌<◌, ◌≤◌, ◌^◌, ◌==◌, Bool, true, false, cond, length, refl, ap, sym, subst, ◌∙◌, arith, Option, Some, None, is_some}
+use Rattle.std.specs.Option.{IsSome}
 use Rattle.std.specs.FinMap.{get}
 use Rattle.std.proofs.lemmas.Bool.{eqb-true, eqb-false}
 use Rattle.mea_base.specs.Totals.{total, weight}
 use Rattle.mea_base.proofs.Totals.{total-same}
 use Rattle.mea_sets.specs.declared.place.Place.{Place}
-use Rattle.mea_sets.specs.WaitSet.{Registered, has_given}
+use Rattle.mea_sets.specs.WaitSet.{Registered}
 use Rattle.mea_meet_model.specs.Shutdowns.{Shutdown, borrows, registered}
 use Rattle.mea_meet.specs.Names.{waiting_at, AreNamed, AreGiven}
 use Rattle.mea_meet.specs.declared.shutdowns.ShutdownEntry.{ShutdownEntry}
@@ -16,8 +16,9 @@ use Rattle.mea_meet.specs.declared.shutdowns.ShutdownWaitEntry.{ShutdownWaitEntr
 use Rattle.mea_meet.specs.declared.shutdowns.ShutdownWait.{ShutdownWait as Wait}
 use Rattle.mea_meet.specs.declared.shutdowns.ShutdownWait.TheVariants as waits
 use Rattle.mea_meet.specs.ShutdownHall.{Store, End, OfSignal, OfReceivers, awaits_of, slot_at, slot_in, slots_of, shutdown_of, hall_of, borrowers_in, is_of, IsKeptEntry, IsKeptSender, IsKeptReceiver, IsKeptWait, IsKept}
-use Rattle.mea_meet.proofs.Names.{waiting-length, waiting-alike, named-ends, named-new}
-use Rattle.mea_meet.proofs.ShutdownMaps.{Puts, Belongs, get-seen, put_here, put_other, total_puts, by_put, total-named, total_elsewhere}
+use Rattle.mea_meet.proofs.Names.{waiting-length, named-ends, named-new}
+use Rattle.mea_meet.proofs.Maps.{Puts, Belongs, put_here, put_other, total_puts, by_put, total-named, total_elsewhere, weight-within, seen_puts, inside}
+use Rattle.mea_meet.proofs.Slots.{object_in, IsUnplaced, slots_there, slots_other, apart_unplaced, waiting_beside, given_beside}
 
 -- s becomes e2; a sender, a receiver or watch and a future of it are put, or are gone
 pub record Changes (st st' : Store) (s a b f : ℕ) (e2 : ShutdownEntry) (oa : Option ℕ) (ob : Option ReceiverEntry) (ow : Option ShutdownWaitEntry) : Type 0 where
@@ -33,19 +34,6 @@ pub record Changes (st st' : Store) (s a b f : ℕ) (e2 : ShutdownEntry) (oa : O
   pub wait_is : Belongs {X = ShutdownWaitEntry} (λ x. x.shutdown) s ow
 
 -- ---- whose the slots are
--- the parts of a slot, and what stands there
-abbrev object_in : ℕ → Option (ℕ × Option Place) → ℕ
-object_in p None = p
-object_in p (Some x) = x.0
-
-abbrev place_in : Option (ℕ × Option Place) → Option Place
-place_in None = None
-place_in (Some x) = x.1
-
-abbrev entry_in : ShutdownEntry → Option ShutdownEntry → ShutdownEntry
-entry_in e None = e
-entry_in e (Some x) = x
-
 at_home : (end : End) (w : Wait) (r p : ℕ) (t : Option Place) → slot_at end w r ≡ Some (p, t) → p ≡ r
 at_home OfSignal (waits.Signal slot borrowed) r p t e = sym (ap (object_in p) e)
 at_home OfSignal (waits.Receivers slot) r p t e = absurd (cc)
@@ -56,15 +44,9 @@ pub slot_home : (end : End) (o : Option ShutdownWaitEntry) (s p : ℕ) (t : Opti
 slot_home end None s p t mine e = absurd (cc)
 slot_home end (Some x) s p t mine e = at_home end x.wait x.shutdown p t e ∙ mine x refl
 
-no_slot : (p : ℕ) (place : Place) → ◌≡◌ {A = Option (ℕ × Option Place)} None (Some (p, Some place)) → ⊥
-no_slot p place e = absurd (cc)
-
-no_place : (place : Place) → ◌≡◌ {A = Option Place} None (Some place) → ⊥
-no_place place e = absurd (cc)
-
 -- no number is in the slot
 abbrev pub Unplaced : End → Option ShutdownWaitEntry → Type 0
-Unplaced end o = (slot_in end o ≡ None) ⊎ ((r : ℕ) × (slot_in end o ≡ Some (r, None)))
+Unplaced end o = IsUnplaced (slot_in end o)
 
 -- how many wakers are registered on a shutdown
 abbrev pub wakers_at : ShutdownEntry → ℕ
@@ -74,6 +56,13 @@ pub registered-seen : (st : Store) (n : ℕ) → registered (hall_of st n) ≡ t
 registered-seen st n =
     total-named (shutdown_of st.waits n) (λ s (r : Shutdown). length r.signal.waiting + length r.receivers.waiting) st.shutdowns
     ∙ total-same _ _ st.shutdowns (λ s e is. (λ j. waiting-length (slots_of OfSignal st.waits) n s e.core.signal.waiting j + waiting-length (slots_of OfReceivers st.waits) n s e.core.receivers.waiting j))
+
+-- those of one shutdown are among all that are registered
+pub wakers-within : (st : Store) (n s : ℕ) (e : ShutdownEntry) → get st.shutdowns s ≡ Some e → wakers_at e ≤ registered (hall_of st n)
+wakers-within st n s e there =
+    let part = weight-within (λ q (x : ShutdownEntry). wakers_at x) st.shutdowns s e there in
+    let all = registered-seen st n in
+    omega (arith, part, all)
 
 module _ (st st' : Store) (next next' s a b f : ℕ) (e2 : ShutdownEntry) (oa : Option ℕ) (ob : Option ReceiverEntry) (ow : Option ShutdownWaitEntry) (k : IsKept st next) (c : Changes st st' s a b f e2 oa ob ow) (later : next ≤ next') where
   there_still : (q : ℕ) → IsSome (get st.shutdowns q) → IsSome (get st'.shutdowns q)
@@ -88,10 +77,10 @@ module _ (st st' : Store) (next next' s a b f : ℕ) (e2 : ShutdownEntry) (oa : 
 
   -- ---- the slots
   pub slot_now : (end : End) → slots_of end st'.waits f ≡ slot_in end ow
-  slot_now end = ap (slot_in end) (put_here st.waits st'.waits f ow c.waits)
+  slot_now end = slots_there (slot_in end) st.waits st'.waits f ow c.waits
 
   pub slot_other : (end : End) (g : ℕ) → (f ≡ g → ⊥) → slots_of end st'.waits g ≡ slots_of end st.waits g
-  slot_other end g apart = ap (slot_in end) (put_other st.waits st'.waits f ow c.waits g apart)
+  slot_other end = slots_other (slot_in end) st.waits st'.waits f ow c.waits
 
   -- at other shutdowns they stay
   slot_back : (end : End) (q : ℕ) → (s ≡ q → ⊥) → (g : ℕ) (t : Option Place) → slots_of end st'.waits g ≡ Some (q, t) → slots_of end st.waits g ≡ Some (q, t)
@@ -101,13 +90,6 @@ module _ (st st' : Store) (next next' s a b f : ℕ) (e2 : ShutdownEntry) (oa : 
       by_test true h = absurd (apart (sym (slot_home end ow s q t c.wait_is (sym (slot_now end) ∙ ap (slots_of end st'.waits) (eqb-true f g h) ∙ is))))
       by_test false h = sym (slot_other end g (eqb-false f g h)) ∙ is
 
-  slot_forth : (end : End) (q : ℕ) → (s ≡ q → ⊥) → (g : ℕ) (t : Option Place) → slots_of end st.waits g ≡ Some (q, t) → slots_of end st'.waits g ≡ Some (q, t)
-  slot_forth end q apart g t is = by_test (f == g) refl
-    where
-      by_test : (u : Bool) → (f == g) ≡ u → slots_of end st'.waits g ≡ Some (q, t)
-      by_test true h = absurd (apart (sym (slot_home end (get st.waits f) s q t c.wait_was (ap (slots_of end st.waits) (eqb-true f g h) ∙ is))))
-      by_test false h = slot_other end g (eqb-false f g h) ∙ is
-
   -- a future with no number changes nobody's
   pub named_unplaced : (end : End) → Unplaced end ow → f < next' → AreNamed (slots_of end st'.waits) next'
   named_unplaced end none low = elim none [
@@ -115,43 +97,17 @@ module _ (st st' : Store) (next next' s a b f : ℕ) (e2 : ShutdownEntry) (oa : 
     | inr new ↦ named-new (slots_of end st.waits) (slots_of end st'.waits) next next' f (k.named end) later (slot_other end) new.0 low (slot_now end ∙ new.1)
   ]
 
-  unplaced_clash : (end : End) (o : Option ShutdownWaitEntry) (p : ℕ) (place : Place) → Unplaced end o → slot_in end o ≡ Some (p, Some place) → ⊥
-  unplaced_clash end o p place none is = elim none [
-    | inl gone ↦ no_slot p place (sym gone ∙ is)
-    | inr new ↦ no_place place (ap place_in (sym new.1 ∙ is))
-  ]
-
   pub given_unplaced : (end : End) (set : Registered ℕ) → Unplaced end ow → AreGiven (slots_of end st.waits) s set → AreGiven (slots_of end st'.waits) s set
-  given_unplaced end set none given g t is = by_test (f == g) refl
-    where
-      by_slot : (u : Option Place) → t ≡ u → slot_in end ow ≡ Some (s, t) → has_given set t ≡ true
-      by_slot None same here = ap (has_given set) same
-      by_slot (Some place) same here = absurd (unplaced_clash end ow s place none (here ∙ ap (λ v. Some (s, v)) same))
-
-      by_test : (u : Bool) → (f == g) ≡ u → has_given set t ≡ true
-      by_test true h = by_slot t refl (sym (slot_now end) ∙ ap (slots_of end st'.waits) (eqb-true f g h) ∙ is)
-      by_test false h = given g t (sym (slot_other end g (eqb-false f g h)) ∙ is)
+  given_unplaced end set none = given_beside (slot_in end) st.waits st'.waits f ow c.waits s set (apart_unplaced s (slot_in end ow) none)
 
   module _ (named : (end : End) → AreNamed (slots_of end st'.waits) next') where
     pub alike_unplaced : (end : End) (set : Registered ℕ) → Unplaced end (get st.waits f) → Unplaced end ow → waiting_at (slots_of end st'.waits) next' s set ≡ waiting_at (slots_of end st.waits) next s set
-    alike_unplaced end set was is = waiting-alike (slots_of end st.waits) (slots_of end st'.waits) next next' s set (k.named end) (named end) forth back
-      where
-        forth : (g : ℕ) (place : Place) → slots_of end st.waits g ≡ Some (s, Some place) → slots_of end st'.waits g ≡ Some (s, Some place)
-        forth g place there = by_test (f == g) refl
-          where
-            by_test : (u : Bool) → (f == g) ≡ u → slots_of end st'.waits g ≡ Some (s, Some place)
-            by_test true h = absurd (unplaced_clash end (get st.waits f) s place was (ap (slots_of end st.waits) (eqb-true f g h) ∙ there))
-            by_test false h = slot_other end g (eqb-false f g h) ∙ there
-
-        back : (g : ℕ) (place : Place) → slots_of end st'.waits g ≡ Some (s, Some place) → slots_of end st.waits g ≡ Some (s, Some place)
-        back g place there = by_test (f == g) refl
-          where
-            by_test : (u : Bool) → (f == g) ≡ u → slots_of end st.waits g ≡ Some (s, Some place)
-            by_test true h = absurd (unplaced_clash end ow s place is (sym (slot_now end) ∙ ap (slots_of end st'.waits) (eqb-true f g h) ∙ there))
-            by_test false h = sym (slot_other end g (eqb-false f g h)) ∙ there
+    alike_unplaced end set was is = waiting_beside (slot_in end) st.waits st'.waits f ow c.waits next next' (k.named end) (named end) s set (apart_unplaced s (slot_in end (get st.waits f)) was) (apart_unplaced s (slot_in end ow) is)
 
     alike : (end : End) (q : ℕ) (set : Registered ℕ) → (s ≡ q → ⊥) → waiting_at (slots_of end st'.waits) next' q set ≡ waiting_at (slots_of end st.waits) next q set
-    alike end q set apart = waiting-alike (slots_of end st.waits) (slots_of end st'.waits) next next' q set (k.named end) (named end) (λ g place. slot_forth end q apart g (Some place)) (λ g place. slot_back end q apart g (Some place))
+    alike end q set apart = waiting_beside (slot_in end) st.waits st'.waits f ow c.waits next next' (k.named end) (named end) q set
+        (λ place is. apart (sym (slot_home end (get st.waits f) s q (Some place) c.wait_was is)))
+        (λ place is. apart (sym (slot_home end ow s q (Some place) c.wait_is is)))
 
     seen_other : (q : ℕ) (e : ShutdownEntry) → (s ≡ q → ⊥) → shutdown_of st'.waits next' q e ≡ shutdown_of st.waits next q e
     seen_other q e apart = λ j. record {
@@ -161,15 +117,7 @@ module _ (st st' : Store) (next next' s a b f : ℕ) (e2 : ShutdownEntry) (oa : 
 
     -- ---- the shutdowns that are stood for
     pub shutdowns_after : Puts (hall_of st next).shutdowns (hall_of st' next').shutdowns s (Some (shutdown_of st'.waits next' s e2))
-    shutdowns_after q = get-seen (shutdown_of st'.waits next') st'.shutdowns q ∙ ap (option_map (shutdown_of st'.waits next' q)) (c.shutdowns q) ∙ by_test (s == q) refl ∙ ap (cond (s == q) (Some (shutdown_of st'.waits next' s e2))) (sym (get-seen (shutdown_of st.waits next) st.shutdowns q))
-      where
-        by_value : (o : Option ShutdownEntry) → (s ≡ q → ⊥) → option_map (shutdown_of st'.waits next' q) o ≡ option_map (shutdown_of st.waits next q) o
-        by_value None apart = refl
-        by_value (Some e) apart = ap (λ r. Some r) (seen_other q e apart)
-
-        by_test : (t : Bool) → (s == q) ≡ t → option_map (shutdown_of st'.waits next' q) (cond t (Some e2) (get st.shutdowns q)) ≡ cond t (Some (shutdown_of st'.waits next' s e2)) (option_map (shutdown_of st.waits next q) (get st.shutdowns q))
-        by_test true h = ap (λ r. Some (shutdown_of st'.waits next' r e2)) (sym (eqb-true s q h))
-        by_test false h = by_value (get st.shutdowns q) (eqb-false s q h)
+    shutdowns_after = seen_puts (shutdown_of st.waits next) (shutdown_of st'.waits next') st.shutdowns st'.shutdowns s (Some e2) c.shutdowns (λ q e apart there. seen_other q e apart)
 
     pub registered_after : registered (hall_of st' next') + weight (λ q (e : ShutdownEntry). wakers_at e) s (get st.shutdowns s) ≡ registered (hall_of st next) + wakers_at e2
     registered_after =
@@ -239,7 +187,7 @@ module _ (st st' : Store) (next next' s a b f : ℕ) (e2 : ShutdownEntry) (oa : 
 
       pub kept_after : IsKept st' next'
       kept_after = record {
-        each = by_put st.shutdowns st'.shutdowns s (Some e2) c.shutdowns (λ q e. IsKeptEntry st' next' q e) (λ e is. subst (IsKeptEntry st' next' s) (inside is) w.entry) entry_other;
+        each = by_put st.shutdowns st'.shutdowns s (Some e2) c.shutdowns (λ q e. IsKeptEntry st' next' q e) (λ e is. subst (IsKeptEntry st' next' s) (inside e2 e is) w.entry) entry_other;
         sender = by_put st.senders st'.senders a oa c.senders (λ q p. IsKeptSender st' next' q p)
             (λ p is. record { there = there_now p (c.sender_is p is); below = w.sender_below p is })
             (λ q p apart is. let old = k.sender q p is in record { there = there_still p old.there; below = (let below = old.below in omega (arith, below, later)) });
@@ -256,6 +204,3 @@ module _ (st st' : Store) (next next' s a b f : ℕ) (e2 : ShutdownEntry) (oa : 
         named = named;
         low = w.low;
       }
-        where
-          inside : {e : ShutdownEntry} → Some e2 ≡ Some e → e2 ≡ e
-          inside {e} is = ap (entry_in e2) is

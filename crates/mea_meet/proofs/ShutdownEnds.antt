@@ -17,10 +17,10 @@ use Rattle.mea_meet.specs.declared.shutdowns.ShutdownWait.{ShutdownWait as Wait}
 use Rattle.mea_meet.specs.declared.shutdowns.ShutdownWait.TheVariants as waits
 use Rattle.mea_meet.specs.ShutdownHall.{Store, End, OfSignal, OfReceivers, awaits_of, borrowed_of, slot_at, slot_in, count_at, slots_of, count_of, shutdown_of, receiver_of, wait_of, hall_of, counting, borrowers_in, is_of, GivesBack, without_wait, IsKeptEntry, IsKept}
 use Rattle.mea_meet.proofs.Names.{waiting-ends}
-use Rattle.mea_meet.proofs.ShutdownMaps.{Puts, Belongs, kept-at, kept-puts, puts_same, puts_seen, total_puts, is_same, is_insert, is_remove}
+use Rattle.mea_meet.proofs.Maps.{Puts, Belongs, kept-at, kept-puts, puts_same, puts_seen, total_puts, is_same, is_insert, is_remove, belongs-none, belongs-some, inside, weight-within, at_same}
 use Rattle.mea_meet.proofs.ShutdownChanges.{Changes, Unplaced, kept_after, registered_after, wakers_at, slot_now, slot_other, named_unplaced, given_unplaced, alike_unplaced, shutdowns_after}
 use Rattle.mea_meet.proofs.ShutdownSeen.{receiver-seen, shutdown-at}
-use Rattle.mea_meet.proofs.ShutdownStill.{no-sender, no-receiver, belongs-none, belongs-some, own, inside, total-member, entry_after}
+use Rattle.mea_meet.proofs.ShutdownStill.{no-sender, no-receiver, entry_after}
 use Rattle.mea_meet.proofs.ShutdownPlays.{Goes}
 
 -- whether what is borrowed is q
@@ -47,7 +47,7 @@ module _ (st : Store) (next f r : ℕ) (x : ShutdownWaitEntry) (k : IsKept st ne
 
   pub receiver-lends : (y : ReceiverEntry) → get st.receivers r ≡ Some y → 1 ≤ y.plain
   receiver-lends y there =
-      let part = total-member (λ g (z : ShutdownWaitEntry). cond (borrows (awaits_of z.wait) r) 1 0) st.waits f x is in
+      let part = weight-within (λ g (z : ShutdownWaitEntry). cond (borrows (awaits_of z.wait) r) 1 0) st.waits f x is in
       let one : ◌≡◌ {A = ℕ} (cond (borrows (awaits_of x.wait) r) 1 0) 1 = ap (λ t. cond t 1 0) lends-it in
       let all = (k.receiver r y there).counted in
       omega (arith, part, one, all)
@@ -64,8 +64,8 @@ can_give_back st es next f x (Some r) k is same borrowed = by_value (at es r) re
 -- its shutdown counts it
 pub wait_counted : (st : Store) (next f : ℕ) (x : ShutdownWaitEntry) (e : ShutdownEntry) → IsKept st next → get st.waits f ≡ Some x → get st.shutdowns x.shutdown ≡ Some e → 1 ≤ e.things
 wait_counted st next f x e k is there =
-    let part = total-member (λ q (y : ShutdownWaitEntry). cond (y.shutdown == x.shutdown) 1 0) st.waits f x is in
-    let one : ◌≡◌ {A = ℕ} (cond (x.shutdown == x.shutdown) 1 0) 1 = own x.shutdown 1 in
+    let part = weight-within (λ q (y : ShutdownWaitEntry). cond (y.shutdown == x.shutdown) 1 0) st.waits f x is in
+    let one : ◌≡◌ {A = ℕ} (cond (x.shutdown == x.shutdown) 1 0) 1 = at_same x.shutdown x.shutdown 1 0 refl in
     let all = (k.each x.shutdown e there).things in
     omega (arith, part, one, all)
 
@@ -137,7 +137,7 @@ module _ (st : Store) (ss' : FinMap nat_cmp ShutdownEntry) (rs' : FinMap nat_cmp
         (ap (λ n. e.core.receivers.number + n) counts_same)
         (let senders : weight (λ q (p : ℕ). cond (p == s) 1 0) i (get st.senders i) ≡ 0 = ap (weight (λ q (p : ℕ). cond (p == s) 1 0) i) (no-sender st next i k less) in
         let mine : weight (λ q (y : ShutdownWaitEntry). cond (y.shutdown == s) 1 0) f (get st.waits f) ≡ cond (s == s) 1 0 = ap (weight (λ q (y : ShutdownWaitEntry). cond (y.shutdown == s) 1 0) f) is in
-        let one : ◌≡◌ {A = ℕ} (cond (s == s) 1 0) 1 = own s 1 in
+        let one : ◌≡◌ {A = ℕ} (cond (s == s) 1 0) 1 = at_same s s 1 0 refl in
         let some = wait_counted st next f x e k is there in
         omega (arith, senders, mine, one, some, things_same))
         (omega arith)

@@ -13,8 +13,9 @@ use Rattle.mea_meet.specs.Play.{Part, Yields}
 use Rattle.mea_meet.specs.declared.shutdowns.ShutdownEntry.{ShutdownEntry}
 use Rattle.mea_meet.specs.declared.shutdowns.ShutdownWaitEntry.{ShutdownWaitEntry}
 use Rattle.mea_meet.specs.ShutdownHall.{Store, end_of, awaits_of, count_at, wait_of, hall_of, without_wait, without_receiver, woken_at_end}
-use Rattle.mea_meet.proofs.ShutdownSeen.{wait-seen, shutdown-at, if_some}
+use Rattle.mea_meet.proofs.ShutdownSeen.{wait-seen, shutdown-at}
 use Rattle.mea_meet.proofs.ShutdownPolls.{awaited-number}
+use Rattle.mea_meet.proofs.Maps.{if_some}
 
 -- a part is left as it is tidied
 abbrev pub IsTidied : Part Shutdowns → ℕ → Part Shutdowns → Type 0

@@ -14,9 +14,9 @@ use Rattle.mea_meet.specs.declared.shutdowns.ShutdownEntry.{ShutdownEntry}
 use Rattle.mea_meet.specs.declared.shutdowns.ReceiverEntry.{ReceiverEntry}
 use Rattle.mea_meet.specs.declared.shutdowns.ShutdownWaitEntry.{ShutdownWaitEntry}
 use Rattle.mea_meet.specs.ShutdownHall.{Store, End, count_at, slot_in, slots_of, receiver_of, hall_of, counting, senders_in, receivers_in, waits_in, IsKeptEntry, IsKept}
-use Rattle.mea_meet.proofs.ShutdownMaps.{Puts, puts_same, puts_seen, total_puts, is_insert}
+use Rattle.mea_meet.proofs.Maps.{Puts, puts_same, puts_seen, total_puts, is_insert, belongs-none, belongs-some, inside, at_same}
 use Rattle.mea_meet.proofs.ShutdownChanges.{Changes, slot_home, wakers_at}
-use Rattle.mea_meet.proofs.ShutdownStill.{no-sender, no-receiver, no-wait, no-shutdown, belongs-none, belongs-some, own, inside, unborrowed}
+use Rattle.mea_meet.proofs.ShutdownStill.{no-sender, no-receiver, no-wait, no-shutdown, unborrowed}
 use Rattle.mea_meet.proofs.ShutdownPlays.{Goes, kept_all, shutdowns_put, waits_same, counts_after}
 
 -- ---- nothing is of a shutdown that is not there
@@ -79,7 +79,7 @@ module _ (st : Store) (ss' : FinMap nat_cmp ShutdownEntry) (ks' : FinMap nat_cmp
     counted = (
         let all = total_puts st.receivers rs' i (λ q (x : ReceiverEntry). counting i x) (Some first) receivers in
         let before : weight (λ q (x : ReceiverEntry). counting i x) i (get st.receivers i) ≡ 0 = ap (weight (λ q (x : ReceiverEntry). counting i x) i) (no-receiver st next i k less) in
-        let one : ◌≡◌ {A = ℕ} (cond (i == i) 1 0) 1 = own i 1 in
+        let one : ◌≡◌ {A = ℕ} (cond (i == i) 1 0) 1 = at_same i i 1 0 refl in
         let zero = none-counted st next i k none in
         omega (arith, all, before, one, zero));
     things = (
@@ -87,7 +87,7 @@ module _ (st : Store) (ss' : FinMap nat_cmp ShutdownEntry) (ks' : FinMap nat_cmp
         let some = total_puts st.receivers rs' i (λ q (x : ReceiverEntry). cond (x.shutdown == i) 1 0) (Some first) receivers in
         let before : weight (λ q (p : ℕ). cond (p == i) 1 0) i (get st.senders i) ≡ 0 = ap (weight (λ q (p : ℕ). cond (p == i) 1 0) i) (no-sender st next i k less) in
         let earlier : weight (λ q (x : ReceiverEntry). cond (x.shutdown == i) 1 0) i (get st.receivers i) ≡ 0 = ap (weight (λ q (x : ReceiverEntry). cond (x.shutdown == i) 1 0) i) (no-receiver st next i k less) in
-        let one : ◌≡◌ {A = ℕ} (cond (i == i) 1 0) 1 = own i 1 in
+        let one : ◌≡◌ {A = ℕ} (cond (i == i) 1 0) 1 = at_same i i 1 0 refl in
         let zero = no-senders st next i k none in
         let nothing = no-receivers st next i k none in
         let nobody = no-waits st next i k none in

@@ -16,11 +16,12 @@ use Rattle.mea_meet.specs.declared.shutdowns.ShutdownEntry.{ShutdownEntry}
 use Rattle.mea_meet.specs.declared.shutdowns.ReceiverEntry.{ReceiverEntry}
 use Rattle.mea_meet.specs.declared.shutdowns.ShutdownWaitEntry.{ShutdownWaitEntry}
 use Rattle.mea_meet.specs.ShutdownHall.{Store, End, OfSignal, OfReceivers, awaits_of, wait_of, count_at, slot_in, slots_of, count_of, shutdown_of, hall_of, counting, borrowers_in, is_of, IsKeptEntry, IsKept}
-use Rattle.mea_meet.proofs.ShutdownMaps.{Puts, Belongs, puts_same, puts_seen, is_same, is_insert, is_remove}
+use Rattle.mea_meet.proofs.Maps.{Puts, Belongs, puts_same, puts_seen, is_same, is_insert, is_remove, weight-within, belongs-none, belongs-some, at_same}
 use Rattle.mea_meet.proofs.ShutdownChanges.{Changes, Unplaced, kept_after, registered_after, wakers_at}
-use Rattle.mea_meet.proofs.ShutdownCounts.{decreased-seen, woken-seen, given-decreased, woken-all}
+use Rattle.mea_meet.proofs.Counts.{decreased-seen, woken-seen, given-decreased, woken-all}
 use Rattle.mea_meet.proofs.ShutdownSeen.{shutdown-seen, shutdown-at, wait-seen}
-use Rattle.mea_meet.proofs.ShutdownStill.{total-member, no-sender, no-receiver, no-wait, belongs-none, belongs-some, own, borrows-nothing, entry_after, still_named, still_given, still_shutdowns}
+use Rattle.mea_meet.proofs.ShutdownStill.{no-sender, no-receiver, no-wait, borrows-nothing, entry_after, still_named, still_given, still_shutdowns}
+use Rattle.mea_meet.proofs.Plays.{rests_by, yields_by}
 
 -- an event leaves these shutdowns, and no waker is registered or woken
 pub record Goes (st st' : Store) (next i : ℕ) (h : Shutdowns) : Type 0 where
@@ -29,12 +30,8 @@ pub record Goes (st st' : Store) (next i : ℕ) (h : Shutdowns) : Type 0 where
   pub counted : registered (hall_of st' (i + 1)) ≡ registered (hall_of st next)
 
 pub rests : (st st' : Store) (next i : ℕ) (h : Shutdowns) (o : Outcome Shutdowns) (reply : Answer) → Goes st st' next i h → o ≡ quietly h reply → Rests registered (record { hall = hall_of st next; next = next }) i o reply (record { hall = hall_of st' (i + 1); next = i + 1 })
-rests st st' next i h o reply goes is = record {
-  replied = sym (ap (λ (p : Outcome Shutdowns). p.reply) is);
-  moved = (λ j. record { hall = (goes.moved ∙ sym (ap (λ (p : Outcome Shutdowns). p.hall) is)) j; next = i + 1 });
-  silent = ap (λ (p : Outcome Shutdowns). p.wakes) is;
-  counted = ap (λ (p : Outcome Shutdowns). registered p.hall) is ∙ sym (ap registered goes.moved) ∙ goes.counted;
-}
+rests st st' next i h o reply goes is =
+    rests_by registered (record { hall = hall_of st next; next = next }) (record { hall = hall_of st next; next = next }) i refl (λ u. o) (quietly h reply) reply (hall_of st' (i + 1)) is goes.moved refl refl goes.counted
 
 -- an event leaves these shutdowns, and wakes these wakers, which were registered
 pub record Wakes (st st' : Store) (next i : ℕ) (h : Shutdowns) (woken : List ℕ) : Type 0 where
@@ -44,15 +41,9 @@ pub record Wakes (st st' : Store) (next i : ℕ) (h : Shutdowns) (woken : List �
 
 pub yields : (st st' : Store) (next i : ℕ) (h : Shutdowns) (o : Outcome Shutdowns) (reply : Answer) (woken : List ℕ) (before after : Waking ℕ) → Wakes st st' next i h woken → o ≡ record { hall = h; reply = reply; wakes = woken } → after.wakers ≡ before.wakers ++ woken → after.registered + length woken ≡ before.registered
     → Yields registered (record { hall = hall_of st next; next = next }) i o reply (record { hall = hall_of st' (i + 1); next = i + 1 }) before after
-yields st st' next i h o reply woken before after wakes is moved counted = record {
-  replied = sym (ap (λ (p : Outcome Shutdowns). p.reply) is);
-  moved = (λ j. record { hall = (wakes.moved ∙ sym (ap (λ (p : Outcome Shutdowns). p.hall) is)) j; next = i + 1 });
-  woken = moved ∙ ap (λ ws. before.wakers ++ ws) (sym (ap (λ (p : Outcome Shutdowns). p.wakes) is));
-  counted = (
-      let halls : registered o.hall ≡ registered (hall_of st' (i + 1)) = ap (λ (p : Outcome Shutdowns). registered p.hall) is ∙ sym (ap registered wakes.moved) in
-      let all = wakes.counted in
-      omega (arith, halls, all, counted));
-}
+yields st st' next i h o reply woken before after wakes is moved counted =
+    let all = wakes.counted in
+    yields_by registered (record { hall = hall_of st next; next = next }) (record { hall = hall_of st next; next = next }) i refl (λ u. o) (record { hall = h; reply = reply; wakes = woken }) reply (hall_of st' (i + 1)) is wakes.moved refl before after moved (omega (arith, all, counted))
 
 -- no future changes: those of the number of the event are none
 module _ (st st' : Store) (next i s a b : ℕ) (e2 : ShutdownEntry) (oa : Option ℕ) (ob : Option ReceiverEntry) (k : IsKept st next) (less : next ≤ i) (c : Changes st st' s a b i e2 oa ob None) where
@@ -164,7 +155,7 @@ module _ (st : Store) (ss' : FinMap nat_cmp ShutdownEntry) (ks' : FinMap nat_cmp
   copy_sender_goes = record {
     kept = sender_kept st ss' ks' next i s i e e2 (Some s) k less low there shutdowns senders was is (k.each s e there).quiet (k.each s e there).known refl
         (let none : weight (λ q (p : ℕ). cond (p == s) 1 0) i (get st.senders i) ≡ 0 = ap (weight (λ q (p : ℕ). cond (p == s) 1 0) i) (no-sender st next i k less) in
-        let one : ◌≡◌ {A = ℕ} (cond (s == s) 1 0) 1 = own s 1 in
+        let one : ◌≡◌ {A = ℕ} (cond (s == s) 1 0) 1 = at_same s s 1 0 refl in
         omega (arith, none, one))
         (omega arith) (k.each s e there).given (λ p some. omega arith);
     moved = λ j. record {
@@ -180,8 +171,8 @@ module _ (st : Store) (ss' : FinMap nat_cmp ShutdownEntry) (ks' : FinMap nat_cmp
 -- its shutdown counts it
 pub sender_counted : (st : Store) (next a s : ℕ) (e : ShutdownEntry) → IsKept st next → get st.shutdowns s ≡ Some e → get st.senders a ≡ Some s → 1 ≤ e.things
 sender_counted st next a s e k there sender =
-    let part = total-member (λ q (p : ℕ). cond (p == s) 1 0) st.senders a s sender in
-    let one : ◌≡◌ {A = ℕ} (cond (s == s) 1 0) 1 = own s 1 in
+    let part = weight-within (λ q (p : ℕ). cond (p == s) 1 0) st.senders a s sender in
+    let one : ◌≡◌ {A = ℕ} (cond (s == s) 1 0) 1 = at_same s s 1 0 refl in
     let all = (k.each s e there).things in
     omega (arith, part, one, all)
 
@@ -200,7 +191,7 @@ module _ (st : Store) (ss' : FinMap nat_cmp ShutdownEntry) (ks' : FinMap nat_cmp
   remove_sender_goes = record {
     kept = sender_kept st ss' ks' next i s a e less_sender None k less low there shutdowns senders sender_of sender_gone (k.each s e there).quiet (k.each s e there).known refl
         (let counted = sender_counted st next a s e k there sender in
-        let one : ◌≡◌ {A = ℕ} (cond (s == s) 1 0) 1 = own s 1 in
+        let one : ◌≡◌ {A = ℕ} (cond (s == s) 1 0) 1 = at_same s s 1 0 refl in
         let was : weight (λ q (p : ℕ). cond (p == s) 1 0) a (get st.senders a) ≡ cond (s == s) 1 0 = ap (weight (λ q (p : ℕ). cond (p == s) 1 0) a) sender in
         omega (arith, counted, one, was))
         (omega arith) (k.each s e there).given (λ p none. absurd (cc));
@@ -229,7 +220,7 @@ module _ (st : Store) (ss' : FinMap nat_cmp ShutdownEntry) (next i s : ℕ) (e :
   same_senders = puts_same st.senders i None (no-sender st next i k less)
 
   given_signalled : (end : End) → AreGiven (slots_of end st.waits) s (count_at end signalled.core).waiting
-  given_signalled OfSignal = given-decreased (slots_of OfSignal st.waits) next s e.core.signal ((k.each s e there).given OfSignal)
+  given_signalled OfSignal = given-decreased (slots_of OfSignal st.waits) next s e.core.signal 1 ((k.each s e there).given OfSignal)
   given_signalled OfReceivers = (k.each s e there).given OfReceivers
 
   pub signal_wakes : Wakes st (record { shutdowns = ss'; senders = st.senders; receivers = st.receivers; waits = st.waits }) next i
@@ -246,16 +237,16 @@ module _ (st : Store) (ss' : FinMap nat_cmp ShutdownEntry) (next i s : ℕ) (e :
     };
     counted = (
         let all = sender_counts st ss' st.senders next i s i e signalled None k less low there shutdowns same_senders no_sender_there no_sender_new in
-        let woken = woken-all e.core.signal in
+        let woken = woken-all e.core.signal 1 in
         omega (arith, all, woken));
   }
     where
       signal_seen : shutdown_of st.waits next s signalled ≡ record (shutdown_at (hall_of st next) s) { signal = model.decreased (shutdown_at (hall_of st next) s).signal 1 }
-      signal_seen = (λ j. record { signal = decreased-seen (slots_of OfSignal st.waits) next s e.core.signal j; receivers = count_of (slots_of OfReceivers st.waits) next s e.core.receivers })
+      signal_seen = (λ j. record { signal = decreased-seen (slots_of OfSignal st.waits) next s e.core.signal 1 refl j; receivers = count_of (slots_of OfReceivers st.waits) next s e.core.receivers })
           ∙ ap (λ (r : Shutdown). record r { signal = model.decreased r.signal 1 }) (sym (shutdown-at st next s e there))
 
 pub signal_woken : (st : Store) (next s : ℕ) (e : ShutdownEntry) → get st.shutdowns s ≡ Some e → model.woken_by (shutdown_at (hall_of st next) s).signal 1 ≡ woken_by e.core.signal 1
-signal_woken st next s e there = ap (λ (r : Shutdown). model.woken_by r.signal 1) (shutdown-at st next s e there) ∙ woken-seen (slots_of OfSignal st.waits) next s e.core.signal
+signal_woken st next s e there = ap (λ (r : Shutdown). model.woken_by r.signal 1) (shutdown-at st next s e there) ∙ woken-seen (slots_of OfSignal st.waits) next s e.core.signal 1
 
 -- ---- nothing changes
 module _ (st : Store) (next i s : ℕ) (e : ShutdownEntry) (k : IsKept st next) (less : next ≤ i) (low : i < 2 ^ 64) (there : get st.shutdowns s ≡ Some e) where

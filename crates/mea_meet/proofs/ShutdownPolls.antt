@@ -21,10 +21,10 @@ use Rattle.mea_meet.specs.declared.shutdowns.ShutdownWait.{ShutdownWait as Wait}
 use Rattle.mea_meet.specs.declared.shutdowns.ShutdownWait.TheVariants as waits
 use Rattle.mea_meet.specs.ShutdownHall.{Store, End, OfSignal, OfReceivers, end_of, slot_of, awaits_of, set_at, polled, polled_wait, slot_at, slot_in, count_at, slots_of, count_of, shutdown_of, wait_of, hall_of, counting, is_of, IsKeptEntry, IsKept}
 use Rattle.mea_meet.proofs.Names.{waiting-registers, named-registers, given-registers}
-use Rattle.mea_meet.proofs.ShutdownMaps.{Puts, puts_same, puts_seen, is_same, is_insert}
+use Rattle.mea_meet.proofs.Maps.{Puts, puts_same, puts_seen, is_same, is_insert, belongs-none, belongs-some, inside}
 use Rattle.mea_meet.proofs.ShutdownChanges.{Changes, Unplaced, kept_after, registered_after, wakers_at, slot_now, slot_other, named_unplaced, given_unplaced, alike_unplaced, shutdowns_after}
 use Rattle.mea_meet.proofs.ShutdownSeen.{wait-seen, shutdown-at}
-use Rattle.mea_meet.proofs.ShutdownStill.{no-sender, no-receiver, belongs-none, belongs-some, inside, entry_after}
+use Rattle.mea_meet.proofs.ShutdownStill.{no-sender, no-receiver, entry_after}
 
 -- ---- what a poll leaves as it is
 polled-awaits : (e : ShutdownEntry) (w : Wait) → awaits_of (polled_wait e w) ≡ awaits_of w

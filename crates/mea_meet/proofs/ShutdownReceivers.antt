@@ -14,11 +14,11 @@ use Rattle.mea_meet.specs.declared.shutdowns.ShutdownEntry.{ShutdownEntry}
 use Rattle.mea_meet.specs.declared.shutdowns.ReceiverEntry.{ReceiverEntry}
 use Rattle.mea_meet.specs.declared.shutdowns.ShutdownWaitEntry.{ShutdownWaitEntry}
 use Rattle.mea_meet.specs.ShutdownHall.{Store, End, OfSignal, OfReceivers, count_at, slots_of, count_of, shutdown_of, receiver_of, hall_of, counting, borrowers_in, without_receiver, woken_at_end, is_full, IsKept}
-use Rattle.mea_meet.proofs.ShutdownMaps.{Puts, Belongs, puts_same, puts_seen, is_same, is_insert, is_remove}
+use Rattle.mea_meet.proofs.Maps.{Puts, Belongs, puts_same, puts_seen, is_same, is_insert, is_remove, belongs-none, belongs-some, inside, weight-within, some_found, at_same}
 use Rattle.mea_meet.proofs.ShutdownChanges.{Changes, wakers_at}
-use Rattle.mea_meet.proofs.ShutdownSeen.{shutdown-at, shutdown-there, receiver-seen, some_found}
-use Rattle.mea_meet.proofs.ShutdownStill.{no-sender, no-receiver, no-wait, belongs-none, belongs-some, own, inside, unborrowed, total-member, entry_after}
-use Rattle.mea_meet.proofs.ShutdownCounts.{decreased-seen, woken-seen, given-decreased, woken-all}
+use Rattle.mea_meet.proofs.ShutdownSeen.{shutdown-at, shutdown-there, receiver-seen}
+use Rattle.mea_meet.proofs.ShutdownStill.{no-sender, no-receiver, no-wait, unborrowed, entry_after}
+use Rattle.mea_meet.proofs.Counts.{decreased-seen, woken-seen, given-decreased, woken-all}
 use Rattle.mea_meet.proofs.ShutdownPlays.{Goes, Wakes, seen_before, kept_all, given, shutdowns_put, waits_same, counts_after}
 
 module _ (st : Store) (ss' : FinMap nat_cmp ShutdownEntry) (rs' : FinMap nat_cmp ReceiverEntry) (next i s b : ℕ) (e e2 : ShutdownEntry) (ob : Option ReceiverEntry) (k : IsKept st next) (less : next ≤ i) (low : i < 2 ^ 64)
@@ -116,10 +116,10 @@ module _ (st : Store) (ss' : FinMap nat_cmp ShutdownEntry) (rs' : FinMap nat_cmp
         (let known = (k.each s e there).known in let number = added_number e watch in omega (arith, known, number))
         (let number = added_number e watch in
         let none : weight (λ q (x : ReceiverEntry). counting s x) i (get st.receivers i) ≡ 0 = ap (weight (λ q (x : ReceiverEntry). counting s x) i) (no-receiver st next i k less) in
-        let mine : cond (s == s) (cond watch 0 1) 0 ≡ cond watch 0 1 = own s (cond watch 0 1) in
+        let mine : ◌≡◌ {A = ℕ} (cond (s == s) (cond watch 0 1) 0) (cond watch 0 1) = at_same s s (cond watch 0 1) 0 refl in
         omega (arith, number, none, mine))
         (let none : weight (λ q (x : ReceiverEntry). cond (x.shutdown == s) 1 0) i (get st.receivers i) ≡ 0 = ap (weight (λ q (x : ReceiverEntry). cond (x.shutdown == s) 1 0) i) (no-receiver st next i k less) in
-        let one : ◌≡◌ {A = ℕ} (cond (s == s) 1 0) 1 = own s 1 in
+        let one : ◌≡◌ {A = ℕ} (cond (s == s) 1 0) 1 = at_same s s 1 0 refl in
         omega (arith, none, one))
         (omega arith)
         (λ end. subst (AreGiven (slots_of end st.waits) s) (sym (added_set e watch end)) ((k.each s e there).given end))
@@ -149,21 +149,21 @@ lessened_number e false = refl
 
 lessened_wakers : (e : ShutdownEntry) (w : Bool) → wakers_at (lessened e w) + length (cond w [] (woken_by e.core.receivers 1)) ≡ wakers_at e
 lessened_wakers e true = omega arith
-lessened_wakers e false = (let all = woken-all e.core.receivers in omega (arith, all))
+lessened_wakers e false = (let all = woken-all e.core.receivers 1 in omega (arith, all))
 
 module _ (st : Store) (next i b s : ℕ) (e : ShutdownEntry) (x : ReceiverEntry) (k : IsKept st next) (there : get st.shutdowns s ≡ Some e) (receiver : get st.receivers b ≡ Some x) (mine : x.shutdown ≡ s) where
   -- its shutdown counts it
   pub receiver_counted : 1 ≤ e.things
   receiver_counted =
-      let part = total-member (λ q (y : ReceiverEntry). cond (y.shutdown == s) 1 0) st.receivers b x receiver in
-      let one : ◌≡◌ {A = ℕ} (cond (x.shutdown == s) 1 0) 1 = ap (λ r. cond (r == s) 1 0) mine ∙ own s 1 in
+      let part = weight-within (λ q (y : ReceiverEntry). cond (y.shutdown == s) 1 0) st.receivers b x receiver in
+      let one : ◌≡◌ {A = ℕ} (cond (x.shutdown == s) 1 0) 1 = ap (λ r. cond (r == s) 1 0) mine ∙ at_same s s 1 0 refl in
       let all = (k.each s e there).things in
       omega (arith, part, one, all)
 
   number_counts : cond x.watch 0 1 ≤ e.core.receivers.number
   number_counts =
-      let part = total-member (λ q (y : ReceiverEntry). counting s y) st.receivers b x receiver in
-      let one : counting s x ≡ cond x.watch 0 1 = ap (λ r. cond (r == s) (cond x.watch 0 1) 0) mine ∙ own s (cond x.watch 0 1) in
+      let part = weight-within (λ q (y : ReceiverEntry). counting s y) st.receivers b x receiver in
+      let one : counting s x ≡ cond x.watch 0 1 = ap (λ r. cond (r == s) (cond x.watch 0 1) 0) mine ∙ at_same s s (cond x.watch 0 1) 0 refl in
       let all = (k.each s e there).counted in
       omega (arith, part, one, all)
 
@@ -188,10 +188,10 @@ module _ (st : Store) (ss' : FinMap nat_cmp ShutdownEntry) (rs' : FinMap nat_cmp
   lessened_given : (w : Bool) (end : End) → AreGiven (slots_of end st.waits) s (count_at end (lessened e w).core).waiting
   lessened_given true end = (k.each s e there).given end
   lessened_given false OfSignal = (k.each s e there).given OfSignal
-  lessened_given false OfReceivers = given-decreased (slots_of OfReceivers st.waits) next s e.core.receivers ((k.each s e there).given OfReceivers)
+  lessened_given false OfReceivers = given-decreased (slots_of OfReceivers st.waits) next s e.core.receivers 1 ((k.each s e there).given OfReceivers)
 
   lessened_seen : shutdown_of st.waits next s (lessened e false) ≡ record (shutdown_at h_before s) { receivers = model.decreased (shutdown_at h_before s).receivers 1 }
-  lessened_seen = (λ j. record { signal = count_of (slots_of OfSignal st.waits) next s e.core.signal; receivers = decreased-seen (slots_of OfReceivers st.waits) next s e.core.receivers j })
+  lessened_seen = (λ j. record { signal = count_of (slots_of OfSignal st.waits) next s e.core.signal; receivers = decreased-seen (slots_of OfReceivers st.waits) next s e.core.receivers 1 refl j })
       ∙ ap (λ (r : Shutdown). record r { receivers = model.decreased r.receivers 1 }) (sym (shutdown-at st next s e there))
 
   lessened_at : (w : Bool) (ss2 : FinMap nat_cmp Shutdown) (rs2 : FinMap nat_cmp Receiver) (ws2 : FinMap nat_cmp ShutdownWait) → Puts h_before.shutdowns ss2 s (Some (shutdown_of st.waits next s (lessened e w))) → rs2 ≡ remove h_before.receivers b → ws2 ≡ h_before.waits
@@ -210,10 +210,10 @@ module _ (st : Store) (ss' : FinMap nat_cmp ShutdownEntry) (rs' : FinMap nat_cmp
         (let known = (k.each s e there).known in let number = lessened_number e x.watch in omega (arith, known, number))
         (let number = lessened_number e x.watch in
         let some = number_counts st next i b s e x k there receiver mine in
-        let was : weight (λ q (y : ReceiverEntry). counting s y) b (get st.receivers b) ≡ cond x.watch 0 1 = ap (weight (λ q (y : ReceiverEntry). counting s y) b) receiver ∙ ap (λ r. cond (r == s) (cond x.watch 0 1) 0) mine ∙ own s (cond x.watch 0 1) in
+        let was : weight (λ q (y : ReceiverEntry). counting s y) b (get st.receivers b) ≡ cond x.watch 0 1 = ap (weight (λ q (y : ReceiverEntry). counting s y) b) receiver ∙ ap (λ r. cond (r == s) (cond x.watch 0 1) 0) mine ∙ at_same s s (cond x.watch 0 1) 0 refl in
         omega (arith, number, some, was))
         (let some = receiver_counted st next i b s e x k there receiver mine in
-        let was : weight (λ q (y : ReceiverEntry). cond (y.shutdown == s) 1 0) b (get st.receivers b) ≡ 1 = ap (weight (λ q (y : ReceiverEntry). cond (y.shutdown == s) 1 0) b) receiver ∙ ap (λ r. cond (r == s) 1 0) mine ∙ own s 1 in
+        let was : weight (λ q (y : ReceiverEntry). cond (y.shutdown == s) 1 0) b (get st.receivers b) ≡ 1 = ap (weight (λ q (y : ReceiverEntry). cond (y.shutdown == s) 1 0) b) receiver ∙ ap (λ r. cond (r == s) 1 0) mine ∙ at_same s s 1 0 refl in
         omega (arith, some, was))
         (omega arith) (lessened_given x.watch) free (λ y none. absurd (cc));
     moved = lessened_at x.watch _ _ _ (receiver_shutdowns st ss' rs' next i s b e (lessened e x.watch) None k less low there shutdowns receivers lessened_was lessened_is)
@@ -231,7 +231,7 @@ module _ (st : Store) (ss' : FinMap nat_cmp ShutdownEntry) (rs' : FinMap nat_cmp
     where
       by_watch : (w : Bool) → woken_at_end h_before (record { shutdown = s; watch = w }) ≡ cond w [] (woken_by e.core.receivers 1)
       by_watch true = refl
-      by_watch false = ap (λ (r : Shutdown). model.woken_by r.receivers 1) (shutdown-at st next s e there) ∙ woken-seen (slots_of OfReceivers st.waits) next s e.core.receivers
+      by_watch false = ap (λ (r : Shutdown). model.woken_by r.receivers 1) (shutdown-at st next s e there) ∙ woken-seen (slots_of OfReceivers st.waits) next s e.core.receivers 1
 
 -- ---- a receiver or watch that is copied
 module _ (st : Store) (next b : ℕ) (x : ReceiverEntry) (k : IsKept st next) (receiver : get st.receivers b ≡ Some x) where

@@ -1,11 +1,9 @@
 -- what is seen of the shutdowns that a store stands for
-use Rattle.std.proofs.Common.{◌≡◌, ℕ, ◌==◌, ◌&&◌, not, true, cond, [], refl, ap, sym, subst, ◌∙◌, arith, Option, Some, None, is_some, unwrap_or}
-use Rattle.std.specs.Option.{option_map, IsSome, IfSome}
+use Rattle.std.proofs.Common.{◌≡◌, ℕ, ◌==◌, ◌&&◌, not, cond, [], refl, ap, sym, subst, ◌∙◌, arith, Some, None, is_some, unwrap_or}
+use Rattle.std.specs.Option.{option_map, IsSome}
 use Rattle.std.specs.Ordering.{nat_cmp}
-use Rattle.std.specs.FinMap.{FinMap, get, entries, empty, get-empty}
+use Rattle.std.specs.FinMap.{FinMap, get, entries}
 use Rattle.mea_base.specs.Named.{named, at}
-use Rattle.mea_base.proofs.NamedMaps.{same_named, get-named}
-use Rattle.mea_sets.specs.declared.place.Place.{Place}
 use Rattle.mea_meet_model.specs.Shutdowns.{Shutdown, Receiver, ShutdownWait, Shutdowns, no_shutdowns, new_shutdown, shutdown_at, receivers_of, waits_of, borrowers_of, borrows}
 use Rattle.mea_meet.specs.declared.shutdowns.ShutdownEntry.{ShutdownEntry}
 use Rattle.mea_meet.specs.declared.shutdowns.ReceiverEntry.{ReceiverEntry}
@@ -13,9 +11,10 @@ use Rattle.mea_meet.specs.declared.shutdowns.ShutdownWaitEntry.{ShutdownWaitEntr
 use Rattle.mea_meet.specs.Play.{Part}
 use Rattle.mea_meet.specs.declared.shutdowns.ShutdownHall.TheInside.{Inside}
 use Rattle.mea_meet.specs.StandsFor.{StandsForShutdown, StandsForCount}
-use Rattle.mea_meet.specs.ShutdownHall.{Store, store_of, End, slot_in, OfSignal, OfReceivers, slots_of, shutdown_of, receiver_of, wait_of, hall_of, receivers_in, waits_in, borrowers_in, is_full, IsKept}
+use Rattle.mea_meet.specs.ShutdownHall.{Store, store_of, slot_in, OfSignal, OfReceivers, slots_of, shutdown_of, receiver_of, wait_of, hall_of, receivers_in, waits_in, borrowers_in, is_full, IsKept}
 use Rattle.mea_meet.proofs.Names.{waiting-wakers}
-use Rattle.mea_meet.proofs.ShutdownMaps.{Puts, put_here, get-seen, total-named, kept-at}
+use Rattle.mea_meet.proofs.Maps.{Puts, put_here, get-seen, total-named, kept-at, is_some-map, kept-none, is_empty, seen-empty}
+use Rattle.mea_meet.proofs.Slots.{named_none}
 
 module _ (st : Store) (n : ℕ) where
   pub shutdown-seen : (q : ℕ) → get (hall_of st n).shutdowns q ≡ option_map (shutdown_of st.waits n q) (get st.shutdowns q)
@@ -27,18 +26,14 @@ module _ (st : Store) (n : ℕ) where
   pub wait-seen : (q : ℕ) → get (hall_of st n).waits q ≡ option_map wait_of (get st.waits q)
   wait-seen q = get-seen (λ k x. wait_of x) st.waits q
 
-  some-mapped : {X Y : Type 0} (g : X → Y) (o : Option X) → is_some (option_map g o) ≡ is_some o
-  some-mapped g None = refl
-  some-mapped g (Some x) = refl
-
   pub shutdown-there : (q : ℕ) → is_some (get (hall_of st n).shutdowns q) ≡ is_some (get st.shutdowns q)
-  shutdown-there q = ap is_some (shutdown-seen q) ∙ some-mapped (shutdown_of st.waits n q) (get st.shutdowns q)
+  shutdown-there q = ap is_some (shutdown-seen q) ∙ is_some-map (shutdown_of st.waits n q) (get st.shutdowns q)
 
   pub receiver-there : (q : ℕ) → is_some (get (hall_of st n).receivers q) ≡ is_some (get st.receivers q)
-  receiver-there q = ap is_some (receiver-seen q) ∙ some-mapped receiver_of (get st.receivers q)
+  receiver-there q = ap is_some (receiver-seen q) ∙ is_some-map receiver_of (get st.receivers q)
 
   pub wait-there : (q : ℕ) → is_some (get (hall_of st n).waits q) ≡ is_some (get st.waits q)
-  wait-there q = ap is_some (wait-seen q) ∙ some-mapped wait_of (get st.waits q)
+  wait-there q = ap is_some (wait-seen q) ∙ is_some-map wait_of (get st.waits q)
 
   pub shutdown-at : (s : ℕ) (e : ShutdownEntry) → get st.shutdowns s ≡ Some e → shutdown_at (hall_of st n) s ≡ shutdown_of st.waits n s e
   shutdown-at s e is = ap (λ o. unwrap_or o new_shutdown) (shutdown-seen s ∙ ap (option_map (shutdown_of st.waits n s)) is)
@@ -63,24 +58,9 @@ module _ (st : Store) (n : ℕ) where
       ∙ ap (λ (r : Shutdown). not x.watch && r.receivers.number == 4294967295) (shutdown-at x.shutdown e there)
       ∙ ap (λ m. not x.watch && m == 4294967295) (sym (kept.each x.shutdown e there).known)
 
--- one that is asked for is found
-pub asked : {X : Type 0} (o : Option X) → is_some o ≡ true → o ≡ None → ⊥
-asked None there none = absurd (cc)
-asked (Some x) there none = absurd (cc)
-
-pub some_found : {X : Type 0} (o : Option X) → IsSome o → (x : X) × (o ≡ Some x)
-some_found None there = absurd (cc)
-some_found (Some x) there = (x, refl)
-
-pub if_some : {X : Type 0} (P : X → Type 0) (o : Option X) (x : X) → o ≡ Some x → P x → IfSome o P
-if_some P o x is p = subst (λ q. IfSome q P) (sym is) p
-
 -- nothing is kept, and that stands for no shutdown
 none : {X : Type 0} (q : ℕ) → get (named (λ k (x : X). x) []) q ≡ None
-none q = get-named (λ k x. x) [] q
-
-no_slot : (end : End) (f : ℕ) (x : ℕ × Option Place) → slots_of end (store_of [] [] [] []).waits f ≡ Some x → ⊥
-no_slot end f x is = (let clash : None ≡ Some x = sym (ap (slot_in end) (none f)) ∙ is in absurd (cc))
+none = kept-none [] refl
 
 pub none-kept : IsKept (store_of [] [] [] []) 0
 none-kept = record {
@@ -88,19 +68,13 @@ none-kept = record {
   sender = λ k s is. absurd (let clash : None ≡ Some s = sym (none k) ∙ is in cc);
   receiver = λ k x is. absurd (let clash : None ≡ Some x = sym (none k) ∙ is in cc);
   wait = λ f x is. absurd (let clash : None ≡ Some x = sym (none f) ∙ is in cc);
-  named = λ end. record { below = λ f x is. absurd (no_slot end f x is); apart = λ f g o place is also. absurd (no_slot end f (o, Some place) is) };
+  named = λ end. named_none (slots_of end (store_of [] [] [] []).waits) 0 (λ f. ap (slot_in end) (none f));
   low = omega arith;
 }
 
-nothing : {X Y : Type 0} (g : ℕ → X → Y) → named g (entries (named (λ k (x : X). x) [])) ≡ empty
-nothing {X} g = same_named _ _ (λ q. get-seen g (named (λ k (x : X). x) []) q ∙ ap (option_map (g q)) (none q) ∙ sym (get-empty nat_cmp q))
-
-empty_named : {X : Type 0} → named (λ k (x : X). x) [] ≡ empty
-empty_named = same_named _ _ (λ q. none q ∙ sym (get-empty nat_cmp q))
-
 pub no-hall : ◌≡◌ {A = Part Shutdowns} (record { hall = hall_of (store_of [] [] [] []) 0; next = 0 }) (record { hall = no_shutdowns; next = 0 })
 no-hall = λ j. record {
-  hall = record { shutdowns = nothing (shutdown_of (store_of [] [] [] []).waits 0) j; senders = empty_named {X = ℕ} j; receivers = nothing (λ k x. receiver_of x) j; waits = nothing (λ f x. wait_of x) j };
+  hall = record { shutdowns = seen-empty (shutdown_of (store_of [] [] [] []).waits 0) (store_of [] [] [] []).shutdowns none j; senders = is_empty (store_of [] [] [] []).senders none j; receivers = seen-empty (λ k x. receiver_of x) (store_of [] [] [] []).receivers none j; waits = seen-empty (λ f x. wait_of x) (store_of [] [] [] []).waits none j };
   next = 0;
 }
 

@@ -1,10 +1,8 @@
 -- events that register no waker, and end no future: what is kept, and the wakers that are seen
 use Rattle.std.proofs.Common.{◌≡◌, ℕ, ◌+◌, ◌<◌, ◌≤◌, ◌==◌, Bool, true, false, cond, [], refl, ap, sym, ◌∙◌, arith, Option, Some, None}
-use Rattle.std.specs.Ordering.{nat_cmp}
-use Rattle.std.specs.FinMap.{FinMap, get}
-use Rattle.std.proofs.lemmas.Bool.{eq-eqb}
-use Rattle.mea_base.specs.Totals.{total, weight}
-use Rattle.mea_base.proofs.Totals.{total-zero, total-remove}
+use Rattle.std.specs.FinMap.{get}
+use Rattle.mea_base.specs.Totals.{weight}
+use Rattle.mea_base.proofs.Totals.{total-zero}
 use Rattle.mea_sets.specs.WaitSet.{Registered}
 use Rattle.mea_sets.specs.Countdown as counts
 use Rattle.mea_meet_model.specs.Shutdowns.{borrows}
@@ -13,62 +11,21 @@ use Rattle.mea_meet.specs.declared.shutdowns.ShutdownEntry.{ShutdownEntry}
 use Rattle.mea_meet.specs.declared.shutdowns.ReceiverEntry.{ReceiverEntry}
 use Rattle.mea_meet.specs.declared.shutdowns.ShutdownWaitEntry.{ShutdownWaitEntry}
 use Rattle.mea_meet.specs.ShutdownHall.{Store, End, OfSignal, OfReceivers, awaits_of, count_at, slots_of, count_of, shutdown_of, hall_of, counting, borrowers_in, is_of, IsKeptEntry, IsKept}
-use Rattle.mea_meet.proofs.ShutdownMaps.{Puts, Belongs, total_puts}
+use Rattle.mea_meet.proofs.Maps.{Puts, total_puts, weight-within, none_if}
 use Rattle.mea_meet.proofs.ShutdownChanges.{Changes, Unplaced, named_unplaced, alike_unplaced, given_unplaced, shutdowns_after}
 
 -- ---- what is absent
 pub no-sender : (st : Store) (next i : ℕ) → IsKept st next → next ≤ i → get st.senders i ≡ None
-no-sender st next i k less = by_value (get st.senders i) refl
-  where
-    by_value : (o : Option ℕ) → get st.senders i ≡ o → get st.senders i ≡ None
-    by_value None is = is
-    by_value (Some s) is = absurd (let below = (k.sender i s is).below in omega (arith, below, less))
+no-sender st next i k less = none_if (get st.senders i) (λ s is. let below = (k.sender i s is).below in omega (arith, below, less))
 
 pub no-receiver : (st : Store) (next i : ℕ) → IsKept st next → next ≤ i → get st.receivers i ≡ None
-no-receiver st next i k less = by_value (get st.receivers i) refl
-  where
-    by_value : (o : Option ReceiverEntry) → get st.receivers i ≡ o → get st.receivers i ≡ None
-    by_value None is = is
-    by_value (Some x) is = absurd (let below = (k.receiver i x is).below in omega (arith, below, less))
+no-receiver st next i k less = none_if (get st.receivers i) (λ x is. let below = (k.receiver i x is).below in omega (arith, below, less))
 
 pub no-wait : (st : Store) (next i : ℕ) → IsKept st next → next ≤ i → get st.waits i ≡ None
-no-wait st next i k less = by_value (get st.waits i) refl
-  where
-    by_value : (o : Option ShutdownWaitEntry) → get st.waits i ≡ o → get st.waits i ≡ None
-    by_value None is = is
-    by_value (Some x) is = absurd (let below = (k.wait i x is).below in omega (arith, below, less))
+no-wait st next i k less = none_if (get st.waits i) (λ x is. let below = (k.wait i x is).below in omega (arith, below, less))
 
 pub no-shutdown : (st : Store) (next i : ℕ) → IsKept st next → next ≤ i → get st.shutdowns i ≡ None
-no-shutdown st next i k less = by_value (get st.shutdowns i) refl
-  where
-    by_value : (o : Option ShutdownEntry) → get st.shutdowns i ≡ o → get st.shutdowns i ≡ None
-    by_value None is = is
-    by_value (Some e) is = absurd (let below = (k.each i e is).below in omega (arith, below, less))
-
-pub belongs-none : {X : Type 0} (g : X → ℕ) (s : ℕ) (o : Option X) → o ≡ None → Belongs g s o
-belongs-none g s None none x is = absurd (cc)
-belongs-none g s (Some y) none x is = absurd (cc)
-
-value_in : {X : Type 0} → X → Option X → X
-value_in x None = x
-value_in x (Some y) = y
-
-pub inside : {X : Type 0} (x y : X) → Some x ≡ Some y → x ≡ y
-unfolding value_in
-inside x y is = ap (value_in x) is
-
-pub belongs-some : {X : Type 0} (g : X → ℕ) (s : ℕ) (o : Option X) (x : X) → o ≡ Some x → g x ≡ s → Belongs g s o
-belongs-some g s o x there mine y is = ap g (sym (inside x y (sym there ∙ is))) ∙ mine
-
-pub own : (s n : ℕ) → cond (s == s) n 0 ≡ n
-own s n = ap (λ t. cond t n 0) (eq-eqb s s refl)
-
--- what is there weighs no more than all
-pub total-member : {X : Type 0} (w : ℕ → X → ℕ) (m : FinMap nat_cmp X) (k : ℕ) (x : X) → get m k ≡ Some x → w k x ≤ total w m
-total-member w m k x is = (
-    let all = total-remove w m k in
-    let mine : weight w k (get m k) ≡ w k x = ap (weight w k) is in
-    omega (arith, all, mine))
+no-shutdown st next i k less = none_if (get st.shutdowns i) (λ e is. let below = (k.each i e is).below in omega (arith, below, less))
 
 -- nobody borrows what is not there
 pub unborrowed : (st : Store) (next q : ℕ) → IsKept st next → get st.receivers q ≡ None → borrowers_in st q ≡ 0
@@ -81,7 +38,7 @@ unborrowed st next q k none = total-zero _ st.waits (λ g y is. by_test y (borro
 -- who borrows is counted
 pub borrows-nothing : (st : Store) (q g : ℕ) (y : ShutdownWaitEntry) → borrowers_in st q ≡ 0 → get st.waits g ≡ Some y → borrows (awaits_of y.wait) q ≡ true → ⊥
 borrows-nothing st q g y none is lent =
-    let part = total-member (λ f (x : ShutdownWaitEntry). cond (borrows (awaits_of x.wait) q) 1 0) st.waits g y is in
+    let part = weight-within (λ f (x : ShutdownWaitEntry). cond (borrows (awaits_of x.wait) q) 1 0) st.waits g y is in
     let one : ◌≡◌ {A = ℕ} (cond (borrows (awaits_of y.wait) q) 1 0) 1 = ap (λ t. cond t 1 0) lent in
     omega (arith, part, one, none)
 

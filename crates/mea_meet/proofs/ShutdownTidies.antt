@@ -1,28 +1,18 @@
 -- a shutdown of which nothing is left is gone
-use Rattle.std.proofs.Common.{◌≡◌, ℕ, ◌+◌, ◌<◌, ◌==◌, Bool, true, false, cond, if◌then◌else◌, nat_lt, refl, ap, sym, ◌∙◌, arith, Option, Some, None, is_some}
-use Rattle.std.specs.Option.{option_map, IsSome}
+use Rattle.std.proofs.Common.{◌≡◌, ℕ, ◌+◌, ◌<◌, ◌==◌, true, cond, if◌then◌else◌, nat_lt, refl, ap, sym, ◌∙◌, arith, Some, None, is_some}
+use Rattle.std.specs.Option.{IsSome}
 use Rattle.std.specs.Ordering.{nat_cmp}
-use Rattle.std.specs.FinMap.{FinMap, get, remove, entries}
+use Rattle.std.specs.FinMap.{FinMap, get, remove}
 use Rattle.std.proofs.lemmas.Bool.Decides.{nat_tests}
-use Rattle.mea_base.specs.Named.{named}
 use Rattle.mea_base.specs.Totals.{weight}
 use Rattle.mea_meet_model.specs.Shutdowns.{tidied, senders_of, receivers_of, waits_of, registered}
 use Rattle.mea_meet.specs.declared.shutdowns.ShutdownEntry.{ShutdownEntry}
 use Rattle.mea_meet.specs.declared.shutdowns.ReceiverEntry.{ReceiverEntry}
 use Rattle.mea_meet.specs.declared.shutdowns.ShutdownWaitEntry.{ShutdownWaitEntry}
 use Rattle.mea_meet.specs.ShutdownHall.{Store, shutdown_of, hall_of, senders_in, IsKeptEntry, IsKept}
-use Rattle.mea_meet.proofs.ShutdownMaps.{Puts, get-seen, put_other, total_puts, by_put, is_remove}
+use Rattle.mea_meet.proofs.Maps.{Puts, put_other, total_puts, by_put, is_remove, weight-within, seen_puts, at_same}
 use Rattle.mea_meet.proofs.ShutdownChanges.{wakers_at, registered-seen}
 use Rattle.mea_meet.proofs.ShutdownSeen.{receivers-seen, waits-seen}
-use Rattle.mea_meet.proofs.ShutdownStill.{own, total-member}
-
--- a name that is gone is gone from what is seen
-puts_gone : {X Y : Type 0} (f : ℕ → X → Y) (m n : FinMap nat_cmp X) (k : ℕ) → Puts m n k None → Puts (named f (entries m)) (named f (entries n)) k None
-puts_gone {X} {Y} f m n k h q = get-seen f n q ∙ ap (option_map (f q)) (h q) ∙ by_test (k == q) ∙ ap (λ (o : Option Y). cond (k == q) None o) (sym (get-seen f m q))
-  where
-    by_test : (t : Bool) → option_map (f q) (cond t None (get m q)) ≡ cond t None (option_map (f q) (get m q))
-    by_test true = refl
-    by_test false = refl
 
 module _ (st : Store) (next s : ℕ) (e : ShutdownEntry) (k : IsKept st next) (there : get st.shutdowns s ≡ Some e) where
   -- what is left is what the model counts
@@ -47,22 +37,22 @@ module _ (st : Store) (next s : ℕ) (e : ShutdownEntry) (k : IsKept st next) (t
 
     sender_apart : (a p : ℕ) → get st.senders a ≡ Some p → s ≡ p → ⊥
     sender_apart a p is same =
-        let part = total-member (λ q (o : ℕ). cond (o == s) 1 0) st.senders a p is in
-        let one : ◌≡◌ {A = ℕ} (cond (p == s) 1 0) 1 = ap (λ r. cond (r == s) 1 0) (sym same) ∙ own s 1 in
+        let part = weight-within (λ q (o : ℕ). cond (o == s) 1 0) st.senders a p is in
+        let one : ◌≡◌ {A = ℕ} (cond (p == s) 1 0) 1 = ap (λ r. cond (r == s) 1 0) (sym same) ∙ at_same s s 1 0 refl in
         let all = (k.each s e there).things in
         omega (arith, part, one, all, none)
 
     receiver_apart : (b : ℕ) (x : ReceiverEntry) → get st.receivers b ≡ Some x → s ≡ x.shutdown → ⊥
     receiver_apart b x is same =
-        let part = total-member (λ q (y : ReceiverEntry). cond (y.shutdown == s) 1 0) st.receivers b x is in
-        let one : ◌≡◌ {A = ℕ} (cond (x.shutdown == s) 1 0) 1 = ap (λ r. cond (r == s) 1 0) (sym same) ∙ own s 1 in
+        let part = weight-within (λ q (y : ReceiverEntry). cond (y.shutdown == s) 1 0) st.receivers b x is in
+        let one : ◌≡◌ {A = ℕ} (cond (x.shutdown == s) 1 0) 1 = ap (λ r. cond (r == s) 1 0) (sym same) ∙ at_same s s 1 0 refl in
         let all = (k.each s e there).things in
         omega (arith, part, one, all, none)
 
     wait_apart : (f : ℕ) (x : ShutdownWaitEntry) → get st.waits f ≡ Some x → s ≡ x.shutdown → ⊥
     wait_apart f x is same =
-        let part = total-member (λ q (y : ShutdownWaitEntry). cond (y.shutdown == s) 1 0) st.waits f x is in
-        let one : ◌≡◌ {A = ℕ} (cond (x.shutdown == s) 1 0) 1 = ap (λ r. cond (r == s) 1 0) (sym same) ∙ own s 1 in
+        let part = weight-within (λ q (y : ShutdownWaitEntry). cond (y.shutdown == s) 1 0) st.waits f x is in
+        let one : ◌≡◌ {A = ℕ} (cond (x.shutdown == s) 1 0) 1 = ap (λ r. cond (r == s) 1 0) (sym same) ∙ at_same s s 1 0 refl in
         let all = (k.each s e there).things in
         omega (arith, part, one, all, none)
 
@@ -79,7 +69,7 @@ module _ (st : Store) (next s : ℕ) (e : ShutdownEntry) (k : IsKept st next) (t
 
     pub tidy_moved : hall_of st' next ≡ tidied (hall_of st next) s
     tidy_moved = (λ j. record {
-      shutdowns = is_remove (hall_of st next).shutdowns (hall_of st' next).shutdowns s (puts_gone (shutdown_of st.waits next) st.shutdowns ss' s gone) j;
+      shutdowns = is_remove (hall_of st next).shutdowns (hall_of st' next).shutdowns s (seen_puts (shutdown_of st.waits next) (shutdown_of st.waits next) st.shutdowns ss' s None gone (λ q x apart is. refl)) j;
       senders = st.senders;
       receivers = (hall_of st next).receivers;
       waits = (hall_of st next).waits;

@@ -12,10 +12,10 @@ use Rattle.mea_meet.specs.declared.shutdowns.ReceiverEntry.{ReceiverEntry}
 use Rattle.mea_meet.specs.declared.shutdowns.ShutdownWaitEntry.{ShutdownWaitEntry}
 use Rattle.mea_meet.specs.declared.shutdowns.ShutdownWait.TheVariants as waits
 use Rattle.mea_meet.specs.ShutdownHall.{Store, End, OfSignal, OfReceivers, awaits_of, slot_in, count_at, slots_of, shutdown_of, receiver_of, wait_of, hall_of, counting, borrowers_in, is_of, IsKeptEntry, IsKept}
-use Rattle.mea_meet.proofs.ShutdownMaps.{Puts, puts_same, puts_seen, put_here, total_puts, is_same, is_insert, is_remove}
+use Rattle.mea_meet.proofs.Maps.{Puts, puts_same, puts_seen, put_here, total_puts, is_same, is_insert, is_remove, belongs-none, belongs-some, inside, at_same}
 use Rattle.mea_meet.proofs.ShutdownChanges.{Changes, Unplaced, Keeps, kept_after, registered_after, wakers_at}
 use Rattle.mea_meet.proofs.ShutdownSeen.{receiver-seen}
-use Rattle.mea_meet.proofs.ShutdownStill.{no-sender, no-receiver, no-wait, belongs-none, belongs-some, own, inside, entry_after, still_named, still_given, still_shutdowns}
+use Rattle.mea_meet.proofs.ShutdownStill.{no-sender, no-receiver, no-wait, entry_after, still_named, still_given, still_shutdowns}
 use Rattle.mea_meet.proofs.ShutdownPlays.{Goes, seen_before}
 
 -- a future was not polled
@@ -29,7 +29,7 @@ unplaced_still s OfReceivers = inr (s, refl)
 
 -- what a future on the signal borrows
 borrowed-weight : (plain : Bool) (k : ℕ) → ◌≡◌ {A = ℕ} (cond (borrows (Signal (cond plain (Some k) None)) k) 1 0) (cond plain 1 0)
-borrowed-weight true k = own k 1
+borrowed-weight true k = at_same k k 1 0 refl
 borrowed-weight false k = refl
 
 borrowed-other : (plain : Bool) (k q : ℕ) → (k ≡ q → ⊥) → ◌≡◌ {A = ℕ} (cond (borrows (Signal (cond plain (Some k) None)) q) 1 0) 0
@@ -89,7 +89,7 @@ module _ (st : Store) (ss' : FinMap nat_cmp ShutdownEntry) (rs' : FinMap nat_cmp
       (let senders : weight (λ q (p : ℕ). cond (p == s) 1 0) i (get st.senders i) ≡ 0 = ap (weight (λ q (p : ℕ). cond (p == s) 1 0) i) (no-sender st next i k less) in
       let before : weight (λ q (y : ReceiverEntry). cond (y.shutdown == s) 1 0) r (get st.receivers r) ≡ cond (x.shutdown == s) 1 0 = ap (weight (λ q (y : ReceiverEntry). cond (y.shutdown == s) 1 0) r) receiver in
       let none : weight (λ q (y : ShutdownWaitEntry). cond (y.shutdown == s) 1 0) i (get st.waits i) ≡ 0 = ap (weight (λ q (y : ShutdownWaitEntry). cond (y.shutdown == s) 1 0) i) (no-wait st next i k less) in
-      let one : ◌≡◌ {A = ℕ} (cond (s == s) 1 0) 1 = own s 1 in
+      let one : ◌≡◌ {A = ℕ} (cond (s == s) 1 0) 1 = at_same s s 1 0 refl in
       omega (arith, senders, before, none, one))
       (omega arith)
       (λ end. still_given st after next i s i r i new_entry None (Some lent) (Some new_wait) k changes later (omega arith) was_unplaced (unplaced s (cond plain (Some r) None)) end (count_at end e.core).waiting ((k.each s e there).given end))

@@ -1,7 +1,8 @@
 use Rattle.std.proofs.Common.{rules, ◌≡◌, Some, false, sym, ap, ◌∙◌, arith}
 use Rattle.std.specs.Option.{option_copied_mut}
 use Rattle.mea_base.specs.Named.{at}
-use Rattle.mea_meet.proofs.LatchStanding.{never_named, room_at, let_go_most, changed_at, changes_over, of_one, drops_at}
+use Rattle.mea_meet.proofs.LatchStanding.{never_named, room_at, let_go_most, drops_at}
+use Rattle.mea_meet.proofs.Maps.{changes_twice, changed_at, some_if}
 use Rattle.mea_meet.proofs.latches.LatchHall.drop.Goals as goal
 
 pub unreachable-requires : goal.unreachable-requires
@@ -18,11 +19,11 @@ tidy-requires-clause-room c =
 pub invariant_of-self : goal.invariant_of-self
 invariant_of-self c =
     let is : at c.self.inside.latches.entries c.args.l ≡ Some c.in-Some.entry.now = sym c.get_mut.ensures.value ∙ ap option_copied_mut c.in-Some.is in
-    let tidies = of_one _ c.args.l (record c.in-Some.entry.now { named = false }) _ (changed_at c.self.inside.latches.entries _ c.args.l (Some (record c.in-Some.entry.now { named = false })) ((c.get_mut.follows.holds (record c.in-Some.entry.now { named = false })).3 (search rules)).0) c.tidy.ensures in
-    (drops_at c.self.inside.latches.entries c.self.inside.waits.entries c.self.inside.next c.args.number c.args.self.now c.self.view_is c.self.invariant c.requires.next (omega arith) c.tidy.new.latches.entries c.args.l c.in-Some.entry.now c.args.ready.now c.tidy.new.ready is (changes_over c.self.inside.latches.entries _ c.tidy.new.latches.entries c.args.l (Some (record c.in-Some.entry.now { named = false })) _ ((c.get_mut.follows.holds (record c.in-Some.entry.now { named = false })).3 (search rules)).0 tidies.latches) c.requires.room tidies.ready).kept
+    let tidies = some_if _ _ (record c.in-Some.entry.now { named = false }) (changed_at c.self.inside.latches.entries _ c.args.l (Some (record c.in-Some.entry.now { named = false })) ((c.get_mut.follows.holds (record c.in-Some.entry.now { named = false })).3 (search rules)).0) c.tidy.ensures in
+    (drops_at c.self.inside.latches.entries c.self.inside.waits.entries c.self.inside.next c.args.number c.args.self.now c.self.view_is c.self.invariant c.requires.next (omega arith) c.tidy.new.latches.entries c.args.l c.in-Some.entry.now c.args.ready.now c.tidy.new.ready is (changes_twice c.self.inside.latches.entries _ c.tidy.new.latches.entries c.args.l (Some (record c.in-Some.entry.now { named = false })) _ ((c.get_mut.follows.holds (record c.in-Some.entry.now { named = false })).3 (search rules)).0 tidies.latches) c.requires.room tidies.ready).kept
 
 pub returns : goal.returns
 returns c =
     let is : at c.self.inside.latches.entries c.args.l ≡ Some c.in-Some.entry.now = sym c.get_mut.ensures.value ∙ ap option_copied_mut c.in-Some.is in
-    let tidies = of_one _ c.args.l (record c.in-Some.entry.now { named = false }) _ (changed_at c.self.inside.latches.entries _ c.args.l (Some (record c.in-Some.entry.now { named = false })) ((c.get_mut.follows.holds (record c.in-Some.entry.now { named = false })).3 (search rules)).0) c.tidy.ensures in
-    (drops_at c.self.inside.latches.entries c.self.inside.waits.entries c.self.inside.next c.args.number c.args.self.now c.self.view_is c.self.invariant c.requires.next (omega arith) c.tidy.new.latches.entries c.args.l c.in-Some.entry.now c.args.ready.now c.tidy.new.ready is (changes_over c.self.inside.latches.entries _ c.tidy.new.latches.entries c.args.l (Some (record c.in-Some.entry.now { named = false })) _ ((c.get_mut.follows.holds (record c.in-Some.entry.now { named = false })).3 (search rules)).0 tidies.latches) c.requires.room tidies.ready).yields
+    let tidies = some_if _ _ (record c.in-Some.entry.now { named = false }) (changed_at c.self.inside.latches.entries _ c.args.l (Some (record c.in-Some.entry.now { named = false })) ((c.get_mut.follows.holds (record c.in-Some.entry.now { named = false })).3 (search rules)).0) c.tidy.ensures in
+    (drops_at c.self.inside.latches.entries c.self.inside.waits.entries c.self.inside.next c.args.number c.args.self.now c.self.view_is c.self.invariant c.requires.next (omega arith) c.tidy.new.latches.entries c.args.l c.in-Some.entry.now c.args.ready.now c.tidy.new.ready is (changes_twice c.self.inside.latches.entries _ c.tidy.new.latches.entries c.args.l (Some (record c.in-Some.entry.now { named = false })) _ ((c.get_mut.follows.holds (record c.in-Some.entry.now { named = false })).3 (search rules)).0 tidies.latches) c.requires.room tidies.ready).yields

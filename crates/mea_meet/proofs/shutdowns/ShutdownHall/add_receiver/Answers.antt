@@ -2,9 +2,9 @@ use Rattle.std.proofs.Common.{rules, ◌≡◌, None, Some, sym, ap, ◌∙◌, 
 use Rattle.std.specs.Option.{option_copied_mut}
 use Rattle.std.specs.FinMap.{get}
 use Rattle.mea_base.specs.declared.answer.Answer.TheVariants as answers
-use Rattle.mea_meet.proofs.ShutdownMaps.{kept-puts, kept-puts-as}
+use Rattle.mea_meet.proofs.Maps.{kept-puts, kept-puts-as, not_none}
 use Rattle.mea_meet_model.specs.Shutdowns.{Shutdown}
-use Rattle.mea_meet.proofs.ShutdownSeen.{kept_in, shutdown-there, shutdown-at, shutdown-kept, asked}
+use Rattle.mea_meet.proofs.ShutdownSeen.{kept_in, shutdown-there, shutdown-at, shutdown-kept}
 use Rattle.mea_meet.proofs.ShutdownPlays.{rests}
 use Rattle.mea_meet.proofs.ShutdownReceivers.{add_receiver_goes}
 use Rattle.mea_meet.proofs.shutdowns.ShutdownHall.add_receiver.Goals as goal
@@ -12,7 +12,7 @@ use Rattle.mea_meet.proofs.shutdowns.ShutdownHall.add_receiver.Goals as goal
 pub unreachable-requires : goal.unreachable-requires
 unreachable-requires c =
     let none : get (kept_in c.self.inside).shutdowns c.args.s ≡ None = shutdown-kept c.self.inside c.args.s ∙ sym c.get_mut.ensures.value ∙ ap option_copied_mut c.in_default.is in
-    asked _ (sym (shutdown-there (kept_in c.self.inside) c.self.inside.next c.args.s) ∙ (rw (← c.self.view_is) at c.requires.there)) none
+    not_none _ (sym (shutdown-there (kept_in c.self.inside) c.self.inside.next c.args.s) ∙ (rw (← c.self.view_is) at c.requires.there)) none
 
 pub add_receiver-requires-clause-known : goal.add_receiver-requires-clause-known
 add_receiver-requires-clause-known c =

@@ -1,7 +1,7 @@
 use Rattle.std.proofs.Common.{◌≡◌, false, None, Some, sym, subst, ◌∙◌, refl, arith}
 use Rattle.mea_base.specs.declared.answer.Answer.TheVariants as answers
 use Rattle.mea_meet.specs.ShutdownHall.{Store, hall_of, IsKept}
-use Rattle.mea_meet.proofs.ShutdownMaps.{kept-puts, kept-puts-as, put_undone}
+use Rattle.mea_meet.proofs.Maps.{kept-puts, kept-puts-as, put_undone}
 use Rattle.mea_base.specs.Named.{named}
 use Rattle.mea_meet.specs.declared.shutdowns.ShutdownEntry.{ShutdownEntry}
 use Rattle.mea_meet.specs.declared.shutdowns.ReceiverEntry.{ReceiverEntry}

@@ -6,19 +6,20 @@ use Rattle.mea_meet.specs.ShutdownHall.{hall_of}
 use Rattle.mea_base.specs.Family.{quietly}
 use Rattle.mea_meet_model.specs.Shutdowns.{Shutdown, now_of}
 use Rattle.mea_meet.specs.ShutdownHall.{receiver_of}
-use Rattle.mea_meet.proofs.ShutdownSeen.{kept_in, receiver-at, receiver-there, receiver-seen, shutdown-kept, shutdown-at, asked}
+use Rattle.mea_meet.proofs.ShutdownSeen.{kept_in, receiver-at, receiver-there, receiver-seen, shutdown-kept, shutdown-at}
 use Rattle.mea_meet.proofs.ShutdownPlays.{rests, stays_goes}
 use Rattle.mea_meet.proofs.shutdowns.ShutdownHall.now.Goals as goal
+use Rattle.mea_meet.proofs.Maps.{not_none}
 
 pub unreachable-requires : goal.unreachable-requires
 unreachable-requires c =
     let none : get (kept_in c.self.inside).receivers c.args.k ≡ None = receiver-at c.self.inside c.args.k ∙ sym c.get.ensures.value ∙ ap option_copied c.in_default.is in
-    asked _ (sym (receiver-there (kept_in c.self.inside) c.self.inside.next c.args.k) ∙ (rw (← c.self.view_is) at c.requires.there)) none
+    not_none _ (sym (receiver-there (kept_in c.self.inside) c.self.inside.next c.args.k) ∙ (rw (← c.self.view_is) at c.requires.there)) none
 
 pub unreachable-requires-in_default-get : goal.unreachable-requires-in_default-get
 unreachable-requires-in_default-get c =
     let is : get (kept_in c.self.inside).receivers c.args.k ≡ Some c.in-Some.receiver.now = receiver-at c.self.inside c.args.k ∙ sym c.get.ensures.value ∙ ap option_copied c.in-Some.is in
-    asked _ (c.self.invariant.receiver c.args.k c.in-Some.receiver.now is).there (shutdown-kept c.self.inside c.in-Some.receiver.now.shutdown ∙ sym c.get-2.ensures.value ∙ ap option_copied c.in_default-get.is)
+    not_none _ (c.self.invariant.receiver c.args.k c.in-Some.receiver.now is).there (shutdown-kept c.self.inside c.in-Some.receiver.now.shutdown ∙ sym c.get-2.ensures.value ∙ ap option_copied c.in_default-get.is)
 
 pub invariant_of-self : goal.invariant_of-self
 invariant_of-self c =

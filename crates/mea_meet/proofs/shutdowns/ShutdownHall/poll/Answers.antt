@@ -1,19 +1,20 @@
 use Rattle.std.proofs.Common.{◌≡◌, None, Some, sym, ap, ◌∙◌}
 use Rattle.std.specs.Option.{option_copied}
 use Rattle.std.specs.FinMap.{get}
-use Rattle.mea_meet.proofs.ShutdownSeen.{kept_in, wait-at, wait-there, shutdown-kept, asked}
+use Rattle.mea_meet.proofs.ShutdownSeen.{kept_in, wait-at, wait-there, shutdown-kept}
 use Rattle.mea_meet.proofs.ShutdownGone.{waits-seen, poll_finished}
 use Rattle.mea_meet.proofs.shutdowns.ShutdownHall.poll.Goals as goal
+use Rattle.mea_meet.proofs.Maps.{not_none}
 
 pub unreachable-requires : goal.unreachable-requires
 unreachable-requires c =
     let none : get (kept_in c.self.inside).waits c.args.f ≡ None = wait-at c.self.inside c.args.f ∙ sym c.get.ensures.value ∙ ap option_copied c.in_default.is in
-    asked _ (sym (wait-there (kept_in c.self.inside) c.self.inside.next c.args.f) ∙ (rw (← c.self.view_is) at c.requires.there)) none
+    not_none _ (sym (wait-there (kept_in c.self.inside) c.self.inside.next c.args.f) ∙ (rw (← c.self.view_is) at c.requires.there)) none
 
 pub unreachable-requires-in_default-get : goal.unreachable-requires-in_default-get
 unreachable-requires-in_default-get c =
     let is : get (kept_in c.self.inside).waits c.args.f ≡ Some c.in-Some.wait.now = wait-at c.self.inside c.args.f ∙ sym c.get.ensures.value ∙ ap option_copied c.in-Some.is in
-    asked _ (c.self.invariant.wait c.args.f c.in-Some.wait.now is).there (shutdown-kept c.self.inside c.in-Some.wait.now.shutdown ∙ sym c.get-2.ensures.value ∙ ap option_copied c.in_default-get.is)
+    not_none _ (c.self.invariant.wait c.args.f c.in-Some.wait.now is).there (shutdown-kept c.self.inside c.in-Some.wait.now.shutdown ∙ sym c.get-2.ensures.value ∙ ap option_copied c.in_default-get.is)
 
 pub wait_on-requires-clause-waits : goal.wait_on-requires-clause-waits
 wait_on-requires-clause-waits c =

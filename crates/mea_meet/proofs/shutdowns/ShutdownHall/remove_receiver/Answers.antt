@@ -1,22 +1,22 @@
 use Rattle.std.proofs.Common.{rules, ◌++◌, ◌+◌, ◌≡◌, None, Some, sym, ap, ◌∙◌, refl, arith}
 use Rattle.std.specs.Option.{option_map, option_copied_mut}
 use Rattle.std.specs.FinMap.{get}
-use Rattle.mea_meet.proofs.ShutdownMaps.{kept-puts, kept-puts-as}
+use Rattle.mea_meet.proofs.Maps.{kept-puts, kept-puts-as, not_none, if_some}
 use Rattle.mea_meet.specs.ShutdownHall.{receiver_of, borrowers_in}
-use Rattle.mea_meet.proofs.ShutdownSeen.{kept_in, receiver-at, receiver-there, receiver-seen, borrowers-seen, shutdown-kept, asked, if_some, still-there}
-use Rattle.mea_meet.proofs.ShutdownCounts.{wakers-within}
+use Rattle.mea_meet.proofs.ShutdownSeen.{kept_in, receiver-at, receiver-there, receiver-seen, borrowers-seen, shutdown-kept, still-there}
+use Rattle.mea_meet.proofs.ShutdownChanges.{wakers-within}
 use Rattle.mea_meet.proofs.ShutdownReceivers.{receiver_counted, receiver_lives, remove_receiver_wakes, remove_receiver_woken}
 use Rattle.mea_meet.proofs.shutdowns.ShutdownHall.remove_receiver.Goals as goal
 
 pub unreachable-requires : goal.unreachable-requires
 unreachable-requires c =
     let none : get (kept_in c.self.inside).receivers c.args.k ≡ None = receiver-at c.self.inside c.args.k ∙ sym c.remove.ensures.value ∙ c.in_default.is in
-    asked _ (sym (receiver-there (kept_in c.self.inside) c.self.inside.next c.args.k) ∙ (rw (← c.self.view_is) at c.requires.there)) none
+    not_none _ (sym (receiver-there (kept_in c.self.inside) c.self.inside.next c.args.k) ∙ (rw (← c.self.view_is) at c.requires.there)) none
 
 pub unreachable-requires-in_default-get_mut : goal.unreachable-requires-in_default-get_mut
 unreachable-requires-in_default-get_mut c =
     let is : get (kept_in c.self.inside).receivers c.args.k ≡ Some c.in-Some.receiver = receiver-at c.self.inside c.args.k ∙ sym c.remove.ensures.value ∙ c.in-Some.is in
-    asked _ (c.self.invariant.receiver c.args.k c.in-Some.receiver is).there (shutdown-kept c.self.inside c.in-Some.receiver.shutdown ∙ sym c.get_mut.ensures.value ∙ ap option_copied_mut c.in_default-get_mut.is)
+    not_none _ (c.self.invariant.receiver c.args.k c.in-Some.receiver is).there (shutdown-kept c.self.inside c.in-Some.receiver.shutdown ∙ sym c.get_mut.ensures.value ∙ ap option_copied_mut c.in_default-get_mut.is)
 
 pub end_receiver-requires-clause-known : goal.end_receiver-requires-clause-known
 end_receiver-requires-clause-known c =

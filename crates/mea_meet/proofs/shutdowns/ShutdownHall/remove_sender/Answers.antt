@@ -1,20 +1,20 @@
 use Rattle.std.proofs.Common.{rules, ◌+◌, ◌-◌, ◌≡◌, None, Some, sym, ap, ◌∙◌, refl, arith}
 use Rattle.std.specs.Option.{option_copied_mut}
 use Rattle.std.specs.FinMap.{get}
-use Rattle.mea_meet.proofs.ShutdownMaps.{kept-puts}
-use Rattle.mea_meet.proofs.ShutdownSeen.{kept_in, sender-at, shutdown-kept, asked, if_some, still-there}
+use Rattle.mea_meet.proofs.Maps.{kept-puts, not_none, if_some}
+use Rattle.mea_meet.proofs.ShutdownSeen.{kept_in, sender-at, shutdown-kept, still-there}
 use Rattle.mea_meet.proofs.ShutdownPlays.{sender_counted, remove_sender_goes}
 use Rattle.mea_meet.proofs.shutdowns.ShutdownHall.remove_sender.Goals as goal
 
 pub unreachable-requires : goal.unreachable-requires
 unreachable-requires c =
     let none : get (kept_in c.self.inside).senders c.args.k ≡ None = sender-at c.self.inside c.args.k ∙ sym c.remove.ensures.value ∙ c.in_default.is in
-    asked _ (rw (← c.self.view_is) at c.requires.there) none
+    not_none _ (rw (← c.self.view_is) at c.requires.there) none
 
 pub unreachable-requires-in_default-get_mut : goal.unreachable-requires-in_default-get_mut
 unreachable-requires-in_default-get_mut c =
     let is : get (kept_in c.self.inside).senders c.args.k ≡ Some c.in-Some.s = sender-at c.self.inside c.args.k ∙ sym c.remove.ensures.value ∙ c.in-Some.is in
-    asked _ (c.self.invariant.sender c.args.k c.in-Some.s is).there (shutdown-kept c.self.inside c.in-Some.s ∙ sym c.get_mut.ensures.value ∙ ap option_copied_mut c.in_default-get_mut.is)
+    not_none _ (c.self.invariant.sender c.args.k c.in-Some.s is).there (shutdown-kept c.self.inside c.in-Some.s ∙ sym c.get_mut.ensures.value ∙ ap option_copied_mut c.in_default-get_mut.is)
 
 pub overflow_sub-entry : goal.overflow_sub-entry
 overflow_sub-entry c =

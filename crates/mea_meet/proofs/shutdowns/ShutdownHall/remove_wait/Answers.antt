@@ -1,16 +1,16 @@
 use Rattle.std.proofs.Common.{rules, ◌+◌, ◌-◌, ◌≡◌, None, Some, sym, ap, ◌∙◌, refl, arith}
 use Rattle.std.specs.Option.{option_map, option_copied_mut}
 use Rattle.std.specs.FinMap.{get}
-use Rattle.mea_meet.proofs.ShutdownMaps.{kept-puts}
+use Rattle.mea_meet.proofs.Maps.{kept-puts, not_none, if_some}
 use Rattle.mea_meet.specs.ShutdownHall.{wait_of}
-use Rattle.mea_meet.proofs.ShutdownSeen.{kept_in, wait-at, wait-there, wait-seen, shutdown-kept, asked, if_some, still-there}
+use Rattle.mea_meet.proofs.ShutdownSeen.{kept_in, wait-at, wait-there, wait-seen, shutdown-kept, still-there}
 use Rattle.mea_meet.proofs.ShutdownEnds.{can_give_back, wait_counted, remove_wait_goes}
 use Rattle.mea_meet.proofs.shutdowns.ShutdownHall.remove_wait.Goals as goal
 
 pub unreachable-requires : goal.unreachable-requires
 unreachable-requires c =
     let none : get (kept_in c.self.inside).waits c.args.f ≡ None = wait-at c.self.inside c.args.f ∙ sym c.remove.ensures.value ∙ c.in_default.is in
-    asked _ (sym (wait-there (kept_in c.self.inside) c.self.inside.next c.args.f) ∙ (rw (← c.self.view_is) at c.requires.there)) none
+    not_none _ (sym (wait-there (kept_in c.self.inside) c.self.inside.next c.args.f) ∙ (rw (← c.self.view_is) at c.requires.there)) none
 
 pub give_back-requires : goal.give_back-requires
 give_back-requires c =
@@ -20,7 +20,7 @@ give_back-requires c =
 pub unreachable-requires-in_default-get_mut : goal.unreachable-requires-in_default-get_mut
 unreachable-requires-in_default-get_mut c =
     let is : get (kept_in c.self.inside).waits c.args.f ≡ Some c.in-Some.wait = wait-at c.self.inside c.args.f ∙ sym c.remove.ensures.value ∙ c.in-Some.is in
-    asked _ (c.self.invariant.wait c.args.f c.in-Some.wait is).there (shutdown-kept c.self.inside c.in-Some.wait.shutdown ∙ sym c.get_mut.ensures.value ∙ ap option_copied_mut c.in_default-get_mut.is)
+    not_none _ (c.self.invariant.wait c.args.f c.in-Some.wait is).there (shutdown-kept c.self.inside c.in-Some.wait.shutdown ∙ sym c.get_mut.ensures.value ∙ ap option_copied_mut c.in_default-get_mut.is)
 
 pub overflow_sub-entry : goal.overflow_sub-entry
 overflow_sub-entry c =

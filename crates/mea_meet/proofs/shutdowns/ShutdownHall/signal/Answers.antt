@@ -3,23 +3,23 @@ use Rattle.std.specs.Option.{option_copied, option_copied_mut}
 use Rattle.std.specs.FinMap.{get}
 use Rattle.mea_base.specs.declared.answer.Answer.TheVariants as answers
 use Rattle.mea_meet.specs.ShutdownHall.{hall_of}
-use Rattle.mea_meet.proofs.ShutdownMaps.{kept-puts-as}
+use Rattle.mea_meet.proofs.Maps.{kept-puts-as, not_none}
 use Rattle.mea_meet_model.specs.Shutdowns.{signal_of, with_shutdown, shutdown_at}
 use Rattle.mea_meet_model.specs.Count.{decreased}
-use Rattle.mea_meet.proofs.ShutdownSeen.{kept_in, sender-at, shutdown-kept, asked}
-use Rattle.mea_meet.proofs.ShutdownCounts.{wakers-within}
+use Rattle.mea_meet.proofs.ShutdownSeen.{kept_in, sender-at, shutdown-kept}
+use Rattle.mea_meet.proofs.ShutdownChanges.{wakers-within}
 use Rattle.mea_meet.proofs.ShutdownPlays.{yields, signal_wakes, signal_woken}
 use Rattle.mea_meet.proofs.shutdowns.ShutdownHall.signal.Goals as goal
 
 pub unreachable-requires : goal.unreachable-requires
 unreachable-requires c =
     let none : get (kept_in c.self.inside).senders c.args.k ≡ None = sender-at c.self.inside c.args.k ∙ sym c.get.ensures.value ∙ ap option_copied c.in_default.is in
-    asked _ (rw (← c.self.view_is) at c.requires.there) none
+    not_none _ (rw (← c.self.view_is) at c.requires.there) none
 
 pub unreachable-requires-in_default-get_mut : goal.unreachable-requires-in_default-get_mut
 unreachable-requires-in_default-get_mut c =
     let is : get (kept_in c.self.inside).senders c.args.k ≡ Some c.in-Some.sender.now = sender-at c.self.inside c.args.k ∙ sym c.get.ensures.value ∙ ap option_copied c.in-Some.is in
-    asked _ (c.self.invariant.sender c.args.k c.in-Some.sender.now is).there (shutdown-kept c.self.inside c.in-Some.sender.now ∙ sym c.get_mut.ensures.value ∙ ap option_copied_mut c.in_default-get_mut.is)
+    not_none _ (c.self.invariant.sender c.args.k c.in-Some.sender.now is).there (shutdown-kept c.self.inside c.in-Some.sender.now ∙ sym c.get_mut.ensures.value ∙ ap option_copied_mut c.in_default-get_mut.is)
 
 pub signal-requires-clause-quiet : goal.signal-requires-clause-quiet
 signal-requires-clause-quiet c =

@@ -1,17 +1,17 @@
 use Rattle.std.proofs.Common.{◌≡◌, ℕ, None, Some, sym, ap, ◌∙◌, arith}
 use Rattle.std.specs.Option.{option_copied}
 use Rattle.std.specs.FinMap.{get}
-use Rattle.mea_meet.proofs.ShutdownMaps.{kept-puts}
+use Rattle.mea_meet.proofs.Maps.{kept-puts, not_none}
 use Rattle.mea_base.specs.Ready.{Waking}
-use Rattle.mea_meet.proofs.ShutdownSeen.{kept_in, shutdown-there, shutdown-kept, asked}
-use Rattle.mea_meet.proofs.ShutdownCounts.{wakers-within}
+use Rattle.mea_meet.proofs.ShutdownSeen.{kept_in, shutdown-there, shutdown-kept}
+use Rattle.mea_meet.proofs.ShutdownChanges.{wakers-within}
 use Rattle.mea_meet.proofs.ShutdownTidies.{tidied-left, tidy_kept, tidy_moved, tidy_counted}
 use Rattle.mea_meet.proofs.shutdowns.ShutdownHall.tidy.Goals as goal
 
 pub unreachable-requires : goal.unreachable-requires
 unreachable-requires c =
     let none : get (kept_in c.self.inside).shutdowns c.args.s ≡ None = shutdown-kept c.self.inside c.args.s ∙ sym c.get.ensures.value ∙ ap option_copied c.in_default.is in
-    asked _ (sym (shutdown-there (kept_in c.self.inside) c.self.inside.next c.args.s) ∙ (rw (← c.self.view_is) at c.requires.there)) none
+    not_none _ (sym (shutdown-there (kept_in c.self.inside) c.self.inside.next c.args.s) ∙ (rw (← c.self.view_is) at c.requires.there)) none
 
 pub returns-then-entry-gt0-clause-gone : goal.returns-then-entry-gt0-clause-gone
 returns-then-entry-gt0-clause-gone c =

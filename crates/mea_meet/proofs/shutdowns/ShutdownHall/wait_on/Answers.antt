@@ -2,22 +2,22 @@ use Rattle.std.proofs.Common.{rules, ◌+◌, ◌<◌, ◌≡◌, None, Some, sy
 use Rattle.std.specs.Option.{option_copied_mut}
 use Rattle.std.specs.FinMap.{get}
 use Rattle.mea_meet.specs.ShutdownHall.{Store, hall_of, IsKept}
-use Rattle.mea_meet.proofs.ShutdownMaps.{kept-puts-as, is_same}
+use Rattle.mea_meet.proofs.Maps.{kept-puts-as, is_same, not_none}
 use Rattle.mea_meet.specs.declared.shutdowns.ShutdownEntry.{ShutdownEntry}
 use Rattle.mea_meet.specs.ShutdownHall.{count_at, end_of, set_at}
-use Rattle.mea_meet.proofs.ShutdownSeen.{kept_in, wait-at, wait-there, shutdown-kept, asked}
+use Rattle.mea_meet.proofs.ShutdownSeen.{kept_in, wait-at, wait-there, shutdown-kept}
 use Rattle.mea_meet.proofs.ShutdownPolls.{wait-given, waits-number, wait_on_kept, wait_on_yields}
 use Rattle.mea_meet.proofs.shutdowns.ShutdownHall.wait_on.Goals as goal
 
 pub unreachable-requires : goal.unreachable-requires
 unreachable-requires c =
     let none : get (kept_in c.self.inside).waits c.args.f ≡ None = wait-at c.self.inside c.args.f ∙ sym c.get_mut.ensures.value ∙ ap option_copied_mut c.in_default.is in
-    asked _ (sym (wait-there (kept_in c.self.inside) c.self.inside.next c.args.f) ∙ (rw (← c.self.view_is) at c.requires.there)) none
+    not_none _ (sym (wait-there (kept_in c.self.inside) c.self.inside.next c.args.f) ∙ (rw (← c.self.view_is) at c.requires.there)) none
 
 pub unreachable-requires-in_default-get_mut : goal.unreachable-requires-in_default-get_mut
 unreachable-requires-in_default-get_mut c =
     let is : get (kept_in c.self.inside).waits c.args.f ≡ Some c.in-Some.wait.now = wait-at c.self.inside c.args.f ∙ sym c.get_mut.ensures.value ∙ ap option_copied_mut c.in-Some.is in
-    asked _ (c.self.invariant.wait c.args.f c.in-Some.wait.now is).there (shutdown-kept c.self.inside c.in-Some.wait.now.shutdown ∙ sym c.get_mut-2.ensures.value ∙ ap option_copied_mut c.in_default-get_mut.is)
+    not_none _ (c.self.invariant.wait c.args.f c.in-Some.wait.now is).there (shutdown-kept c.self.inside c.in-Some.wait.now.shutdown ∙ sym c.get_mut-2.ensures.value ∙ ap option_copied_mut c.in_default-get_mut.is)
 
 pub poll-requires-clause-given : goal.poll-requires-clause-given
 poll-requires-clause-given c =

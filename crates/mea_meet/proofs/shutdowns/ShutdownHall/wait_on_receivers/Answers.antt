@@ -3,11 +3,11 @@ use Rattle.std.specs.Option.{option_copied}
 use Rattle.std.specs.FinMap.{get}
 use Rattle.mea_base.specs.declared.answer.Answer.TheVariants as answers
 use Rattle.mea_meet.specs.ShutdownHall.{hall_of, store_of, IsKept}
-use Rattle.mea_meet.proofs.ShutdownMaps.{kept-puts, kept-puts-as}
+use Rattle.mea_meet.proofs.Maps.{kept-puts, kept-puts-as, not_none, some_found}
 use Rattle.mea_meet_model.specs.Shutdowns.{await_of}
 use Rattle.mea_meet.specs.declared.shutdowns.ShutdownWaitEntry.{ShutdownWaitEntry}
 use Rattle.mea_meet.specs.declared.shutdowns.ShutdownWait.TheVariants as waits
-use Rattle.mea_meet.proofs.ShutdownSeen.{kept_in, sender-at, asked, some_found}
+use Rattle.mea_meet.proofs.ShutdownSeen.{kept_in, sender-at}
 use Rattle.mea_meet.proofs.ShutdownPlays.{rests}
 use Rattle.mea_meet.proofs.ShutdownWaits.{wait_on_receivers_goes}
 use Rattle.mea_meet.proofs.shutdowns.ShutdownHall.wait_on_receivers.Goals as goal
@@ -15,7 +15,7 @@ use Rattle.mea_meet.proofs.shutdowns.ShutdownHall.wait_on_receivers.Goals as goa
 pub unreachable-requires : goal.unreachable-requires
 unreachable-requires c =
     let none : get (kept_in c.self.inside).senders c.args.k ≡ None = sender-at c.self.inside c.args.k ∙ sym c.get.ensures.value ∙ ap option_copied c.in_default.is in
-    asked _ (rw (← c.self.view_is) at c.requires.there) none
+    not_none _ (rw (← c.self.view_is) at c.requires.there) none
 
 pub invariant_of-self : goal.invariant_of-self
 invariant_of-self c = subst (λ (ws : List (ℕ × ShutdownWaitEntry)). IsKept (store_of c.self.inside.shutdowns.entries c.self.inside.senders.entries c.self.inside.receivers.entries ws) c.self.inside.next) (sym c.in-Err.ensures.err) c.self.invariant

@@ -3,14 +3,13 @@ use Rattle.std.specs.Option.{option_map, option_copied, option_copied_mut}
 use Rattle.std.specs.FinMap.{get}
 use Rattle.mea_base.specs.declared.answer.Answer.TheVariants as answers
 use Rattle.mea_meet.specs.ShutdownHall.{hall_of, store_of, IsKept}
-use Rattle.mea_meet.proofs.ShutdownMaps.{kept-puts, kept-puts-as}
+use Rattle.mea_meet.proofs.Maps.{kept-puts, kept-puts-as, inside, not_none}
 use Rattle.mea_meet_model.specs.Shutdowns.{wait_of}
 use Rattle.mea_meet.specs.declared.shutdowns.ReceiverEntry.{ReceiverEntry}
 use Rattle.mea_meet.specs.declared.shutdowns.ShutdownWaitEntry.{ShutdownWaitEntry}
 use Rattle.mea_meet.specs.declared.shutdowns.ShutdownWait.TheVariants as waits
 use Rattle.mea_meet.specs.ShutdownHall.{receiver_of}
-use Rattle.mea_meet.proofs.ShutdownSeen.{kept_in, receiver-at, receiver-there, receiver-seen, shutdown-kept, asked}
-use Rattle.mea_meet.proofs.ShutdownStill.{inside}
+use Rattle.mea_meet.proofs.ShutdownSeen.{kept_in, receiver-at, receiver-there, receiver-seen, shutdown-kept}
 use Rattle.mea_meet.proofs.ShutdownPlays.{rests}
 use Rattle.mea_meet.proofs.ShutdownWaits.{at_most_one, wait_on_signal_goes}
 use Rattle.mea_meet.proofs.shutdowns.ShutdownHall.wait_on_signal.Goals as goal
@@ -18,7 +17,7 @@ use Rattle.mea_meet.proofs.shutdowns.ShutdownHall.wait_on_signal.Goals as goal
 pub unreachable-requires : goal.unreachable-requires
 unreachable-requires c =
     let none : get (kept_in c.self.inside).receivers c.args.k ≡ None = receiver-at c.self.inside c.args.k ∙ sym c.get.ensures.value ∙ ap option_copied c.in_default.is in
-    asked _ (sym (receiver-there (kept_in c.self.inside) c.self.inside.next c.args.k) ∙ (rw (← c.self.view_is) at c.requires.there)) none
+    not_none _ (sym (receiver-there (kept_in c.self.inside) c.self.inside.next c.args.k) ∙ (rw (← c.self.view_is) at c.requires.there)) none
 
 pub invariant_of-self : goal.invariant_of-self
 invariant_of-self c = subst (λ (ws : List (ℕ × ShutdownWaitEntry)). IsKept (store_of c.self.inside.shutdowns.entries c.self.inside.senders.entries c.self.inside.receivers.entries ws) c.self.inside.next) (sym c.in-Err.ensures.err) c.self.invariant
@@ -35,7 +34,7 @@ overflow_add-receiver c =
 pub unreachable-requires-in_default-get_mut-2 : goal.unreachable-requires-in_default-get_mut-2
 unreachable-requires-in_default-get_mut-2 c =
     let is : get (kept_in c.self.inside).receivers c.args.k ≡ Some c.in-Some.receiver.now = receiver-at c.self.inside c.args.k ∙ sym c.get.ensures.value ∙ ap option_copied c.in-Some.is in
-    asked _ (c.self.invariant.receiver c.args.k c.in-Some.receiver.now is).there (shutdown-kept c.self.inside c.in-Some.receiver.now.shutdown ∙ sym c.get_mut-2.ensures.value ∙ ap option_copied_mut c.in_default-get_mut-2.is)
+    not_none _ (c.self.invariant.receiver c.args.k c.in-Some.receiver.now is).there (shutdown-kept c.self.inside c.in-Some.receiver.now.shutdown ∙ sym c.get_mut-2.ensures.value ∙ ap option_copied_mut c.in_default-get_mut-2.is)
 
 pub overflow_add-entry : goal.overflow_add-entry
 overflow_add-entry c =

@@ -6,14 +6,15 @@ use Rattle.mea_base.specs.declared.answer.Answer.{Answer}
 use Rattle.mea_meet_model.specs.Shutdowns.{Shutdowns, registered, watch_of}
 use Rattle.mea_meet.specs.Play.{Rests}
 use Rattle.mea_meet.specs.ShutdownHall.{receiver_of}
-use Rattle.mea_meet.proofs.ShutdownSeen.{kept_in, receiver-at, receiver-there, receiver-seen, asked}
+use Rattle.mea_meet.proofs.ShutdownSeen.{kept_in, receiver-at, receiver-there, receiver-seen}
 use Rattle.mea_meet.proofs.ShutdownReceivers.{copy_there}
 use Rattle.mea_meet.proofs.shutdowns.ShutdownHall.watch.Goals as goal
+use Rattle.mea_meet.proofs.Maps.{not_none}
 
 pub unreachable-requires : goal.unreachable-requires
 unreachable-requires c =
     let none : get (kept_in c.self.inside).receivers c.args.k ≡ None = receiver-at c.self.inside c.args.k ∙ sym c.get.ensures.value ∙ ap option_copied c.in_default.is in
-    asked _ (sym (receiver-there (kept_in c.self.inside) c.self.inside.next c.args.k) ∙ (rw (← c.self.view_is) at c.requires.there)) none
+    not_none _ (sym (receiver-there (kept_in c.self.inside) c.self.inside.next c.args.k) ∙ (rw (← c.self.view_is) at c.requires.there)) none
 
 pub add_receiver-requires-clause-there : goal.add_receiver-requires-clause-there
 add_receiver-requires-clause-there c =
