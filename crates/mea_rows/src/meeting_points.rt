@@ -38,7 +38,10 @@ const ROWS: &[Row] = &[
     Row {
         script: "lat.new 1/lat.waito 0/lat.poll 1 5/lat.drop 0/lat.poll 1 6/lat.end 1/lat.count 0",
         text: "made/made/pending/done/pending/done/stop 6 unknown",
-        status: Status::Stopped { at: 6, cause: Stop::Unknown },
+        status: Status::Stopped {
+            at: 6,
+            cause: Stop::Unknown,
+        },
     },
     // Semaphores, a latch and a shutdown in one script: each keeps its own, and wakes keep their order.
     Row {
@@ -59,22 +62,34 @@ const ENDS: &[Row] = &[
     Row {
         script: "bar.new 2/bar.wait 0/bar.end 1/bar.wait 0/bar.poll 3 5/bar.end 3/bar.wait 0/bar.poll 6 6/bar.wait 0/bar.poll 8 7/bar.poll 8 8/bar.wait 0/bar.poll 11 9/bar.end 8/bar.end 8",
         text: "made/made/done/made/pending/done/made/leader wake 5/made/pending/pending/made/leader wake 8/done/stop 14 unknown",
-        status: Status::Stopped { at: 14, cause: Stop::Unknown },
+        status: Status::Stopped {
+            at: 14,
+            cause: Stop::Unknown,
+        },
     },
     Row {
         script: "lat.new 1/lat.wait 0/lat.end 1/lat.waito 0/lat.poll 3 5/lat.end 3/lat.wait 0/lat.poll 6 6/lat.poll 6 7/lat.down 0/lat.end 6/lat.drop 0/lat.drop 0",
         text: "made/made/done/made/pending/done/made/pending/pending/done wake 5 7/done/done/stop 12 unknown",
-        status: Status::Stopped { at: 12, cause: Stop::Unknown },
+        status: Status::Stopped {
+            at: 12,
+            cause: Stop::Unknown,
+        },
     },
     Row {
         script: "wg.new/wg.clone 0/wg.into 0/wg.end 2/wg.clone 1/wg.into 4/wg.poll 5 6/wg.copy 5/wg.end 5/wg.poll 7 8/wg.poll 7 9/wg.copy 7/wg.end 1/wg.end 7/wg.poll 11 3/wg.copy 11",
         text: "made/made/made/done/made/made/pending/made/done/pending/pending/made/done wake 6 9/done/ready/stop 15 unknown",
-        status: Status::Stopped { at: 15, cause: Stop::Unknown },
+        status: Status::Stopped {
+            at: 15,
+            cause: Stop::Unknown,
+        },
     },
     Row {
         script: "sd.new/sd.is 0/sd.end 1/sd.iso 0/sd.poll 3 5/sd.end 3/sd.is 0/sd.poll 6 6/sd.poll 6 7/sd.signal 0/sd.end 6/sd.await 0/sd.poll 11 8/sd.poll 11 9/sd.copyr 0/sd.endr 0/sd.endr 14/sd.end 11/sd.end 11",
         text: "made/made/done/made/pending/done/made/pending/pending/done wake 5 7/done/made/pending/pending/made/done/done wake 9/done/stop 18 unknown",
-        status: Status::Stopped { at: 18, cause: Stop::Unknown },
+        status: Status::Stopped {
+            at: 18,
+            cause: Stop::Unknown,
+        },
     },
 ];
 
@@ -89,32 +104,50 @@ const REFUSALS: &[Row] = &[
     Row {
         script: "bar.new 2/bar.wait 0/bar.drop 0",
         text: "made/made/stop 2 borrowed",
-        status: Status::Stopped { at: 2, cause: Stop::Borrowed },
+        status: Status::Stopped {
+            at: 2,
+            cause: Stop::Borrowed,
+        },
     },
     Row {
         script: "bar.new 2/bar.wait 0/bar.end 1/bar.drop 0/bar.wait 0",
         text: "made/made/done/done/stop 4 unknown",
-        status: Status::Stopped { at: 4, cause: Stop::Unknown },
+        status: Status::Stopped {
+            at: 4,
+            cause: Stop::Unknown,
+        },
     },
     Row {
         script: "lat.new 2/lat.wait 0/lat.drop 0",
         text: "made/made/stop 2 borrowed",
-        status: Status::Stopped { at: 2, cause: Stop::Borrowed },
+        status: Status::Stopped {
+            at: 2,
+            cause: Stop::Borrowed,
+        },
     },
     Row {
         script: "sd.new/sd.watch 0/sd.is 1/sd.endr 1",
         text: "made/made/made/stop 3 borrowed",
-        status: Status::Stopped { at: 3, cause: Stop::Borrowed },
+        status: Status::Stopped {
+            at: 3,
+            cause: Stop::Borrowed,
+        },
     },
     Row {
         script: "sd.new/sd.watch 0/sd.watch 1",
         text: "made/made/stop 2 unknown",
-        status: Status::Stopped { at: 2, cause: Stop::Unknown },
+        status: Status::Stopped {
+            at: 2,
+            cause: Stop::Unknown,
+        },
     },
     Row {
         script: "bar.new 2/lat.wait 0",
         text: "made/stop 1 unknown",
-        status: Status::Stopped { at: 1, cause: Stop::Unknown },
+        status: Status::Stopped {
+            at: 1,
+            cause: Stop::Unknown,
+        },
     },
     Row {
         script: "lat.new 4294967296",
