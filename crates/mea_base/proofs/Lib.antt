@@ -1,7 +1,8 @@
+pub mod Chains
 pub mod NamedMaps
 pub mod Queues
 pub mod Totals
 pub mod Trims
-pub mod WaitPlaces
+pub mod WaitLinks
 pub mod Waits
 pub mod Wakes

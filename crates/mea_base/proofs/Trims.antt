@@ -49,4 +49,3 @@ module _ {T : Type 0} where
   pub in_use_raw : (ss : List (Option T)) (n : ℕ) → IsSome (get_or (trim ss) n None) → IsSome (get_or ss n None)
   in_use_raw ss n used = rw (← get_or-trim ss n) used
 
-pub ruleset trims = (get_or-trim)

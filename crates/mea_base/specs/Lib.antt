@@ -4,6 +4,6 @@ pub mod Queue
 pub mod Totals
 pub mod WaitList
 pub mod WaitListLends
-pub mod WaitListPlaces
+pub mod WaitListLinks
 pub mod Family
 pub mod Ready

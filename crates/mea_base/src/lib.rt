@@ -4,6 +4,7 @@
 
 mod answer;
 mod ledger;
+mod links;
 mod no_memory;
 mod outbox;
 mod overflow;

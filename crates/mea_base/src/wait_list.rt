@@ -1,81 +1,51 @@
-ghost use Rattle.std.specs.Prelude.{◌≡◌, ◌≢◌, ◌+◌, ◌≤◌, ◌<◌, ◌==◌, ◌↔◌, [], ◌∷◌, ◌++◌, length, drop, IsTrue, IsOk, OnOk, OnErr, IfOk, IfErr, IfSome, IfNone, Some, None, false, slice_index_or, vec_capacity, ℕ};
+ghost use Rattle.std.specs.Prelude.{◌≡◌, ◌+◌, ◌≤◌, ◌==◌, ◌↔◌, [], ◌∷◌, ◌++◌, length, drop, IsTrue, IsOk, OnOk, OnErr, IfOk, IfErr, IfSome, IfNone, Some, None, false, ℕ};
 ghost use Rattle.std.specs.Borrow.{sem};
 ghost use Rattle.mea_base.specs.WaitList.{get, without, is_linked, IsInUse, IsSound, Updates};
-ghost use Rattle.mea_base.specs.WaitListPlaces.{AreNumbered};
 
+use crate::links::{Node, SENTINEL, insert_between, reserve_nodes, set_next, set_prev};
 use crate::no_memory::NoMemory;
+use slab::Slab;
 use std::alloc::Global;
-use std::collections::VecDeque;
 use std::marker::Model;
-use std::mem;
 
 /// Values in a queue, each under a number of its own. A value that has left the queue stays under its
 /// number until it is removed, so that its owner can still ask for it.
 ///
-/// Room is reserved before a value is pushed, so that no later call takes memory. It stands for the
-/// internal `WaitList` of the crate `mea`.
+/// Room is reserved before a value is pushed, so that no later call takes memory. The queue is a ring of
+/// links, so no call looks at more than three of its values. It stands for the internal `WaitList` of the
+/// crate `mea`.
 #[derive(Drop)]
 pub struct WaitList<T> {
-    // The value under each number.
-    places: Vec<Option<T>>,
-    // The numbers whose places have no value, with room for the numbers of all places.
-    free: Vec<usize>,
-    // The linked numbers, first to last.
-    order: VecDeque<usize>,
-    // Raised only once all three have room, so that a `reserve` that fails half way changes nothing.
+    // The values, and from the first reservation on the sentinel.
+    nodes: Slab<Node<T>>,
+    // How many values are linked.
+    len: usize,
+    // Raised only once there is room, so that a `reserve` that fails changes nothing.
     spare: usize,
 }
 
 impl<T> Model for WaitList<T> {
-    ghost use Rattle.std.specs.Prelude.{◌+◌, ◌≤◌, length, vec_capacity};
-    ghost use Rattle.std.specs.VecDeque.{deque_capacity};
-    ghost use Rattle.mea_base.specs.WaitList.{Waits, waits_code, trim, IsDistinct, AllInUse};
-    ghost use Rattle.mea_base.specs.WaitListPlaces.{AreNumbered};
+    ghost use Rattle.std.specs.Prelude.{◌≡◌, ◌+◌, ◌≤◌, ◌<◌, ◌^◌, map, IsSome, None};
+    ghost use Rattle.slab.specs.Slab.{slab_len};
+    ghost use Rattle.mea_base.specs.WaitList.{Waits, waits_code, trim};
+    ghost use Rattle.mea_base.specs.WaitListLinks.{node_at, value_of, order_of, IsRing};
 
     ghost Value = { Waits T };
 
     ghost coded = { waits_code T.code };
 
-    ghost view = { λ w. record { order = w.order.items; slots = trim w.places.items; spare = w.spare } };
+    ghost view = { λ w. record { order = order_of w.nodes.slots w.len; slots = trim (map value_of w.nodes.slots); spare = w.spare } };
 
     ghost invariant = { λ w. record {
-      numbered : AreNumbered w.places.items w.free.items;
-      distinct : IsDistinct w.order.items;
-      in_use : AllInUse w.places.items w.order.items;
-      places_fit : length w.places.items + w.spare ≤ vec_capacity w.places + length w.free.items;
-      free_fit : length w.places.items + w.spare ≤ vec_capacity w.free + length w.free.items;
-      order_fits : length w.places.items + w.spare ≤ deque_capacity w.order + length w.free.items;
-      free_room : length w.places.items ≤ vec_capacity w.free;
+      ring : IsRing w.nodes.slots (order_of w.nodes.slots w.len);
+      first_key : node_at w.nodes.slots 0 ≡ None → w.nodes.vacant_key ≡ 0;
+      sentinel : 1 ≤ w.spare → IsSome (node_at w.nodes.slots 0);
+      room : slab_len w.nodes + w.spare ≤ w.nodes.capacity;
+      fits : slab_len w.nodes + w.spare < 2 ^ 64;
     } };
 }
 
-// Puts the value into a place that has none, or else into a new one, and tells its number.
-fn store<T>(places: &mut Vec<Option<T>>, free: &mut Vec<usize>, value: T) -> usize
-    requires numbered { AreNumbered places.old.items free.old.items }
-    requires room { length places.old.items < vec_capacity places.old + length free.old.items }
-    requires free_room { length places.old.items ≤ vec_capacity free.old }
-    requires free_grows { length places.old.items < vec_capacity free.old + length free.old.items }
-    ensures numbered { AreNumbered places.new.items free.new.items }
-    ensures vacant { slice_index_or places.old.items result None ≡ None }
-    ensures stored { slice_index_or places.new.items result None ≡ Some value }
-    ensures others { (other : ℕ) → other ≢ result → slice_index_or places.new.items other None ≡ slice_index_or places.old.items other None }
-    ensures used { length places.new.items + length free.old.items ≡ length places.old.items + length free.new.items + 1 }
-    ensures free_room { length places.new.items ≤ vec_capacity free.new }
-    ensures places_capacity { vec_capacity places.new ≡ vec_capacity places.old }
-    ensures free_capacity { vec_capacity free.new ≡ vec_capacity free.old }
-{
-    let Some(number) = free.pop() else {
-        let number = places.len();
-        places.push_reserved(Some(value));
-        return number;
-    };
-    match mem::replace(&mut places[number], Some(value)) {
-        None => number,
-        Some(_) => unreachable!(),
-    }
-}
-
-#[tactic(auto, using(crate::proofs::Trims::trims))]
+#[tactic(auto)]
 impl<T> WaitList<T> {
     ghost use Rattle.mea_base.specs.WaitListLends.{lends_value};
 
@@ -85,9 +55,8 @@ impl<T> WaitList<T> {
         ensures slots { result.slots ≡ [] }
     {
         WaitList {
-            places: Vec::new(alloc),
-            free: Vec::new(alloc),
-            order: VecDeque::new(alloc),
+            nodes: Slab::new(alloc),
+            len: 0,
             spare: 0,
         }
     }
@@ -103,32 +72,10 @@ impl<T> WaitList<T> {
         if n <= self.spare {
             return Ok(());
         }
-        let used = self.places.len() - self.free.len();
-        let Some(whole) = used.checked_add(n) else {
-            return Err(NoMemory);
-        };
-        if self
-            .places
-            .reserve(whole.saturating_sub(self.places.len()))
-            .is_err()
-        {
+        if reserve_nodes(&mut self.nodes, n).is_err() {
             return Err(NoMemory);
         }
-        if self
-            .free
-            .reserve(whole.saturating_sub(self.free.len()))
-            .is_err()
-        {
-            return Err(NoMemory);
-        }
-        if self
-            .order
-            .reserve(whole.saturating_sub(self.order.len()))
-            .is_err()
-        {
-            return Err(NoMemory);
-        }
-        self.spare = n;
+        self.spare = self.nodes.capacity() - self.nodes.len();
         Ok(())
     }
 
@@ -138,21 +85,22 @@ impl<T> WaitList<T> {
         ensures empty { IfNone result (self.now.order ≡ []) }
         ensures sound { IsSound self.now }
     {
-        self.order.front().copied()
+        let first = self.nodes.get(SENTINEL)?.next;
+        if first == SENTINEL { None } else { Some(first) }
     }
 
     /// How many values are in the queue. It takes no memory.
     pub fn len(&self) -> usize
         ensures { result ≡ length self.now.order }
     {
-        self.order.len()
+        self.len
     }
 
     /// Whether no value is in the queue. It takes no memory.
     pub fn is_empty(&self) -> bool
         ensures { result ≡ (length self.now.order == 0) }
     {
-        self.order.is_empty()
+        self.len == 0
     }
 
     /// Puts the value last in the queue, under a number that is not in use, or hands it back where there
@@ -197,8 +145,9 @@ impl<T> WaitList<T> {
         ensures order { self.new.order ≡ self.old.order ++ result ∷ [] }
         ensures spare { self.new.spare + 1 ≡ self.old.spare }
     {
-        let number = store(&mut self.places, &mut self.free, value);
-        self.order.push_back_reserved(number);
+        let last = self.nodes[SENTINEL].prev;
+        let number = insert_between(&mut self.nodes, last, SENTINEL, value);
+        self.len += 1;
         self.spare -= 1;
         number
     }
@@ -211,19 +160,29 @@ impl<T> WaitList<T> {
         ensures order { self.new.order ≡ result ∷ self.old.order }
         ensures spare { self.new.spare + 1 ≡ self.old.spare }
     {
-        let number = store(&mut self.places, &mut self.free, value);
-        self.order.push_front_reserved(number);
+        let first = self.nodes[SENTINEL].next;
+        let number = insert_between(&mut self.nodes, SENTINEL, first, value);
+        self.len += 1;
         self.spare -= 1;
         number
     }
 
     /// Takes the number out of the queue, if it is there. Its value stays. It takes no memory, and looks
-    /// at the whole queue.
+    /// at the number and its neighbours alone.
     pub fn unlink(&mut self, number: usize)
         requires { IsInUse self.old number }
         ensures { self.new ≡ record self.old { order = without number self.old.order } }
     {
-        self.order.retain(|m| *m != number);
+        let prev = self.nodes[number].prev;
+        let next = self.nodes[number].next;
+        if next == number {
+            return;
+        }
+        set_next(&mut self.nodes, prev, next);
+        set_prev(&mut self.nodes, next, prev);
+        set_next(&mut self.nodes, number, number);
+        set_prev(&mut self.nodes, number, number);
+        self.len -= 1;
     }
 
     /// Takes the first number out of the queue. Its value stays. It takes no memory.
@@ -233,22 +192,27 @@ impl<T> WaitList<T> {
         ensures unchanged { IfNone result (self.new ≡ self.old) }
         ensures sound { IsSound self.old }
     {
-        self.order.pop_front()
+        let first = self.first()?;
+        self.unlink(first);
+        Some(first)
     }
 
-    /// Whether the number is in the queue. It takes no memory, and looks at the whole queue.
+    /// Whether the number is in the queue. It takes no memory, and looks at the number alone.
     pub fn is_linked(&self, number: usize) -> bool
         requires { IsInUse self.now number }
         ensures { result ≡ is_linked self.now number }
     {
-        self.order.contains(&number)
+        self.nodes[number].next != number
     }
 
     /// Whether the number has a value, in the queue or not. It takes no memory.
     pub fn is_in_use(&self, number: usize) -> bool
         ensures { IsTrue result ↔ IsInUse self.now number }
     {
-        matches!(self.places.get(number), Some(Some(_)))
+        match self.nodes.get(number) {
+            Some(node) => node.value.is_some(),
+            None => false,
+        }
     }
 
     /// The value under a number that is in use. It takes no memory.
@@ -256,7 +220,7 @@ impl<T> WaitList<T> {
         requires { IsInUse self.now number }
         ensures { get self.now number ≡ Some result.now }
     {
-        match &self.places[number] {
+        match &self.nodes[number].value {
             Some(value) => value,
             None => unreachable!(),
         }
@@ -268,7 +232,7 @@ impl<T> WaitList<T> {
         ensures* writes_back { sem 𝓛 (lends_value T.row self.entry number result) }
         ensures value { get self.old number ≡ Some result.now }
     {
-        self.places[number].as_mut().unwrap()
+        self.nodes[number].value.as_mut().unwrap()
     }
 
     /// Removes a value that has left the queue, and frees its number. It takes no memory.
@@ -280,9 +244,9 @@ impl<T> WaitList<T> {
         ensures order { self.new.order ≡ self.old.order }
         ensures spare { self.old.spare + 1 ≤ self.new.spare }
     {
-        self.free.push_reserved(number);
+        let Node { value, .. } = self.nodes.remove(number);
         self.spare += 1;
-        match mem::replace(&mut self.places[number], None) {
+        match value {
             Some(value) => value,
             None => unreachable!(),
         }

@@ -1,6 +1,5 @@
-use Rattle.mea_base.proofs.Trims.{AllInUse-trim}
+use Rattle.mea_base.proofs.WaitLinks.{sound_view}
 use Rattle.mea_base.proofs.wait_list.WaitList.first.Goals as goal
 
-pub returns-clause-sound : goal.returns-clause-sound
-returns-clause-sound g c =
-    rw (← c.self.view_is) record { distinct = c.self.invariant.distinct; in_use = AllInUse-trim _ _ c.self.invariant.in_use }
+pub returns-else-first-eq-SENTINEL-clause-sound : goal.returns-else-first-eq-SENTINEL-clause-sound
+returns-else-first-eq-SENTINEL-clause-sound g c = rw (← c.self.view_is) (sound_view c.self.inside.nodes.slots _ c.self.inside.spare c.self.invariant.ring)

@@ -1,44 +1,44 @@
-use Rattle.std.proofs.Common.{sym, refl, ap, ◌∙◌, None, Some}
-use Rattle.std.proofs.lemmas.List.{get_or_default, length-set}
+use Rattle.std.proofs.Common.{slice_set, Some, refl, sym, ap, ◌∙◌, arith}
 use Rattle.std.specs.Option.{option_copied_mut}
-use Rattle.mea_base.proofs.Trims.{in_use_raw, trim-set, get_or-trim}
-use Rattle.mea_base.proofs.Waits.{in_use_within, AllInUse-set_some}
-use Rattle.mea_base.proofs.WaitPlaces.{AreNumbered-set_some}
+use Rattle.mea_base.specs.WaitListLinks.{value_of}
+use Rattle.mea_base.proofs.WaitLinks.{used_node, node_behind, view_at, after_write, slots_written, sentinel_kept, count_kept, any_key, sentinel_here}
 use Rattle.mea_base.proofs.wait_list.WaitList.get_mut.Goals as goal
+
+pub index_mut-requires : goal.index_mut-requires
+index_mut-requires g c = node_behind _ (used_node c.self.inside.nodes.slots c.args.number (rw (← c.self.view_is) at c.requires))
+
+pub unwrap-requires : goal.unwrap-requires
+unwrap-requires g c =
+    let used = used_node c.self.inside.nodes.slots c.args.number (rw (← c.self.view_is) at c.requires) in
+    c.as_mut.ensures.variant ∙ (rw c.index_mut.ensures.value at used)
 
 pub invariant_of-self-lent : goal.invariant_of-self-lent
 invariant_of-self-lent g c =
-    let used = in_use_raw c.self.inside.places.items c.args.number (rw (← c.self.view_is) at c.requires) in
-    λ w. record {
-      numbered = AreNumbered-set_some _ _ _ w used c.self.invariant.numbered;
-      distinct = c.self.invariant.distinct;
-      in_use = AllInUse-set_some _ _ w _ (in_use_within _ _ used) c.self.invariant.in_use;
-      places_fit = rw (length-set c.self.inside.places.items c.args.number (Some w)) c.self.invariant.places_fit;
-      free_fit = rw (length-set c.self.inside.places.items c.args.number (Some w)) c.self.invariant.free_fit;
-      order_fits = rw (length-set c.self.inside.places.items c.args.number (Some w)) c.self.invariant.order_fits;
-      free_room = rw (length-set c.self.inside.places.items c.args.number (Some w)) c.self.invariant.free_room;
-    }
+    let used = used_node c.self.inside.nodes.slots c.args.number (rw (← c.self.view_is) at c.requires) in
+    let full = rw c.index_mut.ensures.value at used in
+    λ w.
+        let made = sentinel_kept c.self.inside.nodes.slots c.args.number c.index_mut.result.now w c.index_mut.ensures.value full ∙ sentinel_here c.self.inside.nodes.slots _ c.self.invariant.ring c.args.number used in
+        let count = count_kept c.self.inside.nodes.slots c.args.number c.index_mut.result.now w c.index_mut.ensures.value full in
+        record {
+          ring = (after_write c.self.inside.nodes.slots c.args.number c.index_mut.result.now w c.index_mut.ensures.value full c.self.inside.len c.self.invariant.ring).ring;
+          first_key = any_key (slice_set c.self.inside.nodes.slots c.args.number (Some (record c.index_mut.result.now { value = Some w }))) c.self.inside.nodes.vacant_key made;
+          sentinel = λ some. made;
+          room = omega (arith, count, c.self.invariant.room);
+          fits = omega (arith, count, c.self.invariant.fits);
+        }
 
 pub returns : goal.returns
 returns g c =
-    let used = in_use_raw c.self.inside.places.items c.args.number (rw (← c.self.view_is) at c.requires) in
+    let used = used_node c.self.inside.nodes.slots c.args.number (rw (← c.self.view_is) at c.requires) in
+    let full = rw c.index_mut.ensures.value at used in
     let seen = c.as_mut.ensures.value in
     let taken = ap option_copied_mut c.unwrap.ensures in (
       (
         refl,
-        λ w. rw (← c.self.view_is) (λ i. record {
-          order = c.self.inside.order.items;
-          slots = trim-set c.self.inside.places.items c.args.number w used i;
-          spare = c.self.inside.spare;
-        }),
+        λ w.
+            let order = (after_write c.self.inside.nodes.slots c.args.number c.index_mut.result.now w c.index_mut.ensures.value full c.self.inside.len c.self.invariant.ring).order in
+            let slots = slots_written c.self.inside.nodes.slots c.args.number c.index_mut.result.now w c.index_mut.ensures.value full in
+            rw (← c.self.view_is) (λ i. record { order = order i; slots = slots i; spare = c.self.inside.spare }),
       ),
-      record {
-        writes_back = tt;
-        value = rw (← c.self.view_is) (
-            get_or-trim c.self.inside.places.items c.args.number
-            ∙ get_or_default c.self.inside.places.items c.args.number None c.index_mut.result.now (in_use_within c.self.inside.places.items c.args.number used)
-            ∙ sym c.index_mut.ensures.value
-            ∙ sym seen
-            ∙ taken);
-      },
+      record { writes_back = tt; value = rw (← c.self.view_is) (view_at c.self.inside.nodes.slots c.args.number ∙ ap value_of c.index_mut.ensures.value ∙ sym seen ∙ taken) },
     )

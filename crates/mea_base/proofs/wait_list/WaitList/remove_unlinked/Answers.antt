@@ -1,38 +1,47 @@
-use Rattle.std.proofs.Common.{sym, ◌∙◌, arith, None, slice_set}
-use Rattle.std.proofs.lemmas.List.{get_or-set_same, get_or-set_other, length-set}
-use Rattle.mea_base.proofs.Trims.{in_use_raw, get_or-trim}
-use Rattle.mea_base.proofs.Waits.{AllInUse-set_absent, absent_from_unlinked, in_use_within}
-use Rattle.mea_base.proofs.WaitPlaces.{AreNumbered-set_none, fewer_free}
+use Rattle.std.proofs.Common.{sym, ap, ◌∙◌, arith}
+use Rattle.mea_base.specs.WaitListLinks.{value_of}
+use Rattle.mea_base.proofs.WaitLinks.{any_key, used_node, node_behind, sentinel_removed, view_at, after_remove}
 use Rattle.mea_base.proofs.wait_list.WaitList.remove_unlinked.Goals as goal
 
-pub push_reserved-requires : goal.push_reserved-requires
-push_reserved-requires g c =
-    let used = in_use_raw c.self.inside.places.items c.args.number (rw (← c.self.view_is) at c.requires.in_use) in
-    omega (arith, fewer_free _ _ _ c.self.invariant.numbered used)
+pub remove-value-requires : goal.remove-value-requires
+remove-value-requires g c =
+    let used = used_node c.self.inside.nodes.slots c.args.number (rw (← c.self.view_is) at c.requires.in_use) in
+    node_behind _ used
+
+pub unreachable-requires : goal.unreachable-requires
+unreachable-requires g c =
+    let used = used_node c.self.inside.nodes.slots c.args.number (rw (← c.self.view_is) at c.requires.in_use) in
+    let here = rw c.remove-value.ensures.value at used in
+    let none = rw c.in-None.is at here in
+    cc
 
 pub invariant_of-self : goal.invariant_of-self
 invariant_of-self g c =
-    let requires = rw (← c.self.view_is) at c.requires in
-    let used = in_use_raw c.self.inside.places.items c.args.number requires.in_use in
-    let absent = absent_from_unlinked _ _ requires.unlinked in
-    let same_length = length-set c.self.inside.places.items c.args.number None in
-    rw c.replace.ensures.after record {
-      numbered = rw c.push_reserved.ensures.items (AreNumbered-set_none _ _ _ used c.self.invariant.numbered);
-      distinct = c.self.invariant.distinct;
-      in_use = AllInUse-set_absent _ _ None _ absent c.self.invariant.in_use;
-      places_fit = omega arith;
-      free_fit = omega arith;
-      order_fits = omega arith;
-      free_room = omega arith;
+    let used = used_node c.self.inside.nodes.slots c.args.number (rw (← c.self.view_is) at c.requires.in_use) in
+    let unlinked = rw (← c.self.view_is) at c.requires.unlinked in
+    let left = after_remove c.self.inside.nodes c.remove-value.new.self c.self.inside.len c.args.number c.self.invariant.ring used unlinked c.remove-value.ensures.updates in
+    let made = sentinel_removed c.self.inside.nodes c.remove-value.new.self _ c.self.invariant.ring c.args.number used c.remove-value.ensures.updates in
+    record {
+      ring = left.ring;
+      first_key = any_key c.remove-value.new.self.slots c.remove-value.new.self.vacant_key made;
+      sentinel = λ some. made;
+      room = omega (arith, c.remove-value.ensures.len, c.remove-value.ensures.capacity, c.self.invariant.room);
+      fits = omega (arith, c.remove-value.ensures.len, c.self.invariant.fits);
     }
+
+pub returns-clause-value : goal.returns-clause-value
+returns-clause-value g c = rw (← c.self.view_is) (view_at c.self.inside.nodes.slots c.args.number ∙ ap value_of c.remove-value.ensures.value ∙ c.in-Some.is)
 
 pub returns-clause-updates : goal.returns-clause-updates
 returns-clause-updates g c =
-    let used = in_use_raw c.self.inside.places.items c.args.number (rw (← c.self.view_is) at c.requires.in_use) in
-    rw (← c.self.view_is, c.replace.ensures.after) record {
-      changed = get_or-trim (slice_set c.self.inside.places.items c.args.number None) c.args.number ∙ get_or-set_same c.self.inside.places.items c.args.number None None (in_use_within c.self.inside.places.items c.args.number used);
-      others = λ other differs.
-          get_or-trim (slice_set c.self.inside.places.items c.args.number None) other
-          ∙ get_or-set_other c.self.inside.places.items c.args.number other None None differs
-          ∙ sym (get_or-trim c.self.inside.places.items other);
+    rw (← c.self.view_is) record {
+      changed = view_at c.remove-value.new.self.slots c.args.number ∙ ap value_of c.remove-value.ensures.updates.changed;
+      others = λ other differs. view_at c.remove-value.new.self.slots other ∙ ap value_of (c.remove-value.ensures.updates.others other differs) ∙ sym (view_at c.self.inside.nodes.slots other);
     }
+
+pub returns-clause-order : goal.returns-clause-order
+returns-clause-order g c =
+    let used = used_node c.self.inside.nodes.slots c.args.number (rw (← c.self.view_is) at c.requires.in_use) in
+    let unlinked = rw (← c.self.view_is) at c.requires.unlinked in
+    let left = after_remove c.self.inside.nodes c.remove-value.new.self c.self.inside.len c.args.number c.self.invariant.ring used unlinked c.remove-value.ensures.updates in
+    rw (← c.self.view_is) left.order

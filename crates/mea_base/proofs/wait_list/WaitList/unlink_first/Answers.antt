@@ -1,6 +1,7 @@
-use Rattle.mea_base.proofs.Trims.{AllInUse-trim}
+use Rattle.mea_base.proofs.Chains.{first-without}
 use Rattle.mea_base.proofs.wait_list.WaitList.unlink_first.Goals as goal
 
-pub returns-clause-sound : goal.returns-clause-sound
-returns-clause-sound g c =
-    rw (← c.self.view_is) record { distinct = c.self.invariant.distinct; in_use = AllInUse-trim _ _ c.self.invariant.in_use }
+pub returns-clause-some : goal.returns-clause-some
+returns-clause-some g c =
+    let order = first-without c.in_ok-first.first c.args.self.now.order c.in_ok-first.ensures.some c.in_ok-first.ensures.sound.distinct in
+    rw c.unlink.ensures (λ i. record { order = order i; slots = c.args.self.now.slots; spare = c.args.self.now.spare })

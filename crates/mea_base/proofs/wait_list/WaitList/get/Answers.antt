@@ -1,0 +1,19 @@
+use Rattle.std.proofs.Common.{◌∙◌, ap}
+use Rattle.mea_base.specs.WaitListLinks.{value_of}
+use Rattle.mea_base.proofs.WaitLinks.{used_node, node_behind, view_at}
+use Rattle.mea_base.proofs.wait_list.WaitList.get.Goals as goal
+
+pub index-requires : goal.index-requires
+index-requires g c =
+    let used = used_node c.self.inside.nodes.slots c.args.number (rw (← c.self.view_is) at c.requires) in
+    node_behind _ used
+
+pub unreachable-requires : goal.unreachable-requires
+unreachable-requires g c =
+    let used = used_node c.self.inside.nodes.slots c.args.number (rw (← c.self.view_is) at c.requires) in
+    let here = rw c.index.ensures at used in
+    let none = rw c.in-None.is at here in
+    cc
+
+pub returns : goal.returns
+returns g c = rw (← c.self.view_is) (view_at c.self.inside.nodes.slots c.args.number ∙ ap value_of c.index.ensures ∙ c.in-Some.is)
