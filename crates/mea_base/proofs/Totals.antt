@@ -45,7 +45,7 @@ module _ {X : Type 0} where
   below_none : (k x : ℕ) (es : List (ℕ × X)) → k ≤ x → T (below_all nat_cmp x es) → find nat_cmp k es ≡ None
   below_none k x [] small below = refl
   below_none k x (e ∷ es) small below =
-      let lt : x < e.0 = less_lt x e.0 (is_less _ (both_first _ _ below)) in
+      let lt : x < e.0 = less_lt x e.0 (is_less (nat_cmp x e.0) (both_first (is_lt (nat_cmp x e.0)) (below_all nat_cmp x es) below)) in
       let apart : eq_by_cmp nat_cmp k e.0 ≡ false = same_test k e.0 ∙ ne_eqb e.0 k (λ same. omega arith) in
       ap (λ b. cond b (Some e.1) (find nat_cmp k es)) apart ∙ below_none k x es small (both_second _ _ below)
 
@@ -78,8 +78,8 @@ module _ {X : Type 0} where
   sum-same f g [] sorted same = refl
   sum-same f g (e ∷ es) sorted same =
       let head : f e.0 e.1 ≡ g e.0 e.1 = same e.0 e.1 (ap (λ b. cond b (Some e.1) (find nat_cmp e.0 es)) (same_test e.0 e.0 ∙ eq-eqb e.0 e.0 refl)) in
-      let rest = sum-same f g es (both_second _ _ sorted) (λ k v there. same k v (
-      let later : eq_by_cmp nat_cmp k e.0 ≡ false = same_test k e.0 ∙ ne_eqb e.0 k (λ is. absurd (let none : find nat_cmp k es ≡ None = below_none k e.0 es (omega arith) (both_first _ _ sorted) in cc)) in
+      let rest = sum-same f g es (both_second (below_all nat_cmp e.0 es) (is_sorted nat_cmp es) sorted) (λ k v there. same k v (
+      let later : eq_by_cmp nat_cmp k e.0 ≡ false = same_test k e.0 ∙ ne_eqb e.0 k (λ is. absurd (let none : find nat_cmp k es ≡ None = below_none k e.0 es (omega arith) (both_first (below_all nat_cmp e.0 es) (is_sorted nat_cmp es) sorted) in cc)) in
       ap (λ b. cond b (Some e.1) (find nat_cmp k es)) later ∙ there)) in
       omega (arith, head, rest, sum_by-cons (λ (d : ℕ × X). f d.0 d.1) e es, sum_by-cons (λ (d : ℕ × X). g d.0 d.1) e es)
 

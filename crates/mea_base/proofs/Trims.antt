@@ -45,7 +45,3 @@ module _ {T : Type 0} where
   pub AllInUse-trim : (ss : List (Option T)) (ns : List ℕ) → AllInUse ss ns → AllInUse (trim ss) ns
   AllInUse-trim ss [] used = tt
   AllInUse-trim ss (n ∷ ns) used = (rw (get_or-trim ss n) used.0, AllInUse-trim ss ns used.1)
-
-  pub in_use_raw : (ss : List (Option T)) (n : ℕ) → IsSome (get_or (trim ss) n None) → IsSome (get_or ss n None)
-  in_use_raw ss n used = rw (← get_or-trim ss n) used
-

@@ -1,5 +1,5 @@
 -- the ring of a `WaitList` through its nodes, and what each call does to it
-use Rattle.std.proofs.Common.{◌≡◌, ◌≢◌, ℕ, zero, suc, ◌+◌, ◌-◌, ◌<◌, ◌≤◌, Bool, true, false, cond, not, eqb, List, [], ◌∷◌, ◌++◌, map, length, get_or, set, Option, Some, None, IsSome, is_some, count_by, refl, sym, ap, subst, ◌∙◌, inl, inr, arith}
+use Rattle.std.proofs.Common.{◌≡◌, ◌≢◌, ℕ, ◌+◌, ◌-◌, ◌<◌, ◌≤◌, Bool, true, false, cond, not, eqb, List, [], ◌∷◌, ◌++◌, map, length, get_or, set, Option, Some, None, IsSome, is_some, count_by, refl, sym, ap, subst, ◌∙◌, inl, inr, arith}
 use Rattle.std.proofs.lemmas.Bool.{cases_eq, eq-eqb, ne_eqb}
 use Rattle.std.proofs.lemmas.List.{get_or-set_same, get_or-set_other, get_or_past, map-set, length-append}
 use Rattle.std.proofs.lemmas.List.Sums.{sum_by-cons, sum_by-set}
@@ -8,9 +8,9 @@ use Rattle.std.specs.List.{list_any, AllByRecursion}
 use Rattle.slab.specs.Slab.{Slab, slab_len}
 use Rattle.slab.specs.Slab as slab
 use Rattle.mea_base.specs.declared.links.Node.{Node}
-use Rattle.mea_base.specs.WaitList.{without, IsAbsent, IsDistinct, AllInUse, IsSound, Updates, trim}
+use Rattle.mea_base.specs.WaitList.{without, IsAbsent, AllInUse, IsSound, Updates, trim}
 use Rattle.mea_base.specs.WaitListLinks.{IsChain, node_at, value_of, next_of, prev_of, next_in, prev_in, order_of, IsRing, Relinks, Inserts, SameQueue}
-use Rattle.mea_base.proofs.Chains.{all_from_absent, unlinked_from_absent, without-absent, length-without, absent_before, absent_from_push, length-walk, walk-chain, chain-alike, all_but, HasNeighbours, neighbours, last_of, first_of, next_differs, chain-without, chain-push_head, chain-push_tail}
+use Rattle.mea_base.proofs.Chains.{all_from_absent, unlinked_from_absent, length-without, absent_before, absent_from_push, length-walk, walk-chain, chain-alike, all_but, HasNeighbours, neighbours, last_of, first_of, next_differs, chain-without, chain-push_head, chain-push_tail}
 use Rattle.mea_base.proofs.Trims.{get_or-trim, trim-same, trim-set, AllInUse-trim}
 use Rattle.mea_base.proofs.Waits.{AllInUse-updated, AllInUse-push, AllInUse-without, IsAbsent-push, IsDistinct-push, IsAbsent-without, IsDistinct-without, absent_from_unlinked, length_order-le-count}
 
@@ -26,6 +26,10 @@ module _ {T : Type 0} where
   -- what a contract sees under a number
   pub view_at : (slots : List (Option (Node T))) (k : ℕ) → get_or (trim (map value_of slots)) k None ≡ value_of (node_at slots k)
   view_at slots k = get_or-trim (map value_of slots) k ∙ value_in slots k
+
+  -- what a contract sees under a number with a node
+  pub get_view : (slots : List (Option (Node T))) (n : ℕ) (node : Node T) → node_at slots n ≡ Some node → get_or (trim (map value_of slots)) n None ≡ node.value
+  get_view slots n node found = view_at slots n ∙ ap value_of found
 
   -- nodes with the same values look the same to a contract
   pub same_view : (old new : List (Option (Node T))) → ((k : ℕ) → value_of (node_at new k) ≡ value_of (node_at old k)) → trim (map value_of new) ≡ trim (map value_of old)
@@ -94,7 +98,7 @@ module _ {T : Type 0} where
     around moves =
         neighbours (next_in slots) (prev_in slots) (λ k. IsSome (node_at slots k)) 0 order 0 n ring.chain sentinel_here (nodes_behind slots order ring.in_use) sentinel_here (linked_here moves)
 
-    pub left_count : next_in slots n ≢ n → length (without n order) + 1 ≡ length order
+    left_count : next_in slots n ≢ n → length (without n order) + 1 ≡ length order
     left_count moves = length-without n order ring.distinct.1 (linked_here moves)
 
   -- the keys behind and before each key, once n is taken out
@@ -156,7 +160,7 @@ module _ {T : Type 0} where
               )
         ]
 
-    pub ring_left : IsRing new.slots (without n order)
+    ring_left : IsRing new.slots (without n order)
     ring_left = record {
       chain = chain_left;
       distinct = (IsAbsent-without 0 n order ring.distinct.0, IsDistinct-without n order ring.distinct.1);
@@ -167,7 +171,7 @@ module _ {T : Type 0} where
     }
 
   -- a node off the ring is gone
-  pub ring_removed : (old new : List (Option (Node T))) (n : ℕ) (order : List ℕ) → IsRing old order → IsSome (value_of (node_at old n)) → IsAbsent n order → ((k : ℕ) → k ≢ n → node_at new k ≡ node_at old k) → node_at new n ≡ None → IsRing new order
+  ring_removed : (old new : List (Option (Node T))) (n : ℕ) (order : List ℕ) → IsRing old order → IsSome (value_of (node_at old n)) → IsAbsent n order → ((k : ℕ) → k ≢ n → node_at new k ≡ node_at old k) → node_at new n ≡ None → IsRing new order
   ring_removed old new n order ring used absent same gone =
       let other : 0 ≢ n = λ is. not_sentinel old order ring n used (sym is) in
       let next_same : (k : ℕ) → k ≢ n → next_in new k ≡ next_in old k = λ k differs. ap next_of (same k differs) in
@@ -186,26 +190,28 @@ module _ {T : Type 0} where
         ];
       }
 
-  -- the sentinel has been made, or was there
-  pub ring_same : (old new : List (Option (Node T))) (order : List ℕ) → IsRing old order → SameQueue old new → IsSome (node_at new 0) → IsRing new order
-  ring_same old new order ring same made = record {
-    chain = chain-alike (next_in old) (prev_in old) (next_in new) (prev_in new) 0 order 0 (same.next_is 0) (all_of order) (same.prev_is 0) ring.chain;
+  not_some : (o : Option T) → is_some o ≡ is_some {T = T} None → o ≡ None
+  not_some None same = refl
+  not_some (Some v) same = absurd (cc)
+
+  -- the same links, and values where there were values
+  ring_alike : (old new : List (Option (Node T))) (order : List ℕ) → IsRing old order → IsSome (node_at new 0) → ((k : ℕ) → next_in new k ≡ next_in old k) → ((k : ℕ) → prev_in new k ≡ prev_in old k) → ((k : ℕ) → k ≢ 0 → is_some (node_at new k) ≡ is_some (node_at old k)) → ((k : ℕ) → is_some (value_of (node_at new k)) ≡ is_some (value_of (node_at old k))) → IsRing new order
+  ring_alike old new order ring made next prev nodes values = record {
+    chain = chain-alike (next_in old) (prev_in old) (next_in new) (prev_in new) 0 order 0 (next 0) (all_of order) (prev 0) ring.chain;
     distinct = ring.distinct;
-    in_use = AllInUse-same old new order (λ k. ap is_some (same.values k)) ring.in_use;
-    no_value = same.values 0 ∙ ring.no_value;
+    in_use = AllInUse-same old new order values ring.in_use;
+    no_value = not_some _ (values 0 ∙ ap is_some ring.no_value);
     closed = λ k node. made;
-    off_ring = λ k other absent node.
-        let was = ring.off_ring k other absent (rw (same.others k other) at node) in
-        (rw (same.values k) was.0, same.next_is k ∙ was.1, same.prev_is k ∙ was.2);
+    off_ring = λ k other absent node. let was = ring.off_ring k other absent (sym (nodes k other) ∙ node) in (values k ∙ was.0, next k ∙ was.1, prev k ∙ was.2);
   }
     where
       all_of : (ks : List ℕ) → AllByRecursion (λ k. (next_in new k ≡ next_in old k) × (prev_in new k ≡ prev_in old k)) ks
       all_of [] = tt
-      all_of (k ∷ ks) = ((same.next_is k, same.prev_is k), all_of ks)
+      all_of (k ∷ ks) = ((next k, prev k), all_of ks)
 
   -- a value was put between p and the key behind p
   module _ (old new : Slab (Node T)) (order : List ℕ) (ring : IsRing old.slots order) (made : IsSome (node_at old.slots 0)) (p z n : ℕ) (value : T) (inserts : Inserts old new p z n value) where
-    pub n_absent : IsAbsent n order
+    n_absent : IsAbsent n order
     n_absent = fresh order (nodes_behind old.slots order ring.in_use)
       where
         fresh : (ks : List ℕ) → AllByRecursion (λ k. IsSome (node_at old.slots k)) ks → IsAbsent n ks
@@ -266,7 +272,7 @@ module _ {T : Type 0} where
           )
 
   -- the ring with n behind the sentinel
-  pub ring_head : (old new : Slab (Node T)) (order : List ℕ) → IsRing old.slots order → IsSome (node_at old.slots 0) → (z n : ℕ) (value : T) → z ≡ next_in old.slots 0 → Inserts old new 0 z n value → IsRing new.slots (n ∷ order)
+  ring_head : (old new : Slab (Node T)) (order : List ℕ) → IsRing old.slots order → IsSome (node_at old.slots 0) → (z n : ℕ) (value : T) → z ≡ next_in old.slots 0 → Inserts old new 0 z n value → IsRing new.slots (n ∷ order)
   ring_head old new order ring made z n value behind inserts =
       let first = first_of (next_in old.slots) (prev_in old.slots) (λ k. IsSome (node_at old.slots k)) 0 order 0 ring.chain (nodes_behind old.slots order ring.in_use) made in
       let z_node : IsSome (node_at old.slots z) = rw behind first.1 in
@@ -294,7 +300,7 @@ module _ {T : Type 0} where
       }
 
   -- the ring with n before the sentinel
-  pub ring_tail : (old new : Slab (Node T)) (order : List ℕ) → IsRing old.slots order → IsSome (node_at old.slots 0) → (p n : ℕ) (value : T) → p ≡ prev_in old.slots 0 → Inserts old new p 0 n value → IsRing new.slots (order ++ n ∷ [])
+  ring_tail : (old new : Slab (Node T)) (order : List ℕ) → IsRing old.slots order → IsSome (node_at old.slots 0) → (p n : ℕ) (value : T) → p ≡ prev_in old.slots 0 → Inserts old new p 0 n value → IsRing new.slots (order ++ n ∷ [])
   ring_tail old new order ring made p n value before_is inserts =
       let last = last_of (next_in old.slots) (prev_in old.slots) (λ k. IsSome (node_at old.slots k)) 0 order 0 ring.chain made (nodes_behind old.slots order ring.in_use) in
       let p_node : IsSome (node_at old.slots p) = rw before_is last.1 in
@@ -329,25 +335,6 @@ module _ {T : Type 0} where
             off_new old new order ring made p 0 n value inserts p_node made behind before k away parts.0 (λ same. parts.1 (sym same)) (λ same. beside.1 (sym before_is ∙ same)) from_start node;
       }
 
-  not_some : (o : Option T) → is_some o ≡ is_some {T = T} None → o ≡ None
-  not_some None same = refl
-  not_some (Some v) same = absurd (cc)
-
-  -- the same links, and values where there were values
-  ring_written : (old new : List (Option (Node T))) (order : List ℕ) → IsRing old order → ((k : ℕ) → next_in new k ≡ next_in old k) → ((k : ℕ) → prev_in new k ≡ prev_in old k) → ((k : ℕ) → is_some (node_at new k) ≡ is_some (node_at old k)) → ((k : ℕ) → is_some (value_of (node_at new k)) ≡ is_some (value_of (node_at old k))) → IsRing new order
-  ring_written old new order ring next prev nodes values = record {
-    chain = chain-alike (next_in old) (prev_in old) (next_in new) (prev_in new) 0 order 0 (next 0) (all_of order) (prev 0) ring.chain;
-    distinct = ring.distinct;
-    in_use = AllInUse-same old new order values ring.in_use;
-    no_value = not_some _ (values 0 ∙ ap is_some ring.no_value);
-    closed = λ k node. nodes 0 ∙ ring.closed k (sym (nodes k) ∙ node);
-    off_ring = λ k other absent node. let was = ring.off_ring k other absent (sym (nodes k) ∙ node) in (values k ∙ was.0, next k ∙ was.1, prev k ∙ was.2);
-  }
-    where
-      all_of : (ks : List ℕ) → AllByRecursion (λ k. (next_in new k ≡ next_in old k) × (prev_in new k ≡ prev_in old k)) ks
-      all_of [] = tt
-      all_of (k ∷ ks) = ((next k, prev k), all_of ks)
-
   -- the value of the node under n was written
   module _ (slots : List (Option (Node T))) (n : ℕ) (node : Node T) (w : T) (found : node_at slots n ≡ Some node) (full : IsSome node.value) where
     within : n < length slots
@@ -363,12 +350,12 @@ module _ {T : Type 0} where
           | inr differs ↦ ap f (get_or-set_other slots n k (Some (record node { value = Some w })) None differs)
         ]
 
-    pub ring_kept : (order : List ℕ) → IsRing slots order → IsRing (set slots n (Some (record node { value = Some w }))) order
-    ring_kept order ring =
-        ring_written slots (set slots n (Some (record node { value = Some w }))) order ring (same_by next_of refl) (same_by prev_of refl) (same_by (λ o. is_some o) refl) (same_by (λ o. is_some (value_of o)) (sym full))
+    pub sentinel_kept : (order : List ℕ) → IsRing slots order → IsSome (node_at (set slots n (Some (record node { value = Some w }))) 0)
+    sentinel_kept order ring = same_by (λ o. is_some o) refl 0 ∙ ring.closed n (ap is_some found)
 
-    pub sentinel_kept : is_some (node_at (set slots n (Some (record node { value = Some w }))) 0) ≡ is_some (node_at slots 0)
-    sentinel_kept = same_by (λ o. is_some o) refl 0
+    ring_kept : (order : List ℕ) → IsRing slots order → IsRing (set slots n (Some (record node { value = Some w }))) order
+    ring_kept order ring =
+        ring_alike slots (set slots n (Some (record node { value = Some w }))) order ring (sentinel_kept order ring) (same_by next_of refl) (same_by prev_of refl) (λ k other. same_by (λ o. is_some o) refl k) (same_by (λ o. is_some (value_of o)) (sym full))
 
     pub count_kept : count_by is_some (set slots n (Some (record node { value = Some w }))) ≡ count_by is_some slots
     count_kept =
@@ -426,7 +413,8 @@ module _ {T : Type 0} where
       walks new.slots _ len (length-order old.slots len) (ring_removed old.slots new.slots n _ ring used (absent_from_unlinked n _ unlinked) updates.others updates.changed)
 
   pub after_reserve : (old new : List (Option (Node T))) (len : ℕ) → IsRing old (order_of old len) → SameQueue old new → IsSome (node_at new 0) → Walks new (order_of old len) len
-  after_reserve old new len ring same made = walks new _ len (length-order old len) (ring_same old new _ ring same made)
+  after_reserve old new len ring same made =
+      walks new _ len (length-order old len) (ring_alike old new _ ring made same.next_is same.prev_is (λ k other. ap is_some (same.others k other)) (λ k. ap is_some (same.values k)))
 
   -- the nodes beside the sentinel
   pub first_node : (slots : List (Option (Node T))) (order : List ℕ) → IsRing slots order → IsSome (node_at slots 0) → IsSome (node_at slots (next_in slots 0))

@@ -1,9 +1,8 @@
 -- How the numbers of a `WaitList` and the values under them keep together.
-use Rattle.std.proofs.Common.{◌≡◌, ◌≢◌, ℕ, ◌+◌, ◌<◌, ◌≤◌, Bool, true, false, cond, not, ◌||◌, eqb, List, [], ◌∷◌, ◌++◌, length, get_or, set, Option, Some, None, is_some, IsSome, count_by, sum_by, zero, suc, refl, sym, ap, ◌∙◌, inl, inr, arith}
+use Rattle.std.proofs.Common.{◌≡◌, ◌≢◌, ℕ, ◌+◌, ◌<◌, ◌≤◌, Bool, true, false, cond, not, ◌||◌, eqb, List, [], ◌∷◌, ◌++◌, length, get_or, set, Option, None, is_some, IsSome, count_by, sum_by, zero, suc, refl, sym, ap, ◌∙◌, arith}
 use Rattle.std.specs.List.{list_any}
-use Rattle.std.proofs.lemmas.Bool.{cases_eq}
 use Rattle.std.proofs.lemmas.Bool.Decides.{nat_tests}
-use Rattle.std.proofs.lemmas.List.{get_or-set_same, get_or-set_other, get_or_past}
+use Rattle.std.proofs.lemmas.List.{get_or-set_other, get_or_past}
 use Rattle.std.proofs.lemmas.List.Sums.{sum_by-set, sum_by-cons}
 use Rattle.mea_base.specs.WaitList.{without, IsAbsent, IsDistinct, AllInUse}
 
@@ -11,12 +10,6 @@ module _ {T : Type 0} where
   -- a number with a value is a place
   pub in_use_within : (slots : List (Option T)) (n : ℕ) → IsSome (get_or slots n None) → n < length slots
   in_use_within slots n used = grind (arith, get_or_past)
-
-  -- a number with no value is none of those in use
-  pub absent_from_vacant : (slots : List (Option T)) (n : ℕ) (ns : List ℕ) → get_or slots n None ≡ None → AllInUse slots ns → IsAbsent n ns
-  absent_from_vacant slots n [] vacant used = tt
-  absent_from_vacant slots n (m ∷ ms) vacant used =
-      ((λ same. let found = used.0 in let here : get_or slots m None ≡ None = rw same vacant in grind (arith, found, here)), absent_from_vacant slots n ms vacant used.1)
 
   -- what changes at an absent number alone keeps the others in use
   pub AllInUse-updated : (old new : List (Option T)) (n : ℕ) (ns : List ℕ) → ((other : ℕ) → other ≢ n → get_or new other None ≡ get_or old other None) → IsAbsent n ns → AllInUse old ns → AllInUse new ns
@@ -37,32 +30,15 @@ module _ {T : Type 0} where
       ]
 
   -- a write at a number that is absent keeps the others in use
-  pub AllInUse-set_absent : (slots : List (Option T)) (n : ℕ) (slot : Option T) (ns : List ℕ) → IsAbsent n ns → AllInUse slots ns → AllInUse (set slots n slot) ns
+  AllInUse-set_absent : (slots : List (Option T)) (n : ℕ) (slot : Option T) (ns : List ℕ) → IsAbsent n ns → AllInUse slots ns → AllInUse (set slots n slot) ns
   AllInUse-set_absent slots n slot [] absent used = tt
   AllInUse-set_absent slots n slot (m ∷ ms) absent used =
       (rw (get_or-set_other slots n m slot None absent.0) used.0, AllInUse-set_absent slots n slot ms absent.1 used.1)
 
-  -- a write of a value keeps all in use
-  pub AllInUse-set_some : (slots : List (Option T)) (n : ℕ) (value : T) (ns : List ℕ) → n < length slots → AllInUse slots ns → AllInUse (set slots n (Some value)) ns
-  AllInUse-set_some slots n value [] within used = tt
-  AllInUse-set_some slots n value (m ∷ ms) within used = (
-    elim (cases_eq m n) [
-      | inl same ↦ rw (same, get_or-set_same slots n (Some value) None within) refl
-      | inr differs ↦ rw (get_or-set_other slots n m (Some value) None differs) used.0
-    ],
-    AllInUse-set_some slots n value ms within used.1,
-  )
-
   -- the count after a write of nothing at a number in use
-  pub count-set_none : (slots : List (Option T)) (n : ℕ) → IsSome (get_or slots n None) → count_by is_some (set slots n None) + 1 ≡ count_by is_some slots
+  count-set_none : (slots : List (Option T)) (n : ℕ) → IsSome (get_or slots n None) → count_by is_some (set slots n None) + 1 ≡ count_by is_some slots
   count-set_none slots n used =
       let counted = sum_by-set (λ o. cond (is_some o) 1 0) slots n None None (in_use_within slots n used) in
-      grind (arith, counted)
-
-  -- a write of a value at a number in use keeps the count
-  pub count-set_some : (slots : List (Option T)) (n : ℕ) (value : T) → IsSome (get_or slots n None) → count_by is_some (set slots n (Some value)) ≡ count_by is_some slots
-  count-set_some slots n value used =
-      let counted = sum_by-set (λ o. cond (is_some o) 1 0) slots n (Some value) None (in_use_within slots n used) in
       grind (arith, counted)
 
   module _ (f : Option T → ℕ) (nothing : f None ≡ 0) where

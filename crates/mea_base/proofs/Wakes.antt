@@ -1,11 +1,11 @@
 -- a family that keeps the wakers of who waits loses no wake
-use Rattle.std.proofs.Common.{◌≡◌, ◌≢◌, ℕ, ◌+◌, ◌<◌, ◌≤◌, ◌++◌, ◌⊎◌, inl, inr, Bool, true, false, cond, List, [], ◌∷◌, Option, Some, None, refl, ap, sym, subst, ◌∙◌, arith}
+use Rattle.std.proofs.Common.{◌≡◌, ℕ, ◌+◌, ◌<◌, ◌++◌, ◌⊎◌, inl, inr, true, List, Option, Some, None, refl, ap, ◌∙◌, arith}
 use Rattle.std.specs.List.{Contains}
 use Rattle.std.proofs.lemmas.Option.{cond_some}
 use Rattle.std.proofs.lemmas.List.Elements.{Contains-append_left, Contains-append_right}
 use Rattle.mea_base.specs.declared.answer.Answer.{Answer}
 use Rattle.mea_base.specs.declared.answer.Answer.TheVariants as answers
-use Rattle.mea_base.specs.Family.{Family, Outcome, Run, Told, RunOf, ToldOf, start, told, goes_on, Runs, Starts, Goes, is_pending, kept_waker, last_waker_at, last_waker, wakes_at, wakes_since, LosesNoWake, KeepsWakers, NamesFutures}
+use Rattle.mea_base.specs.Family.{Family, Outcome, RunOf, told, Runs, Starts, Goes, is_pending, last_waker_at, last_waker, wakes_at, wakes_since, LosesNoWake, KeepsWakers, NamesFutures}
 
 pending_is : (a : Answer) → is_pending a ≡ true → a ≡ answers.Pending
 pending_is answers.Pending e = refl

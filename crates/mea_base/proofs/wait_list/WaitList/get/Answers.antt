@@ -1,6 +1,5 @@
-use Rattle.std.proofs.Common.{◌∙◌, ap}
-use Rattle.mea_base.specs.WaitListLinks.{value_of}
-use Rattle.mea_base.proofs.WaitLinks.{used_node, node_behind, view_at}
+use Rattle.std.proofs.Common.{◌∙◌}
+use Rattle.mea_base.proofs.WaitLinks.{used_node, node_behind, get_view}
 use Rattle.mea_base.proofs.wait_list.WaitList.get.Goals as goal
 
 pub index-requires : goal.index-requires
@@ -16,4 +15,4 @@ unreachable-requires g c =
     cc
 
 pub returns : goal.returns
-returns g c = rw (← c.self.view_is) (view_at c.self.inside.nodes.slots c.args.number ∙ ap value_of c.index.ensures ∙ c.in-Some.is)
+returns g c = rw (← c.self.view_is) (get_view c.self.inside.nodes.slots c.args.number c.index.result.now c.index.ensures ∙ c.in-Some.is)

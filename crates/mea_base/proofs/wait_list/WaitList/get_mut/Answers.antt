@@ -1,7 +1,6 @@
 use Rattle.std.proofs.Common.{slice_set, Some, refl, sym, ap, ◌∙◌, arith}
 use Rattle.std.specs.Option.{option_copied_mut}
-use Rattle.mea_base.specs.WaitListLinks.{value_of}
-use Rattle.mea_base.proofs.WaitLinks.{used_node, node_behind, view_at, after_write, slots_written, sentinel_kept, count_kept, any_key, sentinel_here}
+use Rattle.mea_base.proofs.WaitLinks.{used_node, node_behind, get_view, after_write, slots_written, sentinel_kept, count_kept, any_key}
 use Rattle.mea_base.proofs.wait_list.WaitList.get_mut.Goals as goal
 
 pub index_mut-requires : goal.index_mut-requires
@@ -17,7 +16,7 @@ invariant_of-self-lent g c =
     let used = used_node c.self.inside.nodes.slots c.args.number (rw (← c.self.view_is) at c.requires) in
     let full = rw c.index_mut.ensures.value at used in
     λ w.
-        let made = sentinel_kept c.self.inside.nodes.slots c.args.number c.index_mut.result.now w c.index_mut.ensures.value full ∙ sentinel_here c.self.inside.nodes.slots _ c.self.invariant.ring c.args.number used in
+        let made = sentinel_kept c.self.inside.nodes.slots c.args.number c.index_mut.result.now w c.index_mut.ensures.value full _ c.self.invariant.ring in
         let count = count_kept c.self.inside.nodes.slots c.args.number c.index_mut.result.now w c.index_mut.ensures.value full in
         record {
           ring = (after_write c.self.inside.nodes.slots c.args.number c.index_mut.result.now w c.index_mut.ensures.value full c.self.inside.len c.self.invariant.ring).ring;
@@ -34,11 +33,11 @@ returns g c =
     let seen = c.as_mut.ensures.value in
     let taken = ap option_copied_mut c.unwrap.ensures in (
       (
-        refl,
+        refl {a = c.unwrap.result.ghost_name},
         λ w.
             let order = (after_write c.self.inside.nodes.slots c.args.number c.index_mut.result.now w c.index_mut.ensures.value full c.self.inside.len c.self.invariant.ring).order in
             let slots = slots_written c.self.inside.nodes.slots c.args.number c.index_mut.result.now w c.index_mut.ensures.value full in
             rw (← c.self.view_is) (λ i. record { order = order i; slots = slots i; spare = c.self.inside.spare }),
       ),
-      record { writes_back = tt; value = rw (← c.self.view_is) (view_at c.self.inside.nodes.slots c.args.number ∙ ap value_of c.index_mut.ensures.value ∙ sym seen ∙ taken) },
+      record { writes_back = tt; value = rw (← c.self.view_is) (get_view c.self.inside.nodes.slots c.args.number c.index_mut.result.now c.index_mut.ensures.value ∙ sym seen ∙ taken) },
     )

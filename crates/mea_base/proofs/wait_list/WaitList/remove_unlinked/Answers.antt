@@ -1,6 +1,6 @@
 use Rattle.std.proofs.Common.{sym, ap, ◌∙◌, arith}
 use Rattle.mea_base.specs.WaitListLinks.{value_of}
-use Rattle.mea_base.proofs.WaitLinks.{any_key, used_node, node_behind, sentinel_removed, view_at, after_remove}
+use Rattle.mea_base.proofs.WaitLinks.{any_key, used_node, node_behind, sentinel_removed, view_at, get_view, after_remove}
 use Rattle.mea_base.proofs.wait_list.WaitList.remove_unlinked.Goals as goal
 
 pub remove-value-requires : goal.remove-value-requires
@@ -30,7 +30,7 @@ invariant_of-self g c =
     }
 
 pub returns-clause-value : goal.returns-clause-value
-returns-clause-value g c = rw (← c.self.view_is) (view_at c.self.inside.nodes.slots c.args.number ∙ ap value_of c.remove-value.ensures.value ∙ c.in-Some.is)
+returns-clause-value g c = rw (← c.self.view_is) (get_view c.self.inside.nodes.slots c.args.number c.remove-value.result c.remove-value.ensures.value ∙ c.in-Some.is)
 
 pub returns-clause-updates : goal.returns-clause-updates
 returns-clause-updates g c =

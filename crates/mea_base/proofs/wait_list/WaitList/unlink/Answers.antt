@@ -1,4 +1,4 @@
-use Rattle.std.proofs.Common.{◌≡◌, ◌≢◌, sym, ap, ◌∙◌, map, arith}
+use Rattle.std.proofs.Common.{◌≢◌, sym, ap, ◌∙◌, map, arith}
 use Rattle.mea_base.specs.WaitList.{trim}
 use Rattle.mea_base.specs.WaitListLinks.{next_in, next_of, prev_of, value_of}
 use Rattle.mea_base.proofs.Chains.{without-absent}
