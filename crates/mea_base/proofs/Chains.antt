@@ -164,11 +164,11 @@ module _ (next prev next' prev' : ℕ → ℕ) (n p : ℕ) (after : prev (next p
   chain-push_head [] z chain n_absent p_absent distinct z_absent z_other = (p_next, n_prev, (n_next ∙ chain.0, ap prev' (sym chain.0) ∙ next_prev))
   chain-push_head (k ∷ ks) z chain n_absent p_absent distinct z_absent z_other =
       let rest : IsChain next' prev' k ks z =
-          chain-alike next prev next' prev' k ks z
-          (other_next k p_absent.0 n_absent.0)
-          (away ks n_absent.1 p_absent.1 (subst (λ j. IsAbsent j ks) (sym chain.0) distinct.0))
-          (other_prev z (λ same. z_absent.0 (sym (same ∙ chain.0))) z_other)
-          chain.2 in
+      chain-alike next prev next' prev' k ks z
+      (other_next k p_absent.0 n_absent.0)
+      (away ks n_absent.1 p_absent.1 (subst (λ j. IsAbsent j ks) (sym chain.0) distinct.0))
+      (other_prev z (λ same. z_absent.0 (sym (same ∙ chain.0))) z_other)
+      chain.2 in
       (p_next, n_prev, (n_next ∙ chain.0, ap prev' (sym chain.0) ∙ next_prev, rest))
     where
       away : (js : List ℕ) → IsAbsent n js → IsAbsent p js → IsAbsent (next p) js → AllByRecursion (λ j. (next' j ≡ next j) × (prev' j ≡ prev j)) js

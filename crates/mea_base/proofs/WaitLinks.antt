@@ -281,14 +281,14 @@ module _ {T : Type 0} where
       let other : 0 ≢ n = not_new old new order ring made 0 z n value inserts 0 made in
       record {
         chain = chain-push_head (next_in old.slots) (prev_in old.slots) (next_in new.slots) (prev_in new.slots) n 0
-        (after old new order ring made 0 z n value inserts made z_node behind before)
-        (p_next old new order ring made 0 z n value inserts made z_node behind before)
-        (n_next old new order ring made 0 z n value inserts made z_node behind before)
-        (n_prev old new order ring made 0 z n value inserts made z_node behind before)
-        (next_prev old new order ring made 0 z n value inserts made z_node behind before)
-        (other_next old new order ring made 0 z n value inserts made z_node behind before)
-        (other_prev old new order ring made 0 z n value inserts made z_node behind before)
-        order 0 ring.chain absent ring.distinct.0 ring.distinct.1 ring.distinct.0 other;
+            (after old new order ring made 0 z n value inserts made z_node behind before)
+            (p_next old new order ring made 0 z n value inserts made z_node behind before)
+            (n_next old new order ring made 0 z n value inserts made z_node behind before)
+            (n_prev old new order ring made 0 z n value inserts made z_node behind before)
+            (next_prev old new order ring made 0 z n value inserts made z_node behind before)
+            (other_next old new order ring made 0 z n value inserts made z_node behind before)
+            (other_prev old new order ring made 0 z n value inserts made z_node behind before)
+            order 0 ring.chain absent ring.distinct.0 ring.distinct.1 ring.distinct.0 other;
         distinct = (((λ same. other (sym same)), ring.distinct.0), (absent, ring.distinct.1));
         in_use = (here old new order ring made 0 z n value inserts, in_use_new old new order ring made 0 z n value inserts);
         no_value = no_value_new old new order ring made 0 z n value inserts;
@@ -310,18 +310,18 @@ module _ {T : Type 0} where
       let absent = n_absent old new order ring made p 0 n value inserts in
       let other : 0 ≢ n = not_new old new order ring made p 0 n value inserts 0 made in
       let longer : IsChain (next_in new.slots) (prev_in new.slots) 0 (order ++ n ∷ []) (next_in old.slots p) =
-          chain-push_tail (next_in old.slots) (prev_in old.slots) (next_in new.slots) (prev_in new.slots) n p
-          (after old new order ring made p 0 n value inserts p_node made behind before)
-          (p_next old new order ring made p 0 n value inserts p_node made behind before)
-          (n_next old new order ring made p 0 n value inserts p_node made behind before)
-          (n_prev old new order ring made p 0 n value inserts p_node made behind before)
-          (next_prev old new order ring made p 0 n value inserts p_node made behind before)
-          (other_next old new order ring made p 0 n value inserts p_node made behind before)
-          (other_prev old new order ring made p 0 n value inserts p_node made behind before)
-          0 order
-          (subst (IsChain (next_in old.slots) (prev_in old.slots) 0 order) behind ring.chain)
-          (subst (λ z. IsAbsent z order) behind ring.distinct.0)
-          absent other in
+      chain-push_tail (next_in old.slots) (prev_in old.slots) (next_in new.slots) (prev_in new.slots) n p
+      (after old new order ring made p 0 n value inserts p_node made behind before)
+      (p_next old new order ring made p 0 n value inserts p_node made behind before)
+      (n_next old new order ring made p 0 n value inserts p_node made behind before)
+      (n_prev old new order ring made p 0 n value inserts p_node made behind before)
+      (next_prev old new order ring made p 0 n value inserts p_node made behind before)
+      (other_next old new order ring made p 0 n value inserts p_node made behind before)
+      (other_prev old new order ring made p 0 n value inserts p_node made behind before)
+      0 order
+      (subst (IsChain (next_in old.slots) (prev_in old.slots) 0 order) behind ring.chain)
+      (subst (λ z. IsAbsent z order) behind ring.distinct.0)
+      absent other in
       record {
         chain = subst (IsChain (next_in new.slots) (prev_in new.slots) 0 (order ++ n ∷ [])) ends longer;
         distinct = (IsAbsent-push 0 n order (λ same. other (sym same)) ring.distinct.0, IsDistinct-push n order absent ring.distinct.1);

@@ -43,6 +43,35 @@ fn numbers(rt: HostRuntime) -> Result<(), Fail> {
     Ok(())
 }
 
+// A value leaves from any place of the queue, and the others keep their order.
+#[test]
+fn unlinks(rt: HostRuntime) -> Result<(), Fail> {
+    let mut list: WaitList<u64> = WaitList::new(rt.alloc());
+    let first = list.push_tail(10)?;
+    let middle = list.push_tail(20)?;
+    let last = list.push_tail(30)?;
+    assert!(rt; list.is_in_use(first));
+    assert!(rt; list.is_in_use(middle));
+    list.unlink(middle);
+    list.unlink(middle);
+    assert!(rt; list.is_linked(first));
+    assert!(rt; !list.is_linked(middle));
+    assert!(rt; list.is_linked(last));
+    assert_eq!(rt; list.len(), 2);
+    list.unlink(first);
+    assert!(rt; !list.is_linked(first));
+    assert_eq!(rt; list.first(), Some(last));
+    list.unlink(last);
+    assert!(rt; !list.is_linked(last));
+    assert_eq!(rt; list.first(), None);
+    assert_eq!(rt; list.len(), 0);
+    let again = list.push_head(40)?;
+    assert_eq!(rt; list.unlink_first(), Some(again));
+    assert_eq!(rt; list.unlink_first(), None);
+    assert_eq!(rt; list.remove_unlinked(middle), 20);
+    Ok(())
+}
+
 // Wakers leave in the order in which they came.
 #[test]
 fn wakers(rt: HostRuntime) -> Result<(), Fail> {

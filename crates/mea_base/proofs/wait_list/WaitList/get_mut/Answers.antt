@@ -16,15 +16,15 @@ invariant_of-self-lent g c =
     let used = used_node c.self.inside.nodes.slots c.args.number (rw (← c.self.view_is) at c.requires) in
     let full = rw c.index_mut.ensures.value at used in
     λ w.
-        let made = sentinel_kept c.self.inside.nodes.slots c.args.number c.index_mut.result.now w c.index_mut.ensures.value full _ c.self.invariant.ring in
-        let count = count_kept c.self.inside.nodes.slots c.args.number c.index_mut.result.now w c.index_mut.ensures.value full in
-        record {
-          ring = (after_write c.self.inside.nodes.slots c.args.number c.index_mut.result.now w c.index_mut.ensures.value full c.self.inside.len c.self.invariant.ring).ring;
-          first_key = any_key (slice_set c.self.inside.nodes.slots c.args.number (Some (record c.index_mut.result.now { value = Some w }))) c.self.inside.nodes.vacant_key made;
-          sentinel = λ some. made;
-          room = omega (arith, count, c.self.invariant.room);
-          fits = omega (arith, count, c.self.invariant.fits);
-        }
+    let made = sentinel_kept c.self.inside.nodes.slots c.args.number c.index_mut.result.now w c.index_mut.ensures.value full _ c.self.invariant.ring in
+    let count = count_kept c.self.inside.nodes.slots c.args.number c.index_mut.result.now w c.index_mut.ensures.value full in
+    record {
+      ring = (after_write c.self.inside.nodes.slots c.args.number c.index_mut.result.now w c.index_mut.ensures.value full c.self.inside.len c.self.invariant.ring).ring;
+      first_key = any_key (slice_set c.self.inside.nodes.slots c.args.number (Some (record c.index_mut.result.now { value = Some w }))) c.self.inside.nodes.vacant_key made;
+      sentinel = λ some. made;
+      room = omega (arith, count, c.self.invariant.room);
+      fits = omega (arith, count, c.self.invariant.fits);
+    }
 
 pub returns : goal.returns
 returns g c =
