@@ -157,31 +157,41 @@ module _ (next prev next' prev' : ℕ → ℕ) (n : ℕ) (before : next (prev n)
         | inr differs ↦ rw (ne_eqb k n differs) (let link = link_stays a k chain.0 chain.1 a_other differs in (link.0, link.1, chain-without k ks z chain.2 distinct.1 differs z_other))
       ]
 
--- the keys beside each key, once n is put between p and the key behind p
-module _ (next prev next' prev' : ℕ → ℕ) (n p : ℕ) (after : prev (next p) ≡ p) (p_next : next' p ≡ n) (n_next : next' n ≡ next p) (n_prev : prev' n ≡ p) (next_prev : prev' (next p) ≡ n) (other_next : (k : ℕ) → k ≢ p → k ≢ n → next' k ≡ next k) (other_prev : (k : ℕ) → k ≢ next p → k ≢ n → prev' k ≡ prev k) where
-  -- p is the start
+-- n was put between p and the key behind p
+pub record IsPutBehind (next prev next' prev' : ℕ → ℕ) (p n : ℕ) : Type 0 where
+  pub after : prev (next p) ≡ p
+  pub p_next : next' p ≡ n
+  pub n_next : next' n ≡ next p
+  pub n_prev : prev' n ≡ p
+  pub next_prev : prev' (next p) ≡ n
+  pub other_next : (k : ℕ) → k ≢ p → k ≢ n → next' k ≡ next k
+  pub other_prev : (k : ℕ) → k ≢ next p → k ≢ n → prev' k ≡ prev k
+
+module _ (next prev next' prev' : ℕ → ℕ) (p n : ℕ) (put : IsPutBehind next prev next' prev' p n) where
+  -- the chain that starts at p
   pub chain-push_head : (ks : List ℕ) (z : ℕ) → IsChain next prev p ks z → IsAbsent n ks → IsAbsent p ks → IsDistinct ks → IsAbsent z ks → z ≢ n → IsChain next' prev' p (n ∷ ks) z
-  chain-push_head [] z chain n_absent p_absent distinct z_absent z_other = (p_next, n_prev, (n_next ∙ chain.0, ap prev' (sym chain.0) ∙ next_prev))
+  chain-push_head [] z chain n_absent p_absent distinct z_absent z_other =
+      (put.p_next, put.n_prev, (put.n_next ∙ chain.0, ap prev' (sym chain.0) ∙ put.next_prev))
   chain-push_head (k ∷ ks) z chain n_absent p_absent distinct z_absent z_other =
       let rest : IsChain next' prev' k ks z =
       chain-alike next prev next' prev' k ks z
-      (other_next k p_absent.0 n_absent.0)
+      (put.other_next k p_absent.0 n_absent.0)
       (away ks n_absent.1 p_absent.1 (subst (λ j. IsAbsent j ks) (sym chain.0) distinct.0))
-      (other_prev z (λ same. z_absent.0 (sym (same ∙ chain.0))) z_other)
+      (put.other_prev z (λ same. z_absent.0 (sym (same ∙ chain.0))) z_other)
       chain.2 in
-      (p_next, n_prev, (n_next ∙ chain.0, ap prev' (sym chain.0) ∙ next_prev, rest))
+      (put.p_next, put.n_prev, (put.n_next ∙ chain.0, ap prev' (sym chain.0) ∙ put.next_prev, rest))
     where
       away : (js : List ℕ) → IsAbsent n js → IsAbsent p js → IsAbsent (next p) js → AllByRecursion (λ j. (next' j ≡ next j) × (prev' j ≡ prev j)) js
       away [] n_off p_off next_off = tt
-      away (j ∷ js) n_off p_off next_off = ((other_next j p_off.0 n_off.0, other_prev j next_off.0 n_off.0), away js n_off.1 p_off.1 next_off.1)
+      away (j ∷ js) n_off p_off next_off = ((put.other_next j p_off.0 n_off.0, put.other_prev j next_off.0 n_off.0), away js n_off.1 p_off.1 next_off.1)
 
-  -- p is the last key, and the end is behind it
+  -- the chain that ends behind p
   pub chain-push_tail : (a : ℕ) (ks : List ℕ) → IsChain next prev a ks (next p) → IsAbsent (next p) ks → IsAbsent n ks → a ≢ n → IsChain next' prev' a (ks ++ n ∷ []) (next p)
   chain-push_tail a [] chain z_absent n_absent a_other =
-      let start : a ≡ p = sym chain.1 ∙ after in
-      (ap next' start ∙ p_next, n_prev ∙ sym start, (n_next, next_prev))
+      let start : a ≡ p = sym chain.1 ∙ put.after in
+      (ap next' start ∙ put.p_next, put.n_prev ∙ sym start, (put.n_next, put.next_prev))
   chain-push_tail a (k ∷ ks) chain z_absent n_absent a_other = (
-    other_next a (λ same. z_absent.0 (sym chain.0 ∙ ap next same)) a_other ∙ chain.0,
-    other_prev k z_absent.0 n_absent.0 ∙ chain.1,
+    put.other_next a (λ same. z_absent.0 (sym chain.0 ∙ ap next same)) a_other ∙ chain.0,
+    put.other_prev k z_absent.0 n_absent.0 ∙ chain.1,
     chain-push_tail k ks chain.2 z_absent.1 n_absent.1 n_absent.0,
   )

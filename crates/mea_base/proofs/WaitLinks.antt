@@ -10,7 +10,7 @@ use Rattle.slab.specs.Slab as slab
 use Rattle.mea_base.specs.declared.links.Node.{Node}
 use Rattle.mea_base.specs.WaitList.{without, IsAbsent, AllInUse, IsSound, Updates, trim}
 use Rattle.mea_base.specs.WaitListLinks.{IsChain, node_at, value_of, next_of, prev_of, next_in, prev_in, order_of, IsRing, Relinks, Inserts, SameQueue}
-use Rattle.mea_base.proofs.Chains.{all_from_absent, unlinked_from_absent, length-without, absent_before, absent_from_push, length-walk, walk-chain, chain-alike, all_but, HasNeighbours, neighbours, last_of, first_of, next_differs, chain-without, chain-push_head, chain-push_tail}
+use Rattle.mea_base.proofs.Chains.{all_from_absent, unlinked_from_absent, length-without, absent_before, absent_from_push, length-walk, walk-chain, chain-alike, all_but, HasNeighbours, neighbours, last_of, first_of, next_differs, chain-without, IsPutBehind, chain-push_head, chain-push_tail}
 use Rattle.mea_base.proofs.Trims.{get_or-trim, trim-same, trim-set, AllInUse-trim}
 use Rattle.mea_base.proofs.Waits.{AllInUse-updated, AllInUse-push, AllInUse-without, IsAbsent-push, IsDistinct-push, IsAbsent-without, IsDistinct-without, absent_from_unlinked, length_order-le-count}
 
@@ -240,55 +240,36 @@ module _ {T : Type 0} where
     no_value_new : value_of (node_at new.slots 0) ≡ None
     no_value_new = inserts.values 0 (not_new 0 made) ∙ ring.no_value
 
-    module _ (p_node : IsSome (node_at old.slots p)) (z_node : IsSome (node_at old.slots z)) (behind : z ≡ next_in old.slots p) (before : prev_in old.slots z ≡ p) where
-      p_next : next_in new.slots p ≡ n
-      p_next = inserts.next_is p ∙ rw (eq-eqb p p refl) refl
+    put_behind : IsSome (node_at old.slots p) → IsSome (node_at old.slots z) → z ≡ next_in old.slots p → prev_in old.slots z ≡ p → IsPutBehind (next_in old.slots) (prev_in old.slots) (next_in new.slots) (prev_in new.slots) p n
+    put_behind p_node z_node behind before = record {
+      after = ap (prev_in old.slots) (sym behind) ∙ before;
+      p_next = inserts.next_is p ∙ rw (eq-eqb p p refl) refl;
+      n_next = inserts.next_is n ∙ rw (ne_eqb n p (λ same. not_new p p_node (sym same)), eq-eqb n n refl) behind;
+      n_prev = inserts.prev_is n ∙ rw (ne_eqb n z (λ same. not_new z z_node (sym same)), eq-eqb n n refl) refl;
+      next_prev = ap (prev_in new.slots) (sym behind) ∙ inserts.prev_is z ∙ rw (eq-eqb z z refl) refl;
+      other_next = λ k p_other n_other. inserts.next_is k ∙ rw (ne_eqb k p p_other, ne_eqb k n n_other) refl;
+      other_prev = λ k next_other n_other. inserts.prev_is k ∙ rw (ne_eqb k z (λ same. next_other (same ∙ behind)), ne_eqb k n n_other) refl;
+    }
 
-      n_next : next_in new.slots n ≡ next_in old.slots p
-      n_next = inserts.next_is n ∙ rw (ne_eqb n p (λ same. not_new p p_node (sym same)), eq-eqb n n refl) behind
-
-      n_prev : prev_in new.slots n ≡ p
-      n_prev = inserts.prev_is n ∙ rw (ne_eqb n z (λ same. not_new z z_node (sym same)), eq-eqb n n refl) refl
-
-      next_prev : prev_in new.slots (next_in old.slots p) ≡ n
-      next_prev = ap (prev_in new.slots) (sym behind) ∙ inserts.prev_is z ∙ rw (eq-eqb z z refl) refl
-
-      after : prev_in old.slots (next_in old.slots p) ≡ p
-      after = ap (prev_in old.slots) (sym behind) ∙ before
-
-      other_next : (k : ℕ) → k ≢ p → k ≢ n → next_in new.slots k ≡ next_in old.slots k
-      other_next k p_other n_other = inserts.next_is k ∙ rw (ne_eqb k p p_other, ne_eqb k n n_other) refl
-
-      other_prev : (k : ℕ) → k ≢ next_in old.slots p → k ≢ n → prev_in new.slots k ≡ prev_in old.slots k
-      other_prev k next_other n_other = inserts.prev_is k ∙ rw (ne_eqb k z (λ same. next_other (same ∙ behind)), ne_eqb k n n_other) refl
-
-      -- a node off the ring is neither of the neighbours
-      off_new : (k : ℕ) → k ≢ 0 → IsAbsent k order → k ≢ n → p ≢ k → z ≢ k → IsSome (node_at new.slots k) → IsSome (value_of (node_at new.slots k)) × (next_in new.slots k ≡ k) × (prev_in new.slots k ≡ k)
-      off_new k other absent n_other p_other z_other node =
-          let was = ring.off_ring k other absent (sym (inserts.nodes k n_other) ∙ node) in (
-            rw (inserts.values k n_other) was.0,
-            other_next k (λ same. p_other (sym same)) n_other ∙ was.1,
-            other_prev k (λ same. z_other (behind ∙ sym same)) n_other ∙ was.2,
-          )
+    -- a node off the ring is neither of the neighbours
+    off_new : IsPutBehind (next_in old.slots) (prev_in old.slots) (next_in new.slots) (prev_in new.slots) p n → z ≡ next_in old.slots p → (k : ℕ) → k ≢ 0 → IsAbsent k order → k ≢ n → p ≢ k → z ≢ k → IsSome (node_at new.slots k)
+        → IsSome (value_of (node_at new.slots k)) × (next_in new.slots k ≡ k) × (prev_in new.slots k ≡ k)
+    off_new put behind k other absent n_other p_other z_other node =
+        let was = ring.off_ring k other absent (sym (inserts.nodes k n_other) ∙ node) in (
+          rw (inserts.values k n_other) was.0,
+          put.other_next k (λ same. p_other (sym same)) n_other ∙ was.1,
+          put.other_prev k (λ same. z_other (behind ∙ sym same)) n_other ∙ was.2,
+        )
 
   -- the ring with n behind the sentinel
   ring_head : (old new : Slab (Node T)) (order : List ℕ) → IsRing old.slots order → IsSome (node_at old.slots 0) → (z n : ℕ) (value : T) → z ≡ next_in old.slots 0 → Inserts old new 0 z n value → IsRing new.slots (n ∷ order)
   ring_head old new order ring made z n value behind inserts =
       let first = first_of (next_in old.slots) (prev_in old.slots) (λ k. IsSome (node_at old.slots k)) 0 order 0 ring.chain (nodes_behind old.slots order ring.in_use) made in
-      let z_node : IsSome (node_at old.slots z) = rw behind first.1 in
-      let before : prev_in old.slots z ≡ 0 = rw behind first.0 in
+      let put = put_behind old new order ring made 0 z n value inserts made (rw behind first.1) behind (rw behind first.0) in
       let absent = n_absent old new order ring made 0 z n value inserts in
       let other : 0 ≢ n = not_new old new order ring made 0 z n value inserts 0 made in
       record {
-        chain = chain-push_head (next_in old.slots) (prev_in old.slots) (next_in new.slots) (prev_in new.slots) n 0
-            (after old new order ring made 0 z n value inserts made z_node behind before)
-            (p_next old new order ring made 0 z n value inserts made z_node behind before)
-            (n_next old new order ring made 0 z n value inserts made z_node behind before)
-            (n_prev old new order ring made 0 z n value inserts made z_node behind before)
-            (next_prev old new order ring made 0 z n value inserts made z_node behind before)
-            (other_next old new order ring made 0 z n value inserts made z_node behind before)
-            (other_prev old new order ring made 0 z n value inserts made z_node behind before)
-            order 0 ring.chain absent ring.distinct.0 ring.distinct.1 ring.distinct.0 other;
+        chain = chain-push_head (next_in old.slots) (prev_in old.slots) (next_in new.slots) (prev_in new.slots) 0 n put order 0 ring.chain absent ring.distinct.0 ring.distinct.1 ring.distinct.0 other;
         distinct = (((λ same. other (sym same)), ring.distinct.0), (absent, ring.distinct.1));
         in_use = (here old new order ring made 0 z n value inserts, in_use_new old new order ring made 0 z n value inserts);
         no_value = no_value_new old new order ring made 0 z n value inserts;
@@ -296,31 +277,21 @@ module _ {T : Type 0} where
         off_ring = λ k away off node.
             let from_start : 0 ≢ k = λ same. away (sym same) in
             let beside = first_of (next_in old.slots) (prev_in old.slots) (λ j. j ≢ k) 0 order 0 ring.chain (all_from_absent k order off.1) from_start in
-            off_new old new order ring made 0 z n value inserts made z_node behind before k away off.1 (λ same. off.0 (sym same)) from_start (λ same. beside.1 (sym behind ∙ same)) node;
+            off_new old new order ring made 0 z n value inserts put behind k away off.1 (λ same. off.0 (sym same)) from_start (λ same. beside.1 (sym behind ∙ same)) node;
       }
 
   -- the ring with n before the sentinel
   ring_tail : (old new : Slab (Node T)) (order : List ℕ) → IsRing old.slots order → IsSome (node_at old.slots 0) → (p n : ℕ) (value : T) → p ≡ prev_in old.slots 0 → Inserts old new p 0 n value → IsRing new.slots (order ++ n ∷ [])
-  ring_tail old new order ring made p n value before_is inserts =
+  ring_tail old new order ring made p n value before inserts =
       let last = last_of (next_in old.slots) (prev_in old.slots) (λ k. IsSome (node_at old.slots k)) 0 order 0 ring.chain made (nodes_behind old.slots order ring.in_use) in
-      let p_node : IsSome (node_at old.slots p) = rw before_is last.1 in
-      let ends : next_in old.slots p ≡ 0 = rw before_is last.0 in
-      let behind : 0 ≡ next_in old.slots p = sym ends in
-      let before : prev_in old.slots 0 ≡ p = sym before_is in
+      let ends : next_in old.slots p ≡ 0 = rw before last.0 in
+      let put = put_behind old new order ring made p 0 n value inserts (rw before last.1) made (sym ends) (sym before) in
       let absent = n_absent old new order ring made p 0 n value inserts in
       let other : 0 ≢ n = not_new old new order ring made p 0 n value inserts 0 made in
       let longer : IsChain (next_in new.slots) (prev_in new.slots) 0 (order ++ n ∷ []) (next_in old.slots p) =
-      chain-push_tail (next_in old.slots) (prev_in old.slots) (next_in new.slots) (prev_in new.slots) n p
-      (after old new order ring made p 0 n value inserts p_node made behind before)
-      (p_next old new order ring made p 0 n value inserts p_node made behind before)
-      (n_next old new order ring made p 0 n value inserts p_node made behind before)
-      (n_prev old new order ring made p 0 n value inserts p_node made behind before)
-      (next_prev old new order ring made p 0 n value inserts p_node made behind before)
-      (other_next old new order ring made p 0 n value inserts p_node made behind before)
-      (other_prev old new order ring made p 0 n value inserts p_node made behind before)
-      0 order
-      (subst (IsChain (next_in old.slots) (prev_in old.slots) 0 order) behind ring.chain)
-      (subst (λ z. IsAbsent z order) behind ring.distinct.0)
+      chain-push_tail (next_in old.slots) (prev_in old.slots) (next_in new.slots) (prev_in new.slots) p n put 0 order
+      (subst (IsChain (next_in old.slots) (prev_in old.slots) 0 order) (sym ends) ring.chain)
+      (subst (λ z. IsAbsent z order) (sym ends) ring.distinct.0)
       absent other in
       record {
         chain = subst (IsChain (next_in new.slots) (prev_in new.slots) 0 (order ++ n ∷ [])) ends longer;
@@ -332,7 +303,7 @@ module _ {T : Type 0} where
             let parts = absent_from_push k n order off in
             let from_start : 0 ≢ k = λ same. away (sym same) in
             let beside = last_of (next_in old.slots) (prev_in old.slots) (λ j. j ≢ k) 0 order 0 ring.chain from_start (all_from_absent k order parts.0) in
-            off_new old new order ring made p 0 n value inserts p_node made behind before k away parts.0 (λ same. parts.1 (sym same)) (λ same. beside.1 (sym before_is ∙ same)) from_start node;
+            off_new old new order ring made p 0 n value inserts put (sym ends) k away parts.0 (λ same. parts.1 (sym same)) (λ same. beside.1 (sym before ∙ same)) from_start node;
       }
 
   -- the value of the node under n was written

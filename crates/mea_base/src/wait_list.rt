@@ -12,8 +12,8 @@ use std::marker::Model;
 /// number until it is removed, so that its owner can still ask for it.
 ///
 /// Room is reserved before a value is pushed, so that no later call takes memory. The queue is a ring of
-/// links, so no call looks at more than three of its values. It stands for the internal `WaitList` of the
-/// crate `mea`.
+/// links, so that a call looks at a value and its neighbours, however long the queue is. It stands for the
+/// internal `WaitList` of the crate `mea`.
 #[derive(Drop)]
 pub struct WaitList<T> {
     // The values, and from the first reservation on the sentinel.
@@ -45,7 +45,6 @@ impl<T> Model for WaitList<T> {
     } };
 }
 
-#[tactic(auto)]
 impl<T> WaitList<T> {
     ghost use Rattle.mea_base.specs.WaitListLends.{lends_value};
 
