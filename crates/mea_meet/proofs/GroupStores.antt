@@ -86,13 +86,13 @@ module _ (a : Inside) (v : Part Groups) (seen : seen_in a ≡ v) where
       as_seen = sym (group_seen (store_in a) a.next g e there) ∙ ap (λ (p : Part Groups). group_at p.hall g) seen
 
       -- whether one more handle can be counted
-      pub full : (m : ℕ) → at a.handles.entries m ≡ Some g → (e.handles == 4294967295) ≡ is_full v.hall (get v.hall.handles m)
+      pub full : (m : ℕ) → at a.handles.entries m ≡ Some g → (e.core.count.number == 4294967295) ≡ is_full v.hall (get v.hall.handles m)
       full m handle =
-          ap (λ j. j == 4294967295) ((k.each g e there).known ∙ ap (λ (r : Count). r.number) as_seen)
+          ap (λ (r : Count). r.number == 4294967295) as_seen
           ∙ ap (is_full v.hall) (sym (handle-known m ∙ handle))
 
       pub fits : (m : ℕ) → at a.handles.entries m ≡ Some g → is_full v.hall (get v.hall.handles m) ≡ false → e.core.count.number ≡ 4294967295 → ⊥
-      fits m handle free = eqb-false e.core.count.number 4294967295 (ap (λ j. j == 4294967295) (sym (k.each g e there).known) ∙ full m handle ∙ free)
+      fits m handle free = eqb-false e.core.count.number 4294967295 (full m handle ∙ free)
 
       -- where there is room for all wakers of the hall, there is for those of a group
       pub room : (spare : ℕ) → registered v.hall ≤ spare → length e.core.count.waiting.wakers ≤ spare

@@ -151,7 +151,6 @@ module _ (st st' : Store) (next next' s a b f : ℕ) (e2 : ShutdownEntry) (oa : 
           let counted = total_elsewhere (λ (x : ReceiverEntry). x.shutdown) (λ x. cond x.watch 0 1) st.receivers st'.receivers b ob s q c.receivers c.receiver_was c.receiver_is apart in
           record {
             quiet = old.quiet;
-            known = old.known;
             counted = old.counted ∙ sym counted;
             things = old.things ∙ (λ j. sym senders j + sym receivers j + sym futures j);
             few = (let few = old.few in omega (arith, few, later));

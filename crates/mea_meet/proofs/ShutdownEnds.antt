@@ -133,7 +133,7 @@ module _ (st : Store) (ss' : FinMap nat_cmp ShutdownEntry) (rs' : FinMap nat_cmp
       (counted : (y : ReceiverEntry) → ob ≡ Some y → y.plain ≡ borrowers_in after b) (few : (y : ReceiverEntry) → ob ≡ Some y → y.plain ≤ i + 1) (below : (y : ReceiverEntry) → ob ≡ Some y → b < i + 1)
       (lends : (q : ℕ) → (b ≡ q → ⊥) → ◌≡◌ {A = ℕ} (cond (borrows (awaits_of x.wait) q) 1 0) 0) where
     entry : IsKeptEntry after (i + 1) s less_entry
-    entry = entry_after st after next i s i b f less_entry None ob None k changes e there less (k.each s e there).quiet (k.each s e there).known
+    entry = entry_after st after next i s i b f less_entry None ob None k changes e there less (k.each s e there).quiet
         (ap (λ n. e.core.receivers.number + n) counts_same)
         (let senders : weight (λ q (p : ℕ). cond (p == s) 1 0) i (get st.senders i) ≡ 0 = ap (weight (λ q (p : ℕ). cond (p == s) 1 0) i) (no-sender st next i k less) in
         let mine : weight (λ q (y : ShutdownWaitEntry). cond (y.shutdown == s) 1 0) f (get st.waits f) ≡ cond (s == s) 1 0 = ap (weight (λ q (y : ShutdownWaitEntry). cond (y.shutdown == s) 1 0) f) is in

@@ -45,7 +45,7 @@ module _ (st : Store) (next s : ℕ) (k : IsKept st next) (none : get st.shutdow
 
 -- what is kept of a shutdown that was made
 abbrev pub made : ShutdownEntry
-made = record { core = record { signal = count_from 1; receivers = count_from 1; wakes = [] }; receivers = 1; things = 2 }
+made = record { core = record { signal = count_from 1; receivers = count_from 1; wakes = [] }; things = 2 }
 
 module _ (st : Store) (ss' : FinMap nat_cmp ShutdownEntry) (ks' : FinMap nat_cmp ℕ) (rs' : FinMap nat_cmp ReceiverEntry) (next i : ℕ) (k : IsKept st next) (less : next ≤ i) (low : i < 2 ^ 64)
     (shutdowns : Puts st.shutdowns ss' i (Some made)) (senders : Puts st.senders ks' i (Some i)) (receivers : Puts st.receivers rs' i (Some (record { shutdown = i; watch = false; plain = 0 }))) where
@@ -75,7 +75,6 @@ module _ (st : Store) (ss' : FinMap nat_cmp ShutdownEntry) (ks' : FinMap nat_cmp
   entry : IsKeptEntry after (i + 1) i made
   entry = record {
     quiet = refl;
-    known = refl;
     counted = (
         let all = total_puts st.receivers rs' i (λ q (x : ReceiverEntry). counting i x) (Some first) receivers in
         let before : weight (λ q (x : ReceiverEntry). counting i x) i (get st.receivers i) ≡ 0 = ap (weight (λ q (x : ReceiverEntry). counting i x) i) (no-receiver st next i k less) in

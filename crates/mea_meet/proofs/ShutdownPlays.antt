@@ -112,11 +112,11 @@ module _ (st : Store) (ss' : FinMap nat_cmp ShutdownEntry) (ks' : FinMap nat_cmp
     wait_is = belongs-none (λ x. x.shutdown) s None refl;
   }
 
-  pub sender_kept : e2.core.wakes ≡ [] → e2.receivers ≡ e2.core.receivers.number → e2.core.receivers.number ≡ e.core.receivers.number
+  pub sender_kept : e2.core.wakes ≡ [] → e2.core.receivers.number ≡ e.core.receivers.number
       → e2.things + weight (λ q (p : ℕ). cond (p == s) 1 0) a (get st.senders a) ≡ e.things + weight (λ q (p : ℕ). cond (p == s) 1 0) a oa → e2.things ≤ e.things + 1
       → ((end : End) → AreGiven (slots_of end st.waits) s (count_at end e2.core).waiting) → ((p : ℕ) → oa ≡ Some p → a < i + 1) → IsKept by_sender (i + 1)
-  sender_kept quiet known number things few given_still below = kept_all st by_sender next i s a i e2 oa None k less sender_changes low
-      (entry_after st by_sender next i s a i i e2 oa None None k sender_changes e there less quiet known
+  sender_kept quiet number things few given_still below = kept_all st by_sender next i s a i e2 oa None k less sender_changes low
+      (entry_after st by_sender next i s a i i e2 oa None None k sender_changes e there less quiet
       (let none : weight (λ q (x : ReceiverEntry). counting s x) i (get st.receivers i) ≡ 0 = ap (weight (λ q (x : ReceiverEntry). counting s x) i) (no-receiver st next i k less) in omega (arith, number, none))
       (let receivers : weight (λ q (x : ReceiverEntry). cond (x.shutdown == s) 1 0) i (get st.receivers i) ≡ 0 = ap (weight (λ q (x : ReceiverEntry). cond (x.shutdown == s) 1 0) i) (no-receiver st next i k less) in
       let futures : weight (λ q (x : ShutdownWaitEntry). cond (x.shutdown == s) 1 0) i (get st.waits i) ≡ 0 = ap (weight (λ q (x : ShutdownWaitEntry). cond (x.shutdown == s) 1 0) i) (no-wait st next i k less) in
@@ -153,7 +153,7 @@ module _ (st : Store) (ss' : FinMap nat_cmp ShutdownEntry) (ks' : FinMap nat_cmp
 
   pub copy_sender_goes : Goes st (record { shutdowns = ss'; senders = ks'; receivers = st.receivers; waits = st.waits }) next i (record (hall_of st next) { senders = insert (hall_of st next).senders i s })
   copy_sender_goes = record {
-    kept = sender_kept st ss' ks' next i s i e e2 (Some s) k less low there shutdowns senders was is (k.each s e there).quiet (k.each s e there).known refl
+    kept = sender_kept st ss' ks' next i s i e e2 (Some s) k less low there shutdowns senders was is (k.each s e there).quiet refl
         (let none : weight (λ q (p : ℕ). cond (p == s) 1 0) i (get st.senders i) ≡ 0 = ap (weight (λ q (p : ℕ). cond (p == s) 1 0) i) (no-sender st next i k less) in
         let one : ◌≡◌ {A = ℕ} (cond (s == s) 1 0) 1 = at_same s s 1 0 refl in
         omega (arith, none, one))
@@ -189,7 +189,7 @@ module _ (st : Store) (ss' : FinMap nat_cmp ShutdownEntry) (ks' : FinMap nat_cmp
 
   pub remove_sender_goes : Goes st (record { shutdowns = ss'; senders = ks'; receivers = st.receivers; waits = st.waits }) next i (record (hall_of st next) { senders = remove (hall_of st next).senders a })
   remove_sender_goes = record {
-    kept = sender_kept st ss' ks' next i s a e less_sender None k less low there shutdowns senders sender_of sender_gone (k.each s e there).quiet (k.each s e there).known refl
+    kept = sender_kept st ss' ks' next i s a e less_sender None k less low there shutdowns senders sender_of sender_gone (k.each s e there).quiet refl
         (let counted = sender_counted st next a s e k there sender in
         let one : ◌≡◌ {A = ℕ} (cond (s == s) 1 0) 1 = at_same s s 1 0 refl in
         let was : weight (λ q (p : ℕ). cond (p == s) 1 0) a (get st.senders a) ≡ cond (s == s) 1 0 = ap (weight (λ q (p : ℕ). cond (p == s) 1 0) a) sender in
@@ -226,7 +226,7 @@ module _ (st : Store) (ss' : FinMap nat_cmp ShutdownEntry) (next i s : ℕ) (e :
   pub signal_wakes : Wakes st (record { shutdowns = ss'; senders = st.senders; receivers = st.receivers; waits = st.waits }) next i
       (record (hall_of st next) { shutdowns = insert (hall_of st next).shutdowns s (record (shutdown_at (hall_of st next) s) { signal = model.decreased (shutdown_at (hall_of st next) s).signal 1 }) }) (woken_by e.core.signal 1)
   signal_wakes = record {
-    kept = sender_kept st ss' st.senders next i s i e signalled None k less low there shutdowns same_senders no_sender_there no_sender_new (k.each s e there).quiet (k.each s e there).known refl
+    kept = sender_kept st ss' st.senders next i s i e signalled None k less low there shutdowns same_senders no_sender_there no_sender_new (k.each s e there).quiet refl
         (let none : weight (λ q (p : ℕ). cond (p == s) 1 0) i (get st.senders i) ≡ 0 = ap (weight (λ q (p : ℕ). cond (p == s) 1 0) i) (no-sender st next i k less) in omega (arith, none))
         (omega arith) given_signalled (λ p none. absurd (cc));
     moved = λ j. record {
@@ -259,7 +259,7 @@ module _ (st : Store) (next i s : ℕ) (e : ShutdownEntry) (k : IsKept st next) 
       let is = belongs-none {X = ℕ} (λ p. p) s None refl in
       let same = puts_same st.senders i None (no-sender st next i k less) in
       record {
-        kept = sender_kept st st.shutdowns st.senders next i s i e e None k less low there same_shutdowns same was is (k.each s e there).quiet (k.each s e there).known refl
+        kept = sender_kept st st.shutdowns st.senders next i s i e e None k less low there same_shutdowns same was is (k.each s e there).quiet refl
             (let none : weight (λ q (p : ℕ). cond (p == s) 1 0) i (get st.senders i) ≡ 0 = ap (weight (λ q (p : ℕ). cond (p == s) 1 0) i) (no-sender st next i k less) in omega (arith, none))
             (omega arith) (k.each s e there).given (λ p none. absurd (cc));
         moved = λ j. record {

@@ -164,7 +164,6 @@ module _ (st : Store) (ss' : FinMap nat_cmp ShutdownEntry) (ws' : FinMap nat_cmp
   -- ---- what is kept
   entry : IsKeptEntry after (i + 1) s e2
   entry = entry_after st after next i s i i f e2 None None (Some waiting) k changes e there less (polled-quiet e x.wait v ∙ (k.each s e there).quiet)
-      ((k.each s e there).known ∙ sym (polled-number e x.wait v))
       (let same = polled-number e x.wait v in
       let none : weight (λ q (y : ReceiverEntry). counting s y) i (get st.receivers i) ≡ 0 = ap (weight (λ q (y : ReceiverEntry). counting s y) i) (no-receiver st next i k less) in
       omega (arith, same, none))

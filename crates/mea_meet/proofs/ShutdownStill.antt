@@ -44,12 +44,12 @@ borrows-nothing st q g y none is lent =
 
 module _ (st st' : Store) (next i s a b f : ℕ) (e2 : ShutdownEntry) (oa : Option ℕ) (ob : Option ReceiverEntry) (ow : Option ShutdownWaitEntry) (k : IsKept st next) (c : Changes st st' s a b f e2 oa ob ow) where
   -- the entry of s after the change
-  pub entry_after : (e : ShutdownEntry) → get st.shutdowns s ≡ Some e → next ≤ i → e2.core.wakes ≡ [] → e2.receivers ≡ e2.core.receivers.number
+  pub entry_after : (e : ShutdownEntry) → get st.shutdowns s ≡ Some e → next ≤ i → e2.core.wakes ≡ []
       → e2.core.receivers.number + weight (λ q (x : ReceiverEntry). counting s x) b (get st.receivers b) ≡ e.core.receivers.number + weight (λ q (x : ReceiverEntry). counting s x) b ob
       → e2.things + (weight (λ q (p : ℕ). cond (p == s) 1 0) a (get st.senders a) + weight (λ q (x : ReceiverEntry). cond (x.shutdown == s) 1 0) b (get st.receivers b) + weight (λ q (x : ShutdownWaitEntry). cond (x.shutdown == s) 1 0) f (get st.waits f))
       ≡ e.things + (weight (λ q (p : ℕ). cond (p == s) 1 0) a oa + weight (λ q (x : ReceiverEntry). cond (x.shutdown == s) 1 0) b ob + weight (λ q (x : ShutdownWaitEntry). cond (x.shutdown == s) 1 0) f ow)
       → e2.things ≤ e.things + 1 → ((end : End) → AreGiven (slots_of end st'.waits) s (count_at end e2.core).waiting) → IsKeptEntry st' (i + 1) s e2
-  entry_after e there less quiet known counted things few given =
+  entry_after e there less quiet counted things few given =
       let old = k.each s e there in
       let count = total_puts st.receivers st'.receivers b (λ q (x : ReceiverEntry). counting s x) ob c.receivers in
       let senders = total_puts st.senders st'.senders a (λ q (p : ℕ). cond (p == s) 1 0) oa c.senders in
@@ -61,7 +61,6 @@ module _ (st st' : Store) (next i s a b f : ℕ) (e2 : ShutdownEntry) (oa : Opti
       let old_below = old.below in
       record {
         quiet = quiet;
-        known = known;
         counted = omega (arith, count, counted, old_count);
         things = omega (arith, senders, receivers, futures, things, old_things);
         few = omega (arith, few, old_few, less);

@@ -59,7 +59,7 @@ module _ (st : Store) (next s : ℕ) (e : ShutdownEntry) (k : IsKept st next) (t
     pub tidy_kept : IsKept st' next
     tidy_kept = record {
       each = by_put st.shutdowns ss' s None gone (λ q d. IsKeptEntry st' next q d) (λ d is. absurd (cc))
-          (λ q d apart is. let old = k.each q d is in record { quiet = old.quiet; known = old.known; counted = old.counted; things = old.things; few = old.few; given = old.given; below = old.below });
+          (λ q d apart is. let old = k.each q d is in record { quiet = old.quiet; counted = old.counted; things = old.things; few = old.few; given = old.given; below = old.below });
       sender = λ a p is. let old = k.sender a p is in record { there = there_still p old.there (sender_apart a p is); below = old.below };
       receiver = λ b x is. let old = k.receiver b x is in record { there = there_still x.shutdown old.there (receiver_apart b x is); counted = old.counted; few = old.few; below = old.below };
       wait = λ f x is. let old = k.wait f x is in record { there = there_still x.shutdown old.there (wait_apart f x is); borrowed = old.borrowed; below = old.below };

@@ -84,7 +84,7 @@ module _ (st : Store) (ss' : FinMap nat_cmp ShutdownEntry) (rs' : FinMap nat_cmp
   named end = still_named st after next i s i r i new_entry None (Some lent) (Some new_wait) k changes later (omega arith) was_unplaced (unplaced s (cond plain (Some r) None)) end
 
   entry : IsKeptEntry after (i + 1) s new_entry
-  entry = entry_after st after next i s i r i new_entry None (Some lent) (Some new_wait) k changes e there less (k.each s e there).quiet (k.each s e there).known
+  entry = entry_after st after next i s i r i new_entry None (Some lent) (Some new_wait) k changes e there less (k.each s e there).quiet
       (ap (λ o. e.core.receivers.number + weight (λ q (y : ReceiverEntry). counting s y) r o) receiver)
       (let senders : weight (λ q (p : ℕ). cond (p == s) 1 0) i (get st.senders i) ≡ 0 = ap (weight (λ q (p : ℕ). cond (p == s) 1 0) i) (no-sender st next i k less) in
       let before : weight (λ q (y : ReceiverEntry). cond (y.shutdown == s) 1 0) r (get st.receivers r) ≡ cond (x.shutdown == s) 1 0 = ap (weight (λ q (y : ReceiverEntry). cond (y.shutdown == s) 1 0) r) receiver in
@@ -168,7 +168,7 @@ module _ (st : Store) (ks' : FinMap nat_cmp ℕ) (ws' : FinMap nat_cmp ShutdownW
   all_named end = still_named st awaiting next i s a i i e None None (Some the_wait) k awaits rises (omega arith) unplaced_before (unplaced_still s) end
 
   its_entry : IsKeptEntry awaiting (i + 1) s e
-  its_entry = entry_after st awaiting next i s a i i e None None (Some the_wait) k awaits e there less (k.each s e there).quiet (k.each s e there).known
+  its_entry = entry_after st awaiting next i s a i i e None None (Some the_wait) k awaits e there less (k.each s e there).quiet
       (ap (λ o. e.core.receivers.number + weight (λ q (y : ReceiverEntry). counting s y) i o) (no-receiver st next i k less))
       (let before : weight (λ q (p : ℕ). cond (p == s) 1 0) a (get st.senders a) ≡ cond (s == s) 1 0 = ap (weight (λ q (p : ℕ). cond (p == s) 1 0) a) sender in
       let none : weight (λ q (y : ReceiverEntry). cond (y.shutdown == s) 1 0) i (get st.receivers i) ≡ 0 = ap (weight (λ q (y : ReceiverEntry). cond (y.shutdown == s) 1 0) i) (no-receiver st next i k less) in

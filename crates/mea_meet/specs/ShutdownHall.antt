@@ -135,7 +135,6 @@ borrowers_in st k = total (λ f (x : ShutdownWaitEntry). cond (borrows (awaits_o
 pub record IsKeptEntry (st : Store) (next s : ℕ) (e : ShutdownEntry) : Type 0 where
   -- its wakers are handed on after each event
   pub quiet : e.core.wakes ≡ []
-  pub known : e.receivers ≡ e.core.receivers.number
   pub counted : e.core.receivers.number ≡ total (λ k (x : ReceiverEntry). counting s x) st.receivers
   pub things : e.things ≡ senders_in st s + receivers_in st s + waits_in st s
   -- an event makes one thing, but that which makes the shutdown two

@@ -23,8 +23,6 @@ use std::marker::Model;
 #[derive(Drop)]
 pub struct ShutdownEntry {
     pub core: ShutdownCore<u64>,
-    // How many receivers its core counts.
-    pub receivers: u32,
     // How many senders, receivers, watches and futures it has.
     pub things: u128,
 }
@@ -199,35 +197,32 @@ impl ShutdownEntry {
 
     /// Counts one receiver more, or one watch.
     pub fn add_receiver(&mut self, watch: bool)
-        requires known { self.old.receivers ≡ self.old.core.receivers.number }
         requires few { self.old.things + 1 < 2 ^ 128 }
         requires live { watch ≡ false → 0 < self.old.core.receivers.number }
         requires fits { watch ≡ false → self.old.core.receivers.number ≢ 4294967295 }
-        ensures { self.new ≡ record { core = cond watch self.old.core (record self.old.core { receivers = increased self.old.core.receivers }); receivers = self.old.receivers + cond watch 0 1; things = self.old.things + 1 } }
+        ensures { self.new ≡ record { core = cond watch self.old.core (record self.old.core { receivers = increased self.old.core.receivers }); things = self.old.things + 1 } }
     {
         self.things += 1;
         if !watch {
             match self.core.add_receiver() {
                 Err(_) => unreachable!(),
-                Ok(()) => self.receivers += 1,
+                Ok(()) => {}
             }
         }
     }
 
     /// Counts one receiver less, or one watch, and hands the wakers on.
     pub fn end_receiver(&mut self, watch: bool, ready: &mut Ready<u64>)
-        requires known { self.old.receivers ≡ self.old.core.receivers.number }
         requires quiet { self.old.core.wakes ≡ [] }
         requires some { 1 ≤ self.old.things }
         requires live { watch ≡ false → 0 < self.old.core.receivers.number }
         requires room { length self.old.core.receivers.waiting.wakers ≤ ready.old.registered }
-        ensures is { self.new ≡ record { core = cond watch self.old.core (record self.old.core { receivers = decreased self.old.core.receivers 1 }); receivers = self.old.receivers - cond watch 0 1; things = self.old.things - 1 } }
+        ensures is { self.new ≡ record { core = cond watch self.old.core (record self.old.core { receivers = decreased self.old.core.receivers 1 }); things = self.old.things - 1 } }
         ensures woken { ready.new.wakers ≡ ready.old.wakers ++ cond watch [] (woken_by self.old.core.receivers 1) }
         ensures counted { ready.new.registered + length (cond watch [] (woken_by self.old.core.receivers 1)) ≡ ready.old.registered }
     {
         self.things -= 1;
         if !watch {
-            self.receivers -= 1;
             self.core.end_receiver();
             hand_on_shutdown(&mut self.core, ready);
         }
@@ -320,7 +315,7 @@ impl ShutdownHall {
         let Some(entry) = self.shutdowns.get(&receiver.shutdown) else {
             unreachable!()
         };
-        !receiver.watch && entry.receivers == u32::MAX
+        !receiver.watch && entry.core.receivers() == u32::MAX
     }
 
     /// Whether a plain future borrows the receiver or watch.
@@ -368,7 +363,6 @@ impl ShutdownHall {
         }
         let entry = ShutdownEntry {
             core: ShutdownCore::new(self.alloc),
-            receivers: 1,
             things: 2,
         };
         match self.shutdowns.insert(number, entry) {

@@ -40,13 +40,13 @@ returns-in-Err-insert-2-clause-err c =
 pub invariant_of-self-in-Ok-insert-2 : goal.invariant_of-self-in-Ok-insert-2
 invariant_of-self-in-Ok-insert-2 c =
     (make_goes (kept_in c.self.inside) _ _ _ c.self.inside.next c.args.number c.self.invariant (rw (← c.self.view_is) at c.requires) (omega arith)
-    (kept-puts-as c.self.inside.shutdowns.entries _ c.args.number (record { core = c.new.result; receivers = 1; things = 2 }) _ c.in-Ok-insert-2.ensures.updates.0 (λ j. record { core = c.new.ensures j; receivers = 1; things = 2 }))
+    (kept-puts-as c.self.inside.shutdowns.entries _ c.args.number (record { core = c.new.result; things = 2 }) _ c.in-Ok-insert-2.ensures.updates.0 (λ j. record { core = c.new.ensures j; things = 2 }))
     (kept-puts c.self.inside.senders.entries _ c.args.number (Some c.args.number) c.in-Ok.ensures.updates.0)
     (kept-puts c.self.inside.receivers.entries _ c.args.number (Some (record { shutdown = c.args.number; watch = false; plain = 0 })) c.in-Ok-insert.ensures.updates.0)).kept
 
 pub returns-clause-rests : goal.returns-clause-rests
 returns-clause-rests c =
     rw (← c.self.view_is) (rests (kept_in c.self.inside) _ c.self.inside.next c.args.number _ _ answers.Made (make_goes (kept_in c.self.inside) _ _ _ c.self.inside.next c.args.number c.self.invariant (rw (← c.self.view_is) at c.requires) (omega arith)
-    (kept-puts-as c.self.inside.shutdowns.entries _ c.args.number (record { core = c.new.result; receivers = 1; things = 2 }) _ c.in-Ok-insert-2.ensures.updates.0 (λ j. record { core = c.new.ensures j; receivers = 1; things = 2 }))
+    (kept-puts-as c.self.inside.shutdowns.entries _ c.args.number (record { core = c.new.result; things = 2 }) _ c.in-Ok-insert-2.ensures.updates.0 (λ j. record { core = c.new.ensures j; things = 2 }))
     (kept-puts c.self.inside.senders.entries _ c.args.number (Some c.args.number) c.in-Ok.ensures.updates.0)
     (kept-puts c.self.inside.receivers.entries _ c.args.number (Some (record { shutdown = c.args.number; watch = false; plain = 0 })) c.in-Ok-insert.ensures.updates.0)) refl)
