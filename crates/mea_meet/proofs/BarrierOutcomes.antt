@@ -17,13 +17,14 @@ use Rattle.mea_meet_core.specs.declared.barrier_wait.BarrierWait.TheVariants.{Ne
 use Rattle.mea_meet_model.specs.Waiting.{registering, ending, wakers}
 use Rattle.mea_meet_model.specs.Barriers as model
 use Rattle.mea_meet_model.specs.Barriers.{Barrier, BarrierWait, Barriers, barrier_at, registered}
+use Rattle.mea_meet.specs.Entries.{ChangesAt}
 use Rattle.mea_meet.specs.Play.{Part}
 use Rattle.mea_meet.specs.BarrierHall.{Store, store_of, slot_of, round_of, slots_of, barrier_of, wait_of, barriers_of, IsKept, Turn, leading_turn, joining_turn, ready_turn, waiting_turn, turn_of, Turns}
 use Rattle.mea_meet.specs.declared.barriers.BarrierEntry.{BarrierEntry}
 use Rattle.mea_meet.specs.declared.barriers.BarrierWaitEntry.{BarrierWaitEntry}
 use Rattle.mea_meet.specs.declared.barriers.BarrierHall.TheInside.{Inside}
 use Rattle.mea_meet.proofs.Names.{waiting-wakers, given-drained}
-use Rattle.mea_meet.proofs.Maps.{ChangesAt, Puts, kept-at, kept-puts, seen-some, insert_same}
+use Rattle.mea_meet.proofs.Maps.{Puts, kept-at, kept-puts, seen-some, insert_same}
 use Rattle.mea_meet.proofs.BarrierChanges.{later_round, home_open, kept_after, registered_after, barrier_seen, waits_within}
 use Rattle.mea_meet.proofs.BarrierPlays.{Rested, Played, store_in, seen_in, IsKeptIn, registers, hall_registering, leaves, hall_ending, hall_led}
 use Rattle.mea_meet.proofs.Plays.{rests_by, yields_by}

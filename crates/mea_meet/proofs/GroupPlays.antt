@@ -19,6 +19,7 @@ use Rattle.mea_meet_model.specs.Count as counts
 use Rattle.mea_meet_model.specs.Count.{Count}
 use Rattle.mea_meet_model.specs.Groups as model
 use Rattle.mea_meet_model.specs.Groups.{Groups, group_at, tidied, registered}
+use Rattle.mea_meet.specs.Entries.{ChangesAt}
 use Rattle.mea_meet.specs.Names.{waiting_at, AreNamed, AreGiven}
 use Rattle.mea_meet.specs.Play.{Part}
 use Rattle.mea_meet.specs.GroupHall.{Store, store_of, slots_of, count_of, groups_of, IsKept, left, left_at, is_used, wakers_left, Registers}
@@ -26,7 +27,7 @@ use Rattle.mea_meet.specs.declared.groups.GroupEntry.{GroupEntry}
 use Rattle.mea_meet.specs.declared.groups.GroupWaitEntry.{GroupWaitEntry}
 use Rattle.mea_meet.specs.declared.groups.GroupHall.TheInside.{Inside}
 use Rattle.mea_meet.proofs.Names.{waiting-registers, waiting-ends, named-later, named-new, named-registers, named-ends, given-registers}
-use Rattle.mea_meet.proofs.Maps.{ChangesAt, Puts, by_name, kept-at, kept-puts, changes_twice, insert_same, seen-some, seen_put, seen_gone, puts_same, is_insert, is_remove, none_if, changed_at, some_if, if_some, found}
+use Rattle.mea_meet.proofs.Maps.{Puts, by_name, kept-at, kept-puts, changes_twice, insert_same, seen-some, seen_put, seen_gone, puts_same, is_insert, is_remove, none_if, changed_at, some_if, if_some, found}
 use Rattle.mea_meet.proofs.GroupChanges.{Changes, slot_entry, are_given, used_left, kept_after, hall_used, hall_tidied, registered_after, group_seen, waits_within, handles_within}
 use Rattle.mea_meet.proofs.Slots.{slot_owner, slots_there, slots_other, IsApart, apart_unplaced, waiting_beside, given_beside, waiting_later}
 use Rattle.mea_meet.proofs.Counts.{decreased-seen, woken-seen, given-decreased, woken-all}
@@ -65,7 +66,7 @@ module _ (old mid : List (ℕ × GroupEntry)) (g : ℕ) (d : GroupEntry) (writes
   written : at mid g ≡ Some d
   written = changed_at old mid g (Some d) writes
 
-  pub tidied_at : (new : List (ℕ × GroupEntry)) → ((q : ℕ) → at new q ≡ cond (is_at (nat_cmp g) q) (left_at (at mid g)) (at mid q)) → ChangesAt old new g (left d)
+  pub tidied_at : (new : List (ℕ × GroupEntry)) → ChangesAt mid new g (left_at (at mid g)) → ChangesAt old new g (left d)
   tidied_at new tidies = changes_twice old mid new g (Some d) (left d) writes (λ q. tidies q ∙ ap (λ o. cond (is_at (nat_cmp g) q) (left_at o) (at mid q)) written)
 
   pub tidied_if : (P : GroupEntry → Type 0) → IfSome (at mid g) P → P d

@@ -17,9 +17,10 @@ use Rattle.mea_meet_core.specs.Count.{tried}
 use Rattle.mea_meet_model.specs.Count.{with_waker}
 use Rattle.mea_meet_model.specs.Latches as model
 use Rattle.mea_meet_model.specs.Latches.{Latch, Latches, registered}
+use Rattle.mea_meet.specs.Entries.{ChangesAt}
 use Rattle.mea_meet.specs.Play.{Part}
 use Rattle.mea_meet.specs.StandsFor.{StandsForCount, StandsForLatch}
-use Rattle.mea_meet.specs.LatchHall.{Store, store_of, slot_of, slots_of, latch_of, latches_of, wait_of, IsKeptEntry, IsKept, ChangesAt, begun, ended, tidied, let_go, PollsIn, EndsIn, HasFuture, IsPollable, IsEndable}
+use Rattle.mea_meet.specs.LatchHall.{Store, store_of, slot_of, slots_of, latch_of, latches_of, wait_of, IsKeptEntry, IsKept, begun, ended, tidied, let_go, PollsIn, EndsIn, HasFuture, IsPollable, IsEndable}
 use Rattle.mea_meet.specs.declared.latches.LatchEntry.{LatchEntry}
 use Rattle.mea_meet.specs.declared.latches.LatchWaitEntry.{LatchWaitEntry}
 use Rattle.mea_meet.proofs.Names.{waiting-wakers}

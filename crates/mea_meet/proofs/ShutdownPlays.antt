@@ -10,12 +10,12 @@ use Rattle.mea_base.specs.declared.answer.Answer.{Answer}
 use Rattle.mea_sets.specs.Countdown.{decreased, woken_by}
 use Rattle.mea_meet_model.specs.Count as model
 use Rattle.mea_meet_model.specs.Shutdowns.{Shutdown, Shutdowns, shutdown_at, borrows, registered}
-use Rattle.mea_meet.specs.Names.{AreNamed, AreGiven}
+use Rattle.mea_meet.specs.Names.{AreNamed, AreGiven, count_seen}
 use Rattle.mea_meet.specs.Play.{Rests, Yields}
 use Rattle.mea_meet.specs.declared.shutdowns.ShutdownEntry.{ShutdownEntry}
 use Rattle.mea_meet.specs.declared.shutdowns.ReceiverEntry.{ReceiverEntry}
 use Rattle.mea_meet.specs.declared.shutdowns.ShutdownWaitEntry.{ShutdownWaitEntry}
-use Rattle.mea_meet.specs.ShutdownHall.{Store, End, OfSignal, OfReceivers, awaits_of, wait_of, count_at, slot_in, slots_of, count_of, shutdown_of, hall_of, counting, borrowers_in, is_of, IsKeptEntry, IsKept}
+use Rattle.mea_meet.specs.ShutdownHall.{Store, End, OfSignal, OfReceivers, awaits_of, wait_of, count_at, slot_in, slots_of, shutdown_of, hall_of, counting, borrowers_in, is_of, IsKeptEntry, IsKept}
 use Rattle.mea_meet.proofs.Maps.{Puts, Belongs, puts_same, puts_seen, is_same, is_insert, is_remove, weight-within, belongs-none, belongs-some, at_same}
 use Rattle.mea_meet.proofs.ShutdownChanges.{Changes, Unplaced, kept_after, registered_after, wakers_at}
 use Rattle.mea_meet.proofs.Counts.{decreased-seen, woken-seen, given-decreased, woken-all}
@@ -242,7 +242,7 @@ module _ (st : Store) (ss' : FinMap nat_cmp ShutdownEntry) (next i s : ℕ) (e :
   }
     where
       signal_seen : shutdown_of st.waits next s signalled ≡ record (shutdown_at (hall_of st next) s) { signal = model.decreased (shutdown_at (hall_of st next) s).signal 1 }
-      signal_seen = (λ j. record { signal = decreased-seen (slots_of OfSignal st.waits) next s e.core.signal 1 refl j; receivers = count_of (slots_of OfReceivers st.waits) next s e.core.receivers })
+      signal_seen = (λ j. record { signal = decreased-seen (slots_of OfSignal st.waits) next s e.core.signal 1 refl j; receivers = count_seen (slots_of OfReceivers st.waits) next s e.core.receivers })
           ∙ ap (λ (r : Shutdown). record r { signal = model.decreased r.signal 1 }) (sym (shutdown-at st next s e there))
 
 pub signal_woken : (st : Store) (next s : ℕ) (e : ShutdownEntry) → get st.shutdowns s ≡ Some e → model.woken_by (shutdown_at (hall_of st next) s).signal 1 ≡ woken_by e.core.signal 1

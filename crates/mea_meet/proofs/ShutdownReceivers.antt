@@ -9,11 +9,11 @@ use Rattle.mea_sets.specs.Countdown.{decreased, woken_by}
 use Rattle.mea_meet_core.specs.Count.{increased}
 use Rattle.mea_meet_model.specs.Count as model
 use Rattle.mea_meet_model.specs.Shutdowns.{Shutdown, Shutdowns, Receiver, ShutdownWait, shutdown_at, copied, registered}
-use Rattle.mea_meet.specs.Names.{AreGiven}
+use Rattle.mea_meet.specs.Names.{AreGiven, count_seen}
 use Rattle.mea_meet.specs.declared.shutdowns.ShutdownEntry.{ShutdownEntry}
 use Rattle.mea_meet.specs.declared.shutdowns.ReceiverEntry.{ReceiverEntry}
 use Rattle.mea_meet.specs.declared.shutdowns.ShutdownWaitEntry.{ShutdownWaitEntry}
-use Rattle.mea_meet.specs.ShutdownHall.{Store, End, OfSignal, OfReceivers, count_at, slots_of, count_of, shutdown_of, receiver_of, hall_of, counting, borrowers_in, without_receiver, woken_at_end, is_full, IsKept}
+use Rattle.mea_meet.specs.ShutdownHall.{Store, End, OfSignal, OfReceivers, count_at, slots_of, shutdown_of, receiver_of, hall_of, counting, borrowers_in, without_receiver, woken_at_end, is_full, IsKept}
 use Rattle.mea_meet.proofs.Maps.{Puts, Belongs, puts_same, puts_seen, is_same, is_insert, is_remove, belongs-none, belongs-some, inside, weight-within, some_found, at_same}
 use Rattle.mea_meet.proofs.ShutdownChanges.{Changes, wakers_at}
 use Rattle.mea_meet.proofs.ShutdownSeen.{shutdown-at, shutdown-there, receiver-seen}
@@ -190,7 +190,7 @@ module _ (st : Store) (ss' : FinMap nat_cmp ShutdownEntry) (rs' : FinMap nat_cmp
   lessened_given false OfReceivers = given-decreased (slots_of OfReceivers st.waits) next s e.core.receivers 1 ((k.each s e there).given OfReceivers)
 
   lessened_seen : shutdown_of st.waits next s (lessened e false) ≡ record (shutdown_at h_before s) { receivers = model.decreased (shutdown_at h_before s).receivers 1 }
-  lessened_seen = (λ j. record { signal = count_of (slots_of OfSignal st.waits) next s e.core.signal; receivers = decreased-seen (slots_of OfReceivers st.waits) next s e.core.receivers 1 refl j })
+  lessened_seen = (λ j. record { signal = count_seen (slots_of OfSignal st.waits) next s e.core.signal; receivers = decreased-seen (slots_of OfReceivers st.waits) next s e.core.receivers 1 refl j })
       ∙ ap (λ (r : Shutdown). record r { receivers = model.decreased r.receivers 1 }) (sym (shutdown-at st next s e there))
 
   lessened_at : (w : Bool) (ss2 : FinMap nat_cmp Shutdown) (rs2 : FinMap nat_cmp Receiver) (ws2 : FinMap nat_cmp ShutdownWait) → Puts h_before.shutdowns ss2 s (Some (shutdown_of st.waits next s (lessened e w))) → rs2 ≡ remove h_before.receivers b → ws2 ≡ h_before.waits

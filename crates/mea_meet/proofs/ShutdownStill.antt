@@ -6,11 +6,11 @@ use Rattle.mea_base.proofs.Totals.{total-zero}
 use Rattle.mea_sets.specs.WaitSet.{Registered}
 use Rattle.mea_sets.specs.Countdown as counts
 use Rattle.mea_meet_model.specs.Shutdowns.{borrows}
-use Rattle.mea_meet.specs.Names.{AreNamed, AreGiven}
+use Rattle.mea_meet.specs.Names.{AreNamed, AreGiven, count_seen}
 use Rattle.mea_meet.specs.declared.shutdowns.ShutdownEntry.{ShutdownEntry}
 use Rattle.mea_meet.specs.declared.shutdowns.ReceiverEntry.{ReceiverEntry}
 use Rattle.mea_meet.specs.declared.shutdowns.ShutdownWaitEntry.{ShutdownWaitEntry}
-use Rattle.mea_meet.specs.ShutdownHall.{Store, End, OfSignal, OfReceivers, awaits_of, count_at, slots_of, count_of, shutdown_of, hall_of, counting, borrowers_in, is_of, IsKeptEntry, IsKept}
+use Rattle.mea_meet.specs.ShutdownHall.{Store, End, OfSignal, OfReceivers, awaits_of, count_at, slots_of, shutdown_of, hall_of, counting, borrowers_in, is_of, IsKeptEntry, IsKept}
 use Rattle.mea_meet.proofs.Maps.{Puts, total_puts, weight-within, none_if}
 use Rattle.mea_meet.proofs.ShutdownChanges.{Changes, Unplaced, named_unplaced, alike_unplaced, given_unplaced, shutdowns_after}
 
@@ -75,7 +75,7 @@ module _ (st st' : Store) (next i s a b f : ℕ) (e2 : ShutdownEntry) (oa : Opti
     pub still_given : (end : End) (set : Registered ℕ) → AreGiven (slots_of end st.waits) s set → AreGiven (slots_of end st'.waits) s set
     still_given end set given = given_unplaced st st' next (i + 1) s a b f e2 oa ob ow k c later end set (is end) given
 
-    still_count : (end : End) (n : counts.Count ℕ) → count_of (slots_of end st'.waits) (i + 1) s n ≡ count_of (slots_of end st.waits) next s n
+    still_count : (end : End) (n : counts.Count ℕ) → count_seen (slots_of end st'.waits) (i + 1) s n ≡ count_seen (slots_of end st.waits) next s n
     still_count end n = λ j. record { number = n.number; waiting = alike_unplaced st st' next (i + 1) s a b f e2 oa ob ow k c later still_named end n.waiting (was end) (is end) j }
 
     still_seen : shutdown_of st'.waits (i + 1) s e2 ≡ shutdown_of st.waits next s e2

@@ -11,7 +11,7 @@ use Rattle.mea_sets.specs.Poll.{Poll, Ready, Pending}
 use Rattle.mea_sets.specs.WaitSet.{has_given, with_waker, slot_after}
 use Rattle.mea_meet_model.specs.Count.{Count}
 use Rattle.mea_meet_model.specs.Groups.{Groups, group_at}
-use Rattle.mea_meet.specs.Names.{Slots, waiting_at, AreNamed}
+use Rattle.mea_meet.specs.Names.{Slots, count_seen, AreNamed}
 use Rattle.mea_meet.specs.declared.groups.GroupEntry.{GroupEntry}
 use Rattle.mea_meet.specs.declared.groups.GroupWaitEntry.{GroupWaitEntry}
 
@@ -31,7 +31,7 @@ slots_of ws f = option_map (λ (x : GroupWaitEntry). (x.group, x.wait)) (get ws 
 
 -- a group, where all names are below the bound
 abbrev pub count_of : FinMap nat_cmp GroupWaitEntry → ℕ → ℕ → GroupEntry → Count
-count_of ws bound g e = record { number = e.core.count.number; waiting = waiting_at (slots_of ws) bound g e.core.count.waiting }
+count_of ws bound g e = count_seen (slots_of ws) bound g e.core.count
 
 -- the groups, where all names are below the bound
 abbrev pub groups_of : Store → ℕ → Groups

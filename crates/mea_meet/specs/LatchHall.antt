@@ -2,7 +2,6 @@
 use Rattle.std.specs.Prelude.{ℕ, ◌≡◌, ◌+◌, ◌-◌, ◌≤◌, ◌<◌, ◌^◌, ◌==◌, ◌&&◌, ◌||◌, Bool, true, cond, List, [], length, nat_lt, Option, Some, None, Result, Ok, IsErr, if◌then◌else◌}
 use Rattle.std.specs.Option.{option_map}
 use Rattle.std.specs.Ordering.{nat_cmp}
-use Rattle.std.specs.BTreeMap.{is_at}
 use Rattle.std.specs.FinMap.{FinMap, get, entries}
 use Rattle.mea_base.specs.declared.no_memory.NoMemory.{NoMemory}
 use Rattle.mea_base.specs.Named.{named, at}
@@ -13,7 +12,8 @@ use Rattle.mea_sets.specs.Poll.{Poll, Ready, Pending}
 use Rattle.mea_sets.specs.WaitSet.{has_given, with_waker, slot_after, length_with}
 use Rattle.mea_sets.specs.Countdown.{Counting}
 use Rattle.mea_meet_model.specs.Latches.{Latch, LatchWait, Latches}
-use Rattle.mea_meet.specs.Names.{Slots, waiting_at, AreNamed}
+use Rattle.mea_meet.specs.Entries.{ChangesAt}
+use Rattle.mea_meet.specs.Names.{Slots, count_seen, AreNamed}
 use Rattle.mea_meet.specs.declared.latches.LatchEntry.{LatchEntry}
 use Rattle.mea_meet.specs.declared.latches.LatchWaitEntry.{LatchWaitEntry}
 
@@ -34,7 +34,7 @@ abbrev pub slots_of : FinMap nat_cmp LatchWaitEntry → Slots
 slots_of ws f = option_map slot_of (get ws f)
 
 abbrev pub latch_of : FinMap nat_cmp LatchWaitEntry → ℕ → ℕ → LatchEntry → Latch
-latch_of ws bound l e = record { count = record { number = e.core.count.number; waiting = waiting_at (slots_of ws) bound l e.core.count.waiting }; named = e.named }
+latch_of ws bound l e = record { count = count_seen (slots_of ws) bound l e.core.count; named = e.named }
 
 abbrev pub wait_of : LatchWaitEntry → LatchWait
 wait_of x = record { latch = x.latch; plain = x.plain }
@@ -73,10 +73,6 @@ pub record IsKept (st : Store) (next : ℕ) : Type 0 where
   pub low : next ≤ 2 ^ 64
 
 -- ---- what the parts of a call do
--- at one name there is this now, and every other name has what it had
-abbrev pub ChangesAt : {X : Type 0} → List (ℕ × X) → List (ℕ × X) → ℕ → Option X → Type 0
-ChangesAt {X} old new k o = (q : ℕ) → at new q ≡ cond (is_at (nat_cmp k) q) o (at old q)
-
 -- a latch with one future more, and one with one less
 abbrev pub begun : LatchEntry → Bool → LatchEntry
 begun e plain = record e { waits = e.waits + 1; plain = e.plain + cond plain 1 0 }

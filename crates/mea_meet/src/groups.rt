@@ -8,6 +8,7 @@ ghost use Rattle.mea_sets.specs.WaitSet.{has_given};
 ghost use Rattle.mea_meet_core.specs.Count.{increased};
 ghost use Rattle.mea_meet_model.specs.Groups as model;
 ghost use Rattle.mea_meet_model.specs.Groups.{no_groups, registered};
+ghost use Rattle.mea_meet.specs.Entries.{ChangesAt};
 ghost use Rattle.mea_meet.specs.Play.{Yields, Rests};
 ghost use Rattle.mea_meet.specs.StandsFor.{StandsForGroup};
 ghost use Rattle.mea_meet.specs.GroupHall.{left_at, wakers_left};
@@ -114,7 +115,7 @@ impl GroupEntry {
 // A group with neither handle nor future is gone, and the wakers of ended futures with it.
 fn tidy(groups: &mut BTreeMap<u64, GroupEntry>, g: u64, ready: &mut Ready<u64>)
     requires { IfSome (at groups.old.entries g) (λ e. length e.core.count.waiting.wakers ≤ ready.old.registered) }
-    ensures left { (q : ℕ) → at groups.new.entries q ≡ cond (is_at (nat_cmp g) q) (left_at (at groups.old.entries g)) (at groups.old.entries q) }
+    ensures left { ChangesAt groups.old.entries groups.new.entries g (left_at (at groups.old.entries g)) }
     ensures woken { ready.new.wakers ≡ ready.old.wakers }
     ensures counted { IfSome (at groups.old.entries g) (λ e. ready.new.registered + length e.core.count.waiting.wakers ≡ ready.old.registered + wakers_left e) }
 {
