@@ -10,11 +10,11 @@ use Rattle.mea_sets.specs.declared.place.Place.{Place}
 use Rattle.mea_meet_model.specs.Count.{without_future}
 use Rattle.mea_meet_model.specs.Shutdowns.{Shutdown, borrows, awaited, with_awaited}
 use Rattle.mea_meet.specs.Names.{AreNamed, count_seen}
-use Rattle.mea_meet.specs.declared.shutdowns.ShutdownEntry.{ShutdownEntry}
-use Rattle.mea_meet.specs.declared.shutdowns.ReceiverEntry.{ReceiverEntry}
-use Rattle.mea_meet.specs.declared.shutdowns.ShutdownWaitEntry.{ShutdownWaitEntry}
-use Rattle.mea_meet.specs.declared.shutdowns.ShutdownWait.{ShutdownWait as Wait}
-use Rattle.mea_meet.specs.declared.shutdowns.ShutdownWait.TheVariants as waits
+use Rattle.mea_meet.specs.declared.shutdown_entries.ShutdownEntry.{ShutdownEntry}
+use Rattle.mea_meet.specs.declared.shutdown_entries.ReceiverEntry.{ReceiverEntry}
+use Rattle.mea_meet.specs.declared.shutdown_entries.ShutdownWaitEntry.{ShutdownWaitEntry}
+use Rattle.mea_meet.specs.declared.shutdown_entries.ShutdownWait.{ShutdownWait as Wait}
+use Rattle.mea_meet.specs.declared.shutdown_entries.ShutdownWait.TheVariants as waits
 use Rattle.mea_meet.specs.ShutdownHall.{Store, End, OfSignal, OfReceivers, awaits_of, borrowed_of, slot_at, slot_in, count_at, slots_of, shutdown_of, receiver_of, wait_of, hall_of, counting, borrowers_in, is_of, GivesBack, without_wait, IsKeptEntry, IsKept}
 use Rattle.mea_meet.proofs.Names.{waiting-ends}
 use Rattle.mea_meet.proofs.Maps.{Puts, Belongs, kept-at, kept-puts, puts_same, puts_seen, total_puts, is_same, is_insert, is_remove, belongs-none, belongs-some, inside, weight-within, at_same}

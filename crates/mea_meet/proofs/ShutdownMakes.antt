@@ -10,9 +10,9 @@ use Rattle.mea_sets.specs.WaitSet.{Registered, has_given}
 use Rattle.mea_sets.specs.Countdown.{count_from}
 use Rattle.mea_meet_model.specs.Shutdowns.{new_shutdown}
 use Rattle.mea_meet.specs.Names.{AreGiven}
-use Rattle.mea_meet.specs.declared.shutdowns.ShutdownEntry.{ShutdownEntry}
-use Rattle.mea_meet.specs.declared.shutdowns.ReceiverEntry.{ReceiverEntry}
-use Rattle.mea_meet.specs.declared.shutdowns.ShutdownWaitEntry.{ShutdownWaitEntry}
+use Rattle.mea_meet.specs.declared.shutdown_entries.ShutdownEntry.{ShutdownEntry}
+use Rattle.mea_meet.specs.declared.shutdown_entries.ReceiverEntry.{ReceiverEntry}
+use Rattle.mea_meet.specs.declared.shutdown_entries.ShutdownWaitEntry.{ShutdownWaitEntry}
 use Rattle.mea_meet.specs.ShutdownHall.{Store, End, count_at, slot_in, slots_of, receiver_of, hall_of, counting, senders_in, receivers_in, waits_in, IsKeptEntry, IsKept}
 use Rattle.mea_meet.proofs.Maps.{Puts, puts_same, puts_seen, total_puts, is_insert, belongs-none, belongs-some, inside, at_same}
 use Rattle.mea_meet.proofs.ShutdownChanges.{Changes, slot_home, wakers_at}

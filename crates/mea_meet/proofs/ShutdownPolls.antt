@@ -14,11 +14,11 @@ use Rattle.mea_meet_model.specs.Count as model
 use Rattle.mea_meet_model.specs.Shutdowns.{Shutdown, Shutdowns, ShutdownWait, borrows, shutdown_at, awaited, with_awaited, with_shutdown, poll_of, gone, registered}
 use Rattle.mea_meet.specs.Names.{AreNamed, AreGiven, count_seen}
 use Rattle.mea_meet.specs.Play.{Yields}
-use Rattle.mea_meet.specs.declared.shutdowns.ShutdownEntry.{ShutdownEntry}
-use Rattle.mea_meet.specs.declared.shutdowns.ReceiverEntry.{ReceiverEntry}
-use Rattle.mea_meet.specs.declared.shutdowns.ShutdownWaitEntry.{ShutdownWaitEntry}
-use Rattle.mea_meet.specs.declared.shutdowns.ShutdownWait.{ShutdownWait as Wait}
-use Rattle.mea_meet.specs.declared.shutdowns.ShutdownWait.TheVariants as waits
+use Rattle.mea_meet.specs.declared.shutdown_entries.ShutdownEntry.{ShutdownEntry}
+use Rattle.mea_meet.specs.declared.shutdown_entries.ReceiverEntry.{ReceiverEntry}
+use Rattle.mea_meet.specs.declared.shutdown_entries.ShutdownWaitEntry.{ShutdownWaitEntry}
+use Rattle.mea_meet.specs.declared.shutdown_entries.ShutdownWait.{ShutdownWait as Wait}
+use Rattle.mea_meet.specs.declared.shutdown_entries.ShutdownWait.TheVariants as waits
 use Rattle.mea_meet.specs.ShutdownHall.{Store, End, OfSignal, OfReceivers, end_of, slot_of, awaits_of, set_at, polled, polled_wait, slot_at, slot_in, count_at, slots_of, shutdown_of, wait_of, hall_of, counting, is_of, IsKeptEntry, IsKept}
 use Rattle.mea_meet.proofs.Names.{waiting-registers, named-registers, given-registers}
 use Rattle.mea_meet.proofs.Maps.{Puts, puts_same, puts_seen, is_same, is_insert, belongs-none, belongs-some, inside}

@@ -5,9 +5,9 @@ use Rattle.std.specs.Ordering.{nat_cmp}
 use Rattle.std.specs.FinMap.{FinMap, get, entries}
 use Rattle.mea_base.specs.Named.{named, at}
 use Rattle.mea_meet_model.specs.Shutdowns.{Shutdown, Receiver, ShutdownWait, Shutdowns, no_shutdowns, new_shutdown, shutdown_at, receivers_of, waits_of, borrowers_of, borrows}
-use Rattle.mea_meet.specs.declared.shutdowns.ShutdownEntry.{ShutdownEntry}
-use Rattle.mea_meet.specs.declared.shutdowns.ReceiverEntry.{ReceiverEntry}
-use Rattle.mea_meet.specs.declared.shutdowns.ShutdownWaitEntry.{ShutdownWaitEntry}
+use Rattle.mea_meet.specs.declared.shutdown_entries.ShutdownEntry.{ShutdownEntry}
+use Rattle.mea_meet.specs.declared.shutdown_entries.ReceiverEntry.{ReceiverEntry}
+use Rattle.mea_meet.specs.declared.shutdown_entries.ShutdownWaitEntry.{ShutdownWaitEntry}
 use Rattle.mea_meet.specs.Play.{Part}
 use Rattle.mea_meet.specs.declared.shutdowns.ShutdownHall.TheInside.{Inside}
 use Rattle.mea_meet.specs.StandsFor.{StandsForShutdown, StandsForCount}

@@ -6,9 +6,9 @@ use Rattle.std.specs.FinMap.{FinMap, get, remove}
 use Rattle.std.proofs.lemmas.Bool.Decides.{nat_tests}
 use Rattle.mea_base.specs.Totals.{weight}
 use Rattle.mea_meet_model.specs.Shutdowns.{tidied, senders_of, receivers_of, waits_of, registered}
-use Rattle.mea_meet.specs.declared.shutdowns.ShutdownEntry.{ShutdownEntry}
-use Rattle.mea_meet.specs.declared.shutdowns.ReceiverEntry.{ReceiverEntry}
-use Rattle.mea_meet.specs.declared.shutdowns.ShutdownWaitEntry.{ShutdownWaitEntry}
+use Rattle.mea_meet.specs.declared.shutdown_entries.ShutdownEntry.{ShutdownEntry}
+use Rattle.mea_meet.specs.declared.shutdown_entries.ReceiverEntry.{ReceiverEntry}
+use Rattle.mea_meet.specs.declared.shutdown_entries.ShutdownWaitEntry.{ShutdownWaitEntry}
 use Rattle.mea_meet.specs.ShutdownHall.{Store, shutdown_of, hall_of, senders_in, IsKeptEntry, IsKept}
 use Rattle.mea_meet.proofs.Maps.{Puts, put_other, total_puts, by_put, is_remove, weight-within, seen_puts, at_same}
 use Rattle.mea_meet.proofs.ShutdownChanges.{wakers_at, registered-seen}

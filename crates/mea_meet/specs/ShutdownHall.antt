@@ -13,11 +13,11 @@ use Rattle.mea_meet_model.specs.Count.{decreased, woken_by, without_future}
 use Rattle.mea_meet_model.specs.Shutdowns.{Shutdown, Receiver, Awaited, Signal, Receivers, ShutdownWait, Shutdowns, shutdown_at, borrows, awaited, with_awaited}
 use Rattle.mea_meet.specs.Entries.{ChangesAt}
 use Rattle.mea_meet.specs.Names.{Slots, count_seen, AreNamed, AreGiven}
-use Rattle.mea_meet.specs.declared.shutdowns.ShutdownEntry.{ShutdownEntry}
-use Rattle.mea_meet.specs.declared.shutdowns.ReceiverEntry.{ReceiverEntry}
-use Rattle.mea_meet.specs.declared.shutdowns.ShutdownWaitEntry.{ShutdownWaitEntry}
-use Rattle.mea_meet.specs.declared.shutdowns.ShutdownWait.{ShutdownWait as Wait}
-use Rattle.mea_meet.specs.declared.shutdowns.ShutdownWait.TheVariants as waits
+use Rattle.mea_meet.specs.declared.shutdown_entries.ShutdownEntry.{ShutdownEntry}
+use Rattle.mea_meet.specs.declared.shutdown_entries.ReceiverEntry.{ReceiverEntry}
+use Rattle.mea_meet.specs.declared.shutdown_entries.ShutdownWaitEntry.{ShutdownWaitEntry}
+use Rattle.mea_meet.specs.declared.shutdown_entries.ShutdownWait.{ShutdownWait as Wait}
+use Rattle.mea_meet.specs.declared.shutdown_entries.ShutdownWait.TheVariants as waits
 
 -- the shutdowns, the senders, the receivers and watches, and the futures as they are kept
 pub record Store : Type 0 where
