@@ -4,7 +4,7 @@ use Rattle.std.specs.Option.{option_map}
 use Rattle.std.specs.Ordering.{nat_cmp}
 use Rattle.std.specs.FinMap.{FinMap, get, entries}
 use Rattle.mea_base.specs.declared.no_memory.NoMemory.{NoMemory}
-use Rattle.mea_base.specs.Named.{named, at}
+use Rattle.mea_base.specs.Named.{named}
 use Rattle.mea_base.specs.Ready.{Waking}
 use Rattle.mea_base.specs.Totals.{total}
 use Rattle.mea_sets.specs.declared.place.Place.{Place}
@@ -99,36 +99,3 @@ pub record PollsLatch (c : Counting ℕ) (slot : Option Place) (w : ℕ) (before
   pub pending : result ≡ Ok Pending → (0 < c.count.number) × (c' ≡ record c { count = record c.count { waiting = with_waker c.count.waiting slot w } }) × (slot' ≡ slot_after c.count.waiting slot)
       × (after ≡ record before { registered = before.registered + length_with c.count.waiting slot - length c.count.waiting.wakers })
   pub failed : IsErr result → (c' ≡ c) × (slot' ≡ slot) × (after ≡ before)
-
--- the future f is there, and so is its latch, and this holds of both
-pub record HasFuture (ls : List (ℕ × LatchEntry)) (ws : List (ℕ × LatchWaitEntry)) (f : ℕ) (P : LatchEntry → LatchWaitEntry → Type 0) : Type 0 where
-  pub future : LatchWaitEntry
-  pub entry : LatchEntry
-  pub is_future : at ws f ≡ Some future
-  pub is_entry : at ls future.latch ≡ Some entry
-  pub holds : P entry future
-
-abbrev pub IsPollable : LatchEntry → LatchWaitEntry → Type 0
-IsPollable e x = has_given e.core.count.waiting x.wait ≡ true
-
-pub record IsEndable (ready : Waking ℕ) (e : LatchEntry) (x : LatchWaitEntry) : Type 0 where
-  pub given : has_given e.core.count.waiting x.wait ≡ true
-  pub waits : 1 ≤ e.waits
-  pub plain : cond x.plain 1 0 ≤ e.plain
-  pub room : length e.core.count.waiting.wakers ≤ ready.registered
-
--- what a poll of the future f, which is x, at its latch, which is e, does to the maps
-pub record PollsIn (ls : List (ℕ × LatchEntry)) (ws : List (ℕ × LatchWaitEntry)) (f : ℕ) (x : LatchWaitEntry) (e : LatchEntry) (w : ℕ) (before : Waking ℕ) (result : Result (Poll (Unit {0})) NoMemory) (ls' : List (ℕ × LatchEntry)) (ws' : List (ℕ × LatchWaitEntry)) (after : Waking ℕ) : Type 0 where
-  pub entry : LatchEntry
-  pub future : LatchWaitEntry
-  pub latches : ChangesAt ls ls' x.latch (Some entry)
-  pub waits : ChangesAt ws ws' f (Some future)
-  pub entry_is : entry ≡ record e { core = entry.core }
-  pub future_is : future ≡ record x { wait = future.wait }
-  pub polls : PollsLatch e.core x.wait w before result entry.core future.wait after
-
--- what the end of the future f, which is x, does to the maps
-pub record EndsIn (ls : List (ℕ × LatchEntry)) (ws : List (ℕ × LatchWaitEntry)) (f : ℕ) (x : LatchWaitEntry) (e : LatchEntry) (before : Waking ℕ) (ls' : List (ℕ × LatchEntry)) (ws' : List (ℕ × LatchWaitEntry)) (after : Waking ℕ) : Type 0 where
-  pub latches : ChangesAt ls ls' x.latch (tidied (ended e x.plain))
-  pub waits : ChangesAt ws ws' f None
-  pub ready : after ≡ record before { registered = before.registered - let_go (ended e x.plain) }
