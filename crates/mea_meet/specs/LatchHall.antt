@@ -1,16 +1,15 @@
 -- the latches that what a `LatchHall` keeps stands for, and what it keeps to
-use Rattle.std.specs.Prelude.{ℕ, ◌≡◌, ◌+◌, ◌-◌, ◌≤◌, ◌<◌, ◌^◌, ◌==◌, ◌&&◌, ◌||◌, Bool, true, cond, List, [], length, nat_lt, Option, Some, None, Result, Ok, IsErr, if◌then◌else◌}
+use Rattle.std.specs.Prelude.{ℕ, ◌≡◌, ◌+◌, ◌-◌, ◌≤◌, ◌<◌, ◌^◌, ◌==◌, ◌&&◌, ◌||◌, Bool, true, cond, List, [], length, nat_lt, Option, Some, None, Ok, if◌then◌else◌}
 use Rattle.std.specs.Option.{option_map}
 use Rattle.std.specs.Ordering.{nat_cmp}
 use Rattle.std.specs.FinMap.{FinMap, get, entries}
-use Rattle.mea_base.specs.declared.no_memory.NoMemory.{NoMemory}
 use Rattle.mea_base.specs.Named.{named}
 use Rattle.mea_base.specs.Ready.{Waking}
 use Rattle.mea_base.specs.Totals.{total}
 use Rattle.mea_sets.specs.declared.place.Place.{Place}
-use Rattle.mea_sets.specs.Poll.{Poll, Ready, Pending}
-use Rattle.mea_sets.specs.WaitSet.{has_given, with_waker, slot_after, length_with}
-use Rattle.mea_sets.specs.Countdown.{Counting}
+use Rattle.mea_sets.specs.Poll.{Poll}
+use Rattle.mea_sets.specs.WaitSet.{has_given}
+use Rattle.mea_sets.specs.Countdown.{Counting, PollsCount}
 use Rattle.mea_meet_model.specs.Latches.{Latch, LatchWait, Latches}
 use Rattle.mea_meet.specs.Entries.{ChangesAt}
 use Rattle.mea_meet.specs.Names.{Slots, count_seen, AreNamed}
@@ -93,9 +92,9 @@ pub record Tidies (old new : List (ℕ × LatchEntry)) (l : ℕ) (e : LatchEntry
   pub latches : ChangesAt old new l (tidied e)
   pub ready : after ≡ record before { registered = before.registered - let_go e }
 
--- a poll at a core, with its waker counted where that is registered anew
-pub record PollsLatch (c : Counting ℕ) (slot : Option Place) (w : ℕ) (before : Waking ℕ) (result : Result (Poll (Unit {0})) NoMemory) (c' : Counting ℕ) (slot' : Option Place) (after : Waking ℕ) : Type 0 where
-  pub ready : result ≡ Ok (Ready tt) → (c.count.number ≡ 0) × (c' ≡ c) × (slot' ≡ slot) × (after ≡ before)
-  pub pending : result ≡ Ok Pending → (0 < c.count.number) × (c' ≡ record c { count = record c.count { waiting = with_waker c.count.waiting slot w } }) × (slot' ≡ slot_after c.count.waiting slot)
-      × (after ≡ record before { registered = before.registered + length_with c.count.waiting slot - length c.count.waiting.wakers })
-  pub failed : IsErr result → (c' ≡ c) × (slot' ≡ slot) × (after ≡ before)
+-- a poll at the core of a latch, whose waker is counted where it is registered anew
+pub record PollsLatch (c : Counting ℕ) (slot : Option Place) (w : ℕ) (turn : Poll (Unit {0})) (c' : Counting ℕ) (slot' : Option Place) (before after : Waking ℕ) : Type 0 where
+  pub polls : PollsCount c.count slot w (Ok turn) c'.count slot'
+  pub wakes : c'.wakes ≡ c.wakes
+  pub woken : after.wakers ≡ before.wakers
+  pub counted : after.registered + length c.count.waiting.wakers ≡ before.registered + length c'.count.waiting.wakers

@@ -85,8 +85,9 @@ impl LatchEntry {
         ready: &mut Ready<u64>,
     ) -> Result<Poll<()>, NoMemory>
         requires { has_given self.old.core.count.waiting wait.old ≡ true }
-        ensures polls { PollsLatch self.old.core wait.old waker ready.old result self.new.core wait.new ready.new }
+        ensures polls { IfOk result (λ turn. PollsLatch self.old.core wait.old waker turn self.new.core wait.new ready.old ready.new) }
         ensures entry { self.new ≡ record self.old { core = self.new.core } }
+        ensures err { OnErr result ((self.new ≡ self.old) × (wait.new ≡ wait.old) × (ready.new ≡ ready.old)) }
     {
         ready.register()?;
         let before = self.core.registered();
