@@ -6,6 +6,7 @@ use Rattle.mea_base.specs.Named.{at}
 use Rattle.mea_base.specs.Totals.{total}
 use Rattle.mea_meet_model.specs.Waiting.{wakers}
 use Rattle.mea_meet_model.specs.Barriers.{Barrier, BarrierWait, Barriers, waits_of, registered}
+use Rattle.mea_meet.specs.Entries.{ChangesAt}
 use Rattle.mea_meet.specs.Play.{Part}
 use Rattle.mea_meet.specs.StandsFor.{StandsForBarrier}
 use Rattle.mea_meet.specs.BarrierHall.{Store, store_of, slots_of, barrier_of, wait_of, barriers_of, IsKept}
@@ -13,7 +14,7 @@ use Rattle.mea_meet.specs.declared.barriers.BarrierEntry.{BarrierEntry}
 use Rattle.mea_meet.specs.declared.barriers.BarrierWaitEntry.{BarrierWaitEntry}
 use Rattle.mea_meet.specs.declared.barriers.BarrierHall.TheInside.{Inside}
 use Rattle.mea_meet.proofs.Names.{waiting-wakers}
-use Rattle.mea_meet.proofs.Maps.{ChangesAt, kept-at, kept-unchanged, get-seen, seen-none, is_some-map, not_none, total-named, found}
+use Rattle.mea_meet.proofs.Maps.{kept-at, kept-unchanged, get-seen, seen-none, is_some-map, not_none, total-named, found}
 use Rattle.mea_meet.proofs.BarrierChanges.{at_barrier, barrier_seen, wakers_within}
 use Rattle.mea_meet.proofs.BarrierPlays.{store_in, seen_in, IsKeptIn}
 

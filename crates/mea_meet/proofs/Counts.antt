@@ -4,12 +4,8 @@ use Rattle.mea_sets.specs.WaitSet.{drained, has_given}
 use Rattle.mea_sets.specs.Countdown as counts
 use Rattle.mea_meet_model.specs.Count as model
 use Rattle.mea_meet_model.specs.Waiting.{Whose, wakers}
-use Rattle.mea_meet.specs.Names.{Slots, waiting_at, AreGiven}
+use Rattle.mea_meet.specs.Names.{Slots, waiting_at, count_seen, AreGiven}
 use Rattle.mea_meet.proofs.Names.{waiting-wakers, given-drained}
-
--- the count of the object o that a core's stands for
-abbrev pub count_seen : Slots → ℕ → ℕ → counts.Count ℕ → model.Count
-count_seen slots b o c = record { number = c.number; waiting = waiting_at slots b o c.waiting }
 
 module _ (slots : Slots) (b o : ℕ) (c : counts.Count ℕ) (n : ℕ) where
   -- where its wakers are seen as these

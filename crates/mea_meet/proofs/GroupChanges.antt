@@ -43,7 +43,7 @@ at_group g f x = cond (x.group == g) 1 0
 -- what a group has that may not be there
 abbrev pub handles_in : Option GroupEntry → ℕ
 handles_in None = 0
-handles_in (Some e) = e.handles
+handles_in (Some e) = e.core.count.number
 
 abbrev pub waits_in : Option GroupEntry → ℕ
 waits_in None = 0
@@ -54,8 +54,8 @@ wakers_in None = 0
 wakers_in (Some e) = length e.core.count.waiting.wakers
 
 -- ---- a group that is left
-pub used_left : (e : GroupEntry) → 0 < e.handles + e.waits → left e ≡ Some e
-used_left e some = let used : nat_lt 0 (e.handles + e.waits) ≡ true = grind (arith, nat_tests, some) in ap (λ t. if t then Some e else None) used
+pub used_left : (e : GroupEntry) → 0 < e.core.count.number + e.waits → left e ≡ Some e
+used_left e some = let used : nat_lt 0 (e.core.count.number + e.waits) ≡ true = grind (arith, nat_tests, some) in ap (λ t. if t then Some e else None) used
 
 pub left_is : (e d : GroupEntry) → left e ≡ Some d → e ≡ d
 left_is e d is = by_test (is_used e) is
@@ -84,8 +84,7 @@ pub record Changes (st st' : Store) (n n' g k f : ℕ) (q : Option GroupEntry) (
   pub named : AreNamed (slots_of st'.waits) n'
   pub given : AreGiven (slots_of st'.waits) g d.core.count.waiting
   pub quiet : d.core.wakes ≡ []
-  pub known : d.handles ≡ d.core.count.number
-  pub handles_counted : d.handles + one_of p ≡ handles_in q + one_of p'
+  pub handles_counted : d.core.count.number + one_of p ≡ handles_in q + one_of p'
   pub waits_counted : d.waits + one_of o ≡ waits_in q + one_of o'
 
 -- ---- the counts of a group that may not be there
@@ -135,7 +134,7 @@ module _ (st st' : Store) (n n' g k f : ℕ) (q : Option GroupEntry) (d : GroupE
   wait_there = put_there st.waits st'.waits f o' c.waits
 
   -- ---- what is kept
-  handles_now : d.handles ≡ total (of_group g) st'.handles
+  handles_now : d.core.count.number ≡ total (of_group g) st'.handles
   handles_now =
       let sums = total_puts_was st.handles st'.handles k (of_group g) p' p c.handles c.handle_was in
       let was = weighs_here (λ j. j) g k p c.handle_was_of in
@@ -156,7 +155,6 @@ module _ (st st' : Store) (n n' g k f : ℕ) (q : Option GroupEntry) (d : GroupE
   entry_here : IsKeptEntry st' n' g d
   entry_here = record {
     quiet = c.quiet;
-    known = c.known;
     handles_counted = handles_now;
     waits_counted = waits_now;
     few_waits = (let before = few_before st n g kept q c.was in let counts = c.waits_counted in let most = one-least o' in let later = c.rises in omega (arith, before, counts, most, later));
@@ -166,7 +164,6 @@ module _ (st st' : Store) (n n' g k f : ℕ) (q : Option GroupEntry) (d : GroupE
   entry_elsewhere : (j : ℕ) (e : GroupEntry) → (g ≡ j → ⊥) → IsKeptEntry st n j e → IsKeptEntry st' n' j e
   entry_elsewhere j e apart old = record {
     quiet = old.quiet;
-    known = old.known;
     handles_counted = (let before = old.handles_counted in
         let sums = total_puts_was st.handles st'.handles k (of_group j) p' p c.handles c.handle_was in
         let was = weighs_elsewhere (λ u. u) (λ x. 1) g j k p c.handle_was_of apart in
@@ -238,14 +235,14 @@ module _ (st st' : Store) (n n' g k f : ℕ) (q : Option GroupEntry) (d : GroupE
     hall = record { groups = insert h.groups g r; handles = hs; waits = ws }
 
     -- where the group is used
-    pub hall_used : 0 < d.handles + d.waits → groups_of st' n' ≡ hall
+    pub hall_used : 0 < d.core.count.number + d.waits → groups_of st' n' ≡ hall
     hall_used some =
         let put = groups_put (used_left d some) in
         (λ i. record { groups = put i; handles = handles i; waits = waits i }) ∙ ap (λ u. record { groups = insert h.groups g u; handles = hs; waits = ws }) seen
 
     tested : nat_lt 0 (handles_of hall g + waits_of hall g) ≡ is_used d
     tested =
-        let as_many : handles_of hall g ≡ d.handles = ap (total (of_group g)) (sym handles) ∙ sym handles_now in
+        let as_many : handles_of hall g ≡ d.core.count.number = ap (total (of_group g)) (sym handles) ∙ sym handles_now in
         let as_many_waits : waits_of hall g ≡ d.waits = ap (total (of_group g)) (sym waits) ∙ waits_seen st' n' g ∙ sym waits_now in
         λ i. nat_lt 0 (as_many i + as_many_waits i)
 
@@ -297,7 +294,7 @@ waits_within st n f g x e k is mine there =
     omega (arith, one, all, counts)
 
 -- a handle counts at its group
-pub handles_within : (st : Store) (n k g : ℕ) (e : GroupEntry) → IsKept st n → get st.handles k ≡ Some g → get st.groups g ≡ Some e → 1 ≤ e.handles
+pub handles_within : (st : Store) (n k g : ℕ) (e : GroupEntry) → IsKept st n → get st.handles k ≡ Some g → get st.groups g ≡ Some e → 1 ≤ e.core.count.number
 handles_within st n k g e kept is there =
     let one : of_group g k g ≡ 1 = at_same g g 1 0 refl in
     let all : of_group g k g ≤ total (of_group g) st.handles = weight-within (of_group g) st.handles k g is in

@@ -19,6 +19,7 @@ use Rattle.mea_meet_model.specs.Count as counts
 use Rattle.mea_meet_model.specs.Count.{Count}
 use Rattle.mea_meet_model.specs.Groups as model
 use Rattle.mea_meet_model.specs.Groups.{Groups, group_at, tidied, registered}
+use Rattle.mea_meet.specs.Entries.{ChangesAt}
 use Rattle.mea_meet.specs.Names.{waiting_at, AreNamed, AreGiven}
 use Rattle.mea_meet.specs.Play.{Part}
 use Rattle.mea_meet.specs.GroupHall.{Store, store_of, slots_of, count_of, groups_of, IsKept, left, left_at, is_used, wakers_left, Registers}
@@ -26,7 +27,7 @@ use Rattle.mea_meet.specs.declared.groups.GroupEntry.{GroupEntry}
 use Rattle.mea_meet.specs.declared.groups.GroupWaitEntry.{GroupWaitEntry}
 use Rattle.mea_meet.specs.declared.groups.GroupHall.TheInside.{Inside}
 use Rattle.mea_meet.proofs.Names.{waiting-registers, waiting-ends, named-later, named-new, named-registers, named-ends, given-registers}
-use Rattle.mea_meet.proofs.Maps.{ChangesAt, Puts, by_name, kept-at, kept-puts, changes_twice, insert_same, seen-some, seen_put, seen_gone, puts_same, is_insert, is_remove, none_if, changed_at, some_if, if_some, found}
+use Rattle.mea_meet.proofs.Maps.{Puts, by_name, kept-at, kept-puts, changes_twice, insert_same, seen-some, seen_put, seen_gone, puts_same, is_insert, is_remove, none_if, changed_at, some_if, if_some, found}
 use Rattle.mea_meet.proofs.GroupChanges.{Changes, slot_entry, are_given, used_left, kept_after, hall_used, hall_tidied, registered_after, group_seen, waits_within, handles_within}
 use Rattle.mea_meet.proofs.Slots.{slot_owner, slots_there, slots_other, IsApart, apart_unplaced, waiting_beside, given_beside, waiting_later}
 use Rattle.mea_meet.proofs.Counts.{decreased-seen, woken-seen, given-decreased, woken-all}
@@ -51,9 +52,9 @@ IsKeptIn a = IsKept (store_in a) a.next
 
 -- ---- a handle less
 abbrev pub leaving : GroupEntry → ℕ → GroupEntry
-leaving e m = record { core = record e.core { count = decreased e.core.count 1 }; handles = e.handles - 1; waits = m }
+leaving e m = record { core = record e.core { count = decreased e.core.count 1 }; waits = m }
 
-wakers_used : (e : GroupEntry) → 0 < e.handles + e.waits → wakers_left e ≡ length e.core.count.waiting.wakers
+wakers_used : (e : GroupEntry) → 0 < e.core.count.number + e.waits → wakers_left e ≡ length e.core.count.waiting.wakers
 wakers_used e some = by_test (is_used e) (used_left e some)
   where
     by_test : (t : Bool) → (if t then Some e else None) ≡ Some e → (if t then length e.core.count.waiting.wakers else 0) ≡ length e.core.count.waiting.wakers
@@ -65,7 +66,7 @@ module _ (old mid : List (ℕ × GroupEntry)) (g : ℕ) (d : GroupEntry) (writes
   written : at mid g ≡ Some d
   written = changed_at old mid g (Some d) writes
 
-  pub tidied_at : (new : List (ℕ × GroupEntry)) → ((q : ℕ) → at new q ≡ cond (is_at (nat_cmp g) q) (left_at (at mid g)) (at mid q)) → ChangesAt old new g (left d)
+  pub tidied_at : (new : List (ℕ × GroupEntry)) → ChangesAt mid new g (left_at (at mid g)) → ChangesAt old new g (left d)
   tidied_at new tidies = changes_twice old mid new g (Some d) (left d) writes (λ q. tidies q ∙ ap (λ o. cond (is_at (nat_cmp g) q) (left_at o) (at mid q)) written)
 
   pub tidied_if : (P : GroupEntry → Type 0) → IfSome (at mid g) P → P d
@@ -139,9 +140,9 @@ module _ (a : Inside) (v : Part Groups) (i : ℕ) (seen : seen_in a ≡ v) (k : 
   fresh_core = record { count = cores.count_from 1; wakes = [] }
 
   abbrev fresh : GroupEntry
-  fresh = record { core = fresh_core; handles = 1; waits = 0 }
+  fresh = record { core = fresh_core; waits = 0 }
 
-  module _ (gs' : List (ℕ × GroupEntry)) (hs' : List (ℕ × ℕ)) (core : Counting ℕ) (puts : ChangesAt a.groups.entries gs' i (Some (record { core = core; handles = 1; waits = 0 }))) (adds : ChangesAt a.handles.entries hs' i (Some i)) (is : core ≡ fresh_core) where
+  module _ (gs' : List (ℕ × GroupEntry)) (hs' : List (ℕ × ℕ)) (core : Counting ℕ) (puts : ChangesAt a.groups.entries gs' i (Some (record { core = core; waits = 0 }))) (adds : ChangesAt a.handles.entries hs' i (Some i)) (is : core ≡ fresh_core) where
     abbrev st_made : Store
     st_made = store_of gs' hs' a.waits.entries
 
@@ -151,7 +152,7 @@ module _ (a : Inside) (v : Part Groups) (i : ℕ) (seen : seen_in a ≡ v) (k : 
     change_made : Changes st st_made n (i + 1) i i i None fresh None (Some i) None None
     change_made = record {
       was = no_group;
-      groups = kept-puts a.groups.entries gs' i (Some fresh) (subst (λ (u : Counting ℕ). ChangesAt a.groups.entries gs' i (Some (record { core = u; handles = 1; waits = 0 }))) is puts);
+      groups = kept-puts a.groups.entries gs' i (Some fresh) (subst (λ (u : Counting ℕ). ChangesAt a.groups.entries gs' i (Some (record { core = u; waits = 0 }))) is puts);
       handle_was = no_handle;
       handles = handles_made;
       wait_was = no_wait;
@@ -167,7 +168,6 @@ module _ (a : Inside) (v : Part Groups) (i : ℕ) (seen : seen_in a ≡ v) (k : 
       named = named_same;
       given = λ f slot there. (let x = slot_owner (λ (x : GroupWaitEntry). x.group) (λ x. x.wait) (get st.waits f) i slot there in let home = k.home f x.0 x.1 in absurd (let clash : None ≡ Some home.entry = sym no_group ∙ ap (get st.groups) (sym x.2) ∙ home.there in cc));
       quiet = refl;
-      known = refl;
       handles_counted = refl;
       waits_counted = refl;
     }
@@ -183,9 +183,6 @@ module _ (a : Inside) (v : Part Groups) (i : ℕ) (seen : seen_in a ≡ v) (k : 
   module _ (g : ℕ) (e : GroupEntry) (there : at a.groups.entries g ≡ Some e) where
     entry_there : get st.groups g ≡ Some e
     entry_there = found a.groups.entries g e there
-
-    pub known : e.handles ≡ e.core.count.number
-    known = (k.each g e entry_there).known
 
     pub quiet : e.core.wakes ≡ []
     quiet = (k.each g e entry_there).quiet
@@ -216,7 +213,7 @@ module _ (a : Inside) (v : Part Groups) (i : ℕ) (seen : seen_in a ≡ v) (k : 
         omega (arith, same, all, fits, first)
 
     -- a used group is written
-    used : (gs' : List (ℕ × GroupEntry)) (d : GroupEntry) → ChangesAt a.groups.entries gs' g (Some d) → 0 < d.handles + d.waits → Puts st.groups (named (λ (k : ℕ) (x : GroupEntry). x) gs') g (left d)
+    used : (gs' : List (ℕ × GroupEntry)) (d : GroupEntry) → ChangesAt a.groups.entries gs' g (Some d) → 0 < d.core.count.number + d.waits → Puts st.groups (named (λ (k : ℕ) (x : GroupEntry). x) gs') g (left d)
     used gs' d puts some = subst (λ o. Puts st.groups (named (λ (k : ℕ) (x : GroupEntry). x) gs') g o) (sym (used_left d some)) (kept-puts a.groups.entries gs' g (Some d) puts)
 
     -- ---- a future is made
@@ -278,7 +275,6 @@ module _ (a : Inside) (v : Part Groups) (i : ℕ) (seen : seen_in a ≡ v) (k : 
           named = named_more;
           given = given_more;
           quiet = quiet;
-          known = known;
           handles_counted = refl;
           waits_counted = omega arith;
         }
@@ -299,11 +295,8 @@ module _ (a : Inside) (v : Part Groups) (i : ℕ) (seen : seen_in a ≡ v) (k : 
       handle_there : get st.handles m ≡ Some g
       handle_there = kept-at a.handles.entries m ∙ handle
 
-      lives : 1 ≤ e.handles
+      pub lives : 0 < e.core.count.number
       lives = handles_within st n m g e k handle_there entry_there
-
-      pub core_lives : 0 < e.core.count.number
-      core_lives = let one = lives in let same = known in omega (arith, one, same)
 
       handle_below : m < i + 1
       handle_below = let before = (k.owned m g handle_there).below in omega (arith, before, less)
@@ -312,12 +305,12 @@ module _ (a : Inside) (v : Part Groups) (i : ℕ) (seen : seen_in a ≡ v) (k : 
       its p same = let one : g ≡ p = cc in sym one
 
       -- it is cloned
-      module _ (gs' : List (ℕ × GroupEntry)) (hs' : List (ℕ × ℕ)) (adds : ChangesAt a.handles.entries hs' i (Some g)) (d : GroupEntry) (puts : ChangesAt a.groups.entries gs' g (Some d)) (is : d ≡ record e { core = record e.core { count = increased e.core.count }; handles = e.handles + 1 }) where
+      module _ (gs' : List (ℕ × GroupEntry)) (hs' : List (ℕ × ℕ)) (adds : ChangesAt a.handles.entries hs' i (Some g)) (d : GroupEntry) (puts : ChangesAt a.groups.entries gs' g (Some d)) (is : d ≡ record e { core = record e.core { count = increased e.core.count } }) where
         abbrev st_cloned : Store
         st_cloned = store_of gs' hs' a.waits.entries
 
         abbrev cloned_entry : GroupEntry
-        cloned_entry = record e { core = record e.core { count = increased e.core.count }; handles = e.handles + 1 }
+        cloned_entry = record e { core = record e.core { count = increased e.core.count } }
 
         handles_cloned : Puts st.handles st_cloned.handles i (Some g)
         handles_cloned = kept-puts a.handles.entries hs' i (Some g) adds
@@ -341,7 +334,6 @@ module _ (a : Inside) (v : Part Groups) (i : ℕ) (seen : seen_in a ≡ v) (k : 
           named = named_same;
           given = given;
           quiet = quiet;
-          known = ap (λ j. j + 1) known;
           handles_counted = omega arith;
           waits_counted = refl;
         }
@@ -396,7 +388,6 @@ module _ (a : Inside) (v : Part Groups) (i : ℕ) (seen : seen_in a ≡ v) (k : 
             named = named_same;
             given = given-decreased (slots_of st.waits) n g e.core.count 1 given;
             quiet = quiet;
-            known = ap (λ j. j - 1) known;
             handles_counted = (let one = lives in omega (arith, one));
             waits_counted = refl;
           }
@@ -441,7 +432,6 @@ module _ (a : Inside) (v : Part Groups) (i : ℕ) (seen : seen_in a ≡ v) (k : 
             named = named_more ws' x adds mine new;
             given = given-decreased (slots_of st_turned.waits) n g e.core.count 1 (given_more ws' x adds mine new);
             quiet = quiet;
-            known = ap (λ j. j - 1) known;
             handles_counted = (let one = lives in omega (arith, one));
             waits_counted = omega arith;
           }
@@ -509,7 +499,7 @@ module _ (a : Inside) (v : Part Groups) (i : ℕ) (seen : seen_in a ≡ v) (k : 
         named_polled : AreNamed (slots_of st_polled.waits) (i + 1)
         named_polled = named-registers (slots_of st.waits) (slots_of st_polled.waits) n (i + 1) f k.named (omega (arith, less)) others g x.wait s given slot_was slot_is
 
-        some : 0 < polled_entry.handles + polled_entry.waits
+        some : 0 < polled_entry.core.count.number + polled_entry.waits
         some = let one = waits in omega (arith, one)
 
         change_polled : Changes st st_polled n (i + 1) g i f (Some e) polled_entry None None (Some x) (Some y)
@@ -531,7 +521,6 @@ module _ (a : Inside) (v : Part Groups) (i : ℕ) (seen : seen_in a ≡ v) (k : 
           named = named_polled;
           given = given-registers (slots_of st.waits) (slots_of st_polled.waits) g f w x.wait s given slot_was slot_is others;
           quiet = quiet;
-          known = known;
           handles_counted = refl;
           waits_counted = refl;
         }
@@ -594,7 +583,6 @@ module _ (a : Inside) (v : Part Groups) (i : ℕ) (seen : seen_in a ≡ v) (k : 
           named = named_gone;
           given = given_gone;
           quiet = quiet;
-          known = known;
           handles_counted = refl;
           waits_counted = (let one = waits in omega (arith, one));
         }

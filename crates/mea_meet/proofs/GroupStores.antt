@@ -7,6 +7,7 @@ use Rattle.mea_base.specs.Named.{at}
 use Rattle.mea_meet_model.specs.Waiting.{wakers}
 use Rattle.mea_meet_model.specs.Count.{Count}
 use Rattle.mea_meet_model.specs.Groups.{Groups, no_groups, group_at, registered}
+use Rattle.mea_meet.specs.Entries.{ChangesAt}
 use Rattle.mea_meet.specs.Play.{Part}
 use Rattle.mea_meet.specs.StandsFor.{StandsForGroup}
 use Rattle.mea_meet.specs.GroupHall.{Store, store_of, slots_of, count_of, groups_of, IsKept, is_full}
@@ -14,7 +15,7 @@ use Rattle.mea_meet.specs.declared.groups.GroupEntry.{GroupEntry}
 use Rattle.mea_meet.specs.declared.groups.GroupWaitEntry.{GroupWaitEntry}
 use Rattle.mea_meet.specs.declared.groups.GroupHall.TheInside.{Inside}
 use Rattle.mea_meet.proofs.Names.{waiting-wakers}
-use Rattle.mea_meet.proofs.Maps.{ChangesAt, kept-at, kept-unchanged, get-seen, seen-none, is_some-map, not_none, kept-none, is_empty, seen-empty, found}
+use Rattle.mea_meet.proofs.Maps.{kept-at, kept-unchanged, get-seen, seen-none, is_some-map, not_none, kept-none, is_empty, seen-empty, found}
 use Rattle.mea_meet.proofs.GroupChanges.{slot_entry, group_seen, wakers_within}
 use Rattle.mea_meet.proofs.GroupPlays.{store_in, seen_in, IsKeptIn}
 use Rattle.mea_meet.proofs.Slots.{named_none}
@@ -86,13 +87,13 @@ module _ (a : Inside) (v : Part Groups) (seen : seen_in a ≡ v) where
       as_seen = sym (group_seen (store_in a) a.next g e there) ∙ ap (λ (p : Part Groups). group_at p.hall g) seen
 
       -- whether one more handle can be counted
-      pub full : (m : ℕ) → at a.handles.entries m ≡ Some g → (e.handles == 4294967295) ≡ is_full v.hall (get v.hall.handles m)
+      pub full : (m : ℕ) → at a.handles.entries m ≡ Some g → (e.core.count.number == 4294967295) ≡ is_full v.hall (get v.hall.handles m)
       full m handle =
-          ap (λ j. j == 4294967295) ((k.each g e there).known ∙ ap (λ (r : Count). r.number) as_seen)
+          ap (λ (r : Count). r.number == 4294967295) as_seen
           ∙ ap (is_full v.hall) (sym (handle-known m ∙ handle))
 
       pub fits : (m : ℕ) → at a.handles.entries m ≡ Some g → is_full v.hall (get v.hall.handles m) ≡ false → e.core.count.number ≡ 4294967295 → ⊥
-      fits m handle free = eqb-false e.core.count.number 4294967295 (ap (λ j. j == 4294967295) (sym (k.each g e there).known) ∙ full m handle ∙ free)
+      fits m handle free = eqb-false e.core.count.number 4294967295 (full m handle ∙ free)
 
       -- where there is room for all wakers of the hall, there is for those of a group
       pub room : (spare : ℕ) → registered v.hall ≤ spare → length e.core.count.waiting.wakers ≤ spare

@@ -1,5 +1,5 @@
 -- what the events on latches do to what a `LatchHall` keeps
-use Rattle.std.proofs.Common.{◌≡◌, ℕ, ◌+◌, ◌-◌, ◌<◌, ◌≤◌, ◌^◌, ◌==◌, ◌&&◌, ◌||◌, ◌++◌, Bool, true, false, cond, [], length, nat_lt, refl, ap, sym, subst, ◌∙◌, Option, Some, None, arith, unwrap_or, if◌then◌else◌, append-nil, slice_set, ◌∷◌, length-append, length-set, inl, inr}
+use Rattle.std.proofs.Common.{◌≡◌, ℕ, ◌+◌, ◌-◌, ◌<◌, ◌≤◌, ◌^◌, ◌==◌, ◌&&◌, ◌||◌, ◌++◌, Bool, true, false, cond, [], length, nat_lt, refl, ap, sym, subst, ◌∙◌, Option, Some, None, arith, unwrap_or, if◌then◌else◌, append-nil, inl, inr}
 use Rattle.std.specs.Option.{option_map}
 use Rattle.std.specs.Ordering.{nat_cmp}
 use Rattle.std.specs.FinMap.{FinMap, get, insert, remove}
@@ -11,8 +11,7 @@ use Rattle.mea_base.specs.Family.{Outcome, quietly}
 use Rattle.mea_base.specs.Ready.{Waking}
 use Rattle.mea_base.specs.Totals.{weight}
 use Rattle.mea_base.proofs.Totals.{get_inserted, total-zero}
-use Rattle.mea_sets.specs.declared.place.Place.{Place}
-use Rattle.mea_sets.specs.WaitSet.{Registered, has_given, with_waker, slot_after, drained, length_with, is_registered, index_of}
+use Rattle.mea_sets.specs.WaitSet.{has_given, with_waker, slot_after, drained}
 use Rattle.mea_sets.specs.Countdown as cores
 use Rattle.mea_sets.specs.Countdown.{count_from}
 use Rattle.mea_meet_model.specs.Waiting.{registering, ending}
@@ -60,14 +59,6 @@ named_not st b l none = ap model.is_named_latch (latch_seen st b l ∙ ap (optio
 
 pub wait_there : (st : Store) (b f : ℕ) (x : LatchWaitEntry) → get st.waits f ≡ Some x → get (latches_of st b).waits f ≡ Some (wait_of x)
 wait_there st b f x there = wait_seen st b f ∙ ap (option_map wait_of) there
-
--- ---- how many wakers there are after a registration
-pub grown : (s : Registered ℕ) (slot : Option Place) (w : ℕ) → (length (with_waker s slot w).wakers ≡ length_with s slot) × (length s.wakers ≤ length_with s slot)
-grown s slot w = by_test (is_registered s slot)
-  where
-    by_test : (t : Bool) → (length (if t then record s { wakers = slice_set s.wakers (index_of slot) w } else record s { wakers = s.wakers ++ w ∷ [] }).wakers ≡ (if t then length s.wakers else length s.wakers + 1)) × (length s.wakers ≤ (if t then length s.wakers else length s.wakers + 1))
-    by_test true = (length-set s.wakers (index_of slot) w, omega arith)
-    by_test false = (let more = length-append s.wakers (w ∷ []) in omega (arith, more), omega arith)
 
 -- ---- a latch changes, and no future
 module _ (st : Store) (b : ℕ) (k : IsKept st b) (ls' : FinMap nat_cmp LatchEntry) (l : ℕ) where
@@ -411,15 +402,11 @@ module _ (st : Store) (next i : ℕ) (k : IsKept st next) (less : next ≤ i) (l
         ∙ ap (λ (r : Latch). if r.count.number == 0 then quietly (model.gone now f (wait_of x)) answers.Ready else quietly (model.with_latch now x.latch (record r { count = counts.with_waker r.count f w })) answers.Pending) (latch_is st (i + 1) x.latch e there)
         ∙ ap (λ t. if t then quietly (model.gone now f (wait_of x)) answers.Ready else quietly (model.with_latch now x.latch (record (latch_of st.waits (i + 1) x.latch e) { count = counts.with_waker (latch_of st.waits (i + 1) x.latch e).count f w })) answers.Pending) (ne_eqb e.core.count.number 0 (λ none. absurd (omega (arith, none, more))))
 
-    pub polls_on : (before after : Waking ℕ) → 0 < e.core.count.number → after ≡ record before { registered = before.registered + length_with e.core.count.waiting x.wait - length e.core.count.waiting.wakers }
+    pub polls_on : (before after : Waking ℕ) → 0 < e.core.count.number → after.wakers ≡ before.wakers → after.registered + length e.core.count.waiting.wakers ≡ before.registered + length (with_waker e.core.count.waiting x.wait w).wakers
         → Yielded st polled_store next i (model.poll_of (latches_of st next) f w (get (latches_of st next).waits f)) answers.Pending before after
-    polls_on before after more ready =
+    polls_on before after more woken counted =
         let sums = registered_after st polled_store (i + 1) x.latch (Some (registering_entry e x w)) k1 polled_changes in
         let was : weight (λ q (y : LatchEntry). length y.core.count.waiting.wakers) x.latch (get st.latches x.latch) ≡ length e.core.count.waiting.wakers = ap (weight (λ q (y : LatchEntry). length y.core.count.waiting.wakers) x.latch) there in
-        let grows = grown e.core.count.waiting x.wait w in
-        let whole = grows.0 in
-        let most = grows.1 in
-        let counted : after.registered ≡ before.registered + length_with e.core.count.waiting x.wait - length e.core.count.waiting.wakers = ap (λ (r : Waking ℕ). r.registered) ready in
         let step = poll_is more in
         yielded polled_store poll_step answers.Pending before after (kept_after st polled_store (i + 1) x.latch (Some (registering_entry e x w)) k1 polled_changes)
         ((λ j. record {
@@ -427,8 +414,8 @@ module _ (st : Store) (next i : ℕ) (k : IsKept st next) (less : next ≤ i) (l
           waits = is_same now.waits (latches_of polled_store (i + 1)).waits f (Some (wait_of x)) (wait_there st (i + 1) f x is) (waits_after st ls' ws' (i + 1) f (Some (registering_wait e x)) waits) j;
         }) ∙ sym (ap (λ (o : Outcome Latches). o.hall) step))
         (sym (ap (λ (o : Outcome Latches). o.reply) step))
-        (ap (λ (r : Waking ℕ). r.wakers) ready ∙ sym (append-nil before.wakers) ∙ ap (λ v. before.wakers ++ v) (sym (ap (λ (o : Outcome Latches). o.wakes) step)))
-        (omega (arith, sums, was, whole, most, counted))
+        (woken ∙ sym (append-nil before.wakers) ∙ ap (λ v. before.wakers ++ v) (sym (ap (λ (o : Outcome Latches). o.wakes) step)))
+        (omega (arith, sums, was, counted))
 
   -- ---- a future is gone
   module _ (ls' : FinMap nat_cmp LatchEntry) (ws' : FinMap nat_cmp LatchWaitEntry) (f : ℕ) (x : LatchWaitEntry) (e : LatchEntry) (is : get st.waits f ≡ Some x) (there : get st.latches x.latch ≡ Some e)

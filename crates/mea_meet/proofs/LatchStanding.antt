@@ -1,29 +1,30 @@
 -- from the maps of a `LatchHall` to what its calls promise
-use Rattle.std.proofs.Common.{◌≡◌, ℕ, ◌+◌, ◌-◌, ◌<◌, ◌≤◌, ◌^◌, ◌==◌, ◌&&◌, ◌||◌, ◌++◌, Bool, true, false, cond, List, [], length, nat_lt, refl, ap, sym, subst, ◌∙◌, Option, Some, None, Result, Ok, Err, is_err, arith, if◌then◌else◌}
-use Rattle.std.specs.Option.{option_map, is_some, IfSome, IsSome}
+use Rattle.std.proofs.Common.{◌≡◌, ℕ, ◌+◌, ◌-◌, ◌<◌, ◌≤◌, ◌^◌, ◌==◌, ◌&&◌, ◌||◌, ◌++◌, Bool, true, false, cond, List, [], length, nat_lt, refl, ap, sym, subst, ◌∙◌, Option, Some, None, Result, Ok, Err, inl, inr, arith, if◌then◌else◌}
+use Rattle.std.specs.Option.{option_map, is_some, IsSome}
 use Rattle.std.specs.FinMap.{get}
-use Rattle.std.proofs.lemmas.Bool.{eq-eqb}
+use Rattle.std.proofs.lemmas.Bool.{eq-eqb, cases_lt}
 use Rattle.mea_base.specs.declared.answer.Answer.{Answer}
 use Rattle.mea_base.specs.declared.answer.Answer.TheVariants as answers
-use Rattle.mea_base.specs.declared.no_memory.NoMemory.{NoMemory}
 use Rattle.mea_base.specs.Family.{Outcome, quietly}
 use Rattle.mea_base.specs.Named.{named, at}
 use Rattle.mea_base.specs.Ready.{Waking}
-use Rattle.mea_sets.specs.Poll.{Poll, Ready, Pending}
-use Rattle.mea_sets.specs.WaitSet.{has_given}
+use Rattle.mea_sets.specs.Poll.{Ready, Pending}
+use Rattle.mea_sets.specs.declared.place.Place.{Place}
+use Rattle.mea_sets.specs.WaitSet.{has_given, slot_after, with_waker as set_with}
 use Rattle.mea_sets.specs.Countdown as cores
-use Rattle.mea_sets.specs.Countdown.{Counting, count_from}
+use Rattle.mea_sets.specs.Countdown.{Counting, PollsCount, count_from}
 use Rattle.mea_meet_core.specs.Count.{tried}
 use Rattle.mea_meet_model.specs.Count.{with_waker}
 use Rattle.mea_meet_model.specs.Latches as model
 use Rattle.mea_meet_model.specs.Latches.{Latch, Latches, registered}
-use Rattle.mea_meet.specs.Play.{Part}
+use Rattle.mea_meet.specs.Entries.{ChangesAt}
+use Rattle.mea_meet.specs.Play.{Part, Yields}
 use Rattle.mea_meet.specs.StandsFor.{StandsForCount, StandsForLatch}
-use Rattle.mea_meet.specs.LatchHall.{Store, store_of, slot_of, slots_of, latch_of, latches_of, wait_of, IsKeptEntry, IsKept, ChangesAt, begun, ended, tidied, let_go, PollsIn, EndsIn, HasFuture, IsPollable, IsEndable}
+use Rattle.mea_meet.specs.LatchHall.{Store, store_of, slot_of, slots_of, latch_of, latches_of, wait_of, IsKeptEntry, IsKept, begun, ended, tidied, let_go, PollsLatch}
 use Rattle.mea_meet.specs.declared.latches.LatchEntry.{LatchEntry}
 use Rattle.mea_meet.specs.declared.latches.LatchWaitEntry.{LatchWaitEntry}
 use Rattle.mea_meet.proofs.Names.{waiting-wakers}
-use Rattle.mea_meet.proofs.Maps.{kept-at, found, kept-puts, at_same, weight-within, kept-puts-as, changed_at, some_if, some_found, kept-none, seen-empty, kept-unchanged}
+use Rattle.mea_meet.proofs.Maps.{kept-at, found, kept-puts, at_same, weight-within, kept-puts-as, some_found, kept-none, seen-empty, kept-unchanged}
 use Rattle.mea_meet.proofs.LatchStore.{registered_seen, wait_seen, plain_seen, given_to}
 use Rattle.mea_meet.proofs.LatchPlays.{Rested, Yielded, latch_is, named_is, named_not, wait_there, stays, makes, arrives, drops, begins, registering_entry, registering_wait, polls_on, leaves, RestedAt, YieldedAt}
 use Rattle.mea_meet.proofs.Counts.{woken-all}
@@ -34,6 +35,26 @@ Latchs = List (ℕ × LatchEntry)
 
 abbrev pub Waits : Type 0
 Waits = List (ℕ × LatchWaitEntry)
+
+-- a future can end at its latch
+pub record IsEndable (ready : Waking ℕ) (e : LatchEntry) (x : LatchWaitEntry) : Type 0 where
+  pub given : has_given e.core.count.waiting x.wait ≡ true
+  pub waits : 1 ≤ e.waits
+  pub plain : cond x.plain 1 0 ≤ e.plain
+  pub room : length e.core.count.waiting.wakers ≤ ready.registered
+
+-- ---- what the core tells
+told_pending : (c c' : cores.Count ℕ) (slot slot' : Option Place) (w : ℕ) → PollsCount c slot w (Ok Pending) c' slot' → (0 < c.number) × (c' ≡ record c { waiting = set_with c.waiting slot w }) × (slot' ≡ slot_after c.waiting slot)
+told_pending c c' slot slot' w polls = elim (cases_lt 0 c.number) [
+  | inl more ↦ (let told = polls.pending more in (more, told.1, told.2))
+  | inr none ↦ absurd (let clash : Ok Pending ≡ Ok (Ready tt) = (polls.ready (omega arith)).0 in cc)
+]
+
+told_ready : (c c' : cores.Count ℕ) (slot slot' : Option Place) (w : ℕ) → PollsCount c slot w (Ok (Ready tt)) c' slot' → (c.number ≡ 0) × (c' ≡ c) × (slot' ≡ slot)
+told_ready c c' slot slot' w polls = elim (cases_lt 0 c.number) [
+  | inl more ↦ absurd (let clash : Ready tt ≡ Pending = (polls.pending more).0 in cc)
+  | inr none ↦ (let told = polls.ready (omega arith) in (omega arith, told.1, told.2))
+]
 
 -- ---- a hall with nothing in it
 pub kept_empty : (ls : Latchs) (ws : Waits) → ls ≡ [] → ws ≡ [] → IsKept (store_of ls ws) 0
@@ -103,6 +124,12 @@ module _ (ls : Latchs) (ws : Waits) (next : ℕ) (v : Part Latches) (seen : reco
   pub find_wait : (f : ℕ) → IsSome (get v.hall.waits f) → (x : LatchWaitEntry) × (at ws f ≡ Some x)
   find_wait f there = some_found (at ws f) (wait_at f ∙ there)
 
+  pub never_wait : (f : ℕ) → IsSome (get v.hall.waits f) → at ws f ≡ None → ⊥
+  never_wait f there none = let x = find_wait f there in absurd (let clash : None ≡ Some x.0 = sym none ∙ x.1 in cc)
+
+  pub never_latch : (f : ℕ) (x : LatchWaitEntry) → IsKept (store_of ls ws) next → at ws f ≡ Some x → at ls x.latch ≡ None → ⊥
+  never_latch f x k is none = let e = latch_at_wait f x k is in absurd (let clash : None ≡ Some e.0 = sym none ∙ e.1 in cc)
+
   pub given_at : (f : ℕ) (x : LatchWaitEntry) (e : LatchEntry) → IsKept (store_of ls ws) next → at ws f ≡ Some x → at ls x.latch ≡ Some e → has_given e.core.count.waiting x.wait ≡ true
   given_at f x e k is there = given_to (store_of ls ws) next x.latch e k (found ls x.latch e there) f x (found ws f x is) refl
 
@@ -117,22 +144,6 @@ module _ (ls : Latchs) (ws : Waits) (next : ℕ) (v : Part Latches) (seen : reco
       let one_plain : ◌≡◌ {A = ℕ} (cond (x.latch == x.latch && x.plain) 1 0) (cond x.plain 1 0) = ap (λ t. cond (t && x.plain) 1 0) (eq-eqb x.latch x.latch refl) in
       let all = room_at x.latch e there in
       record { given = given_at f x e k is there; waits = omega (arith, waits, most, one); plain = omega (arith, plain, most_plain, one_plain); room = omega (arith, all, room) }
-
-  pub pollable_at : (f : ℕ) → IsKept (store_of ls ws) next → IsSome (get v.hall.waits f) → HasFuture ls ws f IsPollable
-  pollable_at f k there =
-      let x = find_wait f there in
-      let e = latch_at_wait f x.0 k x.1 in
-      record { future = x.0; entry = e.0; is_future = x.1; is_entry = e.1; holds = given_at f x.0 e.0 k x.1 e.1 }
-
-  pub endable_at : (f : ℕ) (ready : Waking ℕ) → IsKept (store_of ls ws) next → IsSome (get v.hall.waits f) → registered v.hall ≤ ready.registered → HasFuture ls ws f (IsEndable ready)
-  endable_at f ready k there room =
-      let x = find_wait f there in
-      let e = latch_at_wait f x.0 k x.1 in
-      record { future = x.0; entry = e.0; is_future = x.1; is_entry = e.1; holds = endable_with f x.0 e.0 ready k x.1 e.1 room }
-
--- what holds of a future and its latch, where both were found
-pub of_both : (ls : Latchs) (ws : Waits) (f : ℕ) (x : LatchWaitEntry) (e : LatchEntry) (P : LatchWaitEntry → LatchEntry → Type 0) → at ws f ≡ Some x → at ls x.latch ≡ Some e → IfSome (at ws f) (λ y. IfSome (at ls y.latch) (λ d. P y d)) → P x e
-of_both ls ws f x e P is there holds = some_if (λ d. P x d) (at ls x.latch) e there (some_if (λ y. IfSome (at ls y.latch) (λ d. P y d)) (at ws f) x is holds)
 
 -- what stands at its names is put there again
 pub same_store : (ls ls' : Latchs) (ws ws' : Waits) (l f : ℕ) (e d : LatchEntry) (x y : LatchWaitEntry) → at ls l ≡ Some e → at ws f ≡ Some x → ChangesAt ls ls' l (Some d) → d ≡ e → ChangesAt ws ws' f (Some y) → y ≡ x → store_of ls' ws' ≡ store_of ls ws
@@ -207,80 +218,76 @@ module _ (ls : Latchs) (ws : Waits) (next i : ℕ) (v : Part Latches) (seen : re
       (kept-puts-as ls ls' l d _ change new)
       (kept-puts-as ws ws' i x _ put future))
 
-  pub ends_at : (ls' : Latchs) (ws' : Waits) (f : ℕ) (x : LatchWaitEntry) (e : LatchEntry) (before after : Waking ℕ) → at ws f ≡ Some x → at ls x.latch ≡ Some e → registered v.hall ≤ before.registered → EndsIn ls ws f x e before ls' ws' after
-      → YieldedAt v (store_of ls' ws') i (model.end_of v.hall f (get v.hall.waits f)) answers.Done before after
-  ends_at ls' ws' f x e before after is there room ends = yielded_at (store_of ls' ws') (λ h. model.end_of h f (get h.waits f)) answers.Done before after (leaves (store_of ls ws) next i k less low (store_of ls' ws').latches (store_of ls' ws').waits f x e (found ws f x is) (found ls x.latch e there)
-      (kept-puts ls ls' x.latch (tidied (ended e x.plain)) ends.latches) (kept-puts ws ws' f None ends.waits) (λ h. model.end_of h f (get h.waits f)) answers.Done before after
-      (ap (model.end_of (latches_of (store_of ls ws) (i + 1)) f) (wait_there (store_of ls ws) (i + 1) f x (found ws f x is))) (room_then before.registered room) ends.ready)
+  pub ends_at : (ls' : Latchs) (ws' : Waits) (f : ℕ) (x : LatchWaitEntry) (e : LatchEntry) (before after : Waking ℕ) → at ws f ≡ Some x → at ls x.latch ≡ Some e → registered v.hall ≤ before.registered → ChangesAt ls ls' x.latch (tidied (ended e x.plain)) → ChangesAt ws ws' f None
+      → after ≡ record before { registered = before.registered - let_go (ended e x.plain) } → YieldedAt v (store_of ls' ws') i (model.end_of v.hall f (get v.hall.waits f)) answers.Done before after
+  ends_at ls' ws' f x e before after is there room latches waits ready = yielded_at (store_of ls' ws') (λ h. model.end_of h f (get h.waits f)) answers.Done before after (leaves (store_of ls ws) next i k less low (store_of ls' ws').latches (store_of ls' ws').waits f x e (found ws f x is) (found ls x.latch e there)
+      (kept-puts ls ls' x.latch (tidied (ended e x.plain)) latches) (kept-puts ws ws' f None waits) (λ h. model.end_of h f (get h.waits f)) answers.Done before after
+      (ap (model.end_of (latches_of (store_of ls ws) (i + 1)) f) (wait_there (store_of ls ws) (i + 1) f x (found ws f x is))) (room_then before.registered room) ready)
 
-  pub readies_at : (ls' : Latchs) (ws' : Waits) (f w : ℕ) (x : LatchWaitEntry) (e : LatchEntry) (before after : Waking ℕ) → at ws f ≡ Some x → at ls x.latch ≡ Some e → e.core.count.number ≡ 0 → registered v.hall ≤ before.registered → EndsIn ls ws f x e before ls' ws' after
-      → YieldedAt v (store_of ls' ws') i (model.poll_of v.hall f w (get v.hall.waits f)) answers.Ready before after
-  readies_at ls' ws' f w x e before after is there over room ends = yielded_at (store_of ls' ws') (λ h. model.poll_of h f w (get h.waits f)) answers.Ready before after (leaves (store_of ls ws) next i k less low (store_of ls' ws').latches (store_of ls' ws').waits f x e (found ws f x is) (found ls x.latch e there)
-      (kept-puts ls ls' x.latch (tidied (ended e x.plain)) ends.latches) (kept-puts ws ws' f None ends.waits) (λ h. model.poll_of h f w (get h.waits f)) answers.Ready before after step (room_then before.registered room) ends.ready)
-    where
-      step : model.poll_of (latches_of (store_of ls ws) (i + 1)) f w (get (latches_of (store_of ls ws) (i + 1)).waits f) ≡ quietly (model.gone (latches_of (store_of ls ws) (i + 1)) f (wait_of x)) answers.Ready
-      step = ap (model.poll_of (latches_of (store_of ls ws) (i + 1)) f w) (wait_there (store_of ls ws) (i + 1) f x (found ws f x is))
-          ∙ ap (λ t. if t then quietly (model.gone (latches_of (store_of ls ws) (i + 1)) f (wait_of x)) answers.Ready else quietly (model.with_latch (latches_of (store_of ls ws) (i + 1)) x.latch (record (model.latch_at (latches_of (store_of ls ws) (i + 1)) x.latch) { count = with_waker (model.latch_at (latches_of (store_of ls ws) (i + 1)) x.latch).count f w })) answers.Pending)
-          (ap (λ (r : Latch). r.count.number == 0) (latch_is (store_of ls ws) (i + 1) x.latch e (found ls x.latch e there)) ∙ eq-eqb e.core.count.number 0 over)
-
-  pub polls_at : (ls' : Latchs) (ws' : Waits) (f w : ℕ) (x : LatchWaitEntry) (e : LatchEntry) (r : Result (Poll (Unit {0})) NoMemory) (before after : Waking ℕ) → at ws f ≡ Some x → at ls x.latch ≡ Some e → PollsIn ls ws f x e w before r ls' ws' after → r ≡ Ok Pending
-      → YieldedAt v (store_of ls' ws') i (model.poll_of v.hall f w (get v.hall.waits f)) answers.Pending before after
-  polls_at ls' ws' f w x e r before after is there polls waits =
-      let p = polls.polls.pending waits in
-      let entry : polls.entry ≡ registering_entry e x w = polls.entry_is ∙ ap (λ (c : Counting ℕ). record e { core = c }) p.1 in
-      let future : polls.future ≡ registering_wait e x = polls.future_is ∙ ap (λ s. record x { wait = s }) p.2 in
+  pub polls_at : (ls' : Latchs) (ws' : Waits) (f w : ℕ) (x y : LatchWaitEntry) (e d : LatchEntry) (before after : Waking ℕ) → at ws f ≡ Some x → at ls x.latch ≡ Some e → ChangesAt ls ls' x.latch (Some d) → ChangesAt ws ws' f (Some y) → d ≡ record e { core = d.core } → y ≡ record x { wait = y.wait }
+      → PollsLatch e.core x.wait w Pending d.core y.wait before after → YieldedAt v (store_of ls' ws') i (model.poll_of v.hall f w (get v.hall.waits f)) answers.Pending before after
+  polls_at ls' ws' f w x y e d before after is there latches waits rest mine polls =
+      let told = told_pending _ _ _ _ w polls.polls in
+      let entry : d ≡ registering_entry e x w = rest ∙ (λ j. record e { core = record { count = told.1 j; wakes = polls.wakes j } }) in
+      let future : y ≡ registering_wait e x = mine ∙ ap (λ s. record x { wait = s }) told.2 in
+      let counted : after.registered + length e.core.count.waiting.wakers ≡ before.registered + length (set_with e.core.count.waiting x.wait w).wakers = polls.counted ∙ ap (λ (c : cores.Count ℕ). before.registered + length c.waiting.wakers) told.1 in
       yielded_at (store_of ls' ws') (λ h. model.poll_of h f w (get h.waits f)) answers.Pending before after (polls_on (store_of ls ws) next i k less low (store_of ls' ws').latches (store_of ls' ws').waits f w x e (found ws f x is) (found ls x.latch e there)
-      (kept-puts-as ls ls' x.latch polls.entry _ polls.latches entry)
-      (kept-puts-as ws ws' f polls.future _ polls.waits future)
-      before after p.0 p.3)
+      (kept-puts-as ls ls' x.latch d _ latches entry)
+      (kept-puts-as ws ws' f y _ waits future)
+      before after told.0 polls.woken counted)
 
 -- ---- a poll that is ready or fails changes nothing
-pub record Unchanged (ls' : Latchs) (ws' : Waits) (next : ℕ) (v : Part Latches) (before after : Waking ℕ) : Type 0 where
+pub record Unchanged (ls' : Latchs) (ws' : Waits) (next : ℕ) (v : Part Latches) : Type 0 where
   pub seen : record { hall = latches_of (store_of ls' ws') next; next = next } ≡ v
   pub kept : IsKept (store_of ls' ws') next
-  pub ready : after ≡ before
 
-module _ (ls ls' : Latchs) (ws ws' : Waits) (next : ℕ) (v : Part Latches) (seen : record { hall = latches_of (store_of ls ws) next; next = next } ≡ v) (k : IsKept (store_of ls ws) next) (f w : ℕ) (x : LatchWaitEntry) (e : LatchEntry) (r : Result (Poll (Unit {0})) NoMemory) (before after : Waking ℕ)
-    (is : at ws f ≡ Some x) (there : at ls x.latch ≡ Some e) (polls : PollsIn ls ws f x e w before r ls' ws' after) where
-  same_entry : polls.entry.core ≡ e.core → polls.entry ≡ e
-  same_entry same = polls.entry_is ∙ ap (λ (c : Counting ℕ). record e { core = c }) same
-
-  same_future : polls.future.wait ≡ x.wait → polls.future ≡ x
-  same_future same = polls.future_is ∙ ap (λ s. record x { wait = s }) same
-
-  unchanged : polls.entry.core ≡ e.core → polls.future.wait ≡ x.wait → after ≡ before → Unchanged ls' ws' next v before after
-  unchanged core wait ready =
-      let same = same_store ls ls' ws ws' x.latch f e polls.entry x polls.future there is polls.latches (same_entry core) polls.waits (same_future wait) in
+module _ (ls ls' : Latchs) (ws ws' : Waits) (next : ℕ) (v : Part Latches) (seen : record { hall = latches_of (store_of ls ws) next; next = next } ≡ v) (k : IsKept (store_of ls ws) next) (f : ℕ) (x y : LatchWaitEntry) (e d : LatchEntry)
+    (is : at ws f ≡ Some x) (there : at ls x.latch ≡ Some e) (latches : ChangesAt ls ls' x.latch (Some d)) (waits : ChangesAt ws ws' f (Some y)) where
+  pub unchanged : d ≡ e → y ≡ x → Unchanged ls' ws' next v
+  unchanged same_entry same_future =
+      let same = same_store ls ls' ws ws' x.latch f e d x y there is latches same_entry waits same_future in
       record {
         seen = ap {B = Part Latches} (λ (st : Store). record { hall = latches_of st next; next = next }) same ∙ seen;
         kept = subst (λ (st : Store). IsKept st next) (sym same) k;
-        ready = ready;
       }
 
-  pub failed_unchanged : (m : NoMemory) → r ≡ Err m → Unchanged ls' ws' next v before after
-  failed_unchanged m failed = let p = polls.polls.failed (ap is_err failed) in unchanged p.0 p.1 p.2
+  module _ (w : ℕ) (before after : Waking ℕ) (rest : d ≡ record e { core = d.core }) (mine : y ≡ record x { wait = y.wait }) (polls : PollsLatch e.core x.wait w (Ready tt) d.core y.wait before after) where
+    told : (e.core.count.number ≡ 0) × (d.core.count ≡ e.core.count) × (y.wait ≡ x.wait)
+    told = told_ready _ _ _ _ w polls.polls
 
-  pub ready_unchanged : r ≡ Ok (Ready tt) → Unchanged ls' ws' next v before after
-  ready_unchanged ready = let p = polls.polls.ready ready in unchanged p.1 p.2 p.3
+    pub ready_unchanged : Unchanged ls' ws' next v
+    ready_unchanged = unchanged (rest ∙ (λ j. record e { core = record { count = told.1 j; wakes = polls.wakes j } })) (mine ∙ ap (λ s. record x { wait = s }) told.2)
 
-  pub ready_wait : r ≡ Ok (Ready tt) → at ws' f ≡ Some x
-  ready_wait ready = changed_at ws ws' f (Some polls.future) polls.waits ∙ ap (λ y. Some y) (same_future (polls.polls.ready ready).2)
+    as_many : after.registered ≡ before.registered
+    as_many =
+        let all = polls.counted in
+        let same : length d.core.count.waiting.wakers ≡ length e.core.count.waiting.wakers = ap (λ (c : cores.Count ℕ). length c.waiting.wakers) told.1 in
+        omega (arith, all, same)
 
-  pub ready_latch : r ≡ Ok (Ready tt) → at ls' x.latch ≡ Some e
-  ready_latch ready = changed_at ls ls' x.latch (Some polls.entry) polls.latches ∙ ap (λ y. Some y) (same_entry (polls.polls.ready ready).1)
+    -- its future can end
+    pub ready_there : IsSome (get v.hall.waits f) → IsSome (get (latches_of (store_of ls' ws') next).waits f)
+    ready_there there = subst (λ (p : Part Latches). IsSome (get p.hall.waits f)) (sym ready_unchanged.seen) there
 
-  pub ready_endable : r ≡ Ok (Ready tt) → registered v.hall ≤ before.registered → HasFuture ls' ws' f (IsEndable after)
-  ready_endable ready room =
-      let u = ready_unchanged ready in
-      let same : after.registered ≡ before.registered = ap (λ (y : Waking ℕ). y.registered) u.ready in
-      record { future = x; entry = e; is_future = ready_wait ready; is_entry = ready_latch ready; holds = endable_with ls' ws' next v u.seen f x e after u.kept (ready_wait ready) (ready_latch ready) (omega (arith, same, room)) }
+    pub ready_room : registered v.hall ≤ before.registered → registered (latches_of (store_of ls' ws') next) ≤ after.registered
+    ready_room room =
+        let same : registered (latches_of (store_of ls' ws') next) ≡ registered v.hall = ap (λ (p : Part Latches). registered p.hall) ready_unchanged.seen in
+        let all = as_many in
+        omega (arith, room, same, all)
 
-  pub ready_done : (i : ℕ) (ls'' : Latchs) (ws'' : Waits) (last : Waking ℕ) → v.next ≤ i → i < 2 ^ 64 → r ≡ Ok (Ready tt) → registered v.hall ≤ before.registered
-      → IfSome (at ws' f) (λ y. IfSome (at ls' y.latch) (λ d. EndsIn ls' ws' f y d after ls'' ws'' last)) → YieldedAt v (store_of ls'' ws'') i (model.poll_of v.hall f w (get v.hall.waits f)) answers.Ready before last
-  ready_done i ls'' ws'' last later low ready room ends =
-      let u = ready_unchanged ready in
-      let over = (polls.polls.ready ready).0 in
-      let same : after.registered ≡ before.registered = ap (λ (y : Waking ℕ). y.registered) u.ready in
-      let all : EndsIn ls' ws' f x e after ls'' ws'' last = of_both ls' ws' f x e (λ y d. EndsIn ls' ws' f y d after ls'' ws'' last) (ready_wait ready) (ready_latch ready) ends in
-      subst (λ y. YieldedAt v (store_of ls'' ws'') i (model.poll_of v.hall f w (get v.hall.waits f)) answers.Ready y last) u.ready
-      (readies_at ls' ws' next i v u.seen u.kept later low ls'' ws'' f w x e after last (ready_wait ready) (ready_latch ready) over (omega (arith, same, room)) all)
+    -- and its end is the poll, but for the reply
+    pub ready_done : (i : ℕ) (mid new : Part Latches) (answer : Answer) (last : Waking ℕ) → mid ≡ v → Yields registered mid i (model.end_of mid.hall f (get mid.hall.waits f)) answer new after last
+        → Yields registered v i (model.poll_of v.hall f w (get v.hall.waits f)) answers.Ready new before last
+    ready_done i mid new answer last same ends =
+        let its : get v.hall.waits f ≡ Some (wait_of x) = subst (λ (p : Part Latches). get p.hall.waits f ≡ Some (wait_of x)) seen (wait_there (store_of ls ws) next f x (found ws f x is)) in
+        let over : (model.latch_at v.hall x.latch).count.number ≡ 0 = subst (λ (p : Part Latches). (model.latch_at p.hall x.latch).count.number ≡ 0) seen (ap (λ (r : Latch). r.count.number) (latch_is (store_of ls ws) next x.latch e (found ls x.latch e there)) ∙ told.0) in
+        let still : after ≡ before = (λ j. record { wakers = polls.woken j; registered = as_many j }) in
+        let here : Yields registered v i (model.end_of v.hall f (get v.hall.waits f)) answer new before last = subst (λ (p : Part Latches). Yields registered p i (model.end_of p.hall f (get p.hall.waits f)) answer new before last) same (subst (λ u. Yields registered mid i (model.end_of mid.hall f (get mid.hall.waits f)) answer new u last) still ends) in
+        let gone = ap (model.end_of v.hall f) its in
+        let step = ap (model.poll_of v.hall f w) its
+        ∙ ap (λ t. if t then quietly (model.gone v.hall f (wait_of x)) answers.Ready else quietly (model.with_latch v.hall x.latch (record (model.latch_at v.hall x.latch) { count = with_waker (model.latch_at v.hall x.latch).count f w })) answers.Pending) (eq-eqb _ 0 over) in
+        record {
+          replied = sym (ap (λ (o : Outcome Latches). o.reply) step);
+          moved = here.moved ∙ ap (λ (o : Outcome Latches). record { hall = o.hall; next = i + 1 }) gone ∙ sym (ap (λ (o : Outcome Latches). record { hall = o.hall; next = i + 1 }) step);
+          woken = here.woken ∙ ap (λ (o : Outcome Latches). before.wakers ++ o.wakes) gone ∙ sym (ap (λ (o : Outcome Latches). before.wakers ++ o.wakes) step);
+          counted = here.counted ∙ ap (λ (o : Outcome Latches). before.registered + registered o.hall) gone ∙ sym (ap (λ (o : Outcome Latches). before.registered + registered o.hall) step);
+        }

@@ -7,6 +7,7 @@ use Rattle.std.specs.FinMap.{FinMap, find, get, insert, remove, empty, entries, 
 use Rattle.std.proofs.lemmas.Bool.{eqb-true, eqb-false, eq-eqb, ne_eqb}
 use Rattle.mea_base.specs.Named.{named, at}
 use Rattle.mea_base.specs.Totals.{total, weight}
+use Rattle.mea_meet.specs.Entries.{ChangesAt}
 use Rattle.mea_base.proofs.NamedMaps.{same_named, get-named, named_changed}
 use Rattle.mea_base.proofs.Totals.{get_inserted, get_removed, total-insert, total-remove, total-alike}
 
@@ -82,11 +83,7 @@ is_empty m none = same_named m empty (λ q. none q ∙ sym (get-empty nat_cmp q)
 pub one_entry : {X : Type 0} (m : FinMap nat_cmp X) (j k : ℕ) (x y : X) → get m j ≡ Some x → j ≡ k → get m k ≡ Some y → x ≡ y
 one_entry m j k x y is same there = inside x y (sym is ∙ ap (get m) same ∙ there)
 
--- at one name there is this now, and every other name has what it had
-abbrev pub ChangesAt : {X : Type 0} → List (ℕ × X) → List (ℕ × X) → ℕ → Option X → Type 0
-ChangesAt {X} old new k o = (q : ℕ) → at new q ≡ cond (is_at (nat_cmp k) q) o (at old q)
-
--- the same of maps
+-- at one name a map has this now, and every other name has what it had
 abbrev pub Puts : {X : Type 0} → FinMap nat_cmp X → FinMap nat_cmp X → ℕ → Option X → Type 0
 Puts {X} old new k o = (q : ℕ) → get new q ≡ cond (k == q) o (get old q)
 

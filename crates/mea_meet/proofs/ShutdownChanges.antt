@@ -10,11 +10,11 @@ use Rattle.mea_sets.specs.declared.place.Place.{Place}
 use Rattle.mea_sets.specs.WaitSet.{Registered}
 use Rattle.mea_meet_model.specs.Shutdowns.{Shutdown, borrows, registered}
 use Rattle.mea_meet.specs.Names.{waiting_at, AreNamed, AreGiven}
-use Rattle.mea_meet.specs.declared.shutdowns.ShutdownEntry.{ShutdownEntry}
-use Rattle.mea_meet.specs.declared.shutdowns.ReceiverEntry.{ReceiverEntry}
-use Rattle.mea_meet.specs.declared.shutdowns.ShutdownWaitEntry.{ShutdownWaitEntry}
-use Rattle.mea_meet.specs.declared.shutdowns.ShutdownWait.{ShutdownWait as Wait}
-use Rattle.mea_meet.specs.declared.shutdowns.ShutdownWait.TheVariants as waits
+use Rattle.mea_meet.specs.declared.shutdown_entries.ShutdownEntry.{ShutdownEntry}
+use Rattle.mea_meet.specs.declared.shutdown_entries.ReceiverEntry.{ReceiverEntry}
+use Rattle.mea_meet.specs.declared.shutdown_entries.ShutdownWaitEntry.{ShutdownWaitEntry}
+use Rattle.mea_meet.specs.declared.shutdown_entries.ShutdownWait.{ShutdownWait as Wait}
+use Rattle.mea_meet.specs.declared.shutdown_entries.ShutdownWait.TheVariants as waits
 use Rattle.mea_meet.specs.ShutdownHall.{Store, End, OfSignal, OfReceivers, awaits_of, slot_at, slot_in, slots_of, shutdown_of, hall_of, borrowers_in, is_of, IsKeptEntry, IsKeptSender, IsKeptReceiver, IsKeptWait, IsKept}
 use Rattle.mea_meet.proofs.Names.{waiting-length, named-ends, named-new}
 use Rattle.mea_meet.proofs.Maps.{Puts, Belongs, put_here, put_other, total_puts, by_put, total-named, total_elsewhere, weight-within, seen_puts, inside}
@@ -151,7 +151,6 @@ module _ (st st' : Store) (next next' s a b f : ℕ) (e2 : ShutdownEntry) (oa : 
           let counted = total_elsewhere (λ (x : ReceiverEntry). x.shutdown) (λ x. cond x.watch 0 1) st.receivers st'.receivers b ob s q c.receivers c.receiver_was c.receiver_is apart in
           record {
             quiet = old.quiet;
-            known = old.known;
             counted = old.counted ∙ sym counted;
             things = old.things ∙ (λ j. sym senders j + sym receivers j + sym futures j);
             few = (let few = old.few in omega (arith, few, later));

@@ -9,13 +9,13 @@ use Rattle.mea_base.specs.Totals.{total, weight}
 use Rattle.mea_sets.specs.declared.place.Place.{Place}
 use Rattle.mea_meet_model.specs.Count.{without_future}
 use Rattle.mea_meet_model.specs.Shutdowns.{Shutdown, borrows, awaited, with_awaited}
-use Rattle.mea_meet.specs.Names.{AreNamed}
-use Rattle.mea_meet.specs.declared.shutdowns.ShutdownEntry.{ShutdownEntry}
-use Rattle.mea_meet.specs.declared.shutdowns.ReceiverEntry.{ReceiverEntry}
-use Rattle.mea_meet.specs.declared.shutdowns.ShutdownWaitEntry.{ShutdownWaitEntry}
-use Rattle.mea_meet.specs.declared.shutdowns.ShutdownWait.{ShutdownWait as Wait}
-use Rattle.mea_meet.specs.declared.shutdowns.ShutdownWait.TheVariants as waits
-use Rattle.mea_meet.specs.ShutdownHall.{Store, End, OfSignal, OfReceivers, awaits_of, borrowed_of, slot_at, slot_in, count_at, slots_of, count_of, shutdown_of, receiver_of, wait_of, hall_of, counting, borrowers_in, is_of, GivesBack, without_wait, IsKeptEntry, IsKept}
+use Rattle.mea_meet.specs.Names.{AreNamed, count_seen}
+use Rattle.mea_meet.specs.declared.shutdown_entries.ShutdownEntry.{ShutdownEntry}
+use Rattle.mea_meet.specs.declared.shutdown_entries.ReceiverEntry.{ReceiverEntry}
+use Rattle.mea_meet.specs.declared.shutdown_entries.ShutdownWaitEntry.{ShutdownWaitEntry}
+use Rattle.mea_meet.specs.declared.shutdown_entries.ShutdownWait.{ShutdownWait as Wait}
+use Rattle.mea_meet.specs.declared.shutdown_entries.ShutdownWait.TheVariants as waits
+use Rattle.mea_meet.specs.ShutdownHall.{Store, End, OfSignal, OfReceivers, awaits_of, borrowed_of, slot_at, slot_in, count_at, slots_of, shutdown_of, receiver_of, wait_of, hall_of, counting, borrowers_in, is_of, GivesBack, without_wait, IsKeptEntry, IsKept}
 use Rattle.mea_meet.proofs.Names.{waiting-ends}
 use Rattle.mea_meet.proofs.Maps.{Puts, Belongs, kept-at, kept-puts, puts_same, puts_seen, total_puts, is_same, is_insert, is_remove, belongs-none, belongs-some, inside, weight-within, at_same}
 use Rattle.mea_meet.proofs.ShutdownChanges.{Changes, Unplaced, kept_after, registered_after, wakers_at, slot_now, slot_other, named_unplaced, given_unplaced, alike_unplaced, shutdowns_after}
@@ -111,13 +111,13 @@ module _ (st : Store) (ss' : FinMap nat_cmp ShutdownEntry) (rs' : FinMap nat_cmp
   abbrev unplaced_was : (end : End) (w : Wait) → x.wait ≡ w → slot_at end w s ≡ None → Unplaced end (get st.waits f)
   unplaced_was end w same none = inl (slot_was end w same ∙ none)
 
-  ends_at : (end : End) (w : Wait) (slot : Option Place) → x.wait ≡ w → slot_at end w s ≡ Some (s, slot) → count_of (slots_of end after.waits) (i + 1) s (count_at end e.core) ≡ without_future (count_of (slots_of end st.waits) next s (count_at end e.core)) f
+  ends_at : (end : End) (w : Wait) (slot : Option Place) → x.wait ≡ w → slot_at end w s ≡ Some (s, slot) → count_seen (slots_of end after.waits) (i + 1) s (count_at end e.core) ≡ without_future (count_seen (slots_of end st.waits) next s (count_at end e.core)) f
   ends_at end w slot same mine = λ j. record {
     number = (count_at end e.core).number;
     waiting = waiting-ends (slots_of end st.waits) (slots_of end after.waits) next (i + 1) s f slot (count_at end e.core).waiting (k.named end) (named_after end) (slot_was end w same ∙ mine) (slot_now st after next (i + 1) s i b f less_entry None ob None k changes later end) (slot_other st after next (i + 1) s i b f less_entry None ob None k changes later end) j;
   }
 
-  stays_at : (end : End) (w : Wait) → x.wait ≡ w → slot_at end w s ≡ None → count_of (slots_of end after.waits) (i + 1) s (count_at end e.core) ≡ count_of (slots_of end st.waits) next s (count_at end e.core)
+  stays_at : (end : End) (w : Wait) → x.wait ≡ w → slot_at end w s ≡ None → count_seen (slots_of end after.waits) (i + 1) s (count_at end e.core) ≡ count_seen (slots_of end st.waits) next s (count_at end e.core)
   stays_at end w same none = λ j. record {
     number = (count_at end e.core).number;
     waiting = alike_unplaced st after next (i + 1) s i b f less_entry None ob None k changes later named_after end (count_at end e.core).waiting (unplaced_was end w same none) (inl refl) j;
@@ -133,7 +133,7 @@ module _ (st : Store) (ss' : FinMap nat_cmp ShutdownEntry) (rs' : FinMap nat_cmp
       (counted : (y : ReceiverEntry) → ob ≡ Some y → y.plain ≡ borrowers_in after b) (few : (y : ReceiverEntry) → ob ≡ Some y → y.plain ≤ i + 1) (below : (y : ReceiverEntry) → ob ≡ Some y → b < i + 1)
       (lends : (q : ℕ) → (b ≡ q → ⊥) → ◌≡◌ {A = ℕ} (cond (borrows (awaits_of x.wait) q) 1 0) 0) where
     entry : IsKeptEntry after (i + 1) s less_entry
-    entry = entry_after st after next i s i b f less_entry None ob None k changes e there less (k.each s e there).quiet (k.each s e there).known
+    entry = entry_after st after next i s i b f less_entry None ob None k changes e there less (k.each s e there).quiet
         (ap (λ n. e.core.receivers.number + n) counts_same)
         (let senders : weight (λ q (p : ℕ). cond (p == s) 1 0) i (get st.senders i) ≡ 0 = ap (weight (λ q (p : ℕ). cond (p == s) 1 0) i) (no-sender st next i k less) in
         let mine : weight (λ q (y : ShutdownWaitEntry). cond (y.shutdown == s) 1 0) f (get st.waits f) ≡ cond (s == s) 1 0 = ap (weight (λ q (y : ShutdownWaitEntry). cond (y.shutdown == s) 1 0) f) is in

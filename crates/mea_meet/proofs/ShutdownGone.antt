@@ -10,8 +10,8 @@ use Rattle.mea_base.specs.declared.answer.Answer.TheVariants as answers
 use Rattle.mea_meet_model.specs.Shutdowns.{Shutdown, Shutdowns, Receiver, ShutdownWait, shutdown_at, awaited, with_awaited, with_shutdown, tidied, gone, poll_of, end_sender_of, end_receiver_of, registered}
 use Rattle.mea_meet_model.specs.Count.{with_waker}
 use Rattle.mea_meet.specs.Play.{Part, Yields}
-use Rattle.mea_meet.specs.declared.shutdowns.ShutdownEntry.{ShutdownEntry}
-use Rattle.mea_meet.specs.declared.shutdowns.ShutdownWaitEntry.{ShutdownWaitEntry}
+use Rattle.mea_meet.specs.declared.shutdown_entries.ShutdownEntry.{ShutdownEntry}
+use Rattle.mea_meet.specs.declared.shutdown_entries.ShutdownWaitEntry.{ShutdownWaitEntry}
 use Rattle.mea_meet.specs.ShutdownHall.{Store, end_of, awaits_of, count_at, wait_of, hall_of, without_wait, without_receiver, woken_at_end}
 use Rattle.mea_meet.proofs.ShutdownSeen.{wait-seen, shutdown-at}
 use Rattle.mea_meet.proofs.ShutdownPolls.{awaited-number}

@@ -10,9 +10,9 @@ use Rattle.mea_sets.specs.WaitSet.{Registered, has_given}
 use Rattle.mea_sets.specs.Countdown.{count_from}
 use Rattle.mea_meet_model.specs.Shutdowns.{new_shutdown}
 use Rattle.mea_meet.specs.Names.{AreGiven}
-use Rattle.mea_meet.specs.declared.shutdowns.ShutdownEntry.{ShutdownEntry}
-use Rattle.mea_meet.specs.declared.shutdowns.ReceiverEntry.{ReceiverEntry}
-use Rattle.mea_meet.specs.declared.shutdowns.ShutdownWaitEntry.{ShutdownWaitEntry}
+use Rattle.mea_meet.specs.declared.shutdown_entries.ShutdownEntry.{ShutdownEntry}
+use Rattle.mea_meet.specs.declared.shutdown_entries.ReceiverEntry.{ReceiverEntry}
+use Rattle.mea_meet.specs.declared.shutdown_entries.ShutdownWaitEntry.{ShutdownWaitEntry}
 use Rattle.mea_meet.specs.ShutdownHall.{Store, End, count_at, slot_in, slots_of, receiver_of, hall_of, counting, senders_in, receivers_in, waits_in, IsKeptEntry, IsKept}
 use Rattle.mea_meet.proofs.Maps.{Puts, puts_same, puts_seen, total_puts, is_insert, belongs-none, belongs-some, inside, at_same}
 use Rattle.mea_meet.proofs.ShutdownChanges.{Changes, slot_home, wakers_at}
@@ -45,7 +45,7 @@ module _ (st : Store) (next s : ℕ) (k : IsKept st next) (none : get st.shutdow
 
 -- what is kept of a shutdown that was made
 abbrev pub made : ShutdownEntry
-made = record { core = record { signal = count_from 1; receivers = count_from 1; wakes = [] }; receivers = 1; things = 2 }
+made = record { core = record { signal = count_from 1; receivers = count_from 1; wakes = [] }; things = 2 }
 
 module _ (st : Store) (ss' : FinMap nat_cmp ShutdownEntry) (ks' : FinMap nat_cmp ℕ) (rs' : FinMap nat_cmp ReceiverEntry) (next i : ℕ) (k : IsKept st next) (less : next ≤ i) (low : i < 2 ^ 64)
     (shutdowns : Puts st.shutdowns ss' i (Some made)) (senders : Puts st.senders ks' i (Some i)) (receivers : Puts st.receivers rs' i (Some (record { shutdown = i; watch = false; plain = 0 }))) where
@@ -75,7 +75,6 @@ module _ (st : Store) (ss' : FinMap nat_cmp ShutdownEntry) (ks' : FinMap nat_cmp
   entry : IsKeptEntry after (i + 1) i made
   entry = record {
     quiet = refl;
-    known = refl;
     counted = (
         let all = total_puts st.receivers rs' i (λ q (x : ReceiverEntry). counting i x) (Some first) receivers in
         let before : weight (λ q (x : ReceiverEntry). counting i x) i (get st.receivers i) ≡ 0 = ap (weight (λ q (x : ReceiverEntry). counting i x) i) (no-receiver st next i k less) in

@@ -10,12 +10,12 @@ use Rattle.mea_base.specs.declared.answer.Answer.{Answer}
 use Rattle.mea_sets.specs.Countdown.{decreased, woken_by}
 use Rattle.mea_meet_model.specs.Count as model
 use Rattle.mea_meet_model.specs.Shutdowns.{Shutdown, Shutdowns, shutdown_at, borrows, registered}
-use Rattle.mea_meet.specs.Names.{AreNamed, AreGiven}
+use Rattle.mea_meet.specs.Names.{AreNamed, AreGiven, count_seen}
 use Rattle.mea_meet.specs.Play.{Rests, Yields}
-use Rattle.mea_meet.specs.declared.shutdowns.ShutdownEntry.{ShutdownEntry}
-use Rattle.mea_meet.specs.declared.shutdowns.ReceiverEntry.{ReceiverEntry}
-use Rattle.mea_meet.specs.declared.shutdowns.ShutdownWaitEntry.{ShutdownWaitEntry}
-use Rattle.mea_meet.specs.ShutdownHall.{Store, End, OfSignal, OfReceivers, awaits_of, wait_of, count_at, slot_in, slots_of, count_of, shutdown_of, hall_of, counting, borrowers_in, is_of, IsKeptEntry, IsKept}
+use Rattle.mea_meet.specs.declared.shutdown_entries.ShutdownEntry.{ShutdownEntry}
+use Rattle.mea_meet.specs.declared.shutdown_entries.ReceiverEntry.{ReceiverEntry}
+use Rattle.mea_meet.specs.declared.shutdown_entries.ShutdownWaitEntry.{ShutdownWaitEntry}
+use Rattle.mea_meet.specs.ShutdownHall.{Store, End, OfSignal, OfReceivers, awaits_of, wait_of, count_at, slot_in, slots_of, shutdown_of, hall_of, counting, borrowers_in, is_of, IsKeptEntry, IsKept}
 use Rattle.mea_meet.proofs.Maps.{Puts, Belongs, puts_same, puts_seen, is_same, is_insert, is_remove, weight-within, belongs-none, belongs-some, at_same}
 use Rattle.mea_meet.proofs.ShutdownChanges.{Changes, Unplaced, kept_after, registered_after, wakers_at}
 use Rattle.mea_meet.proofs.Counts.{decreased-seen, woken-seen, given-decreased, woken-all}
@@ -112,11 +112,11 @@ module _ (st : Store) (ss' : FinMap nat_cmp ShutdownEntry) (ks' : FinMap nat_cmp
     wait_is = belongs-none (λ x. x.shutdown) s None refl;
   }
 
-  pub sender_kept : e2.core.wakes ≡ [] → e2.receivers ≡ e2.core.receivers.number → e2.core.receivers.number ≡ e.core.receivers.number
+  pub sender_kept : e2.core.wakes ≡ [] → e2.core.receivers.number ≡ e.core.receivers.number
       → e2.things + weight (λ q (p : ℕ). cond (p == s) 1 0) a (get st.senders a) ≡ e.things + weight (λ q (p : ℕ). cond (p == s) 1 0) a oa → e2.things ≤ e.things + 1
       → ((end : End) → AreGiven (slots_of end st.waits) s (count_at end e2.core).waiting) → ((p : ℕ) → oa ≡ Some p → a < i + 1) → IsKept by_sender (i + 1)
-  sender_kept quiet known number things few given_still below = kept_all st by_sender next i s a i e2 oa None k less sender_changes low
-      (entry_after st by_sender next i s a i i e2 oa None None k sender_changes e there less quiet known
+  sender_kept quiet number things few given_still below = kept_all st by_sender next i s a i e2 oa None k less sender_changes low
+      (entry_after st by_sender next i s a i i e2 oa None None k sender_changes e there less quiet
       (let none : weight (λ q (x : ReceiverEntry). counting s x) i (get st.receivers i) ≡ 0 = ap (weight (λ q (x : ReceiverEntry). counting s x) i) (no-receiver st next i k less) in omega (arith, number, none))
       (let receivers : weight (λ q (x : ReceiverEntry). cond (x.shutdown == s) 1 0) i (get st.receivers i) ≡ 0 = ap (weight (λ q (x : ReceiverEntry). cond (x.shutdown == s) 1 0) i) (no-receiver st next i k less) in
       let futures : weight (λ q (x : ShutdownWaitEntry). cond (x.shutdown == s) 1 0) i (get st.waits i) ≡ 0 = ap (weight (λ q (x : ShutdownWaitEntry). cond (x.shutdown == s) 1 0) i) (no-wait st next i k less) in
@@ -153,7 +153,7 @@ module _ (st : Store) (ss' : FinMap nat_cmp ShutdownEntry) (ks' : FinMap nat_cmp
 
   pub copy_sender_goes : Goes st (record { shutdowns = ss'; senders = ks'; receivers = st.receivers; waits = st.waits }) next i (record (hall_of st next) { senders = insert (hall_of st next).senders i s })
   copy_sender_goes = record {
-    kept = sender_kept st ss' ks' next i s i e e2 (Some s) k less low there shutdowns senders was is (k.each s e there).quiet (k.each s e there).known refl
+    kept = sender_kept st ss' ks' next i s i e e2 (Some s) k less low there shutdowns senders was is (k.each s e there).quiet refl
         (let none : weight (λ q (p : ℕ). cond (p == s) 1 0) i (get st.senders i) ≡ 0 = ap (weight (λ q (p : ℕ). cond (p == s) 1 0) i) (no-sender st next i k less) in
         let one : ◌≡◌ {A = ℕ} (cond (s == s) 1 0) 1 = at_same s s 1 0 refl in
         omega (arith, none, one))
@@ -189,7 +189,7 @@ module _ (st : Store) (ss' : FinMap nat_cmp ShutdownEntry) (ks' : FinMap nat_cmp
 
   pub remove_sender_goes : Goes st (record { shutdowns = ss'; senders = ks'; receivers = st.receivers; waits = st.waits }) next i (record (hall_of st next) { senders = remove (hall_of st next).senders a })
   remove_sender_goes = record {
-    kept = sender_kept st ss' ks' next i s a e less_sender None k less low there shutdowns senders sender_of sender_gone (k.each s e there).quiet (k.each s e there).known refl
+    kept = sender_kept st ss' ks' next i s a e less_sender None k less low there shutdowns senders sender_of sender_gone (k.each s e there).quiet refl
         (let counted = sender_counted st next a s e k there sender in
         let one : ◌≡◌ {A = ℕ} (cond (s == s) 1 0) 1 = at_same s s 1 0 refl in
         let was : weight (λ q (p : ℕ). cond (p == s) 1 0) a (get st.senders a) ≡ cond (s == s) 1 0 = ap (weight (λ q (p : ℕ). cond (p == s) 1 0) a) sender in
@@ -226,7 +226,7 @@ module _ (st : Store) (ss' : FinMap nat_cmp ShutdownEntry) (next i s : ℕ) (e :
   pub signal_wakes : Wakes st (record { shutdowns = ss'; senders = st.senders; receivers = st.receivers; waits = st.waits }) next i
       (record (hall_of st next) { shutdowns = insert (hall_of st next).shutdowns s (record (shutdown_at (hall_of st next) s) { signal = model.decreased (shutdown_at (hall_of st next) s).signal 1 }) }) (woken_by e.core.signal 1)
   signal_wakes = record {
-    kept = sender_kept st ss' st.senders next i s i e signalled None k less low there shutdowns same_senders no_sender_there no_sender_new (k.each s e there).quiet (k.each s e there).known refl
+    kept = sender_kept st ss' st.senders next i s i e signalled None k less low there shutdowns same_senders no_sender_there no_sender_new (k.each s e there).quiet refl
         (let none : weight (λ q (p : ℕ). cond (p == s) 1 0) i (get st.senders i) ≡ 0 = ap (weight (λ q (p : ℕ). cond (p == s) 1 0) i) (no-sender st next i k less) in omega (arith, none))
         (omega arith) given_signalled (λ p none. absurd (cc));
     moved = λ j. record {
@@ -242,7 +242,7 @@ module _ (st : Store) (ss' : FinMap nat_cmp ShutdownEntry) (next i s : ℕ) (e :
   }
     where
       signal_seen : shutdown_of st.waits next s signalled ≡ record (shutdown_at (hall_of st next) s) { signal = model.decreased (shutdown_at (hall_of st next) s).signal 1 }
-      signal_seen = (λ j. record { signal = decreased-seen (slots_of OfSignal st.waits) next s e.core.signal 1 refl j; receivers = count_of (slots_of OfReceivers st.waits) next s e.core.receivers })
+      signal_seen = (λ j. record { signal = decreased-seen (slots_of OfSignal st.waits) next s e.core.signal 1 refl j; receivers = count_seen (slots_of OfReceivers st.waits) next s e.core.receivers })
           ∙ ap (λ (r : Shutdown). record r { signal = model.decreased r.signal 1 }) (sym (shutdown-at st next s e there))
 
 pub signal_woken : (st : Store) (next s : ℕ) (e : ShutdownEntry) → get st.shutdowns s ≡ Some e → model.woken_by (shutdown_at (hall_of st next) s).signal 1 ≡ woken_by e.core.signal 1
@@ -259,7 +259,7 @@ module _ (st : Store) (next i s : ℕ) (e : ShutdownEntry) (k : IsKept st next) 
       let is = belongs-none {X = ℕ} (λ p. p) s None refl in
       let same = puts_same st.senders i None (no-sender st next i k less) in
       record {
-        kept = sender_kept st st.shutdowns st.senders next i s i e e None k less low there same_shutdowns same was is (k.each s e there).quiet (k.each s e there).known refl
+        kept = sender_kept st st.shutdowns st.senders next i s i e e None k less low there same_shutdowns same was is (k.each s e there).quiet refl
             (let none : weight (λ q (p : ℕ). cond (p == s) 1 0) i (get st.senders i) ≡ 0 = ap (weight (λ q (p : ℕ). cond (p == s) 1 0) i) (no-sender st next i k less) in omega (arith, none))
             (omega arith) (k.each s e there).given (λ p none. absurd (cc));
         moved = λ j. record {

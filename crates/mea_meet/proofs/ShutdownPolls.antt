@@ -12,14 +12,14 @@ use Rattle.mea_sets.specs.declared.place.Place.{Place}
 use Rattle.mea_sets.specs.WaitSet.{has_given, with_waker, slot_after}
 use Rattle.mea_meet_model.specs.Count as model
 use Rattle.mea_meet_model.specs.Shutdowns.{Shutdown, Shutdowns, ShutdownWait, borrows, shutdown_at, awaited, with_awaited, with_shutdown, poll_of, gone, registered}
-use Rattle.mea_meet.specs.Names.{AreNamed, AreGiven}
+use Rattle.mea_meet.specs.Names.{AreNamed, AreGiven, count_seen}
 use Rattle.mea_meet.specs.Play.{Yields}
-use Rattle.mea_meet.specs.declared.shutdowns.ShutdownEntry.{ShutdownEntry}
-use Rattle.mea_meet.specs.declared.shutdowns.ReceiverEntry.{ReceiverEntry}
-use Rattle.mea_meet.specs.declared.shutdowns.ShutdownWaitEntry.{ShutdownWaitEntry}
-use Rattle.mea_meet.specs.declared.shutdowns.ShutdownWait.{ShutdownWait as Wait}
-use Rattle.mea_meet.specs.declared.shutdowns.ShutdownWait.TheVariants as waits
-use Rattle.mea_meet.specs.ShutdownHall.{Store, End, OfSignal, OfReceivers, end_of, slot_of, awaits_of, set_at, polled, polled_wait, slot_at, slot_in, count_at, slots_of, count_of, shutdown_of, wait_of, hall_of, counting, is_of, IsKeptEntry, IsKept}
+use Rattle.mea_meet.specs.declared.shutdown_entries.ShutdownEntry.{ShutdownEntry}
+use Rattle.mea_meet.specs.declared.shutdown_entries.ReceiverEntry.{ReceiverEntry}
+use Rattle.mea_meet.specs.declared.shutdown_entries.ShutdownWaitEntry.{ShutdownWaitEntry}
+use Rattle.mea_meet.specs.declared.shutdown_entries.ShutdownWait.{ShutdownWait as Wait}
+use Rattle.mea_meet.specs.declared.shutdown_entries.ShutdownWait.TheVariants as waits
+use Rattle.mea_meet.specs.ShutdownHall.{Store, End, OfSignal, OfReceivers, end_of, slot_of, awaits_of, set_at, polled, polled_wait, slot_at, slot_in, count_at, slots_of, shutdown_of, wait_of, hall_of, counting, is_of, IsKeptEntry, IsKept}
 use Rattle.mea_meet.proofs.Names.{waiting-registers, named-registers, given-registers}
 use Rattle.mea_meet.proofs.Maps.{Puts, puts_same, puts_seen, is_same, is_insert, belongs-none, belongs-some, inside}
 use Rattle.mea_meet.proofs.ShutdownChanges.{Changes, Unplaced, kept_after, registered_after, wakers_at, slot_now, slot_other, named_unplaced, given_unplaced, alike_unplaced, shutdowns_after}
@@ -142,13 +142,13 @@ module _ (st : Store) (ss' : FinMap nat_cmp ShutdownEntry) (ws' : FinMap nat_cmp
   seen = shutdown_of st.waits next s e
 
   registers_at : (end : End) (w : Wait) (slot : Option Place) → x.wait ≡ w → slot_at end w s ≡ Some (s, slot) → slot_at end (polled_wait e w) s ≡ Some (s, slot_after (count_at end e.core).waiting slot)
-      → count_of (slots_of end after.waits) (i + 1) s (record (count_at end e.core) { waiting = with_waker (count_at end e.core).waiting slot v }) ≡ model.with_waker (count_of (slots_of end st.waits) next s (count_at end e.core)) f v
+      → count_seen (slots_of end after.waits) (i + 1) s (record (count_at end e.core) { waiting = with_waker (count_at end e.core).waiting slot v }) ≡ model.with_waker (count_seen (slots_of end st.waits) next s (count_at end e.core)) f v
   registers_at end w slot same mine now = λ j. record {
     number = (count_at end e.core).number;
     waiting = waiting-registers (slots_of end st.waits) (slots_of end after.waits) next (i + 1) s f v slot (count_at end e.core).waiting (k.named end) (named end) ((k.each s e there).given end) (slot_was end w same ∙ mine) (slot_is end w same ∙ now) (others end) j;
   }
 
-  stays_at : (end : End) (w : Wait) → x.wait ≡ w → slot_at end w s ≡ None → slot_at end (polled_wait e w) s ≡ None → count_of (slots_of end after.waits) (i + 1) s (count_at end e.core) ≡ count_of (slots_of end st.waits) next s (count_at end e.core)
+  stays_at : (end : End) (w : Wait) → x.wait ≡ w → slot_at end w s ≡ None → slot_at end (polled_wait e w) s ≡ None → count_seen (slots_of end after.waits) (i + 1) s (count_at end e.core) ≡ count_seen (slots_of end st.waits) next s (count_at end e.core)
   stays_at end w same none still = λ j. record {
     number = (count_at end e.core).number;
     waiting = alike_unplaced st after next (i + 1) s i i f e2 None None (Some waiting) k changes later named end (count_at end e.core).waiting (inl (slot_was end w same ∙ none)) (unplaced end w same still) j;
@@ -164,7 +164,6 @@ module _ (st : Store) (ss' : FinMap nat_cmp ShutdownEntry) (ws' : FinMap nat_cmp
   -- ---- what is kept
   entry : IsKeptEntry after (i + 1) s e2
   entry = entry_after st after next i s i i f e2 None None (Some waiting) k changes e there less (polled-quiet e x.wait v ∙ (k.each s e there).quiet)
-      ((k.each s e there).known ∙ sym (polled-number e x.wait v))
       (let same = polled-number e x.wait v in
       let none : weight (λ q (y : ReceiverEntry). counting s y) i (get st.receivers i) ≡ 0 = ap (weight (λ q (y : ReceiverEntry). counting s y) i) (no-receiver st next i k less) in
       omega (arith, same, none))

@@ -9,11 +9,11 @@ use Rattle.mea_sets.specs.Countdown.{decreased, woken_by}
 use Rattle.mea_meet_core.specs.Count.{increased}
 use Rattle.mea_meet_model.specs.Count as model
 use Rattle.mea_meet_model.specs.Shutdowns.{Shutdown, Shutdowns, Receiver, ShutdownWait, shutdown_at, copied, registered}
-use Rattle.mea_meet.specs.Names.{AreGiven}
-use Rattle.mea_meet.specs.declared.shutdowns.ShutdownEntry.{ShutdownEntry}
-use Rattle.mea_meet.specs.declared.shutdowns.ReceiverEntry.{ReceiverEntry}
-use Rattle.mea_meet.specs.declared.shutdowns.ShutdownWaitEntry.{ShutdownWaitEntry}
-use Rattle.mea_meet.specs.ShutdownHall.{Store, End, OfSignal, OfReceivers, count_at, slots_of, count_of, shutdown_of, receiver_of, hall_of, counting, borrowers_in, without_receiver, woken_at_end, is_full, IsKept}
+use Rattle.mea_meet.specs.Names.{AreGiven, count_seen}
+use Rattle.mea_meet.specs.declared.shutdown_entries.ShutdownEntry.{ShutdownEntry}
+use Rattle.mea_meet.specs.declared.shutdown_entries.ReceiverEntry.{ReceiverEntry}
+use Rattle.mea_meet.specs.declared.shutdown_entries.ShutdownWaitEntry.{ShutdownWaitEntry}
+use Rattle.mea_meet.specs.ShutdownHall.{Store, End, OfSignal, OfReceivers, count_at, slots_of, shutdown_of, receiver_of, hall_of, counting, borrowers_in, without_receiver, woken_at_end, is_full, IsKept}
 use Rattle.mea_meet.proofs.Maps.{Puts, Belongs, puts_same, puts_seen, is_same, is_insert, is_remove, belongs-none, belongs-some, inside, weight-within, some_found, at_same}
 use Rattle.mea_meet.proofs.ShutdownChanges.{Changes, wakers_at}
 use Rattle.mea_meet.proofs.ShutdownSeen.{shutdown-at, shutdown-there, receiver-seen}
@@ -40,13 +40,13 @@ module _ (st : Store) (ss' : FinMap nat_cmp ShutdownEntry) (rs' : FinMap nat_cmp
     wait_is = belongs-none (λ x. x.shutdown) s None refl;
   }
 
-  receiver_kept : e2.core.wakes ≡ [] → e2.receivers ≡ e2.core.receivers.number
+  receiver_kept : e2.core.wakes ≡ []
       → e2.core.receivers.number + weight (λ q (x : ReceiverEntry). counting s x) b (get st.receivers b) ≡ e.core.receivers.number + weight (λ q (x : ReceiverEntry). counting s x) b ob
       → e2.things + weight (λ q (x : ReceiverEntry). cond (x.shutdown == s) 1 0) b (get st.receivers b) ≡ e.things + weight (λ q (x : ReceiverEntry). cond (x.shutdown == s) 1 0) b ob → e2.things ≤ e.things + 1
       → ((end : End) → AreGiven (slots_of end st.waits) s (count_at end e2.core).waiting)
       → borrowers_in st b ≡ 0 → ((x : ReceiverEntry) → ob ≡ Some x → (x.plain ≡ 0) × (b < i + 1)) → IsKept by_receiver (i + 1)
-  receiver_kept quiet known number things few given_still free new = kept_all st by_receiver next i s i b e2 None ob k less receiver_changes low
-      (entry_after st by_receiver next i s i b i e2 None ob None k receiver_changes e there less quiet known number
+  receiver_kept quiet number things few given_still free new = kept_all st by_receiver next i s i b e2 None ob k less receiver_changes low
+      (entry_after st by_receiver next i s i b i e2 None ob None k receiver_changes e there less quiet number
       (let senders : weight (λ q (p : ℕ). cond (p == s) 1 0) i (get st.senders i) ≡ 0 = ap (weight (λ q (p : ℕ). cond (p == s) 1 0) i) (no-sender st next i k less) in
       let futures : weight (λ q (x : ShutdownWaitEntry). cond (x.shutdown == s) 1 0) i (get st.waits i) ≡ 0 = ap (weight (λ q (x : ShutdownWaitEntry). cond (x.shutdown == s) 1 0) i) (no-wait st next i k less) in
       omega (arith, things, senders, futures))
@@ -66,7 +66,7 @@ module _ (st : Store) (ss' : FinMap nat_cmp ShutdownEntry) (rs' : FinMap nat_cmp
 -- ---- a receiver or watch more
 -- the entry of its shutdown
 abbrev pub added : ShutdownEntry → Bool → ShutdownEntry
-added e w = record { core = cond w e.core (record e.core { receivers = increased e.core.receivers }); receivers = e.receivers + cond w 0 1; things = e.things + 1 }
+added e w = record { core = cond w e.core (record e.core { receivers = increased e.core.receivers }); things = e.things + 1 }
 
 added_quiet : (e : ShutdownEntry) (w : Bool) → e.core.wakes ≡ [] → (added e w).core.wakes ≡ []
 added_quiet e true quiet = quiet
@@ -113,7 +113,6 @@ module _ (st : Store) (ss' : FinMap nat_cmp ShutdownEntry) (rs' : FinMap nat_cmp
   pub add_receiver_goes : Goes st (record { shutdowns = ss'; senders = st.senders; receivers = rs'; waits = st.waits }) next i (copied h i (record { shutdown = s; watch = watch }))
   add_receiver_goes = record {
     kept = receiver_kept st ss' rs' next i s i e (added e watch) (Some the_receiver) k less low there shutdowns receivers added_was added_is (added_quiet e watch (k.each s e there).quiet)
-        (let known = (k.each s e there).known in let number = added_number e watch in omega (arith, known, number))
         (let number = added_number e watch in
         let none : weight (λ q (x : ReceiverEntry). counting s x) i (get st.receivers i) ≡ 0 = ap (weight (λ q (x : ReceiverEntry). counting s x) i) (no-receiver st next i k less) in
         let mine : ◌≡◌ {A = ℕ} (cond (s == s) (cond watch 0 1) 0) (cond watch 0 1) = at_same s s (cond watch 0 1) 0 refl in
@@ -137,7 +136,7 @@ module _ (st : Store) (ss' : FinMap nat_cmp ShutdownEntry) (rs' : FinMap nat_cmp
 -- ---- a receiver or watch less
 -- the entry of its shutdown
 abbrev pub lessened : ShutdownEntry → Bool → ShutdownEntry
-lessened e w = record { core = cond w e.core (record e.core { receivers = decreased e.core.receivers 1 }); receivers = e.receivers - cond w 0 1; things = e.things - 1 }
+lessened e w = record { core = cond w e.core (record e.core { receivers = decreased e.core.receivers 1 }); things = e.things - 1 }
 
 lessened_quiet : (e : ShutdownEntry) (w : Bool) → e.core.wakes ≡ [] → (lessened e w).core.wakes ≡ []
 lessened_quiet e true quiet = quiet
@@ -191,7 +190,7 @@ module _ (st : Store) (ss' : FinMap nat_cmp ShutdownEntry) (rs' : FinMap nat_cmp
   lessened_given false OfReceivers = given-decreased (slots_of OfReceivers st.waits) next s e.core.receivers 1 ((k.each s e there).given OfReceivers)
 
   lessened_seen : shutdown_of st.waits next s (lessened e false) ≡ record (shutdown_at h_before s) { receivers = model.decreased (shutdown_at h_before s).receivers 1 }
-  lessened_seen = (λ j. record { signal = count_of (slots_of OfSignal st.waits) next s e.core.signal; receivers = decreased-seen (slots_of OfReceivers st.waits) next s e.core.receivers 1 refl j })
+  lessened_seen = (λ j. record { signal = count_seen (slots_of OfSignal st.waits) next s e.core.signal; receivers = decreased-seen (slots_of OfReceivers st.waits) next s e.core.receivers 1 refl j })
       ∙ ap (λ (r : Shutdown). record r { receivers = model.decreased r.receivers 1 }) (sym (shutdown-at st next s e there))
 
   lessened_at : (w : Bool) (ss2 : FinMap nat_cmp Shutdown) (rs2 : FinMap nat_cmp Receiver) (ws2 : FinMap nat_cmp ShutdownWait) → Puts h_before.shutdowns ss2 s (Some (shutdown_of st.waits next s (lessened e w))) → rs2 ≡ remove h_before.receivers b → ws2 ≡ h_before.waits
@@ -207,7 +206,6 @@ module _ (st : Store) (ss' : FinMap nat_cmp ShutdownEntry) (rs' : FinMap nat_cmp
   pub remove_receiver_wakes : Wakes st (record { shutdowns = ss'; senders = st.senders; receivers = rs'; waits = st.waits }) next i (without_receiver h_before b (receiver_of x)) (cond x.watch [] (woken_by e.core.receivers 1))
   remove_receiver_wakes = record {
     kept = receiver_kept st ss' rs' next i s b e (lessened e x.watch) None k less low there shutdowns receivers lessened_was lessened_is (lessened_quiet e x.watch (k.each s e there).quiet)
-        (let known = (k.each s e there).known in let number = lessened_number e x.watch in omega (arith, known, number))
         (let number = lessened_number e x.watch in
         let some = number_counts st next i b s e x k there receiver mine in
         let was : weight (λ q (y : ReceiverEntry). counting s y) b (get st.receivers b) ≡ cond x.watch 0 1 = ap (weight (λ q (y : ReceiverEntry). counting s y) b) receiver ∙ ap (λ r. cond (r == s) (cond x.watch 0 1) 0) mine ∙ at_same s s (cond x.watch 0 1) 0 refl in

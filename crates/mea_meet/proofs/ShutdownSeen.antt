@@ -5,9 +5,9 @@ use Rattle.std.specs.Ordering.{nat_cmp}
 use Rattle.std.specs.FinMap.{FinMap, get, entries}
 use Rattle.mea_base.specs.Named.{named, at}
 use Rattle.mea_meet_model.specs.Shutdowns.{Shutdown, Receiver, ShutdownWait, Shutdowns, no_shutdowns, new_shutdown, shutdown_at, receivers_of, waits_of, borrowers_of, borrows}
-use Rattle.mea_meet.specs.declared.shutdowns.ShutdownEntry.{ShutdownEntry}
-use Rattle.mea_meet.specs.declared.shutdowns.ReceiverEntry.{ReceiverEntry}
-use Rattle.mea_meet.specs.declared.shutdowns.ShutdownWaitEntry.{ShutdownWaitEntry}
+use Rattle.mea_meet.specs.declared.shutdown_entries.ShutdownEntry.{ShutdownEntry}
+use Rattle.mea_meet.specs.declared.shutdown_entries.ReceiverEntry.{ReceiverEntry}
+use Rattle.mea_meet.specs.declared.shutdown_entries.ShutdownWaitEntry.{ShutdownWaitEntry}
 use Rattle.mea_meet.specs.Play.{Part}
 use Rattle.mea_meet.specs.declared.shutdowns.ShutdownHall.TheInside.{Inside}
 use Rattle.mea_meet.specs.StandsFor.{StandsForShutdown, StandsForCount}
@@ -53,10 +53,9 @@ module _ (st : Store) (n : ℕ) where
     receivers = subst (λ (r : Shutdown). StandsForCount r.receivers e.core.receivers) (sym (shutdown-at s e is)) (record { number = refl; waiting = sym (waiting-wakers (slots_of OfReceivers st.waits) n s e.core.receivers.waiting) });
   }
 
-  pub full-seen : (k : ℕ) (x : ReceiverEntry) (e : ShutdownEntry) → IsKept st n → get st.receivers k ≡ Some x → get st.shutdowns x.shutdown ≡ Some e → is_full (hall_of st n) (get (hall_of st n).receivers k) ≡ (not x.watch && e.receivers == 4294967295)
+  pub full-seen : (k : ℕ) (x : ReceiverEntry) (e : ShutdownEntry) → IsKept st n → get st.receivers k ≡ Some x → get st.shutdowns x.shutdown ≡ Some e → is_full (hall_of st n) (get (hall_of st n).receivers k) ≡ (not x.watch && e.core.receivers.number == 4294967295)
   full-seen k x e kept is there = ap (is_full (hall_of st n)) (receiver-seen k ∙ ap (option_map receiver_of) is)
       ∙ ap (λ (r : Shutdown). not x.watch && r.receivers.number == 4294967295) (shutdown-at x.shutdown e there)
-      ∙ ap (λ m. not x.watch && m == 4294967295) (sym (kept.each x.shutdown e there).known)
 
 -- nothing is kept, and that stands for no shutdown
 none : {X : Type 0} (q : ℕ) → get (named (λ k (x : X). x) []) q ≡ None

@@ -6,11 +6,11 @@ use Rattle.mea_base.proofs.Totals.{total-zero}
 use Rattle.mea_sets.specs.WaitSet.{Registered}
 use Rattle.mea_sets.specs.Countdown as counts
 use Rattle.mea_meet_model.specs.Shutdowns.{borrows}
-use Rattle.mea_meet.specs.Names.{AreNamed, AreGiven}
-use Rattle.mea_meet.specs.declared.shutdowns.ShutdownEntry.{ShutdownEntry}
-use Rattle.mea_meet.specs.declared.shutdowns.ReceiverEntry.{ReceiverEntry}
-use Rattle.mea_meet.specs.declared.shutdowns.ShutdownWaitEntry.{ShutdownWaitEntry}
-use Rattle.mea_meet.specs.ShutdownHall.{Store, End, OfSignal, OfReceivers, awaits_of, count_at, slots_of, count_of, shutdown_of, hall_of, counting, borrowers_in, is_of, IsKeptEntry, IsKept}
+use Rattle.mea_meet.specs.Names.{AreNamed, AreGiven, count_seen}
+use Rattle.mea_meet.specs.declared.shutdown_entries.ShutdownEntry.{ShutdownEntry}
+use Rattle.mea_meet.specs.declared.shutdown_entries.ReceiverEntry.{ReceiverEntry}
+use Rattle.mea_meet.specs.declared.shutdown_entries.ShutdownWaitEntry.{ShutdownWaitEntry}
+use Rattle.mea_meet.specs.ShutdownHall.{Store, End, OfSignal, OfReceivers, awaits_of, count_at, slots_of, shutdown_of, hall_of, counting, borrowers_in, is_of, IsKeptEntry, IsKept}
 use Rattle.mea_meet.proofs.Maps.{Puts, total_puts, weight-within, none_if}
 use Rattle.mea_meet.proofs.ShutdownChanges.{Changes, Unplaced, named_unplaced, alike_unplaced, given_unplaced, shutdowns_after}
 
@@ -44,12 +44,12 @@ borrows-nothing st q g y none is lent =
 
 module _ (st st' : Store) (next i s a b f : ℕ) (e2 : ShutdownEntry) (oa : Option ℕ) (ob : Option ReceiverEntry) (ow : Option ShutdownWaitEntry) (k : IsKept st next) (c : Changes st st' s a b f e2 oa ob ow) where
   -- the entry of s after the change
-  pub entry_after : (e : ShutdownEntry) → get st.shutdowns s ≡ Some e → next ≤ i → e2.core.wakes ≡ [] → e2.receivers ≡ e2.core.receivers.number
+  pub entry_after : (e : ShutdownEntry) → get st.shutdowns s ≡ Some e → next ≤ i → e2.core.wakes ≡ []
       → e2.core.receivers.number + weight (λ q (x : ReceiverEntry). counting s x) b (get st.receivers b) ≡ e.core.receivers.number + weight (λ q (x : ReceiverEntry). counting s x) b ob
       → e2.things + (weight (λ q (p : ℕ). cond (p == s) 1 0) a (get st.senders a) + weight (λ q (x : ReceiverEntry). cond (x.shutdown == s) 1 0) b (get st.receivers b) + weight (λ q (x : ShutdownWaitEntry). cond (x.shutdown == s) 1 0) f (get st.waits f))
       ≡ e.things + (weight (λ q (p : ℕ). cond (p == s) 1 0) a oa + weight (λ q (x : ReceiverEntry). cond (x.shutdown == s) 1 0) b ob + weight (λ q (x : ShutdownWaitEntry). cond (x.shutdown == s) 1 0) f ow)
       → e2.things ≤ e.things + 1 → ((end : End) → AreGiven (slots_of end st'.waits) s (count_at end e2.core).waiting) → IsKeptEntry st' (i + 1) s e2
-  entry_after e there less quiet known counted things few given =
+  entry_after e there less quiet counted things few given =
       let old = k.each s e there in
       let count = total_puts st.receivers st'.receivers b (λ q (x : ReceiverEntry). counting s x) ob c.receivers in
       let senders = total_puts st.senders st'.senders a (λ q (p : ℕ). cond (p == s) 1 0) oa c.senders in
@@ -61,7 +61,6 @@ module _ (st st' : Store) (next i s a b f : ℕ) (e2 : ShutdownEntry) (oa : Opti
       let old_below = old.below in
       record {
         quiet = quiet;
-        known = known;
         counted = omega (arith, count, counted, old_count);
         things = omega (arith, senders, receivers, futures, things, old_things);
         few = omega (arith, few, old_few, less);
@@ -76,7 +75,7 @@ module _ (st st' : Store) (next i s a b f : ℕ) (e2 : ShutdownEntry) (oa : Opti
     pub still_given : (end : End) (set : Registered ℕ) → AreGiven (slots_of end st.waits) s set → AreGiven (slots_of end st'.waits) s set
     still_given end set given = given_unplaced st st' next (i + 1) s a b f e2 oa ob ow k c later end set (is end) given
 
-    still_count : (end : End) (n : counts.Count ℕ) → count_of (slots_of end st'.waits) (i + 1) s n ≡ count_of (slots_of end st.waits) next s n
+    still_count : (end : End) (n : counts.Count ℕ) → count_seen (slots_of end st'.waits) (i + 1) s n ≡ count_seen (slots_of end st.waits) next s n
     still_count end n = λ j. record { number = n.number; waiting = alike_unplaced st st' next (i + 1) s a b f e2 oa ob ow k c later still_named end n.waiting (was end) (is end) j }
 
     still_seen : shutdown_of st'.waits (i + 1) s e2 ≡ shutdown_of st.waits next s e2

@@ -6,9 +6,9 @@ use Rattle.std.specs.FinMap.{FinMap, get, remove}
 use Rattle.std.proofs.lemmas.Bool.Decides.{nat_tests}
 use Rattle.mea_base.specs.Totals.{weight}
 use Rattle.mea_meet_model.specs.Shutdowns.{tidied, senders_of, receivers_of, waits_of, registered}
-use Rattle.mea_meet.specs.declared.shutdowns.ShutdownEntry.{ShutdownEntry}
-use Rattle.mea_meet.specs.declared.shutdowns.ReceiverEntry.{ReceiverEntry}
-use Rattle.mea_meet.specs.declared.shutdowns.ShutdownWaitEntry.{ShutdownWaitEntry}
+use Rattle.mea_meet.specs.declared.shutdown_entries.ShutdownEntry.{ShutdownEntry}
+use Rattle.mea_meet.specs.declared.shutdown_entries.ReceiverEntry.{ReceiverEntry}
+use Rattle.mea_meet.specs.declared.shutdown_entries.ShutdownWaitEntry.{ShutdownWaitEntry}
 use Rattle.mea_meet.specs.ShutdownHall.{Store, shutdown_of, hall_of, senders_in, IsKeptEntry, IsKept}
 use Rattle.mea_meet.proofs.Maps.{Puts, put_other, total_puts, by_put, is_remove, weight-within, seen_puts, at_same}
 use Rattle.mea_meet.proofs.ShutdownChanges.{wakers_at, registered-seen}
@@ -59,7 +59,7 @@ module _ (st : Store) (next s : ℕ) (e : ShutdownEntry) (k : IsKept st next) (t
     pub tidy_kept : IsKept st' next
     tidy_kept = record {
       each = by_put st.shutdowns ss' s None gone (λ q d. IsKeptEntry st' next q d) (λ d is. absurd (cc))
-          (λ q d apart is. let old = k.each q d is in record { quiet = old.quiet; known = old.known; counted = old.counted; things = old.things; few = old.few; given = old.given; below = old.below });
+          (λ q d apart is. let old = k.each q d is in record { quiet = old.quiet; counted = old.counted; things = old.things; few = old.few; given = old.given; below = old.below });
       sender = λ a p is. let old = k.sender a p is in record { there = there_still p old.there (sender_apart a p is); below = old.below };
       receiver = λ b x is. let old = k.receiver b x is in record { there = there_still x.shutdown old.there (receiver_apart b x is); counted = old.counted; few = old.few; below = old.below };
       wait = λ f x is. let old = k.wait f x is in record { there = there_still x.shutdown old.there (wait_apart f x is); borrowed = old.borrowed; below = old.below };

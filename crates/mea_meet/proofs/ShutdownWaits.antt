@@ -7,10 +7,10 @@ use Rattle.std.proofs.lemmas.Bool.{eqb-true, eq-eqb, ne_eqb}
 use Rattle.mea_base.specs.Totals.{weight}
 use Rattle.mea_meet_model.specs.Shutdowns.{Signal, Receivers, with_wait, borrows}
 use Rattle.mea_meet.specs.Names.{AreNamed}
-use Rattle.mea_meet.specs.declared.shutdowns.ShutdownEntry.{ShutdownEntry}
-use Rattle.mea_meet.specs.declared.shutdowns.ReceiverEntry.{ReceiverEntry}
-use Rattle.mea_meet.specs.declared.shutdowns.ShutdownWaitEntry.{ShutdownWaitEntry}
-use Rattle.mea_meet.specs.declared.shutdowns.ShutdownWait.TheVariants as waits
+use Rattle.mea_meet.specs.declared.shutdown_entries.ShutdownEntry.{ShutdownEntry}
+use Rattle.mea_meet.specs.declared.shutdown_entries.ReceiverEntry.{ReceiverEntry}
+use Rattle.mea_meet.specs.declared.shutdown_entries.ShutdownWaitEntry.{ShutdownWaitEntry}
+use Rattle.mea_meet.specs.declared.shutdown_entries.ShutdownWait.TheVariants as waits
 use Rattle.mea_meet.specs.ShutdownHall.{Store, End, OfSignal, OfReceivers, awaits_of, slot_in, count_at, slots_of, shutdown_of, receiver_of, wait_of, hall_of, counting, borrowers_in, is_of, IsKeptEntry, IsKept}
 use Rattle.mea_meet.proofs.Maps.{Puts, puts_same, puts_seen, put_here, total_puts, is_same, is_insert, is_remove, belongs-none, belongs-some, inside, at_same}
 use Rattle.mea_meet.proofs.ShutdownChanges.{Changes, Unplaced, Keeps, kept_after, registered_after, wakers_at}
@@ -84,7 +84,7 @@ module _ (st : Store) (ss' : FinMap nat_cmp ShutdownEntry) (rs' : FinMap nat_cmp
   named end = still_named st after next i s i r i new_entry None (Some lent) (Some new_wait) k changes later (omega arith) was_unplaced (unplaced s (cond plain (Some r) None)) end
 
   entry : IsKeptEntry after (i + 1) s new_entry
-  entry = entry_after st after next i s i r i new_entry None (Some lent) (Some new_wait) k changes e there less (k.each s e there).quiet (k.each s e there).known
+  entry = entry_after st after next i s i r i new_entry None (Some lent) (Some new_wait) k changes e there less (k.each s e there).quiet
       (ap (λ o. e.core.receivers.number + weight (λ q (y : ReceiverEntry). counting s y) r o) receiver)
       (let senders : weight (λ q (p : ℕ). cond (p == s) 1 0) i (get st.senders i) ≡ 0 = ap (weight (λ q (p : ℕ). cond (p == s) 1 0) i) (no-sender st next i k less) in
       let before : weight (λ q (y : ReceiverEntry). cond (y.shutdown == s) 1 0) r (get st.receivers r) ≡ cond (x.shutdown == s) 1 0 = ap (weight (λ q (y : ReceiverEntry). cond (y.shutdown == s) 1 0) r) receiver in
@@ -168,7 +168,7 @@ module _ (st : Store) (ks' : FinMap nat_cmp ℕ) (ws' : FinMap nat_cmp ShutdownW
   all_named end = still_named st awaiting next i s a i i e None None (Some the_wait) k awaits rises (omega arith) unplaced_before (unplaced_still s) end
 
   its_entry : IsKeptEntry awaiting (i + 1) s e
-  its_entry = entry_after st awaiting next i s a i i e None None (Some the_wait) k awaits e there less (k.each s e there).quiet (k.each s e there).known
+  its_entry = entry_after st awaiting next i s a i i e None None (Some the_wait) k awaits e there less (k.each s e there).quiet
       (ap (λ o. e.core.receivers.number + weight (λ q (y : ReceiverEntry). counting s y) i o) (no-receiver st next i k less))
       (let before : weight (λ q (p : ℕ). cond (p == s) 1 0) a (get st.senders a) ≡ cond (s == s) 1 0 = ap (weight (λ q (p : ℕ). cond (p == s) 1 0) a) sender in
       let none : weight (λ q (y : ReceiverEntry). cond (y.shutdown == s) 1 0) i (get st.receivers i) ≡ 0 = ap (weight (λ q (y : ReceiverEntry). cond (y.shutdown == s) 1 0) i) (no-receiver st next i k less) in

@@ -1,19 +1,16 @@
 -- the barriers that what a `BarrierHall` keeps stands for, and what it keeps to
-use Rattle.std.specs.Prelude.{ℕ, ◌≡◌, ◌+◌, ◌-◌, ◌*◌, ◌≤◌, ◌<◌, ◌^◌, ◌==◌, ◌++◌, true, cond, List, [], Option, Some, None, length, nat_le, if◌then◌else◌}
+use Rattle.std.specs.Prelude.{ℕ, ◌≡◌, ◌+◌, ◌≤◌, ◌<◌, ◌^◌, ◌==◌, ◌++◌, Bool, true, cond, List, [], Option, Some, None, Ok, length}
 use Rattle.std.specs.Option.{option_map}
 use Rattle.std.specs.Ordering.{nat_cmp}
 use Rattle.std.specs.FinMap.{FinMap, get, entries}
-use Rattle.mea_base.specs.declared.answer.Answer.{Answer}
-use Rattle.mea_base.specs.declared.answer.Answer.TheVariants as answers
 use Rattle.mea_base.specs.Named.{named}
 use Rattle.mea_base.specs.Ready.{Waking}
 use Rattle.mea_base.specs.Totals.{total}
 use Rattle.mea_sets.specs.declared.place.Place.{Place}
 use Rattle.mea_sets.specs.Poll.{Poll, Ready, Pending}
-use Rattle.mea_sets.specs.WaitSet.{with_waker, slot_after}
 use Rattle.mea_meet_core.specs.declared.barrier_wait.BarrierWait.TheVariants as waits
 use Rattle.mea_meet_core.specs.declared.barrier_wait.BarrierWait.{BarrierWait as Wait}
-use Rattle.mea_meet_core.specs.Barrier.{is_open, leads, led, joined, round_of as round_under_way}
+use Rattle.mea_meet_core.specs.Barrier.{is_open, Polls}
 use Rattle.mea_meet_model.specs.Barriers.{Barrier, BarrierWait, Barriers}
 use Rattle.mea_meet.specs.Names.{Slots, waiting_at, AreNamed}
 use Rattle.mea_meet.specs.declared.barriers.BarrierEntry.{BarrierEntry}
@@ -74,45 +71,17 @@ pub record IsKept (st : Store) (next : ℕ) : Type 0 where
   pub named : AreNamed (slots_of st.waits) next
   pub low : next ≤ 2 ^ 64
 
--- what a poll makes of a barrier and of its future, what it answers, and whom it wakes
-pub record Turn : Type 0 where
-  pub entry : BarrierEntry
-  pub wait : Wait
-  pub answer : Poll Answer
-  pub wakes : List ℕ
+-- 1 where a poll is ready
+abbrev pub ended_by : Poll Bool → ℕ
+ended_by Pending = 0
+ended_by (Ready leads) = 1
 
--- an arrival that leads wakes all who are registered
-abbrev pub leading_turn : BarrierEntry → Turn
-leading_turn e = record { entry = record { core = record (led e.core) { wakes = [] }; waits = e.waits - 1 }; wait = waits.Done; answer = Ready answers.Leader; wakes = e.core.waiting.wakers }
-
--- an arrival that waits
-abbrev pub joining_turn : BarrierEntry → ℕ → Turn
-joining_turn e w = record { entry = record e { core = joined e.core w }; wait = waits.Arrived (round_under_way e.core) (slot_after e.core.waiting None); answer = Pending; wakes = [] }
-
--- a future whose round is completed is ready
-abbrev pub ready_turn : BarrierEntry → Turn
-ready_turn e = record { entry = record e { waits = e.waits - 1 }; wait = waits.Done; answer = Ready answers.Ready; wakes = [] }
-
--- a future that has arrived waits on
-abbrev pub waiting_turn : BarrierEntry → ℕ → Option Place → ℕ → Turn
-waiting_turn e round slot w = record { entry = record e { core = record e.core { waiting = with_waker e.core.waiting slot w } }; wait = waits.Arrived round (slot_after e.core.waiting slot); answer = Pending; wakes = [] }
-
-abbrev pub first_turn : BarrierEntry → ℕ → Turn
-first_turn e w = if leads e.core then leading_turn e else joining_turn e w
-
-abbrev pub later_turn : BarrierEntry → ℕ → Option Place → ℕ → Turn
-later_turn e round slot w = if nat_le ((round + 1) * e.core.size) e.core.arrivals then ready_turn e else waiting_turn e round slot w
-
--- a poll; a wait that was ready is not polled again
-abbrev pub turn_of : BarrierEntry → Wait → ℕ → Turn
-turn_of e waits.New w = first_turn e w
-turn_of e (waits.Arrived round slot) w = later_turn e round slot w
-turn_of e waits.Done w = record { entry = e; wait = waits.Done; answer = Pending; wakes = [] }
-
--- a poll is played: its wakes are appended to those that are ready, and the registered wakers are counted
-pub record Turns (e : BarrierEntry) (wait : Wait) (w : ℕ) (answer : Poll Answer) (e' : BarrierEntry) (wait' : Wait) (before after : Waking ℕ) : Type 0 where
-  pub answered : answer ≡ (turn_of e wait w).answer
-  pub entry : e' ≡ (turn_of e wait w).entry
-  pub wait_is : wait' ≡ (turn_of e wait w).wait
-  pub woken : after.wakers ≡ before.wakers ++ (turn_of e wait w).wakes
+-- a poll at the core of a barrier: the wakers that it makes ready are appended to those that are ready, the
+-- registered wakers are counted, and a future that is ready waits no longer
+pub record Turns (e : BarrierEntry) (wait : Wait) (w : ℕ) (turn : Poll Bool) (e' : BarrierEntry) (wait' : Wait) (before after : Waking ℕ) : Type 0 where
+  pub woken : List ℕ
+  pub polls : Polls e.core wait w (Ok turn) (record e'.core { wakes = woken }) wait'
+  pub quiet : e'.core.wakes ≡ []
+  pub handed_on : after.wakers ≡ before.wakers ++ woken
   pub counted : after.registered + length e.core.waiting.wakers ≡ before.registered + length e'.core.waiting.wakers
+  pub waits : e'.waits + ended_by turn ≡ e.waits

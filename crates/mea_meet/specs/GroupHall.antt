@@ -11,7 +11,7 @@ use Rattle.mea_sets.specs.Poll.{Poll, Ready, Pending}
 use Rattle.mea_sets.specs.WaitSet.{has_given, with_waker, slot_after}
 use Rattle.mea_meet_model.specs.Count.{Count}
 use Rattle.mea_meet_model.specs.Groups.{Groups, group_at}
-use Rattle.mea_meet.specs.Names.{Slots, waiting_at, AreNamed}
+use Rattle.mea_meet.specs.Names.{Slots, count_seen, AreNamed}
 use Rattle.mea_meet.specs.declared.groups.GroupEntry.{GroupEntry}
 use Rattle.mea_meet.specs.declared.groups.GroupWaitEntry.{GroupWaitEntry}
 
@@ -31,7 +31,7 @@ slots_of ws f = option_map (λ (x : GroupWaitEntry). (x.group, x.wait)) (get ws 
 
 -- a group, where all names are below the bound
 abbrev pub count_of : FinMap nat_cmp GroupWaitEntry → ℕ → ℕ → GroupEntry → Count
-count_of ws bound g e = record { number = e.core.count.number; waiting = waiting_at (slots_of ws) bound g e.core.count.waiting }
+count_of ws bound g e = count_seen (slots_of ws) bound g e.core.count
 
 -- the groups, where all names are below the bound
 abbrev pub groups_of : Store → ℕ → Groups
@@ -40,9 +40,7 @@ groups_of st bound = record { groups = named (count_of st.waits bound) (entries 
 pub record IsKeptEntry (st : Store) (next g : ℕ) (e : GroupEntry) : Type 0 where
   -- its wakers are handed on after each event
   pub quiet : e.core.wakes ≡ []
-  -- its core counts its handles
-  pub known : e.handles ≡ e.core.count.number
-  pub handles_counted : e.handles ≡ total (λ k (j : ℕ). cond (j == g) 1 0) st.handles
+  pub handles_counted : e.core.count.number ≡ total (λ k (j : ℕ). cond (j == g) 1 0) st.handles
   pub waits_counted : e.waits ≡ total (λ f (x : GroupWaitEntry). cond (x.group == g) 1 0) st.waits
   pub few_waits : e.waits ≤ next
   pub below : g < next
@@ -75,7 +73,7 @@ is_full h (Some g) = (group_at h g).number == 4294967295
 -- ---- what calls do
 -- a group with a handle or a future stays
 abbrev pub is_used : GroupEntry → Bool
-is_used e = nat_lt 0 (e.handles + e.waits)
+is_used e = nat_lt 0 (e.core.count.number + e.waits)
 
 abbrev pub left : GroupEntry → Option GroupEntry
 left e = if is_used e then Some e else None

@@ -1,19 +1,18 @@
 -- the latches that what a `LatchHall` keeps stands for, and what it keeps to
-use Rattle.std.specs.Prelude.{ℕ, ◌≡◌, ◌+◌, ◌-◌, ◌≤◌, ◌<◌, ◌^◌, ◌==◌, ◌&&◌, ◌||◌, Bool, true, cond, List, [], length, nat_lt, Option, Some, None, Result, Ok, IsErr, if◌then◌else◌}
+use Rattle.std.specs.Prelude.{ℕ, ◌≡◌, ◌+◌, ◌-◌, ◌≤◌, ◌<◌, ◌^◌, ◌==◌, ◌&&◌, ◌||◌, Bool, true, cond, List, [], length, nat_lt, Option, Some, None, Ok, if◌then◌else◌}
 use Rattle.std.specs.Option.{option_map}
 use Rattle.std.specs.Ordering.{nat_cmp}
-use Rattle.std.specs.BTreeMap.{is_at}
 use Rattle.std.specs.FinMap.{FinMap, get, entries}
-use Rattle.mea_base.specs.declared.no_memory.NoMemory.{NoMemory}
-use Rattle.mea_base.specs.Named.{named, at}
+use Rattle.mea_base.specs.Named.{named}
 use Rattle.mea_base.specs.Ready.{Waking}
 use Rattle.mea_base.specs.Totals.{total}
 use Rattle.mea_sets.specs.declared.place.Place.{Place}
-use Rattle.mea_sets.specs.Poll.{Poll, Ready, Pending}
-use Rattle.mea_sets.specs.WaitSet.{has_given, with_waker, slot_after, length_with}
-use Rattle.mea_sets.specs.Countdown.{Counting}
+use Rattle.mea_sets.specs.Poll.{Poll}
+use Rattle.mea_sets.specs.WaitSet.{has_given}
+use Rattle.mea_sets.specs.Countdown.{Counting, PollsCount}
 use Rattle.mea_meet_model.specs.Latches.{Latch, LatchWait, Latches}
-use Rattle.mea_meet.specs.Names.{Slots, waiting_at, AreNamed}
+use Rattle.mea_meet.specs.Entries.{ChangesAt}
+use Rattle.mea_meet.specs.Names.{Slots, count_seen, AreNamed}
 use Rattle.mea_meet.specs.declared.latches.LatchEntry.{LatchEntry}
 use Rattle.mea_meet.specs.declared.latches.LatchWaitEntry.{LatchWaitEntry}
 
@@ -34,7 +33,7 @@ abbrev pub slots_of : FinMap nat_cmp LatchWaitEntry → Slots
 slots_of ws f = option_map slot_of (get ws f)
 
 abbrev pub latch_of : FinMap nat_cmp LatchWaitEntry → ℕ → ℕ → LatchEntry → Latch
-latch_of ws bound l e = record { count = record { number = e.core.count.number; waiting = waiting_at (slots_of ws) bound l e.core.count.waiting }; named = e.named }
+latch_of ws bound l e = record { count = count_seen (slots_of ws) bound l e.core.count; named = e.named }
 
 abbrev pub wait_of : LatchWaitEntry → LatchWait
 wait_of x = record { latch = x.latch; plain = x.plain }
@@ -73,10 +72,6 @@ pub record IsKept (st : Store) (next : ℕ) : Type 0 where
   pub low : next ≤ 2 ^ 64
 
 -- ---- what the parts of a call do
--- at one name there is this now, and every other name has what it had
-abbrev pub ChangesAt : {X : Type 0} → List (ℕ × X) → List (ℕ × X) → ℕ → Option X → Type 0
-ChangesAt {X} old new k o = (q : ℕ) → at new q ≡ cond (is_at (nat_cmp k) q) o (at old q)
-
 -- a latch with one future more, and one with one less
 abbrev pub begun : LatchEntry → Bool → LatchEntry
 begun e plain = record e { waits = e.waits + 1; plain = e.plain + cond plain 1 0 }
@@ -97,42 +92,9 @@ pub record Tidies (old new : List (ℕ × LatchEntry)) (l : ℕ) (e : LatchEntry
   pub latches : ChangesAt old new l (tidied e)
   pub ready : after ≡ record before { registered = before.registered - let_go e }
 
--- a poll at a core, with its waker counted where that is registered anew
-pub record PollsLatch (c : Counting ℕ) (slot : Option Place) (w : ℕ) (before : Waking ℕ) (result : Result (Poll (Unit {0})) NoMemory) (c' : Counting ℕ) (slot' : Option Place) (after : Waking ℕ) : Type 0 where
-  pub ready : result ≡ Ok (Ready tt) → (c.count.number ≡ 0) × (c' ≡ c) × (slot' ≡ slot) × (after ≡ before)
-  pub pending : result ≡ Ok Pending → (0 < c.count.number) × (c' ≡ record c { count = record c.count { waiting = with_waker c.count.waiting slot w } }) × (slot' ≡ slot_after c.count.waiting slot)
-      × (after ≡ record before { registered = before.registered + length_with c.count.waiting slot - length c.count.waiting.wakers })
-  pub failed : IsErr result → (c' ≡ c) × (slot' ≡ slot) × (after ≡ before)
-
--- the future f is there, and so is its latch, and this holds of both
-pub record HasFuture (ls : List (ℕ × LatchEntry)) (ws : List (ℕ × LatchWaitEntry)) (f : ℕ) (P : LatchEntry → LatchWaitEntry → Type 0) : Type 0 where
-  pub future : LatchWaitEntry
-  pub entry : LatchEntry
-  pub is_future : at ws f ≡ Some future
-  pub is_entry : at ls future.latch ≡ Some entry
-  pub holds : P entry future
-
-abbrev pub IsPollable : LatchEntry → LatchWaitEntry → Type 0
-IsPollable e x = has_given e.core.count.waiting x.wait ≡ true
-
-pub record IsEndable (ready : Waking ℕ) (e : LatchEntry) (x : LatchWaitEntry) : Type 0 where
-  pub given : has_given e.core.count.waiting x.wait ≡ true
-  pub waits : 1 ≤ e.waits
-  pub plain : cond x.plain 1 0 ≤ e.plain
-  pub room : length e.core.count.waiting.wakers ≤ ready.registered
-
--- what a poll of the future f, which is x, at its latch, which is e, does to the maps
-pub record PollsIn (ls : List (ℕ × LatchEntry)) (ws : List (ℕ × LatchWaitEntry)) (f : ℕ) (x : LatchWaitEntry) (e : LatchEntry) (w : ℕ) (before : Waking ℕ) (result : Result (Poll (Unit {0})) NoMemory) (ls' : List (ℕ × LatchEntry)) (ws' : List (ℕ × LatchWaitEntry)) (after : Waking ℕ) : Type 0 where
-  pub entry : LatchEntry
-  pub future : LatchWaitEntry
-  pub latches : ChangesAt ls ls' x.latch (Some entry)
-  pub waits : ChangesAt ws ws' f (Some future)
-  pub entry_is : entry ≡ record e { core = entry.core }
-  pub future_is : future ≡ record x { wait = future.wait }
-  pub polls : PollsLatch e.core x.wait w before result entry.core future.wait after
-
--- what the end of the future f, which is x, does to the maps
-pub record EndsIn (ls : List (ℕ × LatchEntry)) (ws : List (ℕ × LatchWaitEntry)) (f : ℕ) (x : LatchWaitEntry) (e : LatchEntry) (before : Waking ℕ) (ls' : List (ℕ × LatchEntry)) (ws' : List (ℕ × LatchWaitEntry)) (after : Waking ℕ) : Type 0 where
-  pub latches : ChangesAt ls ls' x.latch (tidied (ended e x.plain))
-  pub waits : ChangesAt ws ws' f None
-  pub ready : after ≡ record before { registered = before.registered - let_go (ended e x.plain) }
+-- a poll at the core of a latch, whose waker is counted where it is registered anew
+pub record PollsLatch (c : Counting ℕ) (slot : Option Place) (w : ℕ) (turn : Poll (Unit {0})) (c' : Counting ℕ) (slot' : Option Place) (before after : Waking ℕ) : Type 0 where
+  pub polls : PollsCount c.count slot w (Ok turn) c'.count slot'
+  pub wakes : c'.wakes ≡ c.wakes
+  pub woken : after.wakers ≡ before.wakers
+  pub counted : after.registered + length c.count.waiting.wakers ≡ before.registered + length c'.count.waiting.wakers

@@ -2,6 +2,8 @@
 use Rattle.std.specs.Prelude.{ℕ, zero, suc, ◌≡◌, ◌+◌, ◌<◌, ◌==◌, ◌&&◌, Bool, true, false, List, [], ◌∷◌, Option, Some, None, if◌then◌else◌}
 use Rattle.mea_sets.specs.declared.place.Place.{Place}
 use Rattle.mea_sets.specs.WaitSet.{Registered, has_given}
+use Rattle.mea_sets.specs.Countdown as counts
+use Rattle.mea_meet_model.specs.Count.{Count}
 use Rattle.mea_meet_model.specs.Waiting.{Whose, Of, Ended}
 
 -- the futures of one kind of end: of which object each is, and the number that its waker was registered
@@ -28,6 +30,10 @@ named_from slots bound o drains i (w ∷ ws) = (whose_at slots bound o drains i,
 -- the wakers that the object o has registered, each with whose it is
 abbrev pub waiting_at : Slots → ℕ → ℕ → Registered ℕ → List (Whose × ℕ)
 waiting_at slots bound o s = named_from slots bound o s.drains 0 s.wakers
+
+-- the count that the core of the object o keeps, with its wakers by name
+abbrev pub count_seen : Slots → ℕ → ℕ → counts.Count ℕ → Count
+count_seen slots bound o c = record { number = c.number; waiting = waiting_at slots bound o c.waiting }
 
 -- the futures have names below the bound, and no two of them one number at one object
 pub record AreNamed (slots : Slots) (bound : ℕ) : Type 0 where

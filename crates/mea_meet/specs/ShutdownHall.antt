@@ -1,7 +1,6 @@
 -- the shutdowns that what a `ShutdownHall` keeps stands for, and what it keeps to
 use Rattle.std.specs.Prelude.{ℕ, ◌≡◌, ◌+◌, ◌-◌, ◌≤◌, ◌<◌, ◌^◌, ◌==◌, ◌&&◌, not, Bool, true, false, cond, List, [], Option, Some, None, IsSome, if◌then◌else◌}
 use Rattle.std.specs.Option.{option_map}
-use Rattle.std.specs.BTreeMap.{is_at}
 use Rattle.std.specs.Ordering.{nat_cmp}
 use Rattle.std.specs.FinMap.{FinMap, get, insert, remove, entries}
 use Rattle.mea_base.specs.Named.{named, at}
@@ -10,14 +9,15 @@ use Rattle.mea_sets.specs.declared.place.Place.{Place}
 use Rattle.mea_sets.specs.WaitSet.{Registered, with_waker, slot_after}
 use Rattle.mea_sets.specs.Countdown as counts
 use Rattle.mea_meet_core.specs.Shutdown as cores
-use Rattle.mea_meet_model.specs.Count.{Count, decreased, woken_by, without_future}
+use Rattle.mea_meet_model.specs.Count.{decreased, woken_by, without_future}
 use Rattle.mea_meet_model.specs.Shutdowns.{Shutdown, Receiver, Awaited, Signal, Receivers, ShutdownWait, Shutdowns, shutdown_at, borrows, awaited, with_awaited}
-use Rattle.mea_meet.specs.Names.{Slots, waiting_at, AreNamed, AreGiven}
-use Rattle.mea_meet.specs.declared.shutdowns.ShutdownEntry.{ShutdownEntry}
-use Rattle.mea_meet.specs.declared.shutdowns.ReceiverEntry.{ReceiverEntry}
-use Rattle.mea_meet.specs.declared.shutdowns.ShutdownWaitEntry.{ShutdownWaitEntry}
-use Rattle.mea_meet.specs.declared.shutdowns.ShutdownWait.{ShutdownWait as Wait}
-use Rattle.mea_meet.specs.declared.shutdowns.ShutdownWait.TheVariants as waits
+use Rattle.mea_meet.specs.Entries.{ChangesAt}
+use Rattle.mea_meet.specs.Names.{Slots, count_seen, AreNamed, AreGiven}
+use Rattle.mea_meet.specs.declared.shutdown_entries.ShutdownEntry.{ShutdownEntry}
+use Rattle.mea_meet.specs.declared.shutdown_entries.ReceiverEntry.{ReceiverEntry}
+use Rattle.mea_meet.specs.declared.shutdown_entries.ShutdownWaitEntry.{ShutdownWaitEntry}
+use Rattle.mea_meet.specs.declared.shutdown_entries.ShutdownWait.{ShutdownWait as Wait}
+use Rattle.mea_meet.specs.declared.shutdown_entries.ShutdownWait.TheVariants as waits
 
 -- the shutdowns, the senders, the receivers and watches, and the futures as they are kept
 pub record Store : Type 0 where
@@ -94,11 +94,8 @@ slot_in end (Some x) = slot_at end x.wait x.shutdown
 abbrev pub slots_of : End → FinMap nat_cmp ShutdownWaitEntry → Slots
 slots_of end ws f = slot_in end (get ws f)
 
-abbrev pub count_of : Slots → ℕ → ℕ → counts.Count ℕ → Count
-count_of slots bound s c = record { number = c.number; waiting = waiting_at slots bound s c.waiting }
-
 abbrev pub shutdown_of : FinMap nat_cmp ShutdownWaitEntry → ℕ → ℕ → ShutdownEntry → Shutdown
-shutdown_of ws bound s e = record { signal = count_of (slots_of OfSignal ws) bound s e.core.signal; receivers = count_of (slots_of OfReceivers ws) bound s e.core.receivers }
+shutdown_of ws bound s e = record { signal = count_seen (slots_of OfSignal ws) bound s e.core.signal; receivers = count_seen (slots_of OfReceivers ws) bound s e.core.receivers }
 
 abbrev pub receiver_of : ReceiverEntry → Receiver
 receiver_of x = record { shutdown = x.shutdown; watch = x.watch }
@@ -135,7 +132,6 @@ borrowers_in st k = total (λ f (x : ShutdownWaitEntry). cond (borrows (awaits_o
 pub record IsKeptEntry (st : Store) (next s : ℕ) (e : ShutdownEntry) : Type 0 where
   -- its wakers are handed on after each event
   pub quiet : e.core.wakes ≡ []
-  pub known : e.receivers ≡ e.core.receivers.number
   pub counted : e.core.receivers.number ≡ total (λ k (x : ReceiverEntry). counting s x) st.receivers
   pub things : e.things ≡ senders_in st s + receivers_in st s + waits_in st s
   -- an event makes one thing, but that which makes the shutdown two
@@ -204,4 +200,4 @@ woken_at_end h x = if x.watch then [] else woken_by (shutdown_at h x.shutdown).r
 -- one future less borrows what it borrowed, if it did
 abbrev pub GivesBack : List (ℕ × ReceiverEntry) → List (ℕ × ReceiverEntry) → Option ℕ → Type 0
 GivesBack old new None = (q : ℕ) → at new q ≡ at old q
-GivesBack old new (Some k) = (q : ℕ) → at new q ≡ cond (is_at (nat_cmp k) q) (option_map (λ (x : ReceiverEntry). record x { plain = x.plain - 1 }) (at old k)) (at old q)
+GivesBack old new (Some k) = ChangesAt old new k (option_map (λ (x : ReceiverEntry). record x { plain = x.plain - 1 }) (at old k))

@@ -1,4 +1,4 @@
-ghost use Rattle.std.specs.Prelude.{◌≡◌, ◌-◌, ◌<◌, ◌≤◌, [], length, true, OnErr, IfOk, IfErr, IfSome, IsSome, is_some, nat_lt};
+ghost use Rattle.std.specs.Prelude.{◌≡◌, ◌-◌, ◌<◌, ◌≤◌, [], cond, length, true, OnErr, IfOk, IfErr, IfSome, IsSome, is_some, nat_lt};
 ghost use Rattle.std.specs.FinMap as map;
 ghost use Rattle.mea_meet_model.specs.Barriers as model;
 ghost use Rattle.mea_meet_model.specs.Barriers.{no_barriers, registered};
@@ -7,7 +7,7 @@ ghost use Rattle.mea_meet.specs.StandsFor.{StandsForBarrier};
 
 use crate::moving::hand_on_barrier;
 use mea_base::{Answer, NoMemory, Poll, Ready, Stop};
-use mea_meet_core::{BarrierCore, BarrierWait};
+use mea_meet_core::{BarrierCore, BarrierWait, BarrierWaitResult};
 use std::alloc::Global;
 use std::collections::BTreeMap;
 use std::marker::Model;
@@ -27,23 +27,34 @@ pub struct BarrierWaitEntry {
     pub wait: BarrierWait,
 }
 
+// What a poll that is ready replies.
+fn reply_of(told: BarrierWaitResult) -> Answer
+    ensures { result ≡ cond told Answer.Leader Answer.Ready }
+{
+    if told.is_leader() {
+        Answer::Leader
+    } else {
+        Answer::Ready
+    }
+}
+
 impl BarrierEntry {
     ghost use Rattle.mea_meet_core.specs.Barrier.{is_open, is_own};
     ghost use Rattle.mea_meet.specs.BarrierHall.{Turns};
 
-    // Polls a future of the barrier; one that is ready waits no longer.
+    // Polls a future of the barrier, and hands the wakers on; one that is ready waits no longer.
     fn poll(
         &mut self,
         wait: &mut BarrierWait,
         waker: u64,
         ready: &mut Ready<u64>,
-    ) -> Result<Poll<Answer>, NoMemory>
+    ) -> Result<Poll<BarrierWaitResult>, NoMemory>
         requires opened { is_open self.old.core wait.old ≡ true }
         requires quiet { self.old.core.wakes ≡ [] }
         requires few { self.old.core.arrivals < 18446744073709551615 }
         requires waits { 1 ≤ self.old.waits }
         requires room { length self.old.core.waiting.wakers ≤ ready.old.registered }
-        ensures turns { IfOk result (λ answer. Turns self.old wait.old waker answer self.new wait.new ready.old ready.new) }
+        ensures turns { IfOk result (λ turn. Turns self.old wait.old waker turn self.new wait.new ready.old ready.new) }
         ensures err { OnErr result ((self.new ≡ self.old) × (wait.new ≡ wait.old) × (ready.new ≡ ready.old)) }
     {
         let before = self.core.registered();
@@ -61,11 +72,7 @@ impl BarrierEntry {
                 ready.unregister(1);
                 hand_on_barrier(&mut self.core, ready);
                 self.waits -= 1;
-                if result.is_leader() {
-                    Ok(Poll::Ready(Answer::Leader))
-                } else {
-                    Ok(Poll::Ready(Answer::Ready))
-                }
+                Ok(Poll::Ready(result))
             }
         }
     }
@@ -224,10 +231,10 @@ impl BarrierHall {
                 self.next = number as u128 + 1;
                 Ok(Answer::Pending)
             }
-            Ok(Poll::Ready(answer)) => {
+            Ok(Poll::Ready(result)) => {
                 let _gone = self.waits.remove(&f);
                 self.next = number as u128 + 1;
-                Ok(answer)
+                Ok(reply_of(result))
             }
         }
     }

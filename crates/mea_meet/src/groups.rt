@@ -8,6 +8,7 @@ ghost use Rattle.mea_sets.specs.WaitSet.{has_given};
 ghost use Rattle.mea_meet_core.specs.Count.{increased};
 ghost use Rattle.mea_meet_model.specs.Groups as model;
 ghost use Rattle.mea_meet_model.specs.Groups.{no_groups, registered};
+ghost use Rattle.mea_meet.specs.Entries.{ChangesAt};
 ghost use Rattle.mea_meet.specs.Play.{Yields, Rests};
 ghost use Rattle.mea_meet.specs.StandsFor.{StandsForGroup};
 ghost use Rattle.mea_meet.specs.GroupHall.{left_at, wakers_left};
@@ -23,8 +24,6 @@ use std::marker::Model;
 #[derive(Drop)]
 pub struct GroupEntry {
     pub core: GroupCore<u64>,
-    // How many handles it has, which is what its core counts.
-    pub handles: u32,
     // How many futures wait for its end.
     pub waits: u128,
 }
@@ -43,33 +42,30 @@ impl GroupEntry {
     pub fn is_used(&self) -> bool
         ensures { result ≡ is_used self.now }
     {
-        self.handles > 0 || self.waits > 0
+        self.core.handles() > 0 || self.waits > 0
     }
 
     // One handle more.
     fn add(&mut self)
-        requires known { self.old.handles ≡ self.old.core.count.number }
         requires lives { 0 < self.old.core.count.number }
         requires fits { self.old.core.count.number ≢ 4294967295 }
-        ensures { self.new ≡ record self.old { core = record self.old.core { count = increased self.old.core.count }; handles = self.old.handles + 1 } }
+        ensures { self.new ≡ record self.old { core = record self.old.core { count = increased self.old.core.count } } }
     {
         match self.core.add() {
             Err(_) => unreachable!(),
-            Ok(()) => self.handles += 1,
+            Ok(()) => {}
         }
     }
 
     // One handle less; at the last the wakers are handed on.
     fn leave(&mut self, ready: &mut Ready<u64>)
         requires quiet { self.old.core.wakes ≡ [] }
-        requires known { self.old.handles ≡ self.old.core.count.number }
         requires lives { 0 < self.old.core.count.number }
         requires room { length self.old.core.count.waiting.wakers ≤ ready.old.registered }
-        ensures left { self.new ≡ record self.old { core = record self.old.core { count = decreased self.old.core.count 1 }; handles = self.old.handles - 1 } }
+        ensures left { self.new ≡ record self.old { core = record self.old.core { count = decreased self.old.core.count 1 } } }
         ensures woken { ready.new.wakers ≡ ready.old.wakers ++ woken_by self.old.core.count 1 }
         ensures counted { ready.new.registered + length (woken_by self.old.core.count 1) ≡ ready.old.registered }
     {
-        self.handles -= 1;
         self.core.leave();
         hand_on_group(&mut self.core, ready);
     }
@@ -119,7 +115,7 @@ impl GroupEntry {
 // A group with neither handle nor future is gone, and the wakers of ended futures with it.
 fn tidy(groups: &mut BTreeMap<u64, GroupEntry>, g: u64, ready: &mut Ready<u64>)
     requires { IfSome (at groups.old.entries g) (λ e. length e.core.count.waiting.wakers ≤ ready.old.registered) }
-    ensures left { (q : ℕ) → at groups.new.entries q ≡ cond (is_at (nat_cmp g) q) (left_at (at groups.old.entries g)) (at groups.old.entries q) }
+    ensures left { ChangesAt groups.old.entries groups.new.entries g (left_at (at groups.old.entries g)) }
     ensures woken { ready.new.wakers ≡ ready.old.wakers }
     ensures counted { IfSome (at groups.old.entries g) (λ e. ready.new.registered + length e.core.count.waiting.wakers ≡ ready.old.registered + wakers_left e) }
 {
@@ -198,7 +194,7 @@ impl GroupHall {
         let Some(entry) = self.groups.get(g) else {
             unreachable!()
         };
-        entry.handles == u32::MAX
+        entry.core.handles() == u32::MAX
     }
 
     /// The core of the group of this name, where there is one.
@@ -223,7 +219,6 @@ impl GroupHall {
         }
         let entry = GroupEntry {
             core: GroupCore::new(self.alloc),
-            handles: 1,
             waits: 0,
         };
         match self.groups.insert(number, entry) {

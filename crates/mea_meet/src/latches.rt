@@ -85,8 +85,9 @@ impl LatchEntry {
         ready: &mut Ready<u64>,
     ) -> Result<Poll<()>, NoMemory>
         requires { has_given self.old.core.count.waiting wait.old ≡ true }
-        ensures polls { PollsLatch self.old.core wait.old waker ready.old result self.new.core wait.new ready.new }
+        ensures polls { IfOk result (λ turn. PollsLatch self.old.core wait.old waker turn self.new.core wait.new ready.old ready.new) }
         ensures entry { self.new ≡ record self.old { core = self.new.core } }
+        ensures err { OnErr result ((self.new ≡ self.old) × (wait.new ≡ wait.old) × (ready.new ≡ ready.old)) }
     {
         ready.register()?;
         let before = self.core.registered();
@@ -133,7 +134,7 @@ impl Model for LatchHall {
 }
 
 impl LatchHall {
-    ghost use Rattle.mea_meet.specs.LatchHall.{Tidies, let_go, HasFuture, IsPollable, IsEndable, PollsIn, EndsIn};
+    ghost use Rattle.mea_meet.specs.LatchHall.{Tidies, let_go};
 
     /// No latch. It takes no memory.
     pub fn new(alloc: Global) -> Self
@@ -292,15 +293,20 @@ impl LatchHall {
         ensures memory { IfErr result (λ stop. stop ≡ Stop.NoMemory) }
         ensures err { OnErr result ((self.new ≡ self.old) × (ready.new ≡ ready.old)) }
     {
-        match LatchHall::poll_in(&mut self.latches, &mut self.waits, f, waker, ready) {
+        let Some(future) = self.waits.get_mut(&f) else {
+            unreachable!()
+        };
+        let Some(entry) = self.latches.get_mut(&future.latch) else {
+            unreachable!()
+        };
+        match entry.poll(&mut future.wait, waker, ready) {
             Err(_) => Err(Stop::NoMemory),
             Ok(Poll::Pending) => {
                 self.next = number as u128 + 1;
                 Ok(Answer::Pending)
             }
             Ok(Poll::Ready(())) => {
-                LatchHall::end_in(&mut self.latches, &mut self.waits, f, ready);
-                self.next = number as u128 + 1;
+                let _done = self.end(number, f, ready);
                 Ok(Answer::Ready)
             }
         }
@@ -313,7 +319,15 @@ impl LatchHall {
         requires room { registered self.old.hall ≤ ready.old.registered }
         ensures { Yields registered self.old number (model.end_of self.old.hall f (map.get self.old.hall.waits f)) result self.new ready.old ready.new }
     {
-        LatchHall::end_in(&mut self.latches, &mut self.waits, f, ready);
+        let Some(future) = self.waits.remove(&f) else {
+            unreachable!()
+        };
+        let l = future.latch;
+        let Some(entry) = self.latches.get_mut(&l) else {
+            unreachable!()
+        };
+        entry.end(future.wait, future.plain);
+        LatchHall::tidy(&mut self.latches, l, ready);
         self.next = number as u128 + 1;
         Answer::Done
     }
@@ -349,46 +363,5 @@ impl LatchHall {
         }
         ready.unregister(entry.core.registered());
         let _ = latches.remove(&l);
-    }
-
-    // Polls a future at its latch.
-    fn poll_in(
-        latches: &mut BTreeMap<u64, LatchEntry>,
-        waits: &mut BTreeMap<u64, LatchWaitEntry>,
-        f: u64,
-        waker: u64,
-        ready: &mut Ready<u64>,
-    ) -> Result<Poll<()>, NoMemory>
-        requires { HasFuture latches.old.entries waits.old.entries f IsPollable }
-        ensures { IfSome (at waits.old.entries f) (λ x. IfSome (at latches.old.entries x.latch) (λ e. PollsIn latches.old.entries waits.old.entries f x e waker ready.old result latches.new.entries waits.new.entries ready.new)) }
-    {
-        let Some(future) = waits.get_mut(&f) else {
-            unreachable!()
-        };
-        let Some(entry) = latches.get_mut(&future.latch) else {
-            unreachable!()
-        };
-        entry.poll(&mut future.wait, waker, ready)
-    }
-
-    // Takes a future away, and its latch where that has nothing left.
-    fn end_in(
-        latches: &mut BTreeMap<u64, LatchEntry>,
-        waits: &mut BTreeMap<u64, LatchWaitEntry>,
-        f: u64,
-        ready: &mut Ready<u64>,
-    )
-        requires { HasFuture latches.old.entries waits.old.entries f (IsEndable ready.old) }
-        ensures { IfSome (at waits.old.entries f) (λ x. IfSome (at latches.old.entries x.latch) (λ e. EndsIn latches.old.entries waits.old.entries f x e ready.old latches.new.entries waits.new.entries ready.new)) }
-    {
-        let Some(future) = waits.remove(&f) else {
-            unreachable!()
-        };
-        let l = future.latch;
-        let Some(entry) = latches.get_mut(&l) else {
-            unreachable!()
-        };
-        entry.end(future.wait, future.plain);
-        LatchHall::tidy(latches, l, ready);
     }
 }

@@ -9,6 +9,7 @@ mod hall;
 mod latches;
 mod moving;
 mod parts;
+mod shutdown_entries;
 mod shutdowns;
 
 pub use hall::MeetHall;

@@ -44,6 +44,16 @@ impl<W: Drop> GroupCore<W> {
         }
     }
 
+    /// How many handles live. It takes no memory.
+    ///
+    /// The crate `mea` has no such call. It is here for one who has to know whether a further handle fits
+    /// before `add` is asked for it.
+    pub fn handles(&self) -> u32
+        ensures { result ≡ self.now.count.number }
+    {
+        self.countdown.count()
+    }
+
     /// One handle more, where one lives. It takes no memory.
     pub fn add(&mut self) -> Result<(), Overflow>
         requires { 0 < self.old.count.number }
@@ -58,7 +68,7 @@ impl<W: Drop> GroupCore<W> {
     pub fn add_allowed(&self) -> bool
         ensures { IsTrue result ↔ (0 < self.now.count.number) }
     {
-        self.countdown.count() > 0
+        self.handles() > 0
     }
 
     /// As `add`; where no handle lives it is Ok and changes nothing. It takes no memory.
@@ -87,7 +97,7 @@ impl<W: Drop> GroupCore<W> {
     pub fn leave_allowed(&self) -> bool
         ensures { IsTrue result ↔ (0 < self.now.count.number) }
     {
-        self.countdown.count() > 0
+        self.handles() > 0
     }
 
     /// As `leave`; where no handle lives it changes nothing. It takes no memory.

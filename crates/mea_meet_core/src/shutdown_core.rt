@@ -112,6 +112,16 @@ impl<W: Drop> ShutdownCore<W> {
         self.poll_signal(wait, waker)
     }
 
+    /// How many receivers live. It takes no memory.
+    ///
+    /// The crate `mea` has no such call. It is here for one who has to know whether a further receiver fits
+    /// before `add_receiver` is asked for it.
+    pub fn receivers(&self) -> u32
+        ensures { result ≡ self.now.receivers.number }
+    {
+        self.receivers.handles()
+    }
+
     /// One receiver more, where one lives. It takes no memory.
     pub fn add_receiver(&mut self) -> Result<(), Overflow>
         requires { 0 < self.old.receivers.number }

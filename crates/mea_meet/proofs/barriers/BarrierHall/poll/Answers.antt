@@ -63,11 +63,11 @@ invariant_of-self-in-Ok-Ready c =
     let turns = rw c.in-Ok-Ready.field-0-is at c.in-Ok-Ready.ensures.turns in
     (outcomes.goes c.self.inside c.args.self.now c.args.number c.args.f c.in-Some.future.now c.in-Some-get_mut.entry.now c.self.view_is c.self.invariant c.requires.next (omega arith)
     (sym c.get_mut.ensures.value ∙ ap option_copied_mut c.in-Some.is) (sym c.get_mut-2.ensures.value ∙ ap option_copied_mut c.in-Some-get_mut.is)
-    _ _ c.poll.new.self ((c.get_mut-2.follows.holds c.poll.new.self).3 (search rules)).0 (changes_twice _ _ _ c.args.f (Some (record c.in-Some.future.now { wait = c.poll.new.wait })) None ((c.get_mut.follows.holds (record c.in-Some.future.now { wait = c.poll.new.wait })).3 (search rules)).0 c.remove-gone.ensures.updates.0) c.args.waker c.in-Ok-Ready.answer c.poll.new.wait c.args.ready.now c.poll.new.ready turns).kept
+    _ _ c.poll.new.self ((c.get_mut-2.follows.holds c.poll.new.self).3 (search rules)).0 (changes_twice _ _ _ c.args.f (Some (record c.in-Some.future.now { wait = c.poll.new.wait })) None ((c.get_mut.follows.holds (record c.in-Some.future.now { wait = c.poll.new.wait })).3 (search rules)).0 c.remove-gone.ensures.updates.0) c.args.waker c.in-Ok-Ready.result c.poll.new.wait c.args.ready.now c.poll.new.ready turns).kept
 
 pub returns-in-Ok-Ready-clause-played : goal.returns-in-Ok-Ready-clause-played
 returns-in-Ok-Ready-clause-played c =
     let turns = rw c.in-Ok-Ready.field-0-is at c.in-Ok-Ready.ensures.turns in
-    (outcomes.goes c.self.inside c.args.self.now c.args.number c.args.f c.in-Some.future.now c.in-Some-get_mut.entry.now c.self.view_is c.self.invariant c.requires.next (omega arith)
+    rw c.reply_of.ensures (outcomes.goes c.self.inside c.args.self.now c.args.number c.args.f c.in-Some.future.now c.in-Some-get_mut.entry.now c.self.view_is c.self.invariant c.requires.next (omega arith)
     (sym c.get_mut.ensures.value ∙ ap option_copied_mut c.in-Some.is) (sym c.get_mut-2.ensures.value ∙ ap option_copied_mut c.in-Some-get_mut.is)
-    _ _ c.poll.new.self ((c.get_mut-2.follows.holds c.poll.new.self).3 (search rules)).0 (changes_twice _ _ _ c.args.f (Some (record c.in-Some.future.now { wait = c.poll.new.wait })) None ((c.get_mut.follows.holds (record c.in-Some.future.now { wait = c.poll.new.wait })).3 (search rules)).0 c.remove-gone.ensures.updates.0) c.args.waker c.in-Ok-Ready.answer c.poll.new.wait c.args.ready.now c.poll.new.ready turns).yields
+    _ _ c.poll.new.self ((c.get_mut-2.follows.holds c.poll.new.self).3 (search rules)).0 (changes_twice _ _ _ c.args.f (Some (record c.in-Some.future.now { wait = c.poll.new.wait })) None ((c.get_mut.follows.holds (record c.in-Some.future.now { wait = c.poll.new.wait })).3 (search rules)).0 c.remove-gone.ensures.updates.0) c.args.waker c.in-Ok-Ready.result c.poll.new.wait c.args.ready.now c.poll.new.ready turns).yields

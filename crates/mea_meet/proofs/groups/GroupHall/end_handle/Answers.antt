@@ -3,7 +3,7 @@ use Rattle.std.specs.Option.{option_copied_mut}
 use Rattle.mea_meet.specs.GroupHall.{wakers_left}
 use Rattle.mea_meet.specs.declared.groups.GroupEntry.{GroupEntry}
 use Rattle.mea_meet.proofs.GroupStores.{handle_found, group_of_handle, room}
-use Rattle.mea_meet.proofs.GroupPlays.{tidied_at, tidied_if, if_tidied, quiet, known, core_lives, left_room, ends_handle}
+use Rattle.mea_meet.proofs.GroupPlays.{tidied_at, tidied_if, if_tidied, quiet, lives, left_room, ends_handle}
 use Rattle.mea_meet.proofs.groups.GroupHall.end_handle.Goals as goal
 
 pub unreachable-requires : goal.unreachable-requires
@@ -17,12 +17,8 @@ pub leave-requires-clause-quiet : goal.leave-requires-clause-quiet
 leave-requires-clause-quiet c = quiet c.self.inside c.args.self.now c.args.number c.self.view_is c.self.invariant c.requires.next (omega arith) c.in-Some.g c.in-Some-get_mut.entry.now
     (sym c.get_mut.ensures.value ∙ ap option_copied_mut c.in-Some-get_mut.is)
 
-pub leave-requires-clause-known : goal.leave-requires-clause-known
-leave-requires-clause-known c = known c.self.inside c.args.self.now c.args.number c.self.view_is c.self.invariant c.requires.next (omega arith) c.in-Some.g c.in-Some-get_mut.entry.now
-    (sym c.get_mut.ensures.value ∙ ap option_copied_mut c.in-Some-get_mut.is)
-
 pub leave-requires-clause-lives : goal.leave-requires-clause-lives
-leave-requires-clause-lives c = core_lives c.self.inside c.args.self.now c.args.number c.self.view_is c.self.invariant c.requires.next (omega arith) c.in-Some.g c.in-Some-get_mut.entry.now
+leave-requires-clause-lives c = lives c.self.inside c.args.self.now c.args.number c.self.view_is c.self.invariant c.requires.next (omega arith) c.in-Some.g c.in-Some-get_mut.entry.now
     (sym c.get_mut.ensures.value ∙ ap option_copied_mut c.in-Some-get_mut.is) c.args.k (sym c.remove.ensures.value ∙ c.in-Some.is)
 
 pub leave-requires-clause-room : goal.leave-requires-clause-room

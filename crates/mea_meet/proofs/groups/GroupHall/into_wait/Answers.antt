@@ -3,7 +3,7 @@ use Rattle.std.specs.Option.{option_copied, option_copied_mut}
 use Rattle.mea_meet.specs.GroupHall.{store_of, IsKept}
 use Rattle.mea_meet.specs.declared.groups.GroupWaitEntry.{GroupWaitEntry}
 use Rattle.mea_meet.proofs.GroupStores.{handle_found, group_of_handle, room}
-use Rattle.mea_meet.proofs.GroupPlays.{few_waits, quiet, known, core_lives, turns}
+use Rattle.mea_meet.proofs.GroupPlays.{few_waits, quiet, lives, turns}
 use Rattle.mea_meet.proofs.groups.GroupHall.into_wait.Goals as goal
 
 pub unreachable-requires : goal.unreachable-requires
@@ -26,12 +26,8 @@ pub leave-requires-clause-quiet : goal.leave-requires-clause-quiet
 leave-requires-clause-quiet c = quiet c.self.inside c.args.self.now c.args.number c.self.view_is c.self.invariant c.requires.next (omega arith) c.in-Some.field-0.now c.in-Some-get_mut.entry.now
     (sym c.get_mut.ensures.value ∙ ap option_copied_mut c.in-Some-get_mut.is)
 
-pub leave-requires-clause-known : goal.leave-requires-clause-known
-leave-requires-clause-known c = known c.self.inside c.args.self.now c.args.number c.self.view_is c.self.invariant c.requires.next (omega arith) c.in-Some.field-0.now c.in-Some-get_mut.entry.now
-    (sym c.get_mut.ensures.value ∙ ap option_copied_mut c.in-Some-get_mut.is)
-
 pub leave-requires-clause-lives : goal.leave-requires-clause-lives
-leave-requires-clause-lives c = core_lives c.self.inside c.args.self.now c.args.number c.self.view_is c.self.invariant c.requires.next (omega arith) c.in-Some.field-0.now c.in-Some-get_mut.entry.now
+leave-requires-clause-lives c = lives c.self.inside c.args.self.now c.args.number c.self.view_is c.self.invariant c.requires.next (omega arith) c.in-Some.field-0.now c.in-Some-get_mut.entry.now
     (sym c.get_mut.ensures.value ∙ ap option_copied_mut c.in-Some-get_mut.is) c.args.k (sym c.get.ensures.value ∙ ap option_copied c.in-Some.is)
 
 pub leave-requires-clause-room : goal.leave-requires-clause-room

@@ -1,56 +1,62 @@
-use Rattle.std.proofs.Common.{Ok, ap, ◌∙◌, arith}
-use Rattle.mea_meet.proofs.LatchStanding.{find_wait, latch_at_wait, pollable_at, of_both, failed_unchanged, polls_at, ready_endable, ready_done}
+use Rattle.std.proofs.Common.{rules, refl, sym, ap, ◌∙◌, arith}
+use Rattle.std.specs.Option.{option_copied_mut}
+use Rattle.mea_meet.proofs.LatchStanding.{never_wait, never_latch, given_at, polls_at, unchanged, ready_unchanged, ready_there, ready_room, ready_done}
 use Rattle.mea_meet.proofs.latches.LatchHall.poll.Goals as goal
 
-pub poll_in-requires : goal.poll_in-requires
-poll_in-requires c = pollable_at c.self.inside.latches.entries c.self.inside.waits.entries c.self.inside.next c.args.self.now c.self.view_is c.args.f c.self.invariant c.requires.there
+pub unreachable-requires : goal.unreachable-requires
+unreachable-requires c = never_wait c.self.inside.latches.entries c.self.inside.waits.entries c.self.inside.next c.args.self.now c.self.view_is c.args.f c.requires.there (sym c.get_mut.ensures.value ∙ ap option_copied_mut c.in_default.is)
+
+pub unreachable-requires-in_default-get_mut : goal.unreachable-requires-in_default-get_mut
+unreachable-requires-in_default-get_mut c = never_latch c.self.inside.latches.entries c.self.inside.waits.entries c.self.inside.next c.args.self.now c.self.view_is c.args.f c.in-Some.future.now c.self.invariant (sym c.get_mut.ensures.value ∙ ap option_copied_mut c.in-Some.is) (sym c.get_mut-2.ensures.value ∙ ap option_copied_mut c.in_default-get_mut.is)
+
+pub poll-requires : goal.poll-requires
+poll-requires c = given_at c.self.inside.latches.entries c.self.inside.waits.entries c.self.inside.next c.args.self.now c.self.view_is c.args.f c.in-Some.future.now c.in-Some-get_mut.entry.now c.self.invariant (sym c.get_mut.ensures.value ∙ ap option_copied_mut c.in-Some.is) (sym c.get_mut-2.ensures.value ∙ ap option_copied_mut c.in-Some-get_mut.is)
 
 pub invariant_of-self : goal.invariant_of-self
-invariant_of-self c =
-    let x = find_wait c.self.inside.latches.entries c.self.inside.waits.entries c.self.inside.next c.args.self.now c.self.view_is c.args.f c.requires.there in
-    let e = latch_at_wait c.self.inside.latches.entries c.self.inside.waits.entries c.self.inside.next c.args.self.now c.self.view_is c.args.f x.0 c.self.invariant x.1 in
-    let polls = of_both c.self.inside.latches.entries c.self.inside.waits.entries c.args.f x.0 e.0 _ x.1 e.1 c.poll_in.ensures in
-    (failed_unchanged c.self.inside.latches.entries c.poll_in.new.latches.entries c.self.inside.waits.entries c.poll_in.new.waits.entries c.self.inside.next c.args.self.now c.self.view_is c.self.invariant c.args.f c.args.waker x.0 e.0 c.poll_in.result c.args.ready.now c.poll_in.new.ready x.1 e.1 polls c.in-Err.field-0 c.in-Err.is).kept
+invariant_of-self c = (unchanged c.self.inside.latches.entries _ c.self.inside.waits.entries _ c.self.inside.next c.args.self.now c.self.view_is c.self.invariant c.args.f c.in-Some.future.now (record c.in-Some.future.now { wait = c.poll.new.wait }) c.in-Some-get_mut.entry.now c.poll.new.self
+    (sym c.get_mut.ensures.value ∙ ap option_copied_mut c.in-Some.is) (sym c.get_mut-2.ensures.value ∙ ap option_copied_mut c.in-Some-get_mut.is) ((c.get_mut-2.follows.holds c.poll.new.self).3 (search rules)).0 ((c.get_mut.follows.holds (record c.in-Some.future.now { wait = c.poll.new.wait })).3 (search rules)).0 c.in-Err.ensures.err.0 (ap (λ s. record c.in-Some.future.now { wait = s }) c.in-Err.ensures.err.1)).kept
+
+pub returns-in-Err-clause-err : goal.returns-in-Err-clause-err
+returns-in-Err-clause-err c = (
+  (unchanged c.self.inside.latches.entries _ c.self.inside.waits.entries _ c.self.inside.next c.args.self.now c.self.view_is c.self.invariant c.args.f c.in-Some.future.now (record c.in-Some.future.now { wait = c.poll.new.wait }) c.in-Some-get_mut.entry.now c.poll.new.self
+      (sym c.get_mut.ensures.value ∙ ap option_copied_mut c.in-Some.is) (sym c.get_mut-2.ensures.value ∙ ap option_copied_mut c.in-Some-get_mut.is) ((c.get_mut-2.follows.holds c.poll.new.self).3 (search rules)).0 ((c.get_mut.follows.holds (record c.in-Some.future.now { wait = c.poll.new.wait })).3 (search rules)).0 c.in-Err.ensures.err.0 (ap (λ s. record c.in-Some.future.now { wait = s }) c.in-Err.ensures.err.1)).seen,
+  c.in-Err.ensures.err.2,
+)
 
 pub invariant_of-self-in-Ok-Pending : goal.invariant_of-self-in-Ok-Pending
 invariant_of-self-in-Ok-Pending c =
-    let x = find_wait c.self.inside.latches.entries c.self.inside.waits.entries c.self.inside.next c.args.self.now c.self.view_is c.args.f c.requires.there in
-    let e = latch_at_wait c.self.inside.latches.entries c.self.inside.waits.entries c.self.inside.next c.args.self.now c.self.view_is c.args.f x.0 c.self.invariant x.1 in
-    let polls = of_both c.self.inside.latches.entries c.self.inside.waits.entries c.args.f x.0 e.0 _ x.1 e.1 c.poll_in.ensures in
-    (polls_at c.self.inside.latches.entries c.self.inside.waits.entries c.self.inside.next c.args.number c.args.self.now c.self.view_is c.self.invariant c.requires.next (omega arith) c.poll_in.new.latches.entries c.poll_in.new.waits.entries c.args.f c.args.waker x.0 e.0 c.poll_in.result c.args.ready.now c.poll_in.new.ready x.1 e.1 polls (c.in-Ok-Pending.is ∙ ap Ok c.in-Ok-Pending.field-0-is)).kept
-
-pub end_in-requires : goal.end_in-requires
-end_in-requires c =
-    let x = find_wait c.self.inside.latches.entries c.self.inside.waits.entries c.self.inside.next c.args.self.now c.self.view_is c.args.f c.requires.there in
-    let e = latch_at_wait c.self.inside.latches.entries c.self.inside.waits.entries c.self.inside.next c.args.self.now c.self.view_is c.args.f x.0 c.self.invariant x.1 in
-    let polls = of_both c.self.inside.latches.entries c.self.inside.waits.entries c.args.f x.0 e.0 _ x.1 e.1 c.poll_in.ensures in
-    ready_endable c.self.inside.latches.entries c.poll_in.new.latches.entries c.self.inside.waits.entries c.poll_in.new.waits.entries c.self.inside.next c.args.self.now c.self.view_is c.self.invariant c.args.f c.args.waker x.0 e.0 c.poll_in.result c.args.ready.now c.poll_in.new.ready x.1 e.1 polls (c.in-Ok-Ready.is ∙ ap Ok c.in-Ok-Ready.field-0-is) c.requires.room
-
-pub invariant_of-self-in-Ok-Ready : goal.invariant_of-self-in-Ok-Ready
-invariant_of-self-in-Ok-Ready c =
-    let x = find_wait c.self.inside.latches.entries c.self.inside.waits.entries c.self.inside.next c.args.self.now c.self.view_is c.args.f c.requires.there in
-    let e = latch_at_wait c.self.inside.latches.entries c.self.inside.waits.entries c.self.inside.next c.args.self.now c.self.view_is c.args.f x.0 c.self.invariant x.1 in
-    let polls = of_both c.self.inside.latches.entries c.self.inside.waits.entries c.args.f x.0 e.0 _ x.1 e.1 c.poll_in.ensures in
-    (ready_done c.self.inside.latches.entries c.poll_in.new.latches.entries c.self.inside.waits.entries c.poll_in.new.waits.entries c.self.inside.next c.args.self.now c.self.view_is c.self.invariant c.args.f c.args.waker x.0 e.0 c.poll_in.result c.args.ready.now c.poll_in.new.ready x.1 e.1 polls c.args.number c.end_in.new.latches.entries c.end_in.new.waits.entries c.end_in.new.ready c.requires.next (omega arith) (c.in-Ok-Ready.is ∙ ap Ok c.in-Ok-Ready.field-0-is) c.requires.room c.end_in.ensures).kept
-
-pub returns-in-Err-clause-err : goal.returns-in-Err-clause-err
-returns-in-Err-clause-err c =
-    let x = find_wait c.self.inside.latches.entries c.self.inside.waits.entries c.self.inside.next c.args.self.now c.self.view_is c.args.f c.requires.there in
-    let e = latch_at_wait c.self.inside.latches.entries c.self.inside.waits.entries c.self.inside.next c.args.self.now c.self.view_is c.args.f x.0 c.self.invariant x.1 in
-    let polls = of_both c.self.inside.latches.entries c.self.inside.waits.entries c.args.f x.0 e.0 _ x.1 e.1 c.poll_in.ensures in
-    let u = failed_unchanged c.self.inside.latches.entries c.poll_in.new.latches.entries c.self.inside.waits.entries c.poll_in.new.waits.entries c.self.inside.next c.args.self.now c.self.view_is c.self.invariant c.args.f c.args.waker x.0 e.0 c.poll_in.result c.args.ready.now c.poll_in.new.ready x.1 e.1 polls c.in-Err.field-0 c.in-Err.is in
-    (u.seen, u.ready)
+    let polls = rw c.in-Ok-Pending.field-0-is at c.in-Ok-Pending.ensures.polls in
+    (polls_at c.self.inside.latches.entries c.self.inside.waits.entries c.self.inside.next c.args.number c.args.self.now c.self.view_is c.self.invariant c.requires.next (omega arith) _ _ c.args.f c.args.waker c.in-Some.future.now (record c.in-Some.future.now { wait = c.poll.new.wait }) c.in-Some-get_mut.entry.now c.poll.new.self c.args.ready.now c.poll.new.ready
+    (sym c.get_mut.ensures.value ∙ ap option_copied_mut c.in-Some.is) (sym c.get_mut-2.ensures.value ∙ ap option_copied_mut c.in-Some-get_mut.is) ((c.get_mut-2.follows.holds c.poll.new.self).3 (search rules)).0 ((c.get_mut.follows.holds (record c.in-Some.future.now { wait = c.poll.new.wait })).3 (search rules)).0 c.poll.ensures.entry refl polls).kept
 
 pub returns-in-Ok-Pending-clause-yields : goal.returns-in-Ok-Pending-clause-yields
 returns-in-Ok-Pending-clause-yields c =
-    let x = find_wait c.self.inside.latches.entries c.self.inside.waits.entries c.self.inside.next c.args.self.now c.self.view_is c.args.f c.requires.there in
-    let e = latch_at_wait c.self.inside.latches.entries c.self.inside.waits.entries c.self.inside.next c.args.self.now c.self.view_is c.args.f x.0 c.self.invariant x.1 in
-    let polls = of_both c.self.inside.latches.entries c.self.inside.waits.entries c.args.f x.0 e.0 _ x.1 e.1 c.poll_in.ensures in
-    (polls_at c.self.inside.latches.entries c.self.inside.waits.entries c.self.inside.next c.args.number c.args.self.now c.self.view_is c.self.invariant c.requires.next (omega arith) c.poll_in.new.latches.entries c.poll_in.new.waits.entries c.args.f c.args.waker x.0 e.0 c.poll_in.result c.args.ready.now c.poll_in.new.ready x.1 e.1 polls (c.in-Ok-Pending.is ∙ ap Ok c.in-Ok-Pending.field-0-is)).yields
+    let polls = rw c.in-Ok-Pending.field-0-is at c.in-Ok-Pending.ensures.polls in
+    (polls_at c.self.inside.latches.entries c.self.inside.waits.entries c.self.inside.next c.args.number c.args.self.now c.self.view_is c.self.invariant c.requires.next (omega arith) _ _ c.args.f c.args.waker c.in-Some.future.now (record c.in-Some.future.now { wait = c.poll.new.wait }) c.in-Some-get_mut.entry.now c.poll.new.self c.args.ready.now c.poll.new.ready
+    (sym c.get_mut.ensures.value ∙ ap option_copied_mut c.in-Some.is) (sym c.get_mut-2.ensures.value ∙ ap option_copied_mut c.in-Some-get_mut.is) ((c.get_mut-2.follows.holds c.poll.new.self).3 (search rules)).0 ((c.get_mut.follows.holds (record c.in-Some.future.now { wait = c.poll.new.wait })).3 (search rules)).0 c.poll.ensures.entry refl polls).yields
+
+pub invariant_of-self-in-Ok-Ready : goal.invariant_of-self-in-Ok-Ready
+invariant_of-self-in-Ok-Ready c =
+    let polls = rw c.in-Ok-Ready.field-0-is at c.in-Ok-Ready.ensures.polls in
+    (ready_unchanged c.self.inside.latches.entries _ c.self.inside.waits.entries _ c.self.inside.next c.args.self.now c.self.view_is c.self.invariant c.args.f c.in-Some.future.now (record c.in-Some.future.now { wait = c.poll.new.wait }) c.in-Some-get_mut.entry.now c.poll.new.self
+    (sym c.get_mut.ensures.value ∙ ap option_copied_mut c.in-Some.is) (sym c.get_mut-2.ensures.value ∙ ap option_copied_mut c.in-Some-get_mut.is) ((c.get_mut-2.follows.holds c.poll.new.self).3 (search rules)).0 ((c.get_mut.follows.holds (record c.in-Some.future.now { wait = c.poll.new.wait })).3 (search rules)).0 c.args.waker c.args.ready.now c.poll.new.ready c.poll.ensures.entry refl polls).kept
+
+pub end-done-requires-clause-there : goal.end-done-requires-clause-there
+end-done-requires-clause-there c =
+    let polls = rw c.in-Ok-Ready.field-0-is at c.in-Ok-Ready.ensures.polls in
+    ready_there c.self.inside.latches.entries _ c.self.inside.waits.entries _ c.self.inside.next c.args.self.now c.self.view_is c.self.invariant c.args.f c.in-Some.future.now (record c.in-Some.future.now { wait = c.poll.new.wait }) c.in-Some-get_mut.entry.now c.poll.new.self
+    (sym c.get_mut.ensures.value ∙ ap option_copied_mut c.in-Some.is) (sym c.get_mut-2.ensures.value ∙ ap option_copied_mut c.in-Some-get_mut.is) ((c.get_mut-2.follows.holds c.poll.new.self).3 (search rules)).0 ((c.get_mut.follows.holds (record c.in-Some.future.now { wait = c.poll.new.wait })).3 (search rules)).0 c.args.waker c.args.ready.now c.poll.new.ready c.poll.ensures.entry refl polls c.requires.there
+
+pub end-done-requires-clause-room : goal.end-done-requires-clause-room
+end-done-requires-clause-room c =
+    let polls = rw c.in-Ok-Ready.field-0-is at c.in-Ok-Ready.ensures.polls in
+    ready_room c.self.inside.latches.entries _ c.self.inside.waits.entries _ c.self.inside.next c.args.self.now c.self.view_is c.self.invariant c.args.f c.in-Some.future.now (record c.in-Some.future.now { wait = c.poll.new.wait }) c.in-Some-get_mut.entry.now c.poll.new.self
+    (sym c.get_mut.ensures.value ∙ ap option_copied_mut c.in-Some.is) (sym c.get_mut-2.ensures.value ∙ ap option_copied_mut c.in-Some-get_mut.is) ((c.get_mut-2.follows.holds c.poll.new.self).3 (search rules)).0 ((c.get_mut.follows.holds (record c.in-Some.future.now { wait = c.poll.new.wait })).3 (search rules)).0 c.args.waker c.args.ready.now c.poll.new.ready c.poll.ensures.entry refl polls c.requires.room
 
 pub returns-in-Ok-Ready-clause-yields : goal.returns-in-Ok-Ready-clause-yields
 returns-in-Ok-Ready-clause-yields c =
-    let x = find_wait c.self.inside.latches.entries c.self.inside.waits.entries c.self.inside.next c.args.self.now c.self.view_is c.args.f c.requires.there in
-    let e = latch_at_wait c.self.inside.latches.entries c.self.inside.waits.entries c.self.inside.next c.args.self.now c.self.view_is c.args.f x.0 c.self.invariant x.1 in
-    let polls = of_both c.self.inside.latches.entries c.self.inside.waits.entries c.args.f x.0 e.0 _ x.1 e.1 c.poll_in.ensures in
-    (ready_done c.self.inside.latches.entries c.poll_in.new.latches.entries c.self.inside.waits.entries c.poll_in.new.waits.entries c.self.inside.next c.args.self.now c.self.view_is c.self.invariant c.args.f c.args.waker x.0 e.0 c.poll_in.result c.args.ready.now c.poll_in.new.ready x.1 e.1 polls c.args.number c.end_in.new.latches.entries c.end_in.new.waits.entries c.end_in.new.ready c.requires.next (omega arith) (c.in-Ok-Ready.is ∙ ap Ok c.in-Ok-Ready.field-0-is) c.requires.room c.end_in.ensures).yields
+    let polls = rw c.in-Ok-Ready.field-0-is at c.in-Ok-Ready.ensures.polls in
+    let u = ready_unchanged c.self.inside.latches.entries _ c.self.inside.waits.entries _ c.self.inside.next c.args.self.now c.self.view_is c.self.invariant c.args.f c.in-Some.future.now (record c.in-Some.future.now { wait = c.poll.new.wait }) c.in-Some-get_mut.entry.now c.poll.new.self
+    (sym c.get_mut.ensures.value ∙ ap option_copied_mut c.in-Some.is) (sym c.get_mut-2.ensures.value ∙ ap option_copied_mut c.in-Some-get_mut.is) ((c.get_mut-2.follows.holds c.poll.new.self).3 (search rules)).0 ((c.get_mut.follows.holds (record c.in-Some.future.now { wait = c.poll.new.wait })).3 (search rules)).0 c.args.waker c.args.ready.now c.poll.new.ready c.poll.ensures.entry refl polls in
+    ready_done c.self.inside.latches.entries _ c.self.inside.waits.entries _ c.self.inside.next c.args.self.now c.self.view_is c.self.invariant c.args.f c.in-Some.future.now (record c.in-Some.future.now { wait = c.poll.new.wait }) c.in-Some-get_mut.entry.now c.poll.new.self
+    (sym c.get_mut.ensures.value ∙ ap option_copied_mut c.in-Some.is) (sym c.get_mut-2.ensures.value ∙ ap option_copied_mut c.in-Some-get_mut.is) ((c.get_mut-2.follows.holds c.poll.new.self).3 (search rules)).0 ((c.get_mut.follows.holds (record c.in-Some.future.now { wait = c.poll.new.wait })).3 (search rules)).0 c.args.waker c.args.ready.now c.poll.new.ready c.poll.ensures.entry refl polls c.args.number _ c.end-done.new.self _ c.end-done.new.ready u.seen c.end-done.ensures

@@ -14,12 +14,6 @@ unreachable-requires c =
     let none : get (kept_in c.self.inside).shutdowns c.args.s ≡ None = shutdown-kept c.self.inside c.args.s ∙ sym c.get_mut.ensures.value ∙ ap option_copied_mut c.in_default.is in
     not_none _ (sym (shutdown-there (kept_in c.self.inside) c.self.inside.next c.args.s) ∙ (rw (← c.self.view_is) at c.requires.there)) none
 
-pub add_receiver-requires-clause-known : goal.add_receiver-requires-clause-known
-add_receiver-requires-clause-known c =
-    let there : get (kept_in c.self.inside).shutdowns c.args.s ≡ Some c.in-Some.entry.now = shutdown-kept c.self.inside c.args.s ∙ sym c.get_mut.ensures.value ∙ ap option_copied_mut c.in-Some.is in
-    let e = c.in-Some.entry.now in
-    (c.self.invariant.each c.args.s e there).known
-
 pub add_receiver-requires-clause-few : goal.add_receiver-requires-clause-few
 add_receiver-requires-clause-few c =
     let there : get (kept_in c.self.inside).shutdowns c.args.s ≡ Some c.in-Some.entry.now = shutdown-kept c.self.inside c.args.s ∙ sym c.get_mut.ensures.value ∙ ap option_copied_mut c.in-Some.is in

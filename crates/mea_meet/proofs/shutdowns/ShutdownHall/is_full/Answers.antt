@@ -19,10 +19,10 @@ pub returns-then-not-receiver : goal.returns-then-not-receiver
 returns-then-not-receiver c =
     let is : get (kept_in c.self.inside).receivers c.args.k ≡ Some c.in-Some.receiver.now = receiver-at c.self.inside c.args.k ∙ sym c.get.ensures.value ∙ ap option_copied c.in-Some.is in
     let there : get (kept_in c.self.inside).shutdowns c.in-Some.receiver.now.shutdown ≡ Some c.in-Some-get.entry.now = shutdown-kept c.self.inside c.in-Some.receiver.now.shutdown ∙ sym c.get-2.ensures.value ∙ ap option_copied c.in-Some-get.is in
-    rw (← c.self.view_is) (sym (full-seen (kept_in c.self.inside) c.self.inside.next c.args.k c.in-Some.receiver.now c.in-Some-get.entry.now c.self.invariant is there ∙ ap (λ b. not b && c.in-Some-get.entry.now.receivers == 4294967295) c.if-not-receiver.true))
+    rw (← c.self.view_is, c.receivers.ensures) (sym (full-seen (kept_in c.self.inside) c.self.inside.next c.args.k c.in-Some.receiver.now c.in-Some-get.entry.now c.self.invariant is there ∙ ap (λ b. not b && c.in-Some-get.entry.now.core.receivers.number == 4294967295) c.if-not-receiver.true))
 
 pub returns-else-not-receiver : goal.returns-else-not-receiver
 returns-else-not-receiver c =
     let is : get (kept_in c.self.inside).receivers c.args.k ≡ Some c.in-Some.receiver.now = receiver-at c.self.inside c.args.k ∙ sym c.get.ensures.value ∙ ap option_copied c.in-Some.is in
     let there : get (kept_in c.self.inside).shutdowns c.in-Some.receiver.now.shutdown ≡ Some c.in-Some-get.entry.now = shutdown-kept c.self.inside c.in-Some.receiver.now.shutdown ∙ sym c.get-2.ensures.value ∙ ap option_copied c.in-Some-get.is in
-    rw (← c.self.view_is) (ap not c.if-not-receiver.false ∙ sym (full-seen (kept_in c.self.inside) c.self.inside.next c.args.k c.in-Some.receiver.now c.in-Some-get.entry.now c.self.invariant is there ∙ ap (λ b. not b && c.in-Some-get.entry.now.receivers == 4294967295) c.if-not-receiver.false))
+    rw (← c.self.view_is) (ap not c.if-not-receiver.false ∙ sym (full-seen (kept_in c.self.inside) c.self.inside.next c.args.k c.in-Some.receiver.now c.in-Some-get.entry.now c.self.invariant is there ∙ ap (λ b. not b && c.in-Some-get.entry.now.core.receivers.number == 4294967295) c.if-not-receiver.false))

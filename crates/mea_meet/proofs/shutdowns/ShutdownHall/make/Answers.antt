@@ -3,8 +3,8 @@ use Rattle.mea_base.specs.declared.answer.Answer.TheVariants as answers
 use Rattle.mea_meet.specs.ShutdownHall.{Store, hall_of, IsKept}
 use Rattle.mea_meet.proofs.Maps.{kept-puts, kept-puts-as, put_undone}
 use Rattle.mea_base.specs.Named.{named}
-use Rattle.mea_meet.specs.declared.shutdowns.ShutdownEntry.{ShutdownEntry}
-use Rattle.mea_meet.specs.declared.shutdowns.ReceiverEntry.{ReceiverEntry}
+use Rattle.mea_meet.specs.declared.shutdown_entries.ShutdownEntry.{ShutdownEntry}
+use Rattle.mea_meet.specs.declared.shutdown_entries.ReceiverEntry.{ReceiverEntry}
 use Rattle.mea_meet.proofs.ShutdownSeen.{kept_in}
 use Rattle.mea_meet.proofs.ShutdownStill.{no-sender, no-receiver}
 use Rattle.mea_meet.proofs.ShutdownPlays.{rests}
@@ -40,13 +40,13 @@ returns-in-Err-insert-2-clause-err c =
 pub invariant_of-self-in-Ok-insert-2 : goal.invariant_of-self-in-Ok-insert-2
 invariant_of-self-in-Ok-insert-2 c =
     (make_goes (kept_in c.self.inside) _ _ _ c.self.inside.next c.args.number c.self.invariant (rw (← c.self.view_is) at c.requires) (omega arith)
-    (kept-puts-as c.self.inside.shutdowns.entries _ c.args.number (record { core = c.new.result; receivers = 1; things = 2 }) _ c.in-Ok-insert-2.ensures.updates.0 (λ j. record { core = c.new.ensures j; receivers = 1; things = 2 }))
+    (kept-puts-as c.self.inside.shutdowns.entries _ c.args.number (record { core = c.new.result; things = 2 }) _ c.in-Ok-insert-2.ensures.updates.0 (λ j. record { core = c.new.ensures j; things = 2 }))
     (kept-puts c.self.inside.senders.entries _ c.args.number (Some c.args.number) c.in-Ok.ensures.updates.0)
     (kept-puts c.self.inside.receivers.entries _ c.args.number (Some (record { shutdown = c.args.number; watch = false; plain = 0 })) c.in-Ok-insert.ensures.updates.0)).kept
 
 pub returns-clause-rests : goal.returns-clause-rests
 returns-clause-rests c =
     rw (← c.self.view_is) (rests (kept_in c.self.inside) _ c.self.inside.next c.args.number _ _ answers.Made (make_goes (kept_in c.self.inside) _ _ _ c.self.inside.next c.args.number c.self.invariant (rw (← c.self.view_is) at c.requires) (omega arith)
-    (kept-puts-as c.self.inside.shutdowns.entries _ c.args.number (record { core = c.new.result; receivers = 1; things = 2 }) _ c.in-Ok-insert-2.ensures.updates.0 (λ j. record { core = c.new.ensures j; receivers = 1; things = 2 }))
+    (kept-puts-as c.self.inside.shutdowns.entries _ c.args.number (record { core = c.new.result; things = 2 }) _ c.in-Ok-insert-2.ensures.updates.0 (λ j. record { core = c.new.ensures j; things = 2 }))
     (kept-puts c.self.inside.senders.entries _ c.args.number (Some c.args.number) c.in-Ok.ensures.updates.0)
     (kept-puts c.self.inside.receivers.entries _ c.args.number (Some (record { shutdown = c.args.number; watch = false; plain = 0 })) c.in-Ok-insert.ensures.updates.0)) refl)

@@ -18,12 +18,6 @@ unreachable-requires-in_default-get_mut c =
     let is : get (kept_in c.self.inside).receivers c.args.k ≡ Some c.in-Some.receiver = receiver-at c.self.inside c.args.k ∙ sym c.remove.ensures.value ∙ c.in-Some.is in
     not_none _ (c.self.invariant.receiver c.args.k c.in-Some.receiver is).there (shutdown-kept c.self.inside c.in-Some.receiver.shutdown ∙ sym c.get_mut.ensures.value ∙ ap option_copied_mut c.in_default-get_mut.is)
 
-pub end_receiver-requires-clause-known : goal.end_receiver-requires-clause-known
-end_receiver-requires-clause-known c =
-    let there : get (kept_in c.self.inside).shutdowns c.in-Some.receiver.shutdown ≡ Some c.in-Some-get_mut.entry.now = shutdown-kept c.self.inside c.in-Some.receiver.shutdown ∙ sym c.get_mut.ensures.value ∙ ap option_copied_mut c.in-Some-get_mut.is in
-    let e = c.in-Some-get_mut.entry.now in
-    (c.self.invariant.each c.in-Some.receiver.shutdown e there).known
-
 pub end_receiver-requires-clause-quiet : goal.end_receiver-requires-clause-quiet
 end_receiver-requires-clause-quiet c =
     let there : get (kept_in c.self.inside).shutdowns c.in-Some.receiver.shutdown ≡ Some c.in-Some-get_mut.entry.now = shutdown-kept c.self.inside c.in-Some.receiver.shutdown ∙ sym c.get_mut.ensures.value ∙ ap option_copied_mut c.in-Some-get_mut.is in
