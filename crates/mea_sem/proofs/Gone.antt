@@ -143,7 +143,7 @@ leaves_granted st st' next s f d n x e e' linked there semaphores was futures mi
     not_under : (m b l : ℕ) → cores.waiting e.core.queue m ≡ Some (b, l) → (t : Bool) → has s m (Some x) ≡ t → t ≡ false
     not_under m b l is false h = refl
     not_under m b l is true h =
-        let parts = and_parts _ _ h in
-        let same : n ≡ m = eqb-true n m (ap (λ a. is_under a m) (sym acquire) ∙ parts.1) in
+        let mine : is_under x.acquire m ≡ true = (and_parts (x.semaphore == s) (is_under x.acquire m) h).1 in
+        let same : n ≡ m = eqb-true n m (subst (λ a. is_under a m ≡ true) acquire mine) in
         let none : get e.core.granted m ≡ None = (linked.numbered s e there).granted_apart m (λ none. absurd (let no : None ≡ Some (b, l) = sym none ∙ is in cc)) in
         absurd (let some : get e.core.granted m ≡ Some d = ap (get e.core.granted) (sym same) ∙ is_granted in cc)

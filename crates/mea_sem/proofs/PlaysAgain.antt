@@ -72,7 +72,8 @@ module _ (st st' : Store) (w sp next i s f v d m l : ℕ) (x : FutureEntry) (e :
     not_mine : (q b : ℕ) → get e.core.granted q ≡ Some b → (t : Bool) → has s q (Some x) ≡ t → t ≡ false
     not_mine q b is false h = refl
     not_mine q b is true h = absurd (
-        let same : m ≡ q = eqb-true m q (ap (λ a. is_under a q) (sym acquire) ∙ (and_parts _ _ h).1) in
+        let mine : is_under x.acquire q ≡ true = (and_parts (x.semaphore == s) (is_under x.acquire q) h).1 in
+        let same : m ≡ q = eqb-true m q (subst (λ a. is_under a q ≡ true) acquire mine) in
         let none : get e.core.granted q ≡ None = (k.linked.numbered s e there).granted_apart q (λ gone. absurd (let some : cores.waiting e.core.queue q ≡ Some (d, l) = ap (cores.waiting e.core.queue) (sym same) ∙ waits in cc)) in
         cc)
 

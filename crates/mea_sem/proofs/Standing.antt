@@ -61,7 +61,7 @@ pub semaphores_of : (ss ss' : Semaphores) (s : ℕ) (v e' : SemaphoreEntry) → 
 semaphores_of ss ss' s v e' changes is q = kept-changed ss ss' s (Some v) changes q ∙ ap (λ x. cond (s == q) (Some x) (get (named (λ k x. x) ss) q)) is
 
 -- ---- what an event without a cause finds
-known : (b : Bool) → unknown_unless b ≡ None → b ≡ true
+pub known : (b : Bool) → unknown_unless b ≡ None → b ≡ true
 known true h = refl
 known false h = absurd (cc)
 
