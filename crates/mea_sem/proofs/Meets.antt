@@ -61,6 +61,13 @@ its_semaphore m = record { meets = m.meets; there = m.there }
 pub permits_semaphore : {a : Inside} {v : Play} {i p : ℕ} {x : PermitEntry} {e : SemaphoreEntry} → MeetsPermit a v i p x e → MeetsSemaphore a v i x.semaphore e
 permits_semaphore m = record { meets = m.meets; there = m.there }
 
+-- an insertion that failed left what was there
+pub kept_as_futures : (a : Inside) {fs : List (ℕ × FutureEntry)} → IsKeptIn a → fs ≡ a.futures.entries → IsKept (store_of a.semaphores.entries fs a.permits.entries) a.registered a.outbox.spare a.next
+kept_as_futures a k same = subst (λ (fs : List (ℕ × FutureEntry)). IsKept (store_of a.semaphores.entries fs a.permits.entries) a.registered a.outbox.spare a.next) (sym same) k
+
+pub kept_as_permits : (a : Inside) {ps : List (ℕ × PermitEntry)} → IsKeptIn a → ps ≡ a.permits.entries → IsKept (store_of a.semaphores.entries a.futures.entries ps) a.registered a.outbox.spare a.next
+kept_as_permits a k same = subst (λ (ps : List (ℕ × PermitEntry)). IsKept (store_of a.semaphores.entries a.futures.entries ps) a.registered a.outbox.spare a.next) (sym same) k
+
 module _ {a : Inside} {v : Play} {i : ℕ} (m : Meets a v i) where
   pub later : a.next ≤ i
   later = subst (λ (p : Play). p.next ≤ i) (sym m.seen) m.least

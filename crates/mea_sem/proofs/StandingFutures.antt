@@ -59,6 +59,10 @@ pub semaphore_found : (a : Inside) (f : ℕ) {x : FutureEntry} → IsKeptIn a �
 semaphore_found a f {x} k is none =
     absurd (let there = (its_home a f k is).there in let gone : get (store_in a).semaphores x.semaphore ≡ None = kept-at a.semaphores.entries x.semaphore ∙ none in cc)
 
+-- the permit that a future becomes
+abbrev pub permit_from : FutureEntry → PermitEntry
+permit_from x = record { semaphore = x.semaphore; size = demand_of x.acquire; plain = x.plain }
+
 -- a future as the hall has it, at a stage
 abbrev pub at_stage : FutureEntry → Stage → Future
 at_stage x z = record { semaphore = x.semaphore; demand = demand_of x.acquire; plain = x.plain; forgets = x.forgets; stage = z }
@@ -334,7 +338,7 @@ module _ {a : Inside} {v : Play} {i f : ℕ} {x : FutureEntry} {e : SemaphoreEnt
       turn.live turn.queue turn.quiet up turn.shown answers.Ready turn.chosen (forgets_seen m true forgets) (turn.leaves st' e' puts gone_now turn.queue refl) refl (omega (arith, lost, up)))
 
   -- it becomes a permit
-  pub kept_done : IfSome (get v.hall.futures f) (λ (y : Future). y.forgets ≡ false) → (ps' : Permits) (p : PermitEntry) → ChangesAt a.permits.entries ps' i (Some p) → p ≡ record { semaphore = x.semaphore; size = demand_of x.acquire; plain = x.plain }
+  pub kept_done : IfSome (get v.hall.futures f) (λ (y : Future). y.forgets ≡ false) → (ps' : Permits) (p : PermitEntry) → ChangesAt a.permits.entries ps' i (Some p) → p ≡ permit_from x
       → e2 ≡ record e { core = finished e.core x.acquire } → cores.held_of e2.core ≡ cores.held_of e.core + demand_of x.acquire
       → Done v i (step v.hall i (events.Poll f w)) answers.Ready (store_of ss' fs' ps') a.registered a.outbox.spare a.outbox.wakers
   kept_done keeps ps' p put permit changed held =

@@ -45,8 +45,8 @@ known : (b : Bool) (o : Option Stop) → cond b o (Some stops.Unknown) ≡ None 
 known true o h = refl
 known false o h = absurd (cc)
 
-pub never_gone : (a : Inside) (v : Play) (s : ℕ) (o : Option Stop) → seen_in a ≡ v → cond (is_named v.hall s) o (Some stops.Unknown) ≡ None → at a.semaphores.entries s ≡ None → ⊥
-never_gone a v s o seen allowed none =
+pub never_gone : (a : Inside) {v : Play} (s : ℕ) (o : Option Stop) → seen_in a ≡ v → cond (is_named v.hall s) o (Some stops.Unknown) ≡ None → at a.semaphores.entries s ≡ None → ⊥
+never_gone a {v} s o seen allowed none =
     let gone : get (hall_in a).semaphores s ≡ None = get-seen (semaphore_of (store_in a).futures a.next) (store_in a).semaphores s ∙ ap (option_map (semaphore_of (store_in a).futures a.next s)) (kept-at a.semaphores.entries s ∙ none) in
     let no : is_named (hall_in a) s ≡ false = ap is_named_semaphore gone in
     let same : is_named (hall_in a) s ≡ is_named v.hall s = ap (λ (p : Play). is_named p.hall s) seen in
@@ -61,6 +61,10 @@ fitting true n h = small (nat_lt n (2 ^ 64)) refl h
     small : (t : Bool) → nat_lt n (2 ^ 64) ≡ t → cond t None (Some stops.Overflow) ≡ None → n < 2 ^ 64
     small true is h = leb-true _ _ is
     small false is h = absurd (cc)
+
+-- more room is room
+pub kept_room : {st : Store} {w sp n : ℕ} (sp' : ℕ) → IsKept st w sp n → w ≤ sp' → IsKept st w sp' n
+kept_room sp' k room = record { valid = k.valid; below = k.below; accounted = k.accounted; linked = k.linked; each = k.each; counted = k.counted; room = room; few = k.few; low = k.low }
 
 -- n free permits of s are forgotten
 abbrev taken_off : Hall → ℕ → ℕ → Outcome
@@ -173,11 +177,11 @@ module _ {a : Inside} {v : Play} {i s : ℕ} {e : SemaphoreEntry} (m : MeetsSema
         same : st'.semaphores ≡ (store_in a).semaphores
         same = same_named _ _ (λ q. kept-changed a.semaphores.entries ss' s (Some x) changes q ∙ by_test q (s == q) refl)
 
-    pub kept_unchanged : x ≡ e → IsKept st' a.registered a.outbox.spare a.next
-    kept_unchanged is = subst (λ (st : Store). IsKept st a.registered a.outbox.spare a.next) (sym (as_it_was is)) k
+    pub kept_unchanged : x ≡ e → (sp' : ℕ) → a.registered ≤ sp' → IsKept st' a.registered sp' a.next
+    kept_unchanged is sp' room = subst (λ (st : Store). IsKept st a.registered sp' a.next) (sym (as_it_was is)) (kept_room sp' k room)
 
-    pub seen_unchanged : x ≡ e → record { hall = hall_of st' a.next; wakes = a.outbox.wakers; next = a.next } ≡ v
-    seen_unchanged is = ap (λ (st : Store). record { hall = hall_of st a.next; wakes = a.outbox.wakers; next = a.next }) (as_it_was is) ∙ m.meets.seen
+    pub seen_unchanged : x ≡ e → (wakes' : List ℕ) → wakes' ≡ a.outbox.wakers → record { hall = hall_of st' a.next; wakes = wakes'; next = a.next } ≡ v
+    seen_unchanged is wakes' same = (λ j. record { hall = hall_of (as_it_was is j) a.next; wakes = same j; next = a.next }) ∙ m.meets.seen
 
     pub done_lacking : (n : ℕ) → x ≡ e → e.core.free < n → Done v i (try_and_forget v.hall s n) answers.No st' a.registered a.outbox.spare a.outbox.wakers
     done_lacking n is few = subst (λ (st : Store). Done v i (try_and_forget v.hall s n) answers.No st a.registered a.outbox.spare a.outbox.wakers) (sym (as_it_was is)) (lacking n few)

@@ -31,7 +31,7 @@ use Rattle.mea_sem.proofs.PlaysPours.{between, between_at, wakers_poured}
 use Rattle.mea_sem.proofs.PlaysEnds.{PlaysWith, plays_end_new, plays_end_granted, plays_end_waiting}
 use Rattle.mea_sem.proofs.Meets.{store_in, hall_in, seen_in, IsKeptIn, Meets, MeetsFuture, Done, its_semaphore, later, within, without, done, done_quietly}
 use Rattle.mea_sem.proofs.Standing.{Semaphores, Futures, ChangesAt, kept-at, kept-changed, semaphores_of}
-use Rattle.mea_sem.proofs.StandingSemaphores.{wakers_registered}
+use Rattle.mea_sem.proofs.StandingSemaphores.{wakers_registered, kept_room}
 use Rattle.mea_sem.proofs.StandingFutures.{future_found, its_home, future_there, home_there, its_belongs, at_stage, seen_as, granted_stage, ready_new, pending_new, waiting_as, pending_again, paid_part, granted_live}
 use Rattle.mea_base.specs.Outbox.{Wakes}
 use Rattle.mea_sem.specs.declared.hall.SemHall.TheInside.{Inside}
@@ -141,10 +141,6 @@ unpolled {a} m f {x} is never new =
     let home = its_home a f m.kept is in
     new_unpolled (record { meets = m; is = is; there = sym (kept-at a.semaphores.entries x.semaphore) ∙ home.there }) never new
 
--- more room is room
-pub kept_room : {st : Store} {w sp n : ℕ} (sp' : ℕ) → IsKept st w sp n → w ≤ sp' → IsKept st w sp' n
-kept_room sp' k room = record { valid = k.valid; below = k.below; accounted = k.accounted; linked = k.linked; each = k.each; counted = k.counted; room = room; few = k.few; low = k.low }
-
 -- ---- a future ends
 end_allowed : (h : Hall) (f : ℕ) → IsSome (get h.futures f) → cause_of h (events.End f) ≡ None
 end_allowed h f there = by_value (get h.futures f) there
@@ -160,7 +156,7 @@ end_found a {v} f seen there none = future_found a f seen (by_value (get v.hall.
     by_value None missing = absurd (cc)
     by_value (Some y) here = refl
 
-module _ {a : Inside} {v : Play} {i f : ℕ} {x : FutureEntry} {e : SemaphoreEntry} (m : MeetsFuture a v i f x e) {e2 : SemaphoreEntry} {wakes' : List ℕ} {left : ℕ} (ends : Ends e x.acquire x.plain e2 a.outbox.wakers wakes' left) where
+module _ {a : Inside} {v : Play} {i f : ℕ} {x : FutureEntry} {e : SemaphoreEntry} (m : MeetsFuture a v i f x e) (e2 : SemaphoreEntry) (wakes' : List ℕ) (left : ℕ) (ends : Ends e x.acquire x.plain e2 a.outbox.wakers wakes' left) where
   -- those who leave were registered
   pub left_within : left ≤ a.registered
   left_within = by_acquire x.acquire ends refl (its_belongs m)
