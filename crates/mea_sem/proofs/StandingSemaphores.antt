@@ -32,7 +32,7 @@ use Rattle.mea_sem.specs.Play.{Play, Yields}
 use Rattle.mea_sem.proofs.Names.{get-seen}
 use Rattle.mea_sem.proofs.Keeping.{Plays}
 use Rattle.mea_sem.proofs.PourHalls.{seen_at}
-use Rattle.mea_sem.proofs.PlaysSemaphores.{Puts, plays_nothing, plays_tried, plays_forgetx, plays_endsem}
+use Rattle.mea_sem.proofs.PlaysSemaphores.{Puts, plays_nothing, plays_forget, plays_tried, plays_forgetx, plays_endsem}
 use Rattle.mea_sem.proofs.PlaysNew.{fresh_core, fresh_entry, plays_new}
 use Rattle.mea_sem.proofs.PlaysPours.{wakers_poured}
 use Rattle.mea_sem.proofs.PlaysEnds.{plays_release}
@@ -185,6 +185,14 @@ module _ {a : Inside} {v : Play} {i s : ℕ} {e : SemaphoreEntry} (m : MeetsSema
 
     pub done_lacking : (n : ℕ) → x ≡ e → e.core.free < n → Done v i (try_and_forget v.hall s n) answers.No st' a.registered a.outbox.spare a.outbox.wakers
     done_lacking n is few = subst (λ (st : Store). Done v i (try_and_forget v.hall s n) answers.No st a.registered a.outbox.spare a.outbox.wakers) (sym (as_it_was is)) (lacking n few)
+
+    pub done_forget : (n r : ℕ) → n < 2 ^ 64 → cause_of v.hall (events.Forget s n) ≡ None → x ≡ record e { core = calls.forgetting e.core n; forgotten = e.forgotten + min n e.core.free }
+        → cores.held_of x.core ≡ cores.held_of e.core → r ≡ min n e.core.free → min n e.core.free ≤ e.core.live
+        → Done v i (step v.hall i (events.Forget s n)) (answers.Forgot r) st' a.registered a.outbox.spare a.outbox.wakers
+    done_forget n r small allowed is held taken within_live =
+        done_quietly m.meets (events.Forget s n) (answers.Forgot r)
+        (plays_forget (store_in a) st' a.registered a.outbox.spare a.next i s n e k less low small (cause (events.Forget s n) allowed) (puts _ is) refl (held_by _ is held) within_live)
+        refl (ap (λ t. answers.Forgot t) (taken ∙ ap (min n) (sym free_seen)))
 
     pub done_forgetx : (n : ℕ) → n < 2 ^ 64 → cause_of v.hall (events.Forgetx s n) ≡ None → x ≡ record e { core = calls.forgetting_exactly e.core n; forgotten = e.forgotten + n }
         → cores.held_of x.core ≡ cores.held_of e.core → min n e.core.free ≤ e.core.live
