@@ -64,27 +64,3 @@ semaphores_of ss ss' s v e' changes is q = kept-changed ss ss' s (Some v) change
 pub known : (b : Bool) → unknown_unless b ≡ None → b ≡ true
 known true h = refl
 known false h = absurd (cc)
-
-pub named_found : (ss : Semaphores) (fs : Futures) (ps : Permits) (next s : ℕ) → unknown_unless (is_named (hall_of (store_of ss fs ps) next) s) ≡ None → at ss s ≡ None → ⊥
-named_found ss fs ps next s allowed none =
-    let gone : get (hall_of (store_of ss fs ps) next).semaphores s ≡ None = get-seen (semaphore_of (store_of ss fs ps).futures next) (store_of ss fs ps).semaphores s ∙ ap (option_map (semaphore_of (store_of ss fs ps).futures next s)) (kept-at ss s ∙ none) in
-    let no : is_named (hall_of (store_of ss fs ps) next) s ≡ false = ap is_named_semaphore gone in
-    let yes = known (is_named (hall_of (store_of ss fs ps) next) s) allowed in
-    absurd (cc)
-
--- ---- the outcome, as a contract says it
-pub yields : (v : Play) (st st' : Store) (next i w' sp' : ℕ) (wakes wakes' : List ℕ) (event : SemEvent) (reply : Answer) → record { hall = hall_of st next; wakes = wakes; next = next } ≡ v → Plays st st' next i event w' sp'
-    → wakes' ≡ wakes ++ (step (hall_of st next) i event).wakes → reply ≡ (step (hall_of st next) i event).reply
-    → Yields v i (step v.hall i event) reply (record { hall = hall_of st' (i + 1); wakes = wakes'; next = i + 1 })
-yields v st st' next i w' sp' wakes wakes' event reply seen plays woken replied =
-    subst (λ (p : Play). Yields p i (step p.hall i event) reply (record { hall = hall_of st' (i + 1); wakes = wakes'; next = i + 1 })) seen (record {
-      replied = replied;
-      moved = λ j. record { hall = plays.hall j; wakes = woken j; next = i + 1 };
-    })
-
--- the same where the event makes no wakers ready
-pub yields_quietly : (v : Play) (st st' : Store) (next i w' sp' : ℕ) (wakes : List ℕ) (event : SemEvent) (reply : Answer) → record { hall = hall_of st next; wakes = wakes; next = next } ≡ v → Plays st st' next i event w' sp'
-    → (step (hall_of st next) i event).wakes ≡ [] → reply ≡ (step (hall_of st next) i event).reply
-    → Yields v i (step v.hall i event) reply (record { hall = hall_of st' (i + 1); wakes = wakes; next = i + 1 })
-yields_quietly v st st' next i w' sp' wakes event reply seen plays quiet replied =
-    yields v st st' next i w' sp' wakes wakes event reply seen plays (sym (append-nil wakes) ∙ ap (λ ws. wakes ++ ws) (sym quiet)) replied

@@ -26,7 +26,8 @@ use Rattle.mea_sem.proofs.Gone.{seen_future, Leaves, leaves_new, leaves_granted}
 use Rattle.mea_sem.proofs.PlaysPermits.{as_it_was}
 use Rattle.mea_sem.proofs.Lives.{live-seen}
 use Rattle.mea_sem.proofs.PlaysReady.{plays_ready, plays_ready_forgetting, future_counts}
-use Rattle.std.proofs.lemmas.Bool.{le-leb, lt-leb, cases_lt}
+use Rattle.mea_sem.proofs.Refusals.{future-at}
+use Rattle.std.proofs.lemmas.Bool.{false≢true, le-leb, lt-leb, cases_lt}
 use Rattle.mea_sem.specs.declared.entries.SemaphoreEntry.{SemaphoreEntry}
 use Rattle.mea_sem.specs.declared.entries.FutureEntry.{FutureEntry}
 use Rattle.mea_sem.specs.declared.entries.PermitEntry.{PermitEntry}
@@ -44,10 +45,7 @@ use Rattle.mea_sem.proofs.StandingSemaphores.{small_forgotten}
 
 -- ---- what an event without a cause finds
 pub future_found : (a : Inside) {v : Play} (f : ℕ) → seen_in a ≡ v → is_future v.hall f ≡ true → at a.futures.entries f ≡ None → ⊥
-future_found a f seen there none =
-    let gone : is_future (hall_in a) f ≡ false = ap is_some (get-seen (λ g x. future_of (store_in a).semaphores x) (store_in a).futures f ∙ ap (option_map (future_of (store_in a).semaphores)) (kept-at a.futures.entries f ∙ none)) in
-    let same : is_future (hall_in a) f ≡ true = ap (λ (p : Play). is_future p.hall f) seen ∙ there in
-    absurd (cc)
+future_found a f seen there none = false≢true (sym (future-at a seen f ∙ ap is_some none) ∙ there)
 
 pub polled_found : (a : Inside) {v : Play} (f : ℕ) → seen_in a ≡ v → unknown_unless (is_future v.hall f) ≡ None → at a.futures.entries f ≡ None → ⊥
 polled_found a {v} f seen allowed none = future_found a f seen (known (is_future v.hall f) allowed) none

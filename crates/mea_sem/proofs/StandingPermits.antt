@@ -4,7 +4,8 @@ use Rattle.std.specs.Option.{option_map}
 use Rattle.std.specs.Result.{is_err}
 use Rattle.std.specs.Ordering.{nat_cmp}
 use Rattle.std.specs.FinMap.{FinMap, get, insert, remove}
-use Rattle.std.proofs.lemmas.Bool.{eqb-true, eq-eqb, ne_eqb, and_parts, le-leb, lt-leb}
+use Rattle.mea_sem.proofs.Refusals.{is_permit-at}
+use Rattle.std.proofs.lemmas.Bool.{false≢true, eqb-true, eq-eqb, ne_eqb, and_parts, le-leb, lt-leb}
 use Rattle.mea_base.specs.declared.answer.Answer.{Answer}
 use Rattle.mea_base.specs.declared.answer.Answer.TheVariants as answers
 use Rattle.mea_base.specs.Named.{named, at}
@@ -57,11 +58,7 @@ permit_missing : (ps : Permits) (p : ℕ) → at ps p ≡ None → get (seen_per
 permit_missing ps p is = get-named (λ p x. permit_of x) ps p ∙ ap (option_map permit_of) is
 
 pub permit_found : (a : Inside) {v : Play} (p : ℕ) → seen_in a ≡ v → unknown_unless (is_permit v.hall p) ≡ None → at a.permits.entries p ≡ None → ⊥
-permit_found a {v} p seen allowed none =
-    let here : is_permit v.hall p ≡ true = known (is_permit v.hall p) allowed in
-    let no : is_permit (hall_in a) p ≡ false = ap is_some (permit_missing a.permits.entries p none) in
-    let same : is_permit (hall_in a) p ≡ is_permit v.hall p = ap (λ (q : Play). is_permit q.hall p) seen in
-    absurd (cc)
+permit_found a {v} p seen allowed none = false≢true (sym (is_permit-at a seen p ∙ ap is_some none) ∙ known (is_permit v.hall p) allowed)
 
 pub ended_found : (a : Inside) {v : Play} (p : ℕ) → seen_in a ≡ v → cause_of v.hall (events.End p) ≡ None → get v.hall.futures p ≡ None → at a.permits.entries p ≡ None → ⊥
 ended_found a {v} p seen allowed no_future none =

@@ -3,7 +3,8 @@ use Rattle.std.proofs.Common.{◌≡◌, ℕ, ◌+◌, ◌-◌, ◌^◌, ◌<◌
 use Rattle.std.specs.Option.{option_map}
 use Rattle.std.specs.Ordering.{nat_cmp}
 use Rattle.std.specs.FinMap.{get, empty, entries, get-empty}
-use Rattle.std.proofs.lemmas.Bool.{le-leb, lt-leb, leb-true, eqb-true}
+use Rattle.mea_sem.proofs.Refusals.{named-none}
+use Rattle.std.proofs.lemmas.Bool.{false≢true, le-leb, lt-leb, leb-true, eqb-true}
 use Rattle.mea_base.specs.Named.{named, at}
 use Rattle.mea_base.specs.Totals.{total, weight}
 use Rattle.mea_base.specs.Queue.{granted_in}
@@ -46,12 +47,7 @@ known true o h = refl
 known false o h = absurd (cc)
 
 pub never_gone : (a : Inside) {v : Play} (s : ℕ) (o : Option Stop) → seen_in a ≡ v → cond (is_named v.hall s) o (Some stops.Unknown) ≡ None → at a.semaphores.entries s ≡ None → ⊥
-never_gone a {v} s o seen allowed none =
-    let gone : get (hall_in a).semaphores s ≡ None = get-seen (semaphore_of (store_in a).futures a.next) (store_in a).semaphores s ∙ ap (option_map (semaphore_of (store_in a).futures a.next s)) (kept-at a.semaphores.entries s ∙ none) in
-    let no : is_named (hall_in a) s ≡ false = ap is_named_semaphore gone in
-    let same : is_named (hall_in a) s ≡ is_named v.hall s = ap (λ (p : Play). is_named p.hall s) seen in
-    let yes = known (is_named v.hall s) o allowed in
-    absurd (cc)
+never_gone a {v} s o seen allowed none = false≢true (sym (named-none a seen s none) ∙ known (is_named v.hall s) o allowed)
 
 -- a release that would not fit has a cause
 fitting : (b : Bool) (n : ℕ) → cond b (cond (nat_lt n (2 ^ 64)) None (Some stops.Overflow)) (Some stops.Unknown) ≡ None → n < 2 ^ 64

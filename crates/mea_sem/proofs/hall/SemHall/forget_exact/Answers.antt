@@ -19,11 +19,11 @@ pub forget_exact-requires : goal.forget_exact-requires
 forget_exact-requires c = small_forgotten (met (goal.at.forget_exact-requires c).In-Some) c.args.n (omega arith)
 
 pub invariant_of-self : goal.invariant_of-self
-invariant_of-self c = 
+invariant_of-self c =
     kept_unchanged (met (goal.at.invariant_of-self c).In-Some) _ c.forget_exact.new.self ((c.get_mut.follows.holds c.forget_exact.new.self).3 (search rules)).0 c.in-Err.ensures.err _ c.self.invariant.room
 
 pub returns-in-Err-clause-err : goal.returns-in-Err-clause-err
-returns-in-Err-clause-err c = 
+returns-in-Err-clause-err c =
     seen_unchanged (met (goal.at.returns-in-Err-clause-err c).In-Some) _ c.forget_exact.new.self ((c.get_mut.follows.holds c.forget_exact.new.self).3 (search rules)).0 c.in-Err.ensures.err _ refl
 
 pub invariant_of-self-in-Ok : goal.invariant_of-self-in-Ok

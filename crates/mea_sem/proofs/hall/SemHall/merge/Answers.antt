@@ -20,16 +20,19 @@ pub unreachable-requires : goal.unreachable-requires
 unreachable-requires c = other_found c.self.inside c.self.view_is c.args.p c.args.q c.requires.allowed (sym c.remove.ensures.value ∙ c.in_default.is)
 
 pub unreachable-requires-in_default-get_mut : goal.unreachable-requires-in_default-get_mut
-unreachable-requires-in_default-get_mut c = 
+unreachable-requires-in_default-get_mut c =
     first_found c.self.inside c.self.view_is c.args.p c.args.q c.requires.allowed _ c.remove.ensures.updates.0 (sym c.get_mut.ensures.value ∙ ap option_copied_mut c.in_default-get_mut.is)
 
 pub overflow_add-permit : goal.overflow_add-permit
-overflow_add-permit c = 
-    omega (arith, sizes_fit (entered (goal.at.overflow_add-permit c).In-Some) c.args.p c.args.q c.requires.allowed _ c.remove.ensures.updates.0
-    c.in-Some-get_mut.permit.now c.in-Some.other (sym c.get_mut.ensures.value ∙ ap option_copied_mut c.in-Some-get_mut.is) (sym c.remove.ensures.value ∙ c.in-Some.is))
+overflow_add-permit c =
+    omega (
+      arith,
+      sizes_fit (entered (goal.at.overflow_add-permit c).In-Some) c.args.p c.args.q c.requires.allowed _ c.remove.ensures.updates.0
+          c.in-Some-get_mut.permit.now c.in-Some.other (sym c.get_mut.ensures.value ∙ ap option_copied_mut c.in-Some-get_mut.is) (sym c.remove.ensures.value ∙ c.in-Some.is),
+    )
 
 pub unreachable-requires-in_default-get_mut-2 : goal.unreachable-requires-in_default-get_mut-2
-unreachable-requires-in_default-get_mut-2 c = 
+unreachable-requires-in_default-get_mut-2 c =
     home_found c.self.inside c.args.q c.self.invariant (sym c.remove.ensures.value ∙ c.in-Some.is) (sym c.get_mut-2.ensures.value ∙ ap option_copied_mut c.in_default-get_mut-2.is)
 
 pub discount-requires : goal.discount-requires

@@ -24,15 +24,15 @@ pub invariant_of-self : goal.invariant_of-self
 invariant_of-self c = (too_small (entered (goal.at.invariant_of-self c).In-Some) c.args.p c.args.n c.in-Some.permit (sym c.get.ensures.value ∙ sym c.copied.ensures ∙ c.in-Some.is) c.if-n-permit.true).kept
 
 pub returns-then-n-permit-clause-played : goal.returns-then-n-permit-clause-played
-returns-then-n-permit-clause-played c = 
+returns-then-n-permit-clause-played c =
     (too_small (entered (goal.at.returns-then-n-permit-clause-played c).In-Some) c.args.p c.args.n c.in-Some.permit (sym c.get.ensures.value ∙ sym c.copied.ensures ∙ c.in-Some.is) c.if-n-permit.true).yields
 
 pub invariant_of-self-then-is_err : goal.invariant_of-self-then-is_err
-invariant_of-self-then-is_err c = 
+invariant_of-self-then-is_err c =
     kept_as_permits c.self.inside c.self.invariant (on_failure _ c.insert.result (sym c.is_err.ensures.value ∙ c.if-is_err.true) c.insert.ensures.err)
 
 pub unreachable-requires-in_default-get_mut-2 : goal.unreachable-requires-in_default-get_mut-2
-unreachable-requires-in_default-get_mut-2 c = 
+unreachable-requires-in_default-get_mut-2 c =
     home_found c.self.inside c.args.p c.self.invariant (sym c.get.ensures.value ∙ sym c.copied.ensures ∙ c.in-Some.is) (sym c.get_mut-2.ensures.value ∙ ap option_copied_mut c.in_default-get_mut-2.is)
 
 pub count-requires : goal.count-requires

@@ -27,11 +27,11 @@ pub invariant_of-self : goal.invariant_of-self
 invariant_of-self c = (tried_in_vain (looked (goal.at.invariant_of-self c).In-Some) c.args.n c.args.plain (omega (arith, c.available_permits.ensures.is, c.if-n-available_permits.true))).kept
 
 pub returns-then-n-available_permits-clause-played : goal.returns-then-n-available_permits-clause-played
-returns-then-n-available_permits-clause-played c = 
+returns-then-n-available_permits-clause-played c =
     (tried_in_vain (looked (goal.at.returns-then-n-available_permits-clause-played c).In-Some) c.args.n c.args.plain (omega (arith, c.available_permits.ensures.is, c.if-n-available_permits.true))).yields
 
 pub invariant_of-self-then-is_err : goal.invariant_of-self-then-is_err
-invariant_of-self-then-is_err c = 
+invariant_of-self-then-is_err c =
     kept_as_permits c.self.inside c.self.invariant (on_failure _ c.insert.result (sym c.is_err.ensures.value ∙ c.if-is_err.true) c.insert.ensures.err)
 
 pub take-requires-clause-few : goal.take-requires-clause-few
