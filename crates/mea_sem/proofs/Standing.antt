@@ -1,22 +1,16 @@
 -- from the maps of a `SemHall` to what it keeps
-use Rattle.std.proofs.Common.{◌≡◌, ℕ, ◌+◌, ◌==◌, ◌++◌, Bool, true, false, cond, List, [], refl, ap, sym, subst, ◌∙◌, Option, Some, None, append-nil}
+use Rattle.std.proofs.Common.{◌≡◌, ℕ, ◌==◌, Bool, true, false, cond, List, refl, ap, sym, ◌∙◌, Option, Some, None}
 use Rattle.std.specs.Option.{option_map}
 use Rattle.std.specs.Ordering.{nat_cmp}
 use Rattle.std.specs.BTreeMap.{is_at}
 use Rattle.std.specs.FinMap.{get}
-use Rattle.mea_base.specs.declared.answer.Answer.{Answer}
 use Rattle.mea_base.specs.Named.{named, at}
 use Rattle.mea_base.proofs.NamedMaps.{get-named, named_changed}
-use Rattle.mea_sem_model.specs.declared.event.SemEvent.{SemEvent}
-use Rattle.mea_sem_model.specs.Cause.{is_named, is_named_semaphore, unknown_unless}
-use Rattle.mea_sem_model.specs.Step.{step}
+use Rattle.mea_sem_model.specs.Cause.{unknown_unless}
 use Rattle.mea_sem.specs.declared.entries.SemaphoreEntry.{SemaphoreEntry}
 use Rattle.mea_sem.specs.declared.entries.FutureEntry.{FutureEntry}
 use Rattle.mea_sem.specs.declared.entries.PermitEntry.{PermitEntry}
-use Rattle.mea_sem.specs.Store.{Store, store_of, semaphore_of, hall_of}
-use Rattle.mea_sem.specs.Play.{Play, Yields}
-use Rattle.mea_sem.proofs.Names.{get-seen}
-use Rattle.mea_sem.proofs.Keeping.{Plays}
+use Rattle.mea_sem.specs.Store.{store_of}
 use Rattle.mea_sem.proofs.PlaysSemaphores.{Puts}
 
 abbrev pub Semaphores : Type 0

@@ -1,8 +1,7 @@
 -- what the events on futures leave of a `SemHall`
-use Rattle.std.proofs.Common.{◌≡◌, inl, inr, ℕ, ◌+◌, ◌-◌, ◌^◌, ◌<◌, ◌≤◌, ◌==◌, ◌++◌, Bool, true, false, cond, List, [], refl, ap, sym, subst, ◌∙◌, arith, Option, Some, None, append-nil, is_some, nat_le, if◌then◌else◌}
+use Rattle.std.proofs.Common.{◌≡◌, inl, inr, ℕ, ◌+◌, ◌-◌, ◌^◌, ◌<◌, ◌≤◌, ◌==◌, Bool, true, false, cond, refl, ap, sym, subst, ◌∙◌, arith, Option, Some, None, is_some, nat_le, if◌then◌else◌}
 use Rattle.std.specs.Option.{option_map, IfSome}
 use Rattle.std.specs.FinMap.{get, insert, remove}
-use Rattle.mea_base.specs.declared.answer.Answer.{Answer}
 use Rattle.mea_base.specs.declared.answer.Answer.TheVariants as answers
 use Rattle.mea_base.specs.Named.{named, at}
 use Rattle.mea_base.specs.Totals.{weight}
@@ -13,7 +12,7 @@ use Rattle.mea_sem_model.specs.declared.event.SemEvent.TheVariants as events
 use Rattle.mea_sem_model.specs.Hall.{Hall, Semaphore, Future, Stage, New, Waiting, Granted, semaphore_at, queue_at, with_semaphore, free, held, paid_to}
 use Rattle.mea_sem_model.specs.Cause.{cause_of, is_future, unknown_unless}
 use Rattle.mea_sem_model.specs.Valid.{Fits}
-use Rattle.mea_sem_model.specs.Step.{Outcome, step, quietly, taking, with_future, queueing, made_ready, poll_of, acquire_of}
+use Rattle.mea_sem_model.specs.Step.{step, quietly, taking, with_future, queueing, made_ready, poll_of, acquire_of}
 use Rattle.mea_sem_core.specs.declared.acquire.Acquire.{Acquire}
 use Rattle.mea_sem_core.specs.declared.acquire.Acquire.TheVariants as acquires
 use Rattle.mea_sem_core.specs.Acquire.{demand_of}
@@ -31,14 +30,12 @@ use Rattle.std.proofs.lemmas.Bool.{false≢true, le-leb, lt-leb, cases_lt}
 use Rattle.mea_sem.specs.declared.entries.SemaphoreEntry.{SemaphoreEntry}
 use Rattle.mea_sem.specs.declared.entries.FutureEntry.{FutureEntry}
 use Rattle.mea_sem.specs.declared.entries.PermitEntry.{PermitEntry}
-use Rattle.mea_sem.specs.Store.{Store, permit_of, store_of, queue_of, semaphore_of, future_of, stage_of, stage_under, hall_of, IsHome, IsOpen}
-use Rattle.mea_sem.specs.Kept.{IsKept}
-use Rattle.mea_sem.specs.Play.{Yields}
+use Rattle.mea_sem.specs.Store.{Store, permit_of, store_of, queue_of, semaphore_of, stage_of, stage_under, IsHome, IsOpen}
 use Rattle.mea_sem.proofs.Names.{get-seen}
 use Rattle.mea_sem.proofs.Keeping.{Plays}
 use Rattle.mea_sem.specs.declared.hall.SemHall.TheInside.{Inside}
 use Rattle.mea_sem.specs.Play.{Play}
-use Rattle.mea_sem.proofs.Meets.{store_in, hall_in, seen_in, IsKeptIn, Meets, MeetsSemaphore, MeetsFuture, Done, its_semaphore, later, within, without, done, done_quietly}
+use Rattle.mea_sem.proofs.Meets.{store_in, hall_in, seen_in, IsKeptIn, MeetsSemaphore, MeetsFuture, Done, its_semaphore, later, within, without, done, done_quietly}
 use Rattle.mea_sem.proofs.Standing.{Semaphores, Futures, Permits, ChangesAt, kept-at, kept-changed, found, known, semaphores_of}
 use Rattle.mea_sem.proofs.PlaysFutures.{plays_acquire}
 use Rattle.mea_sem.proofs.StandingSemaphores.{small_forgotten}

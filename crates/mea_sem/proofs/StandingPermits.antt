@@ -10,9 +10,8 @@ use Rattle.mea_base.specs.declared.answer.Answer.{Answer}
 use Rattle.mea_base.specs.declared.answer.Answer.TheVariants as answers
 use Rattle.mea_base.specs.Named.{named, at}
 use Rattle.mea_base.specs.Queue.{granted_in}
-use Rattle.mea_base.specs.Totals.{weight}
 use Rattle.mea_base.proofs.NamedMaps.{get-named, named_put, named_remove, same_named, is_at-eq}
-use Rattle.mea_base.proofs.Totals.{get_inserted, total-remove}
+use Rattle.mea_base.proofs.Totals.{get_inserted}
 use Rattle.mea_sem_model.specs.declared.event.SemEvent.{SemEvent}
 use Rattle.mea_sem_model.specs.declared.event.SemEvent.TheVariants as events
 use Rattle.mea_sem_model.specs.Hall.{Hall, Permit, semaphore_at, with_semaphore}
@@ -22,16 +21,13 @@ use Rattle.mea_sem_model.specs.Step.{Outcome, step, quietly, taking, with_permit
 use Rattle.mea_sem_core.specs.Core as cores
 use Rattle.mea_sem.specs.declared.entries.SemaphoreEntry.{SemaphoreEntry}
 use Rattle.mea_sem.specs.declared.entries.PermitEntry.{PermitEntry}
-use Rattle.mea_sem.specs.Store.{Store, permit_of, store_of, semaphore_of, hall_of}
-use Rattle.mea_sem.specs.Kept.{wakers_in, IsKept}
-use Rattle.mea_sem.specs.Play.{Play, Yields}
+use Rattle.mea_sem.specs.Store.{Store, permit_of, store_of, semaphore_of}
+use Rattle.mea_sem.specs.Play.{Play}
 use Rattle.mea_sem.proofs.Names.{get-seen}
 use Rattle.mea_sem.proofs.PourHalls.{seen_at}
 use Rattle.mea_sem.proofs.Weighs.{one}
-use Rattle.mea_sem.proofs.Keeping.{Plays}
 use Rattle.mea_sem.proofs.PlaysSemaphores.{plays_nothing}
 use Rattle.mea_sem.proofs.PlaysPermits.{plays_try, plays_lose, plays_merge, plays_split, permit_counts, permits_count}
-use Rattle.mea_sem.proofs.PlaysPours.{wakers_poured}
 use Rattle.mea_sem.proofs.PlaysEnds.{plays_end_permit}
 use Rattle.mea_sem.specs.declared.hall.SemHall.TheInside.{Inside}
 use Rattle.mea_sem.proofs.Meets.{store_in, hall_in, seen_in, IsKeptIn, Meets, MeetsSemaphore, MeetsPermit, Done, permits_semaphore, later, within, done, done_quietly}

@@ -10,7 +10,6 @@ use Rattle.mea_base.specs.Totals.{total, weight}
 use Rattle.mea_base.specs.Queue.{granted_in}
 use Rattle.mea_base.proofs.NamedMaps.{same_named, get-named}
 use Rattle.mea_base.proofs.Totals.{total-remove, total-empty}
-use Rattle.mea_base.specs.declared.answer.Answer.{Answer}
 use Rattle.mea_base.specs.declared.answer.Answer.TheVariants as answers
 use Rattle.mea_base.specs.declared.ledger.Ledger.{Ledger}
 use Rattle.mea_base.specs.declared.stop.Stop.{Stop}
@@ -18,7 +17,7 @@ use Rattle.mea_base.specs.declared.stop.Stop.TheVariants as stops
 use Rattle.mea_sem_model.specs.declared.event.SemEvent.{SemEvent}
 use Rattle.mea_sem_model.specs.declared.event.SemEvent.TheVariants as events
 use Rattle.mea_sem_model.specs.Hall.{Hall, Semaphore, empty_hall, live, free, semaphore_at, with_semaphore}
-use Rattle.mea_sem_model.specs.Cause.{cause_of, is_named, is_named_semaphore}
+use Rattle.mea_sem_model.specs.Cause.{cause_of, is_named}
 use Rattle.mea_sem_model.specs.Step.{Outcome, step, quietly, try_and_forget}
 use Rattle.mea_sem_model.specs.Valid.{IsValid, IsBelow, IsAccounted}
 use Rattle.mea_sem_model.proofs.Keeps.{valid_empty, below_empty, accounted_empty}
@@ -29,9 +28,8 @@ use Rattle.mea_sem.specs.declared.entries.SemaphoreEntry.{SemaphoreEntry}
 use Rattle.mea_sem.specs.Entries.{ledger_of_entry}
 use Rattle.mea_sem.specs.Store.{Store, store_of, permit_of, semaphore_of, future_of, hall_of}
 use Rattle.mea_sem.specs.Kept.{wakers_in, IsKept}
-use Rattle.mea_sem.specs.Play.{Play, Yields}
+use Rattle.mea_sem.specs.Play.{Play}
 use Rattle.mea_sem.proofs.Names.{get-seen}
-use Rattle.mea_sem.proofs.Keeping.{Plays}
 use Rattle.mea_sem.proofs.PourHalls.{seen_at}
 use Rattle.mea_sem.proofs.PlaysSemaphores.{Puts, plays_nothing, plays_forget, plays_tried, plays_forgetx, plays_endsem}
 use Rattle.mea_sem.proofs.PlaysNew.{fresh_core, fresh_entry, plays_new}

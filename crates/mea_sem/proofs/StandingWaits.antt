@@ -1,13 +1,10 @@
 -- what a poll that waits, and the end of a future, leave of a `SemHall`
-use Rattle.std.proofs.Common.{◌≡◌, ◌≢◌, inl, inr, ℕ, ◌+◌, ◌-◌, ◌^◌, ◌<◌, ◌≤◌, ◌==◌, ◌++◌, Bool, true, false, cond, List, [], ◌∷◌, refl, ap, sym, subst, ◌∙◌, arith, Option, Some, None, append-nil, is_some, if◌then◌else◌}
+use Rattle.std.proofs.Common.{◌≡◌, ◌≢◌, inl, inr, ℕ, ◌+◌, ◌-◌, ◌^◌, ◌<◌, ◌≤◌, ◌==◌, ◌++◌, true, cond, List, [], ◌∷◌, refl, ap, sym, subst, ◌∙◌, arith, Option, Some, None, append-nil, is_some, if◌then◌else◌}
 use Rattle.std.specs.Option.{IfSome, IsSome}
 use Rattle.std.specs.FinMap.{get}
-use Rattle.std.proofs.lemmas.Bool.{eqb-true, cases_lt}
+use Rattle.std.proofs.lemmas.Bool.{cases_lt}
 use Rattle.mea_base.specs.declared.answer.Answer.TheVariants as answers
 use Rattle.mea_base.specs.Named.{at}
-use Rattle.mea_base.specs.Totals.{weight}
-use Rattle.mea_base.proofs.NamedMaps.{same_named}
-use Rattle.mea_base.proofs.Totals.{total-remove}
 use Rattle.mea_sem_model.specs.declared.event.SemEvent.TheVariants as events
 use Rattle.mea_sem_model.specs.Hall.{Hall, Semaphore, Future, Stage, New, Waiting, Granted, queue_at, lack_of}
 use Rattle.mea_sem_model.specs.Cause.{cause_of, is_permit, unknown_unless}
@@ -20,8 +17,8 @@ use Rattle.mea_sem_core.specs.Calls.{Belongs, Queues, with_waker, without_acquir
 use Rattle.mea_sem.specs.declared.entries.SemaphoreEntry.{SemaphoreEntry}
 use Rattle.mea_sem.specs.declared.entries.FutureEntry.{FutureEntry}
 use Rattle.mea_sem.specs.Entries.{Waits, Ends}
-use Rattle.mea_sem.specs.Store.{Store, store_of, stage_of, hall_of, IsOpen}
-use Rattle.mea_sem.specs.Kept.{wakers_in, IsKept}
+use Rattle.mea_sem.specs.Store.{Store, store_of, stage_of, IsOpen}
+use Rattle.mea_sem.specs.Kept.{IsKept}
 use Rattle.mea_sem.proofs.Keeping.{Plays}
 use Rattle.mea_sem.proofs.Left.{lack_left, wakers_without}
 use Rattle.mea_sem.proofs.PourHalls.{seen_at}
