@@ -62,11 +62,15 @@ pub permits_semaphore : {a : Inside} {v : Play} {i p : ℕ} {x : PermitEntry} {e
 permits_semaphore m = record { meets = m.meets; there = m.there }
 
 -- an insertion that failed left what was there
-pub kept_as_futures : (a : Inside) {fs : List (ℕ × FutureEntry)} → IsKeptIn a → fs ≡ a.futures.entries → IsKept (store_of a.semaphores.entries fs a.permits.entries) a.registered a.outbox.spare a.next
-kept_as_futures a k same = subst (λ (fs : List (ℕ × FutureEntry)). IsKept (store_of a.semaphores.entries fs a.permits.entries) a.registered a.outbox.spare a.next) (sym same) k
+pub kept_as_futures : (a : Inside) {fs : List (ℕ × FutureEntry)} → IsKeptIn a → fs ≡ a.futures.entries
+    → IsKept (store_of a.semaphores.entries fs a.permits.entries) a.registered a.outbox.spare a.next
+kept_as_futures a k same = subst
+    (λ (fs : List (ℕ × FutureEntry)). IsKept (store_of a.semaphores.entries fs a.permits.entries) a.registered a.outbox.spare a.next) (sym same) k
 
-pub kept_as_permits : (a : Inside) {ps : List (ℕ × PermitEntry)} → IsKeptIn a → ps ≡ a.permits.entries → IsKept (store_of a.semaphores.entries a.futures.entries ps) a.registered a.outbox.spare a.next
-kept_as_permits a k same = subst (λ (ps : List (ℕ × PermitEntry)). IsKept (store_of a.semaphores.entries a.futures.entries ps) a.registered a.outbox.spare a.next) (sym same) k
+pub kept_as_permits : (a : Inside) {ps : List (ℕ × PermitEntry)} → IsKeptIn a → ps ≡ a.permits.entries
+    → IsKept (store_of a.semaphores.entries a.futures.entries ps) a.registered a.outbox.spare a.next
+kept_as_permits a k same = subst
+    (λ (ps : List (ℕ × PermitEntry)). IsKept (store_of a.semaphores.entries a.futures.entries ps) a.registered a.outbox.spare a.next) (sym same) k
 
 module _ {a : Inside} {v : Play} {i : ℕ} (m : Meets a v i) where
   pub later : a.next ≤ i
@@ -95,4 +99,5 @@ module _ {a : Inside} {v : Play} {i : ℕ} (m : Meets a v i) where
   pub done_quietly : {st' : Store} {w' sp' : ℕ} (event : SemEvent) (reply : Answer) → Plays (store_in a) st' a.next i event w' sp'
       → (step (hall_in a) i event).wakes ≡ [] → reply ≡ (step (hall_in a) i event).reply
       → Done v i (step v.hall i event) reply st' w' sp' a.outbox.wakers
-  done_quietly event reply plays quiet replied = done a.outbox.wakers event reply plays (sym (append-nil a.outbox.wakers) ∙ ap (λ ws. a.outbox.wakers ++ ws) (sym quiet)) replied
+  done_quietly event reply plays quiet replied = done a.outbox.wakers event reply plays
+      (sym (append-nil a.outbox.wakers) ∙ ap (λ ws. a.outbox.wakers ++ ws) (sym quiet)) replied

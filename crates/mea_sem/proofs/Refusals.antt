@@ -22,9 +22,11 @@ is_some-map f None = refl
 is_some-map f (Some x) = refl
 
 module _ (a : Inside) {v : Play} (seen : seen_in a ≡ v) (k : ℕ) where
-  named-at : (o : Option SemaphoreEntry) → at a.semaphores.entries k ≡ o → is_named v.hall k ≡ is_named_semaphore (option_map (semaphore_of (store_in a).futures a.next k) o)
+  named-at : (o : Option SemaphoreEntry) → at a.semaphores.entries k ≡ o
+      → is_named v.hall k ≡ is_named_semaphore (option_map (semaphore_of (store_in a).futures a.next k) o)
   named-at o is = ap (λ (p : Play). is_named p.hall k) (sym seen)
-      ∙ ap is_named_semaphore (get-seen (semaphore_of (store_in a).futures a.next) (store_in a).semaphores k ∙ ap (option_map (semaphore_of (store_in a).futures a.next k)) (kept-at a.semaphores.entries k ∙ is))
+      ∙ ap is_named_semaphore (get-seen (semaphore_of (store_in a).futures a.next) (store_in a).semaphores k
+      ∙ ap (option_map (semaphore_of (store_in a).futures a.next k)) (kept-at a.semaphores.entries k ∙ is))
 
   -- a semaphore is named where its entry is
   pub named-some : (e : SemaphoreEntry) → at a.semaphores.entries k ≡ Some e → is_named v.hall k ≡ e.named
@@ -35,7 +37,8 @@ module _ (a : Inside) {v : Play} (seen : seen_in a ≡ v) (k : ℕ) where
 
   pub future-at : is_future v.hall k ≡ is_some (at a.futures.entries k)
   future-at = ap (λ (p : Play). is_future p.hall k) (sym seen)
-      ∙ ap is_some (get-seen (λ f x. future_of (store_in a).semaphores x) (store_in a).futures k ∙ ap (option_map (future_of (store_in a).semaphores)) (kept-at a.futures.entries k))
+      ∙ ap is_some (get-seen (λ f x. future_of (store_in a).semaphores x) (store_in a).futures k
+      ∙ ap (option_map (future_of (store_in a).semaphores)) (kept-at a.futures.entries k))
       ∙ is_some-map (future_of (store_in a).semaphores) (at a.futures.entries k)
 
   pub permit-at : get v.hall.permits k ≡ option_map permit_of (at a.permits.entries k)

@@ -22,12 +22,15 @@ waiters-seen m b s [] = refl
 waiters-seen m b s ((cores.Acquires n d w, l) ∷ q) = ap (λ k. k + 1) (waiters-seen m b s q)
 waiters-seen m b s ((cores.Owes, l) ∷ q) = waiters-seen m b s q
 
-weight-seen : (m : FinMap nat_cmp FutureEntry) (b s : ℕ) (o : Option SemaphoreEntry) → weight (λ k (r : Semaphore). waiters_in r.queue) s (option_map (semaphore_of m b s) o) ≡ weight (λ k (e : SemaphoreEntry). wakers_in e.core.queue) s o
+weight-seen : (m : FinMap nat_cmp FutureEntry) (b s : ℕ) (o : Option SemaphoreEntry)
+    → weight (λ k (r : Semaphore). waiters_in r.queue) s (option_map (semaphore_of m b s) o) ≡ weight (λ k (e : SemaphoreEntry). wakers_in e.core.queue) s o
 weight-seen m b s None = refl
 weight-seen m b s (Some e) = waiters-seen m b s e.core.queue
 
 pub waiters-counted : (a : Inside) {v : Play} → seen_in a ≡ v → IsKeptIn a → a.registered ≡ waiters v.hall
 waiters-counted a seen k = k.counted
-    ∙ sym (total-alike (λ k (r : Semaphore). waiters_in r.queue) (λ k (e : SemaphoreEntry). wakers_in e.core.queue) (hall_in a).semaphores (store_in a).semaphores
-    (λ s. ap (weight (λ k (r : Semaphore). waiters_in r.queue) s) (get-seen (semaphore_of (store_in a).futures a.next) (store_in a).semaphores s) ∙ weight-seen (store_in a).futures a.next s (get (store_in a).semaphores s)))
+    ∙ sym (total-alike (λ k (r : Semaphore). waiters_in r.queue) (λ k (e : SemaphoreEntry). wakers_in e.core.queue) (hall_in a).semaphores
+    (store_in a).semaphores
+    (λ s. ap (weight (λ k (r : Semaphore). waiters_in r.queue) s) (get-seen (semaphore_of (store_in a).futures a.next) (store_in a).semaphores s)
+    ∙ weight-seen (store_in a).futures a.next s (get (store_in a).semaphores s)))
     ∙ ap (λ (p : Play). waiters p.hall) seen

@@ -34,7 +34,8 @@ option_map-same (Some x) = refl
 pub kept-at : {X : Type 0} (es : List (ℕ × X)) (q : ℕ) → get (named (λ k x. x) es) q ≡ at es q
 kept-at es q = get-named (λ k x. x) es q ∙ option_map-same (at es q)
 
-pub kept-changed : {X : Type 0} (old new : List (ℕ × X)) (k : ℕ) (o : Option X) → ChangesAt old new k o → (q : ℕ) → get (named (λ k x. x) new) q ≡ cond (k == q) o (get (named (λ k x. x) old) q)
+pub kept-changed : {X : Type 0} (old new : List (ℕ × X)) (k : ℕ) (o : Option X) → ChangesAt old new k o → (q : ℕ)
+    → get (named (λ k x. x) new) q ≡ cond (k == q) o (get (named (λ k x. x) old) q)
 kept-changed old new k o h q =
     get-named (λ k x. x) new q ∙ named_changed (λ k x. x) (λ k x. x) old new k o h (λ j x d is. refl) q
     ∙ ap (λ p. cond (k == q) p (option_map (λ x. x) (at old q))) (option_map-same o)
@@ -44,14 +45,16 @@ kept-changed old new k o h q =
 pub found : {X : Type 0} (es : List (ℕ × X)) (k : ℕ) (x : X) → at es k ≡ Some x → get (named (λ k x. x) es) k ≡ Some x
 found es k x is = kept-at es k ∙ is
 
-pub puts_of : (ss ss' : Semaphores) (fs : Futures) (ps ps' : Permits) (s : ℕ) (e v e' : SemaphoreEntry) → at ss s ≡ Some e → ChangesAt ss ss' s (Some v) → v ≡ e' → Puts (store_of ss fs ps) (store_of ss' fs ps') s e e'
+pub puts_of : (ss ss' : Semaphores) (fs : Futures) (ps ps' : Permits) (s : ℕ) (e v e' : SemaphoreEntry) → at ss s ≡ Some e
+    → ChangesAt ss ss' s (Some v) → v ≡ e' → Puts (store_of ss fs ps) (store_of ss' fs ps') s e e'
 puts_of ss ss' fs ps ps' s e v e' there changes is = record {
   there = found ss s e there;
   semaphores = λ q. kept-changed ss ss' s (Some v) changes q ∙ ap (λ x. cond (s == q) (Some x) (get (named (λ k x. x) ss) q)) is;
   futures = refl;
 }
 
-pub semaphores_of : (ss ss' : Semaphores) (s : ℕ) (v e' : SemaphoreEntry) → ChangesAt ss ss' s (Some v) → v ≡ e' → (q : ℕ) → get (named (λ k x. x) ss') q ≡ cond (s == q) (Some e') (get (named (λ k x. x) ss) q)
+pub semaphores_of : (ss ss' : Semaphores) (s : ℕ) (v e' : SemaphoreEntry) → ChangesAt ss ss' s (Some v) → v ≡ e' → (q : ℕ)
+    → get (named (λ k x. x) ss') q ≡ cond (s == q) (Some e') (get (named (λ k x. x) ss) q)
 semaphores_of ss ss' s v e' changes is q = kept-changed ss ss' s (Some v) changes q ∙ ap (λ x. cond (s == q) (Some x) (get (named (λ k x. x) ss) q)) is
 
 -- ---- what an event without a cause finds

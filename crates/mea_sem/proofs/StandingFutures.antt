@@ -52,7 +52,8 @@ its_home a f {x} k is = k.linked.home f x (found a.futures.entries f x is)
 
 pub semaphore_found : (a : Inside) (f : ℕ) {x : FutureEntry} → IsKeptIn a → at a.futures.entries f ≡ Some x → at a.semaphores.entries x.semaphore ≡ None → ⊥
 semaphore_found a f {x} k is none =
-    absurd (let there = (its_home a f k is).there in let gone : get (store_in a).semaphores x.semaphore ≡ None = kept-at a.semaphores.entries x.semaphore ∙ none in cc)
+    absurd (let there = (its_home a f k is).there in let gone : get
+    (store_in a).semaphores x.semaphore ≡ None = kept-at a.semaphores.entries x.semaphore ∙ none in cc)
 
 -- the permit that a future becomes
 abbrev pub permit_from : FutureEntry → PermitEntry
@@ -87,50 +88,66 @@ module _ {a : Inside} {v : Play} {i f : ℕ} {x : FutureEntry} {e : SemaphoreEnt
 
   -- whether it forgets what it takes
   pub forgets_as : (t : Bool) → x.forgets ≡ t → IfSome (get v.hall.futures f) (λ (y : Future). y.forgets ≡ t)
-  forgets_as t forgets = without m.meets (λ h. IfSome (get h.futures f) (λ (y : Future). y.forgets ≡ t)) (subst (λ o. IfSome o (λ (y : Future). y.forgets ≡ t)) (sym seen_now) forgets)
+  forgets_as t forgets = without m.meets (λ h. IfSome (get h.futures f) (λ (y : Future). y.forgets ≡ t))
+      (subst (λ o. IfSome o (λ (y : Future). y.forgets ≡ t)) (sym seen_now) forgets)
 
   pub forgets_seen : (t : Bool) → IfSome (get v.hall.futures f) (λ (y : Future). y.forgets ≡ t) → x.forgets ≡ t
-  forgets_seen t forgets = subst (λ o. IfSome o (λ (y : Future). y.forgets ≡ t)) seen_now (within m.meets (λ h. IfSome (get h.futures f) (λ (y : Future). y.forgets ≡ t)) forgets)
+  forgets_seen t forgets = subst (λ o. IfSome o (λ (y : Future). y.forgets ≡ t)) seen_now
+      (within m.meets (λ h. IfSome (get h.futures f) (λ (y : Future). y.forgets ≡ t)) forgets)
 
   -- a plain future is counted
   pub future_plain : cond x.plain 1 0 ≤ e.plain
-  future_plain = future_counts (store_in a) a.registered a.outbox.spare a.next f (at_stage x (stage_of x.acquire e.core.queue)) e m.meets.kept seen_now home_there
+  future_plain = future_counts (store_in a) a.registered a.outbox.spare a.next f (at_stage x (stage_of x.acquire e.core.queue))
+      e m.meets.kept seen_now home_there
 
   -- ---- what the next poll replies
 
   -- it is ready: the step
-  pub ready_new : (w d : ℕ) → x.acquire ≡ acquires.New d → d ≤ e.core.free → step (hall_in a) i (events.Poll f w) ≡ quietly (made_ready (with_semaphore (hall_in a) x.semaphore (taking (semaphore_at (hall_in a) x.semaphore) d)) i f (at_stage x New)) answers.Ready
+  pub ready_new : (w d : ℕ) → x.acquire ≡ acquires.New d → d ≤ e.core.free
+      → step (hall_in a) i (events.Poll f w) ≡ quietly
+      (made_ready (with_semaphore (hall_in a) x.semaphore (taking (semaphore_at (hall_in a) x.semaphore) d)) i f (at_stage x New)) answers.Ready
   ready_new w d new enough =
       let y : Future = at_stage x New in
-      let fits : nat_le y.demand (free (hall_in a) x.semaphore) ≡ true = ap (nat_le y.demand) seen_free ∙ le-leb y.demand e.core.free (let same : y.demand ≡ d = ap demand_of new in omega arith) in
+      let fits : nat_le y.demand (free (hall_in a) x.semaphore) ≡ true =
+      ap (nat_le y.demand) seen_free ∙ le-leb y.demand e.core.free (let same : y.demand ≡ d = ap demand_of new in omega arith) in
       ap (poll_of (hall_in a) i f w) (seen_as New (ap (λ b. stage_of b e.core.queue) new))
-      ∙ ap (λ b. if b then quietly (made_ready (with_semaphore (hall_in a) x.semaphore (taking (semaphore_at (hall_in a) x.semaphore) y.demand)) i f y) answers.Ready else quietly (queueing (hall_in a) f w y) answers.Pending) fits
-      ∙ ap (λ n. quietly (made_ready (with_semaphore (hall_in a) x.semaphore (taking (semaphore_at (hall_in a) x.semaphore) n)) i f y) answers.Ready) (ap demand_of new)
+      ∙ ap (λ b. if b then quietly (made_ready (with_semaphore (hall_in a) x.semaphore (taking (semaphore_at (hall_in a) x.semaphore) y.demand))
+      i f y) answers.Ready else quietly (queueing (hall_in a) f w y) answers.Pending) fits
+      ∙ ap (λ n. quietly (made_ready (with_semaphore (hall_in a) x.semaphore (taking (semaphore_at (hall_in a) x.semaphore) n)) i f y) answers.Ready)
+      (ap demand_of new)
 
   pub granted_stage : (d n : ℕ) → x.acquire ≡ acquires.Queued d n → get e.core.granted n ≡ Some d → stage_of x.acquire e.core.queue ≡ Granted
-  granted_stage d n queued granted = ap (λ b. stage_of b e.core.queue) queued ∙ ap stage_under (waker-none e.core.queue n (none (cores.waiting e.core.queue n) refl))
+  granted_stage d n queued granted = ap (λ b. stage_of b e.core.queue) queued
+      ∙ ap stage_under (waker-none e.core.queue n (none (cores.waiting e.core.queue n) refl))
     where
       none : (o : Option (ℕ × ℕ)) → cores.waiting e.core.queue n ≡ o → o ≡ None
       none None h = refl
-      none (Some p) h = absurd (let gone : get e.core.granted n ≡ None = (m.meets.kept.linked.numbered x.semaphore e home_there).granted_apart n (λ t. absurd (let never : Some p ≡ None = sym h ∙ t in cc)) in cc)
+      none (Some p) h = absurd (let gone : get e.core.granted n ≡ None = (m.meets.kept.linked.numbered x.semaphore e home_there).granted_apart n
+          (λ t. absurd (let never : Some p ≡ None = sym h ∙ t in cc)) in cc)
 
-  pub ready_granted : (w d n : ℕ) → x.acquire ≡ acquires.Queued d n → get e.core.granted n ≡ Some d → step (hall_in a) i (events.Poll f w) ≡ quietly (made_ready (hall_in a) i f (at_stage x Granted)) answers.Ready
+  pub ready_granted : (w d n : ℕ) → x.acquire ≡ acquires.Queued d n → get e.core.granted n ≡ Some d
+      → step (hall_in a) i (events.Poll f w) ≡ quietly (made_ready (hall_in a) i f (at_stage x Granted)) answers.Ready
   ready_granted w d n queued granted = ap (poll_of (hall_in a) i f w) (seen_as Granted (granted_stage d n queued granted))
 
   -- it waits: the step
-  pub pending_new : (w d : ℕ) → x.acquire ≡ acquires.New d → e.core.free < d → step (hall_in a) i (events.Poll f w) ≡ quietly (queueing (hall_in a) f w (at_stage x New)) answers.Pending
+  pub pending_new : (w d : ℕ) → x.acquire ≡ acquires.New d → e.core.free < d
+      → step (hall_in a) i (events.Poll f w) ≡ quietly (queueing (hall_in a) f w (at_stage x New)) answers.Pending
   pending_new w d new lacks =
       let y : Future = at_stage x New in
-      let fits : nat_le y.demand (free (hall_in a) x.semaphore) ≡ false = ap (nat_le y.demand) seen_free ∙ lt-leb y.demand e.core.free (let same : y.demand ≡ d = ap demand_of new in omega arith) in
+      let fits : nat_le y.demand (free (hall_in a) x.semaphore) ≡ false =
+      ap (nat_le y.demand) seen_free ∙ lt-leb y.demand e.core.free (let same : y.demand ≡ d = ap demand_of new in omega arith) in
       ap (poll_of (hall_in a) i f w) (seen_as New (ap (λ b. stage_of b e.core.queue) new))
-      ∙ ap (λ b. if b then quietly (made_ready (with_semaphore (hall_in a) x.semaphore (taking (semaphore_at (hall_in a) x.semaphore) y.demand)) i f y) answers.Ready else quietly (queueing (hall_in a) f w y) answers.Pending) fits
+      ∙ ap (λ b. if b then quietly (made_ready (with_semaphore (hall_in a) x.semaphore (taking (semaphore_at (hall_in a) x.semaphore) y.demand))
+      i f y) answers.Ready else quietly (queueing (hall_in a) f w y) answers.Pending) fits
 
-  pub waiting_as : (d n l : ℕ) → x.acquire ≡ acquires.Queued d n → cores.waiting e.core.queue n ≡ Some (d, l) → (u : ℕ) × (get (hall_in a).futures f ≡ Some (at_stage x (Waiting u)))
+  pub waiting_as : (d n l : ℕ) → x.acquire ≡ acquires.Queued d n → cores.waiting e.core.queue n ≡ Some (d, l)
+      → (u : ℕ) × (get (hall_in a).futures f ≡ Some (at_stage x (Waiting u)))
   waiting_as d n l queued waits =
       let u = waker-some e.core.queue n (d, l) waits in
       (u.0, seen_as (Waiting u.0) (ap (λ b. stage_of b e.core.queue) queued ∙ ap stage_under u.1))
 
-  pub pending_again : (w d n l : ℕ) → x.acquire ≡ acquires.Queued d n → cores.waiting e.core.queue n ≡ Some (d, l) → step (hall_in a) i (events.Poll f w) ≡ quietly (with_future (hall_in a) f (at_stage x (Waiting w))) answers.Pending
+  pub pending_again : (w d n l : ℕ) → x.acquire ≡ acquires.Queued d n → cores.waiting e.core.queue n ≡ Some (d, l)
+      → step (hall_in a) i (events.Poll f w) ≡ quietly (with_future (hall_in a) f (at_stage x (Waiting w))) answers.Pending
   pending_again w d n l queued waits = ap (poll_of (hall_in a) i f w) (waiting_as d n l queued waits).1
 
   -- what is foreseen by the core is replied
@@ -160,21 +177,26 @@ module _ {a : Inside} {v : Play} {i f : ℕ} {x : FutureEntry} {e : SemaphoreEnt
       by_acquire : (b : Acquire) → x.acquire ≡ b → Belongs e.core x.acquire → IsOpen x.acquire → IsReady e.core x.acquire
       by_acquire (acquires.New d) same belongs still = elim (cases_lt e.core.free d) [
         | inr enough ↦ subst (IsReady e.core) (sym same) enough
-        | inl lacks ↦ absurd (let pending = ap (λ o. o.reply) (pending_new w d same lacks) in let never : answers.Ready ≡ answers.Pending = sym replied ∙ pending in cc)
+        | inl lacks ↦ absurd (let pending = ap (λ o. o.reply) (pending_new w d same lacks) in
+            let never : answers.Ready ≡ answers.Pending = sym replied ∙ pending in cc)
       ]
       by_acquire (acquires.Queued d n) same belongs still = elim (subst (Belongs e.core) same belongs) [
         | inl granted ↦ subst (IsReady e.core) (sym same) granted
-        | inr waits ↦ absurd (let pending = ap (λ o. o.reply) (pending_again w d n waits.0 same waits.1) in let never : answers.Ready ≡ answers.Pending = sym replied ∙ pending in cc)
+        | inr waits ↦ absurd (let pending = ap (λ o. o.reply) (pending_again w d n waits.0 same waits.1) in
+            let never : answers.Ready ≡ answers.Pending = sym replied ∙ pending in cc)
       ]
       by_acquire (acquires.Done d) same belongs still = absurd (subst IsOpen same still)
 
   -- ---- what a future was paid is live
-  pub paid_part : (y : Future) → get (hall_in a).futures f ≡ Some y → y.semaphore ≡ x.semaphore → paid_to (queue_at (hall_in a) x.semaphore) f y.demand y.stage ≤ e.core.live
+  pub paid_part : (y : Future) → get (hall_in a).futures f ≡ Some y → y.semaphore ≡ x.semaphore
+      → paid_to (queue_at (hall_in a) x.semaphore) f y.demand y.stage ≤ e.core.live
   paid_part y seen mine =
       let s : ℕ = x.semaphore in
       let sums = total-remove (λ g (z : Future). cond (z.semaphore == s) (paid_to (queue_at (hall_in a) s) g z.demand z.stage) 0) (hall_in a).futures f in
-      let here : weight (λ g (z : Future). cond (z.semaphore == s) (paid_to (queue_at (hall_in a) s) g z.demand z.stage) 0) f (get (hall_in a).futures f) ≡ paid_to (queue_at (hall_in a) s) f y.demand y.stage =
-      ap (weight (λ g (z : Future). cond (z.semaphore == s) (paid_to (queue_at (hall_in a) s) g z.demand z.stage) 0) f) seen ∙ at_same y.semaphore s (paid_to (queue_at (hall_in a) s) f y.demand y.stage) 0 mine in
+      let here : weight (λ g (z : Future). cond (z.semaphore == s) (paid_to (queue_at (hall_in a) s) g z.demand z.stage) 0) f
+      (get (hall_in a).futures f) ≡ paid_to (queue_at (hall_in a) s) f y.demand y.stage =
+      ap (weight (λ g (z : Future). cond (z.semaphore == s) (paid_to (queue_at (hall_in a) s) g z.demand z.stage) 0) f) seen
+      ∙ at_same y.semaphore s (paid_to (queue_at (hall_in a) s) f y.demand y.stage) 0 mine in
       let all = live-seen (store_in a) a.registered a.outbox.spare a.next s e m.meets.kept home_there in
       omega (arith, sums, here, all)
 
@@ -230,14 +252,17 @@ acq_step h i s n false false = refl
 acq_step h i s n true true = refl
 acq_step h i s n false true = refl
 
-pub acquire_done : {a : Inside} {v : Play} {i s : ℕ} {e : SemaphoreEntry} → MeetsSemaphore a v i s e → (ss' : Semaphores) (fs' : Futures) (n : ℕ) (plain forgets : Bool) (e2 : SemaphoreEntry) (x : FutureEntry)
-    → cause_of v.hall (events.Acq s n) ≡ None → ChangesAt a.semaphores.entries ss' s (Some e2) → e2 ≡ record e { plain = e.plain + cond plain 1 0 } → ChangesAt a.futures.entries fs' i (Some x) → x ≡ record { semaphore = s; acquire = acquires.New n; plain = plain; forgets = forgets }
+pub acquire_done : {a : Inside} {v : Play} {i s : ℕ} {e : SemaphoreEntry} → MeetsSemaphore a v i s e
+    → (ss' : Semaphores) (fs' : Futures) (n : ℕ) (plain forgets : Bool) (e2 : SemaphoreEntry) (x : FutureEntry)
+    → cause_of v.hall (events.Acq s n) ≡ None → ChangesAt a.semaphores.entries ss' s (Some e2) → e2 ≡ record e { plain = e.plain + cond plain 1 0 }
+    → ChangesAt a.futures.entries fs' i (Some x) → x ≡ record { semaphore = s; acquire = acquires.New n; plain = plain; forgets = forgets }
     → Done v i (acquire_of v.hall i s n plain forgets) answers.Made (store_of ss' fs' a.permits.entries) a.registered a.outbox.spare a.outbox.wakers
 acquire_done {a} {v} {i} {s} {e} m ss' fs' n plain forgets e2 x allowed changes is put new =
     let h : Hall = hall_in a in
     let st' : Store = store_of ss' fs' a.permits.entries in
     let played = acq_step h i s n plain forgets in
-    let plays = plays_acquire (store_in a) st' a.registered a.outbox.spare a.next i s n e m.meets.kept (later m.meets) m.meets.low (acq_event s n plain forgets) plain forgets (acq_fits s n plain forgets)
+    let plays = plays_acquire (store_in a) st' a.registered a.outbox.spare a.next i s n e m.meets.kept (later m.meets) m.meets.low
+    (acq_event s n plain forgets) plain forgets (acq_fits s n plain forgets)
     (acq_cause h s n plain forgets (within m.meets (λ g. cause_of g (events.Acq s n) ≡ None) allowed)) (ap (λ o. o.hall) played)
     (found a.semaphores.entries s e m.there) (semaphores_of a.semaphores.entries ss' s e2 _ changes is)
     (λ g. kept-changed a.futures.entries fs' i (Some x) put g ∙ ap (λ y. cond (i == g) (Some y) (get (store_in a).futures g)) new) refl in
@@ -254,19 +279,29 @@ record Readies (a : Inside) (i f w : ℕ) (x : FutureEntry) (e : SemaphoreEntry)
   live : core.live ≡ e.core.live
   queue : core.queue ≡ e.core.queue
   quiet : core.wakes ≡ e.core.wakes
-  shown : semaphore ≡ record { free = core.free; queue = queue_of (store_in a).futures a.next x.semaphore e.core.queue; made = e.made; released = e.released; forgotten = e.forgotten; named = e.named }
+  shown : semaphore ≡ record {
+    free = core.free;
+    queue = queue_of (store_in a).futures a.next x.semaphore e.core.queue;
+    made = e.made;
+    released = e.released;
+    forgotten = e.forgotten;
+    named = e.named;
+  }
   chosen : step (hall_in a) i (events.Poll f w) ≡ quietly (made_ready (with_semaphore (hall_in a) x.semaphore semaphore) i f (at_stage x stage)) answers.Ready
-  leaves : (st' : Store) (e' : SemaphoreEntry) → ((q : ℕ) → get st'.semaphores q ≡ cond (x.semaphore == q) (Some e') (get (store_in a).semaphores q)) → ((g : ℕ) → get st'.futures g ≡ cond (f == g) None (get (store_in a).futures g))
+  leaves : (st' : Store) (e' : SemaphoreEntry) → ((q : ℕ) → get st'.semaphores q ≡ cond (x.semaphore == q) (Some e') (get (store_in a).semaphores q))
+      → ((g : ℕ) → get st'.futures g ≡ cond (f == g) None (get (store_in a).futures g))
       → e'.core.queue ≡ e.core.queue → e'.core.granted ≡ core.granted → Leaves (store_in a) st' x.semaphore f x e e'
 
-readies : {a : Inside} {v : Play} {i f : ℕ} {x : FutureEntry} {e : SemaphoreEntry} → MeetsFuture a v i f x e → (w : ℕ) → IsReady e.core x.acquire → Readies a i f w x e
+readies : {a : Inside} {v : Play} {i f : ℕ} {x : FutureEntry} {e : SemaphoreEntry} → MeetsFuture a v i f x e → (w : ℕ) → IsReady e.core x.acquire
+    → Readies a i f w x e
 readies {a} {v} {i} {f} {x} {e} m w ready = by_acquire x.acquire refl ready
   where
     seen : semaphore_at (hall_in a) x.semaphore ≡ semaphore_of (store_in a).futures a.next x.semaphore e
     seen = seen_at (store_in a) a.next x.semaphore e m.meets.kept.linked (home_there m)
 
     there : get (hall_in a).semaphores x.semaphore ≡ Some (semaphore_of (store_in a).futures a.next x.semaphore e)
-    there = get-seen (semaphore_of (store_in a).futures a.next) (store_in a).semaphores x.semaphore ∙ ap (option_map (semaphore_of (store_in a).futures a.next x.semaphore)) (home_there m)
+    there = get-seen (semaphore_of (store_in a).futures a.next) (store_in a).semaphores x.semaphore
+        ∙ ap (option_map (semaphore_of (store_in a).futures a.next x.semaphore)) (home_there m)
 
     by_acquire : (b : Acquire) → x.acquire ≡ b → IsReady e.core b → Readies a i f w x e
     by_acquire (acquires.New d) new enough = record {
@@ -280,7 +315,8 @@ readies {a} {v} {i} {f} {x} {e} m w ready = by_acquire x.acquire refl ready
       quiet = refl;
       shown = ap (λ y. taking y d) seen;
       chosen = ready_new m w d new enough;
-      leaves = λ st' e' puts gone queue granted. leaves_new (store_in a) st' x.semaphore f d x e e' (home_there m) puts (future_there m) gone refl new queue granted;
+      leaves = λ st' e' puts gone queue granted. leaves_new (store_in a) st' x.semaphore f d x e e' (home_there m) puts (future_there m)
+          gone refl new queue granted;
     }
     by_acquire (acquires.Queued d n) queued granted = record {
       stage = Granted;
@@ -292,13 +328,17 @@ readies {a} {v} {i} {f} {x} {e} m w ready = by_acquire x.acquire refl ready
       queue = refl;
       quiet = refl;
       shown = refl;
-      chosen = ready_granted m w d n queued granted ∙ ap (λ h. quietly (made_ready h i f (at_stage x Granted)) answers.Ready) (sym (as_it_was (hall_in a) x.semaphore _ there (hall_in a).permits));
-      leaves = λ st' e' puts gone queue unlisted. leaves_granted (store_in a) st' a.next x.semaphore f d n x e e' m.meets.kept.linked (home_there m) puts (future_there m) gone refl queued granted queue unlisted;
+      chosen = ready_granted m w d n queued granted ∙ ap (λ h. quietly (made_ready h i f (at_stage x Granted)) answers.Ready)
+          (sym (as_it_was (hall_in a) x.semaphore _ there (hall_in a).permits));
+      leaves = λ st' e' puts gone queue unlisted. leaves_granted (store_in a) st' a.next x.semaphore f d n x e e' m.meets.kept.linked (home_there m)
+          puts (future_there m) gone refl queued granted queue unlisted;
     }
     by_acquire (acquires.Done d) done r = absurd r
 
-module _ {a : Inside} {v : Play} {i f : ℕ} {x : FutureEntry} {e : SemaphoreEntry} (m : MeetsFuture a v i f x e) (w : ℕ) (allowed : cause_of v.hall (events.Poll f w) ≡ None) (replied : (step v.hall i (events.Poll f w)).reply ≡ answers.Ready)
-    (ss' : Semaphores) (fs' : Futures) (e2 : SemaphoreEntry) (gone : ChangesAt a.futures.entries fs' f None) (changes : ChangesAt a.semaphores.entries ss' x.semaphore (Some e2)) where
+module _ {a : Inside} {v : Play} {i f : ℕ} {x : FutureEntry} {e : SemaphoreEntry} (m : MeetsFuture a v i f x e) (w : ℕ)
+    (allowed : cause_of v.hall (events.Poll f w) ≡ None) (replied : (step v.hall i (events.Poll f w)).reply ≡ answers.Ready)
+    (ss' : Semaphores) (fs' : Futures) (e2 : SemaphoreEntry) (gone : ChangesAt a.futures.entries fs' f None)
+    (changes : ChangesAt a.semaphores.entries ss' x.semaphore (Some e2)) where
   ready : IsReady e.core x.acquire
   ready = ready_from m w replied
 
@@ -311,29 +351,48 @@ module _ {a : Inside} {v : Play} {i f : ℕ} {x : FutureEntry} {e : SemaphoreEnt
   gone_now : (g : ℕ) → get (named (λ k (y : FutureEntry). y) fs') g ≡ cond (f == g) None (get (store_in a).futures g)
   gone_now g = kept-changed a.futures.entries fs' f None gone g
 
-  rises_to : cores.held_of (finished e.core x.acquire) ≡ cores.held_of e.core + demand_of x.acquire → cores.held_of turn.core ≡ cores.held_of e.core + demand_of x.acquire
+  rises_to : cores.held_of (finished e.core x.acquire) ≡ cores.held_of e.core + demand_of x.acquire
+      → cores.held_of turn.core ≡ cores.held_of e.core + demand_of x.acquire
   rises_to rises = subst (λ (c : cores.Core ℕ). cores.held_of c ≡ cores.held_of e.core + demand_of x.acquire) turn.is rises
 
-  finishes : {st' : Store} → Plays (store_in a) st' a.next i (events.Poll f w) a.registered a.outbox.spare → Done v i (step v.hall i (events.Poll f w)) answers.Ready st' a.registered a.outbox.spare a.outbox.wakers
+  finishes : {st' : Store} → Plays (store_in a) st' a.next i (events.Poll f w) a.registered a.outbox.spare
+      → Done v i (step v.hall i (events.Poll f w)) answers.Ready st' a.registered a.outbox.spare a.outbox.wakers
   finishes plays = done_quietly m.meets (events.Poll f w) answers.Ready plays (ap (λ o. o.wakes) turn.chosen) (sym (ap (λ o. o.reply) turn.chosen))
 
   -- what it takes is forgotten
   pub forgotten_done : IfSome (get v.hall.futures f) (λ (y : Future). y.forgets ≡ true)
-      → e2 ≡ record e { core = record (finished e.core x.acquire) { live = (finished e.core x.acquire).live - demand_of x.acquire }; forgotten = e.forgotten + demand_of x.acquire; plain = e.plain - cond x.plain 1 0 }
+      → e2 ≡ record e {
+        core = record (finished e.core x.acquire) { live = (finished e.core x.acquire).live - demand_of x.acquire };
+        forgotten = e.forgotten + demand_of x.acquire;
+        plain = e.plain - cond x.plain 1 0;
+      }
       → cores.held_of (finished e.core x.acquire) ≡ cores.held_of e.core + demand_of x.acquire → cores.held_of e2.core ≡ cores.held_of e.core
       → Done v i (step v.hall i (events.Poll f w)) answers.Ready (store_of ss' fs' a.permits.entries) a.registered a.outbox.spare a.outbox.wakers
   forgotten_done forgets changed rises held =
       let st' : Store = store_of ss' fs' a.permits.entries in
-      let e' : SemaphoreEntry = record e { core = record turn.core { live = turn.core.live - demand_of x.acquire }; forgotten = e.forgotten + demand_of x.acquire; plain = e.plain - cond x.plain 1 0 } in
-      let now : e2 ≡ e' = changed ∙ ap (λ (c : cores.Core ℕ). record e { core = record c { live = c.live - demand_of x.acquire }; forgotten = e.forgotten + demand_of x.acquire; plain = e.plain - cond x.plain 1 0 }) turn.is in
+      let e' : SemaphoreEntry = record e {
+        core = record turn.core { live = turn.core.live - demand_of x.acquire };
+        forgotten = e.forgotten + demand_of x.acquire;
+        plain = e.plain - cond x.plain 1 0;
+      } in
+      let now : e2 ≡ e' = changed ∙ ap
+      (λ (c : cores.Core ℕ). record e {
+        core = record c { live = c.live - demand_of x.acquire };
+        forgotten = e.forgotten + demand_of x.acquire;
+        plain = e.plain - cond x.plain 1 0;
+      }) turn.is in
       let puts = semaphores_of a.semaphores.entries ss' x.semaphore e2 e' changes now in
       let up = rises_to rises in
-      let lost : cores.held_of (record turn.core { live = turn.core.live - demand_of x.acquire }) ≡ cores.held_of e.core = subst (λ (y : SemaphoreEntry). cores.held_of y.core ≡ cores.held_of e.core) now held in
-      finishes (plays_ready_forgetting (store_in a) st' a.registered a.outbox.spare a.next i x.semaphore f w x (at_stage x turn.stage) e turn.core turn.semaphore m.meets.kept (later m.meets) m.meets.low may turn.seen refl refl (ready_small m ready)
-      turn.live turn.queue turn.quiet up turn.shown answers.Ready turn.chosen (forgets_seen m true forgets) (turn.leaves st' e' puts gone_now turn.queue refl) refl (omega (arith, lost, up)))
+      let lost : cores.held_of (record turn.core { live = turn.core.live - demand_of x.acquire }) ≡ cores.held_of e.core =
+      subst (λ (y : SemaphoreEntry). cores.held_of y.core ≡ cores.held_of e.core) now held in
+      finishes (plays_ready_forgetting (store_in a) st' a.registered a.outbox.spare a.next i x.semaphore f w x (at_stage x turn.stage)
+      e turn.core turn.semaphore m.meets.kept (later m.meets) m.meets.low may turn.seen refl refl (ready_small m ready)
+      turn.live turn.queue turn.quiet up turn.shown answers.Ready turn.chosen (forgets_seen m true forgets)
+      (turn.leaves st' e' puts gone_now turn.queue refl) refl (omega (arith, lost, up)))
 
   -- it becomes a permit
-  pub kept_done : IfSome (get v.hall.futures f) (λ (y : Future). y.forgets ≡ false) → (ps' : Permits) (p : PermitEntry) → ChangesAt a.permits.entries ps' i (Some p) → p ≡ permit_from x
+  pub kept_done : IfSome (get v.hall.futures f) (λ (y : Future). y.forgets ≡ false) → (ps' : Permits) (p : PermitEntry)
+      → ChangesAt a.permits.entries ps' i (Some p) → p ≡ permit_from x
       → e2 ≡ record e { core = finished e.core x.acquire } → cores.held_of e2.core ≡ cores.held_of e.core + demand_of x.acquire
       → Done v i (step v.hall i (events.Poll f w)) answers.Ready (store_of ss' fs' ps') a.registered a.outbox.spare a.outbox.wakers
   kept_done keeps ps' p put permit changed held =
@@ -343,5 +402,7 @@ module _ {a : Inside} {v : Play} {i f : ℕ} {x : FutureEntry} {e : SemaphoreEnt
       let up = rises_to (subst (λ (y : SemaphoreEntry). cores.held_of y.core ≡ cores.held_of e.core + demand_of x.acquire) changed held) in
       let permits : st'.permits ≡ insert (store_in a).permits i (record { semaphore = x.semaphore; size = demand_of x.acquire; plain = x.plain }) =
       named_put (λ n y. permit_of y) a.permits.entries ps' i p put ∙ ap (λ (y : PermitEntry). insert (store_in a).permits i (permit_of y)) permit in
-      finishes (plays_ready (store_in a) st' a.registered a.outbox.spare a.next i x.semaphore f w x (at_stage x turn.stage) e turn.core turn.semaphore m.meets.kept (later m.meets) m.meets.low may turn.seen refl refl (ready_small m ready)
-      turn.live turn.queue turn.quiet up turn.shown answers.Ready turn.chosen (forgets_seen m false keeps) (turn.leaves st' e' puts gone_now turn.queue refl) permits)
+      finishes (plays_ready (store_in a) st' a.registered a.outbox.spare a.next i x.semaphore f w x (at_stage x turn.stage)
+      e turn.core turn.semaphore m.meets.kept (later m.meets) m.meets.low may turn.seen refl refl (ready_small m ready)
+      turn.live turn.queue turn.quiet up turn.shown answers.Ready turn.chosen (forgets_seen m false keeps)
+      (turn.leaves st' e' puts gone_now turn.queue refl) permits)

@@ -56,7 +56,8 @@ permit_missing ps p is = get-named (λ p x. permit_of x) ps p ∙ ap (option_map
 pub permit_found : (a : Inside) {v : Play} (p : ℕ) → seen_in a ≡ v → unknown_unless (is_permit v.hall p) ≡ None → at a.permits.entries p ≡ None → ⊥
 permit_found a {v} p seen allowed none = false≢true (sym (is_permit-at a seen p ∙ ap is_some none) ∙ known (is_permit v.hall p) allowed)
 
-pub ended_found : (a : Inside) {v : Play} (p : ℕ) → seen_in a ≡ v → cause_of v.hall (events.End p) ≡ None → get v.hall.futures p ≡ None → at a.permits.entries p ≡ None → ⊥
+pub ended_found : (a : Inside) {v : Play} (p : ℕ) → seen_in a ≡ v → cause_of v.hall (events.End p) ≡ None → get v.hall.futures p ≡ None
+    → at a.permits.entries p ≡ None → ⊥
 ended_found a {v} p seen allowed no_future none =
     permit_found a p seen (ap (λ o. unknown_unless (if is_some o then true else is_permit v.hall p)) (sym no_future) ∙ allowed) none
 
@@ -65,25 +66,32 @@ pub home_found : (a : Inside) (p : ℕ) {x : PermitEntry} → IsKeptIn a → at 
 home_found a p {x} k is none =
     let some : is_some (get (hall_in a).semaphores x.semaphore) ≡ true = k.valid.permits_of p (permit_of x) (permit_at a.permits.entries p x is) in
     let gone : get (hall_in a).semaphores x.semaphore ≡ None =
-    get-seen (semaphore_of (store_in a).futures a.next) (store_in a).semaphores x.semaphore ∙ ap (option_map (semaphore_of (store_in a).futures a.next x.semaphore)) (kept-at a.semaphores.entries x.semaphore ∙ none) in
+    get-seen (semaphore_of (store_in a).futures a.next) (store_in a).semaphores x.semaphore
+    ∙ ap (option_map (semaphore_of (store_in a).futures a.next x.semaphore)) (kept-at a.semaphores.entries x.semaphore ∙ none) in
     absurd (cc)
 
 -- ---- events that change nothing
 module _ {a : Inside} {v : Play} {i : ℕ} (m : Meets a v i) where
-  pub unchanged : (event : SemEvent) (reply : Answer) → (step (hall_in a) i event).hall ≡ hall_in a → (step (hall_in a) i event).wakes ≡ [] → reply ≡ (step (hall_in a) i event).reply
+  pub unchanged : (event : SemEvent) (reply : Answer) → (step (hall_in a) i event).hall ≡ hall_in a → (step (hall_in a) i event).wakes ≡ []
+      → reply ≡ (step (hall_in a) i event).reply
       → Done v i (step v.hall i event) reply (store_in a) a.registered a.outbox.spare a.outbox.wakers
-  unchanged event reply is quiet replied = done_quietly m event reply (plays_nothing (store_in a) a.registered a.outbox.spare a.next i event m.kept (later m) m.low is) quiet replied
+  unchanged event reply is quiet replied = done_quietly m event reply
+      (plays_nothing (store_in a) a.registered a.outbox.spare a.next i event m.kept (later m) m.low is) quiet replied
 
-  pub sized : (p : ℕ) (x : PermitEntry) → at a.permits.entries p ≡ Some x → Done v i (step v.hall i (events.Size p)) (answers.Permits x.size) (store_in a) a.registered a.outbox.spare a.outbox.wakers
+  pub sized : (p : ℕ) (x : PermitEntry) → at a.permits.entries p ≡ Some x
+      → Done v i (step v.hall i (events.Size p)) (answers.Permits x.size) (store_in a) a.registered a.outbox.spare a.outbox.wakers
   sized p x is = unchanged (events.Size p) (answers.Permits x.size) refl refl (ap (λ o. answers.Permits (size_of o)) (sym (permit_at a.permits.entries p x is)))
 
   -- the outcome of a split of a permit that is there
   abbrev split_in : ℕ → ℕ → Permit → Bool → Outcome
-  split_in p n y b = if b then quietly (with_permit (with_permit (hall_in a) p (record y { size = y.size - n })) i (record y { size = n })) answers.Held else quietly (hall_in a) answers.Lacking
+  split_in p n y b = if b then quietly (with_permit (with_permit (hall_in a) p (record y { size = y.size - n })) i (record y { size = n }))
+      answers.Held else quietly (hall_in a) answers.Lacking
 
-  pub too_small : (p n : ℕ) (x : PermitEntry) → at a.permits.entries p ≡ Some x → x.size < n → Done v i (step v.hall i (events.Split p n)) answers.Lacking (store_in a) a.registered a.outbox.spare a.outbox.wakers
+  pub too_small : (p n : ℕ) (x : PermitEntry) → at a.permits.entries p ≡ Some x → x.size < n
+      → Done v i (step v.hall i (events.Split p n)) answers.Lacking (store_in a) a.registered a.outbox.spare a.outbox.wakers
   too_small p n x is lack =
-      let outcome : step (hall_in a) i (events.Split p n) ≡ quietly (hall_in a) answers.Lacking = ap (split_of (hall_in a) i p n) (permit_at a.permits.entries p x is) ∙ ap (split_in p n (permit_of x)) (lt-leb n x.size lack) in
+      let outcome : step (hall_in a) i (events.Split p n) ≡ quietly (hall_in a) answers.Lacking =
+      ap (split_of (hall_in a) i p n) (permit_at a.permits.entries p x is) ∙ ap (split_in p n (permit_of x)) (lt-leb n x.size lack) in
       unchanged (events.Split p n) answers.Lacking (ap (λ o. o.hall) outcome) (ap (λ o. o.wakes) outcome) (ap (λ o. o.reply) (sym outcome))
 
 -- ---- tries
@@ -107,17 +115,21 @@ module _ {a : Inside} {v : Play} {i s : ℕ} {e : SemaphoreEntry} (m : MeetsSema
   free_here = seen_at (store_in a) a.next s e m.meets.kept.linked (found a.semaphores.entries s e m.there)
 
   abbrev chosen : Bool → Outcome
-  chosen b = if b then quietly (with_permit (with_semaphore (hall_in a) s (taking (semaphore_at (hall_in a) s) n)) i (record { semaphore = s; size = n; plain = plain })) answers.Held else quietly (hall_in a) answers.Lacking
+  chosen b = if b then quietly (with_permit (with_semaphore (hall_in a) s (taking (semaphore_at (hall_in a) s) n)) i
+      (record { semaphore = s; size = n; plain = plain })) answers.Held else quietly (hall_in a) answers.Lacking
 
-  as_tried : {st' : Store} {reply : Answer} → Done v i (step v.hall i (by_form plain s n)) reply st' a.registered a.outbox.spare a.outbox.wakers → Done v i (try_of v.hall i s n plain) reply st' a.registered a.outbox.spare a.outbox.wakers
+  as_tried : {st' : Store} {reply : Answer} → Done v i (step v.hall i (by_form plain s n)) reply st' a.registered a.outbox.spare a.outbox.wakers
+      → Done v i (try_of v.hall i s n plain) reply st' a.registered a.outbox.spare a.outbox.wakers
   as_tried {st'} {reply} done = subst (λ o. Done v i o reply st' a.registered a.outbox.spare a.outbox.wakers) (step_by_form plain v.hall i s n) done
 
   pub tried_in_vain : e.core.free < n → Done v i (try_of v.hall i s n plain) answers.Lacking (store_in a) a.registered a.outbox.spare a.outbox.wakers
   tried_in_vain lack =
-      let outcome : step (hall_in a) i (by_form plain s n) ≡ quietly (hall_in a) answers.Lacking = step_by_form plain (hall_in a) i s n ∙ ap chosen (ap (λ r. nat_le n r.free) free_here ∙ lt-leb n e.core.free lack) in
+      let outcome : step (hall_in a) i (by_form plain s n) ≡ quietly (hall_in a) answers.Lacking =
+      step_by_form plain (hall_in a) i s n ∙ ap chosen (ap (λ r. nat_le n r.free) free_here ∙ lt-leb n e.core.free lack) in
       as_tried (unchanged m.meets (by_form plain s n) answers.Lacking (ap (λ o. o.hall) outcome) (ap (λ o. o.wakes) outcome) (ap (λ o. o.reply) (sym outcome)))
 
-  pub tried : (ss' : Semaphores) (ps' : Permits) (d e' : SemaphoreEntry) → cause_of v.hall (events.Try s n) ≡ None → at a.semaphores.entries s ≡ Some d → n ≤ d.core.free
+  pub tried : (ss' : Semaphores) (ps' : Permits) (d e' : SemaphoreEntry) → cause_of v.hall (events.Try s n) ≡ None
+      → at a.semaphores.entries s ≡ Some d → n ≤ d.core.free
       → e' ≡ record e { core = record e.core { free = e.core.free - n }; plain = e.plain + one plain } → cores.held_of e'.core ≡ cores.held_of e.core + n
       → ChangesAt a.semaphores.entries ss' s (Some e') → ChangesAt a.permits.entries ps' i (Some (record { semaphore = s; size = n; plain = plain }))
       → Done v i (try_of v.hall i s n plain) answers.Held (store_of ss' a.futures.entries ps') a.registered a.outbox.spare a.outbox.wakers
@@ -125,10 +137,14 @@ module _ {a : Inside} {v : Play} {i s : ℕ} {e : SemaphoreEntry} (m : MeetsSema
       let there = m.there in
       let one_entry : d ≡ e = cc in
       let enough : n ≤ e.core.free = subst (λ (x : SemaphoreEntry). n ≤ x.core.free) one_entry fits in
-      let outcome : step (hall_in a) i (by_form plain s n) ≡ chosen true = step_by_form plain (hall_in a) i s n ∙ ap chosen (ap (λ r. nat_le n r.free) free_here ∙ le-leb n e.core.free enough) in
-      let plays = plays_try (store_in a) (store_of ss' a.futures.entries ps') a.registered a.outbox.spare a.next i s n e m.meets.kept (later m.meets) m.meets.low (by_form plain s n) plain (fits_by_form plain s n)
-      (within m.meets (λ h. cause_of h (by_form plain s n) ≡ None) (allowed_by_form plain v.hall s n allowed)) (ap (λ o. o.hall) (step_by_form plain (hall_in a) i s n)) enough
-      (puts_of a.semaphores.entries ss' a.futures.entries a.permits.entries ps' s e e' _ m.there changes new) (named_put (λ p x. permit_of x) a.permits.entries ps' i (record { semaphore = s; size = n; plain = plain }) given)
+      let outcome : step (hall_in a) i (by_form plain s n) ≡ chosen true =
+      step_by_form plain (hall_in a) i s n ∙ ap chosen (ap (λ r. nat_le n r.free) free_here ∙ le-leb n e.core.free enough) in
+      let plays = plays_try (store_in a) (store_of ss' a.futures.entries ps') a.registered a.outbox.spare a.next i s n e m.meets.kept (later m.meets)
+      m.meets.low (by_form plain s n) plain (fits_by_form plain s n)
+      (within m.meets (λ h. cause_of h (by_form plain s n) ≡ None) (allowed_by_form plain v.hall s n allowed))
+      (ap (λ o. o.hall) (step_by_form plain (hall_in a) i s n)) enough
+      (puts_of a.semaphores.entries ss' a.futures.entries a.permits.entries ps' s e e' _ m.there changes new)
+      (named_put (λ p x. permit_of x) a.permits.entries ps' i (record { semaphore = s; size = n; plain = plain }) given)
       (subst (λ (y : SemaphoreEntry). cores.held_of y.core ≡ cores.held_of e.core + n) new held) in
       as_tried (done_quietly m.meets (by_form plain s n) answers.Held plays (ap (λ o. o.wakes) outcome) (ap (λ o. o.reply) (sym outcome)))
 
@@ -158,28 +174,42 @@ module _ {a : Inside} {v : Play} {i p : ℕ} {x : PermitEntry} {e : SemaphoreEnt
   tally_fits = small_forgotten (permits_semaphore m) x.size permit_small
 
   pub lost : (ss' : Semaphores) (ps' : Permits) (e' : SemaphoreEntry) → cause_of v.hall (events.Lose p) ≡ None
-      → e' ≡ record e { core = record e.core { live = e.core.live - x.size }; forgotten = e.forgotten + x.size; plain = e.plain - one x.plain } → cores.held_of e'.core + x.size ≡ cores.held_of e.core
+      → e' ≡ record e { core = record e.core { live = e.core.live - x.size }; forgotten = e.forgotten + x.size; plain = e.plain - one x.plain }
+      → cores.held_of e'.core + x.size ≡ cores.held_of e.core
       → ChangesAt a.semaphores.entries ss' x.semaphore (Some e') → ChangesAt a.permits.entries ps' p None
       → Done v i (step v.hall i (events.Lose p)) (answers.Forgot x.size) (store_of ss' a.futures.entries ps') a.registered a.outbox.spare a.outbox.wakers
   lost ss' ps' e' allowed new held changes gone =
-      let plays = plays_lose (store_in a) (store_of ss' a.futures.entries ps') a.registered a.outbox.spare a.next i x.semaphore p e m.meets.kept (later m.meets) m.meets.low (permit_of x) refl permit_small permit_there
-      (within m.meets (λ h. cause_of h (events.Lose p) ≡ None) allowed) (puts_of a.semaphores.entries ss' a.futures.entries a.permits.entries ps' x.semaphore e e' _ m.there changes new) (named_remove (λ p x. permit_of x) a.permits.entries ps' p gone)
+      let plays = plays_lose (store_in a) (store_of ss' a.futures.entries ps') a.registered a.outbox.spare a.next i x.semaphore p e m.meets.kept
+      (later m.meets) m.meets.low (permit_of x) refl permit_small permit_there
+      (within m.meets (λ h. cause_of h (events.Lose p) ≡ None) allowed)
+      (puts_of a.semaphores.entries ss' a.futures.entries a.permits.entries ps' x.semaphore e e' _ m.there changes new)
+      (named_remove (λ p x. permit_of x) a.permits.entries ps' p gone)
       (subst (λ (y : SemaphoreEntry). cores.held_of y.core + x.size ≡ cores.held_of e.core) new held) in
-      done_quietly m.meets (events.Lose p) (answers.Forgot x.size) plays (ap (λ o. (lose_of (hall_in a) p o).wakes) permit_there) (ap (λ o. (lose_of (hall_in a) p o).reply) (sym permit_there))
+      done_quietly m.meets (events.Lose p) (answers.Forgot x.size) plays (ap (λ o. (lose_of (hall_in a) p o).wakes) permit_there)
+      (ap (λ o. (lose_of (hall_in a) p o).reply) (sym permit_there))
 
-  pub ended : (ss' : Semaphores) (ps' : Permits) (left sp' : ℕ) (e' : SemaphoreEntry) (wakes' : List ℕ) → cause_of v.hall (events.End p) ≡ None → get v.hall.futures p ≡ None
-      → e' ≡ record e { core = record (cores.poured (record e.core { live = e.core.live - x.size }) x.size) { wakes = [] }; plain = e.plain - one x.plain } → cores.held_of e'.core + x.size ≡ cores.held_of e.core
+  pub ended : (ss' : Semaphores) (ps' : Permits) (left sp' : ℕ) (e' : SemaphoreEntry) (wakes' : List ℕ) → cause_of v.hall (events.End p) ≡ None
+      → get v.hall.futures p ≡ None
+      → e' ≡ record e {
+        core = record (cores.poured (record e.core { live = e.core.live - x.size }) x.size) { wakes = [] };
+        plain = e.plain - one x.plain;
+      } → cores.held_of e'.core + x.size ≡ cores.held_of e.core
       → ChangesAt a.semaphores.entries ss' x.semaphore (Some e') → ChangesAt a.permits.entries ps' p None
-      → left ≡ length (cores.wakers_of (granted_in e.core.queue x.size)) → wakes' ≡ a.outbox.wakers ++ cores.wakers_of (granted_in e.core.queue x.size) → sp' + left ≡ a.outbox.spare
+      → left ≡ length (cores.wakers_of (granted_in e.core.queue x.size))
+      → wakes' ≡ a.outbox.wakers ++ cores.wakers_of (granted_in e.core.queue x.size) → sp' + left ≡ a.outbox.spare
       → Done v i (step v.hall i (events.End p)) answers.Done (store_of ss' a.futures.entries ps') (a.registered - left) sp' wakes'
   ended ss' ps' left sp' e' wakes' allowed no_future new held changes gone count moved spare =
       let alone : get (hall_in a).futures p ≡ None = within m.meets (λ h. get h.futures p ≡ None) no_future in
       let few = wakers_few (permits_semaphore m) x.size in
       let room = m.meets.kept.room in
-      let whole = plays_end_permit (store_in a) (store_of ss' a.futures.entries ps') a.registered (a.registered - left) sp' a.outbox.spare a.next i x.semaphore x.size e m.meets.kept (later m.meets) m.meets.low home_there p (permit_of x) refl permit_there alone
-      (within m.meets (λ h. cause_of h (events.End p) ≡ None) allowed) (semaphores_of a.semaphores.entries ss' x.semaphore e' _ changes new) refl (named_remove (λ p x. permit_of x) a.permits.entries ps' p gone)
-      (subst (λ (y : SemaphoreEntry). cores.held_of y.core + x.size ≡ cores.held_of e.core) new held) (omega (arith, count, few)) (omega (arith, count, few, spare, room)) in
-      let outcome : (step (hall_in a) i (events.End p)).reply ≡ answers.Done = ap (λ o. (end_of (hall_in a) p o).reply) alone ∙ ap (λ o. (end_permit (hall_in a) p o).reply) permit_there in
+      let whole = plays_end_permit (store_in a) (store_of ss' a.futures.entries ps') a.registered (a.registered - left)
+      sp' a.outbox.spare a.next i x.semaphore x.size e m.meets.kept (later m.meets) m.meets.low home_there p (permit_of x) refl permit_there alone
+      (within m.meets (λ h. cause_of h (events.End p) ≡ None) allowed) (semaphores_of a.semaphores.entries ss' x.semaphore e' _ changes new) refl
+      (named_remove (λ p x. permit_of x) a.permits.entries ps' p gone)
+      (subst (λ (y : SemaphoreEntry). cores.held_of y.core + x.size ≡ cores.held_of e.core) new held) (omega (arith, count, few))
+      (omega (arith, count, few, spare, room)) in
+      let outcome : (step (hall_in a) i (events.End p)).reply ≡ answers.Done =
+      ap (λ o. (end_of (hall_in a) p o).reply) alone ∙ ap (λ o. (end_permit (hall_in a) p o).reply) permit_there in
       done m.meets wakes' (events.End p) answers.Done whole.plays (moved ∙ ap (λ ws. a.outbox.wakers ++ ws) (sym whole.wakes)) (sym outcome)
 
 -- ---- merges
@@ -201,9 +231,6 @@ not_true : (b : Bool) → not b ≡ true → b ≡ true → ⊥
 not_true true h is = absurd (cc)
 not_true false h is = absurd (cc)
 
-itself : (p : ℕ) → (p == p) ≡ true
-itself p = eq-eqb p p refl
-
 -- another name has what it had
 at_other : {X : Type 0} (old new : List (ℕ × X)) (k q : ℕ) (o : Option X) → ChangesAt old new k o → (k == q) ≡ false → at new q ≡ at old q
 at_other old new k q o changes apart = changes q ∙ ap (λ b. cond b o (at old q)) (is_at-eq k q ∙ apart)
@@ -211,10 +238,12 @@ at_other old new k q o changes apart = changes q ∙ ap (λ b. cond b o (at old 
 -- q, which is merged into p, is taken out first
 module _ (a : Inside) {v : Play} (seen : seen_in a ≡ v) (p q : ℕ) (allowed : cause_of v.hall (events.Merge p q) ≡ None) where
   mergeable : (not (p == q) ≡ true) × (are_of_one_kind (get (seen_permits a.permits.entries) p) (get (seen_permits a.permits.entries) q) ≡ true)
-  mergeable = and_parts (not (p == q)) (are_of_one_kind (get (seen_permits a.permits.entries) p) (get (seen_permits a.permits.entries) q)) (ap (λ (w : Play). can_merge w.hall p q) seen ∙ known (can_merge v.hall p q) allowed)
+  mergeable = and_parts (not (p == q)) (are_of_one_kind (get (seen_permits a.permits.entries) p) (get (seen_permits a.permits.entries) q))
+      (ap (λ (w : Play). can_merge w.hall p q) seen ∙ known (can_merge v.hall p q) allowed)
 
   pub other_found : at a.permits.entries q ≡ None → ⊥
-  other_found none = of_none (get (seen_permits a.permits.entries) p) (ap (are_of_one_kind (get (seen_permits a.permits.entries) p)) (sym (permit_missing a.permits.entries q none)) ∙ mergeable.1)
+  other_found none = of_none (get (seen_permits a.permits.entries) p)
+      (ap (are_of_one_kind (get (seen_permits a.permits.entries) p)) (sym (permit_missing a.permits.entries q none)) ∙ mergeable.1)
 
   pub apart_from : p ≡ q → ⊥
   apart_from is = not_true (p == q) mergeable.0 (eq-eqb p q is)
@@ -223,7 +252,8 @@ module _ (a : Inside) {v : Play} (seen : seen_in a ≡ v) (p q : ℕ) (allowed :
   apart_test = ne_eqb q p (λ is. apart_from (sym is))
 
   pub one_kind : (x y : PermitEntry) → at a.permits.entries p ≡ Some x → at a.permits.entries q ≡ Some y → (x.semaphore ≡ y.semaphore) × (y.plain ≡ x.plain)
-  one_kind x y isx isy = of_one_kind (permit_of x) (permit_of y) ((λ j. are_of_one_kind (sym (permit_at a.permits.entries p x isx) j) (sym (permit_at a.permits.entries q y isy) j)) ∙ mergeable.1)
+  one_kind x y isx isy = of_one_kind (permit_of x) (permit_of y)
+      ((λ j. are_of_one_kind (sym (permit_at a.permits.entries p x isx) j) (sym (permit_at a.permits.entries q y isy) j)) ∙ mergeable.1)
 
   module _ (ps1 : Permits) (gone : ChangesAt a.permits.entries ps1 q None) where
     pub first_was : (o : Option PermitEntry) → at ps1 p ≡ o → at a.permits.entries p ≡ o
@@ -232,7 +262,8 @@ module _ (a : Inside) {v : Play} (seen : seen_in a ≡ v) (p q : ℕ) (allowed :
     pub first_found : at ps1 p ≡ None → ⊥
     first_found none = absurd (cc (permit_missing a.permits.entries p (first_was None none), mergeable.1))
 
-module _ {a : Inside} {v : Play} {i : ℕ} (m : Meets a v i) (p q : ℕ) (allowed : cause_of v.hall (events.Merge p q) ≡ None) (ps1 : Permits) (gone : ChangesAt a.permits.entries ps1 q None) (x y : PermitEntry) (isx : at ps1 p ≡ Some x) (isy : at a.permits.entries q ≡ Some y) where
+module _ {a : Inside} {v : Play} {i : ℕ} (m : Meets a v i) (p q : ℕ) (allowed : cause_of v.hall (events.Merge p q) ≡ None) (ps1 : Permits)
+    (gone : ChangesAt a.permits.entries ps1 q None) (x y : PermitEntry) (isx : at ps1 p ≡ Some x) (isy : at a.permits.entries q ≡ Some y) where
   first_there : at a.permits.entries p ≡ Some x
   first_there = first_was a m.seen p q allowed ps1 gone (Some x) isx
 
@@ -251,22 +282,28 @@ module _ {a : Inside} {v : Play} {i : ℕ} (m : Meets a v i) (p q : ℕ) (allowe
           let small = m.kept.valid.fits x.semaphore in
           omega (arith, most, kept_as, small)
 
-  pub merged : (ss' : Semaphores) (ps' : Permits) (e e' : SemaphoreEntry) → at a.semaphores.entries y.semaphore ≡ Some e → e' ≡ record e { plain = e.plain - one y.plain }
+  pub merged : (ss' : Semaphores) (ps' : Permits) (e e' : SemaphoreEntry) → at a.semaphores.entries y.semaphore ≡ Some e
+      → e' ≡ record e { plain = e.plain - one y.plain }
       → ChangesAt a.semaphores.entries ss' y.semaphore (Some e') → ChangesAt ps1 ps' p (Some (record x { size = x.size + y.size }))
       → Done v i (step v.hall i (events.Merge p q)) answers.Done (store_of ss' a.futures.entries ps') a.registered a.outbox.spare a.outbox.wakers
   merged ss' ps' e e' there new changes grown =
       let st' : Store = store_of ss' a.futures.entries ps' in
       let permits : st'.permits ≡ insert (remove (store_in a).permits q) p (record (permit_of x) { size = x.size + y.size }) =
-      named_put (λ p x. permit_of x) ps1 ps' p (record x { size = x.size + y.size }) grown ∙ ap (λ m. insert m p (record (permit_of x) { size = x.size + y.size })) (named_remove (λ p x. permit_of x) a.permits.entries ps1 q gone) in
-      let plays = plays_merge (store_in a) st' a.registered a.outbox.spare a.next i y.semaphore q e m.kept (later m) m.low p (permit_of x) (permit_of y) alike.0 refl alike.1 (apart_from a m.seen p q allowed)
+      named_put (λ p x. permit_of x) ps1 ps' p (record x { size = x.size + y.size }) grown
+      ∙ ap (λ m. insert m p (record (permit_of x) { size = x.size + y.size })) (named_remove (λ p x. permit_of x) a.permits.entries ps1 q gone) in
+      let plays = plays_merge (store_in a) st' a.registered a.outbox.spare a.next i y.semaphore q e m.kept (later m) m.low p (permit_of x)
+      (permit_of y) alike.0 refl alike.1 (apart_from a m.seen p q allowed)
       (permit_at a.permits.entries p x first_there) (permit_at a.permits.entries q y isy) (within m (λ h. cause_of h (events.Merge p q) ≡ None) allowed)
-      (puts_of a.semaphores.entries ss' a.futures.entries a.permits.entries ps' y.semaphore e e' _ there changes (new ∙ ap (λ b. record e { plain = e.plain - one b }) alike.1)) permits in
+      (puts_of a.semaphores.entries ss' a.futures.entries a.permits.entries ps' y.semaphore e e' _ there changes
+      (new ∙ ap (λ b. record e { plain = e.plain - one b }) alike.1)) permits in
       done_quietly m (events.Merge p q) answers.Done plays refl refl
 
 -- ---- splits
 -- two names may be written in either order
 swapped : (m : FinMap nat_cmp Permit) (p i : ℕ) (a b : Permit) → (p ≡ i → ⊥) → insert (insert m i b) p a ≡ insert (insert m p a) i b
-swapped m p i a b apart = same_named _ _ (λ q. get_inserted (insert m i b) p q a ∙ ap (cond (p == q) (Some a)) (get_inserted m i q b) ∙ at_each q (p == q) (i == q) refl refl ∙ ap (cond (i == q) (Some b)) (sym (get_inserted m p q a)) ∙ sym (get_inserted (insert m p a) i q b))
+swapped m p i a b apart = same_named _ _
+    (λ q. get_inserted (insert m i b) p q a ∙ ap (cond (p == q) (Some a)) (get_inserted m i q b) ∙ at_each q (p == q) (i == q) refl refl
+    ∙ ap (cond (i == q) (Some b)) (sym (get_inserted m p q a)) ∙ sym (get_inserted (insert m p a) i q b))
   where
     at_each : (q : ℕ) (t u : Bool) → (p == q) ≡ t → (i == q) ≡ u → cond t (Some a) (cond u (Some b) (get m q)) ≡ cond u (Some b) (cond t (Some a) (get m q))
     at_each q true true pq iq = absurd (apart (eqb-true p q pq ∙ sym (eqb-true i q iq)))
@@ -274,8 +311,10 @@ swapped m p i a b apart = same_named _ _ (λ q. get_inserted (insert m i b) p q 
     at_each q false true pq iq = refl
     at_each q false false pq iq = refl
 
-pub halved : {a : Inside} {v : Play} {i p : ℕ} {x : PermitEntry} {e : SemaphoreEntry} → MeetsPermit a v i p x e → (ss' : Semaphores) (ps1 ps' : Permits) (n : ℕ) (y : PermitEntry) (e' : SemaphoreEntry)
-    → cause_of v.hall (events.Split p n) ≡ None → n ≤ x.size → e' ≡ record e { plain = e.plain + one x.plain } → ChangesAt a.semaphores.entries ss' x.semaphore (Some e')
+pub halved : {a : Inside} {v : Play} {i p : ℕ} {x : PermitEntry} {e : SemaphoreEntry} → MeetsPermit a v i p x e
+    → (ss' : Semaphores) (ps1 ps' : Permits) (n : ℕ) (y : PermitEntry) (e' : SemaphoreEntry)
+    → cause_of v.hall (events.Split p n) ≡ None → n ≤ x.size → e' ≡ record e { plain = e.plain + one x.plain }
+    → ChangesAt a.semaphores.entries ss' x.semaphore (Some e')
     → ChangesAt a.permits.entries ps1 i (Some (record x { size = n })) → at ps1 p ≡ Some y → ChangesAt ps1 ps' p (Some (record y { size = y.size - n }))
     → Done v i (step v.hall i (events.Split p n)) answers.Held (store_of ss' a.futures.entries ps') a.registered a.outbox.spare a.outbox.wakers
 halved {a} {v} {i} {p} {x} {e} m ss' ps1 ps' n y e' allowed enough new changes given left less_now =
@@ -291,9 +330,12 @@ halved {a} {v} {i} {p} {x} {e} m ss' ps1 ps' n y e' allowed enough new changes g
     let st' : Store = store_of ss' a.futures.entries ps' in
     let permits : st'.permits ≡ insert (insert (store_in a).permits p (record (permit_of x) { size = x.size - n })) i (record (permit_of x) { size = n }) =
     named_put (λ p x. permit_of x) ps1 ps' p (record y { size = y.size - n }) less_now
-    ∙ (λ j. insert (named_put (λ p x. permit_of x) ps ps1 i (record x { size = n }) given j) p (record (permit_of (one_permit j)) { size = (one_permit j).size - n }))
+    ∙ (λ j. insert (named_put (λ p x. permit_of x) ps ps1 i (record x { size = n }) given j) p
+    (record (permit_of (one_permit j)) { size = (one_permit j).size - n }))
     ∙ swapped (store_in a).permits p i (record (permit_of x) { size = x.size - n }) (record (permit_of x) { size = n }) apart in
-    let outcome : step h i (events.Split p n) ≡ split_in m.meets p n (permit_of x) true = ap (split_of h i p n) here ∙ ap (split_in m.meets p n (permit_of x)) (le-leb n x.size enough) in
-    let plays = plays_split (store_in a) st' a.registered a.outbox.spare a.next i x.semaphore n e m.meets.kept less m.meets.low p (permit_of x) refl enough here (within m.meets (λ g. cause_of g (events.Split p n) ≡ None) allowed)
+    let outcome : step h i (events.Split p n) ≡ split_in m.meets p n (permit_of x) true =
+    ap (split_of h i p n) here ∙ ap (split_in m.meets p n (permit_of x)) (le-leb n x.size enough) in
+    let plays = plays_split (store_in a) st' a.registered a.outbox.spare a.next i x.semaphore n e m.meets.kept less m.meets.low p (permit_of x)
+    refl enough here (within m.meets (λ g. cause_of g (events.Split p n) ≡ None) allowed)
     (puts_of a.semaphores.entries ss' a.futures.entries ps ps' x.semaphore e e' _ m.there changes new) permits in
     done_quietly m.meets (events.Split p n) answers.Held plays (ap (λ o. o.wakes) outcome) (ap (λ o. o.reply) (sym outcome))

@@ -44,7 +44,8 @@ known : (b : Bool) (o : Option Stop) → cond b o (Some stops.Unknown) ≡ None 
 known true o h = refl
 known false o h = absurd (cc)
 
-pub never_gone : (a : Inside) {v : Play} (s : ℕ) (o : Option Stop) → seen_in a ≡ v → cond (is_named v.hall s) o (Some stops.Unknown) ≡ None → at a.semaphores.entries s ≡ None → ⊥
+pub never_gone : (a : Inside) {v : Play} (s : ℕ) (o : Option Stop) → seen_in a ≡ v → cond (is_named v.hall s) o (Some stops.Unknown) ≡ None
+    → at a.semaphores.entries s ≡ None → ⊥
 never_gone a {v} s o seen allowed none = false≢true (sym (named-none a seen s none) ∙ known (is_named v.hall s) o allowed)
 
 -- a release that would not fit has a cause
@@ -58,7 +59,17 @@ fitting true n h = small (nat_lt n (2 ^ 64)) refl h
 
 -- more room is room
 pub kept_room : {st : Store} {w sp n : ℕ} (sp' : ℕ) → IsKept st w sp n → w ≤ sp' → IsKept st w sp' n
-kept_room sp' k room = record { valid = k.valid; below = k.below; accounted = k.accounted; linked = k.linked; each = k.each; counted = k.counted; room = room; few = k.few; low = k.low }
+kept_room sp' k room = record {
+  valid = k.valid;
+  below = k.below;
+  accounted = k.accounted;
+  linked = k.linked;
+  each = k.each;
+  counted = k.counted;
+  room = room;
+  few = k.few;
+  low = k.low;
+}
 
 -- n free permits of s are forgotten
 abbrev taken_off : Hall → ℕ → ℕ → Outcome
@@ -118,7 +129,8 @@ module _ {a : Inside} {v : Play} {i s : ℕ} {e : SemaphoreEntry} (m : MeetsSema
   pub wakers_registered : wakers_in e.core.queue ≤ a.registered
   wakers_registered =
       let sums = total-remove (λ q (x : SemaphoreEntry). wakers_in x.core.queue) (store_in a).semaphores s in
-      let mine : weight (λ q (x : SemaphoreEntry). wakers_in x.core.queue) s (get (store_in a).semaphores s) ≡ wakers_in e.core.queue = ap (weight (λ q (x : SemaphoreEntry). wakers_in x.core.queue) s) here in
+      let mine : weight (λ q (x : SemaphoreEntry). wakers_in x.core.queue) s (get (store_in a).semaphores s) ≡ wakers_in e.core.queue =
+      ap (weight (λ q (x : SemaphoreEntry). wakers_in x.core.queue) s) here in
       let counted = k.counted in
       omega (arith, sums, mine, counted)
 
@@ -134,11 +146,13 @@ module _ {a : Inside} {v : Play} {i s : ℕ} {e : SemaphoreEntry} (m : MeetsSema
 
   -- ---- events that only look
   pub done_free : (r : ℕ) → r ≡ e.core.free → Done v i (step v.hall i (events.Free s)) (answers.Free r) (store_in a) a.registered a.outbox.spare a.outbox.wakers
-  done_free r is = done_quietly m.meets (events.Free s) (answers.Free r) (plays_nothing (store_in a) a.registered a.outbox.spare a.next i (events.Free s) k less low refl) refl (ap (λ n. answers.Free n) (is ∙ sym free_seen))
+  done_free r is = done_quietly m.meets (events.Free s) (answers.Free r)
+      (plays_nothing (store_in a) a.registered a.outbox.spare a.next i (events.Free s) k less low refl) refl (ap (λ n. answers.Free n) (is ∙ sym free_seen))
 
   pub done_ledger : (r : Ledger) → e.core.free + cores.held_of e.core + cores.paid_of e.core ≡ e.core.live → r ≡ ledger_of_entry e
       → Done v i (step v.hall i (events.Ledger s)) (answers.Account r) (store_in a) a.registered a.outbox.spare a.outbox.wakers
-  done_ledger r whole is = done_quietly m.meets (events.Ledger s) (answers.Account r) (plays_nothing (store_in a) a.registered a.outbox.spare a.next i (events.Ledger s) k less low refl) refl
+  done_ledger r whole is = done_quietly m.meets (events.Ledger s) (answers.Account r)
+      (plays_nothing (store_in a) a.registered a.outbox.spare a.next i (events.Ledger s) k less low refl) refl
       (ap (λ x. answers.Account x) (is ∙ sym (ledger-seen (store_in a) a.registered a.outbox.spare a.next s e k here whole)))
 
   -- too few are free
@@ -147,7 +161,9 @@ module _ {a : Inside} {v : Play} {i s : ℕ} {e : SemaphoreEntry} (m : MeetsSema
       let h : Hall = hall_in a in
       let too_few : nat_le n (free h s) ≡ false = ap (nat_le n) free_seen ∙ lt-leb n e.core.free few in
       let outcome : try_and_forget h s n ≡ quietly h answers.No = ap (λ b. cond b (taken_off h s n) (quietly h answers.No)) too_few in
-      done_quietly m.meets (events.Tryf s n) answers.No (plays_nothing (store_in a) a.registered a.outbox.spare a.next i (events.Tryf s n) k less low (ap (λ (o : Outcome). o.hall) outcome)) (ap (λ (o : Outcome). o.wakes) outcome) (sym (ap (λ (o : Outcome). o.reply) outcome))
+      done_quietly m.meets (events.Tryf s n) answers.No
+      (plays_nothing (store_in a) a.registered a.outbox.spare a.next i (events.Tryf s n) k less low (ap (λ (o : Outcome). o.hall) outcome))
+      (ap (λ (o : Outcome). o.wakes) outcome) (sym (ap (λ (o : Outcome). o.reply) outcome))
 
   -- ---- events that change the semaphore
   module _ (ss' : Semaphores) (x : SemaphoreEntry) (changes : ChangesAt a.semaphores.entries ss' s (Some x)) where
@@ -178,24 +194,30 @@ module _ {a : Inside} {v : Play} {i s : ℕ} {e : SemaphoreEntry} (m : MeetsSema
     seen_unchanged is wakes' same = (λ j. record { hall = hall_of (as_it_was is j) a.next; wakes = same j; next = a.next }) ∙ m.meets.seen
 
     pub done_lacking : (n : ℕ) → x ≡ e → e.core.free < n → Done v i (try_and_forget v.hall s n) answers.No st' a.registered a.outbox.spare a.outbox.wakers
-    done_lacking n is few = subst (λ (st : Store). Done v i (try_and_forget v.hall s n) answers.No st a.registered a.outbox.spare a.outbox.wakers) (sym (as_it_was is)) (lacking n few)
+    done_lacking n is few = subst (λ (st : Store). Done v i (try_and_forget v.hall s n) answers.No st a.registered a.outbox.spare a.outbox.wakers)
+        (sym (as_it_was is)) (lacking n few)
 
-    pub done_forget : (n r : ℕ) → n < 2 ^ 64 → cause_of v.hall (events.Forget s n) ≡ None → x ≡ record e { core = calls.forgetting e.core n; forgotten = e.forgotten + min n e.core.free }
+    pub done_forget : (n r : ℕ) → n < 2 ^ 64 → cause_of v.hall (events.Forget s n) ≡ None
+        → x ≡ record e { core = calls.forgetting e.core n; forgotten = e.forgotten + min n e.core.free }
         → cores.held_of x.core ≡ cores.held_of e.core → r ≡ min n e.core.free → min n e.core.free ≤ e.core.live
         → Done v i (step v.hall i (events.Forget s n)) (answers.Forgot r) st' a.registered a.outbox.spare a.outbox.wakers
     done_forget n r small allowed is held taken within_live =
         done_quietly m.meets (events.Forget s n) (answers.Forgot r)
-        (plays_forget (store_in a) st' a.registered a.outbox.spare a.next i s n e k less low small (cause (events.Forget s n) allowed) (puts _ is) refl (held_by _ is held) within_live)
+        (plays_forget (store_in a) st' a.registered a.outbox.spare a.next i s n e k less low small (cause (events.Forget s n) allowed) (puts _ is)
+        refl (held_by _ is held) within_live)
         refl (ap (λ t. answers.Forgot t) (taken ∙ ap (min n) (sym free_seen)))
 
-    pub done_forgetx : (n : ℕ) → n < 2 ^ 64 → cause_of v.hall (events.Forgetx s n) ≡ None → x ≡ record e { core = calls.forgetting_exactly e.core n; forgotten = e.forgotten + n }
+    pub done_forgetx : (n : ℕ) → n < 2 ^ 64 → cause_of v.hall (events.Forgetx s n) ≡ None
+        → x ≡ record e { core = calls.forgetting_exactly e.core n; forgotten = e.forgotten + n }
         → cores.held_of x.core ≡ cores.held_of e.core → min n e.core.free ≤ e.core.live
         → Done v i (step v.hall i (events.Forgetx s n)) answers.Done st' a.registered a.outbox.spare a.outbox.wakers
     done_forgetx n small allowed is held within =
         done_quietly m.meets (events.Forgetx s n) answers.Done
-        (plays_forgetx (store_in a) st' a.registered a.outbox.spare a.next i s n e k less low small (cause (events.Forgetx s n) allowed) (puts _ is) refl (held_by _ is held) within) refl refl
+        (plays_forgetx (store_in a) st' a.registered a.outbox.spare a.next i s n e k less low small (cause (events.Forgetx s n) allowed) (puts _ is)
+        refl (held_by _ is held) within) refl refl
 
-    pub done_tried : (n : ℕ) → n < 2 ^ 64 → cause_of v.hall (events.Tryf s n) ≡ None → n ≤ e.core.free → x ≡ record e { core = calls.forgetting e.core n; forgotten = e.forgotten + min n e.core.free }
+    pub done_tried : (n : ℕ) → n < 2 ^ 64 → cause_of v.hall (events.Tryf s n) ≡ None → n ≤ e.core.free
+        → x ≡ record e { core = calls.forgetting e.core n; forgotten = e.forgotten + min n e.core.free }
         → cores.held_of x.core ≡ cores.held_of e.core → min n e.core.free ≤ e.core.live
         → Done v i (try_and_forget v.hall s n) answers.Yes st' a.registered a.outbox.spare a.outbox.wakers
     done_tried n small allowed enough is held within =
@@ -203,30 +225,35 @@ module _ {a : Inside} {v : Play} {i s : ℕ} {e : SemaphoreEntry} (m : MeetsSema
         let fits_in : nat_le n (free h s) ≡ true = ap (nat_le n) free_seen ∙ le-leb n e.core.free enough in
         let outcome : try_and_forget h s n ≡ taken_off h s n = ap (λ b. cond b (taken_off h s n) (quietly h answers.No)) fits_in in
         done_quietly m.meets (events.Tryf s n) answers.Yes
-        (plays_tried (store_in a) st' a.registered a.outbox.spare a.next i s n e k less low small (events.Tryf s n) tt (cause (events.Tryf s n) allowed) refl enough (puts _ is) refl (held_by _ is held) within)
+        (plays_tried (store_in a) st' a.registered a.outbox.spare a.next i s n e k less low small (events.Tryf s n) tt
+        (cause (events.Tryf s n) allowed) refl enough (puts _ is) refl (held_by _ is held) within)
         (ap (λ (o : Outcome). o.wakes) outcome) (sym (ap (λ (o : Outcome). o.reply) outcome))
 
     pub done_endsem : cause_of v.hall (events.Endsem s) ≡ None → x ≡ record e { named = false }
         → Done v i (step v.hall i (events.Endsem s)) answers.Done st' a.registered a.outbox.spare a.outbox.wakers
     done_endsem allowed is =
         done_quietly m.meets (events.Endsem s) answers.Done
-        (plays_endsem (store_in a) st' a.registered a.outbox.spare a.next i s 0 e k less low (omega arith) (cause (events.Endsem s) allowed) (puts _ is) refl) refl refl
+        (plays_endsem (store_in a) st' a.registered a.outbox.spare a.next i s 0 e k less low (omega arith) (cause (events.Endsem s) allowed)
+        (puts _ is) refl) refl refl
 
     -- ---- release
     pub done_release : (n r spare : ℕ) (wakers : List ℕ) → n < 2 ^ 64 → cause_of v.hall (events.Release s n) ≡ None
         → x ≡ record e { core = record (cores.poured e.core n) { wakes = [] }; released = e.released + n } → cores.held_of x.core ≡ cores.held_of e.core
-        → wakers ≡ a.outbox.wakers ++ cores.wakers_of (granted_in e.core.queue n) → spare + r ≡ a.outbox.spare → r ≡ length (cores.wakers_of (granted_in e.core.queue n))
+        → wakers ≡ a.outbox.wakers ++ cores.wakers_of (granted_in e.core.queue n) → spare + r ≡ a.outbox.spare
+        → r ≡ length (cores.wakers_of (granted_in e.core.queue n))
         → Done v i (step v.hall i (events.Release s n)) answers.Done st' (a.registered - r) spare wakers
     done_release n r spare wakers small allowed is held moved left count =
         let room = k.room in
         let few = wakers_few n in
-        let with = plays_release (store_in a) st' a.registered (a.registered - r) spare a.outbox.spare a.next i s n e k less low here small (cause (events.Release s n) allowed)
+        let with = plays_release (store_in a) st' a.registered (a.registered - r) spare a.outbox.spare a.next i s n e k less low here small
+        (cause (events.Release s n) allowed)
         (puts _ is).semaphores refl refl (held_by _ is held) (omega (arith, few, count)) (omega (arith, room, left)) in
         done m.meets wakers (events.Release s n) answers.Done with.plays (moved ∙ ap (λ ws. a.outbox.wakers ++ ws) (sym with.wakes)) refl
 
 -- ---- a new semaphore
 pub done_new : {a : Inside} {v : Play} {i : ℕ} → Meets a v i → (n : ℕ) → n < 2 ^ 64 → (ss' : Semaphores) (core : cores.Core ℕ)
-    → ChangesAt a.semaphores.entries ss' i (Some (record { core = core; made = n; released = 0; forgotten = 0; named = true; plain = 0 })) → core ≡ fresh_core n → cores.held_of core ≡ 0
+    → ChangesAt a.semaphores.entries ss' i (Some (record { core = core; made = n; released = 0; forgotten = 0; named = true; plain = 0 }))
+    → core ≡ fresh_core n → cores.held_of core ≡ 0
     → Done v i (step v.hall i (events.New n)) answers.Made (store_of ss' a.futures.entries a.permits.entries) a.registered a.outbox.spare a.outbox.wakers
 done_new {a} {v} {i} m n small ss' core changes is held =
     let plays = plays_new (store_in a) a.registered a.outbox.spare a.next i m.kept (later m) m.low (store_of ss' a.futures.entries a.permits.entries) n small
@@ -245,7 +272,11 @@ seen_nothing : {X Y : Type 0} (f : ℕ → X → Y) → named f (entries (named 
 seen_nothing {X} f = same_named _ _ (λ q. get-seen f (named (λ (k : ℕ) (x : X). x) []) q ∙ ap (option_map (f q)) (kept-at [] q) ∙ sym (get-empty nat_cmp q))
 
 hall_nothing : hall_of nothing 0 ≡ empty_hall
-hall_nothing = λ j. record { semaphores = seen_nothing (semaphore_of nothing.futures 0) j; futures = seen_nothing (λ f x. future_of nothing.semaphores x) j; permits = named_nothing (λ p x. permit_of x) j }
+hall_nothing = λ j. record {
+  semaphores = seen_nothing (semaphore_of nothing.futures 0) j;
+  futures = seen_nothing (λ f x. future_of nothing.semaphores x) j;
+  permits = named_nothing (λ p x. permit_of x) j;
+}
 
 none_at : {X : Type 0} (q : ℕ) (x : X) → get (named (λ (k : ℕ) (y : X). y) []) q ≡ Some x → ⊥
 none_at {X} q x is = absurd (let none : ◌≡◌ {A = Option X} None (Some x) = sym (kept-at {X = X} [] q) ∙ is in cc)
@@ -264,7 +295,8 @@ kept_nothing spare = record {
     numbered = λ s e is. absurd (none_at s e is);
   };
   each = λ s e is. absurd (none_at s e is);
-  counted = sym (ap (total (λ s (e : SemaphoreEntry). wakers_in e.core.queue)) (named_nothing (λ k (e : SemaphoreEntry). e)) ∙ total-empty (λ s (e : SemaphoreEntry). wakers_in e.core.queue));
+  counted = sym (ap (total (λ s (e : SemaphoreEntry). wakers_in e.core.queue)) (named_nothing (λ k (e : SemaphoreEntry). e))
+      ∙ total-empty (λ s (e : SemaphoreEntry). wakers_in e.core.queue));
   room = omega arith;
   few = omega arith;
   low = omega arith;
@@ -274,7 +306,8 @@ nothing_in : (ss : Semaphores) (fs : Futures) (ps : Permits) → ss ≡ [] → f
 nothing_in ss fs ps none no_future no_permit = λ j. store_of (none j) (no_future j) (no_permit j)
 
 pub kept_empty : (ss : Semaphores) (fs : Futures) (ps : Permits) (spare : ℕ) → ss ≡ [] → fs ≡ [] → ps ≡ [] → IsKept (store_of ss fs ps) 0 spare 0
-kept_empty ss fs ps spare none no_future no_permit = subst (λ (st : Store). IsKept st 0 spare 0) (sym (nothing_in ss fs ps none no_future no_permit)) (kept_nothing spare)
+kept_empty ss fs ps spare none no_future no_permit = subst (λ (st : Store). IsKept st 0 spare 0) (sym (nothing_in ss fs ps none no_future no_permit))
+    (kept_nothing spare)
 
 pub seen_empty : (ss : Semaphores) (fs : Futures) (ps : Permits) (wakers : List ℕ) → ss ≡ [] → fs ≡ [] → ps ≡ [] → wakers ≡ []
     → ◌≡◌ {A = Play} (record { hall = hall_of (store_of ss fs ps) 0; wakes = wakers; next = 0 }) (record { hall = empty_hall; wakes = []; next = 0 })

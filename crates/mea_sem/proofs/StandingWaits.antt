@@ -39,13 +39,18 @@ abbrev pub IsWaiting : Stage → Type 0
 IsWaiting z = (u : ℕ) × (z ≡ Waiting u)
 
 module _ {a : Inside} {v : Play} {i f : ℕ} {x : FutureEntry} {e : SemaphoreEntry} (m : MeetsFuture a v i f x e) where
-  stage_at : (Good : Stage → Type 0) → IfSome (get v.hall.futures f) (λ (y : Future). Good y.stage) → (z : Stage) → get (hall_in a).futures f ≡ Some (at_stage x z) → Good z
-  stage_at Good h z seen = subst (λ o. IfSome o (λ (y : Future). Good y.stage)) seen (within m.meets (λ g. IfSome (get g.futures f) (λ (y : Future). Good y.stage)) h)
+  stage_at : (Good : Stage → Type 0) → IfSome (get v.hall.futures f) (λ (y : Future). Good y.stage) → (z : Stage)
+      → get (hall_in a).futures f ≡ Some (at_stage x z) → Good z
+  stage_at Good h z seen = subst (λ o. IfSome o (λ (y : Future). Good y.stage)) seen
+      (within m.meets (λ g. IfSome (get g.futures f) (λ (y : Future). Good y.stage)) h)
 
-  has_stage : (Good : Stage → Type 0) (z : Stage) → get (hall_in a).futures f ≡ Some (at_stage x z) → Good z → IfSome (get v.hall.futures f) (λ (y : Future). Good y.stage)
-  has_stage Good z seen good = without m.meets (λ g. IfSome (get g.futures f) (λ (y : Future). Good y.stage)) (subst (λ o. IfSome o (λ (y : Future). Good y.stage)) (sym seen) good)
+  has_stage : (Good : Stage → Type 0) (z : Stage) → get (hall_in a).futures f ≡ Some (at_stage x z) → Good z
+      → IfSome (get v.hall.futures f) (λ (y : Future). Good y.stage)
+  has_stage Good z seen good = without m.meets (λ g. IfSome (get g.futures f) (λ (y : Future). Good y.stage))
+      (subst (λ o. IfSome o (λ (y : Future). Good y.stage)) (sym seen) good)
 
-  pub waits_from : (d n : ℕ) → x.acquire ≡ acquires.Queued d n → IfSome (get v.hall.futures f) (λ (y : Future). IsWaiting y.stage) → Waits e.core (acquires.Queued d n)
+  pub waits_from : (d n : ℕ) → x.acquire ≡ acquires.Queued d n → IfSome (get v.hall.futures f) (λ (y : Future). IsWaiting y.stage)
+      → Waits e.core (acquires.Queued d n)
   waits_from d n queued waits = elim (subst (Belongs e.core) queued (its_belongs m).0) [
     | inl granted ↦ absurd (let never = stage_at IsWaiting waits Granted (seen_as m Granted (granted_stage m d n queued granted)) in let no = never.1 in cc)
     | inr still ↦ still
@@ -100,40 +105,54 @@ module _ {a : Inside} {v : Play} {i f : ℕ} {x : FutureEntry} {e : SemaphoreEnt
   may : (w : ℕ) → cause_of v.hall (events.Poll f w) ≡ None → cause_of (hall_in a) (events.Poll f w) ≡ None
   may w allowed = within m.meets (λ h. cause_of h (events.Poll f w) ≡ None) allowed
 
-  pub queue_done : (w d n w' : ℕ) (out : Wakes ℕ) (ss' : Semaphores) (fs' : Futures) (e2 : SemaphoreEntry) (x2 : FutureEntry) → cause_of v.hall (events.Poll f w) ≡ None → (step v.hall i (events.Poll f w)).reply ≡ answers.Pending
-      → w' ≡ a.registered + 1 → out.wakers ≡ a.outbox.wakers → w' ≤ out.spare → x.acquire ≡ acquires.New d → x2 ≡ record x { acquire = acquires.Queued d n } → ChangesAt a.futures.entries fs' f (Some x2) → ChangesAt a.semaphores.entries ss' x.semaphore (Some e2)
+  pub queue_done : (w d n w' : ℕ) (out : Wakes ℕ) (ss' : Semaphores) (fs' : Futures) (e2 : SemaphoreEntry) (x2 : FutureEntry)
+      → cause_of v.hall (events.Poll f w) ≡ None → (step v.hall i (events.Poll f w)).reply ≡ answers.Pending
+      → w' ≡ a.registered + 1 → out.wakers ≡ a.outbox.wakers → w' ≤ out.spare → x.acquire ≡ acquires.New d
+      → x2 ≡ record x { acquire = acquires.Queued d n } → ChangesAt a.futures.entries fs' f (Some x2) → ChangesAt a.semaphores.entries ss' x.semaphore (Some e2)
       → Queues e.core e2.core d w n → e2 ≡ record e { core = e2.core } → cores.held_of e2.core ≡ cores.held_of e.core
       → Done v i (step v.hall i (events.Poll f w)) answers.Pending (store_of ss' fs' a.permits.entries) w' out.spare out.wakers
   queue_done w d n w' out ss' fs' e2 x2 allowed replied one_more same room new x2_is put changes queues rest held =
       let st : Store = store_in a in
       let st' : Store = store_of ss' fs' a.permits.entries in
       let chosen = pending_new m w d new (lacks_from w d new replied) in
-      let hall : (step (hall_in a) i (events.Poll f w)).hall ≡ queueing (hall_in a) f w (record { semaphore = x.semaphore; demand = d; plain = x.plain; forgets = x.forgets; stage = New }) =
-      ap (λ o. o.hall) chosen ∙ ap (λ b. queueing (hall_in a) f w (record { semaphore = x.semaphore; demand = demand_of b; plain = x.plain; forgets = x.forgets; stage = New })) new in
-      let core : e2 ≡ record e { core = record e.core { free = 0; queue = e.core.queue ++ (cores.Acquires n d w, d - e.core.free) ∷ [] } } = rest ∙ ap (λ (c : cores.Core ℕ). record e { core = c }) queues.is in
-      let plays = plays_queued st st' a.registered a.outbox.spare out.spare a.next i x.semaphore f w d n x e m.meets.kept (later m.meets) m.meets.low refl new (home_there m) (semaphores_of a.semaphores.entries ss' x.semaphore e2 _ changes core) (future_there m)
-      (λ g. kept-changed a.futures.entries fs' f (Some x2) put g ∙ ap (λ y. cond (f == g) (Some y) (get st.futures g)) x2_is) refl queues.not_waiting queues.not_granted (may w allowed) hall
+      let hall : (step (hall_in a) i (events.Poll f w)).hall ≡ queueing (hall_in a) f w
+      (record { semaphore = x.semaphore; demand = d; plain = x.plain; forgets = x.forgets; stage = New }) =
+      ap (λ o. o.hall) chosen ∙ ap (λ b. queueing (hall_in a) f w
+      (record { semaphore = x.semaphore; demand = demand_of b; plain = x.plain; forgets = x.forgets; stage = New })) new in
+      let core : e2 ≡ record e { core = record e.core { free = 0; queue = e.core.queue ++ (cores.Acquires n d w, d - e.core.free) ∷ [] } } =
+      rest ∙ ap (λ (c : cores.Core ℕ). record e { core = c }) queues.is in
+      let plays = plays_queued st st' a.registered a.outbox.spare out.spare a.next i x.semaphore f w d n x e m.meets.kept (later m.meets)
+      m.meets.low refl new (home_there m) (semaphores_of a.semaphores.entries ss' x.semaphore e2 _ changes core) (future_there m)
+      (λ g. kept-changed a.futures.entries fs' f (Some x2) put g ∙ ap (λ y. cond (f == g) (Some y) (get st.futures g)) x2_is)
+      refl queues.not_waiting queues.not_granted (may w allowed) hall
       (subst (λ (c : cores.Core ℕ). cores.held_of c ≡ cores.held_of e.core) queues.is held) (subst (λ r. r ≤ out.spare) one_more room) in
       let settled = subst (λ r. Plays st st' a.next i (events.Poll f w) r out.spare) (sym one_more) plays in
       done m.meets out.wakers (events.Poll f w) answers.Pending settled
       (same ∙ sym (append-nil a.outbox.wakers) ∙ ap (λ ws. a.outbox.wakers ++ ws) (sym (ap (λ o. o.wakes) chosen))) (sym (ap (λ o. o.reply) chosen))
 
   -- ---- a further poll that waits
-  pub again_done : (w d n : ℕ) (ss' : Semaphores) (e2 : SemaphoreEntry) → cause_of v.hall (events.Poll f w) ≡ None → IfSome (get v.hall.futures f) (λ (y : Future). IsWaiting y.stage) → x.acquire ≡ acquires.Queued d n → ChangesAt a.semaphores.entries ss' x.semaphore (Some e2)
+  pub again_done : (w d n : ℕ) (ss' : Semaphores) (e2 : SemaphoreEntry) → cause_of v.hall (events.Poll f w) ≡ None
+      → IfSome (get v.hall.futures f) (λ (y : Future). IsWaiting y.stage) → x.acquire ≡ acquires.Queued d n
+      → ChangesAt a.semaphores.entries ss' x.semaphore (Some e2)
       → e2 ≡ record e { core = record e.core { queue = with_waker e.core.queue n w } } → cores.held_of e2.core ≡ cores.held_of e.core
-      → Done v i (step v.hall i (events.Poll f w)) answers.Pending (store_of ss' a.futures.entries a.permits.entries) a.registered a.outbox.spare a.outbox.wakers
+      → Done v i (step v.hall i (events.Poll f w)) answers.Pending (store_of ss' a.futures.entries a.permits.entries)
+      a.registered a.outbox.spare a.outbox.wakers
   again_done w d n ss' e2 allowed asks queued changes core held =
       let waits = waits_from d n queued asks in
       let chosen = pending_again m w d n waits.0 queued waits.1 in
-      let hall : (step (hall_in a) i (events.Poll f w)).hall ≡ with_future (hall_in a) f (record { semaphore = x.semaphore; demand = d; plain = x.plain; forgets = x.forgets; stage = Waiting w }) =
-      ap (λ o. o.hall) chosen ∙ ap (λ b. with_future (hall_in a) f (record { semaphore = x.semaphore; demand = demand_of b; plain = x.plain; forgets = x.forgets; stage = Waiting w })) queued in
-      let plays = plays_again (store_in a) (store_of ss' a.futures.entries a.permits.entries) a.registered a.outbox.spare a.next i x.semaphore f w d n waits.0 x e m.meets.kept (later m.meets) m.meets.low refl queued (home_there m)
+      let hall : (step (hall_in a) i (events.Poll f w)).hall ≡ with_future (hall_in a) f
+      (record { semaphore = x.semaphore; demand = d; plain = x.plain; forgets = x.forgets; stage = Waiting w }) =
+      ap (λ o. o.hall) chosen ∙ ap (λ b. with_future (hall_in a) f
+      (record { semaphore = x.semaphore; demand = demand_of b; plain = x.plain; forgets = x.forgets; stage = Waiting w })) queued in
+      let plays = plays_again (store_in a) (store_of ss' a.futures.entries a.permits.entries)
+      a.registered a.outbox.spare a.next i x.semaphore f w d n waits.0 x e m.meets.kept (later m.meets) m.meets.low refl queued (home_there m)
       (semaphores_of a.semaphores.entries ss' x.semaphore e2 _ changes core) (future_there m) refl refl waits.1 (may w allowed) hall
       (subst (λ (y : SemaphoreEntry). cores.held_of y.core ≡ cores.held_of e.core) core held) in
       done_quietly m.meets (events.Poll f w) answers.Pending plays (ap (λ o. o.wakes) chosen) (sym (ap (λ o. o.reply) chosen))
 
 -- the same without the entry of its semaphore
-pub unpolled : {a : Inside} {v : Play} {i : ℕ} → Meets a v i → (f : ℕ) {x : FutureEntry} → at a.futures.entries f ≡ Some x → ((d : ℕ) → x.acquire ≡ acquires.New d → ⊥) → IfSome (get v.hall.futures f) (λ (y : Future). y.stage ≡ New) → ⊥
+pub unpolled : {a : Inside} {v : Play} {i : ℕ} → Meets a v i → (f : ℕ) {x : FutureEntry} → at a.futures.entries f ≡ Some x
+    → ((d : ℕ) → x.acquire ≡ acquires.New d → ⊥) → IfSome (get v.hall.futures f) (λ (y : Future). y.stage ≡ New) → ⊥
 unpolled {a} m f {x} is never new =
     let home = its_home a f m.kept is in
     new_unpolled (record { meets = m; is = is; there = sym (kept-at a.semaphores.entries x.semaphore) ∙ home.there }) never new
@@ -153,16 +172,19 @@ end_found a {v} f seen there none = future_found a f seen (by_value (get v.hall.
     by_value None missing = absurd (cc)
     by_value (Some y) here = refl
 
-module _ {a : Inside} {v : Play} {i f : ℕ} {x : FutureEntry} {e : SemaphoreEntry} (m : MeetsFuture a v i f x e) (e2 : SemaphoreEntry) (wakes' : List ℕ) (left : ℕ) (ends : Ends e x.acquire x.plain e2 a.outbox.wakers wakes' left) where
+module _ {a : Inside} {v : Play} {i f : ℕ} {x : FutureEntry} {e : SemaphoreEntry} (m : MeetsFuture a v i f x e) (e2 : SemaphoreEntry)
+    (wakes' : List ℕ) (left : ℕ) (ends : Ends e x.acquire x.plain e2 a.outbox.wakers wakes' left) where
   -- those who leave were registered
   pub left_within : left ≤ a.registered
   left_within = by_acquire x.acquire ends refl (its_belongs m)
     where
-      by_acquire : (b : Acquire) → Ends e b x.plain e2 a.outbox.wakers wakes' left → x.acquire ≡ b → Belongs e.core x.acquire × IsOpen x.acquire → left ≤ a.registered
+      by_acquire : (b : Acquire) → Ends e b x.plain e2 a.outbox.wakers wakes' left → x.acquire ≡ b → Belongs e.core x.acquire × IsOpen x.acquire
+          → left ≤ a.registered
       by_acquire (acquires.New d) h same home = (let none = h.2 in omega (arith, none))
       by_acquire (acquires.Done d) h same home = (let none = h.2 in omega (arith, none))
       by_acquire (acquires.Queued d n) h same home = elim (subst (Belongs e.core) same home.0) [
-        | inl granted ↦ (let count = (h.0 granted).count in let all = wakers_registered (its_semaphore m) in let part = wakers_poured e.core.queue d in omega (arith, count, all, part))
+        | inl granted ↦ (let count = (h.0 granted).count in let all = wakers_registered (its_semaphore m) in
+            let part = wakers_poured e.core.queue d in omega (arith, count, all, part))
         | inr still ↦ (
             let count = (h.1 still.0 still.1).count in
             let all = wakers_registered (its_semaphore m) in
@@ -171,7 +193,9 @@ module _ {a : Inside} {v : Play} {i f : ℕ} {x : FutureEntry} {e : SemaphoreEnt
             omega (arith, count, all, part, fewer))
       ]
 
-  module _ (there : IsSome (get v.hall.futures f)) (ss' : Semaphores) (fs' : Futures) (sp' : ℕ) (gone : ChangesAt a.futures.entries fs' f None) (changes : ChangesAt a.semaphores.entries ss' x.semaphore (Some e2)) (spare : a.outbox.spare ≤ sp' + left) (held : cores.held_of e2.core ≡ cores.held_of e.core) where
+  module _ (there : IsSome (get v.hall.futures f)) (ss' : Semaphores) (fs' : Futures) (sp' : ℕ) (gone : ChangesAt a.futures.entries fs' f None)
+      (changes : ChangesAt a.semaphores.entries ss' x.semaphore (Some e2)) (spare : a.outbox.spare ≤ sp' + left)
+      (held : cores.held_of e2.core ≡ cores.held_of e.core) where
     abbrev st : Store
     st = store_in a
 
@@ -205,15 +229,22 @@ module _ {a : Inside} {v : Play} {i f : ℕ} {x : FutureEntry} {e : SemaphoreEnt
     pub end_done : Finishes
     end_done = by_acquire x.acquire ends refl (its_belongs m)
       where
-        finish : {woken : List ℕ} → PlaysWith st st' a.next i (events.End f) (a.registered - left) sp' woken → wakes' ≡ a.outbox.wakers ++ woken → (step h i (events.End f)).reply ≡ answers.Done → Finishes
-        finish plays moved reply = done m.meets wakes' (events.End f) answers.Done plays.plays (moved ∙ ap (λ ws. a.outbox.wakers ++ ws) (sym plays.wakes)) (sym reply)
+        finish : {woken : List ℕ} → PlaysWith st st' a.next i (events.End f) (a.registered - left) sp' woken → wakes' ≡ a.outbox.wakers ++ woken
+            → (step h i (events.End f)).reply ≡ answers.Done → Finishes
+        finish plays moved reply = done m.meets wakes' (events.End f) answers.Done plays.plays
+            (moved ∙ ap (λ ws. a.outbox.wakers ++ ws) (sym plays.wakes)) (sym reply)
 
         by_new : (d : ℕ) → x.acquire ≡ acquires.New d → e2 ≡ record e { plain = e.plain - cond x.plain 1 0 } → wakes' ≡ a.outbox.wakers → left ≡ 0 → Finishes
         by_new d new changed quiet none =
-            let with = plays_end_new st st' a.registered a.registered a.outbox.spare a.outbox.spare a.next i x.semaphore d e k less low (home_there m) f d x refl (future_there m) futures_now refl new allowed (semaphores_of a.semaphores.entries ss' x.semaphore e2 _ changes changed) in
+            let with = plays_end_new st st' a.registered a.registered a.outbox.spare a.outbox.spare a.next i x.semaphore d e k less low (home_there m)
+            f d x refl (future_there m) futures_now refl new allowed (semaphores_of a.semaphores.entries ss' x.semaphore e2 _ changes changed) in
             let fewer : a.registered ≡ a.registered - left = omega (arith, none) in
             finish {woken = []} (record {
-              plays = record { hall = with.plays.hall; kept = subst (λ r. IsKept st' r sp' (i + 1)) fewer (kept_room sp' with.plays.kept (let r = room in omega (arith, r, none))) };
+              plays = record {
+                hall = with.plays.hall;
+                kept = subst (λ r. IsKept st' r sp' (i + 1)) fewer
+                    (kept_room sp' with.plays.kept (let r = room in omega (arith, r, none)));
+              };
               wakes = with.wakes;
             }) (quiet ∙ sym (append-nil a.outbox.wakers)) (ap (λ o. (end_of h f o).reply) (seen_as m New (ap (λ b. stage_of b e.core.queue) new)))
 
@@ -225,8 +256,10 @@ module _ {a : Inside} {v : Play} {i f : ℕ} {x : FutureEntry} {e : SemaphoreEnt
               let r = z.0 granted in
               let l = left_within in
               let count = r.count in
-              let with = plays_end_granted st st' a.registered (a.registered - left) sp' a.outbox.spare a.next i x.semaphore d e k less low (home_there m) f d x refl (future_there m) futures_now refl n same granted (granted_live m d n same granted) allowed
-              (semaphores_of a.semaphores.entries ss' x.semaphore e2 _ changes r.is) (subst (λ (y : SemaphoreEntry). cores.held_of y.core ≡ cores.held_of e.core) r.is held) (omega (arith, l, count)) room in
+              let with = plays_end_granted st st' a.registered (a.registered - left) sp' a.outbox.spare a.next i x.semaphore d e k less low
+              (home_there m) f d x refl (future_there m) futures_now refl n same granted (granted_live m d n same granted) allowed
+              (semaphores_of a.semaphores.entries ss' x.semaphore e2 _ changes r.is)
+              (subst (λ (y : SemaphoreEntry). cores.held_of y.core ≡ cores.held_of e.core) r.is held) (omega (arith, l, count)) room in
               finish with r.moved (ap (λ o. (end_of h f o).reply) (seen_as m Granted (granted_stage m d n same granted))))
           | inr still ↦ (
               let r = z.1 still.0 still.1 in
@@ -234,13 +267,22 @@ module _ {a : Inside} {v : Play} {i f : ℕ} {x : FutureEntry} {e : SemaphoreEnt
               let count = r.count in
               let u = waiting_as m d n still.0 same still.1 in
               let part = paid_part m (at_stage x (Waiting u.0)) u.1 refl in
-              let e1 : SemaphoreEntry = record e { core = record e.core { live = e.core.live - (d - still.0); queue = without_acquire e.core.queue n }; plain = e.plain - cond x.plain 1 0 } in
+              let e1 : SemaphoreEntry = record e {
+                core = record e.core {
+                  live = e.core.live - (d - still.0);
+                  queue = without_acquire e.core.queue n;
+                };
+                plain = e.plain - cond x.plain 1 0;
+              } in
               let lack : lack_of (queue_at h x.semaphore) f ≡ still.0 =
               ap (λ (y : Semaphore). lack_of y.queue f) (seen_at st a.next x.semaphore e k.linked (home_there m))
-              ∙ lack_left st (between st st' x.semaphore e1) a.next i x.semaphore f n d still.0 x e e1 k.linked less (home_there m) (between_at st st' x.semaphore e1) (future_there m) futures_now refl same still.1 refl refl in
+              ∙ lack_left st (between st st' x.semaphore e1) a.next i x.semaphore f n d still.0 x e e1 k.linked less (home_there m)
+              (between_at st st' x.semaphore e1) (future_there m) futures_now refl same still.1 refl refl in
               let asked : demand_of x.acquire ≡ d = ap demand_of same in
               let within_live : d - still.0 ≤ e.core.live = omega (arith, part, lack, asked) in
-              let with = plays_end_waiting st st' a.registered (a.registered - left) sp' a.outbox.spare a.next i x.semaphore d e k less low (home_there m) f d x refl (future_there m) futures_now refl n still.0 same still.1 within_live allowed
-              (semaphores_of a.semaphores.entries ss' x.semaphore e2 _ changes r.is) (subst (λ (y : SemaphoreEntry). cores.held_of y.core ≡ cores.held_of e.core) r.is held) (omega (arith, l, count)) room in
+              let with = plays_end_waiting st st' a.registered (a.registered - left) sp' a.outbox.spare a.next i x.semaphore d e k less low
+              (home_there m) f d x refl (future_there m) futures_now refl n still.0 same still.1 within_live allowed
+              (semaphores_of a.semaphores.entries ss' x.semaphore e2 _ changes r.is)
+              (subst (λ (y : SemaphoreEntry). cores.held_of y.core ≡ cores.held_of e.core) r.is held) (omega (arith, l, count)) room in
               finish with r.moved (ap (λ o. (end_of h f o).reply) u.1))
         ]

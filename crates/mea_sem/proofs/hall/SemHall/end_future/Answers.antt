@@ -20,7 +20,8 @@ unreachable-requires c = end_found c.self.inside c.args.f c.self.view_is c.requi
 
 pub unreachable-requires-in_default-get_mut : goal.unreachable-requires-in_default-get_mut
 unreachable-requires-in_default-get_mut c =
-    semaphore_found c.self.inside c.args.f c.self.invariant (sym c.remove.ensures.value ∙ c.in-Some.is) (sym c.get_mut.ensures.value ∙ ap option_copied_mut c.in_default-get_mut.is)
+    semaphore_found c.self.inside c.args.f c.self.invariant (sym c.remove.ensures.value ∙ c.in-Some.is)
+    (sym c.get_mut.ensures.value ∙ ap option_copied_mut c.in_default-get_mut.is)
 
 pub end-requires-clause-belongs : goal.end-requires-clause-belongs
 end-requires-clause-belongs c = (its_belongs (met (goal.at.end-requires-clause-belongs c).In-Some-get_mut)).0
@@ -42,10 +43,12 @@ overflow_sub-self c = left_within (met (goal.at.overflow_sub-self c).In-Some-get
 
 pub invariant_of-self : goal.invariant_of-self
 invariant_of-self c =
-    (end_done (met (goal.at.invariant_of-self c).In-Some-get_mut) c.end.new.self c.end.new.outbox.wakers c.end.result c.end.ensures.ends c.requires.there _ _ c.end.new.outbox.spare
+    (end_done (met (goal.at.invariant_of-self c).In-Some-get_mut)
+    c.end.new.self c.end.new.outbox.wakers c.end.result c.end.ensures.ends c.requires.there _ _ c.end.new.outbox.spare
     c.in-Some.ensures.updates.0 ((c.get_mut.follows.holds c.end.new.self).3 (search rules)).0 c.end.ensures.spare c.end.ensures.held).kept
 
 pub returns : goal.returns
 returns c =
-    (end_done (met (goal.at.returns c).In-Some-get_mut) c.end.new.self c.end.new.outbox.wakers c.end.result c.end.ensures.ends c.requires.there _ _ c.end.new.outbox.spare
+    (end_done (met (goal.at.returns c).In-Some-get_mut)
+    c.end.new.self c.end.new.outbox.wakers c.end.result c.end.ensures.ends c.requires.there _ _ c.end.new.outbox.spare
     c.in-Some.ensures.updates.0 ((c.get_mut.follows.holds c.end.new.self).3 (search rules)).0 c.end.ensures.spare c.end.ensures.held).yields

@@ -13,10 +13,16 @@ met c = record {
 }
 
 pub unreachable-requires : goal.unreachable-requires
-unreachable-requires c = never_gone c.self.inside c.args.s _ c.self.view_is c.requires.allowed (sym c.get_mut.ensures.value ∙ ap option_copied_mut c.in_default.is)
+unreachable-requires c =
+    never_gone c.self.inside c.args.s _ c.self.view_is c.requires.allowed
+    (sym c.get_mut.ensures.value ∙ ap option_copied_mut c.in_default.is)
 
 pub invariant_of-self : goal.invariant_of-self
-invariant_of-self c = (done_endsem (met (goal.at.invariant_of-self c).In-Some) _ _ ((c.get_mut.follows.holds (record c.in-Some.entry.now { named = false })).3 (search rules)).0 c.requires.allowed refl).kept
+invariant_of-self c =
+    (done_endsem (met (goal.at.invariant_of-self c).In-Some) _ _
+    ((c.get_mut.follows.holds (record c.in-Some.entry.now { named = false })).3 (search rules)).0 c.requires.allowed refl).kept
 
 pub returns : goal.returns
-returns c = (done_endsem (met (goal.at.returns c).In-Some) _ _ ((c.get_mut.follows.holds (record c.in-Some.entry.now { named = false })).3 (search rules)).0 c.requires.allowed refl).yields
+returns c =
+    (done_endsem (met (goal.at.returns c).In-Some) _ _
+    ((c.get_mut.follows.holds (record c.in-Some.entry.now { named = false })).3 (search rules)).0 c.requires.allowed refl).yields

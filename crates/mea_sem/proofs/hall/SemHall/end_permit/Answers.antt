@@ -15,10 +15,14 @@ met c = record {
 }
 
 pub unreachable-requires : goal.unreachable-requires
-unreachable-requires c = ended_found c.self.inside c.args.p c.self.view_is c.requires.allowed c.requires.no_future (sym c.remove.ensures.value ∙ c.in_default.is)
+unreachable-requires c =
+    ended_found c.self.inside c.args.p c.self.view_is c.requires.allowed c.requires.no_future
+    (sym c.remove.ensures.value ∙ c.in_default.is)
 
 pub unreachable-requires-in_default-get_mut : goal.unreachable-requires-in_default-get_mut
-unreachable-requires-in_default-get_mut c = home_found c.self.inside c.args.p c.self.invariant (sym c.remove.ensures.value ∙ c.in-Some.is) (sym c.get_mut.ensures.value ∙ ap option_copied_mut c.in_default-get_mut.is)
+unreachable-requires-in_default-get_mut c =
+    home_found c.self.inside c.args.p c.self.invariant (sym c.remove.ensures.value ∙ c.in-Some.is)
+    (sym c.get_mut.ensures.value ∙ ap option_copied_mut c.in_default-get_mut.is)
 
 pub give_back-requires-clause-held : goal.give_back-requires-clause-held
 give_back-requires-clause-held c = permit_held (met (goal.at.give_back-requires-clause-held c).In-Some-get_mut)
@@ -33,14 +37,23 @@ pub give_back-requires-clause-room : goal.give_back-requires-clause-room
 give_back-requires-clause-room c = wakers_fit (permits_semaphore (met (goal.at.give_back-requires-clause-room c).In-Some-get_mut)) c.in-Some.permit.size
 
 pub overflow_sub-self : goal.overflow_sub-self
-overflow_sub-self c = omega (arith, wakers_few (permits_semaphore (met (goal.at.overflow_sub-self c).In-Some-get_mut)) c.in-Some.permit.size, c.give_back.ensures.count)
+overflow_sub-self c = omega (
+  arith,
+  wakers_few (permits_semaphore (met (goal.at.overflow_sub-self c).In-Some-get_mut))
+      c.in-Some.permit.size,
+  c.give_back.ensures.count,
+)
 
 pub invariant_of-self : goal.invariant_of-self
-invariant_of-self c = (ended (met (goal.at.invariant_of-self c).In-Some-get_mut) _ _ c.give_back.result c.give_back.new.outbox.spare c.give_back.new.self c.give_back.new.outbox.wakers c.requires.allowed c.requires.no_future
+invariant_of-self c =
+    (ended (met (goal.at.invariant_of-self c).In-Some-get_mut)
+    _ _ c.give_back.result c.give_back.new.outbox.spare c.give_back.new.self c.give_back.new.outbox.wakers c.requires.allowed c.requires.no_future
     c.give_back.ensures.is c.give_back.ensures.held ((c.get_mut.follows.holds c.give_back.new.self).3 (search rules)).0 c.remove.ensures.updates.0
     c.give_back.ensures.count c.give_back.ensures.moved c.give_back.ensures.spare).kept
 
 pub returns : goal.returns
-returns c = (ended (met (goal.at.returns c).In-Some-get_mut) _ _ c.give_back.result c.give_back.new.outbox.spare c.give_back.new.self c.give_back.new.outbox.wakers c.requires.allowed c.requires.no_future
+returns c =
+    (ended (met (goal.at.returns c).In-Some-get_mut)
+    _ _ c.give_back.result c.give_back.new.outbox.spare c.give_back.new.self c.give_back.new.outbox.wakers c.requires.allowed c.requires.no_future
     c.give_back.ensures.is c.give_back.ensures.held ((c.get_mut.follows.holds c.give_back.new.self).3 (search rules)).0 c.remove.ensures.updates.0
     c.give_back.ensures.count c.give_back.ensures.moved c.give_back.ensures.spare).yields

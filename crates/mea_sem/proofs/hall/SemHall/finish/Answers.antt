@@ -26,7 +26,8 @@ invariant_of-self c = kept_as_permits c.self.inside c.self.invariant c.in-Err.en
 
 pub unreachable-requires-in_default-get_mut : goal.unreachable-requires-in_default-get_mut
 unreachable-requires-in_default-get_mut c =
-    semaphore_found c.self.inside c.args.f c.self.invariant (sym c.remove.ensures.value ∙ c.in-Some-remove.is) (sym c.get_mut.ensures.value ∙ ap option_copied_mut c.in_default-get_mut.is)
+    semaphore_found c.self.inside c.args.f c.self.invariant (sym c.remove.ensures.value ∙ c.in-Some-remove.is)
+    (sym c.get_mut.ensures.value ∙ ap option_copied_mut c.in_default-get_mut.is)
 
 pub finish-requires : goal.finish-requires
 finish-requires c = ready_from (met (goal.at.finish-requires c).In-Some-get_mut) c.args.waker c.requires.ready
@@ -34,11 +35,13 @@ finish-requires c = ready_from (met (goal.at.finish-requires c).In-Some-get_mut)
 pub invariant_of-self-2 : goal.invariant_of-self-2
 invariant_of-self-2 c =
     let w = (goal.at.invariant_of-self-2 c).In-Some-get_mut in
-    (kept_done (met w) c.args.waker c.requires.allowed c.requires.ready _ _ c.finish.new.self c.in-Some-remove.ensures.updates.0 ((c.get_mut.follows.holds c.finish.new.self).3 (search rules)).0
+    (kept_done (met w) c.args.waker c.requires.allowed c.requires.ready _ _ c.finish.new.self c.in-Some-remove.ensures.updates.0
+    ((c.get_mut.follows.holds c.finish.new.self).3 (search rules)).0
     c.requires.keeps _ c.permit-permit.result c.in-Ok.ensures.updates.0 (permit w) c.finish.ensures.is c.finish.ensures.held).kept
 
 pub returns-clause-played : goal.returns-clause-played
 returns-clause-played c =
     let w = (goal.at.returns-clause-played c).In-Some-get_mut in
-    (kept_done (met w) c.args.waker c.requires.allowed c.requires.ready _ _ c.finish.new.self c.in-Some-remove.ensures.updates.0 ((c.get_mut.follows.holds c.finish.new.self).3 (search rules)).0
+    (kept_done (met w) c.args.waker c.requires.allowed c.requires.ready _ _ c.finish.new.self c.in-Some-remove.ensures.updates.0
+    ((c.get_mut.follows.holds c.finish.new.self).3 (search rules)).0
     c.requires.keeps _ c.permit-permit.result c.in-Ok.ensures.updates.0 (permit w) c.finish.ensures.is c.finish.ensures.held).yields

@@ -18,7 +18,8 @@ unreachable-requires c = polled_found c.self.inside c.args.f c.self.view_is c.re
 
 pub unreachable-requires-in_default-get_mut : goal.unreachable-requires-in_default-get_mut
 unreachable-requires-in_default-get_mut c =
-    semaphore_found c.self.inside c.args.f c.self.invariant (sym c.remove.ensures.value ∙ c.in-Some.is) (sym c.get_mut.ensures.value ∙ ap option_copied_mut c.in_default-get_mut.is)
+    semaphore_found c.self.inside c.args.f c.self.invariant (sym c.remove.ensures.value ∙ c.in-Some.is)
+    (sym c.get_mut.ensures.value ∙ ap option_copied_mut c.in_default-get_mut.is)
 
 pub finish_forgetting-requires-clause-ready : goal.finish_forgetting-requires-clause-ready
 finish_forgetting-requires-clause-ready c = ready_from (met (goal.at.finish_forgetting-requires-clause-ready c).In-Some-get_mut) c.args.waker c.requires.ready

@@ -13,15 +13,23 @@ met c = record {
 }
 
 pub unreachable-requires : goal.unreachable-requires
-unreachable-requires c = never_gone c.self.inside c.args.s _ c.self.view_is c.requires.allowed (sym c.get_mut.ensures.value ∙ ap option_copied_mut c.in_default.is)
+unreachable-requires c =
+    never_gone c.self.inside c.args.s _ c.self.view_is c.requires.allowed
+    (sym c.get_mut.ensures.value ∙ ap option_copied_mut c.in_default.is)
 
 pub forget-forgotten-requires : goal.forget-forgotten-requires
 forget-forgotten-requires c = small_forgotten (met (goal.at.forget-forgotten-requires c).In-Some) c.args.n (omega arith)
 
 pub invariant_of-self : goal.invariant_of-self
-invariant_of-self c = (done_forget (met (goal.at.invariant_of-self c).In-Some) _ c.forget-forgotten.new.self ((c.get_mut.follows.holds c.forget-forgotten.new.self).3 (search rules)).0
-    c.args.n c.forget-forgotten.result (omega arith) c.requires.allowed c.forget-forgotten.ensures.is c.forget-forgotten.ensures.held c.forget-forgotten.ensures.taken (omega arith)).kept
+invariant_of-self c =
+    (done_forget (met (goal.at.invariant_of-self c).In-Some) _ c.forget-forgotten.new.self
+    ((c.get_mut.follows.holds c.forget-forgotten.new.self).3 (search rules)).0
+    c.args.n c.forget-forgotten.result (omega arith)
+    c.requires.allowed c.forget-forgotten.ensures.is c.forget-forgotten.ensures.held c.forget-forgotten.ensures.taken (omega arith)).kept
 
 pub returns : goal.returns
-returns c = (done_forget (met (goal.at.returns c).In-Some) _ c.forget-forgotten.new.self ((c.get_mut.follows.holds c.forget-forgotten.new.self).3 (search rules)).0
-    c.args.n c.forget-forgotten.result (omega arith) c.requires.allowed c.forget-forgotten.ensures.is c.forget-forgotten.ensures.held c.forget-forgotten.ensures.taken (omega arith)).yields
+returns c =
+    (done_forget (met (goal.at.returns c).In-Some) _ c.forget-forgotten.new.self
+    ((c.get_mut.follows.holds c.forget-forgotten.new.self).3 (search rules)).0
+    c.args.n c.forget-forgotten.result (omega arith)
+    c.requires.allowed c.forget-forgotten.ensures.is c.forget-forgotten.ensures.held c.forget-forgotten.ensures.taken (omega arith)).yields

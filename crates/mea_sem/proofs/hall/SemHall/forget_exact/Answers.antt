@@ -13,23 +13,31 @@ met c = record {
 }
 
 pub unreachable-requires : goal.unreachable-requires
-unreachable-requires c = never_gone c.self.inside c.args.s _ c.self.view_is c.requires.allowed (sym c.get_mut.ensures.value ∙ ap option_copied_mut c.in_default.is)
+unreachable-requires c =
+    never_gone c.self.inside c.args.s _ c.self.view_is c.requires.allowed
+    (sym c.get_mut.ensures.value ∙ ap option_copied_mut c.in_default.is)
 
 pub forget_exact-requires : goal.forget_exact-requires
 forget_exact-requires c = small_forgotten (met (goal.at.forget_exact-requires c).In-Some) c.args.n (omega arith)
 
 pub invariant_of-self : goal.invariant_of-self
 invariant_of-self c =
-    kept_unchanged (met (goal.at.invariant_of-self c).In-Some) _ c.forget_exact.new.self ((c.get_mut.follows.holds c.forget_exact.new.self).3 (search rules)).0 c.in-Err.ensures.err _ c.self.invariant.room
+    kept_unchanged (met (goal.at.invariant_of-self c).In-Some) _ c.forget_exact.new.self
+    ((c.get_mut.follows.holds c.forget_exact.new.self).3 (search rules)).0 c.in-Err.ensures.err _ c.self.invariant.room
 
 pub returns-in-Err-clause-err : goal.returns-in-Err-clause-err
 returns-in-Err-clause-err c =
-    seen_unchanged (met (goal.at.returns-in-Err-clause-err c).In-Some) _ c.forget_exact.new.self ((c.get_mut.follows.holds c.forget_exact.new.self).3 (search rules)).0 c.in-Err.ensures.err _ refl
+    seen_unchanged (met (goal.at.returns-in-Err-clause-err c).In-Some) _ c.forget_exact.new.self
+    ((c.get_mut.follows.holds c.forget_exact.new.self).3 (search rules)).0 c.in-Err.ensures.err _ refl
 
 pub invariant_of-self-in-Ok : goal.invariant_of-self-in-Ok
-invariant_of-self-in-Ok c = (done_forgetx (met (goal.at.invariant_of-self-in-Ok c).In-Some) _ c.forget_exact.new.self ((c.get_mut.follows.holds c.forget_exact.new.self).3 (search rules)).0
+invariant_of-self-in-Ok c =
+    (done_forgetx (met (goal.at.invariant_of-self-in-Ok c).In-Some) _ c.forget_exact.new.self
+    ((c.get_mut.follows.holds c.forget_exact.new.self).3 (search rules)).0
     c.args.n (omega arith) c.requires.allowed c.in-Ok.ensures.is c.forget_exact.ensures.held c.forget_exact.ensures.within).kept
 
 pub returns-in-Ok-clause-played : goal.returns-in-Ok-clause-played
-returns-in-Ok-clause-played c = (done_forgetx (met (goal.at.returns-in-Ok-clause-played c).In-Some) _ c.forget_exact.new.self ((c.get_mut.follows.holds c.forget_exact.new.self).3 (search rules)).0
+returns-in-Ok-clause-played c =
+    (done_forgetx (met (goal.at.returns-in-Ok-clause-played c).In-Some) _ c.forget_exact.new.self
+    ((c.get_mut.follows.holds c.forget_exact.new.self).3 (search rules)).0
     c.args.n (omega arith) c.requires.allowed c.in-Ok.ensures.is c.forget_exact.ensures.held c.forget_exact.ensures.within).yields

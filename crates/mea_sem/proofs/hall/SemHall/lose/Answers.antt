@@ -17,7 +17,9 @@ pub unreachable-requires : goal.unreachable-requires
 unreachable-requires c = permit_found c.self.inside c.args.p c.self.view_is c.requires.allowed (sym c.remove.ensures.value ∙ c.in_default.is)
 
 pub unreachable-requires-in_default-get_mut : goal.unreachable-requires-in_default-get_mut
-unreachable-requires-in_default-get_mut c = home_found c.self.inside c.args.p c.self.invariant (sym c.remove.ensures.value ∙ c.in-Some.is) (sym c.get_mut.ensures.value ∙ ap option_copied_mut c.in_default-get_mut.is)
+unreachable-requires-in_default-get_mut c =
+    home_found c.self.inside c.args.p c.self.invariant (sym c.remove.ensures.value ∙ c.in-Some.is)
+    (sym c.get_mut.ensures.value ∙ ap option_copied_mut c.in_default-get_mut.is)
 
 pub lose-requires-clause-held : goal.lose-requires-clause-held
 lose-requires-clause-held c = permit_held (met (goal.at.lose-requires-clause-held c).In-Some-get_mut)
@@ -29,9 +31,11 @@ pub lose-requires-clause-tally : goal.lose-requires-clause-tally
 lose-requires-clause-tally c = tally_fits (met (goal.at.lose-requires-clause-tally c).In-Some-get_mut)
 
 pub invariant_of-self : goal.invariant_of-self
-invariant_of-self c = (lost (met (goal.at.invariant_of-self c).In-Some-get_mut) _ _ c.lose.new.self c.requires.allowed c.lose.ensures.is c.lose.ensures.held
+invariant_of-self c =
+    (lost (met (goal.at.invariant_of-self c).In-Some-get_mut) _ _ c.lose.new.self c.requires.allowed c.lose.ensures.is c.lose.ensures.held
     ((c.get_mut.follows.holds c.lose.new.self).3 (search rules)).0 c.remove.ensures.updates.0).kept
 
 pub returns : goal.returns
-returns c = (lost (met (goal.at.returns c).In-Some-get_mut) _ _ c.lose.new.self c.requires.allowed c.lose.ensures.is c.lose.ensures.held
+returns c =
+    (lost (met (goal.at.returns c).In-Some-get_mut) _ _ c.lose.new.self c.requires.allowed c.lose.ensures.is c.lose.ensures.held
     ((c.get_mut.follows.holds c.lose.new.self).3 (search rules)).0 c.remove.ensures.updates.0).yields

@@ -1,5 +1,6 @@
 use Rattle.std.proofs.Common.{rules, ◌+◌, sym, ap, ◌∙◌, arith}
 use Rattle.std.specs.Option.{option_copied_mut}
+use Rattle.mea_sem.specs.declared.entries.PermitEntry.{PermitEntry}
 use Rattle.mea_sem.proofs.Meets.{Meets, MeetsPermit}
 use Rattle.mea_sem.proofs.StandingPermits.{other_found, first_found, home_found, sizes_fit, permit_counted, merged}
 use Rattle.mea_sem.proofs.hall.SemHall.merge.Goals as goal
@@ -21,19 +22,22 @@ unreachable-requires c = other_found c.self.inside c.self.view_is c.args.p c.arg
 
 pub unreachable-requires-in_default-get_mut : goal.unreachable-requires-in_default-get_mut
 unreachable-requires-in_default-get_mut c =
-    first_found c.self.inside c.self.view_is c.args.p c.args.q c.requires.allowed _ c.remove.ensures.updates.0 (sym c.get_mut.ensures.value ∙ ap option_copied_mut c.in_default-get_mut.is)
+    first_found c.self.inside c.self.view_is c.args.p c.args.q c.requires.allowed _ c.remove.ensures.updates.0
+    (sym c.get_mut.ensures.value ∙ ap option_copied_mut c.in_default-get_mut.is)
 
 pub overflow_add-permit : goal.overflow_add-permit
 overflow_add-permit c =
     omega (
       arith,
       sizes_fit (entered (goal.at.overflow_add-permit c).In-Some) c.args.p c.args.q c.requires.allowed _ c.remove.ensures.updates.0
-          c.in-Some-get_mut.permit.now c.in-Some.other (sym c.get_mut.ensures.value ∙ ap option_copied_mut c.in-Some-get_mut.is) (sym c.remove.ensures.value ∙ c.in-Some.is),
+          c.in-Some-get_mut.permit.now c.in-Some.other (sym c.get_mut.ensures.value ∙ ap option_copied_mut c.in-Some-get_mut.is)
+          (sym c.remove.ensures.value ∙ c.in-Some.is),
     )
 
 pub unreachable-requires-in_default-get_mut-2 : goal.unreachable-requires-in_default-get_mut-2
 unreachable-requires-in_default-get_mut-2 c =
-    home_found c.self.inside c.args.q c.self.invariant (sym c.remove.ensures.value ∙ c.in-Some.is) (sym c.get_mut-2.ensures.value ∙ ap option_copied_mut c.in_default-get_mut-2.is)
+    home_found c.self.inside c.args.q c.self.invariant (sym c.remove.ensures.value ∙ c.in-Some.is)
+    (sym c.get_mut-2.ensures.value ∙ ap option_copied_mut c.in_default-get_mut-2.is)
 
 pub discount-requires : goal.discount-requires
 discount-requires c = permit_counted (met (goal.at.discount-requires c).In-Some-get_mut-2)
@@ -41,15 +45,19 @@ discount-requires c = permit_counted (met (goal.at.discount-requires c).In-Some-
 pub invariant_of-self : goal.invariant_of-self
 invariant_of-self c =
     let w = (goal.at.invariant_of-self c).In-Some-get_mut-2 in
+    let grown : PermitEntry = record c.in-Some-get_mut.permit.now { size = c.in-Some-get_mut.permit.now.size + c.in-Some.other.size } in
     (merged (met w).meets c.args.p c.args.q c.requires.allowed _ c.remove.ensures.updates.0 c.in-Some-get_mut.permit.now c.in-Some.other
-    (sym c.get_mut.ensures.value ∙ ap option_copied_mut c.in-Some-get_mut.is) (sym c.remove.ensures.value ∙ c.in-Some.is) _ _ c.in-Some-get_mut-2.entry.now c.discount.new.self
-    (met w).there c.discount.ensures ((c.get_mut-2.follows.holds c.discount.new.self).3 (search rules)).0
-    ((c.get_mut.follows.holds (record c.in-Some-get_mut.permit.now { size = c.in-Some-get_mut.permit.now.size + c.in-Some.other.size })).3 (search rules)).0).kept
+    (sym c.get_mut.ensures.value ∙ ap option_copied_mut c.in-Some-get_mut.is) (sym c.remove.ensures.value ∙ c.in-Some.is)
+    _ _ c.in-Some-get_mut-2.entry.now c.discount.new.self (met w).there
+    c.discount.ensures ((c.get_mut-2.follows.holds c.discount.new.self).3 (search rules)).0
+    ((c.get_mut.follows.holds grown).3 (search rules)).0).kept
 
 pub returns : goal.returns
 returns c =
     let w = (goal.at.returns c).In-Some-get_mut-2 in
+    let grown : PermitEntry = record c.in-Some-get_mut.permit.now { size = c.in-Some-get_mut.permit.now.size + c.in-Some.other.size } in
     (merged (met w).meets c.args.p c.args.q c.requires.allowed _ c.remove.ensures.updates.0 c.in-Some-get_mut.permit.now c.in-Some.other
-    (sym c.get_mut.ensures.value ∙ ap option_copied_mut c.in-Some-get_mut.is) (sym c.remove.ensures.value ∙ c.in-Some.is) _ _ c.in-Some-get_mut-2.entry.now c.discount.new.self
-    (met w).there c.discount.ensures ((c.get_mut-2.follows.holds c.discount.new.self).3 (search rules)).0
-    ((c.get_mut.follows.holds (record c.in-Some-get_mut.permit.now { size = c.in-Some-get_mut.permit.now.size + c.in-Some.other.size })).3 (search rules)).0).yields
+    (sym c.get_mut.ensures.value ∙ ap option_copied_mut c.in-Some-get_mut.is) (sym c.remove.ensures.value ∙ c.in-Some.is)
+    _ _ c.in-Some-get_mut-2.entry.now c.discount.new.self (met w).there
+    c.discount.ensures ((c.get_mut-2.follows.holds c.discount.new.self).3 (search rules)).0
+    ((c.get_mut.follows.holds grown).3 (search rules)).0).yields

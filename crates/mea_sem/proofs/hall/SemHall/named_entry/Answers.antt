@@ -8,16 +8,26 @@ returns-in_err-entry-clause-named c =
     ap is_some c.from_residual.ensures ∙ sym (named-none c.self.inside c.self.view_is c.args.s (sym c.get.ensures.value ∙ ap option_copied c.in_err-entry.was))
 
 pub returns-then-entry-clause-named : goal.returns-then-entry-clause-named
-returns-then-entry-clause-named c = sym (named-some c.self.inside c.self.view_is c.args.s c.in_ok-entry.entry.now (sym c.get.ensures.value ∙ ap option_copied c.in_ok-entry.was) ∙ c.if-entry.true)
+returns-then-entry-clause-named c =
+    sym
+    (named-some c.self.inside c.self.view_is c.args.s c.in_ok-entry.entry.now (sym c.get.ensures.value ∙ ap option_copied c.in_ok-entry.was) ∙ c.if-entry.true)
 
 pub returns-else-entry-clause-named : goal.returns-else-entry-clause-named
-returns-else-entry-clause-named c = sym (named-some c.self.inside c.self.view_is c.args.s c.in_ok-entry.entry.now (sym c.get.ensures.value ∙ ap option_copied c.in_ok-entry.was) ∙ c.if-entry.false)
+returns-else-entry-clause-named c =
+    sym
+    (named-some c.self.inside c.self.view_is c.args.s c.in_ok-entry.entry.now (sym c.get.ensures.value ∙ ap option_copied c.in_ok-entry.was) ∙ c.if-entry.false)
 
 pub returns-then-entry-clause-live : goal.returns-then-entry-clause-live
-returns-then-entry-clause-live c = live_as c.self.inside c.self.view_is c.self.invariant c.args.s c.in_ok-entry.entry.now (sym c.get.ensures.value ∙ ap option_copied c.in_ok-entry.was)
+returns-then-entry-clause-live c =
+    live_as c.self.inside c.self.view_is c.self.invariant c.args.s c.in_ok-entry.entry.now
+    (sym c.get.ensures.value ∙ ap option_copied c.in_ok-entry.was)
 
 pub returns-then-entry-clause-plain : goal.returns-then-entry-clause-plain
-returns-then-entry-clause-plain c = plain_as c.self.inside c.self.view_is c.self.invariant c.args.s c.in_ok-entry.entry.now (sym c.get.ensures.value ∙ ap option_copied c.in_ok-entry.was)
+returns-then-entry-clause-plain c =
+    plain_as c.self.inside c.self.view_is c.self.invariant c.args.s c.in_ok-entry.entry.now
+    (sym c.get.ensures.value ∙ ap option_copied c.in_ok-entry.was)
 
 pub returns-then-entry-clause-stands : goal.returns-then-entry-clause-stands
-returns-then-entry-clause-stands c = stands_as c.self.inside c.self.view_is c.self.invariant c.args.s c.in_ok-entry.entry.now (sym c.get.ensures.value ∙ ap option_copied c.in_ok-entry.was)
+returns-then-entry-clause-stands c =
+    stands_as c.self.inside c.self.view_is c.self.invariant c.args.s c.in_ok-entry.entry.now
+    (sym c.get.ensures.value ∙ ap option_copied c.in_ok-entry.was)

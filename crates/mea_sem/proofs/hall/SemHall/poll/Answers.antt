@@ -19,7 +19,8 @@ unreachable-requires c = polled_found c.self.inside c.args.f c.self.view_is c.re
 
 pub unreachable-requires-in_default-get : goal.unreachable-requires-in_default-get
 unreachable-requires-in_default-get c =
-    semaphore_found c.self.inside c.args.f c.self.invariant (sym c.get.ensures.value ∙ ap option_copied c.in-Some.is) (sym c.get-2.ensures.value ∙ ap option_copied c.in_default-get.is)
+    semaphore_found c.self.inside c.args.f c.self.invariant (sym c.get.ensures.value ∙ ap option_copied c.in-Some.is)
+    (sym c.get-2.ensures.value ∙ ap option_copied c.in_default-get.is)
 
 pub is_ready-ready-requires : goal.is_ready-ready-requires
 is_ready-ready-requires c = (its_belongs (met (goal.at.is_ready-ready-requires c).In-Some-get)).0
@@ -32,13 +33,17 @@ pub finish_forgetting-requires-clause-forgets : goal.finish_forgetting-requires-
 finish_forgetting-requires-clause-forgets c = forgets_as (met (goal.at.finish_forgetting-requires-clause-forgets c).In-Some-get) true c.if-forgets.true
 
 pub finish-requires-clause-ready : goal.finish-requires-clause-ready
-finish-requires-clause-ready c = replies_ready (met (goal.at.finish-requires-clause-ready c).In-Some-get) c.args.waker (c.is_ready-ready.ensures.ready c.if-ready.true)
+finish-requires-clause-ready c =
+    replies_ready (met (goal.at.finish-requires-clause-ready c).In-Some-get) c.args.waker
+    (c.is_ready-ready.ensures.ready c.if-ready.true)
 
 pub finish-requires-clause-keeps : goal.finish-requires-clause-keeps
 finish-requires-clause-keeps c = forgets_as (met (goal.at.finish-requires-clause-keeps c).In-Some-get) false c.if-forgets.false
 
 pub queue-requires-clause-pending : goal.queue-requires-clause-pending
-queue-requires-clause-pending c = replies_pending (met (goal.at.queue-requires-clause-pending c).In-Some-get) c.args.waker (c.is_ready-ready.ensures.waits c.if-ready.false)
+queue-requires-clause-pending c =
+    replies_pending (met (goal.at.queue-requires-clause-pending c).In-Some-get) c.args.waker
+    (c.is_ready-ready.ensures.waits c.if-ready.false)
 
 pub queue-requires-clause-new : goal.queue-requires-clause-new
 queue-requires-clause-new c =
@@ -47,4 +52,5 @@ queue-requires-clause-new c =
 
 pub wait_on-requires-clause-waits : goal.wait_on-requires-clause-waits
 wait_on-requires-clause-waits c =
-    is_waiting_stage (met (goal.at.wait_on-requires-clause-waits c).In-Some-get) (c.is_new-new.ensures.polled c.if-new.false) (c.is_ready-ready.ensures.waits c.if-ready.false)
+    is_waiting_stage (met (goal.at.wait_on-requires-clause-waits c).In-Some-get) (c.is_new-new.ensures.polled c.if-new.false)
+    (c.is_ready-ready.ensures.waits c.if-ready.false)

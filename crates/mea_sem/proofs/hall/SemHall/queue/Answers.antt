@@ -29,39 +29,49 @@ unreachable-requires c = polled_found c.self.inside c.args.f c.self.view_is c.re
 
 pub unreachable-requires-in_default-get_mut : goal.unreachable-requires-in_default-get_mut
 unreachable-requires-in_default-get_mut c =
-    semaphore_found c.self.inside c.args.f c.self.invariant (sym c.get.ensures.value ∙ ap option_copied c.in-Some.is) (sym c.get_mut.ensures.value ∙ ap option_copied_mut c.in_default-get_mut.is)
+    semaphore_found c.self.inside c.args.f c.self.invariant (sym c.get.ensures.value ∙ ap option_copied c.in-Some.is)
+    (sym c.get_mut.ensures.value ∙ ap option_copied_mut c.in_default-get_mut.is)
 
 pub unreachable-requires-in_default-acquire : goal.unreachable-requires-in_default-acquire
 unreachable-requires-in_default-acquire c =
-    unpolled (entered (goal.at.unreachable-requires-in_default-acquire c).In-Some) c.args.f (sym c.get.ensures.value ∙ ap option_copied c.in-Some.is) c.in_default-acquire.not-New c.requires.new
+    unpolled (entered (goal.at.unreachable-requires-in_default-acquire c).In-Some) c.args.f (sym c.get.ensures.value ∙ ap option_copied c.in-Some.is)
+    c.in_default-acquire.not-New c.requires.new
 
 pub queue-requires : goal.queue-requires
 queue-requires c = lacks_from (met (goal.at.queue-requires c).In-Some-get_mut) c.args.waker c.in-New.demand c.in-New.is c.requires.pending
 
 pub invariant_of-self-in-Err-queue : goal.invariant_of-self-in-Err-queue
 invariant_of-self-in-Err-queue c =
-    kept_unchanged (its_semaphore (met (goal.at.invariant_of-self-in-Err-queue c).In-Some-get_mut)) _ c.queue.new.self ((c.get_mut.follows.holds c.queue.new.self).3 (search rules)).0
+    kept_unchanged (its_semaphore (met (goal.at.invariant_of-self-in-Err-queue c).In-Some-get_mut)) _ c.queue.new.self
+    ((c.get_mut.follows.holds c.queue.new.self).3 (search rules)).0
     c.in-Err-queue.ensures.err c.reserve.new.self.spare (search rules)
 
 pub returns-in-Err-queue-clause-err : goal.returns-in-Err-queue-clause-err
 returns-in-Err-queue-clause-err c =
-    seen_unchanged (its_semaphore (met (goal.at.returns-in-Err-queue-clause-err c).In-Some-get_mut)) _ c.queue.new.self ((c.get_mut.follows.holds c.queue.new.self).3 (search rules)).0
+    seen_unchanged (its_semaphore (met (goal.at.returns-in-Err-queue-clause-err c).In-Some-get_mut)) _ c.queue.new.self
+    ((c.get_mut.follows.holds c.queue.new.self).3 (search rules)).0
     c.in-Err-queue.ensures.err _ (ap (λ (o : Wakes ℕ). o.wakers) c.reserve.ensures.rest_kept)
 
 pub invariant_of-self-2 : goal.invariant_of-self-2
 invariant_of-self-2 c =
     let number = c.in-Ok-queue.ensures.queued in
     let found = same (goal.at.invariant_of-self-2 c).In-Some-get_mut-2 in
-    (queue_done (met (goal.at.invariant_of-self-2 c).In-Some-get_mut) c.args.waker c.in-New.demand number.0 c.in-Some-checked_add.registered c.reserve.new.self _ _ c.queue.new.self _
-    c.requires.allowed c.requires.pending (search rules) (ap (λ (o : Wakes ℕ). o.wakers) c.reserve.ensures.rest_kept) (search rules) c.in-New.is (λ j. record (found j) { acquire = number.2 j })
-    ((c.get_mut-2.follows.holds (record c.in-Some-get_mut-2.future.now { acquire = c.in-Ok-queue.acquire })).3 (search rules)).0 ((c.get_mut.follows.holds c.queue.new.self).3 (search rules)).0
+    (queue_done (met (goal.at.invariant_of-self-2 c).In-Some-get_mut)
+    c.args.waker c.in-New.demand number.0 c.in-Some-checked_add.registered c.reserve.new.self _ _ c.queue.new.self _
+    c.requires.allowed c.requires.pending (search rules) (ap (λ (o : Wakes ℕ). o.wakers) c.reserve.ensures.rest_kept) (search rules) c.in-New.is
+    (λ j. record (found j) { acquire = number.2 j })
+    ((c.get_mut-2.follows.holds (record c.in-Some-get_mut-2.future.now { acquire = c.in-Ok-queue.acquire })).3 (search rules)).0
+    ((c.get_mut.follows.holds c.queue.new.self).3 (search rules)).0
     number.1 c.in-Ok-queue.ensures.rest c.in-Ok-queue.ensures.held).kept
 
 pub returns-clause-played : goal.returns-clause-played
 returns-clause-played c =
     let number = c.in-Ok-queue.ensures.queued in
     let found = same (goal.at.returns-clause-played c).In-Some-get_mut-2 in
-    (queue_done (met (goal.at.returns-clause-played c).In-Some-get_mut) c.args.waker c.in-New.demand number.0 c.in-Some-checked_add.registered c.reserve.new.self _ _ c.queue.new.self _
-    c.requires.allowed c.requires.pending (search rules) (ap (λ (o : Wakes ℕ). o.wakers) c.reserve.ensures.rest_kept) (search rules) c.in-New.is (λ j. record (found j) { acquire = number.2 j })
-    ((c.get_mut-2.follows.holds (record c.in-Some-get_mut-2.future.now { acquire = c.in-Ok-queue.acquire })).3 (search rules)).0 ((c.get_mut.follows.holds c.queue.new.self).3 (search rules)).0
+    (queue_done (met (goal.at.returns-clause-played c).In-Some-get_mut)
+    c.args.waker c.in-New.demand number.0 c.in-Some-checked_add.registered c.reserve.new.self _ _ c.queue.new.self _
+    c.requires.allowed c.requires.pending (search rules) (ap (λ (o : Wakes ℕ). o.wakers) c.reserve.ensures.rest_kept) (search rules) c.in-New.is
+    (λ j. record (found j) { acquire = number.2 j })
+    ((c.get_mut-2.follows.holds (record c.in-Some-get_mut-2.future.now { acquire = c.in-Ok-queue.acquire })).3 (search rules)).0
+    ((c.get_mut.follows.holds c.queue.new.self).3 (search rules)).0
     number.1 c.in-Ok-queue.ensures.rest c.in-Ok-queue.ensures.held).yields

@@ -13,7 +13,9 @@ met c = record {
 }
 
 pub unreachable-requires : goal.unreachable-requires
-unreachable-requires c = never_gone c.self.inside c.args.s _ c.self.view_is c.requires.allowed (sym c.get_mut.ensures.value ∙ ap option_copied_mut c.in_default.is)
+unreachable-requires c =
+    never_gone c.self.inside c.args.s _ c.self.view_is c.requires.allowed
+    (sym c.get_mut.ensures.value ∙ ap option_copied_mut c.in_default.is)
 
 pub release-requires-clause-fits : goal.release-requires-clause-fits
 release-requires-clause-fits c = release_fits (met (goal.at.release-requires-clause-fits c).In-Some) c.args.n c.requires.allowed
@@ -31,11 +33,14 @@ pub overflow_sub-self : goal.overflow_sub-self
 overflow_sub-self c = omega (arith, wakers_few (met (goal.at.overflow_sub-self c).In-Some) c.args.n, c.release.ensures.count)
 
 pub invariant_of-self : goal.invariant_of-self
-invariant_of-self c = (done_release (met (goal.at.invariant_of-self c).In-Some) _ c.release.new.self ((c.get_mut.follows.holds c.release.new.self).3 (search rules)).0
+invariant_of-self c =
+    (done_release (met (goal.at.invariant_of-self c).In-Some) _ c.release.new.self
+    ((c.get_mut.follows.holds c.release.new.self).3 (search rules)).0
     c.args.n c.release.result c.release.new.outbox.spare c.release.new.outbox.wakers (omega arith) c.requires.allowed
     c.release.ensures.is c.release.ensures.held c.release.ensures.moved c.release.ensures.spare c.release.ensures.count).kept
 
 pub returns : goal.returns
-returns c = (done_release (met (goal.at.returns c).In-Some) _ c.release.new.self ((c.get_mut.follows.holds c.release.new.self).3 (search rules)).0
+returns c =
+    (done_release (met (goal.at.returns c).In-Some) _ c.release.new.self ((c.get_mut.follows.holds c.release.new.self).3 (search rules)).0
     c.args.n c.release.result c.release.new.outbox.spare c.release.new.outbox.wakers (omega arith) c.requires.allowed
     c.release.ensures.is c.release.ensures.held c.release.ensures.moved c.release.ensures.spare c.release.ensures.count).yields

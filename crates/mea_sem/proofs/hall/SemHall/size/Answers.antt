@@ -12,7 +12,9 @@ pub unreachable-requires : goal.unreachable-requires
 unreachable-requires c = permit_found c.self.inside c.args.p c.self.view_is c.requires.allowed (sym c.get.ensures.value ∙ ap option_copied c.in_default.is)
 
 pub invariant_of-self : goal.invariant_of-self
-invariant_of-self c = (sized (met (goal.at.invariant_of-self c).In-Some) c.args.p c.in-Some.permit.now (sym c.get.ensures.value ∙ ap option_copied c.in-Some.is)).kept
+invariant_of-self c =
+    (sized (met (goal.at.invariant_of-self c).In-Some) c.args.p c.in-Some.permit.now
+    (sym c.get.ensures.value ∙ ap option_copied c.in-Some.is)).kept
 
 pub returns : goal.returns
 returns c = (sized (met (goal.at.returns c).In-Some) c.args.p c.in-Some.permit.now (sym c.get.ensures.value ∙ ap option_copied c.in-Some.is)).yields

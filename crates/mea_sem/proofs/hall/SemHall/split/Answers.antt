@@ -18,14 +18,19 @@ met c = record {
 }
 
 pub unreachable-requires : goal.unreachable-requires
-unreachable-requires c = permit_found c.self.inside c.args.p c.self.view_is c.requires.allowed (sym c.get.ensures.value ∙ sym c.copied.ensures ∙ c.in_default.is)
+unreachable-requires c =
+    permit_found c.self.inside c.args.p c.self.view_is c.requires.allowed
+    (sym c.get.ensures.value ∙ sym c.copied.ensures ∙ c.in_default.is)
 
 pub invariant_of-self : goal.invariant_of-self
-invariant_of-self c = (too_small (entered (goal.at.invariant_of-self c).In-Some) c.args.p c.args.n c.in-Some.permit (sym c.get.ensures.value ∙ sym c.copied.ensures ∙ c.in-Some.is) c.if-n-permit.true).kept
+invariant_of-self c =
+    (too_small (entered (goal.at.invariant_of-self c).In-Some) c.args.p c.args.n c.in-Some.permit
+    (sym c.get.ensures.value ∙ sym c.copied.ensures ∙ c.in-Some.is) c.if-n-permit.true).kept
 
 pub returns-then-n-permit-clause-played : goal.returns-then-n-permit-clause-played
 returns-then-n-permit-clause-played c =
-    (too_small (entered (goal.at.returns-then-n-permit-clause-played c).In-Some) c.args.p c.args.n c.in-Some.permit (sym c.get.ensures.value ∙ sym c.copied.ensures ∙ c.in-Some.is) c.if-n-permit.true).yields
+    (too_small (entered (goal.at.returns-then-n-permit-clause-played c).In-Some) c.args.p c.args.n c.in-Some.permit
+    (sym c.get.ensures.value ∙ sym c.copied.ensures ∙ c.in-Some.is) c.if-n-permit.true).yields
 
 pub invariant_of-self-then-is_err : goal.invariant_of-self-then-is_err
 invariant_of-self-then-is_err c =
@@ -33,17 +38,26 @@ invariant_of-self-then-is_err c =
 
 pub unreachable-requires-in_default-get_mut-2 : goal.unreachable-requires-in_default-get_mut-2
 unreachable-requires-in_default-get_mut-2 c =
-    home_found c.self.inside c.args.p c.self.invariant (sym c.get.ensures.value ∙ sym c.copied.ensures ∙ c.in-Some.is) (sym c.get_mut-2.ensures.value ∙ ap option_copied_mut c.in_default-get_mut-2.is)
+    home_found c.self.inside c.args.p c.self.invariant (sym c.get.ensures.value ∙ sym c.copied.ensures ∙ c.in-Some.is)
+    (sym c.get_mut-2.ensures.value ∙ ap option_copied_mut c.in_default-get_mut-2.is)
 
 pub count-requires : goal.count-requires
 count-requires c = plain_fits (permits_semaphore (met (goal.at.count-requires c).In-Some-get_mut-2))
 
 pub invariant_of-self-2 : goal.invariant_of-self-2
-invariant_of-self-2 c = (halved (met (goal.at.invariant_of-self-2 c).In-Some-get_mut-2) _ _ _ c.args.n c.in-Some-get_mut.whole.now c.count.new.self c.requires.allowed (omega (arith, c.if-n-permit.false))
-    c.count.ensures ((c.get_mut-2.follows.holds c.count.new.self).3 (search rules)).0 (on_success _ c.insert.result (sym c.is_err.ensures.value ∙ c.if-is_err.false) c.insert.ensures.updates).0
-    (sym c.get_mut.ensures.value ∙ ap option_copied_mut c.in-Some-get_mut.is) ((c.get_mut.follows.holds (record c.in-Some-get_mut.whole.now { size = c.in-Some-get_mut.whole.now.size - c.args.n })).3 (search rules)).0).kept
+invariant_of-self-2 c =
+    (halved (met (goal.at.invariant_of-self-2 c).In-Some-get_mut-2)
+    _ _ _ c.args.n c.in-Some-get_mut.whole.now c.count.new.self c.requires.allowed (omega (arith, c.if-n-permit.false))
+    c.count.ensures ((c.get_mut-2.follows.holds c.count.new.self).3 (search rules)).0
+    (on_success _ c.insert.result (sym c.is_err.ensures.value ∙ c.if-is_err.false) c.insert.ensures.updates).0
+    (sym c.get_mut.ensures.value ∙ ap option_copied_mut c.in-Some-get_mut.is)
+    ((c.get_mut.follows.holds (record c.in-Some-get_mut.whole.now { size = c.in-Some-get_mut.whole.now.size - c.args.n })).3 (search rules)).0).kept
 
 pub returns-clause-played : goal.returns-clause-played
-returns-clause-played c = (halved (met (goal.at.returns-clause-played c).In-Some-get_mut-2) _ _ _ c.args.n c.in-Some-get_mut.whole.now c.count.new.self c.requires.allowed (omega (arith, c.if-n-permit.false))
-    c.count.ensures ((c.get_mut-2.follows.holds c.count.new.self).3 (search rules)).0 (on_success _ c.insert.result (sym c.is_err.ensures.value ∙ c.if-is_err.false) c.insert.ensures.updates).0
-    (sym c.get_mut.ensures.value ∙ ap option_copied_mut c.in-Some-get_mut.is) ((c.get_mut.follows.holds (record c.in-Some-get_mut.whole.now { size = c.in-Some-get_mut.whole.now.size - c.args.n })).3 (search rules)).0).yields
+returns-clause-played c =
+    (halved (met (goal.at.returns-clause-played c).In-Some-get_mut-2)
+    _ _ _ c.args.n c.in-Some-get_mut.whole.now c.count.new.self c.requires.allowed (omega (arith, c.if-n-permit.false))
+    c.count.ensures ((c.get_mut-2.follows.holds c.count.new.self).3 (search rules)).0
+    (on_success _ c.insert.result (sym c.is_err.ensures.value ∙ c.if-is_err.false) c.insert.ensures.updates).0
+    (sym c.get_mut.ensures.value ∙ ap option_copied_mut c.in-Some-get_mut.is)
+    ((c.get_mut.follows.holds (record c.in-Some-get_mut.whole.now { size = c.in-Some-get_mut.whole.now.size - c.args.n })).3 (search rules)).0).yields

@@ -13,21 +13,29 @@ met c = record {
 }
 
 pub unreachable-requires : goal.unreachable-requires
-unreachable-requires c = never_gone c.self.inside c.args.s _ c.self.view_is c.requires.allowed (sym c.get_mut.ensures.value ∙ ap option_copied_mut c.in_default.is)
+unreachable-requires c =
+    never_gone c.self.inside c.args.s _ c.self.view_is c.requires.allowed
+    (sym c.get_mut.ensures.value ∙ ap option_copied_mut c.in_default.is)
 
 pub invariant_of-self : goal.invariant_of-self
-invariant_of-self c = (done_lacking (met (goal.at.invariant_of-self c).In-Some) _ _ ((c.get_mut.follows.holds c.in-Some.entry.now).3 (search rules)).0 c.args.n refl (omega arith)).kept
+invariant_of-self c =
+    (done_lacking (met (goal.at.invariant_of-self c).In-Some) _ _
+    ((c.get_mut.follows.holds c.in-Some.entry.now).3 (search rules)).0 c.args.n refl (omega arith)).kept
 
 pub returns-then-n-available_permits : goal.returns-then-n-available_permits
-returns-then-n-available_permits c = (done_lacking (met (goal.at.returns-then-n-available_permits c).In-Some) _ _ ((c.get_mut.follows.holds c.in-Some.entry.now).3 (search rules)).0 c.args.n refl (omega arith)).yields
+returns-then-n-available_permits c =
+    (done_lacking (met (goal.at.returns-then-n-available_permits c).In-Some) _ _
+    ((c.get_mut.follows.holds c.in-Some.entry.now).3 (search rules)).0 c.args.n refl (omega arith)).yields
 
 pub forget-all-requires : goal.forget-all-requires
 forget-all-requires c = small_forgotten (met (goal.at.forget-all-requires c).In-Some) c.args.n (omega arith)
 
 pub invariant_of-self-2 : goal.invariant_of-self-2
-invariant_of-self-2 c = (done_tried (met (goal.at.invariant_of-self-2 c).In-Some) _ _ ((c.get_mut.follows.holds c.forget-all.new.self).3 (search rules)).0
+invariant_of-self-2 c =
+    (done_tried (met (goal.at.invariant_of-self-2 c).In-Some) _ _ ((c.get_mut.follows.holds c.forget-all.new.self).3 (search rules)).0
     c.args.n (omega arith) c.requires.allowed (omega arith) c.forget-all.ensures.is c.forget-all.ensures.held (omega arith)).kept
 
 pub returns : goal.returns
-returns c = (done_tried (met (goal.at.returns c).In-Some) _ _ ((c.get_mut.follows.holds c.forget-all.new.self).3 (search rules)).0
+returns c =
+    (done_tried (met (goal.at.returns c).In-Some) _ _ ((c.get_mut.follows.holds c.forget-all.new.self).3 (search rules)).0
     c.args.n (omega arith) c.requires.allowed (omega arith) c.forget-all.ensures.is c.forget-all.ensures.held (omega arith)).yields

@@ -19,7 +19,8 @@ unreachable-requires c = polled_found c.self.inside c.args.f c.self.view_is c.re
 
 pub unreachable-requires-in_default-get_mut : goal.unreachable-requires-in_default-get_mut
 unreachable-requires-in_default-get_mut c =
-    semaphore_found c.self.inside c.args.f c.self.invariant (sym c.get.ensures.value ∙ ap option_copied c.in-Some.is) (sym c.get_mut.ensures.value ∙ ap option_copied_mut c.in_default-get_mut.is)
+    semaphore_found c.self.inside c.args.f c.self.invariant (sym c.get.ensures.value ∙ ap option_copied c.in-Some.is)
+    (sym c.get_mut.ensures.value ∙ ap option_copied_mut c.in_default-get_mut.is)
 
 pub unreachable-requires-in_default-acquire : goal.unreachable-requires-in_default-acquire
 unreachable-requires-in_default-acquire c =
@@ -30,10 +31,12 @@ wait_on-requires c = waits_from (met (goal.at.wait_on-requires c).In-Some-get_mu
 
 pub invariant_of-self : goal.invariant_of-self
 invariant_of-self c =
-    (again_done (met (goal.at.invariant_of-self c).In-Some-get_mut) c.args.waker c.in-Queued.demand c.in-Queued.place _ c.wait_on.new.self c.requires.allowed c.requires.waits
+    (again_done (met (goal.at.invariant_of-self c).In-Some-get_mut)
+    c.args.waker c.in-Queued.demand c.in-Queued.place _ c.wait_on.new.self c.requires.allowed c.requires.waits
     c.in-Queued.is ((c.get_mut.follows.holds c.wait_on.new.self).3 (search rules)).0 c.wait_on.ensures.is c.wait_on.ensures.held).kept
 
 pub returns : goal.returns
 returns c =
-    (again_done (met (goal.at.returns c).In-Some-get_mut) c.args.waker c.in-Queued.demand c.in-Queued.place _ c.wait_on.new.self c.requires.allowed c.requires.waits
+    (again_done (met (goal.at.returns c).In-Some-get_mut)
+    c.args.waker c.in-Queued.demand c.in-Queued.place _ c.wait_on.new.self c.requires.allowed c.requires.waits
     c.in-Queued.is ((c.get_mut.follows.holds c.wait_on.new.self).3 (search rules)).0 c.wait_on.ensures.is c.wait_on.ensures.held).yields
