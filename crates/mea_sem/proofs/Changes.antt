@@ -32,14 +32,17 @@ pub record Changes (st st' : Store) (b b' s f : ℕ) (e e' : SemaphoreEntry) (o 
   pub kept : (d n : ℕ) → has s n o ≡ false → Belongs e.core (Queued d n) → Belongs e'.core (Queued d n)
   pub wakers : (n : ℕ) → has s n o ≡ false → has s n o' ≡ false → cores.waker_under e'.core.queue n ≡ cores.waker_under e.core.queue n
   -- who waits is the future, or waited before
-  pub waits : (n d l : ℕ) → cores.waiting e'.core.queue n ≡ Some (d, l) → ((x : FutureEntry) × (o' ≡ Some x) × (x.acquire ≡ Queued d n)) ⊎ ((has s n o ≡ false) × ((k : ℕ) × (cores.waiting e.core.queue n ≡ Some (d, k))))
+  pub waits : (n d l : ℕ) → cores.waiting e'.core.queue n ≡ Some (d, l)
+      → ((x : FutureEntry) × (o' ≡ Some x) × (x.acquire ≡ Queued d n)) ⊎ ((has s n o ≡ false) × ((k : ℕ) × (cores.waiting e.core.queue n ≡ Some (d, k))))
   -- what is granted was so before, and is not the future's
   pub grants : (n d : ℕ) → get e'.core.granted n ≡ Some d → (has s n o ≡ false) × (get e.core.granted n ≡ Some d)
   -- the future's number is nobody else's
-  pub alone : (g n : ℕ) (x y : FutureEntry) → o' ≡ Some x → (f ≡ g → ⊥) → get st.futures g ≡ Some y → y.semaphore ≡ s → is_under x.acquire n ≡ true → is_under y.acquire n ≡ true → ⊥
+  pub alone : (g n : ℕ) (x y : FutureEntry) → o' ≡ Some x → (f ≡ g → ⊥) → get st.futures g ≡ Some y → y.semaphore ≡ s → is_under x.acquire n ≡ true
+      → is_under y.acquire n ≡ true → ⊥
   pub numbered : IsNumbered e'.core
 
-module _ (st st' : Store) (b b' s f : ℕ) (e e' : SemaphoreEntry) (o o' : Option FutureEntry) (linked : IsLinked st b) (c : Changes st st' b b' s f e e' o o') where
+module _ (st st' : Store) (b b' s f : ℕ) (e e' : SemaphoreEntry) (o o' : Option FutureEntry) (linked : IsLinked st b)
+    (c : Changes st st' b b' s f e e' o o') where
   future_there : f ≡ f → get st'.futures f ≡ o'
   future_there same = c.futures f ∙ at_same f f o' (get st.futures f) same
 
@@ -68,7 +71,8 @@ module _ (st st' : Store) (b b' s f : ℕ) (e e' : SemaphoreEntry) (o o' : Optio
       by_test false h = h
       by_test true h = let x = has-parts s n o' h in absurd (c.alone g n x.0 y x.1 apart is mine x.3 under)
 
-  home_kept : (y : FutureEntry) (a : Acquire) → y.acquire ≡ a → ((n : ℕ) → is_under y.acquire n ≡ true → has s n o ≡ false) → Belongs e.core a → IsOpen a → Belongs e'.core a
+  home_kept : (y : FutureEntry) (a : Acquire) → y.acquire ≡ a → ((n : ℕ) → is_under y.acquire n ≡ true → has s n o ≡ false) → Belongs e.core a
+      → IsOpen a → Belongs e'.core a
   home_kept y (New d) is free belongs still = tt
   home_kept y (Queued d n) is free belongs still = c.kept d n (free n (under-queued y.acquire d n is)) belongs
   home_kept y (Done d) is free belongs still = tt
@@ -80,7 +84,13 @@ module _ (st st' : Store) (b b' s f : ℕ) (e e' : SemaphoreEntry) (o o' : Optio
       old = linked.home g y is
 
       by_test : (t : Bool) → (s == y.semaphore) ≡ t → IsHome st' y
-      by_test false h = record { entry = old.entry; there = semaphore_other y.semaphore (eqb-false s y.semaphore h) ∙ old.there; belongs = old.belongs; open_still = old.open_still }
+      by_test false h = record {
+        entry = old.entry;
+        there = semaphore_other y.semaphore (eqb-false s y.semaphore h)
+            ∙ old.there;
+        belongs = old.belongs;
+        open_still = old.open_still;
+      }
       by_test true h =
           let mine : s ≡ y.semaphore = eqb-true s y.semaphore h in
           let both : Some e ≡ Some old.entry = sym c.there ∙ ap (get st.semaphores) mine ∙ old.there in
@@ -88,7 +98,8 @@ module _ (st st' : Store) (b b' s f : ℕ) (e e' : SemaphoreEntry) (o o' : Optio
           record {
             entry = e';
             there = ap (get st'.semaphores) (sym mine) ∙ semaphore_there;
-            belongs = home_kept y y.acquire refl (λ n under. not_mine g n y apart is (sym mine) under) (subst (λ (d : SemaphoreEntry). Belongs d.core y.acquire) (sym same) old.belongs) old.open_still;
+            belongs = home_kept y y.acquire refl (λ n under. not_mine g n y apart is (sym mine) under)
+                (subst (λ (d : SemaphoreEntry). Belongs d.core y.acquire) (sym same) old.belongs) old.open_still;
             open_still = old.open_still;
           }
 
@@ -103,7 +114,14 @@ module _ (st st' : Store) (b b' s f : ℕ) (e e' : SemaphoreEntry) (o o' : Optio
 
   -- an owner that is not f owns still
   abbrev owned_still : (q n d : ℕ) (w : IsOwned st q n d) → (f ≡ w.name → ⊥) → IsOwned st' q n d
-  owned_still q n d w apart = record { name = w.name; entry = w.entry; there = future_other w.name apart ∙ w.there; semaphore = w.semaphore; acquire = w.acquire }
+  owned_still q n d w apart = record {
+    name = w.name;
+    entry = w.entry;
+    there = future_other w.name apart
+        ∙ w.there;
+    semaphore = w.semaphore;
+    acquire = w.acquire;
+  }
 
   -- f does not own what is not under it
   owner_apart : (n d : ℕ) (w : IsOwned st s n d) → has s n o ≡ false → f ≡ w.name → ⊥
@@ -116,7 +134,8 @@ module _ (st st' : Store) (b b' s f : ℕ) (e e' : SemaphoreEntry) (o o' : Optio
       let here : o ≡ Some w.entry = sym c.was ∙ ap (get st.futures) same ∙ w.there in
       apart (sym (c.was_of w.entry here) ∙ w.semaphore)
 
-  owned_all : (q : ℕ) (d : SemaphoreEntry) (n demand l : ℕ) → get st'.semaphores q ≡ Some d → cores.waiting d.core.queue n ≡ Some (demand, l) → IsOwned st' q n demand
+  owned_all : (q : ℕ) (d : SemaphoreEntry) (n demand l : ℕ) → get st'.semaphores q ≡ Some d → cores.waiting d.core.queue n ≡ Some (demand, l)
+      → IsOwned st' q n demand
   owned_all q d n demand l is waits = by_test (s == q) refl
     where
       at_s : s ≡ q → cores.waiting e'.core.queue n ≡ Some (demand, l) → IsOwned st' q n demand
@@ -154,7 +173,8 @@ module _ (st st' : Store) (b b' s f : ℕ) (e e' : SemaphoreEntry) (o o' : Optio
           let w = linked.granted q d n demand (sym (semaphore_other q (eqb-false s q h)) ∙ is) grants in
           owned_still q n demand w (elsewhere_apart q n demand w (eqb-false s q h))
 
-  apart_all : (g h n : ℕ) (x y : FutureEntry) → get st'.futures g ≡ Some x → get st'.futures h ≡ Some y → x.semaphore ≡ y.semaphore → is_under x.acquire n ≡ true → is_under y.acquire n ≡ true → g ≡ h
+  apart_all : (g h n : ℕ) (x y : FutureEntry) → get st'.futures g ≡ Some x → get st'.futures h ≡ Some y → x.semaphore ≡ y.semaphore
+      → is_under x.acquire n ≡ true → is_under y.acquire n ≡ true → g ≡ h
   apart_all g h n x y isx isy same ux uy = by_tests (f == g) (f == h) refl refl
     where
       mine : (k : ℕ) (z : FutureEntry) → f ≡ k → get st'.futures k ≡ Some z → o' ≡ Some z
@@ -202,22 +222,29 @@ module _ (st st' : Store) (b b' s f : ℕ) (e e' : SemaphoreEntry) (o o' : Optio
   name_kept n d w free = name-owner st' b' s n d linked_after (owned_still s n d w (owner_apart n d w free)) ∙ sym (name-owner st b s n d linked w)
 
   name_elsewhere : (q n d : ℕ) → (s ≡ q → ⊥) → IsOwned st q n d → name_of st'.futures b' q n ≡ name_of st.futures b q n
-  name_elsewhere q n d apart w = name-owner st' b' q n d linked_after (owned_still q n d w (elsewhere_apart q n d w apart)) ∙ sym (name-owner st b q n d linked w)
+  name_elsewhere q n d apart w = name-owner st' b' q n d linked_after (owned_still q n d w (elsewhere_apart q n d w apart))
+      ∙ sym (name-owner st b q n d linked w)
 
-  who_elsewhere : (q : ℕ) (d : SemaphoreEntry) → (s ≡ q → ⊥) → get st.semaphores q ≡ Some d → (x : cores.Waiter ℕ × ℕ) → IsAt d.core.queue x → who_of st'.futures b' q x.0 ≡ who_of st.futures b q x.0
+  who_elsewhere : (q : ℕ) (d : SemaphoreEntry) → (s ≡ q → ⊥) → get st.semaphores q ≡ Some d → (x : cores.Waiter ℕ × ℕ) → IsAt d.core.queue x
+      → who_of st'.futures b' q x.0 ≡ who_of st.futures b q x.0
   who_elsewhere q d apart is (cores.Acquires n m w, l) at = ap Waiter (name_elsewhere q n m apart (linked.owned q d n m l is at.0))
   who_elsewhere q d apart is (cores.Owes, l) at = refl
 
-  queue_elsewhere : (q : ℕ) (d : SemaphoreEntry) → (s ≡ q → ⊥) → get st.semaphores q ≡ Some d → queue_of st'.futures b' q d.core.queue ≡ queue_of st.futures b q d.core.queue
-  queue_elsewhere q d apart is = queue_of-same st.futures st'.futures b b' q d.core.queue (all_by (IsAt d.core.queue) _ (who_elsewhere q d apart is) d.core.queue (all_at d.core.queue (linked.numbered q d is).apart))
+  queue_elsewhere : (q : ℕ) (d : SemaphoreEntry) → (s ≡ q → ⊥) → get st.semaphores q ≡ Some d
+      → queue_of st'.futures b' q d.core.queue ≡ queue_of st.futures b q d.core.queue
+  queue_elsewhere q d apart is = queue_of-same st.futures st'.futures b b' q d.core.queue
+      (all_by (IsAt d.core.queue) _ (who_elsewhere q d apart is) d.core.queue (all_at d.core.queue (linked.numbered q d is).apart))
 
   -- where f has no number in the queue, all that waited are named as before
-  who_kept : ((n d k : ℕ) → cores.waiting e.core.queue n ≡ Some (d, k) → has s n o ≡ false) → (x : cores.Waiter ℕ × ℕ) → IsAt e.core.queue x → who_of st'.futures b' s x.0 ≡ who_of st.futures b s x.0
+  who_kept : ((n d k : ℕ) → cores.waiting e.core.queue n ≡ Some (d, k) → has s n o ≡ false) → (x : cores.Waiter ℕ × ℕ) → IsAt e.core.queue x
+      → who_of st'.futures b' s x.0 ≡ who_of st.futures b s x.0
   who_kept free (cores.Acquires n m w, l) at = ap Waiter (name_kept n m (linked.owned s e n m l c.there at.0) (free n m l at.0))
   who_kept free (cores.Owes, l) at = refl
 
-  pub queue_kept : ((n d k : ℕ) → cores.waiting e.core.queue n ≡ Some (d, k) → has s n o ≡ false) → queue_of st'.futures b' s e.core.queue ≡ queue_of st.futures b s e.core.queue
-  queue_kept free = queue_of-same st.futures st'.futures b b' s e.core.queue (all_by (IsAt e.core.queue) _ (who_kept free) e.core.queue (all_at e.core.queue (linked.numbered s e c.there).apart))
+  pub queue_kept : ((n d k : ℕ) → cores.waiting e.core.queue n ≡ Some (d, k) → has s n o ≡ false)
+      → queue_of st'.futures b' s e.core.queue ≡ queue_of st.futures b s e.core.queue
+  queue_kept free = queue_of-same st.futures st'.futures b b' s e.core.queue
+      (all_by (IsAt e.core.queue) _ (who_kept free) e.core.queue (all_at e.core.queue (linked.numbered s e c.there).apart))
 
   -- ---- the hall after it
   pub semaphores_after : (hall_of st' b').semaphores ≡ insert (hall_of st b).semaphores s (semaphore_of st'.futures b' s e')
@@ -227,27 +254,46 @@ module _ (st st' : Store) (b b' s f : ℕ) (e e' : SemaphoreEntry) (o o' : Optio
       ∙ ap (cond (s == q) (Some (semaphore_of st'.futures b' s e'))) (sym (get-seen (semaphore_of st.futures b) st.semaphores q))
       ∙ sym (get_inserted (hall_of st b).semaphores s q (semaphore_of st'.futures b' s e')))
     where
-      at_each : (q : ℕ) (t : Bool) → (s == q) ≡ t → (d : Option SemaphoreEntry) → get st.semaphores q ≡ d → option_map (semaphore_of st'.futures b' q) (cond t (Some e') d) ≡ cond t (Some (semaphore_of st'.futures b' s e')) (option_map (semaphore_of st.futures b q) d)
+      at_each : (q : ℕ) (t : Bool) → (s == q) ≡ t → (d : Option SemaphoreEntry) → get st.semaphores q ≡ d
+          → option_map (semaphore_of st'.futures b' q) (cond t (Some e') d) ≡ cond t (Some (semaphore_of st'.futures b' s e'))
+          (option_map (semaphore_of st.futures b q) d)
       at_each q true h d is = ap (λ k. Some (semaphore_of st'.futures b' k e')) (sym (eqb-true s q h))
       at_each q false h None is = refl
-      at_each q false h (Some d) is = λ i. Some (record { free = d.core.free; queue = queue_elsewhere q d (eqb-false s q h) is i; made = d.made; released = d.released; forgotten = d.forgotten; named = d.named })
+      at_each q false h (Some d) is = λ i. Some
+          (record {
+            free = d.core.free;
+            queue = queue_elsewhere q d (eqb-false s q h) is i;
+            made = d.made;
+            released = d.released;
+            forgotten = d.forgotten;
+            named = d.named;
+          })
 
-  stage_kept : (g : ℕ) (y : FutureEntry) (a : Acquire) → y.acquire ≡ a → (f ≡ g → ⊥) → get st.futures g ≡ Some y → y.semaphore ≡ s → stage_of a e'.core.queue ≡ stage_of a e.core.queue
+  stage_kept : (g : ℕ) (y : FutureEntry) (a : Acquire) → y.acquire ≡ a → (f ≡ g → ⊥) → get st.futures g ≡ Some y → y.semaphore ≡ s
+      → stage_of a e'.core.queue ≡ stage_of a e.core.queue
   stage_kept g y (New d) is apart at mine = refl
-  stage_kept g y (Queued d n) is apart at mine = ap stage_under (c.wakers n (not_mine g n y apart at mine (under-queued y.acquire d n is)) (not_now_mine g n y apart at mine (under-queued y.acquire d n is)))
+  stage_kept g y (Queued d n) is apart at mine = ap stage_under
+      (c.wakers n (not_mine g n y apart at mine (under-queued y.acquire d n is)) (not_now_mine g n y apart at mine (under-queued y.acquire d n is)))
   stage_kept g y (Done d) is apart at mine = refl
 
   future_kept : (g : ℕ) (y : FutureEntry) → (f ≡ g → ⊥) → get st.futures g ≡ Some y → future_of st'.semaphores y ≡ future_of st.semaphores y
   future_kept g y apart is = by_test (s == y.semaphore) refl
     where
       by_test : (t : Bool) → (s == y.semaphore) ≡ t → future_of st'.semaphores y ≡ future_of st.semaphores y
-      by_test false h = λ i. record { semaphore = y.semaphore; demand = demand_of y.acquire; plain = y.plain; forgets = y.forgets; stage = stage_of y.acquire (queue_in (semaphore_other y.semaphore (eqb-false s y.semaphore h) i)) }
+      by_test false h = λ i. record {
+        semaphore = y.semaphore;
+        demand = demand_of y.acquire;
+        plain = y.plain;
+        forgets = y.forgets;
+        stage = stage_of y.acquire (queue_in (semaphore_other y.semaphore (eqb-false s y.semaphore h) i));
+      }
       by_test true h =
           let mine : s ≡ y.semaphore = eqb-true s y.semaphore h in
           let now : get st'.semaphores y.semaphore ≡ Some e' = ap (get st'.semaphores) (sym mine) ∙ semaphore_there in
           let then : get st.semaphores y.semaphore ≡ Some e = ap (get st.semaphores) (sym mine) ∙ c.there in
           let same : stage_of y.acquire (queue_in (get st'.semaphores y.semaphore)) ≡ stage_of y.acquire (queue_in (get st.semaphores y.semaphore)) =
-          ap (λ d. stage_of y.acquire (queue_in d)) now ∙ stage_kept g y y.acquire refl apart is (sym mine) ∙ sym (ap (λ d. stage_of y.acquire (queue_in d)) then) in
+          ap (λ d. stage_of y.acquire (queue_in d)) now ∙ stage_kept g y y.acquire refl apart is (sym mine)
+          ∙ sym (ap (λ d. stage_of y.acquire (queue_in d)) then) in
           λ i. record { semaphore = y.semaphore; demand = demand_of y.acquire; plain = y.plain; forgets = y.forgets; stage = same i }
 
   futures_at : (g : ℕ) → get (hall_of st' b').futures g ≡ cond (f == g) (option_map (future_of st'.semaphores) o') (get (hall_of st b).futures g)
@@ -256,21 +302,27 @@ module _ (st st' : Store) (b b' s f : ℕ) (e e' : SemaphoreEntry) (o o' : Optio
       ∙ at_each (f == g) refl (get st.futures g) refl
       ∙ ap (cond (f == g) (option_map (future_of st'.semaphores) o')) (sym (get-seen (λ k x. future_of st.semaphores x) st.futures g))
     where
-      at_each : (t : Bool) → (f == g) ≡ t → (d : Option FutureEntry) → get st.futures g ≡ d → option_map (future_of st'.semaphores) (cond t o' d) ≡ cond t (option_map (future_of st'.semaphores) o') (option_map (future_of st.semaphores) d)
+      at_each : (t : Bool) → (f == g) ≡ t → (d : Option FutureEntry) → get st.futures g ≡ d
+          → option_map (future_of st'.semaphores) (cond t o' d) ≡ cond t (option_map (future_of st'.semaphores) o') (option_map (future_of st.semaphores) d)
       at_each true h d is = refl
       at_each false h None is = refl
       at_each false h (Some y) is = ap (λ (x : Future). Some x) (future_kept g y (eqb-false f g h) is)
 
   -- f is there, or still there
   pub futures_put : (x : FutureEntry) → o' ≡ Some x → (hall_of st' b').futures ≡ insert (hall_of st b).futures f (future_of st'.semaphores x)
-  futures_put x is = same_named _ _ (λ g. futures_at g ∙ ap (λ d. cond (f == g) (option_map (future_of st'.semaphores) d) (get (hall_of st b).futures g)) is ∙ sym (get_inserted (hall_of st b).futures f g (future_of st'.semaphores x)))
+  futures_put x is = same_named _ _
+      (λ g. futures_at g ∙ ap (λ d. cond (f == g) (option_map (future_of st'.semaphores) d) (get (hall_of st b).futures g)) is
+      ∙ sym (get_inserted (hall_of st b).futures f g (future_of st'.semaphores x)))
 
   pub futures_gone : o' ≡ None → (hall_of st' b').futures ≡ remove (hall_of st b).futures f
-  futures_gone is = same_named _ _ (λ g. futures_at g ∙ ap (λ d. cond (f == g) (option_map (future_of st'.semaphores) d) (get (hall_of st b).futures g)) is ∙ sym (get_removed (hall_of st b).futures f g))
+  futures_gone is = same_named _ _
+      (λ g. futures_at g ∙ ap (λ d. cond (f == g) (option_map (future_of st'.semaphores) d) (get (hall_of st b).futures g)) is
+      ∙ sym (get_removed (hall_of st b).futures f g))
 
   -- there is no such future, neither before nor after
   pub futures_same : o ≡ None → o' ≡ None → (hall_of st' b').futures ≡ (hall_of st b).futures
-  futures_same was is = same_named _ _ (λ g. futures_at g ∙ ap (λ d. cond (f == g) (option_map (future_of st'.semaphores) d) (get (hall_of st b).futures g)) is ∙ at_each g (f == g) refl)
+  futures_same was is = same_named _ _
+      (λ g. futures_at g ∙ ap (λ d. cond (f == g) (option_map (future_of st'.semaphores) d) (get (hall_of st b).futures g)) is ∙ at_each g (f == g) refl)
     where
       gone : get (hall_of st b).futures f ≡ None
       gone = get-seen (λ k x. future_of st.semaphores x) st.futures f ∙ ap (option_map (future_of st.semaphores)) (c.was ∙ was)

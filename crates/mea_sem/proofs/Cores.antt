@@ -16,7 +16,8 @@ Queue = List (Waiter ℕ × ℕ)
 
 -- a choice by whether two numbers are one
 pub by_same : {X : Type 0} (m n : ℕ) (x y z : X) → (m ≡ n → x ≡ z) → ((m ≡ n → ⊥) → y ≡ z) → cond (m == n) x y ≡ z
-by_same m n x y z same apart = elim (m == n) as (λ b. (m == n) ≡ b → cond b x y ≡ z) [ true ↦ λ e. same (eqb-true m n e) | false ↦ λ e. apart (eqb-false m n e) ] refl
+by_same m n x y z same apart = elim (m == n) as (λ b. (m == n) ≡ b → cond b x y ≡ z)
+    [ true ↦ λ e. same (eqb-true m n e) | false ↦ λ e. apart (eqb-false m n e) ] refl
 
 pub at_same : {X : Type 0} (m n : ℕ) (x y : X) → m ≡ n → cond (m == n) x y ≡ x
 at_same m n x y e = ap (λ b. cond b x y) (eq-eqb m n e)
@@ -27,12 +28,15 @@ at_apart m n x y e = ap (λ b. cond b x y) (ne_eqb m n e)
 -- ---- who waits has a waker
 pub waker-none : (q : Queue) (n : ℕ) → waiting q n ≡ None → waker_under q n ≡ None
 waker-none [] n h = refl
-waker-none ((Acquires m d w, l) ∷ q) n h = elim (m == n) as (λ b. cond b (Some (d, l)) (waiting q n) ≡ None → cond b (Some w) (waker_under q n) ≡ None) [ true ↦ λ t. absurd (cc) | false ↦ λ t. waker-none q n t ] h
+waker-none ((Acquires m d w, l) ∷ q) n h = elim (m == n)
+    as (λ b. cond b (Some (d, l)) (waiting q n) ≡ None → cond b (Some w) (waker_under q n) ≡ None) [ true ↦ λ t. absurd (cc) | false ↦ λ t. waker-none q n t ] h
 waker-none ((Owes, l) ∷ q) n h = waker-none q n h
 
 pub waker-some : (q : Queue) (n : ℕ) (p : ℕ × ℕ) → waiting q n ≡ Some p → (w : ℕ) × (waker_under q n ≡ Some w)
 waker-some [] n p h = absurd (cc)
-waker-some ((Acquires m d w, l) ∷ q) n p h = elim (m == n) as (λ b. cond b (Some (d, l)) (waiting q n) ≡ Some p → (v : ℕ) × (cond b (Some w) (waker_under q n) ≡ Some v)) [ true ↦ λ t. (w, refl) | false ↦ λ t. waker-some q n p t ] h
+waker-some ((Acquires m d w, l) ∷ q) n p h = elim (m == n)
+    as (λ b. cond b (Some (d, l)) (waiting q n) ≡ Some p → (v : ℕ) × (cond b (Some w) (waker_under q n) ≡ Some v))
+    [ true ↦ λ t. (w, refl) | false ↦ λ t. waker-some q n p t ] h
 waker-some ((Owes, l) ∷ q) n p h = waker-some q n p h
 
 -- ---- each who waits is found under its number
@@ -61,7 +65,8 @@ behind_debt l q (e ∷ r) h = (at_debt l q e h.0, behind_debt l q r h.1)
 
 pub all_at : (q : Queue) → AreApart q → AllByRecursion (IsAt q) q
 all_at [] h = h
-all_at ((Acquires m d w, l) ∷ q) h = ((at_same m m (Some (d, l)) (waiting q m) refl, at_same m m (Some w) (waker_under q m) refl), behind m d w l q q h.0 (all_at q h.1))
+all_at ((Acquires m d w, l) ∷ q) h =
+    ((at_same m m (Some (d, l)) (waiting q m) refl, at_same m m (Some w) (waker_under q m) refl), behind m d w l q q h.0 (all_at q h.1))
 all_at ((Owes, l) ∷ q) h = (tt, behind_debt l q q (all_at q h))
 
 -- what holds of each by a step holds of each
@@ -76,7 +81,8 @@ waiting-push ((Acquires k e v, j) ∷ q) m d w l n h =
     let parts = parts_of (k == m) refl h in
     ap (λ o. cond (k == n) (Some (e, j)) o) (waiting-push q m d w l n parts.1)
     ∙ by_same k n (Some (e, j)) (cond (m == n) (Some (d, l)) (waiting q n)) (cond (m == n) (Some (d, l)) (cond (k == n) (Some (e, j)) (waiting q n)))
-    (λ same. sym (at_apart m n (Some (d, l)) (cond (k == n) (Some (e, j)) (waiting q n)) (λ eq. parts.0 (same ∙ sym eq)) ∙ at_same k n (Some (e, j)) (waiting q n) same))
+    (λ same. sym (at_apart m n (Some (d, l)) (cond (k == n) (Some (e, j)) (waiting q n)) (λ eq. parts.0 (same ∙ sym eq))
+    ∙ at_same k n (Some (e, j)) (waiting q n) same))
     (λ apart. ap (λ o. cond (m == n) (Some (d, l)) o) (sym (at_apart k n (Some (e, j)) (waiting q n) apart)))
   where
     parts_of : (b : Bool) → (k == m) ≡ b → cond b (Some (e, j)) (waiting q m) ≡ None → (k ≡ m → ⊥) × (waiting q m ≡ None)
@@ -90,7 +96,8 @@ waker-push ((Acquires k e v, j) ∷ q) m d w l n h =
     let parts = parts_of (k == m) refl h in
     ap (λ o. cond (k == n) (Some v) o) (waker-push q m d w l n parts.1)
     ∙ by_same k n (Some v) (cond (m == n) (Some w) (waker_under q n)) (cond (m == n) (Some w) (cond (k == n) (Some v) (waker_under q n)))
-    (λ same. sym (at_apart m n (Some w) (cond (k == n) (Some v) (waker_under q n)) (λ eq. parts.0 (same ∙ sym eq)) ∙ at_same k n (Some v) (waker_under q n) same))
+    (λ same. sym (at_apart m n (Some w) (cond (k == n) (Some v) (waker_under q n)) (λ eq. parts.0 (same ∙ sym eq))
+    ∙ at_same k n (Some v) (waker_under q n) same))
     (λ apart. ap (λ o. cond (m == n) (Some w) o) (sym (at_apart k n (Some v) (waker_under q n) apart)))
   where
     parts_of : (b : Bool) → (k == m) ≡ b → cond b (Some (e, j)) (waiting q m) ≡ None → (k ≡ m → ⊥) × (waiting q m ≡ None)
@@ -101,7 +108,13 @@ waker-push ((Owes, j) ∷ q) m d w l n h = waker-push q m d w l n h
 pub debts-push : (q : Queue) (m d w l : ℕ) → debts (q ++ (Acquires m d w, l) ∷ []) ≡ debts q
 debts-push [] m d w l = sum_by-cons {X = Waiter ℕ × ℕ} (λ e. debt_of e.0 e.1) (Acquires m d w, l) []
 debts-push (e ∷ q) m d w l =
-    omega (arith, debts-push q m d w l, sum_by-cons {X = Waiter ℕ × ℕ} (λ x. debt_of x.0 x.1) e q, sum_by-cons {X = Waiter ℕ × ℕ} (λ x. debt_of x.0 x.1) e (q ++ (Acquires m d w, l) ∷ []))
+    omega (
+      arith,
+      debts-push q m d w l,
+      sum_by-cons {X = Waiter ℕ × ℕ} (λ x. debt_of x.0 x.1) e q,
+      sum_by-cons {X = Waiter ℕ × ℕ}
+          (λ x. debt_of x.0 x.1) e (q ++ (Acquires m d w, l) ∷ []),
+    )
 
 -- ---- another waker
 pub waiting-with_waker : (q : Queue) (m w n : ℕ) → waiting (with_waker q m w) n ≡ waiting q n
@@ -120,10 +133,11 @@ waker-with_waker ((Owes, l) ∷ q) m w n apart = waker-with_waker q m w n apart
 
 pub waker-with_waker_same : (q : Queue) (m w : ℕ) (p : ℕ × ℕ) → waiting q m ≡ Some p → waker_under (with_waker q m w) m ≡ Some w
 waker-with_waker_same [] m w p h = absurd (cc)
-waker-with_waker_same ((Acquires k d v, l) ∷ q) m w p h = elim (k == m) as (λ b. cond b (Some (d, l)) (waiting q m) ≡ Some p → cond b (Some (if b then w else v)) (waker_under (with_waker q m w) m) ≡ Some w) [
-  | true ↦ λ t. refl
-  | false ↦ λ t. waker-with_waker_same q m w p t
-] h
+waker-with_waker_same ((Acquires k d v, l) ∷ q) m w p h = elim (k == m)
+    as (λ b. cond b (Some (d, l)) (waiting q m) ≡ Some p → cond b (Some (if b then w else v)) (waker_under (with_waker q m w) m) ≡ Some w) [
+      | true ↦ λ t. refl
+      | false ↦ λ t. waker-with_waker_same q m w p t
+    ] h
 waker-with_waker_same ((Owes, l) ∷ q) m w p h = waker-with_waker_same q m w p h
 
 pub AreApart-with_waker : (q : Queue) (m w : ℕ) → AreApart q → AreApart (with_waker q m w)
@@ -134,9 +148,21 @@ AreApart-with_waker ((Owes, l) ∷ q) m w h = AreApart-with_waker q m w h
 pub debts-with_waker : (q : Queue) (m w : ℕ) → debts (with_waker q m w) ≡ debts q
 debts-with_waker [] m w = refl
 debts-with_waker ((Acquires k d v, l) ∷ q) m w =
-    omega (arith, debts-with_waker q m w, sum_by-cons {X = Waiter ℕ × ℕ} (λ x. debt_of x.0 x.1) (Acquires k d v, l) q, sum_by-cons {X = Waiter ℕ × ℕ} (λ x. debt_of x.0 x.1) (Acquires k d (if k == m then w else v), l) (with_waker q m w))
+    omega (
+      arith,
+      debts-with_waker q m w,
+      sum_by-cons {X = Waiter ℕ × ℕ} (λ x. debt_of x.0 x.1) (Acquires k d v, l) q,
+      sum_by-cons {X = Waiter ℕ × ℕ}
+          (λ x. debt_of x.0 x.1) (Acquires k d (if k == m then w else v), l) (with_waker q m w),
+    )
 debts-with_waker ((Owes, l) ∷ q) m w =
-    omega (arith, debts-with_waker q m w, sum_by-cons {X = Waiter ℕ × ℕ} (λ x. debt_of x.0 x.1) (Owes, l) q, sum_by-cons {X = Waiter ℕ × ℕ} (λ x. debt_of x.0 x.1) (Owes, l) (with_waker q m w))
+    omega (
+      arith,
+      debts-with_waker q m w,
+      sum_by-cons {X = Waiter ℕ × ℕ} (λ x. debt_of x.0 x.1) (Owes, l) q,
+      sum_by-cons {X = Waiter ℕ × ℕ}
+          (λ x. debt_of x.0 x.1) (Owes, l) (with_waker q m w),
+    )
 
 -- ---- one has left
 pub swapped : {X : Type 0} (k m n : ℕ) (x y : Option X) → (k ≡ m → ⊥) → cond (k == n) x (cond (m == n) None y) ≡ cond (m == n) None (cond (k == n) x y)
@@ -154,18 +180,22 @@ gone_twice k m n x y same = elim (m == n) as (λ b. (m == n) ≡ b → cond b No
 
 pub waiting-without : (q : Queue) (m n : ℕ) → waiting (without_acquire q m) n ≡ cond (m == n) None (waiting q n)
 waiting-without [] m n = elim (m == n) as (λ b. ◌≡◌ {A = Option (ℕ × ℕ)} None (cond b None None)) [ true ↦ refl | false ↦ refl ]
-waiting-without ((Acquires k d v, l) ∷ q) m n = elim (k == m) as (λ b. (k == m) ≡ b → waiting (cond b (without_acquire q m) ((Acquires k d v, l) ∷ without_acquire q m)) n ≡ cond (m == n) None (cond (k == n) (Some (d, l)) (waiting q n))) [
-  | true ↦ λ t. waiting-without q m n ∙ gone_twice k m n (Some (d, l)) (waiting q n) (eqb-true k m t)
-  | false ↦ λ t. ap (λ o. cond (k == n) (Some (d, l)) o) (waiting-without q m n) ∙ swapped k m n (Some (d, l)) (waiting q n) (eqb-false k m t)
-] refl
+waiting-without ((Acquires k d v, l) ∷ q) m n = elim (k == m)
+    as (λ b. (k == m) ≡ b → waiting (cond b (without_acquire q m) ((Acquires k d v, l) ∷ without_acquire q m)) n ≡ cond (m == n) None
+    (cond (k == n) (Some (d, l)) (waiting q n))) [
+      | true ↦ λ t. waiting-without q m n ∙ gone_twice k m n (Some (d, l)) (waiting q n) (eqb-true k m t)
+      | false ↦ λ t. ap (λ o. cond (k == n) (Some (d, l)) o) (waiting-without q m n) ∙ swapped k m n (Some (d, l)) (waiting q n) (eqb-false k m t)
+    ] refl
 waiting-without ((Owes, l) ∷ q) m n = waiting-without q m n
 
 pub waker-without : (q : Queue) (m n : ℕ) → waker_under (without_acquire q m) n ≡ cond (m == n) None (waker_under q n)
 waker-without [] m n = elim (m == n) as (λ b. ◌≡◌ {A = Option ℕ} None (cond b None None)) [ true ↦ refl | false ↦ refl ]
-waker-without ((Acquires k d v, l) ∷ q) m n = elim (k == m) as (λ b. (k == m) ≡ b → waker_under (cond b (without_acquire q m) ((Acquires k d v, l) ∷ without_acquire q m)) n ≡ cond (m == n) None (cond (k == n) (Some v) (waker_under q n))) [
-  | true ↦ λ t. waker-without q m n ∙ gone_twice k m n (Some v) (waker_under q n) (eqb-true k m t)
-  | false ↦ λ t. ap (λ o. cond (k == n) (Some v) o) (waker-without q m n) ∙ swapped k m n (Some v) (waker_under q n) (eqb-false k m t)
-] refl
+waker-without ((Acquires k d v, l) ∷ q) m n = elim (k == m)
+    as (λ b. (k == m) ≡ b → waker_under (cond b (without_acquire q m) ((Acquires k d v, l) ∷ without_acquire q m)) n ≡ cond (m == n) None
+    (cond (k == n) (Some v) (waker_under q n))) [
+      | true ↦ λ t. waker-without q m n ∙ gone_twice k m n (Some v) (waker_under q n) (eqb-true k m t)
+      | false ↦ λ t. ap (λ o. cond (k == n) (Some v) o) (waker-without q m n) ∙ swapped k m n (Some v) (waker_under q n) (eqb-false k m t)
+    ] refl
 waker-without ((Owes, l) ∷ q) m n = waker-without q m n
 
 none_still : {X : Type 0} (b : Bool) (o : Option X) → o ≡ None → cond b None o ≡ None
@@ -209,12 +239,25 @@ debts-debt q n = elim (n == 0) as (λ b. (n == 0) ≡ b → debts (cond b q ((Ow
 
 pub debts-without : (q : Queue) (m : ℕ) → debts (without_acquire q m) ≡ debts q
 debts-without [] m = refl
-debts-without ((Acquires k d v, l) ∷ q) m = elim (k == m) as (λ b. debts (cond b (without_acquire q m) ((Acquires k d v, l) ∷ without_acquire q m)) ≡ debts ((Acquires k d v, l) ∷ q)) [
-  | true ↦ omega (arith, debts-without q m, sum_by-cons {X = Waiter ℕ × ℕ} (λ x. debt_of x.0 x.1) (Acquires k d v, l) q)
-  | false ↦ omega (arith, debts-without q m, sum_by-cons {X = Waiter ℕ × ℕ} (λ x. debt_of x.0 x.1) (Acquires k d v, l) q, sum_by-cons {X = Waiter ℕ × ℕ} (λ x. debt_of x.0 x.1) (Acquires k d v, l) (without_acquire q m))
-]
+debts-without ((Acquires k d v, l) ∷ q) m = elim (k == m)
+    as (λ b. debts (cond b (without_acquire q m) ((Acquires k d v, l) ∷ without_acquire q m)) ≡ debts ((Acquires k d v, l) ∷ q)) [
+      | true ↦ omega (arith, debts-without q m, sum_by-cons {X = Waiter ℕ × ℕ} (λ x. debt_of x.0 x.1) (Acquires k d v, l) q)
+      | false ↦ omega (
+        arith,
+        debts-without q m,
+        sum_by-cons {X = Waiter ℕ × ℕ} (λ x. debt_of x.0 x.1) (Acquires k d v, l)
+            q,
+        sum_by-cons {X = Waiter ℕ × ℕ} (λ x. debt_of x.0 x.1) (Acquires k d v, l) (without_acquire q m),
+      )
+    ]
 debts-without ((Owes, l) ∷ q) m =
-    omega (arith, debts-without q m, sum_by-cons {X = Waiter ℕ × ℕ} (λ x. debt_of x.0 x.1) (Owes, l) q, sum_by-cons {X = Waiter ℕ × ℕ} (λ x. debt_of x.0 x.1) (Owes, l) (without_acquire q m))
+    omega (
+      arith,
+      debts-without q m,
+      sum_by-cons {X = Waiter ℕ × ℕ} (λ x. debt_of x.0 x.1) (Owes, l) q,
+      sum_by-cons {X = Waiter ℕ × ℕ}
+          (λ x. debt_of x.0 x.1) (Owes, l) (without_acquire q m),
+    )
 
 -- what a pour does to the debts
 debts-lacks_after : (q : Queue) (before n : ℕ) → (debts (lacks_after before q n) ≤ debts q) × (debts q ≤ debts (lacks_after before q n) + (n - before))
@@ -236,10 +279,19 @@ debts-lacks_after ((Owes, l) ∷ q) before n =
 
 debts-filter : (q : Queue) → debts (filter {X = Waiter ℕ × ℕ} (λ e. nat_lt 0 e.1) q) ≡ debts q
 debts-filter [] = refl
-debts-filter (e ∷ q) = elim (nat_lt 0 e.1) as (λ b. nat_lt 0 e.1 ≡ b → debts (cond b (e ∷ filter {X = Waiter ℕ × ℕ} (λ d. nat_lt 0 d.1) q) (filter {X = Waiter ℕ × ℕ} (λ d. nat_lt 0 d.1) q)) ≡ debts (e ∷ q)) [
-  | true ↦ λ h. omega (arith, debts-filter q, sum_by-cons {X = Waiter ℕ × ℕ} (λ x. debt_of x.0 x.1) e q, sum_by-cons {X = Waiter ℕ × ℕ} (λ x. debt_of x.0 x.1) e (filter {X = Waiter ℕ × ℕ} (λ d. nat_lt 0 d.1) q))
-  | false ↦ λ h. let nothing : e.1 ≡ 0 = grind (arith, nat_tests) in omega (arith, debts-filter q, no_debt e.0 e.1 nothing, sum_by-cons {X = Waiter ℕ × ℕ} (λ x. debt_of x.0 x.1) e q)
-] refl
+debts-filter (e ∷ q) = elim (nat_lt 0 e.1)
+    as (λ b. nat_lt 0 e.1 ≡ b → debts
+    (cond b (e ∷ filter {X = Waiter ℕ × ℕ} (λ d. nat_lt 0 d.1) q) (filter {X = Waiter ℕ × ℕ} (λ d. nat_lt 0 d.1) q)) ≡ debts (e ∷ q)) [
+      | true ↦ λ h. omega (
+        arith,
+        debts-filter q,
+        sum_by-cons {X = Waiter ℕ × ℕ} (λ x. debt_of x.0 x.1) e q,
+        sum_by-cons {X = Waiter ℕ × ℕ}
+            (λ x. debt_of x.0 x.1) e (filter {X = Waiter ℕ × ℕ} (λ d. nat_lt 0 d.1) q),
+      )
+      | false ↦ λ h. let nothing : e.1 ≡ 0 = grind (arith, nat_tests) in
+          omega (arith, debts-filter q, no_debt e.0 e.1 nothing, sum_by-cons {X = Waiter ℕ × ℕ} (λ x. debt_of x.0 x.1) e q)
+    ] refl
   where
     no_debt : (w : Waiter ℕ) (l : ℕ) → l ≡ 0 → debt_of w l ≡ 0
     no_debt (Acquires k d v) l h = refl
@@ -286,52 +338,61 @@ first_or (Some p) = p.0
 -- one more who waits on
 one_waits : (k n d w l j : ℕ) (before after : Option (ℕ × ℕ)) (u v : Option ℕ) (paid : Bool) → (k ≡ n → before ≡ None) → Splits before after u v paid
     → Splits (cond (k == n) (Some (d, l)) before) (cond (k == n) (Some (d, j)) after) (cond (k == n) (Some w) u) (cond (k == n) (Some w) v) paid
-one_waits k n d w l j before after u v paid fresh splits = elim (k == n) as (λ b. (k == n) ≡ b → Splits (cond b (Some (d, l)) before) (cond b (Some (d, j)) after) (cond b (Some w) u) (cond b (Some w) v) paid) [
-  | true ↦ λ e.
-      let none = splits.none (fresh (eqb-true k n e)) in
-      record {
-        waits = λ f m h. (l, ap (λ (x : ℕ). Some (x, l)) (ap first_or h));
-        still = λ h. absurd (cc);
-        waker = sym (ap (λ b. cond b None (Some w)) none.1);
-        none = λ h. absurd (cc);
-        some = λ f m h. inl (j, ap (λ (x : ℕ). Some (x, j)) (ap first_or h), none.1);
-      }
-  | false ↦ λ e. splits
-] refl
+one_waits k n d w l j before after u v paid fresh splits = elim (k == n)
+    as (λ b. (k == n) ≡ b → Splits (cond b (Some (d, l)) before) (cond b (Some (d, j)) after) (cond b (Some w) u) (cond b (Some w) v) paid) [
+      | true ↦ λ e.
+          let none = splits.none (fresh (eqb-true k n e)) in
+          record {
+            waits = λ f m h. (l, ap (λ (x : ℕ). Some (x, l)) (ap first_or h));
+            still = λ h. absurd (cc);
+            waker = sym (ap (λ b. cond b None (Some w)) none.1);
+            none = λ h. absurd (cc);
+            some = λ f m h. inl (j, ap (λ (x : ℕ). Some (x, j)) (ap first_or h), none.1);
+          }
+      | false ↦ λ e. splits
+    ] refl
 
 -- one more who is paid in full
 one_paid : (k n d w l : ℕ) (before after : Option (ℕ × ℕ)) (u v : Option ℕ) (paid : Bool) → (k ≡ n → before ≡ None) → Splits before after u v paid
     → Splits (cond (k == n) (Some (d, l)) before) after (cond (k == n) (Some w) u) v ((k == n) || paid)
-one_paid k n d w l before after u v paid fresh splits = elim (k == n) as (λ b. (k == n) ≡ b → Splits (cond b (Some (d, l)) before) after (cond b (Some w) u) v (b || paid)) [
-  | true ↦ λ e.
-      let none = splits.none (fresh (eqb-true k n e)) in
-      let before_none : before ≡ None = fresh (eqb-true k n e) in
-      record {
-        waits = λ f m h. absurd (let gone : after ≡ None = none.0 in cc);
-        waker = splits.waker ∙ ap (λ b. cond b None u) none.1 ∙ splits.still before_none;
-        still = λ h. absurd (cc);
-        none = λ h. absurd (cc);
-        some = λ f m h. inr (refl, none.0);
-      }
-  | false ↦ λ e. splits
-] refl
+one_paid k n d w l before after u v paid fresh splits = elim (k == n)
+    as (λ b. (k == n) ≡ b → Splits (cond b (Some (d, l)) before) after (cond b (Some w) u) v (b || paid)) [
+      | true ↦ λ e.
+          let none = splits.none (fresh (eqb-true k n e)) in
+          let before_none : before ≡ None = fresh (eqb-true k n e) in
+          record {
+            waits = λ f m h. absurd (let gone : after ≡ None = none.0 in cc);
+            waker = splits.waker ∙ ap (λ b. cond b None u) none.1 ∙ splits.still before_none;
+            still = λ h. absurd (cc);
+            none = λ h. absurd (cc);
+            some = λ f m h. inr (refl, none.0);
+          }
+      | false ↦ λ e. splits
+    ] refl
 
 -- a choice of whether one more waits on, by its new lack
-pub one_more : (j : ℕ) (P : Queue → List (Waiter ℕ) → Type 0) (e : Waiter ℕ) (rest paid : Queue) → P ((e, j) ∷ rest) (map {A = Waiter ℕ × ℕ} (λ x. x.0) paid) → P rest (e ∷ map {A = Waiter ℕ × ℕ} (λ x. x.0) paid)
+pub one_more : (j : ℕ) (P : Queue → List (Waiter ℕ) → Type 0) (e : Waiter ℕ) (rest paid : Queue)
+    → P ((e, j) ∷ rest) (map {A = Waiter ℕ × ℕ} (λ x. x.0) paid) → P rest (e ∷ map {A = Waiter ℕ × ℕ} (λ x. x.0) paid)
     → P (cond (nat_lt 0 j) ((e, j) ∷ rest) rest) (map {A = Waiter ℕ × ℕ} (λ x. x.0) (cond (j == 0) ((e, j) ∷ paid) paid))
 one_more j P e rest paid waits pays =
     elim (j == 0) as (λ b. (j == 0) ≡ b → P (cond (nat_lt 0 j) ((e, j) ∷ rest) rest) (map {A = Waiter ℕ × ℕ} (λ x. x.0) (cond b ((e, j) ∷ paid) paid))) [
-      | true ↦ λ h. let none : nat_lt 0 j ≡ false = grind (arith, nat_tests) in subst (λ b. P (cond b ((e, j) ∷ rest) rest) (e ∷ map {A = Waiter ℕ × ℕ} (λ x. x.0) paid)) (sym none) pays
-      | false ↦ λ h. let some : nat_lt 0 j ≡ true = grind (arith, nat_tests) in subst (λ b. P (cond b ((e, j) ∷ rest) rest) (map {A = Waiter ℕ × ℕ} (λ x. x.0) paid)) (sym some) waits
+      | true ↦ λ h. let none : nat_lt 0 j ≡ false = grind (arith, nat_tests) in
+          subst (λ b. P (cond b ((e, j) ∷ rest) rest) (e ∷ map {A = Waiter ℕ × ℕ} (λ x. x.0) paid)) (sym none) pays
+      | false ↦ λ h. let some : nat_lt 0 j ≡ true = grind (arith, nat_tests) in
+          subst (λ b. P (cond b ((e, j) ∷ rest) rest) (map {A = Waiter ℕ × ℕ} (λ x. x.0) paid)) (sym some) waits
     ] refl
 
 splits_from : (q : Queue) (before amount n : ℕ) → AreApart q
-    → Splits (waiting q n) (waiting (still_waiting (lacks_after before q amount)) n) (waker_under q n) (waker_under (still_waiting (lacks_after before q amount)) n) (is_among (paid_whole (lacks_after before q amount)) n)
-splits_from [] before amount n apart = record { waits = λ d l h. absurd (cc); waker = refl; still = λ h. refl; none = λ h. (refl, refl); some = λ d k h. absurd (cc) }
+    → Splits (waiting q n) (waiting (still_waiting (lacks_after before q amount)) n) (waker_under q n)
+    (waker_under (still_waiting (lacks_after before q amount)) n) (is_among (paid_whole (lacks_after before q amount)) n)
+splits_from [] before amount n apart =
+    record { waits = λ d l h. absurd (cc); waker = refl; still = λ h. refl; none = λ h. (refl, refl); some = λ d k h. absurd (cc) }
 splits_from ((Acquires k d w, l) ∷ q) before amount n apart =
     let so_far = splits_from q (before + l) amount n apart.1 in
     let fresh : k ≡ n → waiting q n ≡ None = λ same. ap (waiting q) (sym same) ∙ apart.0 in
-    one_more (min l (before + l - amount)) (λ rest paid. Splits (cond (k == n) (Some (d, l)) (waiting q n)) (waiting rest n) (cond (k == n) (Some w) (waker_under q n)) (waker_under rest n) (is_among paid n))
+    one_more (min l (before + l - amount))
+    (λ rest paid. Splits (cond (k == n) (Some (d, l)) (waiting q n)) (waiting rest n) (cond (k == n) (Some w) (waker_under q n))
+    (waker_under rest n) (is_among paid n))
     (Acquires k d w) (still_waiting (lacks_after (before + l) q amount)) (filter {X = Waiter ℕ × ℕ} (λ e. e.1 == 0) (lacks_after (before + l) q amount))
     (one_waits k n d w l (min l (before + l - amount)) _ _ _ _ _ fresh so_far)
     (one_paid k n d w l _ _ _ _ _ fresh so_far)
@@ -340,17 +401,20 @@ splits_from ((Owes, l) ∷ q) before amount n apart =
     one_more (min l (before + l - amount)) (λ rest paid. Splits (waiting q n) (waiting rest n) (waker_under q n) (waker_under rest n) (is_among paid n))
     Owes (still_waiting (lacks_after (before + l) q amount)) (filter {X = Waiter ℕ × ℕ} (λ e. e.1 == 0) (lacks_after (before + l) q amount)) so_far so_far
 
-pub pour_splits : (q : Queue) (amount n : ℕ) → AreApart q → Splits (waiting q n) (waiting (waiting_after q amount) n) (waker_under q n) (waker_under (waiting_after q amount) n) (is_among (granted_in q amount) n)
+pub pour_splits : (q : Queue) (amount n : ℕ) → AreApart q → Splits (waiting q n) (waiting (waiting_after q amount) n) (waker_under q n)
+    (waker_under (waiting_after q amount) n) (is_among (granted_in q amount) n)
 pour_splits q amount n apart = splits_from q 0 amount n apart
 
 AreApart-rest : (q : Queue) (before amount : ℕ) → AreApart q → AreApart (still_waiting (lacks_after before q amount))
 AreApart-rest [] before amount h = h
 AreApart-rest ((Acquires k d w, l) ∷ q) before amount h =
     let none = (splits_from q (before + l) amount k h.1).none h.0 in
-    one_more (min l (before + l - amount)) (λ rest paid. AreApart rest) (Acquires k d w) (still_waiting (lacks_after (before + l) q amount)) (filter {X = Waiter ℕ × ℕ} (λ e. e.1 == 0) (lacks_after (before + l) q amount))
+    one_more (min l (before + l - amount)) (λ rest paid. AreApart rest) (Acquires k d w) (still_waiting (lacks_after (before + l) q amount))
+    (filter {X = Waiter ℕ × ℕ} (λ e. e.1 == 0) (lacks_after (before + l) q amount))
     (none.0, AreApart-rest q (before + l) amount h.1) (AreApart-rest q (before + l) amount h.1)
 AreApart-rest ((Owes, l) ∷ q) before amount h =
-    one_more (min l (before + l - amount)) (λ rest paid. AreApart rest) Owes (still_waiting (lacks_after (before + l) q amount)) (filter {X = Waiter ℕ × ℕ} (λ e. e.1 == 0) (lacks_after (before + l) q amount))
+    one_more (min l (before + l - amount)) (λ rest paid. AreApart rest) Owes (still_waiting (lacks_after (before + l) q amount))
+    (filter {X = Waiter ℕ × ℕ} (λ e. e.1 == 0) (lacks_after (before + l) q amount))
     (AreApart-rest q (before + l) amount h) (AreApart-rest q (before + l) amount h)
 
 pub AreApart-waiting_after : (q : Queue) (amount : ℕ) → AreApart q → AreApart (waiting_after q amount)
@@ -359,10 +423,11 @@ AreApart-waiting_after q amount h = AreApart-rest q 0 amount h
 -- the granted numbers after a pour
 pub granting-other : (g : FinMap nat_cmp ℕ) (ws : List (Waiter ℕ)) (n : ℕ) → is_among ws n ≡ false → get (granting g ws) n ≡ get g n
 granting-other g [] n h = refl
-granting-other g (Acquires m d w ∷ ws) n h = elim (m == n) as (λ b. (m == n) ≡ b → (b || is_among ws n) ≡ false → get (granting (insert g m d) ws) n ≡ get g n) [
-  | true ↦ λ e t. absurd (cc)
-  | false ↦ λ e t. granting-other (insert g m d) ws n t ∙ get_inserted g m n d ∙ at_apart m n (Some d) (get g n) (eqb-false m n e)
-] refl h
+granting-other g (Acquires m d w ∷ ws) n h = elim (m == n)
+    as (λ b. (m == n) ≡ b → (b || is_among ws n) ≡ false → get (granting (insert g m d) ws) n ≡ get g n) [
+      | true ↦ λ e t. absurd (cc)
+      | false ↦ λ e t. granting-other (insert g m d) ws n t ∙ get_inserted g m n d ∙ at_apart m n (Some d) (get g n) (eqb-false m n e)
+    ] refl h
 granting-other g (Owes ∷ ws) n h = granting-other g ws n h
 
 -- each of these who has the number has this demand
@@ -379,11 +444,13 @@ granting-among g (Acquires m e w ∷ ws) n d all h = by_rest (is_among ws n) ref
     first_true true b h t = refl
     first_true false b h t = absurd (cc)
 
-    by_rest : (b : Bool) → is_among ws n ≡ b → (is_among ws n ≡ true → get (granting (insert g m e) ws) n ≡ Some d) → get (granting (insert g m e) ws) n ≡ Some d
+    by_rest : (b : Bool) → is_among ws n ≡ b → (is_among ws n ≡ true → get (granting (insert g m e) ws) n ≡ Some d)
+        → get (granting (insert g m e) ws) n ≡ Some d
     by_rest true t rest = rest t
     by_rest false t rest =
         let here : (m == n) ≡ true = first_true (m == n) (is_among ws n) h t in
-        granting-other (insert g m e) ws n t ∙ get_inserted g m n e ∙ at_same m n (Some e) (get g n) (eqb-true m n here) ∙ ap (λ (x : ℕ). Some x) (all.0 (eqb-true m n here))
+        granting-other (insert g m e) ws n t ∙ get_inserted g m n e ∙ at_same m n (Some e) (get g n) (eqb-true m n here)
+        ∙ ap (λ (x : ℕ). Some x) (all.0 (eqb-true m n here))
 granting-among g (Owes ∷ ws) n d all h = granting-among g ws n d all h
 
 -- each of a queue that has the number has this demand
@@ -400,12 +467,16 @@ each_found q ((Owes, l) ∷ r) n d k is h = each_found q r n d k is h.1
 each_paid : (r : Queue) (before amount n d : ℕ) → EachDemand r n d → AllDemand (paid_whole (lacks_after before r amount)) n d
 each_paid [] before amount n d h = tt
 each_paid ((Acquires m e w, l) ∷ r) before amount n d h =
-    one_more (min l (before + l - amount)) (λ rest paid. AllDemand paid n d) (Acquires m e w) (still_waiting (lacks_after (before + l) r amount)) (filter {X = Waiter ℕ × ℕ} (λ x. x.1 == 0) (lacks_after (before + l) r amount))
+    one_more (min l (before + l - amount)) (λ rest paid. AllDemand paid n d) (Acquires m e w) (still_waiting (lacks_after (before + l) r amount))
+    (filter {X = Waiter ℕ × ℕ} (λ x. x.1 == 0) (lacks_after (before + l) r amount))
     (each_paid r (before + l) amount n d h.1) (h.0, each_paid r (before + l) amount n d h.1)
 each_paid ((Owes, l) ∷ r) before amount n d h =
-    one_more (min l (before + l - amount)) (λ rest paid. AllDemand paid n d) Owes (still_waiting (lacks_after (before + l) r amount)) (filter {X = Waiter ℕ × ℕ} (λ x. x.1 == 0) (lacks_after (before + l) r amount))
+    one_more (min l (before + l - amount)) (λ rest paid. AllDemand paid n d) Owes (still_waiting (lacks_after (before + l) r amount))
+    (filter {X = Waiter ℕ × ℕ} (λ x. x.1 == 0) (lacks_after (before + l) r amount))
     (each_paid r (before + l) amount n d h) (each_paid r (before + l) amount n d h)
 
 -- who is paid in full is granted its demand
-pub granted-poured : (g : FinMap nat_cmp ℕ) (q : Queue) (amount n d k : ℕ) → AreApart q → waiting q n ≡ Some (d, k) → is_among (granted_in q amount) n ≡ true → get (granting g (granted_in q amount)) n ≡ Some d
-granted-poured g q amount n d k apart is among = granting-among g (granted_in q amount) n d (each_paid q 0 amount n d (each_found q q n d k is (all_at q apart))) among
+pub granted-poured : (g : FinMap nat_cmp ℕ) (q : Queue) (amount n d k : ℕ) → AreApart q → waiting q n ≡ Some (d, k)
+    → is_among (granted_in q amount) n ≡ true → get (granting g (granted_in q amount)) n ≡ Some d
+granted-poured g q amount n d k apart is among = granting-among g (granted_in q amount) n d
+    (each_paid q 0 amount n d (each_found q q n d k is (all_at q apart))) among

@@ -20,7 +20,8 @@ use Rattle.mea_sem.proofs.Names.{get-seen}
 use Rattle.mea_sem.proofs.Changes.{Changes, linked_after, queue_kept, semaphores_after, futures_gone}
 
 -- a future as it is seen, at a stage that is known
-pub seen_future : (st : Store) (b f : ℕ) (x : FutureEntry) (e : SemaphoreEntry) (a : Acquire) (z : Stage) → get st.futures f ≡ Some x → get st.semaphores x.semaphore ≡ Some e → x.acquire ≡ a → stage_of a e.core.queue ≡ z
+pub seen_future : (st : Store) (b f : ℕ) (x : FutureEntry) (e : SemaphoreEntry) (a : Acquire) (z : Stage) → get st.futures f ≡ Some x
+    → get st.semaphores x.semaphore ≡ Some e → x.acquire ≡ a → stage_of a e.core.queue ≡ z
     → get (hall_of st b).futures f ≡ Some (record { semaphore = x.semaphore; demand = demand_of a; plain = x.plain; forgets = x.forgets; stage = z })
 seen_future st b f x e a z is there acquire stage =
     get-seen (λ g y. future_of st.semaphores y) st.futures f ∙ ap (option_map (future_of st.semaphores)) is
@@ -43,7 +44,8 @@ pub record Leaves (st st' : Store) (s f : ℕ) (x : FutureEntry) (e e' : Semapho
   pub freed : (n : ℕ) → has s n (Some x) ≡ true → get e'.core.granted n ≡ None
   pub none_more : (n : ℕ) → get e.core.granted n ≡ None → get e'.core.granted n ≡ None
 
-module _ (st st' : Store) (next i s f : ℕ) (x : FutureEntry) (e e' : SemaphoreEntry) (linked : IsLinked st next) (less : next ≤ i) (c : Leaves st st' s f x e e') where
+module _ (st st' : Store) (next i s f : ℕ) (x : FutureEntry) (e e' : SemaphoreEntry) (linked : IsLinked st next) (less : next ≤ i)
+    (c : Leaves st st' s f x e e') where
   belongs_on : (d n : ℕ) → has s n (Some x) ≡ false → Belongs e.core (acquires.Queued d n) → Belongs e'.core (acquires.Queued d n)
   belongs_on d n free h = elim h [ inl granted ↦ inl (c.granted n free ∙ granted) | inr waits ↦ inr (waits.0, ap (λ q. cores.waiting q n) c.queue ∙ waits.1) ]
 
@@ -68,7 +70,8 @@ module _ (st st' : Store) (next i s f : ℕ) (x : FutureEntry) (e e' : Semaphore
     home = λ y is. absurd (cc);
     kept = λ d n free. belongs_on d n free;
     wakers = λ n free free_now. ap (λ q. cores.waker_under q n) c.queue;
-    waits = λ n d l is. (let was : cores.waiting e.core.queue n ≡ Some (d, l) = ap (λ q. cores.waiting q n) (sym c.queue) ∙ is in inr (c.idle n d l was, (l, was)));
+    waits = λ n d l is. (let was : cores.waiting e.core.queue n ≡ Some (d, l) = ap (λ q. cores.waiting q n) (sym c.queue) ∙ is in
+        inr (c.idle n d l was, (l, was)));
     grants = λ n d is. grants_on n d is (has s n (Some x)) refl;
     alone = λ g n y z is. absurd (cc);
     numbered = numbered_on;
@@ -81,10 +84,23 @@ module _ (st st' : Store) (next i s f : ℕ) (x : FutureEntry) (e e' : Semaphore
   pub linked_gone : IsLinked st' (i + 1)
   linked_gone = linked_after st st' next (i + 1) s f e e' (Some x) None linked changes_gone
 
-  pub hall_gone : hall_of st' (i + 1) ≡ record { semaphores = insert (hall_of st next).semaphores s (record { free = e'.core.free; queue = queue_of st.futures next s e.core.queue; made = e'.made; released = e'.released; forgotten = e'.forgotten; named = e'.named }); futures = remove (hall_of st next).futures f; permits = st'.permits }
+  pub hall_gone : hall_of st' (i + 1) ≡ record {
+    semaphores = insert (hall_of st next).semaphores s
+        (record {
+          free = e'.core.free;
+          queue = queue_of st.futures next s e.core.queue;
+          made = e'.made;
+          released = e'.released;
+          forgotten = e'.forgotten;
+          named = e'.named;
+        });
+    futures = remove (hall_of st next).futures f;
+    permits = st'.permits;
+  }
   hall_gone = λ j. record {
     semaphores = (semaphores_after st st' next (i + 1) s f e e' (Some x) None linked changes_gone
-        ∙ ap (λ p. insert (hall_of st next).semaphores s (record { free = e'.core.free; queue = p; made = e'.made; released = e'.released; forgotten = e'.forgotten; named = e'.named }))
+        ∙ ap (λ p. insert (hall_of st next).semaphores s
+        (record { free = e'.core.free; queue = p; made = e'.made; released = e'.released; forgotten = e'.forgotten; named = e'.named }))
         (ap (queue_of st'.futures (i + 1) s) c.queue ∙ queue_kept st st' next (i + 1) s f e e' (Some x) None linked changes_gone c.idle)) j;
     futures = futures_gone st st' next (i + 1) s f e e' (Some x) None linked changes_gone refl j;
     permits = st'.permits;
@@ -93,7 +109,8 @@ module _ (st st' : Store) (next i s f : ℕ) (x : FutureEntry) (e e' : Semaphore
 -- ---- the two ways in which a future that is ready leaves
 
 -- it was never polled
-pub leaves_new : (st st' : Store) (s f d : ℕ) (x : FutureEntry) (e e' : SemaphoreEntry) → get st.semaphores s ≡ Some e → ((q : ℕ) → get st'.semaphores q ≡ cond (s == q) (Some e') (get st.semaphores q))
+pub leaves_new : (st st' : Store) (s f d : ℕ) (x : FutureEntry) (e e' : SemaphoreEntry) → get st.semaphores s ≡ Some e
+    → ((q : ℕ) → get st'.semaphores q ≡ cond (s == q) (Some e') (get st.semaphores q))
     → get st.futures f ≡ Some x → ((g : ℕ) → get st'.futures g ≡ cond (f == g) None (get st.futures g)) → x.semaphore ≡ s → x.acquire ≡ acquires.New d
     → e'.core.queue ≡ e.core.queue → e'.core.granted ≡ e.core.granted → Leaves st st' s f x e e'
 leaves_new st st' s f d x e e' there semaphores was futures mine acquire queue granted = record {
@@ -117,8 +134,10 @@ leaves_new st st' s f d x e e' there semaphores was futures mine acquire queue g
     not_under n = ap (λ a. (x.semaphore == s) && is_under a n) acquire ∙ both_false (x.semaphore == s)
 
 -- it was granted
-pub leaves_granted : (st st' : Store) (next s f d n : ℕ) (x : FutureEntry) (e e' : SemaphoreEntry) → IsLinked st next → get st.semaphores s ≡ Some e → ((q : ℕ) → get st'.semaphores q ≡ cond (s == q) (Some e') (get st.semaphores q))
-    → get st.futures f ≡ Some x → ((g : ℕ) → get st'.futures g ≡ cond (f == g) None (get st.futures g)) → x.semaphore ≡ s → x.acquire ≡ acquires.Queued d n → get e.core.granted n ≡ Some d
+pub leaves_granted : (st st' : Store) (next s f d n : ℕ) (x : FutureEntry) (e e' : SemaphoreEntry) → IsLinked st next → get st.semaphores s ≡ Some e
+    → ((q : ℕ) → get st'.semaphores q ≡ cond (s == q) (Some e') (get st.semaphores q))
+    → get st.futures f ≡ Some x → ((g : ℕ) → get st'.futures g ≡ cond (f == g) None (get st.futures g)) → x.semaphore ≡ s
+    → x.acquire ≡ acquires.Queued d n → get e.core.granted n ≡ Some d
     → e'.core.queue ≡ e.core.queue → e'.core.granted ≡ remove e.core.granted n → Leaves st st' s f x e e'
 leaves_granted st st' next s f d n x e e' linked there semaphores was futures mine acquire is_granted queue granted = record {
   there = there;
@@ -128,8 +147,10 @@ leaves_granted st st' next s f d n x e e' linked there semaphores was futures mi
   is_of = mine;
   queue = queue;
   idle = λ m b l is. not_under m b l is (has s m (Some x)) refl;
-  granted = λ m free. ap (λ g. get g m) granted ∙ get_removed e.core.granted n m ∙ at_apart n m None (get e.core.granted m) (λ same. absurd (let here = under m same in cc));
-  freed = λ m mine_too. ap (λ g. get g m) granted ∙ get_removed e.core.granted n m ∙ at_same n m None (get e.core.granted m) (eqb-true n m (ap (λ a. is_under a m) (sym acquire) ∙ (and_parts _ _ mine_too).1));
+  granted = λ m free. ap (λ g. get g m) granted ∙ get_removed e.core.granted n m
+      ∙ at_apart n m None (get e.core.granted m) (λ same. absurd (let here = under m same in cc));
+  freed = λ m mine_too. ap (λ g. get g m) granted ∙ get_removed e.core.granted n m
+      ∙ at_same n m None (get e.core.granted m) (eqb-true n m (ap (λ a. is_under a m) (sym acquire) ∙ (and_parts _ _ mine_too).1));
   none_more = λ m none. ap (λ g. get g m) granted ∙ get_removed e.core.granted n m ∙ still (n == m) (get e.core.granted m) none;
 }
   where
@@ -143,7 +164,8 @@ leaves_granted st st' next s f d n x e e' linked there semaphores was futures mi
     not_under : (m b l : ℕ) → cores.waiting e.core.queue m ≡ Some (b, l) → (t : Bool) → has s m (Some x) ≡ t → t ≡ false
     not_under m b l is false h = refl
     not_under m b l is true h =
-        let parts = and_parts _ _ h in
-        let same : n ≡ m = eqb-true n m (ap (λ a. is_under a m) (sym acquire) ∙ parts.1) in
-        let none : get e.core.granted m ≡ None = (linked.numbered s e there).granted_apart m (λ none. absurd (let no : None ≡ Some (b, l) = sym none ∙ is in cc)) in
+        let mine : is_under x.acquire m ≡ true = (and_parts (x.semaphore == s) (is_under x.acquire m) h).1 in
+        let same : n ≡ m = eqb-true n m (subst (λ a. is_under a m ≡ true) acquire mine) in
+        let none : get e.core.granted m ≡ None = (linked.numbered s e there).granted_apart m
+        (λ none. absurd (let no : None ≡ Some (b, l) = sym none ∙ is in cc)) in
         absurd (let some : get e.core.granted m ≡ Some d = ap (get e.core.granted) (sym same) ∙ is_granted in cc)

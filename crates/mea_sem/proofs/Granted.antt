@@ -46,7 +46,8 @@ module _ (st : Store) (b s : ℕ) (e : SemaphoreEntry) (linked : IsLinked st b) 
   stage_granted n d is = ap (λ o. one_if_granted (stage_under o)) (waker-none e.core.queue n (not_waiting n d is (cores.waiting e.core.queue n) refl))
 
   -- what stands for a future of s that belongs
-  one_or_none : (a : Acquire) → Belongs e.core a → (one_if_granted (stage_of a e.core.queue) ≡ 0) ⊎ ((one_if_granted (stage_of a e.core.queue) ≡ 1) × ((d : ℕ) × (get e.core.granted (number_of a) ≡ Some d)))
+  one_or_none : (a : Acquire) → Belongs e.core a → (one_if_granted (stage_of a e.core.queue) ≡ 0) ⊎
+      ((one_if_granted (stage_of a e.core.queue) ≡ 1) × ((d : ℕ) × (get e.core.granted (number_of a) ≡ Some d)))
   one_or_none (acquires.New d) h = inl refl
   one_or_none (acquires.Done d) h = inl refl
   one_or_none (acquires.Queued d n) h = elim h [
@@ -54,7 +55,8 @@ module _ (st : Store) (b s : ℕ) (e : SemaphoreEntry) (linked : IsLinked st b) 
     | inr waits ↦ inl (let w = waker-some e.core.queue n (d, waits.0) waits.1 in ap (λ o. one_if_granted (stage_under o)) w.1)
   ]
 
-  each_counts : (f : ℕ) (x : FutureEntry) → get st.futures f ≡ Some x → (is_one f x ≡ 0) ⊎ ((is_one f x ≡ 1) × ((d : ℕ) × (get e.core.granted (number x) ≡ Some d)))
+  each_counts : (f : ℕ) (x : FutureEntry) → get st.futures f ≡ Some x
+      → (is_one f x ≡ 0) ⊎ ((is_one f x ≡ 1) × ((d : ℕ) × (get e.core.granted (number x) ≡ Some d)))
   each_counts f x is = by_test (x.semaphore == s) refl
     where
       by_test : (t : Bool) → (x.semaphore == s) ≡ t → (is_one f x ≡ 0) ⊎ ((is_one f x ≡ 1) × ((d : ℕ) × (get e.core.granted (number x) ≡ Some d)))
@@ -77,7 +79,8 @@ module _ (st : Store) (b s : ℕ) (e : SemaphoreEntry) (linked : IsLinked st b) 
 
   of_s : (f : ℕ) (x : FutureEntry) → is_one f x ≡ 1 → (t : Bool) → (x.semaphore == s) ≡ t → t ≡ true
   of_s f x one true h = refl
-  of_s f x one false h = absurd (let none : is_one f x ≡ 0 = ap (λ t. cond t (one_if_granted (stage_of x.acquire (queue_in (get st.semaphores x.semaphore)))) 0) h in cc)
+  of_s f x one false h = absurd (let none : is_one f x ≡ 0 = ap
+      (λ t. cond t (one_if_granted (stage_of x.acquire (queue_in (get st.semaphores x.semaphore)))) 0) h in cc)
 
   own : (f : ℕ) (x : FutureEntry) → is_one f x ≡ 1 → (x.semaphore ≡ s) × (is_under x.acquire (number x) ≡ true)
   own f x one =
@@ -96,14 +99,17 @@ module _ (st : Store) (b s : ℕ) (e : SemaphoreEntry) (linked : IsLinked st b) 
           numbered = ap number_of o.acquire;
         });
     each = each_counts;
-    apart = λ f g x y isx isy onex oney same. linked.apart f g (number x) x y isx isy ((own f x onex).0 ∙ sym (own g y oney).0) (own f x onex).1 (ap (is_under y.acquire) same ∙ (own g y oney).1);
+    apart = λ f g x y isx isy onex oney same. linked.apart f g (number x) x y isx isy ((own f x onex).0 ∙ sym (own g y oney).0) (own f x onex).1
+        (ap (is_under y.acquire) same ∙ (own g y oney).1);
   }
 
-  weight_seen : (f : ℕ) (o : Option FutureEntry) → weight (λ g (x : Future). cond (x.semaphore == s) (one_if_granted x.stage) 0) f (option_map (future_of st.semaphores) o) ≡ weight is_one f o
+  weight_seen : (f : ℕ) (o : Option FutureEntry) → weight (λ g (x : Future). cond (x.semaphore == s) (one_if_granted x.stage) 0) f
+      (option_map (future_of st.semaphores) o) ≡ weight is_one f o
   weight_seen f None = refl
   weight_seen f (Some x) = refl
 
   pub granted-seen : len e.core.granted ≡ granted_futures (hall_of st b) s
   granted-seen = sym (total-alike (λ g (x : Future). cond (x.semaphore == s) (one_if_granted x.stage) 0) is_one (hall_of st b).futures st.futures
-      (λ f. ap (weight (λ g (x : Future). cond (x.semaphore == s) (one_if_granted x.stage) 0) f) (get-seen (λ f x. future_of st.semaphores x) st.futures f) ∙ weight_seen f (get st.futures f))
+      (λ f. ap (weight (λ g (x : Future). cond (x.semaphore == s) (one_if_granted x.stage) 0) f)
+      (get-seen (λ f x. future_of st.semaphores x) st.futures f) ∙ weight_seen f (get st.futures f))
       ∙ matches_count is_one number (len e.core.granted) e.core.granted st.futures refl all_match)

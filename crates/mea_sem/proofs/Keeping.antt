@@ -33,7 +33,8 @@ pub record Settles (e e' : SemaphoreEntry) (a b p r : ℕ) : Type 0 where
   pub released : e'.released ≤ e.released + 2 ^ 64
   pub forgotten : e'.forgotten ≤ e.forgotten + 2 ^ 64
 
-module _ (st st' : Store) (w sp next i s : ℕ) (event : SemEvent) (e e' : SemaphoreEntry) (k : IsKept st w sp next) (less : next ≤ i) (low : i < 2 ^ 64) (fits : Fits event) (allowed : cause_of (hall_of st next) event ≡ None) where
+module _ (st st' : Store) (w sp next i s : ℕ) (event : SemEvent) (e e' : SemaphoreEntry) (k : IsKept st w sp next) (less : next ≤ i)
+    (low : i < 2 ^ 64) (fits : Fits event) (allowed : cause_of (hall_of st next) event ≡ None) where
   pub settled : (w' sp' a b p r : ℕ) → get st.semaphores s ≡ Some e → ((q : ℕ) → get st'.semaphores q ≡ cond (s == q) (Some e') (get st.semaphores q))
       → hall_of st' (i + 1) ≡ (step (hall_of st next) i event).hall → IsLinked st' (i + 1)
       → Weighs (hall_of st next) (step (hall_of st next) i event).hall s a b p r → Settles e e' a b p r
@@ -43,8 +44,10 @@ module _ (st st' : Store) (w sp next i s : ℕ) (event : SemEvent) (e e' : Semap
     hall = same;
     kept = record {
       valid = subst IsValid (sym same) (keeps_valid (hall_of st next) i event k.valid (below_later (hall_of st next) next i less k.below) fits allowed);
-      below = subst (λ h. IsBelow h (i + 1)) (sym same) (keeps_below (hall_of st next) i event k.valid (below_later (hall_of st next) next i less k.below) allowed);
-      accounted = λ q. subst (λ h. IsAccounted h q) (sym same) (keeps_account (hall_of st next) i event k.valid (below_later (hall_of st next) next i less k.below) allowed k.accounted q);
+      below = subst (λ h. IsBelow h (i + 1)) (sym same)
+          (keeps_below (hall_of st next) i event k.valid (below_later (hall_of st next) next i less k.below) allowed);
+      accounted = λ q. subst (λ h. IsAccounted h q) (sym same)
+          (keeps_account (hall_of st next) i event k.valid (below_later (hall_of st next) next i less k.below) allowed k.accounted q);
       linked = linked;
       each = λ q d is. subst (λ h. IsKeptEntry h (i + 1) q d) (sym same) (by_test q d is (s == q) refl);
       counted = count_now;
@@ -60,15 +63,18 @@ module _ (st st' : Store) (w sp next i s : ℕ) (event : SemEvent) (e e' : Semap
       here : IsKeptEntry (step (hall_of st next) i event).hall (i + 1) s e'
       here = record {
         account = settles.account;
-        held = (let x = weighs.held s in let y = at_same s s a 0 refl in let z = at_same s s b 0 refl in let o = old.held in let t = settles.held in omega (arith, x, y, z, o, t));
-        plain = (let x = weighs.plain s in let y = at_same s s p 0 refl in let z = at_same s s r 0 refl in let o = old.plain in let t = settles.plain in omega (arith, x, y, z, o, t));
+        held = (let x = weighs.held s in let y = at_same s s a 0 refl in let z = at_same s s b 0 refl in let o = old.held in let t = settles.held in
+            omega (arith, x, y, z, o, t));
+        plain = (let x = weighs.plain s in let y = at_same s s p 0 refl in let z = at_same s s r 0 refl in let o = old.plain in
+            let t = settles.plain in omega (arith, x, y, z, o, t));
         few = (let o = old.few in let t = settles.plain in let u = settles.few in omega (arith, o, t, u));
         quiet = settles.quiet;
         released = (let o = old.released in let t = settles.released in omega (arith, o, t));
         forgotten = (let o = old.forgotten in let t = settles.forgotten in omega (arith, o, t));
       }
 
-      other : (q : ℕ) (d : SemaphoreEntry) → (s ≡ q → ⊥) → IsKeptEntry (hall_of st next) next q d → IsKeptEntry (step (hall_of st next) i event).hall (i + 1) q d
+      other : (q : ℕ) (d : SemaphoreEntry) → (s ≡ q → ⊥) → IsKeptEntry (hall_of st next) next q d
+          → IsKeptEntry (step (hall_of st next) i event).hall (i + 1) q d
       other q d apart o = record {
         account = o.account;
         held = (let x = weighs.held q in let y = at_apart s q a 0 apart in let z = at_apart s q b 0 apart in let t = o.held in omega (arith, x, y, z, t));
@@ -79,13 +85,16 @@ module _ (st st' : Store) (w sp next i s : ℕ) (event : SemEvent) (e e' : Semap
         forgotten = (let t = o.forgotten in omega (arith, t));
       }
 
-      by_test : (q : ℕ) (d : SemaphoreEntry) → get st'.semaphores q ≡ Some d → (t : Bool) → (s == q) ≡ t → IsKeptEntry (step (hall_of st next) i event).hall (i + 1) q d
+      by_test : (q : ℕ) (d : SemaphoreEntry) → get st'.semaphores q ≡ Some d → (t : Bool) → (s == q) ≡ t
+          → IsKeptEntry (step (hall_of st next) i event).hall (i + 1) q d
       by_test q d is true h =
           let mine : s ≡ q = eqb-true s q h in
           let both : Some e' ≡ Some d = sym (at_same s q (Some e') (get st.semaphores q) mine) ∙ sym (semaphores q) ∙ is in
           let one : e' ≡ d = cc in
-          subst (λ (x : SemaphoreEntry). IsKeptEntry (step (hall_of st next) i event).hall (i + 1) q x) one (subst (λ x. IsKeptEntry (step (hall_of st next) i event).hall (i + 1) x e') mine here)
-      by_test q d is false h = other q d (eqb-false s q h) (k.each q d (sym (at_apart s q (Some e') (get st.semaphores q) (eqb-false s q h)) ∙ sym (semaphores q) ∙ is))
+          subst (λ (x : SemaphoreEntry). IsKeptEntry (step (hall_of st next) i event).hall (i + 1) q x) one
+          (subst (λ x. IsKeptEntry (step (hall_of st next) i event).hall (i + 1) x e') mine here)
+      by_test q d is false h = other q d (eqb-false s q h)
+          (k.each q d (sym (at_apart s q (Some e') (get st.semaphores q) (eqb-false s q h)) ∙ sym (semaphores q) ∙ is))
 
       inserted : st'.semaphores ≡ insert st.semaphores s e'
       inserted = same_named _ _ (λ q. semaphores q ∙ sym (get_inserted st.semaphores s q e'))
@@ -93,15 +102,19 @@ module _ (st st' : Store) (w sp next i s : ℕ) (event : SemEvent) (e e' : Semap
       count_now : w' ≡ total (λ q (x : SemaphoreEntry). wakers_in x.core.queue) st'.semaphores
       count_now =
           let sums = total-insert (λ q (x : SemaphoreEntry). wakers_in x.core.queue) st.semaphores s e' in
-          let mine : weight (λ q (x : SemaphoreEntry). wakers_in x.core.queue) s (get st.semaphores s) ≡ wakers_in e.core.queue = ap (weight (λ q (x : SemaphoreEntry). wakers_in x.core.queue) s) there in
-          let now : total (λ q (x : SemaphoreEntry). wakers_in x.core.queue) st'.semaphores ≡ total (λ q (x : SemaphoreEntry). wakers_in x.core.queue) (insert st.semaphores s e') = ap (total (λ q (x : SemaphoreEntry). wakers_in x.core.queue)) inserted in
+          let mine : weight (λ q (x : SemaphoreEntry). wakers_in x.core.queue) s (get st.semaphores s) ≡ wakers_in e.core.queue =
+          ap (weight (λ q (x : SemaphoreEntry). wakers_in x.core.queue) s) there in
+          let now : total (λ q (x : SemaphoreEntry). wakers_in x.core.queue) st'.semaphores ≡ total (λ q (x : SemaphoreEntry). wakers_in x.core.queue)
+          (insert st.semaphores s e') = ap (total (λ q (x : SemaphoreEntry). wakers_in x.core.queue)) inserted in
           let before = k.counted in
           omega (arith, sums, mine, now, before, registered)
 
   -- the same, where the outcome of the event is known under another name
-  pub settled_as : (h' : Hall) → (step (hall_of st next) i event).hall ≡ h' → (w' sp' a b p r : ℕ) → get st.semaphores s ≡ Some e → ((q : ℕ) → get st'.semaphores q ≡ cond (s == q) (Some e') (get st.semaphores q))
+  pub settled_as : (h' : Hall) → (step (hall_of st next) i event).hall ≡ h' → (w' sp' a b p r : ℕ) → get st.semaphores s ≡ Some e
+      → ((q : ℕ) → get st'.semaphores q ≡ cond (s == q) (Some e') (get st.semaphores q))
       → hall_of st' (i + 1) ≡ h' → IsLinked st' (i + 1) → Weighs (hall_of st next) h' s a b p r → Settles e e' a b p r
       → w' + wakers_in e.core.queue ≡ w + wakers_in e'.core.queue → w' ≤ sp' → w' ≤ i + 1
       → Plays st st' next i event w' sp'
   settled_as h' is w' sp' a b p r there semaphores same linked weighs settles registered room few =
-      settled w' sp' a b p r there semaphores (same ∙ sym is) linked (subst (λ g. Weighs (hall_of st next) g s a b p r) (sym is) weighs) settles registered room few
+      settled w' sp' a b p r there semaphores (same ∙ sym is) linked (subst (λ g. Weighs (hall_of st next) g s a b p r) (sym is) weighs)
+      settles registered room few

@@ -19,7 +19,8 @@ module _ (st : Store) (b s : ℕ) (e : SemaphoreEntry) (linked : IsLinked st b) 
   -- who waits in the core has the waker of the future that it names
   waker_seen : (x : cores.Waiter ℕ × ℕ) → IsAt e.core.queue x → core_waker x.0 ≡ waker_of_who (hall_of st b).futures (who_of st.futures b s x.0)
   waker_seen (cores.Acquires m d v, l) at = sym (
-      ap waker_of_future (get-seen (λ g x. future_of st.semaphores x) st.futures (name_of st.futures b s m) ∙ ap (option_map (future_of st.semaphores)) (ap (get st.futures) (name-owner st b s m d linked owner) ∙ owner.there))
+      ap waker_of_future (get-seen (λ g x. future_of st.semaphores x) st.futures (name_of st.futures b s m)
+      ∙ ap (option_map (future_of st.semaphores)) (ap (get st.futures) (name-owner st b s m d linked owner) ∙ owner.there))
       ∙ ap (λ a. waker_of (stage_of a (queue_in (get st.semaphores owner.entry.semaphore)))) owner.acquire
       ∙ ap (λ k. waker_of (stage_under (cores.waker_under (queue_in (get st.semaphores k)) m))) owner.semaphore
       ∙ ap (λ o. waker_of (stage_under (cores.waker_under (queue_in o) m))) there
@@ -29,7 +30,9 @@ module _ (st : Store) (b s : ℕ) (e : SemaphoreEntry) (linked : IsLinked st b) 
       owner = linked.owned s e m d l there at.0
   waker_seen (cores.Owes, l) at = refl
 
-  wakers_alike : (q : Queue) → AllByRecursion (IsAt e.core.queue) q → map {A = cores.Waiter ℕ × ℕ} {B = List ℕ × ℕ} (λ x. (core_waker x.0, x.1)) q ≡ map {A = Who × ℕ} {B = List ℕ × ℕ} (λ x. (waker_of_who (hall_of st b).futures x.0, x.1)) (queue_of st.futures b s q)
+  wakers_alike : (q : Queue) → AllByRecursion (IsAt e.core.queue) q
+      → map {A = cores.Waiter ℕ × ℕ} {B = List ℕ × ℕ} (λ x. (core_waker x.0, x.1)) q ≡ map {A = Who × ℕ} {B = List ℕ × ℕ}
+      (λ x. (waker_of_who (hall_of st b).futures x.0, x.1)) (queue_of st.futures b s q)
   wakers_alike [] at = refl
   wakers_alike (x ∷ q) at = λ i. (waker_seen x at.0 i, x.1) ∷ wakers_alike q at.1 i
 

@@ -17,6 +17,7 @@ pub mod PlaysPours
 pub mod Left
 pub mod PlaysEnds
 pub mod Standing
+pub mod Meets
 pub mod Lives
 pub mod Matching
 pub mod Granted

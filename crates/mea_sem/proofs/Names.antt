@@ -23,7 +23,8 @@ pub get-seen : {X Y : Type 0} (f : ℕ → X → Y) (m : FinMap nat_cmp X) (q : 
 get-seen f m q = get-named f (entries m) q ∙ ap (option_map (f q)) (sym (find-at (entries m) q) ∙ sym (get-entries m q))
 
 -- ---- the search for a name
-pub name_of-found : (m : FinMap nat_cmp FutureEntry) (b s n f : ℕ) → f < b → has s n (get m f) ≡ true → ((g : ℕ) → has s n (get m g) ≡ true → g ≡ f) → name_of m b s n ≡ f
+pub name_of-found : (m : FinMap nat_cmp FutureEntry) (b s n f : ℕ) → f < b → has s n (get m f) ≡ true → ((g : ℕ) → has s n (get m g) ≡ true → g ≡ f)
+    → name_of m b s n ≡ f
 name_of-found m zero s n f below here only = absurd (omega arith)
 name_of-found m (suc b) s n f below here only = by_test (has s n (get m b)) refl (λ small. name_of-found m b s n f small here only)
   where
@@ -64,6 +65,7 @@ pub name-owner : (st : Store) (b s n d : ℕ) → IsLinked st b → (o : IsOwned
 name-owner st b s n d linked o = name-has st b s n o.name linked (owner_has st s n d o)
 
 -- ---- queues under names that stay
-pub queue_of-same : (m k : FinMap nat_cmp FutureEntry) (b c s : ℕ) (q : Queue) → AllByRecursion (λ e. who_of k c s e.0 ≡ who_of m b s e.0) q → queue_of k c s q ≡ queue_of m b s q
+pub queue_of-same : (m k : FinMap nat_cmp FutureEntry) (b c s : ℕ) (q : Queue) → AllByRecursion (λ e. who_of k c s e.0 ≡ who_of m b s e.0) q
+    → queue_of k c s q ≡ queue_of m b s q
 queue_of-same m k b c s [] h = refl
 queue_of-same m k b c s (e ∷ q) h = (λ i. (h.0 i, e.1) ∷ queue_of-same m k b c s q h.1 i)

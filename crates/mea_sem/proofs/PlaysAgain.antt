@@ -27,7 +27,8 @@ first_or_none None = 0
 first_or_none (Some p) = p.0
 
 -- ---- a future that waits under the number m waits on, with another waker
-module _ (st st' : Store) (w sp next i s f v d m l : ℕ) (x : FutureEntry) (e : SemaphoreEntry) (k : IsKept st w sp next) (less : next ≤ i) (low : i < 2 ^ 64) (mine : x.semaphore ≡ s) (acquire : x.acquire ≡ acquires.Queued d m) where
+module _ (st st' : Store) (w sp next i s f v d m l : ℕ) (x : FutureEntry) (e : SemaphoreEntry) (k : IsKept st w sp next) (less : next ≤ i)
+    (low : i < 2 ^ 64) (mine : x.semaphore ≡ s) (acquire : x.acquire ≡ acquires.Queued d m) where
   abbrev this_hall : Hall
   this_hall = hall_of st next
 
@@ -37,7 +38,9 @@ module _ (st st' : Store) (w sp next i s f v d m l : ℕ) (x : FutureEntry) (e :
   abbrev pub waker_entry : SemaphoreEntry
   waker_entry = record e { core = woken_core }
 
-  module _ (there : get st.semaphores s ≡ Some e) (semaphores : (q : ℕ) → get st'.semaphores q ≡ cond (s == q) (Some waker_entry) (get st.semaphores q)) (was : get st.futures f ≡ Some x) (futures : st'.futures ≡ st.futures) (permits : st'.permits ≡ st.permits) (waits : cores.waiting e.core.queue m ≡ Some (d, l)) where
+  module _ (there : get st.semaphores s ≡ Some e)
+      (semaphores : (q : ℕ) → get st'.semaphores q ≡ cond (s == q) (Some waker_entry) (get st.semaphores q)) (was : get st.futures f ≡ Some x)
+      (futures : st'.futures ≡ st.futures) (permits : st'.permits ≡ st.permits) (waits : cores.waiting e.core.queue m ≡ Some (d, l)) where
     same_futures : (g : ℕ) → get st'.futures g ≡ cond (f == g) (Some x) (get st.futures g)
     same_futures g = ap (λ t. get t g) futures ∙ at_f (f == g) refl
       where
@@ -54,13 +57,16 @@ module _ (st st' : Store) (w sp next i s f v d m l : ℕ) (x : FutureEntry) (e :
     belongs_on : (b q : ℕ) → Belongs e.core (acquires.Queued b q) → Belongs woken_core (acquires.Queued b q)
     belongs_on b q h = elim h [ inl granted ↦ inl granted | inr waits ↦ inr (waits.0, waiting-with_waker e.core.queue m v q ∙ waits.1) ]
 
-    waits_now : (q b j : ℕ) → cores.waiting woken_core.queue q ≡ Some (b, j) → ((y : FutureEntry) × (Some x ≡ Some y) × (y.acquire ≡ acquires.Queued b q)) ⊎ ((has s q (Some x) ≡ false) × ((c : ℕ) × (cores.waiting e.core.queue q ≡ Some (b, c))))
+    waits_now : (q b j : ℕ) → cores.waiting woken_core.queue q ≡ Some (b, j)
+        → ((y : FutureEntry) × (Some x ≡ Some y) × (y.acquire ≡ acquires.Queued b q)) ⊎
+        ((has s q (Some x) ≡ false) × ((c : ℕ) × (cores.waiting e.core.queue q ≡ Some (b, c))))
     waits_now q b j is = by_test (has s q (Some x)) refl
       where
         was_so : cores.waiting e.core.queue q ≡ Some (b, j)
         was_so = sym (waiting-with_waker e.core.queue m v q) ∙ is
 
-        by_test : (t : Bool) → has s q (Some x) ≡ t → ((y : FutureEntry) × (Some x ≡ Some y) × (y.acquire ≡ acquires.Queued b q)) ⊎ ((has s q (Some x) ≡ false) × ((c : ℕ) × (cores.waiting e.core.queue q ≡ Some (b, c))))
+        by_test : (t : Bool) → has s q (Some x) ≡ t → ((y : FutureEntry) × (Some x ≡ Some y) × (y.acquire ≡ acquires.Queued b q)) ⊎
+            ((has s q (Some x) ≡ false) × ((c : ℕ) × (cores.waiting e.core.queue q ≡ Some (b, c))))
         by_test false h = inr (h, (j, was_so))
         by_test true h =
             let parts = and_parts _ _ h in
@@ -72,14 +78,19 @@ module _ (st st' : Store) (w sp next i s f v d m l : ℕ) (x : FutureEntry) (e :
     not_mine : (q b : ℕ) → get e.core.granted q ≡ Some b → (t : Bool) → has s q (Some x) ≡ t → t ≡ false
     not_mine q b is false h = refl
     not_mine q b is true h = absurd (
-        let same : m ≡ q = eqb-true m q (ap (λ a. is_under a q) (sym acquire) ∙ (and_parts _ _ h).1) in
-        let none : get e.core.granted q ≡ None = (k.linked.numbered s e there).granted_apart q (λ gone. absurd (let some : cores.waiting e.core.queue q ≡ Some (d, l) = ap (cores.waiting e.core.queue) (sym same) ∙ waits in cc)) in
+        let mine : is_under x.acquire q ≡ true = (and_parts (x.semaphore == s) (is_under x.acquire q) h).1 in
+        let same : m ≡ q = eqb-true m q (subst (λ a. is_under a q ≡ true) acquire mine) in
+        let none : get e.core.granted q ≡ None = (k.linked.numbered s e there).granted_apart q
+        (λ gone. absurd (let some : cores.waiting e.core.queue q ≡ Some (d, l) = ap (cores.waiting e.core.queue) (sym same) ∙ waits in cc)) in
         cc)
 
     numbered_now : IsNumbered woken_core
     numbered_now =
         let old : IsNumbered e.core = k.linked.numbered s e there in
-        record { apart = AreApart-with_waker e.core.queue m v old.apart; granted_apart = λ q waits. old.granted_apart q (λ none. waits (waiting-with_waker e.core.queue m v q ∙ none)) }
+        record {
+          apart = AreApart-with_waker e.core.queue m v old.apart;
+          granted_apart = λ q waits. old.granted_apart q (λ none. waits (waiting-with_waker e.core.queue m v q ∙ none));
+        }
 
     waker_changes : Changes st st' next (i + 1) s f e waker_entry (Some x) (Some x)
     waker_changes = record {
@@ -91,12 +102,15 @@ module _ (st st' : Store) (w sp next i s f v d m l : ℕ) (x : FutureEntry) (e :
       inside = λ y is. (let small : f < next = k.linked.below f x was in omega arith);
       was_of = λ y is. (let same : x ≡ y = cc in ap (λ (z : FutureEntry). z.semaphore) (sym same) ∙ mine);
       is_of = λ y is. (let same : x ≡ y = cc in ap (λ (z : FutureEntry). z.semaphore) (sym same) ∙ mine);
-      home = λ y is. (let same : x ≡ y = cc in subst (λ (z : FutureEntry). Belongs woken_core z.acquire × IsOpen z.acquire) same (subst (λ a. Belongs woken_core a × IsOpen a) (sym acquire) (inr (l, waiting-with_waker e.core.queue m v m ∙ waits), tt)));
+      home = λ y is. (let same : x ≡ y = cc in subst (λ (z : FutureEntry). Belongs woken_core z.acquire × IsOpen z.acquire) same
+          (subst (λ a. Belongs woken_core a × IsOpen a) (sym acquire) (inr (l, waiting-with_waker e.core.queue m v m ∙ waits), tt)));
       kept = λ b q free belongs. belongs_on b q belongs;
       wakers = λ q free free_now. waker-with_waker e.core.queue m v q (apart_from q free);
       waits = waits_now;
       grants = λ q b is. (not_mine q b is (has s q (Some x)) refl, is);
-      alone = λ g q y z is apart there_too yours under under_too. (let same : x ≡ y = cc in apart (k.linked.apart f g q x z was there_too (mine ∙ sym yours) (ap (λ (t : FutureEntry). is_under t.acquire q) same ∙ under) under_too));
+      alone = λ g q y z is apart there_too yours under under_too.
+          (let same : x ≡ y = cc in apart
+          (k.linked.apart f g q x z was there_too (mine ∙ sym yours) (ap (λ (t : FutureEntry). is_under t.acquire q) same ∙ under) under_too));
       numbered = numbered_now;
     }
 
@@ -106,7 +120,14 @@ module _ (st st' : Store) (w sp next i s f v d m l : ℕ) (x : FutureEntry) (e :
     who_same : (z : cores.Waiter ℕ × ℕ) → IsAt e.core.queue z → who_of st'.futures (i + 1) s z.0 ≡ who_of st.futures next s z.0
     who_same (cores.Acquires q b u, j) at =
         let o = k.linked.owned s e q b j there at.0 in
-        let o' : IsOwned st' s q b = record { name = o.name; entry = o.entry; there = ap (λ t. get t o.name) futures ∙ o.there; semaphore = o.semaphore; acquire = o.acquire } in
+        let o' : IsOwned st' s q b = record {
+          name = o.name;
+          entry = o.entry;
+          there = ap (λ t. get t o.name) futures
+              ∙ o.there;
+          semaphore = o.semaphore;
+          acquire = o.acquire;
+        } in
         ap Waiter (name-owner st' (i + 1) s q b linked_now o' ∙ sym (name-owner st next s q b k.linked o))
     who_same (cores.Owes, j) at = refl
 
@@ -123,13 +144,17 @@ module _ (st st' : Store) (w sp next i s f v d m l : ℕ) (x : FutureEntry) (e :
     abbrev again_future : Future
     again_future = record { semaphore = s; demand = d; plain = x.plain; forgets = x.forgets; stage = Waiting v }
 
-    pub plays_again : cause_of this_hall (events.Poll f v) ≡ None → (step this_hall i (events.Poll f v)).hall ≡ with_future this_hall f again_future → cores.held_of woken_core ≡ cores.held_of e.core
+    pub plays_again : cause_of this_hall (events.Poll f v) ≡ None → (step this_hall i (events.Poll f v)).hall ≡ with_future this_hall f again_future
+        → cores.held_of woken_core ≡ cores.held_of e.core
         → Plays st st' next i (events.Poll f v) w sp
     plays_again allowed is held =
         let c = waker_changes in
         let old = k.each s e there in
-        let seen : get this_hall.semaphores s ≡ Some (semaphore_of st.futures next s e) = get-seen (semaphore_of st.futures next) st.semaphores s ∙ ap (option_map (semaphore_of st.futures next s)) there in
-        let queue : queue_of st'.futures (i + 1) s woken_core.queue ≡ queue_of st.futures next s e.core.queue = queue_waker e.core.queue ∙ queue_of-same st.futures st'.futures next (i + 1) s e.core.queue (all_by (IsAt e.core.queue) _ who_same e.core.queue (all_at e.core.queue (k.linked.numbered s e there).apart)) in
+        let seen : get this_hall.semaphores s ≡ Some (semaphore_of st.futures next s e) =
+        get-seen (semaphore_of st.futures next) st.semaphores s ∙ ap (option_map (semaphore_of st.futures next s)) there in
+        let queue : queue_of st'.futures (i + 1) s woken_core.queue ≡ queue_of st.futures next s e.core.queue =
+        queue_waker e.core.queue ∙ queue_of-same st.futures st'.futures next (i + 1) s e.core.queue
+        (all_by (IsAt e.core.queue) _ who_same e.core.queue (all_at e.core.queue (k.linked.numbered s e there).apart)) in
         let future : future_of st'.semaphores x ≡ again_future =
         (λ j. record {
           semaphore = mine j;
@@ -142,11 +167,14 @@ module _ (st st' : Store) (w sp next i s f v d m l : ℕ) (x : FutureEntry) (e :
               ∙ ap (λ o. stage_under (cores.waker_under (queue_in o) m)) (semaphores s ∙ at_same s s (Some waker_entry) (get st.semaphores s) refl)
               ∙ ap stage_under (waker-with_waker_same e.core.queue m v (d, l) waits)) j;
         }) in
-        let before : get this_hall.futures f ≡ Some (future_of st.semaphores x) = get-seen (λ g z. future_of st.semaphores z) st.futures f ∙ ap (option_map (future_of st.semaphores)) was in
-        settled_as st st' w sp next i s (events.Poll f v) e waker_entry k less low tt allowed (with_future this_hall f again_future) is w sp 0 0 0 0 there semaphores
+        let before : get this_hall.futures f ≡ Some (future_of st.semaphores x) =
+        get-seen (λ g z. future_of st.semaphores z) st.futures f ∙ ap (option_map (future_of st.semaphores)) was in
+        settled_as st st' w sp next i s (events.Poll f v) e waker_entry k less low tt allowed (with_future this_hall f again_future)
+        is w sp 0 0 0 0 there semaphores
         ((λ j. record {
           semaphores = (semaphores_after st st' next (i + 1) s f e waker_entry (Some x) (Some x) k.linked c
-              ∙ ap (λ q. insert this_hall.semaphores s (record { free = e.core.free; queue = q; made = e.made; released = e.released; forgotten = e.forgotten; named = e.named })) queue
+              ∙ ap (λ q. insert this_hall.semaphores s
+              (record { free = e.core.free; queue = q; made = e.made; released = e.released; forgotten = e.forgotten; named = e.named })) queue
               ∙ ap (λ z. z.semaphores) (as_it_was this_hall s (semaphore_of st.futures next s e) seen this_hall.permits)) j;
           futures = (futures_put st st' next (i + 1) s f e waker_entry (Some x) (Some x) k.linked c x refl ∙ ap (insert this_hall.futures f) future) j;
           permits = permits j;

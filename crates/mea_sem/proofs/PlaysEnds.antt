@@ -32,7 +32,8 @@ pub record PlaysWith (st st' : Store) (next i : ℕ) (event : SemEvent) (w' sp' 
   pub plays : Plays st st' next i event w' sp'
   pub wakes : (step (hall_of st next) i event).wakes ≡ woken
 
-module _ (st st' : Store) (w w' sp' sp next i s n : ℕ) (e : SemaphoreEntry) (k : IsKept st w sp next) (less : next ≤ i) (low : i < 2 ^ 64) (there : get st.semaphores s ≡ Some e) where
+module _ (st st' : Store) (w w' sp' sp next i s n : ℕ) (e : SemaphoreEntry) (k : IsKept st w sp next) (less : next ≤ i) (low : i < 2 ^ 64)
+    (there : get st.semaphores s ≡ Some e) where
   abbrev h : Hall
   h = hall_of st next
 
@@ -46,7 +47,9 @@ module _ (st st' : Store) (w w' sp' sp next i s n : ℕ) (e : SemaphoreEntry) (k
   abbrev pub released_entry : SemaphoreEntry
   released_entry = record e { released = e.released + n }
 
-  pub plays_release : n < 2 ^ 64 → cause_of h (events.Release s n) ≡ None → ((q : ℕ) → get st'.semaphores q ≡ cond (s == q) (Some (poured_entry released_entry n)) (get st.semaphores q)) → st'.futures ≡ st.futures → st'.permits ≡ st.permits
+  pub plays_release : n < 2 ^ 64 → cause_of h (events.Release s n) ≡ None
+      → ((q : ℕ) → get st'.semaphores q ≡ cond (s == q) (Some (poured_entry released_entry n)) (get st.semaphores q)) → st'.futures ≡ st.futures
+      → st'.permits ≡ st.permits
       → cores.held_of (cores.poured e.core n) ≡ cores.held_of e.core → w' + length (cores.wakers_of (granted_in e.core.queue n)) ≡ w → w' ≤ sp'
       → PlaysWith st st' next i (events.Release s n) w' sp' (cores.wakers_of (granted_in e.core.queue n))
   plays_release small allowed semaphores futures permits held woken room =
@@ -56,13 +59,19 @@ module _ (st st' : Store) (w w' sp' sp next i s n : ℕ) (e : SemaphoreEntry) (k
       let old = k.each s e there in
       let h1 : Hall = released_to h s n in
       let hall : hall_of st1 (i + 1) ≡ h1 =
-      hall_still st st1 next i s e e1 k.linked less there (between_at st st' s e1) futures still (queue_of st.futures next s e.core.queue) (queue_still st st1 next i s e e1 k.linked less there (between_at st st' s e1) futures still)
-      ∙ (λ j. record { semaphores = insert h.semaphores s (record (sym seen j) { released = (sym seen j).released + n }); futures = h.futures; permits = permits j }) in
+      hall_still st st1 next i s e e1 k.linked less there (between_at st st' s e1) futures still (queue_of st.futures next s e.core.queue)
+      (queue_still st st1 next i s e e1 k.linked less there (between_at st st' s e1) futures still)
+      ∙ (λ j. record {
+        semaphores = insert h.semaphores s (record (sym seen j) { released = (sym seen j).released + n });
+        futures = h.futures;
+        permits = permits j;
+      }) in
       let linked = linked_still st st1 next i s e e1 k.linked less there (between_at st st' s e1) futures still in
       record {
         plays = plays_poured st st' w sp next i s n (events.Release s n) e e1 k less low there semaphores h1 w w' sp' 0 0 0 0 tt allowed refl hall linked
             (weighs_semaphore h s s (record (semaphore_at h s) { released = (semaphore_at h s).released + n }))
-            (let o = old.account in omega (arith, o)) (omega (arith, held)) refl (omega arith) (omega arith) (omega arith) refl woken room (let f = k.few in omega (arith, f));
+            (let o = old.account in omega (arith, o)) (omega (arith, held)) refl (omega arith) (omega arith) (omega arith) refl woken room
+            (let f = k.few in omega (arith, f));
         wakes = wakes_poured st st' w sp next i s n (events.Release s n) e e1 k less low there semaphores h1 hall linked;
       }
 
@@ -71,8 +80,10 @@ module _ (st st' : Store) (w w' sp' sp next i s n : ℕ) (e : SemaphoreEntry) (k
   ended_entry x = record e { core = record e.core { live = e.core.live - x.size }; plain = e.plain - one x.plain }
 
   pub plays_end_permit : (p : ℕ) (x : Permit) → x.semaphore ≡ s → get st.permits p ≡ Some x → get h.futures p ≡ None → cause_of h (events.End p) ≡ None
-      → ((q : ℕ) → get st'.semaphores q ≡ cond (s == q) (Some (poured_entry (ended_entry x) x.size)) (get st.semaphores q)) → st'.futures ≡ st.futures → st'.permits ≡ remove st.permits p
-      → cores.held_of (cores.poured (record e.core { live = e.core.live - x.size }) x.size) + x.size ≡ cores.held_of e.core → w' + length (cores.wakers_of (granted_in e.core.queue x.size)) ≡ w → w' ≤ sp'
+      → ((q : ℕ) → get st'.semaphores q ≡ cond (s == q) (Some (poured_entry (ended_entry x) x.size)) (get st.semaphores q)) → st'.futures ≡ st.futures
+      → st'.permits ≡ remove st.permits p
+      → cores.held_of (cores.poured (record e.core { live = e.core.live - x.size }) x.size) + x.size ≡ cores.held_of e.core
+      → w' + length (cores.wakers_of (granted_in e.core.queue x.size)) ≡ w → w' ≤ sp'
       → PlaysWith st st' next i (events.End p) w' sp' (cores.wakers_of (granted_in e.core.queue x.size))
   plays_end_permit p x mine is no_future allowed semaphores futures permits held woken room =
       let e1 : SemaphoreEntry = ended_entry x in
@@ -82,19 +93,24 @@ module _ (st st' : Store) (w w' sp' sp next i s n : ℕ) (e : SemaphoreEntry) (k
       let h1 : Hall = without_permit h p in
       let counts = permit_counts st w sp next p x e k is (ap (get st.semaphores) mine ∙ there) in
       let hall : hall_of st1 (i + 1) ≡ h1 =
-      hall_still st st1 next i s e e1 k.linked less there (between_at st st' s e1) futures still (queue_of st.futures next s e.core.queue) (queue_still st st1 next i s e e1 k.linked less there (between_at st st' s e1) futures still)
-      ∙ as_it_was h s (semaphore_of st.futures next s e) seen_there st'.permits ∙ (λ j. record { semaphores = h.semaphores; futures = h.futures; permits = permits j }) in
+      hall_still st st1 next i s e e1 k.linked less there (between_at st st' s e1) futures still (queue_of st.futures next s e.core.queue)
+      (queue_still st st1 next i s e e1 k.linked less there (between_at st st' s e1) futures still)
+      ∙ as_it_was h s (semaphore_of st.futures next s e) seen_there st'.permits
+      ∙ (λ j. record { semaphores = h.semaphores; futures = h.futures; permits = permits j }) in
       let linked = linked_still st st1 next i s e e1 k.linked less there (between_at st st' s e1) futures still in
       let outcome : step h i (events.End p) ≡ pouring h1 s x.size = ap (end_of h p) no_future ∙ ap (end_permit h p) is ∙ ap (λ q. pouring h1 q x.size) mine in
       record {
-        plays = plays_poured st st' w sp next i s x.size (events.End p) e e1 k less low there semaphores h1 w w' sp' x.size 0 (one x.plain) 0 tt allowed (ap (λ o. o.hall) outcome) hall linked
+        plays = plays_poured st st' w sp next i s x.size (events.End p) e e1 k less low there semaphores h1 w w' sp' x.size 0 (one x.plain)
+            0 tt allowed (ap (λ o. o.hall) outcome) hall linked
             (subst (λ q. Weighs h h1 q x.size 0 (one x.plain) 0) mine (weighs_lost_permit h p x is))
-            (let o = old.account in let c = counts.0 in omega (arith, o, c)) (omega (arith, held)) (let c = counts.1 in omega (arith, c)) (omega arith) (omega arith) (omega arith) refl woken room (let f = k.few in omega (arith, f));
+            (let o = old.account in let c = counts.0 in omega (arith, o, c)) (omega (arith, held)) (let c = counts.1 in omega (arith, c))
+            (omega arith) (omega arith) (omega arith) refl woken room (let f = k.few in omega (arith, f));
         wakes = ap (λ o. o.wakes) outcome ∙ wakes_poured st st' w sp next i s x.size (events.End p) e e1 k less low there semaphores h1 hall linked;
       }
 
   -- ---- a future ends that was never polled
-  module _ (f d : ℕ) (x : FutureEntry) (mine : x.semaphore ≡ s) (was : get st.futures f ≡ Some x) (futures : (g : ℕ) → get st'.futures g ≡ cond (f == g) None (get st.futures g)) (permits : st'.permits ≡ st.permits) where
+  module _ (f d : ℕ) (x : FutureEntry) (mine : x.semaphore ≡ s) (was : get st.futures f ≡ Some x)
+      (futures : (g : ℕ) → get st'.futures g ≡ cond (f == g) None (get st.futures g)) (permits : st'.permits ≡ st.permits) where
     abbrev at_stage : Stage → Future
     at_stage z = record { semaphore = x.semaphore; demand = d; plain = x.plain; forgets = x.forgets; stage = z }
 
@@ -107,7 +123,8 @@ module _ (st st' : Store) (w w' sp' sp next i s n : ℕ) (e : SemaphoreEntry) (k
     lost : (z : Stage) → get h.futures f ≡ Some (at_stage z) → Weighs h (without_future h f) s 0 0 (one x.plain) 0
     lost z is = subst (λ q. Weighs h (without_future h f) q 0 0 (one x.plain) 0) mine (weighs_lost_future h f (at_stage z) is)
 
-    pub plays_end_new : x.acquire ≡ acquires.New d → cause_of h (events.End f) ≡ None → ((q : ℕ) → get st'.semaphores q ≡ cond (s == q) (Some fewer_entry) (get st.semaphores q))
+    pub plays_end_new : x.acquire ≡ acquires.New d → cause_of h (events.End f) ≡ None
+        → ((q : ℕ) → get st'.semaphores q ≡ cond (s == q) (Some fewer_entry) (get st.semaphores q))
         → PlaysWith st st' next i (events.End f) w sp []
     plays_end_new acquire allowed semaphores =
         let c : Leaves st st' s f x e fewer_entry = leaves_new st st' s f d x e fewer_entry there semaphores was futures mine acquire refl refl in
@@ -116,12 +133,25 @@ module _ (st st' : Store) (w w' sp' sp next i s n : ℕ) (e : SemaphoreEntry) (k
         let counts = future_counts st w sp next f (at_stage New) e k is home in
         let old = k.each s e there in
         record {
-          plays = settled_as st st' w sp next i s (events.End f) e fewer_entry k less low tt allowed (without_future h f) (ap (λ o. o.hall) outcome) w sp 0 0 (one x.plain) 0 there semaphores
+          plays = settled_as st st' w sp next i s (events.End f) e fewer_entry k less low tt allowed (without_future h f) (ap (λ o. o.hall) outcome)
+              w sp 0 0 (one x.plain) 0 there semaphores
               (hall_gone st st' next i s f x e fewer_entry k.linked less c
-              ∙ (λ j. record { semaphores = (as_it_was h s (semaphore_of st.futures next s e) seen_there h.permits j).semaphores; futures = remove h.futures f; permits = permits j }))
+              ∙ (λ j. record {
+                semaphores = (as_it_was h s (semaphore_of st.futures next s e) seen_there h.permits j).semaphores;
+                futures = remove h.futures f;
+                permits = permits j;
+              }))
               (linked_gone st st' next i s f x e fewer_entry k.linked less c)
               (lost New is)
-              (record { account = old.account; held = refl; plain = omega (arith, counts); few = omega arith; quiet = old.quiet; released = omega arith; forgotten = omega arith })
+              (record {
+                account = old.account;
+                held = refl;
+                plain = omega (arith, counts);
+                few = omega arith;
+                quiet = old.quiet;
+                released = omega arith;
+                forgotten = omega arith;
+              })
               refl k.room (let f = k.few in omega (arith, f));
           wakes = ap (λ o. o.wakes) outcome;
         }
@@ -132,35 +162,51 @@ module _ (st st' : Store) (w w' sp' sp next i s n : ℕ) (e : SemaphoreEntry) (k
 
     pub plays_end_granted : (m : ℕ) → x.acquire ≡ acquires.Queued d m → get e.core.granted m ≡ Some d → d ≤ e.core.live → cause_of h (events.End f) ≡ None
         → ((q : ℕ) → get st'.semaphores q ≡ cond (s == q) (Some (poured_entry (ungranted_entry m) d)) (get st.semaphores q))
-        → cores.held_of (cores.poured (record e.core { live = e.core.live - d; granted = remove e.core.granted m }) d) ≡ cores.held_of e.core → w' + length (cores.wakers_of (granted_in e.core.queue d)) ≡ w → w' ≤ sp'
+        → cores.held_of (cores.poured (record e.core { live = e.core.live - d; granted = remove e.core.granted m }) d) ≡ cores.held_of e.core
+        → w' + length (cores.wakers_of (granted_in e.core.queue d)) ≡ w → w' ≤ sp'
         → PlaysWith st st' next i (events.End f) w' sp' (cores.wakers_of (granted_in e.core.queue d))
     plays_end_granted m acquire granted within allowed semaphores held woken room =
         let e1 : SemaphoreEntry = ungranted_entry m in
         let st1 : Store = between st st' s e1 in
-        let c : Leaves st st1 s f x e e1 = leaves_granted st st1 next s f d m x e e1 k.linked there (between_at st st' s e1) was futures mine acquire granted refl refl in
+        let c : Leaves st st1 s f x e e1 = leaves_granted st st1 next s f d m x e e1 k.linked there (between_at st st' s e1)
+        was futures mine acquire granted refl refl in
         let none : cores.waiting e.core.queue m ≡ None = not_waiting m d granted (cores.waiting e.core.queue m) refl in
-        let is : get h.futures f ≡ Some (at_stage Granted) = seen_future st next f x e (acquires.Queued d m) Granted was home acquire (ap stage_under (waker-none e.core.queue m none)) in
+        let is : get h.futures f ≡ Some (at_stage Granted) = seen_future st next f x e (acquires.Queued d m) Granted was home acquire
+        (ap stage_under (waker-none e.core.queue m none)) in
         let h1 : Hall = without_future h f in
         let outcome : step h i (events.End f) ≡ pouring h1 s d = ap (end_of h f) is ∙ ap (λ q. pouring h1 q d) mine in
-        let hall : hall_of st1 (i + 1) ≡ h1 = hall_gone st st1 next i s f x e e1 k.linked less c ∙ (λ j. record { semaphores = (as_it_was h s (semaphore_of st.futures next s e) seen_there h.permits j).semaphores; futures = remove h.futures f; permits = permits j }) in
+        let hall : hall_of st1 (i + 1) ≡ h1 = hall_gone st st1 next i s f x e e1 k.linked less c
+        ∙ (λ j. record {
+          semaphores = (as_it_was h s (semaphore_of st.futures next s e) seen_there h.permits j).semaphores;
+          futures = remove h.futures f;
+          permits = permits j;
+        }) in
         let linked = linked_gone st st1 next i s f x e e1 k.linked less c in
         let counts = future_counts st w sp next f (at_stage Granted) e k is home in
         let old = k.each s e there in
         record {
-          plays = plays_poured st st' w sp next i s d (events.End f) e e1 k less low there semaphores h1 w w' sp' 0 0 (one x.plain) 0 tt allowed (ap (λ o. o.hall) outcome) hall linked (lost Granted is)
-              (let o = old.account in omega (arith, o, within)) (omega (arith, held)) (omega (arith, counts)) (omega arith) (omega arith) (omega arith) refl woken room (let f = k.few in omega (arith, f));
+          plays = plays_poured st st' w sp next i s d (events.End f) e e1 k less low there semaphores h1 w w' sp' 0 0 (one x.plain) 0 tt allowed
+              (ap (λ o. o.hall) outcome) hall linked (lost Granted is)
+              (let o = old.account in omega (arith, o, within)) (omega (arith, held)) (omega (arith, counts)) (omega arith) (omega arith)
+              (omega arith) refl woken room (let f = k.few in omega (arith, f));
           wakes = ap (λ o. o.wakes) outcome ∙ wakes_poured st st' w sp next i s d (events.End f) e e1 k less low there semaphores h1 hall linked;
         }
       where
         not_waiting : (m d : ℕ) → get e.core.granted m ≡ Some d → (o : Option (ℕ × ℕ)) → cores.waiting e.core.queue m ≡ o → o ≡ None
         not_waiting m d granted None is = refl
-        not_waiting m d granted (Some p) is = absurd (let none : get e.core.granted m ≡ None = (k.linked.numbered s e there).granted_apart m (λ t. absurd (let no : Some p ≡ None = sym is ∙ t in cc)) in cc)
+        not_waiting m d granted (Some p) is = absurd
+            (let none : get e.core.granted m ≡ None = (k.linked.numbered s e there).granted_apart m
+            (λ t. absurd (let no : Some p ≡ None = sym is ∙ t in cc)) in cc)
 
     -- ---- a future ends that waits
     abbrev pub unqueued_entry : ℕ → ℕ → SemaphoreEntry
-    unqueued_entry m l = record e { core = record e.core { live = e.core.live - (d - l); queue = without_acquire e.core.queue m }; plain = e.plain - one x.plain }
+    unqueued_entry m l = record e {
+      core = record e.core { live = e.core.live - (d - l); queue = without_acquire e.core.queue m };
+      plain = e.plain - one x.plain;
+    }
 
-    pub plays_end_waiting : (m l : ℕ) → x.acquire ≡ acquires.Queued d m → cores.waiting e.core.queue m ≡ Some (d, l) → d - l ≤ e.core.live → cause_of h (events.End f) ≡ None
+    pub plays_end_waiting : (m l : ℕ) → x.acquire ≡ acquires.Queued d m → cores.waiting e.core.queue m ≡ Some (d, l) → d - l ≤ e.core.live
+        → cause_of h (events.End f) ≡ None
         → ((q : ℕ) → get st'.semaphores q ≡ cond (s == q) (Some (poured_entry (unqueued_entry m l) (d - l))) (get st.semaphores q))
         → cores.held_of (cores.poured (record e.core { live = e.core.live - (d - l); queue = without_acquire e.core.queue m }) (d - l)) ≡ cores.held_of e.core
         → w' + 1 + length (cores.wakers_of (granted_in (without_acquire e.core.queue m) (d - l))) ≡ w → w' ≤ sp'
@@ -170,8 +216,10 @@ module _ (st st' : Store) (w w' sp' sp next i s n : ℕ) (e : SemaphoreEntry) (k
         let st1 : Store = between st st' s e1 in
         let numbered = k.linked.numbered s e there in
         let v = waker-some e.core.queue m (d, l) waits in
-        let is : get h.futures f ≡ Some (at_stage (Waiting v.0)) = seen_future st next f x e (acquires.Queued d m) (Waiting v.0) was home acquire (ap stage_under v.1) in
-        let lack : lack_of (queue_of st.futures next s e.core.queue) f ≡ l = lack_left st st1 next i s f m d l x e e1 k.linked less there (between_at st st' s e1) was futures mine acquire waits refl refl in
+        let is : get h.futures f ≡ Some (at_stage (Waiting v.0)) =
+        seen_future st next f x e (acquires.Queued d m) (Waiting v.0) was home acquire (ap stage_under v.1) in
+        let lack : lack_of (queue_of st.futures next s e.core.queue) f ≡ l =
+        lack_left st st1 next i s f m d l x e e1 k.linked less there (between_at st st' s e1) was futures mine acquire waits refl refl in
         let h1 : Hall = leaving h f (at_stage (Waiting v.0)) in
         let outcome : step h i (events.End f) ≡ pouring h1 s (d - l) =
         ap (end_of h f) is
@@ -180,15 +228,23 @@ module _ (st st' : Store) (w w' sp' sp next i s n : ℕ) (e : SemaphoreEntry) (k
         ∙ ap (λ j. pouring h1 s (d - j)) lack in
         let hall : hall_of st1 (i + 1) ≡ h1 =
         hall_left st st1 next i s f m d l x e e1 k.linked less there (between_at st st' s e1) was futures mine acquire waits refl refl
-        ∙ (λ j. record { semaphores = insert h.semaphores s (record (sym seen j) { queue = without (sym seen j).queue f }); futures = remove h.futures f; permits = permits j })
+        ∙ (λ j. record {
+          semaphores = insert h.semaphores s (record (sym seen j) { queue = without (sym seen j).queue f });
+          futures = remove h.futures f;
+          permits = permits j;
+        })
         ∙ ap (λ q. without_future (with_semaphore h q (record (semaphore_at h q) { queue = without (queue_at h q) f })) f) (sym mine) in
         let linked = linked_left st st1 next i s f m d l x e e1 k.linked less there (between_at st st' s e1) was futures mine acquire waits refl refl in
         let counts = future_counts st w sp next f (at_stage (Waiting v.0)) e k is home in
         let old = k.each s e there in
         let left = wakers_without e.core.queue m d l numbered.apart waits in
         record {
-          plays = plays_poured st st' w sp next i s (d - l) (events.End f) e e1 k less low there semaphores h1 (w' + length (cores.wakers_of (granted_in (without_acquire e.core.queue m) (d - l)))) w' sp' 0 0 (one x.plain) 0 tt allowed (ap (λ o. o.hall) outcome) hall linked
+          plays = plays_poured st st' w sp next i s (d - l) (events.End f) e e1 k less low there semaphores h1
+              (w' + length (cores.wakers_of (granted_in (without_acquire e.core.queue m) (d - l)))) w' sp' 0 0 (one x.plain) 0 tt allowed
+              (ap (λ o. o.hall) outcome) hall linked
               (let z = lost (Waiting v.0) is in record { held = λ q. z.held q; plain = λ q. z.plain q })
-              (let o = old.account in let t = debts-without e.core.queue m in omega (arith, o, within, t)) (omega (arith, held)) (omega (arith, counts)) (omega arith) (omega arith) (omega arith) (omega (arith, woken, left)) refl room (let f = k.few in omega (arith, f, woken));
+              (let o = old.account in let t = debts-without e.core.queue m in omega (arith, o, within, t)) (omega (arith, held))
+              (omega (arith, counts)) (omega arith) (omega arith) (omega arith) (omega (arith, woken, left)) refl room
+              (let f = k.few in omega (arith, f, woken));
           wakes = ap (λ o. o.wakes) outcome ∙ wakes_poured st st' w sp next i s (d - l) (events.End f) e e1 k less low there semaphores h1 hall linked;
         }

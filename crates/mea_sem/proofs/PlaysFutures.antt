@@ -41,7 +41,9 @@ module _ (st st' : Store) (w sp next i s n : ℕ) (e : SemaphoreEntry) (k : IsKe
   abbrev pub made_future : Bool → Bool → FutureEntry
   made_future plain forgets = record { semaphore = s; acquire = acquires.New n; plain = plain; forgets = forgets }
 
-  made_changes : (plain forgets : Bool) → get st.semaphores s ≡ Some e → ((q : ℕ) → get st'.semaphores q ≡ cond (s == q) (Some (made_entry plain)) (get st.semaphores q)) → ((g : ℕ) → get st'.futures g ≡ cond (i == g) (Some (made_future plain forgets)) (get st.futures g))
+  made_changes : (plain forgets : Bool) → get st.semaphores s ≡ Some e
+      → ((q : ℕ) → get st'.semaphores q ≡ cond (s == q) (Some (made_entry plain)) (get st.semaphores q))
+      → ((g : ℕ) → get st'.futures g ≡ cond (i == g) (Some (made_future plain forgets)) (get st.futures g))
       → Changes st st' next (i + 1) s i e (made_entry plain) None (Some (made_future plain forgets))
   made_changes plain forgets there semaphores futures = record {
     there = there;
@@ -52,17 +54,22 @@ module _ (st st' : Store) (w sp next i s n : ℕ) (e : SemaphoreEntry) (k : IsKe
     inside = λ x is. omega arith;
     was_of = λ x is. absurd (cc);
     is_of = λ x is. (let same : made_future plain forgets ≡ x = cc in ap (λ (z : FutureEntry). z.semaphore) (sym same));
-    home = λ x is. (let same : made_future plain forgets ≡ x = cc in subst (λ (z : FutureEntry). Belongs (made_entry plain).core z.acquire × IsOpen z.acquire) same (tt, tt));
+    home = λ x is. (let same : made_future plain forgets ≡ x = cc in
+        subst (λ (z : FutureEntry). Belongs (made_entry plain).core z.acquire × IsOpen z.acquire) same (tt, tt));
     kept = λ d m free belongs. belongs;
     wakers = λ m free free_now. refl;
     waits = λ m d l is. inr (refl, (l, is));
     grants = λ m d is. (refl, is);
-    alone = λ g m x y is apart there_too mine under. (let same : made_future plain forgets ≡ x = cc in let never : is_under (acquires.New n) m ≡ true = ap (λ (z : FutureEntry). is_under z.acquire m) same ∙ under in cc);
+    alone = λ g m x y is apart there_too mine under.
+        (let same : made_future plain forgets ≡ x = cc in let never : is_under (acquires.New n) m ≡ true = ap
+        (λ (z : FutureEntry). is_under z.acquire m) same ∙ under in cc);
     numbered = k.linked.numbered s e there;
   }
 
-  pub plays_acquire : (event : SemEvent) (plain forgets : Bool) → Fits event → cause_of h event ≡ None → (step h i event).hall ≡ (acquire_of h i s n plain forgets).hall
-      → get st.semaphores s ≡ Some e → ((q : ℕ) → get st'.semaphores q ≡ cond (s == q) (Some (made_entry plain)) (get st.semaphores q)) → ((g : ℕ) → get st'.futures g ≡ cond (i == g) (Some (made_future plain forgets)) (get st.futures g)) → st'.permits ≡ st.permits
+  pub plays_acquire : (event : SemEvent) (plain forgets : Bool) → Fits event → cause_of h event ≡ None
+      → (step h i event).hall ≡ (acquire_of h i s n plain forgets).hall
+      → get st.semaphores s ≡ Some e → ((q : ℕ) → get st'.semaphores q ≡ cond (s == q) (Some (made_entry plain)) (get st.semaphores q))
+      → ((g : ℕ) → get st'.futures g ≡ cond (i == g) (Some (made_future plain forgets)) (get st.futures g)) → st'.permits ≡ st.permits
       → Plays st st' next i event w sp
   plays_acquire event plain forgets fits allowed is there semaphores futures permits =
       let e' : SemaphoreEntry = made_entry plain in
@@ -70,19 +77,31 @@ module _ (st st' : Store) (w sp next i s n : ℕ) (e : SemaphoreEntry) (k : IsKe
       let c = made_changes plain forgets there semaphores futures in
       let old = k.each s e there in
       let y : Future = record { semaphore = s; demand = n; plain = plain; forgets = forgets; stage = New } in
-      let seen : get h.semaphores s ≡ Some (semaphore_of st.futures next s e) = get-seen (semaphore_of st.futures next) st.semaphores s ∙ ap (option_map (semaphore_of st.futures next s)) there in
-      let absent : get h.futures i ≡ None = get-seen (λ g z. future_of st.semaphores z) st.futures i ∙ ap (option_map (future_of st.semaphores)) (no_future st next i k.linked less) in
+      let seen : get h.semaphores s ≡ Some (semaphore_of st.futures next s e) =
+      get-seen (semaphore_of st.futures next) st.semaphores s ∙ ap (option_map (semaphore_of st.futures next s)) there in
+      let absent : get h.futures i ≡ None = get-seen (λ g z. future_of st.semaphores z) st.futures i
+      ∙ ap (option_map (future_of st.semaphores)) (no_future st next i k.linked less) in
       settled_as st st' w sp next i s event e e' k less low fits allowed (with_future h i y) is w sp 0 0 0 (one plain) there semaphores
       ((λ j. record {
         semaphores = (semaphores_after st st' next (i + 1) s i e e' None (Some x) k.linked c
-            ∙ ap (λ q. insert h.semaphores s (record { free = e.core.free; queue = q; made = e.made; released = e.released; forgotten = e.forgotten; named = e.named })) (queue_kept st st' next (i + 1) s i e e' None (Some x) k.linked c (λ m d l is. refl))
+            ∙ ap (λ q. insert h.semaphores s
+            (record { free = e.core.free; queue = q; made = e.made; released = e.released; forgotten = e.forgotten; named = e.named }))
+            (queue_kept st st' next (i + 1) s i e e' None (Some x) k.linked c (λ m d l is. refl))
             ∙ ap (λ z. z.semaphores) (as_it_was h s (semaphore_of st.futures next s e) seen h.permits)) j;
         futures = futures_put st st' next (i + 1) s i e e' None (Some x) k.linked c x refl j;
         permits = permits j;
       }))
       (linked_after st st' next (i + 1) s i e e' None (Some x) k.linked c)
       (weighs_new_future h i y absent)
-      (record { account = old.account; held = refl; plain = omega arith; few = at_most plain; quiet = old.quiet; released = omega arith; forgotten = omega arith })
+      (record {
+        account = old.account;
+        held = refl;
+        plain = omega arith;
+        few = at_most plain;
+        quiet = old.quiet;
+        released = omega arith;
+        forgotten = omega arith;
+      })
       refl k.room (let f = k.few in omega (arith, f))
     where
       at_most : (t : Bool) → one t ≤ 1
@@ -90,7 +109,8 @@ module _ (st st' : Store) (w sp next i s n : ℕ) (e : SemaphoreEntry) (k : IsKe
       at_most false = omega arith
 
 -- ---- a future begins to wait under the number m, for d permits
-module _ (st st' : Store) (w sp sp' next i s f v d m : ℕ) (x : FutureEntry) (e : SemaphoreEntry) (k : IsKept st w sp next) (less : next ≤ i) (low : i < 2 ^ 64) (mine : x.semaphore ≡ s) (acquire : x.acquire ≡ acquires.New d) where
+module _ (st st' : Store) (w sp sp' next i s f v d m : ℕ) (x : FutureEntry) (e : SemaphoreEntry) (k : IsKept st w sp next) (less : next ≤ i)
+    (low : i < 2 ^ 64) (mine : x.semaphore ≡ s) (acquire : x.acquire ≡ acquires.New d) where
   abbrev hall : Hall
   hall = hall_of st next
 
@@ -103,7 +123,9 @@ module _ (st st' : Store) (w sp sp' next i s f v d m : ℕ) (x : FutureEntry) (e
   abbrev pub queued_future : FutureEntry
   queued_future = record x { acquire = acquires.Queued d m }
 
-  module _ (there : get st.semaphores s ≡ Some e) (semaphores : (q : ℕ) → get st'.semaphores q ≡ cond (s == q) (Some queued_entry) (get st.semaphores q)) (was : get st.futures f ≡ Some x) (futures : (g : ℕ) → get st'.futures g ≡ cond (f == g) (Some queued_future) (get st.futures g)) (permits : st'.permits ≡ st.permits)
+  module _ (there : get st.semaphores s ≡ Some e)
+      (semaphores : (q : ℕ) → get st'.semaphores q ≡ cond (s == q) (Some queued_entry) (get st.semaphores q)) (was : get st.futures f ≡ Some x)
+      (futures : (g : ℕ) → get st'.futures g ≡ cond (f == g) (Some queued_future) (get st.futures g)) (permits : st'.permits ≡ st.permits)
       (not_waiting : cores.waiting e.core.queue m ≡ None) (not_granted : get e.core.granted m ≡ None) where
     never_under : (q : ℕ) → has s q (Some x) ≡ false
     never_under q = ap (λ a. (x.semaphore == s) && is_under a q) acquire ∙ both_false (x.semaphore == s)
@@ -123,7 +145,8 @@ module _ (st st' : Store) (w sp sp' next i s f v d m : ℕ) (x : FutureEntry) (e
           | inr waits ↦ absurd (let none : cores.waiting e.core.queue q ≡ None = ap (cores.waiting e.core.queue) same ∙ not_waiting in let some = waits.1 in cc)
         ]
 
-    alone_now : (g q : ℕ) (y z : FutureEntry) → Some queued_future ≡ Some y → (f ≡ g → ⊥) → get st.futures g ≡ Some z → z.semaphore ≡ s → is_under y.acquire q ≡ true → is_under z.acquire q ≡ true → ⊥
+    alone_now : (g q : ℕ) (y z : FutureEntry) → Some queued_future ≡ Some y → (f ≡ g → ⊥) → get st.futures g ≡ Some z → z.semaphore ≡ s
+        → is_under y.acquire q ≡ true → is_under z.acquire q ≡ true → ⊥
     alone_now g q y z is apart there_too yours under under_too =
         let one : queued_future ≡ y = cc in
         let same : m ≡ q = eqb-true m q (ap (λ (u : FutureEntry). is_under u.acquire q) one ∙ under) in
@@ -135,13 +158,23 @@ module _ (st st' : Store) (w sp sp' next i s f v d m : ℕ) (x : FutureEntry) (e
     belongs_on : (b q : ℕ) → Belongs e.core (acquires.Queued b q) → Belongs queued_core (acquires.Queued b q)
     belongs_on b q h = elim h [
       | inl granted ↦ inl granted
-      | inr waits ↦ inr (waits.0, waiting-push e.core.queue m d v (d - e.core.free) q not_waiting ∙ at_apart m q (Some (d, d - e.core.free)) (cores.waiting e.core.queue q) (λ same. absurd (let none : cores.waiting e.core.queue q ≡ None = ap (cores.waiting e.core.queue) (sym same) ∙ not_waiting in let some = waits.1 in cc)) ∙ waits.1)
+      | inr waits ↦ inr (
+        waits.0,
+        waiting-push e.core.queue m d v (d - e.core.free) q not_waiting
+            ∙ at_apart m q (Some (d, d - e.core.free)) (cores.waiting e.core.queue q)
+            (λ same. absurd (let none : cores.waiting e.core.queue q ≡ None = ap (cores.waiting e.core.queue) (sym same) ∙ not_waiting in
+            let some = waits.1 in cc)) ∙ waits.1,
+      )
     ]
 
-    waits_now : (q b l : ℕ) → cores.waiting queued_core.queue q ≡ Some (b, l) → ((y : FutureEntry) × (Some queued_future ≡ Some y) × (y.acquire ≡ acquires.Queued b q)) ⊎ ((has s q (Some x) ≡ false) × ((j : ℕ) × (cores.waiting e.core.queue q ≡ Some (b, j))))
+    waits_now : (q b l : ℕ) → cores.waiting queued_core.queue q ≡ Some (b, l)
+        → ((y : FutureEntry) × (Some queued_future ≡ Some y) × (y.acquire ≡ acquires.Queued b q)) ⊎
+        ((has s q (Some x) ≡ false) × ((j : ℕ) × (cores.waiting e.core.queue q ≡ Some (b, j))))
     waits_now q b l is = by_test (m == q) refl (sym (waiting-push e.core.queue m d v (d - e.core.free) q not_waiting) ∙ is)
       where
-        by_test : (t : Bool) → (m == q) ≡ t → cond t (Some (d, d - e.core.free)) (cores.waiting e.core.queue q) ≡ Some (b, l) → ((y : FutureEntry) × (Some queued_future ≡ Some y) × (y.acquire ≡ acquires.Queued b q)) ⊎ ((has s q (Some x) ≡ false) × ((j : ℕ) × (cores.waiting e.core.queue q ≡ Some (b, j))))
+        by_test : (t : Bool) → (m == q) ≡ t → cond t (Some (d, d - e.core.free)) (cores.waiting e.core.queue q) ≡ Some (b, l)
+            → ((y : FutureEntry) × (Some queued_future ≡ Some y) × (y.acquire ≡ acquires.Queued b q)) ⊎
+            ((has s q (Some x) ≡ false) × ((j : ℕ) × (cores.waiting e.core.queue q ≡ Some (b, j))))
         by_test true t h = inl (queued_future, refl, (λ j. acquires.Queued (ap first_or_none h j) (eqb-true m q t j)))
         by_test false t h = inr (never_under q, (l, h))
 
@@ -152,7 +185,9 @@ module _ (st st' : Store) (w sp sp' next i s f v d m : ℕ) (x : FutureEntry) (e
       where
         by_test : (q : ℕ) → cores.waiting queued_core.queue q ≢ None → (t : Bool) → (m == q) ≡ t → get e.core.granted q ≡ None
         by_test q waits true h = ap (get e.core.granted) (sym (eqb-true m q h)) ∙ not_granted
-        by_test q waits false h = (k.linked.numbered s e there).granted_apart q (λ none. waits (waiting-push e.core.queue m d v (d - e.core.free) q not_waiting ∙ at_apart m q (Some (d, d - e.core.free)) (cores.waiting e.core.queue q) (eqb-false m q h) ∙ none))
+        by_test q waits false h = (k.linked.numbered s e there).granted_apart q
+            (λ none. waits (waiting-push e.core.queue m d v (d - e.core.free) q not_waiting
+            ∙ at_apart m q (Some (d, d - e.core.free)) (cores.waiting e.core.queue q) (eqb-false m q h) ∙ none))
 
     number_test : (q : ℕ) → has s q (Some queued_future) ≡ false → m ≡ q → ⊥
     number_test q free same = absurd (let here : has s q (Some queued_future) ≡ true = and_from _ _ (eq-eqb _ _ mine) (eq-eqb m q same) in cc)
@@ -167,16 +202,25 @@ module _ (st st' : Store) (w sp sp' next i s f v d m : ℕ) (x : FutureEntry) (e
       inside = λ y is. (let small : f < next = k.linked.below f x was in omega arith);
       was_of = λ y is. (let same : x ≡ y = cc in ap (λ (z : FutureEntry). z.semaphore) (sym same) ∙ mine);
       is_of = λ y is. (let same : queued_future ≡ y = cc in ap (λ (z : FutureEntry). z.semaphore) (sym same) ∙ mine);
-      home = λ y is. (let same : queued_future ≡ y = cc in subst (λ (z : FutureEntry). Belongs queued_core z.acquire × IsOpen z.acquire) same (inr (d - e.core.free, waiting-push e.core.queue m d v (d - e.core.free) m not_waiting ∙ at_same m m (Some (d, d - e.core.free)) (cores.waiting e.core.queue m) refl), tt));
+      home = λ y is. (let same : queued_future ≡ y = cc in subst (λ (z : FutureEntry). Belongs queued_core z.acquire × IsOpen z.acquire) same (
+        inr (
+          d - e.core.free,
+          waiting-push e.core.queue m d v (d - e.core.free) m not_waiting
+              ∙ at_same m m (Some (d, d - e.core.free)) (cores.waiting e.core.queue m) refl,
+        ),
+        tt,
+      ));
       kept = λ b q free belongs. belongs_on b q belongs;
-      wakers = λ q free free_now. waker-push e.core.queue m d v (d - e.core.free) q not_waiting ∙ at_apart m q (Some v) (cores.waker_under e.core.queue q) (number_test q free_now);
+      wakers = λ q free free_now. waker-push e.core.queue m d v (d - e.core.free) q not_waiting
+          ∙ at_apart m q (Some v) (cores.waker_under e.core.queue q) (number_test q free_now);
       waits = waits_now;
       grants = λ q b is. (never_under q, is);
       alone = alone_now;
       numbered = numbered_now;
     }
 
-    queue_pushed : (b : ℕ) (q : List (cores.Waiter ℕ × ℕ)) (z : cores.Waiter ℕ × ℕ) → queue_of st'.futures b s (q ++ z ∷ []) ≡ queue_of st'.futures b s q ++ (who_of st'.futures b s z.0, z.1) ∷ []
+    queue_pushed : (b : ℕ) (q : List (cores.Waiter ℕ × ℕ)) (z : cores.Waiter ℕ × ℕ)
+        → queue_of st'.futures b s (q ++ z ∷ []) ≡ queue_of st'.futures b s q ++ (who_of st'.futures b s z.0, z.1) ∷ []
     queue_pushed b [] z = refl
     queue_pushed b (a ∷ q) z = ap (λ t. (who_of st'.futures b s a.0, a.1) ∷ t) (queue_pushed b q z)
 
@@ -188,19 +232,23 @@ module _ (st st' : Store) (w sp sp' next i s f v d m : ℕ) (x : FutureEntry) (e
     abbrev queued_hall : Hall
     queued_hall = queueing hall f v (record { semaphore = s; demand = d; plain = x.plain; forgets = x.forgets; stage = New })
 
-    pub plays_queued : cause_of hall (events.Poll f v) ≡ None → (step hall i (events.Poll f v)).hall ≡ queued_hall → cores.held_of queued_core ≡ cores.held_of e.core → w + 1 ≤ sp'
+    pub plays_queued : cause_of hall (events.Poll f v) ≡ None → (step hall i (events.Poll f v)).hall ≡ queued_hall
+        → cores.held_of queued_core ≡ cores.held_of e.core → w + 1 ≤ sp'
         → Plays st st' next i (events.Poll f v) (w + 1) sp'
     plays_queued allowed is held room =
         let c = queued_changes in
         let linked = linked_after st st' next (i + 1) s f e queued_entry (Some x) (Some queued_future) k.linked c in
         let old = k.each s e there in
         let y : Future = record { semaphore = s; demand = d; plain = x.plain; forgets = x.forgets; stage = Waiting v } in
-        let seen : get hall.semaphores s ≡ Some (semaphore_of st.futures next s e) = get-seen (semaphore_of st.futures next) st.semaphores s ∙ ap (option_map (semaphore_of st.futures next s)) there in
+        let seen : get hall.semaphores s ≡ Some (semaphore_of st.futures next s e) =
+        get-seen (semaphore_of st.futures next) st.semaphores s ∙ ap (option_map (semaphore_of st.futures next s)) there in
         let r : semaphore_at hall s ≡ semaphore_of st.futures next s e = seen_at st next s e k.linked there in
-        let name : name_of st'.futures (i + 1) s m ≡ f = name-has st' (i + 1) s m f linked (has-from s m (get st'.futures f) queued_future (futures f ∙ at_same f f (Some queued_future) (get st.futures f) refl) mine (eq-eqb m m refl)) in
+        let name : name_of st'.futures (i + 1) s m ≡ f = name-has st' (i + 1) s m f linked
+        (has-from s m (get st'.futures f) queued_future (futures f ∙ at_same f f (Some queued_future) (get st.futures f) refl) mine (eq-eqb m m refl)) in
         let queue : queue_of st'.futures (i + 1) s queued_core.queue ≡ queue_of st.futures next s e.core.queue ++ (Waiter f, d - e.core.free) ∷ [] =
         queue_pushed (i + 1) e.core.queue (cores.Acquires m d v, d - e.core.free)
-        ∙ ap (λ q. q ++ (Waiter (name_of st'.futures (i + 1) s m), d - e.core.free) ∷ []) (queue_kept st st' next (i + 1) s f e queued_entry (Some x) (Some queued_future) k.linked c (λ q b l is. never_under q))
+        ∙ ap (λ q. q ++ (Waiter (name_of st'.futures (i + 1) s m), d - e.core.free) ∷ [])
+        (queue_kept st st' next (i + 1) s f e queued_entry (Some x) (Some queued_future) k.linked c (λ q b l is. never_under q))
         ∙ ap (λ g. queue_of st.futures next s e.core.queue ++ (Waiter g, d - e.core.free) ∷ []) name in
         let future : future_of st'.semaphores queued_future ≡ y =
         (λ j. record {
@@ -211,16 +259,26 @@ module _ (st st' : Store) (w sp sp' next i s f v d m : ℕ) (x : FutureEntry) (e
           stage = (
               ap (λ q. stage_under (cores.waker_under (queue_in (get st'.semaphores q)) m)) mine
               ∙ ap (λ o. stage_under (cores.waker_under (queue_in o) m)) (semaphores s ∙ at_same s s (Some queued_entry) (get st.semaphores s) refl)
-              ∙ ap stage_under (waker-push e.core.queue m d v (d - e.core.free) m not_waiting ∙ at_same m m (Some v) (cores.waker_under e.core.queue m) refl)) j;
+              ∙ ap stage_under (waker-push e.core.queue m d v (d - e.core.free) m not_waiting
+              ∙ at_same m m (Some v) (cores.waker_under e.core.queue m) refl)) j;
         }) in
-        let before : get hall.futures f ≡ Some (future_of st.semaphores x) = get-seen (λ g z. future_of st.semaphores z) st.futures f ∙ ap (option_map (future_of st.semaphores)) was in
+        let before : get hall.futures f ≡ Some (future_of st.semaphores x) =
+        get-seen (λ g z. future_of st.semaphores z) st.futures f ∙ ap (option_map (future_of st.semaphores)) was in
         settled_as st st' w sp next i s (events.Poll f v) e queued_entry k less low tt allowed queued_hall is (w + 1) sp' 0 0 0 0 there semaphores
         ((λ j. record {
           semaphores = (semaphores_after st st' next (i + 1) s f e queued_entry (Some x) (Some queued_future) k.linked c
-              ∙ ap (λ q. insert hall.semaphores s (record { free = 0; queue = q; made = e.made; released = e.released; forgotten = e.forgotten; named = e.named })) queue) j;
-          futures = (futures_put st st' next (i + 1) s f e queued_entry (Some x) (Some queued_future) k.linked c queued_future refl ∙ ap (insert hall.futures f) future) j;
+              ∙ ap (λ q. insert hall.semaphores s
+              (record { free = 0; queue = q; made = e.made; released = e.released; forgotten = e.forgotten; named = e.named })) queue) j;
+          futures = (futures_put st st' next (i + 1) s f e queued_entry (Some x) (Some queued_future) k.linked c queued_future refl
+              ∙ ap (insert hall.futures f) future) j;
           permits = permits j;
-        }) ∙ (λ j. record { semaphores = insert hall.semaphores s (record (sym r j) { free = 0; queue = (sym r j).queue ++ (Waiter f, d - (sym r j).free) ∷ [] }); futures = insert hall.futures f y; permits = hall.permits }))
+        }) ∙ (λ j. record {
+          semaphores = insert hall.semaphores s
+              (record (sym r j) { free = 0; queue = (sym r j).queue ++ (Waiter f, d - (sym r j).free) ∷ [] });
+          futures =
+              insert hall.futures f y;
+          permits = hall.permits;
+        }))
         linked
         (let l = weighs_future hall f y (future_of st.semaphores x) before mine refl in record { held = λ q. l.held q; plain = λ q. l.plain q })
         (record {

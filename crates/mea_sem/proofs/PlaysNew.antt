@@ -36,7 +36,8 @@ module _ (st : Store) (w sp next i : ℕ) (k : IsKept st w sp next) (less : next
       at_value : (o : Option SemaphoreEntry) → get st.semaphores i ≡ o → o ≡ None
       at_value None is = refl
       at_value (Some e) is =
-          let seen : get (hall_of st next).semaphores i ≡ Some (semaphore_of st.futures next i e) = get-seen (semaphore_of st.futures next) st.semaphores i ∙ ap (option_map (semaphore_of st.futures next i)) is in
+          let seen : get (hall_of st next).semaphores i ≡ Some (semaphore_of st.futures next i e) =
+          get-seen (semaphore_of st.futures next) st.semaphores i ∙ ap (option_map (semaphore_of st.futures next i)) is in
           let small : i < next = k.below.semaphores i (ap is_some seen) in
           absurd (omega arith)
 
@@ -45,7 +46,8 @@ module _ (st : Store) (w sp next i : ℕ) (k : IsKept st w sp next) (less : next
 
   not_of : (s : ℕ) → IsSome (get (hall_of st next).semaphores s) → (t : Bool) → (s == i) ≡ t → t ≡ false
   not_of s some false h = refl
-  not_of s some true h = absurd (let here : is_some (get (hall_of st next).semaphores i) ≡ true = ap (λ q. is_some (get (hall_of st next).semaphores q)) (sym (eqb-true s i h)) ∙ some in let none = none_seen in cc)
+  not_of s some true h = absurd (let here : is_some (get (hall_of st next).semaphores i) ≡ true = ap
+      (λ q. is_some (get (hall_of st next).semaphores q)) (sym (eqb-true s i h)) ∙ some in let none = none_seen in cc)
 
   none_if : (t : Bool) (n : ℕ) → t ≡ false → cond t n 0 ≡ 0
   none_if true n h = absurd (cc)
@@ -57,20 +59,26 @@ module _ (st : Store) (w sp next i : ℕ) (k : IsKept st w sp next) (less : next
 
   -- nothing is of a number that was not given
   pub none_held : held (hall_of st next) i ≡ 0
-  none_held = total-zero (λ j (p : Permit). cond (p.semaphore == i) p.size 0) (hall_of st next).permits (λ j p is. none_if (p.semaphore == i) p.size (not_of p.semaphore (k.valid.permits_of j p is) (p.semaphore == i) refl))
+  none_held = total-zero (λ j (p : Permit). cond (p.semaphore == i) p.size 0) (hall_of st next).permits
+      (λ j p is. none_if (p.semaphore == i) p.size (not_of p.semaphore (k.valid.permits_of j p is) (p.semaphore == i) refl))
 
   pub none_plain : plain_things (hall_of st next) i ≡ 0
   none_plain =
-      let fs = total-zero (λ j (p : Future). cond (p.semaphore == i && p.plain) 1 0) (hall_of st next).futures (λ j p is. both_if (p.semaphore == i) p.plain (not_of p.semaphore (k.valid.futures_of j p is) (p.semaphore == i) refl)) in
-      let ps = total-zero (λ j (p : Permit). cond (p.semaphore == i && p.plain) 1 0) (hall_of st next).permits (λ j p is. both_if (p.semaphore == i) p.plain (not_of p.semaphore (k.valid.permits_of j p is) (p.semaphore == i) refl)) in
+      let fs = total-zero (λ j (p : Future). cond (p.semaphore == i && p.plain) 1 0) (hall_of st next).futures
+      (λ j p is. both_if (p.semaphore == i) p.plain (not_of p.semaphore (k.valid.futures_of j p is) (p.semaphore == i) refl)) in
+      let ps = total-zero (λ j (p : Permit). cond (p.semaphore == i && p.plain) 1 0) (hall_of st next).permits
+      (λ j p is. both_if (p.semaphore == i) p.plain (not_of p.semaphore (k.valid.permits_of j p is) (p.semaphore == i) refl)) in
       omega (arith, fs, ps)
 
-  module _ (st' : Store) (n : ℕ) (small : n < 2 ^ 64) (semaphores : (q : ℕ) → get st'.semaphores q ≡ cond (i == q) (Some (fresh_entry n)) (get st.semaphores q)) (futures : st'.futures ≡ st.futures) (permits : st'.permits ≡ st.permits) where
+  module _ (st' : Store) (n : ℕ) (small : n < 2 ^ 64)
+      (semaphores : (q : ℕ) → get st'.semaphores q ≡ cond (i == q) (Some (fresh_entry n)) (get st.semaphores q)) (futures : st'.futures ≡ st.futures)
+      (permits : st'.permits ≡ st.permits) where
     semaphore_other : (q : ℕ) → (i ≡ q → ⊥) → get st'.semaphores q ≡ get st.semaphores q
     semaphore_other q apart = semaphores q ∙ at_apart i q (Some (fresh_entry n)) (get st.semaphores q) apart
 
     semaphore_here : (q : ℕ) (e : SemaphoreEntry) → i ≡ q → get st'.semaphores q ≡ Some e → fresh_entry n ≡ e
-    semaphore_here q e same is = let both : Some (fresh_entry n) ≡ Some e = sym (at_same i q (Some (fresh_entry n)) (get st.semaphores q) same) ∙ sym (semaphores q) ∙ is in cc
+    semaphore_here q e same is = let both : Some (fresh_entry n) ≡ Some e =
+        sym (at_same i q (Some (fresh_entry n)) (get st.semaphores q) same) ∙ sym (semaphores q) ∙ is in cc
 
     not_there : (q : ℕ) (e : SemaphoreEntry) → get st.semaphores q ≡ Some e → i ≡ q → ⊥
     not_there q e is same = absurd (let gone : get st.semaphores q ≡ None = ap (get st.semaphores) (sym same) ∙ no_semaphore in cc)
@@ -83,7 +91,14 @@ module _ (st : Store) (w sp next i : ℕ) (k : IsKept st w sp next) (less : next
 
     linked_now : IsLinked st' (i + 1)
     linked_now = record {
-      home = λ f x is. (let h = home_of f x (back f x is) in record { entry = h.entry; there = semaphore_other x.semaphore (not_there x.semaphore h.entry h.there) ∙ h.there; belongs = h.belongs; open_still = h.open_still });
+      home = λ f x is. (let h = home_of f x (back f x is) in
+          record {
+            entry = h.entry;
+            there = semaphore_other x.semaphore (not_there x.semaphore h.entry h.there)
+                ∙ h.there;
+            belongs = h.belongs;
+            open_still = h.open_still;
+          });
       owned = λ q e m d l is waits. owned_at q e m d l is waits (i == q) refl;
       granted = λ q e m d is grants. granted_at q e m d is grants (i == q) refl;
       apart = λ f g m x y isx isy. k.linked.apart f g m x y (back f x isx) (back g y isy);
@@ -91,20 +106,28 @@ module _ (st : Store) (w sp next i : ℕ) (k : IsKept st w sp next) (less : next
       numbered = λ q e is. numbered_at q e is (i == q) refl;
     }
       where
-        owned_at : (q : ℕ) (e : SemaphoreEntry) (m d l : ℕ) → get st'.semaphores q ≡ Some e → cores.waiting e.core.queue m ≡ Some (d, l) → (t : Bool) → (i == q) ≡ t → IsOwned st' q m d
-        owned_at q e m d l is waits true h = absurd (let same = semaphore_here q e (eqb-true i q h) is in let none : cores.waiting (fresh_core n).queue m ≡ Some (d, l) = ap (λ (x : SemaphoreEntry). cores.waiting x.core.queue m) same ∙ waits in cc)
+        owned_at : (q : ℕ) (e : SemaphoreEntry) (m d l : ℕ) → get st'.semaphores q ≡ Some e → cores.waiting e.core.queue m ≡ Some (d, l) → (t : Bool)
+            → (i == q) ≡ t → IsOwned st' q m d
+        owned_at q e m d l is waits true h = absurd
+            (let same = semaphore_here q e (eqb-true i q h) is in
+            let none : cores.waiting (fresh_core n).queue m ≡ Some (d, l) = ap (λ (x : SemaphoreEntry). cores.waiting x.core.queue m) same ∙ waits in cc)
         owned_at q e m d l is waits false h =
             let o = k.linked.owned q e m d l (sym (semaphore_other q (eqb-false i q h)) ∙ is) waits in
             record { name = o.name; entry = o.entry; there = ap (λ x. get x o.name) futures ∙ o.there; semaphore = o.semaphore; acquire = o.acquire }
 
-        granted_at : (q : ℕ) (e : SemaphoreEntry) (m d : ℕ) → get st'.semaphores q ≡ Some e → get e.core.granted m ≡ Some d → (t : Bool) → (i == q) ≡ t → IsOwned st' q m d
-        granted_at q e m d is grants true h = absurd (let same = semaphore_here q e (eqb-true i q h) is in let none : get (fresh_core n).granted m ≡ Some d = ap (λ (x : SemaphoreEntry). get x.core.granted m) same ∙ grants in let nothing = get-empty {X = ℕ} nat_cmp m in cc)
+        granted_at : (q : ℕ) (e : SemaphoreEntry) (m d : ℕ) → get st'.semaphores q ≡ Some e → get e.core.granted m ≡ Some d → (t : Bool)
+            → (i == q) ≡ t → IsOwned st' q m d
+        granted_at q e m d is grants true h = absurd
+            (let same = semaphore_here q e (eqb-true i q h) is in
+            let none : get (fresh_core n).granted m ≡ Some d = ap (λ (x : SemaphoreEntry). get x.core.granted m) same ∙ grants in
+            let nothing = get-empty {X = ℕ} nat_cmp m in cc)
         granted_at q e m d is grants false h =
             let o = k.linked.granted q e m d (sym (semaphore_other q (eqb-false i q h)) ∙ is) grants in
             record { name = o.name; entry = o.entry; there = ap (λ x. get x o.name) futures ∙ o.there; semaphore = o.semaphore; acquire = o.acquire }
 
         numbered_at : (q : ℕ) (e : SemaphoreEntry) → get st'.semaphores q ≡ Some e → (t : Bool) → (i == q) ≡ t → IsNumbered e.core
-        numbered_at q e is true h = subst (λ (x : SemaphoreEntry). IsNumbered x.core) (semaphore_here q e (eqb-true i q h) is) (record { apart = tt; granted_apart = λ m waits. absurd (waits refl) })
+        numbered_at q e is true h = subst (λ (x : SemaphoreEntry). IsNumbered x.core) (semaphore_here q e (eqb-true i q h) is)
+            (record { apart = tt; granted_apart = λ m waits. absurd (waits refl) })
         numbered_at q e is false h = k.linked.numbered q e (sym (semaphore_other q (eqb-false i q h)) ∙ is)
 
     -- the hall after it
@@ -115,19 +138,29 @@ module _ (st : Store) (w sp next i : ℕ) (k : IsKept st w sp next) (less : next
         ∙ ap (cond (i == q) (Some (made_with n))) (sym (get-seen (semaphore_of st.futures (i + 1)) st.semaphores q))
         ∙ sym (get_inserted (hall_of st (i + 1)).semaphores i q (made_with n)))
       where
-        at_each : (q : ℕ) (t : Bool) (o : Option SemaphoreEntry) → option_map (semaphore_of st'.futures (i + 1) q) (cond t (Some (fresh_entry n)) o) ≡ cond t (Some (made_with n)) (option_map (semaphore_of st.futures (i + 1) q) o)
+        at_each : (q : ℕ) (t : Bool) (o : Option SemaphoreEntry)
+            → option_map (semaphore_of st'.futures (i + 1) q) (cond t (Some (fresh_entry n)) o) ≡ cond t (Some (made_with n))
+            (option_map (semaphore_of st.futures (i + 1) q) o)
         at_each q true o = refl
         at_each q false None = refl
         at_each q false (Some e) = ap (λ m. Some (semaphore_of m (i + 1) q e)) futures
 
     futures_now : (hall_of st' (i + 1)).futures ≡ (hall_of st (i + 1)).futures
-    futures_now = same_named _ _ (λ g. get-seen (λ f x. future_of st'.semaphores x) st'.futures g ∙ ap (λ m. option_map (future_of st'.semaphores) (get m g)) futures ∙ at_each g (get st.futures g) refl ∙ sym (get-seen (λ f x. future_of st.semaphores x) st.futures g))
+    futures_now = same_named _ _ (λ g. get-seen (λ f x. future_of st'.semaphores x) st'.futures g
+        ∙ ap (λ m. option_map (future_of st'.semaphores) (get m g)) futures ∙ at_each g (get st.futures g) refl
+        ∙ sym (get-seen (λ f x. future_of st.semaphores x) st.futures g))
       where
         at_each : (g : ℕ) (o : Option FutureEntry) → get st.futures g ≡ o → option_map (future_of st'.semaphores) o ≡ option_map (future_of st.semaphores) o
         at_each g None is = refl
         at_each g (Some x) is =
             let h = home_of g x is in
-            λ j. Some (record { semaphore = x.semaphore; demand = demand_of x.acquire; plain = x.plain; forgets = x.forgets; stage = stage_of x.acquire (queue_in (semaphore_other x.semaphore (not_there x.semaphore h.entry h.there) j)) })
+            λ j. Some (record {
+              semaphore = x.semaphore;
+              demand = demand_of x.acquire;
+              plain = x.plain;
+              forgets = x.forgets;
+              stage = stage_of x.acquire (queue_in (semaphore_other x.semaphore (not_there x.semaphore h.entry h.there) j));
+            })
 
     hall_now : hall_of st' (i + 1) ≡ with_semaphore (hall_of st next) i (made_with n)
     hall_now =
@@ -137,7 +170,8 @@ module _ (st : Store) (w sp next i : ℕ) (k : IsKept st w sp next) (less : next
     abbrev after : Hall
     after = with_semaphore (hall_of st next) i (made_with n)
 
-    each_now : cores.held_of (fresh_core n) ≡ 0 → (q : ℕ) (e : SemaphoreEntry) → get st'.semaphores q ≡ Some e → (t : Bool) → (i == q) ≡ t → IsKeptEntry after (i + 1) q e
+    each_now : cores.held_of (fresh_core n) ≡ 0 → (q : ℕ) (e : SemaphoreEntry) → get st'.semaphores q ≡ Some e → (t : Bool) → (i == q) ≡ t
+        → IsKeptEntry after (i + 1) q e
     each_now held q e is true h =
         let same = semaphore_here q e (eqb-true i q h) is in
         let nothing = none_held in
@@ -167,9 +201,12 @@ module _ (st : Store) (w sp next i : ℕ) (k : IsKept st w sp next) (less : next
     plays_new held = record {
       hall = hall_now;
       kept = record {
-        valid = subst IsValid (sym hall_now) (keeps_valid (hall_of st next) i (events.New n) k.valid (below_later (hall_of st next) next i less k.below) small refl);
-        below = subst (λ h. IsBelow h (i + 1)) (sym hall_now) (keeps_below (hall_of st next) i (events.New n) k.valid (below_later (hall_of st next) next i less k.below) refl);
-        accounted = λ q. subst (λ h. IsAccounted h q) (sym hall_now) (keeps_account (hall_of st next) i (events.New n) k.valid (below_later (hall_of st next) next i less k.below) refl k.accounted q);
+        valid = subst IsValid (sym hall_now)
+            (keeps_valid (hall_of st next) i (events.New n) k.valid (below_later (hall_of st next) next i less k.below) small refl);
+        below = subst (λ h. IsBelow h (i + 1)) (sym hall_now)
+            (keeps_below (hall_of st next) i (events.New n) k.valid (below_later (hall_of st next) next i less k.below) refl);
+        accounted = λ q. subst (λ h. IsAccounted h q) (sym hall_now)
+            (keeps_account (hall_of st next) i (events.New n) k.valid (below_later (hall_of st next) next i less k.below) refl k.accounted q);
         linked = linked_now;
         each = λ q e is. subst (λ h. IsKeptEntry h (i + 1) q e) (sym hall_now) (each_now held q e is (i == q) refl);
         counted = counted_now;
@@ -185,7 +222,10 @@ module _ (st : Store) (w sp next i : ℕ) (k : IsKept st w sp next) (less : next
         counted_now : w ≡ total (λ q (x : SemaphoreEntry). wakers_in x.core.queue) st'.semaphores
         counted_now =
             let sums = total-insert (λ q (x : SemaphoreEntry). wakers_in x.core.queue) st.semaphores i (fresh_entry n) in
-            let mine : weight (λ q (x : SemaphoreEntry). wakers_in x.core.queue) i (get st.semaphores i) ≡ 0 = ap (weight (λ q (x : SemaphoreEntry). wakers_in x.core.queue) i) no_semaphore in
-            let now : total (λ q (x : SemaphoreEntry). wakers_in x.core.queue) st'.semaphores ≡ total (λ q (x : SemaphoreEntry). wakers_in x.core.queue) (insert st.semaphores i (fresh_entry n)) = ap (total (λ q (x : SemaphoreEntry). wakers_in x.core.queue)) inserted in
+            let mine : weight (λ q (x : SemaphoreEntry). wakers_in x.core.queue) i (get st.semaphores i) ≡ 0 =
+            ap (weight (λ q (x : SemaphoreEntry). wakers_in x.core.queue) i) no_semaphore in
+            let now : total (λ q (x : SemaphoreEntry). wakers_in x.core.queue) st'.semaphores ≡ total
+            (λ q (x : SemaphoreEntry). wakers_in x.core.queue) (insert st.semaphores i (fresh_entry n)) =
+            ap (total (λ q (x : SemaphoreEntry). wakers_in x.core.queue)) inserted in
             let before = k.counted in
             omega (arith, sums, mine, now, before)

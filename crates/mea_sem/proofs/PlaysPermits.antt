@@ -34,8 +34,15 @@ no_permit st w sp next i k less = at_value (get st.permits i) refl
     at_value (Some x) is = let small : i < next = k.below.permits i (ap is_some is) in absurd (omega arith)
 
 -- what stands at a name may be put there again
-pub as_it_was : (h : Hall) (s : ℕ) (r : Semaphore) → get h.semaphores s ≡ Some r → (ps : FinMap nat_cmp Permit) → ◌≡◌ {A = Hall} (record { semaphores = insert h.semaphores s r; futures = h.futures; permits = ps }) (record { semaphores = h.semaphores; futures = h.futures; permits = ps })
-as_it_was h s r there ps = λ j. record { semaphores = same_named (insert h.semaphores s r) h.semaphores (λ q. get_inserted h.semaphores s q r ∙ at_each q (s == q) refl) j; futures = h.futures; permits = ps }
+pub as_it_was : (h : Hall) (s : ℕ) (r : Semaphore) → get h.semaphores s ≡ Some r → (ps : FinMap nat_cmp Permit)
+    → ◌≡◌ {A = Hall} (record { semaphores = insert h.semaphores s r; futures = h.futures; permits = ps })
+    (record { semaphores = h.semaphores; futures = h.futures; permits = ps })
+as_it_was h s r there ps = λ j. record {
+  semaphores = same_named (insert h.semaphores s r) h.semaphores
+      (λ q. get_inserted h.semaphores s q r ∙ at_each q (s == q) refl) j;
+  futures = h.futures;
+  permits = ps;
+}
   where
     at_each : (q : ℕ) (t : Bool) → (s == q) ≡ t → cond t (Some r) (get h.semaphores q) ≡ get h.semaphores q
     at_each q true is = sym there ∙ ap (get h.semaphores) (eqb-true s q is)
@@ -46,7 +53,8 @@ pub weighs_besides : (h g : Hall) (q s a b p r : ℕ) (m : Semaphore) → Weighs
 weighs_besides h g q s a b p r m x = record { held = λ k. x.held k; plain = λ k. x.plain k }
 
 -- a permit is held, and a plain one is counted
-pub permit_counts : (st : Store) (w sp next p : ℕ) (x : Permit) (e : SemaphoreEntry) → IsKept st w sp next → get st.permits p ≡ Some x → get st.semaphores x.semaphore ≡ Some e → (x.size ≤ cores.held_of e.core) × (one x.plain ≤ e.plain)
+pub permit_counts : (st : Store) (w sp next p : ℕ) (x : Permit) (e : SemaphoreEntry) → IsKept st w sp next → get st.permits p ≡ Some x
+    → get st.semaphores x.semaphore ≡ Some e → (x.size ≤ cores.held_of e.core) × (one x.plain ≤ e.plain)
 permit_counts st w sp next p x e k is there =
     let lost = weighs_lost_permit (hall_of st next) p x is in
     let a = lost.held x.semaphore in
@@ -60,7 +68,9 @@ permit_counts st w sp next p x e k is there =
     (omega (arith, a, c, t, u), omega (arith, b, d, v, u))
 
 -- two permits of one semaphore are held together
-pub permits_count : (st : Store) (w sp next p q : ℕ) (x y : Permit) (e : SemaphoreEntry) → IsKept st w sp next → (p ≡ q → ⊥) → get st.permits p ≡ Some x → get st.permits q ≡ Some y → x.semaphore ≡ y.semaphore → get st.semaphores x.semaphore ≡ Some e → x.size + y.size ≤ cores.held_of e.core
+pub permits_count : (st : Store) (w sp next p q : ℕ) (x y : Permit) (e : SemaphoreEntry) → IsKept st w sp next → (p ≡ q → ⊥)
+    → get st.permits p ≡ Some x → get st.permits q ≡ Some y → x.semaphore ≡ y.semaphore → get st.semaphores x.semaphore ≡ Some e
+    → x.size + y.size ≤ cores.held_of e.core
 permits_count st w sp next p q x y e k apart isx isy same there =
     let h : Hall = hall_of st next in
     let first = weighs_lost_permit h q y isy in
@@ -80,7 +90,8 @@ module _ (st st' : Store) (w sp next i s n : ℕ) (e : SemaphoreEntry) (k : IsKe
   abbrev taken_entry : Bool → SemaphoreEntry
   taken_entry plain = record e { core = record e.core { free = e.core.free - n }; plain = e.plain + one plain }
 
-  pub plays_try : (event : SemEvent) (plain : Bool) → Fits event → cause_of (hall_of st next) event ≡ None → (step (hall_of st next) i event).hall ≡ (try_of (hall_of st next) i s n plain).hall
+  pub plays_try : (event : SemEvent) (plain : Bool) → Fits event → cause_of (hall_of st next) event ≡ None
+      → (step (hall_of st next) i event).hall ≡ (try_of (hall_of st next) i s n plain).hall
       → n ≤ e.core.free → Puts st st' s e (taken_entry plain) → st'.permits ≡ insert st.permits i (record { semaphore = s; size = n; plain = plain })
       → cores.held_of (record e.core { free = e.core.free - n }) ≡ cores.held_of e.core + n
       → Plays st st' next i event w sp
@@ -95,10 +106,12 @@ module _ (st st' : Store) (w sp next i s n : ℕ) (e : SemaphoreEntry) (k : IsKe
       let g : Hall = with_permit (with_semaphore h s (taking (semaphore_at h s) n)) i x in
       let chosen : (step h i event).hall ≡ g = is ∙ ap (λ b. (if b then quietly g answers.Held else quietly h answers.Lacking).hall) fits_in in
       settled_as st st' w sp next i s event e e' k less low fits allowed g chosen w sp 0 n 0 (one plain) c.there c.semaphores
-      (hall_still st st' next i s e e' k.linked less c.there c.semaphores c.futures still (queue_of st.futures next s e.core.queue) (queue_still st st' next i s e e' k.linked less c.there c.semaphores c.futures still)
+      (hall_still st st' next i s e e' k.linked less c.there c.semaphores c.futures still (queue_of st.futures next s e.core.queue)
+      (queue_still st st' next i s e e' k.linked less c.there c.semaphores c.futures still)
       ∙ (λ j. record { semaphores = insert h.semaphores s (taking (sym seen j) n); futures = h.futures; permits = permits j }))
       (linked_still st st' next i s e e' k.linked less c.there c.semaphores c.futures still)
-      (weighs_besides h g s s 0 n 0 (one plain) (taking (semaphore_at h s) n) (weighs_new_permit (with_semaphore h s (taking (semaphore_at h s) n)) i x (no_permit st w sp next i k less)))
+      (weighs_besides h g s s 0 n 0 (one plain) (taking (semaphore_at h s) n)
+      (weighs_new_permit (with_semaphore h s (taking (semaphore_at h s) n)) i x (no_permit st w sp next i k less)))
       (record {
         account = old.account;
         held = omega (arith, held);
@@ -119,7 +132,8 @@ module _ (st st' : Store) (w sp next i s n : ℕ) (e : SemaphoreEntry) (k : IsKe
   lost_entry x = record e { core = record e.core { live = e.core.live - x.size }; forgotten = e.forgotten + x.size; plain = e.plain - one x.plain }
 
   pub plays_lose : (x : Permit) → x.semaphore ≡ s → x.size < 2 ^ 64 → get st.permits n ≡ Some x → cause_of (hall_of st next) (events.Lose n) ≡ None
-      → Puts st st' s e (lost_entry x) → st'.permits ≡ remove st.permits n → cores.held_of (record e.core { live = e.core.live - x.size }) + x.size ≡ cores.held_of e.core
+      → Puts st st' s e (lost_entry x) → st'.permits ≡ remove st.permits n
+      → cores.held_of (record e.core { live = e.core.live - x.size }) + x.size ≡ cores.held_of e.core
       → Plays st st' next i (events.Lose n) w sp
   plays_lose x mine small there allowed c permits held =
       let e' : SemaphoreEntry = lost_entry x in
@@ -130,11 +144,18 @@ module _ (st st' : Store) (w sp next i s n : ℕ) (e : SemaphoreEntry) (k : IsKe
       let counts = permit_counts st w sp next n x e k there (ap (get st.semaphores) mine ∙ c.there) in
       let r : Semaphore = record (semaphore_at h s) { forgotten = (semaphore_at h s).forgotten + x.size } in
       let g : Hall = with_semaphore (without_permit h n) s r in
-      let chosen : (step h i (events.Lose n)).hall ≡ g = ap (λ o. (lose_of h n o).hall) there ∙ ap (λ q. with_semaphore (without_permit h n) q (record (semaphore_at h q) { forgotten = (semaphore_at h q).forgotten + x.size })) mine in
-      let lost : Weighs h g x.semaphore x.size 0 (one x.plain) 0 = (let l = weighs_lost_permit h n x there in record { held = λ q. l.held q; plain = λ q. l.plain q }) in
+      let chosen : (step h i (events.Lose n)).hall ≡ g = ap (λ o. (lose_of h n o).hall) there
+      ∙ ap (λ q. with_semaphore (without_permit h n) q (record (semaphore_at h q) { forgotten = (semaphore_at h q).forgotten + x.size })) mine in
+      let lost : Weighs h g x.semaphore x.size 0 (one x.plain) 0 =
+      (let l = weighs_lost_permit h n x there in record { held = λ q. l.held q; plain = λ q. l.plain q }) in
       settled_as st st' w sp next i s (events.Lose n) e e' k less low tt allowed g chosen w sp x.size 0 (one x.plain) 0 c.there c.semaphores
-      (hall_still st st' next i s e e' k.linked less c.there c.semaphores c.futures still (queue_of st.futures next s e.core.queue) (queue_still st st' next i s e e' k.linked less c.there c.semaphores c.futures still)
-      ∙ (λ j. record { semaphores = insert h.semaphores s (record (sym seen j) { forgotten = (sym seen j).forgotten + x.size }); futures = h.futures; permits = permits j }))
+      (hall_still st st' next i s e e' k.linked less c.there c.semaphores c.futures still (queue_of st.futures next s e.core.queue)
+      (queue_still st st' next i s e e' k.linked less c.there c.semaphores c.futures still)
+      ∙ (λ j. record {
+        semaphores = insert h.semaphores s (record (sym seen j) { forgotten = (sym seen j).forgotten + x.size });
+        futures = h.futures;
+        permits = permits j;
+      }))
       (linked_still st st' next i s e e' k.linked less c.there c.semaphores c.futures still)
       (subst (λ q. Weighs h g q x.size 0 (one x.plain) 0) mine lost)
       (record {
@@ -152,7 +173,8 @@ module _ (st st' : Store) (w sp next i s n : ℕ) (e : SemaphoreEntry) (k : IsKe
   abbrev fewer_entry : Bool → SemaphoreEntry
   fewer_entry plain = record e { plain = e.plain - one plain }
 
-  pub plays_merge : (p : ℕ) (x y : Permit) → x.semaphore ≡ s → y.semaphore ≡ s → y.plain ≡ x.plain → (p ≡ n → ⊥) → get st.permits p ≡ Some x → get st.permits n ≡ Some y → cause_of (hall_of st next) (events.Merge p n) ≡ None
+  pub plays_merge : (p : ℕ) (x y : Permit) → x.semaphore ≡ s → y.semaphore ≡ s → y.plain ≡ x.plain → (p ≡ n → ⊥) → get st.permits p ≡ Some x
+      → get st.permits n ≡ Some y → cause_of (hall_of st next) (events.Merge p n) ≡ None
       → Puts st st' s e (fewer_entry x.plain) → st'.permits ≡ insert (remove st.permits n) p (record x { size = x.size + y.size })
       → Plays st st' next i (events.Merge p n) w sp
   plays_merge p x y mine yours form apart there there_too allowed c permits =
@@ -166,12 +188,18 @@ module _ (st st' : Store) (w sp next i s n : ℕ) (e : SemaphoreEntry) (k : IsKe
       let g : Hall = with_permit (without_permit h n) p z in
       let chosen : (step h i (events.Merge p n)).hall ≡ g = (λ j. merge_of h p n (there j) (there_too j)) in
       let left : get (without_permit h n).permits p ≡ Some x = get_removed h.permits n p ∙ at_apart n p None (get h.permits p) (λ t. apart (sym t)) ∙ there in
-      let first : Weighs h (without_permit h n) s y.size 0 (one x.plain) 0 = subst (λ b. Weighs h (without_permit h n) s y.size 0 (one b) 0) form (subst (λ q. Weighs h (without_permit h n) q y.size 0 (one y.plain) 0) yours (weighs_lost_permit h n y there_too)) in
-      let second : Weighs (without_permit h n) g s x.size z.size 0 0 = subst (λ q. Weighs (without_permit h n) g q x.size z.size 0 0) mine (weighs_permit (without_permit h n) p z x left refl refl) in
+      let first : Weighs h (without_permit h n) s y.size 0 (one x.plain) 0 =
+      subst (λ b. Weighs h (without_permit h n) s y.size 0 (one b) 0) form
+      (subst (λ q. Weighs h (without_permit h n) q y.size 0 (one y.plain) 0) yours (weighs_lost_permit h n y there_too)) in
+      let second : Weighs (without_permit h n) g s x.size z.size 0 0 =
+      subst (λ q. Weighs (without_permit h n) g q x.size z.size 0 0) mine (weighs_permit (without_permit h n) p z x left refl refl) in
       let both = weighs_after h (without_permit h n) g s y.size 0 (one x.plain) 0 x.size z.size 0 0 first second in
-      let same : record { semaphores = insert h.semaphores s (semaphore_of st.futures next s e); futures = h.futures; permits = st'.permits } ≡ g = as_it_was h s (semaphore_of st.futures next s e) (get_semaphore c.there) st'.permits ∙ (λ j. record { semaphores = h.semaphores; futures = h.futures; permits = permits j }) in
+      let same : record { semaphores = insert h.semaphores s (semaphore_of st.futures next s e); futures = h.futures; permits = st'.permits } ≡ g =
+      as_it_was h s (semaphore_of st.futures next s e) (get_semaphore c.there) st'.permits
+      ∙ (λ j. record { semaphores = h.semaphores; futures = h.futures; permits = permits j }) in
       settled_as st st' w sp next i s (events.Merge p n) e e' k less low tt allowed g chosen w sp 0 0 (one x.plain) 0 c.there c.semaphores
-      (hall_still st st' next i s e e' k.linked less c.there c.semaphores c.futures still (queue_of st.futures next s e.core.queue) (queue_still st st' next i s e e' k.linked less c.there c.semaphores c.futures still) ∙ same)
+      (hall_still st st' next i s e e' k.linked less c.there c.semaphores c.futures still (queue_of st.futures next s e.core.queue)
+      (queue_still st st' next i s e e' k.linked less c.there c.semaphores c.futures still) ∙ same)
       (linked_still st st' next i s e e' k.linked less c.there c.semaphores c.futures still)
       (weighs_as h g s (y.size + x.size) (0 + z.size) (one x.plain + 0) (0 + 0) 0 0 (one x.plain) 0 both (omega arith) (omega arith))
       (record {
@@ -203,14 +231,23 @@ module _ (st st' : Store) (w sp next i s n : ℕ) (e : SemaphoreEntry) (k : IsKe
       let y : Permit = record x { size = x.size - n } in
       let z : Permit = record x { size = n } in
       let g : Hall = with_permit (with_permit h p y) i z in
-      let chosen : (step h i (events.Split p n)).hall ≡ g = ap (λ o. (split_of h i p n o).hall) there ∙ ap (λ b. (if b then quietly g answers.Held else quietly h answers.Lacking).hall) (le-leb n x.size enough) in
-      let first : Weighs h (with_permit h p y) s x.size y.size 0 0 = subst (λ q. Weighs h (with_permit h p y) q x.size y.size 0 0) mine (weighs_permit h p y x there refl refl) in
-      let absent : get (with_permit h p y).permits i ≡ None = get_inserted h.permits p i y ∙ at_apart p i (Some y) (get h.permits i) (λ same. (let small : p < next = k.below.permits p (ap is_some there) in absurd (omega arith))) ∙ no_permit st w sp next i k less in
-      let second : Weighs (with_permit h p y) g s 0 n 0 (one x.plain) = subst (λ q. Weighs (with_permit h p y) g q 0 n 0 (one x.plain)) mine (weighs_new_permit (with_permit h p y) i z absent) in
+      let chosen : (step h i (events.Split p n)).hall ≡ g = ap (λ o. (split_of h i p n o).hall) there
+      ∙ ap (λ b. (if b then quietly g answers.Held else quietly h answers.Lacking).hall) (le-leb n x.size enough) in
+      let first : Weighs h (with_permit h p y) s x.size y.size 0 0 =
+      subst (λ q. Weighs h (with_permit h p y) q x.size y.size 0 0) mine (weighs_permit h p y x there refl refl) in
+      let absent : get (with_permit h p y).permits i ≡ None =
+      get_inserted h.permits p i y ∙ at_apart p i (Some y) (get h.permits i)
+      (λ same. (let small : p < next = k.below.permits p (ap is_some there) in absurd (omega arith))) ∙ no_permit st w sp next i k less in
+      let second : Weighs (with_permit h p y) g s 0 n 0 (one x.plain) =
+      subst (λ q. Weighs (with_permit h p y) g q 0 n 0 (one x.plain)) mine (weighs_new_permit (with_permit h p y) i z absent) in
       let both = weighs_after h (with_permit h p y) g s x.size y.size 0 0 0 n 0 (one x.plain) first second in
-      let same : record { semaphores = insert h.semaphores s (semaphore_of st.futures next s e); futures = h.futures; permits = st'.permits } ≡ g = as_it_was h s (semaphore_of st.futures next s e) (get-seen (semaphore_of st.futures next) st.semaphores s ∙ ap (option_map (semaphore_of st.futures next s)) c.there) st'.permits ∙ (λ j. record { semaphores = h.semaphores; futures = h.futures; permits = permits j }) in
+      let same : record { semaphores = insert h.semaphores s (semaphore_of st.futures next s e); futures = h.futures; permits = st'.permits } ≡ g =
+      as_it_was h s (semaphore_of st.futures next s e)
+      (get-seen (semaphore_of st.futures next) st.semaphores s ∙ ap (option_map (semaphore_of st.futures next s)) c.there) st'.permits
+      ∙ (λ j. record { semaphores = h.semaphores; futures = h.futures; permits = permits j }) in
       settled_as st st' w sp next i s (events.Split p n) e e' k less low tt allowed g chosen w sp 0 0 0 (one x.plain) c.there c.semaphores
-      (hall_still st st' next i s e e' k.linked less c.there c.semaphores c.futures still (queue_of st.futures next s e.core.queue) (queue_still st st' next i s e e' k.linked less c.there c.semaphores c.futures still) ∙ same)
+      (hall_still st st' next i s e e' k.linked less c.there c.semaphores c.futures still (queue_of st.futures next s e.core.queue)
+      (queue_still st st' next i s e e' k.linked less c.there c.semaphores c.futures still) ∙ same)
       (linked_still st st' next i s e e' k.linked less c.there c.semaphores c.futures still)
       (weighs_as h g s (x.size + 0) (y.size + n) (0 + 0) (0 + one x.plain) 0 0 0 (one x.plain) both (omega arith) (omega arith))
       (record {

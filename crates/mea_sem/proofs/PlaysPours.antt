@@ -18,15 +18,18 @@ use Rattle.mea_sem.proofs.Weighs.{Weighs, weighs_after, weighs_as, weighs_pour}
 use Rattle.mea_sem.proofs.Keeping.{Plays, settled_as}
 
 -- ---- the wakers of those who are granted leave the queue
-wakers_split : (q : List (cores.Waiter ℕ × ℕ)) (before n : ℕ) → wakers_in (still_waiting (lacks_after before q n)) + length (cores.wakers_of (paid_whole (lacks_after before q n))) ≡ wakers_in q
+wakers_split : (q : List (cores.Waiter ℕ × ℕ)) (before n : ℕ)
+    → wakers_in (still_waiting (lacks_after before q n)) + length (cores.wakers_of (paid_whole (lacks_after before q n))) ≡ wakers_in q
 wakers_split [] before n = refl
 wakers_split ((cores.Acquires m d v, l) ∷ q) before n =
     let so_far = wakers_split q (before + l) n in
-    one_more (min l (before + l - n)) (λ rest paid. wakers_in rest + length (cores.wakers_of paid) ≡ wakers_in q + 1) (cores.Acquires m d v) (still_waiting (lacks_after (before + l) q n)) (filter {X = cores.Waiter ℕ × ℕ} (λ e. e.1 == 0) (lacks_after (before + l) q n))
+    one_more (min l (before + l - n)) (λ rest paid. wakers_in rest + length (cores.wakers_of paid) ≡ wakers_in q + 1) (cores.Acquires m d v)
+    (still_waiting (lacks_after (before + l) q n)) (filter {X = cores.Waiter ℕ × ℕ} (λ e. e.1 == 0) (lacks_after (before + l) q n))
     (omega (arith, so_far)) (omega (arith, so_far))
 wakers_split ((cores.Owes, l) ∷ q) before n =
     let so_far = wakers_split q (before + l) n in
-    one_more (min l (before + l - n)) (λ rest paid. wakers_in rest + length (cores.wakers_of paid) ≡ wakers_in q) cores.Owes (still_waiting (lacks_after (before + l) q n)) (filter {X = cores.Waiter ℕ × ℕ} (λ e. e.1 == 0) (lacks_after (before + l) q n))
+    one_more (min l (before + l - n)) (λ rest paid. wakers_in rest + length (cores.wakers_of paid) ≡ wakers_in q) cores.Owes
+    (still_waiting (lacks_after (before + l) q n)) (filter {X = cores.Waiter ℕ × ℕ} (λ e. e.1 == 0) (lacks_after (before + l) q n))
     so_far so_far
 
 pub wakers_poured : (q : List (cores.Waiter ℕ × ℕ)) (n : ℕ) → wakers_in (waiting_after q n) + length (cores.wakers_of (granted_in q n)) ≡ wakers_in q
@@ -47,14 +50,17 @@ twice : {X : Type 0} (t : Bool) (a b c : X) → cond t a c ≡ cond t a (cond t 
 twice true a b c = refl
 twice false a b c = refl
 
-module _ (st st' : Store) (w sp next i s n : ℕ) (event : SemEvent) (e e1 : SemaphoreEntry) (k : IsKept st w sp next) (less : next ≤ i) (low : i < 2 ^ 64) (there : get st.semaphores s ≡ Some e) (semaphores : (q : ℕ) → get st'.semaphores q ≡ cond (s == q) (Some (poured_entry e1 n)) (get st.semaphores q)) where
+module _ (st st' : Store) (w sp next i s n : ℕ) (event : SemEvent) (e e1 : SemaphoreEntry) (k : IsKept st w sp next) (less : next ≤ i)
+    (low : i < 2 ^ 64) (there : get st.semaphores s ≡ Some e)
+    (semaphores : (q : ℕ) → get st'.semaphores q ≡ cond (s == q) (Some (poured_entry e1 n)) (get st.semaphores q)) where
   abbrev st1 : Store
   st1 = between st st' s e1
 
   into : PoursInto st1 st' s n e1 (poured_entry e1 n)
   into = record {
     there = between_at st st' s e1 s ∙ at_same s s (Some e1) (get st.semaphores s) refl;
-    semaphores = λ q. semaphores q ∙ twice (s == q) (Some (poured_entry e1 n)) (Some e1) (get st.semaphores q) ∙ ap (cond (s == q) (Some (poured_entry e1 n))) (sym (between_at st st' s e1 q));
+    semaphores = λ q. semaphores q ∙ twice (s == q) (Some (poured_entry e1 n)) (Some e1) (get st.semaphores q)
+        ∙ ap (cond (s == q) (Some (poured_entry e1 n))) (sym (between_at st st' s e1 q));
     futures = refl;
     permits = refl;
     free = refl;
@@ -70,7 +76,8 @@ module _ (st st' : Store) (w sp next i s n : ℕ) (event : SemEvent) (e e1 : Sem
   pub wakes_poured : (h1 : Hall) → hall_of st1 (i + 1) ≡ h1 → IsLinked st1 (i + 1) → wakes_of h1 s n ≡ cores.wakers_of (granted_in e1.core.queue n)
   wakes_poured h1 is linked = ap (λ h. wakes_of h s n) (sym is) ∙ wakes_seen st1 (i + 1) s e1 linked into.there n
 
-  pub plays_poured : (h1 : Hall) (w1 w' sp' a b p r : ℕ) → Fits event → cause_of (hall_of st next) event ≡ None → (step (hall_of st next) i event).hall ≡ pour h1 s n
+  pub plays_poured : (h1 : Hall) (w1 w' sp' a b p r : ℕ) → Fits event → cause_of (hall_of st next) event ≡ None
+      → (step (hall_of st next) i event).hall ≡ pour h1 s n
       → hall_of st1 (i + 1) ≡ h1 → IsLinked st1 (i + 1) → Weighs (hall_of st next) h1 s a b p r
       → e1.core.live + n + e1.forgotten ≡ e1.made + e1.released + cores.debts e1.core.queue
       → cores.held_of (cores.poured e1.core n) + a ≡ cores.held_of e.core + b
@@ -83,7 +90,8 @@ module _ (st st' : Store) (w sp next i s n : ℕ) (event : SemEvent) (e e1 : Sem
       settled_as st st' w sp next i s event e e' k less low fits allowed (pour h1 s n) is w' sp' a b p r there semaphores
       (hall_poured st1 st' (i + 1) s n e1 e' linked into ∙ ap (λ h. pour h s n) hall)
       (linked_poured st1 st' (i + 1) s n e1 e' linked into)
-      (weighs_as (hall_of st next) (pour h1 s n) s (a + 0) (b + 0) (p + 0) (r + 0) a b p r (weighs_after (hall_of st next) h1 (pour h1 s n) s a b p r 0 0 0 0 weighs poured) (omega arith) (omega arith))
+      (weighs_as (hall_of st next) (pour h1 s n) s (a + 0) (b + 0) (p + 0) (r + 0) a b p r
+      (weighs_after (hall_of st next) h1 (pour h1 s n) s a b p r 0 0 0 0 weighs poured) (omega arith) (omega arith))
       (record {
         account = (let d = debts-pour e1.core.queue n in let x = d.0 in let y = d.1 in omega (arith, account, x, y));
         held = held;

@@ -23,14 +23,17 @@ use Rattle.mea_sem.proofs.PlaysPermits.{no_permit}
 
 -- what is put twice is what was put last
 pub insert_twice : {X : Type 0} (m : FinMap nat_cmp X) (k : ℕ) (v w : X) → insert (insert m k v) k w ≡ insert m k w
-insert_twice m k v w = same_named _ _ (λ q. get_inserted (insert m k v) k q w ∙ ap (cond (k == q) (Some w)) (get_inserted m k q v) ∙ once (k == q) (Some w) (Some v) (get m q) ∙ sym (get_inserted m k q w))
+insert_twice m k v w = same_named _ _
+    (λ q. get_inserted (insert m k v) k q w ∙ ap (cond (k == q) (Some w)) (get_inserted m k q v) ∙ once (k == q) (Some w) (Some v) (get m q)
+    ∙ sym (get_inserted m k q w))
   where
     once : {Y : Type 0} (t : Bool) (a b o : Y) → cond t a (cond t b o) ≡ cond t a o
     once true a b o = refl
     once false a b o = refl
 
 -- a plain future is counted
-pub future_counts : (st : Store) (w sp next f : ℕ) (x : Future) (e : SemaphoreEntry) → IsKept st w sp next → get (hall_of st next).futures f ≡ Some x → get st.semaphores x.semaphore ≡ Some e → one x.plain ≤ e.plain
+pub future_counts : (st : Store) (w sp next f : ℕ) (x : Future) (e : SemaphoreEntry) → IsKept st w sp next → get (hall_of st next).futures f ≡ Some x
+    → get st.semaphores x.semaphore ≡ Some e → one x.plain ≤ e.plain
 future_counts st w sp next f x e k is there =
     let b = (weighs_lost_future (hall_of st next) f x is).plain x.semaphore in
     let d = (k.each x.semaphore e there).plain in
@@ -39,10 +42,20 @@ future_counts st w sp next f x e k is there =
     omega (arith, b, d, v, u)
 
 -- what is the same for both ways of being ready: c1 is the core after the poll, and m what it is seen as
-module _ (st st' : Store) (w sp next i s f v : ℕ) (x : FutureEntry) (y : Future) (e : SemaphoreEntry) (c1 : cores.Core ℕ) (m : Semaphore) (k : IsKept st w sp next) (less : next ≤ i) (low : i < 2 ^ 64)
-    (allowed : cause_of (hall_of st next) (events.Poll f v) ≡ None) (seen : get (hall_of st next).futures f ≡ Some y) (mine : y.semaphore ≡ s) (form : y.plain ≡ x.plain) (small : y.demand < 2 ^ 64)
-    (live : c1.live ≡ e.core.live) (queue : c1.queue ≡ e.core.queue) (quiet : c1.wakes ≡ e.core.wakes) (rises : cores.held_of c1 ≡ cores.held_of e.core + y.demand)
-    (m_is : m ≡ record { free = c1.free; queue = queue_of st.futures next s e.core.queue; made = e.made; released = e.released; forgotten = e.forgotten; named = e.named })
+module _ (st st' : Store) (w sp next i s f v : ℕ) (x : FutureEntry) (y : Future) (e : SemaphoreEntry) (c1 : cores.Core ℕ) (m : Semaphore)
+    (k : IsKept st w sp next) (less : next ≤ i) (low : i < 2 ^ 64)
+    (allowed : cause_of (hall_of st next) (events.Poll f v) ≡ None) (seen : get (hall_of st next).futures f ≡ Some y) (mine : y.semaphore ≡ s)
+    (form : y.plain ≡ x.plain) (small : y.demand < 2 ^ 64)
+    (live : c1.live ≡ e.core.live) (queue : c1.queue ≡ e.core.queue) (quiet : c1.wakes ≡ e.core.wakes)
+    (rises : cores.held_of c1 ≡ cores.held_of e.core + y.demand)
+    (m_is : m ≡ record {
+      free = c1.free;
+      queue = queue_of st.futures next s e.core.queue;
+      made = e.made;
+      released = e.released;
+      forgotten = e.forgotten;
+      named = e.named;
+    })
     (reply : Answer) (chosen : step (hall_of st next) i (events.Poll f v) ≡ quietly (made_ready (with_semaphore (hall_of st next) s m) i f y) reply) where
   abbrev h : Hall
   h = hall_of st next
@@ -58,7 +71,11 @@ module _ (st st' : Store) (w sp next i s f v : ℕ) (x : FutureEntry) (y : Futur
   forgot_entry = record e { core = record c1 { live = c1.live - y.demand }; forgotten = e.forgotten + y.demand; plain = e.plain - one x.plain }
 
   abbrev forgot_hall : Hall
-  forgot_hall = record { semaphores = insert h.semaphores s (record m { forgotten = m.forgotten + y.demand }); futures = remove h.futures f; permits = h.permits }
+  forgot_hall = record {
+    semaphores = insert h.semaphores s (record m { forgotten = m.forgotten + y.demand });
+    futures = remove h.futures f;
+    permits = h.permits;
+  }
 
   pub plays_ready_forgetting : y.forgets ≡ true → Leaves st st' s f x e forgot_entry → st'.permits ≡ st.permits
       → cores.held_of (record c1 { live = c1.live - y.demand }) + y.demand ≡ cores.held_of c1
@@ -66,19 +83,35 @@ module _ (st st' : Store) (w sp next i s f v : ℕ) (x : FutureEntry) (y : Futur
   plays_ready_forgetting forgets c permits held =
       let old = k.each s e c.there in
       let counts = future_counts st w sp next f y e k seen (ap (get st.semaphores) mine ∙ c.there) in
-      let forgot : with_semaphore (without_future h1 f) y.semaphore (record (semaphore_at h1 y.semaphore) { forgotten = (semaphore_at h1 y.semaphore).forgotten + y.demand }) ≡ forgot_hall =
+      let forgot : with_semaphore (without_future h1 f) y.semaphore
+      (record (semaphore_at h1 y.semaphore) { forgotten = (semaphore_at h1 y.semaphore).forgotten + y.demand }) ≡ forgot_hall =
       ap (λ q. with_semaphore (without_future h1 f) q (record (semaphore_at h1 q) { forgotten = (semaphore_at h1 q).forgotten + y.demand })) mine
       ∙ ap (λ r. with_semaphore (without_future h1 f) s (record r { forgotten = r.forgotten + y.demand })) m_at
-      ∙ (λ j. record { semaphores = insert_twice h.semaphores s m (record m { forgotten = m.forgotten + y.demand }) j; futures = remove h.futures f; permits = h.permits }) in
-      let target : (step h i (events.Poll f v)).hall ≡ forgot_hall = ap (λ o. o.hall) chosen ∙ ap (λ b. (if b then with_semaphore (without_future h1 f) y.semaphore (record (semaphore_at h1 y.semaphore) { forgotten = (semaphore_at h1 y.semaphore).forgotten + y.demand }) else with_permit (without_future h1 f) i (record { semaphore = y.semaphore; size = y.demand; plain = y.plain }))) forgets ∙ forgot in
-      let lost : Weighs h forgot_hall s 0 0 (one x.plain) 0 = (let l = subst (λ q. Weighs h (without_future h f) q 0 0 (one y.plain) 0) mine (weighs_lost_future h f y seen) in
+      ∙ (λ j. record {
+        semaphores = insert_twice h.semaphores s m (record m { forgotten = m.forgotten + y.demand }) j;
+        futures = remove h.futures f;
+        permits = h.permits;
+      }) in
+      let target : (step h i (events.Poll f v)).hall ≡ forgot_hall =
+      ap (λ o. o.hall) chosen ∙ ap
+      (λ b. (if b then with_semaphore (without_future h1 f) y.semaphore
+      (record (semaphore_at h1 y.semaphore) { forgotten = (semaphore_at h1 y.semaphore).forgotten + y.demand })
+      else with_permit (without_future h1 f) i (record { semaphore = y.semaphore; size = y.demand; plain = y.plain }))) forgets ∙ forgot in
+      let lost : Weighs h forgot_hall s 0 0 (one x.plain) 0 =
+      (let l = subst (λ q. Weighs h (without_future h f) q 0 0 (one y.plain) 0) mine (weighs_lost_future h f y seen) in
       let l2 = subst (λ b. Weighs h (without_future h f) s 0 0 (one b) 0) form l in record { held = λ q. l2.held q; plain = λ q. l2.plain q }) in
       settled_as st st' w sp next i s (events.Poll f v) e forgot_entry k less low tt allowed forgot_hall target w sp 0 0 (one x.plain) 0 c.there c.semaphores
-      (hall_gone st st' next i s f x e forgot_entry k.linked less c ∙ (λ j. record { semaphores = insert h.semaphores s (record (sym m_is j) { forgotten = (sym m_is j).forgotten + y.demand }); futures = remove h.futures f; permits = permits j }))
+      (hall_gone st st' next i s f x e forgot_entry k.linked less c
+      ∙ (λ j. record {
+        semaphores = insert h.semaphores s (record (sym m_is j) { forgotten = (sym m_is j).forgotten + y.demand });
+        futures = remove h.futures f;
+        permits = permits j;
+      }))
       (linked_gone st st' next i s f x e forgot_entry k.linked less c)
       lost
       (record {
-        account = (let o = old.account in let d : cores.debts c1.queue ≡ cores.debts e.core.queue = ap cores.debts queue in let fits = held_below in omega (arith, o, d, fits, held, rises));
+        account = (let o = old.account in let d : cores.debts c1.queue ≡ cores.debts e.core.queue = ap cores.debts queue in let fits = held_below in
+            omega (arith, o, d, fits, held, rises));
         held = omega (arith, held, rises);
         plain = (let g : one x.plain ≤ e.plain = ap_one counts in omega (arith, g));
         few = omega arith;
@@ -100,20 +133,37 @@ module _ (st st' : Store) (w sp next i s f v : ℕ) (x : FutureEntry) (y : Futur
   kept_entry = record e { core = c1 }
 
   abbrev permit_hall : Hall
-  permit_hall = record { semaphores = insert h.semaphores s m; futures = remove h.futures f; permits = insert h.permits i (record { semaphore = s; size = y.demand; plain = x.plain }) }
+  permit_hall = record {
+    semaphores = insert h.semaphores s m;
+    futures = remove h.futures f;
+    permits = insert h.permits i (record { semaphore = s; size = y.demand; plain = x.plain });
+  }
 
-  pub plays_ready : y.forgets ≡ false → Leaves st st' s f x e kept_entry → st'.permits ≡ insert st.permits i (record { semaphore = s; size = y.demand; plain = x.plain })
+  pub plays_ready : y.forgets ≡ false → Leaves st st' s f x e kept_entry
+      → st'.permits ≡ insert st.permits i (record { semaphore = s; size = y.demand; plain = x.plain })
       → Plays st st' next i (events.Poll f v) w sp
   plays_ready forgets c permits =
       let old = k.each s e c.there in
       let z : Permit = record { semaphore = s; size = y.demand; plain = x.plain } in
-      let target : (step h i (events.Poll f v)).hall ≡ permit_hall = ap (λ o. o.hall) chosen ∙ ap (λ b. (if b then with_semaphore (without_future h1 f) y.semaphore (record (semaphore_at h1 y.semaphore) { forgotten = (semaphore_at h1 y.semaphore).forgotten + y.demand }) else with_permit (without_future h1 f) i (record { semaphore = y.semaphore; size = y.demand; plain = y.plain }))) forgets
-      ∙ (λ j. record { semaphores = insert h.semaphores s m; futures = remove h.futures f; permits = insert h.permits i (record { semaphore = mine j; size = y.demand; plain = form j }) }) in
-      let lost : Weighs h (without_future h f) s 0 0 (one x.plain) 0 = subst (λ b. Weighs h (without_future h f) s 0 0 (one b) 0) form (subst (λ q. Weighs h (without_future h f) q 0 0 (one y.plain) 0) mine (weighs_lost_future h f y seen)) in
-      let come : Weighs (without_future h f) permit_hall s 0 y.demand 0 (one x.plain) = (let l = weighs_new_permit (without_future h f) i z (no_permit st w sp next i k less) in record { held = λ q. l.held q; plain = λ q. l.plain q }) in
+      let target : (step h i (events.Poll f v)).hall ≡ permit_hall =
+      ap (λ o. o.hall) chosen ∙ ap
+      (λ b. (if b then with_semaphore (without_future h1 f) y.semaphore
+      (record (semaphore_at h1 y.semaphore) { forgotten = (semaphore_at h1 y.semaphore).forgotten + y.demand })
+      else with_permit (without_future h1 f) i (record { semaphore = y.semaphore; size = y.demand; plain = y.plain }))) forgets
+      ∙ (λ j. record {
+        semaphores = insert h.semaphores s m;
+        futures = remove h.futures f;
+        permits = insert h.permits i (record { semaphore = mine j; size = y.demand; plain = form j });
+      }) in
+      let lost : Weighs h (without_future h f) s 0 0 (one x.plain) 0 =
+      subst (λ b. Weighs h (without_future h f) s 0 0 (one b) 0) form
+      (subst (λ q. Weighs h (without_future h f) q 0 0 (one y.plain) 0) mine (weighs_lost_future h f y seen)) in
+      let come : Weighs (without_future h f) permit_hall s 0 y.demand 0 (one x.plain) =
+      (let l = weighs_new_permit (without_future h f) i z (no_permit st w sp next i k less) in record { held = λ q. l.held q; plain = λ q. l.plain q }) in
       let both = weighs_after h (without_future h f) permit_hall s 0 0 (one x.plain) 0 0 y.demand 0 (one x.plain) lost come in
       settled_as st st' w sp next i s (events.Poll f v) e kept_entry k less low tt allowed permit_hall target w sp 0 y.demand 0 0 c.there c.semaphores
-      (hall_gone st st' next i s f x e kept_entry k.linked less c ∙ (λ j. record { semaphores = insert h.semaphores s (sym m_is j); futures = remove h.futures f; permits = permits j }))
+      (hall_gone st st' next i s f x e kept_entry k.linked less c
+      ∙ (λ j. record { semaphores = insert h.semaphores s (sym m_is j); futures = remove h.futures f; permits = permits j }))
       (linked_gone st st' next i s f x e kept_entry k.linked less c)
       (weighs_as h permit_hall s (0 + 0) (0 + y.demand) (one x.plain + 0) (0 + one x.plain) 0 y.demand 0 0 both (omega arith) (omega arith))
       (record {

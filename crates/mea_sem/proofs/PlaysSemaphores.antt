@@ -38,8 +38,13 @@ module _ (st st' : Store) (w sp next i s n : ℕ) (e : SemaphoreEntry) (k : IsKe
       let still : IsStill e forgot_entry = still_queue e forgot_entry refl refl in
       let old = k.each s e c.there in
       settled st st' w sp next i s (events.Forget s n) e forgot_entry k less low tt allowed w sp 0 0 0 0 c.there c.semaphores
-      (hall_still st st' next i s e forgot_entry k.linked less c.there c.semaphores c.futures still (queue_of st.futures next s e.core.queue) (queue_still st st' next i s e forgot_entry k.linked less c.there c.semaphores c.futures still)
-      ∙ (λ j. record { semaphores = insert (hall_of st next).semaphores s (forgetting (sym (seen_at st next s e k.linked c.there) j) n); futures = (hall_of st next).futures; permits = permits j }))
+      (hall_still st st' next i s e forgot_entry k.linked less c.there c.semaphores c.futures still (queue_of st.futures next s e.core.queue)
+      (queue_still st st' next i s e forgot_entry k.linked less c.there c.semaphores c.futures still)
+      ∙ (λ j. record {
+        semaphores = insert (hall_of st next).semaphores s (forgetting (sym (seen_at st next s e k.linked c.there) j) n);
+        futures = (hall_of st next).futures;
+        permits = permits j;
+      }))
       (linked_still st st' next i s e forgot_entry k.linked less c.there c.semaphores c.futures still)
       (weighs_semaphore (hall_of st next) s s (forgetting (semaphore_at (hall_of st next) s) n))
       (record {
@@ -54,7 +59,8 @@ module _ (st st' : Store) (w sp next i s n : ℕ) (e : SemaphoreEntry) (k : IsKe
       refl k.room (let f = k.few in omega (arith, f))
 
   -- n free permits are forgotten at once
-  pub plays_tried : (event : SemEvent) → Fits event → cause_of (hall_of st next) event ≡ None → (step (hall_of st next) i event).hall ≡ (try_and_forget (hall_of st next) s n).hall
+  pub plays_tried : (event : SemEvent) → Fits event → cause_of (hall_of st next) event ≡ None
+      → (step (hall_of st next) i event).hall ≡ (try_and_forget (hall_of st next) s n).hall
       → n ≤ e.core.free → Puts st st' s e forgot_entry → st'.permits ≡ st.permits
       → cores.held_of (calls.forgetting e.core n) ≡ cores.held_of e.core → min n e.core.free ≤ e.core.live
       → Plays st st' next i event w sp
@@ -68,8 +74,14 @@ module _ (st st' : Store) (w sp next i s n : ℕ) (e : SemaphoreEntry) (k : IsKe
       let g : Hall = with_semaphore h s (record (semaphore_at h s) { free = free h s - n; forgotten = (semaphore_at h s).forgotten + n }) in
       let chosen : (step h i event).hall ≡ g = is ∙ ap (λ b. (if b then quietly g answers.Yes else quietly h answers.No).hall) fits_in in
       settled_as st st' w sp next i s event e forgot_entry k less low fits allowed g chosen w sp 0 0 0 0 c.there c.semaphores
-      (hall_still st st' next i s e forgot_entry k.linked less c.there c.semaphores c.futures still (queue_of st.futures next s e.core.queue) (queue_still st st' next i s e forgot_entry k.linked less c.there c.semaphores c.futures still)
-      ∙ (λ j. record { semaphores = insert h.semaphores s (record (sym seen j) { free = (sym seen j).free - all j; forgotten = (sym seen j).forgotten + all j }); futures = h.futures; permits = permits j }))
+      (hall_still st st' next i s e forgot_entry k.linked less c.there c.semaphores c.futures still (queue_of st.futures next s e.core.queue)
+      (queue_still st st' next i s e forgot_entry k.linked less c.there c.semaphores c.futures still)
+      ∙ (λ j. record {
+        semaphores = insert h.semaphores s
+            (record (sym seen j) { free = (sym seen j).free - all j; forgotten = (sym seen j).forgotten + all j });
+        futures = h.futures;
+        permits = permits j;
+      }))
       (linked_still st st' next i s e forgot_entry k.linked less c.there c.semaphores c.futures still)
       (weighs_semaphore h s s (record (semaphore_at h s) { free = free h s - n; forgotten = (semaphore_at h s).forgotten + n }))
       (record {
@@ -88,7 +100,9 @@ module _ (st st' : Store) (w sp next i s n : ℕ) (e : SemaphoreEntry) (k : IsKe
 
   -- a debt is seen as a debt
   seen_debt : (b m : ℕ) (q : List (cores.Waiter ℕ × ℕ)) → queue_of st'.futures b s (calls.with_debt q m) ≡ with_debt (queue_of st'.futures b s q) m
-  seen_debt b m q = elim (m == 0) as (λ t. queue_of st'.futures b s (cond t q ((cores.Owes, m) ∷ q)) ≡ cond t (queue_of st'.futures b s q) ((Debt, m) ∷ queue_of st'.futures b s q)) [ true ↦ refl | false ↦ refl ]
+  seen_debt b m q = elim (m == 0)
+      as (λ t. queue_of st'.futures b s (cond t q ((cores.Owes, m) ∷ q)) ≡ cond t (queue_of st'.futures b s q)
+      ((Debt, m) ∷ queue_of st'.futures b s q)) [ true ↦ refl | false ↦ refl ]
 
   wakers-debt : (m : ℕ) (q : List (cores.Waiter ℕ × ℕ)) → wakers_in (calls.with_debt q m) ≡ wakers_in q
   wakers-debt m q = elim (m == 0) as (λ t. wakers_in (cond t q ((cores.Owes, m) ∷ q)) ≡ wakers_in q) [ true ↦ refl | false ↦ refl ]
@@ -106,10 +120,16 @@ module _ (st st' : Store) (w sp next i s n : ℕ) (e : SemaphoreEntry) (k : IsKe
       let old = k.each s e c.there in
       let h : Hall = hall_of st next in
       let queue : queue_of st'.futures (i + 1) s exactly_entry.core.queue ≡ with_debt (queue_of st.futures next s e.core.queue) (n - min n e.core.free) =
-      seen_debt (i + 1) (n - min n e.core.free) e.core.queue ∙ ap (λ q. with_debt q (n - min n e.core.free)) (queue_still st st' next i s e exactly_entry k.linked less c.there c.semaphores c.futures still) in
+      seen_debt (i + 1) (n - min n e.core.free) e.core.queue ∙ ap (λ q. with_debt q (n - min n e.core.free))
+      (queue_still st st' next i s e exactly_entry k.linked less c.there c.semaphores c.futures still) in
       settled st st' w sp next i s (events.Forgetx s n) e exactly_entry k less low tt allowed w sp 0 0 0 0 c.there c.semaphores
-      (hall_still st st' next i s e exactly_entry k.linked less c.there c.semaphores c.futures still (with_debt (queue_of st.futures next s e.core.queue) (n - min n e.core.free)) queue
-      ∙ (λ j. record { semaphores = insert h.semaphores s (forgetting_exactly (sym (seen_at st next s e k.linked c.there) j) n); futures = h.futures; permits = permits j }))
+      (hall_still st st' next i s e exactly_entry k.linked less c.there c.semaphores c.futures still
+      (with_debt (queue_of st.futures next s e.core.queue) (n - min n e.core.free)) queue
+      ∙ (λ j. record {
+        semaphores = insert h.semaphores s (forgetting_exactly (sym (seen_at st next s e k.linked c.there) j) n);
+        futures = h.futures;
+        permits = permits j;
+      }))
       (linked_still st st' next i s e exactly_entry k.linked less c.there c.semaphores c.futures still)
       (weighs_semaphore h s s (forgetting_exactly (semaphore_at h s) n))
       (record {
@@ -126,21 +146,28 @@ module _ (st st' : Store) (w sp next i s n : ℕ) (e : SemaphoreEntry) (k : IsKe
   abbrev unnamed_entry : SemaphoreEntry
   unnamed_entry = record e { named = false }
 
-  pub plays_endsem : cause_of (hall_of st next) (events.Endsem s) ≡ None → Puts st st' s e unnamed_entry → st'.permits ≡ st.permits → Plays st st' next i (events.Endsem s) w sp
+  pub plays_endsem : cause_of (hall_of st next) (events.Endsem s) ≡ None → Puts st st' s e unnamed_entry → st'.permits ≡ st.permits
+      → Plays st st' next i (events.Endsem s) w sp
   plays_endsem allowed c permits =
       let still : IsStill e unnamed_entry = still_queue e unnamed_entry refl refl in
       let old = k.each s e c.there in
       let h : Hall = hall_of st next in
       settled st st' w sp next i s (events.Endsem s) e unnamed_entry k less low tt allowed w sp 0 0 0 0 c.there c.semaphores
-      (hall_still st st' next i s e unnamed_entry k.linked less c.there c.semaphores c.futures still (queue_of st.futures next s e.core.queue) (queue_still st st' next i s e unnamed_entry k.linked less c.there c.semaphores c.futures still)
-      ∙ (λ j. record { semaphores = insert h.semaphores s (record (sym (seen_at st next s e k.linked c.there) j) { named = false }); futures = h.futures; permits = permits j }))
+      (hall_still st st' next i s e unnamed_entry k.linked less c.there c.semaphores c.futures still (queue_of st.futures next s e.core.queue)
+      (queue_still st st' next i s e unnamed_entry k.linked less c.there c.semaphores c.futures still)
+      ∙ (λ j. record {
+        semaphores = insert h.semaphores s (record (sym (seen_at st next s e k.linked c.there) j) { named = false });
+        futures = h.futures;
+        permits = permits j;
+      }))
       (linked_still st st' next i s e unnamed_entry k.linked less c.there c.semaphores c.futures still)
       (weighs_semaphore h s s (record (semaphore_at h s) { named = false }))
       (record { account = old.account; held = refl; plain = refl; few = omega arith; quiet = old.quiet; released = omega arith; forgotten = omega arith })
       refl k.room (let f = k.few in omega (arith, f))
 
 -- an event whose outcome leaves the hall as it is
-pub plays_nothing : (st : Store) (w sp next i : ℕ) (event : SemEvent) → IsKept st w sp next → next ≤ i → i < 2 ^ 64 → (step (hall_of st next) i event).hall ≡ hall_of st next → Plays st st next i event w sp
+pub plays_nothing : (st : Store) (w sp next i : ℕ) (event : SemEvent) → IsKept st w sp next → next ≤ i → i < 2 ^ 64
+    → (step (hall_of st next) i event).hall ≡ hall_of st next → Plays st st next i event w sp
 plays_nothing st w sp next i event k less low is = record {
   hall = hall_renumbered st next (i + 1) k.linked (omega arith) ∙ sym is;
   kept = kept_renumbered st w sp next i k less low;

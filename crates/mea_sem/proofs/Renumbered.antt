@@ -24,21 +24,27 @@ module _ (st : Store) (b b' : ℕ) (linked : IsLinked st b) (more : b ≤ b') wh
     numbered = linked.numbered;
   }
 
-  who_same : (s : ℕ) (e : SemaphoreEntry) → get st.semaphores s ≡ Some e → (x : cores.Waiter ℕ × ℕ) → IsAt e.core.queue x → who_of st.futures b' s x.0 ≡ who_of st.futures b s x.0
+  who_same : (s : ℕ) (e : SemaphoreEntry) → get st.semaphores s ≡ Some e → (x : cores.Waiter ℕ × ℕ) → IsAt e.core.queue x
+      → who_of st.futures b' s x.0 ≡ who_of st.futures b s x.0
   who_same s e is (cores.Acquires n d w, l) at =
       let owner = linked.owned s e n d l is at.0 in
       ap Waiter (name-owner st b' s n d linked_later owner ∙ sym (name-owner st b s n d linked owner))
   who_same s e is (cores.Owes, l) at = refl
 
   queue_same : (s : ℕ) (e : SemaphoreEntry) → get st.semaphores s ≡ Some e → queue_of st.futures b' s e.core.queue ≡ queue_of st.futures b s e.core.queue
-  queue_same s e is = queue_of-same st.futures st.futures b b' s e.core.queue (all_by (IsAt e.core.queue) _ (who_same s e is) e.core.queue (all_at e.core.queue (linked.numbered s e is).apart))
+  queue_same s e is = queue_of-same st.futures st.futures b b' s e.core.queue
+      (all_by (IsAt e.core.queue) _ (who_same s e is) e.core.queue (all_at e.core.queue (linked.numbered s e is).apart))
 
   semaphores_same : (hall_of st b').semaphores ≡ (hall_of st b).semaphores
-  semaphores_same = same_named _ _ (λ q. get-seen (semaphore_of st.futures b') st.semaphores q ∙ at_each q (get st.semaphores q) refl ∙ sym (get-seen (semaphore_of st.futures b) st.semaphores q))
+  semaphores_same = same_named _ _
+      (λ q. get-seen (semaphore_of st.futures b') st.semaphores q ∙ at_each q (get st.semaphores q) refl
+      ∙ sym (get-seen (semaphore_of st.futures b) st.semaphores q))
     where
-      at_each : (q : ℕ) (o : Option SemaphoreEntry) → get st.semaphores q ≡ o → option_map (semaphore_of st.futures b' q) o ≡ option_map (semaphore_of st.futures b q) o
+      at_each : (q : ℕ) (o : Option SemaphoreEntry) → get st.semaphores q ≡ o
+          → option_map (semaphore_of st.futures b' q) o ≡ option_map (semaphore_of st.futures b q) o
       at_each q None is = refl
-      at_each q (Some d) is = λ i. Some (record { free = d.core.free; queue = queue_same q d is i; made = d.made; released = d.released; forgotten = d.forgotten; named = d.named })
+      at_each q (Some d) is = λ i. Some
+          (record { free = d.core.free; queue = queue_same q d is i; made = d.made; released = d.released; forgotten = d.forgotten; named = d.named })
 
   pub hall_renumbered : hall_of st b' ≡ hall_of st b
   hall_renumbered = λ i. record { semaphores = semaphores_same i; futures = (hall_of st b).futures; permits = st.permits }

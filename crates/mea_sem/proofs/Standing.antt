@@ -1,22 +1,16 @@
 -- from the maps of a `SemHall` to what it keeps
-use Rattle.std.proofs.Common.{◌≡◌, ℕ, ◌+◌, ◌==◌, ◌++◌, Bool, true, false, cond, List, [], refl, ap, sym, subst, ◌∙◌, Option, Some, None, append-nil}
+use Rattle.std.proofs.Common.{◌≡◌, ℕ, ◌==◌, Bool, true, false, cond, List, refl, ap, sym, ◌∙◌, Option, Some, None}
 use Rattle.std.specs.Option.{option_map}
 use Rattle.std.specs.Ordering.{nat_cmp}
 use Rattle.std.specs.BTreeMap.{is_at}
 use Rattle.std.specs.FinMap.{get}
-use Rattle.mea_base.specs.declared.answer.Answer.{Answer}
 use Rattle.mea_base.specs.Named.{named, at}
 use Rattle.mea_base.proofs.NamedMaps.{get-named, named_changed}
-use Rattle.mea_sem_model.specs.declared.event.SemEvent.{SemEvent}
-use Rattle.mea_sem_model.specs.Cause.{is_named, is_named_semaphore, unknown_unless}
-use Rattle.mea_sem_model.specs.Step.{step}
+use Rattle.mea_sem_model.specs.Cause.{unknown_unless}
 use Rattle.mea_sem.specs.declared.entries.SemaphoreEntry.{SemaphoreEntry}
 use Rattle.mea_sem.specs.declared.entries.FutureEntry.{FutureEntry}
 use Rattle.mea_sem.specs.declared.entries.PermitEntry.{PermitEntry}
-use Rattle.mea_sem.specs.Store.{Store, store_of, semaphore_of, hall_of}
-use Rattle.mea_sem.specs.Play.{Play, Yields}
-use Rattle.mea_sem.proofs.Names.{get-seen}
-use Rattle.mea_sem.proofs.Keeping.{Plays}
+use Rattle.mea_sem.specs.Store.{store_of}
 use Rattle.mea_sem.proofs.PlaysSemaphores.{Puts}
 
 abbrev pub Semaphores : Type 0
@@ -40,7 +34,8 @@ option_map-same (Some x) = refl
 pub kept-at : {X : Type 0} (es : List (ℕ × X)) (q : ℕ) → get (named (λ k x. x) es) q ≡ at es q
 kept-at es q = get-named (λ k x. x) es q ∙ option_map-same (at es q)
 
-pub kept-changed : {X : Type 0} (old new : List (ℕ × X)) (k : ℕ) (o : Option X) → ChangesAt old new k o → (q : ℕ) → get (named (λ k x. x) new) q ≡ cond (k == q) o (get (named (λ k x. x) old) q)
+pub kept-changed : {X : Type 0} (old new : List (ℕ × X)) (k : ℕ) (o : Option X) → ChangesAt old new k o → (q : ℕ)
+    → get (named (λ k x. x) new) q ≡ cond (k == q) o (get (named (λ k x. x) old) q)
 kept-changed old new k o h q =
     get-named (λ k x. x) new q ∙ named_changed (λ k x. x) (λ k x. x) old new k o h (λ j x d is. refl) q
     ∙ ap (λ p. cond (k == q) p (option_map (λ x. x) (at old q))) (option_map-same o)
@@ -50,41 +45,19 @@ kept-changed old new k o h q =
 pub found : {X : Type 0} (es : List (ℕ × X)) (k : ℕ) (x : X) → at es k ≡ Some x → get (named (λ k x. x) es) k ≡ Some x
 found es k x is = kept-at es k ∙ is
 
-pub puts_of : (ss ss' : Semaphores) (fs : Futures) (ps ps' : Permits) (s : ℕ) (e v e' : SemaphoreEntry) → at ss s ≡ Some e → ChangesAt ss ss' s (Some v) → v ≡ e' → Puts (store_of ss fs ps) (store_of ss' fs ps') s e e'
+pub puts_of : (ss ss' : Semaphores) (fs : Futures) (ps ps' : Permits) (s : ℕ) (e v e' : SemaphoreEntry) → at ss s ≡ Some e
+    → ChangesAt ss ss' s (Some v) → v ≡ e' → Puts (store_of ss fs ps) (store_of ss' fs ps') s e e'
 puts_of ss ss' fs ps ps' s e v e' there changes is = record {
   there = found ss s e there;
   semaphores = λ q. kept-changed ss ss' s (Some v) changes q ∙ ap (λ x. cond (s == q) (Some x) (get (named (λ k x. x) ss) q)) is;
   futures = refl;
 }
 
-pub semaphores_of : (ss ss' : Semaphores) (s : ℕ) (v e' : SemaphoreEntry) → ChangesAt ss ss' s (Some v) → v ≡ e' → (q : ℕ) → get (named (λ k x. x) ss') q ≡ cond (s == q) (Some e') (get (named (λ k x. x) ss) q)
+pub semaphores_of : (ss ss' : Semaphores) (s : ℕ) (v e' : SemaphoreEntry) → ChangesAt ss ss' s (Some v) → v ≡ e' → (q : ℕ)
+    → get (named (λ k x. x) ss') q ≡ cond (s == q) (Some e') (get (named (λ k x. x) ss) q)
 semaphores_of ss ss' s v e' changes is q = kept-changed ss ss' s (Some v) changes q ∙ ap (λ x. cond (s == q) (Some x) (get (named (λ k x. x) ss) q)) is
 
 -- ---- what an event without a cause finds
-known : (b : Bool) → unknown_unless b ≡ None → b ≡ true
+pub known : (b : Bool) → unknown_unless b ≡ None → b ≡ true
 known true h = refl
 known false h = absurd (cc)
-
-pub named_found : (ss : Semaphores) (fs : Futures) (ps : Permits) (next s : ℕ) → unknown_unless (is_named (hall_of (store_of ss fs ps) next) s) ≡ None → at ss s ≡ None → ⊥
-named_found ss fs ps next s allowed none =
-    let gone : get (hall_of (store_of ss fs ps) next).semaphores s ≡ None = get-seen (semaphore_of (store_of ss fs ps).futures next) (store_of ss fs ps).semaphores s ∙ ap (option_map (semaphore_of (store_of ss fs ps).futures next s)) (kept-at ss s ∙ none) in
-    let no : is_named (hall_of (store_of ss fs ps) next) s ≡ false = ap is_named_semaphore gone in
-    let yes = known (is_named (hall_of (store_of ss fs ps) next) s) allowed in
-    absurd (cc)
-
--- ---- the outcome, as a contract says it
-pub yields : (v : Play) (st st' : Store) (next i w' sp' : ℕ) (wakes wakes' : List ℕ) (event : SemEvent) (reply : Answer) → record { hall = hall_of st next; wakes = wakes; next = next } ≡ v → Plays st st' next i event w' sp'
-    → wakes' ≡ wakes ++ (step (hall_of st next) i event).wakes → reply ≡ (step (hall_of st next) i event).reply
-    → Yields v i (step v.hall i event) reply (record { hall = hall_of st' (i + 1); wakes = wakes'; next = i + 1 })
-yields v st st' next i w' sp' wakes wakes' event reply seen plays woken replied =
-    subst (λ (p : Play). Yields p i (step p.hall i event) reply (record { hall = hall_of st' (i + 1); wakes = wakes'; next = i + 1 })) seen (record {
-      replied = replied;
-      moved = λ j. record { hall = plays.hall j; wakes = woken j; next = i + 1 };
-    })
-
--- the same where the event makes no wakers ready
-pub yields_quietly : (v : Play) (st st' : Store) (next i w' sp' : ℕ) (wakes : List ℕ) (event : SemEvent) (reply : Answer) → record { hall = hall_of st next; wakes = wakes; next = next } ≡ v → Plays st st' next i event w' sp'
-    → (step (hall_of st next) i event).wakes ≡ [] → reply ≡ (step (hall_of st next) i event).reply
-    → Yields v i (step v.hall i event) reply (record { hall = hall_of st' (i + 1); wakes = wakes; next = i + 1 })
-yields_quietly v st st' next i w' sp' wakes event reply seen plays quiet replied =
-    yields v st st' next i w' sp' wakes wakes event reply seen plays (sym (append-nil wakes) ∙ ap (λ ws. wakes ++ ws) (sym quiet)) replied

@@ -3,13 +3,13 @@ use Rattle.std.proofs.Common.{◌≡◌, ℕ, ◌+◌, ◌-◌, ◌^◌, ◌<◌
 use Rattle.std.specs.Option.{option_map}
 use Rattle.std.specs.Ordering.{nat_cmp}
 use Rattle.std.specs.FinMap.{get, empty, entries, get-empty}
-use Rattle.std.proofs.lemmas.Bool.{le-leb, lt-leb, leb-true, eqb-true}
+use Rattle.mea_sem.proofs.Refusals.{named-none}
+use Rattle.std.proofs.lemmas.Bool.{false≢true, le-leb, lt-leb, leb-true, eqb-true}
 use Rattle.mea_base.specs.Named.{named, at}
 use Rattle.mea_base.specs.Totals.{total, weight}
 use Rattle.mea_base.specs.Queue.{granted_in}
 use Rattle.mea_base.proofs.NamedMaps.{same_named, get-named}
 use Rattle.mea_base.proofs.Totals.{total-remove, total-empty}
-use Rattle.mea_base.specs.declared.answer.Answer.{Answer}
 use Rattle.mea_base.specs.declared.answer.Answer.TheVariants as answers
 use Rattle.mea_base.specs.declared.ledger.Ledger.{Ledger}
 use Rattle.mea_base.specs.declared.stop.Stop.{Stop}
@@ -17,7 +17,7 @@ use Rattle.mea_base.specs.declared.stop.Stop.TheVariants as stops
 use Rattle.mea_sem_model.specs.declared.event.SemEvent.{SemEvent}
 use Rattle.mea_sem_model.specs.declared.event.SemEvent.TheVariants as events
 use Rattle.mea_sem_model.specs.Hall.{Hall, Semaphore, empty_hall, live, free, semaphore_at, with_semaphore}
-use Rattle.mea_sem_model.specs.Cause.{cause_of, is_named, is_named_semaphore}
+use Rattle.mea_sem_model.specs.Cause.{cause_of, is_named}
 use Rattle.mea_sem_model.specs.Step.{Outcome, step, quietly, try_and_forget}
 use Rattle.mea_sem_model.specs.Valid.{IsValid, IsBelow, IsAccounted}
 use Rattle.mea_sem_model.proofs.Keeps.{valid_empty, below_empty, accounted_empty}
@@ -28,43 +28,25 @@ use Rattle.mea_sem.specs.declared.entries.SemaphoreEntry.{SemaphoreEntry}
 use Rattle.mea_sem.specs.Entries.{ledger_of_entry}
 use Rattle.mea_sem.specs.Store.{Store, store_of, permit_of, semaphore_of, future_of, hall_of}
 use Rattle.mea_sem.specs.Kept.{wakers_in, IsKept}
-use Rattle.mea_sem.specs.Play.{Play, Yields}
+use Rattle.mea_sem.specs.Play.{Play}
 use Rattle.mea_sem.proofs.Names.{get-seen}
-use Rattle.mea_sem.proofs.Keeping.{Plays}
 use Rattle.mea_sem.proofs.PourHalls.{seen_at}
-use Rattle.mea_sem.proofs.PlaysSemaphores.{Puts, plays_nothing, plays_tried, plays_forgetx, plays_endsem}
+use Rattle.mea_sem.proofs.PlaysSemaphores.{Puts, plays_nothing, plays_forget, plays_tried, plays_forgetx, plays_endsem}
 use Rattle.mea_sem.proofs.PlaysNew.{fresh_core, fresh_entry, plays_new}
 use Rattle.mea_sem.proofs.PlaysPours.{wakers_poured}
 use Rattle.mea_sem.proofs.PlaysEnds.{plays_release}
-use Rattle.mea_sem.proofs.Standing.{Semaphores, Futures, Permits, ChangesAt, kept-at, kept-changed, found, puts_of, semaphores_of, yields, yields_quietly}
+use Rattle.mea_sem.proofs.Meets.{store_in, hall_in, seen_in, IsKeptIn, Meets, MeetsSemaphore, Done, later, within, done, done_quietly}
+use Rattle.mea_sem.proofs.Standing.{Semaphores, Futures, Permits, ChangesAt, kept-at, kept-changed, found, puts_of, semaphores_of}
 use Rattle.mea_sem.proofs.Lives.{live-seen, ledger-seen}
-
--- event i had this outcome: what is kept now, and what the contract says
-pub record Done (v : Play) (i : ℕ) (o : Outcome) (answer : Answer) (st' : Store) (w' sp' : ℕ) (wakes' : List ℕ) : Type 0 where
-  pub kept : IsKept st' w' sp' (i + 1)
-  pub yields : Yields v i o answer (record { hall = hall_of st' (i + 1); wakes = wakes'; next = i + 1 })
-
-abbrev pub store_in : Inside → Store
-store_in a = store_of a.semaphores.entries a.futures.entries a.permits.entries
-
-abbrev pub seen_in : Inside → Play
-seen_in a = record { hall = hall_of (store_in a) a.next; wakes = a.outbox.wakers; next = a.next }
-
-abbrev pub IsKeptIn : Inside → Type 0
-IsKeptIn a = IsKept (store_in a) a.registered a.outbox.spare a.next
 
 -- an event that names a semaphore which is not there has a cause
 known : (b : Bool) (o : Option Stop) → cond b o (Some stops.Unknown) ≡ None → b ≡ true
 known true o h = refl
 known false o h = absurd (cc)
 
-pub never_gone : (a : Inside) (v : Play) (s : ℕ) (o : Option Stop) → seen_in a ≡ v → cond (is_named v.hall s) o (Some stops.Unknown) ≡ None → at a.semaphores.entries s ≡ None → ⊥
-never_gone a v s o seen allowed none =
-    let gone : get (hall_of (store_in a) a.next).semaphores s ≡ None = get-seen (semaphore_of (store_in a).futures a.next) (store_in a).semaphores s ∙ ap (option_map (semaphore_of (store_in a).futures a.next s)) (kept-at a.semaphores.entries s ∙ none) in
-    let no : is_named (hall_of (store_in a) a.next) s ≡ false = ap is_named_semaphore gone in
-    let same : is_named (hall_of (store_in a) a.next) s ≡ is_named v.hall s = ap (λ (p : Play). is_named p.hall s) seen in
-    let yes = known (is_named v.hall s) o allowed in
-    absurd (cc)
+pub never_gone : (a : Inside) {v : Play} (s : ℕ) (o : Option Stop) → seen_in a ≡ v → cond (is_named v.hall s) o (Some stops.Unknown) ≡ None
+    → at a.semaphores.entries s ≡ None → ⊥
+never_gone a {v} s o seen allowed none = false≢true (sym (named-none a seen s none) ∙ known (is_named v.hall s) o allowed)
 
 -- a release that would not fit has a cause
 fitting : (b : Bool) (n : ℕ) → cond b (cond (nat_lt n (2 ^ 64)) None (Some stops.Overflow)) (Some stops.Unknown) ≡ None → n < 2 ^ 64
@@ -75,29 +57,41 @@ fitting true n h = small (nat_lt n (2 ^ 64)) refl h
     small true is h = leb-true _ _ is
     small false is h = absurd (cc)
 
+-- more room is room
+pub kept_room : {st : Store} {w sp n : ℕ} (sp' : ℕ) → IsKept st w sp n → w ≤ sp' → IsKept st w sp' n
+kept_room sp' k room = record {
+  valid = k.valid;
+  below = k.below;
+  accounted = k.accounted;
+  linked = k.linked;
+  each = k.each;
+  counted = k.counted;
+  room = room;
+  few = k.few;
+  low = k.low;
+}
+
 -- n free permits of s are forgotten
 abbrev taken_off : Hall → ℕ → ℕ → Outcome
 taken_off h s n = quietly (with_semaphore h s (record (semaphore_at h s) { free = free h s - n; forgotten = (semaphore_at h s).forgotten + n })) answers.Yes
 
-module _ (a : Inside) (v : Play) (i s : ℕ) (e : SemaphoreEntry) (seen : seen_in a ≡ v) (k : IsKeptIn a) (least : v.next ≤ i) (low : i < 2 ^ 64) (there : at a.semaphores.entries s ≡ Some e) where
+module _ {a : Inside} {v : Play} {i s : ℕ} {e : SemaphoreEntry} (m : MeetsSemaphore a v i s e) where
+  k : IsKeptIn a
+  k = m.meets.kept
+
   less : a.next ≤ i
-  less = subst (λ (p : Play). p.next ≤ i) (sym seen) least
+  less = later m.meets
+
+  low : i < 2 ^ 64
+  low = m.meets.low
 
   here : get (store_in a).semaphores s ≡ Some e
-  here = found a.semaphores.entries s e there
+  here = found a.semaphores.entries s e m.there
 
-  cause : (event : SemEvent) → cause_of v.hall event ≡ None → cause_of (hall_of (store_in a) a.next) event ≡ None
-  cause event allowed = subst (λ (p : Play). cause_of p.hall event ≡ None) (sym seen) allowed
+  cause : (event : SemEvent) → cause_of v.hall event ≡ None → cause_of (hall_in a) event ≡ None
+  cause event allowed = within m.meets (λ h. cause_of h event ≡ None) allowed
 
-  quiet : (st' : Store) (w' sp' : ℕ) (event : SemEvent) (reply : Answer) → Plays (store_in a) st' a.next i event w' sp'
-      → (step (hall_of (store_in a) a.next) i event).wakes ≡ [] → reply ≡ (step (hall_of (store_in a) a.next) i event).reply
-      → Done v i (step v.hall i event) reply st' w' sp' a.outbox.wakers
-  quiet st' w' sp' event reply plays none replied = record {
-    kept = plays.kept;
-    yields = yields_quietly v (store_in a) st' a.next i w' sp' a.outbox.wakers event reply seen plays none replied;
-  }
-
-  free_seen : free (hall_of (store_in a) a.next) s ≡ e.core.free
+  free_seen : free (hall_in a) s ≡ e.core.free
   free_seen = ap (λ (r : Semaphore). r.free) (seen_at (store_in a) a.next s e k.linked here)
 
   -- ---- what an event finds
@@ -107,13 +101,16 @@ module _ (a : Inside) (v : Play) (i s : ℕ) (e : SemaphoreEntry) (seen : seen_i
   pub small_released : (n : ℕ) → n < 2 ^ 64 → e.released + n < 2 ^ 128
   small_released n small = let old = (k.each s e here).released in omega (arith, old, less, low, small)
 
+  pub plain_fits : e.plain + 1 < 2 ^ 128
+  plain_fits = let old = (k.each s e here).few in omega (arith, old, less, low)
+
   pub is_quiet : e.core.wakes ≡ []
   is_quiet = (k.each s e here).quiet
 
   -- a release fits where its event has no cause
   pub release_fits : (n : ℕ) → cause_of v.hall (events.Release s n) ≡ None → e.core.live + n < 2 ^ 64
   release_fits n allowed =
-      let h : Hall = hall_of (store_in a) a.next in
+      let h : Hall = hall_in a in
       let lives = live-seen (store_in a) a.registered a.outbox.spare a.next s e k here in
       let small : live h s + n < 2 ^ 64 = fitting (is_named h s) (live h s + n) (cause (events.Release s n) allowed) in
       omega (arith, lives, small)
@@ -128,34 +125,45 @@ module _ (a : Inside) (v : Play) (i s : ℕ) (e : SemaphoreEntry) (seen : seen_i
       let old = (k.each s e here).forgotten in
       omega (arith, lives, fits, old, less, low)
 
+  -- the wakers of one queue are among those that are registered
+  pub wakers_registered : wakers_in e.core.queue ≤ a.registered
+  wakers_registered =
+      let sums = total-remove (λ q (x : SemaphoreEntry). wakers_in x.core.queue) (store_in a).semaphores s in
+      let mine : weight (λ q (x : SemaphoreEntry). wakers_in x.core.queue) s (get (store_in a).semaphores s) ≡ wakers_in e.core.queue =
+      ap (weight (λ q (x : SemaphoreEntry). wakers_in x.core.queue) s) here in
+      let counted = k.counted in
+      omega (arith, sums, mine, counted)
+
   -- a pour makes at most the wakers of all queues ready
   pub wakers_few : (n : ℕ) → length (cores.wakers_of (granted_in e.core.queue n)) ≤ a.registered
   wakers_few n =
-      let sums = total-remove (λ q (x : SemaphoreEntry). wakers_in x.core.queue) (store_in a).semaphores s in
-      let mine : weight (λ q (x : SemaphoreEntry). wakers_in x.core.queue) s (get (store_in a).semaphores s) ≡ wakers_in e.core.queue = ap (weight (λ q (x : SemaphoreEntry). wakers_in x.core.queue) s) here in
-      let counted = k.counted in
+      let all = wakers_registered in
       let split = wakers_poured e.core.queue n in
-      omega (arith, sums, mine, counted, split)
+      omega (arith, all, split)
 
   pub wakers_fit : (n : ℕ) → length (cores.wakers_of (granted_in e.core.queue n)) ≤ a.outbox.spare
   wakers_fit n = let few = wakers_few n in let room = k.room in omega (arith, few, room)
 
   -- ---- events that only look
   pub done_free : (r : ℕ) → r ≡ e.core.free → Done v i (step v.hall i (events.Free s)) (answers.Free r) (store_in a) a.registered a.outbox.spare a.outbox.wakers
-  done_free r is = quiet (store_in a) a.registered a.outbox.spare (events.Free s) (answers.Free r) (plays_nothing (store_in a) a.registered a.outbox.spare a.next i (events.Free s) k less low refl) refl (ap (λ n. answers.Free n) (is ∙ sym free_seen))
+  done_free r is = done_quietly m.meets (events.Free s) (answers.Free r)
+      (plays_nothing (store_in a) a.registered a.outbox.spare a.next i (events.Free s) k less low refl) refl (ap (λ n. answers.Free n) (is ∙ sym free_seen))
 
   pub done_ledger : (r : Ledger) → e.core.free + cores.held_of e.core + cores.paid_of e.core ≡ e.core.live → r ≡ ledger_of_entry e
       → Done v i (step v.hall i (events.Ledger s)) (answers.Account r) (store_in a) a.registered a.outbox.spare a.outbox.wakers
-  done_ledger r whole is = quiet (store_in a) a.registered a.outbox.spare (events.Ledger s) (answers.Account r) (plays_nothing (store_in a) a.registered a.outbox.spare a.next i (events.Ledger s) k less low refl) refl
+  done_ledger r whole is = done_quietly m.meets (events.Ledger s) (answers.Account r)
+      (plays_nothing (store_in a) a.registered a.outbox.spare a.next i (events.Ledger s) k less low refl) refl
       (ap (λ x. answers.Account x) (is ∙ sym (ledger-seen (store_in a) a.registered a.outbox.spare a.next s e k here whole)))
 
   -- too few are free
   lacking : (n : ℕ) → e.core.free < n → Done v i (try_and_forget v.hall s n) answers.No (store_in a) a.registered a.outbox.spare a.outbox.wakers
   lacking n few =
-      let h : Hall = hall_of (store_in a) a.next in
+      let h : Hall = hall_in a in
       let too_few : nat_le n (free h s) ≡ false = ap (nat_le n) free_seen ∙ lt-leb n e.core.free few in
       let outcome : try_and_forget h s n ≡ quietly h answers.No = ap (λ b. cond b (taken_off h s n) (quietly h answers.No)) too_few in
-      quiet (store_in a) a.registered a.outbox.spare (events.Tryf s n) answers.No (plays_nothing (store_in a) a.registered a.outbox.spare a.next i (events.Tryf s n) k less low (ap (λ (o : Outcome). o.hall) outcome)) (ap (λ (o : Outcome). o.wakes) outcome) (sym (ap (λ (o : Outcome). o.reply) outcome))
+      done_quietly m.meets (events.Tryf s n) answers.No
+      (plays_nothing (store_in a) a.registered a.outbox.spare a.next i (events.Tryf s n) k less low (ap (λ (o : Outcome). o.hall) outcome))
+      (ap (λ (o : Outcome). o.wakes) outcome) (sym (ap (λ (o : Outcome). o.reply) outcome))
 
   -- ---- events that change the semaphore
   module _ (ss' : Semaphores) (x : SemaphoreEntry) (changes : ChangesAt a.semaphores.entries ss' s (Some x)) where
@@ -163,7 +171,7 @@ module _ (a : Inside) (v : Play) (i s : ℕ) (e : SemaphoreEntry) (seen : seen_i
     st' = store_of ss' a.futures.entries a.permits.entries
 
     puts : (e' : SemaphoreEntry) → x ≡ e' → Puts (store_in a) st' s e e'
-    puts e' is = puts_of a.semaphores.entries ss' a.futures.entries a.permits.entries a.permits.entries s e x e' there changes is
+    puts e' is = puts_of a.semaphores.entries ss' a.futures.entries a.permits.entries a.permits.entries s e x e' m.there changes is
 
     held_by : (e' : SemaphoreEntry) → x ≡ e' → cores.held_of x.core ≡ cores.held_of e.core → cores.held_of e'.core ≡ cores.held_of e.core
     held_by e' is held = subst (λ (y : SemaphoreEntry). cores.held_of y.core ≡ cores.held_of e.core) is held
@@ -179,67 +187,79 @@ module _ (a : Inside) (v : Play) (i s : ℕ) (e : SemaphoreEntry) (seen : seen_i
         same : st'.semaphores ≡ (store_in a).semaphores
         same = same_named _ _ (λ q. kept-changed a.semaphores.entries ss' s (Some x) changes q ∙ by_test q (s == q) refl)
 
-    pub kept_unchanged : x ≡ e → IsKept st' a.registered a.outbox.spare a.next
-    kept_unchanged is = subst (λ (st : Store). IsKept st a.registered a.outbox.spare a.next) (sym (as_it_was is)) k
+    pub kept_unchanged : x ≡ e → (sp' : ℕ) → a.registered ≤ sp' → IsKept st' a.registered sp' a.next
+    kept_unchanged is sp' room = subst (λ (st : Store). IsKept st a.registered sp' a.next) (sym (as_it_was is)) (kept_room sp' k room)
 
-    pub seen_unchanged : x ≡ e → record { hall = hall_of st' a.next; wakes = a.outbox.wakers; next = a.next } ≡ v
-    seen_unchanged is = ap (λ (st : Store). record { hall = hall_of st a.next; wakes = a.outbox.wakers; next = a.next }) (as_it_was is) ∙ seen
+    pub seen_unchanged : x ≡ e → (wakes' : List ℕ) → wakes' ≡ a.outbox.wakers → record { hall = hall_of st' a.next; wakes = wakes'; next = a.next } ≡ v
+    seen_unchanged is wakes' same = (λ j. record { hall = hall_of (as_it_was is j) a.next; wakes = same j; next = a.next }) ∙ m.meets.seen
 
     pub done_lacking : (n : ℕ) → x ≡ e → e.core.free < n → Done v i (try_and_forget v.hall s n) answers.No st' a.registered a.outbox.spare a.outbox.wakers
-    done_lacking n is few = subst (λ (st : Store). Done v i (try_and_forget v.hall s n) answers.No st a.registered a.outbox.spare a.outbox.wakers) (sym (as_it_was is)) (lacking n few)
+    done_lacking n is few = subst (λ (st : Store). Done v i (try_and_forget v.hall s n) answers.No st a.registered a.outbox.spare a.outbox.wakers)
+        (sym (as_it_was is)) (lacking n few)
 
-    pub done_forgetx : (n : ℕ) → n < 2 ^ 64 → cause_of v.hall (events.Forgetx s n) ≡ None → x ≡ record e { core = calls.forgetting_exactly e.core n; forgotten = e.forgotten + n }
+    pub done_forget : (n r : ℕ) → n < 2 ^ 64 → cause_of v.hall (events.Forget s n) ≡ None
+        → x ≡ record e { core = calls.forgetting e.core n; forgotten = e.forgotten + min n e.core.free }
+        → cores.held_of x.core ≡ cores.held_of e.core → r ≡ min n e.core.free → min n e.core.free ≤ e.core.live
+        → Done v i (step v.hall i (events.Forget s n)) (answers.Forgot r) st' a.registered a.outbox.spare a.outbox.wakers
+    done_forget n r small allowed is held taken within_live =
+        done_quietly m.meets (events.Forget s n) (answers.Forgot r)
+        (plays_forget (store_in a) st' a.registered a.outbox.spare a.next i s n e k less low small (cause (events.Forget s n) allowed) (puts _ is)
+        refl (held_by _ is held) within_live)
+        refl (ap (λ t. answers.Forgot t) (taken ∙ ap (min n) (sym free_seen)))
+
+    pub done_forgetx : (n : ℕ) → n < 2 ^ 64 → cause_of v.hall (events.Forgetx s n) ≡ None
+        → x ≡ record e { core = calls.forgetting_exactly e.core n; forgotten = e.forgotten + n }
         → cores.held_of x.core ≡ cores.held_of e.core → min n e.core.free ≤ e.core.live
         → Done v i (step v.hall i (events.Forgetx s n)) answers.Done st' a.registered a.outbox.spare a.outbox.wakers
     done_forgetx n small allowed is held within =
-        quiet st' a.registered a.outbox.spare (events.Forgetx s n) answers.Done
-        (plays_forgetx (store_in a) st' a.registered a.outbox.spare a.next i s n e k less low small (cause (events.Forgetx s n) allowed) (puts _ is) refl (held_by _ is held) within) refl refl
+        done_quietly m.meets (events.Forgetx s n) answers.Done
+        (plays_forgetx (store_in a) st' a.registered a.outbox.spare a.next i s n e k less low small (cause (events.Forgetx s n) allowed) (puts _ is)
+        refl (held_by _ is held) within) refl refl
 
-    pub done_tried : (n : ℕ) → n < 2 ^ 64 → cause_of v.hall (events.Tryf s n) ≡ None → n ≤ e.core.free → x ≡ record e { core = calls.forgetting e.core n; forgotten = e.forgotten + min n e.core.free }
+    pub done_tried : (n : ℕ) → n < 2 ^ 64 → cause_of v.hall (events.Tryf s n) ≡ None → n ≤ e.core.free
+        → x ≡ record e { core = calls.forgetting e.core n; forgotten = e.forgotten + min n e.core.free }
         → cores.held_of x.core ≡ cores.held_of e.core → min n e.core.free ≤ e.core.live
         → Done v i (try_and_forget v.hall s n) answers.Yes st' a.registered a.outbox.spare a.outbox.wakers
     done_tried n small allowed enough is held within =
-        let h : Hall = hall_of (store_in a) a.next in
+        let h : Hall = hall_in a in
         let fits_in : nat_le n (free h s) ≡ true = ap (nat_le n) free_seen ∙ le-leb n e.core.free enough in
         let outcome : try_and_forget h s n ≡ taken_off h s n = ap (λ b. cond b (taken_off h s n) (quietly h answers.No)) fits_in in
-        quiet st' a.registered a.outbox.spare (events.Tryf s n) answers.Yes
-        (plays_tried (store_in a) st' a.registered a.outbox.spare a.next i s n e k less low small (events.Tryf s n) tt (cause (events.Tryf s n) allowed) refl enough (puts _ is) refl (held_by _ is held) within)
+        done_quietly m.meets (events.Tryf s n) answers.Yes
+        (plays_tried (store_in a) st' a.registered a.outbox.spare a.next i s n e k less low small (events.Tryf s n) tt
+        (cause (events.Tryf s n) allowed) refl enough (puts _ is) refl (held_by _ is held) within)
         (ap (λ (o : Outcome). o.wakes) outcome) (sym (ap (λ (o : Outcome). o.reply) outcome))
 
     pub done_endsem : cause_of v.hall (events.Endsem s) ≡ None → x ≡ record e { named = false }
         → Done v i (step v.hall i (events.Endsem s)) answers.Done st' a.registered a.outbox.spare a.outbox.wakers
     done_endsem allowed is =
-        quiet st' a.registered a.outbox.spare (events.Endsem s) answers.Done
-        (plays_endsem (store_in a) st' a.registered a.outbox.spare a.next i s 0 e k less low (omega arith) (cause (events.Endsem s) allowed) (puts _ is) refl) refl refl
+        done_quietly m.meets (events.Endsem s) answers.Done
+        (plays_endsem (store_in a) st' a.registered a.outbox.spare a.next i s 0 e k less low (omega arith) (cause (events.Endsem s) allowed)
+        (puts _ is) refl) refl refl
 
     -- ---- release
     pub done_release : (n r spare : ℕ) (wakers : List ℕ) → n < 2 ^ 64 → cause_of v.hall (events.Release s n) ≡ None
         → x ≡ record e { core = record (cores.poured e.core n) { wakes = [] }; released = e.released + n } → cores.held_of x.core ≡ cores.held_of e.core
-        → wakers ≡ a.outbox.wakers ++ cores.wakers_of (granted_in e.core.queue n) → spare + r ≡ a.outbox.spare → r ≡ length (cores.wakers_of (granted_in e.core.queue n))
+        → wakers ≡ a.outbox.wakers ++ cores.wakers_of (granted_in e.core.queue n) → spare + r ≡ a.outbox.spare
+        → r ≡ length (cores.wakers_of (granted_in e.core.queue n))
         → Done v i (step v.hall i (events.Release s n)) answers.Done st' (a.registered - r) spare wakers
     done_release n r spare wakers small allowed is held moved left count =
         let room = k.room in
         let few = wakers_few n in
-        let with = plays_release (store_in a) st' a.registered (a.registered - r) spare a.outbox.spare a.next i s n e k less low here small (cause (events.Release s n) allowed)
+        let with = plays_release (store_in a) st' a.registered (a.registered - r) spare a.outbox.spare a.next i s n e k less low here small
+        (cause (events.Release s n) allowed)
         (puts _ is).semaphores refl refl (held_by _ is held) (omega (arith, few, count)) (omega (arith, room, left)) in
-        record {
-          kept = with.plays.kept;
-          yields = yields v (store_in a) st' a.next i (a.registered - r) spare a.outbox.wakers wakers (events.Release s n) answers.Done seen with.plays (moved ∙ ap (λ ws. a.outbox.wakers ++ ws) (sym with.wakes)) refl;
-        }
+        done m.meets wakers (events.Release s n) answers.Done with.plays (moved ∙ ap (λ ws. a.outbox.wakers ++ ws) (sym with.wakes)) refl
 
 -- ---- a new semaphore
-pub done_new : (a : Inside) (v : Play) (i n : ℕ) → seen_in a ≡ v → IsKeptIn a → v.next ≤ i → i < 2 ^ 64 → n < 2 ^ 64 → (ss' : Semaphores) (core : cores.Core ℕ)
-    → ChangesAt a.semaphores.entries ss' i (Some (record { core = core; made = n; released = 0; forgotten = 0; named = true; plain = 0 })) → core ≡ fresh_core n → cores.held_of core ≡ 0
+pub done_new : {a : Inside} {v : Play} {i : ℕ} → Meets a v i → (n : ℕ) → n < 2 ^ 64 → (ss' : Semaphores) (core : cores.Core ℕ)
+    → ChangesAt a.semaphores.entries ss' i (Some (record { core = core; made = n; released = 0; forgotten = 0; named = true; plain = 0 }))
+    → core ≡ fresh_core n → cores.held_of core ≡ 0
     → Done v i (step v.hall i (events.New n)) answers.Made (store_of ss' a.futures.entries a.permits.entries) a.registered a.outbox.spare a.outbox.wakers
-done_new a v i n seen k least low small ss' core changes is held =
-    let less : a.next ≤ i = subst (λ (p : Play). p.next ≤ i) (sym seen) least in
-    let plays = plays_new (store_in a) a.registered a.outbox.spare a.next i k less low (store_of ss' a.futures.entries a.permits.entries) n small
+done_new {a} {v} {i} m n small ss' core changes is held =
+    let plays = plays_new (store_in a) a.registered a.outbox.spare a.next i m.kept (later m) m.low (store_of ss' a.futures.entries a.permits.entries) n small
     (semaphores_of a.semaphores.entries ss' i _ (fresh_entry n) changes (ap (λ (x : cores.Core ℕ). record (fresh_entry n) { core = x }) is)) refl refl
     (subst (λ (x : cores.Core ℕ). cores.held_of x ≡ 0) is held) in
-    record {
-      kept = plays.kept;
-      yields = yields_quietly v (store_in a) (store_of ss' a.futures.entries a.permits.entries) a.next i a.registered a.outbox.spare a.outbox.wakers (events.New n) answers.Made seen plays refl refl;
-    }
+    done_quietly m (events.New n) answers.Made plays refl refl
 
 -- ---- the hall with nothing in it
 abbrev nothing : Store
@@ -252,7 +272,11 @@ seen_nothing : {X Y : Type 0} (f : ℕ → X → Y) → named f (entries (named 
 seen_nothing {X} f = same_named _ _ (λ q. get-seen f (named (λ (k : ℕ) (x : X). x) []) q ∙ ap (option_map (f q)) (kept-at [] q) ∙ sym (get-empty nat_cmp q))
 
 hall_nothing : hall_of nothing 0 ≡ empty_hall
-hall_nothing = λ j. record { semaphores = seen_nothing (semaphore_of nothing.futures 0) j; futures = seen_nothing (λ f x. future_of nothing.semaphores x) j; permits = named_nothing (λ p x. permit_of x) j }
+hall_nothing = λ j. record {
+  semaphores = seen_nothing (semaphore_of nothing.futures 0) j;
+  futures = seen_nothing (λ f x. future_of nothing.semaphores x) j;
+  permits = named_nothing (λ p x. permit_of x) j;
+}
 
 none_at : {X : Type 0} (q : ℕ) (x : X) → get (named (λ (k : ℕ) (y : X). y) []) q ≡ Some x → ⊥
 none_at {X} q x is = absurd (let none : ◌≡◌ {A = Option X} None (Some x) = sym (kept-at {X = X} [] q) ∙ is in cc)
@@ -271,7 +295,8 @@ kept_nothing spare = record {
     numbered = λ s e is. absurd (none_at s e is);
   };
   each = λ s e is. absurd (none_at s e is);
-  counted = sym (ap (total (λ s (e : SemaphoreEntry). wakers_in e.core.queue)) (named_nothing (λ k (e : SemaphoreEntry). e)) ∙ total-empty (λ s (e : SemaphoreEntry). wakers_in e.core.queue));
+  counted = sym (ap (total (λ s (e : SemaphoreEntry). wakers_in e.core.queue)) (named_nothing (λ k (e : SemaphoreEntry). e))
+      ∙ total-empty (λ s (e : SemaphoreEntry). wakers_in e.core.queue));
   room = omega arith;
   few = omega arith;
   low = omega arith;
@@ -281,7 +306,8 @@ nothing_in : (ss : Semaphores) (fs : Futures) (ps : Permits) → ss ≡ [] → f
 nothing_in ss fs ps none no_future no_permit = λ j. store_of (none j) (no_future j) (no_permit j)
 
 pub kept_empty : (ss : Semaphores) (fs : Futures) (ps : Permits) (spare : ℕ) → ss ≡ [] → fs ≡ [] → ps ≡ [] → IsKept (store_of ss fs ps) 0 spare 0
-kept_empty ss fs ps spare none no_future no_permit = subst (λ (st : Store). IsKept st 0 spare 0) (sym (nothing_in ss fs ps none no_future no_permit)) (kept_nothing spare)
+kept_empty ss fs ps spare none no_future no_permit = subst (λ (st : Store). IsKept st 0 spare 0) (sym (nothing_in ss fs ps none no_future no_permit))
+    (kept_nothing spare)
 
 pub seen_empty : (ss : Semaphores) (fs : Futures) (ps : Permits) (wakers : List ℕ) → ss ≡ [] → fs ≡ [] → ps ≡ [] → wakers ≡ []
     → ◌≡◌ {A = Play} (record { hall = hall_of (store_of ss fs ps) 0; wakes = wakers; next = 0 }) (record { hall = empty_hall; wakes = []; next = 0 })

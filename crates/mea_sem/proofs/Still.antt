@@ -34,7 +34,9 @@ no_future st next i linked less = at_value (get st.futures i) refl
     at_value None is = refl
     at_value (Some x) is = let small : i < next = linked.below i x is in absurd (omega arith)
 
-module _ (st st' : Store) (next i s : ℕ) (e e' : SemaphoreEntry) (linked : IsLinked st next) (less : next ≤ i) (there : get st.semaphores s ≡ Some e) (semaphores : (q : ℕ) → get st'.semaphores q ≡ cond (s == q) (Some e') (get st.semaphores q)) (futures : st'.futures ≡ st.futures) (still : IsStill e e') where
+module _ (st st' : Store) (next i s : ℕ) (e e' : SemaphoreEntry) (linked : IsLinked st next) (less : next ≤ i) (there : get st.semaphores s ≡ Some e)
+    (semaphores : (q : ℕ) → get st'.semaphores q ≡ cond (s == q) (Some e') (get st.semaphores q)) (futures : st'.futures ≡ st.futures)
+    (still : IsStill e e') where
   belongs_still : (d n : ℕ) → Belongs e.core (Queued d n) → Belongs e'.core (Queued d n)
   belongs_still d n h = elim h [ inl granted ↦ inl (ap (λ g. get g n) still.granted ∙ granted) | inr waits ↦ inr (waits.0, still.waiting n ∙ waits.1) ]
 
@@ -78,10 +80,17 @@ module _ (st st' : Store) (next i s : ℕ) (e e' : SemaphoreEntry) (linked : IsL
 
   -- the hall after it, where the queue is seen as q
   pub hall_still : (q : List (Who × ℕ)) → queue_of st'.futures (i + 1) s e'.core.queue ≡ q
-      → hall_of st' (i + 1) ≡ record { semaphores = insert (hall_of st next).semaphores s (record { free = e'.core.free; queue = q; made = e'.made; released = e'.released; forgotten = e'.forgotten; named = e'.named }); futures = (hall_of st next).futures; permits = st'.permits }
+      → hall_of st' (i + 1) ≡ record {
+        semaphores = insert (hall_of st next).semaphores s
+            (record { free = e'.core.free; queue = q; made = e'.made; released = e'.released; forgotten = e'.forgotten; named = e'.named });
+        futures =
+            (hall_of st next).futures;
+        permits = st'.permits;
+      }
   hall_still q seen = λ j. record {
     semaphores = (semaphores_after st st' next (i + 1) s i e e' None None linked changes_still
-        ∙ ap (λ p. insert (hall_of st next).semaphores s (record { free = e'.core.free; queue = p; made = e'.made; released = e'.released; forgotten = e'.forgotten; named = e'.named })) seen) j;
+        ∙ ap (λ p. insert (hall_of st next).semaphores s
+        (record { free = e'.core.free; queue = p; made = e'.made; released = e'.released; forgotten = e'.forgotten; named = e'.named })) seen) j;
     futures = futures_same st st' next (i + 1) s i e e' None None linked changes_still refl refl j;
     permits = st'.permits;
   }

@@ -41,9 +41,6 @@ weighs_as h g s a b p r c d t u x same same_plain = record {
 pub weighs_semaphore : (h : Hall) (q s : ℕ) (r : Semaphore) → Weighs h (with_semaphore h q r) s 0 0 0 0
 weighs_semaphore h q s r = record { held = λ k. refl; plain = λ k. refl }
 
-pub weighs_same : (h : Hall) (s : ℕ) → Weighs h h s 0 0 0 0
-weighs_same h s = record { held = λ k. refl; plain = λ k. refl }
-
 nothing_if : (t : Bool) → ◌≡◌ {A = ℕ} (cond t 0 0) 0
 nothing_if true = refl
 nothing_if false = refl
@@ -57,31 +54,39 @@ module _ (h : Hall) (k : ℕ) where
   pub weighs_new_permit : (x : Permit) → get h.permits k ≡ None → Weighs h (with_permit h k x) x.semaphore 0 x.size 0 (one x.plain)
   weighs_new_permit x none = record {
     held = λ q. (let w = total-insert (λ j (p : Permit). cond (p.semaphore == q) p.size 0) h.permits k x in
-        let n : weight (λ j (p : Permit). cond (p.semaphore == q) p.size 0) k (get h.permits k) ≡ 0 = ap (weight (λ j (p : Permit). cond (p.semaphore == q) p.size 0) k) none in
+        let n : weight (λ j (p : Permit). cond (p.semaphore == q) p.size 0) k (get h.permits k) ≡ 0 =
+        ap (weight (λ j (p : Permit). cond (p.semaphore == q) p.size 0) k) none in
         let z = nothing_if (x.semaphore == q) in omega (arith, w, n, z));
     plain = λ q. (let w = total-insert (λ j (p : Permit). cond (p.semaphore == q && p.plain) 1 0) h.permits k x in
-        let n : weight (λ j (p : Permit). cond (p.semaphore == q && p.plain) 1 0) k (get h.permits k) ≡ 0 = ap (weight (λ j (p : Permit). cond (p.semaphore == q && p.plain) 1 0) k) none in
+        let n : weight (λ j (p : Permit). cond (p.semaphore == q && p.plain) 1 0) k (get h.permits k) ≡ 0 =
+        ap (weight (λ j (p : Permit). cond (p.semaphore == q && p.plain) 1 0) k) none in
         let z = nothing_if (x.semaphore == q) in omega (arith, w, n, z, plain_if (x.semaphore == q) x.plain));
   }
 
   -- another size
-  pub weighs_permit : (x y : Permit) → get h.permits k ≡ Some y → y.semaphore ≡ x.semaphore → y.plain ≡ x.plain → Weighs h (with_permit h k x) x.semaphore y.size x.size 0 0
+  pub weighs_permit : (x y : Permit) → get h.permits k ≡ Some y → y.semaphore ≡ x.semaphore → y.plain ≡ x.plain
+      → Weighs h (with_permit h k x) x.semaphore y.size x.size 0 0
   weighs_permit x y there mine form = record {
     held = λ q. (let w = total-insert (λ j (p : Permit). cond (p.semaphore == q) p.size 0) h.permits k x in
-        let n : weight (λ j (p : Permit). cond (p.semaphore == q) p.size 0) k (get h.permits k) ≡ cond (x.semaphore == q) y.size 0 = ap (weight (λ j (p : Permit). cond (p.semaphore == q) p.size 0) k) there ∙ ap (λ s. cond (s == q) y.size 0) mine in
+        let n : weight (λ j (p : Permit). cond (p.semaphore == q) p.size 0) k (get h.permits k) ≡ cond (x.semaphore == q) y.size 0 =
+        ap (weight (λ j (p : Permit). cond (p.semaphore == q) p.size 0) k) there ∙ ap (λ s. cond (s == q) y.size 0) mine in
         omega (arith, w, n));
     plain = λ q. (let w = total-insert (λ j (p : Permit). cond (p.semaphore == q && p.plain) 1 0) h.permits k x in
-        let n : weight (λ j (p : Permit). cond (p.semaphore == q && p.plain) 1 0) k (get h.permits k) ≡ cond (x.semaphore == q && x.plain) 1 0 = ap (weight (λ j (p : Permit). cond (p.semaphore == q && p.plain) 1 0) k) there ∙ ap (λ s. cond (s == q && y.plain) 1 0) mine ∙ ap (λ t. cond (x.semaphore == q && t) 1 0) form in
+        let n : weight (λ j (p : Permit). cond (p.semaphore == q && p.plain) 1 0) k (get h.permits k) ≡ cond (x.semaphore == q && x.plain) 1 0 =
+        ap (weight (λ j (p : Permit). cond (p.semaphore == q && p.plain) 1 0) k) there ∙ ap (λ s. cond (s == q && y.plain) 1 0) mine
+        ∙ ap (λ t. cond (x.semaphore == q && t) 1 0) form in
         omega (arith, w, n));
   }
 
   pub weighs_lost_permit : (y : Permit) → get h.permits k ≡ Some y → Weighs h (without_permit h k) y.semaphore y.size 0 (one y.plain) 0
   weighs_lost_permit y there = record {
     held = λ q. (let w = total-remove (λ j (p : Permit). cond (p.semaphore == q) p.size 0) h.permits k in
-        let n : weight (λ j (p : Permit). cond (p.semaphore == q) p.size 0) k (get h.permits k) ≡ cond (y.semaphore == q) y.size 0 = ap (weight (λ j (p : Permit). cond (p.semaphore == q) p.size 0) k) there in
+        let n : weight (λ j (p : Permit). cond (p.semaphore == q) p.size 0) k (get h.permits k) ≡ cond (y.semaphore == q) y.size 0 =
+        ap (weight (λ j (p : Permit). cond (p.semaphore == q) p.size 0) k) there in
         let z = nothing_if (y.semaphore == q) in omega (arith, w, n, z));
     plain = λ q. (let w = total-remove (λ j (p : Permit). cond (p.semaphore == q && p.plain) 1 0) h.permits k in
-        let n : weight (λ j (p : Permit). cond (p.semaphore == q && p.plain) 1 0) k (get h.permits k) ≡ cond (y.semaphore == q && y.plain) 1 0 = ap (weight (λ j (p : Permit). cond (p.semaphore == q && p.plain) 1 0) k) there in
+        let n : weight (λ j (p : Permit). cond (p.semaphore == q && p.plain) 1 0) k (get h.permits k) ≡ cond (y.semaphore == q && y.plain) 1 0 =
+        ap (weight (λ j (p : Permit). cond (p.semaphore == q && p.plain) 1 0) k) there in
         let z = nothing_if (y.semaphore == q) in omega (arith, w, n, z, plain_if (y.semaphore == q) y.plain));
   }
 
@@ -90,16 +95,20 @@ module _ (h : Hall) (k : ℕ) where
   weighs_new_future x none = record {
     held = λ q. refl;
     plain = λ q. (let w = total-insert (λ j (p : Future). cond (p.semaphore == q && p.plain) 1 0) h.futures k x in
-        let n : weight (λ j (p : Future). cond (p.semaphore == q && p.plain) 1 0) k (get h.futures k) ≡ 0 = ap (weight (λ j (p : Future). cond (p.semaphore == q && p.plain) 1 0) k) none in
+        let n : weight (λ j (p : Future). cond (p.semaphore == q && p.plain) 1 0) k (get h.futures k) ≡ 0 =
+        ap (weight (λ j (p : Future). cond (p.semaphore == q && p.plain) 1 0) k) none in
         let z = nothing_if (x.semaphore == q) in omega (arith, w, n, z, plain_if (x.semaphore == q) x.plain));
   }
 
   -- another stage
-  pub weighs_future : (x y : Future) → get h.futures k ≡ Some y → y.semaphore ≡ x.semaphore → y.plain ≡ x.plain → Weighs h (with_future h k x) x.semaphore 0 0 0 0
+  pub weighs_future : (x y : Future) → get h.futures k ≡ Some y → y.semaphore ≡ x.semaphore → y.plain ≡ x.plain
+      → Weighs h (with_future h k x) x.semaphore 0 0 0 0
   weighs_future x y there mine form = record {
     held = λ q. refl;
     plain = λ q. (let w = total-insert (λ j (p : Future). cond (p.semaphore == q && p.plain) 1 0) h.futures k x in
-        let n : weight (λ j (p : Future). cond (p.semaphore == q && p.plain) 1 0) k (get h.futures k) ≡ cond (x.semaphore == q && x.plain) 1 0 = ap (weight (λ j (p : Future). cond (p.semaphore == q && p.plain) 1 0) k) there ∙ ap (λ s. cond (s == q && y.plain) 1 0) mine ∙ ap (λ t. cond (x.semaphore == q && t) 1 0) form in
+        let n : weight (λ j (p : Future). cond (p.semaphore == q && p.plain) 1 0) k (get h.futures k) ≡ cond (x.semaphore == q && x.plain) 1 0 =
+        ap (weight (λ j (p : Future). cond (p.semaphore == q && p.plain) 1 0) k) there ∙ ap (λ s. cond (s == q && y.plain) 1 0) mine
+        ∙ ap (λ t. cond (x.semaphore == q && t) 1 0) form in
         omega (arith, w, n));
   }
 
@@ -107,12 +116,14 @@ module _ (h : Hall) (k : ℕ) where
   weighs_lost_future y there = record {
     held = λ q. refl;
     plain = λ q. (let w = total-remove (λ j (p : Future). cond (p.semaphore == q && p.plain) 1 0) h.futures k in
-        let n : weight (λ j (p : Future). cond (p.semaphore == q && p.plain) 1 0) k (get h.futures k) ≡ cond (y.semaphore == q && y.plain) 1 0 = ap (weight (λ j (p : Future). cond (p.semaphore == q && p.plain) 1 0) k) there in
+        let n : weight (λ j (p : Future). cond (p.semaphore == q && p.plain) 1 0) k (get h.futures k) ≡ cond (y.semaphore == q && y.plain) 1 0 =
+        ap (weight (λ j (p : Future). cond (p.semaphore == q && p.plain) 1 0) k) there in
         let z = nothing_if (y.semaphore == q) in omega (arith, w, n, z, plain_if (y.semaphore == q) y.plain));
   }
 
 -- ---- pours
-same_weight : (q k : ℕ) (t : Bool) (o : Option Future) → weight (λ j (p : Future). cond (p.semaphore == q && p.plain) 1 0) k (cond t (option_map granted o) o) ≡ weight (λ j (p : Future). cond (p.semaphore == q && p.plain) 1 0) k o
+same_weight : (q k : ℕ) (t : Bool) (o : Option Future) → weight (λ j (p : Future). cond (p.semaphore == q && p.plain) 1 0) k
+    (cond t (option_map granted o) o) ≡ weight (λ j (p : Future). cond (p.semaphore == q && p.plain) 1 0) k o
 same_weight q k true None = refl
 same_weight q k true (Some x) = refl
 same_weight q k false o = refl
@@ -120,7 +131,9 @@ same_weight q k false o = refl
 pub weighs_pour : (h : Hall) (s q n : ℕ) → Weighs h (pour h s n) q 0 0 0 0
 weighs_pour h s q n = record {
   held = λ k. refl;
-  plain = λ k. (let w = total-alike (λ j (p : Future). cond (p.semaphore == k && p.plain) 1 0) (λ j (p : Future). cond (p.semaphore == k && p.plain) 1 0) (pour h s n).futures h.futures
-      (λ f. ap (weight (λ j (p : Future). cond (p.semaphore == k && p.plain) 1 0) f) (get-grant_all (granted_in (queue_at h s) n) h.futures f) ∙ same_weight k f (among (granted_in (queue_at h s) n) f) (get h.futures f)) in
+  plain = λ k. (let w = total-alike (λ j (p : Future). cond (p.semaphore == k && p.plain) 1 0)
+      (λ j (p : Future). cond (p.semaphore == k && p.plain) 1 0) (pour h s n).futures h.futures
+      (λ f. ap (weight (λ j (p : Future). cond (p.semaphore == k && p.plain) 1 0) f) (get-grant_all (granted_in (queue_at h s) n) h.futures f)
+      ∙ same_weight k f (among (granted_in (queue_at h s) n) f) (get h.futures f)) in
       omega (arith, w));
 }

@@ -1,37 +1,59 @@
-use Rattle.std.proofs.Common.{sym, ap, ◌∙◌, rules, arith}
+use Rattle.std.proofs.Common.{rules, sym, ap, ◌∙◌, arith}
 use Rattle.std.specs.Option.{option_copied_mut}
-use Rattle.mea_sem.proofs.StandingPermits.{known_as_permit, semaphore_found, permit_held, permit_counted, wakes_within, wakes_have_room, handed_on, ended}
+use Rattle.mea_sem.proofs.Meets.{MeetsPermit, permits_semaphore}
+use Rattle.mea_sem.proofs.StandingSemaphores.{is_quiet, wakers_few, wakers_fit}
+use Rattle.mea_sem.proofs.StandingPermits.{ended_found, home_found, permit_held, permit_counted, ended}
 use Rattle.mea_sem.proofs.hall.SemHall.end_permit.Goals as goal
+use Rattle.mea_sem.proofs.hall.SemHall.end_permit.Goals.{In-Some-get_mut}
+
+-- the permit and its semaphore, as they were found
+met : (c : In-Some-get_mut) → MeetsPermit c.self.inside c.args.self.now c.args.number c.args.p c.in-Some.permit c.in-Some-get_mut.entry.now
+met c = record {
+  meets = record { seen = c.self.view_is; kept = c.self.invariant; least = c.requires.next; low = omega arith };
+  is = sym c.remove.ensures.value ∙ c.in-Some.is;
+  there = sym c.get_mut.ensures.value ∙ ap option_copied_mut c.in-Some-get_mut.is;
+}
 
 pub unreachable-requires : goal.unreachable-requires
-unreachable-requires c = known_as_permit c.args.self.now c.self.inside.semaphores.entries c.self.inside.semaphores.entries c.self.inside.futures.entries c.self.inside.permits.entries c.self.inside.permits.entries c.self.inside.registered c.self.inside.outbox.spare c.self.inside.next c.args.number c.self.inside.outbox.wakers c.self.invariant c.self.view_is c.requires.next (omega arith) c.args.p c.requires.allowed c.requires.no_future (sym c.remove.ensures.value ∙ c.in_default.is)
+unreachable-requires c =
+    ended_found c.self.inside c.args.p c.self.view_is c.requires.allowed c.requires.no_future
+    (sym c.remove.ensures.value ∙ c.in_default.is)
 
 pub unreachable-requires-in_default-get_mut : goal.unreachable-requires-in_default-get_mut
-unreachable-requires-in_default-get_mut c = semaphore_found c.self.inside.semaphores.entries c.self.inside.futures.entries c.self.inside.permits.entries c.self.inside.registered c.self.inside.outbox.spare c.self.inside.next c.self.invariant c.args.p c.in-Some.permit (sym c.remove.ensures.value ∙ c.in-Some.is) (sym c.get_mut.ensures.value ∙ ap option_copied_mut c.in_default-get_mut.is)
+unreachable-requires-in_default-get_mut c =
+    home_found c.self.inside c.args.p c.self.invariant (sym c.remove.ensures.value ∙ c.in-Some.is)
+    (sym c.get_mut.ensures.value ∙ ap option_copied_mut c.in_default-get_mut.is)
 
 pub give_back-requires-clause-held : goal.give_back-requires-clause-held
-give_back-requires-clause-held c = permit_held c.self.inside.semaphores.entries c.self.inside.futures.entries c.self.inside.permits.entries c.self.inside.registered c.self.inside.outbox.spare c.self.inside.next c.self.invariant c.args.p c.in-Some.permit c.in-Some-get_mut.entry.now (sym c.remove.ensures.value ∙ c.in-Some.is) (sym c.get_mut.ensures.value ∙ ap option_copied_mut c.in-Some-get_mut.is)
+give_back-requires-clause-held c = permit_held (met (goal.at.give_back-requires-clause-held c).In-Some-get_mut)
 
 pub give_back-requires-clause-plain : goal.give_back-requires-clause-plain
-give_back-requires-clause-plain c = permit_counted c.self.inside.semaphores.entries c.self.inside.futures.entries c.self.inside.permits.entries c.self.inside.registered c.self.inside.outbox.spare c.self.inside.next c.self.invariant c.args.p c.in-Some.permit c.in-Some-get_mut.entry.now (sym c.remove.ensures.value ∙ c.in-Some.is) (sym c.get_mut.ensures.value ∙ ap option_copied_mut c.in-Some-get_mut.is)
+give_back-requires-clause-plain c = permit_counted (met (goal.at.give_back-requires-clause-plain c).In-Some-get_mut)
 
 pub give_back-requires-clause-quiet : goal.give_back-requires-clause-quiet
-give_back-requires-clause-quiet c = handed_on c.self.inside.semaphores.entries c.self.inside.futures.entries c.self.inside.permits.entries c.self.inside.registered c.self.inside.outbox.spare c.self.inside.next c.in-Some.permit.semaphore c.in-Some.permit.size c.in-Some-get_mut.entry.now c.self.invariant (sym c.get_mut.ensures.value ∙ ap option_copied_mut c.in-Some-get_mut.is)
+give_back-requires-clause-quiet c = is_quiet (permits_semaphore (met (goal.at.give_back-requires-clause-quiet c).In-Some-get_mut))
 
 pub give_back-requires-clause-room : goal.give_back-requires-clause-room
-give_back-requires-clause-room c = wakes_have_room c.self.inside.semaphores.entries c.self.inside.futures.entries c.self.inside.permits.entries c.self.inside.registered c.self.inside.outbox.spare c.self.inside.next c.in-Some.permit.semaphore c.in-Some.permit.size c.in-Some-get_mut.entry.now c.self.invariant (sym c.get_mut.ensures.value ∙ ap option_copied_mut c.in-Some-get_mut.is)
+give_back-requires-clause-room c = wakers_fit (permits_semaphore (met (goal.at.give_back-requires-clause-room c).In-Some-get_mut)) c.in-Some.permit.size
 
 pub overflow_sub-self : goal.overflow_sub-self
-overflow_sub-self c = let within = wakes_within c.self.inside.semaphores.entries c.self.inside.futures.entries c.self.inside.permits.entries c.self.inside.registered c.self.inside.outbox.spare c.self.inside.next c.in-Some.permit.semaphore c.in-Some.permit.size c.in-Some-get_mut.entry.now c.self.invariant (sym c.get_mut.ensures.value ∙ ap option_copied_mut c.in-Some-get_mut.is) in omega (arith, within, c.give_back.ensures.count)
+overflow_sub-self c = omega (
+  arith,
+  wakers_few (permits_semaphore (met (goal.at.overflow_sub-self c).In-Some-get_mut))
+      c.in-Some.permit.size,
+  c.give_back.ensures.count,
+)
 
 pub invariant_of-self : goal.invariant_of-self
 invariant_of-self c =
-    (ended c.args.self.now c.self.inside.semaphores.entries _ c.self.inside.futures.entries c.self.inside.permits.entries _ c.self.inside.registered c.self.inside.outbox.spare c.self.inside.next c.args.number c.self.inside.outbox.wakers c.self.invariant c.self.view_is c.requires.next (omega arith) c.args.p c.give_back.result _ c.in-Some.permit c.in-Some-get_mut.entry.now c.give_back.new.self _ c.requires.allowed c.requires.no_future (sym c.remove.ensures.value ∙ c.in-Some.is) (sym c.get_mut.ensures.value ∙ ap option_copied_mut c.in-Some-get_mut.is)
+    (ended (met (goal.at.invariant_of-self c).In-Some-get_mut)
+    _ _ c.give_back.result c.give_back.new.outbox.spare c.give_back.new.self c.give_back.new.outbox.wakers c.requires.allowed c.requires.no_future
     c.give_back.ensures.is c.give_back.ensures.held ((c.get_mut.follows.holds c.give_back.new.self).3 (search rules)).0 c.remove.ensures.updates.0
     c.give_back.ensures.count c.give_back.ensures.moved c.give_back.ensures.spare).kept
 
 pub returns : goal.returns
 returns c =
-    (ended c.args.self.now c.self.inside.semaphores.entries _ c.self.inside.futures.entries c.self.inside.permits.entries _ c.self.inside.registered c.self.inside.outbox.spare c.self.inside.next c.args.number c.self.inside.outbox.wakers c.self.invariant c.self.view_is c.requires.next (omega arith) c.args.p c.give_back.result _ c.in-Some.permit c.in-Some-get_mut.entry.now c.give_back.new.self _ c.requires.allowed c.requires.no_future (sym c.remove.ensures.value ∙ c.in-Some.is) (sym c.get_mut.ensures.value ∙ ap option_copied_mut c.in-Some-get_mut.is)
+    (ended (met (goal.at.returns c).In-Some-get_mut)
+    _ _ c.give_back.result c.give_back.new.outbox.spare c.give_back.new.self c.give_back.new.outbox.wakers c.requires.allowed c.requires.no_future
     c.give_back.ensures.is c.give_back.ensures.held ((c.get_mut.follows.holds c.give_back.new.self).3 (search rules)).0 c.remove.ensures.updates.0
     c.give_back.ensures.count c.give_back.ensures.moved c.give_back.ensures.spare).yields

@@ -1,71 +1,43 @@
-use Rattle.std.proofs.Common.{rules, ◌≡◌, None, Some, sym, subst, ap, refl, ◌∙◌, arith, true}
-use Rattle.std.specs.Option.{option_copied_mut, IfSome}
-use Rattle.std.specs.FinMap.{get}
-use Rattle.mea_base.specs.Named.{at}
-use Rattle.mea_base.specs.declared.answer.Answer.TheVariants as answers
-use Rattle.mea_sem_model.specs.Cause.{cause_of}
-use Rattle.mea_sem_model.specs.Step.{step}
-use Rattle.mea_sem_model.specs.declared.event.SemEvent.TheVariants as events
-use Rattle.mea_sem.specs.Play.{Play}
-use Rattle.mea_sem_core.specs.Acquire.{demand_of}
-use Rattle.mea_sem.proofs.StandingFutures.{polled_found, its_semaphore, ready_from, future_plain, tally_fits, forgets_seen, ready_small, forgotten_done}
+use Rattle.std.proofs.Common.{rules, sym, ap, ◌∙◌, arith}
+use Rattle.std.specs.Option.{option_copied_mut}
+use Rattle.mea_sem.proofs.Meets.{MeetsFuture}
+use Rattle.mea_sem.proofs.StandingFutures.{polled_found, semaphore_found, ready_from, future_plain, tally_fits, forgotten_done}
 use Rattle.mea_sem.proofs.hall.SemHall.finish_forgetting.Goals as goal
+use Rattle.mea_sem.proofs.hall.SemHall.finish_forgetting.Goals.{In-Some-get_mut}
+
+-- the future and its semaphore, as they were found
+met : (c : In-Some-get_mut) → MeetsFuture c.self.inside c.args.self.now c.args.number c.args.f c.in-Some.future c.in-Some-get_mut.entry.now
+met c = record {
+  meets = record { seen = c.self.view_is; kept = c.self.invariant; least = c.requires.next; low = omega arith };
+  is = sym c.remove.ensures.value ∙ c.in-Some.is;
+  there = sym c.get_mut.ensures.value ∙ ap option_copied_mut c.in-Some-get_mut.is;
+}
 
 pub unreachable-requires : goal.unreachable-requires
-unreachable-requires c =
-    let allowed = subst (λ (p : Play). cause_of p.hall (events.Poll c.args.f c.args.waker) ≡ None) (sym c.self.view_is) c.requires.allowed in
-    polled_found c.self.inside.semaphores.entries c.self.inside.futures.entries c.self.inside.permits.entries c.self.inside.next c.args.f allowed (sym c.remove.ensures.value ∙ c.in_default.is)
+unreachable-requires c = polled_found c.self.inside c.args.f c.self.view_is c.requires.allowed (sym c.remove.ensures.value ∙ c.in_default.is)
 
 pub unreachable-requires-in_default-get_mut : goal.unreachable-requires-in_default-get_mut
 unreachable-requires-in_default-get_mut c =
-    its_semaphore c.self.inside.semaphores.entries c.self.inside.futures.entries c.self.inside.permits.entries c.self.inside.registered c.self.inside.outbox.spare c.self.inside.next c.args.f c.in-Some.future c.self.invariant (sym c.remove.ensures.value ∙ c.in-Some.is) (sym c.get_mut.ensures.value ∙ ap option_copied_mut c.in_default-get_mut.is)
+    semaphore_found c.self.inside c.args.f c.self.invariant (sym c.remove.ensures.value ∙ c.in-Some.is)
+    (sym c.get_mut.ensures.value ∙ ap option_copied_mut c.in_default-get_mut.is)
 
 pub finish_forgetting-requires-clause-ready : goal.finish_forgetting-requires-clause-ready
-finish_forgetting-requires-clause-ready c =
-    let is : at c.self.inside.futures.entries c.args.f ≡ Some c.in-Some.future = sym c.remove.ensures.value ∙ c.in-Some.is in
-    let there : at c.self.inside.semaphores.entries c.in-Some.future.semaphore ≡ Some c.in-Some-get_mut.entry.now = sym c.get_mut.ensures.value ∙ ap option_copied_mut c.in-Some-get_mut.is in
-    let replied = subst (λ (p : Play). (step p.hall c.args.number (events.Poll c.args.f c.args.waker)).reply ≡ answers.Ready) (sym c.self.view_is) c.requires.ready in
-    let ready = ready_from c.self.inside.semaphores.entries c.self.inside.futures.entries c.self.inside.permits.entries c.self.inside.registered c.self.inside.outbox.spare c.self.inside.next c.args.f c.in-Some.future c.self.invariant is c.in-Some-get_mut.entry.now there c.args.number c.args.waker replied in
-    ready
+finish_forgetting-requires-clause-ready c = ready_from (met (goal.at.finish_forgetting-requires-clause-ready c).In-Some-get_mut) c.args.waker c.requires.ready
 
 pub finish_forgetting-requires-clause-plain : goal.finish_forgetting-requires-clause-plain
-finish_forgetting-requires-clause-plain c =
-    let is : at c.self.inside.futures.entries c.args.f ≡ Some c.in-Some.future = sym c.remove.ensures.value ∙ c.in-Some.is in
-    let there : at c.self.inside.semaphores.entries c.in-Some.future.semaphore ≡ Some c.in-Some-get_mut.entry.now = sym c.get_mut.ensures.value ∙ ap option_copied_mut c.in-Some-get_mut.is in
-    future_plain c.self.inside.semaphores.entries c.self.inside.futures.entries c.self.inside.permits.entries c.self.inside.registered c.self.inside.outbox.spare c.self.inside.next c.args.f c.in-Some.future c.in-Some-get_mut.entry.now c.self.invariant is there
+finish_forgetting-requires-clause-plain c = future_plain (met (goal.at.finish_forgetting-requires-clause-plain c).In-Some-get_mut)
 
 pub finish_forgetting-requires-clause-tally : goal.finish_forgetting-requires-clause-tally
-finish_forgetting-requires-clause-tally c =
-    let is : at c.self.inside.futures.entries c.args.f ≡ Some c.in-Some.future = sym c.remove.ensures.value ∙ c.in-Some.is in
-    let there : at c.self.inside.semaphores.entries c.in-Some.future.semaphore ≡ Some c.in-Some-get_mut.entry.now = sym c.get_mut.ensures.value ∙ ap option_copied_mut c.in-Some-get_mut.is in
-    let replied = subst (λ (p : Play). (step p.hall c.args.number (events.Poll c.args.f c.args.waker)).reply ≡ answers.Ready) (sym c.self.view_is) c.requires.ready in
-    let ready = ready_from c.self.inside.semaphores.entries c.self.inside.futures.entries c.self.inside.permits.entries c.self.inside.registered c.self.inside.outbox.spare c.self.inside.next c.args.f c.in-Some.future c.self.invariant is c.in-Some-get_mut.entry.now there c.args.number c.args.waker replied in
-    let small = ready_small c.self.inside.semaphores.entries c.self.inside.futures.entries c.self.inside.permits.entries c.self.inside.registered c.self.inside.outbox.spare c.self.inside.next c.args.f c.in-Some.future c.in-Some-get_mut.entry.now c.self.invariant is there ready in
-    let less = rw (← c.self.view_is) at c.requires.next in
-    tally_fits c.self.inside.semaphores.entries c.self.inside.futures.entries c.self.inside.permits.entries c.self.inside.registered c.self.inside.outbox.spare c.self.inside.next c.in-Some.future.semaphore c.args.number c.in-Some-get_mut.entry.now (demand_of c.in-Some.future.acquire) c.self.invariant less (omega arith) small there
+finish_forgetting-requires-clause-tally c = tally_fits (met (goal.at.finish_forgetting-requires-clause-tally c).In-Some-get_mut) c.args.waker c.requires.ready
 
 pub invariant_of-self : goal.invariant_of-self
 invariant_of-self c =
-    let is : at c.self.inside.futures.entries c.args.f ≡ Some c.in-Some.future = sym c.remove.ensures.value ∙ c.in-Some.is in
-    let there : at c.self.inside.semaphores.entries c.in-Some.future.semaphore ≡ Some c.in-Some-get_mut.entry.now = sym c.get_mut.ensures.value ∙ ap option_copied_mut c.in-Some-get_mut.is in
-    let replied = subst (λ (p : Play). (step p.hall c.args.number (events.Poll c.args.f c.args.waker)).reply ≡ answers.Ready) (sym c.self.view_is) c.requires.ready in
-    let ready = ready_from c.self.inside.semaphores.entries c.self.inside.futures.entries c.self.inside.permits.entries c.self.inside.registered c.self.inside.outbox.spare c.self.inside.next c.args.f c.in-Some.future c.self.invariant is c.in-Some-get_mut.entry.now there c.args.number c.args.waker replied in
-    let small = ready_small c.self.inside.semaphores.entries c.self.inside.futures.entries c.self.inside.permits.entries c.self.inside.registered c.self.inside.outbox.spare c.self.inside.next c.args.f c.in-Some.future c.in-Some-get_mut.entry.now c.self.invariant is there ready in
-    let less = rw (← c.self.view_is) at c.requires.next in
-    let allowed = subst (λ (p : Play). cause_of p.hall (events.Poll c.args.f c.args.waker) ≡ None) (sym c.self.view_is) c.requires.allowed in
-    let forgets = forgets_seen c.self.inside.semaphores.entries c.self.inside.futures.entries c.self.inside.permits.entries c.self.inside.next c.args.f c.in-Some.future true is (subst (λ (p : Play). IfSome (get p.hall.futures c.args.f) (λ y. y.forgets ≡ true)) (sym c.self.view_is) c.requires.forgets) in
-    (forgotten_done c.self.inside.semaphores.entries _ c.self.inside.futures.entries _ c.self.inside.permits.entries c.self.inside.permits.entries c.self.inside.registered c.self.inside.outbox.spare c.self.inside.next c.args.number c.args.f c.args.waker c.self.inside.outbox.wakers c.in-Some.future c.in-Some-get_mut.entry.now c.finish_forgetting.new.self c.self.invariant less (omega arith) small allowed is c.in-Some.ensures.updates.0 there ((c.get_mut.follows.holds c.finish_forgetting.new.self).3 (search rules)).0 ready
-    forgets refl c.finish_forgetting.ensures.is c.finish_forgetting.ensures.rises c.finish_forgetting.ensures.held).kept
+    (forgotten_done (met (goal.at.invariant_of-self c).In-Some-get_mut) c.args.waker c.requires.allowed c.requires.ready _ _ c.finish_forgetting.new.self
+    c.in-Some.ensures.updates.0 ((c.get_mut.follows.holds c.finish_forgetting.new.self).3 (search rules)).0
+    c.requires.forgets c.finish_forgetting.ensures.is c.finish_forgetting.ensures.rises c.finish_forgetting.ensures.held).kept
 
 pub returns : goal.returns
 returns c =
-    let is : at c.self.inside.futures.entries c.args.f ≡ Some c.in-Some.future = sym c.remove.ensures.value ∙ c.in-Some.is in
-    let there : at c.self.inside.semaphores.entries c.in-Some.future.semaphore ≡ Some c.in-Some-get_mut.entry.now = sym c.get_mut.ensures.value ∙ ap option_copied_mut c.in-Some-get_mut.is in
-    let replied = subst (λ (p : Play). (step p.hall c.args.number (events.Poll c.args.f c.args.waker)).reply ≡ answers.Ready) (sym c.self.view_is) c.requires.ready in
-    let ready = ready_from c.self.inside.semaphores.entries c.self.inside.futures.entries c.self.inside.permits.entries c.self.inside.registered c.self.inside.outbox.spare c.self.inside.next c.args.f c.in-Some.future c.self.invariant is c.in-Some-get_mut.entry.now there c.args.number c.args.waker replied in
-    let small = ready_small c.self.inside.semaphores.entries c.self.inside.futures.entries c.self.inside.permits.entries c.self.inside.registered c.self.inside.outbox.spare c.self.inside.next c.args.f c.in-Some.future c.in-Some-get_mut.entry.now c.self.invariant is there ready in
-    let less = rw (← c.self.view_is) at c.requires.next in
-    let allowed = subst (λ (p : Play). cause_of p.hall (events.Poll c.args.f c.args.waker) ≡ None) (sym c.self.view_is) c.requires.allowed in
-    let forgets = forgets_seen c.self.inside.semaphores.entries c.self.inside.futures.entries c.self.inside.permits.entries c.self.inside.next c.args.f c.in-Some.future true is (subst (λ (p : Play). IfSome (get p.hall.futures c.args.f) (λ y. y.forgets ≡ true)) (sym c.self.view_is) c.requires.forgets) in
-    rw (← c.self.view_is) (forgotten_done c.self.inside.semaphores.entries _ c.self.inside.futures.entries _ c.self.inside.permits.entries c.self.inside.permits.entries c.self.inside.registered c.self.inside.outbox.spare c.self.inside.next c.args.number c.args.f c.args.waker c.self.inside.outbox.wakers c.in-Some.future c.in-Some-get_mut.entry.now c.finish_forgetting.new.self c.self.invariant less (omega arith) small allowed is c.in-Some.ensures.updates.0 there ((c.get_mut.follows.holds c.finish_forgetting.new.self).3 (search rules)).0 ready
-    forgets refl c.finish_forgetting.ensures.is c.finish_forgetting.ensures.rises c.finish_forgetting.ensures.held).yields
+    (forgotten_done (met (goal.at.returns c).In-Some-get_mut) c.args.waker c.requires.allowed c.requires.ready _ _ c.finish_forgetting.new.self
+    c.in-Some.ensures.updates.0 ((c.get_mut.follows.holds c.finish_forgetting.new.self).3 (search rules)).0
+    c.requires.forgets c.finish_forgetting.ensures.is c.finish_forgetting.ensures.rises c.finish_forgetting.ensures.held).yields

@@ -1,28 +1,28 @@
-use Rattle.std.proofs.Common.{◌≡◌, None, Some, sym, ap, ◌∙◌, arith}
+use Rattle.std.proofs.Common.{sym, ap, ◌∙◌, arith}
 use Rattle.std.specs.Option.{option_copied}
-use Rattle.mea_base.specs.Named.{at}
+use Rattle.mea_sem.proofs.Meets.{MeetsSemaphore}
 use Rattle.mea_sem.proofs.StandingSemaphores.{never_gone, is_accounted, small_account, done_ledger}
 use Rattle.mea_sem.proofs.hall.SemHall.ledger.Goals as goal
+use Rattle.mea_sem.proofs.hall.SemHall.ledger.Goals.{In-Some}
+
+-- the semaphore, as it was found
+met : (c : In-Some) → MeetsSemaphore c.self.inside c.args.self.now c.args.number c.args.s c.in-Some.entry.now
+met c = record {
+  meets = record { seen = c.self.view_is; kept = c.self.invariant; least = c.requires.next; low = omega arith };
+  there = sym c.get.ensures.value ∙ ap option_copied c.in-Some.is;
+}
 
 pub unreachable-requires : goal.unreachable-requires
-unreachable-requires c = never_gone c.self.inside c.args.self.now c.args.s None c.self.view_is c.requires.allowed (sym c.get.ensures.value ∙ ap option_copied c.in_default.is)
+unreachable-requires c = never_gone c.self.inside c.args.s _ c.self.view_is c.requires.allowed (sym c.get.ensures.value ∙ ap option_copied c.in_default.is)
 
 pub ledger-ledger-requires-clause-account : goal.ledger-ledger-requires-clause-account
-ledger-ledger-requires-clause-account c =
-    let there : at c.self.inside.semaphores.entries c.args.s ≡ Some c.in-Some.entry.now = sym c.get.ensures.value ∙ ap option_copied c.in-Some.is in
-    is_accounted c.self.inside c.args.self.now c.args.number c.args.s c.in-Some.entry.now c.self.view_is c.self.invariant c.requires.next (omega arith) there
+ledger-ledger-requires-clause-account c = is_accounted (met (goal.at.ledger-ledger-requires-clause-account c).In-Some)
 
 pub ledger-ledger-requires-clause-few : goal.ledger-ledger-requires-clause-few
-ledger-ledger-requires-clause-few c =
-    let there : at c.self.inside.semaphores.entries c.args.s ≡ Some c.in-Some.entry.now = sym c.get.ensures.value ∙ ap option_copied c.in-Some.is in
-    small_account c.self.inside c.args.self.now c.args.number c.args.s c.in-Some.entry.now c.self.view_is c.self.invariant c.requires.next (omega arith) there
+ledger-ledger-requires-clause-few c = small_account (met (goal.at.ledger-ledger-requires-clause-few c).In-Some)
 
 pub invariant_of-self : goal.invariant_of-self
-invariant_of-self c =
-    let there : at c.self.inside.semaphores.entries c.args.s ≡ Some c.in-Some.entry.now = sym c.get.ensures.value ∙ ap option_copied c.in-Some.is in
-    (done_ledger c.self.inside c.args.self.now c.args.number c.args.s c.in-Some.entry.now c.self.view_is c.self.invariant c.requires.next (omega arith) there _ c.ledger-ledger.ensures.total c.ledger-ledger.ensures.is).kept
+invariant_of-self c = (done_ledger (met (goal.at.invariant_of-self c).In-Some) _ c.ledger-ledger.ensures.total c.ledger-ledger.ensures.is).kept
 
 pub returns : goal.returns
-returns c =
-    let there : at c.self.inside.semaphores.entries c.args.s ≡ Some c.in-Some.entry.now = sym c.get.ensures.value ∙ ap option_copied c.in-Some.is in
-    (done_ledger c.self.inside c.args.self.now c.args.number c.args.s c.in-Some.entry.now c.self.view_is c.self.invariant c.requires.next (omega arith) there _ c.ledger-ledger.ensures.total c.ledger-ledger.ensures.is).yields
+returns c = (done_ledger (met (goal.at.returns c).In-Some) _ c.ledger-ledger.ensures.total c.ledger-ledger.ensures.is).yields

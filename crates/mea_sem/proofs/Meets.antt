@@ -1,0 +1,103 @@
+-- a hall as a method meets it, and as the method leaves it
+use Rattle.std.proofs.Common.{◌≡◌, ℕ, ◌+◌, ◌^◌, ◌<◌, ◌≤◌, ◌++◌, List, [], subst, sym, ap, ◌∙◌, append-nil, Some}
+use Rattle.mea_base.specs.declared.answer.Answer.{Answer}
+use Rattle.mea_base.specs.Named.{at}
+use Rattle.mea_sem_model.specs.declared.event.SemEvent.{SemEvent}
+use Rattle.mea_sem_model.specs.Hall.{Hall}
+use Rattle.mea_sem_model.specs.Step.{Outcome, step}
+use Rattle.mea_sem.specs.declared.hall.SemHall.TheInside.{Inside}
+use Rattle.mea_sem.specs.declared.entries.SemaphoreEntry.{SemaphoreEntry}
+use Rattle.mea_sem.specs.declared.entries.FutureEntry.{FutureEntry}
+use Rattle.mea_sem.specs.declared.entries.PermitEntry.{PermitEntry}
+use Rattle.mea_sem.specs.Store.{Store, store_of, hall_of}
+use Rattle.mea_sem.specs.Kept.{IsKept}
+use Rattle.mea_sem.specs.Play.{Play, Yields}
+use Rattle.mea_sem.proofs.Keeping.{Plays}
+
+abbrev pub store_in : Inside → Store
+store_in a = store_of a.semaphores.entries a.futures.entries a.permits.entries
+
+abbrev pub hall_in : Inside → Hall
+hall_in a = hall_of (store_in a) a.next
+
+abbrev pub seen_in : Inside → Play
+seen_in a = record { hall = hall_in a; wakes = a.outbox.wakers; next = a.next }
+
+abbrev pub IsKeptIn : Inside → Type 0
+IsKeptIn a = IsKept (store_in a) a.registered a.outbox.spare a.next
+
+-- the hall v, in which event number i is played
+pub record Meets (a : Inside) (v : Play) (i : ℕ) : Type 0 where
+  pub seen : seen_in a ≡ v
+  pub kept : IsKeptIn a
+  pub least : v.next ≤ i
+  pub low : i < 2 ^ 64
+
+-- and its semaphore s
+pub record MeetsSemaphore (a : Inside) (v : Play) (i s : ℕ) (e : SemaphoreEntry) : Type 0 where
+  pub meets : Meets a v i
+  pub there : at a.semaphores.entries s ≡ Some e
+
+-- and its future f, with the semaphore of that
+pub record MeetsFuture (a : Inside) (v : Play) (i f : ℕ) (x : FutureEntry) (e : SemaphoreEntry) : Type 0 where
+  pub meets : Meets a v i
+  pub is : at a.futures.entries f ≡ Some x
+  pub there : at a.semaphores.entries x.semaphore ≡ Some e
+
+-- and its permit p, with the semaphore of that
+pub record MeetsPermit (a : Inside) (v : Play) (i p : ℕ) (x : PermitEntry) (e : SemaphoreEntry) : Type 0 where
+  pub meets : Meets a v i
+  pub is : at a.permits.entries p ≡ Some x
+  pub there : at a.semaphores.entries x.semaphore ≡ Some e
+
+-- event number i had this outcome: what is kept now, and what the contract says
+pub record Done (v : Play) (i : ℕ) (o : Outcome) (answer : Answer) (st' : Store) (w' sp' : ℕ) (wakes' : List ℕ) : Type 0 where
+  pub kept : IsKept st' w' sp' (i + 1)
+  pub yields : Yields v i o answer (record { hall = hall_of st' (i + 1); wakes = wakes'; next = i + 1 })
+
+pub its_semaphore : {a : Inside} {v : Play} {i f : ℕ} {x : FutureEntry} {e : SemaphoreEntry} → MeetsFuture a v i f x e → MeetsSemaphore a v i x.semaphore e
+its_semaphore m = record { meets = m.meets; there = m.there }
+
+pub permits_semaphore : {a : Inside} {v : Play} {i p : ℕ} {x : PermitEntry} {e : SemaphoreEntry} → MeetsPermit a v i p x e → MeetsSemaphore a v i x.semaphore e
+permits_semaphore m = record { meets = m.meets; there = m.there }
+
+-- an insertion that failed left what was there
+pub kept_as_futures : (a : Inside) {fs : List (ℕ × FutureEntry)} → IsKeptIn a → fs ≡ a.futures.entries
+    → IsKept (store_of a.semaphores.entries fs a.permits.entries) a.registered a.outbox.spare a.next
+kept_as_futures a k same = subst
+    (λ (fs : List (ℕ × FutureEntry)). IsKept (store_of a.semaphores.entries fs a.permits.entries) a.registered a.outbox.spare a.next) (sym same) k
+
+pub kept_as_permits : (a : Inside) {ps : List (ℕ × PermitEntry)} → IsKeptIn a → ps ≡ a.permits.entries
+    → IsKept (store_of a.semaphores.entries a.futures.entries ps) a.registered a.outbox.spare a.next
+kept_as_permits a k same = subst
+    (λ (ps : List (ℕ × PermitEntry)). IsKept (store_of a.semaphores.entries a.futures.entries ps) a.registered a.outbox.spare a.next) (sym same) k
+
+module _ {a : Inside} {v : Play} {i : ℕ} (m : Meets a v i) where
+  pub later : a.next ≤ i
+  later = subst (λ (p : Play). p.next ≤ i) (sym m.seen) m.least
+
+  -- what is said of the hall that callers see goes for the one that is kept, and the other way round
+  pub within : (P : Hall → Type 0) → P v.hall → P (hall_in a)
+  within P h = subst (λ (p : Play). P p.hall) (sym m.seen) h
+
+  pub without : (P : Hall → Type 0) → P (hall_in a) → P v.hall
+  without P h = subst (λ (p : Play). P p.hall) m.seen h
+
+  -- the event is played, with these wakers and this reply
+  pub done : {st' : Store} {w' sp' : ℕ} (wakes' : List ℕ) (event : SemEvent) (reply : Answer) → Plays (store_in a) st' a.next i event w' sp'
+      → wakes' ≡ a.outbox.wakers ++ (step (hall_in a) i event).wakes → reply ≡ (step (hall_in a) i event).reply
+      → Done v i (step v.hall i event) reply st' w' sp' wakes'
+  done {st'} wakes' event reply plays woken replied = record {
+    kept = plays.kept;
+    yields = subst (λ (p : Play). Yields p i (step p.hall i event) reply (record { hall = hall_of st' (i + 1); wakes = wakes'; next = i + 1 })) m.seen (record {
+      replied = replied;
+      moved = λ j. record { hall = plays.hall j; wakes = woken j; next = i + 1 };
+    });
+  }
+
+  -- the same where it makes no wakers ready
+  pub done_quietly : {st' : Store} {w' sp' : ℕ} (event : SemEvent) (reply : Answer) → Plays (store_in a) st' a.next i event w' sp'
+      → (step (hall_in a) i event).wakes ≡ [] → reply ≡ (step (hall_in a) i event).reply
+      → Done v i (step v.hall i event) reply st' w' sp' a.outbox.wakers
+  done_quietly event reply plays quiet replied = done a.outbox.wakers event reply plays
+      (sym (append-nil a.outbox.wakers) ∙ ap (λ ws. a.outbox.wakers ++ ws) (sym quiet)) replied
