@@ -10,8 +10,6 @@ mod outbox;
 mod overflow;
 mod ready;
 mod stop;
-#[cfg(test)]
-mod tests;
 mod turn;
 mod wait_list;
 mod wake;

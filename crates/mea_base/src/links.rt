@@ -5,10 +5,10 @@ ghost use Rattle.mea_base.specs.WaitListLinks.{node_at, next_in, prev_in, Relink
 use crate::no_memory::NoMemory;
 use slab::Slab;
 
-// The key of the node that closes the ring. It is made first, so its key is the first that a slab gives.
+/// The key of the node that closes the ring. It is made first, so its key is the first that a slab gives.
 pub const SENTINEL: usize = 0;
 
-// A value and its neighbours in the ring. Off the ring a node points at itself.
+/// A value and its neighbours in the ring. Off the ring a node points at itself.
 #[derive(Drop)]
 pub struct Node<T> {
     pub prev: usize,
@@ -17,7 +17,7 @@ pub struct Node<T> {
     pub value: Option<T>,
 }
 
-// Makes `to` the next key of the node under `key`.
+/// Makes `to` the next key of the node under `key`.
 pub fn set_next<T>(nodes: &mut Slab<Node<T>>, key: usize, to: usize)
     requires { ContainsKey nodes.old key }
     ensures { Relinks nodes.old nodes.new (λ k. if k == key then to else next_in nodes.old.slots k) (λ k. prev_in nodes.old.slots k) }
@@ -25,7 +25,7 @@ pub fn set_next<T>(nodes: &mut Slab<Node<T>>, key: usize, to: usize)
     nodes[key].next = to;
 }
 
-// Makes `to` the previous key of the node under `key`.
+/// Makes `to` the previous key of the node under `key`.
 pub fn set_prev<T>(nodes: &mut Slab<Node<T>>, key: usize, to: usize)
     requires { ContainsKey nodes.old key }
     ensures { Relinks nodes.old nodes.new (λ k. next_in nodes.old.slots k) (λ k. if k == key then to else prev_in nodes.old.slots k) }
@@ -33,7 +33,7 @@ pub fn set_prev<T>(nodes: &mut Slab<Node<T>>, key: usize, to: usize)
     nodes[key].prev = to;
 }
 
-// Puts a value between two neighbours, and tells its key.
+/// Puts a value between two neighbours, and tells its key.
 pub fn insert_between<T>(nodes: &mut Slab<Node<T>>, prev: usize, next: usize, value: T) -> usize
     requires room { HasRoomFor nodes.old 1 }
     requires prev { ContainsKey nodes.old prev }
@@ -50,7 +50,7 @@ pub fn insert_between<T>(nodes: &mut Slab<Node<T>>, prev: usize, next: usize, va
     key
 }
 
-// Makes room for `n` more nodes, and makes the sentinel where there is none.
+/// Makes room for `n` more nodes, and makes the sentinel where there is none.
 pub fn reserve_nodes<T>(nodes: &mut Slab<Node<T>>, n: usize) -> Result<(), NoMemory>
     requires first_key { node_at nodes.old.slots 0 ≡ None → nodes.old.vacant_key ≡ 0 }
     ensures room { OnOk result (HasRoomFor nodes.new n) }

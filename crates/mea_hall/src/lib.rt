@@ -21,6 +21,3 @@ pub use number::number_of;
 pub use played::{Played, replay};
 pub use replies::Replies;
 pub use text::{put_number, put_reply, put_text};
-
-#[cfg(test)]
-mod tests;

@@ -16,8 +16,6 @@ mod note;
 mod part;
 mod rw_core;
 mod rw_wait;
-#[cfg(test)]
-mod tests;
 mod then;
 mod wait_while;
 

@@ -18,6 +18,3 @@ pub use mea_meet_core::{
     LatchWait, ShutdownCore,
 };
 pub use mea_meet_model::MeetEvent;
-
-#[cfg(test)]
-mod tests;

@@ -13,8 +13,6 @@ mod latch_core;
 mod latch_wait;
 mod meeting_laws;
 mod shutdown_core;
-#[cfg(test)]
-mod tests;
 
 pub use barrier_core::BarrierCore;
 pub use barrier_fault::BarrierFault;

@@ -20,6 +20,3 @@ pub use source::{Failed, Source};
 pub use standard::{StdSink, StdSource};
 pub use status::Status;
 pub use sure::{SureSink, SureSource};
-
-#[cfg(test)]
-mod tests;

@@ -14,6 +14,3 @@ mod semaphores;
 pub use hall::SemHall;
 pub use mea_sem_core::{Acquire, SemCore};
 pub use mea_sem_model::SemEvent;
-
-#[cfg(test)]
-mod tests;

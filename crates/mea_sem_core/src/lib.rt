@@ -11,8 +11,6 @@ mod checked;
 mod place;
 mod pouring;
 mod sem_core;
-#[cfg(test)]
-mod tests;
 
 pub use acquire::Acquire;
 pub use sem_core::SemCore;

@@ -11,6 +11,3 @@ pub use countdown::Countdown;
 pub use place::Place;
 pub use wait_set::WaitSet;
 pub use wait_set_laws::{a_set_is_its_pairs, numbers_never_repeat};
-
-#[cfg(test)]
-mod tests;

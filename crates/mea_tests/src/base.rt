@@ -1,4 +1,4 @@
-use crate::{Outbox, Ready, WaitList};
+use mea_base::{Outbox, Ready, WaitList};
 use std::test::Fail;
 
 // With memory at hand, no call answers that there is none.

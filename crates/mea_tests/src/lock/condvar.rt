@@ -1,5 +1,5 @@
-use crate::tests::Told;
-use crate::{CondWait, CondvarCore, MutexCore, WaitWhile};
+use crate::lock::Told;
+use mea_lock::{CondWait, CondvarCore, MutexCore, WaitWhile};
 use std::mem;
 use std::test::Fail;
 

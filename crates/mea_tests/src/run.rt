@@ -1,4 +1,4 @@
-use crate::{
+use mea_run::{
     Failed, MemSink, PutFault, Sink, Source, Status, StdSink, StdSource, SureSink, SureSource, run,
 };
 use std::io;

@@ -1,5 +1,5 @@
-use crate::tests::Told;
-use crate::{RwCore, RwWait};
+use crate::lock::Told;
+use mea_lock::{RwCore, RwWait};
 use std::test::Fail;
 
 // A call of a reader-writer lock with one wait for a write.

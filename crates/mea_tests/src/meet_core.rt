@@ -1,8 +1,8 @@
-use crate::{
+use mea_base::{Overflow, Poll};
+use mea_meet_core::{
     BarrierCore, BarrierFault, BarrierWait, GroupCore, GroupWait, LatchCore, LatchWait,
     ShutdownCore,
 };
-use mea_base::{Overflow, Poll};
 use std::alloc::Global;
 use std::test::Fail;
 
@@ -156,6 +156,7 @@ fn group(rt: HostRuntime) -> Result<(), Fail> {
     let mut group: GroupCore<u64> = GroupCore::new(rt.alloc());
     let mut wait = GroupWait::new();
     assert_eq!(rt; group.add(), Ok(()));
+    assert_eq!(rt; group.handles(), 2);
     group.leave();
     assert_eq!(rt; group.poll(&mut wait, 5)?, Poll::Pending);
     group.leave_checked();
@@ -179,7 +180,9 @@ fn shutdown(rt: HostRuntime) -> Result<(), Fail> {
         shutdown.poll_receivers(&mut GroupWait::new(), 7)?,
         Poll::Pending
     );
+    assert_eq!(rt; shutdown.receivers(), 1);
     shutdown.end_receiver();
+    assert_eq!(rt; shutdown.receivers(), 0);
     assert!(rt; !shutdown.is_shutdown_now());
     shutdown.signal();
     shutdown.signal();

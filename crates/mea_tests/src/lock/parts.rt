@@ -1,7 +1,7 @@
 ghost use Rattle.std.specs.Prelude.{Some, refl, slice_get};
 ghost use Rattle.std.specs.Vec.{with_item};
 
-use crate::{Part, Then, with_part, with_part_mut};
+use mea_lock::{Part, Then, with_part, with_part_mut};
 use std::test::Fail;
 
 // A name and a list of counts.
@@ -44,7 +44,7 @@ impl Part<Tally> for Counts {
 struct First;
 
 impl<T> Part<Vec<T>> for First {
-    ghost use Rattle.mea_lock.specs.FirstItem.{first_stays};
+    ghost use Rattle.mea_tests.specs.FirstItem.{first_stays};
 
     type Out = T;
 

@@ -1,5 +1,5 @@
-use crate::tests::Told;
-use crate::{LockWait, MutexCore};
+use crate::lock::Told;
+use mea_lock::{LockWait, MutexCore};
 use std::test::Fail;
 
 // A call of a mutex with one wait.

@@ -1,5 +1,5 @@
-use crate::{Countdown, WaitSet};
 use mea_base::{Outbox, Overflow, Poll};
+use mea_sets::{Countdown, WaitSet};
 use std::test::Fail;
 
 // With memory at hand, no call answers that there is none.

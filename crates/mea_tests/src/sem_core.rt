@@ -1,5 +1,5 @@
-use crate::{Acquire, SemCore};
 use mea_base::Turn;
+use mea_sem_core::{Acquire, SemCore};
 use std::test::Fail;
 
 // With memory at hand, no call answers that there is none.

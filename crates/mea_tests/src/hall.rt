@@ -1,7 +1,7 @@
-use crate::{
+use mea_base::{Answer, Stop};
+use mea_hall::{
     Event, Hall, Replies, lines_have_one_spelling, put_number, put_reply, put_text, replay,
 };
-use mea_base::{Answer, Stop};
 use mea_meet::MeetEvent;
 use mea_sem_model::SemEvent;
 

@@ -1,0 +1,189 @@
+ghost use Rattle.std.specs.Prelude.{◌≡◌, ◌≤◌, ◌+◌};
+
+use mea_base::{Answer, Ledger, Stop};
+use mea_sem::{SemEvent, SemHall};
+
+// An event, what it is answered, and the wakers that it makes ready.
+type Row<'a> = (SemEvent, Result<Answer, Stop>, &'a [u64]);
+
+// Takes all wakers that are ready, and tells whether they are these.
+fn wakes(hall: &mut SemHall, wakers: &[u64]) -> bool
+    ensures { hall.new.next ≡ hall.old.next }
+{
+    for waker in wakers {
+        if hall.next_wake() != Some(*waker) {
+            return false;
+        }
+    }
+    hall.next_wake().is_none()
+}
+
+// The number of the first event that is answered otherwise, or makes other wakers ready.
+fn differs_at(hall: &mut SemHall, rows: &[Row]) -> Option<usize>
+    requires { hall.old.next ≡ 0 }
+{
+    for (number, (event, answer, wakers)) in rows.iter().enumerate() {
+        if hall.act(number as u64, event) != *answer || !wakes(hall, wakers) {
+            return Some(number);
+        }
+    }
+    None
+}
+
+// Two permits and three futures: the third waits, and is granted when the permit of the first ends.
+#[test]
+fn a_pool_of_two(rt: HostRuntime) {
+    let mut hall = SemHall::new(rt.alloc());
+    let rows: [Row; 12] = [
+        (SemEvent::New(2), Ok(Answer::Made), &[]),
+        (SemEvent::Acq(0, 1), Ok(Answer::Made), &[]),
+        (SemEvent::Acqo(0, 1), Ok(Answer::Made), &[]),
+        (SemEvent::Acq(0, 1), Ok(Answer::Made), &[]),
+        (SemEvent::Poll(1, 101), Ok(Answer::Ready), &[]),
+        (SemEvent::Poll(2, 102), Ok(Answer::Ready), &[]),
+        (SemEvent::Poll(3, 103), Ok(Answer::Pending), &[]),
+        (SemEvent::Poll(3, 104), Ok(Answer::Pending), &[]),
+        (SemEvent::End(4), Ok(Answer::Done), &[104]),
+        (SemEvent::Poll(3, 105), Ok(Answer::Ready), &[]),
+        (SemEvent::Size(9), Ok(Answer::Permits(1)), &[]),
+        (SemEvent::Free(0), Ok(Answer::Free(0)), &[]),
+    ];
+    assert_eq!(rt; differs_at(&mut hall, &rows), None);
+    assert_eq!(rt; hall.registered(), 0);
+    assert!(rt; hall.core(0).is_some_and(|core| core.held() == 2));
+}
+
+// A future that waits and ends gives what it was paid to the next.
+#[test]
+fn part_payment(rt: HostRuntime) {
+    let mut hall = SemHall::new(rt.alloc());
+    let one = Ledger {
+        made: 1,
+        released: 0,
+        owed: 0,
+        free: 0,
+        held: 0,
+        paid: 1,
+        forgotten: 0,
+    };
+    let held = Ledger {
+        held: 1,
+        paid: 0,
+        ..one
+    };
+    let rows: [Row; 9] = [
+        (SemEvent::New(1), Ok(Answer::Made), &[]),
+        (SemEvent::Acq(0, 3), Ok(Answer::Made), &[]),
+        (SemEvent::Acq(0, 1), Ok(Answer::Made), &[]),
+        (SemEvent::Poll(1, 11), Ok(Answer::Pending), &[]),
+        (SemEvent::Poll(2, 12), Ok(Answer::Pending), &[]),
+        (SemEvent::Ledger(0), Ok(Answer::Account(one)), &[]),
+        (SemEvent::End(1), Ok(Answer::Done), &[12]),
+        (SemEvent::Poll(2, 13), Ok(Answer::Ready), &[]),
+        (SemEvent::Ledger(0), Ok(Answer::Account(held)), &[]),
+    ];
+    assert_eq!(rt; differs_at(&mut hall, &rows), None);
+}
+
+// Each future that waits has a waker registered.
+#[test]
+fn wakers_are_counted(rt: HostRuntime) {
+    let mut hall = SemHall::new(rt.alloc());
+    let rows: [Row; 6] = [
+        (SemEvent::New(1), Ok(Answer::Made), &[]),
+        (SemEvent::Acq(0, 3), Ok(Answer::Made), &[]),
+        (SemEvent::Acq(0, 1), Ok(Answer::Made), &[]),
+        (SemEvent::Poll(1, 11), Ok(Answer::Pending), &[]),
+        (SemEvent::Poll(2, 12), Ok(Answer::Pending), &[]),
+        (SemEvent::Poll(2, 13), Ok(Answer::Pending), &[]),
+    ];
+    assert_eq!(rt; differs_at(&mut hall, &rows), None);
+    assert_eq!(rt; hall.registered(), 2);
+    assert_eq!(rt; hall.wakes_ready(), 0);
+}
+
+// A refused event changes nothing, whatever its cause.
+#[test]
+fn refusals(rt: HostRuntime) {
+    let mut hall = SemHall::new(rt.alloc());
+    let account = Ledger {
+        made: 18446744073709551615,
+        released: 0,
+        owed: 0,
+        free: 18446744073709551608,
+        held: 7,
+        paid: 0,
+        forgotten: 0,
+    };
+    let rows: [Row; 17] = [
+        (SemEvent::New(18446744073709551615), Ok(Answer::Made), &[]),
+        (SemEvent::Try(0, 7), Ok(Answer::Held), &[]),
+        (SemEvent::Tryo(0, 0), Ok(Answer::Held), &[]),
+        (SemEvent::Ledger(0), Ok(Answer::Account(account)), &[]),
+        (SemEvent::Release(0, 1), Err(Stop::Overflow), &[]),
+        (SemEvent::Endsem(0), Err(Stop::Borrowed), &[]),
+        (SemEvent::Free(1), Err(Stop::Unknown), &[]),
+        (SemEvent::Poll(1, 9), Err(Stop::Unknown), &[]),
+        (SemEvent::End(0), Err(Stop::Unknown), &[]),
+        (SemEvent::Merge(1, 1), Err(Stop::Unknown), &[]),
+        (SemEvent::Merge(1, 2), Err(Stop::Unknown), &[]),
+        (SemEvent::Ledger(0), Ok(Answer::Account(account)), &[]),
+        (SemEvent::End(1), Ok(Answer::Done), &[]),
+        (SemEvent::Endsem(0), Ok(Answer::Done), &[]),
+        (SemEvent::Release(0, 1), Err(Stop::Unknown), &[]),
+        (SemEvent::Endsem(0), Err(Stop::Unknown), &[]),
+        (SemEvent::Size(2), Ok(Answer::Permits(0)), &[]),
+    ];
+    assert_eq!(rt; differs_at(&mut hall, &rows), None);
+    assert!(rt; hall.core(0).is_none());
+}
+
+// A forgetting future makes no permit, whether it is ready at once or was granted.
+#[test]
+fn a_forgetting_future(rt: HostRuntime) {
+    let mut hall = SemHall::new(rt.alloc());
+    let account = Ledger {
+        made: 3,
+        released: 1,
+        owed: 0,
+        free: 0,
+        held: 0,
+        paid: 0,
+        forgotten: 4,
+    };
+    let rows: [Row; 12] = [
+        (SemEvent::New(3), Ok(Answer::Made), &[]),
+        (SemEvent::Acqf(0, 2), Ok(Answer::Made), &[]),
+        (SemEvent::Poll(1, 11), Ok(Answer::Ready), &[]),
+        (SemEvent::Size(2), Err(Stop::Unknown), &[]),
+        (SemEvent::Free(0), Ok(Answer::Free(1)), &[]),
+        (SemEvent::Acqof(0, 2), Ok(Answer::Made), &[]),
+        (SemEvent::Poll(5, 12), Ok(Answer::Pending), &[]),
+        (SemEvent::Release(0, 1), Ok(Answer::Done), &[12]),
+        (SemEvent::Poll(5, 13), Ok(Answer::Ready), &[]),
+        (SemEvent::Size(8), Err(Stop::Unknown), &[]),
+        (SemEvent::Ledger(0), Ok(Answer::Account(account)), &[]),
+        (SemEvent::Endsem(0), Ok(Answer::Done), &[]),
+    ];
+    assert_eq!(rt; differs_at(&mut hall, &rows), None);
+}
+
+// An event that takes no memory never answers that there is none.
+fn releases(hall: &mut SemHall, number: u64, n: u64) -> Option<Answer>
+    requires { hall.old.next ≤ number }
+    ensures { hall.new.next ≤ number + 1 }
+{
+    match hall.act(number, &SemEvent::Release(0, n)) {
+        Ok(answer) => Some(answer),
+        Err(Stop::NoMemory) => unreachable!(),
+        Err(_) => None,
+    }
+}
+
+#[test]
+fn no_memory_is_taken(rt: HostRuntime) {
+    let mut hall = SemHall::new(rt.alloc());
+    assert_eq!(rt; releases(&mut hall, 0, 1), None);
+    assert!(rt; hall.act(1, &SemEvent::New(0)) == Ok(Answer::Made));
+    assert_eq!(rt; releases(&mut hall, 2, 2), None);
+}
