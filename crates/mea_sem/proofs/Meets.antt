@@ -77,11 +77,11 @@ module _ {a : Inside} {v : Play} {i : ℕ} (m : Meets a v i) where
   later = subst (λ (p : Play). p.next ≤ i) (sym m.seen) m.least
 
   -- what is said of the hall that callers see goes for the one that is kept, and the other way round
-  pub within : (P : Hall → Type 0) → P v.hall → P (hall_in a)
-  within P h = subst (λ (p : Play). P p.hall) (sym m.seen) h
+  pub to_kept : (P : Hall → Type 0) → P v.hall → P (hall_in a)
+  to_kept P h = subst (λ (p : Play). P p.hall) (sym m.seen) h
 
-  pub without : (P : Hall → Type 0) → P (hall_in a) → P v.hall
-  without P h = subst (λ (p : Play). P p.hall) m.seen h
+  pub to_seen : (P : Hall → Type 0) → P (hall_in a) → P v.hall
+  to_seen P h = subst (λ (p : Play). P p.hall) m.seen h
 
   -- the event is played, with these wakers and this reply
   pub done : {st' : Store} {w' sp' : ℕ} (wakes' : List ℕ) (event : SemEvent) (reply : Answer) → Plays (store_in a) st' a.next i event w' sp'

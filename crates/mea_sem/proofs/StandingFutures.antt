@@ -35,7 +35,7 @@ use Rattle.mea_sem.proofs.Names.{get-seen}
 use Rattle.mea_sem.proofs.Keeping.{Plays}
 use Rattle.mea_sem.specs.declared.hall.SemHall.TheInside.{Inside}
 use Rattle.mea_sem.specs.Play.{Play}
-use Rattle.mea_sem.proofs.Meets.{store_in, hall_in, seen_in, IsKeptIn, MeetsSemaphore, MeetsFuture, Done, its_semaphore, later, within, without, done, done_quietly}
+use Rattle.mea_sem.proofs.Meets.{store_in, hall_in, seen_in, IsKeptIn, MeetsSemaphore, MeetsFuture, Done, its_semaphore, later, to_kept, to_seen, done, done_quietly}
 use Rattle.mea_sem.proofs.Standing.{Semaphores, Futures, Permits, ChangesAt, kept-at, kept-changed, found, known, semaphores_of}
 use Rattle.mea_sem.proofs.PlaysFutures.{plays_acquire}
 use Rattle.mea_sem.proofs.StandingSemaphores.{small_forgotten}
@@ -88,12 +88,12 @@ module _ {a : Inside} {v : Play} {i f : ℕ} {x : FutureEntry} {e : SemaphoreEnt
 
   -- whether it forgets what it takes
   pub forgets_as : (t : Bool) → x.forgets ≡ t → IfSome (get v.hall.futures f) (λ (y : Future). y.forgets ≡ t)
-  forgets_as t forgets = without m.meets (λ h. IfSome (get h.futures f) (λ (y : Future). y.forgets ≡ t))
+  forgets_as t forgets = to_seen m.meets (λ h. IfSome (get h.futures f) (λ (y : Future). y.forgets ≡ t))
       (subst (λ o. IfSome o (λ (y : Future). y.forgets ≡ t)) (sym seen_now) forgets)
 
   pub forgets_seen : (t : Bool) → IfSome (get v.hall.futures f) (λ (y : Future). y.forgets ≡ t) → x.forgets ≡ t
   forgets_seen t forgets = subst (λ o. IfSome o (λ (y : Future). y.forgets ≡ t)) seen_now
-      (within m.meets (λ h. IfSome (get h.futures f) (λ (y : Future). y.forgets ≡ t)) forgets)
+      (to_kept m.meets (λ h. IfSome (get h.futures f) (λ (y : Future). y.forgets ≡ t)) forgets)
 
   -- a plain future is counted
   pub future_plain : cond x.plain 1 0 ≤ e.plain
@@ -152,7 +152,7 @@ module _ {a : Inside} {v : Play} {i f : ℕ} {x : FutureEntry} {e : SemaphoreEnt
 
   -- what is foreseen by the core is replied
   pub replies_ready : (w : ℕ) → IsReady e.core x.acquire → (step v.hall i (events.Poll f w)).reply ≡ answers.Ready
-  replies_ready w ready = without m.meets (λ h. (step h i (events.Poll f w)).reply ≡ answers.Ready) (by_acquire x.acquire refl ready)
+  replies_ready w ready = to_seen m.meets (λ h. (step h i (events.Poll f w)).reply ≡ answers.Ready) (by_acquire x.acquire refl ready)
     where
       by_acquire : (b : Acquire) → x.acquire ≡ b → IsReady e.core b → (step (hall_in a) i (events.Poll f w)).reply ≡ answers.Ready
       by_acquire (acquires.New d) same r = ap (λ o. o.reply) (ready_new w d same r)
@@ -160,7 +160,7 @@ module _ {a : Inside} {v : Play} {i f : ℕ} {x : FutureEntry} {e : SemaphoreEnt
       by_acquire (acquires.Done d) same r = absurd r
 
   pub replies_pending : (w : ℕ) → Waits e.core x.acquire → (step v.hall i (events.Poll f w)).reply ≡ answers.Pending
-  replies_pending w waits = without m.meets (λ h. (step h i (events.Poll f w)).reply ≡ answers.Pending) (by_acquire x.acquire refl waits its_belongs.1)
+  replies_pending w waits = to_seen m.meets (λ h. (step h i (events.Poll f w)).reply ≡ answers.Pending) (by_acquire x.acquire refl waits its_belongs.1)
     where
       by_acquire : (b : Acquire) → x.acquire ≡ b → Waits e.core b → IsOpen x.acquire → (step (hall_in a) i (events.Poll f w)).reply ≡ answers.Pending
       by_acquire (acquires.New d) same r still = ap (λ o. o.reply) (pending_new w d same r)
@@ -172,7 +172,7 @@ module _ {a : Inside} {v : Play} {i f : ℕ} {x : FutureEntry} {e : SemaphoreEnt
   ready_from w said = by_acquire x.acquire refl its_belongs.0 its_belongs.1
     where
       replied : (step (hall_in a) i (events.Poll f w)).reply ≡ answers.Ready
-      replied = within m.meets (λ h. (step h i (events.Poll f w)).reply ≡ answers.Ready) said
+      replied = to_kept m.meets (λ h. (step h i (events.Poll f w)).reply ≡ answers.Ready) said
 
       by_acquire : (b : Acquire) → x.acquire ≡ b → Belongs e.core x.acquire → IsOpen x.acquire → IsReady e.core x.acquire
       by_acquire (acquires.New d) same belongs still = elim (cases_lt e.core.free d) [
@@ -263,7 +263,7 @@ acquire_done {a} {v} {i} {s} {e} m ss' fs' n plain forgets e2 x allowed changes 
     let played = acq_step h i s n plain forgets in
     let plays = plays_acquire (store_in a) st' a.registered a.outbox.spare a.next i s n e m.meets.kept (later m.meets) m.meets.low
     (acq_event s n plain forgets) plain forgets (acq_fits s n plain forgets)
-    (acq_cause h s n plain forgets (within m.meets (λ g. cause_of g (events.Acq s n) ≡ None) allowed)) (ap (λ o. o.hall) played)
+    (acq_cause h s n plain forgets (to_kept m.meets (λ g. cause_of g (events.Acq s n) ≡ None) allowed)) (ap (λ o. o.hall) played)
     (found a.semaphores.entries s e m.there) (semaphores_of a.semaphores.entries ss' s e2 _ changes is)
     (λ g. kept-changed a.futures.entries fs' i (Some x) put g ∙ ap (λ y. cond (i == g) (Some y) (get (store_in a).futures g)) new) refl in
     subst (λ o. Done v i o answers.Made st' a.registered a.outbox.spare a.outbox.wakers) (acq_step v.hall i s n plain forgets)
@@ -346,7 +346,7 @@ module _ {a : Inside} {v : Play} {i f : ℕ} {x : FutureEntry} {e : SemaphoreEnt
   turn = readies m w ready
 
   may : cause_of (hall_in a) (events.Poll f w) ≡ None
-  may = within m.meets (λ h. cause_of h (events.Poll f w) ≡ None) allowed
+  may = to_kept m.meets (λ h. cause_of h (events.Poll f w) ≡ None) allowed
 
   gone_now : (g : ℕ) → get (named (λ k (y : FutureEntry). y) fs') g ≡ cond (f == g) None (get (store_in a).futures g)
   gone_now g = kept-changed a.futures.entries fs' f None gone g

@@ -30,7 +30,7 @@ use Rattle.mea_sem.proofs.PlaysSemaphores.{plays_nothing}
 use Rattle.mea_sem.proofs.PlaysPermits.{plays_try, plays_lose, plays_merge, plays_split, permit_counts, permits_count}
 use Rattle.mea_sem.proofs.PlaysEnds.{plays_end_permit}
 use Rattle.mea_sem.specs.declared.hall.SemHall.TheInside.{Inside}
-use Rattle.mea_sem.proofs.Meets.{store_in, hall_in, seen_in, IsKeptIn, Meets, MeetsSemaphore, MeetsPermit, Done, permits_semaphore, later, within, done, done_quietly}
+use Rattle.mea_sem.proofs.Meets.{store_in, hall_in, seen_in, IsKeptIn, Meets, MeetsSemaphore, MeetsPermit, Done, permits_semaphore, later, to_kept, done, done_quietly}
 use Rattle.mea_sem.proofs.Standing.{Semaphores, Permits, ChangesAt, kept-at, found, known, puts_of, semaphores_of}
 use Rattle.mea_sem.proofs.StandingSemaphores.{small_forgotten, wakers_few}
 
@@ -141,7 +141,7 @@ module _ {a : Inside} {v : Play} {i s : ℕ} {e : SemaphoreEntry} (m : MeetsSema
       step_by_form plain (hall_in a) i s n ∙ ap chosen (ap (λ r. nat_le n r.free) free_here ∙ le-leb n e.core.free enough) in
       let plays = plays_try (store_in a) (store_of ss' a.futures.entries ps') a.registered a.outbox.spare a.next i s n e m.meets.kept (later m.meets)
       m.meets.low (by_form plain s n) plain (fits_by_form plain s n)
-      (within m.meets (λ h. cause_of h (by_form plain s n) ≡ None) (allowed_by_form plain v.hall s n allowed))
+      (to_kept m.meets (λ h. cause_of h (by_form plain s n) ≡ None) (allowed_by_form plain v.hall s n allowed))
       (ap (λ o. o.hall) (step_by_form plain (hall_in a) i s n)) enough
       (puts_of a.semaphores.entries ss' a.futures.entries a.permits.entries ps' s e e' _ m.there changes new)
       (named_put (λ p x. permit_of x) a.permits.entries ps' i (record { semaphore = s; size = n; plain = plain }) given)
@@ -181,7 +181,7 @@ module _ {a : Inside} {v : Play} {i p : ℕ} {x : PermitEntry} {e : SemaphoreEnt
   lost ss' ps' e' allowed new held changes gone =
       let plays = plays_lose (store_in a) (store_of ss' a.futures.entries ps') a.registered a.outbox.spare a.next i x.semaphore p e m.meets.kept
       (later m.meets) m.meets.low (permit_of x) refl permit_small permit_there
-      (within m.meets (λ h. cause_of h (events.Lose p) ≡ None) allowed)
+      (to_kept m.meets (λ h. cause_of h (events.Lose p) ≡ None) allowed)
       (puts_of a.semaphores.entries ss' a.futures.entries a.permits.entries ps' x.semaphore e e' _ m.there changes new)
       (named_remove (λ p x. permit_of x) a.permits.entries ps' p gone)
       (subst (λ (y : SemaphoreEntry). cores.held_of y.core + x.size ≡ cores.held_of e.core) new held) in
@@ -199,12 +199,12 @@ module _ {a : Inside} {v : Play} {i p : ℕ} {x : PermitEntry} {e : SemaphoreEnt
       → wakes' ≡ a.outbox.wakers ++ cores.wakers_of (granted_in e.core.queue x.size) → sp' + left ≡ a.outbox.spare
       → Done v i (step v.hall i (events.End p)) answers.Done (store_of ss' a.futures.entries ps') (a.registered - left) sp' wakes'
   ended ss' ps' left sp' e' wakes' allowed no_future new held changes gone count moved spare =
-      let alone : get (hall_in a).futures p ≡ None = within m.meets (λ h. get h.futures p ≡ None) no_future in
+      let alone : get (hall_in a).futures p ≡ None = to_kept m.meets (λ h. get h.futures p ≡ None) no_future in
       let few = wakers_few (permits_semaphore m) x.size in
       let room = m.meets.kept.room in
       let whole = plays_end_permit (store_in a) (store_of ss' a.futures.entries ps') a.registered (a.registered - left)
       sp' a.outbox.spare a.next i x.semaphore x.size e m.meets.kept (later m.meets) m.meets.low home_there p (permit_of x) refl permit_there alone
-      (within m.meets (λ h. cause_of h (events.End p) ≡ None) allowed) (semaphores_of a.semaphores.entries ss' x.semaphore e' _ changes new) refl
+      (to_kept m.meets (λ h. cause_of h (events.End p) ≡ None) allowed) (semaphores_of a.semaphores.entries ss' x.semaphore e' _ changes new) refl
       (named_remove (λ p x. permit_of x) a.permits.entries ps' p gone)
       (subst (λ (y : SemaphoreEntry). cores.held_of y.core + x.size ≡ cores.held_of e.core) new held) (omega (arith, count, few))
       (omega (arith, count, few, spare, room)) in
@@ -293,7 +293,7 @@ module _ {a : Inside} {v : Play} {i : ℕ} (m : Meets a v i) (p q : ℕ) (allowe
       ∙ ap (λ m. insert m p (record (permit_of x) { size = x.size + y.size })) (named_remove (λ p x. permit_of x) a.permits.entries ps1 q gone) in
       let plays = plays_merge (store_in a) st' a.registered a.outbox.spare a.next i y.semaphore q e m.kept (later m) m.low p (permit_of x)
       (permit_of y) alike.0 refl alike.1 (apart_from a m.seen p q allowed)
-      (permit_at a.permits.entries p x first_there) (permit_at a.permits.entries q y isy) (within m (λ h. cause_of h (events.Merge p q) ≡ None) allowed)
+      (permit_at a.permits.entries p x first_there) (permit_at a.permits.entries q y isy) (to_kept m (λ h. cause_of h (events.Merge p q) ≡ None) allowed)
       (puts_of a.semaphores.entries ss' a.futures.entries a.permits.entries ps' y.semaphore e e' _ there changes
       (new ∙ ap (λ b. record e { plain = e.plain - one b }) alike.1)) permits in
       done_quietly m (events.Merge p q) answers.Done plays refl refl
@@ -336,6 +336,6 @@ halved {a} {v} {i} {p} {x} {e} m ss' ps1 ps' n y e' allowed enough new changes g
     let outcome : step h i (events.Split p n) ≡ split_in m.meets p n (permit_of x) true =
     ap (split_of h i p n) here ∙ ap (split_in m.meets p n (permit_of x)) (le-leb n x.size enough) in
     let plays = plays_split (store_in a) st' a.registered a.outbox.spare a.next i x.semaphore n e m.meets.kept less m.meets.low p (permit_of x)
-    refl enough here (within m.meets (λ g. cause_of g (events.Split p n) ≡ None) allowed)
+    refl enough here (to_kept m.meets (λ g. cause_of g (events.Split p n) ≡ None) allowed)
     (puts_of a.semaphores.entries ss' a.futures.entries ps ps' x.semaphore e e' _ m.there changes new) permits in
     done_quietly m.meets (events.Split p n) answers.Held plays (ap (λ o. o.wakes) outcome) (ap (λ o. o.reply) (sym outcome))

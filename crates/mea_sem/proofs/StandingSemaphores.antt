@@ -35,7 +35,7 @@ use Rattle.mea_sem.proofs.PlaysSemaphores.{Puts, plays_nothing, plays_forget, pl
 use Rattle.mea_sem.proofs.PlaysNew.{fresh_core, fresh_entry, plays_new}
 use Rattle.mea_sem.proofs.PlaysPours.{wakers_poured}
 use Rattle.mea_sem.proofs.PlaysEnds.{plays_release}
-use Rattle.mea_sem.proofs.Meets.{store_in, hall_in, seen_in, IsKeptIn, Meets, MeetsSemaphore, Done, later, within, done, done_quietly}
+use Rattle.mea_sem.proofs.Meets.{store_in, hall_in, seen_in, IsKeptIn, Meets, MeetsSemaphore, Done, later, to_kept, done, done_quietly}
 use Rattle.mea_sem.proofs.Standing.{Semaphores, Futures, Permits, ChangesAt, kept-at, kept-changed, found, puts_of, semaphores_of}
 use Rattle.mea_sem.proofs.Lives.{live-seen, ledger-seen}
 
@@ -89,7 +89,7 @@ module _ {a : Inside} {v : Play} {i s : ℕ} {e : SemaphoreEntry} (m : MeetsSema
   here = found a.semaphores.entries s e m.there
 
   cause : (event : SemEvent) → cause_of v.hall event ≡ None → cause_of (hall_in a) event ≡ None
-  cause event allowed = within m.meets (λ h. cause_of h event ≡ None) allowed
+  cause event allowed = to_kept m.meets (λ h. cause_of h event ≡ None) allowed
 
   free_seen : free (hall_in a) s ≡ e.core.free
   free_seen = ap (λ (r : Semaphore). r.free) (seen_at (store_in a) a.next s e k.linked here)

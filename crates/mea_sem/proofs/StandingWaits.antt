@@ -26,7 +26,7 @@ use Rattle.mea_sem.proofs.PlaysAgain.{plays_again}
 use Rattle.mea_sem.proofs.PlaysFutures.{plays_queued}
 use Rattle.mea_sem.proofs.PlaysPours.{between, between_at, wakers_poured}
 use Rattle.mea_sem.proofs.PlaysEnds.{PlaysWith, plays_end_new, plays_end_granted, plays_end_waiting}
-use Rattle.mea_sem.proofs.Meets.{store_in, hall_in, seen_in, IsKeptIn, Meets, MeetsFuture, Done, its_semaphore, later, within, without, done, done_quietly}
+use Rattle.mea_sem.proofs.Meets.{store_in, hall_in, seen_in, IsKeptIn, Meets, MeetsFuture, Done, its_semaphore, later, to_kept, to_seen, done, done_quietly}
 use Rattle.mea_sem.proofs.Standing.{Semaphores, Futures, ChangesAt, kept-at, kept-changed, semaphores_of}
 use Rattle.mea_sem.proofs.StandingSemaphores.{wakers_registered, kept_room}
 use Rattle.mea_sem.proofs.StandingFutures.{future_found, its_home, future_there, home_there, its_belongs, at_stage, seen_as, granted_stage, ready_new, pending_new, waiting_as, pending_again, paid_part, granted_live}
@@ -42,11 +42,11 @@ module _ {a : Inside} {v : Play} {i f : ℕ} {x : FutureEntry} {e : SemaphoreEnt
   stage_at : (Good : Stage → Type 0) → IfSome (get v.hall.futures f) (λ (y : Future). Good y.stage) → (z : Stage)
       → get (hall_in a).futures f ≡ Some (at_stage x z) → Good z
   stage_at Good h z seen = subst (λ o. IfSome o (λ (y : Future). Good y.stage)) seen
-      (within m.meets (λ g. IfSome (get g.futures f) (λ (y : Future). Good y.stage)) h)
+      (to_kept m.meets (λ g. IfSome (get g.futures f) (λ (y : Future). Good y.stage)) h)
 
   has_stage : (Good : Stage → Type 0) (z : Stage) → get (hall_in a).futures f ≡ Some (at_stage x z) → Good z
       → IfSome (get v.hall.futures f) (λ (y : Future). Good y.stage)
-  has_stage Good z seen good = without m.meets (λ g. IfSome (get g.futures f) (λ (y : Future). Good y.stage))
+  has_stage Good z seen good = to_seen m.meets (λ g. IfSome (get g.futures f) (λ (y : Future). Good y.stage))
       (subst (λ o. IfSome o (λ (y : Future). Good y.stage)) (sym seen) good)
 
   pub waits_from : (d n : ℕ) → x.acquire ≡ acquires.Queued d n → IfSome (get v.hall.futures f) (λ (y : Future). IsWaiting y.stage)
@@ -95,7 +95,7 @@ module _ {a : Inside} {v : Play} {i f : ℕ} {x : FutureEntry} {e : SemaphoreEnt
   lacks_from w d new replied = elim (cases_lt e.core.free d) [
     | inl lacks ↦ lacks
     | inr enough ↦ absurd (
-        let pending = within m.meets (λ h. (step h i (events.Poll f w)).reply ≡ answers.Pending) replied in
+        let pending = to_kept m.meets (λ h. (step h i (events.Poll f w)).reply ≡ answers.Pending) replied in
         let ready = ap (λ o. o.reply) (ready_new m w d new enough) in
         let no : answers.Pending ≡ answers.Ready = sym pending ∙ ready in
         cc)
@@ -103,7 +103,7 @@ module _ {a : Inside} {v : Play} {i f : ℕ} {x : FutureEntry} {e : SemaphoreEnt
 
   -- ---- a first poll that waits
   may : (w : ℕ) → cause_of v.hall (events.Poll f w) ≡ None → cause_of (hall_in a) (events.Poll f w) ≡ None
-  may w allowed = within m.meets (λ h. cause_of h (events.Poll f w) ≡ None) allowed
+  may w allowed = to_kept m.meets (λ h. cause_of h (events.Poll f w) ≡ None) allowed
 
   pub queue_done : (w d n w' : ℕ) (out : Wakes ℕ) (ss' : Semaphores) (fs' : Futures) (e2 : SemaphoreEntry) (x2 : FutureEntry)
       → cause_of v.hall (events.Poll f w) ≡ None → (step v.hall i (events.Poll f w)).reply ≡ answers.Pending
@@ -215,7 +215,7 @@ module _ {a : Inside} {v : Play} {i f : ℕ} {x : FutureEntry} {e : SemaphoreEnt
     low = m.meets.low
 
     allowed : cause_of h (events.End f) ≡ None
-    allowed = within m.meets (λ g. cause_of g (events.End f) ≡ None) (end_allowed v.hall f there)
+    allowed = to_kept m.meets (λ g. cause_of g (events.End f) ≡ None) (end_allowed v.hall f there)
 
     futures_now : (g : ℕ) → get st'.futures g ≡ cond (f == g) None (get st.futures g)
     futures_now g = kept-changed a.futures.entries fs' f None gone g
