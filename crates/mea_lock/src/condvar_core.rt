@@ -174,7 +174,7 @@ impl<W: Drop> CondvarCore<W> {
     }
 
     /// Ends a wait in any of its stages. A new one gives the lock back; one that was notified alone passes
-    /// that on to the next that waits. It takes no memory, and looks at all that wait.
+    /// that on to the next that waits. It takes no memory.
     pub fn end_wait<V>(&mut self, lock: &mut MutexCore<V, W>, wait: CondWait)
         requires { MayEndWait self.old lock.old wait }
         ensures ends { EndsWait self.old lock.old wait self.new lock.new }

@@ -178,8 +178,7 @@ impl<W: Drop> CondvarCore<W> {
         Ok(go_on(&mut self.waiters, &self.outbox, lock, wait, turn))
     }
 
-    /// Ends a wait with a condition in any of its stages, as `end_wait` does. It takes no memory, and looks
-    /// at all that wait.
+    /// Ends a wait with a condition in any of its stages, as `end_wait` does. It takes no memory.
     pub fn end_while<V, F: Drop>(&mut self, lock: &mut MutexCore<V, W>, wait: WaitWhile<F>)
         requires { MayEndWait self.old lock.old wait.wait }
         ensures ends { EndsWait self.old lock.old wait.wait self.new lock.new }

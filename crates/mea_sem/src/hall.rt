@@ -16,7 +16,7 @@ use std::marker::Model;
 /// Many semaphores with their futures and permits, each by the number of the event that made it.
 ///
 /// Each semaphore is a core of its own; a future keeps its acquire. Each event costs a look-up by name and
-/// the waiters that it pays; the end of a waiting future also looks at its semaphore's queue.
+/// the waiters that it pays, however many wait.
 #[derive(Drop)]
 pub struct SemHall {
     pub(crate) alloc: Global,

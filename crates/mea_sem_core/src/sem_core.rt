@@ -223,7 +223,8 @@ impl<W: Drop> SemCore<W> {
         }
     }
 
-    /// Ends an acquire, and pours what it was paid. It takes no memory, and looks at the whole queue.
+    /// Ends an acquire, and pours what it was paid. It takes no memory, and looks at those alone that the
+    /// pour pays.
     pub fn cancel(&mut self, acquire: Acquire)
         requires { Belongs self.old acquire }
         ensures cancels { Cancels self.old acquire self.new }
@@ -242,8 +243,7 @@ impl<W: Drop> SemCore<W> {
         self.pour(paid);
     }
 
-    /// Ends an acquire. What it was paid is gone for ever. It takes no memory, and looks at the whole
-    /// queue.
+    /// Ends an acquire. What it was paid is gone for ever. It takes no memory.
     pub fn lose_acquire(&mut self, acquire: Acquire)
         requires { Belongs self.old acquire }
         ensures loses { Loses self.old acquire self.new }
