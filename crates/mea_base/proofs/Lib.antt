@@ -1,4 +1,5 @@
 pub mod Chains
+pub mod Maps
 pub mod NamedMaps
 pub mod Queues
 pub mod Totals

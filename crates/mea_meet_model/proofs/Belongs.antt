@@ -7,7 +7,7 @@ use Rattle.std.proofs.lemmas.Bool.{eq-eqb, ne_eqb}
 use Rattle.mea_base.specs.Totals.{total, weight}
 use Rattle.mea_base.proofs.Totals.{total-zero, total-insert, total-remove}
 use Rattle.mea_meet_model.specs.Valid.{AreBelow, AreOf}
-use Rattle.mea_meet_model.proofs.Maps.{by_put, by_gone, is_absent, inside, removed_there, get-removed_other, total-has, nothing_at, nothing_there}
+use Rattle.mea_base.proofs.Maps.{by_put, by_gone, is_absent, inside, removed_there, get-removed_other, total-has, nothing_at, nothing_there}
 
 pub on_true : (b : Bool) (n : ℕ) → b ≡ true → cond b n 0 ≡ n
 on_true true n h = refl

@@ -20,7 +20,7 @@ use Rattle.mea_meet_model.specs.Cause.{cause_of, unknown_unless, borrowed_by}
 use Rattle.mea_meet_model.specs.Step.{step, on_barriers, on_latches, on_groups, on_shutdowns}
 use Rattle.mea_meet_model.specs.Meets.{Future, AtBarrier, ForLatch, ForGroup, ForShutdown, waker_if, polled, name, lives, placed}
 use Rattle.mea_meet_model.specs.Valid.{HasBarriers, IsValid}
-use Rattle.mea_meet_model.proofs.Maps.{inside}
+use Rattle.mea_base.proofs.Maps.{inside}
 use Rattle.mea_meet_model.proofs.Belongs.{IsMade}
 use Rattle.mea_meet_model.proofs.BarrierWakes as at_barriers
 use Rattle.mea_meet_model.proofs.LatchWakes as at_latches

@@ -17,7 +17,7 @@ use Rattle.mea_meet_model.specs.Shutdowns.{Shutdowns, Shutdown, Receiver, Shutdo
 use Rattle.mea_meet_model.specs.Hall.{Hall}
 use Rattle.mea_meet_model.specs.Step.{step}
 use Rattle.mea_meet_model.specs.Valid.{HasLatches, HasGroups, HasShutdowns}
-use Rattle.mea_meet_model.proofs.Maps.{by_gone, by_at_put, by_at_gone, total-has}
+use Rattle.mea_base.proofs.Maps.{by_gone, by_at_put, by_at_gone, total-has}
 use Rattle.mea_meet_model.proofs.Belongs.{counts, fresh}
 use Rattle.mea_meet_model.proofs.ShutdownKept.{counts_here}
 

@@ -13,7 +13,7 @@ use Rattle.mea_meet_model.specs.Count.{decreased, woken_by, with_waker, without_
 use Rattle.mea_meet_model.specs.Latches.{Latches, Latch, LatchWait, no_latches, new_latch, latch_at, is_named_latch, is_named, waits_of, plain_waits_of, placed, placed_of, with_latch, tidied, make, arrive, wait, gone, poll_of, end_of, drop}
 use Rattle.mea_base.proofs.Totals.{total-empty, total-zero}
 use Rattle.mea_meet_model.specs.Valid.{AreBelow, IsQuietAtEnd, waiting_for, HasLatches, HasLiveLatches}
-use Rattle.mea_meet_model.proofs.Maps.{by_put, by_gone, by_at_put, by_at_gone, at-there, at-other, at-removed_other, at-empty, get-other, get-removed_other, inside, is_there, nothing_there, total-gone}
+use Rattle.mea_base.proofs.Maps.{by_put, by_gone, by_at_put, by_at_gone, at-there, at-other, at-removed_other, at-empty, get-other, get-removed_other, inside, is_there, nothing_there, total-gone}
 use Rattle.mea_meet_model.proofs.Waiting.{registering-there, registering-other, registering-had, ending-other, ending-there, ending-had, decreased-keeps, decreased-had, quiet-decreased, quiet-registering, quiet-ending, quiet-runs}
 use Rattle.mea_meet_model.proofs.Going as going
 use Rattle.mea_meet_model.proofs.Belongs.{on_false, sum-put, sum-gone, below-none, of-none, below-later, below-put, below-over, below-gone, fresh, of-objects_put, of-put, of-gone, of-objects_gone, none_of, IsMade, made-same, made-put, made-gone, apart_from_gone}

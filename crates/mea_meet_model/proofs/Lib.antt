@@ -1,4 +1,3 @@
-pub mod Maps
 pub mod Waiting
 pub mod Registrations
 pub mod Belongs

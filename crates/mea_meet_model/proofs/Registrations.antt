@@ -18,7 +18,7 @@ use Rattle.mea_meet_model.specs.Shutdowns as shutdowns
 use Rattle.mea_meet_model.specs.Shutdowns.{Shutdowns, Shutdown, Receiver, ShutdownWait, Awaited, Signal, Receivers}
 use Rattle.mea_meet_model.specs.Hall.{Hall, empty_hall, registered}
 use Rattle.mea_meet_model.specs.Step.{step, registers}
-use Rattle.mea_meet_model.proofs.Maps.{sizes-put, total-gone}
+use Rattle.mea_base.proofs.Maps.{sizes-put, total-gone}
 use Rattle.mea_meet_model.proofs.Waiting.{length-registering, length-ending, length-wakers, length-decreased}
 
 -- after o, of what has counts of registered wakers, no more than n are registered or woken

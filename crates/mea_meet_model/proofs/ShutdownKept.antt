@@ -10,7 +10,7 @@ use Rattle.mea_meet_model.specs.Waiting.{waker_for}
 use Rattle.mea_meet_model.specs.Count.{Count, count_from, decreased, increased, with_waker, without_future}
 use Rattle.mea_meet_model.specs.Shutdowns.{Shutdowns, Shutdown, Receiver, ShutdownWait, Awaited, Signal, Receivers, no_shutdowns, new_shutdown, shutdown_at, senders_of, receivers_of, waits_of, borrows, borrowers_of, awaited, with_awaited, with_shutdown, tidied, make}
 use Rattle.mea_meet_model.specs.Valid.{AreBelow, IsQuietAtEnd, counted_receivers, receiver_of, waiting_signal, waiting_end, HasShutdowns}
-use Rattle.mea_meet_model.proofs.Maps.{by_put, by_gone, by_at_put, by_at_gone, at-empty, get-there, get-other, get-removed_other, removed_there, inside, is_there, nothing_at, nothing_there, total-has}
+use Rattle.mea_base.proofs.Maps.{by_put, by_gone, by_at_put, by_at_gone, at-empty, get-there, get-other, get-removed_other, removed_there, inside, is_there, nothing_at, nothing_there, total-has}
 use Rattle.mea_meet_model.proofs.Waiting.{registering-had, ending-there, ending-had, decreased-had, quiet-decreased, quiet-ending, quiet-increased}
 use Rattle.mea_meet_model.proofs.Belongs.{on_true, on_false, fresh, below-none, of-none, below-later, below-put, below-over, below-gone, of-objects_put, of-put, of-gone, of-objects_gone, sum-put, sum-gone}
 

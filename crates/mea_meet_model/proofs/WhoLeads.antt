@@ -19,7 +19,7 @@ use Rattle.mea_meet_model.specs.Hall.{Hall}
 use Rattle.mea_meet_model.specs.Step.{step}
 use Rattle.mea_meet_model.specs.Leaders.{is_leader, leads_new, leads_wait, leads_by, arrivals_new, arrivals_wait, arrivals_by, leaders}
 use Rattle.mea_meet_model.specs.Valid.{AreBelow, IsValid}
-use Rattle.mea_meet_model.proofs.Maps.{by_gone, by_at_put}
+use Rattle.mea_base.proofs.Maps.{by_gone, by_at_put}
 use Rattle.mea_meet_model.proofs.Belongs.{on_true, on_false, fresh}
 use Rattle.mea_meet_model.proofs.Rounds.{same_round, next_round, one_round}
 

@@ -12,7 +12,8 @@ use Rattle.mea_sem_model.specs.Hall.{Hall, Semaphore, Future, Permit, Stage, New
 use Rattle.mea_sem_model.specs.Cause.{is_named}
 use Rattle.mea_sem_model.specs.Step.{with_future, without_future, with_permit, without_permit}
 use Rattle.mea_sem_model.specs.Valid.{count, one_if_waiting, waits_at, AllLack, HasDebtsFirst, IsBelow}
-use Rattle.mea_sem_model.proofs.HallLemmas.{by_put, by_gone, semaphore_put, is_absent, among, get-grant_all, semaphore_named}
+use Rattle.mea_base.proofs.Maps.{by_put, by_gone, is_absent}
+use Rattle.mea_sem_model.proofs.HallLemmas.{semaphore_put, among, get-grant_all, semaphore_named}
 use Rattle.mea_sem_model.proofs.Matched.{IsMatched, matched_semaphore, matched_no_future, is_waiting, granted_waited, pour_matched}
 use Rattle.mea_sem_model.proofs.Orderly.{IsOrderly, orderly_semaphore, orderly_permit, orderly_no_permit, orderly_no_future, same_names, orderly_pour}
 

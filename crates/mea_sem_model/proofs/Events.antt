@@ -16,7 +16,8 @@ use Rattle.mea_sem_model.specs.Cause.{is_named, is_named_semaphore, unknown_unle
 use Rattle.mea_sem_model.specs.Step.{quietly, with_future, without_future, with_permit, without_permit, forgetting, with_debt, forgetting_exactly, taking, made_ready, queueing, poll_at, poll_of, without, leaving, end_future, end_permit, end_of, lose_of, merge_of, split_of, released_to, step}
 use Rattle.mea_sem_model.specs.Valid.{count, one_if_waiting, waits_at, IsBelow}
 use Rattle.mea_sem_model.specs.Runs.{Told, if_same, made_by, released_by, number_forgot, if_yes, if_ready, if_permit_of, forgetting_demand, forgotten_by}
-use Rattle.mea_sem_model.proofs.HallLemmas.{is_there, get-there, get-removed_other, semaphore_named}
+use Rattle.mea_base.proofs.Maps.{is_there, get-there, get-removed_other}
+use Rattle.mea_sem_model.proofs.HallLemmas.{semaphore_named}
 use Rattle.mea_sem_model.proofs.Pours.{on_true, lacks-without, lacking-without, lacking-append, lacking-debt, first-filter, first-append, first-debt, lacks-debt, count-debt, lack-debt}
 use Rattle.mea_sem_model.proofs.Matched.{IsMatched, matched_future, new_waits, granted_waits, lacks_nothing, queued_matched, left_matched}
 use Rattle.mea_sem_model.proofs.Orderly.{IsOrderly, future_alone, permit_alone, still_there, orderly_semaphore, orderly_future, orderly_no_future}

@@ -1,59 +1,16 @@
 -- what stands at each name of a hall after a change
 use Rattle.std.proofs.Common.{◌≡◌, ℕ, ◌+◌, ◌-◌, ◌≤◌, ◌==◌, ◌||◌, Bool, true, false, cond, List, [], ◌∷◌, Option, Some, None, unwrap_or, refl, ap, sym, subst, ◌∙◌, arith, is_some, min, nat_lt, filter}
-use Rattle.std.specs.Option.{option_map, IsSome}
+use Rattle.std.specs.Option.{option_map}
 use Rattle.std.specs.Ordering.{nat_cmp}
-use Rattle.std.specs.FinMap.{FinMap, get, insert, remove}
-use Rattle.std.proofs.lemmas.Bool.{eqb-true, eqb-false, eq-eqb, ne_eqb}
+use Rattle.std.specs.FinMap.{FinMap, get}
+use Rattle.std.proofs.lemmas.Bool.{eqb-true, eqb-false}
 use Rattle.std.proofs.lemmas.Bool.Decides.{nat_tests}
 use Rattle.std.proofs.lemmas.List.Sums.{sum_by-cons}
 use Rattle.mea_base.specs.Queue.{lacks_after, waiting_after}
-use Rattle.mea_base.proofs.Totals.{get_inserted, get_removed}
+use Rattle.mea_base.proofs.Totals.{get_inserted}
+use Rattle.mea_base.proofs.Maps.{inside}
 use Rattle.mea_sem_model.specs.Hall.{Hall, Semaphore, Future, Who, Waiter, Debt, names, made_with, semaphore_at, granted, grant_if, grant_who, grant_all, with_semaphore, debt_of, debts}
 use Rattle.mea_sem_model.specs.Cause.{is_named, is_named_semaphore}
-
--- ---- one name of a map
-module _ {X : Type 0} where
-  -- what holds of a value put, and of each other name as it was
-  pub by_put : (m : FinMap nat_cmp X) (k : ℕ) (x : X) (P : ℕ → Option X → Type 0) → P k (Some x) → ((f : ℕ) → (k ≡ f → ⊥) → P f (get m f)) → (f : ℕ) → P f (get (insert m k x) f)
-  by_put m k x P here others f = subst (P f) (sym (get_inserted m k f x)) (at_test (k == f) refl)
-    where
-      at_test : (b : Bool) → (k == f) ≡ b → P f (cond b (Some x) (get m f))
-      at_test true e = subst (λ j. P j (Some x)) (eqb-true k f e) here
-      at_test false e = others f (eqb-false k f e)
-
-  pub by_gone : (m : FinMap nat_cmp X) (k : ℕ) (P : ℕ → Option X → Type 0) → P k None → ((f : ℕ) → (k ≡ f → ⊥) → P f (get m f)) → (f : ℕ) → P f (get (remove m k) f)
-  by_gone m k P here others f = subst (P f) (sym (get_removed m k f)) (at_test (k == f) refl)
-    where
-      at_test : (b : Bool) → (k == f) ≡ b → P f (cond b None (get m f))
-      at_test true e = subst (λ j. P j None) (eqb-true k f e) here
-      at_test false e = others f (eqb-false k f e)
-
-  pub inside : {x y : X} → Some x ≡ Some y → x ≡ y
-  inside {x} e = ap (λ o. unwrap_or o x) e
-
-  -- the value of an option that has one
-  pub value_in : (o : Option X) → IsSome o → (x : X) × (o ≡ Some x)
-  value_in None some = absurd (cc)
-  value_in (Some x) some = (x, refl)
-
-  pub is_there : (o : Option X) (x : X) → o ≡ Some x → IsSome o
-  is_there o x is = ap is_some is
-
-  pub is_absent : (o : Option X) → (IsSome o → ⊥) → o ≡ None
-  is_absent None none = refl
-  is_absent (Some x) none = absurd (none refl)
-
-  pub get-there : (m : FinMap nat_cmp X) (k : ℕ) (x : X) → get (insert m k x) k ≡ Some x
-  get-there m k x = get_inserted m k k x ∙ ap (λ b. cond b (Some x) (get m k)) (eq-eqb k k refl)
-
-  pub get-other : (m : FinMap nat_cmp X) (k q : ℕ) (x : X) → (k ≡ q → ⊥) → get (insert m k x) q ≡ get m q
-  get-other m k q x apart = get_inserted m k q x ∙ ap (λ b. cond b (Some x) (get m q)) (ne_eqb k q apart)
-
-  pub get-removed_other : (m : FinMap nat_cmp X) (k q : ℕ) → (k ≡ q → ⊥) → get (remove m k) q ≡ get m q
-  get-removed_other m k q apart = get_removed m k q ∙ ap (λ b. cond b None (get m q)) (ne_eqb k q apart)
-
-  pub get-gone : (m : FinMap nat_cmp X) (k : ℕ) → get (remove m k) k ≡ None
-  get-gone m k = get_removed m k k ∙ ap (λ b. cond b None (get m k)) (eq-eqb k k refl)
 
 -- ---- semaphores
 pub semaphore_put : (h : Hall) (q s : ℕ) (r : Semaphore) → semaphore_at (with_semaphore h q r) s ≡ cond (q == s) r (semaphore_at h s)

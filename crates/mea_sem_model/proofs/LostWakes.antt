@@ -17,7 +17,8 @@ use Rattle.mea_sem_model.specs.Hall.{Hall, Future, Permit, Stage, New, Waiting, 
 use Rattle.mea_sem_model.specs.Cause.{cause_of}
 use Rattle.mea_sem_model.specs.Step.{Outcome, quietly, pouring, with_future, without_future, with_permit, without_permit, taking, try_of, try_and_forget, made_ready, queueing, poll_at, poll_of, leaving, end_future, end_permit, end_of, lose_of, merge_of, split_of, released_to, step}
 use Rattle.mea_sem_model.specs.Runs.{Run, Runs, semaphores, waker_in, waker_at, waker_kept}
-use Rattle.mea_sem_model.proofs.HallLemmas.{inside, value_in, is_there, get-there, get-other, get-removed_other, among, get-grant_all, by_gone}
+use Rattle.mea_base.proofs.Maps.{inside, value_in, is_there, get-there, get-other, get-removed_other, by_gone}
+use Rattle.mea_sem_model.proofs.HallLemmas.{among, get-grant_all}
 use Rattle.mea_sem_model.proofs.Events.{known}
 use Rattle.mea_sem_model.proofs.Balanced as balance
 

@@ -10,7 +10,8 @@ use Rattle.mea_sem_model.specs.Hall.{Hall, Semaphore, Future, Permit, semaphore_
 use Rattle.mea_sem_model.specs.Cause.{is_named, is_named_semaphore}
 use Rattle.mea_sem_model.specs.Step.{with_future, without_future, with_permit, without_permit}
 use Rattle.mea_sem_model.specs.Valid.{AllLack, HasDebtsFirst, IsValid}
-use Rattle.mea_sem_model.proofs.HallLemmas.{by_put, by_gone, by_semaphore, inside, is_absent, among, get-grant_all, granted_was, granted_there, semaphore_named}
+use Rattle.mea_base.proofs.Maps.{by_put, by_gone, inside, is_absent}
+use Rattle.mea_sem_model.proofs.HallLemmas.{by_semaphore, among, get-grant_all, granted_was, granted_there, semaphore_named}
 use Rattle.mea_sem_model.proofs.Pours.{on_false, lacking-pour, first-pour, idle-pour}
 
 pub record IsOrderly (h : Hall) : Type 0 where

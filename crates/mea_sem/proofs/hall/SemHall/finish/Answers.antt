@@ -1,6 +1,6 @@
 use Rattle.std.proofs.Common.{rules, ◌≡◌, sym, ap, ◌∙◌, arith}
 use Rattle.std.specs.Option.{option_copied, option_copied_mut}
-use Rattle.mea_sem_model.proofs.HallLemmas.{inside}
+use Rattle.mea_base.proofs.Maps.{inside}
 use Rattle.mea_sem.proofs.Meets.{MeetsFuture, kept_as_permits}
 use Rattle.mea_sem.proofs.StandingFutures.{permit_from, polled_found, semaphore_found, ready_from, kept_done}
 use Rattle.mea_sem.proofs.hall.SemHall.finish.Goals as goal

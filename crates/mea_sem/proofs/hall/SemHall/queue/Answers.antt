@@ -1,7 +1,7 @@
 use Rattle.std.proofs.Common.{rules, ℕ, ◌≡◌, sym, ap, ◌∙◌, arith}
 use Rattle.std.specs.Option.{option_copied, option_copied_mut}
 use Rattle.mea_base.specs.Outbox.{Wakes}
-use Rattle.mea_sem_model.proofs.HallLemmas.{inside}
+use Rattle.mea_base.proofs.Maps.{inside}
 use Rattle.mea_sem.proofs.Meets.{Meets, MeetsFuture, its_semaphore}
 use Rattle.mea_sem.proofs.StandingSemaphores.{kept_unchanged, seen_unchanged}
 use Rattle.mea_sem.proofs.StandingFutures.{polled_found, semaphore_found}

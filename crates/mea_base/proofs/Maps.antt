@@ -1,4 +1,4 @@
--- what stands at each name of a map after a change, and what its sums are then
+-- what stands at each name of a finite map after a change, and what its sums are then
 use Rattle.std.proofs.Common.{◌≡◌, ℕ, ◌+◌, ◌≤◌, ◌==◌, Bool, true, false, cond, Option, Some, None, unwrap_or, refl, ap, sym, subst, ◌∙◌, arith, is_some}
 use Rattle.std.specs.Option.{IsSome}
 use Rattle.std.specs.Ordering.{nat_cmp}
@@ -32,6 +32,11 @@ module _ {X : Type 0} where
   pub inside : {x y : X} → Some x ≡ Some y → x ≡ y
   inside {x} e = ap (λ o. unwrap_or o x) e
 
+  -- the value of an option that has one
+  pub value_in : (o : Option X) → IsSome o → (x : X) × (o ≡ Some x)
+  value_in None some = absurd (cc)
+  value_in (Some x) some = (x, refl)
+
   pub is_there : (o : Option X) (x : X) → o ≡ Some x → IsSome o
   is_there o x is = ap is_some is
 
@@ -47,6 +52,9 @@ module _ {X : Type 0} where
 
   pub get-removed_other : (m : FinMap nat_cmp X) (k q : ℕ) → (k ≡ q → ⊥) → get (remove m k) q ≡ get m q
   get-removed_other m k q apart = get_removed m k q ∙ ap (λ b. cond b None (get m q)) (ne_eqb k q apart)
+
+  pub get-gone : (m : FinMap nat_cmp X) (k : ℕ) → get (remove m k) k ≡ None
+  get-gone m k = get_removed m k k ∙ ap (λ b. cond b None (get m k)) (eq-eqb k k refl)
 
   -- who is there after a removal was there before, the same
   pub removed_there : (m : FinMap nat_cmp X) (k f : ℕ) (x : X) → get (remove m k) f ≡ Some x → get m f ≡ Some x
