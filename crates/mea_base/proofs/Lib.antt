@@ -7,3 +7,4 @@ pub mod Trims
 pub mod WaitLinks
 pub mod Waits
 pub mod Wakes
+pub mod Tests

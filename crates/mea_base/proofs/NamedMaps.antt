@@ -1,15 +1,16 @@
 -- what a change of a `BTreeMap` does to the finite map that it stands for
-use Rattle.std.proofs.Common.{◌≡◌, ℕ, ◌==◌, Bool, true, false, cond, List, [], ◌∷◌, map, Option, Some, None, refl, ap, sym, ◌∙◌, arith}
+use Rattle.std.proofs.Common.{is_some, ◌≡◌, ℕ, ◌==◌, Bool, true, false, cond, List, [], ◌∷◌, map, Option, Some, None, refl, ap, sym, ◌∙◌, arith}
 use Rattle.std.specs.Option.{option_map}
-use Rattle.std.specs.Ordering.{nat_cmp, is_eq, eq_by_cmp}
+use Rattle.std.specs.Ordering.{nat_cmp, is_eq}
 use Rattle.std.specs.declared.cmp.Ordering.{Ordering}
 use Rattle.std.specs.declared.cmp.Ordering.TheVariants.{Less, Equal, Greater}
 use Rattle.std.specs.Cmp.{nat_cmp_total}
 use Rattle.std.specs.BTreeMap.{is_at}
-use Rattle.std.specs.FinMap.{FinMap, find, get, insert, remove, get-from_entries, get-insert, get-remove, same_map, nat_cmp-IsAntisymmetric}
+use Rattle.std.specs.FinMap.{FinMap, find, get, insert, remove, entries, get-entries, get-from_entries, get-insert, get-remove, same_map, nat_cmp-IsAntisymmetric}
 use Rattle.std.proofs.lemmas.Bool.{eqb-true}
 use Rattle.std.proofs.lemmas.Bool.Decides.{nat_tests}
 use Rattle.mea_base.specs.Named.{named, at}
+use Rattle.mea_base.proofs.Tests.{same_test}
 
 order_equal : (o : Ordering) → is_eq o ≡ true → o ≡ Equal
 order_equal Less h = absurd (cc)
@@ -45,9 +46,6 @@ option_map_cond : {X Y : Type 0} (f : X → Y) (b : Bool) (o p : Option X) → o
 option_map_cond f true o p = refl
 option_map_cond f false o p = refl
 
-pub same_test : (a b : ℕ) → eq_by_cmp nat_cmp a b ≡ (b == a)
-same_test a b = grind (arith, nat_tests)
-
 -- what is seen at each name, where one name has changed
 pub named_changed : {X Y : Type 0} (f : ℕ → X → Y) (g : ℕ → X → Y) (es fs : List (ℕ × X)) (k : ℕ) (o : Option X) → ((q : ℕ) → at fs q ≡ cond (is_at (nat_cmp k) q) o (at es q))
     → ((q : ℕ) (x : X) → (k ≡ q → Unit {0}) → at es q ≡ Some x → g q x ≡ f q x) → (q : ℕ) → option_map (g q) (at fs q) ≡ cond (k == q) (option_map (g k) o) (option_map (f q) (at es q))
@@ -74,3 +72,27 @@ named_remove f es fs k h = same_named _ _ (λ q.
     ∙ ap (cond (k == q) None) (sym (get-named f es q))
     ∙ ap (λ b. cond b None (get (named f es) q)) (sym (same_test q k))
     ∙ sym (get-remove nat_cmp_total (named f es) k q))
+
+-- ---- what is seen of a map
+pub find-at : {X : Type 0} (es : List (ℕ × X)) (q : ℕ) → find nat_cmp q es ≡ at es q
+find-at [] q = refl
+find-at (e ∷ es) q = ap (cond (is_at (nat_cmp q) e.0) (Some e.1)) (find-at es q)
+
+pub get-seen : {X Y : Type 0} (f : ℕ → X → Y) (m : FinMap nat_cmp X) (q : ℕ) → get (named f (entries m)) q ≡ option_map (f q) (get m q)
+get-seen f m q = get-named f (entries m) q ∙ ap (option_map (f q)) (sym (find-at (entries m) q) ∙ sym (get-entries m q))
+
+-- ---- what may be there
+pub option_map-same : {X : Type 0} (o : Option X) → option_map (λ x. x) o ≡ o
+option_map-same None = refl
+option_map-same (Some x) = refl
+
+pub is_some-map : {X Y : Type 0} (f : X → Y) (o : Option X) → is_some (option_map f o) ≡ is_some o
+is_some-map f None = refl
+is_some-map f (Some x) = refl
+
+pub kept-at : {X : Type 0} (es : List (ℕ × X)) (q : ℕ) → get (named (λ k x. x) es) q ≡ at es q
+kept-at es q = get-named (λ k x. x) es q ∙ option_map-same (at es q)
+
+-- what stands among the entries is there
+pub found : {X : Type 0} (es : List (ℕ × X)) (k : ℕ) (x : X) → at es k ≡ Some x → get (named (λ k x. x) es) k ≡ Some x
+found es k x is = kept-at es k ∙ is

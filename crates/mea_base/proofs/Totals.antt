@@ -10,6 +10,7 @@ use Rattle.std.proofs.lemmas.Bool.{eqb-true, eq-eqb, ne_eqb}
 use Rattle.std.proofs.lemmas.Bool.Decides.{nat_tests}
 use Rattle.std.proofs.lemmas.List.Sums.{sum_by-cons}
 use Rattle.mea_base.specs.Totals.{total, weight}
+use Rattle.mea_base.proofs.Tests.{same_test}
 
 both_first : (a b : Bool) → T (a && b) → T a
 both_first true b p = tt
@@ -23,9 +24,6 @@ is_less : (o : Ordering) → T (is_lt o) → o ≡ Less
 is_less Less p = refl
 is_less Equal p = absurd p
 is_less Greater p = absurd p
-
-pub same_test : (a b : ℕ) → eq_by_cmp nat_cmp a b ≡ (b == a)
-same_test a b = grind (arith, nat_tests)
 
 less_lt : (a b : ℕ) → nat_cmp a b ≡ Less → a < b
 less_lt a b h = grind (arith, nat_tests)

@@ -5,6 +5,7 @@ use Rattle.std.proofs.lemmas.Bool.Decides.{nat_tests}
 use Rattle.std.proofs.lemmas.List.{get_or-set_other, get_or_past}
 use Rattle.std.proofs.lemmas.List.Sums.{sum_by-set, sum_by-cons}
 use Rattle.mea_base.specs.WaitList.{without, IsAbsent, IsDistinct, AllInUse}
+use Rattle.mea_base.proofs.Tests.{test_differs}
 
 module _ {T : Type 0} where
   -- a number with a value is a place
@@ -121,3 +122,16 @@ absent_from_unlinked n (m ∷ ms) none = by_test (eqb m n) refl none (absent_fro
     by_test : (b : Bool) → eqb m n ≡ b → (b || list_any (λ k. eqb k n) ms) ≡ false → (list_any (λ k. eqb k n) ms ≡ false → IsAbsent n ms) → IsAbsent n (m ∷ ms)
     by_test true e none rest = absurd (cc)
     by_test false e none rest = ((λ same. absurd (grind (arith, nat_tests, e, same))), rest none)
+
+pub without_absent : (n : ℕ) (ns : List ℕ) → IsAbsent n ns → without n ns ≡ ns
+without_absent n [] absent = refl
+without_absent n (m ∷ ms) absent =
+    ap (λ b. cond (not b) (m ∷ without n ms) (without n ms)) (test_differs m n absent.0) ∙ ap (λ ks. m ∷ ks) (without_absent n ms absent.1)
+
+pub length-without : (n : ℕ) (ns : List ℕ) → length (without n ns) ≤ length ns
+length-without n [] = omega arith
+length-without n (m ∷ ms) = by_test (not (eqb m n)) (length-without n ms)
+  where
+    by_test : (b : Bool) → length (without n ms) ≤ length ms → length (cond b (m ∷ without n ms) (without n ms)) ≤ suc (length ms)
+    by_test true less = omega arith
+    by_test false less = omega arith

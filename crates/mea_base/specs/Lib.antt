@@ -7,3 +7,4 @@ pub mod WaitListLends
 pub mod WaitListLinks
 pub mod Family
 pub mod Ready
+pub mod Causes

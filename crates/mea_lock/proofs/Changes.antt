@@ -18,8 +18,8 @@ use Rattle.mea_lock.specs.declared.note.Note.{Note}
 use Rattle.mea_lock.specs.declared.note.Note.TheVariants.{Waiting, Notified}
 use Rattle.mea_lock.proofs.Kept.{written, unlinked_notified, unlinked_vacant, linked_waiting}
 use Rattle.mea_lock.proofs.Lines.{waits_in-updated, waits_in-end, waits_in-rewoken, waits_in-without, waker_under-none, waker_under-linked, AreApart-waits_in}
-use Rattle.mea_lock.proofs.Numbers.{any_absent, without_absent}
 use Rattle.mea_lock.proofs.Pairs.{get-notified, notified_same, notified_inserted, notified_removed}
+use Rattle.mea_base.proofs.Waits.{without_absent, absent_from_unlinked}
 
 module _ {W : Type 0} where
   -- ---- what a number has
@@ -89,7 +89,7 @@ module _ {W : Type 0} where
   pub lists : (w v : Waits (Note W)) (o p : Wakes W) (n : ℕ) (waker : W) → get w n ≡ None → Updates w v n (Some (Waiting waker)) → v.order ≡ w.order ++ n ∷ [] → p.wakers ≡ o.wakers → AreNoted w → Lists (condvar_of w o) (condvar_of v p) n waker
   lists w v o p n waker vacant updates order sent noted =
       let line : waits_in v.slots v.order ≡ waits_in w.slots w.order ++ (n, waker) ∷ [] =
-      rw order (waits_in-end v.slots n w.order ∙ ap₂ (λ q (x : Option (Note W)). q ++ with_wait n (waker_in x) []) (waits_in-updated w.slots v.slots n w.order updates.others (any_absent n w.order (unlinked_vacant w n vacant noted))) updates.changed) in
+      rw order (waits_in-end v.slots n w.order ∙ ap₂ (λ q (x : Option (Note W)). q ++ with_wait n (waker_in x) []) (waits_in-updated w.slots v.slots n w.order updates.others (absent_from_unlinked n w.order (unlinked_vacant w n vacant noted))) updates.changed) in
       let pairs : notified_of v.slots ≡ notified_of w.slots = notified_same w.slots v.slots (λ q. elim (cases_eq q n) [
         | inl same ↦ rw (same, updates.changed, vacant) refl
         | inr differs ↦ ap notified_in (updates.others q differs)
@@ -104,7 +104,7 @@ module _ {W : Type 0} where
   left_notified : (w v : Waits (Note W)) (o p : Wakes W) (n : ℕ) (b : Bool) → get w n ≡ Some (Notified b) → Updates w v n None → v.order ≡ without n w.order → p.wakers ≡ o.wakers → AreNoted w
       → condvar_of v p ≡ record (condvar_of w o) { notified = fin.remove (notified_of w.slots) n }
   left_notified w v o p n b found updates order sent noted =
-      let absent = any_absent n w.order (unlinked_notified w n b found noted) in
+      let absent = absent_from_unlinked n w.order (unlinked_notified w n b found noted) in
       let line : waits_in v.slots v.order ≡ waits_in w.slots w.order = rw (order, without_absent n w.order absent) (waits_in-updated w.slots v.slots n w.order updates.others absent) in
       let pairs = notified_removed w.slots v.slots n updates.others (ap notified_in updates.changed) in
       λ i. record { waiting = line i; notified = pairs i; wakes = sent i }

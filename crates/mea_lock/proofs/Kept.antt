@@ -7,7 +7,8 @@ use Rattle.mea_base.specs.WaitList.{Waits, get, is_linked, with_value, Updates, 
 use Rattle.mea_lock.specs.Notes.{AreNoted, IsWaiting, IsIdle, notified_in}
 use Rattle.mea_lock.specs.declared.note.Note.{Note}
 use Rattle.mea_lock.specs.declared.note.Note.TheVariants.{Waiting, Notified}
-use Rattle.mea_lock.proofs.Numbers.{any_cons, absent_any, any_absent, any_end, any_end_here, any_without, distinct_end, distinct_without, unlinked_after}
+use Rattle.mea_lock.proofs.Numbers.{any_cons, absent_any, any_end, any_end_here, any_without, unlinked_after}
+use Rattle.mea_base.proofs.Waits.{IsDistinct-push, IsDistinct-without, absent_from_unlinked}
 
 module _ {W : Type 0} where
   -- a number with a note is a place
@@ -75,7 +76,7 @@ module _ {W : Type 0} where
   -- a new one waits
   pub noted_listed : (w v : Waits (Note W)) (n : ℕ) (waker : W) → get w n ≡ None → v.order ≡ w.order ++ n ∷ [] → Updates w v n (Some (Waiting waker)) → AreNoted w → AreNoted v
   noted_listed w v n waker vacant order updates noted =
-      noted_by w v n (rw order (distinct_end n w.order (any_absent n w.order (unlinked_vacant w n vacant noted)) noted.distinct)) updates.others
+      noted_by w v n (rw order (IsDistinct-push n w.order (absent_from_unlinked n w.order (unlinked_vacant w n vacant noted)) noted.distinct)) updates.others
       (λ m differs. ap (λ o. list_any (λ k. eqb k m) o) order ∙ any_end m n w.order (λ e. differs (sym e)))
       (λ _. rw updates.changed tt)
       (λ unlinked. absurd (let here = ap (λ o. list_any (λ k. eqb k n) o) order ∙ any_end_here n w.order in cc))
@@ -84,7 +85,7 @@ module _ {W : Type 0} where
   -- one has left
   pub noted_left : (w v : Waits (Note W)) (n : ℕ) → v.order ≡ without n w.order → Updates w v n None → AreNoted w → AreNoted v
   noted_left w v n order updates noted =
-      noted_by w v n (rw order (distinct_without n w.order noted.distinct)) updates.others
+      noted_by w v n (rw order (IsDistinct-without n w.order noted.distinct)) updates.others
       (λ m differs. ap (λ o. list_any (λ k. eqb k m) o) order ∙ any_without m n w.order differs)
       (λ linked. absurd (let none = ap (λ o. list_any (λ k. eqb k n) o) order ∙ unlinked_after n w.order in cc))
       (λ _. rw updates.changed tt)

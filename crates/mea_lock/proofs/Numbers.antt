@@ -4,12 +4,7 @@ use Rattle.std.proofs.lemmas.Bool.{cases_eq}
 use Rattle.std.proofs.lemmas.Bool.Decides.{nat_tests}
 use Rattle.std.specs.List.{list_any}
 use Rattle.mea_base.specs.WaitList.{without, IsAbsent, IsDistinct}
-
-pub test_same : (m n : ℕ) → m ≡ n → eqb m n ≡ true
-test_same m n same = grind (arith, nat_tests)
-
-pub test_differs : (m n : ℕ) → m ≢ n → eqb m n ≡ false
-test_differs m n differs = grind (arith, nat_tests)
+use Rattle.mea_base.proofs.Tests.{test_same, test_differs}
 
 pub any_cons : (m k : ℕ) (ks : List ℕ) → k ≢ m → list_any (λ j. eqb j m) (k ∷ ks) ≡ list_any (λ j. eqb j m) ks
 any_cons m k ks differs = rw (test_differs k m differs) refl
@@ -17,14 +12,6 @@ any_cons m k ks differs = rw (test_differs k m differs) refl
 pub absent_any : (n : ℕ) (ns : List ℕ) → IsAbsent n ns → list_any (λ k. eqb k n) ns ≡ false
 absent_any n [] absent = refl
 absent_any n (k ∷ ks) absent = rw (test_differs k n absent.0) (absent_any n ks absent.1)
-
-pub any_absent : (n : ℕ) (ns : List ℕ) → list_any (λ k. eqb k n) ns ≡ false → IsAbsent n ns
-any_absent n [] none = tt
-any_absent n (k ∷ ks) none =
-    elim (cases_eq k n) [
-      | inl same ↦ absurd (let found = rw (test_same k n same) at none in cc)
-      | inr differs ↦ (differs, any_absent n ks (rw (test_differs k n differs) at none))
-    ]
 
 -- at the end
 pub any_end : (m n : ℕ) (ns : List ℕ) → n ≢ m → list_any (λ k. eqb k m) (ns ++ n ∷ []) ≡ list_any (λ k. eqb k m) ns
@@ -38,14 +25,6 @@ any_end_here n (k ∷ ks) = by_test (eqb k n) (any_end_here n ks)
     by_test : (b : Bool) → list_any (λ j. eqb j n) (ks ++ n ∷ []) ≡ true → (b || list_any (λ j. eqb j n) (ks ++ n ∷ [])) ≡ true
     by_test true here = refl
     by_test false here = here
-
-absent_end : (m n : ℕ) (ns : List ℕ) → n ≢ m → IsAbsent m ns → IsAbsent m (ns ++ n ∷ [])
-absent_end m n [] differs absent = (differs, tt)
-absent_end m n (k ∷ ks) differs absent = (absent.0, absent_end m n ks differs absent.1)
-
-pub distinct_end : (n : ℕ) (ns : List ℕ) → IsAbsent n ns → IsDistinct ns → IsDistinct (ns ++ n ∷ [])
-distinct_end n [] absent distinct = (tt, tt)
-distinct_end n (k ∷ ks) absent distinct = (absent_end k n ks (λ e. absent.0 (sym e)) distinct.0, distinct_end n ks absent.1 distinct.1)
 
 -- without one
 pub any_without : (m n : ℕ) (ns : List ℕ) → m ≢ n → list_any (λ k. eqb k m) (without n ns) ≡ list_any (λ k. eqb k m) ns
@@ -65,34 +44,3 @@ unlinked_after n (k ∷ ks) =
       | inl same ↦ rw (ap not (test_same k n same)) rest
       | inr differs ↦ rw (ap not (test_differs k n differs)) (rw (test_differs k n differs) rest)
     ]
-
-pub shorter : (n : ℕ) (ns : List ℕ) → length (without n ns) ≤ length ns
-shorter n [] = omega arith
-shorter n (k ∷ ks) =
-    let rest = shorter n ks in
-    elim (cases_eq k n) [
-      | inl same ↦ rw (ap not (test_same k n same)) (omega (arith, rest))
-      | inr differs ↦ rw (ap not (test_differs k n differs)) (omega (arith, rest))
-    ]
-
-absent_without : (m n : ℕ) (ns : List ℕ) → IsAbsent m ns → IsAbsent m (without n ns)
-absent_without m n [] absent = tt
-absent_without m n (k ∷ ks) absent =
-    let rest = absent_without m n ks absent.1 in
-    elim (cases_eq k n) [
-      | inl same ↦ rw (ap not (test_same k n same)) rest
-      | inr differs ↦ rw (ap not (test_differs k n differs)) (absent.0, rest)
-    ]
-
-pub distinct_without : (n : ℕ) (ns : List ℕ) → IsDistinct ns → IsDistinct (without n ns)
-distinct_without n [] distinct = tt
-distinct_without n (k ∷ ks) distinct =
-    let rest = distinct_without n ks distinct.1 in
-    elim (cases_eq k n) [
-      | inl same ↦ rw (ap not (test_same k n same)) rest
-      | inr differs ↦ rw (ap not (test_differs k n differs)) (absent_without k n ks distinct.0, rest)
-    ]
-
-pub without_absent : (n : ℕ) (ns : List ℕ) → IsAbsent n ns → without n ns ≡ ns
-without_absent n [] absent = refl
-without_absent n (k ∷ ks) absent = rw (ap not (test_differs k n absent.0)) (ap (λ ms. k ∷ ms) (without_absent n ks absent.1))

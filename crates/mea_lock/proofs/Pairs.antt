@@ -8,12 +8,7 @@ use Rattle.std.specs.FinMap.{find, get-from_entries, get-insert, get-remove, sam
 use Rattle.std.specs.Ordering.{nat_cmp, eq_by_cmp}
 use Rattle.mea_lock.specs.Notes.{notified_in, notified_of, pairs_from, with_pair}
 use Rattle.mea_lock.specs.declared.note.Note.{Note}
-
-tied_same : (q n : ℕ) → q ≡ n → eq_by_cmp nat_cmp q n ≡ true
-tied_same q n same = unsigned_tied q n ∙ grind (arith, nat_tests)
-
-tied_differs : (q n : ℕ) → q ≢ n → eq_by_cmp nat_cmp q n ≡ false
-tied_differs q n differs = unsigned_tied q n ∙ grind (arith, nat_tests)
+use Rattle.mea_base.proofs.Tests.{tied_same, tied_differs}
 
 -- a pair of another number, or none, stands before others
 find_behind : (q k : ℕ) (x : Option Bool) (ps : List (ℕ × Bool)) → q ≢ k → find nat_cmp q (with_pair k x ps) ≡ find nat_cmp q ps

@@ -19,8 +19,9 @@ use Rattle.mea_meet.specs.BarrierHall.{Store, slot_of, slots_of, barrier_of, wai
 use Rattle.mea_meet.specs.declared.barriers.BarrierEntry.{BarrierEntry}
 use Rattle.mea_meet.specs.declared.barriers.BarrierWaitEntry.{BarrierWaitEntry}
 use Rattle.mea_meet.proofs.Names.{waiting-length}
-use Rattle.mea_meet.proofs.Maps.{at_same, by_name, Puts, put_there, put_other, total_puts_was, weight-within, seen-some, seen_put, seen_gone, one_of, one-least, weighs_here, weighs_elsewhere, one_entry}
+use Rattle.mea_meet.proofs.Maps.{Puts, put_there, put_other, total_puts_was, weight-within, seen-some, seen_put, seen_gone, one_of, one-least, weighs_here, weighs_elsewhere, one_entry}
 use Rattle.mea_meet.proofs.Slots.{apart_belongs, waiting_beside, given_by}
+use Rattle.mea_base.proofs.Tests.{at_same, by_name}
 
 -- ---- the slots of the futures
 abbrev pub slot_entry : BarrierWaitEntry → ℕ × Option Place

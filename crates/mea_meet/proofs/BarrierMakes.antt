@@ -21,12 +21,14 @@ use Rattle.mea_meet.specs.declared.barriers.BarrierEntry.{BarrierEntry}
 use Rattle.mea_meet.specs.declared.barriers.BarrierWaitEntry.{BarrierWaitEntry}
 use Rattle.mea_meet.specs.declared.barriers.BarrierHall.TheInside.{Inside}
 use Rattle.mea_meet.proofs.Names.{waiting-length, named-later, named-new}
-use Rattle.mea_meet.proofs.Maps.{Puts, put_there, put_other, by_name, at_same, at_apart, kept-puts, seen-some, seen-none, seen_put, seen_gone, insert_same, weight-within, none_if, kept-none, seen-empty, found}
+use Rattle.mea_meet.proofs.Maps.{Puts, put_there, put_other, kept-puts, seen-some, seen-none, seen_put, seen_gone, insert_same, weight-within, none_if, kept-none, seen-empty}
 use Rattle.mea_meet.proofs.BarrierChanges.{Changes, slot_entry, at_barrier, kept_after, hall_put}
 use Rattle.mea_meet.proofs.BarrierPlays.{Rested, Played, store_in, seen_in, IsKeptIn}
 use Rattle.mea_meet.proofs.BarrierStores.{counts}
 use Rattle.mea_meet.proofs.Slots.{slots_there, slots_other, apart_unplaced, waiting_beside, named_none, waiting_later}
 use Rattle.mea_meet.proofs.Plays.{rests_by, yields_by}
+use Rattle.mea_base.proofs.Tests.{at_same, at_apart, by_name}
+use Rattle.mea_base.proofs.NamedMaps.{found}
 
 -- ---- names that were not given yet
 pub no_barrier : (st : Store) (n i : ℕ) → IsKept st n → n ≤ i → get st.barriers i ≡ None

@@ -26,10 +26,11 @@ use Rattle.mea_meet.specs.declared.barriers.BarrierEntry.{BarrierEntry}
 use Rattle.mea_meet.specs.declared.barriers.BarrierWaitEntry.{BarrierWaitEntry}
 use Rattle.mea_meet.specs.declared.barriers.BarrierHall.TheInside.{Inside}
 use Rattle.mea_meet.proofs.Names.{waiting-wakers, given-drained}
-use Rattle.mea_meet.proofs.Maps.{Puts, kept-at, kept-puts, seen-some, insert_same}
+use Rattle.mea_meet.proofs.Maps.{Puts, kept-puts, seen-some, insert_same}
 use Rattle.mea_meet.proofs.BarrierChanges.{later_round, home_open, kept_after, registered_after, barrier_seen, waits_within}
 use Rattle.mea_meet.proofs.BarrierPlays.{Rested, Played, store_in, seen_in, IsKeptIn, registers, hall_registering, leaves, hall_ending, hall_led}
 use Rattle.mea_meet.proofs.Plays.{rests_by, yields_by}
+use Rattle.mea_base.proofs.NamedMaps.{kept-at}
 
 -- ---- what the core tells
 not_reached : (m n : ℕ) → nat_le m n ≡ false → n < m

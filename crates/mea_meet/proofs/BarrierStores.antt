@@ -14,9 +14,10 @@ use Rattle.mea_meet.specs.declared.barriers.BarrierEntry.{BarrierEntry}
 use Rattle.mea_meet.specs.declared.barriers.BarrierWaitEntry.{BarrierWaitEntry}
 use Rattle.mea_meet.specs.declared.barriers.BarrierHall.TheInside.{Inside}
 use Rattle.mea_meet.proofs.Names.{waiting-wakers}
-use Rattle.mea_meet.proofs.Maps.{kept-at, kept-unchanged, get-seen, seen-none, is_some-map, not_none, total-named, found}
+use Rattle.mea_meet.proofs.Maps.{kept-unchanged, seen-none, not_none, total-named}
 use Rattle.mea_meet.proofs.BarrierChanges.{at_barrier, barrier_seen, wakers_within}
 use Rattle.mea_meet.proofs.BarrierPlays.{store_in, seen_in, IsKeptIn}
+use Rattle.mea_base.proofs.NamedMaps.{get-seen, is_some-map, kept-at, found}
 
 -- ---- how many futures wait at a barrier, seen among those that are kept
 waits_counted : (st : Store) (n b : ℕ) → waits_of (barriers_of st n) b ≡ total (at_barrier b) st.waits

@@ -18,8 +18,9 @@ use Rattle.mea_meet.specs.GroupHall.{Store, slots_of, count_of, groups_of, IsKep
 use Rattle.mea_meet.specs.declared.groups.GroupEntry.{GroupEntry}
 use Rattle.mea_meet.specs.declared.groups.GroupWaitEntry.{GroupWaitEntry}
 use Rattle.mea_meet.proofs.Names.{waiting-length}
-use Rattle.mea_meet.proofs.Maps.{at_same, at_apart, by_name, Puts, put_there, put_other, total_puts_was, weight-within, seen-some, seen-none, seen_put, seen_gone, one_of, one-least, weighs_here, weighs_elsewhere, remove-insert, one_entry, total-named}
+use Rattle.mea_meet.proofs.Maps.{Puts, put_there, put_other, total_puts_was, weight-within, seen-some, seen-none, seen_put, seen_gone, one_of, one-least, weighs_here, weighs_elsewhere, remove-insert, one_entry, total-named}
 use Rattle.mea_meet.proofs.Slots.{apart_belongs, waiting_beside, given_by}
+use Rattle.mea_base.proofs.Tests.{at_same, at_apart, by_name}
 
 -- ---- the slots of the futures
 abbrev pub slot_entry : GroupWaitEntry → ℕ × Option Place

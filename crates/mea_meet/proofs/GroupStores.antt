@@ -15,10 +15,11 @@ use Rattle.mea_meet.specs.declared.groups.GroupEntry.{GroupEntry}
 use Rattle.mea_meet.specs.declared.groups.GroupWaitEntry.{GroupWaitEntry}
 use Rattle.mea_meet.specs.declared.groups.GroupHall.TheInside.{Inside}
 use Rattle.mea_meet.proofs.Names.{waiting-wakers}
-use Rattle.mea_meet.proofs.Maps.{kept-at, kept-unchanged, get-seen, seen-none, is_some-map, not_none, kept-none, is_empty, seen-empty, found}
+use Rattle.mea_meet.proofs.Maps.{kept-unchanged, seen-none, not_none, kept-none, is_empty, seen-empty}
 use Rattle.mea_meet.proofs.GroupChanges.{slot_entry, group_seen, wakers_within}
 use Rattle.mea_meet.proofs.GroupPlays.{store_in, seen_in, IsKeptIn}
 use Rattle.mea_meet.proofs.Slots.{named_none}
+use Rattle.mea_base.proofs.NamedMaps.{get-seen, is_some-map, kept-at, found}
 
 -- ---- no group
 module _ (gs : List (ℕ × GroupEntry)) (hs : List (ℕ × ℕ)) (ws : List (ℕ × GroupWaitEntry)) (no_gs : gs ≡ []) (no_hs : hs ≡ []) (no_ws : ws ≡ []) where

@@ -24,11 +24,12 @@ use Rattle.mea_meet.specs.LatchHall.{Store, slot_of, slots_of, latch_of, wait_of
 use Rattle.mea_meet.specs.declared.latches.LatchEntry.{LatchEntry}
 use Rattle.mea_meet.specs.declared.latches.LatchWaitEntry.{LatchWaitEntry}
 use Rattle.mea_meet.proofs.Names.{waiting-registers, waiting-ends, named-new, named-ends, named-registers, given-registers, given-with, given-drained}
-use Rattle.mea_meet.proofs.Maps.{at_same, at_apart, put_here, put_other, is_insert, is_remove, weight-within, is_same, puts_over, none_if, Puts}
+use Rattle.mea_meet.proofs.Maps.{put_here, put_other, is_insert, is_remove, weight-within, is_same, puts_over, none_if, Puts}
 use Rattle.mea_meet.proofs.LatchStore.{slot_other, slot_was, slot_now, waits_after, waiting_other, waits_other, plain_other, others_other, waits_mine, plain_mine, latch_seen, wait_seen, registered_seen, waits_seen, later_kept, later_seen, Changes, kept_after, latches_after, registered_after, given_to, given_all}
 use Rattle.mea_meet.proofs.Counts.{decreased-seen, woken-seen, woken-all}
 use Rattle.mea_meet.proofs.Slots.{apart_unplaced, waiting_beside}
 use Rattle.mea_meet.proofs.Plays.{rests_by, yields_by, RestedIn, PlayedIn}
+use Rattle.mea_base.proofs.Tests.{at_same, at_apart}
 
 -- ---- what an event came to
 abbrev pub RestedAt : Part Latches → Store → ℕ → Outcome Latches → Answer → Type 0

@@ -24,11 +24,14 @@ use Rattle.mea_meet.specs.LatchHall.{Store, store_of, slot_of, slots_of, latch_o
 use Rattle.mea_meet.specs.declared.latches.LatchEntry.{LatchEntry}
 use Rattle.mea_meet.specs.declared.latches.LatchWaitEntry.{LatchWaitEntry}
 use Rattle.mea_meet.proofs.Names.{waiting-wakers}
-use Rattle.mea_meet.proofs.Maps.{kept-at, found, kept-puts, at_same, weight-within, kept-puts-as, some_found, kept-none, seen-empty, kept-unchanged}
+use Rattle.mea_meet.proofs.Maps.{kept-puts, weight-within, kept-puts-as, kept-none, seen-empty, kept-unchanged}
 use Rattle.mea_meet.proofs.LatchStore.{registered_seen, wait_seen, plain_seen, given_to}
 use Rattle.mea_meet.proofs.LatchPlays.{Rested, Yielded, latch_is, named_is, named_not, wait_there, stays, makes, arrives, drops, begins, registering_entry, registering_wait, polls_on, leaves, RestedAt, YieldedAt}
 use Rattle.mea_meet.proofs.Counts.{woken-all}
 use Rattle.mea_meet.proofs.Slots.{named_none}
+use Rattle.mea_base.proofs.Tests.{at_same}
+use Rattle.mea_base.proofs.NamedMaps.{kept-at, found}
+use Rattle.mea_base.proofs.Maps.{value_in}
 
 abbrev pub Latchs : Type 0
 Latchs = List (ℕ × LatchEntry)
@@ -122,7 +125,7 @@ module _ (ls : Latchs) (ws : Waits) (next : ℕ) (v : Part Latches) (seen : reco
   quiet_at l e k is = (kept_at l e k is).quiet
 
   pub find_wait : (f : ℕ) → IsSome (get v.hall.waits f) → (x : LatchWaitEntry) × (at ws f ≡ Some x)
-  find_wait f there = some_found (at ws f) (wait_at f ∙ there)
+  find_wait f there = value_in (at ws f) (wait_at f ∙ there)
 
   pub never_wait : (f : ℕ) → IsSome (get v.hall.waits f) → at ws f ≡ None → ⊥
   never_wait f there none = let x = find_wait f there in absurd (let clash : None ≡ Some x.0 = sym none ∙ x.1 in cc)

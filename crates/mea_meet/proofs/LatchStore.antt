@@ -13,8 +13,10 @@ use Rattle.mea_meet.specs.LatchHall.{Store, slot_of, slots_of, latch_of, wait_of
 use Rattle.mea_meet.specs.declared.latches.LatchEntry.{LatchEntry}
 use Rattle.mea_meet.specs.declared.latches.LatchWaitEntry.{LatchWaitEntry}
 use Rattle.mea_meet.proofs.Names.{waiting-length, named-later}
-use Rattle.mea_meet.proofs.Maps.{get-seen, put_other, total_puts, seen_puts, puts_seen, Belongs, total_elsewhere, by_name, put_there, total-named, seen_alike, one_of, total_puts_was, weighs_here, one_entry, Puts}
+use Rattle.mea_meet.proofs.Maps.{put_other, total_puts, seen_puts, puts_seen, Belongs, total_elsewhere, put_there, total-named, seen_alike, one_of, total_puts_was, weighs_here, one_entry, Puts}
 use Rattle.mea_meet.proofs.Slots.{slots_there, slots_other, apart_belongs, waiting_beside, given_by, waiting_later}
+use Rattle.mea_base.proofs.Tests.{by_name}
+use Rattle.mea_base.proofs.NamedMaps.{get-seen}
 
 -- 1 for a plain future
 abbrev pub plain_of : Option LatchWaitEntry → ℕ

@@ -1,40 +1,18 @@
 -- maps by name in the halls of meeting points: what is kept and what is seen of it, and both after a change
-use Rattle.std.proofs.Common.{◌≡◌, ℕ, ◌+◌, ◌≤◌, ◌==◌, Bool, true, false, cond, List, [], ◌∷◌, Option, Some, None, IsSome, is_some, refl, ap, sym, subst, ◌∙◌, arith}
+use Rattle.std.proofs.Common.{◌≡◌, ℕ, ◌+◌, ◌≤◌, ◌==◌, Bool, true, false, cond, List, [], Option, Some, None, IsSome, refl, ap, sym, subst, ◌∙◌, arith}
 use Rattle.std.specs.Option.{option_map, IfSome}
 use Rattle.std.specs.Ordering.{nat_cmp}
 use Rattle.std.specs.BTreeMap.{is_at}
-use Rattle.std.specs.FinMap.{FinMap, find, get, insert, remove, empty, entries, get-entries, get-empty}
-use Rattle.std.proofs.lemmas.Bool.{eqb-true, eqb-false, eq-eqb, ne_eqb}
+use Rattle.std.specs.FinMap.{FinMap, get, insert, remove, empty, entries, get-empty}
+use Rattle.std.proofs.lemmas.Bool.{eqb-true, eqb-false}
 use Rattle.mea_base.specs.Named.{named, at}
 use Rattle.mea_base.specs.Totals.{total, weight}
 use Rattle.mea_meet.specs.Entries.{ChangesAt}
-use Rattle.mea_base.proofs.NamedMaps.{same_named, get-named, named_changed}
+use Rattle.mea_base.proofs.NamedMaps.{same_named, get-named, named_changed, get-seen, option_map-same, kept-at, found}
 use Rattle.mea_base.proofs.Totals.{get_inserted, get_removed, total-insert, total-remove, total-alike}
-
--- ---- tests of names
-pub at_same : {X : Type 0} (m n : ℕ) (x y : X) → m ≡ n → cond (m == n) x y ≡ x
-at_same m n x y e = ap (λ b. cond b x y) (eq-eqb m n e)
-
-pub at_apart : {X : Type 0} (m n : ℕ) (x y : X) → (m ≡ n → ⊥) → cond (m == n) x y ≡ y
-at_apart m n x y e = ap (λ b. cond b x y) (ne_eqb m n e)
-
--- two names are one or apart
-pub by_name : {Z : Type 0} (m n : ℕ) → (m ≡ n → Z) → ((m ≡ n → ⊥) → Z) → Z
-by_name {Z} m n one apart = by_test (m == n) refl
-  where
-    by_test : (t : Bool) → (m == n) ≡ t → Z
-    by_test true h = one (eqb-true m n h)
-    by_test false h = apart (eqb-false m n h)
+use Rattle.mea_base.proofs.Tests.{at_same, at_apart, by_name}
 
 -- ---- what may be there
-option_map-same : {X : Type 0} (o : Option X) → option_map (λ x. x) o ≡ o
-option_map-same None = refl
-option_map-same (Some x) = refl
-
-pub is_some-map : {X Y : Type 0} (f : X → Y) (o : Option X) → is_some (option_map f o) ≡ is_some o
-is_some-map f None = refl
-is_some-map f (Some x) = refl
-
 -- what is there is not none
 pub not_none : {X : Type 0} (o : Option X) → IsSome o → o ≡ None → ⊥
 not_none None there none = absurd (cc)
@@ -44,10 +22,6 @@ not_none (Some x) there none = absurd (cc)
 pub none_if : {X : Type 0} (o : Option X) → ((x : X) → o ≡ Some x → ⊥) → o ≡ None
 none_if None nothing = refl
 none_if (Some x) nothing = absurd (nothing x refl)
-
-pub some_found : {X : Type 0} (o : Option X) → IsSome o → (x : X) × (o ≡ Some x)
-some_found None there = absurd (cc)
-some_found (Some x) there = (x, refl)
 
 -- what holds of what is there
 pub if_some : {X : Type 0} (P : X → Type 0) (o : Option X) (x : X) → o ≡ Some x → P x → IfSome o P
@@ -65,13 +39,7 @@ pub inside : {X : Type 0} (x y : X) → Some x ≡ Some y → x ≡ y
 unfolding value_in
 inside x y is = ap (value_in x) is
 
--- ---- what is kept at a name is what stands there among the entries
-pub kept-at : {X : Type 0} (es : List (ℕ × X)) (q : ℕ) → get (named (λ k x. x) es) q ≡ at es q
-kept-at es q = get-named (λ k x. x) es q ∙ option_map-same (at es q)
-
-pub found : {X : Type 0} (es : List (ℕ × X)) (k : ℕ) (x : X) → at es k ≡ Some x → get (named (λ k x. x) es) k ≡ Some x
-found es k x is = kept-at es k ∙ is
-
+-- ---- what is kept
 -- nothing is kept
 pub kept-none : {X : Type 0} (es : List (ℕ × X)) → es ≡ [] → (q : ℕ) → get (named (λ k x. x) es) q ≡ None
 kept-none es is q = kept-at es q ∙ ap (λ fs. at fs q) is
@@ -217,14 +185,6 @@ module _ {X : Type 0} (g : X → ℕ) where
       let before = weighs_elsewhere v s q k (get m k) was apart in
       let after = weighs_elsewhere v s q k o is apart in
       omega (arith, all, before, after)
-
--- ---- what is seen of a map
-find-at : {X : Type 0} (es : List (ℕ × X)) (q : ℕ) → find nat_cmp q es ≡ at es q
-find-at [] q = refl
-find-at (e ∷ es) q = ap (cond (is_at (nat_cmp q) e.0) (Some e.1)) (find-at es q)
-
-pub get-seen : {X Y : Type 0} (f : ℕ → X → Y) (m : FinMap nat_cmp X) (q : ℕ) → get (named f (entries m)) q ≡ option_map (f q) (get m q)
-get-seen f m q = get-named f (entries m) q ∙ ap (option_map (f q)) (sym (find-at (entries m) q) ∙ sym (get-entries m q))
 
 -- a thing that is seen is there, and the other way round
 pub seen-some : {X Y : Type 0} (f : ℕ → X → Y) (m : FinMap nat_cmp X) (q : ℕ) (x : X) → get m q ≡ Some x → get (named f (entries m)) q ≡ Some (f q x)

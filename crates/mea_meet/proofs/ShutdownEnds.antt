@@ -17,11 +17,13 @@ use Rattle.mea_meet.specs.declared.shutdown_entries.ShutdownWait.{ShutdownWait a
 use Rattle.mea_meet.specs.declared.shutdown_entries.ShutdownWait.TheVariants as waits
 use Rattle.mea_meet.specs.ShutdownHall.{Store, End, OfSignal, OfReceivers, awaits_of, borrowed_of, slot_at, slot_in, count_at, slots_of, shutdown_of, receiver_of, wait_of, hall_of, counting, borrowers_in, is_of, GivesBack, without_wait, IsKeptEntry, IsKept}
 use Rattle.mea_meet.proofs.Names.{waiting-ends}
-use Rattle.mea_meet.proofs.Maps.{Puts, Belongs, kept-at, kept-puts, puts_same, puts_seen, total_puts, is_same, is_insert, is_remove, belongs-none, belongs-some, inside, weight-within, at_same}
+use Rattle.mea_meet.proofs.Maps.{Puts, Belongs, kept-puts, puts_same, puts_seen, total_puts, is_same, is_insert, is_remove, belongs-none, belongs-some, inside, weight-within}
 use Rattle.mea_meet.proofs.ShutdownChanges.{Changes, Unplaced, kept_after, registered_after, wakers_at, slot_now, slot_other, named_unplaced, given_unplaced, alike_unplaced, shutdowns_after}
 use Rattle.mea_meet.proofs.ShutdownSeen.{receiver-seen, shutdown-at}
 use Rattle.mea_meet.proofs.ShutdownStill.{no-sender, no-receiver, entry_after}
 use Rattle.mea_meet.proofs.ShutdownPlays.{Goes}
+use Rattle.mea_base.proofs.Tests.{at_same}
+use Rattle.mea_base.proofs.NamedMaps.{kept-at}
 
 -- whether what is borrowed is q
 abbrev lent : Option ℕ → ℕ → Bool

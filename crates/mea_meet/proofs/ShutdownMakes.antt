@@ -14,10 +14,11 @@ use Rattle.mea_meet.specs.declared.shutdown_entries.ShutdownEntry.{ShutdownEntry
 use Rattle.mea_meet.specs.declared.shutdown_entries.ReceiverEntry.{ReceiverEntry}
 use Rattle.mea_meet.specs.declared.shutdown_entries.ShutdownWaitEntry.{ShutdownWaitEntry}
 use Rattle.mea_meet.specs.ShutdownHall.{Store, End, count_at, slot_in, slots_of, receiver_of, hall_of, counting, senders_in, receivers_in, waits_in, IsKeptEntry, IsKept}
-use Rattle.mea_meet.proofs.Maps.{Puts, puts_same, puts_seen, total_puts, is_insert, belongs-none, belongs-some, inside, at_same}
+use Rattle.mea_meet.proofs.Maps.{Puts, puts_same, puts_seen, total_puts, is_insert, belongs-none, belongs-some, inside}
 use Rattle.mea_meet.proofs.ShutdownChanges.{Changes, slot_home, wakers_at}
 use Rattle.mea_meet.proofs.ShutdownStill.{no-sender, no-receiver, no-wait, no-shutdown, unborrowed}
 use Rattle.mea_meet.proofs.ShutdownPlays.{Goes, kept_all, shutdowns_put, waits_same, counts_after}
+use Rattle.mea_base.proofs.Tests.{at_same}
 
 -- ---- nothing is of a shutdown that is not there
 module _ (st : Store) (next s : ℕ) (k : IsKept st next) (none : get st.shutdowns s ≡ None) where

@@ -16,12 +16,13 @@ use Rattle.mea_meet.specs.declared.shutdown_entries.ShutdownEntry.{ShutdownEntry
 use Rattle.mea_meet.specs.declared.shutdown_entries.ReceiverEntry.{ReceiverEntry}
 use Rattle.mea_meet.specs.declared.shutdown_entries.ShutdownWaitEntry.{ShutdownWaitEntry}
 use Rattle.mea_meet.specs.ShutdownHall.{Store, End, OfSignal, OfReceivers, awaits_of, wait_of, count_at, slot_in, slots_of, shutdown_of, hall_of, counting, borrowers_in, is_of, IsKeptEntry, IsKept}
-use Rattle.mea_meet.proofs.Maps.{Puts, Belongs, puts_same, puts_seen, is_same, is_insert, is_remove, weight-within, belongs-none, belongs-some, at_same}
+use Rattle.mea_meet.proofs.Maps.{Puts, Belongs, puts_same, puts_seen, is_same, is_insert, is_remove, weight-within, belongs-none, belongs-some}
 use Rattle.mea_meet.proofs.ShutdownChanges.{Changes, Unplaced, kept_after, registered_after, wakers_at}
 use Rattle.mea_meet.proofs.Counts.{decreased-seen, woken-seen, given-decreased, woken-all}
 use Rattle.mea_meet.proofs.ShutdownSeen.{shutdown-seen, shutdown-at, wait-seen}
 use Rattle.mea_meet.proofs.ShutdownStill.{no-sender, no-receiver, no-wait, borrows-nothing, entry_after, still_named, still_given, still_shutdowns}
 use Rattle.mea_meet.proofs.Plays.{rests_by, yields_by}
+use Rattle.mea_base.proofs.Tests.{at_same}
 
 -- an event leaves these shutdowns, and no waker is registered or woken
 pub record Goes (st st' : Store) (next i : ℕ) (h : Shutdowns) : Type 0 where

@@ -14,12 +14,14 @@ use Rattle.mea_meet.specs.declared.shutdown_entries.ShutdownEntry.{ShutdownEntry
 use Rattle.mea_meet.specs.declared.shutdown_entries.ReceiverEntry.{ReceiverEntry}
 use Rattle.mea_meet.specs.declared.shutdown_entries.ShutdownWaitEntry.{ShutdownWaitEntry}
 use Rattle.mea_meet.specs.ShutdownHall.{Store, End, OfSignal, OfReceivers, count_at, slots_of, shutdown_of, receiver_of, hall_of, counting, borrowers_in, without_receiver, woken_at_end, is_full, IsKept}
-use Rattle.mea_meet.proofs.Maps.{Puts, Belongs, puts_same, puts_seen, is_same, is_insert, is_remove, belongs-none, belongs-some, inside, weight-within, some_found, at_same}
+use Rattle.mea_meet.proofs.Maps.{Puts, Belongs, puts_same, puts_seen, is_same, is_insert, is_remove, belongs-none, belongs-some, inside, weight-within}
 use Rattle.mea_meet.proofs.ShutdownChanges.{Changes, wakers_at}
 use Rattle.mea_meet.proofs.ShutdownSeen.{shutdown-at, shutdown-there, receiver-seen}
 use Rattle.mea_meet.proofs.ShutdownStill.{no-sender, no-receiver, no-wait, unborrowed, entry_after}
 use Rattle.mea_meet.proofs.Counts.{decreased-seen, woken-seen, given-decreased, woken-all}
 use Rattle.mea_meet.proofs.ShutdownPlays.{Goes, Wakes, seen_before, kept_all, given, shutdowns_put, waits_same, counts_after}
+use Rattle.mea_base.proofs.Tests.{at_same}
+use Rattle.mea_base.proofs.Maps.{value_in}
 
 module _ (st : Store) (ss' : FinMap nat_cmp ShutdownEntry) (rs' : FinMap nat_cmp ReceiverEntry) (next i s b : ℕ) (e e2 : ShutdownEntry) (ob : Option ReceiverEntry) (k : IsKept st next) (less : next ≤ i) (low : i < 2 ^ 64)
     (there : get st.shutdowns s ≡ Some e) (shutdowns : Puts st.shutdowns ss' s (Some e2)) (receivers : Puts st.receivers rs' b ob) (was : Belongs {X = ReceiverEntry} (λ x. x.shutdown) s (get st.receivers b)) (is : Belongs {X = ReceiverEntry} (λ x. x.shutdown) s ob) where
@@ -240,7 +242,7 @@ module _ (st : Store) (next b : ℕ) (x : ReceiverEntry) (k : IsKept st next) (r
   -- a receiver counts
   pub copy_lives : x.watch ≡ false → 0 < (shutdown_at (hall_of st next) x.shutdown).receivers.number
   copy_lives plain =
-      let found = some_found (get st.shutdowns x.shutdown) (k.receiver b x receiver).there in
+      let found = value_in (get st.shutdowns x.shutdown) (k.receiver b x receiver).there in
       let same : (shutdown_at (hall_of st next) x.shutdown).receivers.number ≡ found.0.core.receivers.number = ap (λ (r : Shutdown). r.receivers.number) (shutdown-at st next x.shutdown found.0 found.1) in
       let lives = receiver_lives st next 0 b x.shutdown found.0 x k found.1 receiver refl plain in
       omega (arith, same, lives)

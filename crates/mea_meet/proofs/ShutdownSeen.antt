@@ -13,8 +13,9 @@ use Rattle.mea_meet.specs.declared.shutdowns.ShutdownHall.TheInside.{Inside}
 use Rattle.mea_meet.specs.StandsFor.{StandsForShutdown, StandsForCount}
 use Rattle.mea_meet.specs.ShutdownHall.{Store, store_of, slot_in, OfSignal, OfReceivers, slots_of, shutdown_of, receiver_of, wait_of, hall_of, receivers_in, waits_in, borrowers_in, is_full, IsKept}
 use Rattle.mea_meet.proofs.Names.{waiting-wakers}
-use Rattle.mea_meet.proofs.Maps.{Puts, put_here, get-seen, total-named, kept-at, is_some-map, kept-none, is_empty, seen-empty}
+use Rattle.mea_meet.proofs.Maps.{Puts, put_here, total-named, kept-none, is_empty, seen-empty}
 use Rattle.mea_meet.proofs.Slots.{named_none}
+use Rattle.mea_base.proofs.NamedMaps.{get-seen, is_some-map, kept-at}
 
 module _ (st : Store) (n : ℕ) where
   pub shutdown-seen : (q : ℕ) → get (hall_of st n).shutdowns q ≡ option_map (shutdown_of st.waits n q) (get st.shutdowns q)

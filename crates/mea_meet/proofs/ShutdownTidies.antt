@@ -10,9 +10,10 @@ use Rattle.mea_meet.specs.declared.shutdown_entries.ShutdownEntry.{ShutdownEntry
 use Rattle.mea_meet.specs.declared.shutdown_entries.ReceiverEntry.{ReceiverEntry}
 use Rattle.mea_meet.specs.declared.shutdown_entries.ShutdownWaitEntry.{ShutdownWaitEntry}
 use Rattle.mea_meet.specs.ShutdownHall.{Store, shutdown_of, hall_of, senders_in, IsKeptEntry, IsKept}
-use Rattle.mea_meet.proofs.Maps.{Puts, put_other, total_puts, by_put, is_remove, weight-within, seen_puts, at_same}
+use Rattle.mea_meet.proofs.Maps.{Puts, put_other, total_puts, by_put, is_remove, weight-within, seen_puts}
 use Rattle.mea_meet.proofs.ShutdownChanges.{wakers_at, registered-seen}
 use Rattle.mea_meet.proofs.ShutdownSeen.{receivers-seen, waits-seen}
+use Rattle.mea_base.proofs.Tests.{at_same}
 
 module _ (st : Store) (next s : ℕ) (e : ShutdownEntry) (k : IsKept st next) (there : get st.shutdowns s ≡ Some e) where
   -- what is left is what the model counts

@@ -12,11 +12,12 @@ use Rattle.mea_meet.specs.declared.shutdown_entries.ReceiverEntry.{ReceiverEntry
 use Rattle.mea_meet.specs.declared.shutdown_entries.ShutdownWaitEntry.{ShutdownWaitEntry}
 use Rattle.mea_meet.specs.declared.shutdown_entries.ShutdownWait.TheVariants as waits
 use Rattle.mea_meet.specs.ShutdownHall.{Store, End, OfSignal, OfReceivers, awaits_of, slot_in, count_at, slots_of, shutdown_of, receiver_of, wait_of, hall_of, counting, borrowers_in, is_of, IsKeptEntry, IsKept}
-use Rattle.mea_meet.proofs.Maps.{Puts, puts_same, puts_seen, put_here, total_puts, is_same, is_insert, is_remove, belongs-none, belongs-some, inside, at_same}
+use Rattle.mea_meet.proofs.Maps.{Puts, puts_same, puts_seen, put_here, total_puts, is_same, is_insert, is_remove, belongs-none, belongs-some, inside}
 use Rattle.mea_meet.proofs.ShutdownChanges.{Changes, Unplaced, Keeps, kept_after, registered_after, wakers_at}
 use Rattle.mea_meet.proofs.ShutdownSeen.{receiver-seen}
 use Rattle.mea_meet.proofs.ShutdownStill.{no-sender, no-receiver, no-wait, entry_after, still_named, still_given, still_shutdowns}
 use Rattle.mea_meet.proofs.ShutdownPlays.{Goes, seen_before}
+use Rattle.mea_base.proofs.Tests.{at_same}
 
 -- a future was not polled
 unplaced : (s : ℕ) (borrowed : Option ℕ) (end : End) → Unplaced end (Some (record { shutdown = s; wait = waits.Signal None borrowed }))

@@ -7,7 +7,8 @@ use Rattle.mea_sets.specs.declared.place.Place.{Place}
 use Rattle.mea_sets.specs.WaitSet.{Registered, has_given}
 use Rattle.mea_meet.specs.Names.{Slots, waiting_at, AreNamed, AreGiven}
 use Rattle.mea_meet.proofs.Names.{waiting-alike, named-later}
-use Rattle.mea_meet.proofs.Maps.{Puts, Belongs, by_name, put_here, put_other}
+use Rattle.mea_meet.proofs.Maps.{Puts, Belongs, put_here, put_other}
+use Rattle.mea_base.proofs.Tests.{by_name}
 
 -- ---- one slot
 -- its parts

@@ -1,5 +1,5 @@
 -- names that are below a number, and things whose objects are there, after a change of a map
-use Rattle.std.proofs.Common.{◌≡◌, ℕ, ◌+◌, ◌<◌, ◌≤◌, ◌==◌, ◌⊎◌, inl, inr, Bool, true, false, cond, Some, refl, ap, sym, subst, arith}
+use Rattle.std.proofs.Common.{◌≡◌, ℕ, ◌+◌, ◌<◌, ◌≤◌, ◌==◌, ◌⊎◌, inl, inr, cond, Some, refl, ap, sym, subst, arith}
 use Rattle.std.specs.Option.{IsSome}
 use Rattle.std.specs.Ordering.{nat_cmp}
 use Rattle.std.specs.FinMap.{FinMap, get, insert, remove, empty}
@@ -8,14 +8,7 @@ use Rattle.mea_base.specs.Totals.{total, weight}
 use Rattle.mea_base.proofs.Totals.{total-zero, total-insert, total-remove}
 use Rattle.mea_meet_model.specs.Valid.{AreBelow, AreOf}
 use Rattle.mea_base.proofs.Maps.{by_put, by_gone, is_absent, inside, removed_there, get-removed_other, total-has, nothing_at, nothing_there}
-
-pub on_true : (b : Bool) (n : ℕ) → b ≡ true → cond b n 0 ≡ n
-on_true true n h = refl
-on_true false n h = absurd (cc)
-
-pub on_false : (b : Bool) (n : ℕ) → b ≡ false → cond b n 0 ≡ 0
-on_false true n h = absurd (cc)
-on_false false n h = refl
+use Rattle.mea_base.proofs.Tests.{on_true, on_false}
 
 -- ---- the empty map
 pub below-none : (X : Type 0) (n : ℕ) → AreBelow (empty {X = X} {R = nat_cmp}) n

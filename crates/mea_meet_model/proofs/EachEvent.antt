@@ -16,7 +16,7 @@ use Rattle.mea_meet_model.specs.Groups.{Groups}
 use Rattle.mea_meet_model.specs.Shutdowns as shutdowns
 use Rattle.mea_meet_model.specs.Shutdowns.{Shutdowns}
 use Rattle.mea_meet_model.specs.Hall.{Hall, empty_hall}
-use Rattle.mea_meet_model.specs.Cause.{cause_of, unknown_unless, borrowed_by}
+use Rattle.mea_meet_model.specs.Cause.{cause_of, borrowed_by}
 use Rattle.mea_meet_model.specs.Step.{step, on_barriers, on_latches, on_groups, on_shutdowns}
 use Rattle.mea_meet_model.specs.Meets.{Future, AtBarrier, ForLatch, ForGroup, ForShutdown, waker_if, polled, name, lives, placed}
 use Rattle.mea_meet_model.specs.Valid.{HasBarriers, IsValid}
@@ -27,13 +27,10 @@ use Rattle.mea_meet_model.proofs.LatchWakes as at_latches
 use Rattle.mea_meet_model.proofs.GroupWakes as at_groups
 use Rattle.mea_meet_model.proofs.ShutdownKept.{shutdowns-empty, shutdowns-later}
 use Rattle.mea_meet_model.proofs.LiveShutdowns.{live-empty}
+use Rattle.mea_base.proofs.Tests.{known}
 use Rattle.mea_meet_model.proofs.ShutdownWakes as at_shutdowns
 
 -- ---- causes
-pub known : (b : Bool) → unknown_unless b ≡ None → b ≡ true
-known true cause = refl
-known false cause = absurd (cc)
-
 not_borrowed : (b : Bool) (n : ℕ) → borrowed_by b n ≡ None → (b ≡ true) × (n ≡ 0)
 not_borrowed true n cause = (refl, by_test (nat_lt 0 n) refl cause)
   where

@@ -17,7 +17,8 @@ use Rattle.mea_meet_model.proofs.BarrierWakes as at_barriers
 use Rattle.mea_meet_model.proofs.LatchWakes as at_latches
 use Rattle.mea_meet_model.proofs.GroupWakes as at_groups
 use Rattle.mea_meet_model.proofs.ShutdownWakes as at_shutdowns
-use Rattle.mea_meet_model.proofs.EachEvent.{known, steps, valid_empty}
+use Rattle.mea_meet_model.proofs.EachEvent.{steps, valid_empty}
+use Rattle.mea_base.proofs.Tests.{known}
 
 -- every hall that events reach is valid
 pub valid_run : (r : RunOf meets) → Runs meets r → IsValid r.hall r.next

@@ -7,7 +7,8 @@ use Rattle.mea_meet_model.specs.Count.{decreased, without_future}
 use Rattle.mea_meet_model.specs.Shutdowns.{Shutdowns, Shutdown, Receiver, ShutdownWait, Awaited, Receivers, no_shutdowns, new_shutdown, shutdown_at, senders_of, receivers_of, waits_of, awaited, with_awaited, with_shutdown, with_wait, tidied, make, gone}
 use Rattle.mea_meet_model.specs.Valid.{HasShutdowns, HasLiveShutdowns}
 use Rattle.mea_base.proofs.Maps.{by_put, by_gone, get-other, nothing_there}
-use Rattle.mea_meet_model.proofs.Belongs.{on_true, on_false, sum-put, sum-gone}
+use Rattle.mea_meet_model.proofs.Belongs.{sum-put, sum-gone}
+use Rattle.mea_base.proofs.Tests.{on_true, on_false}
 
 pub live-empty : HasLiveShutdowns no_shutdowns
 live-empty = λ s there. absurd (nothing_there Shutdown s there)

@@ -12,7 +12,8 @@ use Rattle.mea_meet_model.specs.Shutdowns.{Shutdowns, Shutdown, Receiver, Shutdo
 use Rattle.mea_meet_model.specs.Valid.{AreBelow, IsQuietAtEnd, counted_receivers, receiver_of, waiting_signal, waiting_end, HasShutdowns}
 use Rattle.mea_base.proofs.Maps.{by_put, by_gone, by_at_put, by_at_gone, at-empty, get-there, get-other, get-removed_other, removed_there, inside, is_there, nothing_at, nothing_there, total-has}
 use Rattle.mea_meet_model.proofs.Waiting.{registering-had, ending-there, ending-had, decreased-had, quiet-decreased, quiet-ending, quiet-increased}
-use Rattle.mea_meet_model.proofs.Belongs.{on_true, on_false, fresh, below-none, of-none, below-later, below-put, below-over, below-gone, of-objects_put, of-put, of-gone, of-objects_gone, sum-put, sum-gone}
+use Rattle.mea_meet_model.proofs.Belongs.{fresh, below-none, of-none, below-later, below-put, below-over, below-gone, of-objects_put, of-put, of-gone, of-objects_gone, sum-put, sum-gone}
+use Rattle.mea_base.proofs.Tests.{on_true, on_false}
 
 -- ---- who counts as a receiver of s
 pub counts_not : (a b : Bool) (n : ℕ) → b ≡ true → cond (a && not b) n 0 ≡ 0

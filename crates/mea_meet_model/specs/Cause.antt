@@ -13,10 +13,7 @@ use Rattle.mea_meet_model.specs.Groups.{Groups}
 use Rattle.mea_meet_model.specs.Shutdowns as shutdowns
 use Rattle.mea_meet_model.specs.Shutdowns.{Shutdowns, Receiver}
 use Rattle.mea_meet_model.specs.Hall.{Hall}
-
--- unknown, unless this holds
-abbrev pub unknown_unless : Bool → Option Stop
-unknown_unless known = if known then None else Some stops.Unknown
+use Rattle.mea_base.specs.Causes.{unknown_unless}
 
 -- unknown, unless this is known; and then borrowed where there are so many borrowers
 abbrev pub borrowed_by : Bool → ℕ → Option Stop

@@ -3,13 +3,14 @@ use Rattle.std.proofs.Common.{◌≡◌, ◌⊎◌, inl, inr, ℕ, ◌+◌, ◌-
 use Rattle.std.specs.List.{AllByRecursion}
 use Rattle.std.specs.Ordering.{nat_cmp}
 use Rattle.std.specs.FinMap.{FinMap, get, insert}
-use Rattle.std.proofs.lemmas.Bool.{eqb-true, eqb-false, eq-eqb, ne_eqb}
+use Rattle.std.proofs.lemmas.Bool.{eqb-true, eqb-false}
 use Rattle.std.proofs.lemmas.Bool.Decides.{nat_tests}
 use Rattle.std.proofs.lemmas.List.Sums.{sum_by-cons}
 use Rattle.mea_base.specs.Queue.{lacks_after, waiting_after, granted_in}
 use Rattle.mea_base.proofs.Totals.{get_inserted}
 use Rattle.mea_sem_core.specs.Core.{Waiter, Acquires, Owes, waiting, waker_under, AreApart, granting, debts, debt_of}
 use Rattle.mea_sem_core.specs.Calls.{with_waker, without_acquire, with_debt}
+use Rattle.mea_base.proofs.Tests.{at_same, at_apart}
 
 abbrev pub Queue : Type 0
 Queue = List (Waiter ℕ × ℕ)
@@ -18,12 +19,6 @@ Queue = List (Waiter ℕ × ℕ)
 pub by_same : {X : Type 0} (m n : ℕ) (x y z : X) → (m ≡ n → x ≡ z) → ((m ≡ n → ⊥) → y ≡ z) → cond (m == n) x y ≡ z
 by_same m n x y z same apart = elim (m == n) as (λ b. (m == n) ≡ b → cond b x y ≡ z)
     [ true ↦ λ e. same (eqb-true m n e) | false ↦ λ e. apart (eqb-false m n e) ] refl
-
-pub at_same : {X : Type 0} (m n : ℕ) (x y : X) → m ≡ n → cond (m == n) x y ≡ x
-at_same m n x y e = ap (λ b. cond b x y) (eq-eqb m n e)
-
-pub at_apart : {X : Type 0} (m n : ℕ) (x y : X) → (m ≡ n → ⊥) → cond (m == n) x y ≡ y
-at_apart m n x y e = ap (λ b. cond b x y) (ne_eqb m n e)
 
 -- ---- who waits has a waker
 pub waker-none : (q : Queue) (n : ℕ) → waiting q n ≡ None → waker_under q n ≡ None

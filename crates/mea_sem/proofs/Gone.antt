@@ -15,9 +15,9 @@ use Rattle.std.proofs.lemmas.Bool.{eqb-true, eq-eqb, and_from, and_parts}
 use Rattle.std.proofs.Common.{◌&&◌}
 use Rattle.mea_base.proofs.Totals.{get_removed}
 use Rattle.mea_sem.specs.Store.{is_under}
-use Rattle.mea_sem.proofs.Cores.{at_same, at_apart}
-use Rattle.mea_sem.proofs.Names.{get-seen}
 use Rattle.mea_sem.proofs.Changes.{Changes, linked_after, queue_kept, semaphores_after, futures_gone}
+use Rattle.mea_base.proofs.Tests.{at_same, at_apart}
+use Rattle.mea_base.proofs.NamedMaps.{get-seen}
 
 -- a future as it is seen, at a stage that is known
 pub seen_future : (st : Store) (b f : ℕ) (x : FutureEntry) (e : SemaphoreEntry) (a : Acquire) (z : Stage) → get st.futures f ≡ Some x

@@ -16,7 +16,7 @@ use Rattle.mea_sem.specs.Store.{Store, is_under, stage_of, stage_under, queue_in
 use Rattle.mea_sem.specs.StandsFor.{one_if_granted, granted_futures}
 use Rattle.mea_sem.proofs.Cores.{waker-none, waker-some}
 use Rattle.mea_sem.proofs.Matching.{Matches, matches_count}
-use Rattle.mea_sem.proofs.Names.{get-seen}
+use Rattle.mea_base.proofs.NamedMaps.{get-seen}
 
 abbrev number_of : Acquire → ℕ
 number_of (acquires.New d) = 0

@@ -10,13 +10,14 @@ use Rattle.mea_sem_model.specs.Hall.{Hall}
 use Rattle.mea_sem_model.specs.Cause.{cause_of}
 use Rattle.mea_sem_model.specs.Step.{step}
 use Rattle.mea_sem_model.specs.Valid.{IsValid, IsBelow, IsAccounted, Fits}
-use Rattle.mea_sem_model.proofs.Keeps.{keeps_valid, keeps_below, keeps_account, below_later}
+use Rattle.mea_sem_model.proofs.Keeps.{keeps_below, keeps_account, below_later}
 use Rattle.mea_sem_core.specs.Core as cores
 use Rattle.mea_sem.specs.declared.entries.SemaphoreEntry.{SemaphoreEntry}
 use Rattle.mea_sem.specs.Store.{Store, hall_of, IsLinked}
 use Rattle.mea_sem.specs.Kept.{wakers_in, IsKeptEntry, IsKept}
-use Rattle.mea_sem.proofs.Cores.{at_same, at_apart}
 use Rattle.mea_sem.proofs.Weighs.{Weighs}
+use Rattle.mea_base.proofs.Tests.{at_same, at_apart}
+use Rattle.mea_sem_model.proofs.StaysValid.{kept_valid}
 
 -- event i is played on what is kept
 pub record Plays (st st' : Store) (next i : ℕ) (event : SemEvent) (w' sp' : ℕ) : Type 0 where
@@ -43,7 +44,7 @@ module _ (st st' : Store) (w sp next i s : ℕ) (event : SemEvent) (e e' : Semap
   settled w' sp' a b p r there semaphores same linked weighs settles registered room few = record {
     hall = same;
     kept = record {
-      valid = subst IsValid (sym same) (keeps_valid (hall_of st next) i event k.valid (below_later (hall_of st next) next i less k.below) fits allowed);
+      valid = subst IsValid (sym same) (kept_valid (hall_of st next) i event k.valid (below_later (hall_of st next) next i less k.below) fits allowed);
       below = subst (λ h. IsBelow h (i + 1)) (sym same)
           (keeps_below (hall_of st next) i event k.valid (below_later (hall_of st next) next i less k.below) allowed);
       accounted = λ q. subst (λ h. IsAccounted h q) (sym same)

@@ -12,8 +12,9 @@ use Rattle.mea_sem.specs.StandsFor.{core_waker, StandsFor}
 use Rattle.mea_sem.proofs.Cores.{Queue, IsAt, all_at}
 use Rattle.mea_sem.proofs.Granted.{granted-seen}
 use Rattle.mea_sem.proofs.Lives.{live-seen}
-use Rattle.mea_sem.proofs.Names.{get-seen, name-owner}
+use Rattle.mea_sem.proofs.Names.{name-owner}
 use Rattle.mea_sem.proofs.PourHalls.{seen_at}
+use Rattle.mea_base.proofs.NamedMaps.{get-seen}
 
 module _ (st : Store) (b s : ℕ) (e : SemaphoreEntry) (linked : IsLinked st b) (there : get st.semaphores s ≡ Some e) where
   -- who waits in the core has the waker of the future that it names

@@ -5,8 +5,8 @@ use Rattle.std.specs.Cmp.{nat_cmp_total}
 use Rattle.std.specs.FinMap.{FinMap, find, get, remove, entries, get-entries, get-empty, len, len-entries, len-remove, contains_key, empty_of_len}
 use Rattle.std.proofs.lemmas.Bool.{eqb-false, eq-eqb}
 use Rattle.mea_base.specs.Totals.{total, weight}
-use Rattle.mea_base.proofs.Totals.{same_test, get_removed, total-remove, total-zero}
-use Rattle.mea_sem.proofs.Cores.{at_apart}
+use Rattle.mea_base.proofs.Totals.{get_removed, total-remove, total-zero}
+use Rattle.mea_base.proofs.Tests.{same_test, at_apart}
 
 -- some entry of a map that is not empty
 an_entry : (m : FinMap nat_cmp ℕ) (es : List (ℕ × ℕ)) → entries m ≡ es → 0 < length es → (k : ℕ) × (v : ℕ) × (get m k ≡ Some v)

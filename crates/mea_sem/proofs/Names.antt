@@ -1,26 +1,14 @@
 -- which future a number of a core names
-use Rattle.std.proofs.Common.{◌≡◌, ℕ, zero, suc, ◌<◌, Bool, true, false, cond, List, [], ◌∷◌, refl, ap, sym, ◌∙◌, arith, Option, Some, None, inl, inr}
+use Rattle.std.proofs.Common.{◌≡◌, ℕ, zero, suc, ◌<◌, Bool, true, false, cond, [], ◌∷◌, refl, ap, sym, ◌∙◌, arith, Option, Some, None, inl, inr}
 use Rattle.std.specs.List.{AllByRecursion}
-use Rattle.std.specs.Option.{option_map}
 use Rattle.std.specs.Ordering.{nat_cmp}
-use Rattle.std.specs.BTreeMap.{is_at}
-use Rattle.std.specs.FinMap.{FinMap, find, get, entries, get-entries}
+use Rattle.std.specs.FinMap.{FinMap, get}
 use Rattle.std.proofs.lemmas.Bool.{eqb-true, eq-eqb, and_from, and_parts, cases_eq}
-use Rattle.mea_base.specs.Named.{named, at}
-use Rattle.mea_base.proofs.NamedMaps.{get-named}
 use Rattle.mea_sem_core.specs.declared.acquire.Acquire.{Acquire}
 use Rattle.mea_sem_core.specs.declared.acquire.Acquire.TheVariants.{Queued}
 use Rattle.mea_sem.specs.declared.entries.FutureEntry.{FutureEntry}
 use Rattle.mea_sem.specs.Store.{Store, is_under, has, name_of, who_of, queue_of, IsOwned, IsLinked}
 use Rattle.mea_sem.proofs.Cores.{Queue}
-
--- ---- what is seen of a map
-find-at : {X : Type 0} (es : List (ℕ × X)) (q : ℕ) → find nat_cmp q es ≡ at es q
-find-at [] q = refl
-find-at (e ∷ es) q = ap (cond (is_at (nat_cmp q) e.0) (Some e.1)) (find-at es q)
-
-pub get-seen : {X Y : Type 0} (f : ℕ → X → Y) (m : FinMap nat_cmp X) (q : ℕ) → get (named f (entries m)) q ≡ option_map (f q) (get m q)
-get-seen f m q = get-named f (entries m) q ∙ ap (option_map (f q)) (sym (find-at (entries m) q) ∙ sym (get-entries m q))
 
 -- ---- the search for a name
 pub name_of-found : (m : FinMap nat_cmp FutureEntry) (b s n f : ℕ) → f < b → has s n (get m f) ≡ true → ((g : ℕ) → has s n (get m g) ≡ true → g ≡ f)

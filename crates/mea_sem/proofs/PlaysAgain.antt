@@ -15,12 +15,14 @@ use Rattle.mea_sem.specs.declared.entries.SemaphoreEntry.{SemaphoreEntry}
 use Rattle.mea_sem.specs.declared.entries.FutureEntry.{FutureEntry}
 use Rattle.mea_sem.specs.Store.{Store, is_under, has, name_of, who_of, queue_of, queue_in, semaphore_of, stage_of, stage_under, future_of, hall_of, IsOpen, IsOwned, IsNumbered, IsLinked}
 use Rattle.mea_sem.specs.Kept.{wakers_in, IsKept}
-use Rattle.mea_sem.proofs.Cores.{IsAt, all_at, all_by, at_same, waiting-with_waker, waker-with_waker, waker-with_waker_same, debts-with_waker, AreApart-with_waker}
-use Rattle.mea_sem.proofs.Names.{get-seen, name-owner, queue_of-same}
+use Rattle.mea_sem.proofs.Cores.{IsAt, all_at, all_by, waiting-with_waker, waker-with_waker, waker-with_waker_same, debts-with_waker, AreApart-with_waker}
+use Rattle.mea_sem.proofs.Names.{name-owner, queue_of-same}
 use Rattle.mea_sem.proofs.Changes.{Changes, linked_after, semaphores_after, futures_put}
 use Rattle.mea_sem.proofs.Weighs.{weighs_future}
 use Rattle.mea_sem.proofs.Keeping.{Plays, settled_as}
 use Rattle.mea_sem.proofs.PlaysPermits.{as_it_was}
+use Rattle.mea_base.proofs.Tests.{at_same}
+use Rattle.mea_base.proofs.NamedMaps.{get-seen}
 
 abbrev first_or_none : Option (ℕ × ℕ) → ℕ
 first_or_none None = 0

@@ -16,7 +16,6 @@ use Rattle.mea_sem.specs.declared.entries.FutureEntry.{FutureEntry}
 use Rattle.mea_sem.specs.Store.{Store, queue_of, semaphore_of, stage_under, hall_of}
 use Rattle.mea_sem.specs.Kept.{IsKept}
 use Rattle.mea_sem.proofs.Cores.{waker-none, waker-some, debts-without}
-use Rattle.mea_sem.proofs.Names.{get-seen}
 use Rattle.mea_sem.proofs.PourHalls.{seen_at}
 use Rattle.mea_sem.proofs.Still.{IsStill, still_queue, linked_still, queue_still, hall_still}
 use Rattle.mea_sem.proofs.Gone.{seen_future, Leaves, linked_gone, hall_gone, leaves_new, leaves_granted}
@@ -26,6 +25,7 @@ use Rattle.mea_sem.proofs.Keeping.{Plays, settled_as}
 use Rattle.mea_sem.proofs.PlaysPermits.{as_it_was, permit_counts}
 use Rattle.mea_sem.proofs.PlaysReady.{future_counts}
 use Rattle.mea_sem.proofs.PlaysPours.{poured_entry, between, between_at, wakes_poured, plays_poured}
+use Rattle.mea_base.proofs.NamedMaps.{get-seen}
 
 -- an event's hall and its wakes, as the code leaves them
 pub record PlaysWith (st st' : Store) (next i : ℕ) (event : SemEvent) (w' sp' : ℕ) (woken : List ℕ) : Type 0 where

@@ -17,14 +17,16 @@ use Rattle.mea_sem.specs.declared.entries.SemaphoreEntry.{SemaphoreEntry}
 use Rattle.mea_sem.specs.declared.entries.FutureEntry.{FutureEntry}
 use Rattle.mea_sem.specs.Store.{Store, is_under, has, name_of, who_of, queue_of, queue_in, semaphore_of, stage_under, future_of, hall_of, IsOpen, IsNumbered}
 use Rattle.mea_sem.specs.Kept.{wakers_in, IsKept}
-use Rattle.mea_sem.proofs.Cores.{at_same, at_apart, waiting-push, waker-push, debts-push, AreApart-push}
-use Rattle.mea_sem.proofs.Names.{get-seen, has-from, name-has}
+use Rattle.mea_sem.proofs.Cores.{waiting-push, waker-push, debts-push, AreApart-push}
+use Rattle.mea_sem.proofs.Names.{has-from, name-has}
 use Rattle.mea_sem.proofs.PourHalls.{seen_at}
 use Rattle.mea_sem.proofs.Still.{no_future}
 use Rattle.mea_sem.proofs.Changes.{Changes, linked_after, queue_kept, semaphores_after, futures_put}
 use Rattle.mea_sem.proofs.Weighs.{one, weighs_new_future, weighs_future}
 use Rattle.mea_sem.proofs.Keeping.{Plays, settled_as}
 use Rattle.mea_sem.proofs.PlaysPermits.{as_it_was}
+use Rattle.mea_base.proofs.Tests.{at_same, at_apart}
+use Rattle.mea_base.proofs.NamedMaps.{get-seen}
 
 abbrev first_or_none : Option (ℕ × ℕ) → ℕ
 first_or_none None = 0

@@ -5,22 +5,22 @@ use Rattle.std.specs.Ordering.{nat_cmp}
 use Rattle.std.specs.FinMap.{get, insert, empty, get-empty}
 use Rattle.std.proofs.lemmas.Bool.{eqb-true, eqb-false}
 use Rattle.mea_base.specs.Totals.{total, weight}
-use Rattle.mea_base.proofs.NamedMaps.{same_named}
+use Rattle.mea_base.proofs.NamedMaps.{same_named, get-seen}
 use Rattle.mea_base.proofs.Totals.{get_inserted, total-insert, total-zero}
 use Rattle.mea_sem_model.specs.declared.event.SemEvent.TheVariants as events
 use Rattle.mea_sem_model.specs.Hall.{Hall, Future, Permit, made_with, held, plain_things, with_semaphore}
 use Rattle.mea_sem_model.specs.Valid.{IsValid, IsBelow, IsAccounted}
-use Rattle.mea_sem_model.proofs.Keeps.{keeps_valid, keeps_below, keeps_account, below_later}
+use Rattle.mea_sem_model.proofs.Keeps.{keeps_below, keeps_account, below_later}
 use Rattle.mea_sem_core.specs.Core as cores
 use Rattle.mea_sem.specs.declared.entries.SemaphoreEntry.{SemaphoreEntry}
 use Rattle.mea_sem.specs.declared.entries.FutureEntry.{FutureEntry}
 use Rattle.mea_sem.specs.Store.{Store, semaphore_of, stage_of, queue_in, future_of, hall_of, IsHome, IsOwned, IsNumbered, IsLinked}
 use Rattle.mea_sem.specs.Kept.{wakers_in, IsKeptEntry, IsKept}
-use Rattle.mea_sem.proofs.Cores.{at_same, at_apart}
-use Rattle.mea_sem.proofs.Names.{get-seen}
 use Rattle.mea_sem.proofs.Renumbered.{hall_renumbered}
 use Rattle.mea_sem.proofs.Keeping.{Plays}
 use Rattle.mea_sem_core.specs.Acquire.{demand_of}
+use Rattle.mea_base.proofs.Tests.{at_same, at_apart}
+use Rattle.mea_sem_model.proofs.StaysValid.{kept_valid}
 
 abbrev pub fresh_core : ℕ → cores.Core ℕ
 fresh_core n = record { free = n; live = n; queue = []; granted = empty; wakes = [] }
@@ -202,7 +202,7 @@ module _ (st : Store) (w sp next i : ℕ) (k : IsKept st w sp next) (less : next
       hall = hall_now;
       kept = record {
         valid = subst IsValid (sym hall_now)
-            (keeps_valid (hall_of st next) i (events.New n) k.valid (below_later (hall_of st next) next i less k.below) small refl);
+            (kept_valid (hall_of st next) i (events.New n) k.valid (below_later (hall_of st next) next i less k.below) small refl);
         below = subst (λ h. IsBelow h (i + 1)) (sym hall_now)
             (keeps_below (hall_of st next) i (events.New n) k.valid (below_later (hall_of st next) next i less k.below) refl);
         accounted = λ q. subst (λ h. IsAccounted h q) (sym hall_now)

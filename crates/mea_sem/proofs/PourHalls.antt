@@ -6,10 +6,10 @@ use Rattle.std.specs.Ordering.{nat_cmp}
 use Rattle.std.specs.FinMap.{FinMap, get}
 use Rattle.std.proofs.lemmas.Bool.{eqb-true, eqb-false, eq-eqb}
 use Rattle.mea_base.specs.Queue.{waiting_after, granted_in, left_over}
-use Rattle.mea_base.proofs.NamedMaps.{same_named}
+use Rattle.mea_base.proofs.NamedMaps.{same_named, get-seen}
 use Rattle.mea_base.proofs.Totals.{get_inserted}
 use Rattle.mea_base.proofs.Queues.{waiting_after-map, granted_in-map, lacks-map, granted_in_keeps}
-use Rattle.mea_sem_model.specs.Hall.{Future, Stage, Granted, Who, Waiter, Debt, made_with, semaphore_at, queue_at, poured, granted, grant_if, grant_who, grant_all, pour, waker_of, waker_of_future, waker_of_who, wakes_of, names}
+use Rattle.mea_sem_model.specs.Hall.{Future, Stage, Granted, Who, made_with, semaphore_at, queue_at, poured, granted, grant_if, grant_all, pour, waker_of, waker_of_future, waker_of_who, wakes_of, names}
 use Rattle.mea_sem_core.specs.declared.acquire.Acquire.{Acquire}
 use Rattle.mea_sem_core.specs.declared.acquire.Acquire.TheVariants as acquires
 use Rattle.mea_sem_core.specs.Acquire.{demand_of}
@@ -18,8 +18,10 @@ use Rattle.mea_sem_core.specs.Calls.{Belongs}
 use Rattle.mea_sem.specs.declared.entries.SemaphoreEntry.{SemaphoreEntry}
 use Rattle.mea_sem.specs.declared.entries.FutureEntry.{FutureEntry}
 use Rattle.mea_sem.specs.Store.{Store, is_under, has, name_of, who_of, queue_of, semaphore_of, stage_of, stage_under, queue_in, future_of, hall_of, IsHome, IsOwned, IsNumbered, IsLinked}
-use Rattle.mea_sem.proofs.Cores.{IsAt, all_at, all_by, at_same, at_apart, is_number, is_among, Splits, pour_splits, AreApart-waiting_after, granting-other, granted-poured}
-use Rattle.mea_sem.proofs.Names.{get-seen, has-parts, has-from, owner_has, name-has, name-owner}
+use Rattle.mea_sem.proofs.Cores.{IsAt, all_at, all_by, is_number, is_among, Splits, pour_splits, AreApart-waiting_after, granting-other, granted-poured}
+use Rattle.mea_sem.proofs.Names.{has-parts, has-from, owner_has, name-has, name-owner}
+use Rattle.mea_base.proofs.Tests.{at_same, at_apart}
+use Rattle.mea_sem_model.proofs.HallLemmas.{get-grant_all}
 
 -- the core after a pour, as the queue and the granted numbers see it
 pub record PoursInto (st st' : Store) (s n : ℕ) (e e' : SemaphoreEntry) : Type 0 where
@@ -53,21 +55,12 @@ get-grant_if m f q (Some x) is = get_inserted m f q (granted x)
       | false ↦ λ h. refl
     ] refl
 
-get-grant_who : (m : FinMap nat_cmp Future) (w : Who) (q : ℕ) → get (grant_who m w) q ≡ cond (names w q) (option_map granted (get m q)) (get m q)
-get-grant_who m (Waiter f) q = get-grant_if m f q (get m f) refl
-get-grant_who m Debt q = refl
-
 twice : (a b : Bool) (o : Option Future) → cond b (option_map granted (cond a (option_map granted o) o)) (cond a (option_map granted o) o) ≡ cond
     (a || b) (option_map granted o) o
 twice true true None = refl
 twice true true (Some x) = refl
 twice true false o = refl
 twice false b o = refl
-
-pub get-grant_all : (ws : List Who) (m : FinMap nat_cmp Future) (q : ℕ) → get (grant_all ws m) q ≡ cond (among ws q) (option_map granted (get m q)) (get m q)
-get-grant_all [] m q = refl
-get-grant_all (w ∷ ws) m q = get-grant_all ws (grant_who m w) q
-    ∙ ap (λ o. cond (among ws q) (option_map granted o) o) (get-grant_who m w q) ∙ twice (names w q) (among ws q) (get m q)
 
 module _ (st : Store) (b s : ℕ) (e : SemaphoreEntry) (linked : IsLinked st b) (there : get st.semaphores s ≡ Some e) where
   pub seen_at : semaphore_at (hall_of st b) s ≡ semaphore_of st.futures b s e

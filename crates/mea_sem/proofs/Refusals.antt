@@ -1,9 +1,9 @@
 -- what a look-up among the kept entries says of the hall
-use Rattle.std.proofs.Common.{◌≡◌, ℕ, false, refl, ap, sym, subst, ◌∙◌, Option, Some, None, is_some}
+use Rattle.std.proofs.Common.{◌≡◌, ℕ, false, ap, sym, subst, ◌∙◌, Option, Some, None, is_some}
 use Rattle.std.specs.Option.{option_map}
 use Rattle.std.specs.FinMap.{get}
 use Rattle.mea_base.specs.Named.{at}
-use Rattle.mea_base.proofs.NamedMaps.{get-named}
+use Rattle.mea_base.proofs.NamedMaps.{get-named, get-seen, is_some-map, kept-at, found}
 use Rattle.mea_sem_model.specs.Cause.{is_named, is_named_semaphore, is_future, is_permit}
 use Rattle.mea_sem.specs.declared.entries.SemaphoreEntry.{SemaphoreEntry}
 use Rattle.mea_sem.specs.declared.hall.SemHall.TheInside.{Inside}
@@ -14,12 +14,6 @@ use Rattle.mea_sem.proofs.Lives.{live-seen}
 use Rattle.mea_sem.proofs.Lends.{stands_for}
 use Rattle.mea_sem.proofs.Meets.{store_in, seen_in, IsKeptIn}
 use Rattle.mea_sem.specs.Store.{permit_of, semaphore_of, future_of}
-use Rattle.mea_sem.proofs.Names.{get-seen}
-use Rattle.mea_sem.proofs.Standing.{kept-at, found}
-
-is_some-map : {X Y : Type 0} (f : X → Y) (o : Option X) → is_some (option_map f o) ≡ is_some o
-is_some-map f None = refl
-is_some-map f (Some x) = refl
 
 module _ (a : Inside) {v : Play} (seen : seen_in a ≡ v) (k : ℕ) where
   named-at : (o : Option SemaphoreEntry) → at a.semaphores.entries k ≡ o

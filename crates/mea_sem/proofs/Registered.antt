@@ -15,7 +15,7 @@ use Rattle.mea_sem.specs.Play.{Play}
 use Rattle.mea_sem.specs.Store.{queue_of, semaphore_of}
 use Rattle.mea_sem.specs.Kept.{wakers_in}
 use Rattle.mea_sem.proofs.Meets.{store_in, hall_in, seen_in, IsKeptIn}
-use Rattle.mea_sem.proofs.Names.{get-seen}
+use Rattle.mea_base.proofs.NamedMaps.{get-seen}
 
 waiters-seen : (m : FinMap nat_cmp FutureEntry) (b s : ℕ) (q : List (cores.Waiter ℕ × ℕ)) → waiters_in (queue_of m b s q) ≡ wakers_in q
 waiters-seen m b s [] = refl

@@ -2,7 +2,7 @@
 use Rattle.std.proofs.Common.{◌≡◌, ℕ, ◌+◌, ◌^◌, ◌<◌, ◌≤◌, refl, ap, sym, subst, ◌∙◌, arith, Option, Some, None}
 use Rattle.std.specs.Option.{option_map}
 use Rattle.std.specs.FinMap.{get}
-use Rattle.mea_base.proofs.NamedMaps.{same_named}
+use Rattle.mea_base.proofs.NamedMaps.{same_named, get-seen}
 use Rattle.mea_sem_model.specs.Hall.{Waiter}
 use Rattle.mea_sem_model.specs.Valid.{IsValid, IsBelow, IsAccounted}
 use Rattle.mea_sem_model.proofs.Keeps.{below_later}
@@ -11,7 +11,7 @@ use Rattle.mea_sem.specs.declared.entries.SemaphoreEntry.{SemaphoreEntry}
 use Rattle.mea_sem.specs.Store.{Store, who_of, queue_of, semaphore_of, hall_of, IsLinked}
 use Rattle.mea_sem.specs.Kept.{IsKeptEntry, IsKept}
 use Rattle.mea_sem.proofs.Cores.{IsAt, all_at, all_by}
-use Rattle.mea_sem.proofs.Names.{get-seen, name-owner, queue_of-same}
+use Rattle.mea_sem.proofs.Names.{name-owner, queue_of-same}
 
 module _ (st : Store) (b b' : ℕ) (linked : IsLinked st b) (more : b ≤ b') where
   pub linked_later : IsLinked st b'

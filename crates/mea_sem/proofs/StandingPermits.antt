@@ -10,12 +10,12 @@ use Rattle.mea_base.specs.declared.answer.Answer.{Answer}
 use Rattle.mea_base.specs.declared.answer.Answer.TheVariants as answers
 use Rattle.mea_base.specs.Named.{named, at}
 use Rattle.mea_base.specs.Queue.{granted_in}
-use Rattle.mea_base.proofs.NamedMaps.{get-named, named_put, named_remove, same_named, is_at-eq}
+use Rattle.mea_base.proofs.NamedMaps.{get-named, named_put, named_remove, same_named, is_at-eq, get-seen, kept-at, found}
 use Rattle.mea_base.proofs.Totals.{get_inserted}
 use Rattle.mea_sem_model.specs.declared.event.SemEvent.{SemEvent}
 use Rattle.mea_sem_model.specs.declared.event.SemEvent.TheVariants as events
 use Rattle.mea_sem_model.specs.Hall.{Hall, Permit, semaphore_at, with_semaphore}
-use Rattle.mea_sem_model.specs.Cause.{cause_of, is_permit, can_merge, are_of_one_kind, unknown_unless}
+use Rattle.mea_sem_model.specs.Cause.{cause_of, is_permit, can_merge, are_of_one_kind}
 use Rattle.mea_sem_model.specs.Valid.{Fits}
 use Rattle.mea_sem_model.specs.Step.{Outcome, step, quietly, taking, with_permit, try_of, lose_of, split_of, size_of, end_of, end_permit}
 use Rattle.mea_sem_core.specs.Core as cores
@@ -23,7 +23,6 @@ use Rattle.mea_sem.specs.declared.entries.SemaphoreEntry.{SemaphoreEntry}
 use Rattle.mea_sem.specs.declared.entries.PermitEntry.{PermitEntry}
 use Rattle.mea_sem.specs.Store.{Store, permit_of, store_of, semaphore_of}
 use Rattle.mea_sem.specs.Play.{Play}
-use Rattle.mea_sem.proofs.Names.{get-seen}
 use Rattle.mea_sem.proofs.PourHalls.{seen_at}
 use Rattle.mea_sem.proofs.Weighs.{one}
 use Rattle.mea_sem.proofs.PlaysSemaphores.{plays_nothing}
@@ -31,8 +30,10 @@ use Rattle.mea_sem.proofs.PlaysPermits.{plays_try, plays_lose, plays_merge, play
 use Rattle.mea_sem.proofs.PlaysEnds.{plays_end_permit}
 use Rattle.mea_sem.specs.declared.hall.SemHall.TheInside.{Inside}
 use Rattle.mea_sem.proofs.Meets.{store_in, hall_in, seen_in, IsKeptIn, Meets, MeetsSemaphore, MeetsPermit, Done, permits_semaphore, later, to_kept, done, done_quietly}
-use Rattle.mea_sem.proofs.Standing.{Semaphores, Permits, ChangesAt, kept-at, found, known, puts_of, semaphores_of}
+use Rattle.mea_sem.proofs.Standing.{Semaphores, Permits, ChangesAt, puts_of, semaphores_of}
 use Rattle.mea_sem.proofs.StandingSemaphores.{small_forgotten, wakers_few}
+use Rattle.mea_base.specs.Causes.{unknown_unless}
+use Rattle.mea_base.proofs.Tests.{known}
 
 -- what a call says where it succeeds, and where it fails
 pub on_success : {T E : Type 0} (P : Type 0) (r : Result T E) → is_err r ≡ false → OnOk r P → P

@@ -8,7 +8,7 @@ use Rattle.std.proofs.lemmas.Bool.{false≢true, le-leb, lt-leb, leb-true, eqb-t
 use Rattle.mea_base.specs.Named.{named, at}
 use Rattle.mea_base.specs.Totals.{total, weight}
 use Rattle.mea_base.specs.Queue.{granted_in}
-use Rattle.mea_base.proofs.NamedMaps.{same_named, get-named}
+use Rattle.mea_base.proofs.NamedMaps.{same_named, get-named, get-seen, kept-at, found}
 use Rattle.mea_base.proofs.Totals.{total-remove, total-empty}
 use Rattle.mea_base.specs.declared.answer.Answer.TheVariants as answers
 use Rattle.mea_base.specs.declared.ledger.Ledger.{Ledger}
@@ -29,14 +29,13 @@ use Rattle.mea_sem.specs.Entries.{ledger_of_entry}
 use Rattle.mea_sem.specs.Store.{Store, store_of, permit_of, semaphore_of, future_of, hall_of}
 use Rattle.mea_sem.specs.Kept.{wakers_in, IsKept}
 use Rattle.mea_sem.specs.Play.{Play}
-use Rattle.mea_sem.proofs.Names.{get-seen}
 use Rattle.mea_sem.proofs.PourHalls.{seen_at}
 use Rattle.mea_sem.proofs.PlaysSemaphores.{Puts, plays_nothing, plays_forget, plays_tried, plays_forgetx, plays_endsem}
 use Rattle.mea_sem.proofs.PlaysNew.{fresh_core, fresh_entry, plays_new}
 use Rattle.mea_sem.proofs.PlaysPours.{wakers_poured}
 use Rattle.mea_sem.proofs.PlaysEnds.{plays_release}
 use Rattle.mea_sem.proofs.Meets.{store_in, hall_in, seen_in, IsKeptIn, Meets, MeetsSemaphore, Done, later, to_kept, done, done_quietly}
-use Rattle.mea_sem.proofs.Standing.{Semaphores, Futures, Permits, ChangesAt, kept-at, kept-changed, found, puts_of, semaphores_of}
+use Rattle.mea_sem.proofs.Standing.{Semaphores, Futures, Permits, ChangesAt, kept-changed, puts_of, semaphores_of}
 use Rattle.mea_sem.proofs.Lives.{live-seen, ledger-seen}
 
 -- an event that names a semaphore which is not there has a cause

@@ -2,7 +2,8 @@ ghost use Rattle.std.specs.Prelude.{◌≡◌, is_some, IfSome, Some};
 ghost use Rattle.std.specs.Option.{option_map, option_copied};
 ghost use Rattle.std.specs.FinMap as map;
 ghost use Rattle.mea_sem_model.specs.Hall.{live, plain_things};
-ghost use Rattle.mea_sem_model.specs.Cause.{cause_of, is_named, is_future, is_permit, can_merge, are_of_one_kind, unknown_unless};
+ghost use Rattle.mea_base.specs.Causes.{unknown_unless};
+ghost use Rattle.mea_sem_model.specs.Cause.{cause_of, is_named, is_future, is_permit, can_merge, are_of_one_kind};
 ghost use Rattle.mea_sem.specs.Store.{permit_of};
 ghost use Rattle.mea_sem.specs.StandsFor.{StandsFor};
 

@@ -1,17 +1,11 @@
 -- where the debts of a queue stand, as the queue changes
-use Rattle.std.proofs.Common.{◌≡◌, ◌≢◌, ℕ, ◌+◌, ◌≤◌, Bool, true, false, cond, eqb, List, [], ◌∷◌, ◌++◌, filter, nat_lt, refl, inl, inr, arith}
+use Rattle.std.proofs.Common.{◌≡◌, ℕ, ◌+◌, ◌≤◌, Bool, true, false, cond, List, [], ◌∷◌, ◌++◌, filter, nat_lt, refl, inl, inr, arith}
 use Rattle.std.proofs.lemmas.Bool.{cases_eq, cond-false, ne_eqb}
-use Rattle.std.proofs.lemmas.Bool.Decides.{nat_tests}
 use Rattle.mea_base.specs.Queue.{lacks_after, waiting_after}
 use Rattle.mea_sem_core.specs.Core.{Waiter, Acquires, Owes, debts, paid_to_debts, HasNoDebt, HasDebtsFirst}
 use Rattle.mea_sem_core.specs.Calls.{with_waker, without_acquire, with_debt}
 use Rattle.mea_sem_core.proofs.Pours.{debts-cons}
-
-pub test_same : (m n : ℕ) → m ≡ n → eqb m n ≡ true
-test_same m n same = grind (arith, nat_tests)
-
-pub test_differs : (m n : ℕ) → m ≢ n → eqb m n ≡ false
-test_differs m n differs = grind (arith, nat_tests)
+use Rattle.mea_base.proofs.Tests.{test_same, test_differs}
 
 module _ {W : Type 0} where
   -- ---- a queue with no debt

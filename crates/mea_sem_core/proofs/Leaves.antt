@@ -1,5 +1,5 @@
 -- what an acquire that is polled again, or leaves, does to the queue
-use Rattle.std.proofs.Common.{◌≡◌, ◌≢◌, ℕ, suc, ◌+◌, ◌-◌, ◌≤◌, ◌⊎◌, Bool, true, false, cond, not, ◌||◌, eqb, List, [], ◌∷◌, length, get_or, IsSome, Option, Some, None, refl, sym, ap, ap₂, subst, ◌∙◌, inl, inr, arith}
+use Rattle.std.proofs.Common.{◌≡◌, ◌≢◌, ℕ, ◌+◌, ◌-◌, ◌≤◌, ◌⊎◌, Bool, true, false, cond, not, ◌||◌, eqb, List, [], ◌∷◌, length, get_or, IsSome, Option, Some, None, refl, sym, ap, ap₂, subst, ◌∙◌, inl, inr, arith}
 use Rattle.std.proofs.lemmas.Bool.{cases_eq}
 use Rattle.std.proofs.lemmas.Bool.Decides.{nat_tests}
 use Rattle.std.specs.List.{list_any}
@@ -7,7 +7,7 @@ use Rattle.std.specs.Ordering.{nat_cmp}
 use Rattle.std.specs.FinMap as fin
 use Rattle.mea_base.specs.WaitList.{get, is_linked, IsAbsent, IsDistinct, Updates, without}
 use Rattle.mea_base.specs.WaitList as base
-use Rattle.mea_base.proofs.Waits.{sum_by-updated, in_use_within, IsDistinct-without}
+use Rattle.mea_base.proofs.Waits.{sum_by-updated, in_use_within, IsDistinct-without, without_absent, length-without}
 use Rattle.std.proofs.lemmas.List.Sums.{get_or-le-sum_by}
 use Rattle.mea_sem_core.specs.declared.place.Place.{Place}
 use Rattle.mea_sem_core.specs.declared.place.Place.TheVariants.{Acquire, Debt, Granted}
@@ -16,9 +16,10 @@ use Rattle.mea_sem_core.specs.Places.{entry, entries, queue_of, granted_of, gran
 use Rattle.mea_sem_core.specs.Calls.{with_waker, without_acquire, StandsAs}
 use Rattle.mea_sem_core.specs.declared.acquire.Acquire.TheVariants.{Queued}
 use Rattle.mea_sem_core.proofs.Enqueues.{waiting_absent}
-use Rattle.mea_sem_core.proofs.Debts.{test_same, test_differs, debts_first_with_waker, debts_first_without}
+use Rattle.mea_sem_core.proofs.Debts.{debts_first_with_waker, debts_first_without}
 use Rattle.mea_sem_core.proofs.Places.{entries-updated, AllWaiting-updated, granted_same, granted_removed, get-granted}
 use Rattle.mea_sem_core.proofs.Grants.{unlinked_from_absent, unlinked_before}
+use Rattle.mea_base.proofs.Tests.{test_same, test_differs}
 
 -- what is left of the order
 unlinked-without : (m n : ℕ) (ns : List ℕ) → m ≢ n → list_any (λ k. eqb k m) (without n ns) ≡ false → list_any (λ k. eqb k m) ns ≡ false
@@ -38,19 +39,6 @@ unlinked-without m n (k ∷ ks) differs none =
     by_test : (b : Bool) → (b || list_any (λ j. eqb j m) (without n ks)) ≡ false → (list_any (λ j. eqb j m) (without n ks) ≡ false → list_any (λ j. eqb j m) ks ≡ false) → (b || list_any (λ j. eqb j m) ks) ≡ false
     by_test true none rest = absurd (cc)
     by_test false none rest = rest none
-
-without_absent : (n : ℕ) (ns : List ℕ) → IsAbsent n ns → without n ns ≡ ns
-without_absent n [] absent = refl
-without_absent n (m ∷ ms) absent =
-    ap (λ b. cond (not b) (m ∷ without n ms) (without n ms)) (test_differs m n absent.0) ∙ ap (λ ks. m ∷ ks) (without_absent n ms absent.1)
-
-length-without : (n : ℕ) (ns : List ℕ) → length (without n ns) ≤ length ns
-length-without n [] = omega arith
-length-without n (m ∷ ms) = by_test (not (eqb m n)) (length-without n ms)
-  where
-    by_test : (b : Bool) → length (without n ms) ≤ length ms → length (cond b (m ∷ without n ms) (without n ms)) ≤ suc (length ms)
-    by_test true less = omega arith
-    by_test false less = omega arith
 
 -- what is left has no such number
 pub unlinked_after : (n : ℕ) (ns : List ℕ) → list_any (λ k. eqb k n) (without n ns) ≡ false

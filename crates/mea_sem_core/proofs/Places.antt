@@ -11,12 +11,7 @@ use Rattle.mea_sem_core.specs.declared.place.Place.{Place}
 use Rattle.mea_sem_core.specs.declared.place.Place.TheVariants.{Acquire, Debt, Granted}
 use Rattle.mea_sem_core.specs.Places.{entry, entries, grant_of, pairs_from, IsWaiting, AllWaiting}
 use Rattle.mea_sem_core.proofs.Pours.{AllLack}
-
-tied_same : (q n : ℕ) → q ≡ n → eq_by_cmp nat_cmp q n ≡ true
-tied_same q n same = unsigned_tied q n ∙ grind (arith, nat_tests)
-
-tied_differs : (q n : ℕ) → q ≢ n → eq_by_cmp nat_cmp q n ≡ false
-tied_differs q n differs = unsigned_tied q n ∙ grind (arith, nat_tests)
+use Rattle.mea_base.proofs.Tests.{tied_same, tied_differs}
 
 module _ {W : Type 0} where
   -- changes at an absent number alone

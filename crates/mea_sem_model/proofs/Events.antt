@@ -12,16 +12,17 @@ use Rattle.mea_base.specs.declared.stop.Stop.TheVariants as stops
 use Rattle.mea_sem_model.specs.declared.event.SemEvent.{SemEvent}
 use Rattle.mea_sem_model.specs.declared.event.SemEvent.TheVariants as events
 use Rattle.mea_sem_model.specs.Hall.{Hall, Semaphore, Future, Permit, Stage, New, Waiting, Granted, Who, Waiter, made_with, semaphore_at, queue_at, pour, names, lack_of, free, plain_things, with_semaphore}
-use Rattle.mea_sem_model.specs.Cause.{is_named, is_named_semaphore, unknown_unless, are_of_one_kind, can_merge, cause_of}
+use Rattle.mea_sem_model.specs.Cause.{is_named, is_named_semaphore, are_of_one_kind, can_merge, cause_of}
 use Rattle.mea_sem_model.specs.Step.{quietly, with_future, without_future, with_permit, without_permit, forgetting, with_debt, forgetting_exactly, taking, made_ready, queueing, poll_at, poll_of, without, leaving, end_future, end_permit, end_of, lose_of, merge_of, split_of, released_to, step}
 use Rattle.mea_sem_model.specs.Valid.{count, one_if_waiting, waits_at, IsBelow}
 use Rattle.mea_sem_model.specs.Runs.{Told, if_same, made_by, released_by, number_forgot, if_yes, if_ready, if_permit_of, forgetting_demand, forgotten_by}
 use Rattle.mea_base.proofs.Maps.{is_there, get-there, get-removed_other}
 use Rattle.mea_sem_model.proofs.HallLemmas.{semaphore_named}
-use Rattle.mea_sem_model.proofs.Pours.{on_true, lacks-without, lacking-without, lacking-append, lacking-debt, first-filter, first-append, first-debt, lacks-debt, count-debt, lack-debt}
+use Rattle.mea_sem_model.proofs.Pours.{lacks-without, lacking-without, lacking-append, lacking-debt, first-filter, first-append, first-debt, lacks-debt, count-debt, lack-debt}
 use Rattle.mea_sem_model.proofs.Matched.{IsMatched, matched_future, new_waits, granted_waits, lacks_nothing, queued_matched, left_matched}
 use Rattle.mea_sem_model.proofs.Orderly.{IsOrderly, future_alone, permit_alone, still_there, orderly_semaphore, orderly_future, orderly_no_future}
 use Rattle.mea_sem_model.proofs.Changes.{taken, taken_by, held_by, moves_semaphore, moves_future, moves_no_future, below_semaphore, below_future, below_no_future, below_more, no_semaphore_yet, no_future_yet, no_permit_yet, Changed, after, retold, nothing, to_semaphore, to_numbers, to_permit, to_no_permit, to_no_future, to_pour}
+use Rattle.mea_base.proofs.Tests.{on_true, known}
 
 -- ---- numbers by a test
 only : (b : Bool) (m n : ℕ) → cond b (m + n) 0 ≡ cond b m 0 + cond b n 0
@@ -46,10 +47,6 @@ kept_or_not s q n forgets = by_test (q == s) forgets
     by_test false false = omega arith
 
 -- ---- what it means that there is no cause
-pub known : (b : Bool) → unknown_unless b ≡ None → b ≡ true
-known true e = refl
-known false e = absurd (cc)
-
 pub release_known : (b c : Bool) → (if b then (if c then None else Some stops.Overflow) else Some stops.Unknown) ≡ None → (b ≡ true) × (c ≡ true)
 release_known true true e = (refl, refl)
 release_known true false e = absurd (cc)

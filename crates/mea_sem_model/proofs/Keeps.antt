@@ -1,25 +1,21 @@
 -- what holds of the empty hall, and of each hall that an event leaves
-use Rattle.std.proofs.Common.{◌≡◌, ℕ, ◌+◌, ◌≤◌, ◌==◌, ◌&&◌, cond, [], ap, sym, subst, ◌∙◌, arith, Some, None, unwrap_or}
-use Rattle.std.specs.Option.{IsSome}
+use Rattle.std.proofs.Common.{◌≡◌, ℕ, ◌+◌, ◌≤◌, ◌==◌, ◌&&◌, cond, [], ap, sym, subst, ◌∙◌, arith, None, unwrap_or}
 use Rattle.std.specs.Ordering.{nat_cmp}
-use Rattle.std.specs.FinMap.{get, empty, get-empty}
+use Rattle.std.specs.FinMap.{get-empty}
 use Rattle.mea_base.proofs.Totals.{total-empty}
 use Rattle.mea_sem_model.specs.declared.event.SemEvent.{SemEvent}
 use Rattle.mea_sem_model.specs.Hall.{Hall, Semaphore, Future, Permit, empty_hall, made_with, semaphore_at, queue_at, paid_to, debts, free, held, paid, owed, plain_things}
 use Rattle.mea_sem_model.specs.Cause.{cause_of}
 use Rattle.mea_sem_model.specs.Step.{step}
-use Rattle.mea_sem_model.specs.Valid.{count, waits_at, AllLack, HasDebtsFirst, IsValid, IsBelow, IsAccounted, Fits}
+use Rattle.mea_sem_model.specs.Valid.{count, waits_at, AllLack, HasDebtsFirst, IsValid, IsBelow, IsAccounted}
 use Rattle.mea_sem_model.proofs.Matched.{matched}
 use Rattle.mea_sem_model.proofs.Orderly.{orderly}
 use Rattle.mea_sem_model.proofs.Events.{steps}
 use Rattle.mea_sem_model.proofs.Tallies.{tallies}
 use Rattle.mea_sem_model.proofs.Paid.{parts, paid_or_lacked}
-use Rattle.mea_sem_model.proofs.StaysValid.{kept_valid}
+use Rattle.mea_base.proofs.Maps.{nothing_there, nothing_at}
 
 -- ---- each event keeps it
-pub keeps_valid : (h : Hall) (i : ℕ) (e : SemEvent) → IsValid h → IsBelow h i → Fits e → cause_of h e ≡ None → IsValid (step h i e).hall
-keeps_valid h i e v low fits cause = kept_valid h i e v low fits cause
-
 pub keeps_below : (h : Hall) (i : ℕ) (e : SemEvent) → IsValid h → IsBelow h i → cause_of h e ≡ None → IsBelow (step h i e).hall (i + 1)
 keeps_below h i e v low cause = (steps h i (matched h v) (orderly h v) low e cause).below
 
@@ -39,12 +35,6 @@ below_later h n i less b = record {
 }
 
 -- ---- the empty hall
-nothing_there : (X : Type 0) (k : ℕ) → IsSome (get (empty {X = X} {R = nat_cmp}) k) → ⊥
-nothing_there X k some = let none : get (empty {X = X} {R = nat_cmp}) k ≡ None = get-empty nat_cmp k in absurd (cc)
-
-nothing_at : (X : Type 0) (k : ℕ) (x : X) → get (empty {X = X} {R = nat_cmp}) k ≡ Some x → ⊥
-nothing_at X k x is = let none : get (empty {X = X} {R = nat_cmp}) k ≡ None = get-empty nat_cmp k in absurd (cc)
-
 empty_at : (s : ℕ) → semaphore_at empty_hall s ≡ made_with 0
 empty_at s = ap (λ o. unwrap_or o (made_with 0)) (get-empty nat_cmp s)
 

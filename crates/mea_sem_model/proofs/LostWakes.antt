@@ -19,7 +19,7 @@ use Rattle.mea_sem_model.specs.Step.{Outcome, quietly, pouring, with_future, wit
 use Rattle.mea_sem_model.specs.Runs.{Run, Runs, semaphores, waker_in, waker_at, waker_kept}
 use Rattle.mea_base.proofs.Maps.{inside, value_in, is_there, get-there, get-other, get-removed_other, by_gone}
 use Rattle.mea_sem_model.proofs.HallLemmas.{among, get-grant_all}
-use Rattle.mea_sem_model.proofs.Events.{known}
+use Rattle.mea_base.proofs.Tests.{known}
 use Rattle.mea_sem_model.proofs.Balanced as balance
 
 -- ---- who is granted while it waits is woken

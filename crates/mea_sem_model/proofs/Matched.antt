@@ -10,7 +10,8 @@ use Rattle.mea_sem_model.specs.Step.{with_future, without_future, queueing, with
 use Rattle.mea_sem_model.specs.Valid.{count, one_if_waiting, waits_at, IsValid}
 use Rattle.mea_base.proofs.Maps.{by_put, by_gone, inside}
 use Rattle.mea_sem_model.proofs.HallLemmas.{by_semaphore, among, get-grant_all, granted_was}
-use Rattle.mea_sem_model.proofs.Pours.{among_mentions, among_none, count-pour, lack-pour, lack-without, count-without, none_counted, on_true, on_false}
+use Rattle.mea_sem_model.proofs.Pours.{among_mentions, among_none, count-pour, lack-pour, lack-without, count-without, none_counted}
+use Rattle.mea_base.proofs.Tests.{on_true, on_false}
 
 -- what validity says of queues and futures together
 pub record IsMatched (h : Hall) : Type 0 where

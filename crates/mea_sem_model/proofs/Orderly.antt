@@ -12,7 +12,8 @@ use Rattle.mea_sem_model.specs.Step.{with_future, without_future, with_permit, w
 use Rattle.mea_sem_model.specs.Valid.{AllLack, HasDebtsFirst, IsValid}
 use Rattle.mea_base.proofs.Maps.{by_put, by_gone, inside, is_absent}
 use Rattle.mea_sem_model.proofs.HallLemmas.{by_semaphore, among, get-grant_all, granted_was, granted_there, semaphore_named}
-use Rattle.mea_sem_model.proofs.Pours.{on_false, lacking-pour, first-pour, idle-pour}
+use Rattle.mea_sem_model.proofs.Pours.{lacking-pour, first-pour, idle-pour}
+use Rattle.mea_base.proofs.Tests.{on_false}
 
 pub record IsOrderly (h : Hall) : Type 0 where
   pub lacking : (s : ℕ) → AllLack (queue_at h s)

@@ -8,15 +8,7 @@ use Rattle.mea_sem_model.specs.Hall.{Who, Waiter, Debt, names, lack_of, debt_of,
 use Rattle.mea_sem_model.specs.Step.{without, with_debt}
 use Rattle.mea_sem_model.specs.Valid.{count, AllLack, HasNoDebt, HasDebtsFirst}
 use Rattle.mea_sem_model.proofs.HallLemmas.{among}
-
--- what counts only if
-pub on_true : (b : Bool) (n : ℕ) → b ≡ true → cond b n 0 ≡ n
-on_true true n h = refl
-on_true false n h = absurd (cc)
-
-pub on_false : (b : Bool) (n : ℕ) → b ≡ false → cond b n 0 ≡ 0
-on_false true n h = absurd (cc)
-on_false false n h = refl
+use Rattle.mea_base.proofs.Tests.{on_true, on_false}
 
 abbrev pub mentions : List Who → ℕ → ℕ
 mentions ws f = sum_by {X = Who} (λ w. cond (names w f) 1 0) ws

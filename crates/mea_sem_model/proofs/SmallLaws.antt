@@ -11,12 +11,13 @@ use Rattle.mea_sem_model.specs.Cause.{cause_of}
 use Rattle.mea_sem_model.specs.Step.{quietly, with_permit, taking, made_ready, queueing, poll_at, poll_of, end_future, end_of, leaving, without, without_future, try_of, try_and_forget, step}
 use Rattle.mea_sem_model.specs.Valid.{IsValid, IsBelow}
 use Rattle.mea_sem_model.proofs.HallLemmas.{semaphore_put}
-use Rattle.mea_sem_model.proofs.Pours.{on_true, lacks-without}
+use Rattle.mea_sem_model.proofs.Pours.{lacks-without}
 use Rattle.mea_sem_model.proofs.Matched.{matched, left_matched}
 use Rattle.mea_sem_model.proofs.Orderly.{orderly}
 use Rattle.mea_sem_model.proofs.Changes.{taken, taken_by, moves_semaphore, moves_no_future}
 use Rattle.mea_sem_model.proofs.Events.{steps}
 use Rattle.mea_sem_model.proofs.Paid.{parts, paid_or_lacked}
+use Rattle.mea_base.proofs.Tests.{on_true}
 
 -- ---- nobody overtakes
 pub none_free : (h : Hall) → IsValid h → (s : ℕ) → queue_at h s ≢ [] → free h s ≡ 0

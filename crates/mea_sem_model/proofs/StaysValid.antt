@@ -11,13 +11,13 @@ use Rattle.mea_sem_model.specs.Cause.{cause_of}
 use Rattle.mea_sem_model.specs.Step.{step}
 use Rattle.mea_sem_model.specs.Valid.{IsValid, IsBelow, Fits}
 use Rattle.mea_sem_model.specs.Runs.{if_same, made_by, released_by}
-use Rattle.mea_sem_model.proofs.Pours.{on_false}
 use Rattle.mea_sem_model.proofs.Matched.{IsMatched, matched}
 use Rattle.mea_sem_model.proofs.Orderly.{IsOrderly, orderly}
 use Rattle.mea_sem_model.proofs.Changes.{no_semaphore_yet}
 use Rattle.mea_sem_model.proofs.Events.{line, steps, release_known}
 use Rattle.mea_sem_model.proofs.Tallies.{tallies}
 use Rattle.mea_sem_model.proofs.Paid.{parts, paid_or_lacked}
+use Rattle.mea_base.proofs.Tests.{on_false}
 
 -- ---- the bound on the permits
 -- no more permits live than before, with those that the event made and released

@@ -17,7 +17,7 @@ use Rattle.mea_sem_model.specs.Hall.{Hall, Semaphore, Future, Permit, Stage, New
 use Rattle.mea_sem_model.specs.Step.{Outcome, quietly, pouring, without_permit, with_permit, without_future, with_debt, forgetting, forgetting_exactly, taking, try_of, try_and_forget, made_ready, queueing, first_poll, poll_at, poll_of, without, leaving, end_future, end_permit, end_of, lose_of, merge_of, split_of, released_to, step}
 use Rattle.mea_sem_model.specs.Valid.{count}
 use Rattle.mea_sem_model.specs.Waiters.{waiters_in, waiters, registers}
-use Rattle.mea_sem_model.proofs.Pours.{on_true, on_false}
+use Rattle.mea_base.proofs.Tests.{on_true, on_false}
 
 -- how many of these are futures
 abbrev pub waiters_among : List Who → ℕ

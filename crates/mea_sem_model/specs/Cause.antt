@@ -6,6 +6,7 @@ use Rattle.mea_base.specs.declared.stop.Stop.TheVariants as stops
 use Rattle.mea_sem_model.specs.declared.event.SemEvent.{SemEvent}
 use Rattle.mea_sem_model.specs.declared.event.SemEvent.TheVariants.{New, Free, Forget, Forgetx, Release, Try, Tryo, Tryf, Tryof, Acq, Acqo, Acqf, Acqof, Poll, End, Lose, Merge, Split, Size, Endsem, Ledger}
 use Rattle.mea_sem_model.specs.Hall.{Hall, Semaphore, Permit, live, plain_things}
+use Rattle.mea_base.specs.Causes.{unknown_unless}
 
 abbrev pub is_named_semaphore : Option Semaphore → Bool
 is_named_semaphore None = false
@@ -29,10 +30,6 @@ are_of_one_kind (Some x) (Some y) = x.semaphore == y.semaphore && (if x.plain th
 -- two permits, not the same one, of one semaphore and one form
 abbrev pub can_merge : Hall → ℕ → ℕ → Bool
 can_merge h p q = not (p == q) && are_of_one_kind (map.get h.permits p) (map.get h.permits q)
-
--- unknown, unless this holds
-abbrev pub unknown_unless : Bool → Option Stop
-unknown_unless known = if known then None else Some stops.Unknown
 
 abbrev pub cause_of : Hall → SemEvent → Option Stop
 cause_of h (New n) = None

@@ -1,14 +1,15 @@
 use Rattle.std.proofs.Common.{◌∙◌, ap, None}
 use Rattle.mea_base.specs.WaitList.{get, Updates}
 use Rattle.mea_lock.proofs.Kept.{noted_left}
-use Rattle.mea_lock.proofs.Numbers.{unlinked_after, shorter}
+use Rattle.mea_lock.proofs.Numbers.{unlinked_after}
+use Rattle.mea_base.proofs.Waits.{length-without}
 use Rattle.mea_lock.proofs.note.take_out.Goals as goal
 
 pub remove_unlinked-requires-clause-unlinked : goal.remove_unlinked-requires-clause-unlinked
 remove_unlinked-requires-clause-unlinked g c = rw c.unlink.ensures (unlinked_after c.args.number c.args.waiters.now.order)
 
 pub returns-clause-shorter : goal.returns-clause-shorter
-returns-clause-shorter g c = rw (c.remove_unlinked.ensures.order, c.unlink.ensures) (shorter c.args.number c.args.waiters.now.order)
+returns-clause-shorter g c = rw (c.remove_unlinked.ensures.order, c.unlink.ensures) (length-without c.args.number c.args.waiters.now.order)
 
 pub returns-clause-noted : goal.returns-clause-noted
 returns-clause-noted g c = λ noted.

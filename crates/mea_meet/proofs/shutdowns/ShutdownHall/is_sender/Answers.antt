@@ -1,5 +1,5 @@
 use Rattle.std.proofs.Common.{sym, ap, ◌∙◌, is_some}
-use Rattle.mea_meet.proofs.Maps.{kept-at}
+use Rattle.mea_base.proofs.NamedMaps.{kept-at}
 use Rattle.mea_meet.proofs.shutdowns.ShutdownHall.is_sender.Goals as goal
 
 pub returns : goal.returns

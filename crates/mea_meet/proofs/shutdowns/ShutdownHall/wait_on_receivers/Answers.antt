@@ -3,13 +3,14 @@ use Rattle.std.specs.Option.{option_copied}
 use Rattle.std.specs.FinMap.{get}
 use Rattle.mea_base.specs.declared.answer.Answer.TheVariants as answers
 use Rattle.mea_meet.specs.ShutdownHall.{hall_of, store_of, IsKept}
-use Rattle.mea_meet.proofs.Maps.{kept-puts, kept-puts-as, not_none, some_found}
+use Rattle.mea_meet.proofs.Maps.{kept-puts, kept-puts-as, not_none}
 use Rattle.mea_meet_model.specs.Shutdowns.{await_of}
 use Rattle.mea_meet.specs.declared.shutdown_entries.ShutdownWaitEntry.{ShutdownWaitEntry}
 use Rattle.mea_meet.specs.declared.shutdown_entries.ShutdownWait.TheVariants as waits
 use Rattle.mea_meet.proofs.ShutdownSeen.{kept_in, sender-at}
 use Rattle.mea_meet.proofs.ShutdownPlays.{rests}
 use Rattle.mea_meet.proofs.ShutdownWaits.{wait_on_receivers_goes}
+use Rattle.mea_base.proofs.Maps.{value_in}
 use Rattle.mea_meet.proofs.shutdowns.ShutdownHall.wait_on_receivers.Goals as goal
 
 pub unreachable-requires : goal.unreachable-requires
@@ -23,7 +24,7 @@ invariant_of-self c = subst (λ (ws : List (ℕ × ShutdownWaitEntry)). IsKept (
 pub invariant_of-self-2 : goal.invariant_of-self-2
 invariant_of-self-2 c =
     let is : get (kept_in c.self.inside).senders c.args.k ≡ Some c.in-Some.sender.now = sender-at c.self.inside c.args.k ∙ sym c.get.ensures.value ∙ ap option_copied c.in-Some.is in
-    let found = some_found _ (c.self.invariant.sender c.args.k c.in-Some.sender.now is).there in
+    let found = value_in _ (c.self.invariant.sender c.args.k c.in-Some.sender.now is).there in
     (wait_on_receivers_goes (kept_in c.self.inside) _ _ c.self.inside.next c.args.number c.args.k c.in-Some.sender.now found.0 c.self.invariant (rw (← c.self.view_is) at c.requires.next) (omega arith) found.1 is
     (kept-puts c.self.inside.senders.entries _ c.args.k None c.remove-sender.ensures.updates.0)
     (kept-puts-as c.self.inside.waits.entries _ c.args.number (record { shutdown = c.in-Some.sender.now; wait = waits.Receivers c.new.result }) _ c.in-Ok.ensures.updates.0 (λ j. record { shutdown = c.in-Some.sender.now; wait = waits.Receivers (c.new.ensures j) }))).kept
@@ -31,7 +32,7 @@ invariant_of-self-2 c =
 pub returns-clause-rests : goal.returns-clause-rests
 returns-clause-rests c =
     let is : get (kept_in c.self.inside).senders c.args.k ≡ Some c.in-Some.sender.now = sender-at c.self.inside c.args.k ∙ sym c.get.ensures.value ∙ ap option_copied c.in-Some.is in
-    let found = some_found _ (c.self.invariant.sender c.args.k c.in-Some.sender.now is).there in
+    let found = value_in _ (c.self.invariant.sender c.args.k c.in-Some.sender.now is).there in
     rw (← c.self.view_is) (rests (kept_in c.self.inside) _ c.self.inside.next c.args.number _ _ answers.Made (wait_on_receivers_goes (kept_in c.self.inside) _ _ c.self.inside.next c.args.number c.args.k c.in-Some.sender.now found.0 c.self.invariant (rw (← c.self.view_is) at c.requires.next) (omega arith) found.1 is
     (kept-puts c.self.inside.senders.entries _ c.args.k None c.remove-sender.ensures.updates.0)
     (kept-puts-as c.self.inside.waits.entries _ c.args.number (record { shutdown = c.in-Some.sender.now; wait = waits.Receivers c.new.result }) _ c.in-Ok.ensures.updates.0 (λ j. record { shutdown = c.in-Some.sender.now; wait = waits.Receivers (c.new.ensures j) })))
