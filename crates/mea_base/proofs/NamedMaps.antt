@@ -9,7 +9,7 @@ use Rattle.std.specs.BTreeMap.{is_at}
 use Rattle.std.specs.FinMap.{FinMap, find, get, insert, remove, entries, get-entries, get-from_entries, get-insert, get-remove, same_map, nat_cmp-IsAntisymmetric}
 use Rattle.std.proofs.lemmas.Bool.{eqb-true}
 use Rattle.std.proofs.lemmas.Bool.Decides.{nat_tests}
-use Rattle.mea_base.specs.Named.{named, at}
+use Rattle.mea_base.specs.Named.{named, at, ChangesAt}
 use Rattle.mea_base.proofs.Tests.{same_test}
 
 order_equal : (o : Ordering) → is_eq o ≡ true → o ≡ Equal
@@ -96,3 +96,10 @@ kept-at es q = get-named (λ k x. x) es q ∙ option_map-same (at es q)
 -- what stands among the entries is there
 pub found : {X : Type 0} (es : List (ℕ × X)) (k : ℕ) (x : X) → at es k ≡ Some x → get (named (λ k x. x) es) k ≡ Some x
 found es k x is = kept-at es k ∙ is
+
+pub kept-changed : {X : Type 0} (old new : List (ℕ × X)) (k : ℕ) (o : Option X) → ChangesAt old new k o → (q : ℕ)
+    → get (named (λ k x. x) new) q ≡ cond (k == q) o (get (named (λ k x. x) old) q)
+kept-changed old new k o h q =
+    get-named (λ k x. x) new q ∙ named_changed (λ k x. x) (λ k x. x) old new k o h (λ j x d is. refl) q
+    ∙ ap (λ p. cond (k == q) p (option_map (λ x. x) (at old q))) (option_map-same o)
+    ∙ ap (cond (k == q) o) (sym (get-named (λ k x. x) old q))

@@ -8,6 +8,7 @@ use Rattle.mea_base.specs.declared.turn.Turn.{Turn}
 use Rattle.mea_base.specs.declared.turn.Turn.TheVariants.{Pending}
 use Rattle.mea_base.specs.Outbox.{Wakes}
 use Rattle.mea_base.specs.WaitList.{Waits, get, with_value, without, IsInUse, IsAbsent, Updates}
+use Rattle.mea_base.proofs.Waits.{without_absent, absent_from_unlinked}
 use Rattle.mea_lock.specs.Condvar.{Condvar, IsSound, Knows, Lists, waker_under, with_waker, without_wait, first_notified, notifying, notified_all, passed_on}
 use Rattle.mea_lock.specs.CondWaits.{AsksLock, PollsListed, EndsListed}
 use Rattle.mea_lock.specs.Lock.{Lock}
@@ -19,7 +20,6 @@ use Rattle.mea_lock.specs.declared.note.Note.TheVariants.{Waiting, Notified}
 use Rattle.mea_lock.proofs.Kept.{written, unlinked_notified, unlinked_vacant, linked_waiting}
 use Rattle.mea_lock.proofs.Lines.{waits_in-updated, waits_in-end, waits_in-rewoken, waits_in-without, waker_under-none, waker_under-linked, AreApart-waits_in}
 use Rattle.mea_lock.proofs.Pairs.{get-notified, notified_same, notified_inserted, notified_removed}
-use Rattle.mea_base.proofs.Waits.{without_absent, absent_from_unlinked}
 
 module _ {W : Type 0} where
   -- ---- what a number has

@@ -4,11 +4,11 @@ use Rattle.std.proofs.lemmas.Bool.{cases_eq}
 use Rattle.std.proofs.lemmas.List.{get_or-set_same, get_or-set_other, get_or_past}
 use Rattle.std.specs.List.{list_any}
 use Rattle.mea_base.specs.WaitList.{Waits, get, is_linked, with_value, Updates, without, IsDistinct}
+use Rattle.mea_base.proofs.Waits.{IsDistinct-push, IsDistinct-without, absent_from_unlinked}
 use Rattle.mea_lock.specs.Notes.{AreNoted, IsWaiting, IsIdle, notified_in}
 use Rattle.mea_lock.specs.declared.note.Note.{Note}
 use Rattle.mea_lock.specs.declared.note.Note.TheVariants.{Waiting, Notified}
 use Rattle.mea_lock.proofs.Numbers.{any_cons, absent_any, any_end, any_end_here, any_without, unlinked_after}
-use Rattle.mea_base.proofs.Waits.{IsDistinct-push, IsDistinct-without, absent_from_unlinked}
 
 module _ {W : Type 0} where
   -- a number with a note is a place

@@ -3,10 +3,10 @@ use Rattle.std.proofs.Common.{◌≡◌, ◌≢◌, ℕ, true, cond, not, eqb, L
 use Rattle.std.proofs.lemmas.Bool.{cases_eq}
 use Rattle.std.specs.List.{list_any}
 use Rattle.mea_base.specs.WaitList.{without, IsAbsent, IsDistinct}
+use Rattle.mea_base.proofs.Tests.{test_same, test_differs}
 use Rattle.mea_lock.specs.Condvar.{waker_under, with_waker, without_wait, AreApart}
 use Rattle.mea_lock.specs.Notes.{waker_in, with_wait, waits_in}
 use Rattle.mea_lock.specs.declared.note.Note.{Note}
-use Rattle.mea_base.proofs.Tests.{test_same, test_differs}
 
 module _ {W : Type 0} where
   -- changes at an absent number alone

@@ -1,9 +1,8 @@
 -- numbers in an order
-use Rattle.std.proofs.Common.{◌≡◌, ◌≢◌, ◌≤◌, length, ℕ, List, [], ◌∷◌, ◌++◌, Bool, true, false, not, ◌||◌, eqb, refl, sym, ap, ◌∙◌, inl, inr, arith}
+use Rattle.std.proofs.Common.{◌≡◌, ◌≢◌, ℕ, List, [], ◌∷◌, ◌++◌, Bool, true, false, not, ◌||◌, eqb, refl, sym, ap, ◌∙◌, inl, inr}
 use Rattle.std.proofs.lemmas.Bool.{cases_eq}
-use Rattle.std.proofs.lemmas.Bool.Decides.{nat_tests}
 use Rattle.std.specs.List.{list_any}
-use Rattle.mea_base.specs.WaitList.{without, IsAbsent, IsDistinct}
+use Rattle.mea_base.specs.WaitList.{without, IsAbsent}
 use Rattle.mea_base.proofs.Tests.{test_same, test_differs}
 
 pub any_cons : (m k : ℕ) (ks : List ℕ) → k ≢ m → list_any (λ j. eqb j m) (k ∷ ks) ≡ list_any (λ j. eqb j m) ks

@@ -1,14 +1,13 @@
 -- how a change of one note changes the notified numbers
-use Rattle.std.proofs.Common.{◌≡◌, ◌≢◌, ℕ, zero, suc, ◌+◌, ◌<◌, Bool, true, false, cond, List, [], ◌∷◌, get_or, Option, Some, None, refl, sym, ap, ◌∙◌, inl, inr, arith}
+use Rattle.std.proofs.Common.{◌≡◌, ◌≢◌, ℕ, zero, suc, ◌+◌, ◌<◌, Bool, cond, List, [], ◌∷◌, get_or, Option, Some, None, refl, sym, ap, ◌∙◌, inl, inr, arith}
 use Rattle.std.proofs.lemmas.Bool.{cases_eq}
-use Rattle.std.proofs.lemmas.Bool.Decides.{nat_tests}
-use Rattle.std.specs.Cmp.{nat_cmp_total, unsigned_tied}
+use Rattle.std.specs.Cmp.{nat_cmp_total}
 use Rattle.std.specs.FinMap as fin
 use Rattle.std.specs.FinMap.{find, get-from_entries, get-insert, get-remove, same_map, nat_cmp-IsAntisymmetric}
-use Rattle.std.specs.Ordering.{nat_cmp, eq_by_cmp}
+use Rattle.std.specs.Ordering.{nat_cmp}
+use Rattle.mea_base.proofs.Tests.{tied_same, tied_differs}
 use Rattle.mea_lock.specs.Notes.{notified_in, notified_of, pairs_from, with_pair}
 use Rattle.mea_lock.specs.declared.note.Note.{Note}
-use Rattle.mea_base.proofs.Tests.{tied_same, tied_differs}
 
 -- a pair of another number, or none, stands before others
 find_behind : (q k : ℕ) (x : Option Bool) (ps : List (ℕ × Bool)) → q ≢ k → find nat_cmp q (with_pair k x ps) ≡ find nat_cmp q ps

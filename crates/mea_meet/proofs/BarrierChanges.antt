@@ -7,13 +7,14 @@ use Rattle.std.proofs.lemmas.Nat.{div-add-mod', le-div}
 use Rattle.mea_base.specs.Named.{named}
 use Rattle.mea_base.specs.Totals.{total, weight}
 use Rattle.mea_base.proofs.Totals.{total-insert}
+use Rattle.mea_base.proofs.Tests.{at_same, by_name}
 use Rattle.mea_sets.specs.declared.place.Place.{Place}
 use Rattle.mea_sets.specs.WaitSet.{has_given}
+use Rattle.mea_meet_model.specs.Barriers.{Barrier, Barriers, new_barrier, barrier_at, registered}
 use Rattle.mea_meet_core.specs.Barrier as cores
 use Rattle.mea_meet_core.specs.Barrier.{is_open}
 use Rattle.mea_meet_core.specs.declared.barrier_wait.BarrierWait.{BarrierWait as Wait}
 use Rattle.mea_meet_core.specs.declared.barrier_wait.BarrierWait.TheVariants.{New, Arrived, Done}
-use Rattle.mea_meet_model.specs.Barriers.{Barrier, Barriers, new_barrier, barrier_at, registered}
 use Rattle.mea_meet.specs.Names.{waiting_at, AreNamed, AreGiven}
 use Rattle.mea_meet.specs.BarrierHall.{Store, slot_of, slots_of, barrier_of, wait_of, barriers_of, IsKeptEntry, IsHome, IsKept}
 use Rattle.mea_meet.specs.declared.barriers.BarrierEntry.{BarrierEntry}
@@ -21,7 +22,6 @@ use Rattle.mea_meet.specs.declared.barriers.BarrierWaitEntry.{BarrierWaitEntry}
 use Rattle.mea_meet.proofs.Names.{waiting-length}
 use Rattle.mea_meet.proofs.Maps.{Puts, put_there, put_other, total_puts_was, weight-within, seen-some, seen_put, seen_gone, one_of, one-least, weighs_here, weighs_elsewhere, one_entry}
 use Rattle.mea_meet.proofs.Slots.{apart_belongs, waiting_beside, given_by}
-use Rattle.mea_base.proofs.Tests.{at_same, by_name}
 
 -- ---- the slots of the futures
 abbrev pub slot_entry : BarrierWaitEntry → ℕ × Option Place

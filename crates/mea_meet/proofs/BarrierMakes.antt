@@ -4,16 +4,17 @@ use Rattle.std.specs.Option.{option_map}
 use Rattle.std.specs.Ordering.{nat_cmp}
 use Rattle.std.specs.FinMap.{FinMap, get, insert, remove}
 use Rattle.mea_base.specs.declared.answer.Answer.TheVariants as answers
-use Rattle.mea_base.specs.Named.{at}
+use Rattle.mea_base.specs.Named.{at, ChangesAt}
 use Rattle.mea_base.specs.Ready.{Waking}
 use Rattle.mea_base.specs.Totals.{total, weight}
 use Rattle.mea_base.proofs.Totals.{total-insert, total-remove, total-zero}
+use Rattle.mea_base.proofs.Tests.{at_same, at_apart, by_name}
+use Rattle.mea_base.proofs.NamedMaps.{found}
+use Rattle.mea_meet_model.specs.Barriers as model
+use Rattle.mea_meet_model.specs.Barriers.{Barrier, Barriers, no_barriers, new_barrier, registered}
 use Rattle.mea_meet_core.specs.Barrier as cores
 use Rattle.mea_meet_core.specs.Barrier.{is_open}
 use Rattle.mea_meet_core.specs.declared.barrier_wait.BarrierWait.TheVariants.{New}
-use Rattle.mea_meet_model.specs.Barriers as model
-use Rattle.mea_meet_model.specs.Barriers.{Barrier, Barriers, no_barriers, new_barrier, registered}
-use Rattle.mea_meet.specs.Entries.{ChangesAt}
 use Rattle.mea_meet.specs.Names.{AreNamed}
 use Rattle.mea_meet.specs.Play.{Part}
 use Rattle.mea_meet.specs.BarrierHall.{Store, store_of, slot_of, round_of, slots_of, barrier_of, wait_of, barriers_of, IsKeptEntry, IsKept}
@@ -27,8 +28,6 @@ use Rattle.mea_meet.proofs.BarrierPlays.{Rested, Played, store_in, seen_in, IsKe
 use Rattle.mea_meet.proofs.BarrierStores.{counts}
 use Rattle.mea_meet.proofs.Slots.{slots_there, slots_other, apart_unplaced, waiting_beside, named_none, waiting_later}
 use Rattle.mea_meet.proofs.Plays.{rests_by, yields_by}
-use Rattle.mea_base.proofs.Tests.{at_same, at_apart, by_name}
-use Rattle.mea_base.proofs.NamedMaps.{found}
 
 -- ---- names that were not given yet
 pub no_barrier : (st : Store) (n i : ℕ) → IsKept st n → n ≤ i → get st.barriers i ≡ None

@@ -6,20 +6,20 @@ use Rattle.std.proofs.lemmas.Bool.Decides.{nat_tests}
 use Rattle.mea_base.specs.declared.answer.Answer.{Answer}
 use Rattle.mea_base.specs.declared.answer.Answer.TheVariants as answers
 use Rattle.mea_base.specs.Family.{Outcome, quietly}
-use Rattle.mea_base.specs.Named.{at}
+use Rattle.mea_base.specs.Named.{at, ChangesAt}
 use Rattle.mea_base.specs.Ready.{Waking}
+use Rattle.mea_base.proofs.NamedMaps.{kept-at}
 use Rattle.mea_sets.specs.declared.place.Place.{Place}
 use Rattle.mea_sets.specs.Poll.{Poll, Ready, Pending}
 use Rattle.mea_sets.specs.WaitSet.{Registered, has_given, with_waker, slot_after, drained}
+use Rattle.mea_meet_model.specs.Waiting.{registering, ending, wakers}
+use Rattle.mea_meet_model.specs.Barriers as model
+use Rattle.mea_meet_model.specs.Barriers.{Barrier, BarrierWait, Barriers, barrier_at, registered}
 use Rattle.mea_meet_core.specs.Barrier as cores
 use Rattle.mea_meet_core.specs.declared.barrier_fault.BarrierFault.{BarrierFault}
 use Rattle.mea_meet_core.specs.Barrier.{is_open, is_own, leads, led, joined, Arrives, Returns, Polls, round_of as round_under_way}
 use Rattle.mea_meet_core.specs.declared.barrier_wait.BarrierWait.{BarrierWait as Wait}
 use Rattle.mea_meet_core.specs.declared.barrier_wait.BarrierWait.TheVariants.{New, Arrived, Done}
-use Rattle.mea_meet_model.specs.Waiting.{registering, ending, wakers}
-use Rattle.mea_meet_model.specs.Barriers as model
-use Rattle.mea_meet_model.specs.Barriers.{Barrier, BarrierWait, Barriers, barrier_at, registered}
-use Rattle.mea_meet.specs.Entries.{ChangesAt}
 use Rattle.mea_meet.specs.Play.{Part}
 use Rattle.mea_meet.specs.BarrierHall.{Store, store_of, slot_of, round_of, slots_of, barrier_of, wait_of, barriers_of, IsKept, Turns}
 use Rattle.mea_meet.specs.declared.barriers.BarrierEntry.{BarrierEntry}
@@ -30,7 +30,6 @@ use Rattle.mea_meet.proofs.Maps.{Puts, kept-puts, seen-some, insert_same}
 use Rattle.mea_meet.proofs.BarrierChanges.{later_round, home_open, kept_after, registered_after, barrier_seen, waits_within}
 use Rattle.mea_meet.proofs.BarrierPlays.{Rested, Played, store_in, seen_in, IsKeptIn, registers, hall_registering, leaves, hall_ending, hall_led}
 use Rattle.mea_meet.proofs.Plays.{rests_by, yields_by}
-use Rattle.mea_base.proofs.NamedMaps.{kept-at}
 
 -- ---- what the core tells
 not_reached : (m n : ℕ) → nat_le m n ≡ false → n < m

@@ -2,11 +2,11 @@
 use Rattle.std.proofs.Common.{◌≡◌, ℕ, ◌≤◌, ◌==◌, cond, List, Some, None, IsSome, is_some, nat_lt, ap, sym, subst, ◌∙◌, length, arith}
 use Rattle.std.specs.Option.{option_map}
 use Rattle.std.specs.FinMap.{get}
-use Rattle.mea_base.specs.Named.{at}
+use Rattle.mea_base.specs.Named.{at, ChangesAt}
 use Rattle.mea_base.specs.Totals.{total}
+use Rattle.mea_base.proofs.NamedMaps.{get-seen, is_some-map, kept-at, found}
 use Rattle.mea_meet_model.specs.Waiting.{wakers}
 use Rattle.mea_meet_model.specs.Barriers.{Barrier, BarrierWait, Barriers, waits_of, registered}
-use Rattle.mea_meet.specs.Entries.{ChangesAt}
 use Rattle.mea_meet.specs.Play.{Part}
 use Rattle.mea_meet.specs.StandsFor.{StandsForBarrier}
 use Rattle.mea_meet.specs.BarrierHall.{Store, store_of, slots_of, barrier_of, wait_of, barriers_of, IsKept}
@@ -17,7 +17,6 @@ use Rattle.mea_meet.proofs.Names.{waiting-wakers}
 use Rattle.mea_meet.proofs.Maps.{kept-unchanged, seen-none, not_none, total-named}
 use Rattle.mea_meet.proofs.BarrierChanges.{at_barrier, barrier_seen, wakers_within}
 use Rattle.mea_meet.proofs.BarrierPlays.{store_in, seen_in, IsKeptIn}
-use Rattle.mea_base.proofs.NamedMaps.{get-seen, is_some-map, kept-at, found}
 
 -- ---- how many futures wait at a barrier, seen among those that are kept
 waits_counted : (st : Store) (n b : ℕ) → waits_of (barriers_of st n) b ≡ total (at_barrier b) st.waits

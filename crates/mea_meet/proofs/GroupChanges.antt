@@ -9,6 +9,7 @@ use Rattle.std.proofs.lemmas.Bool.Decides.{nat_tests}
 use Rattle.mea_base.specs.Named.{named}
 use Rattle.mea_base.specs.Totals.{total, weight}
 use Rattle.mea_base.proofs.Totals.{total-insert, total-remove, total-zero}
+use Rattle.mea_base.proofs.Tests.{at_same, at_apart, by_name}
 use Rattle.mea_sets.specs.declared.place.Place.{Place}
 use Rattle.mea_sets.specs.WaitSet.{has_given}
 use Rattle.mea_meet_model.specs.Count.{Count, count_from}
@@ -20,7 +21,6 @@ use Rattle.mea_meet.specs.declared.groups.GroupWaitEntry.{GroupWaitEntry}
 use Rattle.mea_meet.proofs.Names.{waiting-length}
 use Rattle.mea_meet.proofs.Maps.{Puts, put_there, put_other, total_puts_was, weight-within, seen-some, seen-none, seen_put, seen_gone, one_of, one-least, weighs_here, weighs_elsewhere, remove-insert, one_entry, total-named}
 use Rattle.mea_meet.proofs.Slots.{apart_belongs, waiting_beside, given_by}
-use Rattle.mea_base.proofs.Tests.{at_same, at_apart, by_name}
 
 -- ---- the slots of the futures
 abbrev pub slot_entry : GroupWaitEntry → ℕ × Option Place

@@ -8,18 +8,18 @@ use Rattle.std.proofs.lemmas.Bool.{ne_eqb, eq-eqb}
 use Rattle.mea_base.specs.declared.answer.Answer.{Answer}
 use Rattle.mea_base.specs.declared.answer.Answer.TheVariants as answers
 use Rattle.mea_base.specs.Family.{Outcome, quietly}
-use Rattle.mea_base.specs.Named.{named, at}
+use Rattle.mea_base.specs.Named.{named, at, ChangesAt}
 use Rattle.mea_base.specs.Ready.{Waking}
 use Rattle.mea_base.proofs.NamedMaps.{same_named, kept-at, found}
+use Rattle.mea_base.proofs.Tests.{by_name}
 use Rattle.mea_sets.specs.Countdown as cores
 use Rattle.mea_sets.specs.Countdown.{Counting, decreased, ends, woken_by}
 use Rattle.mea_sets.specs.WaitSet.{Registered, has_given, with_waker, slot_after}
-use Rattle.mea_meet_core.specs.Count.{increased}
 use Rattle.mea_meet_model.specs.Count as counts
 use Rattle.mea_meet_model.specs.Count.{Count}
 use Rattle.mea_meet_model.specs.Groups as model
 use Rattle.mea_meet_model.specs.Groups.{Groups, group_at, tidied, registered}
-use Rattle.mea_meet.specs.Entries.{ChangesAt}
+use Rattle.mea_meet_core.specs.Count.{increased}
 use Rattle.mea_meet.specs.Names.{waiting_at, AreNamed, AreGiven}
 use Rattle.mea_meet.specs.Play.{Part}
 use Rattle.mea_meet.specs.GroupHall.{Store, store_of, slots_of, count_of, groups_of, IsKept, left, left_at, is_used, wakers_left, Registers}
@@ -32,7 +32,6 @@ use Rattle.mea_meet.proofs.GroupChanges.{Changes, slot_entry, are_given, used_le
 use Rattle.mea_meet.proofs.Slots.{slot_owner, slots_there, slots_other, IsApart, apart_unplaced, waiting_beside, given_beside, waiting_later}
 use Rattle.mea_meet.proofs.Counts.{decreased-seen, woken-seen, given-decreased, woken-all}
 use Rattle.mea_meet.proofs.Plays.{rests_by, yields_by, RestedIn, PlayedIn}
-use Rattle.mea_base.proofs.Tests.{by_name}
 
 -- event i had this outcome, which touches no waker
 abbrev pub Rested : Part Groups → ℕ → Outcome Groups → Answer → Store → Type 0

@@ -3,11 +3,11 @@ use Rattle.std.proofs.Common.{◌≡◌, ℕ, ◌≤◌, ◌==◌, List, [], Som
 use Rattle.std.specs.Option.{option_map}
 use Rattle.std.specs.FinMap.{get}
 use Rattle.std.proofs.lemmas.Bool.{eqb-false}
-use Rattle.mea_base.specs.Named.{at}
+use Rattle.mea_base.specs.Named.{at, ChangesAt}
+use Rattle.mea_base.proofs.NamedMaps.{get-seen, is_some-map, kept-at, found}
 use Rattle.mea_meet_model.specs.Waiting.{wakers}
 use Rattle.mea_meet_model.specs.Count.{Count}
 use Rattle.mea_meet_model.specs.Groups.{Groups, no_groups, group_at, registered}
-use Rattle.mea_meet.specs.Entries.{ChangesAt}
 use Rattle.mea_meet.specs.Play.{Part}
 use Rattle.mea_meet.specs.StandsFor.{StandsForGroup}
 use Rattle.mea_meet.specs.GroupHall.{Store, store_of, slots_of, count_of, groups_of, IsKept, is_full}
@@ -19,7 +19,6 @@ use Rattle.mea_meet.proofs.Maps.{kept-unchanged, seen-none, not_none, kept-none,
 use Rattle.mea_meet.proofs.GroupChanges.{slot_entry, group_seen, wakers_within}
 use Rattle.mea_meet.proofs.GroupPlays.{store_in, seen_in, IsKeptIn}
 use Rattle.mea_meet.proofs.Slots.{named_none}
-use Rattle.mea_base.proofs.NamedMaps.{get-seen, is_some-map, kept-at, found}
 
 -- ---- no group
 module _ (gs : List (ℕ × GroupEntry)) (hs : List (ℕ × ℕ)) (ws : List (ℕ × GroupWaitEntry)) (no_gs : gs ≡ []) (no_hs : hs ≡ []) (no_ws : ws ≡ []) where

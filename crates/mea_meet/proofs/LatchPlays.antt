@@ -11,6 +11,7 @@ use Rattle.mea_base.specs.Family.{Outcome, quietly}
 use Rattle.mea_base.specs.Ready.{Waking}
 use Rattle.mea_base.specs.Totals.{weight}
 use Rattle.mea_base.proofs.Totals.{get_inserted, total-zero}
+use Rattle.mea_base.proofs.Tests.{at_same, at_apart}
 use Rattle.mea_sets.specs.WaitSet.{has_given, with_waker, slot_after, drained}
 use Rattle.mea_sets.specs.Countdown as cores
 use Rattle.mea_sets.specs.Countdown.{count_from}
@@ -29,7 +30,6 @@ use Rattle.mea_meet.proofs.LatchStore.{slot_other, slot_was, slot_now, waits_aft
 use Rattle.mea_meet.proofs.Counts.{decreased-seen, woken-seen, woken-all}
 use Rattle.mea_meet.proofs.Slots.{apart_unplaced, waiting_beside}
 use Rattle.mea_meet.proofs.Plays.{rests_by, yields_by, RestedIn, PlayedIn}
-use Rattle.mea_base.proofs.Tests.{at_same, at_apart}
 
 -- ---- what an event came to
 abbrev pub RestedAt : Part Latches → Store → ℕ → Outcome Latches → Answer → Type 0

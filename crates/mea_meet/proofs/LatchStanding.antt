@@ -6,18 +6,20 @@ use Rattle.std.proofs.lemmas.Bool.{eq-eqb, cases_lt}
 use Rattle.mea_base.specs.declared.answer.Answer.{Answer}
 use Rattle.mea_base.specs.declared.answer.Answer.TheVariants as answers
 use Rattle.mea_base.specs.Family.{Outcome, quietly}
-use Rattle.mea_base.specs.Named.{named, at}
+use Rattle.mea_base.specs.Named.{named, at, ChangesAt}
 use Rattle.mea_base.specs.Ready.{Waking}
+use Rattle.mea_base.proofs.Tests.{at_same}
+use Rattle.mea_base.proofs.NamedMaps.{kept-at, found}
+use Rattle.mea_base.proofs.Maps.{value_in}
 use Rattle.mea_sets.specs.Poll.{Ready, Pending}
 use Rattle.mea_sets.specs.declared.place.Place.{Place}
 use Rattle.mea_sets.specs.WaitSet.{has_given, slot_after, with_waker as set_with}
 use Rattle.mea_sets.specs.Countdown as cores
 use Rattle.mea_sets.specs.Countdown.{Counting, PollsCount, count_from}
-use Rattle.mea_meet_core.specs.Count.{tried}
 use Rattle.mea_meet_model.specs.Count.{with_waker}
 use Rattle.mea_meet_model.specs.Latches as model
 use Rattle.mea_meet_model.specs.Latches.{Latch, Latches, registered}
-use Rattle.mea_meet.specs.Entries.{ChangesAt}
+use Rattle.mea_meet_core.specs.Count.{tried}
 use Rattle.mea_meet.specs.Play.{Part, Yields}
 use Rattle.mea_meet.specs.StandsFor.{StandsForCount, StandsForLatch}
 use Rattle.mea_meet.specs.LatchHall.{Store, store_of, slot_of, slots_of, latch_of, latches_of, wait_of, IsKeptEntry, IsKept, begun, ended, tidied, let_go, PollsLatch}
@@ -29,9 +31,6 @@ use Rattle.mea_meet.proofs.LatchStore.{registered_seen, wait_seen, plain_seen, g
 use Rattle.mea_meet.proofs.LatchPlays.{Rested, Yielded, latch_is, named_is, named_not, wait_there, stays, makes, arrives, drops, begins, registering_entry, registering_wait, polls_on, leaves, RestedAt, YieldedAt}
 use Rattle.mea_meet.proofs.Counts.{woken-all}
 use Rattle.mea_meet.proofs.Slots.{named_none}
-use Rattle.mea_base.proofs.Tests.{at_same}
-use Rattle.mea_base.proofs.NamedMaps.{kept-at, found}
-use Rattle.mea_base.proofs.Maps.{value_in}
 
 abbrev pub Latchs : Type 0
 Latchs = List (ℕ × LatchEntry)

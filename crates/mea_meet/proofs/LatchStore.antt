@@ -6,6 +6,8 @@ use Rattle.std.specs.FinMap.{FinMap, get}
 use Rattle.std.proofs.lemmas.Bool.{eq-eqb, ne_eqb}
 use Rattle.mea_base.specs.Totals.{total, weight}
 use Rattle.mea_base.proofs.Totals.{total-same}
+use Rattle.mea_base.proofs.Tests.{by_name}
+use Rattle.mea_base.proofs.NamedMaps.{get-seen}
 use Rattle.mea_sets.specs.WaitSet.{Registered, has_given}
 use Rattle.mea_meet_model.specs.Latches.{Latch, LatchWait, registered}
 use Rattle.mea_meet.specs.Names.{waiting_at, AreNamed, AreGiven}
@@ -15,8 +17,6 @@ use Rattle.mea_meet.specs.declared.latches.LatchWaitEntry.{LatchWaitEntry}
 use Rattle.mea_meet.proofs.Names.{waiting-length, named-later}
 use Rattle.mea_meet.proofs.Maps.{put_other, total_puts, seen_puts, puts_seen, Belongs, total_elsewhere, put_there, total-named, seen_alike, one_of, total_puts_was, weighs_here, one_entry, Puts}
 use Rattle.mea_meet.proofs.Slots.{slots_there, slots_other, apart_belongs, waiting_beside, given_by, waiting_later}
-use Rattle.mea_base.proofs.Tests.{by_name}
-use Rattle.mea_base.proofs.NamedMaps.{get-seen}
 
 -- 1 for a plain future
 abbrev pub plain_of : Option LatchWaitEntry → ℕ

@@ -5,10 +5,9 @@ use Rattle.std.specs.Ordering.{nat_cmp}
 use Rattle.std.specs.BTreeMap.{is_at}
 use Rattle.std.specs.FinMap.{FinMap, get, insert, remove, empty, entries, get-empty}
 use Rattle.std.proofs.lemmas.Bool.{eqb-true, eqb-false}
-use Rattle.mea_base.specs.Named.{named, at}
+use Rattle.mea_base.specs.Named.{named, at, ChangesAt}
 use Rattle.mea_base.specs.Totals.{total, weight}
-use Rattle.mea_meet.specs.Entries.{ChangesAt}
-use Rattle.mea_base.proofs.NamedMaps.{same_named, get-named, named_changed, get-seen, option_map-same, kept-at, found}
+use Rattle.mea_base.proofs.NamedMaps.{same_named, get-named, named_changed, get-seen, option_map-same, kept-at, found, kept-changed}
 use Rattle.mea_base.proofs.Totals.{get_inserted, get_removed, total-insert, total-remove, total-alike}
 use Rattle.mea_base.proofs.Tests.{at_same, at_apart, by_name}
 
@@ -56,10 +55,7 @@ abbrev pub Puts : {X : Type 0} → FinMap nat_cmp X → FinMap nat_cmp X → ℕ
 Puts {X} old new k o = (q : ℕ) → get new q ≡ cond (k == q) o (get old q)
 
 pub kept-puts : {X : Type 0} (old new : List (ℕ × X)) (k : ℕ) (o : Option X) → ChangesAt old new k o → Puts (named (λ k x. x) old) (named (λ k x. x) new) k o
-kept-puts old new k o h q =
-    get-named (λ k x. x) new q ∙ named_changed (λ k x. x) (λ k x. x) old new k o h (λ j x d is. refl) q
-    ∙ ap (λ p. cond (k == q) p (option_map (λ x. x) (at old q))) (option_map-same o)
-    ∙ ap (cond (k == q) o) (sym (get-named (λ k x. x) old q))
+kept-puts old new k o h q = kept-changed old new k o h q
 
 -- the same where what was put is this
 pub kept-puts-as : {X : Type 0} (old new : List (ℕ × X)) (k : ℕ) (v w : X) → ChangesAt old new k (Some v) → v ≡ w → Puts (named (λ k x. x) old) (named (λ k x. x) new) k (Some w)

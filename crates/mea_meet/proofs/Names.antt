@@ -295,18 +295,18 @@ module _ (slots slots' : Slots) (b b' o f w : ℕ) (slot : Option Place) (s : Re
 pub named-later : (slots : Slots) (b b' : ℕ) → AreNamed slots b → b ≤ b' → AreNamed slots b'
 named-later slots b b' named later = record { below = λ f x is. omega (arith, named.below f x is, later); apart = named.apart }
 
-abbrev slot_in : Option Place → Option (ℕ × Option Place) → Option Place
-slot_in t None = t
-slot_in t (Some x) = x.1
+abbrev pub place_in : Option Place → Option (ℕ × Option Place) → Option Place
+place_in t None = t
+place_in t (Some x) = x.1
 
-abbrev object_in : ℕ → Option (ℕ × Option Place) → ℕ
+abbrev pub object_in : ℕ → Option (ℕ × Option Place) → ℕ
 object_in p None = p
 object_in p (Some x) = x.0
 
 the_slot : (p q : ℕ) (t u : Option Place) → ◌≡◌ {A = Option (ℕ × Option Place)} (Some (p, t)) (Some (q, u)) → (p ≡ q) × (t ≡ u)
 the_slot p q t u e =
     let object : object_in p (Some (p, t)) ≡ object_in p (Some (q, u)) = ap (object_in p) e in
-    let slot : slot_in t (Some (p, t)) ≡ slot_in t (Some (q, u)) = ap (slot_in t) e in
+    let slot : place_in t (Some (p, t)) ≡ place_in t (Some (q, u)) = ap (place_in t) e in
     (object, slot)
 
 unplaced : (p q : ℕ) (place : Place) → ◌≡◌ {A = Option (ℕ × Option Place)} (Some (p, None)) (Some (q, Some place)) → ⊥

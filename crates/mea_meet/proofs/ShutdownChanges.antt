@@ -16,9 +16,9 @@ use Rattle.mea_meet.specs.declared.shutdown_entries.ShutdownWaitEntry.{ShutdownW
 use Rattle.mea_meet.specs.declared.shutdown_entries.ShutdownWait.{ShutdownWait as Wait}
 use Rattle.mea_meet.specs.declared.shutdown_entries.ShutdownWait.TheVariants as waits
 use Rattle.mea_meet.specs.ShutdownHall.{Store, End, OfSignal, OfReceivers, awaits_of, slot_at, slot_in, slots_of, shutdown_of, hall_of, borrowers_in, is_of, IsKeptEntry, IsKeptSender, IsKeptReceiver, IsKeptWait, IsKept}
-use Rattle.mea_meet.proofs.Names.{waiting-length, named-ends, named-new}
+use Rattle.mea_meet.proofs.Names.{waiting-length, named-ends, named-new, object_in}
 use Rattle.mea_meet.proofs.Maps.{Puts, Belongs, put_here, put_other, total_puts, by_put, total-named, total_elsewhere, weight-within, seen_puts, inside}
-use Rattle.mea_meet.proofs.Slots.{object_in, IsUnplaced, slots_there, slots_other, apart_unplaced, waiting_beside, given_beside}
+use Rattle.mea_meet.proofs.Slots.{IsUnplaced, slots_there, slots_other, apart_unplaced, waiting_beside, given_beside}
 
 -- s becomes e2; a sender, a receiver or watch and a future of it are put, or are gone
 pub record Changes (st st' : Store) (s a b f : ℕ) (e2 : ShutdownEntry) (oa : Option ℕ) (ob : Option ReceiverEntry) (ow : Option ShutdownWaitEntry) : Type 0 where

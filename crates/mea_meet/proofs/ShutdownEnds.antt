@@ -6,6 +6,8 @@ use Rattle.std.specs.FinMap.{FinMap, get, insert}
 use Rattle.std.proofs.lemmas.Bool.{eqb-true, eq-eqb, ne_eqb}
 use Rattle.mea_base.specs.Named.{named, at}
 use Rattle.mea_base.specs.Totals.{total, weight}
+use Rattle.mea_base.proofs.Tests.{at_same}
+use Rattle.mea_base.proofs.NamedMaps.{kept-at}
 use Rattle.mea_sets.specs.declared.place.Place.{Place}
 use Rattle.mea_meet_model.specs.Count.{without_future}
 use Rattle.mea_meet_model.specs.Shutdowns.{Shutdown, borrows, awaited, with_awaited}
@@ -22,8 +24,6 @@ use Rattle.mea_meet.proofs.ShutdownChanges.{Changes, Unplaced, kept_after, regis
 use Rattle.mea_meet.proofs.ShutdownSeen.{receiver-seen, shutdown-at}
 use Rattle.mea_meet.proofs.ShutdownStill.{no-sender, no-receiver, entry_after}
 use Rattle.mea_meet.proofs.ShutdownPlays.{Goes}
-use Rattle.mea_base.proofs.Tests.{at_same}
-use Rattle.mea_base.proofs.NamedMaps.{kept-at}
 
 -- whether what is borrowed is q
 abbrev lent : Option ℕ → ℕ → Bool

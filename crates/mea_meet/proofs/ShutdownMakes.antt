@@ -6,6 +6,7 @@ use Rattle.std.specs.FinMap.{FinMap, get, insert}
 use Rattle.std.proofs.lemmas.Bool.{ne_eqb}
 use Rattle.mea_base.specs.Totals.{total, weight}
 use Rattle.mea_base.proofs.Totals.{total-zero}
+use Rattle.mea_base.proofs.Tests.{at_same}
 use Rattle.mea_sets.specs.WaitSet.{Registered, has_given}
 use Rattle.mea_sets.specs.Countdown.{count_from}
 use Rattle.mea_meet_model.specs.Shutdowns.{new_shutdown}
@@ -18,7 +19,6 @@ use Rattle.mea_meet.proofs.Maps.{Puts, puts_same, puts_seen, total_puts, is_inse
 use Rattle.mea_meet.proofs.ShutdownChanges.{Changes, slot_home, wakers_at}
 use Rattle.mea_meet.proofs.ShutdownStill.{no-sender, no-receiver, no-wait, no-shutdown, unborrowed}
 use Rattle.mea_meet.proofs.ShutdownPlays.{Goes, kept_all, shutdowns_put, waits_same, counts_after}
-use Rattle.mea_base.proofs.Tests.{at_same}
 
 -- ---- nothing is of a shutdown that is not there
 module _ (st : Store) (next s : ℕ) (k : IsKept st next) (none : get st.shutdowns s ≡ None) where

@@ -7,6 +7,7 @@ use Rattle.mea_base.specs.Totals.{total, weight}
 use Rattle.mea_base.specs.Family.{Outcome, quietly}
 use Rattle.mea_base.specs.Ready.{Waking}
 use Rattle.mea_base.specs.declared.answer.Answer.{Answer}
+use Rattle.mea_base.proofs.Tests.{at_same}
 use Rattle.mea_sets.specs.Countdown.{decreased, woken_by}
 use Rattle.mea_meet_model.specs.Count as model
 use Rattle.mea_meet_model.specs.Shutdowns.{Shutdown, Shutdowns, shutdown_at, borrows, registered}
@@ -22,7 +23,6 @@ use Rattle.mea_meet.proofs.Counts.{decreased-seen, woken-seen, given-decreased, 
 use Rattle.mea_meet.proofs.ShutdownSeen.{shutdown-seen, shutdown-at, wait-seen}
 use Rattle.mea_meet.proofs.ShutdownStill.{no-sender, no-receiver, no-wait, borrows-nothing, entry_after, still_named, still_given, still_shutdowns}
 use Rattle.mea_meet.proofs.Plays.{rests_by, yields_by}
-use Rattle.mea_base.proofs.Tests.{at_same}
 
 -- an event leaves these shutdowns, and no waker is registered or woken
 pub record Goes (st st' : Store) (next i : ℕ) (h : Shutdowns) : Type 0 where

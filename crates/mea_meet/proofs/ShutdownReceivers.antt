@@ -5,10 +5,12 @@ use Rattle.std.specs.Ordering.{nat_cmp}
 use Rattle.std.specs.FinMap.{FinMap, get, insert, remove}
 use Rattle.std.proofs.lemmas.Bool.{eq-eqb}
 use Rattle.mea_base.specs.Totals.{weight}
+use Rattle.mea_base.proofs.Tests.{at_same}
+use Rattle.mea_base.proofs.Maps.{value_in}
 use Rattle.mea_sets.specs.Countdown.{decreased, woken_by}
-use Rattle.mea_meet_core.specs.Count.{increased}
 use Rattle.mea_meet_model.specs.Count as model
 use Rattle.mea_meet_model.specs.Shutdowns.{Shutdown, Shutdowns, Receiver, ShutdownWait, shutdown_at, copied, registered}
+use Rattle.mea_meet_core.specs.Count.{increased}
 use Rattle.mea_meet.specs.Names.{AreGiven, count_seen}
 use Rattle.mea_meet.specs.declared.shutdown_entries.ShutdownEntry.{ShutdownEntry}
 use Rattle.mea_meet.specs.declared.shutdown_entries.ReceiverEntry.{ReceiverEntry}
@@ -20,8 +22,6 @@ use Rattle.mea_meet.proofs.ShutdownSeen.{shutdown-at, shutdown-there, receiver-s
 use Rattle.mea_meet.proofs.ShutdownStill.{no-sender, no-receiver, no-wait, unborrowed, entry_after}
 use Rattle.mea_meet.proofs.Counts.{decreased-seen, woken-seen, given-decreased, woken-all}
 use Rattle.mea_meet.proofs.ShutdownPlays.{Goes, Wakes, seen_before, kept_all, given, shutdowns_put, waits_same, counts_after}
-use Rattle.mea_base.proofs.Tests.{at_same}
-use Rattle.mea_base.proofs.Maps.{value_in}
 
 module _ (st : Store) (ss' : FinMap nat_cmp ShutdownEntry) (rs' : FinMap nat_cmp ReceiverEntry) (next i s b : ℕ) (e e2 : ShutdownEntry) (ob : Option ReceiverEntry) (k : IsKept st next) (less : next ≤ i) (low : i < 2 ^ 64)
     (there : get st.shutdowns s ≡ Some e) (shutdowns : Puts st.shutdowns ss' s (Some e2)) (receivers : Puts st.receivers rs' b ob) (was : Belongs {X = ReceiverEntry} (λ x. x.shutdown) s (get st.receivers b)) (is : Belongs {X = ReceiverEntry} (λ x. x.shutdown) s ob) where

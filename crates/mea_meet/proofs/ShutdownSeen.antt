@@ -4,6 +4,7 @@ use Rattle.std.specs.Option.{option_map, IsSome}
 use Rattle.std.specs.Ordering.{nat_cmp}
 use Rattle.std.specs.FinMap.{FinMap, get, entries}
 use Rattle.mea_base.specs.Named.{named, at}
+use Rattle.mea_base.proofs.NamedMaps.{get-seen, is_some-map, kept-at}
 use Rattle.mea_meet_model.specs.Shutdowns.{Shutdown, Receiver, ShutdownWait, Shutdowns, no_shutdowns, new_shutdown, shutdown_at, receivers_of, waits_of, borrowers_of, borrows}
 use Rattle.mea_meet.specs.declared.shutdown_entries.ShutdownEntry.{ShutdownEntry}
 use Rattle.mea_meet.specs.declared.shutdown_entries.ReceiverEntry.{ReceiverEntry}
@@ -15,7 +16,6 @@ use Rattle.mea_meet.specs.ShutdownHall.{Store, store_of, slot_in, OfSignal, OfRe
 use Rattle.mea_meet.proofs.Names.{waiting-wakers}
 use Rattle.mea_meet.proofs.Maps.{Puts, put_here, total-named, kept-none, is_empty, seen-empty}
 use Rattle.mea_meet.proofs.Slots.{named_none}
-use Rattle.mea_base.proofs.NamedMaps.{get-seen, is_some-map, kept-at}
 
 module _ (st : Store) (n : ℕ) where
   pub shutdown-seen : (q : ℕ) → get (hall_of st n).shutdowns q ≡ option_map (shutdown_of st.waits n q) (get st.shutdowns q)

@@ -5,6 +5,7 @@ use Rattle.std.specs.Ordering.{nat_cmp}
 use Rattle.std.specs.FinMap.{FinMap, get, remove}
 use Rattle.std.proofs.lemmas.Bool.Decides.{nat_tests}
 use Rattle.mea_base.specs.Totals.{weight}
+use Rattle.mea_base.proofs.Tests.{at_same}
 use Rattle.mea_meet_model.specs.Shutdowns.{tidied, senders_of, receivers_of, waits_of, registered}
 use Rattle.mea_meet.specs.declared.shutdown_entries.ShutdownEntry.{ShutdownEntry}
 use Rattle.mea_meet.specs.declared.shutdown_entries.ReceiverEntry.{ReceiverEntry}
@@ -13,7 +14,6 @@ use Rattle.mea_meet.specs.ShutdownHall.{Store, shutdown_of, hall_of, senders_in,
 use Rattle.mea_meet.proofs.Maps.{Puts, put_other, total_puts, by_put, is_remove, weight-within, seen_puts}
 use Rattle.mea_meet.proofs.ShutdownChanges.{wakers_at, registered-seen}
 use Rattle.mea_meet.proofs.ShutdownSeen.{receivers-seen, waits-seen}
-use Rattle.mea_base.proofs.Tests.{at_same}
 
 module _ (st : Store) (next s : ℕ) (e : ShutdownEntry) (k : IsKept st next) (there : get st.shutdowns s ≡ Some e) where
   -- what is left is what the model counts

@@ -5,6 +5,7 @@ use Rattle.std.specs.Ordering.{nat_cmp}
 use Rattle.std.specs.FinMap.{FinMap, get, remove}
 use Rattle.std.proofs.lemmas.Bool.{eqb-true, eq-eqb, ne_eqb}
 use Rattle.mea_base.specs.Totals.{weight}
+use Rattle.mea_base.proofs.Tests.{at_same}
 use Rattle.mea_meet_model.specs.Shutdowns.{Signal, Receivers, with_wait, borrows}
 use Rattle.mea_meet.specs.Names.{AreNamed}
 use Rattle.mea_meet.specs.declared.shutdown_entries.ShutdownEntry.{ShutdownEntry}
@@ -17,7 +18,6 @@ use Rattle.mea_meet.proofs.ShutdownChanges.{Changes, Unplaced, Keeps, kept_after
 use Rattle.mea_meet.proofs.ShutdownSeen.{receiver-seen}
 use Rattle.mea_meet.proofs.ShutdownStill.{no-sender, no-receiver, no-wait, entry_after, still_named, still_given, still_shutdowns}
 use Rattle.mea_meet.proofs.ShutdownPlays.{Goes, seen_before}
-use Rattle.mea_base.proofs.Tests.{at_same}
 
 -- a future was not polled
 unplaced : (s : ℕ) (borrowed : Option ℕ) (end : End) → Unplaced end (Some (record { shutdown = s; wait = waits.Signal None borrowed }))

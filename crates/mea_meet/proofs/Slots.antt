@@ -3,22 +3,12 @@ use Rattle.std.proofs.Common.{◌≡◌, ◌⊎◌, inl, inr, ℕ, Option, Some,
 use Rattle.std.specs.Option.{option_map}
 use Rattle.std.specs.Ordering.{nat_cmp}
 use Rattle.std.specs.FinMap.{FinMap, get}
+use Rattle.mea_base.proofs.Tests.{by_name}
 use Rattle.mea_sets.specs.declared.place.Place.{Place}
 use Rattle.mea_sets.specs.WaitSet.{Registered, has_given}
 use Rattle.mea_meet.specs.Names.{Slots, waiting_at, AreNamed, AreGiven}
-use Rattle.mea_meet.proofs.Names.{waiting-alike, named-later}
+use Rattle.mea_meet.proofs.Names.{waiting-alike, named-later, object_in, place_in}
 use Rattle.mea_meet.proofs.Maps.{Puts, Belongs, put_here, put_other}
-use Rattle.mea_base.proofs.Tests.{by_name}
-
--- ---- one slot
--- its parts
-abbrev pub object_in : ℕ → Option (ℕ × Option Place) → ℕ
-object_in n None = n
-object_in n (Some p) = p.0
-
-abbrev pub place_in : Option Place → Option (ℕ × Option Place) → Option Place
-place_in t None = t
-place_in t (Some p) = p.1
 
 -- whose slot it is
 pub slot_owner : {X : Type 0} (object : X → ℕ) (slot : X → Option Place) (o : Option X) (q : ℕ) (t : Option Place) → option_map {U = ℕ × Option Place} (λ x. (object x, slot x)) o ≡ Some (q, t) → (x : X) × (o ≡ Some x) × (object x ≡ q) × (slot x ≡ t)

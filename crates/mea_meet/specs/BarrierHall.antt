@@ -8,10 +8,10 @@ use Rattle.mea_base.specs.Ready.{Waking}
 use Rattle.mea_base.specs.Totals.{total}
 use Rattle.mea_sets.specs.declared.place.Place.{Place}
 use Rattle.mea_sets.specs.Poll.{Poll, Ready, Pending}
+use Rattle.mea_meet_model.specs.Barriers.{Barrier, BarrierWait, Barriers}
 use Rattle.mea_meet_core.specs.declared.barrier_wait.BarrierWait.TheVariants as waits
 use Rattle.mea_meet_core.specs.declared.barrier_wait.BarrierWait.{BarrierWait as Wait}
 use Rattle.mea_meet_core.specs.Barrier.{is_open, Polls}
-use Rattle.mea_meet_model.specs.Barriers.{Barrier, BarrierWait, Barriers}
 use Rattle.mea_meet.specs.Names.{Slots, waiting_at, AreNamed}
 use Rattle.mea_meet.specs.declared.barriers.BarrierEntry.{BarrierEntry}
 use Rattle.mea_meet.specs.declared.barriers.BarrierWaitEntry.{BarrierWaitEntry}

@@ -3,7 +3,7 @@ use Rattle.std.specs.Prelude.{ℕ, ◌≡◌, ◌+◌, ◌-◌, ◌≤◌, ◌<�
 use Rattle.std.specs.Option.{option_map}
 use Rattle.std.specs.Ordering.{nat_cmp}
 use Rattle.std.specs.FinMap.{FinMap, get, entries}
-use Rattle.mea_base.specs.Named.{named}
+use Rattle.mea_base.specs.Named.{named, ChangesAt}
 use Rattle.mea_base.specs.Ready.{Waking}
 use Rattle.mea_base.specs.Totals.{total}
 use Rattle.mea_sets.specs.declared.place.Place.{Place}
@@ -11,7 +11,6 @@ use Rattle.mea_sets.specs.Poll.{Poll}
 use Rattle.mea_sets.specs.WaitSet.{has_given}
 use Rattle.mea_sets.specs.Countdown.{Counting, PollsCount}
 use Rattle.mea_meet_model.specs.Latches.{Latch, LatchWait, Latches}
-use Rattle.mea_meet.specs.Entries.{ChangesAt}
 use Rattle.mea_meet.specs.Names.{Slots, count_seen, AreNamed}
 use Rattle.mea_meet.specs.declared.latches.LatchEntry.{LatchEntry}
 use Rattle.mea_meet.specs.declared.latches.LatchWaitEntry.{LatchWaitEntry}

@@ -3,15 +3,14 @@ use Rattle.std.specs.Prelude.{ℕ, ◌≡◌, ◌+◌, ◌-◌, ◌≤◌, ◌<�
 use Rattle.std.specs.Option.{option_map}
 use Rattle.std.specs.Ordering.{nat_cmp}
 use Rattle.std.specs.FinMap.{FinMap, get, insert, remove, entries}
-use Rattle.mea_base.specs.Named.{named, at}
+use Rattle.mea_base.specs.Named.{named, at, ChangesAt}
 use Rattle.mea_base.specs.Totals.{total}
 use Rattle.mea_sets.specs.declared.place.Place.{Place}
 use Rattle.mea_sets.specs.WaitSet.{Registered, with_waker, slot_after}
 use Rattle.mea_sets.specs.Countdown as counts
-use Rattle.mea_meet_core.specs.Shutdown as cores
 use Rattle.mea_meet_model.specs.Count.{decreased, woken_by, without_future}
 use Rattle.mea_meet_model.specs.Shutdowns.{Shutdown, Receiver, Awaited, Signal, Receivers, ShutdownWait, Shutdowns, shutdown_at, borrows, awaited, with_awaited}
-use Rattle.mea_meet.specs.Entries.{ChangesAt}
+use Rattle.mea_meet_core.specs.Shutdown as cores
 use Rattle.mea_meet.specs.Names.{Slots, count_seen, AreNamed, AreGiven}
 use Rattle.mea_meet.specs.declared.shutdown_entries.ShutdownEntry.{ShutdownEntry}
 use Rattle.mea_meet.specs.declared.shutdown_entries.ReceiverEntry.{ReceiverEntry}

@@ -2,13 +2,12 @@ ghost use Rattle.std.specs.Prelude.{ℕ, ◌≡◌, ◌≢◌, ◌+◌, ◌-◌,
 ghost use Rattle.std.specs.Ordering.{nat_cmp};
 ghost use Rattle.std.specs.BTreeMap.{is_at};
 ghost use Rattle.std.specs.FinMap as map;
-ghost use Rattle.mea_base.specs.Named.{at};
+ghost use Rattle.mea_base.specs.Named.{at, ChangesAt};
 ghost use Rattle.mea_sets.specs.Countdown.{decreased, woken_by};
 ghost use Rattle.mea_sets.specs.WaitSet.{has_given};
 ghost use Rattle.mea_meet_core.specs.Count.{increased};
 ghost use Rattle.mea_meet_model.specs.Groups as model;
 ghost use Rattle.mea_meet_model.specs.Groups.{no_groups, registered};
-ghost use Rattle.mea_meet.specs.Entries.{ChangesAt};
 ghost use Rattle.mea_meet.specs.Play.{Yields, Rests};
 ghost use Rattle.mea_meet.specs.StandsFor.{StandsForGroup};
 ghost use Rattle.mea_meet.specs.GroupHall.{left_at, wakers_left};
@@ -112,7 +111,7 @@ impl GroupEntry {
     }
 }
 
-// A group with neither handle nor future is gone, and the wakers of ended futures with it.
+// A group with neither handle nor future is gone, with what is registered there.
 fn tidy(groups: &mut BTreeMap<u64, GroupEntry>, g: u64, ready: &mut Ready<u64>)
     requires { IfSome (at groups.old.entries g) (λ e. length e.core.count.waiting.wakers ≤ ready.old.registered) }
     ensures left { ChangesAt groups.old.entries groups.new.entries g (left_at (at groups.old.entries g)) }

@@ -9,10 +9,10 @@ use Rattle.std.proofs.lemmas.Bool.Decides.{nat_tests}
 use Rattle.mea_base.specs.Family.{Outcome, quietly}
 use Rattle.mea_base.specs.declared.answer.Answer.{Answer}
 use Rattle.mea_base.specs.declared.answer.Answer.TheVariants as answers
+use Rattle.mea_base.proofs.Maps.{by_put, by_at_put, by_at_gone, at-there, at-other, at-removed_other, at-empty, get-there, get-other, get-removed_other, is_there, inside, removed_there, nothing_at}
 use Rattle.mea_meet_model.specs.Waiting.{waker_for, registering, ending, wakers}
 use Rattle.mea_meet_model.specs.Barriers.{Barriers, Barrier, BarrierWait, no_barriers, new_barrier, barrier_at, waits_of, placed, placed_of, make, wait, drop, gone, end_of, leads, has_completed, leading, joining, waiting_on, poll_at, poll_of}
 use Rattle.mea_meet_model.specs.Valid.{round_now, arrived_in, HasBarriers}
-use Rattle.mea_base.proofs.Maps.{by_put, by_at_put, by_at_gone, at-there, at-other, at-removed_other, at-empty, get-there, get-other, get-removed_other, is_there, inside, removed_there, nothing_at}
 use Rattle.mea_meet_model.proofs.Waiting.{registering-there, registering-other, ending-other, ending-there, wakers-have}
 use Rattle.mea_meet_model.proofs.Going as going
 use Rattle.mea_meet_model.proofs.Belongs.{below-none, of-none, below-later, below-put, below-over, below-gone, fresh, of-objects_put, of-put, of-gone, of-objects_gone, none_of, made-same, made-put, made-over, made-gone, apart_from_gone}

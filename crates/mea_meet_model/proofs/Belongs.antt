@@ -6,9 +6,9 @@ use Rattle.std.specs.FinMap.{FinMap, get, insert, remove, empty}
 use Rattle.std.proofs.lemmas.Bool.{eq-eqb, ne_eqb}
 use Rattle.mea_base.specs.Totals.{total, weight}
 use Rattle.mea_base.proofs.Totals.{total-zero, total-insert, total-remove}
-use Rattle.mea_meet_model.specs.Valid.{AreBelow, AreOf}
 use Rattle.mea_base.proofs.Maps.{by_put, by_gone, is_absent, inside, removed_there, get-removed_other, total-has, nothing_at, nothing_there}
 use Rattle.mea_base.proofs.Tests.{on_true, on_false}
+use Rattle.mea_meet_model.specs.Valid.{AreBelow, AreOf}
 
 -- ---- the empty map
 pub below-none : (X : Type 0) (n : ℕ) → AreBelow (empty {X = X} {R = nat_cmp}) n

@@ -6,6 +6,8 @@ use Rattle.std.specs.FinMap.{get}
 use Rattle.std.proofs.lemmas.Bool.{ltb-false, eq-eqb}
 use Rattle.mea_base.specs.Family.{Outcome}
 use Rattle.mea_base.specs.declared.stop.Stop.TheVariants as stops
+use Rattle.mea_base.proofs.Maps.{inside}
+use Rattle.mea_base.proofs.Tests.{known}
 use Rattle.mea_meet_model.specs.declared.event.MeetEvent.{MeetEvent}
 use Rattle.mea_meet_model.specs.declared.event.MeetEvent.TheVariants as events
 use Rattle.mea_meet_model.specs.Barriers as barriers
@@ -20,14 +22,12 @@ use Rattle.mea_meet_model.specs.Cause.{cause_of, borrowed_by}
 use Rattle.mea_meet_model.specs.Step.{step, on_barriers, on_latches, on_groups, on_shutdowns}
 use Rattle.mea_meet_model.specs.Meets.{Future, AtBarrier, ForLatch, ForGroup, ForShutdown, waker_if, polled, name, lives, placed}
 use Rattle.mea_meet_model.specs.Valid.{HasBarriers, IsValid}
-use Rattle.mea_base.proofs.Maps.{inside}
 use Rattle.mea_meet_model.proofs.Belongs.{IsMade}
 use Rattle.mea_meet_model.proofs.BarrierWakes as at_barriers
 use Rattle.mea_meet_model.proofs.LatchWakes as at_latches
 use Rattle.mea_meet_model.proofs.GroupWakes as at_groups
 use Rattle.mea_meet_model.proofs.ShutdownKept.{shutdowns-empty, shutdowns-later}
 use Rattle.mea_meet_model.proofs.LiveShutdowns.{live-empty}
-use Rattle.mea_base.proofs.Tests.{known}
 use Rattle.mea_meet_model.proofs.ShutdownWakes as at_shutdowns
 
 -- ---- causes

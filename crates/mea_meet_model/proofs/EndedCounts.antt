@@ -5,6 +5,7 @@ use Rattle.std.specs.FinMap.{get, insert, remove}
 use Rattle.std.proofs.lemmas.Bool.{eq-eqb}
 use Rattle.mea_base.specs.Family.{quietly}
 use Rattle.mea_base.specs.declared.answer.Answer.TheVariants as answers
+use Rattle.mea_base.proofs.Maps.{by_gone, by_at_put, by_at_gone, total-has}
 use Rattle.mea_meet_model.specs.declared.event.MeetEvent.{MeetEvent}
 use Rattle.mea_meet_model.specs.declared.event.MeetEvent.TheVariants as events
 use Rattle.mea_meet_model.specs.Count.{Count, count_from, decreased, increased, woken_by, with_waker, without_future}
@@ -17,7 +18,6 @@ use Rattle.mea_meet_model.specs.Shutdowns.{Shutdowns, Shutdown, Receiver, Shutdo
 use Rattle.mea_meet_model.specs.Hall.{Hall}
 use Rattle.mea_meet_model.specs.Step.{step}
 use Rattle.mea_meet_model.specs.Valid.{HasLatches, HasGroups, HasShutdowns}
-use Rattle.mea_base.proofs.Maps.{by_gone, by_at_put, by_at_gone, total-has}
 use Rattle.mea_meet_model.proofs.Belongs.{counts, fresh}
 use Rattle.mea_meet_model.proofs.ShutdownKept.{counts_here}
 

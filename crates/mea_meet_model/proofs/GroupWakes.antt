@@ -9,15 +9,15 @@ use Rattle.mea_base.specs.Family.{Outcome, quietly}
 use Rattle.mea_base.specs.declared.answer.Answer.{Answer}
 use Rattle.mea_base.specs.declared.answer.Answer.TheVariants as answers
 use Rattle.mea_base.proofs.Totals.{total-empty}
+use Rattle.mea_base.proofs.Maps.{by_put, by_gone, by_at_put, by_at_gone, at-there, at-other, at-removed_other, at-empty, get-there, get-other, get-removed_other, inside, is_there, nothing_there}
+use Rattle.mea_base.proofs.Tests.{on_true, on_false}
 use Rattle.mea_meet_model.specs.Waiting.{waker_for}
 use Rattle.mea_meet_model.specs.Count.{Count, count_from, decreased, increased, woken_by, with_waker, without_future}
 use Rattle.mea_meet_model.specs.Groups.{Groups, no_groups, group_at, handles_of, waits_of, placed, placed_of, tidied, make, clone_of, leaving, into_of, copy_of, gone, poll_of, end_wait, end_of}
 use Rattle.mea_meet_model.specs.Valid.{AreBelow, IsQuietAtEnd, HasGroups, HasLiveGroups}
-use Rattle.mea_base.proofs.Maps.{by_put, by_gone, by_at_put, by_at_gone, at-there, at-other, at-removed_other, at-empty, get-there, get-other, get-removed_other, inside, is_there, nothing_there}
 use Rattle.mea_meet_model.proofs.Waiting.{registering-there, registering-other, registering-had, ending-other, ending-there, ending-had, decreased-keeps, decreased-had, quiet-decreased, quiet-registering, quiet-ending, quiet-increased, quiet-runs}
 use Rattle.mea_meet_model.proofs.Going as going
 use Rattle.mea_meet_model.proofs.Belongs.{below-none, of-none, below-later, below-put, below-over, below-gone, fresh, of-objects_put, of-put, of-gone, of-objects_gone, sum-put, sum-gone, none_of, none_yet, IsMade, made-same, made-put, made-gone, apart_from_gone}
-use Rattle.mea_base.proofs.Tests.{on_true, on_false}
 
 -- whose waker is registered with c, the group g, waits there
 abbrev Waits : FinMap nat_cmp ℕ → ℕ → Count → Type 0

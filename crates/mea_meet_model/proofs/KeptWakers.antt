@@ -6,6 +6,7 @@ use Rattle.std.proofs.lemmas.Option.{cond_some}
 use Rattle.mea_base.specs.Family.{RunOf, Runs, Starts, Goes, LosesNoWake, KeepsWakers, NamesFutures}
 use Rattle.mea_base.specs.declared.answer.Answer.TheVariants as answers
 use Rattle.mea_base.proofs.Wakes as wakes
+use Rattle.mea_base.proofs.Tests.{known}
 use Rattle.mea_meet_model.specs.declared.event.MeetEvent.{MeetEvent}
 use Rattle.mea_meet_model.specs.declared.event.MeetEvent.TheVariants as events
 use Rattle.mea_meet_model.specs.Hall.{Hall}
@@ -18,7 +19,6 @@ use Rattle.mea_meet_model.proofs.LatchWakes as at_latches
 use Rattle.mea_meet_model.proofs.GroupWakes as at_groups
 use Rattle.mea_meet_model.proofs.ShutdownWakes as at_shutdowns
 use Rattle.mea_meet_model.proofs.EachEvent.{steps, valid_empty}
-use Rattle.mea_base.proofs.Tests.{known}
 
 -- every hall that events reach is valid
 pub valid_run : (r : RunOf meets) → Runs meets r → IsValid r.hall r.next

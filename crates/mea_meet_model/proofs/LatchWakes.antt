@@ -8,16 +8,16 @@ use Rattle.std.proofs.lemmas.Bool.{ltb-true, ltb-false, eqb-true, eqb-false, ne_
 use Rattle.mea_base.specs.Family.{Outcome, quietly}
 use Rattle.mea_base.specs.declared.answer.Answer.{Answer}
 use Rattle.mea_base.specs.declared.answer.Answer.TheVariants as answers
+use Rattle.mea_base.proofs.Totals.{total-empty, total-zero}
+use Rattle.mea_base.proofs.Maps.{by_put, by_gone, by_at_put, by_at_gone, at-there, at-other, at-removed_other, at-empty, get-other, get-removed_other, inside, is_there, nothing_there, total-gone}
+use Rattle.mea_base.proofs.Tests.{on_false}
 use Rattle.mea_meet_model.specs.Waiting.{waker_for}
 use Rattle.mea_meet_model.specs.Count.{decreased, woken_by, with_waker, without_future}
 use Rattle.mea_meet_model.specs.Latches.{Latches, Latch, LatchWait, no_latches, new_latch, latch_at, is_named_latch, is_named, waits_of, plain_waits_of, placed, placed_of, with_latch, tidied, make, arrive, wait, gone, poll_of, end_of, drop}
-use Rattle.mea_base.proofs.Totals.{total-empty, total-zero}
 use Rattle.mea_meet_model.specs.Valid.{AreBelow, IsQuietAtEnd, waiting_for, HasLatches, HasLiveLatches}
-use Rattle.mea_base.proofs.Maps.{by_put, by_gone, by_at_put, by_at_gone, at-there, at-other, at-removed_other, at-empty, get-other, get-removed_other, inside, is_there, nothing_there, total-gone}
 use Rattle.mea_meet_model.proofs.Waiting.{registering-there, registering-other, registering-had, ending-other, ending-there, ending-had, decreased-keeps, decreased-had, quiet-decreased, quiet-registering, quiet-ending, quiet-runs}
 use Rattle.mea_meet_model.proofs.Going as going
 use Rattle.mea_meet_model.proofs.Belongs.{sum-put, sum-gone, below-none, of-none, below-later, below-put, below-over, below-gone, fresh, of-objects_put, of-put, of-gone, of-objects_gone, none_of, IsMade, made-same, made-put, made-gone, apart_from_gone}
-use Rattle.mea_base.proofs.Tests.{on_false}
 
 -- whose waker is registered with r, the latch l, waits there
 abbrev Waits : FinMap nat_cmp LatchWait → ℕ → Latch → Type 0

@@ -3,12 +3,12 @@ use Rattle.std.proofs.Common.{◌≡◌, ℕ, ◌+◌, ◌<◌, ◌≤◌, ◌==
 use Rattle.std.specs.Option.{IsSome}
 use Rattle.std.specs.FinMap.{get, insert, remove}
 use Rattle.std.proofs.lemmas.Bool.{ltb-true, eqb-true, eqb-false, eq-eqb, ne_eqb}
+use Rattle.mea_base.proofs.Maps.{by_put, by_gone, get-other, nothing_there}
+use Rattle.mea_base.proofs.Tests.{on_true, on_false}
 use Rattle.mea_meet_model.specs.Count.{decreased, without_future}
 use Rattle.mea_meet_model.specs.Shutdowns.{Shutdowns, Shutdown, Receiver, ShutdownWait, Awaited, Receivers, no_shutdowns, new_shutdown, shutdown_at, senders_of, receivers_of, waits_of, awaited, with_awaited, with_shutdown, with_wait, tidied, make, gone}
 use Rattle.mea_meet_model.specs.Valid.{HasShutdowns, HasLiveShutdowns}
-use Rattle.mea_base.proofs.Maps.{by_put, by_gone, get-other, nothing_there}
 use Rattle.mea_meet_model.proofs.Belongs.{sum-put, sum-gone}
-use Rattle.mea_base.proofs.Tests.{on_true, on_false}
 
 pub live-empty : HasLiveShutdowns no_shutdowns
 live-empty = λ s there. absurd (nothing_there Shutdown s there)

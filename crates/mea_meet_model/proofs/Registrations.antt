@@ -4,6 +4,7 @@ use Rattle.std.specs.FinMap.{get, insert, remove}
 use Rattle.mea_base.specs.Family.{Outcome, quietly}
 use Rattle.mea_base.specs.declared.answer.Answer.TheVariants as answers
 use Rattle.mea_base.proofs.Totals.{total-empty}
+use Rattle.mea_base.proofs.Maps.{sizes-put, total-gone}
 use Rattle.mea_meet_model.specs.declared.event.MeetEvent.{MeetEvent}
 use Rattle.mea_meet_model.specs.declared.event.MeetEvent.TheVariants as events
 use Rattle.mea_meet_model.specs.Waiting.{registering, ending}
@@ -18,7 +19,6 @@ use Rattle.mea_meet_model.specs.Shutdowns as shutdowns
 use Rattle.mea_meet_model.specs.Shutdowns.{Shutdowns, Shutdown, Receiver, ShutdownWait, Awaited, Signal, Receivers}
 use Rattle.mea_meet_model.specs.Hall.{Hall, empty_hall, registered}
 use Rattle.mea_meet_model.specs.Step.{step, registers}
-use Rattle.mea_base.proofs.Maps.{sizes-put, total-gone}
 use Rattle.mea_meet_model.proofs.Waiting.{length-registering, length-ending, length-wakers, length-decreased}
 
 -- after o, of what has counts of registered wakers, no more than n are registered or woken

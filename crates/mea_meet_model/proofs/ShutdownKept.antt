@@ -6,14 +6,14 @@ use Rattle.std.specs.FinMap.{FinMap, get, insert, remove}
 use Rattle.std.proofs.lemmas.Bool.{ltb-false, eq-eqb, ne_eqb}
 use Rattle.mea_base.specs.Totals.{total}
 use Rattle.mea_base.proofs.Totals.{total-zero}
+use Rattle.mea_base.proofs.Maps.{by_put, by_gone, by_at_put, by_at_gone, at-empty, get-there, get-other, get-removed_other, removed_there, inside, is_there, nothing_at, nothing_there, total-has}
+use Rattle.mea_base.proofs.Tests.{on_true, on_false}
 use Rattle.mea_meet_model.specs.Waiting.{waker_for}
 use Rattle.mea_meet_model.specs.Count.{Count, count_from, decreased, increased, with_waker, without_future}
 use Rattle.mea_meet_model.specs.Shutdowns.{Shutdowns, Shutdown, Receiver, ShutdownWait, Awaited, Signal, Receivers, no_shutdowns, new_shutdown, shutdown_at, senders_of, receivers_of, waits_of, borrows, borrowers_of, awaited, with_awaited, with_shutdown, tidied, make}
 use Rattle.mea_meet_model.specs.Valid.{AreBelow, IsQuietAtEnd, counted_receivers, receiver_of, waiting_signal, waiting_end, HasShutdowns}
-use Rattle.mea_base.proofs.Maps.{by_put, by_gone, by_at_put, by_at_gone, at-empty, get-there, get-other, get-removed_other, removed_there, inside, is_there, nothing_at, nothing_there, total-has}
 use Rattle.mea_meet_model.proofs.Waiting.{registering-had, ending-there, ending-had, decreased-had, quiet-decreased, quiet-ending, quiet-increased}
 use Rattle.mea_meet_model.proofs.Belongs.{fresh, below-none, of-none, below-later, below-put, below-over, below-gone, of-objects_put, of-put, of-gone, of-objects_gone, sum-put, sum-gone}
-use Rattle.mea_base.proofs.Tests.{on_true, on_false}
 
 -- ---- who counts as a receiver of s
 pub counts_not : (a b : Bool) (n : ℕ) → b ≡ true → cond (a && not b) n 0 ≡ 0

@@ -6,11 +6,11 @@ use Rattle.std.specs.FinMap.{get, insert, remove}
 use Rattle.mea_base.specs.Family.{Outcome, quietly}
 use Rattle.mea_base.specs.declared.answer.Answer.{Answer}
 use Rattle.mea_base.specs.declared.answer.Answer.TheVariants as answers
+use Rattle.mea_base.proofs.Maps.{by_at_put, at-there, at-other, at-removed_other, get-other, get-removed_other, inside, is_there}
 use Rattle.mea_meet_model.specs.Waiting.{waker_for}
 use Rattle.mea_meet_model.specs.Count.{Count, decreased, increased, woken_by, with_waker, without_future}
 use Rattle.mea_meet_model.specs.Shutdowns.{Shutdowns, Shutdown, Receiver, ShutdownWait, Awaited, Signal, Receivers, new_shutdown, shutdown_at, senders_of, receivers_of, waits_of, borrowers_of, placed, placed_of, awaited, awaited_number, with_awaited, with_shutdown, with_wait, tidied, make, copy_sender_of, copied, copy_receiver_of, signal_of, now_of, watch_of, wait_of, await_of, gone, poll_of, end_of, end_sender_of, end_receiver_of}
 use Rattle.mea_meet_model.specs.Valid.{receiver_of, waiting_signal, waiting_end, HasShutdowns, HasLiveShutdowns}
-use Rattle.mea_base.proofs.Maps.{by_at_put, at-there, at-other, at-removed_other, get-other, get-removed_other, inside, is_there}
 use Rattle.mea_meet_model.proofs.Waiting.{registering-there, registering-other, ending-other, decreased-keeps, decreased-had, quiet-decreased, quiet-registering, quiet-runs}
 use Rattle.mea_meet_model.proofs.Going as going
 use Rattle.mea_meet_model.proofs.Belongs.{fresh, none_of, IsMade, made-same, made-put, made-gone, apart_from_gone}

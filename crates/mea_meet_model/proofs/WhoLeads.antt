@@ -5,6 +5,8 @@ use Rattle.std.proofs.lemmas.Bool.{eq-eqb, ne_eqb}
 use Rattle.std.specs.FinMap.{get, insert}
 use Rattle.mea_base.specs.Family.{quietly}
 use Rattle.mea_base.specs.declared.answer.Answer.TheVariants as answers
+use Rattle.mea_base.proofs.Maps.{by_gone, by_at_put}
+use Rattle.mea_base.proofs.Tests.{on_true, on_false}
 use Rattle.mea_meet_model.specs.declared.event.MeetEvent.{MeetEvent}
 use Rattle.mea_meet_model.specs.declared.event.MeetEvent.TheVariants as events
 use Rattle.mea_meet_model.specs.Waiting.{registering, ending, wakers}
@@ -19,10 +21,8 @@ use Rattle.mea_meet_model.specs.Hall.{Hall}
 use Rattle.mea_meet_model.specs.Step.{step}
 use Rattle.mea_meet_model.specs.Leaders.{is_leader, leads_new, leads_wait, leads_by, arrivals_new, arrivals_wait, arrivals_by, leaders}
 use Rattle.mea_meet_model.specs.Valid.{AreBelow, IsValid}
-use Rattle.mea_base.proofs.Maps.{by_gone, by_at_put}
 use Rattle.mea_meet_model.proofs.Belongs.{fresh}
 use Rattle.mea_meet_model.proofs.Rounds.{same_round, next_round, one_round}
-use Rattle.mea_base.proofs.Tests.{on_true, on_false}
 
 -- ---- a poll at a barrier
 leader-at : (h : Barriers) (f w : ℕ) (x : BarrierWait) (o : Option ℕ) → is_leader (poll_at h f w x o).reply ≡ leads_new (barrier_at h x.barrier) o

@@ -4,6 +4,7 @@ use Rattle.std.specs.Prelude.{ℕ, ◌==◌, not, Bool, true, false, Option, Som
 use Rattle.std.specs.FinMap as map
 use Rattle.mea_base.specs.declared.stop.Stop.{Stop}
 use Rattle.mea_base.specs.declared.stop.Stop.TheVariants as stops
+use Rattle.mea_base.specs.Causes.{unknown_unless}
 use Rattle.mea_meet_model.specs.declared.event.MeetEvent.{MeetEvent}
 use Rattle.mea_meet_model.specs.declared.event.MeetEvent.TheVariants.{BarNew, BarWait, BarPoll, BarEnd, BarDrop, LatNew, LatCount, LatDown, LatArrive, LatTry, LatWait, LatWaito, LatPoll, LatEnd, LatDrop, WgNew, WgClone, WgInto, WgCopy, WgPoll, WgEnd, SdNew, SdCopys, SdCopyr, SdSignal, SdNow, SdWatch, SdIs, SdIso, SdAwait, SdPoll, SdEnd, SdEnds, SdEndr}
 use Rattle.mea_meet_model.specs.Barriers as barriers
@@ -13,7 +14,6 @@ use Rattle.mea_meet_model.specs.Groups.{Groups}
 use Rattle.mea_meet_model.specs.Shutdowns as shutdowns
 use Rattle.mea_meet_model.specs.Shutdowns.{Shutdowns, Receiver}
 use Rattle.mea_meet_model.specs.Hall.{Hall}
-use Rattle.mea_base.specs.Causes.{unknown_unless}
 
 -- unknown, unless this is known; and then borrowed where there are so many borrowers
 abbrev pub borrowed_by : Bool → ℕ → Option Stop

@@ -5,6 +5,7 @@ use Rattle.std.specs.FinMap.{get, insert, remove}
 use Rattle.std.proofs.lemmas.Bool.{eqb-true, eqb-false}
 use Rattle.mea_base.proofs.NamedMaps.{same_named, get-seen}
 use Rattle.mea_base.proofs.Totals.{get_inserted, get_removed}
+use Rattle.mea_base.proofs.Tests.{at_same, at_apart}
 use Rattle.mea_sem_model.specs.Hall.{Future, Waiter}
 use Rattle.mea_sem_core.specs.declared.acquire.Acquire.{Acquire}
 use Rattle.mea_sem_core.specs.declared.acquire.Acquire.TheVariants.{New, Queued, Done}
@@ -16,7 +17,6 @@ use Rattle.mea_sem.specs.declared.entries.FutureEntry.{FutureEntry}
 use Rattle.mea_sem.specs.Store.{Store, is_under, has, name_of, who_of, queue_of, semaphore_of, stage_of, stage_under, queue_in, future_of, hall_of, IsOpen, IsHome, IsOwned, IsNumbered, IsLinked}
 use Rattle.mea_sem.proofs.Cores.{IsAt, all_at, all_by}
 use Rattle.mea_sem.proofs.Names.{has-parts, under-queued, owner_has, name-owner, queue_of-same}
-use Rattle.mea_base.proofs.Tests.{at_same, at_apart}
 
 -- in s, e becomes e'; and the future f, o before, becomes o'
 pub record Changes (st st' : Store) (b b' s f : ℕ) (e e' : SemaphoreEntry) (o o' : Option FutureEntry) : Type 0 where

@@ -8,9 +8,9 @@ use Rattle.std.proofs.lemmas.Bool.Decides.{nat_tests}
 use Rattle.std.proofs.lemmas.List.Sums.{sum_by-cons}
 use Rattle.mea_base.specs.Queue.{lacks_after, waiting_after, granted_in}
 use Rattle.mea_base.proofs.Totals.{get_inserted}
+use Rattle.mea_base.proofs.Tests.{at_same, at_apart}
 use Rattle.mea_sem_core.specs.Core.{Waiter, Acquires, Owes, waiting, waker_under, AreApart, granting, debts, debt_of}
 use Rattle.mea_sem_core.specs.Calls.{with_waker, without_acquire, with_debt}
-use Rattle.mea_base.proofs.Tests.{at_same, at_apart}
 
 abbrev pub Queue : Type 0
 Queue = List (Waiter ℕ × ℕ)

@@ -2,6 +2,11 @@
 use Rattle.std.proofs.Common.{◌≡◌, inl, inr, ℕ, ◌+◌, ◌≤◌, ◌==◌, Bool, true, false, cond, refl, ap, sym, subst, ◌∙◌, arith, Option, Some, None}
 use Rattle.std.specs.Option.{option_map}
 use Rattle.std.specs.FinMap.{get, insert, remove}
+use Rattle.std.proofs.lemmas.Bool.{eqb-true, eq-eqb, and_from, and_parts}
+use Rattle.std.proofs.Common.{◌&&◌}
+use Rattle.mea_base.proofs.Totals.{get_removed}
+use Rattle.mea_base.proofs.Tests.{at_same, at_apart}
+use Rattle.mea_base.proofs.NamedMaps.{get-seen}
 use Rattle.mea_sem_model.specs.Hall.{Stage}
 use Rattle.mea_sem_core.specs.declared.acquire.Acquire.{Acquire}
 use Rattle.mea_sem_core.specs.declared.acquire.Acquire.TheVariants as acquires
@@ -11,13 +16,8 @@ use Rattle.mea_sem_core.specs.Calls.{Belongs}
 use Rattle.mea_sem.specs.declared.entries.SemaphoreEntry.{SemaphoreEntry}
 use Rattle.mea_sem.specs.declared.entries.FutureEntry.{FutureEntry}
 use Rattle.mea_sem.specs.Store.{Store, has, queue_of, queue_in, stage_of, future_of, hall_of, IsNumbered, IsLinked}
-use Rattle.std.proofs.lemmas.Bool.{eqb-true, eq-eqb, and_from, and_parts}
-use Rattle.std.proofs.Common.{◌&&◌}
-use Rattle.mea_base.proofs.Totals.{get_removed}
 use Rattle.mea_sem.specs.Store.{is_under}
 use Rattle.mea_sem.proofs.Changes.{Changes, linked_after, queue_kept, semaphores_after, futures_gone}
-use Rattle.mea_base.proofs.Tests.{at_same, at_apart}
-use Rattle.mea_base.proofs.NamedMaps.{get-seen}
 
 -- a future as it is seen, at a stage that is known
 pub seen_future : (st : Store) (b f : ℕ) (x : FutureEntry) (e : SemaphoreEntry) (a : Acquire) (z : Stage) → get st.futures f ≡ Some x

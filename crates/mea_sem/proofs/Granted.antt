@@ -5,6 +5,7 @@ use Rattle.std.specs.FinMap.{get, len}
 use Rattle.std.proofs.lemmas.Bool.{eqb-true, eq-eqb}
 use Rattle.mea_base.specs.Totals.{weight}
 use Rattle.mea_base.proofs.Totals.{total-alike}
+use Rattle.mea_base.proofs.NamedMaps.{get-seen}
 use Rattle.mea_sem_model.specs.Hall.{Future}
 use Rattle.mea_sem_core.specs.declared.acquire.Acquire.{Acquire}
 use Rattle.mea_sem_core.specs.declared.acquire.Acquire.TheVariants as acquires
@@ -16,7 +17,6 @@ use Rattle.mea_sem.specs.Store.{Store, is_under, stage_of, stage_under, queue_in
 use Rattle.mea_sem.specs.StandsFor.{one_if_granted, granted_futures}
 use Rattle.mea_sem.proofs.Cores.{waker-none, waker-some}
 use Rattle.mea_sem.proofs.Matching.{Matches, matches_count}
-use Rattle.mea_base.proofs.NamedMaps.{get-seen}
 
 abbrev number_of : Acquire → ℕ
 number_of (acquires.New d) = 0

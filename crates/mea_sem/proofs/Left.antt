@@ -4,6 +4,7 @@ use Rattle.std.specs.List.{AllByRecursion}
 use Rattle.std.specs.FinMap.{get, insert, remove}
 use Rattle.std.proofs.lemmas.List.Sums.{sum_by-cons}
 use Rattle.std.proofs.lemmas.Bool.{eqb-true, eqb-false, eq-eqb, and_from, and_parts}
+use Rattle.mea_base.proofs.Tests.{at_apart}
 use Rattle.mea_sem_model.specs.Hall.{Who, Waiter, Debt, names, lack_of}
 use Rattle.mea_sem_model.specs.Step.{without}
 use Rattle.mea_sem_core.specs.declared.acquire.Acquire.TheVariants as acquires
@@ -16,7 +17,6 @@ use Rattle.mea_sem.specs.Kept.{wakers_in}
 use Rattle.mea_sem.proofs.Cores.{Queue, IsAt, all_at, all_by, is_number, waiting-without, waker-without, AreApart-without}
 use Rattle.mea_sem.proofs.PourHalls.{names-number}
 use Rattle.mea_sem.proofs.Changes.{Changes, linked_after, semaphores_after, futures_gone, name_kept}
-use Rattle.mea_base.proofs.Tests.{at_apart}
 
 -- whether a waiter is named as f where it has the number n
 abbrev NamedAs : (cores.Waiter ℕ → Who) → ℕ → ℕ → cores.Waiter ℕ × ℕ → Type 0

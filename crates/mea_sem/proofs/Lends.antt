@@ -3,6 +3,7 @@ use Rattle.std.proofs.Common.{◌≡◌, ℕ, List, [], ◌∷◌, map, refl, ap
 use Rattle.std.specs.List.{AllByRecursion}
 use Rattle.std.specs.Option.{option_map}
 use Rattle.std.specs.FinMap.{get}
+use Rattle.mea_base.proofs.NamedMaps.{get-seen}
 use Rattle.mea_sem_model.specs.Hall.{Semaphore, Who, waker_of, waker_of_future, waker_of_who}
 use Rattle.mea_sem_core.specs.Core as cores
 use Rattle.mea_sem.specs.declared.entries.SemaphoreEntry.{SemaphoreEntry}
@@ -14,7 +15,6 @@ use Rattle.mea_sem.proofs.Granted.{granted-seen}
 use Rattle.mea_sem.proofs.Lives.{live-seen}
 use Rattle.mea_sem.proofs.Names.{name-owner}
 use Rattle.mea_sem.proofs.PourHalls.{seen_at}
-use Rattle.mea_base.proofs.NamedMaps.{get-seen}
 
 module _ (st : Store) (b s : ℕ) (e : SemaphoreEntry) (linked : IsLinked st b) (there : get st.semaphores s ≡ Some e) where
   -- who waits in the core has the waker of the future that it names

@@ -3,6 +3,8 @@ use Rattle.std.proofs.Common.{◌≡◌, ◌⊎◌, inl, inr, ℕ, ◌+◌, ◌^
 use Rattle.std.specs.Option.{option_map}
 use Rattle.std.specs.FinMap.{get, insert}
 use Rattle.std.proofs.lemmas.Bool.{eqb-true, eq-eqb, and_from, and_parts}
+use Rattle.mea_base.proofs.Tests.{at_same}
+use Rattle.mea_base.proofs.NamedMaps.{get-seen}
 use Rattle.mea_sem_model.specs.declared.event.SemEvent.TheVariants as events
 use Rattle.mea_sem_model.specs.Hall.{Hall, Future, Waiting, Waiter, Debt}
 use Rattle.mea_sem_model.specs.Cause.{cause_of}
@@ -21,8 +23,6 @@ use Rattle.mea_sem.proofs.Changes.{Changes, linked_after, semaphores_after, futu
 use Rattle.mea_sem.proofs.Weighs.{weighs_future}
 use Rattle.mea_sem.proofs.Keeping.{Plays, settled_as}
 use Rattle.mea_sem.proofs.PlaysPermits.{as_it_was}
-use Rattle.mea_base.proofs.Tests.{at_same}
-use Rattle.mea_base.proofs.NamedMaps.{get-seen}
 
 abbrev first_or_none : Option (ℕ × ℕ) → ℕ
 first_or_none None = 0

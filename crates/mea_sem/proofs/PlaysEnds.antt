@@ -3,6 +3,7 @@ use Rattle.std.proofs.Common.{◌≡◌, ℕ, ◌+◌, ◌-◌, ◌^◌, ◌<◌
 use Rattle.std.specs.Option.{option_map}
 use Rattle.std.specs.FinMap.{get, insert, remove}
 use Rattle.mea_base.specs.Queue.{granted_in}
+use Rattle.mea_base.proofs.NamedMaps.{get-seen}
 use Rattle.mea_sem_model.specs.declared.event.SemEvent.{SemEvent}
 use Rattle.mea_sem_model.specs.declared.event.SemEvent.TheVariants as events
 use Rattle.mea_sem_model.specs.Hall.{Hall, Future, Permit, Stage, New, Waiting, Granted, semaphore_at, queue_at, with_semaphore, lack_of}
@@ -25,7 +26,6 @@ use Rattle.mea_sem.proofs.Keeping.{Plays, settled_as}
 use Rattle.mea_sem.proofs.PlaysPermits.{as_it_was, permit_counts}
 use Rattle.mea_sem.proofs.PlaysReady.{future_counts}
 use Rattle.mea_sem.proofs.PlaysPours.{poured_entry, between, between_at, wakes_poured, plays_poured}
-use Rattle.mea_base.proofs.NamedMaps.{get-seen}
 
 -- an event's hall and its wakes, as the code leaves them
 pub record PlaysWith (st st' : Store) (next i : ℕ) (event : SemEvent) (w' sp' : ℕ) (woken : List ℕ) : Type 0 where

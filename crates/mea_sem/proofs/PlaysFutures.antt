@@ -3,6 +3,8 @@ use Rattle.std.proofs.Common.{◌≡◌, ◌≢◌, ◌⊎◌, inl, inr, ℕ, �
 use Rattle.std.specs.Option.{option_map}
 use Rattle.std.specs.FinMap.{get, insert}
 use Rattle.std.proofs.lemmas.Bool.{eqb-true, eqb-false, eq-eqb, and_from}
+use Rattle.mea_base.proofs.Tests.{at_same, at_apart}
+use Rattle.mea_base.proofs.NamedMaps.{get-seen}
 use Rattle.mea_sem_model.specs.declared.event.SemEvent.{SemEvent}
 use Rattle.mea_sem_model.specs.declared.event.SemEvent.TheVariants as events
 use Rattle.mea_sem_model.specs.Hall.{Hall, Future, New, Waiting, Waiter, semaphore_at}
@@ -25,8 +27,6 @@ use Rattle.mea_sem.proofs.Changes.{Changes, linked_after, queue_kept, semaphores
 use Rattle.mea_sem.proofs.Weighs.{one, weighs_new_future, weighs_future}
 use Rattle.mea_sem.proofs.Keeping.{Plays, settled_as}
 use Rattle.mea_sem.proofs.PlaysPermits.{as_it_was}
-use Rattle.mea_base.proofs.Tests.{at_same, at_apart}
-use Rattle.mea_base.proofs.NamedMaps.{get-seen}
 
 abbrev first_or_none : Option (ℕ × ℕ) → ℕ
 first_or_none None = 0

@@ -7,20 +7,20 @@ use Rattle.std.proofs.lemmas.Bool.{eqb-true, eqb-false}
 use Rattle.mea_base.specs.Totals.{total, weight}
 use Rattle.mea_base.proofs.NamedMaps.{same_named, get-seen}
 use Rattle.mea_base.proofs.Totals.{get_inserted, total-insert, total-zero}
+use Rattle.mea_base.proofs.Tests.{at_same, at_apart}
 use Rattle.mea_sem_model.specs.declared.event.SemEvent.TheVariants as events
 use Rattle.mea_sem_model.specs.Hall.{Hall, Future, Permit, made_with, held, plain_things, with_semaphore}
 use Rattle.mea_sem_model.specs.Valid.{IsValid, IsBelow, IsAccounted}
 use Rattle.mea_sem_model.proofs.Keeps.{keeps_below, keeps_account, below_later}
+use Rattle.mea_sem_model.proofs.StaysValid.{kept_valid}
 use Rattle.mea_sem_core.specs.Core as cores
+use Rattle.mea_sem_core.specs.Acquire.{demand_of}
 use Rattle.mea_sem.specs.declared.entries.SemaphoreEntry.{SemaphoreEntry}
 use Rattle.mea_sem.specs.declared.entries.FutureEntry.{FutureEntry}
 use Rattle.mea_sem.specs.Store.{Store, semaphore_of, stage_of, queue_in, future_of, hall_of, IsHome, IsOwned, IsNumbered, IsLinked}
 use Rattle.mea_sem.specs.Kept.{wakers_in, IsKeptEntry, IsKept}
 use Rattle.mea_sem.proofs.Renumbered.{hall_renumbered}
 use Rattle.mea_sem.proofs.Keeping.{Plays}
-use Rattle.mea_sem_core.specs.Acquire.{demand_of}
-use Rattle.mea_base.proofs.Tests.{at_same, at_apart}
-use Rattle.mea_sem_model.proofs.StaysValid.{kept_valid}
 
 abbrev pub fresh_core : ℕ → cores.Core ℕ
 fresh_core n = record { free = n; live = n; queue = []; granted = empty; wakes = [] }

@@ -4,9 +4,10 @@ use Rattle.std.specs.Ordering.{nat_cmp}
 use Rattle.std.specs.FinMap.{FinMap, get, insert, remove}
 use Rattle.std.proofs.lemmas.Bool.{le-leb, eqb-true}
 use Rattle.std.specs.Option.{option_map}
-use Rattle.mea_base.proofs.NamedMaps.{same_named, get-seen}
 use Rattle.mea_base.specs.declared.answer.Answer.TheVariants as answers
+use Rattle.mea_base.proofs.NamedMaps.{same_named, get-seen}
 use Rattle.mea_base.proofs.Totals.{get_removed, get_inserted}
+use Rattle.mea_base.proofs.Tests.{at_same, at_apart}
 use Rattle.mea_sem_model.specs.declared.event.SemEvent.{SemEvent}
 use Rattle.mea_sem_model.specs.declared.event.SemEvent.TheVariants as events
 use Rattle.mea_sem_model.specs.Hall.{Hall, Semaphore, Permit, semaphore_at, with_semaphore, free, held}
@@ -22,7 +23,6 @@ use Rattle.mea_sem.proofs.Still.{IsStill, still_queue, linked_still, queue_still
 use Rattle.mea_sem.proofs.Weighs.{Weighs, one, weighs_after, weighs_as, weighs_new_permit, weighs_permit, weighs_lost_permit}
 use Rattle.mea_sem.proofs.Keeping.{Plays, settled_as}
 use Rattle.mea_sem.proofs.PlaysSemaphores.{Puts}
-use Rattle.mea_base.proofs.Tests.{at_same, at_apart}
 
 -- there is no permit of a number that was not given
 pub no_permit : (st : Store) (w sp next i : ℕ) → IsKept st w sp next → next ≤ i → get st.permits i ≡ None

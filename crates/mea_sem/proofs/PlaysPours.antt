@@ -2,6 +2,8 @@
 use Rattle.std.proofs.Common.{◌≡◌, ℕ, ◌+◌, ◌-◌, ◌^◌, ◌<◌, ◌≤◌, ◌==◌, Bool, true, false, cond, List, [], ◌∷◌, filter, length, min, refl, ap, sym, ◌∙◌, arith, Some, None}
 use Rattle.std.specs.FinMap.{get, insert}
 use Rattle.mea_base.specs.Queue.{lacks_after, waiting_after, granted_in}
+use Rattle.mea_base.proofs.Totals.{get_inserted}
+use Rattle.mea_base.proofs.Tests.{at_same}
 use Rattle.mea_sem_model.specs.declared.event.SemEvent.{SemEvent}
 use Rattle.mea_sem_model.specs.Hall.{Hall, pour, wakes_of}
 use Rattle.mea_sem_model.specs.Cause.{cause_of}
@@ -11,12 +13,10 @@ use Rattle.mea_sem_core.specs.Core as cores
 use Rattle.mea_sem.specs.declared.entries.SemaphoreEntry.{SemaphoreEntry}
 use Rattle.mea_sem.specs.Store.{Store, hall_of, IsLinked}
 use Rattle.mea_sem.specs.Kept.{wakers_in, IsKept}
-use Rattle.mea_base.proofs.Totals.{get_inserted}
 use Rattle.mea_sem.proofs.Cores.{debts-pour, still_waiting, paid_whole, one_more}
 use Rattle.mea_sem.proofs.PourHalls.{PoursInto, hall_poured, linked_poured, wakes_seen}
 use Rattle.mea_sem.proofs.Weighs.{Weighs, weighs_after, weighs_as, weighs_pour}
 use Rattle.mea_sem.proofs.Keeping.{Plays, settled_as}
-use Rattle.mea_base.proofs.Tests.{at_same}
 
 -- ---- the wakers of those who are granted leave the queue
 wakers_split : (q : List (cores.Waiter ℕ × ℕ)) (before n : ℕ)

@@ -5,21 +5,21 @@ use Rattle.std.specs.FinMap.{FinMap, get, insert, remove}
 use Rattle.mea_base.specs.declared.answer.Answer.{Answer}
 use Rattle.mea_base.proofs.NamedMaps.{same_named}
 use Rattle.mea_base.proofs.Totals.{get_inserted}
+use Rattle.mea_base.proofs.Tests.{at_same}
 use Rattle.mea_sem_model.specs.declared.event.SemEvent.TheVariants as events
 use Rattle.mea_sem_model.specs.Hall.{Hall, Semaphore, Future, Permit, semaphore_at, with_semaphore}
 use Rattle.mea_sem_model.specs.Cause.{cause_of}
 use Rattle.mea_sem_model.specs.Step.{step, quietly, without_future, with_permit, made_ready}
+use Rattle.mea_sem_model.proofs.HallLemmas.{semaphore_put}
 use Rattle.mea_sem_core.specs.Core as cores
 use Rattle.mea_sem.specs.declared.entries.SemaphoreEntry.{SemaphoreEntry}
 use Rattle.mea_sem.specs.declared.entries.FutureEntry.{FutureEntry}
 use Rattle.mea_sem.specs.Store.{Store, queue_of, hall_of}
 use Rattle.mea_sem.specs.Kept.{wakers_in, IsKept}
-use Rattle.mea_sem_model.proofs.HallLemmas.{semaphore_put}
 use Rattle.mea_sem.proofs.Gone.{Leaves, linked_gone, hall_gone}
 use Rattle.mea_sem.proofs.Weighs.{Weighs, one, weighs_after, weighs_as, weighs_new_permit, weighs_lost_future}
 use Rattle.mea_sem.proofs.Keeping.{Plays, settled_as}
 use Rattle.mea_sem.proofs.PlaysPermits.{no_permit}
-use Rattle.mea_base.proofs.Tests.{at_same}
 
 -- what is put twice is what was put last
 pub insert_twice : {X : Type 0} (m : FinMap nat_cmp X) (k : ℕ) (v w : X) → insert (insert m k v) k w ≡ insert m k w

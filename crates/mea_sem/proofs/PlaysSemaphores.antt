@@ -1,14 +1,14 @@
 -- events that change a semaphore and nothing else
 use Rattle.std.proofs.Common.{◌≡◌, ℕ, ◌+◌, ◌-◌, ◌^◌, ◌<◌, ◌≤◌, ◌==◌, true, false, cond, List, ◌∷◌, min, nat_le, refl, ap, sym, ◌∙◌, arith, Some, None, if◌then◌else◌}
 use Rattle.std.specs.FinMap.{get, insert}
+use Rattle.std.proofs.lemmas.Bool.{le-leb}
+use Rattle.mea_base.specs.declared.answer.Answer.TheVariants as answers
 use Rattle.mea_sem_model.specs.declared.event.SemEvent.{SemEvent}
 use Rattle.mea_sem_model.specs.declared.event.SemEvent.TheVariants as events
 use Rattle.mea_sem_model.specs.Hall.{Hall, Debt, semaphore_at, with_semaphore, free}
 use Rattle.mea_sem_model.specs.Cause.{cause_of}
 use Rattle.mea_sem_model.specs.Valid.{Fits}
 use Rattle.mea_sem_model.specs.Step.{step, quietly, forgetting, forgetting_exactly, with_debt, try_and_forget}
-use Rattle.mea_base.specs.declared.answer.Answer.TheVariants as answers
-use Rattle.std.proofs.lemmas.Bool.{le-leb}
 use Rattle.mea_sem_core.specs.Core as cores
 use Rattle.mea_sem_core.specs.Calls as calls
 use Rattle.mea_sem.specs.declared.entries.SemaphoreEntry.{SemaphoreEntry}

@@ -9,7 +9,9 @@ use Rattle.mea_base.specs.Queue.{waiting_after, granted_in, left_over}
 use Rattle.mea_base.proofs.NamedMaps.{same_named, get-seen}
 use Rattle.mea_base.proofs.Totals.{get_inserted}
 use Rattle.mea_base.proofs.Queues.{waiting_after-map, granted_in-map, lacks-map, granted_in_keeps}
+use Rattle.mea_base.proofs.Tests.{at_same, at_apart}
 use Rattle.mea_sem_model.specs.Hall.{Future, Stage, Granted, Who, made_with, semaphore_at, queue_at, poured, granted, grant_if, grant_all, pour, waker_of, waker_of_future, waker_of_who, wakes_of, names}
+use Rattle.mea_sem_model.proofs.HallLemmas.{get-grant_all}
 use Rattle.mea_sem_core.specs.declared.acquire.Acquire.{Acquire}
 use Rattle.mea_sem_core.specs.declared.acquire.Acquire.TheVariants as acquires
 use Rattle.mea_sem_core.specs.Acquire.{demand_of}
@@ -20,8 +22,6 @@ use Rattle.mea_sem.specs.declared.entries.FutureEntry.{FutureEntry}
 use Rattle.mea_sem.specs.Store.{Store, is_under, has, name_of, who_of, queue_of, semaphore_of, stage_of, stage_under, queue_in, future_of, hall_of, IsHome, IsOwned, IsNumbered, IsLinked}
 use Rattle.mea_sem.proofs.Cores.{IsAt, all_at, all_by, is_number, is_among, Splits, pour_splits, AreApart-waiting_after, granting-other, granted-poured}
 use Rattle.mea_sem.proofs.Names.{has-parts, has-from, owner_has, name-has, name-owner}
-use Rattle.mea_base.proofs.Tests.{at_same, at_apart}
-use Rattle.mea_sem_model.proofs.HallLemmas.{get-grant_all}
 
 -- the core after a pour, as the queue and the granted numbers see it
 pub record PoursInto (st st' : Store) (s n : ℕ) (e e' : SemaphoreEntry) : Type 0 where

@@ -5,15 +5,15 @@ use Rattle.std.specs.FinMap.{get}
 use Rattle.mea_base.specs.Named.{at}
 use Rattle.mea_base.proofs.NamedMaps.{get-named, get-seen, is_some-map, kept-at, found}
 use Rattle.mea_sem_model.specs.Cause.{is_named, is_named_semaphore, is_future, is_permit}
+use Rattle.mea_sem_model.specs.Hall.{live, plain_things}
 use Rattle.mea_sem.specs.declared.entries.SemaphoreEntry.{SemaphoreEntry}
 use Rattle.mea_sem.specs.declared.hall.SemHall.TheInside.{Inside}
-use Rattle.mea_sem_model.specs.Hall.{live, plain_things}
 use Rattle.mea_sem.specs.Play.{Play}
 use Rattle.mea_sem.specs.StandsFor.{StandsFor}
+use Rattle.mea_sem.specs.Store.{permit_of, semaphore_of, future_of}
 use Rattle.mea_sem.proofs.Lives.{live-seen}
 use Rattle.mea_sem.proofs.Lends.{stands_for}
 use Rattle.mea_sem.proofs.Meets.{store_in, seen_in, IsKeptIn}
-use Rattle.mea_sem.specs.Store.{permit_of, semaphore_of, future_of}
 
 module _ (a : Inside) {v : Play} (seen : seen_in a ≡ v) (k : ℕ) where
   named-at : (o : Option SemaphoreEntry) → at a.semaphores.entries k ≡ o

@@ -5,6 +5,7 @@ use Rattle.std.specs.Ordering.{nat_cmp}
 use Rattle.std.specs.FinMap.{FinMap, get}
 use Rattle.mea_base.specs.Totals.{weight}
 use Rattle.mea_base.proofs.Totals.{total-alike}
+use Rattle.mea_base.proofs.NamedMaps.{get-seen}
 use Rattle.mea_sem_model.specs.Hall.{Semaphore}
 use Rattle.mea_sem_model.specs.Waiters.{waiters_in, waiters}
 use Rattle.mea_sem_core.specs.Core as cores
@@ -15,7 +16,6 @@ use Rattle.mea_sem.specs.Play.{Play}
 use Rattle.mea_sem.specs.Store.{queue_of, semaphore_of}
 use Rattle.mea_sem.specs.Kept.{wakers_in}
 use Rattle.mea_sem.proofs.Meets.{store_in, hall_in, seen_in, IsKeptIn}
-use Rattle.mea_base.proofs.NamedMaps.{get-seen}
 
 waiters-seen : (m : FinMap nat_cmp FutureEntry) (b s : ℕ) (q : List (cores.Waiter ℕ × ℕ)) → waiters_in (queue_of m b s q) ≡ wakers_in q
 waiters-seen m b s [] = refl

@@ -4,8 +4,8 @@ use Rattle.std.specs.Option.{option_map}
 use Rattle.std.specs.Ordering.{nat_cmp}
 use Rattle.std.specs.BTreeMap.{is_at}
 use Rattle.std.specs.FinMap.{get}
-use Rattle.mea_base.specs.Named.{named, at}
-use Rattle.mea_base.proofs.NamedMaps.{get-named, named_changed, option_map-same, found}
+use Rattle.mea_base.specs.Named.{named, at, ChangesAt}
+use Rattle.mea_base.proofs.NamedMaps.{get-named, named_changed, option_map-same, found, kept-changed}
 use Rattle.mea_sem.specs.declared.entries.SemaphoreEntry.{SemaphoreEntry}
 use Rattle.mea_sem.specs.declared.entries.FutureEntry.{FutureEntry}
 use Rattle.mea_sem.specs.declared.entries.PermitEntry.{PermitEntry}
@@ -20,17 +20,6 @@ Futures = List (ℕ × FutureEntry)
 
 abbrev pub Permits : Type 0
 Permits = List (ℕ × PermitEntry)
-
--- at one name there is this now, and every other name has what it had
-abbrev pub ChangesAt : {X : Type 0} → List (ℕ × X) → List (ℕ × X) → ℕ → Option X → Type 0
-ChangesAt {X} old new k o = (q : ℕ) → at new q ≡ cond (is_at (nat_cmp k) q) o (at old q)
-
-pub kept-changed : {X : Type 0} (old new : List (ℕ × X)) (k : ℕ) (o : Option X) → ChangesAt old new k o → (q : ℕ)
-    → get (named (λ k x. x) new) q ≡ cond (k == q) o (get (named (λ k x. x) old) q)
-kept-changed old new k o h q =
-    get-named (λ k x. x) new q ∙ named_changed (λ k x. x) (λ k x. x) old new k o h (λ j x d is. refl) q
-    ∙ ap (λ p. cond (k == q) p (option_map (λ x. x) (at old q))) (option_map-same o)
-    ∙ ap (cond (k == q) o) (sym (get-named (λ k x. x) old q))
 
 pub puts_of : (ss ss' : Semaphores) (fs : Futures) (ps ps' : Permits) (s : ℕ) (e v e' : SemaphoreEntry) → at ss s ≡ Some e
     → ChangesAt ss ss' s (Some v) → v ≡ e' → Puts (store_of ss fs ps) (store_of ss' fs ps') s e e'

@@ -2,11 +2,14 @@
 use Rattle.std.proofs.Common.{◌≡◌, inl, inr, ℕ, ◌+◌, ◌-◌, ◌^◌, ◌<◌, ◌≤◌, ◌==◌, Bool, true, false, cond, refl, ap, sym, subst, ◌∙◌, arith, Option, Some, None, is_some, nat_le, if◌then◌else◌}
 use Rattle.std.specs.Option.{option_map, IfSome}
 use Rattle.std.specs.FinMap.{get, insert, remove}
+use Rattle.std.proofs.lemmas.Bool.{false≢true, le-leb, lt-leb, cases_lt}
 use Rattle.mea_base.specs.declared.answer.Answer.TheVariants as answers
-use Rattle.mea_base.specs.Named.{named, at}
+use Rattle.mea_base.specs.Named.{named, at, ChangesAt}
 use Rattle.mea_base.specs.Totals.{weight}
-use Rattle.mea_base.proofs.NamedMaps.{named_put, get-seen, kept-at, found}
+use Rattle.mea_base.specs.Causes.{unknown_unless}
+use Rattle.mea_base.proofs.NamedMaps.{named_put, get-seen, kept-at, found, kept-changed}
 use Rattle.mea_base.proofs.Totals.{total-remove}
+use Rattle.mea_base.proofs.Tests.{at_same, known}
 use Rattle.mea_sem_model.specs.declared.event.SemEvent.{SemEvent}
 use Rattle.mea_sem_model.specs.declared.event.SemEvent.TheVariants as events
 use Rattle.mea_sem_model.specs.Hall.{Hall, Semaphore, Future, Stage, New, Waiting, Granted, semaphore_at, queue_at, with_semaphore, free, held, paid_to}
@@ -19,6 +22,12 @@ use Rattle.mea_sem_core.specs.Acquire.{demand_of}
 use Rattle.mea_sem_core.specs.Core as cores
 use Rattle.mea_sem_core.specs.Calls.{Belongs}
 use Rattle.mea_sem.specs.Entries.{IsReady, Waits, finished}
+use Rattle.mea_sem.specs.declared.entries.SemaphoreEntry.{SemaphoreEntry}
+use Rattle.mea_sem.specs.declared.entries.FutureEntry.{FutureEntry}
+use Rattle.mea_sem.specs.declared.entries.PermitEntry.{PermitEntry}
+use Rattle.mea_sem.specs.Store.{Store, permit_of, store_of, queue_of, semaphore_of, stage_of, stage_under, IsHome, IsOpen}
+use Rattle.mea_sem.specs.declared.hall.SemHall.TheInside.{Inside}
+use Rattle.mea_sem.specs.Play.{Play}
 use Rattle.mea_sem.proofs.Cores.{waker-none, waker-some}
 use Rattle.mea_sem.proofs.PourHalls.{seen_at}
 use Rattle.mea_sem.proofs.Gone.{seen_future, Leaves, leaves_new, leaves_granted}
@@ -26,20 +35,11 @@ use Rattle.mea_sem.proofs.PlaysPermits.{as_it_was}
 use Rattle.mea_sem.proofs.Lives.{live-seen}
 use Rattle.mea_sem.proofs.PlaysReady.{plays_ready, plays_ready_forgetting, future_counts}
 use Rattle.mea_sem.proofs.Refusals.{future-at}
-use Rattle.std.proofs.lemmas.Bool.{false≢true, le-leb, lt-leb, cases_lt}
-use Rattle.mea_sem.specs.declared.entries.SemaphoreEntry.{SemaphoreEntry}
-use Rattle.mea_sem.specs.declared.entries.FutureEntry.{FutureEntry}
-use Rattle.mea_sem.specs.declared.entries.PermitEntry.{PermitEntry}
-use Rattle.mea_sem.specs.Store.{Store, permit_of, store_of, queue_of, semaphore_of, stage_of, stage_under, IsHome, IsOpen}
 use Rattle.mea_sem.proofs.Keeping.{Plays}
-use Rattle.mea_sem.specs.declared.hall.SemHall.TheInside.{Inside}
-use Rattle.mea_sem.specs.Play.{Play}
 use Rattle.mea_sem.proofs.Meets.{store_in, hall_in, seen_in, IsKeptIn, MeetsSemaphore, MeetsFuture, Done, its_semaphore, later, to_kept, to_seen, done, done_quietly}
-use Rattle.mea_sem.proofs.Standing.{Semaphores, Futures, Permits, ChangesAt, kept-changed, semaphores_of}
+use Rattle.mea_sem.proofs.Standing.{Semaphores, Futures, Permits, semaphores_of}
 use Rattle.mea_sem.proofs.PlaysFutures.{plays_acquire}
 use Rattle.mea_sem.proofs.StandingSemaphores.{small_forgotten}
-use Rattle.mea_base.proofs.Tests.{at_same, known}
-use Rattle.mea_base.specs.Causes.{unknown_unless}
 
 -- ---- what an event without a cause finds
 pub future_found : (a : Inside) {v : Play} (f : ℕ) → seen_in a ≡ v → is_future v.hall f ≡ true → at a.futures.entries f ≡ None → ⊥

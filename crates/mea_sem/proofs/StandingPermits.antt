@@ -4,14 +4,15 @@ use Rattle.std.specs.Option.{option_map}
 use Rattle.std.specs.Result.{is_err}
 use Rattle.std.specs.Ordering.{nat_cmp}
 use Rattle.std.specs.FinMap.{FinMap, get, insert, remove}
-use Rattle.mea_sem.proofs.Refusals.{is_permit-at}
 use Rattle.std.proofs.lemmas.Bool.{false≢true, eqb-true, eq-eqb, ne_eqb, and_parts, le-leb, lt-leb}
 use Rattle.mea_base.specs.declared.answer.Answer.{Answer}
 use Rattle.mea_base.specs.declared.answer.Answer.TheVariants as answers
-use Rattle.mea_base.specs.Named.{named, at}
+use Rattle.mea_base.specs.Named.{named, at, ChangesAt}
 use Rattle.mea_base.specs.Queue.{granted_in}
+use Rattle.mea_base.specs.Causes.{unknown_unless}
 use Rattle.mea_base.proofs.NamedMaps.{get-named, named_put, named_remove, same_named, is_at-eq, get-seen, kept-at, found}
 use Rattle.mea_base.proofs.Totals.{get_inserted}
+use Rattle.mea_base.proofs.Tests.{known}
 use Rattle.mea_sem_model.specs.declared.event.SemEvent.{SemEvent}
 use Rattle.mea_sem_model.specs.declared.event.SemEvent.TheVariants as events
 use Rattle.mea_sem_model.specs.Hall.{Hall, Permit, semaphore_at, with_semaphore}
@@ -23,17 +24,16 @@ use Rattle.mea_sem.specs.declared.entries.SemaphoreEntry.{SemaphoreEntry}
 use Rattle.mea_sem.specs.declared.entries.PermitEntry.{PermitEntry}
 use Rattle.mea_sem.specs.Store.{Store, permit_of, store_of, semaphore_of}
 use Rattle.mea_sem.specs.Play.{Play}
+use Rattle.mea_sem.specs.declared.hall.SemHall.TheInside.{Inside}
+use Rattle.mea_sem.proofs.Refusals.{is_permit-at}
 use Rattle.mea_sem.proofs.PourHalls.{seen_at}
 use Rattle.mea_sem.proofs.Weighs.{one}
 use Rattle.mea_sem.proofs.PlaysSemaphores.{plays_nothing}
 use Rattle.mea_sem.proofs.PlaysPermits.{plays_try, plays_lose, plays_merge, plays_split, permit_counts, permits_count}
 use Rattle.mea_sem.proofs.PlaysEnds.{plays_end_permit}
-use Rattle.mea_sem.specs.declared.hall.SemHall.TheInside.{Inside}
 use Rattle.mea_sem.proofs.Meets.{store_in, hall_in, seen_in, IsKeptIn, Meets, MeetsSemaphore, MeetsPermit, Done, permits_semaphore, later, to_kept, done, done_quietly}
-use Rattle.mea_sem.proofs.Standing.{Semaphores, Permits, ChangesAt, puts_of, semaphores_of}
+use Rattle.mea_sem.proofs.Standing.{Semaphores, Permits, puts_of, semaphores_of}
 use Rattle.mea_sem.proofs.StandingSemaphores.{small_forgotten, wakers_few}
-use Rattle.mea_base.specs.Causes.{unknown_unless}
-use Rattle.mea_base.proofs.Tests.{known}
 
 -- what a call says where it succeeds, and where it fails
 pub on_success : {T E : Type 0} (P : Type 0) (r : Result T E) → is_err r ≡ false → OnOk r P → P

@@ -3,17 +3,16 @@ use Rattle.std.proofs.Common.{◌≡◌, ℕ, ◌+◌, ◌-◌, ◌^◌, ◌<◌
 use Rattle.std.specs.Option.{option_map}
 use Rattle.std.specs.Ordering.{nat_cmp}
 use Rattle.std.specs.FinMap.{get, empty, entries, get-empty}
-use Rattle.mea_sem.proofs.Refusals.{named-none}
 use Rattle.std.proofs.lemmas.Bool.{false≢true, le-leb, lt-leb, leb-true, eqb-true}
-use Rattle.mea_base.specs.Named.{named, at}
+use Rattle.mea_base.specs.Named.{named, at, ChangesAt}
 use Rattle.mea_base.specs.Totals.{total, weight}
 use Rattle.mea_base.specs.Queue.{granted_in}
-use Rattle.mea_base.proofs.NamedMaps.{same_named, get-named, get-seen, kept-at, found}
-use Rattle.mea_base.proofs.Totals.{total-remove, total-empty}
 use Rattle.mea_base.specs.declared.answer.Answer.TheVariants as answers
 use Rattle.mea_base.specs.declared.ledger.Ledger.{Ledger}
 use Rattle.mea_base.specs.declared.stop.Stop.{Stop}
 use Rattle.mea_base.specs.declared.stop.Stop.TheVariants as stops
+use Rattle.mea_base.proofs.NamedMaps.{same_named, get-named, get-seen, kept-at, found, kept-changed}
+use Rattle.mea_base.proofs.Totals.{total-remove, total-empty}
 use Rattle.mea_sem_model.specs.declared.event.SemEvent.{SemEvent}
 use Rattle.mea_sem_model.specs.declared.event.SemEvent.TheVariants as events
 use Rattle.mea_sem_model.specs.Hall.{Hall, Semaphore, empty_hall, live, free, semaphore_at, with_semaphore}
@@ -29,13 +28,14 @@ use Rattle.mea_sem.specs.Entries.{ledger_of_entry}
 use Rattle.mea_sem.specs.Store.{Store, store_of, permit_of, semaphore_of, future_of, hall_of}
 use Rattle.mea_sem.specs.Kept.{wakers_in, IsKept}
 use Rattle.mea_sem.specs.Play.{Play}
+use Rattle.mea_sem.proofs.Refusals.{named-none}
 use Rattle.mea_sem.proofs.PourHalls.{seen_at}
 use Rattle.mea_sem.proofs.PlaysSemaphores.{Puts, plays_nothing, plays_forget, plays_tried, plays_forgetx, plays_endsem}
 use Rattle.mea_sem.proofs.PlaysNew.{fresh_core, fresh_entry, plays_new}
 use Rattle.mea_sem.proofs.PlaysPours.{wakers_poured}
 use Rattle.mea_sem.proofs.PlaysEnds.{plays_release}
 use Rattle.mea_sem.proofs.Meets.{store_in, hall_in, seen_in, IsKeptIn, Meets, MeetsSemaphore, Done, later, to_kept, done, done_quietly}
-use Rattle.mea_sem.proofs.Standing.{Semaphores, Futures, Permits, ChangesAt, kept-changed, puts_of, semaphores_of}
+use Rattle.mea_sem.proofs.Standing.{Semaphores, Futures, Permits, puts_of, semaphores_of}
 use Rattle.mea_sem.proofs.Lives.{live-seen, ledger-seen}
 
 -- an event that names a semaphore which is not there has a cause

@@ -4,7 +4,10 @@ use Rattle.std.specs.Option.{IfSome, IsSome}
 use Rattle.std.specs.FinMap.{get}
 use Rattle.std.proofs.lemmas.Bool.{cases_lt}
 use Rattle.mea_base.specs.declared.answer.Answer.TheVariants as answers
-use Rattle.mea_base.specs.Named.{at}
+use Rattle.mea_base.specs.Named.{at, ChangesAt}
+use Rattle.mea_base.specs.Outbox.{Wakes}
+use Rattle.mea_base.specs.Causes.{unknown_unless}
+use Rattle.mea_base.proofs.NamedMaps.{kept-at, kept-changed}
 use Rattle.mea_sem_model.specs.declared.event.SemEvent.TheVariants as events
 use Rattle.mea_sem_model.specs.Hall.{Hall, Semaphore, Future, Stage, New, Waiting, Granted, queue_at, lack_of}
 use Rattle.mea_sem_model.specs.Cause.{cause_of, is_permit}
@@ -19,6 +22,8 @@ use Rattle.mea_sem.specs.declared.entries.FutureEntry.{FutureEntry}
 use Rattle.mea_sem.specs.Entries.{Waits, Ends}
 use Rattle.mea_sem.specs.Store.{Store, store_of, stage_of, IsOpen}
 use Rattle.mea_sem.specs.Kept.{IsKept}
+use Rattle.mea_sem.specs.declared.hall.SemHall.TheInside.{Inside}
+use Rattle.mea_sem.specs.Play.{Play}
 use Rattle.mea_sem.proofs.Keeping.{Plays}
 use Rattle.mea_sem.proofs.Left.{lack_left, wakers_without}
 use Rattle.mea_sem.proofs.PourHalls.{seen_at}
@@ -27,14 +32,9 @@ use Rattle.mea_sem.proofs.PlaysFutures.{plays_queued}
 use Rattle.mea_sem.proofs.PlaysPours.{between, between_at, wakers_poured}
 use Rattle.mea_sem.proofs.PlaysEnds.{PlaysWith, plays_end_new, plays_end_granted, plays_end_waiting}
 use Rattle.mea_sem.proofs.Meets.{store_in, hall_in, seen_in, IsKeptIn, Meets, MeetsFuture, Done, its_semaphore, later, to_kept, to_seen, done, done_quietly}
-use Rattle.mea_sem.proofs.Standing.{Semaphores, Futures, ChangesAt, kept-changed, semaphores_of}
+use Rattle.mea_sem.proofs.Standing.{Semaphores, Futures, semaphores_of}
 use Rattle.mea_sem.proofs.StandingSemaphores.{wakers_registered, kept_room}
 use Rattle.mea_sem.proofs.StandingFutures.{future_found, its_home, future_there, home_there, its_belongs, at_stage, seen_as, granted_stage, ready_new, pending_new, waiting_as, pending_again, paid_part, granted_live}
-use Rattle.mea_base.specs.Outbox.{Wakes}
-use Rattle.mea_sem.specs.declared.hall.SemHall.TheInside.{Inside}
-use Rattle.mea_sem.specs.Play.{Play}
-use Rattle.mea_base.specs.Causes.{unknown_unless}
-use Rattle.mea_base.proofs.NamedMaps.{kept-at}
 
 -- ---- what a future that was found is, by its stage
 abbrev pub IsWaiting : Stage → Type 0

@@ -2,10 +2,10 @@
 use Rattle.std.proofs.Common.{◌≡◌, ℕ, ◌+◌, ◌≤◌, Bool, true, false, cond, List, [], ◌∷◌, ◌++◌, filter, nat_lt, refl, inl, inr, arith}
 use Rattle.std.proofs.lemmas.Bool.{cases_eq, cond-false, ne_eqb}
 use Rattle.mea_base.specs.Queue.{lacks_after, waiting_after}
+use Rattle.mea_base.proofs.Tests.{test_same, test_differs}
 use Rattle.mea_sem_core.specs.Core.{Waiter, Acquires, Owes, debts, paid_to_debts, HasNoDebt, HasDebtsFirst}
 use Rattle.mea_sem_core.specs.Calls.{with_waker, without_acquire, with_debt}
 use Rattle.mea_sem_core.proofs.Pours.{debts-cons}
-use Rattle.mea_base.proofs.Tests.{test_same, test_differs}
 
 module _ {W : Type 0} where
   -- ---- a queue with no debt

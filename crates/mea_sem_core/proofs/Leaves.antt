@@ -5,10 +5,11 @@ use Rattle.std.proofs.lemmas.Bool.Decides.{nat_tests}
 use Rattle.std.specs.List.{list_any}
 use Rattle.std.specs.Ordering.{nat_cmp}
 use Rattle.std.specs.FinMap as fin
+use Rattle.std.proofs.lemmas.List.Sums.{get_or-le-sum_by}
 use Rattle.mea_base.specs.WaitList.{get, is_linked, IsAbsent, IsDistinct, Updates, without}
 use Rattle.mea_base.specs.WaitList as base
 use Rattle.mea_base.proofs.Waits.{sum_by-updated, in_use_within, IsDistinct-without, without_absent, length-without}
-use Rattle.std.proofs.lemmas.List.Sums.{get_or-le-sum_by}
+use Rattle.mea_base.proofs.Tests.{test_same, test_differs}
 use Rattle.mea_sem_core.specs.declared.place.Place.{Place}
 use Rattle.mea_sem_core.specs.declared.place.Place.TheVariants.{Acquire, Debt, Granted}
 use Rattle.mea_sem_core.specs.Core.{Acquires, Owes, waiting, HasDebtsFirst}
@@ -19,7 +20,6 @@ use Rattle.mea_sem_core.proofs.Enqueues.{waiting_absent}
 use Rattle.mea_sem_core.proofs.Debts.{debts_first_with_waker, debts_first_without}
 use Rattle.mea_sem_core.proofs.Places.{entries-updated, AllWaiting-updated, granted_same, granted_removed, get-granted}
 use Rattle.mea_sem_core.proofs.Grants.{unlinked_from_absent, unlinked_before}
-use Rattle.mea_base.proofs.Tests.{test_same, test_differs}
 
 -- what is left of the order
 unlinked-without : (m n : ℕ) (ns : List ℕ) → m ≢ n → list_any (λ k. eqb k m) (without n ns) ≡ false → list_any (λ k. eqb k m) ns ≡ false

@@ -7,11 +7,11 @@ use Rattle.std.specs.Cmp.{nat_cmp_total, unsigned_tied}
 use Rattle.std.specs.FinMap as fin
 use Rattle.std.specs.FinMap.{find, get-from_entries, get-insert, get-remove, same_map, nat_cmp-IsAntisymmetric}
 use Rattle.mea_base.specs.WaitList.{IsAbsent}
+use Rattle.mea_base.proofs.Tests.{tied_same, tied_differs}
 use Rattle.mea_sem_core.specs.declared.place.Place.{Place}
 use Rattle.mea_sem_core.specs.declared.place.Place.TheVariants.{Acquire, Debt, Granted}
 use Rattle.mea_sem_core.specs.Places.{entry, entries, grant_of, pairs_from, IsWaiting, AllWaiting}
 use Rattle.mea_sem_core.proofs.Pours.{AllLack}
-use Rattle.mea_base.proofs.Tests.{tied_same, tied_differs}
 
 module _ {W : Type 0} where
   -- changes at an absent number alone

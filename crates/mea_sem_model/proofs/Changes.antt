@@ -8,11 +8,11 @@ use Rattle.mea_base.specs.Totals.{total, weight}
 use Rattle.mea_base.specs.Queue.{lacks, waiting_after, granted_in}
 use Rattle.mea_base.proofs.Totals.{total-insert, total-remove, total-alike}
 use Rattle.mea_base.proofs.Queues.{lacks-waiting_after}
+use Rattle.mea_base.proofs.Maps.{by_put, by_gone, is_absent}
 use Rattle.mea_sem_model.specs.Hall.{Hall, Semaphore, Future, Permit, Stage, New, Waiting, Granted, semaphore_at, queue_at, poured, granted, pour, lack_of, free, plain_things, with_semaphore}
 use Rattle.mea_sem_model.specs.Cause.{is_named}
 use Rattle.mea_sem_model.specs.Step.{with_future, without_future, with_permit, without_permit}
 use Rattle.mea_sem_model.specs.Valid.{count, one_if_waiting, waits_at, AllLack, HasDebtsFirst, IsBelow}
-use Rattle.mea_base.proofs.Maps.{by_put, by_gone, is_absent}
 use Rattle.mea_sem_model.proofs.HallLemmas.{semaphore_put, among, get-grant_all, semaphore_named}
 use Rattle.mea_sem_model.proofs.Matched.{IsMatched, matched_semaphore, matched_no_future, is_waiting, granted_waited, pour_matched}
 use Rattle.mea_sem_model.proofs.Orderly.{IsOrderly, orderly_semaphore, orderly_permit, orderly_no_permit, orderly_no_future, same_names, orderly_pour}

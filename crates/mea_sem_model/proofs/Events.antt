@@ -6,9 +6,11 @@ use Rattle.std.proofs.lemmas.List.Sums.{sum_by-append}
 use Rattle.std.proofs.lemmas.Bool.{eqb-true, eq-eqb, leb-true, leb-false, ltb-false, and_parts, not-true}
 use Rattle.mea_base.specs.Totals.{weight}
 use Rattle.mea_base.specs.Queue.{lacks}
-use Rattle.mea_base.proofs.Totals.{total-remove}
 use Rattle.mea_base.specs.declared.answer.Answer.TheVariants as answers
 use Rattle.mea_base.specs.declared.stop.Stop.TheVariants as stops
+use Rattle.mea_base.proofs.Totals.{total-remove}
+use Rattle.mea_base.proofs.Maps.{is_there, get-there, get-removed_other}
+use Rattle.mea_base.proofs.Tests.{on_true, known}
 use Rattle.mea_sem_model.specs.declared.event.SemEvent.{SemEvent}
 use Rattle.mea_sem_model.specs.declared.event.SemEvent.TheVariants as events
 use Rattle.mea_sem_model.specs.Hall.{Hall, Semaphore, Future, Permit, Stage, New, Waiting, Granted, Who, Waiter, made_with, semaphore_at, queue_at, pour, names, lack_of, free, plain_things, with_semaphore}
@@ -16,13 +18,11 @@ use Rattle.mea_sem_model.specs.Cause.{is_named, is_named_semaphore, are_of_one_k
 use Rattle.mea_sem_model.specs.Step.{quietly, with_future, without_future, with_permit, without_permit, forgetting, with_debt, forgetting_exactly, taking, made_ready, queueing, poll_at, poll_of, without, leaving, end_future, end_permit, end_of, lose_of, merge_of, split_of, released_to, step}
 use Rattle.mea_sem_model.specs.Valid.{count, one_if_waiting, waits_at, IsBelow}
 use Rattle.mea_sem_model.specs.Runs.{Told, if_same, made_by, released_by, number_forgot, if_yes, if_ready, if_permit_of, forgetting_demand, forgotten_by}
-use Rattle.mea_base.proofs.Maps.{is_there, get-there, get-removed_other}
 use Rattle.mea_sem_model.proofs.HallLemmas.{semaphore_named}
 use Rattle.mea_sem_model.proofs.Pours.{lacks-without, lacking-without, lacking-append, lacking-debt, first-filter, first-append, first-debt, lacks-debt, count-debt, lack-debt}
 use Rattle.mea_sem_model.proofs.Matched.{IsMatched, matched_future, new_waits, granted_waits, lacks_nothing, queued_matched, left_matched}
 use Rattle.mea_sem_model.proofs.Orderly.{IsOrderly, future_alone, permit_alone, still_there, orderly_semaphore, orderly_future, orderly_no_future}
 use Rattle.mea_sem_model.proofs.Changes.{taken, taken_by, held_by, moves_semaphore, moves_future, moves_no_future, below_semaphore, below_future, below_no_future, below_more, no_semaphore_yet, no_future_yet, no_permit_yet, Changed, after, retold, nothing, to_semaphore, to_numbers, to_permit, to_no_permit, to_no_future, to_pour}
-use Rattle.mea_base.proofs.Tests.{on_true, known}
 
 -- ---- numbers by a test
 only : (b : Bool) (m n : ℕ) → cond b (m + n) 0 ≡ cond b m 0 + cond b n 0

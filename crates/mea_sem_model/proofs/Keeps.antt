@@ -3,6 +3,7 @@ use Rattle.std.proofs.Common.{◌≡◌, ℕ, ◌+◌, ◌≤◌, ◌==◌, ◌&
 use Rattle.std.specs.Ordering.{nat_cmp}
 use Rattle.std.specs.FinMap.{get-empty}
 use Rattle.mea_base.proofs.Totals.{total-empty}
+use Rattle.mea_base.proofs.Maps.{nothing_there, nothing_at}
 use Rattle.mea_sem_model.specs.declared.event.SemEvent.{SemEvent}
 use Rattle.mea_sem_model.specs.Hall.{Hall, Semaphore, Future, Permit, empty_hall, made_with, semaphore_at, queue_at, paid_to, debts, free, held, paid, owed, plain_things}
 use Rattle.mea_sem_model.specs.Cause.{cause_of}
@@ -13,7 +14,6 @@ use Rattle.mea_sem_model.proofs.Orderly.{orderly}
 use Rattle.mea_sem_model.proofs.Events.{steps}
 use Rattle.mea_sem_model.proofs.Tallies.{tallies}
 use Rattle.mea_sem_model.proofs.Paid.{parts, paid_or_lacked}
-use Rattle.mea_base.proofs.Maps.{nothing_there, nothing_at}
 
 -- ---- each event keeps it
 pub keeps_below : (h : Hall) (i : ℕ) (e : SemEvent) → IsValid h → IsBelow h i → cause_of h e ≡ None → IsBelow (step h i e).hall (i + 1)

@@ -11,15 +11,15 @@ use Rattle.mea_base.specs.Family.{goes_on, Goes, KeepsWakers, NamesFutures, Lose
 use Rattle.mea_base.specs.Queue.{granted_in}
 use Rattle.mea_base.specs.declared.answer.Answer.TheVariants as answers
 use Rattle.mea_base.proofs.Wakes as wakes
+use Rattle.mea_base.proofs.Maps.{inside, value_in, is_there, get-there, get-other, get-removed_other, by_gone}
+use Rattle.mea_base.proofs.Tests.{known}
 use Rattle.mea_sem_model.specs.declared.event.SemEvent.{SemEvent}
 use Rattle.mea_sem_model.specs.declared.event.SemEvent.TheVariants as events
 use Rattle.mea_sem_model.specs.Hall.{Hall, Future, Permit, Stage, New, Waiting, Granted, Who, Waiter, Debt, names, semaphore_at, queue_at, free, granted, waker_of, waker_of_future, waker_of_who, wakes_of, with_semaphore}
 use Rattle.mea_sem_model.specs.Cause.{cause_of}
 use Rattle.mea_sem_model.specs.Step.{Outcome, quietly, pouring, with_future, without_future, with_permit, without_permit, taking, try_of, try_and_forget, made_ready, queueing, poll_at, poll_of, leaving, end_future, end_permit, end_of, lose_of, merge_of, split_of, released_to, step}
 use Rattle.mea_sem_model.specs.Runs.{Run, Runs, semaphores, waker_in, waker_at, waker_kept}
-use Rattle.mea_base.proofs.Maps.{inside, value_in, is_there, get-there, get-other, get-removed_other, by_gone}
 use Rattle.mea_sem_model.proofs.HallLemmas.{among, get-grant_all}
-use Rattle.mea_base.proofs.Tests.{known}
 use Rattle.mea_sem_model.proofs.Balanced as balance
 
 -- ---- who is granted while it waits is woken

@@ -5,13 +5,13 @@ use Rattle.std.specs.FinMap.{get}
 use Rattle.std.proofs.lemmas.List.Sums.{sum_by-append}
 use Rattle.std.proofs.lemmas.Bool.{eqb-true, eq-eqb, ne_eqb}
 use Rattle.mea_base.specs.Queue.{waiting_after, granted_in}
+use Rattle.mea_base.proofs.Maps.{by_put, by_gone, inside}
+use Rattle.mea_base.proofs.Tests.{on_true, on_false}
 use Rattle.mea_sem_model.specs.Hall.{Hall, Semaphore, Future, Stage, New, Waiting, Granted, Who, Waiter, semaphore_at, queue_at, poured, granted, pour, names, lack_of, free, with_semaphore}
 use Rattle.mea_sem_model.specs.Step.{with_future, without_future, queueing, without, leaving}
 use Rattle.mea_sem_model.specs.Valid.{count, one_if_waiting, waits_at, IsValid}
-use Rattle.mea_base.proofs.Maps.{by_put, by_gone, inside}
 use Rattle.mea_sem_model.proofs.HallLemmas.{by_semaphore, among, get-grant_all, granted_was}
 use Rattle.mea_sem_model.proofs.Pours.{among_mentions, among_none, count-pour, lack-pour, lack-without, count-without, none_counted}
-use Rattle.mea_base.proofs.Tests.{on_true, on_false}
 
 -- what validity says of queues and futures together
 pub record IsMatched (h : Hall) : Type 0 where

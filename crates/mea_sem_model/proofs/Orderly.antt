@@ -6,14 +6,14 @@ use Rattle.std.proofs.lemmas.Bool.{eqb-true, and_parts}
 use Rattle.mea_base.specs.Totals.{total, weight}
 use Rattle.mea_base.specs.Queue.{waiting_after, granted_in}
 use Rattle.mea_base.proofs.Totals.{total-insert, total-remove, total-alike}
+use Rattle.mea_base.proofs.Maps.{by_put, by_gone, inside, is_absent}
+use Rattle.mea_base.proofs.Tests.{on_false}
 use Rattle.mea_sem_model.specs.Hall.{Hall, Semaphore, Future, Permit, semaphore_at, queue_at, poured, granted, pour, free, plain_things, with_semaphore}
 use Rattle.mea_sem_model.specs.Cause.{is_named, is_named_semaphore}
 use Rattle.mea_sem_model.specs.Step.{with_future, without_future, with_permit, without_permit}
 use Rattle.mea_sem_model.specs.Valid.{AllLack, HasDebtsFirst, IsValid}
-use Rattle.mea_base.proofs.Maps.{by_put, by_gone, inside, is_absent}
 use Rattle.mea_sem_model.proofs.HallLemmas.{by_semaphore, among, get-grant_all, granted_was, granted_there, semaphore_named}
 use Rattle.mea_sem_model.proofs.Pours.{lacking-pour, first-pour, idle-pour}
-use Rattle.mea_base.proofs.Tests.{on_false}
 
 pub record IsOrderly (h : Hall) : Type 0 where
   pub lacking : (s : ℕ) → AllLack (queue_at h s)

@@ -7,11 +7,11 @@ use Rattle.std.proofs.lemmas.Bool.{eq-eqb}
 use Rattle.mea_base.specs.Totals.{total}
 use Rattle.mea_base.specs.Queue.{lacks}
 use Rattle.mea_base.proofs.Totals.{total-same, total-plus, total-zero, total-point}
+use Rattle.mea_base.proofs.Tests.{on_true, on_false}
 use Rattle.mea_sem_model.specs.Hall.{Hall, Future, Stage, New, Waiting, Granted, Who, Waiter, Debt, queue_at, names, lack_of, debt_of, debts, paid_to, paid}
 use Rattle.mea_sem_model.specs.Valid.{count, one_if_waiting, waits_at}
 use Rattle.mea_sem_model.proofs.Matched.{IsMatched, new_waits, granted_waits, lacks_nothing}
 use Rattle.mea_sem_model.proofs.Changes.{taken, taken_by, committed}
-use Rattle.mea_base.proofs.Tests.{on_true, on_false}
 
 abbrev pub lack_of_waiter : Who → ℕ → ℕ
 lack_of_waiter (Waiter f) n = n

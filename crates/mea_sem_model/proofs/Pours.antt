@@ -4,11 +4,11 @@ use Rattle.std.proofs.lemmas.List.Sums.{sum_by-cons}
 use Rattle.std.proofs.lemmas.Bool.{eqb-true}
 use Rattle.std.proofs.lemmas.Bool.Decides.{nat_tests}
 use Rattle.mea_base.specs.Queue.{lacks, lacks_after, waiting_after, granted_in}
+use Rattle.mea_base.proofs.Tests.{on_true, on_false}
 use Rattle.mea_sem_model.specs.Hall.{Who, Waiter, Debt, names, lack_of, debt_of, debts}
 use Rattle.mea_sem_model.specs.Step.{without, with_debt}
 use Rattle.mea_sem_model.specs.Valid.{count, AllLack, HasNoDebt, HasDebtsFirst}
 use Rattle.mea_sem_model.proofs.HallLemmas.{among}
-use Rattle.mea_base.proofs.Tests.{on_true, on_false}
 
 abbrev pub mentions : List Who → ℕ → ℕ
 mentions ws f = sum_by {X = Who} (λ w. cond (names w f) 1 0) ws

@@ -5,6 +5,7 @@ use Rattle.std.proofs.lemmas.List.Sums.{sum_by-cons}
 use Rattle.std.proofs.lemmas.Bool.{eq-eqb, lt-leb}
 use Rattle.mea_base.specs.Totals.{weight}
 use Rattle.mea_base.specs.declared.answer.Answer.TheVariants as answers
+use Rattle.mea_base.proofs.Tests.{on_true}
 use Rattle.mea_sem_model.specs.declared.event.SemEvent.TheVariants as events
 use Rattle.mea_sem_model.specs.Hall.{Hall, Semaphore, Future, New, Waiting, Granted, Who, Waiter, Debt, semaphore_at, queue_at, lack_of, debt_of, debts, paid_to, free, owed, live, pour, with_semaphore}
 use Rattle.mea_sem_model.specs.Cause.{cause_of}
@@ -17,7 +18,6 @@ use Rattle.mea_sem_model.proofs.Orderly.{orderly}
 use Rattle.mea_sem_model.proofs.Changes.{taken, taken_by, moves_semaphore, moves_no_future}
 use Rattle.mea_sem_model.proofs.Events.{steps}
 use Rattle.mea_sem_model.proofs.Paid.{parts, paid_or_lacked}
-use Rattle.mea_base.proofs.Tests.{on_true}
 
 -- ---- nobody overtakes
 pub none_free : (h : Hall) → IsValid h → (s : ℕ) → queue_at h s ≢ [] → free h s ≡ 0

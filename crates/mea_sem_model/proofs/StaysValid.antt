@@ -4,6 +4,7 @@ use Rattle.std.specs.Option.{IsSome}
 use Rattle.std.specs.FinMap.{get}
 use Rattle.std.proofs.lemmas.Bool.{eqb-true, ltb-true, ne_eqb}
 use Rattle.mea_base.proofs.Totals.{total-zero}
+use Rattle.mea_base.proofs.Tests.{on_false}
 use Rattle.mea_sem_model.specs.declared.event.SemEvent.{SemEvent}
 use Rattle.mea_sem_model.specs.declared.event.SemEvent.TheVariants as events
 use Rattle.mea_sem_model.specs.Hall.{Hall, Semaphore, Future, Permit, made_with, semaphore_at, queue_at, paid_to, free, live}
@@ -17,7 +18,6 @@ use Rattle.mea_sem_model.proofs.Changes.{no_semaphore_yet}
 use Rattle.mea_sem_model.proofs.Events.{line, steps, release_known}
 use Rattle.mea_sem_model.proofs.Tallies.{tallies}
 use Rattle.mea_sem_model.proofs.Paid.{parts, paid_or_lacked}
-use Rattle.mea_base.proofs.Tests.{on_false}
 
 -- ---- the bound on the permits
 -- no more permits live than before, with those that the event made and released

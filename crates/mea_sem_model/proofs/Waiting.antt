@@ -8,16 +8,16 @@ use Rattle.std.proofs.lemmas.List.{length-append}
 use Rattle.std.proofs.lemmas.List.Sums.{sum_by-cons}
 use Rattle.mea_base.specs.Queue.{lacks_after, waiting_after, granted_in}
 use Rattle.mea_base.specs.Totals.{weight}
-use Rattle.mea_base.proofs.Totals.{total-insert}
 use Rattle.mea_base.specs.declared.answer.Answer.{Answer}
 use Rattle.mea_base.specs.declared.answer.Answer.TheVariants as answers
+use Rattle.mea_base.proofs.Totals.{total-insert}
+use Rattle.mea_base.proofs.Tests.{on_true, on_false}
 use Rattle.mea_sem_model.specs.declared.event.SemEvent.{SemEvent}
 use Rattle.mea_sem_model.specs.declared.event.SemEvent.TheVariants as events
 use Rattle.mea_sem_model.specs.Hall.{Hall, Semaphore, Future, Permit, Stage, New, Waiting, Granted, Who, Waiter, Debt, names, made_with, semaphore_at, queue_at, free, lack_of, poured, pour, waker_of, waker_of_future, waker_of_who, wakes_of, with_semaphore}
 use Rattle.mea_sem_model.specs.Step.{Outcome, quietly, pouring, without_permit, with_permit, without_future, with_debt, forgetting, forgetting_exactly, taking, try_of, try_and_forget, made_ready, queueing, first_poll, poll_at, poll_of, without, leaving, end_future, end_permit, end_of, lose_of, merge_of, split_of, released_to, step}
 use Rattle.mea_sem_model.specs.Valid.{count}
 use Rattle.mea_sem_model.specs.Waiters.{waiters_in, waiters, registers}
-use Rattle.mea_base.proofs.Tests.{on_true, on_false}
 
 -- how many of these are futures
 abbrev pub waiters_among : List Who → ℕ

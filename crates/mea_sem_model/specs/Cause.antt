@@ -3,10 +3,10 @@ use Rattle.std.specs.Prelude.{ℕ, ◌+◌, ◌^◌, ◌==◌, ◌&&◌, not, Bo
 use Rattle.std.specs.FinMap as map
 use Rattle.mea_base.specs.declared.stop.Stop.{Stop}
 use Rattle.mea_base.specs.declared.stop.Stop.TheVariants as stops
+use Rattle.mea_base.specs.Causes.{unknown_unless}
 use Rattle.mea_sem_model.specs.declared.event.SemEvent.{SemEvent}
 use Rattle.mea_sem_model.specs.declared.event.SemEvent.TheVariants.{New, Free, Forget, Forgetx, Release, Try, Tryo, Tryf, Tryof, Acq, Acqo, Acqf, Acqof, Poll, End, Lose, Merge, Split, Size, Endsem, Ledger}
 use Rattle.mea_sem_model.specs.Hall.{Hall, Semaphore, Permit, live, plain_things}
-use Rattle.mea_base.specs.Causes.{unknown_unless}
 
 abbrev pub is_named_semaphore : Option Semaphore → Bool
 is_named_semaphore None = false

@@ -1,8 +1,8 @@
 use Rattle.std.proofs.Common.{◌∙◌, ap, None}
 use Rattle.mea_base.specs.WaitList.{get, Updates}
+use Rattle.mea_base.proofs.Waits.{length-without}
 use Rattle.mea_lock.proofs.Kept.{noted_left}
 use Rattle.mea_lock.proofs.Numbers.{unlinked_after}
-use Rattle.mea_base.proofs.Waits.{length-without}
 use Rattle.mea_lock.proofs.note.take_out.Goals as goal
 
 pub remove_unlinked-requires-clause-unlinked : goal.remove_unlinked-requires-clause-unlinked

@@ -1,6 +1,6 @@
 use Rattle.std.proofs.Common.{rules, ◌≡◌, ◌-◌, Some, sym, ap, subst, ◌∙◌, arith}
 use Rattle.std.specs.Option.{option_copied_mut}
-use Rattle.mea_meet.specs.Entries.{ChangesAt}
+use Rattle.mea_base.specs.Named.{ChangesAt}
 use Rattle.mea_meet.specs.LatchHall.{ended, tidied, let_go}
 use Rattle.mea_meet.specs.declared.latches.LatchEntry.{LatchEntry}
 use Rattle.mea_meet.proofs.LatchStanding.{never_wait, never_latch, endable_with, let_go_most, ends_at}

@@ -1,10 +1,10 @@
 use Rattle.std.proofs.Common.{◌≡◌, false, None, Some, sym, subst, ◌∙◌, refl, arith}
 use Rattle.mea_base.specs.declared.answer.Answer.TheVariants as answers
-use Rattle.mea_meet.specs.ShutdownHall.{Store, hall_of, IsKept}
-use Rattle.mea_meet.proofs.Maps.{kept-puts, kept-puts-as, put_undone}
 use Rattle.mea_base.specs.Named.{named}
+use Rattle.mea_meet.specs.ShutdownHall.{Store, hall_of, IsKept}
 use Rattle.mea_meet.specs.declared.shutdown_entries.ShutdownEntry.{ShutdownEntry}
 use Rattle.mea_meet.specs.declared.shutdown_entries.ReceiverEntry.{ReceiverEntry}
+use Rattle.mea_meet.proofs.Maps.{kept-puts, kept-puts-as, put_undone}
 use Rattle.mea_meet.proofs.ShutdownSeen.{kept_in}
 use Rattle.mea_meet.proofs.ShutdownStill.{no-sender, no-receiver}
 use Rattle.mea_meet.proofs.ShutdownPlays.{rests}

@@ -2,13 +2,13 @@ use Rattle.std.proofs.Common.{rules, ◌+◌, ◌≡◌, ℕ, cond, List, None, 
 use Rattle.std.specs.Option.{option_map, option_copied, option_copied_mut}
 use Rattle.std.specs.FinMap.{get}
 use Rattle.mea_base.specs.declared.answer.Answer.TheVariants as answers
-use Rattle.mea_meet.specs.ShutdownHall.{hall_of, store_of, IsKept}
-use Rattle.mea_meet.proofs.Maps.{kept-puts, kept-puts-as, inside, not_none}
 use Rattle.mea_meet_model.specs.Shutdowns.{wait_of}
+use Rattle.mea_meet.specs.ShutdownHall.{hall_of, store_of, IsKept}
 use Rattle.mea_meet.specs.declared.shutdown_entries.ReceiverEntry.{ReceiverEntry}
 use Rattle.mea_meet.specs.declared.shutdown_entries.ShutdownWaitEntry.{ShutdownWaitEntry}
 use Rattle.mea_meet.specs.declared.shutdown_entries.ShutdownWait.TheVariants as waits
 use Rattle.mea_meet.specs.ShutdownHall.{receiver_of}
+use Rattle.mea_meet.proofs.Maps.{kept-puts, kept-puts-as, inside, not_none}
 use Rattle.mea_meet.proofs.ShutdownSeen.{kept_in, receiver-at, receiver-there, receiver-seen, shutdown-kept}
 use Rattle.mea_meet.proofs.ShutdownPlays.{rests}
 use Rattle.mea_meet.proofs.ShutdownWaits.{at_most_one, wait_on_signal_goes}
