@@ -44,7 +44,7 @@ impl Part<Tally> for Counts {
 struct First;
 
 impl<T> Part<Vec<T>> for First {
-    ghost use Rattle.mea_tests.specs.FirstItem.{first_stays};
+    ghost use Rattle.mea_core_tests.specs.FirstItem.{first_stays};
 
     type Out = T;
 
