@@ -61,7 +61,8 @@ walk-chain next prev a [] z chain = refl
 walk-chain next prev a (k ∷ ks) z chain = rw chain.0 (ap (λ js. k ∷ js) (walk-chain next prev k ks z chain.2))
 
 -- the same keys beside each key of a chain make the same chain
-pub chain-alike : (next prev next' prev' : ℕ → ℕ) (a : ℕ) (ks : List ℕ) (z : ℕ) → next' a ≡ next a → AllByRecursion (λ k. (next' k ≡ next k) × (prev' k ≡ prev k)) ks → prev' z ≡ prev z → IsChain next prev a ks z → IsChain next' prev' a ks z
+pub chain-alike : (next prev next' prev' : ℕ → ℕ) (a : ℕ) (ks : List ℕ) (z : ℕ) → next' a ≡ next a
+    → AllByRecursion (λ k. (next' k ≡ next k) × (prev' k ≡ prev k)) ks → prev' z ≡ prev z → IsChain next prev a ks z → IsChain next' prev' a ks z
 chain-alike next prev next' prev' a [] z forth all back chain = (forth ∙ chain.0, back ∙ chain.1)
 chain-alike next prev next' prev' a (k ∷ ks) z forth all back chain =
     (forth ∙ chain.0, all.0.1 ∙ chain.1, chain-alike next prev next' prev' k ks z all.0.0 all.1 back chain.2)
@@ -78,7 +79,8 @@ pub record HasNeighbours (next prev : ℕ → ℕ) (P : ℕ → Type 0) (n : ℕ
   pub prev_on : P (prev n)
   pub next_on : P (next n)
 
-neighbours_of_first : (next prev : ℕ → ℕ) (P : ℕ → Type 0) (a k : ℕ) (ks : List ℕ) (z : ℕ) → IsChain next prev a (k ∷ ks) z → P a → AllByRecursion P ks → P z → HasNeighbours next prev P k
+neighbours_of_first : (next prev : ℕ → ℕ) (P : ℕ → Type 0) (a k : ℕ) (ks : List ℕ) (z : ℕ) → IsChain next prev a (k ∷ ks) z → P a
+    → AllByRecursion P ks → P z → HasNeighbours next prev P k
 neighbours_of_first next prev P a k [] z chain first all last = record {
   before = rw chain.1 chain.0;
   after = rw chain.2.0 chain.2.1;
@@ -92,7 +94,8 @@ neighbours_of_first next prev P a k (j ∷ js) z chain first all last = record {
   next_on = rw chain.2.0 all.0;
 }
 
-pub neighbours : (next prev : ℕ → ℕ) (P : ℕ → Type 0) (a : ℕ) (ks : List ℕ) (z n : ℕ) → IsChain next prev a ks z → P a → AllByRecursion P ks → P z → list_any (λ k. eqb k n) ks ≡ true → HasNeighbours next prev P n
+pub neighbours : (next prev : ℕ → ℕ) (P : ℕ → Type 0) (a : ℕ) (ks : List ℕ) (z n : ℕ) → IsChain next prev a ks z → P a → AllByRecursion P ks → P z
+    → list_any (λ k. eqb k n) ks ≡ true → HasNeighbours next prev P n
 neighbours next prev P a [] z n chain first all last found = absurd (cc)
 neighbours next prev P a (k ∷ ks) z n chain first all last found =
     elim (cases_eq k n) [
@@ -101,12 +104,14 @@ neighbours next prev P a (k ∷ ks) z n chain first all last found =
     ]
 
 -- the key before the end names it, and what holds of all keys holds of it too
-pub last_of : (next prev : ℕ → ℕ) (P : ℕ → Type 0) (a : ℕ) (ks : List ℕ) (z : ℕ) → IsChain next prev a ks z → P a → AllByRecursion P ks → (next (prev z) ≡ z) × P (prev z)
+pub last_of : (next prev : ℕ → ℕ) (P : ℕ → Type 0) (a : ℕ) (ks : List ℕ) (z : ℕ) → IsChain next prev a ks z → P a → AllByRecursion P ks
+    → (next (prev z) ≡ z) × P (prev z)
 last_of next prev P a [] z chain first all = (rw chain.1 chain.0, rw chain.1 first)
 last_of next prev P a (k ∷ ks) z chain first all = last_of next prev P k ks z chain.2 all.0 all.1
 
 -- the key behind the start is named by it, and what holds of all keys holds of it too
-pub first_of : (next prev : ℕ → ℕ) (P : ℕ → Type 0) (a : ℕ) (ks : List ℕ) (z : ℕ) → IsChain next prev a ks z → AllByRecursion P ks → P z → (prev (next a) ≡ a) × P (next a)
+pub first_of : (next prev : ℕ → ℕ) (P : ℕ → Type 0) (a : ℕ) (ks : List ℕ) (z : ℕ) → IsChain next prev a ks z → AllByRecursion P ks → P z
+    → (prev (next a) ≡ a) × P (next a)
 first_of next prev P a [] z chain all last = (rw chain.0 chain.1, rw chain.0 last)
 first_of next prev P a (k ∷ ks) z chain all last = (rw chain.0 chain.1, rw chain.0 all.0)
 
@@ -115,7 +120,8 @@ first_differs next prev a k [] z chain absent other = λ same. other (sym same �
 first_differs next prev a k (j ∷ js) z chain absent other = λ same. absent.0 (sym chain.2.0 ∙ same)
 
 -- a key on the chain does not name itself
-pub next_differs : (next prev : ℕ → ℕ) (a : ℕ) (ks : List ℕ) (z n : ℕ) → IsChain next prev a ks z → IsDistinct ks → IsAbsent z ks → list_any (λ k. eqb k n) ks ≡ true → next n ≢ n
+pub next_differs : (next prev : ℕ → ℕ) (a : ℕ) (ks : List ℕ) (z n : ℕ) → IsChain next prev a ks z → IsDistinct ks → IsAbsent z ks
+    → list_any (λ k. eqb k n) ks ≡ true → next n ≢ n
 next_differs next prev a [] z n chain distinct absent found = absurd (cc)
 next_differs next prev a (k ∷ ks) z n chain distinct absent found =
     elim (cases_eq k n) [
@@ -124,7 +130,9 @@ next_differs next prev a (k ∷ ks) z n chain distinct absent found =
     ]
 
 -- the keys beside each key, once n is taken out
-module _ (next prev next' prev' : ℕ → ℕ) (n : ℕ) (before : next (prev n) ≡ n) (after : prev (next n) ≡ n) (next_prev : next' (prev n) ≡ next n) (prev_next : prev' (next n) ≡ prev n) (other_next : (k : ℕ) → k ≢ prev n → k ≢ n → next' k ≡ next k) (other_prev : (k : ℕ) → k ≢ next n → k ≢ n → prev' k ≡ prev k) where
+module _ (next prev next' prev' : ℕ → ℕ) (n : ℕ) (before : next (prev n) ≡ n) (after : prev (next n) ≡ n) (next_prev : next' (prev n) ≡ next n)
+    (prev_next : prev' (next n) ≡ prev n) (other_next : (k : ℕ) → k ≢ prev n → k ≢ n → next' k ≡ next k)
+    (other_prev : (k : ℕ) → k ≢ next n → k ≢ n → prev' k ≡ prev k) where
   -- a link between two other keys stays
   link_stays : (a b : ℕ) → next a ≡ b → prev b ≡ a → a ≢ n → b ≢ n → (next' a ≡ b) × (prev' b ≡ a)
   link_stays a b forth back a_other b_other = (
@@ -154,7 +162,8 @@ module _ (next prev next' prev' : ℕ → ℕ) (n : ℕ) (before : next (prev n)
             let absent : IsAbsent n ks = subst (λ j. IsAbsent j ks) same distinct.0 in
             let front : prev n ≡ a = ap prev (sym same) ∙ chain.1 in
             rw (eq-eqb k n same, without-absent n ks absent, ← front) (chain-joined ks z rest absent z_other)
-        | inr differs ↦ rw (ne_eqb k n differs) (let link = link_stays a k chain.0 chain.1 a_other differs in (link.0, link.1, chain-without k ks z chain.2 distinct.1 differs z_other))
+        | inr differs ↦ rw (ne_eqb k n differs)
+            (let link = link_stays a k chain.0 chain.1 a_other differs in (link.0, link.1, chain-without k ks z chain.2 distinct.1 differs z_other))
       ]
 
 -- n was put between p and the key behind p
@@ -169,7 +178,8 @@ pub record IsPutBehind (next prev next' prev' : ℕ → ℕ) (p n : ℕ) : Type 
 
 module _ (next prev next' prev' : ℕ → ℕ) (p n : ℕ) (put : IsPutBehind next prev next' prev' p n) where
   -- the chain that starts at p
-  pub chain-push_head : (ks : List ℕ) (z : ℕ) → IsChain next prev p ks z → IsAbsent n ks → IsAbsent p ks → IsDistinct ks → IsAbsent z ks → z ≢ n → IsChain next' prev' p (n ∷ ks) z
+  pub chain-push_head : (ks : List ℕ) (z : ℕ) → IsChain next prev p ks z → IsAbsent n ks → IsAbsent p ks → IsDistinct ks → IsAbsent z ks → z ≢ n
+      → IsChain next' prev' p (n ∷ ks) z
   chain-push_head [] z chain n_absent p_absent distinct z_absent z_other =
       (put.p_next, put.n_prev, (put.n_next ∙ chain.0, ap prev' (sym chain.0) ∙ put.next_prev))
   chain-push_head (k ∷ ks) z chain n_absent p_absent distinct z_absent z_other =
@@ -186,7 +196,8 @@ module _ (next prev next' prev' : ℕ → ℕ) (p n : ℕ) (put : IsPutBehind ne
       away (j ∷ js) n_off p_off next_off = ((put.other_next j p_off.0 n_off.0, put.other_prev j next_off.0 n_off.0), away js n_off.1 p_off.1 next_off.1)
 
   -- the chain that ends behind p
-  pub chain-push_tail : (a : ℕ) (ks : List ℕ) → IsChain next prev a ks (next p) → IsAbsent (next p) ks → IsAbsent n ks → a ≢ n → IsChain next' prev' a (ks ++ n ∷ []) (next p)
+  pub chain-push_tail : (a : ℕ) (ks : List ℕ) → IsChain next prev a ks (next p) → IsAbsent (next p) ks → IsAbsent n ks → a ≢ n
+      → IsChain next' prev' a (ks ++ n ∷ []) (next p)
   chain-push_tail a [] chain z_absent n_absent a_other =
       let start : a ≡ p = sym chain.1 ∙ put.after in
       (ap next' start ∙ put.p_next, put.n_prev ∙ sym start, (put.n_next, put.next_prev))

@@ -15,14 +15,16 @@ nothing_there X k some = let none : get (empty {X = X} {R = nat_cmp}) k ≡ None
 
 module _ {X : Type 0} where
   -- what holds of a value put, and of each other name as it was
-  pub by_put : (m : FinMap nat_cmp X) (k : ℕ) (x : X) (P : ℕ → Option X → Type 0) → P k (Some x) → ((f : ℕ) → (k ≡ f → ⊥) → P f (get m f)) → (f : ℕ) → P f (get (insert m k x) f)
+  pub by_put : (m : FinMap nat_cmp X) (k : ℕ) (x : X) (P : ℕ → Option X → Type 0) → P k (Some x) → ((f : ℕ) → (k ≡ f → ⊥) → P f (get m f)) → (f : ℕ)
+      → P f (get (insert m k x) f)
   by_put m k x P here others f = subst (P f) (sym (get_inserted m k f x)) (at_test (k == f) refl)
     where
       at_test : (b : Bool) → (k == f) ≡ b → P f (cond b (Some x) (get m f))
       at_test true e = subst (λ j. P j (Some x)) (eqb-true k f e) here
       at_test false e = others f (eqb-false k f e)
 
-  pub by_gone : (m : FinMap nat_cmp X) (k : ℕ) (P : ℕ → Option X → Type 0) → P k None → ((f : ℕ) → (k ≡ f → ⊥) → P f (get m f)) → (f : ℕ) → P f (get (remove m k) f)
+  pub by_gone : (m : FinMap nat_cmp X) (k : ℕ) (P : ℕ → Option X → Type 0) → P k None → ((f : ℕ) → (k ≡ f → ⊥) → P f (get m f)) → (f : ℕ)
+      → P f (get (remove m k) f)
   by_gone m k P here others f = subst (P f) (sym (get_removed m k f)) (at_test (k == f) refl)
     where
       at_test : (b : Bool) → (k == f) ≡ b → P f (cond b None (get m f))
@@ -66,10 +68,12 @@ module _ {X : Type 0} where
     at_or m k = unwrap_or (get m k) d
 
     -- what holds of the value put, and at each other name as it was
-    pub by_at_put : (m : FinMap nat_cmp X) (k : ℕ) (x : X) (P : ℕ → X → Type 0) → P k x → ((f : ℕ) → (k ≡ f → ⊥) → P f (at_or m f)) → (f : ℕ) → P f (at_or (insert m k x) f)
+    pub by_at_put : (m : FinMap nat_cmp X) (k : ℕ) (x : X) (P : ℕ → X → Type 0) → P k x → ((f : ℕ) → (k ≡ f → ⊥) → P f (at_or m f)) → (f : ℕ)
+        → P f (at_or (insert m k x) f)
     by_at_put m k x P here others = by_put m k x (λ f o. P f (unwrap_or o d)) here others
 
-    pub by_at_gone : (m : FinMap nat_cmp X) (k : ℕ) (P : ℕ → X → Type 0) → P k d → ((f : ℕ) → (k ≡ f → ⊥) → P f (at_or m f)) → (f : ℕ) → P f (at_or (remove m k) f)
+    pub by_at_gone : (m : FinMap nat_cmp X) (k : ℕ) (P : ℕ → X → Type 0) → P k d → ((f : ℕ) → (k ≡ f → ⊥) → P f (at_or m f)) → (f : ℕ)
+        → P f (at_or (remove m k) f)
     by_at_gone m k P here others = by_gone m k (λ f o. P f (unwrap_or o d)) here others
 
     pub at-there : (m : FinMap nat_cmp X) (k : ℕ) (x : X) → at_or (insert m k x) k ≡ x

@@ -26,10 +26,12 @@ is_at-eq k q = grind (arith, nat_tests)
 
 find-named : {X Y : Type 0} (f : ℕ → X → Y) (es : List (ℕ × X)) (q : ℕ) → find nat_cmp q (map (λ (e : ℕ × X). (e.0, f e.0 e.1)) es) ≡ option_map (f q) (at es q)
 find-named f [] q = refl
-find-named f (e ∷ es) q = elim (is_at (nat_cmp q) e.0) as (λ b. is_at (nat_cmp q) e.0 ≡ b → cond b (Some (f e.0 e.1)) (find nat_cmp q (map (λ e. (e.0, f e.0 e.1)) es)) ≡ option_map (f q) (cond b (Some e.1) (at es q))) [
-  | true ↦ λ h. ap (λ k. Some (f k e.1)) (sym (same_key q e.0 h))
-  | false ↦ λ h. find-named f es q
-] refl
+find-named f (e ∷ es) q = elim (is_at (nat_cmp q) e.0)
+    as (λ b. is_at (nat_cmp q) e.0 ≡ b → cond b (Some (f e.0 e.1)) (find nat_cmp q (map (λ e. (e.0, f e.0 e.1)) es)) ≡ option_map (f q)
+    (cond b (Some e.1) (at es q))) [
+      | true ↦ λ h. ap (λ k. Some (f k e.1)) (sym (same_key q e.0 h))
+      | false ↦ λ h. find-named f es q
+    ] refl
 
 pub get-named : {X Y : Type 0} (f : ℕ → X → Y) (es : List (ℕ × X)) (q : ℕ) → get (named f es) q ≡ option_map (f q) (at es q)
 get-named f es q = get-from_entries nat_cmp_total _ q ∙ find-named f es q
@@ -39,7 +41,8 @@ pub same_named : {Y : Type 0} (m n : FinMap nat_cmp Y) → ((q : ℕ) → get m 
 same_named m n h = same_map nat_cmp_total nat_cmp-IsAntisymmetric m n h
 
 -- entries whose values are seen alike stand for one map
-pub named-same : {X Z Y : Type 0} (f : ℕ → X → Y) (g : ℕ → Z → Y) (es : List (ℕ × X)) (fs : List (ℕ × Z)) → ((q : ℕ) → option_map (f q) (at es q) ≡ option_map (g q) (at fs q)) → named f es ≡ named g fs
+pub named-same : {X Z Y : Type 0} (f : ℕ → X → Y) (g : ℕ → Z → Y) (es : List (ℕ × X)) (fs : List (ℕ × Z))
+    → ((q : ℕ) → option_map (f q) (at es q) ≡ option_map (g q) (at fs q)) → named f es ≡ named g fs
 named-same f g es fs h = same_named _ _ (λ q. get-named f es q ∙ h q ∙ sym (get-named g fs q))
 
 option_map_cond : {X Y : Type 0} (f : X → Y) (b : Bool) (o p : Option X) → option_map f (cond b o p) ≡ cond b (option_map f o) (option_map f p)
@@ -47,8 +50,10 @@ option_map_cond f true o p = refl
 option_map_cond f false o p = refl
 
 -- what is seen at each name, where one name has changed
-pub named_changed : {X Y : Type 0} (f : ℕ → X → Y) (g : ℕ → X → Y) (es fs : List (ℕ × X)) (k : ℕ) (o : Option X) → ((q : ℕ) → at fs q ≡ cond (is_at (nat_cmp k) q) o (at es q))
-    → ((q : ℕ) (x : X) → (k ≡ q → Unit {0}) → at es q ≡ Some x → g q x ≡ f q x) → (q : ℕ) → option_map (g q) (at fs q) ≡ cond (k == q) (option_map (g k) o) (option_map (f q) (at es q))
+pub named_changed : {X Y : Type 0} (f : ℕ → X → Y) (g : ℕ → X → Y) (es fs : List (ℕ × X)) (k : ℕ) (o : Option X)
+    → ((q : ℕ) → at fs q ≡ cond (is_at (nat_cmp k) q) o (at es q))
+    → ((q : ℕ) (x : X) → (k ≡ q → Unit {0}) → at es q ≡ Some x → g q x ≡ f q x) → (q : ℕ)
+    → option_map (g q) (at fs q) ≡ cond (k == q) (option_map (g k) o) (option_map (f q) (at es q))
 named_changed {X} f g es fs k o h same q =
     ap (option_map (g q)) (h q) ∙ ap (λ b. option_map (g q) (cond b o (at es q))) (is_at-eq k q) ∙ by_test (k == q) refl (at es q) refl
   where
@@ -58,7 +63,8 @@ named_changed {X} f g es fs k o h same q =
     by_test false e (Some x) is = ap (λ y. Some y) (same q x (λ _. tt) is)
 
 -- a value is put at a name
-pub named_put : {X Y : Type 0} (f : ℕ → X → Y) (es fs : List (ℕ × X)) (k : ℕ) (v : X) → ((q : ℕ) → at fs q ≡ cond (is_at (nat_cmp k) q) (Some v) (at es q)) → named f fs ≡ insert (named f es) k (f k v)
+pub named_put : {X Y : Type 0} (f : ℕ → X → Y) (es fs : List (ℕ × X)) (k : ℕ) (v : X)
+    → ((q : ℕ) → at fs q ≡ cond (is_at (nat_cmp k) q) (Some v) (at es q)) → named f fs ≡ insert (named f es) k (f k v)
 named_put f es fs k v h = same_named _ _ (λ q.
     get-named f fs q ∙ named_changed f f es fs k (Some v) h (λ j x d is. refl) q
     ∙ ap (cond (k == q) (Some (f k v))) (sym (get-named f es q))
@@ -66,7 +72,8 @@ named_put f es fs k v h = same_named _ _ (λ q.
     ∙ sym (get-insert nat_cmp_total (named f es) k (f k v) q))
 
 -- a name is gone
-pub named_remove : {X Y : Type 0} (f : ℕ → X → Y) (es fs : List (ℕ × X)) (k : ℕ) → ((q : ℕ) → at fs q ≡ cond (is_at (nat_cmp k) q) None (at es q)) → named f fs ≡ remove (named f es) k
+pub named_remove : {X Y : Type 0} (f : ℕ → X → Y) (es fs : List (ℕ × X)) (k : ℕ) → ((q : ℕ) → at fs q ≡ cond (is_at (nat_cmp k) q) None (at es q))
+    → named f fs ≡ remove (named f es) k
 named_remove f es fs k h = same_named _ _ (λ q.
     get-named f fs q ∙ named_changed f f es fs k None h (λ j x d is. refl) q
     ∙ ap (cond (k == q) None) (sym (get-named f es q))

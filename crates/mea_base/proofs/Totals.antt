@@ -57,7 +57,8 @@ module _ {X : Type 0} where
 
       at_order : (r : Ordering) → nat_cmp k e.0 ≡ r
           → sum_by (λ (d : ℕ × X). f d.0 d.1) (put nat_cmp k v es) + weight f k (find nat_cmp k es) ≡ sum_by (λ (d : ℕ × X). f d.0 d.1) es + f k v
-          → sum_by (λ (d : ℕ × X). f d.0 d.1) (by_order r ((k, v) ∷ e ∷ es) ((e.0, v) ∷ es) (e ∷ put nat_cmp k v es)) + weight f k (cond (is_eq r) (Some e.1) (find nat_cmp k es)) ≡ sum_by (λ (d : ℕ × X). f d.0 d.1) (e ∷ es) + f k v
+          → sum_by (λ (d : ℕ × X). f d.0 d.1) (by_order r ((k, v) ∷ e ∷ es) ((e.0, v) ∷ es) (e ∷ put nat_cmp k v es)) + weight f k
+          (cond (is_eq r) (Some e.1) (find nat_cmp k es)) ≡ sum_by (λ (d : ℕ × X). f d.0 d.1) (e ∷ es) + f k v
       at_order Less is more =
           let lt : k < e.0 = less_lt k e.0 is in
           let none : find nat_cmp k es ≡ None = below_none k e.0 es (omega arith) (both_first _ _ sorted) in
@@ -77,13 +78,24 @@ module _ {X : Type 0} where
   sum-same f g (e ∷ es) sorted same =
       let head : f e.0 e.1 ≡ g e.0 e.1 = same e.0 e.1 (ap (λ b. cond b (Some e.1) (find nat_cmp e.0 es)) (same_test e.0 e.0 ∙ eq-eqb e.0 e.0 refl)) in
       let rest = sum-same f g es (both_second (below_all nat_cmp e.0 es) (is_sorted nat_cmp es) sorted) (λ k v there. same k v (
-      let later : eq_by_cmp nat_cmp k e.0 ≡ false = same_test k e.0 ∙ ne_eqb e.0 k (λ is. absurd (let none : find nat_cmp k es ≡ None = below_none k e.0 es (omega arith) (both_first (below_all nat_cmp e.0 es) (is_sorted nat_cmp es) sorted) in cc)) in
+      let later : eq_by_cmp nat_cmp k e.0 ≡ false = same_test k e.0
+      ∙ ne_eqb e.0 k (λ is. absurd
+      (let none : find nat_cmp k es ≡ None = below_none k e.0 es (omega arith)
+      (both_first (below_all nat_cmp e.0 es) (is_sorted nat_cmp es) sorted) in cc)) in
       ap (λ b. cond b (Some e.1) (find nat_cmp k es)) later ∙ there)) in
       omega (arith, head, rest, sum_by-cons (λ (d : ℕ × X). f d.0 d.1) e es, sum_by-cons (λ (d : ℕ × X). g d.0 d.1) e es)
 
-  sum-plus : (f g : ℕ → X → ℕ) (es : List (ℕ × X)) → sum_by (λ (e : ℕ × X). f e.0 e.1 + g e.0 e.1) es ≡ sum_by (λ (e : ℕ × X). f e.0 e.1) es + sum_by (λ (e : ℕ × X). g e.0 e.1) es
+  sum-plus : (f g : ℕ → X → ℕ) (es : List (ℕ × X)) → sum_by (λ (e : ℕ × X). f e.0 e.1 + g e.0 e.1) es ≡ sum_by (λ (e : ℕ × X). f e.0 e.1) es + sum_by
+      (λ (e : ℕ × X). g e.0 e.1) es
   sum-plus f g [] = refl
-  sum-plus f g (e ∷ es) = omega (arith, sum-plus f g es, sum_by-cons (λ (d : ℕ × X). f d.0 d.1) e es, sum_by-cons (λ (d : ℕ × X). g d.0 d.1) e es, sum_by-cons (λ (d : ℕ × X). f d.0 d.1 + g d.0 d.1) e es)
+  sum-plus f g (e ∷ es) = omega (
+    arith,
+    sum-plus f g es,
+    sum_by-cons (λ (d : ℕ × X). f d.0 d.1) e es,
+    sum_by-cons (λ (d : ℕ × X). g d.0 d.1)
+        e es,
+    sum_by-cons (λ (d : ℕ × X). f d.0 d.1 + g d.0 d.1) e es,
+  )
 
   sum-none : (es : List (ℕ × X)) → sum_by (λ (e : ℕ × X). 0) es ≡ 0
   sum-none [] = refl
@@ -97,7 +109,8 @@ module _ {X : Type 0} where
   get_removed m k q = get-remove nat_cmp_total m k q ∙ ap (λ b. cond b None (get m q)) (same_test q k)
 
   pub total-empty : (f : ℕ → X → ℕ) → total f (empty {X = X} {R = nat_cmp}) ≡ 0
-  total-empty f = ap (sum_by (λ (e : ℕ × X). f e.0 e.1)) (nil_of_length (entries (empty {X = X} {R = nat_cmp})) (sym (len-entries (empty {X = X} {R = nat_cmp})) ∙ len-empty nat_cmp X))
+  total-empty f = ap (sum_by (λ (e : ℕ × X). f e.0 e.1))
+      (nil_of_length (entries (empty {X = X} {R = nat_cmp})) (sym (len-entries (empty {X = X} {R = nat_cmp})) ∙ len-empty nat_cmp X))
 
   pub total-insert : (f : ℕ → X → ℕ) (m : FinMap nat_cmp X) (k : ℕ) (v : X) → total f (insert m k v) + weight f k (get m k) ≡ total f m + f k v
   total-insert f m k v =
@@ -118,7 +131,8 @@ module _ {X : Type 0} where
           let sums : total f (remove m k) ≡ total f m = ap (total f) same in
           omega (arith, sums)
       at_value (Some v) is =
-          let back : insert (remove m k) k v ≡ m = same_map nat_cmp_total nat_cmp-IsAntisymmetric _ _ (λ q. get_inserted (remove m k) k q v ∙ ap (cond (k == q) (Some v)) (get_removed m k q) ∙
+          let back : insert (remove m k) k v ≡ m = same_map nat_cmp_total nat_cmp-IsAntisymmetric _ _
+          (λ q. get_inserted (remove m k) k q v ∙ ap (cond (k == q) (Some v)) (get_removed m k q) ∙
           (elim (k == q) as (λ b. (k == q) ≡ b → cond b (Some v) (cond b None (get m q)) ≡ get m q) [
             | true ↦ λ e. sym (ap (get m) (sym (eqb-true k q e)) ∙ is)
             | false ↦ λ e. refl
@@ -141,7 +155,8 @@ module _ {X : Type 0} where
   total-point m k n v there =
       let others : total (λ q x. cond (k == q) n 0) (remove m k) ≡ 0 = total-zero (λ q x. cond (k == q) n 0) (remove m k) (λ q x is.
       elim (k == q) as (λ b. cond b None (get m q) ≡ Some x → cond b n 0 ≡ 0) [ true ↦ λ t. absurd (cc) | false ↦ λ t. refl ] (sym (get_removed m k q) ∙ is)) in
-      let here : weight (λ q (x : X). cond (k == q) n 0) k (get m k) ≡ n = ap (weight (λ q (x : X). cond (k == q) n 0) k) there ∙ ap (λ b. cond b n 0) (eq-eqb k k refl) in
+      let here : weight (λ q (x : X). cond (k == q) n 0) k (get m k) ≡ n =
+      ap (weight (λ q (x : X). cond (k == q) n 0) k) there ∙ ap (λ b. cond b n 0) (eq-eqb k k refl) in
       omega (arith, others, here, total-remove (λ q x. cond (k == q) n 0) m k)
 
   total-left : (f : ℕ → X → ℕ) (m : FinMap nat_cmp X) → len m ≡ 0 → total f m ≡ 0
@@ -153,7 +168,12 @@ module _ {X : Type 0} where
   -- some entry of a map that has one
   an_entry : (m : FinMap nat_cmp X) (es : List (ℕ × X)) → entries m ≡ es → 0 < length es → (k : ℕ) × (v : X) × (get m k ≡ Some v)
   an_entry m [] is some = absurd (omega arith)
-  an_entry m (e ∷ es) is some = (e.0, e.1, get-entries m e.0 ∙ ap (find nat_cmp e.0) is ∙ ap (λ b. cond b (Some e.1) (find nat_cmp e.0 es)) (same_test e.0 e.0 ∙ eq-eqb e.0 e.0 refl))
+  an_entry m (e ∷ es) is some = (
+    e.0,
+    e.1,
+    get-entries m e.0 ∙ ap (find nat_cmp e.0) is
+        ∙ ap (λ b. cond b (Some e.1) (find nat_cmp e.0 es)) (same_test e.0 e.0 ∙ eq-eqb e.0 e.0 refl),
+  )
 
   pub weight-zero : (f : ℕ → X → ℕ) (m : FinMap nat_cmp X) → ((k : ℕ) → weight f k (get m k) ≡ 0) → total f m ≡ 0
   weight-zero f m none = total-zero f m (λ k v is. sym (ap (weight f k) is) ∙ none k)
@@ -164,15 +184,19 @@ weight-removed f g m n j k same = ap (weight f k) (get_removed m j k)
     ∙ (elim (j == k) as (λ b. weight f k (cond b None (get m k)) ≡ weight g k (cond b None (get n k))) [ true ↦ refl | false ↦ same ])
     ∙ sym (ap (weight g k) (get_removed n j k))
 
-alike-by : {X Y : Type 0} (c : ℕ) (f : ℕ → X → ℕ) (g : ℕ → Y → ℕ) (m : FinMap nat_cmp X) (n : FinMap nat_cmp Y) → len m ≡ c → ((k : ℕ) → weight f k (get m k) ≡ weight g k (get n k)) → total f m ≡ total g n
+alike-by : {X Y : Type 0} (c : ℕ) (f : ℕ → X → ℕ) (g : ℕ → Y → ℕ) (m : FinMap nat_cmp X) (n : FinMap nat_cmp Y) → len m ≡ c
+    → ((k : ℕ) → weight f k (get m k) ≡ weight g k (get n k)) → total f m ≡ total g n
 alike-by zero f g m n is same = total-left f m is ∙ sym (weight-zero g n (λ k. sym (same k) ∙ ap (weight f k) (get-left m k is)))
 alike-by (suc c) f g m n is same =
     let one = an_entry m (entries m) refl (let all : length (entries m) ≡ suc c = sym (len-entries m) ∙ is in omega arith) in
     let has : contains_key m one.0 ≡ true = ap is_some one.2 in
-    let fewer : len (remove m one.0) ≡ c = len-remove nat_cmp_total m one.0 ∙ ap (λ b. cond b (len m - 1) (len m)) has ∙ (let less : len m - 1 ≡ c = omega arith in less) in
-    let rest : total f (remove m one.0) ≡ total g (remove n one.0) = alike-by c f g (remove m one.0) (remove n one.0) fewer (λ k. weight-removed f g m n one.0 k (same k)) in
+    let fewer : len (remove m one.0) ≡ c = len-remove nat_cmp_total m one.0 ∙ ap (λ b. cond b (len m - 1) (len m)) has
+    ∙ (let less : len m - 1 ≡ c = omega arith in less) in
+    let rest : total f (remove m one.0) ≡ total g (remove n one.0) =
+    alike-by c f g (remove m one.0) (remove n one.0) fewer (λ k. weight-removed f g m n one.0 k (same k)) in
     omega (arith, rest, same one.0, total-remove f m one.0, total-remove g n one.0)
 
 -- two maps whose names weigh alike
-pub total-alike : {X Y : Type 0} (f : ℕ → X → ℕ) (g : ℕ → Y → ℕ) (m : FinMap nat_cmp X) (n : FinMap nat_cmp Y) → ((k : ℕ) → weight f k (get m k) ≡ weight g k (get n k)) → total f m ≡ total g n
+pub total-alike : {X Y : Type 0} (f : ℕ → X → ℕ) (g : ℕ → Y → ℕ) (m : FinMap nat_cmp X) (n : FinMap nat_cmp Y)
+    → ((k : ℕ) → weight f k (get m k) ≡ weight g k (get n k)) → total f m ≡ total g n
 total-alike f g m n same = alike-by (len m) f g m n refl same

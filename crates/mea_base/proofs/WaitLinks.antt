@@ -32,7 +32,8 @@ module _ {T : Type 0} where
   get_view slots n node found = view_at slots n ∙ ap value_of found
 
   -- nodes with the same values look the same to a contract
-  pub same_view : (old new : List (Option (Node T))) → ((k : ℕ) → value_of (node_at new k) ≡ value_of (node_at old k)) → trim (map value_of new) ≡ trim (map value_of old)
+  pub same_view : (old new : List (Option (Node T))) → ((k : ℕ) → value_of (node_at new k) ≡ value_of (node_at old k))
+      → trim (map value_of new) ≡ trim (map value_of old)
   same_view old new values = trim-same _ _ (λ k. value_in new k ∙ values k ∙ sym (value_in old k))
 
   -- once there is a sentinel, any key may be given next
@@ -51,13 +52,15 @@ module _ {T : Type 0} where
   nodes_behind slots [] used = tt
   nodes_behind slots (k ∷ ks) used = (node_behind (node_at slots k) (rw (value_in slots k) at used.0), nodes_behind slots ks used.1)
 
-  AllInUse-same : (old new : List (Option (Node T))) (ks : List ℕ) → ((k : ℕ) → is_some (value_of (node_at new k)) ≡ is_some (value_of (node_at old k))) → AllInUse (map value_of old) ks → AllInUse (map value_of new) ks
+  AllInUse-same : (old new : List (Option (Node T))) (ks : List ℕ)
+      → ((k : ℕ) → is_some (value_of (node_at new k)) ≡ is_some (value_of (node_at old k))) → AllInUse (map value_of old) ks → AllInUse (map value_of new) ks
   AllInUse-same old new [] same used = tt
   AllInUse-same old new (k ∷ ks) same used =
       (rw (value_in new k) (same k ∙ (rw (value_in old k) at used.0)), AllInUse-same old new ks same used.1)
 
   -- what a contract sees is sound
-  pub sound_view : (slots : List (Option (Node T))) (order : List ℕ) (spare : ℕ) → IsRing slots order → IsSound (record { order = order; slots = trim (map value_of slots); spare = spare })
+  pub sound_view : (slots : List (Option (Node T))) (order : List ℕ) (spare : ℕ) → IsRing slots order
+      → IsSound (record { order = order; slots = trim (map value_of slots); spare = spare })
   sound_view slots order spare ring = record { distinct = ring.distinct.1; in_use = AllInUse-trim _ _ ring.in_use }
 
   module _ (slots : List (Option (Node T))) (order : List ℕ) (ring : IsRing slots order) (n : ℕ) (used : IsSome (value_of (node_at slots n))) where
@@ -96,7 +99,8 @@ module _ {T : Type 0} where
     -- the neighbours of a linked number
     pub around : next_in slots n ≢ n → HasNeighbours (next_in slots) (prev_in slots) (λ k. IsSome (node_at slots k)) n
     around moves =
-        neighbours (next_in slots) (prev_in slots) (λ k. IsSome (node_at slots k)) 0 order 0 n ring.chain sentinel_here (nodes_behind slots order ring.in_use) sentinel_here (linked_here moves)
+        neighbours (next_in slots) (prev_in slots) (λ k. IsSome (node_at slots k)) 0 order 0 n ring.chain sentinel_here
+        (nodes_behind slots order ring.in_use) sentinel_here (linked_here moves)
 
     left_count : next_in slots n ≢ n → length (without n order) + 1 ≡ length order
     left_count moves = length-without n order ring.distinct.1 (linked_here moves)
@@ -126,7 +130,8 @@ module _ {T : Type 0} where
   }
 
   -- the ring without n
-  module _ (old new : Slab (Node T)) (order : List ℕ) (ring : IsRing old.slots order) (n : ℕ) (used : IsSome (value_of (node_at old.slots n))) (moves : next_in old.slots n ≢ n) (links : Relinks old new (next_after old.slots n) (prev_after old.slots n)) where
+  module _ (old new : Slab (Node T)) (order : List ℕ) (ring : IsRing old.slots order) (n : ℕ) (used : IsSome (value_of (node_at old.slots n)))
+      (moves : next_in old.slots n ≢ n) (links : Relinks old new (next_after old.slots n) (prev_after old.slots n)) where
     prev_moves : prev_in old.slots n ≢ n
     prev_moves same = moves (ap (next_in old.slots) (sym same) ∙ (around old.slots order ring n used moves).before)
 
@@ -142,7 +147,8 @@ module _ {T : Type 0} where
         0 order 0 ring.chain ring.distinct.1 other other
 
     -- a node off the ring still names itself
-    off : (k : ℕ) → k ≢ 0 → IsAbsent k (without n order) → IsSome (node_at old.slots k) → IsSome (value_of (node_at new.slots k)) × (next_in new.slots k ≡ k) × (prev_in new.slots k ≡ k)
+    off : (k : ℕ) → k ≢ 0 → IsAbsent k (without n order) → IsSome (node_at old.slots k)
+        → IsSome (value_of (node_at new.slots k)) × (next_in new.slots k ≡ k) × (prev_in new.slots k ≡ k)
     off k other absent node =
         elim (cases_eq k n) [
           | inl same ↦ rw same (
@@ -153,7 +159,8 @@ module _ {T : Type 0} where
           | inr differs ↦
               let away = absent_before k n order differs absent in
               let was = ring.off_ring k other away node in
-              let beside = neighbours (next_in old.slots) (prev_in old.slots) (λ j. j ≢ k) 0 order 0 n ring.chain (λ same. other (sym same)) (all_from_absent k order away) (λ same. other (sym same)) (linked_here old.slots order ring n used moves) in (
+              let beside = neighbours (next_in old.slots) (prev_in old.slots) (λ j. j ≢ k) 0 order 0 n ring.chain (λ same. other (sym same))
+              (all_from_absent k order away) (λ same. other (sym same)) (linked_here old.slots order ring n used moves) in (
                 rw (links.values k) was.0,
                 links.next_is k ∙ rw (ne_eqb k n differs, ne_eqb k (prev_in old.slots n) (λ same. beside.prev_on (sym same))) was.1,
                 links.prev_is k ∙ rw (ne_eqb k n differs, ne_eqb k (next_in old.slots n) (λ same. beside.next_on (sym same))) was.2,
@@ -164,22 +171,27 @@ module _ {T : Type 0} where
     ring_left = record {
       chain = chain_left;
       distinct = (IsAbsent-without 0 n order ring.distinct.0, IsDistinct-without n order ring.distinct.1);
-      in_use = AllInUse-same old.slots new.slots (without n order) (λ k. ap is_some (links.values k)) (AllInUse-without (map value_of old.slots) n order ring.in_use);
+      in_use = AllInUse-same old.slots new.slots (without n order) (λ k. ap is_some (links.values k))
+          (AllInUse-without (map value_of old.slots) n order ring.in_use);
       no_value = links.values 0 ∙ ring.no_value;
       closed = λ k node. links.nodes 0 ∙ ring.closed k (sym (links.nodes k) ∙ node);
       off_ring = λ k other absent node. off k other absent (sym (links.nodes k) ∙ node);
     }
 
   -- a node off the ring is gone
-  ring_removed : (old new : List (Option (Node T))) (n : ℕ) (order : List ℕ) → IsRing old order → IsSome (value_of (node_at old n)) → IsAbsent n order → ((k : ℕ) → k ≢ n → node_at new k ≡ node_at old k) → node_at new n ≡ None → IsRing new order
+  ring_removed : (old new : List (Option (Node T))) (n : ℕ) (order : List ℕ) → IsRing old order → IsSome (value_of (node_at old n)) → IsAbsent n order
+      → ((k : ℕ) → k ≢ n → node_at new k ≡ node_at old k) → node_at new n ≡ None → IsRing new order
   ring_removed old new n order ring used absent same gone =
       let other : 0 ≢ n = λ is. not_sentinel old order ring n used (sym is) in
       let next_same : (k : ℕ) → k ≢ n → next_in new k ≡ next_in old k = λ k differs. ap next_of (same k differs) in
       let prev_same : (k : ℕ) → k ≢ n → prev_in new k ≡ prev_in old k = λ k differs. ap prev_of (same k differs) in
       record {
-        chain = chain-alike (next_in old) (prev_in old) (next_in new) (prev_in new) 0 order 0 (next_same 0 other) (all_but (λ k. (next_in new k ≡ next_in old k) × (prev_in new k ≡ prev_in old k)) n order (λ k differs. (next_same k differs, prev_same k differs)) absent) (prev_same 0 other) ring.chain;
+        chain = chain-alike (next_in old) (prev_in old) (next_in new) (prev_in new) 0 order 0 (next_same 0 other)
+            (all_but (λ k. (next_in new k ≡ next_in old k) × (prev_in new k ≡ prev_in old k)) n order
+            (λ k differs. (next_same k differs, prev_same k differs)) absent) (prev_same 0 other) ring.chain;
         distinct = ring.distinct;
-        in_use = AllInUse-updated (map value_of old) (map value_of new) n order (λ k differs. value_in new k ∙ ap value_of (same k differs) ∙ sym (value_in old k)) absent ring.in_use;
+        in_use = AllInUse-updated (map value_of old) (map value_of new) n order
+            (λ k differs. value_in new k ∙ ap value_of (same k differs) ∙ sym (value_in old k)) absent ring.in_use;
         no_value = ap value_of (same 0 other) ∙ ring.no_value;
         closed = λ k node. ap is_some (same 0 other) ∙ sentinel_here old order ring n used;
         off_ring = λ k k_other k_absent node. elim (cases_eq k n) [
@@ -195,7 +207,10 @@ module _ {T : Type 0} where
   not_some (Some v) same = absurd (cc)
 
   -- the same links, and values where there were values
-  ring_alike : (old new : List (Option (Node T))) (order : List ℕ) → IsRing old order → IsSome (node_at new 0) → ((k : ℕ) → next_in new k ≡ next_in old k) → ((k : ℕ) → prev_in new k ≡ prev_in old k) → ((k : ℕ) → k ≢ 0 → is_some (node_at new k) ≡ is_some (node_at old k)) → ((k : ℕ) → is_some (value_of (node_at new k)) ≡ is_some (value_of (node_at old k))) → IsRing new order
+  ring_alike : (old new : List (Option (Node T))) (order : List ℕ) → IsRing old order → IsSome (node_at new 0)
+      → ((k : ℕ) → next_in new k ≡ next_in old k) → ((k : ℕ) → prev_in new k ≡ prev_in old k)
+      → ((k : ℕ) → k ≢ 0 → is_some (node_at new k) ≡ is_some (node_at old k))
+      → ((k : ℕ) → is_some (value_of (node_at new k)) ≡ is_some (value_of (node_at old k))) → IsRing new order
   ring_alike old new order ring made next prev nodes values = record {
     chain = chain-alike (next_in old) (prev_in old) (next_in new) (prev_in new) 0 order 0 (next 0) (all_of order) (prev 0) ring.chain;
     distinct = ring.distinct;
@@ -210,26 +225,33 @@ module _ {T : Type 0} where
       all_of (k ∷ ks) = ((next k, prev k), all_of ks)
 
   -- a value was put between p and the key behind p
-  module _ (old new : Slab (Node T)) (order : List ℕ) (ring : IsRing old.slots order) (made : IsSome (node_at old.slots 0)) (p z n : ℕ) (value : T) (inserts : Inserts old new p z n value) where
+  module _ (old new : Slab (Node T)) (order : List ℕ) (ring : IsRing old.slots order) (made : IsSome (node_at old.slots 0)) (p z n : ℕ) (value : T)
+      (inserts : Inserts old new p z n value) where
     n_absent : IsAbsent n order
     n_absent = fresh order (nodes_behind old.slots order ring.in_use)
       where
         fresh : (ks : List ℕ) → AllByRecursion (λ k. IsSome (node_at old.slots k)) ks → IsAbsent n ks
         fresh [] all = tt
-        fresh (k ∷ ks) all = ((λ same. some_none (node_at old.slots k) (node_at old.slots n) (ap (node_at old.slots) same) all.0 inserts.vacant), fresh ks all.1)
+        fresh (k ∷ ks) all = (
+          (λ same. some_none (node_at old.slots k) (node_at old.slots n) (ap (node_at old.slots) same)
+              all.0 inserts.vacant),
+          fresh ks all.1,
+        )
 
     not_new : (k : ℕ) → IsSome (node_at old.slots k) → k ≢ n
     not_new k node same = some_none (node_at old.slots k) (node_at old.slots n) (ap (node_at old.slots) same) node inserts.vacant
 
     -- what a contract sees
-    pub updates_view : (a b : List ℕ) (s t : ℕ) → Updates (record { order = a; slots = trim (map value_of old.slots); spare = s }) (record { order = b; slots = trim (map value_of new.slots); spare = t }) n (Some value)
+    pub updates_view : (a b : List ℕ) (s t : ℕ) → Updates (record { order = a; slots = trim (map value_of old.slots); spare = s })
+        (record { order = b; slots = trim (map value_of new.slots); spare = t }) n (Some value)
     updates_view a b s t = record {
       changed = view_at new.slots n ∙ inserts.changed;
       others = λ k differs. view_at new.slots k ∙ inserts.values k differs ∙ sym (view_at old.slots k);
     }
 
     in_use_new : AllInUse (map value_of new.slots) order
-    in_use_new = AllInUse-updated (map value_of old.slots) (map value_of new.slots) n order (λ k differs. value_in new.slots k ∙ inserts.values k differs ∙ sym (value_in old.slots k)) n_absent ring.in_use
+    in_use_new = AllInUse-updated (map value_of old.slots) (map value_of new.slots) n order
+        (λ k differs. value_in new.slots k ∙ inserts.values k differs ∙ sym (value_in old.slots k)) n_absent ring.in_use
 
     here : IsSome (get_or (map value_of new.slots) n None)
     here = ap is_some (value_in new.slots n ∙ inserts.changed)
@@ -240,7 +262,8 @@ module _ {T : Type 0} where
     no_value_new : value_of (node_at new.slots 0) ≡ None
     no_value_new = inserts.values 0 (not_new 0 made) ∙ ring.no_value
 
-    put_behind : IsSome (node_at old.slots p) → IsSome (node_at old.slots z) → z ≡ next_in old.slots p → prev_in old.slots z ≡ p → IsPutBehind (next_in old.slots) (prev_in old.slots) (next_in new.slots) (prev_in new.slots) p n
+    put_behind : IsSome (node_at old.slots p) → IsSome (node_at old.slots z) → z ≡ next_in old.slots p → prev_in old.slots z ≡ p
+        → IsPutBehind (next_in old.slots) (prev_in old.slots) (next_in new.slots) (prev_in new.slots) p n
     put_behind p_node z_node behind before = record {
       after = ap (prev_in old.slots) (sym behind) ∙ before;
       p_next = inserts.next_is p ∙ rw (eq-eqb p p refl) refl;
@@ -252,7 +275,8 @@ module _ {T : Type 0} where
     }
 
     -- a node off the ring is neither of the neighbours
-    off_new : IsPutBehind (next_in old.slots) (prev_in old.slots) (next_in new.slots) (prev_in new.slots) p n → z ≡ next_in old.slots p → (k : ℕ) → k ≢ 0 → IsAbsent k order → k ≢ n → p ≢ k → z ≢ k → IsSome (node_at new.slots k)
+    off_new : IsPutBehind (next_in old.slots) (prev_in old.slots) (next_in new.slots) (prev_in new.slots) p n → z ≡ next_in old.slots p → (k : ℕ)
+        → k ≢ 0 → IsAbsent k order → k ≢ n → p ≢ k → z ≢ k → IsSome (node_at new.slots k)
         → IsSome (value_of (node_at new.slots k)) × (next_in new.slots k ≡ k) × (prev_in new.slots k ≡ k)
     off_new put behind k other absent n_other p_other z_other node =
         let was = ring.off_ring k other absent (sym (inserts.nodes k n_other) ∙ node) in (
@@ -262,14 +286,17 @@ module _ {T : Type 0} where
         )
 
   -- the ring with n behind the sentinel
-  ring_head : (old new : Slab (Node T)) (order : List ℕ) → IsRing old.slots order → IsSome (node_at old.slots 0) → (z n : ℕ) (value : T) → z ≡ next_in old.slots 0 → Inserts old new 0 z n value → IsRing new.slots (n ∷ order)
+  ring_head : (old new : Slab (Node T)) (order : List ℕ) → IsRing old.slots order → IsSome (node_at old.slots 0) → (z n : ℕ) (value : T)
+      → z ≡ next_in old.slots 0 → Inserts old new 0 z n value → IsRing new.slots (n ∷ order)
   ring_head old new order ring made z n value behind inserts =
-      let first = first_of (next_in old.slots) (prev_in old.slots) (λ k. IsSome (node_at old.slots k)) 0 order 0 ring.chain (nodes_behind old.slots order ring.in_use) made in
+      let first = first_of (next_in old.slots) (prev_in old.slots) (λ k. IsSome (node_at old.slots k)) 0 order 0 ring.chain
+      (nodes_behind old.slots order ring.in_use) made in
       let put = put_behind old new order ring made 0 z n value inserts made (rw behind first.1) behind (rw behind first.0) in
       let absent = n_absent old new order ring made 0 z n value inserts in
       let other : 0 ≢ n = not_new old new order ring made 0 z n value inserts 0 made in
       record {
-        chain = chain-push_head (next_in old.slots) (prev_in old.slots) (next_in new.slots) (prev_in new.slots) 0 n put order 0 ring.chain absent ring.distinct.0 ring.distinct.1 ring.distinct.0 other;
+        chain = chain-push_head (next_in old.slots) (prev_in old.slots) (next_in new.slots) (prev_in new.slots)
+            0 n put order 0 ring.chain absent ring.distinct.0 ring.distinct.1 ring.distinct.0 other;
         distinct = (((λ same. other (sym same)), ring.distinct.0), (absent, ring.distinct.1));
         in_use = (here old new order ring made 0 z n value inserts, in_use_new old new order ring made 0 z n value inserts);
         no_value = no_value_new old new order ring made 0 z n value inserts;
@@ -277,13 +304,16 @@ module _ {T : Type 0} where
         off_ring = λ k away off node.
             let from_start : 0 ≢ k = λ same. away (sym same) in
             let beside = first_of (next_in old.slots) (prev_in old.slots) (λ j. j ≢ k) 0 order 0 ring.chain (all_from_absent k order off.1) from_start in
-            off_new old new order ring made 0 z n value inserts put behind k away off.1 (λ same. off.0 (sym same)) from_start (λ same. beside.1 (sym behind ∙ same)) node;
+            off_new old new order ring made 0 z n value inserts put behind k away off.1 (λ same. off.0 (sym same)) from_start
+            (λ same. beside.1 (sym behind ∙ same)) node;
       }
 
   -- the ring with n before the sentinel
-  ring_tail : (old new : Slab (Node T)) (order : List ℕ) → IsRing old.slots order → IsSome (node_at old.slots 0) → (p n : ℕ) (value : T) → p ≡ prev_in old.slots 0 → Inserts old new p 0 n value → IsRing new.slots (order ++ n ∷ [])
+  ring_tail : (old new : Slab (Node T)) (order : List ℕ) → IsRing old.slots order → IsSome (node_at old.slots 0) → (p n : ℕ) (value : T)
+      → p ≡ prev_in old.slots 0 → Inserts old new p 0 n value → IsRing new.slots (order ++ n ∷ [])
   ring_tail old new order ring made p n value before inserts =
-      let last = last_of (next_in old.slots) (prev_in old.slots) (λ k. IsSome (node_at old.slots k)) 0 order 0 ring.chain made (nodes_behind old.slots order ring.in_use) in
+      let last = last_of (next_in old.slots) (prev_in old.slots) (λ k. IsSome (node_at old.slots k)) 0 order 0 ring.chain made
+      (nodes_behind old.slots order ring.in_use) in
       let ends : next_in old.slots p ≡ 0 = rw before last.0 in
       let put = put_behind old new order ring made p 0 n value inserts (rw before last.1) made (sym ends) (sym before) in
       let absent = n_absent old new order ring made p 0 n value inserts in
@@ -296,14 +326,16 @@ module _ {T : Type 0} where
       record {
         chain = subst (IsChain (next_in new.slots) (prev_in new.slots) 0 (order ++ n ∷ [])) ends longer;
         distinct = (IsAbsent-push 0 n order (λ same. other (sym same)) ring.distinct.0, IsDistinct-push n order absent ring.distinct.1);
-        in_use = AllInUse-push (map value_of new.slots) n order (here old new order ring made p 0 n value inserts) (in_use_new old new order ring made p 0 n value inserts);
+        in_use = AllInUse-push (map value_of new.slots) n order (here old new order ring made p 0 n value inserts)
+            (in_use_new old new order ring made p 0 n value inserts);
         no_value = no_value_new old new order ring made p 0 n value inserts;
         closed = λ k node. sentinel_new old new order ring made p 0 n value inserts;
         off_ring = λ k away off node.
             let parts = absent_from_push k n order off in
             let from_start : 0 ≢ k = λ same. away (sym same) in
             let beside = last_of (next_in old.slots) (prev_in old.slots) (λ j. j ≢ k) 0 order 0 ring.chain from_start (all_from_absent k order parts.0) in
-            off_new old new order ring made p 0 n value inserts put (sym ends) k away parts.0 (λ same. parts.1 (sym same)) (λ same. beside.1 (sym before ∙ same)) from_start node;
+            off_new old new order ring made p 0 n value inserts put (sym ends) k away parts.0 (λ same. parts.1 (sym same))
+            (λ same. beside.1 (sym before ∙ same)) from_start node;
       }
 
   -- the value of the node under n was written
@@ -311,7 +343,8 @@ module _ {T : Type 0} where
     within : n < length slots
     within = grind (arith, get_or_past, found)
 
-    same_by : {X : Type 0} (f : Option (Node T) → X) → f (Some (record node { value = Some w })) ≡ f (Some node) → (k : ℕ) → f (node_at (set slots n (Some (record node { value = Some w }))) k) ≡ f (node_at slots k)
+    same_by : {X : Type 0} (f : Option (Node T) → X) → f (Some (record node { value = Some w })) ≡ f (Some node) → (k : ℕ)
+        → f (node_at (set slots n (Some (record node { value = Some w }))) k) ≡ f (node_at slots k)
     same_by f alike k =
         elim (cases_eq k n) [
           | inl same ↦
@@ -326,7 +359,8 @@ module _ {T : Type 0} where
 
     ring_kept : (order : List ℕ) → IsRing slots order → IsRing (set slots n (Some (record node { value = Some w }))) order
     ring_kept order ring =
-        ring_alike slots (set slots n (Some (record node { value = Some w }))) order ring (sentinel_kept order ring) (same_by next_of refl) (same_by prev_of refl) (λ k other. same_by (λ o. is_some o) refl k) (same_by (λ o. is_some (value_of o)) (sym full))
+        ring_alike slots (set slots n (Some (record node { value = Some w }))) order ring (sentinel_kept order ring) (same_by next_of refl)
+        (same_by prev_of refl) (λ k other. same_by (λ o. is_some o) refl k) (same_by (λ o. is_some (value_of o)) (sym full))
 
     pub count_kept : count_by is_some (set slots n (Some (record node { value = Some w }))) ≡ count_by is_some slots
     count_kept =
@@ -341,12 +375,31 @@ module _ {T : Type 0} where
 
   count-values : (slots : List (Option (Node T))) → count_by is_some (map value_of slots) ≤ count_by is_some slots
   count-values [] = omega arith
-  count-values (None ∷ slots) = omega (arith, sum_by-cons (λ (o : Option T). cond (is_some o) 1 0) None (map value_of slots), sum_by-cons (λ (o : Option (Node T)). cond (is_some o) 1 0) None slots, count-values slots)
+  count-values (None ∷ slots) = omega (
+    arith,
+    sum_by-cons (λ (o : Option T). cond (is_some o) 1 0) None (map value_of slots),
+    sum_by-cons
+        (λ (o : Option (Node T)). cond (is_some o) 1 0) None slots,
+    count-values slots,
+  )
   count-values (Some node ∷ slots) = by_value node.value (count-values slots)
     where
-      by_value : (v : Option T) → count_by is_some (map value_of slots) ≤ count_by is_some slots → count_by is_some (v ∷ map value_of slots) ≤ count_by is_some (Some node ∷ slots)
-      by_value None rest = omega (arith, rest, sum_by-cons (λ (o : Option T). cond (is_some o) 1 0) None (map value_of slots), sum_by-cons (λ (o : Option (Node T)). cond (is_some o) 1 0) (Some node) slots)
-      by_value (Some v) rest = omega (arith, rest, sum_by-cons (λ (o : Option T). cond (is_some o) 1 0) (Some v) (map value_of slots), sum_by-cons (λ (o : Option (Node T)). cond (is_some o) 1 0) (Some node) slots)
+      by_value : (v : Option T) → count_by is_some (map value_of slots) ≤ count_by is_some slots
+          → count_by is_some (v ∷ map value_of slots) ≤ count_by is_some (Some node ∷ slots)
+      by_value None rest = omega (
+        arith,
+        rest,
+        sum_by-cons (λ (o : Option T). cond (is_some o) 1 0) None (map value_of slots),
+        sum_by-cons
+            (λ (o : Option (Node T)). cond (is_some o) 1 0) (Some node) slots,
+      )
+      by_value (Some v) rest = omega (
+        arith,
+        rest,
+        sum_by-cons (λ (o : Option T). cond (is_some o) 1 0) (Some v) (map value_of slots),
+        sum_by-cons
+            (λ (o : Option (Node T)). cond (is_some o) 1 0) (Some node) slots,
+      )
 
   -- no more numbers are linked than there are nodes
   pub linked-le-nodes : (nodes : Slab (Node T)) (order : List ℕ) → IsRing nodes.slots order → length order ≤ slab_len nodes
@@ -367,25 +420,35 @@ module _ {T : Type 0} where
       let is : order_of slots len ≡ order = ap (λ l. order_of slots l) (sym count) ∙ walk-chain (next_in slots) (prev_in slots) 0 order 0 ring.chain in
       record { ring = subst (IsRing slots) (sym is) ring; order = is }
 
-  pub after_head : (old new : Slab (Node T)) (len : ℕ) → IsRing old.slots (order_of old.slots len) → IsSome (node_at old.slots 0) → (z n : ℕ) (value : T) → z ≡ next_in old.slots 0 → Inserts old new 0 z n value → Walks new.slots (n ∷ order_of old.slots len) (len + 1)
+  pub after_head : (old new : Slab (Node T)) (len : ℕ) → IsRing old.slots (order_of old.slots len) → IsSome (node_at old.slots 0)
+      → (z n : ℕ) (value : T) → z ≡ next_in old.slots 0 → Inserts old new 0 z n value → Walks new.slots (n ∷ order_of old.slots len) (len + 1)
   after_head old new len ring made z n value behind inserts =
       walks new.slots _ (len + 1) (omega (arith, length-order old.slots len)) (ring_head old new _ ring made z n value behind inserts)
 
-  pub after_tail : (old new : Slab (Node T)) (len : ℕ) → IsRing old.slots (order_of old.slots len) → IsSome (node_at old.slots 0) → (p n : ℕ) (value : T) → p ≡ prev_in old.slots 0 → Inserts old new p 0 n value → Walks new.slots (order_of old.slots len ++ n ∷ []) (len + 1)
+  pub after_tail : (old new : Slab (Node T)) (len : ℕ) → IsRing old.slots (order_of old.slots len) → IsSome (node_at old.slots 0)
+      → (p n : ℕ) (value : T) → p ≡ prev_in old.slots 0 → Inserts old new p 0 n value → Walks new.slots (order_of old.slots len ++ n ∷ []) (len + 1)
   after_tail old new len ring made p n value before inserts =
-      walks new.slots _ (len + 1) (omega (arith, length-append (order_of old.slots len) (n ∷ []), length-order old.slots len)) (ring_tail old new _ ring made p n value before inserts)
+      walks new.slots _ (len + 1) (omega (arith, length-append (order_of old.slots len) (n ∷ []), length-order old.slots len))
+      (ring_tail old new _ ring made p n value before inserts)
 
-  pub after_unlink : (old new : Slab (Node T)) (len n : ℕ) → IsRing old.slots (order_of old.slots len) → IsSome (value_of (node_at old.slots n)) → next_in old.slots n ≢ n → Relinks old new (next_after old.slots n) (prev_after old.slots n) → Walks new.slots (without n (order_of old.slots len)) (len - 1)
+  pub after_unlink : (old new : Slab (Node T)) (len n : ℕ) → IsRing old.slots (order_of old.slots len) → IsSome (value_of (node_at old.slots n))
+      → next_in old.slots n ≢ n → Relinks old new (next_after old.slots n) (prev_after old.slots n)
+      → Walks new.slots (without n (order_of old.slots len)) (len - 1)
   after_unlink old new len n ring used moves links =
-      walks new.slots _ (len - 1) (omega (arith, left_count old.slots _ ring n used moves, length-order old.slots len)) (ring_left old new _ ring n used moves links)
+      walks new.slots _ (len - 1) (omega (arith, left_count old.slots _ ring n used moves, length-order old.slots len))
+      (ring_left old new _ ring n used moves links)
 
-  pub after_remove : (old new : Slab (Node T)) (len n : ℕ) → IsRing old.slots (order_of old.slots len) → IsSome (value_of (node_at old.slots n)) → list_any (λ k. eqb k n) (order_of old.slots len) ≡ false → slab.Updates old new n None → Walks new.slots (order_of old.slots len) len
+  pub after_remove : (old new : Slab (Node T)) (len n : ℕ) → IsRing old.slots (order_of old.slots len) → IsSome (value_of (node_at old.slots n))
+      → list_any (λ k. eqb k n) (order_of old.slots len) ≡ false → slab.Updates old new n None → Walks new.slots (order_of old.slots len) len
   after_remove old new len n ring used unlinked updates =
-      walks new.slots _ len (length-order old.slots len) (ring_removed old.slots new.slots n _ ring used (absent_from_unlinked n _ unlinked) updates.others updates.changed)
+      walks new.slots _ len (length-order old.slots len)
+      (ring_removed old.slots new.slots n _ ring used (absent_from_unlinked n _ unlinked) updates.others updates.changed)
 
-  pub after_reserve : (old new : List (Option (Node T))) (len : ℕ) → IsRing old (order_of old len) → SameQueue old new → IsSome (node_at new 0) → Walks new (order_of old len) len
+  pub after_reserve : (old new : List (Option (Node T))) (len : ℕ) → IsRing old (order_of old len) → SameQueue old new → IsSome (node_at new 0)
+      → Walks new (order_of old len) len
   after_reserve old new len ring same made =
-      walks new _ len (length-order old len) (ring_alike old new _ ring made same.next_is same.prev_is (λ k other. ap is_some (same.others k other)) (λ k. ap is_some (same.values k)))
+      walks new _ len (length-order old len)
+      (ring_alike old new _ ring made same.next_is same.prev_is (λ k other. ap is_some (same.others k other)) (λ k. ap is_some (same.values k)))
 
   -- the nodes beside the sentinel
   pub first_node : (slots : List (Option (Node T))) (order : List ℕ) → IsRing slots order → IsSome (node_at slots 0) → IsSome (node_at slots (next_in slots 0))
@@ -396,11 +459,13 @@ module _ {T : Type 0} where
   last_node slots order ring made =
       (last_of (next_in slots) (prev_in slots) (λ k. IsSome (node_at slots k)) 0 order 0 ring.chain made (nodes_behind slots order ring.in_use)).1
 
-  pub after_write : (slots : List (Option (Node T))) (n : ℕ) (node : Node T) (w : T) → node_at slots n ≡ Some node → IsSome node.value → (len : ℕ) → IsRing slots (order_of slots len) → Walks (set slots n (Some (record node { value = Some w }))) (order_of slots len) len
+  pub after_write : (slots : List (Option (Node T))) (n : ℕ) (node : Node T) (w : T) → node_at slots n ≡ Some node → IsSome node.value → (len : ℕ)
+      → IsRing slots (order_of slots len) → Walks (set slots n (Some (record node { value = Some w }))) (order_of slots len) len
   after_write slots n node w found full len ring =
       walks (set slots n (Some (record node { value = Some w }))) _ len (length-order slots len) (ring_kept slots n node w found full _ ring)
 
   -- a removal leaves the sentinel
-  pub sentinel_removed : (old new : Slab (Node T)) (order : List ℕ) → IsRing old.slots order → (n : ℕ) → IsSome (value_of (node_at old.slots n)) → slab.Updates old new n None → IsSome (node_at new.slots 0)
+  pub sentinel_removed : (old new : Slab (Node T)) (order : List ℕ) → IsRing old.slots order → (n : ℕ) → IsSome (value_of (node_at old.slots n))
+      → slab.Updates old new n None → IsSome (node_at new.slots 0)
   sentinel_removed old new order ring n used updates =
       ap is_some (updates.others 0 (λ same. not_sentinel old.slots order ring n used (sym same))) ∙ sentinel_here old.slots order ring n used

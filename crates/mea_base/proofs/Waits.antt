@@ -13,7 +13,8 @@ module _ {T : Type 0} where
   in_use_within slots n used = grind (arith, get_or_past)
 
   -- what changes at an absent number alone keeps the others in use
-  pub AllInUse-updated : (old new : List (Option T)) (n : ℕ) (ns : List ℕ) → ((other : ℕ) → other ≢ n → get_or new other None ≡ get_or old other None) → IsAbsent n ns → AllInUse old ns → AllInUse new ns
+  pub AllInUse-updated : (old new : List (Option T)) (n : ℕ) (ns : List ℕ) → ((other : ℕ) → other ≢ n → get_or new other None ≡ get_or old other None)
+      → IsAbsent n ns → AllInUse old ns → AllInUse new ns
   AllInUse-updated old new n [] others absent used = tt
   AllInUse-updated old new n (m ∷ ms) others absent used =
       (rw (others m absent.0) used.0, AllInUse-updated old new n ms others absent.1 used.1)
@@ -58,7 +59,8 @@ module _ {T : Type 0} where
         omega (arith, sum_by-cons f x xs, sum_by-cons f y ys, sum_by-same xs ys (λ k. same (suc k)), head)
 
     -- a change of one number changes the sum by that number's part
-    pub sum_by-updated : (xs ys : List (Option T)) (n : ℕ) → ((k : ℕ) → k ≢ n → get_or ys k None ≡ get_or xs k None) → sum_by f ys + f (get_or xs n None) ≡ sum_by f xs + f (get_or ys n None)
+    pub sum_by-updated : (xs ys : List (Option T)) (n : ℕ) → ((k : ℕ) → k ≢ n → get_or ys k None ≡ get_or xs k None)
+        → sum_by f ys + f (get_or xs n None) ≡ sum_by f xs + f (get_or ys n None)
     sum_by-updated [] [] n others = refl
     sum_by-updated [] (y ∷ ys) zero others =
         let rest = sum_none ys (λ k. others (suc k) (λ e. omega arith)) in

@@ -42,12 +42,14 @@ module _ (F : Family) (keeps : KeepsWakers F) (names : NamesFutures F) where
   polled_below _ (Starts) f w last = absurd (cc)
   polled_below _ (Goes r i e runs later cause) f w last = at (polled_below r runs f w) (F.polled e f) refl last
     where
-      at : (last_waker F r.trace f ≡ Some w → F.name f < r.next) → (o : Option ℕ) → F.polled e f ≡ o → last_waker_at F (told F r i e) o (last_waker F r.trace f) ≡ Some w → F.name f < i + 1
+      at : (last_waker F r.trace f ≡ Some w → F.name f < r.next) → (o : Option ℕ) → F.polled e f ≡ o
+          → last_waker_at F (told F r i e) o (last_waker F r.trace f) ≡ Some w → F.name f < i + 1
       at before (Some v) polls is = omega (arith, later, names.below r runs f (names.polls r.hall e cause f v polls))
       at before None polls is = omega (arith, later, before is)
 
   -- the waker of a living future's last poll is placed still, or was woken since
-  placed_or_woken : (r : RunOf F) → Runs F r → (f : F.Future) (w : ℕ) → F.lives r.hall f ≡ true → last_waker F r.trace f ≡ Some w → (F.placed r.hall f ≡ Some w) ⊎ Contains (wakes_since F r.trace f) w
+  placed_or_woken : (r : RunOf F) → Runs F r → (f : F.Future) (w : ℕ) → F.lives r.hall f ≡ true → last_waker F r.trace f ≡ Some w
+      → (F.placed r.hall f ≡ Some w) ⊎ Contains (wakes_since F r.trace f) w
   placed_or_woken _ (Starts) f w living last = absurd (cc)
   placed_or_woken _ (Goes r i e runs later cause) f w living last = at (placed_or_woken r runs f w) (F.polled e f) refl last
     where
@@ -57,14 +59,17 @@ module _ (F : Family) (keeps : KeepsWakers F) (names : NamesFutures F) where
       since : List ℕ
       since = wakes_since F r.trace f
 
-      unpolled : F.polled e f ≡ None → (F.placed r.hall f ≡ Some w) ⊎ Contains since w → F.lives r.hall f ≡ true → (F.placed o.hall f ≡ Some w) ⊎ Contains (since ++ o.wakes) w
+      unpolled : F.polled e f ≡ None → (F.placed r.hall f ≡ Some w) ⊎ Contains since w → F.lives r.hall f ≡ true
+          → (F.placed o.hall f ≡ Some w) ⊎ Contains (since ++ o.wakes) w
       unpolled polls (inl placed) lived = elim (keeps.wakes r i e runs later cause f w lived placed polls living) [
         | inl stays ↦ inl stays
         | inr woken ↦ inr (Contains-append_right since o.wakes w woken)
       ]
       unpolled polls (inr woken) lived = inr (Contains-append_left since o.wakes w woken)
 
-      at : (F.lives r.hall f ≡ true → last_waker F r.trace f ≡ Some w → (F.placed r.hall f ≡ Some w) ⊎ Contains since w) → (p : Option ℕ) → F.polled e f ≡ p → last_waker_at F (told F r i e) p (last_waker F r.trace f) ≡ Some w → (F.placed o.hall f ≡ Some w) ⊎ Contains (wakes_at F (told F r i e) p since) w
+      at : (F.lives r.hall f ≡ true → last_waker F r.trace f ≡ Some w → (F.placed r.hall f ≡ Some w) ⊎ Contains since w) → (p : Option ℕ)
+          → F.polled e f ≡ p → last_waker_at F (told F r i e) p (last_waker F r.trace f) ≡ Some w
+          → (F.placed o.hall f ≡ Some w) ⊎ Contains (wakes_at F (told F r i e) p since) w
       at before (Some v) polls is =
           let pending = cond_some (is_pending o.reply) v w is in
           inl (keeps.places r i e runs later cause f v polls (pending_is o.reply pending.0) ∙ ap (λ u. Some u) pending.1)

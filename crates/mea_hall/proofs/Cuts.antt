@@ -59,22 +59,28 @@ none_if false x h = refl
 pub cut_nowhere : (b : ℕ) (w : List ℕ) → lacks_byte b w ≡ true → cut b w ≡ None
 cut_nowhere b w h =
     let whole = past_all b w h in
-    none_if (nat_lt (position_or_len (λ x. x == b) w) (length w)) (take (position_or_len (λ x. x == b) w) w, drop (position_or_len (λ x. x == b) w + 1) w) (grind (arith, nat_tests))
+    none_if (nat_lt (position_or_len (λ x. x == b) w) (length w))
+    (take (position_or_len (λ x. x == b) w) w, drop (position_or_len (λ x. x == b) w + 1) w) (grind (arith, nat_tests))
 
 moved : (b x : ℕ) (xs : List ℕ) (p : ℕ) → take (1 + p) (x ∷ xs) ++ b ∷ drop (1 + p + 1) (x ∷ xs) ≡ x ∷ (take p xs ++ b ∷ drop (p + 1) xs)
-moved b x xs p = let once : 1 + p ≡ suc p = omega arith in let twice : 1 + p + 1 ≡ suc (p + 1) = omega arith in λ i. take (once i) (x ∷ xs) ++ b ∷ drop (twice i) (x ∷ xs)
+moved b x xs p = let once : 1 + p ≡ suc p = omega arith in let twice : 1 + p + 1 ≡ suc (p + 1) = omega arith in
+    λ i. take (once i) (x ∷ xs) ++ b ∷ drop (twice i) (x ∷ xs)
 
-joined_by : (b x : ℕ) (xs : List ℕ) → (position_or_len (λ y. y == b) xs < length xs → xs ≡ take (position_or_len (λ y. y == b) xs) xs ++ b ∷ drop (position_or_len (λ y. y == b) xs + 1) xs)
+joined_by : (b x : ℕ) (xs : List ℕ) →
+    (position_or_len (λ y. y == b) xs < length xs → xs ≡ take (position_or_len (λ y. y == b) xs) xs ++ b ∷ drop (position_or_len (λ y. y == b) xs + 1) xs)
     → (t : Bool) → (x == b) ≡ t → cond (not t) (1 + position_or_len (λ y. y == b) xs) 0 < length (x ∷ xs)
-    → x ∷ xs ≡ take (cond (not t) (1 + position_or_len (λ y. y == b) xs) 0) (x ∷ xs) ++ b ∷ drop (cond (not t) (1 + position_or_len (λ y. y == b) xs) 0 + 1) (x ∷ xs)
+    → x ∷ xs ≡ take (cond (not t) (1 + position_or_len (λ y. y == b) xs) 0) (x ∷ xs) ++ b ∷ drop
+    (cond (not t) (1 + position_or_len (λ y. y == b) xs) 0 + 1) (x ∷ xs)
 joined_by b x xs later true is less = ap (λ y. y ∷ xs) (eqb-true x b is)
 joined_by b x xs later false is less = ap (λ ys. x ∷ ys) (later (omega arith)) ∙ sym (moved b x xs (position_or_len (λ y. y == b) xs))
 
-joined : (b : ℕ) (line : List ℕ) → position_or_len (λ x. x == b) line < length line → line ≡ take (position_or_len (λ x. x == b) line) line ++ b ∷ drop (position_or_len (λ x. x == b) line + 1) line
+joined : (b : ℕ) (line : List ℕ) → position_or_len (λ x. x == b) line < length line
+    → line ≡ take (position_or_len (λ x. x == b) line) line ++ b ∷ drop (position_or_len (λ x. x == b) line + 1) line
 joined b [] h = absurd (omega arith)
 joined b (x ∷ xs) h = joined_by b x xs (joined b xs) (x == b) refl h
 
 pub cut_only : (b : ℕ) (line before after : List ℕ) → cut b line ≡ Some (before, after) → line ≡ before ++ b ∷ after
 cut_only b line before after is =
-    let parts = cond_some (nat_lt (position_or_len (λ x. x == b) line) (length line)) (take (position_or_len (λ x. x == b) line) line, drop (position_or_len (λ x. x == b) line + 1) line) (before, after) is in
+    let parts = cond_some (nat_lt (position_or_len (λ x. x == b) line) (length line))
+    (take (position_or_len (λ x. x == b) line) line, drop (position_or_len (λ x. x == b) line + 1) line) (before, after) is in
     joined b line (ltb-true _ _ parts.0) ∙ (λ i. (parts.1 i).0 ++ b ∷ (parts.1 i).1)

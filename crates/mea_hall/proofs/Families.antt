@@ -32,13 +32,16 @@ most_woken w i (Meet e) = omega (arith, meet_most.most w.meets i e)
 
 -- in an empty world no waker is registered
 pub none_registered : registered empty_world ≡ 0
-none_registered = let semaphores : sem_waiters.waiters sem_hall.empty_hall ≡ 0 = total-empty (λ s r. sem_waiters.waiters_in r.queue) in omega (arith, semaphores, meet_laws.none_registered)
+none_registered = let semaphores : sem_waiters.waiters sem_hall.empty_hall ≡ 0 = total-empty (λ s r. sem_waiters.waiters_in r.queue) in
+    omega (arith, semaphores, meet_laws.none_registered)
 
 -- ---- a semaphore event
-semaphores_played : (old : sem.Play) (m : meet.Play) (i : ℕ) (e : SemEvent) (answer : Answer) (new : sem.Play) → sem.Plays old i e answer new → old.wakes ≡ [] → m.wakes ≡ [] → m.next ≤ i → PlaysFamilies (world_of old m) i (Sem e) answer new m
+semaphores_played : (old : sem.Play) (m : meet.Play) (i : ℕ) (e : SemEvent) (answer : Answer) (new : sem.Play) → sem.Plays old i e answer new
+    → old.wakes ≡ [] → m.wakes ≡ [] → m.next ≤ i → PlaysFamilies (world_of old m) i (Sem e) answer new m
 semaphores_played old m i e answer new p quiet rest low =
     let hall : new.hall ≡ (sem_step.step old.hall i e).hall = ap (λ (q : sem.Play). q.hall) p.moved in
-    let wakes : new.wakes ≡ (sem_step.step old.hall i e).wakes = ap (λ (q : sem.Play). q.wakes) p.moved ∙ ap (λ ws. ws ++ (sem_step.step old.hall i e).wakes) quiet in
+    let wakes : new.wakes ≡ (sem_step.step old.hall i e).wakes =
+    ap (λ (q : sem.Play). q.wakes) p.moved ∙ ap (λ ws. ws ++ (sem_step.step old.hall i e).wakes) quiet in
     let next : new.next ≡ i + 1 = ap (λ (q : sem.Play). q.next) p.moved in
     let law = sem_laws.settles old.hall i e in
     let ready : length new.wakes ≡ length (sem_step.step old.hall i e).wakes = ap length wakes in
@@ -54,16 +57,20 @@ semaphores_played old m i e answer new p quiet rest low =
       falls = λ f. omega (arith, law.falls f, ready, waiting, none);
     }
 
-pub plays_semaphores : (old : sem.Play) (m : meet.Play) (i : ℕ) (event : Event) (e : SemEvent) (r : Result Answer Stop) (new : sem.Play) → event ≡ Sem e → old.wakes ≡ [] → m.wakes ≡ [] → m.next ≤ i
+pub plays_semaphores : (old : sem.Play) (m : meet.Play) (i : ℕ) (event : Event) (e : SemEvent) (r : Result Answer Stop) (new : sem.Play)
+    → event ≡ Sem e → old.wakes ≡ [] → m.wakes ≡ [] → m.next ≤ i
     → IfOk r (λ reply. sem.Plays old i e reply new) → IfOk r (λ answer. PlaysFamilies (world_of old m) i event answer new m)
-plays_semaphores old m i event e r new is quiet rest low = if_ok (λ reply. sem.Plays old i e reply new) (λ answer. PlaysFamilies (world_of old m) i event answer new m) r (λ answer p.
+plays_semaphores old m i event e r new is quiet rest low = if_ok (λ reply. sem.Plays old i e reply new)
+    (λ answer. PlaysFamilies (world_of old m) i event answer new m) r (λ answer p.
     rw is (semaphores_played old m i e answer new p quiet rest low))
 
 -- ---- an event of the meeting points
-meets_played : (s : sem.Play) (old : meet.Play) (i : ℕ) (e : MeetEvent) (answer : Answer) (new : meet.Play) → meet.Plays old i e answer new → s.wakes ≡ [] → old.wakes ≡ [] → s.next ≤ i → PlaysFamilies (world_of s old) i (Meet e) answer s new
+meets_played : (s : sem.Play) (old : meet.Play) (i : ℕ) (e : MeetEvent) (answer : Answer) (new : meet.Play) → meet.Plays old i e answer new
+    → s.wakes ≡ [] → old.wakes ≡ [] → s.next ≤ i → PlaysFamilies (world_of s old) i (Meet e) answer s new
 meets_played s old i e answer new p rest quiet low =
     let hall : new.hall ≡ (meet_step.step old.hall i e).hall = ap (λ (q : meet.Play). q.hall) p.moved in
-    let wakes : new.wakes ≡ (meet_step.step old.hall i e).wakes = ap (λ (q : meet.Play). q.wakes) p.moved ∙ ap (λ ws. ws ++ (meet_step.step old.hall i e).wakes) quiet in
+    let wakes : new.wakes ≡ (meet_step.step old.hall i e).wakes =
+    ap (λ (q : meet.Play). q.wakes) p.moved ∙ ap (λ ws. ws ++ (meet_step.step old.hall i e).wakes) quiet in
     let next : new.next ≡ i + 1 = ap (λ (q : meet.Play). q.next) p.moved in
     let ready : length new.wakes ≡ length (meet_step.step old.hall i e).wakes = ap length wakes in
     let waiting : meet_hall.registered new.hall ≡ meet_hall.registered (meet_step.step old.hall i e).hall = ap meet_hall.registered hall in
@@ -78,7 +85,9 @@ meets_played s old i e answer new p rest quiet low =
       falls = λ f. omega (arith, meet_laws.falls old.hall i e f, ready, waiting, none);
     }
 
-pub plays_meets : (s : sem.Play) (old : meet.Play) (i : ℕ) (event : Event) (e : MeetEvent) (r : Result Answer Stop) (new : meet.Play) → event ≡ Meet e → s.wakes ≡ [] → old.wakes ≡ [] → s.next ≤ i
+pub plays_meets : (s : sem.Play) (old : meet.Play) (i : ℕ) (event : Event) (e : MeetEvent) (r : Result Answer Stop) (new : meet.Play) → event ≡ Meet e
+    → s.wakes ≡ [] → old.wakes ≡ [] → s.next ≤ i
     → IfOk r (λ reply. meet.Plays old i e reply new) → IfOk r (λ answer. PlaysFamilies (world_of s old) i event answer s new)
-plays_meets s old i event e r new is rest quiet low = if_ok (λ reply. meet.Plays old i e reply new) (λ answer. PlaysFamilies (world_of s old) i event answer s new) r (λ answer p.
+plays_meets s old i event e r new is rest quiet low = if_ok (λ reply. meet.Plays old i e reply new)
+    (λ answer. PlaysFamilies (world_of s old) i event answer s new) r (λ answer p.
     rw is (meets_played s old i e answer new p rest quiet low))

@@ -14,7 +14,8 @@ pub record HandsOver (start : Play) (all : List (Answer × List ℕ)) (now : Pla
   pub last : told.replies ≢ []
 
 pub hands_over : (start now next : Play) (all : List (Answer × List ℕ)) (told new : Told) (w : ℕ) → HandsOver start all now told
-    → now ≡ record next { wakes = w ∷ next.wakes } → new ≡ record { replies = with_wake told.replies w; room = told.room; spare = told.spare - 1 } → HandsOver start all next new
+    → now ≡ record next { wakes = w ∷ next.wakes } → new ≡ record { replies = with_wake told.replies w; room = told.room; spare = told.spare - 1 }
+    → HandsOver start all next new
 hands_over start now next all told new w h taken added =
     let wakes : now.wakes ≡ w ∷ next.wakes = ap (λ p. p.wakes) taken in
     let replies : new.replies ≡ with_wake told.replies w = ap (λ t. t.replies) added in
@@ -33,14 +34,17 @@ hands_over start now next all told new w h taken added =
     some (r ∷ rs) v e = absurd (let long = length-with_wake (r ∷ rs) v in let none = ap length e in omega arith)
 
 -- the reply that was pushed, once all wakes of its event were handed over
-pub told_reply : (rs pushed final : List (Answer × List ℕ)) (answer : Answer) (before ws : List ℕ) (reply : Answer × List ℕ) → pushed ≡ rs ++ (answer, []) ∷ [] → final ≡ with_wakes pushed ws
+pub told_reply : (rs pushed final : List (Answer × List ℕ)) (answer : Answer) (before ws : List ℕ) (reply : Answer × List ℕ)
+    → pushed ≡ rs ++ (answer, []) ∷ [] → final ≡ with_wakes pushed ws
     → answer ≡ reply.0 → ws ≡ before ++ reply.1 → before ≡ [] → final ≡ rs ++ reply ∷ []
 told_reply rs pushed final answer before ws reply push over same woken quiet =
     let all : ws ≡ reply.1 = woken ∙ ap (λ q. q ++ reply.1) quiet in
     over ∙ ap (λ told. with_wakes told ws) push ∙ with_wakes-append rs answer [] ws ∙ (λ i. rs ++ (same i, all i) ∷ [])
 
 -- the wakers of an event have room where there is room for as many as are registered before it
-pub room_for : (old new : Play) (e : Event) (answer : Answer) (n spare after : ℕ) → Plays old e answer new → old.wakes ≡ [] → n ≡ registered old.world → n ≤ spare → after ≡ spare → length new.wakes ≤ after
+pub room_for : (old new : Play) (e : Event) (answer : Answer) (n spare after : ℕ) → Plays old e answer new → old.wakes ≡ [] → n ≡ registered old.world
+    → n ≤ spare → after ≡ spare → length new.wakes ≤ after
 room_for old new e answer n spare after plays quiet count room same =
-    let all : length new.wakes ≡ length (step old.world old.events e).reply.1 = ap length (plays.woken ∙ ap (λ ws. ws ++ (step old.world old.events e).reply.1) quiet) in
+    let all : length new.wakes ≡ length (step old.world old.events e).reply.1 =
+    ap length (plays.woken ∙ ap (λ ws. ws ++ (step old.world old.events e).reply.1) quiet) in
     omega (arith, all, most_woken old.world old.events e, count, room, same)

@@ -24,7 +24,8 @@ record Embeds (F : Family) (part : Event → Option F.Event) (hall_in : World �
   empty : F.empty ≡ hall_in empty_world
   caused : (w : World) (e : Event) (d : F.Event) → part e ≡ Some d → F.cause (hall_in w) d ≡ cause_of w e
   stepped : (w : World) (i : ℕ) (e : Event) (d : F.Event) → part e ≡ Some d → (F.step (hall_in w) i d).hall ≡ hall_in (step w i e).world
-  told : (w : World) (i : ℕ) (e : Event) (d : F.Event) → part e ≡ Some d → ((F.step (hall_in w) i d).reply ≡ (step w i e).reply.0) × ((F.step (hall_in w) i d).wakes ≡ (step w i e).reply.1)
+  told : (w : World) (i : ℕ) (e : Event) (d : F.Event) → part e ≡ Some d
+      → ((F.step (hall_in w) i d).reply ≡ (step w i e).reply.0) × ((F.step (hall_in w) i d).wakes ≡ (step w i e).reply.1)
   others : (w : World) (i : ℕ) (e : Event) → part e ≡ None → hall_in (step w i e).world ≡ hall_in w
 
 module _ (F : Family) (part : Event → Option F.Event) (hall_in : World → F.Hall) (embeds : Embeds F part hall_in) where
@@ -35,7 +36,8 @@ module _ (F : Family) (part : Event → Option F.Event) (hall_in : World → F.H
     low : r.next ≤ i
 
   -- one more event, which has no cause for refusal
-  follows : (r : RunOf F) (i : ℕ) (w : World) (e : Event) → Follows r i w → cause_of w e ≡ None → Follows (hears F part r i (part e) (step w i e).reply) (i + 1) (step w i e).world
+  follows : (r : RunOf F) (i : ℕ) (w : World) (e : Event) → Follows r i w → cause_of w e ≡ None
+      → Follows (hears F part r i (part e) (step w i e).reply) (i + 1) (step w i e).world
   follows r i w e f allowed = at (part e) refl
     where
       at : (o : Option F.Event) → part e ≡ o → Follows (hears F part r i o (step w i e).reply) (i + 1) (step w i e).world
@@ -46,23 +48,30 @@ module _ (F : Family) (part : Event → Option F.Event) (hall_in : World → F.H
           let wakes : (F.step r.hall i d).wakes ≡ (step w i e).reply.1 = ap (λ h. (F.step h i d).wakes) f.hall ∙ told.1 in
           record {
             hall = ap (λ h. (F.step h i d).hall) f.hall ∙ embeds.stepped w i e d is;
-            runs = subst (Runs F) (λ k. record { hall = (F.step r.hall i d).hall; trace = record { number = i; before = r.hall; event = d; reply = reply k; wakes = wakes k } ∷ r.trace; next = i + 1 })
+            runs = subst (Runs F) (λ k. record {
+              hall = (F.step r.hall i d).hall;
+              trace = record { number = i; before = r.hall; event = d; reply = reply k; wakes = wakes k } ∷ r.trace;
+              next = i + 1;
+            })
                 (Goes r i d f.runs f.low (ap (λ h. F.cause h d) f.hall ∙ embeds.caused w e d is ∙ allowed));
             low = omega arith;
           }
 
-  runs_from : (r : RunOf F) (i : ℕ) (w : World) → Follows r i w → (es : List Event) (k : ℕ) → k ≤ length (front_from w i es).replies → Runs F (run_from F part r i (take k es) (take k (front_from w i es).replies))
+  runs_from : (r : RunOf F) (i : ℕ) (w : World) → Follows r i w → (es : List Event) (k : ℕ) → k ≤ length (front_from w i es).replies
+      → Runs F (run_from F part r i (take k es) (take k (front_from w i es).replies))
   runs_from r i w f [] zero few = f.runs
   runs_from r i w f [] (suc k) few = f.runs
   runs_from r i w f (e ∷ es) zero few = f.runs
   runs_from r i w f (e ∷ es) (suc k) few =
-      by_cause (cause_of w e) refl few (λ allowed h. runs_from (hears F part r i (part e) (step w i e).reply) (i + 1) (step w i e).world (follows r i w e f allowed) es k h)
+      by_cause (cause_of w e) refl few
+      (λ allowed h. runs_from (hears F part r i (part e) (step w i e).reply) (i + 1) (step w i e).world (follows r i w e f allowed) es k h)
     where
       next : Front
       next = front_from (step w i e).world (i + 1) es
 
       by_cause : (c : Option Stop) → cause_of w e ≡ c → suc k ≤ length (front_at c w (step w i e).reply next).replies
-          → (cause_of w e ≡ None → k ≤ length next.replies → Runs F (run_from F part (hears F part r i (part e) (step w i e).reply) (i + 1) (take k es) (take k next.replies)))
+          → (cause_of w e ≡ None → k ≤ length next.replies → Runs F
+          (run_from F part (hears F part r i (part e) (step w i e).reply) (i + 1) (take k es) (take k next.replies)))
           → Runs F (run_from F part r i (e ∷ take k es) (take (suc k) (front_at c w (step w i e).reply next).replies))
       by_cause (Some stop) is h later = absurd (omega (arith, h))
       by_cause None is h later = later is (omega (arith, h))
@@ -71,12 +80,14 @@ module _ (F : Family) (part : Event → Option F.Event) (hall_in : World → F.H
   runs_after es i few = runs_from (start F) 0 empty_world (record { hall = embeds.empty; runs = Starts; low = omega arith }) es i few
 
   -- of a list of events of which the first n were played, with these replies
-  played_runs : (es : List Event) (n : ℕ) (w : World) (rs : Replies) → front_of (take n es) ≡ record { world = w; replies = rs; cause = None } → length rs ≡ n → (i : ℕ) → i ≤ length rs → Runs F (run_after F part es rs i)
+  played_runs : (es : List Event) (n : ℕ) (w : World) (rs : Replies) → front_of (take n es) ≡ record { world = w; replies = rs; cause = None }
+      → length rs ≡ n → (i : ℕ) → i ≤ length rs → Runs F (run_after F part es rs i)
   played_runs es n w rs played counted i few =
       let told : (front_of (take n es)).replies ≡ rs = ap (λ f. f.replies) played in
       let runs = runs_after (take n es) i (subst (λ (ts : Replies). i ≤ length ts) (sym told) few) in
       subst (λ (ts : Replies). Runs F (run_from F part (start F) 0 (take i es) (take i ts))) told
-      (subst (λ (fs : List Event). Runs F (run_from F part (start F) 0 fs (take i (front_of (take n es)).replies))) (take-take i n es (omega (arith, few, counted))) runs)
+      (subst (λ (fs : List Event). Runs F (run_from F part (start F) 0 fs (take i (front_of (take n es)).replies)))
+      (take-take i n es (omega (arith, few, counted))) runs)
 
 -- ---- each family in the world
 embeds_semaphores : Embeds semaphores semaphore_part (λ w. w.semaphores)
@@ -86,12 +97,15 @@ embeds_semaphores = record { empty = refl; caused = caused; stepped = stepped; t
     caused w (Sem e) d is = ap (λ o. semaphores.cause w.semaphores o) (let same : d ≡ e = cc in same)
     caused w (Meet e) d is = absurd (cc)
 
-    stepped : (w : World) (i : ℕ) (e : Event) (d : semaphores.Event) → semaphore_part e ≡ Some d → (semaphores.step w.semaphores i d).hall ≡ (step w i e).world.semaphores
+    stepped : (w : World) (i : ℕ) (e : Event) (d : semaphores.Event) → semaphore_part e ≡ Some d
+        → (semaphores.step w.semaphores i d).hall ≡ (step w i e).world.semaphores
     stepped w i (Sem e) d is = ap (λ o. (semaphores.step w.semaphores i o).hall) (let same : d ≡ e = cc in same)
     stepped w i (Meet e) d is = absurd (cc)
 
-    told : (w : World) (i : ℕ) (e : Event) (d : semaphores.Event) → semaphore_part e ≡ Some d → ((semaphores.step w.semaphores i d).reply ≡ (step w i e).reply.0) × ((semaphores.step w.semaphores i d).wakes ≡ (step w i e).reply.1)
-    told w i (Sem e) d is = let same : d ≡ e = cc in (ap (λ o. (semaphores.step w.semaphores i o).reply) same, ap (λ o. (semaphores.step w.semaphores i o).wakes) same)
+    told : (w : World) (i : ℕ) (e : Event) (d : semaphores.Event) → semaphore_part e ≡ Some d
+        → ((semaphores.step w.semaphores i d).reply ≡ (step w i e).reply.0) × ((semaphores.step w.semaphores i d).wakes ≡ (step w i e).reply.1)
+    told w i (Sem e) d is = let same : d ≡ e = cc in
+        (ap (λ o. (semaphores.step w.semaphores i o).reply) same, ap (λ o. (semaphores.step w.semaphores i o).wakes) same)
     told w i (Meet e) d is = absurd (cc)
 
     others : (w : World) (i : ℕ) (e : Event) → semaphore_part e ≡ None → (step w i e).world.semaphores ≡ w.semaphores
@@ -109,7 +123,8 @@ embeds_meets = record { empty = refl; caused = caused; stepped = stepped; told =
     stepped w i (Sem e) d is = absurd (cc)
     stepped w i (Meet e) d is = ap (λ o. (meets.step w.meets i o).hall) (let same : d ≡ e = cc in same)
 
-    told : (w : World) (i : ℕ) (e : Event) (d : meets.Event) → meet_part e ≡ Some d → ((meets.step w.meets i d).reply ≡ (step w i e).reply.0) × ((meets.step w.meets i d).wakes ≡ (step w i e).reply.1)
+    told : (w : World) (i : ℕ) (e : Event) (d : meets.Event) → meet_part e ≡ Some d
+        → ((meets.step w.meets i d).reply ≡ (step w i e).reply.0) × ((meets.step w.meets i d).wakes ≡ (step w i e).reply.1)
     told w i (Sem e) d is = absurd (cc)
     told w i (Meet e) d is = let same : d ≡ e = cc in (ap (λ o. (meets.step w.meets i o).reply) same, ap (λ o. (meets.step w.meets i o).wakes) same)
 
@@ -128,11 +143,15 @@ front_wakes es = record {
 }
 
 -- ---- of a list of events of which the first n were played, with these replies
-pub played_balances : (es : List Event) (n : ℕ) (w : World) (rs : Replies) → front_of (take n es) ≡ record { world = w; replies = rs; cause = None } → length rs ≡ n → AreBalanced es rs
-played_balances es n w rs played counted i few s = balanced _ (played_runs semaphores semaphore_part (λ w. w.semaphores) embeds_semaphores es n w rs played counted i few) s
+pub played_balances : (es : List Event) (n : ℕ) (w : World) (rs : Replies) → front_of (take n es) ≡ record { world = w; replies = rs; cause = None }
+    → length rs ≡ n → AreBalanced es rs
+played_balances es n w rs played counted i few s = balanced _
+    (played_runs semaphores semaphore_part (λ w. w.semaphores) embeds_semaphores es n w rs played counted i few) s
 
-pub played_wakes : (es : List Event) (n : ℕ) (w : World) (rs : Replies) → front_of (take n es) ≡ record { world = w; replies = rs; cause = None } → length rs ≡ n → LoseNoWake es rs
+pub played_wakes : (es : List Event) (n : ℕ) (w : World) (rs : Replies) → front_of (take n es) ≡ record { world = w; replies = rs; cause = None }
+    → length rs ≡ n → LoseNoWake es rs
 played_wakes es n w rs played counted = record {
-  semaphores_woken = λ i few. sem_wakes.loses_no_wake _ (played_runs semaphores semaphore_part (λ w. w.semaphores) embeds_semaphores es n w rs played counted i few);
+  semaphores_woken = λ i few. sem_wakes.loses_no_wake _
+      (played_runs semaphores semaphore_part (λ w. w.semaphores) embeds_semaphores es n w rs played counted i few);
   meets_woken = λ i few. meet_wakes.no_wake_is_lost _ (played_runs meets meet_part (λ w. w.meets) embeds_meets es n w rs played counted i few);
 }

@@ -40,14 +40,16 @@ no_leading_zero : (n : ℕ) → n < 2 ^ 64 → (not (get_or (decimal n) 0 0 == 4
 no_leading_zero n fits = by_size (n == 0) refl
   where
     by_size : (b : Bool) → (n == 0) ≡ b → (not (get_or (decimal n) 0 0 == 48) || length (decimal n) == 1) ≡ true
-    by_size true is = ap (λ k. not (get_or (decimal k) 0 0 == 48) || length (decimal k) == 1) (eqb-true n 0 is) ∙ ap (λ ds. not (get_or ds 0 0 == 48) || length ds == 1) (decimal_digit 0 (omega arith))
+    by_size true is = ap (λ k. not (get_or (decimal k) 0 0 == 48) || length (decimal k) == 1) (eqb-true n 0 is)
+        ∙ ap (λ ds. not (get_or ds 0 0 == 48) || length ds == 1) (decimal_digit 0 (omega arith))
     by_size false is = not_zero_first _ _ (first_decimal n (grind (arith, nat_tests)) fits)
 
 pub number_of-decimal : (n : ℕ) → n < 2 ^ 64 → number_of (decimal n) ≡ Some n
 number_of-decimal n fits =
     let numeral = decimal_is_IsNumeral n fits in
     some_if (is_number (decimal n)) (digits_value 10 (decimal n)) n
-    (all_of_four _ _ _ _ (own.from (decimal n) numeral.0.1) (lt_test _ _ numeral.0.0) (no_leading_zero n fits) (lt_test _ _ (subst (λ k. k < 2 ^ 64) (sym numeral.1) fits)))
+    (all_of_four _ _ _ _ (own.from (decimal n) numeral.0.1) (lt_test _ _ numeral.0.0) (no_leading_zero n fits)
+    (lt_test _ _ (subst (λ k. k < 2 ^ 64) (sym numeral.1) fits)))
     numeral.1
 
 -- what is a number is spelled as it
@@ -57,7 +59,8 @@ number_only bytes n is =
     let three = first_of_two _ _ parts.0 in
     let two = first_of_two _ _ three in
     let value : digits_value 10 bytes < 2 ^ 64 = ltb-true _ _ (second_of_two _ _ parts.0) in
-    let spelled = decimal-digits_value own bytes (first_of_two _ _ two) (ltb-true _ _ (second_of_two _ _ two)) (one_digit _ _ (second_of_two _ _ three)) value in
+    let spelled = decimal-digits_value own bytes (first_of_two _ _ two) (ltb-true _ _ (second_of_two _ _ two))
+    (one_digit _ _ (second_of_two _ _ three)) value in
     (sym spelled ∙ ap decimal parts.1, subst (λ k. k < 2 ^ 64) parts.1 value)
 
 -- ---- counts

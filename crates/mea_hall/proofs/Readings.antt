@@ -166,16 +166,20 @@ numbered {text = text} g reader word make a spaceless leads holds = record {
   read = leads (text a) (make a) (ap (option_and_then (λ b. Some (make b))) (reader.back a holds));
 }
 
-pub of_number : {E : Type 0} (g : Grammar E) (word : List ℕ) (make : ℕ → E) (n : ℕ) → lacks_byte 32 word ≡ true → Leads g word number_of make → AreFit (n ∷ []) → IsNumbered g word (n ∷ []) (make n)
+pub of_number : {E : Type 0} (g : Grammar E) (word : List ℕ) (make : ℕ → E) (n : ℕ) → lacks_byte 32 word ≡ true → Leads g word number_of make
+    → AreFit (n ∷ []) → IsNumbered g word (n ∷ []) (make n)
 of_number g word make n = numbered g reads_number word make n
 
-pub of_count : {E : Type 0} (g : Grammar E) (word : List ℕ) (make : ℕ → E) (n : ℕ) → lacks_byte 32 word ≡ true → Leads g word count_of make → n < 2 ^ 32 → IsNumbered g word (n ∷ []) (make n)
+pub of_count : {E : Type 0} (g : Grammar E) (word : List ℕ) (make : ℕ → E) (n : ℕ) → lacks_byte 32 word ≡ true → Leads g word count_of make
+    → n < 2 ^ 32 → IsNumbered g word (n ∷ []) (make n)
 of_count g word make n = numbered g reads_count word make n
 
-pub of_numbers : {E : Type 0} (g : Grammar E) (word : List ℕ) (make : ℕ → ℕ → E) (a b : ℕ) → lacks_byte 32 word ≡ true → Leads g word numbers_of (λ p. make p.0 p.1) → AreFit (a ∷ b ∷ []) → IsNumbered g word (a ∷ b ∷ []) (make a b)
+pub of_numbers : {E : Type 0} (g : Grammar E) (word : List ℕ) (make : ℕ → ℕ → E) (a b : ℕ) → lacks_byte 32 word ≡ true
+    → Leads g word numbers_of (λ p. make p.0 p.1) → AreFit (a ∷ b ∷ []) → IsNumbered g word (a ∷ b ∷ []) (make a b)
 of_numbers g word make a b = numbered g reads_numbers word (λ p. make p.0 p.1) (a, b)
 
-pub of_number_and_count : {E : Type 0} (g : Grammar E) (word : List ℕ) (make : ℕ → ℕ → E) (a b : ℕ) → lacks_byte 32 word ≡ true → Leads g word number_and_count_of (λ p. make p.0 p.1) → (a < 2 ^ 64) × (b < 2 ^ 32) → IsNumbered g word (a ∷ b ∷ []) (make a b)
+pub of_number_and_count : {E : Type 0} (g : Grammar E) (word : List ℕ) (make : ℕ → ℕ → E) (a b : ℕ) → lacks_byte 32 word ≡ true
+    → Leads g word number_and_count_of (λ p. make p.0 p.1) → (a < 2 ^ 64) × (b < 2 ^ 32) → IsNumbered g word (a ∷ b ∷ []) (make a b)
 of_number_and_count g word make a b = numbered g reads_number_and_count word (λ p. make p.0 p.1) (a, b)
 
 -- ---- from a line to its event
@@ -199,20 +203,27 @@ spelled_by {read = read} g reader word own_word rest make e makes same is = opti
       fits = own.1.1 given.1;
     }))
 
-pub by_number : {E : Type 0} (g : Grammar E) (word own_word rest : List ℕ) (make : ℕ → E) (e : E) → IsMade g own_word one FitsNumber make → bytes_eq word own_word ≡ true → with_number make rest ≡ Some e → IsSpelled g word rest e
+pub by_number : {E : Type 0} (g : Grammar E) (word own_word rest : List ℕ) (make : ℕ → E) (e : E) → IsMade g own_word one FitsNumber make
+    → bytes_eq word own_word ≡ true → with_number make rest ≡ Some e → IsSpelled g word rest e
 by_number g = spelled_by g reads_number
 
-pub by_count : {E : Type 0} (g : Grammar E) (word own_word rest : List ℕ) (make : ℕ → E) (e : E) → IsMade g own_word one FitsCount make → bytes_eq word own_word ≡ true → with_count make rest ≡ Some e → IsSpelled g word rest e
+pub by_count : {E : Type 0} (g : Grammar E) (word own_word rest : List ℕ) (make : ℕ → E) (e : E) → IsMade g own_word one FitsCount make
+    → bytes_eq word own_word ≡ true → with_count make rest ≡ Some e → IsSpelled g word rest e
 by_count g = spelled_by g reads_count
 
-pub by_numbers : {E : Type 0} (g : Grammar E) (word own_word rest : List ℕ) (make : ℕ → ℕ → E) (e : E) → IsMade g own_word pair (λ p. AreFit (pair p)) (λ p. make p.0 p.1) → bytes_eq word own_word ≡ true → with_numbers make rest ≡ Some e → IsSpelled g word rest e
+pub by_numbers : {E : Type 0} (g : Grammar E) (word own_word rest : List ℕ) (make : ℕ → ℕ → E) (e : E)
+    → IsMade g own_word pair (λ p. AreFit (pair p)) (λ p. make p.0 p.1) → bytes_eq word own_word ≡ true → with_numbers make rest ≡ Some e
+    → IsSpelled g word rest e
 by_numbers g word own_word rest make = spelled_by g reads_numbers word own_word rest (λ p. make p.0 p.1)
 
-pub by_number_and_count : {E : Type 0} (g : Grammar E) (word own_word rest : List ℕ) (make : ℕ → ℕ → E) (e : E) → IsMade g own_word pair (λ p. (p.0 < 2 ^ 64) × FitsCount p.1) (λ p. make p.0 p.1) → bytes_eq word own_word ≡ true → with_number_and_count make rest ≡ Some e → IsSpelled g word rest e
+pub by_number_and_count : {E : Type 0} (g : Grammar E) (word own_word rest : List ℕ) (make : ℕ → ℕ → E) (e : E)
+    → IsMade g own_word pair (λ p. (p.0 < 2 ^ 64) × FitsCount p.1) (λ p. make p.0 p.1) → bytes_eq word own_word ≡ true
+    → with_number_and_count make rest ≡ Some e → IsSpelled g word rest e
 by_number_and_count g word own_word rest make = spelled_by g reads_number_and_count word own_word rest (λ p. make p.0 p.1)
 
 -- an event without numbers
-pub by_itself : {E : Type 0} (g : Grammar E) (word own_word : List ℕ) (made e : E) → g.word made ≡ own_word → g.numbers made ≡ [] → g.Fits made → bytes_eq word own_word ≡ true → Some made ≡ Some e → IsSpelledAlone g word e
+pub by_itself : {E : Type 0} (g : Grammar E) (word own_word : List ℕ) (made e : E) → g.word made ≡ own_word → g.numbers made ≡ [] → g.Fits made
+    → bytes_eq word own_word ≡ true → Some made ≡ Some e → IsSpelledAlone g word e
 by_itself g word own_word made e words numbers fits same is = subst (IsSpelledAlone g word) (some_same _ _ is) (record {
   word_is = same_bytes word own_word same ∙ sym words;
   numberless = numbers;

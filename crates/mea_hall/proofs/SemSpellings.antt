@@ -19,10 +19,12 @@ in_permits word rest e is = first_found _ _ e (first_found _ _ e is)
 in_asking : (word rest : List ℕ) (e : SemEvent) → permits_event word rest ≡ None → asking_event word rest ≡ Some e → semaphore_event word rest ≡ Some e
 in_asking word rest e permits is = first_found _ _ e (second_found _ _ e permits is)
 
-in_holding : (word rest : List ℕ) (e : SemEvent) → permits_event word rest ≡ None → asking_event word rest ≡ None → holding_event word rest ≡ Some e → semaphore_event word rest ≡ Some e
+in_holding : (word rest : List ℕ) (e : SemEvent) → permits_event word rest ≡ None → asking_event word rest ≡ None → holding_event word rest ≡ Some e
+    → semaphore_event word rest ≡ Some e
 in_holding word rest e permits asking is = second_found _ _ e (none_found _ _ permits asking) is
 
-semaphore_tells : (e : SemEvent) → SemaphoreFits e → IsNumbered semaphores (semaphore_word e) (semaphore_numbers e) e ⊎ IsAlone semaphores (semaphore_word e) (semaphore_numbers e) e
+semaphore_tells : (e : SemEvent) → SemaphoreFits e → IsNumbered semaphores (semaphore_word e) (semaphore_numbers e) e ⊎ IsAlone semaphores
+    (semaphore_word e) (semaphore_numbers e) e
 semaphore_tells (New n) fits = inl (of_number semaphores (codes "new") New n refl (λ rest e is. in_permits (codes "new") rest e is) fits)
 semaphore_tells (Free s) fits = inl (of_number semaphores (codes "free") Free s refl (λ rest e is. in_permits (codes "free") rest e is) fits)
 semaphore_tells (Forget s n) fits = inl (of_numbers semaphores (codes "forget") Forget s n refl (λ rest e is. in_permits (codes "forget") rest e is) fits)
@@ -55,7 +57,8 @@ permits_only word rest e is =
     if_some (bytes_eq word (codes "forgetx")) _ _ e is3 (by_numbers semaphores word (codes "forgetx") rest Forgetx e (λ a. (refl, (refl, λ h. h)))) (λ is4.
     if_some (bytes_eq word (codes "release")) _ _ e is4 (by_numbers semaphores word (codes "release") rest Release e (λ a. (refl, (refl, λ h. h)))) (λ is5.
     if_some (bytes_eq word (codes "endsem")) _ _ e is5 (by_number semaphores word (codes "endsem") rest Endsem e (λ a. (refl, (refl, λ h. h)))) (λ is6.
-    if_some (bytes_eq word (codes "ledger")) _ _ e is6 (by_number semaphores word (codes "ledger") rest Ledger e (λ a. (refl, (refl, λ h. h)))) (λ none. absurd (cc))))))))
+    if_some (bytes_eq word (codes "ledger")) _ _ e is6 (by_number semaphores word (codes "ledger") rest Ledger e (λ a. (refl, (refl, λ h. h))))
+    (λ none. absurd (cc))))))))
 
 asking_only : (word rest : List ℕ) (e : SemEvent) → asking_event word rest ≡ Some e → IsSpelled semaphores word rest e
 asking_only word rest e is =
@@ -66,7 +69,8 @@ asking_only word rest e is =
     if_some (bytes_eq word (codes "acq")) _ _ e is4 (by_numbers semaphores word (codes "acq") rest Acq e (λ a. (refl, (refl, λ h. h)))) (λ is5.
     if_some (bytes_eq word (codes "acqo")) _ _ e is5 (by_numbers semaphores word (codes "acqo") rest Acqo e (λ a. (refl, (refl, λ h. h)))) (λ is6.
     if_some (bytes_eq word (codes "acqf")) _ _ e is6 (by_numbers semaphores word (codes "acqf") rest Acqf e (λ a. (refl, (refl, λ h. h)))) (λ is7.
-    if_some (bytes_eq word (codes "acqof")) _ _ e is7 (by_numbers semaphores word (codes "acqof") rest Acqof e (λ a. (refl, (refl, λ h. h)))) (λ none. absurd (cc)))))))))
+    if_some (bytes_eq word (codes "acqof")) _ _ e is7 (by_numbers semaphores word (codes "acqof") rest Acqof e (λ a. (refl, (refl, λ h. h))))
+    (λ none. absurd (cc)))))))))
 
 holding_only : (word rest : List ℕ) (e : SemEvent) → holding_event word rest ≡ Some e → IsSpelled semaphores word rest e
 holding_only word rest e is =
@@ -75,7 +79,8 @@ holding_only word rest e is =
     if_some (bytes_eq word (codes "lose")) _ _ e is2 (by_number semaphores word (codes "lose") rest Lose e (λ a. (refl, (refl, λ h. h)))) (λ is3.
     if_some (bytes_eq word (codes "merge")) _ _ e is3 (by_numbers semaphores word (codes "merge") rest Merge e (λ a. (refl, (refl, λ h. h)))) (λ is4.
     if_some (bytes_eq word (codes "split")) _ _ e is4 (by_numbers semaphores word (codes "split") rest Split e (λ a. (refl, (refl, λ h. h)))) (λ is5.
-    if_some (bytes_eq word (codes "size")) _ _ e is5 (by_number semaphores word (codes "size") rest Size e (λ a. (refl, (refl, λ h. h)))) (λ none. absurd (cc)))))))
+    if_some (bytes_eq word (codes "size")) _ _ e is5 (by_number semaphores word (codes "size") rest Size e (λ a. (refl, (refl, λ h. h))))
+    (λ none. absurd (cc)))))))
 
 semaphore_only : (word rest : List ℕ) (e : SemEvent) → semaphore_event word rest ≡ Some e → IsSpelled semaphores word rest e
 semaphore_only word rest e is =

@@ -19,8 +19,10 @@ use Rattle.mea_hall.proofs.MeetSpellings.{meets, meets_are_family}
 
 -- ---- from an event to its line
 
-line_numbered : (word rest : List ℕ) (event : Event) → lacks_byte 32 word ≡ true → numbered_event word rest ≡ Some event → event_of (word ++ 32 ∷ rest) ≡ Some event
-line_numbered word rest event spaceless is = first_found _ _ event (ap (option_and_then (λ parts. numbered_event parts.0 parts.1)) (cut_at 32 word rest spaceless) ∙ is)
+line_numbered : (word rest : List ℕ) (event : Event) → lacks_byte 32 word ≡ true → numbered_event word rest ≡ Some event
+    → event_of (word ++ 32 ∷ rest) ≡ Some event
+line_numbered word rest event spaceless is = first_found _ _ event
+    (ap (option_and_then (λ parts. numbered_event parts.0 parts.1)) (cut_at 32 word rest spaceless) ∙ is)
 
 line_alone : (word : List ℕ) (event : Event) → lacks_byte 32 word ≡ true → bare_event word ≡ Some event → event_of word ≡ Some event
 line_alone word event spaceless is = second_found _ _ event (ap (option_and_then (λ parts. numbered_event parts.0 parts.1)) (cut_nowhere 32 word spaceless)) is
@@ -34,12 +36,15 @@ module _ {E : Type 0} (g : Grammar E) (kind : ℕ) (wrap : E → Event) (family 
   IsReachedAlone = (word : List ℕ) (e : E) → kind_of word ≡ kind → g.alone word ≡ Some e → bare_event word ≡ Some (wrap e)
 
   told_numbered : IsReached → (e : E) → IsNumbered g (g.word e) (g.numbers e) e → event_of (g.word e ++ numbers_text (g.numbers e)) ≡ Some (wrap e)
-  told_numbered reached e is = ap (λ text. event_of (g.word e ++ text)) is.spelled ∙ line_numbered (g.word e) is.rest (wrap e) is.spaceless (reached (g.word e) is.rest e (family.kind_is e) is.read)
+  told_numbered reached e is = ap (λ text. event_of (g.word e ++ text)) is.spelled
+      ∙ line_numbered (g.word e) is.rest (wrap e) is.spaceless (reached (g.word e) is.rest e (family.kind_is e) is.read)
 
   told_alone : IsReachedAlone → (e : E) → IsAlone g (g.word e) (g.numbers e) e → event_of (g.word e ++ numbers_text (g.numbers e)) ≡ Some (wrap e)
-  told_alone reached e is = ap (λ ns. event_of (g.word e ++ numbers_text ns)) is.numberless ∙ ap event_of (append-nil (g.word e)) ∙ line_alone (g.word e) (wrap e) is.spaceless (reached (g.word e) e (family.kind_is e) is.read)
+  told_alone reached e is = ap (λ ns. event_of (g.word e ++ numbers_text ns)) is.numberless ∙ ap event_of (append-nil (g.word e))
+      ∙ line_alone (g.word e) (wrap e) is.spaceless (reached (g.word e) e (family.kind_is e) is.read)
 
-  told_either : IsReached → IsReachedAlone → (e : E) → IsNumbered g (g.word e) (g.numbers e) e ⊎ IsAlone g (g.word e) (g.numbers e) e → event_of (g.word e ++ numbers_text (g.numbers e)) ≡ Some (wrap e)
+  told_either : IsReached → IsReachedAlone → (e : E) → IsNumbered g (g.word e) (g.numbers e) e ⊎ IsAlone g (g.word e) (g.numbers e) e
+      → event_of (g.word e ++ numbers_text (g.numbers e)) ≡ Some (wrap e)
   told_either reached alone e (inl is) = told_numbered reached e is
   told_either reached alone e (inr is) = told_alone alone e is
 
@@ -62,21 +67,26 @@ abbrev IsSpelling : List ℕ → Event → Type 0
 IsSpelling line event = (line ≡ spelling event) × Fits event
 
 -- what a family read is the spelling of its event
-spelled : {E : Type 0} (g : Grammar E) (word rest : List ℕ) (e : E) → IsSpelled g word rest e → (word ++ 32 ∷ rest ≡ g.word e ++ numbers_text (g.numbers e)) × g.Fits e
+spelled : {E : Type 0} (g : Grammar E) (word rest : List ℕ) (e : E) → IsSpelled g word rest e
+    → (word ++ 32 ∷ rest ≡ g.word e ++ numbers_text (g.numbers e)) × g.Fits e
 spelled g word rest e is = ((λ i. is.word_is i ++ is.rest_is i), is.fits)
 
 spelled_alone : {E : Type 0} (g : Grammar E) (word : List ℕ) (e : E) → IsSpelledAlone g word e → (word ≡ g.word e ++ numbers_text (g.numbers e)) × g.Fits e
 spelled_alone g word e is = (sym (append-nil word) ∙ (λ i. is.word_is i ++ numbers_text (sym is.numberless i)), is.fits)
 
 -- an event of all families that one of them read
-unwrapped : {E : Type 0} (wrap : E → Event) (o : Option E) (line : List ℕ) (event : Event) → option_and_then (λ e. Some (wrap e)) o ≡ Some event → ((e : E) → o ≡ Some e → IsSpelling line (wrap e)) → IsSpelling line event
-unwrapped wrap o line event is found_is = option_and_then_some (λ e. Some (wrap e)) o event is (λ e found made. subst (IsSpelling line) (some_same _ _ made) (found_is e found))
+unwrapped : {E : Type 0} (wrap : E → Event) (o : Option E) (line : List ℕ) (event : Event) → option_and_then (λ e. Some (wrap e)) o ≡ Some event
+    → ((e : E) → o ≡ Some e → IsSpelling line (wrap e)) → IsSpelling line event
+unwrapped wrap o line event is found_is = option_and_then_some (λ e. Some (wrap e)) o event is
+    (λ e found made. subst (IsSpelling line) (some_same _ _ made) (found_is e found))
 
 numbered_only : (word rest : List ℕ) (event : Event) → numbered_event word rest ≡ Some event → IsSpelling (word ++ 32 ∷ rest) event
 numbered_only word rest event is =
     or_some (option_and_then (λ e. Some (Sem e)) (semaphore_event word rest)) (option_and_then (λ e. Some (Meet e)) (meet_event word rest)) event is
-    (λ of_semaphores. unwrapped Sem (semaphore_event word rest) (word ++ 32 ∷ rest) event of_semaphores (λ e found. spelled semaphores word rest e (semaphores_are_family.only word rest e found)))
-    (λ of_meets. unwrapped Meet (meet_event word rest) (word ++ 32 ∷ rest) event of_meets (λ e found. spelled meets word rest e (meets_are_family.only word rest e found)))
+    (λ of_semaphores. unwrapped Sem (semaphore_event word rest) (word ++ 32 ∷ rest) event of_semaphores
+    (λ e found. spelled semaphores word rest e (semaphores_are_family.only word rest e found)))
+    (λ of_meets. unwrapped Meet (meet_event word rest) (word ++ 32 ∷ rest) event of_meets
+    (λ e found. spelled meets word rest e (meets_are_family.only word rest e found)))
 
 bare_only : (line : List ℕ) (event : Event) → bare_event line ≡ Some event → IsSpelling line event
 bare_only line event is = unwrapped Meet (bare_meet_event line) line event is (λ e found. spelled_alone meets line e (meets_are_family.alone_only line e found))

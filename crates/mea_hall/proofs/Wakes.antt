@@ -24,7 +24,8 @@ first_within r (next ∷ rs) n h = let later = first_within next rs n h.1 in ome
 
 -- ---- one reply more
 
-pub replies_of-push : (rs : List Reply) (ws : List ℕ) (answer : Answer) → replies_of (rs ++ record { answer = answer; first = length ws } ∷ []) ws ≡ replies_of rs ws ++ (answer, []) ∷ []
+pub replies_of-push : (rs : List Reply) (ws : List ℕ) (answer : Answer)
+    → replies_of (rs ++ record { answer = answer; first = length ws } ∷ []) ws ≡ replies_of rs ws ++ (answer, []) ∷ []
 replies_of-push [] ws answer = ap (λ none. (answer, none) ∷ []) (drop-length ws)
 replies_of-push (r ∷ []) ws answer = λ i. (r.answer, to_end ws r.first i) ∷ (answer, drop-length ws i) ∷ []
 replies_of-push (r ∷ next ∷ rs) ws answer = ap (λ told. (r.answer, slice_range ws r.first next.first) ∷ told) (replies_of-push (next ∷ rs) ws answer)
@@ -50,7 +51,8 @@ same_before ws w a b low high =
     ap (take (b - a)) (drop-append-le a ws (w ∷ []) (omega arith))
     ∙ take-append-le (b - a) (drop a ws) (w ∷ []) (omega (arith, length-drop a ws))
 
-pub replies_of-more : (rs : List Reply) (ws : List ℕ) (w : ℕ) → 0 < length rs → AreOrdered rs (length ws) → replies_of rs (ws ++ w ∷ []) ≡ with_wake (replies_of rs ws) w
+pub replies_of-more : (rs : List Reply) (ws : List ℕ) (w : ℕ) → 0 < length rs → AreOrdered rs (length ws)
+    → replies_of rs (ws ++ w ∷ []) ≡ with_wake (replies_of rs ws) w
 replies_of-more [] ws w some h = absurd (omega arith)
 replies_of-more (r ∷ []) ws w some h = ap (λ woken. (r.answer, woken) ∷ []) (drop-append-le r.first ws (w ∷ []) h)
 replies_of-more (r ∷ next ∷ rs) ws w some h =
@@ -90,7 +92,8 @@ reply_at (q ∷ next ∷ rs) ws zero r h is =
 reply_at (q ∷ []) ws (suc i) r h is = absurd (cc)
 reply_at (q ∷ next ∷ rs) ws (suc i) r h is =
     let later = reply_at (next ∷ rs) ws i r h.1 is in
-    let end : end_at (next ∷ rs) (length ws) i ≡ end_at (q ∷ next ∷ rs) (length ws) (suc i) = ap (λ k. option_map_or {T = Reply} (λ found. found.first) (slice_get (q ∷ next ∷ rs) k) (length ws)) (next_place i) in
+    let end : end_at (next ∷ rs) (length ws) i ≡ end_at (q ∷ next ∷ rs) (length ws) (suc i) =
+    ap (λ k. option_map_or {T = Reply} (λ found. found.first) (slice_get (q ∷ next ∷ rs) k) (length ws)) (next_place i) in
     record {
       low = rw (← end) later.low;
       high = rw (← end) later.high;
@@ -99,12 +102,14 @@ reply_at (q ∷ next ∷ rs) ws (suc i) r h is =
 
 -- ---- wakes of the last reply
 
-with_wake-append : (rs : List (Answer × List ℕ)) (answer : Answer) (told : List ℕ) (w : ℕ) → with_wake (rs ++ (answer, told) ∷ []) w ≡ rs ++ (answer, told ++ w ∷ []) ∷ []
+with_wake-append : (rs : List (Answer × List ℕ)) (answer : Answer) (told : List ℕ) (w : ℕ)
+    → with_wake (rs ++ (answer, told) ∷ []) w ≡ rs ++ (answer, told ++ w ∷ []) ∷ []
 with_wake-append [] answer told w = refl
 with_wake-append (r ∷ []) answer told w = refl
 with_wake-append (r ∷ next ∷ rs) answer told w = ap (λ later. r ∷ later) (with_wake-append (next ∷ rs) answer told w)
 
-pub with_wakes-append : (rs : List (Answer × List ℕ)) (answer : Answer) (told ws : List ℕ) → with_wakes (rs ++ (answer, told) ∷ []) ws ≡ rs ++ (answer, told ++ ws) ∷ []
+pub with_wakes-append : (rs : List (Answer × List ℕ)) (answer : Answer) (told ws : List ℕ)
+    → with_wakes (rs ++ (answer, told) ∷ []) ws ≡ rs ++ (answer, told ++ ws) ∷ []
 with_wakes-append rs answer told [] = ap (λ all. rs ++ (answer, all) ∷ []) (sym (append-nil told))
 with_wakes-append rs answer told (w ∷ ws) =
     ap (λ later. with_wakes later ws) (with_wake-append rs answer told w)
@@ -125,10 +130,12 @@ within_items rs ws i n t v is seen within size =
     omega arith
 
 -- the reply at a place that was read, with the end of its wakes
-pub reply_read : (rs seen : List Reply) (ws : List ℕ) (i n : ℕ) (r : Reply) (end total : ℕ) → AreOrdered rs (length ws) → n ≡ length rs → i < n → r ≡ get_or rs i r
+pub reply_read : (rs seen : List Reply) (ws : List ℕ) (i n : ℕ) (r : Reply) (end total : ℕ) → AreOrdered rs (length ws) → n ≡ length rs → i < n
+    → r ≡ get_or rs i r
     → end ≡ option_map_or (λ next. next.first) (slice_get seen (i + 1)) total → seen ≡ rs → total ≡ length ws
     → (r.first ≤ end) × (end ≤ length ws) × (slice_get (replies_of rs ws) i ≡ Some (r.answer, slice_range ws r.first end))
 reply_read rs seen ws i n r end total h size within is ends same all =
     let reply = reply_at rs ws i r h (slice_get_read rs n i r size within is) in
-    let there : end ≡ end_at rs (length ws) i = ends ∙ ap (λ xs. option_map_or {T = Reply} (λ next. next.first) (slice_get xs (i + 1)) total) same ∙ ap (option_map_or {T = Reply} (λ next. next.first) (slice_get rs (i + 1))) all in
+    let there : end ≡ end_at rs (length ws) i = ends ∙ ap (λ xs. option_map_or {T = Reply} (λ next. next.first) (slice_get xs (i + 1)) total) same
+    ∙ ap (option_map_or {T = Reply} (λ next. next.first) (slice_get rs (i + 1))) all in
     (rw there reply.low, rw there reply.high, rw there reply.seen)

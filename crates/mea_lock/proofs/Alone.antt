@@ -12,14 +12,16 @@ use Rattle.mea_lock.specs.RwLock.{RwLock, is_ready, IsAlone, IsSound, LetsIn}
 
 module _ {W : Type 0} where
   -- n more are held, of all that live
-  pub alone_more : (s s' : Core W) (n most : ℕ) (write writing : Bool) → held_of s' ≡ held_of s + n → n ≡ cond write most 1 → s'.live ≡ most → (writing ≡ true → held_of s ≡ most)
+  pub alone_more : (s s' : Core W) (n most : ℕ) (write writing : Bool) → held_of s' ≡ held_of s + n → n ≡ cond write most 1 → s'.live ≡ most
+      → (writing ≡ true → held_of s ≡ most)
       → (writing || write) ≡ true → held_of s' ≡ most
   alone_more s s' n most true writing holds size all alone is = omega (arith, holds, size, all)
   alone_more s s' n most false true holds size all alone is = let full = alone refl in omega (arith, holds, size, all, full)
   alone_more s s' n most false false holds size all alone is = absurd (cc)
 
   -- after a poll
-  pub alone_after : (s s' : Core W) (a : Acquire) (turn : Turn W) (most : ℕ) (write writing : Bool) → HoldsAfter s a turn s' → IsUnready a → demand_of a ≡ cond write most 1 → s'.live ≡ most → (writing ≡ true → held_of s ≡ most)
+  pub alone_after : (s s' : Core W) (a : Acquire) (turn : Turn W) (most : ℕ) (write writing : Bool) → HoldsAfter s a turn s' → IsUnready a
+      → demand_of a ≡ cond write most 1 → s'.live ≡ most → (writing ≡ true → held_of s ≡ most)
       → (writing || cond write (is_ready turn) false) ≡ true → held_of s' ≡ most
   alone_after s s' (New d) (Ready w) most true writing holds unready size all alone is = alone_more s s' d most true writing holds size all alone is
   alone_after s s' (New d) (Ready w) most false writing holds unready size all alone is = alone_more s s' d most false writing holds size all alone is
@@ -37,12 +39,14 @@ module _ {W : Type 0} where
 
 module _ {V W : Type 0} where
   -- one permit more is held than a write leaves
-  not_writing : (l : RwLock V W) (s' : Core W) (b : Bool) → l.writing ≡ b → held_of s' ≡ held_of l.permits + 1 → s'.live ≡ l.most → (l.writing ≡ true → held_of l.permits ≡ l.most) → l.writing ≡ false
+  not_writing : (l : RwLock V W) (s' : Core W) (b : Bool) → l.writing ≡ b → held_of s' ≡ held_of l.permits + 1 → s'.live ≡ l.most
+      → (l.writing ≡ true → held_of l.permits ≡ l.most) → l.writing ≡ false
   not_writing l s' true is holds all alone = absurd (let full = alone is in omega (arith, holds, all, full))
   not_writing l s' false is holds all alone = is
 
   -- whom a poll lets in
-  pub lets_in : (l : RwLock V W) (s' : Core W) (a : Acquire) (turn : Turn W) (write : Bool) → HoldsAfter l.permits a turn s' → IsUnready a → demand_of a ≡ cond write l.most 1 → s'.live ≡ l.most → (l.writing ≡ true → held_of l.permits ≡ l.most) → LetsIn write l turn
+  pub lets_in : (l : RwLock V W) (s' : Core W) (a : Acquire) (turn : Turn W) (write : Bool) → HoldsAfter l.permits a turn s' → IsUnready a
+      → demand_of a ≡ cond write l.most 1 → s'.live ≡ l.most → (l.writing ≡ true → held_of l.permits ≡ l.most) → LetsIn write l turn
   lets_in l s' (New d) (Ready w) true holds unready size all alone = omega (arith, holds, size, all)
   lets_in l s' (Queued d n) (Ready w) true holds unready size all alone = omega (arith, holds, size, all)
   lets_in l s' (New d) (Ready w) false holds unready size all alone = not_writing l s' l.writing refl (omega (arith, holds, size)) all alone

@@ -65,20 +65,26 @@ module _ {W : Type 0} where
   -- ---- changes
 
   -- reserved places change nothing
-  pub same_condvar : (w v : Waits (Note W)) (o p : Wakes W) → v ≡ record w { spare = v.spare } → p ≡ record o { spare = p.spare } → condvar_of v p ≡ condvar_of w o
+  pub same_condvar : (w v : Waits (Note W)) (o p : Wakes W) → v ≡ record w { spare = v.spare } → p ≡ record o { spare = p.spare }
+      → condvar_of v p ≡ condvar_of w o
   same_condvar w v o p ws os = rw (ws, os) refl
 
   -- the first is notified
-  first_is : (u : Waits (Note W)) (o p : Wakes W) (n : ℕ) (waker : W) (b : Bool) → get u n ≡ Some (Waiting waker) → p.wakers ≡ o.wakers ++ waker ∷ [] → IsAbsent n u.order
+  first_is : (u : Waits (Note W)) (o p : Wakes W) (n : ℕ) (waker : W) (b : Bool) → get u n ≡ Some (Waiting waker) → p.wakers ≡ o.wakers ++ waker ∷ []
+      → IsAbsent n u.order
       → condvar_of (with_value u n (Notified b)) p ≡ first_notified b (waits_in u.slots (n ∷ u.order)) (condvar_of (record u { order = n ∷ u.order }) o)
   first_is u o p n waker b found sent absent =
       let updates = written u n (Waiting waker) (Notified b) found in
       let line = waits_in-updated u.slots (with_value u n (Notified b)).slots n u.order updates.others absent in
       let pairs = notified_inserted u.slots (with_value u n (Notified b)).slots n b updates.others (ap notified_in updates.changed) in
-      let direct : condvar_of (with_value u n (Notified b)) p ≡ record { waiting = waits_in u.slots u.order; notified = fin.insert (notified_of u.slots) n b; wakes = o.wakers ++ waker ∷ [] } = λ i. record { waiting = line i; notified = pairs i; wakes = sent i } in
-      direct ∙ ap (λ (x : Option (Note W)). first_notified b (with_wait n (waker_in x) (waits_in u.slots u.order)) (record { waiting = with_wait n (waker_in x) (waits_in u.slots u.order); notified = notified_of u.slots; wakes = o.wakers })) (sym found)
+      let direct : condvar_of (with_value u n (Notified b))
+      p ≡ record { waiting = waits_in u.slots u.order; notified = fin.insert (notified_of u.slots) n b; wakes = o.wakers ++ waker ∷ [] } =
+      λ i. record { waiting = line i; notified = pairs i; wakes = sent i } in
+      direct ∙ ap (λ (x : Option (Note W)). first_notified b (with_wait n (waker_in x) (waits_in u.slots u.order))
+      (record { waiting = with_wait n (waker_in x) (waits_in u.slots u.order); notified = notified_of u.slots; wakes = o.wakers })) (sym found)
 
-  pub first_notified_is : (w u : Waits (Note W)) (o p : Wakes W) (n : ℕ) (waker : W) (b : Bool) (now : Note W) → w ≡ record u { order = n ∷ u.order } → get u n ≡ Some (Waiting waker) → now ≡ Notified b → p.wakers ≡ o.wakers ++ waker ∷ [] → AreNoted w
+  pub first_notified_is : (w u : Waits (Note W)) (o p : Wakes W) (n : ℕ) (waker : W) (b : Bool) (now : Note W) → w ≡ record u { order = n ∷ u.order }
+      → get u n ≡ Some (Waiting waker) → now ≡ Notified b → p.wakers ≡ o.wakers ++ waker ∷ [] → AreNoted w
       → condvar_of (with_value u n now) p ≡ first_notified b (condvar_of w o).waiting (condvar_of w o)
   first_notified_is w u o p n waker b now is found same sent noted =
       let apart = noted.distinct in
@@ -86,10 +92,12 @@ module _ {W : Type 0} where
       rw (is, same) (first_is u o p n waker b found sent distinct.0)
 
   -- a new one waits
-  pub lists : (w v : Waits (Note W)) (o p : Wakes W) (n : ℕ) (waker : W) → get w n ≡ None → Updates w v n (Some (Waiting waker)) → v.order ≡ w.order ++ n ∷ [] → p.wakers ≡ o.wakers → AreNoted w → Lists (condvar_of w o) (condvar_of v p) n waker
+  pub lists : (w v : Waits (Note W)) (o p : Wakes W) (n : ℕ) (waker : W) → get w n ≡ None → Updates w v n (Some (Waiting waker))
+      → v.order ≡ w.order ++ n ∷ [] → p.wakers ≡ o.wakers → AreNoted w → Lists (condvar_of w o) (condvar_of v p) n waker
   lists w v o p n waker vacant updates order sent noted =
       let line : waits_in v.slots v.order ≡ waits_in w.slots w.order ++ (n, waker) ∷ [] =
-      rw order (waits_in-end v.slots n w.order ∙ ap₂ (λ q (x : Option (Note W)). q ++ with_wait n (waker_in x) []) (waits_in-updated w.slots v.slots n w.order updates.others (absent_from_unlinked n w.order (unlinked_vacant w n vacant noted))) updates.changed) in
+      rw order (waits_in-end v.slots n w.order ∙ ap₂ (λ q (x : Option (Note W)). q ++ with_wait n (waker_in x) [])
+      (waits_in-updated w.slots v.slots n w.order updates.others (absent_from_unlinked n w.order (unlinked_vacant w n vacant noted))) updates.changed) in
       let pairs : notified_of v.slots ≡ notified_of w.slots = notified_same w.slots v.slots (λ q. elim (cases_eq q n) [
         | inl same ↦ rw (same, updates.changed, vacant) refl
         | inr differs ↦ ap notified_in (updates.others q differs)
@@ -101,16 +109,19 @@ module _ {W : Type 0} where
       }
 
   -- one that was notified leaves
-  left_notified : (w v : Waits (Note W)) (o p : Wakes W) (n : ℕ) (b : Bool) → get w n ≡ Some (Notified b) → Updates w v n None → v.order ≡ without n w.order → p.wakers ≡ o.wakers → AreNoted w
+  left_notified : (w v : Waits (Note W)) (o p : Wakes W) (n : ℕ) (b : Bool) → get w n ≡ Some (Notified b) → Updates w v n None
+      → v.order ≡ without n w.order → p.wakers ≡ o.wakers → AreNoted w
       → condvar_of v p ≡ record (condvar_of w o) { notified = fin.remove (notified_of w.slots) n }
   left_notified w v o p n b found updates order sent noted =
       let absent = absent_from_unlinked n w.order (unlinked_notified w n b found noted) in
-      let line : waits_in v.slots v.order ≡ waits_in w.slots w.order = rw (order, without_absent n w.order absent) (waits_in-updated w.slots v.slots n w.order updates.others absent) in
+      let line : waits_in v.slots v.order ≡ waits_in w.slots w.order =
+      rw (order, without_absent n w.order absent) (waits_in-updated w.slots v.slots n w.order updates.others absent) in
       let pairs = notified_removed w.slots v.slots n updates.others (ap notified_in updates.changed) in
       λ i. record { waiting = line i; notified = pairs i; wakes = sent i }
 
   -- one that waits leaves
-  left_waiting : (w v : Waits (Note W)) (o p : Wakes W) (n : ℕ) (x : W) → get w n ≡ Some (Waiting x) → Updates w v n None → v.order ≡ without n w.order → p.wakers ≡ o.wakers
+  left_waiting : (w v : Waits (Note W)) (o p : Wakes W) (n : ℕ) (x : W) → get w n ≡ Some (Waiting x) → Updates w v n None
+      → v.order ≡ without n w.order → p.wakers ≡ o.wakers
       → condvar_of v p ≡ record (condvar_of w o) { waiting = without_wait (waits_in w.slots w.order) n }
   left_waiting w v o p n x found updates order sent =
       let line : waits_in v.slots v.order ≡ without_wait (waits_in w.slots w.order) n = rw order (waits_in-without w.slots v.slots n w.order updates.others) in
@@ -125,8 +136,10 @@ module _ {W : Type 0} where
       → condvar_of (with_value w n (Waiting waker)) o ≡ record (condvar_of w o) { waiting = with_waker (waits_in w.slots w.order) n waker }
   rewoken w o n was waker found =
       let updates = written w n (Waiting was) (Waiting waker) found in
-      let line = waits_in-rewoken w.slots (with_value w n (Waiting waker)).slots n was waker w.order updates.others (ap waker_in found) (ap waker_in updates.changed) in
-      let pairs : notified_of (with_value w n (Waiting waker)).slots ≡ notified_of w.slots = notified_same w.slots (with_value w n (Waiting waker)).slots (λ q. elim (cases_eq q n) [
+      let line = waits_in-rewoken w.slots (with_value w n (Waiting waker)).slots n was waker w.order updates.others (ap waker_in found)
+      (ap waker_in updates.changed) in
+      let pairs : notified_of (with_value w n (Waiting waker)).slots ≡ notified_of w.slots =
+      notified_same w.slots (with_value w n (Waiting waker)).slots (λ q. elim (cases_eq q n) [
         | inl same ↦ rw (same, updates.changed, found) refl
         | inr differs ↦ ap notified_in (updates.others q differs)
       ]) in
@@ -140,7 +153,11 @@ module _ {W : Type 0} where
       by_waiting : (q : List (ℕ × W)) → s.waiting ≡ q → notified_all (first_notified false q s) ≡ notified_all s
       by_waiting [] waits = refl
       by_waiting (e ∷ q) waits =
-          (λ i. record { waiting = []; notified = notifying (fin.insert s.notified e.0 false) q; wakes = append_assoc s.wakes (e.1 ∷ []) (map {A = ℕ × W} (λ p. p.1) q) i })
+          (λ i. record {
+            waiting = [];
+            notified = notifying (fin.insert s.notified e.0 false) q;
+            wakes = append_assoc s.wakes (e.1 ∷ []) (map {A = ℕ × W} (λ p. p.1) q) i;
+          })
           ∙ ap (λ (r : List (ℕ × W)). record { waiting = []; notified = notifying s.notified r; wakes = s.wakes ++ map {A = ℕ × W} (λ p. p.1) r }) (sym waits)
 
   pub notified_all_end : (w : Waits (Note W)) (o : Wakes W) → w.order ≡ [] → notified_all (condvar_of w o) ≡ condvar_of w o
@@ -150,7 +167,8 @@ module _ {W : Type 0} where
       ∙ (λ i. record { waiting = sym line i; notified = notified_of w.slots; wakes = append-nil o.wakers i })
 
   -- ---- ending
-  pub ends_listed : (w v : Waits (Note W)) (o p : Wakes W) (n : ℕ) (note : Note W) (by_one : Bool) (s' : Condvar W) → get w n ≡ Some note → Updates w v n None → v.order ≡ without n w.order → p.wakers ≡ o.wakers → AreNoted w
+  pub ends_listed : (w v : Waits (Note W)) (o p : Wakes W) (n : ℕ) (note : Note W) (by_one : Bool) (s' : Condvar W) → get w n ≡ Some note
+      → Updates w v n None → v.order ≡ without n w.order → p.wakers ≡ o.wakers → AreNoted w
       → by_one ≡ is_by_one note → s' ≡ passed_on by_one (condvar_of v p) → EndsListed (condvar_of w o) n s'
   ends_listed w v o p n (Waiting x) by_one s' found updates order sent noted is after = (
     λ _. after ∙ ap (λ b. passed_on b (condvar_of v p)) is ∙ left_waiting w v o p n x found updates order sent,
@@ -165,8 +183,10 @@ module _ {W : Type 0} where
   )
 
   -- what is left where one that was notified has left, for its poll
-  pub left_after : (w m v : Waits (Note W)) (o p : Wakes W) (n : ℕ) (by_one : Bool) (note : Note W) → m ≡ record w { spare = m.spare } → p ≡ record o { spare = p.spare } → get w n ≡ Some note → Some by_one ≡ notified_in (Some note)
-      → Updates m v n None → v.order ≡ without n m.order → AreNoted w → condvar_of v p ≡ record (condvar_of w o) { notified = fin.remove (notified_of w.slots) n }
+  pub left_after : (w m v : Waits (Note W)) (o p : Wakes W) (n : ℕ) (by_one : Bool) (note : Note W) → m ≡ record w { spare = m.spare }
+      → p ≡ record o { spare = p.spare } → get w n ≡ Some note → Some by_one ≡ notified_in (Some note)
+      → Updates m v n None → v.order ≡ without n m.order → AreNoted w
+      → condvar_of v p ≡ record (condvar_of w o) { notified = fin.remove (notified_of w.slots) n }
   left_after w m v o p n by_one (Waiting x) ws os found told updates order noted = absurd (cc)
   left_after w m v o p n by_one (Notified b) ws os found told updates order noted =
       left_notified w v o p n b found
@@ -177,7 +197,8 @@ module _ {W : Type 0} where
 
 module _ {V W : Type 0} where
   -- ---- polling
-  pub polls_waiting : (w : Waits (Note W)) (o : Wakes W) (l : Lock V W) (n : ℕ) (waker : W) (note : Note W) → get w n ≡ Some note → notified_in (Some note) ≡ None → AreNoted w
+  pub polls_waiting : (w : Waits (Note W)) (o : Wakes W) (l : Lock V W) (n : ℕ) (waker : W) (note : Note W) → get w n ≡ Some note
+      → notified_in (Some note) ≡ None → AreNoted w
       → PollsListed (condvar_of w o) l n waker (Ok Pending) (condvar_of (with_value w n (Waiting waker)) o) l (Listed n)
   polls_waiting w o l n waker (Waiting x) found waits noted = (
     λ _. (refl, rewoken w o n x waker found, refl, refl),
@@ -185,8 +206,10 @@ module _ {V W : Type 0} where
   )
   polls_waiting w o l n waker (Notified b) found waits noted = absurd (cc)
 
-  pub polls_asking : (w : Waits (Note W)) (o : Wakes W) (s : Condvar W) (l : Lock V W) (n : ℕ) (by_one : Bool) (waker : W) (note : Note W) (r : Result (Turn W) (W × NoMemory)) (s' : Condvar W) (l' : Lock V W) (c' : CondWait)
-      → condvar_of w o ≡ s → get w n ≡ Some note → Some by_one ≡ notified_in (Some note) → AsksLock s l n by_one waker r s' l' c' → PollsListed s l n waker r s' l' c'
+  pub polls_asking : (w : Waits (Note W)) (o : Wakes W) (s : Condvar W) (l : Lock V W) (n : ℕ) (by_one : Bool) (waker : W) (note : Note W)
+      (r : Result (Turn W) (W × NoMemory)) (s' : Condvar W) (l' : Lock V W) (c' : CondWait)
+      → condvar_of w o ≡ s → get w n ≡ Some note → Some by_one ≡ notified_in (Some note) → AsksLock s l n by_one waker r s' l' c'
+      → PollsListed s l n waker r s' l' c'
   polls_asking w o s l n by_one waker (Waiting x) r s' l' c' seen found told asks = absurd (cc)
   polls_asking w o s l n by_one waker (Notified b) r s' l' c' seen found told asks = (
     λ some.

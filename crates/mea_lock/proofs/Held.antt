@@ -9,7 +9,8 @@ use Rattle.mea_sem_core.specs.declared.acquire.Acquire.TheVariants.{New, Queued,
 use Rattle.mea_lock.specs.Lock.{Lock, IsUnready, TakesLock}
 
 module _ {V W : Type 0} where
-  pub takes_lock : (l l' : Lock V W) (a : Acquire) (turn : Turn W) → HoldsAfter l.permits a turn l'.permits → IsUnready a → demand_of a ≡ 1 → l'.permits.live ≡ 1 → TakesLock l turn l'
+  pub takes_lock : (l l' : Lock V W) (a : Acquire) (turn : Turn W) → HoldsAfter l.permits a turn l'.permits → IsUnready a → demand_of a ≡ 1
+      → l'.permits.live ≡ 1 → TakesLock l turn l'
   takes_lock l l' (New d) (Ready w) holds unready demand one = (omega (arith, holds, demand, one), omega (arith, holds, demand, one))
   takes_lock l l' (Queued d n) (Ready w) holds unready demand one = (omega (arith, holds, demand, one), omega (arith, holds, demand, one))
   takes_lock l l' (Done d) turn holds unready demand one = absurd unready

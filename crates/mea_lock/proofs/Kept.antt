@@ -20,8 +20,10 @@ module _ {W : Type 0} where
       → (is_linked v n ≡ true → IsWaiting (get v n)) → (is_linked v n ≡ false → IsIdle (get v n)) → AreNoted w → AreNoted v
   noted_by w v n distinct notes places waits idle noted = record {
     distinct = distinct;
-    waiting = λ m linked. elim (cases_eq m n) [ inl same ↦ rw same (waits (rw same at linked)) | inr differs ↦ rw (notes m differs) (noted.waiting m (sym (places m differs) ∙ linked)) ];
-    idle = λ m unlinked. elim (cases_eq m n) [ inl same ↦ rw same (idle (rw same at unlinked)) | inr differs ↦ rw (notes m differs) (noted.idle m (sym (places m differs) ∙ unlinked)) ];
+    waiting = λ m linked. elim (cases_eq m n)
+        [ inl same ↦ rw same (waits (rw same at linked)) | inr differs ↦ rw (notes m differs) (noted.waiting m (sym (places m differs) ∙ linked)) ];
+    idle = λ m unlinked. elim (cases_eq m n)
+        [ inl same ↦ rw same (idle (rw same at unlinked)) | inr differs ↦ rw (notes m differs) (noted.idle m (sym (places m differs) ∙ unlinked)) ];
   }
 
   -- a note is written through `get_mut`
@@ -34,7 +36,8 @@ module _ {W : Type 0} where
       }
 
   -- the first was notified
-  pub noted_first : (w v : Waits (Note W)) (n : ℕ) (ns : List ℕ) (note : Note W) → w.order ≡ n ∷ ns → v.order ≡ ns → Updates w v n (Some note) → IsIdle (Some note) → AreNoted w → AreNoted v
+  pub noted_first : (w v : Waits (Note W)) (n : ℕ) (ns : List ℕ) (note : Note W) → w.order ≡ n ∷ ns → v.order ≡ ns → Updates w v n (Some note)
+      → IsIdle (Some note) → AreNoted w → AreNoted v
   noted_first w v n ns note before after updates idle noted =
       let apart = noted.distinct in
       let distinct : IsDistinct (n ∷ ns) = rw before at apart in
@@ -44,10 +47,12 @@ module _ {W : Type 0} where
       (λ _. rw updates.changed idle)
       noted
 
-  pub first_noted : (w u : Waits (Note W)) (n : ℕ) (was now : Note W) (b : Bool) → w ≡ record u { order = n ∷ u.order } → get u n ≡ Some was → now ≡ Notified b → AreNoted w → AreNoted (with_value u n now)
+  pub first_noted : (w u : Waits (Note W)) (n : ℕ) (was now : Note W) (b : Bool) → w ≡ record u { order = n ∷ u.order } → get u n ≡ Some was
+      → now ≡ Notified b → AreNoted w → AreNoted (with_value u n now)
   first_noted w u n was now b is found same noted =
       let updates = written u n was (Notified b) found in
-      rw same (noted_first (record u { order = n ∷ u.order }) (with_value u n (Notified b)) n u.order (Notified b) refl refl (record { changed = updates.changed; others = updates.others }) tt (rw is at noted))
+      rw same (noted_first (record u { order = n ∷ u.order }) (with_value u n (Notified b)) n u.order (Notified b) refl refl
+      (record { changed = updates.changed; others = updates.others }) tt (rw is at noted))
 
   -- a number with no note is not in the order
   pub unlinked_vacant : (w : Waits (Note W)) (n : ℕ) → get w n ≡ None → AreNoted w → is_linked w n ≡ false
@@ -74,7 +79,8 @@ module _ {W : Type 0} where
       by_link false unlinked = absurd (let idle = noted.idle n unlinked in rw found at idle)
 
   -- a new one waits
-  pub noted_listed : (w v : Waits (Note W)) (n : ℕ) (waker : W) → get w n ≡ None → v.order ≡ w.order ++ n ∷ [] → Updates w v n (Some (Waiting waker)) → AreNoted w → AreNoted v
+  pub noted_listed : (w v : Waits (Note W)) (n : ℕ) (waker : W) → get w n ≡ None → v.order ≡ w.order ++ n ∷ [] → Updates w v n (Some (Waiting waker))
+      → AreNoted w → AreNoted v
   noted_listed w v n waker vacant order updates noted =
       noted_by w v n (rw order (IsDistinct-push n w.order (absent_from_unlinked n w.order (unlinked_vacant w n vacant noted)) noted.distinct)) updates.others
       (λ m differs. ap (λ o. list_any (λ k. eqb k m) o) order ∙ any_end m n w.order (λ e. differs (sym e)))
@@ -92,7 +98,8 @@ module _ {W : Type 0} where
       noted
 
   -- one that waits has another waker
-  pub noted_rewoken : (w v : Waits (Note W)) (n : ℕ) (was waker : W) → get w n ≡ Some (Waiting was) → v.order ≡ w.order → Updates w v n (Some (Waiting waker)) → AreNoted w → AreNoted v
+  pub noted_rewoken : (w v : Waits (Note W)) (n : ℕ) (was waker : W) → get w n ≡ Some (Waiting was) → v.order ≡ w.order
+      → Updates w v n (Some (Waiting waker)) → AreNoted w → AreNoted v
   noted_rewoken w v n was waker found order updates noted =
       noted_by w v n (rw order noted.distinct) updates.others
       (λ m differs. ap (λ o. list_any (λ k. eqb k m) o) order)
@@ -100,8 +107,10 @@ module _ {W : Type 0} where
       (λ unlinked. absurd (let linked = linked_waiting w n was found noted in let same = ap (λ o. list_any (λ k. eqb k n) o) order in cc))
       noted
 
-  pub noted_rewoken_by : (w : Waits (Note W)) (n : ℕ) (note : Note W) (waker : W) → get w n ≡ Some note → notified_in (Some note) ≡ None → AreNoted w → AreNoted (with_value w n (Waiting waker))
-  noted_rewoken_by w n (Waiting was) waker found waits noted = noted_rewoken w (with_value w n (Waiting waker)) n was waker found refl (written w n (Waiting was) (Waiting waker) found) noted
+  pub noted_rewoken_by : (w : Waits (Note W)) (n : ℕ) (note : Note W) (waker : W) → get w n ≡ Some note → notified_in (Some note) ≡ None → AreNoted w
+      → AreNoted (with_value w n (Waiting waker))
+  noted_rewoken_by w n (Waiting was) waker found waits noted =
+      noted_rewoken w (with_value w n (Waiting waker)) n was waker found refl (written w n (Waiting was) (Waiting waker) found) noted
   noted_rewoken_by w n (Notified b) waker found waits noted = absurd (cc)
 
   -- reserved places change nothing

@@ -10,7 +10,8 @@ use Rattle.mea_lock.specs.declared.note.Note.{Note}
 
 module _ {W : Type 0} where
   -- changes at an absent number alone
-  pub waits_in-updated : (old new : List (Option (Note W))) (n : ℕ) (ns : List ℕ) → ((other : ℕ) → other ≢ n → get_or new other None ≡ get_or old other None) → IsAbsent n ns → waits_in new ns ≡ waits_in old ns
+  pub waits_in-updated : (old new : List (Option (Note W))) (n : ℕ) (ns : List ℕ)
+      → ((other : ℕ) → other ≢ n → get_or new other None ≡ get_or old other None) → IsAbsent n ns → waits_in new ns ≡ waits_in old ns
   waits_in-updated old new n [] others absent = refl
   waits_in-updated old new n (m ∷ ms) others absent =
       ap₂ (λ slot q. with_wait m (waker_in slot) q) (others m absent.0) (waits_in-updated old new n ms others absent.1)
@@ -19,10 +20,12 @@ module _ {W : Type 0} where
   append-with_wait m None q r = refl
   append-with_wait m (Some w) q r = refl
 
-  pub waits_in-end : (slots : List (Option (Note W))) (n : ℕ) (ns : List ℕ) → waits_in slots (ns ++ n ∷ []) ≡ waits_in slots ns ++ with_wait n (waker_in (get_or slots n None)) []
+  pub waits_in-end : (slots : List (Option (Note W))) (n : ℕ) (ns : List ℕ)
+      → waits_in slots (ns ++ n ∷ []) ≡ waits_in slots ns ++ with_wait n (waker_in (get_or slots n None)) []
   waits_in-end slots n [] = refl
   waits_in-end slots n (m ∷ ms) =
-      ap (with_wait m (waker_in (get_or slots m None))) (waits_in-end slots n ms) ∙ append-with_wait m (waker_in (get_or slots m None)) (waits_in slots ms) (with_wait n (waker_in (get_or slots n None)) [])
+      ap (with_wait m (waker_in (get_or slots m None))) (waits_in-end slots n ms)
+      ∙ append-with_wait m (waker_in (get_or slots m None)) (waits_in slots ms) (with_wait n (waker_in (get_or slots n None)) [])
 
   -- another wait stands before
   waker_under-behind : (m n : ℕ) (x : Option W) (q : List (ℕ × W)) → m ≢ n → waker_under (with_wait m x q) n ≡ waker_under q n
@@ -30,7 +33,8 @@ module _ {W : Type 0} where
   waker_under-behind m n (Some w) q differs = ap (λ b. cond b (Some w) (waker_under q n)) (test_differs m n differs)
 
   -- a number whose note has no waker waits nowhere
-  pub waker_under-none : (slots : List (Option (Note W))) (n : ℕ) (ns : List ℕ) → waker_in (get_or slots n None) ≡ None → waker_under (waits_in slots ns) n ≡ None
+  pub waker_under-none : (slots : List (Option (Note W))) (n : ℕ) (ns : List ℕ) → waker_in (get_or slots n None) ≡ None
+      → waker_under (waits_in slots ns) n ≡ None
   waker_under-none slots n [] none = refl
   waker_under-none slots n (m ∷ ms) none =
       let rest = waker_under-none slots n ms none in
@@ -46,7 +50,8 @@ module _ {W : Type 0} where
       waker_under-behind m n (waker_in (get_or slots m None)) (waits_in slots ms) absent.0 ∙ waker_under-absent slots n ms absent.1
 
   -- a number of the order waits with the waker of its note
-  pub waker_under-linked : (slots : List (Option (Note W))) (n : ℕ) (w : W) (ns : List ℕ) → waker_in (get_or slots n None) ≡ Some w → list_any (λ k. eqb k n) ns ≡ true → waker_under (waits_in slots ns) n ≡ Some w
+  pub waker_under-linked : (slots : List (Option (Note W))) (n : ℕ) (w : W) (ns : List ℕ) → waker_in (get_or slots n None) ≡ Some w
+      → list_any (λ k. eqb k n) ns ≡ true → waker_under (waits_in slots ns) n ≡ Some w
   waker_under-linked slots n w [] here linked = absurd (cc)
   waker_under-linked slots n w (m ∷ ms) here linked =
       elim (cases_eq m n) [
@@ -61,7 +66,9 @@ module _ {W : Type 0} where
   with_waker-with_wait m n None q w differs = refl
   with_waker-with_wait m n (Some v) q w differs = ap (λ b. (m, cond b w v) ∷ with_waker q n w) (test_differs m n differs)
 
-  pub waits_in-rewoken : (old new : List (Option (Note W))) (n : ℕ) (v w : W) (ns : List ℕ) → ((other : ℕ) → other ≢ n → get_or new other None ≡ get_or old other None) → waker_in (get_or old n None) ≡ Some v → waker_in (get_or new n None) ≡ Some w → waits_in new ns ≡ with_waker (waits_in old ns) n w
+  pub waits_in-rewoken : (old new : List (Option (Note W))) (n : ℕ) (v w : W) (ns : List ℕ)
+      → ((other : ℕ) → other ≢ n → get_or new other None ≡ get_or old other None) → waker_in (get_or old n None) ≡ Some v
+      → waker_in (get_or new n None) ≡ Some w → waits_in new ns ≡ with_waker (waits_in old ns) n w
   waits_in-rewoken old new n v w [] others was is = refl
   waits_in-rewoken old new n v w (m ∷ ms) others was is =
       let rest = waits_in-rewoken old new n v w ms others was is in
@@ -81,13 +88,16 @@ module _ {W : Type 0} where
   without_wait-here n None q = refl
   without_wait-here n (Some v) q = ap (λ b. cond b (without_wait q n) ((n, v) ∷ without_wait q n)) (test_same n n refl)
 
-  pub waits_in-without : (old new : List (Option (Note W))) (n : ℕ) (ns : List ℕ) → ((other : ℕ) → other ≢ n → get_or new other None ≡ get_or old other None) → waits_in new (without n ns) ≡ without_wait (waits_in old ns) n
+  pub waits_in-without : (old new : List (Option (Note W))) (n : ℕ) (ns : List ℕ)
+      → ((other : ℕ) → other ≢ n → get_or new other None ≡ get_or old other None) → waits_in new (without n ns) ≡ without_wait (waits_in old ns) n
   waits_in-without old new n [] others = refl
   waits_in-without old new n (m ∷ ms) others =
       let rest = waits_in-without old new n ms others in
       elim (cases_eq m n) [
         | inl same ↦
-            rw (ap not (test_same m n same)) (rest ∙ sym (without_wait-here n (waker_in (get_or old m None)) (waits_in old ms)) ∙ ap (λ k. without_wait (with_wait k (waker_in (get_or old m None)) (waits_in old ms)) n) (sym same))
+            rw (ap not (test_same m n same))
+            (rest ∙ sym (without_wait-here n (waker_in (get_or old m None)) (waits_in old ms))
+            ∙ ap (λ k. without_wait (with_wait k (waker_in (get_or old m None)) (waits_in old ms)) n) (sym same))
         | inr differs ↦
             rw (ap not (test_differs m n differs)) (
             ap₂ (λ slot q. with_wait m (waker_in slot) q) (others m differs) rest
@@ -102,4 +112,5 @@ module _ {W : Type 0} where
   pub AreApart-waits_in : (slots : List (Option (Note W))) (ns : List ℕ) → IsDistinct ns → AreApart (waits_in slots ns)
   AreApart-waits_in slots [] distinct = tt
   AreApart-waits_in slots (n ∷ ns) distinct =
-      AreApart-with_wait n (waker_in (get_or slots n None)) (waits_in slots ns) (waker_under-absent slots n ns distinct.0) (AreApart-waits_in slots ns distinct.1)
+      AreApart-with_wait n (waker_in (get_or slots n None)) (waits_in slots ns) (waker_under-absent slots n ns distinct.0)
+      (AreApart-waits_in slots ns distinct.1)

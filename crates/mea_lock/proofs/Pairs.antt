@@ -37,14 +37,18 @@ module _ {W : Type 0} where
 
   -- what a number has among the notified ones
   pub get-notified : (slots : List (Option (Note W))) (q : ℕ) → fin.get (notified_of slots) q ≡ notified_in (get_or slots q None)
-  get-notified slots q = get-from_entries nat_cmp_total _ q ∙ ap (λ m. find nat_cmp m (pairs_from 0 slots)) (let e : q ≡ 0 + q = omega arith in e) ∙ find_pairs 0 q slots
+  get-notified slots q = get-from_entries nat_cmp_total _ q ∙ ap (λ m. find nat_cmp m (pairs_from 0 slots)) (let e : q ≡ 0 + q = omega arith in e)
+      ∙ find_pairs 0 q slots
 
   -- notes that are notified alike
-  pub notified_same : (old new : List (Option (Note W))) → ((q : ℕ) → notified_in (get_or new q None) ≡ notified_in (get_or old q None)) → notified_of new ≡ notified_of old
+  pub notified_same : (old new : List (Option (Note W))) → ((q : ℕ) → notified_in (get_or new q None) ≡ notified_in (get_or old q None))
+      → notified_of new ≡ notified_of old
   notified_same old new alike = same_map nat_cmp_total nat_cmp-IsAntisymmetric _ _ (λ q. get-notified new q ∙ alike q ∙ sym (get-notified old q))
 
   -- one was notified
-  pub notified_inserted : (old new : List (Option (Note W))) (n : ℕ) (b : Bool) → ((other : ℕ) → other ≢ n → get_or new other None ≡ get_or old other None) → notified_in (get_or new n None) ≡ Some b → notified_of new ≡ fin.insert (notified_of old) n b
+  pub notified_inserted : (old new : List (Option (Note W))) (n : ℕ) (b : Bool)
+      → ((other : ℕ) → other ≢ n → get_or new other None ≡ get_or old other None) → notified_in (get_or new n None) ≡ Some b
+      → notified_of new ≡ fin.insert (notified_of old) n b
   notified_inserted old new n b others here =
       same_map nat_cmp_total nat_cmp-IsAntisymmetric _ _ (λ q.
       rw (get-notified new q, get-insert nat_cmp_total (notified_of old) n b q) (elim (cases_eq q n) [
@@ -53,7 +57,8 @@ module _ {W : Type 0} where
       ]))
 
   -- one that was notified has left
-  pub notified_removed : (old new : List (Option (Note W))) (n : ℕ) → ((other : ℕ) → other ≢ n → get_or new other None ≡ get_or old other None) → notified_in (get_or new n None) ≡ None → notified_of new ≡ fin.remove (notified_of old) n
+  pub notified_removed : (old new : List (Option (Note W))) (n : ℕ) → ((other : ℕ) → other ≢ n → get_or new other None ≡ get_or old other None)
+      → notified_in (get_or new n None) ≡ None → notified_of new ≡ fin.remove (notified_of old) n
   notified_removed old new n others here =
       same_map nat_cmp_total nat_cmp-IsAntisymmetric _ _ (λ q.
       rw (get-notified new q, get-remove nat_cmp_total (notified_of old) n q) (elim (cases_eq q n) [

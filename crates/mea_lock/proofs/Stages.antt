@@ -10,7 +10,8 @@ use Rattle.mea_lock.specs.declared.cond_wait.CondWait.TheVariants.{New, Listed, 
 
 module _ {V W : Type 0} where
   -- the condition variable has not changed
-  pub asking_polls : (s s' : Condvar W) (l : Lock V W) (c : CondWait) (w : W) (r : Result (Turn W) (W × NoMemory)) (l' : Lock V W) (c' : CondWait) → s' ≡ s → IsLocking l c → PollsAsking l c w r l' c' → PollsWait s l c w r s' l' c'
+  pub asking_polls : (s s' : Condvar W) (l : Lock V W) (c : CondWait) (w : W) (r : Result (Turn W) (W × NoMemory)) (l' : Lock V W) (c' : CondWait)
+      → s' ≡ s → IsLocking l c → PollsAsking l c w r l' c' → PollsWait s l c w r s' l' c'
   asking_polls s s' l New w r l' c' same asks polls = absurd asks
   asking_polls s s' l (Listed n) w r l' c' same asks polls = absurd asks
   asking_polls s s' l (Locking by_one a) w r l' c' same asks polls = (same, polls)

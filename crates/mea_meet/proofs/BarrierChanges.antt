@@ -34,7 +34,8 @@ later_round round a a' n positive more h =
     let before : round ≤ a / n = leb-true round (a / n) h in
     le-leb round (a' / n) (omega (arith, least, before))
 
-pub goes_on : (b b' : cores.Barrier ℕ) → b'.size ≡ b.size → 1 ≤ b.size → b.arrivals ≤ b'.arrivals → ((t : Option Place) → has_given b.waiting t ≡ true → has_given b'.waiting t ≡ true)
+pub goes_on : (b b' : cores.Barrier ℕ) → b'.size ≡ b.size → 1 ≤ b.size → b.arrivals ≤ b'.arrivals
+    → ((t : Option Place) → has_given b.waiting t ≡ true → has_given b'.waiting t ≡ true)
     → (w : Wait) → is_open b w ≡ true → is_open b' w ≡ true
 goes_on b b' size positive more given New h = refl
 goes_on b b' size positive more given (Arrived round slot) h =
@@ -50,13 +51,15 @@ open_given b New h = refl
 open_given b (Arrived round slot) h = (and_parts (nat_le round (b.arrivals / b.size)) (has_given b.waiting slot) h).1
 open_given b Done h = absurd (cc)
 
-pub home_open : (st : Store) (n f b : ℕ) (x : BarrierWaitEntry) (e : BarrierEntry) → IsKept st n → get st.waits f ≡ Some x → x.barrier ≡ b → get st.barriers b ≡ Some e → is_open e.core x.wait ≡ true
+pub home_open : (st : Store) (n f b : ℕ) (x : BarrierWaitEntry) (e : BarrierEntry) → IsKept st n → get st.waits f ≡ Some x → x.barrier ≡ b
+    → get st.barriers b ≡ Some e → is_open e.core x.wait ≡ true
 home_open st n f b x e k is mine there =
     let h = k.home f x is in
     subst (λ (d : BarrierEntry). is_open d.core x.wait ≡ true) (one_entry st.barriers x.barrier b h.entry e h.there mine there) h.belongs
 
 pub are_given : (st : Store) (n b : ℕ) (e : BarrierEntry) → IsKept st n → get st.barriers b ≡ Some e → AreGiven (slots_of st.waits) b e.core.waiting
-are_given st n b e k there = given_by (λ (x : BarrierWaitEntry). x.barrier) (λ x. slot_of x.wait) st.waits b e.core.waiting (λ f x is mine. open_given e.core x.wait (home_open st n f b x e k is mine there))
+are_given st n b e k there = given_by (λ (x : BarrierWaitEntry). x.barrier) (λ x. slot_of x.wait) st.waits b e.core.waiting
+    (λ f x is mine. open_given e.core x.wait (home_open st n f b x e k is mine there))
 
 -- ---- how many wait at a barrier
 abbrev pub at_barrier : ℕ → ℕ → BarrierWaitEntry → ℕ
@@ -105,8 +108,11 @@ module _ (st st' : Store) (n n' b f : ℕ) (e e' : BarrierEntry) (o o' : Option 
     quiet = c.same_wakes ∙ old_entry.quiet;
     sized = subst (λ m. 1 ≤ m) (sym c.same_size) old_entry.sized;
     few = (let before = old_entry.few in let more = c.few in let later = c.rises in omega (arith, before, more, later));
-    counted = (let before = old_entry.counted in let sums = waits_at b in let was = weighs_here (λ (x : BarrierWaitEntry). x.barrier) b f o c.was_of in let is = weighs_here (λ (x : BarrierWaitEntry). x.barrier) b f o' c.is_of in let counts = c.counted in omega (arith, before, sums, was, is, counts));
-    few_waits = (let before = old_entry.few_waits in let counts = c.counted in let most = one-least o' in let later = c.rises in omega (arith, before, counts, most, later));
+    counted = (let before = old_entry.counted in let sums = waits_at b in
+        let was = weighs_here (λ (x : BarrierWaitEntry). x.barrier) b f o c.was_of in
+        let is = weighs_here (λ (x : BarrierWaitEntry). x.barrier) b f o' c.is_of in let counts = c.counted in omega (arith, before, sums, was, is, counts));
+    few_waits = (let before = old_entry.few_waits in let counts = c.counted in let most = one-least o' in let later = c.rises in
+        omega (arith, before, counts, most, later));
     below = (let before = old_entry.below in let later = c.rises in omega (arith, before, later));
   }
 
@@ -115,14 +121,17 @@ module _ (st st' : Store) (n n' b f : ℕ) (e e' : BarrierEntry) (o o' : Option 
     quiet = old.quiet;
     sized = old.sized;
     few = (let before = old.few in let later = c.rises in omega (arith, before, later));
-    counted = (let before = old.counted in let sums = waits_at q in let was = weighs_elsewhere (λ (x : BarrierWaitEntry). x.barrier) (λ x. 1) b q f o c.was_of apart in let is = weighs_elsewhere (λ (x : BarrierWaitEntry). x.barrier) (λ x. 1) b q f o' c.is_of apart in omega (arith, before, sums, was, is));
+    counted = (let before = old.counted in let sums = waits_at q in
+        let was = weighs_elsewhere (λ (x : BarrierWaitEntry). x.barrier) (λ x. 1) b q f o c.was_of apart in
+        let is = weighs_elsewhere (λ (x : BarrierWaitEntry). x.barrier) (λ x. 1) b q f o' c.is_of apart in omega (arith, before, sums, was, is));
     few_waits = (let before = old.few_waits in let later = c.rises in omega (arith, before, later));
     below = (let before = old.below in let later = c.rises in omega (arith, before, later));
   }
 
   each_after : (q : ℕ) (d : BarrierEntry) → get st'.barriers q ≡ Some d → IsKeptEntry st' n' q d
   each_after q d is = by_name b q
-      (λ same. let both : Some e' ≡ Some d = sym (barrier_there q same) ∙ is in let one : e' ≡ d = cc in subst (λ p. IsKeptEntry st' n' p d) same (subst (IsKeptEntry st' n' b) one entry_here))
+      (λ same. let both : Some e' ≡ Some d = sym (barrier_there q same) ∙ is in let one : e' ≡ d = cc in
+      subst (λ p. IsKeptEntry st' n' p d) same (subst (IsKeptEntry st' n' b) one entry_here))
       (λ apart. entry_elsewhere q d apart (k.each q d (sym (barrier_other q apart) ∙ is)))
 
   home_other : (g : ℕ) (x : BarrierWaitEntry) → get st.waits g ≡ Some x → IsHome st' x
@@ -132,7 +141,8 @@ module _ (st st' : Store) (n n' b f : ℕ) (e e' : BarrierEntry) (o o' : Option 
 
   home_after : (g : ℕ) (x : BarrierWaitEntry) → get st'.waits g ≡ Some x → IsHome st' x
   home_after g x is = by_name f g
-      (λ same. let here : o' ≡ Some x = sym (wait_there g same) ∙ is in record { entry = e'; there = barrier_there x.barrier (sym (c.is_of x here)); belongs = c.home x here })
+      (λ same. let here : o' ≡ Some x = sym (wait_there g same) ∙ is in
+      record { entry = e'; there = barrier_there x.barrier (sym (c.is_of x here)); belongs = c.home x here })
       (λ apart. home_other g x (sym (wait_other g apart) ∙ is))
 
   pub kept_after : IsKept st' n'
@@ -153,24 +163,33 @@ module _ (st st' : Store) (n n' b f : ℕ) (e e' : BarrierEntry) (o o' : Option 
   barriers_now = seen_put (barrier_of st.waits n) (barrier_of st'.waits n') st.barriers st'.barriers b e' c.barriers barrier_alike
 
   -- where the future is there, or still there
-  pub hall_put : (x : BarrierWaitEntry) → o' ≡ Some x → (r : Barrier) → barrier_of st'.waits n' b e' ≡ r → barriers_of st' n' ≡ record { barriers = insert h.barriers b r; waits = insert h.waits f (wait_of x) }
+  pub hall_put : (x : BarrierWaitEntry) → o' ≡ Some x → (r : Barrier) → barrier_of st'.waits n' b e' ≡ r
+      → barriers_of st' n' ≡ record { barriers = insert h.barriers b r; waits = insert h.waits f (wait_of x) }
   hall_put x is r seen =
-      let waits = seen_put (λ (g : ℕ) y. wait_of y) (λ g y. wait_of y) st.waits st'.waits f x (λ g. c.waits g ∙ ap (λ p. cond (f == g) p (get st.waits g)) is) (λ g y apart there. refl) in
-      (λ j. record { barriers = barriers_now j; waits = waits j }) ∙ ap (λ s. record { barriers = insert h.barriers b s; waits = insert h.waits f (wait_of x) }) seen
+      let waits = seen_put (λ (g : ℕ) y. wait_of y) (λ g y. wait_of y) st.waits st'.waits f x
+      (λ g. c.waits g ∙ ap (λ p. cond (f == g) p (get st.waits g)) is) (λ g y apart there. refl) in
+      (λ j. record { barriers = barriers_now j; waits = waits j })
+      ∙ ap (λ s. record { barriers = insert h.barriers b s; waits = insert h.waits f (wait_of x) }) seen
 
   -- where it is gone
-  pub hall_gone : o' ≡ None → (r : Barrier) → barrier_of st'.waits n' b e' ≡ r → barriers_of st' n' ≡ record { barriers = insert h.barriers b r; waits = remove h.waits f }
+  pub hall_gone : o' ≡ None → (r : Barrier) → barrier_of st'.waits n' b e' ≡ r
+      → barriers_of st' n' ≡ record { barriers = insert h.barriers b r; waits = remove h.waits f }
   hall_gone is r seen =
-      let waits = seen_gone (λ (g : ℕ) y. wait_of y) (λ g y. wait_of y) st.waits st'.waits f (λ g. c.waits g ∙ ap (λ p. cond (f == g) p (get st.waits g)) is) (λ g y apart there. refl) in
+      let waits = seen_gone (λ (g : ℕ) y. wait_of y) (λ g y. wait_of y) st.waits st'.waits f
+      (λ g. c.waits g ∙ ap (λ p. cond (f == g) p (get st.waits g)) is) (λ g y apart there. refl) in
       (λ j. record { barriers = barriers_now j; waits = waits j }) ∙ ap (λ s. record { barriers = insert h.barriers b s; waits = remove h.waits f }) seen
 
   -- the wakers that are registered, by those of the barrier
   pub registered_after : registered (barriers_of st' n') + length e.core.waiting.wakers ≡ registered h + length e'.core.waiting.wakers
   registered_after =
       let sums = total-insert (λ q (r : Barrier). length r.waiting) h.barriers b (barrier_of st'.waits n' b e') in
-      let was : weight (λ q (r : Barrier). length r.waiting) b (get h.barriers b) ≡ length e.core.waiting.wakers = ap (weight (λ q (r : Barrier). length r.waiting) b) (seen-some (barrier_of st.waits n) st.barriers b e c.there) ∙ waiting-length (slots_of st.waits) n b e.core.waiting in
-      let is : length (waiting_at (slots_of st'.waits) n' b e'.core.waiting) ≡ length e'.core.waiting.wakers = waiting-length (slots_of st'.waits) n' b e'.core.waiting in
-      let now : registered (barriers_of st' n') ≡ total (λ q (r : Barrier). length r.waiting) (insert h.barriers b (barrier_of st'.waits n' b e')) = ap (total (λ q (r : Barrier). length r.waiting)) barriers_now in
+      let was : weight (λ q (r : Barrier). length r.waiting) b (get h.barriers b) ≡ length e.core.waiting.wakers =
+      ap (weight (λ q (r : Barrier). length r.waiting) b) (seen-some (barrier_of st.waits n) st.barriers b e c.there)
+      ∙ waiting-length (slots_of st.waits) n b e.core.waiting in
+      let is : length (waiting_at (slots_of st'.waits) n' b e'.core.waiting) ≡ length e'.core.waiting.wakers =
+      waiting-length (slots_of st'.waits) n' b e'.core.waiting in
+      let now : registered (barriers_of st' n') ≡ total (λ q (r : Barrier). length r.waiting) (insert h.barriers b (barrier_of st'.waits n' b e')) =
+      ap (total (λ q (r : Barrier). length r.waiting)) barriers_now in
       omega (arith, sums, was, is, now)
 
 -- a barrier as it is seen
@@ -180,11 +199,14 @@ barrier_seen st n b e there = ap (λ o. unwrap_or o (new_barrier 1)) (seen-some 
 -- its wakers are registered in the hall
 pub wakers_within : (st : Store) (n b : ℕ) (e : BarrierEntry) → get st.barriers b ≡ Some e → length e.core.waiting.wakers ≤ registered (barriers_of st n)
 wakers_within st n b e there =
-    let mine : length (waiting_at (slots_of st.waits) n b e.core.waiting) ≤ registered (barriers_of st n) = weight-within (λ q (r : Barrier). length r.waiting) (barriers_of st n).barriers b (barrier_of st.waits n b e) (seen-some (barrier_of st.waits n) st.barriers b e there) in
+    let mine : length (waiting_at (slots_of st.waits) n b e.core.waiting) ≤ registered (barriers_of st n) =
+    weight-within (λ q (r : Barrier). length r.waiting) (barriers_of st n).barriers b (barrier_of st.waits n b e)
+    (seen-some (barrier_of st.waits n) st.barriers b e there) in
     omega (arith, mine, waiting-length (slots_of st.waits) n b e.core.waiting)
 
 -- a future counts at its barrier
-pub waits_within : (st : Store) (n f b : ℕ) (x : BarrierWaitEntry) (e : BarrierEntry) → IsKept st n → get st.waits f ≡ Some x → x.barrier ≡ b → get st.barriers b ≡ Some e → 1 ≤ e.waits
+pub waits_within : (st : Store) (n f b : ℕ) (x : BarrierWaitEntry) (e : BarrierEntry) → IsKept st n → get st.waits f ≡ Some x → x.barrier ≡ b
+    → get st.barriers b ≡ Some e → 1 ≤ e.waits
 waits_within st n f b x e k is mine there =
     let one : at_barrier b f x ≡ 1 = at_same x.barrier b 1 0 mine in
     let all : at_barrier b f x ≤ total (at_barrier b) st.waits = weight-within (at_barrier b) st.waits f x is in

@@ -36,20 +36,23 @@ not_reached : (m n : ℕ) → nat_le m n ≡ false → n < m
 not_reached m n before = grind (arith, nat_tests)
 
 -- an arrival that leads is told so
-leads_on : (c c' : cores.Barrier ℕ) (w : ℕ) (turn : Poll Bool) (wait' : Wait) → Arrives c w (Ok turn) c' wait' → leads c ≡ true → (turn ≡ Ready true) × (c' ≡ led c)
+leads_on : (c c' : cores.Barrier ℕ) (w : ℕ) (turn : Poll Bool) (wait' : Wait) → Arrives c w (Ok turn) c' wait' → leads c ≡ true
+    → (turn ≡ Ready true) × (c' ≡ led c)
 leads_on c c' w turn wait' arrives decided = elim (cases_eq (round_under_way c) 18446744073709551615) [
   | inl last ↦ absurd (let clash : Ok turn ≡ Err _ = (arrives.overflow decided last).0 in cc)
   | inr few ↦ (let told = arrives.completes decided few in ((let is : Ok turn ≡ Ok (Ready true) = told.0 in cc), told.1))
 ]
 
 -- a future whose round is completed is told that it follows
-returns_on : (c c' : cores.Barrier ℕ) (w round : ℕ) (slot : Option Place) (result : Result (Poll Bool) (BarrierFault ℕ)) (wait' : Wait) → Returns c round slot w result c' wait' → nat_le ((round + 1) * c.size) c.arrivals ≡ true → (result ≡ Ok (Ready false)) × (c' ≡ c)
+returns_on : (c c' : cores.Barrier ℕ) (w round : ℕ) (slot : Option Place) (result : Result (Poll Bool) (BarrierFault ℕ)) (wait' : Wait)
+    → Returns c round slot w result c' wait' → nat_le ((round + 1) * c.size) c.arrivals ≡ true → (result ≡ Ok (Ready false)) × (c' ≡ c)
 returns_on c c' w round slot result wait' returns over =
     let told = returns.ready (grind (arith, nat_tests)) in
     (told.0, told.1)
 
 -- ---- a future f, x as it is kept, whose barrier is kept as e
-module _ (a : Inside) (v : Part Barriers) (i f : ℕ) (x : BarrierWaitEntry) (e : BarrierEntry) (seen : seen_in a ≡ v) (k : IsKeptIn a) (least : v.next ≤ i) (low : i < 2 ^ 64)
+module _ (a : Inside) (v : Part Barriers) (i f : ℕ) (x : BarrierWaitEntry) (e : BarrierEntry) (seen : seen_in a ≡ v) (k : IsKeptIn a)
+    (least : v.next ≤ i) (low : i < 2 ^ 64)
     (is : at a.waits.entries f ≡ Some x) (there : at a.barriers.entries x.barrier ≡ Some e) where
   abbrev st : Store
   st = store_in a
@@ -104,10 +107,20 @@ module _ (a : Inside) (v : Part Barriers) (i f : ℕ) (x : BarrierWaitEntry) (e 
   at_b = barrier_seen st n b e entry_there
 
   abbrev lead_with : Barrier → Outcome Barriers
-  lead_with s = record { hall = record { barriers = insert h.barriers b (record s { arrivals = s.arrivals + 1; waiting = [] }); waits = remove h.waits f }; reply = answers.Leader; wakes = wakers s.waiting }
+  lead_with s = record {
+    hall = record {
+      barriers = insert h.barriers b (record s { arrivals = s.arrivals + 1; waiting = [] });
+      waits = remove h.waits f;
+    };
+    reply = answers.Leader;
+    wakes = wakers s.waiting;
+  }
 
   abbrev join_with : ℕ → Barrier → Outcome Barriers
-  join_with w s = quietly (record { barriers = insert h.barriers b (record s { arrivals = s.arrivals + 1; waiting = registering s.waiting f w }); waits = insert h.waits f (record { barrier = b; round = Some (s.arrivals / s.size) }) }) answers.Pending
+  join_with w s = quietly (record {
+    barriers = insert h.barriers b (record s { arrivals = s.arrivals + 1; waiting = registering s.waiting f w });
+    waits = insert h.waits f (record { barrier = b; round = Some (s.arrivals / s.size) });
+  }) answers.Pending
 
   abbrev gone_with : Answer → Barrier → Outcome Barriers
   gone_with reply s = quietly (record { barriers = insert h.barriers b (record s { waiting = ending s.waiting f }); waits = remove h.waits f }) reply
@@ -124,7 +137,8 @@ module _ (a : Inside) (v : Part Barriers) (i f : ℕ) (x : BarrierWaitEntry) (e 
       ∙ ap (λ s. if model.leads s then lead_with s else join_with w s) at_b
       ∙ ap (λ d. if d then lead_with r else join_with w r) decided
 
-  later_poll : (w round : ℕ) (slot : Option Place) (t : Bool) → x.wait ≡ Arrived round slot → nat_le ((round + 1) * e.core.size) e.core.arrivals ≡ t → outcome w ≡ (if t then gone_with answers.Ready r else wait_with w r)
+  later_poll : (w round : ℕ) (slot : Option Place) (t : Bool) → x.wait ≡ Arrived round slot → nat_le ((round + 1) * e.core.size) e.core.arrivals ≡ t
+      → outcome w ≡ (if t then gone_with answers.Ready r else wait_with w r)
   later_poll w round slot t arrived decided =
       ap (model.poll_of h f w) future_seen ∙ ap (λ u. model.poll_at h f w (wait_of x) (round_of u)) arrived
       ∙ ap (λ s. if model.has_completed s round then gone_with answers.Ready s else wait_with w s) at_b
@@ -148,15 +162,18 @@ module _ (a : Inside) (v : Part Barriers) (i f : ℕ) (x : BarrierWaitEntry) (e 
 
     done : (o : Outcome Barriers) (w : ℕ) (answer : Answer) (before after : Waking ℕ) → outcome w ≡ o → IsKept st' (i + 1) → barriers_of st' (i + 1) ≡ o.hall
         → registered (barriers_of st' (i + 1)) + length e.core.waiting.wakers ≡ registered h + length e'.core.waiting.wakers
-        → answer ≡ o.reply → after.wakers ≡ before.wakers ++ o.wakes → after.registered + length e.core.waiting.wakers ≡ before.registered + length e'.core.waiting.wakers
+        → answer ≡ o.reply → after.wakers ≡ before.wakers ++ o.wakes
+        → after.registered + length e.core.waiting.wakers ≡ before.registered + length e'.core.waiting.wakers
         → Played v i (model.poll_of v.hall f w (get v.hall.waits f)) answer st' before after
     done o w answer before after chosen kept hall_is registers replied woken counted = record {
       kept = kept;
-      yields = yields_by registered (seen_in a) v i seen (λ u. model.poll_of u f w (get u.waits f)) o answer (barriers_of st' (i + 1)) chosen hall_is replied before after woken (omega (arith, registers, counted));
+      yields = yields_by registered (seen_in a) v i seen (λ u. model.poll_of u f w (get u.waits f)) o answer (barriers_of st' (i + 1))
+          chosen hall_is replied before after woken (omega (arith, registers, counted));
     }
 
     -- ---- a poll that replies `pending`
-    module _ (y : BarrierWaitEntry) (w : ℕ) (before after : Waking ℕ) (puts_wait : ChangesAt a.waits.entries ws' f (Some y)) (mine : y.barrier ≡ b) (turns : Turns e x.wait w Pending e' y.wait before after) where
+    module _ (y : BarrierWaitEntry) (w : ℕ) (before after : Waking ℕ) (puts_wait : ChangesAt a.waits.entries ws' f (Some y)) (mine : y.barrier ≡ b)
+        (turns : Turns e x.wait w Pending e' y.wait before after) where
       waits_now : Puts st.waits st'.waits f (Some y)
       waits_now = kept-puts a.waits.entries ws' f (Some y) puts_wait
 
@@ -168,43 +185,76 @@ module _ (a : Inside) (v : Part Barriers) (i f : ℕ) (x : BarrierWaitEntry) (e 
 
       joins : x.wait ≡ New → leads e.core ≡ false → Stayed
       joins new decided =
-          let first : Arrives e.core w (Ok Pending) (record e'.core { wakes = turns.woken }) y.wait = subst (λ u. Polls e.core u w (Ok Pending) (record e'.core { wakes = turns.woken }) y.wait) new turns.polls in
+          let first : Arrives e.core w (Ok Pending) (record e'.core { wakes = turns.woken }) y.wait =
+          subst (λ u. Polls e.core u w (Ok Pending) (record e'.core { wakes = turns.woken }) y.wait) new turns.polls in
           let told = first.follows decided in
           let slot : None ≡ slot_of x.wait = sym (ap slot_of new) in
-          let wait_is : y.wait ≡ Arrived (round_under_way e.core) (slot_after e.core.waiting (slot_of x.wait)) = told.2 ∙ ap (λ s. Arrived (round_under_way e.core) (slot_after e.core.waiting s)) slot in
+          let wait_is : y.wait ≡ Arrived (round_under_way e.core) (slot_after e.core.waiting (slot_of x.wait)) =
+          told.2 ∙ ap (λ s. Arrived (round_under_way e.core) (slot_after e.core.waiting s)) slot in
           let core_is = core_after e' turns.woken (joined e.core w) told.1 turns.quiet in
-          let entry_is : e' ≡ record e { core = record e.core { arrivals = e.core.arrivals + 1; waiting = with_waker e.core.waiting (slot_of x.wait) w } } = (λ j. record { core = core_is j; waits = as_many j }) ∙ ap (λ s. record e { core = record e.core { arrivals = e.core.arrivals + 1; waiting = with_waker e.core.waiting s w } }) slot in
+          let entry_is : e' ≡ record e {
+            core = record e.core {
+              arrivals = e.core.arrivals + 1;
+              waiting = with_waker e.core.waiting (slot_of x.wait) w;
+            };
+          } = (λ j. record { core = core_is j; waits = as_many j })
+          ∙ ap (λ s. record e { core = record e.core { arrivals = e.core.arrivals + 1; waiting = with_waker e.core.waiting s w } }) slot in
           let size = (k.each b e entry_there).sized in
-          let reached = later_round (round_under_way e.core) e.core.arrivals (e.core.arrivals + 1) e.core.size (omega (arith, size)) (omega arith) (le-leb (round_under_way e.core) (round_under_way e.core) (omega arith)) in
-          let c = registers st st' n i f x e e' k less low wait_there entry_there barriers y waits_now w (round_under_way e.core) (e.core.arrivals + 1) mine wait_is entry_is (omega arith) (omega arith) reached in
+          let reached = later_round (round_under_way e.core) e.core.arrivals (e.core.arrivals + 1) e.core.size (omega (arith, size)) (omega arith)
+          (le-leb (round_under_way e.core) (round_under_way e.core) (omega arith)) in
+          let c = registers st st' n i f x e e' k less low wait_there entry_there barriers y waits_now w (round_under_way e.core)
+          (e.core.arrivals + 1) mine wait_is entry_is (omega arith) (omega arith) reached in
           done (join_with w r) w answers.Pending before after (first_poll w false new decided) (kept_after st st' n (i + 1) b f e e' (Some x) (Some y) k c)
-          (hall_registering st st' n i f x e e' k less low wait_there entry_there barriers y waits_now w (round_under_way e.core) (e.core.arrivals + 1) mine wait_is entry_is (omega arith) (omega arith) reached)
-          (registered_after st st' n (i + 1) b f e e' (Some x) (Some y) k c) refl (turns.handed_on ∙ ap (λ ws. before.wakers ++ ws) (ap (λ (d : cores.Barrier ℕ). d.wakes) told.1 ∙ quiet)) turns.counted
+          (hall_registering st st' n i f x e e' k less low wait_there entry_there barriers y waits_now w (round_under_way e.core)
+          (e.core.arrivals + 1) mine wait_is entry_is (omega arith) (omega arith) reached)
+          (registered_after st st' n (i + 1) b f e e' (Some x) (Some y) k c) refl
+          (turns.handed_on ∙ ap (λ ws. before.wakers ++ ws) (ap (λ (d : cores.Barrier ℕ). d.wakes) told.1 ∙ quiet)) turns.counted
 
       waits_on : (round : ℕ) (slot : Option Place) → x.wait ≡ Arrived round slot → nat_le ((round + 1) * e.core.size) e.core.arrivals ≡ false → Stayed
       waits_on round slot arrived decided =
-          let later : Returns e.core round slot w (Ok Pending) (record e'.core { wakes = turns.woken }) y.wait = subst (λ u. Polls e.core u w (Ok Pending) (record e'.core { wakes = turns.woken }) y.wait) arrived turns.polls in
+          let later : Returns e.core round slot w (Ok Pending) (record e'.core { wakes = turns.woken }) y.wait =
+          subst (λ u. Polls e.core u w (Ok Pending) (record e'.core { wakes = turns.woken }) y.wait) arrived turns.polls in
           let told = later.pending (not_reached _ _ decided) in
           let same : slot ≡ slot_of x.wait = sym (ap slot_of arrived) in
-          let wait_is : y.wait ≡ Arrived round (slot_after e.core.waiting (slot_of x.wait)) = told.2 ∙ ap (λ s. Arrived round (slot_after e.core.waiting s)) same in
+          let wait_is : y.wait ≡ Arrived round (slot_after e.core.waiting (slot_of x.wait)) =
+          told.2 ∙ ap (λ s. Arrived round (slot_after e.core.waiting s)) same in
           let core_is = core_after e' turns.woken (record e.core { waiting = with_waker e.core.waiting slot w }) told.1 turns.quiet in
-          let entry_is : e' ≡ record e { core = record e.core { arrivals = e.core.arrivals; waiting = with_waker e.core.waiting (slot_of x.wait) w } } = (λ j. record { core = core_is j; waits = as_many j }) ∙ ap (λ s. record e { core = record e.core { arrivals = e.core.arrivals; waiting = with_waker e.core.waiting s w } }) same in
+          let entry_is : e' ≡ record e {
+            core = record e.core {
+              arrivals = e.core.arrivals;
+              waiting = with_waker e.core.waiting (slot_of x.wait) w;
+            };
+          } = (λ j. record { core = core_is j; waits = as_many j })
+          ∙ ap (λ s. record e { core = record e.core { arrivals = e.core.arrivals; waiting = with_waker e.core.waiting s w } }) same in
           let open_still : is_open e.core (Arrived round slot) ≡ true = subst (λ u. is_open e.core u ≡ true) arrived opened in
           let reached = (and_parts (nat_le round (e.core.arrivals / e.core.size)) (has_given e.core.waiting slot) open_still).0 in
-          let c = registers st st' n i f x e e' k less low wait_there entry_there barriers y waits_now w round e.core.arrivals mine wait_is entry_is (omega arith) (omega arith) reached in
-          let kept_wait : insert h.waits f (record { barrier = b; round = Some round }) ≡ h.waits = insert_same h.waits f (record { barrier = b; round = Some round }) (future_seen ∙ ap (λ u. Some (record { barrier = b; round = round_of u })) arrived) in
-          done (wait_with w r) w answers.Pending before after (later_poll w round slot false arrived decided) (kept_after st st' n (i + 1) b f e e' (Some x) (Some y) k c)
-          (hall_registering st st' n i f x e e' k less low wait_there entry_there barriers y waits_now w round e.core.arrivals mine wait_is entry_is (omega arith) (omega arith) reached
+          let c = registers st st' n i f x e e' k less low wait_there entry_there barriers y waits_now w round e.core.arrivals mine wait_is entry_is
+          (omega arith) (omega arith) reached in
+          let kept_wait : insert h.waits f (record { barrier = b; round = Some round }) ≡ h.waits =
+          insert_same h.waits f (record { barrier = b; round = Some round })
+          (future_seen ∙ ap (λ u. Some (record { barrier = b; round = round_of u })) arrived) in
+          done (wait_with w r) w answers.Pending before after (later_poll w round slot false arrived decided)
+          (kept_after st st' n (i + 1) b f e e' (Some x) (Some y) k c)
+          (hall_registering st st' n i f x e e' k less low wait_there entry_there barriers y waits_now w round e.core.arrivals mine wait_is entry_is
+          (omega arith) (omega arith) reached
           ∙ (λ j. record { barriers = insert h.barriers b (record r { waiting = registering r.waiting f w }); waits = kept_wait j }))
-          (registered_after st st' n (i + 1) b f e e' (Some x) (Some y) k c) refl (turns.handed_on ∙ ap (λ ws. before.wakers ++ ws) (ap (λ (d : cores.Barrier ℕ). d.wakes) told.1 ∙ quiet)) turns.counted
+          (registered_after st st' n (i + 1) b f e e' (Some x) (Some y) k c) refl
+          (turns.handed_on ∙ ap (λ ws. before.wakers ++ ws) (ap (λ (d : cores.Barrier ℕ). d.wakes) told.1 ∙ quiet)) turns.counted
 
       pub stays : Stayed
       stays = by_wait x.wait refl
         where
           by_wait : (u : Wait) → x.wait ≡ u → Stayed
-          by_wait New new = elim (cases_Bool (leads e.core)) [ inl leading ↦ absurd (let told : Pending ≡ Ready true = (leads_on e.core _ w Pending y.wait (subst (λ u. Polls e.core u w (Ok Pending) (record e'.core { wakes = turns.woken }) y.wait) new turns.polls) leading).0 in cc) | inr waits ↦ joins new waits ]
+          by_wait New new = elim (cases_Bool (leads e.core)) [
+            | inl leading ↦ absurd (let told : Pending ≡ Ready true = (leads_on e.core _ w Pending y.wait
+                (subst (λ u. Polls e.core u w (Ok Pending) (record e'.core { wakes = turns.woken }) y.wait) new turns.polls) leading).0 in
+                cc)
+            | inr waits ↦ joins new waits
+          ]
           by_wait (Arrived round slot) arrived = elim (cases_Bool (nat_le ((round + 1) * e.core.size) e.core.arrivals)) [
-            | inl over ↦ absurd (let told : Ok Pending ≡ Ok (Ready false) = (returns_on e.core _ w round slot (Ok Pending) y.wait (subst (λ u. Polls e.core u w (Ok Pending) (record e'.core { wakes = turns.woken }) y.wait) arrived turns.polls) over).0 in cc)
+            | inl over ↦ absurd (let told : Ok Pending ≡ Ok
+                (Ready false) = (returns_on e.core _ w round slot (Ok Pending) y.wait
+                (subst (λ u. Polls e.core u w (Ok Pending) (record e'.core { wakes = turns.woken }) y.wait) arrived turns.polls) over).0 in cc)
             | inr waits ↦ waits_on round slot arrived waits
           ]
           by_wait Done over = absurd (let clash : is_open e.core Done ≡ true = subst (λ u. is_open e.core u ≡ true) over opened in cc)
@@ -240,10 +290,15 @@ module _ (a : Inside) (v : Part Barriers) (i f : ℕ) (x : BarrierWaitEntry) (e 
             let one : e'.core.arrivals ≡ e.core.arrivals + 1 = ap (λ (d : cores.Barrier ℕ). d.arrivals) told.1 in
             let all : e'.core.waiting ≡ drained e.core.waiting = ap (λ (d : cores.Barrier ℕ). d.waiting) told.1 in
             let woken : turns.woken ≡ e.core.waiting.wakers = ap (λ (d : cores.Barrier ℕ). d.wakes) told.1 ∙ ap (λ ws. ws ++ e.core.waiting.wakers) quiet in
-            let still : (t : Option Place) → has_given e.core.waiting t ≡ true → has_given e'.core.waiting t ≡ true = λ t before. subst (λ (s : Registered ℕ). has_given s t ≡ true) (sym all) (given-drained e.core.waiting t before) in
-            let c = leaves st st' n i f x e e' k less low wait_there entry_there barriers waits_gone fewer wakes size (omega (arith, one)) (omega (arith, one)) still in
-            done (lead_with r) w (cond told_leads answers.Leader answers.Ready) before after (first_poll w true new decided) (kept_after st st' n (i + 1) b f e e' (Some x) None k c)
-            (hall_led st st' n i f x e e' k less low wait_there entry_there barriers waits_gone fewer wakes size (omega (arith, one)) (omega (arith, one)) still one all)
+            let still : (t : Option Place) → has_given e.core.waiting t ≡ true
+            → has_given e'.core.waiting t ≡ true = λ t before. subst (λ (s : Registered ℕ). has_given s t ≡ true) (sym all)
+            (given-drained e.core.waiting t before) in
+            let c = leaves st st' n i f x e e' k less low wait_there entry_there barriers waits_gone fewer wakes size (omega (arith, one))
+            (omega (arith, one)) still in
+            done (lead_with r) w (cond told_leads answers.Leader answers.Ready) before after (first_poll w true new decided)
+            (kept_after st st' n (i + 1) b f e e' (Some x) None k c)
+            (hall_led st st' n i f x e e' k less low wait_there entry_there barriers waits_gone fewer wakes size (omega (arith, one))
+            (omega (arith, one)) still one all)
             (registered_after st st' n (i + 1) b f e e' (Some x) None k c) (ap (λ t. cond t answers.Leader answers.Ready) leading)
             (turns.handed_on ∙ ap (λ ws. before.wakers ++ ws) (woken ∙ sym (waiting-wakers (slots_of st.waits) n b e.core.waiting))) turns.counted
 
@@ -253,12 +308,16 @@ module _ (a : Inside) (v : Part Barriers) (i f : ℕ) (x : BarrierWaitEntry) (e 
             let following : told_leads ≡ false = (let is : Ok (Ready told_leads) ≡ Ok (Ready false) = told.0 in cc) in
             let core_is : e'.core ≡ e.core = core_after e' turns.woken e.core told.1 turns.quiet in
             let same : e'.core.arrivals ≡ e.core.arrivals = ap (λ (d : cores.Barrier ℕ). d.arrivals) core_is in
-            let still : (t : Option Place) → has_given e.core.waiting t ≡ true → has_given e'.core.waiting t ≡ true = λ t before. subst (λ (d : cores.Barrier ℕ). has_given d.waiting t ≡ true) (sym core_is) before in
+            let still : (t : Option Place) → has_given e.core.waiting t ≡ true
+            → has_given e'.core.waiting t ≡ true = λ t before. subst (λ (d : cores.Barrier ℕ). has_given d.waiting t ≡ true) (sym core_is) before in
             let wakes : e'.core.wakes ≡ e.core.wakes = ap (λ (d : cores.Barrier ℕ). d.wakes) core_is in
             let size : e'.core.size ≡ e.core.size = ap (λ (d : cores.Barrier ℕ). d.size) core_is in
-            let c = leaves st st' n i f x e e' k less low wait_there entry_there barriers waits_gone fewer wakes size (omega (arith, same)) (omega (arith, same)) still in
-            done (gone_with answers.Ready r) w (cond told_leads answers.Leader answers.Ready) before after (later_poll w round slot true arrived decided) (kept_after st st' n (i + 1) b f e e' (Some x) None k c)
-            (hall_ending st st' n i f x e e' k less low wait_there entry_there barriers waits_gone fewer wakes size (omega (arith, same)) (omega (arith, same)) still core_is)
+            let c = leaves st st' n i f x e e' k less low wait_there entry_there barriers waits_gone fewer wakes size (omega (arith, same))
+            (omega (arith, same)) still in
+            done (gone_with answers.Ready r) w (cond told_leads answers.Leader answers.Ready) before after
+            (later_poll w round slot true arrived decided) (kept_after st st' n (i + 1) b f e e' (Some x) None k c)
+            (hall_ending st st' n i f x e e' k less low wait_there entry_there barriers waits_gone fewer wakes size (omega (arith, same))
+            (omega (arith, same)) still core_is)
             (registered_after st st' n (i + 1) b f e e' (Some x) None k c) (ap (λ t. cond t answers.Leader answers.Ready) following)
             (turns.handed_on ∙ ap (λ ws. before.wakers ++ ws) (ap (λ (d : cores.Barrier ℕ). d.wakes) told.1 ∙ quiet)) turns.counted
 
@@ -266,7 +325,8 @@ module _ (a : Inside) (v : Part Barriers) (i f : ℕ) (x : BarrierWaitEntry) (e 
         goes = by_wait x.wait refl
           where
             by_wait : (u : Wait) → x.wait ≡ u → Went
-            by_wait New new = elim (cases_Bool (leads e.core)) [ inl leading ↦ led_round new leading | inr waits ↦ absurd (let told : Ready told_leads ≡ Pending = ((first new).follows waits).0 in cc) ]
+            by_wait New new = elim (cases_Bool (leads e.core))
+                [ inl leading ↦ led_round new leading | inr waits ↦ absurd (let told : Ready told_leads ≡ Pending = ((first new).follows waits).0 in cc) ]
             by_wait (Arrived round slot) arrived = elim (cases_Bool (nat_le ((round + 1) * e.core.size) e.core.arrivals)) [
               | inl over ↦ went round slot arrived over
               | inr waits ↦ absurd (let told : Ready told_leads ≡ Pending = ((later round slot arrived).pending (not_reached _ _ waits)).0 in cc)
@@ -279,15 +339,19 @@ module _ (a : Inside) (v : Part Barriers) (i f : ℕ) (x : BarrierWaitEntry) (e 
           let core_is : e'.core ≡ e.core = ap (λ (d : BarrierEntry). d.core) entry_is in
           let fewer : e'.waits ≡ e.waits - 1 = ap (λ (d : BarrierEntry). d.waits) entry_is in
           let same : e'.core.arrivals ≡ e.core.arrivals = ap (λ (d : cores.Barrier ℕ). d.arrivals) core_is in
-          let still : (t : Option Place) → has_given e.core.waiting t ≡ true → has_given e'.core.waiting t ≡ true = λ t before. subst (λ (d : cores.Barrier ℕ). has_given d.waiting t ≡ true) (sym core_is) before in
+          let still : (t : Option Place) → has_given e.core.waiting t ≡ true
+          → has_given e'.core.waiting t ≡ true = λ t before. subst (λ (d : cores.Barrier ℕ). has_given d.waiting t ≡ true) (sym core_is) before in
           let wakes : e'.core.wakes ≡ e.core.wakes = ap (λ (d : cores.Barrier ℕ). d.wakes) core_is in
           let size : e'.core.size ≡ e.core.size = ap (λ (d : cores.Barrier ℕ). d.size) core_is in
-          let c = leaves st st' n i f x e e' k less low wait_there entry_there barriers waits_gone fewer wakes size (omega (arith, same)) (omega (arith, same)) still in
+          let c = leaves st st' n i f x e e' k less low wait_there entry_there barriers waits_gone fewer wakes size (omega (arith, same))
+          (omega (arith, same)) still in
           let chosen : model.end_of h f (get h.waits f) ≡ gone_with answers.Done r = ap (model.end_of h f) future_seen ∙ ap (gone_with answers.Done) at_b in
-          let hall_is = hall_ending st st' n i f x e e' k less low wait_there entry_there barriers waits_gone fewer wakes size (omega (arith, same)) (omega (arith, same)) still core_is in
+          let hall_is = hall_ending st st' n i f x e e' k less low wait_there entry_there barriers waits_gone fewer wakes size (omega (arith, same))
+          (omega (arith, same)) still core_is in
           let counted = registered_after st st' n (i + 1) b f e e' (Some x) None k c in
           let as_many : length e'.core.waiting.wakers ≡ length e.core.waiting.wakers = ap (λ (d : cores.Barrier ℕ). length d.waiting.wakers) core_is in
           record {
             kept = kept_after st st' n (i + 1) b f e e' (Some x) None k c;
-            rests = rests_by registered (seen_in a) v i seen (λ u. model.end_of u f (get u.waits f)) (gone_with answers.Done r) answers.Done (barriers_of st' (i + 1)) chosen hall_is refl refl (omega (arith, counted, as_many));
+            rests = rests_by registered (seen_in a) v i seen (λ u. model.end_of u f (get u.waits f)) (gone_with answers.Done r) answers.Done
+                (barriers_of st' (i + 1)) chosen hall_is refl refl (omega (arith, counted, as_many));
           }

@@ -64,8 +64,10 @@ module _ (st st' : Store) (n i f : ℕ) (x : BarrierWaitEntry) (e e' : BarrierEn
   sized = (k.each b e there).sized
 
   -- ---- its waker is registered
-  module _ (y : BarrierWaitEntry) (waits : Puts st.waits st'.waits f (Some y)) (w round arrivals : ℕ) (mine : y.barrier ≡ b) (wait_is : y.wait ≡ Arrived round (slot_after e.core.waiting (slot_of x.wait)))
-      (entry_is : e' ≡ record e { core = record e.core { arrivals = arrivals; waiting = with_waker e.core.waiting (slot_of x.wait) w } }) (rises : e.core.arrivals ≤ arrivals) (most : arrivals ≤ e.core.arrivals + 1) (seen : nat_le round (arrivals / e.core.size) ≡ true) where
+  module _ (y : BarrierWaitEntry) (waits : Puts st.waits st'.waits f (Some y)) (w round arrivals : ℕ) (mine : y.barrier ≡ b)
+      (wait_is : y.wait ≡ Arrived round (slot_after e.core.waiting (slot_of x.wait)))
+      (entry_is : e' ≡ record e { core = record e.core { arrivals = arrivals; waiting = with_waker e.core.waiting (slot_of x.wait) w } })
+      (rises : e.core.arrivals ≤ arrivals) (most : arrivals ≤ e.core.arrivals + 1) (seen : nat_le round (arrivals / e.core.size) ≡ true) where
     others : (g : ℕ) → (f ≡ g → ⊥) → slots_of st'.waits g ≡ slots_of st.waits g
     others = slots_other (option_map slot_entry) st.waits st'.waits f (Some y) waits
 
@@ -73,14 +75,17 @@ module _ (st st' : Store) (n i f : ℕ) (x : BarrierWaitEntry) (e e' : BarrierEn
     slot_is = slots_there (option_map slot_entry) st.waits st'.waits f (Some y) waits ∙ (λ j. Some (mine j, slot_of (wait_is j)))
 
     named_now : AreNamed (slots_of st'.waits) (i + 1)
-    named_now = named-registers (slots_of st.waits) (slots_of st'.waits) n (i + 1) f k.named (omega (arith, less)) others b (slot_of x.wait) e.core.waiting given slot_was slot_is
+    named_now = named-registers (slots_of st.waits) (slots_of st'.waits) n (i + 1) f k.named (omega (arith, less)) others b (slot_of x.wait)
+        e.core.waiting given slot_was slot_is
 
     abbrev core' : cores.Barrier ℕ
     core' = record e.core { arrivals = arrivals; waiting = with_waker e.core.waiting (slot_of x.wait) w }
 
     open_now : is_open core' (Arrived round (slot_after e.core.waiting (slot_of x.wait))) ≡ true
-    open_now = and_from (nat_le round (arrivals / e.core.size)) (has_given (with_waker e.core.waiting (slot_of x.wait) w) (slot_after e.core.waiting (slot_of x.wait))) seen
-        (given-registers (slots_of st.waits) (slots_of st'.waits) b f w (slot_of x.wait) e.core.waiting given slot_was slot_is others f (slot_after e.core.waiting (slot_of x.wait)) slot_is)
+    open_now = and_from (nat_le round (arrivals / e.core.size))
+        (has_given (with_waker e.core.waiting (slot_of x.wait) w) (slot_after e.core.waiting (slot_of x.wait))) seen
+        (given-registers (slots_of st.waits) (slots_of st'.waits) b f w (slot_of x.wait) e.core.waiting given slot_was slot_is others f
+        (slot_after e.core.waiting (slot_of x.wait)) slot_is)
 
     pub registers : Changes st st' n (i + 1) b f e e' (Some x) (Some y)
     registers = record {
@@ -93,8 +98,11 @@ module _ (st st' : Store) (n i f : ℕ) (x : BarrierWaitEntry) (e e' : BarrierEn
       was_of = λ z same. (let one : x ≡ z = cc in ap (λ (u : BarrierWaitEntry). u.barrier) (sym one));
       is_of = λ z same. (let one : y ≡ z = cc in ap (λ (u : BarrierWaitEntry). u.barrier) (sym one) ∙ mine);
       named = named_now;
-      opens = λ u before. (subst (λ (d : BarrierEntry). is_open d.core u ≡ true) (sym entry_is) (goes_on e.core core' refl sized rises (λ t. given-with e.core.waiting (slot_of x.wait) t w) u before));
-      home = λ z same. (let one : y ≡ z = cc in subst (λ (u : BarrierWaitEntry). is_open e'.core u.wait ≡ true) one (subst (λ u. is_open e'.core u ≡ true) (sym wait_is) (subst (λ (d : BarrierEntry). is_open d.core (Arrived round (slot_after e.core.waiting (slot_of x.wait))) ≡ true) (sym entry_is) open_now)));
+      opens = λ u before. (subst (λ (d : BarrierEntry). is_open d.core u ≡ true) (sym entry_is)
+          (goes_on e.core core' refl sized rises (λ t. given-with e.core.waiting (slot_of x.wait) t w) u before));
+      home = λ z same. (let one : y ≡ z = cc in subst (λ (u : BarrierWaitEntry). is_open e'.core u.wait ≡ true) one
+          (subst (λ u. is_open e'.core u ≡ true) (sym wait_is)
+          (subst (λ (d : BarrierEntry). is_open d.core (Arrived round (slot_after e.core.waiting (slot_of x.wait))) ≡ true) (sym entry_is) open_now)));
       same_wakes = ap (λ (d : BarrierEntry). d.core.wakes) entry_is;
       same_size = ap (λ (d : BarrierEntry). d.core.size) entry_is;
       few = (let same : e'.core.arrivals ≡ arrivals = ap (λ (d : BarrierEntry). d.core.arrivals) entry_is in omega (arith, same, most));
@@ -106,15 +114,21 @@ module _ (st st' : Store) (n i f : ℕ) (x : BarrierWaitEntry) (e e' : BarrierEn
 
     seen_registering : barrier_of st'.waits (i + 1) b e' ≡ registering_barrier
     seen_registering =
-        let list = waiting-registers (slots_of st.waits) (slots_of st'.waits) n (i + 1) b f w (slot_of x.wait) e.core.waiting k.named named_now given slot_was slot_is others in
+        let list = waiting-registers (slots_of st.waits) (slots_of st'.waits) n (i + 1) b f w (slot_of x.wait)
+        e.core.waiting k.named named_now given slot_was slot_is others in
         ap (barrier_of st'.waits (i + 1) b) entry_is ∙ (λ j. record { size = e.core.size; arrivals = arrivals; waiting = list j })
 
-    pub hall_registering : barriers_of st' (i + 1) ≡ record { barriers = insert h.barriers b registering_barrier; waits = insert h.waits f (record { barrier = b; round = Some round }) }
+    pub hall_registering : barriers_of st'
+        (i + 1) ≡ record { barriers = insert h.barriers b registering_barrier; waits = insert h.waits f (record { barrier = b; round = Some round }) }
     hall_registering = hall_put st st' n (i + 1) b f e e' (Some x) (Some y) k registers y refl registering_barrier seen_registering
-        ∙ (λ j. record { barriers = insert h.barriers b registering_barrier; waits = insert h.waits f (record { barrier = mine j; round = round_of (wait_is j) }) })
+        ∙ (λ j. record {
+          barriers = insert h.barriers b registering_barrier;
+          waits = insert h.waits f (record { barrier = mine j; round = round_of (wait_is j) });
+        })
 
   -- ---- it is gone
-  module _ (waits : Puts st.waits st'.waits f None) (fewer : e'.waits ≡ e.waits - 1) (same_wakes : e'.core.wakes ≡ e.core.wakes) (same_size : e'.core.size ≡ e.core.size) (rises : e.core.arrivals ≤ e'.core.arrivals) (most : e'.core.arrivals ≤ e.core.arrivals + 1)
+  module _ (waits : Puts st.waits st'.waits f None) (fewer : e'.waits ≡ e.waits - 1) (same_wakes : e'.core.wakes ≡ e.core.wakes)
+      (same_size : e'.core.size ≡ e.core.size) (rises : e.core.arrivals ≤ e'.core.arrivals) (most : e'.core.arrivals ≤ e.core.arrivals + 1)
       (still : (t : Option Place) → has_given e.core.waiting t ≡ true → has_given e'.core.waiting t ≡ true) where
     others_gone : (g : ℕ) → (f ≡ g → ⊥) → slots_of st'.waits g ≡ slots_of st.waits g
     others_gone = slots_other (option_map slot_entry) st.waits st'.waits f None waits
@@ -150,11 +164,19 @@ module _ (st st' : Store) (n i f : ℕ) (x : BarrierWaitEntry) (e e' : BarrierEn
 
     pub hall_ending : e'.core ≡ e.core → barriers_of st' (i + 1) ≡ record { barriers = insert h.barriers b ending_barrier; waits = remove h.waits f }
     hall_ending same =
-        let list = waiting-ends (slots_of st.waits) (slots_of st'.waits) n (i + 1) b f (slot_of x.wait) e.core.waiting k.named named_gone slot_was slot_gone others_gone in
+        let list = waiting-ends (slots_of st.waits) (slots_of st'.waits) n (i + 1) b f (slot_of x.wait)
+        e.core.waiting k.named named_gone slot_was slot_gone others_gone in
         hall_gone st st' n (i + 1) b f e e' (Some x) None k leaves refl ending_barrier
-        (ap (λ (c : cores.Barrier ℕ). barrier_of st'.waits (i + 1) b (record { core = c; waits = e'.waits })) same ∙ (λ j. record { size = e.core.size; arrivals = e.core.arrivals; waiting = list j }))
+        (ap (λ (c : cores.Barrier ℕ). barrier_of st'.waits (i + 1) b (record { core = c; waits = e'.waits })) same
+        ∙ (λ j. record { size = e.core.size; arrivals = e.core.arrivals; waiting = list j }))
 
     -- all wakers of its barrier leave
-    pub hall_led : e'.core.arrivals ≡ e.core.arrivals + 1 → e'.core.waiting ≡ drained e.core.waiting → barriers_of st' (i + 1) ≡ record { barriers = insert h.barriers b (record { size = e.core.size; arrivals = e.core.arrivals + 1; waiting = [] }); waits = remove h.waits f }
-    hall_led one all = hall_gone st st' n (i + 1) b f e e' (Some x) None k leaves refl (record { size = e.core.size; arrivals = e.core.arrivals + 1; waiting = [] })
+    pub hall_led : e'.core.arrivals ≡ e.core.arrivals + 1 → e'.core.waiting ≡ drained e.core.waiting
+        → barriers_of st' (i + 1) ≡ record {
+          barriers = insert h.barriers b
+              (record { size = e.core.size; arrivals = e.core.arrivals + 1; waiting = [] });
+          waits = remove h.waits f;
+        }
+    hall_led one all = hall_gone st st' n (i + 1) b f e e' (Some x) None k leaves refl
+        (record { size = e.core.size; arrivals = e.core.arrivals + 1; waiting = [] })
         (λ j. record { size = same_size j; arrivals = one j; waiting = waiting_at (slots_of st'.waits) (i + 1) b (all j) })

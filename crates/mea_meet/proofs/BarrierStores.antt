@@ -26,7 +26,8 @@ module _ (a : Inside) (v : Part Barriers) (seen : seen_in a ≡ v) where
   -- a look-up among the entries answers as one in the hall
   pub barrier-known : (b : ℕ) → is_some (get v.hall.barriers b) ≡ is_some (at a.barriers.entries b)
   barrier-known b = subst (λ (p : Part Barriers). is_some (get p.hall.barriers b) ≡ is_some (at a.barriers.entries b)) seen (
-      ap is_some (get-seen (barrier_of (store_in a).waits a.next) (store_in a).barriers b ∙ ap (option_map (barrier_of (store_in a).waits a.next b)) (kept-at a.barriers.entries b))
+      ap is_some (get-seen (barrier_of (store_in a).waits a.next) (store_in a).barriers b
+      ∙ ap (option_map (barrier_of (store_in a).waits a.next b)) (kept-at a.barriers.entries b))
       ∙ is_some-map (barrier_of (store_in a).waits a.next b) (at a.barriers.entries b))
 
   pub wait-known : (f : ℕ) → is_some (get v.hall.waits f) ≡ is_some (at a.waits.entries f)
@@ -35,15 +36,19 @@ module _ (a : Inside) (v : Part Barriers) (seen : seen_in a ≡ v) where
       ∙ is_some-map wait_of (at a.waits.entries f))
 
   pub barrier_found : (b : ℕ) → IsSome (get v.hall.barriers b) → at a.barriers.entries b ≡ None → ⊥
-  barrier_found b there none = not_none (get (seen_in a).hall.barriers b) (subst (λ (p : Part Barriers). IsSome (get p.hall.barriers b)) (sym seen) there) (seen-none (barrier_of (store_in a).waits a.next) (store_in a).barriers b (kept-at a.barriers.entries b ∙ none))
+  barrier_found b there none = not_none (get (seen_in a).hall.barriers b)
+      (subst (λ (p : Part Barriers). IsSome (get p.hall.barriers b)) (sym seen) there)
+      (seen-none (barrier_of (store_in a).waits a.next) (store_in a).barriers b (kept-at a.barriers.entries b ∙ none))
 
   pub wait_found : (f : ℕ) → IsSome (get v.hall.waits f) → at a.waits.entries f ≡ None → ⊥
-  wait_found f there none = not_none (get (seen_in a).hall.waits f) (subst (λ (p : Part Barriers). IsSome (get p.hall.waits f)) (sym seen) there) (seen-none (λ g x. wait_of x) (store_in a).waits f (kept-at a.waits.entries f ∙ none))
+  wait_found f there none = not_none (get (seen_in a).hall.waits f) (subst (λ (p : Part Barriers). IsSome (get p.hall.waits f)) (sym seen) there)
+      (seen-none (λ g x. wait_of x) (store_in a).waits f (kept-at a.waits.entries f ∙ none))
 
   module _ (k : IsKeptIn a) where
     -- the barrier of a future is there
     pub its_barrier : (f : ℕ) (x : BarrierWaitEntry) → at a.waits.entries f ≡ Some x → at a.barriers.entries x.barrier ≡ None → ⊥
-    its_barrier f x is none = let h = k.home f x (kept-at a.waits.entries f ∙ is) in absurd (let there : None ≡ Some h.entry = sym (kept-at a.barriers.entries x.barrier ∙ none) ∙ h.there in cc)
+    its_barrier f x is none = let h = k.home f x (kept-at a.waits.entries f ∙ is) in
+        absurd (let there : None ≡ Some h.entry = sym (kept-at a.barriers.entries x.barrier ∙ none) ∙ h.there in cc)
 
     module _ (b : ℕ) (e : BarrierEntry) (is : at a.barriers.entries b ≡ Some e) where
       there : get (store_in a).barriers b ≡ Some e
@@ -73,8 +78,10 @@ module _ (a : Inside) (v : Part Barriers) (seen : seen_in a ≡ v) where
           })
 
 -- ---- a future and its barrier are written as they were
-module _ (a : Inside) (v : Part Barriers) (seen : seen_in a ≡ v) (f b : ℕ) (x y : BarrierWaitEntry) (e e' : BarrierEntry) (is : at a.waits.entries f ≡ Some x) (there : at a.barriers.entries b ≡ Some e)
-    (bs' : List (ℕ × BarrierEntry)) (ws' : List (ℕ × BarrierWaitEntry)) (puts : ChangesAt a.barriers.entries bs' b (Some e')) (writes : ChangesAt a.waits.entries ws' f (Some y)) (same_e : e' ≡ e) (same_x : y ≡ x) where
+module _ (a : Inside) (v : Part Barriers) (seen : seen_in a ≡ v) (f b : ℕ) (x y : BarrierWaitEntry) (e e' : BarrierEntry)
+    (is : at a.waits.entries f ≡ Some x) (there : at a.barriers.entries b ≡ Some e)
+    (bs' : List (ℕ × BarrierEntry)) (ws' : List (ℕ × BarrierWaitEntry)) (puts : ChangesAt a.barriers.entries bs' b (Some e'))
+    (writes : ChangesAt a.waits.entries ws' f (Some y)) (same_e : e' ≡ e) (same_x : y ≡ x) where
   as_it_was : store_of bs' ws' ≡ store_in a
   as_it_was =
       let barriers = kept-unchanged a.barriers.entries bs' b e e' there puts same_e in

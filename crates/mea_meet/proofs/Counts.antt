@@ -9,7 +9,8 @@ use Rattle.mea_meet.proofs.Names.{waiting-wakers, given-drained}
 
 module _ (slots : Slots) (b o : ℕ) (c : counts.Count ℕ) (n : ℕ) where
   -- where its wakers are seen as these
-  pub decreased-seen : {ws : List (Whose × ℕ)} → waiting_at slots b o c.waiting ≡ ws → count_seen slots b o (counts.decreased c n) ≡ model.decreased (record { number = c.number; waiting = ws }) n
+  pub decreased-seen : {ws : List (Whose × ℕ)} → waiting_at slots b o c.waiting ≡ ws
+      → count_seen slots b o (counts.decreased c n) ≡ model.decreased (record { number = c.number; waiting = ws }) n
   decreased-seen {ws} same = λ j. record { number = c.number - n; waiting = by_test (counts.ends c n) j }
     where
       by_test : (t : Bool) → waiting_at slots b o (if t then drained c.waiting else c.waiting) ≡ (if t then [] else ws)

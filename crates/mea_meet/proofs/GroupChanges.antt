@@ -26,13 +26,15 @@ use Rattle.mea_meet.proofs.Slots.{apart_belongs, waiting_beside, given_by}
 abbrev pub slot_entry : GroupWaitEntry → ℕ × Option Place
 slot_entry x = (x.group, x.wait)
 
-pub home_given : (st : Store) (n f g : ℕ) (x : GroupWaitEntry) (e : GroupEntry) → IsKept st n → get st.waits f ≡ Some x → x.group ≡ g → get st.groups g ≡ Some e → has_given e.core.count.waiting x.wait ≡ true
+pub home_given : (st : Store) (n f g : ℕ) (x : GroupWaitEntry) (e : GroupEntry) → IsKept st n → get st.waits f ≡ Some x → x.group ≡ g
+    → get st.groups g ≡ Some e → has_given e.core.count.waiting x.wait ≡ true
 home_given st n f g x e k is mine there =
     let h = k.home f x is in
     subst (λ (d : GroupEntry). has_given d.core.count.waiting x.wait ≡ true) (one_entry st.groups x.group g h.entry e h.there mine there) h.given
 
 pub are_given : (st : Store) (n g : ℕ) (e : GroupEntry) → IsKept st n → get st.groups g ≡ Some e → AreGiven (slots_of st.waits) g e.core.count.waiting
-are_given st n g e k there = given_by (λ (x : GroupWaitEntry). x.group) (λ x. x.wait) st.waits g e.core.count.waiting (λ f x is mine. home_given st n f g x e k is mine there)
+are_given st n g e k there = given_by (λ (x : GroupWaitEntry). x.group) (λ x. x.wait) st.waits g e.core.count.waiting
+    (λ f x is mine. home_given st n f g x e k is mine there)
 
 -- ---- how many handles and futures a group has
 abbrev pub of_group : ℕ → ℕ → ℕ → ℕ
@@ -111,11 +113,14 @@ pub waits_seen : (st : Store) (n g : ℕ) → waits_of (groups_of st n) g ≡ to
 waits_seen st n g = total-named (λ f (y : GroupWaitEntry). y.group) (of_group g) st.waits
 
 -- how many wakers of a group are registered, as they are seen
-pub wakers_seen : (st : Store) (n g : ℕ) (q : Option GroupEntry) → get st.groups g ≡ q → weight (λ j (c : Count). length c.waiting) g (get (groups_of st n).groups g) ≡ wakers_in q
+pub wakers_seen : (st : Store) (n g : ℕ) (q : Option GroupEntry) → get st.groups g ≡ q
+    → weight (λ j (c : Count). length c.waiting) g (get (groups_of st n).groups g) ≡ wakers_in q
 wakers_seen st n g None none = ap (weight (λ j (c : Count). length c.waiting) g) (seen-none (count_of st.waits n) st.groups g none)
-wakers_seen st n g (Some e) there = ap (weight (λ j (c : Count). length c.waiting) g) (seen-some (count_of st.waits n) st.groups g e there) ∙ waiting-length (slots_of st.waits) n g e.core.count.waiting
+wakers_seen st n g (Some e) there = ap (weight (λ j (c : Count). length c.waiting) g) (seen-some (count_of st.waits n) st.groups g e there)
+    ∙ waiting-length (slots_of st.waits) n g e.core.count.waiting
 
-module _ (st st' : Store) (n n' g k f : ℕ) (q : Option GroupEntry) (d : GroupEntry) (p p' : Option ℕ) (o o' : Option GroupWaitEntry) (kept : IsKept st n) (c : Changes st st' n n' g k f q d p p' o o') where
+module _ (st st' : Store) (n n' g k f : ℕ) (q : Option GroupEntry) (d : GroupEntry) (p p' : Option ℕ) (o o' : Option GroupWaitEntry)
+    (kept : IsKept st n) (c : Changes st st' n n' g k f q d p p' o o') where
   group_other : (j : ℕ) → (g ≡ j → ⊥) → get st'.groups j ≡ get st.groups j
   group_other = put_other st.groups st'.groups g (left d) c.groups
 
@@ -158,7 +163,8 @@ module _ (st st' : Store) (n n' g k f : ℕ) (q : Option GroupEntry) (d : GroupE
     quiet = c.quiet;
     handles_counted = handles_now;
     waits_counted = waits_now;
-    few_waits = (let before = few_before st n g kept q c.was in let counts = c.waits_counted in let most = one-least o' in let later = c.rises in omega (arith, before, counts, most, later));
+    few_waits = (let before = few_before st n g kept q c.was in let counts = c.waits_counted in let most = one-least o' in let later = c.rises in
+        omega (arith, before, counts, most, later));
     below = c.below;
   }
 
@@ -226,12 +232,15 @@ module _ (st st' : Store) (n n' g k f : ℕ) (q : Option GroupEntry) (d : GroupE
   seen_groups = named (count_of st'.waits n') (entries st'.groups)
 
   groups_put : left d ≡ Some d → seen_groups ≡ insert h.groups g (count_of st'.waits n' g d)
-  groups_put stays = seen_put (count_of st.waits n) (count_of st'.waits n') st.groups st'.groups g d (λ j. c.groups j ∙ ap (λ u. cond (g == j) u (get st.groups j)) stays) count_alike
+  groups_put stays = seen_put (count_of st.waits n) (count_of st'.waits n') st.groups st'.groups g d
+      (λ j. c.groups j ∙ ap (λ u. cond (g == j) u (get st.groups j)) stays) count_alike
 
   groups_gone : left d ≡ None → seen_groups ≡ remove h.groups g
-  groups_gone goes = seen_gone (count_of st.waits n) (count_of st'.waits n') st.groups st'.groups g (λ j. c.groups j ∙ ap (λ u. cond (g == j) u (get st.groups j)) goes) count_alike
+  groups_gone goes = seen_gone (count_of st.waits n) (count_of st'.waits n') st.groups st'.groups g
+      (λ j. c.groups j ∙ ap (λ u. cond (g == j) u (get st.groups j)) goes) count_alike
 
-  module _ (r : Count) (hs ws : FinMap nat_cmp ℕ) (seen : count_of st'.waits n' g d ≡ r) (handles : st'.handles ≡ hs) (waits : (groups_of st' n').waits ≡ ws) where
+  module _ (r : Count) (hs ws : FinMap nat_cmp ℕ) (seen : count_of st'.waits n' g d ≡ r) (handles : st'.handles ≡ hs)
+      (waits : (groups_of st' n').waits ≡ ws) where
     abbrev hall : Groups
     hall = record { groups = insert h.groups g r; handles = hs; waits = ws }
 
@@ -239,7 +248,8 @@ module _ (st st' : Store) (n n' g k f : ℕ) (q : Option GroupEntry) (d : GroupE
     pub hall_used : 0 < d.core.count.number + d.waits → groups_of st' n' ≡ hall
     hall_used some =
         let put = groups_put (used_left d some) in
-        (λ i. record { groups = put i; handles = handles i; waits = waits i }) ∙ ap (λ u. record { groups = insert h.groups g u; handles = hs; waits = ws }) seen
+        (λ i. record { groups = put i; handles = handles i; waits = waits i })
+        ∙ ap (λ u. record { groups = insert h.groups g u; handles = hs; waits = ws }) seen
 
     tested : nat_lt 0 (handles_of hall g + waits_of hall g) ≡ is_used d
     tested =
@@ -252,11 +262,13 @@ module _ (st st' : Store) (n n' g k f : ℕ) (q : Option GroupEntry) (d : GroupE
     hall_tidied = elim (cases_Bool (is_used d)) [
       | inl used ↦
           (let put = groups_put (ap (λ t. if t then Some d else None) used) in
-          (λ i. record { groups = put i; handles = handles i; waits = waits i }) ∙ ap (λ u. record { groups = insert h.groups g u; handles = hs; waits = ws }) seen
+          (λ i. record { groups = put i; handles = handles i; waits = waits i })
+          ∙ ap (λ u. record { groups = insert h.groups g u; handles = hs; waits = ws }) seen
           ∙ sym (ap (λ t. if t then hall else record hall { groups = remove hall.groups g }) (tested ∙ used)))
       | inr unused ↦
           (let gone = groups_gone (ap (λ t. if t then Some d else None) unused) in
-          (λ i. record { groups = gone i; handles = handles i; waits = waits i }) ∙ ap (λ u. record { groups = u; handles = hs; waits = ws }) (sym (remove-insert h.groups g r))
+          (λ i. record { groups = gone i; handles = handles i; waits = waits i })
+          ∙ ap (λ u. record { groups = u; handles = hs; waits = ws }) (sym (remove-insert h.groups g r))
           ∙ sym (ap (λ t. if t then hall else record hall { groups = remove hall.groups g }) (tested ∙ unused)))
     ]
 
@@ -265,13 +277,16 @@ module _ (st st' : Store) (n n' g k f : ℕ) (q : Option GroupEntry) (d : GroupE
   registered_after = elim (cases_Bool (is_used d)) [
     | inl used ↦
         (let sums = total-insert (λ j (r : Count). length r.waiting) h.groups g (count_of st'.waits n' g d) in
-        let is : length (waiting_at (slots_of st'.waits) n' g d.core.count.waiting) ≡ length d.core.count.waiting.wakers = waiting-length (slots_of st'.waits) n' g d.core.count.waiting in
-        let now : registered (groups_of st' n') ≡ total (λ j (r : Count). length r.waiting) (insert h.groups g (count_of st'.waits n' g d)) = ap (total (λ j (r : Count). length r.waiting)) (groups_put (ap (λ t. if t then Some d else None) used)) in
+        let is : length (waiting_at (slots_of st'.waits) n' g d.core.count.waiting) ≡ length d.core.count.waiting.wakers =
+        waiting-length (slots_of st'.waits) n' g d.core.count.waiting in
+        let now : registered (groups_of st' n') ≡ total (λ j (r : Count). length r.waiting) (insert h.groups g (count_of st'.waits n' g d)) =
+        ap (total (λ j (r : Count). length r.waiting)) (groups_put (ap (λ t. if t then Some d else None) used)) in
         let stays : wakers_left d ≡ length d.core.count.waiting.wakers = ap (λ t. if t then length d.core.count.waiting.wakers else 0) used in
         omega (arith, sums, wakers_seen st n g q c.was, is, now, stays))
     | inr unused ↦
         (let sums = total-remove (λ j (r : Count). length r.waiting) h.groups g in
-        let now : registered (groups_of st' n') ≡ total (λ j (r : Count). length r.waiting) (remove h.groups g) = ap (total (λ j (r : Count). length r.waiting)) (groups_gone (ap (λ t. if t then Some d else None) unused)) in
+        let now : registered (groups_of st' n') ≡ total (λ j (r : Count). length r.waiting) (remove h.groups g) =
+        ap (total (λ j (r : Count). length r.waiting)) (groups_gone (ap (λ t. if t then Some d else None) unused)) in
         let goes : wakers_left d ≡ 0 = ap (λ t. if t then length d.core.count.waiting.wakers else 0) unused in
         omega (arith, sums, wakers_seen st n g q c.was, now, goes))
   ]
@@ -283,11 +298,14 @@ group_seen st n g e there = ap (λ o. unwrap_or o (count_from 0)) (seen-some (co
 -- its wakers are registered in the hall
 pub wakers_within : (st : Store) (n g : ℕ) (e : GroupEntry) → get st.groups g ≡ Some e → length e.core.count.waiting.wakers ≤ registered (groups_of st n)
 wakers_within st n g e there =
-    let mine : length (waiting_at (slots_of st.waits) n g e.core.count.waiting) ≤ registered (groups_of st n) = weight-within (λ j (r : Count). length r.waiting) (groups_of st n).groups g (count_of st.waits n g e) (seen-some (count_of st.waits n) st.groups g e there) in
+    let mine : length (waiting_at (slots_of st.waits) n g e.core.count.waiting) ≤ registered (groups_of st n) =
+    weight-within (λ j (r : Count). length r.waiting) (groups_of st n).groups g (count_of st.waits n g e)
+    (seen-some (count_of st.waits n) st.groups g e there) in
     omega (arith, mine, waiting-length (slots_of st.waits) n g e.core.count.waiting)
 
 -- a future counts at its group
-pub waits_within : (st : Store) (n f g : ℕ) (x : GroupWaitEntry) (e : GroupEntry) → IsKept st n → get st.waits f ≡ Some x → x.group ≡ g → get st.groups g ≡ Some e → 1 ≤ e.waits
+pub waits_within : (st : Store) (n f g : ℕ) (x : GroupWaitEntry) (e : GroupEntry) → IsKept st n → get st.waits f ≡ Some x → x.group ≡ g
+    → get st.groups g ≡ Some e → 1 ≤ e.waits
 waits_within st n f g x e k is mine there =
     let one : at_group g f x ≡ 1 = at_same x.group g 1 0 mine in
     let all : at_group g f x ≤ total (at_group g) st.waits = weight-within (at_group g) st.waits f x is in

@@ -54,7 +54,8 @@ module _ (a : Inside) (v : Part Groups) (seen : seen_in a ≡ v) where
   -- a look-up among the entries answers as one in the hall
   pub group-known : (g : ℕ) → is_some (get v.hall.groups g) ≡ is_some (at a.groups.entries g)
   group-known g = subst (λ (p : Part Groups). is_some (get p.hall.groups g) ≡ is_some (at a.groups.entries g)) seen (
-      ap is_some (get-seen (count_of (store_in a).waits a.next) (store_in a).groups g ∙ ap (option_map (count_of (store_in a).waits a.next g)) (kept-at a.groups.entries g))
+      ap is_some (get-seen (count_of (store_in a).waits a.next) (store_in a).groups g
+      ∙ ap (option_map (count_of (store_in a).waits a.next g)) (kept-at a.groups.entries g))
       ∙ is_some-map (count_of (store_in a).waits a.next g) (at a.groups.entries g))
 
   pub handle-known : (k : ℕ) → get v.hall.handles k ≡ at a.handles.entries k
@@ -62,22 +63,26 @@ module _ (a : Inside) (v : Part Groups) (seen : seen_in a ≡ v) where
 
   pub wait-known : (f : ℕ) → is_some (get v.hall.waits f) ≡ is_some (at a.waits.entries f)
   wait-known f = subst (λ (p : Part Groups). is_some (get p.hall.waits f) ≡ is_some (at a.waits.entries f)) seen (
-      ap is_some (get-seen (λ g (x : GroupWaitEntry). x.group) (store_in a).waits f ∙ ap (option_map (λ (x : GroupWaitEntry). x.group)) (kept-at a.waits.entries f))
+      ap is_some (get-seen (λ g (x : GroupWaitEntry). x.group) (store_in a).waits f
+      ∙ ap (option_map (λ (x : GroupWaitEntry). x.group)) (kept-at a.waits.entries f))
       ∙ is_some-map (λ (x : GroupWaitEntry). x.group) (at a.waits.entries f))
 
   pub handle_found : (k : ℕ) → IsSome (get v.hall.handles k) → at a.handles.entries k ≡ None → ⊥
   handle_found k there none = not_none (get v.hall.handles k) there (handle-known k ∙ none)
 
   pub wait_found : (f : ℕ) → IsSome (get v.hall.waits f) → at a.waits.entries f ≡ None → ⊥
-  wait_found f there none = not_none (get (seen_in a).hall.waits f) (subst (λ (p : Part Groups). IsSome (get p.hall.waits f)) (sym seen) there) (seen-none (λ g (x : GroupWaitEntry). x.group) (store_in a).waits f (kept-at a.waits.entries f ∙ none))
+  wait_found f there none = not_none (get (seen_in a).hall.waits f) (subst (λ (p : Part Groups). IsSome (get p.hall.waits f)) (sym seen) there)
+      (seen-none (λ g (x : GroupWaitEntry). x.group) (store_in a).waits f (kept-at a.waits.entries f ∙ none))
 
   module _ (k : IsKeptIn a) where
     -- the group of a handle is there, and that of a future
     pub group_of_handle : (m g : ℕ) → at a.handles.entries m ≡ Some g → at a.groups.entries g ≡ None → ⊥
-    group_of_handle m g is none = let own = k.owned m g (kept-at a.handles.entries m ∙ is) in absurd (let there : None ≡ Some own.entry = sym (kept-at a.groups.entries g ∙ none) ∙ own.there in cc)
+    group_of_handle m g is none = let own = k.owned m g (kept-at a.handles.entries m ∙ is) in
+        absurd (let there : None ≡ Some own.entry = sym (kept-at a.groups.entries g ∙ none) ∙ own.there in cc)
 
     pub group_of_wait : (f : ℕ) (x : GroupWaitEntry) → at a.waits.entries f ≡ Some x → at a.groups.entries x.group ≡ None → ⊥
-    group_of_wait f x is none = let home = k.home f x (kept-at a.waits.entries f ∙ is) in absurd (let there : None ≡ Some home.entry = sym (kept-at a.groups.entries x.group ∙ none) ∙ home.there in cc)
+    group_of_wait f x is none = let home = k.home f x (kept-at a.waits.entries f ∙ is) in
+        absurd (let there : None ≡ Some home.entry = sym (kept-at a.groups.entries x.group ∙ none) ∙ home.there in cc)
 
     module _ (g : ℕ) (e : GroupEntry) (is : at a.groups.entries g ≡ Some e) where
       there : get (store_in a).groups g ≡ Some e
@@ -110,8 +115,10 @@ module _ (a : Inside) (v : Part Groups) (seen : seen_in a ≡ v) where
       }
 
 -- ---- a future and its group are written as they were
-module _ (a : Inside) (v : Part Groups) (seen : seen_in a ≡ v) (f g : ℕ) (x y : GroupWaitEntry) (e e' : GroupEntry) (is : at a.waits.entries f ≡ Some x) (there : at a.groups.entries g ≡ Some e)
-    (gs' : List (ℕ × GroupEntry)) (ws' : List (ℕ × GroupWaitEntry)) (puts : ChangesAt a.groups.entries gs' g (Some e')) (writes : ChangesAt a.waits.entries ws' f (Some y)) (same_e : e' ≡ e) (same_x : y ≡ x) where
+module _ (a : Inside) (v : Part Groups) (seen : seen_in a ≡ v) (f g : ℕ) (x y : GroupWaitEntry) (e e' : GroupEntry)
+    (is : at a.waits.entries f ≡ Some x) (there : at a.groups.entries g ≡ Some e)
+    (gs' : List (ℕ × GroupEntry)) (ws' : List (ℕ × GroupWaitEntry)) (puts : ChangesAt a.groups.entries gs' g (Some e'))
+    (writes : ChangesAt a.waits.entries ws' f (Some y)) (same_e : e' ≡ e) (same_x : y ≡ x) where
   as_it_was : store_of gs' a.handles.entries ws' ≡ store_in a
   as_it_was =
       let groups = kept-unchanged a.groups.entries gs' g e e' there puts same_e in

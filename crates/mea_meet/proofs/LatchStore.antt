@@ -53,7 +53,14 @@ module _ (st : Store) (b b' : ℕ) (k : IsKept st b) (rises : b ≤ b') where
   pub later_kept : b' ≤ 2 ^ 64 → IsKept st b'
   later_kept low = record {
     each = λ l e is. (let old = k.each l e is in let few = old.few in let few_plain = old.few_plain in let below = old.below in
-        record { quiet = old.quiet; waits = old.waits; plain = old.plain; few = omega (arith, few, rises); few_plain = omega (arith, few_plain, rises); below = omega (arith, below, rises) });
+        record {
+          quiet = old.quiet;
+          waits = old.waits;
+          plain = old.plain;
+          few = omega (arith, few, rises);
+          few_plain = omega (arith, few_plain, rises);
+          below = omega (arith, below, rises);
+        });
     home = k.home;
     named = named-later (slots_of st.waits) b b' k.named rises;
     low = low;
@@ -61,7 +68,14 @@ module _ (st : Store) (b b' : ℕ) (k : IsKept st b) (rises : b ≤ b') where
 
   pub later_seen : latches_of st b' ≡ latches_of st b
   later_seen =
-      let same = seen_alike (latch_of st.waits b) (latch_of st.waits b') st.latches (λ q e is. λ j. record { count = record { number = e.core.count.number; waiting = waiting_later (slots_of st.waits) b b' q e.core.count.waiting k.named rises j }; named = e.named }) in
+      let same = seen_alike (latch_of st.waits b) (latch_of st.waits b') st.latches
+      (λ q e is. λ j. record {
+        count = record {
+          number = e.core.count.number;
+          waiting = waiting_later (slots_of st.waits) b b' q e.core.count.waiting k.named rises j;
+        };
+        named = e.named;
+      }) in
       λ j. record { latches = same j; waits = (latches_of st b).waits }
 
 -- ---- a latch l becomes this, or is gone; futures of others stay as they are
@@ -72,7 +86,8 @@ pub record Changes (st st' : Store) (b l : ℕ) (e' : Option LatchEntry) : Type 
   pub waits : (q : ℕ) → (l ≡ q → ⊥) → waits_in st'.waits q ≡ waits_in st.waits q
   pub plain : (q : ℕ) → (l ≡ q → ⊥) → plain_in st'.waits q ≡ plain_in st.waits q
   pub others : (f : ℕ) (x : LatchWaitEntry) → (l ≡ x.latch → ⊥) → get st'.waits f ≡ Some x → get st.waits f ≡ Some x
-  pub mine : (f : ℕ) (x : LatchWaitEntry) → l ≡ x.latch → get st'.waits f ≡ Some x → (e : LatchEntry) × (e' ≡ Some e) × (has_given e.core.count.waiting x.wait ≡ true)
+  pub mine : (f : ℕ) (x : LatchWaitEntry) → l ≡ x.latch → get st'.waits f ≡ Some x
+      → (e : LatchEntry) × (e' ≡ Some e) × (has_given e.core.count.waiting x.wait ≡ true)
   pub kept : (e : LatchEntry) → e' ≡ Some e → IsKeptEntry st' b l e
 
 module _ (st st' : Store) (b l : ℕ) (e' : Option LatchEntry) (k : IsKept st b) (c : Changes st st' b l e') where
@@ -80,12 +95,21 @@ module _ (st st' : Store) (b l : ℕ) (e' : Option LatchEntry) (k : IsKept st b)
   each_after q e is = by_name l q
       (λ same. subst (λ p. IsKeptEntry st' b p e) same (c.kept e (sym (put_there st.latches st'.latches l e' c.latches q same) ∙ is)))
       (λ apart. let old = k.each q e (sym (put_other st.latches st'.latches l e' c.latches q apart) ∙ is) in
-      record { quiet = old.quiet; waits = old.waits ∙ sym (c.waits q apart); plain = old.plain ∙ sym (c.plain q apart); few = old.few; few_plain = old.few_plain; below = old.below })
+      record {
+        quiet = old.quiet;
+        waits = old.waits ∙ sym (c.waits q apart);
+        plain = old.plain
+            ∙ sym (c.plain q apart);
+        few = old.few;
+        few_plain = old.few_plain;
+        below = old.below;
+      })
 
   home_after : (f : ℕ) (x : LatchWaitEntry) → get st'.waits f ≡ Some x → IsHome st' x
   home_after f x is = by_name l x.latch
       (λ same. let m = c.mine f x same is in record { entry = m.0; there = put_there st.latches st'.latches l e' c.latches x.latch same ∙ m.1; given = m.2 })
-      (λ apart. let old = k.home f x (c.others f x apart is) in record { entry = old.entry; there = put_other st.latches st'.latches l e' c.latches x.latch apart ∙ old.there; given = old.given })
+      (λ apart. let old = k.home f x (c.others f x apart is) in
+      record { entry = old.entry; there = put_other st.latches st'.latches l e' c.latches x.latch apart ∙ old.there; given = old.given })
 
   pub kept_after : IsKept st' b
   kept_after = record { each = each_after; home = home_after; named = c.named; low = k.low }
@@ -95,7 +119,8 @@ module _ (st st' : Store) (b l : ℕ) (e' : Option LatchEntry) (k : IsKept st b)
       (λ q e apart there. λ j. record { count = record { number = e.core.count.number; waiting = c.waiting q e.core.count.waiting apart j }; named = e.named })
 
   -- how many wakers are registered
-  pub registered_after : registered (latches_of st' b) + weight (λ q (e : LatchEntry). length e.core.count.waiting.wakers) l (get st.latches l) ≡ registered (latches_of st b) + weight (λ q (e : LatchEntry). length e.core.count.waiting.wakers) l e'
+  pub registered_after : registered (latches_of st' b) + weight (λ q (e : LatchEntry). length e.core.count.waiting.wakers) l
+      (get st.latches l) ≡ registered (latches_of st b) + weight (λ q (e : LatchEntry). length e.core.count.waiting.wakers) l e'
   registered_after =
       let after = registered_seen st' b in
       let before = registered_seen st b in
@@ -115,11 +140,14 @@ module _ (ws ws' : Kept) (f : ℕ) (o o' : Option LatchWaitEntry) (was : get ws 
   slot_now = slots_there (option_map slot_of) ws ws' f o' now
 
 -- the futures as they are seen after it
-pub waits_after : (st : Store) (ls' : FinMap nat_cmp LatchEntry) (ws' : Kept) (b f : ℕ) (o' : Option LatchWaitEntry) → Puts st.waits ws' f o' → Puts (latches_of st b).waits (latches_of (record { latches = ls'; waits = ws' }) b).waits f (option_map wait_of o')
+pub waits_after : (st : Store) (ls' : FinMap nat_cmp LatchEntry) (ws' : Kept) (b f : ℕ) (o' : Option LatchWaitEntry) → Puts st.waits ws' f o'
+    → Puts (latches_of st b).waits (latches_of (record { latches = ls'; waits = ws' }) b).waits f (option_map wait_of o')
 waits_after st ls' ws' b f o' now = puts_seen wait_of st.waits ws' f o' now
 
 -- the same, of the latch l
-module _ (ws ws' : Kept) (b l f : ℕ) (o o' : Option LatchWaitEntry) (named : AreNamed (slots_of ws) b) (named' : AreNamed (slots_of ws') b) (was : get ws f ≡ o) (now : Puts ws ws' f o') (mine : (x : LatchWaitEntry) → o ≡ Some x → x.latch ≡ l) (mine' : (x : LatchWaitEntry) → o' ≡ Some x → x.latch ≡ l) where
+module _ (ws ws' : Kept) (b l f : ℕ) (o o' : Option LatchWaitEntry) (named : AreNamed (slots_of ws) b) (named' : AreNamed (slots_of ws') b)
+    (was : get ws f ≡ o) (now : Puts ws ws' f o') (mine : (x : LatchWaitEntry) → o ≡ Some x → x.latch ≡ l)
+    (mine' : (x : LatchWaitEntry) → o' ≡ Some x → x.latch ≡ l) where
   was_mine : Belongs {X = LatchWaitEntry} (λ x. x.latch) l (get ws f)
   was_mine x is = mine x (sym was ∙ is)
 
@@ -159,16 +187,19 @@ module _ (ws ws' : Kept) (b l f : ℕ) (o o' : Option LatchWaitEntry) (named : A
   pub plain_mine : plain_in ws' l + plain_of o ≡ plain_in ws l + plain_of o'
   plain_mine =
       let sums = total_puts ws ws' f (λ g (x : LatchWaitEntry). cond (x.latch == l && x.plain) 1 0) o' now in
-      let old : weight (λ g (x : LatchWaitEntry). cond (x.latch == l && x.plain) 1 0) f (get ws f) ≡ plain_of o = ap (weight (λ g (x : LatchWaitEntry). cond (x.latch == l && x.plain) 1 0) f) was ∙ weighs o mine in
+      let old : weight (λ g (x : LatchWaitEntry). cond (x.latch == l && x.plain) 1 0) f (get ws f) ≡ plain_of o =
+      ap (weight (λ g (x : LatchWaitEntry). cond (x.latch == l && x.plain) 1 0) f) was ∙ weighs o mine in
       let new : weight (λ g (x : LatchWaitEntry). cond (x.latch == l && x.plain) 1 0) f o' ≡ plain_of o' = weighs o' mine' in
       omega (arith, sums, old, new)
     where
-      weighs : (p : Option LatchWaitEntry) → ((x : LatchWaitEntry) → p ≡ Some x → x.latch ≡ l) → weight (λ g (x : LatchWaitEntry). cond (x.latch == l && x.plain) 1 0) f p ≡ plain_of p
+      weighs : (p : Option LatchWaitEntry) → ((x : LatchWaitEntry) → p ≡ Some x → x.latch ≡ l)
+          → weight (λ g (x : LatchWaitEntry). cond (x.latch == l && x.plain) 1 0) f p ≡ plain_of p
       weighs None own = refl
       weighs (Some x) own = ap (λ t. cond (t && x.plain) 1 0) (eq-eqb x.latch l (own x refl))
 
 -- the numbers that the futures of l have
-pub given_to : (st : Store) (b l : ℕ) (e : LatchEntry) → IsKept st b → get st.latches l ≡ Some e → (f : ℕ) (x : LatchWaitEntry) → get st.waits f ≡ Some x → x.latch ≡ l → has_given e.core.count.waiting x.wait ≡ true
+pub given_to : (st : Store) (b l : ℕ) (e : LatchEntry) → IsKept st b → get st.latches l ≡ Some e → (f : ℕ) (x : LatchWaitEntry)
+    → get st.waits f ≡ Some x → x.latch ≡ l → has_given e.core.count.waiting x.wait ≡ true
 given_to st b l e k there f x is own =
     let home = k.home f x is in
     subst (λ (d : LatchEntry). has_given d.core.count.waiting x.wait ≡ true) (one_entry st.latches x.latch l home.entry e home.there own there) home.given

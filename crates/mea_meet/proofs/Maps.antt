@@ -58,7 +58,8 @@ pub kept-puts : {X : Type 0} (old new : List (ℕ × X)) (k : ℕ) (o : Option X
 kept-puts old new k o h q = kept-changed old new k o h q
 
 -- the same where what was put is this
-pub kept-puts-as : {X : Type 0} (old new : List (ℕ × X)) (k : ℕ) (v w : X) → ChangesAt old new k (Some v) → v ≡ w → Puts (named (λ k x. x) old) (named (λ k x. x) new) k (Some w)
+pub kept-puts-as : {X : Type 0} (old new : List (ℕ × X)) (k : ℕ) (v w : X) → ChangesAt old new k (Some v) → v ≡ w
+    → Puts (named (λ k x. x) old) (named (λ k x. x) new) k (Some w)
 kept-puts-as old new k v w h is q = kept-puts old new k (Some v) h q ∙ ap (λ x. cond (k == q) (Some x) (get (named (λ k x. x) old) q)) is
 
 -- what is written last at a name stays
@@ -112,7 +113,8 @@ pub insert_same : {X : Type 0} (m : FinMap nat_cmp X) (k : ℕ) (v : X) → get 
 insert_same m k v is = is_same m (insert m k v) k (Some v) is (λ q. get_inserted m k q v)
 
 -- a value is written that is what stood there
-pub kept-unchanged : {X : Type 0} (old new : List (ℕ × X)) (k : ℕ) (v w : X) → at old k ≡ Some v → ChangesAt old new k (Some w) → w ≡ v → named (λ k x. x) new ≡ named (λ k x. x) old
+pub kept-unchanged : {X : Type 0} (old new : List (ℕ × X)) (k : ℕ) (v w : X) → at old k ≡ Some v → ChangesAt old new k (Some w) → w ≡ v
+    → named (λ k x. x) new ≡ named (λ k x. x) old
 kept-unchanged old new k v w is h same = is_same _ _ k (Some v) (found old k v is) (kept-puts-as old new k w v h same)
 
 -- what is put last at a name stays
@@ -128,10 +130,12 @@ pub put_undone : {X : Type 0} (m n p : FinMap nat_cmp X) (k : ℕ) (v : X) → g
 put_undone m n p k v none puts gone = is_same m p k None none (puts_twice m n p k (Some v) None puts gone)
 
 pub remove-insert : {X : Type 0} (m : FinMap nat_cmp X) (k : ℕ) (v : X) → remove (insert m k v) k ≡ remove m k
-remove-insert m k v = is_remove m (remove (insert m k v) k) k (puts_twice m (insert m k v) (remove (insert m k v) k) k (Some v) None (λ q. get_inserted m k q v) (λ q. get_removed (insert m k v) k q))
+remove-insert m k v = is_remove m (remove (insert m k v) k) k
+    (puts_twice m (insert m k v) (remove (insert m k v) k) k (Some v) None (λ q. get_inserted m k q v) (λ q. get_removed (insert m k v) k q))
 
 -- what holds of what is put and of all that stays holds of all that is there
-pub by_put : {X : Type 0} (m n : FinMap nat_cmp X) (k : ℕ) (o : Option X) → Puts m n k o → (P : ℕ → X → Type 0) → ((x : X) → o ≡ Some x → P k x) → ((q : ℕ) (x : X) → (k ≡ q → ⊥) → get m q ≡ Some x → P q x) → (q : ℕ) (x : X) → get n q ≡ Some x → P q x
+pub by_put : {X : Type 0} (m n : FinMap nat_cmp X) (k : ℕ) (o : Option X) → Puts m n k o → (P : ℕ → X → Type 0) → ((x : X) → o ≡ Some x → P k x)
+    → ((q : ℕ) (x : X) → (k ≡ q → ⊥) → get m q ≡ Some x → P q x) → (q : ℕ) (x : X) → get n q ≡ Some x → P q x
 by_put m n k o h P new old q x is = by_name k q
     (λ same. subst (λ r. P r x) same (new x (sym (put_there m n k o h q same) ∙ is)))
     (λ apart. old q x apart (sym (put_other m n k o h q apart) ∙ is))
@@ -174,7 +178,8 @@ module _ {X : Type 0} (g : X → ℕ) where
   weighs_elsewhere v s q k (Some x) mine apart = at_apart (g x) q (v x) 0 (λ same. apart (sym (mine x refl) ∙ same))
 
   -- what changes in s changes no sum elsewhere
-  pub total_elsewhere : (v : X → ℕ) (m n : FinMap nat_cmp X) (k : ℕ) (o : Option X) (s q : ℕ) → Puts m n k o → Belongs g s (get m k) → Belongs g s o → (s ≡ q → ⊥)
+  pub total_elsewhere : (v : X → ℕ) (m n : FinMap nat_cmp X) (k : ℕ) (o : Option X) (s q : ℕ) → Puts m n k o → Belongs g s (get m k) → Belongs g s o
+      → (s ≡ q → ⊥)
       → total (λ k x. cond (g x == q) (v x) 0) n ≡ total (λ k x. cond (g x == q) (v x) 0) m
   total_elsewhere v m n k o s q puts was is apart =
       let all = total_puts m n k (λ k (x : X). cond (g x == q) (v x) 0) o puts in
@@ -201,7 +206,8 @@ total-named {X} {Y} g w m = total-alike w (λ k x. w k (g k x)) (named g (entrie
     seen (Some x) k = refl
 
 -- maps whose things are seen alike
-pub seen_alike : {X Y : Type 0} (f g : ℕ → X → Y) (m : FinMap nat_cmp X) → ((q : ℕ) (x : X) → get m q ≡ Some x → g q x ≡ f q x) → named g (entries m) ≡ named f (entries m)
+pub seen_alike : {X Y : Type 0} (f g : ℕ → X → Y) (m : FinMap nat_cmp X) → ((q : ℕ) (x : X) → get m q ≡ Some x → g q x ≡ f q x)
+    → named g (entries m) ≡ named f (entries m)
 seen_alike {X} f g m alike = same_named _ _ (λ q. get-seen g m q ∙ by_value q (get m q) refl ∙ sym (get-seen f m q))
   where
     by_value : (q : ℕ) (o : Option X) → get m q ≡ o → option_map (g q) o ≡ option_map (f q) o
@@ -214,7 +220,8 @@ module _ {X Y : Type 0} (f g : ℕ → X → Y) (m n : FinMap nat_cmp X) (k : �
   OthersAlike = (q : ℕ) (x : X) → (k ≡ q → ⊥) → get m q ≡ Some x → g q x ≡ f q x
 
   pub seen_puts : (o : Option X) → Puts m n k o → OthersAlike → Puts (named f (entries m)) (named g (entries n)) k (option_map (g k) o)
-  seen_puts o puts alike q = get-seen g n q ∙ ap (option_map (g q)) (puts q) ∙ at_each (k == q) refl (get m q) refl ∙ ap (cond (k == q) (option_map (g k) o)) (sym (get-seen f m q))
+  seen_puts o puts alike q = get-seen g n q ∙ ap (option_map (g q)) (puts q) ∙ at_each (k == q) refl (get m q) refl
+      ∙ ap (cond (k == q) (option_map (g k) o)) (sym (get-seen f m q))
     where
       at_each : (t : Bool) → (k == q) ≡ t → (p : Option X) → get m q ≡ p → option_map (g q) (cond t o p) ≡ cond t (option_map (g k) o) (option_map (f q) p)
       at_each true h p is = ap (λ j. option_map (g j) o) (sym (eqb-true k q h))
@@ -228,5 +235,6 @@ module _ {X Y : Type 0} (f g : ℕ → X → Y) (m n : FinMap nat_cmp X) (k : �
   seen_gone puts alike = is_remove _ _ k (seen_puts None puts alike)
 
 -- the same where all things are seen as before
-pub puts_seen : {X Y : Type 0} (g : X → Y) (m n : FinMap nat_cmp X) (k : ℕ) (o : Option X) → Puts m n k o → Puts (named (λ k x. g x) (entries m)) (named (λ k x. g x) (entries n)) k (option_map g o)
+pub puts_seen : {X Y : Type 0} (g : X → Y) (m n : FinMap nat_cmp X) (k : ℕ) (o : Option X) → Puts m n k o
+    → Puts (named (λ k x. g x) (entries m)) (named (λ k x. g x) (entries n)) k (option_map g o)
 puts_seen g m n k o h = seen_puts (λ k x. g x) (λ k x. g x) m n k o h (λ q x apart is. refl)

@@ -6,12 +6,14 @@ use Rattle.mea_base.specs.Ready.{Waking}
 use Rattle.mea_meet.specs.Play.{Part, Yields, Rests}
 
 -- event i had this outcome, which touches no waker: what is kept now, and what the contract says
-pub record RestedIn {H S : Type 0} (registered : H → ℕ) (IsKept : S → ℕ → Type 0) (hall_of : S → ℕ → H) (v : Part H) (i : ℕ) (o : Outcome H) (answer : Answer) (st : S) : Type 0 where
+pub record RestedIn {H S : Type 0} (registered : H → ℕ) (IsKept : S → ℕ → Type 0) (hall_of : S → ℕ → H) (v : Part H) (i : ℕ) (o : Outcome H)
+    (answer : Answer) (st : S) : Type 0 where
   pub kept : IsKept st (i + 1)
   pub rests : Rests registered v i o answer (record { hall = hall_of st (i + 1); next = i + 1 })
 
 -- the same of an outcome that may touch wakers
-pub record PlayedIn {H S : Type 0} (registered : H → ℕ) (IsKept : S → ℕ → Type 0) (hall_of : S → ℕ → H) (v : Part H) (i : ℕ) (o : Outcome H) (answer : Answer) (st : S) (before after : Waking ℕ) : Type 0 where
+pub record PlayedIn {H S : Type 0} (registered : H → ℕ) (IsKept : S → ℕ → Type 0) (hall_of : S → ℕ → H) (v : Part H) (i : ℕ) (o : Outcome H)
+    (answer : Answer) (st : S) (before after : Waking ℕ) : Type 0 where
   pub kept : IsKept st (i + 1)
   pub yields : Yields registered v i o answer (record { hall = hall_of st (i + 1); next = i + 1 }) before after
 
@@ -29,7 +31,8 @@ module _ {H : Type 0} (registered : H → ℕ) (old v : Part H) (i : ℕ) (seen 
       }))
 
   -- it may touch wakers
-  pub yields_by : (before after : Waking ℕ) → after.wakers ≡ before.wakers ++ o.wakes → after.registered + registered old.hall ≡ before.registered + registered now
+  pub yields_by : (before after : Waking ℕ) → after.wakers ≡ before.wakers ++ o.wakes
+      → after.registered + registered old.hall ≡ before.registered + registered now
       → Yields registered v i (out v.hall) answer (record { hall = now; next = i + 1 }) before after
   yields_by before after woken counted =
       subst (λ (p : Part H). Yields registered p i (out p.hall) answer (record { hall = now; next = i + 1 }) before after) seen

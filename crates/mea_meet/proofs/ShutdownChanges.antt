@@ -21,7 +21,8 @@ use Rattle.mea_meet.proofs.Maps.{Puts, Belongs, put_here, put_other, total_puts,
 use Rattle.mea_meet.proofs.Slots.{IsUnplaced, slots_there, slots_other, apart_unplaced, waiting_beside, given_beside}
 
 -- s becomes e2; a sender, a receiver or watch and a future of it are put, or are gone
-pub record Changes (st st' : Store) (s a b f : ℕ) (e2 : ShutdownEntry) (oa : Option ℕ) (ob : Option ReceiverEntry) (ow : Option ShutdownWaitEntry) : Type 0 where
+pub record Changes (st st' : Store) (s a b f : ℕ) (e2 : ShutdownEntry) (oa : Option ℕ) (ob : Option ReceiverEntry)
+    (ow : Option ShutdownWaitEntry) : Type 0 where
   pub shutdowns : Puts st.shutdowns st'.shutdowns s (Some e2)
   pub senders : Puts st.senders st'.senders a oa
   pub receivers : Puts st.receivers st'.receivers b ob
@@ -55,7 +56,9 @@ wakers_at e = length e.core.signal.waiting.wakers + length e.core.receivers.wait
 pub registered-seen : (st : Store) (n : ℕ) → registered (hall_of st n) ≡ total (λ s (e : ShutdownEntry). wakers_at e) st.shutdowns
 registered-seen st n =
     total-named (shutdown_of st.waits n) (λ s (r : Shutdown). length r.signal.waiting + length r.receivers.waiting) st.shutdowns
-    ∙ total-same _ _ st.shutdowns (λ s e is. (λ j. waiting-length (slots_of OfSignal st.waits) n s e.core.signal.waiting j + waiting-length (slots_of OfReceivers st.waits) n s e.core.receivers.waiting j))
+    ∙ total-same _ _ st.shutdowns (λ s e is.
+    (λ j. waiting-length (slots_of OfSignal st.waits) n s e.core.signal.waiting j + waiting-length (slots_of OfReceivers st.waits)
+    n s e.core.receivers.waiting j))
 
 -- those of one shutdown are among all that are registered
 pub wakers-within : (st : Store) (n s : ℕ) (e : ShutdownEntry) → get st.shutdowns s ≡ Some e → wakers_at e ≤ registered (hall_of st n)
@@ -64,7 +67,8 @@ wakers-within st n s e there =
     let all = registered-seen st n in
     omega (arith, part, all)
 
-module _ (st st' : Store) (next next' s a b f : ℕ) (e2 : ShutdownEntry) (oa : Option ℕ) (ob : Option ReceiverEntry) (ow : Option ShutdownWaitEntry) (k : IsKept st next) (c : Changes st st' s a b f e2 oa ob ow) (later : next ≤ next') where
+module _ (st st' : Store) (next next' s a b f : ℕ) (e2 : ShutdownEntry) (oa : Option ℕ) (ob : Option ReceiverEntry) (ow : Option ShutdownWaitEntry)
+    (k : IsKept st next) (c : Changes st st' s a b f e2 oa ob ow) (later : next ≤ next') where
   there_still : (q : ℕ) → IsSome (get st.shutdowns q) → IsSome (get st'.shutdowns q)
   there_still q there = ap is_some (c.shutdowns q) ∙ by_test (s == q)
     where
@@ -101,10 +105,13 @@ module _ (st st' : Store) (next next' s a b f : ℕ) (e2 : ShutdownEntry) (oa : 
   given_unplaced end set none = given_beside (slot_in end) st.waits st'.waits f ow c.waits s set (apart_unplaced s (slot_in end ow) none)
 
   module _ (named : (end : End) → AreNamed (slots_of end st'.waits) next') where
-    pub alike_unplaced : (end : End) (set : Registered ℕ) → Unplaced end (get st.waits f) → Unplaced end ow → waiting_at (slots_of end st'.waits) next' s set ≡ waiting_at (slots_of end st.waits) next s set
-    alike_unplaced end set was is = waiting_beside (slot_in end) st.waits st'.waits f ow c.waits next next' (k.named end) (named end) s set (apart_unplaced s (slot_in end (get st.waits f)) was) (apart_unplaced s (slot_in end ow) is)
+    pub alike_unplaced : (end : End) (set : Registered ℕ) → Unplaced end (get st.waits f) → Unplaced end ow
+        → waiting_at (slots_of end st'.waits) next' s set ≡ waiting_at (slots_of end st.waits) next s set
+    alike_unplaced end set was is = waiting_beside (slot_in end) st.waits st'.waits f ow c.waits next next' (k.named end) (named end) s set
+        (apart_unplaced s (slot_in end (get st.waits f)) was) (apart_unplaced s (slot_in end ow) is)
 
-    alike : (end : End) (q : ℕ) (set : Registered ℕ) → (s ≡ q → ⊥) → waiting_at (slots_of end st'.waits) next' q set ≡ waiting_at (slots_of end st.waits) next q set
+    alike : (end : End) (q : ℕ) (set : Registered ℕ) → (s ≡ q → ⊥)
+        → waiting_at (slots_of end st'.waits) next' q set ≡ waiting_at (slots_of end st.waits) next q set
     alike end q set apart = waiting_beside (slot_in end) st.waits st'.waits f ow c.waits next next' (k.named end) (named end) q set
         (λ place is. apart (sym (slot_home end (get st.waits f) s q (Some place) c.wait_was is)))
         (λ place is. apart (sym (slot_home end ow s q (Some place) c.wait_is is)))
@@ -117,9 +124,11 @@ module _ (st st' : Store) (next next' s a b f : ℕ) (e2 : ShutdownEntry) (oa : 
 
     -- ---- the shutdowns that are stood for
     pub shutdowns_after : Puts (hall_of st next).shutdowns (hall_of st' next').shutdowns s (Some (shutdown_of st'.waits next' s e2))
-    shutdowns_after = seen_puts (shutdown_of st.waits next) (shutdown_of st'.waits next') st.shutdowns st'.shutdowns s (Some e2) c.shutdowns (λ q e apart there. seen_other q e apart)
+    shutdowns_after = seen_puts (shutdown_of st.waits next) (shutdown_of st'.waits next') st.shutdowns st'.shutdowns s (Some e2) c.shutdowns
+        (λ q e apart there. seen_other q e apart)
 
-    pub registered_after : registered (hall_of st' next') + weight (λ q (e : ShutdownEntry). wakers_at e) s (get st.shutdowns s) ≡ registered (hall_of st next) + wakers_at e2
+    pub registered_after : registered (hall_of st' next') + weight (λ q (e : ShutdownEntry). wakers_at e) s (get st.shutdowns s) ≡ registered
+        (hall_of st next) + wakers_at e2
     registered_after =
         let all = total_puts st.shutdowns st'.shutdowns s (λ q (e : ShutdownEntry). wakers_at e) (Some e2) c.shutdowns in
         let before = registered-seen st next in
@@ -135,9 +144,11 @@ module _ (st st' : Store) (next next' s a b f : ℕ) (e2 : ShutdownEntry) (oa : 
       pub few : (x : ReceiverEntry) → ob ≡ Some x → x.plain ≤ next'
       pub receiver_below : (x : ReceiverEntry) → ob ≡ Some x → b < next'
       -- nothing but b is borrowed by more or fewer
-      pub lends : (q : ℕ) → (b ≡ q → ⊥) → weight (λ g (y : ShutdownWaitEntry). cond (borrows (awaits_of y.wait) q) 1 0) f (get st.waits f) ≡ weight (λ g (y : ShutdownWaitEntry). cond (borrows (awaits_of y.wait) q) 1 0) f ow
+      pub lends : (q : ℕ) → (b ≡ q → ⊥) → weight (λ g (y : ShutdownWaitEntry). cond (borrows (awaits_of y.wait) q) 1 0) f (get st.waits f) ≡ weight
+          (λ g (y : ShutdownWaitEntry). cond (borrows (awaits_of y.wait) q) 1 0) f ow
       -- b stays while it is borrowed
-      pub stays : (p g : ℕ) (y : ShutdownWaitEntry) → is_of (get st.receivers b) p ≡ true → get st'.waits g ≡ Some y → borrows (awaits_of y.wait) b ≡ true → is_of ob p ≡ true
+      pub stays : (p g : ℕ) (y : ShutdownWaitEntry) → is_of (get st.receivers b) p ≡ true → get st'.waits g ≡ Some y
+          → borrows (awaits_of y.wait) b ≡ true → is_of ob p ≡ true
       pub borrowed : (y : ShutdownWaitEntry) → ow ≡ Some y → (q : ℕ) → borrows (awaits_of y.wait) q ≡ true → is_of (get st'.receivers q) s ≡ true
       pub wait_below : (y : ShutdownWaitEntry) → ow ≡ Some y → f < next'
 
@@ -146,9 +157,11 @@ module _ (st st' : Store) (next next' s a b f : ℕ) (e2 : ShutdownEntry) (oa : 
       entry_other q e apart is =
           let old = k.each q e is in
           let senders = total_elsewhere (λ (p : ℕ). p) (λ p. 1) st.senders st'.senders a oa s q c.senders c.sender_was c.sender_is apart in
-          let receivers = total_elsewhere (λ (x : ReceiverEntry). x.shutdown) (λ x. 1) st.receivers st'.receivers b ob s q c.receivers c.receiver_was c.receiver_is apart in
+          let receivers = total_elsewhere (λ (x : ReceiverEntry). x.shutdown) (λ x. 1)
+          st.receivers st'.receivers b ob s q c.receivers c.receiver_was c.receiver_is apart in
           let futures = total_elsewhere (λ (x : ShutdownWaitEntry). x.shutdown) (λ x. 1) st.waits st'.waits f ow s q c.waits c.wait_was c.wait_is apart in
-          let counted = total_elsewhere (λ (x : ReceiverEntry). x.shutdown) (λ x. cond x.watch 0 1) st.receivers st'.receivers b ob s q c.receivers c.receiver_was c.receiver_is apart in
+          let counted = total_elsewhere (λ (x : ReceiverEntry). x.shutdown) (λ x. cond x.watch 0 1)
+          st.receivers st'.receivers b ob s q c.receivers c.receiver_was c.receiver_is apart in
           record {
             quiet = old.quiet;
             counted = old.counted ∙ sym counted;
@@ -171,7 +184,8 @@ module _ (st st' : Store) (next next' s a b f : ℕ) (e2 : ShutdownEntry) (oa : 
             below = (let below = old.below in omega (arith, below, later));
           }
 
-      borrowed_other : (g : ℕ) (y : ShutdownWaitEntry) → (f ≡ g → ⊥) → get st.waits g ≡ Some y → (q : ℕ) → borrows (awaits_of y.wait) q ≡ true → is_of (get st'.receivers q) y.shutdown ≡ true
+      borrowed_other : (g : ℕ) (y : ShutdownWaitEntry) → (f ≡ g → ⊥) → get st.waits g ≡ Some y → (q : ℕ) → borrows (awaits_of y.wait) q ≡ true
+          → is_of (get st'.receivers q) y.shutdown ≡ true
       borrowed_other g y apart is q lent = by_test (b == q) refl
         where
           old : is_of (get st.receivers q) y.shutdown ≡ true
@@ -181,15 +195,18 @@ module _ (st st' : Store) (next next' s a b f : ℕ) (e2 : ShutdownEntry) (oa : 
           by_test true h =
               let same : b ≡ q = eqb-true b q h in
               ap (λ o. is_of o y.shutdown) (ap (get st'.receivers) (sym same) ∙ put_here st.receivers st'.receivers b ob c.receivers)
-              ∙ w.stays y.shutdown g y (ap (λ r. is_of (get st.receivers r) y.shutdown) same ∙ old) (put_other st.waits st'.waits f ow c.waits g apart ∙ is) (ap (borrows (awaits_of y.wait)) same ∙ lent)
+              ∙ w.stays y.shutdown g y (ap (λ r. is_of (get st.receivers r) y.shutdown) same ∙ old)
+              (put_other st.waits st'.waits f ow c.waits g apart ∙ is) (ap (borrows (awaits_of y.wait)) same ∙ lent)
           by_test false h = ap (λ o. is_of o y.shutdown) (put_other st.receivers st'.receivers b ob c.receivers q (eqb-false b q h)) ∙ old
 
       pub kept_after : IsKept st' next'
       kept_after = record {
-        each = by_put st.shutdowns st'.shutdowns s (Some e2) c.shutdowns (λ q e. IsKeptEntry st' next' q e) (λ e is. subst (IsKeptEntry st' next' s) (inside e2 e is) w.entry) entry_other;
+        each = by_put st.shutdowns st'.shutdowns s (Some e2) c.shutdowns (λ q e. IsKeptEntry st' next' q e)
+            (λ e is. subst (IsKeptEntry st' next' s) (inside e2 e is) w.entry) entry_other;
         sender = by_put st.senders st'.senders a oa c.senders (λ q p. IsKeptSender st' next' q p)
             (λ p is. record { there = there_now p (c.sender_is p is); below = w.sender_below p is })
-            (λ q p apart is. let old = k.sender q p is in record { there = there_still p old.there; below = (let below = old.below in omega (arith, below, later)) });
+            (λ q p apart is. let old = k.sender q p is in
+            record { there = there_still p old.there; below = (let below = old.below in omega (arith, below, later)) });
         receiver = by_put st.receivers st'.receivers b ob c.receivers (λ q x. IsKeptReceiver st' next' q x)
             (λ x is. record { there = there_now x.shutdown (c.receiver_is x is); counted = w.counted x is; few = w.few x is; below = w.receiver_below x is })
             receiver_other;
@@ -199,7 +216,12 @@ module _ (st st' : Store) (next next' s a b f : ℕ) (e2 : ShutdownEntry) (oa : 
               borrowed = λ q lent. ap (is_of (get st'.receivers q)) (c.wait_is y is) ∙ w.borrowed y is q lent;
               below = w.wait_below y is;
             })
-            (λ g y apart is. let old = k.wait g y is in record { there = there_still y.shutdown old.there; borrowed = borrowed_other g y apart is; below = (let below = old.below in omega (arith, below, later)) });
+            (λ g y apart is. let old = k.wait g y is in
+            record {
+              there = there_still y.shutdown old.there;
+              borrowed = borrowed_other g y apart is;
+              below = (let below = old.below in omega (arith, below, later));
+            });
         named = named;
         low = w.low;
       }

@@ -35,21 +35,26 @@ module _ (st : Store) (next s : ℕ) (k : IsKept st next) (none : get st.shutdow
   no-waits = total-zero _ st.waits (λ f x is. ap (λ t. cond t 1 0) (ne_eqb x.shutdown s (there_not x.shutdown (k.wait f x is).there)))
 
   none-counted : total (λ b (x : ReceiverEntry). counting s x) st.receivers ≡ 0
-  none-counted = total-zero _ st.receivers (λ b x is. ap (λ t. cond t (cond x.watch 0 1) 0) (ne_eqb x.shutdown s (there_not x.shutdown (k.receiver b x is).there)))
+  none-counted = total-zero _ st.receivers
+      (λ b x is. ap (λ t. cond t (cond x.watch 0 1) 0) (ne_eqb x.shutdown s (there_not x.shutdown (k.receiver b x is).there)))
 
   none-given : (end : End) (set : Registered ℕ) → AreGiven (slots_of end st.waits) s set
   none-given end set f slot is = by_value (get st.waits f) refl
     where
       by_value : (o : Option ShutdownWaitEntry) → get st.waits f ≡ o → has_given set slot ≡ true
       by_value None there = absurd (let clash : None ≡ Some (s, slot) = sym (ap (slot_in end) there) ∙ is in cc)
-      by_value (Some x) there = absurd (there_not x.shutdown (k.wait f x there).there (sym (slot_home end (Some x) x.shutdown s slot (belongs-some (λ y. y.shutdown) x.shutdown (Some x) x refl refl) (sym (ap (slot_in end) there) ∙ is))))
+      by_value (Some x) there = absurd
+          (there_not x.shutdown (k.wait f x there).there
+          (sym (slot_home end (Some x) x.shutdown s slot (belongs-some (λ y. y.shutdown) x.shutdown (Some x) x refl refl) (sym (ap (slot_in end) there) ∙ is))))
 
 -- what is kept of a shutdown that was made
 abbrev pub made : ShutdownEntry
 made = record { core = record { signal = count_from 1; receivers = count_from 1; wakes = [] }; things = 2 }
 
-module _ (st : Store) (ss' : FinMap nat_cmp ShutdownEntry) (ks' : FinMap nat_cmp ℕ) (rs' : FinMap nat_cmp ReceiverEntry) (next i : ℕ) (k : IsKept st next) (less : next ≤ i) (low : i < 2 ^ 64)
-    (shutdowns : Puts st.shutdowns ss' i (Some made)) (senders : Puts st.senders ks' i (Some i)) (receivers : Puts st.receivers rs' i (Some (record { shutdown = i; watch = false; plain = 0 }))) where
+module _ (st : Store) (ss' : FinMap nat_cmp ShutdownEntry) (ks' : FinMap nat_cmp ℕ) (rs' : FinMap nat_cmp ReceiverEntry) (next i : ℕ)
+    (k : IsKept st next) (less : next ≤ i) (low : i < 2 ^ 64)
+    (shutdowns : Puts st.shutdowns ss' i (Some made)) (senders : Puts st.senders ks' i (Some i))
+    (receivers : Puts st.receivers rs' i (Some (record { shutdown = i; watch = false; plain = 0 }))) where
   abbrev after : Store
   after = record { shutdowns = ss'; senders = ks'; receivers = rs'; waits = st.waits }
 
@@ -78,15 +83,18 @@ module _ (st : Store) (ss' : FinMap nat_cmp ShutdownEntry) (ks' : FinMap nat_cmp
     quiet = refl;
     counted = (
         let all = total_puts st.receivers rs' i (λ q (x : ReceiverEntry). counting i x) (Some first) receivers in
-        let before : weight (λ q (x : ReceiverEntry). counting i x) i (get st.receivers i) ≡ 0 = ap (weight (λ q (x : ReceiverEntry). counting i x) i) (no-receiver st next i k less) in
+        let before : weight (λ q (x : ReceiverEntry). counting i x) i (get st.receivers i) ≡ 0 =
+        ap (weight (λ q (x : ReceiverEntry). counting i x) i) (no-receiver st next i k less) in
         let one : ◌≡◌ {A = ℕ} (cond (i == i) 1 0) 1 = at_same i i 1 0 refl in
         let zero = none-counted st next i k none in
         omega (arith, all, before, one, zero));
     things = (
         let all = total_puts st.senders ks' i (λ q (p : ℕ). cond (p == i) 1 0) (Some i) senders in
         let some = total_puts st.receivers rs' i (λ q (x : ReceiverEntry). cond (x.shutdown == i) 1 0) (Some first) receivers in
-        let before : weight (λ q (p : ℕ). cond (p == i) 1 0) i (get st.senders i) ≡ 0 = ap (weight (λ q (p : ℕ). cond (p == i) 1 0) i) (no-sender st next i k less) in
-        let earlier : weight (λ q (x : ReceiverEntry). cond (x.shutdown == i) 1 0) i (get st.receivers i) ≡ 0 = ap (weight (λ q (x : ReceiverEntry). cond (x.shutdown == i) 1 0) i) (no-receiver st next i k less) in
+        let before : weight (λ q (p : ℕ). cond (p == i) 1 0) i (get st.senders i) ≡ 0 =
+        ap (weight (λ q (p : ℕ). cond (p == i) 1 0) i) (no-sender st next i k less) in
+        let earlier : weight (λ q (x : ReceiverEntry). cond (x.shutdown == i) 1 0) i (get st.receivers i) ≡ 0 =
+        ap (weight (λ q (x : ReceiverEntry). cond (x.shutdown == i) 1 0) i) (no-receiver st next i k less) in
         let one : ◌≡◌ {A = ℕ} (cond (i == i) 1 0) 1 = at_same i i 1 0 refl in
         let zero = no-senders st next i k none in
         let nothing = no-receivers st next i k none in

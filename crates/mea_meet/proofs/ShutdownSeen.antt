@@ -50,11 +50,14 @@ module _ (st : Store) (n : ℕ) where
 
   pub stands : (s : ℕ) (e : ShutdownEntry) → get st.shutdowns s ≡ Some e → StandsForShutdown (hall_of st n) s e.core
   stands s e is = record {
-    signal = subst (λ (r : Shutdown). StandsForCount r.signal e.core.signal) (sym (shutdown-at s e is)) (record { number = refl; waiting = sym (waiting-wakers (slots_of OfSignal st.waits) n s e.core.signal.waiting) });
-    receivers = subst (λ (r : Shutdown). StandsForCount r.receivers e.core.receivers) (sym (shutdown-at s e is)) (record { number = refl; waiting = sym (waiting-wakers (slots_of OfReceivers st.waits) n s e.core.receivers.waiting) });
+    signal = subst (λ (r : Shutdown). StandsForCount r.signal e.core.signal) (sym (shutdown-at s e is))
+        (record { number = refl; waiting = sym (waiting-wakers (slots_of OfSignal st.waits) n s e.core.signal.waiting) });
+    receivers = subst (λ (r : Shutdown). StandsForCount r.receivers e.core.receivers) (sym (shutdown-at s e is))
+        (record { number = refl; waiting = sym (waiting-wakers (slots_of OfReceivers st.waits) n s e.core.receivers.waiting) });
   }
 
-  pub full-seen : (k : ℕ) (x : ReceiverEntry) (e : ShutdownEntry) → IsKept st n → get st.receivers k ≡ Some x → get st.shutdowns x.shutdown ≡ Some e → is_full (hall_of st n) (get (hall_of st n).receivers k) ≡ (not x.watch && e.core.receivers.number == 4294967295)
+  pub full-seen : (k : ℕ) (x : ReceiverEntry) (e : ShutdownEntry) → IsKept st n → get st.receivers k ≡ Some x → get st.shutdowns x.shutdown ≡ Some e
+      → is_full (hall_of st n) (get (hall_of st n).receivers k) ≡ (not x.watch && e.core.receivers.number == 4294967295)
   full-seen k x e kept is there = ap (is_full (hall_of st n)) (receiver-seen k ∙ ap (option_map receiver_of) is)
       ∙ ap (λ (r : Shutdown). not x.watch && r.receivers.number == 4294967295) (shutdown-at x.shutdown e there)
 
@@ -74,7 +77,13 @@ none-kept = record {
 
 pub no-hall : ◌≡◌ {A = Part Shutdowns} (record { hall = hall_of (store_of [] [] [] []) 0; next = 0 }) (record { hall = no_shutdowns; next = 0 })
 no-hall = λ j. record {
-  hall = record { shutdowns = seen-empty (shutdown_of (store_of [] [] [] []).waits 0) (store_of [] [] [] []).shutdowns none j; senders = is_empty (store_of [] [] [] []).senders none j; receivers = seen-empty (λ k x. receiver_of x) (store_of [] [] [] []).receivers none j; waits = seen-empty (λ f x. wait_of x) (store_of [] [] [] []).waits none j };
+  hall = record {
+    shutdowns = seen-empty (shutdown_of (store_of [] [] [] []).waits 0) (store_of [] [] [] []).shutdowns none j;
+    senders = is_empty (store_of [] [] [] []).senders none j;
+    receivers =
+        seen-empty (λ k x. receiver_of x) (store_of [] [] [] []).receivers none j;
+    waits = seen-empty (λ f x. wait_of x) (store_of [] [] [] []).waits none j;
+  };
   next = 0;
 }
 
@@ -96,5 +105,6 @@ module _ (a : Inside) where
   shutdown-kept q = kept-at a.shutdowns.entries q
 
 -- a shutdown that was put is there
-pub still-there : (ws : FinMap nat_cmp ShutdownWaitEntry) (ss ss' : FinMap nat_cmp ShutdownEntry) (n s : ℕ) (e : ShutdownEntry) → Puts ss ss' s (Some e) → IsSome (get (named (shutdown_of ws n) (entries ss')) s)
+pub still-there : (ws : FinMap nat_cmp ShutdownWaitEntry) (ss ss' : FinMap nat_cmp ShutdownEntry) (n s : ℕ) (e : ShutdownEntry)
+    → Puts ss ss' s (Some e) → IsSome (get (named (shutdown_of ws n) (entries ss')) s)
 still-there ws ss ss' n s e puts = ap is_some (get-seen (shutdown_of ws n) ss' s ∙ ap (option_map (shutdown_of ws n s)) (put_here ss ss' s (Some e) puts))

@@ -29,9 +29,11 @@ no-shutdown st next i k less = none_if (get st.shutdowns i) (λ e is. let below 
 
 -- nobody borrows what is not there
 pub unborrowed : (st : Store) (next q : ℕ) → IsKept st next → get st.receivers q ≡ None → borrowers_in st q ≡ 0
-unborrowed st next q k none = total-zero _ st.waits (λ g y is. by_test y (borrows (awaits_of y.wait) q) refl (λ lent. ap (λ o. is_of o y.shutdown) (sym none) ∙ (k.wait g y is).borrowed q lent))
+unborrowed st next q k none = total-zero _ st.waits
+    (λ g y is. by_test y (borrows (awaits_of y.wait) q) refl (λ lent. ap (λ o. is_of o y.shutdown) (sym none) ∙ (k.wait g y is).borrowed q lent))
   where
-    by_test : (y : ShutdownWaitEntry) (t : Bool) → borrows (awaits_of y.wait) q ≡ t → (borrows (awaits_of y.wait) q ≡ true → false ≡ true) → ◌≡◌ {A = ℕ} (cond t 1 0) 0
+    by_test : (y : ShutdownWaitEntry) (t : Bool) → borrows (awaits_of y.wait) q ≡ t → (borrows (awaits_of y.wait) q ≡ true → false ≡ true)
+        → ◌≡◌ {A = ℕ} (cond t 1 0) 0
     by_test y true h lent = absurd (let clash = lent h in cc)
     by_test y false h lent = refl
 
@@ -42,12 +44,16 @@ borrows-nothing st q g y none is lent =
     let one : ◌≡◌ {A = ℕ} (cond (borrows (awaits_of y.wait) q) 1 0) 1 = ap (λ t. cond t 1 0) lent in
     omega (arith, part, one, none)
 
-module _ (st st' : Store) (next i s a b f : ℕ) (e2 : ShutdownEntry) (oa : Option ℕ) (ob : Option ReceiverEntry) (ow : Option ShutdownWaitEntry) (k : IsKept st next) (c : Changes st st' s a b f e2 oa ob ow) where
+module _ (st st' : Store) (next i s a b f : ℕ) (e2 : ShutdownEntry) (oa : Option ℕ) (ob : Option ReceiverEntry) (ow : Option ShutdownWaitEntry)
+    (k : IsKept st next) (c : Changes st st' s a b f e2 oa ob ow) where
   -- the entry of s after the change
   pub entry_after : (e : ShutdownEntry) → get st.shutdowns s ≡ Some e → next ≤ i → e2.core.wakes ≡ []
-      → e2.core.receivers.number + weight (λ q (x : ReceiverEntry). counting s x) b (get st.receivers b) ≡ e.core.receivers.number + weight (λ q (x : ReceiverEntry). counting s x) b ob
-      → e2.things + (weight (λ q (p : ℕ). cond (p == s) 1 0) a (get st.senders a) + weight (λ q (x : ReceiverEntry). cond (x.shutdown == s) 1 0) b (get st.receivers b) + weight (λ q (x : ShutdownWaitEntry). cond (x.shutdown == s) 1 0) f (get st.waits f))
-      ≡ e.things + (weight (λ q (p : ℕ). cond (p == s) 1 0) a oa + weight (λ q (x : ReceiverEntry). cond (x.shutdown == s) 1 0) b ob + weight (λ q (x : ShutdownWaitEntry). cond (x.shutdown == s) 1 0) f ow)
+      → e2.core.receivers.number + weight (λ q (x : ReceiverEntry). counting s x) b (get st.receivers b) ≡ e.core.receivers.number + weight
+      (λ q (x : ReceiverEntry). counting s x) b ob
+      → e2.things + (weight (λ q (p : ℕ). cond (p == s) 1 0) a (get st.senders a) + weight (λ q (x : ReceiverEntry). cond (x.shutdown == s) 1 0) b
+      (get st.receivers b) + weight (λ q (x : ShutdownWaitEntry). cond (x.shutdown == s) 1 0) f (get st.waits f))
+      ≡ e.things + (weight (λ q (p : ℕ). cond (p == s) 1 0) a oa + weight (λ q (x : ReceiverEntry). cond (x.shutdown == s) 1 0) b ob + weight
+      (λ q (x : ShutdownWaitEntry). cond (x.shutdown == s) 1 0) f ow)
       → e2.things ≤ e.things + 1 → ((end : End) → AreGiven (slots_of end st'.waits) s (count_at end e2.core).waiting) → IsKeptEntry st' (i + 1) s e2
   entry_after e there less quiet counted things few given =
       let old = k.each s e there in
@@ -76,10 +82,15 @@ module _ (st st' : Store) (next i s a b f : ℕ) (e2 : ShutdownEntry) (oa : Opti
     still_given end set given = given_unplaced st st' next (i + 1) s a b f e2 oa ob ow k c later end set (is end) given
 
     still_count : (end : End) (n : counts.Count ℕ) → count_seen (slots_of end st'.waits) (i + 1) s n ≡ count_seen (slots_of end st.waits) next s n
-    still_count end n = λ j. record { number = n.number; waiting = alike_unplaced st st' next (i + 1) s a b f e2 oa ob ow k c later still_named end n.waiting (was end) (is end) j }
+    still_count end n = λ j. record {
+      number = n.number;
+      waiting = alike_unplaced st st' next (i + 1)
+          s a b f e2 oa ob ow k c later still_named end n.waiting (was end) (is end) j;
+    }
 
     still_seen : shutdown_of st'.waits (i + 1) s e2 ≡ shutdown_of st.waits next s e2
     still_seen = λ j. record { signal = still_count OfSignal e2.core.signal j; receivers = still_count OfReceivers e2.core.receivers j }
 
     pub still_shutdowns : Puts (hall_of st next).shutdowns (hall_of st' (i + 1)).shutdowns s (Some (shutdown_of st.waits next s e2))
-    still_shutdowns q = shutdowns_after st st' next (i + 1) s a b f e2 oa ob ow k c later still_named q ∙ ap (λ r. cond (s == q) (Some r) (get (hall_of st next).shutdowns q)) still_seen
+    still_shutdowns q = shutdowns_after st st' next (i + 1) s a b f e2 oa ob ow k c later still_named q
+        ∙ ap (λ r. cond (s == q) (Some r) (get (hall_of st next).shutdowns q)) still_seen

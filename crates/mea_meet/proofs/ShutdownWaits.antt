@@ -46,9 +46,12 @@ at_most_one true = omega arith
 at_most_one false = omega arith
 
 -- ---- a future on the signal
-module _ (st : Store) (ss' : FinMap nat_cmp ShutdownEntry) (rs' : FinMap nat_cmp ReceiverEntry) (ws' : FinMap nat_cmp ShutdownWaitEntry) (next i r s : ℕ) (plain : Bool) (e : ShutdownEntry) (x : ReceiverEntry) (k : IsKept st next) (less : next ≤ i) (low : i < 2 ^ 64)
-    (there : get st.shutdowns s ≡ Some e) (receiver : get st.receivers r ≡ Some x) (mine : x.shutdown ≡ s) (shutdowns : Puts st.shutdowns ss' s (Some (record e { things = e.things + 1 })))
-    (receivers : Puts st.receivers rs' r (Some (record x { plain = x.plain + cond plain 1 0 }))) (futures : Puts st.waits ws' i (Some (record { shutdown = s; wait = waits.Signal None (cond plain (Some r) None) }))) where
+module _ (st : Store) (ss' : FinMap nat_cmp ShutdownEntry) (rs' : FinMap nat_cmp ReceiverEntry) (ws' : FinMap nat_cmp ShutdownWaitEntry)
+    (next i r s : ℕ) (plain : Bool) (e : ShutdownEntry) (x : ReceiverEntry) (k : IsKept st next) (less : next ≤ i) (low : i < 2 ^ 64)
+    (there : get st.shutdowns s ≡ Some e) (receiver : get st.receivers r ≡ Some x) (mine : x.shutdown ≡ s)
+    (shutdowns : Puts st.shutdowns ss' s (Some (record e { things = e.things + 1 })))
+    (receivers : Puts st.receivers rs' r (Some (record x { plain = x.plain + cond plain 1 0 })))
+    (futures : Puts st.waits ws' i (Some (record { shutdown = s; wait = waits.Signal None (cond plain (Some r) None) }))) where
   abbrev after : Store
   after = record { shutdowns = ss'; senders = st.senders; receivers = rs'; waits = ws' }
 
@@ -82,23 +85,29 @@ module _ (st : Store) (ss' : FinMap nat_cmp ShutdownEntry) (rs' : FinMap nat_cmp
   later = omega (arith, less)
 
   named : (end : End) → AreNamed (slots_of end after.waits) (i + 1)
-  named end = still_named st after next i s i r i new_entry None (Some lent) (Some new_wait) k changes later (omega arith) was_unplaced (unplaced s (cond plain (Some r) None)) end
+  named end = still_named st after next i s i r i new_entry None (Some lent) (Some new_wait) k changes later (omega arith) was_unplaced
+      (unplaced s (cond plain (Some r) None)) end
 
   entry : IsKeptEntry after (i + 1) s new_entry
   entry = entry_after st after next i s i r i new_entry None (Some lent) (Some new_wait) k changes e there less (k.each s e there).quiet
       (ap (λ o. e.core.receivers.number + weight (λ q (y : ReceiverEntry). counting s y) r o) receiver)
-      (let senders : weight (λ q (p : ℕ). cond (p == s) 1 0) i (get st.senders i) ≡ 0 = ap (weight (λ q (p : ℕ). cond (p == s) 1 0) i) (no-sender st next i k less) in
-      let before : weight (λ q (y : ReceiverEntry). cond (y.shutdown == s) 1 0) r (get st.receivers r) ≡ cond (x.shutdown == s) 1 0 = ap (weight (λ q (y : ReceiverEntry). cond (y.shutdown == s) 1 0) r) receiver in
-      let none : weight (λ q (y : ShutdownWaitEntry). cond (y.shutdown == s) 1 0) i (get st.waits i) ≡ 0 = ap (weight (λ q (y : ShutdownWaitEntry). cond (y.shutdown == s) 1 0) i) (no-wait st next i k less) in
+      (let senders : weight (λ q (p : ℕ). cond (p == s) 1 0) i (get st.senders i) ≡ 0 = ap (weight (λ q (p : ℕ). cond (p == s) 1 0) i)
+      (no-sender st next i k less) in
+      let before : weight (λ q (y : ReceiverEntry). cond (y.shutdown == s) 1 0) r (get st.receivers r) ≡ cond (x.shutdown == s) 1 0 =
+      ap (weight (λ q (y : ReceiverEntry). cond (y.shutdown == s) 1 0) r) receiver in
+      let none : weight (λ q (y : ShutdownWaitEntry). cond (y.shutdown == s) 1 0) i (get st.waits i) ≡ 0 =
+      ap (weight (λ q (y : ShutdownWaitEntry). cond (y.shutdown == s) 1 0) i) (no-wait st next i k less) in
       let one : ◌≡◌ {A = ℕ} (cond (s == s) 1 0) 1 = at_same s s 1 0 refl in
       omega (arith, senders, before, none, one))
       (omega arith)
-      (λ end. still_given st after next i s i r i new_entry None (Some lent) (Some new_wait) k changes later (omega arith) was_unplaced (unplaced s (cond plain (Some r) None)) end (count_at end e.core).waiting ((k.each s e there).given end))
+      (λ end. still_given st after next i s i r i new_entry None (Some lent) (Some new_wait) k changes later (omega arith) was_unplaced
+      (unplaced s (cond plain (Some r) None)) end (count_at end e.core).waiting ((k.each s e there).given end))
 
   borrowers_now : x.plain + cond plain 1 0 ≡ borrowers_in after r
   borrowers_now =
       let all = total_puts st.waits ws' i (λ g (y : ShutdownWaitEntry). cond (borrows (awaits_of y.wait) r) 1 0) (Some new_wait) futures in
-      let none : weight (λ g (y : ShutdownWaitEntry). cond (borrows (awaits_of y.wait) r) 1 0) i (get st.waits i) ≡ 0 = ap (weight (λ g (y : ShutdownWaitEntry). cond (borrows (awaits_of y.wait) r) 1 0) i) (no-wait st next i k less) in
+      let none : weight (λ g (y : ShutdownWaitEntry). cond (borrows (awaits_of y.wait) r) 1 0) i (get st.waits i) ≡ 0 =
+      ap (weight (λ g (y : ShutdownWaitEntry). cond (borrows (awaits_of y.wait) r) 1 0) i) (no-wait st next i k less) in
       let mine = borrowed-weight plain r in
       let before = (k.receiver r x receiver).counted in
       omega (arith, all, none, mine, before)
@@ -115,9 +124,12 @@ module _ (st : Store) (ss' : FinMap nat_cmp ShutdownEntry) (rs' : FinMap nat_cmp
         let one = at_most_one plain in
         omega (arith, same, few, one, less));
     receiver_below = λ y is. (let below = (k.receiver r x receiver).below in omega (arith, below, less));
-    lends = λ q apart. ap (weight (λ g (y : ShutdownWaitEntry). cond (borrows (awaits_of y.wait) q) 1 0) i) (no-wait st next i k less) ∙ sym (borrowed-other plain r q apart);
+    lends = λ q apart. ap (weight (λ g (y : ShutdownWaitEntry). cond (borrows (awaits_of y.wait) q) 1 0) i) (no-wait st next i k less)
+        ∙ sym (borrowed-other plain r q apart);
     stays = λ p g y was is lends. ap (λ o. is_of o p) (sym receiver) ∙ was;
-    borrowed = λ y is q lends. ap (λ o. is_of o s) (ap (get rs') (sym (borrowed-is plain r q (ap (λ (z : ShutdownWaitEntry). borrows (awaits_of z.wait) q) (inside new_wait y is) ∙ lends))) ∙ put_here st.receivers rs' r (Some lent) receivers) ∙ eq-eqb x.shutdown s mine;
+    borrowed = λ y is q lends. ap (λ o. is_of o s)
+        (ap (get rs') (sym (borrowed-is plain r q (ap (λ (z : ShutdownWaitEntry). borrows (awaits_of z.wait) q) (inside new_wait y is) ∙ lends)))
+        ∙ put_here st.receivers rs' r (Some lent) receivers) ∙ eq-eqb x.shutdown s mine;
     wait_below = λ y is. omega arith;
   }
 
@@ -125,20 +137,26 @@ module _ (st : Store) (ss' : FinMap nat_cmp ShutdownEntry) (rs' : FinMap nat_cmp
   wait_on_signal_goes = record {
     kept = kept_after st after next (i + 1) s i r i new_entry None (Some lent) (Some new_wait) k changes later named keeps;
     moved = λ j. record {
-      shutdowns = is_same _ _ s (Some (shutdown_of st.waits next s e)) (seen_before st next s e there) (still_shutdowns st after next i s i r i new_entry None (Some lent) (Some new_wait) k changes later (omega arith) was_unplaced (unplaced s (cond plain (Some r) None))) j;
+      shutdowns = is_same _ _ s (Some (shutdown_of st.waits next s e)) (seen_before st next s e there)
+          (still_shutdowns st after next i s i r i new_entry None (Some lent) (Some new_wait) k changes later (omega arith) was_unplaced
+          (unplaced s (cond plain (Some r) None))) j;
       senders = st.senders;
-      receivers = is_same _ _ r (Some (receiver_of x)) (receiver-seen st next r ∙ ap (option_map receiver_of) receiver) (puts_seen receiver_of st.receivers rs' r (Some lent) receivers) j;
+      receivers = is_same _ _ r (Some (receiver_of x)) (receiver-seen st next r ∙ ap (option_map receiver_of) receiver)
+          (puts_seen receiver_of st.receivers rs' r (Some lent) receivers) j;
       waits = is_insert _ _ i (wait_of new_wait) (puts_seen wait_of st.waits ws' i (Some new_wait) futures) j;
     };
     counted = (
         let all = registered_after st after next (i + 1) s i r i new_entry None (Some lent) (Some new_wait) k changes later named in
-        let before : weight (λ q (d : ShutdownEntry). wakers_at d) s (get st.shutdowns s) ≡ wakers_at e = ap (weight (λ q (d : ShutdownEntry). wakers_at d) s) there in
+        let before : weight (λ q (d : ShutdownEntry). wakers_at d) s (get st.shutdowns s) ≡ wakers_at e =
+        ap (weight (λ q (d : ShutdownEntry). wakers_at d) s) there in
         omega (arith, all, before));
   }
 
 -- ---- a sender becomes a future on the end of all receivers
-module _ (st : Store) (ks' : FinMap nat_cmp ℕ) (ws' : FinMap nat_cmp ShutdownWaitEntry) (next i a s : ℕ) (e : ShutdownEntry) (k : IsKept st next) (less : next ≤ i) (low : i < 2 ^ 64)
-    (there : get st.shutdowns s ≡ Some e) (sender : get st.senders a ≡ Some s) (senders : Puts st.senders ks' a None) (futures : Puts st.waits ws' i (Some (record { shutdown = s; wait = waits.Receivers None }))) where
+module _ (st : Store) (ks' : FinMap nat_cmp ℕ) (ws' : FinMap nat_cmp ShutdownWaitEntry) (next i a s : ℕ) (e : ShutdownEntry) (k : IsKept st next)
+    (less : next ≤ i) (low : i < 2 ^ 64)
+    (there : get st.shutdowns s ≡ Some e) (sender : get st.senders a ≡ Some s) (senders : Puts st.senders ks' a None)
+    (futures : Puts st.waits ws' i (Some (record { shutdown = s; wait = waits.Receivers None }))) where
   abbrev awaiting : Store
   awaiting = record { shutdowns = st.shutdowns; senders = ks'; receivers = st.receivers; waits = ws' }
 
@@ -172,11 +190,14 @@ module _ (st : Store) (ks' : FinMap nat_cmp ℕ) (ws' : FinMap nat_cmp ShutdownW
   its_entry = entry_after st awaiting next i s a i i e None None (Some the_wait) k awaits e there less (k.each s e there).quiet
       (ap (λ o. e.core.receivers.number + weight (λ q (y : ReceiverEntry). counting s y) i o) (no-receiver st next i k less))
       (let before : weight (λ q (p : ℕ). cond (p == s) 1 0) a (get st.senders a) ≡ cond (s == s) 1 0 = ap (weight (λ q (p : ℕ). cond (p == s) 1 0) a) sender in
-      let none : weight (λ q (y : ReceiverEntry). cond (y.shutdown == s) 1 0) i (get st.receivers i) ≡ 0 = ap (weight (λ q (y : ReceiverEntry). cond (y.shutdown == s) 1 0) i) (no-receiver st next i k less) in
-      let nothing : weight (λ q (y : ShutdownWaitEntry). cond (y.shutdown == s) 1 0) i (get st.waits i) ≡ 0 = ap (weight (λ q (y : ShutdownWaitEntry). cond (y.shutdown == s) 1 0) i) (no-wait st next i k less) in
+      let none : weight (λ q (y : ReceiverEntry). cond (y.shutdown == s) 1 0) i (get st.receivers i) ≡ 0 =
+      ap (weight (λ q (y : ReceiverEntry). cond (y.shutdown == s) 1 0) i) (no-receiver st next i k less) in
+      let nothing : weight (λ q (y : ShutdownWaitEntry). cond (y.shutdown == s) 1 0) i (get st.waits i) ≡ 0 =
+      ap (weight (λ q (y : ShutdownWaitEntry). cond (y.shutdown == s) 1 0) i) (no-wait st next i k less) in
       omega (arith, before, none, nothing))
       (omega arith)
-      (λ end. still_given st awaiting next i s a i i e None None (Some the_wait) k awaits rises (omega arith) unplaced_before (unplaced_still s) end (count_at end e.core).waiting ((k.each s e there).given end))
+      (λ end. still_given st awaiting next i s a i i e None None (Some the_wait) k awaits rises (omega arith) unplaced_before (unplaced_still s) end
+      (count_at end e.core).waiting ((k.each s e there).given end))
 
   all_kept : Keeps st awaiting next (i + 1) s a i i e None None (Some the_wait) k awaits rises all_named
   all_kept = record {
@@ -188,7 +209,8 @@ module _ (st : Store) (ks' : FinMap nat_cmp ℕ) (ws' : FinMap nat_cmp ShutdownW
     receiver_below = λ y none. absurd (cc);
     lends = λ q apart. ap (weight (λ g (y : ShutdownWaitEntry). cond (borrows (awaits_of y.wait) q) 1 0) i) (no-wait st next i k less);
     stays = λ p g y was is lends. ap (λ o. is_of o p) (sym (no-receiver st next i k less)) ∙ was;
-    borrowed = λ y is q lends. absurd (let clash : false ≡ true = ap (λ (z : ShutdownWaitEntry). borrows (awaits_of z.wait) q) (inside the_wait y is) ∙ lends in cc);
+    borrowed = λ y is q lends. absurd
+        (let clash : false ≡ true = ap (λ (z : ShutdownWaitEntry). borrows (awaits_of z.wait) q) (inside the_wait y is) ∙ lends in cc);
     wait_below = λ y is. omega arith;
   }
 
@@ -196,13 +218,15 @@ module _ (st : Store) (ks' : FinMap nat_cmp ℕ) (ws' : FinMap nat_cmp ShutdownW
   wait_on_receivers_goes = record {
     kept = kept_after st awaiting next (i + 1) s a i i e None None (Some the_wait) k awaits rises all_named all_kept;
     moved = λ j. record {
-      shutdowns = is_same _ _ s (Some (shutdown_of st.waits next s e)) (seen_before st next s e there) (still_shutdowns st awaiting next i s a i i e None None (Some the_wait) k awaits rises (omega arith) unplaced_before (unplaced_still s)) j;
+      shutdowns = is_same _ _ s (Some (shutdown_of st.waits next s e)) (seen_before st next s e there)
+          (still_shutdowns st awaiting next i s a i i e None None (Some the_wait) k awaits rises (omega arith) unplaced_before (unplaced_still s)) j;
       senders = is_remove st.senders ks' a senders j;
       receivers = (hall_of st next).receivers;
       waits = is_insert _ _ i (wait_of the_wait) (puts_seen wait_of st.waits ws' i (Some the_wait) futures) j;
     };
     counted = (
         let all = registered_after st awaiting next (i + 1) s a i i e None None (Some the_wait) k awaits rises all_named in
-        let before : weight (λ q (d : ShutdownEntry). wakers_at d) s (get st.shutdowns s) ≡ wakers_at e = ap (weight (λ q (d : ShutdownEntry). wakers_at d) s) there in
+        let before : weight (λ q (d : ShutdownEntry). wakers_at d) s (get st.shutdowns s) ≡ wakers_at e =
+        ap (weight (λ q (d : ShutdownEntry). wakers_at d) s) there in
         omega (arith, all, before));
   }

@@ -11,9 +11,11 @@ use Rattle.mea_meet.proofs.Names.{waiting-alike, named-later, object_in, place_i
 use Rattle.mea_meet.proofs.Maps.{Puts, Belongs, put_here, put_other}
 
 -- whose slot it is
-pub slot_owner : {X : Type 0} (object : X → ℕ) (slot : X → Option Place) (o : Option X) (q : ℕ) (t : Option Place) → option_map {U = ℕ × Option Place} (λ x. (object x, slot x)) o ≡ Some (q, t) → (x : X) × (o ≡ Some x) × (object x ≡ q) × (slot x ≡ t)
+pub slot_owner : {X : Type 0} (object : X → ℕ) (slot : X → Option Place) (o : Option X) (q : ℕ) (t : Option Place)
+    → option_map {U = ℕ × Option Place} (λ x. (object x, slot x)) o ≡ Some (q, t) → (x : X) × (o ≡ Some x) × (object x ≡ q) × (slot x ≡ t)
 slot_owner object slot None q t is = absurd (cc)
-slot_owner object slot (Some x) q t is = (x, refl, ap (λ (p : Option (ℕ × Option Place)). object_in (object x) p) is, ap (λ (p : Option (ℕ × Option Place)). place_in None p) is)
+slot_owner object slot (Some x) q t is =
+    (x, refl, ap (λ (p : Option (ℕ × Option Place)). object_in (object x) p) is, ap (λ (p : Option (ℕ × Option Place)). place_in None p) is)
 
 -- no number is in it
 abbrev pub IsUnplaced : Option (ℕ × Option Place) → Type 0
@@ -36,7 +38,8 @@ apart_unplaced q s none place is = elim none [
 ]
 
 -- what belongs to p has no number of another
-pub apart_belongs : {X : Type 0} (object : X → ℕ) (slot : X → Option Place) (o : Option X) (p q : ℕ) → Belongs object p o → (p ≡ q → ⊥) → IsApart q (option_map {U = ℕ × Option Place} (λ x. (object x, slot x)) o)
+pub apart_belongs : {X : Type 0} (object : X → ℕ) (slot : X → Option Place) (o : Option X) (p q : ℕ) → Belongs object p o → (p ≡ q → ⊥)
+    → IsApart q (option_map {U = ℕ × Option Place} (λ x. (object x, slot x)) o)
 apart_belongs object slot o p q mine apart place is = let x = slot_owner object slot o q (Some place) is in apart (sym (mine x.0 x.1) ∙ x.2)
 
 -- ---- the slots of all futures
@@ -51,7 +54,8 @@ pub waiting_later : (slots : Slots) (b b' q : ℕ) (s : Registered ℕ) → AreN
 waiting_later slots b b' q s named rises = waiting-alike slots slots b b' q s named (named-later slots b b' named rises) (λ f place is. is) (λ f place is. is)
 
 -- what each future of q needs, all slots of q have
-pub given_by : {X : Type 0} (object : X → ℕ) (slot : X → Option Place) (m : FinMap nat_cmp X) (q : ℕ) (s : Registered ℕ) → ((f : ℕ) (x : X) → get m f ≡ Some x → object x ≡ q → has_given s (slot x) ≡ true)
+pub given_by : {X : Type 0} (object : X → ℕ) (slot : X → Option Place) (m : FinMap nat_cmp X) (q : ℕ) (s : Registered ℕ)
+    → ((f : ℕ) (x : X) → get m f ≡ Some x → object x ≡ q → has_given s (slot x) ≡ true)
     → AreGiven (λ f. option_map {U = ℕ × Option Place} (λ x. (object x, slot x)) (get m f)) q s
 given_by object slot m q s each f t is =
     let x = slot_owner object slot (get m f) q t is in
@@ -66,11 +70,13 @@ module _ {X : Type 0} (h : Option X → Option (ℕ × Option Place)) (m n : Fin
   slots_other g apart = ap h (put_other m n f o puts g apart)
 
   -- the wakers of q are whose they were, where f has no number there before and after
-  pub waiting_beside : (b b' : ℕ) → AreNamed (λ g. h (get m g)) b → AreNamed (λ g. h (get n g)) b' → (q : ℕ) (s : Registered ℕ) → IsApart q (h (get m f)) → IsApart q (h o)
+  pub waiting_beside : (b b' : ℕ) → AreNamed (λ g. h (get m g)) b → AreNamed (λ g. h (get n g)) b' → (q : ℕ) (s : Registered ℕ)
+      → IsApart q (h (get m f)) → IsApart q (h o)
       → waiting_at (λ g. h (get n g)) b' q s ≡ waiting_at (λ g. h (get m g)) b q s
   waiting_beside b b' named named' q s was is = waiting-alike (λ g. h (get m g)) (λ g. h (get n g)) b b' q s named named'
       (λ g place there. by_name f g (λ same. absurd (was place (ap (λ j. h (get m j)) same ∙ there))) (λ apart. slots_other g apart ∙ there))
-      (λ g place there. by_name f g (λ same. absurd (is place (sym slots_there ∙ ap (λ j. h (get n j)) same ∙ there))) (λ apart. sym (slots_other g apart) ∙ there))
+      (λ g place there. by_name f g (λ same. absurd (is place (sym slots_there ∙ ap (λ j. h (get n j)) same ∙ there)))
+      (λ apart. sym (slots_other g apart) ∙ there))
 
   -- a future with no number needs none that was given
   pub given_beside : (q : ℕ) (s : Registered ℕ) → IsApart q (h o) → AreGiven (λ g. h (get m g)) q s → AreGiven (λ g. h (get n g)) q s

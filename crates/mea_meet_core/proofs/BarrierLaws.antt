@@ -93,7 +93,8 @@ module _ {W : Type 0} where
   again b d round slot w (Ok turn) wait' told = rw told.1 (record { size = refl; counted = omega arith; rounds = omega arith })
   again b d round slot w (Err fault) wait' told = none_moves b d told.1
 
-  arrives_on : (b d : Barrier W) (w : W) (result : Result (Poll Bool) (BarrierFault W)) (wait' : BarrierWait) → Arrives b w result d wait' → Moves b d (arrival_of result)
+  arrives_on : (b d : Barrier W) (w : W) (result : Result (Poll Bool) (BarrierFault W)) (wait' : BarrierWait) → Arrives b w result d wait'
+      → Moves b d (arrival_of result)
   arrives_on b d w result wait' arrives = elim (cases_Bool (leads b)) [
     | inl completes ↦ elim (cases_eq (round_of b) 18446744073709551615) [
       | inl greatest ↦ let told = arrives.overflow completes greatest in rw told.0 (none_moves b d told.1)
@@ -102,13 +103,15 @@ module _ {W : Type 0} where
     | inr waits ↦ follows_on b d w result waits (joined_or_not b d w result wait' (arrives.follows waits))
   ]
 
-  returns_on : (b d : Barrier W) (round : ℕ) (slot : Option Place) (w : W) (result : Result (Poll Bool) (BarrierFault W)) (wait' : BarrierWait) → Returns b round slot w result d wait' → Moves b d []
+  returns_on : (b d : Barrier W) (round : ℕ) (slot : Option Place) (w : W) (result : Result (Poll Bool) (BarrierFault W)) (wait' : BarrierWait)
+      → Returns b round slot w result d wait' → Moves b d []
   returns_on b d round slot w result wait' returns = elim (cases_lt b.arrivals ((round + 1) * b.size)) [
     | inl before ↦ again b d round slot w result wait' (returns.pending before)
     | inr over ↦ none_moves b d (returns.ready over).1
   ]
 
-  polls_on : (b d : Barrier W) (wait wait' : BarrierWait) (w : W) (result : Result (Poll Bool) (BarrierFault W)) → is_open b wait ≡ true → Polls b wait w result d wait' → Moves b d (arrival_by wait result)
+  polls_on : (b d : Barrier W) (wait wait' : BarrierWait) (w : W) (result : Result (Poll Bool) (BarrierFault W)) → is_open b wait ≡ true
+      → Polls b wait w result d wait' → Moves b d (arrival_by wait result)
   polls_on b d New wait' w result may polls = arrives_on b d w result wait' polls
   polls_on b d (Arrived round slot) wait' w result may polls = returns_on b d round slot w result wait' polls
   polls_on b d Done wait' w result may polls = absurd (cc)
@@ -133,7 +136,8 @@ module _ {W : Type 0} where
       }
 
   -- as many arrivals as make a round complete one
-  pub a_round : (b c : Barrier W) (arrivals : List Bool) → Runs b arrivals c → 0 < b.size → length arrivals ≡ b.size → (round_of c ≡ round_of b + 1) × (leaders arrivals ≡ 1)
+  pub a_round : (b c : Barrier W) (arrivals : List Bool) → Runs b arrivals c → 0 < b.size → length arrivals ≡ b.size
+      → (round_of c ≡ round_of b + 1) × (leaders arrivals ≡ 1)
   a_round b c arrivals run positive whole =
       let m = runs_on b c arrivals run in
       let sum : c.arrivals ≡ b.arrivals + b.size = omega (arith, m.counted) in
@@ -141,10 +145,12 @@ module _ {W : Type 0} where
       (next, omega (arith, m.rounds, next))
 
   -- fewer, from the start of a round, do not
-  pub a_part : (b c : Barrier W) (arrivals : List Bool) → Runs b arrivals c → b.arrivals % b.size ≡ 0 → length arrivals < b.size → (round_of c ≡ round_of b) × (leaders arrivals ≡ 0)
+  pub a_part : (b c : Barrier W) (arrivals : List Bool) → Runs b arrivals c → b.arrivals % b.size ≡ 0 → length arrivals < b.size
+      → (round_of c ≡ round_of b) × (leaders arrivals ≡ 0)
   a_part b c arrivals run start few =
       let m = runs_on b c arrivals run in
       let split = div-add-mod' b.arrivals b.size in
       let sum : c.arrivals ≡ b.arrivals / b.size * b.size + length arrivals = omega (arith, m.counted, split, start) in
-      let same : round_of c ≡ round_of b = ap (λ n. c.arrivals / n) m.size ∙ ap (λ n. n / b.size) sum ∙ div-mul-add (b.arrivals / b.size) b.size (length arrivals) few in
+      let same : round_of c ≡ round_of b = ap (λ n. c.arrivals / n) m.size ∙ ap (λ n. n / b.size) sum
+      ∙ div-mul-add (b.arrivals / b.size) b.size (length arrivals) few in
       (same, omega (arith, m.rounds, same))

@@ -14,7 +14,8 @@ module _ {W : Type 0} where
   abbrev pub barrier_at : ℕ → ℕ → ℕ → Registered W → List W → Barrier W
   barrier_at size round arrived waiting wakes = record { size = size; arrivals = round * size + arrived; waiting = waiting; wakes = wakes }
 
-  pub has_seen-within : (size round arrived : ℕ) (waiting : Registered W) (wakes : List W) (r : ℕ) (slot : Option Place) → arrived < size → has_seen (barrier_at size round arrived waiting wakes) r slot ≡ (nat_le r round && has_given waiting slot)
+  pub has_seen-within : (size round arrived : ℕ) (waiting : Registered W) (wakes : List W) (r : ℕ) (slot : Option Place) → arrived < size
+      → has_seen (barrier_at size round arrived waiting wakes) r slot ≡ (nat_le r round && has_given waiting slot)
   has_seen-within size round arrived waiting wakes r slot within = ap (λ n. nat_le r n && has_given waiting slot) (round_within size round arrived within)
 
   pub joins : (size round arrived : ℕ) (waiting : Registered W) (wakes : List W) (w : W) (waiting' : Registered W) (slot' : Option Place) (wakes' : List W)

@@ -18,14 +18,16 @@ rest_at_end size round arrived end = rw add_assoc (rw end (add-mod_right (round 
 -- an arrival that completes the round is the last of it
 pub last_of_round : (size round arrived : ℕ) → arrived < size → ((round * size + arrived + 1) % size == 0) ≡ true → arrived + 1 ≡ size
 last_of_round size round arrived within completes = elim (cases_lt (arrived + 1) size) [
-  | inl before ↦ let rest = rest_within size round arrived before in let none : (round * size + arrived + 1) % size ≡ 0 = grind (arith, nat_tests) in absurd (omega arith)
+  | inl before ↦ let rest = rest_within size round arrived before in let none : (round * size + arrived + 1) % size ≡ 0 = grind (arith, nat_tests) in
+      absurd (omega arith)
   | inr end ↦ omega arith
 ]
 
 -- one that does not is followed by another
 pub not_last_of_round : (size round arrived : ℕ) → arrived < size → ((round * size + arrived + 1) % size == 0) ≡ false → arrived + 1 < size
 not_last_of_round size round arrived within waits = elim (cases_eq (arrived + 1) size) [
-  | inl end ↦ let rest = rest_at_end size round arrived end in let some : (round * size + arrived + 1) % size ≢ 0 = grind (arith, nat_tests) in absurd (some rest)
+  | inl end ↦ let rest = rest_at_end size round arrived end in let some : (round * size + arrived + 1) % size ≢ 0 = grind (arith, nat_tests) in
+      absurd (some rest)
   | inr before ↦ omega arith
 ]
 

@@ -39,10 +39,12 @@ module _ {X : Type 0} (m : FinMap nat_cmp X) where
   -- ---- things of objects that are there
   module _ {Y : Type 0} (object : X → ℕ) (objects : FinMap nat_cmp Y) where
     pub of-objects_put : (o : ℕ) (y : Y) → AreOf object m objects → AreOf object m (insert objects o y)
-    of-objects_put o y are = λ k x is. by_put objects o y (λ j p. (IsSome (get objects j) → IsSome p)) (λ there. refl) (λ j apart there. there) (object x) (are k x is)
+    of-objects_put o y are = λ k x is. by_put objects o y (λ j p. (IsSome (get objects j) → IsSome p)) (λ there. refl) (λ j apart there. there)
+        (object x) (are k x is)
 
     pub of-put : (i : ℕ) (x : X) → IsSome (get objects (object x)) → AreOf object m objects → AreOf object (insert m i x) objects
-    of-put i x there are = by_put m i x (λ k o. (y : X) → o ≡ Some y → IsSome (get objects (object y))) (λ y is. subst (λ z. IsSome (get objects (object z))) (inside is) there) (λ k apart y is. are k y is)
+    of-put i x there are = by_put m i x (λ k o. (y : X) → o ≡ Some y → IsSome (get objects (object y)))
+        (λ y is. subst (λ z. IsSome (get objects (object z))) (inside is) there) (λ k apart y is. are k y is)
 
     pub of-gone : (k : ℕ) → AreOf object m objects → AreOf object (remove m k) objects
     of-gone k are = λ j x is. are j x (removed_there m k j x is)
@@ -68,7 +70,8 @@ module _ {X : Type 0} (m : FinMap nat_cmp X) where
 
     -- an object whose name is new has none
     pub none_yet : {Y : Type 0} (objects : FinMap nat_cmp Y) (n i : ℕ) → n ≤ i → AreBelow objects n → AreOf object m objects → count_of i ≡ 0
-    none_yet objects n i later below are = total-zero (λ k x. cond (object x == i) 1 0) m (λ k x is. on_false (object x == i) 1 (ne_eqb (object x) i (λ same. absurd (omega (arith, later, same, below (object x) (are k x is))))))
+    none_yet objects n i later below are = total-zero (λ k x. cond (object x == i) 1 0) m
+        (λ k x is. on_false (object x == i) 1 (ne_eqb (object x) i (λ same. absurd (omega (arith, later, same, below (object x) (are k x is))))))
 
 -- ---- whom an event makes
 -- who is there afterwards was there before, or has the new name
@@ -100,7 +103,8 @@ module _ {X : Type 0} (m : FinMap nat_cmp X) (weight_of : X → ℕ) where
   -- a new thing
   pub sum-put : (n i : ℕ) (x : X) → n ≤ i → AreBelow m n → total {X = X} (λ k y. weight_of y) (insert m i x) ≡ sum_of + weight_of x
   sum-put n i x later below =
-      let none : weight (λ k (y : X). weight_of y) i (get m i) ≡ 0 = ap (weight (λ k (y : X). weight_of y) i) (is_absent (get m i) (λ there. fresh m n i i later below there refl)) in
+      let none : weight (λ k (y : X). weight_of y) i (get m i) ≡ 0 =
+      ap (weight (λ k (y : X). weight_of y) i) (is_absent (get m i) (λ there. fresh m n i i later below there refl)) in
       omega (arith, none, total-insert (λ k y. weight_of y) m i x)
 
   -- a thing is gone

@@ -34,16 +34,21 @@ module _ (h : Latches) where
   latches-same l there zero = zero
 
   latches-put : (l : ℕ) (r : Latch) → ((latch_at h l).count.number ≡ 0 → r.count.number ≡ 0) → LatchesLast h (latches.with_latch h l r)
-  latches-put l r here = by_at_put (new_latch 0) h.latches l r (λ k s. IsSome (get h.latches k) → (latch_at h k).count.number ≡ 0 → s.count.number ≡ 0) (λ there zero. here zero) (λ k apart there zero. zero)
+  latches-put l r here = by_at_put (new_latch 0) h.latches l r
+      (λ k s. IsSome (get h.latches k) → (latch_at h k).count.number ≡ 0 → s.count.number ≡ 0) (λ there zero. here zero) (λ k apart there zero. zero)
 
   latches-tidied : (m : Latches) (l : ℕ) → LatchesLast h m → LatchesLast h (latches.tidied m l)
-  latches-tidied m l last = elim (latches.is_named m l || nat_lt 0 (latches.waits_of m l)) as (λ b. LatchesLast h (if b then m else record m { latches = remove m.latches l })) [
-    | true ↦ last
-    | false ↦ by_at_gone (new_latch 0) m.latches l (λ k s. IsSome (get h.latches k) → (latch_at h k).count.number ≡ 0 → s.count.number ≡ 0) (λ there zero. refl) (λ k apart there zero. last k there zero)
-  ]
+  latches-tidied m l last = elim (latches.is_named m l || nat_lt 0 (latches.waits_of m l))
+      as (λ b. LatchesLast h (if b then m else record m { latches = remove m.latches l })) [
+        | true ↦ last
+        | false ↦ by_at_gone (new_latch 0) m.latches l (λ k s. IsSome (get h.latches k) → (latch_at h k).count.number ≡ 0 → s.count.number ≡ 0)
+            (λ there zero. refl) (λ k apart there zero. last k there zero)
+      ]
 
   latches-make : (n i k : ℕ) → n ≤ i → HasLatches h n → LatchesLast h (latches.make h i k).hall
-  latches-make n i k later v = by_at_put (new_latch 0) h.latches i (new_latch k) (λ l s. IsSome (get h.latches l) → (latch_at h l).count.number ≡ 0 → s.count.number ≡ 0) (λ there zero. absurd (fresh h.latches n i i later v.latches_below there refl)) (λ l apart there zero. zero)
+  latches-make n i k later v = by_at_put (new_latch 0) h.latches i (new_latch k)
+      (λ l s. IsSome (get h.latches l) → (latch_at h l).count.number ≡ 0 → s.count.number ≡ 0)
+      (λ there zero. absurd (fresh h.latches n i i later v.latches_below there refl)) (λ l apart there zero. zero)
 
   latches-arrive : (l n : ℕ) → LatchesLast h (latches.arrive h l n).hall
   latches-arrive l n = latches-put l (record (latch_at h l) { count = decreased (latch_at h l).count n }) (λ zero. stays_zero (latch_at h l).count n zero)
@@ -58,7 +63,8 @@ module _ (h : Latches) where
   latches-poll f w (Some x) =
       let r : Latch = latch_at h x.latch in
       let s : Latch = record r { count = with_waker r.count f w } in
-      elim (r.count.number == 0) as (λ b. LatchesLast h (if b then quietly (latches.gone h f x) answers.Ready else quietly (latches.with_latch h x.latch s) answers.Pending).hall) [
+      elim (r.count.number == 0) as (λ b. LatchesLast h
+      (if b then quietly (latches.gone h f x) answers.Ready else quietly (latches.with_latch h x.latch s) answers.Pending).hall) [
         | true ↦ latches-gone f x
         | false ↦ latches-put x.latch s (λ zero. zero)
       ]
@@ -90,13 +96,16 @@ module _ (h : Groups) where
   groups-same g there zero = zero
 
   groups-put : (g : ℕ) (c : Count) → ((group_at h g).number ≡ 0 → c.number ≡ 0) → GroupsLast h (record h { groups = insert h.groups g c })
-  groups-put g c here = by_at_put (count_from 0) h.groups g c (λ o d. IsSome (get h.groups o) → (group_at h o).number ≡ 0 → d.number ≡ 0) (λ there zero. here zero) (λ o apart there zero. zero)
+  groups-put g c here = by_at_put (count_from 0) h.groups g c (λ o d. IsSome (get h.groups o) → (group_at h o).number ≡ 0 → d.number ≡ 0)
+      (λ there zero. here zero) (λ o apart there zero. zero)
 
   groups-tidied : (m : Groups) (g : ℕ) → GroupsLast h m → GroupsLast h (groups.tidied m g)
-  groups-tidied m g last = elim (nat_lt 0 (groups.handles_of m g + groups.waits_of m g)) as (λ b. GroupsLast h (if b then m else record m { groups = remove m.groups g })) [
-    | true ↦ last
-    | false ↦ by_at_gone (count_from 0) m.groups g (λ o d. IsSome (get h.groups o) → (group_at h o).number ≡ 0 → d.number ≡ 0) (λ there zero. refl) (λ o apart there zero. last o there zero)
-  ]
+  groups-tidied m g last = elim (nat_lt 0 (groups.handles_of m g + groups.waits_of m g))
+      as (λ b. GroupsLast h (if b then m else record m { groups = remove m.groups g })) [
+        | true ↦ last
+        | false ↦ by_at_gone (count_from 0) m.groups g (λ o d. IsSome (get h.groups o) → (group_at h o).number ≡ 0 → d.number ≡ 0) (λ there zero. refl)
+            (λ o apart there zero. last o there zero)
+      ]
 
   groups-leaving : (k g : ℕ) → GroupsLast h (groups.leaving h k g)
   groups-leaving k g = groups-put g (decreased (group_at h g) 1) (λ zero. stays_zero (group_at h g) 1 zero)
@@ -118,7 +127,9 @@ module _ (h : Groups) where
   groups-poll f w None = groups-same
   groups-poll f w (Some g) =
       let c : Count = group_at h g in
-      elim (c.number == 0) as (λ b. GroupsLast h (if b then quietly (groups.gone h f g) answers.Ready else quietly (record h { groups = insert h.groups g (with_waker c f w) }) answers.Pending).hall) [
+      elim (c.number == 0) as (λ b. GroupsLast h
+      (if b then quietly (groups.gone h f g) answers.Ready
+      else quietly (record h { groups = insert h.groups g (with_waker c f w) }) answers.Pending).hall) [
         | true ↦ groups-gone f g
         | false ↦ groups-put g (with_waker c f w) (λ zero. zero)
       ]
@@ -133,12 +144,14 @@ module _ (h : Groups) where
 
   module _ (n i : ℕ) (later : n ≤ i) (v : HasGroups h n) where
     groups-make : GroupsLast h (groups.make h i).hall
-    groups-make = by_at_put (count_from 0) h.groups i (count_from 1) (λ g d. IsSome (get h.groups g) → (group_at h g).number ≡ 0 → d.number ≡ 0) (λ there zero. absurd (fresh h.groups n i i later v.groups_below there refl)) (λ g apart there zero. zero)
+    groups-make = by_at_put (count_from 0) h.groups i (count_from 1) (λ g d. IsSome (get h.groups g) → (group_at h g).number ≡ 0 → d.number ≡ 0)
+        (λ there zero. absurd (fresh h.groups n i i later v.groups_below there refl)) (λ g apart there zero. zero)
 
     -- a group that has a handle has not ended
     groups-clone : (k : ℕ) (o : Option ℕ) → get h.handles k ≡ o → GroupsLast h (groups.clone_of h i o).hall
     groups-clone k None at_k = groups-same
-    groups-clone k (Some g) at_k = groups-put g (increased (group_at h g)) (λ zero. absurd (omega (arith, zero, v.counted g, counts h.handles (λ o. o) k g at_k)))
+    groups-clone k (Some g) at_k = groups-put g (increased (group_at h g))
+        (λ zero. absurd (omega (arith, zero, v.counted g, counts h.handles (λ o. o) k g at_k)))
 
 pub groups-last : (h : Hall) (n i : ℕ) → n ≤ i → HasGroups h.groups n → (e : MeetEvent) → GroupsLast h.groups (step h i e).hall.groups
 groups-last h n i later v events.WgNew = groups-make h.groups n i later v
@@ -151,7 +164,8 @@ groups-last h n i later v e = groups-same h.groups
 
 -- ---- shutdowns
 abbrev ShutdownsLast : Shutdowns → Shutdowns → Type 0
-ShutdownsLast h m = (s : ℕ) (a : Awaited) → IsSome (get h.shutdowns s) → IsSome (get m.shutdowns s) → (awaited (shutdown_at h s) a).number ≡ 0 → (awaited (shutdown_at m s) a).number ≡ 0
+ShutdownsLast h m = (s : ℕ) (a : Awaited) → IsSome (get h.shutdowns s) → IsSome (get m.shutdowns s) → (awaited (shutdown_at h s) a).number ≡ 0
+    → (awaited (shutdown_at m s) a).number ≡ 0
 
 -- the counts of r that have ended have ended in t
 abbrev Lasts : Shutdown → Shutdown → Type 0
@@ -180,13 +194,18 @@ module _ (h : Shutdowns) where
   shutdowns-same s a there still zero = zero
 
   shutdowns-put : (s : ℕ) (t : Shutdown) → Lasts (shutdown_at h s) t → ShutdownsLast h (with_shutdown h s t)
-  shutdowns-put s t lasts o a = by_at_put new_shutdown h.shutdowns s t (λ k q. IsSome (get h.shutdowns k) → IsSome (get (insert h.shutdowns s t) k) → (awaited (shutdown_at h k) a).number ≡ 0 → (awaited q a).number ≡ 0) (λ there still zero. lasts a zero) (λ k apart there still zero. zero) o
+  shutdowns-put s t lasts o a = by_at_put new_shutdown h.shutdowns s t
+      (λ k q. IsSome (get h.shutdowns k) → IsSome (get (insert h.shutdowns s t) k) → (awaited (shutdown_at h k) a).number ≡ 0
+      → (awaited q a).number ≡ 0) (λ there still zero. lasts a zero) (λ k apart there still zero. zero) o
 
   shutdowns-tidied : (m : Shutdowns) (s : ℕ) → ShutdownsLast h m → ShutdownsLast h (shutdowns.tidied m s)
-  shutdowns-tidied m s last = elim (nat_lt 0 (shutdowns.senders_of m s + shutdowns.receivers_of m s + shutdowns.waits_of m s)) as (λ b. ShutdownsLast h (if b then m else record m { shutdowns = remove m.shutdowns s })) [
-    | true ↦ last
-    | false ↦ λ o a. by_gone m.shutdowns s (λ k p. IsSome (get h.shutdowns k) → IsSome p → (awaited (shutdown_at h k) a).number ≡ 0 → (awaited (unwrap_or p new_shutdown) a).number ≡ 0) (λ there still zero. absurd (cc)) (λ k apart there still zero. last k a there still zero) o
-  ]
+  shutdowns-tidied m s last = elim (nat_lt 0 (shutdowns.senders_of m s + shutdowns.receivers_of m s + shutdowns.waits_of m s))
+      as (λ b. ShutdownsLast h (if b then m else record m { shutdowns = remove m.shutdowns s })) [
+        | true ↦ last
+        | false ↦ λ o a. by_gone m.shutdowns s
+            (λ k p. IsSome (get h.shutdowns k) → IsSome p → (awaited (shutdown_at h k) a).number ≡ 0 → (awaited (unwrap_or p new_shutdown) a).number ≡ 0)
+            (λ there still zero. absurd (cc)) (λ k apart there still zero. last k a there still zero) o
+      ]
 
   shutdowns-copy_sender : (i : ℕ) (o : Option ℕ) → ShutdownsLast h (shutdowns.copy_sender_of h i o).hall
   shutdowns-copy_sender i None = shutdowns-same
@@ -216,7 +235,8 @@ module _ (h : Shutdowns) where
   shutdowns-gone f x =
       let r : Shutdown = shutdown_at h x.shutdown in
       let t : Shutdown = with_awaited r x.awaits (without_future (awaited r x.awaits) f) in
-      shutdowns-tidied (record h { shutdowns = insert h.shutdowns x.shutdown t; waits = remove h.waits f }) x.shutdown (shutdowns-put x.shutdown t (lasts-with r x.awaits (without_future (awaited r x.awaits) f) refl))
+      shutdowns-tidied (record h { shutdowns = insert h.shutdowns x.shutdown t; waits = remove h.waits f }) x.shutdown
+      (shutdowns-put x.shutdown t (lasts-with r x.awaits (without_future (awaited r x.awaits) f) refl))
 
   shutdowns-poll : (f w : ℕ) (o : Option ShutdownWait) → ShutdownsLast h (shutdowns.poll_of h f w o).hall
   shutdowns-poll f w None = shutdowns-same
@@ -224,7 +244,8 @@ module _ (h : Shutdowns) where
       let r : Shutdown = shutdown_at h x.shutdown in
       let c : Count = awaited r x.awaits in
       let t : Shutdown = with_awaited r x.awaits (with_waker c f w) in
-      elim (c.number == 0) as (λ b. ShutdownsLast h (if b then quietly (shutdowns.gone h f x) answers.Ready else quietly (with_shutdown h x.shutdown t) answers.Pending).hall) [
+      elim (c.number == 0) as (λ b. ShutdownsLast h
+      (if b then quietly (shutdowns.gone h f x) answers.Ready else quietly (with_shutdown h x.shutdown t) answers.Pending).hall) [
         | true ↦ shutdowns-gone f x
         | false ↦ shutdowns-put x.shutdown t (lasts-with r x.awaits (with_waker c f w) refl)
       ]
@@ -243,26 +264,39 @@ module _ (h : Shutdowns) where
       let t : Shutdown = record (shutdown_at h x.shutdown) { receivers = decreased (shutdown_at h x.shutdown).receivers 1 } in
       let watch : Shutdowns = record h { receivers = remove h.receivers k } in
       let counted : Shutdowns = record h { shutdowns = insert h.shutdowns x.shutdown t; receivers = remove h.receivers k } in
-      elim x.watch as (λ b. ShutdownsLast h (if b then quietly (shutdowns.tidied watch x.shutdown) answers.Done else record { hall = shutdowns.tidied counted x.shutdown; reply = answers.Done; wakes = woken_by (shutdown_at h x.shutdown).receivers 1 }).hall) [
+      elim x.watch as (λ b. ShutdownsLast h
+      (if b then quietly (shutdowns.tidied watch x.shutdown) answers.Done
+      else record { hall = shutdowns.tidied counted x.shutdown; reply = answers.Done; wakes = woken_by (shutdown_at h x.shutdown).receivers 1 }).hall) [
         | true ↦ shutdowns-tidied watch x.shutdown shutdowns-same
         | false ↦ shutdowns-tidied counted x.shutdown (shutdowns-put x.shutdown t (lasts-receivers (shutdown_at h x.shutdown)))
       ]
 
   module _ (n i : ℕ) (later : n ≤ i) (v : HasShutdowns h n) where
     shutdowns-make : ShutdownsLast h (shutdowns.make h i).hall
-    shutdowns-make o a = by_at_put new_shutdown h.shutdowns i new_shutdown (λ k q. IsSome (get h.shutdowns k) → IsSome (get (insert h.shutdowns i new_shutdown) k) → (awaited (shutdown_at h k) a).number ≡ 0 → (awaited q a).number ≡ 0) (λ there still zero. absurd (fresh h.shutdowns n i i later v.shutdowns_below there refl)) (λ k apart there still zero. zero) o
+    shutdowns-make o a = by_at_put new_shutdown h.shutdowns i new_shutdown
+        (λ k q. IsSome (get h.shutdowns k) → IsSome (get (insert h.shutdowns i new_shutdown) k) → (awaited (shutdown_at h k) a).number ≡ 0
+        → (awaited q a).number ≡ 0) (λ there still zero. absurd (fresh h.shutdowns n i i later v.shutdowns_below there refl))
+        (λ k apart there still zero. zero) o
 
     -- a shutdown that has a receiver is not without receivers
     has_receiver : (k : ℕ) (x : Receiver) → get h.receivers k ≡ Some x → x.watch ≡ false → 1 ≤ (shutdown_at h x.shutdown).receivers.number
     has_receiver k x at_k counted =
         let one = counts_here (x.shutdown == x.shutdown) x.watch 1 (eq-eqb x.shutdown x.shutdown refl) counted in
-        omega (arith, one, v.counted x.shutdown (v.receivers_known k x at_k), total-has (λ j (y : Receiver). cond (y.shutdown == x.shutdown && not y.watch) 1 0) h.receivers k x at_k)
+        omega (
+          arith,
+          one,
+          v.counted x.shutdown
+              (v.receivers_known k x at_k),
+          total-has (λ j (y : Receiver). cond (y.shutdown == x.shutdown && not y.watch) 1 0) h.receivers k x at_k,
+        )
 
     shutdowns-copy_receiver : (k : ℕ) (o : Option Receiver) → get h.receivers k ≡ o → ShutdownsLast h (shutdowns.copy_receiver_of h i o).hall
     shutdowns-copy_receiver k None at_k = shutdowns-same
     shutdowns-copy_receiver k (Some x) at_k =
         let t : Shutdown = record (shutdown_at h x.shutdown) { receivers = increased (shutdown_at h x.shutdown).receivers } in
-        elim x.watch as (λ b. x.watch ≡ b → ShutdownsLast h (if b then record h { receivers = insert h.receivers i x } else record h { shutdowns = insert h.shutdowns x.shutdown t; receivers = insert h.receivers i x })) [
+        elim x.watch as (λ b. x.watch ≡ b → ShutdownsLast h
+        (if b then record h { receivers = insert h.receivers i x }
+        else record h { shutdowns = insert h.shutdowns x.shutdown t; receivers = insert h.receivers i x })) [
           | true ↦ λ e. shutdowns-same
           | false ↦ λ e. shutdowns-put x.shutdown t (lasts-increased (shutdown_at h x.shutdown) (has_receiver k x at_k e))
         ] refl

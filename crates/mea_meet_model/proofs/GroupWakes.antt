@@ -61,16 +61,27 @@ module _ (h : Groups) (n i : ℕ) (later : n ≤ i) (v : HasGroups h n) where
     groups_below = below-put h.groups n i (count_from 1) later v.groups_below;
     handles_below = below-put h.handles n i i later v.handles_below;
     waits_below = below-later h.waits n i later v.waits_below;
-    handles_known = of-put h.handles (λ g. g) (insert h.groups i (count_from 1)) i i (is_there (get (insert h.groups i (count_from 1)) i) (count_from 1) (get-there h.groups i (count_from 1))) (of-objects_put h.handles (λ g. g) h.groups i (count_from 1) v.handles_known);
+    handles_known = of-put h.handles (λ g. g) (insert h.groups i (count_from 1)) i i
+        (is_there (get (insert h.groups i (count_from 1)) i) (count_from 1) (get-there h.groups i (count_from 1)))
+        (of-objects_put h.handles (λ g. g) h.groups i (count_from 1) v.handles_known);
     waits_known = of-objects_put h.waits (λ g. g) h.groups i (count_from 1) v.waits_known;
     quiet = by_at_put (count_from 0) h.groups i (count_from 1) (λ g c. IsQuietAtEnd c) (λ zero. refl) (λ g apart. v.quiet g);
     counted = by_at_put (count_from 0) h.groups i (count_from 1) (λ g c. c.number ≡ handles_of (make h i).hall g)
-        (let one = on_true (i == i) 1 (eq-eqb i i refl) in omega (arith, one, sum-put h.handles (λ o. cond (o == i) 1 0) n i i later v.handles_below, none_yet h.handles (λ g. g) h.groups n i later v.groups_below v.handles_known))
-        (λ g apart. let none = on_false (i == g) 1 (ne_eqb i g apart) in omega (arith, none, v.counted g, sum-put h.handles (λ o. cond (o == g) 1 0) n i i later v.handles_below));
-    waiting_there = by_at_put (count_from 0) h.groups i (count_from 1) (λ g c. Waits h.waits g c) (none_waits h.waits i (count_from 1) refl) (λ g apart. v.waiting_there g);
+        (let one = on_true (i == i) 1 (eq-eqb i i refl) in omega (
+          arith,
+          one,
+          sum-put h.handles (λ o. cond (o == i) 1 0) n i i later v.handles_below,
+          none_yet h.handles (λ g. g)
+              h.groups n i later v.groups_below v.handles_known,
+        ))
+        (λ g apart. let none = on_false (i == g) 1 (ne_eqb i g apart) in
+        omega (arith, none, v.counted g, sum-put h.handles (λ o. cond (o == g) 1 0) n i i later v.handles_below));
+    waiting_there = by_at_put (count_from 0) h.groups i (count_from 1) (λ g c. Waits h.waits g c) (none_waits h.waits i (count_from 1) refl)
+        (λ g apart. v.waiting_there g);
   }
 
-  groups-clone : (g : ℕ) → IsSome (get h.groups g) → HasGroups (record h { groups = insert h.groups g (increased (group_at h g)); handles = insert h.handles i g }) (i + 1)
+  groups-clone : (g : ℕ) → IsSome (get h.groups g) → HasGroups
+      (record h { groups = insert h.groups g (increased (group_at h g)); handles = insert h.handles i g }) (i + 1)
   groups-clone g there = record {
     groups_below = below-later _ n i later (below-over h.groups n g (increased (group_at h g)) there v.groups_below);
     handles_below = below-put h.handles n i g later v.handles_below;
@@ -79,9 +90,12 @@ module _ (h : Groups) (n i : ℕ) (later : n ≤ i) (v : HasGroups h n) where
     waits_known = of-objects_put h.waits (λ o. o) h.groups g (increased (group_at h g)) v.waits_known;
     quiet = by_at_put (count_from 0) h.groups g (increased (group_at h g)) (λ o c. IsQuietAtEnd c) (quiet-increased (group_at h g)) (λ o apart. v.quiet o);
     counted = by_at_put (count_from 0) h.groups g (increased (group_at h g)) (λ o c. c.number ≡ handles_of (record h { handles = insert h.handles i g }) o)
-        (let one = on_true (g == g) 1 (eq-eqb g g refl) in omega (arith, one, v.counted g, sum-put h.handles (λ o. cond (o == g) 1 0) n i g later v.handles_below))
-        (λ o apart. let none = on_false (g == o) 1 (ne_eqb g o apart) in omega (arith, none, v.counted o, sum-put h.handles (λ k. cond (k == o) 1 0) n i g later v.handles_below));
-    waiting_there = by_at_put (count_from 0) h.groups g (increased (group_at h g)) (λ o c. Waits h.waits o c) (v.waiting_there g) (λ o apart. v.waiting_there o);
+        (let one = on_true (g == g) 1 (eq-eqb g g refl) in omega
+        (arith, one, v.counted g, sum-put h.handles (λ o. cond (o == g) 1 0) n i g later v.handles_below))
+        (λ o apart. let none = on_false (g == o) 1 (ne_eqb g o apart) in
+        omega (arith, none, v.counted o, sum-put h.handles (λ k. cond (k == o) 1 0) n i g later v.handles_below));
+    waiting_there = by_at_put (count_from 0) h.groups g (increased (group_at h g)) (λ o c. Waits h.waits o c) (v.waiting_there g)
+        (λ o apart. v.waiting_there o);
   }
 
   groups-wait : (g : ℕ) → IsSome (get h.groups g) → HasGroups (record h { waits = insert h.waits i g }) (i + 1)
@@ -100,7 +114,8 @@ module _ (h : Groups) (n i : ℕ) (later : n ≤ i) (v : HasGroups h n) where
 
 module _ (h : Groups) (n : ℕ) (v : HasGroups h n) where
   -- a group of as many
-  groups-with : (g : ℕ) (c : Count) → IsSome (get h.groups g) → c.number ≡ (group_at h g).number → IsQuietAtEnd c → Waits h.waits g c → HasGroups (record h { groups = insert h.groups g c }) n
+  groups-with : (g : ℕ) (c : Count) → IsSome (get h.groups g) → c.number ≡ (group_at h g).number → IsQuietAtEnd c → Waits h.waits g c
+      → HasGroups (record h { groups = insert h.groups g c }) n
   groups-with g c there same left waiting = record {
     groups_below = below-over h.groups n g c there v.groups_below;
     handles_below = v.handles_below;
@@ -126,8 +141,10 @@ module _ (h : Groups) (n : ℕ) (v : HasGroups h n) where
   }
 
   -- its group has another list, which has no waker of it
-  left_by_all : (f g : ℕ) (c : Count) → get h.waits f ≡ Some g → waker_for c.waiting f ≡ None → (o w : ℕ) → waker_for (group_at (record h { groups = insert h.groups g c }) o).waiting f ≡ Some w → ⊥
-  left_by_all f g c is none = by_at_put (count_from 0) h.groups g c (λ o d. (w : ℕ) → waker_for d.waiting f ≡ Some w → ⊥) (λ w has. absurd (cc)) (λ o apart w has. apart (inside (sym is ∙ v.waiting_there o f w has)))
+  left_by_all : (f g : ℕ) (c : Count) → get h.waits f ≡ Some g → waker_for c.waiting f ≡ None → (o w : ℕ)
+      → waker_for (group_at (record h { groups = insert h.groups g c }) o).waiting f ≡ Some w → ⊥
+  left_by_all f g c is none = by_at_put (count_from 0) h.groups g c (λ o d. (w : ℕ) → waker_for d.waiting f ≡ Some w → ⊥) (λ w has. absurd (cc))
+      (λ o apart w has. apart (inside (sym is ∙ v.waiting_there o f w has)))
 
   groups-leaving : (k g : ℕ) → get h.handles k ≡ Some g → HasGroups (leaving h k g) n
   groups-leaving k g is = record {
@@ -136,11 +153,13 @@ module _ (h : Groups) (n : ℕ) (v : HasGroups h n) where
     waits_below = v.waits_below;
     handles_known = of-gone h.handles (λ o. o) _ k (of-objects_put h.handles (λ o. o) h.groups g (decreased (group_at h g) 1) v.handles_known);
     waits_known = of-objects_put h.waits (λ o. o) h.groups g (decreased (group_at h g) 1) v.waits_known;
-    quiet = by_at_put (count_from 0) h.groups g (decreased (group_at h g) 1) (λ o c. IsQuietAtEnd c) (quiet-decreased (group_at h g) 1 (v.quiet g)) (λ o apart. v.quiet o);
+    quiet = by_at_put (count_from 0) h.groups g (decreased (group_at h g) 1) (λ o c. IsQuietAtEnd c) (quiet-decreased (group_at h g) 1 (v.quiet g))
+        (λ o apart. v.quiet o);
     counted = by_at_put (count_from 0) h.groups g (decreased (group_at h g) 1) (λ o c. c.number ≡ handles_of (record h { handles = remove h.handles k }) o)
         (let one = on_true (g == g) 1 (eq-eqb g g refl) in omega (arith, one, v.counted g, sum-gone h.handles (λ o. cond (o == g) 1 0) k g is))
         (λ o apart. let none = on_false (g == o) 1 (ne_eqb g o apart) in omega (arith, none, v.counted o, sum-gone h.handles (λ j. cond (j == o) 1 0) k g is));
-    waiting_there = by_at_put (count_from 0) h.groups g (decreased (group_at h g) 1) (λ o c. Waits h.waits o c) (λ f w has. v.waiting_there g f w (decreased-had (group_at h g) 1 f w has)) (λ o apart. v.waiting_there o);
+    waiting_there = by_at_put (count_from 0) h.groups g (decreased (group_at h g) 1) (λ o c. Waits h.waits o c)
+        (λ f w has. v.waiting_there g f w (decreased-had (group_at h g) 1 f w has)) (λ o apart. v.waiting_there o);
   }
 
   groups-drop : (g : ℕ) → handles_of h g ≡ 0 → waits_of h g ≡ 0 → HasGroups (record h { groups = remove h.groups g }) n
@@ -160,10 +179,11 @@ none_left : (h : Groups) (g : ℕ) → nat_lt 0 (handles_of h g + waits_of h g) 
 none_left h g e = let none = ltb-false 0 (handles_of h g + waits_of h g) e in (omega (arith, none), omega (arith, none))
 
 groups-tidied : (h : Groups) (n g : ℕ) → HasGroups h n → HasGroups (tidied h g) n
-groups-tidied h n g v = elim (nat_lt 0 (handles_of h g + waits_of h g)) as (λ b. nat_lt 0 (handles_of h g + waits_of h g) ≡ b → HasGroups (if b then h else record h { groups = remove h.groups g }) n) [
-  | true ↦ λ e. v
-  | false ↦ λ e. let none = none_left h g e in groups-drop h n v g none.0 none.1
-] refl
+groups-tidied h n g v = elim (nat_lt 0 (handles_of h g + waits_of h g))
+    as (λ b. nat_lt 0 (handles_of h g + waits_of h g) ≡ b → HasGroups (if b then h else record h { groups = remove h.groups g }) n) [
+      | true ↦ λ e. v
+      | false ↦ λ e. let none = none_left h g e in groups-drop h n v g none.0 none.1
+    ] refl
 
 -- ---- groups that live
 -- by its handles or its futures, for a group that is there
@@ -172,13 +192,14 @@ Lives h g o = IsSome o → 0 < handles_of h g + waits_of h g
 
 -- where each other group lives, a tidying leaves none that does not
 live-tidied : (h : Groups) (g : ℕ) → ((o : ℕ) → (g ≡ o → ⊥) → Lives h o (get h.groups o)) → HasLiveGroups (tidied h g)
-live-tidied h g others = elim (nat_lt 0 (handles_of h g + waits_of h g)) as (λ b. nat_lt 0 (handles_of h g + waits_of h g) ≡ b → HasLiveGroups (if b then h else record h { groups = remove h.groups g })) [
-  | true ↦ λ e o. elim (g == o) as (λ b. (g == o) ≡ b → Lives h o (get h.groups o)) [
-    | true ↦ λ same. subst (λ k. Lives h k (get h.groups k)) (eqb-true g o same) (λ there. ltb-true 0 (handles_of h g + waits_of h g) e)
-    | false ↦ λ apart. others o (eqb-false g o apart)
-  ] refl
-  | false ↦ λ e. by_gone h.groups g (λ o p. Lives h o p) (λ there. absurd (cc)) others
-] refl
+live-tidied h g others = elim (nat_lt 0 (handles_of h g + waits_of h g))
+    as (λ b. nat_lt 0 (handles_of h g + waits_of h g) ≡ b → HasLiveGroups (if b then h else record h { groups = remove h.groups g })) [
+      | true ↦ λ e o. elim (g == o) as (λ b. (g == o) ≡ b → Lives h o (get h.groups o)) [
+        | true ↦ λ same. subst (λ k. Lives h k (get h.groups k)) (eqb-true g o same) (λ there. ltb-true 0 (handles_of h g + waits_of h g) e)
+        | false ↦ λ apart. others o (eqb-false g o apart)
+      ] refl
+      | false ↦ λ e. by_gone h.groups g (λ o p. Lives h o p) (λ there. absurd (cc)) others
+    ] refl
 
 module _ (h : Groups) (live : HasLiveGroups h) where
   live-make : (n i : ℕ) → n ≤ i → AreBelow h.handles n → HasLiveGroups (make h i).hall
@@ -190,18 +211,28 @@ module _ (h : Groups) (live : HasLiveGroups h) where
   live-over : (g : ℕ) (c : Count) → IsSome (get h.groups g) → HasLiveGroups (record h { groups = insert h.groups g c })
   live-over g c known = by_put h.groups g c (λ o p. Lives h o p) (λ there. live g known) (λ o apart. live o)
 
-  live-clone : (n i g : ℕ) → n ≤ i → AreBelow h.handles n → IsSome (get h.groups g) → HasLiveGroups (record h { groups = insert h.groups g (increased (group_at h g)); handles = insert h.handles i g })
-  live-clone n i g later below known o there = omega (arith, live-over g (increased (group_at h g)) known o there, sum-put h.handles (λ k. cond (k == o) 1 0) n i g later below)
+  live-clone : (n i g : ℕ) → n ≤ i → AreBelow h.handles n → IsSome (get h.groups g)
+      → HasLiveGroups (record h { groups = insert h.groups g (increased (group_at h g)); handles = insert h.handles i g })
+  live-clone n i g later below known o there = omega
+      (arith, live-over g (increased (group_at h g)) known o there, sum-put h.handles (λ k. cond (k == o) 1 0) n i g later below)
 
   live-copy : (n i g : ℕ) → n ≤ i → AreBelow h.waits n → HasLiveGroups (record h { waits = insert h.waits i g })
   live-copy n i g later below o there = omega (arith, live o there, sum-put h.waits (λ k. cond (k == o) 1 0) n i g later below)
 
   -- a future in place of a handle
-  live-into : (n i k g : ℕ) → n ≤ i → AreBelow h.waits n → get h.handles k ≡ Some g → IsSome (get h.groups g) → HasLiveGroups (record (leaving h k g) { waits = insert h.waits i g })
-  live-into n i k g later below is known o there = omega (arith, live-over g (decreased (group_at h g) 1) known o there, sum-gone h.handles (λ j. cond (j == o) 1 0) k g is, sum-put h.waits (λ j. cond (j == o) 1 0) n i g later below)
+  live-into : (n i k g : ℕ) → n ≤ i → AreBelow h.waits n → get h.handles k ≡ Some g → IsSome (get h.groups g)
+      → HasLiveGroups (record (leaving h k g) { waits = insert h.waits i g })
+  live-into n i k g later below is known o there = omega (
+    arith,
+    live-over g (decreased (group_at h g) 1) known o there,
+    sum-gone h.handles (λ j. cond (j == o) 1 0) k g is,
+    sum-put h.waits
+        (λ j. cond (j == o) 1 0) n i g later below,
+  )
 
   live-leaving : (k g : ℕ) → get h.handles k ≡ Some g → HasLiveGroups (tidied (leaving h k g) g)
-  live-leaving k g is = live-tidied (leaving h k g) g (λ o apart. subst (λ p. Lives (leaving h k g) o p) (sym (get-other h.groups g o (decreased (group_at h g) 1) apart)) (λ there.
+  live-leaving k g is = live-tidied (leaving h k g) g
+      (λ o apart. subst (λ p. Lives (leaving h k g) o p) (sym (get-other h.groups g o (decreased (group_at h g) 1) apart)) (λ there.
       let other = on_false (g == o) 1 (ne_eqb g o apart) in
       omega (arith, other, live o there, sum-gone h.handles (λ j. cond (j == o) 1 0) k g is)))
 
@@ -214,14 +245,16 @@ module _ (h : Groups) (live : HasLiveGroups h) where
       omega (arith, other, live o there, sum-gone h.waits (λ j. cond (j == o) 1 0) f g is)))
 
 waits-tidied : (h : Groups) (g : ℕ) → (tidied h g).waits ≡ h.waits
-waits-tidied h g = elim (nat_lt 0 (handles_of h g + waits_of h g)) as (λ b. (if b then h else record h { groups = remove h.groups g }).waits ≡ h.waits) [ true ↦ refl | false ↦ refl ]
+waits-tidied h g = elim (nat_lt 0 (handles_of h g + waits_of h g))
+    as (λ b. (if b then h else record h { groups = remove h.groups g }).waits ≡ h.waits) [ true ↦ refl | false ↦ refl ]
 
 -- the group of a future stays
 tidied-at : (h : Groups) (g f o : ℕ) → get h.waits f ≡ Some o → group_at (tidied h g) o ≡ group_at h o
-tidied-at h g f o is = elim (nat_lt 0 (handles_of h g + waits_of h g)) as (λ b. nat_lt 0 (handles_of h g + waits_of h g) ≡ b → group_at (if b then h else record h { groups = remove h.groups g }) o ≡ group_at h o) [
-  | true ↦ λ e. refl
-  | false ↦ λ e. at-removed_other (count_from 0) h.groups g o (none_of h.waits (λ k. k) g f o (none_left h g e).1 is)
-] refl
+tidied-at h g f o is = elim (nat_lt 0 (handles_of h g + waits_of h g))
+    as (λ b. nat_lt 0 (handles_of h g + waits_of h g) ≡ b → group_at (if b then h else record h { groups = remove h.groups g }) o ≡ group_at h o) [
+      | true ↦ λ e. refl
+      | false ↦ λ e. at-removed_other (count_from 0) h.groups g o (none_of h.waits (λ k. k) g f o (none_left h g e).1 is)
+    ] refl
 
 placed-tidied : (h : Groups) (g f : ℕ) → placed (tidied h g) f ≡ placed h f
 placed-tidied h g f = ap (λ m. placed_of (tidied h g) f (get m f)) (waits-tidied h g) ∙ at (get h.waits f) refl
@@ -247,7 +280,8 @@ for_all : (g : ℕ) (h : Groups) (o : Outcome Groups) (i : ℕ) → Goes h o i �
 for_all g h o i goes = going.for_all Stands (λ (m : Groups). m.waits) placed g h o i goes
 
 passes-by : (h m : Groups) (ws : List ℕ) (f : ℕ)
-    → ((g w : ℕ) → get h.waits f ≡ Some g → waker_for (group_at h g).waiting f ≡ Some w → IsSome (get m.waits f) → (get m.waits f ≡ Some g) × ((waker_for (group_at m g).waiting f ≡ Some w) ⊎ Contains ws w))
+    → ((g w : ℕ) → get h.waits f ≡ Some g → waker_for (group_at h g).waiting f ≡ Some w → IsSome (get m.waits f)
+    → (get m.waits f ≡ Some g) × ((waker_for (group_at m g).waiting f ≡ Some w) ⊎ Contains ws w))
     → Passes h m ws f
 passes-by h m ws f each w is there = at (get h.waits f) refl is
   where
@@ -264,9 +298,12 @@ passes-tidied h m ws g f passes w is there = elim (passes w is (subst (λ s. IsS
 ]
 
 -- the wakers of a group that changes, where those of the changed one are kept or woken
-keeps-put : (h : Groups) (g : ℕ) (c : Count) (ws : List ℕ) (f w : ℕ) → (waker_for (group_at h g).waiting f ≡ Some w → (waker_for c.waiting f ≡ Some w) ⊎ Contains ws w)
-    → (o : ℕ) → waker_for (group_at h o).waiting f ≡ Some w → (waker_for (group_at (record h { groups = insert h.groups g c }) o).waiting f ≡ Some w) ⊎ Contains ws w
-keeps-put h g c ws f w here = by_at_put (count_from 0) h.groups g c (λ o d. waker_for (group_at h o).waiting f ≡ Some w → (waker_for d.waiting f ≡ Some w) ⊎ Contains ws w) here (λ o apart p. inl p)
+keeps-put : (h : Groups) (g : ℕ) (c : Count) (ws : List ℕ) (f w : ℕ)
+    → (waker_for (group_at h g).waiting f ≡ Some w → (waker_for c.waiting f ≡ Some w) ⊎ Contains ws w)
+    → (o : ℕ) → waker_for (group_at h o).waiting f ≡ Some w → (waker_for (group_at (record h { groups = insert h.groups g c }) o).waiting f ≡ Some w)
+    ⊎ Contains ws w
+keeps-put h g c ws f w here = by_at_put (count_from 0) h.groups g c
+    (λ o d. waker_for (group_at h o).waiting f ≡ Some w → (waker_for d.waiting f ≡ Some w) ⊎ Contains ws w) here (λ o apart p. inl p)
 
 module _ (h : Groups) (n i : ℕ) (later : n ≤ i) (v : HasGroups h n) (live : HasLiveGroups h) where
   pub goes-nowhere : (reply : Answer) → Goes h (quietly h reply) i
@@ -280,7 +317,13 @@ module _ (h : Groups) (n i : ℕ) (later : n ≤ i) (v : HasGroups h n) (live : 
   goes-make = record {
     valid = (groups-new h n i later v, live-make h live n i later v.handles_below);
     made = made-same h.waits i;
-    passes = λ f. passes-by h (make h i).hall [] f (λ g w is has there. (is, inl (ap (λ (c : Count). waker_for c.waiting f) (at-other (count_from 0) h.groups i g (count_from 1) (fresh h.groups n i g later v.groups_below (v.waits_known f g is))) ∙ has)));
+    passes = λ f. passes-by h (make h i).hall [] f
+        (λ g w is has there. (
+          is,
+          inl
+              (ap (λ (c : Count). waker_for c.waiting f)
+              (at-other (count_from 0) h.groups i g (count_from 1) (fresh h.groups n i g later v.groups_below (v.waits_known f g is))) ∙ has),
+        ));
   }
 
   pub goes-clone : (k : ℕ) (o : Option ℕ) → get h.handles k ≡ o → Goes h (clone_of h i o) i
@@ -299,7 +342,8 @@ module _ (h : Groups) (n i : ℕ) (later : n ≤ i) (v : HasGroups h n) (live : 
     passes = λ f. passes-by h (copy_of h i (Some g)).hall [] f (λ o w is has there. (get-other h.waits i f g (not_new f o is) ∙ is, inl has));
   }
 
-  keeps-leaving : (k g f o w : ℕ) → waker_for (group_at h o).waiting f ≡ Some w → (waker_for (group_at (leaving h k g) o).waiting f ≡ Some w) ⊎ Contains (woken_by (group_at h g) 1) w
+  keeps-leaving : (k g f o w : ℕ) → waker_for (group_at h o).waiting f ≡ Some w
+      → (waker_for (group_at (leaving h k g) o).waiting f ≡ Some w) ⊎ Contains (woken_by (group_at h g) 1) w
   keeps-leaving k g f o w = keeps-put h g (decreased (group_at h g) 1) (woken_by (group_at h g) 1) f w (λ p. decreased-keeps (group_at h g) 1 f w p) o
 
   pub goes-into : (k : ℕ) (o : Option ℕ) → get h.handles k ≡ o → Goes h (into_of h i k o) i
@@ -307,9 +351,14 @@ module _ (h : Groups) (n i : ℕ) (later : n ≤ i) (v : HasGroups h n) (live : 
   goes-into k (Some g) at_k =
       let there : IsSome (get (leaving h k g).groups g) = is_there (get (leaving h k g).groups g) _ (get-there h.groups g (decreased (group_at h g) 1)) in
       record {
-        valid = (groups-wait (leaving h k g) n i later (groups-leaving h n v k g at_k) g there, live-into h live n i k g later v.waits_below at_k (v.handles_known k g at_k));
+        valid = (
+          groups-wait (leaving h k g) n i later (groups-leaving h n v k g at_k) g there,
+          live-into h live n i k g later v.waits_below at_k
+              (v.handles_known k g at_k),
+        );
         made = made-put h.waits i g;
-        passes = λ f. passes-by h (into_of h i k (Some g)).hall _ f (λ o w is has _. (get-other h.waits i f g (not_new f o is) ∙ is, keeps-leaving k g f o w has));
+        passes = λ f. passes-by h (into_of h i k (Some g)).hall _ f
+            (λ o w is has _. (get-other h.waits i f g (not_new f o is) ∙ is, keeps-leaving k g f o w has));
       }
 
   goes-end_handle : (k g : ℕ) → get h.handles k ≡ Some g → Goes h (end_of h k (Some g)) i
@@ -327,7 +376,8 @@ module _ (h : Groups) (n i : ℕ) (later : n ≤ i) (v : HasGroups h n) (live : 
   groups-left f g at_f =
       let c : Count = group_at h g in
       let d : Count = without_future c f in
-      let ended = groups-with h n v g d (v.waits_known f g at_f) refl (quiet-ending c f (v.quiet g)) (λ k w has. v.waiting_there g k w (ending-had c.waiting f k w has)) in
+      let ended = groups-with h n v g d (v.waits_known f g at_f) refl (quiet-ending c f (v.quiet g))
+      (λ k w has. v.waiting_there g k w (ending-had c.waiting f k w has)) in
       groups-without (record h { groups = insert h.groups g d }) n ended f (left_by_all h n v f g d at_f (ending-there c.waiting f))
 
   passes-left : (f g k : ℕ) → Passes h (left_by f g) [] k
@@ -358,35 +408,46 @@ module _ (h : Groups) (n i : ℕ) (later : n ≤ i) (v : HasGroups h n) (live : 
   waits_on f w g at_f k u is = registering-had (group_at h g).waiting f w k u (λ j. get h.waits j ≡ Some g) at_f (λ was. v.waiting_there g k u was) is
 
   -- f waits on
-  registers : (f w g : ℕ) → get h.waits f ≡ Some g → ((group_at h g).number == 0) ≡ false → GoesFor f h (quietly (record h { groups = insert h.groups g (with_waker (group_at h g) f w) }) answers.Pending) i
+  registers : (f w g : ℕ) → get h.waits f ≡ Some g → ((group_at h g).number == 0) ≡ false
+      → GoesFor f h (quietly (record h { groups = insert h.groups g (with_waker (group_at h g) f w) }) answers.Pending) i
   registers f w g at_f runs =
       let c : Count = group_at h g in
       let d : Count = with_waker c f w in
       record {
-        valid = (groups-later _ n i later (groups-with h n v g d (v.waits_known f g at_f) refl (quiet-registering c f w runs) (waits_on f w g at_f)), live-over h live g d (v.waits_known f g at_f));
+        valid = (
+          groups-later _ n i later
+              (groups-with h n v g d (v.waits_known f g at_f) refl (quiet-registering c f w runs) (waits_on f w g at_f)),
+          live-over h live g d
+              (v.waits_known f g at_f),
+        );
         made = made-same h.waits i;
-        passes = λ k apart. passes-by h (record h { groups = insert h.groups g d }) [] k (λ o u is has there. (is, keeps-put h g d [] k u (λ p. inl (registering-other c.waiting f k w apart ∙ p)) o has));
+        passes = λ k apart. passes-by h (record h { groups = insert h.groups g d }) [] k
+            (λ o u is has there. (is, keeps-put h g d [] k u (λ p. inl (registering-other c.waiting f k w apart ∙ p)) o has));
       }
 
   pub goes-poll : (f w : ℕ) (o : Option ℕ) → get h.waits f ≡ o → GoesFor f h (poll_of h f w o) i
   goes-poll f w None is = for_all f h _ i (goes-nowhere answers.Pending)
   goes-poll f w (Some g) is =
       let c : Count = group_at h g in
-      elim (c.number == 0) as (λ b. (c.number == 0) ≡ b → GoesFor f h (if b then quietly (gone h f g) answers.Ready else quietly (record h { groups = insert h.groups g (with_waker c f w) }) answers.Pending) i) [
+      elim (c.number == 0) as (λ b. (c.number == 0) ≡ b → GoesFor f h
+      (if b then quietly (gone h f g) answers.Ready else quietly (record h { groups = insert h.groups g (with_waker c f w) }) answers.Pending) i) [
         | true ↦ λ e. for_all f h _ i (goes-gone f g is answers.Ready)
         | false ↦ λ e. registers f w g is e
       ] refl
 
 -- ---- polls
 -- a poll that replies `pending` places its waker
-pub places : (h : Groups) (f w : ℕ) (o : Option ℕ) → get h.waits f ≡ o → IsSome o → (poll_of h f w o).reply ≡ answers.Pending → placed (poll_of h f w o).hall f ≡ Some w
+pub places : (h : Groups) (f w : ℕ) (o : Option ℕ) → get h.waits f ≡ o → IsSome o → (poll_of h f w o).reply ≡ answers.Pending
+    → placed (poll_of h f w o).hall f ≡ Some w
 places h f w None is known = absurd (cc)
 places h f w (Some g) is known =
     let c : Count = group_at h g in
     let m : Groups = record h { groups = insert h.groups g (with_waker c f w) } in
-    elim (c.number == 0) as (λ b. (if b then quietly (gone h f g) answers.Ready else quietly m answers.Pending).reply ≡ answers.Pending → placed (if b then quietly (gone h f g) answers.Ready else quietly m answers.Pending).hall f ≡ Some w) [
+    elim (c.number == 0) as (λ b. (if b then quietly (gone h f g) answers.Ready else quietly m answers.Pending).reply ≡ answers.Pending
+    → placed (if b then quietly (gone h f g) answers.Ready else quietly m answers.Pending).hall f ≡ Some w) [
       | true ↦ λ e. absurd (cc)
-      | false ↦ λ e. ap (placed_of m f) is ∙ ap (λ (d : Count). waker_for d.waiting f) (at-there (count_from 0) h.groups g (with_waker c f w)) ∙ registering-there c.waiting f w
+      | false ↦ λ e. ap (placed_of m f) is ∙ ap (λ (d : Count). waker_for d.waiting f) (at-there (count_from 0) h.groups g (with_waker c f w))
+          ∙ registering-there c.waiting f w
     ]
 
 -- while a waker is placed, a poll replies `pending`
@@ -394,4 +455,5 @@ pub waits : (h : Groups) (n : ℕ) → HasGroups h n → (f w u : ℕ) (o : Opti
 waits h n v f w u None is = refl
 waits h n v f w u (Some g) is =
     let c : Count = group_at h g in
-    ap (λ b. (if b then quietly (gone h f g) answers.Ready else quietly (record h { groups = insert h.groups g (with_waker c f w) }) answers.Pending).reply) (quiet-runs c f u (v.quiet g) is)
+    ap (λ b. (if b then quietly (gone h f g) answers.Ready else quietly (record h { groups = insert h.groups g (with_waker c f w) })
+    answers.Pending).reply) (quiet-runs c f u (v.quiet g) is)

@@ -32,19 +32,37 @@ polls_it g f v w P is p =
     subst (λ k. P k w) (eqb-true g f both.0) (subst (λ u. P g u) both.1 p)
 
 -- a poll that replies `pending` places its waker
-places : (h : Hall) (i : ℕ) (e : MeetEvent) → cause_of h e ≡ None → (f : Future) (w : ℕ) → polled e f ≡ Some w → (step h i e).reply ≡ answers.Pending → placed (step h i e).hall f ≡ Some w
-places h i (events.BarPoll g v) cause (AtBarrier f) w is pending = polls_it g f v w (λ k u. placed (step h i (events.BarPoll g v)).hall (AtBarrier k) ≡ Some u) is (at_barriers.places h.barriers g v (get h.barriers.waits g) refl (known _ cause) pending)
-places h i (events.LatPoll g v) cause (ForLatch f) w is pending = polls_it g f v w (λ k u. placed (step h i (events.LatPoll g v)).hall (ForLatch k) ≡ Some u) is (at_latches.places h.latches g v (get h.latches.waits g) refl (known _ cause) pending)
-places h i (events.WgPoll g v) cause (ForGroup f) w is pending = polls_it g f v w (λ k u. placed (step h i (events.WgPoll g v)).hall (ForGroup k) ≡ Some u) is (at_groups.places h.groups g v (get h.groups.waits g) refl (known _ cause) pending)
-places h i (events.SdPoll g v) cause (ForShutdown f) w is pending = polls_it g f v w (λ k u. placed (step h i (events.SdPoll g v)).hall (ForShutdown k) ≡ Some u) is (at_shutdowns.places h.shutdowns g v (get h.shutdowns.waits g) refl (known _ cause) pending)
+places : (h : Hall) (i : ℕ) (e : MeetEvent) → cause_of h e ≡ None → (f : Future) (w : ℕ) → polled e f ≡ Some w → (step h i e).reply ≡ answers.Pending
+    → placed (step h i e).hall f ≡ Some w
+places h i (events.BarPoll g v) cause (AtBarrier f) w is pending =
+    polls_it g f v w (λ k u. placed (step h i (events.BarPoll g v)).hall (AtBarrier k) ≡ Some u) is
+    (at_barriers.places h.barriers g v (get h.barriers.waits g) refl (known _ cause) pending)
+places h i (events.LatPoll g v) cause (ForLatch f) w is pending =
+    polls_it g f v w (λ k u. placed (step h i (events.LatPoll g v)).hall (ForLatch k) ≡ Some u) is
+    (at_latches.places h.latches g v (get h.latches.waits g) refl (known _ cause) pending)
+places h i (events.WgPoll g v) cause (ForGroup f) w is pending =
+    polls_it g f v w (λ k u. placed (step h i (events.WgPoll g v)).hall (ForGroup k) ≡ Some u) is
+    (at_groups.places h.groups g v (get h.groups.waits g) refl (known _ cause) pending)
+places h i (events.SdPoll g v) cause (ForShutdown f) w is pending =
+    polls_it g f v w (λ k u. placed (step h i (events.SdPoll g v)).hall (ForShutdown k) ≡ Some u) is
+    (at_shutdowns.places h.shutdowns g v (get h.shutdowns.waits g) refl (known _ cause) pending)
 places h i e cause f w is pending = absurd (cc)
 
 -- while a waker is placed, a poll replies `pending`
-waits : (h : Hall) (n i : ℕ) → IsValid h n → (e : MeetEvent) (f : Future) (w v : ℕ) → placed h f ≡ Some w → polled e f ≡ Some v → (step h i e).reply ≡ answers.Pending
-waits h n i valid (events.BarPoll g u) (AtBarrier f) w v has is = polls_it g f u v (λ k t. placed h (AtBarrier k) ≡ Some w → (step h i (events.BarPoll g u)).reply ≡ answers.Pending) is (λ p. at_barriers.waits h.barriers n valid.barriers g u w (get h.barriers.waits g) refl p) has
-waits h n i valid (events.LatPoll g u) (ForLatch f) w v has is = polls_it g f u v (λ k t. placed h (ForLatch k) ≡ Some w → (step h i (events.LatPoll g u)).reply ≡ answers.Pending) is (λ p. at_latches.waits h.latches n valid.latches g u w (get h.latches.waits g) p) has
-waits h n i valid (events.WgPoll g u) (ForGroup f) w v has is = polls_it g f u v (λ k t. placed h (ForGroup k) ≡ Some w → (step h i (events.WgPoll g u)).reply ≡ answers.Pending) is (λ p. at_groups.waits h.groups n valid.groups g u w (get h.groups.waits g) p) has
-waits h n i valid (events.SdPoll g u) (ForShutdown f) w v has is = polls_it g f u v (λ k t. placed h (ForShutdown k) ≡ Some w → (step h i (events.SdPoll g u)).reply ≡ answers.Pending) is (λ p. at_shutdowns.waits h.shutdowns n valid.shutdowns g u w (get h.shutdowns.waits g) p) has
+waits : (h : Hall) (n i : ℕ) → IsValid h n → (e : MeetEvent) (f : Future) (w v : ℕ) → placed h f ≡ Some w → polled e f ≡ Some v
+    → (step h i e).reply ≡ answers.Pending
+waits h n i valid (events.BarPoll g u) (AtBarrier f) w v has is =
+    polls_it g f u v (λ k t. placed h (AtBarrier k) ≡ Some w → (step h i (events.BarPoll g u)).reply ≡ answers.Pending) is
+    (λ p. at_barriers.waits h.barriers n valid.barriers g u w (get h.barriers.waits g) refl p) has
+waits h n i valid (events.LatPoll g u) (ForLatch f) w v has is =
+    polls_it g f u v (λ k t. placed h (ForLatch k) ≡ Some w → (step h i (events.LatPoll g u)).reply ≡ answers.Pending) is
+    (λ p. at_latches.waits h.latches n valid.latches g u w (get h.latches.waits g) p) has
+waits h n i valid (events.WgPoll g u) (ForGroup f) w v has is =
+    polls_it g f u v (λ k t. placed h (ForGroup k) ≡ Some w → (step h i (events.WgPoll g u)).reply ≡ answers.Pending) is
+    (λ p. at_groups.waits h.groups n valid.groups g u w (get h.groups.waits g) p) has
+waits h n i valid (events.SdPoll g u) (ForShutdown f) w v has is =
+    polls_it g f u v (λ k t. placed h (ForShutdown k) ≡ Some w → (step h i (events.SdPoll g u)).reply ≡ answers.Pending) is
+    (λ p. at_shutdowns.waits h.shutdowns n valid.shutdowns g u w (get h.shutdowns.waits g) p) has
 waits h n i valid e f w v has is = absurd (cc)
 
 pub keeps : KeepsWakers meets

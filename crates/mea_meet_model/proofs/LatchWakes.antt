@@ -48,7 +48,8 @@ not_both false b n none = refl
 
 -- a latch without futures has no plain ones
 no_plain : (h : Latches) (l : ℕ) → waits_of h l ≡ 0 → plain_waits_of h l ≡ 0
-no_plain h l none = total-zero (λ f (x : LatchWait). cond (x.latch == l && x.plain) 1 0) h.waits (λ f x is. not_both (x.latch == l) x.plain 1 (ne_eqb x.latch l (λ same. none_of h.waits (λ y. y.latch) l f x none is (sym same))))
+no_plain h l none = total-zero (λ f (x : LatchWait). cond (x.latch == l && x.plain) 1 0) h.waits
+    (λ f x is. not_both (x.latch == l) x.plain 1 (ne_eqb x.latch l (λ same. none_of h.waits (λ y. y.latch) l f x none is (sym same))))
 
 -- the count of a latch that is not there has not begun
 pub latches-empty : HasLatches no_latches 0
@@ -82,8 +83,10 @@ module _ (h : Latches) (n i : ℕ) (later : n ≤ i) (v : HasLatches h n) where
     waits_below = below-later h.waits n i later v.waits_below;
     waits_known = of-objects_put h.waits (λ x. x.latch) h.latches i (new_latch k) v.waits_known;
     quiet = by_at_put (new_latch 0) h.latches i (new_latch k) (λ l r. IsQuietAtEnd r.count) (λ zero. refl) (λ l apart. v.quiet l);
-    plain_named = by_put h.latches i (new_latch k) (λ l o. 0 < plain_waits_of h l → is_named_latch o ≡ true) (λ some. refl) (λ l apart some. v.plain_named l some);
-    waiting_there = by_at_put (new_latch 0) h.latches i (new_latch k) (λ l r. Waits h.waits l r) (none_waits h.waits i (new_latch k) refl) (λ l apart. v.waiting_there l);
+    plain_named = by_put h.latches i (new_latch k) (λ l o. 0 < plain_waits_of h l → is_named_latch o ≡ true) (λ some. refl)
+        (λ l apart some. v.plain_named l some);
+    waiting_there = by_at_put (new_latch 0) h.latches i (new_latch k) (λ l r. Waits h.waits l r) (none_waits h.waits i (new_latch k) refl)
+        (λ l apart. v.waiting_there l);
   }
 
   latches-wait : (l : ℕ) (plain : Bool) → is_named h l ≡ true → HasLatches (wait h i l plain).hall (i + 1)
@@ -92,17 +95,22 @@ module _ (h : Latches) (n i : ℕ) (later : n ≤ i) (v : HasLatches h n) where
     waits_below = below-put h.waits n i (record { latch = l; plain = plain }) later v.waits_below;
     waits_known = of-put h.waits (λ x. x.latch) h.latches i (record { latch = l; plain = plain }) (named_there (get h.latches l) named) v.waits_known;
     quiet = v.quiet;
-    plain_named = λ k some. elim (both (l == k) plain (plain_waits_of h k) (let more = sum-put h.waits (λ x. cond (x.latch == k && x.plain) 1 0) n i (waiting_for l plain) later v.waits_below in omega (arith, some, more))) [
-      | inl before ↦ v.plain_named k before
-      | inr here ↦ subst (λ j. is_named h j ≡ true) (eqb-true l k here.0) named
-    ];
+    plain_named = λ k some. elim (both (l == k) plain (plain_waits_of h k)
+        (let more = sum-put h.waits (λ x. cond (x.latch == k && x.plain) 1 0) n i (waiting_for l plain) later v.waits_below in omega (arith, some, more))) [
+          | inl before ↦ v.plain_named k before
+          | inr here ↦ subst (λ j. is_named h j ≡ true) (eqb-true l k here.0) named
+        ];
     waiting_there = λ k f w is.
-        let was = v.waiting_there k f w is in
-        (was.0, get-other h.waits i f (waiting_for l plain) (fresh h.waits n i f later v.waits_below (is_there (get h.waits f) (waiting_for k was.0) was.1)) ∙ was.1);
+        let was = v.waiting_there k f w is in (
+          was.0,
+          get-other h.waits i f (waiting_for l plain)
+              (fresh h.waits n i f later v.waits_below (is_there (get h.waits f) (waiting_for k was.0) was.1)) ∙ was.1,
+        );
   }
 
 module _ (h : Latches) (n : ℕ) (v : HasLatches h n) where
-  latches-with : (l : ℕ) (r : Latch) → IsSome (get h.latches l) → IsQuietAtEnd r.count → (0 < plain_waits_of h l → r.named ≡ true) → Waits h.waits l r → HasLatches (with_latch h l r) n
+  latches-with : (l : ℕ) (r : Latch) → IsSome (get h.latches l) → IsQuietAtEnd r.count → (0 < plain_waits_of h l → r.named ≡ true) → Waits h.waits l r
+      → HasLatches (with_latch h l r) n
   latches-with l r there left named waiting = record {
     latches_below = below-over h.latches n l r there v.latches_below;
     waits_below = v.waits_below;
@@ -123,13 +131,17 @@ module _ (h : Latches) (n : ℕ) (v : HasLatches h n) where
     waits_below = below-gone h.waits n f v.waits_below;
     waits_known = of-gone h.waits (λ x. x.latch) h.latches f v.waits_known;
     quiet = v.quiet;
-    plain_named = λ l some. v.plain_named l (let fewer = total-gone (λ g (x : LatchWait). cond (x.latch == l && x.plain) 1 0) h.waits f in omega (arith, some, fewer));
-    waiting_there = λ l g w is. let was = v.waiting_there l g w is in (was.0, get-removed_other h.waits f g (λ same. none l w (ap (waker_for (latch_at h l).count.waiting) same ∙ is)) ∙ was.1);
+    plain_named = λ l some. v.plain_named l
+        (let fewer = total-gone (λ g (x : LatchWait). cond (x.latch == l && x.plain) 1 0) h.waits f in omega (arith, some, fewer));
+    waiting_there = λ l g w is. let was = v.waiting_there l g w is in
+        (was.0, get-removed_other h.waits f g (λ same. none l w (ap (waker_for (latch_at h l).count.waiting) same ∙ is)) ∙ was.1);
   }
 
   -- its latch has another list, which has no waker of it
-  left_by_all : (f : ℕ) (x : LatchWait) (r : Latch) → get h.waits f ≡ Some x → waker_for r.count.waiting f ≡ None → (l w : ℕ) → waker_for (latch_at (with_latch h x.latch r) l).count.waiting f ≡ Some w → ⊥
-  left_by_all f x r is none = by_at_put (new_latch 0) h.latches x.latch r (λ l s. (w : ℕ) → waker_for s.count.waiting f ≡ Some w → ⊥) (λ w has. absurd (cc)) (λ l apart w has. apart (ap (λ (y : LatchWait). y.latch) (inside (sym is ∙ (v.waiting_there l f w has).1))))
+  left_by_all : (f : ℕ) (x : LatchWait) (r : Latch) → get h.waits f ≡ Some x → waker_for r.count.waiting f ≡ None → (l w : ℕ)
+      → waker_for (latch_at (with_latch h x.latch r) l).count.waiting f ≡ Some w → ⊥
+  left_by_all f x r is none = by_at_put (new_latch 0) h.latches x.latch r (λ l s. (w : ℕ) → waker_for s.count.waiting f ≡ Some w → ⊥)
+      (λ w has. absurd (cc)) (λ l apart w has. apart (ap (λ (y : LatchWait). y.latch) (inside (sym is ∙ (v.waiting_there l f w has).1))))
 
   latches-drop : (l : ℕ) → waits_of h l ≡ 0 → HasLatches (record h { latches = remove h.latches l }) n
   latches-drop l none = record {
@@ -137,7 +149,8 @@ module _ (h : Latches) (n : ℕ) (v : HasLatches h n) where
     waits_below = v.waits_below;
     waits_known = of-objects_gone h.waits (λ x. x.latch) h.latches l none v.waits_known;
     quiet = by_at_gone (new_latch 0) h.latches l (λ k s. IsQuietAtEnd s.count) (λ zero. refl) (λ k apart. v.quiet k);
-    plain_named = by_gone h.latches l (λ k o. 0 < plain_waits_of h k → is_named_latch o ≡ true) (λ some. absurd (omega (arith, some, no_plain h l none))) (λ k apart some. v.plain_named k some);
+    plain_named = by_gone h.latches l (λ k o. 0 < plain_waits_of h k → is_named_latch o ≡ true)
+        (λ some. absurd (omega (arith, some, no_plain h l none))) (λ k apart some. v.plain_named k some);
     waiting_there = by_at_gone (new_latch 0) h.latches l (λ k s. Waits h.waits k s) (none_waits h.waits l (new_latch 0) refl) (λ k apart. v.waiting_there k);
   }
 
@@ -150,10 +163,11 @@ none_left : (h : Latches) (l : ℕ) → (is_named h l || nat_lt 0 (waits_of h l)
 none_left h l e = let none = ltb-false 0 (waits_of h l) (untidy (is_named h l) _ e) in omega (arith, none)
 
 latches-tidied : (h : Latches) (n l : ℕ) → HasLatches h n → HasLatches (tidied h l) n
-latches-tidied h n l v = elim (is_named h l || nat_lt 0 (waits_of h l)) as (λ b. (is_named h l || nat_lt 0 (waits_of h l)) ≡ b → HasLatches (if b then h else record h { latches = remove h.latches l }) n) [
-  | true ↦ λ e. v
-  | false ↦ λ e. latches-drop h n v l (none_left h l e)
-] refl
+latches-tidied h n l v = elim (is_named h l || nat_lt 0 (waits_of h l))
+    as (λ b. (is_named h l || nat_lt 0 (waits_of h l)) ≡ b → HasLatches (if b then h else record h { latches = remove h.latches l }) n) [
+      | true ↦ λ e. v
+      | false ↦ λ e. latches-drop h n v l (none_left h l e)
+    ] refl
 
 -- ---- latches that live
 either : (a b : Bool) → (a || b) ≡ true → (a ≡ true) ⊎ (b ≡ true)
@@ -166,13 +180,14 @@ Lives h l o = IsSome o → (is_named_latch o ≡ true) ⊎ (0 < waits_of h l)
 
 -- where each other latch lives, a tidying leaves none that does not
 live-tidied : (h : Latches) (l : ℕ) → ((k : ℕ) → (l ≡ k → ⊥) → Lives h k (get h.latches k)) → HasLiveLatches (tidied h l)
-live-tidied h l others = elim (is_named h l || nat_lt 0 (waits_of h l)) as (λ b. (is_named h l || nat_lt 0 (waits_of h l)) ≡ b → HasLiveLatches (if b then h else record h { latches = remove h.latches l })) [
-  | true ↦ λ e k. elim (l == k) as (λ b. (l == k) ≡ b → Lives h k (get h.latches k)) [
-    | true ↦ λ same. subst (λ j. Lives h j (get h.latches j)) (eqb-true l k same) (λ there. at_test e)
-    | false ↦ λ apart. others k (eqb-false l k apart)
-  ] refl
-  | false ↦ λ e. by_gone h.latches l (λ k o. Lives h k o) (λ there. absurd (cc)) others
-] refl
+live-tidied h l others = elim (is_named h l || nat_lt 0 (waits_of h l))
+    as (λ b. (is_named h l || nat_lt 0 (waits_of h l)) ≡ b → HasLiveLatches (if b then h else record h { latches = remove h.latches l })) [
+      | true ↦ λ e k. elim (l == k) as (λ b. (l == k) ≡ b → Lives h k (get h.latches k)) [
+        | true ↦ λ same. subst (λ j. Lives h j (get h.latches j)) (eqb-true l k same) (λ there. at_test e)
+        | false ↦ λ apart. others k (eqb-false l k apart)
+      ] refl
+      | false ↦ λ e. by_gone h.latches l (λ k o. Lives h k o) (λ there. absurd (cc)) others
+    ] refl
   where
     at_test : (is_named h l || nat_lt 0 (waits_of h l)) ≡ true → (is_named h l ≡ true) ⊎ (0 < waits_of h l)
     at_test e = elim (either (is_named h l) (nat_lt 0 (waits_of h l)) e) [
@@ -210,19 +225,23 @@ module _ (h : Latches) (live : HasLiveLatches h) where
       let m : Latches = record { latches = insert h.latches x.latch r; waits = remove h.waits f } in
       live-tidied m x.latch (λ k apart. subst (λ o. Lives m k o) (sym (get-other h.latches x.latch k r apart)) (λ there. elim (live k there) [
         | inl named ↦ inl named
-        | inr some ↦ inr (let other = on_false (x.latch == k) 1 (ne_eqb x.latch k apart) in let fewer = sum-gone h.waits (λ y. cond (y.latch == k) 1 0) f x is in omega (arith, some, other, fewer))
+        | inr some ↦ inr (let other = on_false (x.latch == k) 1 (ne_eqb x.latch k apart) in
+            let fewer = sum-gone h.waits (λ y. cond (y.latch == k) 1 0) f x is in omega (arith, some, other, fewer))
       ]))
 
 -- ---- who waits after a tidying
 waits-tidied : (h : Latches) (l : ℕ) → (tidied h l).waits ≡ h.waits
-waits-tidied h l = elim (is_named h l || nat_lt 0 (waits_of h l)) as (λ b. (if b then h else record h { latches = remove h.latches l }).waits ≡ h.waits) [ true ↦ refl | false ↦ refl ]
+waits-tidied h l = elim (is_named h l || nat_lt 0 (waits_of h l))
+    as (λ b. (if b then h else record h { latches = remove h.latches l }).waits ≡ h.waits) [ true ↦ refl | false ↦ refl ]
 
 -- the latch of a future stays
 tidied-at : (h : Latches) (l f : ℕ) (x : LatchWait) → get h.waits f ≡ Some x → latch_at (tidied h l) x.latch ≡ latch_at h x.latch
-tidied-at h l f x is = elim (is_named h l || nat_lt 0 (waits_of h l)) as (λ b. (is_named h l || nat_lt 0 (waits_of h l)) ≡ b → latch_at (if b then h else record h { latches = remove h.latches l }) x.latch ≡ latch_at h x.latch) [
-  | true ↦ λ e. refl
-  | false ↦ λ e. at-removed_other (new_latch 0) h.latches l x.latch (none_of h.waits (λ y. y.latch) l f x (none_left h l e) is)
-] refl
+tidied-at h l f x is = elim (is_named h l || nat_lt 0 (waits_of h l))
+    as (λ b. (is_named h l || nat_lt 0 (waits_of h l)) ≡ b → latch_at (if b then h else record h { latches = remove h.latches l })
+    x.latch ≡ latch_at h x.latch) [
+      | true ↦ λ e. refl
+      | false ↦ λ e. at-removed_other (new_latch 0) h.latches l x.latch (none_of h.waits (λ y. y.latch) l f x (none_left h l e) is)
+    ] refl
 
 placed-tidied : (h : Latches) (l f : ℕ) → placed (tidied h l) f ≡ placed h f
 placed-tidied h l f = ap (λ m. placed_of (tidied h l) f (get m f)) (waits-tidied h l) ∙ at (get h.waits f) refl
@@ -248,7 +267,8 @@ for_all : (g : ℕ) (h : Latches) (o : Outcome Latches) (i : ℕ) → Goes h o i
 for_all g h o i goes = going.for_all Stands (λ (m : Latches). m.waits) placed g h o i goes
 
 passes-by : (h m : Latches) (ws : List ℕ) (f : ℕ)
-    → ((x : LatchWait) (w : ℕ) → get h.waits f ≡ Some x → waker_for (latch_at h x.latch).count.waiting f ≡ Some w → IsSome (get m.waits f) → (get m.waits f ≡ Some x) × ((waker_for (latch_at m x.latch).count.waiting f ≡ Some w) ⊎ Contains ws w))
+    → ((x : LatchWait) (w : ℕ) → get h.waits f ≡ Some x → waker_for (latch_at h x.latch).count.waiting f ≡ Some w → IsSome (get m.waits f)
+    → (get m.waits f ≡ Some x) × ((waker_for (latch_at m x.latch).count.waiting f ≡ Some w) ⊎ Contains ws w))
     → Passes h m ws f
 passes-by h m ws f each w is there = at (get h.waits f) refl is
   where
@@ -275,14 +295,21 @@ module _ (h : Latches) (n i : ℕ) (later : n ≤ i) (v : HasLatches h n) (live 
   goes-make k = record {
     valid = (latches-new h n i later v k, live-make h live i k);
     made = made-same h.waits i;
-    passes = λ f. passes-by h _ [] f (λ x w is has there. (is, inl (ap (λ (r : Latch). waker_for r.count.waiting f) (at-other (new_latch 0) h.latches i x.latch (new_latch k) (fresh h.latches n i x.latch later v.latches_below (v.waits_known f x is))) ∙ has)));
+    passes = λ f. passes-by h _ [] f
+        (λ x w is has there. (
+          is,
+          inl
+              (ap (λ (r : Latch). waker_for r.count.waiting f)
+              (at-other (new_latch 0) h.latches i x.latch (new_latch k) (fresh h.latches n i x.latch later v.latches_below (v.waits_known f x is))) ∙ has),
+        ));
   }
 
   pub goes-wait : (l : ℕ) (plain : Bool) → is_named h l ≡ true → Goes h (wait h i l plain) i
   goes-wait l plain known = record {
     valid = (latches-wait h n i later v l plain known, live-wait h live n i l plain later v.waits_below);
     made = made-put h.waits i (record { latch = l; plain = plain });
-    passes = λ f. passes-by h _ [] f (λ x w is has there. (get-other h.waits i f _ (fresh h.waits n i f later v.waits_below (is_there (get h.waits f) x is)) ∙ is, inl has));
+    passes = λ f. passes-by h _ [] f
+        (λ x w is has there. (get-other h.waits i f _ (fresh h.waits n i f later v.waits_below (is_there (get h.waits f) x is)) ∙ is, inl has));
   }
 
   pub goes-arrive : (l k : ℕ) → IsSome (get h.latches l) → Goes h (arrive h l k) i
@@ -290,14 +317,31 @@ module _ (h : Latches) (n i : ℕ) (later : n ≤ i) (v : HasLatches h n) (live 
       let r : Latch = latch_at h l in
       let s : Latch = record r { count = decreased r.count k } in
       record {
-        valid = (latches-later (with_latch h l s) n i later (latches-with h n v l s known (quiet-decreased r.count k (v.quiet l)) (stays_named h n v l) (λ f w is. v.waiting_there l f w (decreased-had r.count k f w is))), live-with h live l s known refl);
+        valid = (
+          latches-later (with_latch h l s) n i later
+              (latches-with h n v l s known (quiet-decreased r.count k (v.quiet l)) (stays_named h n v l)
+              (λ f w is. v.waiting_there l f w (decreased-had r.count k f w is))),
+          live-with h live l s known refl,
+        );
         made = made-same h.waits i;
-        passes = λ f. passes-by h _ _ f (λ x w is has there. (is, by_at_put (new_latch 0) h.latches l s (λ j t. waker_for (latch_at h j).count.waiting f ≡ Some w → (waker_for t.count.waiting f ≡ Some w) ⊎ Contains (woken_by r.count k) w) (λ p. decreased-keeps r.count k f w p) (λ j apart p. inl p) x.latch has));
+        passes = λ f. passes-by h _ _ f
+            (λ x w is has there. (
+              is,
+              by_at_put (new_latch 0) h.latches l s
+                  (λ j t. waker_for (latch_at h j).count.waiting f ≡ Some w → (waker_for t.count.waiting f ≡ Some w) ⊎ Contains (woken_by r.count k) w)
+                  (λ p. decreased-keeps r.count k f w p) (λ j apart p. inl p) x.latch has,
+            ));
       }
 
   -- a latch whose wakers are as they were
   passes-with : (l : ℕ) (r : Latch) → r.count.waiting ≡ (latch_at h l).count.waiting → (f : ℕ) → Passes h (with_latch h l r) [] f
-  passes-with l r same f = passes-by h _ [] f (λ x w is has there. (is, inl (by_at_put (new_latch 0) h.latches l r (λ j t. waker_for (latch_at h j).count.waiting f ≡ Some w → waker_for t.count.waiting f ≡ Some w) (λ p. ap (λ q. waker_for q f) same ∙ p) (λ j apart p. p) x.latch has)))
+  passes-with l r same f = passes-by h _ [] f
+      (λ x w is has there. (
+        is,
+        inl
+            (by_at_put (new_latch 0) h.latches l r (λ j t. waker_for (latch_at h j).count.waiting f ≡ Some w → waker_for t.count.waiting f ≡ Some w)
+            (λ p. ap (λ q. waker_for q f) same ∙ p) (λ j apart p. p) x.latch has),
+      ))
 
   -- a latch without plain futures is dropped
   pub goes-drop : (l : ℕ) → is_named h l ≡ true → plain_waits_of h l ≡ 0 → Goes h (drop h l) i
@@ -321,7 +365,8 @@ module _ (h : Latches) (n i : ℕ) (later : n ≤ i) (v : HasLatches h n) (live 
   latches-left g x at_g =
       let r : Latch = latch_at h x.latch in
       let s : Latch = record r { count = without_future r.count g } in
-      let ended = latches-with h n v x.latch s (v.waits_known g x at_g) (quiet-ending r.count g (v.quiet x.latch)) (stays_named h n v x.latch) (λ f w is. v.waiting_there x.latch f w (ending-had r.count.waiting g f w is)) in
+      let ended = latches-with h n v x.latch s (v.waits_known g x at_g) (quiet-ending r.count g (v.quiet x.latch)) (stays_named h n v x.latch)
+      (λ f w is. v.waiting_there x.latch f w (ending-had r.count.waiting g f w is)) in
       latches-without (with_latch h x.latch s) n ended g (left_by_all h n v g x s at_g (ending-there r.count.waiting g))
 
   passes-left : (g : ℕ) (x : LatchWait) → (f : ℕ) → Passes h (left_by g x) [] f
@@ -330,7 +375,9 @@ module _ (h : Latches) (n i : ℕ) (later : n ≤ i) (v : HasLatches h n) (live 
       let s : Latch = record r { count = without_future r.count g } in
       passes-by h (left_by g x) [] f (λ y w is has there. (
         get-removed_other h.waits g f (apart_from_gone h.waits g f there) ∙ is,
-        inl (by_at_put (new_latch 0) h.latches x.latch s (λ j t. waker_for (latch_at h j).count.waiting f ≡ Some w → waker_for t.count.waiting f ≡ Some w) (λ p. ending-other r.count.waiting g f (apart_from_gone h.waits g f there) ∙ p) (λ j apart p. p) y.latch has),
+        inl (by_at_put (new_latch 0) h.latches x.latch s
+            (λ j t. waker_for (latch_at h j).count.waiting f ≡ Some w → waker_for t.count.waiting f ≡ Some w)
+            (λ p. ending-other r.count.waiting g f (apart_from_gone h.waits g f there) ∙ p) (λ j apart p. p) y.latch has),
       ))
 
   goes-gone : (g : ℕ) (x : LatchWait) → get h.waits g ≡ Some x → (reply : Answer) → Goes h (quietly (gone h g x) reply) i
@@ -345,8 +392,10 @@ module _ (h : Latches) (n i : ℕ) (later : n ≤ i) (v : HasLatches h n) (live 
   goes-end f (Some x) is = goes-gone f x is answers.Done
 
   -- who is registered when g waits on
-  waits_on : (g w : ℕ) (x : LatchWait) → get h.waits g ≡ Some x → Waits h.waits x.latch (record (latch_at h x.latch) { count = with_waker (latch_at h x.latch).count g w })
-  waits_on g w x at_g f u is = registering-had (latch_at h x.latch).count.waiting g w f u (λ k. (plain : Bool) × (get h.waits k ≡ Some (waiting_for x.latch plain))) (x.plain, at_g) (λ was. v.waiting_there x.latch f u was) is
+  waits_on : (g w : ℕ) (x : LatchWait) → get h.waits g ≡ Some x
+      → Waits h.waits x.latch (record (latch_at h x.latch) { count = with_waker (latch_at h x.latch).count g w })
+  waits_on g w x at_g f u is = registering-had (latch_at h x.latch).count.waiting g w f u
+      (λ k. (plain : Bool) × (get h.waits k ≡ Some (waiting_for x.latch plain))) (x.plain, at_g) (λ was. v.waiting_there x.latch f u was) is
 
   -- g waits on
   registers : (g w : ℕ) (x : LatchWait) → get h.waits g ≡ Some x → ((latch_at h x.latch).count.number == 0) ≡ false
@@ -355,30 +404,48 @@ module _ (h : Latches) (n i : ℕ) (later : n ≤ i) (v : HasLatches h n) (live 
       let r : Latch = latch_at h x.latch in
       let s : Latch = record r { count = with_waker r.count g w } in
       record {
-        valid = (latches-later (with_latch h x.latch s) n i later (latches-with h n v x.latch s (v.waits_known g x at_g) (quiet-registering r.count g w runs) (stays_named h n v x.latch) (waits_on g w x at_g)), live-with h live x.latch s (v.waits_known g x at_g) refl);
+        valid = (
+          latches-later (with_latch h x.latch s) n i later
+              (latches-with h n v x.latch s (v.waits_known g x at_g) (quiet-registering r.count g w runs) (stays_named h n v x.latch)
+              (waits_on g w x at_g)),
+          live-with h live x.latch s (v.waits_known g x at_g) refl,
+        );
         made = made-same h.waits i;
-        passes = λ f apart. passes-by h _ [] f (λ y u is has there. (is, inl (by_at_put (new_latch 0) h.latches x.latch s (λ j t. waker_for (latch_at h j).count.waiting f ≡ Some u → waker_for t.count.waiting f ≡ Some u) (λ p. registering-other r.count.waiting g f w apart ∙ p) (λ j other p. p) y.latch has)));
+        passes = λ f apart. passes-by h _ [] f
+            (λ y u is has there. (
+              is,
+              inl
+                  (by_at_put (new_latch 0) h.latches x.latch s
+                  (λ j t. waker_for (latch_at h j).count.waiting f ≡ Some u → waker_for t.count.waiting f ≡ Some u)
+                  (λ p. registering-other r.count.waiting g f w apart ∙ p) (λ j other p. p) y.latch has),
+            ));
       }
 
   pub goes-poll : (f w : ℕ) (o : Option LatchWait) → get h.waits f ≡ o → GoesFor f h (poll_of h f w o) i
   goes-poll f w None is = for_all f h _ i (goes-nowhere answers.Pending)
   goes-poll f w (Some x) is =
       let r : Latch = latch_at h x.latch in
-      elim (r.count.number == 0) as (λ b. (r.count.number == 0) ≡ b → GoesFor f h (if b then quietly (gone h f x) answers.Ready else quietly (with_latch h x.latch (record r { count = with_waker r.count f w })) answers.Pending) i) [
+      elim (r.count.number == 0) as (λ b. (r.count.number == 0) ≡ b
+      → GoesFor f h (if b then quietly (gone h f x) answers.Ready
+      else quietly (with_latch h x.latch (record r { count = with_waker r.count f w })) answers.Pending) i) [
         | true ↦ λ e. for_all f h _ i (goes-gone f x is answers.Ready)
         | false ↦ λ e. registers f w x is e
       ] refl
 
 -- ---- polls
 -- a poll that replies `pending` places its waker
-pub places : (h : Latches) (f w : ℕ) (o : Option LatchWait) → get h.waits f ≡ o → IsSome o → (poll_of h f w o).reply ≡ answers.Pending → placed (poll_of h f w o).hall f ≡ Some w
+pub places : (h : Latches) (f w : ℕ) (o : Option LatchWait) → get h.waits f ≡ o → IsSome o → (poll_of h f w o).reply ≡ answers.Pending
+    → placed (poll_of h f w o).hall f ≡ Some w
 places h f w None is known = absurd (cc)
 places h f w (Some x) is known =
     let r : Latch = latch_at h x.latch in
     let s : Latch = record r { count = with_waker r.count f w } in
-    elim (r.count.number == 0) as (λ b. (if b then quietly (gone h f x) answers.Ready else quietly (with_latch h x.latch s) answers.Pending).reply ≡ answers.Pending → placed (if b then quietly (gone h f x) answers.Ready else quietly (with_latch h x.latch s) answers.Pending).hall f ≡ Some w) [
+    elim (r.count.number == 0) as (λ b.
+    (if b then quietly (gone h f x) answers.Ready else quietly (with_latch h x.latch s) answers.Pending).reply ≡ answers.Pending
+    → placed (if b then quietly (gone h f x) answers.Ready else quietly (with_latch h x.latch s) answers.Pending).hall f ≡ Some w) [
       | true ↦ λ e. absurd (cc)
-      | false ↦ λ e. ap (placed_of (with_latch h x.latch s) f) is ∙ ap (λ (t : Latch). waker_for t.count.waiting f) (at-there (new_latch 0) h.latches x.latch s) ∙ registering-there r.count.waiting f w
+      | false ↦ λ e. ap (placed_of (with_latch h x.latch s) f) is
+          ∙ ap (λ (t : Latch). waker_for t.count.waiting f) (at-there (new_latch 0) h.latches x.latch s) ∙ registering-there r.count.waiting f w
     ]
 
 -- while a waker is placed, a poll replies `pending`
@@ -386,4 +453,5 @@ pub waits : (h : Latches) (n : ℕ) → HasLatches h n → (f w u : ℕ) (o : Op
 waits h n v f w u None is = refl
 waits h n v f w u (Some x) is =
     let r : Latch = latch_at h x.latch in
-    ap (λ b. (if b then quietly (gone h f x) answers.Ready else quietly (with_latch h x.latch (record r { count = with_waker r.count f w })) answers.Pending).reply) (quiet-runs r.count f u (v.quiet x.latch) is)
+    ap (λ b. (if b then quietly (gone h f x) answers.Ready else quietly (with_latch h x.latch (record r { count = with_waker r.count f w }))
+    answers.Pending).reply) (quiet-runs r.count f u (v.quiet x.latch) is)

@@ -19,20 +19,28 @@ Lives h s o = IsSome o → 0 < senders_of h s + receivers_of h s + waits_of h s
 
 -- where each other shutdown lives, a tidying leaves none that does not
 live-tidied : (h : Shutdowns) (s : ℕ) → ((o : ℕ) → (s ≡ o → ⊥) → Lives h o (get h.shutdowns o)) → HasLiveShutdowns (tidied h s)
-live-tidied h s others = elim (nat_lt 0 (senders_of h s + receivers_of h s + waits_of h s)) as (λ b. nat_lt 0 (senders_of h s + receivers_of h s + waits_of h s) ≡ b → HasLiveShutdowns (if b then h else record h { shutdowns = remove h.shutdowns s })) [
-  | true ↦ λ e o. elim (s == o) as (λ b. (s == o) ≡ b → Lives h o (get h.shutdowns o)) [
-    | true ↦ λ same. subst (λ k. Lives h k (get h.shutdowns k)) (eqb-true s o same) (λ there. ltb-true 0 (senders_of h s + receivers_of h s + waits_of h s) e)
-    | false ↦ λ apart. others o (eqb-false s o apart)
-  ] refl
-  | false ↦ λ e. by_gone h.shutdowns s (λ o p. Lives h o p) (λ there. absurd (cc)) others
-] refl
+live-tidied h s others = elim (nat_lt 0 (senders_of h s + receivers_of h s + waits_of h s))
+    as (λ b. nat_lt 0 (senders_of h s + receivers_of h s + waits_of h s) ≡ b
+    → HasLiveShutdowns (if b then h else record h { shutdowns = remove h.shutdowns s })) [
+      | true ↦ λ e o. elim (s == o) as (λ b. (s == o) ≡ b → Lives h o (get h.shutdowns o)) [
+        | true ↦ λ same. subst (λ k. Lives h k (get h.shutdowns k)) (eqb-true s o same) (λ there. ltb-true 0 (senders_of h s + receivers_of h s + waits_of h s) e)
+        | false ↦ λ apart. others o (eqb-false s o apart)
+      ] refl
+      | false ↦ λ e. by_gone h.shutdowns s (λ o p. Lives h o p) (λ there. absurd (cc)) others
+    ] refl
 
 -- ---- a new name
 module _ (h : Shutdowns) (live : HasLiveShutdowns h) (n i : ℕ) (later : n ≤ i) (v : HasShutdowns h n) where
   pub live-make : HasLiveShutdowns (make h i).hall
   live-make = by_put h.shutdowns i new_shutdown (λ s o. Lives (make h i).hall s o)
       (λ there. let one = on_true (i == i) 1 (eq-eqb i i refl) in omega (arith, one, sum-put h.senders (λ o. cond (o == i) 1 0) n i i later v.senders_below))
-      (λ s apart there. omega (arith, live s there, sum-put h.senders (λ o. cond (o == s) 1 0) n i i later v.senders_below, sum-put h.receivers (λ x. cond (x.shutdown == s) 1 0) n i (record { shutdown = i; watch = false }) later v.receivers_below))
+      (λ s apart there. omega (
+        arith,
+        live s there,
+        sum-put h.senders (λ o. cond (o == s) 1 0) n i i later v.senders_below,
+        sum-put h.receivers
+            (λ x. cond (x.shutdown == s) 1 0) n i (record { shutdown = i; watch = false }) later v.receivers_below,
+      ))
 
   pub live-sender : (s : ℕ) → HasLiveShutdowns (record h { senders = insert h.senders i s })
   live-sender s o there = omega (arith, live o there, sum-put h.senders (λ k. cond (k == o) 1 0) n i s later v.senders_below)
@@ -41,11 +49,22 @@ module _ (h : Shutdowns) (live : HasLiveShutdowns h) (n i : ℕ) (later : n ≤ 
   live-receiver x s there = omega (arith, live s there, sum-put h.receivers (λ y. cond (y.shutdown == s) 1 0) n i x later v.receivers_below)
 
   pub live-wait : (s : ℕ) (a : Awaited) → HasLiveShutdowns (with_wait h i s a)
-  live-wait s a o there = omega (arith, live o there, sum-put h.waits (λ y. cond (y.shutdown == o) 1 0) n i (record { shutdown = s; awaits = a }) later v.waits_below)
+  live-wait s a o there = omega (
+    arith,
+    live o there,
+    sum-put h.waits (λ y. cond (y.shutdown == o) 1 0) n i (record { shutdown = s; awaits = a })
+        later v.waits_below,
+  )
 
   -- a future in place of a sender
   pub live-await : (k s : ℕ) → get h.senders k ≡ Some s → HasLiveShutdowns (with_wait (record h { senders = remove h.senders k }) i s Receivers)
-  live-await k s is o there = omega (arith, live o there, sum-gone h.senders (λ j. cond (j == o) 1 0) k s is, sum-put h.waits (λ y. cond (y.shutdown == o) 1 0) n i (record { shutdown = s; awaits = Receivers }) later v.waits_below)
+  live-await k s is o there = omega (
+    arith,
+    live o there,
+    sum-gone h.senders (λ j. cond (j == o) 1 0) k s is,
+    sum-put h.waits (λ y. cond (y.shutdown == o) 1 0) n i
+        (record { shutdown = s; awaits = Receivers }) later v.waits_below,
+  )
 
 -- ---- a change of what is there, or its end
 module _ (h : Shutdowns) (live : HasLiveShutdowns h) where
@@ -58,13 +77,18 @@ module _ (h : Shutdowns) (live : HasLiveShutdowns h) where
       let other = on_false (s == o) 1 (ne_eqb s o apart) in
       omega (arith, other, live o there, sum-gone h.senders (λ j. cond (j == o) 1 0) k s is))
 
-  pub live-end_watch : (k : ℕ) (x : Receiver) → get h.receivers k ≡ Some x → HasLiveShutdowns (tidied (record h { receivers = remove h.receivers k }) x.shutdown)
+  pub live-end_watch : (k : ℕ) (x : Receiver) → get h.receivers k ≡ Some x
+      → HasLiveShutdowns (tidied (record h { receivers = remove h.receivers k }) x.shutdown)
   live-end_watch k x is = live-tidied (record h { receivers = remove h.receivers k }) x.shutdown (λ o apart there.
       let other = on_false (x.shutdown == o) 1 (ne_eqb x.shutdown o apart) in
       omega (arith, other, live o there, sum-gone h.receivers (λ y. cond (y.shutdown == o) 1 0) k x is))
 
   pub live-end_counted : (k : ℕ) (x : Receiver) → get h.receivers k ≡ Some x
-      → HasLiveShutdowns (tidied (record h { shutdowns = insert h.shutdowns x.shutdown (record (shutdown_at h x.shutdown) { receivers = decreased (shutdown_at h x.shutdown).receivers 1 }); receivers = remove h.receivers k }) x.shutdown)
+      → HasLiveShutdowns (tidied (record h {
+        shutdowns = insert h.shutdowns x.shutdown
+            (record (shutdown_at h x.shutdown) { receivers = decreased (shutdown_at h x.shutdown).receivers 1 });
+        receivers = remove h.receivers k;
+      }) x.shutdown)
   live-end_counted k x is =
       let t : Shutdown = record (shutdown_at h x.shutdown) { receivers = decreased (shutdown_at h x.shutdown).receivers 1 } in
       let m : Shutdowns = record h { shutdowns = insert h.shutdowns x.shutdown t; receivers = remove h.receivers k } in

@@ -28,10 +28,11 @@ module _ (h : Hall) where
   barrier f w (Some x) = by x.round
     where
       by : (r : Option ℕ) → length (barriers.poll_at h.barriers f w x r).wakes ≤ barriers.registered h.barriers
-      by None = elim (barriers.leads (barriers.barrier_at h.barriers x.barrier)) as (λ b. length (if b then barriers.leading h.barriers f x else barriers.joining h.barriers f w x).wakes ≤ barriers.registered h.barriers) [
-        | true ↦ omega (arith, barrier-leading h.barriers f x)
-        | false ↦ omega arith
-      ]
+      by None = elim (barriers.leads (barriers.barrier_at h.barriers x.barrier))
+          as (λ b. length (if b then barriers.leading h.barriers f x else barriers.joining h.barriers f w x).wakes ≤ barriers.registered h.barriers) [
+            | true ↦ omega (arith, barrier-leading h.barriers f x)
+            | false ↦ omega arith
+          ]
       by (Some round) = neither (barriers.has_completed (barriers.barrier_at h.barriers x.barrier) round) _ _ (barriers.registered h.barriers)
 
   latch : (f w : ℕ) (o : Option LatchWait) → length (latches.poll_of h.latches f w o).wakes ≤ 0

@@ -27,7 +27,8 @@ Settles count o n = count o.hall + length o.wakes ≤ n
 
 -- ---- barriers
 module _ (h : Barriers) where
-  barrier-put : (b : ℕ) (r : Barrier) → barriers.registered (record h { barriers = insert h.barriers b r }) + length (barriers.barrier_at h b).waiting ≡ barriers.registered h + length r.waiting
+  barrier-put : (b : ℕ) (r : Barrier) → barriers.registered (record h { barriers = insert h.barriers b r }) + length
+      (barriers.barrier_at h b).waiting ≡ barriers.registered h + length r.waiting
   barrier-put b r = sizes-put (barriers.new_barrier 1) (λ (x : Barrier). length x.waiting) refl h.barriers b r
 
   barrier-make : (i n : ℕ) → Settles barriers.registered (barriers.make h i n) (barriers.registered h)
@@ -58,14 +59,17 @@ module _ (h : Barriers) where
       omega (arith, length-registering r.waiting f w, barrier-put x.barrier (record r { waiting = registering r.waiting f w }))
 
   barrier-poll_at : (f w : ℕ) (x : BarrierWait) (o : Option ℕ) → Settles barriers.registered (barriers.poll_at h f w x o) (barriers.registered h + 1)
-  barrier-poll_at f w x None = elim (barriers.leads (barriers.barrier_at h x.barrier)) as (λ b. Settles barriers.registered (if b then barriers.leading h f x else barriers.joining h f w x) (barriers.registered h + 1)) [
-    | true ↦ omega (arith, barrier-leading f x)
-    | false ↦ barrier-joining f w x
-  ]
-  barrier-poll_at f w x (Some round) = elim (barriers.has_completed (barriers.barrier_at h x.barrier) round) as (λ b. Settles barriers.registered (if b then quietly (barriers.gone h f x) answers.Ready else barriers.waiting_on h f w x) (barriers.registered h + 1)) [
-    | true ↦ omega (arith, barrier-gone f x)
-    | false ↦ barrier-waiting_on f w x
-  ]
+  barrier-poll_at f w x None = elim (barriers.leads (barriers.barrier_at h x.barrier))
+      as (λ b. Settles barriers.registered (if b then barriers.leading h f x else barriers.joining h f w x) (barriers.registered h + 1)) [
+        | true ↦ omega (arith, barrier-leading f x)
+        | false ↦ barrier-joining f w x
+      ]
+  barrier-poll_at f w x (Some round) = elim (barriers.has_completed (barriers.barrier_at h x.barrier) round)
+      as (λ b. Settles barriers.registered (if b then quietly (barriers.gone h f x) answers.Ready else barriers.waiting_on h f w x)
+      (barriers.registered h + 1)) [
+        | true ↦ omega (arith, barrier-gone f x)
+        | false ↦ barrier-waiting_on f w x
+      ]
 
   barrier-poll : (f w : ℕ) (o : Option BarrierWait) → Settles barriers.registered (barriers.poll_of h f w o) (barriers.registered h + 1)
   barrier-poll f w None = omega arith
@@ -76,14 +80,16 @@ module _ (h : Barriers) where
 
 -- ---- latches
 module _ (h : Latches) where
-  latch-put : (l : ℕ) (r : Latch) → latches.registered (latches.with_latch h l r) + length (latches.latch_at h l).count.waiting ≡ latches.registered h + length r.count.waiting
+  latch-put : (l : ℕ) (r : Latch) → latches.registered (latches.with_latch h l r) + length
+      (latches.latch_at h l).count.waiting ≡ latches.registered h + length r.count.waiting
   latch-put l r = sizes-put (latches.new_latch 0) (λ (x : Latch). length x.count.waiting) refl h.latches l r
 
   latch-tidied : (l : ℕ) → latches.registered (latches.tidied h l) ≤ latches.registered h
-  latch-tidied l = elim (latches.is_named h l || nat_lt 0 (latches.waits_of h l)) as (λ b. latches.registered (if b then h else record h { latches = remove h.latches l }) ≤ latches.registered h) [
-    | true ↦ omega arith
-    | false ↦ total-gone (λ k (x : Latch). length x.count.waiting) h.latches l
-  ]
+  latch-tidied l = elim (latches.is_named h l || nat_lt 0 (latches.waits_of h l))
+      as (λ b. latches.registered (if b then h else record h { latches = remove h.latches l }) ≤ latches.registered h) [
+        | true ↦ omega arith
+        | false ↦ total-gone (λ k (x : Latch). length x.count.waiting) h.latches l
+      ]
 
   latch-make : (i n : ℕ) → Settles latches.registered (latches.make h i n) (latches.registered h)
   latch-make i n = omega (arith, latch-put i (latches.new_latch n))
@@ -98,13 +104,20 @@ module _ (h : Latches) where
   latch-gone f x =
       let r : Latch = latches.latch_at h x.latch in
       let s : Latch = record r { count = without_future r.count f } in
-      omega (arith, length-ending r.count.waiting f, latch-put h x.latch s, latch-tidied (record { latches = insert h.latches x.latch s; waits = remove h.waits f }) x.latch)
+      omega (
+        arith,
+        length-ending r.count.waiting f,
+        latch-put h x.latch s,
+        latch-tidied
+            (record { latches = insert h.latches x.latch s; waits = remove h.waits f }) x.latch,
+      )
 
   latch-poll_at : (f w : ℕ) (x : LatchWait) → Settles latches.registered (latches.poll_at h f w x) (latches.registered h + 1)
   latch-poll_at f w x =
       let r : Latch = latches.latch_at h x.latch in
       let s : Latch = record r { count = with_waker r.count f w } in
-      elim (r.count.number == 0) as (λ b. Settles latches.registered (if b then quietly (latches.gone h f x) answers.Ready else quietly (latches.with_latch h x.latch s) answers.Pending) (latches.registered h + 1)) [
+      elim (r.count.number == 0) as (λ b. Settles latches.registered
+      (if b then quietly (latches.gone h f x) answers.Ready else quietly (latches.with_latch h x.latch s) answers.Pending) (latches.registered h + 1)) [
         | true ↦ omega (arith, latch-gone f x)
         | false ↦ omega (arith, length-registering r.count.waiting f w, latch-put h x.latch s)
       ]
@@ -124,14 +137,16 @@ module _ (h : Latches) where
 
 -- ---- groups
 module _ (h : Groups) where
-  group-put : (g : ℕ) (c : Count) → groups.registered (record h { groups = insert h.groups g c }) + length (groups.group_at h g).waiting ≡ groups.registered h + length c.waiting
+  group-put : (g : ℕ) (c : Count) → groups.registered (record h { groups = insert h.groups g c }) + length
+      (groups.group_at h g).waiting ≡ groups.registered h + length c.waiting
   group-put g c = sizes-put (count_from 0) (λ (x : Count). length x.waiting) refl h.groups g c
 
   group-tidied : (g : ℕ) → groups.registered (groups.tidied h g) ≤ groups.registered h
-  group-tidied g = elim (nat_lt 0 (groups.handles_of h g + groups.waits_of h g)) as (λ b. groups.registered (if b then h else record h { groups = remove h.groups g }) ≤ groups.registered h) [
-    | true ↦ omega arith
-    | false ↦ total-gone (λ k (x : Count). length x.waiting) h.groups g
-  ]
+  group-tidied g = elim (nat_lt 0 (groups.handles_of h g + groups.waits_of h g))
+      as (λ b. groups.registered (if b then h else record h { groups = remove h.groups g }) ≤ groups.registered h) [
+        | true ↦ omega arith
+        | false ↦ total-gone (λ k (x : Count). length x.waiting) h.groups g
+      ]
 
   group-make : (i : ℕ) → Settles groups.registered (groups.make h i) (groups.registered h)
   group-make i = omega (arith, group-put i (count_from 1))
@@ -164,7 +179,9 @@ module _ (h : Groups) where
   group-poll f w None = omega arith
   group-poll f w (Some g) =
       let c : Count = groups.group_at h g in
-      elim (c.number == 0) as (λ b. Settles groups.registered (if b then quietly (groups.gone h f g) answers.Ready else quietly (record h { groups = insert h.groups g (with_waker c f w) }) answers.Pending) (groups.registered h + 1)) [
+      elim (c.number == 0) as (λ b. Settles groups.registered
+      (if b then quietly (groups.gone h f g) answers.Ready
+      else quietly (record h { groups = insert h.groups g (with_waker c f w) }) answers.Pending) (groups.registered h + 1)) [
         | true ↦ omega (arith, group-gone f g)
         | false ↦ omega (arith, length-registering c.waiting f w, group-put h g (with_waker c f w))
       ]
@@ -182,17 +199,20 @@ abbrev both : Shutdown → ℕ
 both r = length r.signal.waiting + length r.receivers.waiting
 
 module _ (h : Shutdowns) where
-  shutdown-put : (s : ℕ) (r : Shutdown) → shutdowns.registered (shutdowns.with_shutdown h s r) + both (shutdowns.shutdown_at h s) ≡ shutdowns.registered h + both r
+  shutdown-put : (s : ℕ) (r : Shutdown) → shutdowns.registered (shutdowns.with_shutdown h s r) + both
+      (shutdowns.shutdown_at h s) ≡ shutdowns.registered h + both r
   shutdown-put s r = sizes-put shutdowns.new_shutdown both refl h.shutdowns s r
 
   shutdown-tidied : (s : ℕ) → shutdowns.registered (shutdowns.tidied h s) ≤ shutdowns.registered h
-  shutdown-tidied s = elim (nat_lt 0 (shutdowns.senders_of h s + shutdowns.receivers_of h s + shutdowns.waits_of h s)) as (λ b. shutdowns.registered (if b then h else record h { shutdowns = remove h.shutdowns s }) ≤ shutdowns.registered h) [
-    | true ↦ omega arith
-    | false ↦ total-gone (λ k (x : Shutdown). both x) h.shutdowns s
-  ]
+  shutdown-tidied s = elim (nat_lt 0 (shutdowns.senders_of h s + shutdowns.receivers_of h s + shutdowns.waits_of h s))
+      as (λ b. shutdowns.registered (if b then h else record h { shutdowns = remove h.shutdowns s }) ≤ shutdowns.registered h) [
+        | true ↦ omega arith
+        | false ↦ total-gone (λ k (x : Shutdown). both x) h.shutdowns s
+      ]
 
   -- with another number of wakers for what is awaited
-  both-with : (r : Shutdown) (a : Awaited) (c : Count) → both (shutdowns.with_awaited r a c) + length (shutdowns.awaited r a).waiting ≡ both r + length c.waiting
+  both-with : (r : Shutdown) (a : Awaited) (c : Count) → both (shutdowns.with_awaited r a c) + length
+      (shutdowns.awaited r a).waiting ≡ both r + length c.waiting
   both-with r (Signal borrowed) c = omega arith
   both-with r Receivers c = omega arith
 
@@ -206,7 +226,9 @@ module _ (h : Shutdowns) where
   shutdown-copied : (i : ℕ) (x : Receiver) → shutdowns.registered (shutdowns.copied h i x) ≤ shutdowns.registered h
   shutdown-copied i x =
       let r : Shutdown = record (shutdowns.shutdown_at h x.shutdown) { receivers = increased (shutdowns.shutdown_at h x.shutdown).receivers } in
-      elim x.watch as (λ b. shutdowns.registered (if b then record h { receivers = insert h.receivers i x } else record h { shutdowns = insert h.shutdowns x.shutdown r; receivers = insert h.receivers i x }) ≤ shutdowns.registered h) [
+      elim x.watch as (λ b. shutdowns.registered
+      (if b then record h { receivers = insert h.receivers i x }
+      else record h { shutdowns = insert h.shutdowns x.shutdown r; receivers = insert h.receivers i x }) ≤ shutdowns.registered h) [
         | true ↦ omega arith
         | false ↦ omega (arith, shutdown-put x.shutdown r)
       ]
@@ -243,7 +265,14 @@ module _ (h : Shutdowns) where
       let r : Shutdown = shutdowns.shutdown_at h x.shutdown in
       let c : Count = shutdowns.awaited r x.awaits in
       let s : Shutdown = shutdowns.with_awaited r x.awaits (without_future c f) in
-      omega (arith, length-ending c.waiting f, both-with h r x.awaits (without_future c f), shutdown-put h x.shutdown s, shutdown-tidied (record h { shutdowns = insert h.shutdowns x.shutdown s; waits = remove h.waits f }) x.shutdown)
+      omega (
+        arith,
+        length-ending c.waiting f,
+        both-with h r x.awaits (without_future c f),
+        shutdown-put h x.shutdown s,
+        shutdown-tidied
+            (record h { shutdowns = insert h.shutdowns x.shutdown s; waits = remove h.waits f }) x.shutdown,
+      )
 
   shutdown-poll : (f w : ℕ) (o : Option ShutdownWait) → Settles shutdowns.registered (shutdowns.poll_of h f w o) (shutdowns.registered h + 1)
   shutdown-poll f w None = omega arith
@@ -251,7 +280,9 @@ module _ (h : Shutdowns) where
       let r : Shutdown = shutdowns.shutdown_at h x.shutdown in
       let c : Count = shutdowns.awaited r x.awaits in
       let s : Shutdown = shutdowns.with_awaited r x.awaits (with_waker c f w) in
-      elim (c.number == 0) as (λ b. Settles shutdowns.registered (if b then quietly (shutdowns.gone h f x) answers.Ready else quietly (shutdowns.with_shutdown h x.shutdown s) answers.Pending) (shutdowns.registered h + 1)) [
+      elim (c.number == 0) as (λ b. Settles shutdowns.registered
+      (if b then quietly (shutdowns.gone h f x) answers.Ready else quietly (shutdowns.with_shutdown h x.shutdown s) answers.Pending)
+      (shutdowns.registered h + 1)) [
         | true ↦ omega (arith, shutdown-gone f x)
         | false ↦ omega (arith, length-registering c.waiting f w, both-with h r x.awaits (with_waker c f w), shutdown-put h x.shutdown s)
       ]
@@ -268,10 +299,21 @@ module _ (h : Shutdowns) where
   shutdown-end_receiver_at k x =
       let r : Shutdown = shutdowns.shutdown_at h x.shutdown in
       let s : Shutdown = record r { receivers = decreased r.receivers 1 } in
-      elim x.watch as (λ b. Settles shutdowns.registered (if b then quietly (shutdowns.tidied (record h { receivers = remove h.receivers k }) x.shutdown) answers.Done
-      else record { hall = shutdowns.tidied (record h { shutdowns = insert h.shutdowns x.shutdown s; receivers = remove h.receivers k }) x.shutdown; reply = answers.Done; wakes = woken_by r.receivers 1 }) (shutdowns.registered h)) [
+      elim x.watch as (λ b. Settles shutdowns.registered
+      (if b then quietly (shutdowns.tidied (record h { receivers = remove h.receivers k }) x.shutdown) answers.Done
+      else record {
+        hall = shutdowns.tidied (record h { shutdowns = insert h.shutdowns x.shutdown s; receivers = remove h.receivers k }) x.shutdown;
+        reply = answers.Done;
+        wakes = woken_by r.receivers 1;
+      }) (shutdowns.registered h)) [
         | true ↦ omega (arith, shutdown-tidied (record h { receivers = remove h.receivers k }) x.shutdown)
-        | false ↦ omega (arith, length-decreased r.receivers 1, shutdown-put h x.shutdown s, shutdown-tidied (record h { shutdowns = insert h.shutdowns x.shutdown s; receivers = remove h.receivers k }) x.shutdown)
+        | false ↦ omega (
+          arith,
+          length-decreased r.receivers 1,
+          shutdown-put h x.shutdown s,
+          shutdown-tidied
+              (record h { shutdowns = insert h.shutdowns x.shutdown s; receivers = remove h.receivers k }) x.shutdown,
+        )
       ]
 
   shutdown-end_receiver : (k : ℕ) (o : Option Receiver) → Settles shutdowns.registered (shutdowns.end_receiver_of h k o) (shutdowns.registered h)
@@ -336,5 +378,6 @@ none_registered =
     let none_at_barriers : barriers.registered barriers.no_barriers ≡ 0 = total-empty (λ b (x : Barrier). length x.waiting) in
     let none_at_latches : latches.registered latches.no_latches ≡ 0 = total-empty (λ l (x : Latch). length x.count.waiting) in
     let none_at_groups : groups.registered groups.no_groups ≡ 0 = total-empty (λ g (x : Count). length x.waiting) in
-    let none_at_shutdowns : shutdowns.registered shutdowns.no_shutdowns ≡ 0 = total-empty (λ s (x : Shutdown). length x.signal.waiting + length x.receivers.waiting) in
+    let none_at_shutdowns : shutdowns.registered shutdowns.no_shutdowns ≡ 0 =
+    total-empty (λ s (x : Shutdown). length x.signal.waiting + length x.receivers.waiting) in
     omega arith

@@ -19,14 +19,17 @@ use Rattle.mea_meet_model.proofs.LiveShutdowns.{live-make, live-sender, live-rec
 
 -- ---- a tidying
 waits-tidied : (h : Shutdowns) (s : ℕ) → (tidied h s).waits ≡ h.waits
-waits-tidied h s = elim (nat_lt 0 (senders_of h s + receivers_of h s + waits_of h s)) as (λ b. (if b then h else record h { shutdowns = remove h.shutdowns s }).waits ≡ h.waits) [ true ↦ refl | false ↦ refl ]
+waits-tidied h s = elim (nat_lt 0 (senders_of h s + receivers_of h s + waits_of h s))
+    as (λ b. (if b then h else record h { shutdowns = remove h.shutdowns s }).waits ≡ h.waits) [ true ↦ refl | false ↦ refl ]
 
 -- the shutdown of a future stays
 tidied-at : (h : Shutdowns) (s f : ℕ) (x : ShutdownWait) → get h.waits f ≡ Some x → shutdown_at (tidied h s) x.shutdown ≡ shutdown_at h x.shutdown
-tidied-at h s f x is = elim (nat_lt 0 (senders_of h s + receivers_of h s + waits_of h s)) as (λ b. nat_lt 0 (senders_of h s + receivers_of h s + waits_of h s) ≡ b → shutdown_at (if b then h else record h { shutdowns = remove h.shutdowns s }) x.shutdown ≡ shutdown_at h x.shutdown) [
-  | true ↦ λ e. refl
-  | false ↦ λ e. at-removed_other new_shutdown h.shutdowns s x.shutdown (none_of h.waits (λ y. y.shutdown) s f x (none_left h s e).2 is)
-] refl
+tidied-at h s f x is = elim (nat_lt 0 (senders_of h s + receivers_of h s + waits_of h s))
+    as (λ b. nat_lt 0 (senders_of h s + receivers_of h s + waits_of h s) ≡ b
+    → shutdown_at (if b then h else record h { shutdowns = remove h.shutdowns s }) x.shutdown ≡ shutdown_at h x.shutdown) [
+      | true ↦ λ e. refl
+      | false ↦ λ e. at-removed_other new_shutdown h.shutdowns s x.shutdown (none_of h.waits (λ y. y.shutdown) s f x (none_left h s e).2 is)
+    ] refl
 
 placed-tidied : (h : Shutdowns) (s f : ℕ) → placed (tidied h s) f ≡ placed h f
 placed-tidied h s f = ap (λ m. placed_of (tidied h s) f (get m f)) (waits-tidied h s) ∙ at (get h.waits f) refl
@@ -52,7 +55,8 @@ for_all : (g : ℕ) (h : Shutdowns) (o : Outcome Shutdowns) (i : ℕ) → Goes h
 for_all g h o i goes = going.for_all Stands (λ (m : Shutdowns). m.waits) placed g h o i goes
 
 passes-by : (h m : Shutdowns) (ws : List ℕ) (f : ℕ)
-    → ((x : ShutdownWait) (w : ℕ) → get h.waits f ≡ Some x → waker_for (awaited (shutdown_at h x.shutdown) x.awaits).waiting f ≡ Some w → IsSome (get m.waits f) → (get m.waits f ≡ Some x) × ((waker_for (awaited (shutdown_at m x.shutdown) x.awaits).waiting f ≡ Some w) ⊎ Contains ws w))
+    → ((x : ShutdownWait) (w : ℕ) → get h.waits f ≡ Some x → waker_for (awaited (shutdown_at h x.shutdown) x.awaits).waiting f ≡ Some w
+    → IsSome (get m.waits f) → (get m.waits f ≡ Some x) × ((waker_for (awaited (shutdown_at m x.shutdown) x.awaits).waiting f ≡ Some w) ⊎ Contains ws w))
     → Passes h m ws f
 passes-by h m ws f each w is there = at (get h.waits f) refl is
   where
@@ -69,33 +73,45 @@ passes-tidied h m ws s f passes w is there = elim (passes w is (subst (λ p. IsS
 ]
 
 -- the wakers of a shutdown that changes, where those of the changed one are kept or woken
-keeps-put : (h : Shutdowns) (s : ℕ) (r : Shutdown) (ws : List ℕ) (a : Awaited) (f w : ℕ) → (waker_for (awaited (shutdown_at h s) a).waiting f ≡ Some w → (waker_for (awaited r a).waiting f ≡ Some w) ⊎ Contains ws w)
-    → (t : ℕ) → waker_for (awaited (shutdown_at h t) a).waiting f ≡ Some w → (waker_for (awaited (shutdown_at (with_shutdown h s r) t) a).waiting f ≡ Some w) ⊎ Contains ws w
-keeps-put h s r ws a f w here = by_at_put new_shutdown h.shutdowns s r (λ t q. waker_for (awaited (shutdown_at h t) a).waiting f ≡ Some w → (waker_for (awaited q a).waiting f ≡ Some w) ⊎ Contains ws w) here (λ t apart p. inl p)
+keeps-put : (h : Shutdowns) (s : ℕ) (r : Shutdown) (ws : List ℕ) (a : Awaited) (f w : ℕ)
+    → (waker_for (awaited (shutdown_at h s) a).waiting f ≡ Some w → (waker_for (awaited r a).waiting f ≡ Some w) ⊎ Contains ws w)
+    → (t : ℕ) → waker_for (awaited (shutdown_at h t) a).waiting f ≡ Some w
+    → (waker_for (awaited (shutdown_at (with_shutdown h s r) t) a).waiting f ≡ Some w) ⊎ Contains ws w
+keeps-put h s r ws a f w here = by_at_put new_shutdown h.shutdowns s r
+    (λ t q. waker_for (awaited (shutdown_at h t) a).waiting f ≡ Some w → (waker_for (awaited q a).waiting f ≡ Some w) ⊎ Contains ws w) here (λ t apart p. inl p)
 
 -- a waker stays where the changed list keeps it
-keeps-awaited : (r : Shutdown) (b a : Awaited) (c : Count) (f w : ℕ) → (waker_for (awaited r b).waiting f ≡ Some w → waker_for c.waiting f ≡ Some w) → waker_for (awaited r a).waiting f ≡ Some w → waker_for (awaited (with_awaited r b c) a).waiting f ≡ Some w
+keeps-awaited : (r : Shutdown) (b a : Awaited) (c : Count) (f w : ℕ) → (waker_for (awaited r b).waiting f ≡ Some w → waker_for c.waiting f ≡ Some w)
+    → waker_for (awaited r a).waiting f ≡ Some w → waker_for (awaited (with_awaited r b c) a).waiting f ≡ Some w
 keeps-awaited r (Signal x) (Signal y) c f w keeps has = keeps has
 keeps-awaited r (Signal x) Receivers c f w keeps has = has
 keeps-awaited r Receivers (Signal y) c f w keeps has = has
 keeps-awaited r Receivers Receivers c f w keeps has = keeps has
 
 -- a waker stays with the signal or is woken by it; and so with the receivers
-keeps-signal : (r : Shutdown) (a : Awaited) (f w : ℕ) → waker_for (awaited r a).waiting f ≡ Some w → (waker_for (awaited (record r { signal = decreased r.signal 1 }) a).waiting f ≡ Some w) ⊎ Contains (woken_by r.signal 1) w
+keeps-signal : (r : Shutdown) (a : Awaited) (f w : ℕ) → waker_for (awaited r a).waiting f ≡ Some w
+    → (waker_for (awaited (record r { signal = decreased r.signal 1 }) a).waiting f ≡ Some w) ⊎ Contains (woken_by r.signal 1) w
 keeps-signal r (Signal x) f w has = decreased-keeps r.signal 1 f w has
 keeps-signal r Receivers f w has = inl has
 
-keeps-receivers : (r : Shutdown) (a : Awaited) (f w : ℕ) → waker_for (awaited r a).waiting f ≡ Some w → (waker_for (awaited (record r { receivers = decreased r.receivers 1 }) a).waiting f ≡ Some w) ⊎ Contains (woken_by r.receivers 1) w
+keeps-receivers : (r : Shutdown) (a : Awaited) (f w : ℕ) → waker_for (awaited r a).waiting f ≡ Some w
+    → (waker_for (awaited (record r { receivers = decreased r.receivers 1 }) a).waiting f ≡ Some w) ⊎ Contains (woken_by r.receivers 1) w
 keeps-receivers r (Signal x) f w has = inl has
 keeps-receivers r Receivers f w has = decreased-keeps r.receivers 1 f w has
 
-keeps-increased : (r : Shutdown) (a : Awaited) (f w : ℕ) → waker_for (awaited r a).waiting f ≡ Some w → waker_for (awaited (record r { receivers = increased r.receivers }) a).waiting f ≡ Some w
+keeps-increased : (r : Shutdown) (a : Awaited) (f w : ℕ) → waker_for (awaited r a).waiting f ≡ Some w
+    → waker_for (awaited (record r { receivers = increased r.receivers }) a).waiting f ≡ Some w
 keeps-increased r (Signal x) f w has = has
 keeps-increased r Receivers f w has = has
 
 -- a new future is none of those that wait
 passes-with_wait : (h : Shutdowns) (n i : ℕ) → n ≤ i → HasShutdowns h n → (s : ℕ) (a : Awaited) (f : ℕ) → Passes h (with_wait h i s a) [] f
-passes-with_wait h n i later v s a f = passes-by h (with_wait h i s a) [] f (λ x w is has _. (get-other h.waits i f (record { shutdown = s; awaits = a }) (fresh h.waits n i f later v.waits_below (is_there (get h.waits f) x is)) ∙ is, inl has))
+passes-with_wait h n i later v s a f = passes-by h (with_wait h i s a) [] f
+    (λ x w is has _. (
+      get-other h.waits i f (record { shutdown = s; awaits = a })
+          (fresh h.waits n i f later v.waits_below (is_there (get h.waits f) x is)) ∙ is,
+      inl has,
+    ))
 
 module _ (h : Shutdowns) (n i : ℕ) (later : n ≤ i) (v : HasShutdowns h n) (live : HasLiveShutdowns h) where
   pub goes-nowhere : (reply : Answer) → Goes h (quietly h reply) i
@@ -105,12 +121,24 @@ module _ (h : Shutdowns) (n i : ℕ) (later : n ≤ i) (v : HasShutdowns h n) (l
   goes-make = record {
     valid = (shutdowns-new h n i later v, live-make h live n i later v);
     made = made-same h.waits i;
-    passes = λ f. passes-by h (make h i).hall [] f (λ x w is has there. (is, inl (ap (λ (r : Shutdown). waker_for (awaited r x.awaits).waiting f) (at-other new_shutdown h.shutdowns i x.shutdown new_shutdown (fresh h.shutdowns n i x.shutdown later v.shutdowns_below (v.waits_known f x is))) ∙ has)));
+    passes = λ f. passes-by h (make h i).hall [] f
+        (λ x w is has there. (
+          is,
+          inl
+              (ap (λ (r : Shutdown). waker_for (awaited r x.awaits).waiting f)
+              (at-other new_shutdown h.shutdowns i x.shutdown new_shutdown
+              (fresh h.shutdowns n i x.shutdown later v.shutdowns_below (v.waits_known f x is))) ∙ has),
+        ));
   }
 
   -- where the shutdowns and the futures stay, so do the wakers
   unmoved : (m : Shutdowns) → m.shutdowns ≡ h.shutdowns → m.waits ≡ h.waits → (f : ℕ) → Passes h m [] f
-  unmoved m shutdowns waits f = passes-by h m [] f (λ x w is has there. (ap (λ p. get p f) waits ∙ is, inl (ap (λ p. waker_for (awaited (shutdown_at (record h { shutdowns = p }) x.shutdown) x.awaits).waiting f) shutdowns ∙ has)))
+  unmoved m shutdowns waits f = passes-by h m [] f
+      (λ x w is has there. (
+        ap (λ p. get p f) waits ∙ is,
+        inl
+            (ap (λ p. waker_for (awaited (shutdown_at (record h { shutdowns = p }) x.shutdown) x.awaits).waiting f) shutdowns ∙ has),
+      ))
 
   pub goes-copy_sender : (k : ℕ) (o : Option ℕ) → get h.senders k ≡ o → Goes h (copy_sender_of h i o) i
   goes-copy_sender k None at_k = goes-nowhere answers.Made
@@ -121,8 +149,10 @@ module _ (h : Shutdowns) (n i : ℕ) (later : n ≤ i) (v : HasShutdowns h n) (l
   }
 
   -- a receiver more, and its shutdown in place of another
-  live-copy : (k : ℕ) (x : Receiver) (t : Shutdown) → get h.receivers k ≡ Some x → HasLiveShutdowns (record h { shutdowns = insert h.shutdowns x.shutdown t; receivers = insert h.receivers i x })
-  live-copy k x t at_k = live-over (record h { receivers = insert h.receivers i x }) (live-receiver h live n i later v x) x.shutdown t (v.receivers_known k x at_k)
+  live-copy : (k : ℕ) (x : Receiver) (t : Shutdown) → get h.receivers k ≡ Some x
+      → HasLiveShutdowns (record h { shutdowns = insert h.shutdowns x.shutdown t; receivers = insert h.receivers i x })
+  live-copy k x t at_k = live-over (record h { receivers = insert h.receivers i x }) (live-receiver h live n i later v x) x.shutdown t
+      (v.receivers_known k x at_k)
 
   goes-copied : (k : ℕ) (x : Receiver) → get h.receivers k ≡ Some x → Goes h (quietly (copied h i x) answers.Made) i
   goes-copied k x at_k =
@@ -138,7 +168,8 @@ module _ (h : Shutdowns) (n i : ℕ) (later : n ≤ i) (v : HasShutdowns h n) (l
         | false ↦ λ e. record {
           valid = (shutdowns-receiver h n i later v x e (v.receivers_known k x at_k), live-copy k x t at_k);
           made = made-same h.waits i;
-          passes = λ f. passes-by h m [] f (λ y w is has there. (is, keeps-put h x.shutdown t [] y.awaits f w (λ p. inl (keeps-increased r y.awaits f w p)) y.shutdown has));
+          passes = λ f. passes-by h m [] f
+              (λ y w is has there. (is, keeps-put h x.shutdown t [] y.awaits f w (λ p. inl (keeps-increased r y.awaits f w p)) y.shutdown has));
         }
       ] refl
 
@@ -153,11 +184,14 @@ module _ (h : Shutdowns) (n i : ℕ) (later : n ≤ i) (v : HasShutdowns h n) (l
       let t : Shutdown = record r { signal = decreased r.signal 1 } in
       record {
         valid = (
-          shutdowns-later (with_shutdown h s t) n i later (shutdowns-with h n v s t (v.senders_known k s at_k) refl (quiet-decreased r.signal 1 (v.signal_quiet s)) (v.receivers_quiet s) (λ f w has. v.signal_waiting s f w (decreased-had r.signal 1 f w has)) (v.receivers_waiting s)),
+          shutdowns-later (with_shutdown h s t) n i later
+              (shutdowns-with h n v s t (v.senders_known k s at_k) refl (quiet-decreased r.signal 1 (v.signal_quiet s)) (v.receivers_quiet s)
+              (λ f w has. v.signal_waiting s f w (decreased-had r.signal 1 f w has)) (v.receivers_waiting s)),
           live-over h live s t (v.senders_known k s at_k),
         );
         made = made-same h.waits i;
-        passes = λ f. passes-by h (with_shutdown h s t) (woken_by r.signal 1) f (λ y w is has there. (is, keeps-put h s t (woken_by r.signal 1) y.awaits f w (λ p. keeps-signal r y.awaits f w p) y.shutdown has));
+        passes = λ f. passes-by h (with_shutdown h s t) (woken_by r.signal 1) f
+            (λ y w is has there. (is, keeps-put h s t (woken_by r.signal 1) y.awaits f w (λ p. keeps-signal r y.awaits f w p) y.shutdown has));
       }
 
   pub goes-now : (o : Option Receiver) → Goes h (now_of h o) i
@@ -167,16 +201,25 @@ module _ (h : Shutdowns) (n i : ℕ) (later : n ≤ i) (v : HasShutdowns h n) (l
   pub goes-watch : (k : ℕ) (o : Option Receiver) → get h.receivers k ≡ o → Goes h (watch_of h i o) i
   goes-watch k None at_k = goes-nowhere answers.Made
   goes-watch k (Some x) at_k = record {
-    valid = (shutdowns-watch h n i later v (record { shutdown = x.shutdown; watch = true }) refl (v.receivers_known k x at_k), live-receiver h live n i later v (record { shutdown = x.shutdown; watch = true }));
+    valid = (
+      shutdowns-watch h n i later v (record { shutdown = x.shutdown; watch = true }) refl
+          (v.receivers_known k x at_k),
+      live-receiver h live n i later v (record { shutdown = x.shutdown; watch = true }),
+    );
     made = made-same h.waits i;
     passes = unmoved (record h { receivers = insert h.receivers i (record { shutdown = x.shutdown; watch = true }) }) refl refl;
   }
 
   -- a future more, which borrows k if anything
-  pub goes-wait : (k : ℕ) (borrowed : Option ℕ) → ((r : ℕ) → borrowed ≡ Some r → k ≡ r) → (o : Option Receiver) → get h.receivers k ≡ o → Goes h (wait_of h i borrowed o) i
+  pub goes-wait : (k : ℕ) (borrowed : Option ℕ) → ((r : ℕ) → borrowed ≡ Some r → k ≡ r) → (o : Option Receiver) → get h.receivers k ≡ o
+      → Goes h (wait_of h i borrowed o) i
   goes-wait k borrowed it None at_k = goes-nowhere answers.Made
   goes-wait k borrowed it (Some x) at_k = record {
-    valid = (shutdowns-wait h n i later v (waiting_signal x.shutdown borrowed) (v.receivers_known k x at_k) lent, live-wait h live n i later v x.shutdown (Signal borrowed));
+    valid = (
+      shutdowns-wait h n i later v (waiting_signal x.shutdown borrowed) (v.receivers_known k x at_k)
+          lent,
+      live-wait h live n i later v x.shutdown (Signal borrowed),
+    );
     made = made-put h.waits i (waiting_signal x.shutdown borrowed);
     passes = passes-with_wait h n i later v x.shutdown (Signal borrowed);
   }
@@ -197,28 +240,44 @@ module _ (h : Shutdowns) (n i : ℕ) (later : n ≤ i) (v : HasShutdowns h n) (l
         passes = λ f. passes-tidied h m [] s f (unmoved m refl refl f);
       }
 
-  goes-end_watch : (k : ℕ) (x : Receiver) → get h.receivers k ≡ Some x → x.watch ≡ true → borrowers_of h k ≡ 0 → Goes h (quietly (tidied (record h { receivers = remove h.receivers k }) x.shutdown) answers.Done) i
+  goes-end_watch : (k : ℕ) (x : Receiver) → get h.receivers k ≡ Some x → x.watch ≡ true → borrowers_of h k ≡ 0
+      → Goes h (quietly (tidied (record h { receivers = remove h.receivers k }) x.shutdown) answers.Done) i
   goes-end_watch k x at_k watches free =
       let m : Shutdowns = record h { receivers = remove h.receivers k } in
       record {
-        valid = (shutdowns-tidied m (i + 1) x.shutdown (shutdowns-later m n i later (shutdowns-no_watch h n v k x at_k watches free)), live-end_watch h live k x at_k);
+        valid = (
+          shutdowns-tidied m (i + 1) x.shutdown
+              (shutdowns-later m n i later (shutdowns-no_watch h n v k x at_k watches free)),
+          live-end_watch h live k x at_k,
+        );
         made = subst (λ p. IsMade h.waits p i) (sym (waits-tidied m x.shutdown)) (made-same h.waits i);
         passes = λ f. passes-tidied h m [] x.shutdown f (unmoved m refl refl f);
       }
 
   -- a receiver is gone, before its shutdown is tidied
   abbrev left_by : ℕ → Receiver → Shutdowns
-  left_by k x = record h { shutdowns = insert h.shutdowns x.shutdown (record (shutdown_at h x.shutdown) { receivers = decreased (shutdown_at h x.shutdown).receivers 1 }); receivers = remove h.receivers k }
+  left_by k x = record h {
+    shutdowns = insert h.shutdowns x.shutdown
+        (record (shutdown_at h x.shutdown) { receivers = decreased (shutdown_at h x.shutdown).receivers 1 });
+    receivers = remove h.receivers k;
+  }
 
-  goes-end_counted : (k : ℕ) (x : Receiver) → get h.receivers k ≡ Some x → x.watch ≡ false → borrowers_of h k ≡ 0 → Goes h (record { hall = tidied (left_by k x) x.shutdown; reply = answers.Done; wakes = woken_by (shutdown_at h x.shutdown).receivers 1 }) i
+  goes-end_counted : (k : ℕ) (x : Receiver) → get h.receivers k ≡ Some x → x.watch ≡ false → borrowers_of h k ≡ 0
+      → Goes h (record { hall = tidied (left_by k x) x.shutdown; reply = answers.Done; wakes = woken_by (shutdown_at h x.shutdown).receivers 1 }) i
   goes-end_counted k x at_k counts free =
       let r : Shutdown = shutdown_at h x.shutdown in
       let t : Shutdown = record r { receivers = decreased r.receivers 1 } in
       let ws : List ℕ = woken_by r.receivers 1 in
       record {
-        valid = (shutdowns-tidied (left_by k x) (i + 1) x.shutdown (shutdowns-later (left_by k x) n i later (shutdowns-no_receiver h n v k x at_k counts free)), live-end_counted h live k x at_k);
+        valid = (
+          shutdowns-tidied (left_by k x) (i + 1) x.shutdown
+              (shutdowns-later (left_by k x) n i later (shutdowns-no_receiver h n v k x at_k counts free)),
+          live-end_counted h live k x at_k,
+        );
         made = subst (λ p. IsMade h.waits p i) (sym (waits-tidied (left_by k x) x.shutdown)) (made-same h.waits i);
-        passes = λ f. passes-tidied h (left_by k x) ws x.shutdown f (passes-by h (left_by k x) ws f (λ y w is has there. (is, keeps-put h x.shutdown t ws y.awaits f w (λ p. keeps-receivers r y.awaits f w p) y.shutdown has)));
+        passes = λ f. passes-tidied h (left_by k x) ws x.shutdown f
+            (passes-by h (left_by k x) ws f
+            (λ y w is has there. (is, keeps-put h x.shutdown t ws y.awaits f w (λ p. keeps-receivers r y.awaits f w p) y.shutdown has)));
       }
 
   -- a receiver that nobody borrows
@@ -226,7 +285,8 @@ module _ (h : Shutdowns) (n i : ℕ) (later : n ≤ i) (v : HasShutdowns h n) (l
   goes-end_receiver k free None at_k = goes-nowhere answers.Done
   goes-end_receiver k free (Some x) at_k =
       let watch : Outcome Shutdowns = quietly (tidied (record h { receivers = remove h.receivers k }) x.shutdown) answers.Done in
-      let counted : Outcome Shutdowns = record { hall = tidied (left_by k x) x.shutdown; reply = answers.Done; wakes = woken_by (shutdown_at h x.shutdown).receivers 1 } in
+      let counted : Outcome Shutdowns =
+      record { hall = tidied (left_by k x) x.shutdown; reply = answers.Done; wakes = woken_by (shutdown_at h x.shutdown).receivers 1 } in
       elim x.watch as (λ b. x.watch ≡ b → Goes h (if b then watch else counted) i) [
         | true ↦ λ e. goes-end_watch k x at_k e free
         | false ↦ λ e. goes-end_counted k x at_k e free
@@ -235,7 +295,8 @@ module _ (h : Shutdowns) (n i : ℕ) (later : n ≤ i) (v : HasShutdowns h n) (l
   -- f is gone, before its shutdown is tidied
   abbrev ended_by : ℕ → ShutdownWait → Shutdowns
   ended_by f x = record h {
-    shutdowns = insert h.shutdowns x.shutdown (with_awaited (shutdown_at h x.shutdown) x.awaits (without_future (awaited (shutdown_at h x.shutdown) x.awaits) f));
+    shutdowns = insert h.shutdowns x.shutdown
+        (with_awaited (shutdown_at h x.shutdown) x.awaits (without_future (awaited (shutdown_at h x.shutdown) x.awaits) f));
     waits = remove h.waits f;
   }
 
@@ -245,12 +306,19 @@ module _ (h : Shutdowns) (n i : ℕ) (later : n ≤ i) (v : HasShutdowns h n) (l
       let c : Count = awaited r x.awaits in
       let d : Count = without_future c f in
       passes-by h (ended_by f x) [] g (λ y w is has there.
-      let apart : f ≡ g → ⊥ = apart_from_gone h.waits f g there in
-      (get-removed_other h.waits f g apart ∙ is, keeps-put h x.shutdown (with_awaited r x.awaits d) [] y.awaits g w (λ p. inl (keeps-awaited r x.awaits y.awaits d g w (λ q. ending-other c.waiting f g apart ∙ q) p)) y.shutdown has))
+      let apart : f ≡ g → ⊥ = apart_from_gone h.waits f g there in (
+        get-removed_other h.waits f g apart ∙ is,
+        keeps-put h x.shutdown (with_awaited r x.awaits d) [] y.awaits g w
+            (λ p. inl (keeps-awaited r x.awaits y.awaits d g w (λ q. ending-other c.waiting f g apart ∙ q) p)) y.shutdown has,
+      ))
 
   goes-gone : (f : ℕ) (x : ShutdownWait) → get h.waits f ≡ Some x → (reply : Answer) → Goes h (quietly (gone h f x) reply) i
   goes-gone f x at_f reply = record {
-    valid = (shutdowns-tidied (ended_by f x) (i + 1) x.shutdown (shutdowns-later (ended_by f x) n i later (shutdowns-left h n v f x at_f)), live-gone h live f x at_f);
+    valid = (
+      shutdowns-tidied (ended_by f x) (i + 1) x.shutdown
+          (shutdowns-later (ended_by f x) n i later (shutdowns-left h n v f x at_f)),
+      live-gone h live f x at_f,
+    );
     made = subst (λ m. IsMade h.waits m i) (sym (waits-tidied (ended_by f x) x.shutdown)) (made-gone h.waits i f);
     passes = λ g. passes-tidied h (ended_by f x) [] x.shutdown g (passes-left f x g);
   }
@@ -261,7 +329,8 @@ module _ (h : Shutdowns) (n i : ℕ) (later : n ≤ i) (v : HasShutdowns h n) (l
 
   -- f waits on
   registers : (f w : ℕ) (x : ShutdownWait) → get h.waits f ≡ Some x → ((awaited (shutdown_at h x.shutdown) x.awaits).number == 0) ≡ false
-      → GoesFor f h (quietly (with_shutdown h x.shutdown (with_awaited (shutdown_at h x.shutdown) x.awaits (with_waker (awaited (shutdown_at h x.shutdown) x.awaits) f w))) answers.Pending) i
+      → GoesFor f h (quietly (with_shutdown h x.shutdown
+      (with_awaited (shutdown_at h x.shutdown) x.awaits (with_waker (awaited (shutdown_at h x.shutdown) x.awaits) f w))) answers.Pending) i
   registers f w x at_f runs =
       let r : Shutdown = shutdown_at h x.shutdown in
       let c : Count = awaited r x.awaits in
@@ -269,11 +338,18 @@ module _ (h : Shutdowns) (n i : ℕ) (later : n ≤ i) (v : HasShutdowns h n) (l
       let t : Shutdown = with_awaited r x.awaits d in
       record {
         valid = (
-          shutdowns-later (with_shutdown h x.shutdown t) n i later (shutdowns-awaited h n v x.shutdown x.awaits d (v.waits_known f x at_f) refl (quiet-registering c f w runs) (awaited-registering h.waits x.shutdown r x.awaits f w at_f (v.signal_waiting x.shutdown) (v.receivers_waiting x.shutdown))),
+          shutdowns-later (with_shutdown h x.shutdown t) n i later
+              (shutdowns-awaited h n v x.shutdown x.awaits d (v.waits_known f x at_f) refl (quiet-registering c f w runs)
+              (awaited-registering h.waits x.shutdown r x.awaits f w at_f (v.signal_waiting x.shutdown) (v.receivers_waiting x.shutdown))),
           live-over h live x.shutdown t (v.waits_known f x at_f),
         );
         made = made-same h.waits i;
-        passes = λ g apart. passes-by h (with_shutdown h x.shutdown t) [] g (λ y u is has there. (is, keeps-put h x.shutdown t [] y.awaits g u (λ p. inl (keeps-awaited r x.awaits y.awaits d g u (λ q. registering-other c.waiting f g w apart ∙ q) p)) y.shutdown has));
+        passes = λ g apart. passes-by h (with_shutdown h x.shutdown t) [] g
+            (λ y u is has there. (
+              is,
+              keeps-put h x.shutdown t [] y.awaits g u
+                  (λ p. inl (keeps-awaited r x.awaits y.awaits d g u (λ q. registering-other c.waiting f g w apart ∙ q) p)) y.shutdown has,
+            ));
       }
 
   pub goes-poll : (f w : ℕ) (o : Option ShutdownWait) → get h.waits f ≡ o → GoesFor f h (poll_of h f w o) i
@@ -294,7 +370,12 @@ module _ (h : Shutdowns) (n i : ℕ) (later : n ≤ i) (v : HasShutdowns h n) (l
       let m : Shutdowns = record h { senders = remove h.senders k } in
       let fewer = shutdowns-no_sender h n v k in
       record {
-        valid = (shutdowns-wait m n i later fewer (waiting_end s) (v.senders_known k s at_k) (λ t r same. absurd (let clash : Receivers ≡ Signal (Some r) = ap (λ (y : ShutdownWait). y.awaits) same in cc)), live-await h live n i later v k s at_k);
+        valid = (
+          shutdowns-wait m n i later fewer (waiting_end s) (v.senders_known k s at_k)
+              (λ t r same. absurd (let clash : Receivers ≡ Signal (Some r) = ap (λ (y : ShutdownWait). y.awaits) same in
+              cc)),
+          live-await h live n i later v k s at_k,
+        );
         made = made-put h.waits i (waiting_end s);
         passes = passes-with_wait m n i later fewer s Receivers;
       }
@@ -305,7 +386,8 @@ awaited-there r (Signal borrowed) c = refl
 awaited-there r Receivers c = refl
 
 -- a poll that replies `pending` places its waker
-pub places : (h : Shutdowns) (f w : ℕ) (o : Option ShutdownWait) → get h.waits f ≡ o → IsSome o → (poll_of h f w o).reply ≡ answers.Pending → placed (poll_of h f w o).hall f ≡ Some w
+pub places : (h : Shutdowns) (f w : ℕ) (o : Option ShutdownWait) → get h.waits f ≡ o → IsSome o → (poll_of h f w o).reply ≡ answers.Pending
+    → placed (poll_of h f w o).hall f ≡ Some w
 places h f w None is known = absurd (cc)
 places h f w (Some x) is known =
     let r : Shutdown = shutdown_at h x.shutdown in
@@ -313,7 +395,8 @@ places h f w (Some x) is known =
     let d : Count = with_waker c f w in
     let t : Shutdown = with_awaited r x.awaits d in
     let m : Shutdowns = with_shutdown h x.shutdown t in
-    elim (c.number == 0) as (λ b. (if b then quietly (gone h f x) answers.Ready else quietly m answers.Pending).reply ≡ answers.Pending → placed (if b then quietly (gone h f x) answers.Ready else quietly m answers.Pending).hall f ≡ Some w) [
+    elim (c.number == 0) as (λ b. (if b then quietly (gone h f x) answers.Ready else quietly m answers.Pending).reply ≡ answers.Pending
+    → placed (if b then quietly (gone h f x) answers.Ready else quietly m answers.Pending).hall f ≡ Some w) [
       | true ↦ λ e. absurd (cc)
       | false ↦ λ e.
           ap (placed_of m f) is
@@ -322,10 +405,12 @@ places h f w (Some x) is known =
     ]
 
 -- while a waker is placed, a poll replies `pending`
-pub waits : (h : Shutdowns) (n : ℕ) → HasShutdowns h n → (f w u : ℕ) (o : Option ShutdownWait) → placed_of h f o ≡ Some u → (poll_of h f w o).reply ≡ answers.Pending
+pub waits : (h : Shutdowns) (n : ℕ) → HasShutdowns h n → (f w u : ℕ) (o : Option ShutdownWait) → placed_of h f o ≡ Some u
+    → (poll_of h f w o).reply ≡ answers.Pending
 waits h n v f w u None is = refl
 waits h n v f w u (Some x) is =
     let r : Shutdown = shutdown_at h x.shutdown in
     let c : Count = awaited r x.awaits in
     let m : Shutdowns = with_shutdown h x.shutdown (with_awaited r x.awaits (with_waker c f w)) in
-    ap (λ b. (if b then quietly (gone h f x) answers.Ready else quietly m answers.Pending).reply) (quiet-runs c f u (quiet-awaited r x.awaits (v.signal_quiet x.shutdown) (v.receivers_quiet x.shutdown)) is)
+    ap (λ b. (if b then quietly (gone h f x) answers.Ready else quietly m answers.Pending).reply)
+    (quiet-runs c f u (quiet-awaited r x.awaits (v.signal_quiet x.shutdown) (v.receivers_quiet x.shutdown)) is)

@@ -45,17 +45,20 @@ is_of-one Ended f g h = absurd (cc)
 
 pub registering-other : (q : List (Whose × ℕ)) (f g w : ℕ) → (f ≡ g → ⊥) → waker_for (registering q f w) g ≡ waker_for q g
 registering-other [] f g w apart = ap (λ b. cond b (Some w) None) (ne_eqb f g apart)
-registering-other (e ∷ q) f g w apart = elim (is_of e.0 f) as (λ b. is_of e.0 f ≡ b → waker_for (cond b ((Of f, w) ∷ q) (e ∷ registering q f w)) g ≡ waker_for (e ∷ q) g) [
-  | true ↦ λ h. ap (λ b. cond b (Some w) (waker_for q g)) (ne_eqb f g apart) ∙ sym (ap (λ b. cond b (Some e.1) (waker_for q g)) (is_of-one e.0 f g h ∙ ne_eqb f g apart))
-  | false ↦ λ h. ap (cond (is_of e.0 g) (Some e.1)) (registering-other q f g w apart)
-] refl
+registering-other (e ∷ q) f g w apart = elim (is_of e.0 f)
+    as (λ b. is_of e.0 f ≡ b → waker_for (cond b ((Of f, w) ∷ q) (e ∷ registering q f w)) g ≡ waker_for (e ∷ q) g) [
+      | true ↦ λ h. ap (λ b. cond b (Some w) (waker_for q g)) (ne_eqb f g apart)
+          ∙ sym (ap (λ b. cond b (Some e.1) (waker_for q g)) (is_of-one e.0 f g h ∙ ne_eqb f g apart))
+      | false ↦ λ h. ap (cond (is_of e.0 g) (Some e.1)) (registering-other q f g w apart)
+    ] refl
 
 pub ending-other : (q : List (Whose × ℕ)) (f g : ℕ) → (f ≡ g → ⊥) → waker_for (ending q f) g ≡ waker_for q g
 ending-other [] f g apart = refl
-ending-other (e ∷ q) f g apart = elim (is_of e.0 f) as (λ b. is_of e.0 f ≡ b → cond (is_of (ended_if e.0 b) g) (Some e.1) (waker_for (ending q f) g) ≡ waker_for (e ∷ q) g) [
-  | true ↦ λ h. ending-other q f g apart ∙ sym (ap (λ b. cond b (Some e.1) (waker_for q g)) (is_of-one e.0 f g h ∙ ne_eqb f g apart))
-  | false ↦ λ h. ap (cond (is_of e.0 g) (Some e.1)) (ending-other q f g apart)
-] refl
+ending-other (e ∷ q) f g apart = elim (is_of e.0 f)
+    as (λ b. is_of e.0 f ≡ b → cond (is_of (ended_if e.0 b) g) (Some e.1) (waker_for (ending q f) g) ≡ waker_for (e ∷ q) g) [
+      | true ↦ λ h. ending-other q f g apart ∙ sym (ap (λ b. cond b (Some e.1) (waker_for q g)) (is_of-one e.0 f g h ∙ ne_eqb f g apart))
+      | false ↦ λ h. ap (cond (is_of e.0 g) (Some e.1)) (ending-other q f g apart)
+    ] refl
 
 -- who has ended has no waker that is its own
 pub ending-there : (q : List (Whose × ℕ)) (f : ℕ) → waker_for (ending q f) f ≡ None
@@ -73,7 +76,8 @@ pub ending-had : (q : List (Whose × ℕ)) (f g w : ℕ) → waker_for (ending q
 ending-had q f g w is = sym (ending-other q f g (ending-apart q f g w is)) ∙ is
 
 -- what holds of who is registered and of those who were holds of all who are then
-pub registering-had : (q : List (Whose × ℕ)) (f w g u : ℕ) (P : ℕ → Type 0) → P f → (waker_for q g ≡ Some u → P g) → waker_for (registering q f w) g ≡ Some u → P g
+pub registering-had : (q : List (Whose × ℕ)) (f w g u : ℕ) (P : ℕ → Type 0) → P f → (waker_for q g ≡ Some u → P g)
+    → waker_for (registering q f w) g ≡ Some u → P g
 registering-had q f w g u P here others is = elim (f == g) as (λ b. (f == g) ≡ b → P g) [
   | true ↦ λ e. subst P (eqb-true f g e) here
   | false ↦ λ e. others (sym (registering-other q f g w (eqb-false f g e)) ∙ is)

@@ -26,14 +26,17 @@ use Rattle.mea_meet_model.proofs.Rounds.{same_round, next_round, one_round}
 
 -- ---- a poll at a barrier
 leader-at : (h : Barriers) (f w : ℕ) (x : BarrierWait) (o : Option ℕ) → is_leader (poll_at h f w x o).reply ≡ leads_new (barrier_at h x.barrier) o
-leader-at h f w x None = elim (leads (barrier_at h x.barrier)) as (λ b. is_leader (if b then leading h f x else joining h f w x).reply ≡ b) [ true ↦ refl | false ↦ refl ]
-leader-at h f w x (Some round) = elim (has_completed (barrier_at h x.barrier) round) as (λ b. is_leader (if b then quietly (gone h f x) answers.Ready else waiting_on h f w x).reply ≡ false) [ true ↦ refl | false ↦ refl ]
+leader-at h f w x None = elim (leads (barrier_at h x.barrier)) as (λ b. is_leader (if b then leading h f x else joining h f w x).reply ≡ b)
+    [ true ↦ refl | false ↦ refl ]
+leader-at h f w x (Some round) = elim (has_completed (barrier_at h x.barrier) round)
+    as (λ b. is_leader (if b then quietly (gone h f x) answers.Ready else waiting_on h f w x).reply ≡ false) [ true ↦ refl | false ↦ refl ]
 
 leader-poll : (h : Barriers) (f w : ℕ) (o : Option BarrierWait) → is_leader (poll_of h f w o).reply ≡ leads_wait h o
 leader-poll h f w None = refl
 leader-poll h f w (Some x) = leader-at h f w x x.round
 
-wakes-at : (h : Barriers) (f w : ℕ) (x : BarrierWait) (o : Option ℕ) → leads_new (barrier_at h x.barrier) o ≡ true → (poll_at h f w x o).wakes ≡ wakers (barrier_at h x.barrier).waiting
+wakes-at : (h : Barriers) (f w : ℕ) (x : BarrierWait) (o : Option ℕ) → leads_new (barrier_at h x.barrier) o ≡ true
+    → (poll_at h f w x o).wakes ≡ wakers (barrier_at h x.barrier).waiting
 wakes-at h f w x None e = ap (λ b. (if b then leading h f x else joining h f w x).wakes) e
 wakes-at h f w x (Some round) e = absurd (cc)
 
@@ -45,8 +48,10 @@ Arrives h m count = (b : ℕ) → IsSome (get h.barriers b) → IsSome (get m.ba
 arrives-same : (h : Barriers) → Arrives h h (λ b. 0)
 arrives-same h b there still = omega arith
 
-arrives-put : (h : Barriers) (a : ℕ) (r : Barrier) (count : ℕ → ℕ) → r.arrivals ≡ (barrier_at h a).arrivals + count a → ((b : ℕ) → (a ≡ b → ⊥) → count b ≡ 0) → Arrives h (record h { barriers = insert h.barriers a r }) count
-arrives-put h a r count here others b there still = by_at_put (new_barrier 1) h.barriers a r (λ c s. s.arrivals ≡ (barrier_at h c).arrivals + count c) here (λ c apart. let none = others c apart in omega (arith, none)) b
+arrives-put : (h : Barriers) (a : ℕ) (r : Barrier) (count : ℕ → ℕ) → r.arrivals ≡ (barrier_at h a).arrivals + count a
+    → ((b : ℕ) → (a ≡ b → ⊥) → count b ≡ 0) → Arrives h (record h { barriers = insert h.barriers a r }) count
+arrives-put h a r count here others b there still = by_at_put (new_barrier 1) h.barriers a r (λ c s. s.arrivals ≡ (barrier_at h c).arrivals + count c)
+    here (λ c apart. let none = others c apart in omega (arith, none)) b
 
 -- nothing in place of nothing
 idle : (b : Bool) (n : ℕ) → n ≡ 0 → cond b n 0 ≡ 0
@@ -64,15 +69,19 @@ module _ (h : Barriers) where
       let r : Barrier = barrier_at h x.barrier in
       let one = on_true (x.barrier == x.barrier) 1 (eq-eqb x.barrier x.barrier refl) in
       elim (leads r) as (λ b. Arrives h (if b then leading h f x else joining h f w x).hall (λ c. cond (x.barrier == c) 1 0)) [
-        | true ↦ arrives-put h x.barrier (record r { arrivals = r.arrivals + 1; waiting = [] }) (λ c. cond (x.barrier == c) 1 0) (omega (arith, one)) (λ c apart. on_false (x.barrier == c) 1 (ne_eqb x.barrier c apart))
-        | false ↦ arrives-put h x.barrier (record r { arrivals = r.arrivals + 1; waiting = registering r.waiting f w }) (λ c. cond (x.barrier == c) 1 0) (omega (arith, one)) (λ c apart. on_false (x.barrier == c) 1 (ne_eqb x.barrier c apart))
+        | true ↦ arrives-put h x.barrier (record r { arrivals = r.arrivals + 1; waiting = [] }) (λ c. cond (x.barrier == c) 1 0) (omega (arith, one))
+            (λ c apart. on_false (x.barrier == c) 1 (ne_eqb x.barrier c apart))
+        | false ↦ arrives-put h x.barrier (record r { arrivals = r.arrivals + 1; waiting = registering r.waiting f w })
+            (λ c. cond (x.barrier == c) 1 0) (omega (arith, one)) (λ c apart. on_false (x.barrier == c) 1 (ne_eqb x.barrier c apart))
       ]
   arrives-at f w x (Some round) =
       let r : Barrier = barrier_at h x.barrier in
       let none : (c : ℕ) → cond (x.barrier == c) (arrivals_new (Some round)) 0 ≡ 0 = (λ c. idle (x.barrier == c) (arrivals_new (Some round)) refl) in
-      elim (has_completed r round) as (λ b. Arrives h (if b then quietly (gone h f x) answers.Ready else waiting_on h f w x).hall (λ c. cond (x.barrier == c) (arrivals_new (Some round)) 0)) [
+      elim (has_completed r round) as (λ b. Arrives h (if b then quietly (gone h f x) answers.Ready else waiting_on h f w x).hall
+      (λ c. cond (x.barrier == c) (arrivals_new (Some round)) 0)) [
         | true ↦ arrives-gone f x (λ c. cond (x.barrier == c) (arrivals_new (Some round)) 0) none
-        | false ↦ arrives-put h x.barrier (record r { waiting = registering r.waiting f w }) (λ c. cond (x.barrier == c) (arrivals_new (Some round)) 0) (omega (arith, none x.barrier)) (λ c apart. none c)
+        | false ↦ arrives-put h x.barrier (record r { waiting = registering r.waiting f w })
+            (λ c. cond (x.barrier == c) (arrivals_new (Some round)) 0) (omega (arith, none x.barrier)) (λ c apart. none c)
       ]
 
   arrives-poll : (f w : ℕ) (o : Option BarrierWait) → Arrives h (poll_of h f w o).hall (arrivals_wait o)
@@ -84,10 +93,13 @@ module _ (h : Barriers) where
   arrives-end f (Some x) = arrives-gone f x (λ b. 0) (λ b. refl)
 
   arrives-drop : (a : ℕ) → Arrives h (drop h a).hall (λ b. 0)
-  arrives-drop a b there = by_gone h.barriers a (λ c o. IsSome o → (unwrap_or o (new_barrier 1)).arrivals ≡ (barrier_at h c).arrivals + 0) (λ still. absurd (cc)) (λ c apart still. omega arith) b
+  arrives-drop a b there = by_gone h.barriers a (λ c o. IsSome o → (unwrap_or o (new_barrier 1)).arrivals ≡ (barrier_at h c).arrivals + 0)
+      (λ still. absurd (cc)) (λ c apart still. omega arith) b
 
   arrives-make : (n i k : ℕ) → n ≤ i → AreBelow h.barriers n → Arrives h (make h i k).hall (λ b. 0)
-  arrives-make n i k later below b there still = by_at_put (new_barrier 1) h.barriers i (new_barrier k) (λ c r. IsSome (get h.barriers c) → r.arrivals ≡ (barrier_at h c).arrivals + 0) (λ known. absurd (fresh h.barriers n i i later below known refl)) (λ c apart known. omega arith) b there
+  arrives-make n i k later below b there still = by_at_put (new_barrier 1) h.barriers i (new_barrier k)
+      (λ c r. IsSome (get h.barriers c) → r.arrivals ≡ (barrier_at h c).arrivals + 0)
+      (λ known. absurd (fresh h.barriers n i i later below known refl)) (λ c apart known. omega arith) b there
 
 pub arrives : (h : Hall) (n i : ℕ) (e : MeetEvent) → IsValid h n → n ≤ i → Arrives h.barriers (step h i e).hall.barriers (arrivals_by h e)
 arrives h n i (events.BarNew k) v later = arrives-make h.barriers n i k later v.barriers.barriers_below
@@ -103,7 +115,8 @@ module _ (h : Hall) where
   bar_end f (Some x) = refl
 
   lat_try : (l : ℕ) → is_leader (latches.try h.latches l).reply ≡ false
-  lat_try l = elim ((latches.latch_at h.latches l).count.number == 0) as (λ b. is_leader (if b then answers.Accepted else answers.Left (latches.latch_at h.latches l).count.number) ≡ false) [ true ↦ refl | false ↦ refl ]
+  lat_try l = elim ((latches.latch_at h.latches l).count.number == 0)
+      as (λ b. is_leader (if b then answers.Accepted else answers.Left (latches.latch_at h.latches l).count.number) ≡ false) [ true ↦ refl | false ↦ refl ]
 
   -- one of two outcomes of a poll
   told : {H : Type 0} (b : Bool) (m k : H) → is_leader (if b then quietly m answers.Ready else quietly k answers.Pending).reply ≡ false
@@ -111,7 +124,8 @@ module _ (h : Hall) where
   told false m k = refl
 
   -- one of two outcomes of an end
-  done : {H : Type 0} (b : Bool) (m k : H) (ws : List ℕ) → is_leader (if b then quietly m answers.Done else record { hall = k; reply = answers.Done; wakes = ws }).reply ≡ false
+  done : {H : Type 0} (b : Bool) (m k : H) (ws : List ℕ) → is_leader
+      (if b then quietly m answers.Done else record { hall = k; reply = answers.Done; wakes = ws }).reply ≡ false
   done true m k ws = refl
   done false m k ws = refl
 
@@ -161,7 +175,8 @@ module _ (h : Hall) where
 
   sd_now : (o : Option Receiver) → is_leader (shutdowns.now_of h.shutdowns o).reply ≡ false
   sd_now None = refl
-  sd_now (Some x) = elim ((shutdowns.shutdown_at h.shutdowns x.shutdown).signal.number == 0) as (λ b. is_leader (if b then answers.Yes else answers.No) ≡ false) [ true ↦ refl | false ↦ refl ]
+  sd_now (Some x) = elim ((shutdowns.shutdown_at h.shutdowns x.shutdown).signal.number == 0)
+      as (λ b. is_leader (if b then answers.Yes else answers.No) ≡ false) [ true ↦ refl | false ↦ refl ]
 
   sd_watch : (i : ℕ) (o : Option Receiver) → is_leader (shutdowns.watch_of h.shutdowns i o).reply ≡ false
   sd_watch i None = refl
@@ -227,7 +242,8 @@ module _ (h : Hall) where
   exactly i (events.SdEnds k) = sd_ends k (get h.shutdowns.senders k)
   exactly i (events.SdEndr k) = sd_endr k (get h.shutdowns.receivers k)
 
-  pub wakes : (i f w : ℕ) (x : BarrierWait) → get h.barriers.waits f ≡ Some x → leads_by h (events.BarPoll f w) ≡ true → (step h i (events.BarPoll f w)).wakes ≡ wakers (barrier_at h.barriers x.barrier).waiting
+  pub wakes : (i f w : ℕ) (x : BarrierWait) → get h.barriers.waits f ≡ Some x → leads_by h (events.BarPoll f w) ≡ true
+      → (step h i (events.BarPoll f w)).wakes ≡ wakers (barrier_at h.barriers x.barrier).waiting
   wakes i f w x is e = ap (λ o. (poll_of h.barriers f w o).wakes) is ∙ wakes-at h.barriers f w x x.round (sym (ap (leads_wait h.barriers) is) ∙ e)
 
 -- ---- how many lead
@@ -245,7 +261,8 @@ leaders-rounds r zero some =
     omega (arith, all)
 leaders-rounds r (suc k) some =
     let further = leaders-rounds (record r { arrivals = r.arrivals + 1 }) k some in
-    let all : (r.arrivals + 1 + k) / r.size ≡ (r.arrivals + suc k) / r.size = ap (λ a. a / r.size) (let same : r.arrivals + 1 + k ≡ r.arrivals + suc k = omega arith in same) in
+    let all : (r.arrivals + 1 + k) / r.size ≡ (r.arrivals + suc k) / r.size =
+    ap (λ a. a / r.size) (let same : r.arrivals + 1 + k ≡ r.arrivals + suc k = omega arith in same) in
     omega (arith, further, all, ends_round r some)
 
 pub one : (r : Barrier) → 1 ≤ r.size → leaders r r.size ≡ 1

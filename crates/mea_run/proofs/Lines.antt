@@ -15,20 +15,24 @@ use Rattle.std.specs.Option.{option_map}
 use Rattle.std.specs.List.{slice_get}
 use Rattle.mea_run.specs.Script.{last_line, lines_among, lines_in, replies_text}
 
-keeps_first : (was_cut : Bool) (line : List ℕ) (pieces : List (List ℕ)) → 0 < length pieces → lines_among was_cut (line ∷ pieces) ≡ line ∷ lines_among was_cut pieces
+keeps_first : (was_cut : Bool) (line : List ℕ) (pieces : List (List ℕ)) → 0 < length pieces
+    → lines_among was_cut (line ∷ pieces) ≡ line ∷ lines_among was_cut pieces
 keeps_first was_cut line [] h = absurd (omega arith)
 keeps_first was_cut line (piece ∷ pieces) h = refl
 
 -- a line that a newline ends
-pub lines_first : (was_cut : Bool) (text : List ℕ) → position_or_len (λ b. b == 10) text < length text → lines_in was_cut text ≡ before_first (λ b. b == 10) text ∷ lines_in was_cut (after_first (λ b. b == 10) text)
+pub lines_first : (was_cut : Bool) (text : List ℕ) → position_or_len (λ b. b == 10) text < length text
+    → lines_in was_cut text ≡ before_first (λ b. b == 10) text ∷ lines_in was_cut (after_first (λ b. b == 10) text)
 lines_first was_cut text h =
     ap (lines_among was_cut) (slice_split_first (λ b. b == 10) text 0 h)
-    ∙ keeps_first was_cut (before_first (λ b. b == 10) text) (slice_split (λ b. b == 10) (after_first (λ b. b == 10) text)) (omega (arith, length-slice_split (λ b. b == 10) (after_first (λ b. b == 10) text)))
+    ∙ keeps_first was_cut (before_first (λ b. b == 10) text) (slice_split (λ b. b == 10) (after_first (λ b. b == 10) text))
+    (omega (arith, length-slice_split (λ b. b == 10) (after_first (λ b. b == 10) text)))
 
 one_piece : (p : ℕ → Bool) (text : List ℕ) → length text ≤ position_or_len p text → slice_split p text ≡ text ∷ []
 one_piece p [] h = refl
 one_piece p (b ∷ text) h =
-    elim (p b) as (λ v. suc (length text) ≤ cond (not v) (1 + position_or_len p text) 0 → cond v ([] ∷ slice_split p text) (onto_first b (slice_split p text)) ≡ (b ∷ text) ∷ []) [
+    elim (p b) as (λ v. suc (length text) ≤ cond (not v) (1 + position_or_len p text) 0
+    → cond v ([] ∷ slice_split p text) (onto_first b (slice_split p text)) ≡ (b ∷ text) ∷ []) [
       | true ↦ λ e. absurd (omega arith)
       | false ↦ λ e. ap (onto_first b) (one_piece p text (omega arith))
     ] h
@@ -48,9 +52,11 @@ lines_none true = refl
 lines_none false = refl
 
 -- what a cut found
-pub cut_some : (byte : ℕ) (bytes before after : List ℕ) → Some (before, after) ≡ cut byte bytes → (position_or_len (λ b. b == byte) bytes < length bytes) × (before ≡ before_first (λ b. b == byte) bytes) × (after ≡ after_first (λ b. b == byte) bytes)
+pub cut_some : (byte : ℕ) (bytes before after : List ℕ) → Some (before, after) ≡ cut byte bytes
+    → (position_or_len (λ b. b == byte) bytes < length bytes) × (before ≡ before_first (λ b. b == byte) bytes) × (after ≡ after_first (λ b. b == byte) bytes)
 cut_some byte bytes before after h =
-    let parts = cond_some (nat_lt (position_or_len (λ b. b == byte) bytes) (length bytes)) (before_first (λ b. b == byte) bytes, after_first (λ b. b == byte) bytes) (before, after) (sym h) in
+    let parts = cond_some (nat_lt (position_or_len (λ b. b == byte) bytes) (length bytes))
+    (before_first (λ b. b == byte) bytes, after_first (λ b. b == byte) bytes) (before, after) (sym h) in
     (ltb-true _ _ parts.0, ap (λ q. q.0) (sym parts.1), ap (λ q. q.1) (sym parts.1))
 
 none_only : {A : Type 0} (b : Bool) (x : A) → None ≡ cond b (Some x) None → b ≡ false
@@ -65,11 +71,13 @@ both_parts None a ws p q = absurd (cc)
 both_parts (Some r) a ws p q = let e : r.0 ≡ a = cc in let f : r.1 ≡ ws = cc in λ i. Some (e i, f i)
 
 -- one reply more
-pub replies_more : (rs : List (Answer × List ℕ)) (i : ℕ) (a : Answer) (ws : List ℕ) → option_map (λ r. r.0) (slice_get rs i) ≡ Some a → option_map (λ r. r.1) (slice_get rs i) ≡ Some ws
+pub replies_more : (rs : List (Answer × List ℕ)) (i : ℕ) (a : Answer) (ws : List ℕ) → option_map (λ r. r.0) (slice_get rs i) ≡ Some a
+    → option_map (λ r. r.1) (slice_get rs i) ≡ Some ws
     → replies_text (take (i + 1) rs) ≡ replies_text (take i rs) ++ reply_text a ws
 replies_more rs i a ws p q =
     let there : slice_get rs i ≡ Some (a, ws) = both_parts (slice_get rs i) a ws p q in
-    ap replies_text (take_more rs i (a, ws) (slice_get_within rs i (a, ws) there) ∙ ap (λ r. take i rs ++ r ∷ []) (get_or_from_slice_get rs i (a, ws) (a, ws) there))
+    ap replies_text (take_more rs i (a, ws) (slice_get_within rs i (a, ws) there)
+    ∙ ap (λ r. take i rs ++ r ∷ []) (get_or_from_slice_get rs i (a, ws) (a, ws) there))
     ∙ flat_map-append (λ r. reply_text r.0 r.1) (take i rs) ((a, ws) ∷ [])
     ∙ ap (λ text. replies_text (take i rs) ++ text) (append-nil (reply_text a ws))
 
@@ -79,7 +87,8 @@ pub none_where_cut : (was_cut : Bool) (text : List ℕ) → was_cut ≡ true →
 none_where_cut true text is h = lines_cut text h
 none_where_cut false text is h = absurd (cc)
 
-pub last_where_whole : (was_cut : Bool) (text : List ℕ) (n : ℕ) → was_cut ≡ false → 0 < length text → length text ≤ position_or_len (λ b. b == 10) text → lines_in was_cut text ≡ text ∷ lines_in was_cut (take (n - n) (drop n text))
+pub last_where_whole : (was_cut : Bool) (text : List ℕ) (n : ℕ) → was_cut ≡ false → 0 < length text
+    → length text ≤ position_or_len (λ b. b == 10) text → lines_in was_cut text ≡ text ∷ lines_in was_cut (take (n - n) (drop n text))
 last_where_whole true text n is some h = absurd (cc)
 last_where_whole false text n is some h =
     let none : n - n ≡ 0 = omega arith in

@@ -12,7 +12,8 @@ rose_since a b c less (inr stands) = inr stands
 -- k bytes more were read
 pub reads_on : (script items rest more : List ℕ) (k : ℕ) → script ≡ items ++ rest → more ≡ items ++ take k rest → script ≡ more ++ drop k rest
 reads_on script items rest more k is grown =
-    is ∙ ap (λ ys. items ++ ys) (sym (take-append-drop k rest)) ∙ sym (append_assoc items (take k rest) (drop k rest)) ∙ ap (λ xs. xs ++ drop k rest) (sym grown)
+    is ∙ ap (λ ys. items ++ ys) (sym (take-append-drop k rest)) ∙ sym (append_assoc items (take k rest) (drop k rest))
+    ∙ ap (λ xs. xs ++ drop k rest) (sym grown)
 
 pub read_to_end : (n : ℕ) (script items rest : List ℕ) → script ≡ items ++ rest → rest ≡ [] → length items ≤ n → items ≡ take n script
 read_to_end n script items rest is none few =

@@ -21,22 +21,28 @@ module _ {W : Type 0} where
   lacks_at_most w demand number x kept is found = within_at w demand number x kept found (place_of w demand number is)
 
   -- a number is not granted and waiting at once
-  pub not_waiting : (w : Waits (Place W)) (demand number lack : ℕ) (x : Place W) → get w number ≡ Some x → is_grant_of x demand ≡ true → waiting (queue_of w) number ≡ Some (demand, lack) → ⊥
+  pub not_waiting : (w : Waits (Place W)) (demand number lack : ℕ) (x : Place W) → get w number ≡ Some x → is_grant_of x demand ≡ true
+      → waiting (queue_of w) number ≡ Some (demand, lack) → ⊥
   not_waiting w demand number lack x found is waits =
       let slot = slot_waiting w.slots number demand lack w.order waits in
       not_both w demand number lack slot.0 (granted_at w demand number x found is) slot.1
 
-  pub not_granted : (w : Waits (Place W)) (demand number : ℕ) (x : Place W) → get w number ≡ Some x → is_grant_of x demand ≡ false → fin.get (granted_of w) number ≡ Some demand → ⊥
+  pub not_granted : (w : Waits (Place W)) (demand number : ℕ) (x : Place W) → get w number ≡ Some x → is_grant_of x demand ≡ false
+      → fin.get (granted_of w) number ≡ Some demand → ⊥
   not_granted w demand number x found is granted = let yes = slot_from_granted w demand number x found granted in absurd (cc)
 
   -- ---- a later poll
-  pub unlinked : (w : Waits (Place W)) (demand number : ℕ) (x : Place W) → IsQueue w → get w number ≡ Some x → is_grant_of x demand ≡ true → is_linked w number ≡ false
+  pub unlinked : (w : Waits (Place W)) (demand number : ℕ) (x : Place W) → IsQueue w → get w number ≡ Some x → is_grant_of x demand ≡ true
+      → is_linked w number ≡ false
   unlinked w demand number x kept found is = unlinked_granted w demand number kept (granted_at w demand number x found is)
 
-  pub polled_granted : (w new : Waits (Place W)) (demand number : ℕ) (x : Place W) → IsQueue w → get w number ≡ Some x → is_grant_of x demand ≡ true → Updates w new number None → new.order ≡ w.order → Takes w new number demand
+  pub polled_granted : (w new : Waits (Place W)) (demand number : ℕ) (x : Place W) → IsQueue w → get w number ≡ Some x → is_grant_of x demand ≡ true
+      → Updates w new number None → new.order ≡ w.order → Takes w new number demand
   polled_granted w new demand number x kept found is updates order = takes w new number demand (granted_at w demand number x found is) updates order kept
 
-  pub polled_waiting : (w : Waits (Place W)) (demand number : ℕ) (x lent written : Place W) (waker : W) → IsQueue w → IsOf w demand number → get w number ≡ Some x → is_grant_of x demand ≡ false → get w number ≡ Some lent → written ≡ with_new_waker lent waker → Rewakes w (with_value w number written) number waker
+  pub polled_waiting : (w : Waits (Place W)) (demand number : ℕ) (x lent written : Place W) (waker : W) → IsQueue w → IsOf w demand number
+      → get w number ≡ Some x → is_grant_of x demand ≡ false → get w number ≡ Some lent → written ≡ with_new_waker lent waker
+      → Rewakes w (with_value w number written) number waker
   polled_waiting w demand number x lent written waker kept belongs found is here wrote =
       let waits = waiting_at w demand number x found is (place_of w demand number belongs) in
       let was = waits.2 in
@@ -46,6 +52,9 @@ module _ {W : Type 0} where
       rw now (rewakes w (with_value w number (Acquire demand waits.0 waker)) number demand waits.0 waits.1 waker was updates refl kept)
 
   -- ---- its end
-  pub ended : (old mid new : Waits (Place W)) (demand number : ℕ) (x : Place W) → IsQueue old → IsOf old demand number → get old number ≡ Some x → mid ≡ record old { order = without number old.order } → Updates mid new number None → new.order ≡ mid.order → Departs old new demand number (paid_slot (Some x))
+  pub ended : (old mid new : Waits (Place W)) (demand number : ℕ) (x : Place W) → IsQueue old → IsOf old demand number → get old number ≡ Some x
+      → mid ≡ record old { order = without number old.order } → Updates mid new number None → new.order ≡ mid.order
+      → Departs old new demand number (paid_slot (Some x))
   ended old mid new demand number x kept belongs found left updates order =
-      departs old new demand number x kept found (Updates-unlinked old mid new number None (ap (λ w. w.slots) left) updates) (order ∙ ap (λ w. w.order) left) (place_of old demand number belongs)
+      departs old new demand number x kept found (Updates-unlinked old mid new number None (ap (λ w. w.slots) left) updates)
+      (order ∙ ap (λ w. w.order) left) (place_of old demand number belongs)

@@ -34,7 +34,8 @@ module _ {W : Type 0} where
   no_debt_filter : (p : Waiter W × ℕ → Bool) (q : List (Waiter W × ℕ)) → HasNoDebt q → HasNoDebt (filter p q)
   no_debt_filter p [] h = tt
   no_debt_filter p ((Acquires m d v, l) ∷ q) h =
-      elim (p (Acquires m d v, l)) as (λ b. HasNoDebt (cond b ((Acquires m d v, l) ∷ filter p q) (filter p q))) [ true ↦ no_debt_filter p q h | false ↦ no_debt_filter p q h ]
+      elim (p (Acquires m d v, l)) as (λ b. HasNoDebt (cond b ((Acquires m d v, l) ∷ filter p q) (filter p q)))
+      [ true ↦ no_debt_filter p q h | false ↦ no_debt_filter p q h ]
   no_debt_filter p ((Owes, l) ∷ q) h = absurd h
 
   pub no_debt_waiting_after : (q : List (Waiter W × ℕ)) (n : ℕ) → HasNoDebt q → HasNoDebt (waiting_after q n)
@@ -76,7 +77,11 @@ module _ {W : Type 0} where
   debts_first_without [] n h = tt
   debts_first_without ((Acquires m d v, l) ∷ q) n h =
       let rest = no_debt_without q n h in
-      elim (cases_eq m n) [ inl same ↦ rw (test_same m n same) (debts_first_from_none (without_acquire q n) rest) | inr differs ↦ rw (test_differs m n differs) rest ]
+      elim (cases_eq m n) [
+        | inl same ↦ rw (test_same m n same) (debts_first_from_none (without_acquire q n) rest)
+        | inr differs ↦ rw
+            (test_differs m n differs) rest
+      ]
   debts_first_without ((Owes, l) ∷ q) n h = debts_first_without q n h
 
   -- ---- a debt at the head

@@ -20,7 +20,8 @@ unlinked-push : (m n : ℕ) (ns : List ℕ) → list_any (λ k. eqb k m) (ns ++ 
 unlinked-push m n [] none = refl
 unlinked-push m n (k ∷ ks) none = by_test (eqb k m) none (unlinked-push m n ks)
   where
-    by_test : (b : Bool) → (b || list_any (λ j. eqb j m) (ks ++ n ∷ [])) ≡ false → (list_any (λ j. eqb j m) (ks ++ n ∷ []) ≡ false → list_any (λ j. eqb j m) ks ≡ false) → (b || list_any (λ j. eqb j m) ks) ≡ false
+    by_test : (b : Bool) → (b || list_any (λ j. eqb j m) (ks ++ n ∷ [])) ≡ false
+        → (list_any (λ j. eqb j m) (ks ++ n ∷ []) ≡ false → list_any (λ j. eqb j m) ks ≡ false) → (b || list_any (λ j. eqb j m) ks) ≡ false
     by_test true none rest = absurd (cc)
     by_test false none rest = rest none
 
@@ -52,7 +53,8 @@ module _ {W : Type 0} where
   entries-push slots n [] = refl
   entries-push slots n (m ∷ ms) = ap (λ es. entry m (get_or slots m None) ∷ es) (entries-push slots n ms)
 
-  AllWaiting-push : (slots : List (Option (Place W))) (n : ℕ) (ns : List ℕ) → IsWaiting (get_or slots n None) → AllWaiting slots ns → AllWaiting slots (ns ++ n ∷ [])
+  AllWaiting-push : (slots : List (Option (Place W))) (n : ℕ) (ns : List ℕ) → IsWaiting (get_or slots n None) → AllWaiting slots ns
+      → AllWaiting slots (ns ++ n ∷ [])
   AllWaiting-push slots n [] here all = (here, tt)
   AllWaiting-push slots n (m ∷ ms) here all = (all.0, AllWaiting-push slots n ms here all.1)
 
@@ -64,12 +66,16 @@ module _ {W : Type 0} where
     pub paid : paid_in new ≡ paid_in old + (demand - lack)
     pub longer : length new.order ≡ length old.order + 1
 
-  pub enqueues : (old new : base.Waits (Place W)) (number demand lack : ℕ) (waker : W) → get old number ≡ None → Updates old new number (Some (Acquire demand lack waker)) → new.order ≡ old.order ++ number ∷ [] → 1 ≤ lack → lack ≤ demand → IsQueue old → Enqueues old new number demand lack waker
+  pub enqueues : (old new : base.Waits (Place W)) (number demand lack : ℕ) (waker : W) → get old number ≡ None
+      → Updates old new number (Some (Acquire demand lack waker)) → new.order ≡ old.order ++ number ∷ [] → 1 ≤ lack → lack ≤ demand → IsQueue old
+      → Enqueues old new number demand lack waker
   enqueues old new number demand lack waker fresh updates order some within kept =
       let absent = absent_from_none old.slots number old.order fresh kept.waiting in
       let sum = sum_by-updated paid_slot refl old.slots new.slots number updates.others in
       let part = rw (fresh, updates.changed) at sum in
-      let queue : queue_of new ≡ queue_of old ++ (Acquires number demand waker, lack) ∷ [] = rw order (entries-push new.slots number old.order ∙ ap₂ (λ es x. es ++ entry number x ∷ []) (entries-updated old.slots new.slots number old.order updates.others absent) updates.changed) in
+      let queue : queue_of new ≡ queue_of old ++ (Acquires number demand waker, lack) ∷ [] =
+      rw order (entries-push new.slots number old.order ∙ ap₂ (λ es x. es ++ entry number x ∷ [])
+      (entries-updated old.slots new.slots number old.order updates.others absent) updates.changed) in
       record {
         queue = queue;
         granted = granted_same old.slots new.slots (λ q. elim (cases_eq q number) [
@@ -79,7 +85,8 @@ module _ {W : Type 0} where
         kept = record {
           distinct = rw order (IsDistinct-push number old.order absent kept.distinct);
           debts_first = subst HasDebtsFirst (sym queue) (debts_first_append (queue_of old) number demand lack waker kept.debts_first);
-          waiting = rw order (AllWaiting-push new.slots number old.order (rw updates.changed (some, within)) (AllWaiting-updated old.slots new.slots number old.order updates.others absent kept.waiting));
+          waiting = rw order (AllWaiting-push new.slots number old.order (rw updates.changed (some, within))
+              (AllWaiting-updated old.slots new.slots number old.order updates.others absent kept.waiting));
           idle = λ m unlinked. elim (cases_eq m number) [
             | inl same ↦ absurd (linked-push number old.order (rw (same, order) at unlinked))
             | inr differs ↦ rw (updates.others m differs) (kept.idle m (unlinked-push m number old.order (rw order at unlinked)))
@@ -97,12 +104,14 @@ module _ {W : Type 0} where
     pub paid : paid_in new ≡ paid_in old
     pub longer : length new.order ≡ length old.order + 1
 
-  pub owing : (old new : base.Waits (Place W)) (number lack : ℕ) → get old number ≡ None → Updates old new number (Some (Debt lack)) → new.order ≡ number ∷ old.order → 1 ≤ lack → IsQueue old → Owing old new lack
+  pub owing : (old new : base.Waits (Place W)) (number lack : ℕ) → get old number ≡ None → Updates old new number (Some (Debt lack))
+      → new.order ≡ number ∷ old.order → 1 ≤ lack → IsQueue old → Owing old new lack
   owing old new number lack fresh updates order some kept =
       let absent = absent_from_none old.slots number old.order fresh kept.waiting in
       let sum = sum_by-updated paid_slot refl old.slots new.slots number updates.others in
       let part = rw (fresh, updates.changed) at sum in
-      let queue : queue_of new ≡ (Owes, lack) ∷ queue_of old = rw (order, updates.changed) (ap (λ es. (Owes, lack) ∷ es) (entries-updated old.slots new.slots number old.order updates.others absent)) in
+      let queue : queue_of new ≡ (Owes, lack) ∷ queue_of old =
+      rw (order, updates.changed) (ap (λ es. (Owes, lack) ∷ es) (entries-updated old.slots new.slots number old.order updates.others absent)) in
       record {
         queue = queue;
         granted = granted_same old.slots new.slots (λ q. elim (cases_eq q number) [
@@ -135,7 +144,8 @@ module _ {W : Type 0} where
       by_slot (Some (Debt lack)) rest = rest
       by_slot (Some (Granted demand)) rest = rest
 
-  pub not_granted : (slots : List (Option (Place W))) (n : ℕ) → get_or slots n None ≡ None → fin.get (fin.from_entries {R = nat_cmp} (pairs_from 0 slots)) n ≡ None
+  pub not_granted : (slots : List (Option (Place W))) (n : ℕ) → get_or slots n None ≡ None
+      → fin.get (fin.from_entries {R = nat_cmp} (pairs_from 0 slots)) n ≡ None
   not_granted slots n none = get-granted slots n ∙ ap grant_of none
 
   -- the reserved places are no part of the queue

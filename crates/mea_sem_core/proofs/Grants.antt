@@ -40,7 +40,8 @@ module _ {W : Type 0} where
   Updates-Updates u v w n a b first second =
       record { changed = second.changed; others = λ other differs. second.others other differs ∙ first.others other differs }
 
-  module _ (mid new : Waits (Place W)) (n : ℕ) (slot : Option (Place W)) (box box' : Wakes W) (absent : IsAbsent n mid.order) (updates : Updates mid new n slot) (order : new.order ≡ mid.order) where
+  module _ (mid new : Waits (Place W)) (n : ℕ) (slot : Option (Place W)) (box box' : Wakes W) (absent : IsAbsent n mid.order)
+      (updates : Updates mid new n slot) (order : new.order ≡ mid.order) where
     rest_is : entries new.slots new.order ≡ entries mid.slots mid.order
     rest_is = rw order (entries-updated mid.slots new.slots n mid.order updates.others absent)
 
@@ -54,11 +55,14 @@ module _ {W : Type 0} where
             | inl same ↦ rw (same, updates.changed) idle
             | inr differs ↦ rw (updates.others m differs) (kept.idle m (unlinked_before m n mid.order differs (rw (← order) unlinked)))
           ];
-          debts_first = let first = debts_first_tail (entry n (get mid n)) (entries mid.slots mid.order) kept.debts_first in subst HasDebtsFirst (sym rest_is) first;
+          debts_first = let first = debts_first_tail (entry n (get mid n)) (entries mid.slots mid.order) kept.debts_first in
+              subst HasDebtsFirst (sym rest_is) first;
         }
 
     -- an acquire was granted
-    pub grants_acquire : (x : Place W) (w : W) → get mid n ≡ Some x → Some w ≡ waker_of x → slot ≡ Some (after_grant x) → IsQueue (record mid { order = n ∷ mid.order }) → box'.wakers ≡ box.wakers ++ w ∷ [] → length new.order ≤ box'.spare → (first : Waiter W × ℕ) × GrantsFirst (record mid { order = n ∷ mid.order }) new box box' first
+    pub grants_acquire : (x : Place W) (w : W) → get mid n ≡ Some x → Some w ≡ waker_of x → slot ≡ Some (after_grant x)
+        → IsQueue (record mid { order = n ∷ mid.order }) → box'.wakers ≡ box.wakers ++ w ∷ [] → length new.order ≤ box'.spare
+        → (first : Waiter W × ℕ) × GrantsFirst (record mid { order = n ∷ mid.order }) new box box' first
     grants_acquire (Acquire demand lack waker) w found is written kept sent room =
         let same : w ≡ waker = cc in (
           (Acquires n demand waker, lack),
@@ -80,7 +84,9 @@ module _ {W : Type 0} where
     grants_acquire (Granted demand) w found is written kept sent room = absurd (cc)
 
     -- a debt was paid, and is gone
-    pub grants_debt : (x : Place W) → get mid n ≡ Some x → None ≡ waker_of x → slot ≡ None → IsQueue (record mid { order = n ∷ mid.order }) → box'.wakers ≡ box.wakers → length new.order ≤ box'.spare → (first : Waiter W × ℕ) × GrantsFirst (record mid { order = n ∷ mid.order }) new box box' first
+    pub grants_debt : (x : Place W) → get mid n ≡ Some x → None ≡ waker_of x → slot ≡ None → IsQueue (record mid { order = n ∷ mid.order })
+        → box'.wakers ≡ box.wakers → length new.order ≤ box'.spare
+        → (first : Waiter W × ℕ) × GrantsFirst (record mid { order = n ∷ mid.order }) new box box' first
     grants_debt (Acquire demand lack waker) found is written kept sent room = absurd (cc)
     grants_debt (Granted demand) found is written kept sent room = absurd (let waits = kept.waiting.0 in rw found at waits)
     grants_debt (Debt lack) found is written kept sent room = (

@@ -25,7 +25,8 @@ sum-put : (k v : ℕ) (es : List (ℕ × ℕ)) → find nat_cmp k es ≡ None �
 sum-put k v [] none = omega arith
 sum-put k v (e ∷ es) none = by_order (nat_cmp k e.0) refl (sum-put k v es)
   where
-    by_order : (r : Ordering) → nat_cmp k e.0 ≡ r → (find nat_cmp k es ≡ None → sum_by (λ e. e.1) (put nat_cmp k v es) ≡ sum_by (λ e. e.1) es + v) → sum_by (λ e. e.1) (put nat_cmp k v (e ∷ es)) ≡ sum_by (λ e. e.1) (e ∷ es) + v
+    by_order : (r : Ordering) → nat_cmp k e.0 ≡ r → (find nat_cmp k es ≡ None → sum_by (λ e. e.1) (put nat_cmp k v es) ≡ sum_by (λ e. e.1) es + v)
+        → sum_by (λ e. e.1) (put nat_cmp k v (e ∷ es)) ≡ sum_by (λ e. e.1) (e ∷ es) + v
     by_order Less is more = rw is (omega (arith, sum_by-cons (λ (p : ℕ × ℕ). p.1) (k, v) (e ∷ es)))
     by_order Equal is more = absurd (let tied : is_eq (nat_cmp k e.0) ≡ true = rw is refl in let found = rw tied at none in cc)
     by_order Greater is more =
@@ -41,14 +42,17 @@ module _ {W : Type 0} where
   granted_slot (Some (Debt _)) = 0
   granted_slot (Some (Granted demand)) = demand
 
-  sum-granted : (k : ℕ) (slots : List (Option (Place W))) → sum_by (λ e. e.1) (entries (fin.from_entries {R = nat_cmp} (pairs_from k slots))) ≡ sum_by granted_slot slots
+  sum-granted : (k : ℕ) (slots : List (Option (Place W))) → sum_by (λ e. e.1)
+      (entries (fin.from_entries {R = nat_cmp} (pairs_from k slots))) ≡ sum_by granted_slot slots
   sum-granted k [] = ap (sum_by (λ e. e.1)) (nil_from_length _ (sym (len-entries (fin.empty {X = ℕ} {R = nat_cmp})) ∙ len-empty nat_cmp ℕ))
   sum-granted k (None ∷ rest) = let rest_is = sum-granted (k + 1) rest in omega (arith, rest_is, sum_by-cons granted_slot None rest)
-  sum-granted k (Some (Acquire d l w) ∷ rest) = let rest_is = sum-granted (k + 1) rest in omega (arith, rest_is, sum_by-cons granted_slot (Some (Acquire d l w)) rest)
+  sum-granted k (Some (Acquire d l w) ∷ rest) = let rest_is = sum-granted (k + 1) rest in
+      omega (arith, rest_is, sum_by-cons granted_slot (Some (Acquire d l w)) rest)
   sum-granted k (Some (Debt l) ∷ rest) = let rest_is = sum-granted (k + 1) rest in omega (arith, rest_is, sum_by-cons granted_slot (Some (Debt l)) rest)
   sum-granted k (Some (Granted d) ∷ rest) =
       let m = fin.from_entries {R = nat_cmp} (pairs_from (k + 1) rest) in
-      let fresh : find nat_cmp k (entries m) ≡ None = sym (get-entries m k) ∙ get-from_entries nat_cmp_total (pairs_from (k + 1) rest) k ∙ find_before k (k + 1) rest (omega arith) in
+      let fresh : find nat_cmp k (entries m) ≡ None = sym (get-entries m k) ∙ get-from_entries nat_cmp_total (pairs_from (k + 1) rest) k
+      ∙ find_before k (k + 1) rest (omega arith) in
       ap (sum_by (λ e. e.1)) (entries-insert nat_cmp_total m k d)
       ∙ sum-put k d (entries m) fresh
       ∙ (let rest_is = sum-granted (k + 1) rest in omega (arith, rest_is, sum_by-cons granted_slot (Some (Granted d)) rest))
@@ -76,7 +80,9 @@ module _ {W : Type 0} where
   within (s ∷ ss) zero waits = omega arith
   within (s ∷ ss) (suc n) waits = omega (arith, within ss n waits)
 
-  sum-order : (slots : List (Option (Place W))) (ns : List ℕ) → IsDistinct ns → AllWaiting slots ns → ((m : ℕ) → list_any (λ k. eqb k m) ns ≡ false → IsIdle (get_or slots m None)) → sum_by paid_slot slots ≡ sum_by {X = Waiter W × ℕ} (λ e. paid_to e.0 e.1) (q.entries slots ns) + sum_by granted_slot slots
+  sum-order : (slots : List (Option (Place W))) (ns : List ℕ) → IsDistinct ns → AllWaiting slots ns
+      → ((m : ℕ) → list_any (λ k. eqb k m) ns ≡ false → IsIdle (get_or slots m None))
+      → sum_by paid_slot slots ≡ sum_by {X = Waiter W × ℕ} (λ e. paid_to e.0 e.1) (q.entries slots ns) + sum_by granted_slot slots
   sum-order slots [] distinct all idle = let same = sum-idle slots (λ n. idle n refl) in omega (arith, same)
   sum-order slots (n ∷ ns) distinct all idle =
       let gone = set slots n None in
@@ -93,10 +99,21 @@ module _ {W : Type 0} where
       let paid_here = rw here at paid in
       let granted_here = rw here at granted in
       let queue = rw kept at rest in
-      omega (arith, queue, paid_here, granted_here, slot.0, slot.1, sum_by-cons {X = Waiter W × ℕ} (λ e. paid_to e.0 e.1) (entry n (get_or slots n None)) (q.entries slots ns))
+      omega (
+        arith,
+        queue,
+        paid_here,
+        granted_here,
+        slot.0,
+        slot.1,
+        sum_by-cons {X = Waiter W × ℕ} (λ e. paid_to e.0 e.1)
+            (entry n (get_or slots n None)) (q.entries slots ns),
+      )
 
   -- what the model calls paid
-  pub paid-view : (w : base.Waits (Place W)) → IsQueue w → paid_in w ≡ sum_by {X = Waiter W × ℕ} (λ e. paid_to e.0 e.1) (queue_of w) + sum_by (λ d. d) (fin.values (granted_of w))
+  pub paid-view : (w : base.Waits (Place W)) → IsQueue w → paid_in w ≡ sum_by {X = Waiter W × ℕ} (λ e. paid_to e.0 e.1) (queue_of w) + sum_by (λ d. d)
+      (fin.values (granted_of w))
   paid-view w kept =
       sum-order w.slots w.order kept.distinct kept.waiting kept.idle
-      ∙ ap (λ g. sum_by {X = Waiter W × ℕ} (λ e. paid_to e.0 e.1) (queue_of w) + g) (sym (sum-granted 0 w.slots) ∙ sym (sum-map (λ e. e.1) (entries (granted_of w))))
+      ∙ ap (λ g. sum_by {X = Waiter W × ℕ} (λ e. paid_to e.0 e.1) (queue_of w) + g)
+      (sym (sum-granted 0 w.slots) ∙ sym (sum-map (λ e. e.1) (entries (granted_of w))))

@@ -15,12 +15,14 @@ use Rattle.mea_sem_core.proofs.Pours.{AllLack}
 
 module _ {W : Type 0} where
   -- changes at an absent number alone
-  pub entries-updated : (old new : List (Option (Place W))) (n : ℕ) (ns : List ℕ) → ((other : ℕ) → other ≢ n → get_or new other None ≡ get_or old other None) → IsAbsent n ns → entries new ns ≡ entries old ns
+  pub entries-updated : (old new : List (Option (Place W))) (n : ℕ) (ns : List ℕ)
+      → ((other : ℕ) → other ≢ n → get_or new other None ≡ get_or old other None) → IsAbsent n ns → entries new ns ≡ entries old ns
   entries-updated old new n [] others absent = refl
   entries-updated old new n (m ∷ ms) others absent =
       λ i. entry m (others m absent.0 i) ∷ entries-updated old new n ms others absent.1 i
 
-  pub AllWaiting-updated : (old new : List (Option (Place W))) (n : ℕ) (ns : List ℕ) → ((other : ℕ) → other ≢ n → get_or new other None ≡ get_or old other None) → IsAbsent n ns → AllWaiting old ns → AllWaiting new ns
+  pub AllWaiting-updated : (old new : List (Option (Place W))) (n : ℕ) (ns : List ℕ)
+      → ((other : ℕ) → other ≢ n → get_or new other None ≡ get_or old other None) → IsAbsent n ns → AllWaiting old ns → AllWaiting new ns
   AllWaiting-updated old new n [] others absent all = tt
   AllWaiting-updated old new n (m ∷ ms) others absent all =
       (rw (others m absent.0) all.0, AllWaiting-updated old new n ms others absent.1 all.1)
@@ -54,22 +56,30 @@ module _ {W : Type 0} where
   find_pairs k zero (Some (Granted demand) ∷ rest) =
       let same : eq_by_cmp nat_cmp (k + 0) k ≡ true = unsigned_tied (k + 0) k ∙ grind (arith, nat_tests) in
       ap (λ b. cond b (Some demand) (find nat_cmp (k + 0) (pairs_from (k + 1) rest))) same
-  find_pairs k (suc q) (None ∷ rest) = ap (λ m. find nat_cmp m (pairs_from (k + 1) rest)) (let e : k + suc q ≡ k + 1 + q = omega arith in e) ∙ find_pairs (k + 1) q rest
-  find_pairs k (suc q) (Some (Acquire _ _ _) ∷ rest) = ap (λ m. find nat_cmp m (pairs_from (k + 1) rest)) (let e : k + suc q ≡ k + 1 + q = omega arith in e) ∙ find_pairs (k + 1) q rest
-  find_pairs k (suc q) (Some (Debt _) ∷ rest) = ap (λ m. find nat_cmp m (pairs_from (k + 1) rest)) (let e : k + suc q ≡ k + 1 + q = omega arith in e) ∙ find_pairs (k + 1) q rest
+  find_pairs k (suc q) (None ∷ rest) = ap (λ m. find nat_cmp m (pairs_from (k + 1) rest)) (let e : k + suc q ≡ k + 1 + q = omega arith in e)
+      ∙ find_pairs (k + 1) q rest
+  find_pairs k (suc q) (Some (Acquire _ _ _) ∷ rest) = ap (λ m. find nat_cmp m (pairs_from (k + 1) rest))
+      (let e : k + suc q ≡ k + 1 + q = omega arith in e) ∙ find_pairs (k + 1) q rest
+  find_pairs k (suc q) (Some (Debt _) ∷ rest) = ap (λ m. find nat_cmp m (pairs_from (k + 1) rest)) (let e : k + suc q ≡ k + 1 + q = omega arith in e)
+      ∙ find_pairs (k + 1) q rest
   find_pairs k (suc q) (Some (Granted demand) ∷ rest) =
       let differs : eq_by_cmp nat_cmp (k + suc q) k ≡ false = unsigned_tied (k + suc q) k ∙ grind (arith, nat_tests) in
-      ap (λ b. cond b (Some demand) (find nat_cmp (k + suc q) (pairs_from (k + 1) rest))) differs ∙ ap (λ m. find nat_cmp m (pairs_from (k + 1) rest)) (let e : k + suc q ≡ k + 1 + q = omega arith in e) ∙ find_pairs (k + 1) q rest
+      ap (λ b. cond b (Some demand) (find nat_cmp (k + suc q) (pairs_from (k + 1) rest))) differs
+      ∙ ap (λ m. find nat_cmp m (pairs_from (k + 1) rest)) (let e : k + suc q ≡ k + 1 + q = omega arith in e) ∙ find_pairs (k + 1) q rest
 
   pub get-granted : (slots : List (Option (Place W))) (q : ℕ) → fin.get (fin.from_entries {R = nat_cmp} (pairs_from 0 slots)) q ≡ grant_of (get_or slots q None)
-  get-granted slots q = get-from_entries nat_cmp_total _ q ∙ ap (λ m. find nat_cmp m (pairs_from 0 slots)) (let e : q ≡ 0 + q = omega arith in e) ∙ find_pairs 0 q slots
+  get-granted slots q = get-from_entries nat_cmp_total _ q ∙ ap (λ m. find nat_cmp m (pairs_from 0 slots)) (let e : q ≡ 0 + q = omega arith in e)
+      ∙ find_pairs 0 q slots
 
   -- slots that grant alike have the same granted pairs
-  pub granted_same : (old new : List (Option (Place W))) → ((q : ℕ) → grant_of (get_or new q None) ≡ grant_of (get_or old q None)) → fin.from_entries {R = nat_cmp} (pairs_from 0 new) ≡ fin.from_entries (pairs_from 0 old)
+  pub granted_same : (old new : List (Option (Place W))) → ((q : ℕ) → grant_of (get_or new q None) ≡ grant_of (get_or old q None))
+      → fin.from_entries {R = nat_cmp} (pairs_from 0 new) ≡ fin.from_entries (pairs_from 0 old)
   granted_same old new alike = same_map nat_cmp_total nat_cmp-IsAntisymmetric _ _ (λ q. get-granted new q ∙ alike q ∙ sym (get-granted old q))
 
   -- a slot that grants from now on adds its pair
-  pub granted_inserted : (old new : List (Option (Place W))) (n demand : ℕ) → ((other : ℕ) → other ≢ n → get_or new other None ≡ get_or old other None) → grant_of (get_or new n None) ≡ Some demand → fin.from_entries {R = nat_cmp} (pairs_from 0 new) ≡ fin.insert (fin.from_entries (pairs_from 0 old)) n demand
+  pub granted_inserted : (old new : List (Option (Place W))) (n demand : ℕ)
+      → ((other : ℕ) → other ≢ n → get_or new other None ≡ get_or old other None) → grant_of (get_or new n None) ≡ Some demand
+      → fin.from_entries {R = nat_cmp} (pairs_from 0 new) ≡ fin.insert (fin.from_entries (pairs_from 0 old)) n demand
   granted_inserted old new n demand others here =
       same_map nat_cmp_total nat_cmp-IsAntisymmetric _ _ (λ q.
       rw (get-granted new q, get-insert nat_cmp_total (fin.from_entries (pairs_from 0 old)) n demand q) (elim (cases_eq q n) [
@@ -78,7 +88,8 @@ module _ {W : Type 0} where
       ]))
 
   -- a slot that grants no more takes its pair away
-  pub granted_removed : (old new : List (Option (Place W))) (n : ℕ) → ((other : ℕ) → other ≢ n → get_or new other None ≡ get_or old other None) → grant_of (get_or new n None) ≡ None → fin.from_entries {R = nat_cmp} (pairs_from 0 new) ≡ fin.remove (fin.from_entries (pairs_from 0 old)) n
+  pub granted_removed : (old new : List (Option (Place W))) (n : ℕ) → ((other : ℕ) → other ≢ n → get_or new other None ≡ get_or old other None)
+      → grant_of (get_or new n None) ≡ None → fin.from_entries {R = nat_cmp} (pairs_from 0 new) ≡ fin.remove (fin.from_entries (pairs_from 0 old)) n
   granted_removed old new n others here =
       same_map nat_cmp_total nat_cmp-IsAntisymmetric _ _ (λ q.
       rw (get-granted new q, get-remove nat_cmp_total (fin.from_entries (pairs_from 0 old)) n q) (elim (cases_eq q n) [

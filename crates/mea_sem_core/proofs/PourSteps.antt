@@ -38,7 +38,9 @@ module _ {W : Type 0} where
     pub paid : paid_in now + rest + to_debts ≡ paid_in start + amount
 
   -- a grant of the first waiter is a step of the pour
-  Continues-grant : (start now next : Waits (Place W)) (start_box now_box next_box : Wakes W) (amount rest to_debts : ℕ) (e : Waiter W × ℕ) → Continues start now start_box now_box amount rest to_debts → GrantsFirst now next now_box next_box e → e.1 ≤ rest → debt_of e.0 e.1 ≤ e.1 → Continues start next start_box next_box amount (rest - e.1) (to_debts + debt_of e.0 e.1)
+  Continues-grant : (start now next : Waits (Place W)) (start_box now_box next_box : Wakes W) (amount rest to_debts : ℕ) (e : Waiter W × ℕ)
+      → Continues start now start_box now_box amount rest to_debts → GrantsFirst now next now_box next_box e → e.1 ≤ rest → debt_of e.0 e.1 ≤ e.1
+      → Continues start next start_box next_box amount (rest - e.1) (to_debts + debt_of e.0 e.1)
   Continues-grant start now next start_box now_box next_box amount rest to_debts e so grants enough part =
       let paid = granted_whole e (queue_of next) rest enough in
       let queue = rw grants.queue at so.queue in
@@ -49,7 +51,8 @@ module _ {W : Type 0} where
       record {
         queue = sym (waiting_whole e (queue_of next) rest enough) ∙ queue;
         granted = rw grants.granted (sym (granting-append (granted_of now) (e.0 ∷ []) _) ∙ granted);
-        wakers = rw grants.wakers (append_assoc now_box.wakers (wakers_of (e.0 ∷ [])) _ ∙ ap (λ ws. now_box.wakers ++ ws) (sym (wakers-append (e.0 ∷ []) _)) ∙ wakers);
+        wakers = rw grants.wakers (append_assoc now_box.wakers (wakers_of (e.0 ∷ [])) _
+            ∙ ap (λ ws. now_box.wakers ++ ws) (sym (wakers-append (e.0 ∷ []) _)) ∙ wakers);
         left = omega (arith, left, lacks-cons e (queue_of next));
         debts = omega (arith, debts);
         bound = omega (arith, so.bound);
@@ -75,7 +78,8 @@ module _ {W : Type 0} where
   waits_after (Granted demand) rest short waits = waits
 
   -- a part payment goes to the acquire or to the debt
-  paid_part_of : (n : ℕ) (x : Place W) (rest : ℕ) → rest < lack_of x → IsWaiting (Some x) → paid_slot (Some (after_payment x rest)) + debt_of (entry n (Some x)).0 rest ≡ paid_slot (Some x) + rest
+  paid_part_of : (n : ℕ) (x : Place W) (rest : ℕ) → rest < lack_of x → IsWaiting (Some x)
+      → paid_slot (Some (after_payment x rest)) + debt_of (entry n (Some x)).0 rest ≡ paid_slot (Some x) + rest
   paid_part_of n (Acquire demand lack waker) rest short waits = omega (arith, waits.1)
   paid_part_of n (Debt lack) rest short waits = omega arith
   paid_part_of n (Granted demand) rest short waits = absurd waits
@@ -86,7 +90,10 @@ module _ {W : Type 0} where
   no_grant (Granted demand) rest waits = absurd waits
 
   -- a part payment of the first waiter is the end of the pour
-  Pours-part : (start now : Waits (Place W)) (start_box now_box : Wakes W) (amount rest to_debts n : ℕ) (ns : List ℕ) (x : Place W) → Continues start now start_box now_box amount rest to_debts → now.order ≡ n ∷ ns → get now n ≡ Some x → rest < lack_of x → Pours start (with_value now n (after_payment x rest)) start_box now_box amount × (0 ≡ amount - lacks (queue_of start)) × (to_debts + debt_of (entry n (Some x)).0 rest ≡ paid_to_debts (queue_of start) amount)
+  Pours-part : (start now : Waits (Place W)) (start_box now_box : Wakes W) (amount rest to_debts n : ℕ) (ns : List ℕ) (x : Place W)
+      → Continues start now start_box now_box amount rest to_debts → now.order ≡ n ∷ ns → get now n ≡ Some x → rest < lack_of x
+      → Pours start (with_value now n (after_payment x rest)) start_box now_box amount × (0 ≡ amount - lacks (queue_of start))
+      × (to_debts + debt_of (entry n (Some x)).0 rest ≡ paid_to_debts (queue_of start) amount)
   Pours-part start now start_box now_box amount rest to_debts n ns x so order found short =
       let new = with_value now n (after_payment x rest) in
       let e = entry n (Some x) in
@@ -97,7 +104,8 @@ module _ {W : Type 0} where
       let distinct = rw order at kept.distinct in
       let updates = Updates-with_value now n (after_payment x rest) (rw found refl) in
       let was : queue_of now ≡ e ∷ es = rw (order, found) refl in
-      let is : queue_of new ≡ (e.0, e.1 - rest) ∷ es = rw (order, updates.changed, entries-updated now.slots new.slots n ns updates.others distinct.0) (ap (λ first. first ∷ es) (paid_entry n x rest short)) in
+      let is : queue_of new ≡ (e.0, e.1 - rest) ∷ es = rw (order, updates.changed, entries-updated now.slots new.slots n ns updates.others distinct.0)
+      (ap (λ first. first ∷ es) (paid_entry n x rest short)) in
       let less : rest < e.1 = rw (lack_of-entry n x) short in
       let lacking = AllLack-entries now.slots ns all_waiting.1 in
       let queue = rw was at so.queue in
@@ -115,7 +123,11 @@ module _ {W : Type 0} where
           wakers = sym (append-nil now_box.wakers) ∙ wakers;
           kept = record {
             distinct = kept.distinct;
-            waiting = rw order (rw updates.changed (waits_after x rest short waits), AllWaiting-updated now.slots new.slots n ns updates.others distinct.0 all_waiting.1);
+            waiting = rw order (
+              rw updates.changed
+                  (waits_after x rest short waits),
+              AllWaiting-updated now.slots new.slots n ns updates.others distinct.0 all_waiting.1,
+            );
             idle = λ m unlinked. elim (cases_eq m n) [
               | inl same ↦ absurd (linked_first n ns (rw (same, order) at unlinked))
               | inr differs ↦ rw (updates.others m differs) (kept.idle m unlinked)
@@ -142,7 +154,10 @@ module _ {W : Type 0} where
   debt_of-within Owes n = omega arith
 
   -- one turn of the loop that grants
-  pub Continues-turn : (start now next : Waits (Place W)) (start_box now_box next_box : Wakes W) (amount rest to_debts n : ℕ) (ns : List ℕ) (x : Place W) → Continues start now start_box now_box amount rest to_debts → now.order ≡ n ∷ ns → get now n ≡ Some x → lack_of x ≤ rest → (e : Waiter W × ℕ) × GrantsFirst now next now_box next_box e → Continues start next start_box next_box amount (rest - lack_of x) (to_debts + min (debt_in x) rest)
+  pub Continues-turn : (start now next : Waits (Place W)) (start_box now_box next_box : Wakes W) (amount rest to_debts n : ℕ) (ns : List ℕ)
+      (x : Place W) → Continues start now start_box now_box amount rest to_debts → now.order ≡ n ∷ ns → get now n ≡ Some x → lack_of x ≤ rest
+      → (e : Waiter W × ℕ) × GrantsFirst now next now_box next_box e
+      → Continues start next start_box next_box amount (rest - lack_of x) (to_debts + min (debt_in x) rest)
   Continues-turn start now next start_box now_box next_box amount rest to_debts n ns x so order found enough grants =
       let first = grants.0 in
       let was : queue_of now ≡ entry n (Some x) ∷ entries now.slots ns = rw (order, found) refl in
@@ -151,11 +166,15 @@ module _ {W : Type 0} where
       let lack : first.1 ≡ lack_of x = rw same (lack_of-entry n x) in
       let whole : min (lack_of x) rest ≡ lack_of x = omega arith in
       let debt : debt_of first.0 first.1 ≡ min (debt_in x) rest = rw (lack, same, ← debt_of-entry n x rest, whole) refl in
-      let turn = Continues-grant start now next start_box now_box next_box amount rest to_debts first so grants.1 (rw lack enough) (debt_of-within first.0 first.1) in
+      let turn = Continues-grant start now next start_box now_box next_box amount rest to_debts first so grants.1 (rw lack enough)
+      (debt_of-within first.0 first.1) in
       rw (← lack, ← debt) turn
 
   -- and the turn that pays a part
-  pub Pours-turn : (start now : Waits (Place W)) (start_box now_box : Wakes W) (amount rest to_debts n : ℕ) (ns : List ℕ) (x y : Place W) → Continues start now start_box now_box amount rest to_debts → now.order ≡ n ∷ ns → get now n ≡ Some x → y ≡ after_payment x rest → rest < lack_of x → Pours start (with_value now n y) start_box now_box amount × (0 ≡ amount - lacks (queue_of start)) × (to_debts + min (debt_in x) rest ≡ paid_to_debts (queue_of start) amount)
+  pub Pours-turn : (start now : Waits (Place W)) (start_box now_box : Wakes W) (amount rest to_debts n : ℕ) (ns : List ℕ) (x y : Place W)
+      → Continues start now start_box now_box amount rest to_debts → now.order ≡ n ∷ ns → get now n ≡ Some x → y ≡ after_payment x rest
+      → rest < lack_of x → Pours start (with_value now n y) start_box now_box amount × (0 ≡ amount - lacks (queue_of start))
+      × (to_debts + min (debt_in x) rest ≡ paid_to_debts (queue_of start) amount)
   Pours-turn start now start_box now_box amount rest to_debts n ns x y so order found paid short =
       let part = Pours-part start now start_box now_box amount rest to_debts n ns x so order found short in
       let short_rest : min (lack_of x) rest ≡ rest = omega arith in

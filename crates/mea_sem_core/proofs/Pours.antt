@@ -17,8 +17,10 @@ module _ {A : Type 0} where
   lacks_after-less : (q : List (A × ℕ)) (before k n : ℕ) → k ≤ n → lacks_after (before + k) q n ≡ lacks_after before q (n - k)
   lacks_after-less [] before k n h = refl
   lacks_after-less (e ∷ q) before k n h =
-      ap (λ l. (e.0, l) ∷ lacks_after (before + k + e.1) q n) (let same : min e.1 (before + k + e.1 - n) ≡ min e.1 (before + e.1 - (n - k)) = omega arith in same)
-      ∙ ap (λ t. (e.0, min e.1 (before + e.1 - (n - k))) ∷ t) (ap (λ b. lacks_after b q n) (let same : before + k + e.1 ≡ before + e.1 + k = omega arith in same) ∙ lacks_after-less q (before + e.1) k n h)
+      ap (λ l. (e.0, l) ∷ lacks_after (before + k + e.1) q n)
+      (let same : min e.1 (before + k + e.1 - n) ≡ min e.1 (before + e.1 - (n - k)) = omega arith in same)
+      ∙ ap (λ t. (e.0, min e.1 (before + e.1 - (n - k))) ∷ t)
+      (ap (λ b. lacks_after b q n) (let same : before + k + e.1 ≡ before + e.1 + k = omega arith in same) ∙ lacks_after-less q (before + e.1) k n h)
 
   -- those after the last that was paid lack what they did
   lacks_after-none : (q : List (A × ℕ)) (before n : ℕ) → n ≤ before → lacks_after before q n ≡ q
@@ -54,10 +56,12 @@ module _ {A : Type 0} where
 
   -- one who cannot be paid whole keeps the rest as part payment
   pub waiting_part : (e : A × ℕ) (q : List (A × ℕ)) (n : ℕ) → n < e.1 → AllLack q → waiting_after (e ∷ q) n ≡ (e.0, e.1 - n) ∷ q
-  waiting_part e q n h lacking = ap (filter {X = A × ℕ} (λ x. nat_lt 0 x.1)) (lacks_after-part e q n (omega arith)) ∙ keeps_all ((e.0, e.1 - n) ∷ q) (omega arith, lacking)
+  waiting_part e q n h lacking = ap (filter {X = A × ℕ} (λ x. nat_lt 0 x.1)) (lacks_after-part e q n (omega arith))
+      ∙ keeps_all ((e.0, e.1 - n) ∷ q) (omega arith, lacking)
 
   pub granted_part : (e : A × ℕ) (q : List (A × ℕ)) (n : ℕ) → n < e.1 → AllLack q → granted_in (e ∷ q) n ≡ []
-  granted_part e q n h lacking = ap (λ t. map {A = A × ℕ} (λ x. x.0) (filter {X = A × ℕ} (λ x. x.1 == 0) t)) (lacks_after-part e q n (omega arith)) ∙ ap (map {A = A × ℕ} (λ x. x.0)) (drops_all ((e.0, e.1 - n) ∷ q) (omega arith, lacking))
+  granted_part e q n h lacking = ap (λ t. map {A = A × ℕ} (λ x. x.0) (filter {X = A × ℕ} (λ x. x.1 == 0) t)) (lacks_after-part e q n (omega arith))
+      ∙ ap (map {A = A × ℕ} (λ x. x.0)) (drops_all ((e.0, e.1 - n) ∷ q) (omega arith, lacking))
 
   pub lacks-cons : (e : A × ℕ) (q : List (A × ℕ)) → lacks (e ∷ q) ≡ e.1 + lacks q
   lacks-cons e q = sum_by-cons {X = A × ℕ} (λ x. x.1) e q
@@ -69,7 +73,8 @@ module _ {A : Type 0} where
 
   pub granted_enough : (q : List (A × ℕ)) (n : ℕ) → lacks q ≤ n → granted_in q n ≡ map {A = A × ℕ} (λ e. e.0) q
   granted_enough [] n h = refl
-  granted_enough (e ∷ q) n h = let sum = lacks-cons e q in granted_whole e q n (omega (arith, sum, h)) ∙ ap (λ t. e.0 ∷ t) (granted_enough q (n - e.1) (omega (arith, sum, h)))
+  granted_enough (e ∷ q) n h = let sum = lacks-cons e q in granted_whole e q n (omega (arith, sum, h))
+      ∙ ap (λ t. e.0 ∷ t) (granted_enough q (n - e.1) (omega (arith, sum, h)))
 
 module _ {W : Type 0} where
   pub debts-cons : (e : Waiter W × ℕ) (q : List (Waiter W × ℕ)) → debts (e ∷ q) ≡ debt_of e.0 e.1 + debts q

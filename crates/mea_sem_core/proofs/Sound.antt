@@ -41,7 +41,8 @@ module _ {W : Type 0} where
       by_slot (Some (Debt lack)) is = get-granted w.slots n ∙ ap grant_of is
       by_slot (Some (Granted demand)) is = absurd (waits (granted_apart w demand n kept is))
 
-  pub sound : (w : Waits (Place W)) (free live paid : ℕ) (wakes : List W) → IsQueue w → paid ≡ paid_in w → free + paid ≤ live → (0 < free → w.order ≡ []) → live < 2 ^ 64 → IsSound (record { free = free; live = live; queue = queue_of w; granted = granted_of w; wakes = wakes })
+  pub sound : (w : Waits (Place W)) (free live paid : ℕ) (wakes : List W) → IsQueue w → paid ≡ paid_in w → free + paid ≤ live
+      → (0 < free → w.order ≡ []) → live < 2 ^ 64 → IsSound (record { free = free; live = live; queue = queue_of w; granted = granted_of w; wakes = wakes })
   sound w free live paid wakes kept paid_is total idle fits =
       let seen = paid-view w kept in
       record {

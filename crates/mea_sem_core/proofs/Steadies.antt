@@ -29,10 +29,13 @@ module _ {W : Type 0} where
   pub steady_given : (s t : Core W) (n : ℕ) → n ≤ held_of s → t ≡ given_back s n → Steady s t
   steady_given s t n held is = rw is (steady_pour s (record s { live = s.live - n }) n (omega arith) (λ h. h))
 
-  pub steady_cancels : (s t : Core W) (demand number paid : ℕ) → (IsGrantedAs s demand number → paid ≡ demand) → ((lack : ℕ) → waiting s.queue number ≡ Some (demand, lack) → paid ≡ demand - lack) → paid ≤ s.live → IsGrantedAs s demand number ⊎ IsWaitingAs s demand number → Cancels s (Queued demand number) t → Steady s t
+  pub steady_cancels : (s t : Core W) (demand number paid : ℕ) → (IsGrantedAs s demand number → paid ≡ demand)
+      → ((lack : ℕ) → waiting s.queue number ≡ Some (demand, lack) → paid ≡ demand - lack) → paid ≤ s.live
+      → IsGrantedAs s demand number ⊎ IsWaitingAs s demand number → Cancels s (Queued demand number) t → Steady s t
   steady_cancels s t demand number paid granted waits fits (inl is) cancels =
       let part = granted is in
       rw (cancels.0 is) (steady_pour s (record s { live = s.live - demand; granted = map.remove s.granted number }) demand (omega (arith, part, fits)) (λ h. h))
   steady_cancels s t demand number paid granted waits fits (inr is) cancels =
       let part = waits is.0 is.1 in
-      rw (cancels.1 is.0 is.1) (steady_pour s (record s { live = s.live - (demand - is.0); queue = without_acquire s.queue number }) (demand - is.0) (omega (arith, part, fits)) (λ h. no_debt_without s.queue number h))
+      rw (cancels.1 is.0 is.1) (steady_pour s (record s { live = s.live - (demand - is.0); queue = without_acquire s.queue number }) (demand - is.0)
+      (omega (arith, part, fits)) (λ h. no_debt_without s.queue number h))

@@ -21,7 +21,8 @@ pub record Kept (r : Run) : Type 0 where
   pub matched : IsMatched r.hall
   pub orderly : IsOrderly r.hall
   pub below : IsBelow r.hall r.next
-  pub sums : (s : ℕ) → made r.trace s + released r.trace s + lacks (queue_at r.hall s) ≡ free r.hall s + held r.hall s + committed r.hall.futures s + forgotten r.trace s
+  pub sums : (s : ℕ) → made r.trace s + released r.trace s + lacks
+      (queue_at r.hall s) ≡ free r.hall s + held r.hall s + committed r.hall.futures s + forgotten r.trace s
 
 keeps : (r : Run) (i : ℕ) (e : SemEvent) → Kept r → r.next ≤ i → cause_of r.hall e ≡ None → Kept (goes_on semaphores r i e)
 keeps r i e k later cause =

@@ -37,14 +37,21 @@ held_in m s = total (held_by s) m
 
 -- a came to s and b left it
 abbrev pub Moves : Hall → Hall → ℕ → ℕ → ℕ → Type 0
-Moves h g s a b = a + lacks (queue_at g s) + (free h s + held_in h.permits s + committed h.futures s) ≡ lacks (queue_at h s) + (free g s + held_in g.permits s + committed g.futures s) + b
+Moves h g s a b = a + lacks (queue_at g s) + (free h s + held_in h.permits s + committed h.futures s) ≡ lacks
+    (queue_at h s) + (free g s + held_in g.permits s + committed g.futures s) + b
 
-pub moves_semaphore : (h : Hall) (q a b : ℕ) (r : Semaphore) → a + lacks r.queue + free h q ≡ lacks (queue_at h q) + r.free + b → (s : ℕ) → Moves h (with_semaphore h q r) s (cond (q == s) a 0) (cond (q == s) b 0)
-moves_semaphore h q a b r change s = subst (λ (y : Semaphore). cond (q == s) a 0 + lacks y.queue + (free h s + held_in h.permits s + committed h.futures s) ≡ lacks (queue_at h s) + (y.free + held_in h.permits s + committed h.futures s) + cond (q == s) b 0) (sym (semaphore_put h q s r)) (at_test (q == s) refl)
+pub moves_semaphore : (h : Hall) (q a b : ℕ) (r : Semaphore) → a + lacks r.queue + free h q ≡ lacks (queue_at h q) + r.free + b → (s : ℕ)
+    → Moves h (with_semaphore h q r) s (cond (q == s) a 0) (cond (q == s) b 0)
+moves_semaphore h q a b r change s = subst
+    (λ (y : Semaphore). cond (q == s) a 0 + lacks y.queue + (free h s + held_in h.permits s + committed h.futures s) ≡ lacks
+    (queue_at h s) + (y.free + held_in h.permits s + committed h.futures s) + cond (q == s) b 0) (sym (semaphore_put h q s r)) (at_test (q == s) refl)
   where
-    at_test : (t : Bool) → (q == s) ≡ t → cond t a 0 + lacks (cond t r (semaphore_at h s)).queue + (free h s + held_in h.permits s + committed h.futures s) ≡ lacks (queue_at h s) + ((cond t r (semaphore_at h s)).free + held_in h.permits s + committed h.futures s) + cond t b 0
+    at_test : (t : Bool) → (q == s) ≡ t → cond t a 0 + lacks
+        (cond t r (semaphore_at h s)).queue + (free h s + held_in h.permits s + committed h.futures s) ≡ lacks
+        (queue_at h s) + ((cond t r (semaphore_at h s)).free + held_in h.permits s + committed h.futures s) + cond t b 0
     at_test true e =
-        let change_here : a + lacks r.queue + free h s ≡ lacks (queue_at h s) + r.free + b = subst (λ k. a + lacks r.queue + free h k ≡ lacks (queue_at h k) + r.free + b) (eqb-true q s e) change in
+        let change_here : a + lacks r.queue + free h s ≡ lacks (queue_at h s) + r.free + b =
+        subst (λ k. a + lacks r.queue + free h k ≡ lacks (queue_at h k) + r.free + b) (eqb-true q s e) change in
         omega (arith, change_here)
     at_test false e = omega arith
 
@@ -62,10 +69,12 @@ moves_no_future h k s = omega (arith, total-remove (taken_by s) h.futures k)
 
 module _ (h : Hall) (q n : ℕ) (v : IsMatched h) where
   -- those who are granted have taken their demand before
-  taken_kept : (s f : ℕ) (b : Bool) → among (granted_in (queue_at h q) n) f ≡ b → (o : Option Future) → get h.futures f ≡ o → weight (taken_by s) f (cond b (option_map granted o) o) ≡ weight (taken_by s) f o
+  taken_kept : (s f : ℕ) (b : Bool) → among (granted_in (queue_at h q) n) f ≡ b → (o : Option Future) → get h.futures f ≡ o
+      → weight (taken_by s) f (cond b (option_map granted o) o) ≡ weight (taken_by s) f o
   taken_kept s f false a o is = refl
   taken_kept s f true a None is = refl
-  taken_kept s f true a (Some x) is = ap (λ k. cond (x.semaphore == s) k 0) (by_stage x.stage (is_waiting q x (subst (λ o. 0 < waits_at q o) is (granted_waited h q n v f a))).1)
+  taken_kept s f true a (Some x) is = ap (λ k. cond (x.semaphore == s) k 0)
+      (by_stage x.stage (is_waiting q x (subst (λ o. 0 < waits_at q o) is (granted_waited h q n v f a))).1)
     where
       by_stage : (t : Stage) → one_if_waiting t ≡ 1 → x.demand ≡ taken x.demand t
       by_stage New e = absurd (omega arith)
@@ -75,9 +84,12 @@ module _ (h : Hall) (q n : ℕ) (v : IsMatched h) where
   pub pour_moves : (s : ℕ) → Moves h (pour h q n) s (cond (q == s) n 0) 0
   pour_moves s =
       let kept : committed (pour h q n).futures s ≡ committed h.futures s = total-alike (taken_by s) (taken_by s) _ h.futures
-      (λ f. ap (weight (taken_by s) f) (get-grant_all (granted_in (queue_at h q) n) h.futures f) ∙ taken_kept s f (among (granted_in (queue_at h q) n) f) refl (get h.futures f) refl) in
-      let change : n + lacks (waiting_after (queue_at h q) n) + free h q ≡ lacks (queue_at h q) + (free h q + (n - lacks (queue_at h q))) + 0 = omega (arith, lacks-waiting_after (queue_at h q) n) in
-      let moved : Moves h (with_semaphore h q (poured (semaphore_at h q) n)) s (cond (q == s) n 0) (cond (q == s) 0 0) = moves_semaphore h q n 0 (poured (semaphore_at h q) n) change s in
+      (λ f. ap (weight (taken_by s) f) (get-grant_all (granted_in (queue_at h q) n) h.futures f)
+      ∙ taken_kept s f (among (granted_in (queue_at h q) n) f) refl (get h.futures f) refl) in
+      let change : n + lacks (waiting_after (queue_at h q) n) + free h q ≡ lacks (queue_at h q) + (free h q + (n - lacks (queue_at h q))) + 0 =
+      omega (arith, lacks-waiting_after (queue_at h q) n) in
+      let moved : Moves h (with_semaphore h q (poured (semaphore_at h q) n)) s (cond (q == s) n 0) (cond (q == s) 0 0) =
+      moves_semaphore h q n 0 (poured (semaphore_at h q) n) change s in
       omega (arith, kept, moved, both_zero (q == s))
     where
       both_zero : (b : Bool) → ◌≡◌ {A = ℕ} (cond b 0 0) 0
@@ -163,8 +175,10 @@ module _ (h : Hall) (n : ℕ) (m : IsMatched h) (v : IsOrderly h) (low : IsBelow
   pub nothing : Changed h h n (λ s. 0) (λ s. 0)
   nothing = record { moves = λ s. omega arith; matched = m; orderly = v; below = low }
 
-  pub to_semaphore : (q a b : ℕ) (r : Semaphore) → q < n → (get h.futures q ≡ None) × (get h.permits q ≡ None) → a + lacks r.queue + free h q ≡ lacks (queue_at h q) + r.free + b
-      → ((f : ℕ) → count r.queue f ≡ count (queue_at h q) f) → ((f : ℕ) → lack_of r.queue f ≤ lack_of (queue_at h q) f) → AllLack r.queue → HasDebtsFirst r.queue → (0 < r.free → r.queue ≡ []) → (0 < plain_things h q → r.named ≡ true)
+  pub to_semaphore : (q a b : ℕ) (r : Semaphore) → q < n → (get h.futures q ≡ None) × (get h.permits q ≡ None)
+      → a + lacks r.queue + free h q ≡ lacks (queue_at h q) + r.free + b
+      → ((f : ℕ) → count r.queue f ≡ count (queue_at h q) f) → ((f : ℕ) → lack_of r.queue f ≤ lack_of (queue_at h q) f) → AllLack r.queue
+      → HasDebtsFirst r.queue → (0 < r.free → r.queue ≡ []) → (0 < plain_things h q → r.named ≡ true)
       → Changed h (with_semaphore h q r) n (λ s. cond (q == s) a 0) (λ s. cond (q == s) b 0)
   to_semaphore q a b r small apart change counts lack lacking first idle plain = record {
     moves = moves_semaphore h q a b r change;
@@ -175,13 +189,16 @@ module _ (h : Hall) (n : ℕ) (m : IsMatched h) (v : IsOrderly h) (low : IsBelow
 
   -- the free permits and the tallies alone
   pub to_numbers : (q a b k made released forgotten : ℕ) → IsSome (get h.semaphores q) → k ≤ free h q → a + free h q ≡ k + b
-      → Changed h (with_semaphore h q (record { free = k; queue = queue_at h q; made = made; released = released; forgotten = forgotten; named = (semaphore_at h q).named })) n (λ s. cond (q == s) a 0) (λ s. cond (q == s) b 0)
+      → Changed h (with_semaphore h q
+      (record { free = k; queue = queue_at h q; made = made; released = released; forgotten = forgotten; named = (semaphore_at h q).named })) n
+      (λ s. cond (q == s) a 0) (λ s. cond (q == s) b 0)
   to_numbers q a b k made released forgotten there less change =
       to_semaphore q a b (record { free = k; queue = queue_at h q; made = made; released = released; forgotten = forgotten; named = (semaphore_at h q).named })
       (low.semaphores q there) (v.semaphores_apart q there) (omega (arith, change)) (λ f. refl) (λ f. omega arith) (v.lacking q) (v.debts_first q)
       (λ some. let more : 0 < free h q = omega arith in v.idle q more) (λ some. semaphore_named h q (v.named q some))
 
-  pub to_permit : (k : ℕ) (p : Permit) → k < n → (get h.semaphores k ≡ None) × (get h.futures k ≡ None) → IsSome (get h.semaphores p.semaphore) → (p.plain ≡ true → is_named h p.semaphore ≡ true)
+  pub to_permit : (k : ℕ) (p : Permit) → k < n → (get h.semaphores k ≡ None) × (get h.futures k ≡ None) → IsSome (get h.semaphores p.semaphore)
+      → (p.plain ≡ true → is_named h p.semaphore ≡ true)
       → Changed h (with_permit h k p) n (λ s. held_by s k p) (λ s. weight (held_by s) k (get h.permits k))
   to_permit k p small apart of plain = record {
     moves = λ s. moves_permit h k s p;
@@ -198,7 +215,8 @@ module _ (h : Hall) (n : ℕ) (m : IsMatched h) (v : IsOrderly h) (low : IsBelow
     below = below_no_permit h k n low;
   }
 
-  pub to_no_future : (k : ℕ) → ((s : ℕ) → waits_at s (get h.futures k) ≡ 0) → Changed h (without_future h k) n (λ s. 0) (λ s. weight (taken_by s) k (get h.futures k))
+  pub to_no_future : (k : ℕ) → ((s : ℕ) → waits_at s (get h.futures k) ≡ 0)
+      → Changed h (without_future h k) n (λ s. 0) (λ s. weight (taken_by s) k (get h.futures k))
   to_no_future k none = record {
     moves = λ s. moves_no_future h k s;
     matched = matched_no_future h k none m;
@@ -207,4 +225,9 @@ module _ (h : Hall) (n : ℕ) (m : IsMatched h) (v : IsOrderly h) (low : IsBelow
   }
 
   pub to_pour : (q k : ℕ) → IsSome (get h.semaphores q) → Changed h (pour h q k) n (λ s. cond (q == s) k 0) (λ s. 0)
-  to_pour q k there = record { moves = pour_moves h q k m; matched = pour_matched h q k m; orderly = orderly_pour h q k there v; below = below_pour h q k n there v low }
+  to_pour q k there = record {
+    moves = pour_moves h q k m;
+    matched = pour_matched h q k m;
+    orderly = orderly_pour h q k there v;
+    below = below_pour h q k n there v low;
+  }

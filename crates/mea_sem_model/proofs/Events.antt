@@ -67,12 +67,14 @@ named_there h q = by_option (get h.semaphores q)
 pub one_semaphore : (x y : Permit) → are_of_one_kind (Some x) (Some y) ≡ true → x.semaphore ≡ y.semaphore
 one_semaphore x y e = eqb-true x.semaphore y.semaphore (and_parts (x.semaphore == y.semaphore) (if x.plain then y.plain else not y.plain) e).0
 
-pub mergeable : (h : Hall) (p q : ℕ) → can_merge h p q ≡ true → (x : Permit) × (y : Permit) × (get h.permits p ≡ Some x) × (get h.permits q ≡ Some y) × (p ≡ q → ⊥) × (x.semaphore ≡ y.semaphore)
+pub mergeable : (h : Hall) (p q : ℕ) → can_merge h p q ≡ true
+    → (x : Permit) × (y : Permit) × (get h.permits p ≡ Some x) × (get h.permits q ≡ Some y) × (p ≡ q → ⊥) × (x.semaphore ≡ y.semaphore)
 mergeable h p q e =
     let both = and_parts (not (p == q)) (are_of_one_kind (get h.permits p) (get h.permits q)) e in
     by_options (get h.permits p) (get h.permits q) refl refl (λ same. absurd (let a = not-true (p == q) both.0 in let b = eq-eqb p q same in cc)) both.1
   where
-    by_options : (o r : Option Permit) → get h.permits p ≡ o → get h.permits q ≡ r → (p ≡ q → ⊥) → are_of_one_kind o r ≡ true → (x : Permit) × (y : Permit) × (get h.permits p ≡ Some x) × (get h.permits q ≡ Some y) × (p ≡ q → ⊥) × (x.semaphore ≡ y.semaphore)
+    by_options : (o r : Option Permit) → get h.permits p ≡ o → get h.permits q ≡ r → (p ≡ q → ⊥) → are_of_one_kind o r ≡ true
+        → (x : Permit) × (y : Permit) × (get h.permits p ≡ Some x) × (get h.permits q ≡ Some y) × (p ≡ q → ⊥) × (x.semaphore ≡ y.semaphore)
     by_options None r is at apart kind = absurd (cc)
     by_options (Some x) None is at apart kind = absurd (cc)
     by_options (Some x) (Some y) is at apart kind = (x, y, is, at, apart, one_semaphore x y kind)
@@ -114,15 +116,18 @@ module _ (h : Hall) (i : ℕ) (m : IsMatched h) (v : IsOrderly h) (low : IsBelow
       to_semaphore h (i + 1) m v wider i n 0 (made_with n) (omega arith) (no_future_yet h i low, no_permit_yet h i low) (omega (arith, lacked, frees))
       (λ f. sym (ap (λ q. count q f) empties)) (λ f. omega arith) tt tt (λ some. refl) (λ some. refl)
 
-  at_forget : (q n : ℕ) → IsSome (get h.semaphores q) → Changed h (with_semaphore h q (forgetting (semaphore_at h q) n)) (i + 1) (λ s. cond (q == s) 0 0) (λ s. cond (q == s) (min n (free h q)) 0)
+  at_forget : (q n : ℕ) → IsSome (get h.semaphores q) → Changed h (with_semaphore h q (forgetting (semaphore_at h q) n)) (i + 1)
+      (λ s. cond (q == s) 0 0) (λ s. cond (q == s) (min n (free h q)) 0)
   at_forget q n there = to_numbers h (i + 1) m v wider q 0 (min n (free h q)) (free h q - min n (free h q)) _ _ _ there (omega arith) (omega arith)
 
-  at_forgetx : (q n : ℕ) → IsSome (get h.semaphores q) → Changed h (with_semaphore h q (forgetting_exactly (semaphore_at h q) n)) (i + 1) (λ s. cond (q == s) 0 0) (λ s. cond (q == s) n 0)
+  at_forgetx : (q n : ℕ) → IsSome (get h.semaphores q) → Changed h (with_semaphore h q (forgetting_exactly (semaphore_at h q) n)) (i + 1)
+      (λ s. cond (q == s) 0 0) (λ s. cond (q == s) n 0)
   at_forgetx q n there =
       let owing : ℕ = n - min n (free h q) in
       to_semaphore h (i + 1) m v wider q 0 n (forgetting_exactly (semaphore_at h q) n) (wider.semaphores q there) (v.semaphores_apart q there)
       (omega (arith, lacks-debt (queue_at h q) (n - min n (free h q)))) (count-debt (queue_at h q) owing) (lack-debt (queue_at h q) owing)
-      (lacking-debt (queue_at h q) owing (v.lacking q)) (first-debt (queue_at h q) owing (v.debts_first q)) debt_idle (λ some. semaphore_named h q (v.named q some))
+      (lacking-debt (queue_at h q) owing (v.lacking q)) (first-debt (queue_at h q) owing (v.debts_first q)) debt_idle
+      (λ some. semaphore_named h q (v.named q some))
     where
       debt_idle : 0 < free h q - min n (free h q) → with_debt (queue_at h q) (n - min n (free h q)) ≡ []
       debt_idle some =
@@ -132,14 +137,19 @@ module _ (h : Hall) (i : ℕ) (m : IsMatched h) (v : IsOrderly h) (low : IsBelow
 
   at_release : (q n : ℕ) → IsSome (get h.semaphores q) → Changed h (pour (released_to h q n) q n) (i + 1) (λ s. cond (q == s) n 0) (λ s. 0)
   at_release q n there =
-      let first = to_numbers h (i + 1) m v wider q 0 0 (free h q) (semaphore_at h q).made ((semaphore_at h q).released + n) (semaphore_at h q).forgotten there (omega arith) (omega arith) in
+      let first = to_numbers h (i + 1) m v wider q 0 0 (free h q) (semaphore_at h q).made ((semaphore_at h q).released + n)
+      (semaphore_at h q).forgotten there (omega arith) (omega arith) in
       retold h _ (i + 1) _ _ (λ s. cond (q == s) n 0) (λ s. 0) (λ s. omega (arith, never (q == s)))
-      (after h (released_to h q n) _ (i + 1) _ _ _ _ first (to_pour (released_to h q n) (i + 1) first.matched first.orderly first.below q n (still_there h q q _ there)))
+      (after h (released_to h q n) _ (i + 1) _ _ _ _ first
+      (to_pour (released_to h q n) (i + 1) first.matched first.orderly first.below q n (still_there h q q _ there)))
 
-  took : (q n : ℕ) → IsSome (get h.semaphores q) → n ≤ free h q → Changed h (with_semaphore h q (taking (semaphore_at h q) n)) i (λ s. cond (q == s) 0 0) (λ s. cond (q == s) n 0)
+  took : (q n : ℕ) → IsSome (get h.semaphores q) → n ≤ free h q
+      → Changed h (with_semaphore h q (taking (semaphore_at h q) n)) i (λ s. cond (q == s) 0 0) (λ s. cond (q == s) n 0)
   took q n there some = to_numbers h i m v low q 0 n (free h q - n) _ _ _ there (omega arith) (omega arith)
 
-  at_try : (q n : ℕ) (plain : Bool) → is_named h q ≡ true → n ≤ free h q → Changed h (with_permit (with_semaphore h q (taking (semaphore_at h q) n)) i (record { semaphore = q; size = n; plain = plain })) (i + 1) (λ s. 0) (λ s. 0)
+  at_try : (q n : ℕ) (plain : Bool) → is_named h q ≡ true → n ≤ free h q
+      → Changed h (with_permit (with_semaphore h q (taking (semaphore_at h q) n)) i (record { semaphore = q; size = n; plain = plain })) (i + 1)
+      (λ s. 0) (λ s. 0)
   at_try q n plain named some =
       let there = named_there h q named in
       let g : Hall = with_semaphore h q (taking (semaphore_at h q) n) in
@@ -147,20 +157,24 @@ module _ (h : Hall) (i : ℕ) (m : IsMatched h) (v : IsOrderly h) (low : IsBelow
       let second = more h g i _ _ first in
       retold h _ (i + 1) _ _ (λ s. 0) (λ s. 0) (λ s. omega (arith, never (q == s), ap (weight (held_by s) i) (no_permit_yet h i low)))
       (after h g _ (i + 1) _ _ _ _ second
-      (to_permit g (i + 1) first.matched first.orderly second.below i (record { semaphore = q; size = n; plain = plain }) (omega arith) (no_semaphore_yet g i first.below, no_future_yet g i first.below)
+      (to_permit g (i + 1) first.matched first.orderly second.below i (record { semaphore = q; size = n; plain = plain }) (omega arith)
+      (no_semaphore_yet g i first.below, no_future_yet g i first.below)
       (still_there h q q _ there) (λ e. named_put h q (taking (semaphore_at h q) n) (semaphore_named h q named))))
 
   at_try_and_forget : (q n : ℕ) → is_named h q ≡ true → n ≤ free h q
-      → Changed h (with_semaphore h q (record (semaphore_at h q) { free = free h q - n; forgotten = (semaphore_at h q).forgotten + n })) (i + 1) (λ s. 0) (λ s. cond (q == s) n 0)
+      → Changed h (with_semaphore h q (record (semaphore_at h q) { free = free h q - n; forgotten = (semaphore_at h q).forgotten + n })) (i + 1)
+      (λ s. 0) (λ s. cond (q == s) n 0)
   at_try_and_forget q n named some = retold h _ (i + 1) _ _ (λ s. 0) (λ s. cond (q == s) n 0) (λ s. omega (arith, never (q == s)))
       (to_numbers h (i + 1) m v wider q 0 n (free h q - n) _ _ _ (named_there h q named) (omega arith) (omega arith))
 
-  at_endsem : (q : ℕ) → IsSome (get h.semaphores q) → plain_things h q ≡ 0 → Changed h (with_semaphore h q (record (semaphore_at h q) { named = false })) (i + 1) (λ s. 0) (λ s. 0)
+  at_endsem : (q : ℕ) → IsSome (get h.semaphores q) → plain_things h q ≡ 0
+      → Changed h (with_semaphore h q (record (semaphore_at h q) { named = false })) (i + 1) (λ s. 0) (λ s. 0)
   at_endsem q there none = retold h _ (i + 1) _ _ (λ s. 0) (λ s. 0) (λ s. omega (arith, never (q == s)))
       (to_semaphore h (i + 1) m v wider q 0 0 (record (semaphore_at h q) { named = false }) (wider.semaphores q there) (v.semaphores_apart q there)
       (omega arith) (λ f. refl) (λ f. omega arith) (v.lacking q) (v.debts_first q) (v.idle q) (λ some. absurd (omega arith)))
 
-  at_acq : (q n : ℕ) (plain forgets : Bool) → is_named h q ≡ true → Changed h (with_future h i (record { semaphore = q; demand = n; plain = plain; forgets = forgets; stage = New })) (i + 1) (λ s. 0) (λ s. 0)
+  at_acq : (q n : ℕ) (plain forgets : Bool) → is_named h q ≡ true
+      → Changed h (with_future h i (record { semaphore = q; demand = n; plain = plain; forgets = forgets; stage = New })) (i + 1) (λ s. 0) (λ s. 0)
   at_acq q n plain forgets named =
       let x : Future = record { semaphore = q; demand = n; plain = plain; forgets = forgets; stage = New } in
       let none : get h.futures i ≡ None = no_future_yet h i low in
@@ -173,21 +187,26 @@ module _ (h : Hall) (i : ℕ) (m : IsMatched h) (v : IsOrderly h) (low : IsBelow
 
   -- ---- permits
   lost : (k : ℕ) (p : Permit) → get h.permits k ≡ Some p → Changed h (without_permit h k) (i + 1) (λ s. 0) (λ s. cond (p.semaphore == s) p.size 0)
-  lost k p is = retold h _ (i + 1) _ _ (λ s. 0) (λ s. cond (p.semaphore == s) p.size 0) (λ s. omega (arith, ap (weight (held_by s) k) is)) (to_no_permit h (i + 1) m v wider k)
+  lost k p is = retold h _ (i + 1) _ _ (λ s. 0) (λ s. cond (p.semaphore == s) p.size 0) (λ s. omega (arith, ap (weight (held_by s) k) is))
+      (to_no_permit h (i + 1) m v wider k)
 
   at_end_permit : (k : ℕ) (p : Permit) → get h.permits k ≡ Some p → Changed h (pour (without_permit h k) p.semaphore p.size) (i + 1) (λ s. 0) (λ s. 0)
   at_end_permit k p is =
       let first = lost k p is in
       retold h _ (i + 1) _ _ (λ s. 0) (λ s. 0) (λ s. omega arith)
-      (after h (without_permit h k) _ (i + 1) _ _ _ _ first (to_pour (without_permit h k) (i + 1) first.matched first.orderly first.below p.semaphore p.size (v.permits_of k p is)))
+      (after h (without_permit h k) _ (i + 1) _ _ _ _ first
+      (to_pour (without_permit h k) (i + 1) first.matched first.orderly first.below p.semaphore p.size (v.permits_of k p is)))
 
   at_lose : (k : ℕ) (p : Permit) → get h.permits k ≡ Some p
-      → Changed h (with_semaphore (without_permit h k) p.semaphore (record (semaphore_at h p.semaphore) { forgotten = (semaphore_at h p.semaphore).forgotten + p.size })) (i + 1) (λ s. 0) (λ s. cond (p.semaphore == s) p.size 0)
+      → Changed h (with_semaphore (without_permit h k) p.semaphore
+      (record (semaphore_at h p.semaphore) { forgotten = (semaphore_at h p.semaphore).forgotten + p.size })) (i + 1) (λ s. 0)
+      (λ s. cond (p.semaphore == s) p.size 0)
   at_lose k p is =
       let first = lost k p is in
       retold h _ (i + 1) _ _ (λ s. 0) (λ s. cond (p.semaphore == s) p.size 0) (λ s. omega (arith, never (p.semaphore == s)))
       (after h (without_permit h k) _ (i + 1) _ _ _ _ first
-      (to_numbers (without_permit h k) (i + 1) first.matched first.orderly first.below p.semaphore 0 0 (free h p.semaphore) _ _ _ (v.permits_of k p is) (omega arith) (omega arith)))
+      (to_numbers (without_permit h k) (i + 1) first.matched first.orderly first.below p.semaphore 0 0 (free h p.semaphore) _ _ _
+      (v.permits_of k p is) (omega arith) (omega arith)))
 
   at_merge : (p q : ℕ) (x y : Permit) → get h.permits p ≡ Some x → get h.permits q ≡ Some y → (q ≡ p → ⊥) → x.semaphore ≡ y.semaphore
       → Changed h (with_permit (without_permit h q) p (record x { size = x.size + y.size })) (i + 1) (λ s. 0) (λ s. 0)
@@ -197,8 +216,10 @@ module _ (h : Hall) (i : ℕ) (m : IsMatched h) (v : IsOrderly h) (low : IsBelow
       retold h _ (i + 1) _ _ (λ s. 0) (λ s. 0)
       (λ s. omega (arith, only (x.semaphore == s) x.size y.size, ap (λ k. cond (k == s) y.size 0) same, ap (weight (held_by s) p) still))
       (after h (without_permit h q) _ (i + 1) _ _ _ _ first
-      (to_permit (without_permit h q) (i + 1) first.matched first.orderly first.below p (record x { size = x.size + y.size }) (wider.permits p (is_there (get h.permits p) x is))
-      (permit_alone (without_permit h q) p (is_there (get (without_permit h q).permits p) x still) first.orderly) (v.permits_of p x is) (plain_permit_named (without_permit h q) p x still first.orderly)))
+      (to_permit (without_permit h q) (i + 1) first.matched first.orderly first.below p (record x { size = x.size + y.size })
+      (wider.permits p (is_there (get h.permits p) x is))
+      (permit_alone (without_permit h q) p (is_there (get (without_permit h q).permits p) x still) first.orderly) (v.permits_of p x is)
+      (plain_permit_named (without_permit h q) p x still first.orderly)))
 
   at_split : (p n : ℕ) (x : Permit) → get h.permits p ≡ Some x → n ≤ x.size
       → Changed h (with_permit (with_permit h p (record x { size = x.size - n })) i (record x { size = n })) (i + 1) (λ s. 0) (λ s. 0)
@@ -206,7 +227,8 @@ module _ (h : Hall) (i : ℕ) (m : IsMatched h) (v : IsOrderly h) (low : IsBelow
       let whole : (x.size - n) + n ≡ x.size = omega arith in
       let left : Permit = record x { size = x.size - n } in
       let g : Hall = with_permit h p left in
-      let first = to_permit h i m v low p left (low.permits p (is_there (get h.permits p) x is)) (permit_alone h p (is_there (get h.permits p) x is) v) (v.permits_of p x is) (plain_permit_named h p x is v) in
+      let first = to_permit h i m v low p left (low.permits p (is_there (get h.permits p) x is))
+      (permit_alone h p (is_there (get h.permits p) x is) v) (v.permits_of p x is) (plain_permit_named h p x is v) in
       let second = more h g i _ _ first in
       retold h _ (i + 1) _ _ (λ s. 0) (λ s. 0)
       (λ s. omega (
@@ -217,7 +239,8 @@ module _ (h : Hall) (i : ℕ) (m : IsMatched h) (v : IsOrderly h) (low : IsBelow
         ap (weight (held_by s) i) (no_permit_yet g i first.below),
       ))
       (after h g _ (i + 1) _ _ _ _ second
-      (to_permit g (i + 1) first.matched first.orderly second.below i (record x { size = n }) (omega arith) (no_semaphore_yet g i first.below, no_future_yet g i first.below) (v.permits_of p x is)
+      (to_permit g (i + 1) first.matched first.orderly second.below i (record x { size = n }) (omega arith)
+      (no_semaphore_yet g i first.below, no_future_yet g i first.below) (v.permits_of p x is)
       (λ e. plain_permit_named h p x is v e)))
 
 -- ---- futures
@@ -238,13 +261,20 @@ at_ready g i f x is idle m v low = at_form x.forgets
     forgot : Semaphore
     forgot = record (semaphore_at g x.semaphore) { forgotten = (semaphore_at g x.semaphore).forgotten + x.demand }
 
-    at_form : (t : Bool) → Changed g (if t then with_semaphore (without_future g f) x.semaphore (record (semaphore_at g x.semaphore) { forgotten = (semaphore_at g x.semaphore).forgotten + x.demand }) else with_permit (without_future g f) i (record { semaphore = x.semaphore; size = x.demand; plain = x.plain })) (i + 1) (λ s. cond t 0 (cond (x.semaphore == s) x.demand 0)) (λ s. taken_by s f x)
+    at_form : (t : Bool) → Changed g
+        (if t then with_semaphore (without_future g f) x.semaphore
+        (record (semaphore_at g x.semaphore) { forgotten = (semaphore_at g x.semaphore).forgotten + x.demand })
+        else with_permit (without_future g f) i (record { semaphore = x.semaphore; size = x.demand; plain = x.plain })) (i + 1)
+        (λ s. cond t 0 (cond (x.semaphore == s) x.demand 0)) (λ s. taken_by s f x)
     at_form true = retold g _ (i + 1) _ _ (λ s. 0) (λ s. taken_by s f x) (λ s. omega (arith, never (x.semaphore == s), ap (weight (taken_by s) f) is))
         (after g (without_future g f) _ (i + 1) _ _ _ _ wider
-        (to_numbers (without_future g f) (i + 1) wider.matched wider.orderly wider.below x.semaphore 0 0 (free g x.semaphore) _ _ _ (v.futures_of f x is) (omega arith) (omega arith)))
-    at_form false = retold g _ (i + 1) _ _ (λ s. cond (x.semaphore == s) x.demand 0) (λ s. taken_by s f x) (λ s. omega (arith, ap (weight (taken_by s) f) is, ap (weight (held_by s) i) (no_permit_yet g i low)))
+        (to_numbers (without_future g f) (i + 1) wider.matched wider.orderly wider.below x.semaphore 0 0 (free g x.semaphore) _ _ _
+        (v.futures_of f x is) (omega arith) (omega arith)))
+    at_form false = retold g _ (i + 1) _ _ (λ s. cond (x.semaphore == s) x.demand 0) (λ s. taken_by s f x)
+        (λ s. omega (arith, ap (weight (taken_by s) f) is, ap (weight (held_by s) i) (no_permit_yet g i low)))
         (after g (without_future g f) _ (i + 1) _ _ _ _ wider
-        (to_permit (without_future g f) (i + 1) wider.matched wider.orderly wider.below i kept (omega arith) (no_semaphore_yet g i low, no_future_yet (without_future g f) i gone.below)
+        (to_permit (without_future g f) (i + 1) wider.matched wider.orderly wider.below i kept (omega arith)
+        (no_semaphore_yet g i low, no_future_yet (without_future g f) i gone.below)
         (v.futures_of f x is) (λ e. plain_future_named g f x is v e)))
 
 module _ (h : Hall) (i f : ℕ) (x : Future) (is : get h.futures f ≡ Some x) (m : IsMatched h) (v : IsOrderly h) (low : IsBelow h i) where
@@ -266,12 +296,19 @@ module _ (h : Hall) (i f : ℕ) (x : Future) (is : get h.futures f ≡ Some x) (
       (at_ready h i f x is (idle_granted done) m v low)
 
   at_first_ready : x.stage ≡ New → x.demand ≤ free h x.semaphore
-      → Changed h (made_ready (with_semaphore h x.semaphore (taking (semaphore_at h x.semaphore) x.demand)) i f x) (i + 1) (λ s. 0) (λ s. cond ((x.semaphore == s) && x.forgets) x.demand 0)
+      → Changed h (made_ready (with_semaphore h x.semaphore (taking (semaphore_at h x.semaphore) x.demand)) i f x) (i + 1) (λ s. 0)
+      (λ s. cond ((x.semaphore == s) && x.forgets) x.demand 0)
   at_first_ready unpolled some =
       let g : Hall = with_semaphore h x.semaphore (taking (semaphore_at h x.semaphore) x.demand) in
       let first = took h i m v low x.semaphore x.demand there some in
       retold h _ (i + 1) _ _ (λ s. 0) (λ s. cond ((x.semaphore == s) && x.forgets) x.demand 0)
-      (λ s. omega (arith, never (x.semaphore == s), kept_or_not s x.semaphore x.demand x.forgets, ap (λ t. cond (x.semaphore == s) (taken x.demand t) 0) unpolled))
+      (λ s. omega (
+        arith,
+        never (x.semaphore == s),
+        kept_or_not s x.semaphore x.demand x.forgets,
+        ap
+            (λ t. cond (x.semaphore == s) (taken x.demand t) 0) unpolled,
+      ))
       (after h g _ (i + 1) _ _ _ _ (more h g i _ _ first) (at_ready g i f x is (idle_new unpolled) first.matched first.orderly first.below))
 
   at_queueing : (w : ℕ) → x.stage ≡ New → free h x.semaphore < x.demand → Changed h (queueing h f w x) (i + 1) (λ s. 0) (λ s. 0)
@@ -280,8 +317,10 @@ module _ (h : Hall) (i f : ℕ) (x : Future) (is : get h.futures f ≡ Some x) (
       let g : Hall = with_semaphore h x.semaphore r in
       let longer = sum_by-append {X = Who × ℕ} (λ d. d.1) (queue_at h x.semaphore) ((Waiter f, x.demand - free h x.semaphore) ∷ []) in
       let some : 1 ≤ x.demand - free h x.semaphore = omega arith in
-      let put : IsOrderly g = orderly_semaphore h x.semaphore r (v.semaphores_apart x.semaphore there) (lacking-append (queue_at h x.semaphore) (Waiter f, x.demand - free h x.semaphore) (v.lacking x.semaphore) some)
-      (first-append (queue_at h x.semaphore) f (x.demand - free h x.semaphore) (v.debts_first x.semaphore)) (λ no_free. absurd (omega arith)) (λ plain. semaphore_named h x.semaphore (v.named x.semaphore plain)) v in
+      let put : IsOrderly g = orderly_semaphore h x.semaphore r (v.semaphores_apart x.semaphore there)
+      (lacking-append (queue_at h x.semaphore) (Waiter f, x.demand - free h x.semaphore) (v.lacking x.semaphore) some)
+      (first-append (queue_at h x.semaphore) f (x.demand - free h x.semaphore) (v.debts_first x.semaphore)) (λ no_free. absurd (omega arith))
+      (λ plain. semaphore_named h x.semaphore (v.named x.semaphore plain)) v in
       record {
         moves = λ s. omega (
           arith,
@@ -292,31 +331,46 @@ module _ (h : Hall) (i f : ℕ) (x : Future) (is : get h.futures f ≡ Some x) (
           ap (λ t. cond (x.semaphore == s) (taken x.demand t) 0) unpolled,
         );
         matched = queued_matched h f w x is unpolled m;
-        orderly = orderly_future g f (record x { stage = Waiting w }) (future_alone g f (is_there (get h.futures f) x is) put) (still_there h x.semaphore x.semaphore r there) (plain_future_named g f x is put) put;
-        below = below_future g f (i + 1) (record x { stage = Waiting w }) f_below (below_semaphore h x.semaphore (i + 1) r ((below_more h i low).semaphores x.semaphore there) (below_more h i low));
+        orderly = orderly_future g f (record x { stage = Waiting w }) (future_alone g f (is_there (get h.futures f) x is) put)
+            (still_there h x.semaphore x.semaphore r there) (plain_future_named g f x is put) put;
+        below = below_future g f (i + 1) (record x { stage = Waiting w }) f_below
+            (below_semaphore h x.semaphore (i + 1) r ((below_more h i low).semaphores x.semaphore there) (below_more h i low));
       }
 
   at_waiting : (w u : ℕ) → x.stage ≡ Waiting u → Changed h (with_future h f (record x { stage = Waiting w })) (i + 1) (λ s. 0) (λ s. 0)
   at_waiting w u waits = record {
-    moves = λ s. omega (arith, moves_future h f s (record x { stage = Waiting w }), ap (weight (taken_by s) f) is, ap (λ t. cond (x.semaphore == s) (taken x.demand t) 0) waits);
-    matched = matched_future h f (record x { stage = Waiting w }) (λ s. ap (waits_at s) is ∙ ap (λ t. cond (x.semaphore == s) (one_if_waiting t) 0) waits) (λ s. m.within s f x is) m;
-    orderly = orderly_future h f (record x { stage = Waiting w }) (future_alone h f (is_there (get h.futures f) x is) v) there (plain_future_named h f x is v) v;
+    moves = λ s. omega (
+      arith,
+      moves_future h f s (record x { stage = Waiting w }),
+      ap (weight (taken_by s) f) is,
+      ap
+          (λ t. cond (x.semaphore == s) (taken x.demand t) 0) waits,
+    );
+    matched = matched_future h f (record x { stage = Waiting w })
+        (λ s. ap (waits_at s) is ∙ ap (λ t. cond (x.semaphore == s) (one_if_waiting t) 0) waits) (λ s. m.within s f x is) m;
+    orderly = orderly_future h f (record x { stage = Waiting w }) (future_alone h f (is_there (get h.futures f) x is) v) there
+        (plain_future_named h f x is v) v;
     below = below_future h f (i + 1) (record x { stage = Waiting w }) f_below (below_more h i low);
   }
 
   at_first : (w : ℕ) → x.stage ≡ New → (b : Bool) → nat_le x.demand (free h x.semaphore) ≡ b
-      → Changed h (if b then quietly (made_ready (with_semaphore h x.semaphore (taking (semaphore_at h x.semaphore) x.demand)) i f x) answers.Ready else quietly (queueing h f w x) answers.Pending).hall (i + 1) (λ s. 0)
-      (λ s. if_ready (forgetting_demand s (Some x)) (if b then quietly (made_ready (with_semaphore h x.semaphore (taking (semaphore_at h x.semaphore) x.demand)) i f x) answers.Ready else quietly (queueing h f w x) answers.Pending).reply)
+      → Changed h (if b then quietly (made_ready (with_semaphore h x.semaphore (taking (semaphore_at h x.semaphore) x.demand)) i f x) answers.Ready
+      else quietly (queueing h f w x) answers.Pending).hall (i + 1) (λ s. 0)
+      (λ s. if_ready (forgetting_demand s (Some x))
+      (if b then quietly (made_ready (with_semaphore h x.semaphore (taking (semaphore_at h x.semaphore) x.demand)) i f x) answers.Ready
+      else quietly (queueing h f w x) answers.Pending).reply)
   at_first w unpolled true e = at_first_ready unpolled (leb-true x.demand (free h x.semaphore) e)
   at_first w unpolled false e = at_queueing w unpolled (leb-false x.demand (free h x.semaphore) e)
 
-  at_poll : (w : ℕ) (t : Stage) → x.stage ≡ t → Changed h (poll_at h i f w x t).hall (i + 1) (λ s. 0) (λ s. if_ready (forgetting_demand s (Some x)) (poll_at h i f w x t).reply)
+  at_poll : (w : ℕ) (t : Stage) → x.stage ≡ t → Changed h (poll_at h i f w x t).hall (i + 1) (λ s. 0)
+      (λ s. if_ready (forgetting_demand s (Some x)) (poll_at h i f w x t).reply)
   at_poll w New e = at_first w e (nat_le x.demand (free h x.semaphore)) refl
   at_poll w (Waiting u) e = at_waiting w u e
   at_poll w Granted e = at_granted e
 
   gone : ((s : ℕ) → waits_at s (get h.futures f) ≡ 0) → Changed h (without_future h f) (i + 1) (λ s. 0) (λ s. taken_by s f x)
-  gone idle = retold h _ (i + 1) _ _ (λ s. 0) (λ s. taken_by s f x) (λ s. omega (arith, ap (weight (taken_by s) f) is)) (to_no_future h (i + 1) m v (below_more h i low) f idle)
+  gone idle = retold h _ (i + 1) _ _ (λ s. 0) (λ s. taken_by s f x) (λ s. omega (arith, ap (weight (taken_by s) f) is))
+      (to_no_future h (i + 1) m v (below_more h i low) f idle)
 
   pub at_leaving : Changed h (leaving h f x) (i + 1) (λ s. cond (x.semaphore == s) (lack_of (queue_at h x.semaphore) f) 0) (λ s. taken_by s f x)
   at_leaving =
@@ -331,25 +385,36 @@ module _ (h : Hall) (i f : ℕ) (x : Future) (is : get h.futures f ≡ Some x) (
           ap (weight (taken_by s) f) is,
         );
         matched = left_matched h f x is m;
-        orderly = orderly_no_future g f (orderly_semaphore h x.semaphore r (v.semaphores_apart x.semaphore there) (lacking-without (queue_at h x.semaphore) f (v.lacking x.semaphore))
-            (first-filter (λ e. not (names e.0 f)) (queue_at h x.semaphore) (v.debts_first x.semaphore)) (λ some. ap (λ q. without q f) (v.idle x.semaphore some)) (λ plain. semaphore_named h x.semaphore (v.named x.semaphore plain)) v);
+        orderly = orderly_no_future g f
+            (orderly_semaphore h x.semaphore r (v.semaphores_apart x.semaphore there) (lacking-without (queue_at h x.semaphore) f (v.lacking x.semaphore))
+            (first-filter (λ e. not (names e.0 f)) (queue_at h x.semaphore) (v.debts_first x.semaphore))
+            (λ some. ap (λ q. without q f) (v.idle x.semaphore some)) (λ plain. semaphore_named h x.semaphore (v.named x.semaphore plain)) v);
         below = below_no_future g f (i + 1) (below_semaphore h x.semaphore (i + 1) r ((below_more h i low).semaphores x.semaphore there) (below_more h i low));
       }
 
   at_end : (t : Stage) → x.stage ≡ t → Changed h (end_future h f x t).hall (i + 1) (λ s. 0) (λ s. 0)
-  at_end New e = retold h _ (i + 1) _ _ (λ s. 0) (λ s. 0) (λ s. omega (arith, never (x.semaphore == s), ap (λ t. cond (x.semaphore == s) (taken x.demand t) 0) e)) (gone (idle_new e))
+  at_end New e = retold h _ (i + 1) _ _ (λ s. 0) (λ s. 0)
+      (λ s. omega (arith, never (x.semaphore == s), ap (λ t. cond (x.semaphore == s) (taken x.demand t) 0) e)) (gone (idle_new e))
   at_end (Waiting u) e =
       let l : ℕ = lack_of (queue_at h x.semaphore) f in
       let within : l ≤ x.demand = m.within x.semaphore f x is in
       let whole : l + (x.demand - l) ≡ x.demand = omega arith in
       let first = at_leaving in
       retold h _ (i + 1) _ _ (λ s. 0) (λ s. 0)
-      (λ s. omega (arith, only (x.semaphore == s) l (x.demand - l), only_same (x.semaphore == s) (l + (x.demand - l)) x.demand whole, ap (λ t. cond (x.semaphore == s) (taken x.demand t) 0) e))
-      (after h (leaving h f x) _ (i + 1) _ _ _ _ first (to_pour (leaving h f x) (i + 1) first.matched first.orderly first.below x.semaphore (x.demand - l) (still_there h x.semaphore x.semaphore _ there)))
+      (λ s. omega (
+        arith,
+        only (x.semaphore == s) l (x.demand - l),
+        only_same (x.semaphore == s) (l + (x.demand - l)) x.demand whole,
+        ap
+            (λ t. cond (x.semaphore == s) (taken x.demand t) 0) e,
+      ))
+      (after h (leaving h f x) _ (i + 1) _ _ _ _ first
+      (to_pour (leaving h f x) (i + 1) first.matched first.orderly first.below x.semaphore (x.demand - l) (still_there h x.semaphore x.semaphore _ there)))
   at_end Granted e =
       let first = gone (idle_granted e) in
       retold h _ (i + 1) _ _ (λ s. 0) (λ s. 0) (λ s. omega (arith, ap (λ t. cond (x.semaphore == s) (taken x.demand t) 0) e))
-      (after h (without_future h f) _ (i + 1) _ _ _ _ first (to_pour (without_future h f) (i + 1) first.matched first.orderly first.below x.semaphore x.demand there))
+      (after h (without_future h f) _ (i + 1) _ _ _ _ first
+      (to_pour (without_future h f) (i + 1) first.matched first.orderly first.below x.semaphore x.demand there))
 
 -- ---- each event
 -- an event as it is told
@@ -368,21 +433,25 @@ module _ (h : Hall) (i : ℕ) (m : IsMatched h) (v : IsOrderly h) (low : IsBelow
   ends k None is = ends_permit k (get h.permits k) refl
   ends k (Some x) is = at_end h i k x is m v low x.stage refl
 
-  polls : (f w : ℕ) (o : Option Future) → get h.futures f ≡ o → Changed h (poll_of h i f w o).hall (i + 1) (λ s. 0) (λ s. if_ready (forgetting_demand s o) (poll_of h i f w o).reply)
+  polls : (f w : ℕ) (o : Option Future) → get h.futures f ≡ o
+      → Changed h (poll_of h i f w o).hall (i + 1) (λ s. 0) (λ s. if_ready (forgetting_demand s o) (poll_of h i f w o).reply)
   polls f w None is = unchanged
   polls f w (Some x) is = at_poll h i f x is m v low w x.stage refl
 
-  loses : (p : ℕ) (o : Option Permit) → get h.permits p ≡ o → Changed h (lose_of h p o).hall (i + 1) (λ s. 0) (λ s. if_permit_of s o (number_forgot (lose_of h p o).reply))
+  loses : (p : ℕ) (o : Option Permit) → get h.permits p ≡ o → Changed h (lose_of h p o).hall (i + 1) (λ s. 0)
+      (λ s. if_permit_of s o (number_forgot (lose_of h p o).reply))
   loses p None is = unchanged
   loses p (Some x) is = at_lose h i m v low p x is
 
   tries : (q n : ℕ) (plain b : Bool) → is_named h q ≡ true → nat_le n (free h q) ≡ b
-      → Changed h (if b then quietly (with_permit (with_semaphore h q (taking (semaphore_at h q) n)) i (record { semaphore = q; size = n; plain = plain })) answers.Held else quietly h answers.Lacking).hall (i + 1) (λ s. 0) (λ s. 0)
+      → Changed h (if b then quietly (with_permit (with_semaphore h q (taking (semaphore_at h q) n)) i
+      (record { semaphore = q; size = n; plain = plain })) answers.Held else quietly h answers.Lacking).hall (i + 1) (λ s. 0) (λ s. 0)
   tries q n plain true named e = at_try h i m v low q n plain named (leb-true n (free h q) e)
   tries q n plain false named e = unchanged
 
   splits : (p n : ℕ) (x : Permit) → get h.permits p ≡ Some x → (b : Bool) → nat_le n x.size ≡ b
-      → Changed h (if b then quietly (with_permit (with_permit h p (record x { size = x.size - n })) i (record x { size = n })) answers.Held else quietly h answers.Lacking).hall (i + 1) (λ s. 0) (λ s. 0)
+      → Changed h (if b then quietly (with_permit (with_permit h p (record x { size = x.size - n })) i (record x { size = n })) answers.Held
+      else quietly h answers.Lacking).hall (i + 1) (λ s. 0) (λ s. 0)
   splits p n x is true e = at_split h i m v low p n x is (leb-true n x.size e)
   splits p n x is false e = unchanged
 
@@ -391,8 +460,12 @@ module _ (h : Hall) (i : ℕ) (m : IsMatched h) (v : IsOrderly h) (low : IsBelow
   splits_of p n (Some x) is = splits p n x is (nat_le n x.size) refl
 
   tries_and_forgets : (q n : ℕ) (b : Bool) → is_named h q ≡ true → nat_le n (free h q) ≡ b
-      → Changed h (if b then quietly (with_semaphore h q (record (semaphore_at h q) { free = free h q - n; forgotten = (semaphore_at h q).forgotten + n })) answers.Yes else quietly h answers.No).hall (i + 1) (λ s. 0)
-      (λ s. if_same q s (if_yes n (if b then quietly (with_semaphore h q (record (semaphore_at h q) { free = free h q - n; forgotten = (semaphore_at h q).forgotten + n })) answers.Yes else quietly h answers.No).reply))
+      → Changed h (if b then quietly (with_semaphore h q
+      (record (semaphore_at h q) { free = free h q - n; forgotten = (semaphore_at h q).forgotten + n })) answers.Yes else quietly h answers.No).hall
+      (i + 1) (λ s. 0)
+      (λ s. if_same q s (if_yes n (if b then quietly
+      (with_semaphore h q (record (semaphore_at h q) { free = free h q - n; forgotten = (semaphore_at h q).forgotten + n })) answers.Yes
+      else quietly h answers.No).reply))
   tries_and_forgets q n true named e = at_try_and_forget h i m v low q n named (leb-true n (free h q) e)
   tries_and_forgets q n false named e = retold h _ (i + 1) _ _ (λ s. 0) (λ s. cond (q == s) 0 0) (λ s. omega (arith, never (q == s))) unchanged
 
@@ -400,13 +473,17 @@ module _ (h : Hall) (i : ℕ) (m : IsMatched h) (v : IsOrderly h) (low : IsBelow
   merges p q can =
       let two = mergeable h p q can in
       subst (λ o. Changed h (merge_of h p q o (get h.permits q)) (i + 1) (λ s. 0) (λ s. 0)) (sym two.2)
-      (subst (λ o. Changed h (merge_of h p q (Some two.0) o) (i + 1) (λ s. 0) (λ s. 0)) (sym two.3) (at_merge h i m v low p q two.0 two.1 two.2 two.3 (λ e. two.4 (sym e)) two.5))
+      (subst (λ o. Changed h (merge_of h p q (Some two.0) o) (i + 1) (λ s. 0) (λ s. 0)) (sym two.3)
+      (at_merge h i m v low p q two.0 two.1 two.2 two.3 (λ e. two.4 (sym e)) two.5))
 
-  pub steps : (e : SemEvent) → cause_of h e ≡ None → Changed h (step h i e).hall (i + 1) (λ s. made_by s (line h i e) e + released_by s e) (λ s. forgotten_by s (line h i e) e)
+  pub steps : (e : SemEvent) → cause_of h e ≡ None → Changed h (step h i e).hall (i + 1) (λ s. made_by s (line h i e) e + released_by s e)
+      (λ s. forgotten_by s (line h i e) e)
   steps (events.New n) cause = retold h _ (i + 1) _ _ _ _ (λ s. omega (arith, never (i == s))) (at_new h i m v low n)
   steps (events.Free q) cause = unchanged
-  steps (events.Forget q n) cause = retold h _ (i + 1) _ _ _ _ (λ s. omega (arith, never (q == s))) (at_forget h i m v low q n (named_there h q (known _ cause)))
-  steps (events.Forgetx q n) cause = retold h _ (i + 1) _ _ _ _ (λ s. omega (arith, never (q == s))) (at_forgetx h i m v low q n (named_there h q (known _ cause)))
+  steps (events.Forget q n) cause = retold h _ (i + 1) _ _ _ _ (λ s. omega (arith, never (q == s)))
+      (at_forget h i m v low q n (named_there h q (known _ cause)))
+  steps (events.Forgetx q n) cause = retold h _ (i + 1) _ _ _ _ (λ s. omega (arith, never (q == s)))
+      (at_forgetx h i m v low q n (named_there h q (known _ cause)))
   steps (events.Release q n) cause = retold h _ (i + 1) _ _ _ _ (λ s. omega arith) (at_release h i m v low q n (named_there h q (release_known _ _ cause).0))
   steps (events.Try q n) cause = tries q n true (nat_le n (free h q)) (known _ cause) refl
   steps (events.Tryo q n) cause = tries q n false (nat_le n (free h q)) (known _ cause) refl
@@ -422,5 +499,6 @@ module _ (h : Hall) (i : ℕ) (m : IsMatched h) (v : IsOrderly h) (low : IsBelow
   steps (events.Merge p q) cause = merges p q (known _ cause)
   steps (events.Split p n) cause = splits_of p n (get h.permits p) refl
   steps (events.Size p) cause = unchanged
-  steps (events.Endsem q) cause = let k = endsem_known _ _ cause in let none = ltb-false 0 (plain_things h q) k.1 in at_endsem h i m v low q (named_there h q k.0) (omega arith)
+  steps (events.Endsem q) cause = let k = endsem_known _ _ cause in let none = ltb-false 0 (plain_things h q) k.1 in
+      at_endsem h i m v low q (named_there h q k.0) (omega arith)
   steps (events.Ledger q) cause = unchanged

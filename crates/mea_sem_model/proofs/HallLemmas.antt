@@ -21,7 +21,8 @@ semaphore_put h q s r = ap (λ o. unwrap_or o (made_with 0)) (get_inserted h.sem
     out false = refl
 
 -- what holds of the new semaphore there, and of each other as it was
-pub by_semaphore : (h : Hall) (q : ℕ) (r : Semaphore) (P : ℕ → Semaphore → Type 0) → P q r → ((s : ℕ) → (q ≡ s → ⊥) → P s (semaphore_at h s)) → (s : ℕ) → P s (semaphore_at (with_semaphore h q r) s)
+pub by_semaphore : (h : Hall) (q : ℕ) (r : Semaphore) (P : ℕ → Semaphore → Type 0) → P q r → ((s : ℕ) → (q ≡ s → ⊥) → P s (semaphore_at h s))
+    → (s : ℕ) → P s (semaphore_at (with_semaphore h q r) s)
 by_semaphore h q r P here others s = subst (P s) (sym (semaphore_put h q s r)) (at_test (q == s) refl)
   where
     at_test : (b : Bool) → (q == s) ≡ b → P s (cond b r (semaphore_at h s))
@@ -42,7 +43,8 @@ abbrev pub among : List Who → ℕ → Bool
 among [] f = false
 among (w ∷ ws) f = names w f || among ws f
 
-get-grant_if : (m : FinMap nat_cmp Future) (f q : ℕ) (o : Option Future) → get m f ≡ o → get (grant_if m f o) q ≡ cond (f == q) (option_map granted (get m q)) (get m q)
+get-grant_if : (m : FinMap nat_cmp Future) (f q : ℕ) (o : Option Future) → get m f ≡ o
+    → get (grant_if m f o) q ≡ cond (f == q) (option_map granted (get m q)) (get m q)
 get-grant_if m f q None is = elim (f == q) as (λ b. (f == q) ≡ b → get m q ≡ cond b (option_map granted (get m q)) (get m q)) [
   | true ↦ λ h. let gone : get m q ≡ None = ap (get m) (sym (eqb-true f q h)) ∙ is in rw gone
   | false ↦ λ h. refl
@@ -57,7 +59,8 @@ pub get-grant_who : (m : FinMap nat_cmp Future) (w : Who) (q : ℕ) → get (gra
 get-grant_who m (Waiter f) q = get-grant_if m f q (get m f) refl
 get-grant_who m Debt q = refl
 
-twice : (a b : Bool) (o : Option Future) → cond b (option_map granted (cond a (option_map granted o) o)) (cond a (option_map granted o) o) ≡ cond (a || b) (option_map granted o) o
+twice : (a b : Bool) (o : Option Future) → cond b (option_map granted (cond a (option_map granted o) o)) (cond a (option_map granted o) o) ≡ cond
+    (a || b) (option_map granted o) o
 twice true true None = refl
 twice true true (Some x) = refl
 twice true false o = refl
@@ -70,11 +73,14 @@ get-grant_all (w ∷ ws) m q = get-grant_all ws (grant_who m w) q
     ∙ ap (λ o. cond (among ws q) (option_map granted o) o) (get-grant_who m w q) ∙ twice (names w q) (among ws q) (get m q)
 
 -- a future that was granted, or not, was there before, the same but for its stage
-pub granted_was : (b : Bool) (o : Option Future) (y : Future) → cond b (option_map granted o) o ≡ Some y → (x : Future) × (o ≡ Some x) × (x.demand ≡ y.demand) × (x.semaphore ≡ y.semaphore) × (x.plain ≡ y.plain)
+pub granted_was : (b : Bool) (o : Option Future) (y : Future) → cond b (option_map granted o) o ≡ Some y
+    → (x : Future) × (o ≡ Some x) × (x.demand ≡ y.demand) × (x.semaphore ≡ y.semaphore) × (x.plain ≡ y.plain)
 granted_was true None y e = absurd (cc)
 granted_was false None y e = absurd (cc)
-granted_was true (Some x) y e = (x, refl, ap (λ (z : Future). z.demand) (inside e), ap (λ (z : Future). z.semaphore) (inside e), ap (λ (z : Future). z.plain) (inside e))
-granted_was false (Some x) y e = (x, refl, ap (λ (z : Future). z.demand) (inside e), ap (λ (z : Future). z.semaphore) (inside e), ap (λ (z : Future). z.plain) (inside e))
+granted_was true (Some x) y e =
+    (x, refl, ap (λ (z : Future). z.demand) (inside e), ap (λ (z : Future). z.semaphore) (inside e), ap (λ (z : Future). z.plain) (inside e))
+granted_was false (Some x) y e =
+    (x, refl, ap (λ (z : Future). z.demand) (inside e), ap (λ (z : Future). z.semaphore) (inside e), ap (λ (z : Future). z.plain) (inside e))
 
 -- granting makes no name and takes none away
 pub granted_there : (b : Bool) (o : Option Future) → is_some (cond b (option_map granted o) o) ≡ is_some o
@@ -104,7 +110,13 @@ debts-after ((Debt, k) ∷ q) before n =
 pub filtered-owed : (p : Who × ℕ → Bool) (q : List (Who × ℕ)) → debts (filter {X = Who × ℕ} p q) ≤ debts q
 filtered-owed p [] = omega arith
 filtered-owed p (e ∷ q) = elim (p e) as (λ b. debts (cond b (e ∷ filter {X = Who × ℕ} p q) (filter {X = Who × ℕ} p q)) ≤ debts (e ∷ q)) [
-  | true ↦ omega (arith, filtered-owed p q, sum_by-cons {X = Who × ℕ} (λ d. debt_of d.0 d.1) e q, sum_by-cons {X = Who × ℕ} (λ d. debt_of d.0 d.1) e (filter {X = Who × ℕ} p q))
+  | true ↦ omega (
+    arith,
+    filtered-owed p q,
+    sum_by-cons {X = Who × ℕ} (λ d. debt_of d.0 d.1) e q,
+    sum_by-cons {X = Who × ℕ} (λ d. debt_of d.0 d.1) e
+        (filter {X = Who × ℕ} p q),
+  )
   | false ↦ omega (arith, filtered-owed p q, sum_by-cons {X = Who × ℕ} (λ d. debt_of d.0 d.1) e q)
 ]
 

@@ -19,7 +19,8 @@ everyone q = map {A = Who × ℕ} (λ e. e.0) q
 after_less : (q : List (Who × ℕ)) (before k n : ℕ) → k ≤ n → lacks_after (before + k) q n ≡ lacks_after before q (n - k)
 after_less [] before k n less = refl
 after_less (e ∷ q) before k n less =
-    let lack : min e.1 (before + k + e.1 - n) ≡ min e.1 (before + e.1 - (n - k)) = ap (min e.1) (let same : before + k + e.1 - n ≡ before + e.1 - (n - k) = omega arith in same) in
+    let lack : min e.1 (before + k + e.1 - n) ≡ min e.1 (before + e.1 - (n - k)) =
+    ap (min e.1) (let same : before + k + e.1 - n ≡ before + e.1 - (n - k) = omega arith in same) in
     let sums : before + k + e.1 ≡ before + e.1 + k = omega arith in
     ap (λ l. (e.0, l) ∷ lacks_after (before + k + e.1) q n) lack
     ∙ ap (λ b. (e.0, min e.1 (before + e.1 - (n - k))) ∷ lacks_after b q n) sums
@@ -42,7 +43,8 @@ whole_none : (q : List (Who × ℕ)) → AllLack q → whole q ≡ []
 whole_none [] all = refl
 whole_none (e ∷ q) all =
     let some : (e.1 == 0) ≡ false = let more = all.0 in grind (arith, nat_tests) in
-    ap (λ b. map {A = Who × ℕ} (λ e. e.0) (cond b (e ∷ filter {X = Who × ℕ} (λ e. e.1 == 0) q) (filter {X = Who × ℕ} (λ e. e.1 == 0) q))) some ∙ whole_none q all.1
+    ap (λ b. map {A = Who × ℕ} (λ e. e.0) (cond b (e ∷ filter {X = Who × ℕ} (λ e. e.1 == 0) q) (filter {X = Who × ℕ} (λ e. e.1 == 0) q))) some
+    ∙ whole_none q all.1
 
 -- ---- a head that is paid in full
 past_lacks : (e : Who × ℕ) (q : List (Who × ℕ)) (n : ℕ) → e.1 ≤ n → lacks_after 0 (e ∷ q) n ≡ (e.0, 0) ∷ lacks_after 0 q (n - e.1)
@@ -73,10 +75,12 @@ pub in_order : (q : List (Who × ℕ)) (n : ℕ) → AllLack q → granted_in q 
 in_order [] n all = refl
 in_order (e ∷ q) n all = by_test (nat_le e.1 n) refl (in_order q (n - e.1) all.1)
   where
-    by_test : (b : Bool) → nat_le e.1 n ≡ b → granted_in q (n - e.1) ++ everyone (waiting_after q (n - e.1)) ≡ everyone q → granted_in (e ∷ q) n ++ everyone (waiting_after (e ∷ q) n) ≡ everyone (e ∷ q)
+    by_test : (b : Bool) → nat_le e.1 n ≡ b → granted_in q (n - e.1) ++ everyone (waiting_after q (n - e.1)) ≡ everyone q
+        → granted_in (e ∷ q) n ++ everyone (waiting_after (e ∷ q) n) ≡ everyone (e ∷ q)
     by_test true t rest =
         let enough = leb-true e.1 n t in
-        ap (λ ws. ws ++ everyone (waiting_after (e ∷ q) n)) (past_granted e q n enough) ∙ ap (λ p. e.0 ∷ (granted_in q (n - e.1) ++ everyone p)) (past_waiting e q n enough) ∙ ap (λ ws. e.0 ∷ ws) rest
+        ap (λ ws. ws ++ everyone (waiting_after (e ∷ q) n)) (past_granted e q n enough)
+        ∙ ap (λ p. e.0 ∷ (granted_in q (n - e.1) ++ everyone p)) (past_waiting e q n enough) ∙ ap (λ ws. e.0 ∷ ws) rest
     by_test false t rest =
         let short = leb-false e.1 n t in
         ap (λ ws. ws ++ everyone (waiting_after (e ∷ q) n)) (part_granted e q n all.1 short) ∙ ap everyone (part_waiting e q n all.1 short)

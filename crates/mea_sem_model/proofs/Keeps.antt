@@ -19,12 +19,25 @@ use Rattle.mea_sem_model.proofs.Paid.{parts, paid_or_lacked}
 pub keeps_below : (h : Hall) (i : ℕ) (e : SemEvent) → IsValid h → IsBelow h i → cause_of h e ≡ None → IsBelow (step h i e).hall (i + 1)
 keeps_below h i e v low cause = (steps h i (matched h v) (orderly h v) low e cause).below
 
-pub keeps_account : (h : Hall) (i : ℕ) (e : SemEvent) → IsValid h → IsBelow h i → cause_of h e ≡ None → ((s : ℕ) → IsAccounted h s) → (s : ℕ) → IsAccounted (step h i e).hall s
+pub keeps_account : (h : Hall) (i : ℕ) (e : SemEvent) → IsValid h → IsBelow h i → cause_of h e ≡ None → ((s : ℕ) → IsAccounted h s) → (s : ℕ)
+    → IsAccounted (step h i e).hall s
 keeps_account h i e v low cause account s =
     let c = steps h i (matched h v) (orderly h v) low e cause in
     let t = tallies h i s low e in
     let g : Hall = (step h i e).hall in
-    omega (arith, account s, c.moves s, t.made, t.released, t.forgotten, paid_or_lacked h (matched h v) s, paid_or_lacked g c.matched s, parts (queue_at h s), parts (queue_at g s))
+    omega (
+      arith,
+      account s,
+      c.moves s,
+      t.made,
+      t.released,
+      t.forgotten,
+      paid_or_lacked h (matched h v) s,
+      paid_or_lacked g c.matched s,
+      parts
+          (queue_at h s),
+      parts (queue_at g s),
+    )
 
 -- names that are below a number are below each greater one
 pub below_later : (h : Hall) (n i : ℕ) → n ≤ i → IsBelow h n → IsBelow h i
@@ -51,7 +64,12 @@ no_paid : (s : ℕ) → paid empty_hall s ≡ 0
 no_paid s = total-empty (λ f (x : Future). cond (x.semaphore == s) (paid_to (queue_at empty_hall s) f x.demand x.stage) 0)
 
 no_plain : (s : ℕ) → plain_things empty_hall s ≡ 0
-no_plain s = omega (arith, total-empty (λ f (x : Future). cond (x.semaphore == s && x.plain) 1 0), total-empty (λ k (p : Permit). cond (p.semaphore == s && p.plain) 1 0))
+no_plain s = omega (
+  arith,
+  total-empty (λ f (x : Future). cond (x.semaphore == s && x.plain) 1 0),
+  total-empty
+      (λ k (p : Permit). cond (p.semaphore == s && p.plain) 1 0),
+)
 
 pub valid_empty : IsValid empty_hall
 valid_empty = record {

@@ -23,12 +23,15 @@ use Rattle.mea_sem_model.proofs.HallLemmas.{among, get-grant_all}
 use Rattle.mea_sem_model.proofs.Balanced as balance
 
 -- ---- who is granted while it waits is woken
-woken_one : (m : FinMap nat_cmp Future) (ws : List Who) (f w : ℕ) (x : Future) → get m f ≡ Some x → x.stage ≡ Waiting w → among ws f ≡ true → Contains (flat_map (waker_of_who m) ws) w
+woken_one : (m : FinMap nat_cmp Future) (ws : List Who) (f w : ℕ) (x : Future) → get m f ≡ Some x → x.stage ≡ Waiting w → among ws f ≡ true
+    → Contains (flat_map (waker_of_who m) ws) w
 woken_one m [] f w x there waits h = absurd (cc)
-woken_one m (who ∷ ws) f w x there waits h = elim (names who f) as (λ b. names who f ≡ b → (b || among ws f) ≡ true → Contains (waker_of_who m who ++ flat_map (waker_of_who m) ws) w) [
-  | true ↦ λ e t. Contains-append_left (waker_of_who m who) (flat_map (waker_of_who m) ws) w (subst (λ vs. Contains vs w) (sym (waker who e)) (Contains-push [] w))
-  | false ↦ λ e t. Contains-append_right (waker_of_who m who) (flat_map (waker_of_who m) ws) w (woken_one m ws f w x there waits t)
-] refl h
+woken_one m (who ∷ ws) f w x there waits h = elim (names who f)
+    as (λ b. names who f ≡ b → (b || among ws f) ≡ true → Contains (waker_of_who m who ++ flat_map (waker_of_who m) ws) w) [
+      | true ↦ λ e t. Contains-append_left (waker_of_who m who) (flat_map (waker_of_who m) ws) w
+          (subst (λ vs. Contains vs w) (sym (waker who e)) (Contains-push [] w))
+      | false ↦ λ e t. Contains-append_right (waker_of_who m who) (flat_map (waker_of_who m) ws) w (woken_one m ws f w x there waits t)
+    ] refl h
   where
     waker : (v : Who) → names v f ≡ true → waker_of_who m v ≡ w ∷ []
     waker (Waiter g) e = ap (λ k. waker_of_future (get m k)) (eqb-true g f e) ∙ ap waker_of_future there ∙ ap waker_of waits
@@ -37,7 +40,8 @@ woken_one m (who ∷ ws) f w x there waits h = elim (names who f) as (λ b. name
 -- ---- what an event that polls nobody leaves of the futures
 -- each future below i was there before, and still waits with its waker or that was woken
 record Passes (h : Hall) (o : Outcome) (i : ℕ) : Type 0 where
-  each : (f : ℕ) (y : Future) → f < i → get o.hall.futures f ≡ Some y → (x : Future) × (get h.futures f ≡ Some x) × ((w : ℕ) → x.stage ≡ Waiting w → (y.stage ≡ Waiting w) ⊎ Contains o.wakes w)
+  each : (f : ℕ) (y : Future) → f < i → get o.hall.futures f ≡ Some y
+      → (x : Future) × (get h.futures f ≡ Some x) × ((w : ℕ) → x.stage ≡ Waiting w → (y.stage ≡ Waiting w) ⊎ Contains o.wakes w)
 
 -- the futures are among those before, and nobody is woken
 passes_some : (h : Hall) (o : Outcome) (i : ℕ) → ((f : ℕ) (y : Future) → f < i → get o.hall.futures f ≡ Some y → get h.futures f ≡ Some y) → Passes h o i
@@ -57,7 +61,8 @@ passes_pour h g s n i some = record {
       by_grant f y (among ws f) (get g.futures f) refl refl at;
 }
   where
-    by_grant : (f : ℕ) (y : Future) (b : Bool) (o : Option Future) → among (granted_in (queue_at g s) n) f ≡ b → get g.futures f ≡ o → cond b (option_map granted o) o ≡ Some y
+    by_grant : (f : ℕ) (y : Future) (b : Bool) (o : Option Future) → among (granted_in (queue_at g s) n) f ≡ b → get g.futures f ≡ o
+        → cond b (option_map granted o) o ≡ Some y
         → (x : Future) × (get h.futures f ≡ Some x) × ((w : ℕ) → x.stage ≡ Waiting w → (y.stage ≡ Waiting w) ⊎ Contains (wakes_of g s n) w)
     by_grant f y true None a is e = absurd (cc)
     by_grant f y false None a is e = absurd (cc)
@@ -89,22 +94,30 @@ module _ (h : Hall) (i : ℕ) where
 
   splits : (p n : ℕ) (o : Option Permit) → Passes h (split_of h i p n o) i
   splits p n None = passes_same h _ i refl
-  splits p n (Some x) = elim (nat_le n x.size) as (λ b. Passes h (if b then quietly (with_permit (with_permit h p (record x { size = x.size - n })) i (record x { size = n })) answers.Held else quietly h answers.Lacking) i) [
-    | true ↦ passes_same h _ i refl
-    | false ↦ passes_same h _ i refl
-  ]
+  splits p n (Some x) = elim (nat_le n x.size)
+      as (λ b. Passes h (if b then quietly (with_permit (with_permit h p (record x { size = x.size - n })) i (record x { size = n })) answers.Held
+      else quietly h answers.Lacking) i) [
+        | true ↦ passes_same h _ i refl
+        | false ↦ passes_same h _ i refl
+      ]
 
   tries : (q n : ℕ) (plain : Bool) → Passes h (try_of h i q n plain) i
-  tries q n plain = elim (nat_le n (free h q)) as (λ b. Passes h (if b then quietly (with_permit (with_semaphore h q (taking (semaphore_at h q) n)) i (record { semaphore = q; size = n; plain = plain })) answers.Held else quietly h answers.Lacking) i) [
-    | true ↦ passes_same h _ i refl
-    | false ↦ passes_same h _ i refl
-  ]
+  tries q n plain = elim (nat_le n (free h q))
+      as (λ b. Passes h (if b then quietly
+      (with_permit (with_semaphore h q (taking (semaphore_at h q) n)) i (record { semaphore = q; size = n; plain = plain })) answers.Held
+      else quietly h answers.Lacking) i) [
+        | true ↦ passes_same h _ i refl
+        | false ↦ passes_same h _ i refl
+      ]
 
   tries_and_forgets : (q n : ℕ) → Passes h (try_and_forget h q n) i
-  tries_and_forgets q n = elim (nat_le n (free h q)) as (λ b. Passes h (if b then quietly (with_semaphore h q (record (semaphore_at h q) { free = free h q - n; forgotten = (semaphore_at h q).forgotten + n })) answers.Yes else quietly h answers.No) i) [
-    | true ↦ passes_same h _ i refl
-    | false ↦ passes_same h _ i refl
-  ]
+  tries_and_forgets q n = elim (nat_le n (free h q))
+      as (λ b. Passes h (if b then quietly
+      (with_semaphore h q (record (semaphore_at h q) { free = free h q - n; forgotten = (semaphore_at h q).forgotten + n })) answers.Yes
+      else quietly h answers.No) i) [
+        | true ↦ passes_same h _ i refl
+        | false ↦ passes_same h _ i refl
+      ]
 
   acquires : (x : Future) → Passes h (quietly (with_future h i x) answers.Made) i
   acquires x = passes_some h _ i (λ f y less is. sym (get-other h.futures i f x (λ same. absurd (omega arith))) ∙ is)
@@ -127,16 +140,21 @@ polled_pending h k g v x put waiting = record {
 }
 
 ready_futures : (h : Hall) (i f : ℕ) (x : Future) → (made_ready h i f x).futures ≡ remove h.futures f
-ready_futures h i f x = elim x.forgets as (λ b. (if b then with_semaphore (without_future h f) x.semaphore (record (semaphore_at h x.semaphore) { forgotten = (semaphore_at h x.semaphore).forgotten + x.demand }) else with_permit (without_future h f) i (record { semaphore = x.semaphore; size = x.demand; plain = x.plain })).futures ≡ remove h.futures f) [
-  | true ↦ refl
-  | false ↦ refl
-]
+ready_futures h i f x = elim x.forgets as (λ b.
+    (if b then with_semaphore (without_future h f) x.semaphore
+    (record (semaphore_at h x.semaphore) { forgotten = (semaphore_at h x.semaphore).forgotten + x.demand })
+    else with_permit (without_future h f) i (record { semaphore = x.semaphore; size = x.demand; plain = x.plain })).futures ≡ remove h.futures f) [
+      | true ↦ refl
+      | false ↦ refl
+    ]
 
 polled_at : (h : Hall) (i g v : ℕ) (x : Future) (t : Stage) → Polled h g v (poll_at h i g v x t)
-polled_at h i g v x New = elim (nat_le x.demand (free h x.semaphore)) as (λ b. Polled h g v (if b then quietly (made_ready (with_semaphore h x.semaphore (taking (semaphore_at h x.semaphore) x.demand)) i g x) answers.Ready else quietly (queueing h g v x) answers.Pending)) [
-  | true ↦ polled_ready h _ g v (ready_futures (with_semaphore h x.semaphore (taking (semaphore_at h x.semaphore) x.demand)) i g x)
-  | false ↦ polled_pending h _ g v (record x { stage = Waiting v }) refl refl
-]
+polled_at h i g v x New = elim (nat_le x.demand (free h x.semaphore))
+    as (λ b. Polled h g v (if b then quietly (made_ready (with_semaphore h x.semaphore (taking (semaphore_at h x.semaphore) x.demand)) i g x)
+    answers.Ready else quietly (queueing h g v x) answers.Pending)) [
+      | true ↦ polled_ready h _ g v (ready_futures (with_semaphore h x.semaphore (taking (semaphore_at h x.semaphore) x.demand)) i g x)
+      | false ↦ polled_pending h _ g v (record x { stage = Waiting v }) refl refl
+    ]
 polled_at h i g v x (Waiting u) = polled_pending h _ g v (record x { stage = Waiting v }) refl refl
 polled_at h i g v x Granted = polled_ready h _ g v (ready_futures h i g x)
 
@@ -175,10 +193,12 @@ polled_by : (h : Hall) (i f w : ℕ) (o : Option Future) → is_some o ≡ true 
 polled_by h i f w None living = absurd (cc)
 polled_by h i f w (Some x) living = polled_at h i f w x x.stage
 
-places_waker : (h : Hall) (i : ℕ) (e : SemEvent) → cause_of h e ≡ None → (f w : ℕ) → waker_in e f ≡ Some w → (step h i e).reply ≡ answers.Pending → waker_kept (get (step h i e).hall.futures f) ≡ Some w
+places_waker : (h : Hall) (i : ℕ) (e : SemEvent) → cause_of h e ≡ None → (f w : ℕ) → waker_in e f ≡ Some w → (step h i e).reply ≡ answers.Pending
+    → waker_kept (get (step h i e).hall.futures f) ≡ Some w
 places_waker h i e cause f w polls =
     let living = polls_living h e cause f w polls in
-    subst (λ d. (step h i d).reply ≡ answers.Pending → waker_kept (get (step h i d).hall.futures f) ≡ Some w) (sym (poll_is e f w polls)) (polled_by h i f w (get h.futures f) living).places
+    subst (λ d. (step h i d).reply ≡ answers.Pending → waker_kept (get (step h i d).hall.futures f) ≡ Some w) (sym (poll_is e f w polls))
+    (polled_by h i f w (get h.futures f) living).places
 
 -- a future whose waker is kept waits with it
 waits_with : (o : Option Future) (w : ℕ) → waker_kept o ≡ Some w → (x : Future) × (o ≡ Some x) × (x.stage ≡ Waiting w)
@@ -198,7 +218,8 @@ waits_on h i e f w v kept polls =
 -- a future below i after an event was there before, and still waits with its waker, was polled or woken
 record Leaves (h : Hall) (e : SemEvent) (i : ℕ) : Type 0 where
   was : (f : ℕ) → f < i → is_some (get (step h i e).hall.futures f) ≡ true → is_some (get h.futures f) ≡ true
-  stays : (f w : ℕ) → f < i → is_some (get (step h i e).hall.futures f) ≡ true → waker_kept (get h.futures f) ≡ Some w → waker_in e f ≡ None → (waker_kept (get (step h i e).hall.futures f) ≡ Some w) ⊎ Contains (step h i e).wakes w
+  stays : (f w : ℕ) → f < i → is_some (get (step h i e).hall.futures f) ≡ true → waker_kept (get h.futures f) ≡ Some w → waker_in e f ≡ None
+      → (waker_kept (get (step h i e).hall.futures f) ≡ Some w) ⊎ Contains (step h i e).wakes w
 
 passing : (h : Hall) (e : SemEvent) (i : ℕ) → Passes h (step h i e) i → Leaves h e i
 passing h e i passes = record {
@@ -226,10 +247,11 @@ polling h i g v lived =
         | true ↦ λ e. ap (λ k. is_some (get h.futures k)) (sym (eqb-true g f e)) ∙ lived
         | false ↦ λ e. ap is_some (sym (gives.others f (eqb-false g f e))) ∙ living
       ] refl;
-      stays = λ f w less living kept polls. elim (g == f) as (λ b. (g == f) ≡ b → cond b (Some v) None ≡ None → (waker_kept (get o.hall.futures f) ≡ Some w) ⊎ Contains o.wakes w) [
-        | true ↦ λ e p. absurd (cc)
-        | false ↦ λ e p. inl (ap waker_kept (gives.others f (eqb-false g f e)) ∙ kept)
-      ] refl polls;
+      stays = λ f w less living kept polls. elim (g == f)
+          as (λ b. (g == f) ≡ b → cond b (Some v) None ≡ None → (waker_kept (get o.hall.futures f) ≡ Some w) ⊎ Contains o.wakes w) [
+            | true ↦ λ e p. absurd (cc)
+            | false ↦ λ e p. inl (ap waker_kept (gives.others f (eqb-false g f e)) ∙ kept)
+          ] refl polls;
     }
 
 module _ (h : Hall) (i : ℕ) where
@@ -260,7 +282,8 @@ module _ (h : Hall) (i : ℕ) where
 lives_below : (r : Run) → Runs r → (f : ℕ) → is_some (get r.hall.futures f) ≡ true → f < r.next
 lives_below r runs f living = (balance.kept r runs).below.futures f living
 
-below_or_made : (r : Run) (i : ℕ) (e : SemEvent) → Runs r → cause_of r.hall e ≡ None → (f : ℕ) → f < i + 1 → is_some (get (step r.hall i e).hall.futures f) ≡ true → (is_some (get r.hall.futures f) ≡ true) ⊎ (f ≡ i)
+below_or_made : (r : Run) (i : ℕ) (e : SemEvent) → Runs r → cause_of r.hall e ≡ None → (f : ℕ) → f < i + 1
+    → is_some (get (step r.hall i e).hall.futures f) ≡ true → (is_some (get r.hall.futures f) ≡ true) ⊎ (f ≡ i)
 below_or_made r i e runs cause f less living = elim (f == i) as (λ b. (f == i) ≡ b → (is_some (get r.hall.futures f) ≡ true) ⊎ (f ≡ i)) [
   | true ↦ λ t. inr (eqb-true f i t)
   | false ↦ λ t. inl ((leaves r.hall i e cause).was f (let apart = eqb-false f i t in omega (arith, less, apart)) living)

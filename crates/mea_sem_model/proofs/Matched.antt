@@ -21,22 +21,27 @@ pub record IsMatched (h : Hall) : Type 0 where
 pub matched : (h : Hall) → IsValid h → IsMatched h
 matched h v = record { once = v.once; within = v.within }
 
-pub matched_semaphore : (h : Hall) (q : ℕ) (r : Semaphore) → ((f : ℕ) → count r.queue f ≡ count (queue_at h q) f) → ((f : ℕ) → lack_of r.queue f ≤ lack_of (queue_at h q) f) → IsMatched h → IsMatched (with_semaphore h q r)
+pub matched_semaphore : (h : Hall) (q : ℕ) (r : Semaphore) → ((f : ℕ) → count r.queue f ≡ count (queue_at h q) f)
+    → ((f : ℕ) → lack_of r.queue f ≤ lack_of (queue_at h q) f) → IsMatched h → IsMatched (with_semaphore h q r)
 matched_semaphore h q r counts lack v = record {
   once = λ s f. by_semaphore h q r (λ k y. count y.queue f ≡ waits_at k (get h.futures f)) (counts f ∙ v.once q f) (λ k apart. v.once k f) s;
-  within = λ s f x there. by_semaphore h q r (λ k y. lack_of y.queue f ≤ x.demand) (let old = v.within q f x there in let new = lack f in omega (arith, old, new)) (λ k apart. v.within k f x there) s;
+  within = λ s f x there. by_semaphore h q r (λ k y. lack_of y.queue f ≤ x.demand)
+      (let old = v.within q f x there in let new = lack f in omega (arith, old, new)) (λ k apart. v.within k f x there) s;
 }
 
-pub matched_future : (h : Hall) (k : ℕ) (x : Future) → ((s : ℕ) → waits_at s (get h.futures k) ≡ waits_at s (Some x)) → ((s : ℕ) → lack_of (queue_at h s) k ≤ x.demand) → IsMatched h → IsMatched (with_future h k x)
+pub matched_future : (h : Hall) (k : ℕ) (x : Future) → ((s : ℕ) → waits_at s (get h.futures k) ≡ waits_at s (Some x))
+    → ((s : ℕ) → lack_of (queue_at h s) k ≤ x.demand) → IsMatched h → IsMatched (with_future h k x)
 matched_future h k x same lack v = record {
   once = λ s f. by_put h.futures k x (λ j o. count (queue_at h s) j ≡ waits_at s o) (v.once s k ∙ same s) (λ j apart. v.once s j) f;
-  within = λ s f y there. by_put h.futures k x (λ j o. o ≡ Some y → lack_of (queue_at h s) j ≤ y.demand) (λ is. subst (λ (z : Future). lack_of (queue_at h s) k ≤ z.demand) (inside is) (lack s)) (λ j apart is. v.within s j y is) f there;
+  within = λ s f y there. by_put h.futures k x (λ j o. o ≡ Some y → lack_of (queue_at h s) j ≤ y.demand)
+      (λ is. subst (λ (z : Future). lack_of (queue_at h s) k ≤ z.demand) (inside is) (lack s)) (λ j apart is. v.within s j y is) f there;
 }
 
 pub matched_no_future : (h : Hall) (k : ℕ) → ((s : ℕ) → waits_at s (get h.futures k) ≡ 0) → IsMatched h → IsMatched (without_future h k)
 matched_no_future h k none v = record {
   once = λ s f. by_gone h.futures k (λ j o. count (queue_at h s) j ≡ waits_at s o) (v.once s k ∙ none s) (λ j apart. v.once s j) f;
-  within = λ s f y there. by_gone h.futures k (λ j o. o ≡ Some y → lack_of (queue_at h s) j ≤ y.demand) (λ is. absurd (cc)) (λ j apart is. v.within s j y is) f there;
+  within = λ s f y there. by_gone h.futures k (λ j o. o ≡ Some y → lack_of (queue_at h s) j ≤ y.demand) (λ is. absurd (cc))
+      (λ j apart is. v.within s j y is) f there;
 }
 
 -- a future that isn't waiting lacks nothing
@@ -63,20 +68,30 @@ module _ (h : Hall) (f w : ℕ) (x : Future) (is : get h.futures f ≡ Some x) (
   waits_none s = ap (waits_at s) is ∙ new_waits x s unpolled
 
   pub queued_once : (s g : ℕ) → count (queue_at (queueing h f w x) s) g ≡ waits_at s (get (queueing h f w x).futures g)
-  queued_once s g = by_semaphore h x.semaphore (record (semaphore_at h x.semaphore) { free = 0; queue = queue_at h x.semaphore ++ (Waiter f, x.demand - free h x.semaphore) ∷ [] })
+  queued_once s g = by_semaphore h x.semaphore
+      (record (semaphore_at h x.semaphore) { free = 0; queue = queue_at h x.semaphore ++ (Waiter f, x.demand - free h x.semaphore) ∷ [] })
       (λ k y. count y.queue g ≡ waits_at k (get (queueing h f w x).futures g))
       (sum_by-append {X = Who × ℕ} (λ d. cond (names d.0 g) 1 0) (queue_at h x.semaphore) ((Waiter f, x.demand - free h x.semaphore) ∷ [])
       ∙ by_put h.futures f (record x { stage = Waiting w }) (λ j o. count (queue_at h x.semaphore) j + (0 + cond (f == j) 1 0) ≡ waits_at x.semaphore o)
-      (omega (arith, on_true (f == f) 1 (eq-eqb f f refl), on_true (x.semaphore == x.semaphore) 1 (eq-eqb x.semaphore x.semaphore refl), v.once x.semaphore f, waits_none x.semaphore))
+      (omega (
+        arith,
+        on_true (f == f) 1 (eq-eqb f f refl),
+        on_true (x.semaphore == x.semaphore) 1
+            (eq-eqb x.semaphore x.semaphore refl),
+        v.once x.semaphore f,
+        waits_none x.semaphore,
+      ))
       (λ j apart. omega (arith, on_false (f == j) 1 (ne_eqb f j apart), v.once x.semaphore j)) g)
       (λ k apart. by_put h.futures f (record x { stage = Waiting w }) (λ j o. count (queue_at h k) j ≡ waits_at k o)
       (v.once k f ∙ waits_none k ∙ sym (on_false (x.semaphore == k) 1 (ne_eqb x.semaphore k apart)))
       (λ j other. v.once k j) g) s
 
   pub queued_within : (s g : ℕ) (y : Future) → get (queueing h f w x).futures g ≡ Some y → lack_of (queue_at (queueing h f w x) s) g ≤ y.demand
-  queued_within s g y there = by_semaphore h x.semaphore (record (semaphore_at h x.semaphore) { free = 0; queue = queue_at h x.semaphore ++ (Waiter f, x.demand - free h x.semaphore) ∷ [] })
+  queued_within s g y there = by_semaphore h x.semaphore
+      (record (semaphore_at h x.semaphore) { free = 0; queue = queue_at h x.semaphore ++ (Waiter f, x.demand - free h x.semaphore) ∷ [] })
       (λ k z. lack_of z.queue g ≤ y.demand)
-      (by_put h.futures f (record x { stage = Waiting w }) (λ j o. o ≡ Some y → lack_of (queue_at h x.semaphore ++ (Waiter f, x.demand - free h x.semaphore) ∷ []) j ≤ y.demand)
+      (by_put h.futures f (record x { stage = Waiting w })
+      (λ j o. o ≡ Some y → lack_of (queue_at h x.semaphore ++ (Waiter f, x.demand - free h x.semaphore) ∷ []) j ≤ y.demand)
       (λ e. let same : x.demand ≡ y.demand = ap (λ (z : Future). z.demand) (inside e) in
       omega (
         arith,
@@ -152,23 +167,36 @@ module _ (h : Hall) (q n : ℕ) (v : IsMatched h) where
   -- and in no other
   waited_here : (s f : ℕ) (o : Option Future) → get h.futures f ≡ o → 0 < waits_at q o → (q ≡ s → ⊥) → waits_at s o ≡ 0
   waited_here s f None is some apart = refl
-  waited_here s f (Some x) is some apart = on_false (x.semaphore == s) (one_if_waiting x.stage) (ne_eqb x.semaphore s (λ e. apart (sym (is_waiting q x some).0 ∙ e)))
+  waited_here s f (Some x) is some apart = on_false (x.semaphore == s) (one_if_waiting x.stage)
+      (ne_eqb x.semaphore s (λ e. apart (sym (is_waiting q x some).0 ∙ e)))
 
-  pour_here : (f : ℕ) (b : Bool) → among (granted_in (queue_at h q) n) f ≡ b → count (waiting_after (queue_at h q) n) f ≡ waits_at q (cond b (option_map granted (get h.futures f)) (get h.futures f))
-  pour_here f true a = omega (arith, among_mentions (granted_in (queue_at h q) n) f a, count-pour (queue_at h q) n f, v.once q f, one_at_most q (get h.futures f), granted_none q (get h.futures f))
+  pour_here : (f : ℕ) (b : Bool) → among (granted_in (queue_at h q) n) f ≡ b
+      → count (waiting_after (queue_at h q) n) f ≡ waits_at q (cond b (option_map granted (get h.futures f)) (get h.futures f))
+  pour_here f true a = omega (
+    arith,
+    among_mentions (granted_in (queue_at h q) n) f a,
+    count-pour (queue_at h q) n f,
+    v.once q f,
+    one_at_most q
+        (get h.futures f),
+    granted_none q (get h.futures f),
+  )
   pour_here f false a = omega (arith, among_none (granted_in (queue_at h q) n) f a, count-pour (queue_at h q) n f, v.once q f)
 
-  pour_there : (s f : ℕ) (b : Bool) → (q ≡ s → ⊥) → among (granted_in (queue_at h q) n) f ≡ b → count (queue_at h s) f ≡ waits_at s (cond b (option_map granted (get h.futures f)) (get h.futures f))
+  pour_there : (s f : ℕ) (b : Bool) → (q ≡ s → ⊥) → among (granted_in (queue_at h q) n) f ≡ b
+      → count (queue_at h s) f ≡ waits_at s (cond b (option_map granted (get h.futures f)) (get h.futures f))
   pour_there s f true apart a = v.once s f ∙ waited_here s f (get h.futures f) refl (granted_waited f a) apart ∙ sym (granted_none s (get h.futures f))
   pour_there s f false apart a = v.once s f
 
   pub pour_matched : IsMatched (pour h q n)
   pour_matched = record {
     once = λ s f. subst (λ o. count (queue_at (pour h q n) s) f ≡ waits_at s o) (sym (get-grant_all (granted_in (queue_at h q) n) h.futures f))
-        (by_semaphore h q (poured (semaphore_at h q) n) (λ k y. count y.queue f ≡ waits_at k (cond (among (granted_in (queue_at h q) n) f) (option_map granted (get h.futures f)) (get h.futures f)))
+        (by_semaphore h q (poured (semaphore_at h q) n)
+        (λ k y. count y.queue f ≡ waits_at k (cond (among (granted_in (queue_at h q) n) f) (option_map granted (get h.futures f)) (get h.futures f)))
         (pour_here f (among (granted_in (queue_at h q) n) f) refl) (λ k apart. pour_there k f (among (granted_in (queue_at h q) n) f) apart refl) s);
     within = λ s f y there.
-        let old = granted_was (among (granted_in (queue_at h q) n) f) (get h.futures f) y (sym (get-grant_all (granted_in (queue_at h q) n) h.futures f) ∙ there) in
+        let old = granted_was (among (granted_in (queue_at h q) n) f) (get h.futures f) y
+        (sym (get-grant_all (granted_in (queue_at h q) n) h.futures f) ∙ there) in
         by_semaphore h q (poured (semaphore_at h q) n) (λ k z. lack_of z.queue f ≤ y.demand)
         (omega (arith, lack-pour (queue_at h q) n f, v.within q f old.0 old.1, old.2)) (λ k apart. omega (arith, v.within k f old.0 old.1, old.2)) s;
   }

@@ -42,14 +42,19 @@ pub future_alone : (h : Hall) (k : ℕ) → IsSome (get h.futures k) → IsOrder
 future_alone h k there v = (is_absent (get h.semaphores k) (λ some. absurd (let gone = (v.semaphores_apart k some).0 in cc)), v.futures_apart k there)
 
 pub permit_alone : (h : Hall) (k : ℕ) → IsSome (get h.permits k) → IsOrderly h → (get h.semaphores k ≡ None) × (get h.futures k ≡ None)
-permit_alone h k there v = (is_absent (get h.semaphores k) (λ some. absurd (let gone = (v.semaphores_apart k some).1 in cc)), is_absent (get h.futures k) (λ some. absurd (let gone = v.futures_apart k some in cc)))
+permit_alone h k there v = (
+  is_absent (get h.semaphores k) (λ some. absurd (let gone = (v.semaphores_apart k some).1 in cc)),
+  is_absent
+      (get h.futures k) (λ some. absurd (let gone = v.futures_apart k some in cc)),
+)
 
 -- ---- semaphores
 -- no semaphore is lost where one is put
 pub still_there : (h : Hall) (q s : ℕ) (r : Semaphore) → IsSome (get h.semaphores s) → IsSome (get (insert h.semaphores q r) s)
 still_there h q s r = by_put h.semaphores q r (λ j o. IsSome (get h.semaphores j) → IsSome o) (λ _. refl) (λ j apart there. there) s
 
-pub orderly_semaphore : (h : Hall) (q : ℕ) (r : Semaphore) → (get h.futures q ≡ None) × (get h.permits q ≡ None) → AllLack r.queue → HasDebtsFirst r.queue → (0 < r.free → r.queue ≡ [])
+pub orderly_semaphore : (h : Hall) (q : ℕ) (r : Semaphore) → (get h.futures q ≡ None) × (get h.permits q ≡ None) → AllLack r.queue
+    → HasDebtsFirst r.queue → (0 < r.free → r.queue ≡ [])
     → (0 < plain_things h q → r.named ≡ true) → IsOrderly h → IsOrderly (with_semaphore h q r)
 orderly_semaphore h q r apart lack first idle plain v = record {
   lacking = λ s. by_semaphore h q r (λ k y. AllLack y.queue) lack (λ k other. v.lacking k) s;
@@ -58,28 +63,34 @@ orderly_semaphore h q r apart lack first idle plain v = record {
   named = λ s. by_put h.semaphores q r (λ k o. 0 < plain_things h k → is_named_semaphore o ≡ true) plain (λ k other. v.named k) s;
   futures_of = λ f x is. still_there h q x.semaphore r (v.futures_of f x is);
   permits_of = λ p x is. still_there h q x.semaphore r (v.permits_of p x is);
-  semaphores_apart = λ k. by_put h.semaphores q r (λ j o. IsSome o → (get h.futures j ≡ None) × (get h.permits j ≡ None)) (λ _. apart) (λ j other. v.semaphores_apart j) k;
+  semaphores_apart = λ k. by_put h.semaphores q r (λ j o. IsSome o → (get h.futures j ≡ None) × (get h.permits j ≡ None)) (λ _. apart)
+      (λ j other. v.semaphores_apart j) k;
   futures_apart = v.futures_apart;
 }
 
 -- ---- futures
 -- a semaphore with a plain thing is named, also where one more is put that is not plain or whose semaphore is named
-named_with : (h : Hall) (q s after before : ℕ) (plain : Bool) → after ≤ before + cond (q == s && plain) 1 0 → (0 < before → is_named h s ≡ true) → (plain ≡ true → is_named h q ≡ true) → 0 < after → is_named h s ≡ true
+named_with : (h : Hall) (q s after before : ℕ) (plain : Bool) → after ≤ before + cond (q == s && plain) 1 0 → (0 < before → is_named h s ≡ true)
+    → (plain ≡ true → is_named h q ≡ true) → 0 < after → is_named h s ≡ true
 named_with h q s after before plain sums old new some = by_test (q == s && plain) refl
   where
     by_test : (b : Bool) → (q == s && plain) ≡ b → is_named h s ≡ true
     by_test true e = let both = and_parts (q == s) plain e in subst (λ k. is_named h k ≡ true) (eqb-true q s both.0) (new both.1)
     by_test false e = old (omega (arith, on_false (q == s && plain) 1 e))
 
-pub orderly_future : (h : Hall) (k : ℕ) (x : Future) → (get h.semaphores k ≡ None) × (get h.permits k ≡ None) → IsSome (get h.semaphores x.semaphore) → (x.plain ≡ true → is_named h x.semaphore ≡ true) → IsOrderly h → IsOrderly (with_future h k x)
+pub orderly_future : (h : Hall) (k : ℕ) (x : Future) → (get h.semaphores k ≡ None) × (get h.permits k ≡ None) → IsSome (get h.semaphores x.semaphore)
+    → (x.plain ≡ true → is_named h x.semaphore ≡ true) → IsOrderly h → IsOrderly (with_future h k x)
 orderly_future h k x apart of plain v = record {
   lacking = v.lacking;
   debts_first = v.debts_first;
   idle = v.idle;
-  named = λ s. named_with h x.semaphore s (plain_things (with_future h k x) s) (plain_things h s) x.plain (omega (arith, total-insert (λ f (y : Future). cond (y.semaphore == s && y.plain) 1 0) h.futures k x)) (v.named s) plain;
-  futures_of = λ f y is. by_put h.futures k x (λ j o. o ≡ Some y → IsSome (get h.semaphores y.semaphore)) (λ e. subst (λ (z : Future). IsSome (get h.semaphores z.semaphore)) (inside e) of) (λ j other e. v.futures_of j y e) f is;
+  named = λ s. named_with h x.semaphore s (plain_things (with_future h k x) s) (plain_things h s) x.plain
+      (omega (arith, total-insert (λ f (y : Future). cond (y.semaphore == s && y.plain) 1 0) h.futures k x)) (v.named s) plain;
+  futures_of = λ f y is. by_put h.futures k x (λ j o. o ≡ Some y → IsSome (get h.semaphores y.semaphore))
+      (λ e. subst (λ (z : Future). IsSome (get h.semaphores z.semaphore)) (inside e) of) (λ j other e. v.futures_of j y e) f is;
   permits_of = v.permits_of;
-  semaphores_apart = λ s. by_put h.futures k x (λ j o. IsSome (get h.semaphores j) → (o ≡ None) × (get h.permits j ≡ None)) (λ some. absurd (let gone = apart.0 in cc)) (λ j other. v.semaphores_apart j) s;
+  semaphores_apart = λ s. by_put h.futures k x (λ j o. IsSome (get h.semaphores j) → (o ≡ None) × (get h.permits j ≡ None))
+      (λ some. absurd (let gone = apart.0 in cc)) (λ j other. v.semaphores_apart j) s;
   futures_apart = λ f. by_put h.futures k x (λ j o. IsSome o → get h.permits j ≡ None) (λ _. apart.1) (λ j other. v.futures_apart j) f;
 }
 
@@ -89,23 +100,30 @@ orderly_no_future h k v = record {
   debts_first = v.debts_first;
   idle = v.idle;
   named = λ s some. v.named s (omega (arith, total-remove (λ f (y : Future). cond (y.semaphore == s && y.plain) 1 0) h.futures k));
-  futures_of = λ f y is. by_gone h.futures k (λ j o. o ≡ Some y → IsSome (get h.semaphores y.semaphore)) (λ e. absurd (cc)) (λ j other e. v.futures_of j y e) f is;
+  futures_of = λ f y is. by_gone h.futures k (λ j o. o ≡ Some y → IsSome (get h.semaphores y.semaphore)) (λ e. absurd (cc))
+      (λ j other e. v.futures_of j y e) f is;
   permits_of = v.permits_of;
-  semaphores_apart = λ s. by_gone h.futures k (λ j o. IsSome (get h.semaphores j) → (o ≡ None) × (get h.permits j ≡ None)) (λ some. (refl, (v.semaphores_apart k some).1)) (λ j other. v.semaphores_apart j) s;
+  semaphores_apart = λ s. by_gone h.futures k (λ j o. IsSome (get h.semaphores j) → (o ≡ None) × (get h.permits j ≡ None))
+      (λ some. (refl, (v.semaphores_apart k some).1)) (λ j other. v.semaphores_apart j) s;
   futures_apart = λ f. by_gone h.futures k (λ j o. IsSome o → get h.permits j ≡ None) (λ some. absurd (cc)) (λ j other. v.futures_apart j) f;
 }
 
 -- ---- permits
-pub orderly_permit : (h : Hall) (k : ℕ) (x : Permit) → (get h.semaphores k ≡ None) × (get h.futures k ≡ None) → IsSome (get h.semaphores x.semaphore) → (x.plain ≡ true → is_named h x.semaphore ≡ true) → IsOrderly h → IsOrderly (with_permit h k x)
+pub orderly_permit : (h : Hall) (k : ℕ) (x : Permit) → (get h.semaphores k ≡ None) × (get h.futures k ≡ None) → IsSome (get h.semaphores x.semaphore)
+    → (x.plain ≡ true → is_named h x.semaphore ≡ true) → IsOrderly h → IsOrderly (with_permit h k x)
 orderly_permit h k x apart of plain v = record {
   lacking = v.lacking;
   debts_first = v.debts_first;
   idle = v.idle;
-  named = λ s. named_with h x.semaphore s (plain_things (with_permit h k x) s) (plain_things h s) x.plain (omega (arith, total-insert (λ f (y : Permit). cond (y.semaphore == s && y.plain) 1 0) h.permits k x)) (v.named s) plain;
+  named = λ s. named_with h x.semaphore s (plain_things (with_permit h k x) s) (plain_things h s) x.plain
+      (omega (arith, total-insert (λ f (y : Permit). cond (y.semaphore == s && y.plain) 1 0) h.permits k x)) (v.named s) plain;
   futures_of = v.futures_of;
-  permits_of = λ f y is. by_put h.permits k x (λ j o. o ≡ Some y → IsSome (get h.semaphores y.semaphore)) (λ e. subst (λ (z : Permit). IsSome (get h.semaphores z.semaphore)) (inside e) of) (λ j other e. v.permits_of j y e) f is;
-  semaphores_apart = λ s. by_put h.permits k x (λ j o. IsSome (get h.semaphores j) → (get h.futures j ≡ None) × (o ≡ None)) (λ some. absurd (let gone = apart.0 in cc)) (λ j other. v.semaphores_apart j) s;
-  futures_apart = λ f. by_put h.permits k x (λ j o. IsSome (get h.futures j) → o ≡ None) (λ some. absurd (let gone = apart.1 in cc)) (λ j other. v.futures_apart j) f;
+  permits_of = λ f y is. by_put h.permits k x (λ j o. o ≡ Some y → IsSome (get h.semaphores y.semaphore))
+      (λ e. subst (λ (z : Permit). IsSome (get h.semaphores z.semaphore)) (inside e) of) (λ j other e. v.permits_of j y e) f is;
+  semaphores_apart = λ s. by_put h.permits k x (λ j o. IsSome (get h.semaphores j) → (get h.futures j ≡ None) × (o ≡ None))
+      (λ some. absurd (let gone = apart.0 in cc)) (λ j other. v.semaphores_apart j) s;
+  futures_apart = λ f. by_put h.permits k x (λ j o. IsSome (get h.futures j) → o ≡ None) (λ some. absurd (let gone = apart.1 in cc))
+      (λ j other. v.futures_apart j) f;
 }
 
 pub orderly_no_permit : (h : Hall) (k : ℕ) → IsOrderly h → IsOrderly (without_permit h k)
@@ -115,8 +133,10 @@ orderly_no_permit h k v = record {
   idle = v.idle;
   named = λ s some. v.named s (omega (arith, total-remove (λ f (y : Permit). cond (y.semaphore == s && y.plain) 1 0) h.permits k));
   futures_of = v.futures_of;
-  permits_of = λ f y is. by_gone h.permits k (λ j o. o ≡ Some y → IsSome (get h.semaphores y.semaphore)) (λ e. absurd (cc)) (λ j other e. v.permits_of j y e) f is;
-  semaphores_apart = λ s. by_gone h.permits k (λ j o. IsSome (get h.semaphores j) → (get h.futures j ≡ None) × (o ≡ None)) (λ some. ((v.semaphores_apart k some).0, refl)) (λ j other. v.semaphores_apart j) s;
+  permits_of = λ f y is. by_gone h.permits k (λ j o. o ≡ Some y → IsSome (get h.semaphores y.semaphore)) (λ e. absurd (cc))
+      (λ j other e. v.permits_of j y e) f is;
+  semaphores_apart = λ s. by_gone h.permits k (λ j o. IsSome (get h.semaphores j) → (get h.futures j ≡ None) × (o ≡ None))
+      (λ some. ((v.semaphores_apart k some).0, refl)) (λ j other. v.semaphores_apart j) s;
   futures_apart = λ f. by_gone h.permits k (λ j o. IsSome (get h.futures j) → o ≡ None) (λ some. refl) (λ j other. v.futures_apart j) f;
 }
 
@@ -131,22 +151,27 @@ module _ (h : Hall) (q n : ℕ) (there : IsSome (get h.semaphores q)) (v : IsOrd
       by_free (suc k) e = ap (λ p. waiting_after p n) (v.idle q (omega arith))
 
   poured_semaphore : IsOrderly (with_semaphore h q (poured (semaphore_at h q) n))
-  poured_semaphore = orderly_semaphore h q (poured (semaphore_at h q) n) (v.semaphores_apart q there) (lacking-pour (queue_at h q) n) (first-pour (queue_at h q) n (v.debts_first q)) left_over_idle
+  poured_semaphore = orderly_semaphore h q (poured (semaphore_at h q) n) (v.semaphores_apart q there) (lacking-pour (queue_at h q) n)
+      (first-pour (queue_at h q) n (v.debts_first q)) left_over_idle
       (λ some. semaphore_named h q (v.named q some)) v
 
   gives : (f : ℕ) → get (pour h q n).futures f ≡ cond (among (granted_in (queue_at h q) n) f) (option_map granted (get h.futures f)) (get h.futures f)
   gives f = get-grant_all (granted_in (queue_at h q) n) h.futures f
 
   -- a future before the pour
-  was : (f : ℕ) (y : Future) → get (pour h q n).futures f ≡ Some y → (x : Future) × (get h.futures f ≡ Some x) × (x.demand ≡ y.demand) × (x.semaphore ≡ y.semaphore) × (x.plain ≡ y.plain)
+  was : (f : ℕ) (y : Future) → get (pour h q n).futures f ≡ Some y
+      → (x : Future) × (get h.futures f ≡ Some x) × (x.demand ≡ y.demand) × (x.semaphore ≡ y.semaphore) × (x.plain ≡ y.plain)
   was f y is = granted_was (among (granted_in (queue_at h q) n) f) (get h.futures f) y (sym (gives f) ∙ is)
 
   same_plain : (s : ℕ) → plain_things (pour h q n) s ≡ plain_things h s
   same_plain s = ap (λ k. k + total (λ k (p : Permit). cond (p.semaphore == s && p.plain) 1 0) h.permits)
-      (total-alike (λ f (x : Future). cond (x.semaphore == s && x.plain) 1 0) (λ f (x : Future). cond (x.semaphore == s && x.plain) 1 0) (pour h q n).futures h.futures
-      (λ f. ap (weight (λ f (x : Future). cond (x.semaphore == s && x.plain) 1 0) f) (gives f) ∙ weighs f (among (granted_in (queue_at h q) n) f) (get h.futures f)))
+      (total-alike (λ f (x : Future). cond (x.semaphore == s && x.plain) 1 0) (λ f (x : Future). cond (x.semaphore == s && x.plain) 1 0)
+      (pour h q n).futures h.futures
+      (λ f. ap (weight (λ f (x : Future). cond (x.semaphore == s && x.plain) 1 0) f) (gives f)
+      ∙ weighs f (among (granted_in (queue_at h q) n) f) (get h.futures f)))
     where
-      weighs : (f : ℕ) (b : Bool) (o : Option Future) → weight (λ f (x : Future). cond (x.semaphore == s && x.plain) 1 0) f (cond b (option_map granted o) o) ≡ weight (λ f (x : Future). cond (x.semaphore == s && x.plain) 1 0) f o
+      weighs : (f : ℕ) (b : Bool) (o : Option Future) → weight (λ f (x : Future). cond (x.semaphore == s && x.plain) 1 0) f
+          (cond b (option_map granted o) o) ≡ weight (λ f (x : Future). cond (x.semaphore == s && x.plain) 1 0) f o
       weighs f true None = refl
       weighs f true (Some x) = refl
       weighs f false o = refl
@@ -165,6 +190,11 @@ module _ (h : Hall) (q n : ℕ) (there : IsSome (get h.semaphores q)) (v : IsOrd
         let old = was f y is in
         still_there h q y.semaphore (poured (semaphore_at h q) n) (subst (λ k. IsSome (get h.semaphores k)) old.3 (v.futures_of f old.0 old.1));
     permits_of = poured_semaphore.permits_of;
-    semaphores_apart = λ s some. (is_absent (get (pour h q n).futures s) (λ has. absurd (let gone : get h.futures s ≡ None = (poured_semaphore.semaphores_apart s some).0 in let has_old : is_some (get h.futures s) ≡ true = sym (same_names s) ∙ has in cc)), (poured_semaphore.semaphores_apart s some).1);
+    semaphores_apart = λ s some. (
+      is_absent (get (pour h q n).futures s)
+          (λ has. absurd (let gone : get h.futures s ≡ None = (poured_semaphore.semaphores_apart s some).0 in
+          let has_old : is_some (get h.futures s) ≡ true = sym (same_names s) ∙ has in cc)),
+      (poured_semaphore.semaphores_apart s some).1,
+    );
     futures_apart = λ f some. v.futures_apart f (sym (same_names f) ∙ some);
   }

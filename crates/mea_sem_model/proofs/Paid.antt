@@ -23,20 +23,46 @@ waiters q = sum_by {X = Who × ℕ} (λ e. lack_of_waiter e.0 e.1) q
 
 pub parts : (q : List (Who × ℕ)) → debts q + waiters q ≡ lacks q
 parts [] = refl
-parts ((Waiter f, n) ∷ q) = omega (arith, parts q, sum_by-cons {X = Who × ℕ} (λ e. lack_of_waiter e.0 e.1) (Waiter f, n) q, sum_by-cons {X = Who × ℕ} (λ e. debt_of e.0 e.1) (Waiter f, n) q, sum_by-cons {X = Who × ℕ} (λ e. e.1) (Waiter f, n) q)
-parts ((Debt, n) ∷ q) = omega (arith, parts q, sum_by-cons {X = Who × ℕ} (λ e. lack_of_waiter e.0 e.1) (Debt, n) q, sum_by-cons {X = Who × ℕ} (λ e. debt_of e.0 e.1) (Debt, n) q, sum_by-cons {X = Who × ℕ} (λ e. e.1) (Debt, n) q)
+parts ((Waiter f, n) ∷ q) = omega (
+  arith,
+  parts q,
+  sum_by-cons {X = Who × ℕ} (λ e. lack_of_waiter e.0 e.1) (Waiter f, n) q,
+  sum_by-cons {X = Who × ℕ} (λ e. debt_of e.0 e.1)
+      (Waiter f, n) q,
+  sum_by-cons {X = Who × ℕ} (λ e. e.1) (Waiter f, n) q,
+)
+parts ((Debt, n) ∷ q) = omega (
+  arith,
+  parts q,
+  sum_by-cons {X = Who × ℕ} (λ e. lack_of_waiter e.0 e.1) (Debt, n) q,
+  sum_by-cons {X = Who × ℕ}
+      (λ e. debt_of e.0 e.1) (Debt, n) q,
+  sum_by-cons {X = Who × ℕ} (λ e. e.1) (Debt, n) q,
+)
 
 -- the lacks in a queue, summed by names
-by_names : (m : FinMap nat_cmp Future) (q : List (Who × ℕ)) → ((f : ℕ) → 0 < count q f → (x : Future) × (get m f ≡ Some x)) → total (λ f x. lack_of q f) m ≡ waiters q
+by_names : (m : FinMap nat_cmp Future) (q : List (Who × ℕ)) → ((f : ℕ) → 0 < count q f → (x : Future) × (get m f ≡ Some x))
+    → total (λ f x. lack_of q f) m ≡ waiters q
 by_names m [] found = total-zero (λ f x. lack_of [] f) m (λ f x is. refl)
 by_names m ((Waiter g, n) ∷ q) found =
     let there = found g (omega (arith, on_true (g == g) 1 (eq-eqb g g refl), sum_by-cons {X = Who × ℕ} (λ d. cond (names d.0 g) 1 0) (Waiter g, n) q)) in
-    let rest : total (λ f (x : Future). lack_of q f) m ≡ waiters q = by_names m q (λ f some. found f (omega (arith, some, sum_by-cons {X = Who × ℕ} (λ d. cond (names d.0 f) 1 0) (Waiter g, n) q))) in
-    total-same (λ f x. lack_of ((Waiter g, n) ∷ q) f) (λ f x. cond (g == f) n 0 + lack_of q f) m (λ f x is. sum_by-cons {X = Who × ℕ} (λ d. cond (names d.0 f) d.1 0) (Waiter g, n) q)
-    ∙ omega (arith, total-plus (λ f x. cond (g == f) n 0) (λ f x. lack_of q f) m, total-point m g n there.0 there.1, rest, sum_by-cons {X = Who × ℕ} (λ e. lack_of_waiter e.0 e.1) (Waiter g, n) q)
+    let rest : total (λ f (x : Future). lack_of q f) m ≡ waiters q =
+    by_names m q (λ f some. found f (omega (arith, some, sum_by-cons {X = Who × ℕ} (λ d. cond (names d.0 f) 1 0) (Waiter g, n) q))) in
+    total-same (λ f x. lack_of ((Waiter g, n) ∷ q) f) (λ f x. cond (g == f) n 0 + lack_of q f) m
+    (λ f x is. sum_by-cons {X = Who × ℕ} (λ d. cond (names d.0 f) d.1 0) (Waiter g, n) q)
+    ∙ omega (
+      arith,
+      total-plus (λ f x. cond (g == f) n 0) (λ f x. lack_of q f) m,
+      total-point m g n there.0 there.1,
+      rest,
+      sum_by-cons {X = Who × ℕ}
+          (λ e. lack_of_waiter e.0 e.1) (Waiter g, n) q,
+    )
 by_names m ((Debt, n) ∷ q) found =
-    let rest : total (λ f (x : Future). lack_of q f) m ≡ waiters q = by_names m q (λ f some. found f (omega (arith, some, sum_by-cons {X = Who × ℕ} (λ d. cond (names d.0 f) 1 0) (Debt, n) q))) in
-    total-same (λ f x. lack_of ((Debt, n) ∷ q) f) (λ f x. lack_of q f) m (λ f x is. omega (arith, sum_by-cons {X = Who × ℕ} (λ d. cond (names d.0 f) d.1 0) (Debt, n) q))
+    let rest : total (λ f (x : Future). lack_of q f) m ≡ waiters q =
+    by_names m q (λ f some. found f (omega (arith, some, sum_by-cons {X = Who × ℕ} (λ d. cond (names d.0 f) 1 0) (Debt, n) q))) in
+    total-same (λ f x. lack_of ((Debt, n) ∷ q) f) (λ f x. lack_of q f) m
+    (λ f x is. omega (arith, sum_by-cons {X = Who × ℕ} (λ d. cond (names d.0 f) d.1 0) (Debt, n) q))
     ∙ omega (arith, rest, sum_by-cons {X = Who × ℕ} (λ e. lack_of_waiter e.0 e.1) (Debt, n) q)
 
 module _ (h : Hall) (v : IsMatched h) (s : ℕ) where
@@ -53,10 +79,12 @@ module _ (h : Hall) (v : IsMatched h) (s : ℕ) where
 
   pub paid_or_lacked : paid h s + waiters (queue_at h s) ≡ committed h.futures s
   paid_or_lacked =
-      let sums : total (λ f (x : Future). lack_of (queue_at h s) f) h.futures ≡ waiters (queue_at h s) = by_names h.futures (queue_at h s) (λ f some. some_future (get h.futures f) (omega (arith, v.once s f))) in
+      let sums : total (λ f (x : Future). lack_of (queue_at h s) f) h.futures ≡ waiters (queue_at h s) =
+      by_names h.futures (queue_at h s) (λ f some. some_future (get h.futures f) (omega (arith, v.once s f))) in
       omega (
         arith,
         sums,
         total-plus (λ f x. cond (x.semaphore == s) (paid_to (queue_at h s) f x.demand x.stage) 0) (λ f x. lack_of (queue_at h s) f) h.futures,
-        total-same (λ f x. cond (x.semaphore == s) (paid_to (queue_at h s) f x.demand x.stage) 0 + lack_of (queue_at h s) f) (taken_by s) h.futures (λ f x is. one_paid f x is (x.semaphore == s) refl x.stage refl),
+        total-same (λ f x. cond (x.semaphore == s) (paid_to (queue_at h s) f x.demand x.stage) 0 + lack_of (queue_at h s) f) (taken_by s) h.futures
+            (λ f x is. one_paid f x is (x.semaphore == s) refl x.stage refl),
       )

@@ -44,16 +44,33 @@ whole q = map {A = Who × ℕ} (λ e. e.0) (filter {X = Who × ℕ} (λ e. e.1 =
 
 count-parts : (q : List (Who × ℕ)) (f : ℕ) → count (still q) f + mentions (whole q) f ≡ count q f
 count-parts [] f = refl
-count-parts (e ∷ q) f = elim (nat_lt 0 e.1) as (λ b. nat_lt 0 e.1 ≡ b → count (cond b (e ∷ still q) (still q)) f + mentions (map {A = Who × ℕ} (λ d. d.0) (cond (e.1 == 0) (e ∷ filter {X = Who × ℕ} (λ d. d.1 == 0) q) (filter {X = Who × ℕ} (λ d. d.1 == 0) q))) f ≡ count (e ∷ q) f) [
-  | true ↦ λ h.
-      let no : (e.1 == 0) ≡ false = grind (arith, nat_tests) in
-      ap (λ b. count (e ∷ still q) f + mentions (map {A = Who × ℕ} (λ d. d.0) (cond b (e ∷ filter {X = Who × ℕ} (λ d. d.1 == 0) q) (filter {X = Who × ℕ} (λ d. d.1 == 0) q))) f) no
-      ∙ omega (arith, count-parts q f, sum_by-cons {X = Who × ℕ} (λ d. cond (names d.0 f) 1 0) e q, sum_by-cons {X = Who × ℕ} (λ d. cond (names d.0 f) 1 0) e (still q))
-  | false ↦ λ h.
-      let yes : (e.1 == 0) ≡ true = grind (arith, nat_tests) in
-      ap (λ b. count (still q) f + mentions (map {A = Who × ℕ} (λ d. d.0) (cond b (e ∷ filter {X = Who × ℕ} (λ d. d.1 == 0) q) (filter {X = Who × ℕ} (λ d. d.1 == 0) q))) f) yes
-      ∙ omega (arith, count-parts q f, sum_by-cons {X = Who × ℕ} (λ d. cond (names d.0 f) 1 0) e q, sum_by-cons {X = Who} (λ w. cond (names w f) 1 0) e.0 (whole q))
-] refl
+count-parts (e ∷ q) f = elim (nat_lt 0 e.1)
+    as (λ b. nat_lt 0 e.1 ≡ b → count (cond b (e ∷ still q) (still q)) f + mentions
+    (map {A = Who × ℕ} (λ d. d.0) (cond (e.1 == 0) (e ∷ filter {X = Who × ℕ} (λ d. d.1 == 0) q) (filter {X = Who × ℕ} (λ d. d.1 == 0) q))) f ≡ count
+    (e ∷ q) f) [
+      | true ↦ λ h.
+          let no : (e.1 == 0) ≡ false = grind (arith, nat_tests) in
+          ap (λ b. count (e ∷ still q) f + mentions
+          (map {A = Who × ℕ} (λ d. d.0) (cond b (e ∷ filter {X = Who × ℕ} (λ d. d.1 == 0) q) (filter {X = Who × ℕ} (λ d. d.1 == 0) q))) f) no
+          ∙ omega (
+            arith,
+            count-parts q f,
+            sum_by-cons {X = Who × ℕ} (λ d. cond (names d.0 f) 1 0) e q,
+            sum_by-cons {X = Who × ℕ}
+                (λ d. cond (names d.0 f) 1 0) e (still q),
+          )
+      | false ↦ λ h.
+          let yes : (e.1 == 0) ≡ true = grind (arith, nat_tests) in
+          ap (λ b. count (still q) f + mentions
+          (map {A = Who × ℕ} (λ d. d.0) (cond b (e ∷ filter {X = Who × ℕ} (λ d. d.1 == 0) q) (filter {X = Who × ℕ} (λ d. d.1 == 0) q))) f) yes
+          ∙ omega (
+            arith,
+            count-parts q f,
+            sum_by-cons {X = Who × ℕ} (λ d. cond (names d.0 f) 1 0) e q,
+            sum_by-cons {X = Who} (λ w. cond (names w f) 1 0)
+                e.0 (whole q),
+          )
+    ] refl
 
 -- who waited waits on or is granted
 pub count-pour : (q : List (Who × ℕ)) (n f : ℕ) → count (waiting_after q n) f + mentions (granted_in q n) f ≡ count q f
@@ -63,7 +80,14 @@ lack-after : (q : List (Who × ℕ)) (before n f : ℕ) → lack_of (lacks_after
 lack-after [] before n f = omega arith
 lack-after (e ∷ q) before n f =
     let head : cond (names e.0 f) (min e.1 (before + e.1 - n)) 0 ≤ cond (names e.0 f) e.1 0 = by_name (names e.0 f) in
-    omega (arith, head, lack-after q (before + e.1) n f, sum_by-cons {X = Who × ℕ} (λ d. cond (names d.0 f) d.1 0) e q, sum_by-cons {X = Who × ℕ} (λ d. cond (names d.0 f) d.1 0) (e.0, min e.1 (before + e.1 - n)) (lacks_after (before + e.1) q n))
+    omega (
+      arith,
+      head,
+      lack-after q (before + e.1) n f,
+      sum_by-cons {X = Who × ℕ} (λ d. cond (names d.0 f) d.1 0) e q,
+      sum_by-cons {X = Who × ℕ}
+          (λ d. cond (names d.0 f) d.1 0) (e.0, min e.1 (before + e.1 - n)) (lacks_after (before + e.1) q n),
+    )
   where
     by_name : (b : Bool) → cond b (min e.1 (before + e.1 - n)) 0 ≤ cond b e.1 0
     by_name true = grind (arith, nat_tests)
@@ -72,7 +96,13 @@ lack-after (e ∷ q) before n f =
 lack-filter : (p : Who × ℕ → Bool) (q : List (Who × ℕ)) (f : ℕ) → lack_of (filter {X = Who × ℕ} p q) f ≤ lack_of q f
 lack-filter p [] f = omega arith
 lack-filter p (e ∷ q) f = elim (p e) as (λ b. lack_of (cond b (e ∷ filter {X = Who × ℕ} p q) (filter {X = Who × ℕ} p q)) f ≤ lack_of (e ∷ q) f) [
-  | true ↦ omega (arith, lack-filter p q f, sum_by-cons {X = Who × ℕ} (λ d. cond (names d.0 f) d.1 0) e q, sum_by-cons {X = Who × ℕ} (λ d. cond (names d.0 f) d.1 0) e (filter {X = Who × ℕ} p q))
+  | true ↦ omega (
+    arith,
+    lack-filter p q f,
+    sum_by-cons {X = Who × ℕ} (λ d. cond (names d.0 f) d.1 0) e q,
+    sum_by-cons {X = Who × ℕ}
+        (λ d. cond (names d.0 f) d.1 0) e (filter {X = Who × ℕ} p q),
+  )
   | false ↦ omega (arith, lack-filter p q f, sum_by-cons {X = Who × ℕ} (λ d. cond (names d.0 f) d.1 0) e q)
 ]
 
@@ -84,14 +114,23 @@ lack-without q g f = lack-filter (λ e. not (names e.0 g)) q f
 
 pub lacks-without : (q : List (Who × ℕ)) (f : ℕ) → lacks (without q f) + lack_of q f ≡ lacks q
 lacks-without [] f = refl
-lacks-without (e ∷ q) f = elim (names e.0 f) as (λ b. names e.0 f ≡ b → lacks (cond (not b) (e ∷ without q f) (without q f)) + lack_of (e ∷ q) f ≡ lacks (e ∷ q)) [
-  | true ↦ λ h.
-      let here : cond (names e.0 f) e.1 0 ≡ e.1 = ap (λ b. cond b e.1 0) h in
-      omega (arith, here, lacks-without q f, sum_by-cons {X = Who × ℕ} (λ d. cond (names d.0 f) d.1 0) e q, sum_by-cons {X = Who × ℕ} (λ d. d.1) e q)
-  | false ↦ λ h.
-      let here : cond (names e.0 f) e.1 0 ≡ 0 = ap (λ b. cond b e.1 0) h in
-      omega (arith, here, lacks-without q f, sum_by-cons {X = Who × ℕ} (λ d. cond (names d.0 f) d.1 0) e q, sum_by-cons {X = Who × ℕ} (λ d. d.1) e q, sum_by-cons {X = Who × ℕ} (λ d. d.1) e (without q f))
-] refl
+lacks-without (e ∷ q) f = elim (names e.0 f)
+    as (λ b. names e.0 f ≡ b → lacks (cond (not b) (e ∷ without q f) (without q f)) + lack_of (e ∷ q) f ≡ lacks (e ∷ q)) [
+      | true ↦ λ h.
+          let here : cond (names e.0 f) e.1 0 ≡ e.1 = ap (λ b. cond b e.1 0) h in
+          omega (arith, here, lacks-without q f, sum_by-cons {X = Who × ℕ} (λ d. cond (names d.0 f) d.1 0) e q, sum_by-cons {X = Who × ℕ} (λ d. d.1) e q)
+      | false ↦ λ h.
+          let here : cond (names e.0 f) e.1 0 ≡ 0 = ap (λ b. cond b e.1 0) h in
+          omega (
+            arith,
+            here,
+            lacks-without q f,
+            sum_by-cons {X = Who × ℕ} (λ d. cond (names d.0 f) d.1 0) e q,
+            sum_by-cons {X = Who × ℕ} (λ d. d.1)
+                e q,
+            sum_by-cons {X = Who × ℕ} (λ d. d.1) e (without q f),
+          )
+    ] refl
 
 same_name : (w : Who) (g f : ℕ) → names w g ≡ true → names w f ≡ (g == f)
 same_name (Waiter h) g f e = ap (λ k. k == f) (eqb-true h g e)
@@ -103,10 +142,12 @@ count-without [] g f = nothing (g == f)
     nothing : (b : Bool) → ◌≡◌ {A = ℕ} 0 (cond b 0 0)
     nothing true = refl
     nothing false = refl
-count-without (e ∷ q) g f = elim (names e.0 g) as (λ b. names e.0 g ≡ b → count (cond (not b) (e ∷ without q g) (without q g)) f ≡ cond (g == f) 0 (count (e ∷ q) f)) [
-  | true ↦ λ h. count-without q g f ∙ at_same (g == f) (same_name e.0 g f h)
-  | false ↦ λ h. sum_by-cons {X = Who × ℕ} (λ d. cond (names d.0 f) 1 0) e (without q g) ∙ ap (λ k. cond (names e.0 f) 1 0 + k) (count-without q g f) ∙ at_other (g == f) refl h
-] refl
+count-without (e ∷ q) g f = elim (names e.0 g)
+    as (λ b. names e.0 g ≡ b → count (cond (not b) (e ∷ without q g) (without q g)) f ≡ cond (g == f) 0 (count (e ∷ q) f)) [
+      | true ↦ λ h. count-without q g f ∙ at_same (g == f) (same_name e.0 g f h)
+      | false ↦ λ h. sum_by-cons {X = Who × ℕ} (λ d. cond (names d.0 f) 1 0) e (without q g) ∙ ap (λ k. cond (names e.0 f) 1 0 + k) (count-without q g f)
+          ∙ at_other (g == f) refl h
+    ] refl
   where
     at_same : (b : Bool) → names e.0 f ≡ b → cond b 0 (count q f) ≡ cond b 0 (count (e ∷ q) f)
     at_same true n = refl
@@ -169,10 +210,11 @@ first-after ((Debt, k) ∷ q) before n first = first-after q (before + k) n firs
 
 no_debt-filter : (p : Who × ℕ → Bool) (q : List (Who × ℕ)) → HasNoDebt q → HasNoDebt (filter {X = Who × ℕ} p q)
 no_debt-filter p [] none = tt
-no_debt-filter p ((Waiter f, k) ∷ q) none = elim (p (Waiter f, k)) as (λ b. HasNoDebt (cond b ((Waiter f, k) ∷ filter {X = Who × ℕ} p q) (filter {X = Who × ℕ} p q))) [
-  | true ↦ no_debt-filter p q none
-  | false ↦ no_debt-filter p q none
-]
+no_debt-filter p ((Waiter f, k) ∷ q) none = elim (p (Waiter f, k))
+    as (λ b. HasNoDebt (cond b ((Waiter f, k) ∷ filter {X = Who × ℕ} p q) (filter {X = Who × ℕ} p q))) [
+      | true ↦ no_debt-filter p q none
+      | false ↦ no_debt-filter p q none
+    ]
 no_debt-filter p ((Debt, k) ∷ q) none = absurd none
 
 first-none : (q : List (Who × ℕ)) → HasNoDebt q → HasDebtsFirst q
@@ -182,10 +224,11 @@ first-none ((Debt, k) ∷ q) none = absurd none
 
 pub first-filter : (p : Who × ℕ → Bool) (q : List (Who × ℕ)) → HasDebtsFirst q → HasDebtsFirst (filter {X = Who × ℕ} p q)
 first-filter p [] first = tt
-first-filter p ((Waiter f, k) ∷ q) first = elim (p (Waiter f, k)) as (λ b. HasDebtsFirst (cond b ((Waiter f, k) ∷ filter {X = Who × ℕ} p q) (filter {X = Who × ℕ} p q))) [
-  | true ↦ no_debt-filter p q first
-  | false ↦ first-none (filter {X = Who × ℕ} p q) (no_debt-filter p q first)
-]
+first-filter p ((Waiter f, k) ∷ q) first = elim (p (Waiter f, k))
+    as (λ b. HasDebtsFirst (cond b ((Waiter f, k) ∷ filter {X = Who × ℕ} p q) (filter {X = Who × ℕ} p q))) [
+      | true ↦ no_debt-filter p q first
+      | false ↦ first-none (filter {X = Who × ℕ} p q) (no_debt-filter p q first)
+    ]
 first-filter p ((Debt, k) ∷ q) first = elim (p (Debt, k)) as (λ b. HasDebtsFirst (cond b ((Debt, k) ∷ filter {X = Who × ℕ} p q) (filter {X = Who × ℕ} p q))) [
   | true ↦ first-filter p q first
   | false ↦ first-filter p q first
@@ -221,10 +264,12 @@ owed-debt q n = elim (n == 0) as (λ b. (n == 0) ≡ b → debts (cond b q ((Deb
 ] refl
 
 pub count-debt : (q : List (Who × ℕ)) (n f : ℕ) → count (with_debt q n) f ≡ count q f
-count-debt q n f = elim (n == 0) as (λ b. count (cond b q ((Debt, n) ∷ q)) f ≡ count q f) [ true ↦ refl | false ↦ sum_by-cons {X = Who × ℕ} (λ d. cond (names d.0 f) 1 0) (Debt, n) q ∙ (omega arith) ]
+count-debt q n f = elim (n == 0) as (λ b. count (cond b q ((Debt, n) ∷ q)) f ≡ count q f)
+    [ true ↦ refl | false ↦ sum_by-cons {X = Who × ℕ} (λ d. cond (names d.0 f) 1 0) (Debt, n) q ∙ (omega arith) ]
 
 pub lack-debt : (q : List (Who × ℕ)) (n f : ℕ) → lack_of (with_debt q n) f ≤ lack_of q f
-lack-debt q n f = elim (n == 0) as (λ b. lack_of (cond b q ((Debt, n) ∷ q)) f ≤ lack_of q f) [ true ↦ omega arith | false ↦ omega (arith, sum_by-cons {X = Who × ℕ} (λ d. cond (names d.0 f) d.1 0) (Debt, n) q) ]
+lack-debt q n f = elim (n == 0) as (λ b. lack_of (cond b q ((Debt, n) ∷ q)) f ≤ lack_of q f)
+    [ true ↦ omega arith | false ↦ omega (arith, sum_by-cons {X = Who × ℕ} (λ d. cond (names d.0 f) d.1 0) (Debt, n) q) ]
 
 -- ---- more permits than all lack leave nobody waiting
 none_lack : (q : List (Who × ℕ)) (before n : ℕ) → before + lacks q ≤ n → still (lacks_after before q n) ≡ []
@@ -234,7 +279,8 @@ none_lack (e ∷ q) before n enough =
     let rest : (before + e.1) + lacks q ≤ n = omega arith in
     let none : min e.1 (before + e.1 - n) ≡ 0 = omega arith in
     let no : nat_lt 0 (min e.1 (before + e.1 - n)) ≡ false = ap (nat_lt 0) none in
-    ap (λ b. cond b ((e.0, min e.1 (before + e.1 - n)) ∷ still (lacks_after (before + e.1) q n)) (still (lacks_after (before + e.1) q n))) no ∙ none_lack q (before + e.1) n rest
+    ap (λ b. cond b ((e.0, min e.1 (before + e.1 - n)) ∷ still (lacks_after (before + e.1) q n)) (still (lacks_after (before + e.1) q n))) no
+    ∙ none_lack q (before + e.1) n rest
 
 pub idle-pour : (q : List (Who × ℕ)) (n : ℕ) → lacks q ≤ n → waiting_after q n ≡ []
 idle-pour q n enough = none_lack q 0 n (omega arith)

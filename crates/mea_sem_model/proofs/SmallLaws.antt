@@ -32,36 +32,58 @@ too_many : (h : Hall) → IsValid h → (s n : ℕ) → queue_at h s ≢ [] → 
 too_many h v s n waited some = lt-leb n (free h s) (omega (arith, none_free h v s waited))
 
 pub try_waits : (h : Hall) → IsValid h → (i s n : ℕ) (plain : Bool) → queue_at h s ≢ [] → 0 < n → (try_of h i s n plain).reply ≡ answers.Lacking
-try_waits h v i s n plain waited some = ap (λ b. (if b then quietly (with_permit (with_semaphore h s (taking (semaphore_at h s) n)) i (record { semaphore = s; size = n; plain = plain })) answers.Held else quietly h answers.Lacking).reply) (too_many h v s n waited some)
+try_waits h v i s n plain waited some = ap
+    (λ b. (if b then quietly (with_permit (with_semaphore h s (taking (semaphore_at h s) n)) i (record { semaphore = s; size = n; plain = plain }))
+    answers.Held else quietly h answers.Lacking).reply) (too_many h v s n waited some)
 
 pub forgetting_try_waits : (h : Hall) → IsValid h → (s n : ℕ) → queue_at h s ≢ [] → 0 < n → (try_and_forget h s n).reply ≡ answers.No
-forgetting_try_waits h v s n waited some = ap (λ b. (if b then quietly (with_semaphore h s (record (semaphore_at h s) { free = free h s - n; forgotten = (semaphore_at h s).forgotten + n })) answers.Yes else quietly h answers.No).reply) (too_many h v s n waited some)
+forgetting_try_waits h v s n waited some = ap
+    (λ b. (if b then quietly (with_semaphore h s (record (semaphore_at h s) { free = free h s - n; forgotten = (semaphore_at h s).forgotten + n }))
+    answers.Yes else quietly h answers.No).reply) (too_many h v s n waited some)
 
-pub first_poll_waits : (h : Hall) → IsValid h → (i f w : ℕ) (x : Future) → get h.futures f ≡ Some x → x.stage ≡ New → queue_at h x.semaphore ≢ [] → 0 < x.demand → (step h i (events.Poll f w)).reply ≡ answers.Pending
+pub first_poll_waits : (h : Hall) → IsValid h → (i f w : ℕ) (x : Future) → get h.futures f ≡ Some x → x.stage ≡ New → queue_at h x.semaphore ≢ []
+    → 0 < x.demand → (step h i (events.Poll f w)).reply ≡ answers.Pending
 first_poll_waits h v i f w x is unpolled waited some =
     ap (λ o. (poll_of h i f w o).reply) is
     ∙ ap (λ t. (poll_at h i f w x t).reply) unpolled
-    ∙ ap (λ b. (if b then quietly (made_ready (with_semaphore h x.semaphore (taking (semaphore_at h x.semaphore) x.demand)) i f x) answers.Ready else quietly (queueing h f w x) answers.Pending).reply) (too_many h v x.semaphore x.demand waited some)
+    ∙ ap (λ b. (if b then quietly (made_ready (with_semaphore h x.semaphore (taking (semaphore_at h x.semaphore) x.demand)) i f x) answers.Ready
+    else quietly (queueing h f w x) answers.Pending).reply) (too_many h v x.semaphore x.demand waited some)
 
 -- ---- an end
 module _ (h : Hall) (i f : ℕ) (x : Future) (is : get h.futures f ≡ Some x) where
   pub end_new : x.stage ≡ New → (step h i (events.End f)).hall ≡ without_future h f
   end_new e = ap (λ o. (end_of h f o).hall) is ∙ ap (λ t. (end_future h f x t).hall) e
 
-  pub end_waiting : (w : ℕ) → x.stage ≡ Waiting w → (step h i (events.End f)).hall ≡ pour (leaving h f x) x.semaphore (paid_to (queue_at h x.semaphore) f x.demand x.stage)
-  end_waiting w e = ap (λ o. (end_of h f o).hall) is ∙ ap (λ t. (end_future h f x t).hall) e ∙ ap (λ t. pour (leaving h f x) x.semaphore (paid_to (queue_at h x.semaphore) f x.demand t)) (sym e)
+  pub end_waiting : (w : ℕ) → x.stage ≡ Waiting w → (step h i (events.End f)).hall ≡ pour (leaving h f x) x.semaphore
+      (paid_to (queue_at h x.semaphore) f x.demand x.stage)
+  end_waiting w e = ap (λ o. (end_of h f o).hall) is ∙ ap (λ t. (end_future h f x t).hall) e
+      ∙ ap (λ t. pour (leaving h f x) x.semaphore (paid_to (queue_at h x.semaphore) f x.demand t)) (sym e)
 
-  pub end_granted : x.stage ≡ Granted → (step h i (events.End f)).hall ≡ pour (without_future h f) x.semaphore (paid_to (queue_at h x.semaphore) f x.demand x.stage)
-  end_granted e = ap (λ o. (end_of h f o).hall) is ∙ ap (λ t. (end_future h f x t).hall) e ∙ ap (λ t. pour (without_future h f) x.semaphore (paid_to (queue_at h x.semaphore) f x.demand t)) (sym e)
+  pub end_granted : x.stage ≡ Granted → (step h i (events.End f)).hall ≡ pour (without_future h f) x.semaphore
+      (paid_to (queue_at h x.semaphore) f x.demand x.stage)
+  end_granted e = ap (λ o. (end_of h f o).hall) is ∙ ap (λ t. (end_future h f x t).hall) e
+      ∙ ap (λ t. pour (without_future h f) x.semaphore (paid_to (queue_at h x.semaphore) f x.demand t)) (sym e)
 
 -- no debt leaves the queue with a future
 debts-without : (q : List (Who × ℕ)) (f : ℕ) → debts (without q f) ≡ debts q
 debts-without [] f = refl
 debts-without ((Waiter g, n) ∷ q) f = elim (not (g == f)) as (λ b. debts (cond b ((Waiter g, n) ∷ without q f) (without q f)) ≡ debts ((Waiter g, n) ∷ q)) [
-  | true ↦ omega (arith, debts-without q f, sum_by-cons {X = Who × ℕ} (λ e. debt_of e.0 e.1) (Waiter g, n) q, sum_by-cons {X = Who × ℕ} (λ e. debt_of e.0 e.1) (Waiter g, n) (without q f))
+  | true ↦ omega (
+    arith,
+    debts-without q f,
+    sum_by-cons {X = Who × ℕ} (λ e. debt_of e.0 e.1) (Waiter g, n) q,
+    sum_by-cons {X = Who × ℕ}
+        (λ e. debt_of e.0 e.1) (Waiter g, n) (without q f),
+  )
   | false ↦ omega (arith, debts-without q f, sum_by-cons {X = Who × ℕ} (λ e. debt_of e.0 e.1) (Waiter g, n) q)
 ]
-debts-without ((Debt, n) ∷ q) f = omega (arith, debts-without q f, sum_by-cons {X = Who × ℕ} (λ e. debt_of e.0 e.1) (Debt, n) q, sum_by-cons {X = Who × ℕ} (λ e. debt_of e.0 e.1) (Debt, n) (without q f))
+debts-without ((Debt, n) ∷ q) f = omega (
+  arith,
+  debts-without q f,
+  sum_by-cons {X = Who × ℕ} (λ e. debt_of e.0 e.1) (Debt, n) q,
+  sum_by-cons {X = Who × ℕ} (λ e. debt_of e.0 e.1)
+      (Debt, n) (without q f),
+)
 
 -- who leaves the queue takes its paid part along, and nothing else
 module _ (h : Hall) (v : IsValid h) (f w : ℕ) (x : Future) (is : get h.futures f ≡ Some x) (waits : x.stage ≡ Waiting w) where
@@ -73,7 +95,8 @@ module _ (h : Hall) (v : IsValid h) (f w : ℕ) (x : Future) (is : get h.futures
       let put : semaphore_at g s ≡ r = semaphore_put h s s r ∙ ap (λ b. cond b r (semaphore_at h s)) (eq-eqb s s refl) in
       let frees : free g s ≡ free h s = ap (λ (y : Semaphore). y.free) put in
       let owes : owed g s ≡ owed h s = ap (λ (y : Semaphore). debts y.queue) put ∙ debts-without (queue_at h s) f in
-      let weighs : weight (taken_by s) f (get h.futures f) ≡ x.demand = ap (weight (taken_by s) f) is ∙ ap (λ t. cond (s == s) (taken x.demand t) 0) waits ∙ on_true (s == s) x.demand (eq-eqb s s refl) in
+      let weighs : weight (taken_by s) f (get h.futures f) ≡ x.demand =
+      ap (weight (taken_by s) f) is ∙ ap (λ t. cond (s == s) (taken x.demand t) 0) waits ∙ on_true (s == s) x.demand (eq-eqb s s refl) in
       let paid_part : paid_to (queue_at h s) f x.demand x.stage ≡ x.demand - lack_of (queue_at h s) f = ap (paid_to (queue_at h s) f x.demand) waits in
       omega (
         arith,
@@ -97,7 +120,8 @@ module _ (h : Hall) (v : IsValid h) (f w : ℕ) (x : Future) (is : get h.futures
       never false = refl
 
 -- an end makes no permit and loses none but to debts
-pub end_conserves : (h : Hall) (i k : ℕ) → IsValid h → IsBelow h i → cause_of h (events.End k) ≡ None → (s : ℕ) → live (step h i (events.End k)).hall s + owed h s ≡ live h s + owed (step h i (events.End k)).hall s
+pub end_conserves : (h : Hall) (i k : ℕ) → IsValid h → IsBelow h i → cause_of h (events.End k) ≡ None → (s : ℕ)
+    → live (step h i (events.End k)).hall s + owed h s ≡ live h s + owed (step h i (events.End k)).hall s
 end_conserves h i k v low cause s =
     let c = steps h i (matched h v) (orderly h v) low (events.End k) cause in
     let g : Hall = (step h i (events.End k)).hall in

@@ -21,7 +21,8 @@ use Rattle.mea_sem_model.proofs.Paid.{parts, paid_or_lacked}
 
 -- ---- the bound on the permits
 -- no more permits live than before, with those that the event made and released
-rises : (h : Hall) (i : ℕ) (e : SemEvent) → IsMatched h → IsOrderly h → IsBelow h i → cause_of h e ≡ None → (s : ℕ) → live (step h i e).hall s ≤ live h s + (made_by s (line h i e) e + released_by s e)
+rises : (h : Hall) (i : ℕ) (e : SemEvent) → IsMatched h → IsOrderly h → IsBelow h i → cause_of h e ≡ None → (s : ℕ)
+    → live (step h i e).hall s ≤ live h s + (made_by s (line h i e) e + released_by s e)
 rises h i e m v low cause s =
     let c = steps h i m v low e cause in
     let g : Hall = (step h i e).hall in
@@ -35,8 +36,10 @@ none_live h i v low =
     omega (
       arith,
       frees,
-      total-zero (λ k (p : Permit). cond (p.semaphore == i) p.size 0) h.permits (λ k p is. on_false (p.semaphore == i) p.size (other p.semaphore (v.permits_of k p is))),
-      total-zero (λ f (x : Future). cond (x.semaphore == i) (paid_to (queue_at h i) f x.demand x.stage) 0) h.futures (λ f x is. on_false (x.semaphore == i) (paid_to (queue_at h i) f x.demand x.stage) (other x.semaphore (v.futures_of f x is))),
+      total-zero (λ k (p : Permit). cond (p.semaphore == i) p.size 0) h.permits
+          (λ k p is. on_false (p.semaphore == i) p.size (other p.semaphore (v.permits_of k p is))),
+      total-zero (λ f (x : Future). cond (x.semaphore == i) (paid_to (queue_at h i) f x.demand x.stage) 0) h.futures
+          (λ f x is. on_false (x.semaphore == i) (paid_to (queue_at h i) f x.demand x.stage) (other x.semaphore (v.futures_of f x is))),
     )
   where
     other : (q : ℕ) → IsSome (get h.semaphores q) → (q == i) ≡ false
@@ -50,7 +53,8 @@ may_come h q n s small old = by_test (q == s) refl
     by_test true e = subst (λ k. live h k + n < 2 ^ 64) (eqb-true q s e) small
     by_test false e = omega arith
 
-fits_on : (h : Hall) (i : ℕ) (e : SemEvent) → IsValid h → IsBelow h i → Fits e → cause_of h e ≡ None → (s : ℕ) → live h s + (made_by s (line h i e) e + released_by s e) < 2 ^ 64
+fits_on : (h : Hall) (i : ℕ) (e : SemEvent) → IsValid h → IsBelow h i → Fits e → cause_of h e ≡ None → (s : ℕ)
+    → live h s + (made_by s (line h i e) e + released_by s e) < 2 ^ 64
 fits_on h i (events.New n) v low fits cause s = omega (arith, may_come h i n s (omega (arith, none_live h i (orderly h v) low)) (v.fits s))
 fits_on h i (events.Release q n) v low fits cause s = omega (arith, may_come h q n s (ltb-true _ _ (release_known _ _ cause).1) (v.fits s))
 fits_on h i e v low fits cause s = omega (arith, v.fits s)

@@ -44,10 +44,13 @@ quiet_first x y z a b c p q = record {
 
 -- the same tallies, counted otherwise
 recount : (y z : Semaphore) (a b c d e f : ℕ) → a ≡ d → b ≡ e → c ≡ f → Tallied y z a b c → Tallied y z d e f
-recount y z a b c d e f i j k t = record { made = omega (arith, t.made); released = omega (arith, t.released); forgotten = omega (arith, t.forgotten); owes = omega (arith, t.owes) }
+recount y z a b c d e f i j k t =
+    record { made = omega (arith, t.made); released = omega (arith, t.released); forgotten = omega (arith, t.forgotten); owes = omega (arith, t.owes) }
 
-put : (h : Hall) (q a b c : ℕ) (r : Semaphore) → Tallied (semaphore_at h q) r a b c → (s : ℕ) → Tallied (semaphore_at h s) (semaphore_at (with_semaphore h q r) s) (if_same q s a) (if_same q s b) (if_same q s c)
-put h q a b c r t s = subst (λ y. Tallied (semaphore_at h s) y (if_same q s a) (if_same q s b) (if_same q s c)) (sym (semaphore_put h q s r)) (at_test (q == s) refl)
+put : (h : Hall) (q a b c : ℕ) (r : Semaphore) → Tallied (semaphore_at h q) r a b c → (s : ℕ)
+    → Tallied (semaphore_at h s) (semaphore_at (with_semaphore h q r) s) (if_same q s a) (if_same q s b) (if_same q s c)
+put h q a b c r t s = subst (λ y. Tallied (semaphore_at h s) y (if_same q s a) (if_same q s b) (if_same q s c)) (sym (semaphore_put h q s r))
+    (at_test (q == s) refl)
   where
     at_test : (t : Bool) → (q == s) ≡ t → Tallied (semaphore_at h s) (cond t r (semaphore_at h s)) (cond t a 0) (cond t b 0) (cond t c 0)
     at_test true e = subst (λ k. Tallied (semaphore_at h k) r a b c) (eqb-true q s e) t
@@ -58,24 +61,29 @@ never true = refl
 never false = refl
 
 -- a semaphore is put whose tallies are as they were
-put_same : (h : Hall) (q : ℕ) (r : Semaphore) → Tallied (semaphore_at h q) r 0 0 0 → (s : ℕ) → Tallied (semaphore_at h s) (semaphore_at (with_semaphore h q r) s) 0 0 0
+put_same : (h : Hall) (q : ℕ) (r : Semaphore) → Tallied (semaphore_at h q) r 0 0 0 → (s : ℕ)
+    → Tallied (semaphore_at h s) (semaphore_at (with_semaphore h q r) s) 0 0 0
 put_same h q r t s = recount _ _ _ _ _ _ _ _ (never (q == s)) (never (q == s)) (never (q == s)) (put h q 0 0 0 r t s)
 
-put_forgotten : (h : Hall) (q c : ℕ) (r : Semaphore) → Tallied (semaphore_at h q) r 0 0 c → (s : ℕ) → Tallied (semaphore_at h s) (semaphore_at (with_semaphore h q r) s) 0 0 (if_same q s c)
+put_forgotten : (h : Hall) (q c : ℕ) (r : Semaphore) → Tallied (semaphore_at h q) r 0 0 c → (s : ℕ)
+    → Tallied (semaphore_at h s) (semaphore_at (with_semaphore h q r) s) 0 0 (if_same q s c)
 put_forgotten h q c r t s = recount _ _ _ _ _ _ _ _ (never (q == s)) (never (q == s)) refl (put h q 0 0 c r t s)
 
 pours : (h : Hall) (q n s : ℕ) → Tallied (semaphore_at h s) (semaphore_at (pour h q n) s) 0 0 0
-pours h q n s = put_same h q (poured (semaphore_at h q) n) (record { made = omega arith; released = omega arith; forgotten = omega arith; owes = omega (arith, poured-owed (queue_at h q) n) }) s
+pours h q n s = put_same h q (poured (semaphore_at h q) n)
+    (record { made = omega arith; released = omega arith; forgotten = omega arith; owes = omega (arith, poured-owed (queue_at h q) n) }) s
 
 takes : (h : Hall) (q n s : ℕ) → Tallied (semaphore_at h s) (semaphore_at (with_semaphore h q (taking (semaphore_at h q) n)) s) 0 0 0
-takes h q n s = put_same h q (taking (semaphore_at h q) n) (record { made = omega arith; released = omega arith; forgotten = omega arith; owes = omega arith }) s
+takes h q n s = put_same h q (taking (semaphore_at h q) n)
+    (record { made = omega arith; released = omega arith; forgotten = omega arith; owes = omega arith }) s
 
 -- n more are told to be forgotten
 abbrev forgetful : Semaphore → ℕ → ℕ → Semaphore
 forgetful r k n = record r { free = k; forgotten = r.forgotten + n }
 
 forgets : (h : Hall) (q k n s : ℕ) → Tallied (semaphore_at h s) (semaphore_at (with_semaphore h q (forgetful (semaphore_at h q) k n)) s) 0 0 (if_same q s n)
-forgets h q k n s = put_forgotten h q n (forgetful (semaphore_at h q) k n) (record { made = omega arith; released = omega arith; forgotten = refl; owes = omega arith }) s
+forgets h q k n s = put_forgotten h q n (forgetful (semaphore_at h q) k n)
+    (record { made = omega arith; released = omega arith; forgotten = refl; owes = omega arith }) s
 
 module _ (h : Hall) (i s : ℕ) where
   ends_permit : (k : ℕ) (o : Option Permit) → Tallied (semaphore_at h s) (semaphore_at (end_permit h k o).hall s) 0 0 0
@@ -84,7 +92,12 @@ module _ (h : Hall) (i s : ℕ) where
 
   leaves : (f : ℕ) (x : Future) → Tallied (semaphore_at h s) (semaphore_at (leaving h f x) s) 0 0 0
   leaves f x = put_same h x.semaphore (record (semaphore_at h x.semaphore) { queue = without (queue_at h x.semaphore) f })
-      (record { made = omega arith; released = omega arith; forgotten = omega arith; owes = omega (arith, filtered-owed (λ e. not (names e.0 f)) (queue_at h x.semaphore)) }) s
+      (record {
+        made = omega arith;
+        released = omega arith;
+        forgotten = omega arith;
+        owes = omega (arith, filtered-owed (λ e. not (names e.0 f)) (queue_at h x.semaphore));
+      }) s
 
   ends_future : (f : ℕ) (x : Future) (t : Stage) → Tallied (semaphore_at h s) (semaphore_at (end_future h f x t).hall s) 0 0 0
   ends_future f x New = same (semaphore_at h s)
@@ -95,7 +108,8 @@ module _ (h : Hall) (i s : ℕ) where
   ends k None = ends_permit k (get h.permits k)
   ends k (Some x) = ends_future k x x.stage
 
-  loses : (p : ℕ) (o : Option Permit) → Tallied (semaphore_at h s) (semaphore_at (lose_of h p o).hall s) 0 0 (if_permit_of s o (number_forgot (lose_of h p o).reply))
+  loses : (p : ℕ) (o : Option Permit) → Tallied (semaphore_at h s) (semaphore_at (lose_of h p o).hall s) 0 0
+      (if_permit_of s o (number_forgot (lose_of h p o).reply))
   loses p None = same (semaphore_at h s)
   loses p (Some x) = forgets (without_permit h p) x.semaphore (free h x.semaphore) x.size s
 
@@ -106,22 +120,35 @@ module _ (h : Hall) (i s : ℕ) where
 
   splits : (p n : ℕ) (o : Option Permit) → Tallied (semaphore_at h s) (semaphore_at (split_of h i p n o).hall s) 0 0 0
   splits p n None = same (semaphore_at h s)
-  splits p n (Some x) = elim (nat_le n x.size) as (λ b. Tallied (semaphore_at h s) (semaphore_at (if b then quietly (with_permit (with_permit h p (record x { size = x.size - n })) i (record x { size = n })) answers.Held else quietly h answers.Lacking).hall s) 0 0 0) [
-    | true ↦ same (semaphore_at h s)
-    | false ↦ same (semaphore_at h s)
-  ]
+  splits p n (Some x) = elim (nat_le n x.size)
+      as (λ b. Tallied (semaphore_at h s)
+      (semaphore_at (if b then quietly (with_permit (with_permit h p (record x { size = x.size - n })) i (record x { size = n })) answers.Held
+      else quietly h answers.Lacking).hall s) 0 0 0) [
+        | true ↦ same (semaphore_at h s)
+        | false ↦ same (semaphore_at h s)
+      ]
 
   tries : (q n : ℕ) (plain : Bool) → Tallied (semaphore_at h s) (semaphore_at (try_of h i q n plain).hall s) 0 0 0
-  tries q n plain = elim (nat_le n (free h q)) as (λ b. Tallied (semaphore_at h s) (semaphore_at (if b then quietly (with_permit (with_semaphore h q (taking (semaphore_at h q) n)) i (record { semaphore = q; size = n; plain = plain })) answers.Held else quietly h answers.Lacking).hall s) 0 0 0) [
-    | true ↦ takes h q n s
-    | false ↦ same (semaphore_at h s)
-  ]
+  tries q n plain = elim (nat_le n (free h q))
+      as (λ b. Tallied (semaphore_at h s)
+      (semaphore_at (if b then quietly
+      (with_permit (with_semaphore h q (taking (semaphore_at h q) n)) i (record { semaphore = q; size = n; plain = plain })) answers.Held
+      else quietly h answers.Lacking).hall s) 0 0 0) [
+        | true ↦ takes h q n s
+        | false ↦ same (semaphore_at h s)
+      ]
 
-  tries_and_forgets : (q n : ℕ) → Tallied (semaphore_at h s) (semaphore_at (try_and_forget h q n).hall s) 0 0 (if_same q s (if_yes n (try_and_forget h q n).reply))
-  tries_and_forgets q n = elim (nat_le n (free h q)) as (λ b. Tallied (semaphore_at h s) (semaphore_at (if b then quietly (with_semaphore h q (forgetful (semaphore_at h q) (free h q - n) n)) answers.Yes else quietly h answers.No).hall s) 0 0 (if_same q s (if_yes n (if b then quietly (with_semaphore h q (forgetful (semaphore_at h q) (free h q - n) n)) answers.Yes else quietly h answers.No).reply))) [
-    | true ↦ forgets h q (free h q - n) n s
-    | false ↦ recount _ _ _ _ _ _ _ _ refl refl (sym (never (q == s))) (same (semaphore_at h s))
-  ]
+  tries_and_forgets : (q n : ℕ) → Tallied (semaphore_at h s) (semaphore_at (try_and_forget h q n).hall s) 0 0
+      (if_same q s (if_yes n (try_and_forget h q n).reply))
+  tries_and_forgets q n = elim (nat_le n (free h q))
+      as (λ b. Tallied (semaphore_at h s)
+      (semaphore_at (if b then quietly (with_semaphore h q (forgetful (semaphore_at h q) (free h q - n) n)) answers.Yes
+      else quietly h answers.No).hall s) 0 0
+      (if_same q s (if_yes n (if b then quietly (with_semaphore h q (forgetful (semaphore_at h q) (free h q - n) n)) answers.Yes
+      else quietly h answers.No).reply))) [
+        | true ↦ forgets h q (free h q - n) n s
+        | false ↦ recount _ _ _ _ _ _ _ _ refl refl (sym (never (q == s))) (same (semaphore_at h s))
+      ]
 
 -- a future becomes ready
 readies : (g : Hall) (i f s : ℕ) (x : Future) → Tallied (semaphore_at g s) (semaphore_at (made_ready g i f x) s) 0 0 (forgetting_demand s (Some x))
@@ -135,43 +162,67 @@ readies g i f s x = by_form x.forgets
     with_false true n = refl
     with_false false n = refl
 
-    by_form : (t : Bool) → Tallied (semaphore_at g s) (semaphore_at (if t then with_semaphore (without_future g f) x.semaphore (record (semaphore_at g x.semaphore) { forgotten = (semaphore_at g x.semaphore).forgotten + x.demand }) else with_permit (without_future g f) i (record { semaphore = x.semaphore; size = x.demand; plain = x.plain })) s) 0 0 (cond (x.semaphore == s && t) x.demand 0)
-    by_form true = recount _ _ _ _ _ _ _ _ refl refl (with_true (x.semaphore == s) x.demand) (forgets (without_future g f) x.semaphore (free g x.semaphore) x.demand s)
+    by_form : (t : Bool) → Tallied (semaphore_at g s)
+        (semaphore_at (if t then with_semaphore (without_future g f) x.semaphore
+        (record (semaphore_at g x.semaphore) { forgotten = (semaphore_at g x.semaphore).forgotten + x.demand })
+        else with_permit (without_future g f) i (record { semaphore = x.semaphore; size = x.demand; plain = x.plain })) s) 0 0
+        (cond (x.semaphore == s && t) x.demand 0)
+    by_form true = recount _ _ _ _ _ _ _ _ refl refl (with_true (x.semaphore == s) x.demand)
+        (forgets (without_future g f) x.semaphore (free g x.semaphore) x.demand s)
     by_form false = recount _ _ _ _ _ _ _ _ refl refl (with_false (x.semaphore == s) x.demand) (same (semaphore_at g s))
 
 -- a future goes to the tail
 queues : (h : Hall) (f w s : ℕ) (x : Future) → Tallied (semaphore_at h s) (semaphore_at (queueing h f w x) s) 0 0 0
-queues h f w s x = put_same h x.semaphore (record (semaphore_at h x.semaphore) { free = 0; queue = queue_at h x.semaphore ++ (Waiter f, x.demand - free h x.semaphore) ∷ [] })
-    (record { made = omega arith; released = omega arith; forgotten = omega arith; owes = omega (arith, sum_by-append {X = Who × ℕ} (λ e. debt_of e.0 e.1) (queue_at h x.semaphore) ((Waiter f, x.demand - free h x.semaphore) ∷ [])) }) s
+queues h f w s x = put_same h x.semaphore
+    (record (semaphore_at h x.semaphore) { free = 0; queue = queue_at h x.semaphore ++ (Waiter f, x.demand - free h x.semaphore) ∷ [] })
+    (record {
+      made = omega arith;
+      released = omega arith;
+      forgotten = omega arith;
+      owes = omega (arith, sum_by-append {X = Who × ℕ} (λ e. debt_of e.0 e.1) (queue_at h x.semaphore) ((Waiter f, x.demand - free h x.semaphore) ∷ []));
+    }) s
 
 module _ (h : Hall) (i s : ℕ) where
-  polls_at : (f w : ℕ) (x : Future) (t : Stage) → Tallied (semaphore_at h s) (semaphore_at (poll_at h i f w x t).hall s) 0 0 (if_ready (forgetting_demand s (Some x)) (poll_at h i f w x t).reply)
-  polls_at f w x New = elim (nat_le x.demand (free h x.semaphore)) as (λ b. Tallied (semaphore_at h s) (semaphore_at (if b then quietly (made_ready (with_semaphore h x.semaphore (taking (semaphore_at h x.semaphore) x.demand)) i f x) answers.Ready else quietly (queueing h f w x) answers.Pending).hall s) 0 0
-      (if_ready (forgetting_demand s (Some x)) (if b then quietly (made_ready (with_semaphore h x.semaphore (taking (semaphore_at h x.semaphore) x.demand)) i f x) answers.Ready else quietly (queueing h f w x) answers.Pending).reply)) [
-        | true ↦ quiet_first _ _ _ _ _ _ (takes h x.semaphore x.demand s) (readies (with_semaphore h x.semaphore (taking (semaphore_at h x.semaphore) x.demand)) i f s x)
+  polls_at : (f w : ℕ) (x : Future) (t : Stage) → Tallied (semaphore_at h s) (semaphore_at (poll_at h i f w x t).hall s) 0 0
+      (if_ready (forgetting_demand s (Some x)) (poll_at h i f w x t).reply)
+  polls_at f w x New = elim (nat_le x.demand (free h x.semaphore))
+      as (λ b. Tallied (semaphore_at h s)
+      (semaphore_at (if b then quietly (made_ready (with_semaphore h x.semaphore (taking (semaphore_at h x.semaphore) x.demand)) i f x) answers.Ready
+      else quietly (queueing h f w x) answers.Pending).hall s) 0 0
+      (if_ready (forgetting_demand s (Some x))
+      (if b then quietly (made_ready (with_semaphore h x.semaphore (taking (semaphore_at h x.semaphore) x.demand)) i f x) answers.Ready
+      else quietly (queueing h f w x) answers.Pending).reply)) [
+        | true ↦ quiet_first _ _ _ _ _ _ (takes h x.semaphore x.demand s)
+            (readies (with_semaphore h x.semaphore (taking (semaphore_at h x.semaphore) x.demand)) i f s x)
         | false ↦ queues h f w s x
       ]
   polls_at f w x (Waiting u) = same (semaphore_at h s)
   polls_at f w x Granted = readies h i f s x
 
-  polls : (f w : ℕ) (o : Option Future) → Tallied (semaphore_at h s) (semaphore_at (poll_of h i f w o).hall s) 0 0 (if_ready (forgetting_demand s o) (poll_of h i f w o).reply)
+  polls : (f w : ℕ) (o : Option Future) → Tallied (semaphore_at h s) (semaphore_at (poll_of h i f w o).hall s) 0 0
+      (if_ready (forgetting_demand s o) (poll_of h i f w o).reply)
   polls f w None = same (semaphore_at h s)
   polls f w (Some x) = polls_at f w x x.stage
 
   news : IsBelow h i → (n : ℕ) → Tallied (semaphore_at h s) (semaphore_at (with_semaphore h i (made_with n)) s) (if_same i s n) 0 0
   news low n =
       let none : semaphore_at h i ≡ made_with 0 = ap (λ o. unwrap_or o (made_with 0)) (no_semaphore_yet h i low) in
-      recount _ _ _ _ _ _ _ _ refl (never (i == s)) (never (i == s)) (put h i n 0 0 (made_with n) (subst (λ y. Tallied y (made_with n) n 0 0) (sym none) (record { made = omega arith; released = refl; forgotten = refl; owes = omega arith })) s)
+      recount _ _ _ _ _ _ _ _ refl (never (i == s)) (never (i == s))
+      (put h i n 0 0 (made_with n)
+      (subst (λ y. Tallied y (made_with n) n 0 0) (sym none) (record { made = omega arith; released = refl; forgotten = refl; owes = omega arith })) s)
 
   releases : (q n : ℕ) → Tallied (semaphore_at h s) (semaphore_at (pour (released_to h q n) q n) s) 0 (if_same q s n) 0
   releases q n = recount _ _ _ _ _ _ _ _ (omega (arith, never (q == s))) (omega arith) (omega (arith, never (q == s)))
-      (both _ _ _ _ _ _ _ _ _ (put h q 0 n 0 (record (semaphore_at h q) { released = (semaphore_at h q).released + n }) (record { made = omega arith; released = refl; forgotten = omega arith; owes = omega arith }) s) (pours (released_to h q n) q n s))
+      (both _ _ _ _ _ _ _ _ _ (put h q 0 n 0 (record (semaphore_at h q) { released = (semaphore_at h q).released + n })
+      (record { made = omega arith; released = refl; forgotten = omega arith; owes = omega arith }) s) (pours (released_to h q n) q n s))
 
-  pub tallies : IsBelow h i → (e : SemEvent) → Tallied (semaphore_at h s) (semaphore_at (step h i e).hall s) (made_by s (line h i e) e) (released_by s e) (forgotten_by s (line h i e) e)
+  pub tallies : IsBelow h i → (e : SemEvent) → Tallied (semaphore_at h s) (semaphore_at (step h i e).hall s) (made_by s (line h i e) e)
+      (released_by s e) (forgotten_by s (line h i e) e)
   tallies low (events.New n) = news low n
   tallies low (events.Free q) = same (semaphore_at h s)
   tallies low (events.Forget q n) = forgets h q (free h q - min n (free h q)) (min n (free h q)) s
-  tallies low (events.Forgetx q n) = put_forgotten h q n (forgetting_exactly (semaphore_at h q) n) (record { made = omega arith; released = omega arith; forgotten = refl; owes = omega (arith, owed-debt (queue_at h q) (n - min n (free h q))) }) s
+  tallies low (events.Forgetx q n) = put_forgotten h q n (forgetting_exactly (semaphore_at h q) n)
+      (record { made = omega arith; released = omega arith; forgotten = refl; owes = omega (arith, owed-debt (queue_at h q) (n - min n (free h q))) }) s
   tallies low (events.Release q n) = releases q n
   tallies low (events.Try q n) = tries h i s q n true
   tallies low (events.Tryo q n) = tries h i s q n false
@@ -187,5 +238,6 @@ module _ (h : Hall) (i s : ℕ) where
   tallies low (events.Merge p q) = merges h i s p q (get h.permits p) (get h.permits q)
   tallies low (events.Split p n) = splits h i s p n (get h.permits p)
   tallies low (events.Size p) = same (semaphore_at h s)
-  tallies low (events.Endsem q) = put_same h q (record (semaphore_at h q) { named = false }) (record { made = omega arith; released = omega arith; forgotten = omega arith; owes = omega arith }) s
+  tallies low (events.Endsem q) = put_same h q (record (semaphore_at h q) { named = false })
+      (record { made = omega arith; released = omega arith; forgotten = omega arith; owes = omega arith }) s
   tallies low (events.Ledger q) = same (semaphore_at h s)

@@ -51,12 +51,15 @@ either k = grind (arith, nat_tests)
 
 waiters-parts : (q : List (Who × ℕ)) → waiters_in (still q) + waiters_in (full q) ≡ waiters_in q
 waiters-parts [] = refl
-waiters-parts ((Waiter f, k) ∷ q) = ap (λ b. waiters_in (cond b ((Waiter f, k) ∷ still q) (still q)) + waiters_in (cond (k == 0) ((Waiter f, k) ∷ full q) (full q))) (either k)
-    ∙ elim (k == 0) as (λ b. waiters_in (cond (not b) ((Waiter f, k) ∷ still q) (still q)) + waiters_in (cond b ((Waiter f, k) ∷ full q) (full q)) ≡ waiters_in q + 1) [
+waiters-parts ((Waiter f, k) ∷ q) = ap
+    (λ b. waiters_in (cond b ((Waiter f, k) ∷ still q) (still q)) + waiters_in (cond (k == 0) ((Waiter f, k) ∷ full q) (full q))) (either k)
+    ∙ elim (k == 0) as (λ b. waiters_in (cond (not b) ((Waiter f, k) ∷ still q) (still q)) + waiters_in
+    (cond b ((Waiter f, k) ∷ full q) (full q)) ≡ waiters_in q + 1) [
       | true ↦ omega (arith, waiters-parts q)
       | false ↦ omega (arith, waiters-parts q)
     ]
-waiters-parts ((Debt, k) ∷ q) = ap (λ b. waiters_in (cond b ((Debt, k) ∷ still q) (still q)) + waiters_in (cond (k == 0) ((Debt, k) ∷ full q) (full q))) (either k)
+waiters-parts ((Debt, k) ∷ q) = ap
+    (λ b. waiters_in (cond b ((Debt, k) ∷ still q) (still q)) + waiters_in (cond (k == 0) ((Debt, k) ∷ full q) (full q))) (either k)
     ∙ elim (k == 0) as (λ b. waiters_in (cond (not b) ((Debt, k) ∷ still q) (still q)) + waiters_in (cond b ((Debt, k) ∷ full q) (full q)) ≡ waiters_in q) [
       | true ↦ waiters-parts q
       | false ↦ waiters-parts q
@@ -79,7 +82,8 @@ waiters-without : (q : List (Who × ℕ)) (f : ℕ) → waiters_in (without q f)
 waiters-without [] f = refl
 waiters-without ((Waiter g, k) ∷ q) f =
     let counts = sum_by-cons {X = Who × ℕ} (λ e. cond (names e.0 f) 1 0) (Waiter g, k) q in
-    elim (g == f) as (λ b. (g == f) ≡ b → waiters_in (cond (not b) ((Waiter g, k) ∷ without q f) (without q f)) + count ((Waiter g, k) ∷ q) f ≡ waiters_in q + 1) [
+    elim (g == f) as (λ b. (g == f) ≡ b → waiters_in (cond (not b) ((Waiter g, k) ∷ without q f) (without q f)) + count ((Waiter g, k) ∷ q)
+    f ≡ waiters_in q + 1) [
       | true ↦ λ e. let one = on_true (g == f) 1 e in omega (arith, counts, one, waiters-without q f)
       | false ↦ λ e. let none = on_false (g == f) 1 e in omega (arith, counts, none, waiters-without q f)
     ] refl
@@ -137,7 +141,8 @@ pours : (h g : Hall) (s n : ℕ) (b : Bool) → waiters g ≤ waiters h → Sett
 pours h g s n b few = settled h (pouring g s n) b (omega (arith, few, wakes-granted g s n, waiters-poured g s n))
 
 -- a test between two that wake nobody
-quiet_if : (h : Hall) (c : Bool) (k l : Hall) (x y : Answer) (b : Bool) → waiters k ≤ waiters h → waiters l ≤ waiters h → Settles h (if c then quietly k x else quietly l y) b
+quiet_if : (h : Hall) (c : Bool) (k l : Hall) (x y : Answer) (b : Bool) → waiters k ≤ waiters h → waiters l ≤ waiters h
+    → Settles h (if c then quietly k x else quietly l y) b
 quiet_if h true k l x y b few _ = quiet h k x b few
 quiet_if h false k l x y b _ few = quiet h l y b few
 
@@ -146,20 +151,31 @@ put_few : (h : Hall) (s : ℕ) (r : Semaphore) → waiters_in r.queue ≤ waiter
 put_few h s r fewer = omega (arith, fewer, waiters-put h s r)
 
 ready_few : (h : Hall) (i f : ℕ) (x : Future) → waiters (made_ready h i f x) ≤ waiters h
-ready_few h i f x = elim x.forgets as (λ b. waiters (if b then with_semaphore (without_future h f) x.semaphore (record (semaphore_at h x.semaphore) { forgotten = (semaphore_at h x.semaphore).forgotten + x.demand }) else with_permit (without_future h f) i (record { semaphore = x.semaphore; size = x.demand; plain = x.plain })) ≤ waiters h) [
-  | true ↦ put_few (without_future h f) x.semaphore (record (semaphore_at h x.semaphore) { forgotten = (semaphore_at h x.semaphore).forgotten + x.demand }) (omega arith)
-  | false ↦ omega arith
-]
+ready_few h i f x = elim x.forgets as (λ b. waiters
+    (if b then with_semaphore (without_future h f) x.semaphore
+    (record (semaphore_at h x.semaphore) { forgotten = (semaphore_at h x.semaphore).forgotten + x.demand })
+    else with_permit (without_future h f) i (record { semaphore = x.semaphore; size = x.demand; plain = x.plain })) ≤ waiters h) [
+      | true ↦ put_few (without_future h f) x.semaphore
+          (record (semaphore_at h x.semaphore) { forgotten = (semaphore_at h x.semaphore).forgotten + x.demand }) (omega arith)
+      | false ↦ omega arith
+    ]
 
 module _ (h : Hall) (i : ℕ) where
   as_many : waiters h ≤ waiters h
   as_many = omega arith
 
   settles-first_poll : (f w : ℕ) (x : Future) → Settles h (first_poll h i f w x) true
-  settles-first_poll f w x = elim (nat_le x.demand (free h x.semaphore)) as (λ b. Settles h (if b then quietly (made_ready taken i f x) answers.Ready else quietly (queueing h f w x) answers.Pending) true) [
-    | true ↦ quiet h (made_ready taken i f x) answers.Ready true (omega (arith, ready_few taken i f x, put_few h x.semaphore (taking r x.demand) (omega arith)))
-    | false ↦ one_more h (queueing h f w x) answers.Pending (omega (arith, waiters-put h x.semaphore (record r { free = 0; queue = r.queue ++ (Waiter f, x.demand - r.free) ∷ [] }), waiters-append r.queue f (x.demand - r.free)))
-  ]
+  settles-first_poll f w x = elim (nat_le x.demand (free h x.semaphore))
+      as (λ b. Settles h (if b then quietly (made_ready taken i f x) answers.Ready else quietly (queueing h f w x) answers.Pending) true) [
+        | true ↦ quiet h (made_ready taken i f x) answers.Ready true (omega (arith, ready_few taken i f x, put_few h x.semaphore (taking r x.demand) (omega arith)))
+        | false ↦ one_more h (queueing h f w x) answers.Pending
+            (omega (
+              arith,
+              waiters-put h x.semaphore
+                  (record r { free = 0; queue = r.queue ++ (Waiter f, x.demand - r.free) ∷ [] }),
+              waiters-append r.queue f (x.demand - r.free),
+            ))
+      ]
     where
       r : Semaphore
       r = semaphore_at h x.semaphore
@@ -183,7 +199,8 @@ module _ (h : Hall) (i : ℕ) where
   settles-end_future : (f : ℕ) (x : Future) (t : Stage) → Settles h (end_future h f x t) false
   settles-end_future f x New = quiet h _ answers.Done false as_many
   settles-end_future f x (Waiting w) =
-      let fewer = put_few h x.semaphore (record (semaphore_at h x.semaphore) { queue = without (queue_at h x.semaphore) f }) (omega (arith, waiters-without (queue_at h x.semaphore) f)) in
+      let fewer = put_few h x.semaphore (record (semaphore_at h x.semaphore) { queue = without (queue_at h x.semaphore) f })
+      (omega (arith, waiters-without (queue_at h x.semaphore) f)) in
       pours h (leaving h f x) x.semaphore (x.demand - lack_of (queue_at h x.semaphore) f) false fewer
   settles-end_future f x Granted = pours h (without_future h f) x.semaphore x.demand false as_many
 
@@ -193,7 +210,9 @@ module _ (h : Hall) (i : ℕ) where
 
   settles-lose : (p : ℕ) (o : Option Permit) → Settles h (lose_of h p o) false
   settles-lose p None = quiet h h answers.Done false as_many
-  settles-lose p (Some x) = quiet h _ (answers.Forgot x.size) false (put_few (without_permit h p) x.semaphore (record (semaphore_at h x.semaphore) { forgotten = (semaphore_at h x.semaphore).forgotten + x.size }) (omega arith))
+  settles-lose p (Some x) = quiet h _ (answers.Forgot x.size) false
+      (put_few (without_permit h p) x.semaphore (record (semaphore_at h x.semaphore) { forgotten = (semaphore_at h x.semaphore).forgotten + x.size })
+      (omega arith))
 
   settles-merge : (p q : ℕ) (o u : Option Permit) → Settles h (quietly (merge_of h p q o u) answers.Done) false
   settles-merge p q None u = quiet h h answers.Done false as_many
@@ -205,17 +224,21 @@ module _ (h : Hall) (i : ℕ) where
   settles-split p n (Some x) = quiet_if h (nat_le n x.size) _ h answers.Held answers.Lacking false as_many as_many
 
   settles-try : (s n : ℕ) (plain : Bool) → Settles h (try_of h i s n plain) false
-  settles-try s n plain = quiet_if h (nat_le n (free h s)) _ h answers.Held answers.Lacking false (put_few h s (taking (semaphore_at h s) n) (omega arith)) as_many
+  settles-try s n plain = quiet_if h (nat_le n (free h s)) _ h answers.Held answers.Lacking false
+      (put_few h s (taking (semaphore_at h s) n) (omega arith)) as_many
 
   settles-try_and_forget : (s n : ℕ) → Settles h (try_and_forget h s n) false
-  settles-try_and_forget s n = quiet_if h (nat_le n (free h s)) _ h answers.Yes answers.No false (put_few h s (record (semaphore_at h s) { free = free h s - n; forgotten = (semaphore_at h s).forgotten + n }) (omega arith)) as_many
+  settles-try_and_forget s n = quiet_if h (nat_le n (free h s)) _ h answers.Yes answers.No false
+      (put_few h s (record (semaphore_at h s) { free = free h s - n; forgotten = (semaphore_at h s).forgotten + n }) (omega arith)) as_many
 
   pub settles : (e : SemEvent) → Settles h (step h i e) (registers e)
   settles (events.New n) = quiet h _ answers.Made false (put_few h i (made_with n) (omega arith))
   settles (events.Free s) = quiet h h (answers.Free (free h s)) false as_many
   settles (events.Forget s n) = quiet h _ (answers.Forgot (min n (free h s))) false (put_few h s (forgetting (semaphore_at h s) n) (omega arith))
-  settles (events.Forgetx s n) = quiet h _ answers.Done false (put_few h s (forgetting_exactly (semaphore_at h s) n) (let same = waiters-debt (queue_at h s) (n - min n (free h s)) in omega (arith, same)))
-  settles (events.Release s n) = pours h (released_to h s n) s n false (put_few h s (record (semaphore_at h s) { released = (semaphore_at h s).released + n }) (omega arith))
+  settles (events.Forgetx s n) = quiet h _ answers.Done false
+      (put_few h s (forgetting_exactly (semaphore_at h s) n) (let same = waiters-debt (queue_at h s) (n - min n (free h s)) in omega (arith, same)))
+  settles (events.Release s n) = pours h (released_to h s n) s n false
+      (put_few h s (record (semaphore_at h s) { released = (semaphore_at h s).released + n }) (omega arith))
   settles (events.Try s n) = settles-try s n true
   settles (events.Tryo s n) = settles-try s n false
   settles (events.Tryf s n) = settles-try_and_forget s n

@@ -27,7 +27,8 @@ loop-event-preserved c =
 
 pub returns-in-Err-clause-refused : goal.returns-in-Err-clause-refused
 returns-in-Err-clause-refused c = λ other.
-    stopped_at c.args.events.now c.loop-event.event-index _ c.play.new.hall.world c.loop-event.hall.world c.in-Err.stop (length c.play.new.replies.replies) c.loop-event-test.true
+    stopped_at c.args.events.now c.loop-event.event-index _ c.play.new.hall.world c.loop-event.hall.world c.in-Err.stop
+    (length c.play.new.replies.replies) c.loop-event-test.true
     (ap length c.in-Err.ensures.err.1 ∙ c.loop-event.invariant.replied) (ap (λ p. p.world) c.in-Err.ensures.err.0) (c.in-Err.ensures.refused other)
 
 pub returns-in-Err-clause-balance : goal.returns-in-Err-clause-balance

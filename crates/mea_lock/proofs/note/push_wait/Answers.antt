@@ -9,4 +9,5 @@ returns-clause-lists g c =
 
 pub returns-clause-sound : goal.returns-clause-sound
 returns-clause-sound g c =
-    sound_of c.push_tail.new.self c.args.outbox.now (noted_listed c.args.waiters.now c.push_tail.new.self c.in-Ok.number c.args.waker c.in-Ok.ensures.fresh c.in-Ok.ensures.order c.in-Ok.ensures.updates c.requires.noted)
+    sound_of c.push_tail.new.self c.args.outbox.now
+    (noted_listed c.args.waiters.now c.push_tail.new.self c.in-Ok.number c.args.waker c.in-Ok.ensures.fresh c.in-Ok.ensures.order c.in-Ok.ensures.updates c.requires.noted)

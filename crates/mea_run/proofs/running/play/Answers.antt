@@ -15,10 +15,12 @@ pub returns-in-Ok-write_text-clause-usage : goal.returns-in-Ok-write_text-clause
 returns-in-Ok-write_text-clause-usage g c = (is_no_fault c.as_slice.result.now c.in-Ok-answer.told.1 c.in-Ok-answer.ensures.status).2
 
 pub returns-in-Ok-write_text-clause-read_fault : goal.returns-in-Ok-write_text-clause-read_fault
-returns-in-Ok-write_text-clause-read_fault g c = λ fault. absurd ((is_no_fault c.as_slice.result.now c.in-Ok-answer.told.1 c.in-Ok-answer.ensures.status).0 fault)
+returns-in-Ok-write_text-clause-read_fault g c = λ fault. absurd
+    ((is_no_fault c.as_slice.result.now c.in-Ok-answer.told.1 c.in-Ok-answer.ensures.status).0 fault)
 
 pub returns-in-Ok-write_text-clause-write_fault : goal.returns-in-Ok-write_text-clause-write_fault
-returns-in-Ok-write_text-clause-write_fault g c = λ fault. absurd ((is_no_fault c.as_slice.result.now c.in-Ok-answer.told.1 c.in-Ok-answer.ensures.status).1 fault)
+returns-in-Ok-write_text-clause-write_fault g c = λ fault. absurd
+    ((is_no_fault c.as_slice.result.now c.in-Ok-answer.told.1 c.in-Ok-answer.ensures.status).1 fault)
 
 pub returns-in-Ok-write_text-clause-status : goal.returns-in-Ok-write_text-clause-status
 returns-in-Ok-write_text-clause-status g c = λ script h.

@@ -13,4 +13,5 @@ returns-then-was_cut-clause-none c =
 
 pub returns-else-is_empty-clause-line : goal.returns-else-is_empty-clause-line
 returns-else-is_empty-clause-line c =
-    last_where_whole c.args.was_cut c.args.text.now (length c.args.text.now) c.if-was_cut.false (not_empty _ c.if-is_empty.ensures) (cut_none 10 c.args.text.now (rw c.in-None.is at c.cut.ensures))
+    last_where_whole c.args.was_cut c.args.text.now (length c.args.text.now) c.if-was_cut.false (not_empty _ c.if-is_empty.ensures)
+    (cut_none 10 c.args.text.now (rw c.in-None.is at c.cut.ensures))

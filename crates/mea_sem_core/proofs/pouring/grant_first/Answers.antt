@@ -23,7 +23,8 @@ returns-in-None g c =
     let sound = rw c.in-Some.ensures.some at c.unlink_first.ensures.sound in
     let kept = rw c.in-Some.ensures.some at c.requires.kept in
     let used : IsSome (get c.unlink_first.new.self c.in-Some.number) = rw c.get_mut.ensures.value refl in
-    let updates = Updates-Updates _ _ _ _ _ _ (Updates-with_value c.unlink_first.new.self c.in-Some.number c.grant.new.self used) c.remove_unlinked.ensures.updates in
+    let updates = Updates-Updates _ _ _ _ _ _ (Updates-with_value c.unlink_first.new.self c.in-Some.number c.grant.new.self used)
+    c.remove_unlinked.ensures.updates in
     let shorter = rw c.in-Some.ensures.some at c.requires.room in
     rw c.in-Some.ensures.some (
     grants_debt _ _ _ _ _ _ sound.distinct.0 updates c.remove_unlinked.ensures.order c.get_mut.result.now c.get_mut.ensures.value c.in-None.ensures.waker refl kept refl (omega (arith, shorter, ap length c.remove_unlinked.ensures.order)))

@@ -22,4 +22,5 @@ returns-then-rest-lack-clause-to_debts g c =
 pub loop-number-preserved : goal.loop-number-preserved
 loop-number-preserved g c =
     rw (c.min-to_debts.ensures, c.debt.ensures, c.lack-lack.ensures) (
-    Continues-turn _ _ _ _ _ _ _ _ _ _ _ c.get-first.result.now c.loop-number.invariant c.in-Some.ensures.some c.get-first.ensures (rw (← c.lack-lack.ensures) c.if-rest-lack.false) c.grant_first.ensures)
+    Continues-turn _ _ _ _ _ _ _ _ _ _ _ c.get-first.result.now c.loop-number.invariant c.in-Some.ensures.some c.get-first.ensures
+    (rw (← c.lack-lack.ensures) c.if-rest-lack.false) c.grant_first.ensures)

@@ -20,7 +20,8 @@ invariant_of-self-lent g c =
     let count = count_kept c.self.inside.nodes.slots c.args.number c.index_mut.result.now w c.index_mut.ensures.value full in
     record {
       ring = (after_write c.self.inside.nodes.slots c.args.number c.index_mut.result.now w c.index_mut.ensures.value full c.self.inside.len c.self.invariant.ring).ring;
-      first_key = any_key (slice_set c.self.inside.nodes.slots c.args.number (Some (record c.index_mut.result.now { value = Some w }))) c.self.inside.nodes.vacant_key made;
+      first_key = any_key (slice_set c.self.inside.nodes.slots c.args.number (Some (record c.index_mut.result.now { value = Some w })))
+          c.self.inside.nodes.vacant_key made;
       sentinel = λ some. made;
       room = omega (arith, count, c.self.invariant.room);
       fits = omega (arith, count, c.self.invariant.fits);
@@ -39,5 +40,9 @@ returns g c =
             let slots = slots_written c.self.inside.nodes.slots c.args.number c.index_mut.result.now w c.index_mut.ensures.value full in
             rw (← c.self.view_is) (λ i. record { order = order i; slots = slots i; spare = c.self.inside.spare }),
       ),
-      record { writes_back = tt; value = rw (← c.self.view_is) (get_view c.self.inside.nodes.slots c.args.number c.index_mut.result.now c.index_mut.ensures.value ∙ sym seen ∙ taken) },
+      record {
+        writes_back = tt;
+        value = rw (← c.self.view_is)
+            (get_view c.self.inside.nodes.slots c.args.number c.index_mut.result.now c.index_mut.ensures.value ∙ sym seen ∙ taken);
+      },
     )

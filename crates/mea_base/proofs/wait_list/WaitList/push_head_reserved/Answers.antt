@@ -19,7 +19,8 @@ invariant_of-self g c =
     let made = c.self.invariant.sentinel room in
     let made_new = sentinel_new c.self.inside.nodes c.insert_between-number.new.nodes _ c.self.invariant.ring made _ _ _ _ c.insert_between-number.ensures in
     record {
-      ring = (after_head c.self.inside.nodes c.insert_between-number.new.nodes c.self.inside.len c.self.invariant.ring made _ _ _ (ap next_of (sym c.index.ensures)) c.insert_between-number.ensures).ring;
+      ring = (after_head c.self.inside.nodes c.insert_between-number.new.nodes c.self.inside.len c.self.invariant.ring made _ _ _
+          (ap next_of (sym c.index.ensures)) c.insert_between-number.ensures).ring;
       first_key = any_key c.insert_between-number.new.nodes.slots c.insert_between-number.new.nodes.vacant_key made_new;
       sentinel = λ some. made_new;
       room = omega (arith, room, c.self.invariant.room, c.insert_between-number.ensures.len, c.insert_between-number.ensures.capacity);
@@ -38,4 +39,5 @@ returns-clause-updates g c =
 pub returns-clause-order : goal.returns-clause-order
 returns-clause-order g c =
     let made = c.self.invariant.sentinel (rw (← c.self.view_is) at c.requires) in
-    rw (← c.self.view_is) (after_head c.self.inside.nodes c.insert_between-number.new.nodes c.self.inside.len c.self.invariant.ring made _ _ _ (ap next_of (sym c.index.ensures)) c.insert_between-number.ensures).order
+    rw (← c.self.view_is) (after_head c.self.inside.nodes c.insert_between-number.new.nodes c.self.inside.len c.self.invariant.ring made _ _ _
+    (ap next_of (sym c.index.ensures)) c.insert_between-number.ensures).order

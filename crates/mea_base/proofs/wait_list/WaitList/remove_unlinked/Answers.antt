@@ -30,13 +30,15 @@ invariant_of-self g c =
     }
 
 pub returns-clause-value : goal.returns-clause-value
-returns-clause-value g c = rw (← c.self.view_is) (get_view c.self.inside.nodes.slots c.args.number c.remove-value.result c.remove-value.ensures.value ∙ c.in-Some.is)
+returns-clause-value g c = rw (← c.self.view_is)
+    (get_view c.self.inside.nodes.slots c.args.number c.remove-value.result c.remove-value.ensures.value ∙ c.in-Some.is)
 
 pub returns-clause-updates : goal.returns-clause-updates
 returns-clause-updates g c =
     rw (← c.self.view_is) record {
       changed = view_at c.remove-value.new.self.slots c.args.number ∙ ap value_of c.remove-value.ensures.updates.changed;
-      others = λ other differs. view_at c.remove-value.new.self.slots other ∙ ap value_of (c.remove-value.ensures.updates.others other differs) ∙ sym (view_at c.self.inside.nodes.slots other);
+      others = λ other differs. view_at c.remove-value.new.self.slots other ∙ ap value_of (c.remove-value.ensures.updates.others other differs)
+          ∙ sym (view_at c.self.inside.nodes.slots other);
     }
 
 pub returns-clause-order : goal.returns-clause-order

@@ -27,7 +27,8 @@ pub set_prev-requires : goal.set_prev-requires
 set_prev-requires g c =
     let used = used_node c.self.inside.nodes.slots c.args.number (rw (← c.self.view_is) at c.requires) in
     let moves : next_in c.self.inside.nodes.slots c.args.number ≢ c.args.number = λ same. c.if-next-number.false (ap next_of (sym c.index-2.ensures) ∙ same) in
-    c.set_next.ensures.nodes c.index-2.result.now.next ∙ rw (ap next_of (sym c.index-2.ensures)) (around c.self.inside.nodes.slots _ c.self.invariant.ring c.args.number used moves).next_on
+    c.set_next.ensures.nodes c.index-2.result.now.next ∙ rw (ap next_of (sym c.index-2.ensures))
+    (around c.self.inside.nodes.slots _ c.self.invariant.ring c.args.number used moves).next_on
 
 pub invariant_of-self : goal.invariant_of-self
 invariant_of-self g c =

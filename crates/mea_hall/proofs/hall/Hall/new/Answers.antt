@@ -5,7 +5,8 @@ use Rattle.mea_hall.proofs.hall.Hall.new.Goals as goal
 
 pub invariant_of-result : goal.invariant_of-result
 invariant_of-result c =
-    let world : registered (record { semaphores = c.new.result.hall; meets = c.new-2.result.hall }) ≡ 0 = (λ i. registered (record { semaphores = (c.new.ensures i).hall; meets = (c.new-2.ensures i).hall })) ∙ none_registered in
+    let world : registered (record { semaphores = c.new.result.hall; meets = c.new-2.result.hall }) ≡ 0 =
+    (λ i. registered (record { semaphores = (c.new.ensures i).hall; meets = (c.new-2.ensures i).hall })) ∙ none_registered in
     record {
       fits = omega arith;
       semaphores = omega (arith, ap (λ p. p.next) c.new.ensures);

@@ -9,7 +9,8 @@ use Rattle.mea_hall.proofs.replies.Replies.add_wake.Goals as goal
 ordered : (rs : List Reply) (ws new : List ℕ) (w : ℕ) → new ≡ ws ++ w ∷ [] → AreOrdered rs (length ws) → AreOrdered rs (length new)
 ordered rs ws new w is h = rw (is, length_push ws w) (AreOrdered-more rs (length ws) h)
 
-seen : (rs : List Reply) (ws new : List ℕ) (w : ℕ) → new ≡ ws ++ w ∷ [] → AreOrdered rs (length ws) → replies_of rs ws ≢ [] → replies_of rs new ≡ with_wake (replies_of rs ws) w
+seen : (rs : List Reply) (ws new : List ℕ) (w : ℕ) → new ≡ ws ++ w ∷ [] → AreOrdered rs (length ws) → replies_of rs ws ≢ []
+    → replies_of rs new ≡ with_wake (replies_of rs ws) w
 seen [] ws new w is h some = absurd (some refl)
 seen (r ∷ rs) ws new w is h some = rw is (replies_of-more (r ∷ rs) ws w (omega arith) h)
 

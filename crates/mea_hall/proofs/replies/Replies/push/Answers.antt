@@ -5,10 +5,12 @@ use Rattle.mea_hall.specs.RepliesInside.{replies_of, AreOrdered}
 use Rattle.mea_hall.proofs.Wakes.{replies_of-push, AreOrdered-push}
 use Rattle.mea_hall.proofs.replies.Replies.push.Goals as goal
 
-ordered : (rs new : List Reply) (ws : List ℕ) (n : ℕ) (answer : Answer) → new ≡ rs ++ record { answer = answer; first = n } ∷ [] → n ≡ length ws → AreOrdered rs (length ws) → AreOrdered new (length ws)
+ordered : (rs new : List Reply) (ws : List ℕ) (n : ℕ) (answer : Answer) → new ≡ rs ++ record { answer = answer; first = n } ∷ [] → n ≡ length ws
+    → AreOrdered rs (length ws) → AreOrdered new (length ws)
 ordered rs new ws n answer is at_end h = rw (is, at_end) (AreOrdered-push rs (length ws) answer h)
 
-seen : (rs new : List Reply) (ws : List ℕ) (n : ℕ) (answer : Answer) → new ≡ rs ++ record { answer = answer; first = n } ∷ [] → n ≡ length ws → replies_of new ws ≡ replies_of rs ws ++ (answer, []) ∷ []
+seen : (rs new : List Reply) (ws : List ℕ) (n : ℕ) (answer : Answer) → new ≡ rs ++ record { answer = answer; first = n } ∷ [] → n ≡ length ws
+    → replies_of new ws ≡ replies_of rs ws ++ (answer, []) ∷ []
 seen rs new ws n answer is at_end = rw (is, at_end) (replies_of-push rs ws answer)
 
 pub invariant_of-self : goal.invariant_of-self

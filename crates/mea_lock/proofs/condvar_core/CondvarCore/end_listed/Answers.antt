@@ -9,7 +9,10 @@ take_out-note-requires g c = in_use c.self.inside.waiters c.self.inside.outbox c
 pub returns-clause-ends : goal.returns-clause-ends
 returns-clause-ends g c =
     rw (← c.self.view_is) (
-    ends_listed c.self.inside.waiters c.take_out-note.new.waiters c.self.inside.outbox c.self.inside.outbox c.args.number c.take_out-note.result _ (condvar_of c.pass_on.new.waiters c.pass_on.new.outbox) c.take_out-note.ensures.note c.take_out-note.ensures.updates c.take_out-note.ensures.order refl c.self.invariant.noted (search rules) c.pass_on.ensures.passed)
+    ends_listed c.self.inside.waiters c.take_out-note.new.waiters c.self.inside.outbox c.self.inside.outbox c.args.number c.take_out-note.result _
+    (condvar_of c.pass_on.new.waiters c.pass_on.new.outbox)
+    c.take_out-note.ensures.note c.take_out-note.ensures.updates c.take_out-note.ensures.order refl c.self.invariant.noted (search rules)
+    c.pass_on.ensures.passed)
 
 pub returns-clause-sound : goal.returns-clause-sound
 returns-clause-sound g c = λ _. sound_of c.pass_on.new.waiters c.pass_on.new.outbox c.pass_on.ensures.noted

@@ -8,7 +8,9 @@ get-requires g c = in_use c.self.inside.waiters c.self.inside.outbox c.args.numb
 
 pub returns-in_default-clause-polls : goal.returns-in_default-clause-polls
 returns-in_default-clause-polls g c =
-    rw (c.requires.listed, ← c.self.view_is) (polls_waiting c.self.inside.waiters c.self.inside.outbox c.args.lock.now c.args.number c.args.waker c.get.result.now c.get.ensures (sym c.notified.ensures ∙ c.in_default.is) c.self.invariant.noted)
+    rw (c.requires.listed, ← c.self.view_is)
+    (polls_waiting c.self.inside.waiters c.self.inside.outbox c.args.lock.now c.args.number c.args.waker c.get.result.now c.get.ensures
+    (sym c.notified.ensures ∙ c.in_default.is) c.self.invariant.noted)
 
 pub returns-in_err-turn-clause-polls : goal.returns-in_err-turn-clause-polls
 returns-in_err-turn-clause-polls g c =
@@ -20,7 +22,9 @@ returns-clause-polls g c =
     polls_asking c.self.inside.waiters c.self.inside.outbox c.args.self.now c.args.lock.now c.args.number c.in-Some.by_one c.args.waker c.get.result.now _ _ _ _ c.self.view_is c.get.ensures (search rules) (rw (← c.self.view_is) left, c.in_ok-turn.ensures.value, (c.poll.new.wait, search rules, c.after_lock.ensures))
 
 pub returns-in_default-clause-sound : goal.returns-in_default-clause-sound
-returns-in_default-clause-sound g c = λ _. sound_of _ c.self.inside.outbox (noted_rewoken_by c.self.inside.waiters c.args.number c.get.result.now c.args.waker c.get.ensures (sym c.notified.ensures ∙ c.in_default.is) c.self.invariant.noted)
+returns-in_default-clause-sound g c = λ _. sound_of _ c.self.inside.outbox
+    (noted_rewoken_by c.self.inside.waiters c.args.number c.get.result.now c.args.waker c.get.ensures (sym c.notified.ensures ∙ c.in_default.is)
+    c.self.invariant.noted)
 
 pub returns-clause-sound : goal.returns-clause-sound
 returns-clause-sound g c = λ _. sound_of c.take_out.new.waiters c.self.inside.outbox (c.take_out.ensures.noted c.self.invariant.noted)

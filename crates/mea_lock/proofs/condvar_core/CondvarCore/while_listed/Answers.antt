@@ -33,4 +33,6 @@ returns-clause-polls g c =
     }
 
 pub returns-in_default-clause-sound : goal.returns-in_default-clause-sound
-returns-in_default-clause-sound g c = λ _. sound_of _ c.self.inside.outbox (noted_rewoken_by c.self.inside.waiters c.args.number c.get.result.now c.args.waker c.get.ensures (sym c.notified.ensures ∙ c.in_default.is) c.self.invariant.noted)
+returns-in_default-clause-sound g c = λ _. sound_of _ c.self.inside.outbox
+    (noted_rewoken_by c.self.inside.waiters c.args.number c.get.result.now c.args.waker c.get.ensures (sym c.notified.ensures ∙ c.in_default.is)
+    c.self.invariant.noted)

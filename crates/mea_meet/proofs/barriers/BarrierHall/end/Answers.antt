@@ -8,7 +8,8 @@ pub unreachable-requires : goal.unreachable-requires
 unreachable-requires c = wait_found c.self.inside c.args.self.now c.self.view_is c.args.f c.requires.there (sym c.remove.ensures.value ∙ c.in_default.is)
 
 pub unreachable-requires-in_default-get_mut : goal.unreachable-requires-in_default-get_mut
-unreachable-requires-in_default-get_mut c = its_barrier c.self.inside c.args.self.now c.self.view_is c.self.invariant c.args.f c.in-Some.future (sym c.remove.ensures.value ∙ c.in-Some.is) (sym c.get_mut.ensures.value ∙ ap option_copied_mut c.in_default-get_mut.is)
+unreachable-requires-in_default-get_mut c = its_barrier c.self.inside c.args.self.now c.self.view_is c.self.invariant c.args.f c.in-Some.future
+    (sym c.remove.ensures.value ∙ c.in-Some.is) (sym c.get_mut.ensures.value ∙ ap option_copied_mut c.in_default-get_mut.is)
 
 pub end-requires-clause-own : goal.end-requires-clause-own
 end-requires-clause-own c = outcomes.own c.self.inside c.args.self.now c.args.number c.args.f c.in-Some.future c.in-Some-get_mut.entry.now c.self.view_is c.self.invariant c.requires.next (omega arith)

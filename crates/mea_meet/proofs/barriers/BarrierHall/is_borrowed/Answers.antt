@@ -5,7 +5,8 @@ use Rattle.mea_meet.proofs.BarrierStores.{barrier_found, borrowed}
 use Rattle.mea_meet.proofs.barriers.BarrierHall.is_borrowed.Goals as goal
 
 pub unreachable-requires : goal.unreachable-requires
-unreachable-requires c = barrier_found c.self.inside c.args.self.now c.self.view_is c.args.b c.requires (sym c.get.ensures.value ∙ ap option_copied c.in_default.is)
+unreachable-requires c = barrier_found c.self.inside c.args.self.now c.self.view_is c.args.b c.requires
+    (sym c.get.ensures.value ∙ ap option_copied c.in_default.is)
 
 pub returns : goal.returns
 returns c =

@@ -7,41 +7,56 @@ use Rattle.mea_meet.proofs.GroupPlays.{few_waits, quiet, lives, turns}
 use Rattle.mea_meet.proofs.groups.GroupHall.into_wait.Goals as goal
 
 pub unreachable-requires : goal.unreachable-requires
-unreachable-requires c = handle_found c.self.inside c.args.self.now c.self.view_is c.args.k c.requires.there (sym c.get.ensures.value ∙ ap option_copied c.in_default.is)
+unreachable-requires c = handle_found c.self.inside c.args.self.now c.self.view_is c.args.k c.requires.there
+    (sym c.get.ensures.value ∙ ap option_copied c.in_default.is)
 
 pub invariant_of-self : goal.invariant_of-self
-invariant_of-self c = subst (λ (ws : List (ℕ × GroupWaitEntry)). IsKept (store_of c.self.inside.groups.entries c.self.inside.handles.entries ws) c.self.inside.next) (sym c.in-Err.ensures.err) c.self.invariant
+invariant_of-self c = subst (λ (ws : List (ℕ × GroupWaitEntry)). IsKept (store_of c.self.inside.groups.entries c.self.inside.handles.entries ws)
+    c.self.inside.next) (sym c.in-Err.ensures.err) c.self.invariant
 
 pub unreachable-requires-in_default-get_mut : goal.unreachable-requires-in_default-get_mut
-unreachable-requires-in_default-get_mut c = group_of_handle c.self.inside c.args.self.now c.self.view_is c.self.invariant c.args.k c.in-Some.field-0.now (sym c.get.ensures.value ∙ ap option_copied c.in-Some.is)
+unreachable-requires-in_default-get_mut c =
+    group_of_handle c.self.inside c.args.self.now c.self.view_is c.self.invariant c.args.k c.in-Some.field-0.now
+    (sym c.get.ensures.value ∙ ap option_copied c.in-Some.is)
     (sym c.get_mut.ensures.value ∙ ap option_copied_mut c.in_default-get_mut.is)
 
 pub overflow_add-entry : goal.overflow_add-entry
 overflow_add-entry c =
-    let few : c.in-Some-get_mut.entry.now.waits + 1 < 2 ^ 128 = few_waits c.self.inside c.args.self.now c.args.number c.self.view_is c.self.invariant c.requires.next (omega arith) c.in-Some.field-0.now c.in-Some-get_mut.entry.now
+    let few : c.in-Some-get_mut.entry.now.waits + 1 < 2 ^ 128 =
+    few_waits c.self.inside c.args.self.now c.args.number c.self.view_is c.self.invariant c.requires.next (omega arith)
+    c.in-Some.field-0.now c.in-Some-get_mut.entry.now
     (sym c.get_mut.ensures.value ∙ ap option_copied_mut c.in-Some-get_mut.is) in
     omega (arith, few)
 
 pub leave-requires-clause-quiet : goal.leave-requires-clause-quiet
-leave-requires-clause-quiet c = quiet c.self.inside c.args.self.now c.args.number c.self.view_is c.self.invariant c.requires.next (omega arith) c.in-Some.field-0.now c.in-Some-get_mut.entry.now
+leave-requires-clause-quiet c = quiet c.self.inside c.args.self.now c.args.number c.self.view_is c.self.invariant c.requires.next (omega arith)
+    c.in-Some.field-0.now c.in-Some-get_mut.entry.now
     (sym c.get_mut.ensures.value ∙ ap option_copied_mut c.in-Some-get_mut.is)
 
 pub leave-requires-clause-lives : goal.leave-requires-clause-lives
-leave-requires-clause-lives c = lives c.self.inside c.args.self.now c.args.number c.self.view_is c.self.invariant c.requires.next (omega arith) c.in-Some.field-0.now c.in-Some-get_mut.entry.now
+leave-requires-clause-lives c = lives c.self.inside c.args.self.now c.args.number c.self.view_is c.self.invariant c.requires.next (omega arith)
+    c.in-Some.field-0.now c.in-Some-get_mut.entry.now
     (sym c.get_mut.ensures.value ∙ ap option_copied_mut c.in-Some-get_mut.is) c.args.k (sym c.get.ensures.value ∙ ap option_copied c.in-Some.is)
 
 pub leave-requires-clause-room : goal.leave-requires-clause-room
-leave-requires-clause-room c = room c.self.inside c.args.self.now c.self.view_is c.self.invariant c.in-Some.field-0.now c.in-Some-get_mut.entry.now (sym c.get_mut.ensures.value ∙ ap option_copied_mut c.in-Some-get_mut.is)
+leave-requires-clause-room c = room c.self.inside c.args.self.now c.self.view_is c.self.invariant c.in-Some.field-0.now c.in-Some-get_mut.entry.now
+    (sym c.get_mut.ensures.value ∙ ap option_copied_mut c.in-Some-get_mut.is)
     c.args.ready.now.registered c.requires.room
 
 pub invariant_of-self-2 : goal.invariant_of-self-2
-invariant_of-self-2 c = (turns c.self.inside c.args.self.now c.args.number c.self.view_is c.self.invariant c.requires.next (omega arith) c.in-Some.field-0.now c.in-Some-get_mut.entry.now
-    (sym c.get_mut.ensures.value ∙ ap option_copied_mut c.in-Some-get_mut.is) c.args.k (sym c.get.ensures.value ∙ ap option_copied c.in-Some.is) _ c.remove-gone.ensures.updates.0 _ _
-    (record { group = c.in-Some.field-0.now; wait = c.new.result }) c.in-Ok.ensures.updates.0 refl c.new.ensures c.leave.new.self c.leave.ensures.left ((c.get_mut.follows.holds c.leave.new.self).3 (search rules)).0
+invariant_of-self-2 c = (turns c.self.inside c.args.self.now c.args.number c.self.view_is c.self.invariant c.requires.next (omega arith)
+    c.in-Some.field-0.now c.in-Some-get_mut.entry.now
+    (sym c.get_mut.ensures.value ∙ ap option_copied_mut c.in-Some-get_mut.is) c.args.k (sym c.get.ensures.value ∙ ap option_copied c.in-Some.is)
+    _ c.remove-gone.ensures.updates.0 _ _
+    (record { group = c.in-Some.field-0.now; wait = c.new.result }) c.in-Ok.ensures.updates.0 refl c.new.ensures c.leave.new.self c.leave.ensures.left
+    ((c.get_mut.follows.holds c.leave.new.self).3 (search rules)).0
     c.args.ready.now c.leave.new.ready c.leave.ensures.woken c.leave.ensures.counted).kept
 
 pub returns-clause-played : goal.returns-clause-played
-returns-clause-played c = (turns c.self.inside c.args.self.now c.args.number c.self.view_is c.self.invariant c.requires.next (omega arith) c.in-Some.field-0.now c.in-Some-get_mut.entry.now
-    (sym c.get_mut.ensures.value ∙ ap option_copied_mut c.in-Some-get_mut.is) c.args.k (sym c.get.ensures.value ∙ ap option_copied c.in-Some.is) _ c.remove-gone.ensures.updates.0 _ _
-    (record { group = c.in-Some.field-0.now; wait = c.new.result }) c.in-Ok.ensures.updates.0 refl c.new.ensures c.leave.new.self c.leave.ensures.left ((c.get_mut.follows.holds c.leave.new.self).3 (search rules)).0
+returns-clause-played c = (turns c.self.inside c.args.self.now c.args.number c.self.view_is c.self.invariant c.requires.next (omega arith)
+    c.in-Some.field-0.now c.in-Some-get_mut.entry.now
+    (sym c.get_mut.ensures.value ∙ ap option_copied_mut c.in-Some-get_mut.is) c.args.k (sym c.get.ensures.value ∙ ap option_copied c.in-Some.is)
+    _ c.remove-gone.ensures.updates.0 _ _
+    (record { group = c.in-Some.field-0.now; wait = c.new.result }) c.in-Ok.ensures.updates.0 refl c.new.ensures c.leave.new.self c.leave.ensures.left
+    ((c.get_mut.follows.holds c.leave.new.self).3 (search rules)).0
     c.args.ready.now c.leave.new.ready c.leave.ensures.woken c.leave.ensures.counted).yields

@@ -6,6 +6,7 @@ use Rattle.mea_meet.proofs.hall.MeetHall.new.Goals as goal
 
 pub invariant_of-result : goal.invariant_of-result
 invariant_of-result c =
-    let none : registered (hall_of c.new.result.barriers c.new.result.latches c.new.result.groups c.new.result.shutdowns) ≡ 0 = ap registered c.new.ensures.hall ∙ none_registered in
+    let none : registered (hall_of c.new.result.barriers c.new.result.latches c.new.result.groups c.new.result.shutdowns) ≡ 0 =
+    ap registered c.new.ensures.hall ∙ none_registered in
     let ready = ap (λ r. r.registered) c.new-2.ensures in
     record { low = c.new.ensures.low; counted = ready ∙ sym none; few = omega (arith, ready) }

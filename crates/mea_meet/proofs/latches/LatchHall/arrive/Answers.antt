@@ -7,7 +7,8 @@ pub unreachable-requires : goal.unreachable-requires
 unreachable-requires c = never_named c.self.inside.latches.entries c.self.inside.waits.entries c.self.inside.next c.args.self.now c.self.view_is c.args.l c.requires.named (sym c.get_mut.ensures.value ∙ ap option_copied_mut c.in_default.is)
 
 pub arrive-requires-clause-quiet : goal.arrive-requires-clause-quiet
-arrive-requires-clause-quiet c = quiet_at c.self.inside.latches.entries c.self.inside.waits.entries c.self.inside.next c.args.self.now c.self.view_is c.args.l c.in-Some.entry.now c.self.invariant (sym c.get_mut.ensures.value ∙ ap option_copied_mut c.in-Some.is)
+arrive-requires-clause-quiet c =
+    quiet_at c.self.inside.latches.entries c.self.inside.waits.entries c.self.inside.next c.args.self.now c.self.view_is c.args.l c.in-Some.entry.now c.self.invariant (sym c.get_mut.ensures.value ∙ ap option_copied_mut c.in-Some.is)
 
 pub arrive-requires-clause-room : goal.arrive-requires-clause-room
 arrive-requires-clause-room c =

@@ -13,17 +13,22 @@ tidy-requires-clause-room c =
     let all = room_at c.self.inside.latches.entries c.self.inside.waits.entries c.self.inside.next c.args.self.now c.self.view_is c.args.l c.in-Some.entry.now (sym c.get_mut.ensures.value ∙ ap option_copied_mut c.in-Some.is) in
     let part = let_go_most (record c.in-Some.entry.now { named = false }) in
     let room = c.requires.room in
-    let there = changed_at c.self.inside.latches.entries _ c.args.l (Some (record c.in-Some.entry.now { named = false })) ((c.get_mut.follows.holds (record c.in-Some.entry.now { named = false })).3 (search rules)).0 in
+    let there = changed_at c.self.inside.latches.entries _ c.args.l (Some (record c.in-Some.entry.now { named = false }))
+    ((c.get_mut.follows.holds (record c.in-Some.entry.now { named = false })).3 (search rules)).0 in
     rw there (omega (arith, all, part, room))
 
 pub invariant_of-self : goal.invariant_of-self
 invariant_of-self c =
     let is : at c.self.inside.latches.entries c.args.l ≡ Some c.in-Some.entry.now = sym c.get_mut.ensures.value ∙ ap option_copied_mut c.in-Some.is in
-    let tidies = some_if _ _ (record c.in-Some.entry.now { named = false }) (changed_at c.self.inside.latches.entries _ c.args.l (Some (record c.in-Some.entry.now { named = false })) ((c.get_mut.follows.holds (record c.in-Some.entry.now { named = false })).3 (search rules)).0) c.tidy.ensures in
+    let tidies = some_if _ _ (record c.in-Some.entry.now { named = false })
+    (changed_at c.self.inside.latches.entries _ c.args.l (Some (record c.in-Some.entry.now { named = false }))
+    ((c.get_mut.follows.holds (record c.in-Some.entry.now { named = false })).3 (search rules)).0) c.tidy.ensures in
     (drops_at c.self.inside.latches.entries c.self.inside.waits.entries c.self.inside.next c.args.number c.args.self.now c.self.view_is c.self.invariant c.requires.next (omega arith) c.tidy.new.latches.entries c.args.l c.in-Some.entry.now c.args.ready.now c.tidy.new.ready is (changes_twice c.self.inside.latches.entries _ c.tidy.new.latches.entries c.args.l (Some (record c.in-Some.entry.now { named = false })) _ ((c.get_mut.follows.holds (record c.in-Some.entry.now { named = false })).3 (search rules)).0 tidies.latches) c.requires.room tidies.ready).kept
 
 pub returns : goal.returns
 returns c =
     let is : at c.self.inside.latches.entries c.args.l ≡ Some c.in-Some.entry.now = sym c.get_mut.ensures.value ∙ ap option_copied_mut c.in-Some.is in
-    let tidies = some_if _ _ (record c.in-Some.entry.now { named = false }) (changed_at c.self.inside.latches.entries _ c.args.l (Some (record c.in-Some.entry.now { named = false })) ((c.get_mut.follows.holds (record c.in-Some.entry.now { named = false })).3 (search rules)).0) c.tidy.ensures in
+    let tidies = some_if _ _ (record c.in-Some.entry.now { named = false })
+    (changed_at c.self.inside.latches.entries _ c.args.l (Some (record c.in-Some.entry.now { named = false }))
+    ((c.get_mut.follows.holds (record c.in-Some.entry.now { named = false })).3 (search rules)).0) c.tidy.ensures in
     (drops_at c.self.inside.latches.entries c.self.inside.waits.entries c.self.inside.next c.args.number c.args.self.now c.self.view_is c.self.invariant c.requires.next (omega arith) c.tidy.new.latches.entries c.args.l c.in-Some.entry.now c.args.ready.now c.tidy.new.ready is (changes_twice c.self.inside.latches.entries _ c.tidy.new.latches.entries c.args.l (Some (record c.in-Some.entry.now { named = false })) _ ((c.get_mut.follows.holds (record c.in-Some.entry.now { named = false })).3 (search rules)).0 tidies.latches) c.requires.room tidies.ready).yields

@@ -11,7 +11,8 @@ pub unreachable-requires : goal.unreachable-requires
 unreachable-requires c = never_wait c.self.inside.latches.entries c.self.inside.waits.entries c.self.inside.next c.args.self.now c.self.view_is c.args.f c.requires.there (sym c.remove.ensures.value ∙ c.in_default.is)
 
 pub unreachable-requires-in_default-get_mut : goal.unreachable-requires-in_default-get_mut
-unreachable-requires-in_default-get_mut c = never_latch c.self.inside.latches.entries c.self.inside.waits.entries c.self.inside.next c.args.self.now c.self.view_is c.args.f c.in-Some.future c.self.invariant (sym c.remove.ensures.value ∙ c.in-Some.is) (sym c.get_mut.ensures.value ∙ ap option_copied_mut c.in_default-get_mut.is)
+unreachable-requires-in_default-get_mut c =
+    never_latch c.self.inside.latches.entries c.self.inside.waits.entries c.self.inside.next c.args.self.now c.self.view_is c.args.f c.in-Some.future c.self.invariant (sym c.remove.ensures.value ∙ c.in-Some.is) (sym c.get_mut.ensures.value ∙ ap option_copied_mut c.in_default-get_mut.is)
 
 pub end-requires-clause-given : goal.end-requires-clause-given
 end-requires-clause-given c = (endable_with c.self.inside.latches.entries c.self.inside.waits.entries c.self.inside.next c.args.self.now c.self.view_is c.args.f c.in-Some.future c.in-Some-get_mut.entry.now c.args.ready.now c.self.invariant (sym c.remove.ensures.value ∙ c.in-Some.is) (sym c.get_mut.ensures.value ∙ ap option_copied_mut c.in-Some-get_mut.is) c.requires.room).given
@@ -26,19 +27,32 @@ pub tidy-requires-clause-room : goal.tidy-requires-clause-room
 tidy-requires-clause-room c =
     let all = (endable_with c.self.inside.latches.entries c.self.inside.waits.entries c.self.inside.next c.args.self.now c.self.view_is c.args.f c.in-Some.future c.in-Some-get_mut.entry.now c.args.ready.now c.self.invariant (sym c.remove.ensures.value ∙ c.in-Some.is) (sym c.get_mut.ensures.value ∙ ap option_copied_mut c.in-Some-get_mut.is) c.requires.room).room in
     let part = let_go_most (ended c.in-Some-get_mut.entry.now c.in-Some.future.plain) in
-    let there = changed_at c.self.inside.latches.entries _ c.in-Some.future.latch (Some c.end.new.self) ((c.get_mut.follows.holds c.end.new.self).3 (search rules)).0 in
+    let there = changed_at c.self.inside.latches.entries _ c.in-Some.future.latch (Some c.end.new.self)
+    ((c.get_mut.follows.holds c.end.new.self).3 (search rules)).0 in
     rw (there, c.end.ensures) (omega (arith, all, part))
 
 pub invariant_of-self : goal.invariant_of-self
 invariant_of-self c =
-    let tidies = some_if _ _ c.end.new.self (changed_at c.self.inside.latches.entries _ c.in-Some.future.latch (Some c.end.new.self) ((c.get_mut.follows.holds c.end.new.self).3 (search rules)).0) c.tidy.ensures in
+    let tidies = some_if _ _ c.end.new.self
+    (changed_at c.self.inside.latches.entries _ c.in-Some.future.latch (Some c.end.new.self)
+    ((c.get_mut.follows.holds c.end.new.self).3 (search rules)).0) c.tidy.ensures in
     (ends_at c.self.inside.latches.entries c.self.inside.waits.entries c.self.inside.next c.args.number c.args.self.now c.self.view_is c.self.invariant c.requires.next (omega arith) c.tidy.new.latches.entries _ c.args.f c.in-Some.future c.in-Some-get_mut.entry.now c.args.ready.now c.tidy.new.ready (sym c.remove.ensures.value ∙ c.in-Some.is) (sym c.get_mut.ensures.value ∙ ap option_copied_mut c.in-Some-get_mut.is) c.requires.room
-    (subst (λ (d : LatchEntry). ChangesAt c.self.inside.latches.entries c.tidy.new.latches.entries c.in-Some.future.latch (tidied d)) c.end.ensures (changes_twice c.self.inside.latches.entries _ c.tidy.new.latches.entries c.in-Some.future.latch (Some c.end.new.self) _ ((c.get_mut.follows.holds c.end.new.self).3 (search rules)).0 tidies.latches))
-    c.in-Some.ensures.updates.0 (subst (λ (d : LatchEntry). c.tidy.new.ready ≡ record c.args.ready.now { registered = c.args.ready.now.registered - let_go d }) c.end.ensures tidies.ready)).kept
+    (subst (λ (d : LatchEntry). ChangesAt c.self.inside.latches.entries c.tidy.new.latches.entries c.in-Some.future.latch (tidied d)) c.end.ensures
+    (changes_twice c.self.inside.latches.entries _ c.tidy.new.latches.entries c.in-Some.future.latch (Some c.end.new.self) _
+    ((c.get_mut.follows.holds c.end.new.self).3 (search rules)).0 tidies.latches))
+    c.in-Some.ensures.updates.0 (subst
+    (λ (d : LatchEntry). c.tidy.new.ready ≡ record c.args.ready.now { registered = c.args.ready.now.registered - let_go d })
+    c.end.ensures tidies.ready)).kept
 
 pub returns : goal.returns
 returns c =
-    let tidies = some_if _ _ c.end.new.self (changed_at c.self.inside.latches.entries _ c.in-Some.future.latch (Some c.end.new.self) ((c.get_mut.follows.holds c.end.new.self).3 (search rules)).0) c.tidy.ensures in
+    let tidies = some_if _ _ c.end.new.self
+    (changed_at c.self.inside.latches.entries _ c.in-Some.future.latch (Some c.end.new.self)
+    ((c.get_mut.follows.holds c.end.new.self).3 (search rules)).0) c.tidy.ensures in
     (ends_at c.self.inside.latches.entries c.self.inside.waits.entries c.self.inside.next c.args.number c.args.self.now c.self.view_is c.self.invariant c.requires.next (omega arith) c.tidy.new.latches.entries _ c.args.f c.in-Some.future c.in-Some-get_mut.entry.now c.args.ready.now c.tidy.new.ready (sym c.remove.ensures.value ∙ c.in-Some.is) (sym c.get_mut.ensures.value ∙ ap option_copied_mut c.in-Some-get_mut.is) c.requires.room
-    (subst (λ (d : LatchEntry). ChangesAt c.self.inside.latches.entries c.tidy.new.latches.entries c.in-Some.future.latch (tidied d)) c.end.ensures (changes_twice c.self.inside.latches.entries _ c.tidy.new.latches.entries c.in-Some.future.latch (Some c.end.new.self) _ ((c.get_mut.follows.holds c.end.new.self).3 (search rules)).0 tidies.latches))
-    c.in-Some.ensures.updates.0 (subst (λ (d : LatchEntry). c.tidy.new.ready ≡ record c.args.ready.now { registered = c.args.ready.now.registered - let_go d }) c.end.ensures tidies.ready)).yields
+    (subst (λ (d : LatchEntry). ChangesAt c.self.inside.latches.entries c.tidy.new.latches.entries c.in-Some.future.latch (tidied d)) c.end.ensures
+    (changes_twice c.self.inside.latches.entries _ c.tidy.new.latches.entries c.in-Some.future.latch (Some c.end.new.self) _
+    ((c.get_mut.follows.holds c.end.new.self).3 (search rules)).0 tidies.latches))
+    c.in-Some.ensures.updates.0 (subst
+    (λ (d : LatchEntry). c.tidy.new.ready ≡ record c.args.ready.now { registered = c.args.ready.now.registered - let_go d })
+    c.end.ensures tidies.ready)).yields

@@ -10,17 +10,25 @@ use Rattle.mea_meet.proofs.shutdowns.ShutdownHall.tidy.Goals as goal
 
 pub unreachable-requires : goal.unreachable-requires
 unreachable-requires c =
-    let none : get (kept_in c.self.inside).shutdowns c.args.s ≡ None = shutdown-kept c.self.inside c.args.s ∙ sym c.get.ensures.value ∙ ap option_copied c.in_default.is in
+    let none : get (kept_in c.self.inside).shutdowns c.args.s ≡ None =
+    shutdown-kept c.self.inside c.args.s ∙ sym c.get.ensures.value ∙ ap option_copied c.in_default.is in
     not_none _ (sym (shutdown-there (kept_in c.self.inside) c.self.inside.next c.args.s) ∙ (rw (← c.self.view_is) at c.requires.there)) none
 
 pub returns-then-entry-gt0-clause-gone : goal.returns-then-entry-gt0-clause-gone
 returns-then-entry-gt0-clause-gone c =
-    let there : get (kept_in c.self.inside).shutdowns c.args.s ≡ Some c.in-Some.entry.now = shutdown-kept c.self.inside c.args.s ∙ sym c.get.ensures.value ∙ ap option_copied c.in-Some.is in
-    rw (← c.self.view_is) (λ j. record { hall = sym (tidied-left (kept_in c.self.inside) c.self.inside.next c.args.s c.in-Some.entry.now c.self.invariant there c.if-entry-gt0.true) j; next = c.self.inside.next })
+    let there : get (kept_in c.self.inside).shutdowns c.args.s ≡ Some c.in-Some.entry.now =
+    shutdown-kept c.self.inside c.args.s ∙ sym c.get.ensures.value ∙ ap option_copied c.in-Some.is in
+    rw (← c.self.view_is) (λ j. record {
+      hall = sym
+          (tidied-left (kept_in c.self.inside) c.self.inside.next c.args.s c.in-Some.entry.now c.self.invariant there c.if-entry-gt0.true) j;
+      next =
+          c.self.inside.next;
+    })
 
 pub unregister-requires : goal.unregister-requires
 unregister-requires c =
-    let there : get (kept_in c.self.inside).shutdowns c.args.s ≡ Some c.in-Some.entry.now = shutdown-kept c.self.inside c.args.s ∙ sym c.get.ensures.value ∙ ap option_copied c.in-Some.is in
+    let there : get (kept_in c.self.inside).shutdowns c.args.s ≡ Some c.in-Some.entry.now =
+    shutdown-kept c.self.inside c.args.s ∙ sym c.get.ensures.value ∙ ap option_copied c.in-Some.is in
     let within = wakers-within (kept_in c.self.inside) c.self.inside.next c.args.s c.in-Some.entry.now there in
     let room = (rw (← c.self.view_is) at c.requires.room) in
     let mine = c.registered_on_signal.ensures in
@@ -28,7 +36,8 @@ unregister-requires c =
 
 pub unregister-requires-2 : goal.unregister-requires-2
 unregister-requires-2 c =
-    let there : get (kept_in c.self.inside).shutdowns c.args.s ≡ Some c.in-Some.entry.now = shutdown-kept c.self.inside c.args.s ∙ sym c.get.ensures.value ∙ ap option_copied c.in-Some.is in
+    let there : get (kept_in c.self.inside).shutdowns c.args.s ≡ Some c.in-Some.entry.now =
+    shutdown-kept c.self.inside c.args.s ∙ sym c.get.ensures.value ∙ ap option_copied c.in-Some.is in
     let within = wakers-within (kept_in c.self.inside) c.self.inside.next c.args.s c.in-Some.entry.now there in
     let room = (rw (← c.self.view_is) at c.requires.room) in
     let mine = c.registered_on_signal.ensures in
@@ -38,23 +47,33 @@ unregister-requires-2 c =
 
 pub invariant_of-self : goal.invariant_of-self
 invariant_of-self c =
-    let there : get (kept_in c.self.inside).shutdowns c.args.s ≡ Some c.in-Some.entry.now = shutdown-kept c.self.inside c.args.s ∙ sym c.get.ensures.value ∙ ap option_copied c.in-Some.is in
+    let there : get (kept_in c.self.inside).shutdowns c.args.s ≡ Some c.in-Some.entry.now =
+    shutdown-kept c.self.inside c.args.s ∙ sym c.get.ensures.value ∙ ap option_copied c.in-Some.is in
     let none : c.in-Some.entry.now.things ≡ 0 = (let left = c.if-entry-gt0.false in omega (arith, left)) in
-    tidy_kept (kept_in c.self.inside) c.self.inside.next c.args.s c.in-Some.entry.now c.self.invariant there _ none (kept-puts c.self.inside.shutdowns.entries _ c.args.s None c.remove-entry.ensures.updates.0)
+    tidy_kept (kept_in c.self.inside) c.self.inside.next c.args.s c.in-Some.entry.now c.self.invariant there _ none
+    (kept-puts c.self.inside.shutdowns.entries _ c.args.s None c.remove-entry.ensures.updates.0)
 
 pub returns-clause-gone : goal.returns-clause-gone
 returns-clause-gone c =
-    let there : get (kept_in c.self.inside).shutdowns c.args.s ≡ Some c.in-Some.entry.now = shutdown-kept c.self.inside c.args.s ∙ sym c.get.ensures.value ∙ ap option_copied c.in-Some.is in
+    let there : get (kept_in c.self.inside).shutdowns c.args.s ≡ Some c.in-Some.entry.now =
+    shutdown-kept c.self.inside c.args.s ∙ sym c.get.ensures.value ∙ ap option_copied c.in-Some.is in
     let none : c.in-Some.entry.now.things ≡ 0 = (let left = c.if-entry-gt0.false in omega (arith, left)) in
-    rw (← c.self.view_is) (λ j. record { hall = tidy_moved (kept_in c.self.inside) c.self.inside.next c.args.s c.in-Some.entry.now c.self.invariant there _ none (kept-puts c.self.inside.shutdowns.entries _ c.args.s None c.remove-entry.ensures.updates.0) j; next = c.self.inside.next })
+    rw (← c.self.view_is) (λ j. record {
+      hall = tidy_moved (kept_in c.self.inside)
+          c.self.inside.next c.args.s c.in-Some.entry.now c.self.invariant there _ none
+          (kept-puts c.self.inside.shutdowns.entries _ c.args.s None c.remove-entry.ensures.updates.0) j;
+      next = c.self.inside.next;
+    })
 
 pub returns-clause-counted : goal.returns-clause-counted
 returns-clause-counted c =
-    let there : get (kept_in c.self.inside).shutdowns c.args.s ≡ Some c.in-Some.entry.now = shutdown-kept c.self.inside c.args.s ∙ sym c.get.ensures.value ∙ ap option_copied c.in-Some.is in
+    let there : get (kept_in c.self.inside).shutdowns c.args.s ≡ Some c.in-Some.entry.now =
+    shutdown-kept c.self.inside c.args.s ∙ sym c.get.ensures.value ∙ ap option_copied c.in-Some.is in
     let none : c.in-Some.entry.now.things ≡ 0 = (let left = c.if-entry-gt0.false in omega (arith, left)) in
     let within = wakers-within (kept_in c.self.inside) c.self.inside.next c.args.s c.in-Some.entry.now there in
     let room = (rw (← c.self.view_is) at c.requires.room) in
-    let all = tidy_counted (kept_in c.self.inside) c.self.inside.next c.args.s c.in-Some.entry.now c.self.invariant there _ none (kept-puts c.self.inside.shutdowns.entries _ c.args.s None c.remove-entry.ensures.updates.0) in
+    let all = tidy_counted (kept_in c.self.inside) c.self.inside.next c.args.s c.in-Some.entry.now c.self.invariant there _ none
+    (kept-puts c.self.inside.shutdowns.entries _ c.args.s None c.remove-entry.ensures.updates.0) in
     let mine = c.registered_on_signal.ensures in
     let others = c.registered_on_receivers.ensures in
     let left = ap (λ (r : Waking ℕ). r.registered) c.unregister.ensures in

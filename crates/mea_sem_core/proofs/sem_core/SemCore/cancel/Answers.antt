@@ -11,7 +11,8 @@ pub get-requires : goal.get-requires
 get-requires g c = in_use c.self.inside.waiters c.in-Queued.demand c.in-Queued.number (rw (c.in-Queued.is, ← c.self.view_is) at c.requires)
 
 pub paid-paid-requires : goal.paid-paid-requires
-paid-paid-requires g c = lacks_at_most c.self.inside.waiters c.in-Queued.demand c.in-Queued.number c.get.result.now c.self.invariant.kept (rw (c.in-Queued.is, ← c.self.view_is) at c.requires) c.get.ensures
+paid-paid-requires g c = lacks_at_most c.self.inside.waiters c.in-Queued.demand c.in-Queued.number c.get.result.now c.self.invariant.kept
+    (rw (c.in-Queued.is, ← c.self.view_is) at c.requires) c.get.ensures
 
 pub remove_unlinked-requires-clause-unlinked : goal.remove_unlinked-requires-clause-unlinked
 remove_unlinked-requires-clause-unlinked g c = rw c.unlink.ensures (unlinked_after c.in-Queued.number c.self.inside.waiters.order)
@@ -35,17 +36,36 @@ returns-clause-cancels g c =
       (λ is.
           let granted = end.granted is in
           let part : c.paid-paid.result ≡ c.in-Queued.demand = c.paid-paid.ensures ∙ granted.0 in
-          λ i. poured (record { free = c.self.inside.free; live = c.self.inside.live - part i; queue = granted.1 i; granted = granted.2 i; wakes = c.self.inside.outbox.wakers }) (part i)),
+          λ i. poured (record {
+            free = c.self.inside.free;
+            live = c.self.inside.live - part i;
+            queue = granted.1 i;
+            granted = granted.2 i;
+            wakes = c.self.inside.outbox.wakers;
+          }) (part i)),
       (λ lack is.
           let waits = end.waits lack is in
           let part : c.paid-paid.result ≡ c.in-Queued.demand - lack = c.paid-paid.ensures ∙ waits.0 in
-          λ i. poured (record { free = c.self.inside.free; live = c.self.inside.live - part i; queue = waits.1 i; granted = waits.2 i; wakes = c.self.inside.outbox.wakers }) (part i)),
+          λ i. poured (record {
+            free = c.self.inside.free;
+            live = c.self.inside.live - part i;
+            queue = waits.1 i;
+            granted = waits.2 i;
+            wakes = c.self.inside.outbox.wakers;
+          }) (part i)),
     )
 
 pub returns-clause-steady : goal.returns-clause-steady
 returns-clause-steady g c =
     let end = ended c.self.inside.waiters c.unlink.new.self c.remove_unlinked.new.self c.in-Queued.demand c.in-Queued.number c.get.result.now c.self.invariant.kept (rw (c.in-Queued.is, ← c.self.view_is) at c.requires) c.get.ensures c.unlink.ensures c.remove_unlinked.ensures.updates c.remove_unlinked.ensures.order in
-    let seen : Core g.row.W.Denot = record { free = c.self.inside.free; live = c.self.inside.live; queue = queue_of c.self.inside.waiters; granted = granted_of c.self.inside.waiters; wakes = c.self.inside.outbox.wakers } in
+    let seen : Core g.row.W.Denot =
+    record {
+      free = c.self.inside.free;
+      live = c.self.inside.live;
+      queue = queue_of c.self.inside.waiters;
+      granted = granted_of c.self.inside.waiters;
+      wakes = c.self.inside.outbox.wakers;
+    } in
     let fits : c.paid-paid.result ≤ c.self.inside.live = omega (arith, end.paid, c.self.invariant.paid, c.paid-paid.ensures, c.self.invariant.total) in
     let cancels = rw (c.in-Queued.is, ← c.self.view_is) at (returns-clause-cancels g c) in
     rw (← c.self.view_is) (

@@ -10,8 +10,10 @@ use Rattle.mea_sem_core.proofs.sem_core.SemCore.forget_exact.Goals as goal
 
 pub invariant_of-self-2 : goal.invariant_of-self-2
 invariant_of-self-2 g c =
-    let kept : IsQueue c.reserve_place.new.waiters = rw c.reserve_place.ensures.waiters (IsQueue-spare _ c.reserve_place.new.waiters.spare c.self.invariant.kept) in
-    let owed = owing c.reserve_place.new.waiters c.push_head.new.self c.in-Ok.field-0 (c.args.n - c.self.inside.free) c.in-Ok.ensures.fresh c.in-Ok.ensures.updates c.in-Ok.ensures.order (omega arith) kept in
+    let kept : IsQueue c.reserve_place.new.waiters = rw c.reserve_place.ensures.waiters
+    (IsQueue-spare _ c.reserve_place.new.waiters.spare c.self.invariant.kept) in
+    let owed = owing c.reserve_place.new.waiters c.push_head.new.self c.in-Ok.field-0 (c.args.n - c.self.inside.free)
+    c.in-Ok.ensures.fresh c.in-Ok.ensures.updates c.in-Ok.ensures.order (omega arith) kept in
     let room : length c.self.inside.waiters.order + 1 ≤ c.reserve_place.new.outbox.spare = search rules in
     record {
       kept = owed.kept;
@@ -24,20 +26,26 @@ invariant_of-self-2 g c =
 
 pub returns-clause-ok : goal.returns-clause-ok
 returns-clause-ok g c =
-    let kept : IsQueue c.reserve_place.new.waiters = rw c.reserve_place.ensures.waiters (IsQueue-spare _ c.reserve_place.new.waiters.spare c.self.invariant.kept) in
-    let owed = owing c.reserve_place.new.waiters c.push_head.new.self c.in-Ok.field-0 (c.args.n - c.self.inside.free) c.in-Ok.ensures.fresh c.in-Ok.ensures.updates c.in-Ok.ensures.order (omega arith) kept in
+    let kept : IsQueue c.reserve_place.new.waiters = rw c.reserve_place.ensures.waiters
+    (IsQueue-spare _ c.reserve_place.new.waiters.spare c.self.invariant.kept) in
+    let owed = owing c.reserve_place.new.waiters c.push_head.new.self c.in-Ok.field-0 (c.args.n - c.self.inside.free)
+    c.in-Ok.ensures.fresh c.in-Ok.ensures.updates c.in-Ok.ensures.order (omega arith) kept in
     let lack : c.args.n - c.self.inside.free ≡ c.args.n - min c.args.n c.self.inside.free = omega arith in
     let free : 0 ≡ c.self.inside.free - min c.args.n c.self.inside.free = omega arith in
     let live : c.self.inside.live - c.self.inside.free ≡ c.self.inside.live - min c.args.n c.self.inside.free = omega arith in
-    let queue = owed.queue ∙ ap (λ w. (Owes, c.args.n - c.self.inside.free) ∷ queue_of w) c.reserve_place.ensures.waiters ∙ sym (with_debt_some (queue_of c.self.inside.waiters) (c.args.n - c.self.inside.free) (omega arith)) ∙ ap (with_debt (queue_of c.self.inside.waiters)) lack in
+    let queue = owed.queue ∙ ap (λ w. (Owes, c.args.n - c.self.inside.free) ∷ queue_of w) c.reserve_place.ensures.waiters
+    ∙ sym (with_debt_some (queue_of c.self.inside.waiters) (c.args.n - c.self.inside.free) (omega arith))
+    ∙ ap (with_debt (queue_of c.self.inside.waiters)) lack in
     let granted = owed.granted ∙ ap granted_of c.reserve_place.ensures.waiters in
     let wakes = ap (λ o. o.wakers) c.reserve_place.ensures.outbox in
     rw (← c.self.view_is) (λ i. record { free = free i; live = live i; queue = queue i; granted = granted i; wakes = wakes i })
 
 pub returns-clause-held : goal.returns-clause-held
 returns-clause-held g c =
-    let kept : IsQueue c.reserve_place.new.waiters = rw c.reserve_place.ensures.waiters (IsQueue-spare _ c.reserve_place.new.waiters.spare c.self.invariant.kept) in
-    let owed = owing c.reserve_place.new.waiters c.push_head.new.self c.in-Ok.field-0 (c.args.n - c.self.inside.free) c.in-Ok.ensures.fresh c.in-Ok.ensures.updates c.in-Ok.ensures.order (omega arith) kept in
+    let kept : IsQueue c.reserve_place.new.waiters = rw c.reserve_place.ensures.waiters
+    (IsQueue-spare _ c.reserve_place.new.waiters.spare c.self.invariant.kept) in
+    let owed = owing c.reserve_place.new.waiters c.push_head.new.self c.in-Ok.field-0 (c.args.n - c.self.inside.free)
+    c.in-Ok.ensures.fresh c.in-Ok.ensures.updates c.in-Ok.ensures.order (omega arith) kept in
     let before = paid-view c.self.inside.waiters c.self.invariant.kept in
     let after = paid-view c.push_head.new.self owed.kept in
     let same = ap (λ w. paid_in w) c.reserve_place.ensures.waiters in
@@ -45,9 +53,11 @@ returns-clause-held g c =
 
 pub returns-in_err-reserve_place-clause-sound : goal.returns-in_err-reserve_place-clause-sound
 returns-in_err-reserve_place-clause-sound g c =
-    let kept : IsQueue c.reserve_place.new.waiters = rw c.reserve_place.ensures.waiters (IsQueue-spare _ c.reserve_place.new.waiters.spare c.self.invariant.kept) in
+    let kept : IsQueue c.reserve_place.new.waiters = rw c.reserve_place.ensures.waiters
+    (IsQueue-spare _ c.reserve_place.new.waiters.spare c.self.invariant.kept) in
     let paid = ap (λ w. paid_in w) c.reserve_place.ensures.waiters in
-    sound _ _ _ _ _ kept (c.self.invariant.paid ∙ sym paid) c.self.invariant.total (λ some. ap (λ w. w.order) c.reserve_place.ensures.waiters ∙ c.self.invariant.idle some) c.self.invariant.fits
+    sound _ _ _ _ _ kept (c.self.invariant.paid ∙ sym paid) c.self.invariant.total
+    (λ some. ap (λ w. w.order) c.reserve_place.ensures.waiters ∙ c.self.invariant.idle some) c.self.invariant.fits
 
 pub returns-clause-sound : goal.returns-clause-sound
 returns-clause-sound g c =

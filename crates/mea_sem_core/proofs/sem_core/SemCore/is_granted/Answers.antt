@@ -14,7 +14,8 @@ returns-then-is_in_use-clause-granted g c =
 
 pub returns-then-is_in_use-clause-apart : goal.returns-then-is_in_use-clause-apart
 returns-then-is_in_use-clause-apart g c = rw (c.in-Queued.is, ← c.self.view_is) (λ yes.
-    granted_apart c.self.inside.waiters c.in-Queued.demand c.in-Queued.number c.self.invariant.kept (granted_at c.self.inside.waiters c.in-Queued.demand c.in-Queued.number c.get.result.now c.get.ensures (sym c.is_grant_of.ensures ∙ yes)))
+    granted_apart c.self.inside.waiters c.in-Queued.demand c.in-Queued.number c.self.invariant.kept
+    (granted_at c.self.inside.waiters c.in-Queued.demand c.in-Queued.number c.get.result.now c.get.ensures (sym c.is_grant_of.ensures ∙ yes)))
 
 pub returns-then-is_in_use-clause-stands : goal.returns-then-is_in_use-clause-stands
 returns-then-is_in_use-clause-stands g c = rw c.in-Queued.is (λ belongs.
@@ -25,10 +26,14 @@ pub returns-else-is_in_use-clause-granted : goal.returns-else-is_in_use-clause-g
 returns-else-is_in_use-clause-granted g c =
     rw (c.in-Queued.is, ← c.self.view_is) (
       (λ yes. absurd (let no = c.if-is_in_use.false in cc)),
-      (λ granted. c.is_in_use.ensures.1 (in_use_at c.self.inside.waiters c.in-Queued.demand c.in-Queued.number (place_of c.self.inside.waiters c.in-Queued.demand c.in-Queued.number (inl granted)))),
+      (λ granted. c.is_in_use.ensures.1
+          (in_use_at c.self.inside.waiters c.in-Queued.demand c.in-Queued.number
+          (place_of c.self.inside.waiters c.in-Queued.demand c.in-Queued.number (inl granted)))),
     )
 
 pub returns-else-is_in_use-clause-stands : goal.returns-else-is_in_use-clause-stands
 returns-else-is_in_use-clause-stands g c = rw c.in-Queued.is (λ belongs.
-    let used = c.is_in_use.ensures.1 (in_use_at c.self.inside.waiters c.in-Queued.demand c.in-Queued.number (place_of c.self.inside.waiters c.in-Queued.demand c.in-Queued.number (rw (← c.self.view_is) at belongs))) in
+    let used = c.is_in_use.ensures.1
+    (in_use_at c.self.inside.waiters c.in-Queued.demand c.in-Queued.number
+    (place_of c.self.inside.waiters c.in-Queued.demand c.in-Queued.number (rw (← c.self.view_is) at belongs))) in
     absurd (let no = c.if-is_in_use.false in cc))

@@ -9,7 +9,8 @@ pub get-requires : goal.get-requires
 get-requires g c = in_use c.self.inside.waiters c.in-Queued.demand c.in-Queued.number (rw (c.in-Queued.is, ← c.self.view_is) at c.requires)
 
 pub paid-paid-requires : goal.paid-paid-requires
-paid-paid-requires g c = lacks_at_most c.self.inside.waiters c.in-Queued.demand c.in-Queued.number c.get.result.now c.self.invariant.kept (rw (c.in-Queued.is, ← c.self.view_is) at c.requires) c.get.ensures
+paid-paid-requires g c = lacks_at_most c.self.inside.waiters c.in-Queued.demand c.in-Queued.number c.get.result.now c.self.invariant.kept
+    (rw (c.in-Queued.is, ← c.self.view_is) at c.requires) c.get.ensures
 
 pub remove_unlinked-requires-clause-unlinked : goal.remove_unlinked-requires-clause-unlinked
 remove_unlinked-requires-clause-unlinked g c = rw c.unlink.ensures (unlinked_after c.in-Queued.number c.self.inside.waiters.order)
@@ -33,11 +34,23 @@ returns-clause-loses g c =
       (λ is.
           let granted = end.granted is in
           let part : c.paid-paid.result ≡ c.in-Queued.demand = c.paid-paid.ensures ∙ granted.0 in
-          λ i. record { free = c.self.inside.free; live = c.self.inside.live - part i; queue = granted.1 i; granted = granted.2 i; wakes = c.self.inside.outbox.wakers }),
+          λ i. record {
+            free = c.self.inside.free;
+            live = c.self.inside.live - part i;
+            queue = granted.1 i;
+            granted = granted.2 i;
+            wakes = c.self.inside.outbox.wakers;
+          }),
       (λ lack is.
           let waits = end.waits lack is in
           let part : c.paid-paid.result ≡ c.in-Queued.demand - lack = c.paid-paid.ensures ∙ waits.0 in
-          λ i. record { free = c.self.inside.free; live = c.self.inside.live - part i; queue = waits.1 i; granted = waits.2 i; wakes = c.self.inside.outbox.wakers }),
+          λ i. record {
+            free = c.self.inside.free;
+            live = c.self.inside.live - part i;
+            queue = waits.1 i;
+            granted = waits.2 i;
+            wakes = c.self.inside.outbox.wakers;
+          }),
     )
 
 pub returns-clause-held : goal.returns-clause-held

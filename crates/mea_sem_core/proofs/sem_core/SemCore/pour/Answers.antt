@@ -30,7 +30,8 @@ invariant_of-self g c =
 pub returns-clause-poured : goal.returns-clause-poured
 returns-clause-poured g c =
     let pours = c.pour-left.ensures.pours in
-    let live : c.self.inside.live + (c.args.n - c.pour-left.result.to_debts) ≡ c.self.inside.live + c.args.n - paid_to_debts (queue_of c.self.inside.waiters) c.args.n = omega arith in
+    let live : c.self.inside.live + (c.args.n - c.pour-left.result.to_debts) ≡ c.self.inside.live + c.args.n - paid_to_debts
+    (queue_of c.self.inside.waiters) c.args.n = omega arith in
     let free : c.self.inside.free + c.pour-left.result.left ≡ c.self.inside.free + (c.args.n - lacks (queue_of c.self.inside.waiters)) = omega arith in
     rw (← c.self.view_is) (λ i. record { free = free i; live = live i; queue = pours.queue i; granted = pours.granted i; wakes = pours.wakers i })
 

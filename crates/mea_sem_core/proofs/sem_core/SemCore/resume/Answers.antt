@@ -12,11 +12,17 @@ get-requires g c = in_use c.self.inside.waiters c.args.demand c.args.number (rw 
 
 -- ---- an acquire that was granted
 pub remove_unlinked-requires-clause-unlinked : goal.remove_unlinked-requires-clause-unlinked
-remove_unlinked-requires-clause-unlinked g c = unlinked c.self.inside.waiters c.args.demand c.args.number c.get.result.now c.self.invariant.kept c.get.ensures (sym c.if-is_grant_of.ensures)
+remove_unlinked-requires-clause-unlinked g c =
+    unlinked c.self.inside.waiters c.args.demand c.args.number c.get.result.now c.self.invariant.kept c.get.ensures (sym c.if-is_grant_of.ensures)
 
 pub overflow_sub-self : goal.overflow_sub-self
 overflow_sub-self g c =
-    omega (arith, demand-le-paid c.self.inside.waiters c.args.demand c.args.number (granted_at c.self.inside.waiters c.args.demand c.args.number c.get.result.now c.get.ensures (sym c.if-is_grant_of.ensures)), c.self.invariant.paid)
+    omega (
+      arith,
+      demand-le-paid c.self.inside.waiters c.args.demand c.args.number
+          (granted_at c.self.inside.waiters c.args.demand c.args.number c.get.result.now c.get.ensures (sym c.if-is_grant_of.ensures)),
+      c.self.invariant.paid,
+    )
 
 pub invariant_of-self : goal.invariant_of-self
 invariant_of-self g c =
@@ -32,8 +38,16 @@ invariant_of-self g c =
 
 pub returns-then-is_grant_of-clause-granted : goal.returns-then-is_grant_of-clause-granted
 returns-then-is_grant_of-clause-granted g c = λ is.
-    let taken = polled_granted c.self.inside.waiters c.remove_unlinked.new.self c.args.demand c.args.number c.get.result.now c.self.invariant.kept c.get.ensures (sym c.if-is_grant_of.ensures) c.remove_unlinked.ensures.updates c.remove_unlinked.ensures.order in
-    (refl, rw (← c.self.view_is) (λ i. record { free = c.self.inside.free; live = c.self.inside.live; queue = taken.queue i; granted = taken.granted i; wakes = c.self.inside.outbox.wakers }))
+    let taken = polled_granted c.self.inside.waiters c.remove_unlinked.new.self c.args.demand c.args.number c.get.result.now c.self.invariant.kept c.get.ensures (sym c.if-is_grant_of.ensures) c.remove_unlinked.ensures.updates c.remove_unlinked.ensures.order in (
+      refl,
+      rw (← c.self.view_is) (λ i. record {
+        free = c.self.inside.free;
+        live = c.self.inside.live;
+        queue = taken.queue i;
+        granted = taken.granted i;
+        wakes = c.self.inside.outbox.wakers;
+      }),
+    )
 
 pub returns-then-is_grant_of-clause-holds : goal.returns-then-is_grant_of-clause-holds
 returns-then-is_grant_of-clause-holds g c = λ is.
@@ -43,10 +57,14 @@ returns-then-is_grant_of-clause-holds g c = λ is.
     rw (← c.self.view_is) (omega (arith, before, after, taken.paid, c.self.invariant.paid, c.self.invariant.total))
 
 pub returns-then-is_grant_of-clause-waits : goal.returns-then-is_grant_of-clause-waits
-returns-then-is_grant_of-clause-waits g c = λ waiting. absurd (let waits = rw (← c.self.view_is) at waiting in not_waiting c.self.inside.waiters c.args.demand c.args.number waits.0 c.get.result.now c.get.ensures (sym c.if-is_grant_of.ensures) waits.1)
+returns-then-is_grant_of-clause-waits g c = λ waiting. absurd
+    (let waits = rw (← c.self.view_is) at waiting in
+    not_waiting c.self.inside.waiters c.args.demand c.args.number waits.0 c.get.result.now c.get.ensures (sym c.if-is_grant_of.ensures) waits.1)
 
 pub returns-then-is_grant_of-clause-held : goal.returns-then-is_grant_of-clause-held
-returns-then-is_grant_of-clause-held g c = λ waiting. absurd (let waits = rw (← c.self.view_is) at waiting in not_waiting c.self.inside.waiters c.args.demand c.args.number waits.0 c.get.result.now c.get.ensures (sym c.if-is_grant_of.ensures) waits.1)
+returns-then-is_grant_of-clause-held g c = λ waiting. absurd
+    (let waits = rw (← c.self.view_is) at waiting in
+    not_waiting c.self.inside.waiters c.args.demand c.args.number waits.0 c.get.result.now c.get.ensures (sym c.if-is_grant_of.ensures) waits.1)
 
 pub returns-then-is_grant_of-clause-sound : goal.returns-then-is_grant_of-clause-sound
 returns-then-is_grant_of-clause-sound g c =
@@ -68,8 +86,16 @@ invariant_of-self-2 g c =
 
 pub returns-clause-waits : goal.returns-clause-waits
 returns-clause-waits g c = λ waiting.
-    let rewoken = polled_waiting c.self.inside.waiters c.args.demand c.args.number c.get.result.now c.get_mut.result.now c.set_waker.new.self c.args.waker c.self.invariant.kept (rw (← c.self.view_is) at c.requires) c.get.ensures (sym c.if-is_grant_of.ensures) c.get_mut.ensures.value c.set_waker.ensures in
-    (refl, rw (← c.self.view_is) (λ i. record { free = c.self.inside.free; live = c.self.inside.live; queue = rewoken.queue i; granted = rewoken.granted i; wakes = c.self.inside.outbox.wakers }))
+    let rewoken = polled_waiting c.self.inside.waiters c.args.demand c.args.number c.get.result.now c.get_mut.result.now c.set_waker.new.self c.args.waker c.self.invariant.kept (rw (← c.self.view_is) at c.requires) c.get.ensures (sym c.if-is_grant_of.ensures) c.get_mut.ensures.value c.set_waker.ensures in (
+      refl,
+      rw (← c.self.view_is) (λ i. record {
+        free = c.self.inside.free;
+        live = c.self.inside.live;
+        queue = rewoken.queue i;
+        granted = rewoken.granted i;
+        wakes = c.self.inside.outbox.wakers;
+      }),
+    )
 
 pub returns-clause-held : goal.returns-clause-held
 returns-clause-held g c = λ waiting.
@@ -79,14 +105,17 @@ returns-clause-held g c = λ waiting.
     rw (← c.self.view_is) (omega (arith, before, after, rewoken.paid))
 
 pub returns-clause-granted : goal.returns-clause-granted
-returns-clause-granted g c = λ is. absurd (not_granted c.self.inside.waiters c.args.demand c.args.number c.get.result.now c.get.ensures (sym c.if-is_grant_of.ensures) (rw (← c.self.view_is) at is))
+returns-clause-granted g c = λ is. absurd
+    (not_granted c.self.inside.waiters c.args.demand c.args.number c.get.result.now c.get.ensures (sym c.if-is_grant_of.ensures) (rw (← c.self.view_is) at is))
 
 pub returns-clause-holds : goal.returns-clause-holds
-returns-clause-holds g c = λ is. absurd (not_granted c.self.inside.waiters c.args.demand c.args.number c.get.result.now c.get.ensures (sym c.if-is_grant_of.ensures) (rw (← c.self.view_is) at is))
+returns-clause-holds g c = λ is. absurd
+    (not_granted c.self.inside.waiters c.args.demand c.args.number c.get.result.now c.get.ensures (sym c.if-is_grant_of.ensures) (rw (← c.self.view_is) at is))
 
 pub returns-clause-steady : goal.returns-clause-steady
 returns-clause-steady g c = elim c.requires [
-  | inl is ↦ absurd (not_granted c.self.inside.waiters c.args.demand c.args.number c.get.result.now c.get.ensures (sym c.if-is_grant_of.ensures) (rw (← c.self.view_is) at is))
+  | inl is ↦ absurd (not_granted c.self.inside.waiters c.args.demand c.args.number c.get.result.now c.get.ensures (sym c.if-is_grant_of.ensures)
+      (rw (← c.self.view_is) at is))
   | inr waits ↦ steady_rewakes _ _ c.args.number c.args.waker (returns-clause-waits g c waits).1
 ]
 

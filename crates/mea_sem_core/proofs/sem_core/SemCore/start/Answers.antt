@@ -17,8 +17,10 @@ returns-then-demand-self-clause-holds g c = λ fits.
 -- ---- it has to wait
 pub invariant_of-self-2 : goal.invariant_of-self-2
 invariant_of-self-2 g c =
-    let kept : IsQueue c.reserve_place.new.waiters = rw c.reserve_place.ensures.waiters (IsQueue-spare _ c.reserve_place.new.waiters.spare c.self.invariant.kept) in
-    let added = enqueues c.reserve_place.new.waiters c.push_tail.new.self c.in-Ok.number c.args.demand (c.args.demand - c.self.inside.free) c.args.waker c.in-Ok.ensures.fresh c.in-Ok.ensures.updates c.in-Ok.ensures.order (omega arith) (omega arith) kept in
+    let kept : IsQueue c.reserve_place.new.waiters = rw c.reserve_place.ensures.waiters
+    (IsQueue-spare _ c.reserve_place.new.waiters.spare c.self.invariant.kept) in
+    let added = enqueues c.reserve_place.new.waiters c.push_tail.new.self c.in-Ok.number c.args.demand (c.args.demand - c.self.inside.free)
+    c.args.waker c.in-Ok.ensures.fresh c.in-Ok.ensures.updates c.in-Ok.ensures.order (omega arith) (omega arith) kept in
     let room : length c.self.inside.waiters.order + 1 ≤ c.reserve_place.new.outbox.spare = search rules in
     record {
       kept = added.kept;
@@ -31,17 +33,22 @@ invariant_of-self-2 g c =
 
 pub returns-clause-waits : goal.returns-clause-waits
 returns-clause-waits g c = λ short.
-    let kept : IsQueue c.reserve_place.new.waiters = rw c.reserve_place.ensures.waiters (IsQueue-spare _ c.reserve_place.new.waiters.spare c.self.invariant.kept) in
-    let added = enqueues c.reserve_place.new.waiters c.push_tail.new.self c.in-Ok.number c.args.demand (c.args.demand - c.self.inside.free) c.args.waker c.in-Ok.ensures.fresh c.in-Ok.ensures.updates c.in-Ok.ensures.order (omega arith) (omega arith) kept in
-    let queue = added.queue ∙ ap (λ w. queue_of w ++ (Acquires c.in-Ok.number c.args.demand c.args.waker, c.args.demand - c.self.inside.free) ∷ []) c.reserve_place.ensures.waiters in
+    let kept : IsQueue c.reserve_place.new.waiters = rw c.reserve_place.ensures.waiters
+    (IsQueue-spare _ c.reserve_place.new.waiters.spare c.self.invariant.kept) in
+    let added = enqueues c.reserve_place.new.waiters c.push_tail.new.self c.in-Ok.number c.args.demand (c.args.demand - c.self.inside.free)
+    c.args.waker c.in-Ok.ensures.fresh c.in-Ok.ensures.updates c.in-Ok.ensures.order (omega arith) (omega arith) kept in
+    let queue = added.queue ∙ ap (λ w. queue_of w ++ (Acquires c.in-Ok.number c.args.demand c.args.waker, c.args.demand - c.self.inside.free) ∷ [])
+    c.reserve_place.ensures.waiters in
     let granted = added.granted ∙ ap granted_of c.reserve_place.ensures.waiters in
-    let fresh : get c.self.inside.waiters c.in-Ok.number ≡ None = sym (ap (λ w. get w c.in-Ok.number) c.reserve_place.ensures.waiters) ∙ c.in-Ok.ensures.fresh in
+    let fresh : get c.self.inside.waiters c.in-Ok.number ≡ None =
+    sym (ap (λ w. get w c.in-Ok.number) c.reserve_place.ensures.waiters) ∙ c.in-Ok.ensures.fresh in
     let wakes = ap (λ o. o.wakers) c.reserve_place.ensures.outbox in (
       c.in-Ok.number,
       refl,
       rw (← c.self.view_is) record {
         is = λ i. record { free = 0; live = c.self.inside.live; queue = queue i; granted = granted i; wakes = wakes i };
-        not_waiting = waiting_absent c.self.inside.waiters.slots c.in-Ok.number c.self.inside.waiters.order (absent_from_none _ _ _ fresh c.self.invariant.kept.waiting);
+        not_waiting = waiting_absent c.self.inside.waiters.slots c.in-Ok.number c.self.inside.waiters.order
+            (absent_from_none _ _ _ fresh c.self.invariant.kept.waiting);
         not_granted = not_granted c.self.inside.waiters.slots _ fresh;
       },
     )
@@ -53,8 +60,10 @@ returns-clause-steady g c =
 
 pub returns-clause-held : goal.returns-clause-held
 returns-clause-held g c = λ short.
-    let kept : IsQueue c.reserve_place.new.waiters = rw c.reserve_place.ensures.waiters (IsQueue-spare _ c.reserve_place.new.waiters.spare c.self.invariant.kept) in
-    let added = enqueues c.reserve_place.new.waiters c.push_tail.new.self c.in-Ok.number c.args.demand (c.args.demand - c.self.inside.free) c.args.waker c.in-Ok.ensures.fresh c.in-Ok.ensures.updates c.in-Ok.ensures.order (omega arith) (omega arith) kept in
+    let kept : IsQueue c.reserve_place.new.waiters = rw c.reserve_place.ensures.waiters
+    (IsQueue-spare _ c.reserve_place.new.waiters.spare c.self.invariant.kept) in
+    let added = enqueues c.reserve_place.new.waiters c.push_tail.new.self c.in-Ok.number c.args.demand (c.args.demand - c.self.inside.free)
+    c.args.waker c.in-Ok.ensures.fresh c.in-Ok.ensures.updates c.in-Ok.ensures.order (omega arith) (omega arith) kept in
     let before = paid-view c.self.inside.waiters c.self.invariant.kept in
     let after = paid-view c.push_tail.new.self added.kept in
     let same = ap (λ w. paid_in w) c.reserve_place.ensures.waiters in
@@ -62,13 +71,16 @@ returns-clause-held g c = λ short.
 
 pub returns-then-demand-self-clause-sound : goal.returns-then-demand-self-clause-sound
 returns-then-demand-self-clause-sound g c =
-    sound _ _ _ _ _ c.self.invariant.kept c.self.invariant.paid (omega (arith, c.self.invariant.total)) (λ some. c.self.invariant.idle (omega arith)) (omega (arith, c.self.invariant.fits))
+    sound _ _ _ _ _ c.self.invariant.kept c.self.invariant.paid (omega (arith, c.self.invariant.total)) (λ some. c.self.invariant.idle (omega arith))
+    (omega (arith, c.self.invariant.fits))
 
 pub returns-then-is_err-clause-sound : goal.returns-then-is_err-clause-sound
 returns-then-is_err-clause-sound g c =
-    let kept : IsQueue c.reserve_place.new.waiters = rw c.reserve_place.ensures.waiters (IsQueue-spare _ c.reserve_place.new.waiters.spare c.self.invariant.kept) in
+    let kept : IsQueue c.reserve_place.new.waiters = rw c.reserve_place.ensures.waiters
+    (IsQueue-spare _ c.reserve_place.new.waiters.spare c.self.invariant.kept) in
     let paid = ap (λ w. paid_in w) c.reserve_place.ensures.waiters in
-    sound _ _ _ _ _ kept (c.self.invariant.paid ∙ sym paid) c.self.invariant.total (λ some. ap (λ w. w.order) c.reserve_place.ensures.waiters ∙ c.self.invariant.idle some) c.self.invariant.fits
+    sound _ _ _ _ _ kept (c.self.invariant.paid ∙ sym paid) c.self.invariant.total
+    (λ some. ap (λ w. w.order) c.reserve_place.ensures.waiters ∙ c.self.invariant.idle some) c.self.invariant.fits
 
 pub returns-clause-sound : goal.returns-clause-sound
 returns-clause-sound g c =

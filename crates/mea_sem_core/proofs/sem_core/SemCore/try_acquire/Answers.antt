@@ -11,7 +11,8 @@ returns-then-n-self-clause-held g c = λ fits.
 
 pub returns-then-n-self-clause-sound : goal.returns-then-n-self-clause-sound
 returns-then-n-self-clause-sound g c =
-    sound _ _ _ _ _ c.self.invariant.kept c.self.invariant.paid (omega (arith, c.self.invariant.total)) (λ some. c.self.invariant.idle (omega arith)) (omega (arith, c.self.invariant.fits))
+    sound _ _ _ _ _ c.self.invariant.kept c.self.invariant.paid (omega (arith, c.self.invariant.total)) (λ some. c.self.invariant.idle (omega arith))
+    (omega (arith, c.self.invariant.fits))
 
 pub returns-else-n-self-clause-sound : goal.returns-else-n-self-clause-sound
 returns-else-n-self-clause-sound g c =

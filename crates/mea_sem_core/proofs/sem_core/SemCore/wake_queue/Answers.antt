@@ -31,7 +31,8 @@ returns-clause-is g c =
     let few = rw (← c.self.view_is) at c.requires.few in
     let debts = rw (← c.self.view_is) at c.requires.no_debt in
     let none = paid_to_none q (lacks q) debts in
-    let live : c.self.inside.live + (18446744073709551615 - c.pour-left.result.left) ≡ c.self.inside.live + lacks q - paid_to_debts q (lacks q) = omega (arith, none, few) in
+    let live : c.self.inside.live + (18446744073709551615 - c.pour-left.result.left) ≡ c.self.inside.live + lacks q - paid_to_debts q (lacks q) =
+    omega (arith, none, few) in
     let free : c.self.inside.free ≡ c.self.inside.free + (lacks q - lacks q) = omega arith in
     let queue = pours.queue ∙ waiting_enough q 18446744073709551615 (omega (arith, few)) ∙ sym (waiting_enough q (lacks q) (omega arith)) in
     let paid = granted_enough q 18446744073709551615 (omega (arith, few)) ∙ sym (granted_enough q (lacks q) (omega arith)) in
