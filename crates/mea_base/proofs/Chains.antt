@@ -1,8 +1,8 @@
 -- chains of keys by their next and previous keys, as functions
-use Rattle.std.proofs.Common.{◌≡◌, ◌≢◌, ℕ, zero, suc, ◌+◌, true, false, eqb, List, [], ◌∷◌, ◌++◌, length, drop, refl, sym, ap, subst, ◌∙◌, inl, inr, arith}
+use Rattle.std.proofs.Common.{◌≡◌, ◌≢◌, ◌⊎◌, ap₂, ℕ, zero, suc, ◌+◌, true, false, eqb, List, [], ◌∷◌, ◌++◌, length, drop, refl, sym, ap, subst, ◌∙◌, inl, inr, arith}
 use Rattle.std.proofs.lemmas.Bool.{cases_eq, eq-eqb, ne_eqb}
 use Rattle.std.specs.List.{list_any, AllByRecursion}
-use Rattle.mea_base.specs.WaitList.{without, IsAbsent, IsDistinct}
+use Rattle.mea_base.specs.WaitList.{without, IsAbsent, IsDistinct, StandsBefore, StandsLast}
 use Rattle.mea_base.specs.WaitListLinks.{walk, IsChain}
 
 pub all_from_absent : (n : ℕ) (ks : List ℕ) → IsAbsent n ks → AllByRecursion (λ k. k ≢ n) ks
@@ -59,6 +59,41 @@ length-walk next (suc count) key = ap suc (length-walk next count (next key))
 pub walk-chain : (next prev : ℕ → ℕ) (a : ℕ) (ks : List ℕ) (z : ℕ) → IsChain next prev a ks z → walk next (length ks) (next a) ≡ ks
 walk-chain next prev a [] z chain = refl
 walk-chain next prev a (k ∷ ks) z chain = rw chain.0 (ap (λ js. k ∷ js) (walk-chain next prev k ks z chain.2))
+
+-- what holds of all keys holds of one that is found
+pub found_of : (P : ℕ → Type 0) (n : ℕ) (ks : List ℕ) → AllByRecursion P ks → list_any (λ k. eqb k n) ks ≡ true → P n
+found_of P n [] all found = absurd (cc)
+found_of P n (k ∷ ks) all found =
+    elim (cases_eq k n) [
+      | inl same ↦ subst P same all.0
+      | inr differs ↦ found_of P n ks all.1 (rw (ne_eqb k n differs) at found)
+    ]
+
+-- a key on a chain names the key that stands behind it, and the last one names the end
+pub behind : (next prev : ℕ → ℕ) (a : ℕ) (ks : List ℕ) (z n : ℕ) → IsChain next prev a ks z → list_any (λ k. eqb k n) ks ≡ true
+    → ((next n ≡ z) × StandsLast n ks) ⊎ StandsBefore n (next n) ks
+behind next prev a [] z n chain found = absurd (cc)
+behind next prev a (k ∷ []) z n chain found =
+    elim (cases_eq k n) [
+      | inl same ↦ inl (ap next (sym same) ∙ chain.2.0, ([], ap (λ j. j ∷ []) same))
+      | inr differs ↦ absurd (let none = rw (ne_eqb k n differs) at found in cc)
+    ]
+behind next prev a (k ∷ j ∷ js) z n chain found =
+    elim (cases_eq k n) [
+      | inl same ↦ inr ([], js, ap₂ (λ x y. x ∷ y ∷ js) same (sym chain.2.0 ∙ ap next same))
+      | inr differs ↦ elim (behind next prev k (j ∷ js) z n chain.2 (rw (ne_eqb k n differs) at found)) [
+        | inl last ↦ inl (last.0, (k ∷ last.1.0, ap (λ ks. k ∷ ks) last.1.1))
+        | inr before ↦ inr (k ∷ before.0, before.1, ap (λ ks. k ∷ ks) before.2)
+      ]
+    ]
+
+-- a key that is absent stands behind none
+pub absent_behind : (k m n : ℕ) (ks front back : List ℕ) → IsAbsent k ks → ks ≡ front ++ m ∷ n ∷ back → n ≢ k
+absent_behind k m n ks front back absent is = absent_in front (rw is at absent)
+  where
+    absent_in : (js : List ℕ) → IsAbsent k (js ++ m ∷ n ∷ back) → n ≢ k
+    absent_in [] absent = absent.1.0
+    absent_in (j ∷ js) absent = absent_in js absent.1
 
 -- the same keys beside each key of a chain make the same chain
 pub chain-alike : (next prev next' prev' : ℕ → ℕ) (a : ℕ) (ks : List ℕ) (z : ℕ) → next' a ≡ next a

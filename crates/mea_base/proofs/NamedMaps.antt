@@ -1,5 +1,5 @@
--- what a change of a `BTreeMap` does to the finite map that it stands for
-use Rattle.std.proofs.Common.{is_some, ◌≡◌, ℕ, ◌==◌, Bool, true, false, cond, List, [], ◌∷◌, map, Option, Some, None, refl, ap, sym, ◌∙◌, arith}
+-- what a change of a `HashMap` does to the finite map that it stands for
+use Rattle.std.proofs.Common.{is_some, nat_eq, ◌≡◌, ℕ, ◌==◌, Bool, true, false, cond, List, [], ◌∷◌, map, Option, Some, None, refl, ap, sym, ◌∙◌, arith}
 use Rattle.std.specs.Option.{option_map}
 use Rattle.std.specs.Ordering.{nat_cmp, is_eq}
 use Rattle.std.specs.declared.cmp.Ordering.{Ordering}
@@ -26,10 +26,12 @@ is_at-eq k q = grind (arith, nat_tests)
 
 find-named : {X Y : Type 0} (f : ℕ → X → Y) (es : List (ℕ × X)) (q : ℕ) → find nat_cmp q (map (λ (e : ℕ × X). (e.0, f e.0 e.1)) es) ≡ option_map (f q) (at es q)
 find-named f [] q = refl
-find-named f (e ∷ es) q = elim (is_at (nat_cmp q) e.0)
-    as (λ b. is_at (nat_cmp q) e.0 ≡ b → cond b (Some (f e.0 e.1)) (find nat_cmp q (map (λ e. (e.0, f e.0 e.1)) es)) ≡ option_map (f q)
+find-named f (e ∷ es) q =
+    ap (λ b. cond b (Some (f e.0 e.1)) (find nat_cmp q (map (λ e. (e.0, f e.0 e.1)) es))) (is_at-eq q e.0)
+    ∙ elim (nat_eq q e.0)
+    as (λ b. nat_eq q e.0 ≡ b → cond b (Some (f e.0 e.1)) (find nat_cmp q (map (λ e. (e.0, f e.0 e.1)) es)) ≡ option_map (f q)
     (cond b (Some e.1) (at es q))) [
-      | true ↦ λ h. ap (λ k. Some (f k e.1)) (sym (same_key q e.0 h))
+      | true ↦ λ h. ap (λ k. Some (f k e.1)) (sym (eqb-true q e.0 h))
       | false ↦ λ h. find-named f es q
     ] refl
 
@@ -51,11 +53,11 @@ option_map_cond f false o p = refl
 
 -- what is seen at each name, where one name has changed
 pub named_changed : {X Y : Type 0} (f : ℕ → X → Y) (g : ℕ → X → Y) (es fs : List (ℕ × X)) (k : ℕ) (o : Option X)
-    → ((q : ℕ) → at fs q ≡ cond (is_at (nat_cmp k) q) o (at es q))
+    → ((q : ℕ) → at fs q ≡ cond (nat_eq k q) o (at es q))
     → ((q : ℕ) (x : X) → (k ≡ q → Unit {0}) → at es q ≡ Some x → g q x ≡ f q x) → (q : ℕ)
     → option_map (g q) (at fs q) ≡ cond (k == q) (option_map (g k) o) (option_map (f q) (at es q))
 named_changed {X} f g es fs k o h same q =
-    ap (option_map (g q)) (h q) ∙ ap (λ b. option_map (g q) (cond b o (at es q))) (is_at-eq k q) ∙ by_test (k == q) refl (at es q) refl
+    ap (option_map (g q)) (h q) ∙ by_test (k == q) refl (at es q) refl
   where
     by_test : (b : Bool) → (k == q) ≡ b → (p : Option X) → at es q ≡ p → option_map (g q) (cond b o p) ≡ cond b (option_map (g k) o) (option_map (f q) p)
     by_test true e p is = ap (λ j. option_map (g j) o) (sym (eqb-true k q e))
@@ -64,7 +66,7 @@ named_changed {X} f g es fs k o h same q =
 
 -- a value is put at a name
 pub named_put : {X Y : Type 0} (f : ℕ → X → Y) (es fs : List (ℕ × X)) (k : ℕ) (v : X)
-    → ((q : ℕ) → at fs q ≡ cond (is_at (nat_cmp k) q) (Some v) (at es q)) → named f fs ≡ insert (named f es) k (f k v)
+    → ((q : ℕ) → at fs q ≡ cond (nat_eq k q) (Some v) (at es q)) → named f fs ≡ insert (named f es) k (f k v)
 named_put f es fs k v h = same_named _ _ (λ q.
     get-named f fs q ∙ named_changed f f es fs k (Some v) h (λ j x d is. refl) q
     ∙ ap (cond (k == q) (Some (f k v))) (sym (get-named f es q))
@@ -72,7 +74,7 @@ named_put f es fs k v h = same_named _ _ (λ q.
     ∙ sym (get-insert nat_cmp_total (named f es) k (f k v) q))
 
 -- a name is gone
-pub named_remove : {X Y : Type 0} (f : ℕ → X → Y) (es fs : List (ℕ × X)) (k : ℕ) → ((q : ℕ) → at fs q ≡ cond (is_at (nat_cmp k) q) None (at es q))
+pub named_remove : {X Y : Type 0} (f : ℕ → X → Y) (es fs : List (ℕ × X)) (k : ℕ) → ((q : ℕ) → at fs q ≡ cond (nat_eq k q) None (at es q))
     → named f fs ≡ remove (named f es) k
 named_remove f es fs k h = same_named _ _ (λ q.
     get-named f fs q ∙ named_changed f f es fs k None h (λ j x d is. refl) q
@@ -83,7 +85,8 @@ named_remove f es fs k h = same_named _ _ (λ q.
 -- ---- what is seen of a map
 pub find-at : {X : Type 0} (es : List (ℕ × X)) (q : ℕ) → find nat_cmp q es ≡ at es q
 find-at [] q = refl
-find-at (e ∷ es) q = ap (cond (is_at (nat_cmp q) e.0) (Some e.1)) (find-at es q)
+find-at (e ∷ es) q =
+    ap (λ b. cond b (Some e.1) (find nat_cmp q es)) (is_at-eq q e.0) ∙ ap (cond (nat_eq q e.0) (Some e.1)) (find-at es q)
 
 pub get-seen : {X Y : Type 0} (f : ℕ → X → Y) (m : FinMap nat_cmp X) (q : ℕ) → get (named f (entries m)) q ≡ option_map (f q) (get m q)
 get-seen f m q = get-named f (entries m) q ∙ ap (option_map (f q)) (sym (find-at (entries m) q) ∙ sym (get-entries m q))

@@ -1,5 +1,5 @@
 -- the ring of a `WaitList` through its nodes, and what each call does to it
-use Rattle.std.proofs.Common.{◌≡◌, ◌≢◌, ℕ, ◌+◌, ◌-◌, ◌<◌, ◌≤◌, Bool, true, false, cond, not, eqb, List, [], ◌∷◌, ◌++◌, map, length, get_or, set, Option, Some, None, IsSome, is_some, count_by, refl, sym, ap, subst, ◌∙◌, inl, inr, arith}
+use Rattle.std.proofs.Common.{◌≡◌, ◌≢◌, ℕ, ◌+◌, ◌-◌, ◌<◌, ◌≤◌, ◌^◌, Bool, true, false, cond, not, eqb, List, [], ◌∷◌, ◌++◌, map, length, get_or, set, Option, Some, None, IsSome, is_some, count_by, refl, sym, ap, subst, ◌∙◌, inl, inr, arith}
 use Rattle.std.proofs.lemmas.Bool.{cases_eq, eq-eqb, ne_eqb}
 use Rattle.std.proofs.lemmas.List.{get_or-set_same, get_or-set_other, get_or_past, map-set, length-append}
 use Rattle.std.proofs.lemmas.List.Sums.{sum_by-cons, sum_by-set}
@@ -10,14 +10,30 @@ use Rattle.slab.specs.Slab as slab
 use Rattle.mea_base.specs.declared.links.Node.{Node}
 use Rattle.mea_base.specs.WaitList.{without, IsAbsent, AllInUse, IsSound, Updates, trim}
 use Rattle.mea_base.specs.WaitListLinks.{IsChain, node_at, value_of, next_of, prev_of, next_in, prev_in, order_of, IsRing, Relinks, Inserts, SameQueue}
-use Rattle.mea_base.proofs.Chains.{all_from_absent, unlinked_from_absent, length-without, absent_before, absent_from_push, length-walk, walk-chain, chain-alike, all_but, HasNeighbours, neighbours, last_of, first_of, next_differs, chain-without, IsPutBehind, chain-push_head, chain-push_tail}
+use Rattle.mea_base.proofs.Chains.{all_from_absent, unlinked_from_absent, length-without, absent_before, absent_from_push, length-walk, walk-chain, chain-alike, all_but, found_of, HasNeighbours, neighbours, last_of, first_of, next_differs, chain-without, IsPutBehind, chain-push_head, chain-push_tail}
 use Rattle.mea_base.proofs.Trims.{get_or-trim, trim-same, trim-set, AllInUse-trim}
-use Rattle.mea_base.proofs.Waits.{AllInUse-updated, AllInUse-push, AllInUse-without, IsAbsent-push, IsDistinct-push, IsAbsent-without, IsDistinct-without, absent_from_unlinked, length_order-le-count}
+use Rattle.mea_base.proofs.Waits.{AllInUse-updated, AllInUse-push, AllInUse-without, IsAbsent-push, IsDistinct-push, IsAbsent-without, IsDistinct-without, absent_from_unlinked, length_order-le-count, sum_by-same}
 
 -- nothing and something at once
 some_none : {X : Type 0} (s t : Option X) → s ≡ t → IsSome s → t ≡ None → ⊥
 some_none None t same some none = absurd (cc)
 some_none (Some x) t same some none = absurd (cc)
+
+-- two writes at two keys, in either order
+swaps : (n x y p k : ℕ) → p ≢ n → cond (eqb k p) x (cond (eqb k n) n y) ≡ cond (eqb k n) n (cond (eqb k p) x y)
+swaps n x y p k differs =
+    elim (cases_eq k n) [
+      | inl same ↦ rw (eq-eqb k n same, ne_eqb k p (λ is. differs (sym is ∙ same))) refl
+      | inr other ↦ rw (ne_eqb k n other) refl
+    ]
+
+-- a write of what is there
+own : (n : ℕ) (f : ℕ → ℕ) (k : ℕ) → f n ≡ n → cond (eqb k n) n (f k) ≡ f k
+own n f k is =
+    elim (cases_eq k n) [
+      | inl same ↦ rw (eq-eqb k n same) (sym is ∙ ap f (sym same))
+      | inr other ↦ rw (ne_eqb k n other) refl
+    ]
 
 module _ {T : Type 0} where
   value_in : (slots : List (Option (Node T))) (k : ℕ) → get_or (map value_of slots) k None ≡ value_of (node_at slots k)
@@ -58,10 +74,49 @@ module _ {T : Type 0} where
   AllInUse-same old new (k ∷ ks) same used =
       (rw (value_in new k) (same k ∙ (rw (value_in old k) at used.0)), AllInUse-same old new ks same used.1)
 
+  count-values : (slots : List (Option (Node T))) → count_by is_some (map value_of slots) ≤ count_by is_some slots
+  count-values [] = omega arith
+  count-values (None ∷ slots) = omega (
+    arith,
+    sum_by-cons (λ (o : Option T). cond (is_some o) 1 0) None (map value_of slots),
+    sum_by-cons
+        (λ (o : Option (Node T)). cond (is_some o) 1 0) None slots,
+    count-values slots,
+  )
+  count-values (Some node ∷ slots) = by_value node.value (count-values slots)
+    where
+      by_value : (v : Option T) → count_by is_some (map value_of slots) ≤ count_by is_some slots
+          → count_by is_some (v ∷ map value_of slots) ≤ count_by is_some (Some node ∷ slots)
+      by_value None rest = omega (
+        arith,
+        rest,
+        sum_by-cons (λ (o : Option T). cond (is_some o) 1 0) None (map value_of slots),
+        sum_by-cons
+            (λ (o : Option (Node T)). cond (is_some o) 1 0) (Some node) slots,
+      )
+      by_value (Some v) rest = omega (
+        arith,
+        rest,
+        sum_by-cons (λ (o : Option T). cond (is_some o) 1 0) (Some v) (map value_of slots),
+        sum_by-cons
+            (λ (o : Option (Node T)). cond (is_some o) 1 0) (Some node) slots,
+      )
+
   -- what a contract sees is sound
-  pub sound_view : (slots : List (Option (Node T))) (order : List ℕ) (spare : ℕ) → IsRing slots order
+  pub sound_view : (slots : List (Option (Node T))) (order : List ℕ) (spare : ℕ) → IsRing slots order → count_by is_some slots < 2 ^ 64
       → IsSound (record { order = order; slots = trim (map value_of slots); spare = spare })
-  sound_view slots order spare ring = record { distinct = ring.distinct.1; in_use = AllInUse-trim _ _ ring.in_use }
+  sound_view slots order spare ring fits = record {
+    distinct = ring.distinct.1;
+    in_use = AllInUse-trim _ _ ring.in_use;
+    few =
+        let same = sum_by-same (λ (o : Option T). cond (is_some o) 1 0) refl (map value_of slots) (trim (map value_of slots)) (get_or-trim (map value_of slots)) in
+        omega (arith, same, count-values slots);
+  }
+
+  -- the node of a linked number
+  pub linked_node : (slots : List (Option (Node T))) (order : List ℕ) (n : ℕ) → IsRing slots order → list_any (λ k. eqb k n) order ≡ true
+      → IsSome (node_at slots n)
+  linked_node slots order n ring found = found_of (λ k. IsSome (node_at slots k)) n order (nodes_behind slots order ring.in_use) found
 
   module _ (slots : List (Option (Node T))) (order : List ℕ) (ring : IsRing slots order) (n : ℕ) (used : IsSome (value_of (node_at slots n))) where
     -- a number in use is not the sentinel
@@ -102,6 +157,14 @@ module _ {T : Type 0} where
         neighbours (next_in slots) (prev_in slots) (λ k. IsSome (node_at slots k)) 0 order 0 n ring.chain sentinel_here
         (nodes_behind slots order ring.in_use) sentinel_here (linked_here moves)
 
+    -- nor does its key before
+    pub before_moves : next_in slots n ≢ n → prev_in slots n ≢ n
+    before_moves moves same = moves (ap (next_in slots) (sym same) ∙ (around moves).before)
+
+    -- a number that is off the ring names itself both ways
+    pub alone_here : next_in slots n ≡ n → prev_in slots n ≡ n
+    alone_here stays = (ring.off_ring n not_sentinel (absent_here stays) (node_behind _ used)).2
+
     left_count : next_in slots n ≢ n → length (without n order) + 1 ≡ length order
     left_count moves = length-without n order ring.distinct.1 (linked_here moves)
 
@@ -112,28 +175,41 @@ module _ {T : Type 0} where
   abbrev prev_after : List (Option (Node T)) → ℕ → ℕ → ℕ
   prev_after slots n k = cond (eqb k n) n (cond (eqb k (next_in slots n)) (prev_in slots n) (prev_in slots k))
 
-  -- the four writes that take n out
-  pub taken_out : (a b c d e : Slab (Node T)) (n prev next : ℕ) → prev ≡ prev_in a.slots n → next ≡ next_in a.slots n
-      → Relinks a b (λ k. cond (eqb k prev) next (next_in a.slots k)) (λ k. prev_in a.slots k)
-      → Relinks b c (λ k. next_in b.slots k) (λ k. cond (eqb k next) prev (prev_in b.slots k))
-      → Relinks c d (λ k. cond (eqb k n) n (next_in c.slots k)) (λ k. prev_in c.slots k)
-      → Relinks d e (λ k. next_in d.slots k) (λ k. cond (eqb k n) n (prev_in d.slots k))
-      → Relinks a e (next_after a.slots n) (prev_after a.slots n)
-  taken_out a b c d e n prev next prev_is next_is ab bc cd de = record {
-    next_is = λ k. rw (← prev_is, ← next_is) (de.next_is k ∙ cd.next_is k ∙ ap (cond (eqb k n) n) (bc.next_is k ∙ ab.next_is k));
-    prev_is = λ k. rw (← prev_is, ← next_is) (de.prev_is k ∙ ap (cond (eqb k n) n) (cd.prev_is k ∙ bc.prev_is k ∙ ap (cond (eqb k next) prev) (ab.prev_is k)));
-    values = λ k. de.values k ∙ cd.values k ∙ bc.values k ∙ ab.values k;
-    nodes = λ k. de.nodes k ∙ cd.nodes k ∙ bc.nodes k ∙ ab.nodes k;
-    vacant_key = de.vacant_key ∙ cd.vacant_key ∙ bc.vacant_key ∙ ab.vacant_key;
-    len = de.len ∙ cd.len ∙ bc.len ∙ ab.len;
-    capacity = de.capacity ∙ cd.capacity ∙ bc.capacity ∙ ab.capacity;
+  -- the three writes that take n out, the first of which makes it name itself
+  pub taken_out : (a b c d : Slab (Node T)) (n prev next : ℕ) → prev ≡ prev_in a.slots n → next ≡ next_in a.slots n → prev ≢ n → next ≢ n
+      → Relinks a b (λ k. cond (eqb k n) n (next_in a.slots k)) (λ k. cond (eqb k n) n (prev_in a.slots k))
+      → Relinks b c (λ k. cond (eqb k prev) next (next_in b.slots k)) (λ k. prev_in b.slots k)
+      → Relinks c d (λ k. next_in c.slots k) (λ k. cond (eqb k next) prev (prev_in c.slots k))
+      → Relinks a d (next_after a.slots n) (prev_after a.slots n)
+  taken_out a b c d n prev next prev_is next_is prev_moves next_moves ab bc cd = record {
+    next_is = λ k. rw (← prev_is, ← next_is) (cd.next_is k ∙ bc.next_is k ∙ ap (cond (eqb k prev) next) (ab.next_is k) ∙ swaps n next (next_in a.slots k) prev k prev_moves);
+    prev_is = λ k. rw (← prev_is, ← next_is) (cd.prev_is k ∙ ap (cond (eqb k next) prev) (bc.prev_is k ∙ ab.prev_is k) ∙ swaps n prev (prev_in a.slots k) next k next_moves);
+    values = λ k. cd.values k ∙ bc.values k ∙ ab.values k;
+    nodes = λ k. cd.nodes k ∙ bc.nodes k ∙ ab.nodes k;
+    vacant_key = cd.vacant_key ∙ bc.vacant_key ∙ ab.vacant_key;
+    len = cd.len ∙ bc.len ∙ ab.len;
+    capacity = cd.capacity ∙ bc.capacity ∙ ab.capacity;
+  }
+
+  -- a node that names itself is made to name itself
+  pub left_alone : (a b : Slab (Node T)) (n : ℕ) → next_in a.slots n ≡ n → prev_in a.slots n ≡ n
+      → Relinks a b (λ k. cond (eqb k n) n (next_in a.slots k)) (λ k. cond (eqb k n) n (prev_in a.slots k))
+      → Relinks a b (λ k. next_in a.slots k) (λ k. prev_in a.slots k)
+  left_alone a b n next prev ab = record {
+    next_is = λ k. ab.next_is k ∙ own n (next_in a.slots) k next;
+    prev_is = λ k. ab.prev_is k ∙ own n (prev_in a.slots) k prev;
+    values = ab.values;
+    nodes = ab.nodes;
+    vacant_key = ab.vacant_key;
+    len = ab.len;
+    capacity = ab.capacity;
   }
 
   -- the ring without n
   module _ (old new : Slab (Node T)) (order : List ℕ) (ring : IsRing old.slots order) (n : ℕ) (used : IsSome (value_of (node_at old.slots n)))
       (moves : next_in old.slots n ≢ n) (links : Relinks old new (next_after old.slots n) (prev_after old.slots n)) where
     prev_moves : prev_in old.slots n ≢ n
-    prev_moves same = moves (ap (next_in old.slots) (sym same) ∙ (around old.slots order ring n used moves).before)
+    prev_moves same = before_moves old.slots order ring n used moves same
 
     chain_left : IsChain (next_in new.slots) (prev_in new.slots) 0 (without n order) 0
     chain_left =
@@ -373,34 +449,6 @@ module _ {T : Type 0} where
         ap trim (map-set value_of slots n (Some (record node { value = Some w })))
         ∙ trim-set (map value_of slots) n w (rw (value_in slots n, found) full)
 
-  count-values : (slots : List (Option (Node T))) → count_by is_some (map value_of slots) ≤ count_by is_some slots
-  count-values [] = omega arith
-  count-values (None ∷ slots) = omega (
-    arith,
-    sum_by-cons (λ (o : Option T). cond (is_some o) 1 0) None (map value_of slots),
-    sum_by-cons
-        (λ (o : Option (Node T)). cond (is_some o) 1 0) None slots,
-    count-values slots,
-  )
-  count-values (Some node ∷ slots) = by_value node.value (count-values slots)
-    where
-      by_value : (v : Option T) → count_by is_some (map value_of slots) ≤ count_by is_some slots
-          → count_by is_some (v ∷ map value_of slots) ≤ count_by is_some (Some node ∷ slots)
-      by_value None rest = omega (
-        arith,
-        rest,
-        sum_by-cons (λ (o : Option T). cond (is_some o) 1 0) None (map value_of slots),
-        sum_by-cons
-            (λ (o : Option (Node T)). cond (is_some o) 1 0) (Some node) slots,
-      )
-      by_value (Some v) rest = omega (
-        arith,
-        rest,
-        sum_by-cons (λ (o : Option T). cond (is_some o) 1 0) (Some v) (map value_of slots),
-        sum_by-cons
-            (λ (o : Option (Node T)). cond (is_some o) 1 0) (Some node) slots,
-      )
-
   -- no more numbers are linked than there are nodes
   pub linked-le-nodes : (nodes : Slab (Node T)) (order : List ℕ) → IsRing nodes.slots order → length order ≤ slab_len nodes
   linked-le-nodes nodes order ring =
@@ -437,6 +485,13 @@ module _ {T : Type 0} where
   after_unlink old new len n ring used moves links =
       walks new.slots _ (len - 1) (omega (arith, left_count old.slots _ ring n used moves, length-order old.slots len))
       (ring_left old new _ ring n used moves links)
+
+  -- nothing was taken out
+  pub after_nothing : (old new : Slab (Node T)) (len : ℕ) → IsRing old.slots (order_of old.slots len) → IsSome (node_at old.slots 0)
+      → Relinks old new (λ k. next_in old.slots k) (λ k. prev_in old.slots k) → Walks new.slots (order_of old.slots len) len
+  after_nothing old new len ring made links =
+      walks new.slots _ len (length-order old.slots len)
+      (ring_alike old.slots new.slots _ ring (links.nodes 0 ∙ made) links.next_is links.prev_is (λ k other. links.nodes k) (λ k. ap is_some (links.values k)))
 
   pub after_remove : (old new : Slab (Node T)) (len n : ℕ) → IsRing old.slots (order_of old.slots len) → IsSome (value_of (node_at old.slots n))
       → list_any (λ k. eqb k n) (order_of old.slots len) ≡ false → slab.Updates old new n None → Walks new.slots (order_of old.slots len) len

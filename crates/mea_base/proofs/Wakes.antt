@@ -1,5 +1,5 @@
 -- a family that keeps the wakers of who waits loses no wake
-use Rattle.std.proofs.Common.{◌≡◌, ℕ, ◌+◌, ◌<◌, ◌++◌, ◌⊎◌, inl, inr, true, List, Option, Some, None, refl, ap, ◌∙◌, arith}
+use Rattle.std.proofs.Common.{◌≡◌, ℕ, ◌+◌, ◌<◌, ◌++◌, ◌⊎◌, inl, inr, Bool, true, false, List, Option, Some, None, refl, ap, ◌∙◌, arith}
 use Rattle.std.specs.List.{Contains}
 use Rattle.std.proofs.lemmas.Option.{cond_some}
 use Rattle.std.proofs.lemmas.List.Elements.{Contains-append_left, Contains-append_right}
@@ -59,9 +59,14 @@ module _ (F : Family) (keeps : KeepsWakers F) (names : NamesFutures F) where
       since : List ℕ
       since = wakes_since F r.trace f
 
+      -- who lives still was not ended
+      unended : (b : Bool) → F.ends e f ≡ b → F.ends e f ≡ false
+      unended false is = is
+      unended true is = absurd (let gone = keeps.goes r i e runs later cause f is in cc)
+
       unpolled : F.polled e f ≡ None → (F.placed r.hall f ≡ Some w) ⊎ Contains since w → F.lives r.hall f ≡ true
           → (F.placed o.hall f ≡ Some w) ⊎ Contains (since ++ o.wakes) w
-      unpolled polls (inl placed) lived = elim (keeps.wakes r i e runs later cause f w lived placed polls living) [
+      unpolled polls (inl placed) lived = elim (keeps.wakes r i e runs later cause f w lived placed polls (unended (F.ends e f) refl)) [
         | inl stays ↦ inl stays
         | inr woken ↦ inr (Contains-append_right since o.wakes w woken)
       ]

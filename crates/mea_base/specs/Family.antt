@@ -15,7 +15,8 @@ abbrev pub quietly : {H : Type 0} → H → Answer → Outcome H
 quietly h reply = record { hall = h; reply = reply; wakes = [] }
 
 -- a hall and its events: why one is refused, what one gives under its number, whom one polls and with
--- which waker, which futures live, and the waker that the hall keeps for a future that waits
+-- which waker, which futures one abandons, which futures live, and the waker that the hall keeps for a
+-- future that waits
 pub record Family : Type 1 where
   pub Hall : Type 0
   pub Event : Type 0
@@ -24,6 +25,7 @@ pub record Family : Type 1 where
   pub cause : Hall → Event → Option Stop
   pub step : Hall → ℕ → Event → Outcome Hall
   pub polled : Event → Future → Option ℕ
+  pub ends : Event → Future → Bool
   pub name : Future → ℕ
   pub lives : Hall → Future → Bool
   pub placed : Hall → Future → Option ℕ
@@ -104,8 +106,12 @@ module _ (F : Family) where
     pub waits : (r : RunOf) (i : ℕ) (e : F.Event) → Runs r → (f : F.Future) (w v : ℕ) → F.lives r.hall f ≡ true → F.placed r.hall f ≡ Some w → F.polled e f ≡ Some v → (F.step r.hall i e).reply ≡ answers.Pending
     -- an event that takes the placed waker of a future away, and neither polls nor ends it, has that waker
     -- among its wakes
-    pub wakes : (r : RunOf) (i : ℕ) (e : F.Event) → Runs r → r.next ≤ i → F.cause r.hall e ≡ None → (f : F.Future) (w : ℕ) → F.lives r.hall f ≡ true → F.placed r.hall f ≡ Some w → F.polled e f ≡ None → F.lives (F.step r.hall i e).hall f ≡ true
+    pub wakes : (r : RunOf) (i : ℕ) (e : F.Event) → Runs r → r.next ≤ i → F.cause r.hall e ≡ None → (f : F.Future) (w : ℕ) → F.lives r.hall f ≡ true → F.placed r.hall f ≡ Some w → F.polled e f ≡ None → F.ends e f ≡ false
         → (F.placed (F.step r.hall i e).hall f ≡ Some w) ⊎ Contains (F.step r.hall i e).wakes w
+    -- a future that an event neither polls nor ends lives on
+    pub stays : (r : RunOf) (i : ℕ) (e : F.Event) → Runs r → r.next ≤ i → F.cause r.hall e ≡ None → (f : F.Future) → F.lives r.hall f ≡ true → F.polled e f ≡ None → F.ends e f ≡ false → F.lives (F.step r.hall i e).hall f ≡ true
+    -- a future that an event ends does not live after it
+    pub goes : (r : RunOf) (i : ℕ) (e : F.Event) → Runs r → r.next ≤ i → F.cause r.hall e ≡ None → (f : F.Future) → F.ends e f ≡ true → F.lives (F.step r.hall i e).hall f ≡ false
 
   -- only futures that live are polled, and their names are the numbers of the events that made them
   pub record NamesFutures : Type 0 where

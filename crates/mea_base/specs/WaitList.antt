@@ -1,5 +1,5 @@
 -- what a contract sees of a `WaitList`
-use Rattle.std.specs.Prelude.{◌≡◌, ◌≢◌, ℕ, ◌==◌, List, [], ◌∷◌, Option, Some, None, IsSome, Bool, not, filter, filter_map, option_map, slice_index_or, slice_set, refl}
+use Rattle.std.specs.Prelude.{◌≡◌, ◌≢◌, ℕ, ◌<◌, ◌^◌, ◌==◌, List, [], ◌∷◌, ◌++◌, Option, Some, None, IsSome, is_some, Bool, not, count_by, filter, filter_map, option_map, slice_index_or, slice_set, refl}
 use Rattle.std.specs.List.{list_any}
 use Rattle.std.specs.Coded.{Coded, code_by, coded×, coded_ℕ, coded_list, coded_option}
 
@@ -34,6 +34,14 @@ abbrev pub IsDistinct : List ℕ → Type 0
 IsDistinct [] = Unit {0}
 IsDistinct (n ∷ ns) = IsAbsent n ns × IsDistinct ns
 
+-- m stands right before n
+abbrev pub StandsBefore : ℕ → ℕ → List ℕ → Type 0
+StandsBefore m n numbers = (front : List ℕ) × (back : List ℕ) × (numbers ≡ front ++ m ∷ n ∷ back)
+
+-- n stands last
+abbrev pub StandsLast : ℕ → List ℕ → Type 0
+StandsLast n numbers = (front : List ℕ) × (numbers ≡ front ++ n ∷ [])
+
 module _ {T : Type 0} where
   -- a slot before others, or none at all where none of them has a value
   abbrev pub cons_slot : Option T → List (Option T) → List (Option T)
@@ -63,6 +71,10 @@ module _ {T : Type 0} where
   abbrev pub is_linked : Waits T → ℕ → Bool
   is_linked w n = list_any (λ m. m == n) w.order
 
+  -- how many numbers have a value
+  abbrev pub value_count : Waits T → ℕ
+  value_count w = count_by is_some w.slots
+
   -- the linked pairs, in their order
   abbrev pub linked_pairs : Waits T → List (ℕ × T)
   linked_pairs w = filter_map (λ n. option_map (λ value. (n, value)) (get w n)) w.order
@@ -76,7 +88,9 @@ module _ {T : Type 0} where
     pub changed : get new number ≡ slot
     pub others : (other : ℕ) → other ≢ number → get new other ≡ get old other
 
-  -- what holds of every list: no number is linked twice, and a linked number is in use
+  -- what holds of every list: no number is linked twice, a linked number is in use, and the values are at
+  -- most the largest number
   pub record IsSound (w : Waits T) : Type 0 where
     pub distinct : IsDistinct w.order
     pub in_use : AllInUse w.slots w.order
+    pub few : value_count w < 2 ^ 64

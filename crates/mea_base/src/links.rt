@@ -1,9 +1,14 @@
-ghost use Rattle.std.specs.Prelude.{◌≡◌, ◌≤◌, ◌==◌, IsSome, None, OnOk, OnErr, if◌then◌else◌};
+ghost use Rattle.std.specs.Prelude.{◌≡◌, ◌+◌, ◌≤◌, ◌==◌, IsSome, Some, None, OnOk, OnErr, if◌then◌else◌};
 ghost use Rattle.slab.specs.Slab.{ContainsKey, HasRoomFor};
+ghost use Rattle.std.specs.Borrow.{sem};
+ghost use Rattle.mea_base.specs.WaitListLends.{lends_node};
 ghost use Rattle.mea_base.specs.WaitListLinks.{node_at, next_in, prev_in, Relinks, Inserts, SameQueue};
 
 use crate::no_memory::NoMemory;
+use crate::steps::Steps;
 use slab::Slab;
+use std::alloc::Allocator;
+use std::sync::ledger::Ledger;
 
 /// The key of the node that closes the ring. It is made first, so its key is the first that a slab gives.
 pub const SENTINEL: usize = 0;
@@ -31,6 +36,69 @@ pub fn set_prev<T>(nodes: &mut Slab<Node<T>>, key: usize, to: usize)
     ensures { Relinks nodes.old nodes.new (λ k. next_in nodes.old.slots k) (λ k. if k == key then to else prev_in nodes.old.slots k) }
 {
     nodes[key].prev = to;
+}
+
+/// The node under a key. Each look-up is one step, and a call whose steps are counted reaches nodes by this
+/// function alone.
+pub fn node_mut<'a, T, A: Allocator, L: Ledger>(
+    nodes: &'a mut Slab<Node<T>, A>,
+    key: usize,
+    steps: &mut Steps<L>,
+) -> &'a mut Node<T>
+    requires { ContainsKey nodes.old key }
+    ensures* writes_back { sem 𝓛 (lends_node T.row A.row A.Allocator nodes.entry key result) }
+    ensures value { node_at nodes.old.slots key ≡ Some result.now }
+    ensures ticks { steps.new ≡ steps.old + 1 }
+{
+    steps.tick();
+    &mut nodes[key]
+}
+
+/// Makes the node under `key` point at itself, and tells the keys at which it pointed. One step.
+pub fn detach<T, L: Ledger>(
+    nodes: &mut Slab<Node<T>>,
+    key: usize,
+    steps: &mut Steps<L>,
+) -> (usize, usize)
+    requires { ContainsKey nodes.old key }
+    ensures prev { result.0 ≡ prev_in nodes.old.slots key }
+    ensures next { result.1 ≡ next_in nodes.old.slots key }
+    ensures links { Relinks nodes.old nodes.new (λ k. if k == key then key else next_in nodes.old.slots k) (λ k. if k == key then key else prev_in nodes.old.slots k) }
+    ensures ticks { steps.new ≡ steps.old + 1 }
+{
+    let node = node_mut(nodes, key, steps);
+    let (prev, next) = (node.prev, node.next);
+    node.prev = key;
+    node.next = key;
+    (prev, next)
+}
+
+/// `set_next`, whose look-up is counted. One step.
+pub fn set_next_counted<T, L: Ledger>(
+    nodes: &mut Slab<Node<T>>,
+    key: usize,
+    to: usize,
+    steps: &mut Steps<L>,
+)
+    requires { ContainsKey nodes.old key }
+    ensures links { Relinks nodes.old nodes.new (λ k. if k == key then to else next_in nodes.old.slots k) (λ k. prev_in nodes.old.slots k) }
+    ensures ticks { steps.new ≡ steps.old + 1 }
+{
+    node_mut(nodes, key, steps).next = to;
+}
+
+/// `set_prev`, whose look-up is counted. One step.
+pub fn set_prev_counted<T, L: Ledger>(
+    nodes: &mut Slab<Node<T>>,
+    key: usize,
+    to: usize,
+    steps: &mut Steps<L>,
+)
+    requires { ContainsKey nodes.old key }
+    ensures links { Relinks nodes.old nodes.new (λ k. next_in nodes.old.slots k) (λ k. if k == key then to else prev_in nodes.old.slots k) }
+    ensures ticks { steps.new ≡ steps.old + 1 }
+{
+    node_mut(nodes, key, steps).prev = to;
 }
 
 /// Puts a value between two neighbours, and tells its key.

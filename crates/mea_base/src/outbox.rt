@@ -43,10 +43,8 @@ impl<W> Outbox<W> {
         ensures grows { self.old.spare ≤ self.new.spare }
         ensures rest_kept { self.new ≡ record self.old { spare = self.new.spare } }
     {
-        match self.wakers.reserve(n) {
-            Ok(()) => Ok(()),
-            Err(_) => Err(NoMemory),
-        }
+        self.wakers.reserve(n)?;
+        Ok(())
     }
 
     /// Appends a waker. It takes no memory.

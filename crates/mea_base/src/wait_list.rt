@@ -1,12 +1,16 @@
-ghost use Rattle.std.specs.Prelude.{◌≡◌, ◌+◌, ◌≤◌, ◌==◌, ◌↔◌, [], ◌∷◌, ◌++◌, length, drop, IsTrue, IsOk, OnOk, OnErr, IfOk, IfErr, IfSome, IfNone, Some, None, false, ℕ};
+ghost use Rattle.std.specs.Prelude.{◌≡◌, ◌+◌, ◌<◌, ◌≤◌, ◌==◌, ◌↔◌, [], ◌∷◌, ◌++◌, length, drop, IsTrue, IsOk, OnOk, OnErr, OnSome, IfOk, IfErr, IfSome, IfNone, Some, None, true, false, ℕ};
 ghost use Rattle.std.specs.Borrow.{sem};
-ghost use Rattle.mea_base.specs.WaitList.{get, without, is_linked, IsInUse, IsSound, Updates};
+ghost use Rattle.mea_base.specs.WaitList.{get, without, is_linked, IsInUse, IsSound, StandsBefore, StandsLast, Updates};
 
-use crate::links::{Node, SENTINEL, insert_between, reserve_nodes, set_next, set_prev};
+use crate::links::{
+    Node, SENTINEL, detach, insert_between, reserve_nodes, set_next_counted, set_prev_counted,
+};
 use crate::no_memory::NoMemory;
+use crate::steps::Steps;
 use slab::Slab;
 use std::alloc::Global;
-use std::marker::Model;
+use std::marker::{Brand, Model};
+use std::sync::ledger::{Blank, Ledger};
 
 /// Values in a queue, each under a number of its own. A value that has left the queue stays under its
 /// number until it is removed, so that its owner can still ask for it.
@@ -88,6 +92,16 @@ impl<T> WaitList<T> {
         if first == SENTINEL { None } else { Some(first) }
     }
 
+    /// The number right behind one that is in the queue. It takes no memory, and looks at the number alone.
+    pub fn next(&self, number: usize) -> Option<usize>
+        requires { is_linked self.now number ≡ true }
+        ensures some { IfSome result (λ next. StandsBefore number next self.now.order) }
+        ensures last { IfNone result (StandsLast number self.now.order) }
+    {
+        let next = self.nodes[number].next;
+        if next == SENTINEL { None } else { Some(next) }
+    }
+
     /// How many values are in the queue. It takes no memory.
     pub fn len(&self) -> usize
         ensures { result ≡ length self.now.order }
@@ -108,6 +122,7 @@ impl<T> WaitList<T> {
         ensures fresh { IfOk result (λ n. get self.old n ≡ None) }
         ensures updates { IfOk result (λ n. Updates self.old self.new n (Some value)) }
         ensures order { IfOk result (λ n. self.new.order ≡ self.old.order ++ n ∷ []) }
+        ensures sound { OnOk result (IsSound self.new) }
         ensures spare { OnOk result (self.old.spare ≤ self.new.spare + 1) }
         ensures succeeds { 1 ≤ self.old.spare → IsOk result }
         ensures value_returned { IfErr result (λ failed. failed.0 ≡ value) }
@@ -125,6 +140,7 @@ impl<T> WaitList<T> {
         ensures fresh { IfOk result (λ n. get self.old n ≡ None) }
         ensures updates { IfOk result (λ n. Updates self.old self.new n (Some value)) }
         ensures order { IfOk result (λ n. self.new.order ≡ n ∷ self.old.order) }
+        ensures sound { OnOk result (IsSound self.new) }
         ensures spare { OnOk result (self.old.spare ≤ self.new.spare + 1) }
         ensures succeeds { 1 ≤ self.old.spare → IsOk result }
         ensures value_returned { IfErr result (λ failed. failed.0 ≡ value) }
@@ -142,6 +158,7 @@ impl<T> WaitList<T> {
         ensures fresh { get self.old result ≡ None }
         ensures updates { Updates self.old self.new result (Some value) }
         ensures order { self.new.order ≡ self.old.order ++ result ∷ [] }
+        ensures sound { IsSound self.new }
         ensures spare { self.new.spare + 1 ≡ self.old.spare }
     {
         let last = self.nodes[SENTINEL].prev;
@@ -157,6 +174,7 @@ impl<T> WaitList<T> {
         ensures fresh { get self.old result ≡ None }
         ensures updates { Updates self.old self.new result (Some value) }
         ensures order { self.new.order ≡ result ∷ self.old.order }
+        ensures sound { IsSound self.new }
         ensures spare { self.new.spare + 1 ≡ self.old.spare }
     {
         let first = self.nodes[SENTINEL].next;
@@ -172,15 +190,35 @@ impl<T> WaitList<T> {
         requires { IsInUse self.old number }
         ensures { self.new ≡ record self.old { order = without number self.old.order } }
     {
-        let prev = self.nodes[number].prev;
-        let next = self.nodes[number].next;
+        self.unlink_from::<Brand>(number, Blank::new(1));
+    }
+
+    // `unlink`, which opens a ledger for its steps and drops it.
+    fn unlink_from<L: Ledger>(&mut self, number: usize, blank: Blank)
+        requires in_use { IsInUse self.old number }
+        requires name { blank.name ≡ L.name }
+        requires parts { blank.parts ≡ L.parts }
+        requires some { 0 < L.parts }
+        ensures { self.new ≡ record self.old { order = without number self.old.order } }
+    {
+        let mut steps = Steps::<L>::new(blank);
+        self.unlink_counted(number, &mut steps);
+    }
+
+    /// `unlink`, whose steps are counted: three for a number in the queue, which are looked at with its
+    /// neighbours, and one else, however long the queue is. It takes no memory.
+    pub fn unlink_counted<L: Ledger>(&mut self, number: usize, steps: &mut Steps<L>)
+        requires { IsInUse self.old number }
+        ensures is { self.new ≡ record self.old { order = without number self.old.order } }
+        ensures linked { is_linked self.old number ≡ true → steps.new ≡ steps.old + 3 }
+        ensures alone { is_linked self.old number ≡ false → steps.new ≡ steps.old + 1 }
+    {
+        let (prev, next) = detach(&mut self.nodes, number, steps);
         if next == number {
             return;
         }
-        set_next(&mut self.nodes, prev, next);
-        set_prev(&mut self.nodes, next, prev);
-        set_next(&mut self.nodes, number, number);
-        set_prev(&mut self.nodes, number, number);
+        set_next_counted(&mut self.nodes, prev, next, steps);
+        set_prev_counted(&mut self.nodes, next, prev, steps);
         self.len -= 1;
     }
 
@@ -194,6 +232,42 @@ impl<T> WaitList<T> {
         let first = self.first()?;
         self.unlink(first);
         Some(first)
+    }
+
+    /// `unlink_first`, whose steps are counted: at most four, however long the queue is.
+    pub fn unlink_first_counted<L: Ledger>(&mut self, steps: &mut Steps<L>) -> Option<usize>
+        ensures some { IfSome result (λ n. self.old ≡ record self.new { order = n ∷ self.new.order }) }
+        ensures empty { IfNone result (self.old.order ≡ []) }
+        ensures unchanged { IfNone result (self.new ≡ self.old) }
+        ensures sound { IsSound self.old }
+        ensures few { steps.new ≤ steps.old + 4 }
+        ensures four { OnSome result (steps.new ≡ steps.old + 4) }
+    {
+        let first = self.first_counted(steps)?;
+        self.unlink_counted(first, steps);
+        Some(first)
+    }
+
+    /// `first`, whose step is counted.
+    pub fn first_counted<L: Ledger>(&self, steps: &mut Steps<L>) -> Option<usize>
+        ensures some { IfSome result (λ n. self.now.order ≡ n ∷ drop 1 self.now.order) }
+        ensures empty { IfNone result (self.now.order ≡ []) }
+        ensures sound { IsSound self.now }
+        ensures ticks { steps.new ≡ steps.old + 1 }
+    {
+        steps.tick();
+        self.first()
+    }
+
+    /// `get_mut`, whose step is counted.
+    pub fn get_mut_counted<L: Ledger>(&mut self, number: usize, steps: &mut Steps<L>) -> &mut T
+        requires { IsInUse self.old number }
+        ensures* writes_back { sem 𝓛 (lends_value T.row self.entry number result) }
+        ensures value { get self.old number ≡ Some result.now }
+        ensures ticks { steps.new ≡ steps.old + 1 }
+    {
+        steps.tick();
+        self.get_mut(number)
     }
 
     /// Whether the number is in the queue. It takes no memory, and looks at the number alone.

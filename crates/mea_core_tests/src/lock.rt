@@ -40,9 +40,10 @@ impl Told {
 // With memory at hand, no call answers that there is none, where its wait has to queue.
 #[test]
 fn ample(rt: HostRuntime) -> Result<(), Fail> {
-    assert_eq!(rt; mutex::queued(&rt)?, Told::Pending);
-    assert_eq!(rt; rw::queued(&rt)?, Told::Pending);
-    assert_eq!(rt; condvar::queued(&rt)?, Told::Pending);
-    assert_eq!(rt; condvar::queued_while(&rt)?, Told::Pending);
+    for checked in [false, true] {
+        assert_eq!(rt; mutex::queued(&rt, checked)?, Told::Pending);
+        assert_eq!(rt; rw::queued_read(&rt, checked)?, Told::Pending);
+        assert_eq!(rt; rw::queued_write(&rt, checked)?, Told::Pending);
+    }
     Ok(())
 }

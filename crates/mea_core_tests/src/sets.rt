@@ -6,8 +6,10 @@ use mea_sets::{Countdown, WaitSet};
 fn ample(rt: HostRuntime) {
     let mut set: WaitSet<u64> = WaitSet::new(rt.alloc());
     let mut count: Countdown<u64> = Countdown::new(rt.alloc(), 1);
+    let mut outbox: Outbox<u64> = Outbox::new(rt.alloc());
     assert!(rt; set.register(&mut None, 30).is_ok());
-    assert_eq!(rt; set.len(), 1);
+    assert!(rt; set.register_with_room(&mut None, 31, &mut outbox).is_ok());
+    assert_eq!(rt; set.len(), 2);
     assert!(rt; count.poll(&mut None, 40) == Ok(Poll::Pending));
 }
 

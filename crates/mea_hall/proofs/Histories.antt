@@ -3,17 +3,20 @@ use Rattle.std.proofs.Common.{◌≡◌, refl, ℕ, zero, suc, ◌+◌, ◌≤�
 use Rattle.std.proofs.lemmas.List.{take-take}
 use Rattle.mea_base.specs.declared.answer.Answer.{Answer}
 use Rattle.mea_base.specs.declared.stop.Stop.{Stop}
-use Rattle.mea_base.specs.Family.{Family, RunOf, Runs, Starts, Goes, start, goes_on, LosesNoWake}
+use Rattle.mea_base.specs.Family.{Family, RunOf, Runs, Starts, Goes, start}
 use Rattle.mea_sem_model.specs.Runs.{semaphores}
 use Rattle.mea_sem_model.proofs.Balanced.{balanced}
-use Rattle.mea_sem_model.proofs.LostWakes as sem_wakes
+use Rattle.mea_sem_model.proofs.Lives as sem_wakes
+use Rattle.mea_sem_model.proofs.OrderLaws as sem_order
 use Rattle.mea_meet_model.specs.Meets.{meets}
 use Rattle.mea_meet_model.proofs.KeptWakers as meet_wakes
+use Rattle.mea_lock_model.specs.LockFamily.{locks_family}
+use Rattle.mea_lock_model.proofs.Wakers as lock_wakes
 use Rattle.mea_hall.specs.declared.event.Event.{Event}
-use Rattle.mea_hall.specs.declared.event.Event.TheVariants.{Sem, Meet}
+use Rattle.mea_hall.specs.declared.event.Event.TheVariants.{Sem, Meet, Lock}
 use Rattle.mea_hall.specs.World.{World, empty_world, cause_of, step}
 use Rattle.mea_hall.specs.Front.{Front, front_at, front_from, front_of}
-use Rattle.mea_hall.specs.History.{semaphore_part, meet_part, hears, run_from, run_after, AreWoken, AreBalanced, LoseNoWake}
+use Rattle.mea_hall.specs.History.{semaphore_part, meet_part, lock_part, hears, run_from, run_after, AreWoken, AreBalanced, LoseNoWake, GrantInOrder}
 
 abbrev Replies : Type 0
 Replies = List (Answer × List ℕ)
@@ -96,21 +99,25 @@ embeds_semaphores = record { empty = refl; caused = caused; stepped = stepped; t
     caused : (w : World) (e : Event) (d : semaphores.Event) → semaphore_part e ≡ Some d → semaphores.cause w.semaphores d ≡ cause_of w e
     caused w (Sem e) d is = ap (λ o. semaphores.cause w.semaphores o) (let same : d ≡ e = cc in same)
     caused w (Meet e) d is = absurd (cc)
+    caused w (Lock e) d is = absurd (cc)
 
     stepped : (w : World) (i : ℕ) (e : Event) (d : semaphores.Event) → semaphore_part e ≡ Some d
         → (semaphores.step w.semaphores i d).hall ≡ (step w i e).world.semaphores
     stepped w i (Sem e) d is = ap (λ o. (semaphores.step w.semaphores i o).hall) (let same : d ≡ e = cc in same)
     stepped w i (Meet e) d is = absurd (cc)
+    stepped w i (Lock e) d is = absurd (cc)
 
     told : (w : World) (i : ℕ) (e : Event) (d : semaphores.Event) → semaphore_part e ≡ Some d
         → ((semaphores.step w.semaphores i d).reply ≡ (step w i e).reply.0) × ((semaphores.step w.semaphores i d).wakes ≡ (step w i e).reply.1)
     told w i (Sem e) d is = let same : d ≡ e = cc in
         (ap (λ o. (semaphores.step w.semaphores i o).reply) same, ap (λ o. (semaphores.step w.semaphores i o).wakes) same)
     told w i (Meet e) d is = absurd (cc)
+    told w i (Lock e) d is = absurd (cc)
 
     others : (w : World) (i : ℕ) (e : Event) → semaphore_part e ≡ None → (step w i e).world.semaphores ≡ w.semaphores
     others w i (Sem e) is = absurd (cc)
     others w i (Meet e) is = refl
+    others w i (Lock e) is = refl
 
 embeds_meets : Embeds meets meet_part (λ w. w.meets)
 embeds_meets = record { empty = refl; caused = caused; stepped = stepped; told = told; others = others }
@@ -118,19 +125,47 @@ embeds_meets = record { empty = refl; caused = caused; stepped = stepped; told =
     caused : (w : World) (e : Event) (d : meets.Event) → meet_part e ≡ Some d → meets.cause w.meets d ≡ cause_of w e
     caused w (Sem e) d is = absurd (cc)
     caused w (Meet e) d is = ap (λ o. meets.cause w.meets o) (let same : d ≡ e = cc in same)
+    caused w (Lock e) d is = absurd (cc)
 
     stepped : (w : World) (i : ℕ) (e : Event) (d : meets.Event) → meet_part e ≡ Some d → (meets.step w.meets i d).hall ≡ (step w i e).world.meets
     stepped w i (Sem e) d is = absurd (cc)
     stepped w i (Meet e) d is = ap (λ o. (meets.step w.meets i o).hall) (let same : d ≡ e = cc in same)
+    stepped w i (Lock e) d is = absurd (cc)
 
     told : (w : World) (i : ℕ) (e : Event) (d : meets.Event) → meet_part e ≡ Some d
         → ((meets.step w.meets i d).reply ≡ (step w i e).reply.0) × ((meets.step w.meets i d).wakes ≡ (step w i e).reply.1)
     told w i (Sem e) d is = absurd (cc)
     told w i (Meet e) d is = let same : d ≡ e = cc in (ap (λ o. (meets.step w.meets i o).reply) same, ap (λ o. (meets.step w.meets i o).wakes) same)
+    told w i (Lock e) d is = absurd (cc)
 
     others : (w : World) (i : ℕ) (e : Event) → meet_part e ≡ None → (step w i e).world.meets ≡ w.meets
     others w i (Sem e) is = refl
     others w i (Meet e) is = absurd (cc)
+    others w i (Lock e) is = refl
+
+embeds_locks : Embeds locks_family lock_part (λ w. w.locks)
+embeds_locks = record { empty = refl; caused = caused; stepped = stepped; told = told; others = others }
+  where
+    caused : (w : World) (e : Event) (d : locks_family.Event) → lock_part e ≡ Some d → locks_family.cause w.locks d ≡ cause_of w e
+    caused w (Sem e) d is = absurd (cc)
+    caused w (Meet e) d is = absurd (cc)
+    caused w (Lock e) d is = ap (λ o. locks_family.cause w.locks o) (let same : d ≡ e = cc in same)
+
+    stepped : (w : World) (i : ℕ) (e : Event) (d : locks_family.Event) → lock_part e ≡ Some d → (locks_family.step w.locks i d).hall ≡ (step w i e).world.locks
+    stepped w i (Sem e) d is = absurd (cc)
+    stepped w i (Meet e) d is = absurd (cc)
+    stepped w i (Lock e) d is = ap (λ o. (locks_family.step w.locks i o).hall) (let same : d ≡ e = cc in same)
+
+    told : (w : World) (i : ℕ) (e : Event) (d : locks_family.Event) → lock_part e ≡ Some d
+        → ((locks_family.step w.locks i d).reply ≡ (step w i e).reply.0) × ((locks_family.step w.locks i d).wakes ≡ (step w i e).reply.1)
+    told w i (Sem e) d is = absurd (cc)
+    told w i (Meet e) d is = absurd (cc)
+    told w i (Lock e) d is = let same : d ≡ e = cc in (ap (λ o. (locks_family.step w.locks i o).reply) same, ap (λ o. (locks_family.step w.locks i o).wakes) same)
+
+    others : (w : World) (i : ℕ) (e : Event) → lock_part e ≡ None → (step w i e).world.locks ≡ w.locks
+    others w i (Sem e) is = refl
+    others w i (Meet e) is = refl
+    others w i (Lock e) is = absurd (cc)
 
 -- ---- of a list of events, with the replies up to the first that has a cause for refusal
 pub front_balances : (es : List Event) → AreBalanced es (front_of es).replies
@@ -140,6 +175,14 @@ pub front_wakes : (es : List Event) → LoseNoWake es (front_of es).replies
 front_wakes es = record {
   semaphores_woken = λ i few. sem_wakes.loses_no_wake _ (runs_after semaphores semaphore_part (λ w. w.semaphores) embeds_semaphores es i few);
   meets_woken = λ i few. meet_wakes.no_wake_is_lost _ (runs_after meets meet_part (λ w. w.meets) embeds_meets es i few);
+  locks_woken = λ i few. lock_wakes.no_wake_is_lost _ (runs_after locks_family lock_part (λ w. w.locks) embeds_locks es i few);
+}
+
+pub front_orders : (es : List Event) → GrantInOrder es (front_of es).replies
+front_orders es = record {
+  grants = λ i few. sem_order.in_order _ (runs_after semaphores semaphore_part (λ w. w.semaphores) embeds_semaphores es i few);
+  wakes = λ i few. sem_order.wakes_in_order _ (runs_after semaphores semaphore_part (λ w. w.semaphores) embeds_semaphores es i few);
+  tries = λ i few. sem_order.nobody_past _ (runs_after semaphores semaphore_part (λ w. w.semaphores) embeds_semaphores es i few);
 }
 
 -- ---- of a list of events of which the first n were played, with these replies
@@ -154,4 +197,16 @@ played_wakes es n w rs played counted = record {
   semaphores_woken = λ i few. sem_wakes.loses_no_wake _
       (played_runs semaphores semaphore_part (λ w. w.semaphores) embeds_semaphores es n w rs played counted i few);
   meets_woken = λ i few. meet_wakes.no_wake_is_lost _ (played_runs meets meet_part (λ w. w.meets) embeds_meets es n w rs played counted i few);
+  locks_woken = λ i few. lock_wakes.no_wake_is_lost _ (played_runs locks_family lock_part (λ w. w.locks) embeds_locks es n w rs played counted i few);
+}
+
+pub played_orders : (es : List Event) (n : ℕ) (w : World) (rs : Replies) → front_of (take n es) ≡ record { world = w; replies = rs; cause = None }
+    → length rs ≡ n → GrantInOrder es rs
+played_orders es n w rs played counted = record {
+  grants = λ i few. sem_order.in_order _
+      (played_runs semaphores semaphore_part (λ w. w.semaphores) embeds_semaphores es n w rs played counted i few);
+  wakes = λ i few. sem_order.wakes_in_order _
+      (played_runs semaphores semaphore_part (λ w. w.semaphores) embeds_semaphores es n w rs played counted i few);
+  tries = λ i few. sem_order.nobody_past _
+      (played_runs semaphores semaphore_part (λ w. w.semaphores) embeds_semaphores es n w rs played counted i few);
 }

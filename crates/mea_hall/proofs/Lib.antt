@@ -4,11 +4,14 @@ pub mod Fronts
 pub mod Wakes
 pub mod HandedOver
 pub mod Puts
+pub mod Values
 pub mod Numbers
 pub mod Cuts
 pub mod Marks
 pub mod Readings
 pub mod SemSpellings
 pub mod MeetSpellings
+pub mod LockSpellings
 pub mod Spellings
+pub mod Lengths
 pub mod Histories

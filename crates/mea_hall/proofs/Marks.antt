@@ -7,9 +7,13 @@ use Rattle.std.specs.Str.{bytes_eq}
 abbrev is_meet_mark : List ℕ → Bool
 is_meet_mark mark = bytes_eq mark (codes "bar") || bytes_eq mark (codes "lat") || bytes_eq mark (codes "wg") || bytes_eq mark (codes "sd")
 
--- the number of a family: 1 for meeting points, and 0 for semaphores, whose words have no dot
+-- what the words of locks begin with
+abbrev is_lock_mark : List ℕ → Bool
+is_lock_mark mark = bytes_eq mark (codes "mx") || bytes_eq mark (codes "rw")
+
+-- the number of a family: 1 for meeting points, 2 for locks, and 0 for semaphores, whose words have no dot
 abbrev kind_at : List ℕ → ℕ
-kind_at mark = cond (is_meet_mark mark) 1 0
+kind_at mark = cond (is_meet_mark mark) 1 (cond (is_lock_mark mark) 2 0)
 
 abbrev pub kind_of : List ℕ → ℕ
 kind_of word = kind_at (before_first (λ b. b == 46) word)

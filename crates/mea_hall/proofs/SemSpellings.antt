@@ -2,7 +2,7 @@
 use Rattle.std.proofs.Common.{◌≡◌, ℕ, ◌⊎◌, inl, List, codes, Some, None, refl}
 use Rattle.std.specs.Str.{bytes_eq}
 use Rattle.mea_sem_model.specs.declared.event.SemEvent.{SemEvent}
-use Rattle.mea_sem_model.specs.declared.event.SemEvent.TheVariants.{New, Free, Forget, Forgetx, Release, Try, Tryo, Tryf, Tryof, Acq, Acqo, Acqf, Acqof, Poll, End, Lose, Merge, Split, Size, Endsem, Ledger}
+use Rattle.mea_sem_model.specs.declared.event.SemEvent.TheVariants.{New, Free, Forget, Forgetx, Release, Try, Tryo, Tryf, Tryof, Acq, Acqo, Acqf, Acqof, Poll, End, Lose, Merge, Split, Size, Endsem, Ledger, Close, Closed}
 use Rattle.mea_hall.specs.SemLines.{permits_event, asking_event, holding_event, semaphore_event}
 use Rattle.mea_hall.specs.SemSpelling.{semaphore_word, semaphore_numbers, SemaphoreFits}
 use Rattle.mea_hall.proofs.Marks.{kind_of}
@@ -46,6 +46,8 @@ semaphore_tells (Split p n) fits = inl (of_numbers semaphores (codes "split") Sp
 semaphore_tells (Size p) fits = inl (of_number semaphores (codes "size") Size p refl (λ rest e is. in_holding (codes "size") rest e refl refl is) fits)
 semaphore_tells (Endsem s) fits = inl (of_number semaphores (codes "endsem") Endsem s refl (λ rest e is. in_permits (codes "endsem") rest e is) fits)
 semaphore_tells (Ledger s) fits = inl (of_number semaphores (codes "ledger") Ledger s refl (λ rest e is. in_permits (codes "ledger") rest e is) fits)
+semaphore_tells (Close s) fits = inl (of_number semaphores (codes "close") Close s refl (λ rest e is. in_permits (codes "close") rest e is) fits)
+semaphore_tells (Closed s) fits = inl (of_number semaphores (codes "closed") Closed s refl (λ rest e is. in_permits (codes "closed") rest e is) fits)
 
 -- ---- from a line to its event
 
@@ -57,8 +59,10 @@ permits_only word rest e is =
     if_some (bytes_eq word (codes "forgetx")) _ _ e is3 (by_numbers semaphores word (codes "forgetx") rest Forgetx e (λ a. (refl, (refl, λ h. h)))) (λ is4.
     if_some (bytes_eq word (codes "release")) _ _ e is4 (by_numbers semaphores word (codes "release") rest Release e (λ a. (refl, (refl, λ h. h)))) (λ is5.
     if_some (bytes_eq word (codes "endsem")) _ _ e is5 (by_number semaphores word (codes "endsem") rest Endsem e (λ a. (refl, (refl, λ h. h)))) (λ is6.
-    if_some (bytes_eq word (codes "ledger")) _ _ e is6 (by_number semaphores word (codes "ledger") rest Ledger e (λ a. (refl, (refl, λ h. h))))
-    (λ none. absurd (cc))))))))
+    if_some (bytes_eq word (codes "ledger")) _ _ e is6 (by_number semaphores word (codes "ledger") rest Ledger e (λ a. (refl, (refl, λ h. h)))) (λ is7.
+    if_some (bytes_eq word (codes "close")) _ _ e is7 (by_number semaphores word (codes "close") rest Close e (λ a. (refl, (refl, λ h. h)))) (λ is8.
+    if_some (bytes_eq word (codes "closed")) _ _ e is8 (by_number semaphores word (codes "closed") rest Closed e (λ a. (refl, (refl, λ h. h))))
+    (λ none. absurd (cc))))))))))
 
 asking_only : (word rest : List ℕ) (e : SemEvent) → asking_event word rest ≡ Some e → IsSpelled semaphores word rest e
 asking_only word rest e is =
@@ -111,6 +115,8 @@ semaphore_kind (Split p n) = refl
 semaphore_kind (Size p) = refl
 semaphore_kind (Endsem s) = refl
 semaphore_kind (Ledger s) = refl
+semaphore_kind (Close s) = refl
+semaphore_kind (Closed s) = refl
 
 pub semaphores_are_family : IsFamily semaphores 0
 semaphores_are_family = record { tells = semaphore_tells; only = semaphore_only; alone_only = λ word e is. absurd (cc); kind_is = semaphore_kind }

@@ -4,19 +4,29 @@ use Rattle.mea_base.specs.declared.answer.Answer.{Answer}
 use Rattle.mea_base.specs.Family.{Family, RunOf, start, LosesNoWake}
 use Rattle.mea_sem_model.specs.declared.event.SemEvent.{SemEvent}
 use Rattle.mea_sem_model.specs.Runs.{semaphores, Balances}
+use Rattle.mea_sem_model.specs.Order.{GrantsInOrder, WakesInOrder, LetsNobodyPast}
 use Rattle.mea_meet_model.specs.declared.event.MeetEvent.{MeetEvent}
 use Rattle.mea_meet_model.specs.Meets.{meets}
+use Rattle.mea_lock_model.specs.declared.event.LockEvent.{LockEvent}
+use Rattle.mea_lock_model.specs.LockFamily.{locks_family}
 use Rattle.mea_hall.specs.declared.event.Event.{Event}
-use Rattle.mea_hall.specs.declared.event.Event.TheVariants.{Sem, Meet}
+use Rattle.mea_hall.specs.declared.event.Event.TheVariants.{Sem, Meet, Lock}
 
 -- the event as one of a family, if it is one
 abbrev pub semaphore_part : Event → Option SemEvent
 semaphore_part (Sem e) = Some e
 semaphore_part (Meet e) = None
+semaphore_part (Lock e) = None
 
 abbrev pub meet_part : Event → Option MeetEvent
 meet_part (Sem e) = None
 meet_part (Meet e) = Some e
+meet_part (Lock e) = None
+
+abbrev pub lock_part : Event → Option LockEvent
+lock_part (Sem e) = None
+lock_part (Meet e) = None
+lock_part (Lock e) = Some e
 
 module _ (F : Family) (part : Event → Option F.Event) where
   -- how a run of the family goes on with one more event, which had this reply
@@ -48,3 +58,11 @@ AreBalanced es rs = (i : ℕ) → i ≤ length rs → (s : ℕ) → Balances (ru
 pub record LoseNoWake (es : List Event) (rs : List (Answer × List ℕ)) : Type 0 where
   pub semaphores_woken : AreWoken semaphores semaphore_part es rs
   pub meets_woken : AreWoken meets meet_part es rs
+  pub locks_woken : AreWoken locks_family lock_part es rs
+
+-- at every point, of every semaphore: acquires have got what they asked for in the order of their first
+-- polls, the newest event woke whom it granted in that order, and who waits is not overtaken
+pub record GrantInOrder (es : List Event) (rs : List (Answer × List ℕ)) : Type 0 where
+  pub grants : (i : ℕ) → i ≤ length rs → GrantsInOrder (run_after semaphores semaphore_part es rs i)
+  pub wakes : (i : ℕ) → i ≤ length rs → WakesInOrder (run_after semaphores semaphore_part es rs i)
+  pub tries : (i : ℕ) → i ≤ length rs → LetsNobodyPast (run_after semaphores semaphore_part es rs i)

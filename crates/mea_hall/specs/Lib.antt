@@ -7,9 +7,11 @@ pub mod Number
 pub mod Words
 pub mod SemLines
 pub mod MeetLines
+pub mod LockLines
 pub mod Lines
 pub mod Text
 pub mod SemSpelling
 pub mod MeetSpelling
+pub mod LockSpelling
 pub mod Spelling
 pub mod History

@@ -3,7 +3,7 @@ use Rattle.std.specs.Prelude.{ℕ, List, Option, None, codes, if◌then◌else�
 use Rattle.std.specs.Option.{option_or}
 use Rattle.std.specs.Str.{bytes_eq}
 use Rattle.mea_sem_model.specs.declared.event.SemEvent.{SemEvent}
-use Rattle.mea_sem_model.specs.declared.event.SemEvent.TheVariants.{New, Free, Forget, Forgetx, Release, Try, Tryo, Tryf, Tryof, Acq, Acqo, Acqf, Acqof, Poll, End, Lose, Merge, Split, Size, Endsem, Ledger}
+use Rattle.mea_sem_model.specs.declared.event.SemEvent.TheVariants.{New, Free, Forget, Forgetx, Release, Try, Tryo, Tryf, Tryof, Acq, Acqo, Acqf, Acqof, Poll, End, Lose, Merge, Split, Size, Endsem, Ledger, Close, Closed}
 use Rattle.mea_hall.specs.Words.{with_number, with_numbers}
 
 -- the lines that speak of a semaphore and its free permits
@@ -16,6 +16,8 @@ permits_event word rest =
     else if bytes_eq word (codes "release") then with_numbers Release rest
     else if bytes_eq word (codes "endsem") then with_number Endsem rest
     else if bytes_eq word (codes "ledger") then with_number Ledger rest
+    else if bytes_eq word (codes "close") then with_number Close rest
+    else if bytes_eq word (codes "closed") then with_number Closed rest
     else None
 
 -- the lines that ask for permits

@@ -1,7 +1,7 @@
 -- how an event of a semaphore is spelled
 use Rattle.std.specs.Prelude.{ℕ, List, [], ◌∷◌, codes}
 use Rattle.mea_sem_model.specs.declared.event.SemEvent.{SemEvent}
-use Rattle.mea_sem_model.specs.declared.event.SemEvent.TheVariants.{New, Free, Forget, Forgetx, Release, Try, Tryo, Tryf, Tryof, Acq, Acqo, Acqf, Acqof, Poll, End, Lose, Merge, Split, Size, Endsem, Ledger}
+use Rattle.mea_sem_model.specs.declared.event.SemEvent.TheVariants.{New, Free, Forget, Forgetx, Release, Try, Tryo, Tryf, Tryof, Acq, Acqo, Acqf, Acqof, Poll, End, Lose, Merge, Split, Size, Endsem, Ledger, Close, Closed}
 use Rattle.mea_hall.specs.Number.{AreFit}
 
 abbrev pub semaphore_word : SemEvent → List ℕ
@@ -26,6 +26,8 @@ semaphore_word (Split p n) = codes "split"
 semaphore_word (Size p) = codes "size"
 semaphore_word (Endsem s) = codes "endsem"
 semaphore_word (Ledger s) = codes "ledger"
+semaphore_word (Close s) = codes "close"
+semaphore_word (Closed s) = codes "closed"
 
 -- the numbers after the word, in their order
 abbrev pub semaphore_numbers : SemEvent → List ℕ
@@ -50,6 +52,8 @@ semaphore_numbers (Split p n) = p ∷ n ∷ []
 semaphore_numbers (Size p) = p ∷ []
 semaphore_numbers (Endsem s) = s ∷ []
 semaphore_numbers (Ledger s) = s ∷ []
+semaphore_numbers (Close s) = s ∷ []
+semaphore_numbers (Closed s) = s ∷ []
 
 abbrev pub SemaphoreFits : SemEvent → Type 0
 SemaphoreFits e = AreFit (semaphore_numbers e)

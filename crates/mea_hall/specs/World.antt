@@ -1,34 +1,41 @@
 -- the halls of all families, and what an event does to them
-use Rattle.std.specs.Prelude.{ℕ, ◌+◌, ◌≡◌, ◌++◌, Bool, List, Option, Some, None, refl}
+use Rattle.std.specs.Prelude.{ℕ, ◌+◌, ◌≡◌, ◌++◌, Bool, List, Option, refl}
 use Rattle.std.specs.Coded.{Coded, code_by, coded×, coded_ℕ, coded_list}
 use Rattle.mea_base.specs.declared.answer.Answer.{Answer}
 use Rattle.mea_base.specs.declared.stop.Stop.{Stop}
 use Rattle.mea_base.specs.Family as families
-use Rattle.mea_sem_model.specs.declared.event.SemEvent.{SemEvent}
 use Rattle.mea_sem_model.specs.Hall as sem
 use Rattle.mea_sem_model.specs.Cause as sem_cause
 use Rattle.mea_sem_model.specs.Step as sem_step
+use Rattle.mea_sem_model.specs.Valid as sem_valid
 use Rattle.mea_sem_model.specs.Waiters as sem_waiters
 use Rattle.mea_sem.specs.Play as sem_plays
-use Rattle.mea_meet_model.specs.declared.event.MeetEvent.{MeetEvent}
 use Rattle.mea_meet_model.specs.Hall as meet
 use Rattle.mea_meet_model.specs.Cause as meet_cause
 use Rattle.mea_meet_model.specs.Step as meet_step
+use Rattle.mea_meet_model.specs.Valid as meet_valid
 use Rattle.mea_meet.specs.Play as meet_plays
+use Rattle.mea_lock_model.specs.declared.event.LockEvent.{LockEvent}
+use Rattle.mea_lock_model.specs.LockHall as lock
+use Rattle.mea_lock_model.specs.Meaning as lock_meaning
+use Rattle.mea_lock_model.specs.Valid as lock_valid
+use Rattle.mea_lock.specs.Halls as lock_plays
 use Rattle.mea_hall.specs.declared.event.Event.{Event}
-use Rattle.mea_hall.specs.declared.event.Event.TheVariants.{Sem, Meet}
+use Rattle.mea_hall.specs.declared.event.Event.TheVariants.{Sem, Meet, Lock}
 
 pub record World : Type 0 where
   pub semaphores : sem.Hall
   pub meets : meet.Hall
+  pub locks : lock.LockHall
 
 abbrev pub empty_world : World
-empty_world = record { semaphores = sem.empty_hall; meets = meet.empty_hall }
+empty_world = record { semaphores = sem.empty_hall; meets = meet.empty_hall; locks = lock.empty_hall }
 
 -- why an event is refused, if it is: the cause of its own family
 abbrev pub cause_of : World → Event → Option Stop
 cause_of w (Sem e) = sem_cause.cause_of w.semaphores e
 cause_of w (Meet e) = meet_cause.cause_of w.meets e
+cause_of w (Lock e) = lock_meaning.cause_of w.locks e
 
 -- what an event leaves, and what it tells: its reply with its wakes
 pub record Outcome : Type 0 where
@@ -41,24 +48,36 @@ of_semaphores w o = record { world = record w { semaphores = o.hall }; reply = (
 abbrev pub of_meets : World → families.Outcome meet.Hall → Outcome
 of_meets w o = record { world = record w { meets = o.hall }; reply = (o.reply, o.wakes) }
 
+abbrev pub of_locks : World → families.Outcome lock.LockHall → Outcome
+of_locks w o = record { world = record w { locks = o.hall }; reply = (o.reply, o.wakes) }
+
 -- event number i changes the hall of its own family alone
 abbrev pub step : World → ℕ → Event → Outcome
 step w i (Sem e) = of_semaphores w (sem_step.step w.semaphores i e)
 step w i (Meet e) = of_meets w (meet_step.step w.meets i e)
+step w i (Lock e) = of_locks w (lock_meaning.step w.locks i e)
 
 -- the halls of the other families are as they were
 abbrev pub OthersStay : Event → World → World → Type 0
-OthersStay (Sem e) old new = new.meets ≡ old.meets
-OthersStay (Meet e) old new = new.semaphores ≡ old.semaphores
+OthersStay (Sem e) old new = (new.meets ≡ old.meets) × (new.locks ≡ old.locks)
+OthersStay (Meet e) old new = (new.semaphores ≡ old.semaphores) × (new.locks ≡ old.locks)
+OthersStay (Lock e) old new = (new.semaphores ≡ old.semaphores) × (new.meets ≡ old.meets)
 
 -- how many wakers an event may still make ready
 abbrev pub registered : World → ℕ
-registered w = sem_waiters.waiters w.semaphores + meet.registered w.meets
+registered w = sem_waiters.waiters w.semaphores + meet.registered w.meets + lock.registered w.locks
+
+-- what holds of the halls that events reach, where n events were played
+pub record IsValid (w : World) (n : ℕ) : Type 0 where
+  pub semaphores : sem_valid.IsValid w.semaphores
+  pub meets : meet_valid.IsValid w.meets n
+  pub locks : lock_valid.AllFit w.locks
 
 -- the events that may register a waker
 abbrev pub registers : Event → Bool
 registers (Sem e) = sem_waiters.registers e
 registers (Meet e) = meet_step.registers e
+registers (Lock e) = lock_meaning.registers e
 
 -- halls in play: the wakers that are ready, and how many events were played
 pub record Play : Type 0 where
@@ -67,7 +86,7 @@ pub record Play : Type 0 where
   pub events : ℕ
 
 abbrev pub world_code : Coded World
-world_code = code_by (sem.Hall × meet.Hall) (coded× sem.hall_code meet.hall_code) (λ w. (w.semaphores, w.meets)) (λ p. record { semaphores = p.0; meets = p.1 }) (λ _. refl)
+world_code = code_by (sem.Hall × (meet.Hall × lock.LockHall)) (coded× sem.hall_code (coded× meet.hall_code lock.hall_code)) (λ w. (w.semaphores, (w.meets, w.locks))) (λ p. record { semaphores = p.0; meets = p.1.0; locks = p.1.1 }) (λ _. refl)
 
 abbrev pub play_code : Coded Play
 play_code = code_by (World × (List ℕ × ℕ)) (coded× world_code (coded× (coded_list coded_ℕ) coded_ℕ)) (λ p. (p.world, (p.wakes, p.events))) (λ p. record { world = p.0; wakes = p.1.0; events = p.1.1 }) (λ _. refl)
@@ -83,3 +102,4 @@ pub record Plays (old : Play) (event : Event) (answer : Answer) (new : Play) : T
 abbrev pub TakesNoMemory : Event → Type 0
 TakesNoMemory (Sem e) = sem_plays.TakesNoMemory e
 TakesNoMemory (Meet e) = meet_plays.TakesNoMemory e
+TakesNoMemory (Lock e) = lock_plays.TakesNoMemory e

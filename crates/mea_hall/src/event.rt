@@ -1,3 +1,4 @@
+use mea_lock::LockEvent;
 use mea_meet::MeetEvent;
 use mea_sem_model::SemEvent;
 
@@ -6,4 +7,5 @@ use mea_sem_model::SemEvent;
 pub enum Event {
     Sem(SemEvent),
     Meet(MeetEvent),
+    Lock(LockEvent),
 }

@@ -1,11 +1,13 @@
 ghost use Rattle.std.specs.Prelude.{◌≡◌, ◌≢◌, ◌+◌, ◌-◌, ◌^◌, ◌<◌, ◌≤◌, ◌∷◌, [], ◌++◌, ◌⊎◌, ℕ, length, true, false, None, Some, OnOk, OnErr, IfOk, IfErr, IfSome, IfNone};
 ghost use Rattle.mea_hall.specs.declared.event.Event.{Event as Line};
-ghost use Rattle.mea_hall.specs.World.{empty_world, Play, Plays, OthersStay, TakesNoMemory, cause_of, registered, registers};
+ghost use Rattle.mea_hall.specs.World.{empty_world, Play, Plays, OthersStay, IsValid, TakesNoMemory, cause_of, registered, registers};
 ghost use Rattle.mea_hall.specs.Families.{world_of, PlaysFamilies};
 
 use crate::event::Event;
 use mea_base::{Answer, NoMemory, Outbox, Stop};
-use mea_meet::{MeetEvent, MeetHall};
+use mea_lock::{LockEvent, LockHall};
+use mea_meet::MeetHall;
+use mea_meet_model::validity_is_kept;
 use mea_sem::SemHall;
 use mea_sem_model::SemEvent;
 use std::alloc::Global;
@@ -17,6 +19,7 @@ use std::marker::Model;
 pub struct Hall {
     semaphores: SemHall,
     meets: MeetHall,
+    locks: LockHall,
     // What the families have made ready, in the order of the events; there is room for each waker that is
     // registered.
     outbox: Outbox<u64>,
@@ -31,16 +34,18 @@ impl Model for Hall {
 
     ghost coded = { play_code };
 
-    ghost view = { λ a. record { world = record { semaphores = a.semaphores.hall; meets = a.meets.hall }; wakes = a.outbox.wakers; events = a.events } };
+    ghost view = { λ a. record { world = record { semaphores = a.semaphores.hall; meets = a.meets.hall; locks = a.locks.hall }; wakes = a.outbox.wakers; events = a.events } };
 
     ghost invariant = { λ a. record {
       fits : a.events < 2 ^ 64;
       semaphores : a.semaphores.next ≤ a.events;
       meets : a.meets.next ≤ a.events;
+      locks : a.locks.next ≤ a.events;
       semaphores_moved : a.semaphores.wakes ≡ [];
       meets_moved : a.meets.wakes ≡ [];
-      room : registered (record { semaphores = a.semaphores.hall; meets = a.meets.hall }) ≤ a.outbox.spare;
-      few : registered (record { semaphores = a.semaphores.hall; meets = a.meets.hall }) ≤ a.events;
+      locks_moved : a.locks.wakes ≡ [];
+      room : registered (record { semaphores = a.semaphores.hall; meets = a.meets.hall; locks = a.locks.hall }) ≤ a.outbox.spare;
+      few : registered (record { semaphores = a.semaphores.hall; meets = a.meets.hall; locks = a.locks.hall }) ≤ a.events;
     } };
 }
 
@@ -52,6 +57,7 @@ impl Hall {
         Hall {
             semaphores: SemHall::new(alloc),
             meets: MeetHall::new(alloc),
+            locks: LockHall::new(alloc),
             outbox: Outbox::new(alloc),
             events: 0,
         }
@@ -71,6 +77,7 @@ impl Hall {
         match event {
             Event::Sem(event) => self.semaphores.cause(event),
             Event::Meet(event) => self.meets.cause(event),
+            Event::Lock(event) => self.locks.cause(event),
         }
     }
 
@@ -81,7 +88,8 @@ impl Hall {
         ensures played { IfOk result (λ answer. Plays self.old event.now answer self.new) }
         ensures alone { OnOk result (OthersStay event.now self.old.world self.new.world) }
         ensures allowed { OnOk result (cause_of self.old.world event.now ≡ None) }
-        ensures refused { IfErr result (λ stop. (cause_of self.old.world event.now ≡ Some stop) ⊎ ((cause_of self.old.world event.now ≡ None) × (stop ≡ Stop.NoMemory))) }
+        ensures refused { IfErr result (λ stop. (cause_of self.old.world event.now ≡ Some stop)
+            ⊎ ((cause_of self.old.world event.now ≡ None) × (stop ≡ Stop.NoMemory))) }
         ensures no_memory { TakesNoMemory event.now → result ≢ Err Stop.NoMemory }
         ensures err { OnErr result (self.new ≡ self.old) }
     {
@@ -89,9 +97,16 @@ impl Hall {
         if reserve_for(&mut self.outbox, event, registered).is_err() {
             return Err(self.cause(event).unwrap_or(Stop::NoMemory));
         }
-        let answer = play(&mut self.semaphores, &mut self.meets, self.events, event)?;
+        let answer = play_on_family(
+            &mut self.semaphores,
+            &mut self.meets,
+            &mut self.locks,
+            self.events,
+            event,
+        )?;
         move_wakes_of_semaphores(&mut self.semaphores, &mut self.outbox);
         move_wakes_of_meets(&mut self.meets, &mut self.outbox);
+        move_wakes_of_locks(&mut self.locks, &mut self.outbox);
         self.events += 1;
         Ok(answer)
     }
@@ -102,8 +117,10 @@ impl Hall {
     pub fn registered(&self) -> usize
         ensures count { result ≡ registered self.now.world }
         ensures few { result ≤ self.now.events }
+        ensures valid { IsValid self.now.world self.now.events }
     {
-        self.semaphores.registered() + self.meets.registered()
+        validity_is_kept();
+        self.semaphores.registered() + self.meets.registered() + self.locks.registered()
     }
 
     /// How many wakers are ready. It takes no memory.
@@ -134,6 +151,13 @@ impl Hall {
     {
         &self.meets
     }
+
+    /// The hall of the locks. It takes no memory.
+    pub fn locks(&self) -> &LockHall
+        ensures { result.now.hall ≡ self.now.world.locks }
+    {
+        &self.locks
+    }
 }
 
 // Makes room for the waker that the event may register, beside those that are registered.
@@ -152,40 +176,39 @@ fn reserve_for(outbox: &mut Outbox<u64>, event: &Event, registered: usize) -> Re
 }
 
 // Plays the event on the hall of its family.
-fn play(
+fn play_on_family(
     semaphores: &mut SemHall,
     meets: &mut MeetHall,
+    locks: &mut LockHall,
     number: u64,
     event: &Event,
 ) -> Result<Answer, Stop>
-    requires next { (semaphores.old.next ≤ number) × (meets.old.next ≤ number) }
-    requires moved { (semaphores.old.wakes ≡ []) × (meets.old.wakes ≡ []) }
-    ensures played { IfOk result (λ answer. PlaysFamilies (world_of semaphores.old meets.old) number event.now answer semaphores.new meets.new) }
-    ensures allowed { OnOk result (cause_of (world_of semaphores.old meets.old) event.now ≡ None) }
-    ensures refused { IfErr result (λ stop. (cause_of (world_of semaphores.old meets.old) event.now ≡ Some stop) ⊎ ((cause_of (world_of semaphores.old meets.old) event.now ≡ None) × (stop ≡ Stop.NoMemory))) }
+    requires next { (semaphores.old.next ≤ number) × (meets.old.next ≤ number) × (locks.old.next ≤ number) }
+    requires moved { (semaphores.old.wakes ≡ []) × (meets.old.wakes ≡ []) × (locks.old.wakes ≡ []) }
+    ensures played { IfOk result (λ answer. PlaysFamilies (world_of semaphores.old meets.old locks.old) number event.now answer semaphores.new meets.new locks.new) }
+    ensures allowed { OnOk result (cause_of (world_of semaphores.old meets.old locks.old) event.now ≡ None) }
+    ensures refused { IfErr result (λ stop. (cause_of (world_of semaphores.old meets.old locks.old) event.now ≡ Some stop)
+        ⊎ ((cause_of (world_of semaphores.old meets.old locks.old) event.now ≡ None) × (stop ≡ Stop.NoMemory))) }
     ensures no_memory { TakesNoMemory event.now → result ≢ Err Stop.NoMemory }
-    ensures err { OnErr result ((semaphores.new ≡ semaphores.old) × (meets.new ≡ meets.old)) }
+    ensures err { OnErr result ((semaphores.new ≡ semaphores.old) × (meets.new ≡ meets.old) × (locks.new ≡ locks.old)) }
 {
     match event {
         Event::Sem(event) => semaphores.act(number, event),
         Event::Meet(event) => meets.act(number, event),
+        Event::Lock(event) => locks.act(number, event),
     }
 }
 
-// Whether the event is a poll, which may register a waker.
+// Whether the event may register a waker.
 fn registers(event: &Event) -> bool
     ensures { result ≡ registers event.now }
 {
     match event {
         Event::Sem(SemEvent::Poll(..)) => true,
         Event::Sem(_) => false,
-        Event::Meet(
-            MeetEvent::BarPoll(..)
-            | MeetEvent::LatPoll(..)
-            | MeetEvent::WgPoll(..)
-            | MeetEvent::SdPoll(..),
-        ) => true,
-        Event::Meet(_) => false,
+        Event::Meet(event) => event.registers(),
+        Event::Lock(LockEvent::MxPoll(..) | LockEvent::RwPoll(..)) => true,
+        Event::Lock(_) => false,
     }
 }
 
@@ -203,6 +226,18 @@ fn move_wakes_of_semaphores(hall: &mut SemHall, outbox: &mut Outbox<u64>)
 
 // Moves the wakers that the meeting points have ready, in their order.
 fn move_wakes_of_meets(hall: &mut MeetHall, outbox: &mut Outbox<u64>)
+    requires { length hall.old.wakes ≤ outbox.old.spare }
+    ensures hall { hall.new ≡ record hall.old { wakes = [] } }
+    ensures moved { outbox.new.wakers ≡ outbox.old.wakers ++ hall.old.wakes }
+    ensures spare { outbox.old.spare ≤ outbox.new.spare + length hall.old.wakes }
+{
+    while let Some(waker) = hall.next_wake() {
+        outbox.push(waker);
+    }
+}
+
+// Moves the wakers that the locks have ready, in their order.
+fn move_wakes_of_locks(hall: &mut LockHall, outbox: &mut Outbox<u64>)
     requires { length hall.old.wakes ≤ outbox.old.spare }
     ensures hall { hall.new ≡ record hall.old { wakes = [] } }
     ensures moved { outbox.new.wakers ≡ outbox.old.wakers ++ hall.old.wakes }

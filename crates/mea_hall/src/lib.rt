@@ -6,6 +6,7 @@ mod event;
 mod hall;
 mod history;
 mod lines;
+mod lock_words;
 mod meet_words;
 mod number;
 mod played;
@@ -15,8 +16,8 @@ mod text;
 
 pub use event::Event;
 pub use hall::Hall;
-pub use history::{no_wake_is_lost, permits_balance};
-pub use lines::{cut, event_of_line, lines_have_one_spelling};
+pub use history::{grants_follow_first_polls, no_wake_is_lost, permits_balance};
+pub use lines::{cut, event_of_line, lines_have_one_spelling, long_lines_are_no_events};
 pub use number::number_of;
 pub use played::{Played, replay};
 pub use replies::Replies;

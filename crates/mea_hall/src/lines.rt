@@ -5,6 +5,7 @@ ghost use Rattle.mea_hall.specs.Lines.{cut, numbered_event, bare_event, event_of
 ghost use Rattle.mea_hall.specs.Spelling.{spelling, Fits};
 
 use crate::event::Event;
+use crate::lock_words::lock_event;
 use crate::meet_words::{bare_meet_event, meet_event};
 use crate::sem_words::semaphore_event;
 
@@ -25,6 +26,7 @@ fn numbered_event(word: &[u8], rest: &[u8]) -> Option<Event>
     semaphore_event(word, rest)
         .map(Event::Sem)
         .or_else(|| meet_event(word, rest).map(Event::Meet))
+        .or_else(|| lock_event(word, rest).map(Event::Lock))
 }
 
 /// The event of a word alone.
@@ -55,4 +57,9 @@ fn place_of(bytes: &[u8], byte: u8) -> Option<usize>
 /// whose numbers fit their type. It does nothing.
 pub fn lines_have_one_spelling()
     ensures { (line : List ℕ) (event : Line) → (event_of line ≡ Some event) ↔ ((line ≡ spelling event) × Fits event) }
+{}
+
+/// No line of more than 96 bytes stands for an event. It does nothing.
+pub fn long_lines_are_no_events()
+    ensures { (line : List ℕ) → 96 < length line → event_of line ≡ None }
 {}

@@ -18,36 +18,28 @@ pub fn meet_event(word: &[u8], rest: &[u8]) -> Option<MeetEvent>
 pub fn bare_meet_event(line: &[u8]) -> Option<MeetEvent>
     ensures { result ≡ bare_meet_event line.now }
 {
-    if line == b"wg.new".as_slice() {
-        return Some(MeetEvent::WgNew);
+    match line {
+        b"wg.new" => Some(MeetEvent::WgNew),
+        b"sd.new" => Some(MeetEvent::SdNew),
+        _ => None,
     }
-    if line == b"sd.new".as_slice() {
-        return Some(MeetEvent::SdNew);
-    }
-    None
 }
 
 /// The lines that speak of a barrier.
 fn barrier_event(word: &[u8], rest: &[u8]) -> Option<MeetEvent>
     ensures { result ≡ barrier_event word.now rest.now }
 {
-    if word == b"bar.new".as_slice() {
-        return Some(MeetEvent::BarNew(count_of(rest)?));
+    match word {
+        b"bar.new" => Some(MeetEvent::BarNew(count_of(rest)?)),
+        b"bar.wait" => Some(MeetEvent::BarWait(number_of(rest)?)),
+        b"bar.poll" => {
+            let (future, waker) = numbers_of(rest)?;
+            Some(MeetEvent::BarPoll(future, waker))
+        }
+        b"bar.end" => Some(MeetEvent::BarEnd(number_of(rest)?)),
+        b"bar.drop" => Some(MeetEvent::BarDrop(number_of(rest)?)),
+        _ => None,
     }
-    if word == b"bar.wait".as_slice() {
-        return Some(MeetEvent::BarWait(number_of(rest)?));
-    }
-    if word == b"bar.poll".as_slice() {
-        let (future, waker) = numbers_of(rest)?;
-        return Some(MeetEvent::BarPoll(future, waker));
-    }
-    if word == b"bar.end".as_slice() {
-        return Some(MeetEvent::BarEnd(number_of(rest)?));
-    }
-    if word == b"bar.drop".as_slice() {
-        return Some(MeetEvent::BarDrop(number_of(rest)?));
-    }
-    None
 }
 
 /// The lines that speak of a latch.
@@ -61,69 +53,51 @@ fn latch_event(word: &[u8], rest: &[u8]) -> Option<MeetEvent>
 fn count_event(word: &[u8], rest: &[u8]) -> Option<MeetEvent>
     ensures { result ≡ count_event word.now rest.now }
 {
-    if word == b"lat.new".as_slice() {
-        return Some(MeetEvent::LatNew(count_of(rest)?));
+    match word {
+        b"lat.new" => Some(MeetEvent::LatNew(count_of(rest)?)),
+        b"lat.count" => Some(MeetEvent::LatCount(number_of(rest)?)),
+        b"lat.down" => Some(MeetEvent::LatDown(number_of(rest)?)),
+        b"lat.arrive" => {
+            let (l, n) = number_and_count_of(rest)?;
+            Some(MeetEvent::LatArrive(l, n))
+        }
+        b"lat.try" => Some(MeetEvent::LatTry(number_of(rest)?)),
+        _ => None,
     }
-    if word == b"lat.count".as_slice() {
-        return Some(MeetEvent::LatCount(number_of(rest)?));
-    }
-    if word == b"lat.down".as_slice() {
-        return Some(MeetEvent::LatDown(number_of(rest)?));
-    }
-    if word == b"lat.arrive".as_slice() {
-        let (l, n) = number_and_count_of(rest)?;
-        return Some(MeetEvent::LatArrive(l, n));
-    }
-    if word == b"lat.try".as_slice() {
-        return Some(MeetEvent::LatTry(number_of(rest)?));
-    }
-    None
 }
 
 /// The lines that wait for a latch, and its end.
 fn latch_wait_event(word: &[u8], rest: &[u8]) -> Option<MeetEvent>
     ensures { result ≡ latch_wait_event word.now rest.now }
 {
-    if word == b"lat.wait".as_slice() {
-        return Some(MeetEvent::LatWait(number_of(rest)?));
+    match word {
+        b"lat.wait" => Some(MeetEvent::LatWait(number_of(rest)?)),
+        b"lat.waito" => Some(MeetEvent::LatWaito(number_of(rest)?)),
+        b"lat.poll" => {
+            let (future, waker) = numbers_of(rest)?;
+            Some(MeetEvent::LatPoll(future, waker))
+        }
+        b"lat.end" => Some(MeetEvent::LatEnd(number_of(rest)?)),
+        b"lat.drop" => Some(MeetEvent::LatDrop(number_of(rest)?)),
+        _ => None,
     }
-    if word == b"lat.waito".as_slice() {
-        return Some(MeetEvent::LatWaito(number_of(rest)?));
-    }
-    if word == b"lat.poll".as_slice() {
-        let (future, waker) = numbers_of(rest)?;
-        return Some(MeetEvent::LatPoll(future, waker));
-    }
-    if word == b"lat.end".as_slice() {
-        return Some(MeetEvent::LatEnd(number_of(rest)?));
-    }
-    if word == b"lat.drop".as_slice() {
-        return Some(MeetEvent::LatDrop(number_of(rest)?));
-    }
-    None
 }
 
 /// The lines that speak of a handle or a future of a wait group.
 fn group_event(word: &[u8], rest: &[u8]) -> Option<MeetEvent>
     ensures { result ≡ group_event word.now rest.now }
 {
-    if word == b"wg.clone".as_slice() {
-        return Some(MeetEvent::WgClone(number_of(rest)?));
+    match word {
+        b"wg.clone" => Some(MeetEvent::WgClone(number_of(rest)?)),
+        b"wg.into" => Some(MeetEvent::WgInto(number_of(rest)?)),
+        b"wg.copy" => Some(MeetEvent::WgCopy(number_of(rest)?)),
+        b"wg.poll" => {
+            let (future, waker) = numbers_of(rest)?;
+            Some(MeetEvent::WgPoll(future, waker))
+        }
+        b"wg.end" => Some(MeetEvent::WgEnd(number_of(rest)?)),
+        _ => None,
     }
-    if word == b"wg.into".as_slice() {
-        return Some(MeetEvent::WgInto(number_of(rest)?));
-    }
-    if word == b"wg.copy".as_slice() {
-        return Some(MeetEvent::WgCopy(number_of(rest)?));
-    }
-    if word == b"wg.poll".as_slice() {
-        let (future, waker) = numbers_of(rest)?;
-        return Some(MeetEvent::WgPoll(future, waker));
-    }
-    if word == b"wg.end".as_slice() {
-        return Some(MeetEvent::WgEnd(number_of(rest)?));
-    }
-    None
 }
 
 /// The lines that speak of a shutdown.
@@ -137,49 +111,31 @@ fn shutdown_event(word: &[u8], rest: &[u8]) -> Option<MeetEvent>
 fn side_event(word: &[u8], rest: &[u8]) -> Option<MeetEvent>
     ensures { result ≡ side_event word.now rest.now }
 {
-    if word == b"sd.copys".as_slice() {
-        return Some(MeetEvent::SdCopys(number_of(rest)?));
+    match word {
+        b"sd.copys" => Some(MeetEvent::SdCopys(number_of(rest)?)),
+        b"sd.copyr" => Some(MeetEvent::SdCopyr(number_of(rest)?)),
+        b"sd.watch" => Some(MeetEvent::SdWatch(number_of(rest)?)),
+        b"sd.await" => Some(MeetEvent::SdAwait(number_of(rest)?)),
+        b"sd.ends" => Some(MeetEvent::SdEnds(number_of(rest)?)),
+        b"sd.endr" => Some(MeetEvent::SdEndr(number_of(rest)?)),
+        _ => None,
     }
-    if word == b"sd.copyr".as_slice() {
-        return Some(MeetEvent::SdCopyr(number_of(rest)?));
-    }
-    if word == b"sd.watch".as_slice() {
-        return Some(MeetEvent::SdWatch(number_of(rest)?));
-    }
-    if word == b"sd.await".as_slice() {
-        return Some(MeetEvent::SdAwait(number_of(rest)?));
-    }
-    if word == b"sd.ends".as_slice() {
-        return Some(MeetEvent::SdEnds(number_of(rest)?));
-    }
-    if word == b"sd.endr".as_slice() {
-        return Some(MeetEvent::SdEndr(number_of(rest)?));
-    }
-    None
 }
 
 /// The lines that speak of the signal of a shutdown and of who waits for it.
 fn signal_event(word: &[u8], rest: &[u8]) -> Option<MeetEvent>
     ensures { result ≡ signal_event word.now rest.now }
 {
-    if word == b"sd.signal".as_slice() {
-        return Some(MeetEvent::SdSignal(number_of(rest)?));
+    match word {
+        b"sd.signal" => Some(MeetEvent::SdSignal(number_of(rest)?)),
+        b"sd.now" => Some(MeetEvent::SdNow(number_of(rest)?)),
+        b"sd.is" => Some(MeetEvent::SdIs(number_of(rest)?)),
+        b"sd.iso" => Some(MeetEvent::SdIso(number_of(rest)?)),
+        b"sd.poll" => {
+            let (future, waker) = numbers_of(rest)?;
+            Some(MeetEvent::SdPoll(future, waker))
+        }
+        b"sd.end" => Some(MeetEvent::SdEnd(number_of(rest)?)),
+        _ => None,
     }
-    if word == b"sd.now".as_slice() {
-        return Some(MeetEvent::SdNow(number_of(rest)?));
-    }
-    if word == b"sd.is".as_slice() {
-        return Some(MeetEvent::SdIs(number_of(rest)?));
-    }
-    if word == b"sd.iso".as_slice() {
-        return Some(MeetEvent::SdIso(number_of(rest)?));
-    }
-    if word == b"sd.poll".as_slice() {
-        let (future, waker) = numbers_of(rest)?;
-        return Some(MeetEvent::SdPoll(future, waker));
-    }
-    if word == b"sd.end".as_slice() {
-        return Some(MeetEvent::SdEnd(number_of(rest)?));
-    }
-    None
 }

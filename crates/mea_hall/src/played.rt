@@ -3,7 +3,7 @@ ghost use Rattle.mea_base.specs.declared.answer.Answer.{Answer as Reply};
 ghost use Rattle.mea_hall.specs.declared.event.Event.{Event as Line};
 ghost use Rattle.mea_hall.specs.World.{cause_of, step};
 ghost use Rattle.mea_hall.specs.Front.{Front, front_of, IsLegal};
-ghost use Rattle.mea_hall.specs.History.{AreBalanced, LoseNoWake};
+ghost use Rattle.mea_hall.specs.History.{AreBalanced, LoseNoWake, GrantInOrder};
 ghost use Rattle.mea_hall.specs.Replies.{with_wakes};
 
 use crate::event::Event;
@@ -22,20 +22,24 @@ pub struct Played {
 
 /// Plays events from an empty hall, up to the first that has a cause for refusal or finds no memory.
 pub fn replay(alloc: Global, events: &[Event]) -> Played
-    ensures played { front_of (take (length result.replies.replies) events.now) ≡ record { world = result.hall.world; replies = result.replies.replies; cause = None } }
+    ensures played { front_of (take (length result.replies.replies) events.now) ≡ record
+        { world = result.hall.world; replies = result.replies.replies; cause = None } }
     ensures counted { result.hall.events ≡ length result.replies.replies }
     ensures handed_over { result.hall.wakes ≡ [] }
     ensures whole { OnOk result.ended (length result.replies.replies ≡ length events.now) }
-    ensures caused { IfErr result.ended (λ stop. stop ≢ Stop.NoMemory → front_of events.now ≡ record { world = result.hall.world; replies = result.replies.replies; cause = Some stop }) }
-    ensures refused { IfErr result.ended (λ stop. stop ≢ Stop.NoMemory → (event : Line) × (slice_get events.now (length result.replies.replies) ≡ Some event) × (cause_of result.hall.world event ≡ Some stop)) }
+    ensures caused { IfErr result.ended (λ stop. stop ≢ Stop.NoMemory
+        → front_of events.now ≡ record { world = result.hall.world; replies = result.replies.replies; cause = Some stop }) }
+    ensures refused { IfErr result.ended (λ stop. stop ≢ Stop.NoMemory → (event : Line) × (slice_get events.now (length result.replies.replies) ≡ Some event)
+        × (cause_of result.hall.world event ≡ Some stop)) }
     ensures balance { AreBalanced events.now result.replies.replies }
     ensures woken { LoseNoWake events.now result.replies.replies }
+    ensures order { GrantInOrder events.now result.replies.replies }
     ensures legal { IsLegal events.now → (result.ended ≡ Ok tt) ⊎ (result.ended ≡ Err Stop.NoMemory) }
 {
     let mut hall = Hall::new(alloc);
     let mut replies = Replies::new(alloc);
     for event in events {
-        match play(&mut hall, &mut replies, event) {
+        match play_next(&mut hall, &mut replies, event) {
             Ok(()) => {}
             Err(stop) => {
                 return Played {
@@ -54,7 +58,7 @@ pub fn replay(alloc: Global, events: &[Event]) -> Played
 }
 
 /// Plays one event, and keeps its reply with its wakes.
-fn play(hall: &mut Hall, replies: &mut Replies, event: &Event) -> Result<(), Stop>
+fn play_next(hall: &mut Hall, replies: &mut Replies, event: &Event) -> Result<(), Stop>
     requires few { hall.old.events < 2 ^ 64 - 1 }
     requires quiet { hall.old.wakes ≡ [] }
     ensures allowed { OnOk result (cause_of hall.old.world event.now ≡ None) }
@@ -63,10 +67,7 @@ fn play(hall: &mut Hall, replies: &mut Replies, event: &Event) -> Result<(), Sto
     ensures refused { IfErr result (λ stop. stop ≢ Stop.NoMemory → cause_of hall.old.world event.now ≡ Some stop) }
     ensures err { OnErr result ((hall.new ≡ hall.old) × (replies.new.replies ≡ replies.old.replies)) }
 {
-    match replies.reserve(hall.registered()) {
-        Ok(()) => {}
-        Err(_) => return Err(Stop::NoMemory),
-    }
+    replies.reserve(hall.registered())?;
     let answer = hall.act(event)?;
     replies.push(answer);
     hand_over(hall, replies);

@@ -17,96 +17,90 @@ pub fn semaphore_event(word: &[u8], rest: &[u8]) -> Option<SemEvent>
 fn permits_event(word: &[u8], rest: &[u8]) -> Option<SemEvent>
     ensures { result ≡ permits_event word.now rest.now }
 {
-    if word == b"new".as_slice() {
-        return Some(SemEvent::New(number_of(rest)?));
+    match word {
+        b"new" => Some(SemEvent::New(number_of(rest)?)),
+        b"free" => Some(SemEvent::Free(number_of(rest)?)),
+        b"forget" => {
+            let (s, n) = numbers_of(rest)?;
+            Some(SemEvent::Forget(s, n))
+        }
+        b"forgetx" => {
+            let (s, n) = numbers_of(rest)?;
+            Some(SemEvent::Forgetx(s, n))
+        }
+        b"release" => {
+            let (s, n) = numbers_of(rest)?;
+            Some(SemEvent::Release(s, n))
+        }
+        b"endsem" => Some(SemEvent::Endsem(number_of(rest)?)),
+        b"ledger" => Some(SemEvent::Ledger(number_of(rest)?)),
+        b"close" => Some(SemEvent::Close(number_of(rest)?)),
+        b"closed" => Some(SemEvent::Closed(number_of(rest)?)),
+        _ => None,
     }
-    if word == b"free".as_slice() {
-        return Some(SemEvent::Free(number_of(rest)?));
-    }
-    if word == b"forget".as_slice() {
-        let (s, n) = numbers_of(rest)?;
-        return Some(SemEvent::Forget(s, n));
-    }
-    if word == b"forgetx".as_slice() {
-        let (s, n) = numbers_of(rest)?;
-        return Some(SemEvent::Forgetx(s, n));
-    }
-    if word == b"release".as_slice() {
-        let (s, n) = numbers_of(rest)?;
-        return Some(SemEvent::Release(s, n));
-    }
-    if word == b"endsem".as_slice() {
-        return Some(SemEvent::Endsem(number_of(rest)?));
-    }
-    if word == b"ledger".as_slice() {
-        return Some(SemEvent::Ledger(number_of(rest)?));
-    }
-    None
 }
 
 /// The lines that ask for permits.
 fn asking_event(word: &[u8], rest: &[u8]) -> Option<SemEvent>
     ensures { result ≡ asking_event word.now rest.now }
 {
-    if word == b"try".as_slice() {
-        let (s, n) = numbers_of(rest)?;
-        return Some(SemEvent::Try(s, n));
+    match word {
+        b"try" => {
+            let (s, n) = numbers_of(rest)?;
+            Some(SemEvent::Try(s, n))
+        }
+        b"tryo" => {
+            let (s, n) = numbers_of(rest)?;
+            Some(SemEvent::Tryo(s, n))
+        }
+        b"tryf" => {
+            let (s, n) = numbers_of(rest)?;
+            Some(SemEvent::Tryf(s, n))
+        }
+        b"tryof" => {
+            let (s, n) = numbers_of(rest)?;
+            Some(SemEvent::Tryof(s, n))
+        }
+        b"acq" => {
+            let (s, n) = numbers_of(rest)?;
+            Some(SemEvent::Acq(s, n))
+        }
+        b"acqo" => {
+            let (s, n) = numbers_of(rest)?;
+            Some(SemEvent::Acqo(s, n))
+        }
+        b"acqf" => {
+            let (s, n) = numbers_of(rest)?;
+            Some(SemEvent::Acqf(s, n))
+        }
+        b"acqof" => {
+            let (s, n) = numbers_of(rest)?;
+            Some(SemEvent::Acqof(s, n))
+        }
+        _ => None,
     }
-    if word == b"tryo".as_slice() {
-        let (s, n) = numbers_of(rest)?;
-        return Some(SemEvent::Tryo(s, n));
-    }
-    if word == b"tryf".as_slice() {
-        let (s, n) = numbers_of(rest)?;
-        return Some(SemEvent::Tryf(s, n));
-    }
-    if word == b"tryof".as_slice() {
-        let (s, n) = numbers_of(rest)?;
-        return Some(SemEvent::Tryof(s, n));
-    }
-    if word == b"acq".as_slice() {
-        let (s, n) = numbers_of(rest)?;
-        return Some(SemEvent::Acq(s, n));
-    }
-    if word == b"acqo".as_slice() {
-        let (s, n) = numbers_of(rest)?;
-        return Some(SemEvent::Acqo(s, n));
-    }
-    if word == b"acqf".as_slice() {
-        let (s, n) = numbers_of(rest)?;
-        return Some(SemEvent::Acqf(s, n));
-    }
-    if word == b"acqof".as_slice() {
-        let (s, n) = numbers_of(rest)?;
-        return Some(SemEvent::Acqof(s, n));
-    }
-    None
 }
 
 /// The lines that speak of a future or a permit.
 fn holding_event(word: &[u8], rest: &[u8]) -> Option<SemEvent>
     ensures { result ≡ holding_event word.now rest.now }
 {
-    if word == b"poll".as_slice() {
-        let (future, waker) = numbers_of(rest)?;
-        return Some(SemEvent::Poll(future, waker));
+    match word {
+        b"poll" => {
+            let (future, waker) = numbers_of(rest)?;
+            Some(SemEvent::Poll(future, waker))
+        }
+        b"end" => Some(SemEvent::End(number_of(rest)?)),
+        b"lose" => Some(SemEvent::Lose(number_of(rest)?)),
+        b"merge" => {
+            let (p, q) = numbers_of(rest)?;
+            Some(SemEvent::Merge(p, q))
+        }
+        b"split" => {
+            let (p, n) = numbers_of(rest)?;
+            Some(SemEvent::Split(p, n))
+        }
+        b"size" => Some(SemEvent::Size(number_of(rest)?)),
+        _ => None,
     }
-    if word == b"end".as_slice() {
-        return Some(SemEvent::End(number_of(rest)?));
-    }
-    if word == b"lose".as_slice() {
-        return Some(SemEvent::Lose(number_of(rest)?));
-    }
-    if word == b"merge".as_slice() {
-        let (p, q) = numbers_of(rest)?;
-        return Some(SemEvent::Merge(p, q));
-    }
-    if word == b"split".as_slice() {
-        let (p, n) = numbers_of(rest)?;
-        return Some(SemEvent::Split(p, n));
-    }
-    if word == b"size".as_slice() {
-        return Some(SemEvent::Size(number_of(rest)?));
-    }
-    None
 }

@@ -1,4 +1,4 @@
-ghost use Rattle.std.specs.Prelude.{◌≡◌, ◌++◌, ℕ, List, take, length, OnOk, OnErr};
+ghost use Rattle.std.specs.Prelude.{◌≡◌, ◌++◌, ◌∷◌, ℕ, List, take, length, OnOk, OnErr};
 ghost use Rattle.mea_hall.specs.Text.{word_of, numbers_in, account_numbers, number_text, numbers_text, wakes_text, reply_text};
 
 use itoa::Buffer;
@@ -139,32 +139,42 @@ fn put_wakers(out: &mut Vec<u8>, wakes: &[u64]) -> Result<(), NoMemory>
     Ok(())
 }
 
-/// Appends a space and a number in decimal.
+/// Appends a space and a number in decimal. On an error nothing has changed.
 pub fn put_number(out: &mut Vec<u8>, n: u64) -> Result<(), NoMemory>
     ensures ok { OnOk result (out.new.items ≡ out.old.items ++ number_text n) }
-    ensures kept { take (length out.old.items) out.new.items ≡ out.old.items }
+    ensures err { OnErr result (out.new.items ≡ out.old.items) }
 {
     let mut digits = Buffer::new();
+    put_digits(out, digits.format(n).as_bytes())
+}
+
+// Appends a space and digits. On an error nothing has changed.
+fn put_digits(out: &mut Vec<u8>, digits: &[u8]) -> Result<(), NoMemory>
+    ensures ok { OnOk result (out.new.items ≡ out.old.items ++ 32 ∷ digits.now) }
+    ensures err { OnErr result (out.new.items ≡ out.old.items) }
+{
+    let start = out.len();
     put_text(out, b" ")?;
-    put_text(out, digits.format(n).as_bytes())
+    let put = put_text(out, digits);
+    if put.is_err() {
+        out.truncate(start);
+    }
+    put
 }
 
 fn put_total(out: &mut Vec<u8>, n: u128) -> Result<(), NoMemory>
     ensures ok { OnOk result (out.new.items ≡ out.old.items ++ number_text n) }
-    ensures kept { take (length out.old.items) out.new.items ≡ out.old.items }
+    ensures err { OnErr result (out.new.items ≡ out.old.items) }
 {
     let mut digits = Buffer::new();
-    put_text(out, b" ")?;
-    put_text(out, digits.format(n).as_bytes())
+    put_digits(out, digits.format(n).as_bytes())
 }
 
-/// Appends a text.
+/// Appends a text. On an error nothing has changed.
 pub fn put_text(out: &mut Vec<u8>, text: &[u8]) -> Result<(), NoMemory>
     ensures ok { OnOk result (out.new.items ≡ out.old.items ++ text.now) }
     ensures err { OnErr result (out.new.items ≡ out.old.items) }
 {
-    match out.extend_from_slice(text) {
-        Ok(()) => Ok(()),
-        Err(_) => Err(NoMemory),
-    }
+    out.extend_from_slice(text)?;
+    Ok(())
 }

@@ -5,6 +5,8 @@
 #[cfg(test)]
 mod hall;
 #[cfg(test)]
+mod lock;
+#[cfg(test)]
 mod meet;
 #[cfg(test)]
 mod run;

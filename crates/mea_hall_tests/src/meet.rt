@@ -35,7 +35,7 @@ fn differs_at(hall: &mut MeetHall, rows: &[Row]) -> Option<usize>
 #[test]
 fn ample(rt: HostRuntime) {
     let mut hall = MeetHall::new(rt.alloc());
-    let rows: [Row; 17] = [
+    let rows: [Row; 19] = [
         (MeetEvent::BarNew(2), Ok(Answer::Made), &[]),
         (MeetEvent::BarWait(0), Ok(Answer::Made), &[]),
         (MeetEvent::BarPoll(1, 5), Ok(Answer::Pending), &[]),
@@ -53,9 +53,11 @@ fn ample(rt: HostRuntime) {
         (MeetEvent::SdWatch(13), Ok(Answer::Made), &[]),
         (MeetEvent::SdIso(14), Ok(Answer::Made), &[]),
         (MeetEvent::SdPoll(15, 8), Ok(Answer::Pending), &[]),
+        (MeetEvent::SdAwait(12), Ok(Answer::Made), &[]),
+        (MeetEvent::SdPoll(17, 9), Ok(Answer::Pending), &[]),
     ];
     assert_eq!(rt; differs_at(&mut hall, &rows), None);
-    assert_eq!(rt; hall.registered(), 4);
+    assert_eq!(rt; hall.registered(), 5);
     assert_eq!(rt; hall.wakes_ready(), 0);
     assert!(rt; hall.barrier(0).is_some());
     assert_eq!(rt; hall.latch(3).map(|core| core.count()), Some(1));

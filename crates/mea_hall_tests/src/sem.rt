@@ -168,6 +168,73 @@ fn a_forgetting_future(rt: HostRuntime) {
     assert_eq!(rt; differs_at(&mut hall, &rows), None);
 }
 
+// A close cuts all that wait, and pours what they were paid: here a debt takes it. A permit that was held
+// gives its part back later, and no acquire is given any.
+#[test]
+fn a_closed_semaphore(rt: HostRuntime) {
+    let mut hall = SemHall::new(rt.alloc());
+    let account = Ledger {
+        made: 3,
+        released: 2,
+        owed: 0,
+        free: 2,
+        held: 0,
+        paid: 0,
+        forgotten: 3,
+    };
+    let rows: [Row; 24] = [
+        (SemEvent::New(3), Ok(Answer::Made), &[]),
+        (SemEvent::Try(0, 1), Ok(Answer::Held), &[]),
+        (SemEvent::Acqo(0, 4), Ok(Answer::Made), &[]),
+        (SemEvent::Poll(2, 11), Ok(Answer::Pending), &[]),
+        (SemEvent::Acq(0, 1), Ok(Answer::Made), &[]),
+        (SemEvent::Poll(4, 12), Ok(Answer::Pending), &[]),
+        (SemEvent::Forgetx(0, 3), Ok(Answer::Done), &[]),
+        (SemEvent::Closed(0), Ok(Answer::No), &[]),
+        (SemEvent::Close(0), Ok(Answer::Done), &[11, 12]),
+        (SemEvent::Closed(0), Ok(Answer::Yes), &[]),
+        (SemEvent::Free(0), Ok(Answer::Free(0)), &[]),
+        (SemEvent::Poll(2, 13), Ok(Answer::Gone), &[]),
+        (SemEvent::Poll(2, 14), Err(Stop::Unknown), &[]),
+        (SemEvent::End(4), Ok(Answer::Done), &[]),
+        (SemEvent::End(1), Ok(Answer::Done), &[]),
+        (SemEvent::Free(0), Ok(Answer::Free(0)), &[]),
+        (SemEvent::Release(0, 2), Ok(Answer::Done), &[]),
+        (SemEvent::Try(0, 1), Ok(Answer::Lacking), &[]),
+        (SemEvent::Tryf(0, 1), Ok(Answer::No), &[]),
+        (SemEvent::Acqo(0, 0), Ok(Answer::Made), &[]),
+        (SemEvent::Poll(19, 15), Ok(Answer::Gone), &[]),
+        (SemEvent::Close(0), Ok(Answer::Done), &[]),
+        (SemEvent::Ledger(0), Ok(Answer::Account(account)), &[]),
+        (SemEvent::Endsem(0), Ok(Answer::Done), &[]),
+    ];
+    assert_eq!(rt; differs_at(&mut hall, &rows), None);
+    assert_eq!(rt; hall.registered(), 0);
+}
+
+// An owned future outlives the name of its semaphore, and is told that it was closed. One that was granted
+// before the close is ready.
+#[test]
+fn futures_of_a_closed_semaphore(rt: HostRuntime) {
+    let mut hall = SemHall::new(rt.alloc());
+    let rows: [Row; 12] = [
+        (SemEvent::New(1), Ok(Answer::Made), &[]),
+        (SemEvent::Acqo(0, 2), Ok(Answer::Made), &[]),
+        (SemEvent::Acqo(0, 1), Ok(Answer::Made), &[]),
+        (SemEvent::Poll(1, 21), Ok(Answer::Pending), &[]),
+        (SemEvent::Poll(2, 22), Ok(Answer::Pending), &[]),
+        (SemEvent::Release(0, 1), Ok(Answer::Done), &[21]),
+        (SemEvent::Close(0), Ok(Answer::Done), &[22]),
+        (SemEvent::Endsem(0), Ok(Answer::Done), &[]),
+        (SemEvent::Closed(0), Err(Stop::Unknown), &[]),
+        (SemEvent::Poll(1, 23), Ok(Answer::Ready), &[]),
+        (SemEvent::Poll(2, 24), Ok(Answer::Gone), &[]),
+        (SemEvent::Close(0), Err(Stop::Unknown), &[]),
+    ];
+    assert_eq!(rt; differs_at(&mut hall, &rows), None);
+    assert_eq!(rt; hall.registered(), 0);
+}
+
 // An event that takes no memory never answers that there is none.
 fn releases(hall: &mut SemHall, number: u64, n: u64) -> Option<Answer>
     requires { hall.old.next ≤ number }

@@ -1,8 +1,6 @@
-pub mod Alone
-pub mod Changes
-pub mod Held
-pub mod Kept
-pub mod Lines
-pub mod Numbers
-pub mod Pairs
-pub mod Stages
+mod KindCalls
+mod Lengths
+pub mod Pours
+pub mod OneLock
+pub mod PartEvents
+pub mod Playing

@@ -1,9 +1,6 @@
-pub mod CondWaits
-pub mod Condvar
-pub mod Lock
-pub mod LockLends
-pub mod Notes
-pub mod RwLends
-pub mod RwLock
-pub mod Then
-pub mod Whiles
+pub mod Cores
+pub mod Entries
+pub mod Waits
+pub mod Parts
+pub mod Lends
+pub mod Halls

@@ -1,69 +1,387 @@
-ghost use Rattle.std.specs.Prelude.{◌≡◌, ◌↔◌, Option, Some, None, IsSome, IsNone, IfSome, IfNone};
-ghost use Rattle.std.specs.Option.{option_copied, option_copied_mut};
-ghost use Rattle.std.specs.Borrow.{LendsIf, sem};
-ghost use Rattle.std.specs.Fn.{FnOnceReturnsAt, FnOnceReturnsAtMut, FnOnceTakesAt, FnOnceTakesAtMut};
+ghost use Rattle.std.specs.Prelude.{◌≡◌, ◌≤◌, ◌≢◌, OnErr, IfOk, IfErr, IfSome, is_some, None, Some, true, false, if◌then◌else◌};
+ghost use Rattle.std.specs.FinMap as map;
+ghost use Rattle.mea_named.specs.Play.{PartYields, PartRests};
+ghost use Rattle.mea_lock_model.specs.Locks.{no_locks, is_named, is_future, is_guard, is_write_guard, things_of, plain_of, registered};
+ghost use Rattle.mea_lock_model.specs.Actions.{act_in, Make, Begin, Poll, Try, Get, Set, Lower, End, Peek, Put, Take, Drop, borrowed_by};
+ghost use Rattle.mea_lock_model.specs.Valid.{FitGuards};
+ghost use Rattle.mea_lock.specs.Parts.{IsNewLock};
+ghost use Rattle.mea_lock.specs.Lends.{StandsFor};
 
-/// A part that a value may have, as a field of it or its first item. A mapped guard is a guard and such a
-/// part.
+use crate::entries::{FutureEntry, LockEntry};
+use crate::guard_entry::GuardEntry;
+use crate::lock_core::{LockCore, LoweredCore};
+use mea_base::{Answer, NoMemory, Ready, Stop, Turn};
+use mea_named::ByName;
+use std::alloc::Global;
+use std::marker::Model;
+
+/// The locks of one kind with their futures and guards, each by the number of the event that made it. Each call
+/// costs a look-up by name and the wakers that it makes ready.
 ///
-/// It stands in place of the pointer to a part that a mapped guard of `mea` has.
-pub trait Part<T> {
-    /// The type of the part.
-    type Out;
-
-    /// The part of a whole, where it has one.
-    ghost get: { Self → T → Option Self.Out };
-
-    /// A whole with its part replaced.
-    ghost put: { Self → T → Self.Out → T };
-
-    /// The part of a whole, where it has one.
-    fn part<'a>(&self, whole: &'a T) -> Option<&'a Self::Out>
-    where
-        Self: 'a,
-        ensures { option_copied result ≡ get self.now whole.now };
-
-    /// The part of a whole for writing, where it has one.
-    fn part_mut<'a>(whole: &'a mut T, part: &Self) -> Option<&'a mut Self::Out>
-    where
-        Self: 'a,
-        ensures* writes_back { sem 𝓛 (LendsIf T.row Self.Out.row whole.entry result (λ y. put part.now whole.old y) whole.old) }
-        ensures value { option_copied_mut result ≡ get part.now whole.old };
-
-    /// What was written into a part is there.
-    ghost stays: { (p : Self) (x : T) (y : Self.Out) → IsSome (get p x) → get p (put p x y) ≡ Some y };
+/// A lock stays without its name while an owned thing of it lives.
+#[derive(Drop)]
+pub struct LockPart<C: LockCore> {
+    locks: ByName<LockEntry<C>>,
+    futures: ByName<FutureEntry<C>>,
+    guards: ByName<GuardEntry>,
+    next: u128,
 }
 
-/// Calls the function on the part, or answers None where there is none. It takes no memory of its own.
-pub fn with_part<'a, T, P: Part<T> + 'a, R, F: FnOnce(&P::Out) -> R>(
-    whole: &'a T,
-    part: &P,
-    f: F,
-) -> Option<R>
-    requires { IfSome (P.get part.now whole.now) (λ u. FnOnceTakesAt F.FnOnce f u) }
-    ensures some { IfSome result (λ r. (u : P.Out) × (P.get part.now whole.now ≡ Some u) × FnOnceReturnsAt F.FnOnce f u r) }
-    ensures none { IsNone result ↔ (P.get part.now whole.now ≡ None) }
-{
-    match part.part(whole) {
-        Some(there) => Some(f(there)),
-        None => None,
+impl<C: LockCore> Model for LockPart<C> {
+    ghost use Rattle.mea_named.specs.Play.{Part, part_code};
+    ghost use Rattle.mea_lock_model.specs.Locks.{Locks, locks_code};
+
+    ghost Value = { Part Locks };
+
+    ghost coded = { part_code locks_code };
+
+    ghost use Rattle.mea_lock.specs.Parts.{locks_seen, IsKept};
+
+    ghost view = { λ a. record { hall = locks_seen a.locks a.futures a.guards; next = a.next } };
+
+    ghost invariant = { λ a. IsKept a.locks a.futures a.guards a.next };
+}
+
+impl<C: LockCore> LockPart<C> {
+    /// No lock. It takes no memory.
+    pub fn new(alloc: Global) -> Self
+        ensures { result ≡ record { hall = no_locks; next = 0 } }
+    {
+        LockPart {
+            locks: ByName::new(alloc),
+            futures: ByName::new(alloc),
+            guards: ByName::new(alloc),
+            next: 0,
+        }
+    }
+
+    // What is kept of a lock that is named.
+    fn named_entry(&self, o: u64) -> Option<&LockEntry<C>>
+        ensures named { is_some result ≡ is_named self.now.hall o }
+        ensures things { IfSome result (λ entry. things_of self.now.hall o ≡ entry.now.things) }
+        ensures plain { IfSome result (λ entry. plain_of self.now.hall o ≡ entry.now.plain) }
+        ensures stands { IfSome result (λ entry. StandsFor self.now.hall o entry.now.lock) }
+    {
+        let entry = self.locks.get(o)?;
+        if entry.is_named() { Some(entry) } else { None }
+    }
+
+    /// The core of a lock that is named.
+    pub fn core(&self, o: u64) -> Option<&C>
+        ensures named { is_some result ≡ is_named self.now.hall o }
+        ensures stands { IfSome result (λ core. StandsFor self.now.hall o (C.lock_of core.now)) }
+    {
+        let entry = self.named_entry(o)?;
+        Some(entry.core())
+    }
+
+    pub fn is_named(&self, o: u64) -> bool
+        ensures { result ≡ is_named self.now.hall o }
+    {
+        self.named_entry(o).is_some()
+    }
+
+    pub fn is_future(&self, f: u64) -> bool
+        ensures { result ≡ is_future self.now.hall f }
+    {
+        self.futures.has(f)
+    }
+
+    pub fn is_guard(&self, g: u64) -> bool
+        ensures { result ≡ is_guard self.now.hall g }
+    {
+        self.guards.has(g)
+    }
+
+    pub fn is_write_guard(&self, g: u64) -> bool
+        ensures { result ≡ is_write_guard self.now.hall g }
+    {
+        match self.guards.get(g) {
+            Some(guard) => guard.writes,
+            None => false,
+        }
+    }
+
+    /// The guards of each lock have no more permits than the lock has. It does nothing.
+    pub fn guards_fit(&self)
+        ensures { FitGuards self.now.hall }
+    {
+        let _next = self.next;
+    }
+
+    /// Why a use of the whole lock is refused: it is unknown, or a future or a guard borrows it.
+    pub fn cause_of_use(&self, o: u64) -> Option<Stop>
+        ensures { result ≡ borrowed_by (is_named self.now.hall o) (things_of self.now.hall o) }
+    {
+        match self.named_entry(o) {
+            Some(entry) => borrowed_if(entry.has_things()),
+            None => Some(Stop::Unknown),
+        }
+    }
+
+    /// Why the end of its name is refused: it is unknown, or a plain future or guard borrows it.
+    pub fn cause_of_drop(&self, o: u64) -> Option<Stop>
+        ensures { result ≡ borrowed_by (is_named self.now.hall o) (plain_of self.now.hall o) }
+    {
+        match self.named_entry(o) {
+            Some(entry) => borrowed_if(entry.has_plain()),
+            None => Some(Stop::Unknown),
+        }
+    }
+
+    /// Makes a lock of a new core. On an error nothing has changed.
+    pub fn make(&mut self, number: u64, core: C) -> Result<Answer, NoMemory>
+        requires next { self.old.next ≤ number }
+        requires new { IsNewLock (C.lock_of core) (C.lock_of core).value (C.lock_of core).most }
+        ensures ok { IfOk result (λ answer. PartRests registered self.old number (act_in self.old.hall number (Make (C.lock_of core).value (C.lock_of core).most)) answer self.new) }
+        ensures err { OnErr result (self.new ≡ self.old) }
+    {
+        let Ok(()) = self.locks.insert(number, LockEntry::new(core)) else {
+            return Err(NoMemory);
+        };
+        self.next = number as u128 + 1;
+        Ok(Answer::Made)
+    }
+
+    /// Makes a future, to read or to write. On an error nothing has changed.
+    pub fn begin(
+        &mut self,
+        number: u64,
+        o: u64,
+        plain: bool,
+        write: bool,
+    ) -> Result<Answer, NoMemory>
+        requires next { self.old.next ≤ number }
+        requires named { is_named self.old.hall o ≡ true }
+        requires writes { C.is_only_written ≡ true → write ≡ true }
+        ensures ok { IfOk result (λ answer. PartRests registered self.old number (act_in self.old.hall number (Begin o plain write)) answer self.new) }
+        ensures err { OnErr result (self.new ≡ self.old) }
+    {
+        let entry = self.locks.at_mut(o);
+        let Ok(()) = self
+            .futures
+            .insert(number, entry.new_future(o, plain, write))
+        else {
+            return Err(NoMemory);
+        };
+        entry.begin(plain);
+        self.next = number as u128 + 1;
+        Ok(Answer::Made)
+    }
+
+    /// Polls a future. Room for the guard is made first. On an error nothing has changed.
+    pub fn poll(
+        &mut self,
+        number: u64,
+        f: u64,
+        waker: u64,
+        ready: &mut Ready<u64>,
+    ) -> Result<Answer, NoMemory>
+        requires next { self.old.next ≤ number }
+        requires there { is_future self.old.hall f ≡ true }
+        requires room { registered self.old.hall ≤ ready.old.registered }
+        ensures ok { IfOk result (λ answer. PartYields registered self.old number (act_in self.old.hall number (Poll f waker)) answer self.new ready.old ready.new) }
+        ensures err { OnErr result ((self.new ≡ self.old) × (ready.new ≡ ready.old)) }
+    {
+        let future = self.futures.at_mut(f);
+        let guard = future.guard();
+        let entry = self.locks.at_mut(guard.lock);
+        let Ok(()) = self.guards.insert(number, guard) else {
+            return Err(NoMemory);
+        };
+        match entry.poll(f, future, waker, ready) {
+            Err(_) => {
+                let _ = self.guards.remove(number);
+                Err(NoMemory)
+            }
+            Ok(Turn::Pending) => {
+                let _ = self.guards.remove(number);
+                self.next = number as u128 + 1;
+                Ok(Answer::Pending)
+            }
+            Ok(Turn::Ready(_)) => {
+                let _ = self.futures.remove(f);
+                self.next = number as u128 + 1;
+                Ok(Answer::Ready)
+            }
+        }
+    }
+
+    /// Makes a guard where its permits are free. On an error nothing has changed.
+    pub fn try_lock(
+        &mut self,
+        number: u64,
+        o: u64,
+        plain: bool,
+        write: bool,
+    ) -> Result<Answer, NoMemory>
+        requires next { self.old.next ≤ number }
+        requires named { is_named self.old.hall o ≡ true }
+        requires writes { C.is_only_written ≡ true → write ≡ true }
+        ensures ok { IfOk result (λ answer. PartRests registered self.old number (act_in self.old.hall number (Try o plain write)) answer self.new) }
+        ensures err { OnErr result (self.new ≡ self.old) }
+    {
+        let guard = GuardEntry {
+            lock: o,
+            plain,
+            writes: write,
+        };
+        let Ok(()) = self.guards.insert(number, guard) else {
+            return Err(NoMemory);
+        };
+        let entry = self.locks.at_mut(o);
+        if entry.try_lock(write) {
+            entry.begin(plain);
+            self.next = number as u128 + 1;
+            return Ok(Answer::Held);
+        }
+        let _ = self.guards.remove(number);
+        self.next = number as u128 + 1;
+        Ok(Answer::Lacking)
+    }
+
+    /// Tells the value, by a guard. It takes no memory.
+    pub fn get(&mut self, number: u64, g: u64) -> Answer
+        requires next { self.old.next ≤ number }
+        requires there { is_guard self.old.hall g ≡ true }
+        ensures { PartRests registered self.old number (act_in self.old.hall number (Get g)) result self.new }
+    {
+        let guard = *self.guards.at(g);
+        let v = self.locks.at(guard.lock).value_by(guard.writes);
+        self.next = number as u128 + 1;
+        Answer::Value(v)
+    }
+
+    /// Writes the value, by a guard that writes. It takes no memory.
+    pub fn set(&mut self, number: u64, g: u64, v: u64) -> Answer
+        requires next { self.old.next ≤ number }
+        requires there { is_write_guard self.old.hall g ≡ true }
+        ensures { PartRests registered self.old number (act_in self.old.hall number (Set g v)) result self.new }
+    {
+        let o = self.guards.at(g).lock;
+        self.locks.at_mut(o).set_value(v);
+        self.next = number as u128 + 1;
+        Answer::Done
+    }
+
+    /// Ends a future, or else a guard. It takes no memory.
+    pub fn end(&mut self, number: u64, x: u64, ready: &mut Ready<u64>) -> Answer
+        requires next { self.old.next ≤ number }
+        requires there { is_future self.old.hall x ≡ false → is_guard self.old.hall x ≡ true }
+        requires room { registered self.old.hall ≤ ready.old.registered }
+        ensures { PartYields registered self.old number (act_in self.old.hall number (End x)) result self.new ready.old ready.new }
+    {
+        if self.is_future(x) {
+            self.end_future(number, x, ready)
+        } else {
+            self.end_guard(number, x, ready)
+        }
+    }
+
+    fn end_future(&mut self, number: u64, f: u64, ready: &mut Ready<u64>) -> Answer
+        requires next { self.old.next ≤ number }
+        requires there { is_future self.old.hall f ≡ true }
+        requires room { registered self.old.hall ≤ ready.old.registered }
+        ensures { PartYields registered self.old number (act_in self.old.hall number (End f)) result self.new ready.old ready.new }
+    {
+        let future = self.futures.remove(f);
+        let o = future.lock();
+        let plain = future.is_plain();
+        let entry = self.locks.at_mut(o);
+        entry.cancel(future, ready);
+        entry.finish(plain);
+        let over = entry.is_over();
+        self.locks.remove_if(o, over);
+        self.next = number as u128 + 1;
+        Answer::Done
+    }
+
+    fn end_guard(&mut self, number: u64, g: u64, ready: &mut Ready<u64>) -> Answer
+        requires next { self.old.next ≤ number }
+        requires apart { map.get self.old.hall.futures g ≡ None }
+        requires there { is_guard self.old.hall g ≡ true }
+        requires room { registered self.old.hall ≤ ready.old.registered }
+        ensures { PartYields registered self.old number (act_in self.old.hall number (End g)) result self.new ready.old ready.new }
+    {
+        let guard = self.guards.remove(g);
+        let entry = self.locks.at_mut(guard.lock);
+        entry.unlock(guard.writes, ready);
+        entry.finish(guard.plain);
+        let over = entry.is_over();
+        self.locks.remove_if(guard.lock, over);
+        self.next = number as u128 + 1;
+        Answer::Done
+    }
+
+    /// Tells the value of a lock that has nothing. It takes no memory.
+    pub fn peek(&mut self, number: u64, o: u64) -> Answer
+        requires next { self.old.next ≤ number }
+        requires named { is_named self.old.hall o ≡ true }
+        requires alone { things_of self.old.hall o ≡ 0 }
+        ensures { PartRests registered self.old number (act_in self.old.hall number (Peek o)) result self.new }
+    {
+        let v = self.locks.at_mut(o).idle_value();
+        self.next = number as u128 + 1;
+        Answer::Value(v)
+    }
+
+    /// Writes the value of a lock that has nothing. It takes no memory.
+    pub fn put(&mut self, number: u64, o: u64, v: u64) -> Answer
+        requires next { self.old.next ≤ number }
+        requires named { is_named self.old.hall o ≡ true }
+        requires alone { things_of self.old.hall o ≡ 0 }
+        ensures { PartRests registered self.old number (act_in self.old.hall number (Put o v)) result self.new }
+    {
+        self.locks.at_mut(o).set_idle_value(v);
+        self.next = number as u128 + 1;
+        Answer::Done
+    }
+
+    /// Takes the value of a lock out that has nothing; the lock is gone. It takes no memory.
+    pub fn take(&mut self, number: u64, o: u64) -> Answer
+        requires next { self.old.next ≤ number }
+        requires named { is_named self.old.hall o ≡ true }
+        requires alone { things_of self.old.hall o ≡ 0 }
+        ensures { PartRests registered self.old number (act_in self.old.hall number (Take o)) result self.new }
+    {
+        let v = self.locks.remove(o).into_value();
+        self.next = number as u128 + 1;
+        Answer::Value(v)
+    }
+
+    /// Ends the name of a lock. It takes no memory.
+    pub fn end_name(&mut self, number: u64, o: u64) -> Answer
+        requires next { self.old.next ≤ number }
+        requires named { is_named self.old.hall o ≡ true }
+        ensures { PartRests registered self.old number (act_in self.old.hall number (Drop o)) result self.new }
+    {
+        let entry = self.locks.at_mut(o);
+        entry.unname();
+        let over = entry.is_over();
+        self.locks.remove_if(o, over);
+        self.next = number as u128 + 1;
+        Answer::Done
     }
 }
 
-/// Calls the function on the part, which it may change, or answers None where there is none. It takes no
-/// memory of its own.
-pub fn with_part_mut<'a, T, P: Part<T> + 'a, R, F: FnOnce(&mut P::Out) -> R>(
-    whole: &'a mut T,
-    part: &P,
-    f: F,
-) -> Option<R>
-    requires { IfSome (P.get part.now whole.old) (λ u. FnOnceTakesAtMut F.FnOnce f u) }
-    ensures some { IfSome result (λ r. (u : P.Out) × (v : P.Out) × (P.get part.now whole.old ≡ Some u) × FnOnceReturnsAtMut F.FnOnce f u r v × (whole.new ≡ P.put part.now whole.old v)) }
-    ensures none { IsNone result ↔ (P.get part.now whole.old ≡ None) }
-    ensures unchanged { IfNone result (whole.new ≡ whole.old) }
-{
-    match P::part_mut(whole, part) {
-        Some(there) => Some(f(there)),
-        None => None,
+impl<C: LoweredCore> LockPart<C> {
+    /// A guard that writes reads from now on. It takes no memory.
+    pub fn lower(&mut self, number: u64, g: u64, ready: &mut Ready<u64>) -> Answer
+        requires next { self.old.next ≤ number }
+        requires there { is_write_guard self.old.hall g ≡ true }
+        requires room { registered self.old.hall ≤ ready.old.registered }
+        ensures { PartYields registered self.old number (act_in self.old.hall number (Lower g)) result self.new ready.old ready.new }
+    {
+        let guard = self.guards.at_mut(g);
+        guard.writes = false;
+        self.locks.at_mut(guard.lock).lower(ready);
+        self.next = number as u128 + 1;
+        Answer::Done
     }
+}
+
+fn borrowed_if(borrowed: bool) -> Option<Stop>
+    ensures { result ≡ (if borrowed then Some Stop.Borrowed else None) }
+{
+    if borrowed { Some(Stop::Borrowed) } else { None }
 }

@@ -1,9 +1,15 @@
 -- what less does to a count, and to the count that it stands for
 use Rattle.std.proofs.Common.{◌≡◌, ℕ, ◌+◌, ◌-◌, Bool, true, false, if◌then◌else◌, List, [], length, refl, arith}
+use Rattle.mea_base.proofs.Totals.{total-empty}
 use Rattle.mea_sets.specs.WaitSet.{drained, has_given}
 use Rattle.mea_sets.specs.Countdown as counts
 use Rattle.mea_meet_model.specs.Count as model
 use Rattle.mea_meet_model.specs.Waiting.{Whose, wakers}
+use Rattle.mea_meet_model.specs.Barriers as barriers
+use Rattle.mea_meet_model.specs.Latches as latches
+use Rattle.mea_meet_model.specs.Groups as groups
+use Rattle.mea_meet_model.specs.Shutdowns as shutdowns
+use Rattle.mea_meet_model.specs.Hall.{empty_hall, registered}
 use Rattle.mea_meet.specs.Names.{Slots, waiting_at, count_seen, AreGiven}
 use Rattle.mea_meet.proofs.Names.{waiting-wakers, given-drained}
 
@@ -38,3 +44,13 @@ woken-all c n = by_test (counts.ends c n)
     by_test : (t : Bool) → length (if t then drained c.waiting else c.waiting).wakers + length (if t then c.waiting.wakers else []) ≡ length c.waiting.wakers
     by_test true = omega arith
     by_test false = omega arith
+
+-- no waker is registered in the empty hall
+pub none_registered : registered empty_hall ≡ 0
+none_registered =
+    let none_at_barriers : barriers.registered barriers.no_barriers ≡ 0 = total-empty (λ b (x : barriers.Barrier). length x.waiting) in
+    let none_at_latches : latches.registered latches.no_latches ≡ 0 = total-empty (λ l (x : latches.Latch). length x.count.waiting) in
+    let none_at_groups : groups.registered groups.no_groups ≡ 0 = total-empty (λ g (x : model.Count). length x.waiting) in
+    let none_at_shutdowns : shutdowns.registered shutdowns.no_shutdowns ≡ 0 =
+    total-empty (λ s (x : shutdowns.Shutdown). length x.signal.waiting + length x.receivers.waiting) in
+    omega arith

@@ -1,8 +1,7 @@
 -- what the methods of a `GroupHall` keep, and their outcomes as the contracts say them
-use Rattle.std.proofs.Common.{◌≡◌, ℕ, ◌+◌, ◌-◌, ◌^◌, ◌<◌, ◌≤◌, ◌++◌, ◌==◌, Bool, true, false, cond, List, [], length, Option, Some, None, refl, ap, sym, subst, ◌∙◌, arith, append-nil, if◌then◌else◌, inl, inr}
+use Rattle.std.proofs.Common.{nat_eq, ◌≡◌, ℕ, ◌+◌, ◌-◌, ◌^◌, ◌<◌, ◌≤◌, ◌++◌, ◌==◌, Bool, true, false, cond, List, [], length, Option, Some, None, refl, ap, sym, subst, ◌∙◌, arith, append-nil, if◌then◌else◌, inl, inr}
 use Rattle.std.specs.Option.{option_map, IfSome}
 use Rattle.std.specs.Ordering.{nat_cmp}
-use Rattle.std.specs.BTreeMap.{is_at}
 use Rattle.std.specs.FinMap.{FinMap, get, insert, remove, entries}
 use Rattle.std.proofs.lemmas.Bool.{ne_eqb, eq-eqb}
 use Rattle.mea_base.specs.declared.answer.Answer.{Answer}
@@ -68,7 +67,7 @@ module _ (old mid : List (ℕ × GroupEntry)) (g : ℕ) (d : GroupEntry) (writes
 
   pub tidied_at : (new : List (ℕ × GroupEntry)) → ChangesAt mid new g (left_at (at mid g)) → ChangesAt old new g (left d)
   tidied_at new tidies = changes_twice old mid new g (Some d) (left d) writes
-      (λ q. tidies q ∙ ap (λ o. cond (is_at (nat_cmp g) q) (left_at o) (at mid q)) written)
+      (λ q. tidies q ∙ ap (λ o. cond (nat_eq g q) (left_at o) (at mid q)) written)
 
   pub tidied_if : (P : GroupEntry → Type 0) → IfSome (at mid g) P → P d
   tidied_if P is = some_if P (at mid g) d written is

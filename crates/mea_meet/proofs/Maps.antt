@@ -1,13 +1,12 @@
 -- maps by name in the halls of meeting points: what is kept and what is seen of it, and both after a change
-use Rattle.std.proofs.Common.{◌≡◌, ℕ, ◌+◌, ◌≤◌, ◌==◌, Bool, true, false, cond, List, [], Option, Some, None, IsSome, refl, ap, sym, subst, ◌∙◌, arith}
+use Rattle.std.proofs.Common.{nat_eq, ◌≡◌, ℕ, ◌+◌, ◌≤◌, ◌==◌, Bool, true, false, cond, List, [], Option, Some, None, IsSome, refl, ap, sym, subst, ◌∙◌, arith}
 use Rattle.std.specs.Option.{option_map, IfSome}
 use Rattle.std.specs.Ordering.{nat_cmp}
-use Rattle.std.specs.BTreeMap.{is_at}
 use Rattle.std.specs.FinMap.{FinMap, get, insert, remove, empty, entries, get-empty}
 use Rattle.std.proofs.lemmas.Bool.{eqb-true, eqb-false}
 use Rattle.mea_base.specs.Named.{named, at, ChangesAt}
 use Rattle.mea_base.specs.Totals.{total, weight}
-use Rattle.mea_base.proofs.NamedMaps.{same_named, get-named, named_changed, get-seen, option_map-same, kept-at, found, kept-changed}
+use Rattle.mea_base.proofs.NamedMaps.{same_named, get-seen, kept-at, found, kept-changed}
 use Rattle.mea_base.proofs.Totals.{get_inserted, get_removed, total-insert, total-remove, total-alike}
 use Rattle.mea_base.proofs.Tests.{at_same, at_apart, by_name}
 
@@ -68,7 +67,7 @@ last_stays true u v w = refl
 last_stays false u v w = refl
 
 pub changes_twice : {X : Type 0} (old mid new : List (ℕ × X)) (k : ℕ) (o p : Option X) → ChangesAt old mid k o → ChangesAt mid new k p → ChangesAt old new k p
-changes_twice {X} old mid new k o p first second q = second q ∙ ap (cond (is_at (nat_cmp k) q) p) (first q) ∙ last_stays (is_at (nat_cmp k) q) p o (at old q)
+changes_twice {X} old mid new k o p first second q = second q ∙ ap (cond (nat_eq k q) p) (first q) ∙ last_stays (nat_eq k q) p o (at old q)
 
 -- ---- a map of which one name has changed
 module _ {X : Type 0} (m n : FinMap nat_cmp X) (k : ℕ) where

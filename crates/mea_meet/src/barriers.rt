@@ -9,7 +9,7 @@ use crate::moving::hand_on_barrier;
 use mea_base::{Answer, NoMemory, Poll, Ready, Stop};
 use mea_meet_core::{BarrierCore, BarrierWait, BarrierWaitResult};
 use std::alloc::Global;
-use std::collections::BTreeMap;
+use std::collections::HashMap;
 use std::marker::Model;
 
 /// What a hall keeps of a barrier.
@@ -93,8 +93,8 @@ impl BarrierEntry {
 #[derive(Drop)]
 pub struct BarrierHall {
     alloc: Global,
-    barriers: BTreeMap<u64, BarrierEntry>,
-    waits: BTreeMap<u64, BarrierWaitEntry>,
+    barriers: HashMap<u64, BarrierEntry>,
+    waits: HashMap<u64, BarrierWaitEntry>,
     next: u128,
 }
 
@@ -120,8 +120,8 @@ impl BarrierHall {
     {
         BarrierHall {
             alloc,
-            barriers: BTreeMap::new(alloc),
-            waits: BTreeMap::new(alloc),
+            barriers: HashMap::new(alloc),
+            waits: HashMap::new(alloc),
             next: 0,
         }
     }
@@ -171,13 +171,9 @@ impl BarrierHall {
             core: BarrierCore::new(self.alloc, n),
             waits: 0,
         };
-        match self.barriers.insert(number, entry) {
-            Err(_) => Err(Stop::NoMemory),
-            Ok(_) => {
-                self.next = number as u128 + 1;
-                Ok(Answer::Made)
-            }
-        }
+        self.barriers.insert(number, entry)?;
+        self.next = number as u128 + 1;
+        Ok(Answer::Made)
     }
 
     /// `bar.wait b`.
@@ -192,10 +188,7 @@ impl BarrierHall {
             barrier: b,
             wait: BarrierWait::new(),
         };
-        match self.waits.insert(number, entry) {
-            Err(_) => return Err(Stop::NoMemory),
-            Ok(_) => {}
-        }
+        self.waits.insert(number, entry)?;
         let Some(entry) = self.barriers.get_mut(&b) else {
             unreachable!()
         };
@@ -215,7 +208,8 @@ impl BarrierHall {
         requires next { self.old.next ≤ number }
         requires there { IsSome (map.get self.old.hall.waits f) }
         requires room { registered self.old.hall ≤ ready.old.registered }
-        ensures played { IfOk result (λ answer. Yields registered self.old number (model.poll_of self.old.hall f waker (map.get self.old.hall.waits f)) answer self.new ready.old ready.new) }
+        ensures played { IfOk result (λ answer. Yields registered self.old number (model.poll_of self.old.hall f waker (map.get self.old.hall.waits f)) answer
+            self.new ready.old ready.new) }
         ensures memory { IfErr result (λ stop. stop ≡ Stop.NoMemory) }
         ensures err { OnErr result ((self.new ≡ self.old) × (ready.new ≡ ready.old)) }
     {

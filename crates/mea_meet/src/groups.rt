@@ -1,6 +1,5 @@
 ghost use Rattle.std.specs.Prelude.{ℕ, ◌≡◌, ◌≢◌, ◌+◌, ◌-◌, ◌<◌, ◌≤◌, ◌++◌, [], cond, length, true, false, OnErr, IfOk, IfErr, IfSome, IsSome, is_some};
 ghost use Rattle.std.specs.Ordering.{nat_cmp};
-ghost use Rattle.std.specs.BTreeMap.{is_at};
 ghost use Rattle.std.specs.FinMap as map;
 ghost use Rattle.mea_base.specs.Named.{at, ChangesAt};
 ghost use Rattle.mea_sets.specs.Countdown.{decreased, woken_by};
@@ -16,7 +15,7 @@ use crate::moving::hand_on_group;
 use mea_base::{Answer, NoMemory, Poll, Ready, Stop};
 use mea_meet_core::{GroupCore, GroupWait};
 use std::alloc::Global;
-use std::collections::BTreeMap;
+use std::collections::HashMap;
 use std::marker::Model;
 
 /// What a hall keeps of a wait group.
@@ -112,7 +111,7 @@ impl GroupEntry {
 }
 
 // A group with neither handle nor future is gone, with what is registered there.
-fn tidy(groups: &mut BTreeMap<u64, GroupEntry>, g: u64, ready: &mut Ready<u64>)
+fn tidy(groups: &mut HashMap<u64, GroupEntry>, g: u64, ready: &mut Ready<u64>)
     requires { IfSome (at groups.old.entries g) (λ e. length e.core.count.waiting.wakers ≤ ready.old.registered) }
     ensures left { ChangesAt groups.old.entries groups.new.entries g (left_at (at groups.old.entries g)) }
     ensures woken { ready.new.wakers ≡ ready.old.wakers }
@@ -131,9 +130,9 @@ fn tidy(groups: &mut BTreeMap<u64, GroupEntry>, g: u64, ready: &mut Ready<u64>)
 #[derive(Drop)]
 pub struct GroupHall {
     alloc: Global,
-    groups: BTreeMap<u64, GroupEntry>,
-    handles: BTreeMap<u64, u64>,
-    waits: BTreeMap<u64, GroupWaitEntry>,
+    groups: HashMap<u64, GroupEntry>,
+    handles: HashMap<u64, u64>,
+    waits: HashMap<u64, GroupWaitEntry>,
     next: u128,
 }
 
@@ -161,9 +160,9 @@ impl GroupHall {
     {
         GroupHall {
             alloc,
-            groups: BTreeMap::new(alloc),
-            handles: BTreeMap::new(alloc),
-            waits: BTreeMap::new(alloc),
+            groups: HashMap::new(alloc),
+            handles: HashMap::new(alloc),
+            waits: HashMap::new(alloc),
             next: 0,
         }
     }
@@ -237,17 +236,15 @@ impl GroupHall {
         requires next { self.old.next ≤ number }
         requires there { IsSome (map.get self.old.hall.handles k) }
         requires fits { is_full self.old.hall (map.get self.old.hall.handles k) ≡ false }
-        ensures rests { IfOk result (λ answer. Rests registered self.old number (model.clone_of self.old.hall number (map.get self.old.hall.handles k)) answer self.new) }
+        ensures rests { IfOk result (λ answer. Rests registered self.old number (model.clone_of self.old.hall number (map.get self.old.hall.handles k)) answer
+            self.new) }
         ensures memory { IfErr result (λ stop. stop ≡ Stop.NoMemory) }
         ensures err { OnErr result (self.new ≡ self.old) }
     {
         let Some(&g) = self.handles.get(&k) else {
             unreachable!()
         };
-        match self.handles.insert(number, g) {
-            Err(_) => return Err(Stop::NoMemory),
-            Ok(_) => {}
-        }
+        self.handles.insert(number, g)?;
         let Some(entry) = self.groups.get_mut(&g) else {
             unreachable!()
         };
@@ -261,7 +258,8 @@ impl GroupHall {
         requires next { self.old.next ≤ number }
         requires there { IsSome (map.get self.old.hall.handles k) }
         requires room { registered self.old.hall ≤ ready.old.registered }
-        ensures played { IfOk result (λ answer. Yields registered self.old number (model.into_of self.old.hall number k (map.get self.old.hall.handles k)) answer self.new ready.old ready.new) }
+        ensures played { IfOk result (λ answer. Yields registered self.old number (model.into_of self.old.hall number k (map.get self.old.hall.handles k))
+            answer self.new ready.old ready.new) }
         ensures memory { IfErr result (λ stop. stop ≡ Stop.NoMemory) }
         ensures err { OnErr result ((self.new ≡ self.old) × (ready.new ≡ ready.old)) }
     {
@@ -272,10 +270,7 @@ impl GroupHall {
             group: g,
             wait: GroupWait::new(),
         };
-        match self.waits.insert(number, future) {
-            Err(_) => return Err(Stop::NoMemory),
-            Ok(_) => {}
-        }
+        self.waits.insert(number, future)?;
         let _gone = self.handles.remove(&k);
         let Some(entry) = self.groups.get_mut(&g) else {
             unreachable!()
@@ -290,7 +285,8 @@ impl GroupHall {
     pub fn copy(&mut self, number: u64, f: u64) -> Result<Answer, Stop>
         requires next { self.old.next ≤ number }
         requires there { IsSome (map.get self.old.hall.waits f) }
-        ensures rests { IfOk result (λ answer. Rests registered self.old number (model.copy_of self.old.hall number (map.get self.old.hall.waits f)) answer self.new) }
+        ensures rests { IfOk result (λ answer. Rests registered self.old number (model.copy_of self.old.hall number (map.get self.old.hall.waits f)) answer
+            self.new) }
         ensures memory { IfErr result (λ stop. stop ≡ Stop.NoMemory) }
         ensures err { OnErr result (self.new ≡ self.old) }
     {
@@ -302,10 +298,7 @@ impl GroupHall {
             group: g,
             wait: GroupWait::new(),
         };
-        match self.waits.insert(number, copy) {
-            Err(_) => return Err(Stop::NoMemory),
-            Ok(_) => {}
-        }
+        self.waits.insert(number, copy)?;
         let Some(entry) = self.groups.get_mut(&g) else {
             unreachable!()
         };
@@ -325,7 +318,8 @@ impl GroupHall {
         requires next { self.old.next ≤ number }
         requires there { IsSome (map.get self.old.hall.waits f) }
         requires room { registered self.old.hall ≤ ready.old.registered }
-        ensures played { IfOk result (λ answer. Yields registered self.old number (model.poll_of self.old.hall f waker (map.get self.old.hall.waits f)) answer self.new ready.old ready.new) }
+        ensures played { IfOk result (λ answer. Yields registered self.old number (model.poll_of self.old.hall f waker (map.get self.old.hall.waits f)) answer
+            self.new ready.old ready.new) }
         ensures memory { IfErr result (λ stop. stop ≡ Stop.NoMemory) }
         ensures err { OnErr result ((self.new ≡ self.old) × (ready.new ≡ ready.old)) }
     {

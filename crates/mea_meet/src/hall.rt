@@ -2,14 +2,19 @@ ghost use Rattle.std.specs.Prelude.{◌≡◌, ◌≢◌, ◌≤◌, ◌∷◌, 
 ghost use Rattle.std.specs.FinMap as map;
 ghost use Rattle.mea_meet_model.specs.Hall.{empty_hall, registered};
 ghost use Rattle.mea_meet_model.specs.Latches.{is_named};
+ghost use Rattle.mea_meet_model.specs.Groups as groups;
+ghost use Rattle.mea_meet_model.specs.Shutdowns as shutdowns;
 ghost use Rattle.mea_meet_model.specs.Cause.{cause_of};
+ghost use Rattle.mea_meet_model.specs.Valid.{IsValid};
 ghost use Rattle.mea_meet.specs.Play.{Play, Plays, TakesNoMemory};
 ghost use Rattle.mea_meet.specs.StandsFor.{StandsForBarrier, StandsForLatch, StandsForGroup, StandsForShutdown};
 
 use crate::parts::Parts;
 use mea_base::{Answer, Ready, Stop};
 use mea_meet_core::{BarrierCore, GroupCore, LatchCore, ShutdownCore};
-use mea_meet_model::MeetEvent;
+use mea_meet_model::{
+    MeetEvent, validity_is_kept, wakes_are_of_the_registered, what_is_there_lives,
+};
 use std::alloc::Global;
 use std::marker::Model;
 
@@ -34,6 +39,7 @@ impl Model for MeetHall {
 
     ghost use Rattle.std.specs.Prelude.{◌≡◌, ◌≤◌};
     ghost use Rattle.mea_meet_model.specs.Hall.{registered};
+    ghost use Rattle.mea_meet_model.specs.Valid.{IsValid};
     ghost use Rattle.mea_meet.specs.Parts.{hall_of, IsLow};
 
     ghost view = { λ a. record { hall = hall_of a.parts.barriers a.parts.latches a.parts.groups a.parts.shutdowns; wakes = a.ready.wakers; next = a.next } };
@@ -42,14 +48,17 @@ impl Model for MeetHall {
       low : IsLow a.parts.barriers a.parts.latches a.parts.groups a.parts.shutdowns a.next;
       counted : a.ready.registered ≡ registered (hall_of a.parts.barriers a.parts.latches a.parts.groups a.parts.shutdowns);
       few : a.ready.registered ≤ a.next;
+      valid : IsValid (hall_of a.parts.barriers a.parts.latches a.parts.groups a.parts.shutdowns) a.next;
     } };
 }
 
 impl MeetHall {
     /// A hall with nothing in it. It takes no memory.
     pub fn new(alloc: Global) -> MeetHall
-        ensures { result ≡ record { hall = empty_hall; wakes = []; next = 0 } }
+        ensures empty { result ≡ record { hall = empty_hall; wakes = []; next = 0 } }
+        ensures valid { IsValid result.hall result.next }
     {
+        validity_is_kept();
         MeetHall {
             parts: Parts::new(alloc),
             ready: Ready::new(alloc),
@@ -77,6 +86,7 @@ impl MeetHall {
     pub fn registered(&self) -> usize
         ensures count { result ≡ registered self.now.hall }
         ensures few { result ≤ self.now.next }
+        ensures valid { IsValid self.now.hall self.now.next }
     {
         self.ready.registered()
     }
@@ -100,18 +110,20 @@ impl MeetHall {
     /// The core of the wait group of this name, while a handle or a future of it lives. It takes no
     /// memory.
     pub fn group(&self, name: u64) -> Option<&GroupCore<u64>>
-        ensures lives { is_some result ≡ is_some (map.get self.now.hall.groups.groups name) }
+        ensures lives { is_some result ≡ groups.is_live self.now.hall.groups name }
         ensures stands { IfSome result (λ core. StandsForGroup self.now.hall.groups name core.now) }
     {
+        what_is_there_lives();
         self.parts.groups.core(name)
     }
 
     /// The core of the shutdown of this name, while a sender, receiver, watch or future of it lives. It
     /// takes no memory.
     pub fn shutdown(&self, name: u64) -> Option<&ShutdownCore<u64>>
-        ensures lives { is_some result ≡ is_some (map.get self.now.hall.shutdowns.shutdowns name) }
+        ensures lives { is_some result ≡ shutdowns.is_live self.now.hall.shutdowns name }
         ensures stands { IfSome result (λ core. StandsForShutdown self.now.hall.shutdowns name core.now) }
     {
+        what_is_there_lives();
         self.parts.shutdowns.core(name)
     }
 
@@ -129,10 +141,14 @@ impl MeetHall {
         requires { self.old.next ≤ number }
         ensures played { IfOk result (λ reply. Plays self.old number event.now reply self.new) }
         ensures allowed { OnOk result (cause_of self.old.hall event.now ≡ None) }
-        ensures refused { IfErr result (λ stop. (cause_of self.old.hall event.now ≡ Some stop) ⊎ ((cause_of self.old.hall event.now ≡ None) × (stop ≡ Stop.NoMemory))) }
+        ensures refused { IfErr result (λ stop. (cause_of self.old.hall event.now ≡ Some stop)
+            ⊎ ((cause_of self.old.hall event.now ≡ None) × (stop ≡ Stop.NoMemory))) }
         ensures no_memory { TakesNoMemory event.now → result ≢ Err Stop.NoMemory }
         ensures err { OnErr result (self.new ≡ self.old) }
+        ensures valid { IsValid self.new.hall self.new.next }
     {
+        validity_is_kept();
+        wakes_are_of_the_registered();
         if let Some(stop) = self.cause(event) {
             return Err(stop);
         }

@@ -12,7 +12,7 @@ use crate::moving::hand_on_latch;
 use mea_base::{Answer, NoMemory, Poll, Ready, Stop};
 use mea_meet_core::{LatchCore, LatchWait};
 use std::alloc::Global;
-use std::collections::BTreeMap;
+use std::collections::HashMap;
 use std::marker::Model;
 
 /// What a hall keeps of a latch.
@@ -70,7 +70,11 @@ impl LatchEntry {
         requires quiet { self.old.core.wakes ≡ [] }
         requires room { length (woken_by self.old.core.count n) ≤ ready.old.registered }
         ensures entry { self.new ≡ record self.old { core = record { count = decreased self.old.core.count n; wakes = [] } } }
-        ensures ready { ready.new ≡ record { wakers = ready.old.wakers ++ woken_by self.old.core.count n; registered = ready.old.registered - length (woken_by self.old.core.count n) } }
+        ensures ready { ready.new ≡ record {
+          wakers = ready.old.wakers ++ woken_by self.old.core.count n;
+          registered = ready.old.registered - length
+              (woken_by self.old.core.count n);
+        } }
     {
         self.core.arrive(n);
         hand_on_latch(&mut self.core, ready);
@@ -113,8 +117,8 @@ impl LatchEntry {
 #[derive(Drop)]
 pub struct LatchHall {
     alloc: Global,
-    latches: BTreeMap<u64, LatchEntry>,
-    waits: BTreeMap<u64, LatchWaitEntry>,
+    latches: HashMap<u64, LatchEntry>,
+    waits: HashMap<u64, LatchWaitEntry>,
     next: u128,
 }
 
@@ -142,8 +146,8 @@ impl LatchHall {
     {
         LatchHall {
             alloc,
-            latches: BTreeMap::new(alloc),
-            waits: BTreeMap::new(alloc),
+            latches: HashMap::new(alloc),
+            waits: HashMap::new(alloc),
             next: 0,
         }
     }
@@ -198,13 +202,9 @@ impl LatchHall {
             waits: 0,
             plain: 0,
         };
-        match self.latches.insert(number, entry) {
-            Err(_) => Err(Stop::NoMemory),
-            Ok(_) => {
-                self.next = number as u128 + 1;
-                Ok(Answer::Made)
-            }
-        }
+        self.latches.insert(number, entry)?;
+        self.next = number as u128 + 1;
+        Ok(Answer::Made)
     }
 
     /// `lat.count l`. It takes no memory.
@@ -266,10 +266,7 @@ impl LatchHall {
             wait: LatchWait::new(),
             plain,
         };
-        match self.waits.insert(number, future) {
-            Err(_) => return Err(Stop::NoMemory),
-            Ok(_) => {}
-        }
+        self.waits.insert(number, future)?;
         let Some(entry) = self.latches.get_mut(&l) else {
             unreachable!()
         };
@@ -289,7 +286,8 @@ impl LatchHall {
         requires next { self.old.next ≤ number }
         requires there { IsSome (map.get self.old.hall.waits f) }
         requires room { registered self.old.hall ≤ ready.old.registered }
-        ensures yields { IfOk result (λ answer. Yields registered self.old number (model.poll_of self.old.hall f waker (map.get self.old.hall.waits f)) answer self.new ready.old ready.new) }
+        ensures yields { IfOk result (λ answer. Yields registered self.old number (model.poll_of self.old.hall f waker (map.get self.old.hall.waits f)) answer
+            self.new ready.old ready.new) }
         ensures memory { IfErr result (λ stop. stop ≡ Stop.NoMemory) }
         ensures err { OnErr result ((self.new ≡ self.old) × (ready.new ≡ ready.old)) }
     {
@@ -350,7 +348,7 @@ impl LatchHall {
     }
 
     // Takes a latch away that has neither a name nor a future; its wakers are registered no more.
-    fn tidy(latches: &mut BTreeMap<u64, LatchEntry>, l: u64, ready: &mut Ready<u64>)
+    fn tidy(latches: &mut HashMap<u64, LatchEntry>, l: u64, ready: &mut Ready<u64>)
         requires there { IsSome (at latches.old.entries l) }
         requires room { IfSome (at latches.old.entries l) (λ e. let_go e ≤ ready.old.registered) }
         ensures { IfSome (at latches.old.entries l) (λ e. Tidies latches.old.entries latches.new.entries l e ready.old ready.new) }

@@ -97,7 +97,8 @@ impl Parts {
         requires low { IsLow self.old.barriers self.old.latches self.old.groups self.old.shutdowns number }
         requires allowed { cause_of (hall_of self.old.barriers self.old.latches self.old.groups self.old.shutdowns) event.now ≡ None }
         requires counted { ready.old.registered ≡ registered (hall_of self.old.barriers self.old.latches self.old.groups self.old.shutdowns) }
-        ensures played { IfOk result (λ answer. PlaysParts (hall_of self.old.barriers self.old.latches self.old.groups self.old.shutdowns) ready.old number event.now answer self.new.barriers self.new.latches self.new.groups self.new.shutdowns ready.new) }
+        ensures played { IfOk result (λ answer. PlaysParts (hall_of self.old.barriers self.old.latches self.old.groups self.old.shutdowns) ready.old number
+            event.now answer self.new.barriers self.new.latches self.new.groups self.new.shutdowns ready.new) }
         ensures memory { IfErr result (λ stop. stop ≡ Stop.NoMemory) }
         ensures no_memory { TakesNoMemory event.now → result ≢ Err Stop.NoMemory }
         ensures err { OnErr result ((self.new ≡ self.old) × (ready.new ≡ ready.old)) }
@@ -145,7 +146,8 @@ impl Parts {
         requires next { self.old.groups.next ≤ number }
         requires known { (if is_some (map.get self.old.groups.hall.handles x) then true else is_some (map.get self.old.groups.hall.waits x)) ≡ true }
         requires room { groups.registered self.old.groups.hall ≤ ready.old.registered }
-        ensures yields { Yields groups.registered self.old.groups number (groups.end_of self.old.groups.hall x (map.get self.old.groups.hall.handles x)) result self.new.groups ready.old ready.new }
+        ensures yields { Yields groups.registered self.old.groups number (groups.end_of self.old.groups.hall x (map.get self.old.groups.hall.handles x)) result
+            self.new.groups ready.old ready.new }
         ensures others { self.new ≡ record self.old { groups = self.new.groups } }
     {
         if self.groups.is_handle(x) {

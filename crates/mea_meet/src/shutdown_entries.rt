@@ -115,7 +115,8 @@ impl ShutdownEntry {
         requires waits { 0 < (count_at (end_of wait.old) self.old.core).number }
         ensures ok { OnOk result ((self.new ≡ polled self.old wait.old waker) × (wait.new ≡ polled_wait self.old wait.old)) }
         ensures wakers { ready.new.wakers ≡ ready.old.wakers }
-        ensures counted { OnOk result (ready.new.registered + length (set_at self.old wait.old).wakers ≡ ready.old.registered + length (set_at self.new wait.old).wakers) }
+        ensures counted { OnOk result (ready.new.registered + length (set_at self.old wait.old).wakers ≡ ready.old.registered + length
+            (set_at self.new wait.old).wakers) }
         ensures memory { IfErr result (λ stop. stop ≡ Stop.NoMemory) }
         ensures err { OnErr result ((self.new ≡ self.old) × (wait.new ≡ wait.old) × (ready.new ≡ ready.old)) }
     {
@@ -155,7 +156,11 @@ impl ShutdownEntry {
         requires few { self.old.things + 1 < 2 ^ 128 }
         requires live { watch ≡ false → 0 < self.old.core.receivers.number }
         requires fits { watch ≡ false → self.old.core.receivers.number ≢ 4294967295 }
-        ensures { self.new ≡ record { core = cond watch self.old.core (record self.old.core { receivers = increased self.old.core.receivers }); things = self.old.things + 1 } }
+        ensures { self.new ≡ record {
+          core = cond watch self.old.core (record self.old.core { receivers = increased self.old.core.receivers });
+          things =
+              self.old.things + 1;
+        } }
     {
         self.things += 1;
         if !watch {
@@ -172,7 +177,11 @@ impl ShutdownEntry {
         requires some { 1 ≤ self.old.things }
         requires live { watch ≡ false → 0 < self.old.core.receivers.number }
         requires room { length self.old.core.receivers.waiting.wakers ≤ ready.old.registered }
-        ensures is { self.new ≡ record { core = cond watch self.old.core (record self.old.core { receivers = decreased self.old.core.receivers 1 }); things = self.old.things - 1 } }
+        ensures is { self.new ≡ record {
+          core = cond watch self.old.core (record self.old.core { receivers = decreased self.old.core.receivers 1 });
+          things =
+              self.old.things - 1;
+        } }
         ensures woken { ready.new.wakers ≡ ready.old.wakers ++ cond watch [] (woken_by self.old.core.receivers 1) }
         ensures counted { ready.new.registered + length (cond watch [] (woken_by self.old.core.receivers 1)) ≡ ready.old.registered }
     {

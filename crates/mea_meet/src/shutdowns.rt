@@ -13,7 +13,7 @@ use crate::shutdown_entries::{ReceiverEntry, ShutdownEntry, ShutdownWait, Shutdo
 use mea_base::{Answer, Ready, Stop};
 use mea_meet_core::{GroupWait, LatchWait, ShutdownCore};
 use std::alloc::Global;
-use std::collections::BTreeMap;
+use std::collections::HashMap;
 use std::marker::Model;
 
 // 1 for a plain future.
@@ -38,7 +38,7 @@ fn yes_if(holds: bool) -> Answer
 }
 
 // A receiver or watch is borrowed by one future less.
-fn give_back(receivers: &mut BTreeMap<u64, ReceiverEntry>, borrowed: Option<u64>)
+fn give_back(receivers: &mut HashMap<u64, ReceiverEntry>, borrowed: Option<u64>)
     requires { IfSome borrowed (λ k. IfSome (at receivers.old.entries k) (λ x. 1 ≤ x.plain)) }
     ensures { GivesBack receivers.old.entries receivers.new.entries borrowed }
 {
@@ -54,10 +54,10 @@ fn give_back(receivers: &mut BTreeMap<u64, ReceiverEntry>, borrowed: Option<u64>
 #[derive(Drop)]
 pub struct ShutdownHall {
     alloc: Global,
-    shutdowns: BTreeMap<u64, ShutdownEntry>,
-    senders: BTreeMap<u64, u64>,
-    receivers: BTreeMap<u64, ReceiverEntry>,
-    waits: BTreeMap<u64, ShutdownWaitEntry>,
+    shutdowns: HashMap<u64, ShutdownEntry>,
+    senders: HashMap<u64, u64>,
+    receivers: HashMap<u64, ReceiverEntry>,
+    waits: HashMap<u64, ShutdownWaitEntry>,
     next: u128,
 }
 
@@ -85,10 +85,10 @@ impl ShutdownHall {
     {
         ShutdownHall {
             alloc,
-            shutdowns: BTreeMap::new(alloc),
-            senders: BTreeMap::new(alloc),
-            receivers: BTreeMap::new(alloc),
-            waits: BTreeMap::new(alloc),
+            shutdowns: HashMap::new(alloc),
+            senders: HashMap::new(alloc),
+            receivers: HashMap::new(alloc),
+            waits: HashMap::new(alloc),
             next: 0,
         }
     }
@@ -202,7 +202,8 @@ impl ShutdownHall {
     pub fn copy_sender(&mut self, number: u64, k: u64) -> Result<Answer, Stop>
         requires next { self.old.next ≤ number }
         requires there { IsSome (map.get self.old.hall.senders k) }
-        ensures rests { IfOk result (λ answer. Rests registered self.old number (model.copy_sender_of self.old.hall number (map.get self.old.hall.senders k)) answer self.new) }
+        ensures rests { IfOk result (λ answer. Rests registered self.old number (model.copy_sender_of self.old.hall number (map.get self.old.hall.senders k))
+            answer self.new) }
         ensures memory { IfErr result (λ stop. stop ≡ Stop.NoMemory) }
         ensures err { OnErr result (self.new ≡ self.old) }
     {
@@ -210,10 +211,7 @@ impl ShutdownHall {
             unreachable!()
         };
         let s = *sender;
-        match self.senders.insert(number, s) {
-            Err(_) => return Err(Stop::NoMemory),
-            Ok(_) => {}
-        }
+        self.senders.insert(number, s)?;
         let Some(entry) = self.shutdowns.get_mut(&s) else {
             unreachable!()
         };
@@ -227,7 +225,8 @@ impl ShutdownHall {
         requires next { self.old.next ≤ number }
         requires there { IsSome (map.get self.old.hall.receivers k) }
         requires fits { is_full self.old.hall (map.get self.old.hall.receivers k) ≡ false }
-        ensures rests { IfOk result (λ answer. Rests registered self.old number (model.copy_receiver_of self.old.hall number (map.get self.old.hall.receivers k)) answer self.new) }
+        ensures rests { IfOk result (λ answer. Rests registered self.old number
+            (model.copy_receiver_of self.old.hall number (map.get self.old.hall.receivers k)) answer self.new) }
         ensures memory { IfErr result (λ stop. stop ≡ Stop.NoMemory) }
         ensures err { OnErr result (self.new ≡ self.old) }
     {
@@ -245,7 +244,8 @@ impl ShutdownHall {
         requires there { IsSome (map.get self.old.hall.shutdowns s) }
         requires live { watch ≡ false → 0 < (model.shutdown_at self.old.hall s).receivers.number }
         requires fits { watch ≡ false → (model.shutdown_at self.old.hall s).receivers.number ≢ 4294967295 }
-        ensures rests { IfOk result (λ answer. Rests registered self.old number (quietly (model.copied self.old.hall number (record { shutdown = s; watch = watch })) Answer.Made) answer self.new) }
+        ensures rests { IfOk result (λ answer. Rests registered self.old number
+            (quietly (model.copied self.old.hall number (record { shutdown = s; watch = watch })) Answer.Made) answer self.new) }
         ensures memory { IfErr result (λ stop. stop ≡ Stop.NoMemory) }
         ensures err { OnErr result (self.new ≡ self.old) }
     {
@@ -254,10 +254,7 @@ impl ShutdownHall {
             watch,
             plain: 0,
         };
-        match self.receivers.insert(number, receiver) {
-            Err(_) => return Err(Stop::NoMemory),
-            Ok(_) => {}
-        }
+        self.receivers.insert(number, receiver)?;
         let Some(entry) = self.shutdowns.get_mut(&s) else {
             unreachable!()
         };
@@ -305,7 +302,8 @@ impl ShutdownHall {
     pub fn watch(&mut self, number: u64, k: u64) -> Result<Answer, Stop>
         requires next { self.old.next ≤ number }
         requires there { IsSome (map.get self.old.hall.receivers k) }
-        ensures rests { IfOk result (λ answer. Rests registered self.old number (model.watch_of self.old.hall number (map.get self.old.hall.receivers k)) answer self.new) }
+        ensures rests { IfOk result (λ answer. Rests registered self.old number (model.watch_of self.old.hall number (map.get self.old.hall.receivers k))
+            answer self.new) }
         ensures memory { IfErr result (λ stop. stop ≡ Stop.NoMemory) }
         ensures err { OnErr result (self.new ≡ self.old) }
     {
@@ -320,7 +318,8 @@ impl ShutdownHall {
     pub fn wait_on_signal(&mut self, number: u64, k: u64, plain: bool) -> Result<Answer, Stop>
         requires next { self.old.next ≤ number }
         requires there { IsSome (map.get self.old.hall.receivers k) }
-        ensures rests { IfOk result (λ answer. Rests registered self.old number (model.wait_of self.old.hall number (cond plain (Some k) None) (map.get self.old.hall.receivers k)) answer self.new) }
+        ensures rests { IfOk result (λ answer. Rests registered self.old number
+            (model.wait_of self.old.hall number (cond plain (Some k) None) (map.get self.old.hall.receivers k)) answer self.new) }
         ensures memory { IfErr result (λ stop. stop ≡ Stop.NoMemory) }
         ensures err { OnErr result (self.new ≡ self.old) }
     {
@@ -355,7 +354,8 @@ impl ShutdownHall {
     pub fn wait_on_receivers(&mut self, number: u64, k: u64) -> Result<Answer, Stop>
         requires next { self.old.next ≤ number }
         requires there { IsSome (map.get self.old.hall.senders k) }
-        ensures rests { IfOk result (λ answer. Rests registered self.old number (model.await_of self.old.hall number k (map.get self.old.hall.senders k)) answer self.new) }
+        ensures rests { IfOk result (λ answer. Rests registered self.old number (model.await_of self.old.hall number k (map.get self.old.hall.senders k))
+            answer self.new) }
         ensures memory { IfErr result (λ stop. stop ≡ Stop.NoMemory) }
         ensures err { OnErr result (self.new ≡ self.old) }
     {
@@ -368,10 +368,7 @@ impl ShutdownHall {
                 wait: GroupWait::new(),
             },
         };
-        match self.waits.insert(number, entry) {
-            Err(_) => return Err(Stop::NoMemory),
-            Ok(_) => {}
-        }
+        self.waits.insert(number, entry)?;
         let _sender = self.senders.remove(&k);
         self.next = number as u128 + 1;
         Ok(Answer::Made)
@@ -388,7 +385,8 @@ impl ShutdownHall {
         requires next { self.old.next ≤ number }
         requires there { IsSome (map.get self.old.hall.waits f) }
         requires room { registered self.old.hall ≤ ready.old.registered }
-        ensures yields { IfOk result (λ answer. Yields registered self.old number (model.poll_of self.old.hall f waker (map.get self.old.hall.waits f)) answer self.new ready.old ready.new) }
+        ensures yields { IfOk result (λ answer. Yields registered self.old number (model.poll_of self.old.hall f waker (map.get self.old.hall.waits f)) answer
+            self.new ready.old ready.new) }
         ensures memory { IfErr result (λ stop. stop ≡ Stop.NoMemory) }
         ensures err { OnErr result ((self.new ≡ self.old) × (ready.new ≡ ready.old)) }
     {
@@ -418,7 +416,8 @@ impl ShutdownHall {
         requires waits { IfSome (map.get self.old.hall.waits f) (λ x. 0 < (model.awaited (model.shutdown_at self.old.hall x.shutdown) x.awaits).number) }
         requires there { IsSome (map.get self.old.hall.waits f) }
         requires room { registered self.old.hall ≤ ready.old.registered }
-        ensures yields { IfOk result (λ answer. Yields registered self.old number (model.poll_of self.old.hall f waker (map.get self.old.hall.waits f)) answer self.new ready.old ready.new) }
+        ensures yields { IfOk result (λ answer. Yields registered self.old number (model.poll_of self.old.hall f waker (map.get self.old.hall.waits f)) answer
+            self.new ready.old ready.new) }
         ensures memory { IfErr result (λ stop. stop ≡ Stop.NoMemory) }
         ensures err { OnErr result ((self.new ≡ self.old) × (ready.new ≡ ready.old)) }
     {
@@ -465,7 +464,8 @@ impl ShutdownHall {
     fn remove_wait(&mut self, number: u64, f: u64) -> u64
         requires next { self.old.next ≤ number }
         requires there { IsSome (map.get self.old.hall.waits f) }
-        ensures gone { IfSome (map.get self.old.hall.waits f) (λ x. (x.shutdown ≡ result) × (self.new ≡ record { hall = without_wait self.old.hall f x; next = number + 1 })) }
+        ensures gone { IfSome (map.get self.old.hall.waits f)
+            (λ x. (x.shutdown ≡ result) × (self.new ≡ record { hall = without_wait self.old.hall f x; next = number + 1 })) }
         ensures there { IsSome (map.get self.new.hall.shutdowns result) }
         ensures counted { registered self.new.hall ≡ registered self.old.hall }
     {
@@ -516,7 +516,8 @@ impl ShutdownHall {
     fn remove_sender(&mut self, number: u64, k: u64) -> u64
         requires next { self.old.next ≤ number }
         requires there { IsSome (map.get self.old.hall.senders k) }
-        ensures gone { IfSome (map.get self.old.hall.senders k) (λ s. (s ≡ result) × (self.new ≡ record { hall = record self.old.hall { senders = map.remove self.old.hall.senders k }; next = number + 1 })) }
+        ensures gone { IfSome (map.get self.old.hall.senders k)
+            (λ s. (s ≡ result) × (self.new ≡ record { hall = record self.old.hall { senders = map.remove self.old.hall.senders k }; next = number + 1 })) }
         ensures there { IsSome (map.get self.new.hall.shutdowns result) }
         ensures counted { registered self.new.hall ≡ registered self.old.hall }
     {
@@ -537,7 +538,8 @@ impl ShutdownHall {
         requires there { IsSome (map.get self.old.hall.receivers k) }
         requires free { model.borrowers_of self.old.hall k ≡ 0 }
         requires room { registered self.old.hall ≤ ready.old.registered }
-        ensures { Yields registered self.old number (model.end_receiver_of self.old.hall k (map.get self.old.hall.receivers k)) result self.new ready.old ready.new }
+        ensures { Yields registered self.old number (model.end_receiver_of self.old.hall k (map.get self.old.hall.receivers k)) result self.new ready.old
+            ready.new }
     {
         let s = self.remove_receiver(number, k, ready);
         self.tidy(s, ready);
@@ -550,7 +552,9 @@ impl ShutdownHall {
         requires there { IsSome (map.get self.old.hall.receivers k) }
         requires free { model.borrowers_of self.old.hall k ≡ 0 }
         requires room { registered self.old.hall ≤ ready.old.registered }
-        ensures gone { IfSome (map.get self.old.hall.receivers k) (λ x. (x.shutdown ≡ result) × (self.new ≡ record { hall = without_receiver self.old.hall k x; next = number + 1 }) × (ready.new.wakers ≡ ready.old.wakers ++ woken_at_end self.old.hall x)) }
+        ensures gone { IfSome (map.get self.old.hall.receivers k)
+            (λ x. (x.shutdown ≡ result) × (self.new ≡ record { hall = without_receiver self.old.hall k x; next = number + 1 })
+            × (ready.new.wakers ≡ ready.old.wakers ++ woken_at_end self.old.hall x)) }
         ensures there { IsSome (map.get self.new.hall.shutdowns result) }
         ensures counted { ready.new.registered + registered self.old.hall ≡ ready.old.registered + registered self.new.hall }
     {

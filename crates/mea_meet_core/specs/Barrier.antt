@@ -4,6 +4,7 @@ use Rattle.std.specs.Coded.{Coded, code_by, coded×, coded_ℕ, coded_list}
 use Rattle.mea_sets.specs.Poll.{Poll, Ready, Pending}
 use Rattle.mea_sets.specs.declared.place.Place.{Place}
 use Rattle.mea_sets.specs.WaitSet.{Registered, registered_code, has_given, with_waker, slot_after, drained}
+use Rattle.mea_sets.specs.WaitSet as sets
 use Rattle.mea_meet_core.specs.declared.barrier_fault.BarrierFault.{BarrierFault}
 use Rattle.mea_meet_core.specs.declared.barrier_fault.BarrierFault.TheVariants.{NoMemory, Overflow}
 use Rattle.mea_meet_core.specs.declared.barrier_wait.BarrierWait.{BarrierWait}
@@ -84,6 +85,12 @@ module _ {W : Type 0} where
   is_open b New = true
   is_open b (Arrived round slot) = has_seen b round slot
   is_open b Done = false
+
+  -- the waker of a wait that has arrived is registered
+  abbrev pub is_registered : Barrier W → BarrierWait → Bool
+  is_registered b New = false
+  is_registered b (Arrived round slot) = sets.is_registered b.waiting slot
+  is_registered b Done = false
 
   -- the wait that a checked poll uses: one that is not open is renewed
   abbrev pub usable_wait : Barrier W → BarrierWait → BarrierWait

@@ -1,6 +1,7 @@
-ghost use Rattle.std.specs.Prelude.{◌≡◌, ◌*◌, ◌<◌, [], ◌∷◌, length, max, true, false, IfNone, IfSome};
+ghost use Rattle.std.specs.Prelude.{◌≡◌, ◌*◌, ◌<◌, [], ◌∷◌, length, max, true, false, IsOk, IfNone, IfSome};
+ghost use Rattle.mea_sets.specs.WaitSet as sets;
 ghost use Rattle.mea_meet_core.specs.declared.barrier_wait.BarrierWait.{BarrierWait};
-ghost use Rattle.mea_meet_core.specs.Barrier.{Arrives, Returns, Polls, leads, has_seen, is_own, is_open, usable_wait};
+ghost use Rattle.mea_meet_core.specs.Barrier.{Arrives, Returns, Polls, leads, has_seen, is_own, is_open, is_registered, usable_wait};
 
 use crate::barrier_fault::BarrierFault;
 use crate::barrier_wait::BarrierWait;
@@ -64,8 +65,8 @@ impl<W: Drop> BarrierCore<W> {
     }
 
     /// A first poll arrives: it leads where it completes the round, and wakes all who are registered;
-    /// else it waits. A later poll is ready once its round is completed, and never leads. On an error
-    /// nothing has changed.
+    /// else it waits. A later poll is ready once its round is completed, and never leads. It takes memory
+    /// only for a waker that is not registered yet. On an error nothing has changed.
     pub fn poll(
         &mut self,
         wait: &mut BarrierWait,
@@ -73,6 +74,7 @@ impl<W: Drop> BarrierCore<W> {
     ) -> Result<Poll<BarrierWaitResult>, BarrierFault<W>>
         requires { is_open self.old wait.old ≡ true }
         ensures polls { Polls self.old wait.old waker result self.new wait.new }
+        ensures replaces { is_registered self.old wait.old ≡ true → IsOk result }
         ensures sized { 0 < self.old.size }
     {
         match *wait {
@@ -155,6 +157,7 @@ impl<W: Drop> BarrierCore<W> {
     ) -> Result<Poll<BarrierWaitResult>, BarrierFault<W>>
         requires { wait.old ≡ BarrierWait.Arrived round slot }
         ensures returns { Returns self.old round slot waker result self.new wait.new }
+        ensures replaces { sets.is_registered self.old.waiting slot ≡ true → IsOk result }
         ensures sized { 0 < self.old.size }
     {
         if round < self.round {
@@ -191,7 +194,8 @@ impl<W: Drop> BarrierCore<W> {
         wait: &mut BarrierWait,
         waker: W,
     ) -> Result<Poll<BarrierWaitResult>, BarrierFault<W>>
-        ensures { Polls self.old (usable_wait self.old wait.old) waker result self.new wait.new }
+        ensures polls { Polls self.old (usable_wait self.old wait.old) waker result self.new wait.new }
+        ensures replaces { is_registered self.old (usable_wait self.old wait.old) ≡ true → IsOk result }
     {
         if !self.poll_allowed(wait) {
             wait.renew();

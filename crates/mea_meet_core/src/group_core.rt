@@ -1,5 +1,5 @@
-ghost use Rattle.std.specs.Prelude.{◌≡◌, ◌+◌, ◌<◌, ◌≤◌, ◌↔◌, [], ◌∷◌, ◌++◌, length, true, IsTrue, IsOk, IsErr, IsSome, IfNone, IfSome, OnErr, OnOk};
-ghost use Rattle.mea_sets.specs.WaitSet.{has_given, is_registered, length_with};
+ghost use Rattle.std.specs.Prelude.{◌≡◌, ◌+◌, ◌<◌, ◌≤◌, ◌↔◌, [], ◌∷◌, ◌++◌, length, true, IsTrue, IsOk, IsErr, IfNone, IfSome, OnErr, OnOk};
+ghost use Rattle.mea_sets.specs.WaitSet.{has_given, is_registered};
 ghost use Rattle.mea_sets.specs.Countdown.{Counting, count_from, decreasing, PollsCount};
 ghost use Rattle.mea_meet_core.specs.Count.{increased, usable};
 
@@ -176,13 +176,11 @@ impl<W: Drop> GroupCore<W> {
         self.countdown.registered()
     }
 
-    /// How many wakers are registered once that of this wait is; None where that passes its type. It
-    /// takes no memory.
-    pub fn registered_with(&self, wait: &GroupWait) -> Option<usize>
-        ensures count { IfSome result (λ n. n ≡ length_with self.now.count.waiting wait.now) }
-        ensures registered { is_registered self.now.count.waiting wait.now ≡ true → IsSome result }
+    /// Whether the waker of this wait is registered. It takes no memory.
+    pub fn is_registered(&self, wait: &GroupWait) -> bool
+        ensures { result ≡ is_registered self.now.count.waiting wait.now }
     {
-        self.countdown.registered_with(&wait.slot)
+        self.countdown.is_registered(&wait.slot)
     }
 
     /// Moves the wakers that are ready to another outbox, in their order. It takes no memory.

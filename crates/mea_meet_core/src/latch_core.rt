@@ -136,6 +136,13 @@ impl<W: Drop> LatchCore<W> {
         self.countdown.registered()
     }
 
+    /// Whether the waker of this wait is registered. It takes no memory.
+    pub fn is_registered(&self, wait: &LatchWait) -> bool
+        ensures { result ≡ is_registered self.now.count.waiting wait.now }
+    {
+        self.countdown.is_registered(&wait.slot)
+    }
+
     /// How many wakers are registered once that of this wait is; None where that passes its type. It
     /// takes no memory.
     pub fn registered_with(&self, wait: &LatchWait) -> Option<usize>

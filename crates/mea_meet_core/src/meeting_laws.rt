@@ -14,8 +14,11 @@ pub fn a_latch_at_0_stays_there<W>()
 /// Every barrier counts each arrival, and as many of them led as rounds were completed: a round is
 /// completed by exactly as many arrivals as make one, and exactly one of these leads.
 pub fn a_round_has_one_leader<W>()
-    ensures counted { (b c : Barrier W) (arrivals : List Bool) → barrier_runs.Runs b arrivals c → (c.size ≡ b.size) × (c.arrivals ≡ b.arrivals + length arrivals) }
+    ensures counted { (b c : Barrier W) (arrivals : List Bool) → barrier_runs.Runs b arrivals c → (c.size ≡ b.size)
+        × (c.arrivals ≡ b.arrivals + length arrivals) }
     ensures led { (b c : Barrier W) (arrivals : List Bool) → barrier_runs.Runs b arrivals c → round_of c ≡ round_of b + leaders arrivals }
-    ensures round { (b c : Barrier W) (arrivals : List Bool) → barrier_runs.Runs b arrivals c → 0 < b.size → length arrivals ≡ b.size → (round_of c ≡ round_of b + 1) × (leaders arrivals ≡ 1) }
-    ensures before { (b c : Barrier W) (arrivals : List Bool) → barrier_runs.Runs b arrivals c → b.arrivals % b.size ≡ 0 → length arrivals < b.size → (round_of c ≡ round_of b) × (leaders arrivals ≡ 0) }
+    ensures round { (b c : Barrier W) (arrivals : List Bool) → barrier_runs.Runs b arrivals c → 0 < b.size → length arrivals ≡ b.size
+        → (round_of c ≡ round_of b + 1) × (leaders arrivals ≡ 1) }
+    ensures before { (b c : Barrier W) (arrivals : List Bool) → barrier_runs.Runs b arrivals c → b.arrivals % b.size ≡ 0 → length arrivals < b.size
+        → (round_of c ≡ round_of b) × (leaders arrivals ≡ 0) }
 {}

@@ -1,5 +1,5 @@
-ghost use Rattle.std.specs.Prelude.{◌≡◌, ◌+◌, ◌<◌, ◌≤◌, ◌↔◌, [], ◌∷◌, length, true, IsTrue, IsErr, IsSome, IfNone, IfSome, OnErr, OnOk};
-ghost use Rattle.mea_sets.specs.WaitSet.{has_given};
+ghost use Rattle.std.specs.Prelude.{◌≡◌, ◌+◌, ◌<◌, ◌≤◌, ◌↔◌, [], ◌∷◌, length, true, false, IsTrue, IsOk, IsErr, IfNone, IfSome, OnErr, OnOk};
+ghost use Rattle.mea_sets.specs.WaitSet.{has_given, is_registered};
 ghost use Rattle.mea_sets.specs.Countdown.{count_from, PollsCount};
 ghost use Rattle.mea_meet_core.specs.Count.{increased, usable};
 ghost use Rattle.mea_meet_core.specs.Shutdown.{Shutdown, signalled, without_receiver};
@@ -73,14 +73,16 @@ impl<W: Drop> ShutdownCore<W> {
     pub fn poll_signal(&mut self, wait: &mut LatchWait, waker: W) -> Result<Poll<()>, (W, NoMemory)>
         requires { has_given self.old.signal.waiting wait.old ≡ true }
         ensures polls { PollsCount self.old.signal wait.old waker result self.new.signal wait.new }
+        ensures replaces { is_registered self.old.signal.waiting wait.old ≡ true → IsOk result }
         ensures rest { self.new ≡ record self.old { signal = self.new.signal } }
     {
         if self.is_shutdown_now() {
             return Ok(Poll::Ready(()));
         }
-        if reserve_both(
+        if reserve_for(
             &mut self.outbox,
-            self.signal.registered_with(wait),
+            self.signal.is_registered(wait),
+            self.signal.registered(),
             self.receivers.registered(),
         )
         .is_err()
@@ -104,6 +106,7 @@ impl<W: Drop> ShutdownCore<W> {
         waker: W,
     ) -> Result<Poll<()>, (W, NoMemory)>
         ensures polls { PollsCount self.old.signal (usable self.old.signal wait.old) waker result self.new.signal wait.new }
+        ensures replaces { is_registered self.old.signal.waiting wait.old ≡ true → IsOk result }
         ensures rest { self.new ≡ record self.old { signal = self.new.signal } }
     {
         if !self.poll_signal_allowed(wait) {
@@ -189,15 +192,17 @@ impl<W: Drop> ShutdownCore<W> {
     ) -> Result<Poll<()>, (W, NoMemory)>
         requires { has_given self.old.receivers.waiting wait.old ≡ true }
         ensures polls { PollsCount self.old.receivers wait.old waker result self.new.receivers wait.new }
+        ensures replaces { is_registered self.old.receivers.waiting wait.old ≡ true → IsOk result }
         ensures rest { self.new ≡ record self.old { receivers = self.new.receivers } }
     {
         if !self.receivers.leave_allowed() {
             return Ok(Poll::Ready(()));
         }
-        if reserve_both(
+        if reserve_for(
             &mut self.outbox,
-            self.receivers.registered_with(wait),
+            self.receivers.is_registered(wait),
             self.signal.registered(),
+            self.receivers.registered(),
         )
         .is_err()
         {
@@ -220,6 +225,7 @@ impl<W: Drop> ShutdownCore<W> {
         waker: W,
     ) -> Result<Poll<()>, (W, NoMemory)>
         ensures polls { PollsCount self.old.receivers (usable self.old.receivers wait.old) waker result self.new.receivers wait.new }
+        ensures replaces { is_registered self.old.receivers.waiting wait.old ≡ true → IsOk result }
         ensures rest { self.new ≡ record self.old { receivers = self.new.receivers } }
     {
         if !self.poll_receivers_allowed(wait) {
@@ -306,21 +312,25 @@ impl<W: Drop> ShutdownCore<W> {
     }
 }
 
-// Makes room for as many wakers as wait for the one end and for the other.
-fn reserve_both<W>(
+// Makes room for one waker more than wait for the two ends, where the poll registers one.
+fn reserve_for<W>(
     outbox: &mut Outbox<W>,
-    polled: Option<usize>,
-    others: usize,
+    is_registered: bool,
+    on_signal: usize,
+    on_receivers: usize,
 ) -> Result<(), NoMemory>
-    ensures room { OnOk result (IfSome polled (λ n. n + others ≤ outbox.new.spare)) }
-    ensures some { OnOk result (IsSome polled) }
+    ensures room { OnOk result (is_registered ≡ false → on_signal + on_receivers + 1 ≤ outbox.new.spare) }
+    ensures replaces { is_registered ≡ true → IsOk result }
     ensures grows { outbox.old.spare ≤ outbox.new.spare }
     ensures wakers { outbox.new.wakers ≡ outbox.old.wakers }
 {
-    let Some(polled) = polled else {
+    if is_registered {
+        return Ok(());
+    }
+    let Some(registered) = on_signal.checked_add(on_receivers) else {
         return Err(NoMemory);
     };
-    let Some(all) = polled.checked_add(others) else {
+    let Some(all) = registered.checked_add(1) else {
         return Err(NoMemory);
     };
     outbox.reserve(all)

@@ -1,9 +1,9 @@
 -- every event keeps a hall valid, makes no future but one of its number, and loses no waker
-use Rattle.std.proofs.Common.{◌≡◌, ℕ, ◌+◌, ◌≤◌, ◌⊎◌, inl, Bool, true, false, cond, Option, Some, None, refl, ap, sym, ◌∙◌, arith, nat_lt, if◌then◌else◌}
+use Rattle.std.proofs.Common.{◌≡◌, ℕ, ◌+◌, ◌≤◌, ◌⊎◌, inl, inr, Bool, true, false, zero, suc, cond, Option, Some, None, refl, ap, sym, subst, ◌∙◌, arith, nat_lt, if◌then◌else◌}
 use Rattle.std.specs.List.{Contains}
 use Rattle.std.specs.Option.{IsSome}
 use Rattle.std.specs.FinMap.{get}
-use Rattle.std.proofs.lemmas.Bool.{ltb-false, eq-eqb}
+use Rattle.std.proofs.lemmas.Bool.{ltb-false, eq-eqb, cases_lt}
 use Rattle.mea_base.specs.Family.{Outcome}
 use Rattle.mea_base.specs.declared.stop.Stop.TheVariants as stops
 use Rattle.mea_base.proofs.Maps.{inside}
@@ -50,7 +50,7 @@ pub record Steps (h : Hall) (o : Outcome Hall) (i : ℕ) (e : MeetEvent) : Type 
   pub passes : (f : Future) (w : ℕ) → polled e f ≡ None → placed h f ≡ Some w → lives o.hall f ≡ true → (placed o.hall f ≡ Some w) ⊎ Contains o.wakes w
 
 -- a poll of another
-other : (g f w : ℕ) → waker_if g f w ≡ None → g ≡ f → ⊥
+pub other : (g f w : ℕ) → waker_if g f w ≡ None → g ≡ f → ⊥
 other g f w none same = absurd (let some : waker_if g f w ≡ Some w = ap (λ b. cond b (Some w) None) (eq-eqb g f same) in cc)
 
 module _ (h : Hall) (n i : ℕ) (later : n ≤ i) (v : IsValid h n) (e : MeetEvent) where
@@ -276,3 +276,22 @@ valid_empty = record {
   shutdowns = shutdowns-empty;
   live_shutdowns = live-empty;
 }
+
+-- ---- a greater number
+pub valid-later : (h : Hall) (n m : ℕ) → IsValid h n → n ≤ m → IsValid h m
+valid-later h n zero v later = subst (IsValid h) (omega (arith, later)) v
+valid-later h n (suc m) v later = elim (cases_lt m n) [
+  | inl before ↦ subst (IsValid h) (omega (arith, later, before)) v
+  | inr after ↦ subst (IsValid h) (omega arith) (valid-next h n m after v)
+]
+  where
+    valid-next : (h : Hall) (n i : ℕ) → n ≤ i → IsValid h n → IsValid h (i + 1)
+    valid-next h n i later v = record {
+      barriers = at_barriers.barriers-later h.barriers n i later v.barriers;
+      latches = at_latches.latches-later h.latches n i later v.latches;
+      live_latches = v.live_latches;
+      groups = at_groups.groups-later h.groups n i later v.groups;
+      live_groups = v.live_groups;
+      shutdowns = shutdowns-later h.shutdowns n i later v.shutdowns;
+      live_shutdowns = v.live_shutdowns;
+    }

@@ -9,7 +9,7 @@ use Rattle.mea_base.specs.Family.{Outcome, quietly}
 use Rattle.mea_base.specs.declared.answer.Answer.{Answer}
 use Rattle.mea_base.specs.declared.answer.Answer.TheVariants as answers
 use Rattle.mea_base.proofs.Totals.{total-empty}
-use Rattle.mea_base.proofs.Maps.{by_put, by_gone, by_at_put, by_at_gone, at-there, at-other, at-removed_other, at-empty, get-there, get-other, get-removed_other, inside, is_there, nothing_there}
+use Rattle.mea_base.proofs.Maps.{by_put, by_gone, by_at_put, by_at_gone, at-there, at-other, at-removed_other, at-empty, get-there, get-other, get-removed_other, inside, is_there, is_absent, nothing_there}
 use Rattle.mea_base.proofs.Tests.{on_true, on_false}
 use Rattle.mea_meet_model.specs.Waiting.{waker_for}
 use Rattle.mea_meet_model.specs.Count.{Count, count_from, decreased, increased, woken_by, with_waker, without_future}
@@ -34,6 +34,7 @@ groups-empty = record {
   waits_below = below-none ℕ 0;
   handles_known = of-none ℕ Count (λ g. g) no_groups.groups;
   waits_known = of-none ℕ Count (λ g. g) no_groups.groups;
+  apart = λ k there. absurd (nothing_there ℕ k there);
   quiet = λ g. subst IsQuietAtEnd (sym (at-empty (count_from 0) g)) (λ zero. refl);
   counted = λ g. ap (λ (c : Count). c.number) (at-empty (count_from 0) g) ∙ sym (total-empty (λ k (o : ℕ). cond (o == g) 1 0));
   waiting_there = λ g. subst (λ (c : Count). Waits no_groups.waits g c) (sym (at-empty (count_from 0) g)) (none_waits no_groups.waits g (count_from 0) refl);
@@ -44,6 +45,10 @@ live-empty = λ g there. absurd (nothing_there Count g there)
 
 -- ---- validity
 module _ (h : Groups) (n i : ℕ) (later : n ≤ i) (v : HasGroups h n) where
+  -- no future has the new name
+  not_yet : get h.waits i ≡ None
+  not_yet = is_absent (get h.waits i) (λ there. fresh h.waits n i i later v.waits_below there refl)
+
   pub groups-later : HasGroups h (i + 1)
   groups-later = record {
     groups_below = below-later h.groups n i later v.groups_below;
@@ -51,6 +56,7 @@ module _ (h : Groups) (n i : ℕ) (later : n ≤ i) (v : HasGroups h n) where
     waits_below = below-later h.waits n i later v.waits_below;
     handles_known = v.handles_known;
     waits_known = v.waits_known;
+    apart = v.apart;
     quiet = v.quiet;
     counted = v.counted;
     waiting_there = v.waiting_there;
@@ -65,6 +71,7 @@ module _ (h : Groups) (n i : ℕ) (later : n ≤ i) (v : HasGroups h n) where
         (is_there (get (insert h.groups i (count_from 1)) i) (count_from 1) (get-there h.groups i (count_from 1)))
         (of-objects_put h.handles (λ g. g) h.groups i (count_from 1) v.handles_known);
     waits_known = of-objects_put h.waits (λ g. g) h.groups i (count_from 1) v.waits_known;
+    apart = by_put h.handles i i (λ k o. IsSome o → get h.waits k ≡ None) (λ there. not_yet) (λ k other there. v.apart k there);
     quiet = by_at_put (count_from 0) h.groups i (count_from 1) (λ g c. IsQuietAtEnd c) (λ zero. refl) (λ g apart. v.quiet g);
     counted = by_at_put (count_from 0) h.groups i (count_from 1) (λ g c. c.number ≡ handles_of (make h i).hall g)
         (let one = on_true (i == i) 1 (eq-eqb i i refl) in omega (
@@ -88,6 +95,7 @@ module _ (h : Groups) (n i : ℕ) (later : n ≤ i) (v : HasGroups h n) where
     waits_below = below-later h.waits n i later v.waits_below;
     handles_known = of-objects_put _ (λ o. o) h.groups g (increased (group_at h g)) (of-put h.handles (λ o. o) h.groups i g there v.handles_known);
     waits_known = of-objects_put h.waits (λ o. o) h.groups g (increased (group_at h g)) v.waits_known;
+    apart = by_put h.handles i g (λ k o. IsSome o → get h.waits k ≡ None) (λ there. not_yet) (λ k other there. v.apart k there);
     quiet = by_at_put (count_from 0) h.groups g (increased (group_at h g)) (λ o c. IsQuietAtEnd c) (quiet-increased (group_at h g)) (λ o apart. v.quiet o);
     counted = by_at_put (count_from 0) h.groups g (increased (group_at h g)) (λ o c. c.number ≡ handles_of (record h { handles = insert h.handles i g }) o)
         (let one = on_true (g == g) 1 (eq-eqb g g refl) in omega
@@ -105,6 +113,8 @@ module _ (h : Groups) (n i : ℕ) (later : n ≤ i) (v : HasGroups h n) where
     waits_below = below-put h.waits n i g later v.waits_below;
     handles_known = v.handles_known;
     waits_known = of-put h.waits (λ o. o) h.groups i g there v.waits_known;
+    apart = by_put h.waits i g (λ k o. IsSome (get h.handles k) → o ≡ None)
+        (λ there. absurd (fresh h.handles n i i later v.handles_below there refl)) (λ k other there. v.apart k there);
     quiet = v.quiet;
     counted = v.counted;
     waiting_there = λ o f w is.
@@ -122,6 +132,7 @@ module _ (h : Groups) (n : ℕ) (v : HasGroups h n) where
     waits_below = v.waits_below;
     handles_known = of-objects_put h.handles (λ o. o) h.groups g c v.handles_known;
     waits_known = of-objects_put h.waits (λ o. o) h.groups g c v.waits_known;
+    apart = v.apart;
     quiet = by_at_put (count_from 0) h.groups g c (λ o d. IsQuietAtEnd d) left (λ o apart. v.quiet o);
     counted = by_at_put (count_from 0) h.groups g c (λ o d. d.number ≡ handles_of h o) (same ∙ v.counted g) (λ o apart. v.counted o);
     waiting_there = by_at_put (count_from 0) h.groups g c (λ o d. Waits h.waits o d) waiting (λ o apart. v.waiting_there o);
@@ -135,6 +146,7 @@ module _ (h : Groups) (n : ℕ) (v : HasGroups h n) where
     waits_below = below-gone h.waits n f v.waits_below;
     handles_known = v.handles_known;
     waits_known = of-gone h.waits (λ o. o) h.groups f v.waits_known;
+    apart = by_gone h.waits f (λ k o. IsSome (get h.handles k) → o ≡ None) (λ there. refl) (λ k other there. v.apart k there);
     quiet = v.quiet;
     counted = v.counted;
     waiting_there = λ g k w is. get-removed_other h.waits f k (λ same. none g w (ap (waker_for (group_at h g).waiting) same ∙ is)) ∙ v.waiting_there g k w is;
@@ -153,6 +165,7 @@ module _ (h : Groups) (n : ℕ) (v : HasGroups h n) where
     waits_below = v.waits_below;
     handles_known = of-gone h.handles (λ o. o) _ k (of-objects_put h.handles (λ o. o) h.groups g (decreased (group_at h g) 1) v.handles_known);
     waits_known = of-objects_put h.waits (λ o. o) h.groups g (decreased (group_at h g) 1) v.waits_known;
+    apart = by_gone h.handles k (λ j o. IsSome o → get h.waits j ≡ None) (λ there. absurd (cc)) (λ j other there. v.apart j there);
     quiet = by_at_put (count_from 0) h.groups g (decreased (group_at h g) 1) (λ o c. IsQuietAtEnd c) (quiet-decreased (group_at h g) 1 (v.quiet g))
         (λ o apart. v.quiet o);
     counted = by_at_put (count_from 0) h.groups g (decreased (group_at h g) 1) (λ o c. c.number ≡ handles_of (record h { handles = remove h.handles k }) o)
@@ -169,6 +182,7 @@ module _ (h : Groups) (n : ℕ) (v : HasGroups h n) where
     waits_below = v.waits_below;
     handles_known = of-objects_gone h.handles (λ o. o) h.groups g no_handle v.handles_known;
     waits_known = of-objects_gone h.waits (λ o. o) h.groups g no_wait v.waits_known;
+    apart = v.apart;
     quiet = by_at_gone (count_from 0) h.groups g (λ o c. IsQuietAtEnd c) (λ zero. refl) (λ o apart. v.quiet o);
     counted = by_at_gone (count_from 0) h.groups g (λ o c. c.number ≡ handles_of h o) (sym no_handle) (λ o apart. v.counted o);
     waiting_there = by_at_gone (count_from 0) h.groups g (λ o c. Waits h.waits o c) (none_waits h.waits g (count_from 0) refl) (λ o apart. v.waiting_there o);
@@ -244,7 +258,7 @@ module _ (h : Groups) (live : HasLiveGroups h) where
       let other = on_false (g == o) 1 (ne_eqb g o apart) in
       omega (arith, other, live o there, sum-gone h.waits (λ j. cond (j == o) 1 0) f g is)))
 
-waits-tidied : (h : Groups) (g : ℕ) → (tidied h g).waits ≡ h.waits
+pub waits-tidied : (h : Groups) (g : ℕ) → (tidied h g).waits ≡ h.waits
 waits-tidied h g = elim (nat_lt 0 (handles_of h g + waits_of h g))
     as (λ b. (if b then h else record h { groups = remove h.groups g }).waits ≡ h.waits) [ true ↦ refl | false ↦ refl ]
 

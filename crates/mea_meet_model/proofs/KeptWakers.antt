@@ -19,6 +19,7 @@ use Rattle.mea_meet_model.proofs.LatchWakes as at_latches
 use Rattle.mea_meet_model.proofs.GroupWakes as at_groups
 use Rattle.mea_meet_model.proofs.ShutdownWakes as at_shutdowns
 use Rattle.mea_meet_model.proofs.EachEvent.{steps, valid_empty}
+use Rattle.mea_meet_model.proofs.Lives.{stays, goes}
 
 -- every hall that events reach is valid
 pub valid_run : (r : RunOf meets) → Runs meets r → IsValid r.hall r.next
@@ -69,7 +70,10 @@ pub keeps : KeepsWakers meets
 keeps = record {
   places = λ r i e runs later cause f w is pending. places r.hall i e cause f w is pending;
   waits = λ r i e runs f w v living has is. waits r.hall r.next i (valid_run r runs) e f w v has is;
-  wakes = λ r i e runs later cause f w lived has silent living. (steps r.hall r.next i later (valid_run r runs) e cause).passes f w silent has living;
+  wakes = λ r i e runs later cause f w lived has silent kept.
+      (steps r.hall r.next i later (valid_run r runs) e cause).passes f w silent has (stays r.hall i e f lived silent kept);
+  stays = λ r i e runs later cause f lived silent kept. stays r.hall i e f lived silent kept;
+  goes = λ r i e runs later cause f is. goes r.hall r.next i (valid_run r runs).groups e f is;
 }
 
 -- ---- names

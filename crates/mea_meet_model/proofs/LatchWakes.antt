@@ -230,7 +230,7 @@ module _ (h : Latches) (live : HasLiveLatches h) where
       ]))
 
 -- ---- who waits after a tidying
-waits-tidied : (h : Latches) (l : ℕ) → (tidied h l).waits ≡ h.waits
+pub waits-tidied : (h : Latches) (l : ℕ) → (tidied h l).waits ≡ h.waits
 waits-tidied h l = elim (is_named h l || nat_lt 0 (waits_of h l))
     as (λ b. (if b then h else record h { latches = remove h.latches l }).waits ≡ h.waits) [ true ↦ refl | false ↦ refl ]
 

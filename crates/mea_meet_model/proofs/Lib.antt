@@ -10,7 +10,9 @@ pub mod ShutdownKept
 pub mod LiveShutdowns
 pub mod ShutdownWakes
 pub mod EachEvent
+pub mod Lives
 pub mod KeptWakers
+pub mod LiveObjects
 pub mod EndedCounts
 pub mod MostWoken
 pub mod WhoLeads

@@ -18,7 +18,7 @@ use Rattle.mea_meet_model.proofs.ShutdownKept.{awaited-registering, shutdowns-le
 use Rattle.mea_meet_model.proofs.LiveShutdowns.{live-make, live-sender, live-receiver, live-wait, live-await, live-over, live-end_sender, live-end_watch, live-end_counted, live-gone}
 
 -- ---- a tidying
-waits-tidied : (h : Shutdowns) (s : ℕ) → (tidied h s).waits ≡ h.waits
+pub waits-tidied : (h : Shutdowns) (s : ℕ) → (tidied h s).waits ≡ h.waits
 waits-tidied h s = elim (nat_lt 0 (senders_of h s + receivers_of h s + waits_of h s))
     as (λ b. (if b then h else record h { shutdowns = remove h.shutdowns s }).waits ≡ h.waits) [ true ↦ refl | false ↦ refl ]
 

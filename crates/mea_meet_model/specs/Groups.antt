@@ -1,5 +1,5 @@
 -- wait groups by name, with their handles and the futures that wait for the end of the last
-use Rattle.std.specs.Prelude.{ℕ, ◌+◌, ◌==◌, cond, length, Option, Some, None, nat_lt, unwrap_or, if◌then◌else◌, refl}
+use Rattle.std.specs.Prelude.{ℕ, ◌+◌, ◌==◌, Bool, cond, length, Option, Some, None, nat_lt, unwrap_or, if◌then◌else◌, refl}
 use Rattle.std.specs.Ordering.{nat_cmp}
 use Rattle.std.specs.Coded.{Coded, code_by, coded×, coded_ℕ}
 use Rattle.std.specs.FinMap as map
@@ -42,9 +42,13 @@ abbrev pub placed : Groups → ℕ → Option ℕ
 placed h f = placed_of h f (map.get h.waits f)
 
 -- ---- what the events do
--- a group that has no handle and no future is gone
+-- a group lives while it has a handle or a future
+abbrev pub is_live : Groups → ℕ → Bool
+is_live h g = nat_lt 0 (handles_of h g + waits_of h g)
+
+-- a group that does not live is gone
 abbrev pub tidied : Groups → ℕ → Groups
-tidied h g = if nat_lt 0 (handles_of h g + waits_of h g) then h else record h { groups = map.remove h.groups g }
+tidied h g = if is_live h g then h else record h { groups = map.remove h.groups g }
 
 abbrev pub make : Groups → ℕ → Outcome Groups
 make h i = quietly (record h { groups = map.insert h.groups i (count_from 1); handles = map.insert h.handles i i }) answers.Made

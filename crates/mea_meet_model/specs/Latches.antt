@@ -63,9 +63,13 @@ placed h f = placed_of h f (map.get h.waits f)
 abbrev pub with_latch : Latches → ℕ → Latch → Latches
 with_latch h l r = record h { latches = map.insert h.latches l r }
 
--- a latch that has no name and no future is gone
+-- a latch lives while it has its name or a future
+abbrev pub is_live : Latches → ℕ → Bool
+is_live h l = is_named h l || nat_lt 0 (waits_of h l)
+
+-- a latch that does not live is gone
 abbrev pub tidied : Latches → ℕ → Latches
-tidied h l = if is_named h l || nat_lt 0 (waits_of h l) then h else record h { latches = map.remove h.latches l }
+tidied h l = if is_live h l then h else record h { latches = map.remove h.latches l }
 
 abbrev pub make : Latches → ℕ → ℕ → Outcome Latches
 make h i n = quietly (with_latch h i (new_latch n)) answers.Made

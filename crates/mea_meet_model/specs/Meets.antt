@@ -1,8 +1,8 @@
 -- the meeting points as one of the families
-use Rattle.std.specs.Prelude.{ℕ, ◌==◌, Bool, cond, Option, Some, None}
+use Rattle.std.specs.Prelude.{ℕ, ◌==◌, Bool, false, cond, Option, Some, None}
 use Rattle.mea_base.specs.Family.{Family}
 use Rattle.mea_meet_model.specs.declared.event.MeetEvent.{MeetEvent}
-use Rattle.mea_meet_model.specs.declared.event.MeetEvent.TheVariants.{BarPoll, LatPoll, WgPoll, SdPoll}
+use Rattle.mea_meet_model.specs.declared.event.MeetEvent.TheVariants.{BarPoll, BarEnd, LatPoll, LatEnd, WgPoll, WgEnd, SdPoll, SdEnd}
 use Rattle.mea_meet_model.specs.Barriers as barriers
 use Rattle.mea_meet_model.specs.Latches as latches
 use Rattle.mea_meet_model.specs.Groups as groups
@@ -30,6 +30,14 @@ polled (WgPoll g w) (ForGroup f) = waker_if g f w
 polled (SdPoll g w) (ForShutdown f) = waker_if g f w
 polled _ _ = None
 
+-- an event abandons a future
+abbrev pub ends : MeetEvent → Future → Bool
+ends (BarEnd g) (AtBarrier f) = g == f
+ends (LatEnd g) (ForLatch f) = g == f
+ends (WgEnd g) (ForGroup f) = g == f
+ends (SdEnd g) (ForShutdown f) = g == f
+ends _ _ = false
+
 abbrev pub name : Future → ℕ
 name (AtBarrier f) = f
 name (ForLatch f) = f
@@ -50,4 +58,4 @@ placed h (ForGroup f) = groups.placed h.groups f
 placed h (ForShutdown f) = shutdowns.placed h.shutdowns f
 
 abbrev pub meets : Family
-meets = record { Hall = Hall; Event = MeetEvent; Future = Future; empty = empty_hall; cause = cause_of; step = step; polled = polled; name = name; lives = lives; placed = placed }
+meets = record { Hall = Hall; Event = MeetEvent; Future = Future; empty = empty_hall; cause = cause_of; step = step; polled = polled; ends = ends; name = name; lives = lives; placed = placed }

@@ -89,9 +89,13 @@ placed h f = placed_of h f (map.get h.waits f)
 abbrev pub with_shutdown : Shutdowns → ℕ → Shutdown → Shutdowns
 with_shutdown h s r = record h { shutdowns = map.insert h.shutdowns s r }
 
--- a shutdown that has no sender, no receiver, no watch and no future is gone
+-- a shutdown lives while it has a sender, a receiver, a watch or a future
+abbrev pub is_live : Shutdowns → ℕ → Bool
+is_live h s = nat_lt 0 (senders_of h s + receivers_of h s + waits_of h s)
+
+-- a shutdown that does not live is gone
 abbrev pub tidied : Shutdowns → ℕ → Shutdowns
-tidied h s = if nat_lt 0 (senders_of h s + receivers_of h s + waits_of h s) then h else record h { shutdowns = map.remove h.shutdowns s }
+tidied h s = if is_live h s then h else record h { shutdowns = map.remove h.shutdowns s }
 
 abbrev pub make : Shutdowns → ℕ → Outcome Shutdowns
 make h i = quietly (record h {

@@ -1,5 +1,5 @@
 -- what holds of every hall that events reach, where n is the least number of the next event
-use Rattle.std.specs.Prelude.{ℕ, ◌+◌, ◌*◌, ◌/◌, ◌≡◌, ◌<◌, ◌≤◌, ◌==◌, ◌&&◌, ◌⊎◌, not, Bool, true, cond, [], Option, Some, IsSome}
+use Rattle.std.specs.Prelude.{ℕ, ◌+◌, ◌*◌, ◌/◌, ◌≡◌, ◌<◌, ◌≤◌, ◌==◌, ◌&&◌, ◌⊎◌, not, Bool, true, cond, [], Option, Some, None, IsSome}
 use Rattle.std.specs.Ordering.{nat_cmp}
 use Rattle.std.specs.FinMap as map
 use Rattle.mea_base.specs.Totals.{total}
@@ -71,6 +71,8 @@ pub record HasGroups (h : Groups) (n : ℕ) : Type 0 where
   pub handles_known : AreOf (λ (g : ℕ). g) h.handles h.groups
   pub waits_known : AreOf (λ (g : ℕ). g) h.waits h.groups
   pub quiet : (g : ℕ) → IsQuietAtEnd (group_at h g)
+  -- no handle has the name of a future
+  pub apart : (k : ℕ) → IsSome (map.get h.handles k) → map.get h.waits k ≡ None
   -- the number of a group is that of its handles
   pub counted : (g : ℕ) → (group_at h g).number ≡ handles_of h g
   -- whose waker is registered waits there

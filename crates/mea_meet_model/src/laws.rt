@@ -2,8 +2,9 @@ ghost use Rattle.mea_base.specs.Family.{RunOf, Runs, KeepsWakers, LosesNoWake};
 ghost use Rattle.mea_meet_model.specs.Meets.{meets};
 
 /// In every hall that events reach: an event that replies `pending` to a poll places the waker given;
-/// while a waker is placed for a future, a poll of it replies `pending`; and an event that takes a placed
-/// waker away, and neither polls nor ends its future, has that waker among its wakes.
+/// while a waker is placed for a future, a poll of it replies `pending`; an event that takes a placed waker
+/// away, and neither polls nor ends its future, has that waker among its wakes; a future that an event
+/// neither polls nor ends lives on, and one that it ends does not.
 pub fn wakers_are_kept()
     ensures { KeepsWakers meets }
 {}

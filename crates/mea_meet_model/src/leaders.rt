@@ -15,7 +15,10 @@ ghost use Rattle.mea_meet_model.specs.Valid.{IsValid};
 /// exactly one leads.
 pub fn a_round_has_one_leader()
     ensures exactly { (h : Hall) (i : ℕ) (e : Event) → is_leader (step h i e).reply ≡ leads_by h e }
-    ensures wakes { (h : Hall) (i f w : ℕ) (x : BarrierWait) → finmap.get h.barriers.waits f ≡ Some x → leads_by h (events.BarPoll f w) ≡ true → (step h i (events.BarPoll f w)).wakes ≡ wakers (barrier_at h.barriers x.barrier).waiting }
-    ensures arrives { (h : Hall) (n i : ℕ) (e : Event) → IsValid h n → n ≤ i → (b : ℕ) → IsSome (finmap.get h.barriers.barriers b) → IsSome (finmap.get (step h i e).hall.barriers.barriers b) → (barrier_at (step h i e).hall.barriers b).arrivals ≡ (barrier_at h.barriers b).arrivals + arrivals_by h e b }
+    ensures wakes { (h : Hall) (i f w : ℕ) (x : BarrierWait) → finmap.get h.barriers.waits f ≡ Some x → leads_by h (events.BarPoll f w) ≡ true
+        → (step h i (events.BarPoll f w)).wakes ≡ wakers (barrier_at h.barriers x.barrier).waiting }
+    ensures arrives { (h : Hall) (n i : ℕ) (e : Event) → IsValid h n → n ≤ i → (b : ℕ) → IsSome (finmap.get h.barriers.barriers b)
+        → IsSome (finmap.get (step h i e).hall.barriers.barriers b)
+        → (barrier_at (step h i e).hall.barriers b).arrivals ≡ (barrier_at h.barriers b).arrivals + arrivals_by h e b }
     ensures one { (r : Barrier) → 1 ≤ r.size → leaders r r.size ≡ 1 }
 {}

@@ -3,6 +3,23 @@ ghost use Rattle.mea_meet_model.specs.declared.event.MeetEvent.{MeetEvent as Eve
 ghost use Rattle.mea_meet_model.specs.Hall.{Hall, registered};
 ghost use Rattle.mea_meet_model.specs.Step.{step, registers};
 
+use crate::event::MeetEvent;
+
+impl MeetEvent {
+    /// Whether the event may register a waker, so that there has to be room for it: a poll may.
+    pub fn registers(&self) -> bool
+        ensures { result ≡ registers self.now }
+    {
+        matches!(
+            self,
+            MeetEvent::BarPoll(..)
+                | MeetEvent::LatPoll(..)
+                | MeetEvent::WgPoll(..)
+                | MeetEvent::SdPoll(..)
+        )
+    }
+}
+
 /// An event wakes none but registered wakers and registers at most one, and none but a poll registers any.
 /// A hall keeps room for the registered ones, so that to wake them takes no memory.
 pub fn wakes_are_of_the_registered()

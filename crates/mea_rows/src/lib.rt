@@ -6,11 +6,17 @@ mod examples;
 #[cfg(test)]
 mod faults;
 #[cfg(test)]
+mod generated;
+#[cfg(test)]
 mod limits;
+#[cfg(test)]
+mod locks;
 #[cfg(test)]
 mod meeting_points;
 #[cfg(test)]
 mod permits;
+#[cfg(test)]
+mod pieces;
 #[cfg(test)]
 mod refusals;
 #[cfg(test)]

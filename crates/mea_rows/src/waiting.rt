@@ -50,6 +50,21 @@ const POOL: &[Row] = &[
     },
 ];
 
+const CLOSED: &[Row] = &[
+    // A close cuts all that wait, and what they were paid is free again but for a debt, which comes first.
+    Row {
+        script: "new 3/acq 0 5/poll 1 10/acq 0 2/poll 3 11/forgetx 0 1/close 0/free 0/poll 1 12/poll 3 13/try 0 1/acq 0 0/poll 11 14/closed 0/ledger 0",
+        text: "made/made/pending/made/pending/done/done wake 10 11/free 2/gone/gone/none/made/gone/yes/ledger 3 0 0 2 0 0 1/done 15",
+        status: Status::Done,
+    },
+    // A future that was granted before the close is ready; a second close does nothing.
+    Row {
+        script: "new 0/acq 0 1/poll 1 5/release 0 1/close 0/poll 1 6/end 5/free 0/close 0/acqf 0 1/end 9",
+        text: "made/made/pending/done wake 5/done/ready/done/free 1/done/made/done/done 11",
+        status: Status::Done,
+    },
+];
+
 #[test]
 fn acquires_wait(rt: HostRuntime) -> Result<(), Fail> {
     check_rows(&rt, ROWS)
@@ -58,4 +73,9 @@ fn acquires_wait(rt: HostRuntime) -> Result<(), Fail> {
 #[test]
 fn a_pool_of_connections(rt: HostRuntime) -> Result<(), Fail> {
     check_rows(&rt, POOL)
+}
+
+#[test]
+fn a_closed_semaphore_gives_no_more(rt: HostRuntime) -> Result<(), Fail> {
+    check_rows(&rt, CLOSED)
 }

@@ -1,57 +1,83 @@
--- how a script that was read up to the limit is answered
-use Rattle.std.proofs.Common.{◌≡◌, ◌≢◌, inl, inr, ◌+◌, ◌++◌, ℕ, Bool, true, false, List, [], length, take, min, nat_lt, Option, Some, None, refl, arith, ap, sym, ◌∙◌, append-nil, length-take}
-use Rattle.std.proofs.lemmas.List.{take-take}
-use Rattle.std.proofs.lemmas.Bool.Decides.{nat_tests}
-use Rattle.mea_base.specs.declared.stop.Stop.{Stop}
-use Rattle.mea_hall.specs.Front.{front_of}
+-- how a script ends that was played to its end
+use Rattle.std.proofs.Common.{◌≡◌, ◌⊎◌, inl, inr, ℕ, ◌++◌, List, [], Option, Some, refl, ap, sym, subst, ◌∙◌, append-nil, append_assoc}
+use Rattle.mea_hall.specs.World.{empty_world}
 use Rattle.mea_run.specs.declared.status.Status.{Status}
-use Rattle.mea_run.specs.declared.status.Status.TheVariants.{ReadFault, WriteFault, Usage}
-use Rattle.mea_run.specs.Script.{limit, is_long, lines_in, lines_of, reading_of, text_after, status_after, text_of, status_of, status_at}
-use Rattle.mea_run.specs.Runs.{IsFault, HasWritten, HasWrittenPart, IsTold}
+use Rattle.mea_run.specs.declared.status.Status.TheVariants.{Done, Usage}
+use Rattle.mea_run.specs.Runs.{IsFault, IsWriteFault, HasWritten, HasWrittenPart, IsClosed, IsTold}
+use Rattle.mea_run.specs.Script.{limit, text_of, status_of}
+use Rattle.mea_run.specs.Told.{Told, with_text, told_of, Ends}
+use Rattle.mea_run.proofs.Tells.{tells_script}
 
--- ---- one byte past the limit tells as much as all
+-- what was left to write was written, or some of it
+pub closes : (status result : Status) (whole before text : List ℕ) (old new : Option (List ℕ)) → Ends status whole before old text
+    → ((b : List ℕ) → old ≡ Some b → IsClosed text status result b new)
+    → (IsFault result × HasWrittenPart whole before new) ⊎ ((result ≡ status) × HasWritten whole before new)
+closes status result whole before text old new h wrote = elim (wrote (before ++ h.written) h.took) [
+  | inl failed ↦
+      let part = failed.1 in
+      inl (
+        inr failed.0,
+        (
+          h.written ++ part.0,
+          part.1 ++ h.rest,
+          h.front ∙ ap (λ bytes. h.written ++ (bytes ++ h.rest)) part.2 ∙ ap (λ bytes. h.written ++ bytes) (append_assoc part.0 part.1 h.rest)
+              ∙ sym (append_assoc h.written part.0 (part.1 ++ h.rest)),
+          part.3 ∙ ap (λ bytes. Some bytes) (append_assoc before h.written part.0),
+        ),
+      )
+  | inr done ↦
+      let now : new ≡ Some (before ++ (h.written ++ text)) = done.1 ∙ ap (λ bytes. Some bytes) (append_assoc before h.written text) in
+      let front : whole ≡ (h.written ++ text) ++ h.rest = h.front ∙ sym (append_assoc h.written text h.rest) in
+      elim h.ended [
+        | inl fault ↦ inl (subst IsFault (sym done.0) fault, (h.written ++ text, h.rest, front, now))
+        | inr none ↦
+            inr (
+              done.0,
+              now ∙ ap (λ bytes. Some (before ++ bytes)) (sym (front ∙ ap (λ rest. (h.written ++ text) ++ rest) none ∙ append-nil (h.written ++ text))),
+            )
+      ]
+]
 
-one_past : (n size : ℕ) → nat_lt n (min (n + 1) size) ≡ nat_lt n size
-one_past n size = grind (arith, nat_tests)
+-- a script that nothing was played of is due what it is answered
+module _ (script text : List ℕ) (told : Told) (none : text ≡ []) (fresh : told ≡ told_of empty_world 0 limit script) where
+  pub due_text : (with_text text told).text ≡ text_of script
+  due_text = ap (λ bytes. bytes ++ told.text) none ∙ ap (λ t. t.text) (fresh ∙ tells_script script)
 
-long_alike : (script : List ℕ) → is_long (take (limit + 1) script) ≡ is_long script
-long_alike script = ap (nat_lt limit) (length-take (limit + 1) script) ∙ one_past limit (length script)
+  pub due_status : (with_text text told).status ≡ status_of script
+  due_status = ap (λ t. t.status) (fresh ∙ tells_script script)
 
-lines_alike : (script : List ℕ) → lines_of (take (limit + 1) script) ≡ lines_of script
-lines_alike script = λ i. lines_in (long_alike script i) (take-take limit (limit + 1) script (omega arith) i)
+-- a summary that was asked for is no wrong use
+pub no_usage : (status : Status) → IsWriteFault status ⊎ (status ≡ Done) → status ≡ Usage → ⊥
+no_usage status (inl (inl fault)) usage = absurd (cc)
+no_usage status (inl (inr memory)) usage = absurd (cc)
+no_usage status (inr done) usage = absurd (cc)
 
-pub text_alike : (script read : List ℕ) → read ≡ take (limit + 1) script → text_of read ≡ text_of script
-text_alike script read is = ap text_of is ∙
-    (λ i. let reading = reading_of (lines_alike script i) in text_after (front_of reading.events) reading.bad (long_alike script i))
-
-pub status_alike : (script read : List ℕ) → read ≡ take (limit + 1) script → status_of read ≡ status_of script
-status_alike script read is = ap status_of is ∙
-    (λ i. let reading = reading_of (lines_alike script i) in status_after (front_of reading.events) reading.bad (long_alike script i))
-
--- ---- a script's own status is no fault
-
-own_status : (cause : Option Stop) (bad long : Bool) (n : ℕ) (status : Status) → status_at cause bad long n ≡ status
-    → (status ≢ ReadFault) × (status ≢ WriteFault) × (status ≢ Usage)
-own_status (Some stop) bad long n status is = (λ e. cc, λ e. cc, λ e. cc)
-own_status None true long n status is = (λ e. cc, λ e. cc, λ e. cc)
-own_status None false true n status is = (λ e. cc, λ e. cc, λ e. cc)
-own_status None false false n status is = (λ e. cc, λ e. cc, λ e. cc)
-
-pub is_no_fault : (script : List ℕ) (status : Status) → status ≡ status_of script → (status ≢ ReadFault) × (status ≢ WriteFault) × (status ≢ Usage)
-is_no_fault script status is = let reading = reading_of (lines_of script) in let front = front_of reading.events in
-    own_status front.cause reading.bad (is_long script) (length front.replies) status (sym is)
-
--- ---- what is told
+-- ---- what is told in all
 
 pub tells_nothing : (script : List ℕ) (status : Status) (before : List ℕ) (taken : Option (List ℕ)) → IsFault status → taken ≡ Some before
     → IsTold script status before taken
 tells_nothing script status before taken fault is = inl (fault, ([], text_of script, refl, is ∙ ap (λ bytes. Some bytes) (sym (append-nil before))))
 
-pub tells_part : (script read text : List ℕ) (status : Status) (before : List ℕ) (taken : Option (List ℕ)) → read ≡ take (limit + 1) script
-    → text ≡ text_of read → IsFault status → HasWrittenPart text before taken → IsTold script status before taken
-tells_part script read text status before taken is same fault part = inl (fault, (part.0, part.1, sym (same ∙ text_alike script read is) ∙ part.2, part.3))
+pub tells_status : (script : List ℕ) (due : Told) (status result : Status) → due.status ≡ status_of script → IsFault status ⊎ (status ≡ due.status)
+    → IsFault result ⊎ (result ≡ status) → IsFault result ⊎ (result ≡ status_of script)
+tells_status script due status result same ended closed = elim closed [
+  | inl fault ↦ inl fault
+  | inr is ↦ elim ended [
+    | inl fault ↦ inl (subst IsFault (sym is) fault)
+    | inr whole ↦ inr (is ∙ whole ∙ same)
+  ]
+]
 
-pub tells_all : (script read text : List ℕ) (status : Status) (before : List ℕ) (taken : Option (List ℕ)) → read ≡ take (limit + 1) script
-    → text ≡ text_of read → status ≡ status_of read → HasWritten text before taken → IsTold script status before taken
-tells_all script read text status before taken is same ends all =
-    inr (ends ∙ status_alike script read is, all ∙ ap (λ written. Some (before ++ written)) (same ∙ text_alike script read is))
+pub tells_all : (script : List ℕ) (due : Told) (status result : Status) (before : List ℕ) (taken : Option (List ℕ)) → due.text ≡ text_of script
+    → due.status ≡ status_of script → IsFault status ⊎ (status ≡ due.status)
+    → (IsFault result × HasWrittenPart due.text before taken) ⊎ ((result ≡ status) × HasWritten due.text before taken)
+    → IsTold script result before taken
+tells_all script due status result before taken text same ended closed = elim closed [
+  | inl part ↦ inl (part.0, subst (λ (t : List ℕ). HasWrittenPart t before taken) text part.1)
+  | inr whole ↦
+      let all : HasWritten (text_of script) before taken = subst (λ (t : List ℕ). HasWritten t before taken) text whole.1 in
+      elim ended [
+        | inl fault ↦ inl (subst IsFault (sym whole.0) fault, (text_of script, [], sym (append-nil (text_of script)), all))
+        | inr is ↦ inr (whole.0 ∙ is ∙ same, all)
+      ]
+]

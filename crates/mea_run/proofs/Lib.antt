@@ -1,3 +1,16 @@
+pub mod Begins
 pub mod Lines
-pub mod Transfers
+pub mod Unended
+pub mod Tells
+pub mod Plays
+pub mod Dues
+pub mod Puts
+pub mod Pieces
 pub mod Endings
+pub mod Rounds
+pub mod Legal
+pub mod RoundsLeft
+pub mod Counts
+pub mod Played
+pub mod Commands
+pub mod Ended

@@ -3,3 +3,7 @@ pub mod Memory
 pub mod Sure
 pub mod Script
 pub mod Runs
+pub mod Told
+pub mod Begun
+pub mod Player
+pub mod Generated

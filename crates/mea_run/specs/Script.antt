@@ -6,7 +6,7 @@ use Rattle.mea_base.specs.declared.stop.Stop.{Stop}
 use Rattle.mea_base.specs.declared.stop.Stop.TheVariants as stops
 use Rattle.mea_hall.specs.declared.event.Event.{Event}
 use Rattle.mea_hall.specs.Front.{Front, front_of}
-use Rattle.mea_hall.specs.History.{AreBalanced, LoseNoWake}
+use Rattle.mea_hall.specs.History.{AreBalanced, LoseNoWake, GrantInOrder}
 use Rattle.mea_hall.specs.Lines.{event_of}
 use Rattle.mea_hall.specs.Text.{number_text, reply_text}
 use Rattle.mea_run.specs.declared.status.Status.{Status}
@@ -94,7 +94,7 @@ text_of script = let reading = reading_of (lines_of script) in text_after (front
 abbrev pub status_of : List ℕ → Status
 status_of script = let reading = reading_of (lines_of script) in status_after (front_of reading.events) reading.bad (is_long script)
 
--- ---- the two laws, for the script that is played: at every point, of its events and their replies
+-- ---- the laws, for the script that is played: at every point, of its events and their replies
 
 abbrev pub events_of : List ℕ → List Event
 events_of script = (reading_of (lines_of script)).events
@@ -104,3 +104,6 @@ IsBalanced script = AreBalanced (events_of script) (front_of (events_of script))
 
 abbrev pub LosesNoWake : List ℕ → Type 0
 LosesNoWake script = LoseNoWake (events_of script) (front_of (events_of script)).replies
+
+abbrev pub GrantsInOrder : List ℕ → Type 0
+GrantsInOrder script = GrantInOrder (events_of script) (front_of (events_of script)).replies

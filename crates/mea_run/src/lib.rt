@@ -3,7 +3,11 @@
 //! and those of its tests.
 #![tactic(auto)]
 
+mod begun;
+mod generator;
+mod making;
 mod memory;
+mod player;
 mod running;
 mod script;
 mod sink;
@@ -13,6 +17,7 @@ mod status;
 mod sure;
 mod transfer;
 
+pub use generator::{generated_scripts_are_legal, make_script};
 pub use memory::{MemSink, MemSource};
 pub use running::run;
 pub use sink::{PutFault, Sink};

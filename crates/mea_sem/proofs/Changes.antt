@@ -1,20 +1,21 @@
 -- what a change of one semaphore and one future does to the links, and to the hall that is stood for
 use Rattle.std.proofs.Common.{◌≡◌, ◌⊎◌, inl, inr, ℕ, ◌<◌, ◌≤◌, ◌==◌, Bool, true, false, cond, refl, ap, sym, subst, ◌∙◌, arith, Option, Some, None}
 use Rattle.std.specs.Option.{option_map}
-use Rattle.std.specs.FinMap.{get, insert, remove}
+use Rattle.std.specs.Ordering.{nat_cmp}
+use Rattle.std.specs.FinMap.{FinMap, get, insert, remove}
 use Rattle.std.proofs.lemmas.Bool.{eqb-true, eqb-false}
 use Rattle.mea_base.proofs.NamedMaps.{same_named, get-seen}
 use Rattle.mea_base.proofs.Totals.{get_inserted, get_removed}
 use Rattle.mea_base.proofs.Tests.{at_same, at_apart}
 use Rattle.mea_sem_model.specs.Hall.{Future, Waiter}
 use Rattle.mea_sem_core.specs.declared.acquire.Acquire.{Acquire}
-use Rattle.mea_sem_core.specs.declared.acquire.Acquire.TheVariants.{New, Queued, Done}
+use Rattle.mea_sem_core.specs.declared.acquire.Acquire.TheVariants.{New, Queued, Done, Refused}
 use Rattle.mea_sem_core.specs.Acquire.{demand_of}
 use Rattle.mea_sem_core.specs.Core as cores
 use Rattle.mea_sem_core.specs.Calls.{Belongs}
 use Rattle.mea_sem.specs.declared.entries.SemaphoreEntry.{SemaphoreEntry}
 use Rattle.mea_sem.specs.declared.entries.FutureEntry.{FutureEntry}
-use Rattle.mea_sem.specs.Store.{Store, is_under, has, name_of, who_of, queue_of, semaphore_of, stage_of, stage_under, queue_in, future_of, hall_of, IsOpen, IsHome, IsOwned, IsNumbered, IsLinked}
+use Rattle.mea_sem.specs.Store.{Store, is_under, has, name_of, who_of, queue_of, semaphore_of, stage_of, stage_under, core_in, future_of, hall_of, IsOpen, IsHome, IsOwned, IsNumbered, IsLinked}
 use Rattle.mea_sem.proofs.Cores.{IsAt, all_at, all_by}
 use Rattle.mea_sem.proofs.Names.{has-parts, under-queued, owner_has, name-owner, queue_of-same}
 
@@ -37,6 +38,9 @@ pub record Changes (st st' : Store) (b b' s f : ℕ) (e e' : SemaphoreEntry) (o 
       → ((x : FutureEntry) × (o' ≡ Some x) × (x.acquire ≡ Queued d n)) ⊎ ((has s n o ≡ false) × ((k : ℕ) × (cores.waiting e.core.queue n ≡ Some (d, k))))
   -- what is granted was so before, and is not the future's
   pub grants : (n d : ℕ) → get e'.core.granted n ≡ Some d → (has s n o ≡ false) × (get e.core.granted n ≡ Some d)
+  -- and so is what is cut
+  pub cut : (n d : ℕ) → get e'.core.cut n ≡ Some d → (has s n o ≡ false) × (get e.core.cut n ≡ Some d)
+  pub cuts : (n : ℕ) → has s n o ≡ false → has s n o' ≡ false → get e'.core.cut n ≡ get e.core.cut n
   -- the future's number is nobody else's
   pub alone : (g n : ℕ) (x y : FutureEntry) → o' ≡ Some x → (f ≡ g → ⊥) → get st.futures g ≡ Some y → y.semaphore ≡ s → is_under x.acquire n ≡ true
       → is_under y.acquire n ≡ true → ⊥
@@ -77,6 +81,7 @@ module _ (st st' : Store) (b b' s f : ℕ) (e e' : SemaphoreEntry) (o o' : Optio
   home_kept y (New d) is free belongs still = tt
   home_kept y (Queued d n) is free belongs still = c.kept d n (free n (under-queued y.acquire d n is)) belongs
   home_kept y (Done d) is free belongs still = tt
+  home_kept y (Refused d) is free belongs still = absurd still
 
   home_other : (g : ℕ) (y : FutureEntry) → (f ≡ g → ⊥) → get st.futures g ≡ Some y → IsHome st' y
   home_other g y apart is = by_test (s == y.semaphore) refl
@@ -159,19 +164,23 @@ module _ (st st' : Store) (b b' s f : ℕ) (e e' : SemaphoreEntry) (o o' : Optio
           let w = linked.owned q d n demand l old waits in
           owned_still q n demand w (elsewhere_apart q n demand w (eqb-false s q h))
 
-  granted_all : (q : ℕ) (d : SemaphoreEntry) (n demand : ℕ) → get st'.semaphores q ≡ Some d → get d.core.granted n ≡ Some demand → IsOwned st' q n demand
-  granted_all q d n demand is grants = by_test (s == q) refl
+  -- so is what stands under a number that waits no more
+  placed_all : (pairs : cores.Core ℕ → FinMap nat_cmp ℕ)
+      → ((n d : ℕ) → get (pairs e'.core) n ≡ Some d → (has s n o ≡ false) × (get (pairs e.core) n ≡ Some d))
+      → ((q : ℕ) (x : SemaphoreEntry) (n d : ℕ) → get st.semaphores q ≡ Some x → get (pairs x.core) n ≡ Some d → IsOwned st q n d)
+      → (q : ℕ) (d : SemaphoreEntry) (n demand : ℕ) → get st'.semaphores q ≡ Some d → get (pairs d.core) n ≡ Some demand → IsOwned st' q n demand
+  placed_all pairs from owned q d n demand is placed = by_test (s == q) refl
     where
       by_test : (t : Bool) → (s == q) ≡ t → IsOwned st' q n demand
       by_test true h =
           let same : s ≡ q = eqb-true s q h in
           let both : Some e' ≡ Some d = sym semaphore_there ∙ ap (get st'.semaphores) same ∙ is in
           let one : d ≡ e' = cc in
-          let before = c.grants n demand (ap (λ (x : SemaphoreEntry). get x.core.granted n) (sym one) ∙ grants) in
-          let w = linked.granted s e n demand c.there before.1 in
+          let before = from n demand (ap (λ (x : SemaphoreEntry). get (pairs x.core) n) (sym one) ∙ placed) in
+          let w = owned s e n demand c.there before.1 in
           subst (λ p. IsOwned st' p n demand) same (owned_still s n demand w (owner_apart n demand w before.0))
       by_test false h =
-          let w = linked.granted q d n demand (sym (semaphore_other q (eqb-false s q h)) ∙ is) grants in
+          let w = owned q d n demand (sym (semaphore_other q (eqb-false s q h)) ∙ is) placed in
           owned_still q n demand w (elsewhere_apart q n demand w (eqb-false s q h))
 
   apart_all : (g h n : ℕ) (x y : FutureEntry) → get st'.futures g ≡ Some x → get st'.futures h ≡ Some y → x.semaphore ≡ y.semaphore
@@ -216,7 +225,15 @@ module _ (st st' : Store) (b b' s f : ℕ) (e e' : SemaphoreEntry) (o o' : Optio
       by_test false h = linked.numbered q d (sym (semaphore_other q (eqb-false s q h)) ∙ is)
 
   pub linked_after : IsLinked st' b'
-  linked_after = record { home = home_all; owned = owned_all; granted = granted_all; apart = apart_all; below = below_all; numbered = numbered_all }
+  linked_after = record {
+    home = home_all;
+    owned = owned_all;
+    granted = placed_all (λ x. x.granted) c.grants linked.granted;
+    cut = placed_all (λ x. x.cut) c.cut linked.cut;
+    apart = apart_all;
+    below = below_all;
+    numbered = numbered_all;
+  }
 
   -- ---- names stay
   pub name_kept : (n d : ℕ) → IsOwned st s n d → has s n o ≡ false → name_of st'.futures b' s n ≡ name_of st.futures b s n
@@ -268,14 +285,18 @@ module _ (st st' : Store) (b b' s f : ℕ) (e e' : SemaphoreEntry) (o o' : Optio
             released = d.released;
             forgotten = d.forgotten;
             named = d.named;
+            closed = d.core.closed;
           })
 
   stage_kept : (g : ℕ) (y : FutureEntry) (a : Acquire) → y.acquire ≡ a → (f ≡ g → ⊥) → get st.futures g ≡ Some y → y.semaphore ≡ s
-      → stage_of a e'.core.queue ≡ stage_of a e.core.queue
+      → stage_of a e'.core ≡ stage_of a e.core
   stage_kept g y (New d) is apart at mine = refl
-  stage_kept g y (Queued d n) is apart at mine = ap stage_under
-      (c.wakers n (not_mine g n y apart at mine (under-queued y.acquire d n is)) (not_now_mine g n y apart at mine (under-queued y.acquire d n is)))
+  stage_kept g y (Queued d n) is apart at mine =
+      let before = not_mine g n y apart at mine (under-queued y.acquire d n is) in
+      let now = not_now_mine g n y apart at mine (under-queued y.acquire d n is) in
+      λ i. stage_under (c.wakers n before now i) (c.cuts n before now i)
   stage_kept g y (Done d) is apart at mine = refl
+  stage_kept g y (Refused d) is apart at mine = refl
 
   future_kept : (g : ℕ) (y : FutureEntry) → (f ≡ g → ⊥) → get st.futures g ≡ Some y → future_of st'.semaphores y ≡ future_of st.semaphores y
   future_kept g y apart is = by_test (s == y.semaphore) refl
@@ -286,15 +307,15 @@ module _ (st st' : Store) (b b' s f : ℕ) (e e' : SemaphoreEntry) (o o' : Optio
         demand = demand_of y.acquire;
         plain = y.plain;
         forgets = y.forgets;
-        stage = stage_of y.acquire (queue_in (semaphore_other y.semaphore (eqb-false s y.semaphore h) i));
+        stage = stage_of y.acquire (core_in (semaphore_other y.semaphore (eqb-false s y.semaphore h) i));
       }
       by_test true h =
           let mine : s ≡ y.semaphore = eqb-true s y.semaphore h in
           let now : get st'.semaphores y.semaphore ≡ Some e' = ap (get st'.semaphores) (sym mine) ∙ semaphore_there in
           let then : get st.semaphores y.semaphore ≡ Some e = ap (get st.semaphores) (sym mine) ∙ c.there in
-          let same : stage_of y.acquire (queue_in (get st'.semaphores y.semaphore)) ≡ stage_of y.acquire (queue_in (get st.semaphores y.semaphore)) =
-          ap (λ d. stage_of y.acquire (queue_in d)) now ∙ stage_kept g y y.acquire refl apart is (sym mine)
-          ∙ sym (ap (λ d. stage_of y.acquire (queue_in d)) then) in
+          let same : stage_of y.acquire (core_in (get st'.semaphores y.semaphore)) ≡ stage_of y.acquire (core_in (get st.semaphores y.semaphore)) =
+          ap (λ d. stage_of y.acquire (core_in d)) now ∙ stage_kept g y y.acquire refl apart is (sym mine)
+          ∙ sym (ap (λ d. stage_of y.acquire (core_in d)) then) in
           λ i. record { semaphore = y.semaphore; demand = demand_of y.acquire; plain = y.plain; forgets = y.forgets; stage = same i }
 
   futures_at : (g : ℕ) → get (hall_of st' b').futures g ≡ cond (f == g) (option_map (future_of st'.semaphores) o') (get (hall_of st b).futures g)

@@ -9,7 +9,7 @@ use Rattle.std.proofs.lemmas.List.Sums.{sum_by-cons}
 use Rattle.mea_base.specs.Queue.{lacks_after, waiting_after, granted_in}
 use Rattle.mea_base.proofs.Totals.{get_inserted}
 use Rattle.mea_base.proofs.Tests.{at_same, at_apart}
-use Rattle.mea_sem_core.specs.Core.{Waiter, Acquires, Owes, waiting, waker_under, AreApart, granting, debts, debt_of}
+use Rattle.mea_sem_core.specs.Core.{Waiter, Acquires, Owes, waiting, waker_under, AreApart, HasOnlyDebts, with_demands, waiters_of, only_debts, debts, debt_of}
 use Rattle.mea_sem_core.specs.Calls.{with_waker, without_acquire, with_debt}
 
 abbrev pub Queue : Type 0
@@ -140,6 +140,11 @@ AreApart-with_waker [] m w h = h
 AreApart-with_waker ((Acquires k d v, l) ∷ q) m w h = (waiting-with_waker q m w k ∙ h.0, AreApart-with_waker q m w h.1)
 AreApart-with_waker ((Owes, l) ∷ q) m w h = AreApart-with_waker q m w h
 
+pub only-with_waker : (q : Queue) (m w : ℕ) → HasOnlyDebts q → HasOnlyDebts (with_waker q m w)
+only-with_waker [] m w h = h
+only-with_waker ((Acquires k d v, l) ∷ q) m w h = absurd h
+only-with_waker ((Owes, l) ∷ q) m w h = only-with_waker q m w h
+
 pub debts-with_waker : (q : Queue) (m w : ℕ) → debts (with_waker q m w) ≡ debts q
 debts-with_waker [] m w = refl
 debts-with_waker ((Acquires k d v, l) ∷ q) m w =
@@ -205,6 +210,12 @@ AreApart-without ((Acquires k d v, l) ∷ q) m h = elim (k == m) as (λ b. AreAp
 ]
 AreApart-without ((Owes, l) ∷ q) m h = AreApart-without q m h
 
+-- nobody waits where debts alone do
+pub only-waiting : (q : Queue) (n : ℕ) → HasOnlyDebts q → waiting q n ≡ None
+only-waiting [] n h = refl
+only-waiting ((Acquires k d v, l) ∷ q) n h = absurd h
+only-waiting ((Owes, l) ∷ q) n h = only-waiting q n h
+
 pub AreApart-push : (q : Queue) (m d w l : ℕ) → waiting q m ≡ None → AreApart q → AreApart (q ++ (Acquires m d w, l) ∷ [])
 AreApart-push [] m d w l none h = (none, tt)
 AreApart-push ((Acquires k e v, j) ∷ q) m d w l none h =
@@ -222,6 +233,9 @@ waiting-debt q n m = elim (n == 0) as (λ b. waiting (cond b q ((Owes, n) ∷ q)
 
 pub waker-debt : (q : Queue) (n m : ℕ) → waker_under (with_debt q n) m ≡ waker_under q m
 waker-debt q n m = elim (n == 0) as (λ b. waker_under (cond b q ((Owes, n) ∷ q)) m ≡ waker_under q m) [ true ↦ refl | false ↦ refl ]
+
+pub only-debt : (q : Queue) (n : ℕ) → HasOnlyDebts q → HasOnlyDebts (with_debt q n)
+only-debt q n h = elim (n == 0) as (λ b. HasOnlyDebts (cond b q ((Owes, n) ∷ q))) [ true ↦ h | false ↦ h ]
 
 pub AreApart-debt : (q : Queue) (n : ℕ) → AreApart q → AreApart (with_debt q n)
 AreApart-debt q n h = elim (n == 0) as (λ b. AreApart (cond b q ((Owes, n) ∷ q))) [ true ↦ h | false ↦ h ]
@@ -412,18 +426,88 @@ AreApart-rest ((Owes, l) ∷ q) before amount h =
     (filter {X = Waiter ℕ × ℕ} (λ e. e.1 == 0) (lacks_after (before + l) q amount))
     (AreApart-rest q (before + l) amount h) (AreApart-rest q (before + l) amount h)
 
+only-rest : (q : Queue) (before amount : ℕ) → HasOnlyDebts q → HasOnlyDebts (still_waiting (lacks_after before q amount))
+only-rest [] before amount h = h
+only-rest ((Acquires k d w, l) ∷ q) before amount h = absurd h
+only-rest ((Owes, l) ∷ q) before amount h =
+    one_more (min l (before + l - amount)) (λ rest paid. HasOnlyDebts rest) Owes (still_waiting (lacks_after (before + l) q amount))
+    (filter {X = Waiter ℕ × ℕ} (λ e. e.1 == 0) (lacks_after (before + l) q amount))
+    (only-rest q (before + l) amount h) (only-rest q (before + l) amount h)
+
 pub AreApart-waiting_after : (q : Queue) (amount : ℕ) → AreApart q → AreApart (waiting_after q amount)
 AreApart-waiting_after q amount h = AreApart-rest q 0 amount h
 
--- the granted numbers after a pour
-pub granting-other : (g : FinMap nat_cmp ℕ) (ws : List (Waiter ℕ)) (n : ℕ) → is_among ws n ≡ false → get (granting g ws) n ≡ get g n
-granting-other g [] n h = refl
-granting-other g (Acquires m d w ∷ ws) n h = elim (m == n)
-    as (λ b. (m == n) ≡ b → (b || is_among ws n) ≡ false → get (granting (insert g m d) ws) n ≡ get g n) [
+pub only-waiting_after : (q : Queue) (amount : ℕ) → HasOnlyDebts q → HasOnlyDebts (waiting_after q amount)
+only-waiting_after q amount h = only-rest q 0 amount h
+
+-- ---- the debts alone
+pub waiting-only : (q : Queue) (n : ℕ) → waiting (only_debts q) n ≡ None
+waiting-only [] n = refl
+waiting-only ((Acquires k d w, l) ∷ q) n = waiting-only q n
+waiting-only ((Owes, l) ∷ q) n = waiting-only q n
+
+waker-only : (q : Queue) (n : ℕ) → waker_under (only_debts q) n ≡ None
+waker-only [] n = refl
+waker-only ((Acquires k d w, l) ∷ q) n = waker-only q n
+waker-only ((Owes, l) ∷ q) n = waker-only q n
+
+pub AreApart-only : (q : Queue) → AreApart (only_debts q)
+AreApart-only [] = tt
+AreApart-only ((Acquires k d w, l) ∷ q) = AreApart-only q
+AreApart-only ((Owes, l) ∷ q) = AreApart-only q
+
+pub only-only : (q : Queue) → HasOnlyDebts (only_debts q)
+only-only [] = tt
+only-only ((Acquires k d w, l) ∷ q) = only-only q
+only-only ((Owes, l) ∷ q) = only-only q
+
+pub debts-only : (q : Queue) → debts (only_debts q) ≡ debts q
+debts-only [] = refl
+debts-only ((Acquires k d w, l) ∷ q) = omega (arith, debts-only q, sum_by-cons {X = Waiter ℕ × ℕ} (λ x. debt_of x.0 x.1) (Acquires k d w, l) q)
+debts-only ((Owes, l) ∷ q) = omega (
+  arith,
+  debts-only q,
+  sum_by-cons {X = Waiter ℕ × ℕ} (λ x. debt_of x.0 x.1) (Owes, l) q,
+  sum_by-cons {X = Waiter ℕ × ℕ} (λ x. debt_of x.0 x.1) (Owes, l) (only_debts q),
+)
+
+-- who waits is among the waiters, and nobody else
+pub among-waits : (q : Queue) (n : ℕ) (p : ℕ × ℕ) → waiting q n ≡ Some p → is_among (waiters_of q) n ≡ true
+among-waits [] n p h = absurd (cc)
+among-waits ((Acquires k d w, l) ∷ q) n p h = elim (k == n)
+    as (λ b. cond b (Some (d, l)) (waiting q n) ≡ Some p → (b || is_among (waiters_of q) n) ≡ true) [ true ↦ λ t. refl | false ↦ λ t. among-waits q n p t ] h
+among-waits ((Owes, l) ∷ q) n p h = among-waits q n p h
+
+pub among-none : (q : Queue) (n : ℕ) → waiting q n ≡ None → is_among (waiters_of q) n ≡ false
+among-none [] n h = refl
+among-none ((Acquires k d w, l) ∷ q) n h = elim (k == n)
+    as (λ b. cond b (Some (d, l)) (waiting q n) ≡ None → (b || is_among (waiters_of q) n) ≡ false) [ true ↦ λ t. absurd (cc) | false ↦ λ t. among-none q n t ] h
+among-none ((Owes, l) ∷ q) n h = among-none q n h
+
+-- all who wait leave
+pub cut_splits : (q : Queue) (n : ℕ) → Splits (waiting q n) (waiting (only_debts q) n) (waker_under q n) (waker_under (only_debts q) n)
+    (is_among (waiters_of q) n)
+cut_splits q n = record {
+  waits = λ d l h. absurd (let none = waiting-only q n in cc);
+  waker = waker-only q n ∙ by_option (waiting q n) refl;
+  still = λ h. waker-none q n h;
+  none = λ h. (waiting-only q n, among-none q n h);
+  some = λ d k h. inr (among-waits q n (d, k) h, waiting-only q n);
+}
+  where
+    by_option : (o : Option (ℕ × ℕ)) → waiting q n ≡ o → None ≡ cond (is_among (waiters_of q) n) None (waker_under q n)
+    by_option None h = sym (ap (λ b. cond b None (waker_under q n)) (among-none q n h) ∙ waker-none q n h)
+    by_option (Some p) h = sym (ap (λ b. cond b None (waker_under q n)) (among-waits q n p h))
+
+-- pairs of numbers with those of some waiters
+pub demands-other : (g : FinMap nat_cmp ℕ) (ws : List (Waiter ℕ)) (n : ℕ) → is_among ws n ≡ false → get (with_demands g ws) n ≡ get g n
+demands-other g [] n h = refl
+demands-other g (Acquires m d w ∷ ws) n h = elim (m == n)
+    as (λ b. (m == n) ≡ b → (b || is_among ws n) ≡ false → get (with_demands (insert g m d) ws) n ≡ get g n) [
       | true ↦ λ e t. absurd (cc)
-      | false ↦ λ e t. granting-other (insert g m d) ws n t ∙ get_inserted g m n d ∙ at_apart m n (Some d) (get g n) (eqb-false m n e)
+      | false ↦ λ e t. demands-other (insert g m d) ws n t ∙ get_inserted g m n d ∙ at_apart m n (Some d) (get g n) (eqb-false m n e)
     ] refl h
-granting-other g (Owes ∷ ws) n h = granting-other g ws n h
+demands-other g (Owes ∷ ws) n h = demands-other g ws n h
 
 -- each of these who has the number has this demand
 abbrev pub AllDemand : List (Waiter ℕ) → ℕ → ℕ → Type 0
@@ -431,22 +515,22 @@ AllDemand [] n d = Unit {0}
 AllDemand (Acquires m e w ∷ ws) n d = (m ≡ n → e ≡ d) × AllDemand ws n d
 AllDemand (Owes ∷ ws) n d = AllDemand ws n d
 
-pub granting-among : (g : FinMap nat_cmp ℕ) (ws : List (Waiter ℕ)) (n d : ℕ) → AllDemand ws n d → is_among ws n ≡ true → get (granting g ws) n ≡ Some d
-granting-among g [] n d all h = absurd (cc)
-granting-among g (Acquires m e w ∷ ws) n d all h = by_rest (is_among ws n) refl (λ t. granting-among (insert g m e) ws n d all.1 t)
+pub demands-among : (g : FinMap nat_cmp ℕ) (ws : List (Waiter ℕ)) (n d : ℕ) → AllDemand ws n d → is_among ws n ≡ true → get (with_demands g ws) n ≡ Some d
+demands-among g [] n d all h = absurd (cc)
+demands-among g (Acquires m e w ∷ ws) n d all h = by_rest (is_among ws n) refl (λ t. demands-among (insert g m e) ws n d all.1 t)
   where
     first_true : (a b : Bool) → (a || b) ≡ true → b ≡ false → a ≡ true
     first_true true b h t = refl
     first_true false b h t = absurd (cc)
 
-    by_rest : (b : Bool) → is_among ws n ≡ b → (is_among ws n ≡ true → get (granting (insert g m e) ws) n ≡ Some d)
-        → get (granting (insert g m e) ws) n ≡ Some d
+    by_rest : (b : Bool) → is_among ws n ≡ b → (is_among ws n ≡ true → get (with_demands (insert g m e) ws) n ≡ Some d)
+        → get (with_demands (insert g m e) ws) n ≡ Some d
     by_rest true t rest = rest t
     by_rest false t rest =
         let here : (m == n) ≡ true = first_true (m == n) (is_among ws n) h t in
-        granting-other (insert g m e) ws n t ∙ get_inserted g m n e ∙ at_same m n (Some e) (get g n) (eqb-true m n here)
+        demands-other (insert g m e) ws n t ∙ get_inserted g m n e ∙ at_same m n (Some e) (get g n) (eqb-true m n here)
         ∙ ap (λ (x : ℕ). Some x) (all.0 (eqb-true m n here))
-granting-among g (Owes ∷ ws) n d all h = granting-among g ws n d all h
+demands-among g (Owes ∷ ws) n d all h = demands-among g ws n d all h
 
 -- each of a queue that has the number has this demand
 abbrev EachDemand : Queue → ℕ → ℕ → Type 0
@@ -472,6 +556,15 @@ each_paid ((Owes, l) ∷ r) before amount n d h =
 
 -- who is paid in full is granted its demand
 pub granted-poured : (g : FinMap nat_cmp ℕ) (q : Queue) (amount n d k : ℕ) → AreApart q → waiting q n ≡ Some (d, k)
-    → is_among (granted_in q amount) n ≡ true → get (granting g (granted_in q amount)) n ≡ Some d
-granted-poured g q amount n d k apart is among = granting-among g (granted_in q amount) n d
+    → is_among (granted_in q amount) n ≡ true → get (with_demands g (granted_in q amount)) n ≡ Some d
+granted-poured g q amount n d k apart is among = demands-among g (granted_in q amount) n d
     (each_paid q 0 amount n d (each_found q q n d k is (all_at q apart))) among
+
+-- who is cut has its demand
+all_demand : (r : Queue) (n d : ℕ) → EachDemand r n d → AllDemand (waiters_of r) n d
+all_demand [] n d h = tt
+all_demand ((Acquires m e w, l) ∷ r) n d h = (h.0, all_demand r n d h.1)
+all_demand ((Owes, l) ∷ r) n d h = all_demand r n d h
+
+pub cut-demand : (g : FinMap nat_cmp ℕ) (q : Queue) (n d k : ℕ) → AreApart q → waiting q n ≡ Some (d, k) → get (with_demands g (waiters_of q)) n ≡ Some d
+cut-demand g q n d k apart is = demands-among g (waiters_of q) n d (all_demand q n d (each_found q q n d k is (all_at q apart))) (among-waits q n (d, k) is)

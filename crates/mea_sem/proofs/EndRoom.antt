@@ -38,7 +38,11 @@ pub end_room : (c c' : cores.Core ℕ) (a : Acquire) (waited : ℕ) → c.wakes 
     → length c'.wakes + waited ≤ wakers_in c.queue
 end_room c c' (acquires.New d) waited quiet belongs cancels none = omega (arith, ap (λ (x : cores.Core ℕ). length x.wakes) cancels, ap length quiet, none)
 end_room c c' (acquires.Done d) waited quiet belongs cancels none = omega (arith, ap (λ (x : cores.Core ℕ). length x.wakes) cancels, ap length quiet, none)
-end_room c c' (acquires.Queued d n) waited quiet belongs cancels was = elim belongs [
+end_room c c' (acquires.Refused d) waited quiet belongs cancels none =
+    omega (arith, ap (λ (x : cores.Core ℕ). length x.wakes) cancels, ap length quiet, none)
+end_room c c' (acquires.Queued d n) waited quiet (inr cut) cancels was =
+    omega (arith, ap (λ (x : cores.Core ℕ). length x.wakes) (cancels.2 cut), ap length quiet, was.2 cut)
+end_room c c' (acquires.Queued d n) waited quiet (inl belongs) cancels was = elim belongs [
   | inl granted ↦
       let none = was.0 granted in
       let room = poured_wakes (record c { live = c.live - d; granted = remove c.granted n }) c' d quiet (cancels.0 granted) in

@@ -14,8 +14,9 @@ use Rattle.mea_sem.specs.declared.entries.SemaphoreEntry.{SemaphoreEntry}
 use Rattle.mea_sem.specs.declared.entries.FutureEntry.{FutureEntry}
 use Rattle.mea_sem.specs.Store.{Store, is_under, has, who_of, queue_of, hall_of, IsNumbered, IsLinked}
 use Rattle.mea_sem.specs.Kept.{wakers_in}
-use Rattle.mea_sem.proofs.Cores.{Queue, IsAt, all_at, all_by, is_number, waiting-without, waker-without, AreApart-without}
-use Rattle.mea_sem.proofs.PourHalls.{names-number}
+use Rattle.mea_sem.proofs.Cores.{Queue, IsAt, all_at, all_by, is_number, waiting-without, waker-without, AreApart-without, only-waiting}
+use Rattle.mea_sem.proofs.Stages.{cut_idle}
+use Rattle.mea_sem.proofs.Seen.{names-number}
 use Rattle.mea_sem.proofs.Changes.{Changes, linked_after, semaphores_after, futures_gone, name_kept}
 
 -- whether a waiter is named as f where it has the number n
@@ -142,7 +143,8 @@ module _ (st st' : Store) (next i s f n d k : ℕ) (x : FutureEntry) (e e' : Sem
     (there : get st.semaphores s ≡ Some e) (semaphores : (q : ℕ) → get st'.semaphores q ≡ cond (s == q) (Some e') (get st.semaphores q))
     (was : get st.futures f ≡ Some x) (futures : (g : ℕ) → get st'.futures g ≡ cond (f == g) None (get st.futures g)) (mine : x.semaphore ≡ s)
     (acquire : x.acquire ≡ acquires.Queued d n) (waits : cores.waiting e.core.queue n ≡ Some (d, k))
-    (queue : e'.core.queue ≡ without_acquire e.core.queue n) (granted : e'.core.granted ≡ e.core.granted) where
+    (queue : e'.core.queue ≡ without_acquire e.core.queue n) (granted : e'.core.granted ≡ e.core.granted) (cut : e'.core.cut ≡ e.core.cut)
+    (closed : e'.core.closed ≡ e.core.closed) where
   numbered : IsNumbered e.core
   numbered = linked.numbered s e there
 
@@ -160,18 +162,27 @@ module _ (st st' : Store) (next i s f n d k : ℕ) (x : FutureEntry) (e e' : Sem
   waiting_now m = ap (λ q. cores.waiting q m) queue ∙ waiting-without e.core.queue n m
 
   belongs_on : (b m : ℕ) → has s m (Some x) ≡ false → Belongs e.core (acquires.Queued b m) → Belongs e'.core (acquires.Queued b m)
-  belongs_on b m free h = elim h [
-    | inl is ↦ inl (ap (λ g. get g m) granted ∙ is)
-    | inr is ↦ inr (is.0, waiting_now m ∙ at_apart n m None (cores.waiting e.core.queue m) (apart_from m free) ∙ is.1)
-  ]
+  belongs_on b m free (inl (inl is)) = inl (inl (ap (λ g. get g m) granted ∙ is))
+  belongs_on b m free (inl (inr is)) = inl (inr (is.0, waiting_now m ∙ at_apart n m None (cores.waiting e.core.queue m) (apart_from m free) ∙ is.1))
+  belongs_on b m free (inr is) = inr (closed ∙ is.0, ap (λ g. get g m) cut ∙ is.1)
 
   numbered_on : IsNumbered e'.core
   numbered_on = record {
     apart = subst cores.AreApart (sym queue) (AreApart-without e.core.queue n numbered.apart);
     granted_apart = λ m some. ap (λ g. get g m) granted ∙ numbered.granted_apart m
         (λ none. some (waiting_now m ∙ still (n == m) (cores.waiting e.core.queue m) none));
+    cut_apart = λ m some.
+        let before = numbered.cut_apart m (λ none. some (ap (λ g. get g m) cut ∙ none)) in
+        (waiting_now m ∙ still (n == m) (cores.waiting e.core.queue m) before.0, ap (λ g. get g m) granted ∙ before.1);
+    closing = by_closed e.core.closed e'.core.closed closed numbered.closing;
   }
     where
+      by_closed : (b b' : Bool) → b' ≡ b → cores.CutsWhereClosed b e.core.queue e.core.cut → cores.CutsWhereClosed b' e'.core.queue e'.core.cut
+      by_closed true true same h = absurd (let none = only-waiting e.core.queue n h in cc)
+      by_closed false false same h = cut ∙ h
+      by_closed true false same h = absurd (cc)
+      by_closed false true same h = absurd (cc)
+
       still : (t : Bool) (o : Option (ℕ × ℕ)) → o ≡ None → cond t None o ≡ None
       still true o h = refl
       still false o h = h
@@ -200,10 +211,17 @@ module _ (st st' : Store) (next i s f n d k : ℕ) (x : FutureEntry) (e e' : Sem
         ∙ at_apart n m None (cores.waker_under e.core.queue m) (apart_from m free);
     waits = λ m b l is. inr (waits_now m b l is);
     grants = λ m b is. grants_on m b (ap (λ g. get g m) (sym granted) ∙ is) (n == m) refl;
+    cut = λ m b is. cut_on m b (ap (λ g. get g m) (sym cut) ∙ is) (n == m) refl;
+    cuts = λ m free free_now. ap (λ g. get g m) cut;
     alone = λ g m y z is. absurd (cc);
     numbered = numbered_on;
   }
     where
+      cut_on : (m b : ℕ) → get e.core.cut m ≡ Some b → (t : Bool) → (n == m) ≡ t → (has s m (Some x) ≡ false) × (get e.core.cut m ≡ Some b)
+      cut_on m b is false h = (not_under m (eqb-false n m h) (has s m (Some x)) refl, is)
+      cut_on m b is true h = absurd (let idle = cut_idle e.core numbered b m is in
+          let gone : cores.waiting e.core.queue n ≡ None = ap (cores.waiting e.core.queue) (eqb-true n m h) ∙ idle.0 in cc)
+
       grants_on : (m b : ℕ) → get e.core.granted m ≡ Some b → (t : Bool) → (n == m) ≡ t → (has s m (Some x) ≡ false) × (get e.core.granted m ≡ Some b)
       grants_on m b is false h = (not_under m (eqb-false n m h) (has s m (Some x)) refl, is)
       grants_on m b is true h = absurd (
@@ -247,6 +265,7 @@ module _ (st st' : Store) (next i s f n d k : ℕ) (x : FutureEntry) (e e' : Sem
           released = e'.released;
           forgotten = e'.forgotten;
           named = e'.named;
+          closed = e'.core.closed;
         });
     futures = remove (hall_of st next).futures f;
     permits = st'.permits;
@@ -254,7 +273,7 @@ module _ (st st' : Store) (next i s f n d k : ℕ) (x : FutureEntry) (e e' : Sem
   hall_left = λ j. record {
     semaphores = (semaphores_after st st' next (i + 1) s f e e' (Some x) None linked changes_left
         ∙ ap (λ p. insert (hall_of st next).semaphores s
-        (record { free = e'.core.free; queue = p; made = e'.made; released = e'.released; forgotten = e'.forgotten; named = e'.named }))
+        (record { free = e'.core.free; queue = p; made = e'.made; released = e'.released; forgotten = e'.forgotten; named = e'.named; closed = e'.core.closed }))
         (ap (queue_of st'.futures (i + 1) s) queue ∙ same_names e.core.queue (all_at e.core.queue numbered.apart)
         ∙ without_seen (who_of st.futures next s) f n e.core.queue all_named)) j;
     futures = futures_gone st st' next (i + 1) s f e e' (Some x) None linked changes_left refl j;

@@ -1,7 +1,11 @@
 pub mod Cores
 pub mod Names
+pub mod Stages
 pub mod Changes
+pub mod Seen
+pub mod MoveHalls
 pub mod PourHalls
+pub mod CutHalls
 pub mod Weighs
 pub mod Renumbered
 pub mod Keeping
@@ -16,6 +20,7 @@ pub mod PlaysAgain
 pub mod PlaysPours
 pub mod Left
 pub mod PlaysEnds
+pub mod PlaysCloses
 pub mod Standing
 pub mod Meets
 pub mod Lives
@@ -29,3 +34,4 @@ pub mod StandingSemaphores
 pub mod StandingFutures
 pub mod StandingPermits
 pub mod StandingWaits
+pub mod Turns

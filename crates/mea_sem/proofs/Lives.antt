@@ -11,7 +11,7 @@ use Rattle.mea_sem.specs.declared.entries.FutureEntry.{FutureEntry}
 use Rattle.mea_sem.specs.Entries.{ledger_of_entry}
 use Rattle.mea_sem.specs.Store.{Store, who_of, queue_of, semaphore_of, hall_of}
 use Rattle.mea_sem.specs.Kept.{IsKept}
-use Rattle.mea_sem.proofs.PourHalls.{seen_at}
+use Rattle.mea_sem.proofs.Seen.{seen_at}
 
 -- the debts of a queue are the same by name
 pub debts-seen : (m : FinMap nat_cmp FutureEntry) (b s : ℕ) (q : List (cores.Waiter ℕ × ℕ)) → debts (queue_of m b s q) ≡ cores.debts q

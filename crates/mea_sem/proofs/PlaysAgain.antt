@@ -15,9 +15,10 @@ use Rattle.mea_sem_core.specs.Core as cores
 use Rattle.mea_sem_core.specs.Calls.{Belongs, with_waker}
 use Rattle.mea_sem.specs.declared.entries.SemaphoreEntry.{SemaphoreEntry}
 use Rattle.mea_sem.specs.declared.entries.FutureEntry.{FutureEntry}
-use Rattle.mea_sem.specs.Store.{Store, is_under, has, name_of, who_of, queue_of, queue_in, semaphore_of, stage_of, stage_under, future_of, hall_of, IsOpen, IsOwned, IsNumbered, IsLinked}
+use Rattle.mea_sem.specs.Store.{Store, is_under, has, name_of, who_of, queue_of, core_in, semaphore_of, stage_of, stage_under, future_of, hall_of, IsOpen, IsOwned, IsNumbered, IsLinked}
 use Rattle.mea_sem.specs.Kept.{wakers_in, IsKept}
-use Rattle.mea_sem.proofs.Cores.{IsAt, all_at, all_by, waiting-with_waker, waker-with_waker, waker-with_waker_same, debts-with_waker, AreApart-with_waker}
+use Rattle.mea_sem.proofs.Cores.{IsAt, all_at, all_by, waiting-with_waker, waker-with_waker, waker-with_waker_same, debts-with_waker, AreApart-with_waker, only-with_waker}
+use Rattle.mea_sem.proofs.Stages.{cut_idle}
 use Rattle.mea_sem.proofs.Names.{name-owner, queue_of-same}
 use Rattle.mea_sem.proofs.Changes.{Changes, linked_after, semaphores_after, futures_put}
 use Rattle.mea_sem.proofs.Weighs.{weighs_future}
@@ -57,7 +58,9 @@ module _ (st st' : Store) (w sp next i s f v d m l : ℕ) (x : FutureEntry) (e :
     apart_from q free same = absurd (let here = under_m q same in cc)
 
     belongs_on : (b q : ℕ) → Belongs e.core (acquires.Queued b q) → Belongs woken_core (acquires.Queued b q)
-    belongs_on b q h = elim h [ inl granted ↦ inl granted | inr waits ↦ inr (waits.0, waiting-with_waker e.core.queue m v q ∙ waits.1) ]
+    belongs_on b q (inl (inl granted)) = inl (inl granted)
+    belongs_on b q (inl (inr waits)) = inl (inr (waits.0, waiting-with_waker e.core.queue m v q ∙ waits.1))
+    belongs_on b q (inr cut) = inr cut
 
     waits_now : (q b j : ℕ) → cores.waiting woken_core.queue q ≡ Some (b, j)
         → ((y : FutureEntry) × (Some x ≡ Some y) × (y.acquire ≡ acquires.Queued b q)) ⊎
@@ -92,7 +95,22 @@ module _ (st st' : Store) (w sp next i s f v d m l : ℕ) (x : FutureEntry) (e :
         record {
           apart = AreApart-with_waker e.core.queue m v old.apart;
           granted_apart = λ q waits. old.granted_apart q (λ none. waits (waiting-with_waker e.core.queue m v q ∙ none));
+          cut_apart = λ q some. let before = old.cut_apart q some in (waiting-with_waker e.core.queue m v q ∙ before.0, before.1);
+          closing = by_closed e.core.closed refl old.closing;
         }
+      where
+        by_closed : (b : Bool) → e.core.closed ≡ b → cores.CutsWhereClosed b e.core.queue e.core.cut → cores.CutsWhereClosed b woken_core.queue e.core.cut
+        by_closed true same h = only-with_waker e.core.queue m v h
+        by_closed false same h = h
+
+    -- nor is what is cut
+    not_cut : (q b : ℕ) → get e.core.cut q ≡ Some b → (t : Bool) → has s q (Some x) ≡ t → t ≡ false
+    not_cut q b is false h = refl
+    not_cut q b is true h = absurd (
+        let mine : is_under x.acquire q ≡ true = (and_parts (x.semaphore == s) (is_under x.acquire q) h).1 in
+        let same : m ≡ q = eqb-true m q (subst (λ a. is_under a q ≡ true) acquire mine) in
+        let idle = cut_idle e.core (k.linked.numbered s e there) b q is in
+        let gone : cores.waiting e.core.queue m ≡ None = ap (cores.waiting e.core.queue) same ∙ idle.0 in cc)
 
     waker_changes : Changes st st' next (i + 1) s f e waker_entry (Some x) (Some x)
     waker_changes = record {
@@ -105,11 +123,13 @@ module _ (st st' : Store) (w sp next i s f v d m l : ℕ) (x : FutureEntry) (e :
       was_of = λ y is. (let same : x ≡ y = cc in ap (λ (z : FutureEntry). z.semaphore) (sym same) ∙ mine);
       is_of = λ y is. (let same : x ≡ y = cc in ap (λ (z : FutureEntry). z.semaphore) (sym same) ∙ mine);
       home = λ y is. (let same : x ≡ y = cc in subst (λ (z : FutureEntry). Belongs woken_core z.acquire × IsOpen z.acquire) same
-          (subst (λ a. Belongs woken_core a × IsOpen a) (sym acquire) (inr (l, waiting-with_waker e.core.queue m v m ∙ waits), tt)));
+          (subst (λ a. Belongs woken_core a × IsOpen a) (sym acquire) (inl (inr (l, waiting-with_waker e.core.queue m v m ∙ waits)), tt)));
       kept = λ b q free belongs. belongs_on b q belongs;
       wakers = λ q free free_now. waker-with_waker e.core.queue m v q (apart_from q free);
       waits = waits_now;
       grants = λ q b is. (not_mine q b is (has s q (Some x)) refl, is);
+      cut = λ q b is. (not_cut q b is (has s q (Some x)) refl, is);
+      cuts = λ q free free_now. refl;
       alone = λ g q y z is apart there_too yours under under_too.
           (let same : x ≡ y = cc in apart
           (k.linked.apart f g q x z was there_too (mine ∙ sym yours) (ap (λ (t : FutureEntry). is_under t.acquire q) same ∙ under) under_too));
@@ -164,10 +184,10 @@ module _ (st st' : Store) (w sp next i s f v d m l : ℕ) (x : FutureEntry) (e :
           plain = x.plain;
           forgets = x.forgets;
           stage = (
-              ap (λ a. stage_of a (queue_in (get st'.semaphores x.semaphore))) acquire
-              ∙ ap (λ q. stage_under (cores.waker_under (queue_in (get st'.semaphores q)) m)) mine
-              ∙ ap (λ o. stage_under (cores.waker_under (queue_in o) m)) (semaphores s ∙ at_same s s (Some waker_entry) (get st.semaphores s) refl)
-              ∙ ap stage_under (waker-with_waker_same e.core.queue m v (d, l) waits)) j;
+              ap (λ a. stage_of a (core_in (get st'.semaphores x.semaphore))) acquire
+              ∙ ap (λ q. stage_of (acquires.Queued d m) (core_in (get st'.semaphores q))) mine
+              ∙ ap (λ o. stage_of (acquires.Queued d m) (core_in o)) (semaphores s ∙ at_same s s (Some waker_entry) (get st.semaphores s) refl)
+              ∙ ap (λ o. stage_under o (get e.core.cut m)) (waker-with_waker_same e.core.queue m v (d, l) waits)) j;
         }) in
         let before : get this_hall.futures f ≡ Some (future_of st.semaphores x) =
         get-seen (λ g z. future_of st.semaphores z) st.futures f ∙ ap (option_map (future_of st.semaphores)) was in
@@ -176,7 +196,7 @@ module _ (st st' : Store) (w sp next i s f v d m l : ℕ) (x : FutureEntry) (e :
         ((λ j. record {
           semaphores = (semaphores_after st st' next (i + 1) s f e waker_entry (Some x) (Some x) k.linked c
               ∙ ap (λ q. insert this_hall.semaphores s
-              (record { free = e.core.free; queue = q; made = e.made; released = e.released; forgotten = e.forgotten; named = e.named })) queue
+              (record { free = e.core.free; queue = q; made = e.made; released = e.released; forgotten = e.forgotten; named = e.named; closed = e.core.closed })) queue
               ∙ ap (λ z. z.semaphores) (as_it_was this_hall s (semaphore_of st.futures next s e) seen this_hall.permits)) j;
           futures = (futures_put st st' next (i + 1) s f e waker_entry (Some x) (Some x) k.linked c x refl ∙ ap (insert this_hall.futures f) future) j;
           permits = permits j;

@@ -1,25 +1,28 @@
 -- releases, and the ends of futures and permits
-use Rattle.std.proofs.Common.{◌≡◌, ℕ, ◌+◌, ◌-◌, ◌^◌, ◌<◌, ◌≤◌, ◌==◌, cond, List, [], length, refl, ap, sym, subst, ◌∙◌, arith, Option, Some, None}
+use Rattle.std.proofs.Common.{◌≡◌, ℕ, ◌+◌, ◌-◌, ◌^◌, ◌<◌, ◌≤◌, ◌==◌, cond, List, [], length, refl, ap, sym, subst, ◌∙◌, arith, Some, None}
 use Rattle.std.specs.Option.{option_map}
 use Rattle.std.specs.FinMap.{get, insert, remove}
 use Rattle.mea_base.specs.Queue.{granted_in}
 use Rattle.mea_base.proofs.NamedMaps.{get-seen}
 use Rattle.mea_sem_model.specs.declared.event.SemEvent.{SemEvent}
 use Rattle.mea_sem_model.specs.declared.event.SemEvent.TheVariants as events
-use Rattle.mea_sem_model.specs.Hall.{Hall, Future, Permit, Stage, New, Waiting, Granted, semaphore_at, queue_at, with_semaphore, lack_of}
+use Rattle.mea_sem_model.specs.Hall.{Hall, Future, Permit, Stage, New, Waiting, Granted, Cut, semaphore_at, queue_at, with_semaphore, lack_of}
 use Rattle.mea_sem_model.specs.Cause.{cause_of}
-use Rattle.mea_sem_model.specs.Step.{step, pouring, without_future, without_permit, without, leaving, released_to, end_future, end_permit, end_of}
+use Rattle.mea_sem_model.specs.Valid.{Fits}
+use Rattle.mea_base.specs.declared.answer.Answer.{Answer}
+use Rattle.mea_sem_model.specs.Step.{step, quietly, pouring, without_future, without_permit, without, leaving, released_to, end_permit, end_of}
 use Rattle.mea_sem_core.specs.declared.acquire.Acquire.TheVariants as acquires
 use Rattle.mea_sem_core.specs.Core as cores
 use Rattle.mea_sem_core.specs.Calls.{without_acquire}
 use Rattle.mea_sem.specs.declared.entries.SemaphoreEntry.{SemaphoreEntry}
 use Rattle.mea_sem.specs.declared.entries.FutureEntry.{FutureEntry}
-use Rattle.mea_sem.specs.Store.{Store, queue_of, semaphore_of, stage_under, hall_of}
-use Rattle.mea_sem.specs.Kept.{IsKept}
-use Rattle.mea_sem.proofs.Cores.{waker-none, waker-some, debts-without}
-use Rattle.mea_sem.proofs.PourHalls.{seen_at}
+use Rattle.mea_sem.specs.Store.{Store, queue_of, semaphore_of, hall_of}
+use Rattle.mea_sem.specs.Kept.{wakers_in, IsKept}
+use Rattle.mea_sem.proofs.Cores.{debts-without}
+use Rattle.mea_sem.proofs.Stages.{stage_granted, stage_cut, stage_waits}
+use Rattle.mea_sem.proofs.Seen.{seen_at}
 use Rattle.mea_sem.proofs.Still.{IsStill, still_queue, linked_still, queue_still, hall_still}
-use Rattle.mea_sem.proofs.Gone.{seen_future, Leaves, linked_gone, hall_gone, leaves_new, leaves_granted}
+use Rattle.mea_sem.proofs.Gone.{seen_future, Leaves, linked_gone, hall_gone, leaves_new, leaves_granted, leaves_cut}
 use Rattle.mea_sem.proofs.Left.{linked_left, hall_left, lack_left, wakers_without}
 use Rattle.mea_sem.proofs.Weighs.{Weighs, one, weighs_semaphore, weighs_lost_permit, weighs_lost_future}
 use Rattle.mea_sem.proofs.Keeping.{Plays, settled_as}
@@ -55,7 +58,7 @@ module _ (st st' : Store) (w w' sp' sp next i s n : ℕ) (e : SemaphoreEntry) (k
   plays_release small allowed semaphores futures permits held woken room =
       let e1 : SemaphoreEntry = released_entry in
       let st1 : Store = between st st' s e1 in
-      let still : IsStill e e1 = still_queue e e1 refl refl in
+      let still : IsStill e e1 = still_queue e e1 refl refl refl refl in
       let old = k.each s e there in
       let h1 : Hall = released_to h s n in
       let hall : hall_of st1 (i + 1) ≡ h1 =
@@ -88,7 +91,7 @@ module _ (st st' : Store) (w w' sp' sp next i s n : ℕ) (e : SemaphoreEntry) (k
   plays_end_permit p x mine is no_future allowed semaphores futures permits held woken room =
       let e1 : SemaphoreEntry = ended_entry x in
       let st1 : Store = between st st' s e1 in
-      let still : IsStill e e1 = still_queue e e1 refl refl in
+      let still : IsStill e e1 = still_queue e e1 refl refl refl refl in
       let old = k.each s e there in
       let h1 : Hall = without_permit h p in
       let counts = permit_counts st w sp next p x e k is (ap (get st.semaphores) mine ∙ there) in
@@ -123,38 +126,84 @@ module _ (st st' : Store) (w w' sp' sp next i s n : ℕ) (e : SemaphoreEntry) (k
     lost : (z : Stage) → get h.futures f ≡ Some (at_stage z) → Weighs h (without_future h f) s 0 0 (one x.plain) 0
     lost z is = subst (λ q. Weighs h (without_future h f) q 0 0 (one x.plain) 0) mine (weighs_lost_future h f (at_stage z) is)
 
-    pub plays_end_new : x.acquire ≡ acquires.New d → cause_of h (events.End f) ≡ None
+    -- it was paid nothing: the core is c1 after it, and the event gives this
+    module _ (event : SemEvent) (fits : Fits event) (allowed : cause_of h event ≡ None) (reply : Answer) (z : Stage) (c1 : cores.Core ℕ)
+        (live : c1.live ≡ e.core.live) (queue : c1.queue ≡ e.core.queue) (quiet : c1.wakes ≡ e.core.wakes) (frees : c1.free ≡ e.core.free)
+        (closed : c1.closed ≡ e.core.closed) (held : cores.held_of c1 ≡ cores.held_of e.core) where
+      abbrev pub unpaid_entry : SemaphoreEntry
+      unpaid_entry = record e { core = c1; plain = e.plain - one x.plain }
+
+      pub plays_unpaid : get h.futures f ≡ Some (at_stage z) → step h i event ≡ quietly (without_future h f) reply
+          → Leaves st st' s f x e unpaid_entry
+          → ((q : ℕ) → get st'.semaphores q ≡ cond (s == q) (Some unpaid_entry) (get st.semaphores q))
+          → PlaysWith st st' next i event w sp []
+      plays_unpaid is outcome c semaphores =
+          let counts = future_counts st w sp next f (at_stage z) e k is home in
+          let old = k.each s e there in
+          record {
+            plays = settled_as st st' w sp next i s event e unpaid_entry k less low fits allowed (without_future h f) (ap (λ o. o.hall) outcome)
+                w sp 0 0 (one x.plain) 0 there semaphores
+                (hall_gone st st' next i s f x e unpaid_entry k.linked less c
+                ∙ (λ j. record {
+                  semaphores = insert h.semaphores s
+                      (record {
+                        free = frees j;
+                        queue = queue_of st.futures next s e.core.queue;
+                        made = e.made;
+                        released = e.released;
+                        forgotten = e.forgotten;
+                        named = e.named;
+                        closed = closed j;
+                      });
+                  futures = remove h.futures f;
+                  permits = permits j;
+                })
+                ∙ (λ j. record {
+                  semaphores = (as_it_was h s (semaphore_of st.futures next s e) seen_there h.permits j).semaphores;
+                  futures = remove h.futures f;
+                  permits = h.permits;
+                }))
+                (linked_gone st st' next i s f x e unpaid_entry k.linked less c)
+                (lost z is)
+                (record {
+                  account = (let o = old.account in let d : cores.debts c1.queue ≡ cores.debts e.core.queue = ap cores.debts queue in omega (arith, o, d, live));
+                  held = omega (arith, held);
+                  plain = omega (arith, counts);
+                  few = omega arith;
+                  quiet = quiet ∙ old.quiet;
+                  released = omega arith;
+                  forgotten = omega arith;
+                })
+                (ap (λ q. w + wakers_in q) (sym queue)) k.room (let f = k.few in omega (arith, f));
+            wakes = ap (λ o. o.wakes) outcome;
+          }
+
+    -- it was never polled
+    pub plays_gone_new : (event : SemEvent) (reply : Answer) → Fits event → cause_of h event ≡ None → x.acquire ≡ acquires.New d
+        → (get h.futures f ≡ Some (at_stage New) → step h i event ≡ quietly (without_future h f) reply)
         → ((q : ℕ) → get st'.semaphores q ≡ cond (s == q) (Some fewer_entry) (get st.semaphores q))
-        → PlaysWith st st' next i (events.End f) w sp []
-    plays_end_new acquire allowed semaphores =
-        let c : Leaves st st' s f x e fewer_entry = leaves_new st st' s f d x e fewer_entry there semaphores was futures mine acquire refl refl in
+        → PlaysWith st st' next i event w sp []
+    plays_gone_new event reply fits allowed acquire outcome semaphores =
+        let c : Leaves st st' s f x e fewer_entry =
+        leaves_new st st' next s f x e fewer_entry k.linked there semaphores was futures mine refl refl d acquire refl refl in
         let is : get h.futures f ≡ Some (at_stage New) = seen_future st next f x e (acquires.New d) New was home acquire refl in
-        let outcome : step h i (events.End f) ≡ end_future h f (at_stage New) New = ap (end_of h f) is in
-        let counts = future_counts st w sp next f (at_stage New) e k is home in
-        let old = k.each s e there in
-        record {
-          plays = settled_as st st' w sp next i s (events.End f) e fewer_entry k less low tt allowed (without_future h f) (ap (λ o. o.hall) outcome)
-              w sp 0 0 (one x.plain) 0 there semaphores
-              (hall_gone st st' next i s f x e fewer_entry k.linked less c
-              ∙ (λ j. record {
-                semaphores = (as_it_was h s (semaphore_of st.futures next s e) seen_there h.permits j).semaphores;
-                futures = remove h.futures f;
-                permits = permits j;
-              }))
-              (linked_gone st st' next i s f x e fewer_entry k.linked less c)
-              (lost New is)
-              (record {
-                account = old.account;
-                held = refl;
-                plain = omega (arith, counts);
-                few = omega arith;
-                quiet = old.quiet;
-                released = omega arith;
-                forgotten = omega arith;
-              })
-              refl k.room (let f = k.few in omega (arith, f));
-          wakes = ap (λ o. o.wakes) outcome;
-        }
+        plays_unpaid event fits allowed reply New e.core refl refl refl refl refl refl is (outcome is) c semaphores
+
+    -- it was cut, under the number m
+    abbrev pub uncut_core : ℕ → cores.Core ℕ
+    uncut_core m = record e.core { cut = remove e.core.cut m }
+
+    pub plays_gone_cut : (event : SemEvent) (reply : Answer) (m : ℕ) → Fits event → cause_of h event ≡ None → x.acquire ≡ acquires.Queued d m
+        → get e.core.cut m ≡ Some d
+        → (get h.futures f ≡ Some (at_stage Cut) → step h i event ≡ quietly (without_future h f) reply)
+        → ((q : ℕ) → get st'.semaphores q ≡ cond (s == q) (Some (record e { core = uncut_core m; plain = e.plain - one x.plain })) (get st.semaphores q))
+        → PlaysWith st st' next i event w sp []
+    plays_gone_cut event reply m fits allowed acquire cut outcome semaphores =
+        let e1 : SemaphoreEntry = record e { core = uncut_core m; plain = e.plain - one x.plain } in
+        let c : Leaves st st' s f x e e1 = leaves_cut st st' next s f x e e1 k.linked there semaphores was futures mine refl refl d m acquire cut refl refl in
+        let is : get h.futures f ≡ Some (at_stage Cut) = seen_future st next f x e (acquires.Queued d m) Cut was home acquire
+        (stage_cut e.core (k.linked.numbered s e there) d m cut) in
+        plays_unpaid event fits allowed reply Cut (uncut_core m) refl refl refl refl refl refl is (outcome is) c semaphores
 
     -- ---- a future ends that was granted
     abbrev pub ungranted_entry : ℕ → SemaphoreEntry
@@ -168,11 +217,10 @@ module _ (st st' : Store) (w w' sp' sp next i s n : ℕ) (e : SemaphoreEntry) (k
     plays_end_granted m acquire granted within allowed semaphores held woken room =
         let e1 : SemaphoreEntry = ungranted_entry m in
         let st1 : Store = between st st' s e1 in
-        let c : Leaves st st1 s f x e e1 = leaves_granted st st1 next s f d m x e e1 k.linked there (between_at st st' s e1)
-        was futures mine acquire granted refl refl in
-        let none : cores.waiting e.core.queue m ≡ None = not_waiting m d granted (cores.waiting e.core.queue m) refl in
+        let c : Leaves st st1 s f x e e1 = leaves_granted st st1 next s f x e e1 k.linked there (between_at st st' s e1)
+        was futures mine refl refl d m acquire granted refl refl in
         let is : get h.futures f ≡ Some (at_stage Granted) = seen_future st next f x e (acquires.Queued d m) Granted was home acquire
-        (ap stage_under (waker-none e.core.queue m none)) in
+        (stage_granted e.core (k.linked.numbered s e there) d m granted) in
         let h1 : Hall = without_future h f in
         let outcome : step h i (events.End f) ≡ pouring h1 s d = ap (end_of h f) is ∙ ap (λ q. pouring h1 q d) mine in
         let hall : hall_of st1 (i + 1) ≡ h1 = hall_gone st st1 next i s f x e e1 k.linked less c
@@ -191,12 +239,6 @@ module _ (st st' : Store) (w w' sp' sp next i s n : ℕ) (e : SemaphoreEntry) (k
               (omega arith) refl woken room (let f = k.few in omega (arith, f));
           wakes = ap (λ o. o.wakes) outcome ∙ wakes_poured st st' w sp next i s d (events.End f) e e1 k less low there semaphores h1 hall linked;
         }
-      where
-        not_waiting : (m d : ℕ) → get e.core.granted m ≡ Some d → (o : Option (ℕ × ℕ)) → cores.waiting e.core.queue m ≡ o → o ≡ None
-        not_waiting m d granted None is = refl
-        not_waiting m d granted (Some p) is = absurd
-            (let none : get e.core.granted m ≡ None = (k.linked.numbered s e there).granted_apart m
-            (λ t. absurd (let no : Some p ≡ None = sym is ∙ t in cc)) in cc)
 
     -- ---- a future ends that waits
     abbrev pub unqueued_entry : ℕ → ℕ → SemaphoreEntry
@@ -215,11 +257,11 @@ module _ (st st' : Store) (w w' sp' sp next i s n : ℕ) (e : SemaphoreEntry) (k
         let e1 : SemaphoreEntry = unqueued_entry m l in
         let st1 : Store = between st st' s e1 in
         let numbered = k.linked.numbered s e there in
-        let v = waker-some e.core.queue m (d, l) waits in
+        let v = stage_waits e.core numbered d m l waits in
         let is : get h.futures f ≡ Some (at_stage (Waiting v.0)) =
-        seen_future st next f x e (acquires.Queued d m) (Waiting v.0) was home acquire (ap stage_under v.1) in
+        seen_future st next f x e (acquires.Queued d m) (Waiting v.0) was home acquire v.1 in
         let lack : lack_of (queue_of st.futures next s e.core.queue) f ≡ l =
-        lack_left st st1 next i s f m d l x e e1 k.linked less there (between_at st st' s e1) was futures mine acquire waits refl refl in
+        lack_left st st1 next i s f m d l x e e1 k.linked less there (between_at st st' s e1) was futures mine acquire waits refl refl refl refl in
         let h1 : Hall = leaving h f (at_stage (Waiting v.0)) in
         let outcome : step h i (events.End f) ≡ pouring h1 s (d - l) =
         ap (end_of h f) is
@@ -227,14 +269,14 @@ module _ (st st' : Store) (w w' sp' sp next i s n : ℕ) (e : SemaphoreEntry) (k
         ∙ ap (λ r. pouring h1 s (d - lack_of r.queue f)) seen
         ∙ ap (λ j. pouring h1 s (d - j)) lack in
         let hall : hall_of st1 (i + 1) ≡ h1 =
-        hall_left st st1 next i s f m d l x e e1 k.linked less there (between_at st st' s e1) was futures mine acquire waits refl refl
+        hall_left st st1 next i s f m d l x e e1 k.linked less there (between_at st st' s e1) was futures mine acquire waits refl refl refl refl
         ∙ (λ j. record {
           semaphores = insert h.semaphores s (record (sym seen j) { queue = without (sym seen j).queue f });
           futures = remove h.futures f;
           permits = permits j;
         })
         ∙ ap (λ q. without_future (with_semaphore h q (record (semaphore_at h q) { queue = without (queue_at h q) f })) f) (sym mine) in
-        let linked = linked_left st st1 next i s f m d l x e e1 k.linked less there (between_at st st' s e1) was futures mine acquire waits refl refl in
+        let linked = linked_left st st1 next i s f m d l x e e1 k.linked less there (between_at st st' s e1) was futures mine acquire waits refl refl refl refl in
         let counts = future_counts st w sp next f (at_stage (Waiting v.0)) e k is home in
         let old = k.each s e there in
         let left = wakers_without e.core.queue m d l numbered.apart waits in

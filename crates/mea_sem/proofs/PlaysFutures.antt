@@ -1,7 +1,8 @@
 -- futures that are made, and begin to wait
 use Rattle.std.proofs.Common.{◌≡◌, ◌≢◌, ◌⊎◌, inl, inr, ℕ, ◌+◌, ◌-◌, ◌^◌, ◌<◌, ◌≤◌, ◌==◌, ◌&&◌, ◌++◌, Bool, true, false, cond, List, [], ◌∷◌, refl, ap, sym, subst, ◌∙◌, arith, Option, Some, None}
 use Rattle.std.specs.Option.{option_map}
-use Rattle.std.specs.FinMap.{get, insert}
+use Rattle.std.specs.Ordering.{nat_cmp}
+use Rattle.std.specs.FinMap.{get, insert, empty, get-empty}
 use Rattle.std.proofs.lemmas.Bool.{eqb-true, eqb-false, eq-eqb, and_from}
 use Rattle.mea_base.proofs.Tests.{at_same, at_apart}
 use Rattle.mea_base.proofs.NamedMaps.{get-seen}
@@ -17,11 +18,11 @@ use Rattle.mea_sem_core.specs.Core as cores
 use Rattle.mea_sem_core.specs.Calls.{Belongs}
 use Rattle.mea_sem.specs.declared.entries.SemaphoreEntry.{SemaphoreEntry}
 use Rattle.mea_sem.specs.declared.entries.FutureEntry.{FutureEntry}
-use Rattle.mea_sem.specs.Store.{Store, is_under, has, name_of, who_of, queue_of, queue_in, semaphore_of, stage_under, future_of, hall_of, IsOpen, IsNumbered}
+use Rattle.mea_sem.specs.Store.{Store, is_under, has, name_of, who_of, queue_of, core_in, semaphore_of, stage_of, stage_under, future_of, hall_of, IsOpen, IsNumbered}
 use Rattle.mea_sem.specs.Kept.{wakers_in, IsKept}
 use Rattle.mea_sem.proofs.Cores.{waiting-push, waker-push, debts-push, AreApart-push}
 use Rattle.mea_sem.proofs.Names.{has-from, name-has}
-use Rattle.mea_sem.proofs.PourHalls.{seen_at}
+use Rattle.mea_sem.proofs.Seen.{seen_at}
 use Rattle.mea_sem.proofs.Still.{no_future}
 use Rattle.mea_sem.proofs.Changes.{Changes, linked_after, queue_kept, semaphores_after, futures_put}
 use Rattle.mea_sem.proofs.Weighs.{one, weighs_new_future, weighs_future}
@@ -62,6 +63,8 @@ module _ (st st' : Store) (w sp next i s n : ℕ) (e : SemaphoreEntry) (k : IsKe
     wakers = λ m free free_now. refl;
     waits = λ m d l is. inr (refl, (l, is));
     grants = λ m d is. (refl, is);
+    cut = λ m d is. (refl, is);
+    cuts = λ m free free_now. refl;
     alone = λ g m x y is apart there_too mine under.
         (let same : made_future plain forgets ≡ x = cc in let never : is_under (acquires.New n) m ≡ true = ap
         (λ (z : FutureEntry). is_under z.acquire m) same ∙ under in cc);
@@ -87,7 +90,7 @@ module _ (st st' : Store) (w sp next i s n : ℕ) (e : SemaphoreEntry) (k : IsKe
       ((λ j. record {
         semaphores = (semaphores_after st st' next (i + 1) s i e e' None (Some x) k.linked c
             ∙ ap (λ q. insert h.semaphores s
-            (record { free = e.core.free; queue = q; made = e.made; released = e.released; forgotten = e.forgotten; named = e.named }))
+            (record { free = e.core.free; queue = q; made = e.made; released = e.released; forgotten = e.forgotten; named = e.named; closed = e.core.closed }))
             (queue_kept st st' next (i + 1) s i e e' None (Some x) k.linked c (λ m d l is. refl))
             ∙ ap (λ z. z.semaphores) (as_it_was h s (semaphore_of st.futures next s e) seen h.permits)) j;
         futures = futures_put st st' next (i + 1) s i e e' None (Some x) k.linked c x refl j;
@@ -128,7 +131,7 @@ module _ (st st' : Store) (w sp sp' next i s f v d m : ℕ) (x : FutureEntry) (e
   module _ (there : get st.semaphores s ≡ Some e)
       (semaphores : (q : ℕ) → get st'.semaphores q ≡ cond (s == q) (Some queued_entry) (get st.semaphores q)) (was : get st.futures f ≡ Some x)
       (futures : (g : ℕ) → get st'.futures g ≡ cond (f == g) (Some queued_future) (get st.futures g)) (permits : st'.permits ≡ st.permits)
-      (not_waiting : cores.waiting e.core.queue m ≡ None) (not_granted : get e.core.granted m ≡ None) where
+      (not_waiting : cores.waiting e.core.queue m ≡ None) (not_granted : get e.core.granted m ≡ None) (open_still : e.core.closed ≡ false) where
     never_under : (q : ℕ) → has s q (Some x) ≡ false
     never_under q = ap (λ a. (x.semaphore == s) && is_under a q) acquire ∙ both_false (x.semaphore == s)
       where
@@ -136,11 +139,20 @@ module _ (st st' : Store) (w sp sp' next i s f v d m : ℕ) (x : FutureEntry) (e
         both_false true = refl
         both_false false = refl
 
+    -- no number of an open semaphore was cut
+    none_cut : e.core.cut ≡ empty
+    none_cut = subst (λ b. cores.CutsWhereClosed b e.core.queue e.core.cut) open_still (k.linked.numbered s e there).closing
+
+    never_cut : (q : ℕ) → get e.core.cut q ≡ None
+    never_cut q = ap (λ g. get g q) none_cut ∙ get-empty nat_cmp q
+
     -- nobody else has a fresh number
     fresh : (a : Acquire) → Belongs e.core a → is_under a m ≡ true → ⊥
     fresh (acquires.New b) h under = absurd (cc)
     fresh (acquires.Done b) h under = absurd (cc)
-    fresh (acquires.Queued b q) h under =
+    fresh (acquires.Refused b) h under = absurd (cc)
+    fresh (acquires.Queued b q) (inr cut) under = absurd (let none = never_cut q in let some = cut.1 in cc)
+    fresh (acquires.Queued b q) (inl h) under =
         let same : q ≡ m = eqb-true q m under in
         elim h [
           | inl granted ↦ absurd (let none : get e.core.granted q ≡ None = ap (get e.core.granted) same ∙ not_granted in cc)
@@ -158,15 +170,16 @@ module _ (st st' : Store) (w sp sp' next i s f v d m : ℕ) (x : FutureEntry) (e
         fresh z.acquire (subst (λ (u : SemaphoreEntry). Belongs u.core z.acquire) core home.belongs) (ap (is_under z.acquire) same ∙ under_too)
 
     belongs_on : (b q : ℕ) → Belongs e.core (acquires.Queued b q) → Belongs queued_core (acquires.Queued b q)
-    belongs_on b q h = elim h [
-      | inl granted ↦ inl granted
-      | inr waits ↦ inr (
+    belongs_on b q (inr cut) = inr cut
+    belongs_on b q (inl h) = elim h [
+      | inl granted ↦ inl (inl granted)
+      | inr waits ↦ inl (inr (
         waits.0,
         waiting-push e.core.queue m d v (d - e.core.free) q not_waiting
             ∙ at_apart m q (Some (d, d - e.core.free)) (cores.waiting e.core.queue q)
             (λ same. absurd (let none : cores.waiting e.core.queue q ≡ None = ap (cores.waiting e.core.queue) (sym same) ∙ not_waiting in
             let some = waits.1 in cc)) ∙ waits.1,
-      )
+      ))
     ]
 
     waits_now : (q b l : ℕ) → cores.waiting queued_core.queue q ≡ Some (b, l)
@@ -183,7 +196,12 @@ module _ (st st' : Store) (w sp sp' next i s f v d m : ℕ) (x : FutureEntry) (e
     numbered_now : IsNumbered queued_core
     numbered_now =
         let old : IsNumbered e.core = k.linked.numbered s e there in
-        record { apart = AreApart-push e.core.queue m d v (d - e.core.free) not_waiting old.apart; granted_apart = λ q waits. by_test q waits (m == q) refl }
+        record {
+          apart = AreApart-push e.core.queue m d v (d - e.core.free) not_waiting old.apart;
+          granted_apart = λ q waits. by_test q waits (m == q) refl;
+          cut_apart = λ q some. absurd (some (never_cut q));
+          closing = subst (λ b. cores.CutsWhereClosed b queued_core.queue e.core.cut) (sym open_still) none_cut;
+        }
       where
         by_test : (q : ℕ) → cores.waiting queued_core.queue q ≢ None → (t : Bool) → (m == q) ≡ t → get e.core.granted q ≡ None
         by_test q waits true h = ap (get e.core.granted) (sym (eqb-true m q h)) ∙ not_granted
@@ -205,11 +223,11 @@ module _ (st st' : Store) (w sp sp' next i s f v d m : ℕ) (x : FutureEntry) (e
       was_of = λ y is. (let same : x ≡ y = cc in ap (λ (z : FutureEntry). z.semaphore) (sym same) ∙ mine);
       is_of = λ y is. (let same : queued_future ≡ y = cc in ap (λ (z : FutureEntry). z.semaphore) (sym same) ∙ mine);
       home = λ y is. (let same : queued_future ≡ y = cc in subst (λ (z : FutureEntry). Belongs queued_core z.acquire × IsOpen z.acquire) same (
-        inr (
+        inl (inr (
           d - e.core.free,
           waiting-push e.core.queue m d v (d - e.core.free) m not_waiting
               ∙ at_same m m (Some (d, d - e.core.free)) (cores.waiting e.core.queue m) refl,
-        ),
+        )),
         tt,
       ));
       kept = λ b q free belongs. belongs_on b q belongs;
@@ -217,6 +235,8 @@ module _ (st st' : Store) (w sp sp' next i s f v d m : ℕ) (x : FutureEntry) (e
           ∙ at_apart m q (Some v) (cores.waker_under e.core.queue q) (number_test q free_now);
       waits = waits_now;
       grants = λ q b is. (never_under q, is);
+      cut = λ q b is. (never_under q, is);
+      cuts = λ q free free_now. refl;
       alone = alone_now;
       numbered = numbered_now;
     }
@@ -259,9 +279,9 @@ module _ (st st' : Store) (w sp sp' next i s f v d m : ℕ) (x : FutureEntry) (e
           plain = x.plain;
           forgets = x.forgets;
           stage = (
-              ap (λ q. stage_under (cores.waker_under (queue_in (get st'.semaphores q)) m)) mine
-              ∙ ap (λ o. stage_under (cores.waker_under (queue_in o) m)) (semaphores s ∙ at_same s s (Some queued_entry) (get st.semaphores s) refl)
-              ∙ ap stage_under (waker-push e.core.queue m d v (d - e.core.free) m not_waiting
+              ap (λ q. stage_of (acquires.Queued d m) (core_in (get st'.semaphores q))) mine
+              ∙ ap (λ o. stage_of (acquires.Queued d m) (core_in o)) (semaphores s ∙ at_same s s (Some queued_entry) (get st.semaphores s) refl)
+              ∙ ap (λ o. stage_under o (get e.core.cut m)) (waker-push e.core.queue m d v (d - e.core.free) m not_waiting
               ∙ at_same m m (Some v) (cores.waker_under e.core.queue m) refl)) j;
         }) in
         let before : get hall.futures f ≡ Some (future_of st.semaphores x) =
@@ -270,7 +290,7 @@ module _ (st st' : Store) (w sp sp' next i s f v d m : ℕ) (x : FutureEntry) (e
         ((λ j. record {
           semaphores = (semaphores_after st st' next (i + 1) s f e queued_entry (Some x) (Some queued_future) k.linked c
               ∙ ap (λ q. insert hall.semaphores s
-              (record { free = 0; queue = q; made = e.made; released = e.released; forgotten = e.forgotten; named = e.named })) queue) j;
+              (record { free = 0; queue = q; made = e.made; released = e.released; forgotten = e.forgotten; named = e.named; closed = e.core.closed })) queue) j;
           futures = (futures_put st st' next (i + 1) s f e queued_entry (Some x) (Some queued_future) k.linked c queued_future refl
               ∙ ap (insert hall.futures f) future) j;
           permits = permits j;

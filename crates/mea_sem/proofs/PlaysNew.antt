@@ -2,7 +2,7 @@
 use Rattle.std.proofs.Common.{◌≡◌, ℕ, ◌+◌, ◌^◌, ◌<◌, ◌≤◌, ◌==◌, ◌&&◌, Bool, true, false, cond, [], refl, ap, sym, subst, ◌∙◌, arith, Option, Some, None, is_some}
 use Rattle.std.specs.Option.{IsSome, option_map}
 use Rattle.std.specs.Ordering.{nat_cmp}
-use Rattle.std.specs.FinMap.{get, insert, empty, get-empty}
+use Rattle.std.specs.FinMap.{FinMap, get, insert, empty, get-empty}
 use Rattle.std.proofs.lemmas.Bool.{eqb-true, eqb-false}
 use Rattle.mea_base.specs.Totals.{total, weight}
 use Rattle.mea_base.proofs.NamedMaps.{same_named, get-seen}
@@ -17,13 +17,13 @@ use Rattle.mea_sem_core.specs.Core as cores
 use Rattle.mea_sem_core.specs.Acquire.{demand_of}
 use Rattle.mea_sem.specs.declared.entries.SemaphoreEntry.{SemaphoreEntry}
 use Rattle.mea_sem.specs.declared.entries.FutureEntry.{FutureEntry}
-use Rattle.mea_sem.specs.Store.{Store, semaphore_of, stage_of, queue_in, future_of, hall_of, IsHome, IsOwned, IsNumbered, IsLinked}
+use Rattle.mea_sem.specs.Store.{Store, semaphore_of, stage_of, core_in, future_of, hall_of, IsHome, IsOwned, IsNumbered, IsLinked}
 use Rattle.mea_sem.specs.Kept.{wakers_in, IsKeptEntry, IsKept}
 use Rattle.mea_sem.proofs.Renumbered.{hall_renumbered}
 use Rattle.mea_sem.proofs.Keeping.{Plays}
 
 abbrev pub fresh_core : ℕ → cores.Core ℕ
-fresh_core n = record { free = n; live = n; queue = []; granted = empty; wakes = [] }
+fresh_core n = record { free = n; live = n; queue = []; granted = empty; cut = empty; closed = false; wakes = [] }
 
 abbrev pub fresh_entry : ℕ → SemaphoreEntry
 fresh_entry n = record { core = fresh_core n; made = n; released = 0; forgotten = 0; named = true; plain = 0 }
@@ -100,7 +100,8 @@ module _ (st : Store) (w sp next i : ℕ) (k : IsKept st w sp next) (less : next
             open_still = h.open_still;
           });
       owned = λ q e m d l is waits. owned_at q e m d l is waits (i == q) refl;
-      granted = λ q e m d is grants. granted_at q e m d is grants (i == q) refl;
+      granted = λ q e m d is grants. placed_at (λ c. c.granted) refl k.linked.granted q e m d is grants (i == q) refl;
+      cut = λ q e m d is cut. placed_at (λ c. c.cut) refl k.linked.cut q e m d is cut (i == q) refl;
       apart = λ f g m x y isx isy. k.linked.apart f g m x y (back f x isx) (back g y isy);
       below = λ f x is. (let small = k.linked.below f x (back f x is) in omega arith);
       numbered = λ q e is. numbered_at q e is (i == q) refl;
@@ -115,19 +116,21 @@ module _ (st : Store) (w sp next i : ℕ) (k : IsKept st w sp next) (less : next
             let o = k.linked.owned q e m d l (sym (semaphore_other q (eqb-false i q h)) ∙ is) waits in
             record { name = o.name; entry = o.entry; there = ap (λ x. get x o.name) futures ∙ o.there; semaphore = o.semaphore; acquire = o.acquire }
 
-        granted_at : (q : ℕ) (e : SemaphoreEntry) (m d : ℕ) → get st'.semaphores q ≡ Some e → get e.core.granted m ≡ Some d → (t : Bool)
+        placed_at : (pairs : cores.Core ℕ → FinMap nat_cmp ℕ) → pairs (fresh_core n) ≡ empty
+            → ((q : ℕ) (x : SemaphoreEntry) (m d : ℕ) → get st.semaphores q ≡ Some x → get (pairs x.core) m ≡ Some d → IsOwned st q m d)
+            → (q : ℕ) (e : SemaphoreEntry) (m d : ℕ) → get st'.semaphores q ≡ Some e → get (pairs e.core) m ≡ Some d → (t : Bool)
             → (i == q) ≡ t → IsOwned st' q m d
-        granted_at q e m d is grants true h = absurd
+        placed_at pairs nothing owned q e m d is placed true h = absurd
             (let same = semaphore_here q e (eqb-true i q h) is in
-            let none : get (fresh_core n).granted m ≡ Some d = ap (λ (x : SemaphoreEntry). get x.core.granted m) same ∙ grants in
-            let nothing = get-empty {X = ℕ} nat_cmp m in cc)
-        granted_at q e m d is grants false h =
-            let o = k.linked.granted q e m d (sym (semaphore_other q (eqb-false i q h)) ∙ is) grants in
+            let some : get (pairs (fresh_core n)) m ≡ Some d = ap (λ (x : SemaphoreEntry). get (pairs x.core) m) same ∙ placed in
+            let none : get (pairs (fresh_core n)) m ≡ None = ap (λ g. get g m) nothing ∙ get-empty {X = ℕ} nat_cmp m in cc)
+        placed_at pairs nothing owned q e m d is placed false h =
+            let o = owned q e m d (sym (semaphore_other q (eqb-false i q h)) ∙ is) placed in
             record { name = o.name; entry = o.entry; there = ap (λ x. get x o.name) futures ∙ o.there; semaphore = o.semaphore; acquire = o.acquire }
 
         numbered_at : (q : ℕ) (e : SemaphoreEntry) → get st'.semaphores q ≡ Some e → (t : Bool) → (i == q) ≡ t → IsNumbered e.core
         numbered_at q e is true h = subst (λ (x : SemaphoreEntry). IsNumbered x.core) (semaphore_here q e (eqb-true i q h) is)
-            (record { apart = tt; granted_apart = λ m waits. absurd (waits refl) })
+            (record { apart = tt; granted_apart = λ m waits. absurd (waits refl); cut_apart = λ m some. absurd (some (get-empty nat_cmp m)); closing = refl })
         numbered_at q e is false h = k.linked.numbered q e (sym (semaphore_other q (eqb-false i q h)) ∙ is)
 
     -- the hall after it
@@ -159,7 +162,7 @@ module _ (st : Store) (w sp next i : ℕ) (k : IsKept st w sp next) (less : next
               demand = demand_of x.acquire;
               plain = x.plain;
               forgets = x.forgets;
-              stage = stage_of x.acquire (queue_in (semaphore_other x.semaphore (not_there x.semaphore h.entry h.there) j));
+              stage = stage_of x.acquire (core_in (semaphore_other x.semaphore (not_there x.semaphore h.entry h.there) j));
             })
 
     hall_now : hall_of st' (i + 1) ≡ with_semaphore (hall_of st next) i (made_with n)

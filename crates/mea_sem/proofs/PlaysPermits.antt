@@ -1,5 +1,5 @@
 -- events that make, change and end permits, and give nothing back
-use Rattle.std.proofs.Common.{◌≡◌, ℕ, ◌+◌, ◌-◌, ◌^◌, ◌<◌, ◌≤◌, ◌==◌, Bool, true, false, cond, nat_le, refl, ap, sym, subst, ◌∙◌, arith, Option, Some, None, is_some, if◌then◌else◌}
+use Rattle.std.proofs.Common.{◌≡◌, ℕ, ◌+◌, ◌-◌, ◌^◌, ◌<◌, ◌≤◌, ◌==◌, ◌&&◌, not, Bool, true, false, cond, nat_le, refl, ap, sym, subst, ◌∙◌, arith, Option, Some, None, is_some, if◌then◌else◌}
 use Rattle.std.specs.Ordering.{nat_cmp}
 use Rattle.std.specs.FinMap.{FinMap, get, insert, remove}
 use Rattle.std.proofs.lemmas.Bool.{le-leb, eqb-true}
@@ -10,15 +10,15 @@ use Rattle.mea_base.proofs.Totals.{get_removed, get_inserted}
 use Rattle.mea_base.proofs.Tests.{at_same, at_apart}
 use Rattle.mea_sem_model.specs.declared.event.SemEvent.{SemEvent}
 use Rattle.mea_sem_model.specs.declared.event.SemEvent.TheVariants as events
-use Rattle.mea_sem_model.specs.Hall.{Hall, Semaphore, Permit, semaphore_at, with_semaphore, free, held}
+use Rattle.mea_sem_model.specs.Hall.{Hall, Semaphore, Permit, semaphore_at, with_semaphore, held}
 use Rattle.mea_sem_model.specs.Cause.{cause_of}
 use Rattle.mea_sem_model.specs.Valid.{Fits}
-use Rattle.mea_sem_model.specs.Step.{step, quietly, taking, with_permit, without_permit, try_of, lose_of, merge_of, split_of}
+use Rattle.mea_sem_model.specs.Step.{step, quietly, taking, with_permit, without_permit, offers, try_of, lose_of, merge_of, split_of}
 use Rattle.mea_sem_core.specs.Core as cores
 use Rattle.mea_sem.specs.declared.entries.SemaphoreEntry.{SemaphoreEntry}
 use Rattle.mea_sem.specs.Store.{Store, queue_of, semaphore_of, hall_of}
 use Rattle.mea_sem.specs.Kept.{IsKept}
-use Rattle.mea_sem.proofs.PourHalls.{seen_at}
+use Rattle.mea_sem.proofs.Seen.{seen_at}
 use Rattle.mea_sem.proofs.Still.{IsStill, still_queue, linked_still, queue_still, hall_still}
 use Rattle.mea_sem.proofs.Weighs.{Weighs, one, weighs_after, weighs_as, weighs_new_permit, weighs_permit, weighs_lost_permit}
 use Rattle.mea_sem.proofs.Keeping.{Plays, settled_as}
@@ -91,17 +91,17 @@ module _ (st st' : Store) (w sp next i s n : ℕ) (e : SemaphoreEntry) (k : IsKe
 
   pub plays_try : (event : SemEvent) (plain : Bool) → Fits event → cause_of (hall_of st next) event ≡ None
       → (step (hall_of st next) i event).hall ≡ (try_of (hall_of st next) i s n plain).hall
-      → n ≤ e.core.free → Puts st st' s e (taken_entry plain) → st'.permits ≡ insert st.permits i (record { semaphore = s; size = n; plain = plain })
+      → e.core.closed ≡ false → n ≤ e.core.free → Puts st st' s e (taken_entry plain) → st'.permits ≡ insert st.permits i (record { semaphore = s; size = n; plain = plain })
       → cores.held_of (record e.core { free = e.core.free - n }) ≡ cores.held_of e.core + n
       → Plays st st' next i event w sp
-  plays_try event plain fits allowed is enough c permits held =
+  plays_try event plain fits allowed is open_still enough c permits held =
       let e' : SemaphoreEntry = taken_entry plain in
-      let still : IsStill e e' = still_queue e e' refl refl in
+      let still : IsStill e e' = still_queue e e' refl refl refl refl in
       let old = k.each s e c.there in
       let h : Hall = hall_of st next in
       let x : Permit = record { semaphore = s; size = n; plain = plain } in
       let seen : semaphore_at h s ≡ semaphore_of st.futures next s e = seen_at st next s e k.linked c.there in
-      let fits_in : nat_le n (free h s) ≡ true = ap (λ r. nat_le n r.free) seen ∙ le-leb n e.core.free enough in
+      let fits_in : offers h s n ≡ true = ap (λ r. not r.closed && nat_le n r.free) seen ∙ (λ j. not (open_still j) && le-leb n e.core.free enough j) in
       let g : Hall = with_permit (with_semaphore h s (taking (semaphore_at h s) n)) i x in
       let chosen : (step h i event).hall ≡ g = is ∙ ap (λ b. (if b then quietly g answers.Held else quietly h answers.Lacking).hall) fits_in in
       settled_as st st' w sp next i s event e e' k less low fits allowed g chosen w sp 0 n 0 (one plain) c.there c.semaphores
@@ -136,7 +136,7 @@ module _ (st st' : Store) (w sp next i s n : ℕ) (e : SemaphoreEntry) (k : IsKe
       → Plays st st' next i (events.Lose n) w sp
   plays_lose x mine small there allowed c permits held =
       let e' : SemaphoreEntry = lost_entry x in
-      let still : IsStill e e' = still_queue e e' refl refl in
+      let still : IsStill e e' = still_queue e e' refl refl refl refl in
       let old = k.each s e c.there in
       let h : Hall = hall_of st next in
       let seen : semaphore_at h s ≡ semaphore_of st.futures next s e = seen_at st next s e k.linked c.there in
@@ -178,7 +178,7 @@ module _ (st st' : Store) (w sp next i s n : ℕ) (e : SemaphoreEntry) (k : IsKe
       → Plays st st' next i (events.Merge p n) w sp
   plays_merge p x y mine yours form apart there there_too allowed c permits =
       let e' : SemaphoreEntry = fewer_entry x.plain in
-      let still : IsStill e e' = still_queue e e' refl refl in
+      let still : IsStill e e' = still_queue e e' refl refl refl refl in
       let old = k.each s e c.there in
       let h : Hall = hall_of st next in
       let seen : semaphore_at h s ≡ semaphore_of st.futures next s e = seen_at st next s e k.linked c.there in
@@ -224,7 +224,7 @@ module _ (st st' : Store) (w sp next i s n : ℕ) (e : SemaphoreEntry) (k : IsKe
       → Plays st st' next i (events.Split p n) w sp
   plays_split p x mine enough there allowed c permits =
       let e' : SemaphoreEntry = more_entry x.plain in
-      let still : IsStill e e' = still_queue e e' refl refl in
+      let still : IsStill e e' = still_queue e e' refl refl refl refl in
       let old = k.each s e c.there in
       let h : Hall = hall_of st next in
       let y : Permit = record x { size = x.size - n } in

@@ -14,7 +14,8 @@ use Rattle.mea_sem.specs.declared.entries.SemaphoreEntry.{SemaphoreEntry}
 use Rattle.mea_sem.specs.Store.{Store, hall_of, IsLinked}
 use Rattle.mea_sem.specs.Kept.{wakers_in, IsKept}
 use Rattle.mea_sem.proofs.Cores.{debts-pour, still_waiting, paid_whole, one_more}
-use Rattle.mea_sem.proofs.PourHalls.{PoursInto, hall_poured, linked_poured, wakes_seen}
+use Rattle.mea_sem.proofs.Seen.{wakes_seen}
+use Rattle.mea_sem.proofs.PourHalls.{PoursInto, hall_poured, linked_poured}
 use Rattle.mea_sem.proofs.Weighs.{Weighs, weighs_after, weighs_as, weighs_pour}
 use Rattle.mea_sem.proofs.Keeping.{Plays, settled_as}
 
@@ -66,6 +67,8 @@ module _ (st st' : Store) (w sp next i s n : ℕ) (event : SemEvent) (e e1 : Sem
     permits = refl;
     free = refl;
     queue = refl;
+    cut = refl;
+    closed = refl;
     granted = refl;
     made = refl;
     released = refl;

@@ -55,6 +55,7 @@ module _ (st st' : Store) (w sp next i s f v : ℕ) (x : FutureEntry) (y : Futur
       released = e.released;
       forgotten = e.forgotten;
       named = e.named;
+      closed = c1.closed;
     })
     (reply : Answer) (chosen : step (hall_of st next) i (events.Poll f v) ≡ quietly (made_ready (with_semaphore (hall_of st next) s m) i f y) reply) where
   abbrev h : Hall

@@ -1,5 +1,5 @@
 -- events that change a semaphore and nothing else
-use Rattle.std.proofs.Common.{◌≡◌, ℕ, ◌+◌, ◌-◌, ◌^◌, ◌<◌, ◌≤◌, ◌==◌, true, false, cond, List, ◌∷◌, min, nat_le, refl, ap, sym, ◌∙◌, arith, Some, None, if◌then◌else◌}
+use Rattle.std.proofs.Common.{◌≡◌, ℕ, ◌+◌, ◌-◌, ◌^◌, ◌<◌, ◌≤◌, ◌==◌, ◌&&◌, not, true, false, cond, List, ◌∷◌, min, nat_le, refl, ap, sym, ◌∙◌, arith, Some, None, if◌then◌else◌}
 use Rattle.std.specs.FinMap.{get, insert}
 use Rattle.std.proofs.lemmas.Bool.{le-leb}
 use Rattle.mea_base.specs.declared.answer.Answer.TheVariants as answers
@@ -8,18 +8,18 @@ use Rattle.mea_sem_model.specs.declared.event.SemEvent.TheVariants as events
 use Rattle.mea_sem_model.specs.Hall.{Hall, Debt, semaphore_at, with_semaphore, free}
 use Rattle.mea_sem_model.specs.Cause.{cause_of}
 use Rattle.mea_sem_model.specs.Valid.{Fits}
-use Rattle.mea_sem_model.specs.Step.{step, quietly, forgetting, forgetting_exactly, with_debt, try_and_forget}
+use Rattle.mea_sem_model.specs.Step.{step, quietly, forgetting, forgetting_exactly, with_debt, offers, try_and_forget}
 use Rattle.mea_sem_core.specs.Core as cores
 use Rattle.mea_sem_core.specs.Calls as calls
 use Rattle.mea_sem.specs.declared.entries.SemaphoreEntry.{SemaphoreEntry}
 use Rattle.mea_sem.specs.Store.{Store, queue_of, semaphore_of, hall_of}
 use Rattle.mea_sem.specs.Kept.{wakers_in, IsKept}
-use Rattle.mea_sem.proofs.PourHalls.{seen_at}
+use Rattle.mea_sem.proofs.Seen.{seen_at}
 use Rattle.mea_sem.proofs.Renumbered.{hall_renumbered, kept_renumbered}
 use Rattle.mea_sem.proofs.Still.{IsStill, still_queue, linked_still, queue_still, hall_still}
 use Rattle.mea_sem.proofs.Weighs.{weighs_semaphore}
 use Rattle.mea_sem.proofs.Keeping.{Plays, settled, settled_as}
-use Rattle.mea_sem.proofs.Cores.{waiting-debt, waker-debt, AreApart-debt, debts-debt}
+use Rattle.mea_sem.proofs.Cores.{waiting-debt, waker-debt, AreApart-debt, only-debt, debts-debt}
 
 -- s alone is changed, and has e' now
 pub record Puts (st st' : Store) (s : ℕ) (e e' : SemaphoreEntry) : Type 0 where
@@ -35,7 +35,7 @@ module _ (st st' : Store) (w sp next i s n : ℕ) (e : SemaphoreEntry) (k : IsKe
       → cores.held_of (calls.forgetting e.core n) ≡ cores.held_of e.core → min n e.core.free ≤ e.core.live
       → Plays st st' next i (events.Forget s n) w sp
   plays_forget allowed c permits held within =
-      let still : IsStill e forgot_entry = still_queue e forgot_entry refl refl in
+      let still : IsStill e forgot_entry = still_queue e forgot_entry refl refl refl refl in
       let old = k.each s e c.there in
       settled st st' w sp next i s (events.Forget s n) e forgot_entry k less low tt allowed w sp 0 0 0 0 c.there c.semaphores
       (hall_still st st' next i s e forgot_entry k.linked less c.there c.semaphores c.futures still (queue_of st.futures next s e.core.queue)
@@ -61,16 +61,16 @@ module _ (st st' : Store) (w sp next i s n : ℕ) (e : SemaphoreEntry) (k : IsKe
   -- n free permits are forgotten at once
   pub plays_tried : (event : SemEvent) → Fits event → cause_of (hall_of st next) event ≡ None
       → (step (hall_of st next) i event).hall ≡ (try_and_forget (hall_of st next) s n).hall
-      → n ≤ e.core.free → Puts st st' s e forgot_entry → st'.permits ≡ st.permits
+      → e.core.closed ≡ false → n ≤ e.core.free → Puts st st' s e forgot_entry → st'.permits ≡ st.permits
       → cores.held_of (calls.forgetting e.core n) ≡ cores.held_of e.core → min n e.core.free ≤ e.core.live
       → Plays st st' next i event w sp
-  plays_tried event fits allowed is enough c permits held within =
-      let still : IsStill e forgot_entry = still_queue e forgot_entry refl refl in
+  plays_tried event fits allowed is open_still enough c permits held within =
+      let still : IsStill e forgot_entry = still_queue e forgot_entry refl refl refl refl in
       let old = k.each s e c.there in
       let h : Hall = hall_of st next in
       let seen : semaphore_at h s ≡ semaphore_of st.futures next s e = seen_at st next s e k.linked c.there in
       let all : min n e.core.free ≡ n = omega arith in
-      let fits_in : nat_le n (free h s) ≡ true = ap (λ r. nat_le n r.free) seen ∙ le-leb n e.core.free enough in
+      let fits_in : offers h s n ≡ true = ap (λ r. not r.closed && nat_le n r.free) seen ∙ (λ j. not (open_still j) && le-leb n e.core.free enough j) in
       let g : Hall = with_semaphore h s (record (semaphore_at h s) { free = free h s - n; forgotten = (semaphore_at h s).forgotten + n }) in
       let chosen : (step h i event).hall ≡ g = is ∙ ap (λ b. (if b then quietly g answers.Yes else quietly h answers.No).hall) fits_in in
       settled_as st st' w sp next i s event e forgot_entry k less low fits allowed g chosen w sp 0 0 0 0 c.there c.semaphores
@@ -115,7 +115,10 @@ module _ (st st' : Store) (w sp next i s n : ℕ) (e : SemaphoreEntry) (k : IsKe
         waiting = λ m. waiting-debt e.core.queue (n - min n e.core.free) m;
         wakers = λ m. waker-debt e.core.queue (n - min n e.core.free) m;
         granted = refl;
+        cut = refl;
+        closed = refl;
         apart = λ h. AreApart-debt e.core.queue (n - min n e.core.free) h;
+        only_debts = λ h. only-debt e.core.queue (n - min n e.core.free) h;
       } in
       let old = k.each s e c.there in
       let h : Hall = hall_of st next in
@@ -149,7 +152,7 @@ module _ (st st' : Store) (w sp next i s n : ℕ) (e : SemaphoreEntry) (k : IsKe
   pub plays_endsem : cause_of (hall_of st next) (events.Endsem s) ≡ None → Puts st st' s e unnamed_entry → st'.permits ≡ st.permits
       → Plays st st' next i (events.Endsem s) w sp
   plays_endsem allowed c permits =
-      let still : IsStill e unnamed_entry = still_queue e unnamed_entry refl refl in
+      let still : IsStill e unnamed_entry = still_queue e unnamed_entry refl refl refl refl in
       let old = k.each s e c.there in
       let h : Hall = hall_of st next in
       settled st st' w sp next i s (events.Endsem s) e unnamed_entry k less low tt allowed w sp 0 0 0 0 c.there c.semaphores

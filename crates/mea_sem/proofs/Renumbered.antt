@@ -19,6 +19,7 @@ module _ (st : Store) (b b' : ℕ) (linked : IsLinked st b) (more : b ≤ b') wh
     home = linked.home;
     owned = linked.owned;
     granted = linked.granted;
+    cut = linked.cut;
     apart = linked.apart;
     below = λ f x is. (let small = linked.below f x is in omega arith);
     numbered = linked.numbered;
@@ -44,7 +45,15 @@ module _ (st : Store) (b b' : ℕ) (linked : IsLinked st b) (more : b ≤ b') wh
           → option_map (semaphore_of st.futures b' q) o ≡ option_map (semaphore_of st.futures b q) o
       at_each q None is = refl
       at_each q (Some d) is = λ i. Some
-          (record { free = d.core.free; queue = queue_same q d is i; made = d.made; released = d.released; forgotten = d.forgotten; named = d.named })
+          (record {
+            free = d.core.free;
+            queue = queue_same q d is i;
+            made = d.made;
+            released = d.released;
+            forgotten = d.forgotten;
+            named = d.named;
+            closed = d.core.closed;
+          })
 
   pub hall_renumbered : hall_of st b' ≡ hall_of st b
   hall_renumbered = λ i. record { semaphores = semaphores_same i; futures = (hall_of st b).futures; permits = st.permits }

@@ -1,11 +1,8 @@
 -- from the maps of a `SemHall` to what it keeps
-use Rattle.std.proofs.Common.{◌≡◌, ℕ, ◌==◌, cond, List, refl, ap, sym, ◌∙◌, Option, Some}
-use Rattle.std.specs.Option.{option_map}
-use Rattle.std.specs.Ordering.{nat_cmp}
-use Rattle.std.specs.BTreeMap.{is_at}
+use Rattle.std.proofs.Common.{◌≡◌, ℕ, ◌==◌, cond, List, refl, ap, ◌∙◌, Some}
 use Rattle.std.specs.FinMap.{get}
 use Rattle.mea_base.specs.Named.{named, at, ChangesAt}
-use Rattle.mea_base.proofs.NamedMaps.{get-named, named_changed, option_map-same, found, kept-changed}
+use Rattle.mea_base.proofs.NamedMaps.{found, kept-changed}
 use Rattle.mea_sem.specs.declared.entries.SemaphoreEntry.{SemaphoreEntry}
 use Rattle.mea_sem.specs.declared.entries.FutureEntry.{FutureEntry}
 use Rattle.mea_sem.specs.declared.entries.PermitEntry.{PermitEntry}

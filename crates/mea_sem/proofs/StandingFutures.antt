@@ -1,5 +1,5 @@
 -- what the events on futures leave of a `SemHall`
-use Rattle.std.proofs.Common.{◌≡◌, inl, inr, ℕ, ◌+◌, ◌-◌, ◌^◌, ◌<◌, ◌≤◌, ◌==◌, Bool, true, false, cond, refl, ap, sym, subst, ◌∙◌, arith, Option, Some, None, is_some, nat_le, if◌then◌else◌}
+use Rattle.std.proofs.Common.{◌≡◌, inl, inr, ℕ, ◌+◌, ◌-◌, ◌^◌, ◌<◌, ◌≤◌, ◌==◌, Bool, true, false, cond, [], refl, ap, sym, subst, ◌∙◌, arith, Some, None, is_some, nat_le, if◌then◌else◌}
 use Rattle.std.specs.Option.{option_map, IfSome}
 use Rattle.std.specs.FinMap.{get, insert, remove}
 use Rattle.std.proofs.lemmas.Bool.{false≢true, le-leb, lt-leb, cases_lt}
@@ -12,24 +12,24 @@ use Rattle.mea_base.proofs.Totals.{total-remove}
 use Rattle.mea_base.proofs.Tests.{at_same, known}
 use Rattle.mea_sem_model.specs.declared.event.SemEvent.{SemEvent}
 use Rattle.mea_sem_model.specs.declared.event.SemEvent.TheVariants as events
-use Rattle.mea_sem_model.specs.Hall.{Hall, Semaphore, Future, Stage, New, Waiting, Granted, semaphore_at, queue_at, with_semaphore, free, held, paid_to}
+use Rattle.mea_sem_model.specs.Hall.{Hall, Semaphore, Future, Stage, New, Waiting, Granted, Cut, semaphore_at, queue_at, is_closed, with_semaphore, free, held, paid_to}
 use Rattle.mea_sem_model.specs.Cause.{cause_of, is_future}
 use Rattle.mea_sem_model.specs.Valid.{Fits}
-use Rattle.mea_sem_model.specs.Step.{step, quietly, taking, with_future, queueing, made_ready, poll_of, acquire_of}
+use Rattle.mea_sem_model.specs.Step.{step, quietly, taking, with_future, queueing, first_poll, open_poll, refusing, made_ready, poll_of, acquire_of}
 use Rattle.mea_sem_core.specs.declared.acquire.Acquire.{Acquire}
 use Rattle.mea_sem_core.specs.declared.acquire.Acquire.TheVariants as acquires
 use Rattle.mea_sem_core.specs.Acquire.{demand_of}
 use Rattle.mea_sem_core.specs.Core as cores
-use Rattle.mea_sem_core.specs.Calls.{Belongs}
+use Rattle.mea_sem_core.specs.Calls.{Belongs, IsRefused, after_refusal}
 use Rattle.mea_sem.specs.Entries.{IsReady, Waits, finished}
 use Rattle.mea_sem.specs.declared.entries.SemaphoreEntry.{SemaphoreEntry}
 use Rattle.mea_sem.specs.declared.entries.FutureEntry.{FutureEntry}
 use Rattle.mea_sem.specs.declared.entries.PermitEntry.{PermitEntry}
-use Rattle.mea_sem.specs.Store.{Store, permit_of, store_of, queue_of, semaphore_of, stage_of, stage_under, IsHome, IsOpen}
+use Rattle.mea_sem.specs.Store.{Store, permit_of, store_of, queue_of, semaphore_of, stage_of, IsHome, IsOpen}
 use Rattle.mea_sem.specs.declared.hall.SemHall.TheInside.{Inside}
 use Rattle.mea_sem.specs.Play.{Play}
-use Rattle.mea_sem.proofs.Cores.{waker-none, waker-some}
-use Rattle.mea_sem.proofs.PourHalls.{seen_at}
+use Rattle.mea_sem.proofs.Stages.{stage_granted, stage_cut, stage_waits}
+use Rattle.mea_sem.proofs.Seen.{seen_at}
 use Rattle.mea_sem.proofs.Gone.{seen_future, Leaves, leaves_new, leaves_granted}
 use Rattle.mea_sem.proofs.PlaysPermits.{as_it_was}
 use Rattle.mea_sem.proofs.Lives.{live-seen}
@@ -39,6 +39,7 @@ use Rattle.mea_sem.proofs.Keeping.{Plays}
 use Rattle.mea_sem.proofs.Meets.{store_in, hall_in, seen_in, IsKeptIn, MeetsSemaphore, MeetsFuture, Done, its_semaphore, later, to_kept, to_seen, done, done_quietly}
 use Rattle.mea_sem.proofs.Standing.{Semaphores, Futures, Permits, semaphores_of}
 use Rattle.mea_sem.proofs.PlaysFutures.{plays_acquire}
+use Rattle.mea_sem.proofs.PlaysEnds.{PlaysWith, plays_gone_new, plays_gone_cut}
 use Rattle.mea_sem.proofs.StandingSemaphores.{small_forgotten}
 
 -- ---- what an event without a cause finds
@@ -78,11 +79,21 @@ module _ {a : Inside} {v : Play} {i f : ℕ} {x : FutureEntry} {e : SemaphoreEnt
       let same : home.entry ≡ e = cc in
       (subst (λ (d : SemaphoreEntry). Belongs d.core x.acquire) same home.belongs, home.open_still)
 
-  pub seen_as : (z : Stage) → stage_of x.acquire e.core.queue ≡ z → get (hall_in a).futures f ≡ Some (at_stage x z)
+  pub seen_as : (z : Stage) → stage_of x.acquire e.core ≡ z → get (hall_in a).futures f ≡ Some (at_stage x z)
   seen_as z stage = seen_future (store_in a) a.next f x e x.acquire z future_there home_there refl stage
 
-  pub seen_now : get (hall_in a).futures f ≡ Some (at_stage x (stage_of x.acquire e.core.queue))
-  seen_now = seen_as (stage_of x.acquire e.core.queue) refl
+  pub seen_now : get (hall_in a).futures f ≡ Some (at_stage x (stage_of x.acquire e.core))
+  seen_now = seen_as (stage_of x.acquire e.core) refl
+
+  -- it is closed where its core is
+  seen_closed : is_closed (hall_in a) x.semaphore ≡ e.core.closed
+  seen_closed = ap (λ (r : Semaphore). r.closed) (seen_at (store_in a) a.next x.semaphore e m.meets.kept.linked home_there)
+
+  -- the first poll of an open one
+  open_now : (w : ℕ) (y : Future) → y.semaphore ≡ x.semaphore → e.core.closed ≡ false
+      → first_poll (hall_in a) i f w y ≡ open_poll (hall_in a) i f w y
+  open_now w y mine open_still = ap (λ b. if b then refusing (hall_in a) f else open_poll (hall_in a) i f w y)
+      (ap (is_closed (hall_in a)) mine ∙ seen_closed ∙ open_still)
 
   seen_free : free (hall_in a) x.semaphore ≡ e.core.free
   seen_free = ap (λ (r : Semaphore). r.free) (seen_at (store_in a) a.next x.semaphore e m.meets.kept.linked home_there)
@@ -98,58 +109,73 @@ module _ {a : Inside} {v : Play} {i f : ℕ} {x : FutureEntry} {e : SemaphoreEnt
 
   -- a plain future is counted
   pub future_plain : cond x.plain 1 0 ≤ e.plain
-  future_plain = future_counts (store_in a) a.registered a.outbox.spare a.next f (at_stage x (stage_of x.acquire e.core.queue))
+  future_plain = future_counts (store_in a) a.registered a.outbox.spare a.next f (at_stage x (stage_of x.acquire e.core))
       e m.meets.kept seen_now home_there
 
   -- ---- what the next poll replies
 
   -- it is ready: the step
-  pub ready_new : (w d : ℕ) → x.acquire ≡ acquires.New d → d ≤ e.core.free
+  pub ready_new : (w d : ℕ) → x.acquire ≡ acquires.New d → (e.core.closed ≡ false) × (d ≤ e.core.free)
       → step (hall_in a) i (events.Poll f w) ≡ quietly
       (made_ready (with_semaphore (hall_in a) x.semaphore (taking (semaphore_at (hall_in a) x.semaphore) d)) i f (at_stage x New)) answers.Ready
   ready_new w d new enough =
       let y : Future = at_stage x New in
       let fits : nat_le y.demand (free (hall_in a) x.semaphore) ≡ true =
       ap (nat_le y.demand) seen_free ∙ le-leb y.demand e.core.free (let same : y.demand ≡ d = ap demand_of new in omega arith) in
-      ap (poll_of (hall_in a) i f w) (seen_as New (ap (λ b. stage_of b e.core.queue) new))
+      ap (poll_of (hall_in a) i f w) (seen_as New (ap (λ b. stage_of b e.core) new)) ∙ open_now w y refl enough.0
       ∙ ap (λ b. if b then quietly (made_ready (with_semaphore (hall_in a) x.semaphore (taking (semaphore_at (hall_in a) x.semaphore) y.demand))
       i f y) answers.Ready else quietly (queueing (hall_in a) f w y) answers.Pending) fits
       ∙ ap (λ n. quietly (made_ready (with_semaphore (hall_in a) x.semaphore (taking (semaphore_at (hall_in a) x.semaphore) n)) i f y) answers.Ready)
       (ap demand_of new)
 
-  pub granted_stage : (d n : ℕ) → x.acquire ≡ acquires.Queued d n → get e.core.granted n ≡ Some d → stage_of x.acquire e.core.queue ≡ Granted
-  granted_stage d n queued granted = ap (λ b. stage_of b e.core.queue) queued
-      ∙ ap stage_under (waker-none e.core.queue n (none (cores.waiting e.core.queue n) refl))
-    where
-      none : (o : Option (ℕ × ℕ)) → cores.waiting e.core.queue n ≡ o → o ≡ None
-      none None h = refl
-      none (Some p) h = absurd (let gone : get e.core.granted n ≡ None = (m.meets.kept.linked.numbered x.semaphore e home_there).granted_apart n
-          (λ t. absurd (let never : Some p ≡ None = sym h ∙ t in cc)) in cc)
+  pub granted_stage : (d n : ℕ) → x.acquire ≡ acquires.Queued d n → get e.core.granted n ≡ Some d → stage_of x.acquire e.core ≡ Granted
+  granted_stage d n queued granted = ap (λ b. stage_of b e.core) queued
+      ∙ stage_granted e.core (m.meets.kept.linked.numbered x.semaphore e home_there) d n granted
+
+  pub cut_stage : (d n : ℕ) → x.acquire ≡ acquires.Queued d n → get e.core.cut n ≡ Some d → stage_of x.acquire e.core ≡ Cut
+  cut_stage d n queued cut = ap (λ b. stage_of b e.core) queued ∙ stage_cut e.core (m.meets.kept.linked.numbered x.semaphore e home_there) d n cut
 
   pub ready_granted : (w d n : ℕ) → x.acquire ≡ acquires.Queued d n → get e.core.granted n ≡ Some d
       → step (hall_in a) i (events.Poll f w) ≡ quietly (made_ready (hall_in a) i f (at_stage x Granted)) answers.Ready
   ready_granted w d n queued granted = ap (poll_of (hall_in a) i f w) (seen_as Granted (granted_stage d n queued granted))
 
   -- it waits: the step
-  pub pending_new : (w d : ℕ) → x.acquire ≡ acquires.New d → e.core.free < d
+  pub pending_new : (w d : ℕ) → x.acquire ≡ acquires.New d → (e.core.closed ≡ false) × (e.core.free < d)
       → step (hall_in a) i (events.Poll f w) ≡ quietly (queueing (hall_in a) f w (at_stage x New)) answers.Pending
   pending_new w d new lacks =
       let y : Future = at_stage x New in
       let fits : nat_le y.demand (free (hall_in a) x.semaphore) ≡ false =
       ap (nat_le y.demand) seen_free ∙ lt-leb y.demand e.core.free (let same : y.demand ≡ d = ap demand_of new in omega arith) in
-      ap (poll_of (hall_in a) i f w) (seen_as New (ap (λ b. stage_of b e.core.queue) new))
+      ap (poll_of (hall_in a) i f w) (seen_as New (ap (λ b. stage_of b e.core) new)) ∙ open_now w y refl lacks.0
       ∙ ap (λ b. if b then quietly (made_ready (with_semaphore (hall_in a) x.semaphore (taking (semaphore_at (hall_in a) x.semaphore) y.demand))
       i f y) answers.Ready else quietly (queueing (hall_in a) f w y) answers.Pending) fits
 
   pub waiting_as : (d n l : ℕ) → x.acquire ≡ acquires.Queued d n → cores.waiting e.core.queue n ≡ Some (d, l)
       → (u : ℕ) × (get (hall_in a).futures f ≡ Some (at_stage x (Waiting u)))
   waiting_as d n l queued waits =
-      let u = waker-some e.core.queue n (d, l) waits in
-      (u.0, seen_as (Waiting u.0) (ap (λ b. stage_of b e.core.queue) queued ∙ ap stage_under u.1))
+      let u = stage_waits e.core (m.meets.kept.linked.numbered x.semaphore e home_there) d n l waits in
+      (u.0, seen_as (Waiting u.0) (ap (λ b. stage_of b e.core) queued ∙ u.1))
 
   pub pending_again : (w d n l : ℕ) → x.acquire ≡ acquires.Queued d n → cores.waiting e.core.queue n ≡ Some (d, l)
       → step (hall_in a) i (events.Poll f w) ≡ quietly (with_future (hall_in a) f (at_stage x (Waiting w))) answers.Pending
   pending_again w d n l queued waits = ap (poll_of (hall_in a) i f w) (waiting_as d n l queued waits).1
+
+  -- it is refused: the step
+  pub refused_new : (w d : ℕ) → x.acquire ≡ acquires.New d → e.core.closed ≡ true → step (hall_in a) i (events.Poll f w) ≡ refusing (hall_in a) f
+  refused_new w d new shut = ap (poll_of (hall_in a) i f w) (seen_as New (ap (λ b. stage_of b e.core) new))
+      ∙ ap (λ b. if b then refusing (hall_in a) f else open_poll (hall_in a) i f w (at_stage x New)) (seen_closed ∙ shut)
+
+  pub refused_cut : (w d n : ℕ) → x.acquire ≡ acquires.Queued d n → get e.core.cut n ≡ Some d → step (hall_in a) i (events.Poll f w) ≡ refusing (hall_in a) f
+  refused_cut w d n queued cut = ap (poll_of (hall_in a) i f w) (seen_as Cut (cut_stage d n queued cut))
+
+  pub replies_gone : (w : ℕ) → IsRefused e.core x.acquire → (step v.hall i (events.Poll f w)).reply ≡ answers.Gone
+  replies_gone w refused = to_seen m.meets (λ h. (step h i (events.Poll f w)).reply ≡ answers.Gone) (by_acquire x.acquire refl refused its_belongs.1)
+    where
+      by_acquire : (b : Acquire) → x.acquire ≡ b → IsRefused e.core b → IsOpen x.acquire → (step (hall_in a) i (events.Poll f w)).reply ≡ answers.Gone
+      by_acquire (acquires.New d) same r still = ap (λ o. o.reply) (refused_new w d same r)
+      by_acquire (acquires.Queued d n) same r still = ap (λ o. o.reply) (refused_cut w d n same r.1)
+      by_acquire (acquires.Done d) same r still = absurd r
+      by_acquire (acquires.Refused d) same r still = absurd (subst IsOpen same still)
 
   -- what is foreseen by the core is replied
   pub replies_ready : (w : ℕ) → IsReady e.core x.acquire → (step v.hall i (events.Poll f w)).reply ≡ answers.Ready
@@ -159,6 +185,7 @@ module _ {a : Inside} {v : Play} {i f : ℕ} {x : FutureEntry} {e : SemaphoreEnt
       by_acquire (acquires.New d) same r = ap (λ o. o.reply) (ready_new w d same r)
       by_acquire (acquires.Queued d n) same r = ap (λ o. o.reply) (ready_granted w d n same r)
       by_acquire (acquires.Done d) same r = absurd r
+      by_acquire (acquires.Refused d) same r = absurd r
 
   pub replies_pending : (w : ℕ) → Waits e.core x.acquire → (step v.hall i (events.Poll f w)).reply ≡ answers.Pending
   replies_pending w waits = to_seen m.meets (λ h. (step h i (events.Poll f w)).reply ≡ answers.Pending) (by_acquire x.acquire refl waits its_belongs.1)
@@ -167,6 +194,7 @@ module _ {a : Inside} {v : Play} {i f : ℕ} {x : FutureEntry} {e : SemaphoreEnt
       by_acquire (acquires.New d) same r still = ap (λ o. o.reply) (pending_new w d same r)
       by_acquire (acquires.Queued d n) same r still = ap (λ o. o.reply) (pending_again w d n r.0 same r.1)
       by_acquire (acquires.Done d) same r still = absurd (subst IsOpen same still)
+      by_acquire (acquires.Refused d) same r still = absurd (subst IsOpen same still)
 
   -- and what is replied was foreseen
   pub ready_from : (w : ℕ) → (step v.hall i (events.Poll f w)).reply ≡ answers.Ready → IsReady e.core x.acquire
@@ -175,18 +203,53 @@ module _ {a : Inside} {v : Play} {i f : ℕ} {x : FutureEntry} {e : SemaphoreEnt
       replied : (step (hall_in a) i (events.Poll f w)).reply ≡ answers.Ready
       replied = to_kept m.meets (λ h. (step h i (events.Poll f w)).reply ≡ answers.Ready) said
 
-      by_acquire : (b : Acquire) → x.acquire ≡ b → Belongs e.core x.acquire → IsOpen x.acquire → IsReady e.core x.acquire
-      by_acquire (acquires.New d) same belongs still = elim (cases_lt e.core.free d) [
-        | inr enough ↦ subst (IsReady e.core) (sym same) enough
-        | inl lacks ↦ absurd (let pending = ap (λ o. o.reply) (pending_new w d same lacks) in
+      not_gone : (step (hall_in a) i (events.Poll f w)).reply ≡ answers.Gone → ⊥
+      not_gone is = let never : answers.Ready ≡ answers.Gone = sym replied ∙ is in absurd (cc)
+
+      by_new : (d : ℕ) → x.acquire ≡ acquires.New d → (b : Bool) → e.core.closed ≡ b → IsReady e.core (acquires.New d)
+      by_new d same true shut = absurd (not_gone (ap (λ o. o.reply) (refused_new w d same shut)))
+      by_new d same false open_still = elim (cases_lt e.core.free d) [
+        | inr enough ↦ (open_still, enough)
+        | inl lacks ↦ absurd (let pending = ap (λ o. o.reply) (pending_new w d same (open_still, lacks)) in
             let never : answers.Ready ≡ answers.Pending = sym replied ∙ pending in cc)
       ]
-      by_acquire (acquires.Queued d n) same belongs still = elim (subst (Belongs e.core) same belongs) [
-        | inl granted ↦ subst (IsReady e.core) (sym same) granted
-        | inr waits ↦ absurd (let pending = ap (λ o. o.reply) (pending_again w d n waits.0 same waits.1) in
-            let never : answers.Ready ≡ answers.Pending = sym replied ∙ pending in cc)
-      ]
+
+      by_acquire : (b : Acquire) → x.acquire ≡ b → Belongs e.core b → IsOpen x.acquire → IsReady e.core b
+      by_acquire (acquires.New d) same belongs still = by_new d same e.core.closed refl
+      by_acquire (acquires.Queued d n) same (inl (inl granted)) still = granted
+      by_acquire (acquires.Queued d n) same (inl (inr waits)) still = absurd (let pending = ap (λ o. o.reply) (pending_again w d n waits.0 same waits.1) in
+          let never : answers.Ready ≡ answers.Pending = sym replied ∙ pending in cc)
+      by_acquire (acquires.Queued d n) same (inr cut) still = absurd (not_gone (ap (λ o. o.reply) (refused_cut w d n same cut.1)))
       by_acquire (acquires.Done d) same belongs still = absurd (subst IsOpen same still)
+      by_acquire (acquires.Refused d) same belongs still = absurd (subst IsOpen same still)
+
+  -- one that is refused was foreseen so
+  pub refused_from : (w : ℕ) → (step v.hall i (events.Poll f w)).reply ≡ answers.Gone → IsRefused e.core x.acquire
+  refused_from w said = by_acquire x.acquire refl its_belongs.0 its_belongs.1
+    where
+      replied : (step (hall_in a) i (events.Poll f w)).reply ≡ answers.Gone
+      replied = to_kept m.meets (λ h. (step h i (events.Poll f w)).reply ≡ answers.Gone) said
+
+      not_ready : (step (hall_in a) i (events.Poll f w)).reply ≡ answers.Ready → ⊥
+      not_ready is = let never : answers.Gone ≡ answers.Ready = sym replied ∙ is in absurd (cc)
+
+      not_pending : (step (hall_in a) i (events.Poll f w)).reply ≡ answers.Pending → ⊥
+      not_pending is = let never : answers.Gone ≡ answers.Pending = sym replied ∙ is in absurd (cc)
+
+      by_new : (d : ℕ) → x.acquire ≡ acquires.New d → (b : Bool) → e.core.closed ≡ b → IsRefused e.core (acquires.New d)
+      by_new d same true shut = shut
+      by_new d same false open_still = elim (cases_lt e.core.free d) [
+        | inr enough ↦ absurd (not_ready (ap (λ o. o.reply) (ready_new w d same (open_still, enough))))
+        | inl lacks ↦ absurd (not_pending (ap (λ o. o.reply) (pending_new w d same (open_still, lacks))))
+      ]
+
+      by_acquire : (b : Acquire) → x.acquire ≡ b → Belongs e.core b → IsOpen x.acquire → IsRefused e.core b
+      by_acquire (acquires.New d) same belongs still = by_new d same e.core.closed refl
+      by_acquire (acquires.Queued d n) same (inl (inl granted)) still = absurd (not_ready (ap (λ o. o.reply) (ready_granted w d n same granted)))
+      by_acquire (acquires.Queued d n) same (inl (inr waits)) still = absurd (not_pending (ap (λ o. o.reply) (pending_again w d n waits.0 same waits.1)))
+      by_acquire (acquires.Queued d n) same (inr cut) still = cut
+      by_acquire (acquires.Done d) same belongs still = absurd (subst IsOpen same still)
+      by_acquire (acquires.Refused d) same belongs still = absurd (subst IsOpen same still)
 
   -- ---- what a future was paid is live
   pub paid_part : (y : Future) → get (hall_in a).futures f ≡ Some y → y.semaphore ≡ x.semaphore
@@ -216,13 +279,15 @@ module _ {a : Inside} {v : Play} {i f : ℕ} {x : FutureEntry} {e : SemaphoreEnt
           let fits = m.meets.kept.valid.fits x.semaphore in
           let demand : demand_of x.acquire ≡ d = ap demand_of same in
           let part : free (hall_in a) x.semaphore ≡ e.core.free = seen_free in
-          omega (arith, fits, demand, part)
+          let enough = r.1 in
+          omega (arith, fits, demand, part, enough)
       by_acquire (acquires.Queued d n) same r =
           let all = live-seen (store_in a) a.registered a.outbox.spare a.next x.semaphore e m.meets.kept home_there in
           let fits = m.meets.kept.valid.fits x.semaphore in
           let demand : demand_of x.acquire ≡ d = ap demand_of same in
           omega (arith, all, fits, demand, granted_live d n same r)
       by_acquire (acquires.Done d) same r = absurd r
+      by_acquire (acquires.Refused d) same r = absurd r
 
   -- a tally has room for what it asks for
   pub tally_fits : (w : ℕ) → (step v.hall i (events.Poll f w)).reply ≡ answers.Ready → e.forgotten + demand_of x.acquire < 2 ^ 128
@@ -287,11 +352,13 @@ record Readies (a : Inside) (i f w : ℕ) (x : FutureEntry) (e : SemaphoreEntry)
     released = e.released;
     forgotten = e.forgotten;
     named = e.named;
+    closed = core.closed;
   }
   chosen : step (hall_in a) i (events.Poll f w) ≡ quietly (made_ready (with_semaphore (hall_in a) x.semaphore semaphore) i f (at_stage x stage)) answers.Ready
   leaves : (st' : Store) (e' : SemaphoreEntry) → ((q : ℕ) → get st'.semaphores q ≡ cond (x.semaphore == q) (Some e') (get (store_in a).semaphores q))
       → ((g : ℕ) → get st'.futures g ≡ cond (f == g) None (get (store_in a).futures g))
-      → e'.core.queue ≡ e.core.queue → e'.core.granted ≡ core.granted → Leaves (store_in a) st' x.semaphore f x e e'
+      → e'.core.queue ≡ e.core.queue → e'.core.granted ≡ core.granted → e'.core.cut ≡ core.cut → e'.core.closed ≡ core.closed
+      → Leaves (store_in a) st' x.semaphore f x e e'
 
 readies : {a : Inside} {v : Play} {i f : ℕ} {x : FutureEntry} {e : SemaphoreEntry} → MeetsFuture a v i f x e → (w : ℕ) → IsReady e.core x.acquire
     → Readies a i f w x e
@@ -309,15 +376,15 @@ readies {a} {v} {i} {f} {x} {e} m w ready = by_acquire x.acquire refl ready
       stage = New;
       core = record e.core { free = e.core.free - d };
       semaphore = taking (semaphore_at (hall_in a) x.semaphore) d;
-      seen = seen_as m New (ap (λ b. stage_of b e.core.queue) new);
+      seen = seen_as m New (ap (λ b. stage_of b e.core) new);
       is = ap (finished e.core) new;
       live = refl;
       queue = refl;
       quiet = refl;
       shown = ap (λ y. taking y d) seen;
       chosen = ready_new m w d new enough;
-      leaves = λ st' e' puts gone queue granted. leaves_new (store_in a) st' x.semaphore f d x e e' (home_there m) puts (future_there m)
-          gone refl new queue granted;
+      leaves = λ st' e' puts gone queue granted cut closed. leaves_new (store_in a) st' a.next x.semaphore f x e e' m.meets.kept.linked (home_there m) puts
+          (future_there m) gone refl queue closed d new granted cut;
     }
     by_acquire (acquires.Queued d n) queued granted = record {
       stage = Granted;
@@ -331,10 +398,11 @@ readies {a} {v} {i} {f} {x} {e} m w ready = by_acquire x.acquire refl ready
       shown = refl;
       chosen = ready_granted m w d n queued granted ∙ ap (λ h. quietly (made_ready h i f (at_stage x Granted)) answers.Ready)
           (sym (as_it_was (hall_in a) x.semaphore _ there (hall_in a).permits));
-      leaves = λ st' e' puts gone queue unlisted. leaves_granted (store_in a) st' a.next x.semaphore f d n x e e' m.meets.kept.linked (home_there m)
-          puts (future_there m) gone refl queued granted queue unlisted;
+      leaves = λ st' e' puts gone queue unlisted cut closed. leaves_granted (store_in a) st' a.next x.semaphore f x e e' m.meets.kept.linked (home_there m)
+          puts (future_there m) gone refl queue closed d n queued granted unlisted cut;
     }
     by_acquire (acquires.Done d) done r = absurd r
+    by_acquire (acquires.Refused d) refused r = absurd r
 
 module _ {a : Inside} {v : Play} {i f : ℕ} {x : FutureEntry} {e : SemaphoreEntry} (m : MeetsFuture a v i f x e) (w : ℕ)
     (allowed : cause_of v.hall (events.Poll f w) ≡ None) (replied : (step v.hall i (events.Poll f w)).reply ≡ answers.Ready)
@@ -389,7 +457,7 @@ module _ {a : Inside} {v : Play} {i f : ℕ} {x : FutureEntry} {e : SemaphoreEnt
       finishes (plays_ready_forgetting (store_in a) st' a.registered a.outbox.spare a.next i x.semaphore f w x (at_stage x turn.stage)
       e turn.core turn.semaphore m.meets.kept (later m.meets) m.meets.low may turn.seen refl refl (ready_small m ready)
       turn.live turn.queue turn.quiet up turn.shown answers.Ready turn.chosen (forgets_seen m true forgets)
-      (turn.leaves st' e' puts gone_now turn.queue refl) refl (omega (arith, lost, up)))
+      (turn.leaves st' e' puts gone_now turn.queue refl refl refl) refl (omega (arith, lost, up)))
 
   -- it becomes a permit
   pub kept_done : IfSome (get v.hall.futures f) (λ (y : Future). y.forgets ≡ false) → (ps' : Permits) (p : PermitEntry)
@@ -406,4 +474,43 @@ module _ {a : Inside} {v : Play} {i f : ℕ} {x : FutureEntry} {e : SemaphoreEnt
       finishes (plays_ready (store_in a) st' a.registered a.outbox.spare a.next i x.semaphore f w x (at_stage x turn.stage)
       e turn.core turn.semaphore m.meets.kept (later m.meets) m.meets.low may turn.seen refl refl (ready_small m ready)
       turn.live turn.queue turn.quiet up turn.shown answers.Ready turn.chosen (forgets_seen m false keeps)
-      (turn.leaves st' e' puts gone_now turn.queue refl) permits)
+      (turn.leaves st' e' puts gone_now turn.queue refl refl refl) permits)
+
+-- ---- a future is refused, and is gone with nothing
+pub refused_done : {a : Inside} {v : Play} {i f : ℕ} {x : FutureEntry} {e : SemaphoreEntry} → MeetsFuture a v i f x e → (w : ℕ)
+    → cause_of v.hall (events.Poll f w) ≡ None → (step v.hall i (events.Poll f w)).reply ≡ answers.Gone → (ss' : Semaphores) (fs' : Futures) (e2 : SemaphoreEntry)
+    → ChangesAt a.futures.entries fs' f None → ChangesAt a.semaphores.entries ss' x.semaphore (Some e2)
+    → e2 ≡ record e { core = after_refusal e.core x.acquire; plain = e.plain - cond x.plain 1 0 }
+    → Done v i (step v.hall i (events.Poll f w)) answers.Gone (store_of ss' fs' a.permits.entries) a.registered a.outbox.spare a.outbox.wakers
+refused_done {a} {v} {i} {f} {x} {e} m w allowed said ss' fs' e2 gone changes changed = by_acquire x.acquire refl (refused_from m w said)
+  where
+    st' : Store
+    st' = store_of ss' fs' a.permits.entries
+
+    may : cause_of (hall_in a) (events.Poll f w) ≡ None
+    may = to_kept m.meets (λ h. cause_of h (events.Poll f w) ≡ None) allowed
+
+    gone_now : (g : ℕ) → get st'.futures g ≡ cond (f == g) None (get (store_in a).futures g)
+    gone_now g = kept-changed a.futures.entries fs' f None gone g
+
+    finish : PlaysWith (store_in a) st' a.next i (events.Poll f w) a.registered a.outbox.spare [] → step (hall_in a) i (events.Poll f w) ≡ refusing (hall_in a) f
+        → Done v i (step v.hall i (events.Poll f w)) answers.Gone st' a.registered a.outbox.spare a.outbox.wakers
+    finish with chosen = done_quietly m.meets (events.Poll f w) answers.Gone with.plays with.wakes (sym (ap (λ o. o.reply) chosen))
+
+    by_acquire : (b : Acquire) → x.acquire ≡ b → IsRefused e.core b
+        → Done v i (step v.hall i (events.Poll f w)) answers.Gone st' a.registered a.outbox.spare a.outbox.wakers
+    by_acquire (acquires.New d) new shut =
+        let puts = semaphores_of a.semaphores.entries ss' x.semaphore e2 (record e { plain = e.plain - cond x.plain 1 0 }) changes
+        (changed ∙ ap (λ b. record e { core = after_refusal e.core b; plain = e.plain - cond x.plain 1 0 }) new) in
+        finish (plays_gone_new (store_in a) st' a.registered a.registered a.outbox.spare a.outbox.spare a.next i x.semaphore d e m.meets.kept (later m.meets)
+        m.meets.low (home_there m) f d x refl (future_there m) gone_now refl (events.Poll f w) answers.Gone tt may new
+        (λ seen. refused_new m w d new shut) puts) (refused_new m w d new shut)
+    by_acquire (acquires.Queued d n) queued cut =
+        let puts = semaphores_of a.semaphores.entries ss' x.semaphore e2
+        (record e { core = record e.core { cut = remove e.core.cut n }; plain = e.plain - cond x.plain 1 0 }) changes
+        (changed ∙ ap (λ b. record e { core = after_refusal e.core b; plain = e.plain - cond x.plain 1 0 }) queued) in
+        finish (plays_gone_cut (store_in a) st' a.registered a.registered a.outbox.spare a.outbox.spare a.next i x.semaphore d e m.meets.kept (later m.meets)
+        m.meets.low (home_there m) f d x refl (future_there m) gone_now refl (events.Poll f w) answers.Gone n tt may queued cut.1
+        (λ seen. refused_cut m w d n queued cut.1) puts) (refused_cut m w d n queued cut.1)
+    by_acquire (acquires.Done d) same r = absurd r
+    by_acquire (acquires.Refused d) same r = absurd (subst IsOpen same (its_belongs m).1)

@@ -1,5 +1,5 @@
 -- what the events of permits leave of a `SemHall`
-use Rattle.std.proofs.Common.{◌≡◌, ℕ, ◌+◌, ◌-◌, ◌^◌, ◌<◌, ◌≤◌, ◌==◌, ◌++◌, not, Bool, true, false, cond, if◌then◌else◌, List, [], length, nat_le, refl, ap, sym, subst, ◌∙◌, arith, Option, Some, None, is_some, Result, Ok, Err, OnOk, OnErr}
+use Rattle.std.proofs.Common.{◌≡◌, ◌⊎◌, ℕ, ◌+◌, ◌-◌, ◌^◌, ◌<◌, ◌≤◌, ◌==◌, ◌++◌, not, Bool, true, false, cond, if◌then◌else◌, List, [], length, refl, ap, sym, subst, ◌∙◌, arith, Option, Some, None, is_some, Result, Ok, Err, OnOk, OnErr}
 use Rattle.std.specs.Option.{option_map}
 use Rattle.std.specs.Result.{is_err}
 use Rattle.std.specs.Ordering.{nat_cmp}
@@ -10,7 +10,7 @@ use Rattle.mea_base.specs.declared.answer.Answer.TheVariants as answers
 use Rattle.mea_base.specs.Named.{named, at, ChangesAt}
 use Rattle.mea_base.specs.Queue.{granted_in}
 use Rattle.mea_base.specs.Causes.{unknown_unless}
-use Rattle.mea_base.proofs.NamedMaps.{get-named, named_put, named_remove, same_named, is_at-eq, get-seen, kept-at, found}
+use Rattle.mea_base.proofs.NamedMaps.{get-named, named_put, named_remove, same_named, get-seen, kept-at, found}
 use Rattle.mea_base.proofs.Totals.{get_inserted}
 use Rattle.mea_base.proofs.Tests.{known}
 use Rattle.mea_sem_model.specs.declared.event.SemEvent.{SemEvent}
@@ -26,14 +26,13 @@ use Rattle.mea_sem.specs.Store.{Store, permit_of, store_of, semaphore_of}
 use Rattle.mea_sem.specs.Play.{Play}
 use Rattle.mea_sem.specs.declared.hall.SemHall.TheInside.{Inside}
 use Rattle.mea_sem.proofs.Refusals.{is_permit-at}
-use Rattle.mea_sem.proofs.PourHalls.{seen_at}
 use Rattle.mea_sem.proofs.Weighs.{one}
 use Rattle.mea_sem.proofs.PlaysSemaphores.{plays_nothing}
 use Rattle.mea_sem.proofs.PlaysPermits.{plays_try, plays_lose, plays_merge, plays_split, permit_counts, permits_count}
 use Rattle.mea_sem.proofs.PlaysEnds.{plays_end_permit}
 use Rattle.mea_sem.proofs.Meets.{store_in, hall_in, seen_in, IsKeptIn, Meets, MeetsSemaphore, MeetsPermit, Done, permits_semaphore, later, to_kept, done, done_quietly}
 use Rattle.mea_sem.proofs.Standing.{Semaphores, Permits, puts_of, semaphores_of}
-use Rattle.mea_sem.proofs.StandingSemaphores.{small_forgotten, wakers_few}
+use Rattle.mea_sem.proofs.StandingSemaphores.{small_forgotten, wakers_few, offered, not_offered}
 
 -- what a call says where it succeeds, and where it fails
 pub on_success : {T E : Type 0} (P : Type 0) (r : Result T E) → is_err r ≡ false → OnOk r P → P
@@ -112,9 +111,6 @@ allowed_by_form true h s n allowed = allowed
 allowed_by_form false h s n allowed = allowed
 
 module _ {a : Inside} {v : Play} {i s : ℕ} {e : SemaphoreEntry} (m : MeetsSemaphore a v i s e) (n : ℕ) (plain : Bool) where
-  free_here : semaphore_at (hall_in a) s ≡ semaphore_of (store_in a).futures a.next s e
-  free_here = seen_at (store_in a) a.next s e m.meets.kept.linked (found a.semaphores.entries s e m.there)
-
   abbrev chosen : Bool → Outcome
   chosen b = if b then quietly (with_permit (with_semaphore (hall_in a) s (taking (semaphore_at (hall_in a) s) n)) i
       (record { semaphore = s; size = n; plain = plain })) answers.Held else quietly (hall_in a) answers.Lacking
@@ -123,27 +119,28 @@ module _ {a : Inside} {v : Play} {i s : ℕ} {e : SemaphoreEntry} (m : MeetsSema
       → Done v i (try_of v.hall i s n plain) reply st' a.registered a.outbox.spare a.outbox.wakers
   as_tried {st'} {reply} done = subst (λ o. Done v i o reply st' a.registered a.outbox.spare a.outbox.wakers) (step_by_form plain v.hall i s n) done
 
-  pub tried_in_vain : e.core.free < n → Done v i (try_of v.hall i s n plain) answers.Lacking (store_in a) a.registered a.outbox.spare a.outbox.wakers
+  pub tried_in_vain : (e.core.closed ≡ true) ⊎ (e.core.free < n) → Done v i (try_of v.hall i s n plain) answers.Lacking (store_in a) a.registered a.outbox.spare a.outbox.wakers
   tried_in_vain lack =
       let outcome : step (hall_in a) i (by_form plain s n) ≡ quietly (hall_in a) answers.Lacking =
-      step_by_form plain (hall_in a) i s n ∙ ap chosen (ap (λ r. nat_le n r.free) free_here ∙ lt-leb n e.core.free lack) in
+      step_by_form plain (hall_in a) i s n ∙ ap chosen (not_offered m n lack) in
       as_tried (unchanged m.meets (by_form plain s n) answers.Lacking (ap (λ o. o.hall) outcome) (ap (λ o. o.wakes) outcome) (ap (λ o. o.reply) (sym outcome)))
 
   pub tried : (ss' : Semaphores) (ps' : Permits) (d e' : SemaphoreEntry) → cause_of v.hall (events.Try s n) ≡ None
-      → at a.semaphores.entries s ≡ Some d → n ≤ d.core.free
+      → at a.semaphores.entries s ≡ Some d → d.core.closed ≡ false → n ≤ d.core.free
       → e' ≡ record e { core = record e.core { free = e.core.free - n }; plain = e.plain + one plain } → cores.held_of e'.core ≡ cores.held_of e.core + n
       → ChangesAt a.semaphores.entries ss' s (Some e') → ChangesAt a.permits.entries ps' i (Some (record { semaphore = s; size = n; plain = plain }))
       → Done v i (try_of v.hall i s n plain) answers.Held (store_of ss' a.futures.entries ps') a.registered a.outbox.spare a.outbox.wakers
-  tried ss' ps' d e' allowed tested fits new held changes given =
+  tried ss' ps' d e' allowed tested is_open fits new held changes given =
       let there = m.there in
       let one_entry : d ≡ e = cc in
       let enough : n ≤ e.core.free = subst (λ (x : SemaphoreEntry). n ≤ x.core.free) one_entry fits in
+      let open_still : e.core.closed ≡ false = subst (λ (x : SemaphoreEntry). x.core.closed ≡ false) one_entry is_open in
       let outcome : step (hall_in a) i (by_form plain s n) ≡ chosen true =
-      step_by_form plain (hall_in a) i s n ∙ ap chosen (ap (λ r. nat_le n r.free) free_here ∙ le-leb n e.core.free enough) in
+      step_by_form plain (hall_in a) i s n ∙ ap chosen (offered m n open_still enough) in
       let plays = plays_try (store_in a) (store_of ss' a.futures.entries ps') a.registered a.outbox.spare a.next i s n e m.meets.kept (later m.meets)
       m.meets.low (by_form plain s n) plain (fits_by_form plain s n)
       (to_kept m.meets (λ h. cause_of h (by_form plain s n) ≡ None) (allowed_by_form plain v.hall s n allowed))
-      (ap (λ o. o.hall) (step_by_form plain (hall_in a) i s n)) enough
+      (ap (λ o. o.hall) (step_by_form plain (hall_in a) i s n)) open_still enough
       (puts_of a.semaphores.entries ss' a.futures.entries a.permits.entries ps' s e e' _ m.there changes new)
       (named_put (λ p x. permit_of x) a.permits.entries ps' i (record { semaphore = s; size = n; plain = plain }) given)
       (subst (λ (y : SemaphoreEntry). cores.held_of y.core ≡ cores.held_of e.core + n) new held) in
@@ -234,7 +231,7 @@ not_true false h is = absurd (cc)
 
 -- another name has what it had
 at_other : {X : Type 0} (old new : List (ℕ × X)) (k q : ℕ) (o : Option X) → ChangesAt old new k o → (k == q) ≡ false → at new q ≡ at old q
-at_other old new k q o changes apart = changes q ∙ ap (λ b. cond b o (at old q)) (is_at-eq k q ∙ apart)
+at_other old new k q o changes apart = changes q ∙ ap (λ b. cond b o (at old q)) apart
 
 -- q, which is merged into p, is taken out first
 module _ (a : Inside) {v : Play} (seen : seen_in a ≡ v) (p q : ℕ) (allowed : cause_of v.hall (events.Merge p q) ≡ None) where

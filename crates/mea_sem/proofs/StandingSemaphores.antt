@@ -1,5 +1,5 @@
 -- a method on a semaphore: what it keeps, and its outcome as the contract says it
-use Rattle.std.proofs.Common.{◌≡◌, ℕ, ◌+◌, ◌-◌, ◌^◌, ◌<◌, ◌≤◌, ◌==◌, ◌++◌, Bool, true, false, cond, List, [], length, min, nat_le, nat_lt, refl, ap, sym, subst, ◌∙◌, arith, Option, Some, None}
+use Rattle.std.proofs.Common.{◌≡◌, ◌⊎◌, inl, inr, ℕ, ◌+◌, ◌-◌, ◌^◌, ◌<◌, ◌≤◌, ◌==◌, ◌++◌, ◌&&◌, not, Bool, true, false, cond, List, [], length, min, nat_le, nat_lt, refl, ap, sym, subst, ◌∙◌, arith, Option, Some, None, append-nil, if◌then◌else◌}
 use Rattle.std.specs.Option.{option_map}
 use Rattle.std.specs.Ordering.{nat_cmp}
 use Rattle.std.specs.FinMap.{get, empty, entries, get-empty}
@@ -15,25 +15,26 @@ use Rattle.mea_base.proofs.NamedMaps.{same_named, get-named, get-seen, kept-at, 
 use Rattle.mea_base.proofs.Totals.{total-remove, total-empty}
 use Rattle.mea_sem_model.specs.declared.event.SemEvent.{SemEvent}
 use Rattle.mea_sem_model.specs.declared.event.SemEvent.TheVariants as events
-use Rattle.mea_sem_model.specs.Hall.{Hall, Semaphore, empty_hall, live, free, semaphore_at, with_semaphore}
+use Rattle.mea_sem_model.specs.Hall.{Hall, Semaphore, empty_hall, live, free, semaphore_at, with_semaphore, closing, wakes_waiting}
 use Rattle.mea_sem_model.specs.Cause.{cause_of, is_named}
-use Rattle.mea_sem_model.specs.Step.{Outcome, step, quietly, try_and_forget}
+use Rattle.mea_sem_model.specs.Step.{Outcome, step, quietly, offers, try_and_forget, close_of}
 use Rattle.mea_sem_model.specs.Valid.{IsValid, IsBelow, IsAccounted}
 use Rattle.mea_sem_model.proofs.Keeps.{valid_empty, below_empty, accounted_empty}
 use Rattle.mea_sem_core.specs.Core as cores
 use Rattle.mea_sem_core.specs.Calls as calls
 use Rattle.mea_sem.specs.declared.hall.SemHall.TheInside.{Inside}
 use Rattle.mea_sem.specs.declared.entries.SemaphoreEntry.{SemaphoreEntry}
-use Rattle.mea_sem.specs.Entries.{ledger_of_entry}
+use Rattle.mea_sem.specs.Entries.{ledger_of_entry, close_wakes}
 use Rattle.mea_sem.specs.Store.{Store, store_of, permit_of, semaphore_of, future_of, hall_of}
 use Rattle.mea_sem.specs.Kept.{wakers_in, IsKept}
 use Rattle.mea_sem.specs.Play.{Play}
 use Rattle.mea_sem.proofs.Refusals.{named-none}
-use Rattle.mea_sem.proofs.PourHalls.{seen_at}
+use Rattle.mea_sem.proofs.Seen.{seen_at}
 use Rattle.mea_sem.proofs.PlaysSemaphores.{Puts, plays_nothing, plays_forget, plays_tried, plays_forgetx, plays_endsem}
 use Rattle.mea_sem.proofs.PlaysNew.{fresh_core, fresh_entry, plays_new}
 use Rattle.mea_sem.proofs.PlaysPours.{wakers_poured}
 use Rattle.mea_sem.proofs.PlaysEnds.{plays_release}
+use Rattle.mea_sem.proofs.PlaysCloses.{wakers_waiting, plays_close}
 use Rattle.mea_sem.proofs.Meets.{store_in, hall_in, seen_in, IsKeptIn, Meets, MeetsSemaphore, Done, later, to_kept, done, done_quietly}
 use Rattle.mea_sem.proofs.Standing.{Semaphores, Futures, Permits, puts_of, semaphores_of}
 use Rattle.mea_sem.proofs.Lives.{live-seen, ledger-seen}
@@ -140,6 +141,17 @@ module _ {a : Inside} {v : Play} {i s : ℕ} {e : SemaphoreEntry} (m : MeetsSema
       let split = wakers_poured e.core.queue n in
       omega (arith, all, split)
 
+  pub wakers_room : wakers_in e.core.queue ≤ a.outbox.spare
+  wakers_room = let few = wakers_registered in let room = k.room in omega (arith, few, room)
+
+  -- so does a close
+  pub close_few : length (close_wakes e.core) ≤ a.registered
+  close_few = by_closed e.core.closed
+    where
+      by_closed : (b : Bool) → length (if b then [] else cores.wakers_of (cores.waiters_of e.core.queue)) ≤ a.registered
+      by_closed true = omega arith
+      by_closed false = let all = wakers_registered in let same = wakers_waiting e.core.queue in omega (arith, all, same)
+
   pub wakers_fit : (n : ℕ) → length (cores.wakers_of (granted_in e.core.queue n)) ≤ a.outbox.spare
   wakers_fit n = let few = wakers_few n in let room = k.room in omega (arith, few, room)
 
@@ -148,17 +160,40 @@ module _ {a : Inside} {v : Play} {i s : ℕ} {e : SemaphoreEntry} (m : MeetsSema
   done_free r is = done_quietly m.meets (events.Free s) (answers.Free r)
       (plays_nothing (store_in a) a.registered a.outbox.spare a.next i (events.Free s) k less low refl) refl (ap (λ n. answers.Free n) (is ∙ sym free_seen))
 
+  pub done_closed : (b : Bool) → b ≡ e.core.closed → Done v i (step v.hall i (events.Closed s)) (if b then answers.Yes else answers.No) (store_in a)
+      a.registered a.outbox.spare a.outbox.wakers
+  done_closed b is = done_quietly m.meets (events.Closed s) (if b then answers.Yes else answers.No)
+      (plays_nothing (store_in a) a.registered a.outbox.spare a.next i (events.Closed s) k less low refl) refl
+      (ap (λ t. if t then answers.Yes else answers.No) (is ∙ ap (λ (r : Semaphore). r.closed) (sym (seen_at (store_in a) a.next s e k.linked here))))
+
   pub done_ledger : (r : Ledger) → e.core.free + cores.held_of e.core + cores.paid_of e.core ≡ e.core.live → r ≡ ledger_of_entry e
       → Done v i (step v.hall i (events.Ledger s)) (answers.Account r) (store_in a) a.registered a.outbox.spare a.outbox.wakers
   done_ledger r whole is = done_quietly m.meets (events.Ledger s) (answers.Account r)
       (plays_nothing (store_in a) a.registered a.outbox.spare a.next i (events.Ledger s) k less low refl) refl
       (ap (λ x. answers.Account x) (is ∙ sym (ledger-seen (store_in a) a.registered a.outbox.spare a.next s e k here whole)))
 
-  -- too few are free
-  lacking : (n : ℕ) → e.core.free < n → Done v i (try_and_forget v.hall s n) answers.No (store_in a) a.registered a.outbox.spare a.outbox.wakers
+  seen_here : semaphore_at (hall_in a) s ≡ semaphore_of (store_in a).futures a.next s e
+  seen_here = seen_at (store_in a) a.next s e k.linked here
+
+  -- what the core offers is offered
+  pub offered : (n : ℕ) → e.core.closed ≡ false → n ≤ e.core.free → offers (hall_in a) s n ≡ true
+  offered n open_still enough = ap (λ r. not r.closed && nat_le n r.free) seen_here ∙ (λ j. not (open_still j) && le-leb n e.core.free enough j)
+
+  -- and a closed one offers none, nor one with too few
+  pub not_offered : (n : ℕ) → (e.core.closed ≡ true) ⊎ (e.core.free < n) → offers (hall_in a) s n ≡ false
+  not_offered n (inl shut) = ap (λ r. not r.closed && nat_le n r.free) seen_here ∙ ap (λ b. not b && nat_le n e.core.free) shut
+  not_offered n (inr few) = ap (λ r. not r.closed && nat_le n r.free) seen_here ∙ both_false (not e.core.closed) (nat_le n e.core.free) (lt-leb n e.core.free few)
+    where
+      both_false : (b c : Bool) → c ≡ false → (b && c) ≡ false
+      both_false true c h = h
+      both_false false c h = refl
+
+  -- it is closed, or too few are free
+  lacking : (n : ℕ) → (e.core.closed ≡ true) ⊎ (e.core.free < n)
+      → Done v i (try_and_forget v.hall s n) answers.No (store_in a) a.registered a.outbox.spare a.outbox.wakers
   lacking n few =
       let h : Hall = hall_in a in
-      let too_few : nat_le n (free h s) ≡ false = ap (nat_le n) free_seen ∙ lt-leb n e.core.free few in
+      let too_few : offers h s n ≡ false = not_offered n few in
       let outcome : try_and_forget h s n ≡ quietly h answers.No = ap (λ b. cond b (taken_off h s n) (quietly h answers.No)) too_few in
       done_quietly m.meets (events.Tryf s n) answers.No
       (plays_nothing (store_in a) a.registered a.outbox.spare a.next i (events.Tryf s n) k less low (ap (λ (o : Outcome). o.hall) outcome))
@@ -192,7 +227,8 @@ module _ {a : Inside} {v : Play} {i s : ℕ} {e : SemaphoreEntry} (m : MeetsSema
     pub seen_unchanged : x ≡ e → (wakes' : List ℕ) → wakes' ≡ a.outbox.wakers → record { hall = hall_of st' a.next; wakes = wakes'; next = a.next } ≡ v
     seen_unchanged is wakes' same = (λ j. record { hall = hall_of (as_it_was is j) a.next; wakes = same j; next = a.next }) ∙ m.meets.seen
 
-    pub done_lacking : (n : ℕ) → x ≡ e → e.core.free < n → Done v i (try_and_forget v.hall s n) answers.No st' a.registered a.outbox.spare a.outbox.wakers
+    pub done_lacking : (n : ℕ) → x ≡ e → (e.core.closed ≡ true) ⊎ (e.core.free < n)
+        → Done v i (try_and_forget v.hall s n) answers.No st' a.registered a.outbox.spare a.outbox.wakers
     done_lacking n is few = subst (λ (st : Store). Done v i (try_and_forget v.hall s n) answers.No st a.registered a.outbox.spare a.outbox.wakers)
         (sym (as_it_was is)) (lacking n few)
 
@@ -215,17 +251,17 @@ module _ {a : Inside} {v : Play} {i s : ℕ} {e : SemaphoreEntry} (m : MeetsSema
         (plays_forgetx (store_in a) st' a.registered a.outbox.spare a.next i s n e k less low small (cause (events.Forgetx s n) allowed) (puts _ is)
         refl (held_by _ is held) within) refl refl
 
-    pub done_tried : (n : ℕ) → n < 2 ^ 64 → cause_of v.hall (events.Tryf s n) ≡ None → n ≤ e.core.free
+    pub done_tried : (n : ℕ) → n < 2 ^ 64 → cause_of v.hall (events.Tryf s n) ≡ None → e.core.closed ≡ false → n ≤ e.core.free
         → x ≡ record e { core = calls.forgetting e.core n; forgotten = e.forgotten + min n e.core.free }
         → cores.held_of x.core ≡ cores.held_of e.core → min n e.core.free ≤ e.core.live
         → Done v i (try_and_forget v.hall s n) answers.Yes st' a.registered a.outbox.spare a.outbox.wakers
-    done_tried n small allowed enough is held within =
+    done_tried n small allowed open_still enough is held within =
         let h : Hall = hall_in a in
-        let fits_in : nat_le n (free h s) ≡ true = ap (nat_le n) free_seen ∙ le-leb n e.core.free enough in
+        let fits_in : offers h s n ≡ true = offered n open_still enough in
         let outcome : try_and_forget h s n ≡ taken_off h s n = ap (λ b. cond b (taken_off h s n) (quietly h answers.No)) fits_in in
         done_quietly m.meets (events.Tryf s n) answers.Yes
         (plays_tried (store_in a) st' a.registered a.outbox.spare a.next i s n e k less low small (events.Tryf s n) tt
-        (cause (events.Tryf s n) allowed) refl enough (puts _ is) refl (held_by _ is held) within)
+        (cause (events.Tryf s n) allowed) refl open_still enough (puts _ is) refl (held_by _ is held) within)
         (ap (λ (o : Outcome). o.wakes) outcome) (sym (ap (λ (o : Outcome). o.reply) outcome))
 
     pub done_endsem : cause_of v.hall (events.Endsem s) ≡ None → x ≡ record e { named = false }
@@ -234,6 +270,62 @@ module _ {a : Inside} {v : Play} {i s : ℕ} {e : SemaphoreEntry} (m : MeetsSema
         done_quietly m.meets (events.Endsem s) answers.Done
         (plays_endsem (store_in a) st' a.registered a.outbox.spare a.next i s 0 e k less low (omega arith) (cause (events.Endsem s) allowed)
         (puts _ is) refl) refl refl
+
+    -- ---- close
+    -- a closed one stays as it is
+    pub done_shut : cause_of v.hall (events.Close s) ≡ None → e.core.closed ≡ true → x ≡ e → (r spare : ℕ) (wakers : List ℕ) → wakers ≡ a.outbox.wakers
+        → r ≡ 0 → spare + r ≡ a.outbox.spare
+        → Done v i (step v.hall i (events.Close s)) answers.Done st' (a.registered - r) spare wakers
+    done_shut allowed shut is r spare wakers same none left =
+        let h : Hall = hall_in a in
+        let outcome : close_of h s ≡ quietly h answers.Done =
+        ap (λ b. if b then quietly h answers.Done else record { hall = closing h s; reply = answers.Done; wakes = wakes_waiting h s })
+        (ap (λ (r : Semaphore). r.closed) seen_here ∙ shut) in
+        let plays = plays_nothing (store_in a) a.registered a.outbox.spare a.next i (events.Close s) k less low (ap (λ (o : Outcome). o.hall) outcome) in
+        let fewer : a.registered ≡ a.registered - r = omega (arith, none) in
+        let room : a.registered - r ≤ spare = let fits = k.room in omega (arith, fits, none, left) in
+        subst (λ (st : Store). Done v i (step v.hall i (events.Close s)) answers.Done st (a.registered - r) spare wakers) (sym (as_it_was is))
+        (done m.meets wakers (events.Close s) answers.Done
+        (record { hall = plays.hall; kept = subst (λ n. IsKept (store_in a) n spare (i + 1)) fewer (kept_room spare plays.kept (omega (arith, room, fewer))) })
+        (same ∙ sym (append-nil a.outbox.wakers) ∙ ap (λ ws. a.outbox.wakers ++ ws) (sym (ap (λ (o : Outcome). o.wakes) outcome)))
+        (sym (ap (λ (o : Outcome). o.reply) outcome)))
+
+    pub done_close : cause_of v.hall (events.Close s) ≡ None → e.core.closed ≡ false → (r spare : ℕ) (wakers : List ℕ)
+        → x ≡ record e { core = record (cores.poured (cores.cut_off e.core) (cores.paid_waiting e.core.queue)) { wakes = [] } }
+        → cores.held_of x.core ≡ cores.held_of e.core
+        → wakers ≡ a.outbox.wakers ++ cores.wakers_of (cores.waiters_of e.core.queue) → r ≡ length (cores.wakers_of (cores.waiters_of e.core.queue))
+        → spare + r ≡ a.outbox.spare → cores.paid_waiting e.core.queue ≤ e.core.live
+        → Done v i (step v.hall i (events.Close s)) answers.Done st' (a.registered - r) spare wakers
+    done_close allowed open_still r spare wakers is held moved count left within =
+        let room = k.room in
+        let few = wakers_registered in
+        let all = wakers_waiting e.core.queue in
+        let with = plays_close (store_in a) st' a.registered (a.registered - r) spare a.outbox.spare a.next i s e k less low here
+        (cause (events.Close s) allowed) open_still (puts _ is).semaphores refl refl (held_by _ is held) within (omega (arith, few, count, all))
+        (omega (arith, room, left)) in
+        done m.meets wakers (events.Close s) answers.Done with.plays.plays (moved ∙ ap (λ ws. a.outbox.wakers ++ ws) (sym with.plays.wakes)) with.reply
+
+    -- either way
+    pub done_closing : cause_of v.hall (events.Close s) ≡ None → (r spare : ℕ) (wakers : List ℕ)
+        → x ≡ record e { core = record (cores.closed_core e.core) { wakes = [] } } → cores.held_of x.core ≡ cores.held_of e.core
+        → wakers ≡ a.outbox.wakers ++ close_wakes e.core → r ≡ length (close_wakes e.core) → spare + r ≡ a.outbox.spare
+        → cores.paid_waiting e.core.queue ≤ e.core.live
+        → Done v i (step v.hall i (events.Close s)) answers.Done st' (a.registered - r) spare wakers
+    done_closing allowed r spare wakers is held moved count left within = by_closed e.core.closed refl
+      where
+        as_closed : (b : Bool) → e.core.closed ≡ b
+            → x ≡ record e { core = record (if b then e.core else cores.poured (cores.cut_off e.core) (cores.paid_waiting e.core.queue)) { wakes = [] } }
+        as_closed b h = is ∙ ap
+            (λ t. record e { core = record (if t then e.core else cores.poured (cores.cut_off e.core) (cores.paid_waiting e.core.queue)) { wakes = [] } }) h
+
+        as_woken : (b : Bool) → e.core.closed ≡ b → close_wakes e.core ≡ (if b then [] else cores.wakers_of (cores.waiters_of e.core.queue))
+        as_woken b h = ap (λ t. if t then [] else cores.wakers_of (cores.waiters_of e.core.queue)) h
+
+        by_closed : (b : Bool) → e.core.closed ≡ b → Done v i (step v.hall i (events.Close s)) answers.Done st' (a.registered - r) spare wakers
+        by_closed true shut = done_shut allowed shut (as_closed true shut ∙ ap (λ ws. record e { core = record e.core { wakes = ws } }) (sym is_quiet)) r spare wakers
+            (moved ∙ ap (λ ws. a.outbox.wakers ++ ws) (as_woken true shut) ∙ append-nil a.outbox.wakers) (count ∙ ap length (as_woken true shut)) left
+        by_closed false open_still = done_close allowed open_still r spare wakers (as_closed false open_still) held
+            (moved ∙ ap (λ ws. a.outbox.wakers ++ ws) (as_woken false open_still)) (count ∙ ap length (as_woken false open_still)) left within
 
     -- ---- release
     pub done_release : (n r spare : ℕ) (wakers : List ℕ) → n < 2 ^ 64 → cause_of v.hall (events.Release s n) ≡ None
@@ -289,6 +381,7 @@ kept_nothing spare = record {
     home = λ f x is. absurd (none_at f x is);
     owned = λ s e n d l is. absurd (none_at s e is);
     granted = λ s e n d is. absurd (none_at s e is);
+    cut = λ s e n d is. absurd (none_at s e is);
     apart = λ f g n x y is. absurd (none_at f x is);
     below = λ f x is. absurd (none_at f x is);
     numbered = λ s e is. absurd (none_at s e is);

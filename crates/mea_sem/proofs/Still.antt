@@ -16,14 +16,21 @@ pub record IsStill (e e' : SemaphoreEntry) : Type 0 where
   pub waiting : (n : ℕ) → cores.waiting e'.core.queue n ≡ cores.waiting e.core.queue n
   pub wakers : (n : ℕ) → cores.waker_under e'.core.queue n ≡ cores.waker_under e.core.queue n
   pub granted : e'.core.granted ≡ e.core.granted
+  pub cut : e'.core.cut ≡ e.core.cut
+  pub closed : e'.core.closed ≡ e.core.closed
   pub apart : cores.AreApart e.core.queue → cores.AreApart e'.core.queue
+  pub only_debts : cores.HasOnlyDebts e.core.queue → cores.HasOnlyDebts e'.core.queue
 
-pub still_queue : (e e' : SemaphoreEntry) → e'.core.queue ≡ e.core.queue → e'.core.granted ≡ e.core.granted → IsStill e e'
-still_queue e e' queue granted = record {
+pub still_queue : (e e' : SemaphoreEntry) → e'.core.queue ≡ e.core.queue → e'.core.granted ≡ e.core.granted → e'.core.cut ≡ e.core.cut
+    → e'.core.closed ≡ e.core.closed → IsStill e e'
+still_queue e e' queue granted cut closed = record {
   waiting = λ n. ap (λ q. cores.waiting q n) queue;
   wakers = λ n. ap (λ q. cores.waker_under q n) queue;
   granted = granted;
+  cut = cut;
+  closed = closed;
   apart = subst cores.AreApart (sym queue);
+  only_debts = subst cores.HasOnlyDebts (sym queue);
 }
 
 -- there is no future of a number that was not given
@@ -38,7 +45,9 @@ module _ (st st' : Store) (next i s : ℕ) (e e' : SemaphoreEntry) (linked : IsL
     (semaphores : (q : ℕ) → get st'.semaphores q ≡ cond (s == q) (Some e') (get st.semaphores q)) (futures : st'.futures ≡ st.futures)
     (still : IsStill e e') where
   belongs_still : (d n : ℕ) → Belongs e.core (Queued d n) → Belongs e'.core (Queued d n)
-  belongs_still d n h = elim h [ inl granted ↦ inl (ap (λ g. get g n) still.granted ∙ granted) | inr waits ↦ inr (waits.0, still.waiting n ∙ waits.1) ]
+  belongs_still d n (inl (inl granted)) = inl (inl (ap (λ g. get g n) still.granted ∙ granted))
+  belongs_still d n (inl (inr waits)) = inl (inr (waits.0, still.waiting n ∙ waits.1))
+  belongs_still d n (inr cut) = inr (still.closed ∙ cut.0, ap (λ g. get g n) still.cut ∙ cut.1)
 
   numbered_still : IsNumbered e'.core
   numbered_still =
@@ -46,7 +55,17 @@ module _ (st st' : Store) (next i s : ℕ) (e e' : SemaphoreEntry) (linked : IsL
       record {
         apart = still.apart old.apart;
         granted_apart = λ n waits. ap (λ g. get g n) still.granted ∙ old.granted_apart n (λ none. waits (still.waiting n ∙ none));
+        cut_apart = λ n some.
+            let parts = old.cut_apart n (λ none. some (ap (λ g. get g n) still.cut ∙ none)) in
+            (still.waiting n ∙ parts.0, ap (λ g. get g n) still.granted ∙ parts.1);
+        closing = by_closed e.core.closed e'.core.closed still.closed old.closing;
       }
+    where
+      by_closed : (b b' : Bool) → b' ≡ b → cores.CutsWhereClosed b e.core.queue e.core.cut → cores.CutsWhereClosed b' e'.core.queue e'.core.cut
+      by_closed true true same h = still.only_debts h
+      by_closed false false same h = still.cut ∙ h
+      by_closed true false same h = absurd (cc)
+      by_closed false true same h = absurd (cc)
 
   -- the number i is no future's, before and after
   pub changes_still : Changes st st' next (i + 1) s i e e' None None
@@ -64,6 +83,8 @@ module _ (st st' : Store) (next i s : ℕ) (e e' : SemaphoreEntry) (linked : IsL
     wakers = λ n free free_now. still.wakers n;
     waits = λ n d l is. inr (refl, (l, sym (still.waiting n) ∙ is));
     grants = λ n d is. (refl, ap (λ g. get g n) (sym still.granted) ∙ is);
+    cut = λ n d is. (refl, ap (λ g. get g n) (sym still.cut) ∙ is);
+    cuts = λ n free free_now. ap (λ g. get g n) still.cut;
     alone = λ g n x y is. absurd (cc);
     numbered = numbered_still;
   }
@@ -82,7 +103,7 @@ module _ (st st' : Store) (next i s : ℕ) (e e' : SemaphoreEntry) (linked : IsL
   pub hall_still : (q : List (Who × ℕ)) → queue_of st'.futures (i + 1) s e'.core.queue ≡ q
       → hall_of st' (i + 1) ≡ record {
         semaphores = insert (hall_of st next).semaphores s
-            (record { free = e'.core.free; queue = q; made = e'.made; released = e'.released; forgotten = e'.forgotten; named = e'.named });
+            (record { free = e'.core.free; queue = q; made = e'.made; released = e'.released; forgotten = e'.forgotten; named = e'.named; closed = e'.core.closed });
         futures =
             (hall_of st next).futures;
         permits = st'.permits;
@@ -90,7 +111,7 @@ module _ (st st' : Store) (next i s : ℕ) (e e' : SemaphoreEntry) (linked : IsL
   hall_still q seen = λ j. record {
     semaphores = (semaphores_after st st' next (i + 1) s i e e' None None linked changes_still
         ∙ ap (λ p. insert (hall_of st next).semaphores s
-        (record { free = e'.core.free; queue = p; made = e'.made; released = e'.released; forgotten = e'.forgotten; named = e'.named })) seen) j;
+        (record { free = e'.core.free; queue = p; made = e'.made; released = e'.released; forgotten = e'.forgotten; named = e'.named; closed = e'.core.closed })) seen) j;
     futures = futures_same st st' next (i + 1) s i e e' None None linked changes_still refl refl j;
     permits = st'.permits;
   }

@@ -1,13 +1,13 @@
 -- what changes of futures and permits do to the held permits and the plain things of each semaphore
-use Rattle.std.proofs.Common.{◌≡◌, ℕ, ◌+◌, ◌==◌, ◌&&◌, Bool, true, false, cond, refl, ap, ◌∙◌, arith, Option, Some, None}
+use Rattle.std.proofs.Common.{◌≡◌, ℕ, ◌+◌, ◌==◌, ◌&&◌, Bool, true, false, cond, List, refl, ap, ◌∙◌, arith, Option, Some, None}
 use Rattle.std.specs.Option.{option_map}
-use Rattle.std.specs.FinMap.{get}
+use Rattle.std.specs.FinMap.{get, insert}
 use Rattle.mea_base.specs.Queue.{granted_in}
 use Rattle.mea_base.specs.Totals.{weight}
 use Rattle.mea_base.proofs.Totals.{total-insert, total-remove, total-alike}
-use Rattle.mea_sem_model.specs.Hall.{Hall, Semaphore, Future, Permit, queue_at, held, plain_things, granted, pour, with_semaphore}
+use Rattle.mea_sem_model.specs.Hall.{Hall, Semaphore, Future, Permit, Stage, Granted, Who, semaphore_at, queue_at, held, plain_things, staged, stage_all, poured, pour, with_semaphore}
 use Rattle.mea_sem_model.specs.Step.{with_future, without_future, with_permit, without_permit}
-use Rattle.mea_sem_model.proofs.HallLemmas.{among, get-grant_all}
+use Rattle.mea_sem_model.proofs.HallLemmas.{among, get-stage_all}
 
 -- permits of a and p plain things leave s, and permits of b and r plain things come
 pub record Weighs (h g : Hall) (s a b p r : ℕ) : Type 0 where
@@ -122,18 +122,23 @@ module _ (h : Hall) (k : ℕ) where
   }
 
 -- ---- pours
-same_weight : (q k : ℕ) (t : Bool) (o : Option Future) → weight (λ j (p : Future). cond (p.semaphore == q && p.plain) 1 0) k
-    (cond t (option_map granted o) o) ≡ weight (λ j (p : Future). cond (p.semaphore == q && p.plain) 1 0) k o
-same_weight q k true None = refl
-same_weight q k true (Some x) = refl
-same_weight q k false o = refl
+same_weight : (z : Stage) (q k : ℕ) (t : Bool) (o : Option Future) → weight (λ j (p : Future). cond (p.semaphore == q && p.plain) 1 0) k
+    (cond t (option_map (staged z) o) o) ≡ weight (λ j (p : Future). cond (p.semaphore == q && p.plain) 1 0) k o
+same_weight z q k true None = refl
+same_weight z q k true (Some x) = refl
+same_weight z q k false o = refl
 
-pub weighs_pour : (h : Hall) (s q n : ℕ) → Weighs h (pour h s n) q 0 0 0 0
-weighs_pour h s q n = record {
+-- a semaphore is put in, and some futures come to a stage
+pub weighs_staged : (h : Hall) (s q : ℕ) (z : Stage) (ws : List Who) (r : Semaphore)
+    → Weighs h (record h { semaphores = insert h.semaphores s r; futures = stage_all z ws h.futures }) q 0 0 0 0
+weighs_staged h s q z ws r = record {
   held = λ k. refl;
   plain = λ k. (let w = total-alike (λ j (p : Future). cond (p.semaphore == k && p.plain) 1 0)
-      (λ j (p : Future). cond (p.semaphore == k && p.plain) 1 0) (pour h s n).futures h.futures
-      (λ f. ap (weight (λ j (p : Future). cond (p.semaphore == k && p.plain) 1 0) f) (get-grant_all (granted_in (queue_at h s) n) h.futures f)
-      ∙ same_weight k f (among (granted_in (queue_at h s) n) f) (get h.futures f)) in
+      (λ j (p : Future). cond (p.semaphore == k && p.plain) 1 0) (stage_all z ws h.futures) h.futures
+      (λ f. ap (weight (λ j (p : Future). cond (p.semaphore == k && p.plain) 1 0) f) (get-stage_all z ws h.futures f)
+      ∙ same_weight z k f (among ws f) (get h.futures f)) in
       omega (arith, w));
 }
+
+pub weighs_pour : (h : Hall) (s q n : ℕ) → Weighs h (pour h s n) q 0 0 0 0
+weighs_pour h s q n = weighs_staged h s q Granted (granted_in (queue_at h s) n) (poured (semaphore_at h s) n)

@@ -1,37 +1,41 @@
 -- what a poll and an end do to what is kept of a semaphore
-use Rattle.std.specs.Prelude.{ℕ, ◌≡◌, ◌+◌, ◌-◌, ◌≤◌, ◌<◌, ◌++◌, Bool, cond, List, [], Some, length}
+use Rattle.std.specs.Prelude.{ℕ, ◌≡◌, ◌+◌, ◌-◌, ◌≤◌, ◌<◌, ◌++◌, Bool, false, cond, List, [], Some, length, if◌then◌else◌}
 use Rattle.std.specs.FinMap as map
 use Rattle.mea_base.specs.Queue.{granted_in}
 use Rattle.mea_sem_core.specs.declared.acquire.Acquire.{Acquire}
-use Rattle.mea_sem_core.specs.declared.acquire.Acquire.TheVariants.{New, Queued, Done}
+use Rattle.mea_sem_core.specs.declared.acquire.Acquire.TheVariants.{New, Queued, Done, Refused}
 use Rattle.mea_base.specs.declared.ledger.Ledger.{Ledger}
-use Rattle.mea_sem_core.specs.Core.{Core, poured, wakers_of, waiting, debts, held_of, paid_of}
-use Rattle.mea_sem_core.specs.Calls.{without_acquire}
+use Rattle.mea_sem_core.specs.Core.{Core, poured, wakers_of, waiters_of, waiting, debts, held_of, paid_of}
+use Rattle.mea_sem_core.specs.Calls.{IsCutAs, without_acquire}
 use Rattle.mea_sem.specs.declared.entries.SemaphoreEntry.{SemaphoreEntry}
 
 -- the next poll of the acquire is ready, and was not before
 abbrev pub IsReady : Core ℕ → Acquire → Type 0
-IsReady c (New d) = d ≤ c.free
+IsReady c (New d) = (c.closed ≡ false) × (d ≤ c.free)
 IsReady c (Queued d n) = map.get c.granted n ≡ Some d
 IsReady c (Done d) = ⊥
+IsReady c (Refused d) = ⊥
 
 -- the next poll of the acquire is pending
 abbrev pub Waits : Core ℕ → Acquire → Type 0
-Waits c (New d) = c.free < d
+Waits c (New d) = (c.closed ≡ false) × (c.free < d)
 Waits c (Queued d n) = (lack : ℕ) × (waiting c.queue n ≡ Some (d, lack))
 Waits c (Done d) = Unit {0}
+Waits c (Refused d) = ⊥
 
--- 1 for an acquire that waits, 0 for one that was granted or was never polled
+-- 1 for an acquire that waits, 0 for one that was granted or cut or was never polled
 abbrev pub WaitedFor : Core ℕ → Acquire → ℕ → Type 0
 WaitedFor c (New d) waited = waited ≡ 0
-WaitedFor c (Queued d n) waited = (map.get c.granted n ≡ Some d → waited ≡ 0) × ((lack : ℕ) → waiting c.queue n ≡ Some (d, lack) → waited ≡ 1)
+WaitedFor c (Queued d n) waited = (map.get c.granted n ≡ Some d → waited ≡ 0) × ((lack : ℕ) → waiting c.queue n ≡ Some (d, lack) → waited ≡ 1) × (IsCutAs c d n → waited ≡ 0)
 WaitedFor c (Done d) waited = waited ≡ 0
+WaitedFor c (Refused d) waited = waited ≡ 0
 
 -- the core after a poll that is ready
 abbrev pub finished : Core ℕ → Acquire → Core ℕ
 finished c (New d) = record c { free = c.free - d }
 finished c (Queued d n) = record c { granted = map.remove c.granted n }
 finished c (Done d) = c
+finished c (Refused d) = c
 
 -- the core that gives back n that it has paid, with its wakers handed on
 abbrev pub repaid : Core ℕ → ℕ → Core ℕ
@@ -43,13 +47,19 @@ pub record Repays (e e' : SemaphoreEntry) (before after : List ℕ) (c : Core �
   pub moved : after ≡ before ++ wakers_of (granted_in c.queue n)
   pub count : left ≡ length (wakers_of (granted_in c.queue n)) + waited
 
--- a future ends: it was never polled, or was granted, or waits
+-- a future ends: it was never polled, or was granted, or waits, or was cut
 abbrev pub Ends : SemaphoreEntry → Acquire → Bool → SemaphoreEntry → List ℕ → List ℕ → ℕ → Type 0
 Ends e (New d) plain e' before after left = (e' ≡ record e { plain = e.plain - cond plain 1 0 }) × (after ≡ before) × (left ≡ 0)
 Ends e (Queued d n) plain e' before after left =
     (map.get e.core.granted n ≡ Some d → Repays e e' before after (record e.core { granted = map.remove e.core.granted n }) plain d 0 left)
     × ((lack : ℕ) → waiting e.core.queue n ≡ Some (d, lack) → Repays e e' before after (record e.core { queue = without_acquire e.core.queue n }) plain (d - lack) 1 left)
+    × (IsCutAs e.core d n → (e' ≡ record e { core = record e.core { cut = map.remove e.core.cut n }; plain = e.plain - cond plain 1 0 }) × (after ≡ before) × (left ≡ 0))
 Ends e (Done d) plain e' before after left = (e' ≡ record e { plain = e.plain - cond plain 1 0 }) × (after ≡ before) × (left ≡ 0)
+Ends e (Refused d) plain e' before after left = (e' ≡ record e { plain = e.plain - cond plain 1 0 }) × (after ≡ before) × (left ≡ 0)
+
+-- the wakers that a close makes ready
+abbrev pub close_wakes : Core ℕ → List ℕ
+close_wakes c = if c.closed then [] else wakers_of (waiters_of c.queue)
 
 -- the account of a semaphore, by its core
 abbrev pub ledger_of_entry : SemaphoreEntry → Ledger

@@ -1,9 +1,9 @@
 -- the hall that what a `SemHall` keeps stands for
 use Rattle.std.specs.Prelude.{ℕ, zero, suc, ◌≡◌, ◌≢◌, ◌<◌, ◌==◌, ◌&&◌, Bool, true, false, List, [], map, Option, Some, None, if◌then◌else◌}
 use Rattle.std.specs.Ordering.{nat_cmp}
-use Rattle.std.specs.FinMap.{FinMap, get, entries}
+use Rattle.std.specs.FinMap.{FinMap, get, empty, entries}
 use Rattle.mea_base.specs.Named.{named}
-use Rattle.mea_sem_model.specs.Hall.{Hall, Semaphore, Future, Permit, Stage, New, Waiting, Granted, Who, Waiter, Debt}
+use Rattle.mea_sem_model.specs.Hall.{Hall, Semaphore, Future, Permit, Stage, New, Waiting, Granted, Cut, Who, Waiter, Debt}
 use Rattle.mea_sem_core.specs.declared.acquire.Acquire.{Acquire}
 use Rattle.mea_sem_core.specs.declared.acquire.Acquire.TheVariants as acquires
 use Rattle.mea_sem_core.specs.Acquire.{demand_of}
@@ -31,6 +31,7 @@ abbrev pub is_under : Acquire → ℕ → Bool
 is_under (acquires.New demand) n = false
 is_under (acquires.Queued demand m) n = m == n
 is_under (acquires.Done demand) n = false
+is_under (acquires.Refused demand) n = false
 
 -- whether a future has this number in the core of s
 abbrev pub has : ℕ → ℕ → Option FutureEntry → Bool
@@ -51,24 +52,27 @@ abbrev pub queue_of : FinMap nat_cmp FutureEntry → ℕ → ℕ → List (cores
 queue_of futures bound s q = map (λ (e : cores.Waiter ℕ × ℕ). (who_of futures bound s e.0, e.1)) q
 
 abbrev pub semaphore_of : FinMap nat_cmp FutureEntry → ℕ → ℕ → SemaphoreEntry → Semaphore
-semaphore_of futures bound s e = record { free = e.core.free; queue = queue_of futures bound s e.core.queue; made = e.made; released = e.released; forgotten = e.forgotten; named = e.named }
+semaphore_of futures bound s e = record { free = e.core.free; queue = queue_of futures bound s e.core.queue; made = e.made; released = e.released; forgotten = e.forgotten; named = e.named; closed = e.core.closed }
 
--- a number with a waker waits, and one without was granted
-abbrev pub stage_under : Option ℕ → Stage
-stage_under None = Granted
-stage_under (Some w) = Waiting w
+-- a number with a waker waits, one with the demand that it was cut with is cut, and another was granted
+abbrev pub stage_under : Option ℕ → Option ℕ → Stage
+stage_under (Some w) cut = Waiting w
+stage_under None (Some demand) = Cut
+stage_under None None = Granted
 
-abbrev pub stage_of : Acquire → List (cores.Waiter ℕ × ℕ) → Stage
-stage_of (acquires.New demand) q = New
-stage_of (acquires.Queued demand n) q = stage_under (cores.waker_under q n)
-stage_of (acquires.Done demand) q = New
+abbrev pub stage_of : Acquire → cores.Core ℕ → Stage
+stage_of (acquires.New demand) c = New
+stage_of (acquires.Queued demand n) c = stage_under (cores.waker_under c.queue n) (get c.cut n)
+stage_of (acquires.Done demand) c = New
+stage_of (acquires.Refused demand) c = New
 
-abbrev pub queue_in : Option SemaphoreEntry → List (cores.Waiter ℕ × ℕ)
-queue_in None = []
-queue_in (Some e) = e.core.queue
+-- the core of a semaphore; one with nothing, where there is none
+abbrev pub core_in : Option SemaphoreEntry → cores.Core ℕ
+core_in None = record { free = 0; live = 0; queue = []; granted = empty; cut = empty; closed = false; wakes = [] }
+core_in (Some e) = e.core
 
 abbrev pub future_of : FinMap nat_cmp SemaphoreEntry → FutureEntry → Future
-future_of semaphores x = record { semaphore = x.semaphore; demand = demand_of x.acquire; plain = x.plain; forgets = x.forgets; stage = stage_of x.acquire (queue_in (get semaphores x.semaphore)) }
+future_of semaphores x = record { semaphore = x.semaphore; demand = demand_of x.acquire; plain = x.plain; forgets = x.forgets; stage = stage_of x.acquire (core_in (get semaphores x.semaphore)) }
 
 -- the hall, where all names are below the bound
 abbrev pub hall_of : Store → ℕ → Hall
@@ -78,11 +82,12 @@ hall_of st bound = record {
   permits = st.permits;
 }
 
--- an acquire that is kept was not ready
+-- an acquire that is kept was not ready, and not refused
 abbrev pub IsOpen : Acquire → Type 0
 IsOpen (acquires.New demand) = Unit {0}
 IsOpen (acquires.Queued demand n) = Unit {0}
 IsOpen (acquires.Done demand) = ⊥
+IsOpen (acquires.Refused demand) = ⊥
 
 -- an acquire that is kept belongs to the core of its semaphore
 pub record IsHome (st : Store) (x : FutureEntry) : Type 0 where
@@ -103,12 +108,15 @@ pub record IsOwned (st : Store) (s number demand : ℕ) : Type 0 where
 pub record IsNumbered (c : cores.Core ℕ) : Type 0 where
   pub apart : cores.AreApart c.queue
   pub granted_apart : (n : ℕ) → cores.waiting c.queue n ≢ None → get c.granted n ≡ None
+  pub cut_apart : (n : ℕ) → get c.cut n ≢ None → (cores.waiting c.queue n ≡ None) × (get c.granted n ≡ None)
+  pub closing : cores.CutsWhereClosed c.closed c.queue c.cut
 
 -- futures and numbers of cores go together
 pub record IsLinked (st : Store) (bound : ℕ) : Type 0 where
   pub home : (f : ℕ) (x : FutureEntry) → get st.futures f ≡ Some x → IsHome st x
   pub owned : (s : ℕ) (e : SemaphoreEntry) (n demand lack : ℕ) → get st.semaphores s ≡ Some e → cores.waiting e.core.queue n ≡ Some (demand, lack) → IsOwned st s n demand
   pub granted : (s : ℕ) (e : SemaphoreEntry) (n demand : ℕ) → get st.semaphores s ≡ Some e → get e.core.granted n ≡ Some demand → IsOwned st s n demand
+  pub cut : (s : ℕ) (e : SemaphoreEntry) (n demand : ℕ) → get st.semaphores s ≡ Some e → get e.core.cut n ≡ Some demand → IsOwned st s n demand
   pub apart : (f g n : ℕ) → (x y : FutureEntry) → get st.futures f ≡ Some x → get st.futures g ≡ Some y → x.semaphore ≡ y.semaphore → is_under x.acquire n ≡ true → is_under y.acquire n ≡ true → f ≡ g
   pub below : (f : ℕ) (x : FutureEntry) → get st.futures f ≡ Some x → f < bound
   pub numbered : (s : ℕ) (e : SemaphoreEntry) → get st.semaphores s ≡ Some e → IsNumbered e.core

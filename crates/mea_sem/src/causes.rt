@@ -23,6 +23,7 @@ impl SemHall {
             SemEvent::Release(s, n) => self.cause_of_release(s, n),
             SemEvent::Endsem(s) => self.cause_of_end_name(s),
             SemEvent::Free(s) | SemEvent::Ledger(s) => unknown_unless(self.is_named(s)),
+            SemEvent::Close(s) | SemEvent::Closed(s) => unknown_unless(self.is_named(s)),
             SemEvent::Forget(s, _) | SemEvent::Forgetx(s, _) => unknown_unless(self.is_named(s)),
             SemEvent::Try(s, _) | SemEvent::Tryo(s, _) => unknown_unless(self.is_named(s)),
             SemEvent::Tryf(s, _) | SemEvent::Tryof(s, _) => unknown_unless(self.is_named(s)),

@@ -1,8 +1,8 @@
-ghost use Rattle.std.specs.Prelude.{◌≡◌, ◌≢◌, ◌+◌, ◌-◌, ◌<◌, ◌≤◌, ◌^◌, ◌++◌, [], length, min, cond, ℕ, true, false, Some, IsOk, OnOk, OnErr, IfOk, MatchResult};
+ghost use Rattle.std.specs.Prelude.{◌≡◌, ◌≢◌, ◌+◌, ◌-◌, ◌<◌, ◌≤◌, ◌^◌, ◌++◌, ◌⊎◌, [], length, min, cond, ℕ, true, false, Some, IsOk, OnOk, OnErr, IfOk, MatchResult};
 ghost use Rattle.mea_base.specs.Queue.{granted_in};
 ghost use Rattle.mea_sem_core.specs.Acquire.{demand_of};
-ghost use Rattle.mea_sem_core.specs.Core.{held_of, paid_of, poured, wakers_of, debts};
-ghost use Rattle.mea_sem_core.specs.Calls.{Belongs, Queues, forgetting, forgetting_exactly, with_waker};
+ghost use Rattle.mea_sem_core.specs.Core.{held_of, paid_of, poured, wakers_of, paid_waiting, debts, closed_core};
+ghost use Rattle.mea_sem_core.specs.Calls.{Belongs, IsRefused, Queues, after_refusal, forgetting, forgetting_exactly, with_waker};
 
 use crate::moving::hand_on;
 use mea_base::{Ledger, NoMemory, Outbox};
@@ -95,8 +95,18 @@ impl SemaphoreEntry {
         Ok(())
     }
 
-    /// Takes `n` permits, which are free, for a permit.
+    /// Whether it is open and has `n` free permits.
+    pub fn offers(&self, n: usize) -> bool
+        ensures open_still { result ≡ true → self.now.core.closed ≡ false }
+        ensures enough { result ≡ true → n ≤ self.now.core.free }
+        ensures lacks { result ≡ false → (self.now.core.closed ≡ true) ⊎ (self.now.core.free < n) }
+    {
+        !self.core.is_closed() && n <= self.core.available_permits()
+    }
+
+    /// Takes `n` permits, which are free, for a permit, where the semaphore is open.
     pub fn take(&mut self, n: usize, plain: bool)
+        requires is_open { self.old.core.closed ≡ false }
         requires free { n ≤ self.old.core.free }
         requires few { self.old.plain + 1 < 2 ^ 128 }
         ensures is { self.new ≡ record self.old { core = record self.old.core { free = self.old.core.free - n }; plain = self.old.plain + cond plain 1 0 } }
@@ -197,17 +207,21 @@ impl SemaphoreEntry {
 }
 
 impl SemaphoreEntry {
-    ghost use Rattle.mea_sem.specs.Entries.{IsReady, Waits, WaitedFor, finished, Ends};
+    ghost use Rattle.mea_sem.specs.Entries.{IsReady, Waits, WaitedFor, finished, Ends, close_wakes};
+    ghost use Rattle.mea_sem.specs.Store.{IsOpen};
     ghost use Rattle.mea_sem.specs.Kept.{wakers_in};
 
-    /// Whether the next poll of the acquire is ready.
+    /// Whether the next poll of the acquire is ready. If not, it waits or is refused.
     pub fn is_ready(&self, acquire: &Acquire) -> bool
-        requires { Belongs self.now.core acquire.now }
+        requires belongs { Belongs self.now.core acquire.now }
+        requires is_open { IsOpen acquire.now }
         ensures ready { result ≡ true → IsReady self.now.core acquire.now }
-        ensures waits { result ≡ false → Waits self.now.core acquire.now }
+        ensures waits { result ≡ false → self.now.core.closed ≡ false → Waits self.now.core acquire.now }
+        ensures refused { result ≡ false → self.now.core.closed ≡ true → IsRefused self.now.core acquire.now }
     {
+        let closed = self.core.is_closed();
         match *acquire {
-            Acquire::New { demand } => demand <= self.core.available_permits(),
+            Acquire::New { demand } => !closed && demand <= self.core.available_permits(),
             _ => self.core.is_granted(acquire),
         }
     }
@@ -219,7 +233,19 @@ impl SemaphoreEntry {
         ensures held { held_of self.new.core ≡ held_of self.old.core + demand_of acquire }
     {
         let mut acquire = acquire;
-        let _turn = self.core.poll(&mut acquire, waker);
+        let _turn = self.core.poll_open(&mut acquire, waker);
+    }
+
+    /// Polls an acquire that a closed semaphore refuses.
+    pub fn refuse(&mut self, acquire: Acquire, waker: u64, plain: bool)
+        requires refused { IsRefused self.old.core acquire }
+        requires plain { cond plain 1 0 ≤ self.old.plain }
+        ensures is { self.new ≡ record self.old { core = after_refusal self.old.core acquire; plain = self.old.plain - cond plain 1 0 } }
+        ensures held { held_of self.new.core ≡ held_of self.old.core }
+    {
+        let mut acquire = acquire;
+        let _turn = self.core.poll_open(&mut acquire, waker);
+        self.discount(plain);
     }
 
     /// Polls an acquire that is ready, and takes its permits away for ever.
@@ -238,14 +264,14 @@ impl SemaphoreEntry {
 
     /// Polls a new acquire that has to wait. Where there is no memory, nothing has changed.
     pub fn queue(&mut self, demand: usize, waker: u64) -> Result<Acquire, NoMemory>
-        requires { self.old.core.free < demand }
+        requires { Waits self.old.core (Acquire.New demand) }
         ensures queued { IfOk result (λ acquire. (number : ℕ) × Queues self.old.core self.new.core demand waker number × (acquire ≡ Acquire.Queued demand number)) }
         ensures rest { OnOk result (self.new ≡ record self.old { core = self.new.core }) }
         ensures held { OnOk result (held_of self.new.core ≡ held_of self.old.core) }
         ensures err { OnErr result (self.new ≡ self.old) }
     {
         let mut acquire = Acquire::new(demand);
-        match self.core.poll(&mut acquire, waker) {
+        match self.core.poll_open(&mut acquire, waker) {
             Ok(_) => Ok(acquire),
             Err(_) => Err(NoMemory),
         }
@@ -258,7 +284,7 @@ impl SemaphoreEntry {
         ensures held { held_of self.new.core ≡ held_of self.old.core }
     {
         let mut acquire = Acquire::Queued { demand, number };
-        let _turn = self.core.poll(&mut acquire, waker);
+        let _turn = self.core.poll_open(&mut acquire, waker);
     }
 
     /// Ends an acquire, and pours what it was paid; hands the wakers on, and tells how many wakers left
@@ -285,9 +311,25 @@ impl SemaphoreEntry {
         ensures { WaitedFor self.now.core acquire.now result }
     {
         match *acquire {
-            Acquire::Queued { .. } if !self.core.is_granted(acquire) => 1,
+            Acquire::Queued { .. } if !self.core.is_closed() && !self.core.is_granted(acquire) => 1,
             _ => 0,
         }
+    }
+
+    /// Closes the semaphore, hands the wakers on, and tells how many they were.
+    pub fn close(&mut self, outbox: &mut Outbox<u64>) -> usize
+        requires quiet { self.old.core.wakes ≡ [] }
+        requires room { wakers_in self.old.core.queue ≤ outbox.old.spare }
+        ensures is { self.new ≡ record self.old { core = record (closed_core self.old.core) { wakes = [] } } }
+        ensures held { held_of self.new.core ≡ held_of self.old.core }
+        ensures moved { outbox.new.wakers ≡ outbox.old.wakers ++ close_wakes self.old.core }
+        ensures spare { outbox.new.spare + result ≡ outbox.old.spare }
+        ensures count { result ≡ length (close_wakes self.old.core) }
+        ensures within { paid_waiting self.old.core.queue ≤ self.old.core.live }
+    {
+        let _live = self.core.live();
+        self.core.close();
+        hand_on(&mut self.core, outbox)
     }
 }
 
@@ -296,7 +338,9 @@ fn demand(acquire: &Acquire) -> usize
     ensures { result ≡ demand_of acquire.now }
 {
     match *acquire {
-        Acquire::New { demand } | Acquire::Queued { demand, .. } | Acquire::Done { demand } =>
-            demand,
+        Acquire::New { demand }
+        | Acquire::Queued { demand, .. }
+        | Acquire::Done { demand }
+        | Acquire::Refused { demand } => demand,
     }
 }

@@ -60,6 +60,7 @@ impl SemHall {
             unreachable!()
         };
         let ready = entry.is_ready(&future.acquire);
+        let closed = entry.core.is_closed();
         let forgets = future.forgets;
         let new = future.is_new();
         if ready {
@@ -68,6 +69,9 @@ impl SemHall {
             } else {
                 self.finish(number, f, waker)
             };
+        }
+        if closed {
+            return Ok(self.refuse(number, f, waker));
         }
         if new {
             return self.queue(number, f, waker);
@@ -121,6 +125,24 @@ impl SemHall {
         entry.finish(future.acquire, waker);
         self.next = number as u128 + 1;
         Ok(Answer::Ready)
+    }
+
+    // A poll that a closed semaphore refuses: the future is gone with nothing.
+    fn refuse(&mut self, number: u64, f: u64, waker: u64) -> Answer
+        requires next { self.old.next ≤ number }
+        requires allowed { cause_of self.old.hall (SemEvent.Poll f waker) ≡ None }
+        requires gone { (step self.old.hall number (SemEvent.Poll f waker)).reply ≡ Answer.Gone }
+        ensures { Plays self.old number (SemEvent.Poll f waker) result self.new }
+    {
+        let Some(future) = self.futures.remove(&f) else {
+            unreachable!()
+        };
+        let Some(entry) = self.semaphores.get_mut(&future.semaphore) else {
+            unreachable!()
+        };
+        entry.refuse(future.acquire, waker, future.plain);
+        self.next = number as u128 + 1;
+        Answer::Gone
     }
 
     // A first poll that has to wait.

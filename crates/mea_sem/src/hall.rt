@@ -1,6 +1,7 @@
 ghost use Rattle.std.specs.Prelude.{◌≡◌, ◌≢◌, ◌≤◌, ◌∷◌, [], ◌⊎◌, ℕ, length, is_some, OnOk, OnErr, IfOk, IfErr, IfSome, IfNone, None, Some};
 ghost use Rattle.mea_sem_model.specs.Hall.{empty_hall};
 ghost use Rattle.mea_sem_model.specs.Cause.{cause_of, is_named};
+ghost use Rattle.mea_sem_model.specs.Valid.{IsValid};
 ghost use Rattle.mea_sem_model.specs.Waiters.{waiters};
 ghost use Rattle.mea_sem.specs.Play.{Play, Plays, TakesNoMemory};
 ghost use Rattle.mea_sem.specs.StandsFor.{StandsFor};
@@ -10,7 +11,7 @@ use mea_base::{Answer, Outbox, Stop};
 use mea_sem_core::SemCore;
 use mea_sem_model::SemEvent;
 use std::alloc::Global;
-use std::collections::BTreeMap;
+use std::collections::HashMap;
 use std::marker::Model;
 
 /// Many semaphores with their futures and permits, each by the number of the event that made it.
@@ -20,9 +21,9 @@ use std::marker::Model;
 #[derive(Drop)]
 pub struct SemHall {
     pub(crate) alloc: Global,
-    pub(crate) semaphores: BTreeMap<u64, SemaphoreEntry>,
-    pub(crate) futures: BTreeMap<u64, FutureEntry>,
-    pub(crate) permits: BTreeMap<u64, PermitEntry>,
+    pub(crate) semaphores: HashMap<u64, SemaphoreEntry>,
+    pub(crate) futures: HashMap<u64, FutureEntry>,
+    pub(crate) permits: HashMap<u64, PermitEntry>,
     // How many futures wait. The outbox has room for the waker of each.
     pub(crate) registered: usize,
     pub(crate) outbox: Outbox<u64>,
@@ -51,9 +52,9 @@ impl SemHall {
     {
         SemHall {
             alloc,
-            semaphores: BTreeMap::new(alloc),
-            futures: BTreeMap::new(alloc),
-            permits: BTreeMap::new(alloc),
+            semaphores: HashMap::new(alloc),
+            futures: HashMap::new(alloc),
+            permits: HashMap::new(alloc),
             registered: 0,
             outbox: Outbox::new(alloc),
             next: 0,
@@ -80,6 +81,7 @@ impl SemHall {
     pub fn registered(&self) -> usize
         ensures count { result ≡ waiters self.now.hall }
         ensures few { result ≤ self.now.next }
+        ensures valid { IsValid self.now.hall }
     {
         self.registered
     }
@@ -127,6 +129,8 @@ impl SemHall {
             SemEvent::Size(p) => Ok(self.size(number, p)),
             SemEvent::Endsem(s) => Ok(self.end_name(number, s)),
             SemEvent::Ledger(s) => Ok(self.ledger(number, s)),
+            SemEvent::Close(s) => Ok(self.close(number, s)),
+            SemEvent::Closed(s) => Ok(self.closed(number, s)),
         }
     }
 

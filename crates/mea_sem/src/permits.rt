@@ -28,7 +28,7 @@ impl SemHall {
         let Some(entry) = self.semaphores.get(&s) else {
             unreachable!()
         };
-        if n as usize > entry.core.available_permits() {
+        if !entry.offers(n as usize) {
             self.next = number as u128 + 1;
             return Ok(Answer::Lacking);
         }

@@ -101,7 +101,7 @@ impl SemHall {
         let Some(entry) = self.semaphores.get_mut(&s) else {
             unreachable!()
         };
-        if n as usize > entry.core.available_permits() {
+        if !entry.offers(n as usize) {
             self.next = number as u128 + 1;
             return Answer::No;
         }
@@ -121,6 +121,32 @@ impl SemHall {
         entry.named = false;
         self.next = number as u128 + 1;
         Answer::Done
+    }
+
+    pub(crate) fn close(&mut self, number: u64, s: u64) -> Answer
+        requires next { self.old.next ≤ number }
+        requires allowed { cause_of self.old.hall (SemEvent.Close s) ≡ None }
+        ensures { Plays self.old number (SemEvent.Close s) result self.new }
+    {
+        let Some(entry) = self.semaphores.get_mut(&s) else {
+            unreachable!()
+        };
+        self.registered -= entry.close(&mut self.outbox);
+        self.next = number as u128 + 1;
+        Answer::Done
+    }
+
+    pub(crate) fn closed(&mut self, number: u64, s: u64) -> Answer
+        requires next { self.old.next ≤ number }
+        requires allowed { cause_of self.old.hall (SemEvent.Closed s) ≡ None }
+        ensures { Plays self.old number (SemEvent.Closed s) result self.new }
+    {
+        let Some(entry) = self.semaphores.get(&s) else {
+            unreachable!()
+        };
+        let closed = entry.core.is_closed();
+        self.next = number as u128 + 1;
+        if closed { Answer::Yes } else { Answer::No }
     }
 
     pub(crate) fn ledger(&mut self, number: u64, s: u64) -> Answer

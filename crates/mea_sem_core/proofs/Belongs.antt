@@ -1,5 +1,5 @@
 -- an acquire of a core: what its place holds, and what a later poll or its end does to the places
-use Rattle.std.proofs.Common.{◌≡◌, ℕ, ◌⊎◌, true, false, IsSome, Some, None, refl, ap, ◌∙◌}
+use Rattle.std.proofs.Common.{◌≡◌, ℕ, Bool, true, false, IsSome, Some, None, refl, ap, ◌∙◌}
 use Rattle.std.specs.FinMap as fin
 use Rattle.mea_base.specs.WaitList.{Waits, get, is_linked, with_value, without, Updates}
 use Rattle.mea_sem_core.specs.declared.place.Place.{Place}
@@ -7,18 +7,15 @@ use Rattle.mea_sem_core.specs.declared.place.Place.TheVariants.{Acquire}
 use Rattle.mea_sem_core.specs.Core.{waiting}
 use Rattle.mea_sem_core.specs.Places.{queue_of, granted_of, IsQueue, is_grant_of, with_new_waker, paid_slot, LacksAtMost}
 use Rattle.mea_sem_core.proofs.Grants.{Updates-with_value}
-use Rattle.mea_sem_core.proofs.Leaves.{place_of, in_use_at, within_at, granted_at, waiting_at, slot_waiting, slot_from_granted, unlinked_granted, not_both, Takes, takes, Rewakes, rewakes, Departs, departs, Updates-unlinked}
+use Rattle.mea_sem_core.proofs.Leaves.{IsOf, IsOneOf, place_of, place_of_one, in_use_at, within_at, granted_at, waiting_at, slot_waiting, slot_from_granted, unlinked_granted, not_both, Takes, takes, Rewakes, rewakes, Departs, departs, Updates-unlinked}
 
 module _ {W : Type 0} where
-  -- under this number an acquire of this demand was granted, or waits
-  abbrev pub IsOf : Waits (Place W) → ℕ → ℕ → Type 0
-  IsOf w demand number = (fin.get (granted_of w) number ≡ Some demand) ⊎ ((lack : ℕ) × (waiting (queue_of w) number ≡ Some (demand, lack)))
+  pub in_use : (w : Waits (Place W)) (closed : Bool) (demand number : ℕ) → IsOneOf w closed demand number → IsSome (get w number)
+  in_use w closed demand number is = in_use_at w demand number (place_of_one w closed demand number is)
 
-  pub in_use : (w : Waits (Place W)) (demand number : ℕ) → IsOf w demand number → IsSome (get w number)
-  in_use w demand number is = in_use_at w demand number (place_of w demand number is)
-
-  pub lacks_at_most : (w : Waits (Place W)) (demand number : ℕ) (x : Place W) → IsQueue w → IsOf w demand number → get w number ≡ Some x → LacksAtMost x
-  lacks_at_most w demand number x kept is found = within_at w demand number x kept found (place_of w demand number is)
+  pub lacks_at_most : (w : Waits (Place W)) (closed : Bool) (demand number : ℕ) (x : Place W) → IsQueue w → IsOneOf w closed demand number
+      → get w number ≡ Some x → LacksAtMost x
+  lacks_at_most w closed demand number x kept is found = within_at w demand number x kept found (place_of_one w closed demand number is)
 
   -- a number is not granted and waiting at once
   pub not_waiting : (w : Waits (Place W)) (demand number lack : ℕ) (x : Place W) → get w number ≡ Some x → is_grant_of x demand ≡ true
@@ -52,9 +49,10 @@ module _ {W : Type 0} where
       rw now (rewakes w (with_value w number (Acquire demand waits.0 waker)) number demand waits.0 waits.1 waker was updates refl kept)
 
   -- ---- its end
-  pub ended : (old mid new : Waits (Place W)) (demand number : ℕ) (x : Place W) → IsQueue old → IsOf old demand number → get old number ≡ Some x
+  pub ended : (old mid new : Waits (Place W)) (closed : Bool) (demand number : ℕ) (x : Place W) → IsQueue old → IsOneOf old closed demand number
+      → get old number ≡ Some x
       → mid ≡ record old { order = without number old.order } → Updates mid new number None → new.order ≡ mid.order
       → Departs old new demand number (paid_slot (Some x))
-  ended old mid new demand number x kept belongs found left updates order =
+  ended old mid new closed demand number x kept belongs found left updates order =
       departs old new demand number x kept found (Updates-unlinked old mid new number None (ap (λ w. w.slots) left) updates)
-      (order ∙ ap (λ w. w.order) left) (place_of old demand number belongs)
+      (order ∙ ap (λ w. w.order) left) (place_of_one old closed demand number belongs)

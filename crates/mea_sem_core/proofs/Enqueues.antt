@@ -1,20 +1,19 @@
 -- what a new waiter does to the queue
-use Rattle.std.proofs.Common.{◌≡◌, ◌≢◌, ℕ, suc, ◌+◌, ◌-◌, ◌≤◌, Bool, true, false, cond, ◌||◌, eqb, List, [], ◌∷◌, ◌++◌, length, get_or, Option, Some, None, refl, sym, ap, ap₂, subst, ◌∙◌, inl, inr, arith}
+use Rattle.std.proofs.Common.{◌≡◌, ◌≢◌, ℕ, suc, ◌+◌, ◌-◌, ◌<◌, ◌≤◌, ◌^◌, Bool, true, false, cond, ◌||◌, eqb, List, [], ◌∷◌, ◌++◌, length, get_or, Option, Some, None, refl, sym, ap, ap₂, subst, ◌∙◌, inl, inr, arith}
 use Rattle.std.proofs.lemmas.Bool.{cases_eq}
 use Rattle.std.proofs.lemmas.Bool.Decides.{nat_tests}
 use Rattle.std.specs.List.{list_any}
-use Rattle.std.specs.Ordering.{nat_cmp}
 use Rattle.std.specs.FinMap as fin
-use Rattle.mea_base.specs.WaitList.{get, is_linked, IsAbsent, IsDistinct, Updates, without}
+use Rattle.mea_base.specs.WaitList.{get, is_linked, value_count, IsAbsent, IsDistinct, Updates, without}
 use Rattle.mea_base.specs.WaitList as base
 use Rattle.mea_base.proofs.Waits.{sum_by-updated, IsDistinct-push}
 use Rattle.mea_sem_core.specs.declared.place.Place.{Place}
-use Rattle.mea_sem_core.specs.declared.place.Place.TheVariants.{Acquire, Debt, Granted}
+use Rattle.mea_sem_core.specs.declared.place.Place.TheVariants.{Acquire, Debt, Granted, Cut}
 use Rattle.mea_sem_core.specs.Core.{Acquires, Owes, waiting, HasDebtsFirst}
-use Rattle.mea_sem_core.specs.Places.{entry, entries, queue_of, granted_of, grant_of, pairs_from, IsWaiting, AllWaiting, IsQueue, paid_slot, paid_in}
+use Rattle.mea_sem_core.specs.Places.{entry, entries, queue_of, granted_of, cut_of, grant_of, cut_demand, demands_by, IsWaiting, AllWaiting, IsQueue, paid_slot, paid_in}
 use Rattle.mea_sem_core.proofs.Debts.{debts_first_append}
 use Rattle.mea_sem_core.proofs.PourSteps.{linked_first}
-use Rattle.mea_sem_core.proofs.Places.{entries-updated, AllWaiting-updated, granted_same, get-granted}
+use Rattle.mea_sem_core.proofs.Places.{entries-updated, AllWaiting-updated, demands_updated, get-demands}
 
 unlinked-push : (m n : ℕ) (ns : List ℕ) → list_any (λ k. eqb k m) (ns ++ n ∷ []) ≡ false → list_any (λ k. eqb k m) ns ≡ false
 unlinked-push m n [] none = refl
@@ -49,7 +48,7 @@ module _ {W : Type 0} where
   absent_from_none slots n (m ∷ ms) none all =
       ((λ same. let waits = all.0 in let here : get_or slots m None ≡ None = rw same none in rw here at waits), absent_from_none slots n ms none all.1)
 
-  entries-push : (slots : List (Option (Place W))) (n : ℕ) (ns : List ℕ) → entries slots (ns ++ n ∷ []) ≡ entries slots ns ++ entry n (get_or slots n None) ∷ []
+  pub entries-push : (slots : List (Option (Place W))) (n : ℕ) (ns : List ℕ) → entries slots (ns ++ n ∷ []) ≡ entries slots ns ++ entry n (get_or slots n None) ∷ []
   entries-push slots n [] = refl
   entries-push slots n (m ∷ ms) = ap (λ es. entry m (get_or slots m None) ∷ es) (entries-push slots n ms)
 
@@ -62,14 +61,15 @@ module _ {W : Type 0} where
   pub record Enqueues (old new : base.Waits (Place W)) (number demand lack : ℕ) (waker : W) : Type 0 where
     pub queue : queue_of new ≡ queue_of old ++ (Acquires number demand waker, lack) ∷ []
     pub granted : granted_of new ≡ granted_of old
+    pub cut : cut_of new ≡ cut_of old
     pub kept : IsQueue new
     pub paid : paid_in new ≡ paid_in old + (demand - lack)
     pub longer : length new.order ≡ length old.order + 1
 
   pub enqueues : (old new : base.Waits (Place W)) (number demand lack : ℕ) (waker : W) → get old number ≡ None
-      → Updates old new number (Some (Acquire demand lack waker)) → new.order ≡ old.order ++ number ∷ [] → 1 ≤ lack → lack ≤ demand → IsQueue old
+      → Updates old new number (Some (Acquire demand lack waker)) → new.order ≡ old.order ++ number ∷ [] → 1 ≤ lack → lack ≤ demand → value_count new < 2 ^ 64 → IsQueue old
       → Enqueues old new number demand lack waker
-  enqueues old new number demand lack waker fresh updates order some within kept =
+  enqueues old new number demand lack waker fresh updates order some within few kept =
       let absent = absent_from_none old.slots number old.order fresh kept.waiting in
       let sum = sum_by-updated paid_slot refl old.slots new.slots number updates.others in
       let part = rw (fresh, updates.changed) at sum in
@@ -78,13 +78,12 @@ module _ {W : Type 0} where
       (entries-updated old.slots new.slots number old.order updates.others absent) updates.changed) in
       record {
         queue = queue;
-        granted = granted_same old.slots new.slots (λ q. elim (cases_eq q number) [
-          | inl same ↦ rw (same, updates.changed, fresh) refl
-          | inr differs ↦ ap grant_of (updates.others q differs)
-        ]);
+        granted = demands_updated grant_of refl old.slots new.slots number updates.others (rw (updates.changed, fresh) refl);
+        cut = demands_updated cut_demand refl old.slots new.slots number updates.others (rw (updates.changed, fresh) refl);
         kept = record {
           distinct = rw order (IsDistinct-push number old.order absent kept.distinct);
           debts_first = subst HasDebtsFirst (sym queue) (debts_first_append (queue_of old) number demand lack waker kept.debts_first);
+          few = few;
           waiting = rw order (AllWaiting-push new.slots number old.order (rw updates.changed (some, within))
               (AllWaiting-updated old.slots new.slots number old.order updates.others absent kept.waiting));
           idle = λ m unlinked. elim (cases_eq m number) [
@@ -100,13 +99,14 @@ module _ {W : Type 0} where
   pub record Owing (old new : base.Waits (Place W)) (lack : ℕ) : Type 0 where
     pub queue : queue_of new ≡ (Owes, lack) ∷ queue_of old
     pub granted : granted_of new ≡ granted_of old
+    pub cut : cut_of new ≡ cut_of old
     pub kept : IsQueue new
     pub paid : paid_in new ≡ paid_in old
     pub longer : length new.order ≡ length old.order + 1
 
   pub owing : (old new : base.Waits (Place W)) (number lack : ℕ) → get old number ≡ None → Updates old new number (Some (Debt lack))
-      → new.order ≡ number ∷ old.order → 1 ≤ lack → IsQueue old → Owing old new lack
-  owing old new number lack fresh updates order some kept =
+      → new.order ≡ number ∷ old.order → 1 ≤ lack → value_count new < 2 ^ 64 → IsQueue old → Owing old new lack
+  owing old new number lack fresh updates order some few kept =
       let absent = absent_from_none old.slots number old.order fresh kept.waiting in
       let sum = sum_by-updated paid_slot refl old.slots new.slots number updates.others in
       let part = rw (fresh, updates.changed) at sum in
@@ -114,10 +114,8 @@ module _ {W : Type 0} where
       rw (order, updates.changed) (ap (λ es. (Owes, lack) ∷ es) (entries-updated old.slots new.slots number old.order updates.others absent)) in
       record {
         queue = queue;
-        granted = granted_same old.slots new.slots (λ q. elim (cases_eq q number) [
-          | inl same ↦ rw (same, updates.changed, fresh) refl
-          | inr differs ↦ ap grant_of (updates.others q differs)
-        ]);
+        granted = demands_updated grant_of refl old.slots new.slots number updates.others (rw (updates.changed, fresh) refl);
+        cut = demands_updated cut_demand refl old.slots new.slots number updates.others (rw (updates.changed, fresh) refl);
         kept = record {
           distinct = rw order (absent, kept.distinct);
           waiting = rw order (rw updates.changed some, AllWaiting-updated old.slots new.slots number old.order updates.others absent kept.waiting);
@@ -126,6 +124,7 @@ module _ {W : Type 0} where
             | inr differs ↦ rw (updates.others m differs) (kept.idle m (unlinked_behind m number old.order differs (rw order at unlinked)))
           ];
           debts_first = subst HasDebtsFirst (sym queue) kept.debts_first;
+          few = few;
         };
         paid = omega (arith, part);
         longer = rw order (let more : suc (length old.order) ≡ length old.order + 1 = omega arith in more);
@@ -143,11 +142,11 @@ module _ {W : Type 0} where
           ap (λ b. cond b (Some (demand, lack)) (waiting (entries slots ms) n)) differs ∙ rest
       by_slot (Some (Debt lack)) rest = rest
       by_slot (Some (Granted demand)) rest = rest
+      by_slot (Some (Cut demand)) rest = rest
 
-  pub not_granted : (slots : List (Option (Place W))) (n : ℕ) → get_or slots n None ≡ None
-      → fin.get (fin.from_entries {R = nat_cmp} (pairs_from 0 slots)) n ≡ None
-  not_granted slots n none = get-granted slots n ∙ ap grant_of none
+  pub not_granted : (slots : List (Option (Place W))) (n : ℕ) → get_or slots n None ≡ None → fin.get (demands_by grant_of slots) n ≡ None
+  not_granted slots n none = get-demands grant_of refl slots n ∙ ap grant_of none
 
   -- the reserved places are no part of the queue
   pub IsQueue-spare : (w : base.Waits (Place W)) (spare : ℕ) → IsQueue w → IsQueue (record w { spare = spare })
-  IsQueue-spare w spare kept = record { distinct = kept.distinct; waiting = kept.waiting; idle = kept.idle; debts_first = kept.debts_first }
+  IsQueue-spare w spare kept = record { distinct = kept.distinct; waiting = kept.waiting; idle = kept.idle; debts_first = kept.debts_first; few = kept.few }

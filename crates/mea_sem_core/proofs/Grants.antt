@@ -1,18 +1,19 @@
 -- what it means for the queue that its first waiter was paid whole
-use Rattle.std.proofs.Common.{◌≡◌, ◌≢◌, ℕ, ◌≤◌, false, ◌||◌, eqb, List, [], ◌∷◌, ◌++◌, length, IsSome, Option, Some, None, refl, sym, ap, subst, ◌∙◌, inl, inr, arith}
+use Rattle.std.proofs.Common.{◌≡◌, ◌≢◌, ℕ, ◌≤◌, false, ◌||◌, eqb, List, [], ◌∷◌, ◌++◌, drop, length, IsSome, Option, Some, None, refl, sym, ap, subst, ◌∙◌, inl, inr, arith}
 use Rattle.std.proofs.lemmas.Bool.{cases_eq}
 use Rattle.std.proofs.lemmas.Bool.Decides.{nat_tests}
 use Rattle.std.specs.List.{list_any}
 use Rattle.std.proofs.lemmas.List.{get_or-set_same, get_or-set_other, append-nil}
-use Rattle.mea_base.specs.WaitList.{Waits, get, with_value, IsAbsent, Updates}
+use Rattle.mea_base.specs.WaitList.{Waits, get, with_value, without, IsAbsent, Updates}
+use Rattle.mea_base.proofs.Chains.{first-without}
 use Rattle.mea_base.specs.Outbox.{Wakes}
 use Rattle.mea_base.proofs.Waits.{in_use_within, sum_by-updated}
 use Rattle.mea_sem_core.specs.declared.place.Place.{Place}
-use Rattle.mea_sem_core.specs.declared.place.Place.TheVariants.{Acquire, Debt, Granted}
+use Rattle.mea_sem_core.specs.declared.place.Place.TheVariants.{Acquire, Debt, Granted, Cut}
 use Rattle.mea_sem_core.specs.Core.{Waiter, Acquires, Owes, HasDebtsFirst}
-use Rattle.mea_sem_core.specs.Places.{entry, entries, grant_of, IsIdle, IsQueue, GrantsFirst, after_grant, waker_of, paid_slot}
+use Rattle.mea_sem_core.specs.Places.{entry, entries, grant_of, cut_demand, IsIdle, IsWaiting, IsQueue, GrantsFirst, after_grant, waker_of, paid_slot}
 use Rattle.mea_sem_core.proofs.Debts.{debts_first_tail}
-use Rattle.mea_sem_core.proofs.Places.{entries-updated, AllWaiting-updated, granted_same, granted_inserted}
+use Rattle.mea_sem_core.proofs.Places.{entries-updated, AllWaiting-updated, demands_updated, demands_inserted, count_updated}
 
 -- a number that is absent is not found
 pub unlinked_from_absent : (n : ℕ) (ns : List ℕ) → IsAbsent n ns → list_any (λ m. eqb m n) ns ≡ false
@@ -40,14 +41,34 @@ module _ {W : Type 0} where
   Updates-Updates u v w n a b first second =
       record { changed = second.changed; others = λ other differs. second.others other differs ∙ first.others other differs }
 
+  -- the first number was unlinked
+  pub record UnlinksFirst (old mid : Waits (Place W)) (n : ℕ) : Type 0 where
+    pub is : old ≡ record mid { order = n ∷ mid.order }
+    pub absent : IsAbsent n mid.order
+
+  pub unlinks_first : (old mid : Waits (Place W)) (n : ℕ) → IsQueue old → old.order ≡ n ∷ drop 1 old.order
+      → mid ≡ record old { order = without n old.order } → UnlinksFirst old mid n
+  unlinks_first old mid n kept first is =
+      let order = first-without n old.order first kept.distinct in
+      let distinct = kept.distinct in
+      let rest = rw order at distinct in
+      rw is record { is = λ i. record { order = order i; slots = old.slots; spare = old.spare }; absent = rest.0 }
+
+  pub waiting_used : (x : Option (Place W)) → IsWaiting x → IsSome x
+  waiting_used None waits = absurd waits
+  waiting_used (Some x) waits = refl
+
+  pub first_used : (w : Waits (Place W)) (n : ℕ) → IsQueue w → w.order ≡ n ∷ drop 1 w.order → IsSome (get w n)
+  first_used w n kept first = let waiting = kept.waiting in let all = rw first at waiting in waiting_used (get w n) all.0
+
   module _ (mid new : Waits (Place W)) (n : ℕ) (slot : Option (Place W)) (box box' : Wakes W) (absent : IsAbsent n mid.order)
       (updates : Updates mid new n slot) (order : new.order ≡ mid.order) where
     rest_is : entries new.slots new.order ≡ entries mid.slots mid.order
     rest_is = rw order (entries-updated mid.slots new.slots n mid.order updates.others absent)
 
     -- the queue behind the first waiter stays sound
-    kept_after : IsQueue (record mid { order = n ∷ mid.order }) → IsIdle slot → IsQueue new
-    kept_after kept idle =
+    kept_after : IsQueue (record mid { order = n ∷ mid.order }) → IsSome (get mid n) → IsIdle slot → IsQueue new
+    kept_after kept used idle =
         record {
           distinct = rw order kept.distinct.1;
           waiting = rw order (AllWaiting-updated mid.slots new.slots n mid.order updates.others absent kept.waiting.1);
@@ -57,6 +78,9 @@ module _ {W : Type 0} where
           ];
           debts_first = let first = debts_first_tail (entry n (get mid n)) (entries mid.slots mid.order) kept.debts_first in
               subst HasDebtsFirst (sym rest_is) first;
+          few = let count = count_updated mid.slots new.slots n updates.others in
+              let counted = rw used at count in
+              grind (arith, counted, kept.few);
         }
 
     -- an acquire was granted
@@ -68,9 +92,10 @@ module _ {W : Type 0} where
           (Acquires n demand waker, lack),
           record {
             queue = rw found (ap (λ es. (Acquires n demand waker, lack) ∷ es) (sym rest_is));
-            granted = granted_inserted mid.slots new.slots n demand updates.others (rw (updates.changed, written) refl);
+            granted = demands_inserted grant_of refl mid.slots new.slots n demand updates.others (rw (updates.changed, written) refl);
+            cut = demands_updated cut_demand refl mid.slots new.slots n updates.others (rw (updates.changed, written, found) refl);
             wakers = rw (← same) sent;
-            kept = kept_after kept (rw written tt);
+            kept = kept_after kept (rw found refl) (rw written tt);
             room = room;
             shorter = omega (arith, ap length order);
             paid = let sum = sum_by-updated paid_slot refl mid.slots new.slots n updates.others in
@@ -82,6 +107,7 @@ module _ {W : Type 0} where
         )
     grants_acquire (Debt lack) w found is written kept sent room = absurd (cc)
     grants_acquire (Granted demand) w found is written kept sent room = absurd (cc)
+    grants_acquire (Cut demand) w found is written kept sent room = absurd (cc)
 
     -- a debt was paid, and is gone
     pub grants_debt : (x : Place W) → get mid n ≡ Some x → None ≡ waker_of x → slot ≡ None → IsQueue (record mid { order = n ∷ mid.order })
@@ -89,16 +115,15 @@ module _ {W : Type 0} where
         → (first : Waiter W × ℕ) × GrantsFirst (record mid { order = n ∷ mid.order }) new box box' first
     grants_debt (Acquire demand lack waker) found is written kept sent room = absurd (cc)
     grants_debt (Granted demand) found is written kept sent room = absurd (let waits = kept.waiting.0 in rw found at waits)
+    grants_debt (Cut demand) found is written kept sent room = absurd (let waits = kept.waiting.0 in rw found at waits)
     grants_debt (Debt lack) found is written kept sent room = (
       (Owes, lack),
       record {
         queue = rw found (ap (λ es. (Owes, lack) ∷ es) (sym rest_is));
-        granted = granted_same mid.slots new.slots (λ q. elim (cases_eq q n) [
-          | inl same ↦ rw (same, updates.changed, written, found) refl
-          | inr differs ↦ ap grant_of (updates.others q differs)
-        ]);
+        granted = demands_updated grant_of refl mid.slots new.slots n updates.others (rw (updates.changed, written, found) refl);
+        cut = demands_updated cut_demand refl mid.slots new.slots n updates.others (rw (updates.changed, written, found) refl);
         wakers = sent ∙ sym (append-nil box.wakers);
-        kept = kept_after kept (rw written tt);
+        kept = kept_after kept (rw found refl) (rw written tt);
         room = room;
         shorter = omega (arith, ap length order);
         paid = let sum = sum_by-updated paid_slot refl mid.slots new.slots n updates.others in

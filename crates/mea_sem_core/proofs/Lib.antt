@@ -1,3 +1,5 @@
+pub mod Closings
+pub mod Cuts
 pub mod Belongs
 pub mod Debts
 pub mod Enqueues
@@ -9,3 +11,4 @@ pub mod PourSteps
 pub mod Pours
 pub mod Sound
 pub mod Steadies
+pub mod Ones

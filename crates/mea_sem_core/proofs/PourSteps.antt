@@ -1,5 +1,5 @@
 -- the loop of a pour: what is still to be poured gives what the whole pour gives
-use Rattle.std.proofs.Common.{◌≡◌, ℕ, ◌+◌, ◌-◌, ◌<◌, ◌≤◌, min, true, false, eqb, List, [], ◌∷◌, ◌++◌, length, Some, refl, sym, ap, subst, ◌∙◌, inl, inr, arith, append_assoc}
+use Rattle.std.proofs.Common.{◌≡◌, ℕ, ◌+◌, ◌-◌, ◌*◌, ◌<◌, ◌≤◌, min, true, false, eqb, List, [], ◌∷◌, ◌++◌, length, Some, refl, sym, ap, subst, ◌∙◌, inl, inr, arith, append_assoc}
 use Rattle.std.proofs.lemmas.Bool.{cases_eq}
 use Rattle.std.proofs.lemmas.Bool.Decides.{nat_tests}
 use Rattle.std.specs.List.{list_any}
@@ -9,12 +9,12 @@ use Rattle.mea_base.specs.Outbox.{Wakes}
 use Rattle.mea_base.specs.Queue.{lacks, waiting_after, granted_in}
 use Rattle.mea_base.proofs.Waits.{sum_by-updated}
 use Rattle.mea_sem_core.specs.declared.place.Place.{Place}
-use Rattle.mea_sem_core.specs.declared.place.Place.TheVariants.{Acquire, Debt, Granted}
+use Rattle.mea_sem_core.specs.declared.place.Place.TheVariants.{Acquire, Debt, Granted, Cut}
 use Rattle.mea_sem_core.specs.Core.{Waiter, Acquires, Owes, debt_of, paid_to_debts, granting, wakers_of, HasDebtsFirst}
-use Rattle.mea_sem_core.specs.Places.{entry, entries, queue_of, granted_of, grant_of, IsWaiting, IsQueue, GrantsFirst, Pours, after_payment, lack_of, debt_in, paid_slot, paid_in}
+use Rattle.mea_sem_core.specs.Places.{entry, entries, queue_of, granted_of, cut_of, grant_of, cut_demand, IsWaiting, IsQueue, GrantsFirst, Pours, after_payment, lack_of, debt_in, paid_slot, paid_in}
 use Rattle.mea_sem_core.proofs.Debts.{debts_first_part}
 use Rattle.mea_sem_core.proofs.Pours.{waiting_whole, granted_whole, waiting_part, granted_part, debts_whole, debts_part, lacks-cons, granting-append, wakers-append}
-use Rattle.mea_sem_core.proofs.Places.{entries-updated, AllWaiting-updated, AllLack-entries, granted_same}
+use Rattle.mea_sem_core.proofs.Places.{entries-updated, AllWaiting-updated, AllLack-entries, demands_updated, count_updated}
 use Rattle.mea_sem_core.proofs.Grants.{Updates-with_value}
 
 -- the first number is found
@@ -29,6 +29,7 @@ module _ {W : Type 0} where
   pub record Continues (start now : Waits (Place W)) (start_box now_box : Wakes W) (amount rest to_debts : ℕ) : Type 0 where
     pub queue : waiting_after (queue_of now) rest ≡ waiting_after (queue_of start) amount
     pub granted : granting (granted_of now) (granted_in (queue_of now) rest) ≡ granting (granted_of start) (granted_in (queue_of start) amount)
+    pub cut : cut_of now ≡ cut_of start
     pub wakers : now_box.wakers ++ wakers_of (granted_in (queue_of now) rest) ≡ start_box.wakers ++ wakers_of (granted_in (queue_of start) amount)
     pub left : rest - lacks (queue_of now) ≡ amount - lacks (queue_of start)
     pub debts : to_debts + paid_to_debts (queue_of now) rest ≡ paid_to_debts (queue_of start) amount
@@ -36,6 +37,10 @@ module _ {W : Type 0} where
     pub kept : IsQueue now
     pub room : length now.order ≤ now_box.spare
     pub paid : paid_in now + rest + to_debts ≡ paid_in start + amount
+
+  -- six steps for each waiter that has left, at the most
+  abbrev pub Counts : Waits (Place W) → Waits (Place W) → ℕ → ℕ → Type 0
+  Counts start now started steps = steps + 6 * length now.order ≤ started + 6 * length start.order
 
   -- a grant of the first waiter is a step of the pour
   Continues-grant : (start now next : Waits (Place W)) (start_box now_box next_box : Wakes W) (amount rest to_debts : ℕ) (e : Waiter W × ℕ)
@@ -51,6 +56,7 @@ module _ {W : Type 0} where
       record {
         queue = sym (waiting_whole e (queue_of next) rest enough) ∙ queue;
         granted = rw grants.granted (sym (granting-append (granted_of now) (e.0 ∷ []) _) ∙ granted);
+        cut = grants.cut ∙ so.cut;
         wakers = rw grants.wakers (append_assoc now_box.wakers (wakers_of (e.0 ∷ [])) _
             ∙ ap (λ ws. now_box.wakers ++ ws) (sym (wakers-append (e.0 ∷ []) _)) ∙ wakers);
         left = omega (arith, left, lacks-cons e (queue_of next));
@@ -65,17 +71,20 @@ module _ {W : Type 0} where
   lack_of-entry n (Acquire _ _ _) = refl
   lack_of-entry n (Debt _) = refl
   lack_of-entry n (Granted _) = refl
+  lack_of-entry n (Cut _) = refl
 
   -- the entry of a waiter that was paid a part
   paid_entry : (n : ℕ) (x : Place W) (rest : ℕ) → rest < lack_of x → entry n (Some (after_payment x rest)) ≡ ((entry n (Some x)).0, (entry n (Some x)).1 - rest)
   paid_entry n (Acquire demand lack waker) rest short = refl
   paid_entry n (Debt lack) rest short = refl
   paid_entry n (Granted demand) rest short = absurd (omega arith)
+  paid_entry n (Cut demand) rest short = absurd (omega arith)
 
   waits_after : (x : Place W) (rest : ℕ) → rest < lack_of x → IsWaiting (Some x) → IsWaiting (Some (after_payment x rest))
   waits_after (Acquire demand lack waker) rest short waits = (omega arith, omega (arith, waits.1))
   waits_after (Debt lack) rest short waits = omega arith
   waits_after (Granted demand) rest short waits = waits
+  waits_after (Cut demand) rest short waits = waits
 
   -- a part payment goes to the acquire or to the debt
   paid_part_of : (n : ℕ) (x : Place W) (rest : ℕ) → rest < lack_of x → IsWaiting (Some x)
@@ -83,11 +92,19 @@ module _ {W : Type 0} where
   paid_part_of n (Acquire demand lack waker) rest short waits = omega (arith, waits.1)
   paid_part_of n (Debt lack) rest short waits = omega arith
   paid_part_of n (Granted demand) rest short waits = absurd waits
+  paid_part_of n (Cut demand) rest short waits = absurd waits
 
   no_grant : (x : Place W) (rest : ℕ) → IsWaiting (Some x) → grant_of (Some (after_payment x rest)) ≡ grant_of (Some x)
   no_grant (Acquire demand lack waker) rest waits = refl
   no_grant (Debt lack) rest waits = refl
   no_grant (Granted demand) rest waits = absurd waits
+  no_grant (Cut demand) rest waits = refl
+
+  no_cut : (x : Place W) (rest : ℕ) → cut_demand (Some (after_payment x rest)) ≡ cut_demand (Some x)
+  no_cut (Acquire demand lack waker) rest = refl
+  no_cut (Debt lack) rest = refl
+  no_cut (Granted demand) rest = refl
+  no_cut (Cut demand) rest = refl
 
   -- a part payment of the first waiter is the end of the pour
   Pours-part : (start now : Waits (Place W)) (start_box now_box : Wakes W) (amount rest to_debts n : ℕ) (ns : List ℕ) (x : Place W)
@@ -116,10 +133,8 @@ module _ {W : Type 0} where
       let first = rw was at kept.debts_first in (
         record {
           queue = is ∙ sym (waiting_part e es rest less lacking) ∙ queue;
-          granted = granted_same now.slots new.slots (λ q. elim (cases_eq q n) [
-            | inl same ↦ rw (same, updates.changed, found) (no_grant x rest waits)
-            | inr differs ↦ ap grant_of (updates.others q differs)
-          ]) ∙ none;
+          granted = demands_updated grant_of refl now.slots new.slots n updates.others (rw (updates.changed, found) (no_grant x rest waits)) ∙ none;
+          cut = demands_updated cut_demand refl now.slots new.slots n updates.others (rw (updates.changed, found) (no_cut x rest)) ∙ so.cut;
           wakers = sym (append-nil now_box.wakers) ∙ wakers;
           kept = record {
             distinct = kept.distinct;
@@ -133,6 +148,9 @@ module _ {W : Type 0} where
               | inr differs ↦ rw (updates.others m differs) (kept.idle m unlinked)
             ];
             debts_first = subst HasDebtsFirst (sym is) (debts_first_part e es (e.1 - rest) first);
+            few = let count = count_updated now.slots new.slots n updates.others in
+                let counted = rw (found, updates.changed) at count in
+                omega (arith, counted, kept.few);
           };
           room = so.room;
           paid =
@@ -148,6 +166,7 @@ module _ {W : Type 0} where
   debt_of-entry n (Acquire _ _ _) rest = omega arith
   debt_of-entry n (Debt lack) rest = refl
   debt_of-entry n (Granted _) rest = omega arith
+  debt_of-entry n (Cut _) rest = omega arith
 
   debt_of-within : (x : Waiter W) (n : ℕ) → debt_of x n ≤ n
   debt_of-within (Acquires _ _ _) n = omega arith

@@ -3,9 +3,10 @@ use Rattle.std.proofs.Common.{◌≡◌, ℕ, ◌+◌, ◌-◌, ◌<◌, ◌≤�
 use Rattle.std.specs.Ordering.{nat_cmp}
 use Rattle.std.specs.FinMap as fin
 use Rattle.std.proofs.lemmas.List.Sums.{sum_by-cons}
+use Rattle.std.proofs.lemmas.List.{append-nil}
 use Rattle.std.proofs.lemmas.Bool.{cond-true, cond-false, lt-ltb, ne_eqb}
 use Rattle.mea_base.specs.Queue.{lacks, lacks_after, waiting_after, granted_in}
-use Rattle.mea_sem_core.specs.Core.{Waiter, Acquires, Owes, debt_of, debts, paid_to_debts, granting, wakers_of}
+use Rattle.mea_sem_core.specs.Core.{Waiter, Acquires, Owes, Core, debt_of, debts, paid_to_debts, granting, wakers_of, poured}
 
 module _ {A : Type 0} where
   -- each lacks at least 1
@@ -125,3 +126,28 @@ module _ {W : Type 0} where
   wakers-append [] fs = refl
   wakers-append (Acquires number demand waker ∷ es) fs = ap (λ ws. waker ∷ ws) (wakers-append es fs)
   wakers-append (Owes ∷ es) fs = wakers-append es fs
+
+  -- a pour of nothing changes nothing
+  waiting_nothing : (q : List (Waiter W × ℕ)) → AllLack q → waiting_after q 0 ≡ q
+  waiting_nothing [] h = refl
+  waiting_nothing (e ∷ q) h = waiting_part e q 0 h.0 h.1 ∙ ap (λ l. (e.0, l) ∷ q) (let same : e.1 - 0 ≡ e.1 = omega arith in same)
+
+  granted_nothing : (q : List (Waiter W × ℕ)) → AllLack q → granted_in q 0 ≡ []
+  granted_nothing [] h = refl
+  granted_nothing (e ∷ q) h = granted_part e q 0 h.0 h.1
+
+  pub poured_nothing : (s : Core W) → AllLack s.queue → poured s 0 ≡ s
+  poured_nothing s h =
+      let queue = waiting_nothing s.queue h in
+      let none = granted_nothing s.queue h in
+      let free : s.free + (0 - lacks s.queue) ≡ s.free = omega arith in
+      let debts : paid_to_debts s.queue 0 ≡ 0 = rw queue (omega arith) in
+      let live : s.live + 0 - paid_to_debts s.queue 0 ≡ s.live = omega (arith, debts) in
+      let wakes = ap (λ es. s.wakes ++ wakers_of es) none ∙ append-nil s.wakes in
+      λ i. record s {
+        free = free i;
+        live = live i;
+        queue = queue i;
+        granted = granting s.granted (none i);
+        wakes = wakes i;
+      }

@@ -1,4 +1,6 @@
 pub mod Acquire
+pub mod OpenTurn
 pub mod Core
 pub mod Calls
 pub mod Places
+pub mod Ones

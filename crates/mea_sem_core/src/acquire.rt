@@ -8,10 +8,12 @@ ghost use Rattle.std.specs.Prelude.{◌≡◌};
 pub enum Acquire {
     /// Never polled.
     New { demand: usize },
-    /// Polled and not ready then: it waits, or was granted since, under this number of its core.
+    /// Polled and not ready then: it waits, or was granted or cut since, under this number of its core.
     Queued { demand: usize, number: usize },
     /// It was ready.
     Done { demand: usize },
+    /// A closed semaphore has refused it.
+    Refused { demand: usize },
 }
 
 impl Acquire {
@@ -28,8 +30,13 @@ impl Acquire {
     pub fn renew(&mut self)
         ensures { self.new ≡ renewed self.old }
     {
-        if let Acquire::Queued { demand, .. } | Acquire::Done { demand } = *self {
-            *self = Acquire::New { demand };
+        match *self {
+            Acquire::New { .. } => {}
+            Acquire::Queued { demand, .. }
+            | Acquire::Done { demand }
+            | Acquire::Refused { demand } => {
+                *self = Acquire::New { demand };
+            }
         }
     }
 }

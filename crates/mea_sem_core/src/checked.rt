@@ -1,14 +1,15 @@
-ghost use Rattle.std.specs.Prelude.{◌≡◌, ◌-◌, ◌<◌, ◌≤◌, ◌↔◌, IsTrue};
+ghost use Rattle.std.specs.Prelude.{◌≡◌, ◌-◌, ◌<◌, ◌≤◌, ◌↔◌, IsTrue, IfErr, OnErr};
 
 use crate::acquire::Acquire;
+use crate::open_turn::OpenTurn;
 use crate::sem_core::SemCore;
-use mea_base::{NoMemory, Turn};
+use mea_base::NoMemory;
 
 /// The tests of what a call asks of the core, and the calls in a form that asks for nothing.
 impl<W: Drop> SemCore<W> {
-    ghost use Rattle.mea_sem_core.specs.Acquire.{renewed};
-    ghost use Rattle.mea_sem_core.specs.Core.{held_of};
-    ghost use Rattle.mea_sem_core.specs.Calls.{Belongs, Polls, Cancels, Loses, given_back};
+    ghost use Rattle.mea_sem_core.specs.Acquire.{demand_of, renewed};
+    ghost use Rattle.mea_sem_core.specs.Core.{held_of, IsSound};
+    ghost use Rattle.mea_sem_core.specs.Calls.{Belongs, PollsOpen, FindsNoMemory, Cancels, Loses, given_back};
 
     /// Whether the acquire is one of this core, which `cancel` asks for. It takes no memory.
     pub fn cancel_allowed(&self, acquire: &Acquire) -> bool
@@ -38,19 +39,23 @@ impl<W: Drop> SemCore<W> {
         n <= self.held()
     }
 
-    /// `poll`, of an acquire that is renewed first where it is not one of this core.
-    pub fn poll_checked(
+    /// `poll_open`, of an acquire that is renewed first where it is not one of this core. `poll` has no such
+    /// form, since a renewed acquire opens no semaphore.
+    pub fn poll_open_checked(
         &mut self,
         acquire: &mut Acquire,
         waker: W,
-    ) -> Result<Turn<W>, (W, NoMemory)>
-        ensures allowed { Belongs self.old acquire.old → Polls self.old acquire.old waker result self.new acquire.new }
-        ensures renewed { ¬ Belongs self.old acquire.old → Polls self.old (renewed acquire.old) waker result self.new acquire.new }
+    ) -> Result<OpenTurn<W>, (W, NoMemory)>
+        ensures allowed { Belongs self.old acquire.old → PollsOpen self.old acquire.old waker result self.new acquire.new }
+        ensures renewed { ¬ Belongs self.old acquire.old → PollsOpen self.old (renewed acquire.old) waker result self.new acquire.new }
+        ensures no_memory { OnErr result (FindsNoMemory self.old (demand_of acquire.old) self.new) }
+        ensures waker { IfErr result (λ e. e.0 ≡ waker) }
+        ensures sound { IsSound self.new }
     {
         if !self.poll_allowed(acquire) {
             acquire.renew();
         }
-        self.poll(acquire, waker)
+        self.poll_open(acquire, waker)
     }
 
     /// `cancel`, which does nothing more where the acquire is not one of this core. It takes no memory.

@@ -8,9 +8,12 @@
 
 mod acquire;
 mod checked;
+mod closing;
+mod open_turn;
 mod place;
 mod pouring;
 mod sem_core;
 
 pub use acquire::Acquire;
+pub use open_turn::OpenTurn;
 pub use sem_core::SemCore;

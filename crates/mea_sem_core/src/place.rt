@@ -20,18 +20,22 @@ pub(crate) enum Place<W> {
     Granted {
         demand: usize,
     },
+    /// An acquire that a close took out of the queue, and that was not polled since.
+    Cut {
+        demand: usize,
+    },
 }
 
 impl<W> Place<W> {
-    ghost use Rattle.mea_sem_core.specs.Places.{lack_of, debt_in, is_acquire_of, is_grant_of, with_new_waker, paid_slot, LacksAtMost, after_payment, after_grant, waker_of};
+    ghost use Rattle.mea_sem_core.specs.Places.{lack_of, debt_in, is_acquire_of, is_grant_of, is_cut, is_debt, with_new_waker, paid_slot, LacksAtMost, after_payment, after_grant, after_cut, waker_of};
 
-    /// What it lacks, and 0 where it was granted.
+    /// What it lacks, and 0 where it was granted or cut.
     pub(crate) fn lack(&self) -> usize
         ensures { result ≡ lack_of self.now }
     {
         match self {
             Place::Acquire { lack, .. } | Place::Debt { lack } => *lack,
-            Place::Granted { .. } => 0,
+            Place::Granted { .. } | Place::Cut { .. } => 0,
         }
     }
 
@@ -52,17 +56,19 @@ impl<W> Place<W> {
     {
         match self {
             Place::Acquire { demand, lack, .. } => *demand - *lack,
-            Place::Debt { .. } => 0,
+            Place::Debt { .. } | Place::Cut { .. } => 0,
             Place::Granted { demand } => *demand,
         }
     }
 
-    /// Whether it is an acquire of this demand, that waits or was granted.
+    /// Whether it is an acquire of this demand, that waits, was granted or was cut.
     pub(crate) fn is_acquire_of(&self, demand: usize) -> bool
         ensures { result ≡ is_acquire_of self.now demand }
     {
         match self {
-            Place::Acquire { demand: own, .. } | Place::Granted { demand: own } => *own == demand,
+            Place::Acquire { demand: own, .. }
+            | Place::Granted { demand: own }
+            | Place::Cut { demand: own } => *own == demand,
             Place::Debt { .. } => false,
         }
     }
@@ -75,6 +81,20 @@ impl<W> Place<W> {
             Place::Granted { demand: own } => *own == demand,
             _ => false,
         }
+    }
+
+    /// Whether it is an acquire that was cut.
+    pub(crate) fn is_cut(&self) -> bool
+        ensures { result ≡ is_cut self.now }
+    {
+        matches!(self, Place::Cut { .. })
+    }
+
+    /// Whether it is a debt.
+    pub(crate) fn is_debt(&self) -> bool
+        ensures { result ≡ is_debt self.now }
+    {
+        matches!(self, Place::Debt { .. })
     }
 
     /// Keeps another waker for an acquire that waits.
@@ -96,7 +116,7 @@ impl<W> Place<W> {
         match self {
             Place::Acquire { lack, .. } => *lack -= amount,
             Place::Debt { lack } => *lack -= amount,
-            Place::Granted { .. } => {}
+            Place::Granted { .. } | Place::Cut { .. } => {}
         }
     }
 
@@ -112,6 +132,23 @@ impl<W> Place<W> {
         };
         let granted = Place::Granted { demand: *demand };
         match mem::replace(self, granted) {
+            Place::Acquire { waker, .. } => Some(waker),
+            _ => unreachable!(),
+        }
+    }
+
+    /// Cuts an acquire that waits, and takes its waker.
+    pub(crate) fn cut(&mut self) -> Option<W>
+    where
+        W: Drop,
+        ensures waker { result ≡ waker_of self.old }
+        ensures cut { self.new ≡ after_cut self.old }
+    {
+        let Place::Acquire { demand, .. } = self else {
+            return None;
+        };
+        let cut = Place::Cut { demand: *demand };
+        match mem::replace(self, cut) {
             Place::Acquire { waker, .. } => Some(waker),
             _ => unreachable!(),
         }

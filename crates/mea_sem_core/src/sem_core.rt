@@ -1,12 +1,15 @@
-ghost use Rattle.std.specs.Prelude.{◌≡◌, ◌≢◌, ◌+◌, ◌-◌, ◌<◌, ◌≤◌, ◌⊎◌, ◌↔◌, ℕ, [], ◌∷◌, length, min, true, false, IsTrue, IsOk, IsErr, OnOk, OnErr, IfOk, IfSome, IfNone, MatchResult};
+ghost use Rattle.std.specs.Prelude.{◌≡◌, ◌≢◌, ◌+◌, ◌-◌, ◌*◌, ◌<◌, ◌≤◌, ◌⊎◌, ◌↔◌, ℕ, [], ◌∷◌, length, min, true, false, IsTrue, IsOk, IsErr, OnOk, OnErr, IfOk, IfErr, IfSome, IfNone, MatchResult};
 ghost use Rattle.std.specs.FinMap as map;
 
 use crate::acquire::Acquire;
+use crate::closing::cut_queue;
+use crate::open_turn::OpenTurn;
 use crate::place::{Place, reserve_place};
-use crate::pouring::{Poured, pour};
-use mea_base::{NoMemory, Outbox, Overflow, Turn, WaitList};
+use crate::pouring::{Poured, pour, pour_counted};
+use mea_base::{NoMemory, Outbox, Overflow, Steps, Turn, WaitList};
 use std::alloc::Global;
-use std::marker::Model;
+use std::marker::{Brand, Model};
+use std::sync::ledger::{Blank, Ledger};
 
 /// A semaphore: permits, the acquires and debts that wait for them, and the wakers to call.
 ///
@@ -20,14 +23,15 @@ pub struct SemCore<W> {
     live: usize,
     // What has been paid to the acquires that wait or were granted.
     paid: usize,
+    closed: bool,
     waiters: WaitList<Place<W>>,
     outbox: Outbox<W>,
 }
 
 impl<W> Model for SemCore<W> {
     ghost use Rattle.std.specs.Prelude.{◌≡◌, ◌+◌, ◌^◌, ◌<◌, ◌≤◌, [], length};
-    ghost use Rattle.mea_sem_core.specs.Core.{Core, core_code};
-    ghost use Rattle.mea_sem_core.specs.Places.{queue_of, granted_of, paid_in, IsQueue};
+    ghost use Rattle.mea_sem_core.specs.Core.{Core, core_code, CutsWhereClosed};
+    ghost use Rattle.mea_sem_core.specs.Places.{queue_of, granted_of, cut_of, paid_in, IsQueue};
 
     ghost Value = { Core W };
 
@@ -38,6 +42,8 @@ impl<W> Model for SemCore<W> {
       live = s.live;
       queue = queue_of s.waiters;
       granted = granted_of s.waiters;
+      cut = cut_of s.waiters;
+      closed = s.closed;
       wakes = s.outbox.wakers;
     } };
 
@@ -48,6 +54,7 @@ impl<W> Model for SemCore<W> {
       total : s.free + s.paid ≤ s.live;
       fits : s.live < 2 ^ 64;
       idle : 0 < s.free → s.waiters.order ≡ [];
+      closing : CutsWhereClosed s.closed (queue_of s.waiters) (cut_of s.waiters);
     } };
 }
 
@@ -60,12 +67,13 @@ enum Start<W> {
 
 impl<W: Drop> SemCore<W> {
     ghost use Rattle.mea_base.specs.Queue.{lacks};
-    ghost use Rattle.mea_sem_core.specs.Core.{held_of, poured, HasNoDebt, IsSound};
-    ghost use Rattle.mea_sem_core.specs.Calls.{Belongs, IsGrantedAs, IsWaitingAs, IsGranted, IsApart, Queues, Polls, HoldsAfter, Steady, Cancels, Loses, StandsAs, with_waker, given_back, forgetting, forgetting_exactly};
+    ghost use Rattle.mea_sem_core.specs.Acquire.{demand_of};
+    ghost use Rattle.mea_sem_core.specs.Core.{held_of, poured, closed_core, HasNoDebt, IsSound};
+    ghost use Rattle.mea_sem_core.specs.Calls.{Belongs, IsGrantedAs, IsWaitingAs, IsGranted, IsApart, IsRefused, MayAdvance, Queues, Polls, PollsOpen, FindsNoMemory, HoldsAfter, HoldsOpen, after_refusal, Steady, Cancels, Loses, StandsAs, with_waker, given_back, forgetting, forgetting_exactly};
 
     /// A semaphore with these permits, all of them free. It takes no memory.
     pub fn new(alloc: Global, permits: usize) -> Self
-        ensures is { result ≡ record { free = permits; live = permits; queue = []; granted = map.empty; wakes = [] } }
+        ensures is { result ≡ record { free = permits; live = permits; queue = []; granted = map.empty; cut = map.empty; closed = false; wakes = [] } }
         ensures held { held_of result ≡ 0 }
         ensures sound { IsSound result }
     {
@@ -73,6 +81,7 @@ impl<W: Drop> SemCore<W> {
             free: permits,
             live: permits,
             paid: 0,
+            closed: false,
             waiters: WaitList::new(alloc),
             outbox: Outbox::new(alloc),
         }
@@ -134,6 +143,26 @@ impl<W: Drop> SemCore<W> {
         Ok(())
     }
 
+    /// `release`, whose steps are counted: at most six for each acquire or debt that it pays whole, and two
+    /// more. It takes no memory.
+    pub fn release_counted<L: Ledger>(
+        &mut self,
+        n: usize,
+        steps: &mut Steps<L>,
+    ) -> Result<(), Overflow>
+        ensures overflow { IsErr result ↔ (usize.MAX < self.old.live + n) }
+        ensures ok { OnOk result (self.new ≡ poured self.old n) }
+        ensures err { OnErr result ((self.new ≡ self.old) × (steps.new ≡ steps.old)) }
+        ensures held { held_of self.new ≡ held_of self.old }
+        ensures few { steps.new + 6 * length self.new.queue ≤ steps.old + 6 * length self.old.queue + 2 }
+    {
+        if n > usize::MAX - self.live {
+            return Err(Overflow);
+        }
+        self.pour_counted(n, steps);
+        Ok(())
+    }
+
     /// Takes at most `n` free permits away for ever, and tells how many. It takes no memory.
     pub fn forget(&mut self, n: usize) -> usize
         ensures taken { result ≡ min n self.old.free }
@@ -175,55 +204,93 @@ impl<W: Drop> SemCore<W> {
         Ok(())
     }
 
-    /// Takes `n` permits if they are free, past all who wait. It takes no memory.
+    /// Takes `n` permits of an open semaphore if they are free, past all who wait. It takes no memory.
     pub fn try_acquire(&mut self, n: usize) -> bool
-        ensures taken { n ≤ self.old.free → (result ≡ true) × (self.new ≡ record self.old { free = self.old.free - n }) }
+        ensures taken { self.old.closed ≡ false → n ≤ self.old.free → (result ≡ true) × (self.new ≡ record self.old { free = self.old.free - n }) }
         ensures refused { self.old.free < n → (result ≡ false) × (self.new ≡ self.old) }
-        ensures held { n ≤ self.old.free → held_of self.new ≡ held_of self.old + n }
+        ensures closed { self.old.closed ≡ true → (result ≡ false) × (self.new ≡ self.old) }
+        ensures held { self.old.closed ≡ false → n ≤ self.old.free → held_of self.new ≡ held_of self.old + n }
         ensures sound { IsSound self.new }
     {
-        if n <= self.free {
-            self.free -= n;
-            true
-        } else {
-            false
+        if self.closed || self.free < n {
+            return false;
         }
+        self.free -= n;
+        true
     }
 
-    /// Polls an acquire: ready with the waker handed back, or pending with the waker kept until the next
-    /// poll. It takes memory only where a new acquire has to wait, and where there is none it hands the
-    /// waker back.
+    /// Closes the semaphore for good: it takes all acquires that wait out of the queue, makes their wakers
+    /// ready in its order, and pours what they were paid. From then on it refuses each acquire that it had
+    /// not granted before; permits come back to it, are released and forgotten as before. On a closed one
+    /// nothing changes. It takes no memory, and passes over the queue once.
+    pub fn close(&mut self)
+        ensures closes { self.new ≡ closed_core self.old }
+        ensures closed { self.new.closed ≡ true }
+        ensures held { held_of self.new ≡ held_of self.old }
+        ensures sound { IsSound self.new }
+    {
+        if self.closed {
+            return;
+        }
+        let paid_back = cut_queue(&mut self.waiters, &mut self.outbox);
+        self.closed = true;
+        self.live -= paid_back;
+        self.paid -= paid_back;
+        self.pour(paid_back);
+    }
+
+    /// Whether the semaphore was closed. It takes no memory.
+    pub fn is_closed(&self) -> bool
+        ensures is { result ≡ self.now.closed }
+        ensures sound { IsSound self.now }
+    {
+        self.closed
+    }
+
+    /// Polls an acquire of an open semaphore: ready with the waker handed back, or pending with the waker
+    /// kept until the next poll. It takes memory only where a new acquire has to wait, and where there is
+    /// none it hands the waker back.
     pub fn poll(&mut self, acquire: &mut Acquire, waker: W) -> Result<Turn<W>, (W, NoMemory)>
-        requires { Belongs self.old acquire.old }
+        requires belongs { Belongs self.old acquire.old }
+        requires is_open { self.old.closed ≡ false }
         ensures polls { Polls self.old acquire.old waker result self.new acquire.new }
         ensures holds { IfOk result (λ turn. HoldsAfter self.old acquire.old turn self.new) }
         ensures steady { Steady self.old self.new }
+        ensures no_memory { OnErr result (FindsNoMemory self.old (demand_of acquire.old) self.new) }
+        ensures waker { IfErr result (λ e. e.0 ≡ waker) }
         ensures err { OnErr result ((self.new ≡ self.old) × (acquire.new ≡ acquire.old)) }
         ensures sound { IsSound self.old → IsSound self.new }
     {
-        match *acquire {
-            Acquire::New { demand } => match self.start(demand, waker)? {
-                Start::Taken(waker) => {
-                    *acquire = Acquire::Done { demand };
-                    Ok(Turn::Ready(waker))
-                }
-                Start::Waits(number) => {
-                    *acquire = Acquire::Queued { demand, number };
-                    Ok(Turn::Pending)
-                }
-            },
-            Acquire::Queued { demand, number } => {
-                let turn = self.resume(demand, number, waker);
-                if let Turn::Ready(_) = turn {
-                    *acquire = Acquire::Done { demand };
-                }
-                Ok(turn)
-            }
-            Acquire::Done { .. } => Ok(Turn::Ready(waker)),
+        self.advance(acquire, waker)
+    }
+
+    /// Polls an acquire of a semaphore that is open or closed: as `poll`, and closed, with the waker handed
+    /// back, where the semaphore is closed and had not granted the acquire before.
+    pub fn poll_open(
+        &mut self,
+        acquire: &mut Acquire,
+        waker: W,
+    ) -> Result<OpenTurn<W>, (W, NoMemory)>
+        requires { Belongs self.old acquire.old }
+        ensures polls { PollsOpen self.old acquire.old waker result self.new acquire.new }
+        ensures holds { IfOk result (λ turn. HoldsOpen self.old acquire.old turn self.new) }
+        ensures steady { Steady self.old self.new }
+        ensures no_memory { OnErr result (FindsNoMemory self.old (demand_of acquire.old) self.new) }
+        ensures waker { IfErr result (λ e. e.0 ≡ waker) }
+        ensures err { OnErr result ((self.new ≡ self.old) × (acquire.new ≡ acquire.old)) }
+        ensures sound { IsSound self.new }
+    {
+        if self.is_refused(acquire) {
+            self.refuse(acquire);
+            return Ok(OpenTurn::Closed(waker));
+        }
+        match self.advance(acquire, waker) {
+            Ok(turn) => Ok(OpenTurn::from(turn)),
+            Err(e) => Err(e),
         }
     }
 
-    /// Ends an acquire, and pours what it was paid. It takes no memory, and looks at those alone that the
+    /// Ends an acquire, and pours what it was paid, which is nothing for one that was cut. It takes no memory, and looks at those alone that the
     /// pour pays.
     pub fn cancel(&mut self, acquire: Acquire)
         requires { Belongs self.old acquire }
@@ -306,7 +373,12 @@ impl<W: Drop> SemCore<W> {
         ensures held { held_of self.new ≡ held_of self.old }
         ensures sound { IsSound self.new }
     {
-        let Poured { left, to_debts: _ } = pour(&mut self.waiters, &mut self.outbox, usize::MAX);
+        let Poured { left, to_debts: _ } = pour::<W, Brand>(
+            &mut self.waiters,
+            &mut self.outbox,
+            usize::MAX,
+            Blank::new(1),
+        );
         self.live += usize::MAX - left;
         self.paid += usize::MAX - left;
     }
@@ -333,7 +405,8 @@ impl<W: Drop> SemCore<W> {
             Acquire::Queued { demand, number } => {
                 self.waiters.is_in_use(number) && self.waiters.get(number).is_acquire_of(demand)
             }
-            _ => true,
+            Acquire::Refused { .. } => self.closed,
+            Acquire::New { .. } | Acquire::Done { .. } => true,
         }
     }
 
@@ -361,14 +434,110 @@ impl<W: Drop> SemCore<W> {
         ensures no_debt { HasNoDebt self.old.queue → HasNoDebt self.new.queue }
         ensures sound { IsSound self.new }
     {
-        let Poured { left, to_debts } = pour(&mut self.waiters, &mut self.outbox, n);
+        self.pour_from::<Brand>(n, Blank::new(1));
+    }
+
+    // `pour`, which opens a ledger for its steps and drops it.
+    fn pour_from<L: Ledger>(&mut self, n: usize, blank: Blank)
+        requires fits { self.old.live + n ≤ usize.MAX }
+        requires name { blank.name ≡ L.name }
+        requires parts { blank.parts ≡ L.parts }
+        requires some { 0 < L.parts }
+        ensures poured { self.new ≡ poured self.old n }
+        ensures held { held_of self.new ≡ held_of self.old }
+        ensures no_debt { HasNoDebt self.old.queue → HasNoDebt self.new.queue }
+        ensures sound { IsSound self.new }
+    {
+        let mut steps = Steps::<L>::new(blank);
+        self.pour_counted(n, &mut steps);
+    }
+
+    // `pour`, whose steps are counted.
+    fn pour_counted<L: Ledger>(&mut self, n: usize, steps: &mut Steps<L>)
+        requires { self.old.live + n ≤ usize.MAX }
+        ensures poured { self.new ≡ poured self.old n }
+        ensures held { held_of self.new ≡ held_of self.old }
+        ensures no_debt { HasNoDebt self.old.queue → HasNoDebt self.new.queue }
+        ensures few { steps.new + 6 * length self.new.queue ≤ steps.old + 6 * length self.old.queue + 2 }
+        ensures sound { IsSound self.new }
+    {
+        let Poured { left, to_debts } = pour_counted(&mut self.waiters, &mut self.outbox, n, steps);
         self.free += left;
         self.live += n - to_debts;
         self.paid += n - left - to_debts;
     }
 
+    // Whether the semaphore is closed and had not granted the acquire before.
+    fn is_refused(&self, acquire: &Acquire) -> bool
+        requires { Belongs self.now acquire.now }
+        ensures refused { IsTrue result → IsRefused self.now acquire.now }
+        ensures advances { result ≡ false → MayAdvance self.now acquire.now }
+        ensures sound { IsSound self.now }
+    {
+        match *acquire {
+            Acquire::New { .. } => self.closed,
+            Acquire::Queued { number, .. } => self.waiters.get(number).is_cut(),
+            Acquire::Done { .. } => false,
+            Acquire::Refused { .. } => true,
+        }
+    }
+
+    // Refuses an acquire, which frees its number.
+    fn refuse(&mut self, acquire: &mut Acquire)
+        requires { IsRefused self.old acquire.old }
+        ensures is { self.new ≡ after_refusal self.old acquire.old }
+        ensures refused { acquire.new ≡ Acquire.Refused (demand_of acquire.old) }
+        ensures held { held_of self.new ≡ held_of self.old }
+        ensures sound { IsSound self.new }
+    {
+        match *acquire {
+            Acquire::Queued { demand, number } => {
+                let _ = self.waiters.remove_unlinked(number);
+                *acquire = Acquire::Refused { demand };
+            }
+            Acquire::New { demand } | Acquire::Done { demand } | Acquire::Refused { demand } => {
+                *acquire = Acquire::Refused { demand };
+            }
+        }
+    }
+
+    // Polls an acquire that no close keeps from its permits.
+    fn advance(&mut self, acquire: &mut Acquire, waker: W) -> Result<Turn<W>, (W, NoMemory)>
+        requires { MayAdvance self.old acquire.old }
+        ensures polls { Polls self.old acquire.old waker result self.new acquire.new }
+        ensures holds { IfOk result (λ turn. HoldsAfter self.old acquire.old turn self.new) }
+        ensures steady { Steady self.old self.new }
+        ensures no_memory { OnErr result (FindsNoMemory self.old (demand_of acquire.old) self.new) }
+        ensures waker { IfErr result (λ e. e.0 ≡ waker) }
+        ensures err { OnErr result ((self.new ≡ self.old) × (acquire.new ≡ acquire.old)) }
+        ensures sound { IsSound self.old → IsSound self.new }
+    {
+        match *acquire {
+            Acquire::New { demand } => match self.start(demand, waker)? {
+                Start::Taken(waker) => {
+                    *acquire = Acquire::Done { demand };
+                    Ok(Turn::Ready(waker))
+                }
+                Start::Waits(number) => {
+                    *acquire = Acquire::Queued { demand, number };
+                    Ok(Turn::Pending)
+                }
+            },
+            Acquire::Queued { demand, number } => {
+                let turn = self.resume(demand, number, waker);
+                if let Turn::Ready(_) = turn {
+                    *acquire = Acquire::Done { demand };
+                }
+                Ok(turn)
+            }
+            Acquire::Done { .. } => Ok(Turn::Ready(waker)),
+            Acquire::Refused { .. } => unreachable!(),
+        }
+    }
+
     // The first poll of an acquire: the demand where it is free, or else a number in the queue.
     fn start(&mut self, demand: usize, waker: W) -> Result<Start<W>, (W, NoMemory)>
+        requires { self.old.closed ≡ false }
         ensures taken { demand ≤ self.old.free → (result ≡ Ok (Start.Taken waker)) × (self.new ≡ record self.old { free = self.old.free - demand }) }
         ensures waits { self.old.free < demand → MatchResult result (λ start. (number : ℕ) × (start ≡ Start.Waits number) × Queues self.old self.new demand waker number) (λ e. (e.0 ≡ waker) × (self.new ≡ self.old)) }
         ensures holds { demand ≤ self.old.free → held_of self.new ≡ held_of self.old + demand }

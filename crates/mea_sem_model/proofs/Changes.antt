@@ -1,27 +1,28 @@
 -- what each change of a hall moves, where all lacks are counted and a polled future counts its whole demand
-use Rattle.std.proofs.Common.{◌≡◌, ℕ, ◌+◌, ◌-◌, ◌<◌, ◌≤◌, ◌==◌, Bool, true, false, cond, [], refl, ap, sym, subst, ◌∙◌, arith, Option, Some, None}
+use Rattle.std.proofs.Common.{◌≡◌, ℕ, ◌+◌, ◌-◌, ◌<◌, ◌≤◌, ◌==◌, Bool, true, false, cond, List, [], refl, ap, sym, subst, ◌∙◌, arith, Option, Some, None}
 use Rattle.std.specs.Option.{option_map, IsSome}
 use Rattle.std.specs.Ordering.{nat_cmp}
-use Rattle.std.specs.FinMap.{FinMap, get}
+use Rattle.std.specs.FinMap.{FinMap, get, insert}
 use Rattle.std.proofs.lemmas.Bool.{eqb-true}
 use Rattle.mea_base.specs.Totals.{total, weight}
 use Rattle.mea_base.specs.Queue.{lacks, waiting_after, granted_in}
 use Rattle.mea_base.proofs.Totals.{total-insert, total-remove, total-alike}
 use Rattle.mea_base.proofs.Queues.{lacks-waiting_after}
 use Rattle.mea_base.proofs.Maps.{by_put, by_gone, is_absent}
-use Rattle.mea_sem_model.specs.Hall.{Hall, Semaphore, Future, Permit, Stage, New, Waiting, Granted, semaphore_at, queue_at, poured, granted, pour, lack_of, free, plain_things, with_semaphore}
+use Rattle.mea_sem_model.specs.Hall.{Hall, Semaphore, Future, Permit, Stage, New, Waiting, Granted, Cut, Who, semaphore_at, queue_at, is_closed, poured, stage_all, granted, pour, lack_of, free, plain_things, with_semaphore}
 use Rattle.mea_sem_model.specs.Cause.{is_named}
 use Rattle.mea_sem_model.specs.Step.{with_future, without_future, with_permit, without_permit}
 use Rattle.mea_sem_model.specs.Valid.{count, one_if_waiting, waits_at, AllLack, HasDebtsFirst, IsBelow}
-use Rattle.mea_sem_model.proofs.HallLemmas.{semaphore_put, among, get-grant_all, semaphore_named}
+use Rattle.mea_sem_model.proofs.HallLemmas.{semaphore_put, among, get-grant_all, names_staged, semaphore_named}
 use Rattle.mea_sem_model.proofs.Matched.{IsMatched, matched_semaphore, matched_no_future, is_waiting, granted_waited, pour_matched}
-use Rattle.mea_sem_model.proofs.Orderly.{IsOrderly, orderly_semaphore, orderly_permit, orderly_no_permit, orderly_no_future, same_names, orderly_pour}
+use Rattle.mea_sem_model.proofs.Orderly.{IsOrderly, orderly_semaphore, orderly_permit, orderly_no_permit, orderly_no_future, orderly_pour}
 
 -- what a future has taken or is promised: its demand, once it was polled
 abbrev pub taken : ℕ → Stage → ℕ
 taken n New = 0
 taken n (Waiting w) = n
 taken n Granted = n
+taken n Cut = 0
 
 abbrev pub taken_by : ℕ → ℕ → Future → ℕ
 taken_by s f x = cond (x.semaphore == s) (taken x.demand x.stage) 0
@@ -80,6 +81,7 @@ module _ (h : Hall) (q n : ℕ) (v : IsMatched h) where
       by_stage New e = absurd (omega arith)
       by_stage (Waiting w) e = refl
       by_stage Granted e = refl
+      by_stage Cut e = absurd (omega arith)
 
   pub pour_moves : (s : ℕ) → Moves h (pour h q n) s (cond (q == s) n 0) 0
   pour_moves s =
@@ -132,10 +134,12 @@ below_no_permit h k n b = record {
   permits = λ j there. by_gone h.permits k (λ i o. IsSome o → i < n) (λ e. absurd (cc)) (λ i apart e. b.permits i e) j there;
 }
 
-below_pour : (h : Hall) (q k n : ℕ) → IsSome (get h.semaphores q) → IsOrderly h → IsBelow h n → IsBelow (pour h q k) n
-below_pour h q k n there v b = record {
-  semaphores = (below_semaphore h q n (poured (semaphore_at h q) k) (b.semaphores q there) b).semaphores;
-  futures = λ j has. b.futures j (sym (same_names h q k there v j) ∙ has);
+-- some come to a stage
+pub below_staged : (h : Hall) (q n : ℕ) (t : Stage) (ws : List Who) (r : Semaphore) → IsSome (get h.semaphores q) → IsBelow h n
+    → IsBelow (record h { semaphores = insert h.semaphores q r; futures = stage_all t ws h.futures }) n
+below_staged h q n t ws r there b = record {
+  semaphores = (below_semaphore h q n r (b.semaphores q there) b).semaphores;
+  futures = λ j has. b.futures j (sym (names_staged t ws h.futures j) ∙ has);
   permits = b.permits;
 }
 
@@ -178,24 +182,25 @@ module _ (h : Hall) (n : ℕ) (m : IsMatched h) (v : IsOrderly h) (low : IsBelow
   pub to_semaphore : (q a b : ℕ) (r : Semaphore) → q < n → (get h.futures q ≡ None) × (get h.permits q ≡ None)
       → a + lacks r.queue + free h q ≡ lacks (queue_at h q) + r.free + b
       → ((f : ℕ) → count r.queue f ≡ count (queue_at h q) f) → ((f : ℕ) → lack_of r.queue f ≤ lack_of (queue_at h q) f) → AllLack r.queue
-      → HasDebtsFirst r.queue → (0 < r.free → r.queue ≡ []) → (0 < plain_things h q → r.named ≡ true)
+      → HasDebtsFirst r.queue → (0 < r.free → r.queue ≡ []) → (0 < plain_things h q → r.named ≡ true) → r.closed ≡ is_closed h q
       → Changed h (with_semaphore h q r) n (λ s. cond (q == s) a 0) (λ s. cond (q == s) b 0)
-  to_semaphore q a b r small apart change counts lack lacking first idle plain = record {
+  to_semaphore q a b r small apart change counts lack lacking first idle plain same = record {
     moves = moves_semaphore h q a b r change;
     matched = matched_semaphore h q r counts lack m;
-    orderly = orderly_semaphore h q r apart lacking first idle plain v;
+    orderly = orderly_semaphore h q r apart lacking first idle plain same v;
     below = below_semaphore h q n r small low;
   }
 
   -- the free permits and the tallies alone
   pub to_numbers : (q a b k made released forgotten : ℕ) → IsSome (get h.semaphores q) → k ≤ free h q → a + free h q ≡ k + b
       → Changed h (with_semaphore h q
-      (record { free = k; queue = queue_at h q; made = made; released = released; forgotten = forgotten; named = (semaphore_at h q).named })) n
+      (record { free = k; queue = queue_at h q; made = made; released = released; forgotten = forgotten; named = (semaphore_at h q).named; closed = is_closed h q })) n
       (λ s. cond (q == s) a 0) (λ s. cond (q == s) b 0)
   to_numbers q a b k made released forgotten there less change =
-      to_semaphore q a b (record { free = k; queue = queue_at h q; made = made; released = released; forgotten = forgotten; named = (semaphore_at h q).named })
+      to_semaphore q a b
+      (record { free = k; queue = queue_at h q; made = made; released = released; forgotten = forgotten; named = (semaphore_at h q).named; closed = is_closed h q })
       (low.semaphores q there) (v.semaphores_apart q there) (omega (arith, change)) (λ f. refl) (λ f. omega arith) (v.lacking q) (v.debts_first q)
-      (λ some. let more : 0 < free h q = omega arith in v.idle q more) (λ some. semaphore_named h q (v.named q some))
+      (λ some. let more : 0 < free h q = omega arith in v.idle q more) (λ some. semaphore_named h q (v.named q some)) refl
 
   pub to_permit : (k : ℕ) (p : Permit) → k < n → (get h.semaphores k ≡ None) × (get h.futures k ≡ None) → IsSome (get h.semaphores p.semaphore)
       → (p.plain ≡ true → is_named h p.semaphore ≡ true)
@@ -229,5 +234,5 @@ module _ (h : Hall) (n : ℕ) (m : IsMatched h) (v : IsOrderly h) (low : IsBelow
     moves = pour_moves h q k m;
     matched = pour_matched h q k m;
     orderly = orderly_pour h q k there v;
-    below = below_pour h q k n there v low;
+    below = below_staged h q n Granted (granted_in (queue_at h q) k) (poured (semaphore_at h q) k) there low;
   }

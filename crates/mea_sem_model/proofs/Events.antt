@@ -13,15 +13,16 @@ use Rattle.mea_base.proofs.Maps.{is_there, get-there, get-removed_other}
 use Rattle.mea_base.proofs.Tests.{on_true, known}
 use Rattle.mea_sem_model.specs.declared.event.SemEvent.{SemEvent}
 use Rattle.mea_sem_model.specs.declared.event.SemEvent.TheVariants as events
-use Rattle.mea_sem_model.specs.Hall.{Hall, Semaphore, Future, Permit, Stage, New, Waiting, Granted, Who, Waiter, made_with, semaphore_at, queue_at, pour, names, lack_of, free, plain_things, with_semaphore}
+use Rattle.mea_sem_model.specs.Hall.{Hall, Semaphore, Future, Permit, Stage, New, Waiting, Granted, Cut, Who, Waiter, made_with, semaphore_at, queue_at, is_closed, pour, names, lack_of, free, plain_things, with_semaphore, closing, wakes_waiting}
 use Rattle.mea_sem_model.specs.Cause.{is_named, is_named_semaphore, are_of_one_kind, can_merge, cause_of}
-use Rattle.mea_sem_model.specs.Step.{quietly, with_future, without_future, with_permit, without_permit, forgetting, with_debt, forgetting_exactly, taking, made_ready, queueing, poll_at, poll_of, without, leaving, end_future, end_permit, end_of, lose_of, merge_of, split_of, released_to, step}
-use Rattle.mea_sem_model.specs.Valid.{count, one_if_waiting, waits_at, IsBelow}
+use Rattle.mea_sem_model.specs.Step.{quietly, with_future, without_future, with_permit, without_permit, forgetting, with_debt, forgetting_exactly, taking, made_ready, queueing, open_poll, refusing, poll_at, poll_of, without, leaving, end_future, end_permit, end_of, lose_of, merge_of, split_of, released_to, offers, step}
+use Rattle.mea_sem_model.specs.Valid.{count, one_if_waiting, waits_at, SuitsClosed, IsBelow}
 use Rattle.mea_sem_model.specs.Runs.{Told, if_same, made_by, released_by, number_forgot, if_yes, if_ready, if_permit_of, forgetting_demand, forgotten_by}
-use Rattle.mea_sem_model.proofs.HallLemmas.{semaphore_named}
+use Rattle.mea_sem_model.proofs.HallLemmas.{semaphore_named, closed_put}
 use Rattle.mea_sem_model.proofs.Pours.{lacks-without, lacking-without, lacking-append, lacking-debt, first-filter, first-append, first-debt, lacks-debt, count-debt, lack-debt}
-use Rattle.mea_sem_model.proofs.Matched.{IsMatched, matched_future, new_waits, granted_waits, lacks_nothing, queued_matched, left_matched}
+use Rattle.mea_sem_model.proofs.Matched.{IsMatched, matched_future, new_waits, granted_waits, stage_waits, lacks_nothing, queued_matched, left_matched}
 use Rattle.mea_sem_model.proofs.Orderly.{IsOrderly, future_alone, permit_alone, still_there, orderly_semaphore, orderly_future, orderly_no_future}
+use Rattle.mea_sem_model.proofs.Closings.{to_closing}
 use Rattle.mea_sem_model.proofs.Changes.{taken, taken_by, held_by, moves_semaphore, moves_future, moves_no_future, below_semaphore, below_future, below_no_future, below_more, no_semaphore_yet, no_future_yet, no_permit_yet, Changed, after, retold, nothing, to_semaphore, to_numbers, to_permit, to_no_permit, to_no_future, to_pour}
 
 -- ---- numbers by a test
@@ -114,7 +115,7 @@ module _ (h : Hall) (i : ℕ) (m : IsMatched h) (v : IsOrderly h) (low : IsBelow
       let empties : queue_at h i ≡ [] = ap (λ (r : Semaphore). r.queue) none in
       let lacked : lacks (queue_at h i) ≡ 0 = ap (λ q. lacks q) empties in
       to_semaphore h (i + 1) m v wider i n 0 (made_with n) (omega arith) (no_future_yet h i low, no_permit_yet h i low) (omega (arith, lacked, frees))
-      (λ f. sym (ap (λ q. count q f) empties)) (λ f. omega arith) tt tt (λ some. refl) (λ some. refl)
+      (λ f. sym (ap (λ q. count q f) empties)) (λ f. omega arith) tt tt (λ some. refl) (λ some. refl) (sym (ap (λ (r : Semaphore). r.closed) none))
 
   at_forget : (q n : ℕ) → IsSome (get h.semaphores q) → Changed h (with_semaphore h q (forgetting (semaphore_at h q) n)) (i + 1)
       (λ s. cond (q == s) 0 0) (λ s. cond (q == s) (min n (free h q)) 0)
@@ -127,7 +128,7 @@ module _ (h : Hall) (i : ℕ) (m : IsMatched h) (v : IsOrderly h) (low : IsBelow
       to_semaphore h (i + 1) m v wider q 0 n (forgetting_exactly (semaphore_at h q) n) (wider.semaphores q there) (v.semaphores_apart q there)
       (omega (arith, lacks-debt (queue_at h q) (n - min n (free h q)))) (count-debt (queue_at h q) owing) (lack-debt (queue_at h q) owing)
       (lacking-debt (queue_at h q) owing (v.lacking q)) (first-debt (queue_at h q) owing (v.debts_first q)) debt_idle
-      (λ some. semaphore_named h q (v.named q some))
+      (λ some. semaphore_named h q (v.named q some)) refl
     where
       debt_idle : 0 < free h q - min n (free h q) → with_debt (queue_at h q) (n - min n (free h q)) ≡ []
       debt_idle some =
@@ -135,10 +136,13 @@ module _ (h : Hall) (i : ℕ) (m : IsMatched h) (v : IsOrderly h) (low : IsBelow
           let more : 0 < free h q = omega arith in
           ap (with_debt (queue_at h q)) enough ∙ v.idle q more
 
+  pub counted_released : (q n : ℕ) → IsSome (get h.semaphores q) → Changed h (released_to h q n) (i + 1) (λ s. cond (q == s) 0 0) (λ s. cond (q == s) 0 0)
+  counted_released q n there = to_numbers h (i + 1) m v wider q 0 0 (free h q) (semaphore_at h q).made ((semaphore_at h q).released + n)
+      (semaphore_at h q).forgotten there (omega arith) (omega arith)
+
   at_release : (q n : ℕ) → IsSome (get h.semaphores q) → Changed h (pour (released_to h q n) q n) (i + 1) (λ s. cond (q == s) n 0) (λ s. 0)
   at_release q n there =
-      let first = to_numbers h (i + 1) m v wider q 0 0 (free h q) (semaphore_at h q).made ((semaphore_at h q).released + n)
-      (semaphore_at h q).forgotten there (omega arith) (omega arith) in
+      let first = counted_released q n there in
       retold h _ (i + 1) _ _ (λ s. cond (q == s) n 0) (λ s. 0) (λ s. omega (arith, never (q == s)))
       (after h (released_to h q n) _ (i + 1) _ _ _ _ first
       (to_pour (released_to h q n) (i + 1) first.matched first.orderly first.below q n (still_there h q q _ there)))
@@ -171,7 +175,7 @@ module _ (h : Hall) (i : ℕ) (m : IsMatched h) (v : IsOrderly h) (low : IsBelow
       → Changed h (with_semaphore h q (record (semaphore_at h q) { named = false })) (i + 1) (λ s. 0) (λ s. 0)
   at_endsem q there none = retold h _ (i + 1) _ _ (λ s. 0) (λ s. 0) (λ s. omega (arith, never (q == s)))
       (to_semaphore h (i + 1) m v wider q 0 0 (record (semaphore_at h q) { named = false }) (wider.semaphores q there) (v.semaphores_apart q there)
-      (omega arith) (λ f. refl) (λ f. omega arith) (v.lacking q) (v.debts_first q) (v.idle q) (λ some. absurd (omega arith)))
+      (omega arith) (λ f. refl) (λ f. omega arith) (v.lacking q) (v.debts_first q) (v.idle q) (λ some. absurd (omega arith)) refl)
 
   at_acq : (q n : ℕ) (plain forgets : Bool) → is_named h q ≡ true
       → Changed h (with_future h i (record { semaphore = q; demand = n; plain = plain; forgets = forgets; stage = New })) (i + 1) (λ s. 0) (λ s. 0)
@@ -181,12 +185,12 @@ module _ (h : Hall) (i : ℕ) (m : IsMatched h) (v : IsOrderly h) (low : IsBelow
       record {
         moves = λ s. omega (arith, never (q == s), moves_future h i s x, ap (weight (taken_by s) i) none);
         matched = matched_future h i x (λ s. ap (waits_at s) none ∙ sym (never (q == s))) (λ s. omega (arith, lacks_nothing h s i (ap (waits_at s) none) m)) m;
-        orderly = orderly_future h i x (no_semaphore_yet h i low, no_permit_yet h i low) (named_there h q named) (λ e. named) v;
+        orderly = orderly_future h i x (no_semaphore_yet h i low, no_permit_yet h i low) (named_there h q named) (λ e. named) tt v;
         below = below_future h i (i + 1) x (omega arith) wider;
       }
 
   -- ---- permits
-  lost : (k : ℕ) (p : Permit) → get h.permits k ≡ Some p → Changed h (without_permit h k) (i + 1) (λ s. 0) (λ s. cond (p.semaphore == s) p.size 0)
+  pub lost : (k : ℕ) (p : Permit) → get h.permits k ≡ Some p → Changed h (without_permit h k) (i + 1) (λ s. 0) (λ s. cond (p.semaphore == s) p.size 0)
   lost k p is = retold h _ (i + 1) _ _ (λ s. 0) (λ s. cond (p.semaphore == s) p.size 0) (λ s. omega (arith, ap (weight (held_by s) k) is))
       (to_no_permit h (i + 1) m v wider k)
 
@@ -284,11 +288,25 @@ module _ (h : Hall) (i f : ℕ) (x : Future) (is : get h.futures f ≡ Some x) (
   f_below : f < i + 1
   f_below = (below_more h i low).futures f (is_there (get h.futures f) x is)
 
-  idle_new : x.stage ≡ New → (s : ℕ) → waits_at s (get h.futures f) ≡ 0
+  pub idle_new : x.stage ≡ New → (s : ℕ) → waits_at s (get h.futures f) ≡ 0
   idle_new unpolled s = ap (waits_at s) is ∙ new_waits x s unpolled
 
-  idle_granted : x.stage ≡ Granted → (s : ℕ) → waits_at s (get h.futures f) ≡ 0
+  pub idle_granted : x.stage ≡ Granted → (s : ℕ) → waits_at s (get h.futures f) ≡ 0
   idle_granted done s = ap (waits_at s) is ∙ granted_waits x s done
+
+  pub gone : ((s : ℕ) → waits_at s (get h.futures f) ≡ 0) → Changed h (without_future h f) (i + 1) (λ s. 0) (λ s. taken_by s f x)
+  gone idle = retold h _ (i + 1) _ _ (λ s. 0) (λ s. taken_by s f x) (λ s. omega (arith, ap (weight (taken_by s) f) is))
+      (to_no_future h (i + 1) m v (below_more h i low) f idle)
+
+  -- one that was paid nothing is gone
+  gone_with_nothing : {t : Stage} → x.stage ≡ t → taken x.demand t ≡ 0 → one_if_waiting t ≡ 0 → Changed h (without_future h f) (i + 1) (λ s. 0) (λ s. 0)
+  gone_with_nothing {t} e nothing idle = retold h _ (i + 1) _ _ (λ s. 0) (λ s. 0)
+      (λ s. omega (
+        arith,
+        never (x.semaphore == s),
+        ap (λ k. cond (x.semaphore == s) k 0) nothing,
+        ap (λ t. cond (x.semaphore == s) (taken x.demand t) 0) e,
+      )) (gone (λ s. ap (waits_at s) is ∙ stage_waits x s t idle e))
 
   at_granted : x.stage ≡ Granted → Changed h (made_ready h i f x) (i + 1) (λ s. 0) (λ s. cond ((x.semaphore == s) && x.forgets) x.demand 0)
   at_granted done = retold h _ (i + 1) _ _ (λ s. 0) (λ s. cond ((x.semaphore == s) && x.forgets) x.demand 0)
@@ -311,8 +329,8 @@ module _ (h : Hall) (i f : ℕ) (x : Future) (is : get h.futures f ≡ Some x) (
       ))
       (after h g _ (i + 1) _ _ _ _ (more h g i _ _ first) (at_ready g i f x is (idle_new unpolled) first.matched first.orderly first.below))
 
-  at_queueing : (w : ℕ) → x.stage ≡ New → free h x.semaphore < x.demand → Changed h (queueing h f w x) (i + 1) (λ s. 0) (λ s. 0)
-  at_queueing w unpolled short =
+  at_queueing : (w : ℕ) → x.stage ≡ New → is_closed h x.semaphore ≡ false → free h x.semaphore < x.demand → Changed h (queueing h f w x) (i + 1) (λ s. 0) (λ s. 0)
+  at_queueing w unpolled open_still short =
       let r : Semaphore = record (semaphore_at h x.semaphore) { free = 0; queue = queue_at h x.semaphore ++ (Waiter f, x.demand - free h x.semaphore) ∷ [] } in
       let g : Hall = with_semaphore h x.semaphore r in
       let longer = sum_by-append {X = Who × ℕ} (λ d. d.1) (queue_at h x.semaphore) ((Waiter f, x.demand - free h x.semaphore) ∷ []) in
@@ -320,7 +338,7 @@ module _ (h : Hall) (i f : ℕ) (x : Future) (is : get h.futures f ≡ Some x) (
       let put : IsOrderly g = orderly_semaphore h x.semaphore r (v.semaphores_apart x.semaphore there)
       (lacking-append (queue_at h x.semaphore) (Waiter f, x.demand - free h x.semaphore) (v.lacking x.semaphore) some)
       (first-append (queue_at h x.semaphore) f (x.demand - free h x.semaphore) (v.debts_first x.semaphore)) (λ no_free. absurd (omega arith))
-      (λ plain. semaphore_named h x.semaphore (v.named x.semaphore plain)) v in
+      (λ plain. semaphore_named h x.semaphore (v.named x.semaphore plain)) refl v in
       record {
         moves = λ s. omega (
           arith,
@@ -332,7 +350,7 @@ module _ (h : Hall) (i f : ℕ) (x : Future) (is : get h.futures f ≡ Some x) (
         );
         matched = queued_matched h f w x is unpolled m;
         orderly = orderly_future g f (record x { stage = Waiting w }) (future_alone g f (is_there (get h.futures f) x is) put)
-            (still_there h x.semaphore x.semaphore r there) (plain_future_named g f x is put) put;
+            (still_there h x.semaphore x.semaphore r there) (plain_future_named g f x is put) (closed_put h x.semaphore r refl x.semaphore ∙ open_still) put;
         below = below_future g f (i + 1) (record x { stage = Waiting w }) f_below
             (below_semaphore h x.semaphore (i + 1) r ((below_more h i low).semaphores x.semaphore there) (below_more h i low));
       }
@@ -349,28 +367,31 @@ module _ (h : Hall) (i f : ℕ) (x : Future) (is : get h.futures f ≡ Some x) (
     matched = matched_future h f (record x { stage = Waiting w })
         (λ s. ap (waits_at s) is ∙ ap (λ t. cond (x.semaphore == s) (one_if_waiting t) 0) waits) (λ s. m.within s f x is) m;
     orderly = orderly_future h f (record x { stage = Waiting w }) (future_alone h f (is_there (get h.futures f) x is) v) there
-        (plain_future_named h f x is v) v;
+        (plain_future_named h f x is v) (subst (SuitsClosed (is_closed h x.semaphore)) waits (v.closed f x is)) v;
     below = below_future h f (i + 1) (record x { stage = Waiting w }) f_below (below_more h i low);
   }
 
-  at_first : (w : ℕ) → x.stage ≡ New → (b : Bool) → nat_le x.demand (free h x.semaphore) ≡ b
+  at_first : (w : ℕ) → x.stage ≡ New → is_closed h x.semaphore ≡ false → (b : Bool) → nat_le x.demand (free h x.semaphore) ≡ b
       → Changed h (if b then quietly (made_ready (with_semaphore h x.semaphore (taking (semaphore_at h x.semaphore) x.demand)) i f x) answers.Ready
       else quietly (queueing h f w x) answers.Pending).hall (i + 1) (λ s. 0)
       (λ s. if_ready (forgetting_demand s (Some x))
       (if b then quietly (made_ready (with_semaphore h x.semaphore (taking (semaphore_at h x.semaphore) x.demand)) i f x) answers.Ready
       else quietly (queueing h f w x) answers.Pending).reply)
-  at_first w unpolled true e = at_first_ready unpolled (leb-true x.demand (free h x.semaphore) e)
-  at_first w unpolled false e = at_queueing w unpolled (leb-false x.demand (free h x.semaphore) e)
+  at_first w unpolled open_still true e = at_first_ready unpolled (leb-true x.demand (free h x.semaphore) e)
+  at_first w unpolled open_still false e = at_queueing w unpolled open_still (leb-false x.demand (free h x.semaphore) e)
+
+  at_first_poll : (w : ℕ) → x.stage ≡ New → (b : Bool) → is_closed h x.semaphore ≡ b
+      → Changed h (if b then refusing h f else open_poll h i f w x).hall (i + 1) (λ s. 0)
+      (λ s. if_ready (forgetting_demand s (Some x)) (if b then refusing h f else open_poll h i f w x).reply)
+  at_first_poll w unpolled true e = gone_with_nothing unpolled refl refl
+  at_first_poll w unpolled false e = at_first w unpolled e (nat_le x.demand (free h x.semaphore)) refl
 
   at_poll : (w : ℕ) (t : Stage) → x.stage ≡ t → Changed h (poll_at h i f w x t).hall (i + 1) (λ s. 0)
       (λ s. if_ready (forgetting_demand s (Some x)) (poll_at h i f w x t).reply)
-  at_poll w New e = at_first w e (nat_le x.demand (free h x.semaphore)) refl
+  at_poll w New e = at_first_poll w e (is_closed h x.semaphore) refl
   at_poll w (Waiting u) e = at_waiting w u e
   at_poll w Granted e = at_granted e
-
-  gone : ((s : ℕ) → waits_at s (get h.futures f) ≡ 0) → Changed h (without_future h f) (i + 1) (λ s. 0) (λ s. taken_by s f x)
-  gone idle = retold h _ (i + 1) _ _ (λ s. 0) (λ s. taken_by s f x) (λ s. omega (arith, ap (weight (taken_by s) f) is))
-      (to_no_future h (i + 1) m v (below_more h i low) f idle)
+  at_poll w Cut e = gone_with_nothing e refl refl
 
   pub at_leaving : Changed h (leaving h f x) (i + 1) (λ s. cond (x.semaphore == s) (lack_of (queue_at h x.semaphore) f) 0) (λ s. taken_by s f x)
   at_leaving =
@@ -388,13 +409,12 @@ module _ (h : Hall) (i f : ℕ) (x : Future) (is : get h.futures f ≡ Some x) (
         orderly = orderly_no_future g f
             (orderly_semaphore h x.semaphore r (v.semaphores_apart x.semaphore there) (lacking-without (queue_at h x.semaphore) f (v.lacking x.semaphore))
             (first-filter (λ e. not (names e.0 f)) (queue_at h x.semaphore) (v.debts_first x.semaphore))
-            (λ some. ap (λ q. without q f) (v.idle x.semaphore some)) (λ plain. semaphore_named h x.semaphore (v.named x.semaphore plain)) v);
+            (λ some. ap (λ q. without q f) (v.idle x.semaphore some)) (λ plain. semaphore_named h x.semaphore (v.named x.semaphore plain)) refl v);
         below = below_no_future g f (i + 1) (below_semaphore h x.semaphore (i + 1) r ((below_more h i low).semaphores x.semaphore there) (below_more h i low));
       }
 
   at_end : (t : Stage) → x.stage ≡ t → Changed h (end_future h f x t).hall (i + 1) (λ s. 0) (λ s. 0)
-  at_end New e = retold h _ (i + 1) _ _ (λ s. 0) (λ s. 0)
-      (λ s. omega (arith, never (x.semaphore == s), ap (λ t. cond (x.semaphore == s) (taken x.demand t) 0) e)) (gone (idle_new e))
+  at_end New e = gone_with_nothing e refl refl
   at_end (Waiting u) e =
       let l : ℕ = lack_of (queue_at h x.semaphore) f in
       let within : l ≤ x.demand = m.within x.semaphore f x is in
@@ -410,6 +430,7 @@ module _ (h : Hall) (i f : ℕ) (x : Future) (is : get h.futures f ≡ Some x) (
       ))
       (after h (leaving h f x) _ (i + 1) _ _ _ _ first
       (to_pour (leaving h f x) (i + 1) first.matched first.orderly first.below x.semaphore (x.demand - l) (still_there h x.semaphore x.semaphore _ there)))
+  at_end Cut e = gone_with_nothing e refl refl
   at_end Granted e =
       let first = gone (idle_granted e) in
       retold h _ (i + 1) _ _ (λ s. 0) (λ s. 0) (λ s. omega (arith, ap (λ t. cond (x.semaphore == s) (taken x.demand t) 0) e))
@@ -443,10 +464,14 @@ module _ (h : Hall) (i : ℕ) (m : IsMatched h) (v : IsOrderly h) (low : IsBelow
   loses p None is = unchanged
   loses p (Some x) is = at_lose h i m v low p x is
 
-  tries : (q n : ℕ) (plain b : Bool) → is_named h q ≡ true → nat_le n (free h q) ≡ b
+  -- what is offered is free
+  enough : (q n : ℕ) → offers h q n ≡ true → n ≤ free h q
+  enough q n e = leb-true n (free h q) (and_parts (not (is_closed h q)) (nat_le n (free h q)) e).1
+
+  tries : (q n : ℕ) (plain b : Bool) → is_named h q ≡ true → offers h q n ≡ b
       → Changed h (if b then quietly (with_permit (with_semaphore h q (taking (semaphore_at h q) n)) i
       (record { semaphore = q; size = n; plain = plain })) answers.Held else quietly h answers.Lacking).hall (i + 1) (λ s. 0) (λ s. 0)
-  tries q n plain true named e = at_try h i m v low q n plain named (leb-true n (free h q) e)
+  tries q n plain true named e = at_try h i m v low q n plain named (enough q n e)
   tries q n plain false named e = unchanged
 
   splits : (p n : ℕ) (x : Permit) → get h.permits p ≡ Some x → (b : Bool) → nat_le n x.size ≡ b
@@ -459,15 +484,21 @@ module _ (h : Hall) (i : ℕ) (m : IsMatched h) (v : IsOrderly h) (low : IsBelow
   splits_of p n None is = unchanged
   splits_of p n (Some x) is = splits p n x is (nat_le n x.size) refl
 
-  tries_and_forgets : (q n : ℕ) (b : Bool) → is_named h q ≡ true → nat_le n (free h q) ≡ b
+  tries_and_forgets : (q n : ℕ) (b : Bool) → is_named h q ≡ true → offers h q n ≡ b
       → Changed h (if b then quietly (with_semaphore h q
       (record (semaphore_at h q) { free = free h q - n; forgotten = (semaphore_at h q).forgotten + n })) answers.Yes else quietly h answers.No).hall
       (i + 1) (λ s. 0)
       (λ s. if_same q s (if_yes n (if b then quietly
       (with_semaphore h q (record (semaphore_at h q) { free = free h q - n; forgotten = (semaphore_at h q).forgotten + n })) answers.Yes
       else quietly h answers.No).reply))
-  tries_and_forgets q n true named e = at_try_and_forget h i m v low q n named (leb-true n (free h q) e)
+  tries_and_forgets q n true named e = at_try_and_forget h i m v low q n named (enough q n e)
   tries_and_forgets q n false named e = retold h _ (i + 1) _ _ (λ s. 0) (λ s. cond (q == s) 0 0) (λ s. omega (arith, never (q == s))) unchanged
+
+  closes : (q : ℕ) (b : Bool) → is_named h q ≡ true
+      → Changed h (if b then quietly h answers.Done else record { hall = closing h q; reply = answers.Done; wakes = wakes_waiting h q }).hall (i + 1)
+      (λ s. 0) (λ s. 0)
+  closes q true named = unchanged
+  closes q false named = to_closing h q (i + 1) (named_there h q named) m v (below_more h i low)
 
   merges : (p q : ℕ) → can_merge h p q ≡ true → Changed h (merge_of h p q (get h.permits p) (get h.permits q)) (i + 1) (λ s. 0) (λ s. 0)
   merges p q can =
@@ -485,10 +516,10 @@ module _ (h : Hall) (i : ℕ) (m : IsMatched h) (v : IsOrderly h) (low : IsBelow
   steps (events.Forgetx q n) cause = retold h _ (i + 1) _ _ _ _ (λ s. omega (arith, never (q == s)))
       (at_forgetx h i m v low q n (named_there h q (known _ cause)))
   steps (events.Release q n) cause = retold h _ (i + 1) _ _ _ _ (λ s. omega arith) (at_release h i m v low q n (named_there h q (release_known _ _ cause).0))
-  steps (events.Try q n) cause = tries q n true (nat_le n (free h q)) (known _ cause) refl
-  steps (events.Tryo q n) cause = tries q n false (nat_le n (free h q)) (known _ cause) refl
-  steps (events.Tryf q n) cause = tries_and_forgets q n (nat_le n (free h q)) (known _ cause) refl
-  steps (events.Tryof q n) cause = tries_and_forgets q n (nat_le n (free h q)) (known _ cause) refl
+  steps (events.Try q n) cause = tries q n true (offers h q n) (known _ cause) refl
+  steps (events.Tryo q n) cause = tries q n false (offers h q n) (known _ cause) refl
+  steps (events.Tryf q n) cause = tries_and_forgets q n (offers h q n) (known _ cause) refl
+  steps (events.Tryof q n) cause = tries_and_forgets q n (offers h q n) (known _ cause) refl
   steps (events.Acq q n) cause = at_acq h i m v low q n true false (known _ cause)
   steps (events.Acqo q n) cause = at_acq h i m v low q n false false (known _ cause)
   steps (events.Acqf q n) cause = at_acq h i m v low q n true true (known _ cause)
@@ -502,3 +533,5 @@ module _ (h : Hall) (i : ℕ) (m : IsMatched h) (v : IsOrderly h) (low : IsBelow
   steps (events.Endsem q) cause = let k = endsem_known _ _ cause in let none = ltb-false 0 (plain_things h q) k.1 in
       at_endsem h i m v low q (named_there h q k.0) (omega arith)
   steps (events.Ledger q) cause = unchanged
+  steps (events.Close q) cause = closes q (is_closed h q) (known _ cause)
+  steps (events.Closed q) cause = unchanged

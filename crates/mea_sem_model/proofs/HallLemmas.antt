@@ -9,7 +9,7 @@ use Rattle.std.proofs.lemmas.List.Sums.{sum_by-cons}
 use Rattle.mea_base.specs.Queue.{lacks_after, waiting_after}
 use Rattle.mea_base.proofs.Totals.{get_inserted}
 use Rattle.mea_base.proofs.Maps.{inside}
-use Rattle.mea_sem_model.specs.Hall.{Hall, Semaphore, Future, Who, Waiter, Debt, names, made_with, semaphore_at, granted, grant_if, grant_who, grant_all, with_semaphore, debt_of, debts}
+use Rattle.mea_sem_model.specs.Hall.{Hall, Semaphore, Future, Stage, Granted, Who, Waiter, Debt, names, made_with, semaphore_at, is_closed, staged, granted, stage_if, stage_who, stage_all, grant_all, with_semaphore, debt_of, debts}
 use Rattle.mea_sem_model.specs.Cause.{is_named, is_named_semaphore}
 
 -- ---- semaphores
@@ -37,56 +37,81 @@ semaphore_named h q = by_option (get h.semaphores q)
     by_option None e = absurd (cc)
     by_option (Some r) e = e
 
--- ---- who is granted
+-- a semaphore that is put in closes none and opens none, where it is closed as the one before
+pub closed_put : (h : Hall) (q : ℕ) (r : Semaphore) → r.closed ≡ is_closed h q → (s : ℕ) → is_closed (with_semaphore h q r) s ≡ is_closed h s
+closed_put h q r same s = by_semaphore h q r (λ k y. y.closed ≡ is_closed h k) same (λ k apart. refl) s
+
+-- ---- who comes to a stage
 -- whether a future is among those
 abbrev pub among : List Who → ℕ → Bool
 among [] f = false
 among (w ∷ ws) f = names w f || among ws f
 
-get-grant_if : (m : FinMap nat_cmp Future) (f q : ℕ) (o : Option Future) → get m f ≡ o
-    → get (grant_if m f o) q ≡ cond (f == q) (option_map granted (get m q)) (get m q)
-get-grant_if m f q None is = elim (f == q) as (λ b. (f == q) ≡ b → get m q ≡ cond b (option_map granted (get m q)) (get m q)) [
-  | true ↦ λ h. let gone : get m q ≡ None = ap (get m) (sym (eqb-true f q h)) ∙ is in rw gone
-  | false ↦ λ h. refl
-] refl
-get-grant_if m f q (Some x) is = get_inserted m f q (granted x)
-    ∙ elim (f == q) as (λ b. (f == q) ≡ b → cond b (Some (granted x)) (get m q) ≡ cond b (option_map granted (get m q)) (get m q)) [
-      | true ↦ λ h. let there : get m q ≡ Some x = ap (get m) (sym (eqb-true f q h)) ∙ is in rw there
-      | false ↦ λ h. refl
-    ] refl
+module _ (t : Stage) where
+  get-stage_if : (m : FinMap nat_cmp Future) (f q : ℕ) (o : Option Future) → get m f ≡ o
+      → get (stage_if t m f o) q ≡ cond (f == q) (option_map (staged t) (get m q)) (get m q)
+  get-stage_if m f q None is = elim (f == q) as (λ b. (f == q) ≡ b → get m q ≡ cond b (option_map (staged t) (get m q)) (get m q)) [
+    | true ↦ λ h. let gone : get m q ≡ None = ap (get m) (sym (eqb-true f q h)) ∙ is in rw gone
+    | false ↦ λ h. refl
+  ] refl
+  get-stage_if m f q (Some x) is = get_inserted m f q (staged t x)
+      ∙ elim (f == q) as (λ b. (f == q) ≡ b → cond b (Some (staged t x)) (get m q) ≡ cond b (option_map (staged t) (get m q)) (get m q)) [
+        | true ↦ λ h. let there : get m q ≡ Some x = ap (get m) (sym (eqb-true f q h)) ∙ is in rw there
+        | false ↦ λ h. refl
+      ] refl
 
-pub get-grant_who : (m : FinMap nat_cmp Future) (w : Who) (q : ℕ) → get (grant_who m w) q ≡ cond (names w q) (option_map granted (get m q)) (get m q)
-get-grant_who m (Waiter f) q = get-grant_if m f q (get m f) refl
-get-grant_who m Debt q = refl
+  get-stage_who : (m : FinMap nat_cmp Future) (w : Who) (q : ℕ) → get (stage_who t m w) q ≡ cond (names w q) (option_map (staged t) (get m q)) (get m q)
+  get-stage_who m (Waiter f) q = get-stage_if m f q (get m f) refl
+  get-stage_who m Debt q = refl
 
-twice : (a b : Bool) (o : Option Future) → cond b (option_map granted (cond a (option_map granted o) o)) (cond a (option_map granted o) o) ≡ cond
-    (a || b) (option_map granted o) o
-twice true true None = refl
-twice true true (Some x) = refl
-twice true false o = refl
-twice false b o = refl
+  twice : (a b : Bool) (o : Option Future) → cond b (option_map (staged t) (cond a (option_map (staged t) o) o)) (cond a (option_map (staged t) o) o) ≡ cond
+      (a || b) (option_map (staged t) o) o
+  twice true true None = refl
+  twice true true (Some x) = refl
+  twice true false o = refl
+  twice false b o = refl
+
+  -- what a future is after some come to a stage
+  pub get-stage_all : (ws : List Who) (m : FinMap nat_cmp Future) (q : ℕ) → get (stage_all t ws m) q ≡ cond (among ws q)
+      (option_map (staged t) (get m q)) (get m q)
+  get-stage_all [] m q = refl
+  get-stage_all (w ∷ ws) m q = get-stage_all ws (stage_who t m w) q
+      ∙ ap (λ o. cond (among ws q) (option_map (staged t) o) o) (get-stage_who m w q) ∙ twice (names w q) (among ws q) (get m q)
+
+  -- a future that came to the stage, or not, was there before, the same but for its stage
+  pub staged_was : (b : Bool) (o : Option Future) (y : Future) → cond b (option_map (staged t) o) o ≡ Some y
+      → (x : Future) × (o ≡ Some x) × (x.demand ≡ y.demand) × (x.semaphore ≡ y.semaphore) × (x.plain ≡ y.plain) × (y ≡ cond b (staged t x) x)
+  staged_was true None y e = absurd (cc)
+  staged_was false None y e = absurd (cc)
+  staged_was true (Some x) y e = (
+    x,
+    refl,
+    ap (λ (z : Future). z.demand) (inside e),
+    ap (λ (z : Future). z.semaphore) (inside e),
+    ap (λ (z : Future). z.plain) (inside e),
+    sym (inside e),
+  )
+  staged_was false (Some x) y e = (
+    x,
+    refl,
+    ap (λ (z : Future). z.demand) (inside e),
+    ap (λ (z : Future). z.semaphore) (inside e),
+    ap (λ (z : Future). z.plain) (inside e),
+    sym (inside e),
+  )
+
+  -- coming to a stage makes no name and takes none away
+  staged_there : (b : Bool) (o : Option Future) → is_some (cond b (option_map (staged t) o) o) ≡ is_some o
+  staged_there true None = refl
+  staged_there true (Some x) = refl
+  staged_there false o = refl
+
+  pub names_staged : (ws : List Who) (m : FinMap nat_cmp Future) (f : ℕ) → is_some (get (stage_all t ws m) f) ≡ is_some (get m f)
+  names_staged ws m f = ap is_some (get-stage_all ws m f) ∙ staged_there (among ws f) (get m f)
 
 -- what a future is after some are granted
 pub get-grant_all : (ws : List Who) (m : FinMap nat_cmp Future) (q : ℕ) → get (grant_all ws m) q ≡ cond (among ws q) (option_map granted (get m q)) (get m q)
-get-grant_all [] m q = refl
-get-grant_all (w ∷ ws) m q = get-grant_all ws (grant_who m w) q
-    ∙ ap (λ o. cond (among ws q) (option_map granted o) o) (get-grant_who m w q) ∙ twice (names w q) (among ws q) (get m q)
-
--- a future that was granted, or not, was there before, the same but for its stage
-pub granted_was : (b : Bool) (o : Option Future) (y : Future) → cond b (option_map granted o) o ≡ Some y
-    → (x : Future) × (o ≡ Some x) × (x.demand ≡ y.demand) × (x.semaphore ≡ y.semaphore) × (x.plain ≡ y.plain)
-granted_was true None y e = absurd (cc)
-granted_was false None y e = absurd (cc)
-granted_was true (Some x) y e =
-    (x, refl, ap (λ (z : Future). z.demand) (inside e), ap (λ (z : Future). z.semaphore) (inside e), ap (λ (z : Future). z.plain) (inside e))
-granted_was false (Some x) y e =
-    (x, refl, ap (λ (z : Future). z.demand) (inside e), ap (λ (z : Future). z.semaphore) (inside e), ap (λ (z : Future). z.plain) (inside e))
-
--- granting makes no name and takes none away
-pub granted_there : (b : Bool) (o : Option Future) → is_some (cond b (option_map granted o) o) ≡ is_some o
-granted_there true None = refl
-granted_there true (Some x) = refl
-granted_there false o = refl
+get-grant_all ws m q = get-stage_all Granted ws m q
 
 -- ---- debts
 debts-after : (q : List (Who × ℕ)) (before n : ℕ) → debts (lacks_after before q n) ≤ debts q

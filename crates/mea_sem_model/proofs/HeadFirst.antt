@@ -3,7 +3,7 @@ use Rattle.std.proofs.Common.{◌≡◌, ℕ, ◌+◌, ◌-◌, ◌<◌, ◌≤�
 use Rattle.std.proofs.lemmas.Bool.{leb-true, leb-false}
 use Rattle.std.proofs.lemmas.Bool.Decides.{nat_tests}
 use Rattle.mea_base.specs.Queue.{lacks_after, waiting_after, granted_in}
-use Rattle.mea_sem_model.specs.Hall.{Who}
+use Rattle.mea_sem_model.specs.Hall.{Who, everyone}
 use Rattle.mea_sem_model.specs.Valid.{AllLack}
 
 abbrev still : List (Who × ℕ) → List (Who × ℕ)
@@ -11,9 +11,6 @@ still q = filter {X = Who × ℕ} (λ e. nat_lt 0 e.1) q
 
 abbrev whole : List (Who × ℕ) → List Who
 whole q = map {A = Who × ℕ} (λ e. e.0) (filter {X = Who × ℕ} (λ e. e.1 == 0) q)
-
-abbrev everyone : List (Who × ℕ) → List Who
-everyone q = map {A = Who × ℕ} (λ e. e.0) q
 
 -- what those before took is gone for those behind
 after_less : (q : List (Who × ℕ)) (before k n : ℕ) → k ≤ n → lacks_after (before + k) q n ≡ lacks_after before q (n - k)

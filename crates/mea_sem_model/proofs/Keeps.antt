@@ -80,6 +80,7 @@ valid_empty = record {
   idle = λ s some. no_queue s;
   fits = λ s. omega (arith, no_free s, no_held s, no_paid s);
   named = λ s some. absurd (omega (arith, no_plain s));
+  closed = λ f x is. absurd (nothing_at Future f x is);
   futures_of = λ f x is. absurd (nothing_at Future f x is);
   permits_of = λ p x is. absurd (nothing_at Permit p x is);
   semaphores_apart = λ k some. absurd (nothing_there Semaphore k some);

@@ -1,4 +1,4 @@
--- semaphores keep the wakers of who waits, and so lose no wake
+-- what an event leaves of the futures, and of the wakers of those who wait
 use Rattle.std.proofs.Common.{◌≡◌, ℕ, ◌+◌, ◌-◌, ◌<◌, ◌==◌, ◌||◌, ◌++◌, ◌⊎◌, inl, inr, Bool, true, false, cond, List, [], ◌∷◌, Option, Some, None, refl, ap, sym, subst, ◌∙◌, arith, is_some, if◌then◌else◌, nat_le}
 use Rattle.std.specs.List.{flat_map, Contains}
 use Rattle.std.specs.Option.{option_map}
@@ -7,19 +7,19 @@ use Rattle.std.specs.FinMap.{FinMap, get, insert, remove}
 use Rattle.std.proofs.lemmas.Bool.{eqb-true, eqb-false}
 use Rattle.std.proofs.lemmas.Option.{cond_some}
 use Rattle.std.proofs.lemmas.List.Elements.{Contains-append_left, Contains-append_right, Contains-push}
-use Rattle.mea_base.specs.Family.{goes_on, Goes, KeepsWakers, NamesFutures, LosesNoWake}
+use Rattle.mea_base.specs.Family.{goes_on, Goes, NamesFutures}
 use Rattle.mea_base.specs.Queue.{granted_in}
 use Rattle.mea_base.specs.declared.answer.Answer.TheVariants as answers
-use Rattle.mea_base.proofs.Wakes as wakes
-use Rattle.mea_base.proofs.Maps.{inside, value_in, is_there, get-there, get-other, get-removed_other, by_gone}
+use Rattle.mea_base.proofs.Maps.{inside, value_in, is_there, get-there, get-other, get-removed_other, removed_there}
 use Rattle.mea_base.proofs.Tests.{known}
 use Rattle.mea_sem_model.specs.declared.event.SemEvent.{SemEvent}
 use Rattle.mea_sem_model.specs.declared.event.SemEvent.TheVariants as events
-use Rattle.mea_sem_model.specs.Hall.{Hall, Future, Permit, Stage, New, Waiting, Granted, Who, Waiter, Debt, names, semaphore_at, queue_at, free, granted, waker_of, waker_of_future, waker_of_who, wakes_of, with_semaphore}
+use Rattle.mea_sem_model.specs.Hall.{Hall, Future, Permit, Stage, New, Waiting, Granted, Cut, Who, Waiter, Debt, names, semaphore_at, queue_at, is_closed, free, staged, granted, waker_of, waker_of_future, waker_of_who, wakes_of, with_semaphore, everyone, closing, wakes_waiting}
 use Rattle.mea_sem_model.specs.Cause.{cause_of}
-use Rattle.mea_sem_model.specs.Step.{Outcome, quietly, pouring, with_future, without_future, with_permit, without_permit, taking, try_of, try_and_forget, made_ready, queueing, poll_at, poll_of, leaving, end_future, end_permit, end_of, lose_of, merge_of, split_of, released_to, step}
+use Rattle.mea_sem_model.specs.Step.{Outcome, quietly, pouring, with_future, without_future, with_permit, without_permit, taking, offers, try_of, try_and_forget, made_ready, queueing, open_poll, refusing, poll_at, poll_of, leaving, end_future, end_permit, end_of, lose_of, merge_of, split_of, released_to, step}
 use Rattle.mea_sem_model.specs.Runs.{Run, Runs, semaphores, waker_in, waker_at, waker_kept}
 use Rattle.mea_sem_model.proofs.HallLemmas.{among, get-grant_all}
+use Rattle.mea_sem_model.proofs.Closings.{get-closing}
 use Rattle.mea_sem_model.proofs.Balanced as balance
 
 -- ---- who is granted while it waits is woken
@@ -50,9 +50,6 @@ passes_some h o i some = record { each = λ f y less is. (y, some f y less is, �
 passes_same : (h : Hall) (o : Outcome) (i : ℕ) → o.hall.futures ≡ h.futures → Passes h o i
 passes_same h o i same = passes_some h o i (λ f y less is. ap (λ m. get m f) (sym same) ∙ is)
 
-removed_there : (m : FinMap nat_cmp Future) (k f : ℕ) (x : Future) → get (remove m k) f ≡ Some x → get m f ≡ Some x
-removed_there m k f x = by_gone m k (λ j o. o ≡ Some x → get m j ≡ Some x) (λ e. absurd (cc)) (λ j apart e. e) f
-
 passes_pour : (h g : Hall) (s n i : ℕ) → ((f : ℕ) (y : Future) → get g.futures f ≡ Some y → get h.futures f ≡ Some y) → Passes h (pouring g s n) i
 passes_pour h g s n i some = record {
   each = λ f y less is.
@@ -77,6 +74,7 @@ module _ (h : Hall) (i : ℕ) where
   ends_future : (f : ℕ) (x : Future) (t : Stage) → Passes h (end_future h f x t) i
   ends_future f x New = passes_some h _ i (λ g y less is. removed_there h.futures f g y is)
   ends_future f x (Waiting u) = passes_pour h (leaving h f x) x.semaphore _ i (λ g y is. removed_there h.futures f g y is)
+  ends_future f x Cut = passes_some h _ i (λ g y less is. removed_there h.futures f g y is)
   ends_future f x Granted = passes_pour h (without_future h f) x.semaphore x.demand i (λ g y is. removed_there h.futures f g y is)
 
   ends : (k : ℕ) (o : Option Future) → Passes h (end_of h k o) i
@@ -102,7 +100,7 @@ module _ (h : Hall) (i : ℕ) where
       ]
 
   tries : (q n : ℕ) (plain : Bool) → Passes h (try_of h i q n plain) i
-  tries q n plain = elim (nat_le n (free h q))
+  tries q n plain = elim (offers h q n)
       as (λ b. Passes h (if b then quietly
       (with_permit (with_semaphore h q (taking (semaphore_at h q) n)) i (record { semaphore = q; size = n; plain = plain })) answers.Held
       else quietly h answers.Lacking) i) [
@@ -111,7 +109,7 @@ module _ (h : Hall) (i : ℕ) where
       ]
 
   tries_and_forgets : (q n : ℕ) → Passes h (try_and_forget h q n) i
-  tries_and_forgets q n = elim (nat_le n (free h q))
+  tries_and_forgets q n = elim (offers h q n)
       as (λ b. Passes h (if b then quietly
       (with_semaphore h q (record (semaphore_at h q) { free = free h q - n; forgotten = (semaphore_at h q).forgotten + n })) answers.Yes
       else quietly h answers.No) i) [
@@ -119,13 +117,26 @@ module _ (h : Hall) (i : ℕ) where
         | false ↦ passes_same h _ i refl
       ]
 
+  closes : (q : ℕ) (b : Bool)
+      → Passes h (if b then quietly h answers.Done else record { hall = closing h q; reply = answers.Done; wakes = wakes_waiting h q }) i
+  closes q true = passes_same h _ i refl
+  closes q false = record { each = λ f y less is. by_cut f y (among (everyone (queue_at h q)) f) (get h.futures f) refl refl (sym (get-closing h q f) ∙ is) }
+    where
+      by_cut : (f : ℕ) (y : Future) (b : Bool) (o : Option Future) → among (everyone (queue_at h q)) f ≡ b → get h.futures f ≡ o
+          → cond b (option_map (staged Cut) o) o ≡ Some y
+          → (x : Future) × (get h.futures f ≡ Some x) × ((w : ℕ) → x.stage ≡ Waiting w → (y.stage ≡ Waiting w) ⊎ Contains (wakes_waiting h q) w)
+      by_cut f y true None a is e = absurd (cc)
+      by_cut f y false None a is e = absurd (cc)
+      by_cut f y true (Some x) a is e = (x, is, λ w waits. inr (woken_one h.futures (everyone (queue_at h q)) f w x is waits a))
+      by_cut f y false (Some x) a is e = (x, is, λ w waits. inl (ap (λ (z : Future). z.stage) (sym (inside e)) ∙ waits))
+
   acquires : (x : Future) → Passes h (quietly (with_future h i x) answers.Made) i
   acquires x = passes_some h _ i (λ f y less is. sym (get-other h.futures i f x (λ same. absurd (omega arith))) ∙ is)
 
 -- ---- what a poll of g with the waker v leaves of the futures
-record Polled (h : Hall) (g v : ℕ) (o : Outcome) : Type 0 where
-  others : (f : ℕ) → (g ≡ f → ⊥) → get o.hall.futures f ≡ get h.futures f
-  places : o.reply ≡ answers.Pending → waker_kept (get o.hall.futures g) ≡ Some v
+pub record Polled (h : Hall) (g v : ℕ) (o : Outcome) : Type 0 where
+  pub others : (f : ℕ) → (g ≡ f → ⊥) → get o.hall.futures f ≡ get h.futures f
+  pub places : o.reply ≡ answers.Pending → waker_kept (get o.hall.futures g) ≡ Some v
 
 polled_ready : (h k : Hall) (g v : ℕ) → k.futures ≡ remove h.futures g → Polled h g v (quietly k answers.Ready)
 polled_ready h k g v gone = record {
@@ -133,13 +144,16 @@ polled_ready h k g v gone = record {
   places = λ pending. absurd (cc);
 }
 
+polled_refused : (h : Hall) (g v : ℕ) → Polled h g v (refusing h g)
+polled_refused h g v = record { others = λ f apart. get-removed_other h.futures g f apart; places = λ pending. absurd (cc) }
+
 polled_pending : (h k : Hall) (g v : ℕ) (x : Future) → k.futures ≡ insert h.futures g x → x.stage ≡ Waiting v → Polled h g v (quietly k answers.Pending)
 polled_pending h k g v x put waiting = record {
   others = λ f apart. ap (λ m. get m f) put ∙ get-other h.futures g f x apart;
   places = λ pending. ap (λ m. waker_kept (get m g)) put ∙ ap waker_kept (get-there h.futures g x) ∙ ap waker_at waiting;
 }
 
-ready_futures : (h : Hall) (i f : ℕ) (x : Future) → (made_ready h i f x).futures ≡ remove h.futures f
+pub ready_futures : (h : Hall) (i f : ℕ) (x : Future) → (made_ready h i f x).futures ≡ remove h.futures f
 ready_futures h i f x = elim x.forgets as (λ b.
     (if b then with_semaphore (without_future h f) x.semaphore
     (record (semaphore_at h x.semaphore) { forgotten = (semaphore_at h x.semaphore).forgotten + x.demand })
@@ -148,19 +162,27 @@ ready_futures h i f x = elim x.forgets as (λ b.
       | false ↦ refl
     ]
 
-polled_at : (h : Hall) (i g v : ℕ) (x : Future) (t : Stage) → Polled h g v (poll_at h i g v x t)
-polled_at h i g v x New = elim (nat_le x.demand (free h x.semaphore))
+polled_open : (h : Hall) (i g v : ℕ) (x : Future) → Polled h g v (open_poll h i g v x)
+polled_open h i g v x = elim (nat_le x.demand (free h x.semaphore))
     as (λ b. Polled h g v (if b then quietly (made_ready (with_semaphore h x.semaphore (taking (semaphore_at h x.semaphore) x.demand)) i g x)
     answers.Ready else quietly (queueing h g v x) answers.Pending)) [
       | true ↦ polled_ready h _ g v (ready_futures (with_semaphore h x.semaphore (taking (semaphore_at h x.semaphore) x.demand)) i g x)
       | false ↦ polled_pending h _ g v (record x { stage = Waiting v }) refl refl
     ]
+
+polled_first : (h : Hall) (i g v : ℕ) (x : Future) (b : Bool) → Polled h g v (if b then refusing h g else open_poll h i g v x)
+polled_first h i g v x true = polled_refused h g v
+polled_first h i g v x false = polled_open h i g v x
+
+polled_at : (h : Hall) (i g v : ℕ) (x : Future) (t : Stage) → Polled h g v (poll_at h i g v x t)
+polled_at h i g v x New = polled_first h i g v x (is_closed h x.semaphore)
+polled_at h i g v x Cut = polled_refused h g v
 polled_at h i g v x (Waiting u) = polled_pending h _ g v (record x { stage = Waiting v }) refl refl
 polled_at h i g v x Granted = polled_ready h _ g v (ready_futures h i g x)
 
 -- ---- each event
 -- the event that polls f with the waker w
-poll_is : (e : SemEvent) (f w : ℕ) → waker_in e f ≡ Some w → e ≡ events.Poll f w
+pub poll_is : (e : SemEvent) (f w : ℕ) → waker_in e f ≡ Some w → e ≡ events.Poll f w
 poll_is (events.New n) f w is = absurd (cc)
 poll_is (events.Free s) f w is = absurd (cc)
 poll_is (events.Forget s n) f w is = absurd (cc)
@@ -184,16 +206,18 @@ poll_is (events.Split p n) f w is = absurd (cc)
 poll_is (events.Size p) f w is = absurd (cc)
 poll_is (events.Endsem s) f w is = absurd (cc)
 poll_is (events.Ledger s) f w is = absurd (cc)
+poll_is (events.Close s) f w is = absurd (cc)
+poll_is (events.Closed s) f w is = absurd (cc)
 
 -- a future that is polled lives
-polls_living : (h : Hall) (e : SemEvent) → cause_of h e ≡ None → (f w : ℕ) → waker_in e f ≡ Some w → is_some (get h.futures f) ≡ true
+pub polls_living : (h : Hall) (e : SemEvent) → cause_of h e ≡ None → (f w : ℕ) → waker_in e f ≡ Some w → is_some (get h.futures f) ≡ true
 polls_living h e cause f w polls = known _ (subst (λ d. cause_of h d ≡ None) (poll_is e f w polls) cause)
 
-polled_by : (h : Hall) (i f w : ℕ) (o : Option Future) → is_some o ≡ true → Polled h f w (poll_of h i f w o)
+pub polled_by : (h : Hall) (i f w : ℕ) (o : Option Future) → is_some o ≡ true → Polled h f w (poll_of h i f w o)
 polled_by h i f w None living = absurd (cc)
 polled_by h i f w (Some x) living = polled_at h i f w x x.stage
 
-places_waker : (h : Hall) (i : ℕ) (e : SemEvent) → cause_of h e ≡ None → (f w : ℕ) → waker_in e f ≡ Some w → (step h i e).reply ≡ answers.Pending
+pub places_waker : (h : Hall) (i : ℕ) (e : SemEvent) → cause_of h e ≡ None → (f w : ℕ) → waker_in e f ≡ Some w → (step h i e).reply ≡ answers.Pending
     → waker_kept (get (step h i e).hall.futures f) ≡ Some w
 places_waker h i e cause f w polls =
     let living = polls_living h e cause f w polls in
@@ -209,16 +233,17 @@ waits_with (Some x) w kept = (x, refl, by_stage x.stage kept)
     by_stage New is = absurd (cc)
     by_stage (Waiting v) is = ap (λ (n : ℕ). Waiting n) (inside is)
     by_stage Granted is = absurd (cc)
+    by_stage Cut is = absurd (cc)
 
-waits_on : (h : Hall) (i : ℕ) (e : SemEvent) (f w v : ℕ) → waker_kept (get h.futures f) ≡ Some w → waker_in e f ≡ Some v → (step h i e).reply ≡ answers.Pending
+pub waits_on : (h : Hall) (i : ℕ) (e : SemEvent) (f w v : ℕ) → waker_kept (get h.futures f) ≡ Some w → waker_in e f ≡ Some v → (step h i e).reply ≡ answers.Pending
 waits_on h i e f w v kept polls =
     let there = waits_with (get h.futures f) w kept in
     ap (λ d. (step h i d).reply) (poll_is e f v polls) ∙ ap (λ o. (poll_of h i f v o).reply) there.1 ∙ ap (λ t. (poll_at h i f v there.0 t).reply) there.2
 
 -- a future below i after an event was there before, and still waits with its waker, was polled or woken
-record Leaves (h : Hall) (e : SemEvent) (i : ℕ) : Type 0 where
-  was : (f : ℕ) → f < i → is_some (get (step h i e).hall.futures f) ≡ true → is_some (get h.futures f) ≡ true
-  stays : (f w : ℕ) → f < i → is_some (get (step h i e).hall.futures f) ≡ true → waker_kept (get h.futures f) ≡ Some w → waker_in e f ≡ None
+pub record Leaves (h : Hall) (e : SemEvent) (i : ℕ) : Type 0 where
+  pub was : (f : ℕ) → f < i → is_some (get (step h i e).hall.futures f) ≡ true → is_some (get h.futures f) ≡ true
+  pub stays : (f w : ℕ) → f < i → is_some (get (step h i e).hall.futures f) ≡ true → waker_kept (get h.futures f) ≡ Some w → waker_in e f ≡ None
       → (waker_kept (get (step h i e).hall.futures f) ≡ Some w) ⊎ Contains (step h i e).wakes w
 
 passing : (h : Hall) (e : SemEvent) (i : ℕ) → Passes h (step h i e) i → Leaves h e i
@@ -255,7 +280,7 @@ polling h i g v lived =
     }
 
 module _ (h : Hall) (i : ℕ) where
-  leaves : (e : SemEvent) → cause_of h e ≡ None → Leaves h e i
+  pub leaves : (e : SemEvent) → cause_of h e ≡ None → Leaves h e i
   leaves (events.New n) cause = passing h (events.New n) i (passes_same h _ i refl)
   leaves (events.Free s) cause = passing h (events.Free s) i (passes_same h _ i refl)
   leaves (events.Forget s n) cause = passing h (events.Forget s n) i (passes_same h _ i refl)
@@ -277,9 +302,11 @@ module _ (h : Hall) (i : ℕ) where
   leaves (events.Size p) cause = passing h (events.Size p) i (passes_same h _ i refl)
   leaves (events.Endsem s) cause = passing h (events.Endsem s) i (passes_same h _ i refl)
   leaves (events.Ledger s) cause = passing h (events.Ledger s) i (passes_same h _ i refl)
+  leaves (events.Close s) cause = passing h (events.Close s) i (closes h i s (is_closed h s))
+  leaves (events.Closed s) cause = passing h (events.Closed s) i (passes_same h _ i refl)
 
 -- ---- in the words of the laws
-lives_below : (r : Run) → Runs r → (f : ℕ) → is_some (get r.hall.futures f) ≡ true → f < r.next
+pub lives_below : (r : Run) → Runs r → (f : ℕ) → is_some (get r.hall.futures f) ≡ true → f < r.next
 lives_below r runs f living = (balance.kept r runs).below.futures f living
 
 below_or_made : (r : Run) (i : ℕ) (e : SemEvent) → Runs r → cause_of r.hall e ≡ None → (f : ℕ) → f < i + 1
@@ -296,15 +323,3 @@ names_futures = record {
   made = λ r i e runs later cause f living.
       below_or_made r i e runs cause f (lives_below (goes_on semaphores r i e) (Goes r i e runs later cause) f living) living;
 }
-
-pub keeps_wakers : KeepsWakers semaphores
-keeps_wakers = record {
-  places = λ r i e runs later cause f w polls pending. places_waker r.hall i e cause f w polls pending;
-  waits = λ r i e runs f w v living placed polls. waits_on r.hall i e f w v placed polls;
-  wakes = λ r i e runs later cause f w living placed polls living_on.
-      let low = lives_below r runs f living in
-      (leaves r.hall i e cause).stays f w (omega (arith, low, later)) living_on placed polls;
-}
-
-pub loses_no_wake : (r : Run) → Runs r → LosesNoWake semaphores r
-loses_no_wake r runs = wakes.loses_no_wake semaphores keeps_wakers names_futures r runs

@@ -1,17 +1,17 @@
 -- the queues and the waiting futures of a hall stay matched
-use Rattle.std.proofs.Common.{◌≡◌, ℕ, ◌+◌, ◌-◌, ◌<◌, ◌≤◌, ◌==◌, Bool, true, false, cond, [], ◌∷◌, ◌++◌, refl, ap, sym, subst, ◌∙◌, arith, Option, Some, None}
+use Rattle.std.proofs.Common.{◌≡◌, ℕ, ◌+◌, ◌-◌, ◌<◌, ◌≤◌, ◌==◌, Bool, true, false, cond, List, [], ◌∷◌, ◌++◌, refl, ap, sym, subst, ◌∙◌, arith, Option, Some, None}
 use Rattle.std.specs.Option.{option_map}
-use Rattle.std.specs.FinMap.{get}
+use Rattle.std.specs.FinMap.{get, insert}
 use Rattle.std.proofs.lemmas.List.Sums.{sum_by-append}
 use Rattle.std.proofs.lemmas.Bool.{eqb-true, eq-eqb, ne_eqb}
-use Rattle.mea_base.specs.Queue.{waiting_after, granted_in}
+use Rattle.mea_base.specs.Queue.{granted_in}
 use Rattle.mea_base.proofs.Maps.{by_put, by_gone, inside}
 use Rattle.mea_base.proofs.Tests.{on_true, on_false}
-use Rattle.mea_sem_model.specs.Hall.{Hall, Semaphore, Future, Stage, New, Waiting, Granted, Who, Waiter, semaphore_at, queue_at, poured, granted, pour, names, lack_of, free, with_semaphore}
+use Rattle.mea_sem_model.specs.Hall.{Hall, Semaphore, Future, Stage, New, Waiting, Granted, Cut, Who, Waiter, semaphore_at, queue_at, poured, staged, stage_all, pour, names, lack_of, free, with_semaphore, is_debt, debts_in, everyone, cutting}
 use Rattle.mea_sem_model.specs.Step.{with_future, without_future, queueing, without, leaving}
 use Rattle.mea_sem_model.specs.Valid.{count, one_if_waiting, waits_at, IsValid}
-use Rattle.mea_sem_model.proofs.HallLemmas.{by_semaphore, among, get-grant_all, granted_was}
-use Rattle.mea_sem_model.proofs.Pours.{among_mentions, among_none, count-pour, lack-pour, lack-without, count-without, none_counted}
+use Rattle.mea_sem_model.proofs.HallLemmas.{by_semaphore, among, get-stage_all, staged_was}
+use Rattle.mea_sem_model.proofs.Pours.{mentions, among_mentions, among_none, mentions-everyone, count-pour, count-debts_in, lack-filter, lack-pour, lack-without, count-without, none_counted}
 
 -- what validity says of queues and futures together
 pub record IsMatched (h : Hall) : Type 0 where
@@ -48,19 +48,22 @@ matched_no_future h k none v = record {
 pub lacks_nothing : (h : Hall) (s f : ℕ) → waits_at s (get h.futures f) ≡ 0 → IsMatched h → lack_of (queue_at h s) f ≡ 0
 lacks_nothing h s f none v = none_counted (queue_at h s) f (v.once s f ∙ none)
 
-pub new_waits : (x : Future) (s : ℕ) → x.stage ≡ New → waits_at s (Some x) ≡ 0
-new_waits x s unpolled = ap (λ t. cond (x.semaphore == s) (one_if_waiting t) 0) unpolled ∙ none (x.semaphore == s)
+-- a future in a stage of one that does not wait
+pub stage_waits : (x : Future) (s : ℕ) (t : Stage) → one_if_waiting t ≡ 0 → x.stage ≡ t → waits_at s (Some x) ≡ 0
+stage_waits x s t idle is = ap (λ t. cond (x.semaphore == s) (one_if_waiting t) 0) is ∙ none (x.semaphore == s)
   where
-    none : (b : Bool) → ◌≡◌ {A = ℕ} (cond b 0 0) 0
-    none true = refl
+    none : (b : Bool) → cond b (one_if_waiting t) 0 ≡ 0
+    none true = idle
     none false = refl
 
+pub new_waits : (x : Future) (s : ℕ) → x.stage ≡ New → waits_at s (Some x) ≡ 0
+new_waits x s unpolled = stage_waits x s New refl unpolled
+
 pub granted_waits : (x : Future) (s : ℕ) → x.stage ≡ Granted → waits_at s (Some x) ≡ 0
-granted_waits x s whole = ap (λ t. cond (x.semaphore == s) (one_if_waiting t) 0) whole ∙ none (x.semaphore == s)
-  where
-    none : (b : Bool) → ◌≡◌ {A = ℕ} (cond b 0 0) 0
-    none true = refl
-    none false = refl
+granted_waits x s whole = stage_waits x s Granted refl whole
+
+pub cut_waits : (x : Future) (s : ℕ) → x.stage ≡ Cut → waits_at s (Some x) ≡ 0
+cut_waits x s cut = stage_waits x s Cut refl cut
 
 -- a new future goes to the tail
 module _ (h : Hall) (f w : ℕ) (x : Future) (is : get h.futures f ≡ Some x) (unpolled : x.stage ≡ New) (v : IsMatched h) where
@@ -134,7 +137,7 @@ module _ (h : Hall) (f : ℕ) (x : Future) (is : get h.futures f ≡ Some x) (v 
   pub left_matched : IsMatched (leaving h f x)
   left_matched = record { once = left_once; within = left_within }
 
--- ---- a pour
+-- ---- who waits at most once
 one_at_most : (s : ℕ) (o : Option Future) → waits_at s o ≤ 1
 one_at_most s None = omega arith
 one_at_most s (Some x) = by_test (x.semaphore == s) x.stage
@@ -143,6 +146,7 @@ one_at_most s (Some x) = by_test (x.semaphore == s) x.stage
     by_test true New = omega arith
     by_test true (Waiting w) = omega arith
     by_test true Granted = omega arith
+    by_test true Cut = omega arith
     by_test false t = omega arith
 
 -- one that waits in the queue of s is of s, and waits
@@ -153,16 +157,25 @@ is_waiting s x some = by_test (x.semaphore == s) refl x.stage some
     by_test true e New p = absurd (omega arith)
     by_test true e (Waiting w) p = (eqb-true _ _ e, refl)
     by_test true e Granted p = absurd (omega arith)
+    by_test true e Cut p = absurd (omega arith)
     by_test false e t p = absurd (omega arith)
 
-granted_none : (s : ℕ) (o : Option Future) → waits_at s (option_map granted o) ≡ 0
-granted_none s None = refl
-granted_none s (Some x) = granted_waits (granted x) s refl
+-- who came to a stage of one that does not wait
+staged_none : (t : Stage) → one_if_waiting t ≡ 0 → (s : ℕ) (o : Option Future) → waits_at s (option_map (staged t) o) ≡ 0
+staged_none t idle s None = refl
+staged_none t idle s (Some x) = by_test (x.semaphore == s)
+  where
+    by_test : (b : Bool) → cond b (one_if_waiting t) 0 ≡ 0
+    by_test true = idle
+    by_test false = refl
 
-module _ (h : Hall) (q n : ℕ) (v : IsMatched h) where
-  -- one who is granted did wait in this queue
-  pub granted_waited : (f : ℕ) → among (granted_in (queue_at h q) n) f ≡ true → 0 < waits_at q (get h.futures f)
-  granted_waited f a = omega (arith, among_mentions (granted_in (queue_at h q) n) f a, count-pour (queue_at h q) n f, v.once q f)
+-- some leave the queue of q, and come to a stage of one that does not wait
+module _ (h : Hall) (q : ℕ) (t : Stage) (ws : List Who) (r : Semaphore) (idle : one_if_waiting t ≡ 0)
+    (splits : (f : ℕ) → count r.queue f + mentions ws f ≡ count (queue_at h q) f) (lacks : (f : ℕ) → lack_of r.queue f ≤ lack_of (queue_at h q) f)
+    (v : IsMatched h) where
+  -- one who leaves did wait in this queue
+  pub left_waited : (f : ℕ) → among ws f ≡ true → 0 < waits_at q (get h.futures f)
+  left_waited f a = omega (arith, among_mentions ws f a, splits f, v.once q f)
 
   -- and in no other
   waited_here : (s f : ℕ) (o : Option Future) → get h.futures f ≡ o → 0 < waits_at q o → (q ≡ s → ⊥) → waits_at s o ≡ 0
@@ -170,33 +183,60 @@ module _ (h : Hall) (q n : ℕ) (v : IsMatched h) where
   waited_here s f (Some x) is some apart = on_false (x.semaphore == s) (one_if_waiting x.stage)
       (ne_eqb x.semaphore s (λ e. apart (sym (is_waiting q x some).0 ∙ e)))
 
-  pour_here : (f : ℕ) (b : Bool) → among (granted_in (queue_at h q) n) f ≡ b
-      → count (waiting_after (queue_at h q) n) f ≡ waits_at q (cond b (option_map granted (get h.futures f)) (get h.futures f))
-  pour_here f true a = omega (
+  left_here : (f : ℕ) (b : Bool) → among ws f ≡ b
+      → count r.queue f ≡ waits_at q (cond b (option_map (staged t) (get h.futures f)) (get h.futures f))
+  left_here f true a = omega (
     arith,
-    among_mentions (granted_in (queue_at h q) n) f a,
-    count-pour (queue_at h q) n f,
+    among_mentions ws f a,
+    splits f,
     v.once q f,
-    one_at_most q
-        (get h.futures f),
-    granted_none q (get h.futures f),
+    one_at_most q (get h.futures f),
+    staged_none t idle q (get h.futures f),
   )
-  pour_here f false a = omega (arith, among_none (granted_in (queue_at h q) n) f a, count-pour (queue_at h q) n f, v.once q f)
+  left_here f false a = omega (arith, among_none ws f a, splits f, v.once q f)
 
-  pour_there : (s f : ℕ) (b : Bool) → (q ≡ s → ⊥) → among (granted_in (queue_at h q) n) f ≡ b
-      → count (queue_at h s) f ≡ waits_at s (cond b (option_map granted (get h.futures f)) (get h.futures f))
-  pour_there s f true apart a = v.once s f ∙ waited_here s f (get h.futures f) refl (granted_waited f a) apart ∙ sym (granted_none s (get h.futures f))
-  pour_there s f false apart a = v.once s f
+  left_there : (s f : ℕ) (b : Bool) → (q ≡ s → ⊥) → among ws f ≡ b
+      → count (queue_at h s) f ≡ waits_at s (cond b (option_map (staged t) (get h.futures f)) (get h.futures f))
+  left_there s f true apart a = v.once s f ∙ waited_here s f (get h.futures f) refl (left_waited f a) apart ∙ sym (staged_none t idle s (get h.futures f))
+  left_there s f false apart a = v.once s f
+
+  pub staged_matched : IsMatched (record h { semaphores = insert h.semaphores q r; futures = stage_all t ws h.futures })
+  staged_matched = record {
+    once = λ s f. subst (λ o. count (queue_at (with_semaphore h q r) s) f ≡ waits_at s o) (sym (get-stage_all t ws h.futures f))
+        (by_semaphore h q r
+        (λ k y. count y.queue f ≡ waits_at k (cond (among ws f) (option_map (staged t) (get h.futures f)) (get h.futures f)))
+        (left_here f (among ws f) refl) (λ k apart. left_there k f (among ws f) apart refl) s);
+    within = λ s f y there.
+        let old = staged_was t (among ws f) (get h.futures f) y (sym (get-stage_all t ws h.futures f) ∙ there) in
+        by_semaphore h q r (λ k z. lack_of z.queue f ≤ y.demand)
+        (omega (arith, lacks f, v.within q f old.0 old.1, old.2)) (λ k apart. omega (arith, v.within k f old.0 old.1, old.2)) s;
+  }
+
+-- ---- a pour
+module _ (h : Hall) (q n : ℕ) (v : IsMatched h) where
+  -- one who is granted did wait in this queue
+  pub granted_waited : (f : ℕ) → among (granted_in (queue_at h q) n) f ≡ true → 0 < waits_at q (get h.futures f)
+  granted_waited f a = left_waited h q Granted (granted_in (queue_at h q) n) (poured (semaphore_at h q) n) refl (count-pour (queue_at h q) n)
+      (lack-pour (queue_at h q) n) v f a
 
   pub pour_matched : IsMatched (pour h q n)
-  pour_matched = record {
-    once = λ s f. subst (λ o. count (queue_at (pour h q n) s) f ≡ waits_at s o) (sym (get-grant_all (granted_in (queue_at h q) n) h.futures f))
-        (by_semaphore h q (poured (semaphore_at h q) n)
-        (λ k y. count y.queue f ≡ waits_at k (cond (among (granted_in (queue_at h q) n) f) (option_map granted (get h.futures f)) (get h.futures f)))
-        (pour_here f (among (granted_in (queue_at h q) n) f) refl) (λ k apart. pour_there k f (among (granted_in (queue_at h q) n) f) apart refl) s);
-    within = λ s f y there.
-        let old = granted_was (among (granted_in (queue_at h q) n) f) (get h.futures f) y
-        (sym (get-grant_all (granted_in (queue_at h q) n) h.futures f) ∙ there) in
-        by_semaphore h q (poured (semaphore_at h q) n) (λ k z. lack_of z.queue f ≤ y.demand)
-        (omega (arith, lack-pour (queue_at h q) n f, v.within q f old.0 old.1, old.2)) (λ k apart. omega (arith, v.within k f old.0 old.1, old.2)) s;
-  }
+  pour_matched = staged_matched h q Granted (granted_in (queue_at h q) n) (poured (semaphore_at h q) n) refl (count-pour (queue_at h q) n)
+      (lack-pour (queue_at h q) n) v
+
+-- ---- a semaphore is closed
+module _ (h : Hall) (q : ℕ) (v : IsMatched h) where
+  abbrev closed : Semaphore
+  closed = record (semaphore_at h q) { queue = debts_in (queue_at h q); closed = true }
+
+  cut_splits : (f : ℕ) → count (debts_in (queue_at h q)) f + mentions (everyone (queue_at h q)) f ≡ count (queue_at h q) f
+  cut_splits f = omega (arith, count-debts_in (queue_at h q) f, mentions-everyone (queue_at h q) f)
+
+  cut_lacks : (f : ℕ) → lack_of (debts_in (queue_at h q)) f ≤ lack_of (queue_at h q) f
+  cut_lacks f = lack-filter (λ e. is_debt e.0) (queue_at h q) f
+
+  -- one who is cut did wait in this queue
+  pub cut_waited : (f : ℕ) → among (everyone (queue_at h q)) f ≡ true → 0 < waits_at q (get h.futures f)
+  cut_waited f a = left_waited h q Cut (everyone (queue_at h q)) closed refl cut_splits cut_lacks v f a
+
+  pub cutting_matched : IsMatched (cutting h q)
+  cutting_matched = staged_matched h q Cut (everyone (queue_at h q)) closed refl cut_splits cut_lacks v

@@ -8,9 +8,9 @@ use Rattle.mea_base.specs.Totals.{total}
 use Rattle.mea_base.specs.Queue.{lacks}
 use Rattle.mea_base.proofs.Totals.{total-same, total-plus, total-zero, total-point}
 use Rattle.mea_base.proofs.Tests.{on_true, on_false}
-use Rattle.mea_sem_model.specs.Hall.{Hall, Future, Stage, New, Waiting, Granted, Who, Waiter, Debt, queue_at, names, lack_of, debt_of, debts, paid_to, paid}
+use Rattle.mea_sem_model.specs.Hall.{Hall, Future, Stage, New, Waiting, Granted, Cut, Who, Waiter, Debt, queue_at, names, lack_of, debt_of, debts, paid_to, paid}
 use Rattle.mea_sem_model.specs.Valid.{count, one_if_waiting, waits_at}
-use Rattle.mea_sem_model.proofs.Matched.{IsMatched, new_waits, granted_waits, lacks_nothing}
+use Rattle.mea_sem_model.proofs.Matched.{IsMatched, new_waits, granted_waits, cut_waits, lacks_nothing}
 use Rattle.mea_sem_model.proofs.Changes.{taken, taken_by, committed}
 
 abbrev pub lack_of_waiter : Who → ℕ → ℕ
@@ -76,6 +76,7 @@ module _ (h : Hall) (v : IsMatched h) (s : ℕ) where
   one_paid f x is true e New st = omega (arith, lacks_nothing h s f (ap (waits_at s) is ∙ new_waits x s st) v)
   one_paid f x is true e (Waiting w) st = let within = v.within s f x is in omega arith
   one_paid f x is true e Granted st = omega (arith, lacks_nothing h s f (ap (waits_at s) is ∙ granted_waits x s st) v)
+  one_paid f x is true e Cut st = omega (arith, lacks_nothing h s f (ap (waits_at s) is ∙ cut_waits x s st) v)
 
   pub paid_or_lacked : paid h s + waiters (queue_at h s) ≡ committed h.futures s
   paid_or_lacked =

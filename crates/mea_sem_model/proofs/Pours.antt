@@ -5,7 +5,7 @@ use Rattle.std.proofs.lemmas.Bool.{eqb-true}
 use Rattle.std.proofs.lemmas.Bool.Decides.{nat_tests}
 use Rattle.mea_base.specs.Queue.{lacks, lacks_after, waiting_after, granted_in}
 use Rattle.mea_base.proofs.Tests.{on_true, on_false}
-use Rattle.mea_sem_model.specs.Hall.{Who, Waiter, Debt, names, lack_of, debt_of, debts}
+use Rattle.mea_sem_model.specs.Hall.{Who, Waiter, Debt, names, lack_of, debt_of, debts, debts_in, everyone}
 use Rattle.mea_sem_model.specs.Step.{without, with_debt}
 use Rattle.mea_sem_model.specs.Valid.{count, AllLack, HasNoDebt, HasDebtsFirst}
 use Rattle.mea_sem_model.proofs.HallLemmas.{among}
@@ -26,6 +26,16 @@ among_none (w ∷ ws) f h = elim (names w f) as (λ b. names w f ≡ b → (b ||
   | true ↦ λ e t. absurd (cc)
   | false ↦ λ e t. let here = on_false (names w f) 1 e in omega (arith, here, among_none ws f t, sum_by-cons {X = Who} (λ v. cond (names v f) 1 0) w ws)
 ] refl h
+
+-- who counts in a queue is mentioned in it
+pub mentions-everyone : (q : List (Who × ℕ)) (f : ℕ) → mentions (everyone q) f ≡ count q f
+mentions-everyone [] f = refl
+mentions-everyone (e ∷ q) f = omega (
+  arith,
+  mentions-everyone q f,
+  sum_by-cons {X = Who × ℕ} (λ d. cond (names d.0 f) 1 0) e q,
+  sum_by-cons {X = Who} (λ w. cond (names w f) 1 0) e.0 (everyone q),
+)
 
 count-after : (q : List (Who × ℕ)) (before n f : ℕ) → count (lacks_after before q n) f ≡ count q f
 count-after [] before n f = refl
@@ -93,7 +103,7 @@ lack-after (e ∷ q) before n f =
     by_name true = grind (arith, nat_tests)
     by_name false = omega arith
 
-lack-filter : (p : Who × ℕ → Bool) (q : List (Who × ℕ)) (f : ℕ) → lack_of (filter {X = Who × ℕ} p q) f ≤ lack_of q f
+pub lack-filter : (p : Who × ℕ → Bool) (q : List (Who × ℕ)) (f : ℕ) → lack_of (filter {X = Who × ℕ} p q) f ≤ lack_of q f
 lack-filter p [] f = omega arith
 lack-filter p (e ∷ q) f = elim (p e) as (λ b. lack_of (cond b (e ∷ filter {X = Who × ℕ} p q) (filter {X = Who × ℕ} p q)) f ≤ lack_of (e ∷ q) f) [
   | true ↦ omega (
@@ -157,6 +167,41 @@ count-without (e ∷ q) g f = elim (names e.0 g)
     at_other true same n = let here = on_false (names e.0 f) 1 (ap (names e.0) (sym (eqb-true g f same)) ∙ n) in omega (arith, here)
     at_other false same n = sym (sum_by-cons {X = Who × ℕ} (λ d. cond (names d.0 f) 1 0) e q)
 
+-- debts name no future
+pub count-debts_in : (q : List (Who × ℕ)) (f : ℕ) → count (debts_in q) f ≡ 0
+count-debts_in [] f = refl
+count-debts_in ((Waiter g, n) ∷ q) f = count-debts_in q f
+count-debts_in ((Debt, n) ∷ q) f = omega (arith, count-debts_in q f, sum_by-cons {X = Who × ℕ} (λ d. cond (names d.0 f) 1 0) (Debt, n) (debts_in q))
+
+pub debts-debts_in : (q : List (Who × ℕ)) → debts (debts_in q) ≡ debts q
+debts-debts_in [] = refl
+debts-debts_in ((Waiter g, n) ∷ q) = omega (arith, debts-debts_in q, sum_by-cons {X = Who × ℕ} (λ e. debt_of e.0 e.1) (Waiter g, n) q)
+debts-debts_in ((Debt, n) ∷ q) = omega (
+  arith,
+  debts-debts_in q,
+  sum_by-cons {X = Who × ℕ} (λ e. debt_of e.0 e.1) (Debt, n) q,
+  sum_by-cons {X = Who × ℕ} (λ e. debt_of e.0 e.1) (Debt, n) (debts_in q),
+)
+
+-- debts lack what they owe
+pub lacks-debts_in : (q : List (Who × ℕ)) → lacks (debts_in q) ≡ debts q
+lacks-debts_in [] = refl
+lacks-debts_in ((Waiter g, n) ∷ q) = omega (arith, lacks-debts_in q, sum_by-cons {X = Who × ℕ} (λ e. debt_of e.0 e.1) (Waiter g, n) q)
+lacks-debts_in ((Debt, n) ∷ q) = omega (
+  arith,
+  lacks-debts_in q,
+  sum_by-cons {X = Who × ℕ} (λ e. debt_of e.0 e.1) (Debt, n) q,
+  sum_by-cons {X = Who × ℕ} (λ e. e.1) (Debt, n) (debts_in q),
+)
+
+-- a pour into debts grants no future
+pub none_among : (q : List (Who × ℕ)) (n f : ℕ) → among (granted_in (debts_in q) n) f ≡ false
+none_among q n f = by_test (among (granted_in (debts_in q) n) f) refl
+  where
+    by_test : (b : Bool) → among (granted_in (debts_in q) n) f ≡ b → among (granted_in (debts_in q) n) f ≡ false
+    by_test false e = e
+    by_test true e = absurd (omega (arith, among_mentions (granted_in (debts_in q) n) f e, count-pour (debts_in q) n f, count-debts_in q f))
+
 pub none_counted : (q : List (Who × ℕ)) (f : ℕ) → count q f ≡ 0 → lack_of q f ≡ 0
 none_counted [] f h = refl
 none_counted (e ∷ q) f h = by_name (names e.0 f) refl (none_counted q f)
@@ -180,12 +225,15 @@ lacking-still (e ∷ q) = elim (nat_lt 0 e.1) as (λ b. nat_lt 0 e.1 ≡ b → A
 pub lacking-pour : (q : List (Who × ℕ)) (n : ℕ) → AllLack (waiting_after q n)
 lacking-pour q n = lacking-still (lacks_after 0 q n)
 
-pub lacking-without : (q : List (Who × ℕ)) (g : ℕ) → AllLack q → AllLack (without q g)
-lacking-without [] g all = tt
-lacking-without (e ∷ q) g all = elim (not (names e.0 g)) as (λ b. AllLack (cond b (e ∷ without q g) (without q g))) [
-  | true ↦ (all.0, lacking-without q g all.1)
-  | false ↦ lacking-without q g all.1
+pub lacking-filter : (p : Who × ℕ → Bool) (q : List (Who × ℕ)) → AllLack q → AllLack (filter {X = Who × ℕ} p q)
+lacking-filter p [] all = tt
+lacking-filter p (e ∷ q) all = elim (p e) as (λ b. AllLack (cond b (e ∷ filter {X = Who × ℕ} p q) (filter {X = Who × ℕ} p q))) [
+  | true ↦ (all.0, lacking-filter p q all.1)
+  | false ↦ lacking-filter p q all.1
 ]
+
+pub lacking-without : (q : List (Who × ℕ)) (g : ℕ) → AllLack q → AllLack (without q g)
+lacking-without q g all = lacking-filter (λ e. not (names e.0 g)) q all
 
 pub lacking-append : (q : List (Who × ℕ)) (e : Who × ℕ) → AllLack q → 1 ≤ e.1 → AllLack (q ++ e ∷ [])
 lacking-append [] e all some = (some, tt)
@@ -198,7 +246,7 @@ lacking-debt q n all = elim (n == 0) as (λ b. (n == 0) ≡ b → AllLack (cond 
 ] refl
 
 -- ---- debts stand first
-no_debt-after : (q : List (Who × ℕ)) (before n : ℕ) → HasNoDebt q → HasNoDebt (lacks_after before q n)
+pub no_debt-after : (q : List (Who × ℕ)) (before n : ℕ) → HasNoDebt q → HasNoDebt (lacks_after before q n)
 no_debt-after [] before n none = tt
 no_debt-after ((Waiter f, k) ∷ q) before n none = no_debt-after q (before + k) n none
 no_debt-after ((Debt, k) ∷ q) before n none = none
@@ -208,7 +256,7 @@ first-after [] before n first = tt
 first-after ((Waiter f, k) ∷ q) before n first = no_debt-after q (before + k) n first
 first-after ((Debt, k) ∷ q) before n first = first-after q (before + k) n first
 
-no_debt-filter : (p : Who × ℕ → Bool) (q : List (Who × ℕ)) → HasNoDebt q → HasNoDebt (filter {X = Who × ℕ} p q)
+pub no_debt-filter : (p : Who × ℕ → Bool) (q : List (Who × ℕ)) → HasNoDebt q → HasNoDebt (filter {X = Who × ℕ} p q)
 no_debt-filter p [] none = tt
 no_debt-filter p ((Waiter f, k) ∷ q) none = elim (p (Waiter f, k))
     as (λ b. HasNoDebt (cond b ((Waiter f, k) ∷ filter {X = Who × ℕ} p q) (filter {X = Who × ℕ} p q))) [

@@ -1,5 +1,5 @@
 -- nobody overtakes who waits, and an end gives back what was paid
-use Rattle.std.proofs.Common.{◌≡◌, ◌≢◌, ℕ, ◌+◌, ◌-◌, ◌<◌, ◌==◌, Bool, true, false, cond, List, [], ◌∷◌, not, nat_le, refl, ap, sym, ◌∙◌, arith, Some, None, if◌then◌else◌, zero, suc}
+use Rattle.std.proofs.Common.{◌≡◌, ◌≢◌, ℕ, ◌+◌, ◌-◌, ◌<◌, ◌==◌, ◌&&◌, Bool, true, false, cond, List, [], ◌∷◌, not, nat_le, refl, ap, sym, ◌∙◌, arith, Some, None, if◌then◌else◌, zero, suc}
 use Rattle.std.specs.FinMap.{get}
 use Rattle.std.proofs.lemmas.List.Sums.{sum_by-cons}
 use Rattle.std.proofs.lemmas.Bool.{eq-eqb, lt-leb}
@@ -7,9 +7,9 @@ use Rattle.mea_base.specs.Totals.{weight}
 use Rattle.mea_base.specs.declared.answer.Answer.TheVariants as answers
 use Rattle.mea_base.proofs.Tests.{on_true}
 use Rattle.mea_sem_model.specs.declared.event.SemEvent.TheVariants as events
-use Rattle.mea_sem_model.specs.Hall.{Hall, Semaphore, Future, New, Waiting, Granted, Who, Waiter, Debt, semaphore_at, queue_at, lack_of, debt_of, debts, paid_to, free, owed, live, pour, with_semaphore}
+use Rattle.mea_sem_model.specs.Hall.{Hall, Semaphore, Future, New, Waiting, Granted, Cut, Who, Waiter, Debt, semaphore_at, queue_at, is_closed, lack_of, debt_of, debts, paid_to, free, owed, live, pour, with_semaphore}
 use Rattle.mea_sem_model.specs.Cause.{cause_of}
-use Rattle.mea_sem_model.specs.Step.{quietly, with_permit, taking, made_ready, queueing, poll_at, poll_of, end_future, end_of, leaving, without, without_future, try_of, try_and_forget, step}
+use Rattle.mea_sem_model.specs.Step.{quietly, with_permit, taking, made_ready, queueing, open_poll, refusing, poll_at, poll_of, end_future, end_of, leaving, without, without_future, offers, try_of, try_and_forget, step}
 use Rattle.mea_sem_model.specs.Valid.{IsValid, IsBelow}
 use Rattle.mea_sem_model.proofs.HallLemmas.{semaphore_put}
 use Rattle.mea_sem_model.proofs.Pours.{lacks-without}
@@ -31,21 +31,29 @@ none_free h v s waited = by_free (free h s) refl
 too_many : (h : Hall) → IsValid h → (s n : ℕ) → queue_at h s ≢ [] → 0 < n → nat_le n (free h s) ≡ false
 too_many h v s n waited some = lt-leb n (free h s) (omega (arith, none_free h v s waited))
 
+not_offered : (h : Hall) → IsValid h → (s n : ℕ) → queue_at h s ≢ [] → 0 < n → offers h s n ≡ false
+not_offered h v s n waited some = by_test (not (is_closed h s)) (nat_le n (free h s)) (too_many h v s n waited some)
+  where
+    by_test : (a b : Bool) → b ≡ false → (a && b) ≡ false
+    by_test true b e = e
+    by_test false b e = refl
+
 pub try_waits : (h : Hall) → IsValid h → (i s n : ℕ) (plain : Bool) → queue_at h s ≢ [] → 0 < n → (try_of h i s n plain).reply ≡ answers.Lacking
 try_waits h v i s n plain waited some = ap
     (λ b. (if b then quietly (with_permit (with_semaphore h s (taking (semaphore_at h s) n)) i (record { semaphore = s; size = n; plain = plain }))
-    answers.Held else quietly h answers.Lacking).reply) (too_many h v s n waited some)
+    answers.Held else quietly h answers.Lacking).reply) (not_offered h v s n waited some)
 
 pub forgetting_try_waits : (h : Hall) → IsValid h → (s n : ℕ) → queue_at h s ≢ [] → 0 < n → (try_and_forget h s n).reply ≡ answers.No
 forgetting_try_waits h v s n waited some = ap
     (λ b. (if b then quietly (with_semaphore h s (record (semaphore_at h s) { free = free h s - n; forgotten = (semaphore_at h s).forgotten + n }))
-    answers.Yes else quietly h answers.No).reply) (too_many h v s n waited some)
+    answers.Yes else quietly h answers.No).reply) (not_offered h v s n waited some)
 
-pub first_poll_waits : (h : Hall) → IsValid h → (i f w : ℕ) (x : Future) → get h.futures f ≡ Some x → x.stage ≡ New → queue_at h x.semaphore ≢ []
-    → 0 < x.demand → (step h i (events.Poll f w)).reply ≡ answers.Pending
-first_poll_waits h v i f w x is unpolled waited some =
+pub first_poll_waits : (h : Hall) → IsValid h → (i f w : ℕ) (x : Future) → get h.futures f ≡ Some x → x.stage ≡ New → is_closed h x.semaphore ≡ false
+    → queue_at h x.semaphore ≢ [] → 0 < x.demand → (step h i (events.Poll f w)).reply ≡ answers.Pending
+first_poll_waits h v i f w x is unpolled open_still waited some =
     ap (λ o. (poll_of h i f w o).reply) is
     ∙ ap (λ t. (poll_at h i f w x t).reply) unpolled
+    ∙ ap (λ b. (if b then refusing h f else open_poll h i f w x).reply) open_still
     ∙ ap (λ b. (if b then quietly (made_ready (with_semaphore h x.semaphore (taking (semaphore_at h x.semaphore) x.demand)) i f x) answers.Ready
     else quietly (queueing h f w x) answers.Pending).reply) (too_many h v x.semaphore x.demand waited some)
 
@@ -53,6 +61,9 @@ first_poll_waits h v i f w x is unpolled waited some =
 module _ (h : Hall) (i f : ℕ) (x : Future) (is : get h.futures f ≡ Some x) where
   pub end_new : x.stage ≡ New → (step h i (events.End f)).hall ≡ without_future h f
   end_new e = ap (λ o. (end_of h f o).hall) is ∙ ap (λ t. (end_future h f x t).hall) e
+
+  pub end_cut : x.stage ≡ Cut → (step h i (events.End f)).hall ≡ without_future h f
+  end_cut e = ap (λ o. (end_of h f o).hall) is ∙ ap (λ t. (end_future h f x t).hall) e
 
   pub end_waiting : (w : ℕ) → x.stage ≡ Waiting w → (step h i (events.End f)).hall ≡ pour (leaving h f x) x.semaphore
       (paid_to (queue_at h x.semaphore) f x.demand x.stage)

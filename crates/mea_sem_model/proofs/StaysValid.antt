@@ -3,6 +3,7 @@ use Rattle.std.proofs.Common.{◌≡◌, ℕ, ◌+◌, ◌<◌, ◌≤◌, ◌^�
 use Rattle.std.specs.Option.{IsSome}
 use Rattle.std.specs.FinMap.{get}
 use Rattle.std.proofs.lemmas.Bool.{eqb-true, ltb-true, ne_eqb}
+use Rattle.mea_base.specs.Family.{Starts, Goes}
 use Rattle.mea_base.proofs.Totals.{total-zero}
 use Rattle.mea_base.proofs.Tests.{on_false}
 use Rattle.mea_sem_model.specs.declared.event.SemEvent.{SemEvent}
@@ -11,17 +12,19 @@ use Rattle.mea_sem_model.specs.Hall.{Hall, Semaphore, Future, Permit, made_with,
 use Rattle.mea_sem_model.specs.Cause.{cause_of}
 use Rattle.mea_sem_model.specs.Step.{step}
 use Rattle.mea_sem_model.specs.Valid.{IsValid, IsBelow, Fits}
-use Rattle.mea_sem_model.specs.Runs.{if_same, made_by, released_by}
+use Rattle.mea_sem_model.specs.Runs.{Run, Runs, AllFit, if_same, made_by, released_by}
 use Rattle.mea_sem_model.proofs.Matched.{IsMatched, matched}
 use Rattle.mea_sem_model.proofs.Orderly.{IsOrderly, orderly}
 use Rattle.mea_sem_model.proofs.Changes.{no_semaphore_yet}
 use Rattle.mea_sem_model.proofs.Events.{line, steps, release_known}
+use Rattle.mea_sem_model.proofs.Keeps.{valid_empty, below_later}
+use Rattle.mea_sem_model.proofs.Balanced as balance
 use Rattle.mea_sem_model.proofs.Tallies.{tallies}
 use Rattle.mea_sem_model.proofs.Paid.{parts, paid_or_lacked}
 
 -- ---- the bound on the permits
 -- no more permits live than before, with those that the event made and released
-rises : (h : Hall) (i : ℕ) (e : SemEvent) → IsMatched h → IsOrderly h → IsBelow h i → cause_of h e ≡ None → (s : ℕ)
+pub rises : (h : Hall) (i : ℕ) (e : SemEvent) → IsMatched h → IsOrderly h → IsBelow h i → cause_of h e ≡ None → (s : ℕ)
     → live (step h i e).hall s ≤ live h s + (made_by s (line h i e) e + released_by s e)
 rises h i e m v low cause s =
     let c = steps h i m v low e cause in
@@ -70,8 +73,15 @@ kept_valid h i e v low fits cause =
       idle = c.orderly.idle;
       fits = λ s. omega (arith, rises h i e (matched h v) (orderly h v) low cause s, fits_on h i e v low fits cause s);
       named = c.orderly.named;
+      closed = c.orderly.closed;
       futures_of = c.orderly.futures_of;
       permits_of = c.orderly.permits_of;
       semaphores_apart = c.orderly.semaphores_apart;
       futures_apart = c.orderly.futures_apart;
     }
+
+-- every hall in a run is valid
+pub always_valid : (r : Run) → Runs r → AllFit r.trace → IsValid r.hall
+always_valid _ Starts fit = valid_empty
+always_valid _ (Goes r i e runs later cause) fit = kept_valid r.hall i e (always_valid r runs fit.1)
+    (below_later r.hall r.next i later (balance.kept r runs).below) fit.0 cause

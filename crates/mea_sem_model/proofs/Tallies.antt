@@ -6,8 +6,8 @@ use Rattle.std.proofs.lemmas.List.Sums.{sum_by-append}
 use Rattle.mea_base.specs.declared.answer.Answer.TheVariants as answers
 use Rattle.mea_sem_model.specs.declared.event.SemEvent.{SemEvent}
 use Rattle.mea_sem_model.specs.declared.event.SemEvent.TheVariants as events
-use Rattle.mea_sem_model.specs.Hall.{Hall, Semaphore, Future, Permit, Stage, New, Waiting, Granted, Who, Waiter, made_with, semaphore_at, queue_at, poured, pour, names, free, debt_of, debts, with_semaphore}
-use Rattle.mea_sem_model.specs.Step.{quietly, with_permit, without_permit, without_future, forgetting_exactly, taking, try_of, try_and_forget, queueing, made_ready, poll_at, poll_of, end_future, end_permit, end_of, lose_of, merge_of, split_of, released_to, step, without, leaving}
+use Rattle.mea_sem_model.specs.Hall.{Hall, Semaphore, Future, Permit, Stage, New, Waiting, Granted, Cut, Who, Waiter, made_with, semaphore_at, queue_at, is_closed, poured, pour, names, free, debt_of, debts, with_semaphore, is_debt, debts_in, paid_in, cutting, closing, wakes_waiting}
+use Rattle.mea_sem_model.specs.Step.{quietly, with_permit, without_permit, without_future, forgetting_exactly, taking, offers, try_of, try_and_forget, queueing, made_ready, open_poll, refusing, poll_at, poll_of, end_future, end_permit, end_of, lose_of, merge_of, split_of, released_to, step, without, leaving}
 use Rattle.mea_sem_model.specs.Valid.{IsBelow}
 use Rattle.mea_sem_model.specs.Runs.{if_same, made_by, released_by, number_forgot, if_yes, if_ready, if_permit_of, forgetting_demand, forgotten_by}
 use Rattle.mea_sem_model.proofs.HallLemmas.{semaphore_put, poured-owed, filtered-owed}
@@ -15,15 +15,16 @@ use Rattle.mea_sem_model.proofs.Pours.{owed-debt}
 use Rattle.mea_sem_model.proofs.Changes.{no_semaphore_yet}
 use Rattle.mea_sem_model.proofs.Events.{line}
 
--- a was made, b released and c forgotten
+-- a was made, b released and c forgotten, and what was closed is closed
 pub record Tallied (y z : Semaphore) (a b c : ℕ) : Type 0 where
   pub made : z.made ≡ y.made + a
   pub released : z.released ≡ y.released + b
   pub forgotten : z.forgotten ≡ y.forgotten + c
   pub owes : debts z.queue ≤ debts y.queue + c
+  pub closed : y.closed ≡ true → z.closed ≡ true
 
 same : (y : Semaphore) → Tallied y y 0 0 0
-same y = record { made = omega arith; released = omega arith; forgotten = omega arith; owes = omega arith }
+same y = record { made = omega arith; released = omega arith; forgotten = omega arith; owes = omega arith; closed = λ c. c }
 
 both : (x y z : Semaphore) (a b c d e f : ℕ) → Tallied x y a b c → Tallied y z d e f → Tallied x z (a + d) (b + e) (c + f)
 both x y z a b c d e f p q = record {
@@ -31,6 +32,7 @@ both x y z a b c d e f p q = record {
   released = omega (arith, p.released, q.released);
   forgotten = omega (arith, p.forgotten, q.forgotten);
   owes = omega (arith, p.owes, q.owes);
+  closed = λ c. q.closed (p.closed c);
 }
 
 -- the first change tells nothing
@@ -40,12 +42,19 @@ quiet_first x y z a b c p q = record {
   released = omega (arith, p.released, q.released);
   forgotten = omega (arith, p.forgotten, q.forgotten);
   owes = omega (arith, p.owes, q.owes);
+  closed = λ c. q.closed (p.closed c);
 }
 
 -- the same tallies, counted otherwise
 recount : (y z : Semaphore) (a b c d e f : ℕ) → a ≡ d → b ≡ e → c ≡ f → Tallied y z a b c → Tallied y z d e f
 recount y z a b c d e f i j k t =
-    record { made = omega (arith, t.made); released = omega (arith, t.released); forgotten = omega (arith, t.forgotten); owes = omega (arith, t.owes) }
+    record {
+      made = omega (arith, t.made);
+      released = omega (arith, t.released);
+      forgotten = omega (arith, t.forgotten);
+      owes = omega (arith, t.owes);
+      closed = t.closed;
+    }
 
 put : (h : Hall) (q a b c : ℕ) (r : Semaphore) → Tallied (semaphore_at h q) r a b c → (s : ℕ)
     → Tallied (semaphore_at h s) (semaphore_at (with_semaphore h q r) s) (if_same q s a) (if_same q s b) (if_same q s c)
@@ -71,11 +80,11 @@ put_forgotten h q c r t s = recount _ _ _ _ _ _ _ _ (never (q == s)) (never (q =
 
 pours : (h : Hall) (q n s : ℕ) → Tallied (semaphore_at h s) (semaphore_at (pour h q n) s) 0 0 0
 pours h q n s = put_same h q (poured (semaphore_at h q) n)
-    (record { made = omega arith; released = omega arith; forgotten = omega arith; owes = omega (arith, poured-owed (queue_at h q) n) }) s
+    (record { made = omega arith; released = omega arith; forgotten = omega arith; owes = omega (arith, poured-owed (queue_at h q) n); closed = λ c. c }) s
 
 takes : (h : Hall) (q n s : ℕ) → Tallied (semaphore_at h s) (semaphore_at (with_semaphore h q (taking (semaphore_at h q) n)) s) 0 0 0
 takes h q n s = put_same h q (taking (semaphore_at h q) n)
-    (record { made = omega arith; released = omega arith; forgotten = omega arith; owes = omega arith }) s
+    (record { made = omega arith; released = omega arith; forgotten = omega arith; owes = omega arith; closed = λ c. c }) s
 
 -- n more are told to be forgotten
 abbrev forgetful : Semaphore → ℕ → ℕ → Semaphore
@@ -83,7 +92,7 @@ forgetful r k n = record r { free = k; forgotten = r.forgotten + n }
 
 forgets : (h : Hall) (q k n s : ℕ) → Tallied (semaphore_at h s) (semaphore_at (with_semaphore h q (forgetful (semaphore_at h q) k n)) s) 0 0 (if_same q s n)
 forgets h q k n s = put_forgotten h q n (forgetful (semaphore_at h q) k n)
-    (record { made = omega arith; released = omega arith; forgotten = refl; owes = omega arith }) s
+    (record { made = omega arith; released = omega arith; forgotten = refl; owes = omega arith; closed = λ c. c }) s
 
 module _ (h : Hall) (i s : ℕ) where
   ends_permit : (k : ℕ) (o : Option Permit) → Tallied (semaphore_at h s) (semaphore_at (end_permit h k o).hall s) 0 0 0
@@ -97,12 +106,14 @@ module _ (h : Hall) (i s : ℕ) where
         released = omega arith;
         forgotten = omega arith;
         owes = omega (arith, filtered-owed (λ e. not (names e.0 f)) (queue_at h x.semaphore));
+        closed = λ c. c;
       }) s
 
   ends_future : (f : ℕ) (x : Future) (t : Stage) → Tallied (semaphore_at h s) (semaphore_at (end_future h f x t).hall s) 0 0 0
   ends_future f x New = same (semaphore_at h s)
   ends_future f x (Waiting u) = both _ _ _ _ _ _ _ _ _ (leaves f x) (pours (leaving h f x) x.semaphore _ s)
   ends_future f x Granted = pours (without_future h f) x.semaphore x.demand s
+  ends_future f x Cut = same (semaphore_at h s)
 
   ends : (k : ℕ) (o : Option Future) → Tallied (semaphore_at h s) (semaphore_at (end_of h k o).hall s) 0 0 0
   ends k None = ends_permit k (get h.permits k)
@@ -129,7 +140,7 @@ module _ (h : Hall) (i s : ℕ) where
       ]
 
   tries : (q n : ℕ) (plain : Bool) → Tallied (semaphore_at h s) (semaphore_at (try_of h i q n plain).hall s) 0 0 0
-  tries q n plain = elim (nat_le n (free h q))
+  tries q n plain = elim (offers h q n)
       as (λ b. Tallied (semaphore_at h s)
       (semaphore_at (if b then quietly
       (with_permit (with_semaphore h q (taking (semaphore_at h q) n)) i (record { semaphore = q; size = n; plain = plain })) answers.Held
@@ -140,7 +151,7 @@ module _ (h : Hall) (i s : ℕ) where
 
   tries_and_forgets : (q n : ℕ) → Tallied (semaphore_at h s) (semaphore_at (try_and_forget h q n).hall s) 0 0
       (if_same q s (if_yes n (try_and_forget h q n).reply))
-  tries_and_forgets q n = elim (nat_le n (free h q))
+  tries_and_forgets q n = elim (offers h q n)
       as (λ b. Tallied (semaphore_at h s)
       (semaphore_at (if b then quietly (with_semaphore h q (forgetful (semaphore_at h q) (free h q - n) n)) answers.Yes
       else quietly h answers.No).hall s) 0 0
@@ -180,12 +191,13 @@ queues h f w s x = put_same h x.semaphore
       released = omega arith;
       forgotten = omega arith;
       owes = omega (arith, sum_by-append {X = Who × ℕ} (λ e. debt_of e.0 e.1) (queue_at h x.semaphore) ((Waiter f, x.demand - free h x.semaphore) ∷ []));
+      closed = λ c. c;
     }) s
 
 module _ (h : Hall) (i s : ℕ) where
-  polls_at : (f w : ℕ) (x : Future) (t : Stage) → Tallied (semaphore_at h s) (semaphore_at (poll_at h i f w x t).hall s) 0 0
-      (if_ready (forgetting_demand s (Some x)) (poll_at h i f w x t).reply)
-  polls_at f w x New = elim (nat_le x.demand (free h x.semaphore))
+  open_polls : (f w : ℕ) (x : Future) → Tallied (semaphore_at h s) (semaphore_at (open_poll h i f w x).hall s) 0 0
+      (if_ready (forgetting_demand s (Some x)) (open_poll h i f w x).reply)
+  open_polls f w x = elim (nat_le x.demand (free h x.semaphore))
       as (λ b. Tallied (semaphore_at h s)
       (semaphore_at (if b then quietly (made_ready (with_semaphore h x.semaphore (taking (semaphore_at h x.semaphore) x.demand)) i f x) answers.Ready
       else quietly (queueing h f w x) answers.Pending).hall s) 0 0
@@ -196,8 +208,32 @@ module _ (h : Hall) (i s : ℕ) where
             (readies (with_semaphore h x.semaphore (taking (semaphore_at h x.semaphore) x.demand)) i f s x)
         | false ↦ queues h f w s x
       ]
+
+  first_polls : (f w : ℕ) (x : Future) (b : Bool) → Tallied (semaphore_at h s) (semaphore_at (if b then refusing h f else open_poll h i f w x).hall s) 0 0
+      (if_ready (forgetting_demand s (Some x)) (if b then refusing h f else open_poll h i f w x).reply)
+  first_polls f w x true = same (semaphore_at h s)
+  first_polls f w x false = open_polls f w x
+
+  polls_at : (f w : ℕ) (x : Future) (t : Stage) → Tallied (semaphore_at h s) (semaphore_at (poll_at h i f w x t).hall s) 0 0
+      (if_ready (forgetting_demand s (Some x)) (poll_at h i f w x t).reply)
+  polls_at f w x New = first_polls f w x (is_closed h x.semaphore)
+  polls_at f w x Cut = same (semaphore_at h s)
   polls_at f w x (Waiting u) = same (semaphore_at h s)
   polls_at f w x Granted = readies h i f s x
+
+  closes : (q : ℕ) (b : Bool) → Tallied (semaphore_at h s)
+      (semaphore_at (if b then quietly h answers.Done else record { hall = closing h q; reply = answers.Done; wakes = wakes_waiting h q }).hall s) 0 0 0
+  closes q true = same (semaphore_at h s)
+  closes q false = both _ _ _ _ _ _ _ _ _
+      (put_same h q (record (semaphore_at h q) { queue = debts_in (queue_at h q); closed = true })
+      (record {
+        made = omega arith;
+        released = omega arith;
+        forgotten = omega arith;
+        owes = omega (arith, filtered-owed (λ e. is_debt e.0) (queue_at h q));
+        closed = λ c. refl;
+      }) s)
+      (pours (cutting h q) q (paid_in h.futures (queue_at h q)) s)
 
   polls : (f w : ℕ) (o : Option Future) → Tallied (semaphore_at h s) (semaphore_at (poll_of h i f w o).hall s) 0 0
       (if_ready (forgetting_demand s o) (poll_of h i f w o).reply)
@@ -209,12 +245,13 @@ module _ (h : Hall) (i s : ℕ) where
       let none : semaphore_at h i ≡ made_with 0 = ap (λ o. unwrap_or o (made_with 0)) (no_semaphore_yet h i low) in
       recount _ _ _ _ _ _ _ _ refl (never (i == s)) (never (i == s))
       (put h i n 0 0 (made_with n)
-      (subst (λ y. Tallied y (made_with n) n 0 0) (sym none) (record { made = omega arith; released = refl; forgotten = refl; owes = omega arith })) s)
+      (subst (λ y. Tallied y (made_with n) n 0 0) (sym none)
+      (record { made = omega arith; released = refl; forgotten = refl; owes = omega arith; closed = λ c. absurd (cc) })) s)
 
   releases : (q n : ℕ) → Tallied (semaphore_at h s) (semaphore_at (pour (released_to h q n) q n) s) 0 (if_same q s n) 0
   releases q n = recount _ _ _ _ _ _ _ _ (omega (arith, never (q == s))) (omega arith) (omega (arith, never (q == s)))
       (both _ _ _ _ _ _ _ _ _ (put h q 0 n 0 (record (semaphore_at h q) { released = (semaphore_at h q).released + n })
-      (record { made = omega arith; released = refl; forgotten = omega arith; owes = omega arith }) s) (pours (released_to h q n) q n s))
+      (record { made = omega arith; released = refl; forgotten = omega arith; owes = omega arith; closed = λ c. c }) s) (pours (released_to h q n) q n s))
 
   pub tallies : IsBelow h i → (e : SemEvent) → Tallied (semaphore_at h s) (semaphore_at (step h i e).hall s) (made_by s (line h i e) e)
       (released_by s e) (forgotten_by s (line h i e) e)
@@ -222,7 +259,7 @@ module _ (h : Hall) (i s : ℕ) where
   tallies low (events.Free q) = same (semaphore_at h s)
   tallies low (events.Forget q n) = forgets h q (free h q - min n (free h q)) (min n (free h q)) s
   tallies low (events.Forgetx q n) = put_forgotten h q n (forgetting_exactly (semaphore_at h q) n)
-      (record { made = omega arith; released = omega arith; forgotten = refl; owes = omega (arith, owed-debt (queue_at h q) (n - min n (free h q))) }) s
+      (record { made = omega arith; released = omega arith; forgotten = refl; owes = omega (arith, owed-debt (queue_at h q) (n - min n (free h q))); closed = λ c. c }) s
   tallies low (events.Release q n) = releases q n
   tallies low (events.Try q n) = tries h i s q n true
   tallies low (events.Tryo q n) = tries h i s q n false
@@ -239,5 +276,7 @@ module _ (h : Hall) (i s : ℕ) where
   tallies low (events.Split p n) = splits h i s p n (get h.permits p)
   tallies low (events.Size p) = same (semaphore_at h s)
   tallies low (events.Endsem q) = put_same h q (record (semaphore_at h q) { named = false })
-      (record { made = omega arith; released = omega arith; forgotten = omega arith; owes = omega arith }) s
+      (record { made = omega arith; released = omega arith; forgotten = omega arith; owes = omega arith; closed = λ c. c }) s
   tallies low (events.Ledger q) = same (semaphore_at h s)
+  tallies low (events.Close q) = closes q (is_closed h q)
+  tallies low (events.Closed q) = same (semaphore_at h s)

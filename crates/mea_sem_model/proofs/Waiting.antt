@@ -1,5 +1,5 @@
 -- how many futures wait, and how many of them an event wakes
-use Rattle.std.proofs.Common.{◌≡◌, ℕ, ◌+◌, ◌-◌, ◌≤◌, ◌==◌, Bool, true, false, cond, not, length, map, filter, List, [], ◌∷◌, ◌++◌, Option, Some, None, unwrap_or, refl, ap, ◌∙◌, arith, nat_lt, nat_le, min, if◌then◌else◌}
+use Rattle.std.proofs.Common.{◌≡◌, ℕ, ◌+◌, ◌-◌, ◌≤◌, ◌==◌, Bool, true, false, cond, not, length, filter, List, [], ◌∷◌, ◌++◌, Option, Some, None, unwrap_or, refl, ap, ◌∙◌, arith, nat_lt, nat_le, min, if◌then◌else◌}
 use Rattle.std.specs.List.{flat_map}
 use Rattle.std.specs.Ordering.{nat_cmp}
 use Rattle.std.specs.FinMap.{FinMap, get}
@@ -14,8 +14,8 @@ use Rattle.mea_base.proofs.Totals.{total-insert}
 use Rattle.mea_base.proofs.Tests.{on_true, on_false}
 use Rattle.mea_sem_model.specs.declared.event.SemEvent.{SemEvent}
 use Rattle.mea_sem_model.specs.declared.event.SemEvent.TheVariants as events
-use Rattle.mea_sem_model.specs.Hall.{Hall, Semaphore, Future, Permit, Stage, New, Waiting, Granted, Who, Waiter, Debt, names, made_with, semaphore_at, queue_at, free, lack_of, poured, pour, waker_of, waker_of_future, waker_of_who, wakes_of, with_semaphore}
-use Rattle.mea_sem_model.specs.Step.{Outcome, quietly, pouring, without_permit, with_permit, without_future, with_debt, forgetting, forgetting_exactly, taking, try_of, try_and_forget, made_ready, queueing, first_poll, poll_at, poll_of, without, leaving, end_future, end_permit, end_of, lose_of, merge_of, split_of, released_to, step}
+use Rattle.mea_sem_model.specs.Hall.{Hall, Semaphore, Future, Permit, Stage, New, Waiting, Granted, Cut, Who, Waiter, Debt, names, made_with, semaphore_at, queue_at, is_closed, free, lack_of, poured, pour, waker_of, waker_of_future, waker_of_who, wakes_of, with_semaphore, debts_in, paid_in, everyone, cutting, closing, wakes_waiting}
+use Rattle.mea_sem_model.specs.Step.{Outcome, quietly, pouring, without_permit, with_permit, without_future, with_debt, forgetting, forgetting_exactly, taking, offers, try_of, try_and_forget, made_ready, queueing, open_poll, refusing, poll_at, poll_of, without, leaving, end_future, end_permit, end_of, lose_of, merge_of, split_of, released_to, step}
 use Rattle.mea_sem_model.specs.Valid.{count}
 use Rattle.mea_sem_model.specs.Waiters.{waiters_in, waiters, registers}
 
@@ -37,10 +37,7 @@ still q = filter {X = Who × ℕ} (λ e. nat_lt 0 e.1) q
 abbrev full : List (Who × ℕ) → List (Who × ℕ)
 full q = filter {X = Who × ℕ} (λ e. e.1 == 0) q
 
-abbrev who : List (Who × ℕ) → List Who
-who q = map {A = Who × ℕ} (λ e. e.0) q
-
-waiters-who : (q : List (Who × ℕ)) → waiters_among (who q) ≡ waiters_in q
+waiters-who : (q : List (Who × ℕ)) → waiters_among (everyone q) ≡ waiters_in q
 waiters-who [] = refl
 waiters-who ((Waiter f, k) ∷ q) = ap (λ m. m + 1) (waiters-who q)
 waiters-who ((Debt, k) ∷ q) = waiters-who q
@@ -77,6 +74,11 @@ waiters-append ((Debt, k) ∷ q) f n = waiters-append q f n
 waiters-debt : (q : List (Who × ℕ)) (n : ℕ) → waiters_in (with_debt q n) ≡ waiters_in q
 waiters-debt q n = elim (n == 0) as (λ b. waiters_in (cond b q ((Debt, n) ∷ q)) ≡ waiters_in q) [ true ↦ refl | false ↦ refl ]
 
+waiters-debts_in : (q : List (Who × ℕ)) → waiters_in (debts_in q) ≡ 0
+waiters-debts_in [] = refl
+waiters-debts_in ((Waiter f, n) ∷ q) = waiters-debts_in q
+waiters-debts_in ((Debt, n) ∷ q) = waiters-debts_in q
+
 -- a future that leaves is no waiter any more
 waiters-without : (q : List (Who × ℕ)) (f : ℕ) → waiters_in (without q f) + count q f ≡ waiters_in q
 waiters-without [] f = refl
@@ -110,6 +112,7 @@ one_waker (Some x) = by_stage x.stage
     by_stage New = omega arith
     by_stage (Waiting w) = omega arith
     by_stage Granted = omega arith
+    by_stage Cut = omega arith
 
 wakers : (m : FinMap nat_cmp Future) (ws : List Who) → length (flat_map (waker_of_who m) ws) ≤ waiters_among ws
 wakers m [] = omega arith
@@ -164,8 +167,8 @@ module _ (h : Hall) (i : ℕ) where
   as_many : waiters h ≤ waiters h
   as_many = omega arith
 
-  settles-first_poll : (f w : ℕ) (x : Future) → Settles h (first_poll h i f w x) true
-  settles-first_poll f w x = elim (nat_le x.demand (free h x.semaphore))
+  settles-open_poll : (f w : ℕ) (x : Future) → Settles h (open_poll h i f w x) true
+  settles-open_poll f w x = elim (nat_le x.demand (free h x.semaphore))
       as (λ b. Settles h (if b then quietly (made_ready taken i f x) answers.Ready else quietly (queueing h f w x) answers.Pending) true) [
         | true ↦ quiet h (made_ready taken i f x) answers.Ready true (omega (arith, ready_few taken i f x, put_few h x.semaphore (taking r x.demand) (omega arith)))
         | false ↦ one_more h (queueing h f w x) answers.Pending
@@ -183,8 +186,13 @@ module _ (h : Hall) (i : ℕ) where
       taken : Hall
       taken = with_semaphore h x.semaphore (taking r x.demand)
 
+  settles-first_poll : (f w : ℕ) (x : Future) (b : Bool) → Settles h (if b then refusing h f else open_poll h i f w x) true
+  settles-first_poll f w x true = quiet h (without_future h f) answers.Gone true as_many
+  settles-first_poll f w x false = settles-open_poll f w x
+
   settles-poll_at : (f w : ℕ) (x : Future) (t : Stage) → Settles h (poll_at h i f w x t) true
-  settles-poll_at f w x New = settles-first_poll f w x
+  settles-poll_at f w x New = settles-first_poll f w x (is_closed h x.semaphore)
+  settles-poll_at f w x Cut = quiet h (without_future h f) answers.Gone true as_many
   settles-poll_at f w x (Waiting v) = quiet h _ answers.Pending true as_many
   settles-poll_at f w x Granted = quiet h (made_ready h i f x) answers.Ready true (ready_few h i f x)
 
@@ -202,6 +210,7 @@ module _ (h : Hall) (i : ℕ) where
       let fewer = put_few h x.semaphore (record (semaphore_at h x.semaphore) { queue = without (queue_at h x.semaphore) f })
       (omega (arith, waiters-without (queue_at h x.semaphore) f)) in
       pours h (leaving h f x) x.semaphore (x.demand - lack_of (queue_at h x.semaphore) f) false fewer
+  settles-end_future f x Cut = quiet h _ answers.Done false as_many
   settles-end_future f x Granted = pours h (without_future h f) x.semaphore x.demand false as_many
 
   settles-end : (k : ℕ) (o : Option Future) → Settles h (end_of h k o) false
@@ -224,12 +233,26 @@ module _ (h : Hall) (i : ℕ) where
   settles-split p n (Some x) = quiet_if h (nat_le n x.size) _ h answers.Held answers.Lacking false as_many as_many
 
   settles-try : (s n : ℕ) (plain : Bool) → Settles h (try_of h i s n plain) false
-  settles-try s n plain = quiet_if h (nat_le n (free h s)) _ h answers.Held answers.Lacking false
+  settles-try s n plain = quiet_if h (offers h s n) _ h answers.Held answers.Lacking false
       (put_few h s (taking (semaphore_at h s) n) (omega arith)) as_many
 
   settles-try_and_forget : (s n : ℕ) → Settles h (try_and_forget h s n) false
-  settles-try_and_forget s n = quiet_if h (nat_le n (free h s)) _ h answers.Yes answers.No false
+  settles-try_and_forget s n = quiet_if h (offers h s n) _ h answers.Yes answers.No false
       (put_few h s (record (semaphore_at h s) { free = free h s - n; forgotten = (semaphore_at h s).forgotten + n }) (omega arith)) as_many
+
+  settles-close : (s : ℕ) (b : Bool)
+      → Settles h (if b then quietly h answers.Done else record { hall = closing h s; reply = answers.Done; wakes = wakes_waiting h s }) false
+  settles-close s true = quiet h h answers.Done false as_many
+  settles-close s false =
+      let r : Semaphore = record (semaphore_at h s) { queue = debts_in (queue_at h s); closed = true } in
+      settled h (record { hall = closing h s; reply = answers.Done; wakes = wakes_waiting h s }) false (omega (
+        arith,
+        wakers h.futures (everyone (queue_at h s)),
+        waiters-who (queue_at h s),
+        waiters-put h s r,
+        waiters-debts_in (queue_at h s),
+        waiters-poured (cutting h s) s (paid_in h.futures (queue_at h s)),
+      ))
 
   pub settles : (e : SemEvent) → Settles h (step h i e) (registers e)
   settles (events.New n) = quiet h _ answers.Made false (put_few h i (made_with n) (omega arith))
@@ -255,3 +278,5 @@ module _ (h : Hall) (i : ℕ) where
   settles (events.Size p) = quiet h h _ false as_many
   settles (events.Endsem s) = quiet h _ answers.Done false (put_few h s (record (semaphore_at h s) { named = false }) (omega arith))
   settles (events.Ledger s) = quiet h h _ false as_many
+  settles (events.Close s) = settles-close s (is_closed h s)
+  settles (events.Closed s) = quiet h h _ false as_many

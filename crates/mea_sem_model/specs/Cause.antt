@@ -5,7 +5,7 @@ use Rattle.mea_base.specs.declared.stop.Stop.{Stop}
 use Rattle.mea_base.specs.declared.stop.Stop.TheVariants as stops
 use Rattle.mea_base.specs.Causes.{unknown_unless}
 use Rattle.mea_sem_model.specs.declared.event.SemEvent.{SemEvent}
-use Rattle.mea_sem_model.specs.declared.event.SemEvent.TheVariants.{New, Free, Forget, Forgetx, Release, Try, Tryo, Tryf, Tryof, Acq, Acqo, Acqf, Acqof, Poll, End, Lose, Merge, Split, Size, Endsem, Ledger}
+use Rattle.mea_sem_model.specs.declared.event.SemEvent.TheVariants.{New, Free, Forget, Forgetx, Release, Try, Tryo, Tryf, Tryof, Acq, Acqo, Acqf, Acqof, Poll, End, Lose, Merge, Split, Size, Endsem, Ledger, Close, Closed}
 use Rattle.mea_sem_model.specs.Hall.{Hall, Semaphore, Permit, live, plain_things}
 
 abbrev pub is_named_semaphore : Option Semaphore → Bool
@@ -53,3 +53,5 @@ cause_of h (Split p n) = unknown_unless (is_permit h p)
 cause_of h (Size p) = unknown_unless (is_permit h p)
 cause_of h (Endsem s) = if is_named h s then (if nat_lt 0 (plain_things h s) then Some stops.Borrowed else None) else Some stops.Unknown
 cause_of h (Ledger s) = unknown_unless (is_named h s)
+cause_of h (Close s) = unknown_unless (is_named h s)
+cause_of h (Closed s) = unknown_unless (is_named h s)

@@ -1,9 +1,10 @@
 -- many semaphores by name, with the futures and permits that are of them
-use Rattle.std.specs.Prelude.{ℕ, ◌≡◌, ◌+◌, ◌-◌, ◌==◌, ◌&&◌, Bool, true, false, cond, List, [], ◌∷◌, Option, Some, None, unwrap_or, refl}
+use Rattle.std.specs.Prelude.{ℕ, ◌≡◌, ◌+◌, ◌-◌, ◌==◌, ◌&&◌, Bool, true, false, cond, List, [], ◌∷◌, filter, Option, Some, None, unwrap_or, refl}
 use Rattle.std.specs.List.{sum_by, flat_map}
 use Rattle.std.specs.Ordering.{nat_cmp}
 use Rattle.std.specs.Coded.{Coded, code_by, coded×, coded_ℕ, coded_bool, coded_list, coded_option}
 use Rattle.std.specs.FinMap as map
+use Rattle.std.specs.Prelude.{map as map_list}
 use Rattle.mea_base.specs.Queue.{waiting_after, granted_in, left_over}
 use Rattle.mea_base.specs.Totals.{total}
 
@@ -13,7 +14,7 @@ pub data Who : Type 0 where
   Debt : Who
 
 -- a semaphore: its free permits, who waits and what each lacks, what was made, released and forgotten
--- of it, and whether it is named
+-- of it, whether it is named, and whether it is closed
 pub record Semaphore : Type 0 where
   pub free : ℕ
   pub queue : List (Who × ℕ)
@@ -21,12 +22,15 @@ pub record Semaphore : Type 0 where
   pub released : ℕ
   pub forgotten : ℕ
   pub named : Bool
+  pub closed : Bool
 
--- how far a future is: never polled, waiting with the waker of its last poll, or paid in full
+-- how far a future is: never polled, waiting with the waker of its last poll, paid in full, or cut: taken
+-- out of the queue by the closing of its semaphore
 pub data Stage : Type 0 where
   New : Stage
   Waiting : ℕ → Stage
   Granted : Stage
+  Cut : Stage
 
 -- a future: whose it is, what it asks for, whether it is plain, whether it forgets what it takes
 pub record Future : Type 0 where
@@ -49,9 +53,9 @@ pub record Hall : Type 0 where
 abbrev pub empty_hall : Hall
 empty_hall = record { semaphores = map.empty; futures = map.empty; permits = map.empty }
 
--- a new semaphore with n free permits
+-- a new semaphore with n free permits, which is open
 abbrev pub made_with : ℕ → Semaphore
-made_with n = record { free = n; queue = []; made = n; released = 0; forgotten = 0; named = true }
+made_with n = record { free = n; queue = []; made = n; released = 0; forgotten = 0; named = true; closed = false }
 
 -- the semaphore of this name; one with nothing, where there is none
 abbrev pub semaphore_at : Hall → ℕ → Semaphore
@@ -59,6 +63,10 @@ semaphore_at h s = unwrap_or (map.get h.semaphores s) (made_with 0)
 
 abbrev pub queue_at : Hall → ℕ → List (Who × ℕ)
 queue_at h s = (semaphore_at h s).queue
+
+-- whether s is closed
+abbrev pub is_closed : Hall → ℕ → Bool
+is_closed h s = (semaphore_at h s).closed
 
 -- ---- what a semaphore's permits are
 
@@ -84,6 +92,7 @@ abbrev pub paid_to : List (Who × ℕ) → ℕ → ℕ → Stage → ℕ
 paid_to q f demand New = 0
 paid_to q f demand (Waiting w) = demand - lack_of q f
 paid_to q f demand Granted = demand
+paid_to q f demand Cut = 0
 
 -- the free permits of s
 abbrev pub free : Hall → ℕ → ℕ
@@ -115,21 +124,29 @@ plain_things h s = total {X = Future} (λ f x. cond (x.semaphore == s && x.plain
 abbrev pub poured : Semaphore → ℕ → Semaphore
 poured r n = record r { free = r.free + left_over r.queue n; queue = waiting_after r.queue n }
 
+-- a future that comes to a stage
+abbrev pub staged : Stage → Future → Future
+staged t x = record x { stage = t }
+
 abbrev pub granted : Future → Future
-granted x = record x { stage = Granted }
+granted x = staged Granted x
 
-abbrev pub grant_if : map.FinMap nat_cmp Future → ℕ → Option Future → map.FinMap nat_cmp Future
-grant_if m f None = m
-grant_if m f (Some x) = map.insert m f (granted x)
+abbrev pub stage_if : Stage → map.FinMap nat_cmp Future → ℕ → Option Future → map.FinMap nat_cmp Future
+stage_if t m f None = m
+stage_if t m f (Some x) = map.insert m f (staged t x)
 
-abbrev pub grant_who : map.FinMap nat_cmp Future → Who → map.FinMap nat_cmp Future
-grant_who m (Waiter f) = grant_if m f (map.get m f)
-grant_who m Debt = m
+abbrev pub stage_who : Stage → map.FinMap nat_cmp Future → Who → map.FinMap nat_cmp Future
+stage_who t m (Waiter f) = stage_if t m f (map.get m f)
+stage_who t m Debt = m
+
+-- each future among these comes to a stage
+abbrev pub stage_all : Stage → List Who → map.FinMap nat_cmp Future → map.FinMap nat_cmp Future
+stage_all t [] m = m
+stage_all t (w ∷ ws) m = stage_all t ws (stage_who t m w)
 
 -- each future among those paid in full is granted
 abbrev pub grant_all : List Who → map.FinMap nat_cmp Future → map.FinMap nat_cmp Future
-grant_all [] m = m
-grant_all (w ∷ ws) m = grant_all ws (grant_who m w)
+grant_all ws m = stage_all Granted ws m
 
 abbrev pub with_semaphore : Hall → ℕ → Semaphore → Hall
 with_semaphore h s r = record h { semaphores = map.insert h.semaphores s r }
@@ -145,6 +162,7 @@ abbrev pub waker_of : Stage → List ℕ
 waker_of New = []
 waker_of (Waiting w) = w ∷ []
 waker_of Granted = []
+waker_of Cut = []
 
 abbrev pub waker_of_future : Option Future → List ℕ
 waker_of_future None = []
@@ -157,6 +175,48 @@ waker_of_who m Debt = []
 -- the wakers of the futures that a pour grants, in queue order
 abbrev pub wakes_of : Hall → ℕ → ℕ → List ℕ
 wakes_of h s n = flat_map (waker_of_who h.futures) (granted_in (queue_at h s) n)
+
+-- ---- closing
+
+abbrev pub demand_at : Option Future → ℕ
+demand_at None = 0
+demand_at (Some x) = x.demand
+
+-- what one who waits, and lacks this much, was paid
+abbrev pub paid_to_who : map.FinMap nat_cmp Future → Who → ℕ → ℕ
+paid_to_who m (Waiter f) lack = demand_at (map.get m f) - lack
+paid_to_who m Debt lack = 0
+
+-- what the futures of a queue were paid
+abbrev pub paid_in : map.FinMap nat_cmp Future → List (Who × ℕ) → ℕ
+paid_in m q = sum_by {X = Who × ℕ} (λ e. paid_to_who m e.0 e.1) q
+
+abbrev pub is_debt : Who → Bool
+is_debt (Waiter f) = false
+is_debt Debt = true
+
+-- the debts of a queue
+abbrev pub debts_in : List (Who × ℕ) → List (Who × ℕ)
+debts_in q = filter {X = Who × ℕ} (λ e. is_debt e.0) q
+
+-- who waits in a queue, in its order
+abbrev pub everyone : List (Who × ℕ) → List Who
+everyone q = map_list {A = Who × ℕ} (λ e. e.0) q
+
+-- s is closed, and the futures that wait leave its queue and are cut
+abbrev pub cutting : Hall → ℕ → Hall
+cutting h s = record h {
+  semaphores = map.insert h.semaphores s (record (semaphore_at h s) { queue = debts_in (queue_at h s); closed = true });
+  futures = stage_all Cut (everyone (queue_at h s)) h.futures;
+}
+
+-- s is closed, and what those who are cut were paid is poured
+abbrev pub closing : Hall → ℕ → Hall
+closing h s = pour (cutting h s) s (paid_in h.futures (queue_at h s))
+
+-- the wakers of the futures that wait at s, in queue order
+abbrev pub wakes_waiting : Hall → ℕ → List ℕ
+wakes_waiting h s = flat_map (waker_of_who h.futures) (everyone (queue_at h s))
 
 -- ---- codes, by which a proof tells two values apart
 abbrev pub who_number : Who → Option ℕ
@@ -176,28 +236,32 @@ who_code = code_by (Option ℕ) (coded_option coded_ℕ) who_number who_of_numbe
 
 abbrev pub semaphore_code : Coded Semaphore
 semaphore_code =
-    code_by (ℕ × (List (Who × ℕ) × (ℕ × (ℕ × (ℕ × Bool))))) (coded× coded_ℕ (coded× (coded_list (coded× who_code coded_ℕ)) (coded× coded_ℕ (coded× coded_ℕ (coded× coded_ℕ coded_bool)))))
-    (λ s. (s.free, (s.queue, (s.made, (s.released, (s.forgotten, s.named))))))
-    (λ p. record { free = p.0; queue = p.1.0; made = p.1.1.0; released = p.1.1.1.0; forgotten = p.1.1.1.1.0; named = p.1.1.1.1.1 })
+    code_by (ℕ × (List (Who × ℕ) × (ℕ × (ℕ × (ℕ × (Bool × Bool))))))
+    (coded× coded_ℕ (coded× (coded_list (coded× who_code coded_ℕ)) (coded× coded_ℕ (coded× coded_ℕ (coded× coded_ℕ (coded× coded_bool coded_bool))))))
+    (λ s. (s.free, (s.queue, (s.made, (s.released, (s.forgotten, (s.named, s.closed)))))))
+    (λ p. record { free = p.0; queue = p.1.0; made = p.1.1.0; released = p.1.1.1.0; forgotten = p.1.1.1.1.0; named = p.1.1.1.1.1.0; closed = p.1.1.1.1.1.1 })
     (λ _. refl)
 
-abbrev pub stage_number : Stage → Option (Option ℕ)
+abbrev pub stage_number : Stage → Option (Option (Option ℕ))
 stage_number New = None
-stage_number (Waiting w) = Some (Some w)
+stage_number (Waiting w) = Some (Some (Some w))
 stage_number Granted = Some None
+stage_number Cut = Some (Some None)
 
-abbrev pub stage_of_number : Option (Option ℕ) → Stage
+abbrev pub stage_of_number : Option (Option (Option ℕ)) → Stage
 stage_of_number None = New
-stage_of_number (Some (Some w)) = Waiting w
+stage_of_number (Some (Some (Some w))) = Waiting w
 stage_of_number (Some None) = Granted
+stage_of_number (Some (Some None)) = Cut
 
 pub stage_back : (s : Stage) → stage_of_number (stage_number s) ≡ s
 stage_back New = refl
 stage_back (Waiting w) = refl
 stage_back Granted = refl
+stage_back Cut = refl
 
 abbrev pub stage_code : Coded Stage
-stage_code = code_by (Option (Option ℕ)) (coded_option (coded_option coded_ℕ)) stage_number stage_of_number stage_back
+stage_code = code_by (Option (Option (Option ℕ))) (coded_option (coded_option (coded_option coded_ℕ))) stage_number stage_of_number stage_back
 
 abbrev pub future_code : Coded Future
 future_code =

@@ -4,3 +4,4 @@ pub mod Step
 pub mod Valid
 pub mod Runs
 pub mod Waiters
+pub mod Order

@@ -1,5 +1,5 @@
 -- semaphores as a family of primitives, and the permits that a run of their events made, released and forgot
-use Rattle.std.specs.Prelude.{ℕ, ◌≡◌, ◌+◌, ◌==◌, ◌&&◌, cond, List, Option, Some, None, is_some}
+use Rattle.std.specs.Prelude.{ℕ, ◌≡◌, ◌+◌, ◌==◌, ◌&&◌, Bool, false, cond, List, [], ◌∷◌, Option, Some, None, is_some}
 use Rattle.std.specs.List.{sum_by}
 use Rattle.std.specs.FinMap as map
 use Rattle.mea_base.specs.declared.answer.Answer.{Answer}
@@ -8,9 +8,10 @@ use Rattle.mea_base.specs.Family as family
 use Rattle.mea_base.specs.Family.{Family}
 use Rattle.mea_sem_model.specs.declared.event.SemEvent.{SemEvent}
 use Rattle.mea_sem_model.specs.declared.event.SemEvent.TheVariants as events
-use Rattle.mea_sem_model.specs.Hall.{Hall, Future, Permit, Stage, New, Waiting, Granted, empty_hall, free, held, paid, owed}
+use Rattle.mea_sem_model.specs.Hall.{Hall, Future, Permit, Stage, New, Waiting, Granted, Cut, empty_hall, free, held, paid, owed}
 use Rattle.mea_sem_model.specs.Cause.{cause_of}
 use Rattle.mea_sem_model.specs.Step.{step}
+use Rattle.mea_sem_model.specs.Valid.{Fits}
 
 -- the waker with which this event polls f, if it does
 abbrev pub waker_in : SemEvent → ℕ → Option ℕ
@@ -22,10 +23,16 @@ abbrev pub waker_at : Stage → Option ℕ
 waker_at New = None
 waker_at (Waiting w) = Some w
 waker_at Granted = None
+waker_at Cut = None
 
 abbrev pub waker_kept : Option Future → Option ℕ
 waker_kept None = None
 waker_kept (Some x) = waker_at x.stage
+
+-- whether this event ends f
+abbrev pub ends : SemEvent → ℕ → Bool
+ends (events.End x) f = x == f
+ends _ f = false
 
 -- semaphores as a family of primitives; a future is known by its name
 abbrev pub semaphores : Family
@@ -37,6 +44,7 @@ semaphores = record {
   cause = cause_of;
   step = step;
   polled = waker_in;
+  ends = ends;
   name = λ f. f;
   lives = λ h f. is_some (map.get h.futures f);
   placed = λ h f. waker_kept (map.get h.futures f);
@@ -53,6 +61,11 @@ Run = family.RunOf semaphores
 -- a run of events of semaphores that had no cause for refusal
 abbrev pub Runs : Run → Type 0
 Runs r = family.Runs semaphores r
+
+-- the permits that each event of a run makes fit their type
+abbrev pub AllFit : List Told → Type 0
+AllFit [] = Unit {0}
+AllFit (t ∷ older) = Fits t.event × AllFit older
 
 -- ---- the permits that events made, released and forgot, summed again from the events and their replies
 

@@ -1,5 +1,5 @@
 -- what an event does to a hall, where it has no cause for refusal; a thing made by event i has the name i
-use Rattle.std.specs.Prelude.{ℕ, ◌+◌, ◌-◌, ◌==◌, ◌++◌, not, Bool, true, false, List, [], ◌∷◌, Option, Some, None, filter, nat_le, min, if◌then◌else◌}
+use Rattle.std.specs.Prelude.{ℕ, ◌+◌, ◌-◌, ◌==◌, ◌++◌, ◌&&◌, not, Bool, true, false, List, [], ◌∷◌, Option, Some, None, filter, nat_le, min, if◌then◌else◌}
 use Rattle.std.specs.FinMap as map
 use Rattle.mea_base.specs.declared.answer.Answer.TheVariants as answers
 use Rattle.mea_base.specs.declared.ledger.Ledger.{Ledger}
@@ -7,7 +7,7 @@ use Rattle.mea_base.specs.Family as family
 pub use Rattle.mea_base.specs.Family.{quietly}
 use Rattle.mea_sem_model.specs.declared.event.SemEvent.{SemEvent}
 use Rattle.mea_sem_model.specs.declared.event.SemEvent.TheVariants as events
-use Rattle.mea_sem_model.specs.Hall.{Hall, Semaphore, Future, Permit, Stage, New, Waiting, Granted, Who, Waiter, Debt, made_with, semaphore_at, queue_at, with_semaphore, names, lack_of, free, held, paid, owed, pour, wakes_of}
+use Rattle.mea_sem_model.specs.Hall.{Hall, Semaphore, Future, Permit, Stage, New, Waiting, Granted, Cut, Who, Waiter, Debt, made_with, semaphore_at, queue_at, is_closed, with_semaphore, names, lack_of, free, held, paid, owed, pour, wakes_of, closing, wakes_waiting}
 
 -- what an event of semaphores gives
 abbrev pub Outcome : Type 0
@@ -48,17 +48,21 @@ forgetting_exactly r n = record r { free = r.free - min n r.free; queue = with_d
 abbrev pub taking : Semaphore → ℕ → Semaphore
 taking r n = record r { free = r.free - n }
 
+-- whether s is open and has n free permits
+abbrev pub offers : Hall → ℕ → ℕ → Bool
+offers h s n = not (is_closed h s) && nat_le n (free h s)
+
 -- n free permits of s become permit i
 abbrev pub try_of : Hall → ℕ → ℕ → ℕ → Bool → Outcome
 try_of h i s n plain =
-    if nat_le n (free h s)
+    if offers h s n
     then quietly (with_permit (with_semaphore h s (taking (semaphore_at h s) n)) i (record { semaphore = s; size = n; plain = plain })) answers.Held
     else quietly h answers.Lacking
 
 -- n free permits of s are forgotten
 abbrev pub try_and_forget : Hall → ℕ → ℕ → Outcome
 try_and_forget h s n =
-    if nat_le n (free h s)
+    if offers h s n
     then quietly (with_semaphore h s (record (semaphore_at h s) { free = free h s - n; forgotten = (semaphore_at h s).forgotten + n })) answers.Yes
     else quietly h answers.No
 
@@ -80,16 +84,25 @@ queueing h f w x =
     let r = semaphore_at h x.semaphore in
     with_future (with_semaphore h x.semaphore (record r { free = 0; queue = r.queue ++ (Waiter f, x.demand - r.free) ∷ [] })) f (record x { stage = Waiting w })
 
-abbrev pub first_poll : Hall → ℕ → ℕ → ℕ → Future → Outcome
-first_poll h i f w x =
+-- f, whose semaphore is open, is polled for the first time
+abbrev pub open_poll : Hall → ℕ → ℕ → ℕ → Future → Outcome
+open_poll h i f w x =
     if nat_le x.demand (free h x.semaphore)
     then quietly (made_ready (with_semaphore h x.semaphore (taking (semaphore_at h x.semaphore) x.demand)) i f x) answers.Ready
     else quietly (queueing h f w x) answers.Pending
+
+-- f is gone with nothing
+abbrev pub refusing : Hall → ℕ → Outcome
+refusing h f = quietly (without_future h f) answers.Gone
+
+abbrev pub first_poll : Hall → ℕ → ℕ → ℕ → Future → Outcome
+first_poll h i f w x = if is_closed h x.semaphore then refusing h f else open_poll h i f w x
 
 abbrev pub poll_at : Hall → ℕ → ℕ → ℕ → Future → Stage → Outcome
 poll_at h i f w x New = first_poll h i f w x
 poll_at h i f w x (Waiting v) = quietly (with_future h f (record x { stage = Waiting w })) answers.Pending
 poll_at h i f w x Granted = quietly (made_ready h i f x) answers.Ready
+poll_at h i f w x Cut = refusing h f
 
 abbrev pub poll_of : Hall → ℕ → ℕ → ℕ → Option Future → Outcome
 poll_of h i f w None = quietly h answers.Done
@@ -110,6 +123,7 @@ abbrev pub end_future : Hall → ℕ → Future → Stage → Outcome
 end_future h f x New = quietly (without_future h f) answers.Done
 end_future h f x (Waiting w) = pouring (leaving h f x) x.semaphore (x.demand - lack_of (queue_at h x.semaphore) f)
 end_future h f x Granted = pouring (without_future h f) x.semaphore x.demand
+end_future h f x Cut = quietly (without_future h f) answers.Done
 
 abbrev pub end_permit : Hall → ℕ → Option Permit → Outcome
 end_permit h p None = quietly h answers.Done
@@ -158,6 +172,14 @@ ledger_of h s = record {
 abbrev pub released_to : Hall → ℕ → ℕ → Hall
 released_to h s n = with_semaphore h s (record (semaphore_at h s) { released = (semaphore_at h s).released + n })
 
+-- ---- closing
+
+abbrev pub close_of : Hall → ℕ → Outcome
+close_of h s =
+    if is_closed h s
+    then quietly h answers.Done
+    else record { hall = closing h s; reply = answers.Done; wakes = wakes_waiting h s }
+
 -- event number i
 abbrev pub step : Hall → ℕ → SemEvent → Outcome
 step h i (events.New n) = quietly (with_semaphore h i (made_with n)) answers.Made
@@ -181,3 +203,5 @@ step h i (events.Split p n) = split_of h i p n (map.get h.permits p)
 step h i (events.Size p) = quietly h (answers.Permits (size_of (map.get h.permits p)))
 step h i (events.Endsem s) = quietly (with_semaphore h s (record (semaphore_at h s) { named = false })) answers.Done
 step h i (events.Ledger s) = quietly h (answers.Account (ledger_of h s))
+step h i (events.Close s) = close_of h s
+step h i (events.Closed s) = quietly h (if is_closed h s then answers.Yes else answers.No)

@@ -1,10 +1,10 @@
 -- what holds of every hall that events reach
-use Rattle.std.specs.Prelude.{ℕ, ◌≡◌, ◌+◌, ◌<◌, ◌≤◌, ◌^◌, ◌==◌, true, cond, List, [], ◌∷◌, Option, Some, None, IsSome}
+use Rattle.std.specs.Prelude.{ℕ, ◌≡◌, ◌+◌, ◌<◌, ◌≤◌, ◌^◌, ◌==◌, Bool, true, false, cond, List, [], ◌∷◌, Option, Some, None, IsSome}
 use Rattle.std.specs.List.{sum_by}
 use Rattle.std.specs.FinMap as map
 use Rattle.mea_sem_model.specs.declared.event.SemEvent.{SemEvent}
 use Rattle.mea_sem_model.specs.declared.event.SemEvent.TheVariants as events
-use Rattle.mea_sem_model.specs.Hall.{Hall, Future, Permit, Stage, New, Waiting, Granted, Who, Waiter, Debt, semaphore_at, queue_at, names, lack_of, free, held, paid, owed, live, plain_things}
+use Rattle.mea_sem_model.specs.Hall.{Hall, Future, Permit, Stage, New, Waiting, Granted, Cut, Who, Waiter, Debt, semaphore_at, queue_at, is_closed, names, lack_of, free, held, paid, owed, live, plain_things}
 use Rattle.mea_sem_model.specs.Cause.{is_named}
 
 -- how many entries of a queue name a future
@@ -15,6 +15,7 @@ abbrev pub one_if_waiting : Stage → ℕ
 one_if_waiting New = 0
 one_if_waiting (Waiting w) = 1
 one_if_waiting Granted = 0
+one_if_waiting Cut = 0
 
 -- 1 for a future of s that waits, else 0
 abbrev pub waits_at : ℕ → Option Future → ℕ
@@ -38,6 +39,13 @@ HasDebtsFirst [] = Unit {0}
 HasDebtsFirst ((Waiter f, n) ∷ q) = HasNoDebt q
 HasDebtsFirst ((Debt, n) ∷ q) = HasDebtsFirst q
 
+-- a future waits only where its semaphore is open, and is cut only where it is closed
+abbrev pub SuitsClosed : Bool → Stage → Type 0
+SuitsClosed closed New = Unit {0}
+SuitsClosed closed (Waiting w) = closed ≡ false
+SuitsClosed closed Granted = Unit {0}
+SuitsClosed closed Cut = closed ≡ true
+
 pub record IsValid (h : Hall) : Type 0 where
   -- the futures in the queue of s are exactly its waiting futures, each once, and lack at most their demand
   pub once : (s f : ℕ) → count (queue_at h s) f ≡ waits_at s (map.get h.futures f)
@@ -49,6 +57,7 @@ pub record IsValid (h : Hall) : Type 0 where
   pub fits : (s : ℕ) → live h s < 2 ^ 64
   -- a semaphore that has a plain future or a plain permit is named
   pub named : (s : ℕ) → 0 < plain_things h s → is_named h s ≡ true
+  pub closed : (f : ℕ) (x : Future) → map.get h.futures f ≡ Some x → SuitsClosed (is_closed h x.semaphore) x.stage
   -- each future and each permit is of a semaphore of the hall
   pub futures_of : (f : ℕ) (x : Future) → map.get h.futures f ≡ Some x → IsSome (map.get h.semaphores x.semaphore)
   pub permits_of : (p : ℕ) (x : Permit) → map.get h.permits p ≡ Some x → IsSome (map.get h.semaphores x.semaphore)

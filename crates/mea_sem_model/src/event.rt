@@ -45,4 +45,8 @@ pub enum SemEvent {
     Endsem(u64),
     /// `ledger s`: tells the account of a semaphore.
     Ledger(u64),
+    /// `close s`: closes a semaphore; the futures that wait leave its queue.
+    Close(u64),
+    /// `closed s`: tells whether a semaphore is closed.
+    Closed(u64),
 }

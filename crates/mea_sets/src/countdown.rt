@@ -64,6 +64,13 @@ impl<W: Drop> Countdown<W> {
         self.waiting.len()
     }
 
+    /// Whether the slot names a waker that is registered. It takes no memory.
+    pub fn is_registered(&self, slot: &Option<Place>) -> bool
+        ensures { result ≡ is_registered self.now.count.waiting slot.now }
+    {
+        self.waiting.is_registered(slot)
+    }
+
     /// How many wakers are registered once one is registered under the slot; None where that passes its
     /// type. It takes no memory.
     pub fn registered_with(&self, slot: &Option<Place>) -> Option<usize>

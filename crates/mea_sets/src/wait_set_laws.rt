@@ -5,8 +5,10 @@ ghost use Rattle.mea_sets.specs.WaitSet.{Registered, Follows, pairs_of, is_regis
 /// A set is the list of its pairs of a number and a waker: a registration replaces the waker of the pair
 /// that the slot names, or else appends a pair.
 pub fn a_set_is_its_pairs<W>()
-    ensures replaced { (s : Registered W) (place : Place) (w : W) → is_registered s (Some place) ≡ true → pairs_of (with_waker s (Some place) w) ≡ slice_set (pairs_of s) place.index (place, w) }
-    ensures appended { (s : Registered W) (slot : Option Place) (w : W) → is_registered s slot ≡ false → pairs_of (with_waker s slot w) ≡ pairs_of s ++ (fresh_place s, w) ∷ [] }
+    ensures replaced { (s : Registered W) (place : Place) (w : W) → is_registered s (Some place) ≡ true
+        → pairs_of (with_waker s (Some place) w) ≡ slice_set (pairs_of s) place.index (place, w) }
+    ensures appended { (s : Registered W) (slot : Option Place) (w : W) → is_registered s slot ≡ false
+        → pairs_of (with_waker s slot w) ≡ pairs_of s ++ (fresh_place s, w) ∷ [] }
 {}
 
 /// The number of a registration never repeats, so that a waker that an ended wait has left is never

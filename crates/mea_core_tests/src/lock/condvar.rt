@@ -1,5 +1,5 @@
 use crate::lock::Told;
-use mea_lock::{CondWait, CondvarCore, MutexCore, WaitWhile};
+use mea_lock_core::{CondWait, CondvarCore, MutexCore, WaitWhile};
 use std::mem;
 use std::test::Fail;
 
@@ -18,6 +18,8 @@ enum RoomCall {
     Unlock,
     PollFirst(u64),
     PollSecond(u64),
+    // By the call that asks for a wait that may be polled.
+    PollAllowed(u64),
     EndFirst,
     NotifyOne,
     NotifyAll,
@@ -60,6 +62,16 @@ impl Room {
         Ok(Told::of(&turn))
     }
 
+    fn poll_allowed(&mut self, waker: u64) -> Result<Told, Fail> {
+        if !self.condvar.poll_wait_allowed(&self.lock, &self.first) {
+            return Ok(Told::No);
+        }
+        let turn = self
+            .condvar
+            .poll_wait(&mut self.lock, &mut self.first, waker)?;
+        Ok(Told::of(&turn))
+    }
+
     fn end_first(&mut self) -> Told {
         let ended = mem::replace(&mut self.first, CondWait::new());
         self.condvar.end_wait_checked(&mut self.lock, ended);
@@ -82,6 +94,7 @@ impl Room {
             }
             RoomCall::PollFirst(waker) => self.poll_first(waker),
             RoomCall::PollSecond(waker) => self.poll_second(waker),
+            RoomCall::PollAllowed(waker) => self.poll_allowed(waker),
             RoomCall::EndFirst => Ok(self.end_first()),
             RoomCall::NotifyOne | RoomCall::NotifyAll | RoomCall::NextWake => {
                 Ok(self.notified(call))
@@ -243,19 +256,92 @@ fn waits_while_below(rt: HostRuntime) -> Result<(), Fail> {
     Ok(())
 }
 
-// What a wait is told that has to queue.
-pub(super) fn queued(rt: &HostRuntime) -> Result<Told, Fail> {
-    let mut room = Room::new(rt);
-    room.lock_told(RoomCall::TryLock);
-    room.poll_first(10)
+// A wait finds memory in each stage: new, waiting, notified while the lock is held, and asking for the lock.
+#[test]
+fn every_stage(rt: HostRuntime) -> Result<(), Fail> {
+    let table = [
+        (RoomCall::TryLock, Told::Yes),
+        (RoomCall::PollAllowed(10), Told::Pending),
+        (RoomCall::PollAllowed(11), Told::Pending),
+        (RoomCall::TryLock, Told::Yes),
+        (RoomCall::NotifyOne, Told::Done),
+        (RoomCall::PollAllowed(12), Told::Pending),
+        (RoomCall::PollAllowed(13), Told::Pending),
+        (RoomCall::Unlock, Told::Done),
+        (RoomCall::PollAllowed(14), Told::Ready),
+        (RoomCall::PollAllowed(15), Told::No),
+        (RoomCall::PollFirst(16), Told::Pending),
+        (RoomCall::Unlock, Told::Done),
+        (RoomCall::PollFirst(17), Told::Ready),
+    ];
+    assert_eq!(rt; differs_at(&rt, &table)?, None);
+    let table = [
+        (RoomCall::TryLock, Told::Yes),
+        (RoomCall::PollFirst(10), Told::Pending),
+        (RoomCall::PollFirst(11), Told::Pending),
+        (RoomCall::TryLock, Told::Yes),
+        (RoomCall::NotifyOne, Told::Done),
+        (RoomCall::PollFirst(12), Told::Pending),
+        (RoomCall::PollFirst(13), Told::Pending),
+        (RoomCall::Unlock, Told::Done),
+        (RoomCall::PollFirst(14), Told::Ready),
+    ];
+    assert_eq!(rt; differs_at(&rt, &table)?, None);
+    Ok(())
 }
 
-// What a wait with a condition is told that has to queue, and is ended then.
-pub(super) fn queued_while(rt: &HostRuntime) -> Result<Told, Fail> {
+// A poll of a wait with a condition, by the call that asks for a wait that may be polled or by the one that
+// asks for nothing.
+fn while_polled<F: FnMut(&mut u64) -> bool>(
+    room: &mut Room,
+    wait: &mut WaitWhile<F>,
+    waker: u64,
+    checked: bool,
+) -> Result<Told, Fail>
+    requires { F.IsAlwaysCallable wait.old.condition }
+    ensures { F.IsAlwaysCallable wait.new.condition }
+{
+    if checked || !room.condvar.poll_while_allowed(&room.lock, wait) {
+        return while_told(room, wait, waker);
+    }
+    let turn = room.condvar.poll_while(&mut room.lock, wait, waker)?;
+    Ok(Told::of(&turn))
+}
+
+// What a wait with a condition is told in each stage: new, waiting, notified while the lock is held, asking
+// for the lock, and holding it, first where the condition holds and then where it does not.
+fn while_stages(rt: &HostRuntime, checked: bool) -> Result<Option<usize>, Fail> {
     let mut room = Room::new(rt);
-    room.lock_told(RoomCall::TryLock);
-    let mut wait = WaitWhile::new(|_value: &mut u64| true);
-    let told = while_told(&mut room, &mut wait, 10)?;
+    let mut wait = WaitWhile::new(|value: &mut u64| *value < 3);
+    let stages = [
+        (RoomCall::TryLock, Told::Yes, Told::Pending),
+        (RoomCall::NextWake, Told::No, Told::Pending),
+        (RoomCall::NotifyOne, Told::Done, Told::Pending),
+        (RoomCall::TryLock, Told::Yes, Told::Pending),
+        (RoomCall::NotifyOne, Told::Done, Told::Pending),
+        (RoomCall::NextLockWake, Told::No, Told::Pending),
+        (RoomCall::Unlock, Told::Done, Told::Pending),
+    ];
+    for (place, &(call, before, told)) in stages.iter().enumerate() {
+        if room.told(call)? != before {
+            return Ok(Some(place));
+        }
+        if while_polled(&mut room, &mut wait, 20, checked)? != told {
+            return Ok(Some(place));
+        }
+    }
+    writes(&mut room, 3);
+    if while_polled(&mut room, &mut wait, 21, checked)? != Told::Ready {
+        return Ok(Some(stages.len()));
+    }
     room.condvar.end_while_checked(&mut room.lock, wait);
-    Ok(told)
+    Ok(None)
+}
+
+// A wait with a condition finds memory in each stage.
+#[test]
+fn every_stage_of_a_while(rt: HostRuntime) -> Result<(), Fail> {
+    assert_eq!(rt; while_stages(&rt, false)?, None);
+    assert_eq!(rt; while_stages(&rt, true)?, None);
+    Ok(())
 }

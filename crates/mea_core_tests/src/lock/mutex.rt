@@ -1,5 +1,5 @@
 use crate::lock::Told;
-use mea_lock::{LockWait, MutexCore};
+use mea_lock_core::{LockWait, MutexCore};
 use std::test::Fail;
 
 // A call of a mutex with one wait.
@@ -78,12 +78,17 @@ fn mutex_gives_out(rt: HostRuntime) -> Result<(), Fail> {
     Ok(())
 }
 
-// What a wait is told that has to queue, and is ended then.
-pub(super) fn queued(rt: &HostRuntime) -> Result<Told, Fail> {
+// What a wait is told that has to queue, by the call that asks for one that may be polled or by the one that
+// asks for nothing; it is ended then.
+pub(super) fn queued(rt: &HostRuntime, checked: bool) -> Result<Told, Fail> {
     let mut lock: MutexCore<u64, u64> = MutexCore::new(rt.alloc(), 5);
     lock.try_lock();
     let mut wait = LockWait::new();
-    let turn = lock.poll_checked(&mut wait, 9)?;
+    let turn = if !checked && lock.poll_allowed(&wait) {
+        lock.poll(&mut wait, 9)?
+    } else {
+        lock.poll_checked(&mut wait, 9)?
+    };
     lock.cancel_checked(wait);
     Ok(Told::of(&turn))
 }

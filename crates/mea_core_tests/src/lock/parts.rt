@@ -1,7 +1,7 @@
 ghost use Rattle.std.specs.Prelude.{Some, refl, slice_get};
 ghost use Rattle.std.specs.Vec.{with_item};
 
-use mea_lock::{Part, Then, with_part, with_part_mut};
+use mea_lock_core::{Part, Then, with_part, with_part_mut};
 use std::test::Fail;
 
 // A name and a list of counts.
@@ -16,6 +16,8 @@ struct Tally {
 struct Counts;
 
 impl Part<Tally> for Counts {
+    ghost use Rattle.mea_core_tests.specs.FirstItem.{same_value};
+
     type Out = Vec<u64>;
 
     ghost get = { λ p x. Some x.counts };
@@ -37,6 +39,8 @@ impl Part<Tally> for Counts {
     }
 
     ghost stays = { λ p x y h. refl };
+
+    ghost rests = { λ p x y h. λ i. record x { counts = same_value x.counts y h i } };
 }
 
 // The first item of a list.
@@ -44,7 +48,7 @@ impl Part<Tally> for Counts {
 struct First;
 
 impl<T> Part<Vec<T>> for First {
-    ghost use Rattle.mea_core_tests.specs.FirstItem.{first_stays};
+    ghost use Rattle.mea_core_tests.specs.FirstItem.{first_stays, first_rests};
 
     type Out = T;
 
@@ -67,6 +71,8 @@ impl<T> Part<Vec<T>> for First {
     }
 
     ghost stays = { λ p x y h. first_stays x.items y h };
+
+    ghost rests = { λ p x y h. first_rests x y h };
 }
 
 // A part is read and written where it is there, and nothing happens where it is not.

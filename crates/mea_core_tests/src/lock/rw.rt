@@ -1,5 +1,5 @@
 use crate::lock::Told;
-use mea_lock::{RwCore, RwWait};
+use mea_lock_core::{RwCore, RwWait};
 use std::test::Fail;
 
 // A call of a reader-writer lock with one wait for a write.
@@ -86,12 +86,28 @@ fn rw_gives_out(rt: HostRuntime) -> Result<(), Fail> {
     Ok(())
 }
 
-// What a write is told that has to queue, and is ended then.
-pub(super) fn queued(rt: &HostRuntime) -> Result<Told, Fail> {
-    let mut lock: RwCore<u64, u64> = RwCore::new(rt.alloc(), 7, 2);
-    lock.try_read();
-    let mut wait = RwWait::write();
-    let turn = lock.poll_checked(&mut wait, 5)?;
+// What a wait is told that has to queue, by the call that asks for one that may be polled or by the one that
+// asks for nothing; it is ended then.
+fn queued(lock: &mut RwCore<u64, u64>, mut wait: RwWait, checked: bool) -> Result<Told, Fail> {
+    let turn = if !checked && lock.poll_allowed(&wait) {
+        lock.poll(&mut wait, 5)?
+    } else {
+        lock.poll_checked(&mut wait, 5)?
+    };
     lock.cancel_checked(wait);
     Ok(Told::of(&turn))
+}
+
+// A write that has to queue behind a read.
+pub(super) fn queued_write(rt: &HostRuntime, checked: bool) -> Result<Told, Fail> {
+    let mut lock: RwCore<u64, u64> = RwCore::new(rt.alloc(), 7, 2);
+    lock.try_read();
+    queued(&mut lock, RwWait::write(), checked)
+}
+
+// A read that has to queue behind a write.
+pub(super) fn queued_read(rt: &HostRuntime, checked: bool) -> Result<Told, Fail> {
+    let mut lock: RwCore<u64, u64> = RwCore::new(rt.alloc(), 7, 2);
+    lock.try_write();
+    queued(&mut lock, RwWait::read(), checked)
 }

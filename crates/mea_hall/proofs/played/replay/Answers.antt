@@ -1,7 +1,7 @@
 use Rattle.std.proofs.Common.{length, ◌+◌, arith, ap, ◌∙◌, inr, Err}
 use Rattle.std.proofs.lemmas.Grind.{common_steps}
 use Rattle.mea_hall.proofs.Fronts.{front_step, front_stops, legal_ends, stopped_at}
-use Rattle.mea_hall.proofs.Histories.{played_balances, played_wakes}
+use Rattle.mea_hall.proofs.Histories.{played_balances, played_wakes, played_orders}
 use Rattle.mea_hall.proofs.played.replay.Goals as goal
 
 pub returns-in-Err-clause-caused : goal.returns-in-Err-clause-caused
@@ -27,8 +27,8 @@ loop-event-preserved c =
 
 pub returns-in-Err-clause-refused : goal.returns-in-Err-clause-refused
 returns-in-Err-clause-refused c = λ other.
-    stopped_at c.args.events.now c.loop-event.event-index _ c.play.new.hall.world c.loop-event.hall.world c.in-Err.stop
-    (length c.play.new.replies.replies) c.loop-event-test.true
+    stopped_at c.args.events.now c.loop-event.event-index _ c.play_next.new.hall.world c.loop-event.hall.world c.in-Err.stop
+    (length c.play_next.new.replies.replies) c.loop-event-test.true
     (ap length c.in-Err.ensures.err.1 ∙ c.loop-event.invariant.replied) (ap (λ p. p.world) c.in-Err.ensures.err.0) (c.in-Err.ensures.refused other)
 
 pub returns-in-Err-clause-balance : goal.returns-in-Err-clause-balance
@@ -46,3 +46,11 @@ returns-in-Err-clause-woken c =
 pub returns-clause-woken : goal.returns-clause-woken
 returns-clause-woken c =
     played_wakes c.args.events.now c.loop-event.event-index c.loop-event.hall.world c.loop-event.replies.replies c.loop-event.invariant.played c.loop-event.invariant.replied
+
+pub returns-in-Err-clause-order : goal.returns-in-Err-clause-order
+returns-in-Err-clause-order c =
+    rw c.in-Err.ensures.err.1 (played_orders c.args.events.now c.loop-event.event-index c.loop-event.hall.world c.loop-event.replies.replies c.loop-event.invariant.played c.loop-event.invariant.replied)
+
+pub returns-clause-order : goal.returns-clause-order
+returns-clause-order c =
+    played_orders c.args.events.now c.loop-event.event-index c.loop-event.hall.world c.loop-event.replies.replies c.loop-event.invariant.played c.loop-event.invariant.replied

@@ -1,8 +1,11 @@
-use Rattle.mea_sem_model.proofs.SmallLaws.{end_new, end_waiting, end_granted, leaves_with, end_conserves}
+use Rattle.mea_sem_model.proofs.SmallLaws.{end_new, end_cut, end_waiting, end_granted, leaves_with, end_conserves}
 use Rattle.mea_sem_model.proofs.semaphore_laws.an_end_gives_back_what_was_paid.Goals as goal
 
 pub returns-clause-new : goal.returns-clause-new
 returns-clause-new c = λ h i f x is unpolled. end_new h i f x is unpolled
+
+pub returns-clause-cut : goal.returns-clause-cut
+returns-clause-cut c = λ h i f x is cut. end_cut h i f x is cut
 
 pub returns-clause-waiting : goal.returns-clause-waiting
 returns-clause-waiting c = λ h i f x is w waits. end_waiting h i f x is w waits

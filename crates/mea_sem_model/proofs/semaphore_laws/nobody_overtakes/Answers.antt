@@ -11,4 +11,4 @@ pub returns-clause-forgetting : goal.returns-clause-forgetting
 returns-clause-forgetting c = λ h v s n waited some. forgetting_try_waits h v s n waited some
 
 pub returns-clause-polls : goal.returns-clause-polls
-returns-clause-polls c = λ h v i f w x is unpolled waited some. first_poll_waits h v i f w x is unpolled waited some
+returns-clause-polls c = λ h v i f w x is unpolled open_still waited some. first_poll_waits h v i f w x is unpolled open_still waited some

@@ -1,6 +1,6 @@
 use Rattle.std.proofs.Common.{sym, ap, ◌∙◌, arith}
 use Rattle.mea_base.specs.WaitListLinks.{prev_of, value_of}
-use Rattle.mea_base.proofs.WaitLinks.{any_key, view_at, updates_view, sentinel_new, linked-le-nodes, length-order, after_tail, last_node}
+use Rattle.mea_base.proofs.WaitLinks.{any_key, view_at, updates_view, sound_view, sentinel_new, linked-le-nodes, length-order, after_tail, last_node}
 use Rattle.mea_base.proofs.wait_list.WaitList.push_tail_reserved.Goals as goal
 
 pub insert_between-number-requires-clause-prev : goal.insert_between-number-requires-clause-prev
@@ -41,3 +41,8 @@ returns-clause-order g c =
     let made = c.self.invariant.sentinel (rw (← c.self.view_is) at c.requires) in
     rw (← c.self.view_is) (after_tail c.self.inside.nodes c.insert_between-number.new.nodes c.self.inside.len c.self.invariant.ring made _ _ _
     (ap prev_of (sym c.index.ensures)) c.insert_between-number.ensures).order
+
+pub returns-clause-sound : goal.returns-clause-sound
+returns-clause-sound g c =
+    let kept = invariant_of-self g c in
+    sound_view c.insert_between-number.new.nodes.slots _ _ kept.ring (omega (arith, kept.fits))

@@ -8,7 +8,7 @@ use Rattle.mea_meet.proofs.barriers.BarrierHall.wait.Goals as goal
 
 pub invariant_of-self : goal.invariant_of-self
 invariant_of-self c = subst (λ (ws : List (ℕ × BarrierWaitEntry)). IsKept (store_of c.self.inside.barriers.entries ws) c.self.inside.next)
-    (sym c.in-Err.ensures.err) c.self.invariant
+    (sym c.in_err-insert.ensures.err) c.self.invariant
 
 pub overflow_add-entry : goal.overflow_add-entry
 overflow_add-entry c =
@@ -26,11 +26,11 @@ invariant_of-self-2 c = (makes.waits_new c.self.inside c.args.self.now c.args.nu
     c.args.b c.in-Some.entry.now (sym c.get_mut.ensures.value ∙ ap option_copied_mut c.in-Some.is)
     _ _ (record { barrier = c.args.b; wait = c.new.result })
     ((c.get_mut.follows.holds (record c.in-Some.entry.now { waits = c.in-Some.entry.now.waits + 1 })).3
-    (search rules)).0 c.in-Ok.ensures.updates.0 refl c.new.ensures).kept
+    (search rules)).0 c.in_ok-insert.ensures.updates.0 refl c.new.ensures).kept
 
 pub returns-clause-rests : goal.returns-clause-rests
 returns-clause-rests c = (makes.waits_new c.self.inside c.args.self.now c.args.number c.self.view_is c.self.invariant c.requires.next (omega arith)
     c.args.b c.in-Some.entry.now (sym c.get_mut.ensures.value ∙ ap option_copied_mut c.in-Some.is)
     _ _ (record { barrier = c.args.b; wait = c.new.result })
     ((c.get_mut.follows.holds (record c.in-Some.entry.now { waits = c.in-Some.entry.now.waits + 1 })).3
-    (search rules)).0 c.in-Ok.ensures.updates.0 refl c.new.ensures).rests
+    (search rules)).0 c.in_ok-insert.ensures.updates.0 refl c.new.ensures).rests

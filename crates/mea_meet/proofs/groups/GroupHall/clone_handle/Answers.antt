@@ -28,12 +28,12 @@ pub invariant_of-self-2 : goal.invariant_of-self-2
 invariant_of-self-2 c = (clones c.self.inside c.args.self.now c.args.number c.self.view_is c.self.invariant c.requires.next (omega arith)
     c.in-Some.field-0.now c.in-Some-get_mut.entry.now
     (sym c.get_mut.ensures.value ∙ ap option_copied_mut c.in-Some-get_mut.is) c.args.k (sym c.get.ensures.value ∙ ap option_copied c.in-Some.is)
-    _ _ c.in-Ok.ensures.updates.0 c.add.new.self
+    _ _ c.in_ok-insert.ensures.updates.0 c.add.new.self
     ((c.get_mut.follows.holds c.add.new.self).3 (search rules)).0 c.add.ensures).kept
 
 pub returns-clause-rests : goal.returns-clause-rests
 returns-clause-rests c = (clones c.self.inside c.args.self.now c.args.number c.self.view_is c.self.invariant c.requires.next (omega arith)
     c.in-Some.field-0.now c.in-Some-get_mut.entry.now
     (sym c.get_mut.ensures.value ∙ ap option_copied_mut c.in-Some-get_mut.is) c.args.k (sym c.get.ensures.value ∙ ap option_copied c.in-Some.is)
-    _ _ c.in-Ok.ensures.updates.0 c.add.new.self
+    _ _ c.in_ok-insert.ensures.updates.0 c.add.new.self
     ((c.get_mut.follows.holds c.add.new.self).3 (search rules)).0 c.add.ensures).rests

@@ -12,7 +12,7 @@ unreachable-requires c = wait_found c.self.inside c.args.self.now c.self.view_is
 
 pub invariant_of-self : goal.invariant_of-self
 invariant_of-self c = subst (λ (ws : List (ℕ × GroupWaitEntry)). IsKept (store_of c.self.inside.groups.entries c.self.inside.handles.entries ws)
-    c.self.inside.next) (sym c.in-Err.ensures.err) c.self.invariant
+    c.self.inside.next) (sym c.in_err-insert.ensures.err) c.self.invariant
 
 pub unreachable-requires-in_default-get_mut : goal.unreachable-requires-in_default-get_mut
 unreachable-requires-in_default-get_mut c = group_of_wait c.self.inside c.args.self.now c.self.view_is c.self.invariant c.args.f c.in-Some.future.now
@@ -30,7 +30,7 @@ pub invariant_of-self-2 : goal.invariant_of-self-2
 invariant_of-self-2 c = (copies c.self.inside c.args.self.now c.args.number c.self.view_is c.self.invariant c.requires.next (omega arith)
     c.in-Some.future.now.group c.in-Some-get_mut.entry.now
     (sym c.get_mut.ensures.value ∙ ap option_copied_mut c.in-Some-get_mut.is) _ (record { group = c.in-Some.future.now.group; wait = c.new.result })
-    c.in-Ok.ensures.updates.0 refl c.new.ensures _
+    c.in_ok-insert.ensures.updates.0 refl c.new.ensures _
     ((c.get_mut.follows.holds (record c.in-Some-get_mut.entry.now { waits = c.in-Some-get_mut.entry.now.waits + 1 })).3
     (search rules)).0 c.args.f c.in-Some.future.now
     (sym c.get.ensures.value ∙ ap option_copied c.in-Some.is) refl).kept
@@ -39,7 +39,7 @@ pub returns-clause-rests : goal.returns-clause-rests
 returns-clause-rests c = (copies c.self.inside c.args.self.now c.args.number c.self.view_is c.self.invariant c.requires.next (omega arith)
     c.in-Some.future.now.group c.in-Some-get_mut.entry.now
     (sym c.get_mut.ensures.value ∙ ap option_copied_mut c.in-Some-get_mut.is) _ (record { group = c.in-Some.future.now.group; wait = c.new.result })
-    c.in-Ok.ensures.updates.0 refl c.new.ensures _
+    c.in_ok-insert.ensures.updates.0 refl c.new.ensures _
     ((c.get_mut.follows.holds (record c.in-Some-get_mut.entry.now { waits = c.in-Some-get_mut.entry.now.waits + 1 })).3
     (search rules)).0 c.args.f c.in-Some.future.now
     (sym c.get.ensures.value ∙ ap option_copied c.in-Some.is) refl).rests

@@ -1,6 +1,6 @@
-use Rattle.std.proofs.Common.{rules, ℕ, ◌+◌, ◌<◌, ◌^◌, List, refl, sym, subst, ap, ◌∙◌, arith}
+use Rattle.std.proofs.Common.{rules, ℕ, ◌+◌, ◌<◌, ◌^◌, List, Result, Ok, Err, OnErr, refl, sym, subst, ap, ◌∙◌, arith}
 use Rattle.std.specs.Option.{option_copied, option_copied_mut}
-use Rattle.mea_meet.specs.GroupHall.{store_of, IsKept}
+use Rattle.mea_meet.specs.GroupHall.{store_of, groups_of, IsKept}
 use Rattle.mea_meet.specs.declared.groups.GroupWaitEntry.{GroupWaitEntry}
 use Rattle.mea_meet.proofs.GroupStores.{handle_found, group_of_handle, room}
 use Rattle.mea_meet.proofs.GroupPlays.{few_waits, quiet, lives, turns}
@@ -12,7 +12,18 @@ unreachable-requires c = handle_found c.self.inside c.args.self.now c.self.view_
 
 pub invariant_of-self : goal.invariant_of-self
 invariant_of-self c = subst (λ (ws : List (ℕ × GroupWaitEntry)). IsKept (store_of c.self.inside.groups.entries c.self.inside.handles.entries ws)
-    c.self.inside.next) (sym c.in-Err.ensures.err) c.self.invariant
+    c.self.inside.next) (sym c.in_err-insert.ensures.err) c.self.invariant
+
+on_err : {A E : Type 0} (r : Result A E) (P : Type 0) → P → OnErr r P
+on_err (Ok a) P p = tt
+on_err (Err e) P p = p
+
+pub returns-in_err-insert-clause-err : goal.returns-in_err-insert-clause-err
+returns-in_err-insert-clause-err c = on_err c.from_residual.result _ (
+  ap (λ (ws : List (ℕ × GroupWaitEntry)). record { hall = groups_of (store_of c.self.inside.groups.entries c.self.inside.handles.entries ws) c.self.inside.next; next = c.self.inside.next })
+      c.in_err-insert.ensures.err ∙ c.self.view_is,
+  refl,
+)
 
 pub unreachable-requires-in_default-get_mut : goal.unreachable-requires-in_default-get_mut
 unreachable-requires-in_default-get_mut c =
@@ -48,7 +59,7 @@ invariant_of-self-2 c = (turns c.self.inside c.args.self.now c.args.number c.sel
     c.in-Some.field-0.now c.in-Some-get_mut.entry.now
     (sym c.get_mut.ensures.value ∙ ap option_copied_mut c.in-Some-get_mut.is) c.args.k (sym c.get.ensures.value ∙ ap option_copied c.in-Some.is)
     _ c.remove-gone.ensures.updates.0 _ _
-    (record { group = c.in-Some.field-0.now; wait = c.new.result }) c.in-Ok.ensures.updates.0 refl c.new.ensures c.leave.new.self c.leave.ensures.left
+    (record { group = c.in-Some.field-0.now; wait = c.new.result }) c.in_ok-insert.ensures.updates.0 refl c.new.ensures c.leave.new.self c.leave.ensures.left
     ((c.get_mut.follows.holds c.leave.new.self).3 (search rules)).0
     c.args.ready.now c.leave.new.ready c.leave.ensures.woken c.leave.ensures.counted).kept
 
@@ -57,6 +68,6 @@ returns-clause-played c = (turns c.self.inside c.args.self.now c.args.number c.s
     c.in-Some.field-0.now c.in-Some-get_mut.entry.now
     (sym c.get_mut.ensures.value ∙ ap option_copied_mut c.in-Some-get_mut.is) c.args.k (sym c.get.ensures.value ∙ ap option_copied c.in-Some.is)
     _ c.remove-gone.ensures.updates.0 _ _
-    (record { group = c.in-Some.field-0.now; wait = c.new.result }) c.in-Ok.ensures.updates.0 refl c.new.ensures c.leave.new.self c.leave.ensures.left
+    (record { group = c.in-Some.field-0.now; wait = c.new.result }) c.in_ok-insert.ensures.updates.0 refl c.new.ensures c.leave.new.self c.leave.ensures.left
     ((c.get_mut.follows.holds c.leave.new.self).3 (search rules)).0
     c.args.ready.now c.leave.new.ready c.leave.ensures.woken c.leave.ensures.counted).yields

@@ -52,7 +52,7 @@ invariant_of-self-2 c =
     (kept-puts-as c.self.inside.shutdowns.entries _ c.args.s c.add_receiver.new.self _
     ((c.get_mut.follows.holds c.add_receiver.new.self).3 (search rules)).0 c.add_receiver.ensures)
     (kept-puts c.self.inside.receivers.entries _ c.args.number (Some (record { shutdown = c.args.s; watch = c.args.watch; plain = 0 }))
-    c.in-Ok.ensures.updates.0)).kept
+    c.in_ok-insert.ensures.updates.0)).kept
 
 pub returns-clause-rests : goal.returns-clause-rests
 returns-clause-rests c =
@@ -65,4 +65,4 @@ returns-clause-rests c =
     (kept-puts-as c.self.inside.shutdowns.entries _ c.args.s c.add_receiver.new.self _
     ((c.get_mut.follows.holds c.add_receiver.new.self).3 (search rules)).0 c.add_receiver.ensures)
     (kept-puts c.self.inside.receivers.entries _ c.args.number (Some (record { shutdown = c.args.s; watch = c.args.watch; plain = 0 }))
-    c.in-Ok.ensures.updates.0)) refl)
+    c.in_ok-insert.ensures.updates.0)) refl)

@@ -39,7 +39,7 @@ invariant_of-self-2 c =
     (rw (← c.self.view_is) at c.requires.next) (omega arith) there
     (kept-puts c.self.inside.shutdowns.entries _ c.in-Some.sender.now (Some (record e { things = e.things + 1 }))
     ((c.get_mut.follows.holds (record e { things = e.things + 1 })).3 (search rules)).0)
-    (kept-puts c.self.inside.senders.entries _ c.args.number (Some c.in-Some.sender.now) c.in-Ok.ensures.updates.0)).kept
+    (kept-puts c.self.inside.senders.entries _ c.args.number (Some c.in-Some.sender.now) c.in_ok-insert.ensures.updates.0)).kept
 
 pub returns-clause-rests : goal.returns-clause-rests
 returns-clause-rests c =
@@ -53,5 +53,5 @@ returns-clause-rests c =
     (rw (← c.self.view_is) at c.requires.next) (omega arith) there
     (kept-puts c.self.inside.shutdowns.entries _ c.in-Some.sender.now (Some (record e { things = e.things + 1 }))
     ((c.get_mut.follows.holds (record e { things = e.things + 1 })).3 (search rules)).0)
-    (kept-puts c.self.inside.senders.entries _ c.args.number (Some c.in-Some.sender.now) c.in-Ok.ensures.updates.0))
+    (kept-puts c.self.inside.senders.entries _ c.args.number (Some c.in-Some.sender.now) c.in_ok-insert.ensures.updates.0))
     (ap (copy_sender_of (hall_of (kept_in c.self.inside) c.self.inside.next) c.args.number) is))

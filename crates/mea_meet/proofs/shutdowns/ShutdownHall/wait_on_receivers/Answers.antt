@@ -22,7 +22,7 @@ unreachable-requires c =
 pub invariant_of-self : goal.invariant_of-self
 invariant_of-self c = subst (λ (ws : List (ℕ × ShutdownWaitEntry)). IsKept
     (store_of c.self.inside.shutdowns.entries c.self.inside.senders.entries c.self.inside.receivers.entries ws) c.self.inside.next)
-    (sym c.in-Err.ensures.err) c.self.invariant
+    (sym c.in_err-insert.ensures.err) c.self.invariant
 
 pub invariant_of-self-2 : goal.invariant_of-self-2
 invariant_of-self-2 c =
@@ -33,7 +33,7 @@ invariant_of-self-2 c =
     (rw (← c.self.view_is) at c.requires.next) (omega arith) found.1 is
     (kept-puts c.self.inside.senders.entries _ c.args.k None c.remove-sender.ensures.updates.0)
     (kept-puts-as c.self.inside.waits.entries _ c.args.number (record { shutdown = c.in-Some.sender.now; wait = waits.Receivers c.new.result })
-    _ c.in-Ok.ensures.updates.0 (λ j. record { shutdown = c.in-Some.sender.now; wait = waits.Receivers (c.new.ensures j) }))).kept
+    _ c.in_ok-insert.ensures.updates.0 (λ j. record { shutdown = c.in-Some.sender.now; wait = waits.Receivers (c.new.ensures j) }))).kept
 
 pub returns-clause-rests : goal.returns-clause-rests
 returns-clause-rests c =
@@ -45,5 +45,5 @@ returns-clause-rests c =
     (rw (← c.self.view_is) at c.requires.next) (omega arith) found.1 is
     (kept-puts c.self.inside.senders.entries _ c.args.k None c.remove-sender.ensures.updates.0)
     (kept-puts-as c.self.inside.waits.entries _ c.args.number (record { shutdown = c.in-Some.sender.now; wait = waits.Receivers c.new.result })
-    _ c.in-Ok.ensures.updates.0 (λ j. record { shutdown = c.in-Some.sender.now; wait = waits.Receivers (c.new.ensures j) })))
+    _ c.in_ok-insert.ensures.updates.0 (λ j. record { shutdown = c.in-Some.sender.now; wait = waits.Receivers (c.new.ensures j) })))
     (ap (await_of (hall_of (kept_in c.self.inside) c.self.inside.next) c.args.number c.args.k) is))

@@ -1,7 +1,7 @@
 use Rattle.std.proofs.Common.{true, false, sym, ap, ◌∙◌, arith}
 use Rattle.std.specs.Option.{option_copied}
 use Rattle.mea_sem.proofs.Meets.{MeetsFuture}
-use Rattle.mea_sem.proofs.StandingFutures.{polled_found, semaphore_found, its_belongs, forgets_as, replies_ready, replies_pending}
+use Rattle.mea_sem.proofs.StandingFutures.{polled_found, semaphore_found, its_belongs, forgets_as, replies_ready, replies_gone, replies_pending}
 use Rattle.mea_sem.proofs.StandingWaits.{is_new_stage, is_waiting_stage}
 use Rattle.mea_sem.proofs.hall.SemHall.poll.Goals as goal
 use Rattle.mea_sem.proofs.hall.SemHall.poll.Goals.{In-Some-get}
@@ -23,7 +23,9 @@ unreachable-requires-in_default-get c =
     (sym c.get-2.ensures.value ∙ ap option_copied c.in_default-get.is)
 
 pub is_ready-ready-requires : goal.is_ready-ready-requires
-is_ready-ready-requires c = (its_belongs (met (goal.at.is_ready-ready-requires c).In-Some-get)).0
+is_ready-ready-requires c =
+    let home = its_belongs (met (goal.at.is_ready-ready-requires c).In-Some-get) in
+    record { belongs = home.0; is_open = home.1 }
 
 pub finish_forgetting-requires-clause-ready : goal.finish_forgetting-requires-clause-ready
 finish_forgetting-requires-clause-ready c =
@@ -40,10 +42,15 @@ finish-requires-clause-ready c =
 pub finish-requires-clause-keeps : goal.finish-requires-clause-keeps
 finish-requires-clause-keeps c = forgets_as (met (goal.at.finish-requires-clause-keeps c).In-Some-get) false c.if-forgets.false
 
+pub refuse-requires-clause-gone : goal.refuse-requires-clause-gone
+refuse-requires-clause-gone c =
+    replies_gone (met (goal.at.refuse-requires-clause-gone c).In-Some-get) c.args.waker
+    (c.is_ready-ready.ensures.refused c.if-ready.false (sym c.is_closed-closed.ensures.is ∙ c.if-closed.true))
+
 pub queue-requires-clause-pending : goal.queue-requires-clause-pending
 queue-requires-clause-pending c =
     replies_pending (met (goal.at.queue-requires-clause-pending c).In-Some-get) c.args.waker
-    (c.is_ready-ready.ensures.waits c.if-ready.false)
+    (c.is_ready-ready.ensures.waits c.if-ready.false (sym c.is_closed-closed.ensures.is ∙ c.if-closed.false))
 
 pub queue-requires-clause-new : goal.queue-requires-clause-new
 queue-requires-clause-new c =
@@ -53,4 +60,4 @@ queue-requires-clause-new c =
 pub wait_on-requires-clause-waits : goal.wait_on-requires-clause-waits
 wait_on-requires-clause-waits c =
     is_waiting_stage (met (goal.at.wait_on-requires-clause-waits c).In-Some-get) (c.is_new-new.ensures.polled c.if-new.false)
-    (c.is_ready-ready.ensures.waits c.if-ready.false)
+    (c.is_ready-ready.ensures.waits c.if-ready.false (sym c.is_closed-closed.ensures.is ∙ c.if-closed.false))

@@ -20,12 +20,12 @@ unreachable-requires c =
 pub invariant_of-self : goal.invariant_of-self
 invariant_of-self c =
     (done_lacking (met (goal.at.invariant_of-self c).In-Some) _ _
-    ((c.get_mut.follows.holds c.in-Some.entry.now).3 (search rules)).0 c.args.n refl (omega arith)).kept
+    ((c.get_mut.follows.holds c.in-Some.entry.now).3 (search rules)).0 c.args.n refl (c.offers.ensures.lacks c.if-not-offers.true)).kept
 
-pub returns-then-n-available_permits : goal.returns-then-n-available_permits
-returns-then-n-available_permits c =
-    (done_lacking (met (goal.at.returns-then-n-available_permits c).In-Some) _ _
-    ((c.get_mut.follows.holds c.in-Some.entry.now).3 (search rules)).0 c.args.n refl (omega arith)).yields
+pub returns-then-not-offers : goal.returns-then-not-offers
+returns-then-not-offers c =
+    (done_lacking (met (goal.at.returns-then-not-offers c).In-Some) _ _
+    ((c.get_mut.follows.holds c.in-Some.entry.now).3 (search rules)).0 c.args.n refl (c.offers.ensures.lacks c.if-not-offers.true)).yields
 
 pub forget-all-requires : goal.forget-all-requires
 forget-all-requires c = small_forgotten (met (goal.at.forget-all-requires c).In-Some) c.args.n (omega arith)
@@ -33,9 +33,9 @@ forget-all-requires c = small_forgotten (met (goal.at.forget-all-requires c).In-
 pub invariant_of-self-2 : goal.invariant_of-self-2
 invariant_of-self-2 c =
     (done_tried (met (goal.at.invariant_of-self-2 c).In-Some) _ _ ((c.get_mut.follows.holds c.forget-all.new.self).3 (search rules)).0
-    c.args.n (omega arith) c.requires.allowed (omega arith) c.forget-all.ensures.is c.forget-all.ensures.held (omega arith)).kept
+    c.args.n (omega arith) c.requires.allowed (c.offers.ensures.open_still c.if-not-offers.false) (c.offers.ensures.enough c.if-not-offers.false) c.forget-all.ensures.is c.forget-all.ensures.held (omega arith)).kept
 
 pub returns : goal.returns
 returns c =
     (done_tried (met (goal.at.returns c).In-Some) _ _ ((c.get_mut.follows.holds c.forget-all.new.self).3 (search rules)).0
-    c.args.n (omega arith) c.requires.allowed (omega arith) c.forget-all.ensures.is c.forget-all.ensures.held (omega arith)).yields
+    c.args.n (omega arith) c.requires.allowed (c.offers.ensures.open_still c.if-not-offers.false) (c.offers.ensures.enough c.if-not-offers.false) c.forget-all.ensures.is c.forget-all.ensures.held (omega arith)).yields

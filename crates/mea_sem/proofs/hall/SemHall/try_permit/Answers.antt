@@ -26,12 +26,12 @@ unreachable-requires c = never_gone c.self.inside c.args.s _ c.self.view_is c.re
 pub invariant_of-self : goal.invariant_of-self
 invariant_of-self c =
     (tried_in_vain (looked (goal.at.invariant_of-self c).In-Some) c.args.n c.args.plain
-    (omega (arith, c.available_permits.ensures.is, c.if-n-available_permits.true))).kept
+    (c.offers.ensures.lacks c.if-not-offers.true)).kept
 
-pub returns-then-n-available_permits-clause-played : goal.returns-then-n-available_permits-clause-played
-returns-then-n-available_permits-clause-played c =
-    (tried_in_vain (looked (goal.at.returns-then-n-available_permits-clause-played c).In-Some) c.args.n c.args.plain
-    (omega (arith, c.available_permits.ensures.is, c.if-n-available_permits.true))).yields
+pub returns-then-not-offers-clause-played : goal.returns-then-not-offers-clause-played
+returns-then-not-offers-clause-played c =
+    (tried_in_vain (looked (goal.at.returns-then-not-offers-clause-played c).In-Some) c.args.n c.args.plain
+    (c.offers.ensures.lacks c.if-not-offers.true)).yields
 
 pub invariant_of-self-then-is_err : goal.invariant_of-self-then-is_err
 invariant_of-self-then-is_err c =
@@ -44,7 +44,7 @@ pub invariant_of-self-2 : goal.invariant_of-self-2
 invariant_of-self-2 c =
     (tried (met (goal.at.invariant_of-self-2 c).In-Some-get_mut)
     c.args.n c.args.plain _ _ c.in-Some.entry.now c.take.new.self c.requires.allowed
-    (sym c.get.ensures.value ∙ ap option_copied c.in-Some.is) (omega (arith, c.available_permits.ensures.is, c.if-n-available_permits.false))
+    (sym c.get.ensures.value ∙ ap option_copied c.in-Some.is) (c.offers.ensures.open_still c.if-not-offers.false) (c.offers.ensures.enough c.if-not-offers.false)
     c.take.ensures.is c.take.ensures.held
     ((c.get_mut.follows.holds c.take.new.self).3 (search rules)).0
     (on_success _ c.insert.result (sym c.is_err.ensures.value ∙ c.if-is_err.false) c.insert.ensures.updates).0).kept
@@ -53,7 +53,7 @@ pub returns-clause-played : goal.returns-clause-played
 returns-clause-played c =
     (tried (met (goal.at.returns-clause-played c).In-Some-get_mut)
     c.args.n c.args.plain _ _ c.in-Some.entry.now c.take.new.self c.requires.allowed
-    (sym c.get.ensures.value ∙ ap option_copied c.in-Some.is) (omega (arith, c.available_permits.ensures.is, c.if-n-available_permits.false))
+    (sym c.get.ensures.value ∙ ap option_copied c.in-Some.is) (c.offers.ensures.open_still c.if-not-offers.false) (c.offers.ensures.enough c.if-not-offers.false)
     c.take.ensures.is c.take.ensures.held
     ((c.get_mut.follows.holds c.take.new.self).3 (search rules)).0
     (on_success _ c.insert.result (sym c.is_err.ensures.value ∙ c.if-is_err.false) c.insert.ensures.updates).0).yields

@@ -1,17 +1,20 @@
 use Rattle.std.proofs.Common.{◌≡◌, ◌≤◌, ◌-◌, ◌∙◌, arith}
 use Rattle.mea_sem_core.specs.Core.{Core, poured}
-use Rattle.mea_sem_core.specs.Places.{queue_of, granted_of}
+use Rattle.mea_sem_core.specs.Places.{queue_of, granted_of, cut_of}
+use Rattle.std.specs.FinMap as map
 use Rattle.mea_sem_core.proofs.Belongs.{in_use, lacks_at_most, ended}
 use Rattle.mea_sem_core.proofs.Held.{paid-view}
+use Rattle.mea_sem_core.proofs.Places.{AllLack-entries}
+use Rattle.mea_sem_core.proofs.Pours.{poured_nothing}
 use Rattle.mea_sem_core.proofs.Leaves.{unlinked_after}
 use Rattle.mea_sem_core.proofs.Steadies.{steady_cancels}
 use Rattle.mea_sem_core.proofs.sem_core.SemCore.cancel.Goals as goal
 
 pub get-requires : goal.get-requires
-get-requires g c = in_use c.self.inside.waiters c.in-Queued.demand c.in-Queued.number (rw (c.in-Queued.is, ← c.self.view_is) at c.requires)
+get-requires g c = in_use c.self.inside.waiters c.self.inside.closed c.in-Queued.demand c.in-Queued.number (rw (c.in-Queued.is, ← c.self.view_is) at c.requires)
 
 pub paid-paid-requires : goal.paid-paid-requires
-paid-paid-requires g c = lacks_at_most c.self.inside.waiters c.in-Queued.demand c.in-Queued.number c.get.result.now c.self.invariant.kept
+paid-paid-requires g c = lacks_at_most c.self.inside.waiters c.self.inside.closed c.in-Queued.demand c.in-Queued.number c.get.result.now c.self.invariant.kept
     (rw (c.in-Queued.is, ← c.self.view_is) at c.requires) c.get.ensures
 
 pub remove_unlinked-requires-clause-unlinked : goal.remove_unlinked-requires-clause-unlinked
@@ -19,7 +22,7 @@ remove_unlinked-requires-clause-unlinked g c = rw c.unlink.ensures (unlinked_aft
 
 pub invariant_of-self : goal.invariant_of-self
 invariant_of-self g c =
-    let end = ended c.self.inside.waiters c.unlink.new.self c.remove_unlinked.new.self c.in-Queued.demand c.in-Queued.number c.get.result.now c.self.invariant.kept (rw (c.in-Queued.is, ← c.self.view_is) at c.requires) c.get.ensures c.unlink.ensures c.remove_unlinked.ensures.updates c.remove_unlinked.ensures.order in
+    let end = ended c.self.inside.waiters c.unlink.new.self c.remove_unlinked.new.self c.self.inside.closed c.in-Queued.demand c.in-Queued.number c.get.result.now c.self.invariant.kept (rw (c.in-Queued.is, ← c.self.view_is) at c.requires) c.get.ensures c.unlink.ensures c.remove_unlinked.ensures.updates c.remove_unlinked.ensures.order in
     record {
       kept = end.kept;
       room = omega (arith, end.shorter, c.self.invariant.room);
@@ -27,11 +30,12 @@ invariant_of-self g c =
       total = omega (arith, end.paid, c.self.invariant.paid, c.paid-paid.ensures, c.self.invariant.total);
       fits = omega (arith, c.self.invariant.fits);
       idle = λ some. end.idle (c.self.invariant.idle some);
+      closing = end.closing c.self.inside.closed c.self.invariant.closing;
     }
 
 pub returns-clause-cancels : goal.returns-clause-cancels
 returns-clause-cancels g c =
-    let end = ended c.self.inside.waiters c.unlink.new.self c.remove_unlinked.new.self c.in-Queued.demand c.in-Queued.number c.get.result.now c.self.invariant.kept (rw (c.in-Queued.is, ← c.self.view_is) at c.requires) c.get.ensures c.unlink.ensures c.remove_unlinked.ensures.updates c.remove_unlinked.ensures.order in
+    let end = ended c.self.inside.waiters c.unlink.new.self c.remove_unlinked.new.self c.self.inside.closed c.in-Queued.demand c.in-Queued.number c.get.result.now c.self.invariant.kept (rw (c.in-Queued.is, ← c.self.view_is) at c.requires) c.get.ensures c.unlink.ensures c.remove_unlinked.ensures.updates c.remove_unlinked.ensures.order in
     rw (c.in-Queued.is, ← c.self.view_is, c.pour.ensures.poured) (
       (λ is.
           let granted = end.granted is in
@@ -41,6 +45,8 @@ returns-clause-cancels g c =
             live = c.self.inside.live - part i;
             queue = granted.1 i;
             granted = granted.2 i;
+            cut = granted.3 i;
+            closed = c.self.inside.closed;
             wakes = c.self.inside.outbox.wakers;
           }) (part i)),
       (λ lack is.
@@ -51,19 +57,45 @@ returns-clause-cancels g c =
             live = c.self.inside.live - part i;
             queue = waits.1 i;
             granted = waits.2 i;
+            cut = waits.3 i;
+            closed = c.self.inside.closed;
             wakes = c.self.inside.outbox.wakers;
           }) (part i)),
+      (λ is.
+          let cut = end.cut is.1 in
+          let part : c.paid-paid.result ≡ 0 = c.paid-paid.ensures ∙ cut.0 in
+          let live : c.self.inside.live - c.paid-paid.result ≡ c.self.inside.live = omega (arith, part) in
+          let mid : Core g.row.W.Denot = record {
+            free = c.self.inside.free;
+            live = c.self.inside.live;
+            queue = queue_of c.self.inside.waiters;
+            granted = granted_of c.self.inside.waiters;
+            cut = map.remove (cut_of c.self.inside.waiters) c.in-Queued.number;
+            closed = c.self.inside.closed;
+            wakes = c.self.inside.outbox.wakers;
+          } in
+          (λ i. poured (record {
+            free = c.self.inside.free;
+            live = live i;
+            queue = cut.1 i;
+            granted = cut.2 i;
+            cut = cut.3 i;
+            closed = c.self.inside.closed;
+            wakes = c.self.inside.outbox.wakers;
+          }) (part i)) ∙ poured_nothing mid (AllLack-entries c.self.inside.waiters.slots c.self.inside.waiters.order c.self.invariant.kept.waiting)),
     )
 
 pub returns-clause-steady : goal.returns-clause-steady
 returns-clause-steady g c =
-    let end = ended c.self.inside.waiters c.unlink.new.self c.remove_unlinked.new.self c.in-Queued.demand c.in-Queued.number c.get.result.now c.self.invariant.kept (rw (c.in-Queued.is, ← c.self.view_is) at c.requires) c.get.ensures c.unlink.ensures c.remove_unlinked.ensures.updates c.remove_unlinked.ensures.order in
+    let end = ended c.self.inside.waiters c.unlink.new.self c.remove_unlinked.new.self c.self.inside.closed c.in-Queued.demand c.in-Queued.number c.get.result.now c.self.invariant.kept (rw (c.in-Queued.is, ← c.self.view_is) at c.requires) c.get.ensures c.unlink.ensures c.remove_unlinked.ensures.updates c.remove_unlinked.ensures.order in
     let seen : Core g.row.W.Denot =
     record {
       free = c.self.inside.free;
       live = c.self.inside.live;
       queue = queue_of c.self.inside.waiters;
       granted = granted_of c.self.inside.waiters;
+      cut = cut_of c.self.inside.waiters;
+      closed = c.self.inside.closed;
       wakes = c.self.inside.outbox.wakers;
     } in
     let fits : c.paid-paid.result ≤ c.self.inside.live = omega (arith, end.paid, c.self.invariant.paid, c.paid-paid.ensures, c.self.invariant.total) in
@@ -76,7 +108,7 @@ returns-clause-steady g c =
 
 pub returns-clause-held : goal.returns-clause-held
 returns-clause-held g c =
-    let end = ended c.self.inside.waiters c.unlink.new.self c.remove_unlinked.new.self c.in-Queued.demand c.in-Queued.number c.get.result.now c.self.invariant.kept (rw (c.in-Queued.is, ← c.self.view_is) at c.requires) c.get.ensures c.unlink.ensures c.remove_unlinked.ensures.updates c.remove_unlinked.ensures.order in
+    let end = ended c.self.inside.waiters c.unlink.new.self c.remove_unlinked.new.self c.self.inside.closed c.in-Queued.demand c.in-Queued.number c.get.result.now c.self.invariant.kept (rw (c.in-Queued.is, ← c.self.view_is) at c.requires) c.get.ensures c.unlink.ensures c.remove_unlinked.ensures.updates c.remove_unlinked.ensures.order in
     let before = paid-view c.self.inside.waiters c.self.invariant.kept in
     let after = paid-view c.remove_unlinked.new.self end.kept in
     rw (← c.self.view_is) (omega (arith, before, after, c.pour.ensures.held, end.paid, c.self.invariant.paid, c.paid-paid.ensures, c.self.invariant.total))

@@ -14,6 +14,7 @@ invariant_of-self g c =
       total = omega (arith, seen, held, c.self.invariant.paid, c.self.invariant.total);
       fits = omega (arith, c.self.invariant.fits);
       idle = c.self.invariant.idle;
+      closing = c.self.invariant.closing;
     }
 
 pub returns-clause-steady : goal.returns-clause-steady

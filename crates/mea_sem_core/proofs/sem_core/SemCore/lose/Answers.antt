@@ -14,9 +14,10 @@ invariant_of-self g c =
       total = omega (arith, seen, held, c.self.invariant.paid, c.self.invariant.total);
       fits = omega (arith, c.self.invariant.fits);
       idle = c.self.invariant.idle;
+      closing = c.self.invariant.closing;
     }
 
 pub returns-clause-sound : goal.returns-clause-sound
 returns-clause-sound g c =
     let kept = invariant_of-self g c in
-    sound _ _ _ _ _ kept.kept kept.paid kept.total kept.idle kept.fits
+    sound _ _ _ _ _ _ kept.kept kept.paid kept.total kept.idle kept.fits kept.closing

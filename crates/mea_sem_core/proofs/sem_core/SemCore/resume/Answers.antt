@@ -1,6 +1,7 @@
 use Rattle.std.proofs.Common.{refl, sym, ◌∙◌, arith, inl, inr}
 use Rattle.mea_base.specs.WaitList.{with_value}
 use Rattle.mea_sem_core.proofs.Belongs.{in_use, unlinked, not_waiting, not_granted, polled_granted, polled_waiting}
+use Rattle.mea_sem_core.proofs.Closings.{closing_same, closing_rewoken}
 use Rattle.mea_sem_core.proofs.Held.{paid-view}
 use Rattle.mea_sem_core.proofs.Leaves.{granted_at, demand-le-paid}
 use Rattle.mea_sem_core.proofs.Sound.{sound}
@@ -8,7 +9,7 @@ use Rattle.mea_sem_core.proofs.Steadies.{steady_rewakes}
 use Rattle.mea_sem_core.proofs.sem_core.SemCore.resume.Goals as goal
 
 pub get-requires : goal.get-requires
-get-requires g c = in_use c.self.inside.waiters c.args.demand c.args.number (rw (← c.self.view_is) at c.requires)
+get-requires g c = in_use c.self.inside.waiters c.self.inside.closed c.args.demand c.args.number (inl (rw (← c.self.view_is) at c.requires))
 
 -- ---- an acquire that was granted
 pub remove_unlinked-requires-clause-unlinked : goal.remove_unlinked-requires-clause-unlinked
@@ -34,6 +35,7 @@ invariant_of-self g c =
       total = omega (arith, c.self.invariant.total);
       fits = c.self.invariant.fits;
       idle = λ some. c.remove_unlinked.ensures.order ∙ c.self.invariant.idle some;
+      closing = closing_same c.self.inside.closed _ _ _ _ taken.queue taken.cut c.self.invariant.closing;
     }
 
 pub returns-then-is_grant_of-clause-granted : goal.returns-then-is_grant_of-clause-granted
@@ -45,6 +47,8 @@ returns-then-is_grant_of-clause-granted g c = λ is.
         live = c.self.inside.live;
         queue = taken.queue i;
         granted = taken.granted i;
+        cut = taken.cut i;
+        closed = c.self.inside.closed;
         wakes = c.self.inside.outbox.wakers;
       }),
     )
@@ -69,7 +73,7 @@ returns-then-is_grant_of-clause-held g c = λ waiting. absurd
 pub returns-then-is_grant_of-clause-sound : goal.returns-then-is_grant_of-clause-sound
 returns-then-is_grant_of-clause-sound g c =
     let kept = invariant_of-self g c in
-    sound _ _ _ _ _ kept.kept kept.paid kept.total kept.idle kept.fits
+    sound _ _ _ _ _ _ kept.kept kept.paid kept.total kept.idle kept.fits kept.closing
 
 -- ---- an acquire that waits
 pub invariant_of-self-2 : goal.invariant_of-self-2
@@ -82,6 +86,7 @@ invariant_of-self-2 g c =
       total = c.self.invariant.total;
       fits = c.self.invariant.fits;
       idle = c.self.invariant.idle;
+      closing = closing_rewoken c.self.inside.closed _ _ _ _ c.args.number c.args.waker rewoken.queue rewoken.cut c.self.invariant.closing;
     }
 
 pub returns-clause-waits : goal.returns-clause-waits
@@ -93,6 +98,8 @@ returns-clause-waits g c = λ waiting.
         live = c.self.inside.live;
         queue = rewoken.queue i;
         granted = rewoken.granted i;
+        cut = rewoken.cut i;
+        closed = c.self.inside.closed;
         wakes = c.self.inside.outbox.wakers;
       }),
     )
@@ -122,4 +129,4 @@ returns-clause-steady g c = elim c.requires [
 pub returns-clause-sound : goal.returns-clause-sound
 returns-clause-sound g c =
     let kept = invariant_of-self-2 g c in
-    sound _ _ _ _ _ kept.kept kept.paid kept.total kept.idle kept.fits
+    sound _ _ _ _ _ _ kept.kept kept.paid kept.total kept.idle kept.fits kept.closing

@@ -2,6 +2,7 @@ use Rattle.std.proofs.Common.{◌≡◌, ◌+◌, ◌-◌, ap, sym, ◌∙◌, �
 use Rattle.mea_base.specs.Queue.{lacks}
 use Rattle.mea_sem_core.specs.Core.{paid_to_debts, granting, wakers_of}
 use Rattle.mea_sem_core.specs.Places.{queue_of, granted_of}
+use Rattle.mea_sem_core.proofs.Closings.{closing_poured}
 use Rattle.mea_sem_core.proofs.Debts.{paid_to_none}
 use Rattle.mea_sem_core.proofs.Held.{paid-view}
 use Rattle.mea_sem_core.proofs.Places.{no_order}
@@ -22,6 +23,7 @@ invariant_of-self g c =
       total = omega (arith, pours.paid, c.self.invariant.paid, none, few, c.self.invariant.total);
       fits = omega (arith, few);
       idle = λ some. no_order _ _ (pours.queue ∙ waiting_enough q 18446744073709551615 (omega (arith, few)));
+      closing = closing_poured c.self.inside.closed _ _ _ _ 18446744073709551615 pours.queue pours.cut c.self.invariant.closing;
     }
 
 pub returns-clause-is : goal.returns-clause-is
@@ -38,7 +40,7 @@ returns-clause-is g c =
     let paid = granted_enough q 18446744073709551615 (omega (arith, few)) ∙ sym (granted_enough q (lacks q) (omega arith)) in
     let granted = pours.granted ∙ ap (granting (granted_of c.self.inside.waiters)) paid in
     let wakes = pours.wakers ∙ ap (λ es. c.self.inside.outbox.wakers ++ wakers_of es) paid in
-    rw (← c.self.view_is) (λ i. record { free = free i; live = live i; queue = queue i; granted = granted i; wakes = wakes i })
+    rw (← c.self.view_is) (λ i. record { free = free i; live = live i; queue = queue i; granted = granted i; cut = pours.cut i; closed = c.self.inside.closed; wakes = wakes i })
 
 pub returns-clause-empty : goal.returns-clause-empty
 returns-clause-empty g c =
@@ -58,4 +60,4 @@ returns-clause-held g c =
 pub returns-clause-sound : goal.returns-clause-sound
 returns-clause-sound g c =
     let kept = invariant_of-self g c in
-    sound _ _ _ _ _ kept.kept kept.paid kept.total kept.idle kept.fits
+    sound _ _ _ _ _ _ kept.kept kept.paid kept.total kept.idle kept.fits kept.closing

@@ -1,0 +1,142 @@
+ghost use Rattle.std.specs.Prelude.{◌<◌, ◌^◌};
+
+use mea_hall::Event;
+use mea_meet::MeetEvent;
+use mea_sem_model::SemEvent;
+use std::alloc::AllocError;
+
+/// What is played of a family: rounds of the same events, each on things of its own but for the object that they
+/// share.
+#[derive(Clone, Copy, Debug, PartialEq, Eq)]
+pub enum Workload {
+    /// A permit taken and given back, and nobody waits.
+    Permits,
+    /// An acquire that waits, is paid and becomes a permit, which is given back by the next round's release.
+    QueuedAcquires,
+    /// Two arrivals that complete a round of a barrier.
+    Barrier,
+    /// A latch that one future awaits, from its making to its drop.
+    Latch,
+    /// A group of two handles and a future, from its making to its end.
+    WaitGroup,
+    /// A shutdown that one future awaits, from its making to its end.
+    Shutdown,
+}
+
+/// All workloads, in the order in which they are played.
+pub const WORKLOADS: [Workload; 6] = [
+    Workload::Permits,
+    Workload::QueuedAcquires,
+    Workload::Barrier,
+    Workload::Latch,
+    Workload::WaitGroup,
+    Workload::Shutdown,
+];
+
+impl Workload {
+    /// Its name in the report: the family and what is done.
+    pub fn name(self) -> &'static str {
+        match self {
+            Workload::Permits => "semaphore permits",
+            Workload::QueuedAcquires => "semaphore queued",
+            Workload::Barrier => "barrier round",
+            Workload::Latch => "latch",
+            Workload::WaitGroup => "group",
+            Workload::Shutdown => "shutdown",
+        }
+    }
+
+    /// Appends the events that come before the first round.
+    pub fn push_start(self, events: &mut Vec<Event>) -> Result<(), AllocError> {
+        match self {
+            Workload::Permits => events.extend_from_slice(&[Event::Sem(SemEvent::New(1))]),
+            Workload::QueuedAcquires => events.extend_from_slice(&[Event::Sem(SemEvent::New(0))]),
+            Workload::Barrier => events.extend_from_slice(&[Event::Meet(MeetEvent::BarNew(2))]),
+            Workload::Latch | Workload::WaitGroup | Workload::Shutdown => Ok(()),
+        }
+    }
+
+    /// Appends the events of a round. The number of an event is its place.
+    pub fn push_round(self, events: &mut Vec<Event>) -> Result<(), AllocError> {
+        let at = events.len() as u64;
+        match self {
+            Workload::Permits => events.extend_from_slice(&permit_round(at)),
+            Workload::QueuedAcquires => events.extend_from_slice(&queued_round(at)),
+            Workload::Barrier => events.extend_from_slice(&barrier_round(at)),
+            Workload::Latch => events.extend_from_slice(&latch_round(at)),
+            Workload::WaitGroup => events.extend_from_slice(&group_round(at)),
+            Workload::Shutdown => events.extend_from_slice(&shutdown_round(at)),
+        }
+    }
+}
+
+fn permit_round(at: u64) -> [Event; 2] {
+    [
+        Event::Sem(SemEvent::Try(0, 1)),
+        Event::Sem(SemEvent::End(at)),
+    ]
+}
+
+fn queued_round(at: u64) -> [Event; 5]
+    requires { at < 2 ^ 63 }
+{
+    [
+        Event::Sem(SemEvent::Acq(0, 1)),
+        Event::Sem(SemEvent::Poll(at, at)),
+        Event::Sem(SemEvent::Release(0, 1)),
+        Event::Sem(SemEvent::Poll(at, at)),
+        Event::Sem(SemEvent::Lose(at + 3)),
+    ]
+}
+
+fn barrier_round(at: u64) -> [Event; 5]
+    requires { at < 2 ^ 63 }
+{
+    [
+        Event::Meet(MeetEvent::BarWait(0)),
+        Event::Meet(MeetEvent::BarPoll(at, at)),
+        Event::Meet(MeetEvent::BarWait(0)),
+        Event::Meet(MeetEvent::BarPoll(at + 2, at)),
+        Event::Meet(MeetEvent::BarPoll(at, at)),
+    ]
+}
+
+fn latch_round(at: u64) -> [Event; 6]
+    requires { at < 2 ^ 63 }
+{
+    [
+        Event::Meet(MeetEvent::LatNew(1)),
+        Event::Meet(MeetEvent::LatWait(at)),
+        Event::Meet(MeetEvent::LatPoll(at + 1, at)),
+        Event::Meet(MeetEvent::LatDown(at)),
+        Event::Meet(MeetEvent::LatPoll(at + 1, at)),
+        Event::Meet(MeetEvent::LatDrop(at)),
+    ]
+}
+
+fn group_round(at: u64) -> [Event; 6]
+    requires { at < 2 ^ 63 }
+{
+    [
+        Event::Meet(MeetEvent::WgNew),
+        Event::Meet(MeetEvent::WgClone(at)),
+        Event::Meet(MeetEvent::WgInto(at)),
+        Event::Meet(MeetEvent::WgPoll(at + 2, at)),
+        Event::Meet(MeetEvent::WgEnd(at + 1)),
+        Event::Meet(MeetEvent::WgPoll(at + 2, at)),
+    ]
+}
+
+fn shutdown_round(at: u64) -> [Event; 7]
+    requires { at < 2 ^ 63 }
+{
+    [
+        Event::Meet(MeetEvent::SdNew),
+        Event::Meet(MeetEvent::SdIs(at)),
+        Event::Meet(MeetEvent::SdPoll(at + 1, at)),
+        Event::Meet(MeetEvent::SdSignal(at)),
+        Event::Meet(MeetEvent::SdPoll(at + 1, at)),
+        Event::Meet(MeetEvent::SdEndr(at)),
+        Event::Meet(MeetEvent::SdEnds(at)),
+    ]
+}

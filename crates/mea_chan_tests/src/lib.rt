@@ -1,0 +1,13 @@
+//! Calls of the cores of channels and boxes, with what they answer and whom they wake. It has no code but tests.
+#![tactic(auto)]
+
+#[cfg(test)]
+mod bounded;
+#[cfg(test)]
+mod boxes;
+#[cfg(test)]
+mod errors;
+#[cfg(test)]
+mod oneshot;
+#[cfg(test)]
+mod unbounded;

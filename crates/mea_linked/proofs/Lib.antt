@@ -1,0 +1,4 @@
+pub mod Linking
+pub mod Pours
+pub mod Sets
+pub mod Waiters

@@ -1,0 +1,59 @@
+-- what a hall keeps of a lock and of a future, and what the calls of a lock's entry do
+use Rattle.std.specs.Prelude.{ℕ, ◌≡◌, ◌+◌, ◌-◌, ◌==◌, ◌&&◌, ◌++◌, Bool, not, cond, [], length, map, refl}
+use Rattle.std.specs.Coded.{Coded, code_by, coded×, coded_ℕ, coded_bool}
+use Rattle.mea_base.specs.declared.turn.Turn.{Turn}
+use Rattle.mea_base.specs.Ready.{Waking}
+use Rattle.mea_named.specs.declared.named_waker.NamedWaker.{NamedWaker}
+use Rattle.mea_lock_core.specs.RwLock.{rw_code}
+use Rattle.mea_lock_core.specs.declared.rw_wait.RwWait.{RwWait}
+use Rattle.mea_lock.specs.Cores.{NamedLock, PollsLock}
+
+-- a lock, whether it is named, and how many futures and guards it has, and how many of them are plain
+pub record KeptLock : Type 0 where
+  pub lock : NamedLock
+  pub named : Bool
+  pub things : ℕ
+  pub plain : ℕ
+
+-- a future: the name of its lock, whether it is plain, and its wait
+pub record KeptFuture : Type 0 where
+  pub lock : ℕ
+  pub plain : Bool
+  pub wait : RwWait
+
+abbrev pub waker_code : Coded NamedWaker
+waker_code = code_by (ℕ × ℕ) (coded× coded_ℕ coded_ℕ) (λ k. (k.future, k.waker)) (λ p. record { future = p.0; waker = p.1 }) (λ _. refl)
+
+abbrev pub kept_lock_code : Coded KeptLock
+kept_lock_code = code_by (NamedLock × (Bool × (ℕ × ℕ))) (coded× (rw_code coded_ℕ waker_code) (coded× coded_bool (coded× coded_ℕ coded_ℕ))) (λ e. (e.lock, (e.named, (e.things, e.plain)))) (λ p. record { lock = p.0; named = p.1.0; things = p.1.1.0; plain = p.1.1.1 }) (λ _. refl)
+
+-- one future or guard more
+abbrev pub begun : KeptLock → Bool → KeptLock
+begun e plain = record e { things = e.things + 1; plain = e.plain + cond plain 1 0 }
+
+-- one less
+abbrev pub finished : KeptLock → Bool → KeptLock
+finished e plain = record e { things = e.things - 1; plain = e.plain - cond plain 1 0 }
+
+-- it has neither its name nor any thing
+abbrev pub is_over : KeptLock → Bool
+is_over e = not e.named && e.things == 0
+
+-- no waker is ready
+abbrev pub settled : NamedLock → NamedLock
+settled l = record l { permits = record l.permits { wakes = [] } }
+
+-- the lock became this; its wakers were handed on, and as many are registered as wait
+pub record Settles (old : KeptLock) (l : NamedLock) (new : KeptLock) (before after : Waking ℕ) : Type 0 where
+  pub entry : new ≡ record old { lock = settled l }
+  pub wakers : after.wakers ≡ before.wakers ++ map (λ (k : NamedWaker). k.waker) l.permits.wakes
+  pub counted : after.registered + length old.lock.permits.queue ≡ before.registered + length l.permits.queue
+
+-- the future named f was polled
+pub record Polled (old : KeptLock) (f : ℕ) (x : KeptFuture) (waker : ℕ) (turn : Turn NamedWaker) (new : KeptLock) (x' : KeptFuture) (before after : Waking ℕ) : Type 0 where
+  pub left : NamedLock
+  pub polls : PollsLock old.lock x.wait (record { future = f; waker = waker }) turn left x'.wait
+  pub entry : new ≡ record old { lock = left }
+  pub future : x' ≡ record x { wait = x'.wait }
+  pub wakers : after.wakers ≡ before.wakers
+  pub counted : after.registered + length old.lock.permits.queue ≡ before.registered + length left.permits.queue

@@ -1,0 +1,10 @@
+-- the lock that a hall lends
+use Rattle.std.specs.Prelude.{ℕ, ◌≡◌, true, Some}
+use Rattle.std.specs.FinMap.{get}
+use Rattle.mea_lock_model.specs.Locks.{Locks}
+use Rattle.mea_linked.specs.Linked.{names_in}
+use Rattle.mea_lock.specs.Cores.{NamedLock}
+
+-- the same value, as many permits and free ones, and the same who wait, with what each lacks
+abbrev pub StandsFor : Locks → ℕ → NamedLock → Type 0
+StandsFor h o l = get h.locks o ≡ Some (record { value = l.value; most = l.most; free = l.permits.free; queue = names_in l.permits.queue; named = true })

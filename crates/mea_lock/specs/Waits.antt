@@ -1,0 +1,22 @@
+-- waits: whether one was polled, and which is new
+use Rattle.std.specs.Prelude.{◌≡◌, Bool, true, false}
+use Rattle.mea_sem_core.specs.declared.acquire.Acquire.{Acquire}
+use Rattle.mea_sem_core.specs.declared.acquire.Acquire.TheVariants as acquire
+use Rattle.mea_lock_core.specs.RwLock.{share_of, is_write}
+use Rattle.mea_lock_core.specs.declared.rw_wait.RwWait.{RwWait}
+use Rattle.mea_lock.specs.Cores.{NamedLock, acquire_of}
+
+abbrev pub has_number : Acquire → Bool
+has_number (acquire.New d) = false
+has_number (acquire.Queued d n) = true
+has_number (acquire.Done d) = true
+has_number (acquire.Refused d) = true
+
+abbrev pub is_polled : RwWait → Bool
+is_polled x = has_number (acquire_of 0 x)
+
+-- a wait that was never polled, of a lock, to read or to write
+pub record IsNewWait (l : NamedLock) (write : Bool) (x : RwWait) : Type 0 where
+  pub acquire : acquire_of l.most x ≡ acquire.New (share_of l write)
+  pub writes : is_write x ≡ write
+  pub unpolled : is_polled x ≡ false

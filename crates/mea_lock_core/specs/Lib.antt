@@ -1,0 +1,9 @@
+pub mod CondWaits
+pub mod Condvar
+pub mod Lock
+pub mod LockLends
+pub mod Notes
+pub mod RwLends
+pub mod RwLock
+pub mod Then
+pub mod Whiles

@@ -1,0 +1,33 @@
+-- the locks of each kind
+use Rattle.std.specs.Prelude.{ℕ, ◌+◌, refl}
+use Rattle.std.specs.Coded.{Coded, code_by, coded×}
+use Rattle.mea_lock_model.specs.Locks as locks
+use Rattle.mea_lock_model.specs.Locks.{Locks, no_locks, locks_code}
+
+pub data Kind : Type 0 where
+  Mutexes : Kind
+  RwLocks : Kind
+
+pub record LockHall : Type 0 where
+  pub mutexes : Locks
+  pub rw_locks : Locks
+
+abbrev pub empty_hall : LockHall
+empty_hall = record { mutexes = no_locks; rw_locks = no_locks }
+
+-- the locks of a kind
+abbrev pub part : LockHall → Kind → Locks
+part h Mutexes = h.mutexes
+part h RwLocks = h.rw_locks
+
+-- those of a kind are these now
+abbrev pub with_part : LockHall → Kind → Locks → LockHall
+with_part h Mutexes p = record h { mutexes = p }
+with_part h RwLocks p = record h { rw_locks = p }
+
+-- how many wakers are registered
+abbrev pub registered : LockHall → ℕ
+registered h = locks.registered h.mutexes + locks.registered h.rw_locks
+
+abbrev pub hall_code : Coded LockHall
+hall_code = code_by (Locks × Locks) (coded× locks_code locks_code) (λ h. (h.mutexes, h.rw_locks)) (λ p. record { mutexes = p.0; rw_locks = p.1 }) (λ _. refl)

@@ -1,0 +1,7 @@
+pub mod Cases
+pub mod Halls
+pub mod Kept
+pub mod LackingQueues
+pub mod NamedQueues
+pub mod OneObject
+pub mod Own

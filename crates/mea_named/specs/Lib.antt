@@ -1,0 +1,6 @@
+pub mod ByName
+pub mod ByNameLends
+pub mod NamedQueue
+pub mod LackingQueue
+pub mod Play
+pub mod HallKept

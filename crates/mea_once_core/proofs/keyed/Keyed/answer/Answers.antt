@@ -1,0 +1,22 @@
+use Rattle.std.proofs.Common.{◌≡◌, ◌∙◌, ℕ, Ok, Err, Some, None, is_some, refl, ap, sym, subst}
+use Rattle.mea_sets.specs.Poll.{Poll, Ready}
+use Rattle.mea_once_core.specs.Keyed.{Keyed, Told}
+use Rattle.mea_once_core.specs.declared.key_call.KeyStage.TheVariants.{Kept, Done}
+use Rattle.mea_once_core.proofs.Keyeds.{given-there, computed-none, computed-some}
+use Rattle.mea_once_core.proofs.keyed.Keyed.answer.Goals as goal
+
+pub value_of-requires-clause-there : goal.value_of-requires-clause-there
+value_of-requires-clause-there g c = let has = given-there g.K.PartialEq.eq c.args.self.now c.give_up.new.self c.args.number c.args.once c.requires.calls c.give_up.ensures in ap is_some has.1
+
+pub leave-requires-in-Ready-Ok : goal.leave-requires-in-Ready-Ok
+leave-requires-in-Ready-Ok g c = given-there g.K.PartialEq.eq c.args.self.now c.give_up.new.self c.args.number c.args.once c.requires.calls c.give_up.ensures
+
+pub returns-in_default-clause-told : goal.returns-in_default-clause-told
+returns-in_default-clause-told g c = λ e there.
+    subst (λ a. Told g.K.PartialEq.eq c.args.once (Ok a) c.args.self.now c.args.number e (Err (None, record {})) c.give_up.new.self (Kept c.args.number)) (sym (c.in-Ready-Ok.is ∙ ap (λ x. Ready x) c.in-Ready-Ok.field-0-is))
+    (computed-none g.K.PartialEq.eq g.row.E.Denot c.args.self.now c.give_up.new.self c.args.number c.args.once e (record {}) (c.give_up.ensures e there))
+
+pub returns-in-Some-clause-told : goal.returns-in-Some-clause-told
+returns-in-Some-clause-told g c = λ e there.
+    subst (λ a. Told g.K.PartialEq.eq c.args.once (Ok a) c.args.self.now c.args.number e (Ok (Ready (Ok c.in-Some.value))) c.leave-in-Ready-Ok.new.self Done) (sym (c.in-Ready-Ok.is ∙ ap (λ x. Ready x) c.in-Ready-Ok.field-0-is))
+    (computed-some g.K.PartialEq.eq g.row.E.Denot c.args.self.now c.give_up.new.self c.leave-in-Ready-Ok.new.self c.args.number c.args.once e c.in-Some.value (c.give_up.ensures e there) c.in-Some.ensures c.leave-in-Ready-Ok.ensures)

@@ -1,0 +1,9 @@
+use Rattle.std.proofs.Common.{rules, ◌≡◌, ◌∙◌, ℕ, Some, IsSome, refl, ap, sym, subst}
+use Rattle.slab.specs.Slab as slab
+use Rattle.mea_once_core.specs.Table.{Table, entry_at, PollsEntry, EndsEntry}
+use Rattle.mea_once_core.proofs.Tables.{linked-joined}
+use Rattle.mea_once_core.proofs.once_table.OnceTable.join.Goals as goal
+
+pub invariant_of-self : goal.invariant_of-self
+invariant_of-self g c =
+    linked-joined c.self.inside.entries c.join.new.entries c.self.inside.numbers.entries c.args.number (slab.get c.self.inside.entries c.args.number) refl (search rules) c.join.ensures.joined c.self.invariant

@@ -1,0 +1,9 @@
+pub mod Cell
+pub mod CellLends
+pub mod Keyed
+pub mod Links
+pub mod Once
+pub mod Permit
+pub mod Slots
+pub mod Table
+pub mod Waiting

@@ -1,0 +1,195 @@
+ghost use Rattle.std.specs.Prelude.{◌≡◌, ◌≢◌, ℕ, ◌<◌, ◌≤◌, ◌+◌, ◌-◌, ◌^◌, length, true, false, ◌⊎◌, IsSome, IsOk, IfSome, IfOk, IfErr, OnErr, None, slice_get};
+ghost use Rattle.std.specs.HashMap as hash;
+ghost use Rattle.slab.specs.Slab as slab;
+ghost use Rattle.mea_once_core.specs.Permit.{MayPoll, MayEnd};
+ghost use Rattle.mea_once_core.specs.Slots.{PollsSlot, EndsSlot, RestsSlot};
+ghost use Rattle.mea_once_core.specs.Links.{AreLinked, Shown, shown_at, Changes, SameEntries, SameNumbers, Renumbers, Forgets, unlisted, left};
+
+use crate::cell_core::CellCore;
+use crate::entry::Entry;
+use crate::init::Init;
+use crate::init_call::InitCall;
+use indexmap::IndexMap;
+use mea_base::{NoMemory, Outbox, Poll};
+use slab::Slab;
+use std::hash::{BuildHasher, Hash};
+
+impl<V, W> Entry<V, W> {
+    // Its place is this.
+    fn sit(&mut self, place: Option<usize>)
+        ensures { self.new ≡ record self.old { place = place } }
+    {
+        self.place = place;
+    }
+}
+
+// The entry gets this place, or none.
+fn seat<V, W>(entries: &mut Slab<Entry<V, W>>, number: usize, place: Option<usize>)
+    requires { IsSome (slab.get entries.old number) }
+    ensures seated { IfSome (slab.get entries.old number) (λ e. slab.Updates entries.old entries.new number (Some (record e { place = place }))) }
+{
+    if let Some(entry) = entries.get_mut(number) {
+        entry.sit(place);
+    }
+}
+
+// The entry at this place leaves the table, and stays for its callers.
+fn take_out<K: Eq + Hash + Drop, V, S: BuildHasher, W>(
+    entries: &mut Slab<Entry<V, W>>,
+    numbers: &mut IndexMap<K, usize, S>,
+    number: usize,
+    place: usize,
+)
+    requires linked { AreLinked entries.old numbers.old.entries }
+    requires here { IfSome (slab.get entries.old number) (λ e. e.place ≡ Some place) }
+    requires there { IsSome (slab.get entries.old number) }
+    ensures linked { AreLinked entries.new numbers.new.entries }
+    ensures entries { (e : Shown V W) → shown_at entries.old.slots number ≡ Some e → Changes entries.old.slots entries.new.slots number (Some (record e { listed = false })) }
+    ensures numbers { Forgets K.eq numbers.old.entries numbers.new.entries number }
+{
+    let _ = numbers.get_index(place);
+    let _ = numbers.swap_remove_index(place);
+    seat(entries, number, None);
+    if let Some((_, moved)) = numbers.get_index(place) {
+        seat(entries, *moved, Some(place));
+    }
+}
+
+// The entry leaves the table where that has it, and stays for its callers.
+pub(crate) fn unlist<K: Eq + Hash + Drop, V, S: BuildHasher, W>(
+    entries: &mut Slab<Entry<V, W>>,
+    numbers: &mut IndexMap<K, usize, S>,
+    number: usize,
+)
+    requires linked { AreLinked entries.old numbers.old.entries }
+    ensures linked { AreLinked entries.new numbers.new.entries }
+    ensures listed { (e : Shown V W) → shown_at entries.old.slots number ≡ Some e → e.listed ≡ true → Changes entries.old.slots entries.new.slots number (Some (record e { listed = false })) × Forgets K.eq numbers.old.entries numbers.new.entries number }
+    ensures unlisted { (e : Shown V W) → shown_at entries.old.slots number ≡ Some e → e.listed ≡ false → SameEntries entries.old.slots entries.new.slots × SameNumbers K.eq numbers.old.entries numbers.new.entries }
+{
+    let Some(entry) = entries.get(number) else {
+        return;
+    };
+    let Some(place) = entry.place else {
+        return;
+    };
+    take_out(entries, numbers, number, place);
+}
+
+// The entry has one caller more.
+pub(crate) fn join<V, W>(entries: &mut Slab<Entry<V, W>>, number: usize)
+    requires there { IsSome (slab.get entries.old number) }
+    requires few { IfSome (slab.get entries.old number) (λ e. e.callers + 1 < 2 ^ 64) }
+    ensures joined { IfSome (slab.get entries.old number) (λ e. slab.Updates entries.old entries.new number (Some (record e { callers = e.callers + 1 }))) }
+{
+    if let Some(entry) = entries.get_mut(number) {
+        entry.callers += 1;
+    }
+}
+
+// The entry has one caller less.
+pub(crate) fn unjoin<V, W>(entries: &mut Slab<Entry<V, W>>, number: usize)
+    requires there { IsSome (slab.get entries.old number) }
+    requires some { IfSome (slab.get entries.old number) (λ e. 1 ≤ e.callers) }
+    ensures left { IfSome (slab.get entries.old number) (λ e. slab.Updates entries.old entries.new number (Some (record e { callers = e.callers - 1 }))) }
+{
+    if let Some(entry) = entries.get_mut(number) {
+        entry.callers -= 1;
+    }
+}
+
+// An entry that has no caller, and that the table has not got, is in use no more.
+pub(crate) fn drop_unused<V: Drop, W: Drop>(entries: &mut Slab<Entry<V, W>>, number: usize)
+    ensures absent { slab.get entries.old number ≡ None → entries.new ≡ entries.old }
+    ensures used { IfSome (slab.get entries.old number) (λ e. (e.callers ≢ 0) ⊎ IsSome e.place → entries.new ≡ entries.old) }
+    ensures unused { IfSome (slab.get entries.old number) (λ e. e.callers ≡ 0 → e.place ≡ None → slab.Updates entries.old entries.new number None) }
+{
+    let Some(entry) = entries.get(number) else {
+        return;
+    };
+    if entry.callers != 0 {
+        return;
+    }
+    if entry.place.is_some() {
+        return;
+    }
+    let _ = entries.try_remove(number);
+}
+
+// A new entry for a key that the table has not.
+pub(crate) fn make<K: Eq + Hash + Drop, V: Drop, S: BuildHasher, W: Drop>(
+    entries: &mut Slab<Entry<V, W>>,
+    numbers: &mut IndexMap<K, usize, S>,
+    key: K,
+    cell: CellCore<V, W>,
+    callers: usize,
+) -> Result<usize, (K, NoMemory)>
+    requires linked { AreLinked entries.old numbers.old.entries }
+    requires new { hash.get K.eq numbers.old key ≡ None }
+    ensures linked { AreLinked entries.new numbers.new.entries }
+    ensures fresh { IfOk result (λ n. shown_at entries.old.slots n ≡ None) }
+    ensures entries { IfOk result (λ n. Changes entries.old.slots entries.new.slots n (Some (record { cell = cell; callers = callers; listed = true }))) }
+    ensures numbers { IfOk result (λ n. Renumbers K.eq numbers.old.entries numbers.new.entries key (Some n)) }
+    ensures err { IfErr result (λ e. (e.0 ≡ key) × SameEntries entries.old.slots entries.new.slots × SameNumbers K.eq numbers.old.entries numbers.new.entries) }
+    ensures succeeds { slab.HasRoomFor entries.old 1 → 1 ≤ hash.spare numbers.old → IsOk result }
+{
+    match entries.reserve(1) {
+        Ok(()) => {}
+        Err(_) => return Err((key, NoMemory)),
+    }
+    let number = entries.vacant_key();
+    let place = numbers.len();
+    match numbers.insert(key, number) {
+        Ok(_) => {
+            let _ = entries.insert_reserved(Entry {
+                cell,
+                callers,
+                place: Some(place),
+            });
+            Ok(number)
+        }
+        Err(failed) => Err((failed.value.0, NoMemory)),
+    }
+}
+
+// Polls a call of an entry's cell.
+pub(crate) fn poll_init<V: Drop, W: Drop, E: Drop, I: Init<V, E, W>>(
+    entries: &mut Slab<Entry<V, W>>,
+    number: usize,
+    call: &mut InitCall<I>,
+    waker: W,
+) -> Result<Poll<Result<(), E>>, (W, NoMemory)>
+    requires there { IsSome (slab.get entries.old number) }
+    requires may { IfSome (slab.get entries.old number) (λ e. MayPoll e.cell.permit call.old.stage) }
+    requires init { I.may_poll call.old.init }
+    ensures again { IfOk result (λ poll. poll ≡ Poll.Pending → I.may_poll call.new.init) }
+    ensures back { OnErr result (call.new ≡ call.old) }
+    ensures polls { IfSome (slab.get entries.old number) (λ e. PollsSlot I.answers entries.old.slots number e call.old waker result entries.new.slots call.new) }
+{
+    entries[number].cell.poll_init(call, waker)
+}
+
+// Ends a call of an entry's cell.
+pub(crate) fn end_init<V: Drop, W: Drop, I: Drop>(
+    entries: &mut Slab<Entry<V, W>>,
+    number: usize,
+    call: InitCall<I>,
+)
+    requires there { IsSome (slab.get entries.old number) }
+    requires may { IfSome (slab.get entries.old number) (λ e. MayEnd e.cell.permit call.stage) }
+    ensures ends { IfSome (slab.get entries.old number) (λ e. EndsSlot entries.old.slots number e call.stage entries.new.slots) }
+{
+    entries[number].cell.end_init(call);
+}
+
+// Moves the wakers that an entry's cell has made ready.
+pub(crate) fn move_wakes<V: Drop, W: Drop>(
+    entries: &mut Slab<Entry<V, W>>,
+    number: usize,
+    out: &mut Outbox<W>,
+)
+    requires there { IsSome (slab.get entries.old number) }
+    requires room { IfSome (slab.get entries.old number) (λ e. length e.cell.permit.wakes ≤ out.old.spare) }
+    ensures rests { IfSome (slab.get entries.old number) (λ e. RestsSlot entries.old.slots number e out.old out.new entries.new.slots) }
+{
+    entries[number].cell.move_wakes(out);
+}

@@ -1,0 +1,3 @@
+/// The error of what cannot fail: no value has this type.
+#[derive(Drop)]
+pub enum Never {}

@@ -1,0 +1,40 @@
+use Rattle.std.proofs.Common.{Bool, ◌≡◌, ◌+◌, sym, ap, subst, ◌∙◌, if◌then◌else◌, arith}
+use Rattle.std.specs.Option.{option_copied}
+use Rattle.mea_base.specs.declared.answer.Answer.{Answer}
+use Rattle.mea_base.specs.declared.answer.Answer.TheVariants.{Yes, No}
+use Rattle.mea_sem_model.specs.declared.event.SemEvent.TheVariants as events
+use Rattle.mea_sem_model.specs.Step.{step}
+use Rattle.mea_sem.specs.Store.{hall_of}
+use Rattle.mea_sem.specs.Play.{Yields}
+use Rattle.mea_sem.proofs.Meets.{MeetsSemaphore, store_in}
+use Rattle.mea_sem.proofs.StandingSemaphores.{never_gone, done_closed}
+use Rattle.mea_sem.proofs.hall.SemHall.closed.Goals as goal
+use Rattle.mea_sem.proofs.hall.SemHall.closed.Goals.{In-Some, Joined-closed, then-closed, else-closed}
+
+-- the semaphore, as it was found
+met : (c : In-Some) → MeetsSemaphore c.self.inside c.args.self.now c.args.number c.args.s c.in-Some.entry.now
+met c = record {
+  meets = record { seen = c.self.view_is; kept = c.self.invariant; least = c.requires.next; low = omega arith };
+  there = sym c.get.ensures.value ∙ ap option_copied c.in-Some.is;
+}
+
+pub unreachable-requires : goal.unreachable-requires
+unreachable-requires c = never_gone c.self.inside c.args.s _ c.self.view_is c.requires.allowed (sym c.get.ensures.value ∙ ap option_copied c.in_default.is)
+
+pub invariant_of-self : goal.invariant_of-self
+invariant_of-self c = (done_closed (met (goal.at.invariant_of-self c).In-Some) _ c.is_closed-closed.ensures.is).kept
+
+-- the answer that it tells
+told : (c : Joined-closed) → (if c.is_closed-closed.result then Yes else No) ≡ c.if-closed.result
+told c = elim c.if-closed.branch [
+  | then-closed w ↦ ap (λ (b : Bool). if b then Yes else No) w.if-closed.true ∙ sym w.result-is
+  | else-closed w ↦
+      ap (λ (b : Bool). if b then Yes else No) w.if-closed.false ∙ sym w.result-is
+]
+
+pub returns : goal.returns
+returns c =
+    let m = met (goal.at.returns c).In-Some in
+    subst (λ (r : Answer). Yields c.args.self.now c.args.number (step c.args.self.now.hall c.args.number (events.Closed c.args.s)) r
+    (record { hall = hall_of (store_in c.self.inside) (c.args.number + 1); wakes = c.self.inside.outbox.wakers; next = c.args.number + 1 })) (told c)
+    (done_closed m _ c.is_closed-closed.ensures.is).yields
