@@ -1,5 +1,6 @@
 pub mod Cell
 pub mod CellLends
+pub mod Inserts
 pub mod Keyed
 pub mod Links
 pub mod Once
