@@ -7,4 +7,5 @@ pub mod Once
 pub mod Permit
 pub mod Slots
 pub mod Table
+pub mod TableLends
 pub mod Waiting

@@ -43,6 +43,8 @@ impl<K: Eq + Hash + Drop, V: Drop, S: BuildHasher + Drop, W: Drop> OnceTable<K, 
     ghost use Rattle.mea_once_core.specs.Links.{Shown, left};
     ghost use Rattle.mea_once_core.specs.Table.{entry_at, number_of, HasCaller, IsSame, HasRoom, Sets, Joins, Makes, Unlists, Retires, PollsEntry, EndsEntry, RestsEntry, empty_cell};
     ghost use Rattle.mea_once_core.specs.Permit.{MayPoll, MayEnd};
+    ghost use Rattle.std.specs.Borrow.{sem};
+    ghost use Rattle.mea_once_core.specs.TableLends.{lends_cell};
     ghost use Rattle.mea_once_core.specs.Inserts.{Inserts, IsIdle, full_cell, last_value, value_in};
 
     /// A table with no entry. It takes no memory.
@@ -114,6 +116,15 @@ impl<K: Eq + Hash + Drop, V: Drop, S: BuildHasher + Drop, W: Drop> OnceTable<K, 
             Some(entry) => &entry.cell,
             None => unreachable!(),
         }
+    }
+
+    /// The cell of an entry, for writing. It takes no memory.
+    pub fn cell_mut(&mut self, number: usize) -> &mut CellCore<V, W>
+        requires { IsSome (entry_at self.old number) }
+        ensures* writes_back { sem 𝓛 (lends_cell K.row V.row S.row W.row S.Hasher.row K.Hash S.BuildHasher S.Hasher.Hasher self.entry number result) }
+        ensures cell { IfSome (entry_at self.old number) (λ e. result.now ≡ e.cell) }
+    {
+        &mut self.entries[number].cell
     }
 
     // A further caller of an entry.
