@@ -1,5 +1,5 @@
 -- a new entry in the place of another
-use Rattle.std.proofs.Common.{◌≡◌, ◌≢◌, ℕ, suc, zero, ◌+◌, ◌<◌, ◌≤◌, ◌==◌, ◌⊎◌, inl, inr, Bool, true, false, not, cond, List, [], ◌∷◌, ◌++◌, slice_get, Option, Some, None, unwrap_or, is_some, IsSome, IfSome, refl, ap, sym, subst, ◌∙◌, arith}
+use Rattle.std.proofs.Common.{◌≡◌, ◌≢◌, ℕ, suc, zero, ◌+◌, ◌==◌, ◌⊎◌, inl, inr, Bool, true, false, not, cond, List, [], ◌∷◌, ◌++◌, slice_get, Option, Some, None, unwrap_or, is_some, IsSome, IfSome, refl, ap, sym, subst, ◌∙◌, arith}
 use Rattle.std.proofs.lemmas.Bool.{cases_eq, eq-eqb, ne_eqb}
 use Rattle.std.proofs.lemmas.Bool.Decides.{nat_tests}
 use Rattle.std.specs.List.{position_or_len}
@@ -14,7 +14,7 @@ use Rattle.mea_once_core.specs.Cell.{Cell}
 use Rattle.mea_once_core.specs.Links.{AreLinked, Shown, shown, shown_at, Changes, Renumbers, unlisted}
 use Rattle.mea_once_core.specs.Table.{Table, entry_at, number_of}
 use Rattle.mea_once_core.specs.Inserts.{Inserts, IsIdle, full_cell, listed_entry, last_value, value_in}
-use Rattle.mea_once_core.proofs.Links.{told-last, shown-updates}
+use Rattle.mea_once_core.proofs.Links.{told-last}
 use Rattle.mea_once_core.proofs.Tables.{unlists, linked-dropped}
 
 module _ {K : Type 0} (eq : K → K → Bool) (key : K) (m n : ℕ) where

@@ -80,11 +80,7 @@ impl<K: Eq + Hash + Drop, V: Clone, S: BuildHasher + Drop, W: Drop> Keyed<K, V, 
     }
 
     // A table of these pairs, in which the last pair of a key stands.
-    pub(crate) fn from_pairs(
-        alloc: Global,
-        pairs: Vec<(K, V)>,
-        hasher: S,
-    ) -> Result<Self, NoMemory>
+    pub(crate) fn from_pairs(alloc: Global, pairs: Vec<(K, V)>, hasher: S) -> Result<Self, NoMemory>
         ensures entries { IfOk result (λ k. (n : ℕ) (e : Shown V W) → entry_at k.table n ≡ Some e → IsIdle e) }
         ensures values { IfOk result (λ k. (key : K) → value_for K.eq k key ≡ last_value K.eq pairs.items key) }
         ensures wakes { IfOk result (λ k. k.wakes ≡ []) }

@@ -60,11 +60,7 @@ impl<K: Eq + Hash + Drop, V: Clone, S: BuildHasher + Drop, W: Drop> MapCore<K, V
     }
 
     /// A map of these pairs, in which the last pair of a key stands.
-    pub fn from_pairs(
-        alloc: Global,
-        pairs: Vec<(K, V)>,
-        hasher: S,
-    ) -> Result<Self, NoMemory>
+    pub fn from_pairs(alloc: Global, pairs: Vec<(K, V)>, hasher: S) -> Result<Self, NoMemory>
         ensures entries { IfOk result (λ m. (n : ℕ) (e : Shown V W) → entry_at m.table n ≡ Some e → IsIdle e) }
         ensures values { IfOk result (λ m. (key : K) → value_for K.eq m key ≡ last_value K.eq pairs.items key) }
         ensures wakes { IfOk result (λ m. m.wakes ≡ []) }

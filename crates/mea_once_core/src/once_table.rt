@@ -210,11 +210,7 @@ impl<K: Eq + Hash + Drop, V: Drop, S: BuildHasher + Drop, W: Drop> OnceTable<K, 
     }
 
     // A table of these pairs, in which the last pair of a key stands.
-    pub(crate) fn from_pairs(
-        alloc: Global,
-        pairs: Vec<(K, V)>,
-        hasher: S,
-    ) -> Result<Self, NoMemory>
+    pub(crate) fn from_pairs(alloc: Global, pairs: Vec<(K, V)>, hasher: S) -> Result<Self, NoMemory>
         ensures entries { IfOk result (λ t. (n : ℕ) (e : Shown V W) → entry_at t n ≡ Some e → IsIdle e) }
         ensures values { IfOk result (λ t. (key : K) → value_in K.eq t key ≡ last_value K.eq pairs.items key) }
     {

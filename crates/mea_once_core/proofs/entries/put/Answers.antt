@@ -1,4 +1,4 @@
-use Rattle.std.proofs.Common.{rules, ◌≡◌, ◌∙◌, Some, refl, ap, sym, subst}
+use Rattle.std.proofs.Common.{rules}
 use Rattle.mea_once_core.proofs.Inserts.{puts-new, puts-over}
 use Rattle.mea_once_core.proofs.entries.put.Goals as goal
 

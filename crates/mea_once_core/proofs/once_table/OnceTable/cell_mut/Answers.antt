@@ -1,6 +1,5 @@
-use Rattle.std.proofs.Common.{◌≡◌, ◌∙◌, Some, IfSome, slice_set, refl, ap, sym, subst}
+use Rattle.std.proofs.Common.{◌≡◌, Some, IfSome, slice_set, refl, ap, sym, subst}
 use Rattle.slab.specs.Slab.{with_value}
-use Rattle.mea_once_core.specs.Cell.{Cell}
 use Rattle.mea_once_core.specs.Table.{Table, entry_at}
 use Rattle.mea_once_core.specs.TableLends.{with_cell, with_cell_of}
 use Rattle.mea_once_core.proofs.Slots.{sets-slot, cell-shown}

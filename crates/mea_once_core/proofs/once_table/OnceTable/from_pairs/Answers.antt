@@ -1,6 +1,6 @@
-use Rattle.std.proofs.Common.{rules, ◌≡◌, ◌∙◌, ◌∷◌, ◌++◌, [], List, length, refl, ap, sym, subst, append_assoc, append-nil, arith}
+use Rattle.std.proofs.Common.{◌≡◌, ◌∙◌, ◌∷◌, [], List, length, refl, ap, sym, append_assoc, append-nil, arith}
 use Rattle.std.specs.Vec.Iter.{into_iter_items}
-use Rattle.mea_once_core.specs.Inserts.{value_in, last_value}
+use Rattle.mea_once_core.specs.Inserts.{last_value}
 use Rattle.mea_once_core.proofs.Inserts.{made-empty, made-more}
 use Rattle.mea_once_core.proofs.once_table.OnceTable.from_pairs.Goals as goal
 
