@@ -397,19 +397,22 @@ fn mapped<S: BuildHasher + Drop>(alloc: Global, hasher: S) -> Result<Vec<Told>, 
     Ok(told)
 }
 
-// What 64 keys are told by a group with this hasher, in which calls of all of them run at once.
+// What 64 keys are told by a group with this hasher, beside calls of 64 others that never end: two calls of
+// each, of which the first computes.
 fn flown<S: BuildHasher + Drop>(alloc: Global, hasher: S) -> Result<Vec<Told>, Fail> {
     let mut group: FlightCore<u64, u64, S, u64> = FlightCore::with_hasher(alloc, hasher);
-    let mut calls = Vec::new(alloc);
     let mut told = Vec::new(alloc);
     for key in 0..64u64 {
-        let mut call = KeyCall::new(key, Settling::new());
-        told.push(worked(&mut group, &mut call, key))?;
-        calls.push(call)?;
-    }
-    for call in &mut calls {
-        let _ = call.call.init.settle(Ok(7));
-        told.push(worked(&mut group, call, 300))?;
+        let mut other = KeyCall::new(key + 64, Settling::new());
+        let mut first = KeyCall::new(key, Settling::new());
+        let mut second = KeyCall::new(key, Settling::new());
+        told.push(worked(&mut group, &mut other, 50))?;
+        told.push(worked(&mut group, &mut first, 100))?;
+        told.push(worked(&mut group, &mut second, 200))?;
+        let _ = first.call.init.settle(Ok(key + 1000));
+        told.push(worked(&mut group, &mut first, 101))?;
+        told.push(Told::found(group.next_wake()))?;
+        told.push(worked(&mut group, &mut second, 201))?;
     }
     Ok(told)
 }
@@ -425,8 +428,10 @@ fn hashes_change_nothing(rt: HostRuntime) -> Result<(), Fail> {
     assert_eq!(rt; told.last().copied(), Some(Told::Value(1063)));
     assert!(rt; told == mapped(rt.alloc(), spread)?);
     let told = flown(rt.alloc(), Collides)?;
-    assert_eq!(rt; told.len(), 128);
-    assert_eq!(rt; told.last().copied(), Some(Told::Value(7)));
+    assert_eq!(rt; told.len(), 384);
+    assert_eq!(rt; told.get(3).copied(), Some(Told::Value(1000)));
+    assert_eq!(rt; told.get(4).copied(), Some(Told::Value(200)));
+    assert_eq!(rt; told.last().copied(), Some(Told::Value(1063)));
     assert!(rt; told == flown(rt.alloc(), spread)?);
     Ok(())
 }

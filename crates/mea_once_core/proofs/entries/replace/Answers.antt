@@ -18,7 +18,7 @@ returns g c =
     let there = keyed c.args.entries.now c.args.numbers.now.entries (g.K.PartialEq.eq c.args.key) c.args.number c.requires.linked c.requires.there in
     let made = subst (λ n. slab.Updates c.args.entries.now c.insert_reserved.new.self n (Some e)) (c.insert_reserved.ensures.key ∙ sym c.vacant_key-fresh.ensures.value) c.insert_reserved.ensures.updates in
     let all = replaces c.args.entries.now c.insert_reserved.new.self c.seat.new.entries c.drop_unused.new.entries c.vacant_key-fresh.result c.args.number e c.vacant_key-fresh.ensures.vacant there made
-        (slab.get c.insert_reserved.new.self c.args.number) refl c.seat.ensures.seated (slab.get c.seat.new.entries c.args.number) refl c.drop_unused.ensures.used c.drop_unused.ensures.unused in
+    (slab.get c.insert_reserved.new.self c.args.number) refl c.seat.ensures.seated (slab.get c.seat.new.entries c.args.number) refl c.drop_unused.ensures.used c.drop_unused.ensures.unused in
     record {
       linked = replaced-linked g.K.PartialEq.eq c.args.entries.now c.insert_reserved.new.self c.seat.new.entries c.drop_unused.new.entries c.args.numbers.now.entries c.insert_full.new.self.entries c.args.key
           c.vacant_key-fresh.result c.args.number c.in-Ok.place e c.requires.linked c.vacant_key-fresh.ensures.vacant there refl made
