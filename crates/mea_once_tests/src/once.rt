@@ -327,6 +327,7 @@ fn a_turn_is_taken(rt: HostRuntime) {
         stage: first,
     });
     assert_eq!(rt; cell.next_wake(), Some(11));
+    assert!(rt; second.value.is_some());
     assert_eq!(rt; cell.end_insert_checked(second), 2);
     assert_eq!(rt; cell.next_wake(), Some(12));
     assert_eq!(rt; polled(&mut cell, &mut call, 13), Told::Pending);
