@@ -1,4 +1,5 @@
 ghost use Rattle.std.specs.Prelude.{◌≡◌, ◌≤◌, ◌+◌};
+ghost use Rattle.mea_lock.specs.Halls.{TakesNoMemory};
 
 use mea_base::{Answer, Stop};
 use mea_lock::{LockEvent, LockHall};
