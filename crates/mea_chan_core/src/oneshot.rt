@@ -87,6 +87,13 @@ impl<T: Drop, W: Drop> OneshotCore<T, W> {
         !self.receiver
     }
 
+    /// Whether the receiver's waker is kept, to be woken by the message or by the end of the sender. It takes no memory.
+    pub fn is_waiting(&self) -> bool
+        ensures { result ≡ is_some self.now.waker }
+    {
+        self.waker.is_some()
+    }
+
     /// Whether a message is there to be received. It takes no memory.
     pub fn has_message(&self) -> bool
         ensures { result ≡ is_some self.now.message }
