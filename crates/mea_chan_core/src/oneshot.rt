@@ -55,6 +55,7 @@ impl<T: Drop, W: Drop> OneshotCore<T, W> {
     pub fn send(&mut self, message: T) -> Result<(), SendError<T>>
         ensures answer { result ≡ send_answer self.old message }
         ensures after { self.new ≡ after_send self.old message }
+        ensures first { self.old.sender ≡ true → self.old.message ≡ None }
     {
         if !self.receiver || !self.sender {
             return Err(SendError(message));

@@ -1,0 +1,11 @@
+//! The hall of channels for one receiver and of boxes: many of them by name, with their senders and receivers, over the
+//! cores of `mea_chan_core`. It is proved against the model of `mea_chan_model`, and knows the cores by their contracts
+//! alone.
+#![tactic(auto)]
+
+mod mailbox_core;
+mod oneshots;
+mod receiver_entry;
+mod unbounded;
+
+pub use mea_chan_model::ChanEvent;
