@@ -3,6 +3,7 @@
 //! alone.
 #![tactic(auto)]
 
+mod channel_entry;
 mod mailbox_core;
 mod oneshots;
 mod receiver_entry;
