@@ -1,0 +1,2 @@
+pub mod OneChannel
+pub mod MailboxEvents

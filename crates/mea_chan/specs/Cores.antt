@@ -50,3 +50,7 @@ has_message m = is_some_message m.queued
 
 abbrev pub no_message_comes : Mailbox → Bool
 no_message_comes m = if m.senders == 0 then not (has_message m) else false
+
+-- a channel with a sender and a receiver
+abbrev pub new_core : Mailbox
+new_core = record { queued = []; senders = 1; ended = false; waker = None; wakes = [] }

@@ -1,2 +1,4 @@
 pub mod Cores
 pub mod Entries
+pub mod MailboxParts
+pub mod Lends

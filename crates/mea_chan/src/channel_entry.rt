@@ -149,6 +149,7 @@ impl<C: SingleCore> ChannelEntry<C> {
         requires room { kept self.old ≤ ready.old.registered }
         ensures sent { result ≡ sent_answer self.old }
         ensures settles { Settles self.old (last_sent self.old message) self.new ready.old ready.new }
+        ensures one { self.old.senders ≡ 1 }
     {
         let before = self.core.waiting();
         let sent = self.core.send_last(message);

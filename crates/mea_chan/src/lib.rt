@@ -5,6 +5,7 @@
 
 mod channel_entry;
 mod mailbox_core;
+mod mailbox_part;
 mod oneshots;
 mod receiver_entry;
 mod unbounded;

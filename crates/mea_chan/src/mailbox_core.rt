@@ -75,7 +75,8 @@ pub trait SingleCore: MailboxCore {
         requires some { 0 < (Self.mailbox_of self.old).senders }
         requires quiet { (Self.mailbox_of self.old).wakes ≡ [] }
         ensures sent { result ≡ sent_answer (Self.mailbox_of self.old) }
-        ensures after { Self.mailbox_of self.new ≡ last_sent (Self.mailbox_of self.old) message };
+        ensures after { Self.mailbox_of self.new ≡ last_sent (Self.mailbox_of self.old) message }
+        ensures one { (Self.mailbox_of self.old).senders ≡ 1 };
 
     /// Whether the receiver has ended.
     fn is_closed(&self) -> bool
