@@ -1,4 +1,5 @@
 pub mod Cores
 pub mod Entries
 pub mod MailboxParts
+pub mod BoxParts
 pub mod Lends

@@ -3,6 +3,8 @@
 //! alone.
 #![tactic(auto)]
 
+mod box_core;
+mod box_part;
 mod channel_entry;
 mod mailbox_core;
 mod mailbox_part;
