@@ -1,2 +1,3 @@
 pub mod OneChannel
 pub mod MailboxEvents
+pub mod Playing

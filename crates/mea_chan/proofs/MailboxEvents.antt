@@ -18,9 +18,10 @@ use Rattle.mea_named.specs.ByName.{Names, seen, own}
 use Rattle.mea_named.specs.Play.{Part, PartYields, PartRests, found}
 use Rattle.mea_named.proofs.Cases.{found_is}
 use Rattle.mea_named.proofs.Halls as halls
-use Rattle.mea_named.proofs.Own.{seen-at, seen-empty, seen-insert, seen-remove, total-seen, own-at, own-none, own-put, own-gone, own-empty, insert_same, put_gone, gone_none, len-new, Moves, Stays, Comes, Goes, Follows}
+use Rattle.mea_named.proofs.Own.{seen-at, seen-back, own-seen, len-seen, seen-empty, seen-insert, seen-remove, total-seen, own-at, own-none, own-put, own-gone, own-empty, insert_same, put_gone, gone_none, len-new, Moves, Stays, Comes, Goes, Follows}
 use Rattle.mea_chan_core.specs.Mailbox.{recv_answer, after_recv, without_sender}
 use Rattle.mea_chan_model.specs.Mailboxes as model
+use Rattle.mea_chan_model.specs.Valid.{AreValid}
 use Rattle.mea_chan_model.specs.Mailboxes.{Mailboxes, Receiver, is_channel, is_sender, is_receiver, polls_as, senders_in, channel_of, registered, tidied_channels}
 use Rattle.mea_chan_model.specs.MailboxActions.{act_in, cause_in, most_senders, Make, Copy, Send, SendLast, EndSender, Receive, Poll, EndReceiver, Turn, TellClosed, TellOver, TellMessage}
 use Rattle.mea_chan.specs.declared.receiver_entry.ReceiverEntry.{ReceiverEntry}
@@ -71,6 +72,17 @@ module _ {old : Part Mailboxes} (cs : Names Mailbox) (ss : Names ℕ) (rs : Name
       sym (ap (λ n. if n == most_senders then Some stops.Overflow else None) (ap senders_in channel))
       ∙ sym (ap (λ b. if b then (if senders_in (channel_of (mailboxes_seen cs ss rs) (get ss s)) == most_senders then Some stops.Overflow else None) else Some stops.Unknown) (ap is_some sender))
       ∙ ap (λ (p : Part Mailboxes). cause_in p.hall (Copy s)) view
+
+-- what is kept to is seen
+pub seen_valid : {old : Part Mailboxes} (cs : Names Mailbox) (ss : Names ℕ) (rs : Names ReceiverEntry) (next : ℕ) → ◌≡◌ {A = Part Mailboxes} (record { hall = mailboxes_seen cs ss rs; next = next }) old → IsKept cs ss rs next → AreValid old.hall
+seen_valid cs ss rs next view kept = subst (λ (p : Part Mailboxes). AreValid p.hall) view (record {
+  senders = λ o c there. let it = seen-back channel_seen cs o c there in sym (ap (λ (c : model.Mailbox). c.senders) it.2) ∙ (kept.each o it.0 it.1).senders;
+  receivers = λ o c there. let it = seen-back channel_seen cs o c there in
+      sym (ap (λ (c : model.Mailbox). cond {A = ℕ} c.ended 0 1) it.2) ∙ (kept.each o it.0 it.1).receivers
+      ∙ sym (ap (λ m. len m) (own-seen of_receiver (λ (x : Receiver). x.channel) receiver_seen (λ x. refl) o rs) ∙ len-seen receiver_seen (own of_receiver o rs));
+  waits = λ o c w there waker. let it = seen-back channel_seen cs o c there in
+      subst (λ (c : model.Mailbox). (c.queued ≡ []) × (0 < c.senders)) it.2 ((kept.each o it.0 it.1).waits w (ap (λ (c : model.Mailbox). c.waker) it.2 ∙ waker));
+})
 
 receiver_some : (p : Option ReceiverEntry) (polls : Bool) → polls_as (option_map receiver_seen p) polls ≡ true → IsSome p
 receiver_some None polls is = absurd (cc)
@@ -159,7 +171,7 @@ module _ {old : Part Mailboxes} {i : ℕ} (s : Site old i) where
         rw (own-put of_sender i s.ss i i refl, own-put of_receiver i s.rs i newcomer refl, nobody, nothing) (record {
           senders = let one = len-new (empty {X = ℕ} {R = nat_cmp}) i i (nothing_there ℕ i) in omega (arith, one, len-empty nat_cmp ℕ);
           receivers = let one = len-new (empty {X = ReceiverEntry} {R = nat_cmp}) i newcomer (nothing_there ReceiverEntry i) in omega (arith, one, len-empty nat_cmp ReceiverEntry);
-          silent = λ none. refl;
+          waits = λ w kept. absurd (cc);
           quiet = refl;
         })
 
@@ -228,7 +240,7 @@ module _ {old : Part Mailboxes} {i : ℕ} (s : Site old i) where
 
       kept_tidied : (over : Bool) → is_over m' ≡ over → kept_in (tidied over) + kept m ≡ kept_in s.cs + kept m'
       kept_tidied true is =
-          let nobody = one.none_kept m' (good.silent (one.over_is m' is).1) in
+          let nobody = one.none_kept m' (one.silent m' _ _ good (one.over_is m' is).1) in
           let here : weight (λ o m. kept m) o (get s.cs o) ≡ kept m = ap (weight (λ o m. kept m) o) there in
           let gone : kept_in (remove (insert s.cs o m') o) ≡ kept_in (remove s.cs o) = ap kept_in (put_gone s.cs o m') in
           omega (arith, gone, nobody, here, total-remove (λ o m. kept m) s.cs o)
@@ -348,7 +360,7 @@ module _ {old : Part Mailboxes} {i : ℕ} (s : Site old i) where
               (says ∙ one.told_none m lives none) refl refl refl refl refl,
         )
         at (v ∷ rest) some = let counted = kept_now x.channel m there (record m { queued = rest }) in rw (is ∙ one.after_some m v rest some) (
-          turns x.channel m there (record m { queued = rest }) s.ss s.rs Stays Stays (one.received_kept m _ _ (its_kept x.channel m there) rest),
+          turns x.channel m there (record m { queued = rest }) s.ss s.rs Stays Stays (one.received_kept m _ _ (its_kept x.channel m there) v rest some),
           rests_as (λ h. act_in h i (Receive r polls)) (model.receive_of (mailboxes_seen s.cs s.ss s.rs) x.channel (channel_seen m) (v ∷ rest)) answer (insert s.cs x.channel (record m { queued = rest })) s.ss s.rs
               (found_receiver (λ o c. model.receive_of (mailboxes_seen s.cs s.ss s.rs) o c c.queued) ∙ ap (model.receive_of (mailboxes_seen s.cs s.ss s.rs) x.channel (channel_seen m)) some)
               (says ∙ ap told (one.answer_some m v rest some)) (seen-insert channel_seen s.cs x.channel (record m { queued = rest })) refl refl refl (omega (arith, counted)),
@@ -385,7 +397,7 @@ module _ {old : Part Mailboxes} {i : ℕ} (s : Site old i) where
             let counted = kept_now x.channel m there (record m { waker = Some w }) in
             let alike = ap kept entry in
             rw entry (
-              turns x.channel m there (record m { waker = Some w }) s.ss s.rs Stays Stays (one.waits_kept m _ _ (its_kept x.channel m there) w some),
+              turns x.channel m there (record m { waker = Some w }) s.ss s.rs Stays Stays (one.waits_kept m _ _ (its_kept x.channel m there) w none some),
               yields_as (λ h. act_in h i (Poll r w)) (quietly (model.with_channel (mailboxes_seen s.cs s.ss s.rs) x.channel (record (channel_seen m) { waker = Some w })) answers.Pending) answer (insert s.cs x.channel (record m { waker = Some w })) s.ss s.rs before after
                   (acted [] none ∙ ap (λ b. if b then quietly (mailboxes_seen s.cs s.ss s.rs) answers.Gone else quietly (model.with_channel (mailboxes_seen s.cs s.ss s.rs) x.channel (record (channel_seen m) { waker = Some w })) answers.Pending) some)
                   (polls.told ∙ ap poll_told answered) (seen-insert channel_seen s.cs x.channel (record m { waker = Some w })) refl refl same_wakers (omega (arith, counted, alike, polls.counted)),
@@ -399,7 +411,7 @@ module _ {old : Part Mailboxes} {i : ℕ} (s : Site old i) where
             let counted = kept_now x.channel m there (record m { queued = rest }) in
             let alike = ap kept entry in
             rw entry (
-              turns x.channel m there (record m { queued = rest }) s.ss s.rs Stays Stays (one.received_kept m _ _ (its_kept x.channel m there) rest),
+              turns x.channel m there (record m { queued = rest }) s.ss s.rs Stays Stays (one.received_kept m _ _ (its_kept x.channel m there) v rest some),
               yields_as (λ h. act_in h i (Poll r w)) (model.poll_of (mailboxes_seen s.cs s.ss s.rs) w x.channel (channel_seen m) (v ∷ rest)) answer (insert s.cs x.channel (record m { queued = rest })) s.ss s.rs before after
                   (acted (v ∷ rest) some) (polls.told ∙ ap poll_told answered) (seen-insert channel_seen s.cs x.channel (record m { queued = rest })) refl refl same_wakers (omega (arith, counted, alike, polls.counted)),
             )

@@ -19,6 +19,17 @@ use Rattle.mea_chan.specs.MailboxParts.{channel_seen, AreKept}
 abbrev pub settled : Mailbox → Mailbox
 settled m = record m { wakes = [] }
 
+no_waker : (w : ℕ) → ◌≡◌ {A = Option ℕ} None (Some w) → ⊥
+no_waker w is = absurd (cc)
+
+-- where no sender lives nobody waits
+pub silent : (m : Mailbox) (ss : Names ℕ) (rs : Names ReceiverEntry) → AreKept m ss rs → m.senders ≡ 0 → m.waker ≡ None
+silent m ss rs k none = at m.waker refl
+  where
+    at : (o : Option ℕ) → m.waker ≡ o → m.waker ≡ None
+    at None is = is
+    at (Some w) is = absurd (let some = (k.waits w is).1 in omega (arith, some, none))
+
 -- ---- what is seen of each change, and the wakers that it makes ready
 module _ (m : Mailbox) where
   pub seen_sent : (v : ℕ) → channel_seen (settled (message_sent m v)) ≡ model.with_message (channel_seen m) v
@@ -81,25 +92,25 @@ module _ (m : Mailbox) where
     sent_kept v = at m.ended refl
       where
         at : (b : Bool) → m.ended ≡ b → AreKept (settled (if b then m else with_message m v)) ss rs
-        at true is = record { senders = k.senders; receivers = k.receivers; silent = k.silent; quiet = refl }
-        at false is = record { senders = k.senders; receivers = k.receivers; silent = λ none. refl; quiet = refl }
+        at true is = record { senders = k.senders; receivers = k.receivers; waits = k.waits; quiet = refl }
+        at false is = record { senders = k.senders; receivers = k.receivers; waits = λ w kept. absurd (no_waker w kept); quiet = refl }
 
-    pub received_kept : (rest : List ℕ) → AreKept (record m { queued = rest }) ss rs
-    received_kept rest = record { senders = k.senders; receivers = k.receivers; silent = k.silent; quiet = k.quiet }
+    pub received_kept : (v : ℕ) (rest : List ℕ) → m.queued ≡ v ∷ rest → AreKept (record m { queued = rest }) ss rs
+    received_kept v rest queue = record { senders = k.senders; receivers = k.receivers; waits = λ w kept. absurd (let none = sym queue ∙ (k.waits w kept).0 in cc); quiet = k.quiet }
 
-    pub waits_kept : (w : ℕ) → (m.senders == 0) ≡ false → AreKept (record m { waker = Some w }) ss rs
-    waits_kept w some = record { senders = k.senders; receivers = k.receivers; silent = λ none. absurd (eqb-false m.senders 0 some none); quiet = k.quiet }
+    pub waits_kept : (w : ℕ) → m.queued ≡ [] → (m.senders == 0) ≡ false → AreKept (record m { waker = Some w }) ss rs
+    waits_kept w queue some = record { senders = k.senders; receivers = k.receivers; waits = λ v kept. (queue, at_least m.senders (eqb-false m.senders 0 some)); quiet = k.quiet }
+      where
+        at_least : (n : ℕ) → (n ≡ 0 → ⊥) → 0 < n
+        at_least n more = omega (arith, more)
 
     pub copied_kept : (i o : ℕ) → get ss i ≡ None → AreKept (record m { senders = m.senders + 1 }) (insert ss i o) rs
     copied_kept i o absent = record {
       senders = let more = len-new ss i o absent in omega (arith, more, k.senders);
       receivers = k.receivers;
-      silent = λ none. absurd (at m.senders none);
+      waits = λ w kept. ((k.waits w kept).0, omega arith);
       quiet = k.quiet;
     }
-      where
-        at : (n : ℕ) → n + 1 ≡ 0 → ⊥
-        at n is = omega (arith, is)
 
     module _ (s o : ℕ) (there : get ss s ≡ Some o) where
       pub some_sender : 0 < m.senders
@@ -110,19 +121,19 @@ module _ (m : Mailbox) where
       less_kept = at (m.senders == 1) refl
         where
           at : (b : Bool) → (m.senders == 1) ≡ b → AreKept (settled (if b then record m { senders = 0; waker = None; wakes = m.wakes ++ option_to_list m.waker } else record m { senders = m.senders - 1 })) (remove ss s) rs
-          at true is = record { senders = let one = eqb-true m.senders 1 is in let less = len-gone ss s o there in omega (arith, one, less, k.senders); receivers = k.receivers; silent = λ none. refl; quiet = refl }
+          at true is = record { senders = let one = eqb-true m.senders 1 is in let less = len-gone ss s o there in omega (arith, one, less, k.senders); receivers = k.receivers; waits = λ w kept. absurd (no_waker w kept); quiet = refl }
           at false is = record {
             senders = let less = len-gone ss s o there in omega (arith, less, k.senders);
             receivers = k.receivers;
-            silent = λ none. absurd (let more = eqb-false m.senders 1 is in let some = some_sender in at_most m.senders some more none);
+            waits = λ w kept. ((k.waits w kept).0, let more = eqb-false m.senders 1 is in let some = some_sender in at_least m.senders some more);
             quiet = refl;
           }
             where
-              at_most : (n : ℕ) → 0 < n → (n ≡ 1 → ⊥) → n - 1 ≡ 0 → ⊥
-              at_most n some more none = omega (arith, some, more, none)
+              at_least : (n : ℕ) → 0 < n → (n ≡ 1 → ⊥) → 0 < n - 1
+              at_least n some more = omega (arith, some, more)
 
       pub last_kept : (v : ℕ) → m.senders ≡ 1 → AreKept (settled (last_sent m v)) (remove ss s) rs
-      last_kept v one = record { senders = let less = len-gone ss s o there in omega (arith, one, less, k.senders); receivers = k.receivers; silent = λ none. refl; quiet = refl }
+      last_kept v one = record { senders = let less = len-gone ss s o there in omega (arith, one, less, k.senders); receivers = k.receivers; waits = λ w kept. absurd (no_waker w kept); quiet = refl }
 
     module _ (r : ℕ) (x : ReceiverEntry) (there : get rs r ≡ Some x) where
       pub lives : m.ended ≡ false
@@ -136,20 +147,20 @@ module _ (m : Mailbox) where
       ended_kept falls = record {
         senders = k.senders;
         receivers = let less = len-gone rs r x there in let one = ap (λ b. cond {A = ℕ} b 0 1) (sym lives) ∙ k.receivers in omega (arith, less, one);
-        silent = at falls;
+        waits = at falls;
         quiet = refl;
       }
         where
-          at : (b : Bool) → m.senders ≡ 0 → (if b then None else m.waker) ≡ None
-          at true none = refl
-          at false none = k.silent none
+          at : (b : Bool) (w : ℕ) → (if b then None else m.waker) ≡ Some w → (◌≡◌ {A = List ℕ} [] []) × (0 < m.senders)
+          at true w kept = absurd (no_waker w kept)
+          at false w kept = (refl, (k.waits w kept).1)
 
       -- it becomes a future
       pub turned_kept : (i : ℕ) (y : ReceiverEntry) → get (remove rs r) i ≡ None → AreKept m ss (insert (remove rs r) i y)
       turned_kept i y absent = record {
         senders = k.senders;
         receivers = let less = len-gone rs r x there in let some = len-some rs r x there in let more = len-new (remove rs r) i y absent in omega (arith, less, some, more, k.receivers);
-        silent = k.silent;
+        waits = k.waits;
         quiet = k.quiet;
       }
 

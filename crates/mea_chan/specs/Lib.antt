@@ -3,3 +3,4 @@ pub mod Entries
 pub mod MailboxParts
 pub mod BoxParts
 pub mod Lends
+pub mod Halls

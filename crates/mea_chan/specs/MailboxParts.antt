@@ -1,5 +1,5 @@
 -- the channels of one kind as the hall keeps them: what is seen of them, and what they keep to
-use Rattle.std.specs.Prelude.{ℕ, ◌≡◌, cond, [], None}
+use Rattle.std.specs.Prelude.{ℕ, ◌≡◌, ◌<◌, cond, [], Some}
 use Rattle.std.specs.FinMap.{len}
 use Rattle.mea_named.specs.ByName.{Names, seen}
 use Rattle.mea_named.specs.HallKept.{HallKept}
@@ -23,8 +23,8 @@ mailboxes_seen cs ss rs = record { channels = seen channel_seen cs; senders = ss
 pub record AreKept (m : Mailbox) (ss : Names ℕ) (rs : Names ReceiverEntry) : Type 0 where
   pub senders : m.senders ≡ len ss
   pub receivers : cond m.ended 0 1 ≡ len rs
-  -- where no sender lives nobody waits
-  pub silent : m.senders ≡ 0 → m.waker ≡ None
+  -- while a waker is kept nothing is queued, and a sender lives
+  pub waits : (w : ℕ) → m.waker ≡ Some w → (m.queued ≡ []) × (0 < m.senders)
   -- its wakers are handed on after each event
   pub quiet : m.wakes ≡ []
 

@@ -6,10 +6,13 @@
 mod box_core;
 mod box_part;
 mod channel_entry;
+mod hall;
+mod kinds;
 mod mailbox_core;
 mod mailbox_part;
 mod oneshots;
 mod receiver_entry;
 mod unbounded;
 
+pub use hall::ChanHall;
 pub use mea_chan_model::ChanEvent;

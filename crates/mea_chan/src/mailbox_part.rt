@@ -3,6 +3,7 @@ ghost use Rattle.std.specs.FinMap as map;
 ghost use Rattle.mea_named.specs.Play.{PartYields, PartRests};
 ghost use Rattle.mea_chan_model.specs.Mailboxes.{no_mailboxes, is_channel, is_sender, is_there, is_receiver, senders_beside, registered};
 ghost use Rattle.mea_chan_model.specs.MailboxActions.{act_in, cause_in, Make, Copy, Send, SendLast, EndSender, Receive, Poll, EndReceiver, Turn, TellClosed, TellOver, TellMessage};
+ghost use Rattle.mea_chan_model.specs.Valid.{AreValid};
 ghost use Rattle.mea_chan.specs.Cores.{new_core};
 ghost use Rattle.mea_chan.specs.Lends.{StandsFor};
 
@@ -76,6 +77,13 @@ impl<C: MailboxCore> MailboxPart<C> {
             Some(receiver) => is_as(receiver.polls, polls),
             None => false,
         }
+    }
+
+    /// The channels have the senders and receivers that live. It does nothing.
+    pub fn are_valid(&self)
+        ensures { AreValid self.now.hall }
+    {
+        let _next = self.next;
     }
 
     /// Makes a channel of a new core, with a sender and a receiver. On an error nothing has changed.
