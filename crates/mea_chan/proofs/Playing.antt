@@ -5,7 +5,8 @@ use Rattle.mea_base.specs.declared.answer.Answer.{Answer}
 use Rattle.mea_base.specs.Family.{Outcome}
 use Rattle.mea_base.specs.Ready.{Waking}
 use Rattle.mea_base.proofs.Totals.{total-empty}
-use Rattle.mea_named.specs.Play.{Part, PartYields, PartRests}
+use Rattle.mea_named.specs.Play.{Part, PartYields, PartRests, Yields}
+use Rattle.mea_chan_model.proofs.Wakers.{box_quiet}
 use Rattle.mea_chan_model.specs.declared.event.ChanEvent.{ChanEvent}
 use Rattle.mea_chan_model.specs.Mailboxes.{Mailbox, Mailboxes, kept, registered}
 use Rattle.mea_chan_model.specs.MailboxActions.{act_in}
@@ -32,6 +33,21 @@ pub record Holds (u o : Part Mailboxes) (b p : Boxes) (ready : Waking ℕ) (next
 
 pub none_registered : all_registered empty_hall ≡ 0
 none_registered = omega (arith, total-empty (λ o (c : Mailbox). kept c))
+
+-- it holds after an event on boxes
+stays : (u o : Part Mailboxes) (b p : Boxes) (u' o' : Part Mailboxes) (b' p' : Boxes) (before after : Waking ℕ) (next i : ℕ) → Holds u o b p before next → next ≤ i → u' ≡ u → o' ≡ o → after ≡ before → Holds u' o' b' p' after (i + 1)
+stays u o b p u' o' b' p' before after next i held later same alike still =
+    let first = ap (λ (p : Part Mailboxes). registered p.hall) same in
+    let second = ap (λ (p : Part Mailboxes). registered p.hall) alike in
+    let first_next = ap (λ (p : Part Mailboxes). p.next) same in
+    let second_next = ap (λ (p : Part Mailboxes). p.next) alike in
+    let count = ap (λ (w : Waking ℕ). w.registered) still in
+    record {
+      unbounded = omega (arith, first_next, held.unbounded, later);
+      oneshots = omega (arith, second_next, held.oneshots, later);
+      counted = omega (arith, first, second, count, held.counted);
+      few = omega (arith, count, held.few, later);
+    }
 
 -- it holds after an event
 pub holds_after : (u o : Part Mailboxes) (b p : Boxes) (u' o' : Part Mailboxes) (b' p' : Boxes) (before after : Waking ℕ) (next i : ℕ) (e : ChanEvent) (answer : Answer) → Holds u o b p before next → next ≤ i
@@ -63,33 +79,29 @@ holds_after u o b p u' o' b' p' before after next i e answer held later plays gr
           counted = omega (arith, hall, other, plays.yields.counted, held.counted);
           few = omega (arith, hall, other, plays.yields.counted, held.counted, held.few, few, later);
         }
-    at (OfBoxes Full a) plays few = stays plays.unbounded plays.oneshots plays.wakers
-      where
-        stays : u' ≡ u → o' ≡ o → after ≡ before → Holds u' o' b' p' after (i + 1)
-        stays same alike still =
-            let first = ap (λ (p : Part Mailboxes). registered p.hall) same in
-            let second = ap (λ (p : Part Mailboxes). registered p.hall) alike in
-            let first_next = ap (λ (p : Part Mailboxes). p.next) same in
-            let second_next = ap (λ (p : Part Mailboxes). p.next) alike in
-            let count = ap (λ (w : Waking ℕ). w.registered) still in
-            record {
-              unbounded = omega (arith, first_next, held.unbounded, later);
-              oneshots = omega (arith, second_next, held.oneshots, later);
-              counted = omega (arith, first, second, count, held.counted);
-              few = omega (arith, count, held.few, later);
-            }
-    at (OfBoxes Optional a) plays few = stays plays.unbounded plays.oneshots plays.wakers
-      where
-        stays : u' ≡ u → o' ≡ o → after ≡ before → Holds u' o' b' p' after (i + 1)
-        stays same alike still =
-            let first = ap (λ (p : Part Mailboxes). registered p.hall) same in
-            let second = ap (λ (p : Part Mailboxes). registered p.hall) alike in
-            let first_next = ap (λ (p : Part Mailboxes). p.next) same in
-            let second_next = ap (λ (p : Part Mailboxes). p.next) alike in
-            let count = ap (λ (w : Waking ℕ). w.registered) still in
-            record {
-              unbounded = omega (arith, first_next, held.unbounded, later);
-              oneshots = omega (arith, second_next, held.oneshots, later);
-              counted = omega (arith, first, second, count, held.counted);
-              few = omega (arith, count, held.few, later);
-            }
+    at (OfBoxes Full a) plays few = stays u o b p u' o' b' p' before after next i held later plays.unbounded plays.oneshots plays.wakers
+    at (OfBoxes Optional a) plays few = stays u o b p u' o' b' p' before after next i held later plays.unbounded plays.oneshots plays.wakers
+
+-- what was done is what the model says
+pub yields_of : (u o : Part Mailboxes) (b p : Boxes) (u' o' : Part Mailboxes) (b' p' : Boxes) (before after : Waking ℕ) (next i : ℕ) (m : Meaning) (answer : Answer) → PlaysBy m u o b p i answer u' o' b' p' before after
+    → Yields (record { hall = hall_of u o b p; wakes = before.wakers; next = next }) i (step_by (hall_of u o b p) i m) answer (record { hall = hall_of u' o' b' p'; wakes = after.wakers; next = i + 1 })
+yields_of u o b p u' o' b' p' before after next i (OfChannels Unbounded a) answer plays = record {
+  replied = plays.yields.replied;
+  moved = λ j. record { hall = record { unbounded = ap (λ (p : Part Mailboxes). p.hall) plays.yields.moved j; oneshots = ap (λ (p : Part Mailboxes). p.hall) plays.oneshots j; boxes = plays.boxes j; option_boxes = plays.option_boxes j }; wakes = plays.yields.woken j; next = i + 1 };
+}
+yields_of u o b p u' o' b' p' before after next i (OfChannels Oneshots a) answer plays = record {
+  replied = plays.yields.replied;
+  moved = λ j. record { hall = record { unbounded = ap (λ (p : Part Mailboxes). p.hall) plays.unbounded j; oneshots = ap (λ (p : Part Mailboxes). p.hall) plays.yields.moved j; boxes = plays.boxes j; option_boxes = plays.option_boxes j }; wakes = plays.yields.woken j; next = i + 1 };
+}
+yields_of u o b p u' o' b' p' before after next i (OfBoxes Full a) answer plays =
+    let same = ap (λ (w : Waking ℕ). w.wakers) plays.wakers ∙ sym (append-nil before.wakers) ∙ ap (λ ws. before.wakers ++ ws) (sym (box_quiet b i a)) in
+    record {
+      replied = plays.yields.replied;
+      moved = λ j. record { hall = record { unbounded = ap (λ (p : Part Mailboxes). p.hall) plays.unbounded j; oneshots = ap (λ (p : Part Mailboxes). p.hall) plays.oneshots j; boxes = plays.yields.moved j; option_boxes = plays.option_boxes j }; wakes = same j; next = i + 1 };
+    }
+yields_of u o b p u' o' b' p' before after next i (OfBoxes Optional a) answer plays =
+    let same = ap (λ (w : Waking ℕ). w.wakers) plays.wakers ∙ sym (append-nil before.wakers) ∙ ap (λ ws. before.wakers ++ ws) (sym (box_quiet p i a)) in
+    record {
+      replied = plays.yields.replied;
+      moved = λ j. record { hall = record { unbounded = ap (λ (p : Part Mailboxes). p.hall) plays.unbounded j; oneshots = ap (λ (p : Part Mailboxes). p.hall) plays.oneshots j; boxes = plays.boxes j; option_boxes = plays.yields.moved j }; wakes = same j; next = i + 1 };
+    }

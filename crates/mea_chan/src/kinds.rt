@@ -51,9 +51,8 @@ impl Kinds {
             ChanEvent::MuTryr(r) | ChanEvent::MuRecv(r, _) | ChanEvent::MuEndr(r) => unknown_unless(
                 self.unbounded.is_receiver(r, true),
             ),
-            ChanEvent::OsSend(s, _) | ChanEvent::OsEnds(s) | ChanEvent::OsClosed(s) => unknown_unless(
-                self.oneshots.is_sender(s),
-            ),
+            ChanEvent::OsSend(s, _) | ChanEvent::OsEnds(s) | ChanEvent::OsClosed(s) =>
+                unknown_unless(self.oneshots.is_sender(s)),
             ChanEvent::OsClosedr(r) | ChanEvent::OsHas(r) | ChanEvent::OsTry(r) => unknown_unless(
                 self.oneshots.is_receiver(r, false),
             ),

@@ -379,7 +379,8 @@ counts h i a = at _ _ (goes h i a).channels
         (omega (arith, becomes.most, total-has (λ o (c : Mailbox). kept c) h.channels o c there), omega (arith, here, total-insert (λ o (c : Mailbox). kept c) h.channels o d, becomes.fits))
     at _ _ Made = (omega arith, omega (arith, total-insert (λ o (c : Mailbox). kept c) h.channels i new_mailbox))
 
-box_quiet : (h : Boxes) (i : ℕ) (a : BoxAction) → (box_act h i a).wakes ≡ []
+-- nothing that is done to boxes wakes anybody
+pub box_quiet : (h : Boxes) (i : ℕ) (a : BoxAction) → (box_act h i a).wakes ≡ []
 box_quiet h i (MakeBox c) = refl
 box_quiet h i (Swap b c) = by_found (λ o. o.wakes ≡ []) (get h b) h _ refl (λ x is. refl)
 box_quiet h i (Store b c) = by_found (λ o. o.wakes ≡ []) (get h b) h _ refl (λ x is. refl)
