@@ -41,9 +41,9 @@ fn rounds(rt: &(impl env::Env + AllocGlobal)) -> io::Result<Option<u64>> {
 
 // Measures each workload in turn, and prints a line for it.
 fn report(rt: &HostRuntime, rounds: u64) -> Result<(), Fault> {
-    for workload in &WORKLOADS {
+    for (name, workload) in &WORKLOADS {
         let nanoseconds = nanoseconds_per_event(rt, *workload, rounds)?;
-        println!(rt; "{} {nanoseconds} ns", workload.name())?;
+        println!(rt; "{name} {nanoseconds} ns")?;
     }
     Ok(())
 }

@@ -22,7 +22,12 @@ pub enum Fault {
 
 impl Fault {
     /// The code with which the program ends.
-    pub fn code(self) -> u8 {
+    pub fn code(self) -> u8
+        ensures clock { self ≡ Fault.Clock → result ≡ 4 }
+        ensures write { self ≡ Fault.Write → result ≡ 5 }
+        ensures no_memory { self ≡ Fault.NoMemory → result ≡ 6 }
+        ensures refused { (stop : Stop) → self ≡ Fault.Refused stop → result ≡ 1 }
+    {
         match self {
             Fault::Clock => 4,
             Fault::Write => 5,

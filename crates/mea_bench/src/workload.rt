@@ -1,6 +1,8 @@
-ghost use Rattle.std.specs.Prelude.{◌<◌, ◌^◌};
+ghost use Rattle.std.specs.Prelude.{◌≡◌, ◌<◌, ◌^◌, OnOk, OnErr, length};
+ghost use Rattle.mea_bench.specs.Workloads.{Appends};
 
 use mea_hall::Event;
+use mea_lock_model::LockEvent;
 use mea_meet::MeetEvent;
 use mea_sem_model::SemEvent;
 use std::alloc::AllocError;
@@ -21,43 +23,46 @@ pub enum Workload {
     WaitGroup,
     /// A shutdown that one future awaits, from its making to its end.
     Shutdown,
+    /// A mutex that is handed from a guard to a future that waits for it.
+    Mutex,
+    /// Two guards that read beside each other, and one that writes after them.
+    RwLock,
 }
 
-/// All workloads, in the order in which they are played.
-pub const WORKLOADS: [Workload; 6] = [
-    Workload::Permits,
-    Workload::QueuedAcquires,
-    Workload::Barrier,
-    Workload::Latch,
-    Workload::WaitGroup,
-    Workload::Shutdown,
+/// All workloads, in the order in which they are played, each with its name in the report: the family and what is done.
+pub const WORKLOADS: [(&str, Workload); 8] = [
+    ("semaphore permits", Workload::Permits),
+    ("semaphore queued", Workload::QueuedAcquires),
+    ("barrier round", Workload::Barrier),
+    ("latch", Workload::Latch),
+    ("group", Workload::WaitGroup),
+    ("shutdown", Workload::Shutdown),
+    ("mutex handover", Workload::Mutex),
+    ("read-write lock", Workload::RwLock),
 ];
 
 impl Workload {
-    /// Its name in the report: the family and what is done.
-    pub fn name(self) -> &'static str {
-        match self {
-            Workload::Permits => "semaphore permits",
-            Workload::QueuedAcquires => "semaphore queued",
-            Workload::Barrier => "barrier round",
-            Workload::Latch => "latch",
-            Workload::WaitGroup => "group",
-            Workload::Shutdown => "shutdown",
-        }
-    }
-
     /// Appends the events that come before the first round.
-    pub fn push_start(self, events: &mut Vec<Event>) -> Result<(), AllocError> {
+    pub fn push_start(self, events: &mut Vec<Event>) -> Result<(), AllocError>
+        ensures ok { OnOk result (Appends self events.old.items events.new.items) }
+        ensures err { OnErr result (events.new.items ≡ events.old.items) }
+    {
         match self {
             Workload::Permits => events.extend_from_slice(&[Event::Sem(SemEvent::New(1))]),
             Workload::QueuedAcquires => events.extend_from_slice(&[Event::Sem(SemEvent::New(0))]),
             Workload::Barrier => events.extend_from_slice(&[Event::Meet(MeetEvent::BarNew(2))]),
+            Workload::Mutex => events.extend_from_slice(&[Event::Lock(LockEvent::MxNew(0))]),
+            Workload::RwLock => events.extend_from_slice(&[Event::Lock(LockEvent::RwNew(0))]),
             Workload::Latch | Workload::WaitGroup | Workload::Shutdown => Ok(()),
         }
     }
 
-    /// Appends the events of a round. The number of an event is its place.
-    pub fn push_round(self, events: &mut Vec<Event>) -> Result<(), AllocError> {
+    /// Appends the events of a round, of which there is one at least. The number of an event is its place.
+    pub fn push_round(self, events: &mut Vec<Event>) -> Result<(), AllocError>
+        ensures ok { OnOk result (Appends self events.old.items events.new.items) }
+        ensures grows { OnOk result (length events.old.items < length events.new.items) }
+        ensures err { OnErr result (events.new.items ≡ events.old.items) }
+    {
         let at = events.len() as u64;
         match self {
             Workload::Permits => events.extend_from_slice(&permit_round(at)),
@@ -66,6 +71,8 @@ impl Workload {
             Workload::Latch => events.extend_from_slice(&latch_round(at)),
             Workload::WaitGroup => events.extend_from_slice(&group_round(at)),
             Workload::Shutdown => events.extend_from_slice(&shutdown_round(at)),
+            Workload::Mutex => events.extend_from_slice(&mutex_round(at)),
+            Workload::RwLock => events.extend_from_slice(&rw_lock_round(at)),
         }
     }
 }
@@ -138,5 +145,33 @@ fn shutdown_round(at: u64) -> [Event; 7]
         Event::Meet(MeetEvent::SdPoll(at + 1, at)),
         Event::Meet(MeetEvent::SdEndr(at)),
         Event::Meet(MeetEvent::SdEnds(at)),
+    ]
+}
+
+fn mutex_round(at: u64) -> [Event; 6]
+    requires { at < 2 ^ 63 }
+{
+    [
+        Event::Lock(LockEvent::MxTry(0)),
+        Event::Lock(LockEvent::MxLock(0)),
+        Event::Lock(LockEvent::MxPoll(at + 1, at)),
+        Event::Lock(LockEvent::MxEnd(at)),
+        Event::Lock(LockEvent::MxPoll(at + 1, at)),
+        Event::Lock(LockEvent::MxEnd(at + 4)),
+    ]
+}
+
+fn rw_lock_round(at: u64) -> [Event; 8]
+    requires { at < 2 ^ 63 }
+{
+    [
+        Event::Lock(LockEvent::RwTryr(0)),
+        Event::Lock(LockEvent::RwTryr(0)),
+        Event::Lock(LockEvent::RwWrite(0)),
+        Event::Lock(LockEvent::RwPoll(at + 2, at)),
+        Event::Lock(LockEvent::RwEnd(at)),
+        Event::Lock(LockEvent::RwEnd(at + 1)),
+        Event::Lock(LockEvent::RwPoll(at + 2, at)),
+        Event::Lock(LockEvent::RwEnd(at + 6)),
     ]
 }

@@ -10,8 +10,6 @@ mod lock;
 #[cfg(test)]
 mod meet_core;
 #[cfg(test)]
-mod once;
-#[cfg(test)]
 mod sem_core;
 #[cfg(test)]
 mod sets;

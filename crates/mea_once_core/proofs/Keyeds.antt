@@ -8,6 +8,7 @@ use Rattle.mea_once_core.specs.declared.key_call.KeyStage.TheVariants.{New, Call
 use Rattle.mea_once_core.specs.Cell.{Cell, Runs, Enters, PollsInit, PollsStage, Finds, given_up, Ends, AddAtMost, queues_more, rested}
 use Rattle.mea_once_core.specs.Links.{Shown, shown_at, Changes, left}
 use Rattle.mea_once_core.specs.Table.{Table, entry_at, HasCaller, IsSame, Sets, Joins, Unlists, NumbersGo, Retires, is_last, PollsEntry, EndsEntry, RestsEntry, Makes, fresh_entry, empty_cell}
+use Rattle.mea_once_core.specs.Inserts.{IsIdle}
 use Rattle.mea_once_core.specs.Waiting.{waiting_at, waiting_in, AreQuiet}
 use Rattle.mea_once_core.specs.Keyed.{Keyed, IsSameKeyed, HandsOut, Computed, LeavesEntry, GivesUp, StepsCell, EndsCell, Told, FindsValue, AsksCell, PollsCaller}
 use Rattle.mea_once_core.specs.declared.entry.Entry.{Entry}
@@ -274,6 +275,16 @@ module _ {K V W : Type 0} (eq : K → K → Bool) where
   kept-empty t none =
       let zero_sum : waiting_in t.slots ≡ waiting_in {V = V} {W = W} [] = same-waiting [] t.slots (λ m. ap waiting_at (none m)) in
       ((λ n e there. absurd (let both : ◌≡◌ {A = Option (Shown V W)} None (Some e) = sym (none n) ∙ there in cc)), sym zero_sum)
+
+  -- where no call lives, all rest and nobody waits
+  pub kept-idle : (t : Table K V W) → ((n : ℕ) (e : Shown V W) → entry_at t n ≡ Some e → IsIdle e) → AreQuiet t.slots × (0 ≡ waiting_in t.slots)
+  kept-idle t idle =
+      let zero_sum : waiting_in t.slots ≡ waiting_in {V = V} {W = W} [] = same-waiting [] t.slots (λ m. waits m (entry_at t m) refl) in
+      ((λ n e there. ap (λ (x : Shown V W). x.cell.permit.wakes) (idle n e there).1), sym zero_sum)
+    where
+      waits : (m : ℕ) (o : Option (Shown V W)) → entry_at t m ≡ o → waiting_at (entry_at t m) ≡ 0
+      waits m None is = ap waiting_at is
+      waits m (Some e) is = ap waiting_at is ∙ ap (λ (x : Shown V W). length x.cell.permit.queue) (idle m e is).1
 
   pub kept-made : (t t' : Table K V W) (key : K) (r : Result ℕ (K × NoMemory)) → IfOk r (λ n. Makes eq t t' key n fresh_entry) → IfErr r (λ x. (x.0 ≡ key) × IsSame eq t t') → AreQuiet t.slots → AreQuiet t'.slots × (waiting_in t'.slots ≡ waiting_in t.slots)
   kept-made t t' key (Ok n) made err quiet =

@@ -1,4 +1,5 @@
 pub mod Exists
+pub mod Inserts
 pub mod Keyeds
 pub mod Links
 pub mod Onces

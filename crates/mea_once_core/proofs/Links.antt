@@ -12,7 +12,7 @@ use Rattle.mea_once_core.specs.declared.entry.Entry.{Entry}
 use Rattle.std.specs.Borrow.{Bor}
 use Rattle.std.specs.HashMap as hash
 use Rattle.std.specs.HashMap.{HashMap}
-use Rattle.mea_once_core.specs.Links.{AreLinked, Forgets, Shown, shown, shown_at, Changes, SameEntries, unlisted, left}
+use Rattle.mea_once_core.specs.Links.{AreLinked, Forgets, Shown, shown, shown_at, Changes}
 
 module _ {X : Type 0} where
   gone : (b : Bool) → ◌≡◌ {A = Option X} None (cond b None None)
@@ -205,27 +205,6 @@ module _ {K V W : Type 0} where
       let at = place_from_lookup test ps n found in
       let old = links.found at.0 at.1 n at.2 in
       ap is_some old.1
-
-  -- an entry changes, and not its place
-  pub linked-kept : (E F : Slab (Entry V W)) (ps : List (K × ℕ)) (n c : ℕ) (o : Option (Entry V W)) → slab.get E n ≡ o → IsSome o → IfSome o (λ e. slab.Updates E F n (Some (record e { callers = e.callers + c }))) → AreLinked E ps → AreLinked F ps
-  linked-kept E F ps n c None is some changed links = absurd (cc)
-  linked-kept E F ps n c (Some e) is some changed links = record {
-    found = λ p k x stood. found_by p k x stood (links.found p k x stood).0 (links.found p k x stood).1 (links.found p k x stood).2 (cases_eq x n);
-    placed = λ x p f get_x place_x. placed_by x p f get_x place_x (cases_eq x n);
-  }
-    where
-      found_by : (p : ℕ) (k : K) (x : ℕ) → slice_get ps p ≡ Some (k, x) → (f : Entry V W) → slab.get E x ≡ Some f → f.place ≡ Some p → (x ≡ n) ⊎ (x ≡ n → ⊥) → (g : Entry V W) × (slab.get F x ≡ Some g) × (g.place ≡ Some p)
-      found_by p k x stood f f_is f_at (inl same) =
-          let entry : e ≡ f = (let both : Some e ≡ Some f = sym is ∙ ap (slab.get E) (sym same) ∙ f_is in ap (λ y. unwrap_or y e) both) in
-          (record e { callers = e.callers + c }, ap (slab.get F) same ∙ changed.changed, ap (λ y. y.place) entry ∙ f_at)
-      found_by p k x stood f f_is f_at (inr other) = (f, changed.others x other ∙ f_is, f_at)
-
-      placed_by : (x p : ℕ) (f : Entry V W) → slab.get F x ≡ Some f → f.place ≡ Some p → (x ≡ n) ⊎ (x ≡ n → ⊥) → (k : K) × (slice_get ps p ≡ Some (k, x))
-      placed_by x p f get_x place_x (inl same) =
-          let here : Some f ≡ Some (record e { callers = e.callers + c }) = sym get_x ∙ ap (slab.get F) same ∙ changed.changed in
-          let place : e.place ≡ Some p = sym (ap (λ y. y.place) (ap (λ y. unwrap_or y f) here)) ∙ place_x in
-          links.placed x p e (ap (slab.get E) same ∙ is) place
-      placed_by x p f get_x place_x (inr other) = links.placed x p f (sym (changed.others x other) ∙ get_x) place_x
 
   -- a new entry at the end of the table
   pub linked-new : (E F : Slab (Entry V W)) (ps qs : List (K × ℕ)) (n : ℕ) (k : K) (e : Entry V W) → AreLinked E ps → slab.get E n ≡ None → e.place ≡ Some (length ps) → slab.Updates E F n (Some e) → qs ≡ ps ++ (k, n) ∷ [] → AreLinked F qs

@@ -1,5 +1,5 @@
 -- a permit that is poured goes to the first that waits
-use Rattle.std.proofs.Common.{◌≡◌, ◌≢◌, ◌∙◌, ℕ, suc, ◌+◌, ◌-◌, ◌<◌, ◌≤◌, ◌==◌, ◌++◌, ◌⊎◌, inl, inr, Bool, true, false, cond, nat_lt, min, List, [], ◌∷◌, Option, Some, None, unwrap_or, Result, Ok, Err, filter, MatchResult, length, zero, length-append, refl, ap, sym, subst, arith, append-nil}
+use Rattle.std.proofs.Common.{◌≡◌, ◌∙◌, ℕ, suc, ◌+◌, ◌-◌, ◌<◌, ◌≤◌, ◌==◌, ◌++◌, ◌⊎◌, inl, inr, Bool, true, false, cond, nat_lt, min, List, [], ◌∷◌, Some, unwrap_or, Result, Ok, Err, filter, MatchResult, length, zero, length-append, refl, ap, sym, subst, arith, append-nil}
 use Rattle.std.proofs.lemmas.Bool.{cases_lt}
 use Rattle.std.proofs.lemmas.List.Sums.{sum_by-cons}
 use Rattle.std.specs.Prelude.{map as map_list}
@@ -9,13 +9,15 @@ use Rattle.std.specs.FinMap as map
 use Rattle.mea_base.specs.Queue.{lacks, lacks_after, waiting_after, granted_in, left_over}
 use Rattle.mea_base.specs.declared.no_memory.NoMemory.{NoMemory}
 use Rattle.mea_base.specs.declared.turn.Turn.{Turn}
-use Rattle.mea_base.specs.declared.turn.Turn.TheVariants.{Ready, Pending}
+use Rattle.mea_base.specs.declared.turn.Turn.TheVariants.{Pending}
 use Rattle.mea_sem_core.specs.Core as core
-use Rattle.mea_sem_core.specs.Core.{Waiter, Acquires, Owes, Core, HasNoDebt, held_of, paid_of, poured, granting, wakers_of, debts, debt_of, paid_to_debts, waiting}
+use Rattle.mea_sem_core.specs.Core.{Waiter, Acquires, Owes, Core, held_of, paid_of, poured, granting, wakers_of, debts, paid_to_debts, waiting}
 use Rattle.mea_sem_core.specs.Calls.{Steady, Polls, Queues, Cancels, given_back, with_waker, without_acquire}
 use Rattle.mea_sem_core.specs.declared.acquire.Acquire.{Acquire}
 use Rattle.mea_sem_core.specs.declared.acquire.Acquire.TheVariants as acquire
-use Rattle.mea_once_core.specs.Permit.{AskForOne, IsPermit, IsNext, IsWaiting, asks_more, MayAsk, Leaves, passed_to, passed_on, acquire_of}
+use Rattle.mea_sem_core.specs.Ones.{AskForOne}
+use Rattle.mea_sem_core.proofs.Ones.{ones_no_debt, ones_append, ones_rewaked, ones_without, length-rewaked, length-without}
+use Rattle.mea_once_core.specs.Permit.{IsPermit, IsNext, IsWaiting, asks_more, MayAsk, Leaves, passed_to, passed_on, acquire_of}
 use Rattle.mea_once_core.specs.declared.stage.Stage.{Stage}
 use Rattle.mea_once_core.specs.declared.stage.Stage.TheVariants.{New, Queued, Running, Done}
 
@@ -24,11 +26,6 @@ one_at_0 zero low = refl
 one_at_0 (suc n) low = absurd (omega arith)
 
 module _ {W : Type 0} where
-  pub no_debt : (q : List (Waiter W × ℕ)) → AskForOne q → HasNoDebt q
-  no_debt [] h = tt
-  no_debt ((Acquires n d w, lack) ∷ q) h = no_debt q h.2
-  no_debt ((Owes, lack) ∷ q) h = absurd h
-
   -- ---- pours of one, and of nothing
   -- those behind the first keep their lack where one permit is poured
   behind : (q : List (Waiter W × ℕ)) (before n : ℕ) → n ≤ before → AskForOne q → lacks_after before q n ≡ q
@@ -113,32 +110,13 @@ module _ {W : Type 0} where
       given_is ∙ given s is.asks is.one (λ _. none)
 
   pub stays_permit : (s s' : Core W) → IsPermit s → core.IsSound s' → Steady s s' → AskForOne s'.queue → IsPermit s'
-  stays_permit s s' is sound steady asks = record { sound = sound; one = steady.live (no_debt s.queue is.asks) ∙ is.one; asks = asks; is_open = steady.closed ∙ is.is_open }
+  stays_permit s s' is sound steady asks = record { sound = sound; one = steady.live (ones_no_debt s.queue is.asks) ∙ is.one; asks = asks; is_open = steady.closed ∙ is.is_open }
 
   pub gives_permit : (s s' : Core W) → IsPermit s → 1 ≤ held_of s → s' ≡ given_back s 1 → core.IsSound s' → Steady s s' → IsPermit s'
   gives_permit s s' is held given_is sound steady =
       stays_permit s s' is sound steady (subst (λ (t : Core W). AskForOne t.queue) (sym (gives s s' is held given_is)) (asks_passed s.queue s refl is.asks))
 
   -- ---- polls
-  asks_append : (q : List (Waiter W × ℕ)) (k lack : ℕ) (w : W) → lack ≡ 1 → AskForOne q → AskForOne (q ++ (Acquires k 1 w, lack) ∷ [])
-  asks_append [] k lack w one a = (refl, one, tt)
-  asks_append ((Acquires m d u, l) ∷ q) k lack w one a = (a.0, a.1, asks_append q k lack w one a.2)
-  asks_append ((Owes, l) ∷ q) k lack w one a = absurd a
-
-  asks_rewaked : (q : List (Waiter W × ℕ)) (n : ℕ) (w : W) → AskForOne q → AskForOne (with_waker q n w)
-  asks_rewaked [] n w a = tt
-  asks_rewaked ((Acquires m d u, l) ∷ q) n w a = (a.0, a.1, asks_rewaked q n w a.2)
-  asks_rewaked ((Owes, l) ∷ q) n w a = absurd a
-
-  pub asks_without : (q : List (Waiter W × ℕ)) (n : ℕ) → AskForOne q → AskForOne (without_acquire q n)
-  asks_without [] n a = tt
-  asks_without ((Acquires m d u, l) ∷ q) n a = by_test (m == n) (asks_without q n a.2)
-    where
-      by_test : (b : Bool) → AskForOne (without_acquire q n) → AskForOne (cond b (without_acquire q n) ((Acquires m d u, l) ∷ without_acquire q n))
-      by_test true rest = rest
-      by_test false rest = (a.0, a.1, rest)
-  asks_without ((Owes, l) ∷ q) n a = absurd a
-
   pub asks_polled : (stage : Stage) (s s' : Core W) (a' : Acquire) (w : W) (r : Result (Turn W) (W × NoMemory)) → AskForOne s.queue → MayAsk s stage → Polls s (acquire_of stage) w r s' a' → AskForOne s'.queue
   asks_polled New s s' a' w r asks may polls = by_free (ready_or s.free)
     where
@@ -148,14 +126,14 @@ module _ {W : Type 0} where
       by_turn : (r : Result (Turn W) (W × NoMemory)) → s.free < 1 → MatchResult r (λ turn. (turn ≡ Pending) × ((number : ℕ) × Queues s s' 1 w number × (a' ≡ acquire.Queued 1 number))) (λ e. (e.0 ≡ w) × (s' ≡ s) × (a' ≡ acquire.New 1)) → AskForOne s'.queue
       by_turn (Ok turn) low h =
           let queued = h.1.1 in
-          subst AskForOne (sym (ap (λ (t : Core W). t.queue) queued.is)) (asks_append s.queue h.1.0 (1 - s.free) w (omega arith) asks)
+          subst AskForOne (sym (ap (λ (t : Core W). t.queue) queued.is)) (ones_append s.queue h.1.0 (1 - s.free) w (omega arith) asks)
       by_turn (Err e) low h = subst AskForOne (sym (ap (λ (t : Core W). t.queue) h.1)) asks
 
       by_free : (1 ≤ s.free) ⊎ (s.free < 1) → AskForOne s'.queue
       by_free (inl high) = subst AskForOne (sym (ap (λ (t : Core W). t.queue) (polls.0 high).1)) asks
       by_free (inr low) = by_turn r low (polls.1 low)
   asks_polled (Queued n) s s' a' w r asks (inl next) polls = subst AskForOne (sym (ap (λ (t : Core W). t.queue) (polls.0 next).1)) asks
-  asks_polled (Queued n) s s' a' w r asks (inr waits) polls = subst AskForOne (sym (ap (λ (t : Core W). t.queue) (polls.1 waits).1)) (asks_rewaked s.queue n w asks)
+  asks_polled (Queued n) s s' a' w r asks (inr waits) polls = subst AskForOne (sym (ap (λ (t : Core W). t.queue) (polls.1 waits).1)) (ones_rewaked s.queue n w asks)
   asks_polled Running s s' a' w r asks may polls = absurd may
   asks_polled Done s s' a' w r asks may polls = absurd may
 
@@ -188,7 +166,7 @@ module _ {W : Type 0} where
       none : s.queue ≡ [] → s.free ≡ 0
       none empty =
           let one : s.live ≡ 1 = is.one in
-          let live : s'.live ≡ s.live = steady.live (no_debt s.queue is.asks) in
+          let live : s'.live ≡ s.live = steady.live (ones_no_debt s.queue is.asks) in
           let total : s'.free + held_of s' + paid_of s' ≡ s'.live = sound.total in
           let left : left_over s.queue 1 ≡ 1 = ap (λ q. left_over q 1) empty in
           let frees : s'.free ≡ s.free + left_over s.queue 1 = ap (λ (t : Core W). t.free) (cancels.0 next) in
@@ -202,7 +180,7 @@ module _ {W : Type 0} where
       cancels.1 waits.0 waits.1
       ∙ ap (λ p. poured (record s { live = s.live - p; queue = without_acquire s.queue n }) p) paid
       ∙ ap (λ l. poured (record s { live = l; queue = without_acquire s.queue n }) 0) (sub_zero s.live)
-      ∙ poured_nothing (without_acquire s.queue n) s.free s.live s.granted s.cut s.closed s.wakes (asks_without s.queue n is.asks)
+      ∙ poured_nothing (without_acquire s.queue n) s.free s.live s.granted s.cut s.closed s.wakes (ones_without s.queue n is.asks)
     where
       sub_zero : (m : ℕ) → m - 0 ≡ m
       sub_zero m = omega arith
@@ -214,7 +192,7 @@ module _ {W : Type 0} where
   cancelled_permit s s' n is sound steady cancels (inl next) =
       stays_permit s s' is sound steady (subst (λ (t : Core W). AskForOne t.queue) (sym (cancelled_next s s' n is sound steady cancels next)) (asks_passed s.queue (record s { granted = map.remove s.granted n }) refl is.asks))
   cancelled_permit s s' n is sound steady cancels (inr waits) =
-      stays_permit s s' is sound steady (subst (λ (t : Core W). AskForOne t.queue) (sym (cancelled_waiting s s' n is cancels waits)) (asks_without s.queue n is.asks))
+      stays_permit s s' is sound steady (subst (λ (t : Core W). AskForOne t.queue) (sym (cancelled_waiting s s' n is cancels waits)) (ones_without s.queue n is.asks))
 
   -- ---- how many wait and are woken
   abbrev count_of : Core W → ℕ
@@ -230,20 +208,6 @@ module _ {W : Type 0} where
 
   pub few_gives : (s s' : Core W) → IsPermit s → 1 ≤ held_of s → s' ≡ given_back s 1 → length s'.queue + length s'.wakes ≤ length s.queue + length s.wakes
   few_gives s s' is held given_is = subst (λ (t : Core W). count_of t ≤ count_of s) (sym (gives s s' is held given_is)) (few_passed s.queue s refl)
-
-  length-rewaked : (q : List (Waiter W × ℕ)) (n : ℕ) (w : W) → length (with_waker q n w) ≡ length q
-  length-rewaked [] n w = refl
-  length-rewaked ((Acquires m d u, l) ∷ q) n w = omega (arith, length-rewaked q n w)
-  length-rewaked ((Owes, l) ∷ q) n w = omega (arith, length-rewaked q n w)
-
-  length-without : (q : List (Waiter W × ℕ)) (n : ℕ) → length (without_acquire q n) ≤ length q
-  length-without [] n = omega arith
-  length-without ((Acquires m d u, l) ∷ q) n = by_test (m == n) (length-without q n)
-    where
-      by_test : (b : Bool) → length (without_acquire q n) ≤ length q → length (cond b (without_acquire q n) ((Acquires m d u, l) ∷ without_acquire q n)) ≤ length ((Acquires m d u, l) ∷ q)
-      by_test true rest = omega (arith, rest)
-      by_test false rest = omega (arith, rest)
-  length-without ((Owes, l) ∷ q) n = omega (arith, length-without q n)
 
   pub few_polled : (stage : Stage) (s s' : Core W) (a' : Acquire) (w : W) (r : Result (Turn W) (W × NoMemory)) → MayAsk s stage → Polls s (acquire_of stage) w r s' a'
       → length s'.queue + length s'.wakes ≤ length s.queue + length s.wakes + asks_more s stage

@@ -6,6 +6,8 @@ use Rattle.mea_sets.specs.Poll.{Poll}
 use Rattle.mea_base.specs.Outbox.{Wakes}
 use Rattle.mea_once_core.specs.Cell.{Cell, rested, PollsInit, Ends, queues_more, AddAtMost}
 use Rattle.mea_once_core.specs.Slots.{SetsSlot, PollsSlot, EndsSlot, RestsSlot}
+use Rattle.std.specs.Option.{option_map}
+use Rattle.mea_once_core.specs.Links.{shown, shown_at}
 use Rattle.mea_once_core.specs.declared.entry.Entry.{Entry}
 use Rattle.mea_once_core.specs.declared.init_call.InitCall.{InitCall}
 use Rattle.mea_once_core.specs.declared.stage.Stage.{Stage}
@@ -39,6 +41,10 @@ module _ {V W : Type 0} where
       subst (λ (o : Option (Entry V W)). IfSome o (λ e. RestsSlot xs n e out out' (slice_set xs n (Some (record f { cell = c }))))) (sym is)
       (subst (λ (d : Cell V W). RestsSlot xs n f out out' (slice_set xs n (Some (record f { cell = d })))) (sym rests)
       (record { sets = sets-slot xs n f (record f { cell = rested f.cell }) is; wakers = wakers; spare = spare }))
+
+  -- what was lent is the entry's cell
+  pub cell-shown : (xs : List (Option (Entry V W))) (n : ℕ) (f : Entry V W) → slice_index_or xs n None ≡ Some f → IfSome (shown_at xs n) (λ e. f.cell ≡ e.cell)
+  cell-shown xs n f is = subst (λ (o : Option (Entry V W)). IfSome (option_map shown o) (λ e. f.cell ≡ e.cell)) (sym is) refl
 
 module _ {V E W I : Type 0} (answers : I → W → Poll (Result V E) → I → Type 0) where
   pub polled-slot : (xs : List (Option (Entry V W))) (n : ℕ) (f : Entry V W) (call call' : InitCall I) (w : W) (r : Result (Poll (Result (Unit {0}) E)) (W × NoMemory)) (c : Cell V W)

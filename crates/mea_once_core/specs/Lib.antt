@@ -1,9 +1,11 @@
 pub mod Cell
 pub mod CellLends
+pub mod Inserts
 pub mod Keyed
 pub mod Links
 pub mod Once
 pub mod Permit
 pub mod Slots
 pub mod Table
+pub mod TableLends
 pub mod Waiting

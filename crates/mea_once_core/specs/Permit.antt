@@ -1,9 +1,10 @@
 -- one permit that is handed from caller to caller, and what a call does with it
-use Rattle.std.specs.Prelude.{ℕ, ◌≡◌, ◌+◌, ◌-◌, ◌<◌, ◌≤◌, ◌==◌, ◌++◌, ◌⊎◌, if◌then◌else◌, List, [], ◌∷◌, false, Some, None, Result, Ok, MatchResult}
+use Rattle.std.specs.Prelude.{ℕ, ◌≡◌, ◌+◌, ◌≤◌, ◌==◌, ◌++◌, ◌⊎◌, if◌then◌else◌, List, [], ◌∷◌, false, Result, Ok, MatchResult}
 use Rattle.std.specs.FinMap as map
 use Rattle.mea_base.specs.declared.no_memory.NoMemory.{NoMemory}
 use Rattle.mea_base.specs.declared.turn.Turn.{Turn}
 use Rattle.mea_base.specs.declared.turn.Turn.TheVariants.{Ready, Pending}
+use Rattle.mea_sem_core.specs.Ones.{AskForOne}
 use Rattle.mea_sem_core.specs.Core as core
 use Rattle.mea_sem_core.specs.Core.{Waiter, Acquires, Owes, Core, held_of}
 use Rattle.mea_sem_core.specs.Calls.{IsGrantedAs, IsWaitingAs, Queues, with_waker, without_acquire}
@@ -31,12 +32,6 @@ abbrev pub free_permit : {W : Type 0} → Core W
 free_permit = record { free = 1; live = 1; queue = []; granted = map.empty; cut = map.empty; closed = false; wakes = [] }
 
 module _ {W : Type 0} where
-  -- each that waits asks for one permit and lacks it, and nobody owes one
-  abbrev pub AskForOne : List (Waiter W × ℕ) → Type 0
-  AskForOne [] = Unit {0}
-  AskForOne ((Acquires number demand waker, lack) ∷ q) = (demand ≡ 1) × (lack ≡ 1) × AskForOne q
-  AskForOne ((Owes, lack) ∷ q) = ⊥
-
   -- what holds of every permit
   pub record IsPermit (s : Core W) : Type 0 where
     pub sound : core.IsSound s

@@ -269,6 +269,7 @@ impl<T: Drop, W: Drop> CellCore<T, W> {
     ) -> Result<Poll<Result<(), T>>, (W, NoMemory)>
         requires { MayInsert self.old call.old }
         ensures polls { PollsInsert self.old call.old waker result self.new call.new }
+        ensures err { OnErr result ((self.new ≡ self.old) × (call.new ≡ call.old)) }
         ensures sound { IsSound self.new }
     {
         let Some(value) = call.value.take() else {
@@ -487,14 +488,22 @@ impl<T: Drop, W: Drop> CellCore<T, W> {
         }
     }
 
-    /// Whether the call has its value, is one of this cell and was not ready yet, which `poll_insert` and
-    /// `end_insert` ask for. It takes no memory.
-    pub fn insert_allowed(&self, call: &InsertCall<T>) -> bool
+    /// Whether the call has its value, is one of this cell and was not ready yet, which `poll_insert` asks for.
+    /// It takes no memory.
+    pub fn poll_insert_allowed(&self, call: &InsertCall<T>) -> bool
         ensures is { IsTrue result ↔ MayInsert self.now call.now }
         ensures sound { IsSound self.now }
     {
         let _ = self.permit.is_free();
         call.value.is_some() && self.permit.may_ask(call.stage)
+    }
+
+    /// The same, which `end_insert` asks for. It takes no memory.
+    pub fn end_insert_allowed(&self, call: &InsertCall<T>) -> bool
+        ensures is { IsTrue result ↔ MayInsert self.now call.now }
+        ensures sound { IsSound self.now }
+    {
+        self.poll_insert_allowed(call)
     }
 
     /// `poll_insert`, of a call that is renewed first where it is not one of this cell or was ready; one
@@ -512,7 +521,7 @@ impl<T: Drop, W: Drop> CellCore<T, W> {
             let _ = self.is_idle();
             return Ok(Poll::Ready(Ok(())));
         }
-        if !self.insert_allowed(call) {
+        if !self.poll_insert_allowed(call) {
             call.renew();
         }
         self.poll_insert(call, waker)
@@ -527,7 +536,7 @@ impl<T: Drop, W: Drop> CellCore<T, W> {
         ensures value { call.value ≡ Some result }
         ensures sound { IsSound self.new }
     {
-        if self.insert_allowed(&call) {
+        if self.end_insert_allowed(&call) {
             return self.end_insert(call);
         }
         match call.value {
@@ -544,8 +553,8 @@ impl<T: Drop, W: Drop> CellCore<T, W> {
         self.permit = Permit::new(self.alloc);
     }
 
-    /// `poll_mut`, of a new cell with the same value in the place of one whose permit is not free. It takes
-    /// no memory.
+    /// `poll_mut`, of a new cell with the same value in the place of one whose permit is not free. Wakers that
+    /// are ready in that go with it: hand them out first. It takes no memory.
     pub fn poll_mut_checked<E: Drop, I: Init<T, E, W>>(
         &mut self,
         init: &mut I,
@@ -563,8 +572,8 @@ impl<T: Drop, W: Drop> CellCore<T, W> {
         self.poll_mut(init, waker)
     }
 
-    /// `take`, of a new cell with the same value in the place of one whose permit is not free. It takes no
-    /// memory.
+    /// `take`, of a new cell with the same value in the place of one whose permit is not free. Wakers that are
+    /// ready in that go with it: hand them out first. It takes no memory.
     pub fn take_checked(&mut self) -> Option<T>
         ensures value { result ≡ self.old.value }
         ensures allowed { self.old.permit.free ≡ 1 → self.new ≡ record self.old { value = None } }

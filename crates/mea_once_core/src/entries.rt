@@ -2,6 +2,7 @@ ghost use Rattle.std.specs.Prelude.{◌≡◌, ◌≢◌, ℕ, ◌<◌, ◌≤�
 ghost use Rattle.std.specs.HashMap as hash;
 ghost use Rattle.slab.specs.Slab as slab;
 ghost use Rattle.mea_once_core.specs.Permit.{MayPoll, MayEnd};
+ghost use Rattle.mea_once_core.specs.Inserts.{Inserts};
 ghost use Rattle.mea_once_core.specs.Slots.{PollsSlot, EndsSlot, RestsSlot};
 ghost use Rattle.mea_once_core.specs.Links.{AreLinked, Shown, shown_at, Changes, SameEntries, SameNumbers, Renumbers, Forgets, unlisted, left};
 
@@ -148,6 +149,63 @@ pub(crate) fn make<K: Eq + Hash + Drop, V: Drop, S: BuildHasher, W: Drop>(
             Ok(number)
         }
         Err(failed) => Err((failed.value.0, NoMemory)),
+    }
+}
+
+// A new entry takes the place of the one that a key has, which stays for its callers.
+fn replace<K: Eq + Hash + Drop, V: Drop, S: BuildHasher, W: Drop>(
+    entries: &mut Slab<Entry<V, W>>,
+    numbers: &mut IndexMap<K, usize, S>,
+    key: K,
+    number: usize,
+    cell: CellCore<V, W>,
+) -> usize
+    requires linked { AreLinked entries.old numbers.old.entries }
+    requires room { slab.HasRoomFor entries.old 1 }
+    requires there { hash.get K.eq numbers.old key ≡ Some number }
+    ensures linked { AreLinked entries.new numbers.new.entries }
+    ensures fresh { shown_at entries.old.slots result ≡ None }
+    ensures entry { shown_at entries.new.slots result ≡ Some (record { cell = cell; callers = 0; listed = true }) }
+    ensures replaced { (e : Shown V W) → shown_at entries.old.slots number ≡ Some e → shown_at entries.new.slots number ≡ unlisted e }
+    ensures others { (m : ℕ) → m ≢ result → m ≢ number → shown_at entries.new.slots m ≡ shown_at entries.old.slots m }
+    ensures numbers { Renumbers K.eq numbers.old.entries numbers.new.entries key (Some result) }
+{
+    let fresh = entries.vacant_key();
+    let Ok((place, _)) = numbers.insert_full(key, fresh) else {
+        unreachable!();
+    };
+    let _ = entries.insert_reserved(Entry {
+        cell,
+        callers: 0,
+        place: Some(place),
+    });
+    seat(entries, number, None);
+    drop_unused(entries, number);
+    fresh
+}
+
+// A new entry with no caller for a key, in the place of the one that it may have.
+pub(crate) fn put<K: Eq + Hash + Drop, V: Drop, S: BuildHasher, W: Drop>(
+    entries: &mut Slab<Entry<V, W>>,
+    numbers: &mut IndexMap<K, usize, S>,
+    key: K,
+    cell: CellCore<V, W>,
+)
+    requires linked { AreLinked entries.old numbers.old.entries }
+    requires room { slab.HasRoomFor entries.old 1 }
+    requires spare { 1 ≤ hash.spare numbers.old }
+    ensures linked { AreLinked entries.new numbers.new.entries }
+    ensures inserts { Inserts K.eq (record { slots = entries.old.slots; pairs = numbers.old.entries }) (record { slots = entries.new.slots; pairs = numbers.new.entries }) key cell }
+{
+    match numbers.get(&key).copied() {
+        Some(number) => {
+            let _ = replace(entries, numbers, key, number, cell);
+        }
+        None => {
+            let Ok(_) = make(entries, numbers, key, cell, 0) else {
+                unreachable!();
+            };
+        }
     }
 }
 

@@ -41,6 +41,7 @@ impl<K: Eq + Hash, V, S: BuildHasher, W> Model for Keyed<K, V, S, W> {
 impl<K: Eq + Hash + Drop, V: Clone, S: BuildHasher + Drop, W: Drop> Keyed<K, V, S, W> {
     ghost use Rattle.mea_once_core.specs.Cell.{Cell, Finds, PollsInit};
     ghost use Rattle.mea_once_core.specs.Permit.{MayPoll, MayEnd};
+    ghost use Rattle.mea_once_core.specs.Inserts.{IsIdle, last_value};
     ghost use Rattle.mea_once_core.specs.declared.stage.Stage.TheVariants as stages;
     ghost use Rattle.mea_once_core.specs.Table.{number_of, HasCaller, HasRoom, Joins, Makes, fresh_entry};
     ghost use Rattle.mea_once_core.specs.Keyed.{value_for, GivesUp, EndsCell, IsSameKeyed, LeavesEntry, Discards, MayPollKey, MayEndKey, EndsAt, HandsOut, Told, StepsCell, PollsCaller, StartsAt, StartsNew, HandsFirst, PollsKey, MayRun};
@@ -69,6 +70,22 @@ impl<K: Eq + Hash + Drop, V: Clone, S: BuildHasher + Drop, W: Drop> Keyed<K, V, 
         ensures wakes { IfOk result (λ k. k.wakes ≡ []) }
     {
         match OnceTable::with_capacity_and_hasher(alloc, capacity, hasher) {
+            Ok(table) => Ok(Keyed {
+                table,
+                outbox: Outbox::new(alloc),
+                waiting: 0,
+            }),
+            Err(e) => Err(e),
+        }
+    }
+
+    // A table of these pairs, in which the last pair of a key stands.
+    pub(crate) fn from_pairs(alloc: Global, pairs: Vec<(K, V)>, hasher: S) -> Result<Self, NoMemory>
+        ensures entries { IfOk result (λ k. (n : ℕ) (e : Shown V W) → entry_at k.table n ≡ Some e → IsIdle e) }
+        ensures values { IfOk result (λ k. (key : K) → value_for K.eq k key ≡ last_value K.eq pairs.items key) }
+        ensures wakes { IfOk result (λ k. k.wakes ≡ []) }
+    {
+        match OnceTable::from_pairs(alloc, pairs, hasher) {
             Ok(table) => Ok(Keyed {
                 table,
                 outbox: Outbox::new(alloc),

@@ -1,4 +1,4 @@
-ghost use Rattle.std.specs.Prelude.{◌≡◌, ◌↔◌, ℕ, [], ◌∷◌, length, true, false, None, IsTrue, IfOk, OnErr, IfSome, IfNone, OnOk, MatchResult};
+ghost use Rattle.std.specs.Prelude.{◌≡◌, ◌↔◌, ℕ, [], ◌∷◌, length, true, false, Some, None, IsTrue, IfOk, OnErr, IfSome, IfNone, OnOk, MatchResult};
 
 use crate::init::Init;
 use crate::key_call::KeyCall;
@@ -29,6 +29,8 @@ impl<K: Eq + Hash, V, S: BuildHasher, W> Model for MapCore<K, V, S, W> {
 impl<K: Eq + Hash + Drop, V: Clone, S: BuildHasher + Drop, W: Drop> MapCore<K, V, S, W> {
     ghost use Rattle.mea_once_core.specs.Keyed.{IsSameKeyed, Discards, MayPollKey, MayEndKey, EndsAt, PollsKey, MayRun, value_for};
     ghost use Rattle.mea_once_core.specs.Table.{entry_at, number_of};
+    ghost use Rattle.mea_once_core.specs.Links.{Shown};
+    ghost use Rattle.mea_once_core.specs.Inserts.{IsIdle, last_value};
 
     /// A map with no entry. It takes no memory.
     pub fn with_hasher(alloc: Global, hasher: S) -> Self
@@ -52,6 +54,18 @@ impl<K: Eq + Hash + Drop, V: Clone, S: BuildHasher + Drop, W: Drop> MapCore<K, V
         ensures wakes { IfOk result (λ m. m.wakes ≡ []) }
     {
         match Keyed::with_capacity_and_hasher(alloc, capacity, hasher) {
+            Ok(keyed) => Ok(MapCore { keyed }),
+            Err(e) => Err(e),
+        }
+    }
+
+    /// A map of these pairs, in which the last pair of a key stands.
+    pub fn from_pairs(alloc: Global, pairs: Vec<(K, V)>, hasher: S) -> Result<Self, NoMemory>
+        ensures entries { IfOk result (λ m. (n : ℕ) (e : Shown V W) → entry_at m.table n ≡ Some e → IsIdle e) }
+        ensures values { IfOk result (λ m. (key : K) → value_for K.eq m key ≡ last_value K.eq pairs.items key) }
+        ensures wakes { IfOk result (λ m. m.wakes ≡ []) }
+    {
+        match Keyed::from_pairs(alloc, pairs, hasher) {
             Ok(keyed) => Ok(MapCore { keyed }),
             Err(e) => Err(e),
         }

@@ -81,7 +81,7 @@ impl<W: Drop> OnceCore<W> {
         requires init { I.may_poll call.old.init }
         ensures again { IfOk result (λ poll. poll ≡ Poll.Pending → I.may_poll call.new.init) }
         ensures polls { PollsCall I.answers self.old call.old waker result self.new call.new }
-        ensures err { OnErr result (self.new ≡ self.old) }
+        ensures err { OnErr result ((self.new ≡ self.old) × (call.new ≡ call.old)) }
         ensures sound { IsSound self.new }
     {
         let more = self.cell.queues_more(call.stage);
@@ -214,11 +214,18 @@ impl<W: Drop> OnceCore<W> {
         }
     }
 
-    /// Whether the wait belongs to this once, as `poll_wait` and `end_wait` ask. It takes no memory.
-    pub fn wait_allowed(&self, wait: &LatchWait) -> bool
+    /// Whether the wait belongs to this once, which `poll_wait` asks for. It takes no memory.
+    pub fn poll_wait_allowed(&self, wait: &LatchWait) -> bool
         ensures { result ≡ has_given self.now.done.waiting wait.now }
     {
         self.done.poll_allowed(wait)
+    }
+
+    /// Whether the wait belongs to this once, which `end_wait` asks for. It takes no memory.
+    pub fn end_wait_allowed(&self, wait: &LatchWait) -> bool
+        ensures { result ≡ has_given self.now.done.waiting wait.now }
+    {
+        self.done.end_allowed(wait)
     }
 
     /// As `poll_wait`, of a renewed wait where the wait does not belong to this once.
@@ -231,7 +238,7 @@ impl<W: Drop> OnceCore<W> {
         ensures rest { self.new ≡ record self.old { done = self.new.done } }
         ensures sound { IsSound self.new }
     {
-        if !self.wait_allowed(wait) {
+        if !self.poll_wait_allowed(wait) {
             wait.renew();
         }
         self.poll_wait(wait, waker)
@@ -241,7 +248,7 @@ impl<W: Drop> OnceCore<W> {
     pub fn end_wait_checked(&mut self, wait: LatchWait)
         ensures { self.new ≡ self.old }
     {
-        if self.wait_allowed(&wait) {
+        if self.end_wait_allowed(&wait) {
             self.end_wait(wait);
         }
     }

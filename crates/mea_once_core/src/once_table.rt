@@ -1,5 +1,7 @@
 use crate::cell_core::CellCore;
-use crate::entries::{drop_unused, end_init, join, make, move_wakes, poll_init, unjoin, unlist};
+use crate::entries::{
+    drop_unused, end_init, join, make, move_wakes, poll_init, put, unjoin, unlist,
+};
 use crate::entry::Entry;
 use crate::init::Init;
 use crate::init_call::InitCall;
@@ -37,10 +39,13 @@ impl<K: Eq + Hash, V, S: BuildHasher, W> Model for OnceTable<K, V, S, W> {
 }
 
 impl<K: Eq + Hash + Drop, V: Drop, S: BuildHasher + Drop, W: Drop> OnceTable<K, V, S, W> {
-    ghost use Rattle.std.specs.Prelude.{◌≡◌, ◌<◌, ◌≤◌, ◌↔◌, ℕ, IsTrue, IsSome, IfSome, IfOk, IfErr, IfNone, OnErr, length, true, false, Some};
+    ghost use Rattle.std.specs.Prelude.{◌≡◌, ◌<◌, ◌≤◌, ◌↔◌, ℕ, IsTrue, IsSome, IfSome, IfOk, IfErr, IfNone, OnOk, OnErr, length, true, false, Some};
     ghost use Rattle.mea_once_core.specs.Links.{Shown, left};
     ghost use Rattle.mea_once_core.specs.Table.{entry_at, number_of, HasCaller, IsSame, HasRoom, Sets, Joins, Makes, Unlists, Retires, PollsEntry, EndsEntry, RestsEntry, empty_cell};
     ghost use Rattle.mea_once_core.specs.Permit.{MayPoll, MayEnd};
+    ghost use Rattle.std.specs.Borrow.{sem};
+    ghost use Rattle.mea_once_core.specs.TableLends.{lends_cell};
+    ghost use Rattle.mea_once_core.specs.Inserts.{Inserts, IsIdle, full_cell, last_value, value_in};
 
     /// A table with no entry. It takes no memory.
     pub fn with_hasher(alloc: Global, hasher: S) -> Self
@@ -113,6 +118,15 @@ impl<K: Eq + Hash + Drop, V: Drop, S: BuildHasher + Drop, W: Drop> OnceTable<K, 
         }
     }
 
+    /// The cell of an entry, for writing. It takes no memory.
+    pub fn cell_mut(&mut self, number: usize) -> &mut CellCore<V, W>
+        requires { IsSome (entry_at self.old number) }
+        ensures* writes_back { sem 𝓛 (lends_cell K.row V.row S.row W.row S.Hasher.row K.Hash S.BuildHasher S.Hasher.Hasher self.entry number result) }
+        ensures cell { IfSome (entry_at self.old number) (λ e. result.now ≡ e.cell) }
+    {
+        &mut self.entries[number].cell
+    }
+
     // A further caller of an entry.
     pub(crate) fn join(&mut self, number: usize)
         requires { (e : Shown V W) × (entry_at self.old number ≡ Some e) × (e.callers < usize.MAX) }
@@ -176,6 +190,38 @@ impl<K: Eq + Hash + Drop, V: Drop, S: BuildHasher + Drop, W: Drop> OnceTable<K, 
             CellCore::new(self.alloc),
             1,
         )
+    }
+
+    /// The key has a new entry with this value and no caller; the one that it had stays for its callers. With no
+    /// memory nothing has changed, and key and value come back.
+    pub fn insert(&mut self, key: K, value: V) -> Result<(), (K, V, NoMemory)>
+        ensures ok { OnOk result (Inserts K.eq self.old self.new key (full_cell value)) }
+        ensures err { IfErr result (λ e. (e.0 ≡ key) × (e.1 ≡ value) × IsSame K.eq self.old self.new) }
+    {
+        if self.entries.reserve(1).is_err() {
+            return Err((key, value, NoMemory));
+        }
+        if self.numbers.reserve(1).is_err() {
+            return Err((key, value, NoMemory));
+        }
+        let cell = CellCore::from_value(self.alloc, value);
+        put(&mut self.entries, &mut self.numbers, key, cell);
+        Ok(())
+    }
+
+    // A table of these pairs, in which the last pair of a key stands.
+    pub(crate) fn from_pairs(alloc: Global, pairs: Vec<(K, V)>, hasher: S) -> Result<Self, NoMemory>
+        ensures entries { IfOk result (λ t. (n : ℕ) (e : Shown V W) → entry_at t n ≡ Some e → IsIdle e) }
+        ensures values { IfOk result (λ t. (key : K) → value_in K.eq t key ≡ last_value K.eq pairs.items key) }
+    {
+        let mut table = OnceTable::with_capacity_and_hasher(alloc, pairs.len(), hasher)?;
+        for (key, value) in pairs {
+            match table.insert(key, value) {
+                Ok(()) => {}
+                Err(_) => return Err(NoMemory),
+            }
+        }
+        Ok(table)
     }
 
     /// The key's entry leaves the table. It takes no memory.

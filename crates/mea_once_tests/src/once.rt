@@ -1,12 +1,14 @@
-ghost use Rattle.std.specs.Prelude.{Result};
+ghost use Rattle.std.specs.Prelude.{◌≡◌, Result};
 
 use mea_base::Poll;
 use mea_meet_core::LatchWait;
 use mea_once_core::{
     CellCore, CellTurn, FlightCore, Init, InitCall, InsertCall, KeyCall, MapCore, Never, OnceCore,
-    Stage,
+    OnceTable, Stage,
 };
-use std::hash::{BuildHasher, Hasher};
+use std::alloc::{AllocError, Global};
+use std::cell::Cell;
+use std::hash::{BuildHasher, BuildHasherDefault, FoldHasher, Hasher};
 use std::test::Fail;
 
 // An initialiser that is pending until it is settled, and keeps the waker that it was last polled with.
@@ -20,6 +22,14 @@ impl Settling {
     fn new() -> Self {
         Settling {
             result: None,
+            waker: None,
+        }
+    }
+
+    // One that is settled with this value.
+    fn with(value: u64) -> Self {
+        Settling {
+            result: Some(Ok(value)),
             waker: None,
         }
     }
@@ -114,6 +124,16 @@ enum Told {
     Ok,
     Back(u64),
     NoMemory,
+}
+
+impl Told {
+    // A value or a waker, where there is one.
+    fn found(found: Option<u64>) -> Told {
+        match found {
+            Some(value) => Told::Value(value),
+            None => Told::Pending,
+        }
+    }
 }
 
 fn poll_told(cell: &CellCore<u64, u64>, poll: &Poll<Result<(), u64>>) -> Told {
@@ -225,7 +245,11 @@ fn a_once_wakes_waits_first(rt: HostRuntime) {
 
 type Call = KeyCall<u64, Settling>;
 
-fn computed(map: &mut MapCore<u64, u64, Collides, u64>, call: &mut Call, waker: u64) -> Told {
+fn computed<S: BuildHasher + Drop>(
+    map: &mut MapCore<u64, u64, S, u64>,
+    call: &mut Call,
+    waker: u64,
+) -> Told {
     match map.poll_compute_checked(call, waker) {
         Ok(Poll::Pending) => Told::Pending,
         Ok(Poll::Ready(Ok(value))) => Told::Value(value),
@@ -252,7 +276,11 @@ fn a_removed_entry_stays(rt: HostRuntime) -> Result<(), Fail> {
     Ok(())
 }
 
-fn worked(group: &mut FlightCore<u64, u64, Collides, u64>, call: &mut Call, waker: u64) -> Told {
+fn worked<S: BuildHasher + Drop>(
+    group: &mut FlightCore<u64, u64, S, u64>,
+    call: &mut Call,
+    waker: u64,
+) -> Told {
     match group.poll_work_checked(call, waker) {
         Ok(Poll::Pending) => Told::Pending,
         Ok(Poll::Ready(Ok(value))) => Told::Value(value),
@@ -299,6 +327,7 @@ fn a_turn_is_taken(rt: HostRuntime) {
         stage: first,
     });
     assert_eq!(rt; cell.next_wake(), Some(11));
+    assert!(rt; second.value.is_some());
     assert_eq!(rt; cell.end_insert_checked(second), 2);
     assert_eq!(rt; cell.next_wake(), Some(12));
     assert_eq!(rt; polled(&mut cell, &mut call, 13), Told::Pending);
@@ -342,5 +371,210 @@ fn calls_by_key_end(rt: HostRuntime) -> Result<(), Fail> {
     assert_eq!(rt; computed(&mut map, &mut third, 33), Told::Value(8));
     assert_eq!(rt; map.get(&6)?, Some(8));
     assert_eq!(rt; map.next_wake(), None);
+    Ok(())
+}
+
+// What 64 keys are told by a map with this hasher: two calls of each, of which the first computes; every other
+// key is taken out, and what is left is looked up.
+fn mapped<S: BuildHasher + Drop>(alloc: Global, hasher: S) -> Result<Vec<Told>, Fail> {
+    let mut map: MapCore<u64, u64, S, u64> = MapCore::with_hasher(alloc, hasher);
+    let mut told = Vec::new(alloc);
+    for key in 0..64u64 {
+        let mut first = KeyCall::new(key, Settling::new());
+        let mut second = KeyCall::new(key, Settling::new());
+        told.push(computed(&mut map, &mut first, 100))?;
+        told.push(computed(&mut map, &mut second, 200))?;
+        let _ = first.call.init.settle(Ok(key + 1000));
+        told.push(computed(&mut map, &mut first, 101))?;
+        told.push(Told::found(map.next_wake()))?;
+        told.push(computed(&mut map, &mut second, 201))?;
+    }
+    for key in 0..32u64 {
+        told.push(Told::found(map.remove(&(key * 2))?))?;
+    }
+    for key in 0..64u64 {
+        told.push(Told::found(map.get(&key)?))?;
+    }
+    Ok(told)
+}
+
+// What 64 keys are told by a group with this hasher, beside calls of 64 others that never end: two calls of
+// each, of which the first computes.
+fn flown<S: BuildHasher + Drop>(alloc: Global, hasher: S) -> Result<Vec<Told>, Fail> {
+    let mut group: FlightCore<u64, u64, S, u64> = FlightCore::with_hasher(alloc, hasher);
+    let mut told = Vec::new(alloc);
+    for key in 0..64u64 {
+        let mut other = KeyCall::new(key + 64, Settling::new());
+        let mut first = KeyCall::new(key, Settling::new());
+        let mut second = KeyCall::new(key, Settling::new());
+        told.push(worked(&mut group, &mut other, 50))?;
+        told.push(worked(&mut group, &mut first, 100))?;
+        told.push(worked(&mut group, &mut second, 200))?;
+        let _ = first.call.init.settle(Ok(key + 1000));
+        told.push(worked(&mut group, &mut first, 101))?;
+        told.push(Told::found(group.next_wake()))?;
+        told.push(worked(&mut group, &mut second, 201))?;
+    }
+    Ok(told)
+}
+
+// Hashes that are all equal change no answer.
+#[test]
+fn hashes_change_nothing(rt: HostRuntime) -> Result<(), Fail> {
+    let spread: BuildHasherDefault<FoldHasher> = BuildHasherDefault::new();
+    let told = mapped(rt.alloc(), Collides)?;
+    assert_eq!(rt; told.len(), 416);
+    assert_eq!(rt; told.get(2).copied(), Some(Told::Value(1000)));
+    assert_eq!(rt; told.get(3).copied(), Some(Told::Value(200)));
+    assert_eq!(rt; told.last().copied(), Some(Told::Value(1063)));
+    assert!(rt; told == mapped(rt.alloc(), spread)?);
+    let told = flown(rt.alloc(), Collides)?;
+    assert_eq!(rt; told.len(), 384);
+    assert_eq!(rt; told.get(3).copied(), Some(Told::Value(1000)));
+    assert_eq!(rt; told.get(4).copied(), Some(Told::Value(200)));
+    assert_eq!(rt; told.last().copied(), Some(Told::Value(1063)));
+    assert!(rt; told == flown(rt.alloc(), spread)?);
+    Ok(())
+}
+
+// A value whose clone is refused while a cell says so.
+#[derive(Drop)]
+struct Refusing<'a> {
+    refuses: &'a Cell<bool>,
+}
+
+impl<'a> Clone for Refusing<'a> {
+    ghost is_clone = { λ x y. y ≡ x };
+
+    fn clone(&self) -> Result<Self, AllocError> {
+        if self.refuses.get() {
+            return Err(AllocError);
+        }
+        Ok(Refusing {
+            refuses: self.refuses,
+        })
+    }
+}
+
+// An initialiser that has its value.
+#[derive(Drop)]
+struct Holding<'a> {
+    refuses: &'a Cell<bool>,
+}
+
+impl<'a> Init<Refusing<'a>, u64, u64> for Holding<'a> {
+    ghost answers = { λ _ _ _ _. Unit {0} };
+
+    fn poll(&mut self, _waker: u64) -> Poll<Result<Refusing<'a>, u64>> {
+        Poll::Ready(Ok(Refusing {
+            refuses: self.refuses,
+        }))
+    }
+}
+
+// Where the clone of a value that was just computed is refused, the waker is gone and the value is kept for the
+// next poll; where that of an earlier one is, the waker comes back.
+#[test]
+fn a_clone_is_refused(rt: HostRuntime) -> Result<(), Fail> {
+    let refuses = Cell::new(true);
+    let mut map: MapCore<u64, Refusing<'_>, Collides, u64> = MapCore::with_hasher(
+        rt.alloc(),
+        Collides,
+    );
+    let mut first = KeyCall::new(5, Holding { refuses: &refuses });
+    assert!(rt; matches!(map.poll_compute_checked(&mut first, 1), Err((None, _))));
+    assert!(rt; matches!(map.poll_compute_checked(&mut first, 2), Err((Some(2), _))));
+    let mut second = KeyCall::new(5, Holding { refuses: &refuses });
+    assert!(rt; matches!(map.poll_compute_checked(&mut second, 3), Err((Some(3), _))));
+    assert!(rt; map.get(&5).is_err());
+    assert!(rt; map.remove(&5).is_err());
+    refuses.set(false);
+    assert!(rt;
+        matches!(
+            map.poll_compute_checked(&mut first, 4),
+            Ok(Poll::Ready(Ok(_)))
+        )
+    );
+    assert!(rt;
+        matches!(
+            map.poll_compute_checked(&mut second, 5),
+            Ok(Poll::Ready(Ok(_)))
+        )
+    );
+    assert!(rt; map.get(&5)?.is_some());
+    Ok(())
+}
+
+// The same in a group, whose entry has left with the value.
+#[test]
+fn a_shared_clone_is_refused(rt: HostRuntime) {
+    let refuses = Cell::new(true);
+    let mut group: FlightCore<u64, Refusing<'_>, Collides, u64> = FlightCore::with_hasher(
+        rt.alloc(),
+        Collides,
+    );
+    let mut first = KeyCall::new(5, Holding { refuses: &refuses });
+    assert!(rt; matches!(group.poll_work_checked(&mut first, 1), Err((None, _))));
+    refuses.set(false);
+    assert!(rt;
+        matches!(
+            group.poll_work_checked(&mut first, 2),
+            Ok(Poll::Ready(Ok(_)))
+        )
+    );
+}
+
+// A map that is made from pairs has the last value of each key, and a call finds it.
+#[test]
+fn pairs_make_a_map(rt: HostRuntime) -> Result<(), Fail> {
+    let pairs = vec![in rt.alloc(); (5, 50), (6, 60), (5, 51)]?;
+    let mut map: MapCore<u64, u64, Collides, u64> = MapCore::from_pairs(
+        rt.alloc(),
+        pairs,
+        Collides,
+    )?;
+    assert_eq!(rt; map.get(&5)?, Some(51));
+    assert_eq!(rt; map.get(&6)?, Some(60));
+    assert_eq!(rt; map.get(&7)?, None);
+    let mut call = KeyCall::new(5, Settling::with(9));
+    assert_eq!(rt; computed(&mut map, &mut call, 10), Told::Value(51));
+    Ok(())
+}
+
+// A table gives a key's value a new entry each time, whose cell may be changed in place.
+#[test]
+fn a_table_has_values(rt: HostRuntime) -> Result<(), Fail> {
+    let mut table: OnceTable<u64, u64, Collides, u64> = OnceTable::with_hasher(
+        rt.alloc(),
+        Collides,
+    );
+    assert!(rt; table.insert(5, 50).is_ok());
+    let first = table.get(&5);
+    assert!(rt; table.insert(5, 51).is_ok());
+    let Some(number) = table.get(&5) else {
+        return Err(Fail::new("the key has an entry"));
+    };
+    assert!(rt; first != Some(number));
+    assert_eq!(rt; table.callers(number), 0);
+    assert_eq!(rt; table.cell(number).get().copied(), Some(51));
+    assert_eq!(rt; table.cell_mut(number).take_checked(), Some(51));
+    assert!(rt; table.is_in_use(number));
+    assert!(rt; !table.cell(number).is_full());
+    Ok(())
+}
+
+// Many keys are computed and taken again.
+#[test]
+fn many_keys(rt: HostRuntime) -> Result<(), Fail> {
+    let spread: BuildHasherDefault<FoldHasher> = BuildHasherDefault::new();
+    let mut map: MapCore<u64, u64, _, u64> = MapCore::with_hasher(rt.alloc(), spread);
+    for key in 0..20_000u64 {
+        let mut call = KeyCall::new(key, Settling::with(key));
+        assert_eq!(rt; computed(&mut map, &mut call, 1), Told::Value(key));
+    }
+    for key in 0..20_000u64 {
+        assert_eq!(rt; map.remove(&key)?, Some(key));
+    }
+    assert_eq!(rt; map.get(&7)?, None);
     Ok(())
 }

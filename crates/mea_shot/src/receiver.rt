@@ -1,0 +1,170 @@
+ghost use Rattle.std.specs.Prelude.{◌≡◌, ◌⊎◌, ◌↔◌, true, IsTrue, IfOk, OnOk, IfErr, IsOk};
+ghost use Rattle.std.specs.Arc.{arc_value};
+ghost use Rattle.mea_shot.specs.Steps.{IsOn, IsUnpublished};
+ghost use Rattle.mea_shot.specs.declared.view.View.TheVariants.{Receives};
+ghost use Rattle.mea_shot.specs.declared.view.RecvStage.TheVariants.{Waiting, Published, Woken, Full, Closed};
+
+use crate::errors::{RecvError, TryRecvError};
+use crate::message::{Content, Message};
+use crate::receiving::{end_unpublished, poll_published, poll_unpublished, take};
+use crate::steps::{Board, look, reclaim};
+use crate::view::View;
+use atomic_table::Seat;
+use mea_base::{Poll, Wake};
+use std::marker::Model;
+use std::sync::Arc;
+
+/// The end that receives. Contracts see what it knows. It has to be spent, by `into_future` or by `end`. It ports
+/// `mea::oneshot::Receiver`.
+pub struct Receiver<T: Message, W> {
+    board: Arc<Board<T, W>>,
+    seat: Seat<Option<Content<T, W>>, View<W>>,
+}
+
+impl<T: Message, W> Model for Receiver<T, W> {
+    ghost use Rattle.std.specs.Prelude.{◌≡◌};
+    ghost use Rattle.std.specs.Arc.{arc_value};
+    ghost use Rattle.mea_shot.specs.declared.view.View.{View};
+    ghost use Rattle.mea_shot.specs.Steps.{IsOn, IsUnpublished};
+
+    ghost Value = { View W };
+
+    ghost view = { λ s. s.seat.me.0 };
+
+    ghost invariant = { λ s. IsOn s.seat.table_id (arc_value s.board).shared.table_id × IsUnpublished s.seat.me };
+}
+
+/// A receiver that is polled. Contracts see what it knows. It has to be spent, by `end`. It ports
+/// `mea::oneshot::Recv`.
+pub struct Recv<T: Message, W> {
+    board: Arc<Board<T, W>>,
+    seat: Seat<Option<Content<T, W>>, View<W>>,
+    published: bool,
+}
+
+impl<T: Message, W> Model for Recv<T, W> {
+    ghost use Rattle.std.specs.Prelude.{◌≡◌, MatchBool};
+    ghost use Rattle.std.specs.Arc.{arc_value};
+    ghost use Rattle.mea_shot.specs.declared.view.View.{View};
+    ghost use Rattle.mea_shot.specs.Steps.{IsOn, IsUnpublished, IsPublished};
+
+    ghost Value = { View W };
+
+    ghost view = { λ s. s.seat.me.0 };
+
+    ghost invariant = { λ s. IsOn s.seat.table_id (arc_value s.board).shared.table_id × MatchBool s.published (IsPublished s.seat.me) (IsUnpublished s.seat.me) };
+}
+
+impl<T: Message, W> Receiver<T, W> {
+    pub(crate) fn new(
+        board: Arc<Board<T, W>>,
+        seat: Seat<Option<Content<T, W>>, View<W>>,
+    ) -> Receiver<T, W>
+        requires board { IsOn seat.table_id (arc_value board).shared.table_id }
+        requires seat { IsUnpublished seat.me }
+        ensures { result ≡ seat.me.0 }
+    {
+        Receiver { board, seat }
+    }
+}
+
+impl<T: Message + Drop, W: Wake + Drop> Receiver<T, W> {
+    /// Whether nothing comes any more: each call that receives then answers `Disconnected`. It ports
+    /// `mea::oneshot::Receiver::is_closed`.
+    pub fn is_closed(&mut self) -> bool
+        ensures tells { IsTrue result ↔ (self.new ≡ Receives Closed) }
+        ensures stays { self.old ≡ Receives Closed → result ≡ true }
+    {
+        look(&*self.board, &mut self.seat) == 2
+    }
+
+    /// Whether the message is there: the next call that receives gives it. It ports
+    /// `mea::oneshot::Receiver::has_message`.
+    pub fn has_message(&mut self) -> bool
+        ensures tells { IsTrue result ↔ (self.new ≡ Receives Full) }
+        ensures stays { self.old ≡ Receives Full → result ≡ true }
+    {
+        look(&*self.board, &mut self.seat) == 4
+    }
+
+    /// Takes the message, where it is there. It ports `mea::oneshot::Receiver::try_recv`.
+    pub fn try_recv(&mut self) -> Result<T, TryRecvError>
+        ensures fits { IfOk result (λ m. T.fits m) }
+        ensures taken { OnOk result (self.new ≡ Receives Closed) }
+        ensures err { IfErr result (λ e. (e ≡ TryRecvError.Empty → self.new ≡ Receives Waiting) × (e ≡ TryRecvError.Disconnected → self.new ≡ Receives Closed)) }
+        ensures full { self.old ≡ Receives Full → IsOk result }
+        ensures closed { self.old ≡ Receives Closed → result ≡ Err TryRecvError.Disconnected }
+    {
+        let found = look(&*self.board, &mut self.seat);
+        if found == 2 {
+            return Err(TryRecvError::Disconnected);
+        }
+        if found == 4 {
+            return Ok(take(&*self.board, &mut self.seat));
+        }
+        Err(TryRecvError::Empty)
+    }
+
+    /// The future of the message. It ports `IntoFuture` of `mea::oneshot::Receiver`.
+    pub fn into_future(self) -> Recv<T, W>
+        ensures { result ≡ self }
+    {
+        let Receiver { board, seat } = self;
+        Recv {
+            board,
+            seat,
+            published: false,
+        }
+    }
+
+    /// Ends the receiver. A message that it has not received is dropped, and a later send is refused. It ports the
+    /// drop of `mea::oneshot::Receiver`.
+    pub fn end(self) {
+        let Receiver { board, mut seat } = self;
+        end_unpublished(&*board, &mut seat);
+    }
+}
+
+impl<T: Message + Drop, W: Wake + Drop> Recv<T, W> {
+    /// Takes the message, or leaves the waker for the sender; the waker of the poll before is dropped. Where the sender
+    /// is just about to wake that one, this waker is woken at once instead. After the message it answers
+    /// `Disconnected`. It ports `mea::oneshot::Recv::poll`.
+    pub fn poll(&mut self, waker: W) -> Poll<Result<T, RecvError>>
+        ensures ready { (r : _) → result ≡ Poll.Ready r → (self.new ≡ Receives Closed) × IfOk r (λ m. T.fits m) }
+        ensures pending { result ≡ Poll.Pending → (self.new ≡ Receives (Published waker)) ⊎ (self.new ≡ Receives Woken) }
+    {
+        let got = if self.published {
+            poll_published(&*self.board, &mut self.seat, waker)
+        } else {
+            poll_unpublished(&*self.board, &mut self.seat, waker)
+        };
+        match got {
+            None => {
+                self.published = true;
+                Poll::Pending
+            }
+            Some(Some(message)) => {
+                self.published = false;
+                Poll::Ready(Ok(message))
+            }
+            Some(None) => {
+                self.published = false;
+                Poll::Ready(Err(RecvError::Disconnected))
+            }
+        }
+    }
+
+    /// Ends the future, and with it the receiver: its waker is taken back, a message that it has not received is dropped,
+    /// and a later send is refused. It ports the drop of `mea::oneshot::Recv`.
+    pub fn end(self) {
+        let Recv {
+            board,
+            mut seat,
+            published,
+        } = self;
+        if published {
+            reclaim(&*board, &mut seat);
+        }
+        end_unpublished(&*board, &mut seat);
+    }
+}

@@ -1,0 +1,112 @@
+ghost use Rattle.std.specs.Prelude.{◌≡◌, ◌↔◌, true, IsTrue, IfOk, IfErr, IsErr};
+ghost use Rattle.mea_shot.specs.declared.view.View.TheVariants.{Sends, Receives};
+ghost use Rattle.mea_shot.specs.declared.view.SendStage.TheVariants.{Ready, Shut};
+ghost use Rattle.mea_shot.specs.declared.view.SendStage.TheVariants.{Sent as SentStage};
+ghost use Rattle.mea_shot.specs.declared.view.RecvStage.TheVariants.{Waiting};
+
+use crate::errors::SendError;
+use crate::message::{Content, Message};
+use crate::receiver::Receiver;
+use crate::sending::{end_on, send_on};
+use crate::steps::{Board, ask, split};
+use crate::view::View;
+use atomic_table::{Seat, Table};
+use mea_base::{NoMemory, Wake};
+use std::alloc::Global;
+use std::marker::Model;
+use std::sync::Arc;
+
+/// The end that sends. Contracts see what it knows. It has to be spent, by `send` or by `end`. It ports
+/// `mea::oneshot::Sender`.
+pub struct Sender<T: Message, W> {
+    board: Arc<Board<T, W>>,
+    seat: Seat<Option<Content<T, W>>, View<W>>,
+}
+
+impl<T: Message, W> Model for Sender<T, W> {
+    ghost use Rattle.std.specs.Prelude.{◌≡◌, []};
+    ghost use Rattle.std.specs.Arc.{arc_value};
+    ghost use Rattle.mea_shot.specs.declared.view.View.{View};
+    ghost use Rattle.mea_shot.specs.Steps.{IsOn, IsSender};
+
+    ghost Value = { View W };
+
+    ghost view = { λ s. s.seat.me.0 };
+
+    ghost invariant = { λ s. IsOn s.seat.table_id (arc_value s.board).shared.table_id × IsSender s.seat.me.0 × (s.seat.me.1 ≡ []) };
+}
+
+/// What an accepted send leaves: the sender's seat, which says that this call told the message. It has to be spent,
+/// by `end`.
+pub struct Sent<T: Message, W> {
+    board: Arc<Board<T, W>>,
+    seat: Seat<Option<Content<T, W>>, View<W>>,
+    pub ghost sent: { seat.me.0 ≡ Sends SentStage },
+}
+
+/// A channel for one message. It takes the memory that both ends share; no later call takes any. It ports
+/// `mea::oneshot::channel`.
+pub fn channel<T: Message + Drop, W: Wake + Drop>(
+    alloc: Global,
+) -> Result<(Sender<T, W>, Receiver<T, W>), NoMemory>
+    ensures { IfOk result (λ r. (r.0 ≡ Sends Ready) × (r.1 ≡ Receives Waiting)) }
+{
+    let made: Result<(Board<T, W>, Seat<Option<Content<T, W>>, View<W>>), _> = Table::vacant(
+        alloc,
+        &[3],
+        2,
+        &(),
+    );
+    let Ok((board, mut seat)) = made else {
+        return Err(NoMemory);
+    };
+    let other_seat = split(&board, &mut seat);
+    let Ok(board) = Arc::new(alloc, board) else {
+        return Err(NoMemory);
+    };
+    let Ok(other_board) = Arc::try_clone(&board) else {
+        return Err(NoMemory);
+    };
+    Ok((
+        Sender { board, seat },
+        Receiver::new(other_board, other_seat),
+    ))
+}
+
+impl<T: Message + Drop, W: Wake + Drop> Sender<T, W> {
+    /// Sends the message, and wakes the receiver that waits for it. It is refused where the receiver has ended, also
+    /// in the middle of the call; the message then comes back. It ports `mea::oneshot::Sender::send`.
+    pub fn send(self, message: T) -> Result<Sent<T, W>, SendError<T>>
+        requires { T.fits message }
+        ensures refused { IfErr result (λ e. e.0 ≡ message) }
+        ensures shut { self ≡ Sends Shut → IsErr result }
+    {
+        let Sender { board, mut seat } = self;
+        match send_on(&*board, &mut seat, message) {
+            Ok(()) => Ok(Sent { board, seat }),
+            Err(message) => Err(SendError(message)),
+        }
+    }
+
+    /// Whether the receiver has ended: a send is then refused. It ports `mea::oneshot::Sender::is_closed`.
+    pub fn is_closed(&mut self) -> bool
+        ensures tells { IsTrue result ↔ (self.new ≡ Sends Shut) }
+        ensures stays { self.old ≡ Sends Shut → result ≡ true }
+    {
+        ask(&*self.board, &mut self.seat)
+    }
+
+    /// Ends the sender without a message, and wakes the receiver that waits for one. It ports the drop of
+    /// `mea::oneshot::Sender`.
+    pub fn end(self) {
+        let Sender { board, mut seat } = self;
+        end_on(&*board, &mut seat);
+    }
+}
+
+impl<T: Message + Drop, W: Wake + Drop> Sent<T, W> {
+    /// Gives the token up.
+    pub fn end(self) {
+        let Sent { board: _, seat: _ } = self;
+    }
+}

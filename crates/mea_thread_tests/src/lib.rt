@@ -1,0 +1,9 @@
+//! Tests of what threads share, by public contracts alone. It has no code but tests.
+#![tactic(auto)]
+
+#[cfg(test)]
+mod bell;
+#[cfg(test)]
+mod shot;
+#[cfg(test)]
+mod shot_threads;
