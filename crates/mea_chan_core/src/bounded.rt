@@ -1,4 +1,4 @@
-ghost use Rattle.std.specs.Prelude.{◌≡◌, ◌≢◌, ◌+◌, ◌-◌, ◌<◌, ◌≤◌, ◌^◌, ◌↔◌, [], ◌∷◌, ◌++◌, length, Some, None, Ok, Err, false, true, IfOk, IfErr, IfSome, IfNone, OnOk, OnErr, IsErr, IsTrue};
+ghost use Rattle.std.specs.Prelude.{◌≡◌, ◌≢◌, ◌+◌, ◌-◌, ◌<◌, ◌≤◌, ◌^◌, ◌↔◌, [], ◌∷◌, ◌++◌, length, Some, None, Ok, Err, false, true, IfOk, IfErr, IfSome, IfNone, OnOk, OnErr, IsErr, IsTrue, is_some};
 ghost use Rattle.mea_sem_core.specs.Acquire.{demand_of};
 ghost use Rattle.mea_sem_core.specs.Calls.{Belongs, with_waker};
 ghost use Rattle.mea_chan_core.specs.Channel.{Channel, no_senders};
@@ -105,6 +105,13 @@ impl<T: Drop, W: Drop> BoundedCore<T, W> {
         ensures { result ≡ self.now.ended }
     {
         self.ended
+    }
+
+    /// Whether the receiver's waker is kept, to be woken by a message or by the end of the last sender. It takes no memory.
+    pub fn is_waiting(&self) -> bool
+        ensures { result ≡ is_some self.now.waker }
+    {
+        self.waker.is_some()
     }
 
     /// How many sends wait in the queue; those that were granted a place have left it. It takes no memory.

@@ -45,6 +45,13 @@ impl<T: Drop> BoxCore<T> {
         self.content
     }
 
+    /// The content.
+    pub fn content(&self) -> &T
+        ensures { result.now ≡ self.now.content.value }
+    {
+        &self.content
+    }
+
     /// Lends the content.
     pub fn get_mut(&mut self) -> &mut T
         ensures { result.now ≡ self.old.content.value }

@@ -55,6 +55,7 @@ impl<T: Drop, W: Drop> OneshotCore<T, W> {
     pub fn send(&mut self, message: T) -> Result<(), SendError<T>>
         ensures answer { result ≡ send_answer self.old message }
         ensures after { self.new ≡ after_send self.old message }
+        ensures first { self.old.sender ≡ true → self.old.message ≡ None }
     {
         if !self.receiver || !self.sender {
             return Err(SendError(message));
@@ -85,6 +86,13 @@ impl<T: Drop, W: Drop> OneshotCore<T, W> {
         ensures { result ≡ (if self.now.receiver then false else true) }
     {
         !self.receiver
+    }
+
+    /// Whether the receiver's waker is kept, to be woken by the message or by the end of the sender. It takes no memory.
+    pub fn is_waiting(&self) -> bool
+        ensures { result ≡ is_some self.now.waker }
+    {
+        self.waker.is_some()
     }
 
     /// Whether a message is there to be received. It takes no memory.

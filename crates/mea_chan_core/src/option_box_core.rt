@@ -61,6 +61,16 @@ impl<T: Drop> OptionBoxCore<T> {
         self.content
     }
 
+    /// The content, if there is one.
+    pub fn content(&self) -> Option<&T>
+        ensures { option_map (λ lent. lent.now) result ≡ option_map (λ content. content.value) self.now.content }
+    {
+        match &self.content {
+            Some(content) => Some(&**content),
+            None => None,
+        }
+    }
+
     /// Lends the content, if there is one.
     pub fn get_mut(&mut self) -> Option<&mut T>
         ensures { option_map (λ lent. lent.now) result ≡ option_map (λ content. content.value) self.old.content }

@@ -1,4 +1,4 @@
-ghost use Rattle.std.specs.Prelude.{◌≡◌, ◌≢◌, ◌+◌, ◌<◌, ◌↔◌, [], ◌∷◌, length, Some, None, Ok, Err, false, true, IfOk, IfErr, IfSome, IfNone, OnOk, OnErr, IsErr, MatchResult};
+ghost use Rattle.std.specs.Prelude.{◌≡◌, ◌≢◌, ◌+◌, ◌<◌, ◌↔◌, [], ◌∷◌, length, Some, None, Ok, Err, false, true, IfOk, IfErr, IfSome, IfNone, OnOk, OnErr, IsErr, MatchResult, is_some};
 ghost use Rattle.mea_chan_core.specs.Mailbox.{Mailbox, with_message, recv_answer, after_recv, PollsRecv, without_receiver, without_sender};
 
 use crate::errors::{RecvError, TryRecvError, UnboundedError};
@@ -73,6 +73,13 @@ impl<T: Drop, W: Drop> UnboundedCore<T, W> {
         ensures { result ≡ self.now.ended }
     {
         self.ended
+    }
+
+    /// Whether the receiver's waker is kept, to be woken by a message or by the end of the last sender. It takes no memory.
+    pub fn is_waiting(&self) -> bool
+        ensures { result ≡ is_some self.now.waker }
+    {
+        self.waker.is_some()
     }
 
     /// Sends a value; where the receiver has ended, or there is no memory for it, it comes back.

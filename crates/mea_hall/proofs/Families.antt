@@ -1,5 +1,5 @@
 -- an event is played on the hall of its family alone
-use Rattle.std.proofs.Common.{◌≡◌, ℕ, ◌+◌, ◌≤◌, ◌++◌, Bool, true, false, cond, List, [], ◌∷◌, length, Result, Ok, Err, is_err, refl, ap, sym, ◌∙◌, arith, append-nil}
+use Rattle.std.proofs.Common.{◌≡◌, ℕ, ◌+◌, ◌≤◌, ◌++◌, Bool, true, false, cond, [], length, Result, Ok, Err, is_err, refl, ap, ◌∙◌, arith, append-nil}
 use Rattle.std.specs.Result.{IfOk, OnOk}
 use Rattle.mea_base.specs.declared.answer.Answer.{Answer}
 use Rattle.mea_base.specs.declared.stop.Stop.{Stop}
@@ -24,7 +24,7 @@ use Rattle.mea_lock_model.specs.Meaning as lock_meaning
 use Rattle.mea_lock_model.proofs.Wakers as lock_laws
 use Rattle.mea_hall.specs.declared.event.Event.{Event}
 use Rattle.mea_hall.specs.declared.event.Event.TheVariants.{Sem, Meet, Lock}
-use Rattle.mea_hall.specs.World.{World, empty_world, OthersStay, registered, registers, step}
+use Rattle.mea_hall.specs.World.{World, empty_world, registered, registers, step}
 use Rattle.mea_hall.specs.Families.{LockPlay, world_of, PlaysFamilies}
 
 if_ok : {A E : Type 0} (P Q : A → Type 0) (r : Result A E) → ((a : A) → P a → Q a) → IfOk r P → IfOk r Q

@@ -15,7 +15,6 @@ use Rattle.mea_meet_model.specs.Cause as meet_cause
 use Rattle.mea_meet_model.specs.Step as meet_step
 use Rattle.mea_meet_model.specs.Valid as meet_valid
 use Rattle.mea_meet.specs.Play as meet_plays
-use Rattle.mea_lock_model.specs.declared.event.LockEvent.{LockEvent}
 use Rattle.mea_lock_model.specs.LockHall as lock
 use Rattle.mea_lock_model.specs.Meaning as lock_meaning
 use Rattle.mea_lock_model.specs.Valid as lock_valid

@@ -4,6 +4,7 @@ ghost use Rattle.mea_hall.specs.World.{empty_world, Play, Plays, OthersStay, IsV
 ghost use Rattle.mea_hall.specs.Families.{world_of, PlaysFamilies};
 
 use crate::event::Event;
+use crate::waking::move_wakes;
 use mea_base::{Answer, NoMemory, Outbox, Stop};
 use mea_lock::{LockEvent, LockHall};
 use mea_meet::MeetHall;
@@ -104,9 +105,9 @@ impl Hall {
             self.events,
             event,
         )?;
-        move_wakes_of_semaphores(&mut self.semaphores, &mut self.outbox);
-        move_wakes_of_meets(&mut self.meets, &mut self.outbox);
-        move_wakes_of_locks(&mut self.locks, &mut self.outbox);
+        move_wakes(&mut self.semaphores, &mut self.outbox);
+        move_wakes(&mut self.meets, &mut self.outbox);
+        move_wakes(&mut self.locks, &mut self.outbox);
         self.events += 1;
         Ok(answer)
     }
@@ -209,41 +210,5 @@ fn registers(event: &Event) -> bool
         Event::Meet(event) => event.registers(),
         Event::Lock(LockEvent::MxPoll(..) | LockEvent::RwPoll(..)) => true,
         Event::Lock(_) => false,
-    }
-}
-
-// Moves the wakers that the semaphores have ready, in their order.
-fn move_wakes_of_semaphores(hall: &mut SemHall, outbox: &mut Outbox<u64>)
-    requires { length hall.old.wakes ≤ outbox.old.spare }
-    ensures hall { hall.new ≡ record hall.old { wakes = [] } }
-    ensures moved { outbox.new.wakers ≡ outbox.old.wakers ++ hall.old.wakes }
-    ensures spare { outbox.old.spare ≤ outbox.new.spare + length hall.old.wakes }
-{
-    while let Some(waker) = hall.next_wake() {
-        outbox.push(waker);
-    }
-}
-
-// Moves the wakers that the meeting points have ready, in their order.
-fn move_wakes_of_meets(hall: &mut MeetHall, outbox: &mut Outbox<u64>)
-    requires { length hall.old.wakes ≤ outbox.old.spare }
-    ensures hall { hall.new ≡ record hall.old { wakes = [] } }
-    ensures moved { outbox.new.wakers ≡ outbox.old.wakers ++ hall.old.wakes }
-    ensures spare { outbox.old.spare ≤ outbox.new.spare + length hall.old.wakes }
-{
-    while let Some(waker) = hall.next_wake() {
-        outbox.push(waker);
-    }
-}
-
-// Moves the wakers that the locks have ready, in their order.
-fn move_wakes_of_locks(hall: &mut LockHall, outbox: &mut Outbox<u64>)
-    requires { length hall.old.wakes ≤ outbox.old.spare }
-    ensures hall { hall.new ≡ record hall.old { wakes = [] } }
-    ensures moved { outbox.new.wakers ≡ outbox.old.wakers ++ hall.old.wakes }
-    ensures spare { outbox.old.spare ≤ outbox.new.spare + length hall.old.wakes }
-{
-    while let Some(waker) = hall.next_wake() {
-        outbox.push(waker);
     }
 }

@@ -13,6 +13,7 @@ mod played;
 mod replies;
 mod sem_words;
 mod text;
+mod waking;
 
 pub use event::Event;
 pub use hall::Hall;

@@ -5,7 +5,7 @@ ghost use Rattle.mea_meet_model.specs.Barriers.{no_barriers, registered};
 ghost use Rattle.mea_meet.specs.Play.{Yields, Rests};
 ghost use Rattle.mea_meet.specs.StandsFor.{StandsForBarrier};
 
-use crate::moving::hand_on_barrier;
+use crate::moving::hand_on;
 use mea_base::{Answer, NoMemory, Poll, Ready, Stop};
 use mea_meet_core::{BarrierCore, BarrierWait, BarrierWaitResult};
 use std::alloc::Global;
@@ -70,7 +70,7 @@ impl BarrierEntry {
             }
             Ok(Poll::Ready(result)) => {
                 ready.unregister(1);
-                hand_on_barrier(&mut self.core, ready);
+                hand_on(&mut self.core, ready);
                 self.waits -= 1;
                 Ok(Poll::Ready(result))
             }

@@ -11,7 +11,7 @@ ghost use Rattle.mea_meet.specs.Play.{Yields, Rests};
 ghost use Rattle.mea_meet.specs.StandsFor.{StandsForGroup};
 ghost use Rattle.mea_meet.specs.GroupHall.{left_at, wakers_left};
 
-use crate::moving::hand_on_group;
+use crate::moving::hand_on;
 use mea_base::{Answer, NoMemory, Poll, Ready, Stop};
 use mea_meet_core::{GroupCore, GroupWait};
 use std::alloc::Global;
@@ -65,7 +65,7 @@ impl GroupEntry {
         ensures counted { ready.new.registered + length (woken_by self.old.core.count 1) ≡ ready.old.registered }
     {
         self.core.leave();
-        hand_on_group(&mut self.core, ready);
+        hand_on(&mut self.core, ready);
     }
 
     // Polls a future of the group; one that is ready waits no longer.

@@ -8,7 +8,7 @@ ghost use Rattle.mea_meet_model.specs.Latches.{no_latches, registered};
 ghost use Rattle.mea_meet.specs.Play.{Yields, Rests};
 ghost use Rattle.mea_meet.specs.StandsFor.{StandsForLatch};
 
-use crate::moving::hand_on_latch;
+use crate::moving::hand_on;
 use mea_base::{Answer, NoMemory, Poll, Ready, Stop};
 use mea_meet_core::{LatchCore, LatchWait};
 use std::alloc::Global;
@@ -77,7 +77,7 @@ impl LatchEntry {
         } }
     {
         self.core.arrive(n);
-        hand_on_latch(&mut self.core, ready);
+        hand_on(&mut self.core, ready);
     }
 
     // Polls at the core. The waker is counted before it is registered, and no longer where it was not

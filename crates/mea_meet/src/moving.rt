@@ -1,49 +1,76 @@
-ghost use Rattle.std.specs.Prelude.{◌≡◌, ◌-◌, ◌≤◌, ◌++◌, [], length};
+ghost use Rattle.std.specs.Prelude.{◌≡◌, ◌-◌, ◌≤◌, ◌∷◌, ◌++◌, [], length, IfSome, IfNone};
 
 use mea_base::Ready;
 use mea_meet_core::{BarrierCore, GroupCore, LatchCore, ShutdownCore};
 
-// What cores have made ready is handed on after each event, so that wakers of all objects of a hall keep
-// the order in which they were made ready.
+/// A core that makes wakers ready and hands them out in their order.
+pub trait WakingCore {
+    ghost use Rattle.std.specs.Prelude.{ℕ, List};
+    // The wakers that it has ready.
+    ghost wakes_of: { Self → List ℕ };
+    // The core once they were all taken.
+    ghost quieted: { Self → Self };
 
-/// Hands the wakers that a barrier has ready on, in their order.
-pub fn hand_on_barrier(core: &mut BarrierCore<u64>, ready: &mut Ready<u64>)
-    requires { length core.old.wakes ≤ ready.old.registered }
-    ensures core { core.new ≡ record core.old { wakes = [] } }
-    ensures ready { ready.new ≡ record { wakers = ready.old.wakers ++ core.old.wakes; registered = ready.old.registered - length core.old.wakes } }
-{
-    while let Some(waker) = core.next_wake() {
-        ready.wake(waker);
+    /// Takes the first waker that is ready.
+    fn next_wake(&mut self) -> Option<u64>
+        ensures some { IfSome result (λ waker. (wakes_of self.old ≡ waker ∷ wakes_of self.new) × (quieted self.new ≡ quieted self.old)) }
+        ensures none { IfNone result ((wakes_of self.old ≡ []) × (self.new ≡ quieted self.old)) };
+}
+
+impl WakingCore for BarrierCore<u64> {
+    ghost use Rattle.std.specs.Prelude.{[]};
+
+    ghost wakes_of = { λ c. c.wakes };
+
+    ghost quieted = { λ c. record c { wakes = [] } };
+
+    fn next_wake(&mut self) -> Option<u64> {
+        BarrierCore::next_wake(self)
     }
 }
 
-/// Hands the wakers that a latch has ready on, in their order.
-pub fn hand_on_latch(core: &mut LatchCore<u64>, ready: &mut Ready<u64>)
-    requires { length core.old.wakes ≤ ready.old.registered }
-    ensures core { core.new ≡ record core.old { wakes = [] } }
-    ensures ready { ready.new ≡ record { wakers = ready.old.wakers ++ core.old.wakes; registered = ready.old.registered - length core.old.wakes } }
-{
-    while let Some(waker) = core.next_wake() {
-        ready.wake(waker);
+impl WakingCore for LatchCore<u64> {
+    ghost use Rattle.std.specs.Prelude.{[]};
+
+    ghost wakes_of = { λ c. c.wakes };
+
+    ghost quieted = { λ c. record c { wakes = [] } };
+
+    fn next_wake(&mut self) -> Option<u64> {
+        LatchCore::next_wake(self)
     }
 }
 
-/// Hands the wakers that a group has ready on, in their order.
-pub fn hand_on_group(core: &mut GroupCore<u64>, ready: &mut Ready<u64>)
-    requires { length core.old.wakes ≤ ready.old.registered }
-    ensures core { core.new ≡ record core.old { wakes = [] } }
-    ensures ready { ready.new ≡ record { wakers = ready.old.wakers ++ core.old.wakes; registered = ready.old.registered - length core.old.wakes } }
-{
-    while let Some(waker) = core.next_wake() {
-        ready.wake(waker);
+impl WakingCore for GroupCore<u64> {
+    ghost use Rattle.std.specs.Prelude.{[]};
+
+    ghost wakes_of = { λ c. c.wakes };
+
+    ghost quieted = { λ c. record c { wakes = [] } };
+
+    fn next_wake(&mut self) -> Option<u64> {
+        GroupCore::next_wake(self)
     }
 }
 
-/// Hands the wakers that a shutdown has ready on, in their order.
-pub fn hand_on_shutdown(core: &mut ShutdownCore<u64>, ready: &mut Ready<u64>)
-    requires { length core.old.wakes ≤ ready.old.registered }
-    ensures core { core.new ≡ record core.old { wakes = [] } }
-    ensures ready { ready.new ≡ record { wakers = ready.old.wakers ++ core.old.wakes; registered = ready.old.registered - length core.old.wakes } }
+impl WakingCore for ShutdownCore<u64> {
+    ghost use Rattle.std.specs.Prelude.{[]};
+
+    ghost wakes_of = { λ c. c.wakes };
+
+    ghost quieted = { λ c. record c { wakes = [] } };
+
+    fn next_wake(&mut self) -> Option<u64> {
+        ShutdownCore::next_wake(self)
+    }
+}
+
+/// Hands the wakers that a core has ready on, in their order. That is done after each event, so that wakers
+/// of all objects of a hall keep the order in which they were made ready.
+pub fn hand_on<C: WakingCore>(core: &mut C, ready: &mut Ready<u64>)
+    requires { length (C.wakes_of core.old) ≤ ready.old.registered }
+    ensures core { core.new ≡ C.quieted core.old }
+    ensures ready { ready.new ≡ record { wakers = ready.old.wakers ++ C.wakes_of core.old; registered = ready.old.registered - length (C.wakes_of core.old) } }
 {
     while let Some(waker) = core.next_wake() {
         ready.wake(waker);

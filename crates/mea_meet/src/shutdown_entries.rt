@@ -3,7 +3,7 @@ ghost use Rattle.mea_sets.specs.WaitSet.{has_given};
 ghost use Rattle.mea_sets.specs.Countdown.{decreased, woken_by};
 ghost use Rattle.mea_meet_core.specs.Count.{increased};
 
-use crate::moving::hand_on_shutdown;
+use crate::moving::hand_on;
 use mea_base::{Ready, Stop};
 use mea_meet_core::{GroupWait, LatchWait, ShutdownCore};
 
@@ -148,7 +148,7 @@ impl ShutdownEntry {
         ensures counted { ready.new.registered + length (woken_by self.old.core.signal 1) ≡ ready.old.registered }
     {
         self.core.signal();
-        hand_on_shutdown(&mut self.core, ready);
+        hand_on(&mut self.core, ready);
     }
 
     /// Counts one receiver more, or one watch.
@@ -188,7 +188,7 @@ impl ShutdownEntry {
         self.things -= 1;
         if !watch {
             self.core.end_receiver();
-            hand_on_shutdown(&mut self.core, ready);
+            hand_on(&mut self.core, ready);
         }
     }
 }

@@ -105,3 +105,21 @@ module _ {E X Y : Type 0} (of_first : X → ℕ) (of_second : Y → ℕ) (Good :
         seconds = record { at = λ k y is. (omega (arith, (kept.seconds.at k y is).0), keep (of_second y) (kept.seconds.at k y is).1) };
         low = omega arith;
       }
+
+  -- an object is made with a thing of each sort
+  pub makes_with : (e : E) (xs' : Names X) (ys' : Names Y) → Moves of_first i i xs xs' → Moves of_second i i ys ys' → Good e (own of_first i xs') (own of_second i ys') → size e ≤ i + 1
+      → HallKept of_first of_second Good size (insert es i e) xs' ys' (i + 1)
+  makes_with e xs' ys' firsts seconds good bound =
+      let keep : (q : ℕ) → IsSome (get es q) → IsSome (get (insert es i e) q) = λ q some. by_put es i e (λ q p. IsSome (get es q) → IsSome p) (λ some. refl) (λ q apart some. some) q some in
+      let here : IsSome (get (insert es i e) i) = is_there (get (insert es i e) i) e (get-there es i e) in
+      record {
+        each = by_put es i e (λ q p. (d : E) → p ≡ Some d → Good d (own of_first q xs') (own of_second q ys'))
+            (λ d is. let same : e ≡ d = cc in rw (← same) good)
+            (λ q apart d is. rw (moves_elsewhere of_first i i xs xs' firsts q apart, moves_elsewhere of_second i i ys ys' seconds q apart) (kept.each q d is));
+        below = by_put es i e (λ q p. (d : E) → p ≡ Some d → (q < i + 1) × (size d ≤ i + 1))
+            (λ d is. let same : e ≡ d = cc in rw (← same) (omega arith, bound))
+            (λ q apart d is. let low = kept.below q d is in (omega (arith, low.0), omega (arith, low.1)));
+        firsts = moves_home of_first es (insert es i e) i i next xs xs' firsts later kept.firsts here keep;
+        seconds = moves_home of_second es (insert es i e) i i next ys ys' seconds later kept.seconds here keep;
+        low = omega arith;
+      }

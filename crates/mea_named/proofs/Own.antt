@@ -216,11 +216,13 @@ module _ {X : Type 0} (owner : X → ℕ) where
       by_test q true e = hides p is ∙ sym (ap (λ j. cond (is_of owner o (get m j)) (get m j) None) (sym (eqb-true k q e)) ∙ hides (get m k) was)
       by_test q false e = refl
 
-  -- what an event of number i does to the things, all of o: nothing; one is put; one is gone
+  -- what an event of number i does to the things, all of o: nothing; one is put; one is gone; one is gone, and number i
+  -- comes in its place
   pub data Moves (o i : ℕ) (xs : Names X) : Names X → Type 0 where
     Stays : Moves o i xs xs
     Comes : (k : ℕ) (x : X) → k ≤ i → owner x ≡ o → IsOf o (get xs k) → Moves o i xs (insert xs k x)
     Goes : (k : ℕ) → IsOf o (get xs k) → Moves o i xs (remove xs k)
+    Follows : (k : ℕ) (x : X) → owner x ≡ o → IsOf o (get xs k) → IsOf o (get (remove xs k) i) → Moves o i xs (insert (remove xs k) i x)
 
   -- the things of another object stay
   pub moves_elsewhere : (o i : ℕ) (xs : Names X) (ys : Names X) → Moves o i xs ys → (p : ℕ) → (o ≡ p → ⊥) → own owner p ys ≡ own owner p xs
@@ -228,6 +230,10 @@ module _ {X : Type 0} (owner : X → ℕ) where
   moves_elsewhere o i xs _ (Comes k x small mine was) p apart =
       own-elsewhere p o xs (insert xs k x) k (Some x) (λ q. get_inserted xs k q x) was (λ y is. let same : x ≡ y = cc in ap owner (sym same) ∙ mine) apart
   moves_elsewhere o i xs _ (Goes k was) p apart = own-elsewhere p o xs (remove xs k) k None (λ q. get_removed xs k q) was (λ y is. absurd (cc)) apart
+
+  moves_elsewhere o i xs _ (Follows k x mine was free) p apart =
+      own-elsewhere p o (remove xs k) (insert (remove xs k) i x) i (Some x) (λ q. get_inserted (remove xs k) i q x) free (λ y is. let same : x ≡ y = cc in ap owner (sym same) ∙ mine) apart
+      ∙ own-elsewhere p o xs (remove xs k) k None (λ q. get_removed xs k q) was (λ y is. absurd (cc)) apart
 
   -- each thing has its owner still, and a name below the next number
   pub moves_home : {R : Type 0} (rs rs' : Names R) (o i n : ℕ) (xs ys : Names X) → Moves o i xs ys → n ≤ i → AreHome owner rs xs n → IsSome (get rs' o)
@@ -240,6 +246,11 @@ module _ {X : Type 0} (owner : X → ℕ) where
   }
   moves_home rs rs' o i n xs _ (Goes k was) later home there keep = record {
     at = λ j y is. let had = removed_there xs k j y is in (omega (arith, (home.at j y had).0), keep (owner y) (home.at j y had).1);
+  }
+  moves_home rs rs' o i n xs _ (Follows k x mine was free) later home there keep = record {
+    at = by_put (remove xs k) i x (λ j p. (y : X) → p ≡ Some y → (j < i + 1) × IsSome (get rs' (owner y)))
+        (λ y is. let same : x ≡ y = cc in (omega arith, rw (← same, mine) there))
+        (λ j apart y is. let had = removed_there xs k j y is in (omega (arith, (home.at j y had).0), keep (owner y) (home.at j y had).1));
   }
 
 -- the things of one object, seen

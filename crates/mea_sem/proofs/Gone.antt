@@ -18,6 +18,7 @@ use Rattle.mea_sem.specs.declared.entries.SemaphoreEntry.{SemaphoreEntry}
 use Rattle.mea_sem.specs.declared.entries.FutureEntry.{FutureEntry}
 use Rattle.mea_sem.specs.Store.{Store, has, queue_of, core_in, stage_of, future_of, hall_of, IsNumbered, IsLinked}
 use Rattle.mea_sem.specs.Store.{is_under}
+use Rattle.mea_sem.proofs.ClosedCores.{keeps_closed}
 use Rattle.mea_sem.proofs.Stages.{granted_idle, granted_uncut, cut_idle}
 use Rattle.mea_sem.proofs.Changes.{Changes, linked_after, queue_kept, semaphores_after, futures_gone}
 
@@ -101,14 +102,10 @@ module _ (st st' : Store) (next i s f : ℕ) (x : FutureEntry) (e e' : Semaphore
         cut_apart = λ n some.
             let before = old.cut_apart n (λ none. some (c.cut.none_more n none)) in
             (ap (λ q. cores.waiting q n) c.queue ∙ before.0, c.granted.none_more n before.1);
-        closing = by_closed e.core.closed e'.core.closed c.closed old.closing;
+        closing = keeps_closed e.core.closed e'.core.closed e.core.queue e'.core.queue e.core.cut e'.core.cut c.closed
+            (λ h. subst cores.HasOnlyDebts (sym c.queue) h)
+            (λ h. same_named _ _ (λ n. c.cut.none_more n (ap (λ m. get m n) h ∙ get-empty nat_cmp n) ∙ sym (get-empty nat_cmp n))) old.closing;
       }
-    where
-      by_closed : (b b' : Bool) → b' ≡ b → cores.CutsWhereClosed b e.core.queue e.core.cut → cores.CutsWhereClosed b' e'.core.queue e'.core.cut
-      by_closed true true same h = subst cores.HasOnlyDebts (sym c.queue) h
-      by_closed false false same h = same_named _ _ (λ n. c.cut.none_more n (ap (λ m. get m n) h ∙ get-empty nat_cmp n) ∙ sym (get-empty nat_cmp n))
-      by_closed true false same h = absurd (cc)
-      by_closed false true same h = absurd (cc)
 
   pub changes_gone : Changes st st' next (i + 1) s f e e' (Some x) None
   changes_gone = record {

@@ -14,6 +14,7 @@ use Rattle.mea_sem.specs.declared.entries.SemaphoreEntry.{SemaphoreEntry}
 use Rattle.mea_sem.specs.declared.entries.FutureEntry.{FutureEntry}
 use Rattle.mea_sem.specs.Store.{Store, is_under, has, who_of, queue_of, hall_of, IsNumbered, IsLinked}
 use Rattle.mea_sem.specs.Kept.{wakers_in}
+use Rattle.mea_sem.proofs.ClosedCores.{keeps_closed}
 use Rattle.mea_sem.proofs.Cores.{Queue, IsAt, all_at, all_by, is_number, waiting-without, waker-without, AreApart-without, only-waiting}
 use Rattle.mea_sem.proofs.Stages.{cut_idle}
 use Rattle.mea_sem.proofs.Seen.{names-number}
@@ -174,15 +175,11 @@ module _ (st st' : Store) (next i s f n d k : ℕ) (x : FutureEntry) (e e' : Sem
     cut_apart = λ m some.
         let before = numbered.cut_apart m (λ none. some (ap (λ g. get g m) cut ∙ none)) in
         (waiting_now m ∙ still (n == m) (cores.waiting e.core.queue m) before.0, ap (λ g. get g m) granted ∙ before.1);
-    closing = by_closed e.core.closed e'.core.closed closed numbered.closing;
+    closing = keeps_closed e.core.closed e'.core.closed e.core.queue e'.core.queue e.core.cut e'.core.cut closed
+        (λ h. absurd (let none = only-waiting e.core.queue n h in cc))
+        (λ h. cut ∙ h) numbered.closing;
   }
     where
-      by_closed : (b b' : Bool) → b' ≡ b → cores.CutsWhereClosed b e.core.queue e.core.cut → cores.CutsWhereClosed b' e'.core.queue e'.core.cut
-      by_closed true true same h = absurd (let none = only-waiting e.core.queue n h in cc)
-      by_closed false false same h = cut ∙ h
-      by_closed true false same h = absurd (cc)
-      by_closed false true same h = absurd (cc)
-
       still : (t : Bool) (o : Option (ℕ × ℕ)) → o ≡ None → cond t None o ≡ None
       still true o h = refl
       still false o h = h

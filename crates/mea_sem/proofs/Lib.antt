@@ -1,3 +1,4 @@
+pub mod ClosedCores
 pub mod Cores
 pub mod Names
 pub mod Stages

@@ -7,6 +7,7 @@ use Rattle.mea_sem_model.specs.Hall.{Granted, poured, grant_all, pour}
 use Rattle.mea_sem_core.specs.Core as cores
 use Rattle.mea_sem.specs.declared.entries.SemaphoreEntry.{SemaphoreEntry}
 use Rattle.mea_sem.specs.Store.{Store, who_of, queue_of, semaphore_of, stage_under, hall_of, IsNumbered, IsLinked}
+use Rattle.mea_sem.proofs.ClosedCores.{keeps_closed}
 use Rattle.mea_sem.proofs.Cores.{is_among, Splits, pour_splits, AreApart-waiting_after, only-waiting_after, demands-other, granted-poured}
 use Rattle.mea_sem.proofs.Seen.{seen_at, granted_names, all_granted_found}
 use Rattle.mea_sem.proofs.MoveHalls.{MovesInto, linked_moved, semaphores_moved, futures_moved}
@@ -84,14 +85,10 @@ module _ (st st' : Store) (b s n : ℕ) (e e' : SemaphoreEntry) (linked : IsLink
     cut_apart = λ k some.
         let before = old.cut_apart k (λ none. some (ap (λ g. get g k) c.cut ∙ none)) in
         (ap (λ q. cores.waiting q k) c.queue ∙ ((split_at k).none before.0).0, unpaid k before.0 ∙ before.1);
-    closing = by_closed e.core.closed e'.core.closed c.closed old.closing;
+    closing = keeps_closed e.core.closed e'.core.closed e.core.queue e'.core.queue e.core.cut e'.core.cut c.closed
+        (λ h. subst cores.HasOnlyDebts (sym c.queue) (only-waiting_after e.core.queue n h))
+        (λ h. c.cut ∙ h) old.closing;
   }
-    where
-      by_closed : (b b' : Bool) → b' ≡ b → cores.CutsWhereClosed b e.core.queue e.core.cut → cores.CutsWhereClosed b' e'.core.queue e'.core.cut
-      by_closed true true same h = subst cores.HasOnlyDebts (sym c.queue) (only-waiting_after e.core.queue n h)
-      by_closed false false same h = c.cut ∙ h
-      by_closed true false same h = absurd (cc)
-      by_closed false true same h = absurd (cc)
 
   -- who waits is not cut
   uncut : (k d l : ℕ) → cores.waiting e.core.queue k ≡ Some (d, l) → (o : Option ℕ) → get e.core.cut k ≡ o → stage_under None o ≡ Granted

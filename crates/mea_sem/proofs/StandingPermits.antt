@@ -1,7 +1,6 @@
 -- what the events of permits leave of a `SemHall`
-use Rattle.std.proofs.Common.{◌≡◌, ◌⊎◌, ℕ, ◌+◌, ◌-◌, ◌^◌, ◌<◌, ◌≤◌, ◌==◌, ◌++◌, not, Bool, true, false, cond, if◌then◌else◌, List, [], length, refl, ap, sym, subst, ◌∙◌, arith, Option, Some, None, is_some, Result, Ok, Err, OnOk, OnErr}
+use Rattle.std.proofs.Common.{◌≡◌, ◌⊎◌, ℕ, ◌+◌, ◌-◌, ◌^◌, ◌<◌, ◌≤◌, ◌==◌, ◌++◌, not, Bool, true, false, cond, if◌then◌else◌, List, [], length, refl, ap, sym, subst, ◌∙◌, arith, Option, Some, None, is_some}
 use Rattle.std.specs.Option.{option_map}
-use Rattle.std.specs.Result.{is_err}
 use Rattle.std.specs.Ordering.{nat_cmp}
 use Rattle.std.specs.FinMap.{FinMap, get, insert, remove}
 use Rattle.std.proofs.lemmas.Bool.{false≢true, eqb-true, eq-eqb, ne_eqb, and_parts, le-leb, lt-leb}
@@ -33,15 +32,6 @@ use Rattle.mea_sem.proofs.PlaysEnds.{plays_end_permit}
 use Rattle.mea_sem.proofs.Meets.{store_in, hall_in, seen_in, IsKeptIn, Meets, MeetsSemaphore, MeetsPermit, Done, permits_semaphore, later, to_kept, done, done_quietly}
 use Rattle.mea_sem.proofs.Standing.{Semaphores, Permits, puts_of, semaphores_of}
 use Rattle.mea_sem.proofs.StandingSemaphores.{small_forgotten, wakers_few, offered, not_offered}
-
--- what a call says where it succeeds, and where it fails
-pub on_success : {T E : Type 0} (P : Type 0) (r : Result T E) → is_err r ≡ false → OnOk r P → P
-on_success P (Ok x) is h = h
-on_success P (Err e) is h = absurd (cc)
-
-pub on_failure : {T E : Type 0} (P : Type 0) (r : Result T E) → is_err r ≡ true → OnErr r P → P
-on_failure P (Ok x) is h = absurd (cc)
-on_failure P (Err e) is h = h
 
 -- ---- permits among entries
 abbrev seen_permits : Permits → FinMap nat_cmp Permit

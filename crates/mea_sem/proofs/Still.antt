@@ -9,6 +9,7 @@ use Rattle.mea_sem_core.specs.Calls.{Belongs}
 use Rattle.mea_sem.specs.declared.entries.SemaphoreEntry.{SemaphoreEntry}
 use Rattle.mea_sem.specs.declared.entries.FutureEntry.{FutureEntry}
 use Rattle.mea_sem.specs.Store.{Store, queue_of, hall_of, IsNumbered, IsLinked}
+use Rattle.mea_sem.proofs.ClosedCores.{keeps_closed}
 use Rattle.mea_sem.proofs.Changes.{Changes, linked_after, queue_kept, semaphores_after, futures_same}
 
 -- every number of the core has what it had
@@ -58,14 +59,10 @@ module _ (st st' : Store) (next i s : ℕ) (e e' : SemaphoreEntry) (linked : IsL
         cut_apart = λ n some.
             let parts = old.cut_apart n (λ none. some (ap (λ g. get g n) still.cut ∙ none)) in
             (still.waiting n ∙ parts.0, ap (λ g. get g n) still.granted ∙ parts.1);
-        closing = by_closed e.core.closed e'.core.closed still.closed old.closing;
+        closing = keeps_closed e.core.closed e'.core.closed e.core.queue e'.core.queue e.core.cut e'.core.cut still.closed
+            (λ h. still.only_debts h)
+            (λ h. still.cut ∙ h) old.closing;
       }
-    where
-      by_closed : (b b' : Bool) → b' ≡ b → cores.CutsWhereClosed b e.core.queue e.core.cut → cores.CutsWhereClosed b' e'.core.queue e'.core.cut
-      by_closed true true same h = still.only_debts h
-      by_closed false false same h = still.cut ∙ h
-      by_closed true false same h = absurd (cc)
-      by_closed false true same h = absurd (cc)
 
   -- the number i is no future's, before and after
   pub changes_still : Changes st st' next (i + 1) s i e e' None None

@@ -34,10 +34,7 @@ impl SemHall {
             plain,
             forgets,
         };
-        match self.futures.insert(number, future) {
-            Err(_) => return Err(Stop::NoMemory),
-            Ok(_) => {}
-        }
+        self.futures.insert(number, future)?;
         let Some(entry) = self.semaphores.get_mut(&s) else {
             unreachable!()
         };
@@ -112,10 +109,7 @@ impl SemHall {
             unreachable!()
         };
         let permit = future.permit();
-        match self.permits.insert(number, permit) {
-            Err(_) => return Err(Stop::NoMemory),
-            Ok(_) => {}
-        }
+        self.permits.insert(number, permit)?;
         let Some(future) = self.futures.remove(&f) else {
             unreachable!()
         };
@@ -165,17 +159,11 @@ impl SemHall {
         let Some(registered) = self.registered.checked_add(1) else {
             return Err(Stop::NoMemory);
         };
-        match self.outbox.reserve(registered) {
-            Err(_) => return Err(Stop::NoMemory),
-            Ok(()) => {}
-        }
+        self.outbox.reserve(registered)?;
         let Some(entry) = self.semaphores.get_mut(&semaphore) else {
             unreachable!()
         };
-        let acquire = match entry.queue(demand, waker) {
-            Err(_) => return Err(Stop::NoMemory),
-            Ok(acquire) => acquire,
-        };
+        let acquire = entry.queue(demand, waker)?;
         let Some(future) = self.futures.get_mut(&f) else {
             unreachable!()
         };

@@ -37,9 +37,7 @@ impl SemHall {
             size: n as usize,
             plain,
         };
-        if self.permits.insert(number, permit).is_err() {
-            return Err(Stop::NoMemory);
-        }
+        self.permits.insert(number, permit)?;
         let Some(entry) = self.semaphores.get_mut(&s) else {
             unreachable!()
         };
@@ -102,9 +100,7 @@ impl SemHall {
             size: n as usize,
             ..permit
         };
-        if self.permits.insert(number, part).is_err() {
-            return Err(Stop::NoMemory);
-        }
+        self.permits.insert(number, part)?;
         let Some(whole) = self.permits.get_mut(&p) else {
             unreachable!()
         };

@@ -25,13 +25,9 @@ impl SemHall {
             named: true,
             plain: 0,
         };
-        match self.semaphores.insert(number, entry) {
-            Err(_) => Err(Stop::NoMemory),
-            Ok(_) => {
-                self.next = number as u128 + 1;
-                Ok(Answer::Made)
-            }
-        }
+        self.semaphores.insert(number, entry)?;
+        self.next = number as u128 + 1;
+        Ok(Answer::Made)
     }
 
     pub(crate) fn free(&mut self, number: u64, s: u64) -> Answer
@@ -70,13 +66,9 @@ impl SemHall {
         let Some(entry) = self.semaphores.get_mut(&s) else {
             unreachable!()
         };
-        match entry.forget_exact(n as usize) {
-            Err(_) => Err(Stop::NoMemory),
-            Ok(()) => {
-                self.next = number as u128 + 1;
-                Ok(Answer::Done)
-            }
-        }
+        entry.forget_exact(n as usize)?;
+        self.next = number as u128 + 1;
+        Ok(Answer::Done)
     }
 
     pub(crate) fn release(&mut self, number: u64, s: u64, n: u64) -> Answer

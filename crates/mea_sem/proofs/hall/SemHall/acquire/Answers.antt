@@ -14,7 +14,7 @@ met c = record {
 }
 
 pub invariant_of-self : goal.invariant_of-self
-invariant_of-self c = kept_as_futures c.self.inside c.self.invariant c.in-Err.ensures.err
+invariant_of-self c = kept_as_futures c.self.inside c.self.invariant c.in_err-insert.ensures.err
 
 pub unreachable-requires : goal.unreachable-requires
 unreachable-requires c =
@@ -28,10 +28,10 @@ pub invariant_of-self-2 : goal.invariant_of-self-2
 invariant_of-self-2 c =
     (acquire_done (met (goal.at.invariant_of-self-2 c).In-Some) _ _ c.args.n c.args.plain c.args.forgets c.count.new.self _ c.requires.allowed
     ((c.get_mut.follows.holds c.count.new.self).3 (search rules)).0 c.count.ensures
-    c.in-Ok.ensures.updates.0 (λ j. record { semaphore = c.args.s; acquire = c.new.ensures j; plain = c.args.plain; forgets = c.args.forgets })).kept
+    c.in_ok-insert.ensures.updates.0 (λ j. record { semaphore = c.args.s; acquire = c.new.ensures j; plain = c.args.plain; forgets = c.args.forgets })).kept
 
 pub returns-clause-played : goal.returns-clause-played
 returns-clause-played c =
     (acquire_done (met (goal.at.returns-clause-played c).In-Some) _ _ c.args.n c.args.plain c.args.forgets c.count.new.self _ c.requires.allowed
     ((c.get_mut.follows.holds c.count.new.self).3 (search rules)).0 c.count.ensures
-    c.in-Ok.ensures.updates.0 (λ j. record { semaphore = c.args.s; acquire = c.new.ensures j; plain = c.args.plain; forgets = c.args.forgets })).yields
+    c.in_ok-insert.ensures.updates.0 (λ j. record { semaphore = c.args.s; acquire = c.new.ensures j; plain = c.args.plain; forgets = c.args.forgets })).yields

@@ -22,7 +22,7 @@ pub unreachable-requires : goal.unreachable-requires
 unreachable-requires c = polled_found c.self.inside c.args.f c.self.view_is c.requires.allowed (sym c.get.ensures.value ∙ ap option_copied c.in_default.is)
 
 pub invariant_of-self : goal.invariant_of-self
-invariant_of-self c = kept_as_permits c.self.inside c.self.invariant c.in-Err.ensures.err
+invariant_of-self c = kept_as_permits c.self.inside c.self.invariant c.in_err-insert.ensures.err
 
 pub unreachable-requires-in_default-get_mut : goal.unreachable-requires-in_default-get_mut
 unreachable-requires-in_default-get_mut c =
@@ -37,11 +37,11 @@ invariant_of-self-2 c =
     let w = (goal.at.invariant_of-self-2 c).In-Some-get_mut in
     (kept_done (met w) c.args.waker c.requires.allowed c.requires.ready _ _ c.finish.new.self c.in-Some-remove.ensures.updates.0
     ((c.get_mut.follows.holds c.finish.new.self).3 (search rules)).0
-    c.requires.keeps _ c.permit-permit.result c.in-Ok.ensures.updates.0 (permit w) c.finish.ensures.is c.finish.ensures.held).kept
+    c.requires.keeps _ c.permit-permit.result c.in_ok-insert.ensures.updates.0 (permit w) c.finish.ensures.is c.finish.ensures.held).kept
 
 pub returns-clause-played : goal.returns-clause-played
 returns-clause-played c =
     let w = (goal.at.returns-clause-played c).In-Some-get_mut in
     (kept_done (met w) c.args.waker c.requires.allowed c.requires.ready _ _ c.finish.new.self c.in-Some-remove.ensures.updates.0
     ((c.get_mut.follows.holds c.finish.new.self).3 (search rules)).0
-    c.requires.keeps _ c.permit-permit.result c.in-Ok.ensures.updates.0 (permit w) c.finish.ensures.is c.finish.ensures.held).yields
+    c.requires.keeps _ c.permit-permit.result c.in_ok-insert.ensures.updates.0 (permit w) c.finish.ensures.is c.finish.ensures.held).yields

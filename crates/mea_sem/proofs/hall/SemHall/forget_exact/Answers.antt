@@ -1,6 +1,6 @@
 use Rattle.std.proofs.Common.{rules, refl, sym, ap, ◌∙◌, arith}
 use Rattle.std.specs.Option.{option_copied_mut}
-use Rattle.mea_sem.proofs.Meets.{MeetsSemaphore}
+use Rattle.mea_sem.proofs.Meets.{MeetsSemaphore, on_err}
 use Rattle.mea_sem.proofs.StandingSemaphores.{never_gone, small_forgotten, kept_unchanged, seen_unchanged, done_forgetx}
 use Rattle.mea_sem.proofs.hall.SemHall.forget_exact.Goals as goal
 use Rattle.mea_sem.proofs.hall.SemHall.forget_exact.Goals.{In-Some}
@@ -23,21 +23,22 @@ forget_exact-requires c = small_forgotten (met (goal.at.forget_exact-requires c)
 pub invariant_of-self : goal.invariant_of-self
 invariant_of-self c =
     kept_unchanged (met (goal.at.invariant_of-self c).In-Some) _ c.forget_exact.new.self
-    ((c.get_mut.follows.holds c.forget_exact.new.self).3 (search rules)).0 c.in-Err.ensures.err _ c.self.invariant.room
+    ((c.get_mut.follows.holds c.forget_exact.new.self).3 (search rules)).0 c.in_err-forget_exact.ensures.err _ c.self.invariant.room
 
-pub returns-in-Err-clause-err : goal.returns-in-Err-clause-err
-returns-in-Err-clause-err c =
-    seen_unchanged (met (goal.at.returns-in-Err-clause-err c).In-Some) _ c.forget_exact.new.self
-    ((c.get_mut.follows.holds c.forget_exact.new.self).3 (search rules)).0 c.in-Err.ensures.err _ refl
+pub returns-in_err-forget_exact-clause-err : goal.returns-in_err-forget_exact-clause-err
+returns-in_err-forget_exact-clause-err c =
+    on_err c.from_residual.result _ (
+    seen_unchanged (met (goal.at.returns-in_err-forget_exact-clause-err c).In-Some) _ c.forget_exact.new.self
+    ((c.get_mut.follows.holds c.forget_exact.new.self).3 (search rules)).0 c.in_err-forget_exact.ensures.err _ refl)
 
-pub invariant_of-self-in-Ok : goal.invariant_of-self-in-Ok
-invariant_of-self-in-Ok c =
-    (done_forgetx (met (goal.at.invariant_of-self-in-Ok c).In-Some) _ c.forget_exact.new.self
+pub invariant_of-self-2 : goal.invariant_of-self-2
+invariant_of-self-2 c =
+    (done_forgetx (met (goal.at.invariant_of-self-2 c).In-Some) _ c.forget_exact.new.self
     ((c.get_mut.follows.holds c.forget_exact.new.self).3 (search rules)).0
-    c.args.n (omega arith) c.requires.allowed c.in-Ok.ensures.is c.forget_exact.ensures.held c.forget_exact.ensures.within).kept
+    c.args.n (omega arith) c.requires.allowed c.in_ok-forget_exact.ensures.is c.forget_exact.ensures.held c.forget_exact.ensures.within).kept
 
-pub returns-in-Ok-clause-played : goal.returns-in-Ok-clause-played
-returns-in-Ok-clause-played c =
-    (done_forgetx (met (goal.at.returns-in-Ok-clause-played c).In-Some) _ c.forget_exact.new.self
+pub returns-clause-played : goal.returns-clause-played
+returns-clause-played c =
+    (done_forgetx (met (goal.at.returns-clause-played c).In-Some) _ c.forget_exact.new.self
     ((c.get_mut.follows.holds c.forget_exact.new.self).3 (search rules)).0
-    c.args.n (omega arith) c.requires.allowed c.in-Ok.ensures.is c.forget_exact.ensures.held c.forget_exact.ensures.within).yields
+    c.args.n (omega arith) c.requires.allowed c.in_ok-forget_exact.ensures.is c.forget_exact.ensures.held c.forget_exact.ensures.within).yields

@@ -2,17 +2,17 @@ use Rattle.std.proofs.Common.{arith}
 use Rattle.mea_sem.proofs.Meets.{Meets}
 use Rattle.mea_sem.proofs.StandingSemaphores.{done_new}
 use Rattle.mea_sem.proofs.hall.SemHall.make.Goals as goal
-use Rattle.mea_sem.proofs.hall.SemHall.make.Goals.{In-Ok}
+use Rattle.mea_sem.proofs.hall.SemHall.make.Goals.{In_ok-insert}
 
-met : (c : In-Ok) → Meets c.self.inside c.args.self.now c.args.number
+met : (c : In_ok-insert) → Meets c.self.inside c.args.self.now c.args.number
 met c = record { seen = c.self.view_is; kept = c.self.invariant; least = c.requires; low = omega arith }
 
-pub invariant_of-self-in-Ok : goal.invariant_of-self-in-Ok
-invariant_of-self-in-Ok c =
-    (done_new (met (goal.at.invariant_of-self-in-Ok c).In-Ok) c.args.n (omega arith) c.insert.new.self.entries c.new.result
-    c.in-Ok.ensures.updates.0 c.new.ensures.is c.new.ensures.held).kept
+pub invariant_of-self-2 : goal.invariant_of-self-2
+invariant_of-self-2 c =
+    (done_new (met (goal.at.invariant_of-self-2 c).In_ok-insert) c.args.n (omega arith) c.insert.new.self.entries c.new.result
+    c.in_ok-insert.ensures.updates.0 c.new.ensures.is c.new.ensures.held).kept
 
 pub returns-clause-played : goal.returns-clause-played
 returns-clause-played c =
-    (done_new (met (goal.at.returns-clause-played c).In-Ok) c.args.n (omega arith) c.insert.new.self.entries c.new.result
-    c.in-Ok.ensures.updates.0 c.new.ensures.is c.new.ensures.held).yields
+    (done_new (met (goal.at.returns-clause-played c).In_ok-insert) c.args.n (omega arith) c.insert.new.self.entries c.new.result
+    c.in_ok-insert.ensures.updates.0 c.new.ensures.is c.new.ensures.held).yields

@@ -2,7 +2,7 @@ use Rattle.std.proofs.Common.{rules, ℕ, ◌≡◌, sym, ap, ◌∙◌, arith}
 use Rattle.std.specs.Option.{option_copied, option_copied_mut}
 use Rattle.mea_base.specs.Outbox.{Wakes}
 use Rattle.mea_base.proofs.Maps.{inside}
-use Rattle.mea_sem.proofs.Meets.{Meets, MeetsFuture, its_semaphore}
+use Rattle.mea_sem.proofs.Meets.{Meets, MeetsFuture, its_semaphore, on_err}
 use Rattle.mea_sem.proofs.StandingSemaphores.{kept_unchanged, seen_unchanged}
 use Rattle.mea_sem.proofs.StandingFutures.{polled_found, semaphore_found}
 use Rattle.mea_sem.proofs.StandingWaits.{unpolled, lacks_from, queue_done}
@@ -40,38 +40,39 @@ unreachable-requires-in_default-acquire c =
 pub queue-requires : goal.queue-requires
 queue-requires c = lacks_from (met (goal.at.queue-requires c).In-Some-get_mut) c.args.waker c.in-New.demand c.in-New.is c.requires.pending
 
-pub invariant_of-self-in-Err-queue : goal.invariant_of-self-in-Err-queue
-invariant_of-self-in-Err-queue c =
-    kept_unchanged (its_semaphore (met (goal.at.invariant_of-self-in-Err-queue c).In-Some-get_mut)) _ c.queue.new.self
+pub invariant_of-self-in_err-acquire : goal.invariant_of-self-in_err-acquire
+invariant_of-self-in_err-acquire c =
+    kept_unchanged (its_semaphore (met (goal.at.invariant_of-self-in_err-acquire c).In-Some-get_mut)) _ c.queue.new.self
     ((c.get_mut.follows.holds c.queue.new.self).3 (search rules)).0
-    c.in-Err-queue.ensures.err c.reserve.new.self.spare (search rules)
+    c.in_err-acquire.ensures.err c.reserve.new.self.spare (search rules)
 
-pub returns-in-Err-queue-clause-err : goal.returns-in-Err-queue-clause-err
-returns-in-Err-queue-clause-err c =
-    seen_unchanged (its_semaphore (met (goal.at.returns-in-Err-queue-clause-err c).In-Some-get_mut)) _ c.queue.new.self
+pub returns-in_err-acquire-clause-err : goal.returns-in_err-acquire-clause-err
+returns-in_err-acquire-clause-err c =
+    on_err c.from_residual-in_err-acquire.result _ (
+    seen_unchanged (its_semaphore (met (goal.at.returns-in_err-acquire-clause-err c).In-Some-get_mut)) _ c.queue.new.self
     ((c.get_mut.follows.holds c.queue.new.self).3 (search rules)).0
-    c.in-Err-queue.ensures.err _ (ap (λ (o : Wakes ℕ). o.wakers) c.reserve.ensures.rest_kept)
+    c.in_err-acquire.ensures.err _ (ap (λ (o : Wakes ℕ). o.wakers) c.reserve.ensures.rest_kept))
 
 pub invariant_of-self-2 : goal.invariant_of-self-2
 invariant_of-self-2 c =
-    let number = c.in-Ok-queue.ensures.queued in
+    let number = c.in_ok-acquire.ensures.queued in
     let found = same (goal.at.invariant_of-self-2 c).In-Some-get_mut-2 in
     (queue_done (met (goal.at.invariant_of-self-2 c).In-Some-get_mut)
     c.args.waker c.in-New.demand number.0 c.in-Some-checked_add.registered c.reserve.new.self _ _ c.queue.new.self _
     c.requires.allowed c.requires.pending (search rules) (ap (λ (o : Wakes ℕ). o.wakers) c.reserve.ensures.rest_kept) (search rules) c.in-New.is
     (λ j. record (found j) { acquire = number.2 j })
-    ((c.get_mut-2.follows.holds (record c.in-Some-get_mut-2.future.now { acquire = c.in-Ok-queue.acquire })).3 (search rules)).0
+    ((c.get_mut-2.follows.holds (record c.in-Some-get_mut-2.future.now { acquire = c.in_ok-acquire.acquire })).3 (search rules)).0
     ((c.get_mut.follows.holds c.queue.new.self).3 (search rules)).0
-    number.1 c.in-Ok-queue.ensures.rest c.in-Ok-queue.ensures.held).kept
+    number.1 c.in_ok-acquire.ensures.rest c.in_ok-acquire.ensures.held).kept
 
 pub returns-clause-played : goal.returns-clause-played
 returns-clause-played c =
-    let number = c.in-Ok-queue.ensures.queued in
+    let number = c.in_ok-acquire.ensures.queued in
     let found = same (goal.at.returns-clause-played c).In-Some-get_mut-2 in
     (queue_done (met (goal.at.returns-clause-played c).In-Some-get_mut)
     c.args.waker c.in-New.demand number.0 c.in-Some-checked_add.registered c.reserve.new.self _ _ c.queue.new.self _
     c.requires.allowed c.requires.pending (search rules) (ap (λ (o : Wakes ℕ). o.wakers) c.reserve.ensures.rest_kept) (search rules) c.in-New.is
     (λ j. record (found j) { acquire = number.2 j })
-    ((c.get_mut-2.follows.holds (record c.in-Some-get_mut-2.future.now { acquire = c.in-Ok-queue.acquire })).3 (search rules)).0
+    ((c.get_mut-2.follows.holds (record c.in-Some-get_mut-2.future.now { acquire = c.in_ok-acquire.acquire })).3 (search rules)).0
     ((c.get_mut.follows.holds c.queue.new.self).3 (search rules)).0
-    number.1 c.in-Ok-queue.ensures.rest c.in-Ok-queue.ensures.held).yields
+    number.1 c.in_ok-acquire.ensures.rest c.in_ok-acquire.ensures.held).yields

@@ -2,7 +2,7 @@ use Rattle.std.proofs.Common.{rules, ◌-◌, sym, ap, ◌∙◌, arith}
 use Rattle.std.specs.Option.{option_copied_mut}
 use Rattle.mea_sem.proofs.Meets.{Meets, MeetsPermit, kept_as_permits, permits_semaphore}
 use Rattle.mea_sem.proofs.StandingSemaphores.{plain_fits}
-use Rattle.mea_sem.proofs.StandingPermits.{on_success, on_failure, permit_found, home_found, too_small, halved}
+use Rattle.mea_sem.proofs.StandingPermits.{permit_found, home_found, too_small, halved}
 use Rattle.mea_sem.proofs.hall.SemHall.split.Goals as goal
 use Rattle.mea_sem.proofs.hall.SemHall.split.Goals.{In-Some, In-Some-get_mut-2}
 
@@ -32,9 +32,9 @@ returns-then-n-permit-clause-played c =
     (too_small (entered (goal.at.returns-then-n-permit-clause-played c).In-Some) c.args.p c.args.n c.in-Some.permit
     (sym c.get.ensures.value ∙ sym c.copied.ensures ∙ c.in-Some.is) c.if-n-permit.true).yields
 
-pub invariant_of-self-then-is_err : goal.invariant_of-self-then-is_err
-invariant_of-self-then-is_err c =
-    kept_as_permits c.self.inside c.self.invariant (on_failure _ c.insert.result (sym c.is_err.ensures.value ∙ c.if-is_err.true) c.insert.ensures.err)
+pub invariant_of-self-in_err-insert : goal.invariant_of-self-in_err-insert
+invariant_of-self-in_err-insert c =
+    kept_as_permits c.self.inside c.self.invariant c.in_err-insert.ensures.err
 
 pub unreachable-requires-in_default-get_mut-2 : goal.unreachable-requires-in_default-get_mut-2
 unreachable-requires-in_default-get_mut-2 c =
@@ -49,7 +49,7 @@ invariant_of-self-2 c =
     (halved (met (goal.at.invariant_of-self-2 c).In-Some-get_mut-2)
     _ _ _ c.args.n c.in-Some-get_mut.whole.now c.count.new.self c.requires.allowed (omega (arith, c.if-n-permit.false))
     c.count.ensures ((c.get_mut-2.follows.holds c.count.new.self).3 (search rules)).0
-    (on_success _ c.insert.result (sym c.is_err.ensures.value ∙ c.if-is_err.false) c.insert.ensures.updates).0
+    c.in_ok-insert.ensures.updates.0
     (sym c.get_mut.ensures.value ∙ ap option_copied_mut c.in-Some-get_mut.is)
     ((c.get_mut.follows.holds (record c.in-Some-get_mut.whole.now { size = c.in-Some-get_mut.whole.now.size - c.args.n })).3 (search rules)).0).kept
 
@@ -58,6 +58,6 @@ returns-clause-played c =
     (halved (met (goal.at.returns-clause-played c).In-Some-get_mut-2)
     _ _ _ c.args.n c.in-Some-get_mut.whole.now c.count.new.self c.requires.allowed (omega (arith, c.if-n-permit.false))
     c.count.ensures ((c.get_mut-2.follows.holds c.count.new.self).3 (search rules)).0
-    (on_success _ c.insert.result (sym c.is_err.ensures.value ∙ c.if-is_err.false) c.insert.ensures.updates).0
+    c.in_ok-insert.ensures.updates.0
     (sym c.get_mut.ensures.value ∙ ap option_copied_mut c.in-Some-get_mut.is)
     ((c.get_mut.follows.holds (record c.in-Some-get_mut.whole.now { size = c.in-Some-get_mut.whole.now.size - c.args.n })).3 (search rules)).0).yields

@@ -2,7 +2,7 @@ use Rattle.std.proofs.Common.{rules, sym, ap, ◌∙◌, arith}
 use Rattle.std.specs.Option.{option_copied, option_copied_mut}
 use Rattle.mea_sem.proofs.Meets.{MeetsSemaphore, kept_as_permits}
 use Rattle.mea_sem.proofs.StandingSemaphores.{never_gone, plain_fits}
-use Rattle.mea_sem.proofs.StandingPermits.{on_success, on_failure, tried, tried_in_vain}
+use Rattle.mea_sem.proofs.StandingPermits.{tried, tried_in_vain}
 use Rattle.mea_sem.proofs.hall.SemHall.try_permit.Goals as goal
 use Rattle.mea_sem.proofs.hall.SemHall.try_permit.Goals.{In-Some, In-Some-get_mut}
 
@@ -33,9 +33,9 @@ returns-then-not-offers-clause-played c =
     (tried_in_vain (looked (goal.at.returns-then-not-offers-clause-played c).In-Some) c.args.n c.args.plain
     (c.offers.ensures.lacks c.if-not-offers.true)).yields
 
-pub invariant_of-self-then-is_err : goal.invariant_of-self-then-is_err
-invariant_of-self-then-is_err c =
-    kept_as_permits c.self.inside c.self.invariant (on_failure _ c.insert.result (sym c.is_err.ensures.value ∙ c.if-is_err.true) c.insert.ensures.err)
+pub invariant_of-self-in_err-insert : goal.invariant_of-self-in_err-insert
+invariant_of-self-in_err-insert c =
+    kept_as_permits c.self.inside c.self.invariant c.in_err-insert.ensures.err
 
 pub take-requires-clause-few : goal.take-requires-clause-few
 take-requires-clause-few c = plain_fits (met (goal.at.take-requires-clause-few c).In-Some-get_mut)
@@ -47,7 +47,7 @@ invariant_of-self-2 c =
     (sym c.get.ensures.value ∙ ap option_copied c.in-Some.is) (c.offers.ensures.open_still c.if-not-offers.false) (c.offers.ensures.enough c.if-not-offers.false)
     c.take.ensures.is c.take.ensures.held
     ((c.get_mut.follows.holds c.take.new.self).3 (search rules)).0
-    (on_success _ c.insert.result (sym c.is_err.ensures.value ∙ c.if-is_err.false) c.insert.ensures.updates).0).kept
+    c.in_ok-insert.ensures.updates.0).kept
 
 pub returns-clause-played : goal.returns-clause-played
 returns-clause-played c =
@@ -56,4 +56,4 @@ returns-clause-played c =
     (sym c.get.ensures.value ∙ ap option_copied c.in-Some.is) (c.offers.ensures.open_still c.if-not-offers.false) (c.offers.ensures.enough c.if-not-offers.false)
     c.take.ensures.is c.take.ensures.held
     ((c.get_mut.follows.holds c.take.new.self).3 (search rules)).0
-    (on_success _ c.insert.result (sym c.is_err.ensures.value ∙ c.if-is_err.false) c.insert.ensures.updates).0).yields
+    c.in_ok-insert.ensures.updates.0).yields

@@ -1,0 +1,3 @@
+pub mod OneChannel
+pub mod MailboxEvents
+pub mod Playing

@@ -1,0 +1,79 @@
+-- the channels and boxes of all kinds, and what an event does to them
+use Rattle.std.specs.Prelude.{ℕ, ◌≡◌, Option, Some, None}
+use Rattle.mea_base.specs.declared.answer.Answer.{Answer}
+use Rattle.mea_base.specs.Ready.{Waking}
+use Rattle.mea_named.specs.Play.{Part, PartYields}
+use Rattle.mea_chan_model.specs.declared.event.ChanEvent.{ChanEvent}
+use Rattle.mea_chan_model.specs.Mailboxes.{Mailboxes, registered}
+use Rattle.mea_chan_model.specs.MailboxActions.{Action, Make, Copy, Send, Poll, Turn, act_in}
+use Rattle.mea_chan_model.specs.Boxes.{Boxes, BoxAction, MakeBox, Swap, Store}
+use Rattle.mea_chan_model.specs.ChanHall.{ChanHall, Kind, Unbounded, Oneshots, BoxKind, Full, Optional}
+use Rattle.mea_chan_model.specs.Meaning.{Meaning, OfChannels, OfBoxes, meaning_of}
+use Rattle.mea_chan.specs.BoxParts.{BoxYields}
+
+abbrev pub hall_of : Part Mailboxes → Part Mailboxes → Boxes → Boxes → ChanHall
+hall_of u o b p = record { unbounded = u.hall; oneshots = o.hall; boxes = b; option_boxes = p }
+
+-- what was done under number i to the channels of one kind, to the boxes of one kind, and to nothing else
+pub record PlaysUnbounded (u o : Part Mailboxes) (b p : Boxes) (i : ℕ) (a : Action) (answer : Answer) (u' o' : Part Mailboxes) (b' p' : Boxes) (before after : Waking ℕ) : Type 0 where
+  pub yields : PartYields registered u i (act_in u.hall i a) answer u' before after
+  pub oneshots : o' ≡ o
+  pub boxes : b' ≡ b
+  pub option_boxes : p' ≡ p
+
+pub record PlaysOneshots (u o : Part Mailboxes) (b p : Boxes) (i : ℕ) (a : Action) (answer : Answer) (u' o' : Part Mailboxes) (b' p' : Boxes) (before after : Waking ℕ) : Type 0 where
+  pub yields : PartYields registered o i (act_in o.hall i a) answer o' before after
+  pub unbounded : u' ≡ u
+  pub boxes : b' ≡ b
+  pub option_boxes : p' ≡ p
+
+pub record PlaysBoxes (u o : Part Mailboxes) (b p : Boxes) (i : ℕ) (a : BoxAction) (answer : Answer) (u' o' : Part Mailboxes) (b' p' : Boxes) (before after : Waking ℕ) : Type 0 where
+  pub yields : BoxYields b i a answer b'
+  pub unbounded : u' ≡ u
+  pub oneshots : o' ≡ o
+  pub option_boxes : p' ≡ p
+  pub wakers : after ≡ before
+
+pub record PlaysOptionBoxes (u o : Part Mailboxes) (b p : Boxes) (i : ℕ) (a : BoxAction) (answer : Answer) (u' o' : Part Mailboxes) (b' p' : Boxes) (before after : Waking ℕ) : Type 0 where
+  pub yields : BoxYields p i a answer p'
+  pub unbounded : u' ≡ u
+  pub oneshots : o' ≡ o
+  pub boxes : b' ≡ b
+  pub wakers : after ≡ before
+
+abbrev pub PlaysBy : Meaning → Part Mailboxes → Part Mailboxes → Boxes → Boxes → ℕ → Answer → Part Mailboxes → Part Mailboxes → Boxes → Boxes → Waking ℕ → Waking ℕ → Type 0
+PlaysBy (OfChannels Unbounded a) u o b p i answer u' o' b' p' before after = PlaysUnbounded u o b p i a answer u' o' b' p' before after
+PlaysBy (OfChannels Oneshots a) u o b p i answer u' o' b' p' before after = PlaysOneshots u o b p i a answer u' o' b' p' before after
+PlaysBy (OfBoxes Full a) u o b p i answer u' o' b' p' before after = PlaysBoxes u o b p i a answer u' o' b' p' before after
+PlaysBy (OfBoxes Optional a) u o b p i answer u' o' b' p' before after = PlaysOptionBoxes u o b p i a answer u' o' b' p' before after
+
+-- an event
+abbrev pub PlaysKinds : ChanEvent → Part Mailboxes → Part Mailboxes → Boxes → Boxes → ℕ → Answer → Part Mailboxes → Part Mailboxes → Boxes → Boxes → Waking ℕ → Waking ℕ → Type 0
+PlaysKinds e u o b p i answer u' o' b' p' before after = PlaysBy (meaning_of e) u o b p i answer u' o' b' p' before after
+
+-- what takes no memory: all but what makes something, sends into a queue, polls, or puts a value into a box
+abbrev pub IsFree : Action → Type 0
+IsFree (Make polls) = ⊥
+IsFree (Copy s) = ⊥
+IsFree (Send s v) = ⊥
+IsFree (Poll r w) = ⊥
+IsFree (Turn r) = ⊥
+IsFree _ = Unit {0}
+
+abbrev pub IsFreeContent : Option ℕ → Type 0
+IsFreeContent None = Unit {0}
+IsFreeContent (Some v) = ⊥
+
+abbrev pub IsFreeBox : BoxAction → Type 0
+IsFreeBox (MakeBox c) = ⊥
+IsFreeBox (Swap b c) = IsFreeContent c
+IsFreeBox (Store b c) = IsFreeContent c
+IsFreeBox _ = Unit {0}
+
+abbrev pub IsFreeMeaning : Meaning → Type 0
+IsFreeMeaning (OfChannels k a) = IsFree a
+IsFreeMeaning (OfBoxes k a) = IsFreeBox a
+
+-- the events that take no memory
+abbrev pub TakesNoMemory : ChanEvent → Type 0
+TakesNoMemory e = IsFreeMeaning (meaning_of e)

@@ -1,0 +1,18 @@
+//! The hall of channels for one receiver and of boxes: many of them by name, with their senders and receivers, over the
+//! cores of `mea_chan_core`. It is proved against the model of `mea_chan_model`, and knows the cores by their contracts
+//! alone.
+#![tactic(auto)]
+
+mod box_core;
+mod box_part;
+mod channel_entry;
+mod hall;
+mod kinds;
+mod mailbox_core;
+mod mailbox_part;
+mod oneshots;
+mod receiver_entry;
+mod unbounded;
+
+pub use hall::ChanHall;
+pub use mea_chan_model::ChanEvent;

@@ -1,0 +1,54 @@
+-- boxes by name, each with a value or empty: why what is done to them is refused, and what it does
+use Rattle.std.specs.Prelude.{ℕ, Bool, Option, Some, None, is_some}
+use Rattle.std.specs.Coded.{Coded, coded_ℕ, coded_option}
+use Rattle.std.specs.FinMap.{get, insert, remove}
+use Rattle.mea_base.specs.declared.answer.Answer.{Answer}
+use Rattle.mea_base.specs.declared.answer.Answer.TheVariants as answers
+use Rattle.mea_base.specs.declared.stop.Stop.{Stop}
+use Rattle.mea_base.specs.Causes.{unknown_unless}
+use Rattle.mea_base.specs.Family.{Outcome, quietly}
+use Rattle.mea_named.specs.ByName.{Names, names_code}
+use Rattle.mea_named.specs.Play.{found}
+
+-- what each box contains, if it does
+abbrev pub Boxes : Type 0
+Boxes = Names (Option ℕ)
+
+abbrev pub is_box : Boxes → ℕ → Bool
+is_box h b = is_some (get h b)
+
+pub data BoxAction : Type 0 where
+  -- a box with this content
+  MakeBox : Option ℕ → BoxAction
+  -- another content is put in, and the one before is told, or not
+  Swap : ℕ → Option ℕ → BoxAction
+  Store : ℕ → Option ℕ → BoxAction
+  -- the content is told, or told and taken with the box, or the box is dropped
+  Tell : ℕ → BoxAction
+  TakeOut : ℕ → BoxAction
+  DropBox : ℕ → BoxAction
+
+abbrev pub content : Option ℕ → Answer
+content None = answers.Lacking
+content (Some v) = answers.Value v
+
+abbrev pub box_cause : Boxes → BoxAction → Option Stop
+box_cause h (MakeBox c) = None
+box_cause h (Swap b c) = unknown_unless (is_box h b)
+box_cause h (Store b c) = unknown_unless (is_box h b)
+box_cause h (Tell b) = unknown_unless (is_box h b)
+box_cause h (TakeOut b) = unknown_unless (is_box h b)
+box_cause h (DropBox b) = unknown_unless (is_box h b)
+
+-- what is done under number i
+abbrev pub box_act : Boxes → ℕ → BoxAction → Outcome Boxes
+box_act h i (MakeBox c) = quietly (insert h i c) answers.Made
+box_act h i (Swap b c) = found (get h b) h (λ before. quietly (insert h b c) (content before))
+box_act h i (Store b c) = found (get h b) h (λ before. quietly (insert h b c) answers.Done)
+box_act h i (Tell b) = found (get h b) h (λ before. quietly h (content before))
+box_act h i (TakeOut b) = found (get h b) h (λ before. quietly (remove h b) (content before))
+box_act h i (DropBox b) = found (get h b) h (λ before. quietly (remove h b) answers.Done)
+
+-- by which a proof tells two values apart
+abbrev pub boxes_code : Coded Boxes
+boxes_code = names_code (coded_option coded_ℕ)

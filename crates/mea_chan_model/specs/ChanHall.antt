@@ -1,0 +1,54 @@
+-- the channels and boxes of each kind
+use Rattle.std.specs.Prelude.{ℕ, ◌+◌, refl}
+use Rattle.std.specs.Coded.{Coded, code_by, coded×}
+use Rattle.std.specs.FinMap.{empty}
+use Rattle.mea_chan_model.specs.Mailboxes as mailboxes
+use Rattle.mea_chan_model.specs.Mailboxes.{Mailboxes, no_mailboxes, mailboxes_code}
+use Rattle.mea_chan_model.specs.Boxes.{Boxes, boxes_code}
+
+-- channels for any number of messages, and for one
+pub data Kind : Type 0 where
+  Unbounded : Kind
+  Oneshots : Kind
+
+-- boxes that always have a value, and boxes that may be empty
+pub data BoxKind : Type 0 where
+  Full : BoxKind
+  Optional : BoxKind
+
+pub record ChanHall : Type 0 where
+  pub unbounded : Mailboxes
+  pub oneshots : Mailboxes
+  pub boxes : Boxes
+  pub option_boxes : Boxes
+
+abbrev pub empty_hall : ChanHall
+empty_hall = record { unbounded = no_mailboxes; oneshots = no_mailboxes; boxes = empty; option_boxes = empty }
+
+-- the channels of a kind
+abbrev pub part : ChanHall → Kind → Mailboxes
+part h Unbounded = h.unbounded
+part h Oneshots = h.oneshots
+
+-- those of a kind are these now
+abbrev pub with_part : ChanHall → Kind → Mailboxes → ChanHall
+with_part h Unbounded p = record h { unbounded = p }
+with_part h Oneshots p = record h { oneshots = p }
+
+-- the boxes of a kind
+abbrev pub boxes_of : ChanHall → BoxKind → Boxes
+boxes_of h Full = h.boxes
+boxes_of h Optional = h.option_boxes
+
+abbrev pub with_boxes : ChanHall → BoxKind → Boxes → ChanHall
+with_boxes h Full p = record h { boxes = p }
+with_boxes h Optional p = record h { option_boxes = p }
+
+-- how many wakers are registered
+abbrev pub registered : ChanHall → ℕ
+registered h = mailboxes.registered h.unbounded + mailboxes.registered h.oneshots
+
+abbrev pub hall_code : Coded ChanHall
+hall_code =
+    code_by (Mailboxes × (Mailboxes × (Boxes × Boxes))) (coded× mailboxes_code (coded× mailboxes_code (coded× boxes_code boxes_code)))
+    (λ h. (h.unbounded, (h.oneshots, (h.boxes, h.option_boxes)))) (λ p. record { unbounded = p.0; oneshots = p.1.0; boxes = p.1.1.0; option_boxes = p.1.1.1 }) (λ _. refl)
