@@ -8,13 +8,16 @@ use Rattle.mea_meet_model.specs.declared.event.MeetEvent.{MeetEvent}
 use Rattle.mea_meet_model.specs.declared.event.MeetEvent.TheVariants.{BarNew, LatNew, LatArrive}
 use Rattle.mea_lock_model.specs.declared.event.LockEvent.{LockEvent}
 use Rattle.mea_lock_model.specs.declared.event.LockEvent.TheVariants.{MxNew}
+use Rattle.mea_chan_model.specs.declared.event.ChanEvent.{ChanEvent}
+use Rattle.mea_chan_model.specs.declared.event.ChanEvent.TheVariants.{MuNew}
 use Rattle.mea_hall.specs.declared.event.Event.{Event}
-use Rattle.mea_hall.specs.declared.event.Event.TheVariants.{Sem, Meet, Lock}
+use Rattle.mea_hall.specs.declared.event.Event.TheVariants.{Sem, Meet, Lock, Chan}
 use Rattle.mea_hall.specs.Lines.{event_of}
 use Rattle.mea_hall.specs.Number.{AreFit}
 use Rattle.mea_hall.specs.SemSpelling.{semaphore_word, semaphore_numbers}
 use Rattle.mea_hall.specs.MeetSpelling.{meet_word, meet_numbers, MeetFits}
 use Rattle.mea_hall.specs.LockSpelling.{lock_word, lock_numbers}
+use Rattle.mea_hall.specs.ChanSpelling.{chan_word, chan_numbers}
 use Rattle.mea_hall.specs.Spelling.{spelling, Fits}
 use Rattle.mea_hall.specs.Text.{number_text, numbers_text}
 use Rattle.mea_hall.proofs.Spellings.{spelling_only}
@@ -59,6 +62,14 @@ lock_numbers_few : (e : LockEvent) → length (lock_numbers e) ≤ 2
 lock_numbers_few (MxNew v) = omega arith
 lock_numbers_few _ = omega arith
 
+chan_word_short : (e : ChanEvent) → length (chan_word e) ≤ 10
+chan_word_short MuNew = omega arith
+chan_word_short _ = omega arith
+
+chan_numbers_few : (e : ChanEvent) → length (chan_numbers e) ≤ 2
+chan_numbers_few MuNew = omega arith
+chan_numbers_few _ = omega arith
+
 length-spelling : (e : Event) → Fits e → length (spelling e) ≤ 52
 length-spelling (Sem e) fits =
     omega (arith, length-append (semaphore_word e) (numbers_text (semaphore_numbers e)), length-numbers_text (semaphore_numbers e) fits, semaphore_word_short e, semaphore_numbers_few e)
@@ -66,6 +77,8 @@ length-spelling (Meet e) fits =
     omega (arith, length-append (meet_word e) (numbers_text (meet_numbers e)), length-numbers_text (meet_numbers e) (meet_numbers_fit e fits), meet_word_short e, meet_numbers_few e)
 length-spelling (Lock e) fits =
     omega (arith, length-append (lock_word e) (numbers_text (lock_numbers e)), length-numbers_text (lock_numbers e) fits, lock_word_short e, lock_numbers_few e)
+length-spelling (Chan e) fits =
+    omega (arith, length-append (chan_word e) (numbers_text (chan_numbers e)), length-numbers_text (chan_numbers e) fits, chan_word_short e, chan_numbers_few e)
 
 none_where_no_event : (o : Option Event) → ((e : Event) → o ≢ Some e) → o ≡ None
 none_where_no_event None h = λ _. None

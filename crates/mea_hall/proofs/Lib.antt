@@ -12,6 +12,7 @@ pub mod Readings
 pub mod SemSpellings
 pub mod MeetSpellings
 pub mod LockSpellings
+pub mod ChanSpellings
 pub mod Spellings
 pub mod Lengths
 pub mod Histories

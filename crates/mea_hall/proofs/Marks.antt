@@ -11,9 +11,13 @@ is_meet_mark mark = bytes_eq mark (codes "bar") || bytes_eq mark (codes "lat") |
 abbrev is_lock_mark : List ℕ → Bool
 is_lock_mark mark = bytes_eq mark (codes "mx") || bytes_eq mark (codes "rw")
 
--- the number of a family: 1 for meeting points, 2 for locks, and 0 for semaphores, whose words have no dot
+-- what the words of channels and boxes begin with
+abbrev is_chan_mark : List ℕ → Bool
+is_chan_mark mark = bytes_eq mark (codes "mu") || bytes_eq mark (codes "os") || bytes_eq mark (codes "ab") || bytes_eq mark (codes "ao")
+
+-- the number of a family: 1 for meeting points, 2 for locks, 3 for channels and boxes, and 0 for semaphores, whose words have no dot
 abbrev kind_at : List ℕ → ℕ
-kind_at mark = cond (is_meet_mark mark) 1 (cond (is_lock_mark mark) 2 0)
+kind_at mark = cond (is_meet_mark mark) 1 (cond (is_lock_mark mark) 2 (cond (is_chan_mark mark) 3 0))
 
 abbrev pub kind_of : List ℕ → ℕ
 kind_of word = kind_at (before_first (λ b. b == 46) word)

@@ -142,6 +142,9 @@ none_or_some (Some a) h = absurd (h a refl)
 pub unread : {E : Type 0} (g : Grammar E) (kind : ℕ) → IsFamily g kind → (word rest : List ℕ) → (kind_of word ≡ kind → ⊥) → g.reads word rest ≡ None
 unread g kind family word rest other = none_or_some (g.reads word rest) (λ e is. other (ap kind_of (family.only word rest e is).word_is ∙ family.kind_is e))
 
+pub unread_alone : {E : Type 0} (g : Grammar E) (kind : ℕ) → IsFamily g kind → (word : List ℕ) → (kind_of word ≡ kind → ⊥) → g.alone word ≡ None
+unread_alone g kind family word other = none_or_some (g.alone word) (λ e is. other (ap kind_of (family.alone_only word e is).word_is ∙ family.kind_is e))
+
 -- ---- from an event to its line
 
 pub first_found : {E : Type 0} (o p : Option E) (e : E) → o ≡ Some e → option_or o p ≡ Some e

@@ -4,21 +4,24 @@ use Rattle.std.proofs.lemmas.Option.{option_and_then_some}
 use Rattle.mea_sem_model.specs.declared.event.SemEvent.{SemEvent}
 use Rattle.mea_meet_model.specs.declared.event.MeetEvent.{MeetEvent}
 use Rattle.mea_lock_model.specs.declared.event.LockEvent.{LockEvent}
+use Rattle.mea_chan_model.specs.declared.event.ChanEvent.{ChanEvent}
 use Rattle.mea_hall.specs.declared.event.Event.{Event}
-use Rattle.mea_hall.specs.declared.event.Event.TheVariants.{Sem, Meet, Lock}
+use Rattle.mea_hall.specs.declared.event.Event.TheVariants.{Sem, Meet, Lock, Chan}
 use Rattle.mea_hall.specs.Lines.{numbered_event, bare_event, event_of}
 use Rattle.mea_hall.specs.Words.{cut}
 use Rattle.mea_hall.specs.SemLines.{semaphore_event}
 use Rattle.mea_hall.specs.MeetLines.{meet_event, bare_meet_event}
 use Rattle.mea_hall.specs.LockLines.{lock_event}
+use Rattle.mea_hall.specs.ChanLines.{chan_event, bare_chan_event}
 use Rattle.mea_hall.specs.Text.{numbers_text}
 use Rattle.mea_hall.specs.Spelling.{spelling, Fits}
 use Rattle.mea_hall.proofs.Cuts.{lacks_byte, cut_at, cut_nowhere, cut_only}
 use Rattle.mea_hall.proofs.Marks.{kind_of}
-use Rattle.mea_hall.proofs.Readings.{Grammar, IsFamily, IsNumbered, IsAlone, IsSpelled, IsSpelledAlone, unread, first_found, second_found, or_some, some_same}
+use Rattle.mea_hall.proofs.Readings.{Grammar, IsFamily, IsNumbered, IsAlone, IsSpelled, IsSpelledAlone, unread, unread_alone, first_found, second_found, or_some, some_same}
 use Rattle.mea_hall.proofs.SemSpellings.{semaphores, semaphores_are_family}
 use Rattle.mea_hall.proofs.MeetSpellings.{meets, meets_are_family}
 use Rattle.mea_hall.proofs.LockSpellings.{locks, locks_are_family}
+use Rattle.mea_hall.proofs.ChanSpellings.{chans, chans_are_family}
 
 -- ---- from an event to its line
 
@@ -69,6 +72,11 @@ lock_told = told locks 2 Lock locks_are_family
     (λ word rest e kind read. rw (unread semaphores 0 semaphores_are_family word rest (λ other. absurd (cc)), unread meets 1 meets_are_family word rest (λ other. absurd (cc)), read) refl)
     (λ word e kind read. absurd (cc))
 
+chan_told : (e : ChanEvent) → Fits (Chan e) → event_of (spelling (Chan e)) ≡ Some (Chan e)
+chan_told = told chans 3 Chan chans_are_family
+    (λ word rest e kind read. rw (unread semaphores 0 semaphores_are_family word rest (λ other. absurd (cc)), unread meets 1 meets_are_family word rest (λ other. absurd (cc)), unread locks 2 locks_are_family word rest (λ other. absurd (cc)), read) refl)
+    (λ word e kind read. rw (unread_alone meets 1 meets_are_family word (λ other. absurd (cc)), read) refl)
+
 -- ---- from a line to its event
 
 abbrev IsSpelling : List ℕ → Event → Type 0
@@ -90,17 +98,23 @@ unwrapped wrap o line event is found_is = option_and_then_some (λ e. Some (wrap
 
 numbered_only : (word rest : List ℕ) (event : Event) → numbered_event word rest ≡ Some event → IsSpelling (word ++ 32 ∷ rest) event
 numbered_only word rest event is =
-    or_some _ (option_and_then (λ e. Some (Lock e)) (lock_event word rest)) event is (λ of_others.
+    or_some _ (option_and_then (λ e. Some (Chan e)) (chan_event word rest)) event is (λ of_rest.
+    or_some _ (option_and_then (λ e. Some (Lock e)) (lock_event word rest)) event of_rest (λ of_others.
     or_some (option_and_then (λ e. Some (Sem e)) (semaphore_event word rest)) (option_and_then (λ e. Some (Meet e)) (meet_event word rest)) event of_others
     (λ of_semaphores. unwrapped Sem (semaphore_event word rest) (word ++ 32 ∷ rest) event of_semaphores
     (λ e found. spelled semaphores word rest e (semaphores_are_family.only word rest e found)))
     (λ of_meets. unwrapped Meet (meet_event word rest) (word ++ 32 ∷ rest) event of_meets
     (λ e found. spelled meets word rest e (meets_are_family.only word rest e found))))
     (λ of_locks. unwrapped Lock (lock_event word rest) (word ++ 32 ∷ rest) event of_locks
-    (λ e found. spelled locks word rest e (locks_are_family.only word rest e found)))
+    (λ e found. spelled locks word rest e (locks_are_family.only word rest e found))))
+    (λ of_chans. unwrapped Chan (chan_event word rest) (word ++ 32 ∷ rest) event of_chans
+    (λ e found. spelled chans word rest e (chans_are_family.only word rest e found)))
 
 bare_only : (line : List ℕ) (event : Event) → bare_event line ≡ Some event → IsSpelling line event
-bare_only line event is = unwrapped Meet (bare_meet_event line) line event is (λ e found. spelled_alone meets line e (meets_are_family.alone_only line e found))
+bare_only line event is =
+    or_some (option_and_then (λ e. Some (Meet e)) (bare_meet_event line)) (option_and_then (λ e. Some (Chan e)) (bare_chan_event line)) event is
+    (λ of_meets. unwrapped Meet (bare_meet_event line) line event of_meets (λ e found. spelled_alone meets line e (meets_are_family.alone_only line e found)))
+    (λ of_chans. unwrapped Chan (bare_chan_event line) line event of_chans (λ e found. spelled_alone chans line e (chans_are_family.alone_only line e found)))
 
 -- ---- the law
 
@@ -108,6 +122,7 @@ pub spelling_tells : (line : List ℕ) (event : Event) → (line ≡ spelling ev
 spelling_tells line (Sem e) h = ap event_of h.0 ∙ semaphore_told e h.1
 spelling_tells line (Meet e) h = ap event_of h.0 ∙ meet_told e h.1
 spelling_tells line (Lock e) h = ap event_of h.0 ∙ lock_told e h.1
+spelling_tells line (Chan e) h = ap event_of h.0 ∙ chan_told e h.1
 
 pub spelling_only : (line : List ℕ) (event : Event) → event_of line ≡ Some event → (line ≡ spelling event) × Fits event
 spelling_only line event is =

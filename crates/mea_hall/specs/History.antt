@@ -9,24 +9,35 @@ use Rattle.mea_meet_model.specs.declared.event.MeetEvent.{MeetEvent}
 use Rattle.mea_meet_model.specs.Meets.{meets}
 use Rattle.mea_lock_model.specs.declared.event.LockEvent.{LockEvent}
 use Rattle.mea_lock_model.specs.LockFamily.{locks_family}
+use Rattle.mea_chan_model.specs.declared.event.ChanEvent.{ChanEvent}
+use Rattle.mea_chan_model.specs.ChanFamily.{chans_family}
 use Rattle.mea_hall.specs.declared.event.Event.{Event}
-use Rattle.mea_hall.specs.declared.event.Event.TheVariants.{Sem, Meet, Lock}
+use Rattle.mea_hall.specs.declared.event.Event.TheVariants.{Sem, Meet, Lock, Chan}
 
 -- the event as one of a family, if it is one
 abbrev pub semaphore_part : Event → Option SemEvent
 semaphore_part (Sem e) = Some e
 semaphore_part (Meet e) = None
 semaphore_part (Lock e) = None
+semaphore_part (Chan e) = None
 
 abbrev pub meet_part : Event → Option MeetEvent
 meet_part (Sem e) = None
 meet_part (Meet e) = Some e
 meet_part (Lock e) = None
+meet_part (Chan e) = None
 
 abbrev pub lock_part : Event → Option LockEvent
 lock_part (Sem e) = None
 lock_part (Meet e) = None
 lock_part (Lock e) = Some e
+lock_part (Chan e) = None
+
+abbrev pub chan_part : Event → Option ChanEvent
+chan_part (Sem e) = None
+chan_part (Meet e) = None
+chan_part (Lock e) = None
+chan_part (Chan e) = Some e
 
 module _ (F : Family) (part : Event → Option F.Event) where
   -- how a run of the family goes on with one more event, which had this reply
@@ -59,6 +70,7 @@ pub record LoseNoWake (es : List Event) (rs : List (Answer × List ℕ)) : Type 
   pub semaphores_woken : AreWoken semaphores semaphore_part es rs
   pub meets_woken : AreWoken meets meet_part es rs
   pub locks_woken : AreWoken locks_family lock_part es rs
+  pub chans_woken : AreWoken chans_family chan_part es rs
 
 -- at every point, of every semaphore: acquires have got what they asked for in the order of their first
 -- polls, the newest event woke whom it granted in that order, and who waits is not overtaken

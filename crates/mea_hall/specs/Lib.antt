@@ -8,10 +8,12 @@ pub mod Words
 pub mod SemLines
 pub mod MeetLines
 pub mod LockLines
+pub mod ChanLines
 pub mod Lines
 pub mod Text
 pub mod SemSpelling
 pub mod MeetSpelling
 pub mod LockSpelling
+pub mod ChanSpelling
 pub mod Spelling
 pub mod History

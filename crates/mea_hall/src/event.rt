@@ -1,3 +1,4 @@
+use mea_chan::ChanEvent;
 use mea_lock::LockEvent;
 use mea_meet::MeetEvent;
 use mea_sem_model::SemEvent;
@@ -8,4 +9,5 @@ pub enum Event {
     Sem(SemEvent),
     Meet(MeetEvent),
     Lock(LockEvent),
+    Chan(ChanEvent),
 }

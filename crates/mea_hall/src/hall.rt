@@ -6,6 +6,7 @@ ghost use Rattle.mea_hall.specs.Families.{world_of, PlaysFamilies};
 use crate::event::Event;
 use crate::waking::move_wakes;
 use mea_base::{Answer, NoMemory, Outbox, Stop};
+use mea_chan::{ChanEvent, ChanHall};
 use mea_lock::{LockEvent, LockHall};
 use mea_meet::MeetHall;
 use mea_meet_model::validity_is_kept;
@@ -21,6 +22,7 @@ pub struct Hall {
     semaphores: SemHall,
     meets: MeetHall,
     locks: LockHall,
+    chans: ChanHall,
     // What the families have made ready, in the order of the events; there is room for each waker that is
     // registered.
     outbox: Outbox<u64>,
@@ -35,18 +37,20 @@ impl Model for Hall {
 
     ghost coded = { play_code };
 
-    ghost view = { λ a. record { world = record { semaphores = a.semaphores.hall; meets = a.meets.hall; locks = a.locks.hall }; wakes = a.outbox.wakers; events = a.events } };
+    ghost view = { λ a. record { world = record { semaphores = a.semaphores.hall; meets = a.meets.hall; locks = a.locks.hall; chans = a.chans.hall }; wakes = a.outbox.wakers; events = a.events } };
 
     ghost invariant = { λ a. record {
       fits : a.events < 2 ^ 64;
       semaphores : a.semaphores.next ≤ a.events;
       meets : a.meets.next ≤ a.events;
       locks : a.locks.next ≤ a.events;
+      chans : a.chans.next ≤ a.events;
       semaphores_moved : a.semaphores.wakes ≡ [];
       meets_moved : a.meets.wakes ≡ [];
       locks_moved : a.locks.wakes ≡ [];
-      room : registered (record { semaphores = a.semaphores.hall; meets = a.meets.hall; locks = a.locks.hall }) ≤ a.outbox.spare;
-      few : registered (record { semaphores = a.semaphores.hall; meets = a.meets.hall; locks = a.locks.hall }) ≤ a.events;
+      chans_moved : a.chans.wakes ≡ [];
+      room : registered (record { semaphores = a.semaphores.hall; meets = a.meets.hall; locks = a.locks.hall; chans = a.chans.hall }) ≤ a.outbox.spare;
+      few : registered (record { semaphores = a.semaphores.hall; meets = a.meets.hall; locks = a.locks.hall; chans = a.chans.hall }) ≤ a.events;
     } };
 }
 
@@ -59,6 +63,7 @@ impl Hall {
             semaphores: SemHall::new(alloc),
             meets: MeetHall::new(alloc),
             locks: LockHall::new(alloc),
+            chans: ChanHall::new(alloc),
             outbox: Outbox::new(alloc),
             events: 0,
         }
@@ -79,6 +84,7 @@ impl Hall {
             Event::Sem(event) => self.semaphores.cause(event),
             Event::Meet(event) => self.meets.cause(event),
             Event::Lock(event) => self.locks.cause(event),
+            Event::Chan(event) => self.chans.cause(event),
         }
     }
 
@@ -102,12 +108,14 @@ impl Hall {
             &mut self.semaphores,
             &mut self.meets,
             &mut self.locks,
+            &mut self.chans,
             self.events,
             event,
         )?;
         move_wakes(&mut self.semaphores, &mut self.outbox);
         move_wakes(&mut self.meets, &mut self.outbox);
         move_wakes(&mut self.locks, &mut self.outbox);
+        move_wakes(&mut self.chans, &mut self.outbox);
         self.events += 1;
         Ok(answer)
     }
@@ -121,7 +129,10 @@ impl Hall {
         ensures valid { IsValid self.now.world self.now.events }
     {
         validity_is_kept();
-        self.semaphores.registered() + self.meets.registered() + self.locks.registered()
+        self.semaphores.registered()
+            + self.meets.registered()
+            + self.locks.registered()
+            + self.chans.registered()
     }
 
     /// How many wakers are ready. It takes no memory.
@@ -153,6 +164,13 @@ impl Hall {
         &self.meets
     }
 
+    /// The hall of the channels and boxes. It takes no memory.
+    pub fn chans(&self) -> &ChanHall
+        ensures { result.now.hall ≡ self.now.world.chans }
+    {
+        &self.chans
+    }
+
     /// The hall of the locks. It takes no memory.
     pub fn locks(&self) -> &LockHall
         ensures { result.now.hall ≡ self.now.world.locks }
@@ -181,22 +199,24 @@ fn play_on_family(
     semaphores: &mut SemHall,
     meets: &mut MeetHall,
     locks: &mut LockHall,
+    chans: &mut ChanHall,
     number: u64,
     event: &Event,
 ) -> Result<Answer, Stop>
-    requires next { (semaphores.old.next ≤ number) × (meets.old.next ≤ number) × (locks.old.next ≤ number) }
-    requires moved { (semaphores.old.wakes ≡ []) × (meets.old.wakes ≡ []) × (locks.old.wakes ≡ []) }
-    ensures played { IfOk result (λ answer. PlaysFamilies (world_of semaphores.old meets.old locks.old) number event.now answer semaphores.new meets.new locks.new) }
-    ensures allowed { OnOk result (cause_of (world_of semaphores.old meets.old locks.old) event.now ≡ None) }
-    ensures refused { IfErr result (λ stop. (cause_of (world_of semaphores.old meets.old locks.old) event.now ≡ Some stop)
-        ⊎ ((cause_of (world_of semaphores.old meets.old locks.old) event.now ≡ None) × (stop ≡ Stop.NoMemory))) }
+    requires next { (semaphores.old.next ≤ number) × (meets.old.next ≤ number) × (locks.old.next ≤ number) × (chans.old.next ≤ number) }
+    requires moved { (semaphores.old.wakes ≡ []) × (meets.old.wakes ≡ []) × (locks.old.wakes ≡ []) × (chans.old.wakes ≡ []) }
+    ensures played { IfOk result (λ answer. PlaysFamilies (world_of semaphores.old meets.old locks.old chans.old) number event.now answer semaphores.new meets.new locks.new chans.new) }
+    ensures allowed { OnOk result (cause_of (world_of semaphores.old meets.old locks.old chans.old) event.now ≡ None) }
+    ensures refused { IfErr result (λ stop. (cause_of (world_of semaphores.old meets.old locks.old chans.old) event.now ≡ Some stop)
+        ⊎ ((cause_of (world_of semaphores.old meets.old locks.old chans.old) event.now ≡ None) × (stop ≡ Stop.NoMemory))) }
     ensures no_memory { TakesNoMemory event.now → result ≢ Err Stop.NoMemory }
-    ensures err { OnErr result ((semaphores.new ≡ semaphores.old) × (meets.new ≡ meets.old) × (locks.new ≡ locks.old)) }
+    ensures err { OnErr result ((semaphores.new ≡ semaphores.old) × (meets.new ≡ meets.old) × (locks.new ≡ locks.old) × (chans.new ≡ chans.old)) }
 {
     match event {
         Event::Sem(event) => semaphores.act(number, event),
         Event::Meet(event) => meets.act(number, event),
         Event::Lock(event) => locks.act(number, event),
+        Event::Chan(event) => chans.act(number, event),
     }
 }
 
@@ -210,5 +230,7 @@ fn registers(event: &Event) -> bool
         Event::Meet(event) => event.registers(),
         Event::Lock(LockEvent::MxPoll(..) | LockEvent::RwPoll(..)) => true,
         Event::Lock(_) => false,
+        Event::Chan(ChanEvent::MuRecv(..) | ChanEvent::OsPoll(..)) => true,
+        Event::Chan(_) => false,
     }
 }

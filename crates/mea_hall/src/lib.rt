@@ -2,6 +2,7 @@
 //! events and the text of their replies. Below it stands a crate for each family; above it the program.
 #![tactic(auto)]
 
+mod chan_words;
 mod event;
 mod hall;
 mod history;

@@ -4,6 +4,7 @@ ghost use Rattle.mea_hall.specs.declared.event.Event.{Event as Line};
 ghost use Rattle.mea_hall.specs.Lines.{cut, numbered_event, bare_event, event_of};
 ghost use Rattle.mea_hall.specs.Spelling.{spelling, Fits};
 
+use crate::chan_words::{bare_chan_event, chan_event};
 use crate::event::Event;
 use crate::lock_words::lock_event;
 use crate::meet_words::{bare_meet_event, meet_event};
@@ -27,13 +28,16 @@ fn numbered_event(word: &[u8], rest: &[u8]) -> Option<Event>
         .map(Event::Sem)
         .or_else(|| meet_event(word, rest).map(Event::Meet))
         .or_else(|| lock_event(word, rest).map(Event::Lock))
+        .or_else(|| chan_event(word, rest).map(Event::Chan))
 }
 
 /// The event of a word alone.
 fn bare_event(line: &[u8]) -> Option<Event>
     ensures { result ≡ bare_event line.now }
 {
-    bare_meet_event(line).map(Event::Meet)
+    bare_meet_event(line)
+        .map(Event::Meet)
+        .or_else(|| bare_chan_event(line).map(Event::Chan))
 }
 
 /// What stands before and after the first such byte, if there is one. It takes no memory.

@@ -1,6 +1,7 @@
 ghost use Rattle.std.specs.Prelude.{◌≡◌, ◌+◌, ◌≤◌, ◌∷◌, ◌++◌, [], length, IfSome, IfNone};
 
 use mea_base::Outbox;
+use mea_chan::ChanHall;
 use mea_lock::LockHall;
 use mea_meet::MeetHall;
 use mea_sem::SemHall;
@@ -52,6 +53,18 @@ impl WakingHall for LockHall {
 
     fn next_wake(&mut self) -> Option<u64> {
         LockHall::next_wake(self)
+    }
+}
+
+impl WakingHall for ChanHall {
+    ghost use Rattle.std.specs.Prelude.{[]};
+
+    ghost wakes_of = { λ h. h.wakes };
+
+    ghost quieted = { λ h. record h { wakes = [] } };
+
+    fn next_wake(&mut self) -> Option<u64> {
+        ChanHall::next_wake(self)
     }
 }
 

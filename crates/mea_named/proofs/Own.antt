@@ -230,7 +230,6 @@ module _ {X : Type 0} (owner : X → ℕ) where
   moves_elsewhere o i xs _ (Comes k x small mine was) p apart =
       own-elsewhere p o xs (insert xs k x) k (Some x) (λ q. get_inserted xs k q x) was (λ y is. let same : x ≡ y = cc in ap owner (sym same) ∙ mine) apart
   moves_elsewhere o i xs _ (Goes k was) p apart = own-elsewhere p o xs (remove xs k) k None (λ q. get_removed xs k q) was (λ y is. absurd (cc)) apart
-
   moves_elsewhere o i xs _ (Follows k x mine was free) p apart =
       own-elsewhere p o (remove xs k) (insert (remove xs k) i x) i (Some x) (λ q. get_inserted (remove xs k) i q x) free (λ y is. let same : x ≡ y = cc in ap owner (sym same) ∙ mine) apart
       ∙ own-elsewhere p o xs (remove xs k) k None (λ q. get_removed xs k q) was (λ y is. absurd (cc)) apart

@@ -10,7 +10,7 @@ use Rattle.mea_sem_model.specs.declared.event.SemEvent.TheVariants as events
 use Rattle.mea_sem_model.specs.Hall as sem
 use Rattle.mea_sem_model.specs.Cause.{is_named}
 use Rattle.mea_hall.specs.declared.event.Event.{Event}
-use Rattle.mea_hall.specs.declared.event.Event.TheVariants.{Sem, Meet, Lock}
+use Rattle.mea_hall.specs.declared.event.Event.TheVariants.{Sem, Meet, Lock, Chan}
 use Rattle.mea_hall.specs.Front.{front_of}
 use Rattle.mea_hall.specs.Text.{number_text, reply_text}
 
@@ -65,6 +65,7 @@ abbrev pub is_poll : Event → Bool
 is_poll (Sem e) = is_semaphore_poll e
 is_poll (Meet e) = false
 is_poll (Lock e) = false
+is_poll (Chan e) = false
 
 -- each poll among these events has the reply `pending`
 abbrev pub PollsWait : List Event → List (Answer × List ℕ) → Type 0

@@ -6,11 +6,11 @@ use Rattle.mea_hall.proofs.hall.Hall.act.Goals as goal
 use Rattle.mea_hall.proofs.hall.Hall.act.Goals.{In_ok-answer}
 
 -- the outbox has room for what the families have ready, and for what is registered still
-room : (c : In_ok-answer) → registered (world_of c.play_on_family.new.semaphores c.play_on_family.new.meets c.play_on_family.new.locks)
-    + length c.play_on_family.new.semaphores.wakes + length c.play_on_family.new.meets.wakes + length c.play_on_family.new.locks.wakes
+room : (c : In_ok-answer) → registered (world_of c.play_on_family.new.semaphores c.play_on_family.new.meets c.play_on_family.new.locks c.play_on_family.new.chans)
+    + length c.play_on_family.new.semaphores.wakes + length c.play_on_family.new.meets.wakes + length c.play_on_family.new.locks.wakes + length c.play_on_family.new.chans.wakes
     ≤ c.reserve_for.new.outbox.spare
 room c = has_room c.reserve_for.result _ c.self.inside.events c.args.event.now c.in_ok-answer.answer
-    c.play_on_family.new.semaphores c.play_on_family.new.meets c.play_on_family.new.locks c.registered-registered.result _ _ c.in_ok-answer.ensures.played
+    c.play_on_family.new.semaphores c.play_on_family.new.meets c.play_on_family.new.locks c.play_on_family.new.chans c.registered-registered.result _ _ c.in_ok-answer.ensures.played
     (sym c.is_err.ensures.value ∙ c.if-is_err.false) (c.registered-registered.ensures.count ∙ sym (ap (λ (p : Play). registered p.world) c.self.view_is))
     c.self.invariant.room c.reserve_for.ensures.grows c.reserve_for.ensures.room
 
@@ -23,6 +23,9 @@ move_wakes-requires-2 c = omega (arith, room (goal.at.move_wakes-requires-2 c).I
 pub move_wakes-requires-3 : goal.move_wakes-requires-3
 move_wakes-requires-3 c = omega (arith, room (goal.at.move_wakes-requires-3 c).In_ok-answer, c.move_wakes.ensures.spare, c.move_wakes-2.ensures.spare)
 
+pub move_wakes-requires-4 : goal.move_wakes-requires-4
+move_wakes-requires-4 c = omega (arith, room (goal.at.move_wakes-requires-4 c).In_ok-answer, c.move_wakes.ensures.spare, c.move_wakes-2.ensures.spare, c.move_wakes-3.ensures.spare)
+
 pub invariant_of-self-2 : goal.invariant_of-self-2
 invariant_of-self-2 c =
     let played = c.in_ok-answer.ensures.played in
@@ -30,17 +33,37 @@ invariant_of-self-2 c =
     let s_is = c.move_wakes.ensures.hall in
     let m_is = c.move_wakes-2.ensures.hall in
     let l_is = c.move_wakes-3.ensures.hall in
-    let same : registered (world_of c.move_wakes.new.hall c.move_wakes-2.new.hall c.move_wakes-3.new.hall)
-    ≡ registered (world_of c.play_on_family.new.semaphores c.play_on_family.new.meets c.play_on_family.new.locks) =
-    (λ k. registered (world_of (s_is k) (m_is k) (l_is k))) in
+    let c_is = c.move_wakes-4.ensures.hall in
+    let same : registered (world_of c.move_wakes.new.hall c.move_wakes-2.new.hall c.move_wakes-3.new.hall c.move_wakes-4.new.hall)
+    ≡ registered (world_of c.play_on_family.new.semaphores c.play_on_family.new.meets c.play_on_family.new.locks c.play_on_family.new.chans) =
+    (λ k. registered (world_of (s_is k) (m_is k) (l_is k) (c_is k))) in
     record {
       fits = omega (arith, ap (λ (p : Play). p.events) c.self.view_is, c.requires);
       semaphores = omega (arith, ap (λ p. p.next) s_is, played.low.0);
       meets = omega (arith, ap (λ p. p.next) m_is, played.low.1);
       locks = omega (arith, ap (λ p. p.next) l_is, played.low.2);
+      chans = omega (arith, ap (λ p. p.next) c_is, played.low.3);
       semaphores_moved = ap (λ p. p.wakes) s_is;
       meets_moved = ap (λ p. p.wakes) m_is;
       locks_moved = ap (λ p. p.wakes) l_is;
-      room = omega (arith, same, enough, c.move_wakes.ensures.spare, c.move_wakes-2.ensures.spare, c.move_wakes-3.ensures.spare);
+      chans_moved = ap (λ p. p.wakes) c_is;
+      room = omega (arith, same, enough, c.move_wakes.ensures.spare, c.move_wakes-2.ensures.spare, c.move_wakes-3.ensures.spare, c.move_wakes-4.ensures.spare);
       few = omega (arith, same, played.grows, c.self.invariant.few);
     }
+
+pub invariant_of-self-in_err-answer : goal.invariant_of-self-in_err-answer
+invariant_of-self-in_err-answer c =
+    let same = c.in_err-answer.ensures.err in
+    rw (same.0, same.1, same.2, same.3) (record {
+      fits = c.self.invariant.fits;
+      semaphores = c.self.invariant.semaphores;
+      meets = c.self.invariant.meets;
+      locks = c.self.invariant.locks;
+      chans = c.self.invariant.chans;
+      semaphores_moved = c.self.invariant.semaphores_moved;
+      meets_moved = c.self.invariant.meets_moved;
+      locks_moved = c.self.invariant.locks_moved;
+      chans_moved = c.self.invariant.chans_moved;
+      room = omega (arith, c.self.invariant.room, c.reserve_for.ensures.grows);
+      few = c.self.invariant.few;
+    })
