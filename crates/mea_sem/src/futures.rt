@@ -11,7 +11,7 @@ use mea_base::{Answer, Stop};
 use mea_sem_core::Acquire;
 use mea_sem_model::SemEvent;
 
-// What the events on futures do, where they have no cause for refusal.
+// What the events on futures do. Each finds its cause for refusal at what it looks up.
 impl SemHall {
     // `acq` and its three other forms.
     pub(crate) fn acquire(

@@ -9,7 +9,7 @@ use crate::hall::SemHall;
 use mea_base::{Answer, Stop};
 use mea_sem_model::SemEvent;
 
-// What the events that make, change and end permits do, where they have no cause for refusal.
+// What the events that make, change and end permits do. Each finds its cause for refusal at what it looks up.
 impl SemHall {
     // `try` and `tryo`.
     pub(crate) fn try_permit(

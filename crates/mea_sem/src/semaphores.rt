@@ -9,7 +9,7 @@ use mea_base::{Answer, Ledger, Stop};
 use mea_sem_core::SemCore;
 use mea_sem_model::SemEvent;
 
-// What the events on semaphores do, where they have no cause for refusal.
+// What the events on semaphores do. Each finds its cause for refusal at the entry that it looks up.
 impl SemHall {
     pub(crate) fn make(&mut self, number: u64, n: u64) -> Result<Answer, Stop>
         requires { self.old.next ≤ number }
