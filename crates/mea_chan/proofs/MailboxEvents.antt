@@ -1,5 +1,5 @@
 -- what each event does to the channels of one kind, as they are kept and as they are seen
-use Rattle.std.proofs.Common.{◌≡◌, ℕ, ◌+◌, ◌-◌, ◌<◌, ◌≤◌, ◌^◌, ◌==◌, ◌++◌, Bool, true, false, not, cond, length, List, [], ◌∷◌, Option, Some, None, option_to_list, is_some, refl, ap, sym, subst, ◌∙◌, arith, append-nil, if◌then◌else◌}
+use Rattle.std.proofs.Common.{◌≡◌, ℕ, ◌+◌, ◌<◌, ◌≤◌, ◌^◌, ◌==◌, ◌++◌, Bool, true, false, cond, length, List, [], ◌∷◌, Option, Some, None, option_to_list, is_some, refl, ap, sym, subst, ◌∙◌, arith, append-nil, if◌then◌else◌}
 use Rattle.std.specs.Option.{IsSome, option_map}
 use Rattle.std.specs.Ordering.{nat_cmp}
 use Rattle.std.specs.FinMap.{get, insert, remove, len, empty, get-empty, len-empty}
@@ -9,11 +9,10 @@ use Rattle.mea_base.specs.declared.stop.Stop.TheVariants as stops
 use Rattle.mea_base.specs.Family.{Outcome, quietly}
 use Rattle.mea_base.specs.Ready.{Waking}
 use Rattle.mea_base.specs.Totals.{total, weight}
-use Rattle.mea_base.proofs.Maps.{total-has, nothing_at, inside, get-there, get-other, get-gone, get-removed_other, is_there, value_in, by_put}
+use Rattle.mea_base.proofs.Maps.{total-has, nothing_at, inside, get-there, get-other, get-removed_other, is_there, value_in}
 use Rattle.mea_base.proofs.Totals.{total-insert, total-remove, get_inserted, get_removed}
 use Rattle.mea_base.proofs.NamedMaps.{is_some-map, get-seen, same_named}
-use Rattle.mea_base.proofs.Tests.{by_name}
-use Rattle.std.proofs.lemmas.Bool.{eqb-true, eqb-false, eq-eqb, ne_eqb}
+use Rattle.std.proofs.lemmas.Bool.{eqb-true}
 use Rattle.mea_named.specs.ByName.{Names, seen, own}
 use Rattle.mea_named.specs.Play.{Part, PartYields, PartRests, found}
 use Rattle.mea_named.proofs.Cases.{found_is}

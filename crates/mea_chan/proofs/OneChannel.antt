@@ -1,18 +1,17 @@
 -- one channel: what each change of it is, as it is kept and as it is seen
-use Rattle.std.proofs.Common.{◌≡◌, ℕ, ◌+◌, ◌-◌, ◌<◌, ◌≤◌, ◌==◌, ◌++◌, Bool, true, false, not, cond, length, List, [], ◌∷◌, Option, Some, None, Result, Ok, Err, option_to_list, if◌then◌else◌, refl, ap, sym, subst, ◌∙◌, arith}
+use Rattle.std.proofs.Common.{◌≡◌, ℕ, ◌+◌, ◌-◌, ◌<◌, ◌==◌, ◌++◌, Bool, true, false, not, cond, length, List, [], ◌∷◌, Option, Some, None, Ok, Err, option_to_list, if◌then◌else◌, refl, ap, sym, ◌∙◌, arith}
 use Rattle.std.specs.FinMap.{get, insert, remove, len}
 use Rattle.std.proofs.lemmas.Bool.{eqb-true, eqb-false}
 use Rattle.mea_base.specs.declared.answer.Answer.{Answer}
 use Rattle.mea_base.specs.declared.answer.Answer.TheVariants as answers
 use Rattle.mea_named.specs.ByName.{Names}
 use Rattle.mea_named.proofs.Own.{len-new, len-gone, len-some}
-use Rattle.mea_chan_core.specs.declared.errors.TryRecvError.{TryRecvError}
 use Rattle.mea_chan_core.specs.declared.errors.TryRecvError.TheVariants as try
 use Rattle.mea_chan_core.specs.Mailbox.{with_message, recv_answer, recv_answer_of, after_recv, after_recv_of, without_sender}
 use Rattle.mea_chan_model.specs.Mailboxes as model
 use Rattle.mea_chan.specs.declared.receiver_entry.ReceiverEntry.{ReceiverEntry}
-use Rattle.mea_chan.specs.Cores.{Mailbox, is_over, message_sent, sent_answer, last_sent, receiver_ended, ReceivesBy, has_message, no_message_comes, is_some_message}
-use Rattle.mea_chan.specs.Entries.{kept, told, poll_told, Polls}
+use Rattle.mea_chan.specs.Cores.{Mailbox, is_over, message_sent, sent_answer, last_sent, receiver_ended, has_message, no_message_comes, is_some_message}
+use Rattle.mea_chan.specs.Entries.{kept, told}
 use Rattle.mea_chan.specs.MailboxParts.{channel_seen, AreKept}
 
 -- no waker is ready

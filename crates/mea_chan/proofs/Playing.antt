@@ -1,6 +1,5 @@
 -- what is said of the channels of one kind, and of all
-use Rattle.std.proofs.Common.{◌≡◌, ℕ, ◌+◌, ◌≤◌, ◌++◌, length, [], Option, Some, None, refl, ap, sym, ◌∙◌, arith, append-nil}
-use Rattle.std.specs.FinMap.{get}
+use Rattle.std.proofs.Common.{◌≡◌, ℕ, ◌+◌, ◌≤◌, ◌++◌, length, ap, sym, ◌∙◌, arith, append-nil}
 use Rattle.mea_base.specs.declared.answer.Answer.{Answer}
 use Rattle.mea_base.specs.Family.{Outcome}
 use Rattle.mea_base.specs.Ready.{Waking}
@@ -10,8 +9,8 @@ use Rattle.mea_chan_model.proofs.Wakers.{box_quiet}
 use Rattle.mea_chan_model.specs.declared.event.ChanEvent.{ChanEvent}
 use Rattle.mea_chan_model.specs.Mailboxes.{Mailbox, Mailboxes, kept, registered}
 use Rattle.mea_chan_model.specs.MailboxActions.{act_in}
-use Rattle.mea_chan_model.specs.Boxes.{Boxes, box_act}
-use Rattle.mea_chan_model.specs.ChanHall.{ChanHall, Kind, Unbounded, Oneshots, BoxKind, Full, Optional, empty_hall, registered as all_registered}
+use Rattle.mea_chan_model.specs.Boxes.{Boxes}
+use Rattle.mea_chan_model.specs.ChanHall.{Unbounded, Oneshots, Full, Optional, empty_hall, registered as all_registered}
 use Rattle.mea_chan_model.specs.Meaning.{Meaning, OfChannels, OfBoxes, meaning_of, step_by, step}
 use Rattle.mea_chan.specs.Halls.{hall_of, PlaysBy, PlaysKinds}
 

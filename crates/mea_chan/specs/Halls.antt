@@ -7,7 +7,7 @@ use Rattle.mea_chan_model.specs.declared.event.ChanEvent.{ChanEvent}
 use Rattle.mea_chan_model.specs.Mailboxes.{Mailboxes, registered}
 use Rattle.mea_chan_model.specs.MailboxActions.{Action, Make, Copy, Send, Poll, Turn, act_in}
 use Rattle.mea_chan_model.specs.Boxes.{Boxes, BoxAction, MakeBox, Swap, Store}
-use Rattle.mea_chan_model.specs.ChanHall.{ChanHall, Kind, Unbounded, Oneshots, BoxKind, Full, Optional}
+use Rattle.mea_chan_model.specs.ChanHall.{ChanHall, Unbounded, Oneshots, Full, Optional}
 use Rattle.mea_chan_model.specs.Meaning.{Meaning, OfChannels, OfBoxes, meaning_of}
 use Rattle.mea_chan.specs.BoxParts.{BoxYields}
 

@@ -6,9 +6,7 @@ use Rattle.std.proofs.lemmas.Bool.{eqb-true, eqb-false, eq-eqb}
 use Rattle.std.proofs.lemmas.List.Elements.{Contains-push}
 use Rattle.mea_base.specs.declared.answer.Answer.TheVariants as answers
 use Rattle.mea_base.specs.Family.{Outcome, quietly}
-use Rattle.mea_base.specs.Totals.{total, weight}
-use Rattle.mea_base.proofs.Maps.{get-gone, get-removed_other, get-other, total-has, nothing_at}
-use Rattle.mea_base.proofs.Totals.{total-insert, total-remove}
+use Rattle.mea_base.proofs.Maps.{get-gone, get-other}
 use Rattle.mea_named.specs.ByName.{Names}
 use Rattle.mea_named.specs.Play.{found}
 use Rattle.mea_named.proofs.Cases.{by_found, by_if}

@@ -15,7 +15,7 @@ use Rattle.mea_base.proofs.Totals.{total-insert, total-remove}
 use Rattle.mea_base.proofs.Wakes.{loses_no_wake}
 use Rattle.mea_named.specs.ByName.{Names}
 use Rattle.mea_named.specs.Play.{found}
-use Rattle.mea_named.proofs.Cases.{by_found, by_if, found_is, if_false}
+use Rattle.mea_named.proofs.Cases.{by_found, by_if, if_false}
 use Rattle.mea_chan_model.specs.declared.event.ChanEvent.{ChanEvent}
 use Rattle.mea_chan_model.specs.Mailboxes as mailboxes
 use Rattle.mea_chan_model.specs.Mailboxes.{Mailbox, Mailboxes, Receiver, new_mailbox, is_receiver, polls_as, kept, waker_in, placed_of}
@@ -24,7 +24,7 @@ use Rattle.mea_chan_model.specs.Boxes.{Boxes, BoxAction, MakeBox, Swap, Store, T
 use Rattle.mea_chan_model.specs.ChanHall.{ChanHall, Kind, Unbounded, Oneshots, BoxKind, Full, Optional, empty_hall, part, with_part, with_boxes, boxes_of, registered}
 use Rattle.mea_chan_model.specs.Meaning.{Meaning, OfChannels, OfBoxes, meaning_of, cause_by, step_by, step, registers, registers_by}
 use Rattle.mea_chan_model.specs.ChanFamily.{Future, chans_family, polled_at, polled_by, ends_at, ends_by}
-use Rattle.mea_chan_model.proofs.Acting.{Awake, Becomes, Keeps, after, kept_in, Mine, ChannelsGo, Same, At, Made, ReceiversGo, Stay, Come, Change, Leave, Touches, Fresh, Polled, Ends, Goes, goes}
+use Rattle.mea_chan_model.proofs.Acting.{Awake, after, ChannelsGo, Same, At, Made, ReceiversGo, Stay, Come, Change, Leave, Touches, Fresh, Polled, Ends, goes}
 
 -- ---- the channels of one kind
 

@@ -1,5 +1,5 @@
 -- channels and boxes as one of the families: its futures are the receivers
-use Rattle.std.specs.Prelude.{ℕ, Bool, true, false, Option, None}
+use Rattle.std.specs.Prelude.{ℕ, Bool, false, Option, None}
 use Rattle.mea_base.specs.Family.{Family}
 use Rattle.mea_chan_model.specs.declared.event.ChanEvent.{ChanEvent}
 use Rattle.mea_chan_model.specs.Mailboxes as mailboxes
