@@ -46,5 +46,7 @@ module _ {T W : Type 0} where
   pub finds : (b : Broadcast T W) (start : ℕ) (all : List T) (p : ℕ) → StandsFor b start all → oldest b ≤ p → found b p ≡ found_at (slice_get all (p - start))
   finds b start all p is within =
       let not_before : nat_lt p (oldest b) ≡ false = grind (arith, nat_tests) in
-      let here : slice_get b.kept (p - oldest b) ≡ slice_get all (p - start) = ap (λ xs. slice_get xs (p - oldest b)) is.kept ∙ slice_get-drop (length all - b.size) all (p - oldest b) (p - start) (omega (arith, oldest_is b start all is, within)) in
+      let here : slice_get b.kept (p - oldest b) ≡ slice_get all (p - start) =
+      ap (λ xs. slice_get xs (p - oldest b)) is.kept
+      ∙ slice_get-drop (length all - b.size) all (p - oldest b) (p - start) (omega (arith, oldest_is b start all is, within)) in
       rw (not_before, here) refl

@@ -13,7 +13,7 @@ use Rattle.mea_broadcast_core.specs.declared.errors.BroadcastTry.{BroadcastTry}
 use Rattle.mea_broadcast_core.specs.declared.errors.BroadcastTry.TheVariants as try
 use Rattle.mea_broadcast_core.specs.declared.errors.BroadcastRecv.{BroadcastRecv}
 use Rattle.mea_broadcast_core.specs.Broadcast.{Broadcast, without_sender, oldest, woken}
-use Rattle.mea_broadcast_core.specs.Receives.{Found, Behind, Holds, AtTail, found, found_at, Receives, PollsAtTail, PollsRecv}
+use Rattle.mea_broadcast_core.specs.Receives.{Found, Behind, Holds, AtTail, PollAnswer, found, found_at, Receives, PollsAtTail, PollsRecv}
 use Rattle.mea_broadcast_core.specs.Walks.{Heard, Message, Missed, heard_by, heard_at, Walks, StandsFor, Calls, Send, TryRecv, PollRecv, OtherPollRecv, AddSender, EndSender, NextWake, Runs, Starts, Goes}
 use Rattle.mea_broadcast_core.proofs.Stands.{sends, oldest_is, finds}
 
@@ -26,7 +26,8 @@ module _ {T : Type 0} (clones : T → T → Type 0) (start : ℕ) where
   grows all more p (Missed k ∷ heard) q w = grows all more (p + k) heard q w
 
   -- a walk goes on where another ends
-  goes_on : (all : List T) (p : ℕ) (heard heard' : List (Heard T)) (q q' : ℕ) → Walks clones start all p heard q → Walks clones start all q heard' q' → Walks clones start all p (heard ++ heard') q'
+  goes_on : (all : List T) (p : ℕ) (heard heard' : List (Heard T)) (q q' : ℕ) → Walks clones start all p heard q → Walks clones start all q heard' q'
+      → Walks clones start all p (heard ++ heard') q'
   goes_on all p [] heard' q q' w w' = subst (λ (x : ℕ). Walks clones start all x heard' q') (sym w) w'
   goes_on all p (Message c ∷ heard) heard' q q' w w' = (w.0, w.1, w.2, w.3, goes_on all (p + 1) heard heard' q q' w.4 w')
   goes_on all p (Missed k ∷ heard) heard' q q' w w' = goes_on all (p + k) heard heard' q q' w w'
@@ -80,10 +81,12 @@ module _ {T W : Type 0} where
       by_test false at is = never_behind (slice_get b.kept (p - oldest b)) k is
 
   -- the message at a cursor is that of its position
-  holds : (b : Broadcast T W) (start : ℕ) (all : List T) (p : ℕ) (v : T) → StandsFor b start all → found b p ≡ Holds v → (start ≤ p) × (slice_get all (p - start) ≡ Some v)
+  holds : (b : Broadcast T W) (start : ℕ) (all : List T) (p : ℕ) (v : T) → StandsFor b start all → found b p ≡ Holds v
+      → (start ≤ p) × (slice_get all (p - start) ≡ Some v)
   holds b start all p v st is = by_test (nat_lt p (oldest b)) refl is
     where
-      by_test : (t : Bool) → nat_lt p (oldest b) ≡ t → cond t (Behind (oldest b - p)) (found_at (slice_get b.kept (p - oldest b))) ≡ Holds v → (start ≤ p) × (slice_get all (p - start) ≡ Some v)
+      by_test : (t : Bool) → nat_lt p (oldest b) ≡ t → cond t (Behind (oldest b - p)) (found_at (slice_get b.kept (p - oldest b))) ≡ Holds v
+          → (start ≤ p) × (slice_get all (p - start) ≡ Some v)
       by_test true at far = absurd (cc)
       by_test false at here =
           let from : oldest b ≤ p = grind (arith, nat_tests) in
@@ -93,13 +96,15 @@ module _ {T W : Type 0} where
     not_past : oldest b ≤ start + length all
     not_past = omega (arith, st.tail)
 
-    receives : (p p' : ℕ) (r : Result T BroadcastTry) (f : Found T) → found b p ≡ f → Receives clones surely b f p r p' → Steps clones start all p (heard_by r) p'
+    receives : (p p' : ℕ) (r : Result T BroadcastTry) (f : Found T) → found b p ≡ f → Receives clones surely b f p r p'
+        → Steps clones start all p (heard_by r) p'
     receives p p' r (Behind k) is h =
         subst (λ (x : Result T BroadcastTry). Steps clones start all p (heard_by x) p') (sym h.0)
         (misses clones start all p k p' (behind b p k is ∙ sym h.1) (omega (arith, h.1, not_past)))
     receives p p' r (Holds v) is h = by_result r h
       where
-        by_result : (r : Result T BroadcastTry) → MatchResult r (λ c. clones v c × (p' ≡ p + 1)) (λ e. (e ≡ try.NoMemory) × (¬ (surely v)) × (p' ≡ p)) → Steps clones start all p (heard_by r) p'
+        by_result : (r : Result T BroadcastTry) → MatchResult r (λ c. clones v c × (p' ≡ p + 1)) (λ e. (e ≡ try.NoMemory) × (¬ (surely v)) × (p' ≡ p))
+            → Steps clones start all p (heard_by r) p'
         by_result (Ok c) h = let here = holds b start all p v st is in hears clones start all p p' v c here.0 here.1 h.0 h.1
         by_result (Err e) h = subst (λ (x : BroadcastTry). Steps clones start all p (heard_by (Err x)) p') (sym h.0) (rests clones start all p p' h.2)
     receives p p' r AtTail is h = by_test (b.senders == 0) h.0
@@ -108,15 +113,16 @@ module _ {T W : Type 0} where
         by_test true answer = subst (λ (x : Result T BroadcastTry). Steps clones start all p (heard_by x) p') (sym answer) (rests clones start all p p' h.1)
         by_test false answer = subst (λ (x : Result T BroadcastTry). Steps clones start all p (heard_by x) p') (sym answer) (rests clones start all p p' h.1)
 
-    polls : (p p' : ℕ) (slot slot' : Option Place) (w : W) (r : Result (Poll (Result T BroadcastRecv)) (W × memory.NoMemory)) (b' : Broadcast T W) (f : Found T) → found b p ≡ f
+    polls : (p p' : ℕ) (slot slot' : Option Place) (w : W) (r : PollAnswer T W) (b' : Broadcast T W) (f : Found T) → found b p ≡ f
         → PollsRecv clones surely b f p slot w r b' p' slot' → Steps clones start all p (heard_at r) p'
     polls p p' slot slot' w r b' (Behind k) is h =
-        subst (λ (x : Result (Poll (Result T BroadcastRecv)) (W × memory.NoMemory)). Steps clones start all p (heard_at x) p') (sym h.0)
+        subst (λ (x : PollAnswer T W). Steps clones start all p (heard_at x) p') (sym h.0)
         (misses clones start all p k p' (behind b p k is ∙ sym h.2) (omega (arith, h.2, not_past)))
     polls p p' slot slot' w r b' (Holds v) is h = by_result r h.2
       where
-        by_result : (r : Result (Poll (Result T BroadcastRecv)) (W × memory.NoMemory))
-            → MatchResult r (λ q. (c : T) × (q ≡ Ready (Ok c)) × clones v c × (p' ≡ p + 1)) (λ e. (e.0 ≡ w) × (¬ (surely v)) × (p' ≡ p)) → Steps clones start all p (heard_at r) p'
+        by_result : (r : PollAnswer T W)
+            → MatchResult r (λ q. (c : T) × (q ≡ Ready (Ok c)) × clones v c × (p' ≡ p + 1)) (λ e. (e.0 ≡ w) × (¬ (surely v)) × (p' ≡ p))
+            → Steps clones start all p (heard_at r) p'
         by_result (Ok q) h =
             let here = holds b start all p v st is in
             subst (λ (x : Poll (Result T BroadcastRecv)). Steps clones start all p (heard_at {W = W} (Ok x)) p') (sym h.1) (hears clones start all p p' v h.0 here.0 here.1 h.2 h.3)
@@ -124,11 +130,12 @@ module _ {T W : Type 0} where
     polls p p' slot slot' w r b' AtTail is h = by_test (b.senders == 0) h
       where
         by_test : (t : Bool) → PollsAtTail t b p slot w r b' p' slot' → Steps clones start all p (heard_at r) p'
-        by_test true h = subst (λ (x : Result (Poll (Result T BroadcastRecv)) (W × memory.NoMemory)). Steps clones start all p (heard_at x) p') (sym h.0) (rests clones start all p p' h.2)
+        by_test true h = subst (λ (x : PollAnswer T W). Steps clones start all p (heard_at x) p') (sym h.0) (rests clones start all p p' h.2)
         by_test false h = by_result r h.1
           where
-            by_result : (r : Result (Poll (Result T BroadcastRecv)) (W × memory.NoMemory))
-                → MatchResult r (λ q. (q ≡ Pending) × (b' ≡ record b { waiting = with_waker b.waiting slot w }) × (slot' ≡ slot_after b.waiting slot)) (λ e. (e.0 ≡ w) × (b' ≡ b) × (slot' ≡ slot))
+            by_result : (r : PollAnswer T W)
+                → MatchResult r (λ q. (q ≡ Pending) × (b' ≡ record b { waiting = with_waker b.waiting slot w }) × (slot' ≡ slot_after b.waiting slot))
+                (λ e. (e.0 ≡ w) × (b' ≡ b) × (slot' ≡ slot))
                 → Steps clones start all p (heard_at r) p'
             by_result (Ok q) g = subst (λ (x : Poll (Result T BroadcastRecv)). Steps clones start all p (heard_at {W = W} (Ok x)) p') (sym g.0) (rests clones start all p p' h.0)
             by_result (Err e) g = rests clones start all p p' h.0
@@ -146,7 +153,7 @@ module _ {T W : Type 0} where
   itself b = record { kept = refl; tail = refl; size = refl }
 
   -- a poll changes none of these
-  polls_same : (clones : T → T → Type 0) (surely : T → Type 0) (b b' : Broadcast T W) (p p' : ℕ) (slot slot' : Option Place) (w : W) (r : Result (Poll (Result T BroadcastRecv)) (W × memory.NoMemory)) (f : Found T)
+  polls_same : (clones : T → T → Type 0) (surely : T → Type 0) (b b' : Broadcast T W) (p p' : ℕ) (slot slot' : Option Place) (w : W) (r : PollAnswer T W) (f : Found T)
       → PollsRecv clones surely b f p slot w r b' p' slot' → Same b b'
   polls_same clones surely b b' p p' slot slot' w r (Behind k) h = same b b b' h.1 (itself b)
   polls_same clones surely b b' p p' slot slot' w r (Holds v) h = same b b b' h.0 (itself b)
@@ -156,8 +163,9 @@ module _ {T W : Type 0} where
       by_test true h = same b b b' h.1 (itself b)
       by_test false h = by_result r h.1
         where
-          by_result : (r : Result (Poll (Result T BroadcastRecv)) (W × memory.NoMemory))
-              → MatchResult r (λ q. (q ≡ Pending) × (b' ≡ record b { waiting = with_waker b.waiting slot w }) × (slot' ≡ slot_after b.waiting slot)) (λ e. (e.0 ≡ w) × (b' ≡ b) × (slot' ≡ slot))
+          by_result : (r : PollAnswer T W)
+              → MatchResult r (λ q. (q ≡ Pending) × (b' ≡ record b { waiting = with_waker b.waiting slot w }) × (slot' ≡ slot_after b.waiting slot))
+              (λ e. (e.0 ≡ w) × (b' ≡ b) × (slot' ≡ slot))
               → Same b b'
           by_result (Ok q) g = same b _ b' g.1 (record { kept = refl; tail = refl; size = refl })
           by_result (Err e) g = same b b b' g.1 (itself b)
@@ -176,7 +184,8 @@ module _ {T W : Type 0} where
     pub within : p ≤ b.tail → p' ≤ b'.tail
 
   -- nothing is sent: the channel stands for the same
-  stays : (clones : T → T → Type 0) (b b' : Broadcast T W) (start : ℕ) (all : List T) (p p' : ℕ) (heard : List (Heard T)) → StandsFor b start all → Same b b' → Steps clones start all p heard p'
+  stays : (clones : T → T → Type 0) (b b' : Broadcast T W) (start : ℕ) (all : List T) (p p' : ℕ) (heard : List (Heard T))
+      → StandsFor b start all → Same b b' → Steps clones start all p heard p'
       → Carries clones b b' start (all ++ []) p heard p'
   stays clones b b' start all p p' heard st s steps =
       subst (λ (xs : List T). Carries clones b b' start xs p heard p') (sym (append-nil all)) (record {
@@ -185,26 +194,33 @@ module _ {T W : Type 0} where
         within = λ le. let kept = steps.within (omega (arith, le, st.tail)) in omega (arith, kept, st.tail, s.tail);
       })
 
-  call : (clones : T → T → Type 0) (surely : T → Type 0) (b b' : Broadcast T W) (p p' start : ℕ) (all sent : List T) (heard : List (Heard T)) → Calls clones surely b p b' p' sent heard
+  call : (clones : T → T → Type 0) (surely : T → Type 0) (b b' : Broadcast T W) (p p' start : ℕ) (all sent : List T) (heard : List (Heard T))
+      → Calls clones surely b p b' p' sent heard
       → StandsFor b start all → Carries clones b b' start (all ++ sent) p heard p'
   call clones surely b _ p _ start all _ _ (Send v) st = record { stands = sends b start all v st; walks = refl; within = λ le. omega (arith, le) }
-  call clones surely b _ p _ start all _ _ (TryRecv r p' is) st = stays clones b b start all p p' (heard_by r) st (itself b) (receives clones surely b start all st p p' r (found b p) refl is)
+  call clones surely b _ p _ start all _ _ (TryRecv r p' is) st =
+      stays clones b b start all p p' (heard_by r) st (itself b) (receives clones surely b start all st p p' r (found b p) refl is)
   call clones surely b _ p _ start all _ _ (PollRecv slot slot' w r b' p' is) st =
-      stays clones b b' start all p p' (heard_at r) st (polls_same clones surely b b' p p' slot slot' w r (found b p) is) (polls clones surely b start all st p p' slot slot' w r b' (found b p) refl is)
+      stays clones b b' start all p p' (heard_at r) st (polls_same clones surely b b' p p' slot slot' w r (found b p) is)
+      (polls clones surely b start all st p p' slot slot' w r b' (found b p) refl is)
   call clones surely b _ p _ start all _ _ (OtherPollRecv o o' slot slot' w r b' is) st =
       stays clones b b' start all p p [] st (polls_same clones surely b b' o o' slot slot' w r (found b o) is) (rests clones start all p p refl)
-  call clones surely b _ p _ start all _ _ AddSender st = stays clones b _ start all p p [] st (record { kept = refl; tail = refl; size = refl }) (rests clones start all p p refl)
+  call clones surely b _ p _ start all _ _ AddSender st =
+      stays clones b _ start all p p [] st (record { kept = refl; tail = refl; size = refl }) (rests clones start all p p refl)
   call clones surely b _ p _ start all _ _ EndSender st = stays clones b _ start all p p [] st (ends_same b) (rests clones start all p p refl)
-  call clones surely b _ p _ start all _ _ (NextWake wakes) st = stays clones b _ start all p p [] st (record { kept = refl; tail = refl; size = refl }) (rests clones start all p p refl)
+  call clones surely b _ p _ start all _ _ (NextWake wakes) st =
+      stays clones b _ start all p p [] st (record { kept = refl; tail = refl; size = refl }) (rests clones start all p p refl)
 
   module _ (clones : T → T → Type 0) (surely : T → Type 0) (b : Broadcast T W) (p start : ℕ) (all : List T) (st : StandsFor b start all) where
-    pub run : (b' : Broadcast T W) (p' : ℕ) (sent : List T) (heard : List (Heard T)) → Runs clones surely b p b' p' sent heard → Carries clones b b' start (all ++ sent) p heard p'
+    pub run : (b' : Broadcast T W) (p' : ℕ) (sent : List T) (heard : List (Heard T)) → Runs clones surely b p b' p' sent heard
+        → Carries clones b b' start (all ++ sent) p heard p'
     run _ _ _ _ Starts = stays clones b b start all p p [] st (itself b) (rests clones start all p p refl)
     run _ _ _ _ (Goes b' b'' p' p'' sent sent' heard heard' runs calls) =
         let first = run b' p' sent heard runs in
         let then = call clones surely b' b'' p' p'' start (all ++ sent) sent' heard' calls first.stands in
         subst (λ (xs : List T). Carries clones b b'' start xs p (heard ++ heard') p'') (append_assoc all sent sent') (record {
           stands = then.stands;
-          walks = goes_on clones start ((all ++ sent) ++ sent') p heard heard' p' p'' (grows clones start (all ++ sent) sent' p heard p' first.walks) then.walks;
+          walks = goes_on clones start ((all ++ sent) ++ sent') p heard heard' p' p''
+              (grows clones start (all ++ sent) sent' p heard p' first.walks) then.walks;
           within = λ le. then.within (first.within le);
         })

@@ -16,6 +16,10 @@ pub data Found (T : Type 0) : Type 0 where
   Holds : T → Found T
   AtTail : Found T
 
+-- what a poll of a receive answers
+abbrev pub PollAnswer : Type 0 → Type 0 → Type 0
+PollAnswer T W = Result (Poll (Result T BroadcastRecv)) (W × memory.NoMemory)
+
 abbrev pub found_at : {T : Type 0} → Option T → Found T
 found_at None = AtTail
 found_at (Some v) = Holds v
@@ -36,19 +40,23 @@ module _ {T W : Type 0} where
   -- `surely v` that a clone of v wants no memory
   abbrev pub Receives : (T → T → Type 0) → (T → Type 0) → Broadcast T W → Found T → ℕ → Result T BroadcastTry → ℕ → Type 0
   Receives clones surely b (Behind k) position r after = (r ≡ Err (Lagged k)) × (after ≡ oldest b)
-  Receives clones surely b (Holds v) position r after = MatchResult r (λ c. clones v c × (after ≡ position + 1)) (λ e. (e ≡ NoMemory) × (¬ (surely v)) × (after ≡ position))
+  Receives clones surely b (Holds v) position r after = MatchResult r
+      (λ c. clones v c × (after ≡ position + 1))
+      (λ e. (e ≡ NoMemory) × (¬ (surely v)) × (after ≡ position))
   Receives clones surely b AtTail position r after = (r ≡ Err (if b.senders == 0 then Disconnected else Empty)) × (after ≡ position)
 
   -- what a poll at the tail does, where no sender lives and where one does
-  abbrev pub PollsAtTail : Bool → Broadcast T W → ℕ → Option Place → W → Result (Poll (Result T BroadcastRecv)) (W × memory.NoMemory) → Broadcast T W → ℕ → Option Place → Type 0
+  abbrev pub PollsAtTail : Bool → Broadcast T W → ℕ → Option Place → W → PollAnswer T W → Broadcast T W → ℕ → Option Place → Type 0
   PollsAtTail true b position slot w r b' after slot' = (r ≡ Ok (Ready (Err recv.Disconnected))) × (b' ≡ b) × (after ≡ position) × (slot' ≡ slot)
   PollsAtTail false b position slot w r b' after slot' = (after ≡ position) × MatchResult r
       (λ p. (p ≡ Pending) × (b' ≡ record b { waiting = with_waker b.waiting slot w }) × (slot' ≡ slot_after b.waiting slot))
       (λ e. (e.0 ≡ w) × (b' ≡ b) × (slot' ≡ slot))
 
   -- what one poll of a receive answers, and what it does to the channel, the cursor and the wait
-  abbrev pub PollsRecv : (T → T → Type 0) → (T → Type 0) → Broadcast T W → Found T → ℕ → Option Place → W → Result (Poll (Result T BroadcastRecv)) (W × memory.NoMemory) → Broadcast T W → ℕ → Option Place → Type 0
-  PollsRecv clones surely b (Behind k) position slot w r b' after slot' = (r ≡ Ok (Ready (Err (recv.Lagged k)))) × (b' ≡ b) × (after ≡ oldest b) × (slot' ≡ slot)
+  abbrev pub PollsRecv : (T → T → Type 0) → (T → Type 0) → Broadcast T W → Found T → ℕ → Option Place → W
+      → PollAnswer T W → Broadcast T W → ℕ → Option Place → Type 0
+  PollsRecv clones surely b (Behind k) position slot w r b' after slot' =
+      (r ≡ Ok (Ready (Err (recv.Lagged k)))) × (b' ≡ b) × (after ≡ oldest b) × (slot' ≡ slot)
   PollsRecv clones surely b (Holds v) position slot w r b' after slot' = (b' ≡ b) × (slot' ≡ slot) × MatchResult r
       (λ p. (c : T) × (p ≡ Ready (Ok c)) × clones v c × (after ≡ position + 1))
       (λ e. (e.0 ≡ w) × (¬ (surely v)) × (after ≡ position))

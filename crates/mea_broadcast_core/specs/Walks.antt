@@ -9,7 +9,7 @@ use Rattle.mea_broadcast_core.specs.declared.errors.BroadcastTry.TheVariants as 
 use Rattle.mea_broadcast_core.specs.declared.errors.BroadcastRecv.{BroadcastRecv}
 use Rattle.mea_broadcast_core.specs.declared.errors.BroadcastRecv.TheVariants as recv
 use Rattle.mea_broadcast_core.specs.Broadcast.{Broadcast, after_send, without_sender}
-use Rattle.mea_broadcast_core.specs.Receives.{found, Receives, PollsRecv}
+use Rattle.mea_broadcast_core.specs.Receives.{PollAnswer, found, Receives, PollsRecv}
 
 -- what a receiver hears: a message, or that it has missed so many
 pub data Heard (T : Type 0) : Type 0 where
@@ -30,7 +30,7 @@ module _ {T : Type 0} where
   heard_ready (Err (recv.Lagged k)) = Missed k ∷ []
   heard_ready (Err recv.Disconnected) = []
 
-  abbrev pub heard_at : {W : Type 0} → Result (Poll (Result T BroadcastRecv)) (W × memory.NoMemory) → List (Heard T)
+  abbrev pub heard_at : {W : Type 0} → PollAnswer T W → List (Heard T)
   heard_at (Ok (Ready answer)) = heard_ready answer
   heard_at (Ok Pending) = []
   heard_at (Err e) = []
@@ -39,7 +39,8 @@ module _ {T : Type 0} where
   -- message that was heard is a clone of the one at the position reached, and a miss passes as many as it tells
   abbrev pub Walks : (T → T → Type 0) → ℕ → List T → ℕ → List (Heard T) → ℕ → Type 0
   Walks clones start all p [] q = p ≡ q
-  Walks clones start all p (Message c ∷ heard) q = (v : T) × (start ≤ p) × (slice_get all (p - start) ≡ Some v) × clones v c × Walks clones start all (p + 1) heard q
+  Walks clones start all p (Message c ∷ heard) q =
+      (v : T) × (start ≤ p) × (slice_get all (p - start) ≡ Some v) × clones v c × Walks clones start all (p + 1) heard q
   Walks clones start all p (Missed k ∷ heard) q = Walks clones start all (p + k) heard q
 
 module _ {T W : Type 0} where
@@ -53,9 +54,9 @@ module _ {T W : Type 0} where
   pub data Calls (clones : T → T → Type 0) (surely : T → Type 0) (b : Broadcast T W) (p : ℕ) : Broadcast T W → ℕ → List T → List (Heard T) → Type 0 where
     Send : (v : T) → Calls clones surely b p (after_send b v) p (v ∷ []) []
     TryRecv : (r : Result T BroadcastTry) (p' : ℕ) → Receives clones surely b (found b p) p r p' → Calls clones surely b p b p' [] (heard_by r)
-    PollRecv : (slot slot' : Option Place) (w : W) (r : Result (Poll (Result T BroadcastRecv)) (W × memory.NoMemory)) (b' : Broadcast T W) (p' : ℕ)
+    PollRecv : (slot slot' : Option Place) (w : W) (r : PollAnswer T W) (b' : Broadcast T W) (p' : ℕ)
         → PollsRecv clones surely b (found b p) p slot w r b' p' slot' → Calls clones surely b p b' p' [] (heard_at r)
-    OtherPollRecv : (o o' : ℕ) (slot slot' : Option Place) (w : W) (r : Result (Poll (Result T BroadcastRecv)) (W × memory.NoMemory)) (b' : Broadcast T W)
+    OtherPollRecv : (o o' : ℕ) (slot slot' : Option Place) (w : W) (r : PollAnswer T W) (b' : Broadcast T W)
         → PollsRecv clones surely b (found b o) o slot w r b' o' slot' → Calls clones surely b p b' p [] []
     AddSender : Calls clones surely b p (record b { senders = b.senders + 1 }) p [] []
     EndSender : Calls clones surely b p (without_sender b) p [] []

@@ -138,10 +138,12 @@ impl<T: Clone, W: Drop> BroadcastCore<T, W> {
     }
 
     /// Receives a clone of the message at the cursor, which goes on by one. Where the message is kept no more, the
-    /// cursor goes to the oldest that is, and how far is told. Where no memory is found for the clone, the cursor stays.
+    /// cursor goes to the oldest that is, and how far is told. Where no memory is found for the clone, the cursor
+    /// stays.
     pub fn try_recv(&self, cursor: &mut Cursor) -> Result<T, BroadcastTry>
         requires { cursor.old.position ≤ self.now.tail }
-        ensures { Receives T.is_clone T.is_infallible self.now (found self.now cursor.old.position) cursor.old.position result cursor.new.position }
+        ensures { Receives T.is_clone T.is_infallible self.now (found self.now cursor.old.position) cursor.old.position
+            result cursor.new.position }
     {
         let oldest = self.tail - self.ring.len() as u64;
         if cursor.position < oldest {
@@ -175,8 +177,10 @@ impl<T: Clone, W: Drop> BroadcastCore<T, W> {
     ) -> Result<Poll<Result<T, BroadcastRecv>>, (W, NoMemory)>
         requires cursor { cursor.old.position ≤ self.old.tail }
         requires wait { has_given self.old.waiting wait.old ≡ true }
-        ensures polls { PollsRecv T.is_clone T.is_infallible self.old (found self.old cursor.old.position) cursor.old.position wait.old waker result self.new cursor.new.position wait.new }
-        ensures replaces { found self.old cursor.old.position ≡ AtTail → is_registered self.old.waiting wait.old ≡ true → IsOk result }
+        ensures polls { PollsRecv T.is_clone T.is_infallible self.old (found self.old cursor.old.position) cursor.old.position
+            wait.old waker result self.new cursor.new.position wait.new }
+        ensures replaces { found self.old cursor.old.position ≡ AtTail
+            → is_registered self.old.waiting wait.old ≡ true → IsOk result }
     {
         match self.try_recv(cursor) {
             Ok(message) => Ok(Poll::Ready(Ok(message))),
@@ -272,7 +276,8 @@ impl<T: Clone, W: Drop> BroadcastCore<T, W> {
     // Registers the waker of a receive that has to wait.
     fn wait_for_message(&mut self, wait: &mut RecvWait, waker: W) -> Result<(), (W, NoMemory)>
         requires { 0 < self.old.senders }
-        ensures ok { OnOk result ((self.new ≡ record self.old { waiting = with_waker self.old.waiting wait.old waker }) × (wait.new ≡ slot_after self.old.waiting wait.old)) }
+        ensures ok { OnOk result ((self.new ≡ record self.old { waiting = with_waker self.old.waiting wait.old waker })
+            × (wait.new ≡ slot_after self.old.waiting wait.old)) }
         ensures replaces { is_registered self.old.waiting wait.old ≡ true → IsOk result }
         ensures err { IfErr result (λ e. (e.0 ≡ waker) × (self.new ≡ self.old) × (wait.new ≡ wait.old)) }
     {

@@ -31,7 +31,8 @@ impl<T: Clone, W: Drop> BroadcastCore<T, W> {
 
     /// `try_recv`, of a cursor that is renewed first where it does not belong to this channel.
     pub fn try_recv_checked(&self, cursor: &mut Cursor) -> Result<T, BroadcastTry>
-        ensures { let position = usable_position self.now cursor.old.position in Receives T.is_clone T.is_infallible self.now (found self.now position) position result cursor.new.position }
+        ensures { let position = usable_position self.now cursor.old.position in
+            Receives T.is_clone T.is_infallible self.now (found self.now position) position result cursor.new.position }
     {
         if !self.try_recv_allowed(cursor) {
             cursor.renew(self.tail());
@@ -41,7 +42,8 @@ impl<T: Clone, W: Drop> BroadcastCore<T, W> {
 
     /// Whether the cursor and the wait belong to this channel, as `poll_recv` asks. It takes no memory.
     pub fn poll_recv_allowed(&self, cursor: &Cursor, wait: &RecvWait) -> bool
-        ensures { IsTrue result ↔ ((cursor.now.position ≤ self.now.tail) × (has_given self.now.waiting wait.now ≡ true)) }
+        ensures { IsTrue result
+            ↔ ((cursor.now.position ≤ self.now.tail) × (has_given self.now.waiting wait.now ≡ true)) }
     {
         self.try_recv_allowed(cursor) && self.end_recv_allowed(wait)
     }
@@ -53,8 +55,11 @@ impl<T: Clone, W: Drop> BroadcastCore<T, W> {
         wait: &mut RecvWait,
         waker: W,
     ) -> Result<Poll<Result<T, BroadcastRecv>>, (W, NoMemory)>
-        ensures polls { let position = usable_position self.old cursor.old.position in PollsRecv T.is_clone T.is_infallible self.old (found self.old position) position (usable_slot self.old wait.old) waker result self.new cursor.new.position wait.new }
-        ensures replaces { found self.old (usable_position self.old cursor.old.position) ≡ AtTail → is_registered self.old.waiting wait.old ≡ true → IsOk result }
+        ensures polls { let position = usable_position self.old cursor.old.position in
+            PollsRecv T.is_clone T.is_infallible self.old (found self.old position) position (usable_slot self.old wait.old)
+            waker result self.new cursor.new.position wait.new }
+        ensures replaces { found self.old (usable_position self.old cursor.old.position) ≡ AtTail
+            → is_registered self.old.waiting wait.old ≡ true → IsOk result }
     {
         if !self.try_recv_allowed(cursor) {
             cursor.renew(self.tail());
@@ -91,7 +96,8 @@ impl<T: Clone, W: Drop> BroadcastCore<T, W> {
     /// `add_sender`, which is Ok and changes nothing where no sender lives. It takes no memory.
     pub fn add_sender_checked(&mut self) -> Result<(), Overflow>
         ensures overflow { IsErr result ↔ (self.old.senders ≡ usize.MAX) }
-        ensures ok { OnOk result (0 < self.old.senders → self.new ≡ record self.old { senders = self.old.senders + 1 }) }
+        ensures ok { OnOk result (0 < self.old.senders
+            → self.new ≡ record self.old { senders = self.old.senders + 1 }) }
         ensures none { self.old.senders ≡ 0 → self.new ≡ self.old }
         ensures err { OnErr result (self.new ≡ self.old) }
     {

@@ -4,6 +4,8 @@ use mea_broadcast_core::{
 };
 use std::test::Fail;
 
+type Channel = BroadcastCore<u64, u64>;
+
 #[test]
 fn texts(rt: HostRuntime) -> Result<(), Fail> {
     let alloc = rt.alloc();
@@ -37,10 +39,7 @@ fn texts(rt: HostRuntime) -> Result<(), Fail> {
 // The ring of a capacity of 3 has 4 places, so of five messages the first is missed.
 #[test]
 fn a_capacity_is_rounded_up(rt: HostRuntime) -> Result<(), Fail> {
-    let made: Result<BroadcastCore<u64, u64>, BroadcastFault> = BroadcastCore::new(rt.alloc(), 3);
-    let Ok(mut channel) = made else {
-        return Err(Fail);
-    };
+    let mut channel: Channel = BroadcastCore::new(rt.alloc(), 3)?;
     let mut receiver = channel.subscribe();
     for message in 1..6u64 {
         assert_eq!(rt; channel.send(message), Ok(()));
@@ -56,10 +55,7 @@ fn a_capacity_is_rounded_up(rt: HostRuntime) -> Result<(), Fail> {
 // A receiver that fell behind is told how far, goes on with the oldest kept message, and hears of the last sender's end.
 #[test]
 fn a_receiver_lags(rt: HostRuntime) -> Result<(), Fail> {
-    let made: Result<BroadcastCore<u64, u64>, BroadcastFault> = BroadcastCore::new(rt.alloc(), 2);
-    let Ok(mut channel) = made else {
-        return Err(Fail);
-    };
+    let mut channel: Channel = BroadcastCore::new(rt.alloc(), 2)?;
     let mut receiver = channel.subscribe();
     for message in 1..5u64 {
         assert_eq!(rt; channel.send(message), Ok(()));
@@ -85,10 +81,7 @@ fn a_receiver_lags(rt: HostRuntime) -> Result<(), Fail> {
 // One that subscribes at the tail hears what is sent from then on; a copy hears what its original does.
 #[test]
 fn receivers_are_made(rt: HostRuntime) -> Result<(), Fail> {
-    let made: Result<BroadcastCore<u64, u64>, BroadcastFault> = BroadcastCore::new(rt.alloc(), 2);
-    let Ok(mut channel) = made else {
-        return Err(Fail);
-    };
+    let mut channel: Channel = BroadcastCore::new(rt.alloc(), 2)?;
     let mut first = channel.subscribe();
     assert_eq!(rt; channel.send(1), Ok(()));
     assert_eq!(rt; channel.send(2), Ok(()));
@@ -105,7 +98,7 @@ fn receivers_are_made(rt: HostRuntime) -> Result<(), Fail> {
         channel.try_recv_checked(&mut copy),
         Err(BroadcastTry::Lagged(1))
     );
-    let too_large: Result<BroadcastCore<u64, u64>, BroadcastFault> = BroadcastCore::new(
+    let too_large: Result<Channel, BroadcastFault> = BroadcastCore::new(
         rt.alloc(),
         9223372036854775809,
     );
@@ -116,10 +109,7 @@ fn receivers_are_made(rt: HostRuntime) -> Result<(), Fail> {
 // A send wakes all who wait, in the order in which they began to, and so does the last sender's end.
 #[test]
 fn receives_wait(rt: HostRuntime) -> Result<(), Fail> {
-    let made: Result<BroadcastCore<u64, u64>, BroadcastFault> = BroadcastCore::new(rt.alloc(), 4);
-    let Ok(mut channel) = made else {
-        return Err(Fail);
-    };
+    let mut channel: Channel = BroadcastCore::new(rt.alloc(), 4)?;
     assert!(rt; channel.add_sender_checked().is_ok());
     let mut left = channel.subscribe();
     let mut right = channel.subscribe();
@@ -177,14 +167,7 @@ fn receives_wait(rt: HostRuntime) -> Result<(), Fail> {
 // The last position is not given; the message comes back.
 #[test]
 fn the_tail_ends(rt: HostRuntime) -> Result<(), Fail> {
-    let made: Result<BroadcastCore<u64, u64>, BroadcastFault> = BroadcastCore::at_tail(
-        rt.alloc(),
-        2,
-        u64::MAX - 1,
-    );
-    let Ok(mut channel) = made else {
-        return Err(Fail);
-    };
+    let mut channel: Channel = BroadcastCore::at_tail(rt.alloc(), 2, u64::MAX - 1)?;
     let mut receiver = channel.subscribe();
     assert_eq!(rt; channel.send(1), Ok(()));
     assert_eq!(rt; channel.send(2), Err(SendRefused(2)));

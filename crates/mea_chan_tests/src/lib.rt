@@ -1,4 +1,5 @@
-//! Calls of the cores of channels, broadcast channels and boxes, with what they answer and whom they wake. It has no code but tests.
+//! Calls of the cores of channels, broadcast channels and boxes, with what they answer and whom they wake. It has no
+//! code but tests.
 #![tactic(auto)]
 
 #[cfg(test)]
