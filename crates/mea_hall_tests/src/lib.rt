@@ -5,8 +5,6 @@
 #[cfg(test)]
 mod hall;
 #[cfg(test)]
-mod lock;
-#[cfg(test)]
 mod meet;
 #[cfg(test)]
 mod run;

@@ -544,10 +544,12 @@ fn pairs_make_a_map(rt: HostRuntime) -> Result<(), Fail> {
 // A table gives a key's value a new entry each time, whose cell may be changed in place.
 #[test]
 fn a_table_has_values(rt: HostRuntime) -> Result<(), Fail> {
-    let mut table: OnceTable<u64, u64, Collides, u64> = OnceTable::with_hasher(
+    let mut table: OnceTable<u64, u64, Collides, u64> = OnceTable::with_capacity_and_hasher(
         rt.alloc(),
+        2,
         Collides,
-    );
+    )?;
+    assert!(rt; table.get_or_insert(6).is_ok());
     assert!(rt; table.insert(5, 50).is_ok());
     let first = table.get(&5);
     assert!(rt; table.insert(5, 51).is_ok());

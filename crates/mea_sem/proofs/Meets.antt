@@ -72,6 +72,11 @@ pub kept_as_futures : (a : Inside) {fs : List (ℕ × FutureEntry)} → IsKeptIn
 kept_as_futures a k same = subst
     (λ (fs : List (ℕ × FutureEntry)). IsKept (store_of a.semaphores.entries fs a.permits.entries) a.registered a.outbox.spare a.next) (sym same) k
 
+pub seen_as_futures : (a : Inside) {v : Play} {fs : List (ℕ × FutureEntry)} → seen_in a ≡ v → fs ≡ a.futures.entries
+    → record { hall = hall_of (store_of a.semaphores.entries fs a.permits.entries) a.next; wakes = a.outbox.wakers; next = a.next } ≡ v
+seen_as_futures a seen same =
+    (λ j. record { hall = hall_of (store_of a.semaphores.entries (same j) a.permits.entries) a.next; wakes = a.outbox.wakers; next = a.next }) ∙ seen
+
 pub kept_as_permits : (a : Inside) {ps : List (ℕ × PermitEntry)} → IsKeptIn a → ps ≡ a.permits.entries
     → IsKept (store_of a.semaphores.entries a.futures.entries ps) a.registered a.outbox.spare a.next
 kept_as_permits a k same = subst

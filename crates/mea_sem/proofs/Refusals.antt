@@ -1,12 +1,19 @@
 -- what a look-up among the kept entries says of the hall
-use Rattle.std.proofs.Common.{◌≡◌, ℕ, false, ap, sym, subst, ◌∙◌, Option, Some, None, is_some}
+use Rattle.std.proofs.Common.{Result, Ok, Err, ◌⊎◌, inl, inr, ◌≡◌, ◌≢◌, ℕ, Bool, true, false, cond, if◌then◌else◌, refl, ap, sym, subst, ◌∙◌, Option, Some, None, is_some}
 use Rattle.std.specs.Option.{option_map}
 use Rattle.std.specs.FinMap.{get}
+use Rattle.std.specs.Result.{IfErr, OnOk, IsErrAnd}
 use Rattle.mea_base.specs.Named.{at}
+use Rattle.mea_base.specs.declared.stop.Stop.{Stop}
+use Rattle.mea_base.specs.declared.stop.Stop.TheVariants as stops
 use Rattle.mea_base.proofs.NamedMaps.{get-named, get-seen, is_some-map, kept-at, found}
-use Rattle.mea_sem_model.specs.Cause.{is_named, is_named_semaphore, is_future, is_permit}
+use Rattle.mea_base.specs.Causes.{unknown_unless}
+use Rattle.mea_sem_model.specs.declared.event.SemEvent.TheVariants as events
+use Rattle.mea_sem_model.specs.Cause.{cause_of, is_named, is_named_semaphore, is_future, is_permit}
 use Rattle.mea_sem_model.specs.Hall.{live, plain_things}
 use Rattle.mea_sem.specs.declared.entries.SemaphoreEntry.{SemaphoreEntry}
+use Rattle.mea_sem.specs.declared.entries.FutureEntry.{FutureEntry}
+use Rattle.mea_sem.specs.declared.entries.PermitEntry.{PermitEntry}
 use Rattle.mea_sem.specs.declared.hall.SemHall.TheInside.{Inside}
 use Rattle.mea_sem.specs.Play.{Play}
 use Rattle.mea_sem.specs.StandsFor.{StandsFor}
@@ -29,6 +36,18 @@ module _ (a : Inside) {v : Play} (seen : seen_in a ≡ v) (k : ℕ) where
   pub named-none : at a.semaphores.entries k ≡ None → is_named v.hall k ≡ false
   named-none is = named-at None is
 
+  -- what names a semaphore is refused where that is not there, or not named any more; o is what else would refuse it
+  pub unknown_gone : (o : Option Stop) → at a.semaphores.entries k ≡ None → cond (is_named v.hall k) o (Some stops.Unknown) ≡ Some stops.Unknown
+  unknown_gone o none = ap (λ b. cond b o (Some stops.Unknown)) (named-none none)
+
+  pub unknown_unnamed : (o : Option Stop) (e : SemaphoreEntry) → at a.semaphores.entries k ≡ Some e → e.named ≡ false
+      → cond (is_named v.hall k) o (Some stops.Unknown) ≡ Some stops.Unknown
+  unknown_unnamed o e is unnamed = ap (λ b. cond b o (Some stops.Unknown)) (named-some e is ∙ unnamed)
+
+  pub known_named : (o : Option Stop) (e : SemaphoreEntry) → at a.semaphores.entries k ≡ Some e → e.named ≡ true
+      → cond (is_named v.hall k) o (Some stops.Unknown) ≡ o
+  known_named o e is named = ap (λ b. cond b o (Some stops.Unknown)) (named-some e is ∙ named)
+
   pub future-at : is_future v.hall k ≡ is_some (at a.futures.entries k)
   future-at = ap (λ (p : Play). is_future p.hall k) (sym seen)
       ∙ ap is_some (get-seen (λ f x. future_of (store_in a).semaphores x) (store_in a).futures k
@@ -40,6 +59,70 @@ module _ (a : Inside) {v : Play} (seen : seen_in a ≡ v) (k : ℕ) where
 
   pub is_permit-at : is_permit v.hall k ≡ is_some (at a.permits.entries k)
   is_permit-at = ap is_some permit-at ∙ is_some-map permit_of (at a.permits.entries k)
+
+  -- a future or a permit is known where its entry is
+  pub future_there : (x : FutureEntry) → at a.futures.entries k ≡ Some x → is_future v.hall k ≡ true
+  future_there x is = future-at ∙ ap is_some is
+
+  pub future_missing : at a.futures.entries k ≡ None → get v.hall.futures k ≡ None
+  future_missing is = by_case (get v.hall.futures k) (future-at ∙ ap is_some is)
+    where
+      by_case : {X : Type 0} (o : Option X) → is_some o ≡ false → o ≡ None
+      by_case None h = refl
+      by_case (Some x) h = absurd (cc)
+
+  pub future_known : (x : FutureEntry) → at a.futures.entries k ≡ Some x → unknown_unless (is_future v.hall k) ≡ None
+  future_known x is = ap unknown_unless (future_there x is)
+
+  pub future_unknown : at a.futures.entries k ≡ None → unknown_unless (is_future v.hall k) ≡ Some stops.Unknown
+  future_unknown is = ap unknown_unless (future-at ∙ ap is_some is)
+
+  pub permit_known : (x : PermitEntry) → at a.permits.entries k ≡ Some x → unknown_unless (is_permit v.hall k) ≡ None
+  permit_known x is = ap unknown_unless (is_permit-at ∙ ap is_some is)
+
+  pub permit_unknown : at a.permits.entries k ≡ None → unknown_unless (is_permit v.hall k) ≡ Some stops.Unknown
+  permit_unknown is = ap unknown_unless (is_permit-at ∙ ap is_some is)
+
+  -- the end of a future, of a permit, and of neither
+  pub end_known : (x : FutureEntry) → at a.futures.entries k ≡ Some x → cause_of v.hall (events.End k) ≡ None
+  end_known x is = ap (λ b. unknown_unless (if b then true else is_permit v.hall k)) (future_there x is)
+
+  pub end_of_permit_known : get v.hall.futures k ≡ None → (x : PermitEntry) → at a.permits.entries k ≡ Some x → cause_of v.hall (events.End k) ≡ None
+  end_of_permit_known none x is = ap (λ o. unknown_unless (if is_some o then true else is_permit v.hall k)) none ∙ permit_known x is
+
+  pub end_unknown : get v.hall.futures k ≡ None → at a.permits.entries k ≡ None → cause_of v.hall (events.End k) ≡ Some stops.Unknown
+  end_unknown none is = ap (λ o. unknown_unless (if is_some o then true else is_permit v.hall k)) none ∙ permit_unknown is
+
+-- a refusal of what is unknown tells that, and no want of memory
+pub refuses_unknown : (c : Option Stop) (stop : Stop) → c ≡ Some stops.Unknown → stop ≡ stops.Unknown → (c ≡ Some stop) × (stop ≢ stops.NoMemory)
+refuses_unknown c stop is same = (is ∙ ap (λ t. Some t) (sym same), λ h. absurd (cc (same, h)))
+
+-- a refusal that goes on by ? is the same
+pub refuses : {A : Type 0} (r : Result A Stop) (e : Stop) (c : Option Stop) → IsErrAnd r (λ f. f ≡ e) → (c ≡ Some e) × (e ≢ stops.NoMemory)
+    → IfErr r (λ stop. (c ≡ Some stop) × (stop ≢ stops.NoMemory))
+refuses (Ok a) e c is refused = absurd is
+refuses (Err f) e c is refused = subst (λ t. (c ≡ Some t) × (t ≢ stops.NoMemory)) (sym is) refused
+
+-- the same where want of memory may be told
+pub refuses_first : {A : Type 0} (r : Result A Stop) (e : Stop) (c : Option Stop) → IsErrAnd r (λ f. f ≡ e) → c ≡ Some e
+    → IfErr r (λ stop. (c ≡ Some stop) ⊎ ((c ≡ None) × (stop ≡ stops.NoMemory)))
+refuses_first (Ok a) e c is refused = absurd is
+refuses_first (Err f) e c is refused = inl (refused ∙ ap (λ t. Some t) (sym is))
+
+pub lacks_memory : {A : Type 0} (r : Result A Stop) (c : Option Stop) → IsErrAnd r (λ f. f ≡ stops.NoMemory) → c ≡ None
+    → IfErr r (λ stop. (c ≡ Some stop) ⊎ ((c ≡ None) × (stop ≡ stops.NoMemory)))
+lacks_memory (Ok a) c is allowed = absurd is
+lacks_memory (Err f) c is allowed = inr (allowed, is)
+
+pub lacks_after : {A : Type 0} (r : Result A Stop) (c : Option Stop) → IfErr r (λ stop. stop ≡ stops.NoMemory) → c ≡ None
+    → IfErr r (λ stop. (c ≡ Some stop) ⊎ ((c ≡ None) × (stop ≡ stops.NoMemory)))
+lacks_after (Ok a) c lacks allowed = tt
+lacks_after (Err f) c lacks allowed = inr (allowed, lacks)
+
+-- what holds anyway holds where there is no error
+pub on_ok : {A E : Type 0} (r : Result A E) (P : Type 0) → P → OnOk r P
+on_ok (Ok a) P p = p
+on_ok (Err e) P p = tt
 
 -- what the entry of a semaphore says of it
 module _ (a : Inside) {v : Play} (seen : seen_in a ≡ v) (k : IsKeptIn a) (s : ℕ) (e : SemaphoreEntry) (there : at a.semaphores.entries s ≡ Some e) where

@@ -31,7 +31,7 @@ use Rattle.mea_sem.proofs.PlaysPermits.{plays_try, plays_lose, plays_merge, play
 use Rattle.mea_sem.proofs.PlaysEnds.{plays_end_permit}
 use Rattle.mea_sem.proofs.Meets.{store_in, hall_in, seen_in, IsKeptIn, Meets, MeetsSemaphore, MeetsPermit, Done, permits_semaphore, later, to_kept, done, done_quietly}
 use Rattle.mea_sem.proofs.Standing.{Semaphores, Permits, puts_of, semaphores_of}
-use Rattle.mea_sem.proofs.StandingSemaphores.{small_forgotten, wakers_few, offered, not_offered}
+use Rattle.mea_sem.proofs.StandingSemaphores.{small_forgotten, wakers_few, offered, not_offered, as_it_was}
 
 -- ---- permits among entries
 abbrev seen_permits : Permits → FinMap nat_cmp Permit
@@ -42,14 +42,6 @@ permit_at ps p x is = get-named (λ p x. permit_of x) ps p ∙ ap (option_map pe
 
 permit_missing : (ps : Permits) (p : ℕ) → at ps p ≡ None → get (seen_permits ps) p ≡ None
 permit_missing ps p is = get-named (λ p x. permit_of x) ps p ∙ ap (option_map permit_of) is
-
-pub permit_found : (a : Inside) {v : Play} (p : ℕ) → seen_in a ≡ v → unknown_unless (is_permit v.hall p) ≡ None → at a.permits.entries p ≡ None → ⊥
-permit_found a {v} p seen allowed none = false≢true (sym (is_permit-at a seen p ∙ ap is_some none) ∙ known (is_permit v.hall p) allowed)
-
-pub ended_found : (a : Inside) {v : Play} (p : ℕ) → seen_in a ≡ v → cause_of v.hall (events.End p) ≡ None → get v.hall.futures p ≡ None
-    → at a.permits.entries p ≡ None → ⊥
-ended_found a {v} p seen allowed no_future none =
-    permit_found a p seen (ap (λ o. unknown_unless (if is_some o then true else is_permit v.hall p)) (sym no_future) ∙ allowed) none
 
 -- a permit's semaphore is kept
 pub home_found : (a : Inside) (p : ℕ) {x : PermitEntry} → IsKeptIn a → at a.permits.entries p ≡ Some x → at a.semaphores.entries x.semaphore ≡ None → ⊥
@@ -109,11 +101,19 @@ module _ {a : Inside} {v : Play} {i s : ℕ} {e : SemaphoreEntry} (m : MeetsSema
       → Done v i (try_of v.hall i s n plain) reply st' a.registered a.outbox.spare a.outbox.wakers
   as_tried {st'} {reply} done = subst (λ o. Done v i o reply st' a.registered a.outbox.spare a.outbox.wakers) (step_by_form plain v.hall i s n) done
 
-  pub tried_in_vain : (e.core.closed ≡ true) ⊎ (e.core.free < n) → Done v i (try_of v.hall i s n plain) answers.Lacking (store_in a) a.registered a.outbox.spare a.outbox.wakers
+  tried_in_vain : (e.core.closed ≡ true) ⊎ (e.core.free < n) → Done v i (try_of v.hall i s n plain) answers.Lacking (store_in a) a.registered a.outbox.spare a.outbox.wakers
   tried_in_vain lack =
       let outcome : step (hall_in a) i (by_form plain s n) ≡ quietly (hall_in a) answers.Lacking =
       step_by_form plain (hall_in a) i s n ∙ ap chosen (not_offered m n lack) in
       as_tried (unchanged m.meets (by_form plain s n) answers.Lacking (ap (λ o. o.hall) outcome) (ap (λ o. o.wakes) outcome) (ap (λ o. o.reply) (sym outcome)))
+
+  -- the same where the semaphore was written back as it was
+  pub tried_for_nothing : (ss' : Semaphores) (y : SemaphoreEntry) → ChangesAt a.semaphores.entries ss' s (Some y) → y ≡ e
+      → (e.core.closed ≡ true) ⊎ (e.core.free < n)
+      → Done v i (try_of v.hall i s n plain) answers.Lacking (store_of ss' a.futures.entries a.permits.entries) a.registered a.outbox.spare a.outbox.wakers
+  tried_for_nothing ss' y changes is lack = subst
+      (λ (st : Store). Done v i (try_of v.hall i s n plain) answers.Lacking st a.registered a.outbox.spare a.outbox.wakers)
+      (sym (as_it_was m ss' y changes is)) (tried_in_vain lack)
 
   pub tried : (ss' : Semaphores) (ps' : Permits) (d e' : SemaphoreEntry) → cause_of v.hall (events.Try s n) ≡ None
       → at a.semaphores.entries s ≡ Some d → d.core.closed ≡ false → n ≤ d.core.free

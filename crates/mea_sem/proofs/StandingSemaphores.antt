@@ -1,5 +1,5 @@
 -- a method on a semaphore: what it keeps, and its outcome as the contract says it
-use Rattle.std.proofs.Common.{◌≡◌, ◌⊎◌, inl, inr, ℕ, ◌+◌, ◌-◌, ◌^◌, ◌<◌, ◌≤◌, ◌==◌, ◌++◌, ◌&&◌, not, Bool, true, false, cond, List, [], length, min, nat_le, nat_lt, refl, ap, sym, subst, ◌∙◌, arith, Option, Some, None, append-nil, if◌then◌else◌}
+use Rattle.std.proofs.Common.{◌≡◌, ◌≢◌, ◌⊎◌, inl, inr, ℕ, suc, ◌+◌, ◌-◌, ◌^◌, ◌<◌, ◌≤◌, ◌==◌, ◌++◌, ◌&&◌, not, Bool, true, false, cond, List, [], length, min, nat_le, nat_lt, refl, ap, sym, subst, ◌∙◌, arith, Option, Some, None, append-nil, if◌then◌else◌}
 use Rattle.std.specs.Option.{option_map}
 use Rattle.std.specs.Ordering.{nat_cmp}
 use Rattle.std.specs.FinMap.{get, empty, entries, get-empty}
@@ -15,7 +15,7 @@ use Rattle.mea_base.proofs.NamedMaps.{same_named, get-named, get-seen, kept-at, 
 use Rattle.mea_base.proofs.Totals.{total-remove, total-empty}
 use Rattle.mea_sem_model.specs.declared.event.SemEvent.{SemEvent}
 use Rattle.mea_sem_model.specs.declared.event.SemEvent.TheVariants as events
-use Rattle.mea_sem_model.specs.Hall.{Hall, Semaphore, empty_hall, live, free, semaphore_at, with_semaphore, closing, wakes_waiting}
+use Rattle.mea_sem_model.specs.Hall.{Hall, Semaphore, empty_hall, live, plain_things, free, semaphore_at, with_semaphore, closing, wakes_waiting}
 use Rattle.mea_sem_model.specs.Cause.{cause_of, is_named}
 use Rattle.mea_sem_model.specs.Step.{Outcome, step, quietly, offers, try_and_forget, close_of}
 use Rattle.mea_sem_model.specs.Valid.{IsValid, IsBelow, IsAccounted}
@@ -28,7 +28,7 @@ use Rattle.mea_sem.specs.Entries.{ledger_of_entry, close_wakes}
 use Rattle.mea_sem.specs.Store.{Store, store_of, permit_of, semaphore_of, future_of, hall_of}
 use Rattle.mea_sem.specs.Kept.{wakers_in, IsKept}
 use Rattle.mea_sem.specs.Play.{Play}
-use Rattle.mea_sem.proofs.Refusals.{named-none}
+use Rattle.mea_sem.proofs.Refusals.{known_named, unknown_unnamed, refuses_unknown, live_as, plain_as}
 use Rattle.mea_sem.proofs.Seen.{seen_at}
 use Rattle.mea_sem.proofs.PlaysSemaphores.{Puts, plays_nothing, plays_forget, plays_tried, plays_forgetx, plays_endsem}
 use Rattle.mea_sem.proofs.PlaysNew.{fresh_core, fresh_entry, plays_new}
@@ -38,24 +38,6 @@ use Rattle.mea_sem.proofs.PlaysCloses.{wakers_waiting, plays_close}
 use Rattle.mea_sem.proofs.Meets.{store_in, hall_in, seen_in, IsKeptIn, Meets, MeetsSemaphore, Done, later, to_kept, done, done_quietly}
 use Rattle.mea_sem.proofs.Standing.{Semaphores, Futures, Permits, puts_of, semaphores_of}
 use Rattle.mea_sem.proofs.Lives.{live-seen, ledger-seen}
-
--- an event that names a semaphore which is not there has a cause
-known : (b : Bool) (o : Option Stop) → cond b o (Some stops.Unknown) ≡ None → b ≡ true
-known true o h = refl
-known false o h = absurd (cc)
-
-pub never_gone : (a : Inside) {v : Play} (s : ℕ) (o : Option Stop) → seen_in a ≡ v → cond (is_named v.hall s) o (Some stops.Unknown) ≡ None
-    → at a.semaphores.entries s ≡ None → ⊥
-never_gone a {v} s o seen allowed none = false≢true (sym (named-none a seen s none) ∙ known (is_named v.hall s) o allowed)
-
--- a release that would not fit has a cause
-fitting : (b : Bool) (n : ℕ) → cond b (cond (nat_lt n (2 ^ 64)) None (Some stops.Overflow)) (Some stops.Unknown) ≡ None → n < 2 ^ 64
-fitting false n h = absurd (cc)
-fitting true n h = small (nat_lt n (2 ^ 64)) refl h
-  where
-    small : (t : Bool) → nat_lt n (2 ^ 64) ≡ t → cond t None (Some stops.Overflow) ≡ None → n < 2 ^ 64
-    small true is h = leb-true _ _ is
-    small false is h = absurd (cc)
 
 -- more room is room
 pub kept_room : {st : Store} {w sp n : ℕ} (sp' : ℕ) → IsKept st w sp n → w ≤ sp' → IsKept st w sp' n
@@ -95,6 +77,13 @@ module _ {a : Inside} {v : Play} {i s : ℕ} {e : SemaphoreEntry} (m : MeetsSema
   free_seen = ap (λ (r : Semaphore). r.free) (seen_at (store_in a) a.next s e k.linked here)
 
   -- ---- what an event finds
+  -- while it is named, what names it is refused by the event's own cause alone
+  pub while_named : {o : Option Stop} → e.named ≡ true → cond (is_named v.hall s) o (Some stops.Unknown) ≡ o
+  while_named {o} named = known_named a m.meets.seen s o e m.there named
+
+  pub once_unnamed : (o : Option Stop) → e.named ≡ false → cond (is_named v.hall s) o (Some stops.Unknown) ≡ Some stops.Unknown
+  once_unnamed o unnamed = unknown_unnamed a m.meets.seen s o e m.there unnamed
+
   pub small_forgotten : (n : ℕ) → n < 2 ^ 64 → e.forgotten + n < 2 ^ 128
   small_forgotten n small = let old = (k.each s e here).forgotten in omega (arith, old, less, low, small)
 
@@ -107,13 +96,38 @@ module _ {a : Inside} {v : Play} {i s : ℕ} {e : SemaphoreEntry} (m : MeetsSema
   pub is_quiet : e.core.wakes ≡ []
   is_quiet = (k.each s e here).quiet
 
-  -- a release fits where its event has no cause
-  pub release_fits : (n : ℕ) → cause_of v.hall (events.Release s n) ≡ None → e.core.live + n < 2 ^ 64
-  release_fits n allowed =
-      let h : Hall = hall_in a in
-      let lives = live-seen (store_in a) a.registered a.outbox.spare a.next s e k here in
-      let small : live h s + n < 2 ^ 64 = fitting (is_named h s) (live h s + n) (cause (events.Release s n) allowed) in
-      omega (arith, lives, small)
+  -- a release is refused where its semaphore is not named, and where it would not fit
+  room_seen : (n : ℕ) → nat_lt (live v.hall s + n) (2 ^ 64) ≡ nat_lt (e.core.live + n) (2 ^ 64)
+  room_seen n = ap (λ t. nat_lt (t + n) (2 ^ 64)) (sym (live_as a m.meets.seen k s e m.there))
+
+  pub release_known : (n : ℕ) → e.named ≡ true → e.core.live + n < 2 ^ 64 → cause_of v.hall (events.Release s n) ≡ None
+  release_known n named fits = while_named named
+      ∙ ap (λ b. cond b None (Some stops.Overflow)) (room_seen n ∙ le-leb (suc (e.core.live + n)) (2 ^ 64) fits)
+
+  pub release_refused : (n : ℕ) (stop : Stop) → ((e.named ≡ false) × (stop ≡ stops.Unknown))
+      ⊎ ((e.named ≡ true) × (2 ^ 64 ≤ e.core.live + n) × (stop ≡ stops.Overflow))
+      → (cause_of v.hall (events.Release s n) ≡ Some stop) × (stop ≢ stops.NoMemory)
+  release_refused n stop (inl p) = refuses_unknown _ stop (once_unnamed _ p.0) p.1
+  release_refused n stop (inr p) = (
+    while_named p.0 ∙ ap (λ b. cond b None (Some stops.Overflow)) (room_seen n ∙ lt-leb (suc (e.core.live + n)) (2 ^ 64) (let most = p.1 in omega arith))
+        ∙ ap (λ t. Some t) (sym p.2),
+    λ h. absurd (cc (p.2, h)),
+  )
+
+  -- the end of a name is refused where that is ended, and where a plain thing is there
+  plain_seen : nat_lt 0 (plain_things v.hall s) ≡ nat_lt 0 e.plain
+  plain_seen = ap (nat_lt 0) (sym (plain_as a m.meets.seen k s e m.there))
+
+  pub endsem_known : e.named ≡ true → e.plain ≡ 0 → cause_of v.hall (events.Endsem s) ≡ None
+  endsem_known named none = while_named named ∙ ap (λ b. cond b (Some stops.Borrowed) None) (plain_seen ∙ ap (nat_lt 0) none)
+
+  pub endsem_refused : (stop : Stop) → ((e.named ≡ false) × (stop ≡ stops.Unknown)) ⊎ ((e.named ≡ true) × (0 < e.plain) × (stop ≡ stops.Borrowed))
+      → (cause_of v.hall (events.Endsem s) ≡ Some stop) × (stop ≢ stops.NoMemory)
+  endsem_refused stop (inl p) = refuses_unknown _ stop (once_unnamed _ p.0) p.1
+  endsem_refused stop (inr p) = (
+    while_named p.0 ∙ ap (λ b. cond b (Some stops.Borrowed) None) (plain_seen ∙ le-leb 1 e.plain p.1) ∙ ap (λ t. Some t) (sym p.2),
+    λ h. absurd (cc (p.2, h)),
+  )
 
   pub is_accounted : e.core.live + e.forgotten ≡ e.made + e.released + cores.debts e.core.queue
   is_accounted = (k.each s e here).account
@@ -211,7 +225,7 @@ module _ {a : Inside} {v : Play} {i s : ℕ} {e : SemaphoreEntry} (m : MeetsSema
     held_by e' is held = subst (λ (y : SemaphoreEntry). cores.held_of y.core ≡ cores.held_of e.core) is held
 
     -- what was written back is what stood there
-    as_it_was : x ≡ e → st' ≡ store_in a
+    pub as_it_was : x ≡ e → st' ≡ store_in a
     as_it_was is = λ j. record { semaphores = same j; futures = (store_in a).futures; permits = (store_in a).permits }
       where
         by_test : (q : ℕ) (t : Bool) → (s == q) ≡ t → cond t (Some x) (get (store_in a).semaphores q) ≡ get (store_in a).semaphores q
@@ -226,6 +240,25 @@ module _ {a : Inside} {v : Play} {i s : ℕ} {e : SemaphoreEntry} (m : MeetsSema
 
     pub seen_unchanged : x ≡ e → (wakes' : List ℕ) → wakes' ≡ a.outbox.wakers → record { hall = hall_of st' a.next; wakes = wakes'; next = a.next } ≡ v
     seen_unchanged is wakes' same = (λ j. record { hall = hall_of (as_it_was is j) a.next; wakes = same j; next = a.next }) ∙ m.meets.seen
+
+    -- nor did an insertion that failed change anything
+    pub kept_with_futures : (fs : Futures) → x ≡ e → fs ≡ a.futures.entries → IsKept (store_of ss' fs a.permits.entries) a.registered a.outbox.spare a.next
+    kept_with_futures fs is same = subst (λ (xs : Futures). IsKept (store_of ss' xs a.permits.entries) a.registered a.outbox.spare a.next) (sym same)
+        (kept_unchanged is a.outbox.spare k.room)
+
+    pub seen_with_futures : (fs : Futures) → x ≡ e → fs ≡ a.futures.entries
+        → record { hall = hall_of (store_of ss' fs a.permits.entries) a.next; wakes = a.outbox.wakers; next = a.next } ≡ v
+    seen_with_futures fs is same = (λ j. record { hall = hall_of (store_of ss' (same j) a.permits.entries) a.next; wakes = a.outbox.wakers; next = a.next })
+        ∙ seen_unchanged is a.outbox.wakers refl
+
+    pub kept_with_permits : (ps : Permits) → x ≡ e → ps ≡ a.permits.entries → IsKept (store_of ss' a.futures.entries ps) a.registered a.outbox.spare a.next
+    kept_with_permits ps is same = subst (λ (xs : Permits). IsKept (store_of ss' a.futures.entries xs) a.registered a.outbox.spare a.next) (sym same)
+        (kept_unchanged is a.outbox.spare k.room)
+
+    pub seen_with_permits : (ps : Permits) → x ≡ e → ps ≡ a.permits.entries
+        → record { hall = hall_of (store_of ss' a.futures.entries ps) a.next; wakes = a.outbox.wakers; next = a.next } ≡ v
+    seen_with_permits ps is same = (λ j. record { hall = hall_of (store_of ss' a.futures.entries (same j)) a.next; wakes = a.outbox.wakers; next = a.next })
+        ∙ seen_unchanged is a.outbox.wakers refl
 
     pub done_lacking : (n : ℕ) → x ≡ e → (e.core.closed ≡ true) ⊎ (e.core.free < n)
         → Done v i (try_and_forget v.hall s n) answers.No st' a.registered a.outbox.spare a.outbox.wakers

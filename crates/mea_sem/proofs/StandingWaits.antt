@@ -184,13 +184,6 @@ end_allowed h f there = by_value (get h.futures f) there
     by_value None missing = absurd (cc)
     by_value (Some y) here = refl
 
-pub end_found : (a : Inside) {v : Play} (f : ℕ) → seen_in a ≡ v → IsSome (get v.hall.futures f) → at a.futures.entries f ≡ None → ⊥
-end_found a {v} f seen there none = future_found a f seen (by_value (get v.hall.futures f) there) none
-  where
-    by_value : (o : Option Future) → IsSome o → is_some o ≡ true
-    by_value None missing = absurd (cc)
-    by_value (Some y) here = refl
-
 module _ {a : Inside} {v : Play} {i f : ℕ} {x : FutureEntry} {e : SemaphoreEntry} (m : MeetsFuture a v i f x e) (e2 : SemaphoreEntry)
     (wakes' : List ℕ) (left : ℕ) (ends : Ends e x.acquire x.plain e2 a.outbox.wakers wakes' left) where
   -- those who leave were registered

@@ -88,7 +88,7 @@ impl SemHall {
         self.permits.contains_key(&p)
     }
 
-    fn can_merge(&self, p: u64, q: u64) -> bool
+    pub(crate) fn can_merge(&self, p: u64, q: u64) -> bool
         ensures { result ≡ can_merge self.now.hall p q }
     {
         p != q && self.are_of_one_kind(p, q)

@@ -1,11 +1,11 @@
-ghost use Rattle.std.specs.Prelude.{◌≡◌, ◌≢◌, ◌+◌, ◌-◌, ◌<◌, ◌≤◌, ◌^◌, ◌++◌, ◌⊎◌, [], length, min, cond, ℕ, true, false, Some, IsOk, OnOk, OnErr, IfOk, MatchResult};
+ghost use Rattle.std.specs.Prelude.{◌≡◌, ◌≢◌, ◌+◌, ◌-◌, ◌<◌, ◌≤◌, ◌^◌, ◌++◌, ◌⊎◌, [], length, min, cond, ℕ, true, false, Some, IsOk, OnOk, OnErr, IfOk, IfErr, MatchResult};
 ghost use Rattle.mea_base.specs.Queue.{granted_in};
 ghost use Rattle.mea_sem_core.specs.Acquire.{demand_of};
 ghost use Rattle.mea_sem_core.specs.Core.{held_of, paid_of, poured, wakers_of, paid_waiting, debts, closed_core};
 ghost use Rattle.mea_sem_core.specs.Calls.{Belongs, IsRefused, Queues, after_refusal, forgetting, forgetting_exactly, with_waker};
 
 use crate::moving::hand_on;
-use mea_base::{Ledger, NoMemory, Outbox};
+use mea_base::{Ledger, NoMemory, Outbox, Stop};
 use mea_sem_core::{Acquire, SemCore};
 
 /// What a hall keeps of a semaphore.
@@ -67,6 +67,47 @@ pub fn one_if(plain: bool) -> u128
 
 impl SemaphoreEntry {
     ghost use Rattle.mea_sem.specs.Entries.{ledger_of_entry};
+
+    /// Refuses what names the semaphore, where it is not named any more.
+    pub fn known(&self) -> Result<(), Stop>
+        ensures known { OnOk result (self.now.named ≡ true) }
+        ensures unknown { IfErr result (λ stop. (self.now.named ≡ false) × (stop ≡ Stop.Unknown)) }
+    {
+        if self.named {
+            Ok(())
+        } else {
+            Err(Stop::Unknown)
+        }
+    }
+
+    /// Refuses what names the semaphore, or more permits than its live ones leave room for.
+    pub fn has_room_for(&self, n: usize) -> Result<(), Stop>
+        ensures known { OnOk result (self.now.named ≡ true) }
+        ensures fits { OnOk result (self.now.core.live + n < 2 ^ 64) }
+        ensures refused { IfErr result (λ stop. ((self.now.named ≡ false) × (stop ≡ Stop.Unknown))
+            ⊎ ((self.now.named ≡ true) × (2 ^ 64 ≤ self.now.core.live + n) × (stop ≡ Stop.Overflow))) }
+    {
+        self.known()?;
+        match self.core.live().checked_add(n) {
+            Some(_) => Ok(()),
+            None => Err(Stop::Overflow),
+        }
+    }
+
+    /// Refuses the end of the name, where that is ended or a plain thing borrows the semaphore.
+    pub fn is_not_borrowed(&self) -> Result<(), Stop>
+        ensures known { OnOk result (self.now.named ≡ true) }
+        ensures free { OnOk result (self.now.plain ≡ 0) }
+        ensures refused { IfErr result (λ stop. ((self.now.named ≡ false) × (stop ≡ Stop.Unknown))
+            ⊎ ((self.now.named ≡ true) × (0 < self.now.plain) × (stop ≡ Stop.Borrowed))) }
+    {
+        self.known()?;
+        if self.plain > 0 {
+            Err(Stop::Borrowed)
+        } else {
+            Ok(())
+        }
+    }
 
     /// Takes at most `n` free permits away for ever, and tells how many.
     pub fn forget(&mut self, n: usize) -> usize

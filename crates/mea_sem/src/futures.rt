@@ -1,4 +1,4 @@
-ghost use Rattle.std.specs.Prelude.{◌≡◌, ◌≤◌, OnErr, IfOk, IfErr, None, IsSome, IfSome, ℕ, true, false};
+ghost use Rattle.std.specs.Prelude.{◌≡◌, ◌≢◌, ◌≤◌, ◌⊎◌, OnOk, OnErr, IfOk, IfErr, None, Some, IfSome, ℕ, true, false};
 ghost use Rattle.std.specs.FinMap as map;
 ghost use Rattle.mea_sem_model.specs.Cause.{cause_of};
 ghost use Rattle.mea_sem_model.specs.Hall.{New, Waiting};
@@ -11,7 +11,7 @@ use mea_base::{Answer, Stop};
 use mea_sem_core::Acquire;
 use mea_sem_model::SemEvent;
 
-// What the events on futures do, where they have no cause for refusal.
+// What the events on futures do. Each finds its cause for refusal at what it looks up.
 impl SemHall {
     // `acq` and its three other forms.
     pub(crate) fn acquire(
@@ -22,12 +22,17 @@ impl SemHall {
         plain: bool,
         forgets: bool,
     ) -> Result<Answer, Stop>
-        requires next { self.old.next ≤ number }
-        requires allowed { cause_of self.old.hall (SemEvent.Acq s n) ≡ None }
+        requires { self.old.next ≤ number }
         ensures played { IfOk result (λ reply. Yields self.old number (acquire_of self.old.hall number s n plain forgets) reply self.new) }
-        ensures memory { IfErr result (λ stop. stop ≡ Stop.NoMemory) }
+        ensures allowed { OnOk result (cause_of self.old.hall (SemEvent.Acq s n) ≡ None) }
+        ensures refused { IfErr result (λ stop. (cause_of self.old.hall (SemEvent.Acq s n) ≡ Some stop)
+            ⊎ ((cause_of self.old.hall (SemEvent.Acq s n) ≡ None) × (stop ≡ Stop.NoMemory))) }
         ensures err { OnErr result (self.new ≡ self.old) }
     {
+        let Some(entry) = self.semaphores.get_mut(&s) else {
+            return Err(Stop::Unknown);
+        };
+        entry.known()?;
         let future = FutureEntry {
             semaphore: s,
             acquire: Acquire::new(n as usize),
@@ -35,23 +40,21 @@ impl SemHall {
             forgets,
         };
         self.futures.insert(number, future)?;
-        let Some(entry) = self.semaphores.get_mut(&s) else {
-            unreachable!()
-        };
         entry.count(plain);
         self.next = number as u128 + 1;
         Ok(Answer::Made)
     }
 
     pub(crate) fn poll(&mut self, number: u64, f: u64, waker: u64) -> Result<Answer, Stop>
-        requires next { self.old.next ≤ number }
-        requires allowed { cause_of self.old.hall (SemEvent.Poll f waker) ≡ None }
+        requires { self.old.next ≤ number }
         ensures played { IfOk result (λ reply. Plays self.old number (SemEvent.Poll f waker) reply self.new) }
-        ensures memory { IfErr result (λ stop. stop ≡ Stop.NoMemory) }
+        ensures allowed { OnOk result (cause_of self.old.hall (SemEvent.Poll f waker) ≡ None) }
+        ensures refused { IfErr result (λ stop. (cause_of self.old.hall (SemEvent.Poll f waker) ≡ Some stop)
+            ⊎ ((cause_of self.old.hall (SemEvent.Poll f waker) ≡ None) × (stop ≡ Stop.NoMemory))) }
         ensures err { OnErr result (self.new ≡ self.old) }
     {
         let Some(future) = self.futures.get(&f) else {
-            unreachable!()
+            return Err(Stop::Unknown);
         };
         let Some(entry) = self.semaphores.get(&future.semaphore) else {
             unreachable!()
@@ -198,20 +201,22 @@ impl SemHall {
         Answer::Pending
     }
 
-    // `end` of a future.
-    pub(crate) fn end_future(&mut self, number: u64, f: u64) -> Answer
-        requires next { self.old.next ≤ number }
-        requires there { IsSome (map.get self.old.hall.futures f) }
-        ensures { Plays self.old number (SemEvent.End f) result self.new }
+    // `end` of a future, or else of a permit.
+    pub(crate) fn end(&mut self, number: u64, f: u64) -> Result<Answer, Stop>
+        requires { self.old.next ≤ number }
+        ensures played { IfOk result (λ reply. Plays self.old number (SemEvent.End f) reply self.new) }
+        ensures allowed { OnOk result (cause_of self.old.hall (SemEvent.End f) ≡ None) }
+        ensures refused { IfErr result (λ stop. (cause_of self.old.hall (SemEvent.End f) ≡ Some stop) × (stop ≢ Stop.NoMemory)) }
+        ensures err { OnErr result (self.new ≡ self.old) }
     {
         let Some(future) = self.futures.remove(&f) else {
-            unreachable!()
+            return self.end_permit(number, f);
         };
         let Some(entry) = self.semaphores.get_mut(&future.semaphore) else {
             unreachable!()
         };
         self.registered -= entry.end(future.acquire, future.plain, &mut self.outbox);
         self.next = number as u128 + 1;
-        Answer::Done
+        Ok(Answer::Done)
     }
 }

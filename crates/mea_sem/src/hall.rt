@@ -105,44 +105,29 @@ impl SemHall {
         ensures no_memory { TakesNoMemory event.now → result ≢ Err Stop.NoMemory }
         ensures err { OnErr result (self.new ≡ self.old) }
     {
-        if let Some(stop) = self.cause(event) {
-            return Err(stop);
-        }
         match *event {
             SemEvent::New(n) => self.make(number, n),
-            SemEvent::Free(s) => Ok(self.free(number, s)),
-            SemEvent::Forget(s, n) => Ok(self.forget(number, s, n)),
+            SemEvent::Free(s) => self.free(number, s),
+            SemEvent::Forget(s, n) => self.forget(number, s, n),
             SemEvent::Forgetx(s, n) => self.forget_exact(number, s, n),
-            SemEvent::Release(s, n) => Ok(self.release(number, s, n)),
+            SemEvent::Release(s, n) => self.release(number, s, n),
             SemEvent::Try(s, n) => self.try_permit(number, s, n, true),
             SemEvent::Tryo(s, n) => self.try_permit(number, s, n, false),
-            SemEvent::Tryf(s, n) | SemEvent::Tryof(s, n) => Ok(self.try_and_forget(number, s, n)),
+            SemEvent::Tryf(s, n) | SemEvent::Tryof(s, n) => self.try_and_forget(number, s, n),
             SemEvent::Acq(s, n) => self.acquire(number, s, n, true, false),
             SemEvent::Acqo(s, n) => self.acquire(number, s, n, false, false),
             SemEvent::Acqf(s, n) => self.acquire(number, s, n, true, true),
             SemEvent::Acqof(s, n) => self.acquire(number, s, n, false, true),
             SemEvent::Poll(f, waker) => self.poll(number, f, waker),
-            SemEvent::End(x) => Ok(self.end(number, x)),
-            SemEvent::Lose(p) => Ok(self.lose(number, p)),
-            SemEvent::Merge(p, q) => Ok(self.merge(number, p, q)),
+            SemEvent::End(x) => self.end(number, x),
+            SemEvent::Lose(p) => self.lose(number, p),
+            SemEvent::Merge(p, q) => self.merge(number, p, q),
             SemEvent::Split(p, n) => self.split(number, p, n),
-            SemEvent::Size(p) => Ok(self.size(number, p)),
-            SemEvent::Endsem(s) => Ok(self.end_name(number, s)),
-            SemEvent::Ledger(s) => Ok(self.ledger(number, s)),
-            SemEvent::Close(s) => Ok(self.close(number, s)),
-            SemEvent::Closed(s) => Ok(self.closed(number, s)),
-        }
-    }
-
-    fn end(&mut self, number: u64, x: u64) -> Answer
-        requires next { self.old.next ≤ number }
-        requires allowed { cause_of self.old.hall (SemEvent.End x) ≡ None }
-        ensures { Plays self.old number (SemEvent.End x) result self.new }
-    {
-        if self.is_future(x) {
-            self.end_future(number, x)
-        } else {
-            self.end_permit(number, x)
+            SemEvent::Size(p) => self.size(number, p),
+            SemEvent::Endsem(s) => self.end_name(number, s),
+            SemEvent::Ledger(s) => self.ledger(number, s),
+            SemEvent::Close(s) => self.close(number, s),
+            SemEvent::Closed(s) => self.closed(number, s),
         }
     }
 }

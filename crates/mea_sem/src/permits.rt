@@ -1,4 +1,4 @@
-ghost use Rattle.std.specs.Prelude.{◌≡◌, ◌≤◌, OnErr, IfOk, IfErr, None, true, false};
+ghost use Rattle.std.specs.Prelude.{◌≡◌, ◌≢◌, ◌≤◌, ◌⊎◌, OnOk, OnErr, IfOk, IfErr, None, Some, true, false};
 ghost use Rattle.std.specs.FinMap as map;
 ghost use Rattle.mea_sem_model.specs.Cause.{cause_of};
 ghost use Rattle.mea_sem_model.specs.Step.{try_of};
@@ -9,7 +9,7 @@ use crate::hall::SemHall;
 use mea_base::{Answer, Stop};
 use mea_sem_model::SemEvent;
 
-// What the events that make, change and end permits do, where they have no cause for refusal.
+// What the events that make, change and end permits do. Each finds its cause for refusal at what it looks up.
 impl SemHall {
     // `try` and `tryo`.
     pub(crate) fn try_permit(
@@ -19,15 +19,17 @@ impl SemHall {
         n: u64,
         plain: bool,
     ) -> Result<Answer, Stop>
-        requires next { self.old.next ≤ number }
-        requires allowed { cause_of self.old.hall (SemEvent.Try s n) ≡ None }
+        requires { self.old.next ≤ number }
         ensures played { IfOk result (λ reply. Yields self.old number (try_of self.old.hall number s n plain) reply self.new) }
-        ensures memory { IfErr result (λ stop. stop ≡ Stop.NoMemory) }
+        ensures allowed { OnOk result (cause_of self.old.hall (SemEvent.Try s n) ≡ None) }
+        ensures refused { IfErr result (λ stop. (cause_of self.old.hall (SemEvent.Try s n) ≡ Some stop)
+            ⊎ ((cause_of self.old.hall (SemEvent.Try s n) ≡ None) × (stop ≡ Stop.NoMemory))) }
         ensures err { OnErr result (self.new ≡ self.old) }
     {
-        let Some(entry) = self.semaphores.get(&s) else {
-            unreachable!()
+        let Some(entry) = self.semaphores.get_mut(&s) else {
+            return Err(Stop::Unknown);
         };
+        entry.known()?;
         if !entry.offers(n as usize) {
             self.next = number as u128 + 1;
             return Ok(Answer::Lacking);
@@ -38,35 +40,39 @@ impl SemHall {
             plain,
         };
         self.permits.insert(number, permit)?;
-        let Some(entry) = self.semaphores.get_mut(&s) else {
-            unreachable!()
-        };
         entry.take(n as usize, plain);
         self.next = number as u128 + 1;
         Ok(Answer::Held)
     }
 
-    pub(crate) fn lose(&mut self, number: u64, p: u64) -> Answer
-        requires next { self.old.next ≤ number }
-        requires allowed { cause_of self.old.hall (SemEvent.Lose p) ≡ None }
-        ensures { Plays self.old number (SemEvent.Lose p) result self.new }
+    pub(crate) fn lose(&mut self, number: u64, p: u64) -> Result<Answer, Stop>
+        requires { self.old.next ≤ number }
+        ensures played { IfOk result (λ reply. Plays self.old number (SemEvent.Lose p) reply self.new) }
+        ensures allowed { OnOk result (cause_of self.old.hall (SemEvent.Lose p) ≡ None) }
+        ensures refused { IfErr result (λ stop. (cause_of self.old.hall (SemEvent.Lose p) ≡ Some stop) × (stop ≢ Stop.NoMemory)) }
+        ensures err { OnErr result (self.new ≡ self.old) }
     {
         let Some(permit) = self.permits.remove(&p) else {
-            unreachable!()
+            return Err(Stop::Unknown);
         };
         let Some(entry) = self.semaphores.get_mut(&permit.semaphore) else {
             unreachable!()
         };
         entry.lose(permit.size, permit.plain);
         self.next = number as u128 + 1;
-        Answer::Forgot(permit.size as u64)
+        Ok(Answer::Forgot(permit.size as u64))
     }
 
-    pub(crate) fn merge(&mut self, number: u64, p: u64, q: u64) -> Answer
-        requires next { self.old.next ≤ number }
-        requires allowed { cause_of self.old.hall (SemEvent.Merge p q) ≡ None }
-        ensures { Plays self.old number (SemEvent.Merge p q) result self.new }
+    pub(crate) fn merge(&mut self, number: u64, p: u64, q: u64) -> Result<Answer, Stop>
+        requires { self.old.next ≤ number }
+        ensures played { IfOk result (λ reply. Plays self.old number (SemEvent.Merge p q) reply self.new) }
+        ensures allowed { OnOk result (cause_of self.old.hall (SemEvent.Merge p q) ≡ None) }
+        ensures refused { IfErr result (λ stop. (cause_of self.old.hall (SemEvent.Merge p q) ≡ Some stop) × (stop ≢ Stop.NoMemory)) }
+        ensures err { OnErr result (self.new ≡ self.old) }
     {
+        if !self.can_merge(p, q) {
+            return Err(Stop::Unknown);
+        }
         let Some(other) = self.permits.remove(&q) else {
             unreachable!()
         };
@@ -79,18 +85,19 @@ impl SemHall {
         };
         entry.discount(other.plain);
         self.next = number as u128 + 1;
-        Answer::Done
+        Ok(Answer::Done)
     }
 
     pub(crate) fn split(&mut self, number: u64, p: u64, n: u64) -> Result<Answer, Stop>
-        requires next { self.old.next ≤ number }
-        requires allowed { cause_of self.old.hall (SemEvent.Split p n) ≡ None }
+        requires { self.old.next ≤ number }
         ensures played { IfOk result (λ reply. Plays self.old number (SemEvent.Split p n) reply self.new) }
-        ensures memory { IfErr result (λ stop. stop ≡ Stop.NoMemory) }
+        ensures allowed { OnOk result (cause_of self.old.hall (SemEvent.Split p n) ≡ None) }
+        ensures refused { IfErr result (λ stop. (cause_of self.old.hall (SemEvent.Split p n) ≡ Some stop)
+            ⊎ ((cause_of self.old.hall (SemEvent.Split p n) ≡ None) × (stop ≡ Stop.NoMemory))) }
         ensures err { OnErr result (self.new ≡ self.old) }
     {
         let Some(permit) = self.permits.get(&p).copied() else {
-            unreachable!()
+            return Err(Stop::Unknown);
         };
         if n as usize > permit.size {
             self.next = number as u128 + 1;
@@ -113,34 +120,38 @@ impl SemHall {
         Ok(Answer::Held)
     }
 
-    pub(crate) fn size(&mut self, number: u64, p: u64) -> Answer
-        requires next { self.old.next ≤ number }
-        requires allowed { cause_of self.old.hall (SemEvent.Size p) ≡ None }
-        ensures { Plays self.old number (SemEvent.Size p) result self.new }
+    pub(crate) fn size(&mut self, number: u64, p: u64) -> Result<Answer, Stop>
+        requires { self.old.next ≤ number }
+        ensures played { IfOk result (λ reply. Plays self.old number (SemEvent.Size p) reply self.new) }
+        ensures allowed { OnOk result (cause_of self.old.hall (SemEvent.Size p) ≡ None) }
+        ensures refused { IfErr result (λ stop. (cause_of self.old.hall (SemEvent.Size p) ≡ Some stop) × (stop ≢ Stop.NoMemory)) }
+        ensures err { OnErr result (self.new ≡ self.old) }
     {
         let Some(permit) = self.permits.get(&p) else {
-            unreachable!()
+            return Err(Stop::Unknown);
         };
         let size = permit.size;
         self.next = number as u128 + 1;
-        Answer::Permits(size as u64)
+        Ok(Answer::Permits(size as u64))
     }
 
     // `end` of a permit.
-    pub(crate) fn end_permit(&mut self, number: u64, p: u64) -> Answer
+    pub(crate) fn end_permit(&mut self, number: u64, p: u64) -> Result<Answer, Stop>
         requires next { self.old.next ≤ number }
-        requires allowed { cause_of self.old.hall (SemEvent.End p) ≡ None }
         requires no_future { map.get self.old.hall.futures p ≡ None }
-        ensures { Plays self.old number (SemEvent.End p) result self.new }
+        ensures played { IfOk result (λ reply. Plays self.old number (SemEvent.End p) reply self.new) }
+        ensures allowed { OnOk result (cause_of self.old.hall (SemEvent.End p) ≡ None) }
+        ensures refused { IfErr result (λ stop. (cause_of self.old.hall (SemEvent.End p) ≡ Some stop) × (stop ≢ Stop.NoMemory)) }
+        ensures err { OnErr result (self.new ≡ self.old) }
     {
         let Some(permit) = self.permits.remove(&p) else {
-            unreachable!()
+            return Err(Stop::Unknown);
         };
         let Some(entry) = self.semaphores.get_mut(&permit.semaphore) else {
             unreachable!()
         };
         self.registered -= entry.give_back(permit.size, permit.plain, &mut self.outbox);
         self.next = number as u128 + 1;
-        Answer::Done
+        Ok(Answer::Done)
     }
 }

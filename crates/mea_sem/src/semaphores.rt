@@ -1,4 +1,4 @@
-ghost use Rattle.std.specs.Prelude.{◌≡◌, ◌≤◌, OnErr, IfOk, IfErr, None, true, false};
+ghost use Rattle.std.specs.Prelude.{◌≡◌, ◌≢◌, ◌≤◌, ◌⊎◌, OnOk, OnErr, IfOk, IfErr, None, Some, true, false};
 ghost use Rattle.mea_sem_model.specs.Cause.{cause_of};
 ghost use Rattle.mea_sem_model.specs.Step.{try_and_forget};
 ghost use Rattle.mea_sem.specs.Play.{Play, Plays, Yields};
@@ -9,7 +9,7 @@ use mea_base::{Answer, Ledger, Stop};
 use mea_sem_core::SemCore;
 use mea_sem_model::SemEvent;
 
-// What the events on semaphores do, where they have no cause for refusal.
+// What the events on semaphores do. Each finds its cause for refusal at the entry that it looks up.
 impl SemHall {
     pub(crate) fn make(&mut self, number: u64, n: u64) -> Result<Answer, Stop>
         requires { self.old.next ≤ number }
@@ -30,127 +30,153 @@ impl SemHall {
         Ok(Answer::Made)
     }
 
-    pub(crate) fn free(&mut self, number: u64, s: u64) -> Answer
-        requires next { self.old.next ≤ number }
-        requires allowed { cause_of self.old.hall (SemEvent.Free s) ≡ None }
-        ensures { Plays self.old number (SemEvent.Free s) result self.new }
+    pub(crate) fn free(&mut self, number: u64, s: u64) -> Result<Answer, Stop>
+        requires { self.old.next ≤ number }
+        ensures played { IfOk result (λ reply. Plays self.old number (SemEvent.Free s) reply self.new) }
+        ensures allowed { OnOk result (cause_of self.old.hall (SemEvent.Free s) ≡ None) }
+        ensures refused { IfErr result (λ stop. (cause_of self.old.hall (SemEvent.Free s) ≡ Some stop) × (stop ≢ Stop.NoMemory)) }
+        ensures err { OnErr result (self.new ≡ self.old) }
     {
         let Some(entry) = self.semaphores.get(&s) else {
-            unreachable!()
+            return Err(Stop::Unknown);
         };
+        entry.known()?;
         let free = entry.core.available_permits();
         self.next = number as u128 + 1;
-        Answer::Free(free as u64)
+        Ok(Answer::Free(free as u64))
     }
 
-    pub(crate) fn forget(&mut self, number: u64, s: u64, n: u64) -> Answer
-        requires next { self.old.next ≤ number }
-        requires allowed { cause_of self.old.hall (SemEvent.Forget s n) ≡ None }
-        ensures { Plays self.old number (SemEvent.Forget s n) result self.new }
-    {
-        let Some(entry) = self.semaphores.get_mut(&s) else {
-            unreachable!()
-        };
-        let forgotten = entry.forget(n as usize);
-        self.next = number as u128 + 1;
-        Answer::Forgot(forgotten as u64)
-    }
-
-    pub(crate) fn forget_exact(&mut self, number: u64, s: u64, n: u64) -> Result<Answer, Stop>
-        requires next { self.old.next ≤ number }
-        requires allowed { cause_of self.old.hall (SemEvent.Forgetx s n) ≡ None }
-        ensures played { IfOk result (λ reply. Plays self.old number (SemEvent.Forgetx s n) reply self.new) }
-        ensures memory { IfErr result (λ stop. stop ≡ Stop.NoMemory) }
+    pub(crate) fn forget(&mut self, number: u64, s: u64, n: u64) -> Result<Answer, Stop>
+        requires { self.old.next ≤ number }
+        ensures played { IfOk result (λ reply. Plays self.old number (SemEvent.Forget s n) reply self.new) }
+        ensures allowed { OnOk result (cause_of self.old.hall (SemEvent.Forget s n) ≡ None) }
+        ensures refused { IfErr result (λ stop. (cause_of self.old.hall (SemEvent.Forget s n) ≡ Some stop) × (stop ≢ Stop.NoMemory)) }
         ensures err { OnErr result (self.new ≡ self.old) }
     {
         let Some(entry) = self.semaphores.get_mut(&s) else {
-            unreachable!()
+            return Err(Stop::Unknown);
         };
+        entry.known()?;
+        let forgotten = entry.forget(n as usize);
+        self.next = number as u128 + 1;
+        Ok(Answer::Forgot(forgotten as u64))
+    }
+
+    pub(crate) fn forget_exact(&mut self, number: u64, s: u64, n: u64) -> Result<Answer, Stop>
+        requires { self.old.next ≤ number }
+        ensures played { IfOk result (λ reply. Plays self.old number (SemEvent.Forgetx s n) reply self.new) }
+        ensures allowed { OnOk result (cause_of self.old.hall (SemEvent.Forgetx s n) ≡ None) }
+        ensures refused { IfErr result (λ stop. (cause_of self.old.hall (SemEvent.Forgetx s n) ≡ Some stop)
+            ⊎ ((cause_of self.old.hall (SemEvent.Forgetx s n) ≡ None) × (stop ≡ Stop.NoMemory))) }
+        ensures err { OnErr result (self.new ≡ self.old) }
+    {
+        let Some(entry) = self.semaphores.get_mut(&s) else {
+            return Err(Stop::Unknown);
+        };
+        entry.known()?;
         entry.forget_exact(n as usize)?;
         self.next = number as u128 + 1;
         Ok(Answer::Done)
     }
 
-    pub(crate) fn release(&mut self, number: u64, s: u64, n: u64) -> Answer
-        requires next { self.old.next ≤ number }
-        requires allowed { cause_of self.old.hall (SemEvent.Release s n) ≡ None }
-        ensures { Plays self.old number (SemEvent.Release s n) result self.new }
+    pub(crate) fn release(&mut self, number: u64, s: u64, n: u64) -> Result<Answer, Stop>
+        requires { self.old.next ≤ number }
+        ensures played { IfOk result (λ reply. Plays self.old number (SemEvent.Release s n) reply self.new) }
+        ensures allowed { OnOk result (cause_of self.old.hall (SemEvent.Release s n) ≡ None) }
+        ensures refused { IfErr result (λ stop. (cause_of self.old.hall (SemEvent.Release s n) ≡ Some stop) × (stop ≢ Stop.NoMemory)) }
+        ensures err { OnErr result (self.new ≡ self.old) }
     {
         let Some(entry) = self.semaphores.get_mut(&s) else {
-            unreachable!()
+            return Err(Stop::Unknown);
         };
+        entry.has_room_for(n as usize)?;
         self.registered -= entry.release(n as usize, &mut self.outbox);
         self.next = number as u128 + 1;
-        Answer::Done
+        Ok(Answer::Done)
     }
 
     // `tryf` and `tryof`: nothing is left of the permit that could borrow the semaphore.
-    pub(crate) fn try_and_forget(&mut self, number: u64, s: u64, n: u64) -> Answer
-        requires next { self.old.next ≤ number }
-        requires allowed { cause_of self.old.hall (SemEvent.Tryf s n) ≡ None }
-        ensures { Yields self.old number (try_and_forget self.old.hall s n) result self.new }
+    pub(crate) fn try_and_forget(&mut self, number: u64, s: u64, n: u64) -> Result<Answer, Stop>
+        requires { self.old.next ≤ number }
+        ensures played { IfOk result (λ reply. Yields self.old number (try_and_forget self.old.hall s n) reply self.new) }
+        ensures allowed { OnOk result (cause_of self.old.hall (SemEvent.Tryf s n) ≡ None) }
+        ensures refused { IfErr result (λ stop. (cause_of self.old.hall (SemEvent.Tryf s n) ≡ Some stop) × (stop ≢ Stop.NoMemory)) }
+        ensures err { OnErr result (self.new ≡ self.old) }
     {
         let Some(entry) = self.semaphores.get_mut(&s) else {
-            unreachable!()
+            return Err(Stop::Unknown);
         };
+        entry.known()?;
         if !entry.offers(n as usize) {
             self.next = number as u128 + 1;
-            return Answer::No;
+            return Ok(Answer::No);
         }
         let _all = entry.forget(n as usize);
         self.next = number as u128 + 1;
-        Answer::Yes
+        Ok(Answer::Yes)
     }
 
-    pub(crate) fn end_name(&mut self, number: u64, s: u64) -> Answer
-        requires next { self.old.next ≤ number }
-        requires allowed { cause_of self.old.hall (SemEvent.Endsem s) ≡ None }
-        ensures { Plays self.old number (SemEvent.Endsem s) result self.new }
+    pub(crate) fn end_name(&mut self, number: u64, s: u64) -> Result<Answer, Stop>
+        requires { self.old.next ≤ number }
+        ensures played { IfOk result (λ reply. Plays self.old number (SemEvent.Endsem s) reply self.new) }
+        ensures allowed { OnOk result (cause_of self.old.hall (SemEvent.Endsem s) ≡ None) }
+        ensures refused { IfErr result (λ stop. (cause_of self.old.hall (SemEvent.Endsem s) ≡ Some stop) × (stop ≢ Stop.NoMemory)) }
+        ensures err { OnErr result (self.new ≡ self.old) }
     {
         let Some(entry) = self.semaphores.get_mut(&s) else {
-            unreachable!()
+            return Err(Stop::Unknown);
         };
+        entry.is_not_borrowed()?;
         entry.named = false;
         self.next = number as u128 + 1;
-        Answer::Done
+        Ok(Answer::Done)
     }
 
-    pub(crate) fn close(&mut self, number: u64, s: u64) -> Answer
-        requires next { self.old.next ≤ number }
-        requires allowed { cause_of self.old.hall (SemEvent.Close s) ≡ None }
-        ensures { Plays self.old number (SemEvent.Close s) result self.new }
+    pub(crate) fn close(&mut self, number: u64, s: u64) -> Result<Answer, Stop>
+        requires { self.old.next ≤ number }
+        ensures played { IfOk result (λ reply. Plays self.old number (SemEvent.Close s) reply self.new) }
+        ensures allowed { OnOk result (cause_of self.old.hall (SemEvent.Close s) ≡ None) }
+        ensures refused { IfErr result (λ stop. (cause_of self.old.hall (SemEvent.Close s) ≡ Some stop) × (stop ≢ Stop.NoMemory)) }
+        ensures err { OnErr result (self.new ≡ self.old) }
     {
         let Some(entry) = self.semaphores.get_mut(&s) else {
-            unreachable!()
+            return Err(Stop::Unknown);
         };
+        entry.known()?;
         self.registered -= entry.close(&mut self.outbox);
         self.next = number as u128 + 1;
-        Answer::Done
+        Ok(Answer::Done)
     }
 
-    pub(crate) fn closed(&mut self, number: u64, s: u64) -> Answer
-        requires next { self.old.next ≤ number }
-        requires allowed { cause_of self.old.hall (SemEvent.Closed s) ≡ None }
-        ensures { Plays self.old number (SemEvent.Closed s) result self.new }
+    pub(crate) fn closed(&mut self, number: u64, s: u64) -> Result<Answer, Stop>
+        requires { self.old.next ≤ number }
+        ensures played { IfOk result (λ reply. Plays self.old number (SemEvent.Closed s) reply self.new) }
+        ensures allowed { OnOk result (cause_of self.old.hall (SemEvent.Closed s) ≡ None) }
+        ensures refused { IfErr result (λ stop. (cause_of self.old.hall (SemEvent.Closed s) ≡ Some stop) × (stop ≢ Stop.NoMemory)) }
+        ensures err { OnErr result (self.new ≡ self.old) }
     {
         let Some(entry) = self.semaphores.get(&s) else {
-            unreachable!()
+            return Err(Stop::Unknown);
         };
+        entry.known()?;
         let closed = entry.core.is_closed();
         self.next = number as u128 + 1;
-        if closed { Answer::Yes } else { Answer::No }
+        Ok(if closed { Answer::Yes } else { Answer::No })
     }
 
-    pub(crate) fn ledger(&mut self, number: u64, s: u64) -> Answer
-        requires next { self.old.next ≤ number }
-        requires allowed { cause_of self.old.hall (SemEvent.Ledger s) ≡ None }
-        ensures { Plays self.old number (SemEvent.Ledger s) result self.new }
+    pub(crate) fn ledger(&mut self, number: u64, s: u64) -> Result<Answer, Stop>
+        requires { self.old.next ≤ number }
+        ensures played { IfOk result (λ reply. Plays self.old number (SemEvent.Ledger s) reply self.new) }
+        ensures allowed { OnOk result (cause_of self.old.hall (SemEvent.Ledger s) ≡ None) }
+        ensures refused { IfErr result (λ stop. (cause_of self.old.hall (SemEvent.Ledger s) ≡ Some stop) × (stop ≢ Stop.NoMemory)) }
+        ensures err { OnErr result (self.new ≡ self.old) }
     {
         let Some(entry) = self.semaphores.get(&s) else {
-            unreachable!()
+            return Err(Stop::Unknown);
         };
+        entry.known()?;
         let ledger = entry.ledger();
         self.next = number as u128 + 1;
-        Answer::Account(ledger)
+        Ok(Answer::Account(ledger))
     }
 }

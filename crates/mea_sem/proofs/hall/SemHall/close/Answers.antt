@@ -1,21 +1,20 @@
-use Rattle.std.proofs.Common.{rules, sym, ap, ◌∙◌, arith}
+use Rattle.std.proofs.Common.{refl, rules, sym, ap, ◌∙◌, arith}
 use Rattle.std.specs.Option.{option_copied_mut}
-use Rattle.mea_sem.proofs.Meets.{MeetsSemaphore}
-use Rattle.mea_sem.proofs.StandingSemaphores.{never_gone, is_quiet, wakers_room, close_few, done_closing}
+use Rattle.mea_sem.proofs.Meets.{MeetsSemaphore, on_err}
+use Rattle.mea_sem.proofs.Refusals.{unknown_gone, refuses_unknown, refuses}
+use Rattle.mea_sem.proofs.StandingSemaphores.{while_named, once_unnamed, kept_unchanged, seen_unchanged, is_quiet, wakers_room, close_few, done_closing}
 use Rattle.mea_sem.proofs.hall.SemHall.close.Goals as goal
 use Rattle.mea_sem.proofs.hall.SemHall.close.Goals.{In-Some}
 
 -- the semaphore, as it was found
 met : (c : In-Some) → MeetsSemaphore c.self.inside c.args.self.now c.args.number c.args.s c.in-Some.entry.now
 met c = record {
-  meets = record { seen = c.self.view_is; kept = c.self.invariant; least = c.requires.next; low = omega arith };
+  meets = record { seen = c.self.view_is; kept = c.self.invariant; least = c.requires; low = omega arith };
   there = sym c.get_mut.ensures.value ∙ ap option_copied_mut c.in-Some.is;
 }
 
-pub unreachable-requires : goal.unreachable-requires
-unreachable-requires c =
-    never_gone c.self.inside c.args.s _ c.self.view_is c.requires.allowed
-    (sym c.get_mut.ensures.value ∙ ap option_copied_mut c.in_default.is)
+pub returns-in_default-clause-refused : goal.returns-in_default-clause-refused
+returns-in_default-clause-refused c = refuses_unknown _ _ (unknown_gone c.self.inside c.self.view_is c.args.s _ (sym c.get_mut.ensures.value ∙ ap option_copied_mut c.in_default.is)) refl
 
 pub close-requires-clause-quiet : goal.close-requires-clause-quiet
 close-requires-clause-quiet c = is_quiet (met (goal.at.close-requires-clause-quiet c).In-Some)
@@ -26,14 +25,28 @@ close-requires-clause-room c = wakers_room (met (goal.at.close-requires-clause-r
 pub overflow_sub-self : goal.overflow_sub-self
 overflow_sub-self c = omega (arith, close_few (met (goal.at.overflow_sub-self c).In-Some), c.close.ensures.count)
 
-pub invariant_of-self : goal.invariant_of-self
-invariant_of-self c =
-    (done_closing (met (goal.at.invariant_of-self c).In-Some) _ c.close.new.self ((c.get_mut.follows.holds c.close.new.self).3 (search rules)).0
-    c.requires.allowed c.close.result c.close.new.outbox.spare c.close.new.outbox.wakers c.close.ensures.is c.close.ensures.held c.close.ensures.moved
+pub invariant_of-self-2 : goal.invariant_of-self-2
+invariant_of-self-2 c =
+    (done_closing (met (goal.at.invariant_of-self-2 c).In-Some) _ c.close.new.self ((c.get_mut.follows.holds c.close.new.self).3 (search rules)).0
+    (while_named (met (goal.at.invariant_of-self-2 c).In-Some) c.in_ok-known.ensures.known) c.close.result c.close.new.outbox.spare c.close.new.outbox.wakers c.close.ensures.is c.close.ensures.held c.close.ensures.moved
     c.close.ensures.count c.close.ensures.spare c.close.ensures.within).kept
 
-pub returns : goal.returns
-returns c =
-    (done_closing (met (goal.at.returns c).In-Some) _ c.close.new.self ((c.get_mut.follows.holds c.close.new.self).3 (search rules)).0
-    c.requires.allowed c.close.result c.close.new.outbox.spare c.close.new.outbox.wakers c.close.ensures.is c.close.ensures.held c.close.ensures.moved
+pub returns-clause-played : goal.returns-clause-played
+returns-clause-played c =
+    (done_closing (met (goal.at.returns-clause-played c).In-Some) _ c.close.new.self ((c.get_mut.follows.holds c.close.new.self).3 (search rules)).0
+    (while_named (met (goal.at.returns-clause-played c).In-Some) c.in_ok-known.ensures.known) c.close.result c.close.new.outbox.spare c.close.new.outbox.wakers c.close.ensures.is c.close.ensures.held c.close.ensures.moved
     c.close.ensures.count c.close.ensures.spare c.close.ensures.within).yields
+
+pub returns-in_err-known-clause-refused : goal.returns-in_err-known-clause-refused
+returns-in_err-known-clause-refused c = refuses c.from_residual.result _ _ c.from_residual.ensures.1 (refuses_unknown _ _ (once_unnamed (met (goal.at.returns-in_err-known-clause-refused c).In-Some) _ c.in_err-known.ensures.unknown.0) c.in_err-known.ensures.unknown.1)
+
+pub returns-in_err-known-clause-err : goal.returns-in_err-known-clause-err
+returns-in_err-known-clause-err c = on_err c.from_residual.result _ (seen_unchanged (met (goal.at.returns-in_err-known-clause-err c).In-Some) _ c.in-Some.entry.now
+    ((c.get_mut.follows.holds c.in-Some.entry.now).3 (search rules)).0 refl _ refl)
+
+pub invariant_of-self-in_err-known : goal.invariant_of-self-in_err-known
+invariant_of-self-in_err-known c = kept_unchanged (met (goal.at.invariant_of-self-in_err-known c).In-Some) _ c.in-Some.entry.now
+    ((c.get_mut.follows.holds c.in-Some.entry.now).3 (search rules)).0 refl _ c.self.invariant.room
+
+pub returns-clause-allowed : goal.returns-clause-allowed
+returns-clause-allowed c = while_named (met (goal.at.returns-clause-allowed c).In-Some) c.in_ok-known.ensures.known

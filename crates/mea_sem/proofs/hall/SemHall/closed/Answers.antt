@@ -1,4 +1,4 @@
-use Rattle.std.proofs.Common.{Bool, ◌≡◌, ◌+◌, sym, ap, subst, ◌∙◌, if◌then◌else◌, arith}
+use Rattle.std.proofs.Common.{refl, Bool, ◌≡◌, ◌+◌, sym, ap, subst, ◌∙◌, if◌then◌else◌, arith}
 use Rattle.std.specs.Option.{option_copied}
 use Rattle.mea_base.specs.declared.answer.Answer.{Answer}
 use Rattle.mea_base.specs.declared.answer.Answer.TheVariants.{Yes, No}
@@ -7,19 +7,20 @@ use Rattle.mea_sem_model.specs.Step.{step}
 use Rattle.mea_sem.specs.Store.{hall_of}
 use Rattle.mea_sem.specs.Play.{Yields}
 use Rattle.mea_sem.proofs.Meets.{MeetsSemaphore, store_in}
-use Rattle.mea_sem.proofs.StandingSemaphores.{never_gone, done_closed}
+use Rattle.mea_sem.proofs.Refusals.{unknown_gone, refuses_unknown, refuses}
+use Rattle.mea_sem.proofs.StandingSemaphores.{while_named, once_unnamed, done_closed}
 use Rattle.mea_sem.proofs.hall.SemHall.closed.Goals as goal
 use Rattle.mea_sem.proofs.hall.SemHall.closed.Goals.{In-Some, Joined-closed, then-closed, else-closed}
 
 -- the semaphore, as it was found
 met : (c : In-Some) → MeetsSemaphore c.self.inside c.args.self.now c.args.number c.args.s c.in-Some.entry.now
 met c = record {
-  meets = record { seen = c.self.view_is; kept = c.self.invariant; least = c.requires.next; low = omega arith };
+  meets = record { seen = c.self.view_is; kept = c.self.invariant; least = c.requires; low = omega arith };
   there = sym c.get.ensures.value ∙ ap option_copied c.in-Some.is;
 }
 
-pub unreachable-requires : goal.unreachable-requires
-unreachable-requires c = never_gone c.self.inside c.args.s _ c.self.view_is c.requires.allowed (sym c.get.ensures.value ∙ ap option_copied c.in_default.is)
+pub returns-in_default-clause-refused : goal.returns-in_default-clause-refused
+returns-in_default-clause-refused c = refuses_unknown _ _ (unknown_gone c.self.inside c.self.view_is c.args.s _ (sym c.get.ensures.value ∙ ap option_copied c.in_default.is)) refl
 
 pub invariant_of-self : goal.invariant_of-self
 invariant_of-self c = (done_closed (met (goal.at.invariant_of-self c).In-Some) _ c.is_closed-closed.ensures.is).kept
@@ -32,9 +33,15 @@ told c = elim c.if-closed.branch [
       ap (λ (b : Bool). if b then Yes else No) w.if-closed.false ∙ sym w.result-is
 ]
 
-pub returns : goal.returns
-returns c =
-    let m = met (goal.at.returns c).In-Some in
+pub returns-clause-played : goal.returns-clause-played
+returns-clause-played c =
+    let m = met (goal.at.returns-clause-played c).In-Some in
     subst (λ (r : Answer). Yields c.args.self.now c.args.number (step c.args.self.now.hall c.args.number (events.Closed c.args.s)) r
     (record { hall = hall_of (store_in c.self.inside) (c.args.number + 1); wakes = c.self.inside.outbox.wakers; next = c.args.number + 1 })) (told c)
     (done_closed m _ c.is_closed-closed.ensures.is).yields
+
+pub returns-in_err-known-clause-refused : goal.returns-in_err-known-clause-refused
+returns-in_err-known-clause-refused c = refuses c.from_residual.result _ _ c.from_residual.ensures.1 (refuses_unknown _ _ (once_unnamed (met (goal.at.returns-in_err-known-clause-refused c).In-Some) _ c.in_err-known.ensures.unknown.0) c.in_err-known.ensures.unknown.1)
+
+pub returns-clause-allowed : goal.returns-clause-allowed
+returns-clause-allowed c = while_named (met (goal.at.returns-clause-allowed c).In-Some) c.in_ok-known.ensures.known

@@ -1,8 +1,9 @@
-use Rattle.std.proofs.Common.{rules, sym, ap, ◌∙◌, arith}
+use Rattle.std.proofs.Common.{refl, rules, sym, ap, ◌∙◌, arith}
 use Rattle.std.specs.Option.{option_copied_mut}
-use Rattle.mea_sem.proofs.Meets.{MeetsPermit, permits_semaphore}
+use Rattle.mea_sem.proofs.Meets.{kept_as_permits, MeetsPermit, permits_semaphore}
+use Rattle.mea_sem.proofs.Refusals.{end_of_permit_known, end_unknown, refuses_unknown}
 use Rattle.mea_sem.proofs.StandingSemaphores.{is_quiet, wakers_few, wakers_fit}
-use Rattle.mea_sem.proofs.StandingPermits.{ended_found, home_found, permit_held, permit_counted, ended}
+use Rattle.mea_sem.proofs.StandingPermits.{home_found, permit_held, permit_counted, ended}
 use Rattle.mea_sem.proofs.hall.SemHall.end_permit.Goals as goal
 use Rattle.mea_sem.proofs.hall.SemHall.end_permit.Goals.{In-Some-get_mut}
 
@@ -14,13 +15,11 @@ met c = record {
   there = sym c.get_mut.ensures.value ∙ ap option_copied_mut c.in-Some-get_mut.is;
 }
 
+pub returns-in_default-clause-refused : goal.returns-in_default-clause-refused
+returns-in_default-clause-refused c = refuses_unknown _ _ (end_unknown c.self.inside c.self.view_is c.args.p c.requires.no_future (sym c.remove.ensures.value ∙ c.in_default.is)) refl
+
 pub unreachable-requires : goal.unreachable-requires
 unreachable-requires c =
-    ended_found c.self.inside c.args.p c.self.view_is c.requires.allowed c.requires.no_future
-    (sym c.remove.ensures.value ∙ c.in_default.is)
-
-pub unreachable-requires-in_default-get_mut : goal.unreachable-requires-in_default-get_mut
-unreachable-requires-in_default-get_mut c =
     home_found c.self.inside c.args.p c.self.invariant (sym c.remove.ensures.value ∙ c.in-Some.is)
     (sym c.get_mut.ensures.value ∙ ap option_copied_mut c.in_default-get_mut.is)
 
@@ -44,16 +43,22 @@ overflow_sub-self c = omega (
   c.give_back.ensures.count,
 )
 
-pub invariant_of-self : goal.invariant_of-self
-invariant_of-self c =
-    (ended (met (goal.at.invariant_of-self c).In-Some-get_mut)
-    _ _ c.give_back.result c.give_back.new.outbox.spare c.give_back.new.self c.give_back.new.outbox.wakers c.requires.allowed c.requires.no_future
+pub invariant_of-self-2 : goal.invariant_of-self-2
+invariant_of-self-2 c =
+    (ended (met (goal.at.invariant_of-self-2 c).In-Some-get_mut)
+    _ _ c.give_back.result c.give_back.new.outbox.spare c.give_back.new.self c.give_back.new.outbox.wakers (end_of_permit_known c.self.inside c.self.view_is c.args.p c.requires.no_future c.in-Some.permit (sym c.remove.ensures.value ∙ c.in-Some.is)) c.requires.no_future
     c.give_back.ensures.is c.give_back.ensures.held ((c.get_mut.follows.holds c.give_back.new.self).3 (search rules)).0 c.remove.ensures.updates.0
     c.give_back.ensures.count c.give_back.ensures.moved c.give_back.ensures.spare).kept
 
-pub returns : goal.returns
-returns c =
-    (ended (met (goal.at.returns c).In-Some-get_mut)
-    _ _ c.give_back.result c.give_back.new.outbox.spare c.give_back.new.self c.give_back.new.outbox.wakers c.requires.allowed c.requires.no_future
+pub returns-clause-played : goal.returns-clause-played
+returns-clause-played c =
+    (ended (met (goal.at.returns-clause-played c).In-Some-get_mut)
+    _ _ c.give_back.result c.give_back.new.outbox.spare c.give_back.new.self c.give_back.new.outbox.wakers (end_of_permit_known c.self.inside c.self.view_is c.args.p c.requires.no_future c.in-Some.permit (sym c.remove.ensures.value ∙ c.in-Some.is)) c.requires.no_future
     c.give_back.ensures.is c.give_back.ensures.held ((c.get_mut.follows.holds c.give_back.new.self).3 (search rules)).0 c.remove.ensures.updates.0
     c.give_back.ensures.count c.give_back.ensures.moved c.give_back.ensures.spare).yields
+
+pub returns-clause-allowed : goal.returns-clause-allowed
+returns-clause-allowed c = end_of_permit_known c.self.inside c.self.view_is c.args.p c.requires.no_future c.in-Some.permit (sym c.remove.ensures.value ∙ c.in-Some.is)
+
+pub invariant_of-self : goal.invariant_of-self
+invariant_of-self c = kept_as_permits c.self.inside c.self.invariant c.in_default.ensures.unchanged

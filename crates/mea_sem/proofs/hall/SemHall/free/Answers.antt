@@ -1,22 +1,29 @@
-use Rattle.std.proofs.Common.{sym, ap, ◌∙◌, arith}
+use Rattle.std.proofs.Common.{refl, sym, ap, ◌∙◌, arith}
 use Rattle.std.specs.Option.{option_copied}
 use Rattle.mea_sem.proofs.Meets.{MeetsSemaphore}
-use Rattle.mea_sem.proofs.StandingSemaphores.{never_gone, done_free}
+use Rattle.mea_sem.proofs.Refusals.{unknown_gone, refuses_unknown, refuses}
+use Rattle.mea_sem.proofs.StandingSemaphores.{while_named, once_unnamed, done_free}
 use Rattle.mea_sem.proofs.hall.SemHall.free.Goals as goal
 use Rattle.mea_sem.proofs.hall.SemHall.free.Goals.{In-Some}
 
 -- the semaphore, as it was found
 met : (c : In-Some) → MeetsSemaphore c.self.inside c.args.self.now c.args.number c.args.s c.in-Some.entry.now
 met c = record {
-  meets = record { seen = c.self.view_is; kept = c.self.invariant; least = c.requires.next; low = omega arith };
+  meets = record { seen = c.self.view_is; kept = c.self.invariant; least = c.requires; low = omega arith };
   there = sym c.get.ensures.value ∙ ap option_copied c.in-Some.is;
 }
 
-pub unreachable-requires : goal.unreachable-requires
-unreachable-requires c = never_gone c.self.inside c.args.s _ c.self.view_is c.requires.allowed (sym c.get.ensures.value ∙ ap option_copied c.in_default.is)
+pub returns-in_default-clause-refused : goal.returns-in_default-clause-refused
+returns-in_default-clause-refused c = refuses_unknown _ _ (unknown_gone c.self.inside c.self.view_is c.args.s _ (sym c.get.ensures.value ∙ ap option_copied c.in_default.is)) refl
 
 pub invariant_of-self : goal.invariant_of-self
 invariant_of-self c = (done_free (met (goal.at.invariant_of-self c).In-Some) _ c.available_permits-free.ensures.is).kept
 
-pub returns : goal.returns
-returns c = (done_free (met (goal.at.returns c).In-Some) _ c.available_permits-free.ensures.is).yields
+pub returns-clause-played : goal.returns-clause-played
+returns-clause-played c = (done_free (met (goal.at.returns-clause-played c).In-Some) _ c.available_permits-free.ensures.is).yields
+
+pub returns-in_err-known-clause-refused : goal.returns-in_err-known-clause-refused
+returns-in_err-known-clause-refused c = refuses c.from_residual.result _ _ c.from_residual.ensures.1 (refuses_unknown _ _ (once_unnamed (met (goal.at.returns-in_err-known-clause-refused c).In-Some) _ c.in_err-known.ensures.unknown.0) c.in_err-known.ensures.unknown.1)
+
+pub returns-clause-allowed : goal.returns-clause-allowed
+returns-clause-allowed c = while_named (met (goal.at.returns-clause-allowed c).In-Some) c.in_ok-known.ensures.known

@@ -1,23 +1,24 @@
-use Rattle.std.proofs.Common.{rules, sym, ap, ◌∙◌, arith}
+use Rattle.std.proofs.Common.{refl, rules, sym, ap, ◌∙◌, arith}
 use Rattle.std.specs.Option.{option_copied_mut}
-use Rattle.mea_sem.proofs.Meets.{MeetsPermit}
-use Rattle.mea_sem.proofs.StandingPermits.{permit_found, home_found, permit_held, permit_counted, tally_fits, lost}
+use Rattle.mea_sem.proofs.Meets.{kept_as_permits, MeetsPermit}
+use Rattle.mea_sem.proofs.Refusals.{permit_known, permit_unknown, refuses_unknown}
+use Rattle.mea_sem.proofs.StandingPermits.{home_found, permit_held, permit_counted, tally_fits, lost}
 use Rattle.mea_sem.proofs.hall.SemHall.lose.Goals as goal
 use Rattle.mea_sem.proofs.hall.SemHall.lose.Goals.{In-Some-get_mut}
 
 -- the permit and its semaphore, as they were found
 met : (c : In-Some-get_mut) → MeetsPermit c.self.inside c.args.self.now c.args.number c.args.p c.in-Some.permit c.in-Some-get_mut.entry.now
 met c = record {
-  meets = record { seen = c.self.view_is; kept = c.self.invariant; least = c.requires.next; low = omega arith };
+  meets = record { seen = c.self.view_is; kept = c.self.invariant; least = c.requires; low = omega arith };
   is = sym c.remove.ensures.value ∙ c.in-Some.is;
   there = sym c.get_mut.ensures.value ∙ ap option_copied_mut c.in-Some-get_mut.is;
 }
 
-pub unreachable-requires : goal.unreachable-requires
-unreachable-requires c = permit_found c.self.inside c.args.p c.self.view_is c.requires.allowed (sym c.remove.ensures.value ∙ c.in_default.is)
+pub returns-in_default-clause-refused : goal.returns-in_default-clause-refused
+returns-in_default-clause-refused c = refuses_unknown _ _ (permit_unknown c.self.inside c.self.view_is c.args.p (sym c.remove.ensures.value ∙ c.in_default.is)) refl
 
-pub unreachable-requires-in_default-get_mut : goal.unreachable-requires-in_default-get_mut
-unreachable-requires-in_default-get_mut c =
+pub unreachable-requires : goal.unreachable-requires
+unreachable-requires c =
     home_found c.self.inside c.args.p c.self.invariant (sym c.remove.ensures.value ∙ c.in-Some.is)
     (sym c.get_mut.ensures.value ∙ ap option_copied_mut c.in_default-get_mut.is)
 
@@ -30,12 +31,18 @@ lose-requires-clause-plain c = permit_counted (met (goal.at.lose-requires-clause
 pub lose-requires-clause-tally : goal.lose-requires-clause-tally
 lose-requires-clause-tally c = tally_fits (met (goal.at.lose-requires-clause-tally c).In-Some-get_mut)
 
-pub invariant_of-self : goal.invariant_of-self
-invariant_of-self c =
-    (lost (met (goal.at.invariant_of-self c).In-Some-get_mut) _ _ c.lose.new.self c.requires.allowed c.lose.ensures.is c.lose.ensures.held
+pub invariant_of-self-2 : goal.invariant_of-self-2
+invariant_of-self-2 c =
+    (lost (met (goal.at.invariant_of-self-2 c).In-Some-get_mut) _ _ c.lose.new.self (permit_known c.self.inside c.self.view_is c.args.p c.in-Some.permit (sym c.remove.ensures.value ∙ c.in-Some.is)) c.lose.ensures.is c.lose.ensures.held
     ((c.get_mut.follows.holds c.lose.new.self).3 (search rules)).0 c.remove.ensures.updates.0).kept
 
-pub returns : goal.returns
-returns c =
-    (lost (met (goal.at.returns c).In-Some-get_mut) _ _ c.lose.new.self c.requires.allowed c.lose.ensures.is c.lose.ensures.held
+pub returns-clause-played : goal.returns-clause-played
+returns-clause-played c =
+    (lost (met (goal.at.returns-clause-played c).In-Some-get_mut) _ _ c.lose.new.self (permit_known c.self.inside c.self.view_is c.args.p c.in-Some.permit (sym c.remove.ensures.value ∙ c.in-Some.is)) c.lose.ensures.is c.lose.ensures.held
     ((c.get_mut.follows.holds c.lose.new.self).3 (search rules)).0 c.remove.ensures.updates.0).yields
+
+pub returns-clause-allowed : goal.returns-clause-allowed
+returns-clause-allowed c = permit_known c.self.inside c.self.view_is c.args.p c.in-Some.permit (sym c.remove.ensures.value ∙ c.in-Some.is)
+
+pub invariant_of-self : goal.invariant_of-self
+invariant_of-self c = kept_as_permits c.self.inside c.self.invariant c.in_default.ensures.unchanged

@@ -1,0 +1,3 @@
+pub mod Broadcast
+pub mod Receives
+pub mod Walks
