@@ -1,6 +1,9 @@
 /// What a shell keeps of a task that waits, and calls once that task should poll again. Cores keep
 /// wakers of any type and never call them.
-pub trait Wake {
+///
+/// A waker may be dropped at any time, also while a lock is held: to drop one wakes nobody, and calls
+/// nothing of the object that it waits at.
+pub trait Wake: Drop {
     /// Tells the task to poll again.
     fn wake(self);
 }

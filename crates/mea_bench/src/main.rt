@@ -12,7 +12,7 @@ mod workload;
 
 use crate::measure::{Fault, nanoseconds_per_event};
 use crate::workload::WORKLOADS;
-use mea_hall::number_of;
+use mea_lines::number_of;
 use std::process::ExitCode;
 use std::{env, io};
 

@@ -2,7 +2,8 @@ ghost use Rattle.std.specs.Prelude.{◌≡◌, ◌≢◌, ◌+◌, ◌^◌, ◌<
 
 use crate::workload::Workload;
 use mea_base::Stop;
-use mea_hall::{Event, Hall};
+use mea_hall::Hall;
+use mea_lines::Event;
 use std::alloc::{AllocError, Global};
 use std::io;
 use std::time::{Clock, Instant};

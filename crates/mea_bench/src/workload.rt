@@ -1,6 +1,6 @@
 ghost use Rattle.std.specs.Prelude.{◌≡◌, ◌<◌, ◌^◌, OnOk, OnErr, length};
 
-use mea_hall::Event;
+use mea_lines::Event;
 use mea_lock_model::LockEvent;
 use mea_meet::MeetEvent;
 use mea_sem_model::SemEvent;

@@ -1,6 +1,9 @@
 pub mod Cores
 pub mod Entries
+pub mod BoundedCores
 pub mod MailboxParts
+pub mod BoundedParts
 pub mod BoxParts
 pub mod Lends
+pub mod BoundedLends
 pub mod Halls

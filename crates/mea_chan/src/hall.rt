@@ -2,23 +2,28 @@ ghost use Rattle.std.specs.Prelude.{◌≡◌, ◌≢◌, ◌≤◌, ◌∷◌, 
 ghost use Rattle.std.specs.FinMap as map;
 ghost use Rattle.mea_named.specs.Play.{Play, Yields};
 ghost use Rattle.mea_chan_model.specs.Mailboxes.{is_channel};
+ghost use Rattle.mea_chan_model.specs.Broadcasts.{is_broadcast};
+ghost use Rattle.mea_broadcast.specs.BroadcastLends.{StandsForBroadcast};
 ghost use Rattle.mea_chan_model.specs.Boxes.{is_box};
 ghost use Rattle.mea_chan_model.specs.ChanHall.{empty_hall, registered};
 ghost use Rattle.mea_chan_model.specs.Meaning.{step, cause_of};
 ghost use Rattle.mea_chan_model.specs.Valid.{AllValid};
 ghost use Rattle.mea_chan.specs.Cores.{of_oneshot};
 ghost use Rattle.mea_chan.specs.Lends.{StandsFor};
+ghost use Rattle.mea_chan.specs.BoundedLends.{StandsForBounded};
 ghost use Rattle.mea_chan.specs.Halls.{TakesNoMemory};
 ghost use Rattle.std.specs.Option.{option_map};
 
 use crate::kinds::Kinds;
 use mea_base::{Answer, Ready, Stop};
-use mea_chan_core::{BoxCore, OneshotCore, OptionBoxCore, UnboundedCore};
+use mea_broadcast_core::BroadcastCore;
+use mea_chan_core::{BoundedCore, BoxCore, OneshotCore, OptionBoxCore, UnboundedCore};
 use mea_chan_model::{ChanEvent, wakes_are_of_the_registered};
+use mea_named::NamedWaker;
 use std::alloc::Global;
 use std::marker::Model;
 
-/// Many channels for one receiver with their senders and receivers, and many boxes, each by the number of the event that
+/// Many channels with their senders and receivers, and many boxes, each by the number of the event that
 /// made it.
 ///
 /// Each channel and each box is a core of its own. Each event costs a look-up by name and the wakers that it makes ready.
@@ -40,12 +45,14 @@ impl Model for ChanHall {
     ghost use Rattle.std.specs.Prelude.{◌≡◌, ◌≤◌};
     ghost use Rattle.mea_chan.specs.Halls.{hall_of};
 
-    ghost view = { λ a. record { hall = hall_of a.kinds.unbounded a.kinds.oneshots a.kinds.boxes a.kinds.option_boxes; wakes = a.ready.wakers; next = a.next } };
+    ghost view = { λ a. record { hall = hall_of a.kinds.unbounded a.kinds.oneshots a.kinds.bounded a.kinds.broadcasts a.kinds.boxes a.kinds.option_boxes; wakes = a.ready.wakers; next = a.next } };
 
     ghost invariant = { λ a. record {
       unbounded : a.kinds.unbounded.next ≤ a.next;
       oneshots : a.kinds.oneshots.next ≤ a.next;
-      counted : a.ready.registered ≡ model.registered (hall_of a.kinds.unbounded a.kinds.oneshots a.kinds.boxes a.kinds.option_boxes);
+      bounded : a.kinds.bounded.next ≤ a.next;
+      broadcasts : a.kinds.broadcasts.next ≤ a.next;
+      counted : a.ready.registered ≡ model.registered (hall_of a.kinds.unbounded a.kinds.oneshots a.kinds.bounded a.kinds.broadcasts a.kinds.boxes a.kinds.option_boxes);
       few : a.ready.registered ≤ a.next;
     } };
 }
@@ -85,7 +92,26 @@ impl ChanHall {
     {
         self.kinds.unbounded.are_valid();
         self.kinds.oneshots.are_valid();
+        self.kinds.bounded.are_valid();
         self.ready.registered()
+    }
+
+    /// The core of the bounded channel of this name, while a sender or the receiver lives; its wakers have the names of
+    /// the sends and receivers. It takes no memory.
+    pub fn bounded(&self, name: u64) -> Option<&BoundedCore<u64, NamedWaker>>
+        ensures there { is_some result ≡ is_channel self.now.hall.bounded.mail name }
+        ensures stands { IfSome result (λ core. StandsForBounded self.now.hall.bounded name core.now) }
+    {
+        self.kinds.bounded.core(name)
+    }
+
+    /// The core of the broadcast channel of this name, while a sender or a receiver lives; its wakers have the names of the
+    /// futures. It takes no memory.
+    pub fn broadcast(&self, name: u64) -> Option<&BroadcastCore<u64, NamedWaker>>
+        ensures there { is_some result ≡ is_broadcast self.now.hall.broadcasts name }
+        ensures stands { IfSome result (λ core. StandsForBroadcast self.now.hall.broadcasts name core.now) }
+    {
+        self.kinds.broadcasts.core(name)
     }
 
     /// The core of the unbounded channel of this name, while a sender or the receiver lives. It takes no memory.
@@ -148,6 +174,7 @@ impl ChanHall {
         };
         self.kinds.unbounded.are_valid();
         self.kinds.oneshots.are_valid();
+        self.kinds.bounded.are_valid();
         self.next = number as u128 + 1;
         Ok(answer)
     }

@@ -1,13 +1,18 @@
 ghost use Rattle.std.specs.Prelude.{◌≡◌, ◌≤◌, OnErr, IfOk, None, Some, if◌then◌else◌};
 ghost use Rattle.mea_base.specs.Causes.{unknown_unless};
 ghost use Rattle.mea_chan_model.specs.Mailboxes.{registered};
+ghost use Rattle.mea_chan_model.specs.Bounded as bounded;
+ghost use Rattle.mea_chan_model.specs.Broadcasts as broadcasts;
+ghost use Rattle.mea_chan_model.specs.BroadcastActions.{broadcast_cause, Open};
 ghost use Rattle.mea_chan_model.specs.ChanHall.{empty_hall};
 ghost use Rattle.mea_chan_model.specs.Meaning.{cause_of};
 ghost use Rattle.mea_chan.specs.Halls.{hall_of, PlaysKinds, TakesNoMemory};
 
+use crate::bounded_part::BoundedPart;
 use crate::box_part::BoxPart;
 use crate::mailbox_part::MailboxPart;
 use mea_base::{Answer, NoMemory, Ready, Stop};
+use mea_broadcast::BroadcastPart;
 use mea_chan_core::{BoxCore, OneshotCore, OptionBoxCore, UnboundedCore};
 use mea_chan_model::ChanEvent;
 use std::alloc::Global;
@@ -18,6 +23,8 @@ pub struct Kinds {
     pub alloc: Global,
     pub unbounded: MailboxPart<UnboundedCore<u64, u64>>,
     pub oneshots: MailboxPart<OneshotCore<u64, u64>>,
+    pub bounded: BoundedPart,
+    pub broadcasts: BroadcastPart,
     pub boxes: BoxPart<BoxCore<u64>>,
     pub option_boxes: BoxPart<OptionBoxCore<u64>>,
 }
@@ -25,14 +32,18 @@ pub struct Kinds {
 impl Kinds {
     /// Nothing. It takes no memory.
     pub fn new(alloc: Global) -> Self
-        ensures hall { hall_of result.unbounded result.oneshots result.boxes result.option_boxes ≡ empty_hall }
+        ensures hall { hall_of result.unbounded result.oneshots result.bounded result.broadcasts result.boxes result.option_boxes ≡ empty_hall }
         ensures unbounded { result.unbounded.next ≡ 0 }
         ensures oneshots { result.oneshots.next ≡ 0 }
+        ensures bounded { result.bounded.next ≡ 0 }
+        ensures broadcasts { result.broadcasts.next ≡ 0 }
     {
         Kinds {
             alloc,
             unbounded: MailboxPart::new(alloc),
             oneshots: MailboxPart::new(alloc),
+            bounded: BoundedPart::new(alloc),
+            broadcasts: BroadcastPart::new(alloc),
             boxes: BoxPart::new(alloc),
             option_boxes: BoxPart::new(alloc),
         }
@@ -40,9 +51,34 @@ impl Kinds {
 
     /// Why an event would be refused; None where it would not.
     pub fn cause(&self, event: &ChanEvent) -> Option<Stop>
-        ensures { result ≡ cause_of (hall_of self.now.unbounded self.now.oneshots self.now.boxes self.now.option_boxes) event.now }
+        ensures { result ≡ cause_of (hall_of self.now.unbounded self.now.oneshots self.now.bounded self.now.broadcasts self.now.boxes self.now.option_boxes) event.now }
     {
         match *event {
+            ChanEvent::MbNew(n) => zero_if(n == 0),
+            ChanEvent::MbCopy(s) => self.bounded.cause_of_copy(s),
+            ChanEvent::MbTry(s, _) | ChanEvent::MbSend(s, _) => unknown_unless(
+                self.bounded.is_sender(s),
+            ),
+            ChanEvent::MbPoll(f, _) | ChanEvent::MbEnd(f) => unknown_unless(
+                self.bounded.is_send(f),
+            ),
+            ChanEvent::MbTryr(r) | ChanEvent::MbRecv(r, _) | ChanEvent::MbEndr(r) => unknown_unless(
+                self.bounded.is_receiver(r),
+            ),
+            ChanEvent::MbEnds(s) => self.bounded.cause_of_end(s),
+            ChanEvent::BcNew(n) => size_cause(n),
+            ChanEvent::BcCopys(s) => self.broadcasts.cause_of_copy(s),
+            ChanEvent::BcSend(s, _) => self.broadcasts.cause_of_send(s),
+            ChanEvent::BcSub(s) | ChanEvent::BcEnds(s) => unknown_unless(
+                self.broadcasts.is_sender(s),
+            ),
+            ChanEvent::BcResub(r) | ChanEvent::BcCopyr(r) => self.broadcasts.cause_of_use(r),
+            ChanEvent::BcTry(r) | ChanEvent::BcRecv(r) | ChanEvent::BcEndr(r) => self
+                .broadcasts
+                .cause_of_use(r),
+            ChanEvent::BcPoll(f, _) | ChanEvent::BcEnd(f) => unknown_unless(
+                self.broadcasts.is_future(f),
+            ),
             ChanEvent::MuNew | ChanEvent::OsNew => None,
             ChanEvent::MuCopy(s) => self.unbounded.cause_of_copy(s),
             ChanEvent::MuSend(s, _) | ChanEvent::MuEnds(s) => unknown_unless(
@@ -82,7 +118,7 @@ impl Kinds {
     }
 
     /// Plays an event that has no cause for refusal. On an error nothing has changed.
-    #[tactic(auto, using(crate::proofs::Playing::yield_rests))]
+    #[tactic(auto, using(crate::proofs::Playing::yield_rests, crate::proofs::Playing::broadcast_rests))]
     pub fn play(
         &mut self,
         number: u64,
@@ -91,14 +127,40 @@ impl Kinds {
     ) -> Result<Answer, NoMemory>
         requires unbounded { self.old.unbounded.next ≤ number }
         requires oneshots { self.old.oneshots.next ≤ number }
+        requires bounded { self.old.bounded.next ≤ number }
+        requires broadcasts { self.old.broadcasts.next ≤ number }
         requires unbounded_room { registered self.old.unbounded.hall ≤ ready.old.registered }
         requires oneshot_room { registered self.old.oneshots.hall ≤ ready.old.registered }
-        requires allowed { cause_of (hall_of self.old.unbounded self.old.oneshots self.old.boxes self.old.option_boxes) event.now ≡ None }
-        ensures played { IfOk result (λ answer. PlaysKinds event.now self.old.unbounded self.old.oneshots self.old.boxes self.old.option_boxes number answer self.new.unbounded self.new.oneshots self.new.boxes self.new.option_boxes ready.old ready.new) }
+        requires bounded_room { bounded.registered self.old.bounded.hall ≤ ready.old.registered }
+        requires broadcast_room { broadcasts.registered self.old.broadcasts.hall ≤ ready.old.registered }
+        requires allowed { cause_of (hall_of self.old.unbounded self.old.oneshots self.old.bounded self.old.broadcasts self.old.boxes self.old.option_boxes) event.now ≡ None }
+        ensures played { IfOk result (λ answer. PlaysKinds event.now self.old.unbounded self.old.oneshots self.old.bounded self.old.broadcasts self.old.boxes self.old.option_boxes number answer self.new.unbounded self.new.oneshots self.new.bounded self.new.broadcasts self.new.boxes self.new.option_boxes ready.old ready.new) }
         ensures no_memory { TakesNoMemory event.now → OnErr result ⊥ }
-        ensures err { OnErr result ((self.new.unbounded ≡ self.old.unbounded) × (self.new.oneshots ≡ self.old.oneshots) × (self.new.boxes ≡ self.old.boxes) × (self.new.option_boxes ≡ self.old.option_boxes) × (ready.new ≡ ready.old)) }
+        ensures err { OnErr result ((self.new.unbounded ≡ self.old.unbounded) × (self.new.oneshots ≡ self.old.oneshots) × (self.new.bounded ≡ self.old.bounded) × (self.new.broadcasts ≡ self.old.broadcasts) × (self.new.boxes ≡ self.old.boxes) × (self.new.option_boxes ≡ self.old.option_boxes) × (ready.new ≡ ready.old)) }
     {
         match *event {
+            ChanEvent::MbNew(n) => self.bounded.make(number, self.alloc, n, ready),
+            ChanEvent::MbCopy(s) => self.bounded.copy(number, s, ready),
+            ChanEvent::MbTry(s, v) => Ok(self.bounded.try_send(number, s, v, ready)),
+            ChanEvent::MbSend(s, v) => self.bounded.begin(number, s, v, ready),
+            ChanEvent::MbPoll(f, waker) => self.bounded.poll(number, f, waker, ready),
+            ChanEvent::MbEnd(f) => Ok(self.bounded.end_send(number, f, ready)),
+            ChanEvent::MbTryr(r) => Ok(self.bounded.receive(number, r, ready)),
+            ChanEvent::MbRecv(r, waker) => self.bounded.poll_receive(number, r, waker, ready),
+            ChanEvent::MbEnds(s) => Ok(self.bounded.end_sender(number, s, ready)),
+            ChanEvent::MbEndr(r) => Ok(self.bounded.end_receiver(number, r, ready)),
+            ChanEvent::BcNew(n) => self.broadcasts.make(number, self.alloc, n),
+            ChanEvent::BcCopys(s) => self.broadcasts.copy_sender(number, s),
+            ChanEvent::BcSend(s, v) => Ok(self.broadcasts.send(number, s, v, ready)),
+            ChanEvent::BcSub(s) => self.broadcasts.subscribe(number, s),
+            ChanEvent::BcResub(r) => self.broadcasts.resubscribe(number, r),
+            ChanEvent::BcCopyr(r) => self.broadcasts.copy_receiver(number, r),
+            ChanEvent::BcTry(r) => self.broadcasts.hear(number, r),
+            ChanEvent::BcRecv(r) => self.broadcasts.begin(number, r),
+            ChanEvent::BcPoll(f, waker) => self.broadcasts.poll(number, f, waker, ready),
+            ChanEvent::BcEnd(f) => Ok(self.broadcasts.end_future(number, f)),
+            ChanEvent::BcEndr(r) => Ok(self.broadcasts.end_receiver(number, r)),
+            ChanEvent::BcEnds(s) => Ok(self.broadcasts.end_sender(number, s, ready)),
             ChanEvent::MuNew => self
                 .unbounded
                 .make(number, UnboundedCore::new(self.alloc), true),
@@ -143,4 +205,24 @@ fn unknown_unless(known: bool) -> Option<Stop>
     ensures { result ≡ unknown_unless known }
 {
     if known { None } else { Some(Stop::Unknown) }
+}
+
+// Zero, where it is.
+fn zero_if(zero: bool) -> Option<Stop>
+    ensures { result ≡ (if zero then Some Stop.Zero else None) }
+{
+    if zero { Some(Stop::Zero) } else { None }
+}
+
+// Why a ring of this size is refused.
+fn size_cause(size: u64) -> Option<Stop>
+    ensures { result ≡ broadcast_cause broadcasts.no_broadcasts (Open size) }
+{
+    if size == 0 {
+        Some(Stop::Zero)
+    } else if size > 1 << 63 {
+        Some(Stop::Overflow)
+    } else {
+        None
+    }
 }

@@ -1,8 +1,10 @@
-//! The hall of channels for one receiver and of boxes: many of them by name, with their senders and receivers, over the
-//! cores of `mea_chan_core`. It is proved against the model of `mea_chan_model`, and knows the cores by their contracts
+//! The hall of channels and of boxes: many of them by name, with their senders and receivers, over the cores of
+//! `mea_chan_core` and `mea_broadcast_core`. It is proved against the model of `mea_chan_model`, and knows the cores by their contracts
 //! alone.
 #![tactic(auto)]
 
+mod bounded_calls;
+mod bounded_part;
 mod box_core;
 mod box_part;
 mod channel_entry;
@@ -12,6 +14,8 @@ mod mailbox_core;
 mod mailbox_part;
 mod oneshots;
 mod receiver_entry;
+mod send_entry;
+mod sender_entry;
 mod unbounded;
 
 pub use hall::ChanHall;

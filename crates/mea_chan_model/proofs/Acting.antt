@@ -48,7 +48,7 @@ abbrev pub after : Names Mailbox → ℕ → Option Mailbox → Names Mailbox
 after cs o None = remove cs o
 after cs o (Some c) = insert cs o c
 
-left_is : (cs : Names Mailbox) (o : ℕ) (c : Mailbox) → tidied_channels cs o c ≡ after cs o (left c)
+pub left_is : (cs : Names Mailbox) (o : ℕ) (c : Mailbox) → tidied_channels cs o c ≡ after cs o (left c)
 left_is cs o c = at (is_over c)
   where
     at : (b : Bool) → (if b then remove cs o else insert cs o c) ≡ after cs o (if b then None else Some c)

@@ -1,2 +1,11 @@
 pub mod Acting
+pub mod BoundedActing
 pub mod Wakers
+pub mod Messages
+pub mod SendLines
+pub mod MailKeeps
+pub mod Enough
+pub mod EnoughEvents
+pub mod OneBroadcast
+pub mod BroadcastActing
+pub mod BroadcastWakes

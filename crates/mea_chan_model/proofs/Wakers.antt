@@ -1,5 +1,5 @@
 -- the laws of the family
-use Rattle.std.proofs.Common.{◌≡◌, ℕ, ◌+◌, ◌<◌, ◌≤◌, ◌==◌, ◌⊎◌, inl, inr, Bool, true, false, cond, List, [], ◌∷◌, length, Option, Some, None, refl, ap, sym, subst, ◌∙◌, arith}
+use Rattle.std.proofs.Common.{◌≡◌, ℕ, ◌+◌, ◌<◌, ◌≤◌, ◌==◌, ◌⊎◌, inl, inr, Bool, true, false, cond, List, [], ◌∷◌, length, Option, Some, None, if◌then◌else◌, refl, ap, sym, subst, ◌∙◌, arith}
 use Rattle.std.specs.Option.{IsSome, is_some}
 use Rattle.std.specs.List.{Contains}
 use Rattle.std.specs.FinMap.{get, insert, remove}
@@ -7,7 +7,7 @@ use Rattle.std.proofs.lemmas.Bool.{eqb-true}
 use Rattle.std.proofs.lemmas.Bool.Decides.{nat_tests}
 use Rattle.std.proofs.lemmas.Option.{cond_some}
 use Rattle.mea_base.specs.declared.answer.Answer.TheVariants as answers
-use Rattle.mea_base.specs.Family.{Outcome, Runs, Starts, Goes as GoesOn, RunOf, KeepsWakers, NamesFutures, LosesNoWake}
+use Rattle.mea_base.specs.Family.{Outcome, quietly, Runs, Starts, Goes as GoesOn, RunOf, KeepsWakers, NamesFutures, LosesNoWake}
 use Rattle.mea_base.specs.Totals.{total, weight}
 use Rattle.mea_base.proofs.Maps.{by_put, nothing_at, is_there, inside, get-there, get-other, get-gone, get-removed_other, removed_there, value_in, total-has}
 use Rattle.mea_base.proofs.Tests.{known, by_name}
@@ -15,31 +15,50 @@ use Rattle.mea_base.proofs.Totals.{total-insert, total-remove}
 use Rattle.mea_base.proofs.Wakes.{loses_no_wake}
 use Rattle.mea_named.specs.ByName.{Names}
 use Rattle.mea_named.specs.Play.{found}
+use Rattle.mea_named.specs.NamedQueue as named_queue
+use Rattle.mea_named.specs.NamedQueue.{waits}
+use Rattle.mea_named.specs.LackingQueue.{who, leaving}
+use Rattle.mea_named.proofs.NamedQueues.{local_without}
+use Rattle.mea_named.proofs.LackingQueues.{who-leaving}
+use Rattle.mea_named.proofs.OneObject.{counted_same, counted_put, counted_made}
+use Rattle.mea_base.specs.Queue.{lacks}
+use Rattle.std.proofs.lemmas.List.{length-append}
 use Rattle.mea_named.proofs.Cases.{by_found, by_if, if_false}
 use Rattle.mea_chan_model.specs.declared.event.ChanEvent.{ChanEvent}
 use Rattle.mea_chan_model.specs.Mailboxes as mailboxes
-use Rattle.mea_chan_model.specs.Mailboxes.{Mailbox, Mailboxes, Receiver, new_mailbox, is_receiver, polls_as, kept, waker_in, placed_of}
+use Rattle.mea_chan_model.specs.Mailboxes.{Mailbox, Mailboxes, Receiver, new_mailbox, is_channel, is_receiver, polls_as, kept, waker_in, placed_of}
 use Rattle.mea_chan_model.specs.MailboxActions.{Action, Make, Copy, Send, SendLast, EndSender, Receive, Poll, EndReceiver, Turn, TellClosed, TellOver, TellMessage, act_in, registers_in, polled_in, ends_in, cause_in}
 use Rattle.mea_chan_model.specs.Boxes.{Boxes, BoxAction, MakeBox, Swap, Store, Tell, TakeOut, DropBox, box_act}
-use Rattle.mea_chan_model.specs.ChanHall.{ChanHall, Kind, Unbounded, Oneshots, BoxKind, Full, Optional, empty_hall, part, with_part, with_boxes, boxes_of, registered}
-use Rattle.mea_chan_model.specs.Meaning.{Meaning, OfChannels, OfBoxes, meaning_of, cause_by, step_by, step, registers, registers_by}
-use Rattle.mea_chan_model.specs.ChanFamily.{Future, chans_family, polled_at, polled_by, ends_at, ends_by}
+use Rattle.mea_chan_model.specs.ChanHall.{ChanHall, Kind, Unbounded, Oneshots, ReceiverKind, ReceiverOf, ReceiverOfBounded, BoxKind, Full, Optional, empty_hall, part, with_part, mail, with_boxes, boxes_of, registered}
+use Rattle.mea_chan_model.specs.Meaning.{Meaning, OfChannels, OfBounded, OfBroadcasts, OfBoxes, meaning_of, cause_by, step_by, step, registers, registers_by}
+use Rattle.mea_chan_model.specs.ChanFamily.{Future, Receives, Hears, chans_family, polled_at, polled_at_bounded, receiver_polled_by, hearing_polled_by, polled, ends_at, ends_at_bounded, receiver_ended_by, hearing_ended_by, ends, name, lives, placed}
+use Rattle.mea_chan_model.specs.Broadcasts as broadcasts
+use Rattle.mea_chan_model.specs.Broadcasts.{Broadcasts}
+use Rattle.mea_chan_model.specs.BroadcastActions.{BroadcastAction, broadcast_act}
+use Rattle.mea_chan_model.specs.BroadcastValid.{AreKept}
+use Rattle.mea_chan_model.proofs.BroadcastActing.{rests}
+use Rattle.mea_chan_model.proofs.BroadcastWakes.{none_kept, kept_after, broadcast_counts, hearing_there, hearing_stays, hearing_kept, hearing_made, hearing_gone, hearing_below, hearing_placed, hearing_waits}
+use Rattle.mea_chan_model.specs.Bounded as bounded
+use Rattle.mea_chan_model.specs.Bounded.{Bounded, Room, BoundedSend, waiting_at, woken_at, is_full, is_got, granted, woken_by_grant, all_granted, all_woken, joined, left_by}
+use Rattle.mea_chan_model.specs.MailboxActions as actions
+use Rattle.mea_chan_model.specs.BoundedActions.{BoundedAction, MakeRoom, CopySender, TrySend, BeginSend, PollSend, EndSend, TryReceive, PollReceive, DropSender, DropReceiver, bounded_cause, bounded_act, bounded_polled, bounded_registers}
+use Rattle.mea_chan_model.proofs.BoundedActing.{goes_as, poll_hall, poll_reply, Rooms, at_room_counted, no_wake, joined_local, left_local, granted_local, tidied_counted}
 use Rattle.mea_chan_model.proofs.Acting.{Awake, after, ChannelsGo, Same, At, Made, ReceiversGo, Stay, Come, Change, Leave, Touches, Fresh, Polled, Ends, goes}
 
 -- ---- the channels of one kind
 
 -- names stay below the next number, no channel has two receivers, and while a waker is kept there is nothing to receive
-record Low (h : Mailboxes) (n : ℕ) : Type 0 where
-  lows : (o : ℕ) (c : Mailbox) → get h.channels o ≡ Some c → o < n
+pub record Low (h : Mailboxes) (n : ℕ) : Type 0 where
+  pub lows : (o : ℕ) (c : Mailbox) → get h.channels o ≡ Some c → o < n
   below : (r : ℕ) (x : Receiver) → get h.receivers r ≡ Some x → (r < n) × (x.channel < n)
   one : (r q : ℕ) (x y : Receiver) → get h.receivers r ≡ Some x → get h.receivers q ≡ Some y → x.channel ≡ y.channel → r ≡ q
   awake : (o : ℕ) (c : Mailbox) → get h.channels o ≡ Some c → Awake c
 
-after-there : (cs : Names Mailbox) (o : ℕ) (c : Option Mailbox) → get (after cs o c) o ≡ c
+pub after-there : (cs : Names Mailbox) (o : ℕ) (c : Option Mailbox) → get (after cs o c) o ≡ c
 after-there cs o None = get-gone cs o
 after-there cs o (Some c) = get-there cs o c
 
-after-other : (cs : Names Mailbox) (o q : ℕ) (c : Option Mailbox) → (o ≡ q → ⊥) → get (after cs o c) q ≡ get cs q
+pub after-other : (cs : Names Mailbox) (o q : ℕ) (c : Option Mailbox) → (o ≡ q → ⊥) → get (after cs o c) q ≡ get cs q
 after-other cs o q None apart = get-removed_other cs o q apart
 after-other cs o q (Some c) apart = get-other cs o q c apart
 
@@ -213,32 +232,70 @@ receiver_there (Some x) polls is = refl
 
 -- ---- the channels of all kinds
 -- what is done to one kind is seen at that kind, and every other kind is as it was
-by_kinds : (P : Kind → Kind → Type 0) → ((k : Kind) → P k k) → P Unbounded Oneshots → P Oneshots Unbounded → (k j : Kind) → P k j
-by_kinds P same first second Unbounded Unbounded = same Unbounded
-by_kinds P same first second Unbounded Oneshots = first
-by_kinds P same first second Oneshots Unbounded = second
-by_kinds P same first second Oneshots Oneshots = same Oneshots
+pub by_kinds : (P : Kind → ReceiverKind → Type 0) → ((k : Kind) → P k (ReceiverOf k)) → P Unbounded (ReceiverOf Oneshots) → P Oneshots (ReceiverOf Unbounded) → P Unbounded ReceiverOfBounded → P Oneshots ReceiverOfBounded → (k : Kind) (j : ReceiverKind) → P k j
+by_kinds P same first second third fourth Unbounded (ReceiverOf Unbounded) = same Unbounded
+by_kinds P same first second third fourth Unbounded (ReceiverOf Oneshots) = first
+by_kinds P same first second third fourth Oneshots (ReceiverOf Unbounded) = second
+by_kinds P same first second third fourth Oneshots (ReceiverOf Oneshots) = same Oneshots
+by_kinds P same first second third fourth Unbounded ReceiverOfBounded = third
+by_kinds P same first second third fourth Oneshots ReceiverOfBounded = fourth
 
-there : (h : ChanHall) (k : Kind) (p : Mailboxes) → part (with_part h k p) k ≡ p
+pub there : (h : ChanHall) (k : Kind) (p : Mailboxes) → part (with_part h k p) k ≡ p
 there h Unbounded p = refl
 there h Oneshots p = refl
 
-beside : (h : ChanHall) (b : BoxKind) (i : ℕ) (a : BoxAction) (j : Kind) → part (with_boxes h b (box_act (boxes_of h b) i a).hall) j ≡ part h j
-beside h Full i a Unbounded = refl
-beside h Full i a Oneshots = refl
-beside h Optional i a Unbounded = refl
-beside h Optional i a Oneshots = refl
+pub beside : (h : ChanHall) (b : BoxKind) (i : ℕ) (a : BoxAction) (j : ReceiverKind) → mail (with_boxes h b (box_act (boxes_of h b) i a).hall) j ≡ mail h j
+beside h Full i a (ReceiverOf Unbounded) = refl
+beside h Full i a (ReceiverOf Oneshots) = refl
+beside h Full i a ReceiverOfBounded = refl
+beside h Optional i a (ReceiverOf Unbounded) = refl
+beside h Optional i a (ReceiverOf Oneshots) = refl
+beside h Optional i a ReceiverOfBounded = refl
 
-polled-there : (k : Kind) (a : Action) (f : ℕ) → polled_at k k a f ≡ polled_in a f
+-- what is done to bounded channels leaves those of the kinds as they are
+pub beside_bounded : (h : ChanHall) (b : Bounded) (k : Kind) → part (record h { bounded = b }) k ≡ part h k
+beside_bounded h b Unbounded = refl
+beside_bounded h b Oneshots = refl
+
+-- and so does what is done to broadcast channels
+pub beside_broadcasts : (h : ChanHall) (b : Broadcasts) (j : ReceiverKind) → mail (record h { broadcasts = b }) j ≡ mail h j
+beside_broadcasts h b (ReceiverOf Unbounded) = refl
+beside_broadcasts h b (ReceiverOf Oneshots) = refl
+beside_broadcasts h b ReceiverOfBounded = refl
+
+polled-there : (k : Kind) (a : Action) (f : ℕ) → polled_at k (ReceiverOf k) a f ≡ polled_in a f
 polled-there Unbounded a f = refl
 polled-there Oneshots a f = refl
 
-ends-there : (k : Kind) (a : Action) (f : ℕ) → ends_at k k a f ≡ ends_in a f
+ends-there : (k : Kind) (a : Action) (f : ℕ) → ends_at k (ReceiverOf k) a f ≡ ends_in a f
 ends-there Unbounded a f = refl
 ends-there Oneshots a f = refl
 
 abbrev Lows : ChanHall → ℕ → Type 0
-Lows h n = (k : Kind) → Low (part h k) n
+Lows h n = (k : ReceiverKind) → Low (mail h k) n
+
+-- a poll of a receiver
+at_poll : (f w : ℕ) (P : BoundedAction → Type 0) → ((v : ℕ) → v ≡ w → P (PollReceive f v)) → (a : BoundedAction) → bounded_polled a f ≡ Some w → P a
+at_poll f w P here (PollReceive q v) is = let test = cond_some (q == f) v w is in subst (λ j. P (PollReceive j v)) (sym (eqb-true q f test.0)) (here v test.1)
+at_poll f w P here (MakeRoom k) is = absurd (cc)
+at_poll f w P here (CopySender s) is = absurd (cc)
+at_poll f w P here (TrySend s v) is = absurd (cc)
+at_poll f w P here (BeginSend s v) is = absurd (cc)
+at_poll f w P here (PollSend g v) is = absurd (cc)
+at_poll f w P here (EndSend g) is = absurd (cc)
+at_poll f w P here (TryReceive r) is = absurd (cc)
+at_poll f w P here (DropSender s) is = absurd (cc)
+at_poll f w P here (DropReceiver r) is = absurd (cc)
+
+wait_bounded : (h : ChanHall) (n i : ℕ) → Lows h n → (b : BoundedAction) (f w v : ℕ) (j : ReceiverKind) → mailboxes.placed (mail h j) f ≡ Some w → polled_at_bounded j b f ≡ Some v → (bounded_act h.bounded i b).reply ≡ answers.Pending
+wait_bounded h n i lows b f w v (ReceiverOf k) placed is = absurd (cc)
+wait_bounded h n i lows b f w v ReceiverOfBounded placed is = at_poll f v (λ b. (bounded_act h.bounded i b).reply ≡ answers.Pending)
+    (λ u same. poll_reply h.bounded i f u ∙ waits_poll h.bounded.mail n i (lows ReceiverOfBounded) f w u placed) b is
+
+live_bounded : (h : ChanHall) (b : BoundedAction) (f w : ℕ) (j : ReceiverKind) → bounded_cause h.bounded b ≡ None → polled_at_bounded j b f ≡ Some w → mailboxes.is_there (mail h j) f ≡ true
+live_bounded h b f w (ReceiverOf k) none is = absurd (cc)
+live_bounded h b f w ReceiverOfBounded none is = at_poll f w (λ b. bounded_cause h.bounded b ≡ None → mailboxes.is_there h.bounded.mail f ≡ true)
+    (λ v same none. receiver_there (get h.bounded.mail.receivers f) true (known (is_receiver h.bounded.mail f true) none)) b is none
 
 module _ (h : ChanHall) (i : ℕ) where
   module _ (a : Action) where
@@ -246,60 +303,104 @@ module _ (h : ChanHall) (i : ℕ) where
     abbrev acted : Kind → ChanHall
     acted k = with_part h k (act_in (part h k) i a).hall
 
-    lows_acted : (n : ℕ) → Lows h n → n ≤ i → (k j : Kind) → Low (part (acted k) j) (i + 1)
-    lows_acted n lows later = by_kinds (λ k j. Low (part (acted k) j) (i + 1))
-        (λ k. rw there (low_after (part h k) n i (lows k) later a)) (low_later h.oneshots n i (lows Oneshots) later) (low_later h.unbounded n i (lows Unbounded) later)
+    lows_acted : (n : ℕ) → Lows h n → n ≤ i → (k : Kind) (j : ReceiverKind) → Low (mail (acted k) j) (i + 1)
+    lows_acted n lows later = by_kinds (λ k j. Low (mail (acted k) j) (i + 1))
+        (λ k. rw there (low_after (part h k) n i (lows (ReceiverOf k)) later a)) (low_later h.oneshots n i (lows (ReceiverOf Oneshots)) later) (low_later h.unbounded n i (lows (ReceiverOf Unbounded)) later) (low_later h.bounded.mail n i (lows ReceiverOfBounded) later) (low_later h.bounded.mail n i (lows ReceiverOfBounded) later)
 
     -- whom an action polls or ends is of its kind
-    polled_place : (f w : ℕ) → (k j : Kind) → polled_at k j a f ≡ Some w → (act_in (part h k) i a).reply ≡ answers.Pending → mailboxes.placed (part (acted k) j) f ≡ Some w
-    polled_place f w = by_kinds (λ k j. polled_at k j a f ≡ Some w → (act_in (part h k) i a).reply ≡ answers.Pending → mailboxes.placed (part (acted k) j) f ≡ Some w)
+    polled_place : (f w : ℕ) → (k : Kind) (j : ReceiverKind) → polled_at k j a f ≡ Some w → (act_in (part h k) i a).reply ≡ answers.Pending → mailboxes.placed (mail (acted k) j) f ≡ Some w
+    polled_place f w = by_kinds (λ k j. polled_at k j a f ≡ Some w → (act_in (part h k) i a).reply ≡ answers.Pending → mailboxes.placed (mail (acted k) j) f ≡ Some w)
         (λ k is. rw there (same_poll a f w (λ a. (act_in (part h k) i a).reply ≡ answers.Pending → mailboxes.placed (act_in (part h k) i a).hall f ≡ Some w)
         (λ v same pending. places_poll (part h k) i f v pending ∙ ap (λ u. Some u) same) (sym (polled-there k a f) ∙ is)))
-        (λ is. absurd (cc)) (λ is. absurd (cc))
+        (λ is. absurd (cc)) (λ is. absurd (cc)) (λ is. absurd (cc)) (λ is. absurd (cc))
 
-    polled_waits : (n : ℕ) → Lows h n → (f w v : ℕ) → (k j : Kind) → mailboxes.placed (part h j) f ≡ Some w → polled_at k j a f ≡ Some v → (act_in (part h k) i a).reply ≡ answers.Pending
-    polled_waits n lows f w v = by_kinds (λ k j. mailboxes.placed (part h j) f ≡ Some w → polled_at k j a f ≡ Some v → (act_in (part h k) i a).reply ≡ answers.Pending)
-        (λ k is polls. same_poll a f v (λ a. (act_in (part h k) i a).reply ≡ answers.Pending) (λ u same. waits_poll (part h k) n i (lows k) f w u is) (sym (polled-there k a f) ∙ polls))
-        (λ placed is. absurd (cc)) (λ placed is. absurd (cc))
+    polled_waits : (n : ℕ) → Lows h n → (f w v : ℕ) → (k : Kind) (j : ReceiverKind) → mailboxes.placed (mail h j) f ≡ Some w → polled_at k j a f ≡ Some v → (act_in (part h k) i a).reply ≡ answers.Pending
+    polled_waits n lows f w v = by_kinds (λ k j. mailboxes.placed (mail h j) f ≡ Some w → polled_at k j a f ≡ Some v → (act_in (part h k) i a).reply ≡ answers.Pending)
+        (λ k is polls. same_poll a f v (λ a. (act_in (part h k) i a).reply ≡ answers.Pending) (λ u same. waits_poll (part h k) n i (lows (ReceiverOf k)) f w u is) (sym (polled-there k a f) ∙ polls))
+        (λ placed is. absurd (cc)) (λ placed is. absurd (cc)) (λ placed is. absurd (cc)) (λ placed is. absurd (cc))
 
-    polled_lives : (f w : ℕ) → (k j : Kind) → cause_in (part h k) a ≡ None → polled_at k j a f ≡ Some w → mailboxes.is_there (part h j) f ≡ true
-    polled_lives f w = by_kinds (λ k j. cause_in (part h k) a ≡ None → polled_at k j a f ≡ Some w → mailboxes.is_there (part h j) f ≡ true)
+    polled_lives : (f w : ℕ) → (k : Kind) (j : ReceiverKind) → cause_in (part h k) a ≡ None → polled_at k j a f ≡ Some w → mailboxes.is_there (mail h j) f ≡ true
+    polled_lives f w = by_kinds (λ k j. cause_in (part h k) a ≡ None → polled_at k j a f ≡ Some w → mailboxes.is_there (mail h j) f ≡ true)
         (λ k allowed is. same_poll a f w (λ a. cause_in (part h k) a ≡ None → mailboxes.is_there (part h k) f ≡ true)
         (λ v same none. receiver_there (get (part h k).receivers f) true (known (is_receiver (part h k) f true) none)) (sym (polled-there k a f) ∙ is) allowed)
-        (λ allowed is. absurd (cc)) (λ allowed is. absurd (cc))
+        (λ allowed is. absurd (cc)) (λ allowed is. absurd (cc)) (λ allowed is. absurd (cc)) (λ allowed is. absurd (cc))
 
-    ended_gone : (n : ℕ) → Lows h n → n ≤ i → (f : ℕ) → (k j : Kind) → ends_at k j a f ≡ true → mailboxes.is_there (part (acted k) j) f ≡ false
-    ended_gone n lows later f = by_kinds (λ k j. ends_at k j a f ≡ true → mailboxes.is_there (part (acted k) j) f ≡ false)
-        (λ k is. rw there (ap is_some ((goes (part h k) i a).over (fresh (part h k) n i (lows k) later) f (sym (ends-there k a f) ∙ is))))
-        (λ is. absurd (cc)) (λ is. absurd (cc))
+    ended_gone : (n : ℕ) → Lows h n → n ≤ i → (f : ℕ) → (k : Kind) (j : ReceiverKind) → ends_at k j a f ≡ true → mailboxes.is_there (mail (acted k) j) f ≡ false
+    ended_gone n lows later f = by_kinds (λ k j. ends_at k j a f ≡ true → mailboxes.is_there (mail (acted k) j) f ≡ false)
+        (λ k is. rw there (ap is_some ((goes (part h k) i a).over (fresh (part h k) n i (lows (ReceiverOf k)) later) f (sym (ends-there k a f) ∙ is))))
+        (λ is. absurd (cc)) (λ is. absurd (cc)) (λ is. absurd (cc)) (λ is. absurd (cc))
 
     module _ (n : ℕ) (lows : Lows h n) (later : n ≤ i) (f : ℕ) where
-      all_kept : (w : ℕ) (k j : Kind) → mailboxes.placed (part h j) f ≡ Some w → polled_at k j a f ≡ None → ends_at k j a f ≡ false
-          → (mailboxes.placed (part (acted k) j) f ≡ Some w) ⊎ Contains (act_in (part h k) i a).wakes w
-      all_kept w = by_kinds (λ k j. mailboxes.placed (part h j) f ≡ Some w → polled_at k j a f ≡ None → ends_at k j a f ≡ false
-          → (mailboxes.placed (part (acted k) j) f ≡ Some w) ⊎ Contains (act_in (part h k) i a).wakes w)
-          (λ k is quiet lasts. rw there (kept_on (part h k) n i (lows k) later a f w is (sym (polled-there k a f) ∙ quiet) (sym (ends-there k a f) ∙ lasts)))
-          (λ is quiet lasts. inl is) (λ is quiet lasts. inl is)
+      all_kept : (w : ℕ) (k : Kind) (j : ReceiverKind) → mailboxes.placed (mail h j) f ≡ Some w → polled_at k j a f ≡ None → ends_at k j a f ≡ false
+          → (mailboxes.placed (mail (acted k) j) f ≡ Some w) ⊎ Contains (act_in (part h k) i a).wakes w
+      all_kept w = by_kinds (λ k j. mailboxes.placed (mail h j) f ≡ Some w → polled_at k j a f ≡ None → ends_at k j a f ≡ false
+          → (mailboxes.placed (mail (acted k) j) f ≡ Some w) ⊎ Contains (act_in (part h k) i a).wakes w)
+          (λ k is quiet lasts. rw there (kept_on (part h k) n i (lows (ReceiverOf k)) later a f w is (sym (polled-there k a f) ∙ quiet) (sym (ends-there k a f) ∙ lasts)))
+          (λ is quiet lasts. inl is) (λ is quiet lasts. inl is) (λ is quiet lasts. inl is) (λ is quiet lasts. inl is)
 
-      all_stay : (k j : Kind) → mailboxes.is_there (part h j) f ≡ true → polled_at k j a f ≡ None → ends_at k j a f ≡ false → mailboxes.is_there (part (acted k) j) f ≡ true
-      all_stay = by_kinds (λ k j. mailboxes.is_there (part h j) f ≡ true → polled_at k j a f ≡ None → ends_at k j a f ≡ false → mailboxes.is_there (part (acted k) j) f ≡ true)
-          (λ k is quiet lasts. rw there (stays (part h k) n i (lows k) later a f is (sym (polled-there k a f) ∙ quiet) (sym (ends-there k a f) ∙ lasts)))
-          (λ is quiet lasts. is) (λ is quiet lasts. is)
+      all_stay : (k : Kind) (j : ReceiverKind) → mailboxes.is_there (mail h j) f ≡ true → polled_at k j a f ≡ None → ends_at k j a f ≡ false → mailboxes.is_there (mail (acted k) j) f ≡ true
+      all_stay = by_kinds (λ k j. mailboxes.is_there (mail h j) f ≡ true → polled_at k j a f ≡ None → ends_at k j a f ≡ false → mailboxes.is_there (mail (acted k) j) f ≡ true)
+          (λ k is quiet lasts. rw there (stays (part h k) n i (lows (ReceiverOf k)) later a f is (sym (polled-there k a f) ∙ quiet) (sym (ends-there k a f) ∙ lasts)))
+          (λ is quiet lasts. is) (λ is quiet lasts. is) (λ is quiet lasts. is) (λ is quiet lasts. is)
 
-      all_made : (k j : Kind) → mailboxes.is_there (part (acted k) j) f ≡ true → (mailboxes.is_there (part h j) f ≡ true) ⊎ (f ≡ i)
-      all_made = by_kinds (λ k j. mailboxes.is_there (part (acted k) j) f ≡ true → (mailboxes.is_there (part h j) f ≡ true) ⊎ (f ≡ i))
-          (λ k is. made (part h k) n i (lows k) later a f (rw there at is)) (λ is. inl is) (λ is. inl is)
+      all_made : (k : Kind) (j : ReceiverKind) → mailboxes.is_there (mail (acted k) j) f ≡ true → (mailboxes.is_there (mail h j) f ≡ true) ⊎ (f ≡ i)
+      all_made = by_kinds (λ k j. mailboxes.is_there (mail (acted k) j) f ≡ true → (mailboxes.is_there (mail h j) f ≡ true) ⊎ (f ≡ i))
+          (λ k is. made (part h k) n i (lows (ReceiverOf k)) later a f (rw there at is)) (λ is. inl is) (λ is. inl is) (λ is. inl is) (λ is. inl is)
+
+  -- ---- what is done to bounded channels
+  module _ (n : ℕ) (lows : Lows h n) (later : n ≤ i) (b : BoundedAction) where
+    abbrev bounded_after : ChanHall
+    bounded_after = record h { bounded = (bounded_act h.bounded i b).hall }
+
+    abbrev at_mail : Action
+    at_mail = (goes_as h.bounded i b).a
+
+    seen_mail : (bounded_act h.bounded i b).hall.mail ≡ (act_in h.bounded.mail i at_mail).hall
+    seen_mail = (goes_as h.bounded i b).sees.hall
+
+    low_bounded : (j : ReceiverKind) → Low (mail bounded_after j) (i + 1)
+    low_bounded (ReceiverOf k) = rw beside_bounded (low_later (part h k) n i (lows (ReceiverOf k)) later)
+    low_bounded ReceiverOfBounded = rw seen_mail (low_after h.bounded.mail n i (lows ReceiverOfBounded) later at_mail)
+
+    kept_bounded : (f w : ℕ) (j : ReceiverKind) → mailboxes.placed (mail h j) f ≡ Some w → polled_at_bounded j b f ≡ None → ends_at_bounded j b f ≡ false
+        → (mailboxes.placed (mail bounded_after j) f ≡ Some w) ⊎ Contains (bounded_act h.bounded i b).wakes w
+    kept_bounded f w (ReceiverOf k) is quiet lasts = inl (ap (λ p. mailboxes.placed p f) (beside_bounded h (bounded_act h.bounded i b).hall k) ∙ is)
+    kept_bounded f w ReceiverOfBounded is quiet lasts = elim (kept_on h.bounded.mail n i (lows ReceiverOfBounded) later at_mail f w is (sym ((goes_as h.bounded i b).polled f) ∙ quiet) (sym ((goes_as h.bounded i b).ends f) ∙ lasts)) [
+      | inl stays ↦ inl (ap (λ p. mailboxes.placed p f) seen_mail ∙ stays)
+      | inr woken ↦ inr ((goes_as h.bounded i b).sees.wakes w woken)
+    ]
+
+    stays_bounded : (f : ℕ) (j : ReceiverKind) → mailboxes.is_there (mail h j) f ≡ true → polled_at_bounded j b f ≡ None → ends_at_bounded j b f ≡ false → mailboxes.is_there (mail bounded_after j) f ≡ true
+    stays_bounded f (ReceiverOf k) is quiet lasts = ap (λ p. mailboxes.is_there p f) (beside_bounded h (bounded_act h.bounded i b).hall k) ∙ is
+    stays_bounded f ReceiverOfBounded is quiet lasts =
+        ap (λ p. mailboxes.is_there p f) seen_mail ∙ stays h.bounded.mail n i (lows ReceiverOfBounded) later at_mail f is (sym ((goes_as h.bounded i b).polled f) ∙ quiet) (sym ((goes_as h.bounded i b).ends f) ∙ lasts)
+
+    made_bounded : (f : ℕ) (j : ReceiverKind) → mailboxes.is_there (mail bounded_after j) f ≡ true → (mailboxes.is_there (mail h j) f ≡ true) ⊎ (f ≡ i)
+    made_bounded f (ReceiverOf k) is = inl (ap (λ p. mailboxes.is_there p f) (sym (beside_bounded h (bounded_act h.bounded i b).hall k)) ∙ is)
+    made_bounded f ReceiverOfBounded is = made h.bounded.mail n i (lows ReceiverOfBounded) later at_mail f (ap (λ p. mailboxes.is_there p f) (sym seen_mail) ∙ is)
+
+    gone_bounded : (f : ℕ) (j : ReceiverKind) → ends_at_bounded j b f ≡ true → mailboxes.is_there (mail bounded_after j) f ≡ false
+    gone_bounded f (ReceiverOf k) is = absurd (cc)
+    gone_bounded f ReceiverOfBounded is =
+        ap (λ p. mailboxes.is_there p f) seen_mail ∙ ap is_some ((goes h.bounded.mail i at_mail).over (fresh h.bounded.mail n i (lows ReceiverOfBounded) later) f (sym ((goes_as h.bounded i b).ends f) ∙ is))
+
+    place_bounded : (f w : ℕ) (j : ReceiverKind) → polled_at_bounded j b f ≡ Some w → (bounded_act h.bounded i b).reply ≡ answers.Pending → mailboxes.placed (mail bounded_after j) f ≡ Some w
+    place_bounded f w (ReceiverOf k) is = absurd (cc)
+    place_bounded f w ReceiverOfBounded is = at_poll f w (λ b. (bounded_act h.bounded i b).reply ≡ answers.Pending → mailboxes.placed (bounded_act h.bounded i b).hall.mail f ≡ Some w)
+        (λ v same pending. ap (λ p. mailboxes.placed p f) (poll_hall h.bounded i f v) ∙ places_poll h.bounded.mail i f v (sym (poll_reply h.bounded i f v) ∙ pending) ∙ ap (λ u. Some u) same) b is
 
   -- ---- of every meaning
-  by_meaning : (P : Meaning → Type 0) → ((k : Kind) (a : Action) → P (OfChannels k a)) → ((k : BoxKind) (a : BoxAction) → P (OfBoxes k a)) → (m : Meaning) → P m
-  by_meaning P channels boxes (OfChannels k a) = channels k a
-  by_meaning P channels boxes (OfBoxes k a) = boxes k a
+  by_meaning : (P : Meaning → Type 0) → ((k : Kind) (a : Action) → P (OfChannels k a)) → ((a : BoundedAction) → P (OfBounded a)) → ((a : BroadcastAction) → P (OfBroadcasts a)) → ((k : BoxKind) (a : BoxAction) → P (OfBoxes k a)) → (m : Meaning) → P m
+  by_meaning P channels of_bounded of_broadcasts boxes (OfChannels k a) = channels k a
+  by_meaning P channels of_bounded of_broadcasts boxes (OfBounded a) = of_bounded a
+  by_meaning P channels of_bounded of_broadcasts boxes (OfBroadcasts a) = of_broadcasts a
+  by_meaning P channels of_bounded of_broadcasts boxes (OfBoxes k a) = boxes k a
 
-  lows_after : (n : ℕ) → Lows h n → n ≤ i → (m : Meaning) (j : Kind) → Low (part (step_by h i m).hall j) (i + 1)
-  lows_after n lows later = by_meaning (λ m. (j : Kind) → Low (part (step_by h i m).hall j) (i + 1))
-      (λ k a j. lows_acted a n lows later k j) (λ k a j. rw beside (low_later (part h j) n i (lows j) later))
+  lows_after : (n : ℕ) → Lows h n → n ≤ i → (m : Meaning) (j : ReceiverKind) → Low (mail (step_by h i m).hall j) (i + 1)
+  lows_after n lows later = by_meaning (λ m. (j : ReceiverKind) → Low (mail (step_by h i m).hall j) (i + 1))
+      (λ k a j. lows_acted a n lows later k j) (λ a j. low_bounded n lows later a j) (λ a j. rw beside_broadcasts (low_later (mail h j) n i (lows j) later)) (λ k a j. rw beside (low_later (mail h j) n i (lows j) later))
 
-lows : (r : RunOf chans_family) → Runs chans_family r → Lows r.hall r.next
+pub lows : (r : RunOf chans_family) → Runs chans_family r → Lows r.hall r.next
 lows _ Starts = λ k. at k
   where
     none : Low mailboxes.no_mailboxes 0
@@ -310,55 +411,145 @@ lows _ Starts = λ k. at k
       awake = λ o c is. absurd (nothing_at Mailbox o c is);
     }
 
-    at : (k : Kind) → Low (part empty_hall k) 0
-    at Unbounded = none
-    at Oneshots = none
+    at : (k : ReceiverKind) → Low (mail empty_hall k) 0
+    at (ReceiverOf Unbounded) = none
+    at (ReceiverOf Oneshots) = none
+    at ReceiverOfBounded = none
 lows _ (GoesOn r i e runs later cause) = λ j. lows_after r.hall i r.next (lows r runs) later (meaning_of e) j
 
-module _ (r : RunOf chans_family) (i : ℕ) (runs : Runs chans_family r) (later : r.next ≤ i) (f : Future) where
-  places : (m : Meaning) (w : ℕ) → polled_by m f ≡ Some w → (step_by r.hall i m).reply ≡ answers.Pending → mailboxes.placed (part (step_by r.hall i m).hall f.kind) f.name ≡ Some w
-  places (OfChannels k a) w is pending = polled_place r.hall i a f.name w k f.kind is pending
+module _ (r : RunOf chans_family) (i : ℕ) (runs : Runs chans_family r) (later : r.next ≤ i) (j : ReceiverKind) (g : ℕ) where
+  places : (m : Meaning) (w : ℕ) → receiver_polled_by m j g ≡ Some w → (step_by r.hall i m).reply ≡ answers.Pending → mailboxes.placed (mail (step_by r.hall i m).hall j) g ≡ Some w
+  places (OfChannels k a) w is pending = polled_place r.hall i a g w k j is pending
+  places (OfBounded b) w is pending = place_bounded r.hall i r.next (lows r runs) later b g w j is pending
+  places (OfBroadcasts a) w is pending = absurd (cc)
   places (OfBoxes k a) w is pending = absurd (cc)
 
-  wakes : (m : Meaning) (w : ℕ) → mailboxes.placed (part r.hall f.kind) f.name ≡ Some w → polled_by m f ≡ None → ends_by m f ≡ false
-      → (mailboxes.placed (part (step_by r.hall i m).hall f.kind) f.name ≡ Some w) ⊎ Contains (step_by r.hall i m).wakes w
-  wakes (OfChannels k a) w is quiet lasts = all_kept r.hall i a r.next (lows r runs) later f.name w k f.kind is quiet lasts
-  wakes (OfBoxes k a) w is quiet lasts = inl (ap (λ p. mailboxes.placed p f.name) (beside r.hall k i a f.kind) ∙ is)
+  wakes : (m : Meaning) (w : ℕ) → mailboxes.placed (mail r.hall j) g ≡ Some w → receiver_polled_by m j g ≡ None → receiver_ended_by m j g ≡ false
+      → (mailboxes.placed (mail (step_by r.hall i m).hall j) g ≡ Some w) ⊎ Contains (step_by r.hall i m).wakes w
+  wakes (OfChannels k a) w is quiet lasts = all_kept r.hall i a r.next (lows r runs) later g w k j is quiet lasts
+  wakes (OfBounded b) w is quiet lasts = kept_bounded r.hall i r.next (lows r runs) later b g w j is quiet lasts
+  wakes (OfBroadcasts a) w is quiet lasts = inl (ap (λ p. mailboxes.placed p g) (beside_broadcasts r.hall (broadcast_act r.hall.broadcasts i a).hall j) ∙ is)
+  wakes (OfBoxes k a) w is quiet lasts = inl (ap (λ p. mailboxes.placed p g) (beside r.hall k i a j) ∙ is)
 
-  lives_on : (m : Meaning) → mailboxes.is_there (part r.hall f.kind) f.name ≡ true → polled_by m f ≡ None → ends_by m f ≡ false → mailboxes.is_there (part (step_by r.hall i m).hall f.kind) f.name ≡ true
-  lives_on (OfChannels k a) is quiet lasts = all_stay r.hall i a r.next (lows r runs) later f.name k f.kind is quiet lasts
-  lives_on (OfBoxes k a) is quiet lasts = ap (λ p. mailboxes.is_there p f.name) (beside r.hall k i a f.kind) ∙ is
+  lives_on : (m : Meaning) → mailboxes.is_there (mail r.hall j) g ≡ true → receiver_polled_by m j g ≡ None → receiver_ended_by m j g ≡ false → mailboxes.is_there (mail (step_by r.hall i m).hall j) g ≡ true
+  lives_on (OfChannels k a) is quiet lasts = all_stay r.hall i a r.next (lows r runs) later g k j is quiet lasts
+  lives_on (OfBounded b) is quiet lasts = stays_bounded r.hall i r.next (lows r runs) later b g j is quiet lasts
+  lives_on (OfBroadcasts a) is quiet lasts = ap (λ p. mailboxes.is_there p g) (beside_broadcasts r.hall (broadcast_act r.hall.broadcasts i a).hall j) ∙ is
+  lives_on (OfBoxes k a) is quiet lasts = ap (λ p. mailboxes.is_there p g) (beside r.hall k i a j) ∙ is
 
-  is_gone : (m : Meaning) → ends_by m f ≡ true → mailboxes.is_there (part (step_by r.hall i m).hall f.kind) f.name ≡ false
-  is_gone (OfChannels k a) is = ended_gone r.hall i a r.next (lows r runs) later f.name k f.kind is
+  is_gone : (m : Meaning) → receiver_ended_by m j g ≡ true → mailboxes.is_there (mail (step_by r.hall i m).hall j) g ≡ false
+  is_gone (OfChannels k a) is = ended_gone r.hall i a r.next (lows r runs) later g k j is
+  is_gone (OfBounded b) is = gone_bounded r.hall i r.next (lows r runs) later b g j is
+  is_gone (OfBroadcasts a) is = absurd (cc)
   is_gone (OfBoxes k a) is = absurd (cc)
 
-  is_made : (m : Meaning) → mailboxes.is_there (part (step_by r.hall i m).hall f.kind) f.name ≡ true → (mailboxes.is_there (part r.hall f.kind) f.name ≡ true) ⊎ (f.name ≡ i)
-  is_made (OfChannels k a) is = all_made r.hall i a r.next (lows r runs) later f.name k f.kind is
-  is_made (OfBoxes k a) is = inl (ap (λ p. mailboxes.is_there p f.name) (sym (beside r.hall k i a f.kind)) ∙ is)
+  is_made : (m : Meaning) → mailboxes.is_there (mail (step_by r.hall i m).hall j) g ≡ true → (mailboxes.is_there (mail r.hall j) g ≡ true) ⊎ (g ≡ i)
+  is_made (OfChannels k a) is = all_made r.hall i a r.next (lows r runs) later g k j is
+  is_made (OfBounded b) is = made_bounded r.hall i r.next (lows r runs) later b g j is
+  is_made (OfBroadcasts a) is = inl (ap (λ p. mailboxes.is_there p g) (sym (beside_broadcasts r.hall (broadcast_act r.hall.broadcasts i a).hall j)) ∙ is)
+  is_made (OfBoxes k a) is = inl (ap (λ p. mailboxes.is_there p g) (sym (beside r.hall k i a j)) ∙ is)
 
-waits : (r : RunOf chans_family) (i : ℕ) → Runs chans_family r → (f : Future) (m : Meaning) (w v : ℕ) → mailboxes.placed (part r.hall f.kind) f.name ≡ Some w → polled_by m f ≡ Some v → (step_by r.hall i m).reply ≡ answers.Pending
-waits r i runs f (OfChannels k a) w v is polls = polled_waits r.hall i a r.next (lows r runs) f.name w v k f.kind is polls
-waits r i runs f (OfBoxes k a) w v is polls = absurd (cc)
+waits_on_poll : (r : RunOf chans_family) (i : ℕ) → Runs chans_family r → (j : ReceiverKind) (g : ℕ) (m : Meaning) (w v : ℕ) → mailboxes.placed (mail r.hall j) g ≡ Some w → receiver_polled_by m j g ≡ Some v → (step_by r.hall i m).reply ≡ answers.Pending
+waits_on_poll r i runs j g (OfChannels k a) w v is polls = polled_waits r.hall i a r.next (lows r runs) g w v k j is polls
+waits_on_poll r i runs j g (OfBounded b) w v is polls = wait_bounded r.hall r.next i (lows r runs) b g w v j is polls
+waits_on_poll r i runs j g (OfBroadcasts a) w v is polls = absurd (cc)
+waits_on_poll r i runs j g (OfBoxes k a) w v is polls = absurd (cc)
 
-polls : (h : ChanHall) (m : Meaning) (f : Future) (w : ℕ) → cause_by h m ≡ None → polled_by m f ≡ Some w → mailboxes.is_there (part h f.kind) f.name ≡ true
-polls h (OfChannels k a) f w none is = polled_lives h 0 a f.name w k f.kind none is
-polls h (OfBoxes k a) f w none is = absurd (cc)
+polls : (h : ChanHall) (m : Meaning) (j : ReceiverKind) (g : ℕ) (w : ℕ) → cause_by h m ≡ None → receiver_polled_by m j g ≡ Some w → mailboxes.is_there (mail h j) g ≡ true
+polls h (OfChannels k a) j g w none is = polled_lives h 0 a g w k j none is
+polls h (OfBounded b) j g w none is = live_bounded h b g w j none is
+polls h (OfBroadcasts a) j g w none is = absurd (cc)
+polls h (OfBoxes k a) j g w none is = absurd (cc)
+
+-- ---- the futures of broadcast channels
+pub broadcasts_kept : (r : RunOf chans_family) → Runs chans_family r → AreKept r.hall.broadcasts r.next
+broadcasts_kept _ Starts = none_kept
+broadcasts_kept _ (GoesOn r i e runs later cause) = at (meaning_of e) cause (broadcasts_kept r runs)
+  where
+    at : (m : Meaning) → cause_by r.hall m ≡ None → AreKept r.hall.broadcasts r.next → AreKept (step_by r.hall i m).hall.broadcasts (i + 1)
+    at (OfChannels Unbounded a) allowed before = rests r.hall.broadcasts r.next i before later
+    at (OfChannels Oneshots a) allowed before = rests r.hall.broadcasts r.next i before later
+    at (OfBounded a) allowed before = rests r.hall.broadcasts r.next i before later
+    at (OfBroadcasts a) allowed before = kept_after r.hall.broadcasts r.next i before later a allowed
+    at (OfBoxes Full a) allowed before = rests r.hall.broadcasts r.next i before later
+    at (OfBoxes Optional a) allowed before = rests r.hall.broadcasts r.next i before later
+
+hearing_waits_on : (h : ChanHall) (n i : ℕ) → AreKept h.broadcasts n → (f : ℕ) (m : Meaning) (w v : ℕ) → broadcasts.placed h.broadcasts f ≡ Some w → hearing_polled_by m f ≡ Some v → (step_by h i m).reply ≡ answers.Pending
+hearing_waits_on h n i k f (OfChannels j a) w v is polls = absurd (cc)
+hearing_waits_on h n i k f (OfBounded a) w v is polls = absurd (cc)
+hearing_waits_on h n i k f (OfBroadcasts a) w v is polls = hearing_waits h.broadcasts n i k a f w v is polls
+hearing_waits_on h n i k f (OfBoxes j a) w v is polls = absurd (cc)
+
+module _ (h : ChanHall) (n i : ℕ) (k : AreKept h.broadcasts n) (later : n ≤ i) (f : ℕ) where
+  hearing_places : (m : Meaning) (w : ℕ) → hearing_polled_by m f ≡ Some w → (step_by h i m).reply ≡ answers.Pending → broadcasts.placed (step_by h i m).hall.broadcasts f ≡ Some w
+  hearing_places (OfChannels k a) w is pending = absurd (cc)
+  hearing_places (OfBounded a) w is pending = absurd (cc)
+  hearing_places (OfBroadcasts a) w is pending = hearing_placed h.broadcasts n i k later a f w is pending
+  hearing_places (OfBoxes k a) w is pending = absurd (cc)
+
+  hearing_wakes : (m : Meaning) → cause_by h m ≡ None → (w : ℕ) → broadcasts.placed h.broadcasts f ≡ Some w → hearing_polled_by m f ≡ None → hearing_ended_by m f ≡ false
+      → (broadcasts.placed (step_by h i m).hall.broadcasts f ≡ Some w) ⊎ Contains (step_by h i m).wakes w
+  hearing_wakes (OfChannels Unbounded a) allowed w is quiet lasts = inl is
+  hearing_wakes (OfChannels Oneshots a) allowed w is quiet lasts = inl is
+  hearing_wakes (OfBounded a) allowed w is quiet lasts = inl is
+  hearing_wakes (OfBroadcasts a) allowed w is quiet lasts = hearing_kept h.broadcasts n i k later a allowed f w is quiet lasts
+  hearing_wakes (OfBoxes Full a) allowed w is quiet lasts = inl is
+  hearing_wakes (OfBoxes Optional a) allowed w is quiet lasts = inl is
+
+  hearing_lives : (m : Meaning) → cause_by h m ≡ None → broadcasts.is_hearing h.broadcasts f ≡ true → hearing_polled_by m f ≡ None → hearing_ended_by m f ≡ false → broadcasts.is_hearing (step_by h i m).hall.broadcasts f ≡ true
+  hearing_lives (OfChannels Unbounded a) allowed is quiet lasts = is
+  hearing_lives (OfChannels Oneshots a) allowed is quiet lasts = is
+  hearing_lives (OfBounded a) allowed is quiet lasts = is
+  hearing_lives (OfBroadcasts a) allowed is quiet lasts = hearing_stays h.broadcasts n i k later a allowed f is quiet lasts
+  hearing_lives (OfBoxes Full a) allowed is quiet lasts = is
+  hearing_lives (OfBoxes Optional a) allowed is quiet lasts = is
+
+  hearing_ends : (m : Meaning) → cause_by h m ≡ None → hearing_ended_by m f ≡ true → broadcasts.is_hearing (step_by h i m).hall.broadcasts f ≡ false
+  hearing_ends (OfChannels k a) allowed is = absurd (cc)
+  hearing_ends (OfBounded a) allowed is = absurd (cc)
+  hearing_ends (OfBroadcasts a) allowed is = hearing_gone h.broadcasts n i k later a allowed f is
+  hearing_ends (OfBoxes k a) allowed is = absurd (cc)
+
+  hearing_is_made : (m : Meaning) → cause_by h m ≡ None → broadcasts.is_hearing (step_by h i m).hall.broadcasts f ≡ true → (broadcasts.is_hearing h.broadcasts f ≡ true) ⊎ (f ≡ i)
+  hearing_is_made (OfChannels Unbounded a) allowed is = inl is
+  hearing_is_made (OfChannels Oneshots a) allowed is = inl is
+  hearing_is_made (OfBounded a) allowed is = inl is
+  hearing_is_made (OfBroadcasts a) allowed is = hearing_made h.broadcasts n i k later a allowed f is
+  hearing_is_made (OfBoxes Full a) allowed is = inl is
+  hearing_is_made (OfBoxes Optional a) allowed is = inl is
+
+hearing_polls : (h : ChanHall) (m : Meaning) (f w : ℕ) → cause_by h m ≡ None → hearing_polled_by m f ≡ Some w → broadcasts.is_hearing h.broadcasts f ≡ true
+hearing_polls h (OfChannels k a) f w none is = absurd (cc)
+hearing_polls h (OfBounded a) f w none is = absurd (cc)
+hearing_polls h (OfBroadcasts a) f w none is = hearing_there h.broadcasts a f w none is
+hearing_polls h (OfBoxes k a) f w none is = absurd (cc)
+
+-- ---- both
+of_each : (P : Future → Type 0) → ((j : ReceiverKind) (g : ℕ) → P (Receives j g)) → ((f : ℕ) → P (Hears f)) → (f : Future) → P f
+of_each P receiver hearing (Receives j g) = receiver j g
+of_each P receiver hearing (Hears f) = hearing f
 
 pub keeps : KeepsWakers chans_family
 keeps = record {
-  places = λ r i e runs later cause f w is pending. places r i runs later f (meaning_of e) w is pending;
-  waits = λ r i e runs f w v lives is polled. waits r i runs f (meaning_of e) w v is polled;
-  wakes = λ r i e runs later cause f w lives is quiet lasts. wakes r i runs later f (meaning_of e) w is quiet lasts;
-  stays = λ r i e runs later cause f lives quiet lasts. lives_on r i runs later f (meaning_of e) lives quiet lasts;
-  goes = λ r i e runs later cause f ended. is_gone r i runs later f (meaning_of e) ended;
+  places = λ r i e runs later cause f. of_each (λ f. (w : ℕ) → polled e f ≡ Some w → (step r.hall i e).reply ≡ answers.Pending → placed (step r.hall i e).hall f ≡ Some w)
+      (λ j g w is pending. places r i runs later j g (meaning_of e) w is pending) (λ g w is pending. hearing_places r.hall r.next i (broadcasts_kept r runs) later g (meaning_of e) w is pending) f;
+  waits = λ r i e runs f. of_each (λ f. (w v : ℕ) → lives r.hall f ≡ true → placed r.hall f ≡ Some w → polled e f ≡ Some v → (step r.hall i e).reply ≡ answers.Pending)
+      (λ j g w v lives is polled. waits_on_poll r i runs j g (meaning_of e) w v is polled) (λ g w v lives is polled. hearing_waits_on r.hall r.next i (broadcasts_kept r runs) g (meaning_of e) w v is polled) f;
+  wakes = λ r i e runs later cause f. of_each (λ f. (w : ℕ) → lives r.hall f ≡ true → placed r.hall f ≡ Some w → polled e f ≡ None → ends e f ≡ false → (placed (step r.hall i e).hall f ≡ Some w) ⊎ Contains (step r.hall i e).wakes w)
+      (λ j g w lives is quiet lasts. wakes r i runs later j g (meaning_of e) w is quiet lasts) (λ g w lives is quiet lasts. hearing_wakes r.hall r.next i (broadcasts_kept r runs) later g (meaning_of e) cause w is quiet lasts) f;
+  stays = λ r i e runs later cause f. of_each (λ f. lives r.hall f ≡ true → polled e f ≡ None → ends e f ≡ false → lives (step r.hall i e).hall f ≡ true)
+      (λ j g lives quiet lasts. lives_on r i runs later j g (meaning_of e) lives quiet lasts) (λ g lives quiet lasts. hearing_lives r.hall r.next i (broadcasts_kept r runs) later g (meaning_of e) cause lives quiet lasts) f;
+  goes = λ r i e runs later cause f. of_each (λ f. ends e f ≡ true → lives (step r.hall i e).hall f ≡ false)
+      (λ j g ended. is_gone r i runs later j g (meaning_of e) ended) (λ g ended. hearing_ends r.hall r.next i (broadcasts_kept r runs) later g (meaning_of e) cause ended) f;
 }
 
 names : NamesFutures chans_family
 names = record {
-  polls = λ h e cause f w is. polls h (meaning_of e) f w cause is;
-  below = λ r runs f lives. let x = value_in (get (part r.hall f.kind).receivers f.name) lives in ((lows r runs f.kind).below f.name x.0 x.1).0;
-  made = λ r i e runs later cause f lives. is_made r i runs later f (meaning_of e) lives;
+  polls = λ h e cause f. of_each (λ f. (w : ℕ) → polled e f ≡ Some w → lives h f ≡ true) (λ j g w is. polls h (meaning_of e) j g w cause is) (λ g w is. hearing_polls h (meaning_of e) g w cause is) f;
+  below = λ r runs f. of_each (λ f. lives r.hall f ≡ true → name f < r.next)
+      (λ j g lives. let x = value_in (get (mail r.hall j).receivers g) lives in ((lows r runs j).below g x.0 x.1).0) (λ g lives. hearing_below r.hall.broadcasts r.next r.next (broadcasts_kept r runs) (omega arith) g lives) f;
+  made = λ r i e runs later cause f. of_each (λ f. lives (step r.hall i e).hall f ≡ true → (lives r.hall f ≡ true) ⊎ (name f ≡ i))
+      (λ j g lives. is_made r i runs later j g (meaning_of e) lives) (λ g lives. hearing_is_made r.hall r.next i (broadcasts_kept r runs) later g (meaning_of e) cause lives) f;
 }
 
 pub no_wake_is_lost : (r : RunOf chans_family) → Runs chans_family r → LosesNoWake chans_family r
@@ -388,6 +579,63 @@ box_quiet h i (Tell b) = by_found (λ o. o.wakes ≡ []) (get h b) h _ refl (λ 
 box_quiet h i (TakeOut b) = by_found (λ o. o.wakes ≡ []) (get h b) h _ refl (λ x is. refl)
 box_quiet h i (DropBox b) = by_found (λ o. o.wakes ≡ []) (get h b) h _ refl (λ x is. refl)
 
+-- a bounded action, by what it does to the mailboxes and to the rooms
+both_counted : (h : Bounded) (i : ℕ) (a : Action) (rs : Names Room) (ws : List ℕ) (extra : ℕ) → Rooms h.rooms rs ws extra
+    → (length (act_in h.mail i a).wakes + length ws ≤ bounded.registered h)
+    × (mailboxes.registered (act_in h.mail i a).hall + named_queue.registered waiting_at rs + (length (act_in h.mail i a).wakes + length ws) ≤ bounded.registered h + (cond (registers_in a) 1 0 + extra))
+both_counted h i a rs ws extra rooms = let c = counts h.mail i a in (omega (arith, c.0, rooms.most), omega (arith, c.1, rooms.grows))
+
+abbrev Counts : Bounded → Outcome Bounded → ℕ → Type 0
+Counts h out extra = (length out.wakes ≤ bounded.registered h) × (bounded.registered out.hall + length out.wakes ≤ bounded.registered h + extra)
+
+module _ (h : Bounded) (i : ℕ) where
+  still_counts : (reply : _) (extra : ℕ) → Counts h (quietly h reply) extra
+  still_counts reply extra = (omega arith, omega arith)
+
+  mail_counts : (a : Action) → Counts h (bounded.in_mail h (act_in h.mail i a)) (cond (registers_in a) 1 0)
+  mail_counts a = let c = counts h.mail i a in (omega (arith, c.0), omega (arith, c.1))
+
+  received_counts : (o : ℕ) (a : Action) → Counts h (bounded.received h o (act_in h.mail i a)) (cond (registers_in a) 1 0)
+  received_counts o a = by_if (λ out. Counts h out (cond (registers_in a) 1 0)) (is_got (act_in h.mail i a).reply) _ _
+      (λ got.
+      let c = both_counted h i a _ _ 0 (at_room_counted h.rooms o 0 0 (granted 1) (woken_by_grant 1) (granted_local 1)) in
+      let all = length-append (act_in h.mail i a).wakes (woken_at h.rooms o (woken_by_grant 1)) in
+      (omega (arith, c.0, all), omega (arith, c.1, all)))
+      (λ other. mail_counts a)
+
+  polls_send_counts : (f w : ℕ) (x : BoundedSend) → Counts h (if is_full h x.channel then bounded.pends h f w x else bounded.answered h f x (act_in h.mail i (actions.Send x.sender x.value))) 1
+  polls_send_counts f w x = by_if (λ out. Counts h out 1) (is_full h x.channel) _ _
+      (λ full. let c = no_wake h.rooms _ x.channel 1 (at_room_counted h.rooms x.channel f 1 (joined f w) (λ r. []) (joined_local f w)) in (omega arith, omega (arith, c.grows)))
+      (λ room. let c = both_counted h i (actions.Send x.sender x.value) _ _ 0 (no_wake h.rooms _ x.channel 0 (at_room_counted h.rooms x.channel f 0 (left_by f) (λ r. []) (left_local f))) in (omega (arith, c.0), omega (arith, c.1)))
+
+  ends_send_counts : (f : ℕ) (x : BoundedSend) (p : Option Room) → get h.rooms x.channel ≡ p → Counts h (bounded.end_send h f x p) 0
+  ends_send_counts f x None is = (omega arith, omega arith)
+  ends_send_counts f x (Some r) is = by_if (λ out. Counts h out 0) (waits (waiting_at r) f) _ _
+      (λ waiting. let c = counted_put waiting_at h.rooms x.channel r (record r { queue = leaving r.queue f }) [] f 0 0 is (rw (who-leaving r.queue f) (local_without (who r.queue) f)) (omega arith) in (omega arith, omega (arith, c.grows)))
+      (λ other. by_if (λ out. Counts h out 0) x.polled _ _
+      (λ polled. let c = counted_put waiting_at h.rooms x.channel r (granted 1 r) (woken_by_grant 1 r) 0 0 0 is (granted_local 1 r) (omega arith) in (omega (arith, c.most), omega (arith, c.grows)))
+      (λ new. (omega arith, omega arith)))
+
+  bounded_counts : (b : BoundedAction) → Counts h (bounded_act h i b) (cond (bounded_registers b) 1 0)
+  bounded_counts (MakeRoom n) = let c = both_counted h i (actions.Make true) _ _ 0 (counted_made waiting_at h.rooms i (record { capacity = n; queue = [] }) 0 refl) in (omega (arith, c.0), omega (arith, c.1))
+  bounded_counts (CopySender s) = mail_counts (actions.Copy s)
+  bounded_counts (TrySend s v) = by_found (λ out. Counts h out 0) (get h.mail.senders s) h _ (still_counts answers.Done 0)
+      (λ o is. by_if (λ out. Counts h out 0) (is_full h o) _ _ (λ full. still_counts (answers.Full v) 0) (λ room. mail_counts (actions.Send s v)))
+  bounded_counts (BeginSend s v) = by_found (λ out. Counts h out 0) (get h.mail.senders s) h _ (still_counts answers.Done 0) (λ o is. (omega arith, omega arith))
+  bounded_counts (PollSend f w) = by_found (λ out. Counts h out 1) (get h.sends f) h _ (still_counts answers.Done 1) (λ x is. polls_send_counts f w x)
+  bounded_counts (EndSend f) = by_found (λ out. Counts h out 0) (get h.sends f) h _ (still_counts answers.Done 0) (λ x is. ends_send_counts f x (get h.rooms x.channel) refl)
+  bounded_counts (TryReceive r) = by_found (λ out. Counts h out 0) (get h.mail.receivers r) h _ (still_counts answers.Done 0) (λ x is. received_counts x.channel (actions.Receive r true))
+  bounded_counts (PollReceive r w) = by_found (λ out. Counts h out 1) (get h.mail.receivers r) h _ (still_counts answers.Done 1) (λ x is. received_counts x.channel (actions.Poll r w))
+  bounded_counts (DropSender s) = by_found (λ out. Counts h out 0) (get h.mail.senders s) h _ (still_counts answers.Done 0)
+      (λ o is. let c = both_counted h i (actions.EndSender s) _ _ 0 (tidied_counted h.rooms h.rooms o [] (is_channel (act_in h.mail i (actions.EndSender s)).hall o) 0 (counted_same waiting_at h.rooms 0)) in (omega (arith, c.0), omega (arith, c.1)))
+  bounded_counts (DropReceiver r) = by_found (λ out. Counts h out 0) (get h.mail.receivers r) h _ (still_counts answers.Done 0)
+      (λ x is.
+      let all = at_room_counted h.rooms x.channel 0 0 all_granted all_woken (λ r. granted_local (lacks r.queue) r) in
+      let out = act_in h.mail i (actions.EndReceiver r true false) in
+      let c = both_counted h i (actions.EndReceiver r true false) _ _ 0 (tidied_counted h.rooms _ x.channel _ (is_channel out.hall x.channel) 0 all) in
+      let sum = length-append out.wakes (woken_at h.rooms x.channel all_woken) in
+      (omega (arith, c.0, sum), omega (arith, c.1, sum)))
+
 pub counted : (h : ChanHall) (i : ℕ) (e : ChanEvent) → (length (step h i e).wakes ≤ registered h) × (registered (step h i e).hall + length (step h i e).wakes ≤ registered h + cond (registers e) 1 0)
 counted h i e = at (meaning_of e)
   where
@@ -399,6 +647,8 @@ counted h i e = at (meaning_of e)
     at : (m : Meaning) → (length (step_by h i m).wakes ≤ registered h) × (registered (step_by h i m).hall + length (step_by h i m).wakes ≤ registered h + cond (registers_by m) 1 0)
     at (OfChannels Unbounded a) = let c = counts h.unbounded i a in (omega (arith, c.0), omega (arith, c.1))
     at (OfChannels Oneshots a) = let c = counts h.oneshots i a in (omega (arith, c.0), omega (arith, c.1))
+    at (OfBounded b) = let c = bounded_counts h.bounded i b in (omega (arith, c.0), omega (arith, c.1))
+    at (OfBroadcasts a) = let c = broadcast_counts h.broadcasts i a in (omega (arith, c.most), omega (arith, c.grows))
     at (OfBoxes k a) = at_boxes k a
 
 pub extra-least : (b : Bool) → cond b 1 0 ≤ 1

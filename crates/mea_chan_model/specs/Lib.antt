@@ -1,7 +1,14 @@
 pub mod Mailboxes
 pub mod MailboxActions
+pub mod Bounded
+pub mod BoundedActions
 pub mod Boxes
 pub mod ChanHall
 pub mod Valid
 pub mod Meaning
 pub mod ChanFamily
+pub mod InOrder
+pub mod Sends
+pub mod Broadcasts
+pub mod BroadcastActions
+pub mod BroadcastValid

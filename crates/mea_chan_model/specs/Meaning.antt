@@ -3,19 +3,48 @@ use Rattle.std.specs.Prelude.{ℕ, Bool, true, false, Option, Some, None}
 use Rattle.mea_base.specs.declared.stop.Stop.{Stop}
 use Rattle.mea_base.specs.Family.{Outcome}
 use Rattle.mea_chan_model.specs.declared.event.ChanEvent.{ChanEvent}
-use Rattle.mea_chan_model.specs.declared.event.ChanEvent.TheVariants.{MuNew, MuCopy, MuSend, MuTryr, MuRecv, MuEnds, MuEndr, OsNew, OsSend, OsEnds, OsClosed, OsClosedr, OsHas, OsTry, OsInto, OsPoll, OsEndr, OsEnd, AbNew, AbSwap, AbStore, AbGet, AbInto, AbDrop, AoNew, AoNone, AoSwap, AoStore, AoClear, AoTake, AoGet, AoInto, AoDrop}
+use Rattle.mea_chan_model.specs.declared.event.ChanEvent.TheVariants.{MbNew, MbCopy, MbTry, MbSend, MbPoll, MbEnd, MbTryr, MbRecv, MbEnds, MbEndr, BcNew, BcCopys, BcSend, BcSub, BcResub, BcCopyr, BcTry, BcRecv, BcPoll, BcEnd, BcEndr, BcEnds, MuNew, MuCopy, MuSend, MuTryr, MuRecv, MuEnds, MuEndr, OsNew, OsSend, OsEnds, OsClosed, OsClosedr, OsHas, OsTry, OsInto, OsPoll, OsEndr, OsEnd, AbNew, AbSwap, AbStore, AbGet, AbInto, AbDrop, AoNew, AoNone, AoSwap, AoStore, AoClear, AoTake, AoGet, AoInto, AoDrop}
 use Rattle.mea_chan_model.specs.Mailboxes.{Mailboxes}
 use Rattle.mea_chan_model.specs.MailboxActions.{Action, Make, Copy, Send, SendLast, EndSender, Receive, Poll, EndReceiver, Turn, TellClosed, TellOver, TellMessage, cause_in, act_in, registers_in}
+use Rattle.mea_chan_model.specs.Bounded.{Bounded}
+use Rattle.mea_chan_model.specs.BoundedActions.{BoundedAction, MakeRoom, CopySender, TrySend, BeginSend, PollSend, EndSend, TryReceive, PollReceive, DropSender, DropReceiver, bounded_cause, bounded_act, bounded_registers}
+use Rattle.mea_chan_model.specs.Broadcasts.{Broadcasts}
+use Rattle.mea_chan_model.specs.BroadcastActions as broadcast
+use Rattle.mea_chan_model.specs.BroadcastActions.{BroadcastAction, broadcast_cause, broadcast_act, broadcast_registers}
 use Rattle.mea_chan_model.specs.Boxes.{Boxes, BoxAction, MakeBox, Swap, Store, Tell, TakeOut, DropBox, box_cause, box_act}
 use Rattle.mea_chan_model.specs.ChanHall.{ChanHall, Kind, Unbounded, Oneshots, BoxKind, Full, Optional, part, with_part, boxes_of, with_boxes}
 
 pub data Meaning : Type 0 where
   OfChannels : Kind → Action → Meaning
+  OfBounded : BoundedAction → Meaning
+  OfBroadcasts : BroadcastAction → Meaning
   OfBoxes : BoxKind → BoxAction → Meaning
 
 -- the receiver of an unbounded channel can be polled, and its waker outlives it; that of a oneshot has to become a future,
 -- and its waker falls with it
 abbrev pub meaning_of : ChanEvent → Meaning
+meaning_of (MbNew n) = OfBounded (MakeRoom n)
+meaning_of (MbCopy s) = OfBounded (CopySender s)
+meaning_of (MbTry s v) = OfBounded (TrySend s v)
+meaning_of (MbSend s v) = OfBounded (BeginSend s v)
+meaning_of (MbPoll f w) = OfBounded (PollSend f w)
+meaning_of (MbEnd f) = OfBounded (EndSend f)
+meaning_of (MbTryr r) = OfBounded (TryReceive r)
+meaning_of (MbRecv r w) = OfBounded (PollReceive r w)
+meaning_of (MbEnds s) = OfBounded (DropSender s)
+meaning_of (MbEndr r) = OfBounded (DropReceiver r)
+meaning_of (BcNew n) = OfBroadcasts (broadcast.Open n)
+meaning_of (BcCopys s) = OfBroadcasts (broadcast.AddSender s)
+meaning_of (BcSend s v) = OfBroadcasts (broadcast.SendAll s v)
+meaning_of (BcSub s) = OfBroadcasts (broadcast.Subscribe s)
+meaning_of (BcResub r) = OfBroadcasts (broadcast.Resubscribe r)
+meaning_of (BcCopyr r) = OfBroadcasts (broadcast.CopyReceiver r)
+meaning_of (BcTry r) = OfBroadcasts (broadcast.Hear r)
+meaning_of (BcRecv r) = OfBroadcasts (broadcast.BeginHear r)
+meaning_of (BcPoll f w) = OfBroadcasts (broadcast.PollHear f w)
+meaning_of (BcEnd f) = OfBroadcasts (broadcast.EndHear f)
+meaning_of (BcEndr r) = OfBroadcasts (broadcast.EndReceiver r)
+meaning_of (BcEnds s) = OfBroadcasts (broadcast.EndSender s)
 meaning_of MuNew = OfChannels Unbounded (Make true)
 meaning_of (MuCopy s) = OfChannels Unbounded (Copy s)
 meaning_of (MuSend s v) = OfChannels Unbounded (Send s v)
@@ -52,6 +81,8 @@ meaning_of (AoDrop b) = OfBoxes Optional (DropBox b)
 
 abbrev pub cause_by : ChanHall → Meaning → Option Stop
 cause_by h (OfChannels k a) = cause_in (part h k) a
+cause_by h (OfBounded a) = bounded_cause h.bounded a
+cause_by h (OfBroadcasts a) = broadcast_cause h.broadcasts a
 cause_by h (OfBoxes k a) = box_cause (boxes_of h k) a
 
 abbrev pub cause_of : ChanHall → ChanEvent → Option Stop
@@ -61,11 +92,19 @@ cause_of h e = cause_by h (meaning_of e)
 abbrev pub in_channels : ChanHall → Kind → Outcome Mailboxes → Outcome ChanHall
 in_channels h k o = record { hall = with_part h k o.hall; reply = o.reply; wakes = o.wakes }
 
+abbrev pub in_bounded : ChanHall → Outcome Bounded → Outcome ChanHall
+in_bounded h o = record { hall = record h { bounded = o.hall }; reply = o.reply; wakes = o.wakes }
+
+abbrev pub in_broadcasts : ChanHall → Outcome Broadcasts → Outcome ChanHall
+in_broadcasts h o = record { hall = record h { broadcasts = o.hall }; reply = o.reply; wakes = o.wakes }
+
 abbrev pub in_boxes : ChanHall → BoxKind → Outcome Boxes → Outcome ChanHall
 in_boxes h k o = record { hall = with_boxes h k o.hall; reply = o.reply; wakes = o.wakes }
 
 abbrev pub step_by : ChanHall → ℕ → Meaning → Outcome ChanHall
 step_by h i (OfChannels k a) = in_channels h k (act_in (part h k) i a)
+step_by h i (OfBounded a) = in_bounded h (bounded_act h.bounded i a)
+step_by h i (OfBroadcasts a) = in_broadcasts h (broadcast_act h.broadcasts i a)
 step_by h i (OfBoxes k a) = in_boxes h k (box_act (boxes_of h k) i a)
 
 abbrev pub step : ChanHall → ℕ → ChanEvent → Outcome ChanHall
@@ -73,6 +112,8 @@ step h i e = step_by h i (meaning_of e)
 
 abbrev pub registers_by : Meaning → Bool
 registers_by (OfChannels k a) = registers_in a
+registers_by (OfBounded a) = bounded_registers a
+registers_by (OfBroadcasts a) = broadcast_registers a
 registers_by (OfBoxes k a) = false
 
 -- whether an event can register a waker; a poll alone can

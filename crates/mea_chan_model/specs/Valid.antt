@@ -15,3 +15,4 @@ pub record AreValid (h : Mailboxes) : Type 0 where
 pub record AllValid (h : ChanHall) : Type 0 where
   pub unbounded : AreValid h.unbounded
   pub oneshots : AreValid h.oneshots
+  pub bounded : AreValid h.bounded.mail

@@ -11,6 +11,8 @@ mod broadcast;
 #[cfg(test)]
 mod errors;
 #[cfg(test)]
+mod hall;
+#[cfg(test)]
 mod oneshot;
 #[cfg(test)]
 mod unbounded;

@@ -14,11 +14,15 @@ use Rattle.mea_lock_model.specs.LockFamily.{locks_family}
 use Rattle.mea_lock_model.proofs.Wakers as lock_wakes
 use Rattle.mea_chan_model.specs.ChanFamily.{chans_family}
 use Rattle.mea_chan_model.proofs.Wakers as chan_wakes
-use Rattle.mea_hall.specs.declared.event.Event.{Event}
-use Rattle.mea_hall.specs.declared.event.Event.TheVariants.{Sem, Meet, Lock, Chan}
+use Rattle.mea_share_model.specs.ShareFamily.{shares_family}
+use Rattle.mea_share_model.proofs.Wakers as share_wakes
+use Rattle.mea_once_model.specs.OnceFamily.{onces_family}
+use Rattle.mea_once_model.proofs.Wakers as once_wakes
+use Rattle.mea_lines.specs.declared.event.Event.{Event}
+use Rattle.mea_lines.specs.declared.event.Event.TheVariants.{Sem, Meet, Lock, Chan, Share, Once}
 use Rattle.mea_hall.specs.World.{World, empty_world, cause_of, step}
 use Rattle.mea_hall.specs.Front.{Front, front_at, front_from, front_of}
-use Rattle.mea_hall.specs.History.{semaphore_part, meet_part, lock_part, chan_part, hears, run_from, run_after, AreWoken, AreBalanced, LoseNoWake, GrantInOrder}
+use Rattle.mea_hall.specs.History.{semaphore_part, meet_part, lock_part, chan_part, share_part, once_part, hears, run_from, run_after, AreWoken, AreBalanced, LoseNoWake, GrantInOrder}
 
 abbrev Replies : Type 0
 Replies = List (Answer × List ℕ)
@@ -103,6 +107,8 @@ embeds_semaphores = record { empty = refl; caused = caused; stepped = stepped; t
     caused w (Meet e) d is = absurd (cc)
     caused w (Lock e) d is = absurd (cc)
     caused w (Chan e) d is = absurd (cc)
+    caused w (Share e) d is = absurd (cc)
+    caused w (Once e) d is = absurd (cc)
 
     stepped : (w : World) (i : ℕ) (e : Event) (d : semaphores.Event) → semaphore_part e ≡ Some d
         → (semaphores.step w.semaphores i d).hall ≡ (step w i e).world.semaphores
@@ -110,6 +116,8 @@ embeds_semaphores = record { empty = refl; caused = caused; stepped = stepped; t
     stepped w i (Meet e) d is = absurd (cc)
     stepped w i (Lock e) d is = absurd (cc)
     stepped w i (Chan e) d is = absurd (cc)
+    stepped w i (Share e) d is = absurd (cc)
+    stepped w i (Once e) d is = absurd (cc)
 
     told : (w : World) (i : ℕ) (e : Event) (d : semaphores.Event) → semaphore_part e ≡ Some d
         → ((semaphores.step w.semaphores i d).reply ≡ (step w i e).reply.0) × ((semaphores.step w.semaphores i d).wakes ≡ (step w i e).reply.1)
@@ -118,12 +126,16 @@ embeds_semaphores = record { empty = refl; caused = caused; stepped = stepped; t
     told w i (Meet e) d is = absurd (cc)
     told w i (Lock e) d is = absurd (cc)
     told w i (Chan e) d is = absurd (cc)
+    told w i (Share e) d is = absurd (cc)
+    told w i (Once e) d is = absurd (cc)
 
     others : (w : World) (i : ℕ) (e : Event) → semaphore_part e ≡ None → (step w i e).world.semaphores ≡ w.semaphores
     others w i (Sem e) is = absurd (cc)
     others w i (Meet e) is = refl
     others w i (Lock e) is = refl
     others w i (Chan e) is = refl
+    others w i (Share e) is = refl
+    others w i (Once e) is = refl
 
 embeds_meets : Embeds meets meet_part (λ w. w.meets)
 embeds_meets = record { empty = refl; caused = caused; stepped = stepped; told = told; others = others }
@@ -133,12 +145,16 @@ embeds_meets = record { empty = refl; caused = caused; stepped = stepped; told =
     caused w (Meet e) d is = ap (λ o. meets.cause w.meets o) (let same : d ≡ e = cc in same)
     caused w (Lock e) d is = absurd (cc)
     caused w (Chan e) d is = absurd (cc)
+    caused w (Share e) d is = absurd (cc)
+    caused w (Once e) d is = absurd (cc)
 
     stepped : (w : World) (i : ℕ) (e : Event) (d : meets.Event) → meet_part e ≡ Some d → (meets.step w.meets i d).hall ≡ (step w i e).world.meets
     stepped w i (Sem e) d is = absurd (cc)
     stepped w i (Meet e) d is = ap (λ o. (meets.step w.meets i o).hall) (let same : d ≡ e = cc in same)
     stepped w i (Lock e) d is = absurd (cc)
     stepped w i (Chan e) d is = absurd (cc)
+    stepped w i (Share e) d is = absurd (cc)
+    stepped w i (Once e) d is = absurd (cc)
 
     told : (w : World) (i : ℕ) (e : Event) (d : meets.Event) → meet_part e ≡ Some d
         → ((meets.step w.meets i d).reply ≡ (step w i e).reply.0) × ((meets.step w.meets i d).wakes ≡ (step w i e).reply.1)
@@ -146,12 +162,16 @@ embeds_meets = record { empty = refl; caused = caused; stepped = stepped; told =
     told w i (Meet e) d is = let same : d ≡ e = cc in (ap (λ o. (meets.step w.meets i o).reply) same, ap (λ o. (meets.step w.meets i o).wakes) same)
     told w i (Lock e) d is = absurd (cc)
     told w i (Chan e) d is = absurd (cc)
+    told w i (Share e) d is = absurd (cc)
+    told w i (Once e) d is = absurd (cc)
 
     others : (w : World) (i : ℕ) (e : Event) → meet_part e ≡ None → (step w i e).world.meets ≡ w.meets
     others w i (Sem e) is = refl
     others w i (Meet e) is = absurd (cc)
     others w i (Lock e) is = refl
     others w i (Chan e) is = refl
+    others w i (Share e) is = refl
+    others w i (Once e) is = refl
 
 embeds_locks : Embeds locks_family lock_part (λ w. w.locks)
 embeds_locks = record { empty = refl; caused = caused; stepped = stepped; told = told; others = others }
@@ -161,12 +181,16 @@ embeds_locks = record { empty = refl; caused = caused; stepped = stepped; told =
     caused w (Meet e) d is = absurd (cc)
     caused w (Lock e) d is = ap (λ o. locks_family.cause w.locks o) (let same : d ≡ e = cc in same)
     caused w (Chan e) d is = absurd (cc)
+    caused w (Share e) d is = absurd (cc)
+    caused w (Once e) d is = absurd (cc)
 
     stepped : (w : World) (i : ℕ) (e : Event) (d : locks_family.Event) → lock_part e ≡ Some d → (locks_family.step w.locks i d).hall ≡ (step w i e).world.locks
     stepped w i (Sem e) d is = absurd (cc)
     stepped w i (Meet e) d is = absurd (cc)
     stepped w i (Lock e) d is = ap (λ o. (locks_family.step w.locks i o).hall) (let same : d ≡ e = cc in same)
     stepped w i (Chan e) d is = absurd (cc)
+    stepped w i (Share e) d is = absurd (cc)
+    stepped w i (Once e) d is = absurd (cc)
 
     told : (w : World) (i : ℕ) (e : Event) (d : locks_family.Event) → lock_part e ≡ Some d
         → ((locks_family.step w.locks i d).reply ≡ (step w i e).reply.0) × ((locks_family.step w.locks i d).wakes ≡ (step w i e).reply.1)
@@ -174,12 +198,16 @@ embeds_locks = record { empty = refl; caused = caused; stepped = stepped; told =
     told w i (Meet e) d is = absurd (cc)
     told w i (Lock e) d is = let same : d ≡ e = cc in (ap (λ o. (locks_family.step w.locks i o).reply) same, ap (λ o. (locks_family.step w.locks i o).wakes) same)
     told w i (Chan e) d is = absurd (cc)
+    told w i (Share e) d is = absurd (cc)
+    told w i (Once e) d is = absurd (cc)
 
     others : (w : World) (i : ℕ) (e : Event) → lock_part e ≡ None → (step w i e).world.locks ≡ w.locks
     others w i (Sem e) is = refl
     others w i (Meet e) is = refl
     others w i (Lock e) is = absurd (cc)
     others w i (Chan e) is = refl
+    others w i (Share e) is = refl
+    others w i (Once e) is = refl
 
 embeds_chans : Embeds chans_family chan_part (λ w. w.chans)
 embeds_chans = record { empty = refl; caused = caused; stepped = stepped; told = told; others = others }
@@ -189,12 +217,16 @@ embeds_chans = record { empty = refl; caused = caused; stepped = stepped; told =
     caused w (Meet e) d is = absurd (cc)
     caused w (Lock e) d is = absurd (cc)
     caused w (Chan e) d is = ap (λ o. chans_family.cause w.chans o) (let same : d ≡ e = cc in same)
+    caused w (Share e) d is = absurd (cc)
+    caused w (Once e) d is = absurd (cc)
 
     stepped : (w : World) (i : ℕ) (e : Event) (d : chans_family.Event) → chan_part e ≡ Some d → (chans_family.step w.chans i d).hall ≡ (step w i e).world.chans
     stepped w i (Sem e) d is = absurd (cc)
     stepped w i (Meet e) d is = absurd (cc)
     stepped w i (Lock e) d is = absurd (cc)
     stepped w i (Chan e) d is = ap (λ o. (chans_family.step w.chans i o).hall) (let same : d ≡ e = cc in same)
+    stepped w i (Share e) d is = absurd (cc)
+    stepped w i (Once e) d is = absurd (cc)
 
     told : (w : World) (i : ℕ) (e : Event) (d : chans_family.Event) → chan_part e ≡ Some d
         → ((chans_family.step w.chans i d).reply ≡ (step w i e).reply.0) × ((chans_family.step w.chans i d).wakes ≡ (step w i e).reply.1)
@@ -202,12 +234,88 @@ embeds_chans = record { empty = refl; caused = caused; stepped = stepped; told =
     told w i (Meet e) d is = absurd (cc)
     told w i (Lock e) d is = absurd (cc)
     told w i (Chan e) d is = let same : d ≡ e = cc in (ap (λ o. (chans_family.step w.chans i o).reply) same, ap (λ o. (chans_family.step w.chans i o).wakes) same)
+    told w i (Share e) d is = absurd (cc)
+    told w i (Once e) d is = absurd (cc)
 
     others : (w : World) (i : ℕ) (e : Event) → chan_part e ≡ None → (step w i e).world.chans ≡ w.chans
     others w i (Sem e) is = refl
     others w i (Meet e) is = refl
     others w i (Lock e) is = refl
     others w i (Chan e) is = absurd (cc)
+    others w i (Share e) is = refl
+    others w i (Once e) is = refl
+
+embeds_shares : Embeds shares_family share_part (λ w. w.shares)
+embeds_shares = record { empty = refl; caused = caused; stepped = stepped; told = told; others = others }
+  where
+    caused : (w : World) (e : Event) (d : shares_family.Event) → share_part e ≡ Some d → shares_family.cause w.shares d ≡ cause_of w e
+    caused w (Sem e) d is = absurd (cc)
+    caused w (Meet e) d is = absurd (cc)
+    caused w (Lock e) d is = absurd (cc)
+    caused w (Chan e) d is = absurd (cc)
+    caused w (Share e) d is = ap (λ o. shares_family.cause w.shares o) (let same : d ≡ e = cc in same)
+    caused w (Once e) d is = absurd (cc)
+
+    stepped : (w : World) (i : ℕ) (e : Event) (d : shares_family.Event) → share_part e ≡ Some d → (shares_family.step w.shares i d).hall ≡ (step w i e).world.shares
+    stepped w i (Sem e) d is = absurd (cc)
+    stepped w i (Meet e) d is = absurd (cc)
+    stepped w i (Lock e) d is = absurd (cc)
+    stepped w i (Chan e) d is = absurd (cc)
+    stepped w i (Share e) d is = ap (λ o. (shares_family.step w.shares i o).hall) (let same : d ≡ e = cc in same)
+    stepped w i (Once e) d is = absurd (cc)
+
+    told : (w : World) (i : ℕ) (e : Event) (d : shares_family.Event) → share_part e ≡ Some d
+        → ((shares_family.step w.shares i d).reply ≡ (step w i e).reply.0) × ((shares_family.step w.shares i d).wakes ≡ (step w i e).reply.1)
+    told w i (Sem e) d is = absurd (cc)
+    told w i (Meet e) d is = absurd (cc)
+    told w i (Lock e) d is = absurd (cc)
+    told w i (Chan e) d is = absurd (cc)
+    told w i (Share e) d is = let same : d ≡ e = cc in (ap (λ o. (shares_family.step w.shares i o).reply) same, ap (λ o. (shares_family.step w.shares i o).wakes) same)
+    told w i (Once e) d is = absurd (cc)
+
+    others : (w : World) (i : ℕ) (e : Event) → share_part e ≡ None → (step w i e).world.shares ≡ w.shares
+    others w i (Sem e) is = refl
+    others w i (Meet e) is = refl
+    others w i (Lock e) is = refl
+    others w i (Chan e) is = refl
+    others w i (Share e) is = absurd (cc)
+    others w i (Once e) is = refl
+
+embeds_onces : Embeds onces_family once_part (λ w. w.onces)
+embeds_onces = record { empty = refl; caused = caused; stepped = stepped; told = told; others = others }
+  where
+    caused : (w : World) (e : Event) (d : onces_family.Event) → once_part e ≡ Some d → onces_family.cause w.onces d ≡ cause_of w e
+    caused w (Sem e) d is = absurd (cc)
+    caused w (Meet e) d is = absurd (cc)
+    caused w (Lock e) d is = absurd (cc)
+    caused w (Chan e) d is = absurd (cc)
+    caused w (Share e) d is = absurd (cc)
+    caused w (Once e) d is = ap (λ o. onces_family.cause w.onces o) (let same : d ≡ e = cc in same)
+
+    stepped : (w : World) (i : ℕ) (e : Event) (d : onces_family.Event) → once_part e ≡ Some d → (onces_family.step w.onces i d).hall ≡ (step w i e).world.onces
+    stepped w i (Sem e) d is = absurd (cc)
+    stepped w i (Meet e) d is = absurd (cc)
+    stepped w i (Lock e) d is = absurd (cc)
+    stepped w i (Chan e) d is = absurd (cc)
+    stepped w i (Share e) d is = absurd (cc)
+    stepped w i (Once e) d is = ap (λ o. (onces_family.step w.onces i o).hall) (let same : d ≡ e = cc in same)
+
+    told : (w : World) (i : ℕ) (e : Event) (d : onces_family.Event) → once_part e ≡ Some d
+        → ((onces_family.step w.onces i d).reply ≡ (step w i e).reply.0) × ((onces_family.step w.onces i d).wakes ≡ (step w i e).reply.1)
+    told w i (Sem e) d is = absurd (cc)
+    told w i (Meet e) d is = absurd (cc)
+    told w i (Lock e) d is = absurd (cc)
+    told w i (Chan e) d is = absurd (cc)
+    told w i (Share e) d is = absurd (cc)
+    told w i (Once e) d is = let same : d ≡ e = cc in (ap (λ o. (onces_family.step w.onces i o).reply) same, ap (λ o. (onces_family.step w.onces i o).wakes) same)
+
+    others : (w : World) (i : ℕ) (e : Event) → once_part e ≡ None → (step w i e).world.onces ≡ w.onces
+    others w i (Sem e) is = refl
+    others w i (Meet e) is = refl
+    others w i (Lock e) is = refl
+    others w i (Chan e) is = refl
+    others w i (Share e) is = refl
+    others w i (Once e) is = absurd (cc)
 
 -- ---- of a list of events, with the replies up to the first that has a cause for refusal
 pub front_balances : (es : List Event) → AreBalanced es (front_of es).replies
@@ -219,6 +327,8 @@ front_wakes es = record {
   meets_woken = λ i few. meet_wakes.no_wake_is_lost _ (runs_after meets meet_part (λ w. w.meets) embeds_meets es i few);
   locks_woken = λ i few. lock_wakes.no_wake_is_lost _ (runs_after locks_family lock_part (λ w. w.locks) embeds_locks es i few);
   chans_woken = λ i few. chan_wakes.no_wake_is_lost _ (runs_after chans_family chan_part (λ w. w.chans) embeds_chans es i few);
+  shares_woken = λ i few. share_wakes.no_wake_is_lost _ (runs_after shares_family share_part (λ w. w.shares) embeds_shares es i few);
+  onces_woken = λ i few. once_wakes.no_wake_is_lost _ (runs_after onces_family once_part (λ w. w.onces) embeds_onces es i few);
 }
 
 pub front_orders : (es : List Event) → GrantInOrder es (front_of es).replies
@@ -242,6 +352,8 @@ played_wakes es n w rs played counted = record {
   meets_woken = λ i few. meet_wakes.no_wake_is_lost _ (played_runs meets meet_part (λ w. w.meets) embeds_meets es n w rs played counted i few);
   locks_woken = λ i few. lock_wakes.no_wake_is_lost _ (played_runs locks_family lock_part (λ w. w.locks) embeds_locks es n w rs played counted i few);
   chans_woken = λ i few. chan_wakes.no_wake_is_lost _ (played_runs chans_family chan_part (λ w. w.chans) embeds_chans es n w rs played counted i few);
+  shares_woken = λ i few. share_wakes.no_wake_is_lost _ (played_runs shares_family share_part (λ w. w.shares) embeds_shares es n w rs played counted i few);
+  onces_woken = λ i few. once_wakes.no_wake_is_lost _ (played_runs onces_family once_part (λ w. w.onces) embeds_onces es n w rs played counted i few);
 }
 
 pub played_orders : (es : List Event) (n : ℕ) (w : World) (rs : Replies) → front_of (take n es) ≡ record { world = w; replies = rs; cause = None }

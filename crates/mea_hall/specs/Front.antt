@@ -2,7 +2,7 @@
 use Rattle.std.specs.Prelude.{ℕ, ◌≡◌, ◌+◌, ◌++◌, List, [], ◌∷◌, Option, Some, None}
 use Rattle.mea_base.specs.declared.answer.Answer.{Answer}
 use Rattle.mea_base.specs.declared.stop.Stop.{Stop}
-use Rattle.mea_hall.specs.declared.event.Event.{Event}
+use Rattle.mea_lines.specs.declared.event.Event.{Event}
 use Rattle.mea_hall.specs.World.{World, empty_world, cause_of, step}
 
 -- the world after the events that were played, their replies with their wakes, and the cause of the next

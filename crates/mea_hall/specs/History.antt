@@ -11,8 +11,12 @@ use Rattle.mea_lock_model.specs.declared.event.LockEvent.{LockEvent}
 use Rattle.mea_lock_model.specs.LockFamily.{locks_family}
 use Rattle.mea_chan_model.specs.declared.event.ChanEvent.{ChanEvent}
 use Rattle.mea_chan_model.specs.ChanFamily.{chans_family}
-use Rattle.mea_hall.specs.declared.event.Event.{Event}
-use Rattle.mea_hall.specs.declared.event.Event.TheVariants.{Sem, Meet, Lock, Chan}
+use Rattle.mea_share_model.specs.declared.event.ShareEvent.{ShareEvent}
+use Rattle.mea_share_model.specs.ShareFamily.{shares_family}
+use Rattle.mea_once_model.specs.declared.event.OnceEvent.{OnceEvent}
+use Rattle.mea_once_model.specs.OnceFamily.{onces_family}
+use Rattle.mea_lines.specs.declared.event.Event.{Event}
+use Rattle.mea_lines.specs.declared.event.Event.TheVariants.{Sem, Meet, Lock, Chan, Share, Once}
 
 -- the event as one of a family, if it is one
 abbrev pub semaphore_part : Event → Option SemEvent
@@ -20,24 +24,48 @@ semaphore_part (Sem e) = Some e
 semaphore_part (Meet e) = None
 semaphore_part (Lock e) = None
 semaphore_part (Chan e) = None
+semaphore_part (Share e) = None
+semaphore_part (Once e) = None
 
 abbrev pub meet_part : Event → Option MeetEvent
 meet_part (Sem e) = None
 meet_part (Meet e) = Some e
 meet_part (Lock e) = None
 meet_part (Chan e) = None
+meet_part (Share e) = None
+meet_part (Once e) = None
 
 abbrev pub lock_part : Event → Option LockEvent
 lock_part (Sem e) = None
 lock_part (Meet e) = None
 lock_part (Lock e) = Some e
 lock_part (Chan e) = None
+lock_part (Share e) = None
+lock_part (Once e) = None
 
 abbrev pub chan_part : Event → Option ChanEvent
 chan_part (Sem e) = None
 chan_part (Meet e) = None
 chan_part (Lock e) = None
 chan_part (Chan e) = Some e
+chan_part (Share e) = None
+chan_part (Once e) = None
+
+abbrev pub share_part : Event → Option ShareEvent
+share_part (Sem e) = None
+share_part (Meet e) = None
+share_part (Lock e) = None
+share_part (Chan e) = None
+share_part (Share e) = Some e
+share_part (Once e) = None
+
+abbrev pub once_part : Event → Option OnceEvent
+once_part (Sem e) = None
+once_part (Meet e) = None
+once_part (Lock e) = None
+once_part (Chan e) = None
+once_part (Share e) = None
+once_part (Once e) = Some e
 
 module _ (F : Family) (part : Event → Option F.Event) where
   -- how a run of the family goes on with one more event, which had this reply
@@ -71,6 +99,8 @@ pub record LoseNoWake (es : List Event) (rs : List (Answer × List ℕ)) : Type 
   pub meets_woken : AreWoken meets meet_part es rs
   pub locks_woken : AreWoken locks_family lock_part es rs
   pub chans_woken : AreWoken chans_family chan_part es rs
+  pub shares_woken : AreWoken shares_family share_part es rs
+  pub onces_woken : AreWoken onces_family once_part es rs
 
 -- at every point, of every semaphore: acquires have got what they asked for in the order of their first
 -- polls, the newest event woke whom it granted in that order, and who waits is not overtaken

@@ -1,17 +1,20 @@
 ghost use Rattle.std.specs.Prelude.{◌≡◌, ◌≢◌, ◌+◌, ◌-◌, ◌^◌, ◌<◌, ◌≤◌, ◌∷◌, [], ◌++◌, ◌⊎◌, ℕ, length, true, false, None, Some, OnOk, OnErr, IfOk, IfErr, IfSome, IfNone};
-ghost use Rattle.mea_hall.specs.declared.event.Event.{Event as Line};
+ghost use Rattle.mea_lines.specs.declared.event.Event.{Event as Line};
 ghost use Rattle.mea_hall.specs.World.{empty_world, Play, Plays, OthersStay, IsValid, TakesNoMemory, cause_of, registered, registers};
 ghost use Rattle.mea_hall.specs.Families.{world_of, PlaysFamilies};
 
-use crate::event::Event;
 use crate::waking::move_wakes;
 use mea_base::{Answer, NoMemory, Outbox, Stop};
 use mea_chan::{ChanEvent, ChanHall};
+use mea_lines::Event;
 use mea_lock::{LockEvent, LockHall};
 use mea_meet::MeetHall;
 use mea_meet_model::validity_is_kept;
+use mea_once::{OnceEvent, OnceHall};
 use mea_sem::SemHall;
 use mea_sem_model::SemEvent;
+use mea_share::ShareHall;
+use mea_share_model::ShareEvent;
 use std::alloc::Global;
 use std::marker::Model;
 
@@ -23,6 +26,8 @@ pub struct Hall {
     meets: MeetHall,
     locks: LockHall,
     chans: ChanHall,
+    shares: ShareHall,
+    onces: OnceHall,
     // What the families have made ready, in the order of the events; there is room for each waker that is
     // registered.
     outbox: Outbox<u64>,
@@ -37,7 +42,7 @@ impl Model for Hall {
 
     ghost coded = { play_code };
 
-    ghost view = { λ a. record { world = record { semaphores = a.semaphores.hall; meets = a.meets.hall; locks = a.locks.hall; chans = a.chans.hall }; wakes = a.outbox.wakers; events = a.events } };
+    ghost view = { λ a. record { world = record { semaphores = a.semaphores.hall; meets = a.meets.hall; locks = a.locks.hall; chans = a.chans.hall; shares = a.shares.hall; onces = a.onces.hall }; wakes = a.outbox.wakers; events = a.events } };
 
     ghost invariant = { λ a. record {
       fits : a.events < 2 ^ 64;
@@ -45,12 +50,16 @@ impl Model for Hall {
       meets : a.meets.next ≤ a.events;
       locks : a.locks.next ≤ a.events;
       chans : a.chans.next ≤ a.events;
+      shares : a.shares.next ≤ a.events;
+      onces : a.onces.next ≤ a.events;
       semaphores_moved : a.semaphores.wakes ≡ [];
       meets_moved : a.meets.wakes ≡ [];
       locks_moved : a.locks.wakes ≡ [];
       chans_moved : a.chans.wakes ≡ [];
-      room : registered (record { semaphores = a.semaphores.hall; meets = a.meets.hall; locks = a.locks.hall; chans = a.chans.hall }) ≤ a.outbox.spare;
-      few : registered (record { semaphores = a.semaphores.hall; meets = a.meets.hall; locks = a.locks.hall; chans = a.chans.hall }) ≤ a.events;
+      shares_moved : a.shares.wakes ≡ [];
+      onces_moved : a.onces.wakes ≡ [];
+      room : registered (record { semaphores = a.semaphores.hall; meets = a.meets.hall; locks = a.locks.hall; chans = a.chans.hall; shares = a.shares.hall; onces = a.onces.hall }) ≤ a.outbox.spare;
+      few : registered (record { semaphores = a.semaphores.hall; meets = a.meets.hall; locks = a.locks.hall; chans = a.chans.hall; shares = a.shares.hall; onces = a.onces.hall }) ≤ a.events;
     } };
 }
 
@@ -64,6 +73,8 @@ impl Hall {
             meets: MeetHall::new(alloc),
             locks: LockHall::new(alloc),
             chans: ChanHall::new(alloc),
+            shares: ShareHall::new(alloc),
+            onces: OnceHall::new(alloc),
             outbox: Outbox::new(alloc),
             events: 0,
         }
@@ -85,6 +96,8 @@ impl Hall {
             Event::Meet(event) => self.meets.cause(event),
             Event::Lock(event) => self.locks.cause(event),
             Event::Chan(event) => self.chans.cause(event),
+            Event::Share(event) => self.shares.cause(event),
+            Event::Once(event) => self.onces.cause(event),
         }
     }
 
@@ -109,6 +122,8 @@ impl Hall {
             &mut self.meets,
             &mut self.locks,
             &mut self.chans,
+            &mut self.shares,
+            &mut self.onces,
             self.events,
             event,
         )?;
@@ -116,6 +131,8 @@ impl Hall {
         move_wakes(&mut self.meets, &mut self.outbox);
         move_wakes(&mut self.locks, &mut self.outbox);
         move_wakes(&mut self.chans, &mut self.outbox);
+        move_wakes(&mut self.shares, &mut self.outbox);
+        move_wakes(&mut self.onces, &mut self.outbox);
         self.events += 1;
         Ok(answer)
     }
@@ -133,6 +150,8 @@ impl Hall {
             + self.meets.registered()
             + self.locks.registered()
             + self.chans.registered()
+            + self.shares.registered()
+            + self.onces.registered()
     }
 
     /// How many wakers are ready. It takes no memory.
@@ -171,6 +190,20 @@ impl Hall {
         &self.chans
     }
 
+    /// The hall of fair admission. It takes no memory.
+    pub fn shares(&self) -> &ShareHall
+        ensures { result.now.hall ≡ self.now.world.shares }
+    {
+        &self.shares
+    }
+
+    /// The hall of the calls that run once and of the cells. It takes no memory.
+    pub fn onces(&self) -> &OnceHall
+        ensures { result.now.hall ≡ self.now.world.onces }
+    {
+        &self.onces
+    }
+
     /// The hall of the locks. It takes no memory.
     pub fn locks(&self) -> &LockHall
         ensures { result.now.hall ≡ self.now.world.locks }
@@ -200,23 +233,27 @@ fn play_on_family(
     meets: &mut MeetHall,
     locks: &mut LockHall,
     chans: &mut ChanHall,
+    shares: &mut ShareHall,
+    onces: &mut OnceHall,
     number: u64,
     event: &Event,
 ) -> Result<Answer, Stop>
-    requires next { (semaphores.old.next ≤ number) × (meets.old.next ≤ number) × (locks.old.next ≤ number) × (chans.old.next ≤ number) }
-    requires moved { (semaphores.old.wakes ≡ []) × (meets.old.wakes ≡ []) × (locks.old.wakes ≡ []) × (chans.old.wakes ≡ []) }
-    ensures played { IfOk result (λ answer. PlaysFamilies (world_of semaphores.old meets.old locks.old chans.old) number event.now answer semaphores.new meets.new locks.new chans.new) }
-    ensures allowed { OnOk result (cause_of (world_of semaphores.old meets.old locks.old chans.old) event.now ≡ None) }
-    ensures refused { IfErr result (λ stop. (cause_of (world_of semaphores.old meets.old locks.old chans.old) event.now ≡ Some stop)
-        ⊎ ((cause_of (world_of semaphores.old meets.old locks.old chans.old) event.now ≡ None) × (stop ≡ Stop.NoMemory))) }
+    requires next { (semaphores.old.next ≤ number) × (meets.old.next ≤ number) × (locks.old.next ≤ number) × (chans.old.next ≤ number) × (shares.old.next ≤ number) × (onces.old.next ≤ number) }
+    requires moved { (semaphores.old.wakes ≡ []) × (meets.old.wakes ≡ []) × (locks.old.wakes ≡ []) × (chans.old.wakes ≡ []) × (shares.old.wakes ≡ []) × (onces.old.wakes ≡ []) }
+    ensures played { IfOk result (λ answer. PlaysFamilies (world_of semaphores.old meets.old locks.old chans.old shares.old onces.old) number event.now answer semaphores.new meets.new locks.new chans.new shares.new onces.new) }
+    ensures allowed { OnOk result (cause_of (world_of semaphores.old meets.old locks.old chans.old shares.old onces.old) event.now ≡ None) }
+    ensures refused { IfErr result (λ stop. (cause_of (world_of semaphores.old meets.old locks.old chans.old shares.old onces.old) event.now ≡ Some stop)
+        ⊎ ((cause_of (world_of semaphores.old meets.old locks.old chans.old shares.old onces.old) event.now ≡ None) × (stop ≡ Stop.NoMemory))) }
     ensures no_memory { TakesNoMemory event.now → result ≢ Err Stop.NoMemory }
-    ensures err { OnErr result ((semaphores.new ≡ semaphores.old) × (meets.new ≡ meets.old) × (locks.new ≡ locks.old) × (chans.new ≡ chans.old)) }
+    ensures err { OnErr result ((semaphores.new ≡ semaphores.old) × (meets.new ≡ meets.old) × (locks.new ≡ locks.old) × (chans.new ≡ chans.old) × (shares.new ≡ shares.old) × (onces.new ≡ onces.old)) }
 {
     match event {
         Event::Sem(event) => semaphores.act(number, event),
         Event::Meet(event) => meets.act(number, event),
         Event::Lock(event) => locks.act(number, event),
         Event::Chan(event) => chans.act(number, event),
+        Event::Share(event) => shares.act(number, event),
+        Event::Once(event) => onces.act(number, event),
     }
 }
 
@@ -228,9 +265,19 @@ fn registers(event: &Event) -> bool
         Event::Sem(SemEvent::Poll(..)) => true,
         Event::Sem(_) => false,
         Event::Meet(event) => event.registers(),
-        Event::Lock(LockEvent::MxPoll(..) | LockEvent::RwPoll(..)) => true,
+        Event::Lock(LockEvent::MxPoll(..) | LockEvent::RwPoll(..) | LockEvent::CvPoll(..)) => true,
         Event::Lock(_) => false,
-        Event::Chan(ChanEvent::MuRecv(..) | ChanEvent::OsPoll(..)) => true,
+        Event::Chan(
+            ChanEvent::MbPoll(..)
+            | ChanEvent::MbRecv(..)
+            | ChanEvent::MuRecv(..)
+            | ChanEvent::BcPoll(..)
+            | ChanEvent::OsPoll(..),
+        ) => true,
         Event::Chan(_) => false,
+        Event::Share(ShareEvent::FsPoll(..)) => true,
+        Event::Share(_) => false,
+        Event::Once(OnceEvent::OnPoll(..) | OnceEvent::OcPoll(..)) => true,
+        Event::Once(_) => false,
     }
 }

@@ -1,15 +1,14 @@
 ghost use Rattle.std.specs.Prelude.{◌≡◌, ◌≢◌, ◌+◌, ◌-◌, ◌^◌, ◌<◌, ◌≤◌, ◌∷◌, [], ◌++◌, ◌⊎◌, length, take, Some, None, OnOk, OnErr, IfErr, slice_get};
 ghost use Rattle.mea_base.specs.declared.answer.Answer.{Answer as Reply};
-ghost use Rattle.mea_hall.specs.declared.event.Event.{Event as Line};
+ghost use Rattle.mea_lines.specs.declared.event.Event.{Event as Line};
 ghost use Rattle.mea_hall.specs.World.{cause_of, step};
 ghost use Rattle.mea_hall.specs.Front.{Front, front_of, IsLegal};
 ghost use Rattle.mea_hall.specs.History.{AreBalanced, LoseNoWake, GrantInOrder};
-ghost use Rattle.mea_hall.specs.Replies.{with_wakes};
+ghost use Rattle.mea_lines.specs.Replies.{with_wakes};
 
-use crate::event::Event;
 use crate::hall::Hall;
-use crate::replies::Replies;
 use mea_base::Stop;
+use mea_lines::{Event, Replies};
 use std::alloc::Global;
 
 /// A list of events that was played up to the first that was refused, whose number is that of the replies.
@@ -67,7 +66,7 @@ fn play_next(hall: &mut Hall, replies: &mut Replies, event: &Event) -> Result<()
     ensures refused { IfErr result (λ stop. stop ≢ Stop.NoMemory → cause_of hall.old.world event.now ≡ Some stop) }
     ensures err { OnErr result ((hall.new ≡ hall.old) × (replies.new.replies ≡ replies.old.replies)) }
 {
-    replies.reserve(hall.registered())?;
+    replies.reserve(1, hall.registered())?;
     let answer = hall.act(event)?;
     replies.push(answer);
     hand_over(hall, replies);

@@ -4,7 +4,9 @@ use mea_base::Outbox;
 use mea_chan::ChanHall;
 use mea_lock::LockHall;
 use mea_meet::MeetHall;
+use mea_once::OnceHall;
 use mea_sem::SemHall;
+use mea_share::ShareHall;
 
 /// The hall of a family, which makes wakers ready and hands them out in their order.
 pub trait WakingHall {
@@ -65,6 +67,30 @@ impl WakingHall for ChanHall {
 
     fn next_wake(&mut self) -> Option<u64> {
         ChanHall::next_wake(self)
+    }
+}
+
+impl WakingHall for ShareHall {
+    ghost use Rattle.std.specs.Prelude.{[]};
+
+    ghost wakes_of = { λ h. h.wakes };
+
+    ghost quieted = { λ h. record h { wakes = [] } };
+
+    fn next_wake(&mut self) -> Option<u64> {
+        ShareHall::next_wake(self)
+    }
+}
+
+impl WakingHall for OnceHall {
+    ghost use Rattle.std.specs.Prelude.{[]};
+
+    ghost wakes_of = { λ h. h.wakes };
+
+    ghost quieted = { λ h. record h { wakes = [] } };
+
+    fn next_wake(&mut self) -> Option<u64> {
+        OnceHall::next_wake(self)
     }
 }
 

@@ -1,25 +1,35 @@
 use mea_base::{Answer, Stop};
-use mea_hall::{
-    Event, Hall, Replies, lines_have_one_spelling, put_number, put_reply, put_text, replay,
-};
+use mea_hall::{Hall, replay};
+use mea_lines::{Event, Replies, lines_have_one_spelling, put_number, put_reply, put_text};
 use mea_meet::MeetEvent;
 use mea_sem_model::SemEvent;
 
-// Each call that may find no memory finds some.
+// Each call that may find no memory finds some: an event.
 #[test]
-fn ample(rt: HostRuntime) {
-    let event = Event::Sem(SemEvent::New(1));
+fn ample_event(rt: HostRuntime) {
     let mut hall = Hall::new(rt.alloc());
-    assert!(rt; hall.act(&event) == Ok(Answer::Made));
-    assert!(rt; hall.act(&Event::Meet(MeetEvent::LatNew(1))) == Ok(Answer::Made));
-    assert!(rt; hall.act(&Event::Meet(MeetEvent::LatWait(1))) == Ok(Answer::Made));
-    assert!(rt; hall.act(&Event::Meet(MeetEvent::LatPoll(2, 5))) == Ok(Answer::Pending));
-    assert!(rt; hall.registered() == 1);
+    assert!(rt; hall.act(&Event::Sem(SemEvent::New(1))) == Ok(Answer::Made));
+}
+
+// The same: events that are replayed, with a waker that is registered.
+#[test]
+fn ample_replay(rt: HostRuntime) {
+    let events = [
+        Event::Meet(MeetEvent::LatNew(1)),
+        Event::Meet(MeetEvent::LatWait(0)),
+        Event::Meet(MeetEvent::LatPoll(1, 5)),
+    ];
+    let played = replay(rt.alloc(), &events);
+    assert!(rt; played.ended == Ok(()) && played.replies.len() == 3);
+    assert!(rt; *played.replies.answer(2) == Answer::Pending);
+    assert!(rt; played.hall.registered() == 1);
+}
+
+// The same: replies and texts.
+#[test]
+fn ample_text(rt: HostRuntime) {
     let mut replies = Replies::new(rt.alloc());
-    assert!(rt; replies.reserve(3) == Ok(()));
-    let played = replay(rt.alloc(), &[event, Event::Sem(SemEvent::Free(0))]);
-    assert!(rt; played.ended == Ok(()));
-    assert!(rt; played.replies.len() == 2);
+    assert!(rt; replies.reserve(1, 3) == Ok(()));
     let mut text = Vec::new(rt.alloc());
     assert!(rt; put_text(&mut text, b"text") == Ok(()));
     assert!(rt; put_number(&mut text, 7) == Ok(()));

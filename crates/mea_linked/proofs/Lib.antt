@@ -2,3 +2,4 @@ pub mod Linking
 pub mod Pours
 pub mod Sets
 pub mod Waiters
+pub mod Poured

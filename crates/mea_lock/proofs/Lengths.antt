@@ -1,8 +1,8 @@
 -- how many wait after each call of a lock
-use Rattle.std.proofs.Common.{◌≡◌, ℕ, ◌+◌, ◌-◌, ◌≤◌, ◌==◌, ◌⊎◌, inl, inr, Bool, true, false, cond, length, List, [], ◌∷◌, ◌++◌, Ok, refl, ap, sym, ◌∙◌, arith}
+use Rattle.std.proofs.Common.{◌≡◌, ℕ, ◌+◌, ◌-◌, ◌≤◌, ◌==◌, ◌⊎◌, inl, inr, Bool, true, false, cond, length, List, [], ◌∷◌, ◌++◌, Ok, refl, ap, ◌∙◌, arith}
 use Rattle.std.proofs.lemmas.Bool.{cases_lt}
 use Rattle.std.proofs.lemmas.List.{length-append}
-use Rattle.mea_base.specs.Queue.{waiting_after, granted_in}
+use Rattle.mea_base.specs.Queue.{granted_in}
 use Rattle.mea_base.specs.declared.turn.Turn.{Turn}
 use Rattle.mea_named.proofs.LackingQueues.{poured_parts}
 use Rattle.mea_named.specs.declared.named_waker.NamedWaker.{NamedWaker}
@@ -42,6 +42,18 @@ module _ {W : Type 0} where
   poll_length s s' (Queued d n) a' w turn opened polls (inr cut) unready = absurd (let closed = cut.0 in cc)
   poll_length s s' (Done d) a' w turn opened polls belongs unready = absurd unready
   poll_length s s' (Refused d) a' w turn opened polls belongs unready = absurd unready
+
+  -- and makes no waker ready
+  pub poll_quiet : (s s' : Core W) (a a' : Acquire) (w : W) (turn : Turn W) → s.closed ≡ false → Polls s a w (Ok turn) s' a' → Belongs s a → IsUnready a → s'.wakes ≡ s.wakes
+  poll_quiet s s' (New d) a' w turn opened polls belongs unready = elim (cases_lt s.free d) [
+    | inr enough ↦ ap (λ t. t.wakes) (polls.0 enough).1
+    | inl few ↦ let is = polls.1 few in ap (λ t. t.wakes) is.1.1.is
+  ]
+  poll_quiet s s' (Queued d n) a' w turn opened polls (inl (inl granted)) unready = let is = polls.0 granted in ap (λ t. t.wakes) is.1
+  poll_quiet s s' (Queued d n) a' w turn opened polls (inl (inr waits)) unready = let is = polls.1 waits in ap (λ t. t.wakes) is.1
+  poll_quiet s s' (Queued d n) a' w turn opened polls (inr cut) unready = absurd (let closed = cut.0 in cc)
+  poll_quiet s s' (Done d) a' w turn opened polls belongs unready = absurd unready
+  poll_quiet s s' (Refused d) a' w turn opened polls belongs unready = absurd unready
 
   length-wakers : (ws : List (Waiter W)) → length (wakers_of ws) ≤ length ws
   length-wakers [] = omega arith
@@ -91,3 +103,6 @@ unlock_fits l l' write unlocks quiet = rw (ap (λ (l : NamedLock). l.permits) un
 
 pub lower_fits : (l l' : NamedLock) → LowersLock l l' → l.permits.wakes ≡ [] → length l'.permits.queue + length l'.permits.wakes ≤ length l.permits.queue
 lower_fits l l' lowers quiet = rw (ap (λ (l : NamedLock). l.permits) lowers.lock) ((given_fits l.permits (l.most - 1) quiet).fits)
+
+pub lock_poll_quiet : (l l' : NamedLock) (x x' : RwWait) (w : NamedWaker) (turn : Turn NamedWaker) → IsSound l → PollsLock l x w turn l' x' → MayPoll l x → l'.permits.wakes ≡ l.permits.wakes
+lock_poll_quiet l l' x x' w turn sound polls may = let is = may_poll_acquire l x may in poll_quiet l.permits l'.permits (acquire_of l.most x) (acquire_of l.most x') w turn sound.is_open polls.polls is.0 is.1

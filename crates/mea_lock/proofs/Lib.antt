@@ -2,5 +2,9 @@ mod KindCalls
 mod Lengths
 pub mod Pours
 pub mod OneLock
+mod Notifying
+pub mod OneCondvar
 pub mod PartEvents
+mod WaitEvents
 pub mod Playing
+mod Asking

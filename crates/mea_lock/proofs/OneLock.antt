@@ -1,11 +1,11 @@
 -- one lock with its futures and guards: what each event leaves of it
-use Rattle.std.proofs.Common.{◌≡◌, ℕ, ◌+◌, ◌-◌, ◌<◌, ◌≤◌, ◌==◌, ◌++◌, ◌⊎◌, inl, inr, Bool, true, false, cond, length, List, [], ◌∷◌, map, nat_lt, sum_by, Option, Some, None, is_some, Ok, refl, ap, sym, subst, ◌∙◌, arith}
-use Rattle.std.specs.FinMap.{get, insert, remove, empty, entries, values, get-empty, len, len-empty, len-entries}
+use Rattle.std.proofs.Common.{◌≡◌, ℕ, ◌+◌, ◌-◌, ◌<◌, ◌≤◌, ◌++◌, ◌⊎◌, inl, inr, Bool, true, false, cond, length, List, [], ◌∷◌, map, nat_lt, sum_by, Option, Some, None, is_some, Ok, refl, ap, sym, subst, ◌∙◌, arith}
+use Rattle.std.specs.FinMap.{get, insert, remove, empty, entries, values, get-empty, len-empty, len-entries}
 use Rattle.std.specs.Ordering.{nat_cmp}
 use Rattle.mea_base.proofs.NamedMaps.{same_named}
 use Rattle.std.proofs.lemmas.Bool.{cases_lt}
 use Rattle.std.proofs.lemmas.Bool.Decides.{nat_tests}
-use Rattle.mea_base.specs.Totals.{total, weight}
+use Rattle.mea_base.specs.Totals.{weight}
 use Rattle.mea_base.specs.declared.turn.Turn.TheVariants.{Ready, Pending}
 use Rattle.mea_base.proofs.Maps.{by_put, removed_there, nothing_at, total-has, get-removed_other}
 use Rattle.mea_base.proofs.Totals.{total-empty, total-insert, total-remove}
@@ -20,7 +20,7 @@ use Rattle.mea_sem_core.specs.declared.acquire.Acquire.TheVariants.{New, Queued,
 use Rattle.mea_sem_core.specs.Core.{Core, Waiter, Acquires, Owes, HasNoDebt, paid_to, poured, held_of, paid_of, waiting}
 use Rattle.mea_sem_core.specs.Calls.{Belongs, Polls, Cancels, given_back, without_acquire}
 use Rattle.mea_lock_core.specs.Lock.{IsUnready}
-use Rattle.mea_lock_core.specs.RwLock.{IsSound, MayPoll, MayCancel, LetsIn, HoldsShare, share_of, readers_of, is_write, is_ready}
+use Rattle.mea_lock_core.specs.RwLock.{IsSound, MayPoll, MayCancel, share_of, is_write}
 use Rattle.mea_lock_core.specs.declared.rw_wait.RwWait.{RwWait}
 use Rattle.mea_lock_core.specs.declared.rw_wait.RwWait.TheVariants.{Read, NewWrite, Write}
 use Rattle.mea_lock_model.specs.Locks as model
@@ -28,10 +28,10 @@ use Rattle.mea_lock_model.specs.Locks.{Lock, taken_from}
 use Rattle.mea_linked.specs.Linked.{names_in, AreOf, IsHome, Linked}
 use Rattle.mea_linked.proofs.Linking.{IsUnqueued, unqueued_waits, linked_gone, linked_begun, linked_pushed, queued_waits, queued_lacks, queued_with, queued_without, linked_again, linked_taken, linked_left, push-names}
 use Rattle.mea_lock.specs.declared.guard_entry.GuardEntry.{GuardEntry}
-use Rattle.mea_lock.specs.Cores.{NamedLock, acquire_of, PollsLock, CancelsLock, IsFreeFor, TakesLock, UnlocksLock, LowersLock, IsHeldAs}
+use Rattle.mea_lock.specs.Cores.{NamedLock, acquire_of, IsFreeFor, TakesLock, UnlocksLock, LowersLock, IsHeldAs}
 use Rattle.mea_lock.specs.Entries.{KeptLock, KeptFuture, begun, finished, settled}
 use Rattle.mea_lock.specs.Waits.{has_number, is_polled, IsNewWait}
-use Rattle.mea_lock.specs.Parts.{lock_seen, acquires_of, held_by, AreKept, IsNewLock}
+use Rattle.mea_lock.specs.Parts.{lock_seen, acquires_of, held_by, held_in, IsHolder, WaitsWrite, AreKept, IsNewLock}
 use Rattle.mea_lock.proofs.Pours.{no_debt_without, queue_poured, free_poured, woken_poured, poured_linked}
 
 -- ---- waits and their acquires
@@ -64,6 +64,14 @@ entries_empty = at (entries (empty {X = ℕ} {R = nat_cmp})) (sym (len-entries (
     at : (es : List (ℕ × ℕ)) → length es ≡ 0 → es ≡ []
     at [] is = refl
     at (x ∷ es) is = absurd (omega arith)
+
+-- the future of a wait that writes
+write_put : (fs : Names KeptFuture) (f : ℕ) (y : KeptFuture) → WaitsWrite fs → (y.of_condvar ≡ true → is_write y.wait ≡ true) → WaitsWrite (insert fs f y)
+write_put fs f y all mine = by_put fs f y (λ g o. (z : KeptFuture) → o ≡ Some z → z.of_condvar ≡ true → is_write z.wait ≡ true) (λ z is condvar. let same : y ≡ z = cc in
+    ap (λ (x : KeptFuture). is_write x.wait) (sym same) ∙ mine (ap (λ (x : KeptFuture). x.of_condvar) same ∙ condvar)) (λ g apart z is condvar. all g z is condvar)
+
+write_gone : (fs : Names KeptFuture) (f : ℕ) → WaitsWrite fs → WaitsWrite (remove fs f)
+write_gone fs f all g z is condvar = all g z (removed_there fs f g z is) condvar
 
 -- each share is at least one permit
 share-least : (l : NamedLock) (write : Bool) → 0 < l.most → 1 ≤ share_of l write
@@ -107,6 +115,45 @@ module _ (e : KeptLock) (fs : Names KeptFuture) (gs : Names GuardEntry) (kept : 
   no_guard_held : held_of permits ≡ 0 → (k : ℕ) (g : GuardEntry) → get gs k ≡ Some g → ⊥
   no_guard_held none k g there = absurd (omega (arith, none, share_held k g there, share-least e.lock g.writes kept.sound.some))
 
+  -- ---- futures that hold it
+  holder-share : (x : KeptFuture) → x.holds ≡ true → cond x.holds e.lock.most 0 ≡ e.lock.most
+  holder-share x holds = ap (λ b. cond b e.lock.most 0) holds
+
+  no-share : (x : KeptFuture) → x.holds ≡ false → cond x.holds e.lock.most 0 ≡ 0
+  no-share x waits = ap (λ b. cond b e.lock.most 0) waits
+
+  share_at : (f : ℕ) (x : KeptFuture) → get fs f ≡ Some x → weight (λ k (x : KeptFuture). cond x.holds e.lock.most 0) f (get fs f) ≡ cond x.holds e.lock.most 0
+  share_at f x there = ap (weight (λ k (x : KeptFuture). cond x.holds e.lock.most 0) f) there
+
+  no_share_at : (f : ℕ) → get fs f ≡ None → weight (λ k (x : KeptFuture). cond x.holds e.lock.most 0) f (get fs f) ≡ 0
+  no_share_at f none = ap (weight (λ k (x : KeptFuture). cond x.holds e.lock.most 0) f) none
+
+  -- what futures hold where one is put, or is gone
+  held_in-put : (f : ℕ) (y : KeptFuture) → held_in e.lock (insert fs f y) + weight (λ k (x : KeptFuture). cond x.holds e.lock.most 0) f (get fs f) ≡ held_in e.lock fs + cond y.holds e.lock.most 0
+  held_in-put f y = total-insert (λ k (x : KeptFuture). cond x.holds e.lock.most 0) fs f y
+
+  held_in-gone : (f : ℕ) → held_in e.lock (remove fs f) + weight (λ k (x : KeptFuture). cond x.holds e.lock.most 0) f (get fs f) ≡ held_in e.lock fs
+  held_in-gone f = total-remove (λ k (x : KeptFuture). cond x.holds e.lock.most 0) fs f
+
+  -- none holds it where it may be taken, or where there is a guard
+  none_holds : held_of permits ≡ 0 → (f : ℕ) (x : KeptFuture) → get fs f ≡ Some x → x.holds ≡ true → ⊥
+  none_holds none f x there holds = absurd (omega (arith, none, kept.held, holder-share x holds, kept.sound.some, total-has (λ k (x : KeptFuture). cond x.holds e.lock.most 0) fs f x there))
+
+  none_where_free : (w : Bool) → IsFreeFor w e.lock → (f : ℕ) (x : KeptFuture) → get fs f ≡ Some x → x.holds ≡ true → ⊥
+  none_where_free true free f x there holds = none_holds free f x there holds
+  none_where_free false reads f x there holds = absurd (let writes = (kept.holders f x there holds).writing in cc)
+
+  none_beside : (k : ℕ) (g : GuardEntry) → get gs k ≡ Some g → (f : ℕ) (x : KeptFuture) → get fs f ≡ Some x → x.holds ≡ true → ⊥
+  none_beside k g guard f x there holds = absurd (omega (
+    arith,
+    kept.held,
+    kept.sound.alone (kept.holders f x there holds).writing,
+    holder-share x holds,
+    share-least e.lock g.writes kept.sound.some,
+    total-has (λ k (g : GuardEntry). share_of e.lock g.writes) gs k g guard,
+    total-has (λ k (x : KeptFuture). cond x.holds e.lock.most 0) fs f x there,
+  ))
+
   pub guard_held : (k : ℕ) (g : GuardEntry) → get gs k ≡ Some g → IsHeldAs e.lock g.writes
   guard_held k g there = at g.writes (kept.writing k g there) (share_held k g there)
     where
@@ -119,8 +166,10 @@ module _ (e : KeptLock) (fs : Names KeptFuture) (gs : Names GuardEntry) (kept : 
   revalued v named = record {
     sound = record { permits = kept.sound.permits; some = kept.sound.some; all = kept.sound.all; no_debt = kept.sound.no_debt; is_open = kept.sound.is_open; alone = kept.sound.alone };
     linked = kept.linked;
+    waits_write = kept.waits_write;
     asks = kept.asks;
     held = kept.held;
+    holders = λ f x is holds. let it = kept.holders f x is holds in record { of_condvar = it.of_condvar; writes = it.writes; new = it.new; writing = it.writing };
     writing = kept.writing;
     quiet = kept.quiet;
     things = kept.things;
@@ -128,14 +177,17 @@ module _ (e : KeptLock) (fs : Names KeptFuture) (gs : Names GuardEntry) (kept : 
   }
 
   -- ---- a future is made
-  pub begins : (f : ℕ) (x : KeptFuture) (write : Bool) → get fs f ≡ None → IsNewWait e.lock write x.wait → AreKept (begun e x.plain) (insert fs f x) gs
-  begins f x write none new = record {
+  pub begins : (f : ℕ) (x : KeptFuture) (write : Bool) → get fs f ≡ None → x.of_condvar ≡ false → x.holds ≡ false → IsNewWait e.lock write x.wait → AreKept (begun e x.plain) (insert fs f x) gs
+  begins f x write none alone waits new = record {
     sound = kept.sound;
     linked = rw (seen-insert (λ (x : KeptFuture). acquire_of e.lock.most x.wait) fs f x, new.acquire)
         (linked_begun permits.queue permits.granted acquires kept.linked f (rw (seen-none (λ (x : KeptFuture). acquire_of e.lock.most x.wait) fs f none) tt) (share_of e.lock write));
+    waits_write = write_put fs f x kept.waits_write (λ condvar. absurd (cc));
     asks = by_put fs f x (λ f o. (y : KeptFuture) → o ≡ Some y → demand_of (acquire_of e.lock.most y.wait) ≡ share_of e.lock (is_write y.wait))
         (λ y is. let same : x ≡ y = cc in rw (← same) (ap demand_of new.acquire ∙ ap (share_of e.lock) (sym new.writes))) (λ f apart y is. kept.asks f y is);
-    held = kept.held;
+    held = omega (arith, kept.held, no-share x waits, no_share_at f none, held_in-put f x);
+    holders = by_put fs f x (λ f o. (y : KeptFuture) → o ≡ Some y → y.holds ≡ true → IsHolder e.lock y) (λ y is holds. absurd (let same : x ≡ y = cc in let no : y.holds ≡ false = ap (λ (x : KeptFuture). x.holds) (sym same) ∙ waits in cc))
+        (λ f apart y is holds. kept.holders f y is holds);
     writing = kept.writing;
     quiet = kept.quiet;
     things = omega (arith, kept.things, len-new fs f x none);
@@ -169,8 +221,10 @@ module _ (e : KeptLock) (fs : Names KeptFuture) (gs : Names GuardEntry) (kept : 
       record {
         sound = rw takes.lock at takes.sound;
         linked = kept.linked;
+        waits_write = kept.waits_write;
         asks = kept.asks;
         held = omega (arith, kept.held, held, takes.held, held-new i g none);
+        holders = λ f x is holds. absurd (none_where_free g.writes takes.alone f x is holds);
         writing = let_in i g takes.alone;
         quiet = kept.quiet;
         things = omega (arith, kept.things, len-new gs i g none);
@@ -232,8 +286,10 @@ module _ (e : KeptLock) (fs : Names KeptFuture) (gs : Names GuardEntry) (kept : 
       record {
         sound = sound_settled _ (rw given.lock at given.sound);
         linked = given_linked (share_of e.lock g.writes);
+        waits_write = kept.waits_write;
         asks = kept.asks;
         held = omega (arith, kept.held, held, given.held, held-gone k g there);
+        holders = λ f x is holds. absurd (none_beside k g there f x is holds);
         writing = others_read k g there;
         quiet = refl;
         things = omega (arith, kept.things, len-some gs k g there, len-gone gs k g there);
@@ -250,8 +306,10 @@ module _ (e : KeptLock) (fs : Names KeptFuture) (gs : Names GuardEntry) (kept : 
       record {
         sound = sound_settled _ (rw given.lock at given.sound);
         linked = given_linked (e.lock.most - 1);
+        waits_write = kept.waits_write;
         asks = kept.asks;
         held = omega (arith, kept.held, held, given.held, all, mine, here, total-insert (λ k (g : GuardEntry). share_of e.lock g.writes) gs k (record g { writes = false }));
+        holders = λ f x is holds. absurd (none_beside k g there f x is holds);
         writing = by_put gs k (record g { writes = false }) (λ j o. (y : GuardEntry) → o ≡ Some y → y.writes ≡ false)
             (λ y is. let same : record g { writes = false } ≡ y = cc in ap (λ (y : GuardEntry). y.writes) (sym same))
             (λ j apart y is. others_read k g there j y (rw (get-removed_other gs k j apart) is));
@@ -275,7 +333,7 @@ module _ (e : KeptLock) (fs : Names KeptFuture) (gs : Names GuardEntry) (kept : 
         × (map (λ (k : NamedWaker). k.waker) t.wakes ≡ woken_by (names_in permits.queue) (share_of e.lock (is_write x.wait)))
         ⊎ (waits (who (names_in permits.queue)) f ≡ false) × (is_polled x.wait ≡ false) × (lock_seen (left_with t) ≡ lock_seen e) × (map (λ (k : NamedWaker). k.waker) t.wakes ≡ [])
 
-  module _ (f : ℕ) (x : KeptFuture) (there : get fs f ≡ Some x) where
+  module _ (f : ℕ) (x : KeptFuture) (there : get fs f ≡ Some x) (waits_now : x.holds ≡ false) where
     -- its acquire, as it is
     its_acquire : (a : Acquire) → acquire_of e.lock.most x.wait ≡ a → get acquires f ≡ Some a
     its_acquire a is = its f x there ∙ ap (λ a. Some a) is
@@ -294,8 +352,10 @@ module _ (e : KeptLock) (fs : Names KeptFuture) (gs : Names GuardEntry) (kept : 
       ended_by linked = record {
         sound = sound_settled _ sound;
         linked = rw (seen-remove (λ (x : KeptFuture). acquire_of e.lock.most x.wait) fs f) linked;
+        waits_write = write_gone fs f kept.waits_write;
         asks = λ g y is. kept.asks g y (removed_there fs f g y is);
-        held = held ∙ kept.held;
+        held = omega (arith, held, kept.held, held_in-gone f, share_at f x there, no-share x waits_now);
+        holders = λ g y is holds. let it = kept.holders g y (removed_there fs f g y is) holds in record { of_condvar = it.of_condvar; writes = it.writes; new = it.new; writing = it.writing };
         writing = kept.writing;
         quiet = refl;
         things = omega (arith, kept.things, len-some fs f x there, len-gone fs f x there);
@@ -370,6 +430,7 @@ module _ (e : KeptLock) (fs : Names KeptFuture) (gs : Names GuardEntry) (kept : 
     -- it waits on, or goes to the end of the queue
     pub record IsPending (w : ℕ) (t : Core NamedWaker) (y : RwWait) : Type 0 where
       pub stays : AreKept (now t e.lock.writing) (insert fs f (record x { wait = y })) gs
+      pub polled : is_polled y ≡ true
       pub seen : (waits (who (names_in permits.queue)) f ≡ true) × (lock_seen (now t e.lock.writing) ≡ record (lock_seen e) { queue = rewoken (names_in permits.queue) f w }) × (is_polled y ≡ is_polled x.wait)
           ⊎ (waits (who (names_in permits.queue)) f ≡ false) × (is_polled x.wait ≡ false) × (nat_lt permits.free (share_of e.lock (is_write x.wait)) ≡ true)
           × (lock_seen (now t e.lock.writing) ≡ record (lock_seen e) { free = 0; queue = names_in permits.queue ++ ((f, w), share_of e.lock (is_write x.wait) - permits.free) ∷ [] }) × (is_polled y ≡ true)
@@ -386,8 +447,10 @@ module _ (e : KeptLock) (fs : Names KeptFuture) (gs : Names GuardEntry) (kept : 
             record {
               sound = sound;
               linked = rw (seen-remove (λ (x : KeptFuture). acquire_of e.lock.most x.wait) fs f) linked;
+              waits_write = write_gone fs f kept.waits_write;
               asks = λ g y is. kept.asks g y (removed_there fs f g y is);
-              held = omega (arith, kept.held, held, held-new i g none);
+              held = omega (arith, kept.held, held, held-new i g none, held_in-gone f, share_at f x there, no-share x waits_now);
+              holders = λ h y is holds. absurd (none_where_free g.writes alone h y (removed_there fs f h y is) holds);
               writing = let_in i g alone;
               quiet = wakes ∙ kept.quiet;
               things = omega (arith, kept.things, len-some fs f x there, len-gone fs f x there, len-new gs i g none);
@@ -433,9 +496,13 @@ module _ (e : KeptLock) (fs : Names KeptFuture) (gs : Names GuardEntry) (kept : 
         waits_on linked wakes size = record {
           sound = sound;
           linked = rw (seen-insert (λ (x : KeptFuture). acquire_of e.lock.most x.wait) fs f (record x { wait = y })) linked;
+          waits_write = write_put fs f (record x { wait = y }) kept.waits_write (λ condvar. writes ∙ kept.waits_write f x there condvar);
           asks = by_put fs f (record x { wait = y }) (λ g o. (z : KeptFuture) → o ≡ Some z → demand_of (acquire_of e.lock.most z.wait) ≡ share_of e.lock (is_write z.wait))
               (λ z is. let same : record x { wait = y } ≡ z = cc in rw (← same) (size ∙ ap (share_of e.lock) (sym writes))) (λ g apart z is. kept.asks g z is);
-          held = held ∙ kept.held;
+          held = omega (arith, held, kept.held, held_in-put f (record x { wait = y }), share_at f x there, no-share x waits_now);
+          holders = by_put fs f (record x { wait = y }) (λ g o. (z : KeptFuture) → o ≡ Some z → z.holds ≡ true → IsHolder (record e.lock { permits = t }) z)
+              (λ z is holds. absurd (let same : record x { wait = y } ≡ z = cc in let no : z.holds ≡ false = ap (λ (x : KeptFuture). x.holds) (sym same) ∙ waits_now in cc))
+              (λ g apart z is holds. let it = kept.holders g z is holds in record { of_condvar = it.of_condvar; writes = it.writes; new = it.new; writing = it.writing });
           writing = kept.writing;
           quiet = wakes ∙ kept.quiet;
           things = omega (arith, kept.things, len-over fs f (record x { wait = y }) x there);
@@ -460,6 +527,7 @@ module _ (e : KeptLock) (fs : Names KeptFuture) (gs : Names GuardEntry) (kept : 
                   record {
                     stays = waits_on (rw (now_is, left.1.2) (linked_pushed permits.queue permits.granted acquires kept.linked f out left.1.0 d (d - permits.free) waker refl left.1.1.not_waiting left.1.1.not_granted))
                         (ap (λ (s : Core NamedWaker). s.wakes) now_is) (ap demand_of left.1.2 ∙ size);
+                    polled = polled_as _ left.1.2;
                     seen = inr (
                       unqueued_waits permits.queue permits.granted acquires kept.linked f out kept.sound.no_debt,
                       its_polled (New d) new,
@@ -477,6 +545,7 @@ module _ (e : KeptLock) (fs : Names KeptFuture) (gs : Names GuardEntry) (kept : 
                 let same : insert acquires f (acquire_of e.lock.most y) ≡ acquires = rw left.2 (insert_same acquires f (Queued d n) here) in
                 record {
                   stays = waits_on (rw (left.1, same) (linked_again permits.queue permits.granted acquires kept.linked f d n here waker refl)) (ap (λ (s : Core NamedWaker). s.wakes) left.1) (ap demand_of left.2 ∙ size);
+                  polled = polled_as _ left.2;
                   seen = inl (
                     queued_waits permits.queue permits.granted acquires kept.linked f d n here kept.sound.no_debt ∙ ap is_some waiting_is.1,
                     rw left.1 (λ i. record { value = e.lock.value; most = e.lock.most; free = permits.free; queue = queued_with permits.queue permits.granted acquires kept.linked f d n here waker refl kept.sound.no_debt i; named = e.named }),
@@ -485,6 +554,116 @@ module _ (e : KeptLock) (fs : Names KeptFuture) (gs : Names GuardEntry) (kept : 
                 }
             at (Done d) done is home = absurd home
             at (Refused d) refused is home = absurd home
+
+  -- ---- the futures of waits on condition variables
+  -- a guard that writes is handed over to a new one, which holds the lock from then on
+  pub hands : (f : ℕ) (x : KeptFuture) (g : ℕ) (y : GuardEntry) → get fs f ≡ None → get gs g ≡ Some y → y.writes ≡ true → x.plain ≡ y.plain → x.of_condvar ≡ true → x.holds ≡ true → IsNewWait e.lock true x.wait
+      → AreKept e (insert fs f x) (remove gs g)
+  hands f x g y none guard writes alike condvar holds new =
+      let all : share_of e.lock y.writes ≡ e.lock.most = ap (share_of e.lock) writes in
+      let same : ◌≡◌ {A = ℕ} (cond x.plain 1 0) (cond y.plain 1 0) = ap (λ b. cond b 1 0) alike in
+      record {
+        sound = kept.sound;
+        linked = rw (seen-insert (λ (x : KeptFuture). acquire_of e.lock.most x.wait) fs f x, new.acquire)
+            (linked_begun permits.queue permits.granted acquires kept.linked f (rw (seen-none (λ (x : KeptFuture). acquire_of e.lock.most x.wait) fs f none) tt) (share_of e.lock true));
+        waits_write = write_put fs f x kept.waits_write (λ is. new.writes);
+        asks = by_put fs f x (λ f o. (z : KeptFuture) → o ≡ Some z → demand_of (acquire_of e.lock.most z.wait) ≡ share_of e.lock (is_write z.wait))
+            (λ z is. let it : x ≡ z = cc in rw (← it) (ap demand_of new.acquire ∙ ap (share_of e.lock) (sym new.writes))) (λ f apart z is. kept.asks f z is);
+        held = omega (arith, kept.held, all, held-gone g y guard, holder-share x holds, no_share_at f none, held_in-put f x);
+        holders = by_put fs f x (λ f o. (z : KeptFuture) → o ≡ Some z → z.holds ≡ true → IsHolder e.lock z)
+            (λ z is has. let it : x ≡ z = cc in rw (← it) (record { of_condvar = condvar; writes = new.writes; new = new.acquire; writing = sym (kept.writing g y guard) ∙ writes })) (λ f apart z is has. kept.holders f z is has);
+        writing = λ k z is. kept.writing k z (removed_there gs g k z is);
+        quiet = kept.quiet;
+        things = omega (arith, kept.things, len-new fs f x none, len-some gs g y guard, len-gone gs g y guard);
+        plain = omega (arith, kept.plain, same, count-new fs f (λ (x : KeptFuture). x.plain) x none, count-gone gs g (λ (x : GuardEntry). x.plain) y guard);
+      }
+
+  module _ (f : ℕ) (x : KeptFuture) (there : get fs f ≡ Some x) (holds : x.holds ≡ true) where
+    holder : IsHolder e.lock x
+    holder = kept.holders f x there holds
+
+    -- all permits are held, and this future holds them
+    all_held : held_of permits ≡ e.lock.most
+    all_held = kept.sound.alone holder.writing
+
+    its_new : get acquires f ≡ Some (New e.lock.most)
+    its_new = its f x there ∙ ap (λ a. Some a) holder.new
+
+    -- it does not wait
+    pub holder_apart : waits (who (names_in permits.queue)) f ≡ false
+    holder_apart = unqueued_waits permits.queue permits.granted acquires kept.linked f (subst IsUnqueued (sym its_new) tt) kept.sound.no_debt
+
+    pub holder_held : IsHeldAs e.lock true
+    holder_held = holder.writing
+
+    -- another that holds the lock would hold more than there is
+    no_other : (m : Names KeptFuture) → held_in e.lock m + e.lock.most ≡ held_in e.lock fs → (g : ℕ) (z : KeptFuture) → get m g ≡ Some z → z.holds ≡ true → ⊥
+    no_other m less g z is has = absurd (omega (arith, less, all_held, kept.held, kept.sound.some, holder-share z has, total-has (λ k (x : KeptFuture). cond x.holds e.lock.most 0) m g z is))
+
+    no_guard_there : (k : ℕ) (z : GuardEntry) → get gs k ≡ Some z → ⊥
+    no_guard_there k z is = none_beside k z is f x there holds
+
+    -- it gives the lock up, and asks for it no more
+    module _ (y : RwWait) (l : NamedLock) (given : UnlocksLock e.lock true l) (new : IsNewWait e.lock true y) where
+      abbrev laid : KeptFuture
+      laid = record x { wait = y; holds = false }
+
+      less_held : held_in e.lock (insert fs f laid) + e.lock.most ≡ held_in e.lock fs
+      less_held = omega (arith, held_in-put f laid, share_at f x there, holder-share x holds)
+
+      pub lays : AreKept (gave_back e.lock.most) (insert fs f laid) gs
+      lays =
+          let held = ap (λ (l : NamedLock). held_of l.permits) given.lock in
+          record {
+            sound = sound_settled _ (rw given.lock at given.sound);
+            linked = rw (seen-insert (λ (x : KeptFuture). acquire_of e.lock.most x.wait) fs f laid, new.acquire, insert_same acquires f (New e.lock.most) its_new) (given_linked e.lock.most);
+            waits_write = write_put fs f laid kept.waits_write (λ is. new.writes);
+            asks = by_put fs f laid (λ f o. (z : KeptFuture) → o ≡ Some z → demand_of (acquire_of e.lock.most z.wait) ≡ share_of e.lock (is_write z.wait))
+                (λ z is. let it : laid ≡ z = cc in rw (← it) (ap demand_of new.acquire ∙ ap (share_of e.lock) (sym new.writes))) (λ f apart z is. kept.asks f z is);
+            held = omega (arith, kept.held, held, given.held, less_held);
+            holders = λ g z is has. absurd (no_other (insert fs f laid) less_held g z is has);
+            writing = λ k z is. absurd (no_guard_there k z is);
+            quiet = refl;
+            things = omega (arith, kept.things, len-over fs f laid x there);
+            plain = omega (arith, kept.plain, count-over fs f (λ (x : KeptFuture). x.plain) laid x there refl);
+          }
+
+    -- it ends
+    pub holder_ends : (l : NamedLock) → UnlocksLock e.lock true l → AreKept (finished (gave_back e.lock.most) x.plain) (remove fs f) gs
+    holder_ends l given =
+        let held = ap (λ (l : NamedLock). held_of l.permits) given.lock in
+        let less : held_in e.lock (remove fs f) + e.lock.most ≡ held_in e.lock fs = omega (arith, held_in-gone f, share_at f x there, holder-share x holds) in
+        record {
+          sound = sound_settled _ (rw given.lock at given.sound);
+          linked = rw (seen-remove (λ (x : KeptFuture). acquire_of e.lock.most x.wait) fs f) (linked_gone _ _ acquires (given_linked e.lock.most) f (subst IsUnqueued (sym its_new) tt));
+          waits_write = write_gone fs f kept.waits_write;
+          asks = λ g z is. kept.asks g z (removed_there fs f g z is);
+          held = omega (arith, kept.held, held, given.held, less);
+          holders = λ g z is has. absurd (no_other (remove fs f) less g z is has);
+          writing = λ k z is. absurd (no_guard_there k z is);
+          quiet = refl;
+          things = omega (arith, kept.things, len-some fs f x there, len-gone fs f x there);
+          plain = omega (arith, kept.plain, count-gone fs f (λ (x : KeptFuture). x.plain) x there);
+        }
+
+    -- it is ready, and becomes a guard
+    pub holder_ready : (i : ℕ) (g : GuardEntry) → get gs i ≡ None → g.writes ≡ true → g.plain ≡ x.plain → AreKept e (remove fs f) (insert gs i g)
+    holder_ready i g none writes alike =
+        let all : share_of e.lock g.writes ≡ e.lock.most = ap (share_of e.lock) writes in
+        let same : ◌≡◌ {A = ℕ} (cond g.plain 1 0) (cond x.plain 1 0) = ap (λ b. cond b 1 0) alike in
+        record {
+          sound = kept.sound;
+          linked = rw (seen-remove (λ (x : KeptFuture). acquire_of e.lock.most x.wait) fs f) (linked_gone permits.queue permits.granted acquires kept.linked f (subst IsUnqueued (sym its_new) tt));
+          waits_write = write_gone fs f kept.waits_write;
+          asks = λ g z is. kept.asks g z (removed_there fs f g z is);
+          held = omega (arith, kept.held, all, held-new i g none, held_in-gone f, share_at f x there, holder-share x holds);
+          holders = λ h z is has. kept.holders h z (removed_there fs f h z is) has;
+          writing = by_put gs i g (λ j o. (z : GuardEntry) → o ≡ Some z → z.writes ≡ e.lock.writing)
+              (λ z is. let it : g ≡ z = cc in ap (λ (y : GuardEntry). y.writes) (sym it) ∙ writes ∙ sym holder.writing) (λ j apart z is. kept.writing j z is);
+          quiet = kept.quiet;
+          things = omega (arith, kept.things, len-some fs f x there, len-gone fs f x there, len-new gs i g none);
+          plain = omega (arith, kept.plain, same, count-gone fs f (λ (x : KeptFuture). x.plain) x there, count-new gs i (λ (x : GuardEntry). x.plain) g none);
+        }
 
   -- ---- a lock that has nothing is idle
   module _ (none : e.things ≡ 0) where
@@ -508,8 +687,18 @@ module _ (e : KeptLock) (fs : Names KeptFuture) (gs : Names GuardEntry) (kept : 
 
     -- it has no guard
     nothing_held : held_of permits ≡ 0
-    nothing_held = kept.held ∙ ap (held_by e.lock) no_guards ∙ total-empty (λ k (g : GuardEntry). share_of e.lock g.writes)
+    nothing_held =
+        let guards = ap (held_by e.lock) no_guards ∙ total-empty (λ k (g : GuardEntry). share_of e.lock g.writes) in
+        let futures = ap (held_in e.lock) no_futures ∙ total-empty (λ k (x : KeptFuture). cond x.holds e.lock.most 0) in
+        omega (arith, kept.held, guards, futures)
       where
+        no_futures : fs ≡ empty
+        no_futures = same_named fs empty (λ k. at k (get fs k) refl ∙ sym (get-empty nat_cmp k))
+          where
+            at : (k : ℕ) (o : Option KeptFuture) → get fs k ≡ o → get fs k ≡ None
+            at k None is = is
+            at k (Some g) is = absurd (let some = len-some fs k g is in omega (arith, kept.things))
+
         no_guards : gs ≡ empty
         no_guards = same_named gs empty (λ k. at k (get gs k) refl ∙ sym (get-empty nat_cmp k))
           where
@@ -533,8 +722,10 @@ new_kept l value most new = record {
     owned = λ n d there. absurd (nothing_at ℕ n d there);
     apart = λ f g d e n there also. absurd (nothing_at Acquire f (Queued d n) there);
   });
+  waits_write = λ f x there. absurd (nothing_at KeptFuture f x there);
   asks = λ f x there. absurd (nothing_at KeptFuture f x there);
-  held = new.free ∙ sym (total-empty (λ k (g : GuardEntry). share_of l g.writes));
+  held = omega (arith, new.free, total-empty (λ k (g : GuardEntry). share_of l g.writes), total-empty (λ k (x : KeptFuture). cond x.holds l.most 0));
+  holders = λ f x there. absurd (nothing_at KeptFuture f x there);
   writing = λ k g there. absurd (nothing_at GuardEntry k g there);
   quiet = rw new.lock refl;
   things = omega (arith, len-empty nat_cmp KeptFuture, len-empty nat_cmp GuardEntry);

@@ -1,12 +1,17 @@
 -- what a hall keeps of a lock and of a future, and what the calls of a lock's entry do
-use Rattle.std.specs.Prelude.{ℕ, ◌≡◌, ◌+◌, ◌-◌, ◌==◌, ◌&&◌, ◌++◌, Bool, not, cond, [], length, map, refl}
+use Rattle.std.specs.Prelude.{ℕ, ◌≡◌, ◌≤◌, ◌+◌, ◌-◌, ◌==◌, ◌&&◌, ◌++◌, Bool, true, false, not, cond, [], length, map, refl}
 use Rattle.std.specs.Coded.{Coded, code_by, coded×, coded_ℕ, coded_bool}
 use Rattle.mea_base.specs.declared.turn.Turn.{Turn}
+use Rattle.mea_base.specs.declared.turn.Turn.TheVariants.{Ready, Pending}
 use Rattle.mea_base.specs.Ready.{Waking}
 use Rattle.mea_named.specs.declared.named_waker.NamedWaker.{NamedWaker}
 use Rattle.mea_lock_core.specs.RwLock.{rw_code}
 use Rattle.mea_lock_core.specs.declared.rw_wait.RwWait.{RwWait}
-use Rattle.mea_lock.specs.Cores.{NamedLock, PollsLock}
+use Rattle.mea_lock_model.specs.Locks.{Until, goes_on}
+use Rattle.mea_lock.specs.declared.until.Asked.{Asked}
+use Rattle.mea_lock.specs.declared.until.Asked.TheVariants as asked
+use Rattle.mea_lock.specs.Waits.{IsNewWait}
+use Rattle.mea_lock.specs.Cores.{NamedLock, PollsLock, CancelsLock, UnlocksLock, IsHeldAs}
 
 -- a lock, whether it is named, and how many futures and guards it has, and how many of them are plain
 pub record KeptLock : Type 0 where
@@ -15,11 +20,14 @@ pub record KeptLock : Type 0 where
   pub things : ℕ
   pub plain : ℕ
 
--- a future: the name of its lock, whether it is plain, and its wait
+-- a future: the name of its lock, whether it is plain, its wait, whether it is that of a wait on a condition variable,
+-- and whether it holds the lock, as such a wait does before its first poll
 pub record KeptFuture : Type 0 where
   pub lock : ℕ
   pub plain : Bool
   pub wait : RwWait
+  pub of_condvar : Bool
+  pub holds : Bool
 
 abbrev pub waker_code : Coded NamedWaker
 waker_code = code_by (ℕ × ℕ) (coded× coded_ℕ coded_ℕ) (λ k. (k.future, k.waker)) (λ p. record { future = p.0; waker = p.1 }) (λ _. refl)
@@ -57,3 +65,30 @@ pub record Polled (old : KeptLock) (f : ℕ) (x : KeptFuture) (waker : ℕ) (tur
   pub future : x' ≡ record x { wait = x'.wait }
   pub wakers : after.wakers ≡ before.wakers
   pub counted : after.registered + length old.lock.permits.queue ≡ before.registered + length left.permits.queue
+
+-- a future ended, also one that held the lock
+abbrev pub EndsLock : NamedLock → KeptFuture → NamedLock → Type 0
+EndsLock l x l' = (x.holds ≡ true → UnlocksLock l true l') × (x.holds ≡ false → CancelsLock l x.wait l')
+
+-- the future of a wait, named f, has the lock, which it had or was polled for; no waker is ready, and there is room for
+-- each that is registered
+pub record HasLock (old : KeptLock) (f : ℕ) (x : KeptFuture) (waker : ℕ) (new : KeptLock) (y : KeptFuture) (before after : Waking ℕ) : Type 0 where
+  pub held : x.holds ≡ true → (new ≡ old) × (y ≡ x) × (after ≡ before)
+  pub polled : x.holds ≡ false → (k : NamedWaker) × Polled old f x waker (Ready k) new y before after
+  pub writing : IsHeldAs new.lock true
+  pub quiet : new.lock.permits.wakes ≡ []
+  pub room : length new.lock.permits.queue ≤ after.registered
+  pub rest : y ≡ record x { wait = y.wait }
+
+-- whether it has the lock; where it has it not, it waits for it
+abbrev pub Asks : Bool → KeptLock → ℕ → KeptFuture → ℕ → KeptLock → KeptFuture → Waking ℕ → Waking ℕ → Type 0
+Asks true old f x waker new y before after = HasLock old f x waker new y before after
+Asks false old f x waker new y before after = (x.holds ≡ false) × Polled old f x waker Pending new y before after
+
+-- the future of a wait was polled: it waits for the lock; or has it, and is ready or gives it up by its value
+abbrev pub PolledUntil : KeptLock → ℕ → KeptFuture → ℕ → Until → Asked → KeptLock → KeptFuture → Waking ℕ → Waking ℕ → Type 0
+PolledUntil old f x waker until asked.Asks new x' before after = (x.holds ≡ false) × Polled old f x waker Pending new x' before after
+PolledUntil old f x waker until asked.Ready new x' before after = (goes_on until new.lock.value ≡ false) × HasLock old f x waker new x' before after
+PolledUntil old f x waker until asked.Lays new x' before after =
+    (e : KeptLock) × (y : KeptFuture) × (between : Waking ℕ) × (l : NamedLock) × HasLock old f x waker e y before between × (goes_on until e.lock.value ≡ true)
+    × UnlocksLock e.lock true l × Settles e l new between after × IsNewWait e.lock true x'.wait × (x' ≡ record x { wait = x'.wait; holds = false })

@@ -4,7 +4,31 @@ use Rattle.mea_sem_core.specs.declared.acquire.Acquire.{Acquire}
 use Rattle.mea_sem_core.specs.declared.acquire.Acquire.TheVariants as acquire
 use Rattle.mea_lock_core.specs.RwLock.{share_of, is_write}
 use Rattle.mea_lock_core.specs.declared.rw_wait.RwWait.{RwWait}
+use Rattle.mea_lock_model.specs.Locks as model
 use Rattle.mea_lock.specs.Cores.{NamedLock, acquire_of}
+use Rattle.mea_base.specs.declared.answer.Answer.{Answer}
+use Rattle.mea_base.specs.declared.answer.Answer.TheVariants as answers
+use Rattle.mea_lock.specs.declared.until.Asked.{Asked}
+use Rattle.mea_lock.specs.declared.until.Asked.TheVariants as asked
+use Rattle.mea_lock.specs.declared.until.Until.{Until}
+use Rattle.mea_lock.specs.declared.until.Until.TheVariants.{Held, Reached, Never}
+
+-- when a wait is ready, as the model says it
+abbrev pub until_seen : Until → model.Until
+until_seen Held = model.Held
+until_seen (Reached v) = model.Reached v
+until_seen Never = model.Never
+
+-- what was replied, and whether a future that is pending asks for the lock
+abbrev pub answer_to : Asked → Answer
+answer_to asked.Ready = answers.Ready
+answer_to asked.Asks = answers.Pending
+answer_to asked.Lays = answers.Pending
+
+abbrev pub AsksFor : Asked → Bool → Type 0
+AsksFor asked.Ready asks = Unit {0}
+AsksFor asked.Asks asks = asks ≡ true
+AsksFor asked.Lays asks = asks ≡ false
 
 abbrev pub has_number : Acquire → Bool
 has_number (acquire.New d) = false

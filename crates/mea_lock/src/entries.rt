@@ -1,10 +1,11 @@
 ghost use Rattle.std.specs.Prelude.{ℕ, ◌≡◌, ◌+◌, ◌-◌, ◌<◌, ◌≤◌, ◌^◌, ◌++◌, ◌||◌, [], nat_lt, length, map, cond, true, false, not, IfOk, OnErr};
 ghost use Rattle.mea_lock_core.specs.RwLock.{MayPoll, MayCancel, share_of, is_write};
 ghost use Rattle.mea_lock.specs.Cores.{NamedLock, CancelsLock, TakesLock, UnlocksLock, LowersLock, IsHeldAs};
-ghost use Rattle.mea_lock.specs.Waits.{IsNewWait};
+ghost use Rattle.mea_lock.specs.Waits.{IsNewWait, until_seen};
 
 use crate::guard_entry::GuardEntry;
 use crate::lock_core::{LockCore, LoweredCore};
+use crate::until::{Asked, Until};
 use mea_base::{NoMemory, Ready, Turn};
 use mea_named::NamedWaker;
 use std::marker::Model;
@@ -35,6 +36,9 @@ pub struct FutureEntry<C: LockCore> {
     lock: u64,
     plain: bool,
     wait: C::Wait,
+    // Whether it is that of a wait on a condition variable, and whether it holds the lock.
+    of_condvar: bool,
+    holds: bool,
 }
 
 impl<C: LockCore> Model for FutureEntry<C> {
@@ -42,7 +46,7 @@ impl<C: LockCore> Model for FutureEntry<C> {
 
     ghost Value = { KeptFuture };
 
-    ghost view = { λ x. record { lock = x.lock; plain = x.plain; wait = C.wait_of x.wait } };
+    ghost view = { λ x. record { lock = x.lock; plain = x.plain; wait = C.wait_of x.wait; of_condvar = x.of_condvar; holds = x.holds } };
 }
 
 /// 1 for a plain thing.
@@ -67,6 +71,13 @@ impl<C: LockCore> FutureEntry<C> {
         self.plain
     }
 
+    /// Whether it is that of a wait on a condition variable.
+    pub fn is_of_condvar(&self) -> bool
+        ensures { result ≡ self.now.of_condvar }
+    {
+        self.of_condvar
+    }
+
     /// The guard that it becomes.
     pub fn guard(&self) -> GuardEntry
         ensures { result ≡ record { lock = self.now.lock; plain = self.now.plain; writes = is_write self.now.wait } }
@@ -80,7 +91,7 @@ impl<C: LockCore> FutureEntry<C> {
 }
 
 impl<C: LockCore> LockEntry<C> {
-    ghost use Rattle.mea_lock.specs.Entries.{begun, finished, settled, is_over, Settles, Polled};
+    ghost use Rattle.mea_lock.specs.Entries.{begun, finished, settled, is_over, Settles, EndsLock, Polled, Asks, PolledUntil};
 
     /// A lock that is named and has nothing.
     pub fn new(core: C) -> Self
@@ -109,13 +120,29 @@ impl<C: LockCore> LockEntry<C> {
     /// A future of it, which is named `lock`, to read or to write.
     pub fn new_future(&self, lock: u64, plain: bool, write: bool) -> FutureEntry<C>
         requires { C.is_only_written ≡ true → write ≡ true }
-        ensures future { result ≡ record { lock = lock; plain = plain; wait = result.wait } }
+        ensures future { result ≡ record { lock = lock; plain = plain; wait = result.wait; of_condvar = false; holds = false } }
         ensures wait { IsNewWait self.now.lock write result.wait }
     {
         FutureEntry {
             lock,
             plain,
             wait: self.core.new_wait(write),
+            of_condvar: false,
+            holds: false,
+        }
+    }
+
+    /// The future of a wait on a condition variable, which holds the lock.
+    pub fn holder(&self, lock: u64, plain: bool) -> FutureEntry<C>
+        ensures future { result ≡ record { lock = lock; plain = plain; wait = result.wait; of_condvar = true; holds = true } }
+        ensures wait { IsNewWait self.now.lock true result.wait }
+    {
+        FutureEntry {
+            lock,
+            plain,
+            wait: self.core.new_wait(true),
+            of_condvar: true,
+            holds: true,
         }
     }
 
@@ -205,6 +232,78 @@ impl<C: LockCore> LockEntry<C> {
         let before = self.core.queue_len();
         self.core.cancel(future.wait);
         self.settle(before, ready);
+    }
+
+    /// Ends a future, also one that holds the lock.
+    pub fn end_future(&mut self, future: FutureEntry<C>, ready: &mut Ready<u64>)
+        requires belongs { future.holds ≡ false → MayCancel self.old.lock future.wait }
+        requires held { future.holds ≡ true → IsHeldAs self.old.lock true }
+        requires quiet { self.old.lock.permits.wakes ≡ [] }
+        requires room { length self.old.lock.permits.queue ≤ ready.old.registered }
+        ensures { (l : NamedLock) × EndsLock self.old.lock future l × Settles self.old l self.new ready.old ready.new }
+    {
+        if future.holds {
+            self.unlock(true, ready);
+        } else {
+            self.cancel(future, ready);
+        }
+    }
+
+    // Polls the future of a wait, which is named `f`, where it does not hold the lock, and tells whether it has it.
+    fn ask(
+        &mut self,
+        f: u64,
+        future: &mut FutureEntry<C>,
+        waker: u64,
+        ready: &mut Ready<u64>,
+    ) -> Result<bool, NoMemory>
+        requires allowed { MayPoll self.old.lock future.old.wait }
+        requires held { future.old.holds ≡ true → IsHeldAs self.old.lock true }
+        requires writes { is_write future.old.wait ≡ true }
+        requires quiet { self.old.lock.permits.wakes ≡ [] }
+        requires room { length self.old.lock.permits.queue ≤ ready.old.registered }
+        ensures asks { IfOk result (λ has. Asks has self.old f future.old waker self.new future.new ready.old ready.new) }
+        ensures err { OnErr result ((self.new ≡ self.old) × (future.new ≡ future.old) × (ready.new ≡ ready.old)) }
+    {
+        // That the core is sound is known from here on.
+        let _ = self.core.queue_len();
+        if future.holds {
+            return Ok(true);
+        }
+        match self.poll(f, future, waker, ready)? {
+            Turn::Pending => Ok(false),
+            Turn::Ready(_) => Ok(true),
+        }
+    }
+
+    /// Polls the future of a wait, which is named `f`, and gives the lock up again where the wait goes on at the
+    /// value.
+    pub fn poll_until(
+        &mut self,
+        f: u64,
+        future: &mut FutureEntry<C>,
+        waker: u64,
+        until: Until,
+        ready: &mut Ready<u64>,
+    ) -> Result<Asked, NoMemory>
+        requires allowed { MayPoll self.old.lock future.old.wait }
+        requires held { future.old.holds ≡ true → IsHeldAs self.old.lock true }
+        requires writes { is_write future.old.wait ≡ true }
+        requires quiet { self.old.lock.permits.wakes ≡ [] }
+        requires room { length self.old.lock.permits.queue ≤ ready.old.registered }
+        ensures polls { IfOk result (λ asked. PolledUntil self.old f future.old waker (until_seen until) asked self.new future.new ready.old ready.new) }
+        ensures err { OnErr result ((self.new ≡ self.old) × (future.new ≡ future.old) × (ready.new ≡ ready.old)) }
+    {
+        if !self.ask(f, future, waker, ready)? {
+            return Ok(Asked::Asks);
+        }
+        if !until.goes_on(self.core.value_by(true)) {
+            return Ok(Asked::Ready);
+        }
+        future.wait = self.core.new_wait(true);
+        future.holds = false;
+        self.unlock(true, ready);
+        Ok(Asked::Lays)
     }
 
     /// Polls a future, which is named `f`. The waker is counted before it is registered, and no longer where it

@@ -1,23 +1,24 @@
 ghost use Rattle.std.specs.Prelude.{◌≡◌, ◌≢◌, ◌≤◌, ◌∷◌, [], ◌⊎◌, length, is_some, OnOk, OnErr, IfOk, IfErr, IfSome, IfNone, None, Some};
 ghost use Rattle.mea_named.specs.Play.{Play, Yields};
 ghost use Rattle.mea_lock_model.specs.Locks.{is_named};
+ghost use Rattle.mea_lock_model.specs.Condvars.{is_condvar};
 ghost use Rattle.mea_lock_model.specs.LockHall.{empty_hall, registered};
 ghost use Rattle.mea_lock_model.specs.Meaning.{step, cause_of};
 ghost use Rattle.mea_lock_model.specs.Valid.{AllFit};
 ghost use Rattle.mea_lock.specs.Cores.{as_rw};
-ghost use Rattle.mea_lock.specs.Lends.{StandsFor};
+ghost use Rattle.mea_lock.specs.Lends.{StandsFor, ListsAs};
 ghost use Rattle.mea_lock.specs.Halls.{TakesNoMemory};
 
 use crate::kinds::Kinds;
 use mea_base::{Answer, Ready, Stop};
-use mea_lock_core::{MutexCore, RwCore};
+use mea_lock_core::{CondvarCore, MutexCore, RwCore};
 use mea_lock_model::{LockEvent, wakes_are_of_the_registered};
 use mea_named::NamedWaker;
 use std::alloc::Global;
 use std::marker::Model;
 
-/// Many mutexes and reader-writer locks with their futures and guards, each by the number of the event that made
-/// it.
+/// Many mutexes, reader-writer locks and condition variables with their futures and guards, each by the number of the
+/// event that made it.
 ///
 /// Each lock is a core of its own; a future keeps its wait. Its waker carries the future's name, so the core's
 /// queue tells who waits. Each event costs a look-up by name and the wakers that it makes ready.
@@ -39,12 +40,13 @@ impl Model for LockHall {
     ghost use Rattle.std.specs.Prelude.{◌≡◌, ◌≤◌};
     ghost use Rattle.mea_lock.specs.Halls.{hall_of};
 
-    ghost view = { λ a. record { hall = hall_of a.kinds.mutexes a.kinds.rw_locks; wakes = a.ready.wakers; next = a.next } };
+    ghost view = { λ a. record { hall = hall_of a.kinds.mutexes a.kinds.rw_locks a.kinds.condvars; wakes = a.ready.wakers; next = a.next } };
 
     ghost invariant = { λ a. record {
       mutexes : a.kinds.mutexes.next ≤ a.next;
       rw_locks : a.kinds.rw_locks.next ≤ a.next;
-      counted : a.ready.registered ≡ model.registered (hall_of a.kinds.mutexes a.kinds.rw_locks);
+      condvars : a.kinds.condvars.next ≤ a.next;
+      counted : a.ready.registered ≡ model.registered (hall_of a.kinds.mutexes a.kinds.rw_locks a.kinds.condvars);
       few : a.ready.registered ≤ a.next;
     } };
 }
@@ -101,6 +103,14 @@ impl LockHall {
         ensures stands { IfSome result (λ core. StandsFor self.now.hall.rw_locks name core.now) }
     {
         self.kinds.rw_locks.core(name)
+    }
+
+    /// The core of the condition variable of this name, where there is one. It takes no memory.
+    pub fn condvar(&self, name: u64) -> Option<&CondvarCore<NamedWaker>>
+        ensures there { is_some result ≡ is_condvar self.now.hall.condvars name }
+        ensures lists { IfSome result (λ core. ListsAs self.now.hall.condvars name core.now) }
+    {
+        self.kinds.condvars.core(name)
     }
 
     /// Why the event would be refused, but for want of memory; None where it would not. It takes no memory.

@@ -1,8 +1,9 @@
-//! The hall of locks: many mutexes and reader-writer locks by name, with their futures and guards, over the cores
-//! of `mea_lock_core`. It is proved against the model of `mea_lock_model`, and knows the cores by their contracts
+//! The hall of locks: many mutexes, reader-writer locks and condition variables by name, with their futures and
+//! guards, over the cores of `mea_lock_core`. It is proved against the model of `mea_lock_model`, and knows the cores by their contracts
 //! alone.
 #![tactic(auto)]
 
+mod condvar_entry;
 mod entries;
 mod guard_entry;
 mod hall;
@@ -11,6 +12,9 @@ mod lock_core;
 mod mutexes;
 mod part;
 mod rw_locks;
+mod until;
+mod wait_entry;
+mod wait_part;
 
 pub use hall::LockHall;
 pub use mea_lock_model::LockEvent;

@@ -1,15 +1,17 @@
 ghost use Rattle.std.specs.Prelude.{◌≡◌, ◌≤◌, ◌≢◌, OnErr, IfOk, IfErr, IfSome, is_some, None, Some, true, false, if◌then◌else◌};
 ghost use Rattle.std.specs.FinMap as map;
 ghost use Rattle.mea_named.specs.Play.{PartYields, PartRests};
-ghost use Rattle.mea_lock_model.specs.Locks.{no_locks, is_named, is_future, is_guard, is_write_guard, things_of, plain_of, registered};
-ghost use Rattle.mea_lock_model.specs.Actions.{act_in, Make, Begin, Poll, Try, Get, Set, Lower, End, Peek, Put, Take, Drop, borrowed_by};
+ghost use Rattle.mea_lock_model.specs.Locks.{no_locks, is_named, is_future, is_lock_future, is_condvar_future, is_guard, is_write_guard, was_polled, things_of, plain_of, registered};
+ghost use Rattle.mea_lock_model.specs.Actions.{act_in, Make, Begin, Poll, Try, Get, Set, Lower, End, Peek, Put, Take, Drop, Hand, PollUntil, EndWait, borrowed_by};
 ghost use Rattle.mea_lock_model.specs.Valid.{FitGuards};
 ghost use Rattle.mea_lock.specs.Parts.{IsNewLock};
 ghost use Rattle.mea_lock.specs.Lends.{StandsFor};
+ghost use Rattle.mea_lock.specs.Waits.{until_seen, answer_to, AsksFor};
 
 use crate::entries::{FutureEntry, LockEntry};
 use crate::guard_entry::GuardEntry;
 use crate::lock_core::{LockCore, LoweredCore};
+use crate::until::{Asked, Until};
 use mea_base::{Answer, NoMemory, Ready, Stop, Turn};
 use mea_named::ByName;
 use std::alloc::Global;
@@ -85,6 +87,26 @@ impl<C: LockCore> LockPart<C> {
         ensures { result ≡ is_future self.now.hall f }
     {
         self.futures.has(f)
+    }
+
+    /// Whether it is a future that waits for the lock alone.
+    pub fn is_lock_future(&self, f: u64) -> bool
+        ensures { result ≡ is_lock_future self.now.hall f }
+    {
+        match self.futures.get(f) {
+            Some(future) => !future.is_of_condvar(),
+            None => false,
+        }
+    }
+
+    /// Whether it is that of a wait on a condition variable.
+    pub fn is_condvar_future(&self, f: u64) -> bool
+        ensures { result ≡ is_condvar_future self.now.hall f }
+    {
+        match self.futures.get(f) {
+            Some(future) => future.is_of_condvar(),
+            None => false,
+        }
     }
 
     pub fn is_guard(&self, g: u64) -> bool
@@ -178,7 +200,7 @@ impl<C: LockCore> LockPart<C> {
         ready: &mut Ready<u64>,
     ) -> Result<Answer, NoMemory>
         requires next { self.old.next ≤ number }
-        requires there { is_future self.old.hall f ≡ true }
+        requires there { is_lock_future self.old.hall f ≡ true }
         requires room { registered self.old.hall ≤ ready.old.registered }
         ensures ok { IfOk result (λ answer. PartYields registered self.old number (act_in self.old.hall number (Poll f waker)) answer self.new ready.old ready.new) }
         ensures err { OnErr result ((self.new ≡ self.old) × (ready.new ≡ ready.old)) }
@@ -203,6 +225,73 @@ impl<C: LockCore> LockPart<C> {
                 let _ = self.futures.remove(f);
                 self.next = number as u128 + 1;
                 Ok(Answer::Ready)
+            }
+        }
+    }
+
+    /// Hands a guard that writes over to a wait on a condition variable, whose future has the lock instead. On an error
+    /// nothing has changed.
+    pub fn hand(&mut self, number: u64, g: u64) -> Result<Answer, NoMemory>
+        requires next { self.old.next ≤ number }
+        requires there { is_write_guard self.old.hall g ≡ true }
+        ensures ok { IfOk result (λ answer. PartRests registered self.old number (act_in self.old.hall number (Hand g)) answer self.new) }
+        ensures err { OnErr result (self.new ≡ self.old) }
+    {
+        let guard = *self.guards.at(g);
+        let entry = self.locks.at(guard.lock);
+        let Ok(()) = self
+            .futures
+            .insert(number, entry.holder(guard.lock, guard.plain))
+        else {
+            return Err(NoMemory);
+        };
+        let _ = self.guards.remove(g);
+        self.next = number as u128 + 1;
+        Ok(Answer::Made)
+    }
+
+    /// Polls the future of a wait, which gives the lock up again where it goes on at the value. Room for the guard is
+    /// made first. On an error nothing has changed.
+    pub fn poll_until(
+        &mut self,
+        number: u64,
+        f: u64,
+        waker: u64,
+        until: Until,
+        ready: &mut Ready<u64>,
+    ) -> Result<Asked, NoMemory>
+        requires next { self.old.next ≤ number }
+        requires there { is_condvar_future self.old.hall f ≡ true }
+        requires room { registered self.old.hall ≤ ready.old.registered }
+        ensures ok { IfOk result (λ asked. PartYields registered self.old number (act_in self.old.hall number (PollUntil f waker (until_seen until))) (answer_to asked) self.new ready.old ready.new) }
+        ensures asked { IfOk result (λ asked. AsksFor asked (was_polled (map.get self.new.hall.futures f))) }
+        ensures err { OnErr result ((self.new ≡ self.old) × (ready.new ≡ ready.old)) }
+    {
+        let future = self.futures.at_mut(f);
+        let guard = future.guard();
+        let entry = self.locks.at_mut(guard.lock);
+        let Ok(()) = self.guards.insert(number, guard) else {
+            return Err(NoMemory);
+        };
+        match entry.poll_until(f, future, waker, until, ready) {
+            Err(_) => {
+                let _ = self.guards.remove(number);
+                Err(NoMemory)
+            }
+            Ok(Asked::Ready) => {
+                let _ = self.futures.remove(f);
+                self.next = number as u128 + 1;
+                Ok(Asked::Ready)
+            }
+            Ok(Asked::Asks) => {
+                let _ = self.guards.remove(number);
+                self.next = number as u128 + 1;
+                Ok(Asked::Asks)
+            }
+            Ok(Asked::Lays) => {
+                let _ = self.guards.remove(number);
+                self.next = number as u128 + 1;
+                Ok(Asked::Lays)
             }
         }
     }
@@ -264,6 +353,17 @@ impl<C: LockCore> LockPart<C> {
         Answer::Done
     }
 
+    /// Whether it is a future that waits for the lock alone, or else a guard.
+    pub fn may_end(&self, x: u64) -> bool
+        ensures { result ≡ (if is_future self.now.hall x then is_lock_future self.now.hall x else is_guard self.now.hall x) }
+    {
+        if self.is_future(x) {
+            self.is_lock_future(x)
+        } else {
+            self.is_guard(x)
+        }
+    }
+
     /// Ends a future, or else a guard. It takes no memory.
     pub fn end(&mut self, number: u64, x: u64, ready: &mut Ready<u64>) -> Answer
         requires next { self.old.next ≤ number }
@@ -272,23 +372,24 @@ impl<C: LockCore> LockPart<C> {
         ensures { PartYields registered self.old number (act_in self.old.hall number (End x)) result self.new ready.old ready.new }
     {
         if self.is_future(x) {
-            self.end_future(number, x, ready)
+            self.end_wait(number, x, ready)
         } else {
             self.end_guard(number, x, ready)
         }
     }
 
-    fn end_future(&mut self, number: u64, f: u64, ready: &mut Ready<u64>) -> Answer
+    /// Ends a future, also that of a wait on a condition variable. It takes no memory.
+    pub fn end_wait(&mut self, number: u64, f: u64, ready: &mut Ready<u64>) -> Answer
         requires next { self.old.next ≤ number }
         requires there { is_future self.old.hall f ≡ true }
         requires room { registered self.old.hall ≤ ready.old.registered }
-        ensures { PartYields registered self.old number (act_in self.old.hall number (End f)) result self.new ready.old ready.new }
+        ensures { PartYields registered self.old number (act_in self.old.hall number (EndWait f)) result self.new ready.old ready.new }
     {
         let future = self.futures.remove(f);
         let o = future.lock();
         let plain = future.is_plain();
         let entry = self.locks.at_mut(o);
-        entry.cancel(future, ready);
+        entry.end_future(future, ready);
         entry.finish(plain);
         let over = entry.is_over();
         self.locks.remove_if(o, over);
@@ -380,7 +481,8 @@ impl<C: LoweredCore> LockPart<C> {
     }
 }
 
-fn borrowed_if(borrowed: bool) -> Option<Stop>
+// Borrowed, where something borrows it.
+pub(crate) fn borrowed_if(borrowed: bool) -> Option<Stop>
     ensures { result ≡ (if borrowed then Some Stop.Borrowed else None) }
 {
     if borrowed { Some(Stop::Borrowed) } else { None }

@@ -1,5 +1,5 @@
 -- what each change of a list of notes does to those that wait and those that were notified
-use Rattle.std.proofs.Common.{◌≡◌, ◌≢◌, ℕ, List, [], ◌∷◌, ◌++◌, Bool, false, Option, Some, None, IsSome, Ok, Result, map, refl, sym, ap, ap₂, ◌∙◌, inl, inr, append_assoc}
+use Rattle.std.proofs.Common.{◌≡◌, ◌≢◌, ℕ, List, [], ◌∷◌, ◌++◌, Bool, false, Option, Some, None, IsSome, IsTrue, ◌↔◌, true, Ok, Result, map, refl, sym, ap, ap₂, ◌∙◌, inl, inr, append_assoc}
 use Rattle.std.proofs.lemmas.Bool.{cases_eq}
 use Rattle.std.proofs.lemmas.List.{append-nil}
 use Rattle.std.specs.FinMap as fin
@@ -12,7 +12,7 @@ use Rattle.mea_base.proofs.Waits.{without_absent, absent_from_unlinked}
 use Rattle.mea_lock_core.specs.Condvar.{Condvar, IsSound, Knows, Lists, waker_under, with_waker, without_wait, first_notified, notifying, notified_all, passed_on}
 use Rattle.mea_lock_core.specs.CondWaits.{AsksLock, PollsListed, EndsListed}
 use Rattle.mea_lock_core.specs.Lock.{Lock}
-use Rattle.mea_lock_core.specs.Notes.{waker_in, notified_in, is_by_one, with_wait, waits_in, notified_of, condvar_of, AreNoted}
+use Rattle.mea_lock_core.specs.Notes.{waker_in, notified_in, is_waiting, is_by_one, with_wait, waits_in, notified_of, condvar_of, AreNoted}
 use Rattle.mea_lock_core.specs.declared.cond_wait.CondWait.{CondWait}
 use Rattle.mea_lock_core.specs.declared.cond_wait.CondWait.TheVariants.{Listed}
 use Rattle.mea_lock_core.specs.declared.note.Note.{Note}
@@ -200,6 +200,30 @@ module _ {W : Type 0} where
       (order ∙ ap (λ (x : Waits (Note W)). without n x.order) ws)
       (ap (λ (x : Wakes W). x.wakers) os)
       noted
+
+  -- ---- one wait that is listed, without its mutex
+  pub waits_as : (w : Waits (Note W)) (o : Wakes W) (n : ℕ) (note : Note W) → get w n ≡ Some note → AreNoted w → IsTrue (is_waiting note) ↔ IsSome (waker_under (condvar_of w o).waiting n)
+  waits_as w o n (Waiting v) found noted = (λ _. rw (waits_at w n v found noted) refl, λ _. refl)
+  waits_as w o n (Notified b) found noted = (λ yes. absurd (cc), λ waits. absurd (not_some _ (idle_at w n (Some (Notified b)) found refl) waits))
+
+  pub waits_note : (w : Waits (Note W)) (o : Wakes W) (n : ℕ) (note : Note W) → get w n ≡ Some note → IsSome (waker_under (condvar_of w o).waiting n) → notified_in (Some note) ≡ None
+  waits_note w o n (Waiting v) found waits = refl
+  waits_note w o n (Notified b) found waits = absurd (not_some _ (idle_at w n (Some (Notified b)) found refl) waits)
+
+  pub rewoken_note : (w : Waits (Note W)) (o : Wakes W) (n : ℕ) (waker : W) (note : Note W) → get w n ≡ Some note → notified_in (Some note) ≡ None
+      → condvar_of (with_value w n (Waiting waker)) o ≡ record (condvar_of w o) { waiting = with_waker (condvar_of w o).waiting n waker }
+  rewoken_note w o n waker (Waiting x) found waits = rewoken w o n x waker found
+  rewoken_note w o n waker (Notified b) found waits = absurd (cc)
+
+  pub unlisted_waited : (w v : Waits (Note W)) (o : Wakes W) (n : ℕ) (note : Note W) → get w n ≡ Some note → Updates w v n None → v.order ≡ without n w.order
+      → IsSome (waker_under (condvar_of w o).waiting n) → (is_by_one note ≡ false) × (condvar_of v o ≡ record (condvar_of w o) { waiting = without_wait (condvar_of w o).waiting n })
+  unlisted_waited w v o n (Waiting x) found updates order some = (refl, left_waiting w v o o n x found updates order refl)
+  unlisted_waited w v o n (Notified b) found updates order some = absurd (not_some _ (idle_at w n (Some (Notified b)) found refl) some)
+
+  pub unlisted_notified : (w v : Waits (Note W)) (o : Wakes W) (n : ℕ) (note : Note W) → get w n ≡ Some note → Updates w v n None → v.order ≡ without n w.order → AreNoted w
+      → (b : Bool) → fin.get (condvar_of w o).notified n ≡ Some b → (is_by_one note ≡ b) × (condvar_of v o ≡ record (condvar_of w o) { notified = fin.remove (condvar_of w o).notified n })
+  unlisted_notified w v o n (Waiting x) found updates order noted b told = absurd (let none = notified_at w n (Some (Waiting x)) found in cc)
+  unlisted_notified w v o n (Notified c) found updates order noted b told = (let some = notified_at w n (Some (Notified c)) found in cc, left_notified w v o o n c found updates order refl noted)
 
 module _ {V W : Type 0} where
   -- ---- polling

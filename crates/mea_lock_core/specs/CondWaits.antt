@@ -1,5 +1,5 @@
 -- what polling and ending a wait of a condition variable do, and what they ask for
-use Rattle.std.specs.Prelude.{◌≡◌, ◌<◌, ◌≤◌, ℕ, Some, Bool, false, Result, Ok, MatchResult, IsSome}
+use Rattle.std.specs.Prelude.{◌≡◌, ◌<◌, ◌≤◌, ℕ, Some, Bool, true, false, Result, Ok, MatchResult, IsSome}
 use Rattle.std.specs.FinMap as map
 use Rattle.mea_base.specs.declared.no_memory.NoMemory.{NoMemory}
 use Rattle.mea_base.specs.declared.turn.Turn.{Turn}
@@ -16,6 +16,13 @@ use Rattle.mea_lock_core.specs.declared.cond_wait.CondWait.TheVariants.{New, Lis
 -- what a wait that has lost its place becomes: one that was notified with all, and asks for the lock
 abbrev pub renewed_wait : CondWait
 renewed_wait = Locking false (acquire.New 1)
+
+-- the wait was never polled
+abbrev pub is_new : CondWait → Bool
+is_new New = true
+is_new (Listed _) = false
+is_new (Locking _ _) = false
+is_new Done = false
 
 -- the stage after a poll of the lock
 abbrev pub after_lock : {W : Type 0} → Bool → Turn W → Acquire → CondWait
@@ -85,6 +92,16 @@ module _ {V W : Type 0} where
   abbrev pub HoldsLock : Turn W → Lock V W → Type 0
   HoldsLock (Ready _) l = 1 ≤ held_of l.permits
   HoldsLock Pending l = Unit {0}
+
+  -- where a poll is ready, nobody held the lock before
+  abbrev pub FindsFree : Turn W → Lock V W → Type 0
+  FindsFree (Ready _) l = held_of l.permits ≡ 0
+  FindsFree Pending l = Unit {0}
+
+  -- where a poll is pending, the lock is held or free as before
+  abbrev pub StaysHeld : Turn W → Lock V W → Lock V W → Type 0
+  StaysHeld (Ready _) l l' = Unit {0}
+  StaysHeld Pending l l' = held_of l'.permits ≡ held_of l.permits
 
   -- the wait asks for this lock
   abbrev pub IsLocking : Lock V W → CondWait → Type 0

@@ -26,6 +26,10 @@ module _ {W : Type 0} where
   notified_in (Some (Waiting _)) = None
   notified_in (Some (Notified by_one)) = Some by_one
 
+  abbrev pub is_waiting : Note W → Bool
+  is_waiting (Waiting _) = true
+  is_waiting (Notified _) = false
+
   abbrev pub is_by_one : Note W → Bool
   is_by_one (Waiting _) = false
   is_by_one (Notified by_one) = by_one

@@ -1,8 +1,8 @@
-ghost use Rattle.std.specs.Prelude.{◌≡◌, ◌≤◌, ◌↔◌, [], ◌∷◌, length, IsTrue, IfOk, IfErr, IfSome, IfNone, OnErr};
+ghost use Rattle.std.specs.Prelude.{◌≡◌, ◌≤◌, ◌↔◌, [], ◌∷◌, length, IsTrue, IsSome, Bool, Some, false, IfOk, IfErr, IfSome, IfNone, OnOk, OnErr};
 ghost use Rattle.std.specs.FinMap as map;
 ghost use Rattle.mea_sem_core.specs.Core.{held_of};
-ghost use Rattle.mea_lock_core.specs.Condvar.{notified_one, notified_all, IsSound, Knows};
-ghost use Rattle.mea_lock_core.specs.CondWaits.{renewed_wait, after_lock, MayPollWait, Enters, PollsListed, PollsWait, HoldsLock, IsLocking, PollsAsking, MayEndWait, EndsListed, EndsWait};
+ghost use Rattle.mea_lock_core.specs.Condvar.{notified_one, notified_all, waker_under, with_waker, without_wait, IsSound, Knows, Lists};
+ghost use Rattle.mea_lock_core.specs.CondWaits.{renewed_wait, after_lock, MayPollWait, Enters, PollsListed, PollsWait, HoldsLock, FindsFree, StaysHeld, is_new, IsLocking, PollsAsking, MayEndWait, EndsListed, EndsWait};
 
 use crate::cond_wait::CondWait;
 use crate::lock_wait::LockWait;
@@ -59,6 +59,9 @@ pub(crate) fn poll_asking<V, W: Drop>(
     requires { IsLocking lock.old wait.old }
     ensures polls { PollsAsking lock.old wait.old waker result lock.new wait.new }
     ensures holds { IfOk result (λ turn. HoldsLock turn lock.new) }
+    ensures finds { IfOk result (λ turn. FindsFree turn lock.old) }
+    ensures stays { IfOk result (λ turn. StaysHeld turn lock.old lock.new) }
+    ensures polled { OnOk result (is_new wait.new ≡ false) }
     ensures waker { IfErr result (λ e. e.0 ≡ waker) }
     ensures err { OnErr result ((lock.new ≡ lock.old) × (wait.new ≡ wait.old)) }
 {
@@ -114,6 +117,11 @@ impl<W: Drop> CondvarCore<W> {
         requires { MayPollWait self.old lock.old wait.old }
         ensures polls { PollsWait self.old lock.old wait.old waker result self.new lock.new wait.new }
         ensures holds { IfOk result (λ turn. HoldsLock turn lock.new) }
+        ensures finds { IfOk result (λ turn. FindsFree turn lock.old) }
+        ensures stays { is_new wait.old ≡ false → IfOk result (λ turn. StaysHeld turn lock.old lock.new) }
+        ensures waker { IfErr result (λ e. e.0 ≡ waker) }
+        ensures polled { OnOk result (is_new wait.new ≡ false) }
+        ensures unchanged { OnErr result ((self.new ≡ self.old) × (lock.new ≡ lock.old)) }
         ensures sound { IsSound self.old → IsSound self.new }
     {
         match wait {
@@ -138,6 +146,10 @@ impl<W: Drop> CondvarCore<W> {
         requires new { wait.old ≡ CondWait.New }
         ensures enters { Enters self.old lock.old waker result self.new lock.new wait.new }
         ensures holds { IfOk result (λ turn. HoldsLock turn lock.new) }
+        ensures finds { IfOk result (λ turn. FindsFree turn lock.old) }
+        ensures waker { IfErr result (λ e. e.0 ≡ waker) }
+        ensures polled { OnOk result (is_new wait.new ≡ false) }
+        ensures unchanged { OnErr result ((self.new ≡ self.old) × (lock.new ≡ lock.old)) }
         ensures sound { IsSound self.old → IsSound self.new }
     {
         if reserve(&mut self.waiters, &mut self.outbox).is_err() {
@@ -161,6 +173,11 @@ impl<W: Drop> CondvarCore<W> {
         requires known { Knows self.old number }
         ensures polls { PollsListed self.old lock.old number waker result self.new lock.new wait.new }
         ensures holds { IfOk result (λ turn. HoldsLock turn lock.new) }
+        ensures finds { IfOk result (λ turn. FindsFree turn lock.old) }
+        ensures stays { IfOk result (λ turn. StaysHeld turn lock.old lock.new) }
+        ensures waker { IfErr result (λ e. e.0 ≡ waker) }
+        ensures polled { OnOk result (is_new wait.new ≡ false) }
+        ensures unchanged { OnErr result ((self.new ≡ self.old) × (lock.new ≡ lock.old)) }
         ensures sound { IsSound self.old → IsSound self.new }
     {
         let Some(by_one) = self.waiters.get(number).notified() else {
@@ -179,6 +196,7 @@ impl<W: Drop> CondvarCore<W> {
     pub fn end_wait<V>(&mut self, lock: &mut MutexCore<V, W>, wait: CondWait)
         requires { MayEndWait self.old lock.old wait }
         ensures ends { EndsWait self.old lock.old wait self.new lock.new }
+        ensures stays { is_new wait ≡ false → held_of lock.new.permits ≡ held_of lock.old.permits }
         ensures sound { IsSound self.old → IsSound self.new }
     {
         match wait {
@@ -192,6 +210,49 @@ impl<W: Drop> CondvarCore<W> {
             }
             CondWait::Done => {}
         }
+    }
+
+    /// Lists a wait that gives its lock back, and tells its number. It asks for memory before it changes anything,
+    /// and where there is none it hands the waker back.
+    pub fn list(&mut self, waker: W) -> Result<usize, (W, NoMemory)>
+        ensures lists { IfOk result (λ number. Lists self.old self.new number waker) }
+        ensures waker { IfErr result (λ e. e.0 ≡ waker) }
+        ensures err { OnErr result (self.new ≡ self.old) }
+        ensures sound { IsSound self.old → IsSound self.new }
+    {
+        if reserve(&mut self.waiters, &mut self.outbox).is_err() {
+            return Err((waker, NoMemory));
+        }
+        Ok(push_wait(&mut self.waiters, &self.outbox, waker))
+    }
+
+    /// Gives a wait that waits another waker. It takes no memory.
+    pub fn rewake(&mut self, number: usize, waker: W)
+        requires { IsSome (waker_under self.old.waiting number) }
+        ensures is { self.new ≡ record self.old { waiting = with_waker self.old.waiting number waker } }
+        ensures sound { IsSound self.old → IsSound self.new }
+    {
+        *self.waiters.get_mut(number) = Note::Waiting(waker);
+    }
+
+    /// Whether a wait that is listed waits, and was not notified yet. It takes no memory.
+    pub fn is_waiting(&self, number: usize) -> bool
+        requires { Knows self.now number }
+        ensures waits { IsTrue result ↔ IsSome (waker_under self.now.waiting number) }
+        ensures sound { IsSound self.now }
+    {
+        self.waiters.get(number).waits()
+    }
+
+    /// Takes a listed wait out, and tells whether it was notified alone. Nobody is notified in its place. It takes
+    /// no memory.
+    pub fn unlist(&mut self, number: usize) -> bool
+        requires { Knows self.old number }
+        ensures waited { IsSome (waker_under self.old.waiting number) → (result ≡ false) × (self.new ≡ record self.old { waiting = without_wait self.old.waiting number }) }
+        ensures notified { (by_one : Bool) → map.get self.old.notified number ≡ Some by_one → (result ≡ by_one) × (self.new ≡ record self.old { notified = map.remove self.old.notified number }) }
+        ensures sound { IsSound self.old → IsSound self.new }
+    {
+        take_out(&mut self.waiters, number).is_by_one()
     }
 
     // The end of a wait that the condition variable knows.
@@ -251,6 +312,11 @@ impl<W: Drop> CondvarCore<W> {
         ensures allowed { MayPollWait self.old lock.old wait.old → PollsWait self.old lock.old wait.old waker result self.new lock.new wait.new }
         ensures renewed { ¬ MayPollWait self.old lock.old wait.old → PollsWait self.old lock.old renewed_wait waker result self.new lock.new wait.new }
         ensures holds { IfOk result (λ turn. HoldsLock turn lock.new) }
+        ensures finds { IfOk result (λ turn. FindsFree turn lock.old) }
+        ensures stays { is_new wait.old ≡ false → IfOk result (λ turn. StaysHeld turn lock.old lock.new) }
+        ensures waker { IfErr result (λ e. e.0 ≡ waker) }
+        ensures polled { OnOk result (is_new wait.new ≡ false) }
+        ensures unchanged { OnErr result ((self.new ≡ self.old) × (lock.new ≡ lock.old)) }
         ensures sound { IsSound self.old → IsSound self.new }
     {
         if !self.poll_wait_allowed(lock, wait) {
@@ -276,6 +342,7 @@ impl<W: Drop> CondvarCore<W> {
     pub fn end_wait_checked<V>(&mut self, lock: &mut MutexCore<V, W>, wait: CondWait)
         ensures allowed { MayEndWait self.old lock.old wait → EndsWait self.old lock.old wait self.new lock.new }
         ensures refused { ¬ MayEndWait self.old lock.old wait → (self.new ≡ self.old) × (lock.new ≡ lock.old) }
+        ensures stays { is_new wait ≡ false → held_of lock.new.permits ≡ held_of lock.old.permits }
         ensures sound { IsSound self.old → IsSound self.new }
     {
         if self.end_wait_allowed(lock, &wait) {

@@ -183,6 +183,7 @@ impl<V, W: Drop> MutexCore<V, W> {
         ensures allowed { MayPoll self.old wait.old → Polls self.old.permits wait.old waker result self.new.permits wait.new }
         ensures renewed { ¬ MayPoll self.old wait.old → Polls self.old.permits (renewed wait.old) waker result self.new.permits wait.new }
         ensures value { self.new.value ≡ self.old.value }
+        ensures err { OnErr result (self.new ≡ self.old) }
         ensures takes { IfOk result (λ turn. TakesLock self.old turn self.new) }
         ensures sound { IsSound self.new }
     {

@@ -1,7 +1,7 @@
 ghost use Rattle.std.specs.Prelude.{◌≡◌, ◌≤◌, ◌+◌, ◌-◌, length, OnOk, Some, None};
 ghost use Rattle.mea_base.specs.WaitList.{get, IsInUse, Updates, without};
 ghost use Rattle.mea_lock_core.specs.Condvar.{IsSound, Lists, first_notified, notified_all, passed_on};
-ghost use Rattle.mea_lock_core.specs.Notes.{condvar_of, notified_in, is_by_one, AreNoted};
+ghost use Rattle.mea_lock_core.specs.Notes.{condvar_of, notified_in, is_waiting, is_by_one, AreNoted};
 
 use mea_base::{NoMemory, Outbox, WaitList};
 use std::mem;
@@ -23,6 +23,13 @@ impl<W> Note<W> {
             Note::Waiting(_) => None,
             Note::Notified { by_one } => Some(*by_one),
         }
+    }
+
+    // Whether it was not notified yet.
+    pub(crate) fn waits(&self) -> bool
+        ensures { result ≡ is_waiting self.now }
+    {
+        matches!(self, Note::Waiting(_))
     }
 
     // Whether it was notified alone.

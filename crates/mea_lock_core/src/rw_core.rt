@@ -70,6 +70,8 @@ impl<V, W: Drop> RwCore<V, W> {
         ensures polls { PollsRw self.old wait.old waker result self.new wait.new }
         ensures lets_in { IfOk result (λ turn. LetsIn (is_write wait.old) self.old turn) }
         ensures holds { IfOk result (λ turn. HoldsShare (is_write wait.old) self.old turn self.new) }
+        ensures writes { IfOk result (λ turn. self.new.writing ≡ (self.old.writing || (if is_write wait.old then is_ready turn else false))) }
+        ensures kind { is_write wait.new ≡ is_write wait.old }
         ensures err { OnErr result ((self.new ≡ self.old) × (wait.new ≡ wait.old)) }
         ensures sound { IsSound self.new }
     {
@@ -140,6 +142,7 @@ impl<V, W: Drop> RwCore<V, W> {
     pub fn cancel(&mut self, wait: RwWait)
         requires { MayCancel self.old wait }
         ensures cancels { CancelsRw self.old wait self.new }
+        ensures writing { self.new.writing ≡ self.old.writing }
         ensures held { held_of self.new.permits ≡ held_of self.old.permits }
         ensures sound { IsSound self.new }
     {
@@ -302,6 +305,10 @@ impl<V, W: Drop> RwCore<V, W> {
         ensures allowed { MayPoll self.old wait.old → PollsRw self.old wait.old waker result self.new wait.new }
         ensures renewed { ¬ MayPoll self.old wait.old → PollsRw self.old (renewed_rw wait.old) waker result self.new wait.new }
         ensures lets_in { IfOk result (λ turn. LetsIn (is_write wait.old) self.old turn) }
+        ensures holds { IfOk result (λ turn. HoldsShare (is_write wait.old) self.old turn self.new) }
+        ensures writes { IfOk result (λ turn. self.new.writing ≡ (self.old.writing || (if is_write wait.old then is_ready turn else false))) }
+        ensures kind { is_write wait.new ≡ is_write wait.old }
+        ensures err { OnErr result (self.new ≡ self.old) }
         ensures sound { IsSound self.new }
     {
         if !self.poll_allowed(wait) {
@@ -326,6 +333,7 @@ impl<V, W: Drop> RwCore<V, W> {
     pub fn cancel_checked(&mut self, wait: RwWait)
         ensures allowed { MayCancel self.old wait → CancelsRw self.old wait self.new }
         ensures refused { ¬ MayCancel self.old wait → self.new ≡ self.old }
+        ensures writing { self.new.writing ≡ self.old.writing }
         ensures held { held_of self.new.permits ≡ held_of self.old.permits }
         ensures sound { IsSound self.new }
     {
@@ -338,6 +346,7 @@ impl<V, W: Drop> RwCore<V, W> {
     pub fn unlock_read_checked(&mut self)
         ensures allowed { 1 ≤ readers_of self.old → self.new ≡ record self.old { permits = given_back self.old.permits 1 } }
         ensures refused { readers_of self.old ≡ 0 → self.new ≡ self.old }
+        ensures writing { self.new.writing ≡ self.old.writing }
         ensures sound { IsSound self.new }
     {
         if self.readers() >= 1 {

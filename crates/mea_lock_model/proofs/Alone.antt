@@ -1,14 +1,14 @@
 -- guards that fit their lock: a write is alone, and a lock of one permit has one guard
-use Rattle.std.proofs.Common.{◌≡◌, ℕ, ◌+◌, ◌≤◌, ◌<◌, Bool, true, false, cond, Some, ap, ◌∙◌, arith}
+use Rattle.std.proofs.Common.{◌≡◌, ℕ, ◌+◌, ◌≤◌, ◌<◌, Bool, true, false, Some, ap, ◌∙◌, arith}
 use Rattle.std.specs.FinMap.{get, remove}
-use Rattle.mea_base.specs.Totals.{total, weight}
+use Rattle.mea_base.specs.Totals.{weight}
 use Rattle.mea_base.proofs.Maps.{total-has, get-removed_other}
 use Rattle.mea_base.proofs.Tests.{by_name}
 use Rattle.mea_base.proofs.Totals.{total-remove}
 use Rattle.mea_named.specs.ByName.{own}
 use Rattle.mea_named.proofs.Own.{own-at}
 use Rattle.mea_lock_model.specs.Locks.{Lock, LockGuard, Locks, size}
-use Rattle.mea_lock_model.specs.Valid.{held_by, FitGuards, WritesAlone, OneGuard}
+use Rattle.mea_lock_model.specs.Valid.{FitGuards, WritesAlone, OneGuard}
 
 size-least : (r : Lock) (writes : Bool) → 0 < r.most → 1 ≤ size r writes
 size-least r true some = omega arith

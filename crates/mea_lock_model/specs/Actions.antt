@@ -7,7 +7,7 @@ use Rattle.mea_base.specs.Causes.{unknown_unless}
 use Rattle.mea_base.specs.Family.{Outcome}
 use Rattle.mea_named.specs.Play.{found}
 use Rattle.mea_lock_model.specs.Locks as locks
-use Rattle.mea_lock_model.specs.Locks.{Locks, LockFuture, is_named, is_future, is_guard, is_write_guard, things_of, plain_of}
+use Rattle.mea_lock_model.specs.Locks.{Locks, LockFuture, Until, is_named, is_future, is_lock_future, is_condvar_future, is_guard, is_write_guard, things_of, plain_of}
 
 pub data Action : Type 0 where
   -- a lock with this value, and so many permits
@@ -30,6 +30,10 @@ pub data Action : Type 0 where
   Take : ℕ → Action
   -- a lock loses its name
   Drop : ℕ → Action
+  -- a guard goes into a wait on a condition variable; the future of such a wait is polled with a waker, and ends
+  Hand : ℕ → Action
+  PollUntil : ℕ → ℕ → Until → Action
+  EndWait : ℕ → Action
 
 -- unknown, unless this is known; and then borrowed where there are so many borrowers
 abbrev pub borrowed_by : Bool → ℕ → Option Stop
@@ -38,16 +42,26 @@ borrowed_by known n = if known then (if nat_lt 0 n then Some stops.Borrowed else
 abbrev pub cause_in : Locks → Action → Option Stop
 cause_in h (Make v most) = if most == 0 then Some stops.Zero else None
 cause_in h (Begin o plain writes) = unknown_unless (is_named h o)
-cause_in h (Poll f w) = unknown_unless (is_future h f)
+cause_in h (Poll f w) = unknown_unless (is_lock_future h f)
 cause_in h (Try o plain writes) = unknown_unless (is_named h o)
 cause_in h (Get g) = unknown_unless (is_guard h g)
 cause_in h (Set g v) = unknown_unless (is_write_guard h g)
 cause_in h (Lower g) = unknown_unless (is_write_guard h g)
-cause_in h (End x) = unknown_unless (if is_future h x then true else is_guard h x)
+cause_in h (End x) = unknown_unless (if is_future h x then is_lock_future h x else is_guard h x)
 cause_in h (Peek o) = borrowed_by (is_named h o) (things_of h o)
 cause_in h (Put o v) = borrowed_by (is_named h o) (things_of h o)
 cause_in h (Take o) = borrowed_by (is_named h o) (things_of h o)
 cause_in h (Drop o) = borrowed_by (is_named h o) (plain_of h o)
+cause_in h (Hand g) = unknown_unless (is_write_guard h g)
+cause_in h (PollUntil f w until) = unknown_unless (is_condvar_future h f)
+cause_in h (EndWait f) = unknown_unless (is_condvar_future h f)
+
+-- whether it is done to the future of a wait, and so never by a line of a lock
+abbrev pub is_of_wait : Action → Bool
+is_of_wait (Hand g) = true
+is_of_wait (PollUntil f w until) = true
+is_of_wait (EndWait f) = true
+is_of_wait _ = false
 
 -- what is done under number i
 abbrev pub act_in : Locks → ℕ → Action → Outcome Locks
@@ -63,18 +77,24 @@ act_in h i (Peek o) = found (get h.locks o) h (locks.tell h)
 act_in h i (Put o v) = found (get h.locks o) h (locks.write h o v)
 act_in h i (Take o) = found (get h.locks o) h (locks.take_out h o)
 act_in h i (Drop o) = found (get h.locks o) h (locks.drop h o)
+act_in h i (Hand g) = found (get h.guards g) h (λ x. found (get h.locks x.lock) h (λ r. locks.hand h i g x))
+act_in h i (PollUntil f w until) = found (get h.futures f) h (λ x. found (get h.locks x.lock) h (locks.poll_until h i f w until x))
+act_in h i (EndWait f) = found (get h.futures f) h (λ x. locks.end_at h f x (get h.locks x.lock))
 
 -- the waker with which f is polled, if it is
 abbrev pub polled_in : Action → ℕ → Option ℕ
 polled_in (Poll g w) f = cond (g == f) (Some w) None
+polled_in (PollUntil g w until) f = cond (g == f) (Some w) None
 polled_in _ f = None
 
 -- whether f is ended
 abbrev pub ends_in : Action → ℕ → Bool
 ends_in (End k) f = k == f
+ends_in (EndWait k) f = k == f
 ends_in _ f = false
 
 -- whether a waker may be registered
 abbrev pub registers_in : Action → Bool
 registers_in (Poll f w) = true
+registers_in (PollUntil f w until) = true
 registers_in _ = false

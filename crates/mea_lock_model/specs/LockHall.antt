@@ -1,8 +1,10 @@
--- the locks of each kind
+-- the locks of each kind, and the condition variables
 use Rattle.std.specs.Prelude.{ℕ, ◌+◌, refl}
 use Rattle.std.specs.Coded.{Coded, code_by, coded×}
 use Rattle.mea_lock_model.specs.Locks as locks
 use Rattle.mea_lock_model.specs.Locks.{Locks, no_locks, locks_code}
+use Rattle.mea_lock_model.specs.Condvars as condvars
+use Rattle.mea_lock_model.specs.Condvars.{Condvars, no_condvars, condvars_code}
 
 pub data Kind : Type 0 where
   Mutexes : Kind
@@ -11,9 +13,10 @@ pub data Kind : Type 0 where
 pub record LockHall : Type 0 where
   pub mutexes : Locks
   pub rw_locks : Locks
+  pub condvars : Condvars
 
 abbrev pub empty_hall : LockHall
-empty_hall = record { mutexes = no_locks; rw_locks = no_locks }
+empty_hall = record { mutexes = no_locks; rw_locks = no_locks; condvars = no_condvars }
 
 -- the locks of a kind
 abbrev pub part : LockHall → Kind → Locks
@@ -27,7 +30,9 @@ with_part h RwLocks p = record h { rw_locks = p }
 
 -- how many wakers are registered
 abbrev pub registered : LockHall → ℕ
-registered h = locks.registered h.mutexes + locks.registered h.rw_locks
+registered h = locks.registered h.mutexes + locks.registered h.rw_locks + condvars.registered h.condvars
 
 abbrev pub hall_code : Coded LockHall
-hall_code = code_by (Locks × Locks) (coded× locks_code locks_code) (λ h. (h.mutexes, h.rw_locks)) (λ p. record { mutexes = p.0; rw_locks = p.1 }) (λ _. refl)
+hall_code =
+    code_by (Locks × (Locks × Condvars)) (coded× locks_code (coded× locks_code condvars_code))
+    (λ h. (h.mutexes, (h.rw_locks, h.condvars))) (λ p. record { mutexes = p.0; rw_locks = p.1.0; condvars = p.1.1 }) (λ _. refl)

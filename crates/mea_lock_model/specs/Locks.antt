@@ -1,5 +1,5 @@
 -- locks by name, with the futures and guards that are of them
-use Rattle.std.specs.Prelude.{ℕ, ◌+◌, ◌-◌, ◌==◌, Bool, true, false, List, [], ◌∷◌, ◌++◌, Option, Some, None, is_some, nat_lt, if◌then◌else◌, refl}
+use Rattle.std.specs.Prelude.{ℕ, ◌+◌, ◌-◌, ◌==◌, Bool, true, false, not, [], ◌∷◌, ◌++◌, Option, Some, None, is_some, nat_lt, if◌then◌else◌, refl}
 use Rattle.std.specs.Coded.{Coded, code_by, coded×, coded_ℕ, coded_bool, coded_list}
 use Rattle.std.specs.FinMap.{empty, get, insert, remove, len}
 use Rattle.mea_base.specs.declared.answer.Answer.TheVariants as answers
@@ -20,13 +20,14 @@ pub record Lock : Type 0 where
   pub queue : Lacking
   pub named : Bool
 
--- a future: whose it is, whether it is plain, whether it is to write, and whether it was polled. One that was
--- polled and waits no more was granted its permits
+-- a future: whose it is, whether it is plain, whether it is to write, whether it was polled, and whether it is that
+-- of a wait on a condition variable. One that was polled and waits no more has its permits
 pub record LockFuture : Type 0 where
   pub lock : ℕ
   pub plain : Bool
   pub writes : Bool
   pub polled : Bool
+  pub of_condvar : Bool
 
 pub record LockGuard : Type 0 where
   pub lock : ℕ
@@ -51,6 +52,22 @@ is_named h o = is_named_lock (get h.locks o)
 
 abbrev pub is_future : Locks → ℕ → Bool
 is_future h f = is_some (get h.futures f)
+
+abbrev pub is_waiting_for : Bool → Option LockFuture → Bool
+is_waiting_for condvar None = false
+is_waiting_for condvar (Some x) = if condvar then x.of_condvar else not x.of_condvar
+
+-- whether f is a future that waits for the lock alone
+abbrev pub is_lock_future : Locks → ℕ → Bool
+is_lock_future h f = is_waiting_for false (get h.futures f)
+
+-- whether f is that of a wait on a condition variable
+abbrev pub is_condvar_future : Locks → ℕ → Bool
+is_condvar_future h f = is_waiting_for true (get h.futures f)
+
+abbrev pub was_polled : Option LockFuture → Bool
+was_polled None = false
+was_polled (Some x) = x.polled
 
 abbrev pub is_guard : Locks → ℕ → Bool
 is_guard h g = is_some (get h.guards g)
@@ -113,7 +130,7 @@ abbrev pub make : Locks → ℕ → ℕ → ℕ → Outcome Locks
 make h i v most = quietly (with_lock h i (new_lock v most)) answers.Made
 
 abbrev pub begin : Locks → ℕ → ℕ → Bool → Bool → Outcome Locks
-begin h i o plain writes = quietly (record h { futures = insert h.futures i (record { lock = o; plain = plain; writes = writes; polled = false }) }) answers.Made
+begin h i o plain writes = quietly (record h { futures = insert h.futures i (record { lock = o; plain = plain; writes = writes; polled = false; of_condvar = false }) }) answers.Made
 
 -- f has its permits: it becomes a guard
 abbrev pub becomes_guard : Locks → ℕ → ℕ → LockFuture → Lock → Outcome Locks
@@ -144,6 +161,46 @@ poll h i f w x r =
     else if x.polled then becomes_guard h i f x r
     else if nat_lt r.free (size r x.writes) then queues h f w x r
     else becomes_guard h i f x (taken_from r (size r x.writes))
+
+-- ---- the waits on condition variables. Each has a future of its mutex, which has the lock before the first poll
+
+-- when a wait that has the lock is ready: at once, where the value is at least this, or never
+pub data Until : Type 0 where
+  Held : Until
+  Reached : ℕ → Until
+  Never : Until
+
+-- whether it goes on waiting at a value
+abbrev pub goes_on : Until → ℕ → Bool
+goes_on Held v = false
+goes_on (Reached least) v = nat_lt v least
+goes_on Never v = true
+
+-- a guard goes into a wait, whose future has the lock instead
+abbrev pub hand : Locks → ℕ → ℕ → LockGuard → Outcome Locks
+hand h i g x = quietly (record h {
+  futures = insert h.futures i (record { lock = x.lock; plain = x.plain; writes = x.writes; polled = true; of_condvar = true });
+  guards = remove h.guards g;
+}) answers.Made
+
+-- f gives the lock up and asks for it no more
+abbrev pub lays_down : Locks → ℕ → LockFuture → Lock → Outcome Locks
+lays_down h f x r = record {
+  hall = record h { locks = insert h.locks x.lock (poured r (size r x.writes)); futures = insert h.futures f (record x { polled = false }) };
+  reply = answers.Pending;
+  wakes = woken_by r.queue (size r x.writes);
+}
+
+-- f has the lock, and is ready or goes on waiting
+abbrev pub decides : Locks → ℕ → ℕ → Until → LockFuture → Lock → Outcome Locks
+decides h i f until x r = if goes_on until r.value then lays_down h f x r else becomes_guard h i f x r
+
+abbrev pub poll_until : Locks → ℕ → ℕ → ℕ → Until → LockFuture → Lock → Outcome Locks
+poll_until h i f w until x r =
+    if waits (waiting_at r) f then waits_on h f w x r
+    else if x.polled then decides h i f until x r
+    else if nat_lt r.free (size r x.writes) then queues h f w x r
+    else decides h i f until x (taken_from r (size r x.writes))
 
 abbrev pub try : Locks → ℕ → ℕ → Bool → Bool → Lock → Outcome Locks
 try h i o plain writes r =
@@ -201,7 +258,9 @@ abbrev pub lock_code : Coded Lock
 lock_code = code_by (ℕ × (ℕ × (ℕ × (Lacking × Bool)))) (coded× coded_ℕ (coded× coded_ℕ (coded× coded_ℕ (coded× lacking_code coded_bool)))) (λ r. (r.value, (r.most, (r.free, (r.queue, r.named))))) (λ p. record { value = p.0; most = p.1.0; free = p.1.1.0; queue = p.1.1.1.0; named = p.1.1.1.1 }) (λ _. refl)
 
 abbrev pub future_code : Coded LockFuture
-future_code = code_by (ℕ × (Bool × (Bool × Bool))) (coded× coded_ℕ (coded× coded_bool (coded× coded_bool coded_bool))) (λ x. (x.lock, (x.plain, (x.writes, x.polled)))) (λ p. record { lock = p.0; plain = p.1.0; writes = p.1.1.0; polled = p.1.1.1 }) (λ _. refl)
+future_code =
+    code_by (ℕ × (Bool × (Bool × (Bool × Bool)))) (coded× coded_ℕ (coded× coded_bool (coded× coded_bool (coded× coded_bool coded_bool))))
+    (λ x. (x.lock, (x.plain, (x.writes, (x.polled, x.of_condvar))))) (λ p. record { lock = p.0; plain = p.1.0; writes = p.1.1.0; polled = p.1.1.1.0; of_condvar = p.1.1.1.1 }) (λ _. refl)
 
 abbrev pub guard_code : Coded LockGuard
 guard_code = code_by (ℕ × (Bool × Bool)) (coded× coded_ℕ (coded× coded_bool coded_bool)) (λ x. (x.lock, (x.plain, x.writes))) (λ p. record { lock = p.0; plain = p.1.0; writes = p.1.1 }) (λ _. refl)

@@ -1,6 +1,6 @@
-/// A line of a script that speaks of locks. In each, `m` names a mutex, `l` a reader-writer lock, `f` a future,
-/// `g` a guard and `x` a future or a guard, by the number of the event that made it; `v` is a value and `w` a
-/// waker. Names are by kind.
+/// A line of a script that speaks of locks. In each, `m` names a mutex, `l` a reader-writer lock, `c` a condition
+/// variable, `f` a future, `g` a guard and `x` a future or a guard, by the number of the event that made it; `v` is
+/// a value and `w` a waker. Names are by kind.
 #[derive(Clone, Copy, Debug, PartialEq, Eq)]
 pub enum LockEvent {
     /// `mx.new v`: makes a mutex with a value.
@@ -67,4 +67,20 @@ pub enum LockEvent {
     RwInto(u64),
     /// `rw.drop l`: ends the name of a lock.
     RwDrop(u64),
+    /// `cv.new`: makes a condition variable.
+    CvNew,
+    /// `cv.wait c g`: makes a wait, which takes the guard of a mutex over.
+    CvWait(u64, u64),
+    /// `cv.waitw c g v`: makes a wait that goes on while the value is below v.
+    CvWaitw(u64, u64, u64),
+    /// `cv.poll f w`: polls a wait with a waker.
+    CvPoll(u64, u64),
+    /// `cv.one c`: notifies the first that waits.
+    CvOne(u64),
+    /// `cv.all c`: notifies each that waits, in their order.
+    CvAll(u64),
+    /// `cv.end f`: ends a wait.
+    CvEnd(u64),
+    /// `cv.drop c`: ends a condition variable that has no wait.
+    CvDrop(u64),
 }

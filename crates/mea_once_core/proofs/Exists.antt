@@ -1,5 +1,5 @@
 -- an entry that is there, and what holds of it
-use Rattle.std.proofs.Common.{◌≡◌, ◌↔◌, ◌<◌, ◌≤◌, ℕ, Bool, Option, Some, None, IsSome, IfSome, IsTrue, refl, sym, ap, subst, ◌∙◌, arith}
+use Rattle.std.proofs.Common.{◌≡◌, ◌↔◌, ◌<◌, ◌≤◌, ℕ, Bool, Option, Some, None, IsSome, IfSome, IsTrue, refl, ap, arith}
 
 module _ {X : Type 0} where
   -- a test tells that something is there of which two facts hold

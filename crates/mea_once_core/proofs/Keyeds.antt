@@ -1,16 +1,16 @@
 -- what a map or a group of calls keeps
-use Rattle.std.proofs.Common.{◌≡◌, ◌≢◌, ◌∙◌, ℕ, ◌+◌, ◌-◌, ◌<◌, ◌≤◌, ◌==◌, ◌&&◌, ◌++◌, Bool, true, false, not, cond, List, [], length, Option, Some, None, unwrap_or, Result, Ok, Err, is_err, OnOk, IfOk, IfErr, MatchOption, MatchResult, IsSome, IfSome, IsTrue, is_some, append-nil, refl, ap, sym, subst, arith}
+use Rattle.std.proofs.Common.{◌≡◌, ◌≢◌, ◌∙◌, ℕ, ◌+◌, ◌-◌, ◌≤◌, ◌==◌, ◌&&◌, ◌++◌, Bool, true, false, not, cond, List, [], length, Option, Some, None, unwrap_or, Result, Ok, Err, is_err, OnOk, IfOk, IfErr, MatchOption, MatchResult, IsSome, IfSome, is_some, append-nil, refl, ap, sym, subst, arith}
 use Rattle.std.specs.Map.{lookup}
 use Rattle.mea_base.specs.declared.no_memory.NoMemory.{NoMemory}
 use Rattle.mea_base.specs.Outbox.{Wakes}
 use Rattle.mea_sets.specs.Poll.{Poll, Ready, Pending}
-use Rattle.mea_once_core.specs.declared.key_call.KeyStage.TheVariants.{New, Calls, Kept, Done}
-use Rattle.mea_once_core.specs.Cell.{Cell, Runs, Enters, PollsInit, PollsStage, Finds, given_up, Ends, AddAtMost, queues_more, rested}
+use Rattle.mea_once_core.specs.declared.key_call.KeyStage.TheVariants.{Kept, Done}
+use Rattle.mea_once_core.specs.Cell.{Cell, Runs, Enters, PollsStage, Finds, given_up, AddAtMost, queues_more, rested}
 use Rattle.mea_once_core.specs.Links.{Shown, shown_at, Changes, left}
-use Rattle.mea_once_core.specs.Table.{Table, entry_at, HasCaller, IsSame, Sets, Joins, Unlists, NumbersGo, Retires, is_last, PollsEntry, EndsEntry, RestsEntry, Makes, fresh_entry, empty_cell}
+use Rattle.mea_once_core.specs.Table.{Table, entry_at, HasCaller, IsSame, Sets, Joins, Unlists, NumbersGo, Retires, is_last, RestsEntry, Makes, fresh_entry, empty_cell}
 use Rattle.mea_once_core.specs.Inserts.{IsIdle}
 use Rattle.mea_once_core.specs.Waiting.{waiting_at, waiting_in, AreQuiet}
-use Rattle.mea_once_core.specs.Keyed.{Keyed, IsSameKeyed, HandsOut, Computed, LeavesEntry, GivesUp, StepsCell, EndsCell, Told, FindsValue, AsksCell, PollsCaller}
+use Rattle.mea_once_core.specs.Keyed.{Keyed, IsSameKeyed, Computed, LeavesEntry, GivesUp, StepsCell, Told, FindsValue, AsksCell, PollsCaller}
 use Rattle.mea_once_core.specs.declared.entry.Entry.{Entry}
 use Rattle.mea_once_core.specs.declared.init_call.InitCall.{InitCall}
 use Rattle.mea_once_core.specs.declared.stage.Stage.{Stage}

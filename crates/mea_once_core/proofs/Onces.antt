@@ -1,14 +1,14 @@
 -- what the calls of a once do, from what those of its cell do
-use Rattle.std.proofs.Common.{◌≡◌, ◌≢◌, ◌∙◌, ℕ, ◌+◌, ◌-◌, ◌<◌, ◌==◌, ◌++◌, ◌&&◌, Bool, true, false, cond, nat_lt, nat_le, List, [], Option, Some, None, is_none, IsSome, IsOk, is_err, Result, Ok, Err, MatchOption, MatchResult, refl, ap, sym, subst, arith, append-nil}
+use Rattle.std.proofs.Common.{◌≡◌, ◌≢◌, ◌∙◌, ℕ, ◌-◌, ◌==◌, ◌++◌, ◌&&◌, Bool, true, false, cond, nat_lt, nat_le, List, [], Option, Some, None, is_none, IsSome, IsOk, is_err, Result, Ok, Err, MatchOption, refl, ap, sym, arith, append-nil}
 use Rattle.std.proofs.lemmas.Bool.{eqb-true}
 use Rattle.mea_base.specs.declared.no_memory.NoMemory.{NoMemory}
-use Rattle.mea_sets.specs.Poll.{Poll, Ready, Pending}
+use Rattle.mea_sets.specs.Poll.{Poll, Ready}
 use Rattle.mea_sets.specs.WaitSet.{drained}
 use Rattle.mea_sets.specs.Countdown.{Count, Counting, decreased, woken_by, ends}
-use Rattle.mea_once_core.specs.Permit.{Waits}
-use Rattle.mea_once_core.specs.Cell as cell
-use Rattle.mea_once_core.specs.Cell.{Cell, Runs, PollsInit, PollsStage, Ends, queues_more}
-use Rattle.mea_once_core.specs.Once.{Once, IsSound, count_after, woken, quieted, with_cell, reply_of, answered, EndsCall, PollsCall}
+use Rattle.mea_once_core.specs.Cell.{Cell, PollsTurn, PollsInit, PollsStage, Ends, queues_more}
+use Rattle.mea_once_core.specs.Once.{Once, IsSound, count_after, woken, quieted, with_cell, answered, EndsCall, TurnsCall, PollsCall}
+use Rattle.mea_once_core.specs.declared.cell_turn.CellTurn.{CellTurn}
+use Rattle.mea_once_core.specs.declared.cell_turn.CellTurn.TheVariants as cell_turn
 use Rattle.mea_once_core.specs.declared.stage.Stage.{Stage}
 use Rattle.mea_once_core.specs.declared.stage.Stage.TheVariants.{New, Queued, Running, Done}
 use Rattle.mea_once_core.specs.declared.init_call.InitCall.{InitCall}
@@ -36,11 +36,11 @@ module _ {W : Type 0} where
   none_woken : (d : Count W) → d.number ≡ 0 → woken_by d 1 ≡ []
   none_woken d none = let over : ends d 1 ≡ false = ap (λ m. nat_lt 0 m && nat_le m 1) none in ap (λ b. cond b d.waiting.wakers []) over
 
-  count_same : (v : Option (Unit {0})) (d : Count W) → (IsSome v → d.number ≡ 0) → count_after v d ≡ d
+  pub count_same : (v : Option (Unit {0})) (d : Count W) → (IsSome v → d.number ≡ 0) → count_after v d ≡ d
   count_same None d ended = refl
   count_same (Some u) d ended = ended_count 0 d (ended refl) refl
 
-  woken_none : (v : Option (Unit {0})) (d : Count W) → (IsSome v → d.number ≡ 0) → woken v d ≡ []
+  pub woken_none : (v : Option (Unit {0})) (d : Count W) → (IsSome v → d.number ≡ 0) → woken v d ≡ []
   woken_none None d ended = refl
   woken_none (Some u) d ended = none_woken d (ended refl)
 
@@ -101,3 +101,33 @@ module _ {E W I : Type 0} (answers : I → W → Poll (Result (Unit {0}) E) → 
     reply = told;
     is = same ∙ with_own_cell o is;
   }
+
+-- ---- a poll for one's turn
+module _ {W : Type 0} where
+  -- a new call that finds no place in the queue is refused, and nothing has changed
+  pub refused_turn : (stage : Stage) (c : Cell (Unit {0}) W) (w : W) (m : NoMemory) → queues_more c stage ≢ 0 → PollsTurn stage c w (Err (w, m)) c stage
+  refused_turn New c w m more = by_value c.value more
+    where
+      by_free : (b : Bool) → (c.permit.free == 0) ≡ b → (◌≢◌ {A = ℕ} (cond b 1 0) 0) → c.permit.free ≡ 0
+      by_free true is h = eqb-true c.permit.free 0 is
+      by_free false is h = absurd (h refl)
+
+      by_value : (v : Option (Unit {0})) → (◌≢◌ {A = ℕ} (cond (is_none v && (c.permit.free == 0)) 1 0) 0)
+          → MatchOption v
+          ((c.permit.free ≡ 1 → (◌≡◌ {A = Result (CellTurn W) (W × NoMemory)} (Err (w, m)) (Ok (cell_turn.Mine w))) × (c ≡ record c { permit = record c.permit { free = 0 } }) × (◌≡◌ {A = Stage} New Running))
+          × (c.permit.free ≡ 0 → (w ≡ w) × (c ≡ c) × (◌≡◌ {A = Stage} New New)))
+          (λ u. (◌≡◌ {A = Result (CellTurn W) (W × NoMemory)} (Err (w, m)) (Ok cell_turn.Full)) × (c ≡ c) × (◌≡◌ {A = Stage} New Done))
+      by_value None h =
+          let none : c.permit.free ≡ 0 = by_free (c.permit.free == 0) refl h in
+          (λ one. absurd (omega arith), λ _. (refl, refl, refl))
+      by_value (Some u) h = absurd (h refl)
+  refused_turn (Queued n) c w m more = absurd (more refl)
+  refused_turn Running c w m more = absurd (more refl)
+  refused_turn Done c w m more = absurd (more refl)
+
+  pub turns_call : (o : Once W) (stage stage' : Stage) (w : W) (turn : CellTurn W) (left cell' : Cell (Unit {0}) W) (done' : Counting W) (wakes' : List W)
+      → PollsTurn stage o.cell w (Ok turn) left stage' → Settled o left cell' done' wakes' → TurnsCall o stage w (Ok turn) (record { cell = cell'; done = done'.count; wakes = wakes' }) stage'
+  turns_call o stage stage' w turn left cell' done' wakes' polled h = record { left = left; polls = polled; is = settled_is o left cell' done' wakes' h }
+
+  pub refuses_turn : (o o' : Once W) (stage stage' : Stage) (w : W) (e : W × NoMemory) → IsSound o → PollsTurn stage o.cell w (Err e) o.cell stage' → o' ≡ o → TurnsCall o stage w (Err e) o' stage'
+  refuses_turn o o' stage stage' w e is polled same = record { left = o.cell; polls = polled; is = same ∙ with_own_cell o is }

@@ -1,5 +1,5 @@
 -- a write of one entry
-use Rattle.std.proofs.Common.{◌≡◌, ◌≢◌, ℕ, suc, zero, ◌+◌, ◌++◌, ◌<◌, List, [], ◌∷◌, length, Option, Some, None, Result, IfSome, slice_index_or, slice_set, refl, ap, sym, subst, ◌∙◌, arith}
+use Rattle.std.proofs.Common.{◌≡◌, ℕ, suc, zero, ◌+◌, ◌++◌, ◌<◌, List, [], ◌∷◌, length, Option, Some, None, Result, IfSome, slice_index_or, slice_set, refl, sym, subst, arith}
 use Rattle.std.proofs.lemmas.List.{get_or-set_same, get_or-set_other}
 use Rattle.mea_base.specs.declared.no_memory.NoMemory.{NoMemory}
 use Rattle.mea_sets.specs.Poll.{Poll}

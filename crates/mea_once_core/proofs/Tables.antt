@@ -1,6 +1,6 @@
 -- what callers see of changes of entries, and what keeps entries and numbers linked
-use Rattle.std.proofs.Common.{rules, ◌≡◌, ◌≢◌, ℕ, ◌+◌, ◌-◌, ◌<◌, ◌≤◌, ◌^◌, ◌==◌, ◌⊎◌, ◌&&◌, inl, inr, Bool, true, false, not, cond, List, [], ◌∷◌, Option, Some, None, Result, is_some, unwrap_or, is_none, IsTrue, IsSome, IfSome, length, slice_get, slice_index_or, refl, ap, sym, subst, ◌∙◌, arith}
-use Rattle.std.proofs.lemmas.Bool.{cases_eq, eqb-true, eqb-false, eq-eqb, ne_eqb}
+use Rattle.std.proofs.Common.{rules, ◌≡◌, ◌≢◌, ℕ, ◌+◌, ◌-◌, ◌<◌, ◌≤◌, ◌^◌, ◌==◌, ◌⊎◌, ◌&&◌, inl, inr, Bool, true, false, not, cond, List, Option, Some, None, Result, is_some, unwrap_or, is_none, IsTrue, IsSome, IfSome, length, slice_get, slice_index_or, refl, ap, sym, subst, ◌∙◌, arith}
+use Rattle.std.proofs.lemmas.Bool.{cases_eq, eq-eqb, ne_eqb}
 use Rattle.std.specs.Option.{option_map}
 use Rattle.std.specs.Map.{lookup}
 use Rattle.slab.specs.Slab as slab
@@ -9,10 +9,9 @@ use Rattle.mea_base.specs.declared.no_memory.NoMemory.{NoMemory}
 use Rattle.mea_base.specs.Outbox.{Wakes}
 use Rattle.mea_sets.specs.Poll.{Poll}
 use Rattle.mea_once_core.specs.Cell.{Cell, rested}
-use Rattle.mea_once_core.specs.Permit.{MayPoll, MayEnd}
-use Rattle.mea_once_core.specs.Links.{AreLinked, Shown, shown, shown_at, Changes, left, unlisted, Forgets}
-use Rattle.mea_once_core.specs.Slots.{SetsSlot, PollsSlot, EndsSlot, RestsSlot}
-use Rattle.mea_once_core.specs.Table.{Table, entry_at, number_of, HasCaller, HasRoom, IsSame, Sets, Joins, Unlists, NumbersGo, Retires, is_last, PollsEntry, EndsEntry, RestsEntry}
+use Rattle.mea_once_core.specs.Links.{AreLinked, Shown, shown, shown_at, Changes, unlisted}
+use Rattle.mea_once_core.specs.Slots.{PollsSlot, EndsSlot, RestsSlot}
+use Rattle.mea_once_core.specs.Table.{Table, entry_at, IsSame, Unlists, NumbersGo, Retires, is_last, PollsEntry, EndsEntry, RestsEntry}
 use Rattle.mea_once_core.specs.declared.entry.Entry.{Entry}
 use Rattle.mea_once_core.specs.declared.init_call.InitCall.{InitCall}
 use Rattle.mea_once_core.specs.declared.stage.Stage.{Stage}

@@ -7,7 +7,7 @@ use Rattle.mea_base.specs.declared.no_memory.NoMemory.{NoMemory}
 use Rattle.mea_sets.specs.Poll.{Poll, Ready, Pending}
 use Rattle.mea_sem_core.specs.Core.{Core, core_code, held_of}
 use Rattle.mea_sem_core.specs.Calls.{with_waker}
-use Rattle.mea_once_core.specs.Permit.{IsPermit, IsNext, IsWaiting, MayPoll, MayEnd, MayAsk, Waits, Leaves, passed_on, free_permit}
+use Rattle.mea_once_core.specs.Permit.{IsPermit, IsNext, IsWaiting, MayAsk, Waits, Leaves, passed_on, free_permit}
 use Rattle.mea_once_core.specs.declared.stage.Stage.{Stage}
 use Rattle.mea_once_core.specs.declared.stage.Stage.TheVariants.{New, Queued, Running, Done}
 use Rattle.mea_once_core.specs.declared.cell_turn.CellTurn.{CellTurn}

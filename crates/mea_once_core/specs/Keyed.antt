@@ -1,12 +1,12 @@
 -- what a contract sees of a map and of a group of calls by key, and what their calls do
-use Rattle.std.specs.Prelude.{◌≡◌, ◌≢◌, ◌+◌, ◌-◌, ◌<◌, ◌≤◌, ◌==◌, ◌++◌, ◌&&◌, ◌||◌, ◌⊎◌, ℕ, List, [], Option, Some, None, is_none, is_some, not, IsSome, Bool, true, false, Result, Ok, Err, MatchResult, MatchOption, if◌then◌else◌, refl}
+use Rattle.std.specs.Prelude.{◌≡◌, ◌+◌, ◌≤◌, ◌++◌, ◌&&◌, ◌⊎◌, ℕ, List, Option, Some, None, not, IsSome, Bool, Result, Ok, Err, MatchResult, MatchOption, refl}
 use Rattle.std.specs.Option.{option_and_then}
 use Rattle.std.specs.Coded.{Coded, code_by, coded×, coded_list}
 use Rattle.mea_base.specs.declared.no_memory.NoMemory.{NoMemory}
 use Rattle.mea_sets.specs.Poll.{Poll, Ready, Pending}
 use Rattle.mea_once_core.specs.Permit.{MayPoll, MayEnd}
 use Rattle.mea_once_core.specs.Cell.{Cell, PollsInit, Ends, Finds, rested}
-use Rattle.mea_once_core.specs.Links.{Shown, left, Changes, Forgets, SameNumbers}
+use Rattle.mea_once_core.specs.Links.{Shown, left, Changes}
 use Rattle.mea_once_core.specs.Table.{Table, table_code, entry_at, number_of, HasCaller, HasRoom, IsSame, Sets, Joins, Makes, Unlists, NumbersGo, is_last, fresh_entry}
 use Rattle.mea_once_core.specs.declared.init_call.InitCall.{InitCall}
 use Rattle.mea_once_core.specs.declared.stage.Stage.{Stage}

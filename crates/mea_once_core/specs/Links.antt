@@ -1,5 +1,5 @@
 -- entries by number, and the numbers by key
-use Rattle.std.specs.Prelude.{◌≡◌, ◌≢◌, ◌-◌, ◌==◌, ◌&&◌, ◌||◌, ℕ, List, Option, Some, None, Bool, false, is_some, is_none, not, cond, slice_get, slice_index_or, if◌then◌else◌}
+use Rattle.std.specs.Prelude.{◌≡◌, ◌≢◌, ◌-◌, ◌==◌, ◌&&◌, ℕ, List, Option, Some, None, Bool, false, is_some, not, cond, slice_get, slice_index_or, if◌then◌else◌}
 use Rattle.std.specs.Option.{option_map}
 use Rattle.std.specs.Map.{lookup}
 use Rattle.slab.specs.Slab.{Slab, get}

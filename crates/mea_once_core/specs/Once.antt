@@ -6,7 +6,8 @@ use Rattle.mea_sets.specs.Poll.{Poll, Ready, Pending}
 use Rattle.mea_sets.specs.Countdown.{Count, count_code, count_from, decreased, woken_by}
 use Rattle.mea_once_core.specs.Permit.{free_permit}
 use Rattle.mea_once_core.specs.Cell as cell
-use Rattle.mea_once_core.specs.Cell.{Cell, cell_code, PollsInit, Ends}
+use Rattle.mea_once_core.specs.Cell.{Cell, cell_code, PollsInit, PollsTurn, Ends}
+use Rattle.mea_once_core.specs.declared.cell_turn.CellTurn.{CellTurn}
 use Rattle.mea_once_core.specs.declared.stage.Stage.{Stage}
 use Rattle.mea_once_core.specs.declared.init_call.InitCall.{InitCall}
 
@@ -71,6 +72,12 @@ module _ {W : Type 0} where
   abbrev pub reply_of : {E : Type 0} → Result (Poll (Result (Unit {0}) E)) (W × NoMemory) → Result (Poll (Unit {0})) (W × NoMemory)
   reply_of (Ok poll) = Ok (answered poll)
   reply_of (Err e) = Err e
+
+  -- what a poll of a call for its turn does: it is that of the cell
+  pub record TurnsCall (o : Once W) (stage : Stage) (w : W) (r : Result (CellTurn W) (W × NoMemory)) (o' : Once W) (stage' : Stage) : Type 0 where
+    pub left : Cell (Unit {0}) W
+    pub polls : PollsTurn stage o.cell w r left stage'
+    pub is : o' ≡ with_cell o left
 
   -- what the end of a call does
   pub record EndsCall (o : Once W) (stage : Stage) (o' : Once W) : Type 0 where

@@ -27,6 +27,13 @@ stage_of (acquire.Queued _ number) = Queued number
 stage_of (acquire.Done _) = Running
 stage_of (acquire.Refused _) = Done
 
+-- how many permits a call at this stage has
+abbrev pub held_at : Stage → ℕ
+held_at New = 0
+held_at (Queued _) = 0
+held_at Running = 1
+held_at Done = 0
+
 -- a permit that nobody has or waits for
 abbrev pub free_permit : {W : Type 0} → Core W
 free_permit = record { free = 1; live = 1; queue = []; granted = map.empty; cut = map.empty; closed = false; wakes = [] }
@@ -108,6 +115,10 @@ module _ {W : Type 0} where
   abbrev pub TakesPermit : Core W → Turn W → Core W → Type 0
   TakesPermit s (Ready _) s' = (held_of s ≡ 0) × (held_of s' ≡ 1)
   TakesPermit s Pending s' = held_of s' ≡ held_of s
+
+  -- the permit is had by whom it was, but for a call that came from one stage to another
+  abbrev pub HoldsAs : Core W → Stage → Core W → Stage → Type 0
+  HoldsAs s stage s' stage' = held_of s' + held_at stage ≡ held_of s + held_at stage'
 
   -- what the end of a call does: it gives up its place, or the permit, which goes to the next
   abbrev pub Leaves : Core W → Stage → Core W → Type 0

@@ -1,5 +1,5 @@
 -- what a contract sees of a `OnceTable`, and what its calls do
-use Rattle.std.specs.Prelude.{◌≡◌, ◌≢◌, ◌+◌, ◌<◌, ◌≤◌, ◌++◌, length, ℕ, List, Option, Some, None, is_none, not, ◌==◌, ◌&&◌, Bool, true, false, Result, refl}
+use Rattle.std.specs.Prelude.{◌≡◌, ◌+◌, ◌<◌, ◌≤◌, ◌++◌, length, ℕ, List, Option, Some, None, is_none, not, ◌==◌, ◌&&◌, Bool, true, false, Result, refl}
 use Rattle.std.specs.Coded.{Coded, code_by, coded×, coded_ℕ, coded_list, coded_option}
 use Rattle.mea_base.specs.declared.no_memory.NoMemory.{NoMemory}
 use Rattle.mea_sets.specs.Poll.{Poll}
@@ -8,7 +8,7 @@ use Rattle.mea_once_core.specs.declared.stage.Stage.{Stage}
 use Rattle.mea_base.specs.Outbox.{Wakes}
 use Rattle.mea_once_core.specs.Cell.{Cell, rested, cell_code, PollsInit, Ends, queues_more, AddAtMost}
 use Rattle.mea_once_core.specs.Permit.{free_permit}
-use Rattle.mea_once_core.specs.Links.{Shown, shown_at, Changes, SameEntries, unlisted, left, number_in, SameNumbers, Renumbers, Forgets}
+use Rattle.mea_once_core.specs.Links.{Shown, shown_at, Changes, SameEntries, unlisted, number_in, SameNumbers, Renumbers, Forgets}
 use Rattle.mea_once_core.specs.declared.entry.Entry.{Entry}
 
 -- the entry or nothing under each number, and the keys of the table with their numbers

@@ -2,7 +2,7 @@ ghost use Rattle.std.specs.Prelude.{◌≡◌, ◌+◌, ◌≤◌, ◌↔◌, []
 ghost use Rattle.std.specs.Option.{option_copied_mut};
 ghost use Rattle.std.specs.Borrow.{sem};
 ghost use Rattle.mea_sem_core.specs.Core.{held_of};
-ghost use Rattle.mea_once_core.specs.Permit.{MayPoll, MayEnd, MayAsk, free_permit};
+ghost use Rattle.mea_once_core.specs.Permit.{HoldsAs, held_at, MayPoll, MayEnd, MayAsk, free_permit};
 ghost use Rattle.mea_once_core.specs.Cell.{IsSound, Runs, PollsTurn, HasTurn, PollsInit, PollsMut, PollsInsert, MayInsert, Ends, queues_more, Finds, AddAtMost, alone, filled, given_up, renewed_init, renewed_insert};
 
 use crate::cell_turn::CellTurn;
@@ -106,6 +106,7 @@ impl<T: Drop, W: Drop> CellCore<T, W> {
         requires { MayPoll self.old.permit stage.old }
         ensures polls { PollsTurn stage.old self.old waker result self.new stage.new }
         ensures turn { IfOk result (λ turn. HasTurn turn self.new stage.new) }
+        ensures held { HoldsAs self.old.permit stage.old self.new.permit stage.new }
         ensures few { AddAtMost (queues_more self.old stage.old) self.old self.new }
         ensures err { OnErr result ((self.new ≡ self.old) × (stage.new ≡ stage.old)) }
         ensures sound { IsSound self.new }
@@ -126,6 +127,7 @@ impl<T: Drop, W: Drop> CellCore<T, W> {
         requires { stage.old ≡ Stage.New }
         ensures polls { PollsTurn Stage.New self.old waker result self.new stage.new }
         ensures turn { IfOk result (λ turn. HasTurn turn self.new stage.new) }
+        ensures held { HoldsAs self.old.permit Stage.New self.new.permit stage.new }
         ensures few { AddAtMost (queues_more self.old Stage.New) self.old self.new }
         ensures err { OnErr result ((self.new ≡ self.old) × (stage.new ≡ stage.old)) }
         ensures sound { IsSound self.new }
@@ -146,6 +148,7 @@ impl<T: Drop, W: Drop> CellCore<T, W> {
         requires known { MayAsk self.old.permit (Stage.Queued number) }
         ensures polls { PollsTurn (Stage.Queued number) self.old waker (Ok result) self.new stage.new }
         ensures turn { HasTurn result self.new stage.new }
+        ensures held { HoldsAs self.old.permit (Stage.Queued number) self.new.permit stage.new }
         ensures few { AddAtMost 0 self.old self.new }
         ensures sound { IsSound self.new }
     {
@@ -169,6 +172,7 @@ impl<T: Drop, W: Drop> CellCore<T, W> {
         requires { 1 ≤ held_of self.old.permit }
         ensures is { self.new ≡ filled self.old value }
         ensures stage { stage.new ≡ Stage.Done }
+        ensures held { held_of self.new.permit ≡ 0 }
         ensures few { AddAtMost 0 self.old self.new }
         ensures sound { IsSound self.new }
     {
@@ -183,6 +187,7 @@ impl<T: Drop, W: Drop> CellCore<T, W> {
         requires { 1 ≤ held_of self.old.permit }
         ensures is { self.new ≡ given_up self.old }
         ensures stage { stage.new ≡ Stage.Done }
+        ensures held { held_of self.new.permit ≡ 0 }
         ensures few { AddAtMost 0 self.old self.new }
         ensures sound { IsSound self.new }
     {
@@ -251,6 +256,7 @@ impl<T: Drop, W: Drop> CellCore<T, W> {
     pub fn end_init<I: Drop>(&mut self, call: InitCall<I>)
         requires { MayEnd self.old.permit call.stage }
         ensures ends { Ends self.old call.stage self.new }
+        ensures held { held_of self.new.permit + held_at call.stage ≡ held_of self.old.permit }
         ensures few { AddAtMost 0 self.old self.new }
         ensures sound { IsSound self.new }
     {

@@ -2,15 +2,18 @@ ghost use Rattle.std.specs.Prelude.{◌≡◌, ◌+◌, ◌≤◌, ◌↔◌, []
 ghost use Rattle.mea_sets.specs.WaitSet.{has_given};
 ghost use Rattle.mea_sets.specs.Countdown.{Counting, PollsCount};
 ghost use Rattle.mea_meet_core.specs.Count.{usable};
-ghost use Rattle.mea_once_core.specs.Permit.{MayPoll, MayEnd};
+ghost use Rattle.mea_sem_core.specs.Core.{held_of};
+ghost use Rattle.mea_once_core.specs.Permit.{HoldsAs, held_at, MayPoll, MayEnd};
 ghost use Rattle.mea_once_core.specs.Cell as cells;
-ghost use Rattle.mea_once_core.specs.Cell.{renewed_init};
-ghost use Rattle.mea_once_core.specs.Once.{Once, IsSound, uncalled, count_after, woken, quieted, PollsCall, EndsCall, answered};
+ghost use Rattle.mea_once_core.specs.Cell.{HasTurn, renewed_init};
+ghost use Rattle.mea_once_core.specs.Once.{Once, IsSound, uncalled, count_after, woken, quieted, with_cell, TurnsCall, PollsCall, EndsCall, answered};
 
 use crate::cell_core::CellCore;
+use crate::cell_turn::CellTurn;
 use crate::init::Init;
 use crate::init_call::InitCall;
 use crate::never::Never;
+use crate::stage::Stage;
 use mea_base::{NoMemory, Outbox, Poll};
 use mea_meet_core::{LatchCore, LatchWait};
 use std::alloc::Global;
@@ -104,11 +107,69 @@ impl<W: Drop> OnceCore<W> {
         }
     }
 
+    /// Polls a call for its turn: a call has completed; or none has and the turn is this call's, which then ends by
+    /// `complete` or `give_up`; or another call has it. It takes memory only where a new call has to queue, and
+    /// where there is none it hands the waker back.
+    pub fn poll_turn(&mut self, stage: &mut Stage, waker: W) -> Result<CellTurn<W>, (W, NoMemory)>
+        requires { MayPoll self.old.cell.permit stage.old }
+        ensures polls { TurnsCall self.old stage.old waker result self.new stage.new }
+        ensures turn { IfOk result (λ turn. HasTurn turn self.new.cell stage.new) }
+        ensures held { HoldsAs self.old.cell.permit stage.old self.new.cell.permit stage.new }
+        ensures err { OnErr result ((self.new ≡ self.old) × (stage.new ≡ stage.old)) }
+        ensures sound { IsSound self.new }
+    {
+        let more = self.cell.queues_more(*stage);
+        if reserve(
+            &mut self.outbox,
+            self.done.registered(),
+            self.cell.waiting(),
+            more,
+        )
+        .is_err()
+        {
+            return Err((waker, NoMemory));
+        }
+        match self.cell.poll_turn(stage, waker) {
+            Ok(turn) => {
+                settle(&mut self.cell, &mut self.done, &mut self.outbox);
+                Ok(turn)
+            }
+            Err(failed) => Err(failed),
+        }
+    }
+
+    /// Completes it, for the call whose turn it is, which ends: all who wait for that are woken, in the order of
+    /// their registration, and then the next caller. It takes no memory.
+    pub fn complete(&mut self, stage: &mut Stage)
+        requires { 1 ≤ held_of self.old.cell.permit }
+        ensures is { self.new ≡ with_cell self.old (cells.filled self.old.cell tt) }
+        ensures stage { stage.new ≡ Stage.Done }
+        ensures held { held_of self.new.cell.permit ≡ 0 }
+        ensures sound { IsSound self.new }
+    {
+        self.cell.fill(stage, ());
+        settle(&mut self.cell, &mut self.done, &mut self.outbox);
+    }
+
+    /// Gives the turn up, for the call whose turn it is, which ends: the next caller's waker is ready. It takes no
+    /// memory.
+    pub fn give_up(&mut self, stage: &mut Stage)
+        requires { 1 ≤ held_of self.old.cell.permit }
+        ensures is { self.new ≡ with_cell self.old (cells.given_up self.old.cell) }
+        ensures stage { stage.new ≡ Stage.Done }
+        ensures held { held_of self.new.cell.permit ≡ 0 }
+        ensures sound { IsSound self.new }
+    {
+        self.cell.give_up(stage);
+        settle(&mut self.cell, &mut self.done, &mut self.outbox);
+    }
+
     /// Ends a call at any stage: one that waits leaves the queue; where its turn has come, or its
     /// initialiser has not answered, the next caller's waker is ready. It takes no memory.
     pub fn end_call<I: Drop>(&mut self, call: InitCall<I>)
         requires { MayEnd self.old.cell.permit call.stage }
         ensures ends { EndsCall self.old call.stage self.new }
+        ensures held { held_of self.new.cell.permit + held_at call.stage ≡ held_of self.old.cell.permit }
         ensures sound { IsSound self.new }
     {
         self.cell.end_init(call);
@@ -146,6 +207,21 @@ impl<W: Drop> OnceCore<W> {
         ensures { self.new ≡ self.old }
     {
         self.done.end(wait);
+    }
+
+    /// How many calls wait for their turn. It takes no memory.
+    pub fn waiting(&self) -> usize
+        ensures { result ≡ length self.now.cell.permit.queue }
+    {
+        self.cell.waiting()
+    }
+
+    /// How many wakers of those who wait are registered. It takes no memory.
+    pub fn registered(&self) -> usize
+        ensures count { result ≡ length self.now.done.waiting.wakers }
+        ensures over { self.now.done.number ≡ 0 → result ≡ 0 }
+    {
+        self.done.registered()
     }
 
     // ---- wakes

@@ -1,6 +1,6 @@
 ghost use Rattle.std.specs.Prelude.{◌≡◌, ◌+◌, ◌≤◌, ◌↔◌, [], ◌∷◌, ◌++◌, length, IsTrue, IfOk, IfSome, IfNone, OnErr};
 ghost use Rattle.mea_sem_core.specs.Core.{held_of};
-ghost use Rattle.mea_once_core.specs.Permit.{IsPermit, IsNext, asks_more, MayAsk, MayPoll, MayEnd, Asks, TakesPermit, Leaves, passed_on, free_permit};
+ghost use Rattle.mea_once_core.specs.Permit.{HoldsAs, held_at, IsPermit, IsNext, asks_more, MayAsk, MayPoll, MayEnd, Asks, TakesPermit, Leaves, passed_on, free_permit};
 
 use crate::stage::Stage;
 use mea_base::{NoMemory, Outbox, Turn};
@@ -45,6 +45,7 @@ impl<W: Drop> Permit<W> {
         requires { MayAsk self.old stage.old }
         ensures asks { Asks self.old stage.old waker result self.new stage.new }
         ensures takes { IfOk result (λ turn. TakesPermit self.old turn self.new) }
+        ensures held { HoldsAs self.old stage.old self.new stage.new }
         ensures few { length self.new.queue + length self.new.wakes ≤ length self.old.queue + length self.old.wakes + asks_more self.old stage.old }
         ensures err { OnErr result ((self.new ≡ self.old) × (stage.new ≡ stage.old)) }
         ensures sound { IsPermit self.new }
@@ -70,7 +71,7 @@ impl<W: Drop> Permit<W> {
     pub(crate) fn leave(&mut self, stage: Stage)
         requires { MayEnd self.old stage }
         ensures leaves { Leaves self.old stage self.new }
-        ensures held { held_of self.new ≤ held_of self.old }
+        ensures held { held_of self.new + held_at stage ≡ held_of self.old }
         ensures few { length self.new.queue + length self.new.wakes ≤ length self.old.queue + length self.old.wakes }
         ensures sound { IsPermit self.new }
     {

@@ -75,6 +75,44 @@ const ROWS: &[Row] = &[
         text: "made/done/done/none/done/value 5/made/done/made/done/done 10",
         status: Status::Done,
     },
+    // A place that falls free goes to whoever polls first; a grant that finds it taken waits anew.
+    Row {
+        script: "mb.new 1/mb.send 0 7/mb.poll 1 20/mb.send 0 8/mb.poll 3 21/mb.send 0 9/mb.poll 5 22/mb.tryr 0/mb.try 0 10/mb.poll 3 23/mb.tryr 0/mb.poll 5 24/mb.tryr 0/mb.poll 3 25/mb.tryr 0/mb.tryr 0/mb.ends 0/mb.tryr 0",
+        text: "made/made/ok/made/pending/made/pending/got 7 wake 21/ok/pending/got 10 wake 22/ok/got 9 wake 23/ok/got 8/empty/done/gone/done 18",
+        status: Status::Done,
+    },
+    // A send ends before it was polled, while it waits, once it was granted a place, and with its answer.
+    Row {
+        script: "mb.new 1/mb.try 0 5/mb.send 0 6/mb.end 2/mb.send 0 7/mb.poll 4 20/mb.end 4/mb.send 0 8/mb.poll 7 21/mb.send 0 9/mb.poll 9 22/mb.tryr 0/mb.end 7/mb.poll 9 23/mb.end 9",
+        text: "made/ok/made/done/made/pending/done/made/pending/made/pending/got 5 wake 21/done wake 22/ok/stop 14 unknown",
+        status: Status::Stopped {
+            at: 14,
+            cause: Stop::Unknown,
+        },
+    },
+    // The end of the receiver wakes all that wait, and each message comes back.
+    Row {
+        script: "mb.new 1/mb.try 0 5/mb.try 0 6/mb.send 0 7/mb.poll 3 20/mb.send 0 8/mb.poll 5 21/mb.endr 0/mb.poll 3 22/mb.poll 5 23/mb.try 0 9/mb.ends 0/mb.new 0",
+        text: "made/ok/full 6/made/pending/made/pending/done wake 20 21/closed 7/closed 8/closed 9/done/stop 12 zero",
+        status: Status::Stopped {
+            at: 12,
+            cause: Stop::Zero,
+        },
+    },
+    // A sender that has a send does not end; the last one that does wakes the receiver.
+    Row {
+        script: "mb.new 2/mb.copy 0/mb.recv 0 30/mb.ends 0/mb.send 1 4/mb.poll 4 31/mb.recv 0 32/mb.recv 0 33/mb.ends 1/mb.recv 0 34/mb.endr 0",
+        text: "made/made/pending/done/made/ok wake 30/got 4/pending/done wake 33/gone/done/done 11",
+        status: Status::Done,
+    },
+    Row {
+        script: "mb.new 1/mb.send 0 4/mb.ends 0",
+        text: "made/made/stop 2 borrowed",
+        status: Status::Stopped {
+            at: 2,
+            cause: Stop::Borrowed,
+        },
+    },
 ];
 
 #[test]

@@ -2,7 +2,13 @@
 #![tactic(auto)]
 
 #[cfg(test)]
+mod admission;
+#[cfg(test)]
+mod broadcast;
+#[cfg(test)]
 mod channels;
+#[cfg(test)]
+mod condvars;
 #[cfg(test)]
 mod examples;
 #[cfg(test)]
@@ -15,6 +21,8 @@ mod limits;
 mod locks;
 #[cfg(test)]
 mod meeting_points;
+#[cfg(test)]
+mod once;
 #[cfg(test)]
 mod permits;
 #[cfg(test)]

@@ -1,12 +1,13 @@
 -- what a player is due, by the lines that are left
 use Rattle.std.proofs.Common.{◌≡◌, ◌⊎◌, inl, inr, ◌↔◌, ℕ, suc, ◌+◌, ◌<◌, ◌≤◌, Bool, true, false, IsTrue, List, [], ◌∷◌, ◌++◌, length, nat_lt, Option, Some, refl, ap, sym, subst, ◌∙◌, arith, append-nil, append_assoc, length-append}
-use Rattle.mea_hall.specs.declared.event.Event.{Event}
-use Rattle.mea_hall.specs.Lines.{event_of}
+use Rattle.mea_lines.specs.declared.event.Event.{Event}
+use Rattle.mea_lines.specs.Lines.{event_of}
 use Rattle.mea_hall.specs.World.{Play}
 use Rattle.mea_run.specs.declared.player.Player.{Player}
 use Rattle.mea_run.specs.declared.status.Status.{Status}
 use Rattle.mea_run.specs.Player.{due, due_from}
-use Rattle.mea_run.specs.Runs.{IsFault, HasWrittenPart}
+use Rattle.mea_io.specs.Bytes.{HasWrittenPart}
+use Rattle.mea_run.specs.Runs.{IsFault}
 use Rattle.mea_run.specs.Told.{Told, with_text, told_from, told_of, events_left, IsUnended, GoesOn, Stops, Ends}
 use Rattle.mea_run.proofs.Tells.{told_first, told_last, told_none, with_both, goes_further, goes_alike, ends_later, ends_now, status_of_stop, stops_at_fault}
 

@@ -5,7 +5,7 @@ use Rattle.std.proofs.lemmas.List.Sums.{sum_by-cons, sum_by-append}
 use Rattle.std.specs.Prelude.{if◌then◌else◌}
 use Rattle.std.specs.List.{position_or_len}
 use Rattle.mea_base.specs.declared.stop.Stop.{Stop}
-use Rattle.mea_run.specs.Bytes.{Takes}
+use Rattle.mea_io.specs.Bytes.{Takes}
 use Rattle.mea_run.specs.declared.status.Status.{Status}
 use Rattle.mea_run.specs.declared.status.Status.TheVariants as statuses
 use Rattle.mea_run.specs.Runs.{IsFault, IsTakenTo, line_of, lines_ended}

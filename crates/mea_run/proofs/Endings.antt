@@ -3,7 +3,8 @@ use Rattle.std.proofs.Common.{◌≡◌, ◌⊎◌, inl, inr, ℕ, ◌++◌, Lis
 use Rattle.mea_hall.specs.World.{empty_world}
 use Rattle.mea_run.specs.declared.status.Status.{Status}
 use Rattle.mea_run.specs.declared.status.Status.TheVariants.{Done, Usage}
-use Rattle.mea_run.specs.Runs.{IsFault, IsWriteFault, HasWritten, HasWrittenPart, IsClosed, IsTold}
+use Rattle.mea_io.specs.Bytes.{HasWritten, HasWrittenPart}
+use Rattle.mea_run.specs.Runs.{IsFault, IsWriteFault, IsClosed, IsTold}
 use Rattle.mea_run.specs.Script.{limit, text_of, status_of}
 use Rattle.mea_run.specs.Told.{Told, with_text, told_of, Ends}
 use Rattle.mea_run.proofs.Tells.{tells_script}

@@ -15,8 +15,8 @@ use Rattle.mea_sem_model.specs.Step as sem_step
 use Rattle.mea_sem_model.specs.Valid.{IsValid, IsBelow}
 use Rattle.mea_sem_model.proofs.Keeps.{valid_empty, below_empty, keeps_below}
 use Rattle.mea_sem_model.proofs.StaysValid.{kept_valid}
-use Rattle.mea_hall.specs.declared.event.Event.{Event}
-use Rattle.mea_hall.specs.declared.event.Event.TheVariants.{Sem}
+use Rattle.mea_lines.specs.declared.event.Event.{Event}
+use Rattle.mea_lines.specs.declared.event.Event.TheVariants.{Sem}
 use Rattle.mea_hall.specs.World.{World, empty_world, step}
 use Rattle.mea_hall.specs.Front.{Front, front_at, front_from, front_of, prepended, IsLegal}
 use Rattle.mea_run.specs.Generated.{drawn_by, draw, round, round_of, rounds_from, first_state, script_of, PollsWait, IsBetweenRounds, begun_by, is_semaphore_poll, pendings}

@@ -12,5 +12,4 @@ pub mod Legal
 pub mod RoundsLeft
 pub mod Counts
 pub mod Played
-pub mod Commands
 pub mod Ended

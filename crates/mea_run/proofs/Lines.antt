@@ -4,7 +4,7 @@ use Rattle.std.specs.List.{slice_split, onto_first, position_or_len, before_firs
 use Rattle.std.proofs.lemmas.Bool.Decides.{nat_tests}
 use Rattle.std.proofs.lemmas.Bool.{ltb-true, ltb-false}
 use Rattle.std.proofs.lemmas.Option.{cond_some}
-use Rattle.mea_hall.specs.Lines.{cut}
+use Rattle.mea_lines.specs.Lines.{cut}
 use Rattle.mea_run.specs.Script.{last_line, lines_among, lines_in}
 
 pub keeps_first : (was_cut : Bool) (line : List ℕ) (pieces : List (List ℕ)) → 0 < length pieces

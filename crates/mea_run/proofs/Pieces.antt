@@ -4,7 +4,7 @@ use Rattle.std.proofs.lemmas.List.{take-append-drop, length-take-le}
 use Rattle.mea_run.specs.declared.player.Player.{Player}
 use Rattle.mea_run.specs.declared.status.Status.{Status}
 use Rattle.mea_run.specs.declared.status.Status.TheVariants as statuses
-use Rattle.mea_run.specs.Bytes.{Rose, Takes}
+use Rattle.mea_io.specs.Bytes.{Rose, Takes}
 use Rattle.mea_run.specs.Player.{due}
 use Rattle.mea_run.specs.Runs.{IsFault}
 use Rattle.mea_run.specs.Told.{Told, GoesOn, Stops, Ends}

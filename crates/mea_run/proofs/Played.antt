@@ -5,11 +5,11 @@ use Rattle.mea_base.specs.declared.stop.Stop.{Stop}
 use Rattle.mea_base.specs.declared.stop.Stop.TheVariants.{Unknown, Borrowed, Zero, Overflow, NoMemory}
 use Rattle.mea_base.specs.Family.{is_pending}
 use Rattle.mea_sem_model.specs.declared.event.SemEvent.TheVariants as events
-use Rattle.mea_hall.specs.declared.event.Event.{Event}
-use Rattle.mea_hall.specs.declared.event.Event.TheVariants.{Sem}
+use Rattle.mea_lines.specs.declared.event.Event.{Event}
+use Rattle.mea_lines.specs.declared.event.Event.TheVariants.{Sem}
 use Rattle.mea_hall.specs.World.{World, Play, empty_world, cause_of, step}
 use Rattle.mea_hall.specs.Front.{Front, front_at, front_from, front_of, prepended, IsLegal}
-use Rattle.mea_hall.specs.Text.{reply_text}
+use Rattle.mea_lines.specs.Text.{reply_text}
 use Rattle.mea_hall.proofs.Fronts.{front_goes_on}
 use Rattle.mea_run.specs.Generated.{drawn_by, round_of, rounds_from, first_state, script_of, pendings, wakes_in, last_text}
 use Rattle.mea_run.proofs.Counts.{pendings-append, wakes_in-append}

@@ -2,8 +2,8 @@
 use Rattle.std.proofs.Common.{◌≡◌, ◌≢◌, ◌⊎◌, inl, inr, ℕ, ◌+◌, Bool, false, List, [], ◌∷◌, ◌++◌, Option, Some, None, refl, ap, sym, subst, ◌∙◌, append-nil}
 use Rattle.mea_base.specs.declared.stop.Stop.{Stop}
 use Rattle.mea_base.specs.declared.stop.Stop.TheVariants.{Unknown, Borrowed, Zero, Overflow, NoMemory}
-use Rattle.mea_hall.specs.declared.event.Event.{Event}
-use Rattle.mea_hall.specs.Text.{reply_text}
+use Rattle.mea_lines.specs.declared.event.Event.{Event}
+use Rattle.mea_lines.specs.Text.{reply_text}
 use Rattle.mea_hall.specs.World.{World, cause_of, step}
 use Rattle.mea_run.specs.declared.status.Status.{Status}
 use Rattle.mea_run.specs.declared.status.Status.TheVariants as statuses

@@ -1,6 +1,6 @@
 -- how a generated script goes on
 use Rattle.std.proofs.Common.{◌≡◌, ℕ, suc, ◌+◌, ◌-◌, ◌<◌, ◌++◌, List, [], ap, sym, ◌∙◌, arith, append_assoc, append-nil}
-use Rattle.mea_hall.specs.declared.event.Event.{Event}
+use Rattle.mea_lines.specs.declared.event.Event.{Event}
 use Rattle.mea_run.specs.Generated.{drawn_by, round_of, rounds_from}
 
 -- the next round, and those after it

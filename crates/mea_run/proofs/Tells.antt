@@ -5,10 +5,10 @@ use Rattle.std.proofs.Math.Seq.{take-append-add, take-append_seam}
 use Rattle.std.proofs.lemmas.Bool.Decides.{nat_tests}
 use Rattle.mea_base.specs.declared.answer.Answer.{Answer}
 use Rattle.mea_base.specs.declared.stop.Stop.{Stop}
-use Rattle.mea_hall.specs.declared.event.Event.{Event}
+use Rattle.mea_lines.specs.declared.event.Event.{Event}
 use Rattle.mea_hall.specs.Front.{Front, front_at, front_from, front_of}
-use Rattle.mea_hall.specs.Lines.{event_of}
-use Rattle.mea_hall.specs.Text.{reply_text}
+use Rattle.mea_lines.specs.Lines.{event_of}
+use Rattle.mea_lines.specs.Text.{reply_text}
 use Rattle.mea_hall.specs.World.{World, empty_world, cause_of, step}
 use Rattle.mea_run.specs.declared.status.Status.{Status}
 use Rattle.mea_run.specs.Runs.{IsFault}

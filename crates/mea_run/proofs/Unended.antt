@@ -5,7 +5,7 @@ use Rattle.std.proofs.lemmas.List.{length-take-le}
 use Rattle.std.proofs.lemmas.List.Splits.{length-slice_split}
 use Rattle.std.proofs.lemmas.List.Sums.{position_or_len_is, fails_before_first, passes_at_first, split_at_first}
 use Rattle.std.proofs.lemmas.Bool.Decides.{nat_tests}
-use Rattle.mea_hall.specs.Lines.{cut}
+use Rattle.mea_lines.specs.Lines.{cut}
 use Rattle.std.proofs.lemmas.List.{get_or-take}
 use Rattle.mea_run.specs.Told.{IsUnended}
 use Rattle.mea_run.specs.Script.{lines_among, lines_in}

@@ -9,10 +9,10 @@ use Rattle.mea_sem_model.specs.declared.event.SemEvent.{SemEvent}
 use Rattle.mea_sem_model.specs.declared.event.SemEvent.TheVariants as events
 use Rattle.mea_sem_model.specs.Hall as sem
 use Rattle.mea_sem_model.specs.Cause.{is_named}
-use Rattle.mea_hall.specs.declared.event.Event.{Event}
-use Rattle.mea_hall.specs.declared.event.Event.TheVariants.{Sem, Meet, Lock, Chan}
+use Rattle.mea_lines.specs.declared.event.Event.{Event}
+use Rattle.mea_lines.specs.declared.event.Event.TheVariants.{Sem, Meet, Lock, Chan, Share, Once}
 use Rattle.mea_hall.specs.Front.{front_of}
-use Rattle.mea_hall.specs.Text.{number_text, reply_text}
+use Rattle.mea_lines.specs.Text.{reply_text, counted_line}
 
 -- ---- drawn numbers
 
@@ -66,6 +66,8 @@ is_poll (Sem e) = is_semaphore_poll e
 is_poll (Meet e) = false
 is_poll (Lock e) = false
 is_poll (Chan e) = false
+is_poll (Share e) = false
+is_poll (Once e) = false
 
 -- each poll among these events has the reply `pending`
 abbrev pub PollsWait : List Event → List (Answer × List ℕ) → Type 0
@@ -86,9 +88,6 @@ abbrev pub last_text : List (Answer × List ℕ) → List ℕ
 last_text [] = []
 last_text (r ∷ []) = reply_text r.0 r.1
 last_text (r ∷ next ∷ rs) = last_text (next ∷ rs)
-
-abbrev pub counted_line : List ℕ → ℕ → List ℕ
-counted_line word n = word ++ number_text n ++ codes "\n"
 
 -- four lines: how many events there are, how many replies are `pending`, how many wakes there are, and the
 -- last reply

@@ -1,6 +1,3 @@
-pub mod Bytes
-pub mod Memory
-pub mod Sure
 pub mod Script
 pub mod Runs
 pub mod Told

@@ -1,7 +1,7 @@
 -- what a player has still to tell
 use Rattle.std.specs.Prelude.{◌≢◌, ℕ, Bool, List, Option}
 use Rattle.mea_base.specs.declared.stop.Stop.TheVariants as stops
-use Rattle.mea_hall.specs.declared.event.Event.{Event}
+use Rattle.mea_lines.specs.declared.event.Event.{Event}
 use Rattle.mea_run.specs.declared.player.Player.{Player}
 use Rattle.mea_run.specs.declared.status.Status.{Status}
 use Rattle.mea_run.specs.declared.status.Status.TheVariants as statuses

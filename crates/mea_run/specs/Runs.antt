@@ -1,11 +1,9 @@
 -- what a run answers and writes
-use Rattle.std.specs.Prelude.{◌≡◌, ◌⊎◌, ◌<◌, ◌≤◌, ◌^◌, ◌==◌, ℕ, List, [], ◌∷◌, ◌++◌, Option, Some, None, codes, length, nat_le, sum_by, if◌then◌else◌}
+use Rattle.std.specs.Prelude.{◌≡◌, ◌⊎◌, ◌<◌, ◌≤◌, ◌^◌, ◌==◌, ℕ, List, [], ◌∷◌, ◌++◌, Option, Some, None, codes, length, sum_by, if◌then◌else◌}
 use Rattle.std.specs.Fmt.{decimal}
-use Rattle.std.specs.Str.{bytes_eq}
+use Rattle.mea_io.specs.Bytes.{HasWritten, HasWrittenPart}
 use Rattle.mea_run.specs.declared.status.Status.{Status}
 use Rattle.mea_run.specs.declared.status.Status.TheVariants as statuses
-use Rattle.mea_hall.specs.Number.{number_of}
-use Rattle.mea_hall.specs.Words.{◌>>=◌}
 use Rattle.mea_run.specs.Script.{text_of, status_of}
 use Rattle.mea_run.specs.Generated.{summary_of}
 
@@ -31,24 +29,9 @@ IsMake words seed rounds = (words ≡ codes "make" ∷ decimal seed ∷ decimal 
 abbrev pub IsCommand : List (List ℕ) → Type 0
 IsCommand words = IsPlay words ⊎ ((seed : ℕ) × (rounds : ℕ) × IsMake words seed rounds)
 
--- the seed and the rounds of `make`, where three words are those of it
-abbrev pub made_of : List ℕ → List ℕ → List ℕ → Option (ℕ × ℕ)
-made_of word first second =
-    if bytes_eq word (codes "make")
-    then (number_of first >>= (λ seed. number_of second >>= (λ rounds. if nat_le rounds 300000 then Some (seed, rounds) else None)))
-    else None
-
 -- a read or a write failed, or there was no memory
 abbrev pub IsFault : Status → Type 0
 IsFault status = (status ≡ statuses.ReadFault) ⊎ ((status ≡ statuses.WriteFault) ⊎ (status ≡ statuses.NoMemory))
-
--- a sink that had taken `before` has taken all of a text now
-abbrev pub HasWritten : List ℕ → List ℕ → Option (List ℕ) → Type 0
-HasWritten text before taken = taken ≡ Some (before ++ text)
-
--- a sink that had taken `before` has taken the front of a text now
-abbrev pub HasWrittenPart : List ℕ → List ℕ → Option (List ℕ) → Type 0
-HasWrittenPart text before taken = (written : List ℕ) × (rest : List ℕ) × (text ≡ written ++ rest) × HasWritten written before taken
 
 -- a script is answered its status and its whole text
 abbrev pub IsAnswered : List ℕ → Status → List ℕ → Option (List ℕ) → Type 0

@@ -4,11 +4,11 @@ use Rattle.std.specs.List.{flat_map, slice_split}
 use Rattle.mea_base.specs.declared.answer.Answer.{Answer}
 use Rattle.mea_base.specs.declared.stop.Stop.{Stop}
 use Rattle.mea_base.specs.declared.stop.Stop.TheVariants as stops
-use Rattle.mea_hall.specs.declared.event.Event.{Event}
+use Rattle.mea_lines.specs.declared.event.Event.{Event}
 use Rattle.mea_hall.specs.Front.{Front, front_of}
 use Rattle.mea_hall.specs.History.{AreBalanced, LoseNoWake, GrantInOrder}
-use Rattle.mea_hall.specs.Lines.{event_of}
-use Rattle.mea_hall.specs.Text.{number_text, reply_text}
+use Rattle.mea_lines.specs.Lines.{event_of}
+use Rattle.mea_lines.specs.Text.{number_text, reply_text}
 use Rattle.mea_run.specs.declared.status.Status.{Status}
 use Rattle.mea_run.specs.declared.status.Status.TheVariants.{Done, Stopped, BadLine, TooLong}
 

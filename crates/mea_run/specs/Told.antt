@@ -3,9 +3,9 @@ use Rattle.std.specs.Prelude.{◌≡◌, ◌⊎◌, ℕ, ◌+◌, ◌≤◌, ◌
 use Rattle.std.specs.List.{position_or_len}
 use Rattle.mea_base.specs.declared.answer.Answer.{Answer}
 use Rattle.mea_base.specs.declared.stop.Stop.{Stop}
-use Rattle.mea_hall.specs.declared.event.Event.{Event}
-use Rattle.mea_hall.specs.Lines.{event_of}
-use Rattle.mea_hall.specs.Text.{reply_text}
+use Rattle.mea_lines.specs.declared.event.Event.{Event}
+use Rattle.mea_lines.specs.Lines.{event_of}
+use Rattle.mea_lines.specs.Text.{reply_text}
 use Rattle.mea_hall.specs.World.{World, cause_of, step}
 use Rattle.mea_run.specs.declared.status.Status.{Status}
 use Rattle.mea_run.specs.Runs.{IsFault}

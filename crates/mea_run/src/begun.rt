@@ -1,9 +1,9 @@
 ghost use Rattle.std.specs.Prelude.{◌≡◌, ◌++◌, ◌<◌, ℕ, List, [], length, Some, None, IfOk, OnOk, IsTrue, ◌↔◌};
-ghost use Rattle.mea_hall.specs.Lines.{event_of};
+ghost use Rattle.mea_lines.specs.Lines.{event_of};
 ghost use Rattle.mea_run.specs.Begun.{Keeps};
 
 use mea_base::NoMemory;
-use mea_hall::{Event, event_of_line, long_lines_are_no_events, put_text};
+use mea_lines::{Event, event_of_line, long_lines_are_no_events, put_text};
 use std::alloc::Global;
 
 /// How many bytes of a line are kept. A line that has more is no event line.

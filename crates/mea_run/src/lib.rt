@@ -6,22 +6,15 @@
 mod begun;
 mod generator;
 mod making;
-mod memory;
 mod player;
 mod running;
 mod script;
-mod sink;
-mod source;
-mod standard;
 mod status;
-mod sure;
 mod transfer;
 
 pub use generator::{generated_scripts_are_legal, make_script};
-pub use memory::{MemSink, MemSource};
+pub use mea_io::{
+    Failed, MemSink, MemSource, PutFault, Sink, Source, StdSink, StdSource, SureSink, SureSource,
+};
 pub use running::run;
-pub use sink::{PutFault, Sink};
-pub use source::{Failed, Source};
-pub use standard::{StdSink, StdSource};
 pub use status::Status;
-pub use sure::{SureSink, SureSource};

@@ -2,13 +2,13 @@ ghost use Rattle.std.specs.Prelude.{◌≡◌, ◌≢◌, ◌+◌, ◌*◌, ◌<
 ghost use Rattle.mea_base.specs.Family.{is_pending};
 ghost use Rattle.mea_hall.specs.World.{cause_of, step};
 ghost use Rattle.mea_hall.specs.Front.{front_from, front_of};
-ghost use Rattle.mea_hall.specs.Text.{reply_text};
-ghost use Rattle.mea_run.specs.Generated.{script_of, pendings, wakes_in, last_text, counted_line, summary_of};
+ghost use Rattle.mea_lines.specs.Text.{reply_text, counted_line};
+ghost use Rattle.mea_run.specs.Generated.{script_of, pendings, wakes_in, last_text, summary_of};
 
 use crate::generator::{FIRST, LAST, first_state, round_of};
-use crate::script::put_line;
 use mea_base::{Answer, NoMemory, Stop};
-use mea_hall::{Event, Hall, put_reply};
+use mea_hall::Hall;
+use mea_lines::{Event, put_line, put_reply};
 use std::alloc::Global;
 
 /// What is counted of events that were played: the replies `pending`, and all wakes.

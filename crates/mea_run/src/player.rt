@@ -1,22 +1,23 @@
 ghost use Rattle.std.specs.Prelude.{◌≡◌, ◌≢◌, ◌+◌, ◌-◌, ◌^◌, ◌<◌, ◌≤◌, ◌++◌, ◌∷◌, ◌⊎◌, ℕ, Bool, List, Option, [], Some, None, false, true, length, IfOk, IfErr, OnOk, OnErr};
 ghost use Rattle.std.specs.Result.{result_err};
-ghost use Rattle.mea_hall.specs.declared.event.Event.{Event as Line};
-ghost use Rattle.mea_hall.specs.Lines.{event_of};
-ghost use Rattle.mea_hall.specs.Text.{reply_text};
+ghost use Rattle.mea_lines.specs.declared.event.Event.{Event as Line};
+ghost use Rattle.mea_lines.specs.Lines.{event_of};
+ghost use Rattle.mea_lines.specs.Text.{reply_text};
 ghost use Rattle.mea_hall.specs.World.{empty_world, cause_of, step};
 ghost use Rattle.mea_run.specs.Begun.{Keeps};
-ghost use Rattle.mea_run.specs.Bytes.{Rose};
+ghost use Rattle.mea_io.specs.Bytes.{Rose, HasWritten, HasWrittenPart};
 ghost use Rattle.mea_run.specs.Player.{due, due_from, IsOfScript};
-ghost use Rattle.mea_run.specs.Runs.{IsFault, HasWritten, HasWrittenPart, line_of, lines_ended};
+ghost use Rattle.mea_run.specs.Runs.{IsFault, line_of, lines_ended};
 ghost use Rattle.mea_run.specs.Told.{IsUnended, GoesOn, Stops, Ends, ending, with_text};
 
 use crate::begun::Begun;
 use crate::script::put_ending;
-use crate::sink::Sink;
 use crate::status::Status;
-use crate::transfer::{Fault, write_last, write_text};
+use crate::transfer::write_last;
 use mea_base::{NoMemory, Stop};
-use mea_hall::{Event, Hall, cut, put_reply};
+use mea_hall::Hall;
+use mea_io::{PutFault, Sink, write_text};
+use mea_lines::{Event, cut, put_reply};
 use std::alloc::Global;
 
 /// How many bytes of text are kept before they are written.
@@ -192,8 +193,8 @@ impl Player {
         self.text.clear();
         match written {
             Ok(()) => Ok(()),
-            Err(Fault::Failed) => Err(Status::WriteFault),
-            Err(Fault::NoMemory) => Err(Status::NoMemory),
+            Err(PutFault::Failed) => Err(Status::WriteFault),
+            Err(PutFault::NoMemory) => Err(Status::NoMemory),
         }
     }
 }

@@ -1,23 +1,23 @@
 ghost use Rattle.std.specs.Prelude.{◌≡◌, ◌≢◌, ◌↔◌, ◌⊎◌, ◌+◌, ◌-◌, ◌^◌, ◌<◌, ◌≤◌, ◌++◌, ℕ, List, [], Some, IsTrue, IfOk, IfErr, OnOk, map, length, take, drop, string_bytes};
-ghost use Rattle.mea_run.specs.Bytes.{Rose};
+ghost use Rattle.mea_io.specs.Bytes.{Rose};
 ghost use Rattle.mea_run.specs.Begun.{Keeps};
 ghost use Rattle.mea_run.specs.Player.{due};
 ghost use Rattle.mea_run.specs.Script.{limit, status_of, IsBalanced, LosesNoWake, GrantsInOrder};
 ghost use Rattle.mea_run.specs.Told.{IsUnended, GoesOn, Ends};
 ghost use Rattle.mea_hall.specs.Front.{front_of, IsLegal};
 ghost use Rattle.mea_run.specs.Generated.{script_of, PollsWait};
-ghost use Rattle.mea_run.specs.Runs.{IsPlay, IsMake, IsCommand, IsFault, IsWriteFault, IsAnswered, IsTold, IsSummarized, IsMade, IsTakenTo, line_of, lines_ended, made_of};
+ghost use Rattle.mea_run.specs.Runs.{IsPlay, IsMake, IsCommand, IsFault, IsWriteFault, IsAnswered, IsTold, IsSummarized, IsMade, IsTakenTo, line_of, lines_ended};
 
 use crate::generator::generated_scripts_are_legal;
 use crate::making::summary;
 use crate::player::Player;
 use crate::script::LIMIT;
-use crate::sink::Sink;
-use crate::source::Source;
 use crate::status::Status;
 use crate::transfer::{PIECE, write_last, zeros};
 use mea_base::Stop;
-use mea_hall::{grants_follow_first_polls, no_wake_is_lost, number_of, permits_balance};
+use mea_hall::{grants_follow_first_polls, no_wake_is_lost, permits_balance};
+use mea_io::{Sink, Source};
+use mea_lines::numbers_of_command;
 use std::alloc::Global;
 
 /// The most rounds of a generated script.
@@ -95,20 +95,7 @@ fn is_play(words: &[String]) -> bool
 fn seed_and_rounds(words: &[String]) -> Option<(u64, u32)>
     ensures { (seed rounds : ℕ) → (result ≡ Some (seed, rounds)) ↔ IsMake (map string_bytes words.now) seed rounds }
 {
-    match words {
-        [word, seed, rounds] => made_of(word.as_bytes(), seed.as_bytes(), rounds.as_bytes()),
-        _ => None,
-    }
-}
-
-fn made_of(word: &[u8], seed: &[u8], rounds: &[u8]) -> Option<(u64, u32)>
-    ensures { result ≡ made_of word.now seed.now rounds.now }
-{
-    if word != b"make".as_slice() {
-        return None;
-    }
-    let seed = number_of(seed)?;
-    let rounds = number_of(rounds)?;
+    let (seed, rounds) = numbers_of_command(b"make", words)?;
     if rounds > MOST_ROUNDS {
         return None;
     }

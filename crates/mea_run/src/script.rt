@@ -1,12 +1,12 @@
 ghost use Rattle.std.specs.Prelude.{◌≡◌, ◌≢◌, ◌++◌, ℕ, Some, length, take, IfOk, OnOk, OnErr, codes};
 ghost use Rattle.std.specs.Result.{result_err};
-ghost use Rattle.mea_hall.specs.Text.{number_text};
+ghost use Rattle.mea_lines.specs.Text.{number_text};
 ghost use Rattle.mea_run.specs.Runs.{line_of};
 ghost use Rattle.mea_run.specs.Script.{status_at, ending_at, cause_text};
 
 use crate::status::Status;
 use mea_base::{NoMemory, Stop};
-use mea_hall::{put_number, put_text};
+use mea_lines::{put_line, put_number, put_text};
 
 /// How many bytes of a script count.
 pub const LIMIT: usize = 16_777_216;
@@ -78,17 +78,6 @@ fn put_stop(text: &mut Vec<u8>, stop: Stop, n: u64) -> Result<(), NoMemory>
     put_text(text, b"stop")?;
     put_number(text, n)?;
     put_text(text, cause_text(stop))?;
-    put_text(text, b"\n")
-}
-
-/// Appends a word and a number as a line.
-#[tactic(auto, using(crate::proofs::Puts::kept_before))]
-pub fn put_line(text: &mut Vec<u8>, word: &[u8], n: u64) -> Result<(), NoMemory>
-    ensures ok { OnOk result (text.new.items ≡ text.old.items ++ (word.now ++ number_text n ++ codes "\n")) }
-    ensures kept { take (length text.old.items) text.new.items ≡ text.old.items }
-{
-    put_text(text, word)?;
-    put_number(text, n)?;
     put_text(text, b"\n")
 }
 

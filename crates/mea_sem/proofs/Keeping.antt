@@ -17,7 +17,7 @@ use Rattle.mea_sem_core.specs.Core as cores
 use Rattle.mea_sem.specs.declared.entries.SemaphoreEntry.{SemaphoreEntry}
 use Rattle.mea_sem.specs.Store.{Store, hall_of, IsLinked}
 use Rattle.mea_sem.specs.Kept.{wakers_in, IsKeptEntry, IsKept}
-use Rattle.mea_sem.proofs.Weighs.{Weighs}
+use Rattle.mea_sem.proofs.Weighs.{Weighs, Things, if_plain, always}
 
 -- event i is played on what is kept
 pub record Plays (st st' : Store) (next i : ℕ) (event : SemEvent) (w' sp' : ℕ) : Type 0 where
@@ -25,18 +25,19 @@ pub record Plays (st st' : Store) (next i : ℕ) (event : SemEvent) (w' sp' : �
   pub kept : IsKept st' w' sp' (i + 1)
 
 -- what is known of the semaphore that an event changes; a, b, p and r are as in Weighs
-pub record Settles (e e' : SemaphoreEntry) (a b p r : ℕ) : Type 0 where
+pub record Settles (e e' : SemaphoreEntry) (a b : ℕ) (p r : Things) : Type 0 where
   pub account : e'.core.live + e'.forgotten ≡ e'.made + e'.released + cores.debts e'.core.queue
   pub held : cores.held_of e'.core + a ≡ cores.held_of e.core + b
-  pub plain : e'.plain + p ≡ e.plain + r
-  pub few : r ≤ 1
+  pub plain : e'.plain + p if_plain ≡ e.plain + r if_plain
+  pub things : e'.things + p always ≡ e.things + r always
+  pub few : (r if_plain ≤ 1) × (r always ≤ 1)
   pub quiet : e'.core.wakes ≡ []
   pub released : e'.released ≤ e.released + 2 ^ 64
   pub forgotten : e'.forgotten ≤ e.forgotten + 2 ^ 64
 
 module _ (st st' : Store) (w sp next i s : ℕ) (event : SemEvent) (e e' : SemaphoreEntry) (k : IsKept st w sp next) (less : next ≤ i)
     (low : i < 2 ^ 64) (fits : Fits event) (allowed : cause_of (hall_of st next) event ≡ None) where
-  pub settled : (w' sp' a b p r : ℕ) → get st.semaphores s ≡ Some e → ((q : ℕ) → get st'.semaphores q ≡ cond (s == q) (Some e') (get st.semaphores q))
+  pub settled : (w' sp' a b : ℕ) (p r : Things) → get st.semaphores s ≡ Some e → ((q : ℕ) → get st'.semaphores q ≡ cond (s == q) (Some e') (get st.semaphores q))
       → hall_of st' (i + 1) ≡ (step (hall_of st next) i event).hall → IsLinked st' (i + 1)
       → Weighs (hall_of st next) (step (hall_of st next) i event).hall s a b p r → Settles e e' a b p r
       → w' + wakers_in e.core.queue ≡ w + wakers_in e'.core.queue → w' ≤ sp' → w' ≤ i + 1
@@ -66,9 +67,14 @@ module _ (st st' : Store) (w sp next i s : ℕ) (event : SemEvent) (e e' : Semap
         account = settles.account;
         held = (let x = weighs.held s in let y = at_same s s a 0 refl in let z = at_same s s b 0 refl in let o = old.held in let t = settles.held in
             omega (arith, x, y, z, o, t));
-        plain = (let x = weighs.plain s in let y = at_same s s p 0 refl in let z = at_same s s r 0 refl in let o = old.plain in
-            let t = settles.plain in omega (arith, x, y, z, o, t));
-        few = (let o = old.few in let t = settles.plain in let u = settles.few in omega (arith, o, t, u));
+        plain = (let x = weighs.things if_plain s in let y = at_same s s (p if_plain) 0 refl in let z = at_same s s (r if_plain) 0 refl in
+            let o = old.plain in let t = settles.plain in omega (arith, x, y, z, o, t));
+        things = (let x = weighs.things always s in let y = at_same s s (p always) 0 refl in let z = at_same s s (r always) 0 refl in
+            let o = old.things in let t = settles.things in omega (arith, x, y, z, o, t));
+        few = (
+          (let o = old.few.0 in let t = settles.plain in let u = settles.few.0 in omega (arith, o, t, u)),
+          (let o = old.few.1 in let t = settles.things in let u = settles.few.1 in omega (arith, o, t, u)),
+        );
         quiet = settles.quiet;
         released = (let o = old.released in let t = settles.released in omega (arith, o, t));
         forgotten = (let o = old.forgotten in let t = settles.forgotten in omega (arith, o, t));
@@ -79,8 +85,11 @@ module _ (st st' : Store) (w sp next i s : ℕ) (event : SemEvent) (e e' : Semap
       other q d apart o = record {
         account = o.account;
         held = (let x = weighs.held q in let y = at_apart s q a 0 apart in let z = at_apart s q b 0 apart in let t = o.held in omega (arith, x, y, z, t));
-        plain = (let x = weighs.plain q in let y = at_apart s q p 0 apart in let z = at_apart s q r 0 apart in let t = o.plain in omega (arith, x, y, z, t));
-        few = (let t = o.few in omega (arith, t));
+        plain = (let x = weighs.things if_plain q in let y = at_apart s q (p if_plain) 0 apart in let z = at_apart s q (r if_plain) 0 apart in
+            let t = o.plain in omega (arith, x, y, z, t));
+        things = (let x = weighs.things always q in let y = at_apart s q (p always) 0 apart in let z = at_apart s q (r always) 0 apart in
+            let t = o.things in omega (arith, x, y, z, t));
+        few = ((let t = o.few.0 in omega (arith, t)), (let t = o.few.1 in omega (arith, t)));
         quiet = o.quiet;
         released = (let t = o.released in omega (arith, t));
         forgotten = (let t = o.forgotten in omega (arith, t));
@@ -111,7 +120,7 @@ module _ (st st' : Store) (w sp next i s : ℕ) (event : SemEvent) (e e' : Semap
           omega (arith, sums, mine, now, before, registered)
 
   -- the same, where the outcome of the event is known under another name
-  pub settled_as : (h' : Hall) → (step (hall_of st next) i event).hall ≡ h' → (w' sp' a b p r : ℕ) → get st.semaphores s ≡ Some e
+  pub settled_as : (h' : Hall) → (step (hall_of st next) i event).hall ≡ h' → (w' sp' a b : ℕ) (p r : Things) → get st.semaphores s ≡ Some e
       → ((q : ℕ) → get st'.semaphores q ≡ cond (s == q) (Some e') (get st.semaphores q))
       → hall_of st' (i + 1) ≡ h' → IsLinked st' (i + 1) → Weighs (hall_of st next) h' s a b p r → Settles e e' a b p r
       → w' + wakers_in e.core.queue ≡ w + wakers_in e'.core.queue → w' ≤ sp' → w' ≤ i + 1

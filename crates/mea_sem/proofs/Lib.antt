@@ -24,6 +24,7 @@ pub mod PlaysEnds
 pub mod PlaysCloses
 pub mod Standing
 pub mod Meets
+pub mod Endings
 pub mod Lives
 pub mod Matching
 pub mod Granted

@@ -9,13 +9,17 @@ use Rattle.mea_sem.specs.declared.hall.SemHall.TheInside.{Inside}
 use Rattle.mea_sem.specs.declared.entries.SemaphoreEntry.{SemaphoreEntry}
 use Rattle.mea_sem.specs.declared.entries.FutureEntry.{FutureEntry}
 use Rattle.mea_sem.specs.declared.entries.PermitEntry.{PermitEntry}
-use Rattle.mea_sem.specs.Store.{Store, store_of, hall_of}
+use Rattle.mea_sem.specs.Store.{Store, store_of, with_ended, hall_of}
 use Rattle.mea_sem.specs.Kept.{IsKept}
 use Rattle.mea_sem.specs.Play.{Play, Yields}
 use Rattle.mea_sem.proofs.Keeping.{Plays}
 
+-- its semaphores, those of which nothing is left too
+abbrev pub semaphores_in : Inside → List (ℕ × SemaphoreEntry)
+semaphores_in a = with_ended a.semaphores.entries a.ended.items
+
 abbrev pub store_in : Inside → Store
-store_in a = store_of a.semaphores.entries a.futures.entries a.permits.entries
+store_in a = store_of (semaphores_in a) a.futures.entries a.permits.entries
 
 abbrev pub hall_in : Inside → Hall
 hall_in a = hall_of (store_in a) a.next
@@ -36,24 +40,28 @@ pub record Meets (a : Inside) (v : Play) (i : ℕ) : Type 0 where
 -- and its semaphore s
 pub record MeetsSemaphore (a : Inside) (v : Play) (i s : ℕ) (e : SemaphoreEntry) : Type 0 where
   pub meets : Meets a v i
-  pub there : at a.semaphores.entries s ≡ Some e
+  pub there : at (semaphores_in a) s ≡ Some e
 
 -- and its future f, with the semaphore of that
 pub record MeetsFuture (a : Inside) (v : Play) (i f : ℕ) (x : FutureEntry) (e : SemaphoreEntry) : Type 0 where
   pub meets : Meets a v i
   pub is : at a.futures.entries f ≡ Some x
-  pub there : at a.semaphores.entries x.semaphore ≡ Some e
+  pub there : at (semaphores_in a) x.semaphore ≡ Some e
 
 -- and its permit p, with the semaphore of that
 pub record MeetsPermit (a : Inside) (v : Play) (i p : ℕ) (x : PermitEntry) (e : SemaphoreEntry) : Type 0 where
   pub meets : Meets a v i
   pub is : at a.permits.entries p ≡ Some x
-  pub there : at a.semaphores.entries x.semaphore ≡ Some e
+  pub there : at (semaphores_in a) x.semaphore ≡ Some e
 
 -- event number i had this outcome: what is kept now, and what the contract says
 pub record Done (v : Play) (i : ℕ) (o : Outcome) (answer : Answer) (st' : Store) (w' sp' : ℕ) (wakes' : List ℕ) : Type 0 where
   pub kept : IsKept st' w' sp' (i + 1)
   pub yields : Yields v i o answer (record { hall = hall_of st' (i + 1); wakes = wakes'; next = i + 1 })
+
+-- what is played stays so where the hall is seen as before
+pub tidied : {v : Play} {i : ℕ} {o : Outcome} {answer : Answer} {p q : Play} → q ≡ p → Yields v i o answer p → Yields v i o answer q
+tidied {v} {i} {o} {answer} same yields = subst (λ (r : Play). Yields v i o answer r) (sym same) yields
 
 pub its_semaphore : {a : Inside} {v : Play} {i f : ℕ} {x : FutureEntry} {e : SemaphoreEntry} → MeetsFuture a v i f x e → MeetsSemaphore a v i x.semaphore e
 its_semaphore m = record { meets = m.meets; there = m.there }
@@ -66,21 +74,29 @@ pub on_err : {A E : Type 0} (r : Result A E) (P : Type 0) → P → OnErr r P
 on_err (Ok a) P p = tt
 on_err (Err e) P p = p
 
+-- what was written back as it stood left what was there
+pub kept_store : (a : Inside) {st : Store} → IsKeptIn a → st ≡ store_in a → IsKept st a.registered a.outbox.spare a.next
+kept_store a k same = subst (λ (st : Store). IsKept st a.registered a.outbox.spare a.next) (sym same) k
+
+pub seen_store : (a : Inside) {v : Play} {st : Store} → seen_in a ≡ v → st ≡ store_in a
+    → record { hall = hall_of st a.next; wakes = a.outbox.wakers; next = a.next } ≡ v
+seen_store a seen same = (λ j. record { hall = hall_of (same j) a.next; wakes = a.outbox.wakers; next = a.next }) ∙ seen
+
 -- an insertion that failed left what was there
 pub kept_as_futures : (a : Inside) {fs : List (ℕ × FutureEntry)} → IsKeptIn a → fs ≡ a.futures.entries
-    → IsKept (store_of a.semaphores.entries fs a.permits.entries) a.registered a.outbox.spare a.next
+    → IsKept (store_of (semaphores_in a) fs a.permits.entries) a.registered a.outbox.spare a.next
 kept_as_futures a k same = subst
-    (λ (fs : List (ℕ × FutureEntry)). IsKept (store_of a.semaphores.entries fs a.permits.entries) a.registered a.outbox.spare a.next) (sym same) k
+    (λ (fs : List (ℕ × FutureEntry)). IsKept (store_of (semaphores_in a) fs a.permits.entries) a.registered a.outbox.spare a.next) (sym same) k
 
 pub seen_as_futures : (a : Inside) {v : Play} {fs : List (ℕ × FutureEntry)} → seen_in a ≡ v → fs ≡ a.futures.entries
-    → record { hall = hall_of (store_of a.semaphores.entries fs a.permits.entries) a.next; wakes = a.outbox.wakers; next = a.next } ≡ v
+    → record { hall = hall_of (store_of (semaphores_in a) fs a.permits.entries) a.next; wakes = a.outbox.wakers; next = a.next } ≡ v
 seen_as_futures a seen same =
-    (λ j. record { hall = hall_of (store_of a.semaphores.entries (same j) a.permits.entries) a.next; wakes = a.outbox.wakers; next = a.next }) ∙ seen
+    (λ j. record { hall = hall_of (store_of (semaphores_in a) (same j) a.permits.entries) a.next; wakes = a.outbox.wakers; next = a.next }) ∙ seen
 
 pub kept_as_permits : (a : Inside) {ps : List (ℕ × PermitEntry)} → IsKeptIn a → ps ≡ a.permits.entries
-    → IsKept (store_of a.semaphores.entries a.futures.entries ps) a.registered a.outbox.spare a.next
+    → IsKept (store_of (semaphores_in a) a.futures.entries ps) a.registered a.outbox.spare a.next
 kept_as_permits a k same = subst
-    (λ (ps : List (ℕ × PermitEntry)). IsKept (store_of a.semaphores.entries a.futures.entries ps) a.registered a.outbox.spare a.next) (sym same) k
+    (λ (ps : List (ℕ × PermitEntry)). IsKept (store_of (semaphores_in a) a.futures.entries ps) a.registered a.outbox.spare a.next) (sym same) k
 
 module _ {a : Inside} {v : Play} {i : ℕ} (m : Meets a v i) where
   pub later : a.next ≤ i

@@ -21,7 +21,7 @@ use Rattle.mea_sem.proofs.Cores.{IsAt, all_at, all_by, waiting-with_waker, waker
 use Rattle.mea_sem.proofs.Stages.{cut_idle}
 use Rattle.mea_sem.proofs.Names.{name-owner, queue_of-same}
 use Rattle.mea_sem.proofs.Changes.{Changes, linked_after, semaphores_after, futures_put}
-use Rattle.mea_sem.proofs.Weighs.{weighs_future}
+use Rattle.mea_sem.proofs.Weighs.{nothing, weighs_future}
 use Rattle.mea_sem.proofs.Keeping.{Plays, settled_as}
 use Rattle.mea_sem.proofs.PlaysPermits.{as_it_was}
 
@@ -192,7 +192,7 @@ module _ (st st' : Store) (w sp next i s f v d m l : ℕ) (x : FutureEntry) (e :
         let before : get this_hall.futures f ≡ Some (future_of st.semaphores x) =
         get-seen (λ g z. future_of st.semaphores z) st.futures f ∙ ap (option_map (future_of st.semaphores)) was in
         settled_as st st' w sp next i s (events.Poll f v) e waker_entry k less low tt allowed (with_future this_hall f again_future)
-        is w sp 0 0 0 0 there semaphores
+        is w sp 0 0 nothing nothing there semaphores
         ((λ j. record {
           semaphores = (semaphores_after st st' next (i + 1) s f e waker_entry (Some x) (Some x) k.linked c
               ∙ ap (λ q. insert this_hall.semaphores s
@@ -207,7 +207,8 @@ module _ (st st' : Store) (w sp next i s f v d m l : ℕ) (x : FutureEntry) (e :
           account = (let o = old.account in let t = debts-with_waker e.core.queue m v in omega (arith, o, t));
           held = omega (arith, held);
           plain = refl;
-          few = omega arith;
+          things = refl;
+          few = (omega arith, omega arith);
           quiet = old.quiet;
           released = omega arith;
           forgotten = omega arith;

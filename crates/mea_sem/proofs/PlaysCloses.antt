@@ -15,7 +15,7 @@ use Rattle.mea_sem.proofs.Cores.{Queue, debts-only}
 use Rattle.mea_sem.proofs.Seen.{seen_at, wakes_waiting_seen}
 use Rattle.mea_sem.proofs.CutHalls.{cut_entry, linked_cut, hall_cut, paid_in_seen}
 use Rattle.mea_sem.proofs.Renumbered.{hall_renumbered, linked_later}
-use Rattle.mea_sem.proofs.Weighs.{weighs_staged}
+use Rattle.mea_sem.proofs.Weighs.{nothing, weighs_staged}
 use Rattle.mea_sem.proofs.PlaysPours.{poured_entry, between, between_at, wakers_poured, plays_poured}
 use Rattle.mea_sem.proofs.PlaysEnds.{PlaysWith}
 
@@ -77,9 +77,9 @@ module _ (st st' : Store) (w w' sp' sp next i s : ℕ) (e : SemaphoreEntry) (k :
       ∙ ap (pour h1 s) (paid_in_seen st next s e k.linked there) in
       record {
         plays = record {
-          plays = plays_poured st st' w sp next i s paid (events.Close s) e e1 k less low there semaphores h1 w' w' sp' 0 0 0 0 tt allowed poured hall linked
+          plays = plays_poured st st' w sp next i s paid (events.Close s) e e1 k less low there semaphores h1 w' w' sp' 0 0 nothing nothing tt allowed poured hall linked
               (weighs_staged h s s Cut (everyone (queue_at h s)) (record (semaphore_at h s) { queue = debts_in (queue_at h s); closed = true }))
-              (let o = old.account in let d = debts-only e.core.queue in omega (arith, o, d, within)) (omega (arith, held)) refl (omega arith) (omega arith)
+              (let o = old.account in let d = debts-only e.core.queue in omega (arith, o, d, within)) (omega (arith, held)) refl refl (omega arith, omega arith) (omega arith)
               (omega arith) (let n = wakers_only e.core.queue in omega (arith, woken, n)) (let n = none_poured e.core.queue paid in omega (arith, n)) room
               (let f = k.few in omega (arith, f, woken));
           wakes = ap (λ (o : Outcome). o.wakes) outcome ∙ wakes_waiting_seen st next s e k.linked there;

@@ -24,7 +24,7 @@ use Rattle.mea_sem.proofs.Seen.{seen_at}
 use Rattle.mea_sem.proofs.Still.{IsStill, still_queue, linked_still, queue_still, hall_still}
 use Rattle.mea_sem.proofs.Gone.{seen_future, Leaves, linked_gone, hall_gone, leaves_new, leaves_granted, leaves_cut}
 use Rattle.mea_sem.proofs.Left.{linked_left, hall_left, lack_left, wakers_without}
-use Rattle.mea_sem.proofs.Weighs.{Weighs, one, weighs_semaphore, weighs_lost_permit, weighs_lost_future}
+use Rattle.mea_sem.proofs.Weighs.{Weighs, thing, nothing, one, weighs_semaphore, weighs_lost_permit, weighs_lost_future}
 use Rattle.mea_sem.proofs.Keeping.{Plays, settled_as}
 use Rattle.mea_sem.proofs.PlaysPermits.{as_it_was, permit_counts}
 use Rattle.mea_sem.proofs.PlaysReady.{future_counts}
@@ -71,16 +71,16 @@ module _ (st st' : Store) (w w' sp' sp next i s n : ℕ) (e : SemaphoreEntry) (k
       }) in
       let linked = linked_still st st1 next i s e e1 k.linked less there (between_at st st' s e1) futures still in
       record {
-        plays = plays_poured st st' w sp next i s n (events.Release s n) e e1 k less low there semaphores h1 w w' sp' 0 0 0 0 tt allowed refl hall linked
+        plays = plays_poured st st' w sp next i s n (events.Release s n) e e1 k less low there semaphores h1 w w' sp' 0 0 nothing nothing tt allowed refl hall linked
             (weighs_semaphore h s s (record (semaphore_at h s) { released = (semaphore_at h s).released + n }))
-            (let o = old.account in omega (arith, o)) (omega (arith, held)) refl (omega arith) (omega arith) (omega arith) refl woken room
+            (let o = old.account in omega (arith, o)) (omega (arith, held)) refl refl (omega arith, omega arith) (omega arith) (omega arith) refl woken room
             (let f = k.few in omega (arith, f));
         wakes = wakes_poured st st' w sp next i s n (events.Release s n) e e1 k less low there semaphores h1 hall linked;
       }
 
   -- ---- a permit ends, and its size is poured
   abbrev pub ended_entry : Permit → SemaphoreEntry
-  ended_entry x = record e { core = record e.core { live = e.core.live - x.size }; plain = e.plain - one x.plain }
+  ended_entry x = record e { core = record e.core { live = e.core.live - x.size }; plain = e.plain - one x.plain; things = e.things - 1 }
 
   pub plays_end_permit : (p : ℕ) (x : Permit) → x.semaphore ≡ s → get st.permits p ≡ Some x → get h.futures p ≡ None → cause_of h (events.End p) ≡ None
       → ((q : ℕ) → get st'.semaphores q ≡ cond (s == q) (Some (poured_entry (ended_entry x) x.size)) (get st.semaphores q)) → st'.futures ≡ st.futures
@@ -103,11 +103,11 @@ module _ (st st' : Store) (w w' sp' sp next i s n : ℕ) (e : SemaphoreEntry) (k
       let linked = linked_still st st1 next i s e e1 k.linked less there (between_at st st' s e1) futures still in
       let outcome : step h i (events.End p) ≡ pouring h1 s x.size = ap (end_of h p) no_future ∙ ap (end_permit h p) is ∙ ap (λ q. pouring h1 q x.size) mine in
       record {
-        plays = plays_poured st st' w sp next i s x.size (events.End p) e e1 k less low there semaphores h1 w w' sp' x.size 0 (one x.plain)
-            0 tt allowed (ap (λ o. o.hall) outcome) hall linked
-            (subst (λ q. Weighs h h1 q x.size 0 (one x.plain) 0) mine (weighs_lost_permit h p x is))
+        plays = plays_poured st st' w sp next i s x.size (events.End p) e e1 k less low there semaphores h1 w w' sp' x.size 0 (thing x.plain)
+            nothing tt allowed (ap (λ o. o.hall) outcome) hall linked
+            (subst (λ q. Weighs h h1 q x.size 0 (thing x.plain) nothing) mine (weighs_lost_permit h p x is))
             (let o = old.account in let c = counts.0 in omega (arith, o, c)) (omega (arith, held)) (let c = counts.1 in omega (arith, c))
-            (omega arith) (omega arith) (omega arith) refl woken room (let f = k.few in omega (arith, f));
+            (let c = counts.2 in omega (arith, c)) (omega arith, omega arith) (omega arith) (omega arith) refl woken room (let f = k.few in omega (arith, f));
         wakes = ap (λ o. o.wakes) outcome ∙ wakes_poured st st' w sp next i s x.size (events.End p) e e1 k less low there semaphores h1 hall linked;
       }
 
@@ -118,20 +118,20 @@ module _ (st st' : Store) (w w' sp' sp next i s n : ℕ) (e : SemaphoreEntry) (k
     at_stage z = record { semaphore = x.semaphore; demand = d; plain = x.plain; forgets = x.forgets; stage = z }
 
     abbrev pub fewer_entry : SemaphoreEntry
-    fewer_entry = record e { plain = e.plain - one x.plain }
+    fewer_entry = record e { plain = e.plain - one x.plain; things = e.things - 1 }
 
     home : get st.semaphores x.semaphore ≡ Some e
     home = ap (get st.semaphores) mine ∙ there
 
-    lost : (z : Stage) → get h.futures f ≡ Some (at_stage z) → Weighs h (without_future h f) s 0 0 (one x.plain) 0
-    lost z is = subst (λ q. Weighs h (without_future h f) q 0 0 (one x.plain) 0) mine (weighs_lost_future h f (at_stage z) is)
+    lost : (z : Stage) → get h.futures f ≡ Some (at_stage z) → Weighs h (without_future h f) s 0 0 (thing x.plain) nothing
+    lost z is = subst (λ q. Weighs h (without_future h f) q 0 0 (thing x.plain) nothing) mine (weighs_lost_future h f (at_stage z) is)
 
     -- it was paid nothing: the core is c1 after it, and the event gives this
     module _ (event : SemEvent) (fits : Fits event) (allowed : cause_of h event ≡ None) (reply : Answer) (z : Stage) (c1 : cores.Core ℕ)
         (live : c1.live ≡ e.core.live) (queue : c1.queue ≡ e.core.queue) (quiet : c1.wakes ≡ e.core.wakes) (frees : c1.free ≡ e.core.free)
         (closed : c1.closed ≡ e.core.closed) (held : cores.held_of c1 ≡ cores.held_of e.core) where
       abbrev pub unpaid_entry : SemaphoreEntry
-      unpaid_entry = record e { core = c1; plain = e.plain - one x.plain }
+      unpaid_entry = record e { core = c1; plain = e.plain - one x.plain; things = e.things - 1 }
 
       pub plays_unpaid : get h.futures f ≡ Some (at_stage z) → step h i event ≡ quietly (without_future h f) reply
           → Leaves st st' s f x e unpaid_entry
@@ -142,7 +142,7 @@ module _ (st st' : Store) (w w' sp' sp next i s n : ℕ) (e : SemaphoreEntry) (k
           let old = k.each s e there in
           record {
             plays = settled_as st st' w sp next i s event e unpaid_entry k less low fits allowed (without_future h f) (ap (λ o. o.hall) outcome)
-                w sp 0 0 (one x.plain) 0 there semaphores
+                w sp 0 0 (thing x.plain) nothing there semaphores
                 (hall_gone st st' next i s f x e unpaid_entry k.linked less c
                 ∙ (λ j. record {
                   semaphores = insert h.semaphores s
@@ -168,8 +168,9 @@ module _ (st st' : Store) (w w' sp' sp next i s n : ℕ) (e : SemaphoreEntry) (k
                 (record {
                   account = (let o = old.account in let d : cores.debts c1.queue ≡ cores.debts e.core.queue = ap cores.debts queue in omega (arith, o, d, live));
                   held = omega (arith, held);
-                  plain = omega (arith, counts);
-                  few = omega arith;
+                  plain = omega (arith, counts.0);
+                  things = omega (arith, counts.1);
+                  few = (omega arith, omega arith);
                   quiet = quiet ∙ old.quiet;
                   released = omega arith;
                   forgotten = omega arith;
@@ -196,10 +197,10 @@ module _ (st st' : Store) (w w' sp' sp next i s n : ℕ) (e : SemaphoreEntry) (k
     pub plays_gone_cut : (event : SemEvent) (reply : Answer) (m : ℕ) → Fits event → cause_of h event ≡ None → x.acquire ≡ acquires.Queued d m
         → get e.core.cut m ≡ Some d
         → (get h.futures f ≡ Some (at_stage Cut) → step h i event ≡ quietly (without_future h f) reply)
-        → ((q : ℕ) → get st'.semaphores q ≡ cond (s == q) (Some (record e { core = uncut_core m; plain = e.plain - one x.plain })) (get st.semaphores q))
+        → ((q : ℕ) → get st'.semaphores q ≡ cond (s == q) (Some (record e { core = uncut_core m; plain = e.plain - one x.plain; things = e.things - 1 })) (get st.semaphores q))
         → PlaysWith st st' next i event w sp []
     plays_gone_cut event reply m fits allowed acquire cut outcome semaphores =
-        let e1 : SemaphoreEntry = record e { core = uncut_core m; plain = e.plain - one x.plain } in
+        let e1 : SemaphoreEntry = record e { core = uncut_core m; plain = e.plain - one x.plain; things = e.things - 1 } in
         let c : Leaves st st' s f x e e1 = leaves_cut st st' next s f x e e1 k.linked there semaphores was futures mine refl refl d m acquire cut refl refl in
         let is : get h.futures f ≡ Some (at_stage Cut) = seen_future st next f x e (acquires.Queued d m) Cut was home acquire
         (stage_cut e.core (k.linked.numbered s e there) d m cut) in
@@ -207,7 +208,7 @@ module _ (st st' : Store) (w w' sp' sp next i s n : ℕ) (e : SemaphoreEntry) (k
 
     -- ---- a future ends that was granted
     abbrev pub ungranted_entry : ℕ → SemaphoreEntry
-    ungranted_entry m = record e { core = record e.core { live = e.core.live - d; granted = remove e.core.granted m }; plain = e.plain - one x.plain }
+    ungranted_entry m = record e { core = record e.core { live = e.core.live - d; granted = remove e.core.granted m }; plain = e.plain - one x.plain; things = e.things - 1 }
 
     pub plays_end_granted : (m : ℕ) → x.acquire ≡ acquires.Queued d m → get e.core.granted m ≡ Some d → d ≤ e.core.live → cause_of h (events.End f) ≡ None
         → ((q : ℕ) → get st'.semaphores q ≡ cond (s == q) (Some (poured_entry (ungranted_entry m) d)) (get st.semaphores q))
@@ -233,9 +234,9 @@ module _ (st st' : Store) (w w' sp' sp next i s n : ℕ) (e : SemaphoreEntry) (k
         let counts = future_counts st w sp next f (at_stage Granted) e k is home in
         let old = k.each s e there in
         record {
-          plays = plays_poured st st' w sp next i s d (events.End f) e e1 k less low there semaphores h1 w w' sp' 0 0 (one x.plain) 0 tt allowed
+          plays = plays_poured st st' w sp next i s d (events.End f) e e1 k less low there semaphores h1 w w' sp' 0 0 (thing x.plain) nothing tt allowed
               (ap (λ o. o.hall) outcome) hall linked (lost Granted is)
-              (let o = old.account in omega (arith, o, within)) (omega (arith, held)) (omega (arith, counts)) (omega arith) (omega arith)
+              (let o = old.account in omega (arith, o, within)) (omega (arith, held)) (omega (arith, counts.0)) (omega (arith, counts.1)) (omega arith, omega arith) (omega arith)
               (omega arith) refl woken room (let f = k.few in omega (arith, f));
           wakes = ap (λ o. o.wakes) outcome ∙ wakes_poured st st' w sp next i s d (events.End f) e e1 k less low there semaphores h1 hall linked;
         }
@@ -245,6 +246,7 @@ module _ (st st' : Store) (w w' sp' sp next i s n : ℕ) (e : SemaphoreEntry) (k
     unqueued_entry m l = record e {
       core = record e.core { live = e.core.live - (d - l); queue = without_acquire e.core.queue m };
       plain = e.plain - one x.plain;
+      things = e.things - 1;
     }
 
     pub plays_end_waiting : (m l : ℕ) → x.acquire ≡ acquires.Queued d m → cores.waiting e.core.queue m ≡ Some (d, l) → d - l ≤ e.core.live
@@ -282,11 +284,11 @@ module _ (st st' : Store) (w w' sp' sp next i s n : ℕ) (e : SemaphoreEntry) (k
         let left = wakers_without e.core.queue m d l numbered.apart waits in
         record {
           plays = plays_poured st st' w sp next i s (d - l) (events.End f) e e1 k less low there semaphores h1
-              (w' + length (cores.wakers_of (granted_in (without_acquire e.core.queue m) (d - l)))) w' sp' 0 0 (one x.plain) 0 tt allowed
+              (w' + length (cores.wakers_of (granted_in (without_acquire e.core.queue m) (d - l)))) w' sp' 0 0 (thing x.plain) nothing tt allowed
               (ap (λ o. o.hall) outcome) hall linked
-              (let z = lost (Waiting v.0) is in record { held = λ q. z.held q; plain = λ q. z.plain q })
+              (let z = lost (Waiting v.0) is in record { held = λ q. z.held q; things = λ chosen q. z.things chosen q })
               (let o = old.account in let t = debts-without e.core.queue m in omega (arith, o, within, t)) (omega (arith, held))
-              (omega (arith, counts)) (omega arith) (omega arith) (omega arith) (omega (arith, woken, left)) refl room
+              (omega (arith, counts.0)) (omega (arith, counts.1)) (omega arith, omega arith) (omega arith) (omega arith) (omega (arith, woken, left)) refl room
               (let f = k.few in omega (arith, f, woken));
           wakes = ap (λ o. o.wakes) outcome ∙ wakes_poured st st' w sp next i s (d - l) (events.End f) e e1 k less low there semaphores h1 hall linked;
         }

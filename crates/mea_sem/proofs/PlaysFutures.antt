@@ -25,7 +25,7 @@ use Rattle.mea_sem.proofs.Names.{has-from, name-has}
 use Rattle.mea_sem.proofs.Seen.{seen_at}
 use Rattle.mea_sem.proofs.Still.{no_future}
 use Rattle.mea_sem.proofs.Changes.{Changes, linked_after, queue_kept, semaphores_after, futures_put}
-use Rattle.mea_sem.proofs.Weighs.{one, weighs_new_future, weighs_future}
+use Rattle.mea_sem.proofs.Weighs.{thing, nothing, one, weighs_new_future, weighs_future}
 use Rattle.mea_sem.proofs.Keeping.{Plays, settled_as}
 use Rattle.mea_sem.proofs.PlaysPermits.{as_it_was}
 
@@ -39,7 +39,7 @@ module _ (st st' : Store) (w sp next i s n : ℕ) (e : SemaphoreEntry) (k : IsKe
 
   -- ---- a future is made
   abbrev pub made_entry : Bool → SemaphoreEntry
-  made_entry plain = record e { plain = e.plain + one plain }
+  made_entry plain = record e { plain = e.plain + one plain; things = e.things + 1 }
 
   abbrev pub made_future : Bool → Bool → FutureEntry
   made_future plain forgets = record { semaphore = s; acquire = acquires.New n; plain = plain; forgets = forgets }
@@ -86,7 +86,7 @@ module _ (st st' : Store) (w sp next i s n : ℕ) (e : SemaphoreEntry) (k : IsKe
       get-seen (semaphore_of st.futures next) st.semaphores s ∙ ap (option_map (semaphore_of st.futures next s)) there in
       let absent : get h.futures i ≡ None = get-seen (λ g z. future_of st.semaphores z) st.futures i
       ∙ ap (option_map (future_of st.semaphores)) (no_future st next i k.linked less) in
-      settled_as st st' w sp next i s event e e' k less low fits allowed (with_future h i y) is w sp 0 0 0 (one plain) there semaphores
+      settled_as st st' w sp next i s event e e' k less low fits allowed (with_future h i y) is w sp 0 0 nothing (thing plain) there semaphores
       ((λ j. record {
         semaphores = (semaphores_after st st' next (i + 1) s i e e' None (Some x) k.linked c
             ∙ ap (λ q. insert h.semaphores s
@@ -102,7 +102,8 @@ module _ (st st' : Store) (w sp next i s n : ℕ) (e : SemaphoreEntry) (k : IsKe
         account = old.account;
         held = refl;
         plain = omega arith;
-        few = at_most plain;
+        things = omega arith;
+        few = (at_most plain, omega arith);
         quiet = old.quiet;
         released = omega arith;
         forgotten = omega arith;
@@ -286,7 +287,7 @@ module _ (st st' : Store) (w sp sp' next i s f v d m : ℕ) (x : FutureEntry) (e
         }) in
         let before : get hall.futures f ≡ Some (future_of st.semaphores x) =
         get-seen (λ g z. future_of st.semaphores z) st.futures f ∙ ap (option_map (future_of st.semaphores)) was in
-        settled_as st st' w sp next i s (events.Poll f v) e queued_entry k less low tt allowed queued_hall is (w + 1) sp' 0 0 0 0 there semaphores
+        settled_as st st' w sp next i s (events.Poll f v) e queued_entry k less low tt allowed queued_hall is (w + 1) sp' 0 0 nothing nothing there semaphores
         ((λ j. record {
           semaphores = (semaphores_after st st' next (i + 1) s f e queued_entry (Some x) (Some queued_future) k.linked c
               ∙ ap (λ q. insert hall.semaphores s
@@ -302,12 +303,13 @@ module _ (st st' : Store) (w sp sp' next i s f v d m : ℕ) (x : FutureEntry) (e
           permits = hall.permits;
         }))
         linked
-        (let l = weighs_future hall f y (future_of st.semaphores x) before mine refl in record { held = λ q. l.held q; plain = λ q. l.plain q })
+        (let l = weighs_future hall f y (future_of st.semaphores x) before mine refl in record { held = λ q. l.held q; things = λ chosen q. l.things chosen q })
         (record {
           account = (let o = old.account in let t = debts-push e.core.queue m d v (d - e.core.free) in omega (arith, o, t));
           held = omega (arith, held);
           plain = refl;
-          few = omega arith;
+          things = refl;
+          few = (omega arith, omega arith);
           quiet = old.quiet;
           released = omega arith;
           forgotten = omega arith;

@@ -18,15 +18,16 @@ use Rattle.mea_sem_core.specs.Acquire.{demand_of}
 use Rattle.mea_sem.specs.declared.entries.SemaphoreEntry.{SemaphoreEntry}
 use Rattle.mea_sem.specs.declared.entries.FutureEntry.{FutureEntry}
 use Rattle.mea_sem.specs.Store.{Store, semaphore_of, stage_of, core_in, future_of, hall_of, IsHome, IsOwned, IsNumbered, IsLinked}
-use Rattle.mea_sem.specs.Kept.{wakers_in, IsKeptEntry, IsKept}
+use Rattle.mea_sem.specs.Kept.{things_by, things, wakers_in, IsKeptEntry, IsKept}
 use Rattle.mea_sem.proofs.Renumbered.{hall_renumbered}
+use Rattle.mea_sem.proofs.Weighs.{if_plain, always}
 use Rattle.mea_sem.proofs.Keeping.{Plays}
 
 abbrev pub fresh_core : ℕ → cores.Core ℕ
 fresh_core n = record { free = n; live = n; queue = []; granted = empty; cut = empty; closed = false; wakes = [] }
 
 abbrev pub fresh_entry : ℕ → SemaphoreEntry
-fresh_entry n = record { core = fresh_core n; made = n; released = 0; forgotten = 0; named = true; plain = 0 }
+fresh_entry n = record { core = fresh_core n; made = n; released = 0; forgotten = 0; named = true; plain = 0; things = 0 }
 
 module _ (st : Store) (w sp next i : ℕ) (k : IsKept st w sp next) (less : next ≤ i) (low : i < 2 ^ 64) where
   -- there is no semaphore of a number that was not given
@@ -62,13 +63,19 @@ module _ (st : Store) (w sp next i : ℕ) (k : IsKept st w sp next) (less : next
   none_held = total-zero (λ j (p : Permit). cond (p.semaphore == i) p.size 0) (hall_of st next).permits
       (λ j p is. none_if (p.semaphore == i) p.size (not_of p.semaphore (k.valid.permits_of j p is) (p.semaphore == i) refl))
 
-  pub none_plain : plain_things (hall_of st next) i ≡ 0
-  none_plain =
-      let fs = total-zero (λ j (p : Future). cond (p.semaphore == i && p.plain) 1 0) (hall_of st next).futures
-      (λ j p is. both_if (p.semaphore == i) p.plain (not_of p.semaphore (k.valid.futures_of j p is) (p.semaphore == i) refl)) in
-      let ps = total-zero (λ j (p : Permit). cond (p.semaphore == i && p.plain) 1 0) (hall_of st next).permits
-      (λ j p is. both_if (p.semaphore == i) p.plain (not_of p.semaphore (k.valid.permits_of j p is) (p.semaphore == i) refl)) in
+  none_by : (chosen : Bool → Bool) → things_by chosen (hall_of st next) i ≡ 0
+  none_by chosen =
+      let fs = total-zero (λ j (p : Future). cond (p.semaphore == i && chosen p.plain) 1 0) (hall_of st next).futures
+      (λ j p is. both_if (p.semaphore == i) (chosen p.plain) (not_of p.semaphore (k.valid.futures_of j p is) (p.semaphore == i) refl)) in
+      let ps = total-zero (λ j (p : Permit). cond (p.semaphore == i && chosen p.plain) 1 0) (hall_of st next).permits
+      (λ j p is. both_if (p.semaphore == i) (chosen p.plain) (not_of p.semaphore (k.valid.permits_of j p is) (p.semaphore == i) refl)) in
       omega (arith, fs, ps)
+
+  pub none_plain : plain_things (hall_of st next) i ≡ 0
+  none_plain = none_by if_plain
+
+  none_things : things (hall_of st next) i ≡ 0
+  none_things = none_by always
 
   module _ (st' : Store) (n : ℕ) (small : n < 2 ^ 64)
       (semaphores : (q : ℕ) → get st'.semaphores q ≡ cond (i == q) (Some (fresh_entry n)) (get st.semaphores q)) (futures : st'.futures ≡ st.futures)
@@ -183,7 +190,8 @@ module _ (st : Store) (w sp next i : ℕ) (k : IsKept st w sp next) (less : next
           account = omega arith;
           held = omega (arith, held, nothing);
           plain = omega (arith, no_thing);
-          few = omega arith;
+          things = omega (arith, none_things);
+          few = (omega arith, omega arith);
           quiet = refl;
           released = omega arith;
           forgotten = omega arith;
@@ -194,7 +202,8 @@ module _ (st : Store) (w sp next i : ℕ) (k : IsKept st w sp next) (less : next
           account = o.account;
           held = o.held;
           plain = o.plain;
-          few = (let t = o.few in omega (arith, t));
+          things = o.things;
+          few = ((let t = o.few.0 in omega (arith, t)), (let t = o.few.1 in omega (arith, t)));
           quiet = o.quiet;
           released = (let t = o.released in omega (arith, t));
           forgotten = (let t = o.forgotten in omega (arith, t));

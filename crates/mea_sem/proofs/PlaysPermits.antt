@@ -20,7 +20,7 @@ use Rattle.mea_sem.specs.Store.{Store, queue_of, semaphore_of, hall_of}
 use Rattle.mea_sem.specs.Kept.{IsKept}
 use Rattle.mea_sem.proofs.Seen.{seen_at}
 use Rattle.mea_sem.proofs.Still.{IsStill, still_queue, linked_still, queue_still, hall_still}
-use Rattle.mea_sem.proofs.Weighs.{Weighs, one, weighs_after, weighs_as, weighs_new_permit, weighs_permit, weighs_lost_permit}
+use Rattle.mea_sem.proofs.Weighs.{Weighs, Things, thing, nothing, if_plain, always, one, weighs_after, weighs_as, weighs_new_permit, weighs_permit, weighs_lost_permit}
 use Rattle.mea_sem.proofs.Keeping.{Plays, settled_as}
 use Rattle.mea_sem.proofs.PlaysSemaphores.{Puts}
 
@@ -48,23 +48,26 @@ as_it_was h s r there ps = λ j. record {
     at_each q false is = refl
 
 -- what weighs on a semaphore does not weigh on the semaphores' own records
-pub weighs_besides : (h g : Hall) (q s a b p r : ℕ) (m : Semaphore) → Weighs (with_semaphore h q m) g s a b p r → Weighs h g s a b p r
-weighs_besides h g q s a b p r m x = record { held = λ k. x.held k; plain = λ k. x.plain k }
+pub weighs_besides : (h g : Hall) (q s a b : ℕ) (p r : Things) (m : Semaphore) → Weighs (with_semaphore h q m) g s a b p r → Weighs h g s a b p r
+weighs_besides h g q s a b p r m x = record { held = λ k. x.held k; things = λ chosen k. x.things chosen k }
 
 -- a permit is held, and a plain one is counted
 pub permit_counts : (st : Store) (w sp next p : ℕ) (x : Permit) (e : SemaphoreEntry) → IsKept st w sp next → get st.permits p ≡ Some x
-    → get st.semaphores x.semaphore ≡ Some e → (x.size ≤ cores.held_of e.core) × (one x.plain ≤ e.plain)
+    → get st.semaphores x.semaphore ≡ Some e → (x.size ≤ cores.held_of e.core) × (one x.plain ≤ e.plain) × (1 ≤ e.things)
 permit_counts st w sp next p x e k is there =
     let lost = weighs_lost_permit (hall_of st next) p x is in
     let a = lost.held x.semaphore in
-    let b = lost.plain x.semaphore in
+    let b = lost.things if_plain x.semaphore in
+    let b2 = lost.things always x.semaphore in
     let old = k.each x.semaphore e there in
     let c = old.held in
     let d = old.plain in
+    let d2 = old.things in
     let t = at_same {X = ℕ} x.semaphore x.semaphore x.size 0 refl in
     let u = at_same {X = ℕ} x.semaphore x.semaphore 0 0 refl in
     let v = at_same {X = ℕ} x.semaphore x.semaphore (one x.plain) 0 refl in
-    (omega (arith, a, c, t, u), omega (arith, b, d, v, u))
+    let v2 = at_same {X = ℕ} x.semaphore x.semaphore 1 0 refl in
+    (omega (arith, a, c, t, u), omega (arith, b, d, v, u), omega (arith, b2, d2, v2, u))
 
 -- two permits of one semaphore are held together
 pub permits_count : (st : Store) (w sp next p q : ℕ) (x y : Permit) (e : SemaphoreEntry) → IsKept st w sp next → (p ≡ q → ⊥)
@@ -87,7 +90,7 @@ permits_count st w sp next p q x y e k apart isx isy same there =
 module _ (st st' : Store) (w sp next i s n : ℕ) (e : SemaphoreEntry) (k : IsKept st w sp next) (less : next ≤ i) (low : i < 2 ^ 64) where
   -- ---- n free permits become permit i
   abbrev taken_entry : Bool → SemaphoreEntry
-  taken_entry plain = record e { core = record e.core { free = e.core.free - n }; plain = e.plain + one plain }
+  taken_entry plain = record e { core = record e.core { free = e.core.free - n }; plain = e.plain + one plain; things = e.things + 1 }
 
   pub plays_try : (event : SemEvent) (plain : Bool) → Fits event → cause_of (hall_of st next) event ≡ None
       → (step (hall_of st next) i event).hall ≡ (try_of (hall_of st next) i s n plain).hall
@@ -104,18 +107,19 @@ module _ (st st' : Store) (w sp next i s n : ℕ) (e : SemaphoreEntry) (k : IsKe
       let fits_in : offers h s n ≡ true = ap (λ r. not r.closed && nat_le n r.free) seen ∙ (λ j. not (open_still j) && le-leb n e.core.free enough j) in
       let g : Hall = with_permit (with_semaphore h s (taking (semaphore_at h s) n)) i x in
       let chosen : (step h i event).hall ≡ g = is ∙ ap (λ b. (if b then quietly g answers.Held else quietly h answers.Lacking).hall) fits_in in
-      settled_as st st' w sp next i s event e e' k less low fits allowed g chosen w sp 0 n 0 (one plain) c.there c.semaphores
+      settled_as st st' w sp next i s event e e' k less low fits allowed g chosen w sp 0 n nothing (thing plain) c.there c.semaphores
       (hall_still st st' next i s e e' k.linked less c.there c.semaphores c.futures still (queue_of st.futures next s e.core.queue)
       (queue_still st st' next i s e e' k.linked less c.there c.semaphores c.futures still)
       ∙ (λ j. record { semaphores = insert h.semaphores s (taking (sym seen j) n); futures = h.futures; permits = permits j }))
       (linked_still st st' next i s e e' k.linked less c.there c.semaphores c.futures still)
-      (weighs_besides h g s s 0 n 0 (one plain) (taking (semaphore_at h s) n)
+      (weighs_besides h g s s 0 n nothing (thing plain) (taking (semaphore_at h s) n)
       (weighs_new_permit (with_semaphore h s (taking (semaphore_at h s) n)) i x (no_permit st w sp next i k less)))
       (record {
         account = old.account;
         held = omega (arith, held);
         plain = omega arith;
-        few = at_most plain;
+        things = omega arith;
+        few = (at_most plain, omega arith);
         quiet = old.quiet;
         released = omega arith;
         forgotten = omega arith;
@@ -128,7 +132,7 @@ module _ (st st' : Store) (w sp next i s n : ℕ) (e : SemaphoreEntry) (k : IsKe
 
   -- ---- a permit is lost
   abbrev lost_entry : Permit → SemaphoreEntry
-  lost_entry x = record e { core = record e.core { live = e.core.live - x.size }; forgotten = e.forgotten + x.size; plain = e.plain - one x.plain }
+  lost_entry x = record e { core = record e.core { live = e.core.live - x.size }; forgotten = e.forgotten + x.size; plain = e.plain - one x.plain; things = e.things - 1 }
 
   pub plays_lose : (x : Permit) → x.semaphore ≡ s → x.size < 2 ^ 64 → get st.permits n ≡ Some x → cause_of (hall_of st next) (events.Lose n) ≡ None
       → Puts st st' s e (lost_entry x) → st'.permits ≡ remove st.permits n
@@ -145,9 +149,9 @@ module _ (st st' : Store) (w sp next i s n : ℕ) (e : SemaphoreEntry) (k : IsKe
       let g : Hall = with_semaphore (without_permit h n) s r in
       let chosen : (step h i (events.Lose n)).hall ≡ g = ap (λ o. (lose_of h n o).hall) there
       ∙ ap (λ q. with_semaphore (without_permit h n) q (record (semaphore_at h q) { forgotten = (semaphore_at h q).forgotten + x.size })) mine in
-      let lost : Weighs h g x.semaphore x.size 0 (one x.plain) 0 =
-      (let l = weighs_lost_permit h n x there in record { held = λ q. l.held q; plain = λ q. l.plain q }) in
-      settled_as st st' w sp next i s (events.Lose n) e e' k less low tt allowed g chosen w sp x.size 0 (one x.plain) 0 c.there c.semaphores
+      let lost : Weighs h g x.semaphore x.size 0 (thing x.plain) nothing =
+      (let l = weighs_lost_permit h n x there in record { held = λ q. l.held q; things = λ chosen q. l.things chosen q }) in
+      settled_as st st' w sp next i s (events.Lose n) e e' k less low tt allowed g chosen w sp x.size 0 (thing x.plain) nothing c.there c.semaphores
       (hall_still st st' next i s e e' k.linked less c.there c.semaphores c.futures still (queue_of st.futures next s e.core.queue)
       (queue_still st st' next i s e e' k.linked less c.there c.semaphores c.futures still)
       ∙ (λ j. record {
@@ -156,12 +160,13 @@ module _ (st st' : Store) (w sp next i s n : ℕ) (e : SemaphoreEntry) (k : IsKe
         permits = permits j;
       }))
       (linked_still st st' next i s e e' k.linked less c.there c.semaphores c.futures still)
-      (subst (λ q. Weighs h g q x.size 0 (one x.plain) 0) mine lost)
+      (subst (λ q. Weighs h g q x.size 0 (thing x.plain) nothing) mine lost)
       (record {
         account = (let o = old.account in let f = counts.0 in omega (arith, o, f));
         held = omega (arith, held);
         plain = (let f = counts.1 in omega (arith, f));
-        few = omega arith;
+        things = (let f = counts.2 in omega (arith, f));
+        few = (omega arith, omega arith);
         quiet = old.quiet;
         released = omega arith;
         forgotten = omega arith;
@@ -170,7 +175,7 @@ module _ (st st' : Store) (w sp next i s n : ℕ) (e : SemaphoreEntry) (k : IsKe
 
   -- ---- a permit is added to another
   abbrev fewer_entry : Bool → SemaphoreEntry
-  fewer_entry plain = record e { plain = e.plain - one plain }
+  fewer_entry plain = record e { plain = e.plain - one plain; things = e.things - 1 }
 
   pub plays_merge : (p : ℕ) (x y : Permit) → x.semaphore ≡ s → y.semaphore ≡ s → y.plain ≡ x.plain → (p ≡ n → ⊥) → get st.permits p ≡ Some x
       → get st.permits n ≡ Some y → cause_of (hall_of st next) (events.Merge p n) ≡ None
@@ -187,25 +192,26 @@ module _ (st st' : Store) (w sp next i s n : ℕ) (e : SemaphoreEntry) (k : IsKe
       let g : Hall = with_permit (without_permit h n) p z in
       let chosen : (step h i (events.Merge p n)).hall ≡ g = (λ j. merge_of h p n (there j) (there_too j)) in
       let left : get (without_permit h n).permits p ≡ Some x = get_removed h.permits n p ∙ at_apart n p None (get h.permits p) (λ t. apart (sym t)) ∙ there in
-      let first : Weighs h (without_permit h n) s y.size 0 (one x.plain) 0 =
-      subst (λ b. Weighs h (without_permit h n) s y.size 0 (one b) 0) form
-      (subst (λ q. Weighs h (without_permit h n) q y.size 0 (one y.plain) 0) yours (weighs_lost_permit h n y there_too)) in
-      let second : Weighs (without_permit h n) g s x.size z.size 0 0 =
-      subst (λ q. Weighs (without_permit h n) g q x.size z.size 0 0) mine (weighs_permit (without_permit h n) p z x left refl refl) in
-      let both = weighs_after h (without_permit h n) g s y.size 0 (one x.plain) 0 x.size z.size 0 0 first second in
+      let first : Weighs h (without_permit h n) s y.size 0 (thing x.plain) nothing =
+      subst (λ b. Weighs h (without_permit h n) s y.size 0 (thing b) nothing) form
+      (subst (λ q. Weighs h (without_permit h n) q y.size 0 (thing y.plain) nothing) yours (weighs_lost_permit h n y there_too)) in
+      let second : Weighs (without_permit h n) g s x.size z.size nothing nothing =
+      subst (λ q. Weighs (without_permit h n) g q x.size z.size nothing nothing) mine (weighs_permit (without_permit h n) p z x left refl refl) in
+      let both = weighs_after h (without_permit h n) g s y.size 0 (thing x.plain) nothing x.size z.size nothing nothing first second in
       let same : record { semaphores = insert h.semaphores s (semaphore_of st.futures next s e); futures = h.futures; permits = st'.permits } ≡ g =
       as_it_was h s (semaphore_of st.futures next s e) (get_semaphore c.there) st'.permits
       ∙ (λ j. record { semaphores = h.semaphores; futures = h.futures; permits = permits j }) in
-      settled_as st st' w sp next i s (events.Merge p n) e e' k less low tt allowed g chosen w sp 0 0 (one x.plain) 0 c.there c.semaphores
+      settled_as st st' w sp next i s (events.Merge p n) e e' k less low tt allowed g chosen w sp 0 0 (thing x.plain) nothing c.there c.semaphores
       (hall_still st st' next i s e e' k.linked less c.there c.semaphores c.futures still (queue_of st.futures next s e.core.queue)
       (queue_still st st' next i s e e' k.linked less c.there c.semaphores c.futures still) ∙ same)
       (linked_still st st' next i s e e' k.linked less c.there c.semaphores c.futures still)
-      (weighs_as h g s (y.size + x.size) (0 + z.size) (one x.plain + 0) (0 + 0) 0 0 (one x.plain) 0 both (omega arith) (omega arith))
+      (weighs_as h g s (y.size + x.size) (0 + z.size) _ _ 0 0 (thing x.plain) nothing both (omega arith) (λ chosen. omega arith))
       (record {
         account = old.account;
         held = refl;
         plain = (let f = counts.1 in omega (arith, f));
-        few = omega arith;
+        things = (let f = counts.2 in omega (arith, f));
+        few = (omega arith, omega arith);
         quiet = old.quiet;
         released = omega arith;
         forgotten = omega arith;
@@ -217,7 +223,7 @@ module _ (st st' : Store) (w sp next i s n : ℕ) (e : SemaphoreEntry) (k : IsKe
 
   -- ---- n of a permit become permit i
   abbrev more_entry : Bool → SemaphoreEntry
-  more_entry plain = record e { plain = e.plain + one plain }
+  more_entry plain = record e { plain = e.plain + one plain; things = e.things + 1 }
 
   pub plays_split : (p : ℕ) (x : Permit) → x.semaphore ≡ s → n ≤ x.size → get st.permits p ≡ Some x → cause_of (hall_of st next) (events.Split p n) ≡ None
       → Puts st st' s e (more_entry x.plain) → st'.permits ≡ insert (insert st.permits p (record x { size = x.size - n })) i (record x { size = n })
@@ -232,28 +238,29 @@ module _ (st st' : Store) (w sp next i s n : ℕ) (e : SemaphoreEntry) (k : IsKe
       let g : Hall = with_permit (with_permit h p y) i z in
       let chosen : (step h i (events.Split p n)).hall ≡ g = ap (λ o. (split_of h i p n o).hall) there
       ∙ ap (λ b. (if b then quietly g answers.Held else quietly h answers.Lacking).hall) (le-leb n x.size enough) in
-      let first : Weighs h (with_permit h p y) s x.size y.size 0 0 =
-      subst (λ q. Weighs h (with_permit h p y) q x.size y.size 0 0) mine (weighs_permit h p y x there refl refl) in
+      let first : Weighs h (with_permit h p y) s x.size y.size nothing nothing =
+      subst (λ q. Weighs h (with_permit h p y) q x.size y.size nothing nothing) mine (weighs_permit h p y x there refl refl) in
       let absent : get (with_permit h p y).permits i ≡ None =
       get_inserted h.permits p i y ∙ at_apart p i (Some y) (get h.permits i)
       (λ same. (let small : p < next = k.below.permits p (ap is_some there) in absurd (omega arith))) ∙ no_permit st w sp next i k less in
-      let second : Weighs (with_permit h p y) g s 0 n 0 (one x.plain) =
-      subst (λ q. Weighs (with_permit h p y) g q 0 n 0 (one x.plain)) mine (weighs_new_permit (with_permit h p y) i z absent) in
-      let both = weighs_after h (with_permit h p y) g s x.size y.size 0 0 0 n 0 (one x.plain) first second in
+      let second : Weighs (with_permit h p y) g s 0 n nothing (thing x.plain) =
+      subst (λ q. Weighs (with_permit h p y) g q 0 n nothing (thing x.plain)) mine (weighs_new_permit (with_permit h p y) i z absent) in
+      let both = weighs_after h (with_permit h p y) g s x.size y.size nothing nothing 0 n nothing (thing x.plain) first second in
       let same : record { semaphores = insert h.semaphores s (semaphore_of st.futures next s e); futures = h.futures; permits = st'.permits } ≡ g =
       as_it_was h s (semaphore_of st.futures next s e)
       (get-seen (semaphore_of st.futures next) st.semaphores s ∙ ap (option_map (semaphore_of st.futures next s)) c.there) st'.permits
       ∙ (λ j. record { semaphores = h.semaphores; futures = h.futures; permits = permits j }) in
-      settled_as st st' w sp next i s (events.Split p n) e e' k less low tt allowed g chosen w sp 0 0 0 (one x.plain) c.there c.semaphores
+      settled_as st st' w sp next i s (events.Split p n) e e' k less low tt allowed g chosen w sp 0 0 nothing (thing x.plain) c.there c.semaphores
       (hall_still st st' next i s e e' k.linked less c.there c.semaphores c.futures still (queue_of st.futures next s e.core.queue)
       (queue_still st st' next i s e e' k.linked less c.there c.semaphores c.futures still) ∙ same)
       (linked_still st st' next i s e e' k.linked less c.there c.semaphores c.futures still)
-      (weighs_as h g s (x.size + 0) (y.size + n) (0 + 0) (0 + one x.plain) 0 0 0 (one x.plain) both (omega arith) (omega arith))
+      (weighs_as h g s (x.size + 0) (y.size + n) _ _ 0 0 nothing (thing x.plain) both (omega arith) (λ chosen. omega arith))
       (record {
         account = old.account;
         held = refl;
         plain = omega arith;
-        few = at_most x.plain;
+        things = omega arith;
+        few = (at_most x.plain, omega arith);
         quiet = old.quiet;
         released = omega arith;
         forgotten = omega arith;

@@ -16,7 +16,7 @@ use Rattle.mea_sem.specs.Kept.{wakers_in, IsKept}
 use Rattle.mea_sem.proofs.Cores.{debts-pour, still_waiting, paid_whole, one_more}
 use Rattle.mea_sem.proofs.Seen.{wakes_seen}
 use Rattle.mea_sem.proofs.PourHalls.{PoursInto, hall_poured, linked_poured}
-use Rattle.mea_sem.proofs.Weighs.{Weighs, weighs_after, weighs_as, weighs_pour}
+use Rattle.mea_sem.proofs.Weighs.{Weighs, Things, nothing, if_plain, always, weighs_after, weighs_as, weighs_pour}
 use Rattle.mea_sem.proofs.Keeping.{Plays, settled_as}
 
 -- ---- the wakers of those who are granted leave the queue
@@ -80,26 +80,28 @@ module _ (st st' : Store) (w sp next i s n : ℕ) (event : SemEvent) (e e1 : Sem
   pub wakes_poured : (h1 : Hall) → hall_of st1 (i + 1) ≡ h1 → IsLinked st1 (i + 1) → wakes_of h1 s n ≡ cores.wakers_of (granted_in e1.core.queue n)
   wakes_poured h1 is linked = ap (λ h. wakes_of h s n) (sym is) ∙ wakes_seen st1 (i + 1) s e1 linked into.there n
 
-  pub plays_poured : (h1 : Hall) (w1 w' sp' a b p r : ℕ) → Fits event → cause_of (hall_of st next) event ≡ None
+  pub plays_poured : (h1 : Hall) (w1 w' sp' a b : ℕ) (p r : Things) → Fits event → cause_of (hall_of st next) event ≡ None
       → (step (hall_of st next) i event).hall ≡ pour h1 s n
       → hall_of st1 (i + 1) ≡ h1 → IsLinked st1 (i + 1) → Weighs (hall_of st next) h1 s a b p r
       → e1.core.live + n + e1.forgotten ≡ e1.made + e1.released + cores.debts e1.core.queue
       → cores.held_of (cores.poured e1.core n) + a ≡ cores.held_of e.core + b
-      → e1.plain + p ≡ e.plain + r → r ≤ 1 → e1.released ≤ e.released + 2 ^ 64 → e1.forgotten ≤ e.forgotten + 2 ^ 64
+      → e1.plain + p if_plain ≡ e.plain + r if_plain → e1.things + p always ≡ e.things + r always → (r if_plain ≤ 1) × (r always ≤ 1)
+      → e1.released ≤ e.released + 2 ^ 64 → e1.forgotten ≤ e.forgotten + 2 ^ 64
       → w1 + wakers_in e.core.queue ≡ w + wakers_in e1.core.queue → w' + length (cores.wakers_of (granted_in e1.core.queue n)) ≡ w1 → w' ≤ sp' → w1 ≤ i + 1
       → Plays st st' next i event w' sp'
-  plays_poured h1 w1 w' sp' a b p r fits allowed is hall linked weighs account held plain few released forgotten registered woken room within =
+  plays_poured h1 w1 w' sp' a b p r fits allowed is hall linked weighs account held plain things few released forgotten registered woken room within =
       let e' : SemaphoreEntry = poured_entry e1 n in
-      let poured : Weighs h1 (pour h1 s n) s 0 0 0 0 = weighs_pour h1 s s n in
+      let poured : Weighs h1 (pour h1 s n) s 0 0 nothing nothing = weighs_pour h1 s s n in
       settled_as st st' w sp next i s event e e' k less low fits allowed (pour h1 s n) is w' sp' a b p r there semaphores
       (hall_poured st1 st' (i + 1) s n e1 e' linked into ∙ ap (λ h. pour h s n) hall)
       (linked_poured st1 st' (i + 1) s n e1 e' linked into)
-      (weighs_as (hall_of st next) (pour h1 s n) s (a + 0) (b + 0) (p + 0) (r + 0) a b p r
-      (weighs_after (hall_of st next) h1 (pour h1 s n) s a b p r 0 0 0 0 weighs poured) (omega arith) (omega arith))
+      (weighs_as (hall_of st next) (pour h1 s n) s (a + 0) (b + 0) _ _ a b p r
+      (weighs_after (hall_of st next) h1 (pour h1 s n) s a b p r 0 0 nothing nothing weighs poured) (omega arith) (λ chosen. omega arith))
       (record {
         account = (let d = debts-pour e1.core.queue n in let x = d.0 in let y = d.1 in omega (arith, account, x, y));
         held = held;
         plain = plain;
+        things = things;
         few = few;
         quiet = refl;
         released = released;

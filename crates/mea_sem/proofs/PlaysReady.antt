@@ -17,7 +17,7 @@ use Rattle.mea_sem.specs.declared.entries.FutureEntry.{FutureEntry}
 use Rattle.mea_sem.specs.Store.{Store, queue_of, hall_of}
 use Rattle.mea_sem.specs.Kept.{wakers_in, IsKept}
 use Rattle.mea_sem.proofs.Gone.{Leaves, linked_gone, hall_gone}
-use Rattle.mea_sem.proofs.Weighs.{Weighs, one, weighs_after, weighs_as, weighs_new_permit, weighs_lost_future}
+use Rattle.mea_sem.proofs.Weighs.{Weighs, thing, nothing, if_plain, always, one, weighs_after, weighs_as, weighs_new_permit, weighs_lost_future}
 use Rattle.mea_sem.proofs.Keeping.{Plays, settled_as}
 use Rattle.mea_sem.proofs.PlaysPermits.{no_permit}
 
@@ -33,13 +33,17 @@ insert_twice m k v w = same_named _ _
 
 -- a plain future is counted
 pub future_counts : (st : Store) (w sp next f : ℕ) (x : Future) (e : SemaphoreEntry) → IsKept st w sp next → get (hall_of st next).futures f ≡ Some x
-    → get st.semaphores x.semaphore ≡ Some e → one x.plain ≤ e.plain
+    → get st.semaphores x.semaphore ≡ Some e → (one x.plain ≤ e.plain) × (1 ≤ e.things)
 future_counts st w sp next f x e k is there =
-    let b = (weighs_lost_future (hall_of st next) f x is).plain x.semaphore in
+    let lost = weighs_lost_future (hall_of st next) f x is in
+    let b = lost.things if_plain x.semaphore in
+    let b2 = lost.things always x.semaphore in
     let d = (k.each x.semaphore e there).plain in
+    let d2 = (k.each x.semaphore e there).things in
     let u = at_same {X = ℕ} x.semaphore x.semaphore 0 0 refl in
     let v = at_same x.semaphore x.semaphore (one x.plain) 0 refl in
-    omega (arith, b, d, v, u)
+    let v2 = at_same {X = ℕ} x.semaphore x.semaphore 1 0 refl in
+    (omega (arith, b, d, v, u), omega (arith, b2, d2, v2, u))
 
 -- what is the same for both ways of being ready: c1 is the core after the poll, and m what it is seen as
 module _ (st st' : Store) (w sp next i s f v : ℕ) (x : FutureEntry) (y : Future) (e : SemaphoreEntry) (c1 : cores.Core ℕ) (m : Semaphore)
@@ -69,7 +73,7 @@ module _ (st st' : Store) (w sp next i s f v : ℕ) (x : FutureEntry) (y : Futur
 
   -- ---- the permits are forgotten
   abbrev pub forgot_entry : SemaphoreEntry
-  forgot_entry = record e { core = record c1 { live = c1.live - y.demand }; forgotten = e.forgotten + y.demand; plain = e.plain - one x.plain }
+  forgot_entry = record e { core = record c1 { live = c1.live - y.demand }; forgotten = e.forgotten + y.demand; plain = e.plain - one x.plain; things = e.things - 1 }
 
   abbrev forgot_hall : Hall
   forgot_hall = record {
@@ -98,10 +102,10 @@ module _ (st st' : Store) (w sp next i s f v : ℕ) (x : FutureEntry) (y : Futur
       (λ b. (if b then with_semaphore (without_future h1 f) y.semaphore
       (record (semaphore_at h1 y.semaphore) { forgotten = (semaphore_at h1 y.semaphore).forgotten + y.demand })
       else with_permit (without_future h1 f) i (record { semaphore = y.semaphore; size = y.demand; plain = y.plain }))) forgets ∙ forgot in
-      let lost : Weighs h forgot_hall s 0 0 (one x.plain) 0 =
-      (let l = subst (λ q. Weighs h (without_future h f) q 0 0 (one y.plain) 0) mine (weighs_lost_future h f y seen) in
-      let l2 = subst (λ b. Weighs h (without_future h f) s 0 0 (one b) 0) form l in record { held = λ q. l2.held q; plain = λ q. l2.plain q }) in
-      settled_as st st' w sp next i s (events.Poll f v) e forgot_entry k less low tt allowed forgot_hall target w sp 0 0 (one x.plain) 0 c.there c.semaphores
+      let lost : Weighs h forgot_hall s 0 0 (thing x.plain) nothing =
+      (let l = subst (λ q. Weighs h (without_future h f) q 0 0 (thing y.plain) nothing) mine (weighs_lost_future h f y seen) in
+      let l2 = subst (λ b. Weighs h (without_future h f) s 0 0 (thing b) nothing) form l in record { held = λ q. l2.held q; things = λ chosen q. l2.things chosen q }) in
+      settled_as st st' w sp next i s (events.Poll f v) e forgot_entry k less low tt allowed forgot_hall target w sp 0 0 (thing x.plain) nothing c.there c.semaphores
       (hall_gone st st' next i s f x e forgot_entry k.linked less c
       ∙ (λ j. record {
         semaphores = insert h.semaphores s (record (sym m_is j) { forgotten = (sym m_is j).forgotten + y.demand });
@@ -114,8 +118,9 @@ module _ (st st' : Store) (w sp next i s f v : ℕ) (x : FutureEntry) (y : Futur
         account = (let o = old.account in let d : cores.debts c1.queue ≡ cores.debts e.core.queue = ap cores.debts queue in let fits = held_below in
             omega (arith, o, d, fits, held, rises));
         held = omega (arith, held, rises);
-        plain = (let g : one x.plain ≤ e.plain = ap_one counts in omega (arith, g));
-        few = omega arith;
+        plain = (let g : one x.plain ≤ e.plain = ap_one counts.0 in omega (arith, g));
+        things = (let g = counts.1 in omega (arith, g));
+        few = (omega arith, omega arith);
         quiet = quiet ∙ old.quiet;
         released = omega arith;
         forgotten = omega arith;
@@ -156,22 +161,23 @@ module _ (st st' : Store) (w sp next i s f v : ℕ) (x : FutureEntry) (y : Futur
         futures = remove h.futures f;
         permits = insert h.permits i (record { semaphore = mine j; size = y.demand; plain = form j });
       }) in
-      let lost : Weighs h (without_future h f) s 0 0 (one x.plain) 0 =
-      subst (λ b. Weighs h (without_future h f) s 0 0 (one b) 0) form
-      (subst (λ q. Weighs h (without_future h f) q 0 0 (one y.plain) 0) mine (weighs_lost_future h f y seen)) in
-      let come : Weighs (without_future h f) permit_hall s 0 y.demand 0 (one x.plain) =
-      (let l = weighs_new_permit (without_future h f) i z (no_permit st w sp next i k less) in record { held = λ q. l.held q; plain = λ q. l.plain q }) in
-      let both = weighs_after h (without_future h f) permit_hall s 0 0 (one x.plain) 0 0 y.demand 0 (one x.plain) lost come in
-      settled_as st st' w sp next i s (events.Poll f v) e kept_entry k less low tt allowed permit_hall target w sp 0 y.demand 0 0 c.there c.semaphores
+      let lost : Weighs h (without_future h f) s 0 0 (thing x.plain) nothing =
+      subst (λ b. Weighs h (without_future h f) s 0 0 (thing b) nothing) form
+      (subst (λ q. Weighs h (without_future h f) q 0 0 (thing y.plain) nothing) mine (weighs_lost_future h f y seen)) in
+      let come : Weighs (without_future h f) permit_hall s 0 y.demand nothing (thing x.plain) =
+      (let l = weighs_new_permit (without_future h f) i z (no_permit st w sp next i k less) in record { held = λ q. l.held q; things = λ chosen q. l.things chosen q }) in
+      let both = weighs_after h (without_future h f) permit_hall s 0 0 (thing x.plain) nothing 0 y.demand nothing (thing x.plain) lost come in
+      settled_as st st' w sp next i s (events.Poll f v) e kept_entry k less low tt allowed permit_hall target w sp 0 y.demand nothing nothing c.there c.semaphores
       (hall_gone st st' next i s f x e kept_entry k.linked less c
       ∙ (λ j. record { semaphores = insert h.semaphores s (sym m_is j); futures = remove h.futures f; permits = permits j }))
       (linked_gone st st' next i s f x e kept_entry k.linked less c)
-      (weighs_as h permit_hall s (0 + 0) (0 + y.demand) (one x.plain + 0) (0 + one x.plain) 0 y.demand 0 0 both (omega arith) (omega arith))
+      (weighs_as h permit_hall s (0 + 0) (0 + y.demand) _ _ 0 y.demand nothing nothing both (omega arith) (λ chosen. omega arith))
       (record {
         account = (let o = old.account in let d : cores.debts c1.queue ≡ cores.debts e.core.queue = ap cores.debts queue in omega (arith, o, d, live));
         held = omega (arith, rises);
         plain = refl;
-        few = omega arith;
+        things = refl;
+        few = (omega arith, omega arith);
         quiet = quiet ∙ old.quiet;
         released = omega arith;
         forgotten = omega arith;

@@ -17,7 +17,7 @@ use Rattle.mea_sem.specs.Kept.{wakers_in, IsKept}
 use Rattle.mea_sem.proofs.Seen.{seen_at}
 use Rattle.mea_sem.proofs.Renumbered.{hall_renumbered, kept_renumbered}
 use Rattle.mea_sem.proofs.Still.{IsStill, still_queue, linked_still, queue_still, hall_still}
-use Rattle.mea_sem.proofs.Weighs.{weighs_semaphore}
+use Rattle.mea_sem.proofs.Weighs.{nothing, weighs_semaphore}
 use Rattle.mea_sem.proofs.Keeping.{Plays, settled, settled_as}
 use Rattle.mea_sem.proofs.Cores.{waiting-debt, waker-debt, AreApart-debt, only-debt, debts-debt}
 
@@ -37,7 +37,7 @@ module _ (st st' : Store) (w sp next i s n : ℕ) (e : SemaphoreEntry) (k : IsKe
   plays_forget allowed c permits held within =
       let still : IsStill e forgot_entry = still_queue e forgot_entry refl refl refl refl in
       let old = k.each s e c.there in
-      settled st st' w sp next i s (events.Forget s n) e forgot_entry k less low tt allowed w sp 0 0 0 0 c.there c.semaphores
+      settled st st' w sp next i s (events.Forget s n) e forgot_entry k less low tt allowed w sp 0 0 nothing nothing c.there c.semaphores
       (hall_still st st' next i s e forgot_entry k.linked less c.there c.semaphores c.futures still (queue_of st.futures next s e.core.queue)
       (queue_still st st' next i s e forgot_entry k.linked less c.there c.semaphores c.futures still)
       ∙ (λ j. record {
@@ -51,7 +51,8 @@ module _ (st st' : Store) (w sp next i s n : ℕ) (e : SemaphoreEntry) (k : IsKe
         account = (let o = old.account in omega (arith, o, within));
         held = omega (arith, held);
         plain = refl;
-        few = omega arith;
+        things = refl;
+        few = (omega arith, omega arith);
         quiet = old.quiet;
         released = omega arith;
         forgotten = omega arith;
@@ -73,7 +74,7 @@ module _ (st st' : Store) (w sp next i s n : ℕ) (e : SemaphoreEntry) (k : IsKe
       let fits_in : offers h s n ≡ true = ap (λ r. not r.closed && nat_le n r.free) seen ∙ (λ j. not (open_still j) && le-leb n e.core.free enough j) in
       let g : Hall = with_semaphore h s (record (semaphore_at h s) { free = free h s - n; forgotten = (semaphore_at h s).forgotten + n }) in
       let chosen : (step h i event).hall ≡ g = is ∙ ap (λ b. (if b then quietly g answers.Yes else quietly h answers.No).hall) fits_in in
-      settled_as st st' w sp next i s event e forgot_entry k less low fits allowed g chosen w sp 0 0 0 0 c.there c.semaphores
+      settled_as st st' w sp next i s event e forgot_entry k less low fits allowed g chosen w sp 0 0 nothing nothing c.there c.semaphores
       (hall_still st st' next i s e forgot_entry k.linked less c.there c.semaphores c.futures still (queue_of st.futures next s e.core.queue)
       (queue_still st st' next i s e forgot_entry k.linked less c.there c.semaphores c.futures still)
       ∙ (λ j. record {
@@ -88,7 +89,8 @@ module _ (st st' : Store) (w sp next i s n : ℕ) (e : SemaphoreEntry) (k : IsKe
         account = (let o = old.account in omega (arith, o, within));
         held = omega (arith, held);
         plain = refl;
-        few = omega arith;
+        things = refl;
+        few = (omega arith, omega arith);
         quiet = old.quiet;
         released = omega arith;
         forgotten = omega arith;
@@ -125,7 +127,7 @@ module _ (st st' : Store) (w sp next i s n : ℕ) (e : SemaphoreEntry) (k : IsKe
       let queue : queue_of st'.futures (i + 1) s exactly_entry.core.queue ≡ with_debt (queue_of st.futures next s e.core.queue) (n - min n e.core.free) =
       seen_debt (i + 1) (n - min n e.core.free) e.core.queue ∙ ap (λ q. with_debt q (n - min n e.core.free))
       (queue_still st st' next i s e exactly_entry k.linked less c.there c.semaphores c.futures still) in
-      settled st st' w sp next i s (events.Forgetx s n) e exactly_entry k less low tt allowed w sp 0 0 0 0 c.there c.semaphores
+      settled st st' w sp next i s (events.Forgetx s n) e exactly_entry k less low tt allowed w sp 0 0 nothing nothing c.there c.semaphores
       (hall_still st st' next i s e exactly_entry k.linked less c.there c.semaphores c.futures still
       (with_debt (queue_of st.futures next s e.core.queue) (n - min n e.core.free)) queue
       ∙ (λ j. record {
@@ -139,7 +141,8 @@ module _ (st st' : Store) (w sp next i s n : ℕ) (e : SemaphoreEntry) (k : IsKe
         account = (let o = old.account in let d = debts-debt e.core.queue (n - min n e.core.free) in omega (arith, o, within, d));
         held = omega (arith, held);
         plain = refl;
-        few = omega arith;
+        things = refl;
+        few = (omega arith, omega arith);
         quiet = old.quiet;
         released = omega arith;
         forgotten = omega arith;
@@ -155,7 +158,7 @@ module _ (st st' : Store) (w sp next i s n : ℕ) (e : SemaphoreEntry) (k : IsKe
       let still : IsStill e unnamed_entry = still_queue e unnamed_entry refl refl refl refl in
       let old = k.each s e c.there in
       let h : Hall = hall_of st next in
-      settled st st' w sp next i s (events.Endsem s) e unnamed_entry k less low tt allowed w sp 0 0 0 0 c.there c.semaphores
+      settled st st' w sp next i s (events.Endsem s) e unnamed_entry k less low tt allowed w sp 0 0 nothing nothing c.there c.semaphores
       (hall_still st st' next i s e unnamed_entry k.linked less c.there c.semaphores c.futures still (queue_of st.futures next s e.core.queue)
       (queue_still st st' next i s e unnamed_entry k.linked less c.there c.semaphores c.futures still)
       ∙ (λ j. record {
@@ -165,7 +168,7 @@ module _ (st st' : Store) (w sp next i s n : ℕ) (e : SemaphoreEntry) (k : IsKe
       }))
       (linked_still st st' next i s e unnamed_entry k.linked less c.there c.semaphores c.futures still)
       (weighs_semaphore h s s (record (semaphore_at h s) { named = false }))
-      (record { account = old.account; held = refl; plain = refl; few = omega arith; quiet = old.quiet; released = omega arith; forgotten = omega arith })
+      (record { account = old.account; held = refl; plain = refl; things = refl; few = (omega arith, omega arith); quiet = old.quiet; released = omega arith; forgotten = omega arith })
       refl k.room (let f = k.few in omega (arith, f))
 
 -- an event whose outcome leaves the hall as it is

@@ -1,5 +1,5 @@
 -- what a look-up among the kept entries says of the hall
-use Rattle.std.proofs.Common.{Result, Ok, Err, ◌⊎◌, inl, inr, ◌≡◌, ◌≢◌, ℕ, Bool, true, false, cond, if◌then◌else◌, refl, ap, sym, subst, ◌∙◌, Option, Some, None, is_some}
+use Rattle.std.proofs.Common.{Result, Ok, Err, ◌⊎◌, inl, inr, ◌≡◌, ◌≢◌, ℕ, true, false, cond, if◌then◌else◌, refl, ap, sym, subst, ◌∙◌, Option, Some, None, is_some}
 use Rattle.std.specs.Option.{option_map}
 use Rattle.std.specs.FinMap.{get}
 use Rattle.std.specs.Result.{IfErr, OnOk, IsErrAnd}
@@ -20,31 +20,41 @@ use Rattle.mea_sem.specs.StandsFor.{StandsFor}
 use Rattle.mea_sem.specs.Store.{permit_of, semaphore_of, future_of}
 use Rattle.mea_sem.proofs.Lives.{live-seen}
 use Rattle.mea_sem.proofs.Lends.{stands_for}
-use Rattle.mea_sem.proofs.Meets.{store_in, seen_in, IsKeptIn}
+use Rattle.mea_sem.proofs.Endings.{missing}
+use Rattle.mea_sem.proofs.Meets.{semaphores_in, store_in, seen_in, IsKeptIn}
 
 module _ (a : Inside) {v : Play} (seen : seen_in a ≡ v) (k : ℕ) where
-  named-at : (o : Option SemaphoreEntry) → at a.semaphores.entries k ≡ o
+  named-at : (o : Option SemaphoreEntry) → at (semaphores_in a) k ≡ o
       → is_named v.hall k ≡ is_named_semaphore (option_map (semaphore_of (store_in a).futures a.next k) o)
   named-at o is = ap (λ (p : Play). is_named p.hall k) (sym seen)
       ∙ ap is_named_semaphore (get-seen (semaphore_of (store_in a).futures a.next) (store_in a).semaphores k
-      ∙ ap (option_map (semaphore_of (store_in a).futures a.next k)) (kept-at a.semaphores.entries k ∙ is))
+      ∙ ap (option_map (semaphore_of (store_in a).futures a.next k)) (kept-at (semaphores_in a) k ∙ is))
 
   -- a semaphore is named where its entry is
-  pub named-some : (e : SemaphoreEntry) → at a.semaphores.entries k ≡ Some e → is_named v.hall k ≡ e.named
+  pub named-some : (e : SemaphoreEntry) → at (semaphores_in a) k ≡ Some e → is_named v.hall k ≡ e.named
   named-some e is = named-at (Some e) is
 
-  pub named-none : at a.semaphores.entries k ≡ None → is_named v.hall k ≡ false
+  pub named-none : at (semaphores_in a) k ≡ None → is_named v.hall k ≡ false
   named-none is = named-at None is
 
+  pub named-missing : at a.semaphores.entries k ≡ None → is_named v.hall k ≡ false
+  named-missing none = elim (missing a k none) [
+    | inl gone ↦ named-none gone
+    | inr e ↦ named-some e.0 e.1 ∙ e.2
+  ]
+
+  pub unknown_missing : (o : Option Stop) → at a.semaphores.entries k ≡ None → cond (is_named v.hall k) o (Some stops.Unknown) ≡ Some stops.Unknown
+  unknown_missing o none = ap (λ b. cond b o (Some stops.Unknown)) (named-missing none)
+
   -- what names a semaphore is refused where that is not there, or not named any more; o is what else would refuse it
-  pub unknown_gone : (o : Option Stop) → at a.semaphores.entries k ≡ None → cond (is_named v.hall k) o (Some stops.Unknown) ≡ Some stops.Unknown
+  pub unknown_gone : (o : Option Stop) → at (semaphores_in a) k ≡ None → cond (is_named v.hall k) o (Some stops.Unknown) ≡ Some stops.Unknown
   unknown_gone o none = ap (λ b. cond b o (Some stops.Unknown)) (named-none none)
 
-  pub unknown_unnamed : (o : Option Stop) (e : SemaphoreEntry) → at a.semaphores.entries k ≡ Some e → e.named ≡ false
+  pub unknown_unnamed : (o : Option Stop) (e : SemaphoreEntry) → at (semaphores_in a) k ≡ Some e → e.named ≡ false
       → cond (is_named v.hall k) o (Some stops.Unknown) ≡ Some stops.Unknown
   unknown_unnamed o e is unnamed = ap (λ b. cond b o (Some stops.Unknown)) (named-some e is ∙ unnamed)
 
-  pub known_named : (o : Option Stop) (e : SemaphoreEntry) → at a.semaphores.entries k ≡ Some e → e.named ≡ true
+  pub known_named : (o : Option Stop) (e : SemaphoreEntry) → at (semaphores_in a) k ≡ Some e → e.named ≡ true
       → cond (is_named v.hall k) o (Some stops.Unknown) ≡ o
   known_named o e is named = ap (λ b. cond b o (Some stops.Unknown)) (named-some e is ∙ named)
 
@@ -125,9 +135,9 @@ on_ok (Ok a) P p = p
 on_ok (Err e) P p = tt
 
 -- what the entry of a semaphore says of it
-module _ (a : Inside) {v : Play} (seen : seen_in a ≡ v) (k : IsKeptIn a) (s : ℕ) (e : SemaphoreEntry) (there : at a.semaphores.entries s ≡ Some e) where
+module _ (a : Inside) {v : Play} (seen : seen_in a ≡ v) (k : IsKeptIn a) (s : ℕ) (e : SemaphoreEntry) (there : at (semaphores_in a) s ≡ Some e) where
   here : get (store_in a).semaphores s ≡ Some e
-  here = found a.semaphores.entries s e there
+  here = found (semaphores_in a) s e there
 
   pub live_as : e.core.live ≡ live v.hall s
   live_as = sym (live-seen (store_in a) a.registered a.outbox.spare a.next s e k here) ∙ ap (λ (p : Play). live p.hall s) seen

@@ -79,7 +79,8 @@ kept_renumbered st w sp next i k less low =
       account = d.account;
       held = d.held;
       plain = d.plain;
-      few = (let small = d.few in omega arith);
+      things = d.things;
+      few = ((let small = d.few.0 in omega arith), (let small = d.few.1 in omega arith));
       quiet = d.quiet;
       released = (let small = d.released in omega arith);
       forgotten = (let small = d.forgotten in omega arith);

@@ -1,19 +1,18 @@
 -- what the events on futures leave of a `SemHall`
-use Rattle.std.proofs.Common.{◌≡◌, inl, inr, ℕ, ◌+◌, ◌-◌, ◌^◌, ◌<◌, ◌≤◌, ◌==◌, Bool, true, false, cond, [], refl, ap, sym, subst, ◌∙◌, arith, Some, None, is_some, nat_le, if◌then◌else◌}
-use Rattle.std.specs.Option.{option_map, IfSome}
+use Rattle.std.proofs.Common.{inl, inr, ◌≡◌, ℕ, ◌+◌, ◌-◌, ◌^◌, ◌<◌, ◌≤◌, ◌==◌, Bool, true, false, cond, [], refl, ap, sym, subst, ◌∙◌, arith, Some, None, nat_le, if◌then◌else◌}
+use Rattle.std.specs.Option.{option_map}
 use Rattle.std.specs.FinMap.{get, insert, remove}
-use Rattle.std.proofs.lemmas.Bool.{false≢true, le-leb, lt-leb, cases_lt}
+use Rattle.std.proofs.lemmas.Bool.{le-leb, lt-leb}
 use Rattle.mea_base.specs.declared.answer.Answer.TheVariants as answers
 use Rattle.mea_base.specs.Named.{named, at, ChangesAt}
 use Rattle.mea_base.specs.Totals.{weight}
-use Rattle.mea_base.specs.Causes.{unknown_unless}
 use Rattle.mea_base.proofs.NamedMaps.{named_put, get-seen, kept-at, found, kept-changed}
 use Rattle.mea_base.proofs.Totals.{total-remove}
-use Rattle.mea_base.proofs.Tests.{at_same, known}
+use Rattle.mea_base.proofs.Tests.{at_same}
 use Rattle.mea_sem_model.specs.declared.event.SemEvent.{SemEvent}
 use Rattle.mea_sem_model.specs.declared.event.SemEvent.TheVariants as events
 use Rattle.mea_sem_model.specs.Hall.{Hall, Semaphore, Future, Stage, New, Waiting, Granted, Cut, semaphore_at, queue_at, is_closed, with_semaphore, free, held, paid_to}
-use Rattle.mea_sem_model.specs.Cause.{cause_of, is_future}
+use Rattle.mea_sem_model.specs.Cause.{cause_of}
 use Rattle.mea_sem_model.specs.Valid.{Fits}
 use Rattle.mea_sem_model.specs.Step.{step, quietly, taking, with_future, queueing, first_poll, open_poll, refusing, made_ready, poll_of, acquire_of}
 use Rattle.mea_sem_core.specs.declared.acquire.Acquire.{Acquire}
@@ -21,7 +20,7 @@ use Rattle.mea_sem_core.specs.declared.acquire.Acquire.TheVariants as acquires
 use Rattle.mea_sem_core.specs.Acquire.{demand_of}
 use Rattle.mea_sem_core.specs.Core as cores
 use Rattle.mea_sem_core.specs.Calls.{Belongs, IsRefused, after_refusal}
-use Rattle.mea_sem.specs.Entries.{IsReady, Waits, finished}
+use Rattle.mea_sem.specs.Entries.{IsReady, finished}
 use Rattle.mea_sem.specs.declared.entries.SemaphoreEntry.{SemaphoreEntry}
 use Rattle.mea_sem.specs.declared.entries.FutureEntry.{FutureEntry}
 use Rattle.mea_sem.specs.declared.entries.PermitEntry.{PermitEntry}
@@ -34,28 +33,29 @@ use Rattle.mea_sem.proofs.Gone.{seen_future, Leaves, leaves_new, leaves_granted}
 use Rattle.mea_sem.proofs.PlaysPermits.{as_it_was}
 use Rattle.mea_sem.proofs.Lives.{live-seen}
 use Rattle.mea_sem.proofs.PlaysReady.{plays_ready, plays_ready_forgetting, future_counts}
-use Rattle.mea_sem.proofs.Refusals.{future-at}
+use Rattle.mea_sem.proofs.Refusals.{future_known}
 use Rattle.mea_sem.proofs.Keeping.{Plays}
-use Rattle.mea_sem.proofs.Meets.{store_in, hall_in, seen_in, IsKeptIn, MeetsSemaphore, MeetsFuture, Done, its_semaphore, later, to_kept, to_seen, done, done_quietly}
+use Rattle.mea_sem.proofs.Endings.{missing, no_entry}
+use Rattle.mea_sem.proofs.Meets.{semaphores_in, store_in, hall_in, IsKeptIn, MeetsSemaphore, MeetsFuture, Done, its_semaphore, later, to_kept, done, done_quietly}
 use Rattle.mea_sem.proofs.Standing.{Semaphores, Futures, Permits, semaphores_of}
 use Rattle.mea_sem.proofs.PlaysFutures.{plays_acquire}
 use Rattle.mea_sem.proofs.PlaysEnds.{PlaysWith, plays_gone_new, plays_gone_cut}
 use Rattle.mea_sem.proofs.StandingSemaphores.{small_forgotten}
 
 -- ---- what an event without a cause finds
-pub future_found : (a : Inside) {v : Play} (f : ℕ) → seen_in a ≡ v → is_future v.hall f ≡ true → at a.futures.entries f ≡ None → ⊥
-future_found a f seen there none = false≢true (sym (future-at a seen f ∙ ap is_some none) ∙ there)
-
-pub polled_found : (a : Inside) {v : Play} (f : ℕ) → seen_in a ≡ v → unknown_unless (is_future v.hall f) ≡ None → at a.futures.entries f ≡ None → ⊥
-polled_found a {v} f seen allowed none = future_found a f seen (known (is_future v.hall f) allowed) none
-
 pub its_home : (a : Inside) (f : ℕ) {x : FutureEntry} → IsKeptIn a → at a.futures.entries f ≡ Some x → IsHome (store_in a) x
 its_home a f {x} k is = k.linked.home f x (found a.futures.entries f x is)
 
-pub semaphore_found : (a : Inside) (f : ℕ) {x : FutureEntry} → IsKeptIn a → at a.futures.entries f ≡ Some x → at a.semaphores.entries x.semaphore ≡ None → ⊥
+pub semaphore_found : (a : Inside) (f : ℕ) {x : FutureEntry} → IsKeptIn a → at a.futures.entries f ≡ Some x → at (semaphores_in a) x.semaphore ≡ None → ⊥
 semaphore_found a f {x} k is none =
     absurd (let there = (its_home a f k is).there in let gone : get
-    (store_in a).semaphores x.semaphore ≡ None = kept-at a.semaphores.entries x.semaphore ∙ none in cc)
+    (store_in a).semaphores x.semaphore ≡ None = kept-at (semaphores_in a) x.semaphore ∙ none in cc)
+
+pub semaphore_living : (a : Inside) (f : ℕ) {x : FutureEntry} → IsKeptIn a → at a.futures.entries f ≡ Some x → at a.semaphores.entries x.semaphore ≡ None → ⊥
+semaphore_living a f {x} k is none = elim (missing a x.semaphore none) [
+  | inl gone ↦ semaphore_found a f k is gone
+  | inr e ↦ no_entry a k x.semaphore e.0 e.1 e.3 f x (found a.futures.entries f x is) refl
+]
 
 -- the permit that a future becomes
 abbrev pub permit_from : FutureEntry → PermitEntry
@@ -70,7 +70,7 @@ module _ {a : Inside} {v : Play} {i f : ℕ} {x : FutureEntry} {e : SemaphoreEnt
   future_there = found a.futures.entries f x m.is
 
   pub home_there : get (store_in a).semaphores x.semaphore ≡ Some e
-  home_there = found a.semaphores.entries x.semaphore e m.there
+  home_there = found (semaphores_in a) x.semaphore e m.there
 
   pub its_belongs : Belongs e.core x.acquire × IsOpen x.acquire
   its_belongs =
@@ -98,21 +98,16 @@ module _ {a : Inside} {v : Play} {i f : ℕ} {x : FutureEntry} {e : SemaphoreEnt
   seen_free : free (hall_in a) x.semaphore ≡ e.core.free
   seen_free = ap (λ (r : Semaphore). r.free) (seen_at (store_in a) a.next x.semaphore e m.meets.kept.linked home_there)
 
-  -- whether it forgets what it takes
-  pub forgets_as : (t : Bool) → x.forgets ≡ t → IfSome (get v.hall.futures f) (λ (y : Future). y.forgets ≡ t)
-  forgets_as t forgets = to_seen m.meets (λ h. IfSome (get h.futures f) (λ (y : Future). y.forgets ≡ t))
-      (subst (λ o. IfSome o (λ (y : Future). y.forgets ≡ t)) (sym seen_now) forgets)
-
-  pub forgets_seen : (t : Bool) → IfSome (get v.hall.futures f) (λ (y : Future). y.forgets ≡ t) → x.forgets ≡ t
-  forgets_seen t forgets = subst (λ o. IfSome o (λ (y : Future). y.forgets ≡ t)) seen_now
-      (to_kept m.meets (λ h. IfSome (get h.futures f) (λ (y : Future). y.forgets ≡ t)) forgets)
-
   -- a plain future is counted
   pub future_plain : cond x.plain 1 0 ≤ e.plain
-  future_plain = future_counts (store_in a) a.registered a.outbox.spare a.next f (at_stage x (stage_of x.acquire e.core))
-      e m.meets.kept seen_now home_there
+  future_plain = (future_counts (store_in a) a.registered a.outbox.spare a.next f (at_stage x (stage_of x.acquire e.core))
+      e m.meets.kept seen_now home_there).0
 
-  -- ---- what the next poll replies
+  pub future_thing : 1 ≤ e.things
+  future_thing = (future_counts (store_in a) a.registered a.outbox.spare a.next f (at_stage x (stage_of x.acquire e.core))
+      e m.meets.kept seen_now home_there).1
+
+  -- ---- what the next poll does
 
   -- it is ready: the step
   pub ready_new : (w d : ℕ) → x.acquire ≡ acquires.New d → (e.core.closed ≡ false) × (d ≤ e.core.free)
@@ -168,89 +163,6 @@ module _ {a : Inside} {v : Play} {i f : ℕ} {x : FutureEntry} {e : SemaphoreEnt
   pub refused_cut : (w d n : ℕ) → x.acquire ≡ acquires.Queued d n → get e.core.cut n ≡ Some d → step (hall_in a) i (events.Poll f w) ≡ refusing (hall_in a) f
   refused_cut w d n queued cut = ap (poll_of (hall_in a) i f w) (seen_as Cut (cut_stage d n queued cut))
 
-  pub replies_gone : (w : ℕ) → IsRefused e.core x.acquire → (step v.hall i (events.Poll f w)).reply ≡ answers.Gone
-  replies_gone w refused = to_seen m.meets (λ h. (step h i (events.Poll f w)).reply ≡ answers.Gone) (by_acquire x.acquire refl refused its_belongs.1)
-    where
-      by_acquire : (b : Acquire) → x.acquire ≡ b → IsRefused e.core b → IsOpen x.acquire → (step (hall_in a) i (events.Poll f w)).reply ≡ answers.Gone
-      by_acquire (acquires.New d) same r still = ap (λ o. o.reply) (refused_new w d same r)
-      by_acquire (acquires.Queued d n) same r still = ap (λ o. o.reply) (refused_cut w d n same r.1)
-      by_acquire (acquires.Done d) same r still = absurd r
-      by_acquire (acquires.Refused d) same r still = absurd (subst IsOpen same still)
-
-  -- what is foreseen by the core is replied
-  pub replies_ready : (w : ℕ) → IsReady e.core x.acquire → (step v.hall i (events.Poll f w)).reply ≡ answers.Ready
-  replies_ready w ready = to_seen m.meets (λ h. (step h i (events.Poll f w)).reply ≡ answers.Ready) (by_acquire x.acquire refl ready)
-    where
-      by_acquire : (b : Acquire) → x.acquire ≡ b → IsReady e.core b → (step (hall_in a) i (events.Poll f w)).reply ≡ answers.Ready
-      by_acquire (acquires.New d) same r = ap (λ o. o.reply) (ready_new w d same r)
-      by_acquire (acquires.Queued d n) same r = ap (λ o. o.reply) (ready_granted w d n same r)
-      by_acquire (acquires.Done d) same r = absurd r
-      by_acquire (acquires.Refused d) same r = absurd r
-
-  pub replies_pending : (w : ℕ) → Waits e.core x.acquire → (step v.hall i (events.Poll f w)).reply ≡ answers.Pending
-  replies_pending w waits = to_seen m.meets (λ h. (step h i (events.Poll f w)).reply ≡ answers.Pending) (by_acquire x.acquire refl waits its_belongs.1)
-    where
-      by_acquire : (b : Acquire) → x.acquire ≡ b → Waits e.core b → IsOpen x.acquire → (step (hall_in a) i (events.Poll f w)).reply ≡ answers.Pending
-      by_acquire (acquires.New d) same r still = ap (λ o. o.reply) (pending_new w d same r)
-      by_acquire (acquires.Queued d n) same r still = ap (λ o. o.reply) (pending_again w d n r.0 same r.1)
-      by_acquire (acquires.Done d) same r still = absurd (subst IsOpen same still)
-      by_acquire (acquires.Refused d) same r still = absurd (subst IsOpen same still)
-
-  -- and what is replied was foreseen
-  pub ready_from : (w : ℕ) → (step v.hall i (events.Poll f w)).reply ≡ answers.Ready → IsReady e.core x.acquire
-  ready_from w said = by_acquire x.acquire refl its_belongs.0 its_belongs.1
-    where
-      replied : (step (hall_in a) i (events.Poll f w)).reply ≡ answers.Ready
-      replied = to_kept m.meets (λ h. (step h i (events.Poll f w)).reply ≡ answers.Ready) said
-
-      not_gone : (step (hall_in a) i (events.Poll f w)).reply ≡ answers.Gone → ⊥
-      not_gone is = let never : answers.Ready ≡ answers.Gone = sym replied ∙ is in absurd (cc)
-
-      by_new : (d : ℕ) → x.acquire ≡ acquires.New d → (b : Bool) → e.core.closed ≡ b → IsReady e.core (acquires.New d)
-      by_new d same true shut = absurd (not_gone (ap (λ o. o.reply) (refused_new w d same shut)))
-      by_new d same false open_still = elim (cases_lt e.core.free d) [
-        | inr enough ↦ (open_still, enough)
-        | inl lacks ↦ absurd (let pending = ap (λ o. o.reply) (pending_new w d same (open_still, lacks)) in
-            let never : answers.Ready ≡ answers.Pending = sym replied ∙ pending in cc)
-      ]
-
-      by_acquire : (b : Acquire) → x.acquire ≡ b → Belongs e.core b → IsOpen x.acquire → IsReady e.core b
-      by_acquire (acquires.New d) same belongs still = by_new d same e.core.closed refl
-      by_acquire (acquires.Queued d n) same (inl (inl granted)) still = granted
-      by_acquire (acquires.Queued d n) same (inl (inr waits)) still = absurd (let pending = ap (λ o. o.reply) (pending_again w d n waits.0 same waits.1) in
-          let never : answers.Ready ≡ answers.Pending = sym replied ∙ pending in cc)
-      by_acquire (acquires.Queued d n) same (inr cut) still = absurd (not_gone (ap (λ o. o.reply) (refused_cut w d n same cut.1)))
-      by_acquire (acquires.Done d) same belongs still = absurd (subst IsOpen same still)
-      by_acquire (acquires.Refused d) same belongs still = absurd (subst IsOpen same still)
-
-  -- one that is refused was foreseen so
-  pub refused_from : (w : ℕ) → (step v.hall i (events.Poll f w)).reply ≡ answers.Gone → IsRefused e.core x.acquire
-  refused_from w said = by_acquire x.acquire refl its_belongs.0 its_belongs.1
-    where
-      replied : (step (hall_in a) i (events.Poll f w)).reply ≡ answers.Gone
-      replied = to_kept m.meets (λ h. (step h i (events.Poll f w)).reply ≡ answers.Gone) said
-
-      not_ready : (step (hall_in a) i (events.Poll f w)).reply ≡ answers.Ready → ⊥
-      not_ready is = let never : answers.Gone ≡ answers.Ready = sym replied ∙ is in absurd (cc)
-
-      not_pending : (step (hall_in a) i (events.Poll f w)).reply ≡ answers.Pending → ⊥
-      not_pending is = let never : answers.Gone ≡ answers.Pending = sym replied ∙ is in absurd (cc)
-
-      by_new : (d : ℕ) → x.acquire ≡ acquires.New d → (b : Bool) → e.core.closed ≡ b → IsRefused e.core (acquires.New d)
-      by_new d same true shut = shut
-      by_new d same false open_still = elim (cases_lt e.core.free d) [
-        | inr enough ↦ absurd (not_ready (ap (λ o. o.reply) (ready_new w d same (open_still, enough))))
-        | inl lacks ↦ absurd (not_pending (ap (λ o. o.reply) (pending_new w d same (open_still, lacks))))
-      ]
-
-      by_acquire : (b : Acquire) → x.acquire ≡ b → Belongs e.core b → IsOpen x.acquire → IsRefused e.core b
-      by_acquire (acquires.New d) same belongs still = by_new d same e.core.closed refl
-      by_acquire (acquires.Queued d n) same (inl (inl granted)) still = absurd (not_ready (ap (λ o. o.reply) (ready_granted w d n same granted)))
-      by_acquire (acquires.Queued d n) same (inl (inr waits)) still = absurd (not_pending (ap (λ o. o.reply) (pending_again w d n waits.0 same waits.1)))
-      by_acquire (acquires.Queued d n) same (inr cut) still = cut
-      by_acquire (acquires.Done d) same belongs still = absurd (subst IsOpen same still)
-      by_acquire (acquires.Refused d) same belongs still = absurd (subst IsOpen same still)
-
   -- ---- what a future was paid is live
   pub paid_part : (y : Future) → get (hall_in a).futures f ≡ Some y → y.semaphore ≡ x.semaphore
       → paid_to (queue_at (hall_in a) x.semaphore) f y.demand y.stage ≤ e.core.live
@@ -290,8 +202,15 @@ module _ {a : Inside} {v : Play} {i f : ℕ} {x : FutureEntry} {e : SemaphoreEnt
       by_acquire (acquires.Refused d) same r = absurd r
 
   -- a tally has room for what it asks for
-  pub tally_fits : (w : ℕ) → (step v.hall i (events.Poll f w)).reply ≡ answers.Ready → e.forgotten + demand_of x.acquire < 2 ^ 128
-  tally_fits w replied = small_forgotten (its_semaphore m) (demand_of x.acquire) (ready_small (ready_from w replied))
+  pub tally_fits : IsReady e.core x.acquire → e.forgotten + demand_of x.acquire < 2 ^ 128
+  tally_fits ready = small_forgotten (its_semaphore m) (demand_of x.acquire) (ready_small ready)
+
+  -- a poll of it has no cause for refusal
+  pub may_poll : (w : ℕ) → cause_of v.hall (events.Poll f w) ≡ None
+  may_poll w = future_known a m.meets.seen f x m.is
+
+  pub may_poll_kept : (w : ℕ) → cause_of (hall_in a) (events.Poll f w) ≡ None
+  may_poll_kept w = to_kept m.meets (λ h. cause_of h (events.Poll f w) ≡ None) (may_poll w)
 
 -- ---- a future is made
 abbrev acq_event : ℕ → ℕ → Bool → Bool → SemEvent
@@ -320,7 +239,7 @@ acq_step h i s n false true = refl
 
 pub acquire_done : {a : Inside} {v : Play} {i s : ℕ} {e : SemaphoreEntry} → MeetsSemaphore a v i s e
     → (ss' : Semaphores) (fs' : Futures) (n : ℕ) (plain forgets : Bool) (e2 : SemaphoreEntry) (x : FutureEntry)
-    → cause_of v.hall (events.Acq s n) ≡ None → ChangesAt a.semaphores.entries ss' s (Some e2) → e2 ≡ record e { plain = e.plain + cond plain 1 0 }
+    → cause_of v.hall (events.Acq s n) ≡ None → ChangesAt (semaphores_in a) ss' s (Some e2) → e2 ≡ record e { plain = e.plain + cond plain 1 0; things = e.things + 1 }
     → ChangesAt a.futures.entries fs' i (Some x) → x ≡ record { semaphore = s; acquire = acquires.New n; plain = plain; forgets = forgets }
     → Done v i (acquire_of v.hall i s n plain forgets) answers.Made (store_of ss' fs' a.permits.entries) a.registered a.outbox.spare a.outbox.wakers
 acquire_done {a} {v} {i} {s} {e} m ss' fs' n plain forgets e2 x allowed changes is put new =
@@ -330,7 +249,7 @@ acquire_done {a} {v} {i} {s} {e} m ss' fs' n plain forgets e2 x allowed changes 
     let plays = plays_acquire (store_in a) st' a.registered a.outbox.spare a.next i s n e m.meets.kept (later m.meets) m.meets.low
     (acq_event s n plain forgets) plain forgets (acq_fits s n plain forgets)
     (acq_cause h s n plain forgets (to_kept m.meets (λ g. cause_of g (events.Acq s n) ≡ None) allowed)) (ap (λ o. o.hall) played)
-    (found a.semaphores.entries s e m.there) (semaphores_of a.semaphores.entries ss' s e2 _ changes is)
+    (found (semaphores_in a) s e m.there) (semaphores_of (semaphores_in a) ss' s e2 _ changes is)
     (λ g. kept-changed a.futures.entries fs' i (Some x) put g ∙ ap (λ y. cond (i == g) (Some y) (get (store_in a).futures g)) new) refl in
     subst (λ o. Done v i o answers.Made st' a.registered a.outbox.spare a.outbox.wakers) (acq_step v.hall i s n plain forgets)
     (done_quietly m.meets (acq_event s n plain forgets) answers.Made plays (ap (λ o. o.wakes) played) (sym (ap (λ o. o.reply) played)))
@@ -405,17 +324,10 @@ readies {a} {v} {i} {f} {x} {e} m w ready = by_acquire x.acquire refl ready
     by_acquire (acquires.Refused d) refused r = absurd r
 
 module _ {a : Inside} {v : Play} {i f : ℕ} {x : FutureEntry} {e : SemaphoreEntry} (m : MeetsFuture a v i f x e) (w : ℕ)
-    (allowed : cause_of v.hall (events.Poll f w) ≡ None) (replied : (step v.hall i (events.Poll f w)).reply ≡ answers.Ready)
-    (ss' : Semaphores) (fs' : Futures) (e2 : SemaphoreEntry) (gone : ChangesAt a.futures.entries fs' f None)
-    (changes : ChangesAt a.semaphores.entries ss' x.semaphore (Some e2)) where
-  ready : IsReady e.core x.acquire
-  ready = ready_from m w replied
-
+    (ready : IsReady e.core x.acquire) (ss' : Semaphores) (fs' : Futures) (e2 : SemaphoreEntry) (gone : ChangesAt a.futures.entries fs' f None)
+    (changes : ChangesAt (semaphores_in a) ss' x.semaphore (Some e2)) where
   turn : Readies a i f w x e
   turn = readies m w ready
-
-  may : cause_of (hall_in a) (events.Poll f w) ≡ None
-  may = to_kept m.meets (λ h. cause_of h (events.Poll f w) ≡ None) allowed
 
   gone_now : (g : ℕ) → get (named (λ k (y : FutureEntry). y) fs') g ≡ cond (f == g) None (get (store_in a).futures g)
   gone_now g = kept-changed a.futures.entries fs' f None gone g
@@ -429,11 +341,12 @@ module _ {a : Inside} {v : Play} {i f : ℕ} {x : FutureEntry} {e : SemaphoreEnt
   finishes plays = done_quietly m.meets (events.Poll f w) answers.Ready plays (ap (λ o. o.wakes) turn.chosen) (sym (ap (λ o. o.reply) turn.chosen))
 
   -- what it takes is forgotten
-  pub forgotten_done : IfSome (get v.hall.futures f) (λ (y : Future). y.forgets ≡ true)
+  pub forgotten_done : x.forgets ≡ true
       → e2 ≡ record e {
         core = record (finished e.core x.acquire) { live = (finished e.core x.acquire).live - demand_of x.acquire };
         forgotten = e.forgotten + demand_of x.acquire;
         plain = e.plain - cond x.plain 1 0;
+        things = e.things - 1;
       }
       → cores.held_of (finished e.core x.acquire) ≡ cores.held_of e.core + demand_of x.acquire → cores.held_of e2.core ≡ cores.held_of e.core
       → Done v i (step v.hall i (events.Poll f w)) answers.Ready (store_of ss' fs' a.permits.entries) a.registered a.outbox.spare a.outbox.wakers
@@ -443,52 +356,51 @@ module _ {a : Inside} {v : Play} {i f : ℕ} {x : FutureEntry} {e : SemaphoreEnt
         core = record turn.core { live = turn.core.live - demand_of x.acquire };
         forgotten = e.forgotten + demand_of x.acquire;
         plain = e.plain - cond x.plain 1 0;
+        things = e.things - 1;
       } in
       let now : e2 ≡ e' = changed ∙ ap
       (λ (c : cores.Core ℕ). record e {
         core = record c { live = c.live - demand_of x.acquire };
         forgotten = e.forgotten + demand_of x.acquire;
         plain = e.plain - cond x.plain 1 0;
+        things = e.things - 1;
       }) turn.is in
-      let puts = semaphores_of a.semaphores.entries ss' x.semaphore e2 e' changes now in
+      let puts = semaphores_of (semaphores_in a) ss' x.semaphore e2 e' changes now in
       let up = rises_to rises in
       let lost : cores.held_of (record turn.core { live = turn.core.live - demand_of x.acquire }) ≡ cores.held_of e.core =
       subst (λ (y : SemaphoreEntry). cores.held_of y.core ≡ cores.held_of e.core) now held in
       finishes (plays_ready_forgetting (store_in a) st' a.registered a.outbox.spare a.next i x.semaphore f w x (at_stage x turn.stage)
-      e turn.core turn.semaphore m.meets.kept (later m.meets) m.meets.low may turn.seen refl refl (ready_small m ready)
-      turn.live turn.queue turn.quiet up turn.shown answers.Ready turn.chosen (forgets_seen m true forgets)
+      e turn.core turn.semaphore m.meets.kept (later m.meets) m.meets.low (may_poll_kept m w) turn.seen refl refl (ready_small m ready)
+      turn.live turn.queue turn.quiet up turn.shown answers.Ready turn.chosen forgets
       (turn.leaves st' e' puts gone_now turn.queue refl refl refl) refl (omega (arith, lost, up)))
 
   -- it becomes a permit
-  pub kept_done : IfSome (get v.hall.futures f) (λ (y : Future). y.forgets ≡ false) → (ps' : Permits) (p : PermitEntry)
+  pub kept_done : x.forgets ≡ false → (ps' : Permits) (p : PermitEntry)
       → ChangesAt a.permits.entries ps' i (Some p) → p ≡ permit_from x
       → e2 ≡ record e { core = finished e.core x.acquire } → cores.held_of e2.core ≡ cores.held_of e.core + demand_of x.acquire
       → Done v i (step v.hall i (events.Poll f w)) answers.Ready (store_of ss' fs' ps') a.registered a.outbox.spare a.outbox.wakers
   kept_done keeps ps' p put permit changed held =
       let st' : Store = store_of ss' fs' ps' in
       let e' : SemaphoreEntry = record e { core = turn.core } in
-      let puts = semaphores_of a.semaphores.entries ss' x.semaphore e2 e' changes (changed ∙ ap (λ (c : cores.Core ℕ). record e { core = c }) turn.is) in
+      let puts = semaphores_of (semaphores_in a) ss' x.semaphore e2 e' changes (changed ∙ ap (λ (c : cores.Core ℕ). record e { core = c }) turn.is) in
       let up = rises_to (subst (λ (y : SemaphoreEntry). cores.held_of y.core ≡ cores.held_of e.core + demand_of x.acquire) changed held) in
       let permits : st'.permits ≡ insert (store_in a).permits i (record { semaphore = x.semaphore; size = demand_of x.acquire; plain = x.plain }) =
       named_put (λ n y. permit_of y) a.permits.entries ps' i p put ∙ ap (λ (y : PermitEntry). insert (store_in a).permits i (permit_of y)) permit in
       finishes (plays_ready (store_in a) st' a.registered a.outbox.spare a.next i x.semaphore f w x (at_stage x turn.stage)
-      e turn.core turn.semaphore m.meets.kept (later m.meets) m.meets.low may turn.seen refl refl (ready_small m ready)
-      turn.live turn.queue turn.quiet up turn.shown answers.Ready turn.chosen (forgets_seen m false keeps)
+      e turn.core turn.semaphore m.meets.kept (later m.meets) m.meets.low (may_poll_kept m w) turn.seen refl refl (ready_small m ready)
+      turn.live turn.queue turn.quiet up turn.shown answers.Ready turn.chosen keeps
       (turn.leaves st' e' puts gone_now turn.queue refl refl refl) permits)
 
 -- ---- a future is refused, and is gone with nothing
 pub refused_done : {a : Inside} {v : Play} {i f : ℕ} {x : FutureEntry} {e : SemaphoreEntry} → MeetsFuture a v i f x e → (w : ℕ)
-    → cause_of v.hall (events.Poll f w) ≡ None → (step v.hall i (events.Poll f w)).reply ≡ answers.Gone → (ss' : Semaphores) (fs' : Futures) (e2 : SemaphoreEntry)
-    → ChangesAt a.futures.entries fs' f None → ChangesAt a.semaphores.entries ss' x.semaphore (Some e2)
-    → e2 ≡ record e { core = after_refusal e.core x.acquire; plain = e.plain - cond x.plain 1 0 }
+    → IsRefused e.core x.acquire → (ss' : Semaphores) (fs' : Futures) (e2 : SemaphoreEntry)
+    → ChangesAt a.futures.entries fs' f None → ChangesAt (semaphores_in a) ss' x.semaphore (Some e2)
+    → e2 ≡ record e { core = after_refusal e.core x.acquire; plain = e.plain - cond x.plain 1 0; things = e.things - 1 }
     → Done v i (step v.hall i (events.Poll f w)) answers.Gone (store_of ss' fs' a.permits.entries) a.registered a.outbox.spare a.outbox.wakers
-refused_done {a} {v} {i} {f} {x} {e} m w allowed said ss' fs' e2 gone changes changed = by_acquire x.acquire refl (refused_from m w said)
+refused_done {a} {v} {i} {f} {x} {e} m w refused ss' fs' e2 gone changes changed = by_acquire x.acquire refl refused
   where
     st' : Store
     st' = store_of ss' fs' a.permits.entries
-
-    may : cause_of (hall_in a) (events.Poll f w) ≡ None
-    may = to_kept m.meets (λ h. cause_of h (events.Poll f w) ≡ None) allowed
 
     gone_now : (g : ℕ) → get st'.futures g ≡ cond (f == g) None (get (store_in a).futures g)
     gone_now g = kept-changed a.futures.entries fs' f None gone g
@@ -500,17 +412,17 @@ refused_done {a} {v} {i} {f} {x} {e} m w allowed said ss' fs' e2 gone changes ch
     by_acquire : (b : Acquire) → x.acquire ≡ b → IsRefused e.core b
         → Done v i (step v.hall i (events.Poll f w)) answers.Gone st' a.registered a.outbox.spare a.outbox.wakers
     by_acquire (acquires.New d) new shut =
-        let puts = semaphores_of a.semaphores.entries ss' x.semaphore e2 (record e { plain = e.plain - cond x.plain 1 0 }) changes
-        (changed ∙ ap (λ b. record e { core = after_refusal e.core b; plain = e.plain - cond x.plain 1 0 }) new) in
+        let puts = semaphores_of (semaphores_in a) ss' x.semaphore e2 (record e { plain = e.plain - cond x.plain 1 0; things = e.things - 1 }) changes
+        (changed ∙ ap (λ b. record e { core = after_refusal e.core b; plain = e.plain - cond x.plain 1 0; things = e.things - 1 }) new) in
         finish (plays_gone_new (store_in a) st' a.registered a.registered a.outbox.spare a.outbox.spare a.next i x.semaphore d e m.meets.kept (later m.meets)
-        m.meets.low (home_there m) f d x refl (future_there m) gone_now refl (events.Poll f w) answers.Gone tt may new
+        m.meets.low (home_there m) f d x refl (future_there m) gone_now refl (events.Poll f w) answers.Gone tt (may_poll_kept m w) new
         (λ seen. refused_new m w d new shut) puts) (refused_new m w d new shut)
     by_acquire (acquires.Queued d n) queued cut =
-        let puts = semaphores_of a.semaphores.entries ss' x.semaphore e2
-        (record e { core = record e.core { cut = remove e.core.cut n }; plain = e.plain - cond x.plain 1 0 }) changes
-        (changed ∙ ap (λ b. record e { core = after_refusal e.core b; plain = e.plain - cond x.plain 1 0 }) queued) in
+        let puts = semaphores_of (semaphores_in a) ss' x.semaphore e2
+        (record e { core = record e.core { cut = remove e.core.cut n }; plain = e.plain - cond x.plain 1 0; things = e.things - 1 }) changes
+        (changed ∙ ap (λ b. record e { core = after_refusal e.core b; plain = e.plain - cond x.plain 1 0; things = e.things - 1 }) queued) in
         finish (plays_gone_cut (store_in a) st' a.registered a.registered a.outbox.spare a.outbox.spare a.next i x.semaphore d e m.meets.kept (later m.meets)
-        m.meets.low (home_there m) f d x refl (future_there m) gone_now refl (events.Poll f w) answers.Gone n tt may queued cut.1
+        m.meets.low (home_there m) f d x refl (future_there m) gone_now refl (events.Poll f w) answers.Gone n tt (may_poll_kept m w) queued cut.1
         (λ seen. refused_cut m w d n queued cut.1) puts) (refused_cut m w d n queued cut.1)
     by_acquire (acquires.Done d) same r = absurd r
     by_acquire (acquires.Refused d) same r = absurd (subst IsOpen same (its_belongs m).1)

@@ -1,21 +1,22 @@
 -- what the events of permits leave of a `SemHall`
-use Rattle.std.proofs.Common.{◌≡◌, ◌⊎◌, ℕ, ◌+◌, ◌-◌, ◌^◌, ◌<◌, ◌≤◌, ◌==◌, ◌++◌, not, Bool, true, false, cond, if◌then◌else◌, List, [], length, refl, ap, sym, subst, ◌∙◌, arith, Option, Some, None, is_some}
+use Rattle.std.proofs.Common.{◌≡◌, ◌⊎◌, inl, inr, ℕ, ◌+◌, ◌-◌, ◌^◌, ◌<◌, ◌≤◌, ◌==◌, ◌&&◌, ◌++◌, not, Bool, true, false, cond, if◌then◌else◌, List, [], length, refl, ap, sym, subst, ◌∙◌, arith, Option, Some, None, is_some}
 use Rattle.std.specs.Option.{option_map}
 use Rattle.std.specs.Ordering.{nat_cmp}
 use Rattle.std.specs.FinMap.{FinMap, get, insert, remove}
-use Rattle.std.proofs.lemmas.Bool.{false≢true, eqb-true, eq-eqb, ne_eqb, and_parts, le-leb, lt-leb}
+use Rattle.std.proofs.lemmas.Bool.{eq-eqb, eqb-true, ne_eqb, and_parts, le-leb, lt-leb}
 use Rattle.mea_base.specs.declared.answer.Answer.{Answer}
 use Rattle.mea_base.specs.declared.answer.Answer.TheVariants as answers
 use Rattle.mea_base.specs.Named.{named, at, ChangesAt}
 use Rattle.mea_base.specs.Queue.{granted_in}
 use Rattle.mea_base.specs.Causes.{unknown_unless}
 use Rattle.mea_base.proofs.NamedMaps.{get-named, named_put, named_remove, same_named, get-seen, kept-at, found}
-use Rattle.mea_base.proofs.Totals.{get_inserted}
-use Rattle.mea_base.proofs.Tests.{known}
+use Rattle.mea_base.proofs.Totals.{get_inserted, get_removed}
+use Rattle.mea_base.proofs.Maps.{inside}
+use Rattle.mea_base.specs.declared.stop.Stop.TheVariants as stops
 use Rattle.mea_sem_model.specs.declared.event.SemEvent.{SemEvent}
 use Rattle.mea_sem_model.specs.declared.event.SemEvent.TheVariants as events
 use Rattle.mea_sem_model.specs.Hall.{Hall, Permit, semaphore_at, with_semaphore}
-use Rattle.mea_sem_model.specs.Cause.{cause_of, is_permit, can_merge, are_of_one_kind}
+use Rattle.mea_sem_model.specs.Cause.{cause_of, can_merge, are_of_one_kind}
 use Rattle.mea_sem_model.specs.Valid.{Fits}
 use Rattle.mea_sem_model.specs.Step.{Outcome, step, quietly, taking, with_permit, try_of, lose_of, split_of, size_of, end_of, end_permit}
 use Rattle.mea_sem_core.specs.Core as cores
@@ -24,13 +25,14 @@ use Rattle.mea_sem.specs.declared.entries.PermitEntry.{PermitEntry}
 use Rattle.mea_sem.specs.Store.{Store, permit_of, store_of, semaphore_of}
 use Rattle.mea_sem.specs.Play.{Play}
 use Rattle.mea_sem.specs.declared.hall.SemHall.TheInside.{Inside}
-use Rattle.mea_sem.proofs.Refusals.{is_permit-at}
+use Rattle.mea_sem.proofs.Refusals.{permit-at, permit_known}
 use Rattle.mea_sem.proofs.Weighs.{one}
 use Rattle.mea_sem.proofs.PlaysSemaphores.{plays_nothing}
 use Rattle.mea_sem.proofs.PlaysPermits.{plays_try, plays_lose, plays_merge, plays_split, permit_counts, permits_count}
 use Rattle.mea_sem.proofs.PlaysEnds.{plays_end_permit}
-use Rattle.mea_sem.proofs.Meets.{store_in, hall_in, seen_in, IsKeptIn, Meets, MeetsSemaphore, MeetsPermit, Done, permits_semaphore, later, to_kept, done, done_quietly}
-use Rattle.mea_sem.proofs.Standing.{Semaphores, Permits, puts_of, semaphores_of}
+use Rattle.mea_sem.proofs.Endings.{missing, not_permit}
+use Rattle.mea_sem.proofs.Meets.{semaphores_in, store_in, hall_in, IsKeptIn, Meets, MeetsSemaphore, MeetsPermit, Done, permits_semaphore, later, to_kept, done, done_quietly}
+use Rattle.mea_sem.proofs.Standing.{Semaphores, Permits, puts_of, semaphores_of, changes_twice, written_at, kept_same}
 use Rattle.mea_sem.proofs.StandingSemaphores.{small_forgotten, wakers_few, offered, not_offered, as_it_was}
 
 -- ---- permits among entries
@@ -44,13 +46,29 @@ permit_missing : (ps : Permits) (p : ℕ) → at ps p ≡ None → get (seen_per
 permit_missing ps p is = get-named (λ p x. permit_of x) ps p ∙ ap (option_map permit_of) is
 
 -- a permit's semaphore is kept
-pub home_found : (a : Inside) (p : ℕ) {x : PermitEntry} → IsKeptIn a → at a.permits.entries p ≡ Some x → at a.semaphores.entries x.semaphore ≡ None → ⊥
+pub home_found : (a : Inside) (p : ℕ) {x : PermitEntry} → IsKeptIn a → at a.permits.entries p ≡ Some x → at (semaphores_in a) x.semaphore ≡ None → ⊥
 home_found a p {x} k is none =
     let some : is_some (get (hall_in a).semaphores x.semaphore) ≡ true = k.valid.permits_of p (permit_of x) (permit_at a.permits.entries p x is) in
     let gone : get (hall_in a).semaphores x.semaphore ≡ None =
     get-seen (semaphore_of (store_in a).futures a.next) (store_in a).semaphores x.semaphore
-    ∙ ap (option_map (semaphore_of (store_in a).futures a.next x.semaphore)) (kept-at a.semaphores.entries x.semaphore ∙ none) in
+    ∙ ap (option_map (semaphore_of (store_in a).futures a.next x.semaphore)) (kept-at (semaphores_in a) x.semaphore ∙ none) in
     absurd (cc)
+
+pub home_living : (a : Inside) (p : ℕ) {x : PermitEntry} → IsKeptIn a → at a.permits.entries p ≡ Some x → at a.semaphores.entries x.semaphore ≡ None → ⊥
+home_living a p {x} k is none = elim (missing a x.semaphore none) [
+  | inl gone ↦ home_found a p k is gone
+  | inr e ↦ absurd (
+      let other = not_permit a k x.semaphore e.0 e.1 e.3 p (permit_of x) (permit_at a.permits.entries p x is) in
+      let same = eq-eqb x.semaphore x.semaphore refl in
+      cc)
+]
+
+-- a permit that is written back as it stood
+pub written_back : (a : Inside) (p : ℕ) (x : PermitEntry) (ps' : Permits) → at a.permits.entries p ≡ Some x → ChangesAt a.permits.entries ps' p (Some x)
+    → store_of (semaphores_in a) a.futures.entries ps' ≡ store_in a
+written_back a p x ps' is written =
+    let same = kept_same (λ p x. permit_of x) a.permits.entries ps' p x x is refl written in
+    λ j. record { semaphores = (store_in a).semaphores; futures = (store_in a).futures; permits = same j }
 
 -- ---- events that change nothing
 module _ {a : Inside} {v : Play} {i : ℕ} (m : Meets a v i) where
@@ -69,12 +87,15 @@ module _ {a : Inside} {v : Play} {i : ℕ} (m : Meets a v i) where
   split_in p n y b = if b then quietly (with_permit (with_permit (hall_in a) p (record y { size = y.size - n })) i (record y { size = n }))
       answers.Held else quietly (hall_in a) answers.Lacking
 
-  pub too_small : (p n : ℕ) (x : PermitEntry) → at a.permits.entries p ≡ Some x → x.size < n
-      → Done v i (step v.hall i (events.Split p n)) answers.Lacking (store_in a) a.registered a.outbox.spare a.outbox.wakers
-  too_small p n x is lack =
+  pub too_small : (p n : ℕ) (x : PermitEntry) (ps' : Permits) → at a.permits.entries p ≡ Some x → ChangesAt a.permits.entries ps' p (Some x) → x.size < n
+      → Done v i (step v.hall i (events.Split p n)) answers.Lacking (store_of (semaphores_in a) a.futures.entries ps')
+      a.registered a.outbox.spare a.outbox.wakers
+  too_small p n x ps' is written lack =
       let outcome : step (hall_in a) i (events.Split p n) ≡ quietly (hall_in a) answers.Lacking =
       ap (split_of (hall_in a) i p n) (permit_at a.permits.entries p x is) ∙ ap (split_in p n (permit_of x)) (lt-leb n x.size lack) in
-      unchanged (events.Split p n) answers.Lacking (ap (λ o. o.hall) outcome) (ap (λ o. o.wakes) outcome) (ap (λ o. o.reply) (sym outcome))
+      subst (λ (st : Store). Done v i (step v.hall i (events.Split p n)) answers.Lacking st a.registered a.outbox.spare a.outbox.wakers)
+      (sym (written_back a p x ps' is written))
+      (unchanged (events.Split p n) answers.Lacking (ap (λ o. o.hall) outcome) (ap (λ o. o.wakes) outcome) (ap (λ o. o.reply) (sym outcome)))
 
 -- ---- tries
 abbrev by_form : Bool → ℕ → ℕ → SemEvent
@@ -108,7 +129,7 @@ module _ {a : Inside} {v : Play} {i s : ℕ} {e : SemaphoreEntry} (m : MeetsSema
       as_tried (unchanged m.meets (by_form plain s n) answers.Lacking (ap (λ o. o.hall) outcome) (ap (λ o. o.wakes) outcome) (ap (λ o. o.reply) (sym outcome)))
 
   -- the same where the semaphore was written back as it was
-  pub tried_for_nothing : (ss' : Semaphores) (y : SemaphoreEntry) → ChangesAt a.semaphores.entries ss' s (Some y) → y ≡ e
+  pub tried_for_nothing : (ss' : Semaphores) (y : SemaphoreEntry) → ChangesAt (semaphores_in a) ss' s (Some y) → y ≡ e
       → (e.core.closed ≡ true) ⊎ (e.core.free < n)
       → Done v i (try_of v.hall i s n plain) answers.Lacking (store_of ss' a.futures.entries a.permits.entries) a.registered a.outbox.spare a.outbox.wakers
   tried_for_nothing ss' y changes is lack = subst
@@ -116,9 +137,9 @@ module _ {a : Inside} {v : Play} {i s : ℕ} {e : SemaphoreEntry} (m : MeetsSema
       (sym (as_it_was m ss' y changes is)) (tried_in_vain lack)
 
   pub tried : (ss' : Semaphores) (ps' : Permits) (d e' : SemaphoreEntry) → cause_of v.hall (events.Try s n) ≡ None
-      → at a.semaphores.entries s ≡ Some d → d.core.closed ≡ false → n ≤ d.core.free
-      → e' ≡ record e { core = record e.core { free = e.core.free - n }; plain = e.plain + one plain } → cores.held_of e'.core ≡ cores.held_of e.core + n
-      → ChangesAt a.semaphores.entries ss' s (Some e') → ChangesAt a.permits.entries ps' i (Some (record { semaphore = s; size = n; plain = plain }))
+      → at (semaphores_in a) s ≡ Some d → d.core.closed ≡ false → n ≤ d.core.free
+      → e' ≡ record e { core = record e.core { free = e.core.free - n }; plain = e.plain + one plain; things = e.things + 1 } → cores.held_of e'.core ≡ cores.held_of e.core + n
+      → ChangesAt (semaphores_in a) ss' s (Some e') → ChangesAt a.permits.entries ps' i (Some (record { semaphore = s; size = n; plain = plain }))
       → Done v i (try_of v.hall i s n plain) answers.Held (store_of ss' a.futures.entries ps') a.registered a.outbox.spare a.outbox.wakers
   tried ss' ps' d e' allowed tested is_open fits new held changes given =
       let there = m.there in
@@ -131,7 +152,7 @@ module _ {a : Inside} {v : Play} {i s : ℕ} {e : SemaphoreEntry} (m : MeetsSema
       m.meets.low (by_form plain s n) plain (fits_by_form plain s n)
       (to_kept m.meets (λ h. cause_of h (by_form plain s n) ≡ None) (allowed_by_form plain v.hall s n allowed))
       (ap (λ o. o.hall) (step_by_form plain (hall_in a) i s n)) open_still enough
-      (puts_of a.semaphores.entries ss' a.futures.entries a.permits.entries ps' s e e' _ m.there changes new)
+      (puts_of (semaphores_in a) ss' a.futures.entries a.permits.entries ps' s e e' _ m.there changes new)
       (named_put (λ p x. permit_of x) a.permits.entries ps' i (record { semaphore = s; size = n; plain = plain }) given)
       (subst (λ (y : SemaphoreEntry). cores.held_of y.core ≡ cores.held_of e.core + n) new held) in
       as_tried (done_quietly m.meets (by_form plain s n) answers.Held plays (ap (λ o. o.wakes) outcome) (ap (λ o. o.reply) (sym outcome)))
@@ -142,13 +163,16 @@ module _ {a : Inside} {v : Play} {i p : ℕ} {x : PermitEntry} {e : SemaphoreEnt
   permit_there = permit_at a.permits.entries p x m.is
 
   home_there : get (store_in a).semaphores x.semaphore ≡ Some e
-  home_there = found a.semaphores.entries x.semaphore e m.there
+  home_there = found (semaphores_in a) x.semaphore e m.there
 
   pub permit_held : x.size ≤ cores.held_of e.core
   permit_held = (permit_counts (store_in a) a.registered a.outbox.spare a.next p (permit_of x) e m.meets.kept permit_there home_there).0
 
   pub permit_counted : one x.plain ≤ e.plain
   permit_counted = (permit_counts (store_in a) a.registered a.outbox.spare a.next p (permit_of x) e m.meets.kept permit_there home_there).1
+
+  pub permit_thing : 1 ≤ e.things
+  permit_thing = (permit_counts (store_in a) a.registered a.outbox.spare a.next p (permit_of x) e m.meets.kept permit_there home_there).2
 
   pub permit_small : x.size < 2 ^ 64
   permit_small =
@@ -162,15 +186,15 @@ module _ {a : Inside} {v : Play} {i p : ℕ} {x : PermitEntry} {e : SemaphoreEnt
   tally_fits = small_forgotten (permits_semaphore m) x.size permit_small
 
   pub lost : (ss' : Semaphores) (ps' : Permits) (e' : SemaphoreEntry) → cause_of v.hall (events.Lose p) ≡ None
-      → e' ≡ record e { core = record e.core { live = e.core.live - x.size }; forgotten = e.forgotten + x.size; plain = e.plain - one x.plain }
+      → e' ≡ record e { core = record e.core { live = e.core.live - x.size }; forgotten = e.forgotten + x.size; plain = e.plain - one x.plain; things = e.things - 1 }
       → cores.held_of e'.core + x.size ≡ cores.held_of e.core
-      → ChangesAt a.semaphores.entries ss' x.semaphore (Some e') → ChangesAt a.permits.entries ps' p None
+      → ChangesAt (semaphores_in a) ss' x.semaphore (Some e') → ChangesAt a.permits.entries ps' p None
       → Done v i (step v.hall i (events.Lose p)) (answers.Forgot x.size) (store_of ss' a.futures.entries ps') a.registered a.outbox.spare a.outbox.wakers
   lost ss' ps' e' allowed new held changes gone =
       let plays = plays_lose (store_in a) (store_of ss' a.futures.entries ps') a.registered a.outbox.spare a.next i x.semaphore p e m.meets.kept
       (later m.meets) m.meets.low (permit_of x) refl permit_small permit_there
       (to_kept m.meets (λ h. cause_of h (events.Lose p) ≡ None) allowed)
-      (puts_of a.semaphores.entries ss' a.futures.entries a.permits.entries ps' x.semaphore e e' _ m.there changes new)
+      (puts_of (semaphores_in a) ss' a.futures.entries a.permits.entries ps' x.semaphore e e' _ m.there changes new)
       (named_remove (λ p x. permit_of x) a.permits.entries ps' p gone)
       (subst (λ (y : SemaphoreEntry). cores.held_of y.core + x.size ≡ cores.held_of e.core) new held) in
       done_quietly m.meets (events.Lose p) (answers.Forgot x.size) plays (ap (λ o. (lose_of (hall_in a) p o).wakes) permit_there)
@@ -181,8 +205,9 @@ module _ {a : Inside} {v : Play} {i p : ℕ} {x : PermitEntry} {e : SemaphoreEnt
       → e' ≡ record e {
         core = record (cores.poured (record e.core { live = e.core.live - x.size }) x.size) { wakes = [] };
         plain = e.plain - one x.plain;
+        things = e.things - 1;
       } → cores.held_of e'.core + x.size ≡ cores.held_of e.core
-      → ChangesAt a.semaphores.entries ss' x.semaphore (Some e') → ChangesAt a.permits.entries ps' p None
+      → ChangesAt (semaphores_in a) ss' x.semaphore (Some e') → ChangesAt a.permits.entries ps' p None
       → left ≡ length (cores.wakers_of (granted_in e.core.queue x.size))
       → wakes' ≡ a.outbox.wakers ++ cores.wakers_of (granted_in e.core.queue x.size) → sp' + left ≡ a.outbox.spare
       → Done v i (step v.hall i (events.End p)) answers.Done (store_of ss' a.futures.entries ps') (a.registered - left) sp' wakes'
@@ -192,7 +217,7 @@ module _ {a : Inside} {v : Play} {i p : ℕ} {x : PermitEntry} {e : SemaphoreEnt
       let room = m.meets.kept.room in
       let whole = plays_end_permit (store_in a) (store_of ss' a.futures.entries ps') a.registered (a.registered - left)
       sp' a.outbox.spare a.next i x.semaphore x.size e m.meets.kept (later m.meets) m.meets.low home_there p (permit_of x) refl permit_there alone
-      (to_kept m.meets (λ h. cause_of h (events.End p) ≡ None) allowed) (semaphores_of a.semaphores.entries ss' x.semaphore e' _ changes new) refl
+      (to_kept m.meets (λ h. cause_of h (events.End p) ≡ None) allowed) (semaphores_of (semaphores_in a) ss' x.semaphore e' _ changes new) refl
       (named_remove (λ p x. permit_of x) a.permits.entries ps' p gone)
       (subst (λ (y : SemaphoreEntry). cores.held_of y.core + x.size ≡ cores.held_of e.core) new held) (omega (arith, count, few))
       (omega (arith, count, few, spare, room)) in
@@ -206,124 +231,109 @@ same_form true b h = h
 same_form false true h = absurd (cc)
 same_form false false h = refl
 
-of_none : (o : Option Permit) → are_of_one_kind o None ≡ true → ⊥
-of_none None h = absurd (cc)
-of_none (Some x) h = absurd (cc)
-
 of_one_kind : (x y : Permit) → are_of_one_kind (Some x) (Some y) ≡ true → (x.semaphore ≡ y.semaphore) × (y.plain ≡ x.plain)
 of_one_kind x y h =
     let parts = and_parts (x.semaphore == y.semaphore) (if x.plain then y.plain else not y.plain) h in
     (eqb-true x.semaphore y.semaphore parts.0, same_form x.plain y.plain parts.1)
 
-not_true : (b : Bool) → not b ≡ true → b ≡ true → ⊥
-not_true true h is = absurd (cc)
-not_true false h is = absurd (cc)
+-- ---- why a merge is refused
+pub unmergeable : (v : Play) (p q : ℕ) (a b : Option Permit) → get v.hall.permits p ≡ a → get v.hall.permits q ≡ b → are_of_one_kind a b ≡ false
+    → unknown_unless (can_merge v.hall p q) ≡ Some stops.Unknown
+unmergeable v p q a b isa isb other =
+    ap (λ t. unknown_unless (not (p == q) && t)) ((λ j. are_of_one_kind (isa j) (isb j)) ∙ other) ∙ by_test (not (p == q))
+  where
+    by_test : (t : Bool) → unknown_unless (t && false) ≡ Some stops.Unknown
+    by_test true = refl
+    by_test false = refl
 
--- another name has what it had
-at_other : {X : Type 0} (old new : List (ℕ × X)) (k q : ℕ) (o : Option X) → ChangesAt old new k o → (k == q) ≡ false → at new q ≡ at old q
-at_other old new k q o changes apart = changes q ∙ ap (λ b. cond b o (at old q)) apart
+pub of_none : (o : Option Permit) → are_of_one_kind o None ≡ false
+of_none None = refl
+of_none (Some x) = refl
 
--- q, which is merged into p, is taken out first
-module _ (a : Inside) {v : Play} (seen : seen_in a ≡ v) (p q : ℕ) (allowed : cause_of v.hall (events.Merge p q) ≡ None) where
-  mergeable : (not (p == q) ≡ true) × (are_of_one_kind (get (seen_permits a.permits.entries) p) (get (seen_permits a.permits.entries) q) ≡ true)
-  mergeable = and_parts (not (p == q)) (are_of_one_kind (get (seen_permits a.permits.entries) p) (get (seen_permits a.permits.entries) q))
-      (ap (λ (w : Play). can_merge w.hall p q) seen ∙ known (can_merge v.hall p q) allowed)
+-- q goes, and p has been written before
+apart_names : (m : FinMap nat_cmp Permit) (p q : ℕ) (x : Permit) → (p ≡ q → ⊥) → remove (insert m p x) q ≡ insert (remove m q) p x
+apart_names m p q x apart = same_named _ _ (λ k.
+    get_removed (insert m p x) q k ∙ ap (cond (q == k) None) (get_inserted m p k x) ∙ at_each k (p == k) (q == k) refl refl
+    ∙ ap (cond (p == k) (Some x)) (sym (get_removed m q k)) ∙ sym (get_inserted (remove m q) p k x))
+  where
+    at_each : (k : ℕ) (t u : Bool) → (p == k) ≡ t → (q == k) ≡ u → cond u None (cond t (Some x) (get m k)) ≡ cond t (Some x) (cond u None (get m k))
+    at_each k true true pk qk = absurd (apart (eqb-true p k pk ∙ sym (eqb-true q k qk)))
+    at_each k true false pk qk = refl
+    at_each k false true pk qk = refl
+    at_each k false false pk qk = refl
 
-  pub other_found : at a.permits.entries q ≡ None → ⊥
-  other_found none = of_none (get (seen_permits a.permits.entries) p)
-      (ap (are_of_one_kind (get (seen_permits a.permits.entries) p)) (sym (permit_missing a.permits.entries q none)) ∙ mergeable.1)
-
-  pub apart_from : p ≡ q → ⊥
-  apart_from is = not_true (p == q) mergeable.0 (eq-eqb p q is)
-
-  apart_test : (q == p) ≡ false
-  apart_test = ne_eqb q p (λ is. apart_from (sym is))
-
-  pub one_kind : (x y : PermitEntry) → at a.permits.entries p ≡ Some x → at a.permits.entries q ≡ Some y → (x.semaphore ≡ y.semaphore) × (y.plain ≡ x.plain)
-  one_kind x y isx isy = of_one_kind (permit_of x) (permit_of y)
-      ((λ j. are_of_one_kind (sym (permit_at a.permits.entries p x isx) j) (sym (permit_at a.permits.entries q y isy) j)) ∙ mergeable.1)
-
-  module _ (ps1 : Permits) (gone : ChangesAt a.permits.entries ps1 q None) where
-    pub first_was : (o : Option PermitEntry) → at ps1 p ≡ o → at a.permits.entries p ≡ o
-    first_was o is = sym (at_other a.permits.entries ps1 q p None gone apart_test) ∙ is
-
-    pub first_found : at ps1 p ≡ None → ⊥
-    first_found none = absurd (cc (permit_missing a.permits.entries p (first_was None none), mergeable.1))
-
-module _ {a : Inside} {v : Play} {i : ℕ} (m : Meets a v i) (p q : ℕ) (allowed : cause_of v.hall (events.Merge p q) ≡ None) (ps1 : Permits)
-    (gone : ChangesAt a.permits.entries ps1 q None) (x y : PermitEntry) (isx : at ps1 p ≡ Some x) (isy : at a.permits.entries q ≡ Some y) where
-  first_there : at a.permits.entries p ≡ Some x
-  first_there = first_was a m.seen p q allowed ps1 gone (Some x) isx
-
+module _ {a : Inside} {v : Play} {i : ℕ} (m : Meets a v i) (p q : ℕ) (apart : p ≡ q → ⊥) (x y : PermitEntry) (isx : at a.permits.entries p ≡ Some x)
+    (isy : at a.permits.entries q ≡ Some y) (same : are_of_one_kind (Some (permit_of x)) (Some (permit_of y)) ≡ true) where
   alike : (x.semaphore ≡ y.semaphore) × (y.plain ≡ x.plain)
-  alike = one_kind a m.seen p q allowed x y first_there isy
+  alike = of_one_kind (permit_of x) (permit_of y) same
+
+  pub may_merge : cause_of v.hall (events.Merge p q) ≡ None
+  may_merge = ap (λ t. unknown_unless (not t && are_of_one_kind (get v.hall.permits p) (get v.hall.permits q))) (ne_eqb p q apart)
+      ∙ ap unknown_unless ((λ j. are_of_one_kind (seen_at p x isx j) (seen_at q y isy j)) ∙ same)
+    where
+      seen_at : (k : ℕ) (z : PermitEntry) → at a.permits.entries k ≡ Some z → get v.hall.permits k ≡ Some (permit_of z)
+      seen_at k z is = permit-at a m.seen k ∙ ap (option_map permit_of) is
 
   pub sizes_fit : x.size + y.size < 2 ^ 64
-  sizes_fit = by_entry (at a.semaphores.entries x.semaphore) refl
+  sizes_fit = by_entry (at (semaphores_in a) x.semaphore) refl
     where
-      by_entry : (o : Option SemaphoreEntry) → at a.semaphores.entries x.semaphore ≡ o → x.size + y.size < 2 ^ 64
-      by_entry None none = absurd (home_found a p m.kept first_there none)
+      by_entry : (o : Option SemaphoreEntry) → at (semaphores_in a) x.semaphore ≡ o → x.size + y.size < 2 ^ 64
+      by_entry None none = absurd (home_found a p m.kept isx none)
       by_entry (Some e) there =
-          let most = permits_count (store_in a) a.registered a.outbox.spare a.next p q (permit_of x) (permit_of y) e m.kept (apart_from a m.seen p q allowed)
-          (permit_at a.permits.entries p x first_there) (permit_at a.permits.entries q y isy) alike.0 (found a.semaphores.entries x.semaphore e there) in
-          let kept_as = (m.kept.each x.semaphore e (found a.semaphores.entries x.semaphore e there)).held in
+          let most = permits_count (store_in a) a.registered a.outbox.spare a.next p q (permit_of x) (permit_of y) e m.kept apart
+          (permit_at a.permits.entries p x isx) (permit_at a.permits.entries q y isy) alike.0 (found (semaphores_in a) x.semaphore e there) in
+          let kept_as = (m.kept.each x.semaphore e (found (semaphores_in a) x.semaphore e there)).held in
           let small = m.kept.valid.fits x.semaphore in
           omega (arith, most, kept_as, small)
 
-  pub merged : (ss' : Semaphores) (ps' : Permits) (e e' : SemaphoreEntry) → at a.semaphores.entries y.semaphore ≡ Some e
-      → e' ≡ record e { plain = e.plain - one y.plain }
-      → ChangesAt a.semaphores.entries ss' y.semaphore (Some e') → ChangesAt ps1 ps' p (Some (record x { size = x.size + y.size }))
+  pub merged : (ss' : Semaphores) (ps1 ps' : Permits) (e e' : SemaphoreEntry) → at (semaphores_in a) y.semaphore ≡ Some e
+      → e' ≡ record e { plain = e.plain - one y.plain; things = e.things - 1 } → ChangesAt (semaphores_in a) ss' y.semaphore (Some e')
+      → ChangesAt a.permits.entries ps1 p (Some (record x { size = x.size + y.size })) → ChangesAt ps1 ps' q None
       → Done v i (step v.hall i (events.Merge p q)) answers.Done (store_of ss' a.futures.entries ps') a.registered a.outbox.spare a.outbox.wakers
-  merged ss' ps' e e' there new changes grown =
+  merged ss' ps1 ps' e e' there new changes grown gone =
       let st' : Store = store_of ss' a.futures.entries ps' in
       let permits : st'.permits ≡ insert (remove (store_in a).permits q) p (record (permit_of x) { size = x.size + y.size }) =
-      named_put (λ p x. permit_of x) ps1 ps' p (record x { size = x.size + y.size }) grown
-      ∙ ap (λ m. insert m p (record (permit_of x) { size = x.size + y.size })) (named_remove (λ p x. permit_of x) a.permits.entries ps1 q gone) in
+      named_remove (λ p x. permit_of x) ps1 ps' q gone
+      ∙ ap (λ m. remove m q) (named_put (λ p x. permit_of x) a.permits.entries ps1 p (record x { size = x.size + y.size }) grown)
+      ∙ apart_names (store_in a).permits p q (record (permit_of x) { size = x.size + y.size }) apart in
       let plays = plays_merge (store_in a) st' a.registered a.outbox.spare a.next i y.semaphore q e m.kept (later m) m.low p (permit_of x)
-      (permit_of y) alike.0 refl alike.1 (apart_from a m.seen p q allowed)
-      (permit_at a.permits.entries p x first_there) (permit_at a.permits.entries q y isy) (to_kept m (λ h. cause_of h (events.Merge p q) ≡ None) allowed)
-      (puts_of a.semaphores.entries ss' a.futures.entries a.permits.entries ps' y.semaphore e e' _ there changes
-      (new ∙ ap (λ b. record e { plain = e.plain - one b }) alike.1)) permits in
+      (permit_of y) alike.0 refl alike.1 apart
+      (permit_at a.permits.entries p x isx) (permit_at a.permits.entries q y isy) (to_kept m (λ h. cause_of h (events.Merge p q) ≡ None) may_merge)
+      (puts_of (semaphores_in a) ss' a.futures.entries a.permits.entries ps' y.semaphore e e' _ there changes
+      (new ∙ ap (λ b. record e { plain = e.plain - one b; things = e.things - 1 }) alike.1)) permits in
       done_quietly m (events.Merge p q) answers.Done plays refl refl
 
 -- ---- splits
--- two names may be written in either order
-swapped : (m : FinMap nat_cmp Permit) (p i : ℕ) (a b : Permit) → (p ≡ i → ⊥) → insert (insert m i b) p a ≡ insert (insert m p a) i b
-swapped m p i a b apart = same_named _ _
-    (λ q. get_inserted (insert m i b) p q a ∙ ap (cond (p == q) (Some a)) (get_inserted m i q b) ∙ at_each q (p == q) (i == q) refl refl
-    ∙ ap (cond (i == q) (Some b)) (sym (get_inserted m p q a)) ∙ sym (get_inserted (insert m p a) i q b))
-  where
-    at_each : (q : ℕ) (t u : Bool) → (p == q) ≡ t → (i == q) ≡ u → cond t (Some a) (cond u (Some b) (get m q)) ≡ cond u (Some b) (cond t (Some a) (get m q))
-    at_each q true true pq iq = absurd (apart (eqb-true p q pq ∙ sym (eqb-true i q iq)))
-    at_each q true false pq iq = refl
-    at_each q false true pq iq = refl
-    at_each q false false pq iq = refl
-
 pub halved : {a : Inside} {v : Play} {i p : ℕ} {x : PermitEntry} {e : SemaphoreEntry} → MeetsPermit a v i p x e
-    → (ss' : Semaphores) (ps1 ps' : Permits) (n : ℕ) (y : PermitEntry) (e' : SemaphoreEntry)
-    → cause_of v.hall (events.Split p n) ≡ None → n ≤ x.size → e' ≡ record e { plain = e.plain + one x.plain }
-    → ChangesAt a.semaphores.entries ss' x.semaphore (Some e')
-    → ChangesAt a.permits.entries ps1 i (Some (record x { size = n })) → at ps1 p ≡ Some y → ChangesAt ps1 ps' p (Some (record y { size = y.size - n }))
+    → (ss' : Semaphores) (ps1 ps' : Permits) (n : ℕ) (e' : SemaphoreEntry) → n ≤ x.size → e' ≡ record e { plain = e.plain + one x.plain; things = e.things + 1 }
+    → ChangesAt (semaphores_in a) ss' x.semaphore (Some e') → ChangesAt a.permits.entries ps1 p (Some (record x { size = x.size - n }))
+    → ChangesAt ps1 ps' i (Some (record x { size = n }))
     → Done v i (step v.hall i (events.Split p n)) answers.Held (store_of ss' a.futures.entries ps') a.registered a.outbox.spare a.outbox.wakers
-halved {a} {v} {i} {p} {x} {e} m ss' ps1 ps' n y e' allowed enough new changes given left less_now =
+halved {a} {v} {i} {p} {x} {e} m ss' ps1 ps' n e' enough new changes less_now given =
     let h : Hall = hall_in a in
     let ps : Permits = a.permits.entries in
     let here = permit_there m in
-    let is = m.is in
-    let less = later m.meets in
-    let old : p < a.next = m.meets.kept.below.permits p (ap is_some here) in
-    let apart : p ≡ i → ⊥ = λ same_name. absurd (omega arith) in
-    let kept_as : at ps1 p ≡ at ps p = at_other ps ps1 i p (Some (record x { size = n })) given (ne_eqb i p (λ t. apart (sym t))) in
-    let one_permit : y ≡ x = cc in
     let st' : Store = store_of ss' a.futures.entries ps' in
     let permits : st'.permits ≡ insert (insert (store_in a).permits p (record (permit_of x) { size = x.size - n })) i (record (permit_of x) { size = n }) =
-    named_put (λ p x. permit_of x) ps1 ps' p (record y { size = y.size - n }) less_now
-    ∙ (λ j. insert (named_put (λ p x. permit_of x) ps ps1 i (record x { size = n }) given j) p
-    (record (permit_of (one_permit j)) { size = (one_permit j).size - n }))
-    ∙ swapped (store_in a).permits p i (record (permit_of x) { size = x.size - n }) (record (permit_of x) { size = n }) apart in
+    named_put (λ p x. permit_of x) ps1 ps' i (record x { size = n }) given
+    ∙ ap (λ m. insert m i (record (permit_of x) { size = n })) (named_put (λ p x. permit_of x) ps ps1 p (record x { size = x.size - n }) less_now) in
     let outcome : step h i (events.Split p n) ≡ split_in m.meets p n (permit_of x) true =
     ap (split_of h i p n) here ∙ ap (split_in m.meets p n (permit_of x)) (le-leb n x.size enough) in
-    let plays = plays_split (store_in a) st' a.registered a.outbox.spare a.next i x.semaphore n e m.meets.kept less m.meets.low p (permit_of x)
-    refl enough here (to_kept m.meets (λ g. cause_of g (events.Split p n) ≡ None) allowed)
-    (puts_of a.semaphores.entries ss' a.futures.entries ps ps' x.semaphore e e' _ m.there changes new) permits in
+    let plays = plays_split (store_in a) st' a.registered a.outbox.spare a.next i x.semaphore n e m.meets.kept (later m.meets) m.meets.low p (permit_of x)
+    refl enough here (to_kept m.meets (λ g. cause_of g (events.Split p n) ≡ None) (permit_known a m.meets.seen p x m.is))
+    (puts_of (semaphores_in a) ss' a.futures.entries ps ps' x.semaphore e e' _ m.there changes new) permits in
     done_quietly m.meets (events.Split p n) answers.Held plays (ap (λ o. o.wakes) outcome) (ap (λ o. o.reply) (sym outcome))
+
+-- where the part found no room, the permit has its size back
+pub undone : (a : Inside) (p n : ℕ) (x y : PermitEntry) (ps1 ps2 ps' : Permits) → at a.permits.entries p ≡ Some x → n ≤ x.size
+    → ChangesAt a.permits.entries ps1 p (Some (record x { size = x.size - n })) → ps2 ≡ ps1 → at ps2 p ≡ Some y
+    → ChangesAt ps2 ps' p (Some (record y { size = y.size + n })) → store_of (semaphores_in a) a.futures.entries ps' ≡ store_in a
+undone a p n x y ps1 ps2 ps' is enough less_now same isy back =
+    let smaller : y ≡ record x { size = x.size - n } = inside (sym isy ∙ ap (λ ps. at ps p) same ∙ written_at a.permits.entries ps1 p _ less_now) in
+    let whole : record y { size = y.size + n } ≡ x = (λ j. record (smaller j) { size = (smaller j).size + n }) ∙ sizes_back in
+    let back1 = subst (λ (ps : Permits). ChangesAt ps ps' p (Some (record y { size = y.size + n }))) same back in
+    written_back a p x ps' is
+    (subst (λ (z : PermitEntry). ChangesAt a.permits.entries ps' p (Some z)) whole (changes_twice a.permits.entries ps1 ps' p _ _ less_now back1))
+  where
+    sizes_back : record x { size = x.size - n + n } ≡ x
+    sizes_back = ap (λ t. record x { size = t }) (let is_so : x.size - n + n ≡ x.size = omega arith in is_so)

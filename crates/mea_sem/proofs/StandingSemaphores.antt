@@ -1,17 +1,17 @@
 -- a method on a semaphore: what it keeps, and its outcome as the contract says it
-use Rattle.std.proofs.Common.{◌≡◌, ◌≢◌, ◌⊎◌, inl, inr, ℕ, suc, ◌+◌, ◌-◌, ◌^◌, ◌<◌, ◌≤◌, ◌==◌, ◌++◌, ◌&&◌, not, Bool, true, false, cond, List, [], length, min, nat_le, nat_lt, refl, ap, sym, subst, ◌∙◌, arith, Option, Some, None, append-nil, if◌then◌else◌}
+use Rattle.std.proofs.Common.{◌≡◌, ◌≢◌, ◌⊎◌, inl, inr, ℕ, suc, ◌+◌, ◌-◌, ◌^◌, ◌<◌, ◌≤◌, ◌++◌, ◌&&◌, not, Bool, true, false, cond, List, [], length, min, nat_le, nat_lt, refl, ap, sym, subst, ◌∙◌, arith, Option, Some, None, append-nil, if◌then◌else◌}
 use Rattle.std.specs.Option.{option_map}
 use Rattle.std.specs.Ordering.{nat_cmp}
 use Rattle.std.specs.FinMap.{get, empty, entries, get-empty}
-use Rattle.std.proofs.lemmas.Bool.{false≢true, le-leb, lt-leb, leb-true, eqb-true}
-use Rattle.mea_base.specs.Named.{named, at, ChangesAt}
+use Rattle.std.proofs.lemmas.Bool.{le-leb, lt-leb}
+use Rattle.mea_base.specs.Named.{named, ChangesAt}
 use Rattle.mea_base.specs.Totals.{total, weight}
 use Rattle.mea_base.specs.Queue.{granted_in}
 use Rattle.mea_base.specs.declared.answer.Answer.TheVariants as answers
 use Rattle.mea_base.specs.declared.ledger.Ledger.{Ledger}
 use Rattle.mea_base.specs.declared.stop.Stop.{Stop}
 use Rattle.mea_base.specs.declared.stop.Stop.TheVariants as stops
-use Rattle.mea_base.proofs.NamedMaps.{same_named, get-named, get-seen, kept-at, found, kept-changed}
+use Rattle.mea_base.proofs.NamedMaps.{same_named, get-named, get-seen, kept-at, found}
 use Rattle.mea_base.proofs.Totals.{total-remove, total-empty}
 use Rattle.mea_sem_model.specs.declared.event.SemEvent.{SemEvent}
 use Rattle.mea_sem_model.specs.declared.event.SemEvent.TheVariants as events
@@ -35,8 +35,8 @@ use Rattle.mea_sem.proofs.PlaysNew.{fresh_core, fresh_entry, plays_new}
 use Rattle.mea_sem.proofs.PlaysPours.{wakers_poured}
 use Rattle.mea_sem.proofs.PlaysEnds.{plays_release}
 use Rattle.mea_sem.proofs.PlaysCloses.{wakers_waiting, plays_close}
-use Rattle.mea_sem.proofs.Meets.{store_in, hall_in, seen_in, IsKeptIn, Meets, MeetsSemaphore, Done, later, to_kept, done, done_quietly}
-use Rattle.mea_sem.proofs.Standing.{Semaphores, Futures, Permits, puts_of, semaphores_of}
+use Rattle.mea_sem.proofs.Meets.{semaphores_in, store_in, hall_in, IsKeptIn, Meets, MeetsSemaphore, Done, later, to_kept, done, done_quietly}
+use Rattle.mea_sem.proofs.Standing.{Semaphores, Futures, Permits, puts_of, semaphores_of, kept_same}
 use Rattle.mea_sem.proofs.Lives.{live-seen, ledger-seen}
 
 -- more room is room
@@ -68,7 +68,7 @@ module _ {a : Inside} {v : Play} {i s : ℕ} {e : SemaphoreEntry} (m : MeetsSema
   low = m.meets.low
 
   here : get (store_in a).semaphores s ≡ Some e
-  here = found a.semaphores.entries s e m.there
+  here = found (semaphores_in a) s e m.there
 
   cause : (event : SemEvent) → cause_of v.hall event ≡ None → cause_of (hall_in a) event ≡ None
   cause event allowed = to_kept m.meets (λ h. cause_of h event ≡ None) allowed
@@ -91,7 +91,10 @@ module _ {a : Inside} {v : Play} {i s : ℕ} {e : SemaphoreEntry} (m : MeetsSema
   small_released n small = let old = (k.each s e here).released in omega (arith, old, less, low, small)
 
   pub plain_fits : e.plain + 1 < 2 ^ 128
-  plain_fits = let old = (k.each s e here).few in omega (arith, old, less, low)
+  plain_fits = let old = (k.each s e here).few.0 in omega (arith, old, less, low)
+
+  pub things_fit : e.things + 1 < 2 ^ 128
+  things_fit = let old = (k.each s e here).few.1 in omega (arith, old, less, low)
 
   pub is_quiet : e.core.wakes ≡ []
   is_quiet = (k.each s e here).quiet
@@ -214,26 +217,21 @@ module _ {a : Inside} {v : Play} {i s : ℕ} {e : SemaphoreEntry} (m : MeetsSema
       (ap (λ (o : Outcome). o.wakes) outcome) (sym (ap (λ (o : Outcome). o.reply) outcome))
 
   -- ---- events that change the semaphore
-  module _ (ss' : Semaphores) (x : SemaphoreEntry) (changes : ChangesAt a.semaphores.entries ss' s (Some x)) where
+  module _ (ss' : Semaphores) (x : SemaphoreEntry) (changes : ChangesAt (semaphores_in a) ss' s (Some x)) where
     abbrev st' : Store
     st' = store_of ss' a.futures.entries a.permits.entries
 
     puts : (e' : SemaphoreEntry) → x ≡ e' → Puts (store_in a) st' s e e'
-    puts e' is = puts_of a.semaphores.entries ss' a.futures.entries a.permits.entries a.permits.entries s e x e' m.there changes is
+    puts e' is = puts_of (semaphores_in a) ss' a.futures.entries a.permits.entries a.permits.entries s e x e' m.there changes is
 
     held_by : (e' : SemaphoreEntry) → x ≡ e' → cores.held_of x.core ≡ cores.held_of e.core → cores.held_of e'.core ≡ cores.held_of e.core
     held_by e' is held = subst (λ (y : SemaphoreEntry). cores.held_of y.core ≡ cores.held_of e.core) is held
 
     -- what was written back is what stood there
     pub as_it_was : x ≡ e → st' ≡ store_in a
-    as_it_was is = λ j. record { semaphores = same j; futures = (store_in a).futures; permits = (store_in a).permits }
-      where
-        by_test : (q : ℕ) (t : Bool) → (s == q) ≡ t → cond t (Some x) (get (store_in a).semaphores q) ≡ get (store_in a).semaphores q
-        by_test q true h = ap (λ y. Some y) is ∙ sym here ∙ ap (get (store_in a).semaphores) (eqb-true s q h)
-        by_test q false h = refl
-
-        same : st'.semaphores ≡ (store_in a).semaphores
-        same = same_named _ _ (λ q. kept-changed a.semaphores.entries ss' s (Some x) changes q ∙ by_test q (s == q) refl)
+    as_it_was is =
+        let same = kept_same (λ k x. x) (semaphores_in a) ss' s e x m.there is changes in
+        λ j. record { semaphores = same j; futures = (store_in a).futures; permits = (store_in a).permits }
 
     pub kept_unchanged : x ≡ e → (sp' : ℕ) → a.registered ≤ sp' → IsKept st' a.registered sp' a.next
     kept_unchanged is sp' room = subst (λ (st : Store). IsKept st a.registered sp' a.next) (sym (as_it_was is)) (kept_room sp' k room)
@@ -376,12 +374,12 @@ module _ {a : Inside} {v : Play} {i s : ℕ} {e : SemaphoreEntry} (m : MeetsSema
 
 -- ---- a new semaphore
 pub done_new : {a : Inside} {v : Play} {i : ℕ} → Meets a v i → (n : ℕ) → n < 2 ^ 64 → (ss' : Semaphores) (core : cores.Core ℕ)
-    → ChangesAt a.semaphores.entries ss' i (Some (record { core = core; made = n; released = 0; forgotten = 0; named = true; plain = 0 }))
+    → ChangesAt (semaphores_in a) ss' i (Some (record { core = core; made = n; released = 0; forgotten = 0; named = true; plain = 0; things = 0 }))
     → core ≡ fresh_core n → cores.held_of core ≡ 0
     → Done v i (step v.hall i (events.New n)) answers.Made (store_of ss' a.futures.entries a.permits.entries) a.registered a.outbox.spare a.outbox.wakers
 done_new {a} {v} {i} m n small ss' core changes is held =
     let plays = plays_new (store_in a) a.registered a.outbox.spare a.next i m.kept (later m) m.low (store_of ss' a.futures.entries a.permits.entries) n small
-    (semaphores_of a.semaphores.entries ss' i _ (fresh_entry n) changes (ap (λ (x : cores.Core ℕ). record (fresh_entry n) { core = x }) is)) refl refl
+    (semaphores_of (semaphores_in a) ss' i _ (fresh_entry n) changes (ap (λ (x : cores.Core ℕ). record (fresh_entry n) { core = x }) is)) refl refl
     (subst (λ (x : cores.Core ℕ). cores.held_of x ≡ 0) is held) in
     done_quietly m (events.New n) answers.Made plays refl refl
 

@@ -6,8 +6,9 @@ use Rattle.mea_sem_core.specs.declared.acquire.Acquire.{Acquire}
 use Rattle.mea_sem_core.specs.declared.acquire.Acquire.TheVariants.{New, Queued, Done, Refused}
 use Rattle.mea_base.specs.declared.ledger.Ledger.{Ledger}
 use Rattle.mea_sem_core.specs.Core.{Core, poured, wakers_of, waiters_of, waiting, debts, held_of, paid_of}
-use Rattle.mea_sem_core.specs.Calls.{IsCutAs, without_acquire}
+use Rattle.mea_sem_core.specs.Calls.{IsCutAs, with_waker, without_acquire}
 use Rattle.mea_sem.specs.declared.entries.SemaphoreEntry.{SemaphoreEntry}
+use Rattle.mea_sem.specs.declared.entries.EndedEntry.{EndedEntry}
 
 -- the next poll of the acquire is ready, and was not before
 abbrev pub IsReady : Core ℕ → Acquire → Type 0
@@ -30,6 +31,13 @@ WaitedFor c (Queued d n) waited = (map.get c.granted n ≡ Some d → waited ≡
 WaitedFor c (Done d) waited = waited ≡ 0
 WaitedFor c (Refused d) waited = waited ≡ 0
 
+-- an acquire that waits is polled again: its waker is another
+abbrev pub WaitsOn : SemaphoreEntry → Acquire → ℕ → SemaphoreEntry → Type 0
+WaitsOn e (New d) w e' = e' ≡ e
+WaitsOn e (Queued d n) w e' = e' ≡ record e { core = record e.core { queue = with_waker e.core.queue n w } }
+WaitsOn e (Done d) w e' = e' ≡ e
+WaitsOn e (Refused d) w e' = e' ≡ e
+
 -- the core after a poll that is ready
 abbrev pub finished : Core ℕ → Acquire → Core ℕ
 finished c (New d) = record c { free = c.free - d }
@@ -43,23 +51,32 @@ repaid c n = record (poured (record c { live = c.live - n }) n) { wakes = [] }
 
 -- n were poured: what the semaphore is now, the wakers that went to the outbox, and how many left the queue
 pub record Repays (e e' : SemaphoreEntry) (before after : List ℕ) (c : Core ℕ) (plain : Bool) (n waited left : ℕ) : Type 0 where
-  pub is : e' ≡ record e { core = repaid c n; plain = e.plain - cond plain 1 0 }
+  pub is : e' ≡ record e { core = repaid c n; plain = e.plain - cond plain 1 0; things = e.things - 1 }
   pub moved : after ≡ before ++ wakers_of (granted_in c.queue n)
   pub count : left ≡ length (wakers_of (granted_in c.queue n)) + waited
 
 -- a future ends: it was never polled, or was granted, or waits, or was cut
 abbrev pub Ends : SemaphoreEntry → Acquire → Bool → SemaphoreEntry → List ℕ → List ℕ → ℕ → Type 0
-Ends e (New d) plain e' before after left = (e' ≡ record e { plain = e.plain - cond plain 1 0 }) × (after ≡ before) × (left ≡ 0)
+Ends e (New d) plain e' before after left = (e' ≡ record e { plain = e.plain - cond plain 1 0; things = e.things - 1 }) × (after ≡ before) × (left ≡ 0)
 Ends e (Queued d n) plain e' before after left =
     (map.get e.core.granted n ≡ Some d → Repays e e' before after (record e.core { granted = map.remove e.core.granted n }) plain d 0 left)
     × ((lack : ℕ) → waiting e.core.queue n ≡ Some (d, lack) → Repays e e' before after (record e.core { queue = without_acquire e.core.queue n }) plain (d - lack) 1 left)
-    × (IsCutAs e.core d n → (e' ≡ record e { core = record e.core { cut = map.remove e.core.cut n }; plain = e.plain - cond plain 1 0 }) × (after ≡ before) × (left ≡ 0))
-Ends e (Done d) plain e' before after left = (e' ≡ record e { plain = e.plain - cond plain 1 0 }) × (after ≡ before) × (left ≡ 0)
-Ends e (Refused d) plain e' before after left = (e' ≡ record e { plain = e.plain - cond plain 1 0 }) × (after ≡ before) × (left ≡ 0)
+    × (IsCutAs e.core d n → (e' ≡ record e { core = record e.core { cut = map.remove e.core.cut n }; plain = e.plain - cond plain 1 0; things = e.things - 1 }) × (after ≡ before) × (left ≡ 0))
+Ends e (Done d) plain e' before after left = (e' ≡ record e { plain = e.plain - cond plain 1 0; things = e.things - 1 }) × (after ≡ before) × (left ≡ 0)
+Ends e (Refused d) plain e' before after left = (e' ≡ record e { plain = e.plain - cond plain 1 0; things = e.things - 1 }) × (after ≡ before) × (left ≡ 0)
 
 -- the wakers that a close makes ready
 abbrev pub close_wakes : Core ℕ → List ℕ
 close_wakes c = if c.closed then [] else wakers_of (waiters_of c.queue)
+
+-- nothing is left of it but its account
+pub record IsOver (e : SemaphoreEntry) : Type 0 where
+  pub named : e.named ≡ false
+  pub things : e.things ≡ 0
+  pub queue : e.core.queue ≡ []
+
+abbrev pub account_of : SemaphoreEntry → ℕ → EndedEntry
+account_of e s = record { name = s; free = e.core.free; made = e.made; released = e.released; forgotten = e.forgotten; closed = e.core.closed }
 
 -- the account of a semaphore, by its core
 abbrev pub ledger_of_entry : SemaphoreEntry → Ledger

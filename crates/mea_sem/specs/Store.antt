@@ -1,5 +1,5 @@
 -- the hall that what a `SemHall` keeps stands for
-use Rattle.std.specs.Prelude.{ℕ, zero, suc, ◌≡◌, ◌≢◌, ◌<◌, ◌==◌, ◌&&◌, Bool, true, false, List, [], map, Option, Some, None, if◌then◌else◌}
+use Rattle.std.specs.Prelude.{ℕ, zero, suc, ◌≡◌, ◌≢◌, ◌<◌, ◌==◌, ◌&&◌, ◌++◌, Bool, true, false, List, [], map, reverse, Option, Some, None, if◌then◌else◌}
 use Rattle.std.specs.Ordering.{nat_cmp}
 use Rattle.std.specs.FinMap.{FinMap, get, empty, entries}
 use Rattle.mea_base.specs.Named.{named}
@@ -10,6 +10,7 @@ use Rattle.mea_sem_core.specs.Acquire.{demand_of}
 use Rattle.mea_sem_core.specs.Core as cores
 use Rattle.mea_sem_core.specs.Calls.{Belongs}
 use Rattle.mea_sem.specs.declared.entries.SemaphoreEntry.{SemaphoreEntry}
+use Rattle.mea_sem.specs.declared.entries.EndedEntry.{EndedEntry}
 use Rattle.mea_sem.specs.declared.entries.FutureEntry.{FutureEntry}
 use Rattle.mea_sem.specs.declared.entries.PermitEntry.{PermitEntry}
 
@@ -25,6 +26,26 @@ permit_of p = record { semaphore = p.semaphore; size = p.size; plain = p.plain }
 -- what the lists of entries of the three maps keep
 abbrev pub store_of : List (ℕ × SemaphoreEntry) → List (ℕ × FutureEntry) → List (ℕ × PermitEntry) → Store
 store_of ss fs ps = record { semaphores = named (λ s e. e) ss; futures = named (λ f x. x) fs; permits = named (λ p x. permit_of x) ps }
+
+-- a semaphore of which nothing is left but this account
+abbrev pub as_ended : EndedEntry → SemaphoreEntry
+as_ended x = record {
+  core = record { free = x.free; live = x.free; queue = []; granted = empty; cut = empty; closed = x.closed; wakes = [] };
+  made = x.made;
+  released = x.released;
+  forgotten = x.forgotten;
+  named = false;
+  plain = 0;
+  things = 0;
+}
+
+-- those of which nothing is left, the last first
+abbrev pub ended_of : List EndedEntry → List (ℕ × SemaphoreEntry)
+ended_of xs = reverse (map (λ (x : EndedEntry). (x.name, as_ended x)) xs)
+
+-- the semaphores of which something is left, and the others
+abbrev pub with_ended : List (ℕ × SemaphoreEntry) → List EndedEntry → List (ℕ × SemaphoreEntry)
+with_ended ss xs = ss ++ ended_of xs
 
 -- whether the acquire has this number in its core
 abbrev pub is_under : Acquire → ℕ → Bool

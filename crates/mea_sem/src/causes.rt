@@ -88,7 +88,7 @@ impl SemHall {
         self.permits.contains_key(&p)
     }
 
-    pub(crate) fn can_merge(&self, p: u64, q: u64) -> bool
+    fn can_merge(&self, p: u64, q: u64) -> bool
         ensures { result ≡ can_merge self.now.hall p q }
     {
         p != q && self.are_of_one_kind(p, q)
@@ -110,7 +110,7 @@ impl SemHall {
     }
 }
 
-fn are_alike(x: &PermitEntry, y: &PermitEntry) -> bool
+pub(crate) fn are_alike(x: &PermitEntry, y: &PermitEntry) -> bool
     ensures { result ≡ are_of_one_kind (Some (permit_of x.now)) (Some (permit_of y.now)) }
 {
     x.semaphore == y.semaphore && x.plain == y.plain

@@ -2,7 +2,7 @@ ghost use Rattle.std.specs.Prelude.{◌≡◌, ◌≢◌, ◌+◌, ◌-◌, ◌<
 ghost use Rattle.mea_base.specs.Queue.{granted_in};
 ghost use Rattle.mea_sem_core.specs.Acquire.{demand_of};
 ghost use Rattle.mea_sem_core.specs.Core.{held_of, paid_of, poured, wakers_of, paid_waiting, debts, closed_core};
-ghost use Rattle.mea_sem_core.specs.Calls.{Belongs, IsRefused, Queues, after_refusal, forgetting, forgetting_exactly, with_waker};
+ghost use Rattle.mea_sem_core.specs.Calls.{Belongs, IsRefused, Queues, after_refusal, forgetting, forgetting_exactly};
 
 use crate::moving::hand_on;
 use mea_base::{Ledger, NoMemory, Outbox, Stop};
@@ -16,8 +16,20 @@ pub struct SemaphoreEntry {
     pub released: u128,
     pub forgotten: u128,
     pub named: bool,
-    // How many plain futures and plain permits it has.
+    // How many plain futures and plain permits it has, and how many futures and permits.
     pub plain: u128,
+    pub things: u128,
+}
+
+/// What a hall keeps of a semaphore of which nothing is left: its name and its account.
+#[derive(Clone, Copy)]
+pub struct EndedEntry {
+    pub released: u128,
+    pub forgotten: u128,
+    pub made: u64,
+    pub free: usize,
+    pub name: u64,
+    pub closed: bool,
 }
 
 /// What a hall keeps of a future.
@@ -66,7 +78,7 @@ pub fn one_if(plain: bool) -> u128
 }
 
 impl SemaphoreEntry {
-    ghost use Rattle.mea_sem.specs.Entries.{ledger_of_entry};
+    ghost use Rattle.mea_sem.specs.Entries.{IsOver, account_of, ledger_of_entry};
 
     /// Refuses what names the semaphore, where it is not named any more.
     pub fn known(&self) -> Result<(), Stop>
@@ -106,6 +118,27 @@ impl SemaphoreEntry {
             Err(Stop::Borrowed)
         } else {
             Ok(())
+        }
+    }
+
+    /// Whether nothing is left of it but its account: it has no name, no future and no permit, and nobody waits.
+    pub fn is_over(&self) -> bool
+        ensures { result ≡ true → IsOver self.now }
+    {
+        !self.named && self.things == 0 && self.core.queue_len() == 0
+    }
+
+    /// Its account, under its name.
+    pub fn account(&self, name: u64) -> EndedEntry
+        ensures { result ≡ account_of self.now name }
+    {
+        EndedEntry {
+            released: self.released,
+            forgotten: self.forgotten,
+            made: self.made,
+            free: self.core.available_permits(),
+            name,
+            closed: self.core.is_closed(),
         }
     }
 
@@ -150,24 +183,26 @@ impl SemaphoreEntry {
         requires is_open { self.old.core.closed ≡ false }
         requires free { n ≤ self.old.core.free }
         requires few { self.old.plain + 1 < 2 ^ 128 }
-        ensures is { self.new ≡ record self.old { core = record self.old.core { free = self.old.core.free - n }; plain = self.old.plain + cond plain 1 0 } }
+        requires few_things { self.old.things + 1 < 2 ^ 128 }
+        ensures is { self.new ≡ record self.old { core = record self.old.core { free = self.old.core.free - n }; plain = self.old.plain + cond plain 1 0; things = self.old.things + 1 } }
         ensures held { held_of self.new.core ≡ held_of self.old.core + n }
     {
         let _taken = self.core.try_acquire(n);
-        self.plain += one_if(plain);
+        self.count(plain);
     }
 
     /// Ends a permit of this size, and gives nothing back.
     pub fn lose(&mut self, n: usize, plain: bool)
         requires held { n ≤ held_of self.old.core }
         requires plain { cond plain 1 0 ≤ self.old.plain }
+        requires thing { 1 ≤ self.old.things }
         requires tally { self.old.forgotten + n < 2 ^ 128 }
-        ensures is { self.new ≡ record self.old { core = record self.old.core { live = self.old.core.live - n }; forgotten = self.old.forgotten + n; plain = self.old.plain - cond plain 1 0 } }
+        ensures is { self.new ≡ record self.old { core = record self.old.core { live = self.old.core.live - n }; forgotten = self.old.forgotten + n; plain = self.old.plain - cond plain 1 0; things = self.old.things - 1 } }
         ensures held { held_of self.new.core + n ≡ held_of self.old.core }
     {
         self.core.lose(n);
         self.forgotten += n as u128;
-        self.plain -= one_if(plain);
+        self.discount(plain);
     }
 
     /// Adds `n` permits, hands the wakers on, and tells how many they were.
@@ -195,16 +230,17 @@ impl SemaphoreEntry {
     pub fn give_back(&mut self, n: usize, plain: bool, outbox: &mut Outbox<u64>) -> usize
         requires held { n ≤ held_of self.old.core }
         requires plain { cond plain 1 0 ≤ self.old.plain }
+        requires thing { 1 ≤ self.old.things }
         requires quiet { self.old.core.wakes ≡ [] }
         requires room { length (wakers_of (granted_in self.old.core.queue n)) ≤ outbox.old.spare }
-        ensures is { self.new ≡ record self.old { core = record (poured (record self.old.core { live = self.old.core.live - n }) n) { wakes = [] }; plain = self.old.plain - cond plain 1 0 } }
+        ensures is { self.new ≡ record self.old { core = record (poured (record self.old.core { live = self.old.core.live - n }) n) { wakes = [] }; plain = self.old.plain - cond plain 1 0; things = self.old.things - 1 } }
         ensures held { held_of self.new.core + n ≡ held_of self.old.core }
         ensures moved { outbox.new.wakers ≡ outbox.old.wakers ++ wakers_of (granted_in self.old.core.queue n) }
         ensures spare { outbox.new.spare + result ≡ outbox.old.spare }
         ensures count { result ≡ length (wakers_of (granted_in self.old.core.queue n)) }
     {
         self.core.give_back(n);
-        self.plain -= one_if(plain);
+        self.discount(plain);
         hand_on(&mut self.core, outbox)
     }
 
@@ -230,25 +266,29 @@ impl SemaphoreEntry {
         }
     }
 
-    /// Counts a new plain thing.
+    /// Counts a new thing.
     pub fn count(&mut self, plain: bool)
-        requires { self.old.plain + 1 < 2 ^ 128 }
-        ensures { self.new ≡ record self.old { plain = self.old.plain + cond plain 1 0 } }
+        requires few { self.old.plain + 1 < 2 ^ 128 }
+        requires few_things { self.old.things + 1 < 2 ^ 128 }
+        ensures { self.new ≡ record self.old { plain = self.old.plain + cond plain 1 0; things = self.old.things + 1 } }
     {
         self.plain += one_if(plain);
+        self.things += 1;
     }
 
-    /// Counts a plain thing that is gone.
+    /// Counts a thing that is gone.
     pub fn discount(&mut self, plain: bool)
-        requires { cond plain 1 0 ≤ self.old.plain }
-        ensures { self.new ≡ record self.old { plain = self.old.plain - cond plain 1 0 } }
+        requires plain { cond plain 1 0 ≤ self.old.plain }
+        requires thing { 1 ≤ self.old.things }
+        ensures { self.new ≡ record self.old { plain = self.old.plain - cond plain 1 0; things = self.old.things - 1 } }
     {
         self.plain -= one_if(plain);
+        self.things -= 1;
     }
 }
 
 impl SemaphoreEntry {
-    ghost use Rattle.mea_sem.specs.Entries.{IsReady, Waits, WaitedFor, finished, Ends, close_wakes};
+    ghost use Rattle.mea_sem.specs.Entries.{IsReady, Waits, WaitsOn, WaitedFor, finished, Ends, close_wakes};
     ghost use Rattle.mea_sem.specs.Store.{IsOpen};
     ghost use Rattle.mea_sem.specs.Kept.{wakers_in};
 
@@ -268,64 +308,65 @@ impl SemaphoreEntry {
     }
 
     /// Polls an acquire that is ready.
-    pub fn finish(&mut self, acquire: Acquire, waker: u64)
-        requires { IsReady self.old.core acquire }
-        ensures is { self.new ≡ record self.old { core = finished self.old.core acquire } }
-        ensures held { held_of self.new.core ≡ held_of self.old.core + demand_of acquire }
+    pub fn finish(&mut self, acquire: &mut Acquire, waker: u64)
+        requires { IsReady self.old.core acquire.old }
+        ensures is { self.new ≡ record self.old { core = finished self.old.core acquire.old } }
+        ensures held { held_of self.new.core ≡ held_of self.old.core + demand_of acquire.old }
     {
-        let mut acquire = acquire;
-        let _turn = self.core.poll_open(&mut acquire, waker);
+        let _turn = self.core.poll_open(acquire, waker);
     }
 
     /// Polls an acquire that a closed semaphore refuses.
-    pub fn refuse(&mut self, acquire: Acquire, waker: u64, plain: bool)
-        requires refused { IsRefused self.old.core acquire }
+    pub fn refuse(&mut self, acquire: &mut Acquire, waker: u64, plain: bool)
+        requires refused { IsRefused self.old.core acquire.old }
         requires plain { cond plain 1 0 ≤ self.old.plain }
-        ensures is { self.new ≡ record self.old { core = after_refusal self.old.core acquire; plain = self.old.plain - cond plain 1 0 } }
+        requires thing { 1 ≤ self.old.things }
+        ensures is { self.new ≡ record self.old { core = after_refusal self.old.core acquire.old; plain = self.old.plain - cond plain 1 0; things = self.old.things - 1 } }
         ensures held { held_of self.new.core ≡ held_of self.old.core }
     {
-        let mut acquire = acquire;
-        let _turn = self.core.poll_open(&mut acquire, waker);
+        let _turn = self.core.poll_open(acquire, waker);
         self.discount(plain);
     }
 
     /// Polls an acquire that is ready, and takes its permits away for ever.
-    pub fn finish_forgetting(&mut self, acquire: Acquire, waker: u64, plain: bool)
-        requires ready { IsReady self.old.core acquire }
+    pub fn finish_forgetting(&mut self, acquire: &mut Acquire, waker: u64, plain: bool)
+        requires ready { IsReady self.old.core acquire.old }
         requires plain { cond plain 1 0 ≤ self.old.plain }
-        requires tally { self.old.forgotten + demand_of acquire < 2 ^ 128 }
-        ensures is { self.new ≡ record self.old { core = record (finished self.old.core acquire) { live = (finished self.old.core acquire).live - demand_of acquire }; forgotten = self.old.forgotten + demand_of acquire; plain = self.old.plain - cond plain 1 0 } }
-        ensures rises { held_of (finished self.old.core acquire) ≡ held_of self.old.core + demand_of acquire }
+        requires thing { 1 ≤ self.old.things }
+        requires tally { self.old.forgotten + demand_of acquire.old < 2 ^ 128 }
+        ensures is { self.new ≡ record self.old { core = record (finished self.old.core acquire.old) { live = (finished self.old.core acquire.old).live - demand_of acquire.old }; forgotten = self.old.forgotten + demand_of acquire.old; plain = self.old.plain - cond plain 1 0; things = self.old.things - 1 } }
+        ensures rises { held_of (finished self.old.core acquire.old) ≡ held_of self.old.core + demand_of acquire.old }
         ensures held { held_of self.new.core ≡ held_of self.old.core }
     {
-        let demand = demand(&acquire);
+        let demand = demand(acquire);
         self.finish(acquire, waker);
         self.lose(demand, plain);
     }
 
     /// Polls a new acquire that has to wait. Where there is no memory, nothing has changed.
-    pub fn queue(&mut self, demand: usize, waker: u64) -> Result<Acquire, NoMemory>
-        requires { Waits self.old.core (Acquire.New demand) }
-        ensures queued { IfOk result (λ acquire. (number : ℕ) × Queues self.old.core self.new.core demand waker number × (acquire ≡ Acquire.Queued demand number)) }
+    pub fn queue(&mut self, acquire: &mut Acquire, waker: u64) -> Result<(), NoMemory>
+        requires new { (demand : ℕ) × (acquire.old ≡ Acquire.New demand) }
+        requires waits { Waits self.old.core acquire.old }
+        ensures queued { OnOk result ((number : ℕ) × Queues self.old.core self.new.core (demand_of acquire.old) waker number × (acquire.new ≡ Acquire.Queued (demand_of acquire.old) number)) }
         ensures rest { OnOk result (self.new ≡ record self.old { core = self.new.core }) }
         ensures held { OnOk result (held_of self.new.core ≡ held_of self.old.core) }
-        ensures err { OnErr result (self.new ≡ self.old) }
+        ensures err { OnErr result ((self.new ≡ self.old) × (acquire.new ≡ acquire.old)) }
     {
-        let mut acquire = Acquire::new(demand);
-        match self.core.poll_open(&mut acquire, waker) {
-            Ok(_) => Ok(acquire),
+        match self.core.poll_open(acquire, waker) {
+            Ok(_) => Ok(()),
             Err(_) => Err(NoMemory),
         }
     }
 
-    /// Polls an acquire that waits under this number.
-    pub fn wait_on(&mut self, demand: usize, number: usize, waker: u64)
-        requires { Waits self.old.core (Acquire.Queued demand number) }
-        ensures is { self.new ≡ record self.old { core = record self.old.core { queue = with_waker self.old.core.queue number waker } } }
+    /// Polls an acquire that waits.
+    pub fn wait_on(&mut self, acquire: &mut Acquire, waker: u64)
+        requires polled { (demand : ℕ) → acquire.old ≢ Acquire.New demand }
+        requires waits { Waits self.old.core acquire.old }
+        ensures is { WaitsOn self.old acquire.old waker self.new }
+        ensures same { acquire.new ≡ acquire.old }
         ensures held { held_of self.new.core ≡ held_of self.old.core }
     {
-        let mut acquire = Acquire::Queued { demand, number };
-        let _turn = self.core.poll_open(&mut acquire, waker);
+        let _turn = self.core.poll_open(acquire, waker);
     }
 
     /// Ends an acquire, and pours what it was paid; hands the wakers on, and tells how many wakers left
@@ -333,6 +374,7 @@ impl SemaphoreEntry {
     pub fn end(&mut self, acquire: Acquire, plain: bool, outbox: &mut Outbox<u64>) -> usize
         requires belongs { Belongs self.old.core acquire }
         requires plain { cond plain 1 0 ≤ self.old.plain }
+        requires thing { 1 ≤ self.old.things }
         requires quiet { self.old.core.wakes ≡ [] }
         requires room { wakers_in self.old.core.queue ≤ outbox.old.spare }
         requires few { wakers_in self.old.core.queue < 2 ^ 64 }

@@ -6,7 +6,7 @@ ghost use Rattle.mea_sem_model.specs.Waiters.{waiters};
 ghost use Rattle.mea_sem.specs.Play.{Play, Plays, TakesNoMemory};
 ghost use Rattle.mea_sem.specs.StandsFor.{StandsFor};
 
-use crate::entries::{FutureEntry, PermitEntry, SemaphoreEntry};
+use crate::entries::{EndedEntry, FutureEntry, PermitEntry, SemaphoreEntry};
 use mea_base::{Answer, Outbox, Stop};
 use mea_sem_core::SemCore;
 use mea_sem_model::SemEvent;
@@ -22,6 +22,8 @@ use std::marker::Model;
 pub struct SemHall {
     pub(crate) alloc: Global,
     pub(crate) semaphores: HashMap<u64, SemaphoreEntry>,
+    // Those of which nothing is left. Room for each is made when the semaphore is.
+    pub(crate) ended: Vec<EndedEntry>,
     pub(crate) futures: HashMap<u64, FutureEntry>,
     pub(crate) permits: HashMap<u64, PermitEntry>,
     // How many futures wait. The outbox has room for the waker of each.
@@ -37,12 +39,12 @@ impl Model for SemHall {
 
     ghost coded = { play_code };
 
-    ghost use Rattle.mea_sem.specs.Store.{store_of, hall_of};
+    ghost use Rattle.mea_sem.specs.Store.{store_of, with_ended, hall_of};
     ghost use Rattle.mea_sem.specs.Kept.{IsKept};
 
-    ghost view = { λ a. record { hall = hall_of (store_of a.semaphores.entries a.futures.entries a.permits.entries) a.next; wakes = a.outbox.wakers; next = a.next } };
+    ghost view = { λ a. record { hall = hall_of (store_of (with_ended a.semaphores.entries a.ended.items) a.futures.entries a.permits.entries) a.next; wakes = a.outbox.wakers; next = a.next } };
 
-    ghost invariant = { λ a. IsKept (store_of a.semaphores.entries a.futures.entries a.permits.entries) a.registered a.outbox.spare a.next };
+    ghost invariant = { λ a. IsKept (store_of (with_ended a.semaphores.entries a.ended.items) a.futures.entries a.permits.entries) a.registered a.outbox.spare a.next };
 }
 
 impl SemHall {
@@ -53,6 +55,7 @@ impl SemHall {
         SemHall {
             alloc,
             semaphores: HashMap::new(alloc),
+            ended: Vec::new(alloc),
             futures: HashMap::new(alloc),
             permits: HashMap::new(alloc),
             registered: 0,

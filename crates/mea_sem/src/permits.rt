@@ -4,6 +4,7 @@ ghost use Rattle.mea_sem_model.specs.Cause.{cause_of};
 ghost use Rattle.mea_sem_model.specs.Step.{try_of};
 ghost use Rattle.mea_sem.specs.Play.{Play, Plays, Yields};
 
+use crate::causes::are_alike;
 use crate::entries::PermitEntry;
 use crate::hall::SemHall;
 use mea_base::{Answer, Stop};
@@ -59,7 +60,9 @@ impl SemHall {
             unreachable!()
         };
         entry.lose(permit.size, permit.plain);
+        let over = entry.is_over();
         self.next = number as u128 + 1;
+        self.tidy(permit.semaphore, over);
         Ok(Answer::Forgot(permit.size as u64))
     }
 
@@ -70,16 +73,20 @@ impl SemHall {
         ensures refused { IfErr result (λ stop. (cause_of self.old.hall (SemEvent.Merge p q) ≡ Some stop) × (stop ≢ Stop.NoMemory)) }
         ensures err { OnErr result (self.new ≡ self.old) }
     {
-        if !self.can_merge(p, q) {
+        if p == q {
             return Err(Stop::Unknown);
         }
-        let Some(other) = self.permits.remove(&q) else {
-            unreachable!()
+        let Some(other) = self.permits.get(&q).copied() else {
+            return Err(Stop::Unknown);
         };
         let Some(permit) = self.permits.get_mut(&p) else {
-            unreachable!()
+            return Err(Stop::Unknown);
         };
+        if !are_alike(permit, &other) {
+            return Err(Stop::Unknown);
+        }
         permit.size += other.size;
+        let _other = self.permits.remove(&q);
         let Some(entry) = self.semaphores.get_mut(&other.semaphore) else {
             unreachable!()
         };
@@ -96,26 +103,29 @@ impl SemHall {
             ⊎ ((cause_of self.old.hall (SemEvent.Split p n) ≡ None) × (stop ≡ Stop.NoMemory))) }
         ensures err { OnErr result (self.new ≡ self.old) }
     {
-        let Some(permit) = self.permits.get(&p).copied() else {
+        let Some(permit) = self.permits.get_mut(&p) else {
             return Err(Stop::Unknown);
         };
         if n as usize > permit.size {
             self.next = number as u128 + 1;
             return Ok(Answer::Lacking);
         }
+        permit.size -= n as usize;
         let part = PermitEntry {
             size: n as usize,
-            ..permit
+            ..*permit
         };
-        self.permits.insert(number, part)?;
-        let Some(whole) = self.permits.get_mut(&p) else {
+        let Ok(_) = self.permits.insert(number, part) else {
+            let Some(permit) = self.permits.get_mut(&p) else {
+                unreachable!()
+            };
+            permit.size += n as usize;
+            return Err(Stop::NoMemory);
+        };
+        let Some(entry) = self.semaphores.get_mut(&part.semaphore) else {
             unreachable!()
         };
-        whole.size -= n as usize;
-        let Some(entry) = self.semaphores.get_mut(&permit.semaphore) else {
-            unreachable!()
-        };
-        entry.count(permit.plain);
+        entry.count(part.plain);
         self.next = number as u128 + 1;
         Ok(Answer::Held)
     }
@@ -151,7 +161,9 @@ impl SemHall {
             unreachable!()
         };
         self.registered -= entry.give_back(permit.size, permit.plain, &mut self.outbox);
+        let over = entry.is_over();
         self.next = number as u128 + 1;
+        self.tidy(permit.semaphore, over);
         Ok(Answer::Done)
     }
 }

@@ -24,6 +24,10 @@ impl SemHall {
             forgotten: 0,
             named: true,
             plain: 0,
+            things: 0,
+        };
+        let Ok(()) = self.ended.reserve(self.semaphores.len() + 1) else {
+            return Err(Stop::NoMemory);
         };
         self.semaphores.insert(number, entry)?;
         self.next = number as u128 + 1;
@@ -128,8 +132,33 @@ impl SemHall {
         };
         entry.is_not_borrowed()?;
         entry.named = false;
+        let over = entry.is_over();
         self.next = number as u128 + 1;
+        self.tidy(s, over);
         Ok(Answer::Done)
+    }
+
+    // Keeps the account alone of a semaphore that is over, which looks that up again. It takes no memory, since room
+    // was made for the account; where there were none, the semaphore would stay as it is.
+    pub(crate) fn tidy(&mut self, s: u64, over: bool)
+        ensures { self.new ≡ self.old }
+    {
+        if over {
+            self.settle(s);
+        }
+    }
+
+    fn settle(&mut self, s: u64)
+        ensures { self.new ≡ self.old }
+    {
+        let Some(entry) = self.semaphores.get(&s) else {
+            return;
+        };
+        if !entry.is_over() || self.ended.len() == self.ended.capacity() {
+            return;
+        }
+        self.ended.push_reserved(entry.account(s));
+        let _entry = self.semaphores.remove(&s);
     }
 
     pub(crate) fn close(&mut self, number: u64, s: u64) -> Result<Answer, Stop>

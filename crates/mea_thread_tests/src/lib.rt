@@ -4,6 +4,8 @@
 #[cfg(test)]
 mod bell;
 #[cfg(test)]
+mod crew;
+#[cfg(test)]
 mod shot;
 #[cfg(test)]
 mod shot_threads;

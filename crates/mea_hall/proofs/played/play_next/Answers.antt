@@ -1,5 +1,6 @@
 use Rattle.std.proofs.Common.{ap, ◌∙◌, ◌++◌, ◌∷◌, []}
-use Rattle.mea_hall.proofs.HandedOver.{told_reply, room_for}
+use Rattle.mea_lines.proofs.ToldReplies.{told_reply}
+use Rattle.mea_hall.proofs.HandedOver.{room_for}
 use Rattle.mea_hall.proofs.played.play_next.Goals as goal
 
 pub returns-clause-replies : goal.returns-clause-replies

@@ -1,7 +1,6 @@
-use Rattle.std.proofs.Common.{rules, ◌≡◌, ◌∙◌, Some, None, ℕ, List, Option, IsSome, IfSome, refl, ap, sym, subst, slice_get, swap_remove}
-use Rattle.std.specs.Option.{option_map}
+use Rattle.std.proofs.Common.{rules, ◌≡◌, ◌∙◌, Some, ap, sym, subst}
 use Rattle.mea_once_core.specs.declared.entry.Entry.{Entry}
-use Rattle.mea_once_core.specs.Links.{AreLinked, Shown, shown, Changes}
+use Rattle.mea_once_core.specs.Links.{AreLinked, shown, Changes}
 use Rattle.slab.specs.Slab as slab
 use Rattle.slab.specs.Slab.{Slab}
 use Rattle.indexmap.proofs.CallerLemmas.{insert_entry-new}

@@ -1,10 +1,7 @@
-use Rattle.std.proofs.Common.{rules, ◌≡◌, ◌∙◌, Some, None, ℕ, List, Option, IsSome, IfSome, refl, ap, sym, subst, slice_get, swap_remove}
+use Rattle.std.proofs.Common.{◌∙◌, refl, ap, sym}
 use Rattle.std.specs.Option.{option_map}
-use Rattle.mea_once_core.specs.declared.entry.Entry.{Entry}
-use Rattle.mea_once_core.specs.Links.{AreLinked, Shown, shown, Changes}
 use Rattle.slab.specs.Slab as slab
 use Rattle.slab.specs.Slab.{Slab}
-use Rattle.indexmap.proofs.CallerLemmas.{insert_entry-new}
 use Rattle.mea_once_core.proofs.Links.{unlisted-moved, unlisted-last, told-there, told-moved, told-last, forgets}
 use Rattle.mea_once_core.proofs.entries.take_out.Goals as goal
 

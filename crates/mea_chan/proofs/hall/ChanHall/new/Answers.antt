@@ -10,6 +10,8 @@ invariant_of-result c =
     record {
       unbounded = omega (arith, c.new.ensures.unbounded);
       oneshots = omega (arith, c.new.ensures.oneshots);
+      bounded = omega (arith, c.new.ensures.bounded);
+      broadcasts = omega (arith, c.new.ensures.broadcasts);
       counted = none ∙ sym (ap registered c.new.ensures.hall ∙ none_registered);
       few = omega (arith, none);
     }

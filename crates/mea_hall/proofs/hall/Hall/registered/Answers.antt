@@ -11,6 +11,9 @@ overflow_add-result-2 c = omega (arith, c.registered.ensures.count, c.registered
 pub overflow_add-result-3 : goal.overflow_add-result-3
 overflow_add-result-3 c = omega (arith, c.registered.ensures.count, c.registered-2.ensures.count, c.registered-3.ensures.count, c.registered-4.ensures.count, c.self.invariant.few, c.self.invariant.fits)
 
+pub overflow_add-result-4 : goal.overflow_add-result-4
+overflow_add-result-4 c = omega (arith, c.registered.ensures.count, c.registered-2.ensures.count, c.registered-3.ensures.count, c.registered-4.ensures.count, c.registered-5.ensures.count, c.self.invariant.few, c.self.invariant.fits)
+
 pub returns-clause-valid : goal.returns-clause-valid
 returns-clause-valid c = subst (λ (p : Play). IsValid p.world p.events) c.self.view_is
     (record {
@@ -19,9 +22,11 @@ returns-clause-valid c = subst (λ (p : Play). IsValid p.world p.events) c.self.
           c.self.invariant.meets;
       locks = c.registered-3.ensures.fit;
       chans = c.registered-4.ensures.valid;
+      shares = c.registered-5.ensures.valid;
+      settled = c.registered-5.ensures.settled;
     })
 
 pub returns-clause-count : goal.returns-clause-count
 returns-clause-count c =
     let seen = ap (λ (p : Play). registered p.world) c.self.view_is in
-    omega (arith, c.registered.ensures.count, c.registered-2.ensures.count, c.registered-3.ensures.count, c.registered-4.ensures.count, seen)
+    omega (arith, c.registered.ensures.count, c.registered-2.ensures.count, c.registered-3.ensures.count, c.registered-4.ensures.count, c.registered-5.ensures.count, seen)

@@ -1,4 +1,4 @@
-use Rattle.std.proofs.Common.{◌≡◌, ◌+◌, ◌-◌, ℕ, length, inl, inr, ap, refl, ◌∙◌, arith}
+use Rattle.std.proofs.Common.{◌≡◌, ◌+◌, ◌-◌, ℕ, inl, inr, ap, refl, ◌∙◌, arith}
 use Rattle.mea_base.specs.Ready.{Waking}
 use Rattle.mea_lock.proofs.Lengths.{lock_poll_length}
 use Rattle.mea_lock.proofs.entries.LockEntry.poll.Goals as goal

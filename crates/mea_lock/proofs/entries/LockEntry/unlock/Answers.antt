@@ -1,5 +1,4 @@
-use Rattle.std.proofs.Common.{arith, ap, ◌∙◌}
-use Rattle.mea_lock.specs.Cores.{NamedLock}
+use Rattle.std.proofs.Common.{arith}
 use Rattle.mea_lock.proofs.Lengths.{unlock_fits}
 use Rattle.mea_lock.proofs.entries.LockEntry.unlock.Goals as goal
 

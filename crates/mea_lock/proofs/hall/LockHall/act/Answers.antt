@@ -1,16 +1,19 @@
-use Rattle.std.proofs.Common.{ap, sym, ◌∙◌}
 use Rattle.mea_lock.specs.Halls.{hall_of}
-use Rattle.mea_lock.proofs.Playing.{Holds, holds_after}
+use Rattle.mea_lock.proofs.Playing.{Holds, holds_after, yields_all}
 use Rattle.mea_lock.proofs.hall.LockHall.act.Goals as goal
 
 pub invariant_of-self-2 : goal.invariant_of-self-2
 invariant_of-self-2 c =
-    let held : Holds c.self.inside.kinds.mutexes c.self.inside.kinds.rw_locks c.self.inside.ready c.self.inside.next = record {
+    let held : Holds c.self.inside.kinds.mutexes c.self.inside.kinds.rw_locks c.self.inside.kinds.condvars c.self.inside.ready c.self.inside.next = record {
       mutexes = c.self.invariant.mutexes;
       rw_locks = c.self.invariant.rw_locks;
+      condvars = c.self.invariant.condvars;
       counted = c.self.invariant.counted;
       few = c.self.invariant.few;
     } in
-    let after = holds_after _ _ _ _ _ _ _ c.args.number c.args.event.now c.in-Ok.answer held (rw (← c.self.view_is) at c.requires) c.in-Ok.ensures.played
-    (c.wakes_are_of_the_registered.ensures.grows (hall_of c.self.inside.kinds.mutexes c.self.inside.kinds.rw_locks) c.args.number c.args.event.now) in
-    record { mutexes = after.mutexes; rw_locks = after.rw_locks; counted = after.counted; few = after.few }
+    let after = holds_after _ _ _ _ _ _ _ _ _ c.args.number c.args.event.now c.in-Ok.answer held (rw (← c.self.view_is) at c.requires) c.in-Ok.ensures.played
+    (c.wakes_are_of_the_registered.ensures.grows (hall_of c.self.inside.kinds.mutexes c.self.inside.kinds.rw_locks c.self.inside.kinds.condvars) c.args.number c.args.event.now) in
+    record { mutexes = after.mutexes; rw_locks = after.rw_locks; condvars = after.condvars; counted = after.counted; few = after.few }
+
+pub returns-clause-played : goal.returns-clause-played
+returns-clause-played c = rw (← c.self.view_is) (yields_all _ _ _ _ _ _ c.self.inside.ready _ c.self.inside.next c.args.number c.args.event.now c.in-Ok.answer c.in-Ok.ensures.played)

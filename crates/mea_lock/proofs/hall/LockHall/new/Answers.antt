@@ -11,6 +11,7 @@ invariant_of-result c =
     record {
       mutexes = omega (arith, c.new.ensures.mutexes);
       rw_locks = omega (arith, c.new.ensures.rw_locks);
+      condvars = omega (arith, c.new.ensures.condvars);
       counted = none ∙ sym (ap registered c.new.ensures.hall ∙ none_registered);
       few = omega (arith, none);
     }

@@ -1,6 +1,6 @@
 use Rattle.std.proofs.Common.{sym, ap, ◌∙◌}
 use Rattle.mea_lock.specs.Entries.{is_over}
-use Rattle.mea_lock.proofs.PartEvents.{site, guard_there, guarded_lock, its_kept, its_room, over_there, is_held, guard_few, guard_ended}
+use Rattle.mea_lock.proofs.PartEvents.{site, guard_there, its_kept, its_room, over_there, is_held, guard_few, guard_ended}
 use Rattle.mea_lock.proofs.part.LockPart.end_guard.Goals as goal
 
 pub remove-guard-requires : goal.remove-guard-requires

@@ -1,10 +1,10 @@
-use Rattle.std.proofs.Common.{refl, sym, ap, ◌∙◌}
+use Rattle.std.proofs.Common.{refl}
 use Rattle.mea_base.proofs.Maps.{get-there, is_there}
-use Rattle.mea_lock.proofs.PartEvents.{site, future_there, its_lock, its_room, future_may_poll, undone, undone_after, pended, readied}
+use Rattle.mea_lock.proofs.PartEvents.{site, lock_future_there, waits_alone, its_lock, its_room, future_may_poll, undone, undone_after, pended, readied}
 use Rattle.mea_lock.proofs.part.LockPart.poll.Goals as goal
 
 pub at_mut-future-requires : goal.at_mut-future-requires
-at_mut-future-requires g c = future_there (site c.self.inside.locks c.self.inside.futures c.self.inside.guards c.self.inside.next c.self.view_is c.self.invariant c.requires.next c.ranges.number.fits) c.args.f c.requires.there
+at_mut-future-requires g c = lock_future_there (site c.self.inside.locks c.self.inside.futures c.self.inside.guards c.self.inside.next c.self.view_is c.self.invariant c.requires.next c.ranges.number.fits) c.args.f c.requires.there
 
 pub at_mut-entry-requires : goal.at_mut-entry-requires
 at_mut-entry-requires g c = rw c.guard-guard.ensures (its_lock (site c.self.inside.locks c.self.inside.futures c.self.inside.guards c.self.inside.next c.self.view_is c.self.invariant c.requires.next c.ranges.number.fits) c.args.f c.at_mut-future.result.now c.at_mut-future.ensures.value)
@@ -35,19 +35,19 @@ remove-requires-in-Ok-Pending g c = rw c.in-Ok.ensures.ok (is_there _ _ (get-the
 
 pub invariant_of-self-in-Ok-Pending : goal.invariant_of-self-in-Ok-Pending
 invariant_of-self-in-Ok-Pending g c = let polled = rw c.in-Ok-Pending.field-0-is at c.in-Ok-Pending.ensures.polls in
-    rw c.guard-guard.ensures (pended (site c.self.inside.locks c.self.inside.futures c.self.inside.guards c.self.inside.next c.self.view_is c.self.invariant c.requires.next c.ranges.number.fits) c.args.f c.at_mut-future.result.now c.at_mut-entry.result.now c.at_mut-future.ensures.value (rw c.guard-guard.ensures at c.at_mut-entry.ensures.value) c.args.waker c.poll.new.self c.poll.new.future c.args.ready.now c.poll.new.ready polled _ _ (rw c.guard-guard.ensures at c.in-Ok.ensures.ok) c.remove-in-Ok-Pending.ensures.rest).0
+    rw c.guard-guard.ensures (pended (site c.self.inside.locks c.self.inside.futures c.self.inside.guards c.self.inside.next c.self.view_is c.self.invariant c.requires.next c.ranges.number.fits) c.args.f c.at_mut-future.result.now c.at_mut-entry.result.now c.at_mut-future.ensures.value (rw c.guard-guard.ensures at c.at_mut-entry.ensures.value) (waits_alone (site c.self.inside.locks c.self.inside.futures c.self.inside.guards c.self.inside.next c.self.view_is c.self.invariant c.requires.next c.ranges.number.fits) c.args.f c.at_mut-future.result.now c.at_mut-entry.result.now c.at_mut-future.ensures.value (rw c.guard-guard.ensures at c.at_mut-entry.ensures.value) c.requires.there) c.args.waker c.poll.new.self c.poll.new.future c.args.ready.now c.poll.new.ready polled _ _ (rw c.guard-guard.ensures at c.in-Ok.ensures.ok) c.remove-in-Ok-Pending.ensures.rest).0
 
 pub returns-in-Ok-Pending-clause-ok : goal.returns-in-Ok-Pending-clause-ok
 returns-in-Ok-Pending-clause-ok g c = let polled = rw c.in-Ok-Pending.field-0-is at c.in-Ok-Pending.ensures.polls in
-    rw c.guard-guard.ensures (pended (site c.self.inside.locks c.self.inside.futures c.self.inside.guards c.self.inside.next c.self.view_is c.self.invariant c.requires.next c.ranges.number.fits) c.args.f c.at_mut-future.result.now c.at_mut-entry.result.now c.at_mut-future.ensures.value (rw c.guard-guard.ensures at c.at_mut-entry.ensures.value) c.args.waker c.poll.new.self c.poll.new.future c.args.ready.now c.poll.new.ready polled _ _ (rw c.guard-guard.ensures at c.in-Ok.ensures.ok) c.remove-in-Ok-Pending.ensures.rest).1
+    rw c.guard-guard.ensures (pended (site c.self.inside.locks c.self.inside.futures c.self.inside.guards c.self.inside.next c.self.view_is c.self.invariant c.requires.next c.ranges.number.fits) c.args.f c.at_mut-future.result.now c.at_mut-entry.result.now c.at_mut-future.ensures.value (rw c.guard-guard.ensures at c.at_mut-entry.ensures.value) (waits_alone (site c.self.inside.locks c.self.inside.futures c.self.inside.guards c.self.inside.next c.self.view_is c.self.invariant c.requires.next c.ranges.number.fits) c.args.f c.at_mut-future.result.now c.at_mut-entry.result.now c.at_mut-future.ensures.value (rw c.guard-guard.ensures at c.at_mut-entry.ensures.value) c.requires.there) c.args.waker c.poll.new.self c.poll.new.future c.args.ready.now c.poll.new.ready polled _ _ (rw c.guard-guard.ensures at c.in-Ok.ensures.ok) c.remove-in-Ok-Pending.ensures.rest).1
 
 pub remove-requires-in-Ok-Ready : goal.remove-requires-in-Ok-Ready
 remove-requires-in-Ok-Ready g c = is_there _ _ (get-there c.self.inside.futures c.args.f _)
 
 pub invariant_of-self-in-Ok-Ready : goal.invariant_of-self-in-Ok-Ready
 invariant_of-self-in-Ok-Ready g c = let polled = rw c.in-Ok-Ready.field-0-is at c.in-Ok-Ready.ensures.polls in
-    rw c.guard-guard.ensures (readied (site c.self.inside.locks c.self.inside.futures c.self.inside.guards c.self.inside.next c.self.view_is c.self.invariant c.requires.next c.ranges.number.fits) c.args.f c.at_mut-future.result.now c.at_mut-entry.result.now c.at_mut-future.ensures.value (rw c.guard-guard.ensures at c.at_mut-entry.ensures.value) c.args.waker c.poll.new.self c.poll.new.future c.args.ready.now c.poll.new.ready _ polled _ c.remove-in-Ok-Ready.ensures.rest _ (rw c.guard-guard.ensures at c.in-Ok.ensures.ok)).0
+    rw c.guard-guard.ensures (readied (site c.self.inside.locks c.self.inside.futures c.self.inside.guards c.self.inside.next c.self.view_is c.self.invariant c.requires.next c.ranges.number.fits) c.args.f c.at_mut-future.result.now c.at_mut-entry.result.now c.at_mut-future.ensures.value (rw c.guard-guard.ensures at c.at_mut-entry.ensures.value) (waits_alone (site c.self.inside.locks c.self.inside.futures c.self.inside.guards c.self.inside.next c.self.view_is c.self.invariant c.requires.next c.ranges.number.fits) c.args.f c.at_mut-future.result.now c.at_mut-entry.result.now c.at_mut-future.ensures.value (rw c.guard-guard.ensures at c.at_mut-entry.ensures.value) c.requires.there) c.args.waker c.poll.new.self c.poll.new.future c.args.ready.now c.poll.new.ready _ polled _ c.remove-in-Ok-Ready.ensures.rest _ (rw c.guard-guard.ensures at c.in-Ok.ensures.ok)).0
 
 pub returns-in-Ok-Ready-clause-ok : goal.returns-in-Ok-Ready-clause-ok
 returns-in-Ok-Ready-clause-ok g c = let polled = rw c.in-Ok-Ready.field-0-is at c.in-Ok-Ready.ensures.polls in
-    rw c.guard-guard.ensures (readied (site c.self.inside.locks c.self.inside.futures c.self.inside.guards c.self.inside.next c.self.view_is c.self.invariant c.requires.next c.ranges.number.fits) c.args.f c.at_mut-future.result.now c.at_mut-entry.result.now c.at_mut-future.ensures.value (rw c.guard-guard.ensures at c.at_mut-entry.ensures.value) c.args.waker c.poll.new.self c.poll.new.future c.args.ready.now c.poll.new.ready _ polled _ c.remove-in-Ok-Ready.ensures.rest _ (rw c.guard-guard.ensures at c.in-Ok.ensures.ok)).1
+    rw c.guard-guard.ensures (readied (site c.self.inside.locks c.self.inside.futures c.self.inside.guards c.self.inside.next c.self.view_is c.self.invariant c.requires.next c.ranges.number.fits) c.args.f c.at_mut-future.result.now c.at_mut-entry.result.now c.at_mut-future.ensures.value (rw c.guard-guard.ensures at c.at_mut-entry.ensures.value) (waits_alone (site c.self.inside.locks c.self.inside.futures c.self.inside.guards c.self.inside.next c.self.view_is c.self.invariant c.requires.next c.ranges.number.fits) c.args.f c.at_mut-future.result.now c.at_mut-entry.result.now c.at_mut-future.ensures.value (rw c.guard-guard.ensures at c.at_mut-entry.ensures.value) c.requires.there) c.args.waker c.poll.new.self c.poll.new.future c.args.ready.now c.poll.new.ready _ polled _ c.remove-in-Ok-Ready.ensures.rest _ (rw c.guard-guard.ensures at c.in-Ok.ensures.ok)).1

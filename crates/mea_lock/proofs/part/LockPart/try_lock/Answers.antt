@@ -1,4 +1,3 @@
-use Rattle.std.proofs.Common.{refl, sym, ap, ◌∙◌}
 use Rattle.mea_base.proofs.Maps.{get-there, is_there}
 use Rattle.mea_lock.proofs.PartEvents.{site, lock_there, few_things, enough_if, few_if, try_holds, try_lacks}
 use Rattle.mea_lock.proofs.part.LockPart.try_lock.Goals as goal

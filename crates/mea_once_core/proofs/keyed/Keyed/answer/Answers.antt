@@ -1,6 +1,6 @@
-use Rattle.std.proofs.Common.{◌≡◌, ◌∙◌, ℕ, Ok, Err, Some, None, is_some, refl, ap, sym, subst}
-use Rattle.mea_sets.specs.Poll.{Poll, Ready}
-use Rattle.mea_once_core.specs.Keyed.{Keyed, Told}
+use Rattle.std.proofs.Common.{◌∙◌, Ok, Err, None, is_some, ap, sym, subst}
+use Rattle.mea_sets.specs.Poll.{Ready}
+use Rattle.mea_once_core.specs.Keyed.{Told}
 use Rattle.mea_once_core.specs.declared.key_call.KeyStage.TheVariants.{Kept, Done}
 use Rattle.mea_once_core.proofs.Keyeds.{given-there, computed-none, computed-some}
 use Rattle.mea_once_core.proofs.keyed.Keyed.answer.Goals as goal

@@ -1,4 +1,4 @@
-use Rattle.std.proofs.Common.{rules, ◌≡◌, ◌∙◌, Some, IsSome, sym, subst}
+use Rattle.std.proofs.Common.{rules, ◌≡◌, Some, IsSome, sym, subst}
 use Rattle.mea_once_core.specs.Keyed.{Keyed, MayPollAt}
 use Rattle.mea_once_core.specs.Table.{entry_at, number_of}
 use Rattle.mea_once_core.specs.declared.key_call.KeyStage.TheVariants.{New}

@@ -1,9 +1,9 @@
-use Rattle.std.proofs.Common.{rules, ◌≡◌, ◌≤◌, ◌<◌, ◌+◌, ◌∙◌, ℕ, Ok, Err, Some, None, true, inl, inr, is_some, IsSome, unwrap_or, refl, ap, sym, subst, arith}
+use Rattle.std.proofs.Common.{◌≡◌, ◌+◌, Ok, Some, None, true, inl, inr, IsSome, refl, sym, subst, arith}
 use Rattle.mea_once_core.specs.Links.{Shown}
 use Rattle.mea_once_core.specs.Cell.{Cell, rested}
 use Rattle.mea_once_core.specs.Permit.{MayPoll}
-use Rattle.mea_once_core.specs.Keyed.{Keyed, Told, StepsCell}
-use Rattle.mea_once_core.specs.Table.{entry_at, fresh_entry}
+use Rattle.mea_once_core.specs.Keyed.{Keyed, StepsCell}
+use Rattle.mea_once_core.specs.Table.{entry_at}
 use Rattle.mea_once_core.proofs.Keyeds.{match-none, none-of, at_some}
 use Rattle.mea_once_core.proofs.keyed.Keyed.begin_at.Goals as goal
 

@@ -1,9 +1,7 @@
-use Rattle.std.proofs.Common.{rules, ◌≡◌, ◌≤◌, ◌<◌, ◌+◌, ◌∙◌, ℕ, Ok, Err, Some, None, true, inl, inr, is_some, IsSome, unwrap_or, refl, ap, sym, subst, arith}
+use Rattle.std.proofs.Common.{inl, sym, subst, arith}
 use Rattle.mea_once_core.specs.Links.{Shown}
-use Rattle.mea_once_core.specs.Cell.{Cell, rested}
 use Rattle.mea_once_core.specs.Permit.{MayPoll}
-use Rattle.mea_once_core.specs.Keyed.{Keyed, Told, StepsCell}
-use Rattle.mea_once_core.specs.Table.{entry_at, fresh_entry}
+use Rattle.mea_once_core.specs.Table.{fresh_entry}
 use Rattle.mea_once_core.proofs.Keyeds.{asks-fresh}
 use Rattle.mea_once_core.proofs.keyed.Keyed.begin_new.Goals as goal
 

@@ -1,4 +1,4 @@
-use Rattle.std.proofs.Common.{rules, ◌≡◌, ◌∙◌, ℕ, Option, Some, IsSome, IfSome, refl, sym, subst, arith}
+use Rattle.std.proofs.Common.{rules, ◌∙◌, ℕ, Option, IfSome, refl, sym, subst, arith}
 use Rattle.mea_once_core.specs.Keyed.{Keyed, Discards}
 use Rattle.mea_once_core.specs.Table.{Unlists}
 use Rattle.mea_once_core.proofs.Keyeds.{kept-unlisted, gone-unlisted, match-some}

@@ -1,9 +1,6 @@
-use Rattle.std.proofs.Common.{rules, ◌≡◌, ◌≤◌, ◌∙◌, ℕ, Ok, Err, Some, None, is_some, unwrap_or, refl, ap, sym, subst}
-use Rattle.mea_once_core.specs.Links.{Shown}
+use Rattle.std.proofs.Common.{sym, subst}
 use Rattle.mea_once_core.specs.Cell.{rested}
-use Rattle.mea_once_core.specs.Keyed.{Keyed, Told, MayEndAt, EndsAt}
-use Rattle.mea_once_core.specs.Table.{entry_at}
-use Rattle.mea_once_core.specs.declared.key_call.KeyStage.TheVariants.{Calls, Kept, Done}
+use Rattle.mea_once_core.specs.Keyed.{MayEndAt, EndsAt}
 use Rattle.mea_once_core.proofs.keyed.Keyed.end.Goals as goal
 
 pub end_cell-requires : goal.end_cell-requires

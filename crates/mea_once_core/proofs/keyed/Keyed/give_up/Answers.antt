@@ -1,7 +1,7 @@
-use Rattle.std.proofs.Common.{rules, ◌≡◌, ◌≤◌, ◌-◌, ◌∙◌, ℕ, Ok, Err, Some, None, unwrap_or, is_some, IsSome, IfSome, IsTrue, refl, ap, sym, subst, arith}
+use Rattle.std.proofs.Common.{◌≡◌, ◌≤◌, ◌∙◌, Some, unwrap_or, refl, ap, sym, subst}
 use Rattle.mea_once_core.specs.Links.{Shown}
-use Rattle.mea_once_core.specs.Table.{Table, entry_at, HasCaller}
-use Rattle.mea_once_core.specs.Keyed.{Keyed, GivesUp, LeavesEntry, Told}
+use Rattle.mea_once_core.specs.Table.{entry_at, HasCaller}
+use Rattle.mea_once_core.specs.Keyed.{Keyed, GivesUp}
 use Rattle.mea_once_core.proofs.Keyeds.{given-up, given-none, kept-given}
 use Rattle.mea_once_core.proofs.keyed.Keyed.give_up.Goals as goal
 

@@ -1,9 +1,7 @@
-use Rattle.std.proofs.Common.{rules, ◌≡◌, ◌≤◌, ◌∙◌, ℕ, Ok, Err, Some, None, true, is_some, unwrap_or, refl, ap, sym, subst}
-use Rattle.mea_once_core.specs.Links.{Shown}
+use Rattle.std.proofs.Common.{◌≡◌, Ok, Err, Some, true, refl, sym, subst}
 use Rattle.mea_once_core.specs.Cell.{Finds}
-use Rattle.mea_once_core.specs.Keyed.{Keyed, Told, AsksCell}
+use Rattle.mea_once_core.specs.Keyed.{Keyed, AsksCell}
 use Rattle.mea_once_core.specs.Table.{entry_at}
-use Rattle.mea_once_core.specs.declared.key_call.KeyStage.TheVariants.{Calls, Kept, Done}
 use Rattle.mea_once_core.proofs.Keyeds.{finds-ready, stepped-there, finds-value, asks-cell, at_some, same-keyed}
 use Rattle.mea_once_core.proofs.keyed.Keyed.go_on.Goals as goal
 

@@ -1,4 +1,4 @@
-use Rattle.std.proofs.Common.{◌≡◌, ◌<◌, IsTrue, IsSome, Some, ap, sym, ◌∙◌, subst, nat_lt, arith}
+use Rattle.std.proofs.Common.{◌≡◌, ◌<◌, IsTrue, ap, sym, ◌∙◌, nat_lt, arith}
 use Rattle.std.proofs.lemmas.Bool.Decides.{nat_tests}
 use Rattle.mea_once_core.specs.Table.{entry_at}
 use Rattle.mea_once_core.proofs.Exists.{below_iff}

@@ -1,9 +1,7 @@
-use Rattle.std.proofs.Common.{rules, ◌≡◌, ◌≤◌, ◌<◌, ◌+◌, ◌-◌, ◌∙◌, ℕ, Some, unwrap_or, is_some, IsSome, IfSome, IsTrue, refl, ap, sym, subst, arith}
-use Rattle.mea_once_core.specs.Cell.{Cell}
-use Rattle.mea_once_core.specs.Permit.{MayPoll, MayEnd}
+use Rattle.std.proofs.Common.{◌≡◌, ◌<◌, ◌∙◌, Some, sym, subst}
 use Rattle.mea_once_core.specs.Links.{Shown}
-use Rattle.mea_once_core.specs.Table.{Table, entry_at, HasCaller, EndsEntry, PollsEntry}
-use Rattle.mea_once_core.specs.Keyed.{Keyed, GivesUp, LeavesEntry, StepsCell, EndsCell}
+use Rattle.mea_once_core.specs.Table.{entry_at}
+use Rattle.mea_once_core.specs.Keyed.{Keyed}
 use Rattle.mea_once_core.proofs.Keyeds.{kept-joined}
 use Rattle.mea_once_core.proofs.keyed.Keyed.join.Goals as goal
 

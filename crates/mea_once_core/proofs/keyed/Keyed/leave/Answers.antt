@@ -1,7 +1,6 @@
-use Rattle.std.proofs.Common.{rules, ◌≡◌, ◌≤◌, ◌-◌, ◌∙◌, ℕ, Some, unwrap_or, is_some, IsSome, IfSome, IsTrue, refl, ap, sym, subst, arith}
-use Rattle.mea_once_core.specs.Links.{Shown}
-use Rattle.mea_once_core.specs.Table.{Table, entry_at, HasCaller}
-use Rattle.mea_once_core.specs.Keyed.{Keyed, GivesUp, LeavesEntry}
+use Rattle.std.proofs.Common.{rules, ◌≡◌, ◌∙◌, Some, is_some, refl, ap, sym, subst, arith}
+use Rattle.mea_once_core.specs.Table.{entry_at, HasCaller}
+use Rattle.mea_once_core.specs.Keyed.{Keyed, LeavesEntry}
 use Rattle.mea_once_core.proofs.Keyeds.{leaves, retired-there, kept-left, kept-gone, left-within}
 use Rattle.mea_once_core.proofs.keyed.Keyed.leave.Goals as goal
 

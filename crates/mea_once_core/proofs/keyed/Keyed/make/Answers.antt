@@ -1,9 +1,6 @@
-use Rattle.std.proofs.Common.{rules, ◌≡◌, ◌≤◌, ◌<◌, ◌∙◌, ℕ, Ok, Err, Some, None, inl, inr, is_some, unwrap_or, refl, ap, sym, subst, arith}
-use Rattle.mea_once_core.specs.Links.{Shown}
-use Rattle.mea_once_core.specs.Cell.{rested}
-use Rattle.mea_once_core.specs.Permit.{MayPoll}
-use Rattle.mea_once_core.specs.Keyed.{Keyed, Told}
-use Rattle.mea_once_core.specs.Table.{entry_at, number_of, fresh_entry}
+use Rattle.std.proofs.Common.{◌≡◌, ◌∙◌, None, sym, subst}
+use Rattle.mea_once_core.specs.Keyed.{Keyed}
+use Rattle.mea_once_core.specs.Table.{number_of}
 use Rattle.mea_once_core.proofs.Keyeds.{kept-made}
 use Rattle.mea_once_core.proofs.keyed.Keyed.make.Goals as goal
 

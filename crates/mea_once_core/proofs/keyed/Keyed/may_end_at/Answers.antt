@@ -1,7 +1,6 @@
-use Rattle.std.proofs.Common.{◌≡◌, ◌≤◌, IsSome, is_some, Some, sym, ap, subst}
+use Rattle.std.proofs.Common.{◌≡◌, ◌≤◌, sym, subst}
 use Rattle.mea_once_core.specs.Cell.{Cell}
-use Rattle.mea_once_core.specs.Permit.{MayPoll, MayEnd}
-use Rattle.mea_once_core.specs.Links.{Shown}
+use Rattle.mea_once_core.specs.Permit.{MayEnd}
 use Rattle.mea_once_core.specs.Keyed.{Keyed}
 use Rattle.mea_once_core.specs.Table.{entry_at, HasCaller}
 use Rattle.mea_once_core.proofs.Exists.{there_iff}

@@ -1,9 +1,9 @@
-use Rattle.std.proofs.Common.{rules, ◌≡◌, ◌≤◌, ◌<◌, ◌+◌, ◌-◌, ◌++◌, ◌∙◌, ℕ, Some, Err, unwrap_or, is_some, is_err, IsSome, IfSome, IsTrue, length, refl, ap, sym, subst, arith}
+use Rattle.std.proofs.Common.{◌≡◌, ◌≤◌, ◌+◌, ◌++◌, ◌∙◌, Some, Err, is_some, length, refl, ap, sym, subst, arith}
 use Rattle.mea_once_core.specs.Cell.{Cell, AddAtMost, queues_more}
-use Rattle.mea_once_core.specs.Permit.{MayPoll, MayEnd}
+use Rattle.mea_once_core.specs.Permit.{MayPoll}
 use Rattle.mea_once_core.specs.Links.{Shown}
-use Rattle.mea_once_core.specs.Table.{Table, entry_at, HasCaller, EndsEntry, PollsEntry}
-use Rattle.mea_once_core.specs.Keyed.{Keyed, GivesUp, LeavesEntry, StepsCell, EndsCell}
+use Rattle.mea_once_core.specs.Table.{entry_at}
+use Rattle.mea_once_core.specs.Keyed.{Keyed, StepsCell}
 use Rattle.mea_once_core.proofs.Onces.{ok_no_err}
 use Rattle.mea_once_core.proofs.Keyeds.{moved, room-after, refused-cell, on_ok_of, at_some, queue-within}
 use Rattle.mea_once_core.proofs.keyed.Keyed.poll_cell.Goals as goal

@@ -1,6 +1,6 @@
-use Rattle.std.proofs.Common.{◌≡◌, ◌++◌, ◌∙◌, Ok, Err, refl, sym, subst, rules}
+use Rattle.std.proofs.Common.{◌≡◌, ◌++◌, ◌∙◌, Ok, Err, refl, sym, subst}
 use Rattle.mea_once_core.specs.Cell.{PollsInit}
-use Rattle.mea_once_core.specs.Once.{Once, IsSound, woken, PollsCall}
+use Rattle.mea_once_core.specs.Once.{Once, woken, PollsCall}
 use Rattle.mea_once_core.proofs.Onces.{refused, refuses_call, polls_call, ok_no_err}
 use Rattle.mea_once_core.proofs.once_core.OnceCore.poll_call.Goals as goal
 

@@ -1,6 +1,6 @@
-use Rattle.std.proofs.Common.{rules, ◌≡◌, ◌∙◌, ℕ, Some, IsSome, refl, ap, sym, subst}
+use Rattle.std.proofs.Common.{rules, ◌≡◌, Some, refl, sym, subst}
 use Rattle.slab.specs.Slab as slab
-use Rattle.mea_once_core.specs.Table.{Table, entry_at, PollsEntry, EndsEntry}
+use Rattle.mea_once_core.specs.Table.{Table, entry_at, EndsEntry}
 use Rattle.mea_once_core.proofs.Tables.{linked-ended, ends-entry}
 use Rattle.mea_once_core.proofs.once_table.OnceTable.end_init.Goals as goal
 

@@ -1,6 +1,5 @@
-use Rattle.std.proofs.Common.{rules, ◌≡◌, ◌∙◌, ℕ, Some, IsSome, IfSome, refl, ap, sym, subst}
-use Rattle.slab.specs.Slab as slab
-use Rattle.mea_once_core.specs.Table.{Table, entry_at, PollsEntry, EndsEntry}
+use Rattle.std.proofs.Common.{rules, IsSome, IfSome, subst}
+use Rattle.mea_once_core.specs.Table.{Table, entry_at}
 use Rattle.mea_once_core.proofs.Tables.{in-use}
 use Rattle.mea_once_core.proofs.once_table.OnceTable.get.Goals as goal
 

@@ -1,6 +1,6 @@
-use Rattle.std.proofs.Common.{rules, ◌≡◌, ◌∙◌, ℕ, Some, IsSome, refl, ap, sym, subst}
+use Rattle.std.proofs.Common.{rules, ◌≡◌, Some, refl, subst}
 use Rattle.slab.specs.Slab as slab
-use Rattle.mea_once_core.specs.Table.{Table, entry_at, PollsEntry, EndsEntry}
+use Rattle.mea_once_core.specs.Table.{Table, entry_at}
 use Rattle.mea_once_core.proofs.Links.{keyed}
 use Rattle.mea_once_core.proofs.Tables.{few-callers, linked-joined}
 use Rattle.mea_once_core.proofs.once_table.OnceTable.get_or_insert.Goals as goal

@@ -1,6 +1,5 @@
-use Rattle.std.proofs.Common.{rules, ◌≡◌, ◌∙◌, ℕ, Some, IsSome, refl, ap, sym, subst}
+use Rattle.std.proofs.Common.{rules, refl}
 use Rattle.slab.specs.Slab as slab
-use Rattle.mea_once_core.specs.Table.{Table, entry_at, PollsEntry, EndsEntry}
 use Rattle.mea_once_core.proofs.Tables.{linked-joined}
 use Rattle.mea_once_core.proofs.once_table.OnceTable.join.Goals as goal
 

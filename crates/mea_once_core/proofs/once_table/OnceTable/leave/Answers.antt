@@ -1,6 +1,5 @@
-use Rattle.std.proofs.Common.{rules, ◌≡◌, ◌∙◌, ℕ, Some, IsSome, IfSome, refl, ap, sym, subst}
+use Rattle.std.proofs.Common.{rules, refl}
 use Rattle.slab.specs.Slab as slab
-use Rattle.mea_once_core.specs.Table.{Table, entry_at, number_of, Unlists}
 use Rattle.mea_once_core.proofs.Tables.{linked-unjoined, linked-dropped}
 use Rattle.mea_once_core.proofs.once_table.OnceTable.leave.Goals as goal
 

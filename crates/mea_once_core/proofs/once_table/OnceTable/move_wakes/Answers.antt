@@ -1,4 +1,4 @@
-use Rattle.std.proofs.Common.{rules, ◌≡◌, ◌∙◌, ℕ, Some, IsSome, IfSome, refl, ap, sym, subst}
+use Rattle.std.proofs.Common.{rules, ◌≡◌, Some, refl, sym, subst}
 use Rattle.slab.specs.Slab as slab
 use Rattle.mea_once_core.specs.Table.{Table, entry_at, RestsEntry}
 use Rattle.mea_once_core.proofs.Tables.{linked-rested, rests-entry, room-for}

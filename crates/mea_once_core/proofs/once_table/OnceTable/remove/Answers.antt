@@ -1,6 +1,6 @@
-use Rattle.std.proofs.Common.{rules, ◌≡◌, ◌∙◌, ℕ, Some, IsSome, IfSome, refl, ap, sym, subst}
+use Rattle.std.proofs.Common.{rules, refl, subst}
 use Rattle.slab.specs.Slab as slab
-use Rattle.mea_once_core.specs.Table.{Table, entry_at, number_of, Unlists}
+use Rattle.mea_once_core.specs.Table.{Table, Unlists}
 use Rattle.mea_once_core.proofs.Tables.{linked-dropped, listed-by, unlists}
 use Rattle.mea_once_core.proofs.once_table.OnceTable.remove.Goals as goal
 

@@ -1,4 +1,3 @@
-use Rattle.std.proofs.Common.{rules}
 use Rattle.mea_once_core.proofs.Tables.{retires-last, last-by, one-caller}
 use Rattle.mea_once_core.proofs.once_table.OnceTable.retire.Goals as goal
 

@@ -1,6 +1,6 @@
-use Rattle.std.proofs.Common.{◌≤◌, ◌+◌, length, ◌∙◌, ap, sym, subst, rules}
-use Rattle.mea_sem_core.specs.Core.{Core, held_of}
-use Rattle.mea_once_core.specs.Permit.{IsPermit, asks_more, MayAsk, MayEnd, Leaves, passed_on}
+use Rattle.std.proofs.Common.{◌≤◌, ◌+◌, length, sym, subst, rules}
+use Rattle.mea_sem_core.specs.Core.{Core}
+use Rattle.mea_once_core.specs.Permit.{asks_more, MayAsk}
 use Rattle.mea_once_core.proofs.Permits.{stays_permit, asks_polled, few_polled}
 use Rattle.mea_once_core.proofs.permit.Permit.ask.Goals as goal
 

@@ -1,6 +1,6 @@
-use Rattle.std.proofs.Common.{◌≤◌, ◌+◌, length, ◌∙◌, ap, sym, subst, rules}
-use Rattle.mea_sem_core.specs.Core.{Core, held_of}
-use Rattle.mea_once_core.specs.Permit.{IsPermit, MayAsk, MayEnd, Leaves, passed_on}
+use Rattle.std.proofs.Common.{◌≤◌, ◌+◌, length, sym, subst, rules}
+use Rattle.mea_sem_core.specs.Core.{Core}
+use Rattle.mea_once_core.specs.Permit.{MayEnd, Leaves}
 use Rattle.mea_once_core.specs.declared.stage.Stage.TheVariants.{Queued}
 use Rattle.mea_once_core.proofs.Permits.{cancelled, cancelled_permit, few_cancelled}
 use Rattle.mea_once_core.proofs.permit.Permit.leave.Goals as goal

@@ -1,4 +1,4 @@
-use Rattle.std.proofs.Common.{◌≡◌, ◌≤◌, ◌+◌, ◌++◌, length}
+use Rattle.std.proofs.Common.{◌≡◌, ◌+◌, ◌++◌, length}
 use Rattle.mea_once_core.specs.Permit.{IsPermit}
 use Rattle.mea_once_core.proofs.permit.Permit.move_wakes.Given as goal
 

@@ -1,6 +1,6 @@
-use Rattle.std.proofs.Common.{◌≤◌, ◌+◌, length, ◌∙◌, ap, sym, subst, rules}
+use Rattle.std.proofs.Common.{◌≤◌, ◌+◌, length, ◌∙◌, ap, sym, subst}
 use Rattle.mea_sem_core.specs.Core.{Core, held_of}
-use Rattle.mea_once_core.specs.Permit.{IsPermit, MayAsk, MayEnd, Leaves, passed_on}
+use Rattle.mea_once_core.specs.Permit.{passed_on}
 use Rattle.mea_once_core.proofs.Permits.{gives, gives_permit, few_gives}
 use Rattle.mea_once_core.proofs.permit.Permit.pass_on.Goals as goal
 

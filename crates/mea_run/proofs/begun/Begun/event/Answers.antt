@@ -1,5 +1,5 @@
 use Rattle.std.proofs.Common.{◌∙◌, ap, sym}
-use Rattle.mea_hall.specs.Lines.{event_of}
+use Rattle.mea_lines.specs.Lines.{event_of}
 use Rattle.mea_run.proofs.Begins.{kept_whole}
 use Rattle.mea_run.proofs.begun.Begun.event.Goals as goal
 

@@ -1,8 +1,9 @@
 use Rattle.std.proofs.Common.{refl, rules, sym, ap, ◌∙◌, arith}
 use Rattle.std.specs.Option.{option_copied_mut}
 use Rattle.mea_sem.proofs.Meets.{MeetsSemaphore, on_err}
-use Rattle.mea_sem.proofs.Refusals.{unknown_gone, refuses_unknown, refuses}
+use Rattle.mea_sem.proofs.Refusals.{unknown_missing, refuses_unknown, refuses}
 use Rattle.mea_sem.proofs.StandingSemaphores.{while_named, once_unnamed, kept_unchanged, seen_unchanged, is_quiet, wakers_room, close_few, done_closing}
+use Rattle.mea_sem.proofs.Endings.{living_in, beside}
 use Rattle.mea_sem.proofs.hall.SemHall.close.Goals as goal
 use Rattle.mea_sem.proofs.hall.SemHall.close.Goals.{In-Some}
 
@@ -10,11 +11,11 @@ use Rattle.mea_sem.proofs.hall.SemHall.close.Goals.{In-Some}
 met : (c : In-Some) → MeetsSemaphore c.self.inside c.args.self.now c.args.number c.args.s c.in-Some.entry.now
 met c = record {
   meets = record { seen = c.self.view_is; kept = c.self.invariant; least = c.requires; low = omega arith };
-  there = sym c.get_mut.ensures.value ∙ ap option_copied_mut c.in-Some.is;
+  there = living_in c.self.inside _ _ (sym c.get_mut.ensures.value ∙ ap option_copied_mut c.in-Some.is);
 }
 
 pub returns-in_default-clause-refused : goal.returns-in_default-clause-refused
-returns-in_default-clause-refused c = refuses_unknown _ _ (unknown_gone c.self.inside c.self.view_is c.args.s _ (sym c.get_mut.ensures.value ∙ ap option_copied_mut c.in_default.is)) refl
+returns-in_default-clause-refused c = refuses_unknown _ _ (unknown_missing c.self.inside c.self.view_is c.args.s _ (sym c.get_mut.ensures.value ∙ ap option_copied_mut c.in_default.is)) refl
 
 pub close-requires-clause-quiet : goal.close-requires-clause-quiet
 close-requires-clause-quiet c = is_quiet (met (goal.at.close-requires-clause-quiet c).In-Some)
@@ -27,13 +28,13 @@ overflow_sub-self c = omega (arith, close_few (met (goal.at.overflow_sub-self c)
 
 pub invariant_of-self-2 : goal.invariant_of-self-2
 invariant_of-self-2 c =
-    (done_closing (met (goal.at.invariant_of-self-2 c).In-Some) _ c.close.new.self ((c.get_mut.follows.holds c.close.new.self).3 (search rules)).0
+    (done_closing (met (goal.at.invariant_of-self-2 c).In-Some) _ c.close.new.self (beside c.self.inside _ _ _ ((c.get_mut.follows.holds c.close.new.self).3 (search rules)).0)
     (while_named (met (goal.at.invariant_of-self-2 c).In-Some) c.in_ok-known.ensures.known) c.close.result c.close.new.outbox.spare c.close.new.outbox.wakers c.close.ensures.is c.close.ensures.held c.close.ensures.moved
     c.close.ensures.count c.close.ensures.spare c.close.ensures.within).kept
 
 pub returns-clause-played : goal.returns-clause-played
 returns-clause-played c =
-    (done_closing (met (goal.at.returns-clause-played c).In-Some) _ c.close.new.self ((c.get_mut.follows.holds c.close.new.self).3 (search rules)).0
+    (done_closing (met (goal.at.returns-clause-played c).In-Some) _ c.close.new.self (beside c.self.inside _ _ _ ((c.get_mut.follows.holds c.close.new.self).3 (search rules)).0)
     (while_named (met (goal.at.returns-clause-played c).In-Some) c.in_ok-known.ensures.known) c.close.result c.close.new.outbox.spare c.close.new.outbox.wakers c.close.ensures.is c.close.ensures.held c.close.ensures.moved
     c.close.ensures.count c.close.ensures.spare c.close.ensures.within).yields
 
@@ -42,11 +43,11 @@ returns-in_err-known-clause-refused c = refuses c.from_residual.result _ _ c.fro
 
 pub returns-in_err-known-clause-err : goal.returns-in_err-known-clause-err
 returns-in_err-known-clause-err c = on_err c.from_residual.result _ (seen_unchanged (met (goal.at.returns-in_err-known-clause-err c).In-Some) _ c.in-Some.entry.now
-    ((c.get_mut.follows.holds c.in-Some.entry.now).3 (search rules)).0 refl _ refl)
+    (beside c.self.inside _ _ _ ((c.get_mut.follows.holds c.in-Some.entry.now).3 (search rules)).0) refl _ refl)
 
 pub invariant_of-self-in_err-known : goal.invariant_of-self-in_err-known
 invariant_of-self-in_err-known c = kept_unchanged (met (goal.at.invariant_of-self-in_err-known c).In-Some) _ c.in-Some.entry.now
-    ((c.get_mut.follows.holds c.in-Some.entry.now).3 (search rules)).0 refl _ c.self.invariant.room
+    (beside c.self.inside _ _ _ ((c.get_mut.follows.holds c.in-Some.entry.now).3 (search rules)).0) refl _ c.self.invariant.room
 
 pub returns-clause-allowed : goal.returns-clause-allowed
 returns-clause-allowed c = while_named (met (goal.at.returns-clause-allowed c).In-Some) c.in_ok-known.ensures.known

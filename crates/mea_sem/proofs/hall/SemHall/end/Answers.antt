@@ -6,11 +6,12 @@ use Rattle.mea_base.specs.declared.stop.Stop.TheVariants.{NoMemory}
 use Rattle.mea_sem_model.specs.declared.event.SemEvent.TheVariants as events
 use Rattle.mea_sem_model.specs.Cause.{cause_of}
 use Rattle.mea_sem.specs.Play.{Play, Plays}
-use Rattle.mea_sem.proofs.Meets.{kept_as_futures, MeetsFuture, its_semaphore, seen_as_futures}
+use Rattle.mea_sem.proofs.Meets.{tidied, kept_as_futures, MeetsFuture, its_semaphore, seen_as_futures}
 use Rattle.mea_sem.proofs.Refusals.{future_missing, future_there, end_known}
 use Rattle.mea_sem.proofs.StandingSemaphores.{is_quiet, wakers_registered}
-use Rattle.mea_sem.proofs.StandingFutures.{semaphore_found, its_belongs, future_plain}
+use Rattle.mea_sem.proofs.StandingFutures.{semaphore_living, its_belongs, future_plain, future_thing}
 use Rattle.mea_sem.proofs.StandingWaits.{left_within, end_done}
+use Rattle.mea_sem.proofs.Endings.{living_in, beside}
 use Rattle.mea_sem.proofs.hall.SemHall.end.Goals as goal
 use Rattle.mea_sem.proofs.hall.SemHall.end.Goals.{In-Some-get_mut}
 
@@ -19,7 +20,7 @@ met : (c : In-Some-get_mut) → MeetsFuture c.self.inside c.args.self.now c.args
 met c = record {
   meets = record { seen = c.self.view_is; kept = c.self.invariant; least = c.requires; low = omega arith };
   is = sym c.remove.ensures.value ∙ c.in-Some.is;
-  there = sym c.get_mut.ensures.value ∙ ap option_copied_mut c.in-Some-get_mut.is;
+  there = living_in c.self.inside _ _ (sym c.get_mut.ensures.value ∙ ap option_copied_mut c.in-Some-get_mut.is);
 }
 
 pub end_permit-requires-clause-no_future : goal.end_permit-requires-clause-no_future
@@ -42,7 +43,7 @@ returns-in_default-clause-err c = subst (λ (p : Play). OnErr c.end_permit.resul
 
 pub unreachable-requires : goal.unreachable-requires
 unreachable-requires c =
-    semaphore_found c.self.inside c.args.f c.self.invariant (sym c.remove.ensures.value ∙ c.in-Some.is)
+    semaphore_living c.self.inside c.args.f c.self.invariant (sym c.remove.ensures.value ∙ c.in-Some.is)
     (sym c.get_mut.ensures.value ∙ ap option_copied_mut c.in_default-get_mut.is)
 
 pub end-requires-clause-belongs : goal.end-requires-clause-belongs
@@ -50,6 +51,9 @@ end-requires-clause-belongs c = (its_belongs (met (goal.at.end-requires-clause-b
 
 pub end-requires-clause-plain : goal.end-requires-clause-plain
 end-requires-clause-plain c = future_plain (met (goal.at.end-requires-clause-plain c).In-Some-get_mut)
+
+pub end-requires-clause-thing : goal.end-requires-clause-thing
+end-requires-clause-thing c = future_thing (met (goal.at.end-requires-clause-thing c).In-Some-get_mut)
 
 pub end-requires-clause-quiet : goal.end-requires-clause-quiet
 end-requires-clause-quiet c = is_quiet (its_semaphore (met (goal.at.end-requires-clause-quiet c).In-Some-get_mut))
@@ -67,13 +71,13 @@ pub invariant_of-self-2 : goal.invariant_of-self-2
 invariant_of-self-2 c =
     (end_done (met (goal.at.invariant_of-self-2 c).In-Some-get_mut)
     c.end.new.self c.end.new.outbox.wakers c.end.result c.end.ensures.ends (future_there c.self.inside c.self.view_is c.args.f c.in-Some.future (sym c.remove.ensures.value ∙ c.in-Some.is)) _ _ c.end.new.outbox.spare
-    c.in-Some.ensures.updates.0 ((c.get_mut.follows.holds c.end.new.self).3 (search rules)).0 c.end.ensures.spare c.end.ensures.held).kept
+    c.in-Some.ensures.updates.0 (beside c.self.inside _ _ _ ((c.get_mut.follows.holds c.end.new.self).3 (search rules)).0) c.end.ensures.spare c.end.ensures.held).kept
 
 pub returns-clause-played : goal.returns-clause-played
 returns-clause-played c =
-    (end_done (met (goal.at.returns-clause-played c).In-Some-get_mut)
+    tidied c.tidy.ensures (end_done (met (goal.at.returns-clause-played c).In-Some-get_mut)
     c.end.new.self c.end.new.outbox.wakers c.end.result c.end.ensures.ends (future_there c.self.inside c.self.view_is c.args.f c.in-Some.future (sym c.remove.ensures.value ∙ c.in-Some.is)) _ _ c.end.new.outbox.spare
-    c.in-Some.ensures.updates.0 ((c.get_mut.follows.holds c.end.new.self).3 (search rules)).0 c.end.ensures.spare c.end.ensures.held).yields
+    c.in-Some.ensures.updates.0 (beside c.self.inside _ _ _ ((c.get_mut.follows.holds c.end.new.self).3 (search rules)).0) c.end.ensures.spare c.end.ensures.held).yields
 
 pub returns-clause-allowed : goal.returns-clause-allowed
 returns-clause-allowed c = end_known c.self.inside c.self.view_is c.args.f c.in-Some.future (sym c.remove.ensures.value ∙ c.in-Some.is)

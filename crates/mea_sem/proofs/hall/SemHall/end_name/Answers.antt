@@ -1,8 +1,9 @@
 use Rattle.std.proofs.Common.{rules, false, refl, sym, ap, ◌∙◌, arith}
 use Rattle.std.specs.Option.{option_copied_mut}
-use Rattle.mea_sem.proofs.Meets.{MeetsSemaphore, on_err}
-use Rattle.mea_sem.proofs.Refusals.{unknown_gone, refuses_unknown, refuses}
+use Rattle.mea_sem.proofs.Meets.{tidied, MeetsSemaphore, on_err}
+use Rattle.mea_sem.proofs.Refusals.{unknown_missing, refuses_unknown, refuses}
 use Rattle.mea_sem.proofs.StandingSemaphores.{endsem_known, endsem_refused, kept_unchanged, seen_unchanged, done_endsem}
+use Rattle.mea_sem.proofs.Endings.{living_in, beside}
 use Rattle.mea_sem.proofs.hall.SemHall.end_name.Goals as goal
 use Rattle.mea_sem.proofs.hall.SemHall.end_name.Goals.{In-Some}
 
@@ -10,32 +11,32 @@ use Rattle.mea_sem.proofs.hall.SemHall.end_name.Goals.{In-Some}
 met : (c : In-Some) → MeetsSemaphore c.self.inside c.args.self.now c.args.number c.args.s c.in-Some.entry.now
 met c = record {
   meets = record { seen = c.self.view_is; kept = c.self.invariant; least = c.requires; low = omega arith };
-  there = sym c.get_mut.ensures.value ∙ ap option_copied_mut c.in-Some.is;
+  there = living_in c.self.inside _ _ (sym c.get_mut.ensures.value ∙ ap option_copied_mut c.in-Some.is);
 }
 
 pub returns-in_default-clause-refused : goal.returns-in_default-clause-refused
-returns-in_default-clause-refused c = refuses_unknown _ _ (unknown_gone c.self.inside c.self.view_is c.args.s _ (sym c.get_mut.ensures.value ∙ ap option_copied_mut c.in_default.is)) refl
+returns-in_default-clause-refused c = refuses_unknown _ _ (unknown_missing c.self.inside c.self.view_is c.args.s _ (sym c.get_mut.ensures.value ∙ ap option_copied_mut c.in_default.is)) refl
 
 pub invariant_of-self-2 : goal.invariant_of-self-2
 invariant_of-self-2 c =
     (done_endsem (met (goal.at.invariant_of-self-2 c).In-Some) _ _
-    ((c.get_mut.follows.holds (record c.in-Some.entry.now { named = false })).3 (search rules)).0 (endsem_known (met (goal.at.invariant_of-self-2 c).In-Some) c.in_ok-is_not_borrowed.ensures.known c.in_ok-is_not_borrowed.ensures.free) refl).kept
+    (beside c.self.inside _ _ _ ((c.get_mut.follows.holds (record c.in-Some.entry.now { named = false })).3 (search rules)).0) (endsem_known (met (goal.at.invariant_of-self-2 c).In-Some) c.in_ok-is_not_borrowed.ensures.known c.in_ok-is_not_borrowed.ensures.free) refl).kept
 
 pub returns-clause-played : goal.returns-clause-played
 returns-clause-played c =
-    (done_endsem (met (goal.at.returns-clause-played c).In-Some) _ _
-    ((c.get_mut.follows.holds (record c.in-Some.entry.now { named = false })).3 (search rules)).0 (endsem_known (met (goal.at.returns-clause-played c).In-Some) c.in_ok-is_not_borrowed.ensures.known c.in_ok-is_not_borrowed.ensures.free) refl).yields
+    tidied c.tidy.ensures (done_endsem (met (goal.at.returns-clause-played c).In-Some) _ _
+    (beside c.self.inside _ _ _ ((c.get_mut.follows.holds (record c.in-Some.entry.now { named = false })).3 (search rules)).0) (endsem_known (met (goal.at.returns-clause-played c).In-Some) c.in_ok-is_not_borrowed.ensures.known c.in_ok-is_not_borrowed.ensures.free) refl).yields
 
 pub returns-in_err-is_not_borrowed-clause-refused : goal.returns-in_err-is_not_borrowed-clause-refused
 returns-in_err-is_not_borrowed-clause-refused c = refuses c.from_residual.result _ _ c.from_residual.ensures.1 (endsem_refused (met (goal.at.returns-in_err-is_not_borrowed-clause-refused c).In-Some) _ c.in_err-is_not_borrowed.ensures.refused)
 
 pub returns-in_err-is_not_borrowed-clause-err : goal.returns-in_err-is_not_borrowed-clause-err
 returns-in_err-is_not_borrowed-clause-err c = on_err c.from_residual.result _ (seen_unchanged (met (goal.at.returns-in_err-is_not_borrowed-clause-err c).In-Some) _ c.in-Some.entry.now
-    ((c.get_mut.follows.holds c.in-Some.entry.now).3 (search rules)).0 refl _ refl)
+    (beside c.self.inside _ _ _ ((c.get_mut.follows.holds c.in-Some.entry.now).3 (search rules)).0) refl _ refl)
 
 pub invariant_of-self-in_err-is_not_borrowed : goal.invariant_of-self-in_err-is_not_borrowed
 invariant_of-self-in_err-is_not_borrowed c = kept_unchanged (met (goal.at.invariant_of-self-in_err-is_not_borrowed c).In-Some) _ c.in-Some.entry.now
-    ((c.get_mut.follows.holds c.in-Some.entry.now).3 (search rules)).0 refl _ c.self.invariant.room
+    (beside c.self.inside _ _ _ ((c.get_mut.follows.holds c.in-Some.entry.now).3 (search rules)).0) refl _ c.self.invariant.room
 
 pub returns-clause-allowed : goal.returns-clause-allowed
 returns-clause-allowed c = endsem_known (met (goal.at.returns-clause-allowed c).In-Some) c.in_ok-is_not_borrowed.ensures.known c.in_ok-is_not_borrowed.ensures.free

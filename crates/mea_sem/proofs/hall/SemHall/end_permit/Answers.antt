@@ -1,9 +1,10 @@
 use Rattle.std.proofs.Common.{refl, rules, sym, ap, ◌∙◌, arith}
 use Rattle.std.specs.Option.{option_copied_mut}
-use Rattle.mea_sem.proofs.Meets.{kept_as_permits, MeetsPermit, permits_semaphore}
+use Rattle.mea_sem.proofs.Meets.{tidied, kept_as_permits, MeetsPermit, permits_semaphore}
 use Rattle.mea_sem.proofs.Refusals.{end_of_permit_known, end_unknown, refuses_unknown}
 use Rattle.mea_sem.proofs.StandingSemaphores.{is_quiet, wakers_few, wakers_fit}
-use Rattle.mea_sem.proofs.StandingPermits.{home_found, permit_held, permit_counted, ended}
+use Rattle.mea_sem.proofs.StandingPermits.{home_living, permit_held, permit_counted, ended, permit_thing}
+use Rattle.mea_sem.proofs.Endings.{living_in, beside}
 use Rattle.mea_sem.proofs.hall.SemHall.end_permit.Goals as goal
 use Rattle.mea_sem.proofs.hall.SemHall.end_permit.Goals.{In-Some-get_mut}
 
@@ -12,7 +13,7 @@ met : (c : In-Some-get_mut) → MeetsPermit c.self.inside c.args.self.now c.args
 met c = record {
   meets = record { seen = c.self.view_is; kept = c.self.invariant; least = c.requires.next; low = omega arith };
   is = sym c.remove.ensures.value ∙ c.in-Some.is;
-  there = sym c.get_mut.ensures.value ∙ ap option_copied_mut c.in-Some-get_mut.is;
+  there = living_in c.self.inside _ _ (sym c.get_mut.ensures.value ∙ ap option_copied_mut c.in-Some-get_mut.is);
 }
 
 pub returns-in_default-clause-refused : goal.returns-in_default-clause-refused
@@ -20,11 +21,14 @@ returns-in_default-clause-refused c = refuses_unknown _ _ (end_unknown c.self.in
 
 pub unreachable-requires : goal.unreachable-requires
 unreachable-requires c =
-    home_found c.self.inside c.args.p c.self.invariant (sym c.remove.ensures.value ∙ c.in-Some.is)
+    home_living c.self.inside c.args.p c.self.invariant (sym c.remove.ensures.value ∙ c.in-Some.is)
     (sym c.get_mut.ensures.value ∙ ap option_copied_mut c.in_default-get_mut.is)
 
 pub give_back-requires-clause-held : goal.give_back-requires-clause-held
 give_back-requires-clause-held c = permit_held (met (goal.at.give_back-requires-clause-held c).In-Some-get_mut)
+
+pub give_back-requires-clause-thing : goal.give_back-requires-clause-thing
+give_back-requires-clause-thing c = permit_thing (met (goal.at.give_back-requires-clause-thing c).In-Some-get_mut)
 
 pub give_back-requires-clause-plain : goal.give_back-requires-clause-plain
 give_back-requires-clause-plain c = permit_counted (met (goal.at.give_back-requires-clause-plain c).In-Some-get_mut)
@@ -47,14 +51,14 @@ pub invariant_of-self-2 : goal.invariant_of-self-2
 invariant_of-self-2 c =
     (ended (met (goal.at.invariant_of-self-2 c).In-Some-get_mut)
     _ _ c.give_back.result c.give_back.new.outbox.spare c.give_back.new.self c.give_back.new.outbox.wakers (end_of_permit_known c.self.inside c.self.view_is c.args.p c.requires.no_future c.in-Some.permit (sym c.remove.ensures.value ∙ c.in-Some.is)) c.requires.no_future
-    c.give_back.ensures.is c.give_back.ensures.held ((c.get_mut.follows.holds c.give_back.new.self).3 (search rules)).0 c.remove.ensures.updates.0
+    c.give_back.ensures.is c.give_back.ensures.held (beside c.self.inside _ _ _ ((c.get_mut.follows.holds c.give_back.new.self).3 (search rules)).0) c.remove.ensures.updates.0
     c.give_back.ensures.count c.give_back.ensures.moved c.give_back.ensures.spare).kept
 
 pub returns-clause-played : goal.returns-clause-played
 returns-clause-played c =
-    (ended (met (goal.at.returns-clause-played c).In-Some-get_mut)
+    tidied c.tidy.ensures (ended (met (goal.at.returns-clause-played c).In-Some-get_mut)
     _ _ c.give_back.result c.give_back.new.outbox.spare c.give_back.new.self c.give_back.new.outbox.wakers (end_of_permit_known c.self.inside c.self.view_is c.args.p c.requires.no_future c.in-Some.permit (sym c.remove.ensures.value ∙ c.in-Some.is)) c.requires.no_future
-    c.give_back.ensures.is c.give_back.ensures.held ((c.get_mut.follows.holds c.give_back.new.self).3 (search rules)).0 c.remove.ensures.updates.0
+    c.give_back.ensures.is c.give_back.ensures.held (beside c.self.inside _ _ _ ((c.get_mut.follows.holds c.give_back.new.self).3 (search rules)).0) c.remove.ensures.updates.0
     c.give_back.ensures.count c.give_back.ensures.moved c.give_back.ensures.spare).yields
 
 pub returns-clause-allowed : goal.returns-clause-allowed

@@ -1,8 +1,9 @@
 use Rattle.std.proofs.Common.{refl, rules, sym, ap, ◌∙◌, arith}
 use Rattle.std.specs.Option.{option_copied_mut}
 use Rattle.mea_sem.proofs.Meets.{MeetsSemaphore, on_err}
-use Rattle.mea_sem.proofs.Refusals.{unknown_gone, refuses_unknown, refuses}
+use Rattle.mea_sem.proofs.Refusals.{unknown_missing, refuses_unknown, refuses}
 use Rattle.mea_sem.proofs.StandingSemaphores.{while_named, once_unnamed, kept_unchanged, seen_unchanged, small_forgotten, done_forget}
+use Rattle.mea_sem.proofs.Endings.{living_in, beside}
 use Rattle.mea_sem.proofs.hall.SemHall.forget.Goals as goal
 use Rattle.mea_sem.proofs.hall.SemHall.forget.Goals.{In-Some}
 
@@ -10,11 +11,11 @@ use Rattle.mea_sem.proofs.hall.SemHall.forget.Goals.{In-Some}
 met : (c : In-Some) → MeetsSemaphore c.self.inside c.args.self.now c.args.number c.args.s c.in-Some.entry.now
 met c = record {
   meets = record { seen = c.self.view_is; kept = c.self.invariant; least = c.requires; low = omega arith };
-  there = sym c.get_mut.ensures.value ∙ ap option_copied_mut c.in-Some.is;
+  there = living_in c.self.inside _ _ (sym c.get_mut.ensures.value ∙ ap option_copied_mut c.in-Some.is);
 }
 
 pub returns-in_default-clause-refused : goal.returns-in_default-clause-refused
-returns-in_default-clause-refused c = refuses_unknown _ _ (unknown_gone c.self.inside c.self.view_is c.args.s _ (sym c.get_mut.ensures.value ∙ ap option_copied_mut c.in_default.is)) refl
+returns-in_default-clause-refused c = refuses_unknown _ _ (unknown_missing c.self.inside c.self.view_is c.args.s _ (sym c.get_mut.ensures.value ∙ ap option_copied_mut c.in_default.is)) refl
 
 pub forget-forgotten-requires : goal.forget-forgotten-requires
 forget-forgotten-requires c = small_forgotten (met (goal.at.forget-forgotten-requires c).In-Some) c.args.n (omega arith)
@@ -22,14 +23,14 @@ forget-forgotten-requires c = small_forgotten (met (goal.at.forget-forgotten-req
 pub invariant_of-self-2 : goal.invariant_of-self-2
 invariant_of-self-2 c =
     (done_forget (met (goal.at.invariant_of-self-2 c).In-Some) _ c.forget-forgotten.new.self
-    ((c.get_mut.follows.holds c.forget-forgotten.new.self).3 (search rules)).0
+    (beside c.self.inside _ _ _ ((c.get_mut.follows.holds c.forget-forgotten.new.self).3 (search rules)).0)
     c.args.n c.forget-forgotten.result (omega arith)
     (while_named (met (goal.at.invariant_of-self-2 c).In-Some) c.in_ok-known.ensures.known) c.forget-forgotten.ensures.is c.forget-forgotten.ensures.held c.forget-forgotten.ensures.taken (omega arith)).kept
 
 pub returns-clause-played : goal.returns-clause-played
 returns-clause-played c =
     (done_forget (met (goal.at.returns-clause-played c).In-Some) _ c.forget-forgotten.new.self
-    ((c.get_mut.follows.holds c.forget-forgotten.new.self).3 (search rules)).0
+    (beside c.self.inside _ _ _ ((c.get_mut.follows.holds c.forget-forgotten.new.self).3 (search rules)).0)
     c.args.n c.forget-forgotten.result (omega arith)
     (while_named (met (goal.at.returns-clause-played c).In-Some) c.in_ok-known.ensures.known) c.forget-forgotten.ensures.is c.forget-forgotten.ensures.held c.forget-forgotten.ensures.taken (omega arith)).yields
 
@@ -38,11 +39,11 @@ returns-in_err-known-clause-refused c = refuses c.from_residual.result _ _ c.fro
 
 pub returns-in_err-known-clause-err : goal.returns-in_err-known-clause-err
 returns-in_err-known-clause-err c = on_err c.from_residual.result _ (seen_unchanged (met (goal.at.returns-in_err-known-clause-err c).In-Some) _ c.in-Some.entry.now
-    ((c.get_mut.follows.holds c.in-Some.entry.now).3 (search rules)).0 refl _ refl)
+    (beside c.self.inside _ _ _ ((c.get_mut.follows.holds c.in-Some.entry.now).3 (search rules)).0) refl _ refl)
 
 pub invariant_of-self-in_err-known : goal.invariant_of-self-in_err-known
 invariant_of-self-in_err-known c = kept_unchanged (met (goal.at.invariant_of-self-in_err-known c).In-Some) _ c.in-Some.entry.now
-    ((c.get_mut.follows.holds c.in-Some.entry.now).3 (search rules)).0 refl _ c.self.invariant.room
+    (beside c.self.inside _ _ _ ((c.get_mut.follows.holds c.in-Some.entry.now).3 (search rules)).0) refl _ c.self.invariant.room
 
 pub returns-clause-allowed : goal.returns-clause-allowed
 returns-clause-allowed c = while_named (met (goal.at.returns-clause-allowed c).In-Some) c.in_ok-known.ensures.known

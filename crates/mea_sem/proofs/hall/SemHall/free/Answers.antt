@@ -1,8 +1,9 @@
 use Rattle.std.proofs.Common.{refl, sym, ap, ◌∙◌, arith}
 use Rattle.std.specs.Option.{option_copied}
 use Rattle.mea_sem.proofs.Meets.{MeetsSemaphore}
-use Rattle.mea_sem.proofs.Refusals.{unknown_gone, refuses_unknown, refuses}
+use Rattle.mea_sem.proofs.Refusals.{unknown_missing, refuses_unknown, refuses}
 use Rattle.mea_sem.proofs.StandingSemaphores.{while_named, once_unnamed, done_free}
+use Rattle.mea_sem.proofs.Endings.{living_in}
 use Rattle.mea_sem.proofs.hall.SemHall.free.Goals as goal
 use Rattle.mea_sem.proofs.hall.SemHall.free.Goals.{In-Some}
 
@@ -10,11 +11,11 @@ use Rattle.mea_sem.proofs.hall.SemHall.free.Goals.{In-Some}
 met : (c : In-Some) → MeetsSemaphore c.self.inside c.args.self.now c.args.number c.args.s c.in-Some.entry.now
 met c = record {
   meets = record { seen = c.self.view_is; kept = c.self.invariant; least = c.requires; low = omega arith };
-  there = sym c.get.ensures.value ∙ ap option_copied c.in-Some.is;
+  there = living_in c.self.inside _ _ (sym c.get.ensures.value ∙ ap option_copied c.in-Some.is);
 }
 
 pub returns-in_default-clause-refused : goal.returns-in_default-clause-refused
-returns-in_default-clause-refused c = refuses_unknown _ _ (unknown_gone c.self.inside c.self.view_is c.args.s _ (sym c.get.ensures.value ∙ ap option_copied c.in_default.is)) refl
+returns-in_default-clause-refused c = refuses_unknown _ _ (unknown_missing c.self.inside c.self.view_is c.args.s _ (sym c.get.ensures.value ∙ ap option_copied c.in_default.is)) refl
 
 pub invariant_of-self : goal.invariant_of-self
 invariant_of-self c = (done_free (met (goal.at.invariant_of-self c).In-Some) _ c.available_permits-free.ensures.is).kept

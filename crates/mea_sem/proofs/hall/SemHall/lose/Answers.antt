@@ -1,8 +1,9 @@
 use Rattle.std.proofs.Common.{refl, rules, sym, ap, ◌∙◌, arith}
 use Rattle.std.specs.Option.{option_copied_mut}
-use Rattle.mea_sem.proofs.Meets.{kept_as_permits, MeetsPermit}
+use Rattle.mea_sem.proofs.Meets.{tidied, kept_as_permits, MeetsPermit}
 use Rattle.mea_sem.proofs.Refusals.{permit_known, permit_unknown, refuses_unknown}
-use Rattle.mea_sem.proofs.StandingPermits.{home_found, permit_held, permit_counted, tally_fits, lost}
+use Rattle.mea_sem.proofs.StandingPermits.{home_living, permit_held, permit_counted, tally_fits, lost, permit_thing}
+use Rattle.mea_sem.proofs.Endings.{living_in, beside}
 use Rattle.mea_sem.proofs.hall.SemHall.lose.Goals as goal
 use Rattle.mea_sem.proofs.hall.SemHall.lose.Goals.{In-Some-get_mut}
 
@@ -11,7 +12,7 @@ met : (c : In-Some-get_mut) → MeetsPermit c.self.inside c.args.self.now c.args
 met c = record {
   meets = record { seen = c.self.view_is; kept = c.self.invariant; least = c.requires; low = omega arith };
   is = sym c.remove.ensures.value ∙ c.in-Some.is;
-  there = sym c.get_mut.ensures.value ∙ ap option_copied_mut c.in-Some-get_mut.is;
+  there = living_in c.self.inside _ _ (sym c.get_mut.ensures.value ∙ ap option_copied_mut c.in-Some-get_mut.is);
 }
 
 pub returns-in_default-clause-refused : goal.returns-in_default-clause-refused
@@ -19,11 +20,14 @@ returns-in_default-clause-refused c = refuses_unknown _ _ (permit_unknown c.self
 
 pub unreachable-requires : goal.unreachable-requires
 unreachable-requires c =
-    home_found c.self.inside c.args.p c.self.invariant (sym c.remove.ensures.value ∙ c.in-Some.is)
+    home_living c.self.inside c.args.p c.self.invariant (sym c.remove.ensures.value ∙ c.in-Some.is)
     (sym c.get_mut.ensures.value ∙ ap option_copied_mut c.in_default-get_mut.is)
 
 pub lose-requires-clause-held : goal.lose-requires-clause-held
 lose-requires-clause-held c = permit_held (met (goal.at.lose-requires-clause-held c).In-Some-get_mut)
+
+pub lose-requires-clause-thing : goal.lose-requires-clause-thing
+lose-requires-clause-thing c = permit_thing (met (goal.at.lose-requires-clause-thing c).In-Some-get_mut)
 
 pub lose-requires-clause-plain : goal.lose-requires-clause-plain
 lose-requires-clause-plain c = permit_counted (met (goal.at.lose-requires-clause-plain c).In-Some-get_mut)
@@ -34,12 +38,12 @@ lose-requires-clause-tally c = tally_fits (met (goal.at.lose-requires-clause-tal
 pub invariant_of-self-2 : goal.invariant_of-self-2
 invariant_of-self-2 c =
     (lost (met (goal.at.invariant_of-self-2 c).In-Some-get_mut) _ _ c.lose.new.self (permit_known c.self.inside c.self.view_is c.args.p c.in-Some.permit (sym c.remove.ensures.value ∙ c.in-Some.is)) c.lose.ensures.is c.lose.ensures.held
-    ((c.get_mut.follows.holds c.lose.new.self).3 (search rules)).0 c.remove.ensures.updates.0).kept
+    (beside c.self.inside _ _ _ ((c.get_mut.follows.holds c.lose.new.self).3 (search rules)).0) c.remove.ensures.updates.0).kept
 
 pub returns-clause-played : goal.returns-clause-played
 returns-clause-played c =
-    (lost (met (goal.at.returns-clause-played c).In-Some-get_mut) _ _ c.lose.new.self (permit_known c.self.inside c.self.view_is c.args.p c.in-Some.permit (sym c.remove.ensures.value ∙ c.in-Some.is)) c.lose.ensures.is c.lose.ensures.held
-    ((c.get_mut.follows.holds c.lose.new.self).3 (search rules)).0 c.remove.ensures.updates.0).yields
+    tidied c.tidy.ensures (lost (met (goal.at.returns-clause-played c).In-Some-get_mut) _ _ c.lose.new.self (permit_known c.self.inside c.self.view_is c.args.p c.in-Some.permit (sym c.remove.ensures.value ∙ c.in-Some.is)) c.lose.ensures.is c.lose.ensures.held
+    (beside c.self.inside _ _ _ ((c.get_mut.follows.holds c.lose.new.self).3 (search rules)).0) c.remove.ensures.updates.0).yields
 
 pub returns-clause-allowed : goal.returns-clause-allowed
 returns-clause-allowed c = permit_known c.self.inside c.self.view_is c.args.p c.in-Some.permit (sym c.remove.ensures.value ∙ c.in-Some.is)

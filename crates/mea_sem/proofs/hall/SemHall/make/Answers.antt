@@ -1,5 +1,7 @@
 use Rattle.std.proofs.Common.{arith}
+use Rattle.mea_sem.specs.Store.{with_ended}
 use Rattle.mea_sem.proofs.Meets.{Meets}
+use Rattle.mea_sem.proofs.Endings.{beside_reserved}
 use Rattle.mea_sem.proofs.StandingSemaphores.{done_new}
 use Rattle.mea_sem.proofs.hall.SemHall.make.Goals as goal
 use Rattle.mea_sem.proofs.hall.SemHall.make.Goals.{In_ok-insert}
@@ -9,10 +11,10 @@ met c = record { seen = c.self.view_is; kept = c.self.invariant; least = c.requi
 
 pub invariant_of-self-2 : goal.invariant_of-self-2
 invariant_of-self-2 c =
-    (done_new (met (goal.at.invariant_of-self-2 c).In_ok-insert) c.args.n (omega arith) c.insert.new.self.entries c.new.result
-    c.in_ok-insert.ensures.updates.0 c.new.ensures.is c.new.ensures.held).kept
+    (done_new (met (goal.at.invariant_of-self-2 c).In_ok-insert) c.args.n (omega arith) (with_ended c.insert.new.self.entries c.reserve.new.self.items) c.new.result
+    (beside_reserved c.self.inside _ _ _ _ c.reserve.ensures.items c.in_ok-insert.ensures.updates.0) c.new.ensures.is c.new.ensures.held).kept
 
 pub returns-clause-played : goal.returns-clause-played
 returns-clause-played c =
-    (done_new (met (goal.at.returns-clause-played c).In_ok-insert) c.args.n (omega arith) c.insert.new.self.entries c.new.result
-    c.in_ok-insert.ensures.updates.0 c.new.ensures.is c.new.ensures.held).yields
+    (done_new (met (goal.at.returns-clause-played c).In_ok-insert) c.args.n (omega arith) (with_ended c.insert.new.self.entries c.reserve.new.self.items) c.new.result
+    (beside_reserved c.self.inside _ _ _ _ c.reserve.ensures.items c.in_ok-insert.ensures.updates.0) c.new.ensures.is c.new.ensures.held).yields

@@ -1,102 +1,210 @@
-use Rattle.std.proofs.Common.{inl, true, false, sym, ap, ◌∙◌, arith}
-use Rattle.std.specs.Option.{option_copied}
-use Rattle.mea_sem.proofs.Meets.{MeetsFuture}
-use Rattle.mea_sem.proofs.Refusals.{future_known, future_unknown, on_ok, lacks_after}
-use Rattle.mea_sem.proofs.StandingFutures.{semaphore_found, its_belongs, forgets_as, replies_ready, replies_gone, replies_pending}
-use Rattle.mea_sem.proofs.StandingWaits.{is_new_stage, is_waiting_stage}
+use Rattle.std.proofs.Common.{Some, None, inl, refl, rules, sym, ap, ◌∙◌, arith}
+use Rattle.std.specs.Option.{option_copied_mut}
+use Rattle.mea_sem.specs.declared.entries.FutureEntry.{FutureEntry}
+use Rattle.mea_sem.proofs.Meets.{tidied, MeetsFuture, kept_as_futures, on_err}
+use Rattle.mea_sem.proofs.Refusals.{future_unknown, lacks_memory}
+use Rattle.mea_sem.proofs.Standing.{changes_twice}
+use Rattle.mea_sem.proofs.StandingFutures.{semaphore_living, its_belongs, future_plain, tally_fits, may_poll, forgotten_done, kept_done, refused_done, future_thing}
+use Rattle.mea_sem.proofs.StandingWaits.{queued_done, waited_done, kept_as_found, seen_as_found}
+use Rattle.mea_sem.proofs.Endings.{living_in, beside}
 use Rattle.mea_sem.proofs.hall.SemHall.poll.Goals as goal
-use Rattle.mea_sem.proofs.hall.SemHall.poll.Goals.{In-Some-get}
+use Rattle.mea_sem.proofs.hall.SemHall.poll.Goals.{In-Some-get_mut}
 
 -- the future and its semaphore, as they were found
-met : (c : In-Some-get) → MeetsFuture c.self.inside c.args.self.now c.args.number c.args.f c.in-Some.future.now c.in-Some-get.entry.now
+met : (c : In-Some-get_mut) → MeetsFuture c.self.inside c.args.self.now c.args.number c.args.f c.in-Some.future.now c.in-Some-get_mut.entry.now
 met c = record {
   meets = record { seen = c.self.view_is; kept = c.self.invariant; least = c.requires; low = omega arith };
-  is = sym c.get.ensures.value ∙ ap option_copied c.in-Some.is;
-  there = sym c.get-2.ensures.value ∙ ap option_copied c.in-Some-get.is;
+  is = sym c.get_mut.ensures.value ∙ ap option_copied_mut c.in-Some.is;
+  there = living_in c.self.inside _ _ (sym c.get_mut-2.ensures.value ∙ ap option_copied_mut c.in-Some-get_mut.is);
 }
 
+pub invariant_of-self : goal.invariant_of-self
+invariant_of-self c = kept_as_futures c.self.inside c.self.invariant (search rules)
+
 pub returns-in_default-clause-refused : goal.returns-in_default-clause-refused
-returns-in_default-clause-refused c = inl (future_unknown c.self.inside c.self.view_is c.args.f (sym c.get.ensures.value ∙ ap option_copied c.in_default.is))
+returns-in_default-clause-refused c = inl (future_unknown c.self.inside c.self.view_is c.args.f (sym c.get_mut.ensures.value ∙ ap option_copied_mut c.in_default.is))
 
 pub unreachable-requires : goal.unreachable-requires
 unreachable-requires c =
-    semaphore_found c.self.inside c.args.f c.self.invariant (sym c.get.ensures.value ∙ ap option_copied c.in-Some.is)
-    (sym c.get-2.ensures.value ∙ ap option_copied c.in_default-get.is)
+    semaphore_living c.self.inside c.args.f c.self.invariant (sym c.get_mut.ensures.value ∙ ap option_copied_mut c.in-Some.is)
+    (sym c.get_mut-2.ensures.value ∙ ap option_copied_mut c.in_default-get_mut.is)
 
-pub is_ready-ready-requires : goal.is_ready-ready-requires
-is_ready-ready-requires c =
-    let home = its_belongs (met (goal.at.is_ready-ready-requires c).In-Some-get) in
-    record { belongs = home.0; is_open = home.1 }
+pub is_ready-requires-clause-belongs : goal.is_ready-requires-clause-belongs
+is_ready-requires-clause-belongs c = (its_belongs (met c)).0
 
-pub finish_forgetting-requires-clause-ready : goal.finish_forgetting-requires-clause-ready
-finish_forgetting-requires-clause-ready c =
-    replies_ready (met (goal.at.finish_forgetting-requires-clause-ready c).In-Some-get) c.args.waker (c.is_ready-ready.ensures.ready c.if-ready.true)
+pub is_ready-requires-clause-is_open : goal.is_ready-requires-clause-is_open
+is_ready-requires-clause-is_open c = (its_belongs (met c)).1
 
-pub finish_forgetting-requires-clause-forgets : goal.finish_forgetting-requires-clause-forgets
-finish_forgetting-requires-clause-forgets c = forgets_as (met (goal.at.finish_forgetting-requires-clause-forgets c).In-Some-get) true c.if-forgets.true
+-- ---- it is ready, and forgets what it takes
+pub finish_forgetting-requires-clause-plain : goal.finish_forgetting-requires-clause-plain
+finish_forgetting-requires-clause-plain c = future_plain (met (goal.at.finish_forgetting-requires-clause-plain c).In-Some-get_mut)
 
-pub finish-requires-clause-ready : goal.finish-requires-clause-ready
-finish-requires-clause-ready c =
-    replies_ready (met (goal.at.finish-requires-clause-ready c).In-Some-get) c.args.waker
-    (c.is_ready-ready.ensures.ready c.if-ready.true)
+pub finish_forgetting-requires-clause-thing : goal.finish_forgetting-requires-clause-thing
+finish_forgetting-requires-clause-thing c = future_thing (met (goal.at.finish_forgetting-requires-clause-thing c).In-Some-get_mut)
 
-pub finish-requires-clause-keeps : goal.finish-requires-clause-keeps
-finish-requires-clause-keeps c = forgets_as (met (goal.at.finish-requires-clause-keeps c).In-Some-get) false c.if-forgets.false
+pub finish_forgetting-requires-clause-tally : goal.finish_forgetting-requires-clause-tally
+finish_forgetting-requires-clause-tally c =
+    tally_fits (met (goal.at.finish_forgetting-requires-clause-tally c).In-Some-get_mut) (c.is_ready.ensures.ready c.if-is_ready.true)
 
-pub refuse-requires-clause-gone : goal.refuse-requires-clause-gone
-refuse-requires-clause-gone c =
-    replies_gone (met (goal.at.refuse-requires-clause-gone c).In-Some-get) c.args.waker
-    (c.is_ready-ready.ensures.refused c.if-ready.false (sym c.is_closed-closed.ensures.is ∙ c.if-closed.true))
+pub invariant_of-self-then-future : goal.invariant_of-self-then-future
+invariant_of-self-then-future c =
+    let x2 : FutureEntry = record c.in-Some.future.now { acquire = c.finish_forgetting.new.acquire } in
+    (forgotten_done (met (goal.at.invariant_of-self-then-future c).In-Some-get_mut) c.args.waker (c.is_ready.ensures.ready c.if-is_ready.true)
+    _ _ c.finish_forgetting.new.self
+    (changes_twice c.self.inside.futures.entries _ _ c.args.f (Some x2) None ((c.get_mut.follows.holds x2).3 (search rules)).0 c.remove-future.ensures.updates.0)
+    (beside c.self.inside _ _ _ ((c.get_mut-2.follows.holds c.finish_forgetting.new.self).3 (search rules)).0)
+    c.if-future.true c.finish_forgetting.ensures.is c.finish_forgetting.ensures.rises c.finish_forgetting.ensures.held).kept
 
-pub queue-requires-clause-pending : goal.queue-requires-clause-pending
-queue-requires-clause-pending c =
-    replies_pending (met (goal.at.queue-requires-clause-pending c).In-Some-get) c.args.waker
-    (c.is_ready-ready.ensures.waits c.if-ready.false (sym c.is_closed-closed.ensures.is ∙ c.if-closed.false))
+pub returns-then-future-clause-played : goal.returns-then-future-clause-played
+returns-then-future-clause-played c =
+    let x2 : FutureEntry = record c.in-Some.future.now { acquire = c.finish_forgetting.new.acquire } in
+    tidied c.tidy.ensures (forgotten_done (met (goal.at.returns-then-future-clause-played c).In-Some-get_mut) c.args.waker (c.is_ready.ensures.ready c.if-is_ready.true)
+    _ _ c.finish_forgetting.new.self
+    (changes_twice c.self.inside.futures.entries _ _ c.args.f (Some x2) None ((c.get_mut.follows.holds x2).3 (search rules)).0 c.remove-future.ensures.updates.0)
+    (beside c.self.inside _ _ _ ((c.get_mut-2.follows.holds c.finish_forgetting.new.self).3 (search rules)).0)
+    c.if-future.true c.finish_forgetting.ensures.is c.finish_forgetting.ensures.rises c.finish_forgetting.ensures.held).yields
 
-pub queue-requires-clause-new : goal.queue-requires-clause-new
-queue-requires-clause-new c =
-    let new = c.is_new-new.ensures.new c.if-new.true in
-    is_new_stage (met (goal.at.queue-requires-clause-new c).In-Some-get) new.0 new.1
+pub returns-then-future-clause-allowed : goal.returns-then-future-clause-allowed
+returns-then-future-clause-allowed c = may_poll (met (goal.at.returns-then-future-clause-allowed c).In-Some-get_mut) c.args.waker
 
-pub wait_on-requires-clause-waits : goal.wait_on-requires-clause-waits
-wait_on-requires-clause-waits c =
-    is_waiting_stage (met (goal.at.wait_on-requires-clause-waits c).In-Some-get) (c.is_new-new.ensures.polled c.if-new.false)
-    (c.is_ready-ready.ensures.waits c.if-ready.false (sym c.is_closed-closed.ensures.is ∙ c.if-closed.false))
+-- ---- it is ready, and becomes a permit
+pub invariant_of-self-in_err-insert : goal.invariant_of-self-in_err-insert
+invariant_of-self-in_err-insert c = kept_as_found (met (goal.at.invariant_of-self-in_err-insert c).In-Some-get_mut) _ _ _ c.in-Some-get_mut.entry.now c.in-Some.future.now refl refl
+    c.in_err-insert.ensures.err ((c.get_mut.follows.holds c.in-Some.future.now).3 (search rules)).0
+    (beside c.self.inside _ _ _ ((c.get_mut-2.follows.holds c.in-Some-get_mut.entry.now).3 (search rules)).0) _ c.self.invariant.room
 
-pub finish_forgetting-requires-clause-allowed : goal.finish_forgetting-requires-clause-allowed
-finish_forgetting-requires-clause-allowed c = future_known c.self.inside c.self.view_is c.args.f c.in-Some.future.now (sym c.get.ensures.value ∙ ap option_copied c.in-Some.is)
+pub returns-in_err-insert-clause-refused : goal.returns-in_err-insert-clause-refused
+returns-in_err-insert-clause-refused c = lacks_memory c.from_residual.result _ c.from_residual.ensures.1
+    (may_poll (met (goal.at.returns-in_err-insert-clause-refused c).In-Some-get_mut) c.args.waker)
 
-pub finish-requires-clause-allowed : goal.finish-requires-clause-allowed
-finish-requires-clause-allowed c = future_known c.self.inside c.self.view_is c.args.f c.in-Some.future.now (sym c.get.ensures.value ∙ ap option_copied c.in-Some.is)
+pub returns-in_err-insert-clause-err : goal.returns-in_err-insert-clause-err
+returns-in_err-insert-clause-err c = on_err c.from_residual.result _ (
+    seen_as_found (met (goal.at.returns-in_err-insert-clause-err c).In-Some-get_mut) _ _ _ c.in-Some-get_mut.entry.now c.in-Some.future.now refl refl
+    c.in_err-insert.ensures.err ((c.get_mut.follows.holds c.in-Some.future.now).3 (search rules)).0
+    (beside c.self.inside _ _ _ ((c.get_mut-2.follows.holds c.in-Some-get_mut.entry.now).3 (search rules)).0) _ refl)
 
-pub refuse-requires-clause-allowed : goal.refuse-requires-clause-allowed
-refuse-requires-clause-allowed c = future_known c.self.inside c.self.view_is c.args.f c.in-Some.future.now (sym c.get.ensures.value ∙ ap option_copied c.in-Some.is)
+pub invariant_of-self-then-is_ready : goal.invariant_of-self-then-is_ready
+invariant_of-self-then-is_ready c =
+    let x2 : FutureEntry = record c.in-Some.future.now { acquire = c.finish.new.acquire } in
+    (kept_done (met (goal.at.invariant_of-self-then-is_ready c).In-Some-get_mut) c.args.waker (c.is_ready.ensures.ready c.if-is_ready.true)
+    _ _ c.finish.new.self
+    (changes_twice c.self.inside.futures.entries _ _ c.args.f (Some x2) None ((c.get_mut.follows.holds x2).3 (search rules)).0 c.remove-future-then-is_ready.ensures.updates.0)
+    (beside c.self.inside _ _ _ ((c.get_mut-2.follows.holds c.finish.new.self).3 (search rules)).0)
+    c.if-future.false _ c.permit.result c.in_ok-insert.ensures.updates.0 c.permit.ensures c.finish.ensures.is c.finish.ensures.held).kept
 
-pub queue-requires-clause-allowed : goal.queue-requires-clause-allowed
-queue-requires-clause-allowed c = future_known c.self.inside c.self.view_is c.args.f c.in-Some.future.now (sym c.get.ensures.value ∙ ap option_copied c.in-Some.is)
+pub returns-then-is_ready-clause-played : goal.returns-then-is_ready-clause-played
+returns-then-is_ready-clause-played c =
+    let x2 : FutureEntry = record c.in-Some.future.now { acquire = c.finish.new.acquire } in
+    (kept_done (met (goal.at.returns-then-is_ready-clause-played c).In-Some-get_mut) c.args.waker (c.is_ready.ensures.ready c.if-is_ready.true)
+    _ _ c.finish.new.self
+    (changes_twice c.self.inside.futures.entries _ _ c.args.f (Some x2) None ((c.get_mut.follows.holds x2).3 (search rules)).0 c.remove-future-then-is_ready.ensures.updates.0)
+    (beside c.self.inside _ _ _ ((c.get_mut-2.follows.holds c.finish.new.self).3 (search rules)).0)
+    c.if-future.false _ c.permit.result c.in_ok-insert.ensures.updates.0 c.permit.ensures c.finish.ensures.is c.finish.ensures.held).yields
 
-pub wait_on-requires-clause-allowed : goal.wait_on-requires-clause-allowed
-wait_on-requires-clause-allowed c = future_known c.self.inside c.self.view_is c.args.f c.in-Some.future.now (sym c.get.ensures.value ∙ ap option_copied c.in-Some.is)
+pub returns-then-is_ready-clause-allowed : goal.returns-then-is_ready-clause-allowed
+returns-then-is_ready-clause-allowed c = may_poll (met (goal.at.returns-then-is_ready-clause-allowed c).In-Some-get_mut) c.args.waker
 
-pub returns-then-forgets-clause-allowed : goal.returns-then-forgets-clause-allowed
-returns-then-forgets-clause-allowed c = future_known c.self.inside c.self.view_is c.args.f c.in-Some.future.now (sym c.get.ensures.value ∙ ap option_copied c.in-Some.is)
+-- ---- it is refused
+pub refuse-requires-clause-plain : goal.refuse-requires-clause-plain
+refuse-requires-clause-plain c = future_plain (met (goal.at.refuse-requires-clause-plain c).In-Some-get_mut)
 
-pub returns-else-forgets-clause-allowed : goal.returns-else-forgets-clause-allowed
-returns-else-forgets-clause-allowed c = on_ok c.finish.result _ (future_known c.self.inside c.self.view_is c.args.f c.in-Some.future.now (sym c.get.ensures.value ∙ ap option_copied c.in-Some.is))
+pub refuse-requires-clause-thing : goal.refuse-requires-clause-thing
+refuse-requires-clause-thing c = future_thing (met (goal.at.refuse-requires-clause-thing c).In-Some-get_mut)
 
-pub returns-then-closed-clause-allowed : goal.returns-then-closed-clause-allowed
-returns-then-closed-clause-allowed c = future_known c.self.inside c.self.view_is c.args.f c.in-Some.future.now (sym c.get.ensures.value ∙ ap option_copied c.in-Some.is)
+pub invariant_of-self-then-is_closed : goal.invariant_of-self-then-is_closed
+invariant_of-self-then-is_closed c =
+    let x2 : FutureEntry = record c.in-Some.future.now { acquire = c.refuse.new.acquire } in
+    (refused_done (met (goal.at.invariant_of-self-then-is_closed c).In-Some-get_mut) c.args.waker
+    (c.is_ready.ensures.refused c.if-is_ready.false (sym c.is_closed.ensures.is ∙ c.if-is_closed.true)) _ _ c.refuse.new.self
+    (changes_twice c.self.inside.futures.entries _ _ c.args.f (Some x2) None ((c.get_mut.follows.holds x2).3 (search rules)).0 c.remove-future-then-is_closed.ensures.updates.0)
+    (beside c.self.inside _ _ _ ((c.get_mut-2.follows.holds c.refuse.new.self).3 (search rules)).0) c.refuse.ensures.is).kept
 
-pub returns-then-new-clause-allowed : goal.returns-then-new-clause-allowed
-returns-then-new-clause-allowed c = on_ok c.queue.result _ (future_known c.self.inside c.self.view_is c.args.f c.in-Some.future.now (sym c.get.ensures.value ∙ ap option_copied c.in-Some.is))
+pub returns-then-is_closed-clause-played : goal.returns-then-is_closed-clause-played
+returns-then-is_closed-clause-played c =
+    let x2 : FutureEntry = record c.in-Some.future.now { acquire = c.refuse.new.acquire } in
+    tidied c.tidy-then-is_closed.ensures (refused_done (met (goal.at.returns-then-is_closed-clause-played c).In-Some-get_mut) c.args.waker
+    (c.is_ready.ensures.refused c.if-is_ready.false (sym c.is_closed.ensures.is ∙ c.if-is_closed.true)) _ _ c.refuse.new.self
+    (changes_twice c.self.inside.futures.entries _ _ c.args.f (Some x2) None ((c.get_mut.follows.holds x2).3 (search rules)).0 c.remove-future-then-is_closed.ensures.updates.0)
+    (beside c.self.inside _ _ _ ((c.get_mut-2.follows.holds c.refuse.new.self).3 (search rules)).0) c.refuse.ensures.is).yields
+
+pub returns-then-is_closed-clause-allowed : goal.returns-then-is_closed-clause-allowed
+returns-then-is_closed-clause-allowed c = may_poll (met (goal.at.returns-then-is_closed-clause-allowed c).In-Some-get_mut) c.args.waker
+
+-- ---- it waits from now on
+pub invariant_of-self-in_err-registered : goal.invariant_of-self-in_err-registered
+invariant_of-self-in_err-registered c = kept_as_found (met (goal.at.invariant_of-self-in_err-registered c).In-Some-get_mut) _ _ _ c.in-Some-get_mut.entry.now c.in-Some.future.now refl refl
+    refl ((c.get_mut.follows.holds c.in-Some.future.now).3 (search rules)).0
+    (beside c.self.inside _ _ _ ((c.get_mut-2.follows.holds c.in-Some-get_mut.entry.now).3 (search rules)).0) _ (c.room_for_one_more.ensures.room c.self.invariant.room)
+
+pub returns-in_err-registered-clause-refused : goal.returns-in_err-registered-clause-refused
+returns-in_err-registered-clause-refused c = lacks_memory c.from_residual-in_err-registered.result _ c.from_residual-in_err-registered.ensures.1
+    (may_poll (met (goal.at.returns-in_err-registered-clause-refused c).In-Some-get_mut) c.args.waker)
+
+pub returns-in_err-registered-clause-err : goal.returns-in_err-registered-clause-err
+returns-in_err-registered-clause-err c = on_err c.from_residual-in_err-registered.result _ (
+    seen_as_found (met (goal.at.returns-in_err-registered-clause-err c).In-Some-get_mut) _ _ _ c.in-Some-get_mut.entry.now c.in-Some.future.now refl refl
+    refl ((c.get_mut.follows.holds c.in-Some.future.now).3 (search rules)).0
+    (beside c.self.inside _ _ _ ((c.get_mut-2.follows.holds c.in-Some-get_mut.entry.now).3 (search rules)).0) _ c.room_for_one_more.ensures.same)
+
+pub invariant_of-self-in_err-queue : goal.invariant_of-self-in_err-queue
+invariant_of-self-in_err-queue c =
+    let x2 : FutureEntry = record c.in-Some.future.now { acquire = c.queue.new.acquire } in
+    kept_as_found (met (goal.at.invariant_of-self-in_err-queue c).In-Some-get_mut) _ _ _ c.queue.new.self x2 c.in_err-queue.ensures.err.0
+    (λ j. record c.in-Some.future.now { acquire = c.in_err-queue.ensures.err.1 j }) refl ((c.get_mut.follows.holds x2).3 (search rules)).0
+    (beside c.self.inside _ _ _ ((c.get_mut-2.follows.holds c.queue.new.self).3 (search rules)).0) _ (c.room_for_one_more.ensures.room c.self.invariant.room)
+
+pub returns-in_err-queue-clause-refused : goal.returns-in_err-queue-clause-refused
+returns-in_err-queue-clause-refused c = lacks_memory c.from_residual-in_err-queue.result _ c.from_residual-in_err-queue.ensures.1
+    (may_poll (met (goal.at.returns-in_err-queue-clause-refused c).In-Some-get_mut) c.args.waker)
+
+pub returns-in_err-queue-clause-err : goal.returns-in_err-queue-clause-err
+returns-in_err-queue-clause-err c = on_err c.from_residual-in_err-queue.result _ (
+    let x2 : FutureEntry = record c.in-Some.future.now { acquire = c.queue.new.acquire } in
+    seen_as_found (met (goal.at.returns-in_err-queue-clause-err c).In-Some-get_mut) _ _ _ c.queue.new.self x2 c.in_err-queue.ensures.err.0
+    (λ j. record c.in-Some.future.now { acquire = c.in_err-queue.ensures.err.1 j }) refl ((c.get_mut.follows.holds x2).3 (search rules)).0
+    (beside c.self.inside _ _ _ ((c.get_mut-2.follows.holds c.queue.new.self).3 (search rules)).0) _ c.room_for_one_more.ensures.same)
+
+pub invariant_of-self-then-is_new : goal.invariant_of-self-then-is_new
+invariant_of-self-then-is_new c =
+    let x2 : FutureEntry = record c.in-Some.future.now { acquire = c.queue.new.acquire } in
+    let number = c.in_ok-queue.ensures.queued in
+    (queued_done (met (goal.at.invariant_of-self-then-is_new c).In-Some-get_mut) c.args.waker number.0 c.in_ok-registered.registered c.room_for_one_more.new.outbox
+    _ _ c.queue.new.self x2 (c.is_new.ensures.new c.if-is_new.true)
+    (c.is_ready.ensures.waits c.if-is_ready.false (sym c.is_closed.ensures.is ∙ c.if-is_closed.false))
+    c.in_ok-registered.ensures.ok.0 c.room_for_one_more.ensures.same c.in_ok-registered.ensures.ok.1
+    (λ j. record c.in-Some.future.now { acquire = number.2 j }) ((c.get_mut.follows.holds x2).3 (search rules)).0
+    (beside c.self.inside _ _ _ ((c.get_mut-2.follows.holds c.queue.new.self).3 (search rules)).0) number.1 c.in_ok-queue.ensures.rest c.in_ok-queue.ensures.held).kept
+
+pub returns-then-is_new-clause-played : goal.returns-then-is_new-clause-played
+returns-then-is_new-clause-played c =
+    let x2 : FutureEntry = record c.in-Some.future.now { acquire = c.queue.new.acquire } in
+    let number = c.in_ok-queue.ensures.queued in
+    (queued_done (met (goal.at.returns-then-is_new-clause-played c).In-Some-get_mut) c.args.waker number.0 c.in_ok-registered.registered c.room_for_one_more.new.outbox
+    _ _ c.queue.new.self x2 (c.is_new.ensures.new c.if-is_new.true)
+    (c.is_ready.ensures.waits c.if-is_ready.false (sym c.is_closed.ensures.is ∙ c.if-is_closed.false))
+    c.in_ok-registered.ensures.ok.0 c.room_for_one_more.ensures.same c.in_ok-registered.ensures.ok.1
+    (λ j. record c.in-Some.future.now { acquire = number.2 j }) ((c.get_mut.follows.holds x2).3 (search rules)).0
+    (beside c.self.inside _ _ _ ((c.get_mut-2.follows.holds c.queue.new.self).3 (search rules)).0) number.1 c.in_ok-queue.ensures.rest c.in_ok-queue.ensures.held).yields
+
+pub returns-then-is_new-clause-allowed : goal.returns-then-is_new-clause-allowed
+returns-then-is_new-clause-allowed c = may_poll (met (goal.at.returns-then-is_new-clause-allowed c).In-Some-get_mut) c.args.waker
+
+-- ---- it waits on
+pub invariant_of-self-2 : goal.invariant_of-self-2
+invariant_of-self-2 c =
+    let x2 : FutureEntry = record c.in-Some.future.now { acquire = c.wait_on.new.acquire } in
+    (waited_done (met (goal.at.invariant_of-self-2 c).In-Some-get_mut) c.args.waker _ _ c.wait_on.new.self x2 (c.is_new.ensures.polled c.if-is_new.false)
+    (c.is_ready.ensures.waits c.if-is_ready.false (sym c.is_closed.ensures.is ∙ c.if-is_closed.false))
+    (λ j. record c.in-Some.future.now { acquire = c.wait_on.ensures.same j }) ((c.get_mut.follows.holds x2).3 (search rules)).0
+    (beside c.self.inside _ _ _ ((c.get_mut-2.follows.holds c.wait_on.new.self).3 (search rules)).0) c.wait_on.ensures.is c.wait_on.ensures.held).kept
+
+pub returns-clause-played : goal.returns-clause-played
+returns-clause-played c =
+    let x2 : FutureEntry = record c.in-Some.future.now { acquire = c.wait_on.new.acquire } in
+    (waited_done (met (goal.at.returns-clause-played c).In-Some-get_mut) c.args.waker _ _ c.wait_on.new.self x2 (c.is_new.ensures.polled c.if-is_new.false)
+    (c.is_ready.ensures.waits c.if-is_ready.false (sym c.is_closed.ensures.is ∙ c.if-is_closed.false))
+    (λ j. record c.in-Some.future.now { acquire = c.wait_on.ensures.same j }) ((c.get_mut.follows.holds x2).3 (search rules)).0
+    (beside c.self.inside _ _ _ ((c.get_mut-2.follows.holds c.wait_on.new.self).3 (search rules)).0) c.wait_on.ensures.is c.wait_on.ensures.held).yields
 
 pub returns-clause-allowed : goal.returns-clause-allowed
-returns-clause-allowed c = future_known c.self.inside c.self.view_is c.args.f c.in-Some.future.now (sym c.get.ensures.value ∙ ap option_copied c.in-Some.is)
-
-pub returns-else-forgets-clause-refused : goal.returns-else-forgets-clause-refused
-returns-else-forgets-clause-refused c = lacks_after c.finish.result _ c.finish.ensures.memory
-    (future_known c.self.inside c.self.view_is c.args.f c.in-Some.future.now (sym c.get.ensures.value ∙ ap option_copied c.in-Some.is))
-
-pub returns-then-new-clause-refused : goal.returns-then-new-clause-refused
-returns-then-new-clause-refused c = lacks_after c.queue.result _ c.queue.ensures.memory
-    (future_known c.self.inside c.self.view_is c.args.f c.in-Some.future.now (sym c.get.ensures.value ∙ ap option_copied c.in-Some.is))
+returns-clause-allowed c = may_poll (met (goal.at.returns-clause-allowed c).In-Some-get_mut) c.args.waker

@@ -1,0 +1,3 @@
+pub mod Seeing
+pub mod Linking
+pub mod Events

@@ -1,0 +1,3 @@
+pub mod BroadcastCores
+pub mod BroadcastParts
+pub mod BroadcastLends

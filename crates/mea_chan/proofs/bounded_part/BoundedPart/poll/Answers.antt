@@ -1,0 +1,39 @@
+use Rattle.mea_base.proofs.Maps.{get-there, is_there, value_in}
+use Rattle.mea_chan.proofs.BoundedEvents.{site, send_there, sends_sender, belongs_there, looked_both, its_quiet, its_room, some_send, ready_polled, pending_polled}
+use Rattle.mea_chan.proofs.bounded_part.BoundedPart.poll.Goals as goal
+
+pub at_mut-send-requires : goal.at_mut-send-requires
+at_mut-send-requires c = send_there (site c.self.inside.channels c.self.inside.senders c.self.inside.receivers c.self.inside.sends c.self.inside.next c.self.view_is c.self.invariant c.requires.next c.ranges.number.fits) c.args.f c.requires.there
+
+pub poll_send-requires-clause-belongs : goal.poll_send-requires-clause-belongs
+poll_send-requires-clause-belongs c = belongs_there (site c.self.inside.channels c.self.inside.senders c.self.inside.receivers c.self.inside.sends c.self.inside.next c.self.view_is c.self.invariant c.requires.next c.ranges.number.fits) c.args.f c.at_mut-send.result.now c.at_mut-core.result.now c.at_mut-send.ensures.value (rw c.channel.ensures at c.at_mut-core.ensures.value)
+
+pub poll_send-requires-clause-quiet : goal.poll_send-requires-clause-quiet
+poll_send-requires-clause-quiet c = its_quiet (site c.self.inside.channels c.self.inside.senders c.self.inside.receivers c.self.inside.sends c.self.inside.next c.self.view_is c.self.invariant c.requires.next c.ranges.number.fits) c.channel.result c.at_mut-core.result.now c.at_mut-core.ensures.value
+
+pub poll_send-requires-clause-room : goal.poll_send-requires-clause-room
+poll_send-requires-clause-room c = its_room (site c.self.inside.channels c.self.inside.senders c.self.inside.receivers c.self.inside.sends c.self.inside.next c.self.view_is c.self.invariant c.requires.next c.ranges.number.fits) c.channel.result c.at_mut-core.result.now c.at_mut-core.ensures.value c.args.ready.now c.requires.room
+
+pub invariant_of-self : goal.invariant_of-self
+invariant_of-self c = rw (c.in_default.ensures.err.0, c.in_default.ensures.err.1, c.channel.ensures) (looked_both (site c.self.inside.channels c.self.inside.senders c.self.inside.receivers c.self.inside.sends c.self.inside.next c.self.view_is c.self.invariant c.requires.next c.ranges.number.fits) c.args.f c.at_mut-send.result.now c.at_mut-core.result.now c.at_mut-send.ensures.value (rw c.channel.ensures at c.at_mut-core.ensures.value)).0
+
+pub returns-in_default-clause-err : goal.returns-in_default-clause-err
+returns-in_default-clause-err c = (rw (c.in_default.ensures.err.0, c.in_default.ensures.err.1, c.channel.ensures) (looked_both (site c.self.inside.channels c.self.inside.senders c.self.inside.receivers c.self.inside.sends c.self.inside.next c.self.view_is c.self.invariant c.requires.next c.ranges.number.fits) c.args.f c.at_mut-send.result.now c.at_mut-core.result.now c.at_mut-send.ensures.value (rw c.channel.ensures at c.at_mut-core.ensures.value)).1, c.in_default.ensures.err.2)
+
+pub invariant_of-self-in-Pending : goal.invariant_of-self-in-Pending
+invariant_of-self-in-Pending c = rw c.channel.ensures (pending_polled (site c.self.inside.channels c.self.inside.senders c.self.inside.receivers c.self.inside.sends c.self.inside.next c.self.view_is c.self.invariant c.requires.next c.ranges.number.fits) c.args.f c.at_mut-send.result.now (value_in _ (sends_sender (site c.self.inside.channels c.self.inside.senders c.self.inside.receivers c.self.inside.sends c.self.inside.next c.self.view_is c.self.invariant c.requires.next c.ranges.number.fits) c.args.f c.at_mut-send.result.now c.at_mut-send.ensures.value)).0 c.at_mut-core.result.now c.at_mut-send.ensures.value (value_in _ (sends_sender (site c.self.inside.channels c.self.inside.senders c.self.inside.receivers c.self.inside.sends c.self.inside.next c.self.view_is c.self.invariant c.requires.next c.ranges.number.fits) c.args.f c.at_mut-send.result.now c.at_mut-send.ensures.value)).1 (rw c.channel.ensures at c.at_mut-core.ensures.value) c.poll_send.ensures.channel c.args.waker c.poll_send.new.core c.poll_send.new.send c.args.ready.now c.poll_send.new.ready (rw c.in-Pending.is at c.in-Ok.ensures.polls)).0
+
+pub remove-requires : goal.remove-requires
+remove-requires c = is_there _ _ (get-there c.self.inside.sends c.args.f c.poll_send.new.send)
+
+pub overflow_sub-at_mut : goal.overflow_sub-at_mut
+overflow_sub-at_mut c = some_send (site c.self.inside.channels c.self.inside.senders c.self.inside.receivers c.self.inside.sends c.self.inside.next c.self.view_is c.self.invariant c.requires.next c.ranges.number.fits) c.args.f c.at_mut-send.result.now c.at_mut.result.now c.at_mut-core.result.now c.at_mut-send.ensures.value (rw c.sender-s.ensures at c.at_mut.ensures.value) (rw c.channel.ensures at c.at_mut-core.ensures.value) c.poll_send.ensures.channel
+
+pub invariant_of-self-in-Ready : goal.invariant_of-self-in-Ready
+invariant_of-self-in-Ready c = rw (c.channel.ensures, c.sender-s.ensures, c.remove.ensures.rest) (ready_polled (site c.self.inside.channels c.self.inside.senders c.self.inside.receivers c.self.inside.sends c.self.inside.next c.self.view_is c.self.invariant c.requires.next c.ranges.number.fits) c.args.f c.at_mut-send.result.now c.at_mut.result.now c.at_mut-core.result.now c.at_mut-send.ensures.value (rw c.sender-s.ensures at c.at_mut.ensures.value) (rw c.channel.ensures at c.at_mut-core.ensures.value) c.poll_send.ensures.channel c.args.waker c.poll_send.new.core c.poll_send.new.send c.args.ready.now c.poll_send.new.ready c.in-Ready.sent _ c.ready_told.ensures (rw c.in-Ready.is at c.in-Ok.ensures.polls)).0
+
+pub returns-in-Pending-clause-ok : goal.returns-in-Pending-clause-ok
+returns-in-Pending-clause-ok c = rw c.channel.ensures (pending_polled (site c.self.inside.channels c.self.inside.senders c.self.inside.receivers c.self.inside.sends c.self.inside.next c.self.view_is c.self.invariant c.requires.next c.ranges.number.fits) c.args.f c.at_mut-send.result.now (value_in _ (sends_sender (site c.self.inside.channels c.self.inside.senders c.self.inside.receivers c.self.inside.sends c.self.inside.next c.self.view_is c.self.invariant c.requires.next c.ranges.number.fits) c.args.f c.at_mut-send.result.now c.at_mut-send.ensures.value)).0 c.at_mut-core.result.now c.at_mut-send.ensures.value (value_in _ (sends_sender (site c.self.inside.channels c.self.inside.senders c.self.inside.receivers c.self.inside.sends c.self.inside.next c.self.view_is c.self.invariant c.requires.next c.ranges.number.fits) c.args.f c.at_mut-send.result.now c.at_mut-send.ensures.value)).1 (rw c.channel.ensures at c.at_mut-core.ensures.value) c.poll_send.ensures.channel c.args.waker c.poll_send.new.core c.poll_send.new.send c.args.ready.now c.poll_send.new.ready (rw c.in-Pending.is at c.in-Ok.ensures.polls)).1
+
+pub returns-in-Ready-clause-ok : goal.returns-in-Ready-clause-ok
+returns-in-Ready-clause-ok c = rw (c.channel.ensures, c.sender-s.ensures, c.remove.ensures.rest) (ready_polled (site c.self.inside.channels c.self.inside.senders c.self.inside.receivers c.self.inside.sends c.self.inside.next c.self.view_is c.self.invariant c.requires.next c.ranges.number.fits) c.args.f c.at_mut-send.result.now c.at_mut.result.now c.at_mut-core.result.now c.at_mut-send.ensures.value (rw c.sender-s.ensures at c.at_mut.ensures.value) (rw c.channel.ensures at c.at_mut-core.ensures.value) c.poll_send.ensures.channel c.args.waker c.poll_send.new.core c.poll_send.new.send c.args.ready.now c.poll_send.new.ready c.in-Ready.sent _ c.ready_told.ensures (rw c.in-Ready.is at c.in-Ok.ensures.polls)).1

@@ -1,0 +1,4 @@
+pub mod History
+pub mod Things
+pub mod Kept
+pub mod Closing

@@ -1,0 +1,15 @@
+use mea_base::{Answer, Stop};
+
+/// What is told of an event that was played: the number of its entry in the history, and its answer.
+#[derive(Clone, Copy, Debug, Drop, PartialEq, Eq)]
+pub struct Receipt {
+    pub number: u64,
+    pub answer: Answer,
+}
+
+/// Why an event was not played, and how many entries there were then. The history is as before.
+#[derive(Clone, Copy, Debug, Drop, PartialEq, Eq)]
+pub struct Refused {
+    pub stop: Stop,
+    pub at: u64,
+}

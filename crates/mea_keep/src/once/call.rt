@@ -1,0 +1,62 @@
+mod steps;
+mod waits;
+
+use crate::claim::Nothing;
+use crate::computing::Computing;
+use crate::unfailing::Unfailing;
+use mea_base::Wake;
+use mea_once_core::{Init, Never, OnceCore};
+use mea_wait::hand_out;
+use std::alloc::Global;
+use std::sync::{Mutex, Wait};
+pub use waits::{CallClaim, CallClaiming, OnceClaim, OnceClaiming, OnceWait};
+
+/// A call that runs once, and that others wait for. It ports `mea::once::Once`.
+#[derive(Drop)]
+pub struct Once<W> {
+    core: Mutex<OnceCore<Option<W>>>,
+}
+
+/// The future of `Once::call_once`.
+pub type OnceCall<'a, I, W> = Unfailing<
+    Computing<OnceClaiming<'a, W>, OnceClaim<'a, W>, Nothing, I, (), Never>,
+>;
+
+impl<W: Wake> Once<W> {
+    ghost use Rattle.std.specs.Prelude.{◌≡◌};
+
+    /// One that nobody has called. It takes no memory.
+    pub fn new(alloc: Global) -> Self {
+        Once {
+            core: Mutex::new(OnceCore::new(alloc)),
+        }
+    }
+
+    /// Whether a call had completed a moment ago. It takes no memory.
+    pub fn is_completed<R: Wait>(&self, rt: &R) -> bool {
+        self.core.lock(rt).is_completed()
+    }
+
+    /// A wait until a call has completed, which runs the initialiser where no other does. It takes no memory before its
+    /// first poll.
+    pub fn call_once<I: Init<(), Never, W>>(&self, init: I) -> OnceCall<'_, I, W>
+        ensures { result.wait.init ≡ init }
+    {
+        Unfailing::of(Computing::of(CallClaiming::of(self), init))
+    }
+
+    /// A wait until a call has completed, or for the turn to make it. It takes no memory before its first poll.
+    pub fn claim(&self) -> OnceClaiming<'_, W> {
+        CallClaiming::of(self)
+    }
+
+    /// A wait until a call has completed. It takes no memory before its first poll.
+    pub fn wait(&self) -> OnceWait<'_, W> {
+        OnceWait::of(self)
+    }
+
+    // Wakes as many as the step before has made ready.
+    fn wake<R: Wait>(&self, rt: &R, made: usize) {
+        hand_out(made, || self.core.lock(rt).next_wake()?);
+    }
+}

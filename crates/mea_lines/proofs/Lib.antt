@@ -1,0 +1,17 @@
+pub mod Digits
+pub mod Puts
+pub mod Values
+pub mod Numbers
+pub mod Cuts
+pub mod Marks
+pub mod Readings
+pub mod SemSpellings
+pub mod MeetSpellings
+pub mod LockSpellings
+pub mod ChanSpellings
+pub mod ShareSpellings
+pub mod OnceSpellings
+pub mod Spellings
+pub mod Lengths
+pub mod ToldReplies
+pub mod Commands

@@ -1,0 +1,33 @@
+use Rattle.std.proofs.Common.{rules, arith, ◌≡◌, codes}
+use Rattle.std.proofs.lemmas.Slice.Eq.{text_from_reads}
+use Rattle.mea_lines.proofs.meet_words.barrier_event.Goals as goal
+
+pub returns-in_ok-count_of-in-98 : goal.returns-in_ok-count_of-in-98
+returns-in_ok-count_of-in-98 c =
+    let is : c.args.word.now ≡ codes "bar.new" = text_from_reads c.args.word.now (codes "bar.new") (omega arith)
+    (omega arith, (omega arith, (omega arith, (omega arith, (omega arith, (omega arith, (omega arith, tt))))))) in
+    rw is (search rules)
+
+pub returns-in_ok-number_of-in-98-2 : goal.returns-in_ok-number_of-in-98-2
+returns-in_ok-number_of-in-98-2 c =
+    let is : c.args.word.now ≡ codes "bar.wait" = text_from_reads c.args.word.now (codes "bar.wait") (omega arith)
+    (omega arith, (omega arith, (omega arith, (omega arith, (omega arith, (omega arith, (omega arith, (omega arith, tt)))))))) in
+    rw is (search rules)
+
+pub returns-in_ok-future-in-98-3 : goal.returns-in_ok-future-in-98-3
+returns-in_ok-future-in-98-3 c =
+    let is : c.args.word.now ≡ codes "bar.poll" = text_from_reads c.args.word.now (codes "bar.poll") (omega arith)
+    (omega arith, (omega arith, (omega arith, (omega arith, (omega arith, (omega arith, (omega arith, (omega arith, tt)))))))) in
+    rw is (search rules)
+
+pub returns-in_ok-number_of-in-98-4 : goal.returns-in_ok-number_of-in-98-4
+returns-in_ok-number_of-in-98-4 c =
+    let is : c.args.word.now ≡ codes "bar.end" = text_from_reads c.args.word.now (codes "bar.end") (omega arith)
+    (omega arith, (omega arith, (omega arith, (omega arith, (omega arith, (omega arith, (omega arith, tt))))))) in
+    rw is (search rules)
+
+pub returns-in_ok-number_of-in-98-5 : goal.returns-in_ok-number_of-in-98-5
+returns-in_ok-number_of-in-98-5 c =
+    let is : c.args.word.now ≡ codes "bar.drop" = text_from_reads c.args.word.now (codes "bar.drop") (omega arith)
+    (omega arith, (omega arith, (omega arith, (omega arith, (omega arith, (omega arith, (omega arith, (omega arith, tt)))))))) in
+    rw is (search rules)

@@ -1,0 +1,213 @@
+//! A broadcast channel whose slow receivers lose the oldest messages, and hear how many: `mea::broadcast::overflow`.
+ghost use Rattle.std.specs.Prelude.{◌≡◌, ◌-◌, ◌<◌, length, IsErr, OnOk, IfErr, ◌↔◌};
+ghost use Rattle.mea_broadcast_core.specs.Broadcast.{after_send, without_sender};
+
+use mea_base::{NoMemory, Overflow, Poll, Wake};
+pub use mea_broadcast_core::{
+    BroadcastFault, BroadcastRecv as RecvError, BroadcastTry as TryRecvError, SendRefused,
+};
+use mea_broadcast_core::{BroadcastCore, Cursor, RecvWait};
+use mea_wait::{End, HandleFault, Polled, Unpolled, Waits, hand_out};
+use std::alloc::Global;
+use std::sync::{Arc, Mutex, Wait};
+
+// What the ends of a channel share.
+#[derive(Drop)]
+struct Shared<T, W> {
+    core: Mutex<BroadcastCore<T, W>>,
+}
+
+/// An end that sends. It must be ended. It ports `mea::broadcast::overflow::Sender`.
+pub struct Sender<T, W> {
+    shared: Arc<Shared<T, W>>,
+}
+
+/// An end that receives all that is sent while it keeps up. It ports `mea::broadcast::overflow::Receiver`.
+#[derive(Drop)]
+pub struct Receiver<T, W> {
+    shared: Arc<Shared<T, W>>,
+    cursor: Cursor,
+}
+
+/// The future of `Receiver::recv`. It must be polled to its end, or ended; ended, its waker stays until the next
+/// message.
+pub struct Recv<'a, T, W> {
+    of: &'a Shared<T, W>,
+    cursor: &'a mut Cursor,
+    place: RecvWait,
+}
+
+/// A channel that keeps the last messages: as many as the least power of two that is at least `capacity`.
+pub fn channel<T: Clone + Drop, W: Wake>(
+    alloc: Global,
+    capacity: usize,
+) -> Result<(Sender<T, W>, Receiver<T, W>), BroadcastFault>
+    requires { 0 < capacity }
+{
+    let core = BroadcastCore::new(alloc, capacity)?;
+    let cursor = core.subscribe();
+    let Ok(shared) = Arc::new(
+        alloc,
+        Shared {
+            core: Mutex::new(core),
+        },
+    ) else {
+        return Err(BroadcastFault::NoMemory);
+    };
+    let Ok(other) = Arc::try_clone(&shared) else {
+        return Err(BroadcastFault::NoMemory);
+    };
+    let receiver = Receiver {
+        shared: other,
+        cursor,
+    };
+    Ok((Sender { shared }, receiver))
+}
+
+// Sends, in one step under the lock. It tells how many wakers that made ready.
+fn send<T: Clone + Drop, W: Drop>(
+    core: &mut BroadcastCore<T, W>,
+    message: T,
+) -> (Result<(), SendRefused<T>>, usize)
+    ensures refused { IsErr result.0 ↔ (core.old.tail ≡ u64.MAX) }
+    ensures ok { OnOk result.0 (core.new ≡ after_send core.old message) }
+    ensures err { IfErr result.0 (λ e. (e.0 ≡ message) × (core.new ≡ core.old)) }
+    ensures made { result.1 ≡ length core.new.wakes - length core.old.wakes }
+{
+    let before = core.wakes_ready();
+    let answer = core.send(message);
+    (answer, core.wakes_ready().saturating_sub(before))
+}
+
+// A sender ends, as above.
+fn end_sender<T: Clone + Drop, W: Drop>(core: &mut BroadcastCore<T, W>) -> usize
+    ensures allowed { 0 < core.old.senders → core.new ≡ without_sender core.old }
+    ensures made { result ≡ length core.new.wakes - length core.old.wakes }
+{
+    let before = core.wakes_ready();
+    core.end_sender_checked();
+    core.wakes_ready().saturating_sub(before)
+}
+
+// A further share.
+fn share<T: Drop>(shared: &Arc<T>) -> Result<Arc<T>, NoMemory> {
+    match Arc::try_clone(shared) {
+        Ok(shared) => Ok(shared),
+        Err(_) => Err(NoMemory),
+    }
+}
+
+impl<T: Clone + Drop, W: Wake> Shared<T, W> {
+    // Wakes as many as the step before has made ready.
+    fn wake<R: Wait>(&self, rt: &R, made: usize) {
+        hand_out(made, || self.core.lock(rt).next_wake());
+    }
+}
+
+impl<T: Clone + Drop, W: Wake> Sender<T, W> {
+    /// Sends a message to all receivers, and wakes those who wait for one. It is refused after 18446744073709551615
+    /// messages, and then it comes back. It takes no memory.
+    pub fn send<R: Wait>(&self, rt: &R, message: T) -> Result<(), SendRefused<T>> {
+        let (answer, made) = send(&mut *self.shared.core.lock(rt), message);
+        self.shared.wake(rt, made);
+        answer
+    }
+
+    /// A receiver of what is sent from now on. A further share may be refused.
+    pub fn subscribe<R: Wait>(&self, rt: &R) -> Result<Receiver<T, W>, NoMemory> {
+        let shared = share(&self.shared)?;
+        let cursor = shared.core.lock(rt).subscribe();
+        Ok(Receiver { shared, cursor })
+    }
+
+    /// A further sender. It is refused at the greatest number, and then nothing has changed.
+    pub fn clone_handle<R: Wait>(&self, rt: &R) -> Result<Self, HandleFault> {
+        let Ok(shared) = Arc::try_clone(&self.shared) else {
+            return Err(HandleFault::NoMemory);
+        };
+        let added = shared.core.lock(rt).add_sender_checked();
+        match added {
+            Ok(()) => Ok(Sender { shared }),
+            Err(Overflow) => Err(HandleFault::Overflow),
+        }
+    }
+}
+
+impl<T: Clone + Drop, W: Wake> Receiver<T, W> {
+    /// The next message, if there is one. Where messages were lost, it tells how many, and goes on at the oldest
+    /// that is kept. Where a clone finds no memory, nothing has changed.
+    pub fn try_recv<R: Wait>(&mut self, rt: &R) -> Result<T, TryRecvError> {
+        self.shared.core.lock(rt).try_recv_checked(&mut self.cursor)
+    }
+
+    /// A wait for the next message. It takes no memory before its first poll.
+    pub fn recv(&mut self) -> Recv<'_, T, W> {
+        Recv {
+            of: &*self.shared,
+            cursor: &mut self.cursor,
+            place: RecvWait::new(),
+        }
+    }
+
+    /// A receiver of what is sent from now on. A further share may be refused.
+    pub fn resubscribe<R: Wait>(&self, rt: &R) -> Result<Self, NoMemory> {
+        let shared = share(&self.shared)?;
+        let cursor = shared.core.lock(rt).subscribe();
+        Ok(Receiver { shared, cursor })
+    }
+
+    /// A receiver of what this one has yet to hear. A further share may be refused.
+    pub fn clone_handle<R: Wait>(&self, rt: &R) -> Result<Self, NoMemory> {
+        let shared = share(&self.shared)?;
+        let cursor = shared.core.lock(rt).copy_checked(&self.cursor);
+        Ok(Receiver { shared, cursor })
+    }
+}
+
+impl<T: Clone + Drop, W: Wake> End for Sender<T, W> {
+    fn end<R: Wait>(self, rt: &R) {
+        let Sender { shared } = self;
+        let made = end_sender(&mut *shared.core.lock(rt));
+        shared.wake(rt, made);
+    }
+}
+
+impl<T: Clone + Drop, W: Wake> End for Receiver<T, W> {
+    fn end<R: Wait>(self, _rt: &R) {
+        drop(self);
+    }
+}
+
+impl<'a, T: Clone + Drop, W: Wake> End for Recv<'a, T, W> {
+    fn end<R: Wait>(self, rt: &R) {
+        let Recv {
+            of,
+            cursor: _,
+            place,
+        } = self;
+        of.core.lock(rt).end_recv_checked(place);
+    }
+}
+
+impl<'a, T: Clone + Drop, W: Wake> Waits<W, Result<T, RecvError>> for Recv<'a, T, W> {
+    fn poll<R: Wait>(
+        self,
+        rt: &R,
+        waker: W,
+    ) -> Result<Polled<Self, Result<T, RecvError>>, Unpolled<Self, W>> {
+        let Recv {
+            of,
+            cursor,
+            mut place,
+        } = self;
+        let answer = of
+            .core
+            .lock(rt)
+            .poll_recv_checked(&mut *cursor, &mut place, waker);
+        match answer {
+            Ok(Poll::Ready(got)) => Ok(Polled::Ready(got)),
+            Ok(Poll::Pending) => Ok(Polled::Pending(Recv { of, cursor, place })),
+            Err((waker, NoMemory)) => Err(Unpolled::no_memory(Recv { of, cursor, place }, waker)),
+        }
+    }
+}

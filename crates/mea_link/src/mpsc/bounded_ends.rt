@@ -1,0 +1,276 @@
+ghost use Rattle.std.specs.Prelude.{◌≡◌, ◌-◌, ◌<◌, length, false};
+ghost use Rattle.mea_chan_core.specs.Bounded.{send_answer, after_send, recv_answer, after_recv, without_sender, without_receiver, PollsRecv, PollsSend, EndsSend};
+ghost use Rattle.mea_sem_core.specs.Calls.{Belongs};
+ghost use Rattle.mea_sem_core.specs.declared.acquire.Acquire.TheVariants.{New};
+
+use crate::mpsc::{RecvError, SendError, TryRecvError, TrySendError};
+use mea_base::{NoMemory, Overflow, Poll, Wake};
+use mea_chan_core::{BoundedCore, SendWait};
+use mea_wait::{End, HandleFault, Holds, Polled, Unpolled, Waits, hand_out};
+use std::alloc::Global;
+use std::marker::PhantomData;
+use std::sync::{Arc, Mutex, Wait};
+
+/// What the ends of a channel share.
+#[derive(Drop)]
+pub struct Shared<T, W> {
+    core: Mutex<BoundedCore<T, W>>,
+}
+
+/// An end that sends. It must be ended. It ports `mea::mpsc::BoundedSender`.
+pub struct BoundedSender<T, W> {
+    shared: Arc<Shared<T, W>>,
+}
+
+/// The end that receives. It must be ended. It ports `mea::mpsc::BoundedReceiver`.
+pub struct BoundedReceiver<T, W> {
+    shared: Arc<Shared<T, W>>,
+}
+
+/// A wait until a value is sent. It must be polled to its end, or ended; ended, its value is dropped where it was
+/// not sent.
+pub struct Sending<H, T, W> {
+    of: H,
+    send: SendWait<T>,
+    waker: PhantomData<W>,
+}
+
+/// The future of `BoundedSender::send`.
+pub type BoundedSend<'a, T, W> = Sending<&'a Shared<T, W>, T, W>;
+
+/// The future of `BoundedReceiver::recv`. It must be polled to its end, or ended; ended, it has received nothing,
+/// and its waker stays with the receiver.
+pub struct BoundedRecv<'a, T, W> {
+    of: &'a Shared<T, W>,
+}
+
+/// A channel that keeps at most `buffer` messages. It reserves their room at once.
+pub fn bounded<T: Drop, W: Wake>(
+    alloc: Global,
+    buffer: usize,
+) -> Result<(BoundedSender<T, W>, BoundedReceiver<T, W>), NoMemory>
+    requires { 0 < buffer }
+{
+    let core = Mutex::new(BoundedCore::new(alloc, buffer)?);
+    let Ok(shared) = Arc::new(alloc, Shared { core }) else {
+        return Err(NoMemory);
+    };
+    let Ok(other) = Arc::try_clone(&shared) else {
+        return Err(NoMemory);
+    };
+    Ok((BoundedSender { shared }, BoundedReceiver { shared: other }))
+}
+
+// Sends if there is a place, in one step under the lock. It tells how many wakers that made ready.
+fn try_send<T: Drop, W: Drop>(
+    core: &mut BoundedCore<T, W>,
+    value: T,
+) -> (Result<(), TrySendError<T>>, usize)
+    ensures answer { result.0 ≡ send_answer core.old value }
+    ensures after { core.new ≡ after_send core.old value }
+    ensures made { result.1 ≡ length core.new.wakes - length core.old.wakes }
+{
+    let before = core.wakes_ready();
+    let answer = core.try_send(value);
+    (answer, core.wakes_ready().saturating_sub(before))
+}
+
+// Takes the first message, as above.
+fn try_recv<T: Drop, W: Drop>(core: &mut BoundedCore<T, W>) -> (Result<T, TryRecvError>, usize)
+    ensures answer { result.0 ≡ recv_answer core.old }
+    ensures after { core.new ≡ after_recv core.old }
+    ensures made { result.1 ≡ length core.new.wakes - length core.old.wakes }
+{
+    let before = core.wakes_ready();
+    let answer = core.try_recv();
+    (answer, core.wakes_ready().saturating_sub(before))
+}
+
+// Polls a receive, as above.
+fn poll_recv<T: Drop, W: Drop>(
+    core: &mut BoundedCore<T, W>,
+    waker: W,
+) -> (Result<Poll<Result<T, RecvError>>, (W, NoMemory)>, usize)
+    ensures polls { PollsRecv core.old waker (recv_answer core.old) result.0 core.new }
+    ensures made { result.1 ≡ length core.new.wakes - length core.old.wakes }
+{
+    let before = core.wakes_ready();
+    let answer = core.poll_recv(waker);
+    (answer, core.wakes_ready().saturating_sub(before))
+}
+
+// Polls a send, as above.
+fn poll_send<T: Drop, W: Drop>(
+    core: &mut BoundedCore<T, W>,
+    send: &mut SendWait<T>,
+    waker: W,
+) -> (Result<Poll<Result<(), SendError<T>>>, (W, NoMemory)>, usize)
+    ensures allowed { Belongs core.old.waiting send.old.acquire → PollsSend core.old send.old.value send.old.acquire waker result.0 core.new send.new.value send.new.acquire }
+    ensures renewed { ¬ Belongs core.old.waiting send.old.acquire → PollsSend core.old send.old.value (New 1) waker result.0 core.new send.new.value send.new.acquire }
+    ensures made { result.1 ≡ length core.new.wakes - length core.old.wakes }
+{
+    let before = core.wakes_ready();
+    let answer = core.poll_send_checked(send, waker);
+    (answer, core.wakes_ready().saturating_sub(before))
+}
+
+// Ends a send, as above. Its value is dropped where it was not sent.
+fn end_send<T: Drop, W: Drop>(core: &mut BoundedCore<T, W>, send: SendWait<T>) -> usize
+    ensures allowed { Belongs core.old.waiting send.acquire → EndsSend core.old send.acquire core.new }
+    ensures made { result ≡ length core.new.wakes - length core.old.wakes }
+{
+    let before = core.wakes_ready();
+    drop(core.end_send_checked(send));
+    core.wakes_ready().saturating_sub(before)
+}
+
+// A sender ends, as above.
+fn end_sender<T: Drop, W: Drop>(core: &mut BoundedCore<T, W>) -> usize
+    ensures allowed { 0 < core.old.senders → core.new ≡ without_sender core.old }
+    ensures made { result ≡ length core.new.wakes - length core.old.wakes }
+{
+    let before = core.wakes_ready();
+    core.end_sender_checked();
+    core.wakes_ready().saturating_sub(before)
+}
+
+// The receiver ends, as above.
+fn end_receiver<T: Drop, W: Drop>(core: &mut BoundedCore<T, W>) -> usize
+    ensures allowed { core.old.ended ≡ false → core.new ≡ without_receiver core.old }
+    ensures made { result ≡ length core.new.wakes - length core.old.wakes }
+{
+    let before = core.wakes_ready();
+    core.end_receiver_checked();
+    core.wakes_ready().saturating_sub(before)
+}
+
+impl<T: Drop, W: Wake> Shared<T, W> {
+    // Wakes as many as the step before has made ready.
+    fn wake<R: Wait>(&self, rt: &R, made: usize) {
+        hand_out(made, || self.core.lock(rt).next_wake());
+    }
+
+    // Ends a send.
+    fn abandon<R: Wait>(&self, rt: &R, send: SendWait<T>) {
+        let made = {
+            let mut core = self.core.lock(rt);
+            end_send(&mut *core, send)
+        };
+        self.wake(rt, made);
+    }
+}
+
+impl<T: Drop, W: Wake> BoundedSender<T, W> {
+    /// A wait until the value is sent, behind those who wait. Where the receiver has ended the value comes back.
+    /// It takes no memory before its first poll.
+    pub fn send(&self, value: T) -> BoundedSend<'_, T, W> {
+        Sending {
+            of: &*self.shared,
+            send: SendWait::new(value),
+            waker: PhantomData,
+        }
+    }
+
+    /// Sends the value if there is a place, past those who wait; else it comes back. It takes no memory.
+    pub fn try_send<R: Wait>(&self, rt: &R, value: T) -> Result<(), TrySendError<T>> {
+        let (answer, made) = try_send(&mut *self.shared.core.lock(rt), value);
+        self.shared.wake(rt, made);
+        answer
+    }
+
+    /// A further sender. It is refused at the greatest number, and then nothing has changed.
+    pub fn clone_handle<R: Wait>(&self, rt: &R) -> Result<Self, HandleFault> {
+        let Ok(shared) = Arc::try_clone(&self.shared) else {
+            return Err(HandleFault::NoMemory);
+        };
+        let added = shared.core.lock(rt).add_sender_checked();
+        match added {
+            Ok(()) => Ok(BoundedSender { shared }),
+            Err(Overflow) => Err(HandleFault::Overflow),
+        }
+    }
+}
+
+impl<T: Drop, W: Wake> BoundedReceiver<T, W> {
+    /// Takes the first message, if there is one; the first that waits to send has its place then. It takes no
+    /// memory.
+    pub fn try_recv<R: Wait>(&mut self, rt: &R) -> Result<T, TryRecvError> {
+        let (answer, made) = try_recv(&mut *self.shared.core.lock(rt));
+        self.shared.wake(rt, made);
+        answer
+    }
+
+    /// A wait for the first message. It takes no memory before its first poll.
+    pub fn recv(&mut self) -> BoundedRecv<'_, T, W> {
+        BoundedRecv { of: &*self.shared }
+    }
+}
+
+impl<T: Drop, W: Wake> End for BoundedSender<T, W> {
+    fn end<R: Wait>(self, rt: &R) {
+        let BoundedSender { shared } = self;
+        let made = end_sender(&mut *shared.core.lock(rt));
+        shared.wake(rt, made);
+    }
+}
+
+impl<T: Drop, W: Wake> End for BoundedReceiver<T, W> {
+    fn end<R: Wait>(self, rt: &R) {
+        let BoundedReceiver { shared } = self;
+        let made = end_receiver(&mut *shared.core.lock(rt));
+        shared.wake(rt, made);
+    }
+}
+
+impl<T: Drop, W: Wake, H: Holds<Shared<T, W>>> End for Sending<H, T, W> {
+    fn end<R: Wait>(self, rt: &R) {
+        let Sending { of, send, waker: _ } = self;
+        of.held().abandon(rt, send);
+    }
+}
+
+impl<'a, T: Drop, W: Wake> End for BoundedRecv<'a, T, W> {
+    fn end<R: Wait>(self, _rt: &R) {
+        let BoundedRecv { of: _ } = self;
+    }
+}
+
+impl<T: Drop, W: Wake, H: Holds<Shared<T, W>>> Waits<W, Result<(), SendError<T>>>
+    for Sending<H, T, W> {
+    fn poll<R: Wait>(
+        self,
+        rt: &R,
+        waker: W,
+    ) -> Result<Polled<Self, Result<(), SendError<T>>>, Unpolled<Self, W>> {
+        let Sending {
+            of,
+            mut send,
+            waker: kind,
+        } = self;
+        let (answer, made) = poll_send(&mut *of.held().core.lock(rt), &mut send, waker);
+        of.held().wake(rt, made);
+        let waker = kind;
+        match answer {
+            Ok(Poll::Ready(sent)) => Ok(Polled::Ready(sent)),
+            Ok(Poll::Pending) => Ok(Polled::Pending(Sending { of, send, waker })),
+            Err((back, NoMemory)) => Err(Unpolled::no_memory(Sending { of, send, waker }, back)),
+        }
+    }
+}
+
+impl<'a, T: Drop, W: Wake> Waits<W, Result<T, RecvError>> for BoundedRecv<'a, T, W> {
+    fn poll<R: Wait>(
+        self,
+        rt: &R,
+        waker: W,
+    ) -> Result<Polled<Self, Result<T, RecvError>>, Unpolled<Self, W>> {
+        let BoundedRecv { of } = self;
+        let (answer, made) = poll_recv(&mut *of.core.lock(rt), waker);
+        of.wake(rt, made);
+        match answer {
+            Ok(Poll::Ready(got)) => Ok(Polled::Ready(got)),
+            Ok(Poll::Pending) => Ok(Polled::Pending(BoundedRecv { of })),
+            Err((waker, NoMemory)) => Err(Unpolled::no_memory(BoundedRecv { of }, waker)),
+        }
+    }
+}

@@ -1,0 +1,181 @@
+//! A shutdown that threads and tasks share: `mea::shutdown`.
+ghost use Rattle.std.specs.Prelude.{◌≡◌, ◌-◌, ◌<◌, length};
+ghost use Rattle.mea_meet_core.specs.Shutdown.{signalled, without_receiver};
+
+mod waits;
+
+use mea_base::{NoMemory, Overflow, Wake};
+use mea_meet_core::ShutdownCore;
+use mea_wait::{End, HandleFault, hand_out};
+use std::alloc::Global;
+use std::sync;
+use std::sync::{Arc, Mutex};
+pub use waits::{OwnedSignal, Signal, SignalWait, Wait};
+
+/// Who asks for the shutdown. It ports `mea::shutdown::ShutdownSend`.
+#[derive(Drop)]
+pub struct ShutdownSend<W> {
+    shared: Arc<Shared<W>>,
+}
+
+/// Who shuts down when asked, and is waited for. It must be ended. It ports `mea::shutdown::ShutdownRecv`.
+pub struct ShutdownRecv<W> {
+    shared: Arc<Shared<W>>,
+}
+
+/// Who hears of the shutdown, and is not waited for. It ports `mea::shutdown::ShutdownWatch`.
+#[derive(Drop)]
+pub struct ShutdownWatch<W> {
+    shared: Arc<Shared<W>>,
+}
+
+/// What the ends of a shutdown share.
+#[derive(Drop)]
+pub struct Shared<W> {
+    core: Mutex<ShutdownCore<W>>,
+}
+
+/// A shutdown: its sender and its first receiver.
+pub fn new_pair<W: Wake>(alloc: Global) -> Result<(ShutdownSend<W>, ShutdownRecv<W>), NoMemory> {
+    let core = Mutex::new(ShutdownCore::new(alloc));
+    let Ok(shared) = Arc::new(alloc, Shared { core }) else {
+        return Err(NoMemory);
+    };
+    let other = share(&shared)?;
+    Ok((ShutdownSend { shared }, ShutdownRecv { shared: other }))
+}
+
+// A further share.
+fn share<T: Drop>(shared: &Arc<T>) -> Result<Arc<T>, NoMemory> {
+    match Arc::try_clone(shared) {
+        Ok(shared) => Ok(shared),
+        Err(_) => Err(NoMemory),
+    }
+}
+
+// The signal is set, in one step under the lock. It tells how many wakers that made ready.
+fn signal<W: Drop>(core: &mut ShutdownCore<W>) -> usize
+    ensures is { core.new ≡ signalled core.old }
+    ensures made { result ≡ length core.new.wakes - length core.old.wakes }
+{
+    let before = core.wakes_ready();
+    core.signal();
+    core.wakes_ready().saturating_sub(before)
+}
+
+// A receiver ends, in one step under the lock. It tells how many wakers that made ready.
+fn end_receiver<W: Drop>(core: &mut ShutdownCore<W>) -> usize
+    ensures leaves { 0 < core.old.receivers.number → core.new ≡ without_receiver core.old }
+    ensures made { result ≡ length core.new.wakes - length core.old.wakes }
+{
+    let before = core.wakes_ready();
+    core.end_receiver_checked();
+    core.wakes_ready().saturating_sub(before)
+}
+
+impl<W: Wake> Shared<W> {
+    // Wakes as many as the step before has made ready.
+    fn wake<R: sync::Wait>(&self, rt: &R, made: usize) {
+        hand_out(made, || self.core.lock(rt).next_wake());
+    }
+}
+
+impl<W: Wake> ShutdownSend<W> {
+    /// Asks for the shutdown, and wakes all who wait for that. It takes no memory.
+    pub fn shutdown<R: sync::Wait>(&self, rt: &R) {
+        let made = signal(&mut *self.shared.core.lock(rt));
+        self.shared.wake(rt, made);
+    }
+
+    /// Waits until all receivers have ended, whether or not the shutdown was asked for. It takes no memory.
+    pub fn await_shutdown(self) -> Wait<W> {
+        Wait::of(self.shared)
+    }
+
+    /// A further sender. A further share may be refused.
+    pub fn clone_handle(&self) -> Result<Self, NoMemory> {
+        Ok(ShutdownSend {
+            shared: share(&self.shared)?,
+        })
+    }
+}
+
+impl<W: Wake> ShutdownRecv<W> {
+    /// A watch, which is not waited for. A further share may be refused.
+    pub fn watch(&self) -> Result<ShutdownWatch<W>, NoMemory> {
+        Ok(ShutdownWatch {
+            shared: share(&self.shared)?,
+        })
+    }
+
+    /// A further receiver. It is refused where there are 4294967295, and then nothing has changed.
+    pub fn clone_handle<R: sync::Wait>(&self, rt: &R) -> Result<Self, HandleFault> {
+        let Ok(shared) = Arc::try_clone(&self.shared) else {
+            return Err(HandleFault::NoMemory);
+        };
+        let added = shared.core.lock(rt).add_receiver_checked();
+        match added {
+            Ok(()) => Ok(ShutdownRecv { shared }),
+            Err(Overflow) => Err(HandleFault::Overflow),
+        }
+    }
+
+    /// Whether the shutdown was asked for. It takes no memory.
+    pub fn is_shutdown_now<R: sync::Wait>(&self, rt: &R) -> bool {
+        self.shared.core.lock(rt).is_shutdown_now()
+    }
+
+    /// Waits until the shutdown is asked for. It takes no memory.
+    pub fn is_shutdown(&self) -> Signal<'_, W> {
+        SignalWait::of(&*self.shared)
+    }
+
+    /// `is_shutdown`, for a wait that owns a share. A further share may be refused.
+    pub fn is_shutdown_owned(&self) -> Result<OwnedSignal<W>, NoMemory> {
+        Ok(SignalWait::of(share(&self.shared)?))
+    }
+}
+
+impl<W: Wake> ShutdownWatch<W> {
+    /// A further watch. A further share may be refused.
+    pub fn clone_handle(&self) -> Result<Self, NoMemory> {
+        Ok(ShutdownWatch {
+            shared: share(&self.shared)?,
+        })
+    }
+
+    /// Whether the shutdown was asked for. It takes no memory.
+    pub fn is_shutdown_now<R: sync::Wait>(&self, rt: &R) -> bool {
+        self.shared.core.lock(rt).is_shutdown_now()
+    }
+
+    /// Waits until the shutdown is asked for. It takes no memory.
+    pub fn is_shutdown(&self) -> Signal<'_, W> {
+        SignalWait::of(&*self.shared)
+    }
+
+    /// `is_shutdown`, for a wait that owns a share. A further share may be refused.
+    pub fn is_shutdown_owned(&self) -> Result<OwnedSignal<W>, NoMemory> {
+        Ok(SignalWait::of(share(&self.shared)?))
+    }
+}
+
+impl<W: Wake> End for ShutdownSend<W> {
+    fn end<R: sync::Wait>(self, _rt: &R) {
+        drop(self);
+    }
+}
+
+impl<W: Wake> End for ShutdownWatch<W> {
+    fn end<R: sync::Wait>(self, _rt: &R) {
+        drop(self);
+    }
+}
+
+impl<W: Wake> End for ShutdownRecv<W> {
+    fn end<R: sync::Wait>(self, rt: &R) {
+        let ShutdownRecv { shared } = self;
+        let made = end_receiver(&mut *shared.core.lock(rt));
+        shared.wake(rt, made);
+    }
+}

@@ -1,0 +1,106 @@
+//! A wait group that threads and tasks share: `mea::waitgroup`.
+ghost use Rattle.std.specs.Prelude.{◌≡◌, ◌-◌, ◌<◌, length};
+ghost use Rattle.mea_sets.specs.Countdown.{decreasing};
+
+use mea_base::{NoMemory, Overflow, Poll, Wake};
+use mea_meet_core::{GroupCore, GroupWait};
+use mea_wait::{End, HandleFault, Polled, Unpolled, Waits, hand_out};
+use std::alloc::Global;
+use std::sync;
+use std::sync::{Arc, Mutex};
+
+/// A handle of a group, which those who wait for the group wait for. It must be ended. It ports
+/// `mea::waitgroup::WaitGroup`.
+pub struct WaitGroup<W> {
+    group: Arc<Mutex<GroupCore<W>>>,
+}
+
+/// A wait until no handle of the group is left. It must be polled to its end, or ended; ended, its waker stays
+/// with the group until then. It ports the future of `mea::waitgroup::WaitGroup`.
+pub struct Wait<W> {
+    group: Arc<Mutex<GroupCore<W>>>,
+    place: GroupWait,
+}
+
+// A handle ends, in one step under the lock. It tells how many wakers that made ready.
+fn leave<W: Drop>(core: &mut GroupCore<W>) -> usize
+    ensures leaves { 0 < core.old.count.number → core.new ≡ decreasing core.old 1 }
+    ensures made { result ≡ length core.new.wakes - length core.old.wakes }
+{
+    let before = core.wakes_ready();
+    core.leave_checked();
+    core.wakes_ready().saturating_sub(before)
+}
+
+impl<W: Wake> WaitGroup<W> {
+    /// The first handle of a new group.
+    pub fn new(alloc: Global) -> Result<Self, NoMemory> {
+        match Arc::new(alloc, Mutex::new(GroupCore::new(alloc))) {
+            Ok(group) => Ok(WaitGroup { group }),
+            Err(_) => Err(NoMemory),
+        }
+    }
+
+    /// A further handle. It is refused where there are 4294967295, and then nothing has changed.
+    pub fn clone_handle<R: sync::Wait>(&self, rt: &R) -> Result<Self, HandleFault> {
+        let Ok(group) = Arc::try_clone(&self.group) else {
+            return Err(HandleFault::NoMemory);
+        };
+        let added = group.lock(rt).add_checked();
+        match added {
+            Ok(()) => Ok(WaitGroup { group }),
+            Err(Overflow) => Err(HandleFault::Overflow),
+        }
+    }
+
+    /// Ends the handle, and waits for the others. It takes no memory.
+    pub fn into_future<R: sync::Wait>(self, rt: &R) -> Wait<W> {
+        let WaitGroup { group } = self;
+        let made = leave(&mut *group.lock(rt));
+        hand_out(made, || group.lock(rt).next_wake());
+        Wait {
+            group,
+            place: GroupWait::new(),
+        }
+    }
+}
+
+impl<W: Wake> Wait<W> {
+    /// A further wait for the same group. A further share of it may be refused.
+    pub fn clone_wait(&self) -> Result<Self, NoMemory> {
+        match Arc::try_clone(&self.group) {
+            Ok(group) => Ok(Wait {
+                group,
+                place: GroupWait::new(),
+            }),
+            Err(_) => Err(NoMemory),
+        }
+    }
+}
+
+impl<W: Wake> End for WaitGroup<W> {
+    fn end<R: sync::Wait>(self, rt: &R) {
+        let WaitGroup { group } = self;
+        let made = leave(&mut *group.lock(rt));
+        hand_out(made, || group.lock(rt).next_wake());
+    }
+}
+
+impl<W: Wake> End for Wait<W> {
+    fn end<R: sync::Wait>(self, rt: &R) {
+        let Wait { group, place } = self;
+        group.lock(rt).end_checked(place);
+    }
+}
+
+impl<W: Wake> Waits<W, ()> for Wait<W> {
+    fn poll<R: sync::Wait>(self, rt: &R, waker: W) -> Result<Polled<Self, ()>, Unpolled<Self, W>> {
+        let Wait { group, mut place } = self;
+        let answer = group.lock(rt).poll_checked(&mut place, waker);
+        match answer {
+            Ok(Poll::Ready(())) => Ok(Polled::Ready(())),
+            Ok(Poll::Pending) => Ok(Polled::Pending(Wait { group, place })),
+            Err((waker, NoMemory)) => Err(Unpolled::no_memory(Wait { group, place }, waker)),
+        }
+    }
+}

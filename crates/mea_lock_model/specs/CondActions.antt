@@ -1,0 +1,80 @@
+-- what can be done to condition variables by name, each with the mutexes of its waits: why it is refused, and what
+-- it does
+use Rattle.std.specs.Prelude.{ℕ, ◌==◌, ◌&&◌, ◌++◌, Bool, true, false, cond, Option, Some, None, if◌then◌else◌}
+use Rattle.std.specs.FinMap.{get}
+use Rattle.mea_base.specs.declared.stop.Stop.{Stop}
+use Rattle.mea_base.specs.Causes.{unknown_unless}
+use Rattle.mea_base.specs.Family.{Outcome, is_pending}
+use Rattle.mea_named.specs.NamedQueue.{Waiting, waits}
+use Rattle.mea_named.specs.Play.{found}
+use Rattle.mea_lock_model.specs.Locks.{Locks, is_write_guard, is_condvar_future, was_polled}
+use Rattle.mea_lock_model.specs.Condvars as condvars
+use Rattle.mea_lock_model.specs.Condvars.{Condvars, CondWait, is_condvar, is_wait, waits_of, until_of}
+use Rattle.mea_lock_model.specs.Actions.{borrowed_by, act_in, Hand, PollUntil, EndWait}
+use Rattle.mea_lock_model.specs.LockHall.{LockHall}
+
+pub data CondAction : Type 0 where
+  Make : CondAction
+  -- a wait on c takes the guard g over: the value that it waits for, if it waits for one
+  Wait : ℕ → ℕ → Option ℕ → CondAction
+  Poll : ℕ → ℕ → CondAction
+  One : ℕ → CondAction
+  All : ℕ → CondAction
+  End : ℕ → CondAction
+  Drop : ℕ → CondAction
+
+abbrev pub cause_on : LockHall → CondAction → Option Stop
+cause_on h Make = None
+cause_on h (Wait c g bound) = unknown_unless (is_condvar h.condvars c && is_write_guard h.mutexes g)
+cause_on h (Poll f w) = unknown_unless (is_wait h.condvars f && is_condvar_future h.mutexes f)
+cause_on h (One c) = unknown_unless (is_condvar h.condvars c)
+cause_on h (All c) = unknown_unless (is_condvar h.condvars c)
+cause_on h (End f) = unknown_unless (is_wait h.condvars f && is_condvar_future h.mutexes f)
+cause_on h (Drop c) = borrowed_by (is_condvar h.condvars c) (waits_of h.condvars c)
+
+-- what was done to the condition variables alone
+abbrev pub on_condvars : LockHall → Outcome Condvars → Outcome LockHall
+on_condvars h o = record { hall = record h { condvars = o.hall }; reply = o.reply; wakes = o.wakes }
+
+-- what was done to the mutexes, and then to the condition variables; the reply is that of the mutexes
+abbrev pub on_both : LockHall → Outcome Locks → Outcome Condvars → Outcome LockHall
+on_both h o p = record { hall = record h { mutexes = o.hall; condvars = p.hall }; reply = o.reply; wakes = o.wakes ++ p.wakes }
+
+-- what a poll of the future at its mutex means for the wait f: it is over, or asks for the lock, or waits to be
+-- notified
+abbrev pub told_by : Outcome Locks → Condvars → ℕ → ℕ → CondWait → Waiting → Outcome Condvars
+told_by o h f w x q =
+    if is_pending o.reply then (if was_polled (get o.hall.futures f) then condvars.asks h f x else condvars.lists h f w x q)
+    else condvars.is_over h f
+
+-- a poll of one that waits replaces its waker; of another, it asks its mutex
+abbrev pub poll_wait : LockHall → ℕ → ℕ → ℕ → CondWait → Waiting → Outcome LockHall
+poll_wait h i f w x q =
+    if waits q f then on_condvars h (condvars.waits_on h.condvars f w x q)
+    else on_both h (act_in h.mutexes i (PollUntil f w (until_of x))) (told_by (act_in h.mutexes i (PollUntil f w (until_of x))) h.condvars f w x q)
+
+-- what is done under number i
+abbrev pub act_on : LockHall → ℕ → CondAction → Outcome LockHall
+act_on h i Make = on_condvars h (condvars.make h.condvars i)
+act_on h i (Wait c g bound) = on_both h (act_in h.mutexes i (Hand g)) (condvars.begin h.condvars i c bound)
+act_on h i (Poll f w) = found (get h.condvars.waits f) h (λ x. found (get h.condvars.condvars x.condvar) h (poll_wait h i f w x))
+act_on h i (One c) = found (get h.condvars.condvars c) h (λ q. on_condvars h (condvars.notify_one h.condvars c q))
+act_on h i (All c) = found (get h.condvars.condvars c) h (λ q. on_condvars h (condvars.notify_all h.condvars c q))
+act_on h i (End f) = found (get h.condvars.waits f) h (λ x. found (get h.condvars.condvars x.condvar) h (λ q.
+    on_both h (act_in h.mutexes i (EndWait f)) (condvars.end_wait h.condvars f x q)))
+act_on h i (Drop c) = found (get h.condvars.condvars c) h (λ q. on_condvars h (condvars.drop h.condvars c))
+
+-- the waker with which f is polled, if it is
+abbrev pub polled_on : CondAction → ℕ → Option ℕ
+polled_on (Poll g w) f = cond (g == f) (Some w) None
+polled_on _ f = None
+
+-- whether f is ended
+abbrev pub ends_on : CondAction → ℕ → Bool
+ends_on (End k) f = k == f
+ends_on _ f = false
+
+-- whether a waker may be registered
+abbrev pub registers_on : CondAction → Bool
+registers_on (Poll f w) = true
+registers_on _ = false

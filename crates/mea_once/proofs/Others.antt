@@ -1,0 +1,557 @@
+-- what is done to an initialiser that keeps a waker, and polls of those that do not ask for a turn
+use Rattle.std.proofs.Common.{◌≡◌, ℕ, ◌+◌, ◌-◌, ◌≤◌, ◌==◌, ◌++◌, Bool, true, false, not, cond, length, List, [], ◌∷◌, map, Option, Some, None, is_some, option_to_list, refl, ap, sym, subst, ◌∙◌, arith, append-nil, if◌then◌else◌}
+use Rattle.std.specs.FinMap.{get, insert, remove, empty, get-empty}
+use Rattle.std.specs.Ordering.{nat_cmp}
+use Rattle.std.proofs.lemmas.Bool.{eqb-true}
+use Rattle.mea_base.specs.declared.answer.Answer.{Answer}
+use Rattle.mea_base.specs.declared.answer.Answer.TheVariants as answers
+use Rattle.mea_base.specs.Ready.{Waking}
+use Rattle.mea_base.proofs.Maps.{by_put, get-gone, removed_there, inside}
+use Rattle.mea_base.proofs.NamedMaps.{same_named}
+use Rattle.mea_base.proofs.Totals.{total-empty}
+use Rattle.mea_named.specs.declared.named_waker.NamedWaker.{NamedWaker}
+use Rattle.mea_named.specs.ByName.{seen, count}
+use Rattle.mea_named.specs.NamedQueue.{Waiting, waits, waker_for, with_waker, without}
+use Rattle.mea_named.specs.LackingQueue.{who}
+use Rattle.mea_named.proofs.Cases.{if_true, if_false}
+use Rattle.mea_named.proofs.Own.{insert_same, seen-at, seen-back, seen-insert, len-over, count-over, count-gone}
+use Rattle.mea_sem_core.specs.declared.acquire.Acquire.TheVariants as acquire
+use Rattle.mea_sem_core.specs.Ones.{AskForOne}
+use Rattle.mea_sem_core.specs.Core.{Acquires, Owes, held_of}
+use Rattle.mea_sets.specs.declared.place.Place.{Place}
+use Rattle.mea_sets.specs.WaitSet as sets
+use Rattle.mea_sets.specs.WaitSet.{Registered, is_registered, has_given, slot_after}
+use Rattle.mea_linked.specs.Linked.{names_in, AreOf, Linked}
+use Rattle.mea_linked.specs.SetLinked as set_linked
+use Rattle.mea_linked.specs.SetLinked.{SlotIs, AreBelow, SetLinked, names_of, set_names}
+use Rattle.mea_linked.proofs.Linking.{linked_gone}
+use Rattle.mea_linked.proofs.Sets.{registered_names, registered_links}
+use Rattle.mea_once_core.specs.declared.stage.Stage.{Stage}
+use Rattle.mea_once_core.specs.declared.stage.Stage.TheVariants.{New, Queued, Running, Done}
+use Rattle.mea_once_model.specs.declared.job.Initialiser.{Initialiser}
+use Rattle.mea_once_model.specs.declared.job.Initialiser.TheVariants.{Unsettled, Gives, Fails}
+use Rattle.mea_once_model.specs.declared.job.Job.{Job}
+use Rattle.mea_once_model.specs.declared.job.Job.TheVariants.{Calls, Computes, Alone, Sets, Inserts, Awaits}
+use Rattle.mea_once_model.specs.Cells as model
+use Rattle.mea_once_model.specs.Cells.{Cell, CellFuture, Step, init_of, is_alone, settled, registering}
+use Rattle.mea_once.specs.declared.future_entry.FutureEntry.{FutureEntry}
+use Rattle.mea_once.specs.declared.told.Told.{Told}
+use Rattle.mea_once.specs.Cores.{NamedCell, IsSoundCell, WaitsCell}
+use Rattle.mea_once.specs.Entries.{KeptCell, finished, stopped, waking, runs, of_running, keeps, HandsOn, RanAlone, left_by}
+use Rattle.mea_once.specs.Parts.{is_polled, cell_seen, future_seen, runner_of, is_caller, is_wait, fits, acquire_at, acquire_of, runs_at, is_running, StageFits, IsFuture, MayRun, Tied, Stands, Stepped}
+use Rattle.mea_once.proofs.OneCell.{Queue, free_where, runner_waits, runner_without, unqueued, runs_may, keeps_waker, nobody_runs, held_few}
+use Rattle.mea_once.proofs.Steps.{Makes, handed, out_of_queue, out_of_waits, caller_shares, goes, all_set, empty_is}
+
+-- ---- an initialiser that keeps a waker
+runner_with : (r : Option NamedWaker) (f w : ℕ) → runs r f ≡ true → with_waker (runner_of r) f w ≡ (f, w) ∷ []
+runner_with None f w is = absurd (cc)
+runner_with (Some k) f w is = λ i. (eqb-true k.future f is i, ap (λ b. cond b w k.waker) is i) ∷ []
+
+one_runs : (r : Option NamedWaker) (f : ℕ) → runs r f ≡ true → of_running r ≡ 1
+one_runs None f is = absurd (cc)
+one_runs (Some k) f is = refl
+
+module _ (once : Bool) (e : KeptCell) (f : ℕ) (x : FutureEntry) (s : Stands once e f x) where
+  -- who may have an initialiser that was polled does not wait for its turn
+  runner_out : MayRun x → waits (cell_seen e).queue f ≡ false
+  runner_out may = at x.stage refl
+    where
+      not_queued : (n : ℕ) → x.stage ≡ Queued n → (b : Bool) → is_caller x.job ≡ b → StageFits b (Queued n) → ⊥
+      not_queued n is true caller is_it = absurd (let shares = caller_shares once e f x s x.job caller in let idle : is_running x ≡ false = ap runs_at is in
+          let no_turn : cond (is_alone x.job) true (is_running x) ≡ false = ap (λ b. cond b true (is_running x)) shares ∙ idle in cc)
+      not_queued n is false caller is_it = is_it
+
+      at : (t : Stage) → x.stage ≡ t → waits (cell_seen e).queue f ≡ false
+      at New is = out_of_queue once e f x s New is (λ n same. absurd (cc))
+      at (Queued n) is = absurd (not_queued n is (is_caller x.job) refl (subst (StageFits (is_caller x.job)) is ((s.kept.tied.each f x s.there).stage)))
+      at Running is = out_of_queue once e f x s Running is (λ n same. absurd (cc))
+      at Done is = out_of_queue once e f x s Done is (λ n same. absurd (cc))
+
+  -- it is polled again
+  pub rewakes : (w : ℕ) (before : Waking ℕ) → runs e.running f ≡ true
+      → Stepped once e s.fs s.n f x.cell (Some x) (model.poll f w (future_seen x) (cell_seen e)) answers.Pending (record e { running = Some (record { future = f; waker = w }) }) before before
+  rewakes w before run =
+      let may = runs_may once e s.fs s.kept.tied f x s.there run in
+      let polled : model.poll f w (future_seen x) (cell_seen e) ≡ model.pends (future_seen x) (record (cell_seen e) { runner = with_waker (runner_of e.running) f w }) =
+      if_false (waits (cell_seen e).queue f) _ _ (runner_out may) ∙ if_true (waits (runner_of e.running) f) _ _ (runner_waits e.running f ∙ run) in
+      rw polled (record {
+        replied = refl;
+        cell = λ i. record (cell_seen e) { runner = sym (runner_with e.running f w run) i };
+        future = refl;
+        mine = refl;
+        woken = sym (append-nil before.wakers);
+        counted = omega (arith, one_runs e.running f run);
+        kept = record { sound = s.kept.sound; quiet = s.kept.quiet; tied = rw (insert_same s.fs f x s.there) (keeps_waker once e s.fs s.kept.tied f x s.there (record { future = f; waker = w }) refl may) };
+        few = omega arith;
+        low = s.low;
+      })
+
+  -- ---- it is settled
+  waking_more : (r : Option NamedWaker) (before : Waking ℕ) → (waking r f before).wakers ≡ before.wakers ++ option_to_list (waker_for (runner_of r) f)
+  waking_more None before = sym (append-nil before.wakers)
+  waking_more (Some k) before = elim (k.future == f) as (λ b. (cond b (record { wakers = before.wakers ++ k.waker ∷ []; registered = before.registered - 1 }) before).wakers ≡ before.wakers ++ option_to_list (cond b (Some k.waker) None)) [
+    | true ↦ refl
+    | false ↦ sym (append-nil before.wakers)
+  ]
+
+  waking_less : (r : Option NamedWaker) (before : Waking ℕ) → of_running r ≤ before.registered → (waking r f before).registered + of_running r ≡ before.registered + of_running (cond (runs r f) None r)
+  waking_less None before room = refl
+  waking_less (Some k) before room = elim (k.future == f) as (λ b. (cond b (record { wakers = before.wakers ++ k.waker ∷ []; registered = before.registered - 1 }) before).registered + 1 ≡ before.registered + of_running (cond b None (Some k))) [
+    | true ↦ omega (arith, room)
+    | false ↦ refl
+  ]
+
+  settled_alone : (r : Initialiser) (j : Job) → is_alone (settled r j) ≡ is_alone j
+  settled_alone r (Calls i) = refl
+  settled_alone r (Computes i) = refl
+  settled_alone r (Alone i) = refl
+  settled_alone r (Sets v) = refl
+  settled_alone r (Inserts v) = refl
+  settled_alone r Awaits = refl
+
+  settled_caller : (r : Initialiser) (j : Job) → is_caller (settled r j) ≡ is_caller j
+  settled_caller r (Calls i) = refl
+  settled_caller r (Computes i) = refl
+  settled_caller r (Alone i) = refl
+  settled_caller r (Sets v) = refl
+  settled_caller r (Inserts v) = refl
+  settled_caller r Awaits = refl
+
+  settled_wait : (r : Initialiser) (j : Job) → is_wait (settled r j) ≡ is_wait j
+  settled_wait r (Calls i) = refl
+  settled_wait r (Computes i) = refl
+  settled_wait r (Alone i) = refl
+  settled_wait r (Sets v) = refl
+  settled_wait r (Inserts v) = refl
+  settled_wait r Awaits = refl
+
+  module _ (r : Initialiser) (fit : fits once (settled r x.job) ≡ true) where
+    abbrev y : FutureEntry
+    y = record x { job = settled r x.job }
+
+    before_it : (g : ℕ) (z : FutureEntry) → get (insert s.fs f y) g ≡ Some z → (v : FutureEntry) × (get s.fs g ≡ Some v) × (is_alone v.job ≡ is_alone z.job)
+    before_it g z = by_put s.fs f y (λ g o. o ≡ Some z → (v : FutureEntry) × (get s.fs g ≡ Some v) × (is_alone v.job ≡ is_alone z.job))
+        (λ is. (x, s.there, sym (settled_alone r x.job) ∙ ap (λ (x : FutureEntry). is_alone x.job) (inside is))) (λ g apart is. (z, is, refl)) g
+
+    kept_runner : (k : NamedWaker) (q : Option NamedWaker) → e.running ≡ q → cond (runs q f) None q ≡ Some k → e.running ≡ Some k
+    kept_runner k None is it = absurd (cc)
+    kept_runner k (Some j) is it = at (j.future == f) it
+      where
+        at : (b : Bool) → cond b None (Some j) ≡ Some k → e.running ≡ Some k
+        at true it = absurd (cc)
+        at false it = is ∙ it
+
+    tied_settled : Tied once (stopped e f) (insert s.fs f y)
+    tied_settled = record {
+      linked = rw (seen-insert acquire_of s.fs f y, insert_same (seen acquire_of s.fs) f (acquire_of x) (seen-at acquire_of s.fs f x s.there)) s.kept.tied.linked;
+      held = omega (arith, s.kept.tied.held, count-over s.fs f is_running y x s.there refl);
+      runner = λ k is. let it = s.kept.tied.runner k (kept_runner k e.running refl is) in
+          by_put s.fs f y (λ g o. (z : FutureEntry) → get s.fs g ≡ Some z → MayRun z → (v : FutureEntry) × (o ≡ Some v) × MayRun v)
+          (λ z is may. (y, refl, ap (λ b. cond b true (is_running x)) (settled_alone r x.job) ∙ subst MayRun (inside (sym is ∙ s.there)) may)) (λ g apart z is may. (z, is, may)) k.future it.0 it.1 it.2;
+      each = by_put s.fs f y (λ g o. (z : FutureEntry) → o ≡ Some z → IsFuture once e.cell.waits g z)
+          (λ z is. subst (IsFuture once e.cell.waits f) (inside is) (let it = s.kept.tied.each f x s.there in
+          record { fits = fit; stage = subst (λ b. StageFits b x.stage) (sym (settled_caller r x.job)) it.stage; slot = it.slot; place = λ none. it.place (sym (settled_wait r x.job) ∙ none) }))
+          (λ g apart z is. s.kept.tied.each g z is);
+      single = λ g j a b one two alone. let first = before_it g a one in let second = before_it j b two in s.kept.tied.single g j first.0 second.0 first.1 second.1 (first.2 ∙ alone);
+      futures = omega (arith, s.kept.tied.futures, len-over s.fs f y x s.there);
+      alone = omega (arith, s.kept.tied.alone, count-over s.fs f (λ (x : FutureEntry). is_alone x.job) y x s.there (settled_alone r x.job));
+    }
+
+    pub settles : (before : Waking ℕ) → keeps e ≤ before.registered → Stepped once e s.fs s.n f x.cell (Some y) (model.settle f r (future_seen x) (cell_seen e)) answers.Done (stopped e f) before (waking e.running f before)
+    settles before room = record {
+      replied = refl;
+      cell = λ i. record (cell_seen e) { runner = sym (runner_without e.running f) i };
+      future = refl;
+      mine = refl;
+      woken = waking_more e.running before;
+      counted = omega (arith, waking_less e.running before (omega (arith, room)));
+      kept = record { sound = s.kept.sound; quiet = s.kept.quiet; tied = tied_settled };
+      few = omega arith;
+      low = s.low;
+    }
+
+  -- ---- a wait
+  same_registering : (q : Waiting) (f w : ℕ) → set_linked.registering q f w ≡ registering q f w
+  same_registering [] f w = refl
+  same_registering (e ∷ q) f w = ap (λ r. cond (e.0 == f) ((e.0, w) ∷ q) (e ∷ r)) (same_registering q f w)
+
+  wait_shares : (j : Job) → is_wait j ≡ true → is_alone j ≡ false
+  wait_shares (Calls r) is = refl
+  wait_shares (Computes r) is = refl
+  wait_shares (Alone r) is = absurd (cc)
+  wait_shares (Sets v) is = refl
+  wait_shares (Inserts v) is = refl
+  wait_shares Awaits is = refl
+
+  wait_asks_not : (j : Job) → is_wait j ≡ true → is_caller j ≡ false
+  wait_asks_not (Calls r) is = absurd (cc)
+  wait_asks_not (Computes r) is = absurd (cc)
+  wait_asks_not (Alone r) is = refl
+  wait_asks_not (Sets v) is = absurd (cc)
+  wait_asks_not (Inserts v) is = absurd (cc)
+  wait_asks_not Awaits is = refl
+
+  alone_asks_not : (j : Job) → is_alone j ≡ true → is_caller j ≡ false
+  alone_asks_not (Calls r) is = absurd (cc)
+  alone_asks_not (Computes r) is = absurd (cc)
+  alone_asks_not (Alone r) is = refl
+  alone_asks_not (Sets v) is = absurd (cc)
+  alone_asks_not (Inserts v) is = absurd (cc)
+  alone_asks_not Awaits is = absurd (cc)
+
+  alone_waits_not : (j : Job) → is_alone j ≡ true → is_wait j ≡ false
+  alone_waits_not (Calls r) is = refl
+  alone_waits_not (Computes r) is = refl
+  alone_waits_not (Alone r) is = refl
+  alone_waits_not (Sets v) is = refl
+  alone_waits_not (Inserts v) is = refl
+  alone_waits_not Awaits is = absurd (cc)
+
+  -- who does not ask for a turn is in no stage of it
+  at_first : is_caller x.job ≡ false → x.stage ≡ New
+  at_first none = at x.stage refl (subst (λ b. StageFits b x.stage) none ((s.kept.tied.each f x s.there).stage))
+    where
+      at : (t : Stage) → x.stage ≡ t → StageFits false t → x.stage ≡ New
+      at New is it = is
+      at (Queued n) is it = absurd it
+      at Running is it = absurd it
+      at Done is it = absurd it
+
+  wait_idle : is_wait x.job ≡ true → runs e.running f ≡ false
+  wait_idle wait = at (runs e.running f) refl
+    where
+      at : (b : Bool) → runs e.running f ≡ b → runs e.running f ≡ false
+      at false idle = idle
+      at true run =
+          let may : cond (is_alone x.job) true (is_running x) ≡ true = runs_may once e s.fs s.kept.tied f x s.there run in
+          absurd (let none : is_running x ≡ false = ap runs_at (at_first (wait_asks_not x.job wait)) in
+          let no_turn : cond (is_alone x.job) true (is_running x) ≡ false = ap (λ b. cond b true (is_running x)) (wait_shares x.job wait) ∙ none in cc)
+
+  first_out : is_caller x.job ≡ false → waits (cell_seen e).queue f ≡ false
+  first_out none = out_of_queue once e f x s New (at_first none) (λ n same. absurd (cc))
+
+  in_nothing : (ks : List NamedWaker) → length ks ≡ 0 → waits (names_of ks) f ≡ false
+  in_nothing [] is = refl
+  in_nothing (k ∷ ks) is = absurd (omega (arith, is))
+
+  start_wait : (w : ℕ) (j : Job) (c : Cell) → is_wait j ≡ true → model.start_in f w (future_seen x) c j ≡ model.awaits f w (future_seen x) c
+  start_wait w (Calls r) c is = absurd (cc)
+  start_wait w (Computes r) c is = absurd (cc)
+  start_wait w (Alone r) c is = absurd (cc)
+  start_wait w (Sets v) c is = absurd (cc)
+  start_wait w (Inserts v) c is = absurd (cc)
+  start_wait w Awaits c is = refl
+
+  wait_full : (v : ℕ) (j : Job) → is_wait j ≡ true → model.found_full j v ≡ answers.Ready
+  wait_full v (Calls r) is = refl
+  wait_full v (Computes r) is = absurd (cc)
+  wait_full v (Alone r) is = absurd (cc)
+  wait_full v (Sets u) is = absurd (cc)
+  wait_full v (Inserts u) is = absurd (cc)
+  wait_full v Awaits is = refl
+
+  value_there : (o : Option ℕ) → is_some o ≡ true → (v : ℕ) × (o ≡ Some v)
+  value_there None is = absurd (cc)
+  value_there (Some v) is = (v, refl)
+
+  quiet_length : length e.cell.permit.wakes ≡ 0
+  quiet_length = ap length s.kept.quiet
+
+  module _ (w : ℕ) (wait : is_wait x.job ≡ true) where
+    abbrev k : NamedWaker
+    k = record { future = f; waker = w }
+
+    abbrev Polls : Step
+    Polls = model.poll f w (future_seen x) (cell_seen e)
+
+    not_new : is_polled x.stage ≡ false
+    not_new = ap is_polled (at_first (wait_asks_not x.job wait))
+
+    in_neither : Polls ≡ (if waits (set_names e.cell.waits) f then model.awaits f w (future_seen x) (cell_seen e) else if is_polled x.stage then model.take_turn f w (future_seen x) (cell_seen e) e.cell.value else model.start f w (future_seen x) (cell_seen e) e.cell.value)
+    in_neither = if_false (waits (cell_seen e).queue f) _ _ (first_out (wait_asks_not x.job wait)) ∙ if_false (waits (runner_of e.running) f) _ _ (runner_waits e.running f ∙ wait_idle wait)
+
+    -- the cell is full
+    waits_over : is_some e.cell.value ≡ true → (is_some e.cell.value ≡ true → length e.cell.waits.wakers ≡ 0) → Makes once e s.fs s.n f x.cell 1 answers.Ready None Polls (finished (stopped e f) x.job)
+    waits_over full drained =
+        let it = value_there e.cell.value full in
+        let told : Polls ≡ model.leaves (cell_seen e) answers.Ready [] =
+        in_neither ∙ if_false (waits (set_names e.cell.waits) f) _ _ (in_nothing e.cell.waits.wakers (drained full)) ∙ if_false (is_polled x.stage) _ _ not_new ∙ ap (model.start f w (future_seen x) (cell_seen e)) it.1
+        ∙ ap (λ a. model.leaves (cell_seen e) a []) (wait_full it.0 x.job wait) in
+        rw told (goes once e f x s e.cell 1 (model.leaves (cell_seen e) answers.Ready []) answers.Ready refl refl s.kept.sound
+        (linked_gone e.cell.permit.queue e.cell.permit.granted (seen acquire_of s.fs) s.kept.tied.linked f (unqueued once e s.fs s.kept.tied f x s.there New (at_first (wait_asks_not x.job wait)) (λ n same. absurd (cc))))
+        (let none : ◌≡◌ {A = ℕ} (cond (is_running x) 1 0) 0 = ap (λ s. cond (runs_at s) 1 0) (at_first (wait_asks_not x.job wait)) in omega (arith, none)) (λ g y is. (s.kept.tied.each g y is).slot) s.low
+        (λ i. record (cell_seen e) { runner = ap (λ b. runner_of (cond b None e.running)) (wait_idle wait) i }) (ap (λ (ks : List NamedWaker). map (λ (k : NamedWaker). k.waker) ks) s.kept.quiet) (omega (arith, quiet_length)))
+
+    -- it is not
+    module _ (empty : is_some e.cell.value ≡ false) where
+      abbrev place_of : FutureEntry → Option Place
+      place_of y = y.wait
+
+      abbrev z : FutureEntry
+      z = record x { wait = slot_after e.cell.waits x.wait }
+
+      abbrev c : NamedCell
+      c = record e.cell { waits = sets.with_waker e.cell.waits x.wait k }
+
+      its_place : get (seen place_of s.fs) f ≡ Some x.wait
+      its_place = seen-at place_of s.fs f x s.there
+
+      links : SetLinked c.waits (insert (seen place_of s.fs) f (slot_after e.cell.waits x.wait)) s.n
+      links = registered_links e.cell.waits (seen place_of s.fs) s.n f w x.wait (all_set once e f x s) its_place
+
+      slots : (g : ℕ) (y : FutureEntry) → get (insert s.fs f z) g ≡ Some y → SlotIs c.waits g y.wait
+      slots g y is = (links.each g y.wait (ap (λ m. get m g) (sym (seen-insert place_of s.fs f z)) ∙ seen-at place_of (insert s.fs f z) g y is)).1
+
+      before_wait : (g : ℕ) (y : FutureEntry) → get (insert s.fs f z) g ≡ Some y → (v : FutureEntry) × (get s.fs g ≡ Some v) × (v.job ≡ y.job)
+      before_wait g y = by_put s.fs f z (λ g o. o ≡ Some y → (v : FutureEntry) × (get s.fs g ≡ Some v) × (v.job ≡ y.job)) (λ is. (x, s.there, ap (λ (x : FutureEntry). x.job) (inside is))) (λ g apart is. (y, is, refl)) g
+
+      tied_waits : Tied once (record e { cell = c }) (insert s.fs f z)
+      tied_waits = record {
+        linked = rw (seen-insert acquire_of s.fs f z, insert_same (seen acquire_of s.fs) f (acquire_of x) (seen-at acquire_of s.fs f x s.there)) s.kept.tied.linked;
+        held = omega (arith, s.kept.tied.held, count-over s.fs f is_running z x s.there refl);
+        runner = λ j is. let it = s.kept.tied.runner j is in
+            by_put s.fs f z (λ g o. (y : FutureEntry) → get s.fs g ≡ Some y → MayRun y → (v : FutureEntry) × (o ≡ Some v) × MayRun v)
+            (λ y is may. (z, refl, subst MayRun (inside (sym is ∙ s.there)) may)) (λ g apart y is may. (y, is, may)) j.future it.0 it.1 it.2;
+        each = λ g y is. by_put s.fs f z (λ g o. (y : FutureEntry) → o ≡ Some y → SlotIs c.waits g y.wait → IsFuture once c.waits g y)
+            (λ y is slot. subst (λ y. SlotIs c.waits f y.wait → IsFuture once c.waits f y) (inside is) (λ slot. let it = s.kept.tied.each f x s.there in record { fits = it.fits; stage = it.stage; slot = slot; place = λ none. absurd (cc) }) slot)
+            (λ g apart y is slot. let it = s.kept.tied.each g y is in record { fits = it.fits; stage = it.stage; slot = slot; place = it.place }) g y is (slots g y is);
+        single = λ g j a b one two alone. let first = before_wait g a one in let second = before_wait j b two in s.kept.tied.single g j first.0 second.0 first.1 second.1 (ap is_alone first.2 ∙ alone);
+        futures = omega (arith, s.kept.tied.futures, len-over s.fs f z x s.there);
+        alone = omega (arith, s.kept.tied.alone, count-over s.fs f (λ (x : FutureEntry). is_alone x.job) z x s.there refl);
+      }
+
+      length_names : (ks : List NamedWaker) → length (names_of ks) ≡ length ks
+      length_names [] = refl
+      length_names (v ∷ ks) = omega (arith, length_names ks)
+
+      length_registering : (q : Waiting) → length (registering q f w) ≤ length q + 1
+      length_registering [] = omega arith
+      length_registering (v ∷ q) = elim (v.0 == f) as (λ b. length (cond b ((v.0, w) ∷ q) (v ∷ registering q f w)) ≤ length (v ∷ q) + 1) [ true ↦ omega arith | false ↦ omega (arith, length_registering q) ]
+
+      pub waits_make : IsSoundCell c → Makes once e s.fs s.n f x.cell 1 answers.Pending (Some z) Polls (record e { cell = c })
+      waits_make sound =
+          let names : set_names c.waits ≡ registering (set_names e.cell.waits) f w = registered_names e.cell.waits (seen place_of s.fs) s.n f w x.wait (all_set once e f x s) its_place ∙ same_registering (set_names e.cell.waits) f w in
+          let none : e.cell.value ≡ None = empty_is once e f x s e.cell.value empty in
+          let later : (if is_polled x.stage then model.take_turn f w (future_seen x) (cell_seen e) e.cell.value else model.start f w (future_seen x) (cell_seen e) e.cell.value) ≡ model.awaits f w (future_seen x) (cell_seen e) =
+          if_false (is_polled x.stage) _ _ not_new ∙ ap (model.start f w (future_seen x) (cell_seen e)) none ∙ start_wait w x.job (cell_seen e) wait in
+          let told : Polls ≡ model.awaits f w (future_seen x) (cell_seen e) = in_neither ∙ either (waits (set_names e.cell.waits) f) (model.awaits f w (future_seen x) (cell_seen e)) _ later in
+          rw told (record {
+            replied = refl;
+            cell = λ i. record (cell_seen e) { waits = names i };
+            future = refl;
+            mine = refl;
+            woken = ap (λ (ks : List NamedWaker). map (λ (k : NamedWaker). k.waker) ks) s.kept.quiet;
+            sound = sound;
+            tied = tied_waits;
+            few = omega arith;
+            low = links.below;
+            fit =
+                let long : length c.waits.wakers ≡ length (registering (set_names e.cell.waits) f w) = sym (length_names c.waits.wakers) ∙ ap (λ (q : Waiting). length q) names in
+                omega (arith, quiet_length, long, length_registering (set_names e.cell.waits), length_names e.cell.waits.wakers);
+          })
+        where
+          either : (b : Bool) (a o : Step) → o ≡ a → (if b then a else o) ≡ a
+          either true a o same = refl
+          either false a o same = same
+
+  -- ---- a future that uses its cell alone
+  module _ (w : ℕ) (alone : is_alone x.job ≡ true) (idle : runs e.running f ≡ false) where
+    abbrev j : NamedWaker
+    j = record { future = f; waker = w }
+
+    abbrev Alone_polls : Step
+    Alone_polls = model.poll f w (future_seen x) (cell_seen e)
+
+    first_stage : x.stage ≡ New
+    first_stage = at_first (alone_asks_not x.job alone)
+
+    alone_starts : Alone_polls ≡ model.start f w (future_seen x) (cell_seen e) e.cell.value
+    alone_starts = if_false (waits (cell_seen e).queue f) _ _ (first_out (alone_asks_not x.job alone)) ∙ if_false (waits (runner_of e.running) f) _ _ (runner_waits e.running f ∙ idle)
+        ∙ if_false (waits (set_names e.cell.waits) f) _ _ (out_of_waits once e f x s (alone_waits_not x.job alone)) ∙ if_false (is_polled x.stage) _ _ (ap is_polled first_stage)
+
+    alone_runs : (j : Job) (c : Cell) → is_alone j ≡ true → model.start_in f w (future_seen x) c j ≡ model.run f w (future_seen x) c (init_of j)
+    alone_runs (Calls r) c is = absurd (cc)
+    alone_runs (Computes r) c is = absurd (cc)
+    alone_runs (Alone r) c is = refl
+    alone_runs (Sets v) c is = absurd (cc)
+    alone_runs (Inserts v) c is = absurd (cc)
+    alone_runs Awaits c is = absurd (cc)
+
+    alone_no_number : Linked e.cell.permit.queue e.cell.permit.granted (remove (seen acquire_of s.fs) f)
+    alone_no_number = linked_gone e.cell.permit.queue e.cell.permit.granted (seen acquire_of s.fs) s.kept.tied.linked f (unqueued once e s.fs s.kept.tied f x s.there New first_stage (λ n same. absurd (cc)))
+
+    its_may : MayRun x
+    its_may = ap (λ b. cond b true (is_running x)) alone
+
+    no_runner : e.running ≡ None
+    no_runner = nobody_runs once e s.fs s.kept.tied f x s.there idle its_may (held_few e.cell.permit s.kept.sound.permit)
+
+    no_turn : ◌≡◌ {A = ℕ} (cond (is_running x) 1 0) 0
+    no_turn = ap (λ s. cond (runs_at s) 1 0) first_stage
+
+    -- no other future is there, so nobody waits for a turn, or has it
+    no_number : (g d n : ℕ) → get (seen acquire_of s.fs) g ≡ Some (acquire.Queued d n) → ⊥
+    no_number g d n is =
+        let had = seen-back acquire_of s.fs g (acquire.Queued d n) is in
+        let mine : f ≡ g = s.kept.tied.single f g x had.0 s.there had.1 alone in
+        let it : x ≡ had.0 = inside (sym s.there ∙ ap (get s.fs) mine ∙ had.1) in
+        absurd (let new : acquire_of had.0 ≡ acquire.New 1 = ap acquire_of (sym it) ∙ ap acquire_at first_stage in let queued = had.2 in cc)
+
+    none_queued : e.cell.permit.queue ≡ []
+    none_queued = at e.cell.permit.queue refl s.kept.sound.permit.asks s.kept.tied.linked.waits
+      where
+        at : (q : Queue) → e.cell.permit.queue ≡ q → AskForOne q → AreOf (seen acquire_of s.fs) q → e.cell.permit.queue ≡ []
+        at [] is asks are = is
+        at ((Acquires n d k, l) ∷ q) is asks are =
+            absurd (no_number k.future d n are.0)
+        at ((Owes, l) ∷ q) is asks are = absurd asks
+
+    none_granted : e.cell.permit.granted ≡ empty
+    none_granted = same_named e.cell.permit.granted empty (λ n. at n (get e.cell.permit.granted n) refl ∙ sym (get-empty nat_cmp n))
+      where
+        at : (n : ℕ) (o : Option ℕ) → get e.cell.permit.granted n ≡ o → get e.cell.permit.granted n ≡ None
+        at n None is = is
+        at n (Some d) is = absurd (let one = s.kept.tied.linked.owned n d is in no_number one.0 d n one.1)
+
+    none_has_it : held_of e.cell.permit ≡ 0
+    none_has_it =
+        let others : remove s.fs f ≡ empty = same_named (remove s.fs f) empty (λ g. at g (get (remove s.fs f) g) refl ∙ sym (get-empty nat_cmp g)) in
+        let rest : count is_running (remove s.fs f) ≡ 0 = ap (count is_running) others ∙ total-empty (λ k (x : FutureEntry). cond (is_running x) 1 0) in
+        omega (arith, s.kept.tied.held, no_turn, rest, count-gone s.fs f is_running x s.there)
+      where
+        at : (g : ℕ) (o : Option FutureEntry) → get (remove s.fs f) g ≡ o → get (remove s.fs f) g ≡ None
+        at g None is = is
+        at g (Some y) is = absurd (let mine : f ≡ g = s.kept.tied.single f g x y s.there (removed_there s.fs f g y is) alone in let none = ap (get (remove s.fs f)) (sym mine) ∙ get-gone s.fs f in cc)
+
+    pub alone_free : e.cell.permit.free ≡ 1
+    alone_free = free_where e.cell.permit s.kept.sound.permit none_queued none_granted none_has_it
+
+    -- it answers by what its initialiser comes to
+    alone_told : (v : Option ℕ) → e.cell.value ≡ v → Alone_polls ≡ model.start f w (future_seen x) (cell_seen e) v
+    alone_told v is = alone_starts ∙ ap (model.start f w (future_seen x) (cell_seen e)) is
+
+    init_alone : (r : Initialiser) (j : Job) → is_alone j ≡ true → init_of j ≡ r → j ≡ Alone r
+    init_alone r (Calls i) is it = absurd (cc)
+    init_alone r (Computes i) is it = absurd (cc)
+    init_alone r (Alone i) is it = ap (λ i. Alone i) it
+    init_alone r (Sets v) is it = absurd (cc)
+    init_alone r (Inserts v) is it = absurd (cc)
+    init_alone r Awaits is it = absurd (cc)
+
+    full_alone : (v : ℕ) (j : Job) → is_alone j ≡ true → model.found_full j v ≡ answers.Value v
+    full_alone v (Calls r) is = absurd (cc)
+    full_alone v (Computes r) is = absurd (cc)
+    full_alone v (Alone r) is = refl
+    full_alone v (Sets u) is = absurd (cc)
+    full_alone v (Inserts u) is = absurd (cc)
+    full_alone v Awaits is = absurd (cc)
+
+    filled_alone : (v : ℕ) (j : Job) → is_alone j ≡ true → model.has_filled j v ≡ answers.Value v
+    filled_alone v (Calls r) is = absurd (cc)
+    filled_alone v (Computes r) is = absurd (cc)
+    filled_alone v (Alone r) is = refl
+    filled_alone v (Sets u) is = absurd (cc)
+    filled_alone v (Inserts u) is = absurd (cc)
+    filled_alone v Awaits is = absurd (cc)
+
+    -- nobody waits until the cell is full, since it is none that runs once
+    module _ (none_waits : length e.cell.waits.wakers ≡ 0) where
+      no_waits : (ks : List NamedWaker) → length ks ≡ 0 → names_of ks ≡ []
+      no_waits [] is = refl
+      no_waits (k ∷ ks) is = absurd (omega (arith, is))
+
+      abbrev Gone : NamedCell → KeptCell
+      Gone c = finished (stopped (record e { cell = c }) f) x.job
+
+      -- it is gone, and the cell has this value
+      alone_leaves : (v : Option ℕ) (step : Step) (answer : Answer) → answer ≡ step.reply → step.future ≡ None → step.wakes ≡ []
+          → record (cell_seen e) { value = v; runner = [] } ≡ step.cell → IsSoundCell (record e.cell { value = v }) → Makes once e s.fs s.n f x.cell 1 answer None step (Gone (record e.cell { value = v }))
+      alone_leaves v step answer replied future silent cell sound =
+          goes once e f x s (record e.cell { value = v }) 1 step answer replied future sound alone_no_number (omega (arith, no_turn)) (λ g y is. (s.kept.tied.each g y is).slot) s.low
+          ((λ i. record (cell_seen e) { value = v; runner = ap (λ r. runner_of (cond (runs r f) None r)) no_runner i }) ∙ cell)
+          (ap (λ (ks : List NamedWaker). map (λ (k : NamedWaker). k.waker) ks) s.kept.quiet ∙ sym silent) (omega (arith, quiet_length))
+
+      -- a cell of which nobody else is
+      no_more : model.passed (cell_seen e).queue (record (cell_seen e) { runner = without (runner_of e.running) f }) ≡ record (cell_seen e) { runner = [] }
+      no_more =
+          (λ i. model.passed (who (names_in (none_queued i))) (record (cell_seen e) { queue = who (names_in (none_queued i)); runner = (runner_without e.running f ∙ ap (λ r. runner_of (cond (runs r f) None r)) no_runner) i }))
+          ∙ (λ i. record (cell_seen e) { taken = sym (ap (λ n. n == 0) alone_free) i; queue = who (names_in (sym none_queued i)); runner = [] })
+
+      pub alone_full : (v : ℕ) → e.cell.value ≡ Some v → Makes once e s.fs s.n f x.cell 1 (answers.Value v) None Alone_polls (Gone e.cell)
+      alone_full v is = rw (alone_told (Some v) is ∙ ap (λ a. model.leaves (cell_seen e) a []) (full_alone v x.job alone))
+          (alone_leaves e.cell.value (model.leaves (cell_seen e) (answers.Value v) []) (answers.Value v) refl refl refl (λ i. record (cell_seen e) { runner = runner_of (sym no_runner i) }) s.kept.sound)
+
+      pub alone_made : (v : ℕ) → e.cell.value ≡ None → init_of x.job ≡ Gives v → IsSoundCell (record e.cell { value = Some v }) → Makes once e s.fs s.n f x.cell 1 (answers.Value v) None Alone_polls (Gone (record e.cell { value = Some v }))
+      alone_made v is gives sound =
+          let told : Alone_polls ≡ model.leaves (model.filled f v (cell_seen e)) (answers.Value v) (model.wakers (set_names e.cell.waits) ++ model.woken_next (cell_seen e).queue) =
+          alone_told None is ∙ alone_runs x.job (cell_seen e) alone ∙ ap (model.run f w (future_seen x) (cell_seen e)) gives ∙ ap (λ a. model.leaves (model.filled f v (cell_seen e)) a (model.wakers (set_names e.cell.waits) ++ model.woken_next (cell_seen e).queue)) (filled_alone v x.job alone) in
+          rw told (alone_leaves (Some v) (model.leaves (model.filled f v (cell_seen e)) (answers.Value v) (model.wakers (set_names e.cell.waits) ++ model.woken_next (cell_seen e).queue)) (answers.Value v) refl refl
+          (λ i. model.wakers (no_waits e.cell.waits.wakers none_waits i) ++ model.woken_next (who (names_in (none_queued i))))
+          (sym ((λ i. model.passed (who (names_in (none_queued i))) (record (cell_seen e) { value = Some v; queue = who (names_in (none_queued i)); runner = (runner_without e.running f ∙ ap (λ r. runner_of (cond (runs r f) None r)) no_runner) i; waits = sym (no_waits e.cell.waits.wakers none_waits) i }))
+          ∙ (λ i. record (cell_seen e) { value = Some v; taken = sym (ap (λ n. n == 0) alone_free) i; queue = who (names_in (sym none_queued i)); runner = [] }))) sound)
+
+      pub alone_failed : (z : ℕ) → e.cell.value ≡ None → init_of x.job ≡ Fails z → Makes once e s.fs s.n f x.cell 1 (answers.Failure z) None Alone_polls (Gone e.cell)
+      alone_failed z is fails =
+          let told : Alone_polls ≡ model.leaves (model.given_up f (cell_seen e)) (answers.Failure z) (model.woken_next (cell_seen e).queue) =
+          alone_told None is ∙ alone_runs x.job (cell_seen e) alone ∙ ap (model.run f w (future_seen x) (cell_seen e)) fails in
+          rw told (alone_leaves e.cell.value (model.leaves (model.given_up f (cell_seen e)) (answers.Failure z) (model.woken_next (cell_seen e).queue)) (answers.Failure z) refl refl
+          (λ i. model.woken_next (who (names_in (none_queued i)))) (sym no_more) s.kept.sound)
+
+    pub alone_pends : e.cell.value ≡ None → init_of x.job ≡ Unsettled → Makes once e s.fs s.n f x.cell 1 answers.Pending (Some x) Alone_polls (record e { running = Some j })
+    alone_pends is opened =
+        let told : Alone_polls ≡ model.pends (record (future_seen x) { polled = not (is_alone x.job) }) (record (cell_seen e) { runner = runner_of e.running ++ (f, w) ∷ [] }) =
+        alone_told None is ∙ alone_runs x.job (cell_seen e) alone ∙ ap (model.run f w (future_seen x) (cell_seen e)) opened in
+        rw told (record {
+          replied = refl;
+          cell = λ i. record (cell_seen e) { runner = runner_of (sym no_runner i) ++ (f, w) ∷ [] };
+          future = λ i. Some (record { cell = x.cell; job = x.job; polled = (ap is_polled first_stage ∙ ap not (sym alone)) i });
+          mine = refl;
+          woken = ap (λ (ks : List NamedWaker). map (λ (k : NamedWaker). k.waker) ks) s.kept.quiet;
+          sound = s.kept.sound;
+          tied = rw (insert_same s.fs f x s.there) (keeps_waker once e s.fs s.kept.tied f x s.there j refl its_may);
+          few = omega arith;
+          low = s.low;
+          fit = omega (arith, quiet_length);
+        })
+
+-- ---- the calls of the entry
+pub wait_fits : (once : Bool) (e : KeptCell) (f w : ℕ) (x : FutureEntry) (over : Bool) (c : NamedCell) (slot : Option Place) (e2 : KeptCell) (more : ℕ) → Stands once e f x → is_wait x.job ≡ true → (is_some e.cell.value ≡ true → length e.cell.waits.wakers ≡ 0)
+    → WaitsCell e.cell x.wait (record { future = f; waker = w }) over c slot → IsSoundCell c → e2 ≡ cond over (finished (stopped (record e { cell = c }) f) x.job) (record e { cell = c }) → more ≡ keeps e + 1 → keeps e2 + length e2.cell.permit.wakes ≤ more
+wait_fits once e f w x true c slot e2 more s wait drained is sound made all = rw (made, all, is.1) (waits_over once e f x s w wait is.0 drained).fit
+wait_fits once e f w x false c slot e2 more s wait drained is sound made all = rw (made, all, is.1) (waits_make once e f x s w wait is.0 (rw is.1 at sound)).fit
+
+pub wait_steps : (once : Bool) (e : KeptCell) (f w : ℕ) (x : FutureEntry) (over : Bool) (c : NamedCell) (slot : Option Place) (e2 new : KeptCell) (more : ℕ) (before ready after : Waking ℕ) (s : Stands once e f x) → is_wait x.job ≡ true → (is_some e.cell.value ≡ true → length e.cell.waits.wakers ≡ 0)
+    → WaitsCell e.cell x.wait (record { future = f; waker = w }) over c slot → IsSoundCell c → e2 ≡ cond over (finished (stopped (record e { cell = c }) f) x.job) (record e { cell = c }) → more ≡ keeps e + 1
+    → ready ≡ record before { registered = before.registered + 1 } → HandsOn e2 new more ready after
+    → Stepped once e s.fs s.n f x.cell (left_by over (record x { wait = slot })) (model.poll f w (future_seen x) (cell_seen e)) (cond over answers.Ready answers.Pending) new before after
+wait_steps once e f w x true c slot e2 new more before ready after s wait drained is sound made all grown hands =
+    handed once e s.fs s.n f x.cell 1 answers.Ready None (model.poll f w (future_seen x) (cell_seen e)) e2 new before ready after (rw (made, is.1) (waits_over once e f x s w wait is.0 drained)) (rw all at hands)
+    (ap (λ (r : Waking ℕ). r.wakers) grown) (ap (λ (r : Waking ℕ). r.registered) grown)
+wait_steps once e f w x false c slot e2 new more before ready after s wait drained is sound made all grown hands =
+    rw is.2 (handed once e s.fs s.n f x.cell 1 answers.Pending (Some (record x { wait = slot_after e.cell.waits x.wait })) (model.poll f w (future_seen x) (cell_seen e)) e2 new before ready after (rw (made, is.1) (waits_make once e f x s w wait is.0 (rw is.1 at sound))) (rw all at hands)
+    (ap (λ (r : Waking ℕ). r.wakers) grown) (ap (λ (r : Waking ℕ). r.registered) grown))
+
+abbrev waker_of : ℕ → ℕ → NamedWaker
+waker_of f w = record { future = f; waker = w }
+
+-- a future that uses its cell alone ran
+alone_ran : (once : Bool) (e : KeptCell) (f w : ℕ) (x : FutureEntry) (s : Stands once e f x) (alone : is_alone x.job ≡ true) (idle : runs e.running f ≡ false) (v : Option ℕ) (r : Initialiser) (told : Told) (e2 : KeptCell) → e.cell.value ≡ v → init_of x.job ≡ r → length e.cell.waits.wakers ≡ 0
+    → RanAlone v r e (waker_of f w) x.job told e2 → IsSoundCell e2.cell → Makes once e s.fs s.n f x.cell 1 told.answer (left_by told.over x) (model.poll f w (future_seen x) (cell_seen e)) e2
+alone_ran once e f w x s alone idle (Some v) r told e2 is it none ran sound = rw (ran.0, ran.1, full_alone once e f x s w alone idle v x.job alone) (alone_full once e f x s w alone idle none v is)
+alone_ran once e f w x s alone idle None Unsettled told e2 is it none ran sound = rw (ran.0, ran.1) (alone_pends once e f x s w alone idle is it)
+alone_ran once e f w x s alone idle None (Gives v) told e2 is it none ran sound = rw (ran.0, ran.1, full_alone once e f x s w alone idle v x.job alone) (alone_made once e f x s w alone idle none v is it (subst (λ (e : KeptCell). IsSoundCell e.cell) ran.1 sound))
+alone_ran once e f w x s alone idle None (Fails z) told e2 is it none ran sound = rw (ran.0, ran.1) (alone_failed once e f x s w alone idle none z is it)
+
+pub alone_fits : (once : Bool) (e : KeptCell) (f w : ℕ) (x : FutureEntry) (told : Told) (e2 : KeptCell) (more : ℕ) → Stands once e f x → is_alone x.job ≡ true → runs e.running f ≡ false → length e.cell.waits.wakers ≡ 0 → RanAlone e.cell.value (init_of x.job) e (waker_of f w) x.job told e2
+    → IsSoundCell e2.cell → more ≡ keeps e + 1 → keeps e2 + length e2.cell.permit.wakes ≤ more
+alone_fits once e f w x told e2 more s alone idle none ran sound all = rw all (alone_ran once e f w x s alone idle e.cell.value (init_of x.job) told e2 refl refl none ran sound).fit
+
+pub alone_steps : (once : Bool) (e : KeptCell) (f w : ℕ) (x : FutureEntry) (told : Told) (e2 new : KeptCell) (more : ℕ) (before ready after : Waking ℕ) (s : Stands once e f x) → is_alone x.job ≡ true → runs e.running f ≡ false → length e.cell.waits.wakers ≡ 0
+    → RanAlone e.cell.value (init_of x.job) e (waker_of f w) x.job told e2 → IsSoundCell e2.cell → more ≡ keeps e + 1 → ready ≡ record before { registered = before.registered + 1 } → HandsOn e2 new more ready after
+    → Stepped once e s.fs s.n f x.cell (left_by told.over x) (model.poll f w (future_seen x) (cell_seen e)) told.answer new before after
+alone_steps once e f w x told e2 new more before ready after s alone idle none ran sound all grown hands =
+    handed once e s.fs s.n f x.cell 1 told.answer (left_by told.over x) (model.poll f w (future_seen x) (cell_seen e)) e2 new before ready after (alone_ran once e f w x s alone idle e.cell.value (init_of x.job) told e2 refl refl none ran sound) (rw all at hands)
+    (ap (λ (r : Waking ℕ). r.wakers) grown) (ap (λ (r : Waking ℕ). r.registered) grown)
+
+pub alone_is_free : (once : Bool) (e : KeptCell) (f w : ℕ) (x : FutureEntry) (s : Stands once e f x) → is_alone x.job ≡ true → runs e.running f ≡ false → e.cell.permit.free ≡ 1
+alone_is_free once e f w x s alone idle = alone_free once e f x s w alone idle

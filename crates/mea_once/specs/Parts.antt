@@ -1,0 +1,204 @@
+-- the cells of one kind as the hall keeps them: what is seen of them, and what they keep to
+use Rattle.std.specs.Prelude.{ℕ, ◌≡◌, ◌+◌, ◌≤◌, ◌<◌, ◌==◌, ◌++◌, Bool, true, false, cond, [], ◌∷◌, Option, Some, None}
+use Rattle.std.specs.Option.{option_map}
+use Rattle.std.specs.FinMap.{get, len, insert, remove, empty}
+use Rattle.mea_base.specs.declared.answer.Answer.{Answer}
+use Rattle.mea_base.specs.Ready.{Waking}
+use Rattle.mea_named.specs.declared.named_waker.NamedWaker.{NamedWaker}
+use Rattle.mea_named.specs.ByName.{Names, seen, count}
+use Rattle.mea_named.specs.NamedQueue.{Waiting}
+use Rattle.mea_named.specs.LackingQueue.{who}
+use Rattle.mea_named.specs.HallKept.{HallKept}
+use Rattle.mea_sem_core.specs.Core.{held_of}
+use Rattle.mea_sem_core.specs.declared.acquire.Acquire.{Acquire}
+use Rattle.mea_sem_core.specs.declared.acquire.Acquire.TheVariants as acquire
+use Rattle.mea_sets.specs.WaitSet.{Registered}
+use Rattle.mea_linked.specs.Linked.{names_in, Linked}
+use Rattle.mea_linked.specs.SetLinked.{set_names, SlotIs, AreBelow}
+use Rattle.mea_once_core.specs.declared.stage.Stage.{Stage}
+use Rattle.mea_once_core.specs.declared.stage.Stage.TheVariants.{New, Queued, Running, Done}
+use Rattle.mea_once_model.specs.declared.job.Initialiser.{Initialiser}
+use Rattle.mea_once_model.specs.declared.job.Initialiser.TheVariants.{Unsettled, Gives, Fails}
+use Rattle.mea_once_model.specs.declared.job.Job.{Job}
+use Rattle.mea_once_model.specs.declared.job.Job.TheVariants.{Calls, Computes, Alone, Sets, Inserts, Awaits}
+use Rattle.mea_once_model.specs.Cells.{Cell, CellFuture, Cells, Step, is_alone}
+use Rattle.mea_once.specs.declared.future_entry.FutureEntry.{FutureEntry}
+use Rattle.mea_once.specs.Cores.{NamedCell, IsSoundCell}
+use Rattle.mea_once.specs.Entries.{KeptCell, keeps}
+
+-- ---- what is seen of each thing
+abbrev pub is_polled : Stage → Bool
+is_polled New = false
+is_polled (Queued n) = true
+is_polled Running = true
+is_polled Done = true
+
+abbrev pub runner_of : Option NamedWaker → Waiting
+runner_of None = []
+runner_of (Some k) = (k.future, k.waker) ∷ []
+
+abbrev pub cell_seen : KeptCell → Cell
+cell_seen e = record { value = e.cell.value; taken = e.cell.permit.free == 0; queue = who (names_in e.cell.permit.queue); runner = runner_of e.running; waits = set_names e.cell.waits }
+
+abbrev pub future_seen : FutureEntry → CellFuture
+future_seen x = record { cell = x.cell; job = x.job; polled = is_polled x.stage }
+
+abbrev pub cells_seen : Names KeptCell → Names FutureEntry → Cells
+cells_seen es fs = record { cells = seen cell_seen es; futures = seen future_seen fs }
+
+-- ---- what is kept to
+-- who asks for its turn, and neither waits for the cell nor uses it alone
+abbrev pub is_caller : Job → Bool
+is_caller (Calls r) = true
+is_caller (Computes r) = true
+is_caller (Alone r) = false
+is_caller (Sets v) = true
+is_caller (Inserts v) = true
+is_caller Awaits = false
+
+abbrev pub is_wait : Job → Bool
+is_wait Awaits = true
+is_wait _ = false
+
+abbrev pub gives_nothing : Initialiser → Bool
+gives_nothing Unsettled = true
+gives_nothing (Gives v) = v == 0
+gives_nothing (Fails e) = true
+
+-- what the futures of a call that runs once do, and those of a cell
+abbrev pub fits : Bool → Job → Bool
+fits once (Calls r) = cond once (gives_nothing r) false
+fits once (Computes r) = cond once false true
+fits once (Alone r) = cond once false true
+fits once (Sets v) = cond once false true
+fits once (Inserts v) = cond once false true
+fits once Awaits = once
+
+-- the acquire by which a future is known in the queue; one whose turn it is has no number there any more
+abbrev pub acquire_at : Stage → Acquire
+acquire_at New = acquire.New 1
+acquire_at (Queued n) = acquire.Queued 1 n
+acquire_at Running = acquire.New 1
+acquire_at Done = acquire.New 1
+
+abbrev pub acquire_of : FutureEntry → Acquire
+acquire_of x = acquire_at x.stage
+
+abbrev pub runs_at : Stage → Bool
+runs_at New = false
+runs_at (Queued n) = false
+runs_at Running = true
+runs_at Done = false
+
+abbrev pub is_running : FutureEntry → Bool
+is_running x = runs_at x.stage
+
+-- the stage of one that asks for its turn, or does not
+abbrev pub StageFits : Bool → Stage → Type 0
+StageFits true New = Unit {0}
+StageFits true (Queued n) = Unit {0}
+StageFits true Running = Unit {0}
+StageFits true Done = ⊥
+StageFits false New = Unit {0}
+StageFits false (Queued n) = ⊥
+StageFits false Running = ⊥
+StageFits false Done = ⊥
+
+pub record IsFuture (once : Bool) (waits : Registered NamedWaker) (f : ℕ) (x : FutureEntry) : Type 0 where
+  pub fits : fits once x.job ≡ true
+  pub stage : StageFits (is_caller x.job) x.stage
+  pub slot : SlotIs waits f x.wait
+  -- who does not wait until the cell is full has no place among those who do
+  pub place : is_wait x.job ≡ false → x.wait ≡ None
+
+-- it may have an initialiser that was polled
+abbrev pub MayRun : FutureEntry → Type 0
+MayRun x = cond (is_alone x.job) true (is_running x) ≡ true
+
+-- a cell and its futures go together
+pub record Tied (once : Bool) (e : KeptCell) (fs : Names FutureEntry) : Type 0 where
+  pub linked : Linked e.cell.permit.queue e.cell.permit.granted (seen acquire_of fs)
+  pub held : held_of e.cell.permit ≡ count is_running fs
+  pub runner : (k : NamedWaker) → e.running ≡ Some k → (x : FutureEntry) × (get fs k.future ≡ Some x) × MayRun x
+  pub each : (f : ℕ) (x : FutureEntry) → get fs f ≡ Some x → IsFuture once e.cell.waits f x
+  -- who uses the cell alone is alone
+  pub single : (f g : ℕ) (x y : FutureEntry) → get fs f ≡ Some x → get fs g ≡ Some y → is_alone x.job ≡ true → f ≡ g
+  pub futures : e.futures ≡ len fs
+  pub alone : e.alone ≡ count (λ (x : FutureEntry). is_alone x.job) fs
+
+pub record AreKept (once : Bool) (e : KeptCell) (fs : Names FutureEntry) : Type 0 where
+  pub sound : IsSoundCell e.cell
+  -- its wakers are handed on after each event
+  pub quiet : e.cell.permit.wakes ≡ []
+  pub tied : Tied once e fs
+
+-- this is what becomes of a future
+abbrev pub turned_to : Names FutureEntry → ℕ → Option FutureEntry → Names FutureEntry
+turned_to fs f None = remove fs f
+turned_to fs f (Some y) = insert fs f y
+
+abbrev pub IsOf : Option FutureEntry → ℕ → Type 0
+IsOf None o = Unit {0}
+IsOf (Some y) o = y.cell ≡ o
+
+-- a cell and its futures, of which f is one, are kept; the names of all who live and who wait are below n
+pub record Stands (once : Bool) (e : KeptCell) (f : ℕ) (x : FutureEntry) : Type 0 where
+  pub fs : Names FutureEntry
+  pub n : ℕ
+  pub kept : AreKept once e fs
+  pub there : get fs f ≡ Some x
+  pub below : (g : ℕ) (y : FutureEntry) → get fs g ≡ Some y → g < n
+  pub low : AreBelow e.cell.waits.wakers n
+
+-- the cell and its future f of the cell o made this step, which left this of the future
+pub record Stepped (once : Bool) (old : KeptCell) (fs : Names FutureEntry) (n f o : ℕ) (p : Option FutureEntry) (s : Step) (answer : Answer) (new : KeptCell) (before after : Waking ℕ) : Type 0 where
+  pub replied : answer ≡ s.reply
+  pub cell : cell_seen new ≡ s.cell
+  pub future : option_map future_seen p ≡ s.future
+  pub mine : IsOf p o
+  pub woken : after.wakers ≡ before.wakers ++ s.wakes
+  pub counted : after.registered + keeps old ≡ before.registered + keeps new
+  pub kept : AreKept once new (turned_to fs f p)
+  pub few : new.futures ≤ old.futures + 1
+  pub low : AreBelow new.cell.waits.wakers n
+
+abbrev pub of_future : FutureEntry → ℕ
+of_future x = x.cell
+
+abbrev pub of_none : ℕ → ℕ
+of_none k = k
+
+pub record IsKept (once : Bool) (es : Names KeptCell) (fs : Names FutureEntry) (next : ℕ) : Type 0 where
+  pub hall : HallKept of_future of_none (λ e xs ys. AreKept once e xs) (λ e. e.futures) es fs empty next
+  -- the names of those who wait until a cell is full, also of those that have ended
+  pub low : (o : ℕ) (e : KeptCell) → get es o ≡ Some e → AreBelow e.cell.waits.wakers next
+
+-- ---- what is new
+pub record IsNewCell (c : NamedCell) (v : Option ℕ) : Type 0 where
+  pub value : c.value ≡ v
+  pub free : c.permit.free ≡ 1
+  pub queue : c.permit.queue ≡ []
+  pub granted : c.permit.granted ≡ empty
+  pub held : held_of c.permit ≡ 0
+  pub wakes : c.permit.wakes ≡ []
+  pub waits : c.waits.wakers ≡ []
+  pub sound : IsSoundCell c
+
+-- ---- what the calls of a part ask for
+abbrev pub job_at : (Job → Bool) → Option CellFuture → Bool
+job_at test None = false
+job_at test (Some x) = test x.job
+
+-- whether f asks for its turn, or waits until its cell is full, or uses it alone
+abbrev pub asks_turn : Cells → ℕ → Bool
+asks_turn h f = job_at is_caller (get h.futures f)
+
+abbrev pub awaits_full : Cells → ℕ → Bool
+awaits_full h f = job_at is_wait (get h.futures f)
+
+abbrev pub uses_alone : Cells → ℕ → Bool
+uses_alone h f = job_at is_alone (get h.futures f)
+
+-- the initialiser of a call that runs once gives nothing
+abbrev pub FitsSettled : Bool → Initialiser → Type 0
+FitsSettled once r = once ≡ true → gives_nothing r ≡ true

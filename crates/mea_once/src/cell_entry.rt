@@ -1,0 +1,436 @@
+ghost use Rattle.std.specs.Prelude.{ℕ, ◌≡◌, ◌+◌, ◌-◌, ◌<◌, ◌≤◌, ◌^◌, ◌++◌, [], nat_lt, length, map, cond, true, false, is_some, Some, None, IfOk, OnErr};
+ghost use Rattle.mea_sem_core.specs.Core.{held_of};
+ghost use Rattle.mea_once_model.specs.Cells.{init_of, is_alone, settled, poll, settle, end};
+ghost use Rattle.mea_once.specs.Cores.{IsSoundCell, TurnFits, TurnIsQuiet};
+ghost use Rattle.mea_once.specs.Parts.{cell_seen, future_seen, fits, is_caller, is_wait, Stands, Stepped};
+
+use crate::future_entry::FutureEntry;
+use crate::jobs::{found_full, has_filled, one_if_alone, settled};
+use crate::scripted::Scripted;
+use crate::told::Told;
+use crate::turn_core::{TurnCore, WaitCore, WholeCore};
+use mea_base::{Answer, NoMemory, Poll, Ready};
+use mea_named::NamedWaker;
+use mea_once_core::{CellTurn, Init};
+use mea_once_model::{Initialiser, Job};
+use std::marker::Model;
+
+// A poll that goes on waiting.
+const PENDING: Told = Told {
+    answer: Answer::Pending,
+    over: false,
+};
+
+/// What a hall keeps of a cell.
+#[derive(Drop)]
+pub struct CellEntry<C: TurnCore> {
+    core: C,
+    // The waker that the initialiser of the caller whose turn it is keeps, or of the future that uses the cell alone.
+    running: Option<NamedWaker>,
+    // How many futures it has, and how many of them use it alone.
+    futures: u128,
+    alone: u128,
+}
+
+impl<C: TurnCore> Model for CellEntry<C> {
+    ghost use Rattle.mea_once.specs.Entries.{KeptCell, kept_cell_code};
+
+    ghost Value = { KeptCell };
+
+    ghost coded = { kept_cell_code };
+
+    ghost view = { λ e. record { cell = C.seen_as e.core; running = e.running; futures = e.futures; alone = e.alone } };
+}
+
+impl<C: TurnCore> CellEntry<C> {
+    ghost use Rattle.mea_once.specs.Entries.{begun, finished, stopped, waking, runs, of_running, keeps, HandsOn, Ran, Follows, left_by};
+
+    /// A cell that has no future.
+    pub fn new(core: C) -> Self
+        ensures { result ≡ record { cell = C.seen_as core; running = None; futures = 0; alone = 0 } }
+    {
+        CellEntry {
+            core,
+            running: None,
+            futures: 0,
+            alone: 0,
+        }
+    }
+
+    pub fn core(&self) -> &C
+        ensures { C.seen_as result.now ≡ self.now.cell }
+    {
+        &self.core
+    }
+
+    /// Whether it has a future.
+    pub fn has_futures(&self) -> bool
+        ensures { result ≡ nat_lt 0 self.now.futures }
+    {
+        self.futures > 0
+    }
+
+    /// Whether it has a future that uses it alone.
+    pub fn is_alone(&self) -> bool
+        ensures { result ≡ nat_lt 0 self.now.alone }
+    {
+        self.alone > 0
+    }
+
+    /// One future more.
+    pub fn begin(&mut self, job: Job)
+        requires futures { self.old.futures + 1 < 2 ^ 128 }
+        requires alone { self.old.alone + 1 < 2 ^ 128 }
+        ensures { self.new ≡ begun self.old job }
+    {
+        self.futures += 1;
+        self.alone += one_if_alone(job);
+    }
+
+    // One future less, named `f`, whose initialiser keeps no waker any more.
+    fn finish(&mut self, f: u64, job: Job)
+        requires futures { 1 ≤ self.old.futures }
+        requires alone { cond (is_alone job) 1 0 ≤ self.old.alone }
+        ensures { self.new ≡ finished (stopped self.old f) job }
+    {
+        if self.runs(f) {
+            self.running = None;
+        }
+        self.futures -= 1;
+        self.alone -= one_if_alone(job);
+    }
+
+    // Whether the initialiser of `f` keeps a waker.
+    fn runs(&self, f: u64) -> bool
+        ensures { result ≡ runs self.now.running f }
+    {
+        match self.running {
+            Some(kept) => kept.future == f,
+            None => false,
+        }
+    }
+
+    /// How many wakers are kept, for each of which there is room.
+    pub fn keeps(&self, ready: &Ready<u64>) -> usize
+        requires { keeps self.now ≤ ready.now.registered }
+        ensures { result ≡ keeps self.now }
+    {
+        let _room = ready.registered();
+        let running = if self.running.is_some() { 1 } else { 0 };
+        self.core.waiting() + running + self.core.registered()
+    }
+
+    // Hands on the wakers that the core has ready; of so many that were registered, as many are as are kept.
+    fn hand_on(&mut self, more: usize, ready: &mut Ready<u64>)
+        requires fits { keeps self.old + length self.old.cell.permit.wakes ≤ more }
+        requires room { more ≤ ready.old.registered }
+        ensures { HandsOn self.old self.new more ready.old ready.new }
+    {
+        let mut gone = more - self.keeps(ready);
+        while let Some(next) = self.core.next_wake() {
+            ready.wake(next.waker);
+            gone -= 1;
+        }
+        ready.unregister(gone);
+    }
+
+    // The initialiser of the future whose turn it is runs.
+    fn run(&mut self, future: &mut FutureEntry, waker: NamedWaker) -> Told
+        requires held { 1 ≤ held_of self.old.cell.permit }
+        requires fits { fits C.is_once future.old.job ≡ true }
+        requires quiet { self.old.cell.permit.wakes ≡ [] }
+        requires futures { 1 ≤ self.old.futures }
+        requires alone { cond (is_alone future.old.job) 1 0 ≤ self.old.alone }
+        ensures ran { Ran (init_of future.old.job) self.old waker future.old.job result self.new }
+        ensures stays { result.over ≡ false → future.new ≡ future.old }
+    {
+        match Scripted::new(future.job).poll(waker) {
+            Poll::Pending => {
+                self.running = Some(waker);
+                PENDING
+            }
+            Poll::Ready(Ok(value)) => {
+                self.core.fill(&mut future.stage, value);
+                self.finish(waker.future, future.job);
+                Told {
+                    answer: has_filled(future.job, value),
+                    over: true,
+                }
+            }
+            Poll::Ready(Err(error)) => {
+                self.core.give_up(&mut future.stage);
+                self.finish(waker.future, future.job);
+                Told {
+                    answer: Answer::Failure(error),
+                    over: true,
+                }
+            }
+        }
+    }
+
+    // What follows from a poll for one's turn.
+    fn follow(
+        &mut self,
+        future: &mut FutureEntry,
+        turn: CellTurn<NamedWaker>,
+        waker: NamedWaker,
+    ) -> Told
+        requires turn { TurnFits turn self.old.cell }
+        requires fits { fits C.is_once future.old.job ≡ true }
+        requires quiet { TurnIsQuiet turn self.old.cell }
+        requires futures { 1 ≤ self.old.futures }
+        requires alone { cond (is_alone future.old.job) 1 0 ≤ self.old.alone }
+        ensures follows { Follows turn self.old waker future.old.job result self.new }
+        ensures stays { result.over ≡ false → future.new ≡ future.old }
+    {
+        match turn {
+            CellTurn::Pending => PENDING,
+            CellTurn::Full => {
+                let Some(value) = self.core.value() else {
+                    unreachable!()
+                };
+                self.finish(waker.future, future.job);
+                Told {
+                    answer: found_full(future.job, value),
+                    over: true,
+                }
+            }
+            CellTurn::Mine(_) => self.run(future, waker),
+        }
+    }
+
+    /// Polls a caller, which is named `f`. On an error nothing has changed.
+    pub fn poll_call(
+        &mut self,
+        f: u64,
+        future: &mut FutureEntry,
+        waker: u64,
+        ready: &mut Ready<u64>,
+    ) -> Result<Told, NoMemory>
+        requires stands { Stands C.is_once self.old f future.old }
+        requires caller { is_caller future.old.job ≡ true }
+        requires room { keeps self.old ≤ ready.old.registered }
+        ensures steps { IfOk result (λ told. (s : Stands C.is_once self.old f future.old) → Stepped C.is_once self.old s.fs s.n f future.old.cell (left_by told.over future.new) (poll f waker (future_seen future.old) (cell_seen self.old)) told.answer self.new ready.old ready.new) }
+        ensures err { OnErr result ((self.new ≡ self.old) × (future.new ≡ future.old) × (ready.new ≡ ready.old)) }
+    {
+        let named = NamedWaker { future: f, waker };
+        if self.runs(f) {
+            self.running = Some(named);
+            return Ok(PENDING);
+        }
+        let Ok(()) = ready.register() else {
+            return Err(NoMemory);
+        };
+        let _room = ready.registered();
+        let more = self.keeps(ready) + 1;
+        let Ok(turn) = self.core.poll_turn(&mut future.stage, named) else {
+            ready.unregister(1);
+            return Err(NoMemory);
+        };
+        let told = self.follow(future, turn, named);
+        self.hand_on(more, ready);
+        Ok(told)
+    }
+
+    // Makes the waker ready that the initialiser of `f` keeps, if it does.
+    fn wake_kept(&mut self, f: u64, ready: &mut Ready<u64>)
+        requires { keeps self.old ≤ ready.old.registered }
+        ensures entry { self.new ≡ stopped self.old f }
+        ensures ready { ready.new ≡ waking self.old.running f ready.old }
+    {
+        if let Some(kept) = self.running {
+            if kept.future == f {
+                ready.wake(kept.waker);
+                self.running = None;
+            }
+        }
+    }
+
+    /// Settles the initialiser of a future, which is named `f`.
+    pub fn settle(
+        &mut self,
+        f: u64,
+        future: &mut FutureEntry,
+        outcome: Initialiser,
+        ready: &mut Ready<u64>,
+    )
+        requires room { keeps self.old ≤ ready.old.registered }
+        requires fits { fits C.is_once (settled outcome future.old.job) ≡ true }
+        ensures { (s : Stands C.is_once self.old f future.old) → Stepped C.is_once self.old s.fs s.n f future.old.cell (Some future.new) (settle f outcome (future_seen future.old) (cell_seen self.old)) Answer.Done self.new ready.old ready.new }
+    {
+        self.wake_kept(f, ready);
+        future.job = settled(future.job, outcome);
+    }
+
+    /// Ends a future, which is named `f`.
+    pub fn end(&mut self, f: u64, future: FutureEntry, ready: &mut Ready<u64>)
+        requires stands { Stands C.is_once self.old f future }
+        requires room { keeps self.old ≤ ready.old.registered }
+        ensures { (s : Stands C.is_once self.old f future) → Stepped C.is_once self.old s.fs s.n f future.cell None (end f (future_seen future) (cell_seen self.old)) Answer.Done self.new ready.old ready.new }
+    {
+        let more = self.keeps(ready);
+        self.core.leave(future.stage);
+        self.finish(f, future.job);
+        self.hand_on(more, ready);
+    }
+}
+
+// What a poll of a wait told.
+fn wait_told(over: bool) -> Told
+    ensures { result ≡ record { answer = cond over Answer.Ready Answer.Pending; over = over } }
+{
+    Told {
+        answer: if over { Answer::Ready } else { Answer::Pending },
+        over,
+    }
+}
+
+impl<C: WaitCore> CellEntry<C> {
+    ghost use Rattle.mea_once.specs.Entries.{finished, stopped, keeps, left_by};
+
+    // One future less, where it is over.
+    fn finish_if(&mut self, f: u64, job: Job, over: bool)
+        requires futures { 1 ≤ self.old.futures }
+        requires alone { cond (is_alone job) 1 0 ≤ self.old.alone }
+        ensures { self.new ≡ cond over (finished (stopped self.old f) job) self.old }
+    {
+        if over {
+            self.finish(f, job);
+        }
+    }
+
+    /// Polls a wait, which is named `f`. On an error nothing has changed.
+    pub fn poll_wait(
+        &mut self,
+        f: u64,
+        future: &mut FutureEntry,
+        waker: u64,
+        ready: &mut Ready<u64>,
+    ) -> Result<Told, NoMemory>
+        requires stands { Stands C.TurnCore.is_once self.old f future.old }
+        requires wait { is_wait future.old.job ≡ true }
+        requires room { keeps self.old ≤ ready.old.registered }
+        ensures steps { IfOk result (λ told. (s : Stands C.TurnCore.is_once self.old f future.old) → Stepped C.TurnCore.is_once self.old s.fs s.n f future.old.cell (left_by told.over future.new) (poll f waker (future_seen future.old) (cell_seen self.old)) told.answer self.new ready.old ready.new) }
+        ensures err { OnErr result ((self.new ≡ self.old) × (future.new ≡ future.old) × (ready.new ≡ ready.old)) }
+    {
+        let Ok(()) = ready.register() else {
+            return Err(NoMemory);
+        };
+        let _room = ready.registered();
+        let _waits = self.core.registered();
+        let more = self.keeps(ready) + 1;
+        let named = NamedWaker { future: f, waker };
+        let Ok(over) = self.core.poll_wait(&mut future.wait, named) else {
+            ready.unregister(1);
+            return Err(NoMemory);
+        };
+        self.finish_if(f, future.job, over);
+        self.hand_on(more, ready);
+        Ok(wait_told(over))
+    }
+}
+
+impl<C: WholeCore> CellEntry<C> {
+    ghost use Rattle.mea_once.specs.Entries.{keeps, left_by, RanAlone};
+
+    // The initialiser of a future that uses the cell alone runs, where that is empty.
+    fn run_alone(&mut self, job: Job, waker: NamedWaker) -> Told
+        requires free { self.old.cell.permit.free ≡ 1 }
+        requires futures { 1 ≤ self.old.futures }
+        requires alone { cond (is_alone job) 1 0 ≤ self.old.alone }
+        ensures ran { RanAlone self.old.cell.value (init_of job) self.old waker job result self.new }
+        ensures sound { IsSoundCell self.new.cell }
+        ensures nobody { length self.old.cell.waits.wakers ≡ 0 }
+    {
+        match self.core.poll_alone(&mut Scripted::new(job), waker) {
+            Poll::Pending => {
+                self.running = Some(waker);
+                PENDING
+            }
+            Poll::Ready(Ok(())) => {
+                let Some(value) = self.core.value() else {
+                    unreachable!()
+                };
+                self.finish(waker.future, job);
+                Told {
+                    answer: found_full(job, value),
+                    over: true,
+                }
+            }
+            Poll::Ready(Err(error)) => {
+                self.finish(waker.future, job);
+                Told {
+                    answer: Answer::Failure(error),
+                    over: true,
+                }
+            }
+        }
+    }
+
+    /// Polls a future that uses the cell alone, which is named `f`. On an error nothing has changed.
+    pub fn poll_alone(
+        &mut self,
+        f: u64,
+        future: &mut FutureEntry,
+        waker: u64,
+        ready: &mut Ready<u64>,
+    ) -> Result<Told, NoMemory>
+        requires stands { Stands C.TurnCore.is_once self.old f future.old }
+        requires alone { is_alone future.old.job ≡ true }
+        requires room { keeps self.old ≤ ready.old.registered }
+        ensures steps { IfOk result (λ told. (s : Stands C.TurnCore.is_once self.old f future.old) → Stepped C.TurnCore.is_once self.old s.fs s.n f future.old.cell (left_by told.over future.new) (poll f waker (future_seen future.old) (cell_seen self.old)) told.answer self.new ready.old ready.new) }
+        ensures err { OnErr result ((self.new ≡ self.old) × (future.new ≡ future.old) × (ready.new ≡ ready.old)) }
+    {
+        let named = NamedWaker { future: f, waker };
+        if self.runs(f) {
+            self.running = Some(named);
+            return Ok(PENDING);
+        }
+        let Ok(()) = ready.register() else {
+            return Err(NoMemory);
+        };
+        let _room = ready.registered();
+        let more = self.keeps(ready) + 1;
+        let told = self.run_alone(future.job, named);
+        self.hand_on(more, ready);
+        Ok(told)
+    }
+
+    /// The value, for who uses the whole cell.
+    pub fn peek(&mut self) -> Option<u64>
+        requires { self.old.cell.permit.free ≡ 1 }
+        ensures value { result ≡ self.old.cell.value }
+        ensures same { self.new ≡ self.old }
+    {
+        self.core.whole_value()
+    }
+
+    /// Writes the value where there is one, and tells whether there is.
+    pub fn put(&mut self, value: u64) -> bool
+        requires { self.old.cell.permit.free ≡ 1 }
+        ensures told { result ≡ is_some self.old.cell.value }
+        ensures full { result ≡ true → self.new ≡ record self.old { cell = record self.old.cell { value = Some value } } }
+        ensures empty { is_some self.old.cell.value ≡ false → self.new ≡ self.old }
+        ensures sound { IsSoundCell self.new.cell }
+    {
+        self.core.set_value(value)
+    }
+
+    /// Takes the value out.
+    pub fn take(&mut self) -> Option<u64>
+        requires { self.old.cell.permit.free ≡ 1 }
+        ensures value { result ≡ self.old.cell.value }
+        ensures is { self.new ≡ record self.old { cell = record self.old.cell { value = None } } }
+        ensures sound { IsSoundCell self.new.cell }
+    {
+        self.core.take_value()
+    }
+
+    /// The value, with which the cell ends.
+    pub fn into_value(self) -> Option<u64>
+        requires { self.cell.permit.free ≡ 1 }
+        ensures { result ≡ self.cell.value }
+    {
+        self.core.into_value()
+    }
+}

@@ -1,0 +1,13 @@
+use mea_meet_core::LatchWait;
+use mea_once_core::Stage;
+use mea_once_model::Job;
+
+/// What a hall keeps of a future: its cell, what it does there, how far it is with its turn, and its place among those who
+/// wait until the cell is full.
+#[derive(Drop)]
+pub struct FutureEntry {
+    pub cell: u64,
+    pub job: Job,
+    pub stage: Stage,
+    pub wait: LatchWait,
+}

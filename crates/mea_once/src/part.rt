@@ -1,0 +1,378 @@
+ghost use Rattle.std.specs.Prelude.{◌≡◌, ◌≤◌, OnErr, IfOk, IfSome, is_some, None, Some, true, false, if◌then◌else◌};
+ghost use Rattle.std.specs.FinMap.{get};
+ghost use Rattle.mea_named.specs.Play.{PartYields, PartRests};
+ghost use Rattle.mea_once_model.specs.Cells.{no_cells, is_cell, is_future, is_unsettled, futures_of, alone_of, registered};
+ghost use Rattle.mea_once_model.specs.Actions.{act_in, Make, Begin, Poll, Settle, End, TellFull, Tell, Peek, Put, Take, TakeOut, Drop, borrowed_by, in_the_way};
+ghost use Rattle.mea_once.specs.Parts.{IsNewCell, fits, job_at, asks_turn, awaits_full, uses_alone, FitsSettled};
+ghost use Rattle.mea_once.specs.Lends.{StandsFor};
+
+use crate::cell_entry::CellEntry;
+use crate::future_entry::FutureEntry;
+use crate::jobs::{can_settle, content, done_if, is_alone, is_wait, yes_if_full};
+use crate::turn_core::{TurnCore, WaitCore, WholeCore};
+use mea_base::{Answer, NoMemory, Ready, Stop};
+use mea_meet_core::LatchWait;
+use mea_named::ByName;
+use mea_once_core::Stage;
+use mea_once_model::{Initialiser, Job};
+use std::alloc::Global;
+use std::marker::Model;
+
+/// The cells of one kind with their futures, each by the number of the event that made it. Each call costs a look-up by name
+/// and the wakers that it makes ready.
+#[derive(Drop)]
+pub struct CellPart<C: TurnCore> {
+    cells: ByName<CellEntry<C>>,
+    futures: ByName<FutureEntry>,
+    next: u128,
+}
+
+impl<C: TurnCore> Model for CellPart<C> {
+    ghost use Rattle.mea_named.specs.Play.{Part, part_code};
+    ghost use Rattle.mea_once_model.specs.Cells.{Cells, cells_code};
+
+    ghost Value = { Part Cells };
+
+    ghost coded = { part_code cells_code };
+
+    ghost use Rattle.mea_once.specs.Parts.{cells_seen, IsKept};
+
+    ghost view = { λ a. record { hall = cells_seen a.cells a.futures; next = a.next } };
+
+    ghost invariant = { λ a. IsKept C.is_once a.cells a.futures a.next };
+}
+
+impl<C: TurnCore> CellPart<C> {
+    /// No cell. It takes no memory.
+    pub fn new(alloc: Global) -> Self
+        ensures { result ≡ record { hall = no_cells; next = 0 } }
+    {
+        CellPart {
+            cells: ByName::new(alloc),
+            futures: ByName::new(alloc),
+            next: 0,
+        }
+    }
+
+    /// The core of a cell.
+    pub fn core(&self, o: u64) -> Option<&C>
+        ensures there { is_some result ≡ is_cell self.now.hall o }
+        ensures stands { IfSome result (λ core. StandsFor self.now.hall o (C.seen_as core.now)) }
+    {
+        let entry = self.cells.get(o)?;
+        Some(entry.core())
+    }
+
+    pub fn is_future(&self, f: u64) -> bool
+        ensures { result ≡ is_future self.now.hall f }
+    {
+        self.futures.has(f)
+    }
+
+    /// Whether it has an initialiser that is not settled.
+    pub fn is_unsettled(&self, f: u64) -> bool
+        ensures { result ≡ is_unsettled self.now.hall f }
+    {
+        match self.futures.get(f) {
+            Some(future) => can_settle(future.job),
+            None => false,
+        }
+    }
+
+    /// Whether it waits until its cell is full.
+    pub fn awaits_full(&self, f: u64) -> bool
+        ensures { result ≡ awaits_full self.now.hall f }
+    {
+        match self.futures.get(f) {
+            Some(future) => is_wait(future.job),
+            None => false,
+        }
+    }
+
+    /// Whether it uses its cell alone.
+    pub fn uses_alone(&self, f: u64) -> bool
+        ensures { result ≡ uses_alone self.now.hall f }
+    {
+        match self.futures.get(f) {
+            Some(future) => is_alone(future.job),
+            None => false,
+        }
+    }
+
+    /// Why a use of the cell is refused: it is unknown, or a future uses it alone.
+    pub fn cause_of_use(&self, o: u64) -> Option<Stop>
+        ensures { result ≡ borrowed_by (is_cell self.now.hall o) (alone_of self.now.hall o) }
+    {
+        match self.cells.get(o) {
+            Some(entry) => borrowed_if(entry.is_alone()),
+            None => Some(Stop::Unknown),
+        }
+    }
+
+    /// Why a use of the whole cell is refused: it is unknown, or it has a future.
+    pub fn cause_of_whole(&self, o: u64) -> Option<Stop>
+        ensures { result ≡ borrowed_by (is_cell self.now.hall o) (futures_of self.now.hall o) }
+    {
+        match self.cells.get(o) {
+            Some(entry) => borrowed_if(entry.has_futures()),
+            None => Some(Stop::Unknown),
+        }
+    }
+
+    /// Makes a cell of a new core. On an error nothing has changed.
+    pub fn make(&mut self, number: u64, core: C) -> Result<Answer, NoMemory>
+        requires next { self.old.next ≤ number }
+        requires new { IsNewCell (C.seen_as core) (C.seen_as core).value }
+        ensures ok { IfOk result (λ answer. PartRests registered self.old number (act_in self.old.hall number (Make (C.seen_as core).value)) answer self.new) }
+        ensures err { OnErr result (self.new ≡ self.old) }
+    {
+        let Ok(()) = self.cells.insert(number, CellEntry::new(core)) else {
+            return Err(NoMemory);
+        };
+        self.next = number as u128 + 1;
+        Ok(Answer::Made)
+    }
+
+    /// Makes a future that does this. On an error nothing has changed.
+    pub fn begin(&mut self, number: u64, o: u64, job: Job) -> Result<Answer, NoMemory>
+        requires next { self.old.next ≤ number }
+        requires there { is_cell self.old.hall o ≡ true }
+        requires fits { fits C.is_once job ≡ true }
+        requires free { in_the_way self.old.hall o job ≡ 0 }
+        ensures ok { IfOk result (λ answer. PartRests registered self.old number (act_in self.old.hall number (Begin o job)) answer self.new) }
+        ensures err { OnErr result (self.new ≡ self.old) }
+    {
+        let entry = self.cells.at_mut(o);
+        let future = FutureEntry {
+            cell: o,
+            job,
+            stage: Stage::New,
+            wait: LatchWait::new(),
+        };
+        let Ok(()) = self.futures.insert(number, future) else {
+            return Err(NoMemory);
+        };
+        entry.begin(job);
+        self.next = number as u128 + 1;
+        Ok(Answer::Made)
+    }
+
+    /// Polls a future that asks for its turn. On an error nothing has changed.
+    pub fn poll_call(
+        &mut self,
+        number: u64,
+        f: u64,
+        waker: u64,
+        ready: &mut Ready<u64>,
+    ) -> Result<Answer, NoMemory>
+        requires next { self.old.next ≤ number }
+        requires there { is_future self.old.hall f ≡ true }
+        requires calls { (if C.is_once then awaits_full self.old.hall f else uses_alone self.old.hall f) ≡ false }
+        requires room { registered self.old.hall ≤ ready.old.registered }
+        ensures ok { IfOk result (λ answer. PartYields registered self.old number (act_in self.old.hall number (Poll f waker)) answer self.new ready.old ready.new) }
+        ensures err { OnErr result ((self.new ≡ self.old) × (ready.new ≡ ready.old)) }
+    {
+        let future = self.futures.at_mut(f);
+        let o = future.cell;
+        let entry = self.cells.at_mut(o);
+        match entry.poll_call(f, future, waker, ready) {
+            Err(_) => Err(NoMemory),
+            Ok(told) => {
+                self.futures.remove_if(f, told.over);
+                self.next = number as u128 + 1;
+                Ok(told.answer)
+            }
+        }
+    }
+
+    /// Settles the initialiser of a future. It takes no memory.
+    pub fn settle(
+        &mut self,
+        number: u64,
+        f: u64,
+        outcome: Initialiser,
+        ready: &mut Ready<u64>,
+    ) -> Answer
+        requires next { self.old.next ≤ number }
+        requires there { is_future self.old.hall f ≡ true }
+        requires fits { FitsSettled C.is_once outcome }
+        requires room { registered self.old.hall ≤ ready.old.registered }
+        ensures { PartYields registered self.old number (act_in self.old.hall number (Settle f outcome)) result self.new ready.old ready.new }
+    {
+        let future = self.futures.at_mut(f);
+        let o = future.cell;
+        self.cells.at_mut(o).settle(f, future, outcome, ready);
+        self.next = number as u128 + 1;
+        Answer::Done
+    }
+
+    /// Ends a future. It takes no memory.
+    pub fn end(&mut self, number: u64, f: u64, ready: &mut Ready<u64>) -> Answer
+        requires next { self.old.next ≤ number }
+        requires there { is_future self.old.hall f ≡ true }
+        requires room { registered self.old.hall ≤ ready.old.registered }
+        ensures { PartYields registered self.old number (act_in self.old.hall number (End f)) result self.new ready.old ready.new }
+    {
+        let future = self.futures.remove(f);
+        let o = future.cell;
+        self.cells.at_mut(o).end(f, future, ready);
+        self.next = number as u128 + 1;
+        Answer::Done
+    }
+
+    /// Tells whether a cell is full. It takes no memory.
+    pub fn tell_full(&mut self, number: u64, o: u64) -> Answer
+        requires next { self.old.next ≤ number }
+        requires there { is_cell self.old.hall o ≡ true }
+        ensures { PartRests registered self.old number (act_in self.old.hall number (TellFull o)) result self.new }
+    {
+        let value = self.cells.at(o).core().value();
+        self.next = number as u128 + 1;
+        yes_if_full(value)
+    }
+
+    /// Tells the value of a cell. It takes no memory.
+    pub fn tell(&mut self, number: u64, o: u64) -> Answer
+        requires next { self.old.next ≤ number }
+        requires there { is_cell self.old.hall o ≡ true }
+        ensures { PartRests registered self.old number (act_in self.old.hall number (Tell o)) result self.new }
+    {
+        let value = self.cells.at(o).core().value();
+        self.next = number as u128 + 1;
+        content(value)
+    }
+
+    /// Ends a cell that has no future; who waits until it is full is forgotten. It takes no memory.
+    pub fn end_cell(&mut self, number: u64, o: u64, ready: &mut Ready<u64>) -> Answer
+        requires next { self.old.next ≤ number }
+        requires there { is_cell self.old.hall o ≡ true }
+        requires alone { futures_of self.old.hall o ≡ 0 }
+        requires room { registered self.old.hall ≤ ready.old.registered }
+        ensures { PartYields registered self.old number (act_in self.old.hall number (Drop o)) result self.new ready.old ready.new }
+    {
+        let entry = self.cells.remove(o);
+        let kept = entry.keeps(ready);
+        ready.unregister(kept);
+        self.next = number as u128 + 1;
+        Answer::Done
+    }
+}
+
+impl<C: WaitCore> CellPart<C> {
+    /// Polls a future that waits until its cell is full. On an error nothing has changed.
+    pub fn poll_wait(
+        &mut self,
+        number: u64,
+        f: u64,
+        waker: u64,
+        ready: &mut Ready<u64>,
+    ) -> Result<Answer, NoMemory>
+        requires next { self.old.next ≤ number }
+        requires there { is_future self.old.hall f ≡ true }
+        requires waits { awaits_full self.old.hall f ≡ true }
+        requires room { registered self.old.hall ≤ ready.old.registered }
+        ensures ok { IfOk result (λ answer. PartYields registered self.old number (act_in self.old.hall number (Poll f waker)) answer self.new ready.old ready.new) }
+        ensures err { OnErr result ((self.new ≡ self.old) × (ready.new ≡ ready.old)) }
+    {
+        let future = self.futures.at_mut(f);
+        let o = future.cell;
+        let entry = self.cells.at_mut(o);
+        match entry.poll_wait(f, future, waker, ready) {
+            Err(_) => Err(NoMemory),
+            Ok(told) => {
+                self.futures.remove_if(f, told.over);
+                self.next = number as u128 + 1;
+                Ok(told.answer)
+            }
+        }
+    }
+}
+
+impl<C: WholeCore> CellPart<C> {
+    /// Polls a future that uses its cell alone. On an error nothing has changed.
+    pub fn poll_alone(
+        &mut self,
+        number: u64,
+        f: u64,
+        waker: u64,
+        ready: &mut Ready<u64>,
+    ) -> Result<Answer, NoMemory>
+        requires next { self.old.next ≤ number }
+        requires there { is_future self.old.hall f ≡ true }
+        requires alone { uses_alone self.old.hall f ≡ true }
+        requires room { registered self.old.hall ≤ ready.old.registered }
+        ensures ok { IfOk result (λ answer. PartYields registered self.old number (act_in self.old.hall number (Poll f waker)) answer self.new ready.old ready.new) }
+        ensures err { OnErr result ((self.new ≡ self.old) × (ready.new ≡ ready.old)) }
+    {
+        let future = self.futures.at_mut(f);
+        let o = future.cell;
+        let entry = self.cells.at_mut(o);
+        match entry.poll_alone(f, future, waker, ready) {
+            Err(_) => Err(NoMemory),
+            Ok(told) => {
+                self.futures.remove_if(f, told.over);
+                self.next = number as u128 + 1;
+                Ok(told.answer)
+            }
+        }
+    }
+
+    /// Tells the value of a cell that has no future. It takes no memory.
+    pub fn peek(&mut self, number: u64, o: u64) -> Answer
+        requires next { self.old.next ≤ number }
+        requires there { is_cell self.old.hall o ≡ true }
+        requires alone { futures_of self.old.hall o ≡ 0 }
+        ensures { PartRests registered self.old number (act_in self.old.hall number (Peek o)) result self.new }
+    {
+        let value = self.cells.at_mut(o).peek();
+        self.next = number as u128 + 1;
+        content(value)
+    }
+
+    /// Writes the value of a cell that has no future, where there is one. It takes no memory.
+    pub fn put(&mut self, number: u64, o: u64, value: u64) -> Answer
+        requires next { self.old.next ≤ number }
+        requires there { is_cell self.old.hall o ≡ true }
+        requires alone { futures_of self.old.hall o ≡ 0 }
+        ensures { PartRests registered self.old number (act_in self.old.hall number (Put o value)) result self.new }
+    {
+        let full = self.cells.at_mut(o).put(value);
+        self.next = number as u128 + 1;
+        done_if(full)
+    }
+
+    /// Takes the value out of a cell that has no future. It takes no memory.
+    pub fn take(&mut self, number: u64, o: u64) -> Answer
+        requires next { self.old.next ≤ number }
+        requires there { is_cell self.old.hall o ≡ true }
+        requires alone { futures_of self.old.hall o ≡ 0 }
+        ensures { PartRests registered self.old number (act_in self.old.hall number (Take o)) result self.new }
+    {
+        let value = self.cells.at_mut(o).take();
+        self.next = number as u128 + 1;
+        content(value)
+    }
+
+    /// Ends a cell that has no future, with its value. It takes no memory.
+    pub fn take_out(&mut self, number: u64, o: u64, ready: &mut Ready<u64>) -> Answer
+        requires next { self.old.next ≤ number }
+        requires there { is_cell self.old.hall o ≡ true }
+        requires alone { futures_of self.old.hall o ≡ 0 }
+        requires room { registered self.old.hall ≤ ready.old.registered }
+        ensures { PartYields registered self.old number (act_in self.old.hall number (TakeOut o)) result self.new ready.old ready.new }
+    {
+        let entry = self.cells.remove(o);
+        let kept = entry.keeps(ready);
+        ready.unregister(kept);
+        let value = entry.into_value();
+        self.next = number as u128 + 1;
+        content(value)
+    }
+}
+
+// Borrowed, where something borrows it.
+fn borrowed_if(borrowed: bool) -> Option<Stop>
+    ensures { result ≡ (if borrowed then Some Stop.Borrowed else None) }
+{
+    if borrowed { Some(Stop::Borrowed) } else { None }
+}

@@ -1,0 +1,39 @@
+ghost use Rattle.std.specs.Prelude.{◌≡◌};
+ghost use Rattle.mea_once_model.specs.Cells.{init_of};
+ghost use Rattle.mea_once.specs.Cores.{answer_of};
+
+use crate::jobs::outcome;
+use mea_base::Poll;
+use mea_named::NamedWaker;
+use mea_once_core::Init;
+use mea_once_model::{Initialiser, Job};
+
+/// The initialiser of a future in a script: it is pending until a line settles it. The waker of its last poll stays with its
+/// cell, where that line finds it.
+#[derive(Clone, Copy, Drop)]
+pub struct Scripted {
+    outcome: Initialiser,
+}
+
+impl Scripted {
+    /// That of a future that does this.
+    pub fn new(job: Job) -> Self
+        ensures { result.outcome ≡ init_of job }
+    {
+        Scripted {
+            outcome: outcome(job),
+        }
+    }
+}
+
+impl Init<u64, u64, NamedWaker> for Scripted {
+    ghost answers = { λ i w answer i'. (answer ≡ answer_of i.outcome) × (i' ≡ i) };
+
+    fn poll(&mut self, _waker: NamedWaker) -> Poll<Result<u64, u64>> {
+        match self.outcome {
+            Initialiser::Unsettled => Poll::Pending,
+            Initialiser::Gives(value) => Poll::Ready(Ok(value)),
+            Initialiser::Fails(error) => Poll::Ready(Err(error)),
+        }
+    }
+}

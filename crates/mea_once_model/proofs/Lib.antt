@@ -1,0 +1,3 @@
+mod Parts
+mod Acting
+pub mod Wakers

@@ -1,0 +1,215 @@
+-- what an event does to each of the lists of who waits at a cell, and so to all who wait there
+use Rattle.std.proofs.Common.{◌≡◌, ℕ, ◌+◌, ◌≤◌, ◌==◌, ◌++◌, ◌⊎◌, inl, inr, Bool, true, false, cond, length, List, [], ◌∷◌, Option, Some, None, is_some, option_to_list, rules, refl, ap, sym, subst, ◌∙◌, arith}
+use Rattle.std.specs.List.{Contains}
+use Rattle.std.proofs.lemmas.Bool.{eqb-true, eq-eqb, ne_eqb}
+use Rattle.std.proofs.lemmas.List.{length-append}
+use Rattle.std.proofs.lemmas.List.Elements.{Contains-append_cases, Contains-append_left, Contains-append_right}
+use Rattle.mea_named.specs.NamedQueue.{Waiting, waker_for, waits, with_waker, without}
+use Rattle.mea_named.proofs.NamedQueues.{Local, appended-other, with_waker-other, without-other, length-with_waker, length-without}
+use Rattle.mea_once_model.specs.Cells.{wakers, woken_next, registering}
+
+-- ---- who waits in one list or in another
+abbrev first_of : Option ℕ → Option ℕ → Option ℕ
+first_of None p = p
+first_of (Some w) p = Some w
+
+pub waker_for-append : (a b : Waiting) (f : ℕ) → waker_for (a ++ b) f ≡ first_of (waker_for a f) (waker_for b f)
+waker_for-append [] b f = refl
+waker_for-append (e ∷ a) b f = elim (e.0 == f) as (λ t. cond t (Some e.1) (waker_for (a ++ b) f) ≡ first_of (cond t (Some e.1) (waker_for a f)) (waker_for b f)) [
+  | true ↦ refl
+  | false ↦ waker_for-append a b f
+]
+
+pub in_first : (a b : Waiting) (f w : ℕ) → waker_for a f ≡ Some w → waker_for (a ++ b) f ≡ Some w
+in_first a b f w is = waker_for-append a b f ∙ ap (λ o. first_of o (waker_for b f)) is
+
+pub in_second : (a b : Waiting) (f : ℕ) → waker_for a f ≡ None → waker_for (a ++ b) f ≡ waker_for b f
+in_second a b f none = waker_for-append a b f ∙ ap (λ o. first_of o (waker_for b f)) none
+
+pub not_waiting : (q : Waiting) (f : ℕ) → waits q f ≡ false → waker_for q f ≡ None
+not_waiting q f = at (waker_for q f)
+  where
+    at : (o : Option ℕ) → is_some o ≡ false → o ≡ None
+    at None none = refl
+    at (Some w) none = absurd (cc)
+
+-- ---- a change of one list: all who wait there, but k, keep their wakers or are woken, none but k comes, and at most so
+-- many wait more
+pub record Part (q q' : Waiting) (ws : List ℕ) (k extra : ℕ) : Type 0 where
+  pub keeps : (f w : ℕ) → (k ≡ f → ⊥) → waker_for q f ≡ Some w → (waker_for q' f ≡ Some w) ⊎ Contains ws w
+  pub none : (f : ℕ) → (k ≡ f → ⊥) → waker_for q f ≡ None → waker_for q' f ≡ None
+  pub fits : length q' + length ws ≤ length q + extra
+  pub most : length ws ≤ length q
+
+pub part_same : (q : Waiting) (k : ℕ) → Part q q [] k 0
+part_same q k = record { keeps = λ f w apart is. inl is; none = λ f apart is. is; fits = omega arith; most = omega arith }
+
+pub part_pushed : (q : Waiting) (f w : ℕ) → Part q (q ++ (f, w) ∷ []) [] f 1
+part_pushed q f w = record {
+  keeps = λ g v apart is. inl (appended-other q f w g apart ∙ is);
+  none = λ g apart is. appended-other q f w g apart ∙ is;
+  fits = omega (arith, length-append q ((f, w) ∷ []));
+  most = omega arith;
+}
+
+pub part_with : (q : Waiting) (f w : ℕ) → Part q (with_waker q f w) [] f 0
+part_with q f w = record {
+  keeps = λ g v apart is. inl (with_waker-other q f w g apart ∙ is);
+  none = λ g apart is. with_waker-other q f w g apart ∙ is;
+  fits = omega (arith, length-with_waker q f w);
+  most = omega arith;
+}
+
+pub part_without : (q : Waiting) (f : ℕ) → Part q (without q f) [] f 0
+part_without q f = record {
+  keeps = λ g v apart is. inl (without-other q f g apart ∙ is);
+  none = λ g apart is. without-other q f g apart ∙ is;
+  fits = omega (arith, length-without q f);
+  most = omega arith;
+}
+
+-- ---- one registers
+registering-there : (q : Waiting) (f w : ℕ) → waker_for (registering q f w) f ≡ Some w
+registering-there [] f w = ap (λ b. cond b (Some w) None) (eq-eqb f f refl)
+registering-there (e ∷ q) f w = elim (e.0 == f) as (λ b. (e.0 == f) ≡ b → waker_for (cond b ((e.0, w) ∷ q) (e ∷ registering q f w)) f ≡ Some w) [
+  | true ↦ λ is. ap (λ b. cond b (Some w) (waker_for q f)) is
+  | false ↦ λ is. ap (λ b. cond b (Some e.1) (waker_for (registering q f w) f)) is ∙ registering-there q f w
+] refl
+
+registering-other : (q : Waiting) (f w g : ℕ) → (f ≡ g → ⊥) → waker_for (registering q f w) g ≡ waker_for q g
+registering-other [] f w g apart = ap (λ b. cond b (Some w) None) (ne_eqb f g apart)
+registering-other (e ∷ q) f w g apart = elim (e.0 == f) as (λ b. (e.0 == f) ≡ b → waker_for (cond b ((e.0, w) ∷ q) (e ∷ registering q f w)) g ≡ cond (e.0 == g) (Some e.1) (waker_for q g)) [
+  | true ↦ λ is.
+      let other : (e.0 == g) ≡ false = ne_eqb e.0 g (λ same. apart (sym (eqb-true e.0 f is) ∙ same)) in
+      ap (λ b. cond b (Some w) (waker_for q g)) other ∙ sym (ap (λ b. cond b (Some e.1) (waker_for q g)) other)
+  | false ↦ λ is. ap (cond (e.0 == g) (Some e.1)) (registering-other q f w g apart)
+] refl
+
+length-registering : (q : Waiting) (f w : ℕ) → length (registering q f w) ≤ length q + 1
+length-registering [] f w = omega arith
+length-registering (e ∷ q) f w = elim (e.0 == f) as (λ b. length (cond b ((e.0, w) ∷ q) (e ∷ registering q f w)) ≤ length (e ∷ q) + 1) [
+  | true ↦ omega arith
+  | false ↦ omega (arith, length-registering q f w)
+]
+
+pub part_registering : (q : Waiting) (f w : ℕ) → Part q (registering q f w) [] f 1
+part_registering q f w = record {
+  keeps = λ g v apart is. inl (registering-other q f w g apart ∙ is);
+  none = λ g apart is. registering-other q f w g apart ∙ is;
+  fits = omega (arith, length-registering q f w);
+  most = omega arith;
+}
+
+pub registers_there : (q : Waiting) (f w : ℕ) → waker_for (registering q f w) f ≡ Some w
+registers_there q f w = registering-there q f w
+
+-- ---- one is woken, the first is, and all are
+one-of : (w : ℕ) (ws : List ℕ) → Contains (w ∷ ws) w
+one-of w ws = search rules
+
+settled-keeps : (q : Waiting) (f g w : ℕ) → waker_for q g ≡ Some w → (waker_for (without q f) g ≡ Some w) ⊎ Contains (option_to_list (waker_for q f)) w
+settled-keeps q f g w is = at (f == g) refl
+  where
+    at : (b : Bool) → (f == g) ≡ b → (waker_for (without q f) g ≡ Some w) ⊎ Contains (option_to_list (waker_for q f)) w
+    at true same = inr (subst (λ o. Contains (option_to_list o) w) (sym (ap (waker_for q) (eqb-true f g same) ∙ is)) (one-of w []))
+    at false differs = inl (without-other q f g (λ same. absurd (let yes = eq-eqb f g same in cc)) ∙ is)
+
+settled-none : (q : Waiting) (f g : ℕ) → waker_for q g ≡ None → waker_for (without q f) g ≡ None
+settled-none [] f g = λ is. refl
+settled-none (e ∷ q) f g = elim (e.0 == g) as (λ b. (e.0 == g) ≡ b → cond b (Some e.1) (waker_for q g) ≡ None → waker_for (without (e ∷ q) f) g ≡ None) [
+  | true ↦ λ here is. absurd (cc)
+  | false ↦ λ other is. elim (e.0 == f) as (λ t. waker_for (cond t (without q f) (e ∷ without q f)) g ≡ None) [
+    | true ↦ settled-none q f g is
+    | false ↦ ap (λ b. cond b (Some e.1) (waker_for (without q f) g)) other ∙ settled-none q f g is
+  ]
+] refl
+
+settled-fits : (q : Waiting) (f : ℕ) → length (without q f) + length (option_to_list (waker_for q f)) ≤ length q
+settled-fits [] f = omega arith
+settled-fits (e ∷ q) f = elim (e.0 == f) as (λ b. length (cond b (without q f) (e ∷ without q f)) + length (option_to_list (cond b (Some e.1) (waker_for q f))) ≤ length (e ∷ q)) [
+  | true ↦ omega (arith, length-without q f)
+  | false ↦ omega (arith, settled-fits q f)
+]
+
+pub part_settled : (q : Waiting) (f k : ℕ) → Part q (without q f) (option_to_list (waker_for q f)) k 0
+part_settled q f k = record {
+  keeps = λ g w apart is. settled-keeps q f g w is;
+  none = λ g apart is. settled-none q f g is;
+  fits = omega (arith, settled-fits q f);
+  most = omega (arith, settled-fits q f);
+}
+
+-- the first goes, if there is one
+abbrev pub behind : Waiting → Waiting
+behind [] = []
+behind (e ∷ q) = q
+
+pub part_next : (q : Waiting) (k : ℕ) → Part q (behind q) (woken_next q) k 0
+part_next [] k = part_same [] k
+part_next (e ∷ q) k = record {
+  keeps = λ f w apart. elim (e.0 == f) as (λ b. cond b (Some e.1) (waker_for q f) ≡ Some w → (waker_for q f ≡ Some w) ⊎ Contains (e.1 ∷ []) w) [
+    | true ↦ λ is. let same : e.1 ≡ w = cc in inr (subst (Contains (e.1 ∷ [])) same (one-of e.1 []))
+    | false ↦ λ is. inl is
+  ];
+  none = λ f apart. elim (e.0 == f) as (λ b. cond b (Some e.1) (waker_for q f) ≡ None → waker_for q f ≡ None) [
+    | true ↦ λ is. absurd (cc)
+    | false ↦ λ is. is
+  ];
+  fits = omega arith;
+  most = omega arith;
+}
+
+all_woken : (q : Waiting) (f w : ℕ) → waker_for q f ≡ Some w → Contains (wakers q) w
+all_woken [] f w = λ is. absurd (cc)
+all_woken (e ∷ q) f w = elim (e.0 == f) as (λ b. cond b (Some e.1) (waker_for q f) ≡ Some w → Contains (wakers (e ∷ q)) w) [
+  | true ↦ λ is. let same : e.1 ≡ w = cc in subst (Contains (wakers (e ∷ q))) same (one-of e.1 (wakers q))
+  | false ↦ λ is. Contains-append_right (e.1 ∷ []) (wakers q) w (all_woken q f w is)
+]
+
+length-wakers : (q : Waiting) → length (wakers q) ≡ length q
+length-wakers [] = refl
+length-wakers (e ∷ q) = omega (arith, length-wakers q)
+
+pub part_drained : (q : Waiting) (k : ℕ) → Part q [] (wakers q) k 0
+part_drained q k = record { keeps = λ f w apart is. inr (all_woken q f w is); none = λ f apart is. refl; fits = omega (arith, length-wakers q); most = omega (arith, length-wakers q) }
+
+-- ---- changes of two lists together, whose wakes are all among these
+pub both : (a a' b b' : Waiting) (ws vs us : List ℕ) (k m n : ℕ) → Part a a' ws k m → Part b b' vs k n → ((w : ℕ) → Contains ws w → Contains us w) → ((w : ℕ) → Contains vs w → Contains us w)
+    → length us ≡ length ws + length vs → Part (a ++ b) (a' ++ b') us k (m + n)
+both a a' b b' ws vs us k m n first second left right long = record {
+  keeps = λ f w apart is. keeps f w apart (waker_for a f) refl is;
+  none = λ f apart is. nobody f apart (waker_for a f) refl is;
+  fits = omega (arith, long, first.fits, second.fits, length-append a b, length-append a' b');
+  most = omega (arith, long, first.most, second.most, length-append a b);
+}
+  where
+    keeps : (f w : ℕ) → (k ≡ f → ⊥) → (o : Option ℕ) → waker_for a f ≡ o → waker_for (a ++ b) f ≡ Some w → (waker_for (a' ++ b') f ≡ Some w) ⊎ Contains us w
+    keeps f w apart (Some v) here is =
+        let same : Some v ≡ Some w = sym (in_first a b f v here) ∙ is in
+        elim (first.keeps f w apart (here ∙ same)) [ inl kept ↦ inl (in_first a' b' f w kept) | inr woken ↦ inr (left w woken) ]
+    keeps f w apart None absent is =
+        elim (second.keeps f w apart (sym (in_second a b f absent) ∙ is)) [ inl kept ↦ inl (in_second a' b' f (first.none f apart absent) ∙ kept) | inr woken ↦ inr (right w woken) ]
+
+    nobody : (f : ℕ) → (k ≡ f → ⊥) → (o : Option ℕ) → waker_for a f ≡ o → waker_for (a ++ b) f ≡ None → waker_for (a' ++ b') f ≡ None
+    nobody f apart (Some v) here is = absurd (let there = in_first a b f v here in cc)
+    nobody f apart None absent is = in_second a' b' f (first.none f apart absent) ∙ second.none f apart (sym (in_second a b f absent) ∙ is)
+
+pub local_of : (q q' : Waiting) (ws : List ℕ) (k extra : ℕ) → Part q q' ws k extra → Local q q' ws k extra
+local_of q q' ws k extra part = record { keeps = part.keeps; fits = part.fits; most = part.most }
+
+-- the lists of a cell: who waits for the turn, whose initialiser runs, and who waits until it is full. The wakes of the last
+-- come first
+pub together : (q q' r r' s s' : Waiting) (ws vs us : List ℕ) (k l m n : ℕ) → Part q q' ws k l → Part r r' vs k m → Part s s' us k n
+    → Local (q ++ (r ++ s)) (q' ++ (r' ++ s')) (us ++ (vs ++ ws)) k (l + (m + n))
+together q q' r r' s s' ws vs us k l m n first second third =
+    local_of _ _ _ _ _ (both q q' (r ++ s) (r' ++ s') ws (vs ++ us) (us ++ (vs ++ ws)) k l (m + n) first
+    (both r r' s s' vs us (vs ++ us) k m n second third (λ w has. Contains-append_left vs us w has) (λ w has. Contains-append_right vs us w has) (length-append vs us))
+    (λ w has. Contains-append_right us (vs ++ ws) w (Contains-append_right vs ws w has))
+    (λ w has. others w has)
+    (omega (arith, length-append us (vs ++ ws), length-append vs ws, length-append vs us)))
+  where
+    others : (w : ℕ) → Contains (vs ++ us) w → Contains (us ++ (vs ++ ws)) w
+    others w has = elim (Contains-append_cases vs us w has) [
+      | inl woken ↦ Contains-append_right us (vs ++ ws) w (Contains-append_left vs ws w woken)
+      | inr woken ↦ Contains-append_left us (vs ++ ws) w woken
+    ]

@@ -1,0 +1,332 @@
+-- cells by name that are filled once, with the futures that are of them
+use Rattle.std.specs.Prelude.{ℕ, zero, suc, ◌≡◌, ◌++◌, ◌==◌, Bool, true, false, not, cond, List, [], ◌∷◌, map, Option, Some, None, is_some, option_to_list, if◌then◌else◌, refl}
+use Rattle.std.specs.Coded.{Coded, code_by, coded×, coded_ℕ, coded_bool, coded_list, coded_option}
+use Rattle.std.specs.FinMap.{empty, get, insert, remove, len}
+use Rattle.mea_base.specs.declared.answer.Answer.{Answer}
+use Rattle.mea_base.specs.declared.answer.Answer.TheVariants as answers
+use Rattle.mea_base.specs.Family.{Outcome, quietly}
+use Rattle.mea_once_model.specs.declared.job.Initialiser.{Initialiser}
+use Rattle.mea_once_model.specs.declared.job.Initialiser.TheVariants.{Unsettled, Gives, Fails}
+use Rattle.mea_once_model.specs.declared.job.Job.{Job}
+use Rattle.mea_once_model.specs.declared.job.Job.TheVariants.{Calls, Computes, Alone, Sets, Inserts, Awaits}
+use Rattle.mea_named.specs.ByName.{Names, names_code, own, count}
+use Rattle.mea_named.specs.NamedQueue as named_queue
+use Rattle.mea_named.specs.NamedQueue.{Waiting, waker_for, waits, with_waker, without}
+
+-- a cell: its value or none; whether one of its callers has its turn; who waits for the turn, in order; whose initialiser
+-- was polled with which waker, and is not settled; and who waits until it is full. A call that runs once is a cell whose
+-- value tells nothing
+pub record Cell : Type 0 where
+  pub value : Option ℕ
+  pub taken : Bool
+  pub queue : Waiting
+  pub runner : Waiting
+  pub waits : Waiting
+
+-- a future: its cell, what it does, and whether it has asked for its turn, which one that uses its cell alone does not. One
+-- that has, and waits no more, has its turn
+pub record CellFuture : Type 0 where
+  pub cell : ℕ
+  pub job : Job
+  pub polled : Bool
+
+pub record Cells : Type 0 where
+  pub cells : Names Cell
+  pub futures : Names CellFuture
+
+abbrev pub no_cells : Cells
+no_cells = record { cells = empty; futures = empty }
+
+-- ---- what lives
+abbrev pub is_cell : Cells → ℕ → Bool
+is_cell h o = is_some (get h.cells o)
+
+abbrev pub is_future : Cells → ℕ → Bool
+is_future h f = is_some (get h.futures f)
+
+abbrev pub is_open : Initialiser → Bool
+is_open Unsettled = true
+is_open (Gives v) = false
+is_open (Fails e) = false
+
+-- whether it has an initialiser that is not settled
+abbrev pub can_settle : Job → Bool
+can_settle (Calls i) = is_open i
+can_settle (Computes i) = is_open i
+can_settle (Alone i) = is_open i
+can_settle (Sets v) = false
+can_settle (Inserts v) = false
+can_settle Awaits = false
+
+abbrev pub settles_in : Option CellFuture → Bool
+settles_in None = false
+settles_in (Some x) = can_settle x.job
+
+abbrev pub is_unsettled : Cells → ℕ → Bool
+is_unsettled h f = settles_in (get h.futures f)
+
+abbrev pub is_alone : Job → Bool
+is_alone (Alone i) = true
+is_alone _ = false
+
+-- how many futures a cell has
+abbrev pub futures_of : Cells → ℕ → ℕ
+futures_of h o = len (own (λ (x : CellFuture). x.cell) o h.futures)
+
+-- how many of them use it alone
+abbrev pub alone_of : Cells → ℕ → ℕ
+alone_of h o = count (λ x. is_alone x.job) (own (λ (x : CellFuture). x.cell) o h.futures)
+
+-- all whose wakers a cell keeps
+abbrev pub waiting_at : Cell → Waiting
+waiting_at c = c.queue ++ (c.runner ++ c.waits)
+
+-- how many wakers are registered
+abbrev pub registered : Cells → ℕ
+registered h = named_queue.registered waiting_at h.cells
+
+-- the waker that is kept for f
+abbrev pub placed : Cells → ℕ → Option ℕ
+placed h f = named_queue.placed waiting_at (λ (x : CellFuture). x.cell) h.cells h.futures f
+
+-- ---- what is told
+-- where the cell was full with v
+abbrev pub found_full : Job → ℕ → Answer
+found_full (Calls i) v = answers.Ready
+found_full (Computes i) v = answers.Value v
+found_full (Alone i) v = answers.Value v
+found_full (Sets u) v = answers.Back u
+found_full (Inserts u) v = answers.Kept v u
+found_full Awaits v = answers.Ready
+
+-- where this future filled it with v
+abbrev pub has_filled : Job → ℕ → Answer
+has_filled (Calls i) v = answers.Ready
+has_filled (Computes i) v = answers.Value v
+has_filled (Alone i) v = answers.Value v
+has_filled (Sets u) v = answers.Accepted
+has_filled (Inserts u) v = answers.Value v
+has_filled Awaits v = answers.Ready
+
+abbrev pub content : Option ℕ → Answer
+content None = answers.Lacking
+content (Some v) = answers.Value v
+
+-- ---- what becomes of a cell
+abbrev pub new_cell : Option ℕ → Cell
+new_cell v = record { value = v; taken = false; queue = []; runner = []; waits = [] }
+
+-- the turn goes to the first of these, or to nobody
+abbrev pub passed : Waiting → Cell → Cell
+passed [] c = record c { taken = false; queue = [] }
+passed (e ∷ q) c = record c { queue = q }
+
+abbrev pub woken_next : Waiting → List ℕ
+woken_next [] = []
+woken_next (e ∷ q) = e.1 ∷ []
+
+abbrev pub wakers : Waiting → List ℕ
+wakers q = map (λ (e : ℕ × ℕ). e.1) q
+
+-- f, whose turn it is, gives it up
+abbrev pub given_up : ℕ → Cell → Cell
+given_up f c = passed c.queue (record c { runner = without c.runner f })
+
+-- f fills it, and all who wait for that are woken
+abbrev pub filled : ℕ → ℕ → Cell → Cell
+filled f v c = passed c.queue (record c { value = Some v; runner = without c.runner f; waits = [] })
+
+-- f has this waker: in the place of its own, or last
+abbrev pub registering : Waiting → ℕ → ℕ → Waiting
+registering [] f w = (f, w) ∷ []
+registering (e ∷ q) f w = cond (e.0 == f) ((e.0, w) ∷ q) (e ∷ registering q f w)
+
+-- ---- what a future does
+abbrev pub init_of : Job → Initialiser
+init_of (Calls i) = i
+init_of (Computes i) = i
+init_of (Alone i) = i
+init_of (Sets v) = Gives v
+init_of (Inserts v) = Gives v
+init_of Awaits = Unsettled
+
+abbrev pub settled : Initialiser → Job → Job
+settled r (Calls i) = Calls r
+settled r (Computes i) = Computes r
+settled r (Alone i) = Alone r
+settled r (Sets v) = Sets v
+settled r (Inserts v) = Inserts v
+settled r Awaits = Awaits
+
+abbrev pub with_cell : Cells → ℕ → Cell → Cells
+with_cell h o c = record h { cells = insert h.cells o c }
+
+abbrev pub make : Cells → ℕ → Option ℕ → Outcome Cells
+make h i v = quietly (with_cell h i (new_cell v)) answers.Made
+
+abbrev pub begin : Cells → ℕ → ℕ → Job → Outcome Cells
+begin h i o job = quietly (record h { futures = insert h.futures i (record { cell = o; job = job; polled = false }) }) answers.Made
+
+-- what becomes of a cell and of one of its futures, which may be gone, the reply, and the wakers that are made ready
+pub record Step : Type 0 where
+  pub cell : Cell
+  pub future : Option CellFuture
+  pub reply : Answer
+  pub wakes : List ℕ
+
+-- the future waits on
+abbrev pub pends : CellFuture → Cell → Step
+pends x c = record { cell = c; future = Some x; reply = answers.Pending; wakes = [] }
+
+-- the future is gone
+abbrev pub leaves : Cell → Answer → List ℕ → Step
+leaves c reply ws = record { cell = c; future = None; reply = reply; wakes = ws }
+
+-- the initialiser of f, whose turn it is: it keeps the waker, or fills the cell, or fails
+abbrev pub run : ℕ → ℕ → CellFuture → Cell → Initialiser → Step
+run f w x c Unsettled = pends (record x { polled = not (is_alone x.job) }) (record c { runner = c.runner ++ (f, w) ∷ [] })
+run f w x c (Gives v) = leaves (filled f v c) (has_filled x.job v) (wakers c.waits ++ woken_next c.queue)
+run f w x c (Fails e) = leaves (given_up f c) (answers.Failure e) (woken_next c.queue)
+
+-- whose turn has come looks again: a value that is there by now is enough, and the turn goes to the next
+abbrev pub take_turn : ℕ → ℕ → CellFuture → Cell → Option ℕ → Step
+take_turn f w x c None = run f w x c (init_of x.job)
+take_turn f w x c (Some v) = leaves (given_up f c) (found_full x.job v) (woken_next c.queue)
+
+-- f waits for its turn
+abbrev pub queues : ℕ → ℕ → CellFuture → Cell → Step
+queues f w x c = pends (record x { polled = true }) (record c { queue = c.queue ++ (f, w) ∷ [] })
+
+-- f waits until the cell is full
+abbrev pub awaits : ℕ → ℕ → CellFuture → Cell → Step
+awaits f w x c = pends x (record c { waits = registering c.waits f w })
+
+-- f waits for its turn, or has it at once
+abbrev pub ask : ℕ → ℕ → CellFuture → Cell → Initialiser → Step
+ask f w x c r = if c.taken then queues f w x c else run f w x (record c { taken = true }) r
+
+-- what f does at an empty cell: it waits until that is full, or runs alone, or asks for its turn
+abbrev pub start_in : ℕ → ℕ → CellFuture → Cell → Job → Step
+start_in f w x c (Calls r) = ask f w x c r
+start_in f w x c (Computes r) = ask f w x c r
+start_in f w x c (Alone r) = run f w x c r
+start_in f w x c (Sets v) = ask f w x c (Gives v)
+start_in f w x c (Inserts v) = ask f w x c (Gives v)
+start_in f w x c Awaits = awaits f w x c
+
+-- a first poll looks first
+abbrev pub start : ℕ → ℕ → CellFuture → Cell → Option ℕ → Step
+start f w x c None = start_in f w x c x.job
+start f w x c (Some v) = leaves c (found_full x.job v) []
+
+-- who waits for its turn, or has an initialiser that is not settled, or waits until the cell is full, waits on
+abbrev pub poll : ℕ → ℕ → CellFuture → Cell → Step
+poll f w x c =
+    if waits c.queue f then pends x (record c { queue = with_waker c.queue f w })
+    else if waits c.runner f then pends x (record c { runner = with_waker c.runner f w })
+    else if waits c.waits f then awaits f w x c
+    else if x.polled then take_turn f w x c c.value
+    else start f w x c c.value
+
+-- the initialiser of f is settled, and the waker that it was last polled with is woken
+abbrev pub settle : ℕ → Initialiser → CellFuture → Cell → Step
+settle f r x c = record { cell = record c { runner = without c.runner f }; future = Some (record x { job = settled r x.job }); reply = answers.Done; wakes = option_to_list (waker_for c.runner f) }
+
+-- the end of a future: it leaves the queue, or gives up its turn; who waits until the cell is full stays registered
+abbrev pub end : ℕ → CellFuture → Cell → Step
+end f x c =
+    if waits c.queue f then leaves (record c { queue = without c.queue f }) answers.Done []
+    else if x.polled then leaves (given_up f c) answers.Done (woken_next c.queue)
+    else leaves (record c { runner = without c.runner f }) answers.Done []
+
+-- this is what becomes of a future
+abbrev pub turned_to : Names CellFuture → ℕ → Option CellFuture → Names CellFuture
+turned_to fs f None = remove fs f
+turned_to fs f (Some y) = insert fs f y
+
+-- a step of the future f and its cell o
+abbrev pub applied : Cells → ℕ → ℕ → Step → Outcome Cells
+applied h f o s = record { hall = record { cells = insert h.cells o s.cell; futures = turned_to h.futures f s.future }; reply = s.reply; wakes = s.wakes }
+
+-- the end of a future whose cell is there, as it is while the future is
+abbrev pub end_at : Cells → ℕ → CellFuture → Option Cell → Outcome Cells
+end_at h f x None = quietly (record h { futures = remove h.futures f }) answers.Done
+end_at h f x (Some c) = applied h f x.cell (end f x c)
+
+-- ---- for who has the whole cell
+abbrev pub tell : Cells → Cell → Outcome Cells
+tell h c = quietly h (content c.value)
+
+abbrev pub tell_full : Cells → Cell → Outcome Cells
+tell_full h c = quietly h (if is_some c.value then answers.Yes else answers.No)
+
+abbrev pub put_in : Cells → ℕ → ℕ → Cell → Option ℕ → Outcome Cells
+put_in h o v c None = quietly h answers.Lacking
+put_in h o v c (Some u) = quietly (with_cell h o (record c { value = Some v })) answers.Done
+
+abbrev pub take_out : Cells → ℕ → Cell → Outcome Cells
+take_out h o c = quietly (with_cell h o (record c { value = None })) (content c.value)
+
+-- it is gone
+abbrev pub gone : Cells → ℕ → Answer → Outcome Cells
+gone h o reply = quietly (record h { cells = remove h.cells o }) reply
+
+-- ---- codes, by which a proof tells two values apart
+abbrev pub waiting_code : Coded Waiting
+waiting_code = coded_list (coded× coded_ℕ coded_ℕ)
+
+abbrev pub cell_code : Coded Cell
+cell_code =
+    code_by (Option ℕ × (Bool × (Waiting × (Waiting × Waiting)))) (coded× (coded_option coded_ℕ) (coded× coded_bool (coded× waiting_code (coded× waiting_code waiting_code))))
+    (λ c. (c.value, (c.taken, (c.queue, (c.runner, c.waits))))) (λ p. record { value = p.0; taken = p.1.0; queue = p.1.1.0; runner = p.1.1.1.0; waits = p.1.1.1.1 }) (λ _. refl)
+
+abbrev pub init_number : Initialiser → ℕ × ℕ
+init_number Unsettled = (0, 0)
+init_number (Gives v) = (1, v)
+init_number (Fails e) = (2, e)
+
+abbrev pub init_of_number : ℕ × ℕ → Initialiser
+init_of_number (zero, v) = Unsettled
+init_of_number (suc zero, v) = Gives v
+init_of_number (suc (suc n), v) = Fails v
+
+pub init_back : (i : Initialiser) → init_of_number (init_number i) ≡ i
+init_back Unsettled = refl
+init_back (Gives v) = refl
+init_back (Fails e) = refl
+
+abbrev pub init_code : Coded Initialiser
+init_code = code_by (ℕ × ℕ) (coded× coded_ℕ coded_ℕ) init_number init_of_number init_back
+
+abbrev pub job_number : Job → ℕ × (Initialiser × ℕ)
+job_number (Calls i) = (0, (i, 0))
+job_number (Computes i) = (1, (i, 0))
+job_number (Alone i) = (2, (i, 0))
+job_number (Sets v) = (3, (Unsettled, v))
+job_number (Inserts v) = (4, (Unsettled, v))
+job_number Awaits = (5, (Unsettled, 0))
+
+abbrev pub job_of_number : ℕ × (Initialiser × ℕ) → Job
+job_of_number (zero, p) = Calls p.0
+job_of_number (suc zero, p) = Computes p.0
+job_of_number (suc (suc zero), p) = Alone p.0
+job_of_number (suc (suc (suc zero)), p) = Sets p.1
+job_of_number (suc (suc (suc (suc zero))), p) = Inserts p.1
+job_of_number (suc (suc (suc (suc (suc n)))), p) = Awaits
+
+pub job_back : (j : Job) → job_of_number (job_number j) ≡ j
+job_back (Calls i) = refl
+job_back (Computes i) = refl
+job_back (Alone i) = refl
+job_back (Sets v) = refl
+job_back (Inserts v) = refl
+job_back Awaits = refl
+
+abbrev pub job_code : Coded Job
+job_code = code_by (ℕ × (Initialiser × ℕ)) (coded× coded_ℕ (coded× init_code coded_ℕ)) job_number job_of_number job_back
+
+abbrev pub future_code : Coded CellFuture
+future_code = code_by (ℕ × (Job × Bool)) (coded× coded_ℕ (coded× job_code coded_bool)) (λ x. (x.cell, (x.job, x.polled))) (λ p. record { cell = p.0; job = p.1.0; polled = p.1.1 }) (λ _. refl)
+
+abbrev pub cells_code : Coded Cells
+cells_code = code_by (Names Cell × Names CellFuture) (coded× (names_code cell_code) (names_code future_code)) (λ h. (h.cells, h.futures)) (λ p. record { cells = p.0; futures = p.1 }) (λ _. refl)

@@ -1,0 +1,136 @@
+-- what is looked up in admissions as they are seen
+use Rattle.std.proofs.Common.{◌≡◌, ◌≢◌, ℕ, ◌+◌, ◌-◌, ◌<◌, ◌≤◌, ◌^◌, ◌==◌, ◌&&◌, ◌⊎◌, ◌++◌, inl, inr, Bool, true, false, not, cond, List, [], nat_lt, nat_eq, Option, Some, None, IsSome, option_map, is_some, if◌then◌else◌, refl, ap, sym, subst, ◌∙◌, arith, append-nil}
+use Rattle.std.specs.Ordering.{nat_cmp}
+use Rattle.std.specs.Cmp.{nat_cmp_total}
+use Rattle.std.specs.FinMap.{get, insert, remove, len, empty, len-empty, len-insert}
+use Rattle.std.proofs.lemmas.Bool.{cases_lt, eqb-true, eq-eqb}
+use Rattle.std.proofs.lemmas.Bool.Decides.{nat_tests}
+use Rattle.futures.specs.declared.task.Poll.{Poll}
+use Rattle.futures.specs.declared.task.Poll.TheVariants.{Ready, Pending}
+use Rattle.mea_base.specs.declared.answer.Answer.{Answer}
+use Rattle.mea_base.specs.declared.answer.Answer.TheVariants as answers
+use Rattle.mea_base.specs.Family.{Outcome, quietly}
+use Rattle.mea_base.specs.Causes.{unknown_unless}
+use Rattle.mea_base.specs.Ready.{Waking}
+use Rattle.mea_base.specs.Totals.{total, weight}
+use Rattle.mea_base.proofs.Maps.{total-has, nothing_at, inside, get-there, is_there, value_in, by_put, removed_there, is_absent}
+use Rattle.mea_base.proofs.Totals.{total-insert, total-remove, total-same, total-empty}
+use Rattle.mea_base.proofs.NamedMaps.{get-seen, is_some-map}
+use Rattle.mea_named.specs.ByName.{Names, seen, own, count}
+use Rattle.mea_named.specs.HallKept.{HallKept}
+use Rattle.mea_named.specs.Play.{Part, PartYields, PartRests, found}
+use Rattle.mea_named.proofs.Cases.{found_is, if_true, if_false}
+use Rattle.mea_named.proofs.Halls as halls
+use Rattle.mea_named.proofs.Own.{seen-at, seen-back, seen-none, seen-empty, seen-insert, seen-remove, seen-alike, own-seen, len-seen, total-seen, own-at, own-none, own-put, own-gone, len-some, len-new, len-over, len-gone, count-put, count-over, count-new, count-gone, count-least, insert_same, put_gone, gone_none, Moves, Stays, Comes, Goes}
+use Rattle.mea_share_core.specs.declared.share_acquire.ShareStage.{ShareStage}
+use Rattle.mea_share_core.specs.declared.share_acquire.ShareStage.TheVariants.{New, Queued, Done}
+use Rattle.mea_share_core.specs.Share.{Share, waiting_of, IsWaiting, IsAdmitted, taken, queued, left, readied, given_up, released, weighing}
+use Rattle.mea_share_core.specs.Groups.{share_in, held_in, waiting_in}
+use Rattle.mea_share_core.specs.Fair.{Fair, IsSettled, share_of, waiters_of, is_queued, Becomes, IsSame, PassesOn, GivesBack, Belongs, Polls, Cancels}
+use Rattle.mea_share_model.specs.declared.event.ShareEvent.{ShareEvent}
+use Rattle.mea_share_model.specs.declared.event.ShareEvent.TheVariants.{FsNew, FsFree, FsWaiters, FsTry, FsTryo, FsAcq, FsAcqo, FsPoll, FsKey, FsEnd, FsDrop, FsWeight, FsWeightof}
+use Rattle.mea_share_model.specs.Next as next_model
+use Rattle.mea_share_model.specs.Next.{Shares, Waiter, share_at, put_share, next_of}
+use Rattle.mea_share_model.specs.Admissions as model
+use Rattle.mea_share_model.specs.Admissions.{Admission, ShareFuture, SharePermit, ShareHall, registered, with_share, passed, woken, tidied_admissions, things_of, plain_of, is_named, is_named_one, is_future, is_permit}
+use Rattle.mea_share_model.specs.Meaning.{cause_of, step, end_by}
+use Rattle.mea_share_model.specs.Valid.{is_of as model_is_of, HasNumber, HasAt, AreValid}
+use Rattle.mea_share_model.proofs.Keeping.{AreLow, valid_after, valid_start}
+use Rattle.mea_share_model.proofs.Changes.{len-least, by_key}
+use Rattle.mea_share.specs.Kept.{KeptAdmission, KeptFuture, shares_seen, admission_seen, number_of, future_seen, hall_seen, AreGood, AreKept, of_future, of_permit, size_of, IsKept}
+use Rattle.mea_share.specs.Entries.{new_admission, begun, finished, is_over, Takes, Weighs, PollsEntry, HandsOn, EndsWait, Releases}
+use Rattle.mea_share.specs.Lends.{StandsFor, AreSettled, begins, tries}
+use Rattle.mea_share.proofs.Seen.{share_seen, alike_seen, sets_seen, nothing_seen, Tallies, tallies_sets, tallies_alike, passes_seen}
+use Rattle.mea_share.proofs.Sites.{Site, low, part_of, registered_is, waiters}
+
+module _ {old : Part ShareHall} {i : ℕ} (s : Site old i) where
+  -- why the end of a name is not refused
+  pub drop_cause : (o : ℕ) → is_named old.hall o ≡ true → plain_of old.hall o ≡ 0 → cause_of (hall_seen s.es s.fs s.ps) (FsDrop o) ≡ None
+  drop_cause o named none =
+      let plain : plain_of (hall_seen s.es s.fs s.ps) o ≡ 0 = ap (λ (p : Part ShareHall). plain_of p.hall o) s.view ∙ none in
+      if_true (is_named (hall_seen s.es s.fs s.ps) o) _ _ (ap (λ (p : Part ShareHall). is_named p.hall o) s.view ∙ named)
+      ∙ if_false (nat_lt 0 (plain_of (hall_seen s.es s.fs s.ps) o)) _ _ (ap (nat_lt 0) plain)
+
+  pub future_none : (f : ℕ) → get old.hall.futures f ≡ None → get s.fs f ≡ None
+  future_none f none = at (get s.fs f) refl
+    where
+      at : (p : Option KeptFuture) → get s.fs f ≡ p → get s.fs f ≡ None
+      at None is = is
+      at (Some x) is = absurd (let there = seen-at future_seen s.fs f x is in let gone : get (seen future_seen s.fs) f ≡ None = ap (λ (p : Part ShareHall). get p.hall.futures f) s.view ∙ none in cc)
+
+  -- what was looked at is as it was
+  pub same_future : (f : ℕ) (x : KeptFuture) → get s.fs f ≡ Some x → IsKept s.es (insert s.fs f x) s.ps s.next × (◌≡◌ {A = Part ShareHall} (part_of s.es (insert s.fs f x) s.ps s.next) old)
+  same_future f x is = rw (insert_same s.fs f x is) (s.kept, s.view)
+
+  pub same_both : (o : ℕ) (e : KeptAdmission) (f : ℕ) (x : KeptFuture) → get s.es o ≡ Some e → get s.fs f ≡ Some x
+      → IsKept (insert s.es o e) (insert s.fs f x) s.ps s.next × (◌≡◌ {A = Part ShareHall} (part_of (insert s.es o e) (insert s.fs f x) s.ps s.next) old)
+  same_both o e f x there is = rw (insert_same s.es o e there, insert_same s.fs f x is) (s.kept, s.view)
+
+  pub over_put : (o : ℕ) (e : KeptAdmission) → IsSome (get (insert s.es o e) o)
+  over_put o e = is_there (get (insert s.es o e) o) e (get-there s.es o e)
+
+  pub permit_home : (q : ℕ) (p : SharePermit) → get s.ps q ≡ Some p → IsSome (get s.es p.admission)
+  permit_home q p is = (s.kept.hall.seconds.at q p is).1
+
+  pub future_home : (f : ℕ) (x : KeptFuture) → get s.fs f ≡ Some x → IsSome (get s.es x.admission)
+  future_home f x is = (s.kept.hall.firsts.at f x is).1
+
+  pub its_good : (o : ℕ) (e : KeptAdmission) → get s.es o ≡ Some e → AreGood e (own of_future o s.fs) (own of_permit o s.ps)
+  its_good o e there = (s.kept.hall.each o e there).good
+
+  -- there is room for each that waits
+  pub its_room : (o : ℕ) (e : KeptAdmission) (before : Waking ℕ) → get s.es o ≡ Some e → registered old.hall ≤ before.registered → waiters e ≤ before.registered
+  its_room o e before there room =
+      let all = ap (λ (p : Part ShareHall). registered p.hall) s.view in
+      omega (arith, room, all, registered_is s.es s.fs s.ps s.next s.kept.hall, total-has (λ o (d : KeptAdmission). waiters d) s.es o e there)
+
+  pub rests : IsKept s.es s.fs s.ps s.next
+  rests = s.kept
+
+-- ---- what is looked up in admissions that are seen so
+module _ {old : Part ShareHall} (es : Names KeptAdmission) (fs : Names KeptFuture) (ps : Names SharePermit) (next : ℕ) (view : ◌≡◌ {A = Part ShareHall} (record { hall = hall_seen es fs ps; next = next }) old) where
+  pub named_of : (o : ℕ) (p : Option KeptAdmission) → get es o ≡ p → is_named_one (option_map admission_seen p) ≡ is_named old.hall o
+  named_of o p is = ap (λ q. is_named_one (option_map admission_seen q)) (sym is) ∙ ap is_named_one (sym (get-seen (λ k e. admission_seen e) es o)) ∙ ap (λ (p : Part ShareHall). is_named p.hall o) view
+
+  pub future_of : (f : ℕ) → is_some (get fs f) ≡ is_future old.hall f
+  future_of f = sym (is_some-map future_seen (get fs f)) ∙ ap is_some (sym (get-seen (λ k x. future_seen x) fs f)) ∙ ap (λ (p : Part ShareHall). is_future p.hall f) view
+
+  module _ (kept : IsKept es fs ps next) where
+    pub plain_of_it : (o : ℕ) (e : KeptAdmission) → get es o ≡ Some e → plain_of old.hall o ≡ e.plain
+    plain_of_it o e there =
+        let futures = ap (count (λ (x : ShareFuture). x.plain)) (own-seen of_future (λ (x : ShareFuture). x.admission) future_seen (λ x. refl) o fs) ∙ total-seen future_seen (λ (x : ShareFuture). cond x.plain 1 0) (own of_future o fs) in
+        let all = (kept.hall.each o e there).good.plain in
+        ap (λ (p : Part ShareHall). plain_of p.hall o) (sym view) ∙ omega (arith, futures, all)
+
+    pub stands_for_it : (o : ℕ) (e : KeptAdmission) → get es o ≡ Some e → e.named ≡ true → StandsFor old.hall o e.fair
+    stands_for_it o e there named = ap (λ (p : Part ShareHall). get p.hall.admissions o) (sym view) ∙ seen-at admission_seen es o e there
+        ∙ (λ j. Some (record { free = e.fair.free; next = e.fair.next; shares = shares_seen e.fair.shares; named = named j }))
+
+    pub valid_of : AreValid old.hall
+    valid_of = subst (λ (p : Part ShareHall). AreValid p.hall) view kept.valid
+
+    pub settled_of : AreSettled old.hall
+    settled_of = subst (λ (p : Part ShareHall). AreSettled p.hall) view (λ o r there.
+        let e = seen-back admission_seen es o r there in
+        let g = (kept.hall.each o e.0 e.1).good in
+        at e.0 r e.2 g.settled g.waiting)
+      where
+        at : (e : KeptAdmission) (r : Admission) → admission_seen e ≡ r → IsSettled e.fair → waiting_in e.fair.shares ≡ next_model.waiting_in (shares_seen e.fair.shares) → (r.free ≡ 0) ⊎ (next_model.waiting_in r.shares ≡ 0)
+        at e r is (inl free) tallies = inl (sym (ap (λ (q : Admission). q.free) is) ∙ free)
+        at e r is (inr nobody) tallies = inr (sym (ap (λ (q : Admission). next_model.waiting_in q.shares) is) ∙ sym tallies ∙ nobody)
+
+-- ---- nothing is there
+pub new_kept : IsKept empty empty empty 0
+new_kept = record {
+  hall = record {
+    each = λ o e is. absurd (nothing_at KeptAdmission o e is);
+    below = λ o e is. absurd (nothing_at KeptAdmission o e is);
+    firsts = record { at = λ f x is. absurd (nothing_at KeptFuture f x is) };
+    seconds = record { at = λ p x is. absurd (nothing_at SharePermit p x is) };
+    low = omega arith;
+  };
+  valid = rw (seen-empty admission_seen, seen-empty future_seen) valid_start;
+}
+
+pub new_view : ◌≡◌ {A = Part ShareHall} (record { hall = hall_seen empty empty empty; next = 0 }) (record { hall = model.empty_hall; next = 0 })
+new_view = (λ j. record { hall = record { admissions = seen-empty admission_seen j; futures = seen-empty future_seen j; permits = empty }; next = 0 })

@@ -1,0 +1,283 @@
+-- admissions before an event, and what holds after it as they are kept and as they are seen
+use Rattle.std.proofs.Common.{◌≡◌, ◌≢◌, ℕ, ◌+◌, ◌-◌, ◌<◌, ◌≤◌, ◌^◌, ◌==◌, ◌&&◌, ◌⊎◌, ◌++◌, inl, inr, Bool, true, false, not, cond, List, [], nat_lt, nat_eq, Option, Some, None, IsSome, option_map, is_some, if◌then◌else◌, refl, ap, sym, subst, ◌∙◌, arith, append-nil}
+use Rattle.std.specs.Ordering.{nat_cmp}
+use Rattle.std.specs.Cmp.{nat_cmp_total}
+use Rattle.std.specs.FinMap.{get, insert, remove, len, empty, len-empty, len-insert}
+use Rattle.std.proofs.lemmas.Bool.{cases_lt, eqb-true, eq-eqb}
+use Rattle.std.proofs.lemmas.Bool.Decides.{nat_tests}
+use Rattle.futures.specs.declared.task.Poll.{Poll}
+use Rattle.futures.specs.declared.task.Poll.TheVariants.{Ready, Pending}
+use Rattle.mea_base.specs.declared.answer.Answer.{Answer}
+use Rattle.mea_base.specs.declared.answer.Answer.TheVariants as answers
+use Rattle.mea_base.specs.Family.{Outcome, quietly}
+use Rattle.mea_base.specs.Causes.{unknown_unless}
+use Rattle.mea_base.specs.Ready.{Waking}
+use Rattle.mea_base.specs.Totals.{total, weight}
+use Rattle.mea_base.proofs.Maps.{total-has, nothing_at, inside, get-there, is_there, value_in, by_put, removed_there, is_absent}
+use Rattle.mea_base.proofs.Totals.{total-insert, total-remove, total-same, total-empty}
+use Rattle.mea_base.proofs.NamedMaps.{get-seen, is_some-map}
+use Rattle.mea_named.specs.ByName.{Names, seen, own, count}
+use Rattle.mea_named.specs.HallKept.{HallKept}
+use Rattle.mea_named.specs.Play.{Part, PartYields, PartRests, found}
+use Rattle.mea_named.proofs.Cases.{found_is, if_true, if_false}
+use Rattle.mea_named.proofs.Halls as halls
+use Rattle.mea_named.proofs.Own.{seen-at, seen-back, seen-none, seen-empty, seen-insert, seen-remove, seen-alike, own-seen, len-seen, total-seen, own-at, own-none, own-put, own-gone, len-some, len-new, len-over, len-gone, count-put, count-over, count-new, count-gone, count-least, insert_same, put_gone, gone_none, Moves, Stays, Comes, Goes}
+use Rattle.mea_share_core.specs.declared.share_acquire.ShareStage.{ShareStage}
+use Rattle.mea_share_core.specs.declared.share_acquire.ShareStage.TheVariants.{New, Queued, Done}
+use Rattle.mea_share_core.specs.Share.{Share, waiting_of, IsWaiting, IsAdmitted, taken, queued, left, readied, given_up, released, weighing}
+use Rattle.mea_share_core.specs.Groups.{share_in, held_in, waiting_in}
+use Rattle.mea_share_core.specs.Fair.{Fair, IsSettled, share_of, waiters_of, is_queued, Becomes, IsSame, PassesOn, GivesBack, Belongs, Polls, Cancels}
+use Rattle.mea_share_model.specs.declared.event.ShareEvent.{ShareEvent}
+use Rattle.mea_share_model.specs.declared.event.ShareEvent.TheVariants.{FsNew, FsFree, FsWaiters, FsTry, FsTryo, FsAcq, FsAcqo, FsPoll, FsKey, FsEnd, FsDrop, FsWeight, FsWeightof}
+use Rattle.mea_share_model.specs.Next as next_model
+use Rattle.mea_share_model.specs.Next.{Shares, Waiter, share_at, put_share, next_of}
+use Rattle.mea_share_model.specs.Admissions as model
+use Rattle.mea_share_model.specs.Admissions.{Admission, ShareFuture, SharePermit, ShareHall, registered, with_share, passed, woken, tidied_admissions, things_of, plain_of, is_named, is_named_one, is_future, is_permit}
+use Rattle.mea_share_model.specs.Meaning.{cause_of, step, end_by}
+use Rattle.mea_share_model.specs.Valid.{is_of as model_is_of, HasNumber, HasAt, AreValid}
+use Rattle.mea_share_model.proofs.Keeping.{AreLow, valid_after, valid_start}
+use Rattle.mea_share_model.proofs.Changes.{len-least, by_key}
+use Rattle.mea_share.specs.Kept.{KeptAdmission, KeptFuture, shares_seen, admission_seen, number_of, future_seen, hall_seen, AreGood, AreKept, of_future, of_permit, size_of, IsKept}
+use Rattle.mea_share.specs.Entries.{new_admission, begun, finished, is_over, Takes, Weighs, PollsEntry, HandsOn, EndsWait, Releases}
+use Rattle.mea_share.specs.Lends.{StandsFor, AreSettled, begins, tries}
+use Rattle.mea_share.proofs.Seen.{share_seen, alike_seen, sets_seen, nothing_seen, Tallies, tallies_sets, tallies_alike, passes_seen}
+
+abbrev pub waiters : KeptAdmission → ℕ
+waiters e = waiters_of e.fair
+
+abbrev pub all_waiters : Names KeptAdmission → ℕ
+all_waiters es = total (λ o e. waiters e) es
+
+abbrev pub Owned : KeptAdmission → Names KeptFuture → Names SharePermit → Type 0
+Owned e fs ps = waiting_in e.fair.shares + held_in e.fair.shares ≤ count (λ (x : KeptFuture). is_queued x.stage) fs + len ps
+
+abbrev pub HallOf : Names KeptAdmission → Names KeptFuture → Names SharePermit → ℕ → Type 0
+HallOf es fs ps next = HallKept of_future of_permit AreKept size_of es fs ps next
+
+pub registered_is : (es : Names KeptAdmission) (fs : Names KeptFuture) (ps : Names SharePermit) (next : ℕ) → HallOf es fs ps next → registered (hall_seen es fs ps) ≡ all_waiters es
+registered_is es fs ps next kept =
+    total-seen admission_seen (λ (r : Admission). next_model.waiting_in r.shares) es
+    ∙ total-same (λ o (e : KeptAdmission). next_model.waiting_in (shares_seen e.fair.shares)) (λ o e. waiters e) es (λ o e there. sym (kept.each o e there).good.waiting)
+
+-- ---- admissions before event number i
+pub record Site (old : Part ShareHall) (i : ℕ) : Type 0 where
+  pub es : Names KeptAdmission
+  pub fs : Names KeptFuture
+  pub ps : Names SharePermit
+  pub next : ℕ
+  pub view : ◌≡◌ {A = Part ShareHall} (record { hall = hall_seen es fs ps; next = next }) old
+  pub kept : IsKept es fs ps next
+  pub later : next ≤ i
+  pub fits : i < 2 ^ 64
+
+abbrev pub site : {old : Part ShareHall} {i : ℕ} (es : Names KeptAdmission) (fs : Names KeptFuture) (ps : Names SharePermit) (next : ℕ) → ◌≡◌ {A = Part ShareHall} (record { hall = hall_seen es fs ps; next = next }) old → IsKept es fs ps next → old.next ≤ i → i < 2 ^ 64 → Site old i
+site es fs ps next view kept later fits = record { es = es; fs = fs; ps = ps; next = next; view = view; kept = kept; later = rw (← view) at later; fits = fits }
+
+abbrev pub part_of : Names KeptAdmission → Names KeptFuture → Names SharePermit → ℕ → Part ShareHall
+part_of es fs ps next = record { hall = hall_seen es fs ps; next = next }
+
+pub low : (es : Names KeptAdmission) (fs : Names KeptFuture) (ps : Names SharePermit) (next : ℕ) → HallOf es fs ps next → AreLow (hall_seen es fs ps) next
+low es fs ps next kept = record {
+  admissions = record { at = λ o r is. let e = seen-back admission_seen es o r is in (kept.below o e.0 e.1).0 };
+  futures = λ f x is.
+      let y = seen-back future_seen fs f x is in
+      let home = kept.firsts.at f y.0 y.1 in
+      let e = value_in (get es y.0.admission) home.1 in
+      let same : y.0.admission ≡ x.admission = ap (λ (z : ShareFuture). z.admission) y.2 in
+      let small = (kept.below y.0.admission e.0 e.1).0 in
+      (home.0, omega (arith, small, same));
+  permits = λ p x is. let home = kept.seconds.at p x is in let e = value_in (get es x.admission) home.1 in (home.0, (kept.below x.admission e.0 e.1).0);
+}
+
+module _ {old : Part ShareHall} {i : ℕ} (s : Site old i) where
+  abbrev pub Did : ShareEvent → Answer → Names KeptAdmission → Names KeptFuture → Names SharePermit → Type 0
+  Did e answer es fs ps = IsKept es fs ps (i + 1) × PartRests registered old i (step old.hall i e) answer (part_of es fs ps (i + 1))
+
+  abbrev pub DidWake : ShareEvent → Answer → Names KeptAdmission → Names KeptFuture → Names SharePermit → Waking ℕ → Waking ℕ → Type 0
+  DidWake e answer es fs ps before after = IsKept es fs ps (i + 1) × PartYields registered old i (step old.hall i e) answer (part_of es fs ps (i + 1)) before after
+
+  pub seen_valid : (e : ShareEvent) (es : Names KeptAdmission) (fs : Names KeptFuture) (ps : Names SharePermit) → cause_of (hall_seen s.es s.fs s.ps) e ≡ None → hall_seen es fs ps ≡ (step (hall_seen s.es s.fs s.ps) i e).hall → AreValid (hall_seen es fs ps)
+  seen_valid e es fs ps none is = subst AreValid (sym is) (valid_after (hall_seen s.es s.fs s.ps) s.next i (low s.es s.fs s.ps s.next s.kept.hall) s.later s.kept.valid e none)
+
+  -- what is said of the admissions as they are kept is said of them as they are seen
+  pub rests_as : (e : ShareEvent) (o : Outcome ShareHall) (answer : Answer) (es : Names KeptAdmission) (fs : Names KeptFuture) (ps : Names SharePermit) → cause_of (hall_seen s.es s.fs s.ps) e ≡ None → step (hall_seen s.es s.fs s.ps) i e ≡ o
+      → HallOf es fs ps (i + 1) → answer ≡ o.reply → hall_seen es fs ps ≡ o.hall → o.wakes ≡ [] → all_waiters es ≡ all_waiters s.es → Did e answer es fs ps
+  rests_as e o answer es fs ps none is kept replied moved silent counted = (
+    record { hall = kept; valid = seen_valid e es fs ps none (moved ∙ sym (ap (λ (p : Outcome ShareHall). p.hall) is)) },
+    subst (λ p. PartRests registered p i (step p.hall i e) answer (part_of es fs ps (i + 1))) s.view (rw is (record {
+      replied = replied;
+      moved = ap (λ h. record { hall = h; next = i + 1 }) moved;
+      silent = silent;
+      counted = sym (ap registered moved) ∙ registered_is es fs ps (i + 1) kept ∙ counted ∙ sym (registered_is s.es s.fs s.ps s.next s.kept.hall);
+    })),
+  )
+
+  pub yields_as : (e : ShareEvent) (o : Outcome ShareHall) (answer : Answer) (es : Names KeptAdmission) (fs : Names KeptFuture) (ps : Names SharePermit) (before after : Waking ℕ) → cause_of (hall_seen s.es s.fs s.ps) e ≡ None → step (hall_seen s.es s.fs s.ps) i e ≡ o
+      → HallOf es fs ps (i + 1) → answer ≡ o.reply → hall_seen es fs ps ≡ o.hall → after.wakers ≡ before.wakers ++ o.wakes → after.registered + all_waiters s.es ≡ before.registered + all_waiters es → DidWake e answer es fs ps before after
+  yields_as e o answer es fs ps before after none is kept replied moved wakes counted = (
+    record { hall = kept; valid = seen_valid e es fs ps none (moved ∙ sym (ap (λ (p : Outcome ShareHall). p.hall) is)) },
+    subst (λ p. PartYields registered p i (step p.hall i e) answer (part_of es fs ps (i + 1)) before after) s.view (rw is (record {
+      replied = replied;
+      moved = ap (λ h. record { hall = h; next = i + 1 }) moved;
+      woken = wakes;
+      counted =
+          let now = sym (ap registered moved) ∙ registered_is es fs ps (i + 1) kept in
+          let was = registered_is s.es s.fs s.ps s.next s.kept.hall in
+          omega (arith, counted, now, was);
+    })),
+  )
+
+  -- ---- what is named, a future or a permit, is kept
+  pub named_there : (o : ℕ) → is_named old.hall o ≡ true → IsSome (get s.es o)
+  named_there o is = at (get s.es o) (ap is_named_one (sym (get-seen (λ k e. admission_seen e) s.es o)) ∙ ap (λ (p : Part ShareHall). is_named p.hall o) s.view ∙ is)
+    where
+      at : (p : Option KeptAdmission) → is_named_one (option_map admission_seen p) ≡ true → IsSome p
+      at None is = absurd (cc)
+      at (Some e) is = refl
+
+  pub named_is : (o : ℕ) (e : KeptAdmission) → get s.es o ≡ Some e → is_named old.hall o ≡ true → e.named ≡ true
+  named_is o e there is = sym (ap is_named_one (seen-at admission_seen s.es o e there)) ∙ ap (λ (p : Part ShareHall). is_named p.hall o) s.view ∙ is
+
+  pub future_there : (f : ℕ) → is_future old.hall f ≡ true → IsSome (get s.fs f)
+  future_there f is = sym (is_some-map future_seen (get s.fs f)) ∙ ap is_some (sym (get-seen (λ k x. future_seen x) s.fs f)) ∙ ap (λ (p : Part ShareHall). is_future p.hall f) s.view ∙ is
+
+  pub permit_there : (p : ℕ) → is_permit old.hall p ≡ true → IsSome (get s.ps p)
+  permit_there p is = ap (λ (q : Part ShareHall). is_permit q.hall p) s.view ∙ is
+
+  pub known : (o : ℕ) → is_named old.hall o ≡ true → unknown_unless (is_named (hall_seen s.es s.fs s.ps) o) ≡ None
+  known o named = ap unknown_unless (ap (λ (p : Part ShareHall). is_named p.hall o) s.view ∙ named)
+
+  -- ---- nothing changes
+  pub stays : HallOf s.es s.fs s.ps (i + 1)
+  stays = halls.rests of_future of_permit AreKept size_of s.es s.fs s.ps s.next i s.kept.hall s.later s.fits
+
+  pub tells : (ev : ShareEvent) (answer : Answer) (o : ℕ) (e : KeptAdmission) (act : Admission → Outcome ShareHall) → get s.es o ≡ Some e → cause_of (hall_seen s.es s.fs s.ps) ev ≡ None → step (hall_seen s.es s.fs s.ps) i ev ≡ found (get (seen admission_seen s.es) o) (hall_seen s.es s.fs s.ps) act
+      → act (admission_seen e) ≡ quietly (hall_seen s.es s.fs s.ps) answer → Did ev answer s.es s.fs s.ps
+  tells ev answer o e act there none is does =
+      rests_as ev (quietly (hall_seen s.es s.fs s.ps) answer) answer s.es s.fs s.ps none (is ∙ found_is (get (seen admission_seen s.es) o) (hall_seen s.es s.fs s.ps) act (admission_seen e) (seen-at admission_seen s.es o e there) ∙ does) stays refl refl refl refl
+
+  pub tells_free : (o : ℕ) (e : KeptAdmission) → get s.es o ≡ Some e → is_named old.hall o ≡ true → Did (FsFree o) (answers.Free e.fair.free) s.es s.fs s.ps
+  tells_free o e there named = tells (FsFree o) (answers.Free e.fair.free) o e _ there (known o named) refl refl
+
+  pub tells_waiters : (o : ℕ) (e : KeptAdmission) → get s.es o ≡ Some e → is_named old.hall o ≡ true → Did (FsWaiters o) (answers.Count (waiters e)) s.es s.fs s.ps
+  tells_waiters o e there named = tells (FsWaiters o) (answers.Count (waiters e)) o e _ there (known o named) refl (ap (λ n. quietly (hall_seen s.es s.fs s.ps) (answers.Count n)) (sym (s.kept.hall.each o e there).good.waiting))
+
+  pub tells_weight : (o k : ℕ) (e : KeptAdmission) → get s.es o ≡ Some e → is_named old.hall o ≡ true → Did (FsWeightof o k) (answers.Count (share_of nat_eq e.fair k).weight) s.es s.fs s.ps
+  tells_weight o k e there named = tells (FsWeightof o k) (answers.Count (share_of nat_eq e.fair k).weight) o e _ there (known o named) refl (ap (λ (t : Share ℕ). quietly (hall_seen s.es s.fs s.ps) (answers.Count t.weight)) (share_seen e.fair.shares k))
+
+  pub tells_key : (p : ℕ) (x : SharePermit) → get s.ps p ≡ Some x → is_permit old.hall p ≡ true → Did (FsKey p) (answers.Key x.key) s.es s.fs s.ps
+  tells_key p x there is =
+      rests_as (FsKey p) (quietly (hall_seen s.es s.fs s.ps) (answers.Key x.key)) (answers.Key x.key) s.es s.fs s.ps (ap unknown_unless (permit_there p is))
+      (found_is (get s.ps p) (hall_seen s.es s.fs s.ps) _ x there) stays refl refl refl refl
+
+  -- ---- an admission is made
+  pub makes : (n : ℕ) → (n == 0) ≡ false → Did (FsNew n) answers.Made (insert s.es i (new_admission n)) s.fs s.ps
+  makes n some =
+      rests_as (FsNew n) (model.make (hall_seen s.es s.fs s.ps) i n) answers.Made (insert s.es i (new_admission n)) s.fs s.ps (if_false (n == 0) _ _ some) refl
+      (halls.makes of_future of_permit AreKept size_of s.es s.fs s.ps s.next i s.kept.hall s.later s.fits (new_admission n) (record { good = good; owned = omega arith }) refl)
+      refl
+      (ap (λ rs. record { admissions = rs; futures = seen future_seen s.fs; permits = s.ps }) (seen-insert admission_seen s.es i (new_admission n) ∙ ap (insert (seen admission_seen s.es) i) (ap (λ m. record { free = n; next = 0; shares = m; named = true }) nothing_seen)))
+      refl
+      (let none = halls.no_object of_future of_permit AreKept size_of s.es s.fs s.ps s.next i s.kept.hall s.later s.fits in
+      let here : weight (λ o (e : KeptAdmission). waiters e) i (get s.es i) ≡ 0 = ap (weight (λ o (e : KeptAdmission). waiters e) i) none in
+      omega (arith, here, total-insert (λ o (e : KeptAdmission). waiters e) s.es i (new_admission n)))
+    where
+      good : AreGood (new_admission n) empty empty
+      good = record {
+        quiet = refl;
+        settled = inr refl;
+        waiting = sym (ap next_model.waiting_in nothing_seen ∙ total-empty (λ k (t : Share ℕ). waiting_of t));
+        lasting = λ f x is done. nothing_at KeptFuture f x is;
+        things = omega (arith, len-empty nat_cmp KeptFuture, len-empty nat_cmp SharePermit);
+        plain = omega (arith, total-empty {X = KeptFuture} (λ k x. cond x.plain 1 0), total-empty {X = SharePermit} (λ k x. cond x.plain 1 0));
+      }
+
+-- ---- one admission, after its core changed
+pub becomes_seen : (e e' : KeptAdmission) (k : ℕ) (t u : Share ℕ) (free next : ℕ) → e' ≡ record e { fair = e'.fair } → Becomes nat_eq e.fair e'.fair k t free next → t ≡ u
+    → admission_seen e' ≡ record (with_share (admission_seen e) k u) { free = free; next = next }
+becomes_seen e e' k t u free next rest becomes same =
+    let named = ap (λ (d : KeptAdmission). d.named) rest in
+    let shares = sets_seen e.fair.shares e'.fair.shares k t becomes.shares ∙ ap (put_share (shares_seen e.fair.shares) k) same in
+    (λ j. record { free = becomes.permits j; next = becomes.number j; shares = shares j; named = named j })
+
+pub good_becomes : (e e' : KeptAdmission) (fs : Names KeptFuture) (ps : Names SharePermit) (k : ℕ) (t : Share ℕ) (free next : ℕ) → AreGood e fs ps → e' ≡ record e { fair = e'.fair } → Becomes nat_eq e.fair e'.fair k t free next → IsSettled e'.fair
+    → AreGood e' fs ps
+good_becomes e e' fs ps k t free next good rest becomes settled = record {
+  quiet = becomes.wakes ∙ good.quiet;
+  settled = settled;
+  waiting = tallies_sets e.fair.shares e'.fair.shares k t becomes.shares good.waiting;
+  lasting = good.lasting;
+  things = ap (λ (d : KeptAdmission). d.things) rest ∙ good.things;
+  plain = ap (λ (d : KeptAdmission). d.plain) rest ∙ good.plain;
+}
+
+-- a future, or a permit, more or less
+pub good_with_future : (e : KeptAdmission) (fs : Names KeptFuture) (ps : Names SharePermit) (i : ℕ) (x : KeptFuture) → AreGood e fs ps → get fs i ≡ None → x.stage ≢ Done → AreGood (begun e x.plain) (insert fs i x) ps
+good_with_future e fs ps i x good none lasts =
+    let more = len-new fs i x none in
+    let counted = count-new fs i (λ (y : KeptFuture). y.plain) x none in
+    record {
+      quiet = good.quiet;
+      settled = good.settled;
+      waiting = good.waiting;
+      lasting = by_put fs i x (λ f o. (y : KeptFuture) → o ≡ Some y → y.stage ≢ Done) (λ y is. subst (λ (z : KeptFuture). z.stage ≢ Done) (inside is) lasts) (λ f apart y is. good.lasting f y is);
+      things = omega (arith, good.things, more);
+      plain = omega (arith, good.plain, counted);
+    }
+
+pub good_with_permit : (e : KeptAdmission) (fs : Names KeptFuture) (ps : Names SharePermit) (i : ℕ) (p : SharePermit) → AreGood e fs ps → get ps i ≡ None → AreGood (begun e p.plain) fs (insert ps i p)
+good_with_permit e fs ps i p good none =
+    let more = len-new ps i p none in
+    let counted = count-new ps i (λ (y : SharePermit). y.plain) p none in
+    record { quiet = good.quiet; settled = good.settled; waiting = good.waiting; lasting = good.lasting; things = omega (arith, good.things, more); plain = omega (arith, good.plain, counted) }
+
+pub good_without_future : (e : KeptAdmission) (fs : Names KeptFuture) (ps : Names SharePermit) (f : ℕ) (x : KeptFuture) → AreGood e fs ps → get fs f ≡ Some x → AreGood (finished e x.plain) (remove fs f) ps
+good_without_future e fs ps f x good there =
+    let fewer = len-gone fs f x there in
+    let some = len-some fs f x there in
+    let counted = count-gone fs f (λ (y : KeptFuture). y.plain) x there in
+    record {
+      quiet = good.quiet;
+      settled = good.settled;
+      waiting = good.waiting;
+      lasting = λ g y is. good.lasting g y (removed_there fs f g y is);
+      things = omega (arith, good.things, fewer, some);
+      plain = omega (arith, good.plain, counted);
+    }
+
+pub good_without_permit : (e : KeptAdmission) (fs : Names KeptFuture) (ps : Names SharePermit) (q : ℕ) (p : SharePermit) → AreGood e fs ps → get ps q ≡ Some p → AreGood (finished e p.plain) fs (remove ps q)
+good_without_permit e fs ps q p good there =
+    let fewer = len-gone ps q p there in
+    let some = len-some ps q p there in
+    let counted = count-gone ps q (λ (y : SharePermit). y.plain) p there in
+    record { quiet = good.quiet; settled = good.settled; waiting = good.waiting; lasting = good.lasting; things = omega (arith, good.things, fewer, some); plain = omega (arith, good.plain, counted) }
+
+pub passed_next : (r : Admission) (a : Option Waiter) → (passed r a).next ≡ r.next
+passed_next r None = refl
+passed_next r (Some a) = refl
+
+pub over_is : (named : Bool) (n : ℕ) → (not named && n == 0) ≡ true → (named ≡ false) × (n ≡ 0)
+over_is true n is = absurd (cc)
+over_is false n is = (refl, eqb-true n 0 is)
+
+-- who waits and what is held, as a permit comes back
+pub passes_sums : (f f1 : Fair ℕ ℕ) → PassesOn nat_eq f f1 → waiting_in f1.shares + held_in f1.shares ≤ waiting_in f.shares + held_in f.shares
+passes_sums f f1 passes = elim (cases_lt 0 (waiters_of f)) as (λ _. waiting_in f1.shares + held_in f1.shares ≤ waiting_in f.shares + held_in f.shares) [
+  | inl some ↦
+      let passed = passes.passes some in
+      let admits = passed.1 in
+      let t = share_in nat_eq f.shares admits.key in
+      let gone = len-gone t.waiting admits.number passed.0 admits.waker in
+      let one = len-some t.waiting admits.number passed.0 admits.waker in
+      let more = len-insert nat_cmp_total t.admitted admits.number tt in
+      omega (arith, admits.sets.held, admits.sets.waiting, gone, one, more, len-least (get t.admitted admits.number) (len t.admitted))
+  | inr none ↦
+      let is = passes.rests (omega (arith, none)) in
+      let waits = ap (λ (g : Fair ℕ ℕ). waiting_in g.shares) is in
+      let held = ap (λ (g : Fair ℕ ℕ). held_in g.shares) is in
+      omega (arith, waits, held)
+]
+
+-- who waits after a change of a key that lets nobody begin to wait, waited before
+pub waited : (m : Shares) (q : ℕ) (u : Share ℕ) → u.waiting ≡ (share_at m q).waiting → (j n : ℕ) → IsWaiting (share_at (put_share m q u) j) n → IsWaiting (share_at m j) n
+waited m q u same j n = by_key m q u (λ j t. IsWaiting t n → IsWaiting (share_at m j) n) (λ waits. subst (λ w. IsSome (get w n)) same waits) (λ j apart waits. waits) j

@@ -1,0 +1,5 @@
+use Rattle.mea_share.proofs.Sites.{site, tells_key}
+use Rattle.mea_share.proofs.part.SharePart.key.Goals as goal
+
+pub invariant_of-self : goal.invariant_of-self
+invariant_of-self c = (tells_key (site c.self.inside.admissions c.self.inside.futures c.self.inside.permits c.self.inside.next c.self.view_is c.self.invariant c.requires.next c.ranges.number.fits) c.args.p c.at.result.now c.at.ensures c.requires.there).0

@@ -1,0 +1,55 @@
+use Rattle.std.proofs.Common.{sym, refl}
+use Rattle.mea_base.proofs.Maps.{get-there, is_there}
+use Rattle.mea_share.proofs.Sites.{site, future_there}
+use Rattle.mea_share.proofs.LookUps.{same_future, same_both}
+use Rattle.mea_share.proofs.Events.{belongs, pended, readied_now, failed}
+use Rattle.mea_share.proofs.part.SharePart.poll.Goals as goal
+
+pub at_mut-future-requires : goal.at_mut-future-requires
+at_mut-future-requires c = future_there (site c.self.inside.admissions c.self.inside.futures c.self.inside.permits c.self.inside.next c.self.view_is c.self.invariant c.requires.next c.ranges.number.fits) c.args.f c.requires.there
+
+pub invariant_of-self : goal.invariant_of-self
+invariant_of-self c = (same_future (site c.self.inside.admissions c.self.inside.futures c.self.inside.permits c.self.inside.next c.self.view_is c.self.invariant c.requires.next c.ranges.number.fits) c.args.f c.at_mut-future.result.now c.at_mut-future.ensures.value).0
+
+pub returns-in_default-clause-err : goal.returns-in_default-clause-err
+returns-in_default-clause-err c = ((same_future (site c.self.inside.admissions c.self.inside.futures c.self.inside.permits c.self.inside.next c.self.view_is c.self.invariant c.requires.next c.ranges.number.fits) c.args.f c.at_mut-future.result.now c.at_mut-future.ensures.value).1, refl)
+
+pub invariant_of-self-in_default-insert : goal.invariant_of-self-in_default-insert
+invariant_of-self-in_default-insert c = rw c.in_default-insert.ensures.err (same_both (site c.self.inside.admissions c.self.inside.futures c.self.inside.permits c.self.inside.next c.self.view_is c.self.invariant c.requires.next c.ranges.number.fits) c.admission.result c.at_mut-entry.result.now c.args.f c.at_mut-future.result.now c.at_mut-entry.ensures.value c.at_mut-future.ensures.value).0
+
+pub returns-in_default-insert-clause-err : goal.returns-in_default-insert-clause-err
+returns-in_default-insert-clause-err c = rw c.in_default-insert.ensures.err ((same_both (site c.self.inside.admissions c.self.inside.futures c.self.inside.permits c.self.inside.next c.self.view_is c.self.invariant c.requires.next c.ranges.number.fits) c.admission.result c.at_mut-entry.result.now c.args.f c.at_mut-future.result.now c.at_mut-entry.ensures.value c.at_mut-future.ensures.value).1, refl)
+
+pub poll-requires : goal.poll-requires
+poll-requires c = belongs (site c.self.inside.admissions c.self.inside.futures c.self.inside.permits c.self.inside.next c.self.view_is c.self.invariant c.requires.next c.ranges.number.fits) c.admission.result c.at_mut-entry.result.now c.at_mut-entry.ensures.value c.args.f c.at_mut-future.result.now c.at_mut-future.ensures.value (sym c.admission.ensures)
+
+pub remove-requires : goal.remove-requires
+remove-requires c = rw c.in-Ok-insert.ensures.ok (is_there _ _ (get-there c.self.inside.permits c.args.number _))
+
+pub invariant_of-self-in-Err : goal.invariant_of-self-in-Err
+invariant_of-self-in-Err c = rw (c.remove.ensures.rest, c.in-Ok-insert.ensures.ok, c.in-Ok.ensures) (failed (site c.self.inside.admissions c.self.inside.futures c.self.inside.permits c.self.inside.next c.self.view_is c.self.invariant c.requires.next c.ranges.number.fits) c.admission.result c.at_mut-entry.result.now c.at_mut-entry.ensures.value c.args.f c.at_mut-future.result.now c.at_mut-future.ensures.value (sym c.admission.ensures) c.poll.new.self c.poll.new.future c.in-Err.ensures.err.0 c.in-Err.ensures.same c.in-Err.ensures.err.1).0
+
+pub returns-in-Err-clause-err : goal.returns-in-Err-clause-err
+returns-in-Err-clause-err c = (rw (c.remove.ensures.rest, c.in-Ok-insert.ensures.ok, c.in-Ok.ensures) (failed (site c.self.inside.admissions c.self.inside.futures c.self.inside.permits c.self.inside.next c.self.view_is c.self.invariant c.requires.next c.ranges.number.fits) c.admission.result c.at_mut-entry.result.now c.at_mut-entry.ensures.value c.args.f c.at_mut-future.result.now c.at_mut-future.ensures.value (sym c.admission.ensures) c.poll.new.self c.poll.new.future c.in-Err.ensures.err.0 c.in-Err.ensures.same c.in-Err.ensures.err.1).1, c.in-Err.ensures.err.2)
+
+pub remove-requires-in-Ok-Pending : goal.remove-requires-in-Ok-Pending
+remove-requires-in-Ok-Pending c = rw c.in-Ok-insert.ensures.ok (is_there _ _ (get-there c.self.inside.permits c.args.number _))
+
+pub invariant_of-self-in-Ok-Pending : goal.invariant_of-self-in-Ok-Pending
+invariant_of-self-in-Ok-Pending c = let polled = rw c.in-Ok-Pending.field-0-is at c.in-Ok-Pending.ensures.polls in
+    rw (c.remove-in-Ok-Pending.ensures.rest, c.in-Ok-insert.ensures.ok, c.in-Ok.ensures) (pended (site c.self.inside.admissions c.self.inside.futures c.self.inside.permits c.self.inside.next c.self.view_is c.self.invariant c.requires.next c.ranges.number.fits) c.admission.result c.at_mut-entry.result.now c.at_mut-entry.ensures.value c.args.f c.at_mut-future.result.now c.at_mut-future.ensures.value (sym c.admission.ensures) c.poll.new.self c.poll.new.future c.args.waker c.args.ready.now c.poll.new.ready polled).0
+
+pub returns-in-Ok-Pending-clause-ok : goal.returns-in-Ok-Pending-clause-ok
+returns-in-Ok-Pending-clause-ok c = let polled = rw c.in-Ok-Pending.field-0-is at c.in-Ok-Pending.ensures.polls in
+    rw (c.remove-in-Ok-Pending.ensures.rest, c.in-Ok-insert.ensures.ok, c.in-Ok.ensures) (pended (site c.self.inside.admissions c.self.inside.futures c.self.inside.permits c.self.inside.next c.self.view_is c.self.invariant c.requires.next c.ranges.number.fits) c.admission.result c.at_mut-entry.result.now c.at_mut-entry.ensures.value c.args.f c.at_mut-future.result.now c.at_mut-future.ensures.value (sym c.admission.ensures) c.poll.new.self c.poll.new.future c.args.waker c.args.ready.now c.poll.new.ready polled).1
+
+pub remove-requires-in-Ok-Ready : goal.remove-requires-in-Ok-Ready
+remove-requires-in-Ok-Ready c = is_there _ _ (get-there c.self.inside.futures c.args.f _)
+
+pub invariant_of-self-in-Ok-Ready : goal.invariant_of-self-in-Ok-Ready
+invariant_of-self-in-Ok-Ready c = let polled = rw c.in-Ok-Ready.field-0-is at c.in-Ok-Ready.ensures.polls in
+    rw (c.remove-in-Ok-Ready.ensures.rest, c.in-Ok-insert.ensures.ok, c.in-Ok.ensures) (readied_now (site c.self.inside.admissions c.self.inside.futures c.self.inside.permits c.self.inside.next c.self.view_is c.self.invariant c.requires.next c.ranges.number.fits) c.admission.result c.at_mut-entry.result.now c.at_mut-entry.ensures.value c.args.f c.at_mut-future.result.now c.at_mut-future.ensures.value (sym c.admission.ensures) c.poll.new.self c.poll.new.future c.args.waker _ c.args.ready.now c.poll.new.ready polled).0
+
+pub returns-in-Ok-Ready-clause-ok : goal.returns-in-Ok-Ready-clause-ok
+returns-in-Ok-Ready-clause-ok c = let polled = rw c.in-Ok-Ready.field-0-is at c.in-Ok-Ready.ensures.polls in
+    rw (c.remove-in-Ok-Ready.ensures.rest, c.in-Ok-insert.ensures.ok, c.in-Ok.ensures) (readied_now (site c.self.inside.admissions c.self.inside.futures c.self.inside.permits c.self.inside.next c.self.view_is c.self.invariant c.requires.next c.ranges.number.fits) c.admission.result c.at_mut-entry.result.now c.at_mut-entry.ensures.value c.args.f c.at_mut-future.result.now c.at_mut-future.ensures.value (sym c.admission.ensures) c.poll.new.self c.poll.new.future c.args.waker _ c.args.ready.now c.poll.new.ready polled).1

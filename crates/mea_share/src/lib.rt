@@ -1,0 +1,14 @@
+//! The hall of fair admission: many admissions with their futures and permits by name, each over a core of its own.
+#![tactic(auto)]
+
+mod admission_entry;
+mod future_entry;
+mod hall;
+mod part;
+mod permit_entry;
+
+pub use admission_entry::{AdmissionEntry, Core};
+pub use future_entry::FutureEntry;
+pub use hall::ShareHall;
+pub use part::SharePart;
+pub use permit_entry::PermitEntry;

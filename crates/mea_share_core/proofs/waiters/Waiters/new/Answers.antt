@@ -1,0 +1,8 @@
+use Rattle.mea_share_core.proofs.Kept.{kept_of_none, none-len}
+use Rattle.mea_share_core.proofs.waiters.Waiters.new.Goals as goal
+
+pub returns-clause-is : goal.returns-clause-is
+returns-clause-is g c = kept_of_none c.new.result.entries c.new.ensures.empty
+
+pub returns-clause-none : goal.returns-clause-none
+returns-clause-none g c = none-len c.new.result.entries c.new.ensures.empty

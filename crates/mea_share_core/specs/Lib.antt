@@ -1,0 +1,5 @@
+pub mod Fair
+pub mod Groups
+pub mod Rank
+pub mod Share
+pub mod Tournament

@@ -1,0 +1,189 @@
+-- the wakers of futures that wait
+use Rattle.std.proofs.Common.{◌≡◌, ℕ, ◌+◌, ◌<◌, ◌≤◌, ◌==◌, ◌⊎◌, inl, inr, Bool, true, false, cond, length, List, [], Option, Some, None, IsSome, is_some, if◌then◌else◌, refl, ap, sym, subst, ◌∙◌, arith}
+use Rattle.std.specs.List.{Contains}
+use Rattle.std.specs.Ordering.{nat_cmp}
+use Rattle.std.specs.FinMap.{get, insert, remove}
+use Rattle.std.proofs.lemmas.Bool.{eqb-true, eq-eqb}
+use Rattle.mea_base.specs.declared.answer.Answer.TheVariants as answers
+use Rattle.mea_base.specs.Causes.{unknown_unless}
+use Rattle.mea_base.specs.Totals.{total, weight}
+use Rattle.mea_base.specs.Family.{Outcome, quietly, Runs, RunOf, KeepsWakers, LosesNoWake, NamesFutures}
+use Rattle.mea_base.proofs.Totals.{total-insert, total-remove, total-empty}
+use Rattle.mea_base.proofs.Maps.{by_put, by_gone, get-there, get-other, get-removed_other, is_there, value_in, inside, removed_there, total-has}
+use Rattle.mea_base.proofs.Tests.{by_name}
+use Rattle.mea_base.proofs.Wakes.{loses_no_wake}
+use Rattle.mea_named.specs.ByName.{Names}
+use Rattle.mea_named.specs.Play.{found}
+use Rattle.mea_named.proofs.Cases.{by_found, by_if, found_is, if_true}
+use Rattle.mea_share_core.specs.Share.{Share, queued}
+use Rattle.mea_share_model.specs.declared.event.ShareEvent.{ShareEvent}
+use Rattle.mea_share_model.specs.declared.event.ShareEvent.TheVariants.{FsNew, FsFree, FsWaiters, FsTry, FsTryo, FsAcq, FsAcqo, FsPoll, FsKey, FsEnd, FsDrop, FsWeight, FsWeightof}
+use Rattle.mea_share_model.specs.Next.{Shares, share_at, put_share, waiting_in}
+use Rattle.mea_share_model.specs.Admissions as admissions
+use Rattle.mea_share_model.specs.Admissions.{Admission, ShareFuture, SharePermit, ShareHall, new_admission, with_share, waker_under, waker_at, placed, registered}
+use Rattle.mea_share_model.specs.Meaning.{cause_of, step, registers}
+use Rattle.mea_share_model.specs.ShareFamily.{polled, ends, shares_family}
+use Rattle.mea_share_model.specs.Valid.{AreValid}
+use Rattle.mea_share_model.proofs.Waiting.{share_put}
+use Rattle.mea_share_model.proofs.Acting.{On, AdmissionsGo, Same, Put, Made, Gone, FuturesGo, Kept, Begun, Queued, Ended, Touches, Fresh, Polled, Ends, Acts, acts}
+use Rattle.mea_share_model.proofs.Keeping.{AreLow, did, reached, no_future, no_admission}
+
+no_waker : (w : ℕ) → ◌≡◌ {A = Option ℕ} None (Some w) → ⊥
+no_waker w is = absurd (cc)
+
+-- ---- who is polled
+polled_is : (g w f v : ℕ) → cond (g == f) (Some w) None ≡ Some v → (g ≡ f) × (w ≡ v)
+polled_is g w f v is = at (g == f) refl is
+  where
+    at : (b : Bool) → (g == f) ≡ b → cond b (Some w) None ≡ Some v → (g ≡ f) × (w ≡ v)
+    at true same h = (eqb-true g f same, inside h)
+    at false differs h = absurd (no_waker v h)
+
+-- what a poll is, of an event that polls f
+pub record Poll (e : ShareEvent) (f w : ℕ) : Type 0 where
+  pub is : e ≡ FsPoll f w
+
+poll_is : (e : ShareEvent) (f w : ℕ) → polled e f ≡ Some w → Poll e f w
+poll_is (FsPoll g v) f w is = let same = polled_is g v f w is in record { is = ap (λ k. FsPoll k v) same.0 ∙ ap (FsPoll f) same.1 }
+poll_is (FsNew n) f w is = absurd (no_waker w is)
+poll_is (FsFree s) f w is = absurd (no_waker w is)
+poll_is (FsWaiters s) f w is = absurd (no_waker w is)
+poll_is (FsTry s k) f w is = absurd (no_waker w is)
+poll_is (FsTryo s k) f w is = absurd (no_waker w is)
+poll_is (FsAcq s k) f w is = absurd (no_waker w is)
+poll_is (FsAcqo s k) f w is = absurd (no_waker w is)
+poll_is (FsKey p) f w is = absurd (no_waker w is)
+poll_is (FsEnd x) f w is = absurd (no_waker w is)
+poll_is (FsDrop s) f w is = absurd (no_waker w is)
+poll_is (FsWeight s k n) f w is = absurd (no_waker w is)
+poll_is (FsWeightof s k) f w is = absurd (no_waker w is)
+
+module _ (h : ShareHall) (i f w : ℕ) where
+  -- a poll that is pending places the waker
+  placed_at : (x : ShareFuture) (rs : Names Admission) (xs : Names ShareFuture) (r : Admission) → get xs f ≡ Some x → get rs x.admission ≡ Some r → waker_under (share_at r.shares x.key) x.number ≡ Some w
+      → admissions.placed_of (record { admissions = rs; futures = xs; permits = h.permits }) (get xs f) ≡ Some w
+  placed_at x rs xs r is there waker = ap (admissions.placed_of (record { admissions = rs; futures = xs; permits = h.permits })) is ∙ ap (λ o. waker_at o x) there ∙ waker
+
+  queued_waker : (m : Shares) (k n : ℕ) → get (share_at (put_share m k (queued (share_at m k) n w)) k).waiting n ≡ Some w
+  queued_waker m k n =
+      ap (λ (s : Share ℕ). get s.waiting n) (share_put m k (queued (share_at m k) n w) k ∙ ap (λ b. cond b (queued (share_at m k) n w) (share_at m k)) (eq-eqb k k refl))
+      ∙ get-there (share_at m k).waiting n w
+
+  places_at : (x : ShareFuture) (r : Admission) (p : Option ℕ) → get h.futures f ≡ Some x → x.number ≡ p → (admissions.poll_at h i f w x r p).reply ≡ answers.Pending → placed (admissions.poll_at h i f w x r p).hall f ≡ Some w
+  places_at x r None is new = by_if (λ o. o.reply ≡ answers.Pending → placed o.hall f ≡ Some w) (r.free == 0) (admissions.queues h f w x r) (admissions.becomes_permit h i f x (admissions.taken_for r x.key))
+      (λ none pending. placed_at (record x { number = Some r.next }) _ _ (record (with_share r x.key (queued (share_at r.shares x.key) r.next w)) { next = r.next + 1 })
+      (get-there h.futures f (record x { number = Some r.next })) (get-there h.admissions x.admission _) (queued_waker r.shares x.key r.next))
+      (λ some ready. absurd (cc))
+  places_at x r (Some n) is number = by_if (λ o. o.reply ≡ answers.Pending → placed o.hall f ≡ Some w) (is_some (get (share_at r.shares x.key).waiting n)) (admissions.waits_on h n w x r)
+      (admissions.becomes_permit h i f x (with_share r x.key _))
+      (λ waits pending. placed_at x _ _ (with_share r x.key (queued (share_at r.shares x.key) n w)) is (get-there h.admissions x.admission _)
+      (ap (waker_under (share_at (put_share r.shares x.key (queued (share_at r.shares x.key) n w)) x.key)) number ∙ queued_waker r.shares x.key n))
+      (λ was ready. absurd (cc))
+
+  pub places : (step h i (FsPoll f w)).reply ≡ answers.Pending → placed (step h i (FsPoll f w)).hall f ≡ Some w
+  places = by_found (λ o. o.reply ≡ answers.Pending → placed o.hall f ≡ Some w) (get h.futures f) h _ (λ none. absurd (cc))
+      (λ x is. by_found (λ o. o.reply ≡ answers.Pending → placed o.hall f ≡ Some w) (get h.admissions x.admission) h _ (λ none. absurd (cc)) (λ r there. places_at x r x.number is refl))
+
+  -- while a waker is placed a poll is pending
+  waits_at : (x : ShareFuture) (r : Admission) (p : Option ℕ) (v : ℕ) → waker_under (share_at r.shares x.key) p ≡ Some v → (admissions.poll_at h i f w x r p).reply ≡ answers.Pending
+  waits_at x r None v is = absurd (no_waker v is)
+  waits_at x r (Some n) v is = ap (λ (o : Outcome ShareHall). o.reply) (if_true (is_some (get (share_at r.shares x.key).waiting n)) (admissions.waits_on h n w x r) (admissions.becomes_permit h i f x _) (is_there (get (share_at r.shares x.key).waiting n) v is))
+
+  pub waits : (v : ℕ) → placed h f ≡ Some v → (step h i (FsPoll f w)).reply ≡ answers.Pending
+  waits v is = at (get h.futures f) is
+    where
+      at_admission : (x : ShareFuture) (o : Option Admission) → waker_at o x ≡ Some v → (found o h (admissions.poll h i f w x)).reply ≡ answers.Pending
+      at_admission x None is = absurd (no_waker v is)
+      at_admission x (Some r) is = waits_at x r x.number v is
+
+      at : (o : Option ShareFuture) → admissions.placed_of h o ≡ Some v → (found o h (λ x. found (get h.admissions x.admission) h (admissions.poll h i f w x))).reply ≡ answers.Pending
+      at None is = absurd (no_waker v is)
+      at (Some x) is = at_admission x (get h.admissions x.admission) is
+
+  pub lives : cause_of h (FsPoll f w) ≡ None → admissions.is_future h f ≡ true
+  lives is = at (admissions.is_future h f) is
+    where
+      at : (b : Bool) → unknown_unless b ≡ None → b ≡ true
+      at true is = refl
+      at false is = absurd (cc)
+
+-- ---- who is neither polled nor ended
+module _ (h : ShareHall) (n i : ℕ) (low : AreLow h n) (later : n ≤ i) (valid : AreValid h) (e : ShareEvent) where
+  untouched : (k f : ℕ) → Touches h i e k → IsSome (get h.futures f) → polled e f ≡ None → ends e f ≡ false → k ≡ f → ⊥
+  untouched k f (Fresh same) lives quiet lasts is = absurd (let none = no_future h n i low later in let gone : get h.futures f ≡ None = ap (get h.futures) (sym is ∙ same) ∙ none in let x = value_in (get h.futures f) lives in let there = x.1 in cc)
+  untouched k f (Polled w poll) lives quiet lasts is = absurd (let here : polled e f ≡ Some w = ap (polled e) (sym is) ∙ poll in cc)
+  untouched k f (Ends ended) lives quiet lasts is = absurd (let here : ends e f ≡ true = ap (ends e) (sym is) ∙ ended in cc)
+
+  -- it lives on as it was
+  same_after : (k : ℕ) (rs : Names Admission) (xs : Names ShareFuture) → FuturesGo h i e k rs xs → (f : ℕ) (x : ShareFuture) → (k ≡ f → ⊥) → get h.futures f ≡ Some x → get xs f ≡ Some x
+  same_after k rs _ Kept f x apart is = is
+  same_after k rs _ (Begun y new known) f x apart is = by_name i f
+      (λ same. absurd (let none = no_future h n i low later in let gone : get h.futures f ≡ None = ap (get h.futures) (sym same) ∙ none in cc)) (λ differs. get-other h.futures i f y differs ∙ is)
+  same_after k rs _ (Queued y r was there has) f x apart is = get-other h.futures k f (record y { number = Some r.next }) apart ∙ is
+  same_after k rs _ Ended f x apart is = get-removed_other h.futures k f apart ∙ is
+
+  waker_after : (k extra : ℕ) (xs : Names ShareFuture) (ps : Names SharePermit) (rs : Names Admission) (ws : List ℕ) → AdmissionsGo h i k extra xs ps rs ws → (f w : ℕ) (x : ShareFuture) → (k ≡ f → ⊥) → get h.futures f ≡ Some x → get xs f ≡ Some x
+      → waker_at (get h.admissions x.admission) x ≡ Some w → (waker_at (get rs x.admission) x ≡ Some w) ⊎ Contains ws w
+  waker_after k extra xs ps _ _ (Same counts) f w x apart was is waker = inl waker
+  waker_after k extra xs ps _ _ (Put o r r' s l ws more less there change touch loses here elsewhere) f w x apart was is waker =
+      by_put h.admissions o r' (λ j t. o ≡ o → j ≡ x.admission → waker_at (get h.admissions j) x ≡ Some w → (waker_at t x ≡ Some w) ⊎ Contains ws w)
+      (λ _ mine waker. at mine x.number refl (subst (λ t. waker_at t x ≡ Some w) there waker)) (λ j differs _ mine waker. inl waker) x.admission refl refl waker
+    where
+      at : o ≡ x.admission → (p : Option ℕ) → x.number ≡ p → waker_under (share_at r.shares x.key) x.number ≡ Some w → (waker_under (share_at r'.shares x.key) x.number ≡ Some w) ⊎ Contains ws w
+      at mine None none waker = absurd (no_waker w (sym (ap (waker_under (share_at r.shares x.key)) none) ∙ waker))
+      at mine (Some m) number waker = subst (λ p. (waker_under (share_at r'.shares x.key) p ≡ Some w) ⊎ Contains ws w) (sym number)
+          (change.keeps x.key m w (λ spot. apart (touch f x m was mine number spot)) (sym (ap (waker_under (share_at r.shares x.key)) number) ∙ waker))
+  waker_after k extra xs ps _ _ (Made c same) f w x apart was is waker =
+      inl (by_put h.admissions i (new_admission c) (λ j t. waker_at (get h.admissions j) x ≡ Some w → waker_at t x ≡ Some w)
+      (λ waker. absurd (no_waker w (sym (ap (λ t. waker_at t x) (no_admission h n i low later)) ∙ waker))) (λ j differs waker. waker) x.admission waker)
+  waker_after k extra xs ps _ _ (Gone o r r' ws there few alone elsewhere) f w x apart was is waker =
+      inl (ap (λ t. waker_at t x) (get-removed_other h.admissions o x.admission (λ mine. alone f x is mine)) ∙ waker)
+
+  module _ (none : cause_of h e ≡ None) where
+    act : Acts h i e (cond (registers e) 1 0) (step h i e)
+    act = did h n i low later valid e none
+
+    pub keeps_on : (f w : ℕ) → admissions.is_future h f ≡ true → placed h f ≡ Some w → polled e f ≡ None → ends e f ≡ false → (placed (step h i e).hall f ≡ Some w) ⊎ Contains (step h i e).wakes w
+    keeps_on f w lives is quiet lasts =
+        let x = value_in (get h.futures f) lives in
+        let apart = untouched act.f f act.touches lives quiet lasts in
+        let after = same_after act.f _ _ act.futures f x.0 apart x.1 in
+        subst (λ o. (admissions.placed_of (step h i e).hall o ≡ Some w) ⊎ Contains (step h i e).wakes w) (sym after)
+        (waker_after act.f _ _ _ _ _ act.admissions f w x.0 apart x.1 after (sym (ap (admissions.placed_of h) x.1) ∙ is))
+
+    pub lives_on : (f : ℕ) → admissions.is_future h f ≡ true → polled e f ≡ None → ends e f ≡ false → admissions.is_future (step h i e).hall f ≡ true
+    lives_on f lives quiet lasts =
+        let x = value_in (get h.futures f) lives in
+        is_there (get (step h i e).hall.futures f) x.0 (same_after act.f _ _ act.futures f x.0 (untouched act.f f act.touches lives quiet lasts) x.1)
+
+    pub gone : (f : ℕ) → ends e f ≡ true → admissions.is_future (step h i e).hall f ≡ false
+    gone f ended = ap is_some (act.over f ended)
+
+    made_after : (k : ℕ) (rs : Names Admission) (xs : Names ShareFuture) → FuturesGo h i e k rs xs → (f : ℕ) → IsSome (get xs f) → IsSome (get h.futures f) ⊎ (f ≡ i)
+    made_after k rs _ Kept f lives = inl lives
+    made_after k rs _ (Begun y new known) f lives = by_put h.futures i y (λ f o. IsSome o → IsSome (get h.futures f) ⊎ (f ≡ i)) (λ some. inr refl) (λ f apart some. inl some) f lives
+    made_after k rs _ (Queued y r was there has) f lives = by_put h.futures k (record y { number = Some r.next }) (λ f o. IsSome o → IsSome (get h.futures f) ⊎ (f ≡ i)) (λ some. inl (is_there (get h.futures k) y was)) (λ f apart some. inl some) f lives
+    made_after k rs _ Ended f lives = inl (by_gone h.futures k (λ f o. IsSome o → IsSome (get h.futures f)) (λ some. absurd (cc)) (λ f apart some. some) f lives)
+
+    pub made : (f : ℕ) → admissions.is_future (step h i e).hall f ≡ true → (admissions.is_future h f ≡ true) ⊎ (f ≡ i)
+    made f lives = made_after act.f _ _ act.futures f lives
+
+pub keeps : KeepsWakers shares_family
+keeps = record {
+  places = λ r i e runs later cause f w is pending. let poll = (poll_is e f w is).is in
+      subst (λ d. placed (step r.hall i d).hall f ≡ Some w) (sym poll) (places r.hall i f w (subst (λ d. (step r.hall i d).reply ≡ answers.Pending) poll pending));
+  waits = λ r i e runs f w v lives is polled. let poll = (poll_is e f v polled).is in subst (λ d. (step r.hall i d).reply ≡ answers.Pending) (sym poll) (waits r.hall i f v w is);
+  wakes = λ r i e runs later cause f w lives is quiet lasts. let at = reached r runs in keeps_on r.hall r.next i at.0 later at.1 e cause f w lives is quiet lasts;
+  stays = λ r i e runs later cause f lives quiet lasts. let at = reached r runs in lives_on r.hall r.next i at.0 later at.1 e cause f lives quiet lasts;
+  goes = λ r i e runs later cause f ended. let at = reached r runs in gone r.hall r.next i at.0 later at.1 e cause f ended;
+}
+
+names : NamesFutures shares_family
+names = record {
+  polls = λ h e cause f w is. let poll = (poll_is e f w is).is in lives h 0 f w (subst (λ d. cause_of h d ≡ None) poll cause);
+  below = λ r runs f lives. let x = value_in (get r.hall.futures f) lives in ((reached r runs).0.futures f x.0 x.1).0;
+  made = λ r i e runs later cause f lives. let at = reached r runs in made r.hall r.next i at.0 later at.1 e cause f lives;
+}
+
+pub no_wake_is_lost : (r : RunOf shares_family) → Runs shares_family r → LosesNoWake shares_family r
+no_wake_is_lost r runs = loses_no_wake shares_family keeps names r runs

@@ -1,0 +1,13 @@
+use Rattle.std.proofs.Common.{ap, cond, arith, ◌≡◌, ℕ}
+use Rattle.mea_share_model.specs.Meaning.{registers}
+use Rattle.mea_share_model.proofs.Counts.{counted, extra-least}
+use Rattle.mea_share_model.proofs.laws.wakes_are_of_the_registered.Goals as goal
+
+pub returns-clause-most : goal.returns-clause-most
+returns-clause-most c = λ h i e. (counted h i e).0
+
+pub returns-clause-grows : goal.returns-clause-grows
+returns-clause-grows c = λ h i e. omega (arith, (counted h i e).1, extra-least (registers e))
+
+pub returns-clause-falls : goal.returns-clause-falls
+returns-clause-falls c = λ h i e quiet. let nothing : ◌≡◌ {A = ℕ} (cond (registers e) 1 0) 0 = ap (λ b. cond b 1 0) quiet in omega (arith, (counted h i e).1, nothing)

@@ -1,0 +1,6 @@
+pub mod Next
+pub mod Admissions
+pub mod Meaning
+pub mod ShareFamily
+pub mod Valid
+pub mod Order

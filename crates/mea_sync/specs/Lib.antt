@@ -1,0 +1,3 @@
+pub mod Forgets
+pub mod Notified
+pub mod Slot

@@ -1,0 +1,122 @@
+//! The steps of a condition variable's core that are made under its lock, and those that are made under the
+//! lock of the mutex too, which is taken first. Each tells how many wakers it made ready.
+ghost use Rattle.std.specs.Prelude.{◌≡◌, ◌≤◌, ◌-◌, length, true, false, Some, None, IsSome, IfOk, IfErr, IfSome, OnOk, OnErr};
+ghost use Rattle.mea_sem_core.specs.Core.{held_of};
+ghost use Rattle.mea_lock_core.specs.Condvar.{notified_one, notified_all};
+ghost use Rattle.mea_lock_core.specs.CondWaits.{is_new, renewed_wait, MayPollWait, MayEndWait, PollsWait, EndsWait};
+ghost use Rattle.mea_sync.specs.Notified.{turn_of};
+
+use crate::mutex::Rest;
+use mea_base::{NoMemory, Turn};
+use mea_lock_core::{CondWait, CondvarCore};
+
+// Notifies the first that waits.
+pub(super) fn notify_one<W: Drop>(core: &mut CondvarCore<W>) -> usize
+    ensures is { core.new ≡ notified_one core.old }
+    ensures made { result ≡ length core.new.wakes - length core.old.wakes }
+{
+    let before = core.wakes_ready();
+    core.notify_one();
+    core.wakes_ready().saturating_sub(before)
+}
+
+// Notifies each that waits.
+pub(super) fn notify_all<W: Drop>(core: &mut CondvarCore<W>) -> usize
+    ensures is { core.new ≡ notified_all core.old }
+    ensures made { result ≡ length core.new.wakes - length core.old.wakes }
+{
+    let before = core.wakes_ready();
+    core.notify_all();
+    core.wakes_ready().saturating_sub(before)
+}
+
+// What a poll of a wait came to: the value where it is ready, and how many wakers of the mutex it made ready.
+#[derive(Drop)]
+pub(super) struct Polled<T, W> {
+    pub(super) answer: Result<Option<(T, W)>, (W, NoMemory)>,
+    pub(super) made: usize,
+}
+
+// Polls a wait. A new one has the value in `guarded`, and puts it back where its lock is given back; where
+// there is no memory it keeps it.
+pub(super) fn poll<T: Drop, W: Drop>(
+    rest: &mut Rest<T, W>,
+    core: &mut CondvarCore<W>,
+    wait: &mut CondWait,
+    guarded: &mut Option<T>,
+    waker: W,
+) -> Polled<T, W>
+    requires { is_new wait.old ≡ true → IsSome guarded.old }
+    ensures allowed { MayPollWait core.old rest.old.lock wait.old → OnOk result.answer (PollsWait core.old rest.old.lock wait.old waker (turn_of result.answer) core.new rest.new.lock wait.new) }
+    ensures renewed { ¬ MayPollWait core.old rest.old.lock wait.old → OnOk result.answer (PollsWait core.old rest.old.lock renewed_wait waker (turn_of result.answer) core.new rest.new.lock wait.new) }
+    ensures err { OnErr result.answer ((core.new ≡ core.old) × (rest.new.lock ≡ rest.old.lock)) }
+    ensures guards { is_new wait.new ≡ true → IsSome guarded.new }
+    ensures waker { IfErr result.answer (λ e. e.0 ≡ waker) }
+    ensures ready { IfOk result.answer (λ taken. IfSome taken (λ _. rest.new.value ≡ None)) }
+    ensures made { result.made ≡ length rest.new.lock.permits.wakes - length rest.old.lock.permits.wakes }
+{
+    let before = rest.lock.wakes_ready();
+    if let Some(value) = guarded.take() {
+        rest.value = Some(value);
+    }
+    let turn = core.poll_wait_checked(&mut rest.lock, wait, waker);
+    let made = rest.lock.wakes_ready().saturating_sub(before);
+    match turn {
+        Ok(Turn::Ready(waker)) => match rest.value.take() {
+            Some(value) => Polled {
+                answer: Ok(Some((value, waker))),
+                made,
+            },
+            None => unreachable!(),
+        },
+        Ok(Turn::Pending) => Polled {
+            answer: Ok(None),
+            made,
+        },
+        Err(e) => {
+            keep(rest, wait, guarded);
+            Polled {
+                answer: Err(e),
+                made,
+            }
+        }
+    }
+}
+
+// Gives the value back to a wait whose poll was refused. One that does not hold the lock asks for it anew.
+fn keep<T: Drop, W: Drop>(rest: &mut Rest<T, W>, wait: &mut CondWait, guarded: &mut Option<T>)
+    ensures guards { is_new wait.new ≡ true → IsSome guarded.new }
+    ensures value { 1 ≤ held_of rest.old.lock.permits → guarded.new ≡ rest.old.value }
+    ensures lock { rest.new.lock ≡ rest.old.lock }
+{
+    if rest.lock.is_held() {
+        *guarded = rest.value.take();
+    }
+    if guarded.is_none() {
+        if let CondWait::New = wait {
+            wait.renew();
+        }
+    }
+}
+
+// Ends a wait, and tells how many wakers of the mutex and of the condition variable that made ready.
+pub(super) fn end<T: Drop, W: Drop>(
+    rest: &mut Rest<T, W>,
+    core: &mut CondvarCore<W>,
+    wait: CondWait,
+    guarded: Option<T>,
+) -> (usize, usize)
+    requires { is_new wait ≡ true → IsSome guarded }
+    ensures allowed { MayEndWait core.old rest.old.lock wait → EndsWait core.old rest.old.lock wait core.new rest.new.lock }
+    ensures refused { ¬ MayEndWait core.old rest.old.lock wait → (core.new ≡ core.old) × (rest.new.lock ≡ rest.old.lock) }
+    ensures lock { result.0 ≡ length rest.new.lock.permits.wakes - length rest.old.lock.permits.wakes }
+    ensures room { result.1 ≡ length core.new.wakes - length core.old.wakes }
+{
+    let (locks, rooms) = (rest.lock.wakes_ready(), core.wakes_ready());
+    if let Some(value) = guarded {
+        rest.value = Some(value);
+    }
+    core.end_wait_checked(&mut rest.lock, wait);
+    let locked = rest.lock.wakes_ready().saturating_sub(locks);
+    (locked, core.wakes_ready().saturating_sub(rooms))
+}

@@ -1,0 +1,21 @@
+//! Tests of the shared types, by public contracts alone: each call once, its answer and the wakers that it woke,
+//! and runs of several threads. Beside the tests it has the wakers that they count with.
+#![tactic(auto)]
+
+/// Wakers that count, and the polls of the tests.
+pub mod bell;
+
+#[cfg(test)]
+mod channels;
+#[cfg(test)]
+mod condvar;
+#[cfg(test)]
+mod meeting_points;
+#[cfg(test)]
+mod mutex;
+#[cfg(test)]
+mod rwlock;
+#[cfg(test)]
+mod semaphore;
+#[cfg(test)]
+mod threads;

@@ -1,0 +1,170 @@
+use crate::bell::{Bell, Count, Told, count, end, poll};
+use mea_sync::mutex::Mutex;
+use mea_sync::rwlock::RwLock;
+use mea_sync::semaphore::{Closed, Semaphore};
+use mea_wait::{End, Waits};
+use std::sync::Wait;
+use std::thread::Threads;
+use std::{sync, thread};
+
+// Polls a wait until it gives its output, at most so many times; then it is ended.
+fn polled_for<R: Wait, F: Waits<Bell, O>, O>(
+    rt: &R,
+    wait: F,
+    count: &Count,
+    turns: u64,
+) -> Option<O>
+    requires { F.can_poll wait }
+{
+    let mut wait = wait;
+    for _ in 0..turns {
+        match poll(rt, wait, count) {
+            Told::Ready(output) => return Some(output),
+            Told::Refused => return None,
+            Told::Pending(back) => wait = back,
+        }
+        thread::yield_now();
+    }
+    wait.end(rt);
+    None
+}
+
+// Acquires one permit, at most so many turns, and ends it.
+fn acquire_once<R: Wait>(rt: &R, of: &Semaphore<Bell>, count: &Count, turns: u64) -> bool {
+    match polled_for(rt, of.acquire(1), count, turns) {
+        Some(Ok(permit)) => {
+            permit.end(rt);
+            true
+        }
+        Some(Err(Closed)) | None => false,
+    }
+}
+
+fn many<R: Threads + Wait + Sync>(rt: &R, threads: u64, of: &Semaphore<Bell>, count: &Count) {
+    thread::scope(thread::scope_env(), rt, |scope| {
+        for n in 0..threads {
+            if scope
+                .spawn(move || acquire_once(rt, of, count, 1_000_000))
+                .is_err()
+            {
+                acquire_once(rt, of, count, 1_000_000);
+            }
+        }
+    });
+}
+
+// A hundred threads acquire one of five permits each, and end it: then five are free.
+#[test]
+fn stress_test(rt: HostRuntime) {
+    let rung_all = count(&rt);
+    let semaphore = Semaphore::new(rt.alloc(), 5);
+    many(&rt, 100, &semaphore, &rung_all);
+    let all = semaphore.try_acquire(&rt, 5);
+    assert!(rt; !end(&rt, semaphore.try_acquire(&rt, 1)));
+    assert!(rt; end(&rt, all));
+}
+
+// One wait of a thread, abandoned in one of its stages or polled until it is granted.
+fn wait_in_part<R: Wait>(rt: &R, of: &Semaphore<Bell>, count: &Count, stage: u64) {
+    if stage == 0 {
+        of.acquire(2).end(rt);
+    } else if stage == 3 {
+        acquire_once(rt, of, count, 1_000_000);
+    } else if let Some(Ok(permit)) = polled_for(rt, of.acquire(2), count, stage) {
+        permit.end(rt);
+    }
+}
+
+fn abandons<R: Wait>(rt: &R, of: &Semaphore<Bell>, count: &Count, thread: u64) {
+    for n in 0..250u64 {
+        wait_in_part(rt, of, count, n.wrapping_add(thread) % 4);
+    }
+}
+
+// A thousand waits of four threads, abandoned in each stage: then all permits are free.
+#[test]
+fn abandoned_waits_give_all_back(rt: HostRuntime) {
+    let rung_all = count(&rt);
+    let semaphore = Semaphore::new(rt.alloc(), 3);
+    let (rt, of, all) = (&rt, &semaphore, &rung_all);
+    thread::scope(thread::scope_env(), rt, |scope| {
+        for thread in 0..4u64 {
+            if scope.spawn(move || abandons(rt, of, all, thread)).is_err() {
+                abandons(rt, of, all, thread);
+            }
+        }
+    });
+    assert!(rt; semaphore.available_permits(rt) == 3);
+}
+
+// Adds one to the value, or reads it: what was found, or 0 where it was not let in.
+fn visit<R: Wait>(rt: &R, of: &RwLock<u64, Bell>, count: &Count, writes: bool) -> u64 {
+    if writes {
+        match polled_for(rt, of.write(), count, 1_000_000) {
+            Some(mut guard) => {
+                let found = *guard;
+                *guard = found.wrapping_add(1);
+                guard.end(rt);
+                found
+            }
+            None => 0,
+        }
+    } else {
+        match polled_for(rt, of.read(), count, 1_000_000) {
+            Some(guard) => {
+                let found = *guard;
+                guard.end(rt);
+                found
+            }
+            None => 0,
+        }
+    }
+}
+
+// One writer adds one a hundred times beside eight readers.
+#[test]
+fn a_writer_and_eight_readers(rt: HostRuntime) {
+    let rung_all = count(&rt);
+    let lock = RwLock::new(rt.alloc(), 1u64);
+    let (rt, of, all) = (&rt, &lock, &rung_all);
+    thread::scope(thread::scope_env(), rt, |scope| {
+        for thread in 0..9u64 {
+            let spawned = scope.spawn(move || {
+                for _ in 0..100u64 {
+                    visit(rt, of, all, thread == 0);
+                }
+            });
+            if spawned.is_err() {
+                visit(rt, of, all, false);
+            }
+        }
+    });
+    assert!(rt; visit(rt, of, all, false) == 101);
+}
+
+// A guard is handed to another thread, which writes and ends it.
+#[test]
+fn a_guard_crosses_threads(rt: HostRuntime) {
+    let mutex: Mutex<u64, Bell> = Mutex::new(rt.alloc(), 1u64);
+    let handed = sync::Mutex::new(mutex.try_lock(&rt));
+    let rt = &rt;
+    thread::join(
+        rt,
+        || match handed.lock(rt).take() {
+            Some(mut guard) => {
+                *guard = 8;
+                guard.end(rt);
+            }
+            None => {}
+        },
+        || thread::yield_now(),
+    );
+    assert!(rt; !end(rt, handed.into_inner()));
+    match mutex.try_lock(rt) {
+        Some(guard) => {
+            assert!(rt; *guard == 8);
+            guard.end(rt);
+        }
+        None => assert!(rt; false),
+    }
+}

@@ -1,0 +1,85 @@
+ghost use Rattle.std.specs.Prelude.{Some, None, refl};
+
+use crate::bell::{Bell, end, found};
+use mea::End;
+use mea::mutex::Mutex;
+use mea::rwlock::{Mapped, RwLock};
+use mea_lock_core::Part;
+
+// The first of a pair.
+#[derive(Clone, Copy, Drop)]
+struct First;
+
+impl Part<(u64, u64)> for First {
+    ghost use Rattle.mea_tests.specs.First.{same_value};
+
+    type Out = u64;
+
+    ghost get = { λ p x. Some x.0 };
+
+    ghost put = { λ p x y. (y, x.1) };
+
+    fn part<'a>(&self, whole: &'a (u64, u64)) -> Option<&'a u64>
+    where
+        Self: 'a,
+    {
+        Some(&whole.0)
+    }
+
+    fn part_mut<'a>(whole: &'a mut (u64, u64), _part: &Self) -> Option<&'a mut u64>
+    where
+        Self: 'a,
+    {
+        Some(&mut whole.0)
+    }
+
+    ghost stays = { λ p x y h. refl };
+
+    ghost rests = { λ p x y h. λ i. (same_value x.0 y h i, x.1) };
+}
+
+// A mapped guard of a mutex writes a part, and the rest stays.
+#[test]
+fn a_part_of_a_mutex(rt: HostRuntime) {
+    let mutex: Mutex<(u64, u64), Bell> = Mutex::new(rt.alloc(), (1, 2));
+    match mutex.try_lock(&rt) {
+        Some(guard) => {
+            let mut first = Mapped::map(guard, First);
+            assert!(rt; *first == 1);
+            *first = 5;
+            assert!(rt; !end(&rt, mutex.try_lock(&rt)));
+            first.end(&rt);
+        }
+        None => assert!(rt; false),
+    }
+    assert!(rt; mutex.into_inner() == Some((5, 2)));
+}
+
+// Mapped guards of a write and of a read.
+#[test]
+fn a_part_of_a_lock(rt: HostRuntime) {
+    let mut lock: RwLock<(u64, u64), Bell> = RwLock::new(rt.alloc(), (1, 2));
+    match lock.try_write(&rt) {
+        Some(guard) => {
+            let mut first = Mapped::map(guard, First);
+            *first = 5;
+            assert!(rt; !end(&rt, found(lock.try_read(&rt))));
+            first.end(&rt);
+        }
+        None => assert!(rt; false),
+    }
+    match found(lock.try_read(&rt)) {
+        Some(guard) => {
+            let first = Mapped::map(guard, First);
+            assert!(rt; *first == 5 && end(&rt, found(lock.try_read(&rt))));
+            first.end(&rt);
+        }
+        None => assert!(rt; false),
+    }
+    // Who has the whole lock writes by `get_mut`, also after reads have shared the value.
+    match lock.get_mut() {
+        Some(value) => value.1 = 3,
+        None => assert!(rt; false),
+    }
+    assert!(rt; lock.into_inner() == Some((5, 3)));
+}

@@ -1,0 +1,41 @@
+use crate::bell::{Bell, count, end, gives, goes_on, mine, queues, rung, there};
+use mea::AtOnce;
+use mea::once::Once;
+use std::sync::atomic::AtomicU64;
+use std::sync::atomic::Ordering::SeqCst;
+
+// A call runs once; who waits for it is woken first, and then the next caller.
+#[test]
+fn a_call_runs_once(rt: HostRuntime) {
+    let (one, two, three) = (count(&rt), count(&rt), count(&rt));
+    let once: Once<Bell> = Once::new(rt.alloc());
+    let wait = goes_on(&rt, once.wait(), &one);
+    match mine(&rt, once.claim(), &two) {
+        Some(claim) => {
+            let third = queues(&rt, once.claim(), &three);
+            assert!(rt; !once.is_completed(&rt));
+            claim.finish(&rt);
+            assert!(rt; rung(&one) == 1 && rung(&two) == 0 && rung(&three) == 1);
+            assert!(rt; there(&rt, third, &three) == Some(()));
+        }
+        None => assert!(rt; false),
+    }
+    assert!(rt; once.is_completed(&rt));
+    assert!(rt; end(&rt, wait));
+    assert!(rt; gives(&rt, once.wait(), &one) == Some(()));
+}
+
+// The initialiser of a call that has completed is not run.
+#[test]
+fn a_second_call_runs_nothing(rt: HostRuntime) {
+    let bell = count(&rt);
+    let once: Once<Bell> = Once::new(rt.alloc());
+    let calls = AtomicU64::new(0);
+    for _ in 0..2u64 {
+        let run = || {
+            calls.fetch_add(1, SeqCst);
+        };
+        assert!(rt; gives(&rt, once.call_once(AtOnce::new(run)), &bell) == Some(()));
+    }
+    assert!(rt; calls.load(SeqCst) == 1);
+}

@@ -1,0 +1,49 @@
+ghost use Rattle.std.specs.Prelude.{◌≡◌};
+
+use crate::end::End;
+use std::sync::Wait;
+
+/// A value that must be spent, with the handle to spend it where this is dropped. It is what one puts into
+/// a closure, a list or a task, which hold nothing that must be spent.
+pub struct Kept<'a, R: Wait, P: End> {
+    rt: &'a R,
+    value: P,
+}
+
+impl<'a, R: Wait, P: End> Kept<'a, R, P> {
+    /// Keeps the value. It takes no memory.
+    pub fn new(rt: &'a R, value: P) -> Self
+        ensures { result.value ≡ value }
+    {
+        Kept { rt, value }
+    }
+
+    /// The value. It takes no memory.
+    pub fn get(&self) -> &P
+        ensures { result.now ≡ self.now.value }
+    {
+        &self.value
+    }
+
+    /// The value for writing. No clause tells the caller what was written. It takes no memory.
+    pub fn get_mut(&mut self) -> &mut P
+        ensures { result.now ≡ self.old.value }
+    {
+        &mut self.value
+    }
+
+    /// The value, which the caller then has to spend. It takes no memory.
+    pub fn into_inner(self) -> P
+        ensures { result ≡ self.entry.value }
+    {
+        let Kept { rt: _, value } = self;
+        value
+    }
+}
+
+impl<'a, R: Wait, P: End> Drop for Kept<'a, R, P> {
+    fn drop(self) {
+        let Kept { rt, value } = self;
+        value.end(rt);
+    }
+}

@@ -1,0 +1,27 @@
+ghost use Rattle.std.specs.Prelude.{⊤};
+ghost use Rattle.mea_wait.specs.Polls.{Gives, StillGives, IsPollable};
+
+use crate::end::End;
+use crate::polled::Polled;
+use crate::unpolled::Unpolled;
+use std::sync::Wait;
+
+/// A wait that must be spent: it is polled until it is ready, or ended. W is its waker and O what it gives.
+///
+/// It stands in place of Rust's `Future`. O is a parameter, so that an output with a lifetime is shown by a
+/// type argument.
+pub trait Waits<W, O>: End {
+    /// Holds of a wait that may be polled, which each one may that names nothing here.
+    ghost can_poll: { Self → Type 0 } = { λ _. ⊤ };
+
+    /// Holds of each output that the wait may give.
+    ghost gives: { Self → O → Type 0 } = { λ _ _. ⊤ };
+
+    /// Polls the wait: ready with its output, or pending with the waker kept until the next poll. The waker
+    /// of the poll before is dropped. Where it is refused, nothing has changed.
+    fn poll<R: Wait>(self, rt: &R, waker: W) -> Result<Polled<Self, O>, Unpolled<Self, W>>
+        requires { can_poll self }
+        ensures value { Gives gives self result }
+        ensures same { StillGives gives self result }
+        ensures again { IsPollable can_poll result };
+}
