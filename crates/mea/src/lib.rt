@@ -10,7 +10,7 @@ pub mod atomicbox;
 
 pub use mea_base::{NoMemory, Overflow, Wake};
 pub use mea_keep::{
-    AtOnce, Claim, Claimed, Claiming, Computed, Computing, Init, Never, Nothing, Step, TryAtOnce,
+    AtOnce, Claim, Claimed, Claiming, Computed, Computing, Init, Never, Ready, Step, TryAtOnce,
     Unfailing, once, singleflight,
 };
 pub use mea_link::{barrier, broadcast, latch, mpsc, shutdown, waitgroup};

@@ -37,18 +37,20 @@ pub trait Claiming<W, V, C>: End {
     fn poll_claim<R: Wait>(self, rt: &R, waker: W) -> Step<Self, C, V, W>;
 }
 
-/// What comes back of a value that was given to a cell: nothing, since that takes no memory.
-pub enum Nothing {}
-
-impl End for Nothing {
-    fn end<R: Wait>(self, _rt: &R) {
-        match self {}
-    }
+/// A wait whose value is there, so that its first poll gives it, as `std::future::Ready` does. It is the wait that stands
+/// for want of memory where to give a value takes none: no call makes one.
+#[derive(Drop)]
+pub struct Ready<V> {
+    value: V,
 }
 
-impl<W, V, C> Claiming<W, V, C> for Nothing {
+impl<V: Drop> End for Ready<V> {
+    fn end<R: Wait>(self, _rt: &R) {}
+}
+
+impl<W: Drop, V: Drop, C> Claiming<W, V, C> for Ready<V> {
     fn poll_claim<R: Wait>(self, _rt: &R, _waker: W) -> Step<Self, C, V, W> {
-        match self {}
+        Step::There(self.value)
     }
 }
 

@@ -1,8 +1,10 @@
+//! Wakers that count, and the polls of the tests.
 ghost use Rattle.std.specs.Prelude.{IfSome};
 ghost use Rattle.mea_sync_tests.specs.Told.{IfStillWaiting};
 
 use mea_base::{NoMemory, Wake};
 use mea_wait::{End, Polled, Unpolled, Waits};
+#[cfg(test)]
 use std::process::Abort;
 use std::sync::atomic::AtomicU64;
 use std::sync::atomic::Ordering::SeqCst;
@@ -22,6 +24,7 @@ impl Wake for Bell {
 }
 
 /// A count of no wakes.
+#[cfg(test)]
 pub fn count(rt: &(impl Abort + AllocGlobal)) -> Count {
     Arc::new(rt.alloc(), AtomicU64::new(0)).expect(rt, "memory")
 }

@@ -2,9 +2,7 @@
 //! and runs of several threads. Beside the tests it has the wakers that they count with.
 #![tactic(auto)]
 
-/// Wakers that count, and the polls of the tests.
 pub mod bell;
-
 #[cfg(test)]
 mod channels;
 #[cfg(test)]

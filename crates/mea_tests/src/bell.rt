@@ -1,7 +1,9 @@
+//! Wakers that count, and the polls of the tests.
 ghost use Rattle.std.specs.Prelude.{IfSome};
 ghost use Rattle.mea_tests.specs.Told.{IfStillWaiting};
 
 use mea::{Claimed, End, NoMemory, Polled, Unpolled, Waits, Wake};
+#[cfg(test)]
 use std::process::Abort;
 use std::sync::atomic::AtomicU64;
 use std::sync::atomic::Ordering::SeqCst;
@@ -21,6 +23,7 @@ impl Wake for Bell {
 }
 
 /// A count of no wakes.
+#[cfg(test)]
 pub fn count(rt: &(impl Abort + AllocGlobal)) -> Count {
     Arc::new(rt.alloc(), AtomicU64::new(0)).expect(rt, "memory")
 }

@@ -3,11 +3,9 @@
 //! the wakers that they count with.
 #![tactic(auto)]
 
-/// Wakers that count, and the polls of the tests.
-pub mod bell;
-
 #[cfg(test)]
 mod admission;
+pub mod bell;
 #[cfg(test)]
 mod boxes;
 #[cfg(test)]

@@ -1,7 +1,7 @@
 mod steps;
 mod waits;
 
-use crate::claim::Nothing;
+use crate::claim::Ready;
 use crate::computing::Computing;
 use crate::unfailing::Unfailing;
 use mea_base::Wake;
@@ -19,7 +19,7 @@ pub struct Once<W> {
 
 /// The future of `Once::call_once`.
 pub type OnceCall<'a, I, W> = Unfailing<
-    Computing<OnceClaiming<'a, W>, OnceClaim<'a, W>, Nothing, I, (), Never>,
+    Computing<OnceClaiming<'a, W>, OnceClaim<'a, W>, Ready<()>, I, (), Never>,
 >;
 
 impl<W: Wake> Once<W> {

@@ -3,7 +3,7 @@ mod puts;
 mod steps;
 mod waits;
 
-use crate::claim::Nothing;
+use crate::claim::Ready;
 use crate::computing::Computing;
 use crate::unfailing::Unfailing;
 pub use inits::{CellMutInit, CellMutTryInit};
@@ -30,7 +30,7 @@ pub struct OnceCell<T, W> {
 pub type CellTryInit<'a, T, E, I, W> = Computing<
     CellClaiming<'a, T, W>,
     CellClaim<'a, T, W>,
-    Nothing,
+    Ready<&'a T>,
     I,
     T,
     E,

@@ -1,4 +1,6 @@
-use crate::claim::{Claim, Claimed, Claiming, Nothing, Step, told};
+ghost use Rattle.std.specs.Prelude.{IsOk};
+
+use crate::claim::{Claim, Claimed, Claiming, Ready, Step, told};
 use crate::once::call::{Once, steps};
 use crate::promise::Promise;
 use mea_base::{NoMemory, Poll, Wake};
@@ -97,8 +99,10 @@ impl<W: Wake, H: Holds<Once<W>>> CallClaim<H, W> {
     }
 }
 
-impl<W: Wake, H: Holds<Once<W>>> Claim<(), (), Nothing> for CallClaim<H, W> {
-    fn finish<R: Wait>(self, rt: &R, _value: ()) -> Result<(), Nothing> {
+impl<W: Wake, H: Holds<Once<W>>> Claim<(), (), Ready<()>> for CallClaim<H, W> {
+    fn finish<R: Wait>(self, rt: &R, _value: ()) -> Result<(), Ready<()>>
+        ensures { IsOk result }
+    {
         CallClaim::finish(self, rt);
         Ok(())
     }

@@ -1,4 +1,6 @@
-use crate::claim::{Claim, Claimed, Claiming, Nothing, Step, told};
+ghost use Rattle.std.specs.Prelude.{IsOk};
+
+use crate::claim::{Claim, Claimed, Claiming, Ready, Step, told};
 use crate::once::cell::{OnceCell, steps};
 use mea_base::{NoMemory, Wake};
 use mea_once_core::{CellTurn, InitCall};
@@ -66,8 +68,10 @@ impl<'a, T: Drop, W: Wake> End for CellClaim<'a, T, W> {
     }
 }
 
-impl<'a, T: Drop, W: Wake> Claim<T, &'a T, Nothing> for CellClaim<'a, T, W> {
-    fn finish<R: Wait>(self, rt: &R, value: T) -> Result<&'a T, Nothing> {
+impl<'a, T: Drop, W: Wake> Claim<T, &'a T, Ready<&'a T>> for CellClaim<'a, T, W> {
+    fn finish<R: Wait>(self, rt: &R, value: T) -> Result<&'a T, Ready<&'a T>>
+        ensures { IsOk result }
+    {
         Ok(CellClaim::finish(self, rt, value))
     }
 }
