@@ -1,4 +1,6 @@
 //! A condition variable that threads and tasks share: `mea::condvar`.
+ghost use Rattle.std.specs.Prelude.{◌≡◌};
+
 mod steps;
 mod waits;
 
@@ -61,6 +63,7 @@ impl<W: Wake> Condvar<W> {
         condition: F,
     ) -> CondvarWhile<'a, T, F, W>
         requires { F.IsAlwaysCallable condition }
+        ensures { result.condition ≡ condition }
     {
         Conditional::of(self, guard, condition)
     }
@@ -72,6 +75,7 @@ impl<W: Wake> Condvar<W> {
         condition: F,
     ) -> CondvarWhileOwned<'_, T, F, W>
         requires { F.IsAlwaysCallable condition }
+        ensures { result.condition ≡ condition }
     {
         Conditional::of(self, guard, condition)
     }

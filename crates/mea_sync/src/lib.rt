@@ -14,4 +14,4 @@ pub mod mutex;
 pub mod rwlock;
 pub mod semaphore;
 
-pub use access::{Access, Shows};
+pub use access::{Access, Downgrades, Shows};

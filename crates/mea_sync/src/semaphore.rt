@@ -1,5 +1,5 @@
 //! A semaphore that threads and tasks share: `mea::semaphore`.
-ghost use Rattle.std.specs.Prelude.{◌≡◌, IfSome};
+ghost use Rattle.std.specs.Prelude.{◌≡◌, ◌<◌, ◌≤◌, IfSome, OnErr};
 
 mod acquire;
 mod permit;
@@ -43,19 +43,25 @@ impl<W: Wake> Semaphore<W> {
     }
 
     /// Takes at most `n` free permits away for ever, and tells how many. It takes no memory.
-    pub fn forget<R: Wait>(&self, rt: &R, n: usize) -> usize {
+    pub fn forget<R: Wait>(&self, rt: &R, n: usize) -> usize
+        ensures { result ≤ n }
+    {
         self.core.lock(rt).forget(n)
     }
 
     /// Takes `n` permits away for ever. Those that are not free become a debt, which is paid before all who
     /// wait. It takes memory for that debt alone, and where there is none nothing has changed.
-    pub fn forget_exact<R: Wait>(&self, rt: &R, n: usize) -> Result<(), NoMemory> {
+    pub fn forget_exact<R: Wait>(&self, rt: &R, n: usize) -> Result<(), NoMemory>
+        ensures { OnErr result (0 < n) }
+    {
         self.core.lock(rt).forget_exact(n)
     }
 
     /// Adds permits. It is refused where more would live than the largest number, and then nothing has
     /// changed. It takes no memory.
-    pub fn release<R: Wait>(&self, rt: &R, permits: usize) -> Result<(), Overflow> {
+    pub fn release<R: Wait>(&self, rt: &R, permits: usize) -> Result<(), Overflow>
+        ensures { OnErr result (0 < permits) }
+    {
         let (answer, made) = steps::release(&mut *self.core.lock(rt), permits);
         self.wake(rt, made);
         answer
@@ -85,7 +91,9 @@ impl<W: Wake> Semaphore<W> {
     }
 
     /// `acquire`, whose permits are gone for ever once they are granted. It takes no memory.
-    pub fn acquire_and_forget(&self, permits: usize) -> AcquireForget<'_, W> {
+    pub fn acquire_and_forget(&self, permits: usize) -> AcquireForget<'_, W>
+        ensures { result ≡ permits }
+    {
         AcquireToForget::of(self, permits)
     }
 
@@ -117,7 +125,9 @@ impl<W: Wake> Semaphore<W> {
     }
 
     /// `acquire_and_forget`, for a wait that owns a share of the semaphore. It takes no memory.
-    pub fn acquire_owned_and_forget(self: Arc<Self>, permits: usize) -> OwnedAcquireForget<W> {
+    pub fn acquire_owned_and_forget(self: Arc<Self>, permits: usize) -> OwnedAcquireForget<W>
+        ensures { result ≡ permits }
+    {
         AcquireToForget::of(self, permits)
     }
 

@@ -83,3 +83,28 @@ fn a_part_of_a_lock(rt: HostRuntime) {
     }
     assert!(rt; lock.into_inner() == Some((5, 3)));
 }
+
+// A mapped write becomes a read of the same part, and no other write is let in.
+#[test]
+fn a_mapped_write_becomes_a_read(rt: HostRuntime) {
+    let lock: RwLock<(u64, u64), Bell> = RwLock::new(rt.alloc(), (1, 2));
+    match lock.try_write(&rt) {
+        Some(guard) => {
+            let mut first = Mapped::map(guard, First);
+            *first = 5;
+            match first.downgrade(&rt) {
+                Ok(read) => {
+                    assert!(rt; *read == 5 && end(&rt, found(lock.try_read(&rt))));
+                    assert!(rt; !end(&rt, lock.try_write(&rt)));
+                    read.end(&rt);
+                }
+                Err((write, _)) => {
+                    write.end(&rt);
+                    assert!(rt; false);
+                }
+            }
+        }
+        None => assert!(rt; false),
+    }
+    assert!(rt; lock.into_inner() == Some((5, 2)));
+}

@@ -1,11 +1,10 @@
 ghost use Rattle.std.specs.Prelude.{◌≡◌, refl, IfOk, IfErr};
 ghost use Rattle.std.specs.Arc.{arc_value};
 
-use crate::access::{Access, Shows};
+use crate::access::{Access, Downgrades, Shows};
 use crate::mapped::Mapped;
 use crate::rwlock::RwLock;
 use mea_base::{NoMemory, Wake};
-use mea_lock_core::Part;
 use mea_wait::{End, Holds};
 use std::marker::PhantomData;
 use std::ops::{Deref, DerefMut};
@@ -112,20 +111,6 @@ fn share<R: Wait, T>(rt: &R, value: &Arc<T>) -> Arc<T>
     unreachable!()
 }
 
-impl<T: Drop, W: Wake, H: Holds<RwLock<T, W>>, P: Part<T>> Mapped<T, WriteGuard<H, T, W>, P> {
-    /// Makes the write a read of the same part, in one step: as `WriteGuard::downgrade`.
-    pub fn downgrade<R: Wait>(
-        self,
-        rt: &R,
-    ) -> Result<Mapped<T, ReadGuard<H, T, W>, P>, (Self, NoMemory)> {
-        let (guard, part) = self.into_parts();
-        match guard.downgrade(rt) {
-            Ok(guard) => Ok(Mapped::map(guard, part)),
-            Err((guard, e)) => Err((Mapped::map(guard, part), e)),
-        }
-    }
-}
-
 impl<H, T, W> Shows<T> for ReadGuard<H, T, W> {
     ghost shown = { λ guard. arc_value guard.value };
 
@@ -150,6 +135,14 @@ impl<H, T, W> Access<T> for WriteGuard<H, T, W> {
     }
 
     ghost holds = { λ guard value. refl };
+}
+
+impl<T: Drop, W: Wake, H: Holds<RwLock<T, W>>> Downgrades<T> for WriteGuard<H, T, W> {
+    type Read = ReadGuard<H, T, W>;
+
+    fn downgrade<R: Wait>(self, rt: &R) -> Result<ReadGuard<H, T, W>, (Self, NoMemory)> {
+        WriteGuard::downgrade(self, rt)
+    }
 }
 
 impl<H, T, W> Deref for ReadGuard<H, T, W> {

@@ -17,7 +17,8 @@ pub struct AcquireToHold<H, W> {
     waker: PhantomData<W>,
 }
 
-/// A wait for permits that are gone for ever once they are granted. It must be polled to its end, or ended.
+/// A wait for permits that are gone for ever once they are granted. It must be polled to its end, or ended. A contract
+/// sees of it how many permits it asks for.
 pub struct AcquireToForget<H, W> {
     of: H,
     permits: usize,
@@ -45,6 +46,14 @@ impl<H, W> Model for AcquireToHold<H, W> {
     ghost view = { λ a. a.permits };
 }
 
+impl<H, W> Model for AcquireToForget<H, W> {
+    ghost use Rattle.std.specs.Prelude.{ℕ};
+
+    ghost Value = { ℕ };
+
+    ghost view = { λ a. a.permits };
+}
+
 impl<W: Wake, H: Holds<Semaphore<W>>> AcquireToHold<H, W> {
     // A wait that was never polled.
     pub(super) fn of(of: H, permits: usize) -> Self
@@ -61,7 +70,9 @@ impl<W: Wake, H: Holds<Semaphore<W>>> AcquireToHold<H, W> {
 
 impl<W: Wake, H: Holds<Semaphore<W>>> AcquireToForget<H, W> {
     // A wait that was never polled.
-    pub(super) fn of(of: H, permits: usize) -> Self {
+    pub(super) fn of(of: H, permits: usize) -> Self
+        ensures { result ≡ permits }
+    {
         AcquireToForget {
             of,
             permits,

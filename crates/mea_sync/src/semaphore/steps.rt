@@ -14,8 +14,11 @@ pub(super) fn release<W: Drop>(core: &mut SemCore<W>, n: usize) -> (Result<(), O
     ensures overflow { IsErr result.0 ↔ (usize.MAX < core.old.live + n) }
     ensures ok { OnOk result.0 (core.new ≡ poured core.old n) }
     ensures err { OnErr result.0 (core.new ≡ core.old) }
+    ensures some { OnErr result.0 (0 < n) }
     ensures made { result.1 ≡ length core.new.wakes - length core.old.wakes }
 {
+    // Those that live fit, as this tells, so none more fit too.
+    let _ = core.live();
     let before = core.wakes_ready();
     let answer = core.release(n);
     (answer, core.wakes_ready().saturating_sub(before))
