@@ -17,7 +17,7 @@ use std::sync::{Mutex, Wait};
 /// A core of calls by key, behind its lock.
 ///
 /// While the lock is held there run the hash, the equality and the drop of keys, and nothing else of the caller's: values
-/// are kept behind an `Arc`, of which the core hands out a share, and are computed and cloned with no lock held.
+/// are kept behind an `Arc`, of which the core hands out a share, and are computed, cloned and dropped with no lock held.
 #[derive(Drop)]
 pub struct Keyed<C> {
     pub(crate) alloc: Global,

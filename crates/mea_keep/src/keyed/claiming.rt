@@ -45,7 +45,7 @@ impl<C> Keyed<C> {
         }
     }
 
-    // Ends a call. A value that it had not given is dropped with no lock held.
+    // Ends a call. A value that it had not given, or that is there for it, is dropped with no lock held.
     pub(super) fn abandon<R: Wait, K: Eq + Hash + Drop, V: Drop, W: Wake>(
         &self,
         rt: &R,
@@ -56,7 +56,16 @@ impl<C> Keyed<C> {
     {
         let mut call = call;
         let _kept = call.call.init.take();
-        let made = steps::end(&mut *self.core.lock(rt), call);
+        let (_there, made) = {
+            let mut core = self.core.lock(rt);
+            match steps::take(&mut *core, &mut call) {
+                Some((there, taken)) => {
+                    let ended = steps::end(&mut *core, call);
+                    (Some(there), taken.saturating_add(ended))
+                }
+                None => (None, steps::end(&mut *core, call)),
+            }
+        };
         self.wake(rt, made);
     }
 }

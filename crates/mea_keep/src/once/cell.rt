@@ -108,13 +108,17 @@ impl<T: Drop, W: Wake> OnceCell<T, W> {
 
     /// A wait until the value is put, or until the cell is full; then the value comes back beside the one that is there.
     /// It takes no memory before its first poll.
-    pub fn try_insert(&self, value: T) -> CellInsert<'_, T, W> {
+    pub fn try_insert(&self, value: T) -> CellInsert<'_, T, W>
+        ensures { result ≡ value }
+    {
         CellInsert::of(self, value)
     }
 
     /// A wait until the value is put, or until the cell is full; then the value comes back. It takes no memory before its
     /// first poll.
-    pub fn set(&self, value: T) -> CellSet<'_, T, W> {
+    pub fn set(&self, value: T) -> CellSet<'_, T, W>
+        ensures { result ≡ value }
+    {
         CellSet::of(self, value)
     }
 

@@ -1,6 +1,8 @@
 //! A broadcast channel whose slow receivers lose the oldest messages, and hear how many: `mea::broadcast::overflow`.
-ghost use Rattle.std.specs.Prelude.{◌≡◌, ◌-◌, ◌<◌, length, IsErr, OnOk, IfErr, ◌↔◌};
+ghost use Rattle.std.specs.Prelude.{◌≡◌, ◌-◌, ◌<◌, ◌≤◌, ◌↔◌, ◌^◌, length, Err, IsErr, OnOk, IfOk, IfErr};
 ghost use Rattle.mea_broadcast_core.specs.Broadcast.{after_send, without_sender};
+ghost use Rattle.mea_broadcast_core.specs.Receives.{Receives, found, usable_position};
+ghost use Rattle.mea_link.specs.Positions.{MovesBy};
 
 use mea_base::{NoMemory, Overflow, Poll, Wake};
 pub use mea_broadcast_core::{
@@ -9,6 +11,7 @@ pub use mea_broadcast_core::{
 use mea_broadcast_core::{BroadcastCore, Cursor, RecvWait};
 use mea_wait::{End, HandleFault, Polled, Unpolled, Waits, hand_out};
 use std::alloc::Global;
+use std::marker::Model;
 use std::sync::{Arc, Mutex, Wait};
 
 // What the ends of a channel share.
@@ -22,11 +25,20 @@ pub struct Sender<T, W> {
     shared: Arc<Shared<T, W>>,
 }
 
-/// An end that receives all that is sent while it keeps up. It ports `mea::broadcast::overflow::Receiver`.
+/// An end that receives all that is sent while it keeps up. A contract sees of it how many messages it has passed. It
+/// ports `mea::broadcast::overflow::Receiver`.
 #[derive(Drop)]
 pub struct Receiver<T, W> {
     shared: Arc<Shared<T, W>>,
     cursor: Cursor,
+}
+
+impl<T, W> Model for Receiver<T, W> {
+    ghost use Rattle.std.specs.Prelude.{ℕ};
+
+    ghost Value = { ℕ };
+
+    ghost view = { λ r. r.cursor.position };
 }
 
 /// The future of `Receiver::recv`. It must be polled to its end, or ended; ended, its waker stays until the next
@@ -43,6 +55,7 @@ pub fn channel<T: Clone + Drop, W: Wake>(
     capacity: usize,
 ) -> Result<(Sender<T, W>, Receiver<T, W>), BroadcastFault>
     requires { 0 < capacity }
+    ensures { (result ≡ Err BroadcastFault.Overflow) ↔ (2 ^ 63 < capacity) }
 {
     let core = BroadcastCore::new(alloc, capacity)?;
     let cursor = core.subscribe();
@@ -79,6 +92,28 @@ fn send<T: Clone + Drop, W: Drop>(
     (answer, core.wakes_ready().saturating_sub(before))
 }
 
+// Receives at a cursor, which goes on as far as the answer tells.
+#[tactic(auto, using(crate::proofs::Moves::moves))]
+fn try_recv<T: Clone + Drop, W: Drop>(
+    core: &BroadcastCore<T, W>,
+    cursor: &mut Cursor,
+) -> Result<T, TryRecvError>
+    ensures receives { let position = usable_position core.now cursor.old.position in
+        Receives T.is_clone T.is_infallible core.now (found core.now position) position result cursor.new.position }
+    ensures moves { MovesBy result cursor.old.position cursor.new.position }
+{
+    core.try_recv_checked(cursor)
+}
+
+// A further cursor that has passed as many messages, or only those that were sent.
+#[tactic(auto, using(crate::proofs::Moves::usable_is_below))]
+fn copy<T: Clone + Drop, W: Drop>(core: &BroadcastCore<T, W>, cursor: &Cursor) -> Cursor
+    ensures is { result.position ≡ usable_position core.now cursor.now.position }
+    ensures below { result.position ≤ cursor.now.position }
+{
+    core.copy_checked(cursor)
+}
+
 // A sender ends, as above.
 fn end_sender<T: Clone + Drop, W: Drop>(core: &mut BroadcastCore<T, W>) -> usize
     ensures allowed { 0 < core.old.senders → core.new ≡ without_sender core.old }
@@ -107,7 +142,9 @@ impl<T: Clone + Drop, W: Wake> Shared<T, W> {
 impl<T: Clone + Drop, W: Wake> Sender<T, W> {
     /// Sends a message to all receivers, and wakes those who wait for one. It is refused after 18446744073709551615
     /// messages, and then it comes back. It takes no memory.
-    pub fn send<R: Wait>(&self, rt: &R, message: T) -> Result<(), SendRefused<T>> {
+    pub fn send<R: Wait>(&self, rt: &R, message: T) -> Result<(), SendRefused<T>>
+        ensures { IfErr result (λ e. e.0 ≡ message) }
+    {
         let (answer, made) = send(&mut *self.shared.core.lock(rt), message);
         self.shared.wake(rt, made);
         answer
@@ -136,8 +173,10 @@ impl<T: Clone + Drop, W: Wake> Sender<T, W> {
 impl<T: Clone + Drop, W: Wake> Receiver<T, W> {
     /// The next message, if there is one. Where messages were lost, it tells how many, and goes on at the oldest
     /// that is kept. Where a clone finds no memory, nothing has changed.
-    pub fn try_recv<R: Wait>(&mut self, rt: &R) -> Result<T, TryRecvError> {
-        self.shared.core.lock(rt).try_recv_checked(&mut self.cursor)
+    pub fn try_recv<R: Wait>(&mut self, rt: &R) -> Result<T, TryRecvError>
+        ensures { MovesBy result self.old self.new }
+    {
+        try_recv(&*self.shared.core.lock(rt), &mut self.cursor)
     }
 
     /// A wait for the next message. It takes no memory before its first poll.
@@ -157,9 +196,11 @@ impl<T: Clone + Drop, W: Wake> Receiver<T, W> {
     }
 
     /// A receiver of what this one has yet to hear. A further share may be refused.
-    pub fn clone_handle<R: Wait>(&self, rt: &R) -> Result<Self, NoMemory> {
+    pub fn clone_handle<R: Wait>(&self, rt: &R) -> Result<Self, NoMemory>
+        ensures { IfOk result (λ copy. copy ≤ self.now) }
+    {
         let shared = share(&self.shared)?;
-        let cursor = shared.core.lock(rt).copy_checked(&self.cursor);
+        let cursor = copy(&*shared.core.lock(rt), &self.cursor);
         Ok(Receiver { shared, cursor })
     }
 }

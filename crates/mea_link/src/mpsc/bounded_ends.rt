@@ -1,5 +1,7 @@
-ghost use Rattle.std.specs.Prelude.{◌≡◌, ◌-◌, ◌<◌, length, false};
+ghost use Rattle.std.specs.Prelude.{◌≡◌, ◌-◌, ◌<◌, length, false, Some, IfErr};
 ghost use Rattle.mea_chan_core.specs.Bounded.{send_answer, after_send, recv_answer, after_recv, without_sender, without_receiver, PollsRecv, PollsSend, EndsSend};
+ghost use Rattle.mea_chan_core.specs.Errors.{unsent};
+ghost use Rattle.mea_link.specs.Back.{ComesBack};
 ghost use Rattle.mea_sem_core.specs.Calls.{Belongs};
 ghost use Rattle.mea_sem_core.specs.declared.acquire.Acquire.TheVariants.{New};
 
@@ -8,7 +10,7 @@ use mea_base::{NoMemory, Overflow, Poll, Wake};
 use mea_chan_core::{BoundedCore, SendWait};
 use mea_wait::{End, HandleFault, Holds, Polled, Unpolled, Waits, hand_out};
 use std::alloc::Global;
-use std::marker::PhantomData;
+use std::marker::{Model, PhantomData};
 use std::sync::{Arc, Mutex, Wait};
 
 /// What the ends of a channel share.
@@ -28,11 +30,22 @@ pub struct BoundedReceiver<T, W> {
 }
 
 /// A wait until a value is sent. It must be polled to its end, or ended; ended, its value is dropped where it was
-/// not sent.
+/// not sent. A contract sees of it the value, while it has that.
 pub struct Sending<H, T, W> {
     of: H,
     send: SendWait<T>,
     waker: PhantomData<W>,
+}
+
+impl<H, T, W> Model for Sending<H, T, W> {
+    ghost use Rattle.std.specs.Prelude.{Option};
+    ghost use Rattle.std.specs.Coded.{coded_option};
+
+    ghost Value = { Option T };
+
+    ghost coded = { coded_option T.code };
+
+    ghost view = { λ s. s.send.value };
 }
 
 /// The future of `BoundedSender::send`.
@@ -99,7 +112,8 @@ fn poll_recv<T: Drop, W: Drop>(
     (answer, core.wakes_ready().saturating_sub(before))
 }
 
-// Polls a send, as above.
+// Polls a send, as above: a value that is not sent comes back, or stays with the send.
+#[tactic(auto, using(crate::proofs::Back::comes_back))]
 fn poll_send<T: Drop, W: Drop>(
     core: &mut BoundedCore<T, W>,
     send: &mut SendWait<T>,
@@ -107,10 +121,14 @@ fn poll_send<T: Drop, W: Drop>(
 ) -> (Result<Poll<Result<(), SendError<T>>>, (W, NoMemory)>, usize)
     ensures allowed { Belongs core.old.waiting send.old.acquire → PollsSend core.old send.old.value send.old.acquire waker result.0 core.new send.new.value send.new.acquire }
     ensures renewed { ¬ Belongs core.old.waiting send.old.acquire → PollsSend core.old send.old.value (New 1) waker result.0 core.new send.new.value send.new.acquire }
+    ensures back { ComesBack send.old.value result.0 send.new.value }
     ensures made { result.1 ≡ length core.new.wakes - length core.old.wakes }
 {
     let before = core.wakes_ready();
-    let answer = core.poll_send_checked(send, waker);
+    if !core.poll_send_allowed(send) {
+        send.renew();
+    }
+    let answer = core.poll_send(send, waker);
     (answer, core.wakes_ready().saturating_sub(before))
 }
 
@@ -163,7 +181,9 @@ impl<T: Drop, W: Wake> Shared<T, W> {
 impl<T: Drop, W: Wake> BoundedSender<T, W> {
     /// A wait until the value is sent, behind those who wait. Where the receiver has ended the value comes back.
     /// It takes no memory before its first poll.
-    pub fn send(&self, value: T) -> BoundedSend<'_, T, W> {
+    pub fn send(&self, value: T) -> BoundedSend<'_, T, W>
+        ensures { result ≡ Some value }
+    {
         Sending {
             of: &*self.shared,
             send: SendWait::new(value),
@@ -172,7 +192,9 @@ impl<T: Drop, W: Wake> BoundedSender<T, W> {
     }
 
     /// Sends the value if there is a place, past those who wait; else it comes back. It takes no memory.
-    pub fn try_send<R: Wait>(&self, rt: &R, value: T) -> Result<(), TrySendError<T>> {
+    pub fn try_send<R: Wait>(&self, rt: &R, value: T) -> Result<(), TrySendError<T>>
+        ensures { IfErr result (λ e. unsent e ≡ value) }
+    {
         let (answer, made) = try_send(&mut *self.shared.core.lock(rt), value);
         self.shared.wake(rt, made);
         answer
@@ -237,6 +259,8 @@ impl<'a, T: Drop, W: Wake> End for BoundedRecv<'a, T, W> {
 
 impl<T: Drop, W: Wake, H: Holds<Shared<T, W>>> Waits<W, Result<(), SendError<T>>>
     for Sending<H, T, W> {
+    ghost gives = { λ send sent. IfErr sent (λ e. send ≡ Some e.0) };
+
     fn poll<R: Wait>(
         self,
         rt: &R,

@@ -1,5 +1,6 @@
-ghost use Rattle.std.specs.Prelude.{◌≡◌, ◌-◌, ◌<◌, length, true, false, Err, OnErr, MatchResult};
+ghost use Rattle.std.specs.Prelude.{◌≡◌, ◌-◌, ◌<◌, length, true, false, Err, IfErr, OnErr, MatchResult};
 ghost use Rattle.mea_chan_core.specs.Mailbox.{with_message, recv_answer, PollsRecv, without_sender, without_receiver};
+ghost use Rattle.mea_chan_core.specs.Errors.{unqueued};
 ghost use Rattle.mea_chan_core.specs.declared.errors.UnboundedError.{UnboundedError};
 
 use crate::mpsc::{RecvError, TryRecvError, UnboundedError};
@@ -82,7 +83,9 @@ impl<T: Drop, W: Wake> Shared<T, W> {
 
 impl<T: Drop, W: Wake> UnboundedSender<T, W> {
     /// Sends the value. Where the receiver has ended, or there is no memory for it, it comes back.
-    pub fn send<R: Wait>(&self, rt: &R, value: T) -> Result<(), UnboundedError<T>> {
+    pub fn send<R: Wait>(&self, rt: &R, value: T) -> Result<(), UnboundedError<T>>
+        ensures { IfErr result (λ e. unqueued e ≡ value) }
+    {
         let (answer, made) = send(&mut *self.shared.core.lock(rt), value);
         self.shared.wake(rt, made);
         answer
