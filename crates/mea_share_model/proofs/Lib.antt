@@ -6,3 +6,5 @@ pub mod Keeping
 pub mod Wakers
 pub mod Counts
 pub mod Orders
+pub mod Least
+pub mod Settling

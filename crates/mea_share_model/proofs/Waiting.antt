@@ -75,12 +75,12 @@ among_right : (xs bs : List Waiter) (a : Waiter) → Among bs a → Among (xs ++
 among_right [] bs a is = is
 among_right (c ∷ xs) bs a is = inr (among_right xs bs a is)
 
-all_at : (P : Waiter → Type 0) (xs : List Waiter) (a : Waiter) → AllOf P xs → Among xs a → P a
+pub all_at : (P : Waiter → Type 0) (xs : List Waiter) (a : Waiter) → AllOf P xs → Among xs a → P a
 all_at P [] a all is = absurd is
 all_at P (c ∷ xs) a all (inl here) = subst P here all.0
 all_at P (c ∷ xs) a all (inr later) = all_at P xs a all.1 later
 
-all_map : (P Q : Waiter → Type 0) (xs : List Waiter) → ((a : Waiter) → P a → Q a) → AllOf P xs → AllOf Q xs
+pub all_map : (P Q : Waiter → Type 0) (xs : List Waiter) → ((a : Waiter) → P a → Q a) → AllOf P xs → AllOf Q xs
 all_map P Q [] gives all = tt
 all_map P Q (a ∷ xs) gives all = (gives a all.0, all_map P Q xs gives all.1)
 
@@ -98,7 +98,7 @@ module _ (m : Shares) where
   of_all [] all = tt
   of_all (e ∷ es) all = all_append (Waits m) (waiters_of e.0 e.1 (entries e.1.waiting)) (waiters_among es) (of_key e.0 e.1 (entries e.1.waiting) all.0 (all_there e.1.waiting)) (of_all es all.1)
 
-  all_wait : AllOf (Waits m) (waiters_in m)
+  pub all_wait : AllOf (Waits m) (waiters_in m)
   all_wait = of_all (entries m) (all_there m)
 
   -- and each that waits is among them
@@ -127,7 +127,7 @@ module _ (m : Shares) where
           (subst (λ t. Among (waiters_of e.0 t (entries t.waiting)) a) (sym share) (subst (λ j. Among (waiters_of j s (entries s.waiting)) a) (sym key) among))
       by_test more false differs found = among_right (waiters_of e.0 e.1 (entries e.1.waiting)) (waiters_among es) a (more found)
 
-  waiter_there : (k : ℕ) (s : Share ℕ) (n w : ℕ) → get m k ≡ Some s → get s.waiting n ≡ Some w → Among (waiters_in m) (record { key = k; share = s; number = n; waker = w })
+  pub waiter_there : (k : ℕ) (s : Share ℕ) (n w : ℕ) → get m k ≡ Some s → get s.waiting n ≡ Some w → Among (waiters_in m) (record { key = k; share = s; number = n; waker = w })
   waiter_there k s n w there waits =
       in_all k s (record { key = k; share = s; number = n; waker = w }) (entries m) (sym (get-entries m k) ∙ there)
       (in_key k s n w (entries s.waiting) (sym (get-entries s.waiting n) ∙ waits))
@@ -174,7 +174,7 @@ all_not_before a (b ∷ bs) is = by_test (all_not_before a bs) (goes_before b a)
     by_test more true before h = absurd (cc)
     by_test more false before h = (before, more h)
 
-none_of_all : (a : Waiter) (xs : List Waiter) → AllOf (λ b. goes_before b a ≡ false) xs → none_before a xs ≡ true
+pub none_of_all : (a : Waiter) (xs : List Waiter) → AllOf (λ b. goes_before b a ≡ false) xs → none_before a xs ≡ true
 none_of_all a [] all = refl
 none_of_all a (b ∷ bs) all = ap (λ t. if t then false else none_before a bs) all.0 ∙ none_of_all a bs all.1
 
@@ -186,7 +186,7 @@ first_is P all (b ∷ bs) a each is = by_test (first_is P all bs a each.1) (none
     by_test more true none h = let same : b ≡ a = inside h in (subst P same each.0, subst (λ c. none_before c all ≡ true) same none)
     by_test more false none h = more h
 
-first_found : (all xs : List Waiter) (a : Waiter) → Among xs a → none_before a all ≡ true → IsSome (first_of all xs)
+pub first_found : (all xs : List Waiter) (a : Waiter) → Among xs a → none_before a all ≡ true → IsSome (first_of all xs)
 first_found all [] a among none = absurd among
 first_found all (b ∷ bs) a among none = by_test (λ later. first_found all bs a later none) (none_before b all) refl among
   where

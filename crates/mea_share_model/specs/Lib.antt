@@ -4,3 +4,4 @@ pub mod Meaning
 pub mod ShareFamily
 pub mod Valid
 pub mod Order
+pub mod Settled

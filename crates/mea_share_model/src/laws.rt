@@ -6,6 +6,7 @@ ghost use Rattle.mea_share_model.specs.Meaning.{step, registers};
 ghost use Rattle.mea_share_model.specs.ShareFamily.{shares_family};
 ghost use Rattle.mea_share_model.specs.Valid.{AreValid};
 ghost use Rattle.mea_share_model.specs.Order.{IsInOrder};
+ghost use Rattle.mea_share_model.specs.Settled.{AreSettled};
 
 /// A poll that replies `pending` places its waker; while that is placed, each further poll of the future
 /// replies `pending`; and an event that takes it away, and neither polls nor ends the future, wakes it. Who
@@ -37,4 +38,9 @@ pub fn halls_are_valid()
 /// before none had a key that held less for its weight, by cross products, or as much and had waited longer.
 pub fn grants_are_in_order()
     ensures { (h : ShareHall) (i : ℕ) (e : ShareEvent) → IsInOrder h (step h i e) }
+{}
+
+/// In every run, at each admission, no permit is free while anyone waits.
+pub fn nobody_waits_beside_a_free_permit()
+    ensures { (run : RunOf shares_family) → Runs shares_family run → AreSettled run.hall }
 {}
