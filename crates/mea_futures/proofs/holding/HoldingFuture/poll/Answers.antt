@@ -1,0 +1,6 @@
+use Rattle.mea_futures.proofs.Outputs.{keeps_outputs}
+use Rattle.mea_futures.proofs.holding.HoldingFuture.poll.Goals as goal
+use Rattle.std.proofs.Common.{rules}
+
+pub returns-clause-same : goal.returns-clause-same
+returns-clause-same g c = keeps_outputs (λ k. k.value) _ _ c.poll.result (search rules) c.poll.ensures.same

@@ -1,0 +1,126 @@
+ghost use Rattle.std.specs.Prelude.{◌≡◌, ◌⊎◌, true, false, None, IsSomeAnd};
+ghost use Rattle.futures.specs.Task.{Covers, Keeps, Wakes};
+
+use futures::spin::lock;
+use futures::task::{Context, Poll, Source, Waker};
+use mea_base::Wake;
+use std::alloc::{AllocError, Global};
+use std::sync::{Arc, Mutex};
+
+// What a wake finds: whether one came since the last poll began, and the waker of the task that waits.
+#[derive(Drop)]
+struct Ring {
+    is_rung: bool,
+    waker: Option<Waker>,
+    ghost woken: { is_rung ≡ true → waker ≡ None },
+}
+
+impl Ring {
+    // One that nobody rang, and with no task.
+    fn new() -> Self
+        ensures { (result.is_rung ≡ false) × (result.waker ≡ None) }
+    {
+        Ring {
+            is_rung: false,
+            waker: None,
+        }
+    }
+
+    // A poll begins: only a wake from now on counts.
+    fn calm(&mut self)
+        ensures calm { self.new.is_rung ≡ false }
+        ensures same { self.new.waker ≡ self.old.waker }
+    {
+        self.is_rung = false;
+    }
+
+    // A wake: it hands the task's waker out, whose drop wakes the task.
+    fn ring(&mut self) -> Option<Waker>
+        ensures rung { (self.new.is_rung ≡ true) × (self.new.waker ≡ None) }
+        ensures waker { result ≡ self.old.waker }
+    {
+        let waker = self.waker.take();
+        self.is_rung = true;
+        waker
+    }
+
+    // A poll was pending: the task leaves its waker here, or asks for another poll where a wake came meanwhile.
+    fn rest<T>(&mut self, cx: &mut Context<'_>, source: &Source) -> Poll<T>
+        ensures pending { result ≡ Poll.Pending }
+        ensures registered { Covers cx.new (λ s. s ≡ source.now.id) }
+        ensures kept { Keeps cx.old cx.new }
+        ensures rung { self.old.is_rung ≡ true → cx.new.is_woken ≡ true }
+        ensures left { self.old.is_rung ≡ false → (cx.new.lacks_waker ≡ true) ⊎ IsSomeAnd self.new.waker (λ waker. Wakes waker cx.old) }
+    {
+        if self.is_rung {
+            cx.yield_now()
+        } else {
+            cx.register(source, &mut self.waker)
+        }
+    }
+}
+
+/// The waker that the types of `mea` keep for a task of an executor: it rings for one wait, and a ring wakes the task that
+/// polled that wait last.
+///
+/// The waker of the kit's executors cannot stand in its place: it wakes where it is dropped, so a second poll that replaces
+/// it would ask for a third. To drop a `Bell` wakes nobody. To wake by it takes no handle, since its lock is held for a few
+/// steps alone, and none of them waits.
+#[derive(Drop)]
+pub struct Bell {
+    ring: Arc<Mutex<Ring>>,
+}
+
+impl Wake for Bell {
+    fn wake(self) {
+        // The task's waker is dropped below, with no lock held.
+        let waker = match lock(&self.ring) {
+            Some(mut ring) => ring.ring(),
+            None => None,
+        };
+        drop(waker);
+    }
+}
+
+impl Bell {
+    // The bell of one wait.
+    pub(crate) fn new(alloc: Global) -> Result<Self, AllocError> {
+        let ring = Arc::new(alloc, Mutex::new(Ring::new()))?;
+        Ok(Bell { ring })
+    }
+
+    // The same bell once more, for a core to keep.
+    pub(crate) fn again(&self) -> Option<Self> {
+        match Arc::try_clone(&self.ring) {
+            Ok(ring) => Some(Bell { ring }),
+            Err(_) => None,
+        }
+    }
+
+    // A poll begins.
+    pub(crate) fn calm(&self) {
+        if let Some(mut ring) = lock(&self.ring) {
+            ring.calm();
+        }
+    }
+
+    // Whether a wake came since the last poll began.
+    pub(crate) fn is_rung(&self) -> bool {
+        match lock(&self.ring) {
+            Some(ring) => ring.is_rung,
+            None => true,
+        }
+    }
+
+    // A poll was pending.
+    pub(crate) fn rest<T>(&self, cx: &mut Context<'_>, source: &Source) -> Poll<T>
+        ensures pending { result ≡ Poll.Pending }
+        ensures registered { Covers cx.new (λ s. s ≡ source.now.id) }
+        ensures kept { Keeps cx.old cx.new }
+    {
+        match lock(&self.ring) {
+            Some(mut ring) => ring.rest(cx, source),
+            None => cx.yield_now(),
+        }
+    }
+}
