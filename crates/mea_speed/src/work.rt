@@ -1,0 +1,96 @@
+use crate::fault::Fault;
+use crate::{across, alone, channels, handover, shots};
+use std::sync::Wait;
+use std::thread::Threads;
+use std::time::{Clock, Instant};
+
+/// What is done in rounds.
+#[derive(Clone, Copy, Debug, PartialEq, Eq)]
+pub enum Work {
+    /// A permit is taken and given back.
+    Permits,
+    /// A mutex is locked and let go.
+    Locks,
+    /// A mutex of std is locked and let go.
+    StdLocks,
+    /// Two threads take a mutex from each other.
+    Handovers,
+    /// Two threads take a mutex of std from each other.
+    StdHandovers,
+    /// Messages go through a bounded channel from one thread to another.
+    OneSender,
+    /// Messages go through a bounded channel from four threads to another.
+    FourSenders,
+    /// Messages that each of a hundred receivers hears: a round is one that one has heard.
+    Broadcasts,
+    /// A full cell is looked at.
+    Looks,
+    /// A oneshot channel without a lock, from its making to its end.
+    Shots,
+    /// A oneshot channel with a lock, from its making to its end.
+    LockedShots,
+    /// A message through a oneshot channel without a lock, from one thread to another.
+    ShotsAcross,
+    /// A message through a oneshot channel with a lock, from one thread to another.
+    LockedShotsAcross,
+}
+
+/// All works, in the order in which they are done, each with its name in the report.
+pub const WORKS: [(&str, Work); 13] = [
+    ("permit", Work::Permits),
+    ("lock", Work::Locks),
+    ("lock of std", Work::StdLocks),
+    ("lock between two threads", Work::Handovers),
+    ("lock of std between two threads", Work::StdHandovers),
+    ("message from one thread", Work::OneSender),
+    ("message from four threads", Work::FourSenders),
+    ("message heard by one of a hundred", Work::Broadcasts),
+    ("look at a full cell", Work::Looks),
+    ("oneshot", Work::Shots),
+    ("oneshot with a lock", Work::LockedShots),
+    ("oneshot between two threads", Work::ShotsAcross),
+    (
+        "oneshot with a lock between two threads",
+        Work::LockedShotsAcross,
+    ),
+];
+
+impl Work {
+    /// How long a round takes.
+    pub fn nanoseconds<R: Clock + Threads + Wait + AllocGlobal + Sync>(
+        self,
+        rt: &R,
+        rounds: u64,
+    ) -> Result<u128, Fault> {
+        let Ok(start) = Instant::now(rt) else {
+            return Err(Fault::Clock);
+        };
+        self.run(rt, rounds)?;
+        match start.elapsed(rt) {
+            Ok(elapsed) => Ok(elapsed.as_nanos() / u128::from(rounds.max(1))),
+            Err(_) => Err(Fault::Clock),
+        }
+    }
+
+    // Runs so many rounds.
+    fn run<R: Threads + Wait + AllocGlobal + Sync>(self, rt: &R, rounds: u64) -> Result<(), Fault> {
+        match self {
+            Work::Permits => alone::permits(rt, rounds),
+            Work::Locks => alone::locks(rt, rounds),
+            Work::StdLocks => {
+                alone::std_locks(rt, rounds);
+                Ok(())
+            }
+            Work::Handovers => handover::locks(rt, rounds),
+            Work::StdHandovers => handover::std_locks(rt, rounds),
+            Work::OneSender => channels::messages(rt, rounds, 1),
+            Work::FourSenders => channels::messages(rt, rounds, 4),
+            Work::Broadcasts => channels::broadcasts(rt, rounds),
+            Work::Looks => alone::looks(rt, rounds),
+            Work::Shots => shots::shots(rt, rounds),
+            Work::LockedShots => shots::locked_shots(rt, rounds),
+            Work::ShotsAcross => across::shots(rt, rounds),
+            Work::LockedShotsAcross => across::locked_shots(rt, rounds),
+        }
+    }
+}
