@@ -104,21 +104,24 @@ impl<'a, T: Drop, W: Wake> Waits<W, Result<(), T>> for CellSet<'a, T, W> {
         rt: &R,
         waker: W,
     ) -> Result<Polled<Self, Result<(), T>>, Unpolled<Self, W>> {
-        let CellSet { insert } = self;
-        match insert.poll(rt, waker) {
-            Ok(Polled::Ready(Ok(_))) => Ok(Polled::Ready(Ok(()))),
-            Ok(Polled::Ready(Err((_, value)))) => Ok(Polled::Ready(Err(value))),
-            Ok(Polled::Pending(insert)) => Ok(Polled::Pending(CellSet { insert })),
-            Err(
-                Unpolled {
-                    future,
-                    waker,
-                    fault,
+        let CellSet {
+            insert: CellInsert { wait, value },
+        } = self;
+        match wait.poll_claim(rt, waker) {
+            Step::There(_) => Ok(Polled::Ready(Err(value))),
+            Step::Mine(claim, _) => {
+                claim.finish(rt, value);
+                Ok(Polled::Ready(Ok(())))
+            }
+            Step::Pending(wait) => Ok(Polled::Pending(CellSet {
+                insert: CellInsert { wait, value },
+            })),
+            Step::Refused(wait, waker) => Err(Unpolled {
+                future: CellSet {
+                    insert: CellInsert { wait, value },
                 },
-            ) => Err(Unpolled {
-                future: CellSet { insert: future },
                 waker,
-                fault,
+                fault: PollFault::NoMemory,
             }),
         }
     }
