@@ -23,7 +23,7 @@ module _ {T W : Type 0} where
   value_comes_back c c' v (Err (Full _)) old new w r after h = by_answer r h.0
     where
       by_answer : (r : Answer) → MatchResult r (λ poll. poll ≡ Pending) (λ _. Unit {0}) → ComesBack (Some v) r after
-      by_answer (Ok poll) is = subst (λ (x : Poll (Result (Unit {0}) (SendError T))). ComesBack {T} {W} (Some v) (Ok x) after) (sym is) h.1
+      by_answer (Ok poll) is = subst (λ (x : Poll (Result (Unit {0}) (SendError T))). ComesBack {T = T} {W = W} (Some v) (Ok x) after) (sym is) h.1
       by_answer (Err e) is = h.1
 
   pub comes_back : (c c' : Channel T W) (value after : Option T) (old new : Acquire) (w : W) (r : Answer)

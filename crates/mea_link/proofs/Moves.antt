@@ -57,7 +57,7 @@ module _ {T W : Type 0} where
         by_result : (r : Result T BroadcastTry) → MatchResult r (λ c. clones v c × (after ≡ q + 1)) (λ e. (e ≡ try.NoMemory) × (¬ (surely v)) × (after ≡ q))
             → MovesBy r p after
         by_result (Ok c) h = omega (arith, h.1, below)
-        by_result (Err e) h = subst (λ (x : BroadcastTry). MovesBy {T} (Err x) p after) (sym h.0) (omega (arith, h.2, below))
+        by_result (Err e) h = subst (λ (x : BroadcastTry). MovesBy {T = T} (Err x) p after) (sym h.0) (omega (arith, h.2, below))
     moves_from q r AtTail below far h = by_test (b.senders == 0) h.0
       where
         by_test : (t : Bool) → r ≡ Err (cond t try.Disconnected try.Empty) → MovesBy r p after
