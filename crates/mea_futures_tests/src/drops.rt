@@ -1,0 +1,88 @@
+ghost use Rattle.std.specs.Prelude.{IfOk, IsSome};
+
+use futures::task::Poll;
+use futures::test::MockTask;
+use mea_futures::{Bell, TryHolding, wait};
+use mea_sync::semaphore::{Closed, OwnedAcquire, OwnedSemaphorePermit, Semaphore};
+use std::alloc::{AllocError, AllocGlobal};
+use std::sync::{Arc, Wait};
+use std::test::Fail;
+use std::time::{Duration, Instant};
+use tokio::time::Driver;
+
+// A wait for permits of a shared semaphore, and what it gives.
+type Queued<'a, R> = TryHolding<'a, R, OwnedAcquire<Bell>, OwnedSemaphorePermit<Bell>, Closed>;
+
+// One that was never polled.
+fn queued<'a, R: Wait + AllocGlobal>(
+    rt: &'a R,
+    semaphore: &Arc<Semaphore<Bell>>,
+    permits: usize,
+) -> Result<Queued<'a, R>, AllocError>
+    ensures { IfOk result (λ queued. IsSome queued.waiting.wait) }
+{
+    let acquire = Arc::try_clone(semaphore)?.acquire_owned(permits);
+    match wait(rt, rt.alloc(), acquire) {
+        Ok(waiting) => Ok(waiting.try_holding()),
+        Err(_) => Err(AllocError),
+    }
+}
+
+// A further poll of the same task wakes nobody; one of another task takes the wait over.
+#[test]
+fn a_wait_wakes_the_task_that_polled_it_last(rt: HostRuntime) -> Result<(), Fail> {
+    let semaphore = Arc::new(rt.alloc(), Semaphore::new(rt.alloc(), 0))?;
+    let (one, two) = (MockTask::new(&rt)?, MockTask::new(&rt)?);
+    let mut first = queued(&rt, &semaphore, 1)?;
+    assert!(rt; one.poll(&mut first).is_pending() && one.poll(&mut first).is_pending());
+    assert!(rt; !one.is_woken());
+    assert!(rt; two.poll(&mut first).is_pending());
+    assert!(rt; one.is_woken() && !two.is_woken());
+    assert!(rt; semaphore.release(&rt, 1).is_ok() && two.is_woken());
+    assert!(rt; matches!(two.poll(&mut first), Poll::Ready(Ok(Ok(_)))));
+    assert!(rt; semaphore.available_permits(&rt) == 1);
+    Ok(())
+}
+
+// A queued acquire of three, paid two in part, is dropped before one behind it.
+#[test]
+fn a_dropped_acquire_lets_the_next_one_in(rt: HostRuntime) -> Result<(), Fail> {
+    let semaphore = Arc::new(rt.alloc(), Semaphore::new(rt.alloc(), 2))?;
+    let (one, two) = (MockTask::new(&rt)?, MockTask::new(&rt)?);
+    let mut first = queued(&rt, &semaphore, 3)?;
+    let mut second = queued(&rt, &semaphore, 1)?;
+    assert!(rt; one.poll(&mut first).is_pending() && two.poll(&mut second).is_pending());
+    assert!(rt; !two.is_woken());
+    drop(first);
+    assert!(rt; two.is_woken() && semaphore.available_permits(&rt) == 1);
+    assert!(rt; matches!(two.poll(&mut second), Poll::Ready(Ok(Ok(_)))));
+    assert!(rt; semaphore.available_permits(&rt) == 2);
+    Ok(())
+}
+
+// A time limit of tokio abandons a queued acquire, and the next one has its turn.
+#[test]
+fn a_timeout_abandons_a_queued_acquire(rt: HostRuntime) -> Result<(), Fail> {
+    let semaphore = Arc::new(rt.alloc(), Semaphore::new(rt.alloc(), 2))?;
+    let (one, two) = (MockTask::new(&rt)?, MockTask::new(&rt)?);
+    let start = Instant::now(&rt)?;
+    let mut driver = Driver::new(rt.alloc(), start)?;
+    let first = queued(&rt, &semaphore, 3)?;
+    let mut second = queued(&rt, &semaphore, 1)?;
+    let mut timed = driver
+        .handle()
+        .timeout(&rt, Duration::from_millis(20), first)?;
+    assert!(rt; one.poll(&mut timed).is_pending() && two.poll(&mut second).is_pending());
+    let late = start
+        .checked_add(Duration::from_secs(3600))
+        .expect(&rt, "an hour is no great time");
+    let _ = one.enter(|cx| driver.turn(cx, late));
+    assert!(rt; one.is_woken() && !two.is_woken());
+    assert!(rt; matches!(one.poll(&mut timed), Poll::Ready(Err(_))));
+    // As in Rust a timeout keeps its future until it is dropped itself.
+    assert!(rt; !two.is_woken());
+    drop(timed);
+    assert!(rt; two.is_woken());
+    assert!(rt; matches!(two.poll(&mut second), Poll::Ready(Ok(Ok(_)))));
+    Ok(())
+}
