@@ -45,9 +45,9 @@ fn locked_shot(rt: &(impl Wait + AllocGlobal), message: u64) -> Result<(), Fault
     };
     let receiver = Arc::try_clone(&sender)?;
     let is_sent = sender.lock(rt).send(message).is_ok();
-    sender.lock(rt).end_sender();
+    sender.lock(rt).end_sender_checked();
     let got = receiver.lock(rt).try_recv();
-    receiver.lock(rt).end_receiver();
+    receiver.lock(rt).end_receiver_checked();
     if is_sent && got == Ok(message) {
         Ok(())
     } else {
