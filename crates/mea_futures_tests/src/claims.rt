@@ -1,15 +1,10 @@
-use futures::Future;
 use futures::future::{pending, ready};
-use futures::task::{Context, Poll};
+use futures::task::Poll;
 use futures::test::MockTask;
 use mea_futures::{Bell, initialise};
 use mea_keep::Never;
 use mea_keep::once::OnceCell;
-use mea_keep::singleflight::Group;
 use std::alloc::AllocError;
-use std::hash::{BuildHasherDefault, FoldHasher};
-use std::sync::atomic::AtomicU64;
-use std::sync::atomic::Ordering::SeqCst;
 use std::test::Fail;
 
 // An initialiser is dropped while its future computes: the next that waits fills the cell.
@@ -36,58 +31,5 @@ fn an_abandoned_initialiser_passes_its_turn_on(rt: HostRuntime) -> Result<(), Fa
         _ => assert!(rt; false, "not filled"),
     }
     assert!(rt; cell.get() == Some(&9));
-    Ok(())
-}
-
-// A page that is fetched in two polls.
-#[derive(Drop)]
-struct Fetch<'a> {
-    page: u64,
-    is_asked: bool,
-    fetches: &'a AtomicU64,
-}
-
-impl<'a> Future for Fetch<'a> {
-    type Output = Result<u64, u8>;
-
-    fn poll(&mut self, cx: &mut Context<'_>) -> Poll<Result<u64, u8>> {
-        if !self.is_asked {
-            self.is_asked = true;
-            return cx.yield_now();
-        }
-        self.fetches.fetch_add(1, SeqCst);
-        if self.page == 0 {
-            return Poll::Ready(Err(7));
-        }
-        Poll::Ready(Ok(self.page.wrapping_mul(10)))
-    }
-}
-
-// Two requests for a page at a time: it is fetched once, and both have it. An error is that of who fetched.
-#[test]
-fn a_page_is_fetched_once(rt: HostRuntime) -> Result<(), Fail> {
-    let (one, two) = (MockTask::new(&rt)?, MockTask::new(&rt)?);
-    let flights: Group<u64, u64, BuildHasherDefault<FoldHasher>, Bell> = Group::new(rt.alloc());
-    let fetches = AtomicU64::new(0);
-    let fetch = |page: u64| Fetch {
-        page,
-        is_asked: false,
-        fetches: &fetches,
-    };
-    let mut first = initialise(&rt, rt.alloc(), flights.claim(4), fetch(4)).map_err(
-        |_| AllocError,
-    )?;
-    let mut second = initialise(&rt, rt.alloc(), flights.claim(4), fetch(4)).map_err(
-        |_| AllocError,
-    )?;
-    assert!(rt; one.poll(&mut first).is_pending() && two.poll(&mut second).is_pending());
-    assert!(rt; one.is_woken() && !two.is_woken());
-    assert!(rt; matches!(one.poll(&mut first), Poll::Ready(Ok(Ok(40)))));
-    assert!(rt; two.is_woken());
-    assert!(rt; matches!(two.poll(&mut second), Poll::Ready(Ok(Ok(40)))));
-    assert!(rt; fetches.load(SeqCst) == 1);
-    let mut none = initialise(&rt, rt.alloc(), flights.claim(0), fetch(0)).map_err(|_| AllocError)?;
-    assert!(rt; one.poll(&mut none).is_pending());
-    assert!(rt; matches!(one.poll(&mut none), Poll::Ready(Ok(Err(7)))));
     Ok(())
 }

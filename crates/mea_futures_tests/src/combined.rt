@@ -1,5 +1,5 @@
 use futures::executor::block_on;
-use futures::future::{Either, join, ready, select};
+use futures::future::{join, ready};
 use mea_futures::{TakeError, take, take_before, wait};
 use mea_link::latch::Latch;
 use mea_sync::semaphore::Semaphore;
@@ -26,21 +26,6 @@ fn two_waits_of_a_latch_are_joined(rt: HostRuntime) -> Result<(), Fail> {
         );
         assert!(rt; matches!(answer?, (Ok(()), Ok(()))));
     }
-    Ok(())
-}
-
-// The arm of a select that loses is dropped, and its wait is ended: what is released later goes to nobody.
-#[test]
-fn the_arm_that_a_select_drops_is_ended(rt: HostRuntime) -> Result<(), Fail> {
-    let semaphore = Arc::new(rt.alloc(), Semaphore::new(rt.alloc(), 0))?;
-    let acquire = Arc::try_clone(&semaphore)?.acquire_owned(1);
-    let never = wait(&rt, rt.alloc(), acquire).map_err(|_| AllocError)?;
-    let first = match block_on(&rt, select(never.try_holding(), ready(5u8)))? {
-        Either::Right((five, _never)) => five,
-        Either::Left(_) => 0,
-    };
-    assert!(rt; first == 5 && semaphore.release(&rt, 1).is_ok());
-    assert!(rt; semaphore.available_permits(&rt) == 1);
     Ok(())
 }
 

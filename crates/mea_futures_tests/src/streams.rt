@@ -1,7 +1,7 @@
+use futures::Stream;
 use futures::task::Poll;
 use futures::test::MockTask;
-use futures::{Sink, Stream};
-use mea_futures::{Bell, Kept, Lagged, feed, receive, wait};
+use mea_futures::{Bell, Kept, Lagged, receive, wait};
 use mea_link::broadcast::overflow::channel;
 use mea_link::mpsc::{SendError, bounded};
 use std::alloc::AllocError;
@@ -73,22 +73,5 @@ fn a_slow_subscriber(rt: HostRuntime) -> Result<(), Fail> {
     drop(hub);
     assert!(rt; task.is_woken());
     assert!(rt; matches!(task.enter(|cx| stream.poll_next(cx)), Poll::Ready(None)));
-    Ok(())
-}
-
-// A sink holds one item, which waits for its place; what was sent comes in order.
-#[test]
-fn a_sink_waits_for_a_place(rt: HostRuntime) -> Result<(), Fail> {
-    let task = MockTask::new(&rt)?;
-    let (sender, receiver) = bounded::<u64, Bell>(rt.alloc(), 1).map_err(|_| AllocError)?;
-    let (sender, mut receiver) = (Kept::new(&rt, sender), Kept::new(&rt, receiver));
-    let mut sink = feed(&rt, rt.alloc(), sender.get()).map_err(|_| AllocError)?;
-    assert!(rt; sink.start_send(1).is_ok());
-    assert!(rt; matches!(task.enter(|cx| sink.poll_ready(cx)), Poll::Ready(Ok(()))));
-    assert!(rt; sink.start_send(2).is_ok());
-    assert!(rt; task.enter(|cx| sink.poll_flush(cx)).is_pending() && !task.is_woken());
-    assert!(rt; receiver.get_mut().try_recv(&rt) == Ok(1) && task.is_woken());
-    assert!(rt; matches!(task.enter(|cx| sink.poll_close(cx)), Poll::Ready(Ok(()))));
-    assert!(rt; receiver.get_mut().try_recv(&rt) == Ok(2));
     Ok(())
 }
