@@ -4,7 +4,6 @@ use mea_futures::{TakeError, take, take_before, wait};
 use mea_link::latch::Latch;
 use mea_sync::semaphore::Semaphore;
 use std::alloc::AllocError;
-use std::sync::Arc;
 use std::test::Fail;
 use std::thread;
 
