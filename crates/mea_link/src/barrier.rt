@@ -1,10 +1,12 @@
 //! A barrier that threads and tasks share: `mea::barrier`.
 ghost use Rattle.std.specs.Prelude.{◌≡◌, ◌-◌, length};
 ghost use Rattle.mea_meet_core.specs.Barrier.{Polls, usable_wait};
+ghost use Rattle.mea_seats.specs.declared.seat.Seat.{Seat};
 
 use mea_base::{Poll, Wake};
 pub use mea_meet_core::BarrierWaitResult;
 use mea_meet_core::{BarrierCore, BarrierFault, BarrierWait as Place};
+use mea_seats::{Seat, withdraw_from};
 use mea_wait::{End, PollFault, Polled, Unpolled, Waits, hand_out};
 use std::alloc::Global;
 use std::sync::{Mutex, Wait};
@@ -13,11 +15,10 @@ use std::sync::{Mutex, Wait};
 /// `mea::barrier::Barrier`.
 #[derive(Drop)]
 pub struct Barrier<W> {
-    core: Mutex<BarrierCore<W>>,
+    core: Mutex<BarrierCore<Seat<W>>>,
 }
 
-/// The future of `Barrier::wait`. It must be polled to its end, or ended; ended, its arrival and its waker stay
-/// until the round is over.
+/// The future of `Barrier::wait`. It must be polled to its end, or ended; ended, its arrival stays and its waker goes.
 pub struct BarrierWait<'a, W> {
     of: &'a Barrier<W>,
     place: Place,
@@ -25,15 +26,18 @@ pub struct BarrierWait<'a, W> {
 
 // Polls a wait in one step under the lock, and tells how many wakers that made ready.
 fn poll<W: Drop>(
-    core: &mut BarrierCore<W>,
+    core: &mut BarrierCore<Seat<W>>,
     place: &mut Place,
     waker: W,
-) -> (Result<Poll<BarrierWaitResult>, BarrierFault<W>>, usize)
-    ensures polls { Polls core.old (usable_wait core.old place.old) waker result.0 core.new place.new }
+) -> (
+    Result<Poll<BarrierWaitResult>, BarrierFault<Seat<W>>>,
+    usize,
+)
+    ensures polls { Polls core.old (usable_wait core.old place.old) (Seat.Taken waker) result.0 core.new place.new }
     ensures made { result.1 ≡ length core.new.wakes - length core.old.wakes }
 {
     let before = core.wakes_ready();
-    let answer = core.poll_checked(place, waker);
+    let answer = core.poll_checked(place, Seat::Taken(waker));
     (answer, core.wakes_ready().saturating_sub(before))
 }
 
@@ -57,7 +61,7 @@ impl<W: Wake> Barrier<W> {
 impl<'a, W: Wake> End for BarrierWait<'a, W> {
     fn end<R: Wait>(self, rt: &R) {
         let BarrierWait { of, place } = self;
-        of.core.lock(rt).end_checked(place);
+        withdraw_from(&mut *of.core.lock(rt), place);
     }
 }
 
@@ -73,12 +77,14 @@ impl<'a, W: Wake> Waits<W, BarrierWaitResult> for BarrierWait<'a, W> {
         match answer {
             Ok(Poll::Ready(result)) => Ok(Polled::Ready(result)),
             Ok(Poll::Pending) => Ok(Polled::Pending(BarrierWait { of, place })),
-            Err(BarrierFault::NoMemory(waker)) => {
-                Err(Unpolled::no_memory(BarrierWait { of, place }, waker))
-            }
-            Err(BarrierFault::Overflow(waker)) => Err(Unpolled {
+            Err(BarrierFault::NoMemory(seat)) => Err(Unpolled {
                 future: BarrierWait { of, place },
-                waker: Some(waker),
+                waker: seat.waker(),
+                fault: PollFault::NoMemory,
+            }),
+            Err(BarrierFault::Overflow(seat)) => Err(Unpolled {
+                future: BarrierWait { of, place },
+                waker: seat.waker(),
                 fault: PollFault::Overflow,
             }),
         }

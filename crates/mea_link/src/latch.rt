@@ -1,10 +1,11 @@
 //! A latch that threads and tasks share: `mea::latch`.
 ghost use Rattle.std.specs.Prelude.{◌≡◌, ◌-◌, length};
-ghost use Rattle.mea_sets.specs.Countdown.{decreasing};
+ghost use Rattle.mea_seats.specs.Seats.{fallen};
 
 use mea_base::{NoMemory, Poll, Wake};
-use mea_meet_core::{LatchCore, LatchWait as Place};
-use mea_wait::{End, Holds, Polled, Unpolled, Waits, hand_out};
+use mea_meet_core::LatchWait as Place;
+use mea_seats::LatchSeats;
+use mea_wait::{End, Holds, PollFault, Polled, Unpolled, Waits, hand_out};
 use std::alloc::Global;
 use std::marker::PhantomData;
 use std::sync::{Arc, Mutex, Wait};
@@ -12,11 +13,10 @@ use std::sync::{Arc, Mutex, Wait};
 /// A count that falls to 0 and stays there. It ports `mea::latch::Latch`.
 #[derive(Drop)]
 pub struct Latch<W> {
-    core: Mutex<LatchCore<W>>,
+    core: Mutex<LatchSeats<W>>,
 }
 
-/// A wait until a latch is at 0. It must be polled to its end, or ended; ended, its waker stays with the latch
-/// until that is at 0.
+/// A wait until a latch is at 0. It must be polled to its end, or ended; ended, it leaves nothing behind.
 pub struct Opening<H, W> {
     of: H,
     place: Place,
@@ -30,8 +30,8 @@ pub type LatchWait<'a, W> = Opening<&'a Latch<W>, W>;
 pub type OwnedLatchWait<W> = Opening<Arc<Latch<W>>, W>;
 
 // The count falls, in one step under the lock. It tells how many wakers that made ready.
-fn arrive<W: Drop>(core: &mut LatchCore<W>, n: u32) -> usize
-    ensures is { core.new ≡ decreasing core.old n }
+fn arrive<W: Drop>(core: &mut LatchSeats<W>, n: u32) -> usize
+    ensures is { core.new ≡ fallen core.old n }
     ensures made { result ≡ length core.new.wakes - length core.old.wakes }
 {
     let before = core.wakes_ready();
@@ -43,7 +43,7 @@ impl<W: Wake> Latch<W> {
     /// A latch at this count. It takes no memory.
     pub fn new(alloc: Global, count: u32) -> Self {
         Latch {
-            core: Mutex::new(LatchCore::new(alloc, count)),
+            core: Mutex::new(LatchSeats::new(alloc, count)),
         }
     }
 
@@ -99,7 +99,7 @@ impl<W: Wake, H: Holds<Latch<W>>> End for Opening<H, W> {
             place,
             waker: _,
         } = self;
-        of.held().core.lock(rt).end_checked(place);
+        of.held().core.lock(rt).withdraw(place);
     }
 }
 
@@ -110,12 +110,16 @@ impl<W: Wake, H: Holds<Latch<W>>> Waits<W, ()> for Opening<H, W> {
             mut place,
             waker: kind,
         } = self;
-        let answer = of.held().core.lock(rt).poll_checked(&mut place, waker);
+        let answer = of.held().core.lock(rt).poll(&mut place, waker);
         let waker = kind;
         match answer {
             Ok(Poll::Ready(())) => Ok(Polled::Ready(())),
             Ok(Poll::Pending) => Ok(Polled::Pending(Opening { of, place, waker })),
-            Err((back, NoMemory)) => Err(Unpolled::no_memory(Opening { of, place, waker }, back)),
+            Err((seat, NoMemory)) => Err(Unpolled {
+                future: Opening { of, place, waker },
+                waker: seat.waker(),
+                fault: PollFault::NoMemory,
+            }),
         }
     }
 }

@@ -1,11 +1,11 @@
 //! A shutdown that threads and tasks share: `mea::shutdown`.
 ghost use Rattle.std.specs.Prelude.{◌≡◌, ◌-◌, ◌<◌, length};
-ghost use Rattle.mea_meet_core.specs.Shutdown.{signalled, without_receiver};
+ghost use Rattle.mea_seats.specs.Seats.{fallen};
 
 mod waits;
 
 use mea_base::{NoMemory, Overflow, Wake};
-use mea_meet_core::ShutdownCore;
+use mea_seats::{GroupSeats, LatchSeats};
 use mea_wait::{End, HandleFault, hand_out};
 use std::alloc::Global;
 use std::sync;
@@ -29,16 +29,19 @@ pub struct ShutdownWatch<W> {
     shared: Arc<Shared<W>>,
 }
 
-/// What the ends of a shutdown share.
+/// What the ends of a shutdown share: a latch that the signal opens, and a group of the receivers, each with those
+/// who wait for it.
 #[derive(Drop)]
 pub struct Shared<W> {
-    core: Mutex<ShutdownCore<W>>,
+    signal: Mutex<LatchSeats<W>>,
+    receivers: Mutex<GroupSeats<W>>,
 }
 
 /// A shutdown: its sender and its first receiver.
 pub fn new_pair<W: Wake>(alloc: Global) -> Result<(ShutdownSend<W>, ShutdownRecv<W>), NoMemory> {
-    let core = Mutex::new(ShutdownCore::new(alloc));
-    let Ok(shared) = Arc::new(alloc, Shared { core }) else {
+    let signal = Mutex::new(LatchSeats::new(alloc, 1));
+    let receivers = Mutex::new(GroupSeats::new(alloc));
+    let Ok(shared) = Arc::new(alloc, Shared { signal, receivers }) else {
         return Err(NoMemory);
     };
     let other = share(&shared)?;
@@ -54,37 +57,30 @@ fn share<T: Drop>(shared: &Arc<T>) -> Result<Arc<T>, NoMemory> {
 }
 
 // The signal is set, in one step under the lock. It tells how many wakers that made ready.
-fn signal<W: Drop>(core: &mut ShutdownCore<W>) -> usize
-    ensures is { core.new ≡ signalled core.old }
+fn signal<W: Drop>(core: &mut LatchSeats<W>) -> usize
+    ensures is { core.new ≡ fallen core.old 1 }
     ensures made { result ≡ length core.new.wakes - length core.old.wakes }
 {
     let before = core.wakes_ready();
-    core.signal();
+    core.arrive(1);
     core.wakes_ready().saturating_sub(before)
 }
 
 // A receiver ends, in one step under the lock. It tells how many wakers that made ready.
-fn end_receiver<W: Drop>(core: &mut ShutdownCore<W>) -> usize
-    ensures leaves { 0 < core.old.receivers.number → core.new ≡ without_receiver core.old }
+fn end_receiver<W: Drop>(core: &mut GroupSeats<W>) -> usize
+    ensures leaves { 0 < core.old.seats.count.number → core.new ≡ fallen core.old 1 }
     ensures made { result ≡ length core.new.wakes - length core.old.wakes }
 {
     let before = core.wakes_ready();
-    core.end_receiver_checked();
+    core.leave();
     core.wakes_ready().saturating_sub(before)
-}
-
-impl<W: Wake> Shared<W> {
-    // Wakes as many as the step before has made ready.
-    fn wake<R: sync::Wait>(&self, rt: &R, made: usize) {
-        hand_out(made, || self.core.lock(rt).next_wake());
-    }
 }
 
 impl<W: Wake> ShutdownSend<W> {
     /// Asks for the shutdown, and wakes all who wait for that. It takes no memory.
     pub fn shutdown<R: sync::Wait>(&self, rt: &R) {
-        let made = signal(&mut *self.shared.core.lock(rt));
-        self.shared.wake(rt, made);
+        let made = signal(&mut *self.shared.signal.lock(rt));
+        hand_out(made, || self.shared.signal.lock(rt).next_wake());
     }
 
     /// Waits until all receivers have ended, whether or not the shutdown was asked for. It takes no memory.
@@ -113,7 +109,7 @@ impl<W: Wake> ShutdownRecv<W> {
         let Ok(shared) = Arc::try_clone(&self.shared) else {
             return Err(HandleFault::NoMemory);
         };
-        let added = shared.core.lock(rt).add_receiver_checked();
+        let added = shared.receivers.lock(rt).add();
         match added {
             Ok(()) => Ok(ShutdownRecv { shared }),
             Err(Overflow) => Err(HandleFault::Overflow),
@@ -122,7 +118,7 @@ impl<W: Wake> ShutdownRecv<W> {
 
     /// Whether the shutdown was asked for. It takes no memory.
     pub fn is_shutdown_now<R: sync::Wait>(&self, rt: &R) -> bool {
-        self.shared.core.lock(rt).is_shutdown_now()
+        self.shared.signal.lock(rt).try_wait().is_ok()
     }
 
     /// Waits until the shutdown is asked for. It takes no memory.
@@ -146,7 +142,7 @@ impl<W: Wake> ShutdownWatch<W> {
 
     /// Whether the shutdown was asked for. It takes no memory.
     pub fn is_shutdown_now<R: sync::Wait>(&self, rt: &R) -> bool {
-        self.shared.core.lock(rt).is_shutdown_now()
+        self.shared.signal.lock(rt).try_wait().is_ok()
     }
 
     /// Waits until the shutdown is asked for. It takes no memory.
@@ -175,7 +171,7 @@ impl<W: Wake> End for ShutdownWatch<W> {
 impl<W: Wake> End for ShutdownRecv<W> {
     fn end<R: sync::Wait>(self, rt: &R) {
         let ShutdownRecv { shared } = self;
-        let made = end_receiver(&mut *shared.core.lock(rt));
-        shared.wake(rt, made);
+        let made = end_receiver(&mut *shared.receivers.lock(rt));
+        hand_out(made, || shared.receivers.lock(rt).next_wake());
     }
 }

@@ -1,10 +1,11 @@
 //! A wait group that threads and tasks share: `mea::waitgroup`.
 ghost use Rattle.std.specs.Prelude.{◌≡◌, ◌-◌, ◌<◌, length};
-ghost use Rattle.mea_sets.specs.Countdown.{decreasing};
+ghost use Rattle.mea_seats.specs.Seats.{fallen};
 
 use mea_base::{NoMemory, Overflow, Poll, Wake};
-use mea_meet_core::{GroupCore, GroupWait};
-use mea_wait::{End, HandleFault, Polled, Unpolled, Waits, hand_out};
+use mea_meet_core::GroupWait;
+use mea_seats::GroupSeats;
+use mea_wait::{End, HandleFault, PollFault, Polled, Unpolled, Waits, hand_out};
 use std::alloc::Global;
 use std::sync;
 use std::sync::{Arc, Mutex};
@@ -12,30 +13,30 @@ use std::sync::{Arc, Mutex};
 /// A handle of a group, which those who wait for the group wait for. It must be ended. It ports
 /// `mea::waitgroup::WaitGroup`.
 pub struct WaitGroup<W> {
-    group: Arc<Mutex<GroupCore<W>>>,
+    group: Arc<Mutex<GroupSeats<W>>>,
 }
 
-/// A wait until no handle of the group is left. It must be polled to its end, or ended; ended, its waker stays
-/// with the group until then. It ports the future of `mea::waitgroup::WaitGroup`.
+/// A wait until no handle of the group is left. It must be polled to its end, or ended; ended, it leaves nothing
+/// behind. It ports the future of `mea::waitgroup::WaitGroup`.
 pub struct Wait<W> {
-    group: Arc<Mutex<GroupCore<W>>>,
+    group: Arc<Mutex<GroupSeats<W>>>,
     place: GroupWait,
 }
 
 // A handle ends, in one step under the lock. It tells how many wakers that made ready.
-fn leave<W: Drop>(core: &mut GroupCore<W>) -> usize
-    ensures leaves { 0 < core.old.count.number → core.new ≡ decreasing core.old 1 }
+fn leave<W: Drop>(core: &mut GroupSeats<W>) -> usize
+    ensures leaves { 0 < core.old.seats.count.number → core.new ≡ fallen core.old 1 }
     ensures made { result ≡ length core.new.wakes - length core.old.wakes }
 {
     let before = core.wakes_ready();
-    core.leave_checked();
+    core.leave();
     core.wakes_ready().saturating_sub(before)
 }
 
 impl<W: Wake> WaitGroup<W> {
     /// The first handle of a new group.
     pub fn new(alloc: Global) -> Result<Self, NoMemory> {
-        match Arc::new(alloc, Mutex::new(GroupCore::new(alloc))) {
+        match Arc::new(alloc, Mutex::new(GroupSeats::new(alloc))) {
             Ok(group) => Ok(WaitGroup { group }),
             Err(_) => Err(NoMemory),
         }
@@ -46,7 +47,7 @@ impl<W: Wake> WaitGroup<W> {
         let Ok(group) = Arc::try_clone(&self.group) else {
             return Err(HandleFault::NoMemory);
         };
-        let added = group.lock(rt).add_checked();
+        let added = group.lock(rt).add();
         match added {
             Ok(()) => Ok(WaitGroup { group }),
             Err(Overflow) => Err(HandleFault::Overflow),
@@ -89,18 +90,22 @@ impl<W: Wake> End for WaitGroup<W> {
 impl<W: Wake> End for Wait<W> {
     fn end<R: sync::Wait>(self, rt: &R) {
         let Wait { group, place } = self;
-        group.lock(rt).end_checked(place);
+        group.lock(rt).withdraw(place);
     }
 }
 
 impl<W: Wake> Waits<W, ()> for Wait<W> {
     fn poll<R: sync::Wait>(self, rt: &R, waker: W) -> Result<Polled<Self, ()>, Unpolled<Self, W>> {
         let Wait { group, mut place } = self;
-        let answer = group.lock(rt).poll_checked(&mut place, waker);
+        let answer = group.lock(rt).poll(&mut place, waker);
         match answer {
             Ok(Poll::Ready(())) => Ok(Polled::Ready(())),
             Ok(Poll::Pending) => Ok(Polled::Pending(Wait { group, place })),
-            Err((waker, NoMemory)) => Err(Unpolled::no_memory(Wait { group, place }, waker)),
+            Err((seat, NoMemory)) => Err(Unpolled {
+                future: Wait { group, place },
+                waker: seat.waker(),
+                fault: PollFault::NoMemory,
+            }),
         }
     }
 }

@@ -8,6 +8,8 @@ mod channels;
 #[cfg(test)]
 mod condvar;
 #[cfg(test)]
+mod ended_waits;
+#[cfg(test)]
 mod meeting_points;
 #[cfg(test)]
 mod mutex;

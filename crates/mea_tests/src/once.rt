@@ -1,6 +1,7 @@
 use crate::bell::{Bell, count, end, gives, goes_on, mine, queues, rung, there};
 use mea::AtOnce;
 use mea::once::Once;
+use std::sync::Arc;
 use std::sync::atomic::AtomicU64;
 use std::sync::atomic::Ordering::SeqCst;
 
@@ -23,6 +24,22 @@ fn a_call_runs_once(rt: HostRuntime) {
     assert!(rt; once.is_completed(&rt));
     assert!(rt; end(&rt, wait));
     assert!(rt; gives(&rt, once.wait(), &one) == Some(()));
+}
+
+// A wait that ended keeps no waker and is not woken; the one that came after it is.
+#[test]
+fn an_ended_wait_is_forgotten(rt: HostRuntime) {
+    let (one, two) = (count(&rt), count(&rt));
+    let once: Once<Bell> = Once::new(rt.alloc());
+    assert!(rt; end(&rt, goes_on(&rt, once.wait(), &one)));
+    assert!(rt; Arc::strong_count(&one) == 1);
+    let wait = goes_on(&rt, once.wait(), &two);
+    match mine(&rt, once.claim(), &one) {
+        Some(claim) => claim.finish(&rt),
+        None => assert!(rt; false),
+    }
+    assert!(rt; rung(&one) == 0 && rung(&two) == 1);
+    assert!(rt; end(&rt, wait));
 }
 
 // The initialiser of a call that has completed is not run.

@@ -6,6 +6,7 @@ use crate::computing::Computing;
 use crate::unfailing::Unfailing;
 use mea_base::Wake;
 use mea_once_core::{Init, Never, OnceCore};
+use mea_seats::LatchSeats;
 use mea_wait::hand_out;
 use std::alloc::Global;
 use std::sync::{Mutex, Wait};
@@ -14,7 +15,14 @@ pub use waits::{CallClaim, CallClaiming, OnceClaim, OnceClaiming, OnceWait};
 /// A call that runs once, and that others wait for. It ports `mea::once::Once`.
 #[derive(Drop)]
 pub struct Once<W> {
-    core: Mutex<OnceCore<Option<W>>>,
+    calls: Mutex<Calls<W>>,
+}
+
+/// The calls, and a latch for those who wait for one to complete.
+#[derive(Drop)]
+struct Calls<W> {
+    core: OnceCore<Option<W>>,
+    done: LatchSeats<W>,
 }
 
 /// The future of `Once::call_once`.
@@ -28,13 +36,16 @@ impl<W: Wake> Once<W> {
     /// One that nobody has called. It takes no memory.
     pub fn new(alloc: Global) -> Self {
         Once {
-            core: Mutex::new(OnceCore::new(alloc)),
+            calls: Mutex::new(Calls {
+                core: OnceCore::new(alloc),
+                done: LatchSeats::new(alloc, 1),
+            }),
         }
     }
 
     /// Whether a call had completed a moment ago. It takes no memory.
     pub fn is_completed<R: Wait>(&self, rt: &R) -> bool {
-        self.core.lock(rt).is_completed()
+        self.calls.lock(rt).core.is_completed()
     }
 
     /// A wait until a call has completed, which runs the initialiser where no other does. It takes no memory before its
@@ -57,6 +68,6 @@ impl<W: Wake> Once<W> {
 
     // Wakes as many as the step before has made ready.
     fn wake<R: Wait>(&self, rt: &R, made: usize) {
-        hand_out(made, || self.core.lock(rt).next_wake()?);
+        hand_out(made, || self.calls.lock(rt).core.next_wake()?);
     }
 }

@@ -1,13 +1,13 @@
 use crate::shutdown::Shared;
 use mea_base::{NoMemory, Poll, Wake};
 use mea_meet_core::{GroupWait, LatchWait};
-use mea_wait::{End, Holds, Polled, Unpolled, Waits};
+use mea_wait::{End, Holds, PollFault, Polled, Unpolled, Waits};
 use std::marker::PhantomData;
 use std::sync;
 use std::sync::Arc;
 
-/// A wait until the shutdown is asked for. It must be polled to its end, or ended; ended, its waker stays until
-/// then.
+/// A wait until the shutdown is asked for. It must be polled to its end, or ended; ended, it leaves nothing
+/// behind.
 pub struct SignalWait<H, W> {
     of: H,
     place: LatchWait,
@@ -20,8 +20,8 @@ pub type Signal<'a, W> = SignalWait<&'a Shared<W>, W>;
 /// The future of `is_shutdown_owned`.
 pub type OwnedSignal<W> = SignalWait<Arc<Shared<W>>, W>;
 
-/// The future of `ShutdownSend::await_shutdown`. It must be polled to its end, or ended; ended, its waker stays
-/// until all receivers have ended.
+/// The future of `ShutdownSend::await_shutdown`. It must be polled to its end, or ended; ended, it leaves
+/// nothing behind.
 pub struct Wait<W> {
     shared: Arc<Shared<W>>,
     place: GroupWait,
@@ -55,14 +55,14 @@ impl<W: Wake, H: Holds<Shared<W>>> End for SignalWait<H, W> {
             place,
             waker: _,
         } = self;
-        of.held().core.lock(rt).end_signal_checked(place);
+        of.held().signal.lock(rt).withdraw(place);
     }
 }
 
 impl<W: Wake> End for Wait<W> {
     fn end<R: sync::Wait>(self, rt: &R) {
         let Wait { shared, place } = self;
-        shared.core.lock(rt).end_receivers_checked(place);
+        shared.receivers.lock(rt).withdraw(place);
     }
 }
 
@@ -73,18 +73,16 @@ impl<W: Wake, H: Holds<Shared<W>>> Waits<W, ()> for SignalWait<H, W> {
             mut place,
             waker: kind,
         } = self;
-        let answer = of
-            .held()
-            .core
-            .lock(rt)
-            .poll_signal_checked(&mut place, waker);
+        let answer = of.held().signal.lock(rt).poll(&mut place, waker);
         let waker = kind;
         match answer {
             Ok(Poll::Ready(())) => Ok(Polled::Ready(())),
             Ok(Poll::Pending) => Ok(Polled::Pending(SignalWait { of, place, waker })),
-            Err((back, NoMemory)) => {
-                Err(Unpolled::no_memory(SignalWait { of, place, waker }, back))
-            }
+            Err((seat, NoMemory)) => Err(Unpolled {
+                future: SignalWait { of, place, waker },
+                waker: seat.waker(),
+                fault: PollFault::NoMemory,
+            }),
         }
     }
 }
@@ -92,14 +90,15 @@ impl<W: Wake, H: Holds<Shared<W>>> Waits<W, ()> for SignalWait<H, W> {
 impl<W: Wake> Waits<W, ()> for Wait<W> {
     fn poll<R: sync::Wait>(self, rt: &R, waker: W) -> Result<Polled<Self, ()>, Unpolled<Self, W>> {
         let Wait { shared, mut place } = self;
-        let answer = shared
-            .core
-            .lock(rt)
-            .poll_receivers_checked(&mut place, waker);
+        let answer = shared.receivers.lock(rt).poll(&mut place, waker);
         match answer {
             Ok(Poll::Ready(())) => Ok(Polled::Ready(())),
             Ok(Poll::Pending) => Ok(Polled::Pending(Wait { shared, place })),
-            Err((waker, NoMemory)) => Err(Unpolled::no_memory(Wait { shared, place }, waker)),
+            Err((seat, NoMemory)) => Err(Unpolled {
+                future: Wait { shared, place },
+                waker: seat.waker(),
+                fault: PollFault::NoMemory,
+            }),
         }
     }
 }

@@ -1,12 +1,12 @@
 ghost use Rattle.std.specs.Prelude.{IsOk};
 
 use crate::claim::{Claim, Claimed, Claiming, Ready, Step, told};
-use crate::once::call::{Once, steps};
+use crate::once::call::{Calls, Once, steps};
 use crate::promise::Promise;
 use mea_base::{NoMemory, Poll, Wake};
 use mea_meet_core::LatchWait;
 use mea_once_core::InitCall;
-use mea_wait::{End, Holds, PollFault, Polled, Unpolled, Waits};
+use mea_wait::{End, Holds, PollFault, Polled, Unpolled, Waits, hand_out};
 use std::sync::Wait;
 
 /// A wait until a call has completed, or for the turn to make it. It must be polled to its end, or ended.
@@ -28,8 +28,8 @@ pub type OnceClaiming<'a, W> = CallClaiming<&'a Once<W>, W>;
 /// What `Once::claim` gives where no call has completed: it must be spent.
 pub type OnceClaim<'a, W> = CallClaim<&'a Once<W>, W>;
 
-/// A wait until a call has completed: the future of `Once::wait`. It must be polled to its end, or ended; ended, its
-/// waker stays until then.
+/// A wait until a call has completed: the future of `Once::wait`. It must be polled to its end, or ended; ended, it
+/// leaves nothing behind.
 pub struct OnceWait<'a, W> {
     of: &'a Once<W>,
     place: LatchWait,
@@ -56,9 +56,20 @@ impl<'a, W: Wake> OnceWait<'a, W> {
 }
 
 impl<W: Wake> Once<W> {
+    // Polls a call whose promise was kept.
+    fn complete<R: Wait>(
+        &self,
+        rt: &R,
+        call: &mut InitCall<Promise<(), W>>,
+    ) -> (Result<Poll<()>, (Option<W>, NoMemory)>, usize, usize) {
+        let mut calls = self.calls.lock(rt);
+        let Calls { core, done } = &mut *calls;
+        steps::finish(core, done, call)
+    }
+
     // Ends a call.
     fn abandon<R: Wait>(&self, rt: &R, call: InitCall<Promise<(), W>>) {
-        let made = steps::end(&mut *self.core.lock(rt), call);
+        let made = steps::end(&mut self.calls.lock(rt).core, call);
         self.wake(rt, made);
     }
 }
@@ -80,7 +91,7 @@ impl<W: Wake, H: Holds<Once<W>>> End for CallClaim<H, W> {
 impl<'a, W: Wake> End for OnceWait<'a, W> {
     fn end<R: Wait>(self, rt: &R) {
         let OnceWait { of, place } = self;
-        of.core.lock(rt).end_wait_checked(place);
+        of.calls.lock(rt).done.withdraw(place);
     }
 }
 
@@ -89,7 +100,8 @@ impl<W: Wake, H: Holds<Once<W>>> CallClaim<H, W> {
     pub fn finish<R: Wait>(self, rt: &R) {
         let CallClaim { of, mut call } = self;
         call.init.put(());
-        let (answer, made) = steps::poll(&mut *of.held().core.lock(rt), &mut call, None);
+        let (answer, made, woken) = of.held().complete(rt, &mut call);
+        hand_out(woken, || of.held().calls.lock(rt).done.next_wake());
         of.held().wake(rt, made);
         match answer {
             Ok(Poll::Ready(())) => {}
@@ -111,7 +123,11 @@ impl<W: Wake, H: Holds<Once<W>>> Claim<(), (), Ready<()>> for CallClaim<H, W> {
 impl<W: Wake, H: Holds<Once<W>>> Claiming<W, (), CallClaim<H, W>> for CallClaiming<H, W> {
     fn poll_claim<R: Wait>(self, rt: &R, waker: W) -> Step<Self, CallClaim<H, W>, (), W> {
         let CallClaiming { of, mut call } = self;
-        let (answer, made) = steps::poll(&mut *of.held().core.lock(rt), &mut call, Some(waker));
+        let (answer, made) = steps::poll(
+            &mut of.held().calls.lock(rt).core,
+            &mut call,
+            Some(waker),
+        );
         of.held().wake(rt, made);
         match answer {
             Ok(Poll::Ready(())) => Step::There(()),
@@ -137,13 +153,13 @@ impl<W: Wake, H: Holds<Once<W>>> Waits<W, Claimed<(), CallClaim<H, W>>> for Call
 impl<'a, W: Wake> Waits<W, ()> for OnceWait<'a, W> {
     fn poll<R: Wait>(self, rt: &R, waker: W) -> Result<Polled<Self, ()>, Unpolled<Self, W>> {
         let OnceWait { of, mut place } = self;
-        let answer = of.core.lock(rt).poll_wait_checked(&mut place, Some(waker));
+        let answer = of.calls.lock(rt).done.poll(&mut place, waker);
         match answer {
             Ok(Poll::Ready(())) => Ok(Polled::Ready(())),
             Ok(Poll::Pending) => Ok(Polled::Pending(OnceWait { of, place })),
-            Err((waker, NoMemory)) => Err(Unpolled {
+            Err((seat, NoMemory)) => Err(Unpolled {
                 future: OnceWait { of, place },
-                waker,
+                waker: seat.waker(),
                 fault: PollFault::NoMemory,
             }),
         }

@@ -1,0 +1,3 @@
+pub mod Vacant
+pub mod Seats
+pub mod Runs
