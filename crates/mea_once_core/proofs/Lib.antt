@@ -4,6 +4,7 @@ pub mod Keyeds
 pub mod Links
 pub mod Onces
 pub mod Permits
+pub mod Refusals
 pub mod Slots
 pub mod Tables
 pub mod Waits

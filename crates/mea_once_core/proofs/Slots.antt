@@ -1,8 +1,8 @@
 -- a write of one entry
-use Rattle.std.proofs.Common.{◌≡◌, ℕ, suc, zero, ◌+◌, ◌++◌, ◌<◌, List, [], ◌∷◌, length, Option, Some, None, Result, IfSome, slice_index_or, slice_set, refl, sym, subst, arith}
+use Rattle.std.proofs.Common.{◌≡◌, ℕ, suc, zero, ◌+◌, ◌++◌, ◌<◌, List, [], ◌∷◌, length, Option, Some, None, Result, Ok, Err, IfOk, OnErr, IsSome, IfSome, slice_index_or, slice_set, refl, sym, subst, arith}
 use Rattle.std.proofs.lemmas.List.{get_or-set_same, get_or-set_other}
 use Rattle.mea_base.specs.declared.no_memory.NoMemory.{NoMemory}
-use Rattle.mea_sets.specs.Poll.{Poll}
+use Rattle.mea_sets.specs.Poll.{Poll, Ready}
 use Rattle.mea_base.specs.Outbox.{Wakes}
 use Rattle.mea_once_core.specs.Cell.{Cell, rested, PollsInit, Ends, queues_more, AddAtMost}
 use Rattle.mea_once_core.specs.Slots.{SetsSlot, PollsSlot, EndsSlot, RestsSlot}
@@ -46,10 +46,15 @@ module _ {V W : Type 0} where
   pub cell-shown : (xs : List (Option (Entry V W))) (n : ℕ) (f : Entry V W) → slice_index_or xs n None ≡ Some f → IfSome (shown_at xs n) (λ e. f.cell ≡ e.cell)
   cell-shown xs n f is = subst (λ (o : Option (Entry V W)). IfSome (option_map shown o) (λ e. f.cell ≡ e.cell)) (sym is) refl
 
+on-err-first : {A B : Type 0} (P Q : Type 0) (r : Result A B) → OnErr r (P × Q) → OnErr r P
+on-err-first P Q (Ok x) h = h
+on-err-first P Q (Err e) h = h.0
+
 module _ {V E W I : Type 0} (answers : I → W → Poll (Result V E) → I → Type 0) where
   pub polled-slot : (xs : List (Option (Entry V W))) (n : ℕ) (f : Entry V W) (call call' : InitCall I) (w : W) (r : Result (Poll (Result (Unit {0}) E)) (W × NoMemory)) (c : Cell V W)
       → slice_index_or xs n None ≡ Some f → PollsInit answers f.cell call w r c call' → AddAtMost (queues_more f.cell call.stage) f.cell c
+      → OnErr r ((c ≡ f.cell) × (call' ≡ call)) → IfOk r (λ poll. poll ≡ Ready (Ok tt) → IsSome c.value)
       → IfSome (slice_index_or xs n None) (λ e. PollsSlot answers xs n e call w r (slice_set xs n (Some (record f { cell = c }))) call')
-  polled-slot xs n f call call' w r c is polled few =
+  polled-slot xs n f call call' w r c is polled few stays fills =
       subst (λ (o : Option (Entry V W)). IfSome o (λ e. PollsSlot answers xs n e call w r (slice_set xs n (Some (record f { cell = c }))) call')) (sym is)
-      (record { cell = c; polls = polled; few = few; sets = sets-slot xs n f (record f { cell = c }) is })
+      (record { cell = c; polls = polled; few = few; stays = on-err-first (c ≡ f.cell) (call' ≡ call) r stays; fills = fills; sets = sets-slot xs n f (record f { cell = c }) is })

@@ -136,6 +136,8 @@ module _ {K V W E I : Type 0} (answers : I → W → Poll (Result V E) → I →
         cell = told.cell;
         polls = told.polls;
         few = told.few;
+        stays = told.stays;
+        fills = told.fills;
         sets = (record { changed = ap (option_map shown) told.sets.changed; others = λ m differs. ap (option_map shown) (told.sets.others m differs) }, λ k. ap (lookup (eq k)) pairs);
       })
 

@@ -1,7 +1,7 @@
 -- what a call of an entry's cell does to the entries
-use Rattle.std.specs.Prelude.{◌≡◌, ◌≢◌, ◌+◌, ◌++◌, length, ℕ, List, Option, Some, None, Result, slice_index_or}
+use Rattle.std.specs.Prelude.{◌≡◌, ◌≢◌, ◌+◌, ◌++◌, length, ℕ, List, Option, Some, None, Result, Ok, IfOk, OnErr, IsSome, slice_index_or}
 use Rattle.mea_base.specs.declared.no_memory.NoMemory.{NoMemory}
-use Rattle.mea_sets.specs.Poll.{Poll}
+use Rattle.mea_sets.specs.Poll.{Poll, Ready}
 use Rattle.mea_base.specs.Outbox.{Wakes}
 use Rattle.mea_once_core.specs.Cell.{Cell, rested, PollsInit, Ends, queues_more, AddAtMost}
 use Rattle.mea_once_core.specs.declared.entry.Entry.{Entry}
@@ -33,4 +33,6 @@ module _ {V E W I : Type 0} (answers : I → W → Poll (Result V E) → I → T
     pub cell : Cell V W
     pub polls : PollsInit answers e.cell call w r cell call'
     pub few : AddAtMost (queues_more e.cell call.stage) e.cell cell
+    pub stays : OnErr r (cell ≡ e.cell)
+    pub fills : IfOk r (λ poll. poll ≡ Ready (Ok tt) → IsSome cell.value)
     pub sets : SetsSlot old new n (Some (record e { cell = cell }))

@@ -1,8 +1,8 @@
 -- what a contract sees of a `OnceTable`, and what its calls do
-use Rattle.std.specs.Prelude.{◌≡◌, ◌+◌, ◌<◌, ◌≤◌, ◌++◌, length, ℕ, List, Option, Some, None, is_none, not, ◌==◌, ◌&&◌, Bool, true, false, Result, refl}
+use Rattle.std.specs.Prelude.{◌≡◌, ◌+◌, ◌<◌, ◌≤◌, ◌++◌, length, ℕ, List, Option, Some, None, is_none, not, ◌==◌, ◌&&◌, Bool, true, false, Result, Ok, IfOk, OnErr, IsSome, refl}
 use Rattle.std.specs.Coded.{Coded, code_by, coded×, coded_ℕ, coded_list, coded_option}
 use Rattle.mea_base.specs.declared.no_memory.NoMemory.{NoMemory}
-use Rattle.mea_sets.specs.Poll.{Poll}
+use Rattle.mea_sets.specs.Poll.{Poll, Ready}
 use Rattle.mea_once_core.specs.declared.init_call.InitCall.{InitCall}
 use Rattle.mea_once_core.specs.declared.stage.Stage.{Stage}
 use Rattle.mea_base.specs.Outbox.{Wakes}
@@ -108,6 +108,8 @@ module _ {K V W E I : Type 0} (answers : I → W → Poll (Result V E) → I →
     pub cell : Cell V W
     pub polls : PollsInit answers e.cell call w r cell call'
     pub few : AddAtMost (queues_more e.cell call.stage) e.cell cell
+    pub stays : OnErr r (cell ≡ e.cell)
+    pub fills : IfOk r (λ poll. poll ≡ Ready (Ok tt) → IsSome cell.value)
     pub sets : Sets eq t t' n (Some (record e { cell = cell }))
 
 -- a new entry's cell

@@ -1,4 +1,4 @@
-ghost use Rattle.std.specs.Prelude.{◌≡◌, ◌+◌, ◌≤◌, ◌↔◌, [], ◌∷◌, ◌++◌, length, IsTrue, IsSome, IfOk, IfSome, IfNone, MatchOption, option_copied, OnErr};
+ghost use Rattle.std.specs.Prelude.{◌≡◌, ◌+◌, ◌≤◌, ◌↔◌, [], ◌∷◌, ◌++◌, length, IsTrue, IsSome, Ok, IfOk, IfSome, IfNone, MatchOption, option_copied, OnErr};
 ghost use Rattle.std.specs.Option.{option_copied_mut};
 ghost use Rattle.std.specs.Borrow.{sem};
 ghost use Rattle.mea_sem_core.specs.Core.{held_of};
@@ -209,6 +209,7 @@ impl<T: Drop, W: Drop> CellCore<T, W> {
         ensures polls { PollsInit I.answers self.old call.old waker result self.new call.new }
         ensures again { IfOk result (λ poll. poll ≡ Poll.Pending → I.may_poll call.new.init) }
         ensures few { AddAtMost (queues_more self.old call.old.stage) self.old self.new }
+        ensures fills { IfOk result (λ poll. poll ≡ Poll.Ready (Ok tt) → IsSome self.new.value) }
         ensures err { OnErr result ((self.new ≡ self.old) × (call.new ≡ call.old)) }
         ensures sound { IsSound self.new }
     {
@@ -231,6 +232,7 @@ impl<T: Drop, W: Drop> CellCore<T, W> {
         requires running { call.old.stage ≡ Stage.Running }
         ensures runs { Runs I.answers self.old call.old.init waker result self.new call.new }
         ensures again { result ≡ Poll.Pending → I.may_poll call.new.init }
+        ensures fills { result ≡ Poll.Ready (Ok tt) → IsSome self.new.value }
         ensures few { AddAtMost 0 self.old self.new }
         ensures sound { IsSound self.new }
     {

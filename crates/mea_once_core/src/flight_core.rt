@@ -1,4 +1,4 @@
-ghost use Rattle.std.specs.Prelude.{◌≡◌, ◌↔◌, ℕ, [], ◌∷◌, length, true, false, None, IsTrue, IfOk, OnErr, IfSome, IfNone, OnOk, MatchResult};
+ghost use Rattle.std.specs.Prelude.{◌≡◌, ◌↔◌, ℕ, [], ◌∷◌, length, true, false, None, IsTrue, IsSome, IfOk, IfErr, OnErr, IfSome, IfNone, OnOk, MatchResult};
 
 use crate::init::Init;
 use crate::key_call::KeyCall;
@@ -30,6 +30,7 @@ impl<K: Eq + Hash, V, S: BuildHasher, W> Model for FlightCore<K, V, S, W> {
 impl<K: Eq + Hash + Drop, V: Clone, S: BuildHasher + Drop, W: Drop> FlightCore<K, V, S, W> {
     ghost use Rattle.mea_once_core.specs.Keyed.{IsSameKeyed, Discards, MayPollKey, MayEndKey, EndsAt, PollsKey, MayRun, value_for};
     ghost use Rattle.mea_once_core.specs.Table.{entry_at, number_of};
+    ghost use Rattle.mea_once_core.specs.Waiting.{waiting_in};
 
     /// A group with no call. It takes no memory.
     pub fn with_hasher(alloc: Global, hasher: S) -> Self
@@ -54,6 +55,8 @@ impl<K: Eq + Hash + Drop, V: Clone, S: BuildHasher + Drop, W: Drop> FlightCore<K
         requires init { MayRun I.may_poll call.old }
         ensures again { MayRun I.may_poll call.new }
         ensures polls { PollsKey I.answers K.eq true self.old call.old waker result self.new call.new }
+        ensures back { IfErr result (λ failed. IfSome failed.0 (λ _. IsSameKeyed K.eq self.old self.new × (call.new ≡ call.old))) }
+        ensures returned { ((value : V) → V.is_infallible value) → IfErr result (λ failed. IsSome failed.0) }
     {
         self.keyed.poll(call, waker, true)
     }
@@ -115,6 +118,13 @@ impl<K: Eq + Hash + Drop, V: Clone, S: BuildHasher + Drop, W: Drop> FlightCore<K
         if self.end_work_allowed(&call) {
             self.end_work(call);
         }
+    }
+
+    /// How many calls wait for their turn, in all entries together. It takes no memory.
+    pub fn waiting(&self) -> usize
+        ensures { result ≡ waiting_in self.now.table.slots }
+    {
+        self.keyed.waiting()
     }
 
     /// How many wakers are ready. It takes no memory.

@@ -43,6 +43,7 @@ impl<K: Eq + Hash + Drop, V: Clone, S: BuildHasher + Drop, W: Drop> Keyed<K, V, 
     ghost use Rattle.mea_once_core.specs.Permit.{MayPoll, MayEnd};
     ghost use Rattle.mea_once_core.specs.Inserts.{IsIdle, last_value};
     ghost use Rattle.mea_once_core.specs.declared.stage.Stage.TheVariants as stages;
+    ghost use Rattle.mea_once_core.specs.Waiting.{waiting_in};
     ghost use Rattle.mea_once_core.specs.Table.{number_of, HasCaller, HasRoom, Joins, Makes, fresh_entry};
     ghost use Rattle.mea_once_core.specs.Keyed.{value_for, GivesUp, EndsCell, IsSameKeyed, LeavesEntry, Discards, MayPollKey, MayEndKey, EndsAt, HandsOut, Told, StepsCell, PollsCaller, StartsAt, StartsNew, HandsFirst, PollsKey, MayRun};
 
@@ -107,6 +108,8 @@ impl<K: Eq + Hash + Drop, V: Clone, S: BuildHasher + Drop, W: Drop> Keyed<K, V, 
         requires init { MayRun I.may_poll call.old }
         ensures again { MayRun I.may_poll call.new }
         ensures polls { PollsKey I.answers K.eq once self.old call.old waker result self.new call.new }
+        ensures back { IfErr result (λ failed. IfSome failed.0 (λ _. IsSameKeyed K.eq self.old self.new × (call.new ≡ call.old))) }
+        ensures returned { ((value : V) → V.is_infallible value) → IfErr result (λ failed. IsSome failed.0) }
     {
         match call.stage {
             KeyStage::New { .. } => self.begin(call, waker, once),
@@ -129,6 +132,8 @@ impl<K: Eq + Hash + Drop, V: Clone, S: BuildHasher + Drop, W: Drop> Keyed<K, V, 
         requires init { MayRun I.may_poll call.old }
         ensures again { MayRun I.may_poll call.new }
         ensures polls { PollsKey I.answers K.eq once self.old call.old waker result self.new call.new }
+        ensures back { IfErr result (λ failed. IfSome failed.0 (λ _. IsSameKeyed K.eq self.old self.new × (call.new ≡ call.old))) }
+        ensures returned { ((value : V) → V.is_infallible value) → IfErr result (λ failed. IsSome failed.0) }
     {
         let KeyStage::New { key } = std::mem::replace(&mut call.stage, KeyStage::Done) else {
             unreachable!();
@@ -154,6 +159,8 @@ impl<K: Eq + Hash + Drop, V: Clone, S: BuildHasher + Drop, W: Drop> Keyed<K, V, 
         requires init { I.may_poll call.old.call.init }
         ensures again { MayRun I.may_poll call.new }
         ensures starts { (e : Shown V W) → entry_at self.old.table number ≡ Some e → StartsAt I.answers K.eq once self.old key number e call.old.call waker result self.new call.new.call call.new.stage }
+        ensures back { IfErr result (λ failed. IfSome failed.0 (λ _. IsSameKeyed K.eq self.old self.new × (call.new ≡ record call.old { stage = KeyStage.New key }))) }
+        ensures returned { ((value : V) → V.is_infallible value) → IfErr result (λ failed. IsSome failed.0) }
     {
         if self.table.cell(number).is_full() {
             return self.hand_out_first(call, key, number, waker);
@@ -185,6 +192,7 @@ impl<K: Eq + Hash + Drop, V: Clone, S: BuildHasher + Drop, W: Drop> Keyed<K, V, 
         ensures again { MayRun I.may_poll call.new }
         ensures hands { IfSome (entry_at self.old.table number) (λ e. HandsFirst key call.old.call waker e result call.new.call call.new.stage) }
         ensures same { self.new ≡ self.old }
+        ensures back { IfErr result (λ failed. (failed.0 ≡ Some waker) × (call.new ≡ record call.old { stage = KeyStage.New key })) }
     {
         let Some(value) = self.value_of(number) else {
             call.stage = KeyStage::New { key };
@@ -208,6 +216,8 @@ impl<K: Eq + Hash + Drop, V: Clone, S: BuildHasher + Drop, W: Drop> Keyed<K, V, 
         requires init { I.may_poll call.old.call.init }
         ensures again { MayRun I.may_poll call.new }
         ensures starts { StartsNew I.answers K.eq once self.old key call.old.call waker result self.new call.new.call call.new.stage }
+        ensures back { IfErr result (λ failed. IfSome failed.0 (λ _. IsSameKeyed K.eq self.old self.new × (call.new ≡ record call.old { stage = KeyStage.New key }))) }
+        ensures returned { ((value : V) → V.is_infallible value) → IfErr result (λ failed. IsSome failed.0) }
     {
         match self.make(key) {
             Ok(number) => {
@@ -245,6 +255,8 @@ impl<K: Eq + Hash + Drop, V: Clone, S: BuildHasher + Drop, W: Drop> Keyed<K, V, 
         requires init { I.may_poll call.old.call.init }
         ensures again { MayRun I.may_poll call.new }
         ensures polls { (e : Shown V W) → entry_at self.old.table number ≡ Some e → PollsCaller I.answers K.eq once self.old number e call.old.call waker result self.new call.new.call call.new.stage }
+        ensures back { IfErr result (λ failed. IfSome failed.0 (λ _. IsSameKeyed K.eq self.old self.new × (call.new ≡ call.old))) }
+        ensures returned { ((value : V) → V.is_infallible value) → IfErr result (λ failed. IsSome failed.0) }
     {
         if self.table.cell(number).finds(call.call.stage) {
             let Some(value) = self.value_of(number) else {
@@ -273,9 +285,12 @@ impl<K: Eq + Hash + Drop, V: Clone, S: BuildHasher + Drop, W: Drop> Keyed<K, V, 
         requires calls { (e : Shown V W) × (entry_at self.old.table number ≡ Some e) × (1 ≤ e.callers) }
         requires stage { call.old.stage ≡ KeyStage.Calls number }
         requires init { answer ≡ Poll.Pending → I.may_poll call.old.call.init }
+        requires filled { answer ≡ Poll.Ready (Ok tt) → IfSome (entry_at self.old.table number) (λ e. IsSome e.cell.value) }
         ensures again { MayRun I.may_poll call.new }
         ensures told { (e : Shown V W) → entry_at self.old.table number ≡ Some e → Told K.eq once (Ok answer) self.old number e result self.new call.new.stage }
         ensures call { call.new.call ≡ call.old.call }
+        ensures kept { IfErr result (λ failed. failed.0 ≡ None) }
+        ensures succeeds { ((value : V) → V.is_infallible value) → IsOk result }
     {
         match answer {
             Poll::Pending => Ok(Poll::Pending),
@@ -310,6 +325,7 @@ impl<K: Eq + Hash + Drop, V: Clone, S: BuildHasher + Drop, W: Drop> Keyed<K, V, 
         ensures again { MayRun I.may_poll call.new }
         ensures handed { (e : Shown V W) → entry_at self.old.table number ≡ Some e → HandsOut K.eq (Some waker) (KeyStage.Kept number) self.old number e result self.new call.new.stage }
         ensures call { call.new.call ≡ call.old.call }
+        ensures back { IfErr result (λ failed. (failed.0 ≡ Some waker) × (self.new ≡ self.old) × (call.new ≡ call.old)) }
     {
         let Some(value) = self.value_of(number) else {
             return Err((Some(waker), NoMemory));
@@ -323,7 +339,8 @@ impl<K: Eq + Hash + Drop, V: Clone, S: BuildHasher + Drop, W: Drop> Keyed<K, V, 
     fn value_of(&self, number: usize) -> Option<V>
         requires clones { (x y : V) → V.is_clone x y → y ≡ x }
         requires there { IsSome (entry_at self.now.table number) }
-        ensures { IfSome result (λ v. IfSome (entry_at self.now.table number) (λ e. e.cell.value ≡ Some v)) }
+        ensures is { IfSome result (λ v. IfSome (entry_at self.now.table number) (λ e. e.cell.value ≡ Some v)) }
+        ensures succeeds { ((value : V) → V.is_infallible value) → IfSome (entry_at self.now.table number) (λ e. IsSome e.cell.value → IsSome result) }
     {
         match self.table.cell(number).get()?.clone() {
             Ok(value) => Some(value),
@@ -343,6 +360,8 @@ impl<K: Eq + Hash + Drop, V: Clone, S: BuildHasher + Drop, W: Drop> Keyed<K, V, 
         ensures again { IfOk result (λ poll. poll ≡ Poll.Pending → I.may_poll call.new.init) }
         ensures back { OnErr result (call.new ≡ call.old) }
         ensures steps { (e : Shown V W) → entry_at self.old.table number ≡ Some e → (cell : Cell V W) × StepsCell I.answers K.eq self.old number e call.old waker result cell self.new call.new }
+        ensures same { OnErr result (IsSameKeyed K.eq self.old self.new) }
+        ensures fills { IfOk result (λ poll. poll ≡ Poll.Ready (Ok tt) → IfSome (entry_at self.new.table number) (λ e. IsSome e.cell.value)) }
     {
         let more = self.table.cell(number).queues_more(call.stage);
         if reserve(&mut self.outbox, self.waiting, more).is_err() {
@@ -417,7 +436,8 @@ impl<K: Eq + Hash + Drop, V: Clone, S: BuildHasher + Drop, W: Drop> Keyed<K, V, 
     // A clone of the key's value, if it has one.
     pub(crate) fn get(&self, key: &K) -> Result<Option<V>, NoMemory>
         requires clones { (x y : V) → V.is_clone x y → y ≡ x }
-        ensures { IfOk result (λ value. value ≡ value_for K.eq self.now key.now) }
+        ensures is { IfOk result (λ value. value ≡ value_for K.eq self.now key.now) }
+        ensures succeeds { ((value : V) → V.is_infallible value) → IsOk result }
     {
         let Some(number) = self.table.get(key) else {
             return Ok(None);
@@ -517,6 +537,13 @@ impl<K: Eq + Hash + Drop, V: Clone, S: BuildHasher + Drop, W: Drop> Keyed<K, V, 
             return false;
         }
         self.table.cell(number).is_full()
+    }
+
+    // How many calls wait for their turn, in all entries together. It takes no memory.
+    pub(crate) fn waiting(&self) -> usize
+        ensures { result ≡ waiting_in self.now.table.slots }
+    {
+        self.waiting
     }
 
     // How many wakers are ready. It takes no memory.

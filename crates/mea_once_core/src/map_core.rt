@@ -1,4 +1,4 @@
-ghost use Rattle.std.specs.Prelude.{◌≡◌, ◌↔◌, ℕ, [], ◌∷◌, length, true, false, Some, None, IsTrue, IfOk, OnErr, IfSome, IfNone, OnOk, MatchResult};
+ghost use Rattle.std.specs.Prelude.{◌≡◌, ◌↔◌, ℕ, [], ◌∷◌, length, true, false, Some, None, IsTrue, IsSome, IsOk, IfOk, IfErr, OnErr, IfSome, IfNone, OnOk, MatchResult};
 
 use crate::init::Init;
 use crate::key_call::KeyCall;
@@ -29,6 +29,7 @@ impl<K: Eq + Hash, V, S: BuildHasher, W> Model for MapCore<K, V, S, W> {
 impl<K: Eq + Hash + Drop, V: Clone, S: BuildHasher + Drop, W: Drop> MapCore<K, V, S, W> {
     ghost use Rattle.mea_once_core.specs.Keyed.{IsSameKeyed, Discards, MayPollKey, MayEndKey, EndsAt, PollsKey, MayRun, value_for};
     ghost use Rattle.mea_once_core.specs.Table.{entry_at, number_of};
+    ghost use Rattle.mea_once_core.specs.Waiting.{waiting_in};
     ghost use Rattle.mea_once_core.specs.Links.{Shown};
     ghost use Rattle.mea_once_core.specs.Inserts.{IsIdle, last_value};
 
@@ -83,6 +84,8 @@ impl<K: Eq + Hash + Drop, V: Clone, S: BuildHasher + Drop, W: Drop> MapCore<K, V
         requires init { MayRun I.may_poll call.old }
         ensures again { MayRun I.may_poll call.new }
         ensures polls { PollsKey I.answers K.eq false self.old call.old waker result self.new call.new }
+        ensures back { IfErr result (λ failed. IfSome failed.0 (λ _. IsSameKeyed K.eq self.old self.new × (call.new ≡ call.old))) }
+        ensures returned { ((value : V) → V.is_infallible value) → IfErr result (λ failed. IsSome failed.0) }
     {
         self.keyed.poll(call, waker, false)
     }
@@ -98,7 +101,8 @@ impl<K: Eq + Hash + Drop, V: Clone, S: BuildHasher + Drop, W: Drop> MapCore<K, V
     /// A clone of the key's value, if it has one.
     pub fn get(&self, key: &K) -> Result<Option<V>, NoMemory>
         requires clones { (x y : V) → V.is_clone x y → y ≡ x }
-        ensures { IfOk result (λ value. value ≡ value_for K.eq self.now key.now) }
+        ensures is { IfOk result (λ value. value ≡ value_for K.eq self.now key.now) }
+        ensures succeeds { ((value : V) → V.is_infallible value) → IsOk result }
     {
         self.keyed.get(key)
     }
@@ -117,6 +121,7 @@ impl<K: Eq + Hash + Drop, V: Clone, S: BuildHasher + Drop, W: Drop> MapCore<K, V
         ensures value { IfOk result (λ value. value ≡ value_for K.eq self.old key.now) }
         ensures ok { OnOk result (Discards K.eq self.old key.now self.new) }
         ensures err { OnErr result (self.new ≡ self.old) }
+        ensures succeeds { ((value : V) → V.is_infallible value) → IsOk result }
     {
         let value = self.keyed.get(key)?;
         self.keyed.discard(key);
@@ -165,6 +170,13 @@ impl<K: Eq + Hash + Drop, V: Clone, S: BuildHasher + Drop, W: Drop> MapCore<K, V
         if self.end_compute_allowed(&call) {
             self.end_compute(call);
         }
+    }
+
+    /// How many calls wait for their turn, in all entries together. It takes no memory.
+    pub fn waiting(&self) -> usize
+        ensures { result ≡ waiting_in self.now.table.slots }
+    {
+        self.keyed.waiting()
     }
 
     /// How many wakers are ready. It takes no memory.

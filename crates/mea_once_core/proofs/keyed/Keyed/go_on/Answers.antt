@@ -21,7 +21,7 @@ returns-then-finds-clause-polls g c =
       λ finds.
           let step = c.poll_cell.ensures.steps e there in
           finds-value g.I.Init.answers g.K.PartialEq.eq c.args.self.now c.poll_cell.new.self c.leave.new.self c.args.number e c.args.call.now.call c.poll_cell.new.call c.args.waker c.poll_cell.result c.in-Some.value
-          (at_some g.K.PartialEq.eq (λ s. s.cell.value ≡ Some c.in-Some.value) (entry_at c.args.self.now.table c.args.number) e there c.in-Some.ensures)
+          (at_some g.K.PartialEq.eq (λ s. s.cell.value ≡ Some c.in-Some.value) (entry_at c.args.self.now.table c.args.number) e there c.in-Some.ensures.is)
           (finds-ready g.I.Init.answers g.K.PartialEq.eq c.args.call.now.call.stage e.cell c.args.call.now.call c.poll_cell.new.call c.args.waker c.poll_cell.result step.0 finds step.1.polls)
           step c.leave.ensures,
       λ away. absurd (away (subst (λ x. Finds x c.args.call.now.call.stage) (at_some g.K.PartialEq.eq (λ s. c.cell.result.now ≡ s.cell) (entry_at c.self.inside.table c.args.number) e (subst (λ (s : Keyed g.row.K.Denot g.row.V.Denot g.row.W.Denot). entry_at s.table c.args.number ≡ Some e) (sym c.self.view_is) there) c.cell.ensures) (c.finds.ensures.0 c.if-finds.true))),
