@@ -55,16 +55,16 @@ passed-lists : (q : Waiting) (c : Cell) → waiting_at (passed q c) ≡ behind q
 passed-lists q c = λ i. passed-queue q c i ++ (passed-runner q c i ++ passed-waits q c i)
 
 -- ---- what a step of one future does at its cell
-abbrev IsOf : Option CellFuture → ℕ → Type 0
+abbrev pub IsOf : Option CellFuture → ℕ → Type 0
 IsOf None o = Unit {0}
 IsOf (Some y) o = y.cell ≡ o
 
 -- all who wait, but k, keep their wakers or are woken; so many may wait more; and the future, if it is there, is of the cell
-record Fine (x : CellFuture) (c : Cell) (k extra : ℕ) (s : Step) : Type 0 where
-  more : ℕ
-  local : Local (waiting_at c) (waiting_at s.cell) s.wakes k more
-  few : more ≤ extra
-  mine : IsOf s.future x.cell
+pub record Fine (x : CellFuture) (c : Cell) (k extra : ℕ) (s : Step) : Type 0 where
+  pub more : ℕ
+  pub local : Local (waiting_at c) (waiting_at s.cell) s.wakes k more
+  pub few : more ≤ extra
+  pub mine : IsOf s.future x.cell
 
 module _ (f w : ℕ) (x : CellFuture) (c : Cell) where
   -- the turn goes to the next
@@ -120,7 +120,7 @@ module _ (f w : ℕ) (x : CellFuture) (c : Cell) where
   starts None = starts_in x.job
   starts (Some v) = record { more = 0; local = local_same (waiting_at c) f; few = omega arith; mine = tt }
 
-  polls : Fine x c f 1 (cells.poll f w x c)
+  pub polls : Fine x c f 1 (cells.poll f w x c)
   polls = by_if (Fine x c f 1) (waits c.queue f) _ _
       (λ queued. record {
         more = 0;
@@ -138,7 +138,7 @@ module _ (f w : ℕ) (x : CellFuture) (c : Cell) where
       (λ idle. by_if (Fine x c f 1) (waits c.waits f) _ _ (λ awaiting. awaits)
       (λ apart. by_if (Fine x c f 1) x.polled _ _ (λ turn. takes_turn c.value) (λ new. starts c.value))))
 
-  ends_local : Fine x c f 0 (cells.end f x c)
+  pub ends_local : Fine x c f 0 (cells.end f x c)
   ends_local = by_if (Fine x c f 0) (waits c.queue f) _ _
       (λ queued. record {
         more = 0;
@@ -156,10 +156,10 @@ module _ (f w : ℕ) (x : CellFuture) (c : Cell) where
       }))
 
 -- who ends is gone
-ends_gone : (f : ℕ) (x : CellFuture) (c : Cell) → (cells.end f x c).future ≡ None
+pub ends_gone : (f : ℕ) (x : CellFuture) (c : Cell) → (cells.end f x c).future ≡ None
 ends_gone f x c = by_if (λ (s : Step). s.future ≡ None) (waits c.queue f) _ _ (λ queued. refl) (λ out. by_if (λ (s : Step). s.future ≡ None) x.polled _ _ (λ turn. refl) (λ new. refl))
 
-settles_local : (f k : ℕ) (r : Initialiser) (x : CellFuture) (c : Cell) → Fine x c k 0 (cells.settle f r x c)
+pub settles_local : (f k : ℕ) (r : Initialiser) (x : CellFuture) (c : Cell) → Fine x c k 0 (cells.settle f r x c)
 settles_local f k r x c =
     let vs = option_to_list (waker_for c.runner f) in
     record {

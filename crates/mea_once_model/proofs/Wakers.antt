@@ -1,360 +1,197 @@
 -- the laws of the family
-use Rattle.std.proofs.Common.{◌≡◌, ℕ, ◌+◌, ◌<◌, ◌≤◌, ◌==◌, ◌⊎◌, inl, inr, ◌++◌, Bool, true, false, not, cond, length, [], ◌∷◌, Option, Some, None, is_some, if◌then◌else◌, refl, ap, sym, subst, ◌∙◌, arith}
+use Rattle.std.proofs.Common.{◌≡◌, ℕ, ◌+◌, ◌<◌, ◌≤◌, ◌⊎◌, inl, Bool, true, false, cond, length, Some, None, sym, subst, arith}
 use Rattle.std.specs.List.{Contains}
-use Rattle.std.specs.FinMap.{get, insert}
-use Rattle.std.proofs.lemmas.Bool.{eqb-true}
-use Rattle.std.proofs.lemmas.Option.{cond_some}
+use Rattle.std.specs.FinMap.{get}
 use Rattle.mea_base.specs.declared.answer.Answer.TheVariants as answers
 use Rattle.mea_base.specs.Family.{Outcome, Runs, Starts, Goes, RunOf, KeepsWakers, NamesFutures, LosesNoWake}
-use Rattle.mea_base.proofs.Maps.{nothing_at, get-there, value_in}
-use Rattle.mea_base.proofs.Tests.{known}
+use Rattle.mea_base.proofs.Maps.{value_in}
+use Rattle.mea_base.proofs.Totals.{total-empty}
 use Rattle.mea_base.proofs.Wakes.{loses_no_wake}
 use Rattle.mea_named.specs.NamedQueue as named_queue
-use Rattle.mea_named.specs.NamedQueue.{Waiting, waits, with_waker, waker_for}
-use Rattle.mea_named.specs.Play.{found}
-use Rattle.mea_named.proofs.Cases.{by_found, by_if, found_is}
-use Rattle.mea_named.proofs.NamedQueues.{appended-there, with_waker-there}
-use Rattle.mea_named.proofs.OneObject.{IsBelow, AreBelow, goes_counted, goes_lows, goes_below, goes_made, goes_stays, goes_kept, placed_is, placed_put}
-use Rattle.mea_named.proofs.Own.{seen-at, seen-back, seen-none}
+use Rattle.mea_named.proofs.OneObject.{goes_counted}
+use Rattle.mea_named.proofs.Own.{seen-at}
 use Rattle.mea_once_model.specs.declared.event.OnceEvent.{OnceEvent}
 use Rattle.mea_once_model.specs.Cells as cells
-use Rattle.mea_once_model.specs.declared.job.Initialiser.{Initialiser}
-use Rattle.mea_once_model.specs.declared.job.Initialiser.TheVariants.{Unsettled, Gives, Fails}
-use Rattle.mea_once_model.specs.declared.job.Job.{Job}
-use Rattle.mea_once_model.specs.declared.job.Job.TheVariants.{Calls, Computes, Alone, Sets, Inserts, Awaits}
-use Rattle.mea_once_model.specs.Cells.{Cell, CellFuture, Cells, Step, waiting_at, registering, init_of, is_alone, is_future}
-use Rattle.mea_once_model.specs.Actions.{Action, Make, Begin, Poll, Settle, End, TellFull, Tell, Peek, Put, Take, TakeOut, Drop, act_in, registers_in, polled_in, ends_in, cause_in}
-use Rattle.mea_once_model.specs.OnceHall.{OnceHall, Kind, Onces, Values, part, with_part, registered}
-use Rattle.mea_once_model.specs.Meaning.{Doing, doing, cause_by, step_by, step, registers}
-use Rattle.mea_once_model.specs.OnceFamily.{onces_family, is_kind, polled_by, ends_by}
-use Rattle.mea_once_model.proofs.Parts.{in_first, in_second, not_waiting, registers_there}
+use Rattle.mea_once_model.specs.Cells.{Cell, waiting_at, is_future}
+use Rattle.mea_once_model.specs.Tables as tables
+use Rattle.mea_once_model.specs.Tables.{Table}
+use Rattle.mea_once_model.specs.Actions.{Action, act_in, registers_in, polled_in, ends_in}
+use Rattle.mea_once_model.specs.KeyActions.{KeyAction, key_act, key_registers, key_polled, key_ends}
+use Rattle.mea_once_model.specs.OnceHall.{OnceHall, Kind, Onces, Values, TableKind, Maps, Groups, empty_hall, part, tables_of, is_once, registered}
+use Rattle.mea_once_model.specs.Meaning.{Doing, KeyDoing, Meaning, OfCells, OfTables, meaning_of, cause_by, step_by, step, registers_by, registers}
+use Rattle.mea_once_model.specs.OnceFamily.{Future, AtCell, ByKey, onces_family, polled_by, ends_by, name, lives, placed}
 use Rattle.mea_once_model.proofs.Acting.{keys, owner, goes}
-
--- ---- the cells of one kind
-abbrev at_cell : CellFuture → ℕ
-at_cell x = x.cell
-
--- a future that waits on after a step has this waker, and is of the cell still
-record Placed (f w : ℕ) (x : CellFuture) (s : Step) : Type 0 where
-  future : CellFuture
-  there : s.future ≡ Some future
-  mine : future.cell ≡ x.cell
-  waker : waker_for (waiting_at s.cell) f ≡ Some w
-
-module _ (f w : ℕ) (x : CellFuture) (c : Cell) where
-  abbrev P : Step → Type 0
-  P s = s.reply ≡ answers.Pending → Placed f w x s
-
-  found_never : (j : Job) (v : ℕ) → cells.found_full j v ≡ answers.Pending → ⊥
-  found_never (Calls r) v is = absurd (cc)
-  found_never (Computes r) v is = absurd (cc)
-  found_never (Alone r) v is = absurd (cc)
-  found_never (Sets u) v is = absurd (cc)
-  found_never (Inserts u) v is = absurd (cc)
-  found_never Awaits v is = absurd (cc)
-
-  filled_never : (j : Job) (v : ℕ) → cells.has_filled j v ≡ answers.Pending → ⊥
-  filled_never (Calls r) v is = absurd (cc)
-  filled_never (Computes r) v is = absurd (cc)
-  filled_never (Alone r) v is = absurd (cc)
-  filled_never (Sets u) v is = absurd (cc)
-  filled_never (Inserts u) v is = absurd (cc)
-  filled_never Awaits v is = absurd (cc)
-
-  module _ (out : waits c.queue f ≡ false) (idle : waits c.runner f ≡ false) where
-    run_places : (t : Bool) (r : Initialiser) → P (cells.run f w x (record c { taken = t }) r)
-    run_places t Unsettled pending = record {
-      future = record x { polled = not (is_alone x.job) };
-      there = refl;
-      mine = refl;
-      waker = in_second c.queue _ f (not_waiting c.queue f out) ∙ in_first (c.runner ++ (f, w) ∷ []) c.waits f w (appended-there c.runner f w idle);
-    }
-    run_places t (Gives v) pending = absurd (filled_never x.job v pending)
-    run_places t (Fails e) pending = absurd (cc)
-
-    awaits_places : P (cells.awaits f w x c)
-    awaits_places pending = record {
-      future = x;
-      there = refl;
-      mine = refl;
-      waker = in_second c.queue _ f (not_waiting c.queue f out) ∙ in_second c.runner _ f (not_waiting c.runner f idle) ∙ registers_there c.waits f w;
-    }
-
-    turn_places : (v : Option ℕ) → P (cells.take_turn f w x c v)
-    turn_places None pending = run_places c.taken (init_of x.job) pending
-    turn_places (Some v) pending = absurd (found_never x.job v pending)
-
-    asks_places : (r : Initialiser) → P (cells.ask f w x c r)
-    asks_places r = by_if P c.taken _ _
-        (λ taken pending. record { future = record x { polled = true }; there = refl; mine = refl; waker = in_first (c.queue ++ (f, w) ∷ []) _ f w (appended-there c.queue f w out) })
-        (λ free. run_places true r)
-
-    start_places : (j : Job) → P (cells.start_in f w x c j)
-    start_places (Calls r) = asks_places r
-    start_places (Computes r) = asks_places r
-    start_places (Alone r) = run_places c.taken r
-    start_places (Sets v) = asks_places (Gives v)
-    start_places (Inserts v) = asks_places (Gives v)
-    start_places Awaits = awaits_places
-
-    starts_places : (v : Option ℕ) → P (cells.start f w x c v)
-    starts_places None pending = start_places x.job pending
-    starts_places (Some v) pending = absurd (found_never x.job v pending)
-
-  poll_places : P (cells.poll f w x c)
-  poll_places = by_if P (waits c.queue f) _ _
-      (λ queued pending. record { future = x; there = refl; mine = refl; waker = in_first (with_waker c.queue f w) _ f w (with_waker-there c.queue f w queued) })
-      (λ out. by_if P (waits c.runner f) _ _
-      (λ runs pending. record {
-        future = x;
-        there = refl;
-        mine = refl;
-        waker = in_second c.queue _ f (not_waiting c.queue f out) ∙ in_first (with_waker c.runner f w) c.waits f w (with_waker-there c.runner f w runs);
-      })
-      (λ idle. by_if P (waits c.waits f) _ _ (λ awaiting. awaits_places out idle)
-      (λ apart. by_if P x.polled _ _ (λ turn. turn_places out idle c.value) (λ new. starts_places out idle c.value))))
-
-  -- while a waker is placed, it waits on
-  poll_waits : (v : ℕ) → waker_for (waiting_at c) f ≡ Some v → (cells.poll f w x c).reply ≡ answers.Pending
-  poll_waits v has = by_if R (waits c.queue f) _ _ (λ queued. refl)
-      (λ out. by_if R (waits c.runner f) _ _ (λ runs. refl)
-      (λ idle. by_if R (waits c.waits f) _ _ (λ awaiting. refl)
-      (λ apart. absurd (let none : waker_for (waiting_at c) f ≡ None =
-      in_second c.queue _ f (not_waiting c.queue f out) ∙ in_second c.runner _ f (not_waiting c.runner f idle) ∙ not_waiting c.waits f apart in cc))))
-    where
-      R : Step → Type 0
-      R s = s.reply ≡ answers.Pending
-
-module _ (h : Cells) (i : ℕ) where
-  -- a poll that is pending places its waker
-  places_poll : (f w : ℕ) → (act_in h i (Poll f w)).reply ≡ answers.Pending → cells.placed (act_in h i (Poll f w)).hall f ≡ Some w
-  places_poll f w = by_found Q (get h.futures f) h _ (λ is. absurd (cc)) (λ x future. by_found Q (get h.cells x.cell) h _ (λ is. absurd (cc)) (λ c there pending. stands x (cells.poll f w x c) (poll_places f w x c pending)))
-    where
-      Q : Outcome Cells → Type 0
-      Q o = o.reply ≡ answers.Pending → cells.placed o.hall f ≡ Some w
-
-      stands : (x : CellFuture) (s : Step) → Placed f w x s → cells.placed (cells.applied h f x.cell s).hall f ≡ Some w
-      stands x s placed = subst (λ p. cells.placed (record { cells = insert h.cells x.cell s.cell; futures = cells.turned_to h.futures f p }) f ≡ Some w) (sym placed.there)
-          (subst (λ o. named_queue.placed waiting_at at_cell (insert h.cells o s.cell) (insert h.futures f placed.future) f ≡ Some w) placed.mine
-          (placed_put waiting_at at_cell h.cells (insert h.futures f placed.future) f w placed.future s.cell (get-there h.futures f placed.future) placed.waker))
-
-  -- while a waker is placed, a poll is pending
-  waits_poll : (f w v : ℕ) → cells.placed h f ≡ Some w → (act_in h i (Poll f v)).reply ≡ answers.Pending
-  waits_poll f w v is =
-      let at = placed_is waiting_at at_cell h.cells h.futures f w is in
-      ap (λ (o : Outcome Cells). o.reply) (found_is (get h.futures f) h (λ x. found (get h.cells x.cell) h (λ c. cells.applied h f x.cell (cells.poll f v x c))) at.x at.future
-      ∙ found_is (get h.cells at.x.cell) h (λ c. cells.applied h f at.x.cell (cells.poll f v at.x c)) at.r at.object) ∙ poll_waits f v at.x at.r w at.waker
-
--- an action that polls f is a poll of f
-same_poll : (a : Action) (f w : ℕ) (P : Action → Type 0) → ((v : ℕ) → v ≡ w → P (Poll f v)) → polled_in a f ≡ Some w → P a
-same_poll (Poll g v) f w P here is = let test = cond_some (g == f) v w is in subst (λ j. P (Poll j v)) (sym (eqb-true g f test.0)) (here v test.1)
-same_poll (Make v) f w P here is = absurd (cc)
-same_poll (Begin o job) f w P here is = absurd (cc)
-same_poll (Settle k r) f w P here is = absurd (cc)
-same_poll (End k) f w P here is = absurd (cc)
-same_poll (TellFull o) f w P here is = absurd (cc)
-same_poll (Tell o) f w P here is = absurd (cc)
-same_poll (Peek o) f w P here is = absurd (cc)
-same_poll (Put o v) f w P here is = absurd (cc)
-same_poll (Take o) f w P here is = absurd (cc)
-same_poll (TakeOut o) f w P here is = absurd (cc)
-same_poll (Drop o) f w P here is = absurd (cc)
-
--- ---- a future is as well known by its cell
-is_key : (h : Cells) (f : ℕ) → is_future h f ≡ is_some (get (keys h.futures) f)
-is_key h f = at (get h.futures f) refl
-  where
-    at : (o : Option CellFuture) → get h.futures f ≡ o → is_some o ≡ is_some (get (keys h.futures) f)
-    at None none = sym (ap is_some (seen-none at_cell h.futures f none))
-    at (Some x) some = sym (ap is_some (seen-at at_cell h.futures f x some))
-
-placed_by_key : (h : Cells) (f : ℕ) → cells.placed h f ≡ named_queue.placed waiting_at owner h.cells (keys h.futures) f
-placed_by_key h f = at (get h.futures f) refl
-  where
-    at : (o : Option CellFuture) → get h.futures f ≡ o → named_queue.placed_of waiting_at at_cell h.cells f o ≡ named_queue.placed waiting_at owner h.cells (keys h.futures) f
-    at None none = sym (ap (named_queue.placed_of waiting_at owner h.cells f) (seen-none at_cell h.futures f none))
-    at (Some x) some = sym (ap (named_queue.placed_of waiting_at owner h.cells f) (seen-at at_cell h.futures f x some))
+use Rattle.mea_once_model.proofs.CellWakers as cell
+use Rattle.mea_once_model.proofs.CellWakers.{Low, at_cell, same_poll}
+use Rattle.mea_once_model.proofs.TableActing as table_acting
+use Rattle.mea_once_model.proofs.TableWakers.{LowTables}
+use Rattle.mea_once_model.proofs.TableLaws as table
+use Rattle.mea_once_model.specs.KeyValid.{AreValid}
+use Rattle.mea_once_model.specs.KeyValues.{value_at, takes_away}
+use Rattle.mea_once_model.proofs.KeyValues.{value_stays}
+use Rattle.mea_once_model.proofs.KeyValidity.{valid_after, nothing_valid}
+use Rattle.mea_once_model.proofs.TwoKinds.{cell_kinds, table_kinds, tables_stay, cells_stay, by_kind, after_it, polled_kind, ended_kind, of_mine}
 
 -- names stay below the next number
-record Low (h : Cells) (n : ℕ) : Type 0 where
-  lows : IsBelow h.cells n
-  below : AreBelow waiting_at owner (keys h.futures) n
-
 record Lows (h : OnceHall) (n : ℕ) : Type 0 where
-  onces : Low h.onces n
-  values : Low h.values n
+  cells : (k : Kind) → Low (part h k) n
+  tables : (k : TableKind) → LowTables (tables_of h k) n
 
-low_later : (h : Cells) (n i : ℕ) → Low h n → n ≤ i → Low h (i + 1)
-low_later h n i low later = record {
-  lows = record { at = λ k x is. omega (arith, low.lows.at k x is) };
-  below = record { at = λ k x is. (omega (arith, (low.below.at k x is).0), omega (arith, (low.below.at k x is).1)) };
-}
+places : (h : OnceHall) (i w : ℕ) (m : Meaning) (f : Future) → polled_by m f ≡ Some w → (step_by h i m).reply ≡ answers.Pending → placed (step_by h i m).hall f ≡ Some w
+places h i w (OfCells d) (AtCell k f) polls pending =
+    let is = polled_kind cell_kinds d.kind k (polled_in d.action f) w polls in
+    after_it cell_kinds h d.kind k (act_in (part h d.kind) i d.action).hall (λ p. cells.placed p f ≡ Some w) is.0 (cell.cell_places (part h d.kind) i f w d.action is.1 pending)
+places h i w (OfCells d) (ByKey k f) polls pending = absurd (cc)
+places h i w (OfTables d) (AtCell k f) polls pending = absurd (cc)
+places h i w (OfTables d) (ByKey k f) polls pending =
+    let is = polled_kind table_kinds d.kind k (key_polled d.action f) w polls in
+    after_it table_kinds h d.kind k (key_act (is_once d.kind) (tables_of h d.kind) i d.action).hall (λ p. tables.placed p f ≡ Some w) is.0 (table.key_places (is_once d.kind) (tables_of h d.kind) i f w d.action is.1 pending)
 
-low_part : (h : OnceHall) (n : ℕ) (k : Kind) → Lows h n → Low (part h k) n
-low_part h n Onces lows = lows.onces
-low_part h n Values lows = lows.values
+waits_for : (h : OnceHall) (i w v : ℕ) (m : Meaning) (f : Future) → placed h f ≡ Some w → polled_by m f ≡ Some v → (step_by h i m).reply ≡ answers.Pending
+waits_for h i w v (OfCells d) (AtCell k f) is polls =
+    let of_it = polled_kind cell_kinds d.kind k (polled_in d.action f) v polls in
+    cell.cell_waits (part h d.kind) i f w v d.action (subst (λ j. cells.placed (part h j) f ≡ Some w) (sym of_it.0) is) of_it.1
+waits_for h i w v (OfCells d) (ByKey k f) is polls = absurd (cc)
+waits_for h i w v (OfTables d) (AtCell k f) is polls = absurd (cc)
+waits_for h i w v (OfTables d) (ByKey k f) is polls =
+    let of_it = polled_kind table_kinds d.kind k (key_polled d.action f) v polls in
+    table.key_waits (is_once d.kind) (tables_of h d.kind) i f w v d.action (subst (λ j. tables.placed (tables_of h j) f ≡ Some w) (sym of_it.0) is) of_it.1
 
--- ---- what an event does to the cells of its kind
-module _ (h : Cells) (n i : ℕ) (low : Low h n) (later : n ≤ i) (a : Action) (allowed : cause_in h a ≡ None) where
-  low_after : Low (act_in h i a).hall (i + 1)
-  low_after = record {
-    lows = goes_lows waiting_at owner h.cells (keys h.futures) n i low.lows low.below later _ allowed _ _ _ _ _ _ (goes h i a);
-    below = goes_below waiting_at owner h.cells (keys h.futures) n i low.lows low.below later _ allowed _ _ _ _ _ _ (goes h i a);
-  }
+goes_away : (h : OnceHall) (n i : ℕ) (m : Meaning) (f : Future) → Lows h n → n ≤ i → cause_by h m ≡ None → ends_by m f ≡ true → lives (step_by h i m).hall f ≡ false
+goes_away h n i (OfCells d) (AtCell k f) lows later allowed ends =
+    let is = ended_kind cell_kinds d.kind k (ends_in d.action f) ends in
+    after_it cell_kinds h d.kind k (act_in (part h d.kind) i d.action).hall (λ p. is_future p f ≡ false) is.0 (cell.ended_in (part h d.kind) i d.action f is.1)
+goes_away h n i (OfCells d) (ByKey k f) lows later allowed ends = absurd (cc)
+goes_away h n i (OfTables d) (AtCell k f) lows later allowed ends = absurd (cc)
+goes_away h n i (OfTables d) (ByKey k f) lows later allowed ends =
+    let is = ended_kind table_kinds d.kind k (key_ends d.action f) ends in
+    after_it table_kinds h d.kind k (key_act (is_once d.kind) (tables_of h d.kind) i d.action).hall (λ p. tables.is_future p f ≡ false) is.0
+    (table.ended_in (tables_of h d.kind) n i (lows.tables d.kind) later (is_once d.kind) d.action allowed f is.1)
 
-  made_in : (f : ℕ) → is_future (act_in h i a).hall f ≡ true → (is_future h f ≡ true) ⊎ (f ≡ i)
-  made_in f is = elim (goes_made waiting_at owner h.cells (keys h.futures) n i low.lows low.below later _ allowed _ _ _ _ _ _ (goes h i a) f (sym (is_key (act_in h i a).hall f) ∙ is)) [
-    | inl had ↦ inl (is_key h f ∙ had)
-    | inr new ↦ inr new
-  ]
+lives_polled : (h : OnceHall) (w : ℕ) (m : Meaning) (f : Future) → polled_by m f ≡ Some w → cause_by h m ≡ None → lives h f ≡ true
+lives_polled h w (OfCells d) (AtCell k f) polls allowed =
+    let is = polled_kind cell_kinds d.kind k (polled_in d.action f) w polls in
+    subst (λ j. is_future (part h j) f ≡ true) is.0 (cell.lives_if_polled (part h d.kind) d.action f w is.1 allowed)
+lives_polled h w (OfCells d) (ByKey k f) polls allowed = absurd (cc)
+lives_polled h w (OfTables d) (AtCell k f) polls allowed = absurd (cc)
+lives_polled h w (OfTables d) (ByKey k f) polls allowed =
+    let is = polled_kind table_kinds d.kind k (key_polled d.action f) w polls in
+    subst (λ j. tables.is_future (tables_of h j) f ≡ true) is.0 (table.key_lives (tables_of h d.kind) d.action f w is.1 allowed)
 
-  stays_in : (f : ℕ) → is_future h f ≡ true → polled_in a f ≡ None → ends_in a f ≡ false → is_future (act_in h i a).hall f ≡ true
-  stays_in f is quiet lasts = is_key (act_in h i a).hall f
-      ∙ goes_stays waiting_at owner h.cells (keys h.futures) n i low.lows low.below later _ allowed _ _ _ _ _ _ (goes h i a) f (sym (is_key h f) ∙ is) quiet lasts
+-- ---- an event of one kind
+module _ (h : OnceHall) (n i : ℕ) (lows : Lows h n) (later : n ≤ i) where
+  module _ (d : Doing) (allowed : cause_by h (OfCells d) ≡ None) where
+    abbrev cells_after : Outcome cells.Cells
+    cells_after = act_in (part h d.kind) i d.action
 
-  kept_in : (f w : ℕ) → cells.placed h f ≡ Some w → polled_in a f ≡ None → ends_in a f ≡ false → (cells.placed (act_in h i a).hall f ≡ Some w) ⊎ Contains (act_in h i a).wakes w
-  kept_in f w is quiet lasts = elim (goes_kept waiting_at owner h.cells (keys h.futures) n i low.lows low.below later _ allowed _ _ _ _ _ _ (goes h i a) f w (sym (placed_by_key h f) ∙ is) quiet lasts) [
-    | inl kept ↦ inl (placed_by_key (act_in h i a).hall f ∙ kept)
-    | inr woken ↦ inr woken
-  ]
+    cells_lows : Lows (step_by h i (OfCells d)).hall (i + 1)
+    cells_lows = record {
+      cells = by_kind cell_kinds h d.kind cells_after.hall (λ k p. Low p (i + 1)) (cell.low_after (part h d.kind) n i (lows.cells d.kind) later d.action allowed)
+          (λ k other. cell.low_later (part h k) n i (lows.cells k) later);
+      tables = λ k. rw (tables_stay h d.kind k cells_after.hall) (table.low_later (tables_of h k) n i (lows.tables k) later);
+    }
 
-ended_in : (h : Cells) (i : ℕ) (a : Action) (f : ℕ) → ends_in a f ≡ true → is_future (act_in h i a).hall f ≡ false
-ended_in h i a f is = is_key (act_in h i a).hall f ∙ ap is_some ((goes h i a).over f is)
+    cells_kept : (w : ℕ) (f : Future) → placed h f ≡ Some w → polled_by (OfCells d) f ≡ None → ends_by (OfCells d) f ≡ false → (placed (step_by h i (OfCells d)).hall f ≡ Some w) ⊎ Contains cells_after.wakes w
+    cells_kept w (AtCell k f) = by_kind cell_kinds h d.kind cells_after.hall
+        (λ k p. cells.placed (part h k) f ≡ Some w → polled_by (OfCells d) (AtCell k f) ≡ None → ends_by (OfCells d) (AtCell k f) ≡ false → (cells.placed p f ≡ Some w) ⊎ Contains cells_after.wakes w)
+        (λ is quiet lasts. cell.kept_in (part h d.kind) n i (lows.cells d.kind) later d.action allowed f w is (of_mine cell_kinds d.kind _ _ _ quiet) (of_mine cell_kinds d.kind _ _ _ lasts))
+        (λ k other is quiet lasts. inl is) k
+    cells_kept w (ByKey k f) = λ is quiet lasts. rw (tables_stay h d.kind k cells_after.hall) (inl is)
 
-lives_if_polled : (h : Cells) (a : Action) (f w : ℕ) → polled_in a f ≡ Some w → cause_in h a ≡ None → is_future h f ≡ true
-lives_if_polled h a f w is = same_poll a f w (λ a. cause_in h a ≡ None → is_future h f ≡ true) (λ v same none. known (is_future h f) none) is
+    cells_live : (f : Future) → lives h f ≡ true → polled_by (OfCells d) f ≡ None → ends_by (OfCells d) f ≡ false → lives (step_by h i (OfCells d)).hall f ≡ true
+    cells_live (AtCell k f) = by_kind cell_kinds h d.kind cells_after.hall
+        (λ k p. is_future (part h k) f ≡ true → polled_by (OfCells d) (AtCell k f) ≡ None → ends_by (OfCells d) (AtCell k f) ≡ false → is_future p f ≡ true)
+        (λ is quiet lasts. cell.stays_in (part h d.kind) n i (lows.cells d.kind) later d.action allowed f is (of_mine cell_kinds d.kind _ _ _ quiet) (of_mine cell_kinds d.kind _ _ _ lasts))
+        (λ k other is quiet lasts. is) k
+    cells_live (ByKey k f) = λ is quiet lasts. rw (tables_stay h d.kind k cells_after.hall) is
 
--- ---- both kinds
-module _ (h : OnceHall) (i : ℕ) (d : Doing) where
-  abbrev after : OnceHall
-  after = (step_by h i d).hall
+    cells_made : (f : Future) → lives (step_by h i (OfCells d)).hall f ≡ true → (lives h f ≡ true) ⊎ (name f ≡ i)
+    cells_made (AtCell k f) = by_kind cell_kinds h d.kind cells_after.hall (λ k p. is_future p f ≡ true → (is_future (part h k) f ≡ true) ⊎ (f ≡ i))
+        (cell.made_in (part h d.kind) n i (lows.cells d.kind) later d.action allowed f) (λ k other is. inl is) k
+    cells_made (ByKey k f) = λ is. inl (subst (λ p. tables.is_future p f ≡ true) (tables_stay h d.kind k cells_after.hall) is)
 
-  -- the cells of its kind are what the action leaves, and the others are as they were
-  by_kind : (P : Kind → Cells → Type 0) → P d.kind (act_in (part h d.kind) i d.action).hall → ((k : Kind) → is_kind d.kind k ≡ false → P k (part h k)) → (k : Kind) → P k (part after k)
-  by_kind P mine others = at d.kind refl mine others
-    where
-      at : (k : Kind) → d.kind ≡ k → P k (act_in (part h k) i d.action).hall → ((j : Kind) → is_kind k j ≡ false → P j (part h j)) → (j : Kind) → P j (part (with_part h k (act_in (part h k) i d.action).hall) j)
-      at Onces is mine others Onces = mine
-      at Onces is mine others Values = others Values refl
-      at Values is mine others Onces = others Onces refl
-      at Values is mine others Values = mine
+  module _ (d : KeyDoing) (allowed : cause_by h (OfTables d) ≡ None) where
+    abbrev tables_after : Outcome tables.Tables
+    tables_after = key_act (is_once d.kind) (tables_of h d.kind) i d.action
 
-polled_kind : (d : Doing) (k : Kind) (f w : ℕ) → polled_by d k f ≡ Some w → (d.kind ≡ k) × (polled_in d.action f ≡ Some w)
-polled_kind d k f w = at d.kind k
-  where
-    at : (j k : Kind) → (if is_kind j k then polled_in d.action f else None) ≡ Some w → (j ≡ k) × (polled_in d.action f ≡ Some w)
-    at Onces Onces is = (refl, is)
-    at Onces Values is = absurd (cc)
-    at Values Onces is = absurd (cc)
-    at Values Values is = (refl, is)
+    tables_lows : Lows (step_by h i (OfTables d)).hall (i + 1)
+    tables_lows = record {
+      cells = λ k. rw (cells_stay h d.kind k tables_after.hall) (cell.low_later (part h k) n i (lows.cells k) later);
+      tables = by_kind table_kinds h d.kind tables_after.hall (λ k p. LowTables p (i + 1)) (table.low_after (tables_of h d.kind) n i (lows.tables d.kind) later (is_once d.kind) d.action allowed)
+          (λ k other. table.low_later (tables_of h k) n i (lows.tables k) later);
+    }
 
-ended_kind : (d : Doing) (k : Kind) (f : ℕ) → ends_by d k f ≡ true → (d.kind ≡ k) × (ends_in d.action f ≡ true)
-ended_kind d k f = at d.kind k
-  where
-    at : (j k : Kind) → (if is_kind j k then ends_in d.action f else false) ≡ true → (j ≡ k) × (ends_in d.action f ≡ true)
-    at Onces Onces is = (refl, is)
-    at Onces Values is = absurd (cc)
-    at Values Onces is = absurd (cc)
-    at Values Values is = (refl, is)
+    tables_kept : (w : ℕ) (f : Future) → placed h f ≡ Some w → polled_by (OfTables d) f ≡ None → ends_by (OfTables d) f ≡ false → (placed (step_by h i (OfTables d)).hall f ≡ Some w) ⊎ Contains tables_after.wakes w
+    tables_kept w (AtCell k f) = λ is quiet lasts. rw (cells_stay h d.kind k tables_after.hall) (inl is)
+    tables_kept w (ByKey k f) = by_kind table_kinds h d.kind tables_after.hall
+        (λ k p. tables.placed (tables_of h k) f ≡ Some w → polled_by (OfTables d) (ByKey k f) ≡ None → ends_by (OfTables d) (ByKey k f) ≡ false → (tables.placed p f ≡ Some w) ⊎ Contains tables_after.wakes w)
+        (λ is quiet lasts. table.kept_in (tables_of h d.kind) n i (lows.tables d.kind) later (is_once d.kind) d.action allowed f w is (of_mine table_kinds d.kind _ _ _ quiet) (of_mine table_kinds d.kind _ _ _ lasts))
+        (λ k other is quiet lasts. inl is) k
 
--- what is said of a kind that an event is of
-module _ (h : OnceHall) (i : ℕ) (d : Doing) (k : Kind) (of_it : d.kind ≡ k) where
-  after_it : (P : Cells → Type 0) → P (act_in (part h d.kind) i d.action).hall → P (part (step_by h i d).hall k)
-  after_it P mine = subst (λ j. P (part (step_by h i d).hall j)) of_it (at d.kind (act_in (part h d.kind) i d.action).hall mine)
-    where
-      at : (j : Kind) (p : Cells) → P p → P (part (with_part h j p) j)
-      at Onces p mine = mine
-      at Values p mine = mine
+    tables_live : (f : Future) → lives h f ≡ true → polled_by (OfTables d) f ≡ None → ends_by (OfTables d) f ≡ false → lives (step_by h i (OfTables d)).hall f ≡ true
+    tables_live (AtCell k f) = λ is quiet lasts. rw (cells_stay h d.kind k tables_after.hall) is
+    tables_live (ByKey k f) = by_kind table_kinds h d.kind tables_after.hall
+        (λ k p. tables.is_future (tables_of h k) f ≡ true → polled_by (OfTables d) (ByKey k f) ≡ None → ends_by (OfTables d) (ByKey k f) ≡ false → tables.is_future p f ≡ true)
+        (λ is quiet lasts. table.stays_in (tables_of h d.kind) n i (lows.tables d.kind) later (is_once d.kind) d.action allowed f is (of_mine table_kinds d.kind _ _ _ quiet) (of_mine table_kinds d.kind _ _ _ lasts))
+        (λ k other is quiet lasts. is) k
 
-places : (h : OnceHall) (i f w : ℕ) (d : Doing) (k : Kind) → polled_by d k f ≡ Some w → (step_by h i d).reply ≡ answers.Pending → cells.placed (part (step_by h i d).hall k) f ≡ Some w
-places h i f w d k polls pending =
-    let is = polled_kind d k f w polls in
-    after_it h i d k is.0 (λ p. cells.placed p f ≡ Some w)
-    (same_poll d.action f w (λ a. (act_in (part h d.kind) i a).reply ≡ answers.Pending → cells.placed (act_in (part h d.kind) i a).hall f ≡ Some w)
-    (λ v same pending. subst (λ w. cells.placed (act_in (part h d.kind) i (Poll f v)).hall f ≡ Some w) same (places_poll (part h d.kind) i f v pending)) is.1 pending)
+    tables_made : (f : Future) → lives (step_by h i (OfTables d)).hall f ≡ true → (lives h f ≡ true) ⊎ (name f ≡ i)
+    tables_made (AtCell k f) = λ is. inl (subst (λ p. is_future p f ≡ true) (cells_stay h d.kind k tables_after.hall) is)
+    tables_made (ByKey k f) = by_kind table_kinds h d.kind tables_after.hall (λ k p. tables.is_future p f ≡ true → (tables.is_future (tables_of h k) f ≡ true) ⊎ (f ≡ i))
+        (table.made_in (tables_of h d.kind) n i (lows.tables d.kind) later (is_once d.kind) d.action allowed f) (λ k other is. inl is) k
 
-waits_for : (h : OnceHall) (i f w v : ℕ) (d : Doing) (k : Kind) → cells.placed (part h k) f ≡ Some w → polled_by d k f ≡ Some v → (step_by h i d).reply ≡ answers.Pending
-waits_for h i f w v d k is polls =
-    let of_it = polled_kind d k f v polls in
-    same_poll d.action f v (λ a. (act_in (part h d.kind) i a).reply ≡ answers.Pending)
-    (λ u same. waits_poll (part h d.kind) i f w u (subst (λ j. cells.placed (part h j) f ≡ Some w) (sym of_it.0) is)) of_it.1
+  lows_after : (m : Meaning) → cause_by h m ≡ None → Lows (step_by h i m).hall (i + 1)
+  lows_after (OfCells d) allowed = cells_lows d allowed
+  lows_after (OfTables d) allowed = tables_lows d allowed
 
-module _ (h : OnceHall) (n i : ℕ) (lows : Lows h n) (later : n ≤ i) (d : Doing) (allowed : cause_by h d ≡ None) where
-  low : Low (part h d.kind) n
-  low = low_part h n d.kind lows
+  kept : (w : ℕ) (m : Meaning) → cause_by h m ≡ None → (f : Future) → placed h f ≡ Some w → polled_by m f ≡ None → ends_by m f ≡ false → (placed (step_by h i m).hall f ≡ Some w) ⊎ Contains (step_by h i m).wakes w
+  kept w (OfCells d) allowed f = cells_kept d allowed w f
+  kept w (OfTables d) allowed f = tables_kept d allowed w f
 
-  lows_after : Lows (step_by h i d).hall (i + 1)
-  lows_after = record { onces = each Onces; values = each Values }
-    where
-      each : (k : Kind) → Low (part (step_by h i d).hall k) (i + 1)
-      each = by_kind h i d (λ k p. Low p (i + 1)) (low_after (part h d.kind) n i low later d.action allowed) (λ k other. low_later (part h k) n i (low_part h n k lows) later)
+  stays : (m : Meaning) → cause_by h m ≡ None → (f : Future) → lives h f ≡ true → polled_by m f ≡ None → ends_by m f ≡ false → lives (step_by h i m).hall f ≡ true
+  stays (OfCells d) allowed f = cells_live d allowed f
+  stays (OfTables d) allowed f = tables_live d allowed f
 
-  kept : (f w : ℕ) (k : Kind) → cells.placed (part h k) f ≡ Some w → polled_by d k f ≡ None → ends_by d k f ≡ false → (cells.placed (part (step_by h i d).hall k) f ≡ Some w) ⊎ Contains (step_by h i d).wakes w
-  kept f w = by_kind h i d (λ k p. cells.placed (part h k) f ≡ Some w → polled_by d k f ≡ None → ends_by d k f ≡ false → (cells.placed p f ≡ Some w) ⊎ Contains (step_by h i d).wakes w)
-      (λ is quiet lasts. kept_in (part h d.kind) n i low later d.action allowed f w is (mine_polled quiet) (mine_ends lasts))
-      (λ k other is quiet lasts. inl is)
-    where
-      mine : (k : Kind) → is_kind k k ≡ true
-      mine Onces = refl
-      mine Values = refl
-
-      mine_polled : polled_by d d.kind f ≡ None → polled_in d.action f ≡ None
-      mine_polled quiet = sym (ap (λ b. if b then polled_in d.action f else None) (mine d.kind)) ∙ quiet
-
-      mine_ends : ends_by d d.kind f ≡ false → ends_in d.action f ≡ false
-      mine_ends lasts = sym (ap (λ b. if b then ends_in d.action f else false) (mine d.kind)) ∙ lasts
-
-  stays : (f : ℕ) (k : Kind) → is_future (part h k) f ≡ true → polled_by d k f ≡ None → ends_by d k f ≡ false → is_future (part (step_by h i d).hall k) f ≡ true
-  stays f = by_kind h i d (λ k p. is_future (part h k) f ≡ true → polled_by d k f ≡ None → ends_by d k f ≡ false → is_future p f ≡ true)
-      (λ is quiet lasts. stays_in (part h d.kind) n i low later d.action allowed f is (mine_polled quiet) (mine_ends lasts))
-      (λ k other is quiet lasts. is)
-    where
-      mine : (k : Kind) → is_kind k k ≡ true
-      mine Onces = refl
-      mine Values = refl
-
-      mine_polled : polled_by d d.kind f ≡ None → polled_in d.action f ≡ None
-      mine_polled quiet = sym (ap (λ b. if b then polled_in d.action f else None) (mine d.kind)) ∙ quiet
-
-      mine_ends : ends_by d d.kind f ≡ false → ends_in d.action f ≡ false
-      mine_ends lasts = sym (ap (λ b. if b then ends_in d.action f else false) (mine d.kind)) ∙ lasts
-
-  made : (f : ℕ) (k : Kind) → is_future (part (step_by h i d).hall k) f ≡ true → (is_future (part h k) f ≡ true) ⊎ (f ≡ i)
-  made f = by_kind h i d (λ k p. is_future p f ≡ true → (is_future (part h k) f ≡ true) ⊎ (f ≡ i)) (made_in (part h d.kind) n i low later d.action allowed f) (λ k other is. inl is)
-
-goes_away : (h : OnceHall) (i f : ℕ) (d : Doing) (k : Kind) → ends_by d k f ≡ true → is_future (part (step_by h i d).hall k) f ≡ false
-goes_away h i f d k ends = let is = ended_kind d k f ends in after_it h i d k is.0 (λ p. is_future p f ≡ false) (ended_in (part h d.kind) i d.action f is.1)
-
-lives_polled : (h : OnceHall) (f w : ℕ) (d : Doing) (k : Kind) → polled_by d k f ≡ Some w → cause_by h d ≡ None → is_future (part h k) f ≡ true
-lives_polled h f w d k polls allowed = let is = polled_kind d k f w polls in subst (λ j. is_future (part h j) f ≡ true) is.0 (lives_if_polled (part h d.kind) d.action f w is.1 allowed)
+  made : (m : Meaning) → cause_by h m ≡ None → (f : Future) → lives (step_by h i m).hall f ≡ true → (lives h f ≡ true) ⊎ (name f ≡ i)
+  made (OfCells d) allowed f = cells_made d allowed f
+  made (OfTables d) allowed f = tables_made d allowed f
 
 -- ---- the laws
-nothing_low : Low cells.no_cells 0
-nothing_low = record { lows = record { at = λ k x is. absurd (nothing_at Cell k x is) }; below = record { at = λ k o is. let had = seen-back at_cell cells.no_cells.futures k o is in absurd (nothing_at CellFuture k had.0 had.1) } }
+nothing_low : Lows onces_family.empty 0
+nothing_low = record { cells = no_cell; tables = no_table }
+  where
+    no_cell : (k : Kind) → Low (part onces_family.empty k) 0
+    no_cell Onces = cell.nothing_low
+    no_cell Values = cell.nothing_low
+
+    no_table : (k : TableKind) → LowTables (tables_of onces_family.empty k) 0
+    no_table Maps = table.no_low
+    no_table Groups = table.no_low
 
 lows_of : (r : RunOf onces_family) → Runs onces_family r → Lows r.hall r.next
-lows_of _ Starts = record { onces = nothing_low; values = nothing_low }
-lows_of _ (Goes r i e runs later cause) = lows_after r.hall r.next i (lows_of r runs) later (doing e) cause
+lows_of _ Starts = nothing_low
+lows_of _ (Goes r i e runs later cause) = lows_after r.hall r.next i (lows_of r runs) later (meaning_of e) cause
 
-below : (h : OnceHall) (n : ℕ) → Lows h n → (f : ℕ) (k : Kind) → is_future (part h k) f ≡ true → f < n
-below h n lows f k is =
+below : (h : OnceHall) (n : ℕ) → Lows h n → (f : Future) → lives h f ≡ true → name f < n
+below h n lows (AtCell k f) is =
     let there = value_in (get (part h k).futures f) is in
-    ((low_part h n k lows).below.at f there.0.cell (seen-at at_cell (part h k).futures f there.0 there.1)).0
+    ((lows.cells k).below.at f there.0.cell (seen-at at_cell (part h k).futures f there.0 there.1)).0
+below h n lows (ByKey k f) is = let there = value_in (get (tables_of h k).futures f) is in ((lows.tables k).below f there.0 there.1).0
 
 pub keeps : KeepsWakers onces_family
 keeps = record {
-  places = λ r i e runs later cause f w polls pending. places r.hall i f.name w (doing e) f.kind polls pending;
-  waits = λ r i e runs f w v lives is polls. waits_for r.hall i f.name w v (doing e) f.kind is polls;
-  wakes = λ r i e runs later cause f w lives is quiet lasts. kept r.hall r.next i (lows_of r runs) later (doing e) cause f.name w f.kind is quiet lasts;
-  stays = λ r i e runs later cause f lives quiet lasts. stays r.hall r.next i (lows_of r runs) later (doing e) cause f.name f.kind lives quiet lasts;
-  goes = λ r i e runs later cause f ended. goes_away r.hall i f.name (doing e) f.kind ended;
+  places = λ r i e runs later cause f w polls pending. places r.hall i w (meaning_of e) f polls pending;
+  waits = λ r i e runs f w v lives is polls. waits_for r.hall i w v (meaning_of e) f is polls;
+  wakes = λ r i e runs later cause f w lives is quiet lasts. kept r.hall r.next i (lows_of r runs) later w (meaning_of e) cause f is quiet lasts;
+  stays = λ r i e runs later cause f lives quiet lasts. stays r.hall r.next i (lows_of r runs) later (meaning_of e) cause f lives quiet lasts;
+  goes = λ r i e runs later cause f ended. goes_away r.hall r.next i (meaning_of e) f (lows_of r runs) later cause ended;
 }
 
 names : NamesFutures onces_family
 names = record {
-  polls = λ h e cause f w polls. lives_polled h f.name w (doing e) f.kind polls cause;
-  below = λ r runs f lives. below r.hall r.next (lows_of r runs) f.name f.kind lives;
-  made = λ r i e runs later cause f lives. made r.hall r.next i (lows_of r runs) later (doing e) cause f.name f.kind lives;
+  polls = λ h e cause f w polls. lives_polled h w (meaning_of e) f polls cause;
+  below = λ r runs f lives. below r.hall r.next (lows_of r runs) f lives;
+  made = λ r i e runs later cause f lives. made r.hall r.next i (lows_of r runs) later (meaning_of e) cause f lives;
 }
 
 pub no_wake_is_lost : (r : RunOf onces_family) → Runs onces_family r → LosesNoWake onces_family r
@@ -365,18 +202,43 @@ pub record Counts (h : OnceHall) (o : Outcome OnceHall) (extra : ℕ) : Type 0 w
   pub most : length o.wakes ≤ registered h
   pub grows : registered o.hall + length o.wakes ≤ registered h + extra
 
-counts : (h : OnceHall) (i : ℕ) (k : Kind) (a : Action) → Counts h (step_by h i (record { kind = k; action = a })) (cond (registers_in a) 1 0)
-counts h i Onces a = let c = goes_counted waiting_at owner h.onces.cells (keys h.onces.futures) _ _ _ i _ _ _ _ (goes h.onces i a) in record { most = omega (arith, c.most); grows = omega (arith, c.grows) }
-counts h i Values a = let c = goes_counted waiting_at owner h.values.cells (keys h.values.futures) _ _ _ i _ _ _ _ (goes h.values i a) in record { most = omega (arith, c.most); grows = omega (arith, c.grows) }
+counts_cells : (h : OnceHall) (i : ℕ) (k : Kind) (a : Action) → Counts h (step_by h i (OfCells (record { kind = k; action = a }))) (cond (registers_in a) 1 0)
+counts_cells h i Onces a = let c = goes_counted waiting_at owner h.onces.cells (keys h.onces.futures) _ _ _ i _ _ _ _ (goes h.onces i a) in record { most = omega (arith, c.most); grows = omega (arith, c.grows) }
+counts_cells h i Values a = let c = goes_counted waiting_at owner h.values.cells (keys h.values.futures) _ _ _ i _ _ _ _ (goes h.values i a) in record { most = omega (arith, c.most); grows = omega (arith, c.grows) }
+
+counts_tables : (h : OnceHall) (i : ℕ) (k : TableKind) (a : KeyAction) → Counts h (step_by h i (OfTables (record { kind = k; action = a }))) (cond (key_registers a) 1 0)
+counts_tables h i Maps a = let c = table_acting.counted false h.maps i a in record { most = omega (arith, c.most); grows = omega (arith, c.grows) }
+counts_tables h i Groups a = let c = table_acting.counted true h.groups i a in record { most = omega (arith, c.most); grows = omega (arith, c.grows) }
+
+counts : (h : OnceHall) (i : ℕ) (m : Meaning) → Counts h (step_by h i m) (cond (registers_by m) 1 0)
+counts h i (OfCells d) = counts_cells h i d.kind d.action
+counts h i (OfTables d) = counts_tables h i d.kind d.action
 
 pub counted : (h : OnceHall) (i : ℕ) (e : OnceEvent) → Counts h (step h i e) (cond (registers e) 1 0)
-counted h i e = counts h i (doing e).kind (doing e).action
+counted h i e = counts h i (meaning_of e)
 
 pub extra-least : (b : Bool) → cond b 1 0 ≤ 1
 extra-least true = omega arith
 extra-least false = omega arith
 
--- ---- who settles
-pub settles : (h : Cells) (i f : ℕ) (r : Initialiser) (x : CellFuture) (c : Cell) → get h.futures f ≡ Some x → get h.cells x.cell ≡ Some c → (act_in h i (Settle f r)).wakes ≡ (cells.settle f r x c).wakes
-settles h i f r x c future there = ap (λ (o : Outcome Cells). o.wakes)
-    (found_is (get h.futures f) h (λ x. found (get h.cells x.cell) h (λ c. cells.applied h f x.cell (cells.settle f r x c))) x future ∙ found_is (get h.cells x.cell) h (λ c. cells.applied h f x.cell (cells.settle f r x c)) c there)
+-- where nothing is there, none is registered
+pub none_registered : registered empty_hall ≡ 0
+none_registered = omega (arith, total-empty (λ o (c : Cell). length (waiting_at c)), total-empty (λ o (t : Table). named_queue.registered waiting_at t.rounds))
+
+-- ---- maps and groups that events reach are valid
+nothing_is_valid : (k : TableKind) → AreValid (tables_of onces_family.empty k)
+nothing_is_valid Maps = nothing_valid
+nothing_is_valid Groups = nothing_valid
+
+stays_valid : (h : OnceHall) (n i : ℕ) → Lows h n → n ≤ i → ((k : TableKind) → AreValid (tables_of h k)) → (m : Meaning) → cause_by h m ≡ None → (k : TableKind) → AreValid (tables_of (step_by h i m).hall k)
+stays_valid h n i lows later valid (OfCells d) allowed k = rw (tables_stay h d.kind k (act_in (part h d.kind) i d.action).hall) (valid k)
+stays_valid h n i lows later valid (OfTables d) allowed k = by_kind table_kinds h d.kind (key_act (is_once d.kind) (tables_of h d.kind) i d.action).hall (λ k p. AreValid p)
+    (valid_after (is_once d.kind) (tables_of h d.kind) n i (lows.tables d.kind) later (valid d.kind) d.action allowed) (λ k other. valid k) k
+
+pub valid_of : (r : RunOf onces_family) → Runs onces_family r → (k : TableKind) → AreValid (tables_of r.hall k)
+valid_of _ Starts k = nothing_is_valid k
+valid_of _ (Goes r i e runs later cause) k = stays_valid r.hall r.next i (lows_of r runs) later (λ k. valid_of r runs k) (meaning_of e) cause k
+
+pub values_stay : (r : RunOf onces_family) → Runs onces_family r → (i : ℕ) → r.next ≤ i → (kind : TableKind) (a : KeyAction) (o k v : ℕ) → value_at (tables_of r.hall kind) o k ≡ Some v → takes_away a o k ≡ false
+    → value_at (key_act (is_once kind) (tables_of r.hall kind) i a).hall o k ≡ Some v
+values_stay r runs i later kind a o k v had lasts = value_stays (is_once kind) (tables_of r.hall kind) r.next i ((lows_of r runs).tables kind) later (valid_of r runs kind) o k v had a lasts

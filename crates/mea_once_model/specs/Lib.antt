@@ -1,5 +1,9 @@
 pub mod Cells
 pub mod Actions
+pub mod Tables
+pub mod KeyActions
+pub mod KeyValid
+pub mod KeyValues
 pub mod OnceHall
 pub mod Meaning
 pub mod OnceFamily

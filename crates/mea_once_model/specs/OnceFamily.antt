@@ -5,39 +5,70 @@ use Rattle.mea_once_model.specs.declared.event.OnceEvent.{OnceEvent}
 use Rattle.mea_once_model.specs.Cells as cells
 use Rattle.mea_once_model.specs.Cells.{is_future}
 use Rattle.mea_once_model.specs.Actions.{polled_in, ends_in}
-use Rattle.mea_once_model.specs.OnceHall.{OnceHall, Kind, Onces, Values, empty_hall, part}
-use Rattle.mea_once_model.specs.Meaning.{Doing, doing, cause_of, step}
+use Rattle.mea_once_model.specs.Tables as tables
+use Rattle.mea_once_model.specs.KeyActions.{key_polled, key_ends}
+use Rattle.mea_once_model.specs.OnceHall.{OnceHall, Kind, Onces, Values, TableKind, Maps, Groups, empty_hall, part, tables_of}
+use Rattle.mea_once_model.specs.Meaning.{Meaning, OfCells, OfTables, meaning_of, cause_of, step}
 
--- a future, by the kind of its cell and its name
-pub record Future : Type 0 where
-  pub kind : Kind
-  pub name : ℕ
+-- a future, by the kind of its cell, map or group, and its name
+pub data Future : Type 0 where
+  AtCell : Kind → ℕ → Future
+  ByKey : TableKind → ℕ → Future
 
 abbrev pub is_kind : Kind → Kind → Bool
 is_kind Onces Onces = true
 is_kind Values Values = true
 is_kind _ _ = false
 
-abbrev pub polled_by : Doing → Kind → ℕ → Option ℕ
-polled_by d k f = if is_kind d.kind k then polled_in d.action f else None
+abbrev pub is_table_kind : TableKind → TableKind → Bool
+is_table_kind Maps Maps = true
+is_table_kind Groups Groups = true
+is_table_kind _ _ = false
+
+abbrev pub cell_polled : Meaning → Kind → ℕ → Option ℕ
+cell_polled (OfCells d) k f = if is_kind d.kind k then polled_in d.action f else None
+cell_polled (OfTables d) k f = None
+
+abbrev pub table_polled : Meaning → TableKind → ℕ → Option ℕ
+table_polled (OfCells d) k f = None
+table_polled (OfTables d) k f = if is_table_kind d.kind k then key_polled d.action f else None
+
+abbrev pub polled_by : Meaning → Future → Option ℕ
+polled_by m (AtCell k f) = cell_polled m k f
+polled_by m (ByKey k f) = table_polled m k f
 
 -- the waker with which an event polls a future, if it does
 abbrev pub polled : OnceEvent → Future → Option ℕ
-polled e f = polled_by (doing e) f.kind f.name
+polled e f = polled_by (meaning_of e) f
 
-abbrev pub ends_by : Doing → Kind → ℕ → Bool
-ends_by d k f = if is_kind d.kind k then ends_in d.action f else false
+abbrev pub cell_ended : Meaning → Kind → ℕ → Bool
+cell_ended (OfCells d) k f = if is_kind d.kind k then ends_in d.action f else false
+cell_ended (OfTables d) k f = false
+
+abbrev pub table_ended : Meaning → TableKind → ℕ → Bool
+table_ended (OfCells d) k f = false
+table_ended (OfTables d) k f = if is_table_kind d.kind k then key_ends d.action f else false
+
+abbrev pub ends_by : Meaning → Future → Bool
+ends_by m (AtCell k f) = cell_ended m k f
+ends_by m (ByKey k f) = table_ended m k f
 
 -- whether an event ends a future
 abbrev pub ends : OnceEvent → Future → Bool
-ends e f = ends_by (doing e) f.kind f.name
+ends e f = ends_by (meaning_of e) f
+
+abbrev pub name : Future → ℕ
+name (AtCell k f) = f
+name (ByKey k f) = f
 
 abbrev pub lives : OnceHall → Future → Bool
-lives h f = is_future (part h f.kind) f.name
+lives h (AtCell k f) = is_future (part h k) f
+lives h (ByKey k f) = tables.is_future (tables_of h k) f
 
 -- the waker that is kept for a future
 abbrev pub placed : OnceHall → Future → Option ℕ
-placed h f = cells.placed (part h f.kind) f.name
+placed h (AtCell k f) = cells.placed (part h k) f
+placed h (ByKey k f) = tables.placed (tables_of h k) f
 
 abbrev pub onces_family : Family
-onces_family = record { Hall = OnceHall; Event = OnceEvent; Future = Future; empty = empty_hall; cause = cause_of; step = step; polled = polled; ends = ends; name = λ f. f.name; lives = lives; placed = placed }
+onces_family = record { Hall = OnceHall; Event = OnceEvent; Future = Future; empty = empty_hall; cause = cause_of; step = step; polled = polled; ends = ends; name = name; lives = lives; placed = placed }

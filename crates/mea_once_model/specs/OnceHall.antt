@@ -1,20 +1,29 @@
--- the calls that run once, and the cells
-use Rattle.std.specs.Prelude.{ℕ, ◌+◌, refl}
+-- the calls that run once, the cells, the maps and the groups
+use Rattle.std.specs.Prelude.{ℕ, ◌+◌, Bool, true, false, refl}
 use Rattle.std.specs.Coded.{Coded, code_by, coded×}
 use Rattle.mea_once_model.specs.Cells as cells
 use Rattle.mea_once_model.specs.Cells.{Cells, no_cells, cells_code}
+use Rattle.mea_once_model.specs.Tables as tables
+use Rattle.mea_once_model.specs.Tables.{Tables, no_tables, tables_code}
 
 -- calls that run once, and cells with a value
 pub data Kind : Type 0 where
   Onces : Kind
   Values : Kind
 
+-- maps, whose values stay, and groups, in which a value is for its round alone
+pub data TableKind : Type 0 where
+  Maps : TableKind
+  Groups : TableKind
+
 pub record OnceHall : Type 0 where
   pub onces : Cells
   pub values : Cells
+  pub maps : Tables
+  pub groups : Tables
 
 abbrev pub empty_hall : OnceHall
-empty_hall = record { onces = no_cells; values = no_cells }
+empty_hall = record { onces = no_cells; values = no_cells; maps = no_tables; groups = no_tables }
 
 -- the cells of a kind
 abbrev pub part : OnceHall → Kind → Cells
@@ -26,9 +35,24 @@ abbrev pub with_part : OnceHall → Kind → Cells → OnceHall
 with_part h Onces p = record h { onces = p }
 with_part h Values p = record h { values = p }
 
+-- the maps, or the groups
+abbrev pub tables_of : OnceHall → TableKind → Tables
+tables_of h Maps = h.maps
+tables_of h Groups = h.groups
+
+abbrev pub with_tables : OnceHall → TableKind → Tables → OnceHall
+with_tables h Maps p = record h { maps = p }
+with_tables h Groups p = record h { groups = p }
+
+abbrev pub is_once : TableKind → Bool
+is_once Maps = false
+is_once Groups = true
+
 -- how many wakers are registered
 abbrev pub registered : OnceHall → ℕ
-registered h = cells.registered h.onces + cells.registered h.values
+registered h = cells.registered h.onces + cells.registered h.values + (tables.registered h.maps + tables.registered h.groups)
 
 abbrev pub hall_code : Coded OnceHall
-hall_code = code_by (Cells × Cells) (coded× cells_code cells_code) (λ h. (h.onces, h.values)) (λ p. record { onces = p.0; values = p.1 }) (λ _. refl)
+hall_code =
+    code_by (Cells × (Cells × (Tables × Tables))) (coded× cells_code (coded× cells_code (coded× tables_code tables_code)))
+    (λ h. (h.onces, (h.values, (h.maps, h.groups)))) (λ p. record { onces = p.0; values = p.1.0; maps = p.1.1.0; groups = p.1.1.1 }) (λ _. refl)
