@@ -1,6 +1,22 @@
 mod Turns
+mod Permits
 mod OneCell
 mod Steps
 mod Others
 mod PartEvents
+mod KeyCells
+mod KeySteps
+mod KeyTables
+mod KeyStarts
+mod KeyGoings
+mod KeyEvents
+mod KeyResults
+mod KeyPolls
+mod KeyCalls
+mod KeyOthers
+mod KeyEnds
+mod KeyWays
+mod KeyDiscards
+mod KeyAnswers
+mod TableEvents
 pub mod Playing

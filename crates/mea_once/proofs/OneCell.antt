@@ -23,14 +23,14 @@ use Rattle.mea_linked.specs.Linked.{names_in, Linked, AreOf}
 use Rattle.mea_linked.specs.SetLinked.{SlotIs, IsAbsent, names_of}
 use Rattle.mea_linked.proofs.Linking.{IsUnqueued, linked_begun}
 use Rattle.mea_linked.proofs.Pours.{linked_poured}
-use Rattle.mea_once_core.specs.Permit.{IsPermit, MayPoll, MayEnd, HoldsAs, held_at, passed_to}
+use Rattle.mea_once_core.specs.Permit.{MayPoll, MayEnd, HoldsAs, held_at, passed_to}
 use Rattle.mea_once_core.specs.declared.stage.Stage.{Stage}
 use Rattle.mea_once_core.specs.declared.stage.Stage.TheVariants.{New, Queued, Running, Done}
 use Rattle.mea_once_core.proofs.Permits.{waits_behind, first_granted}
 use Rattle.mea_once_model.specs.Cells as model
 use Rattle.mea_once_model.specs.Cells.{Cell, is_alone, passed, woken_next}
 use Rattle.mea_once.specs.declared.future_entry.FutureEntry.{FutureEntry}
-use Rattle.mea_once.specs.Cores.{NamedCell}
+use Rattle.mea_once.specs.Cores.{NamedCell, IsOnePermit}
 use Rattle.mea_once.specs.Entries.{KeptCell, begun, finished, stopped, runs}
 use Rattle.mea_once.specs.Parts.{runner_of, is_caller, fits, acquire_at, acquire_of, runs_at, is_running, StageFits, IsFuture, MayRun, Tied, AreKept, IsNewCell}
 
@@ -272,18 +272,18 @@ module _ (once : Bool) (e : KeptCell) (fs : Names FutureEntry) (tied : Tied once
           absurd (both_run k (λ same. absurd (let yes : runs e.running f ≡ true = ap (λ r. runs r f) is ∙ eq-eqb k.future f same in cc)) it.0 it.1 (is_alone x.job) (is_alone it.0.job) refl refl may it.2)
 
 -- ---- what is granted does not wait
-pub not_waiting : (s : Core NamedWaker) → IsPermit s → (n d : ℕ) → get s.granted n ≡ Some d → waiting s.queue n ≡ None
+pub not_waiting : (s : Core NamedWaker) → IsOnePermit s → (n d : ℕ) → get s.granted n ≡ Some d → waiting s.queue n ≡ None
 not_waiting s is n d granted = at (waiting s.queue n) refl
   where
     at : (o : Option (ℕ × ℕ)) → waiting s.queue n ≡ o → waiting s.queue n ≡ None
     at None none = none
-    at (Some p) some = absurd (let none = is.sound.granted_apart n (λ none. absurd (cc)) in cc)
+    at (Some p) some = absurd (let none = is.granted_apart n (λ none. absurd (cc)) in cc)
 
-pub not_granted : (s : Core NamedWaker) → IsPermit s → (n : ℕ) (p : ℕ × ℕ) → waiting s.queue n ≡ Some p → get s.granted n ≡ None
-not_granted s is n p waits = is.sound.granted_apart n (λ none. absurd (cc))
+pub not_granted : (s : Core NamedWaker) → IsOnePermit s → (n : ℕ) (p : ℕ × ℕ) → waiting s.queue n ≡ Some p → get s.granted n ≡ None
+not_granted s is n p waits = is.granted_apart n (λ none. absurd (cc))
 
-pub held_few : (s : Core NamedWaker) → IsPermit s → held_of s ≤ 1
-held_few s is = omega (arith, is.sound.total, is.one)
+pub held_few : (s : Core NamedWaker) → IsOnePermit s → held_of s ≤ 1
+held_few s is = omega (arith, is.total, is.one)
 
 -- ---- a future is made
 pub begins : (once : Bool) (e : KeptCell) (fs : Names FutureEntry) (f : ℕ) (x : FutureEntry) → Tied once e fs → get fs f ≡ None → fits once x.job ≡ true → x.stage ≡ New → x.wait ≡ None → IsAbsent e.cell.waits.wakers f
@@ -333,11 +333,11 @@ entries_empty = at (entries (empty {X = ℕ} {R = nat_cmp})) (sym (len-entries (
     at [] is = refl
     at (x ∷ es) is = absurd (omega arith)
 
-pub free_where : (s : Core NamedWaker) → IsPermit s → s.queue ≡ [] → s.granted ≡ empty → held_of s ≡ 0 → s.free ≡ 1
+pub free_where : (s : Core NamedWaker) → IsOnePermit s → s.queue ≡ [] → s.granted ≡ empty → held_of s ≡ 0 → s.free ≡ 1
 free_where s is no_queue no_granted none_held =
     let queued : sum_by {X = Waiter NamedWaker × ℕ} (λ e. paid_to e.0 e.1) s.queue ≡ 0 = ap (sum_by {X = Waiter NamedWaker × ℕ} (λ e. paid_to e.0 e.1)) no_queue in
     let paid : sum_by (λ d. d) (values s.granted) ≡ 0 = ap (λ m. sum_by (λ d. d) (values m)) no_granted ∙ ap (λ es. sum_by (λ d. d) (map (λ (e : ℕ × ℕ). e.1) es)) entries_empty in
-    omega (arith, is.sound.total, is.one, none_held, queued, paid)
+    omega (arith, is.total, is.one, none_held, queued, paid)
 
 module _ (once : Bool) (e : KeptCell) (fs : Names FutureEntry) (kept : AreKept once e fs) (none : e.futures ≡ 0) where
   no_future : (f : ℕ) (x : FutureEntry) → get fs f ≡ Some x → ⊥
@@ -356,7 +356,7 @@ module _ (once : Bool) (e : KeptCell) (fs : Names FutureEntry) (kept : AreKept o
   acquires_none : (f : ℕ) (a : Acquire) → get (seen acquire_of fs) f ≡ Some a → ⊥
   acquires_none f a is = let one = seen-back acquire_of fs f a is in no_future f one.0 one.1
 
-  no_queue : e.cell.permit.queue ≡ []
+  pub no_queue : e.cell.permit.queue ≡ []
   no_queue = at e.cell.permit.queue refl kept.sound.permit.asks kept.tied.linked.waits
     where
       at : (q : Queue) → e.cell.permit.queue ≡ q → AskForOne q → AreOf (seen acquire_of fs) q → e.cell.permit.queue ≡ []

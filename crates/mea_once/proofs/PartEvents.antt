@@ -55,7 +55,7 @@ length-runner : (r : Option NamedWaker) → length (runner_of r) ≡ of_running 
 length-runner None = refl
 length-runner (Some k) = refl
 
-keeps_seen : (e : KeptCell) → length (waiting_at (cell_seen e)) ≡ keeps e
+pub keeps_seen : (e : KeptCell) → length (waiting_at (cell_seen e)) ≡ keeps e
 keeps_seen e = omega (
   arith,
   length-append (who (names_in e.cell.permit.queue)) (runner_of e.running ++ set_names e.cell.waits),

@@ -1,19 +1,25 @@
--- what is said of the cells of one kind, and of all
-use Rattle.std.proofs.Common.{◌≡◌, ℕ, ◌+◌, ◌≤◌, ◌++◌, length, ap, sym, ◌∙◌, arith, append-nil}
+-- what is said of the things of one kind, and of all
+use Rattle.std.proofs.Common.{◌≡◌, ◌⊎◌, inl, inr, ℕ, ◌+◌, ◌≤◌, ◌++◌, length, true, false, Result, Ok, Err, IfOk, refl, ap, sym, subst, ◌∙◌, arith, append-nil}
 use Rattle.mea_base.specs.declared.answer.Answer.{Answer}
+use Rattle.mea_base.specs.declared.no_memory.NoMemory.{NoMemory}
 use Rattle.mea_base.specs.Family.{Outcome}
 use Rattle.mea_base.specs.Ready.{Waking}
-use Rattle.mea_base.proofs.Totals.{total-empty}
 use Rattle.mea_named.specs.Play.{Part, PartYields, PartRests, Yields}
 use Rattle.mea_once_model.specs.declared.event.OnceEvent.{OnceEvent}
-use Rattle.mea_once_model.specs.Cells.{Cell, Cells, registered, waiting_at}
+use Rattle.mea_once_model.specs.declared.event.OnceEvent.TheVariants.{OmNew, OmGet, OmCompute, OmPoll, OmSettle, OmFail, OmDiscard, OmRemove, OmEnd, OmDrop, SfNew, SfWork, SfPoll, SfSettle, SfFail, SfForget, SfEnd, SfDrop}
+use Rattle.mea_once_model.specs.declared.job.Initialiser.TheVariants.{Gives, Fails}
+use Rattle.mea_once_model.specs.Cells as cells
+use Rattle.mea_once_model.specs.Cells.{Cells}
+use Rattle.mea_once_model.specs.Tables as tables
+use Rattle.mea_once_model.specs.Tables.{Tables}
 use Rattle.mea_once_model.specs.Actions.{Action, act_in}
-use Rattle.mea_once_model.specs.OnceHall.{OnceHall, Kind, Onces, Values, empty_hall, registered as all_registered}
-use Rattle.mea_once_model.specs.Meaning.{doing, step, step_by}
-use Rattle.mea_once.specs.Halls.{hall_of, PlaysAt, PlaysKinds}
+use Rattle.mea_once_model.specs.KeyActions.{KeyAction, MakeTable, BeginKey, PollKey, SettleKey, EndKey, TellKey, DiscardKey, RemoveKey, DropTable, key_act}
+use Rattle.mea_once_model.specs.OnceHall.{OnceHall, Kind, Onces, Values, TableKind, Maps, Groups, registered}
+use Rattle.mea_once_model.specs.Meaning.{Meaning, OfCells, OfTables, on_maps, on_groups, meaning_of, step, step_by}
+use Rattle.mea_once.specs.Halls.{Parts, parts, hall_of, AreBelow, PlaysCells, PlaysTables, PlaysBy, PlaysKinds}
 
 -- where no waker was made ready, those that are ready are as they were
-pub yield_rests : (old : Part Cells) (i : ℕ) (o : Outcome Cells) (answer : Answer) (new : Part Cells) (w : Waking ℕ) → PartRests registered old i o answer new → PartYields registered old i o answer new w w
+pub yield_rests : (old : Part Cells) (i : ℕ) (o : Outcome Cells) (answer : Answer) (new : Part Cells) (w : Waking ℕ) → PartRests cells.registered old i o answer new → PartYields cells.registered old i o answer new w w
 yield_rests old i o answer new w rests = record {
   replied = rests.replied;
   moved = rests.moved;
@@ -21,52 +27,167 @@ yield_rests old i o answer new w rests = record {
   counted = omega (arith, rests.counted);
 }
 
--- what holds of the cells of both kinds between events
-pub record Holds (o v : Part Cells) (ready : Waking ℕ) (next : ℕ) : Type 0 where
-  pub onces : o.next ≤ next
-  pub values : v.next ≤ next
-  pub counted : ready.registered ≡ all_registered (hall_of o v)
+-- what holds of the things of all kinds between events
+pub record Holds (p : Parts) (ready : Waking ℕ) (next : ℕ) : Type 0 where
+  pub below : AreBelow p next
+  pub counted : ready.registered ≡ registered (hall_of p)
   pub few : ready.registered ≤ next
 
-pub none_registered : all_registered empty_hall ≡ 0
-none_registered = omega (arith, total-empty (λ o (c : Cell). length (waiting_at c)))
+module _ (p p' : Parts) (before after : Waking ℕ) (next i : ℕ) (answer : Answer) where
+  module _ (held : Holds p before next) (later : next ≤ i) where
+    cells_held : (k : Kind) (a : Action) → PlaysCells p k i a answer p' before after
+        → registered (step_by (hall_of p) i (OfCells (record { kind = k; action = a }))).hall + length (step_by (hall_of p) i (OfCells (record { kind = k; action = a }))).wakes ≤ registered (hall_of p) + 1 → Holds p' after (i + 1)
+    cells_held Onces a one few =
+        let hall : cells.registered one.part.hall ≡ cells.registered (act_in p.onces.hall i a).hall = ap (λ (q : Part Cells). cells.registered q.hall) one.yields.moved in
+        let next_is : one.part.next ≡ i + 1 = ap (λ (q : Part Cells). q.next) one.yields.moved in
+        subst (λ q. Holds q after (i + 1)) (sym one.is) (record {
+          below = record { onces = omega (arith, next_is); values = omega (arith, held.below.values, later); maps = omega (arith, held.below.maps, later); groups = omega (arith, held.below.groups, later) };
+          counted = omega (arith, hall, one.yields.counted, held.counted);
+          few = omega (arith, hall, one.yields.counted, held.counted, held.few, few, later);
+        })
+    cells_held Values a one few =
+        let hall : cells.registered one.part.hall ≡ cells.registered (act_in p.values.hall i a).hall = ap (λ (q : Part Cells). cells.registered q.hall) one.yields.moved in
+        let next_is : one.part.next ≡ i + 1 = ap (λ (q : Part Cells). q.next) one.yields.moved in
+        subst (λ q. Holds q after (i + 1)) (sym one.is) (record {
+          below = record { onces = omega (arith, held.below.onces, later); values = omega (arith, next_is); maps = omega (arith, held.below.maps, later); groups = omega (arith, held.below.groups, later) };
+          counted = omega (arith, hall, one.yields.counted, held.counted);
+          few = omega (arith, hall, one.yields.counted, held.counted, held.few, few, later);
+        })
 
--- it holds after an event
-pub holds_after : (o v o' v' : Part Cells) (before after : Waking ℕ) (next i : ℕ) (e : OnceEvent) (answer : Answer) → Holds o v before next → next ≤ i → PlaysKinds o v i e answer o' v' before after
-    → all_registered (step (hall_of o v) i e).hall + length (step (hall_of o v) i e).wakes ≤ all_registered (hall_of o v) + 1 → Holds o' v' after (i + 1)
-holds_after o v o' v' before after next i e answer held later plays grows = at (doing e).kind (doing e).action plays grows
-  where
-    at : (k : Kind) (a : Action) → PlaysAt k a o v i answer o' v' before after
-        → all_registered (step_by (hall_of o v) i (record { kind = k; action = a })).hall + length (step_by (hall_of o v) i (record { kind = k; action = a })).wakes ≤ all_registered (hall_of o v) + 1 → Holds o' v' after (i + 1)
-    at Onces a one few =
-        let hall : registered o'.hall ≡ registered (act_in o.hall i a).hall = ap (λ (p : Part Cells). registered p.hall) one.yields.moved in
-        let next_is : o'.next ≡ i + 1 = ap (λ (p : Part Cells). p.next) one.yields.moved in
-        let other : registered v'.hall ≡ registered v.hall = ap (λ (p : Part Cells). registered p.hall) one.same in
-        let other_next : v'.next ≡ v.next = ap (λ (p : Part Cells). p.next) one.same in
-        record {
-          onces = omega (arith, next_is);
-          values = omega (arith, other_next, held.values);
-          counted = omega (arith, hall, other, one.yields.counted, held.counted);
-          few = omega (arith, hall, other, one.yields.counted, held.counted, held.few, few);
-        }
-    at Values a one few =
-        let hall : registered v'.hall ≡ registered (act_in v.hall i a).hall = ap (λ (p : Part Cells). registered p.hall) one.yields.moved in
-        let next_is : v'.next ≡ i + 1 = ap (λ (p : Part Cells). p.next) one.yields.moved in
-        let other : registered o'.hall ≡ registered o.hall = ap (λ (p : Part Cells). registered p.hall) one.same in
-        let other_next : o'.next ≡ o.next = ap (λ (p : Part Cells). p.next) one.same in
-        record {
-          onces = omega (arith, other_next, held.onces);
-          values = omega (arith, next_is);
-          counted = omega (arith, hall, other, one.yields.counted, held.counted);
-          few = omega (arith, hall, other, one.yields.counted, held.counted, held.few, few);
-        }
+    tables_held : (k : TableKind) (a : KeyAction) → PlaysTables p k i a answer p' before after
+        → registered (step_by (hall_of p) i (OfTables (record { kind = k; action = a }))).hall + length (step_by (hall_of p) i (OfTables (record { kind = k; action = a }))).wakes ≤ registered (hall_of p) + 1 → Holds p' after (i + 1)
+    tables_held Maps a one few =
+        let hall = ap (λ (q : Part Tables). tables.registered q.hall) one.yields.moved in
+        let next_is : one.part.next ≡ i + 1 = ap (λ (q : Part Tables). q.next) one.yields.moved in
+        subst (λ q. Holds q after (i + 1)) (sym one.is) (record {
+          below = record { onces = omega (arith, held.below.onces, later); values = omega (arith, held.below.values, later); maps = omega (arith, next_is); groups = omega (arith, held.below.groups, later) };
+          counted = omega (arith, hall, one.yields.counted, held.counted);
+          few = omega (arith, hall, one.yields.counted, held.counted, held.few, few, later);
+        })
+    tables_held Groups a one few =
+        let hall = ap (λ (q : Part Tables). tables.registered q.hall) one.yields.moved in
+        let next_is : one.part.next ≡ i + 1 = ap (λ (q : Part Tables). q.next) one.yields.moved in
+        subst (λ q. Holds q after (i + 1)) (sym one.is) (record {
+          below = record { onces = omega (arith, held.below.onces, later); values = omega (arith, held.below.values, later); maps = omega (arith, held.below.maps, later); groups = omega (arith, next_is) };
+          counted = omega (arith, hall, one.yields.counted, held.counted);
+          few = omega (arith, hall, one.yields.counted, held.counted, held.few, few, later);
+        })
 
--- what was played on the parts was played on the hall
-pub yields_all : (o v o' v' : Part Cells) (before after : Waking ℕ) (next i : ℕ) (e : OnceEvent) (answer : Answer) → PlaysKinds o v i e answer o' v' before after
-    → Yields {H = OnceHall} (record { hall = hall_of o v; wakes = before.wakers; next = next }) i (step (hall_of o v) i e) answer (record { hall = hall_of o' v'; wakes = after.wakers; next = i + 1 })
-yields_all o v o' v' before after next i e answer plays = at (doing e).kind (doing e).action plays
-  where
-    at : (k : Kind) (a : Action) → PlaysAt k a o v i answer o' v' before after
-        → Yields {H = OnceHall} (record { hall = hall_of o v; wakes = before.wakers; next = next }) i (step_by (hall_of o v) i (record { kind = k; action = a })) answer (record { hall = hall_of o' v'; wakes = after.wakers; next = i + 1 })
-    at Onces a one = record { replied = one.yields.replied; moved = λ j. record { hall = hall_of (one.yields.moved j) (one.same j); wakes = one.yields.woken j; next = i + 1 } }
-    at Values a one = record { replied = one.yields.replied; moved = λ j. record { hall = hall_of (one.same j) (one.yields.moved j); wakes = one.yields.woken j; next = i + 1 } }
+    held_by : (m : Meaning) → PlaysBy m p i answer p' before after → registered (step_by (hall_of p) i m).hall + length (step_by (hall_of p) i m).wakes ≤ registered (hall_of p) + 1 → Holds p' after (i + 1)
+    held_by (OfCells d) one few = cells_held d.kind d.action one few
+    held_by (OfTables d) one few = tables_held d.kind d.action one few
+
+    -- it holds after an event
+    pub holds_after : (e : OnceEvent) → PlaysKinds p i e answer p' before after → registered (step (hall_of p) i e).hall + length (step (hall_of p) i e).wakes ≤ registered (hall_of p) + 1 → Holds p' after (i + 1)
+    holds_after e plays grows = held_by (meaning_of e) plays grows
+
+  abbrev Yielding : Outcome OnceHall → Type 0
+  Yielding o = Yields {H = OnceHall} (record { hall = hall_of p; wakes = before.wakers; next = next }) i o answer (record { hall = hall_of p'; wakes = after.wakers; next = i + 1 })
+
+  cells_yield : (k : Kind) (a : Action) → PlaysCells p k i a answer p' before after → Yielding (step_by (hall_of p) i (OfCells (record { kind = k; action = a })))
+  cells_yield Onces a one = record { replied = one.yields.replied; moved = ap (λ q. record { hall = hall_of q; wakes = after.wakers; next = i + 1 }) one.is ∙ (λ j. record { hall = hall_of (record p { onces = one.yields.moved j }); wakes = one.yields.woken j; next = i + 1 }) }
+  cells_yield Values a one = record { replied = one.yields.replied; moved = ap (λ q. record { hall = hall_of q; wakes = after.wakers; next = i + 1 }) one.is ∙ (λ j. record { hall = hall_of (record p { values = one.yields.moved j }); wakes = one.yields.woken j; next = i + 1 }) }
+
+  tables_yield : (k : TableKind) (a : KeyAction) → PlaysTables p k i a answer p' before after → Yielding (step_by (hall_of p) i (OfTables (record { kind = k; action = a })))
+  tables_yield Maps a one = record { replied = one.yields.replied; moved = ap (λ q. record { hall = hall_of q; wakes = after.wakers; next = i + 1 }) one.is ∙ (λ j. record { hall = hall_of (record p { maps = one.yields.moved j }); wakes = one.yields.woken j; next = i + 1 }) }
+  tables_yield Groups a one = record { replied = one.yields.replied; moved = ap (λ q. record { hall = hall_of q; wakes = after.wakers; next = i + 1 }) one.is ∙ (λ j. record { hall = hall_of (record p { groups = one.yields.moved j }); wakes = one.yields.woken j; next = i + 1 }) }
+
+  yields_by : (m : Meaning) → PlaysBy m p i answer p' before after → Yielding (step_by (hall_of p) i m)
+  yields_by (OfCells d) one = cells_yield d.kind d.action one
+  yields_by (OfTables d) one = tables_yield d.kind d.action one
+
+  -- what was played on the parts was played on the hall
+  pub yields_all : (e : OnceEvent) → PlaysKinds p i e answer p' before after → Yielding (step (hall_of p) i e)
+  yields_all e plays = yields_by (meaning_of e) plays
+
+-- ---- an action on one kind
+-- the same of maps and groups, where no waker was made ready
+pub table_rests : (old : Part Tables) (i : ℕ) (o : Outcome Tables) (answer : Answer) (new : Part Tables) (w : Waking ℕ) → PartRests tables.registered old i o answer new → PartYields tables.registered old i o answer new w w
+table_rests old i o answer new w rests = record {
+  replied = rests.replied;
+  moved = rests.moved;
+  woken = sym (append-nil w.wakers) ∙ ap (λ ws. w.wakers ++ ws) (sym rests.silent);
+  counted = omega (arith, rests.counted);
+}
+
+-- an event of these means an action on a map
+pub maps_of : (e : OnceEvent) → ((e ≡ OmNew) ⊎ (((m : ℕ) × (k : ℕ) × (e ≡ OmGet m k)) ⊎ (((m : ℕ) × (k : ℕ) × (e ≡ OmCompute m k)) ⊎ (((m : ℕ) × (k : ℕ) × (e ≡ OmPoll m k)) ⊎ (((m : ℕ) × (k : ℕ) × (e ≡ OmSettle m k)) ⊎ (((m : ℕ) × (k : ℕ) × (e ≡ OmFail m k)) ⊎ (((m : ℕ) × (k : ℕ) × (e ≡ OmDiscard m k)) ⊎ (((m : ℕ) × (k : ℕ) × (e ≡ OmRemove m k)) ⊎ (((m : ℕ) × (e ≡ OmEnd m)) ⊎ ((m : ℕ) × (e ≡ OmDrop m))))))))))) → (a : KeyAction) × (meaning_of e ≡ on_maps a)
+maps_of e (inl is) = (MakeTable, ap meaning_of is)
+maps_of e (inr (inl (m, k, is))) = (TellKey m k, ap meaning_of is)
+maps_of e (inr (inr (inl (m, k, is)))) = (BeginKey m k, ap meaning_of is)
+maps_of e (inr (inr (inr (inl (m, k, is))))) = (PollKey m k, ap meaning_of is)
+maps_of e (inr (inr (inr (inr (inl (m, k, is)))))) = (SettleKey m (Gives k), ap meaning_of is)
+maps_of e (inr (inr (inr (inr (inr (inl (m, k, is))))))) = (SettleKey m (Fails k), ap meaning_of is)
+maps_of e (inr (inr (inr (inr (inr (inr (inl (m, k, is)))))))) = (DiscardKey m k, ap meaning_of is)
+maps_of e (inr (inr (inr (inr (inr (inr (inr (inl (m, k, is))))))))) = (RemoveKey m k, ap meaning_of is)
+maps_of e (inr (inr (inr (inr (inr (inr (inr (inr (inl (m, is)))))))))) = (EndKey m, ap meaning_of is)
+maps_of e (inr (inr (inr (inr (inr (inr (inr (inr (inr (m, is)))))))))) = (DropTable m, ap meaning_of is)
+
+-- an event of these means an action on a group
+pub groups_of : (e : OnceEvent) → ((e ≡ SfNew) ⊎ (((m : ℕ) × (k : ℕ) × (e ≡ SfWork m k)) ⊎ (((m : ℕ) × (k : ℕ) × (e ≡ SfPoll m k)) ⊎ (((m : ℕ) × (k : ℕ) × (e ≡ SfSettle m k)) ⊎ (((m : ℕ) × (k : ℕ) × (e ≡ SfFail m k)) ⊎ (((m : ℕ) × (k : ℕ) × (e ≡ SfForget m k)) ⊎ (((m : ℕ) × (e ≡ SfEnd m)) ⊎ ((m : ℕ) × (e ≡ SfDrop m))))))))) → (a : KeyAction) × (meaning_of e ≡ on_groups a)
+groups_of e (inl is) = (MakeTable, ap meaning_of is)
+groups_of e (inr (inl (m, k, is))) = (BeginKey m k, ap meaning_of is)
+groups_of e (inr (inr (inl (m, k, is)))) = (PollKey m k, ap meaning_of is)
+groups_of e (inr (inr (inr (inl (m, k, is))))) = (SettleKey m (Gives k), ap meaning_of is)
+groups_of e (inr (inr (inr (inr (inl (m, k, is)))))) = (SettleKey m (Fails k), ap meaning_of is)
+groups_of e (inr (inr (inr (inr (inr (inl (m, k, is))))))) = (DiscardKey m k, ap meaning_of is)
+groups_of e (inr (inr (inr (inr (inr (inr (inl (m, is)))))))) = (EndKey m, ap meaning_of is)
+groups_of e (inr (inr (inr (inr (inr (inr (inr (m, is)))))))) = (DropTable m, ap meaning_of is)
+
+-- an event that means an action on one kind was played where the action was played on that kind
+module _ (o v : Part Cells) (m g : Part Tables) (i : ℕ) (e : OnceEvent) where
+  pub once_yields : (a : Action) (answer : Answer) (q : Part Cells) (before after : Waking ℕ) → meaning_of e ≡ OfCells (record { kind = Onces; action = a }) → PartYields cells.registered o i (act_in o.hall i a) answer q before after → PlaysKinds (parts o v m g) i e answer (parts q v m g) before after
+  once_yields a answer q before after is yields = subst (λ d. PlaysBy d (parts o v m g) i answer (parts q v m g) before after) (sym is) (record { part = q; is = refl; yields = yields })
+
+  pub once_yields_if : (a : Action) (r : Result Answer NoMemory) (q : Part Cells) (before after : Waking ℕ) → meaning_of e ≡ OfCells (record { kind = Onces; action = a }) → IfOk r (λ answer. PartYields cells.registered o i (act_in o.hall i a) answer q before after) → IfOk r (λ answer. PlaysKinds (parts o v m g) i e answer (parts q v m g) before after)
+  once_yields_if a (Ok answer) q before after is yields = once_yields a answer q before after is yields
+  once_yields_if a (Err z) q before after is yields = tt
+
+  pub once_rests : (a : Action) (answer : Answer) (q : Part Cells) (w : Waking ℕ) → meaning_of e ≡ OfCells (record { kind = Onces; action = a }) → PartRests cells.registered o i (act_in o.hall i a) answer q → PlaysKinds (parts o v m g) i e answer (parts q v m g) w w
+  once_rests a answer q w is rests = once_yields a answer q w w is (yield_rests o i (act_in o.hall i a) answer q w rests)
+
+  pub once_rests_if : (a : Action) (r : Result Answer NoMemory) (q : Part Cells) (w : Waking ℕ) → meaning_of e ≡ OfCells (record { kind = Onces; action = a }) → IfOk r (λ answer. PartRests cells.registered o i (act_in o.hall i a) answer q) → IfOk r (λ answer. PlaysKinds (parts o v m g) i e answer (parts q v m g) w w)
+  once_rests_if a (Ok answer) q w is rests = once_rests a answer q w is rests
+  once_rests_if a (Err z) q w is rests = tt
+
+  pub value_yields : (a : Action) (answer : Answer) (q : Part Cells) (before after : Waking ℕ) → meaning_of e ≡ OfCells (record { kind = Values; action = a }) → PartYields cells.registered v i (act_in v.hall i a) answer q before after → PlaysKinds (parts o v m g) i e answer (parts o q m g) before after
+  value_yields a answer q before after is yields = subst (λ d. PlaysBy d (parts o v m g) i answer (parts o q m g) before after) (sym is) (record { part = q; is = refl; yields = yields })
+
+  pub value_yields_if : (a : Action) (r : Result Answer NoMemory) (q : Part Cells) (before after : Waking ℕ) → meaning_of e ≡ OfCells (record { kind = Values; action = a }) → IfOk r (λ answer. PartYields cells.registered v i (act_in v.hall i a) answer q before after) → IfOk r (λ answer. PlaysKinds (parts o v m g) i e answer (parts o q m g) before after)
+  value_yields_if a (Ok answer) q before after is yields = value_yields a answer q before after is yields
+  value_yields_if a (Err z) q before after is yields = tt
+
+  pub value_rests : (a : Action) (answer : Answer) (q : Part Cells) (w : Waking ℕ) → meaning_of e ≡ OfCells (record { kind = Values; action = a }) → PartRests cells.registered v i (act_in v.hall i a) answer q → PlaysKinds (parts o v m g) i e answer (parts o q m g) w w
+  value_rests a answer q w is rests = value_yields a answer q w w is (yield_rests v i (act_in v.hall i a) answer q w rests)
+
+  pub value_rests_if : (a : Action) (r : Result Answer NoMemory) (q : Part Cells) (w : Waking ℕ) → meaning_of e ≡ OfCells (record { kind = Values; action = a }) → IfOk r (λ answer. PartRests cells.registered v i (act_in v.hall i a) answer q) → IfOk r (λ answer. PlaysKinds (parts o v m g) i e answer (parts o q m g) w w)
+  value_rests_if a (Ok answer) q w is rests = value_rests a answer q w is rests
+  value_rests_if a (Err z) q w is rests = tt
+
+  pub map_yields : (a : KeyAction) (answer : Answer) (q : Part Tables) (before after : Waking ℕ) → meaning_of e ≡ OfTables (record { kind = Maps; action = a }) → PartYields tables.registered m i (key_act false m.hall i a) answer q before after → PlaysKinds (parts o v m g) i e answer (parts o v q g) before after
+  map_yields a answer q before after is yields = subst (λ d. PlaysBy d (parts o v m g) i answer (parts o v q g) before after) (sym is) (record { part = q; is = refl; yields = yields })
+
+  pub map_yields_if : (a : KeyAction) (r : Result Answer NoMemory) (q : Part Tables) (before after : Waking ℕ) → meaning_of e ≡ OfTables (record { kind = Maps; action = a }) → IfOk r (λ answer. PartYields tables.registered m i (key_act false m.hall i a) answer q before after) → IfOk r (λ answer. PlaysKinds (parts o v m g) i e answer (parts o v q g) before after)
+  map_yields_if a (Ok answer) q before after is yields = map_yields a answer q before after is yields
+  map_yields_if a (Err z) q before after is yields = tt
+
+  pub map_rests : (a : KeyAction) (answer : Answer) (q : Part Tables) (w : Waking ℕ) → meaning_of e ≡ OfTables (record { kind = Maps; action = a }) → PartRests tables.registered m i (key_act false m.hall i a) answer q → PlaysKinds (parts o v m g) i e answer (parts o v q g) w w
+  map_rests a answer q w is rests = map_yields a answer q w w is (table_rests m i (key_act false m.hall i a) answer q w rests)
+
+  pub map_rests_if : (a : KeyAction) (r : Result Answer NoMemory) (q : Part Tables) (w : Waking ℕ) → meaning_of e ≡ OfTables (record { kind = Maps; action = a }) → IfOk r (λ answer. PartRests tables.registered m i (key_act false m.hall i a) answer q) → IfOk r (λ answer. PlaysKinds (parts o v m g) i e answer (parts o v q g) w w)
+  map_rests_if a (Ok answer) q w is rests = map_rests a answer q w is rests
+  map_rests_if a (Err z) q w is rests = tt
+
+  pub group_yields : (a : KeyAction) (answer : Answer) (q : Part Tables) (before after : Waking ℕ) → meaning_of e ≡ OfTables (record { kind = Groups; action = a }) → PartYields tables.registered g i (key_act true g.hall i a) answer q before after → PlaysKinds (parts o v m g) i e answer (parts o v m q) before after
+  group_yields a answer q before after is yields = subst (λ d. PlaysBy d (parts o v m g) i answer (parts o v m q) before after) (sym is) (record { part = q; is = refl; yields = yields })
+
+  pub group_yields_if : (a : KeyAction) (r : Result Answer NoMemory) (q : Part Tables) (before after : Waking ℕ) → meaning_of e ≡ OfTables (record { kind = Groups; action = a }) → IfOk r (λ answer. PartYields tables.registered g i (key_act true g.hall i a) answer q before after) → IfOk r (λ answer. PlaysKinds (parts o v m g) i e answer (parts o v m q) before after)
+  group_yields_if a (Ok answer) q before after is yields = group_yields a answer q before after is yields
+  group_yields_if a (Err z) q before after is yields = tt
+
+  pub group_rests : (a : KeyAction) (answer : Answer) (q : Part Tables) (w : Waking ℕ) → meaning_of e ≡ OfTables (record { kind = Groups; action = a }) → PartRests tables.registered g i (key_act true g.hall i a) answer q → PlaysKinds (parts o v m g) i e answer (parts o v m q) w w
+  group_rests a answer q w is rests = group_yields a answer q w w is (table_rests g i (key_act true g.hall i a) answer q w rests)
+
+  pub group_rests_if : (a : KeyAction) (r : Result Answer NoMemory) (q : Part Tables) (w : Waking ℕ) → meaning_of e ≡ OfTables (record { kind = Groups; action = a }) → IfOk r (λ answer. PartRests tables.registered g i (key_act true g.hall i a) answer q) → IfOk r (λ answer. PlaysKinds (parts o v m g) i e answer (parts o v m q) w w)
+  group_rests_if a (Ok answer) q w is rests = group_rests a answer q w is rests
+  group_rests_if a (Err z) q w is rests = tt

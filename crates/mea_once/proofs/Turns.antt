@@ -19,7 +19,7 @@ use Rattle.mea_once_core.specs.declared.cell_turn.CellTurn.TheVariants as turns
 use Rattle.mea_once_core.proofs.Onces.{count_same, woken_none}
 use Rattle.mea_once_model.specs.declared.job.Initialiser.{Initialiser}
 use Rattle.mea_once_model.specs.declared.job.Initialiser.TheVariants.{Unsettled, Gives, Fails}
-use Rattle.mea_once.specs.Cores.{TurnsTo, FindsFull, FindsLate, TakesFree, TakesNext, GoesOn, LinesUp, WaitsOn, TurnsCell, cell_seen, once_seen, answer_of}
+use Rattle.mea_once.specs.Cores.{TurnsTo, FindsFull, FindsLate, TakesFree, TakesNext, GoesOn, LinesUp, WaitsOn, TurnsCell, IsOnePermit, cell_seen, once_seen, answer_of}
 
 -- ---- what a scripted initialiser answered
 pub gives_by : (r : Initialiser) (a : Result ℕ ℕ) (v : ℕ) → Ready a ≡ answer_of r → a ≡ Ok v → r ≡ Gives v
@@ -37,11 +37,14 @@ open_by Unsettled is = refl
 open_by (Gives u) is = absurd (cc)
 open_by (Fails x) is = absurd (cc)
 
+pub as_one : (s : Core NamedWaker) → IsPermit s → IsOnePermit s
+as_one s is = record { one = is.one; asks = is.asks; apart = is.sound.apart; granted_apart = is.sound.granted_apart; total = is.sound.total }
+
 -- ---- a permit that is kept so is free or taken
-pub free_or_taken : (s : Core NamedWaker) → IsPermit s → (s.free ≡ 1) ⊎ (s.free ≡ 0)
+pub free_or_taken : (s : Core NamedWaker) → IsOnePermit s → (s.free ≡ 1) ⊎ (s.free ≡ 0)
 free_or_taken s is = elim (cases_lt s.free 1) as (λ x. (s.free ≡ 1) ⊎ (s.free ≡ 0)) [
   | inl less ↦ inr (omega arith)
-  | inr more ↦ inl (omega (arith, is.sound.total, is.one))
+  | inr more ↦ inl (omega (arith, is.total, is.one))
 ]
 
 as_turned : (full : Bool) (s : Core NamedWaker) (w : NamedWaker) (stage : Stage) (turn t : CellTurn NamedWaker) (q p : Core NamedWaker) (after a : Stage) → TurnsTo full s w stage t p a → turn ≡ t → q ≡ p → after ≡ a → TurnsTo full s w stage turn q after
@@ -52,7 +55,7 @@ module _ {T : Type 0} where
   Told v s w stage turn c' after = TurnsTo (is_some v) s w stage turn c'.permit after × (c'.value ≡ v)
 
   new_to : (v : Option T) (s : Core NamedWaker) (c' : Cell T NamedWaker) (w : NamedWaker) (turn : CellTurn NamedWaker) (after : Stage) → IsPermit s → PollsTurn New (record { value = v; permit = s }) w (Ok turn) c' after → Told v s w New turn c' after
-  new_to None s c' w turn after is polls = elim (free_or_taken s is) as (λ x. Told None s w New turn c' after) [
+  new_to None s c' w turn after is polls = elim (free_or_taken s (as_one s is)) as (λ x. Told None s w New turn c' after) [
     | inl one ↦
         let h = polls.0 one in
         let told : turn ≡ turns.Mine w = let same = h.0 in cc in
@@ -90,30 +93,14 @@ module _ {T : Type 0} where
   turns_to Done c c' w turn after sound may polls = absurd may
 
 -- ---- other wakers are ready, or none
-pub permit_with : (s : Core NamedWaker) (ws : List NamedWaker) → IsPermit s → IsPermit (record s { wakes = ws })
-permit_with s ws is = record {
-  sound = record {
-    apart = is.sound.apart;
-    granted_apart = is.sound.granted_apart;
-    cut_apart = is.sound.cut_apart;
-    closing = is.sound.closing;
-    few = is.sound.few;
-    lacking = is.sound.lacking;
-    debts_first = is.sound.debts_first;
-    idle = is.sound.idle;
-    total = is.sound.total;
-    fits = is.sound.fits;
-  };
-  one = is.one;
-  asks = is.asks;
-  is_open = is.is_open;
-}
+pub permit_with : (s : Core NamedWaker) (ws : List NamedWaker) → IsOnePermit s → IsOnePermit (record s { wakes = ws })
+permit_with s ws is = record { one = is.one; asks = is.asks; apart = is.apart; granted_apart = is.granted_apart; total = is.total }
 
 pub values_turn : (stage after : Stage) (c c' : Cell ℕ NamedWaker) (w : NamedWaker) (turn : CellTurn NamedWaker) → cells.IsSound c → cells.IsSound c' → MayPoll c.permit stage → PollsTurn stage c w (Ok turn) c' after → HoldsAs c.permit stage c'.permit after
     → TurnsCell (cell_seen c) stage w turn (cell_seen c') after
 values_turn stage after c c' w turn sound sound' may polls held =
     let told = turns_to stage c c' w turn after sound may polls in
-    record { turns = told.0; rest = λ i. record { value = told.1 i; permit = c'.permit; waits = record { wakers = []; drains = 0 } }; held = held; sound = record { permit = sound'.permit; empty = sound'.empty } }
+    record { turns = told.0; rest = λ i. record { value = told.1 i; permit = c'.permit; waits = record { wakers = []; drains = 0 } }; held = held; sound = record { permit = as_one c'.permit sound'.permit; empty = sound'.empty } }
 
 module _ (o o' : Once NamedWaker) (sound : onces.IsSound o) (quiet : o.wakes ≡ []) where
   -- what it is seen as
@@ -147,7 +134,7 @@ module _ (o o' : Once NamedWaker) (sound : onces.IsSound o) (quiet : o.wakes ≡
         rest = left_seen turned.left turned.is told.1;
         held = held;
         sound = record {
-          permit = permit_with o'.cell.permit o'.wakes sound'.cell.permit;
+          permit = permit_with o'.cell.permit o'.wakes (as_one o'.cell.permit sound'.cell.permit);
           empty = λ some. ap (option_map (λ _. 0)) (sound'.cell.empty some);
         };
       }

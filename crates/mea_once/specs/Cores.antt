@@ -1,17 +1,18 @@
 -- the core of a cell as a hall uses it: what it is seen as, and what its calls do. A call that runs once is a cell whose value
 -- tells nothing
-use Rattle.std.specs.Prelude.{ℕ, ◌≡◌, ◌+◌, ◌≤◌, ◌⊎◌, Bool, true, false, [], Option, Some, None, is_some, Result, Ok, Err}
+use Rattle.std.specs.Prelude.{ℕ, ◌≡◌, ◌≢◌, ◌+◌, ◌≤◌, ◌⊎◌, Bool, true, false, [], Option, Some, None, is_some, Result, Ok, Err}
 use Rattle.std.specs.Option.{option_map}
-use Rattle.std.specs.FinMap.{remove}
+use Rattle.std.specs.FinMap.{get, remove}
 use Rattle.mea_named.specs.declared.named_waker.NamedWaker.{NamedWaker}
 use Rattle.mea_sets.specs.declared.place.Place.{Place}
 use Rattle.mea_sets.specs.WaitSet.{Registered, with_waker, slot_after, drained}
-use Rattle.mea_sem_core.specs.Core.{Core, held_of}
+use Rattle.mea_sem_core.specs.Core.{Core, AreApart, waiting, held_of, paid_of}
+use Rattle.mea_sem_core.specs.Ones.{AskForOne}
 use Rattle.mea_sem_core.specs.Calls as sem_calls
 use Rattle.mea_sets.specs.Poll.{Poll, Ready, Pending}
 use Rattle.mea_once_core.specs.Cell.{Cell}
 use Rattle.mea_once_core.specs.Once.{Once}
-use Rattle.mea_once_core.specs.Permit.{IsPermit, IsNext, IsWaiting, Waits, Leaves, HoldsAs, held_at, passed_on}
+use Rattle.mea_once_core.specs.Permit.{IsNext, IsWaiting, Waits, Leaves, HoldsAs, held_at, passed_on}
 use Rattle.mea_once_core.specs.declared.stage.Stage.{Stage}
 use Rattle.mea_once_core.specs.declared.stage.Stage.TheVariants.{New, Queued, Running, Done}
 use Rattle.mea_once_core.specs.declared.cell_turn.CellTurn.{CellTurn}
@@ -25,8 +26,16 @@ pub record NamedCell : Type 0 where
   pub permit : Core NamedWaker
   pub waits : Registered NamedWaker
 
+-- what a hall has to know of a cell's permit: one lives, for which each that waits asks, and who waits was not granted it
+pub record IsOnePermit (s : Core NamedWaker) : Type 0 where
+  pub one : s.live ≡ 1
+  pub asks : AskForOne s.queue
+  pub apart : AreApart s.queue
+  pub granted_apart : (n : ℕ) → waiting s.queue n ≢ None → get s.granted n ≡ None
+  pub total : s.free + held_of s + paid_of s ≡ s.live
+
 pub record IsSoundCell (c : NamedCell) : Type 0 where
-  pub permit : IsPermit c.permit
+  pub permit : IsOnePermit c.permit
   -- who has the permit computes, and the cell is empty
   pub empty : 1 ≤ held_of c.permit → c.value ≡ None
 

@@ -1,29 +1,72 @@
--- the cells of both kinds, and what an event does to them
-use Rattle.std.specs.Prelude.{ℕ, ◌≡◌}
+-- the things of all kinds, and what an event does to them
+use Rattle.std.specs.Prelude.{ℕ, ◌≡◌, ◌≤◌}
 use Rattle.mea_base.specs.declared.answer.Answer.{Answer}
 use Rattle.mea_base.specs.Ready.{Waking}
 use Rattle.mea_named.specs.Play.{Part, PartYields}
 use Rattle.mea_once_model.specs.declared.event.OnceEvent.{OnceEvent}
-use Rattle.mea_once_model.specs.Cells.{Cells, registered}
+use Rattle.mea_once_model.specs.Cells as cells
+use Rattle.mea_once_model.specs.Cells.{Cells}
 use Rattle.mea_once_model.specs.Actions.{Action, Make, Begin, Poll, act_in}
-use Rattle.mea_once_model.specs.OnceHall.{OnceHall, Kind, Onces, Values}
-use Rattle.mea_once_model.specs.Meaning.{doing}
+use Rattle.mea_once_model.specs.Tables as tables
+use Rattle.mea_once_model.specs.Tables.{Tables}
+use Rattle.mea_once_model.specs.KeyActions.{KeyAction, MakeTable, BeginKey, PollKey, key_act}
+use Rattle.mea_once_model.specs.OnceHall.{OnceHall, Kind, Onces, Values, TableKind, Maps, Groups, is_once}
+use Rattle.mea_once_model.specs.Meaning.{Meaning, OfCells, OfTables, meaning_of}
 
-abbrev pub hall_of : Part Cells → Part Cells → OnceHall
-hall_of o v = record { onces = o.hall; values = v.hall }
+-- the calls that run once, the cells, the maps and the groups, each with the least number that its next event may have
+pub record Parts : Type 0 where
+  pub onces : Part Cells
+  pub values : Part Cells
+  pub maps : Part Tables
+  pub groups : Part Tables
 
--- event number i did this to the cells of one kind, and nothing to those of the other
-pub record PlaysOne (old other : Part Cells) (i : ℕ) (a : Action) (answer : Answer) (new other' : Part Cells) (before after : Waking ℕ) : Type 0 where
-  pub yields : PartYields registered old i (act_in old.hall i a) answer new before after
-  pub same : other' ≡ other
+abbrev pub parts : Part Cells → Part Cells → Part Tables → Part Tables → Parts
+parts o v m g = record { onces = o; values = v; maps = m; groups = g }
 
-abbrev pub PlaysAt : Kind → Action → Part Cells → Part Cells → ℕ → Answer → Part Cells → Part Cells → Waking ℕ → Waking ℕ → Type 0
-PlaysAt Onces a o v i answer o' v' before after = PlaysOne o v i a answer o' v' before after
-PlaysAt Values a o v i answer o' v' before after = PlaysOne v o i a answer v' o' before after
+abbrev pub hall_of : Parts → OnceHall
+hall_of p = record { onces = p.onces.hall; values = p.values.hall; maps = p.maps.hall; groups = p.groups.hall }
+
+-- no next number is above n
+pub record AreBelow (p : Parts) (n : ℕ) : Type 0 where
+  pub onces : p.onces.next ≤ n
+  pub values : p.values.next ≤ n
+  pub maps : p.maps.next ≤ n
+  pub groups : p.groups.next ≤ n
+
+abbrev pub of_kind : Parts → Kind → Part Cells
+of_kind p Onces = p.onces
+of_kind p Values = p.values
+
+abbrev pub with_kind : Parts → Kind → Part Cells → Parts
+with_kind p Onces c = record p { onces = c }
+with_kind p Values c = record p { values = c }
+
+abbrev pub of_table_kind : Parts → TableKind → Part Tables
+of_table_kind p Maps = p.maps
+of_table_kind p Groups = p.groups
+
+abbrev pub with_table_kind : Parts → TableKind → Part Tables → Parts
+with_table_kind p Maps t = record p { maps = t }
+with_table_kind p Groups t = record p { groups = t }
+
+-- event number i did this to the things of one kind, and nothing to the others
+pub record PlaysCells (old : Parts) (k : Kind) (i : ℕ) (a : Action) (answer : Answer) (new : Parts) (before after : Waking ℕ) : Type 0 where
+  pub part : Part Cells
+  pub is : new ≡ with_kind old k part
+  pub yields : PartYields cells.registered (of_kind old k) i (act_in (of_kind old k).hall i a) answer part before after
+
+pub record PlaysTables (old : Parts) (k : TableKind) (i : ℕ) (a : KeyAction) (answer : Answer) (new : Parts) (before after : Waking ℕ) : Type 0 where
+  pub part : Part Tables
+  pub is : new ≡ with_table_kind old k part
+  pub yields : PartYields tables.registered (of_table_kind old k) i (key_act (is_once k) (of_table_kind old k).hall i a) answer part before after
+
+abbrev pub PlaysBy : Meaning → Parts → ℕ → Answer → Parts → Waking ℕ → Waking ℕ → Type 0
+PlaysBy (OfCells d) old i answer new before after = PlaysCells old d.kind i d.action answer new before after
+PlaysBy (OfTables d) old i answer new before after = PlaysTables old d.kind i d.action answer new before after
 
 -- an event
-abbrev pub PlaysKinds : Part Cells → Part Cells → ℕ → OnceEvent → Answer → Part Cells → Part Cells → Waking ℕ → Waking ℕ → Type 0
-PlaysKinds o v i e answer o' v' before after = PlaysAt (doing e).kind (doing e).action o v i answer o' v' before after
+abbrev pub PlaysKinds : Parts → ℕ → OnceEvent → Answer → Parts → Waking ℕ → Waking ℕ → Type 0
+PlaysKinds old i e answer new before after = PlaysBy (meaning_of e) old i answer new before after
 
 -- the actions that take no memory
 abbrev pub IsFree : Action → Type 0
@@ -32,6 +75,16 @@ IsFree (Begin o job) = ⊥
 IsFree (Poll f w) = ⊥
 IsFree _ = Unit {0}
 
+abbrev pub IsKeyFree : KeyAction → Type 0
+IsKeyFree MakeTable = ⊥
+IsKeyFree (BeginKey o k) = ⊥
+IsKeyFree (PollKey f w) = ⊥
+IsKeyFree _ = Unit {0}
+
+abbrev pub IsFreeBy : Meaning → Type 0
+IsFreeBy (OfCells d) = IsFree d.action
+IsFreeBy (OfTables d) = IsKeyFree d.action
+
 -- the events that take no memory
 abbrev pub TakesNoMemory : OnceEvent → Type 0
-TakesNoMemory e = IsFree (doing e).action
+TakesNoMemory e = IsFreeBy (meaning_of e)

@@ -1,13 +1,16 @@
 ghost use Rattle.std.specs.Prelude.{◌≡◌, ◌≢◌, ◌≤◌, ◌∷◌, [], ◌⊎◌, length, is_some, OnOk, OnErr, IfOk, IfErr, IfSome, IfNone, None, Some};
 ghost use Rattle.mea_named.specs.Play.{Play, Yields};
 ghost use Rattle.mea_once_model.specs.Cells.{is_cell};
+ghost use Rattle.mea_once_model.specs.Tables.{is_table};
 ghost use Rattle.mea_once_model.specs.OnceHall.{empty_hall, registered};
 ghost use Rattle.mea_once_model.specs.Meaning.{step, cause_of};
 ghost use Rattle.mea_once.specs.Cores.{once_seen, cell_seen};
-ghost use Rattle.mea_once.specs.Lends.{StandsFor};
+ghost use Rattle.mea_once.specs.Lends.{StandsFor, StandsForTable};
 ghost use Rattle.mea_once.specs.Halls.{TakesNoMemory};
 
+use crate::groups::Group;
 use crate::kinds::Kinds;
+use crate::maps::Map;
 use mea_base::{Answer, Ready, Stop};
 use mea_named::NamedWaker;
 use mea_once_core::{CellCore, OnceCore};
@@ -15,8 +18,8 @@ use mea_once_model::{OnceEvent, wakes_are_of_the_registered};
 use std::alloc::Global;
 use std::marker::Model;
 
-/// Many calls that run once and cells that are filled once, with their futures, each by the number of the event that made
-/// it.
+/// Many calls that run once, cells that are filled once, and maps and groups that compute a value once for each key, with
+/// their futures, each by the number of the event that made it.
 ///
 /// Each is a core of its own. The waker of who waits carries its future's name, so the core's queue tells who waits for the
 /// turn; the waker that an unsettled initialiser keeps stands with its cell. Each event costs a look-up by name and the
@@ -37,14 +40,13 @@ impl Model for OnceHall {
     ghost coded = { play_code model.hall_code };
 
     ghost use Rattle.std.specs.Prelude.{◌≡◌, ◌≤◌};
-    ghost use Rattle.mea_once.specs.Halls.{hall_of};
+    ghost use Rattle.mea_once.specs.Halls.{parts, hall_of, AreBelow};
 
-    ghost view = { λ a. record { hall = hall_of a.kinds.onces a.kinds.values; wakes = a.ready.wakers; next = a.next } };
+    ghost view = { λ a. record { hall = hall_of (parts a.kinds.onces a.kinds.values a.kinds.maps a.kinds.groups); wakes = a.ready.wakers; next = a.next } };
 
     ghost invariant = { λ a. record {
-      onces : a.kinds.onces.next ≤ a.next;
-      values : a.kinds.values.next ≤ a.next;
-      counted : a.ready.registered ≡ model.registered (hall_of a.kinds.onces a.kinds.values);
+      below : AreBelow (parts a.kinds.onces a.kinds.values a.kinds.maps a.kinds.groups) a.next;
+      counted : a.ready.registered ≡ model.registered (hall_of (parts a.kinds.onces a.kinds.values a.kinds.maps a.kinds.groups));
       few : a.ready.registered ≤ a.next;
     } };
 }
@@ -99,6 +101,22 @@ impl OnceHall {
         ensures stands { IfSome result (λ core. StandsFor self.now.hall.values name (cell_seen core.now)) }
     {
         self.kinds.values.core(name)
+    }
+
+    /// The core of the map of this name, where there is one. It takes no memory.
+    pub fn map(&self, name: u64) -> Option<&Map>
+        ensures there { is_some result ≡ is_table self.now.hall.maps name }
+        ensures stands { IfSome result (λ core. StandsForTable self.now.hall.maps name core.now) }
+    {
+        self.kinds.maps.core(name)
+    }
+
+    /// The core of the group of this name, where there is one. It takes no memory.
+    pub fn flight(&self, name: u64) -> Option<&Group>
+        ensures there { is_some result ≡ is_table self.now.hall.groups name }
+        ensures stands { IfSome result (λ core. StandsForTable self.now.hall.groups name core.now) }
+    {
+        self.kinds.groups.core(name)
     }
 
     /// Why the event would be refused, but for want of memory; None where it would not. It takes no memory.

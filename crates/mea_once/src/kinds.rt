@@ -6,8 +6,11 @@ ghost use Rattle.mea_once_model.specs.Cells.{is_future};
 ghost use Rattle.mea_once_model.specs.Actions.{act_in, Poll};
 ghost use Rattle.mea_once_model.specs.OnceHall.{empty_hall, registered};
 ghost use Rattle.mea_once_model.specs.Meaning.{cause_of};
-ghost use Rattle.mea_once.specs.Halls.{hall_of, PlaysKinds, TakesNoMemory};
+ghost use Rattle.mea_once.specs.Halls.{parts, hall_of, AreBelow, PlaysKinds, TakesNoMemory};
 
+use crate::groups::Group;
+use crate::key_part::KeyPart;
+use crate::maps::Map;
 use crate::part::CellPart;
 use mea_base::{Answer, NoMemory, Ready, Stop};
 use mea_named::NamedWaker;
@@ -15,33 +18,54 @@ use mea_once_core::{CellCore, OnceCore};
 use mea_once_model::{Initialiser, Job, OnceEvent};
 use std::alloc::Global;
 
-/// The calls that run once, and the cells. An event on one kind leaves the other as it is.
+/// The calls that run once, the cells, the maps and the groups. An event on one kind leaves the others as they are.
 #[derive(Drop)]
 pub struct Kinds {
     pub alloc: Global,
     pub onces: CellPart<OnceCore<NamedWaker>>,
     pub values: CellPart<CellCore<u64, NamedWaker>>,
+    pub maps: KeyPart<Map>,
+    pub groups: KeyPart<Group>,
 }
 
 impl Kinds {
-    /// No cell. It takes no memory.
+    /// Nothing of any kind. It takes no memory.
     pub fn new(alloc: Global) -> Self
-        ensures hall { hall_of result.onces result.values ≡ empty_hall }
-        ensures onces { result.onces.next ≡ 0 }
-        ensures values { result.values.next ≡ 0 }
+        ensures hall { hall_of (parts result.onces result.values result.maps result.groups) ≡ empty_hall }
+        ensures below { AreBelow (parts result.onces result.values result.maps result.groups) 0 }
     {
         Kinds {
             alloc,
             onces: CellPart::new(alloc),
             values: CellPart::new(alloc),
+            maps: KeyPart::new(alloc),
+            groups: KeyPart::new(alloc),
         }
     }
 
     /// Why an event would be refused; None where it would not.
     pub fn cause(&self, event: &OnceEvent) -> Option<Stop>
-        ensures { result ≡ cause_of (hall_of self.now.onces self.now.values) event.now }
+        ensures { result ≡ cause_of (hall_of (parts self.now.onces self.now.values self.now.maps self.now.groups)) event.now }
     {
         match *event {
+            OnceEvent::OmNew
+            | OnceEvent::OmGet(..)
+            | OnceEvent::OmCompute(..)
+            | OnceEvent::OmPoll(..)
+            | OnceEvent::OmSettle(..)
+            | OnceEvent::OmFail(..)
+            | OnceEvent::OmDiscard(..)
+            | OnceEvent::OmRemove(..)
+            | OnceEvent::OmEnd(_)
+            | OnceEvent::OmDrop(_) => self.cause_on_map(event),
+            OnceEvent::SfNew
+            | OnceEvent::SfWork(..)
+            | OnceEvent::SfPoll(..)
+            | OnceEvent::SfSettle(..)
+            | OnceEvent::SfFail(..)
+            | OnceEvent::SfForget(..)
+            | OnceEvent::SfEnd(_)
+            | OnceEvent::SfDrop(_) => self.cause_on_group(event),
             OnceEvent::OnNew | OnceEvent::OcNew | OnceEvent::OcFrom(_) => None,
             OnceEvent::OnDone(o) | OnceEvent::OnCall(o) | OnceEvent::OnWait(o) => {
                 self.onces.cause_of_use(o)
@@ -80,7 +104,7 @@ impl Kinds {
         requires there { is_future self.old.onces.hall f ≡ true }
         requires room { parts.registered self.old.onces.hall ≤ ready.old.registered }
         ensures ok { IfOk result (λ answer. PartYields parts.registered self.old.onces number (act_in self.old.onces.hall number (Poll f waker)) answer self.new.onces ready.old ready.new) }
-        ensures same { self.new.values ≡ self.old.values }
+        ensures same { (self.new.values ≡ self.old.values) × (self.new.maps ≡ self.old.maps) × (self.new.groups ≡ self.old.groups) }
         ensures err { OnErr result ((self.new.onces ≡ self.old.onces) × (ready.new ≡ ready.old)) }
     {
         if self.onces.awaits_full(f) {
@@ -102,7 +126,7 @@ impl Kinds {
         requires there { is_future self.old.values.hall f ≡ true }
         requires room { parts.registered self.old.values.hall ≤ ready.old.registered }
         ensures ok { IfOk result (λ answer. PartYields parts.registered self.old.values number (act_in self.old.values.hall number (Poll f waker)) answer self.new.values ready.old ready.new) }
-        ensures same { self.new.onces ≡ self.old.onces }
+        ensures same { (self.new.onces ≡ self.old.onces) × (self.new.maps ≡ self.old.maps) × (self.new.groups ≡ self.old.groups) }
         ensures err { OnErr result ((self.new.values ≡ self.old.values) × (ready.new ≡ ready.old)) }
     {
         if self.values.uses_alone(f) {
@@ -113,22 +137,38 @@ impl Kinds {
     }
 
     /// Plays an event that has no cause for refusal. On an error nothing has changed.
-    #[tactic(auto, using(crate::proofs::Playing::yield_rests))]
     pub fn play(
         &mut self,
         number: u64,
         event: &OnceEvent,
         ready: &mut Ready<u64>,
     ) -> Result<Answer, NoMemory>
-        requires onces { self.old.onces.next ≤ number }
-        requires values { self.old.values.next ≤ number }
-        requires room { registered (hall_of self.old.onces self.old.values) ≤ ready.old.registered }
-        requires allowed { cause_of (hall_of self.old.onces self.old.values) event.now ≡ None }
-        ensures played { IfOk result (λ answer. PlaysKinds self.old.onces self.old.values number event.now answer self.new.onces self.new.values ready.old ready.new) }
+        requires below { AreBelow (parts self.old.onces self.old.values self.old.maps self.old.groups) number }
+        requires room { registered (hall_of (parts self.old.onces self.old.values self.old.maps self.old.groups)) ≤ ready.old.registered }
+        requires allowed { cause_of (hall_of (parts self.old.onces self.old.values self.old.maps self.old.groups)) event.now ≡ None }
+        ensures played { IfOk result (λ answer. PlaysKinds (parts self.old.onces self.old.values self.old.maps self.old.groups) number event.now answer (parts self.new.onces self.new.values self.new.maps self.new.groups) ready.old ready.new) }
         ensures no_memory { TakesNoMemory event.now → OnErr result ⊥ }
-        ensures err { OnErr result ((self.new.onces ≡ self.old.onces) × (self.new.values ≡ self.old.values) × (ready.new ≡ ready.old)) }
+        ensures err { OnErr result ((parts self.new.onces self.new.values self.new.maps self.new.groups ≡ parts self.old.onces self.old.values self.old.maps self.old.groups) × (ready.new ≡ ready.old)) }
     {
         match *event {
+            OnceEvent::OmNew
+            | OnceEvent::OmGet(..)
+            | OnceEvent::OmCompute(..)
+            | OnceEvent::OmPoll(..)
+            | OnceEvent::OmSettle(..)
+            | OnceEvent::OmFail(..)
+            | OnceEvent::OmDiscard(..)
+            | OnceEvent::OmRemove(..)
+            | OnceEvent::OmEnd(_)
+            | OnceEvent::OmDrop(_) => self.play_on_map(number, event, ready),
+            OnceEvent::SfNew
+            | OnceEvent::SfWork(..)
+            | OnceEvent::SfPoll(..)
+            | OnceEvent::SfSettle(..)
+            | OnceEvent::SfFail(..)
+            | OnceEvent::SfForget(..)
+            | OnceEvent::SfEnd(_)
+            | OnceEvent::SfDrop(_) => self.play_on_group(number, event, ready),
             OnceEvent::OnNew => self.onces.make(number, OnceCore::new(self.alloc)),
             OnceEvent::OnDone(o) => Ok(self.onces.tell_full(number, o)),
             OnceEvent::OnCall(o) => {
@@ -175,8 +215,8 @@ impl Kinds {
     }
 }
 
-// Unknown, unless this is known.
-fn unknown_unless(known: bool) -> Option<Stop>
+/// Unknown, unless this is known.
+pub fn unknown_unless(known: bool) -> Option<Stop>
     ensures { result ≡ unknown_unless known }
 {
     if known { None } else { Some(Stop::Unknown) }

@@ -1,18 +1,28 @@
-//! The hall of once types: many calls that run once and cells that are filled once, by name, with their futures, over the
-//! cores of `mea_once_core`. It is proved against the model of `mea_once_model`, and knows the cores by their contracts alone.
+//! The hall of once types: many calls that run once, cells that are filled once, and maps and groups by key, by name, with
+//! their futures, over the cores of `mea_once_core`. It is proved against the model of `mea_once_model`, and knows the cores by their contracts alone.
 #![tactic(auto)]
 
 mod cell_entry;
 mod future_entry;
+mod groups;
 mod hall;
 mod jobs;
+mod key_core;
+mod key_future;
+mod key_part;
+mod key_plays;
 mod kinds;
+mod maps;
 mod onces;
 mod part;
+mod round;
 mod scripted;
+mod table_entry;
 mod told;
 mod turn_core;
 mod values;
 
+pub use groups::Group;
 pub use hall::OnceHall;
+pub use maps::Map;
 pub use mea_once_model::OnceEvent;

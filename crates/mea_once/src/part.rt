@@ -370,8 +370,8 @@ impl<C: WholeCore> CellPart<C> {
     }
 }
 
-// Borrowed, where something borrows it.
-fn borrowed_if(borrowed: bool) -> Option<Stop>
+/// Borrowed, where something borrows it.
+pub fn borrowed_if(borrowed: bool) -> Option<Stop>
     ensures { result ≡ (if borrowed then Some Stop.Borrowed else None) }
 {
     if borrowed { Some(Stop::Borrowed) } else { None }

@@ -1,5 +1,5 @@
 ghost use Rattle.std.specs.Prelude.{◌≡◌};
-ghost use Rattle.mea_once_model.specs.Cells.{init_of};
+ghost use Rattle.mea_once_model.specs.Cells.{init_of, is_open};
 ghost use Rattle.mea_once.specs.Cores.{answer_of};
 
 use crate::jobs::outcome;
@@ -23,6 +23,32 @@ impl Scripted {
         Scripted {
             outcome: outcome(job),
         }
+    }
+
+    /// One that is not settled.
+    pub fn unsettled() -> Self
+        ensures { result.outcome ≡ Initialiser.Unsettled }
+    {
+        Scripted {
+            outcome: Initialiser::Unsettled,
+        }
+    }
+
+    /// Whether it is not settled.
+    pub fn is_unsettled(&self) -> bool
+        ensures { result ≡ is_open self.now.outcome }
+    {
+        match self.outcome {
+            Initialiser::Unsettled => true,
+            _ => false,
+        }
+    }
+
+    /// It comes to this.
+    pub fn settle(&mut self, outcome: Initialiser)
+        ensures { self.new.outcome ≡ outcome }
+    {
+        self.outcome = outcome;
     }
 }
 

@@ -1,0 +1,247 @@
+ghost use Rattle.std.specs.Prelude.{◌≡◌, ◌≤◌, OnErr, IfOk, IfSome, is_some, None, Some, true};
+ghost use Rattle.mea_named.specs.Play.{PartYields, PartRests};
+ghost use Rattle.mea_once_model.specs.Tables.{no_tables, is_table, is_future, is_unsettled, futures_of, registered};
+ghost use Rattle.mea_once_model.specs.KeyActions.{key_act, MakeTable, BeginKey, PollKey, SettleKey, EndKey, TellKey, DiscardKey, RemoveKey, DropTable};
+ghost use Rattle.mea_once_model.specs.Actions.{borrowed_by};
+ghost use Rattle.mea_once.specs.KeyParts.{IsNewKeyed};
+ghost use Rattle.mea_once.specs.Lends.{StandsForTable};
+
+use crate::jobs::content;
+use crate::key_core::{KeyCore, ValueCore};
+use crate::key_future::KeyFuture;
+use crate::part::borrowed_if;
+use crate::scripted::Scripted;
+use crate::table_entry::TableEntry;
+use mea_base::{Answer, NoMemory, Ready, Stop};
+use mea_named::ByName;
+use mea_once_core::KeyCall;
+use mea_once_model::Initialiser;
+use std::alloc::Global;
+use std::marker::Model;
+
+/// Maps, or groups, with their futures, each by the number of the event that made it. Each call costs a look-up by name, one
+/// by key, and what its core costs.
+#[derive(Drop)]
+pub struct KeyPart<C: KeyCore> {
+    tables: ByName<TableEntry<C>>,
+    futures: ByName<KeyFuture>,
+    next: u128,
+    alloc: Global,
+}
+
+impl<C: KeyCore> Model for KeyPart<C> {
+    ghost use Rattle.mea_named.specs.Play.{Part, part_code};
+    ghost use Rattle.mea_once_model.specs.Tables.{Tables, tables_code};
+
+    ghost Value = { Part Tables };
+
+    ghost coded = { part_code tables_code };
+
+    ghost use Rattle.mea_once.specs.KeyParts.{tables_seen, AreTables};
+
+    ghost view = { λ a. record { hall = tables_seen a.tables a.futures; next = a.next } };
+
+    ghost invariant = { λ a. AreTables C.is_once a.tables a.futures a.next };
+}
+
+impl<C: KeyCore> KeyPart<C> {
+    /// Nothing. It takes no memory.
+    pub fn new(alloc: Global) -> Self
+        ensures { result ≡ record { hall = no_tables; next = 0 } }
+    {
+        KeyPart {
+            tables: ByName::new(alloc),
+            futures: ByName::new(alloc),
+            next: 0,
+            alloc,
+        }
+    }
+
+    /// The core of a map or a group.
+    pub fn core(&self, o: u64) -> Option<&C>
+        ensures there { is_some result ≡ is_table self.now.hall o }
+        ensures stands { IfSome result (λ core. StandsForTable self.now.hall o (C.seen_as core.now)) }
+    {
+        let entry = self.tables.get(o)?;
+        Some(entry.core())
+    }
+
+    pub fn is_table(&self, o: u64) -> bool
+        ensures { result ≡ is_table self.now.hall o }
+    {
+        self.tables.has(o)
+    }
+
+    pub fn is_future(&self, f: u64) -> bool
+        ensures { result ≡ is_future self.now.hall f }
+    {
+        self.futures.has(f)
+    }
+
+    /// Whether its initialiser is not settled.
+    pub fn is_unsettled(&self, f: u64) -> bool
+        ensures { result ≡ is_unsettled self.now.hall f }
+    {
+        match self.futures.get(f) {
+            Some(future) => future.call.call.init.is_unsettled(),
+            None => false,
+        }
+    }
+
+    /// Why it may not be dropped: it is unknown, or it has a future.
+    pub fn cause_of_drop(&self, o: u64) -> Option<Stop>
+        ensures { result ≡ borrowed_by (is_table self.now.hall o) (futures_of self.now.hall o) }
+    {
+        match self.tables.get(o) {
+            Some(entry) => borrowed_if(entry.has_futures()),
+            None => Some(Stop::Unknown),
+        }
+    }
+
+    /// Makes a map or a group of a new core. On an error nothing has changed.
+    pub fn make(&mut self, number: u64, core: C) -> Result<Answer, NoMemory>
+        requires next { self.old.next ≤ number }
+        requires new { IsNewKeyed (C.seen_as core) }
+        ensures ok { IfOk result (λ answer. PartRests registered self.old number (key_act C.is_once self.old.hall number MakeTable) answer self.new) }
+        ensures err { OnErr result (self.new ≡ self.old) }
+    {
+        let entry = TableEntry::new(self.alloc, core);
+        let Ok(()) = self.tables.insert(number, entry) else {
+            return Err(NoMemory);
+        };
+        self.next = number as u128 + 1;
+        Ok(Answer::Made)
+    }
+
+    /// Makes a future that computes the value of a key. On an error nothing has changed.
+    pub fn begin(&mut self, number: u64, o: u64, key: u64) -> Result<Answer, NoMemory>
+        requires next { self.old.next ≤ number }
+        requires there { is_table self.old.hall o ≡ true }
+        ensures ok { IfOk result (λ answer. PartRests registered self.old number (key_act C.is_once self.old.hall number (BeginKey o key)) answer self.new) }
+        ensures err { OnErr result (self.new ≡ self.old) }
+    {
+        let entry = self.tables.at_mut(o);
+        let future = KeyFuture {
+            table: o,
+            key,
+            round: None,
+            call: KeyCall::new(key, Scripted::unsettled()),
+        };
+        let Ok(()) = self.futures.insert(number, future) else {
+            return Err(NoMemory);
+        };
+        entry.begin();
+        self.next = number as u128 + 1;
+        Ok(Answer::Made)
+    }
+
+    /// Polls a future. On an error nothing has changed.
+    pub fn poll(
+        &mut self,
+        number: u64,
+        f: u64,
+        waker: u64,
+        ready: &mut Ready<u64>,
+    ) -> Result<Answer, NoMemory>
+        requires next { self.old.next ≤ number }
+        requires there { is_future self.old.hall f ≡ true }
+        requires room { registered self.old.hall ≤ ready.old.registered }
+        ensures ok { IfOk result (λ answer. PartYields registered self.old number (key_act C.is_once self.old.hall number (PollKey f waker)) answer self.new ready.old ready.new) }
+        ensures err { OnErr result ((self.new ≡ self.old) × (ready.new ≡ ready.old)) }
+    {
+        let future = self.futures.at_mut(f);
+        let o = future.table;
+        let entry = self.tables.at_mut(o);
+        match entry.poll(number, f, future, waker, ready) {
+            Err(_) => Err(NoMemory),
+            Ok(told) => {
+                self.futures.remove_if(f, told.over);
+                self.next = number as u128 + 1;
+                Ok(told.answer)
+            }
+        }
+    }
+
+    /// Settles the initialiser of a future. It takes no memory.
+    pub fn settle(
+        &mut self,
+        number: u64,
+        f: u64,
+        outcome: Initialiser,
+        ready: &mut Ready<u64>,
+    ) -> Answer
+        requires next { self.old.next ≤ number }
+        requires there { is_future self.old.hall f ≡ true }
+        requires room { registered self.old.hall ≤ ready.old.registered }
+        ensures { PartYields registered self.old number (key_act C.is_once self.old.hall number (SettleKey f outcome)) result self.new ready.old ready.new }
+    {
+        let future = self.futures.at_mut(f);
+        let o = future.table;
+        self.tables.at_mut(o).settle(f, future, outcome, ready);
+        self.next = number as u128 + 1;
+        Answer::Done
+    }
+
+    /// Ends a future. It takes no memory.
+    pub fn end(&mut self, number: u64, f: u64, ready: &mut Ready<u64>) -> Answer
+        requires next { self.old.next ≤ number }
+        requires there { is_future self.old.hall f ≡ true }
+        requires room { registered self.old.hall ≤ ready.old.registered }
+        ensures { PartYields registered self.old number (key_act C.is_once self.old.hall number (EndKey f)) result self.new ready.old ready.new }
+    {
+        let future = self.futures.remove(f);
+        let o = future.table;
+        self.tables.at_mut(o).end(f, future, ready);
+        self.next = number as u128 + 1;
+        Answer::Done
+    }
+
+    /// Takes a key out. It takes no memory.
+    pub fn discard(&mut self, number: u64, o: u64, key: u64) -> Answer
+        requires next { self.old.next ≤ number }
+        requires there { is_table self.old.hall o ≡ true }
+        ensures { PartRests registered self.old number (key_act C.is_once self.old.hall number (DiscardKey o key)) result self.new }
+    {
+        self.tables.at_mut(o).discard(key);
+        self.next = number as u128 + 1;
+        Answer::Done
+    }
+
+    /// Ends a map or a group that has no future. It takes no memory.
+    pub fn end_table(&mut self, number: u64, o: u64) -> Answer
+        requires next { self.old.next ≤ number }
+        requires there { is_table self.old.hall o ≡ true }
+        requires alone { futures_of self.old.hall o ≡ 0 }
+        ensures { PartRests registered self.old number (key_act C.is_once self.old.hall number (DropTable o)) result self.new }
+    {
+        let _ = self.tables.remove(o);
+        self.next = number as u128 + 1;
+        Answer::Done
+    }
+}
+
+impl<C: ValueCore> KeyPart<C> {
+    /// Tells the value of a key. It takes no memory.
+    pub fn tell(&mut self, number: u64, o: u64, key: u64) -> Answer
+        requires next { self.old.next ≤ number }
+        requires there { is_table self.old.hall o ≡ true }
+        ensures { PartRests registered self.old number (key_act C.KeyCore.is_once self.old.hall number (TellKey o key)) result self.new }
+    {
+        let value = self.tables.at(o).value(key);
+        self.next = number as u128 + 1;
+        content(value)
+    }
+
+    /// Takes a key out, and tells its value. It takes no memory.
+    pub fn remove(&mut self, number: u64, o: u64, key: u64) -> Answer
+        requires next { self.old.next ≤ number }
+        requires there { is_table self.old.hall o ≡ true }
+        ensures { PartRests registered self.old number (key_act C.KeyCore.is_once self.old.hall number (RemoveKey o key)) result self.new }
+    {
+        let entry = self.tables.at_mut(o);
+        let value = entry.value(key);
+        entry.discard(key);
+        self.next = number as u128 + 1;
+        content(value)
+    }
+}
