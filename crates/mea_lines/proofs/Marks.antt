@@ -19,11 +19,11 @@ is_chan_mark mark = bytes_eq mark (codes "bc") || bytes_eq mark (codes "mb") || 
 abbrev is_share_mark : List ℕ → Bool
 is_share_mark mark = bytes_eq mark (codes "fs")
 
--- what the words of calls that run once and of cells begin with
+-- what the words of once types begin with
 abbrev is_once_mark : List ℕ → Bool
-is_once_mark mark = bytes_eq mark (codes "on") || bytes_eq mark (codes "oc")
+is_once_mark mark = bytes_eq mark (codes "on") || bytes_eq mark (codes "oc") || bytes_eq mark (codes "om") || bytes_eq mark (codes "sf")
 
--- the number of a family: 1 for meeting points, 2 for locks, 3 for channels and boxes, 4 for fair admission, 5 for calls that run once and cells, and 0 for semaphores, whose words have no dot
+-- the number of a family: 1 for meeting points, 2 for locks, 3 for channels and boxes, 4 for fair admission, 5 for once types, and 0 for semaphores, whose words have no dot
 abbrev kind_at : List ℕ → ℕ
 kind_at mark = cond (is_meet_mark mark) 1 (cond (is_lock_mark mark) 2 (cond (is_chan_mark mark) 3 (cond (is_share_mark mark) 4 (cond (is_once_mark mark) 5 0))))
 

@@ -6,6 +6,7 @@ pub mod LockLines
 pub mod BroadcastLines
 pub mod ChanLines
 pub mod ShareLines
+pub mod KeyLines
 pub mod OnceLines
 pub mod Lines
 pub mod Text

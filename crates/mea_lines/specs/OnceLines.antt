@@ -1,10 +1,11 @@
--- the lines of calls that run once and of cells
+-- the lines of calls that run once and of cells, and with those of maps and groups all lines of once types
 use Rattle.std.specs.Prelude.{ℕ, List, Option, Some, None, codes, if◌then◌else◌}
 use Rattle.std.specs.Option.{option_or}
 use Rattle.std.specs.Str.{bytes_eq}
 use Rattle.mea_once_model.specs.declared.event.OnceEvent.{OnceEvent}
-use Rattle.mea_once_model.specs.declared.event.OnceEvent.TheVariants.{OnNew, OnDone, OnCall, OnWait, OnPoll, OnSettle, OnEnd, OnDrop, OcNew, OcFrom, OcGet, OcInit, OcSet, OcIns, OcMinit, OcPoll, OcSettle, OcFail, OcEnd, OcPeek, OcPut, OcTake, OcInto, OcDrop}
+use Rattle.mea_once_model.specs.declared.event.OnceEvent.TheVariants.{OnNew, OnDone, OnCall, OnWait, OnPoll, OnSettle, OnEnd, OnDrop, OcNew, OcFrom, OcGet, OcInit, OcSet, OcIns, OcMinit, OcPoll, OcSettle, OcFail, OcEnd, OcPeek, OcPut, OcTake, OcInto, OcDrop, OmNew, SfNew}
 use Rattle.mea_lines.specs.Words.{with_number, with_numbers}
+use Rattle.mea_lines.specs.KeyLines.{key_event}
 
 -- the lines that speak of a call that runs once, and of its futures
 abbrev pub call_event : List ℕ → List ℕ → Option OnceEvent
@@ -53,8 +54,14 @@ abbrev pub bare_once_event : List ℕ → Option OnceEvent
 bare_once_event line =
     if bytes_eq line (codes "on.new") then Some OnNew
     else if bytes_eq line (codes "oc.new") then Some OcNew
+    else if bytes_eq line (codes "om.new") then Some OmNew
+    else if bytes_eq line (codes "sf.new") then Some SfNew
     else None
 
 -- the event of a call or a cell of a word, and of what stands after it
+abbrev pub call_or_cell_event : List ℕ → List ℕ → Option OnceEvent
+call_or_cell_event word rest = option_or (option_or (option_or (call_event word rest) (cell_event word rest)) (cell_wait_event word rest)) (cell_use_event word rest)
+
+-- or of a map or a group
 abbrev pub once_event : List ℕ → List ℕ → Option OnceEvent
-once_event word rest = option_or (option_or (option_or (call_event word rest) (cell_event word rest)) (cell_wait_event word rest)) (cell_use_event word rest)
+once_event word rest = option_or (call_or_cell_event word rest) (key_event word rest)

@@ -1,7 +1,7 @@
--- how an event of a call that runs once or of a cell is spelled
+-- how an event of once types is spelled
 use Rattle.std.specs.Prelude.{ℕ, List, [], ◌∷◌, codes}
 use Rattle.mea_once_model.specs.declared.event.OnceEvent.{OnceEvent}
-use Rattle.mea_once_model.specs.declared.event.OnceEvent.TheVariants.{OnNew, OnDone, OnCall, OnWait, OnPoll, OnSettle, OnEnd, OnDrop, OcNew, OcFrom, OcGet, OcInit, OcSet, OcIns, OcMinit, OcPoll, OcSettle, OcFail, OcEnd, OcPeek, OcPut, OcTake, OcInto, OcDrop}
+use Rattle.mea_once_model.specs.declared.event.OnceEvent.TheVariants.{OnNew, OnDone, OnCall, OnWait, OnPoll, OnSettle, OnEnd, OnDrop, OcNew, OcFrom, OcGet, OcInit, OcSet, OcIns, OcMinit, OcPoll, OcSettle, OcFail, OcEnd, OcPeek, OcPut, OcTake, OcInto, OcDrop, OmNew, OmGet, OmCompute, OmPoll, OmSettle, OmFail, OmDiscard, OmRemove, OmEnd, OmDrop, SfNew, SfWork, SfPoll, SfSettle, SfFail, SfForget, SfEnd, SfDrop}
 use Rattle.mea_lines.specs.Number.{AreFit}
 
 abbrev pub once_word : OnceEvent → List ℕ
@@ -29,6 +29,24 @@ once_word (OcPut c v) = codes "oc.put"
 once_word (OcTake c) = codes "oc.take"
 once_word (OcInto c) = codes "oc.into"
 once_word (OcDrop c) = codes "oc.drop"
+once_word OmNew = codes "om.new"
+once_word (OmGet m k) = codes "om.get"
+once_word (OmCompute m k) = codes "om.compute"
+once_word (OmPoll f w) = codes "om.poll"
+once_word (OmSettle f v) = codes "om.settle"
+once_word (OmFail f e) = codes "om.fail"
+once_word (OmDiscard m k) = codes "om.discard"
+once_word (OmRemove m k) = codes "om.remove"
+once_word (OmEnd f) = codes "om.end"
+once_word (OmDrop m) = codes "om.drop"
+once_word SfNew = codes "sf.new"
+once_word (SfWork g k) = codes "sf.work"
+once_word (SfPoll f w) = codes "sf.poll"
+once_word (SfSettle f v) = codes "sf.settle"
+once_word (SfFail f e) = codes "sf.fail"
+once_word (SfForget g k) = codes "sf.forget"
+once_word (SfEnd f) = codes "sf.end"
+once_word (SfDrop g) = codes "sf.drop"
 
 -- the numbers after the word, in their order
 abbrev pub once_numbers : OnceEvent → List ℕ
@@ -56,6 +74,24 @@ once_numbers (OcPut c v) = c ∷ v ∷ []
 once_numbers (OcTake c) = c ∷ []
 once_numbers (OcInto c) = c ∷ []
 once_numbers (OcDrop c) = c ∷ []
+once_numbers OmNew = []
+once_numbers (OmGet m k) = m ∷ k ∷ []
+once_numbers (OmCompute m k) = m ∷ k ∷ []
+once_numbers (OmPoll f w) = f ∷ w ∷ []
+once_numbers (OmSettle f v) = f ∷ v ∷ []
+once_numbers (OmFail f e) = f ∷ e ∷ []
+once_numbers (OmDiscard m k) = m ∷ k ∷ []
+once_numbers (OmRemove m k) = m ∷ k ∷ []
+once_numbers (OmEnd f) = f ∷ []
+once_numbers (OmDrop m) = m ∷ []
+once_numbers SfNew = []
+once_numbers (SfWork g k) = g ∷ k ∷ []
+once_numbers (SfPoll f w) = f ∷ w ∷ []
+once_numbers (SfSettle f v) = f ∷ v ∷ []
+once_numbers (SfFail f e) = f ∷ e ∷ []
+once_numbers (SfForget g k) = g ∷ k ∷ []
+once_numbers (SfEnd f) = f ∷ []
+once_numbers (SfDrop g) = g ∷ []
 
 -- each number fits its type
 abbrev pub OnceFits : OnceEvent → Type 0

@@ -6,6 +6,7 @@ mod broadcast_words;
 mod chan_words;
 mod command;
 mod event;
+mod key_words;
 mod lines;
 mod lock_words;
 mod meet_words;

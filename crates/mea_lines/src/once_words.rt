@@ -1,12 +1,20 @@
 ghost use Rattle.std.specs.Prelude.{◌≡◌};
-ghost use Rattle.mea_lines.specs.OnceLines.{call_event, cell_event, cell_wait_event, cell_use_event, bare_once_event, once_event};
+ghost use Rattle.mea_lines.specs.OnceLines.{call_event, cell_event, cell_wait_event, cell_use_event, bare_once_event, call_or_cell_event, once_event};
 
+use crate::key_words::key_event;
 use crate::number::{number_of, numbers_of};
 use mea_once_model::OnceEvent;
 
-/// The event of a call that runs once or of a cell, of a word and of the numbers after it.
+/// The event of once types, of a word and of the numbers after it.
 pub fn once_event(word: &[u8], rest: &[u8]) -> Option<OnceEvent>
     ensures { result ≡ once_event word.now rest.now }
+{
+    call_or_cell_event(word, rest).or_else(|| key_event(word, rest))
+}
+
+/// The event of a call that runs once or of a cell.
+fn call_or_cell_event(word: &[u8], rest: &[u8]) -> Option<OnceEvent>
+    ensures { result ≡ call_or_cell_event word.now rest.now }
 {
     call_event(word, rest)
         .or_else(|| cell_event(word, rest))
@@ -14,13 +22,15 @@ pub fn once_event(word: &[u8], rest: &[u8]) -> Option<OnceEvent>
         .or_else(|| cell_use_event(word, rest))
 }
 
-/// The event of a call that runs once or of a cell whose line is a word alone.
+/// The event of once types whose line is a word alone.
 pub fn bare_once_event(line: &[u8]) -> Option<OnceEvent>
     ensures { result ≡ bare_once_event line.now }
 {
     match line {
         b"on.new" => Some(OnceEvent::OnNew),
         b"oc.new" => Some(OnceEvent::OcNew),
+        b"om.new" => Some(OnceEvent::OmNew),
+        b"sf.new" => Some(OnceEvent::SfNew),
         _ => None,
     }
 }

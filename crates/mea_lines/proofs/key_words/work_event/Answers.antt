@@ -1,0 +1,21 @@
+use Rattle.std.proofs.Common.{rules, arith, ◌≡◌, codes}
+use Rattle.std.proofs.lemmas.Slice.Eq.{text_from_reads}
+use Rattle.mea_lines.proofs.key_words.work_event.Goals as goal
+
+pub returns-in_ok-group-in-115 : goal.returns-in_ok-group-in-115
+returns-in_ok-group-in-115 c =
+    let is : c.args.word.now ≡ codes "sf.work" = text_from_reads c.args.word.now (codes "sf.work") (omega arith)
+    (omega arith, (omega arith, (omega arith, (omega arith, (omega arith, (omega arith, (omega arith, tt))))))) in
+    rw is (search rules)
+
+pub returns-in_ok-group-in-115-2 : goal.returns-in_ok-group-in-115-2
+returns-in_ok-group-in-115-2 c =
+    let is : c.args.word.now ≡ codes "sf.forget" = text_from_reads c.args.word.now (codes "sf.forget") (omega arith)
+    (omega arith, (omega arith, (omega arith, (omega arith, (omega arith, (omega arith, (omega arith, (omega arith, (omega arith, tt))))))))) in
+    rw is (search rules)
+
+pub returns-in_ok-number_of-in-115-3 : goal.returns-in_ok-number_of-in-115-3
+returns-in_ok-number_of-in-115-3 c =
+    let is : c.args.word.now ≡ codes "sf.drop" = text_from_reads c.args.word.now (codes "sf.drop") (omega arith)
+    (omega arith, (omega arith, (omega arith, (omega arith, (omega arith, (omega arith, (omega arith, tt))))))) in
+    rw is (search rules)
