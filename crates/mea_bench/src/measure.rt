@@ -77,11 +77,18 @@ fn events_of(alloc: Global, workload: Workload, rounds: u64) -> Result<Vec<Event
     Ok(events)
 }
 
+// The halls are dropped at one exit, since a proof takes all their types apart at each.
 fn play(alloc: Global, events: &[Event]) -> Result<(), Fault> {
     let mut hall = Hall::new(alloc);
+    play_on(&mut hall, events)
+}
+
+fn play_on(hall: &mut Hall, events: &[Event]) -> Result<(), Fault>
+    requires { hall.old.events ≡ 0 }
+{
     for event in events {
         match hall.act(event) {
-            Ok(_) => drain(&mut hall),
+            Ok(_) => drain(hall),
             Err(Stop::NoMemory) => return Err(Fault::NoMemory),
             Err(stop) => return Err(Fault::Refused(stop)),
         }

@@ -37,13 +37,12 @@ use Rattle.mea_share_model.specs.Admissions as share_hall
 use Rattle.mea_share_model.specs.Meaning as share_meaning
 use Rattle.mea_share_model.proofs.Counts as share_laws
 use Rattle.mea_once_model.specs.declared.event.OnceEvent.{OnceEvent}
-use Rattle.mea_once_model.specs.Cells.{Cell, waiting_at as cell_waiting_at}
 use Rattle.mea_once_model.specs.OnceHall as once_hall
 use Rattle.mea_once_model.specs.Meaning as once_meaning
 use Rattle.mea_once_model.proofs.Wakers as once_laws
 use Rattle.mea_lines.specs.declared.event.Event.{Event}
 use Rattle.mea_lines.specs.declared.event.Event.TheVariants.{Sem, Meet, Lock, Chan, Share, Once}
-use Rattle.mea_hall.specs.World.{World, empty_world, registered, registers, step}
+use Rattle.mea_hall.specs.World.{World, OthersStay, empty_world, registered, registers, step}
 use Rattle.mea_hall.specs.Families.{LockPlay, ChanPlay, SharePlay, OncePlay, world_of, PlaysFamilies}
 
 if_ok : {A E : Type 0} (P Q : A → Type 0) (r : Result A E) → ((a : A) → P a → Q a) → IfOk r P → IfOk r Q
@@ -52,6 +51,7 @@ if_ok P Q (Err e) f h = h
 
 -- an event wakes none but registered wakers
 pub most_woken : (w : World) (i : ℕ) (e : Event) → length (step w i e).reply.1 ≤ registered w
+unfolding step
 most_woken w i (Sem e) = omega (arith, (sem_laws.settles w.semaphores i e).most)
 most_woken w i (Meet e) = omega (arith, meet_most.most w.meets i e)
 most_woken w i (Lock e) = omega (arith, (lock_laws.counted w.locks i e).most)
@@ -65,12 +65,12 @@ none_registered = let semaphores : sem_waiters.waiters sem_hall.empty_hall ≡ 0
     let locks : lock_hall.registered lock_hall.empty_hall ≡ 0 = omega (arith, total-empty (λ o (r : LockRecord). length (waiting_at r)), total-empty (λ o (q : Waiting). length q)) in
     let chans : chan_hall.registered chan_hall.empty_hall ≡ 0 = omega (arith, total-empty (λ o (c : Mailbox). kept c), total-empty (λ o (r : Room). length (bounded.waiting_at r)), total-empty (λ o (c : Broadcast). length c.waiting)) in
     let shares : share_hall.registered share_hall.empty_hall ≡ 0 = total-empty (λ o (r : share_hall.Admission). waiting_in r.shares) in
-    let onces : once_hall.registered once_hall.empty_hall ≡ 0 = omega (arith, total-empty (λ o (r : Cell). length (cell_waiting_at r))) in
-    omega (arith, semaphores, meet_laws.none_registered, locks, chans, shares, onces)
+    omega (arith, semaphores, meet_laws.none_registered, locks, chans, shares, once_laws.none_registered)
 
 -- ---- a semaphore event
 semaphores_played : (old : sem.Play) (m : meet.Play) (l : LockPlay) (c : ChanPlay) (h : SharePlay) (o : OncePlay) (i : ℕ) (e : SemEvent) (answer : Answer) (new : sem.Play) → sem.Plays old i e answer new
     → old.wakes ≡ [] → m.wakes ≡ [] → l.wakes ≡ [] → c.wakes ≡ [] → h.wakes ≡ [] → o.wakes ≡ [] → m.next ≤ i → l.next ≤ i → c.next ≤ i → h.next ≤ i → o.next ≤ i → PlaysFamilies (world_of old m l c h o) i (Sem e) answer new m l c h o
+unfolding step OthersStay registers
 semaphores_played old m l c h o i e answer new p quiet rest still calm idle hush low lock_low chan_low share_low once_low =
     let hall : new.hall ≡ (sem_step.step old.hall i e).hall = ap (λ (q : sem.Play). q.hall) p.moved in
     let wakes : new.wakes ≡ (sem_step.step old.hall i e).wakes =
@@ -104,6 +104,7 @@ plays_semaphores old m l c h o i event e r new is quiet rest still calm idle hus
 -- ---- an event of the meeting points
 meets_played : (s : sem.Play) (old : meet.Play) (l : LockPlay) (c : ChanPlay) (h : SharePlay) (o : OncePlay) (i : ℕ) (e : MeetEvent) (answer : Answer) (new : meet.Play) → meet.Plays old i e answer new
     → s.wakes ≡ [] → old.wakes ≡ [] → l.wakes ≡ [] → c.wakes ≡ [] → h.wakes ≡ [] → o.wakes ≡ [] → s.next ≤ i → l.next ≤ i → c.next ≤ i → h.next ≤ i → o.next ≤ i → PlaysFamilies (world_of s old l c h o) i (Meet e) answer s new l c h o
+unfolding step OthersStay registers
 meets_played s old l c h o i e answer new p rest quiet still calm idle hush low lock_low chan_low share_low once_low =
     let hall : new.hall ≡ (meet_step.step old.hall i e).hall = ap (λ (q : meet.Play). q.hall) p.moved in
     let wakes : new.wakes ≡ (meet_step.step old.hall i e).wakes =
@@ -136,6 +137,7 @@ plays_meets s old l c h o i event e r new is rest quiet still calm idle hush low
 -- ---- an event of locks
 locks_played : (s : sem.Play) (m : meet.Play) (old : LockPlay) (c : ChanPlay) (h : SharePlay) (o : OncePlay) (i : ℕ) (e : LockEvent) (answer : Answer) (new : LockPlay) → named.Yields old i (lock_meaning.step old.hall i e) answer new
     → s.wakes ≡ [] → m.wakes ≡ [] → old.wakes ≡ [] → c.wakes ≡ [] → h.wakes ≡ [] → o.wakes ≡ [] → s.next ≤ i → m.next ≤ i → c.next ≤ i → h.next ≤ i → o.next ≤ i → PlaysFamilies (world_of s m old c h o) i (Lock e) answer s m new c h o
+unfolding step OthersStay registers
 locks_played s m old c h o i e answer new p rest still quiet calm idle hush low meet_low chan_low share_low once_low =
     let hall : new.hall ≡ (lock_meaning.step old.hall i e).hall = ap (λ (q : LockPlay). q.hall) p.moved in
     let wakes : new.wakes ≡ (lock_meaning.step old.hall i e).wakes =
@@ -169,6 +171,7 @@ plays_locks s m old c h o i event e r new is rest still quiet calm idle hush low
 -- ---- an event of channels or boxes
 chans_played : (s : sem.Play) (m : meet.Play) (l : LockPlay) (old : ChanPlay) (h : SharePlay) (o : OncePlay) (i : ℕ) (e : ChanEvent) (answer : Answer) (new : ChanPlay) → named.Yields old i (chan_meaning.step old.hall i e) answer new
     → s.wakes ≡ [] → m.wakes ≡ [] → l.wakes ≡ [] → old.wakes ≡ [] → h.wakes ≡ [] → o.wakes ≡ [] → s.next ≤ i → m.next ≤ i → l.next ≤ i → h.next ≤ i → o.next ≤ i → PlaysFamilies (world_of s m l old h o) i (Chan e) answer s m l new h o
+unfolding step OthersStay registers
 chans_played s m l old h o i e answer new p rest still calm quiet idle hush low meet_low lock_low share_low once_low =
     let hall : new.hall ≡ (chan_meaning.step old.hall i e).hall = ap (λ (q : ChanPlay). q.hall) p.moved in
     let wakes : new.wakes ≡ (chan_meaning.step old.hall i e).wakes =
@@ -202,6 +205,7 @@ plays_chans s m l old h o i event e r new is rest still calm quiet idle hush low
 -- ---- an event of fair admission
 shares_played : (s : sem.Play) (m : meet.Play) (l : LockPlay) (c : ChanPlay) (old : SharePlay) (o : OncePlay) (i : ℕ) (e : ShareEvent) (answer : Answer) (new : SharePlay) → named.Yields old i (share_meaning.step old.hall i e) answer new
     → s.wakes ≡ [] → m.wakes ≡ [] → l.wakes ≡ [] → c.wakes ≡ [] → old.wakes ≡ [] → o.wakes ≡ [] → s.next ≤ i → m.next ≤ i → l.next ≤ i → c.next ≤ i → o.next ≤ i → PlaysFamilies (world_of s m l c old o) i (Share e) answer s m l c new o
+unfolding step OthersStay registers
 shares_played s m l c old o i e answer new p rest still calm idle quiet hush low meet_low lock_low chan_low once_low =
     let hall : new.hall ≡ (share_meaning.step old.hall i e).hall = ap (λ (q : SharePlay). q.hall) p.moved in
     let wakes : new.wakes ≡ (share_meaning.step old.hall i e).wakes =
@@ -232,9 +236,10 @@ plays_shares s m l c old o i event e r new is rest still calm idle quiet hush lo
     (λ answer. PlaysFamilies (world_of s m l c old o) i event answer s m l c new o) r (λ answer p.
     rw is (shares_played s m l c old o i e answer new p rest still calm idle quiet hush low meet_low lock_low chan_low once_low))
 
--- ---- an event of calls that run once or of cells
+-- ---- an event of once types
 onces_played : (s : sem.Play) (m : meet.Play) (l : LockPlay) (c : ChanPlay) (h : SharePlay) (old : OncePlay) (i : ℕ) (e : OnceEvent) (answer : Answer) (new : OncePlay) → named.Yields old i (once_meaning.step old.hall i e) answer new
     → s.wakes ≡ [] → m.wakes ≡ [] → l.wakes ≡ [] → c.wakes ≡ [] → h.wakes ≡ [] → old.wakes ≡ [] → s.next ≤ i → m.next ≤ i → l.next ≤ i → c.next ≤ i → h.next ≤ i → PlaysFamilies (world_of s m l c h old) i (Once e) answer s m l c h new
+unfolding step OthersStay registers
 onces_played s m l c h old i e answer new p rest still calm hush idle quiet low meet_low lock_low chan_low share_low =
     let hall : new.hall ≡ (once_meaning.step old.hall i e).hall = ap (λ (q : OncePlay). q.hall) p.moved in
     let wakes : new.wakes ≡ (once_meaning.step old.hall i e).wakes =

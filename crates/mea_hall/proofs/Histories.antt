@@ -100,6 +100,7 @@ module _ (F : Family) (part : Event → Option F.Event) (hall_in : World → F.H
 
 -- ---- each family in the world
 embeds_semaphores : Embeds semaphores semaphore_part (λ w. w.semaphores)
+unfolding cause_of step
 embeds_semaphores = record { empty = refl; caused = caused; stepped = stepped; told = told; others = others }
   where
     caused : (w : World) (e : Event) (d : semaphores.Event) → semaphore_part e ≡ Some d → semaphores.cause w.semaphores d ≡ cause_of w e
@@ -138,6 +139,7 @@ embeds_semaphores = record { empty = refl; caused = caused; stepped = stepped; t
     others w i (Once e) is = refl
 
 embeds_meets : Embeds meets meet_part (λ w. w.meets)
+unfolding cause_of step
 embeds_meets = record { empty = refl; caused = caused; stepped = stepped; told = told; others = others }
   where
     caused : (w : World) (e : Event) (d : meets.Event) → meet_part e ≡ Some d → meets.cause w.meets d ≡ cause_of w e
@@ -174,6 +176,7 @@ embeds_meets = record { empty = refl; caused = caused; stepped = stepped; told =
     others w i (Once e) is = refl
 
 embeds_locks : Embeds locks_family lock_part (λ w. w.locks)
+unfolding cause_of step
 embeds_locks = record { empty = refl; caused = caused; stepped = stepped; told = told; others = others }
   where
     caused : (w : World) (e : Event) (d : locks_family.Event) → lock_part e ≡ Some d → locks_family.cause w.locks d ≡ cause_of w e
@@ -210,6 +213,7 @@ embeds_locks = record { empty = refl; caused = caused; stepped = stepped; told =
     others w i (Once e) is = refl
 
 embeds_chans : Embeds chans_family chan_part (λ w. w.chans)
+unfolding cause_of step
 embeds_chans = record { empty = refl; caused = caused; stepped = stepped; told = told; others = others }
   where
     caused : (w : World) (e : Event) (d : chans_family.Event) → chan_part e ≡ Some d → chans_family.cause w.chans d ≡ cause_of w e
@@ -246,6 +250,7 @@ embeds_chans = record { empty = refl; caused = caused; stepped = stepped; told =
     others w i (Once e) is = refl
 
 embeds_shares : Embeds shares_family share_part (λ w. w.shares)
+unfolding cause_of step
 embeds_shares = record { empty = refl; caused = caused; stepped = stepped; told = told; others = others }
   where
     caused : (w : World) (e : Event) (d : shares_family.Event) → share_part e ≡ Some d → shares_family.cause w.shares d ≡ cause_of w e
@@ -282,6 +287,7 @@ embeds_shares = record { empty = refl; caused = caused; stepped = stepped; told 
     others w i (Once e) is = refl
 
 embeds_onces : Embeds onces_family once_part (λ w. w.onces)
+unfolding cause_of step
 embeds_onces = record { empty = refl; caused = caused; stepped = stepped; told = told; others = others }
   where
     caused : (w : World) (e : Event) (d : onces_family.Event) → once_part e ≡ Some d → onces_family.cause w.onces d ≡ cause_of w e

@@ -46,7 +46,7 @@ abbrev pub empty_world : World
 empty_world = record { semaphores = sem.empty_hall; meets = meet.empty_hall; locks = lock.empty_hall; chans = chan.empty_hall; shares = share.empty_hall; onces = once.empty_hall }
 
 -- why an event is refused, if it is: the cause of its own family
-abbrev pub cause_of : World → Event → Option Stop
+unfoldable pub cause_of : World → Event → Option Stop
 cause_of w (Sem e) = sem_cause.cause_of w.semaphores e
 cause_of w (Meet e) = meet_cause.cause_of w.meets e
 cause_of w (Lock e) = lock_meaning.cause_of w.locks e
@@ -78,7 +78,7 @@ abbrev pub of_onces : World → families.Outcome once.OnceHall → Outcome
 of_onces w o = record { world = record w { onces = o.hall }; reply = (o.reply, o.wakes) }
 
 -- event number i changes the hall of its own family alone
-abbrev pub step : World → ℕ → Event → Outcome
+unfoldable pub step : World → ℕ → Event → Outcome
 step w i (Sem e) = of_semaphores w (sem_step.step w.semaphores i e)
 step w i (Meet e) = of_meets w (meet_step.step w.meets i e)
 step w i (Lock e) = of_locks w (lock_meaning.step w.locks i e)
@@ -87,7 +87,7 @@ step w i (Share e) = of_shares w (share_meaning.step w.shares i e)
 step w i (Once e) = of_onces w (once_meaning.step w.onces i e)
 
 -- the halls of the other families are as they were
-abbrev pub OthersStay : Event → World → World → Type 0
+unfoldable pub OthersStay : Event → World → World → Type 0
 OthersStay (Sem e) old new = (new.meets ≡ old.meets) × (new.locks ≡ old.locks) × (new.chans ≡ old.chans) × (new.shares ≡ old.shares) × (new.onces ≡ old.onces)
 OthersStay (Meet e) old new = (new.semaphores ≡ old.semaphores) × (new.locks ≡ old.locks) × (new.chans ≡ old.chans) × (new.shares ≡ old.shares) × (new.onces ≡ old.onces)
 OthersStay (Lock e) old new = (new.semaphores ≡ old.semaphores) × (new.meets ≡ old.meets) × (new.chans ≡ old.chans) × (new.shares ≡ old.shares) × (new.onces ≡ old.onces)
@@ -109,7 +109,7 @@ pub record IsValid (w : World) (n : ℕ) : Type 0 where
   pub settled : share_lends.AreSettled w.shares
 
 -- the events that may register a waker
-abbrev pub registers : Event → Bool
+unfoldable pub registers : Event → Bool
 registers (Sem e) = sem_waiters.registers e
 registers (Meet e) = meet_step.registers e
 registers (Lock e) = lock_meaning.registers e
@@ -139,7 +139,7 @@ pub record Plays (old : Play) (event : Event) (answer : Answer) (new : Play) : T
   pub counted : new.events ≡ old.events + 1
 
 -- the events that take no memory
-abbrev pub TakesNoMemory : Event → Type 0
+unfoldable pub TakesNoMemory : Event → Type 0
 TakesNoMemory (Sem e) = sem_plays.TakesNoMemory e
 TakesNoMemory (Meet e) = meet_plays.TakesNoMemory e
 TakesNoMemory (Lock e) = lock_plays.TakesNoMemory e

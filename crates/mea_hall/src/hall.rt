@@ -88,6 +88,7 @@ impl Hall {
     }
 
     /// Why an event would be refused; None where it would not. It takes no memory.
+    #[tactic(auto, unfolding(crate::specs::World::cause_of))]
     pub fn cause(&self, event: &Event) -> Option<Stop>
         ensures { result ≡ cause_of self.now.world event.now }
     {
@@ -103,6 +104,7 @@ impl Hall {
 
     /// Plays the next event, and makes the wakers ready that it wakes. A cause for refusal comes before want
     /// of memory.
+    #[tactic(auto, unfolding(crate::specs::World::registers, crate::specs::World::TakesNoMemory))]
     pub fn act(&mut self, event: &Event) -> Result<Answer, Stop>
         requires { self.old.events < 2 ^ 64 - 1 }
         ensures played { IfOk result (λ answer. Plays self.old event.now answer self.new) }
@@ -228,6 +230,7 @@ fn reserve_for(outbox: &mut Outbox<u64>, event: &Event, registered: usize) -> Re
 }
 
 // Plays the event on the hall of its family.
+#[tactic(auto, unfolding(crate::specs::World::cause_of, crate::specs::World::TakesNoMemory))]
 fn play_on_family(
     semaphores: &mut SemHall,
     meets: &mut MeetHall,
@@ -258,6 +261,7 @@ fn play_on_family(
 }
 
 // Whether the event may register a waker.
+#[tactic(auto, unfolding(crate::specs::World::registers))]
 fn registers(event: &Event) -> bool
     ensures { result ≡ registers event.now }
 {
@@ -278,6 +282,7 @@ fn registers(event: &Event) -> bool
         Event::Share(ShareEvent::FsPoll(..)) => true,
         Event::Share(_) => false,
         Event::Once(OnceEvent::OnPoll(..) | OnceEvent::OcPoll(..)) => true,
+        Event::Once(OnceEvent::OmPoll(..) | OnceEvent::SfPoll(..)) => true,
         Event::Once(_) => false,
     }
 }

@@ -2,7 +2,7 @@
 use Rattle.std.proofs.Common.{◌≡◌, ◌⊎◌, inl, inr, ℕ, ◌++◌, List, [], Option, Some, refl, ap, sym, subst, ◌∙◌, append-nil, append_assoc}
 use Rattle.mea_hall.specs.World.{empty_world}
 use Rattle.mea_run.specs.declared.status.Status.{Status}
-use Rattle.mea_run.specs.declared.status.Status.TheVariants.{Done, Usage}
+use Rattle.mea_run.specs.declared.status.Status.TheVariants.{ReadFault, Done, Usage}
 use Rattle.mea_io.specs.Bytes.{HasWritten, HasWrittenPart}
 use Rattle.mea_run.specs.Runs.{IsFault, IsWriteFault, IsClosed, IsTold}
 use Rattle.mea_run.specs.Script.{limit, text_of, status_of}
@@ -52,6 +52,11 @@ pub no_usage : (status : Status) → IsWriteFault status ⊎ (status ≡ Done) �
 no_usage status (inl (inl fault)) usage = absurd (cc)
 no_usage status (inl (inr memory)) usage = absurd (cc)
 no_usage status (inr done) usage = absurd (cc)
+
+-- a write that fails, or wants memory, is no read that fails
+pub no_read_fault : (status : Status) → IsWriteFault status → status ≡ ReadFault → ⊥
+no_read_fault status (inl fault) read = absurd (cc)
+no_read_fault status (inr memory) read = absurd (cc)
 
 -- ---- what is told in all
 

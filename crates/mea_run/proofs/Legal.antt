@@ -11,22 +11,21 @@ use Rattle.mea_sem_model.specs.declared.event.SemEvent.{SemEvent}
 use Rattle.mea_sem_model.specs.declared.event.SemEvent.TheVariants as events
 use Rattle.mea_sem_model.specs.Hall as sem
 use Rattle.mea_sem_model.specs.Cause as sem_cause
-use Rattle.mea_sem_model.specs.Step as sem_step
 use Rattle.mea_sem_model.specs.Valid.{IsValid, IsBelow}
 use Rattle.mea_sem_model.proofs.Keeps.{valid_empty, below_empty, keeps_below}
 use Rattle.mea_sem_model.proofs.StaysValid.{kept_valid}
 use Rattle.mea_lines.specs.declared.event.Event.{Event}
 use Rattle.mea_lines.specs.declared.event.Event.TheVariants.{Sem}
-use Rattle.mea_hall.specs.World.{World, empty_world, step}
+use Rattle.mea_hall.specs.World.{World, empty_world, cause_of, step}
 use Rattle.mea_hall.specs.Front.{Front, front_at, front_from, front_of, prepended, IsLegal}
 use Rattle.mea_run.specs.Generated.{drawn_by, draw, round, round_of, rounds_from, first_state, script_of, PollsWait, IsBetweenRounds, begun_by, is_semaphore_poll, pendings}
-use Rattle.mea_run.proofs.Rounds.{AllPlay, after, allowed, round_between, round_valid, round_below, round_plays}
+use Rattle.mea_run.proofs.Rounds.{AllPlay, after, played, allowed, round_between, round_valid, round_below, round_plays}
 
 -- ---- events of semaphores in the world
 -- the replies of events of semaphores
 abbrev pub told_of : sem.Hall → ℕ → List SemEvent → List (Answer × List ℕ)
 told_of h i [] = []
-told_of h i (e ∷ es) = ((sem_step.step h i e).reply, (sem_step.step h i e).wakes) ∷ told_of (sem_step.step h i e).hall (i + 1) es
+told_of h i (e ∷ es) = ((played h i e).reply, (played h i e).wakes) ∷ told_of (played h i e).hall (i + 1) es
 
 abbrev pub lifted : List SemEvent → List Event
 lifted es = map (λ e. Sem e) es
@@ -37,6 +36,7 @@ world_after w i es = record w { semaphores = after w.semaphores i es }
 -- where all of them are played, others go on after them
 pub front_after : (w : World) (i k : ℕ) (es : List SemEvent) (fs : List Event) → AllPlay w.semaphores i es → i + length es ≡ k
     → front_from w i (lifted es ++ fs) ≡ prepended (told_of w.semaphores i es) (front_from (world_after w i es) k fs)
+unfolding cause_of step played
 front_after w i k [] fs plays is = ap (λ j. front_from w j fs) (omega (arith, is))
 front_after w i k (e ∷ es) fs plays is =
     let next : Front = front_from (step w i (Sem e)).world (i + 1) (lifted es ++ fs) in
@@ -46,7 +46,7 @@ front_after w i k (e ∷ es) fs plays is =
 pub polls_after : (h : sem.Hall) (i : ℕ) (es : List SemEvent) (fs : List Event) (rs : List (Answer × List ℕ)) → AllPlay h i es → PollsWait fs rs
     → PollsWait (lifted es ++ fs) (told_of h i es ++ rs)
 polls_after h i [] fs rs plays wait = wait
-polls_after h i (e ∷ es) fs rs plays wait = (plays.1, polls_after (sem_step.step h i e).hall (i + 1) es fs rs plays.3 wait)
+polls_after h i (e ∷ es) fs rs plays wait = (plays.1, polls_after (played h i e).hall (i + 1) es fs rs plays.3 wait)
 
 -- how many of them are polls
 abbrev polls_in : List SemEvent → ℕ
@@ -56,16 +56,16 @@ polls_in es = sum_by {X = SemEvent} (λ e. if is_semaphore_poll e then 1 else 0)
 pending_told : (h : sem.Hall) (i : ℕ) (es : List SemEvent) → AllPlay h i es → pendings (told_of h i es) ≡ polls_in es
 pending_told h i [] plays = refl
 pending_told h i (e ∷ es) plays =
-    let here : ◌≡◌ {A = ℕ} (if is_pending (sem_step.step h i e).reply then 1 else 0) (if is_semaphore_poll e then 1 else 0) = ap (λ b. if b then 1 else 0)
+    let here : ◌≡◌ {A = ℕ} (if is_pending (played h i e).reply then 1 else 0) (if is_semaphore_poll e then 1 else 0) = ap (λ b. if b then 1 else 0)
     plays.2 in
     omega (
       arith,
       here,
-      pending_told (sem_step.step h i e).hall (i + 1) es plays.3,
+      pending_told (played h i e).hall (i + 1) es plays.3,
       sum_by-cons {X = SemEvent} (λ d. if is_semaphore_poll d then 1 else 0) e es,
       sum_by-cons {X = Answer
-          × List ℕ} (λ r. if is_pending r.0 then 1 else 0) ((sem_step.step h i e).reply, (sem_step.step h i e).wakes)
-          (told_of (sem_step.step h i e).hall (i + 1) es),
+          × List ℕ} (λ r. if is_pending r.0 then 1 else 0) ((played h i e).reply, (played h i e).wakes)
+          (told_of (played h i e).hall (i + 1) es),
     )
 
 -- ---- rounds
@@ -126,6 +126,7 @@ abbrev last : List Event
 last = Sem (events.Ledger 0) ∷ []
 
 rounds_legal : (n state j : ℕ) (w : World) → IsReady w.semaphores (1 + 9 * j) → (front_from w (1 + 9 * j) (rounds_from state j n ++ last)).cause ≡ None
+unfolding cause_of
 rounds_legal zero state j w ready = ap (λ c. (front_at c w (step w (1 + 9 * j) (Sem (events.Ledger 0))).reply
     (front_from (step w (1 + 9 * j) (Sem (events.Ledger 0))).world (1 + 9 * j + 1) [])).cause) (allowed (sem_cause.is_named w.semaphores 0) ready.between.named)
 rounds_legal (suc n) state j w ready =
@@ -135,6 +136,7 @@ rounds_legal (suc n) state j w ready =
 
 rounds_wait : (n state j : ℕ) (w : World) → IsReady w.semaphores (1 + 9 * j)
     → PollsWait (rounds_from state j n ++ last) (front_from w (1 + 9 * j) (rounds_from state j n ++ last)).replies
+unfolding cause_of
 rounds_wait zero state j w ready = subst (λ c. PollsWait last (front_at c w (step w (1 + 9 * j) (Sem (events.Ledger 0))).reply
     (front_from (step w (1 + 9 * j) (Sem (events.Ledger 0))).world (1 + 9 * j + 1) [])).replies)
     (sym (allowed (sem_cause.is_named w.semaphores 0) ready.between.named)) ((λ poll. absurd (cc)), tt)
@@ -150,6 +152,7 @@ abbrev pub first_world : World
 first_world = (step empty_world 0 (Sem (events.New 0))).world
 
 pub first_ready : IsReady first_world.semaphores (1 + 9 * 0)
+unfolding step
 first_ready = record {
   valid = kept_valid sem.empty_hall 0 (events.New 0) valid_empty (below_empty 0) (omega arith) refl;
   below = keeps_below sem.empty_hall 0 (events.New 0) valid_empty (below_empty 0) refl;
@@ -163,9 +166,11 @@ first_ready = record {
 }
 
 pub script_legal : (seed rounds : ℕ) → IsLegal (script_of seed rounds)
+unfolding cause_of
 script_legal seed rounds = rounds_legal rounds (first_state seed) 0 first_world first_ready
 
 pub script_waits : (seed rounds : ℕ) → PollsWait (script_of seed rounds) (front_of (script_of seed rounds)).replies
+unfolding cause_of
 script_waits seed rounds = ((λ poll. absurd (cc)), rounds_wait rounds (first_state seed) 0 first_world first_ready)
 
 -- ---- what the rounds leave
@@ -177,11 +182,13 @@ rounds_leave (suc n) state j w ready = subst (λ (front : Front). IsBetweenRound
     (rounds_leave n (drawn_by 4 state) (j + 1) (world_after w (1 + 9 * j) (events_of_round w.semaphores state j ready)) (again w.semaphores state j ready))
 
 pub begun_leaves : (seed rounds : ℕ) → IsBetweenRounds (front_of (begun_by seed rounds)).world.semaphores
+unfolding cause_of
 begun_leaves seed rounds = rounds_leave rounds (first_state seed) 0 first_world first_ready
 
 -- ---- how many polls wait
 rounds_pending : (n state j : ℕ) (w : World) → IsReady w.semaphores (1 + 9 * j)
     → pendings (front_from w (1 + 9 * j) (rounds_from state j n ++ last)).replies ≡ 2 * n
+unfolding cause_of step
 rounds_pending zero state j w ready = ap (λ c. pendings (front_at c w (step w (1 + 9 * j) (Sem (events.Ledger 0))).reply
     (front_from (step w (1 + 9 * j) (Sem (events.Ledger 0))).world (1 + 9 * j + 1) [])).replies)
     (allowed (sem_cause.is_named w.semaphores 0) ready.between.named)
@@ -203,6 +210,7 @@ rounds_pending (suc n) state j w ready =
     )
 
 pub script_pending : (seed rounds : ℕ) → pendings (front_of (script_of seed rounds)).replies ≡ 2 * rounds
+unfolding cause_of step
 script_pending seed rounds = omega (
   arith,
   rounds_pending rounds (first_state seed) 0 first_world first_ready,

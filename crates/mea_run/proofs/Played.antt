@@ -94,6 +94,11 @@ first = Sem (events.New 0)
 abbrev pub last : Event
 last = Sem (events.Ledger 0)
 
+-- the first event has no cause for refusal
+pub first_memory : (w : World) (i : ℕ) (stop : Stop) → (stop ≢ NoMemory → (front_from w i (first ∷ [])).cause ≡ Some stop) → stop ≡ NoMemory
+unfolding cause_of
+first_memory w i stop caused = memory_alone stop (λ other. absurd (let refused = caused other in cc))
+
 -- what is left of it before round j
 abbrev pub left_of : ℕ → ℕ → ℕ → List Event
 left_of state j n = rounds_from state j (n - j) ++ last ∷ []
@@ -179,5 +184,6 @@ module _ (seed n : ℕ) where
 
     pub last_reply : (answer : Answer) → cause_of h.world last ≡ None → answer ≡ (step h.world h.events last).reply.0
         → reply_text answer [] ≡ last_text (front_of script).replies
+    unfolding step
     last_reply answer none is = ap (λ a. reply_text a []) is
         ∙ sym (ap last_text (all_replies none) ∙ last_of at_last.replies (step h.world h.events last).reply)

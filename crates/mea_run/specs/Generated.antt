@@ -1,5 +1,5 @@
 -- the generated script, and the summary of what it gives
-use Rattle.std.specs.Prelude.{ℕ, zero, suc, ◌≡◌, ◌+◌, ◌*◌, ◌/◌, ◌%◌, ◌++◌, Bool, true, false, List, [], ◌∷◌, map, length, None, codes, if◌then◌else◌}
+use Rattle.std.specs.Prelude.{ℕ, zero, suc, ◌≡◌, ◌≢◌, ◌+◌, ◌*◌, ◌/◌, ◌%◌, ◌++◌, Bool, true, false, List, [], ◌∷◌, map, length, Some, None, codes, if◌then◌else◌}
 use Rattle.std.specs.List.{sum_by}
 use Rattle.std.specs.FinMap as finmap
 use Rattle.mea_base.specs.declared.answer.Answer.{Answer}
@@ -11,7 +11,10 @@ use Rattle.mea_sem_model.specs.Hall as sem
 use Rattle.mea_sem_model.specs.Cause.{is_named}
 use Rattle.mea_lines.specs.declared.event.Event.{Event}
 use Rattle.mea_lines.specs.declared.event.Event.TheVariants.{Sem, Meet, Lock, Chan, Share, Once}
-use Rattle.mea_hall.specs.Front.{front_of}
+use Rattle.mea_base.specs.declared.stop.Stop.{Stop}
+use Rattle.mea_base.specs.declared.stop.Stop.TheVariants as stops
+use Rattle.mea_hall.specs.World.{Play}
+use Rattle.mea_hall.specs.Front.{front_from, front_of}
 use Rattle.mea_lines.specs.Text.{reply_text, counted_line}
 
 -- ---- drawn numbers
@@ -96,6 +99,23 @@ summary es rs = counted_line (codes "events") (length es) ++ counted_line (codes
 
 abbrev pub summary_of : ℕ → ℕ → List ℕ
 summary_of seed rounds = summary (script_of seed rounds) (front_of (script_of seed rounds)).replies
+
+-- ---- a round that is played
+
+-- from this hall on, with so many replies `pending` and so many wakes counted before, round j was played whole
+pub record PlaysRound (old : Play) (pending wakes state j : ℕ) (new : Play) (pending_after wakes_after : ℕ) : Type 0 where
+  pub events : List Event
+  pub is_round : events ≡ round_of state j
+  pub allowed : (front_from old.world old.events events).cause ≡ None
+  pub hall : new ≡ record { world = (front_from old.world old.events events).world; wakes = []; events = old.events + length events }
+  pub pending_is : pending_after ≡ pending + pendings (front_from old.world old.events events).replies
+  pub wakes_is : wakes_after ≡ wakes + wakes_in (front_from old.world old.events events).replies
+
+-- but for want of memory, it was refused for a cause that an event of it has
+pub record RefusesRound (old : Play) (state j : ℕ) (stop : Stop) : Type 0 where
+  pub events : List Event
+  pub is_round : events ≡ round_of state j
+  pub caused : stop ≢ stops.NoMemory → (front_from old.world old.events events).cause ≡ Some stop
 
 -- ---- why a generated script is legal
 

@@ -1,9 +1,9 @@
-ghost use Rattle.std.specs.Prelude.{◌≡◌, ◌≢◌, ◌+◌, ◌*◌, ◌<◌, ◌≤◌, ◌++◌, [], ◌∷◌, ℕ, List, length, None, Some, IfOk, OnOk, IfErr, codes, if◌then◌else◌};
+ghost use Rattle.std.specs.Prelude.{◌≡◌, ◌≢◌, ◌+◌, ◌*◌, ◌<◌, ◌≤◌, ◌^◌, ◌++◌, [], ◌∷◌, ℕ, List, length, None, Some, IfOk, OnOk, IfErr, codes, if◌then◌else◌};
 ghost use Rattle.mea_base.specs.Family.{is_pending};
-ghost use Rattle.mea_hall.specs.World.{cause_of, step};
+ghost use Rattle.mea_hall.specs.World.{empty_world, cause_of, step};
 ghost use Rattle.mea_hall.specs.Front.{front_from, front_of};
 ghost use Rattle.mea_lines.specs.Text.{reply_text, counted_line};
-ghost use Rattle.mea_run.specs.Generated.{script_of, pendings, wakes_in, last_text, summary_of};
+ghost use Rattle.mea_run.specs.Generated.{script_of, drawn_by, pendings, wakes_in, last_text, summary_of, PlaysRound, RefusesRound};
 
 use crate::generator::{FIRST, LAST, first_state, round_of};
 use mea_base::{Answer, NoMemory, Stop};
@@ -48,7 +48,7 @@ fn text_of(alloc: Global, made: &Made) -> Result<Vec<u8>, NoMemory>
     Ok(text)
 }
 
-/// Makes and plays a generated script, round by round. It is refused for no cause.
+/// Makes and plays a generated script. It is refused for no cause.
 fn make(alloc: Global, seed: u64, rounds: u32) -> Result<Made, Stop>
     requires { rounds ≤ 300000 }
     ensures events { IfOk result (λ made. made.events ≡ length (script_of seed rounds)) }
@@ -58,24 +58,35 @@ fn make(alloc: Global, seed: u64, rounds: u32) -> Result<Made, Stop>
     ensures no_cause { IfErr result (λ stop. stop ≡ Stop.NoMemory) }
 {
     let mut hall = Hall::new(alloc);
+    make_on(&mut hall, seed, rounds)
+}
+
+/// Plays a generated script on a new hall, round by round as it is made.
+fn make_on(hall: &mut Hall, seed: u64, rounds: u32) -> Result<Made, Stop>
+    requires rounds { rounds ≤ 300000 }
+    requires hall { hall.old ≡ record { world = empty_world; wakes = []; events = 0 } }
+    ensures events { IfOk result (λ made. made.events ≡ length (script_of seed rounds)) }
+    ensures pending { IfOk result (λ made. made.counts.pending ≡ pendings (front_of (script_of seed rounds)).replies) }
+    ensures wakes { IfOk result (λ made. made.counts.wakes ≡ wakes_in (front_of (script_of seed rounds)).replies) }
+    ensures last { IfOk result (λ made. reply_text made.last [] ≡ last_text (front_of (script_of seed rounds)).replies) }
+    ensures no_cause { IfErr result (λ stop. stop ≡ Stop.NoMemory) }
+{
     let mut counts = Counts {
         pending: 0,
         wakes: 0,
     };
-    match play_all(&mut hall, &mut counts, &[FIRST]) {
+    match play_all(hall, &mut counts, &[FIRST]) {
         Ok(()) => {}
         Err(stop) => return Err(stop),
     }
     let mut state = first_state(seed);
     for number in 0..rounds {
-        let (round, next) = round_of(state, u64::from(number));
-        match play_all(&mut hall, &mut counts, &round) {
-            Ok(()) => {}
+        state = match play_round(hall, &mut counts, state, u64::from(number)) {
+            Ok(next) => next,
             Err(stop) => return Err(stop),
-        }
-        state = next;
+        };
     }
-    let last = match play(&mut hall, &mut counts, &LAST) {
+    let last = match play(hall, &mut counts, &LAST) {
         Ok(answer) => answer,
         Err(stop) => return Err(stop),
     };
@@ -84,6 +95,28 @@ fn make(alloc: Global, seed: u64, rounds: u32) -> Result<Made, Stop>
         counts,
         last,
     })
+}
+
+/// Makes a round, plays it, and answers the state after it.
+fn play_round(hall: &mut Hall, counts: &mut Counts, state: u64, number: u64) -> Result<u64, Stop>
+    requires small { state < 2147483648 }
+    requires number { number < 2 ^ 32 }
+    requires quiet { hall.old.wakes ≡ [] }
+    requires few { hall.old.events + 9 ≤ 4194304 }
+    requires pending_fits { counts.old.pending ≤ hall.old.events }
+    requires wakes_fit { counts.old.wakes ≤ 4194304 * hall.old.events }
+    ensures state { IfOk result (λ next. next ≡ drawn_by 4 state) }
+    ensures small { IfOk result (λ next. next < 2147483648) }
+    ensures played { OnOk result (PlaysRound hall.old counts.old.pending counts.old.wakes state number hall.new counts.new.pending counts.new.wakes) }
+    ensures pending_fits { OnOk result (counts.new.pending ≤ hall.new.events) }
+    ensures wakes_fit { OnOk result (counts.new.wakes ≤ 4194304 * hall.new.events) }
+    ensures refused { IfErr result (λ stop. RefusesRound hall.old state number stop) }
+{
+    let (round, next) = round_of(state, number);
+    match play_all(hall, counts, &round) {
+        Ok(()) => Ok(next),
+        Err(stop) => Err(stop),
+    }
 }
 
 /// Plays events, and counts what they give.

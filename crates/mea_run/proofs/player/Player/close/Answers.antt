@@ -1,7 +1,7 @@
 use Rattle.std.proofs.Common.{ℕ, List, inl, inr, ap, sym, ◌∙◌, subst}
 use Rattle.mea_run.specs.Runs.{IsClosed, line_of}
 use Rattle.mea_run.proofs.Ended.{no_line}
-use Rattle.mea_run.proofs.Endings.{closes}
+use Rattle.mea_run.proofs.Endings.{closes, no_usage, no_read_fault}
 use Rattle.mea_run.proofs.player.Player.close.Goals as goal
 
 pub returns-clause-told : goal.returns-clause-told
@@ -12,5 +12,17 @@ returns-clause-told g c = λ whole before h.
 pub returns-clause-cause : goal.returns-clause-cause
 returns-clause-cause g c = λ at is. elim c.write_last.ensures.same [
   | inl fault ↦ absurd (no_line c.write_last.result at (inr fault) (ap line_of is))
+  | inr same ↦ sym same ∙ is
+]
+
+pub returns-clause-read_fault : goal.returns-clause-read_fault
+returns-clause-read_fault g c = λ is. elim c.write_last.ensures.same [
+  | inl fault ↦ absurd (no_read_fault c.write_last.result fault is)
+  | inr same ↦ sym same ∙ is
+]
+
+pub returns-clause-usage : goal.returns-clause-usage
+returns-clause-usage g c = λ is. elim c.write_last.ensures.same [
+  | inl fault ↦ absurd (no_usage c.write_last.result (inl fault) is)
   | inr same ↦ sym same ∙ is
 ]

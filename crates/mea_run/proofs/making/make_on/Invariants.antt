@@ -1,7 +1,7 @@
 use Rattle.std.proofs.Common.{◌≡◌, ◌+◌, ◌*◌, ◌<◌, ◌≤◌, []}
 use Rattle.mea_run.specs.Generated.{script_of}
 use Rattle.mea_run.proofs.Played.{IsPlayedTo, left_of}
-use Rattle.mea_run.proofs.making.make.Given as goal
+use Rattle.mea_run.proofs.making.make_on.Given as goal
 
 -- the script is played up to this round
 abbrev pub invariant-loop-number : goal.invariant-loop-number

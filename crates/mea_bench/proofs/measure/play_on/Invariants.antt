@@ -1,5 +1,5 @@
 use Rattle.std.proofs.Common.{◌≡◌}
-use Rattle.mea_bench.proofs.measure.play.Given as goal
+use Rattle.mea_bench.proofs.measure.play_on.Given as goal
 
 -- as many events were played as were gone over
 abbrev pub invariant-loop-event : goal.invariant-loop-event
