@@ -5,6 +5,7 @@ pub mod OneLock
 mod Notifying
 pub mod OneCondvar
 pub mod PartEvents
+pub mod FutureEvents
 mod WaitEvents
 pub mod Playing
 mod Asking

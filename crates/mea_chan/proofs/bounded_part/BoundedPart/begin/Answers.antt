@@ -1,6 +1,7 @@
 use Rattle.std.proofs.Common.{ap, ◌∙◌, refl}
 use Rattle.std.specs.FinMap.{insert}
-use Rattle.mea_chan.proofs.BoundedEvents.{site, sender_there, looked_at, begun}
+use Rattle.mea_chan.proofs.BoundedEvents.{site, sender_there}
+use Rattle.mea_chan.proofs.BoundedEnds.{looked_at, begun}
 use Rattle.mea_chan.proofs.bounded_part.BoundedPart.begin.Goals as goal
 
 pub at_mut-sender-requires : goal.at_mut-sender-requires

@@ -1,5 +1,6 @@
 use Rattle.std.proofs.Common.{sym}
-use Rattle.mea_chan.proofs.BoundedEvents.{site, receiver_there, receivers_channel, lives, its_quiet, its_room, over_there, receiver_ended}
+use Rattle.mea_chan.proofs.BoundedEvents.{site, receiver_there, receivers_channel, lives, its_quiet, its_room, over_there}
+use Rattle.mea_chan.proofs.BoundedEnds.{receiver_ended}
 use Rattle.mea_chan.proofs.bounded_part.BoundedPart.end_receiver.Goals as goal
 
 pub remove-o-requires : goal.remove-o-requires

@@ -1,4 +1,5 @@
-use Rattle.mea_chan.proofs.BoundedEvents.{site, send_there, belongs_there, its_quiet, its_room, some_send, send_ended}
+use Rattle.mea_chan.proofs.BoundedEvents.{site, send_there, its_quiet, its_room}
+use Rattle.mea_chan.proofs.BoundedEnds.{belongs_there, some_send, send_ended}
 use Rattle.mea_chan.proofs.bounded_part.BoundedPart.end_send.Goals as goal
 
 pub remove-send-requires : goal.remove-send-requires

@@ -1,5 +1,6 @@
 use Rattle.std.proofs.Common.{sym}
-use Rattle.mea_chan.proofs.BoundedEvents.{site, ender_there, senders_channel, some_sender, its_quiet, its_room, over_there, sender_ended}
+use Rattle.mea_chan.proofs.BoundedEvents.{site, ender_there, senders_channel, some_sender, its_quiet, its_room, over_there}
+use Rattle.mea_chan.proofs.BoundedEnds.{sender_ended}
 use Rattle.mea_chan.proofs.bounded_part.BoundedPart.end_sender.Goals as goal
 
 pub remove-o-requires : goal.remove-o-requires

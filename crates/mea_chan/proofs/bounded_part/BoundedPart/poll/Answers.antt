@@ -1,5 +1,6 @@
 use Rattle.mea_base.proofs.Maps.{get-there, is_there, value_in}
-use Rattle.mea_chan.proofs.BoundedEvents.{site, send_there, sends_sender, belongs_there, looked_both, its_quiet, its_room, some_send, ready_polled, pending_polled}
+use Rattle.mea_chan.proofs.BoundedEvents.{site, send_there, sends_sender, its_quiet, its_room}
+use Rattle.mea_chan.proofs.BoundedEnds.{belongs_there, looked_both, some_send, ready_polled, pending_polled}
 use Rattle.mea_chan.proofs.bounded_part.BoundedPart.poll.Goals as goal
 
 pub at_mut-send-requires : goal.at_mut-send-requires

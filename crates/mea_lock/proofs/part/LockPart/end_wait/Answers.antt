@@ -1,6 +1,7 @@
 use Rattle.std.proofs.Common.{sym, ap, ◌∙◌}
 use Rattle.mea_lock.specs.Entries.{is_over}
-use Rattle.mea_lock.proofs.PartEvents.{site, future_there, its_lock, its_kept, its_room, over_there, future_may_end, future_holds, future_few, wait_ended}
+use Rattle.mea_lock.proofs.PartEvents.{site, future_there, its_lock, its_kept, its_room, over_there}
+use Rattle.mea_lock.proofs.FutureEvents.{future_may_end, future_holds, future_few, wait_ended}
 use Rattle.mea_lock.proofs.part.LockPart.end_wait.Goals as goal
 
 pub remove-future-requires : goal.remove-future-requires

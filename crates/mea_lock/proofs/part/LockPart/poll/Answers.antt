@@ -1,6 +1,7 @@
 use Rattle.std.proofs.Common.{refl}
 use Rattle.mea_base.proofs.Maps.{get-there, is_there}
-use Rattle.mea_lock.proofs.PartEvents.{site, lock_future_there, waits_alone, its_lock, its_room, future_may_poll, undone, undone_after, pended, readied}
+use Rattle.mea_lock.proofs.PartEvents.{site, lock_future_there, its_lock, its_room}
+use Rattle.mea_lock.proofs.FutureEvents.{waits_alone, future_may_poll, undone, undone_after, pended, readied}
 use Rattle.mea_lock.proofs.part.LockPart.poll.Goals as goal
 
 pub at_mut-future-requires : goal.at_mut-future-requires

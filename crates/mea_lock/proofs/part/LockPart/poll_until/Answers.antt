@@ -1,6 +1,7 @@
 use Rattle.std.proofs.Common.{refl}
 use Rattle.mea_base.proofs.Maps.{get-there, is_there}
-use Rattle.mea_lock.proofs.PartEvents.{site, condvar_future_there, condvar_writes, its_lock, its_kept, its_room, future_may_poll, future_holds, undone, undone_after, pended_until, asks_polled, until_ready, until_lays}
+use Rattle.mea_lock.proofs.PartEvents.{site, condvar_future_there, its_lock, its_kept, its_room}
+use Rattle.mea_lock.proofs.FutureEvents.{condvar_writes, future_may_poll, future_holds, undone, undone_after, pended_until, asks_polled, until_ready, until_lays}
 use Rattle.mea_lock.specs.Waits.{until_seen}
 use Rattle.mea_lock.proofs.part.LockPart.poll_until.Goals as goal
 
