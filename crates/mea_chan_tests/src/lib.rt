@@ -15,4 +15,6 @@ mod hall;
 #[cfg(test)]
 mod oneshot;
 #[cfg(test)]
+mod play;
+#[cfg(test)]
 mod unbounded;

@@ -1,14 +1,113 @@
 use mea_base::{Answer, Stop};
-use mea_hall::{Hall, replay};
+use mea_hall::{Hall, Played, replay};
 use mea_lines::{Event, Replies, lines_have_one_spelling, put_number, put_reply, put_text};
 use mea_meet::MeetEvent;
 use mea_sem_model::SemEvent;
+use std::alloc::Global;
+
+// An expected reply: its number, its answer, and the waker that its event made ready.
+type Reply = (usize, Answer, Option<u64>);
+
+// What a replay left, in values: no test holds a hall, since a proof about it would carry the laws of all families.
+#[derive(Drop)]
+struct Left {
+    ended: Result<(), Stop>,
+    // How many replies there are, and the first of the expected ones that is another.
+    replies: usize,
+    differs: Option<usize>,
+    events: u64,
+    // How many wakers are ready: of all families and of semaphores.
+    ready: [usize; 2],
+    // How many are registered: of all families, of semaphores and of meeting points.
+    registered: [usize; 3],
+}
+
+// Lets a hall go. It is done in one place, since to prove it takes as long as all else here.
+fn gone(_hall: Hall) {}
+
+fn replayed(alloc: Global, events: &[Event], expected: &[Reply]) -> Left {
+    let Played {
+        hall,
+        replies,
+        ended,
+    } = replay(alloc, events);
+    let left = Left {
+        ended,
+        replies: replies.len(),
+        differs: differs(&replies, expected),
+        events: hall.events(),
+        ready: ready(&hall),
+        registered: registered(&hall),
+    };
+    gone(hall);
+    left
+}
+
+fn ready(hall: &Hall) -> [usize; 2] {
+    [hall.wakes_ready(), hall.semaphores().wakes_ready()]
+}
+
+fn registered(hall: &Hall) -> [usize; 3] {
+    [
+        hall.registered(),
+        hall.semaphores().registered(),
+        hall.meets().registered(),
+    ]
+}
+
+// The number of the first of these replies that is another.
+fn differs(replies: &Replies, expected: &[Reply]) -> Option<usize> {
+    for (number, answer, waker) in expected {
+        if !is_reply(replies, *number, answer, *waker) {
+            return Some(*number);
+        }
+    }
+    None
+}
+
+fn is_reply(replies: &Replies, number: usize, answer: &Answer, waker: Option<u64>) -> bool {
+    if number >= replies.len() || replies.answer(number) != answer {
+        return false;
+    }
+    let wakes = replies.wakes(number);
+    wakes.first().copied() == waker && wakes.len() <= 1
+}
+
+// What a latch counts, if there is one.
+fn count(hall: &Hall, latch: u64) -> Option<u32> {
+    match hall.meets().latch(latch) {
+        Some(core) => Some(core.count()),
+        None => None,
+    }
+}
+
+// The same after these events, and whether there is a shutdown of this name.
+fn meets(alloc: Global, events: &[Event], latch: u64, shutdown: u64) -> (Option<u32>, bool) {
+    let Played {
+        hall,
+        replies: _,
+        ended: _,
+    } = replay(alloc, events);
+    let found = (
+        count(&hall, latch),
+        hall.meets().shutdown(shutdown).is_some(),
+    );
+    gone(hall);
+    found
+}
+
+fn acted(alloc: Global, event: &Event) -> Result<Answer, Stop> {
+    let mut hall = Hall::new(alloc);
+    let answer = hall.act(event);
+    gone(hall);
+    answer
+}
 
 // Each call that may find no memory finds some: an event.
 #[test]
 fn ample_event(rt: HostRuntime) {
-    let mut hall = Hall::new(rt.alloc());
-    assert!(rt; hall.act(&Event::Sem(SemEvent::New(1))) == Ok(Answer::Made));
+    let event = Event::Sem(SemEvent::New(1));
+    assert!(rt; acted(rt.alloc(), &event) == Ok(Answer::Made));
 }
 
 // The same: events that are replayed, with a waker that is registered.
@@ -19,10 +118,11 @@ fn ample_replay(rt: HostRuntime) {
         Event::Meet(MeetEvent::LatWait(0)),
         Event::Meet(MeetEvent::LatPoll(1, 5)),
     ];
-    let played = replay(rt.alloc(), &events);
-    assert!(rt; played.ended == Ok(()) && played.replies.len() == 3);
-    assert!(rt; *played.replies.answer(2) == Answer::Pending);
-    assert!(rt; played.hall.registered() == 1);
+    let left = replayed(rt.alloc(), &events, &[(2, Answer::Pending, None)]);
+    assert!(rt; left.ended == Ok(()));
+    assert_eq!(rt; left.replies, 3);
+    assert_eq!(rt; left.differs, None);
+    assert_eq!(rt; left.registered, [1, 0, 1]);
 }
 
 // The same: replies and texts.
@@ -34,6 +134,7 @@ fn ample_text(rt: HostRuntime) {
     assert!(rt; put_text(&mut text, b"text") == Ok(()));
     assert!(rt; put_number(&mut text, 7) == Ok(()));
     assert!(rt; put_reply(&mut text, &Answer::Free(1), &[5, 6]) == Ok(()));
+    lines_have_one_spelling();
     assert!(rt; text.as_slice() == b"text 7free 1 wake 5 6\n".as_slice());
 }
 
@@ -46,13 +147,12 @@ fn wakes_stand_beside_their_reply(rt: HostRuntime) {
         Event::Sem(SemEvent::Poll(1, 5)),
         Event::Sem(SemEvent::Release(0, 1)),
     ];
-    let played = replay(rt.alloc(), &events);
-    assert!(rt; played.replies.len() == 4);
-    assert!(rt; *played.replies.answer(2) == Answer::Pending && played.replies.wakes(2).is_empty());
-    assert!(rt; *played.replies.answer(3) == Answer::Done);
-    assert!(rt; played.replies.wakes(3) == [5].as_slice());
-    assert!(rt; played.hall.registered() <= 4 && played.hall.semaphores().wakes_ready() == 0);
-    lines_have_one_spelling();
+    let replies = [(2, Answer::Pending, None), (3, Answer::Done, Some(5))];
+    let left = replayed(rt.alloc(), &events, &replies);
+    assert_eq!(rt; left.replies, 4);
+    assert_eq!(rt; left.differs, None);
+    assert_eq!(rt; left.registered, [0, 0, 0]);
+    assert_eq!(rt; left.ready, [0, 0]);
 }
 
 // The families have their numbers in common, and each its own wakers.
@@ -71,17 +171,19 @@ fn two_families_in_one_script(rt: HostRuntime) {
         Event::Meet(MeetEvent::SdPoll(8, 7)),
         Event::Sem(SemEvent::Release(0, 1)),
     ];
-    let played = replay(rt.alloc(), &events);
-    assert!(rt; played.ended == Ok(()));
-    assert!(rt; played.replies.len() == 11);
-    assert!(rt; played.replies.wakes(6) == [6].as_slice());
-    assert!(rt; *played.replies.answer(9) == Answer::Pending && played.replies.wakes(9).is_empty());
-    assert!(rt; played.replies.wakes(10) == [5].as_slice());
-    assert!(rt; played.hall.events() == 11 && played.hall.wakes_ready() == 0);
-    assert!(rt; played.hall.semaphores().registered() == 0);
-    assert!(rt; played.hall.meets().registered() == 1 && played.hall.registered() == 1);
-    assert!(rt; played.hall.meets().latch(1).map(|core| core.count()) == Some(0));
-    assert!(rt; played.hall.meets().shutdown(7).is_some());
+    let replies = [
+        (6, Answer::Done, Some(6)),
+        (9, Answer::Pending, None),
+        (10, Answer::Done, Some(5)),
+    ];
+    let left = replayed(rt.alloc(), &events, &replies);
+    assert!(rt; left.ended == Ok(()));
+    assert_eq!(rt; left.replies, 11);
+    assert_eq!(rt; left.differs, None);
+    assert_eq!(rt; left.events, 11);
+    assert_eq!(rt; left.ready, [0, 0]);
+    assert_eq!(rt; left.registered, [1, 0, 1]);
+    assert_eq!(rt; meets(rt.alloc(), &events, 1, 7), (Some(0), true));
 }
 
 // A line of one family finds nothing of another under its number.
@@ -91,7 +193,7 @@ fn families_share_no_things(rt: HostRuntime) {
         Event::Sem(SemEvent::New(1)),
         Event::Meet(MeetEvent::LatDown(0)),
     ];
-    let played = replay(rt.alloc(), &events);
-    assert!(rt; played.ended == Err(Stop::Unknown));
-    assert!(rt; played.replies.len() == 1);
+    let left = replayed(rt.alloc(), &events, &[]);
+    assert!(rt; left.ended == Err(Stop::Unknown));
+    assert_eq!(rt; left.replies, 1);
 }

@@ -3,4 +3,16 @@
 #![tactic(auto)]
 
 #[cfg(test)]
+mod cells;
+#[cfg(test)]
+mod clones;
+#[cfg(test)]
+mod inits;
+#[cfg(test)]
+mod keys;
+#[cfg(test)]
 mod once;
+#[cfg(test)]
+mod play;
+#[cfg(test)]
+mod tables;

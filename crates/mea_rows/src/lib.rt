@@ -20,7 +20,11 @@ mod limits;
 #[cfg(test)]
 mod locks;
 #[cfg(test)]
+mod maps;
+#[cfg(test)]
 mod meeting_points;
+#[cfg(test)]
+mod mixed;
 #[cfg(test)]
 mod once;
 #[cfg(test)]

@@ -45,13 +45,13 @@ const ROWS: &[Row] = &[
             cause: Stop::Borrowed,
         },
     },
-    // Row 36: an initialiser fails, and the next caller puts its value in.
+    // An initialiser fails, and the next caller puts its value in.
     Row {
         script: "oc.new/oc.init 0/oc.poll 1 40/oc.set 0 9/oc.poll 3 41/oc.fail 1 4/oc.poll 1 42/oc.poll 3 43/oc.get 0/oc.set 0 3/oc.poll 9 44",
         text: "made/made/pending/made/pending/done wake 40/err 4 wake 41/ok/value 9/made/back 3/done 11",
         status: Status::Done,
     },
-    // Row 41b: each caller hands the turn to the next.
+    // Each caller hands the turn to the next.
     Row {
         script: "oc.new/oc.init 0/oc.poll 1 10/oc.init 0/oc.poll 3 11/oc.init 0/oc.poll 5 12/oc.settle 1 7/oc.poll 1 13/oc.poll 3 14/oc.poll 5 15",
         text: "made/made/pending/made/pending/made/pending/done wake 10/value 7 wake 11/value 7 wake 12/value 7/done 11",
