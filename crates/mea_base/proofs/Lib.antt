@@ -1,6 +1,7 @@
 pub mod Chains
 pub mod Maps
 pub mod NamedMaps
+pub mod Places
 pub mod Queues
 pub mod Totals
 pub mod Trims

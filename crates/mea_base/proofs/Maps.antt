@@ -1,11 +1,12 @@
 -- what stands at each name of a finite map after a change, and what its sums are then
 use Rattle.std.proofs.Common.{◌≡◌, ℕ, ◌+◌, ◌≤◌, ◌==◌, Bool, true, false, cond, Option, Some, None, unwrap_or, refl, ap, sym, subst, ◌∙◌, arith, is_some}
-use Rattle.std.specs.Option.{IsSome}
+use Rattle.std.specs.Option.{IsSome, option_copied_mut}
 use Rattle.std.specs.Ordering.{nat_cmp}
 use Rattle.std.specs.FinMap.{FinMap, get, insert, remove, empty, get-empty}
 use Rattle.std.proofs.lemmas.Bool.{eqb-true, eqb-false, eq-eqb, ne_eqb}
 use Rattle.mea_base.specs.Totals.{total, weight}
 use Rattle.mea_base.proofs.Totals.{get_inserted, get_removed, total-insert, total-remove}
+use Rattle.std.specs.Borrow.{MutBor}
 
 pub nothing_at : (X : Type 0) (k : ℕ) (x : X) → get (empty {X = X} {R = nat_cmp}) k ≡ Some x → ⊥
 nothing_at X k x is = let none : get (empty {X = X} {R = nat_cmp}) k ≡ None = get-empty nat_cmp k in absurd (cc)
@@ -46,6 +47,24 @@ module _ {X : Type 0} where
   is_absent None none = refl
   is_absent (Some x) none = absurd (none refl)
 
+  -- what nothing can be is none
+  pub none_if : (o : Option X) → ((x : X) → o ≡ Some x → ⊥) → o ≡ None
+  none_if None nothing = refl
+  none_if (Some x) nothing = absurd (nothing x refl)
+
+  -- what is there is not none
+  pub not_none : (o : Option X) → IsSome o → o ≡ None → ⊥
+  not_none None there none = absurd (cc)
+  not_none (Some x) there none = absurd (cc)
+
+  -- what is lent of something is there
+  pub lent_some : (o : Option (MutBor X)) → IsSome (option_copied_mut o) → IsSome o
+  lent_some None some = absurd (cc)
+  lent_some (Some x) some = refl
+
+  pub is_some_of : (o p : Option X) → o ≡ p → IsSome o → IsSome p
+  is_some_of o p is some = rw (← is) some
+
   pub get-there : (m : FinMap nat_cmp X) (k : ℕ) (x : X) → get (insert m k x) k ≡ Some x
   get-there m k x = get_inserted m k k x ∙ ap (λ b. cond b (Some x) (get m k)) (eq-eqb k k refl)
 
@@ -61,6 +80,10 @@ module _ {X : Type 0} where
   -- who is there after a removal was there before, the same
   pub removed_there : (m : FinMap nat_cmp X) (k f : ℕ) (x : X) → get (remove m k) f ≡ Some x → get m f ≡ Some x
   removed_there m k f x = by_gone m k (λ j o. o ≡ Some x → get m j ≡ Some x) (λ e. absurd (cc)) (λ j apart e. e) f
+
+  -- who was not there is not there after a removal
+  pub removed_none : (m : FinMap nat_cmp X) (k f : ℕ) → get m f ≡ None → get (remove m k) f ≡ None
+  removed_none m k f = by_gone m k (λ j o. get m j ≡ None → o ≡ None) (λ none. refl) (λ j apart none. none) f
 
   -- ---- a map with a value for the names that are not there
   module _ (d : X) where

@@ -6,11 +6,11 @@ use Rattle.std.specs.declared.cmp.Ordering.{Ordering}
 use Rattle.std.specs.declared.cmp.Ordering.TheVariants.{Less, Equal, Greater}
 use Rattle.std.specs.Cmp.{nat_cmp_total}
 use Rattle.std.specs.BTreeMap.{is_at}
-use Rattle.std.specs.FinMap.{FinMap, find, get, insert, remove, entries, get-entries, get-from_entries, get-insert, get-remove, same_map, nat_cmp-IsAntisymmetric}
-use Rattle.std.proofs.lemmas.Bool.{eqb-true}
+use Rattle.std.specs.FinMap.{FinMap, find, get, insert, remove, entries, get-entries, get-from_entries, get-insert, get-remove, same_map, nat_cmp-IsAntisymmetric, empty, get-empty}
+use Rattle.std.proofs.lemmas.Bool.{eqb-true, eq-eqb}
 use Rattle.std.proofs.lemmas.Bool.Decides.{nat_tests}
 use Rattle.mea_base.specs.Named.{named, at, ChangesAt}
-use Rattle.mea_base.proofs.Tests.{same_test}
+use Rattle.mea_base.proofs.Tests.{same_test, last_stays}
 
 order_equal : (o : Ordering) → is_eq o ≡ true → o ≡ Equal
 order_equal Less h = absurd (cc)
@@ -113,3 +113,16 @@ kept-changed old new k o h q =
     get-named (λ k x. x) new q ∙ named_changed (λ k x. x) (λ k x. x) old new k o h (λ j x d is. refl) q
     ∙ ap (λ p. cond (k == q) p (option_map (λ x. x) (at old q))) (option_map-same o)
     ∙ ap (cond (k == q) o) (sym (get-named (λ k x. x) old q))
+
+-- ---- a list of entries of which one name was written
+-- of two changes at one name the last stays
+pub changes_twice : {X : Type 0} (old mid new : List (ℕ × X)) (k : ℕ) (o p : Option X) → ChangesAt old mid k o → ChangesAt mid new k p → ChangesAt old new k p
+changes_twice {X} old mid new k o p first second q = second q ∙ ap (cond (nat_eq k q) p) (first q) ∙ last_stays (nat_eq k q) p o (at old q)
+
+-- what stands at a name after it was written
+pub changed_at : {X : Type 0} (old new : List (ℕ × X)) (k : ℕ) (o : Option X) → ChangesAt old new k o → at new k ≡ o
+changed_at old new k o written = written k ∙ ap (λ b. cond b o (at old k)) (eq-eqb k k refl)
+
+-- no entries stand for the empty map
+pub named_none : {X : Type 0} (es : List (ℕ × X)) → es ≡ [] → named (λ k x. x) es ≡ empty
+named_none es is = same_named (named (λ k x. x) es) empty (λ q. kept-at es q ∙ ap (λ fs. at fs q) is ∙ sym (get-empty nat_cmp q))

@@ -1,5 +1,5 @@
 -- tests of names, and what is chosen by them
-use Rattle.std.proofs.Common.{◌≡◌, ◌≢◌, ℕ, ◌==◌, Bool, true, false, cond, eqb, None, refl, ap, ◌∙◌, arith}
+use Rattle.std.proofs.Common.{◌≡◌, ◌≢◌, ℕ, ◌==◌, Bool, true, false, cond, eqb, None, refl, ap, ◌∙◌, arith, Result, Ok, Err, OnErr, not, ◌&&◌}
 use Rattle.std.specs.Ordering.{nat_cmp, eq_by_cmp}
 use Rattle.std.specs.Cmp.{unsigned_tied}
 use Rattle.std.proofs.lemmas.Bool.{eqb-true, eqb-false, eq-eqb, ne_eqb}
@@ -37,6 +37,11 @@ by_name {Z} m n one apart = by_test (m == n) refl
     by_test true h = one (eqb-true m n h)
     by_test false h = apart (eqb-false m n h)
 
+-- what is chosen last stays
+pub last_stays : {X : Type 0} (t : Bool) (u v w : X) → cond t u (cond t v w) ≡ cond t u w
+last_stays true u v w = refl
+last_stays false u v w = refl
+
 -- ---- what counts where a test holds, and nothing else
 pub on_true : (b : Bool) (n : ℕ) → b ≡ true → cond b n 0 ≡ n
 on_true true n h = refl
@@ -50,3 +55,18 @@ on_false false n h = refl
 pub known : (b : Bool) → unknown_unless b ≡ None → b ≡ true
 known true e = refl
 known false e = absurd (cc)
+
+-- ---- what holds anyway holds where there is an error
+pub on_err : {A E : Type 0} (r : Result A E) (P : Type 0) → P → OnErr r P
+on_err (Ok a) P p = tt
+on_err (Err e) P p = p
+
+-- ---- what is not named any more and of which nothing is left
+pub over_is : (named : Bool) (n : ℕ) → (not named && n == 0) ≡ true → (named ≡ false) × (n ≡ 0)
+over_is true n is = absurd (cc)
+over_is false n is = (refl, eqb-true n 0 is)
+
+-- ---- what counts where two tests hold, of which the first does not
+pub on_first_false : (b c : Bool) → b ≡ false → ◌≡◌ {A = ℕ} (cond (b && c) 1 0) 0
+on_first_false true c is = absurd (cc)
+on_first_false false c is = refl

@@ -28,7 +28,7 @@ use Rattle.mea_broadcast_core.specs.Broadcast.{IsFresh, after_send, without_send
 use Rattle.mea_broadcast_core.specs.Receives as cores
 use Rattle.mea_broadcast_core.specs.Receives.{Found}
 use Rattle.mea_chan_model.specs.Broadcasts as model
-use Rattle.mea_chan_model.specs.Broadcasts.{Broadcasts, Broadcast, Listener, Hearing, of_hearing, is_broadcast, is_sender, is_hearing, is_over, tidied, stands, registered, ring_size, new_broadcast, with_message, less_sender, taking, senders_in, tail_in, channel_of}
+use Rattle.mea_chan_model.specs.Broadcasts.{Broadcasts, Broadcast, Listener, of_hearing, is_broadcast, is_sender, is_hearing, is_over, tidied, stands, registered, ring_size, new_broadcast, taking, senders_in, tail_in, channel_of}
 use Rattle.mea_chan_model.specs.BroadcastActions.{BroadcastAction, Open, AddSender, SendAll, EndSender, Subscribe, Resubscribe, CopyReceiver, Hear, EndReceiver, BeginHear, PollHear, EndHear, most_senders, last_tail, most_size, unusable, broadcast_cause, broadcast_act}
 use Rattle.mea_chan_model.specs.BroadcastValid.{AreKept, AreHeard, Hears, of_listener}
 use Rattle.mea_chan_model.proofs.BroadcastActing.{fresh_channel, fresh_receiver, fresh_future, fresh_sender, over_none, joins}

@@ -69,12 +69,14 @@ impl BroadcastPart {
         Some(&entry.core)
     }
 
+    /// Whether a sender has this name. It takes no memory.
     pub fn is_sender(&self, s: u64) -> bool
         ensures { result ≡ is_sender self.now.hall s }
     {
         self.senders.has(s)
     }
 
+    /// Whether a future has this name. It takes no memory.
     pub fn is_future(&self, f: u64) -> bool
         ensures { result ≡ is_hearing self.now.hall f }
     {

@@ -60,7 +60,7 @@ module _ {T : Type 0} where
   message_of (Holds v) = Some v
   message_of AtTail = None
 
-  never_behind : {A : Type 0} (o : Option T) (k : ℕ) → found_at o ≡ Behind k → A
+  pub never_behind : {A : Type 0} (o : Option T) (k : ℕ) → found_at o ≡ Behind k → A
   never_behind None k is = absurd (cc)
   never_behind (Some v) k is = absurd (cc)
 

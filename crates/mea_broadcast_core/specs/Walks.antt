@@ -2,7 +2,7 @@
 use Rattle.std.specs.Prelude.{ℕ, ◌≡◌, ◌+◌, ◌-◌, ◌≤◌, ◌++◌, List, [], ◌∷◌, Option, Some, Result, Ok, Err, length, slice_get}
 use Rattle.circular_buffer.specs.Buffer.{keep_last}
 use Rattle.mea_base.specs.declared.no_memory.NoMemory as memory
-use Rattle.mea_sets.specs.Poll.{Poll, Ready, Pending}
+use Rattle.mea_sets.specs.Poll.{Ready, Pending}
 use Rattle.mea_sets.specs.declared.place.Place.{Place}
 use Rattle.mea_broadcast_core.specs.declared.errors.BroadcastTry.{BroadcastTry}
 use Rattle.mea_broadcast_core.specs.declared.errors.BroadcastTry.TheVariants as try

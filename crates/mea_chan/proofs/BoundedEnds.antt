@@ -1,8 +1,8 @@
 -- what becomes of bounded channels where a sender or a receiver ends, where a channel, a sender or a send is made, and where a send is polled or ends
-use Rattle.std.proofs.Common.{◌≡◌, ℕ, ◌+◌, ◌-◌, ◌<◌, ◌≤◌, ◌^◌, ◌==◌, ◌++◌, Bool, true, false, cond, length, List, [], ◌∷◌, map, Option, Some, None, option_to_list, is_some, Result, Ok, Err, refl, ap, sym, subst, ◌∙◌, arith, append-nil, if◌then◌else◌, nat_lt, inl, inr}
-use Rattle.std.specs.Option.{IsSome, option_map}
+use Rattle.std.proofs.Common.{◌≡◌, ℕ, ◌+◌, ◌-◌, ◌≤◌, ◌==◌, ◌++◌, Bool, true, false, length, [], map, Option, Some, None, option_to_list, is_some, Result, Ok, Err, refl, ap, sym, subst, ◌∙◌, arith, append-nil, if◌then◌else◌, nat_lt, inl, inr}
+use Rattle.std.specs.Option.{IsSome}
 use Rattle.std.specs.Ordering.{nat_cmp}
-use Rattle.std.specs.FinMap.{get, insert, remove, len, empty, get-empty, len-empty}
+use Rattle.std.specs.FinMap.{get, insert, remove, len, empty, len-empty}
 use Rattle.mea_base.specs.declared.answer.Answer.{Answer}
 use Rattle.mea_base.specs.declared.answer.Answer.TheVariants as answers
 use Rattle.mea_base.specs.declared.stop.Stop.TheVariants as stops
@@ -12,23 +12,20 @@ use Rattle.std.proofs.lemmas.Bool.{eqb-true, eqb-false}
 use Rattle.std.proofs.lemmas.Bool.Decides.{nat_tests}
 use Rattle.mea_base.specs.Queue.{lacks, waiting_after}
 use Rattle.mea_base.proofs.Queues.{lacks-map}
-use Rattle.mea_base.specs.Totals.{total, weight}
-use Rattle.mea_base.proofs.Maps.{by_put, total-has, nothing_at, inside, get-there, get-gone, get-removed_other, removed_there, value_in, is_there}
-use Rattle.mea_base.proofs.Totals.{total-insert, total-remove, total-plus, total-alike}
-use Rattle.mea_base.proofs.NamedMaps.{is_some-map, get-seen}
+use Rattle.mea_base.specs.Totals.{weight}
+use Rattle.mea_base.proofs.Maps.{by_put, nothing_at, inside, get-there, get-gone, get-removed_other, removed_there, value_in}
+use Rattle.mea_base.proofs.Totals.{total-insert, total-remove}
 use Rattle.mea_named.specs.declared.named_waker.NamedWaker.{NamedWaker}
 use Rattle.mea_named.specs.ByName.{Names, seen, own}
 use Rattle.mea_named.specs.HallKept.{HallKept}
 use Rattle.mea_named.specs.NamedQueue.{waits}
-use Rattle.mea_named.specs.LackingQueue.{who, leaving, woken_by}
-use Rattle.mea_named.specs.Play.{Part, PartYields, PartRests, found}
-use Rattle.mea_named.proofs.Cases.{found_is, by_if, if_true, if_false}
+use Rattle.mea_named.specs.LackingQueue.{leaving, woken_by}
+use Rattle.mea_named.specs.Play.{Part, PartYields}
+use Rattle.mea_named.proofs.Cases.{found_is}
 use Rattle.mea_named.proofs.Halls as halls
-use Rattle.mea_named.proofs.LackingQueues.{length-who}
-use Rattle.mea_named.proofs.Own.{seen-at, seen-back, seen-insert, seen-remove, seen-alike, total-seen, seen-empty, seen-none, own-at, own-none, own-gone, own-put, own-empty, own-nothing, own-seen, len-seen, len-gone, len-some, len-new, len-over, insert_same, put_gone, gone_none, Stays, Comes, Goes}
-use Rattle.mea_sem_core.specs.Core.{Waiter, Acquires, Owes, poured}
+use Rattle.mea_named.proofs.Own.{seen-at, seen-insert, seen-remove, seen-alike, seen-empty, seen-none, own-at, own-none, own-gone, own-put, own-empty, own-nothing, len-gone, len-some, len-new, len-over, insert_same, put_gone, gone_none, Stays, Comes, Goes}
+use Rattle.mea_sem_core.specs.Core.{poured}
 use Rattle.mea_sem_core.specs.Calls.{Belongs}
-use Rattle.mea_sem_core.specs.Ones.{AskForOne}
 use Rattle.mea_sem_core.specs.declared.acquire.Acquire.TheVariants.{New, Queued, Done, Refused}
 use Rattle.mea_sem_core.specs.declared.acquire.Acquire.{Acquire}
 use Rattle.mea_sem_core.specs.Acquire.{demand_of}
@@ -36,35 +33,30 @@ use Rattle.mea_linked.proofs.Linking.{IsUnqueued, linked_begun}
 use Rattle.mea_chan_core.specs.Channel.{no_senders}
 use Rattle.futures.specs.declared.task.Poll.TheVariants.{Ready, Pending}
 use Rattle.mea_chan_core.specs.declared.errors.SendError.{SendError}
-use Rattle.mea_chan_core.specs.declared.errors.TrySendError.{TrySendError}
 use Rattle.mea_chan_core.specs.declared.errors.TrySendError.TheVariants.{Full, Disconnected}
-use Rattle.mea_chan_core.specs.declared.errors.TryRecvError.{TryRecvError}
 use Rattle.mea_chan_core.specs.declared.errors.TryRecvError.TheVariants as try
 use Rattle.mea_chan_core.specs.Mailbox as letters_core
 use Rattle.mea_chan_core.specs.Bounded as core
 use Rattle.mea_chan_core.specs.Woken.{IsChannel}
 use Rattle.mea_chan_core.proofs.Senders.{wakes_all}
 use Rattle.mea_chan_model.specs.Mailboxes as mailboxes
-use Rattle.mea_chan_model.specs.Mailboxes.{Mailboxes, is_channel, is_sender, is_receiver, polls_as}
+use Rattle.mea_chan_model.specs.Mailboxes.{is_channel}
 use Rattle.mea_chan_model.specs.MailboxActions as actions
-use Rattle.mea_chan_model.specs.MailboxActions.{Action, act_in}
+use Rattle.mea_chan_model.specs.MailboxActions.{act_in}
 use Rattle.mea_chan_model.specs.Bounded as model
-use Rattle.mea_chan_model.specs.Bounded.{Bounded, Room, BoundedSend, registered, is_full, is_send, no_bounded}
-use Rattle.mea_chan_model.specs.BoundedActions.{BoundedAction, MakeRoom, CopySender, TrySend, BeginSend, PollSend, EndSend, TryReceive, PollReceive, DropSender, DropReceiver, bounded_act, bounded_cause}
-use Rattle.mea_chan_model.specs.Valid.{AreValid}
-use Rattle.mea_linked.specs.Linked.{names_in, who_of, AreOf, IsHome, Linked}
+use Rattle.mea_chan_model.specs.Bounded.{Bounded, Room, registered, is_full}
+use Rattle.mea_chan_model.specs.BoundedActions.{MakeRoom, BeginSend, PollSend, EndSend, DropSender, DropReceiver, bounded_act, bounded_cause}
+use Rattle.mea_linked.specs.Linked.{names_in, who_of, IsHome, Linked}
 use Rattle.mea_chan.specs.declared.receiver_entry.ReceiverEntry.{ReceiverEntry}
 use Rattle.mea_chan.specs.declared.sender_entry.SenderEntry.{SenderEntry}
-use Rattle.mea_chan.specs.Cores.{Mailbox, message_sent, sent_answer, is_over, ReceivesBy}
-use Rattle.mea_chan.specs.Entries.{told, poll_told}
-use Rattle.mea_chan.specs.BoundedCores.{NamedChannel, KeptSend, as_mailbox, kept_by, handed_on, polled_as, HandsOn, SendPolled, tried_told, ready_told}
+use Rattle.mea_chan.specs.Cores.{Mailbox, message_sent, sent_answer, is_over}
+use Rattle.mea_chan.specs.Entries.{told}
+use Rattle.mea_chan.specs.BoundedCores.{NamedChannel, KeptSend, as_mailbox, kept_by, handed_on, HandsOn, SendPolled, ready_told}
 use Rattle.mea_chan.specs.BoundedParts.{room_seen, send_seen, was_polled, value_of, channel_of_sender, bounded_seen, acquires_of, AreLinked, AreCounted, IsKeptBounded, of_channel, of_sender, itself}
-use Rattle.mea_chan.specs.BoundedLends.{StandsForBounded}
-use Rattle.mea_chan.specs.MailboxParts.{channel_seen, receiver_seen, mailboxes_seen, AreKept, IsKept, of_receiver, of_sender as mine}
-use Rattle.mea_chan.proofs.BoundedSteps.{made, grants_linked, grants_seen, grants_woken, its_belongs, Ended, ends, Left, left, Joined, joins}
+use Rattle.mea_chan.specs.MailboxParts.{channel_seen, receiver_seen, mailboxes_seen, AreKept, of_receiver, of_sender as mine}
+use Rattle.mea_chan.proofs.BoundedSteps.{made, grants_linked, grants_seen, grants_woken, its_belongs, Ended, ends, left, joins}
 use Rattle.mea_chan.proofs.OneChannel as one
 use Rattle.mea_chan.proofs.MailboxEvents as mail
-use Rattle.mea_chan.proofs.MailboxEvents.{Site}
 use Rattle.mea_chan.proofs.BoundedEvents.{BoundedSite, ends_is, part_of, kept_in, woken_of, woken_both, none_seen, over_none, keeps_none, no_value, left_capacity, joined_capacity, letters, before_it, yields_as, senders_channel, sends_sender, seen_there, its_quiet, its_linked, kept_now, links_stay, from_rests, from_yields, counts_rest, rooms_at, woken_at, same_rooms, full_is, some_sender}
 
 module _ {old : Part Bounded} {i : ℕ} (s : BoundedSite old i) where

@@ -1,70 +1,59 @@
 -- what each event does to bounded channels, as they are kept and as they are seen
-use Rattle.std.proofs.Common.{◌≡◌, ℕ, ◌+◌, ◌-◌, ◌<◌, ◌≤◌, ◌^◌, ◌==◌, ◌++◌, Bool, true, false, cond, length, List, [], ◌∷◌, map, Option, Some, None, option_to_list, is_some, Result, Ok, Err, refl, ap, sym, subst, ◌∙◌, arith, append-nil, if◌then◌else◌, nat_lt, inl, inr}
+use Rattle.std.proofs.Common.{◌≡◌, ℕ, ◌+◌, ◌-◌, ◌<◌, ◌≤◌, ◌^◌, ◌==◌, ◌++◌, Bool, true, false, length, List, [], ◌∷◌, map, Option, Some, None, option_to_list, is_some, Result, Ok, Err, refl, ap, sym, subst, ◌∙◌, arith, append-nil, if◌then◌else◌, nat_lt}
 use Rattle.std.specs.Option.{IsSome, option_map}
 use Rattle.std.specs.Ordering.{nat_cmp}
-use Rattle.std.specs.FinMap.{get, insert, remove, len, empty, get-empty, len-empty}
+use Rattle.std.specs.FinMap.{get, insert, len, empty, len-empty}
 use Rattle.mea_base.specs.declared.answer.Answer.{Answer}
 use Rattle.mea_base.specs.declared.answer.Answer.TheVariants as answers
 use Rattle.mea_base.specs.declared.stop.Stop.TheVariants as stops
 use Rattle.mea_base.specs.Family.{Outcome, quietly}
 use Rattle.mea_base.specs.Ready.{Waking}
-use Rattle.std.proofs.lemmas.Bool.{eqb-true, eqb-false}
-use Rattle.std.proofs.lemmas.Bool.Decides.{nat_tests}
-use Rattle.mea_base.specs.Queue.{lacks, waiting_after}
-use Rattle.mea_base.proofs.Queues.{lacks-map}
+use Rattle.std.proofs.lemmas.Bool.{eqb-true}
 use Rattle.mea_base.specs.Totals.{total, weight}
-use Rattle.mea_base.proofs.Maps.{by_put, total-has, nothing_at, inside, get-there, get-gone, get-removed_other, removed_there, value_in, is_there}
-use Rattle.mea_base.proofs.Totals.{total-insert, total-remove, total-plus, total-alike}
+use Rattle.mea_base.proofs.Maps.{by_put, total-has, nothing_at, get-there, is_there}
+use Rattle.mea_base.proofs.Totals.{total-insert, total-plus, total-alike}
 use Rattle.mea_base.proofs.NamedMaps.{is_some-map, get-seen}
 use Rattle.mea_named.specs.declared.named_waker.NamedWaker.{NamedWaker}
 use Rattle.mea_named.specs.ByName.{Names, seen, own}
 use Rattle.mea_named.specs.HallKept.{HallKept}
 use Rattle.mea_named.specs.NamedQueue.{waits}
-use Rattle.mea_named.specs.LackingQueue.{who, leaving, woken_by}
+use Rattle.mea_named.specs.LackingQueue.{who}
 use Rattle.mea_named.specs.Play.{Part, PartYields, PartRests, found}
 use Rattle.mea_named.proofs.Cases.{found_is, by_if, if_true, if_false}
 use Rattle.mea_named.proofs.Halls as halls
 use Rattle.mea_named.proofs.LackingQueues.{length-who}
-use Rattle.mea_named.proofs.Own.{seen-at, seen-back, seen-insert, seen-remove, seen-alike, total-seen, seen-empty, seen-none, own-at, own-none, own-gone, own-put, own-empty, own-nothing, own-seen, len-seen, len-gone, len-some, len-new, len-over, insert_same, put_gone, gone_none, Stays, Comes, Goes}
-use Rattle.mea_sem_core.specs.Core.{Waiter, Acquires, Owes, poured}
-use Rattle.mea_sem_core.specs.Calls.{Belongs}
+use Rattle.mea_named.proofs.Own.{seen-at, seen-back, seen-insert, seen-alike, total-seen, seen-empty, own-seen, len-seen, len-some, insert_same, Stays}
+use Rattle.mea_sem_core.specs.Core.{Waiter, Acquires, Owes}
 use Rattle.mea_sem_core.specs.Ones.{AskForOne}
-use Rattle.mea_sem_core.specs.declared.acquire.Acquire.TheVariants.{New, Queued, Done, Refused}
-use Rattle.mea_sem_core.specs.declared.acquire.Acquire.{Acquire}
-use Rattle.mea_sem_core.specs.Acquire.{demand_of}
-use Rattle.mea_linked.proofs.Linking.{IsUnqueued, linked_begun}
-use Rattle.mea_chan_core.specs.Channel.{no_senders}
-use Rattle.futures.specs.declared.task.Poll.TheVariants.{Ready, Pending}
-use Rattle.mea_chan_core.specs.declared.errors.SendError.{SendError}
-use Rattle.mea_chan_core.specs.declared.errors.TrySendError.{TrySendError}
+use Rattle.mea_sem_core.specs.declared.acquire.Acquire.TheVariants.{Queued, Done}
 use Rattle.mea_chan_core.specs.declared.errors.TrySendError.TheVariants.{Full, Disconnected}
 use Rattle.mea_chan_core.specs.declared.errors.TryRecvError.{TryRecvError}
 use Rattle.mea_chan_core.specs.declared.errors.TryRecvError.TheVariants as try
 use Rattle.mea_chan_core.specs.Mailbox as letters_core
 use Rattle.mea_chan_core.specs.Bounded as core
 use Rattle.mea_chan_core.specs.Woken.{IsChannel}
-use Rattle.mea_chan_core.proofs.Senders.{wakes_all}
 use Rattle.mea_chan_model.specs.Mailboxes as mailboxes
 use Rattle.mea_chan_model.specs.Mailboxes.{Mailboxes, is_channel, is_sender, is_receiver, polls_as}
 use Rattle.mea_chan_model.specs.MailboxActions as actions
 use Rattle.mea_chan_model.specs.MailboxActions.{Action, act_in}
 use Rattle.mea_chan_model.specs.Bounded as model
 use Rattle.mea_chan_model.specs.Bounded.{Bounded, Room, BoundedSend, registered, is_full, is_send, no_bounded}
-use Rattle.mea_chan_model.specs.BoundedActions.{BoundedAction, MakeRoom, CopySender, TrySend, BeginSend, PollSend, EndSend, TryReceive, PollReceive, DropSender, DropReceiver, bounded_act, bounded_cause}
+use Rattle.mea_chan_model.specs.BoundedActions.{BoundedAction, CopySender, TrySend, TryReceive, PollReceive, DropSender, bounded_act, bounded_cause}
 use Rattle.mea_chan_model.specs.Valid.{AreValid}
-use Rattle.mea_linked.specs.Linked.{names_in, who_of, AreOf, IsHome, Linked}
+use Rattle.mea_linked.specs.Linked.{names_in, AreOf, Linked}
 use Rattle.mea_chan.specs.declared.receiver_entry.ReceiverEntry.{ReceiverEntry}
 use Rattle.mea_chan.specs.declared.sender_entry.SenderEntry.{SenderEntry}
 use Rattle.mea_chan.specs.Cores.{Mailbox, message_sent, sent_answer, is_over, ReceivesBy}
 use Rattle.mea_chan.specs.Entries.{told, poll_told}
-use Rattle.mea_chan.specs.BoundedCores.{NamedChannel, KeptSend, as_mailbox, kept_by, handed_on, polled_as, HandsOn, SendPolled, tried_told, ready_told}
-use Rattle.mea_chan.specs.BoundedParts.{room_seen, send_seen, was_polled, value_of, channel_of_sender, bounded_seen, acquires_of, AreLinked, AreCounted, IsKeptBounded, of_channel, of_sender, itself}
+use Rattle.mea_chan.specs.BoundedCores.{NamedChannel, KeptSend, as_mailbox, kept_by, handed_on, polled_as, HandsOn, tried_told}
+use Rattle.mea_chan.specs.BoundedParts.{room_seen, send_seen, channel_of_sender, bounded_seen, acquires_of, AreLinked, AreCounted, IsKeptBounded, of_channel, of_sender, itself}
 use Rattle.mea_chan.specs.BoundedLends.{StandsForBounded}
-use Rattle.mea_chan.specs.MailboxParts.{channel_seen, receiver_seen, mailboxes_seen, AreKept, IsKept, of_receiver, of_sender as mine}
-use Rattle.mea_chan.proofs.BoundedSteps.{made, grants_linked, grants_seen, grants_woken, its_belongs, Ended, ends, Left, left, Joined, joins}
+use Rattle.mea_chan.specs.MailboxParts.{channel_seen, receiver_seen, mailboxes_seen, IsKept, of_sender as mine}
+use Rattle.mea_chan.proofs.BoundedSteps.{made, left}
 use Rattle.mea_chan.proofs.OneChannel as one
 use Rattle.mea_chan.proofs.MailboxEvents as mail
 use Rattle.mea_chan.proofs.MailboxEvents.{Site}
+use Rattle.mea_linked.proofs.Waiters.{length-names}
 
 abbrev pub part_of : Names NamedChannel → Names SenderEntry → Names ReceiverEntry → Names KeptSend → ℕ → Part Bounded
 part_of cs ss rs xs next = record { hall = bounded_seen cs ss rs xs; next = next }
@@ -80,10 +69,6 @@ kept_in cs = total (λ o c. kept_by c) cs
 length-seen : (o : Option NamedWaker) → length (option_to_list (option_map (λ (k : NamedWaker). k.waker) o)) ≡ length (option_to_list o)
 length-seen None = refl
 length-seen (Some k) = refl
-
-length-names : (q : List (Waiter NamedWaker × ℕ)) → length (names_in q) ≡ length q
-length-names [] = refl
-length-names (e ∷ q) = omega (arith, length-names q)
 
 pub registered_is : (cs : Names NamedChannel) (ss : Names SenderEntry) (rs : Names ReceiverEntry) (xs : Names KeptSend) → registered (bounded_seen cs ss rs xs) ≡ kept_in cs
 registered_is cs ss rs xs =

@@ -1,14 +1,12 @@
 -- one bounded channel with its sends: what each call of its core leaves
-use Rattle.std.proofs.Common.{◌≡◌, ◌≢◌, ℕ, ◌+◌, ◌-◌, ◌≤◌, ◌<◌, ◌==◌, ◌++◌, ◌⊎◌, inl, inr, Bool, true, false, length, List, [], ◌∷◌, map, cond, Option, Some, None, is_some, option_to_list, Result, Ok, Err, refl, ap, sym, subst, ◌∙◌, arith, append-nil, if◌then◌else◌}
+use Rattle.std.proofs.Common.{◌≡◌, ◌≢◌, ℕ, ◌+◌, ◌-◌, ◌≤◌, ◌==◌, ◌++◌, ◌⊎◌, inl, inr, Bool, true, false, length, List, [], ◌∷◌, map, cond, Option, Some, None, is_some, option_to_list, Result, Ok, Err, refl, ap, sym, subst, ◌∙◌, arith, if◌then◌else◌}
 use Rattle.std.specs.FinMap.{get, insert, remove}
 use Rattle.std.proofs.lemmas.List.{length-append}
 use Rattle.futures.specs.declared.task.Poll.{Poll}
-use Rattle.futures.specs.declared.task.Poll.TheVariants.{Ready, Pending}
-use Rattle.mea_base.specs.declared.no_memory.NoMemory.{NoMemory}
 use Rattle.mea_base.specs.Queue.{lacks, waiting_after}
 use Rattle.std.specs.Ordering.{nat_cmp}
 use Rattle.std.specs.FinMap.{FinMap}
-use Rattle.mea_base.proofs.Maps.{get-gone, removed_there}
+use Rattle.mea_base.proofs.Maps.{get-gone, removed_none}
 use Rattle.mea_base.proofs.NamedMaps.{same_named}
 use Rattle.mea_base.proofs.Totals.{get_inserted, get_removed}
 use Rattle.mea_named.specs.declared.named_waker.NamedWaker.{NamedWaker}
@@ -20,7 +18,7 @@ use Rattle.mea_sem_core.specs.Acquire.{demand_of}
 use Rattle.mea_sem_core.specs.declared.acquire.Acquire.{Acquire}
 use Rattle.mea_sem_core.specs.declared.acquire.Acquire.TheVariants.{New, Queued, Done, Refused}
 use Rattle.mea_sem_core.specs.Core.{HasNoDebt, Core, Waiter, Acquires, Owes, waiting, poured}
-use Rattle.mea_sem_core.specs.Calls.{Belongs, Queues, Loses, Cancels, with_waker, without_acquire}
+use Rattle.mea_sem_core.specs.Calls.{Belongs, Queues, Loses, Cancels, without_acquire}
 use Rattle.mea_sem_core.specs.Ones.{AskForOne}
 use Rattle.mea_sem_core.proofs.Ones.{ones_no_debt, ones_without, length-rewaked}
 use Rattle.mea_sem_core.proofs.Pours.{AllLack, poured_nothing}
@@ -29,13 +27,13 @@ use Rattle.mea_chan_core.specs.declared.errors.TrySendError.{TrySendError}
 use Rattle.mea_chan_core.specs.declared.errors.TrySendError.TheVariants.{Full, Disconnected}
 use Rattle.mea_chan_core.specs.declared.errors.TryRecvError.{TryRecvError}
 use Rattle.mea_chan_core.specs.declared.errors.TryRecvError.TheVariants as try
-use Rattle.mea_chan_core.specs.Channel.{Channel, IsSenders}
-use Rattle.mea_chan_core.specs.Bounded.{made_way, made_way_for, without_free, IsOut, with_waiting, with_message, send_answer, after_send, Leaves, QueuesAnew, StaysBy, StaysPending, PollsValue, PollsSend, EndsSend, recv_answer, recv_answer_of, after_recv, after_recv_of, without_sender, without_receiver}
+use Rattle.mea_chan_core.specs.Channel.{IsSenders}
+use Rattle.mea_chan_core.specs.Bounded.{made_way, made_way_for, without_free, IsOut, with_message, send_answer, Leaves, QueuesAnew, StaysBy, StaysPending, PollsValue, PollsSend, EndsSend, after_recv, after_recv_of, without_receiver}
 use Rattle.mea_chan_core.specs.Woken.{IsChannel}
-use Rattle.mea_chan_core.proofs.Senders.{Stays, Quiet, quiet_still, makes_way, wakes_all, loses_keeps, cancels_keeps}
+use Rattle.mea_chan_core.proofs.Senders.{Stays, makes_way, wakes_all, loses_keeps, cancels_keeps}
 use Rattle.mea_chan_model.specs.Bounded.{Room, left_by, joined}
 use Rattle.mea_linked.specs.Linked.{names_in, IsHome, Linked}
-use Rattle.mea_linked.proofs.Linking.{IsUnqueued, unqueued_waits, linked_gone, linked_begun, linked_pushed, queued_waits, queued_with, queued_without, linked_again, linked_taken, linked_left, push-names}
+use Rattle.mea_linked.proofs.Linking.{IsUnqueued, unqueued_waits, linked_gone, linked_pushed, queued_waits, queued_with, queued_without, linked_again, linked_taken, linked_left, push-names}
 use Rattle.mea_linked.proofs.Poured.{queue_poured, woken_poured, poured_linked}
 use Rattle.mea_chan.specs.BoundedCores.{NamedChannel, KeptSend, kept_by, polled_as}
 use Rattle.mea_chan.specs.BoundedParts.{room_seen, acquires_of, was_polled}
@@ -135,13 +133,6 @@ ones_lack : (q : List (Waiter NamedWaker × ℕ)) → AskForOne q → AllLack q
 ones_lack [] ones = tt
 ones_lack ((Acquires m e k, j) ∷ q) ones = (omega (arith, ones.1), ones_lack q ones.2)
 ones_lack ((Owes, j) ∷ q) ones = absurd ones
-
-removed_none : (g : FinMap nat_cmp ℕ) (n m : ℕ) → get g m ≡ None → get (remove g n) m ≡ None
-removed_none g n m none = get_removed g n m ∙ at (n == m)
-  where
-    at : (b : Bool) → cond b None (get g m) ≡ None
-    at true = refl
-    at false = none
 
 -- ---- who waits after each call
 module _ (c : NamedChannel) (xs : Names KeptSend) (linked : Linked c.waiting.queue c.waiting.granted (acquires_of xs)) (is : IsChannel c) where

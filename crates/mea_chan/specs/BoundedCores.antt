@@ -1,5 +1,5 @@
 -- what a hall keeps of bounded channels, and what the calls of their cores do
-use Rattle.std.specs.Prelude.{ℕ, ◌≡◌, ◌+◌, ◌++◌, Bool, true, false, [], length, map, Option, Some, None, option_to_list, Result, Ok, Err}
+use Rattle.std.specs.Prelude.{ℕ, ◌≡◌, ◌+◌, ◌++◌, [], length, map, Option, Some, option_to_list, Result, Ok, Err}
 use Rattle.std.specs.Option.{option_map}
 use Rattle.futures.specs.declared.task.Poll.{Poll}
 use Rattle.mea_base.specs.Ready.{Waking}

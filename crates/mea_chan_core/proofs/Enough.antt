@@ -1,5 +1,5 @@
 -- each call on a bounded channel keeps that enough senders were woken
-use Rattle.std.proofs.Common.{◌≡◌, ◌≢◌, ◌⊎◌, inl, inr, ℕ, zero, suc, ◌+◌, ◌-◌, ◌<◌, ◌≤◌, ◌==◌, ◌++◌, Bool, true, false, cond, min, List, [], ◌∷◌, take, drop, Option, Some, None, Result, Ok, Err, MatchResult, length, option_to_list, length-append, refl, ap, sym, subst, ◌∙◌, arith, append-nil, append_assoc, Contains}
+use Rattle.std.proofs.Common.{◌≡◌, ◌≢◌, inl, inr, ℕ, zero, suc, ◌+◌, ◌-◌, ◌≤◌, ◌==◌, ◌++◌, Bool, true, false, cond, min, List, [], ◌∷◌, take, drop, Option, Some, None, Result, Ok, Err, length, option_to_list, length-append, refl, ap, sym, subst, ◌∙◌, arith}
 use Rattle.std.specs.Prelude.{is_some}
 use Rattle.std.specs.Cmp.{nat_cmp_total}
 use Rattle.std.specs.Ordering.{nat_cmp}
@@ -7,24 +7,23 @@ use Rattle.std.specs.FinMap as map
 use Rattle.std.proofs.lemmas.Bool.Decides.{nat_tests}
 use Rattle.futures.specs.declared.task.Poll.{Poll}
 use Rattle.futures.specs.declared.task.Poll.TheVariants.{Ready, Pending}
-use Rattle.mea_base.specs.declared.no_memory.NoMemory.{NoMemory}
-use Rattle.mea_base.specs.Queue.{lacks, waiting_after, granted_in}
+use Rattle.mea_base.specs.Queue.{lacks, granted_in}
 use Rattle.mea_base.proofs.Totals.{get_removed}
 use Rattle.mea_sem_core.specs.Acquire.{demand_of}
-use Rattle.mea_sem_core.specs.Core.{Waiter, Acquires, Owes, Core, AreApart, IsSound, waiting, waker_under, wakers_of, with_demands, granting, poured}
-use Rattle.mea_sem_core.specs.Calls.{Belongs, Queues, Loses, Cancels, with_waker, without_acquire}
+use Rattle.mea_sem_core.specs.Core.{Waiter, Acquires, Owes, Core, AreApart, waiting, waker_under, wakers_of, with_demands, granting, poured}
+use Rattle.mea_sem_core.specs.Calls.{Belongs, Loses, with_waker, without_acquire}
 use Rattle.mea_sem_core.specs.Ones.{AskForOne}
 use Rattle.mea_sem_core.specs.declared.acquire.Acquire.{Acquire}
 use Rattle.mea_sem_core.specs.declared.acquire.Acquire.TheVariants.{New, Queued, Done, Refused}
 use Rattle.mea_sem_core.proofs.Ones.{ones_lacks, ones_left, ones_granted, ones_without}
 use Rattle.mea_chan_core.specs.declared.errors.SendError.{SendError}
-use Rattle.mea_chan_core.specs.declared.errors.TrySendError.{TrySendError}
 use Rattle.mea_chan_core.specs.declared.errors.TrySendError.TheVariants.{Full, Disconnected}
-use Rattle.mea_chan_core.specs.Channel.{Channel, IsSenders}
-use Rattle.mea_chan_core.specs.Bounded.{with_waiting, with_message, is_full, after_send, after_recv, after_recv_of, made_way, made_way_for, without_free, without_receiver, without_sender, Leaves, QueuesAnew, MayQueueAnew, StaysPending, StaysBy, PollsValue, PollsSend, EndsSend}
+use Rattle.mea_chan_core.specs.Channel.{Channel}
+use Rattle.mea_chan_core.specs.Bounded.{with_waiting, with_message, is_full, after_send, after_recv, after_recv_of, made_way_for, without_receiver, without_sender, Leaves, QueuesAnew, StaysPending, StaysBy, PollsValue, PollsSend, EndsSend}
 use Rattle.mea_chan_core.specs.Woken as watched
-use Rattle.mea_chan_core.specs.Woken.{Watch, watching_nobody, hearing, without, with_poll, Sees, IsChannel, Watched, Fresh, Later, EnoughWoken, pending}
-use Rattle.mea_chan_core.proofs.Woken.{Kept, heard, firsts, Apart, poured_kept, poured_len, grant_gone, waiter_gone, rewaked_kept, pushed_kept}
+use Rattle.mea_chan_core.specs.Woken.{Watch, hearing, without, with_poll, Sees, IsChannel, Watched, Fresh, Later, EnoughWoken, pending}
+use Rattle.mea_chan_core.proofs.Woken.{Kept, heard, Apart, poured_kept, poured_len, grant_gone, waiter_gone, rewaked_kept, pushed_kept}
+use Rattle.mea_sem_core.proofs.Without.{AreApart-without}
 
 same_rest : {X : Type 0} (xs ys zs : List X) → xs ++ ys ≡ xs ++ zs → ys ≡ zs
 same_rest [] ys zs is = is
@@ -64,15 +63,6 @@ module _ {W : Type 0} where
     ]
   ]
   still_none ((Owes, l) ∷ q) n m = λ none. still_none q n m none
-
-  distinct_without : (q : List (Waiter W × ℕ)) (n : ℕ) → AreApart q → AreApart (without_acquire q n)
-  distinct_without [] n h = tt
-  distinct_without ((Acquires k d v, l) ∷ q) n h = by_test (k == n) (distinct_without q n h.1)
-    where
-      by_test : (b : Bool) → AreApart (without_acquire q n) → AreApart (cond b (without_acquire q n) ((Acquires k d v, l) ∷ without_acquire q n))
-      by_test true rest = rest
-      by_test false rest = (still_none q n k h.0, rest)
-  distinct_without ((Owes, l) ∷ q) n h = distinct_without q n h
 
   apart_without : (q : List (Waiter W × ℕ)) (g : map.FinMap nat_cmp ℕ) (k : ℕ) → Apart q g → Apart (without_acquire q k) g
   apart_without q g k apart n waits = apart n (λ none. waits (still_none q k n none))
@@ -216,7 +206,7 @@ module _ {T W : Type 0} where
       let n : ℕ = d - waits.0 in
       let t : Core W = record s { live = s.live - n; queue = without_acquire s.queue k } in
       let ones = ones_without s.queue k is.senders.ones in
-      let distinct = distinct_without s.queue k is.sound.apart in
+      let distinct = AreApart-without s.queue k is.sound.apart in
       let apart = apart_without s.queue s.granted k is.sound.granted_apart in
       let there : waiting s.queue k ≢ None = λ none. absurd (let no = sym waits.1 ∙ none in cc) in
       let same : c' ≡ with_waiting c (poured t n) = e.2 ∙ ap (with_waiting c) (e.1.1 waits.0 waits.1) in

@@ -1,17 +1,17 @@
 -- what the steps of the senders' semaphore keep
-use Rattle.std.proofs.Common.{◌≡◌, ◌≢◌, ◌∙◌, ℕ, zero, suc, ◌+◌, ◌-◌, ◌≤◌, ◌<◌, ◌++◌, ◌⊎◌, inl, inr, false, List, [], ◌∷◌, take, drop, length, length-append, refl, ap, sym, subst, arith, append-nil, ◌↔◌, Result, Ok, Err, IsErr, OnOk}
+use Rattle.std.proofs.Common.{◌≡◌, ◌≢◌, ◌∙◌, ℕ, zero, suc, ◌+◌, ◌-◌, ◌≤◌, ◌<◌, ◌++◌, inl, inr, false, List, [], ◌∷◌, take, drop, length, length-append, refl, ap, sym, subst, arith, append-nil, ◌↔◌, Result, Ok, Err, IsErr, OnOk}
 use Rattle.std.specs.Prelude.{map as map_list}
 use Rattle.std.specs.FinMap as map
 use Rattle.mea_base.specs.Queue.{lacks, waiting_after, granted_in, left_over}
 use Rattle.mea_base.specs.declared.no_memory.NoMemory.{NoMemory}
 use Rattle.mea_base.specs.declared.turn.Turn.{Turn}
 use Rattle.mea_sem_core.specs.Acquire.{demand_of}
-use Rattle.mea_sem_core.specs.Core.{Waiter, Acquires, Core, HasNoDebt, poured, granting, wakers_of, debts, paid_to_debts}
-use Rattle.mea_sem_core.specs.Calls.{Belongs, StandsAs, IsWaitingAs, IsCutAs, Polls, Queues, Cancels, Loses, with_waker, without_acquire}
+use Rattle.mea_sem_core.specs.Core.{Waiter, Acquires, Core, poured, granting, wakers_of, debts, paid_to_debts}
+use Rattle.mea_sem_core.specs.Calls.{Belongs, StandsAs, IsCutAs, Polls, Queues, Cancels, Loses}
 use Rattle.mea_sem_core.specs.Ones.{AskForOne}
 use Rattle.mea_sem_core.specs.declared.acquire.Acquire.{Acquire}
 use Rattle.mea_sem_core.specs.declared.acquire.Acquire.TheVariants.{New, Queued, Done, Refused}
-use Rattle.mea_sem_core.proofs.Ones.{ones_no_debt, ones_debts, ones_lacks, ones_left, ones_granted, wakers_of_ones, ones_drop, ones_take, ones_append, ones_rewaked, ones_without, length-rewaked, length-without}
+use Rattle.mea_sem_core.proofs.Ones.{ones_debts, ones_lacks, ones_left, ones_granted, wakers_of_ones, ones_drop, ones_take, ones_append, ones_rewaked, ones_without, length-rewaked, length-without}
 use Rattle.mea_chan_core.specs.Channel.{IsSenders}
 use Rattle.mea_chan_core.specs.Bounded.{made_way, made_way_for, without_free, IsOut, IsIn}
 

@@ -1,5 +1,5 @@
 -- each send that was granted a place has had its waker woken, and enough were granted
-use Rattle.std.proofs.Common.{◌≡◌, ◌≢◌, ◌⊎◌, inl, inr, ℕ, zero, suc, ◌+◌, ◌-◌, ◌<◌, ◌≤◌, ◌==◌, ◌++◌, Bool, true, false, cond, min, List, [], ◌∷◌, take, drop, Option, Some, None, Result, Ok, Err, MatchResult, length, option_to_list, length-append, refl, ap, sym, subst, ◌∙◌, arith, append-nil, append_assoc, Contains}
+use Rattle.std.proofs.Common.{◌≡◌, ◌≢◌, ◌⊎◌, inl, inr, ℕ, zero, suc, ◌+◌, ◌-◌, ◌==◌, ◌++◌, Bool, true, false, cond, List, [], ◌∷◌, take, drop, Option, Some, None, length, refl, ap, sym, subst, ◌∙◌, arith, append_assoc, Contains}
 use Rattle.std.specs.Prelude.{map as map_list}
 use Rattle.std.specs.Ordering.{nat_cmp}
 use Rattle.std.specs.Cmp.{nat_cmp_total}
@@ -7,14 +7,11 @@ use Rattle.std.specs.Prelude.{is_some}
 use Rattle.std.specs.FinMap as map
 use Rattle.std.proofs.lemmas.Bool.{eqb-true, eq-eqb, ne_eqb}
 use Rattle.std.proofs.lemmas.List.Elements.{Contains-append_left, Contains-push}
-use Rattle.mea_base.specs.Queue.{lacks, waiting_after, granted_in}
 use Rattle.mea_base.proofs.Maps.{by_put, by_gone}
-use Rattle.mea_base.proofs.Totals.{get_inserted, get_removed}
-use Rattle.mea_sem_core.specs.Core.{Waiter, Acquires, Owes, Core, AreApart, IsSound, waiting, waker_under, wakers_of, with_demands, granting, poured}
+use Rattle.mea_base.proofs.Totals.{get_inserted}
+use Rattle.mea_sem_core.specs.Core.{Waiter, Acquires, Owes, AreApart, waiting, waker_under, wakers_of, with_demands}
 use Rattle.mea_sem_core.specs.Calls.{with_waker, without_acquire}
 use Rattle.mea_sem_core.specs.Ones.{AskForOne}
-use Rattle.mea_sem_core.proofs.Ones.{ones_left, ones_granted}
-use Rattle.mea_chan_core.specs.Woken.{Watch, hearing}
 
 absent : {X : Type 0} (x : X) (o : Option X) → o ≡ None → o ≡ Some x → ⊥
 absent x o none some = let no = sym none ∙ some in absurd (cc)

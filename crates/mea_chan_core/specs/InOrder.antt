@@ -1,13 +1,11 @@
 -- what has happened on a channel, whatever was called in whatever order
-use Rattle.std.specs.Prelude.{ℕ, ◌≡◌, ◌+◌, ◌<◌, ◌++◌, true, false, List, [], ◌∷◌, Option, Some, None, option_to_list, Result, Ok, Err}
+use Rattle.std.specs.Prelude.{◌≡◌, ◌+◌, ◌++◌, true, false, List, [], ◌∷◌, Option, Some, None, option_to_list, Result, Ok, Err}
 use Rattle.futures.specs.declared.task.Poll.{Poll}
 use Rattle.futures.specs.declared.task.Poll.TheVariants.{Ready, Pending}
 use Rattle.mea_base.specs.declared.no_memory.NoMemory.{NoMemory}
 use Rattle.mea_sem_core.specs.declared.acquire.Acquire.{Acquire}
 use Rattle.mea_chan_core.specs.declared.errors.SendError.{SendError}
-use Rattle.mea_chan_core.specs.declared.errors.TrySendError.{TrySendError}
 use Rattle.mea_chan_core.specs.declared.errors.RecvError.{RecvError}
-use Rattle.mea_chan_core.specs.declared.errors.TryRecvError.{TryRecvError}
 use Rattle.mea_chan_core.specs.Channel.{Channel}
 use Rattle.mea_chan_core.specs.Bounded.{send_answer, after_send, recv_answer, after_recv, PollsSend, PollsRecv, EndsSend, without_receiver, without_sender}
 use Rattle.mea_chan_core.specs.Mailbox as mailbox

@@ -1,18 +1,15 @@
 -- which sends are pending on a bounded channel, with which wakers they were last polled, and what was woken since
-use Rattle.std.specs.Prelude.{ℕ, ◌≡◌, ◌≢◌, ◌+◌, ◌-◌, ◌<◌, ◌≤◌, ◌==◌, ◌++◌, Bool, true, false, List, [], ◌∷◌, length, min, Option, Some, None, Result, Ok, Contains, if◌then◌else◌}
+use Rattle.std.specs.Prelude.{ℕ, ◌≡◌, ◌+◌, ◌-◌, ◌≤◌, ◌==◌, ◌++◌, Bool, true, false, List, [], length, min, Option, Some, None, Result, Ok, Contains, if◌then◌else◌}
 use Rattle.std.specs.FinMap as map
-use Rattle.futures.specs.declared.task.Poll.{Poll}
 use Rattle.futures.specs.declared.task.Poll.TheVariants.{Ready, Pending}
-use Rattle.mea_base.specs.declared.no_memory.NoMemory.{NoMemory}
 use Rattle.mea_sem_core.specs.Acquire.{demand_of}
 use Rattle.mea_sem_core.specs.Core.{IsSound}
 use Rattle.mea_sem_core.specs.Calls.{Belongs}
 use Rattle.mea_sem_core.specs.declared.acquire.Acquire.{Acquire}
 use Rattle.mea_sem_core.specs.declared.acquire.Acquire.TheVariants.{New, Queued, Done, Refused}
 use Rattle.mea_chan_core.specs.declared.errors.SendError.{SendError}
-use Rattle.mea_chan_core.specs.declared.errors.RecvError.{RecvError}
 use Rattle.mea_chan_core.specs.Channel.{Channel, IsSenders}
-use Rattle.mea_chan_core.specs.Bounded.{after_send, recv_answer, after_recv, PollsSend, PollsRecv, EndsSend, without_receiver, without_sender}
+use Rattle.mea_chan_core.specs.Bounded.{after_send, after_recv, PollsSend, EndsSend, without_receiver, without_sender}
 
 -- by the number of a pending send: the waker of its last poll, and the wakers that were made ready since
 pub record Watch (W : Type 0) : Type 0 where

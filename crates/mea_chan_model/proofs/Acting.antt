@@ -11,7 +11,7 @@ use Rattle.mea_named.specs.ByName.{Names}
 use Rattle.mea_named.specs.Play.{found}
 use Rattle.mea_named.proofs.Cases.{by_found, by_if}
 use Rattle.mea_chan_model.specs.Mailboxes as mailboxes
-use Rattle.mea_chan_model.specs.Mailboxes.{Mailbox, Mailboxes, Receiver, new_mailbox, kept, registered, waker_in, woken, is_over, tidied_channels, with_message, woken_by_send, without_senders, less_sender, woken_by_end, without_receiver}
+use Rattle.mea_chan_model.specs.Mailboxes.{Mailbox, Mailboxes, Receiver, new_mailbox, kept, waker_in, woken, is_over, tidied_channels, with_message, woken_by_send, without_senders, less_sender, woken_by_end, without_receiver}
 use Rattle.mea_chan_model.specs.MailboxActions.{Action, Make, Copy, Send, SendLast, EndSender, Receive, Poll, EndReceiver, Turn, TellClosed, TellOver, TellMessage, act_in, registers_in, polled_in, ends_in}
 
 -- ---- one channel

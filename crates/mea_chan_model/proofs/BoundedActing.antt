@@ -15,11 +15,11 @@ use Rattle.mea_named.proofs.LackingQueues.{local_poured, local_pushed, local_rew
 use Rattle.mea_named.specs.LackingQueue.{who}
 use Rattle.mea_named.proofs.OneObject.{Counted, counted_same, counted_put}
 use Rattle.mea_chan_model.specs.Mailboxes as mailboxes
-use Rattle.mea_chan_model.specs.Mailboxes.{Mailbox, Mailboxes, Receiver, is_channel}
+use Rattle.mea_chan_model.specs.Mailboxes.{Mailboxes, Receiver}
 use Rattle.mea_chan_model.specs.MailboxActions as actions
-use Rattle.mea_chan_model.specs.MailboxActions.{Action, act_in, polled_in, ends_in, registers_in}
+use Rattle.mea_chan_model.specs.MailboxActions.{Action, act_in, polled_in, ends_in}
 use Rattle.mea_chan_model.specs.Bounded as bounded
-use Rattle.mea_chan_model.specs.Bounded.{Bounded, Room, BoundedSend, waiting_at, is_full, is_got, at_room, at_room_in, woken_at, woken_in, granted, woken_by_grant, all_granted, all_woken, joined, left_by, tidied_rooms}
+use Rattle.mea_chan_model.specs.Bounded.{Bounded, Room, BoundedSend, waiting_at, is_full, is_got, at_room, at_room_in, woken_at, woken_in, granted, woken_by_grant, all_woken, joined, left_by, tidied_rooms}
 use Rattle.mea_chan_model.specs.BoundedActions.{BoundedAction, MakeRoom, CopySender, TrySend, BeginSend, PollSend, EndSend, TryReceive, PollReceive, DropSender, DropReceiver, bounded_act, bounded_polled, bounded_ends}
 
 -- an action that does nothing

@@ -12,7 +12,7 @@ use Rattle.mea_named.specs.NamedQueue.{waker_for}
 use Rattle.mea_named.proofs.Cases.{by_if}
 use Rattle.mea_named.proofs.Own.{Moves, Stays, Comes, Goes as Leaves, moves_elsewhere, moves_home, own-at, own-put, own-gone, own-none, own-empty, own-nothing, len-new, len-gone, len-some}
 use Rattle.mea_chan_model.specs.Broadcasts as broadcasts
-use Rattle.mea_chan_model.specs.Broadcasts.{Broadcast, Broadcasts, Listener, Hearing, Stands, Behind, Holds, AtTail, waiting_at, of_hearing, is_over, tidied, stands, oldest, ring_size, new_broadcast, with_message, less_sender, woken_by_end, wakers, taking, is_sender, is_hearing}
+use Rattle.mea_chan_model.specs.Broadcasts.{Broadcast, Broadcasts, Listener, Hearing, of_hearing, is_over, tidied, with_message, less_sender, taking}
 use Rattle.mea_chan_model.specs.BroadcastActions.{unusable}
 use Rattle.mea_chan_model.specs.BroadcastValid.{AreKept, AreHeard, Hears, of_listener, of_itself}
 use Rattle.mea_chan_model.proofs.OneBroadcast.{sender_added, was_sent, sender_less, joined, moved, receiver_less, lent, freed, waits_now, nobody, taking-other}

@@ -12,14 +12,14 @@ use Rattle.mea_named.specs.ByName.{Names, own}
 use Rattle.mea_named.specs.NamedQueue.{waker_for}
 use Rattle.mea_named.specs.Play.{found}
 use Rattle.mea_named.proofs.Cases.{by_found, by_if, found_is, if_false}
-use Rattle.mea_named.proofs.NamedQueues.{Local, local_same}
+use Rattle.mea_named.proofs.NamedQueues.{Local, local_same, local_drained}
 use Rattle.mea_named.proofs.OneObject.{Goes, ObjectsGo, Same, Put, Made, Gone, Kept, Begun, Ended, None_is, Polled, Ends}
 use Rattle.mea_named.proofs.Own.{Stays, Comes, own-at, own-put, own-gone, own-empty, own-had, len-new}
 use Rattle.mea_chan_model.specs.Broadcasts as broadcasts
-use Rattle.mea_chan_model.specs.Broadcasts.{Broadcast, Broadcasts, Listener, Hearing, Stands, Behind, Holds, AtTail, waiting_at, of_hearing, is_over, tidied, stands, oldest, ring_size, new_broadcast, with_message, less_sender, woken_by_end, wakers, taking, is_sender, is_hearing}
+use Rattle.mea_chan_model.specs.Broadcasts.{Broadcast, Broadcasts, Listener, Hearing, Stands, Behind, Holds, AtTail, waiting_at, of_hearing, is_over, tidied, stands, oldest, ring_size, new_broadcast, with_message, less_sender, woken_by_end, wakers, taking, is_hearing}
 use Rattle.mea_chan_model.specs.BroadcastActions.{BroadcastAction, Open, AddSender, SendAll, EndSender, Subscribe, Resubscribe, CopyReceiver, Hear, EndReceiver, BeginHear, PollHear, EndHear, unusable, broadcast_cause, broadcast_act, broadcast_polled, broadcast_ends, broadcast_registers}
 use Rattle.mea_chan_model.specs.BroadcastValid.{AreKept, AreHeard, Hears, of_listener, of_itself}
-use Rattle.mea_chan_model.proofs.OneBroadcast.{local_taking, local_drained, by_stands, sender_less, receiver_less, new_heard, taking-there}
+use Rattle.mea_chan_model.proofs.OneBroadcast.{local_taking, by_stands, sender_less, receiver_less, new_heard, taking-there}
 use Rattle.std.specs.List.{Contains}
 use Rattle.mea_named.proofs.OneObject.{Counted, goes_counted, IsBelow, AreBelow, goes_stays, goes_kept, goes_made, placed_is, placed_put}
 use Rattle.mea_named.proofs.Own.{insert_same}

@@ -26,7 +26,7 @@ use Rattle.mea_named.proofs.Own.{own-nothing}
 use Rattle.mea_chan_model.specs.declared.event.ChanEvent.{ChanEvent}
 use Rattle.mea_chan_model.specs.Mailboxes.{Mailbox, Mailboxes, Receiver, new_mailbox, is_channel, is_sender}
 use Rattle.mea_chan_model.specs.MailboxActions as actions
-use Rattle.mea_chan_model.specs.MailboxActions.{Action, act_in}
+use Rattle.mea_chan_model.specs.MailboxActions.{act_in}
 use Rattle.mea_chan_model.specs.Bounded as bounded
 use Rattle.mea_chan_model.specs.Bounded.{Bounded, Room, BoundedSend, waiting_at, is_full, is_full_in, is_got, at_room, at_room_in, woken_at, woken_in, granted, woken_by_grant, all_granted, all_woken, joined, left_by, tidied_rooms, sends_of, is_send}
 use Rattle.mea_chan_model.specs.BoundedActions.{BoundedAction, MakeRoom, CopySender, TrySend, BeginSend, PollSend, EndSend, TryReceive, PollReceive, DropSender, DropReceiver, bounded_act, bounded_cause}

@@ -13,7 +13,7 @@ use Rattle.mea_chan_model.specs.MailboxActions.{Copy, Send, EndSender, Receive, 
 use Rattle.mea_chan_model.specs.Bounded.{is_got}
 use Rattle.mea_chan_model.specs.InOrder.{queued_in}
 use Rattle.mea_chan_model.proofs.Acting.{after, left, left_is}
-use Rattle.mea_chan_model.proofs.Wakers.{after-there, after-other}
+use Rattle.mea_chan_model.proofs.Wakers.{after-there, after-other, over_ended}
 
 -- whether the receiver has ended; that of a channel that is gone has
 abbrev pub ended_in : Option Mailbox → Bool
@@ -33,12 +33,8 @@ lessens_at less p q p' q' first second is = rw (first, second) is
 
 lessens_left : (c d : Mailbox) → d.ended ≡ c.ended → length c.queued ≤ length d.queued → Lessens 0 (Some c) (left d)
 lessens_left c d same more = by_if (λ p. Lessens 0 (Some c) p) (is_over d) None (Some d)
-    (λ over. let gone = sym same ∙ over_is d.ended over in record { ended = sym gone; queued = λ lives. absurd (cc) })
+    (λ over. let gone = sym same ∙ over_ended d over in record { ended = sym gone; queued = λ lives. absurd (cc) })
     (λ stays. record { ended = same; queued = λ lives. omega (arith, more) })
-  where
-    over_is : (b : Bool) → (if b then d.senders == 0 else false) ≡ true → b ≡ true
-    over_is true is = refl
-    over_is false is = absurd (cc)
 
 lessens_sent : (c : Mailbox) (v : ℕ) → Lessens 0 (Some c) (Some (with_message c v))
 lessens_sent c v = at c.ended refl

@@ -25,7 +25,7 @@ use Rattle.mea_chan_model.specs.Meaning.{Meaning, OfChannels, OfBounded, OfBroad
 use Rattle.mea_chan_model.specs.ChanFamily.{chans_family}
 use Rattle.mea_chan_model.specs.InOrder.{Moved, nothing, then_moved, queued_in, channel_at, accepts, receives, drops, if_at, moved_by, moved_by_send, bounded_moved_by, moved_at, moved}
 use Rattle.mea_chan_model.proofs.Acting.{after, left, left_is}
-use Rattle.mea_chan_model.proofs.Wakers.{Low, lows, by_kinds, there, beside, beside_bounded, beside_broadcasts, after-there, after-other}
+use Rattle.mea_chan_model.proofs.Wakers.{Low, lows, by_kinds, there, beside, beside_bounded, beside_broadcasts, after-there, after-other, over_ended}
 
 -- whether the receiver has ended; that of a channel that is gone has
 abbrev ended_in : Option Mailbox → Bool
@@ -60,11 +60,7 @@ module _ (i o : ℕ) where
   Quiet c = c.ended ≡ true → c.queued ≡ []
 
   left_rests : (c d : Mailbox) → d.queued ≡ c.queued → d.ended ≡ c.ended → Quiet c → Moves (Some c) (left d) nothing
-  left_rests c d same ended quiet = by_if (λ p. Moves (Some c) p nothing) (is_over d) None (Some d) (λ over. Rests (Some c) None (sym (quiet (sym ended ∙ over_is d.ended over))) (sym (sym ended ∙ over_is d.ended over))) (λ stays. Rests (Some c) (Some d) same ended)
-    where
-      over_is : (b : Bool) → (if b then d.senders == 0 else false) ≡ true → b ≡ true
-      over_is true is = refl
-      over_is false is = absurd (cc)
+  left_rests c d same ended quiet = by_if (λ p. Moves (Some c) p nothing) (is_over d) None (Some d) (λ over. Rests (Some c) None (sym (quiet (sym ended ∙ over_ended d over))) (sym (sym ended ∙ over_ended d over))) (λ stays. Rests (Some c) (Some d) same ended)
 
   left_accepts : (c d : Mailbox) (v : ℕ) → d.queued ≡ c.queued ++ v ∷ [] → c.ended ≡ false → d.ended ≡ false → Moves (Some c) (left d) (accepts v answers.Accepted)
   left_accepts c d v more living lives = by_if (λ p. Moves (Some c) p (accepts v answers.Accepted)) (is_over d) None (Some d) (λ over. absurd (not_over d.ended lives over)) (λ stays. Accepts (Some c) (Some d) v more living lives)

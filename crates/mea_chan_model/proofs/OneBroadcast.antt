@@ -1,19 +1,17 @@
 -- one broadcast channel: what each change of it keeps of its receivers and futures
 use Rattle.std.proofs.Common.{◌≡◌, ℕ, zero, suc, ◌+◌, ◌-◌, ◌<◌, ◌≤◌, ◌==◌, ◌++◌, inl, inr, Bool, true, false, cond, List, [], ◌∷◌, length, drop, nat_lt, slice_get, Option, Some, None, if◌then◌else◌, refl, ap, sym, subst, ◌∙◌, arith, length-append}
-use Rattle.std.specs.List.{Contains}
 use Rattle.std.specs.Ordering.{nat_cmp}
 use Rattle.std.specs.FinMap.{get, insert, remove, empty, get-empty, len-empty}
 use Rattle.std.proofs.lemmas.Bool.{eqb-true, eqb-false, eq-eqb, ne_eqb}
 use Rattle.std.proofs.lemmas.Bool.Decides.{nat_tests}
 use Rattle.std.proofs.lemmas.Option.{slice_get_past, slice_get_within, slice_get_cases}
-use Rattle.std.proofs.lemmas.List.Elements.{Contains-push, Contains-append_left, Contains-append_right}
 use Rattle.mea_base.proofs.Maps.{by_put, by_gone, get-there, get-other, get-removed_other, removed_there, inside}
 use Rattle.mea_base.proofs.Tests.{by_name}
 use Rattle.mea_named.specs.ByName.{Names}
 use Rattle.mea_named.specs.NamedQueue.{Waiting, waker_for}
 use Rattle.mea_named.proofs.NamedQueues.{Local}
 use Rattle.mea_named.proofs.Own.{len-new, len-over, len-gone, len-some}
-use Rattle.mea_chan_model.specs.Broadcasts.{Broadcast, Listener, Hearing, Stands, Behind, Holds, AtTail, oldest, stands, stands_at, taking, wakers, newest, new_broadcast, with_message, less_sender}
+use Rattle.mea_chan_model.specs.Broadcasts.{Broadcast, Listener, Hearing, Stands, Behind, Holds, AtTail, oldest, stands, stands_at, taking, newest, new_broadcast, with_message, less_sender}
 use Rattle.mea_chan_model.specs.BroadcastValid.{Hears, AreHeard}
 
 -- ---- who waits
@@ -39,22 +37,6 @@ taking-length (e ∷ q) f w = elim (e.0 == f) as (λ b. length (cond b ((e.0, w)
 
 pub local_taking : (q : Waiting) (f w : ℕ) → Local q (taking q f w) [] f 1
 local_taking q f w = record { keeps = λ g v apart is. inl (taking-other q f w g apart ∙ is); fits = omega (arith, taking-length q f w); most = omega arith }
-
-all_woken : (q : Waiting) (f w : ℕ) → waker_for q f ≡ Some w → Contains (wakers q) w
-all_woken [] f w is = absurd (cc)
-all_woken (e ∷ q) f w is = at (e.0 == f) is (λ h. all_woken q f w h)
-  where
-    at : (b : Bool) → cond b (Some e.1) (waker_for q f) ≡ Some w → (waker_for q f ≡ Some w → Contains (wakers q) w) → Contains (e.1 ∷ wakers q) w
-    at true h rest = let same : e.1 ≡ w = cc in Contains-append_left (e.1 ∷ []) (wakers q) w (subst (Contains (e.1 ∷ [])) same (Contains-push [] e.1))
-    at false h rest = Contains-append_right (e.1 ∷ []) (wakers q) w (rest h)
-
-pub length-wakers : (q : Waiting) → length (wakers q) ≡ length q
-length-wakers [] = refl
-length-wakers (e ∷ q) = omega (arith, length-wakers q)
-
--- all are woken
-pub local_drained : (q : Waiting) (k : ℕ) → Local q [] (wakers q) k 0
-local_drained q k = record { keeps = λ f w apart is. inr (all_woken q f w is); fits = omega (arith, length-wakers q); most = omega (arith, length-wakers q) }
 
 -- ---- what stands at a cursor
 module _ (c : Broadcast) (few : length c.kept ≤ c.tail) where

@@ -9,7 +9,7 @@ use Rattle.std.proofs.lemmas.Option.{cond_some}
 use Rattle.mea_base.specs.declared.answer.Answer.TheVariants as answers
 use Rattle.mea_base.specs.Family.{Outcome, quietly, Runs, Starts, Goes as GoesOn, RunOf, KeepsWakers, NamesFutures, LosesNoWake}
 use Rattle.mea_base.specs.Totals.{total, weight}
-use Rattle.mea_base.proofs.Maps.{by_put, nothing_at, is_there, inside, get-there, get-other, get-gone, get-removed_other, removed_there, value_in, total-has}
+use Rattle.mea_base.proofs.Maps.{by_put, nothing_at, is_there, inside, get-there, get-other, get-gone, get-removed_other, removed_there, value_in, total-has, none_if}
 use Rattle.mea_base.proofs.Tests.{known, by_name}
 use Rattle.mea_base.proofs.Totals.{total-insert, total-remove}
 use Rattle.mea_base.proofs.Wakes.{loses_no_wake}
@@ -62,9 +62,13 @@ pub after-other : (cs : Names Mailbox) (o q : ℕ) (c : Option Mailbox) → (o �
 after-other cs o q None apart = get-removed_other cs o q apart
 after-other cs o q (Some c) apart = get-other cs o q c apart
 
-no_value : {X : Type 0} (o : Option X) → ((x : X) → o ≡ Some x → ⊥) → o ≡ None
-no_value None none = refl
-no_value (Some x) none = absurd (none x refl)
+-- a channel that is over has lost its receiver
+pub over_ended : (c : Mailbox) → mailboxes.is_over c ≡ true → c.ended ≡ true
+over_ended c = at c.ended
+  where
+    at : (b : Bool) → (if b then c.senders == 0 else false) ≡ true → b ≡ true
+    at true is = refl
+    at false is = absurd (cc)
 
 module _ (h : Mailboxes) (n i : ℕ) (low : Low h n) (later : n ≤ i) where
   low_later : Low h (i + 1)
@@ -76,7 +80,7 @@ module _ (h : Mailboxes) (n i : ℕ) (low : Low h n) (later : n ≤ i) where
   }
 
   fresh : get h.receivers i ≡ None
-  fresh = no_value (get h.receivers i) (λ x is. absurd (let small = (low.below i x is).0 in omega (arith, small, later)))
+  fresh = none_if (get h.receivers i) (λ x is. absurd (let small = (low.below i x is).0 in omega (arith, small, later)))
 
   channels_after : (k extra : ℕ) (cs : Names Mailbox) (ws : List ℕ) → ChannelsGo h i k extra cs ws → (o : ℕ) (c : Mailbox) → get cs o ≡ Some c → (o < i + 1) × Awake c
   channels_after k extra _ _ Same o c is = (omega (arith, low.lows o c is, later), low.awake o c is)

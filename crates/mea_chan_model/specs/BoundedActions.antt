@@ -9,7 +9,7 @@ use Rattle.mea_base.specs.Family.{Outcome, quietly}
 use Rattle.mea_named.specs.Play.{found}
 use Rattle.mea_chan_model.specs.Mailboxes.{is_sender}
 use Rattle.mea_chan_model.specs.MailboxActions as actions
-use Rattle.mea_chan_model.specs.MailboxActions.{Action, cause_in, act_in, polled_in, ends_in, registers_in}
+use Rattle.mea_chan_model.specs.MailboxActions.{cause_in, act_in, polled_in, ends_in}
 use Rattle.mea_chan_model.specs.Bounded as bounded
 use Rattle.mea_chan_model.specs.Bounded.{Bounded, is_send, sends_of, is_full}
 

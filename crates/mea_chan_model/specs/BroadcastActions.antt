@@ -7,7 +7,7 @@ use Rattle.mea_base.specs.Causes.{unknown_unless}
 use Rattle.mea_base.specs.Family.{Outcome}
 use Rattle.mea_named.specs.Play.{found}
 use Rattle.mea_chan_model.specs.Broadcasts as broadcasts
-use Rattle.mea_chan_model.specs.Broadcasts.{Broadcast, Broadcasts, Listener, Hearing, is_sender, is_hearing, ring_size, senders_in, tail_in, channel_of, stands}
+use Rattle.mea_chan_model.specs.Broadcasts.{Broadcast, Broadcasts, Listener, is_sender, is_hearing, ring_size, senders_in, tail_in, channel_of, stands}
 
 pub data BroadcastAction : Type 0 where
   -- a channel whose ring keeps the least power of two that is at least so many, with a sender and a receiver

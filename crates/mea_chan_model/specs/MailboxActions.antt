@@ -7,7 +7,7 @@ use Rattle.mea_base.specs.Causes.{unknown_unless}
 use Rattle.mea_base.specs.Family.{Outcome}
 use Rattle.mea_named.specs.Play.{found}
 use Rattle.mea_chan_model.specs.Mailboxes as mailboxes
-use Rattle.mea_chan_model.specs.Mailboxes.{Mailbox, Mailboxes, Receiver, is_sender, is_receiver, senders_beside, is_empty}
+use Rattle.mea_chan_model.specs.Mailboxes.{Mailbox, Mailboxes, is_sender, is_receiver, senders_beside, is_empty}
 
 pub data Action : Type 0 where
   -- a channel, with a sender and a receiver: whether that can be polled

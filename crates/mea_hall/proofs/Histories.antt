@@ -22,7 +22,7 @@ use Rattle.mea_lines.specs.declared.event.Event.{Event}
 use Rattle.mea_lines.specs.declared.event.Event.TheVariants.{Sem, Meet, Lock, Chan, Share, Once}
 use Rattle.mea_hall.specs.World.{World, empty_world, cause_of, step}
 use Rattle.mea_hall.specs.Front.{Front, front_at, front_from, front_of}
-use Rattle.mea_hall.specs.History.{semaphore_part, meet_part, lock_part, chan_part, share_part, once_part, hears, run_from, run_after, AreWoken, AreBalanced, LoseNoWake, GrantInOrder}
+use Rattle.mea_hall.specs.History.{semaphore_part, meet_part, lock_part, chan_part, share_part, once_part, hears, run_from, run_after, AreBalanced, LoseNoWake, GrantInOrder}
 
 abbrev Replies : Type 0
 Replies = List (Answer × List ℕ)

@@ -13,6 +13,7 @@ use Rattle.mea_lines.proofs.Digits.{own}
 use Rattle.mea_lines.proofs.Numbers.{number_of-decimal, number_only, count_of-decimal, count_only}
 use Rattle.mea_lines.proofs.Cuts.{lacks_byte, no_space_in_digits, cut_at, cut_only}
 use Rattle.mea_lines.proofs.Marks.{kind_of}
+use Rattle.mea_base.proofs.Maps.{none_if}
 
 -- ---- what stands after a word
 
@@ -143,16 +144,12 @@ pub record IsFamily {E : Type 0} (g : Grammar E) (kind : ℕ) : Type 0 where
   pub alone_only : (word : List ℕ) (e : E) → g.alone word ≡ Some e → IsSpelledAlone g word e
   pub kind_is : (e : E) → kind_of (g.word e) ≡ kind
 
-none_or_some : {A : Type 0} (o : Option A) → ((a : A) → o ≡ Some a → ⊥) → o ≡ None
-none_or_some None h = refl
-none_or_some (Some a) h = absurd (h a refl)
-
 -- a word of another kind is not read
 pub unread : {E : Type 0} (g : Grammar E) (kind : ℕ) → IsFamily g kind → (word rest : List ℕ) → (kind_of word ≡ kind → ⊥) → g.reads word rest ≡ None
-unread g kind family word rest other = none_or_some (g.reads word rest) (λ e is. other (ap kind_of (family.only word rest e is).word_is ∙ family.kind_is e))
+unread g kind family word rest other = none_if (g.reads word rest) (λ e is. other (ap kind_of (family.only word rest e is).word_is ∙ family.kind_is e))
 
 pub unread_alone : {E : Type 0} (g : Grammar E) (kind : ℕ) → IsFamily g kind → (word : List ℕ) → (kind_of word ≡ kind → ⊥) → g.alone word ≡ None
-unread_alone g kind family word other = none_or_some (g.alone word) (λ e is. other (ap kind_of (family.alone_only word e is).word_is ∙ family.kind_is e))
+unread_alone g kind family word other = none_if (g.alone word) (λ e is. other (ap kind_of (family.alone_only word e is).word_is ∙ family.kind_is e))
 
 -- ---- from an event to its line
 

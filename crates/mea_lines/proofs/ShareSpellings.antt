@@ -1,5 +1,5 @@
 -- each event of fair admission has one spelling
-use Rattle.std.proofs.Common.{◌≡◌, ℕ, ◌⊎◌, inl, inr, List, codes, Some, None, refl}
+use Rattle.std.proofs.Common.{◌≡◌, ℕ, ◌⊎◌, inl, List, codes, Some, None, refl}
 use Rattle.std.specs.Str.{bytes_eq}
 use Rattle.mea_share_model.specs.declared.event.ShareEvent.{ShareEvent}
 use Rattle.mea_share_model.specs.declared.event.ShareEvent.TheVariants.{FsNew, FsFree, FsWaiters, FsTry, FsTryo, FsWeight, FsWeightof, FsAcq, FsAcqo, FsPoll, FsKey, FsEnd, FsDrop}

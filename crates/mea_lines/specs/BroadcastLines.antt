@@ -1,5 +1,5 @@
 -- the lines of broadcast channels
-use Rattle.std.specs.Prelude.{ℕ, List, Option, Some, None, codes, if◌then◌else◌}
+use Rattle.std.specs.Prelude.{ℕ, List, Option, None, codes, if◌then◌else◌}
 use Rattle.std.specs.Str.{bytes_eq}
 use Rattle.mea_chan_model.specs.declared.event.ChanEvent.{ChanEvent}
 use Rattle.mea_chan_model.specs.declared.event.ChanEvent.TheVariants.{BcNew, BcCopys, BcSend, BcSub, BcResub, BcCopyr, BcTry, BcRecv, BcPoll, BcEnd, BcEndr, BcEnds}

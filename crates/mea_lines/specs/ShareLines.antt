@@ -1,5 +1,5 @@
 -- the lines of fair admission
-use Rattle.std.specs.Prelude.{ℕ, List, Option, Some, None, codes, if◌then◌else◌}
+use Rattle.std.specs.Prelude.{ℕ, List, Option, None, codes, if◌then◌else◌}
 use Rattle.std.specs.Option.{option_or}
 use Rattle.std.specs.Str.{bytes_eq}
 use Rattle.mea_share_model.specs.declared.event.ShareEvent.{ShareEvent}

@@ -14,7 +14,8 @@ use Rattle.mea_sem_core.specs.declared.acquire.Acquire.TheVariants.{New, Queued,
 use Rattle.mea_sem_core.specs.Core.{Waiter, Acquires, Owes, HasNoDebt, waiting}
 use Rattle.mea_sem_core.specs.Calls.{with_waker, without_acquire}
 use Rattle.mea_linked.specs.Linked.{who_of, names_in, AreOf, IsHome, Linked}
-use Rattle.mea_linked.proofs.Waiters.{waiting-with, waiting-without, waiting-push, waiting-pushed}
+use Rattle.mea_linked.proofs.Waiters.{waiting-with, waiting-push, waiting-pushed}
+use Rattle.mea_sem_core.proofs.Without.{waiting-without}
 
 abbrev Queue : Type 0
 Queue = List (Waiter NamedWaker × ℕ)

@@ -1,13 +1,13 @@
 -- permits that are poured, as the model sees them
-use Rattle.std.proofs.Common.{◌≡◌, ℕ, ◌+◌, ◌-◌, ◌==◌, ◌++◌, Bool, true, false, cond, List, [], ◌∷◌, map, refl, ap, sym, ◌∙◌, arith}
+use Rattle.std.proofs.Common.{◌≡◌, ℕ, ◌+◌, ◌-◌, ◌++◌, List, [], ◌∷◌, map, refl, ap, sym, ◌∙◌}
 use Rattle.std.specs.List.{AllByRecursion}
-use Rattle.mea_base.specs.Queue.{lacks, waiting_after, granted_in, left_over}
-use Rattle.mea_base.proofs.Queues.{waiting_after-map, granted_in-map, lacks-map, granted_in_keeps}
+use Rattle.mea_base.specs.Queue.{waiting_after, granted_in}
+use Rattle.mea_base.proofs.Queues.{waiting_after-map, granted_in-map, granted_in_keeps}
 use Rattle.mea_named.specs.declared.named_waker.NamedWaker.{NamedWaker}
 use Rattle.mea_named.specs.ByName.{Names}
 use Rattle.mea_named.specs.LackingQueue.{woken_by}
 use Rattle.mea_sem_core.specs.declared.acquire.Acquire.{Acquire}
-use Rattle.mea_sem_core.specs.Core.{Core, Waiter, Acquires, Owes, HasNoDebt, poured, wakers_of, granting}
+use Rattle.mea_sem_core.specs.Core.{Core, Waiter, Acquires, Owes, HasNoDebt, poured, wakers_of}
 use Rattle.mea_linked.specs.Linked.{who_of, names_in, Linked}
 use Rattle.mea_linked.proofs.Pours.{linked_poured}
 

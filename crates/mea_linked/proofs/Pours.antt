@@ -1,9 +1,8 @@
 -- a pour, by numbers and by names
-use Rattle.std.proofs.Common.{◌≡◌, ℕ, zero, suc, ◌+◌, ◌-◌, ◌==◌, ◌++◌, ◌⊎◌, inl, inr, Bool, true, false, cond, List, [], ◌∷◌, map, filter, min, nat_lt, Option, Some, None, refl, ap, sym, subst, ◌∙◌, arith, append_assoc, append-nil}
+use Rattle.std.proofs.Common.{◌≡◌, ℕ, ◌+◌, ◌-◌, ◌==◌, ◌++◌, inl, inr, true, false, cond, List, [], ◌∷◌, map, filter, min, nat_lt, Some, refl, ap, sym, ◌∙◌, append_assoc}
 use Rattle.std.specs.Ordering.{nat_cmp}
 use Rattle.std.specs.FinMap.{FinMap, get, insert}
-use Rattle.std.proofs.lemmas.Bool.{eqb-true, eq-eqb, ne_eqb}
-use Rattle.std.proofs.lemmas.Bool.Decides.{nat_tests}
+use Rattle.std.proofs.lemmas.Bool.{ne_eqb}
 use Rattle.mea_base.specs.Queue.{lacks_after, waiting_after, granted_in}
 use Rattle.mea_base.proofs.Maps.{get-there, get-other, by_put}
 use Rattle.mea_base.proofs.Tests.{by_name}
@@ -11,7 +10,7 @@ use Rattle.mea_named.specs.declared.named_waker.NamedWaker.{NamedWaker}
 use Rattle.mea_named.specs.ByName.{Names}
 use Rattle.mea_named.proofs.LackingQueues.{some_or_none}
 use Rattle.mea_sem_core.specs.declared.acquire.Acquire.{Acquire}
-use Rattle.mea_sem_core.specs.declared.acquire.Acquire.TheVariants.{New, Queued, Done}
+use Rattle.mea_sem_core.specs.declared.acquire.Acquire.TheVariants.{Queued}
 use Rattle.mea_sem_core.specs.Core.{Waiter, Acquires, Owes, waiting, granting}
 use Rattle.mea_linked.specs.Linked.{AreOf, IsHome, Linked}
 use Rattle.mea_linked.proofs.Linking.{home-still}

@@ -1,23 +1,16 @@
 -- what stands under each number of a queue, after each change of it
-use Rattle.std.proofs.Common.{◌≡◌, ℕ, ◌==◌, ◌++◌, true, false, cond, List, [], ◌∷◌, Some, None, refl, ap, sym, ◌∙◌}
-use Rattle.std.proofs.lemmas.Bool.{eqb-true, eq-eqb, ne_eqb}
+use Rattle.std.proofs.Common.{◌≡◌, ℕ, ◌==◌, ◌++◌, true, false, cond, List, [], ◌∷◌, Some, None, refl, ap, length, arith}
+use Rattle.std.proofs.lemmas.Bool.{eq-eqb}
 use Rattle.mea_sem_core.specs.Core.{Waiter, Acquires, Owes, waiting}
-use Rattle.mea_sem_core.specs.Calls.{with_waker, without_acquire}
+use Rattle.mea_sem_core.specs.Calls.{with_waker}
+use Rattle.mea_named.specs.declared.named_waker.NamedWaker.{NamedWaker}
+use Rattle.mea_linked.specs.Linked.{names_in}
 
 module _ {W : Type 0} where
   pub waiting-with : (q : List (Waiter W × ℕ)) (n : ℕ) (w : W) (m : ℕ) → waiting (with_waker q n w) m ≡ waiting q m
   waiting-with [] n w m = refl
   waiting-with ((Acquires k d v, l) ∷ q) n w m = ap (cond (k == m) (Some (d, l))) (waiting-with q n w m)
   waiting-with ((Owes, l) ∷ q) n w m = waiting-with q n w m
-
-  pub waiting-without : (q : List (Waiter W × ℕ)) (n m : ℕ) → (n ≡ m → ⊥) → waiting (without_acquire q n) m ≡ waiting q m
-  waiting-without [] n m apart = refl
-  waiting-without ((Acquires k d v, l) ∷ q) n m apart = elim (k == n)
-      as (λ b. (k == n) ≡ b → waiting (cond b (without_acquire q n) ((Acquires k d v, l) ∷ without_acquire q n)) m ≡ cond (k == m) (Some (d, l)) (waiting q m)) [
-        | true ↦ λ e. waiting-without q n m apart ∙ sym (ap (λ b. cond b (Some (d, l)) (waiting q m)) (ne_eqb k m (λ same. apart (sym (eqb-true k n e) ∙ same))))
-        | false ↦ λ e. ap (cond (k == m) (Some (d, l))) (waiting-without q n m apart)
-      ] refl
-  waiting-without ((Owes, l) ∷ q) n m apart = waiting-without q n m apart
 
   -- who waits, waits still after one more came
   pub waiting-push : (q : List (Waiter W × ℕ)) (e : Waiter W × ℕ) (m : ℕ) (p : ℕ × ℕ) → waiting q m ≡ Some p → waiting (q ++ e ∷ []) m ≡ Some p
@@ -35,3 +28,8 @@ module _ {W : Type 0} where
     | false ↦ λ none. waiting-pushed q n d l w none
   ]
   waiting-pushed ((Owes, j) ∷ q) n d l w = λ none. waiting-pushed q n d l w none
+
+-- as many names as wait
+pub length-names : (q : List (Waiter NamedWaker × ℕ)) → length (names_in q) ≡ length q
+length-names [] = refl
+length-names (e ∷ q) = omega (arith, length-names q)

@@ -1,40 +1,32 @@
 -- what each event on a future does to the locks of one kind, as they are kept and as they are seen
-use Rattle.std.proofs.Common.{◌≡◌, ℕ, ◌+◌, ◌-◌, ◌<◌, ◌≤◌, ◌^◌, ◌==◌, ◌&&◌, ◌||◌, ◌++◌, inl, inr, Bool, true, false, not, cond, length, List, [], ◌∷◌, map, nat_lt, Option, Some, None, option_map, is_some, refl, ap, sym, subst, ◌∙◌, arith, append-nil, if◌then◌else◌}
-use Rattle.std.specs.Option.{IsSome}
-use Rattle.std.specs.FinMap.{get, insert, remove, len, empty}
-use Rattle.std.proofs.lemmas.Bool.{cases_lt, eqb-true}
-use Rattle.std.proofs.lemmas.Bool.Decides.{nat_tests}
+use Rattle.std.proofs.Common.{◌≡◌, ℕ, ◌+◌, ◌-◌, ◌≤◌, ◌==◌, ◌||◌, ◌++◌, inl, inr, Bool, true, false, not, cond, length, List, [], map, nat_lt, Some, None, refl, ap, sym, subst, ◌∙◌, arith, append-nil, if◌then◌else◌}
+use Rattle.std.specs.FinMap.{get, insert, remove}
 use Rattle.mea_base.specs.declared.answer.Answer.{Answer}
 use Rattle.mea_base.specs.declared.answer.Answer.TheVariants as answers
 use Rattle.mea_base.specs.declared.turn.Turn.TheVariants.{Ready, Pending}
 use Rattle.mea_base.specs.Family.{Outcome, quietly}
 use Rattle.mea_base.specs.Ready.{Waking}
-use Rattle.mea_base.specs.Totals.{total, weight}
-use Rattle.mea_base.proofs.Maps.{total-has, nothing_at, inside, get-there, get-gone, is_there}
-use Rattle.mea_base.proofs.Totals.{get_inserted, get_removed, total-insert, total-remove, total-same}
-use Rattle.mea_base.proofs.NamedMaps.{is_some-map, get-seen, same_named}
-use Rattle.mea_named.specs.ByName.{Names, seen, own, count}
-use Rattle.mea_named.specs.Play.{Part, PartYields, PartRests, found}
+use Rattle.mea_base.proofs.Maps.{inside, get-there, get-gone}
+use Rattle.mea_base.proofs.Totals.{get_inserted, get_removed}
+use Rattle.mea_base.proofs.NamedMaps.{same_named}
+use Rattle.mea_named.specs.ByName.{Names, seen, own}
+use Rattle.mea_named.specs.Play.{Part, PartYields}
 use Rattle.mea_named.specs.NamedQueue.{waits}
 use Rattle.mea_named.specs.LackingQueue.{who, woken_by}
-use Rattle.mea_named.proofs.LackingQueues.{length-who}
 use Rattle.mea_named.proofs.Cases.{found_is, if_true, if_false}
 use Rattle.mea_named.proofs.Halls as halls
-use Rattle.mea_named.proofs.Own.{seen-at, seen-back, seen-empty, seen-insert, seen-remove, seen-alike, own-seen, len-seen, total-seen, own-at, own-none, own-put, own-gone, len-some, count-gone, insert_same, put_gone, gone_none, Moves, Stays, Comes, Goes}
+use Rattle.mea_named.proofs.Own.{seen-at, seen-insert, seen-remove, seen-alike, own-at, own-none, own-put, own-gone, len-some, count-gone, insert_same, put_gone, gone_none, Moves, Stays, Comes, Goes}
 use Rattle.mea_named.specs.declared.named_waker.NamedWaker.{NamedWaker}
-use Rattle.mea_lock_core.specs.RwLock.{MayPoll, MayCancel, LetsIn, share_of, is_write}
-use Rattle.mea_sem_core.specs.Core.{Waiter}
+use Rattle.mea_lock_core.specs.RwLock.{MayPoll, MayCancel, share_of, is_write}
 use Rattle.mea_lock_model.specs.Locks as model
-use Rattle.mea_lock_model.specs.Locks.{Lock, LockFuture, LockGuard, Locks, Until, goes_on, taken_from, was_polled, is_named, is_named_lock, is_future, is_lock_future, is_condvar_future, is_waiting_for, is_guard, is_write_guard, is_write as guard_writes, things_of, plain_of, registered, waiting_at, tidied_locks, size}
-use Rattle.mea_lock_model.specs.Valid.{held_by, FitGuards}
-use Rattle.mea_lock_model.specs.Actions.{Action, act_in, Make, Begin, Poll, Try, Get, Set, Lower, End, Peek, Put, Take, Drop, Hand, PollUntil, EndWait}
+use Rattle.mea_lock_model.specs.Locks.{Lock, LockFuture, Locks, Until, goes_on, taken_from, was_polled, is_lock_future, is_condvar_future, is_waiting_for, things_of, registered, tidied_locks, size}
+use Rattle.mea_lock_model.specs.Actions.{Action, act_in, Poll, PollUntil, EndWait}
 use Rattle.mea_linked.specs.Linked.{names_in}
 use Rattle.mea_lock.specs.declared.guard_entry.GuardEntry.{GuardEntry}
-use Rattle.mea_lock.specs.Cores.{NamedLock, CancelsLock, TakesLock, UnlocksLock, LowersLock, IsHeldAs, IsFreeFor}
-use Rattle.mea_lock.specs.Entries.{KeptLock, KeptFuture, begun, finished, settled, is_over, Settles, EndsLock, Polled, HasLock}
+use Rattle.mea_lock.specs.Cores.{NamedLock, CancelsLock, UnlocksLock, IsHeldAs}
+use Rattle.mea_lock.specs.Entries.{KeptLock, KeptFuture, finished, settled, is_over, Settles, EndsLock, Polled, HasLock}
 use Rattle.mea_lock.specs.Waits.{IsNewWait, is_polled}
-use Rattle.mea_lock.specs.Parts.{lock_seen, future_seen, guard_seen, locks_seen, held_by as held_of_guards, AreKept, IsKept, IsNewLock, of_future, of_guard}
-use Rattle.mea_lock.specs.Lends.{StandsFor}
+use Rattle.mea_lock.specs.Parts.{lock_seen, future_seen, guard_seen, locks_seen, AreKept, IsKept, of_future, of_guard}
 use Rattle.mea_lock.proofs.OneLock as one
 use Rattle.mea_lock.proofs.PartEvents.{Site, tidied_seen, waiting_tidied, tidied_kept, waiters, part_of, writing_ready, writing_pending, free_ready, polled_by, yields_as, no_guard, its_kept, found_lock, waiting_now, turns}
 

@@ -1,5 +1,5 @@
 -- how many wait after each call of a lock
-use Rattle.std.proofs.Common.{◌≡◌, ℕ, ◌+◌, ◌-◌, ◌≤◌, ◌==◌, ◌⊎◌, inl, inr, Bool, true, false, cond, length, List, [], ◌∷◌, ◌++◌, Ok, refl, ap, ◌∙◌, arith}
+use Rattle.std.proofs.Common.{◌≡◌, ℕ, ◌+◌, ◌-◌, ◌≤◌, ◌⊎◌, inl, inr, Bool, false, length, List, [], ◌∷◌, ◌++◌, Ok, ap, ◌∙◌, arith}
 use Rattle.std.proofs.lemmas.Bool.{cases_lt}
 use Rattle.std.proofs.lemmas.List.{length-append}
 use Rattle.mea_base.specs.Queue.{granted_in}
@@ -9,27 +9,15 @@ use Rattle.mea_named.specs.declared.named_waker.NamedWaker.{NamedWaker}
 use Rattle.mea_sem_core.specs.declared.acquire.Acquire.{Acquire}
 use Rattle.mea_sem_core.specs.declared.acquire.Acquire.TheVariants.{New, Queued, Done, Refused}
 use Rattle.mea_sem_core.specs.Core.{Core, Waiter, Acquires, Owes, wakers_of, poured}
-use Rattle.mea_sem_core.specs.Calls.{Polls, Cancels, Belongs, given_back, with_waker, without_acquire}
+use Rattle.mea_sem_core.specs.Calls.{Polls, Cancels, Belongs, given_back}
 use Rattle.mea_lock_core.specs.Lock.{IsUnready}
 use Rattle.mea_lock_core.specs.RwLock.{IsSound, MayPoll, MayCancel, share_of}
 use Rattle.mea_lock_core.specs.declared.rw_wait.RwWait.{RwWait}
 use Rattle.mea_lock_core.specs.declared.rw_wait.RwWait.TheVariants.{Read, NewWrite, Write}
 use Rattle.mea_lock.specs.Cores.{NamedLock, acquire_of, PollsLock, CancelsLock, UnlocksLock, LowersLock}
+use Rattle.mea_sem_core.proofs.Ones.{length-rewaked, length-without}
 
 module _ {W : Type 0} where
-  length-with : (q : List (Waiter W × ℕ)) (n : ℕ) (w : W) → length (with_waker q n w) ≡ length q
-  length-with [] n w = refl
-  length-with ((Acquires m d v, l) ∷ q) n w = omega (arith, length-with q n w)
-  length-with ((Owes, l) ∷ q) n w = omega (arith, length-with q n w)
-
-  length-without : (q : List (Waiter W × ℕ)) (n : ℕ) → length (without_acquire q n) ≤ length q
-  length-without [] n = omega arith
-  length-without ((Acquires m d v, l) ∷ q) n = elim (m == n) as (λ b. length (cond b (without_acquire q n) ((Acquires m d v, l) ∷ without_acquire q n)) ≤ length ((Acquires m d v, l) ∷ q)) [
-    | true ↦ omega (arith, length-without q n)
-    | false ↦ omega (arith, length-without q n)
-  ]
-  length-without ((Owes, l) ∷ q) n = omega (arith, length-without q n)
-
   -- a poll leaves as many in the queue, or one more
   pub poll_length : (s s' : Core W) (a a' : Acquire) (w : W) (turn : Turn W) → s.closed ≡ false → Polls s a w (Ok turn) s' a' → Belongs s a → IsUnready a
       → (length s'.queue ≡ length s.queue) ⊎ (length s'.queue ≡ length s.queue + 1)
@@ -38,7 +26,7 @@ module _ {W : Type 0} where
     | inl few ↦ let is = polls.1 few in inr (ap (λ t. length t.queue) is.1.1.is ∙ length-append s.queue ((Acquires is.1.0 d w, d - s.free) ∷ []))
   ]
   poll_length s s' (Queued d n) a' w turn opened polls (inl (inl granted)) unready = inl (let is = polls.0 granted in ap (λ t. length t.queue) is.1)
-  poll_length s s' (Queued d n) a' w turn opened polls (inl (inr waits)) unready = inl (let is = polls.1 waits in ap (λ t. length t.queue) is.1 ∙ length-with s.queue n w)
+  poll_length s s' (Queued d n) a' w turn opened polls (inl (inr waits)) unready = inl (let is = polls.1 waits in ap (λ t. length t.queue) is.1 ∙ length-rewaked s.queue n w)
   poll_length s s' (Queued d n) a' w turn opened polls (inr cut) unready = absurd (let closed = cut.0 in cc)
   poll_length s s' (Done d) a' w turn opened polls belongs unready = absurd unready
   poll_length s s' (Refused d) a' w turn opened polls belongs unready = absurd unready

@@ -24,7 +24,7 @@ use Rattle.mea_lock_core.specs.RwLock.{IsSound, MayPoll, MayCancel, share_of, is
 use Rattle.mea_lock_core.specs.declared.rw_wait.RwWait.{RwWait}
 use Rattle.mea_lock_core.specs.declared.rw_wait.RwWait.TheVariants.{Read, NewWrite, Write}
 use Rattle.mea_lock_model.specs.Locks as model
-use Rattle.mea_lock_model.specs.Locks.{Lock, taken_from}
+use Rattle.mea_lock_model.specs.Locks.{taken_from}
 use Rattle.mea_linked.specs.Linked.{names_in, AreOf, IsHome, Linked}
 use Rattle.mea_linked.proofs.Linking.{IsUnqueued, unqueued_waits, linked_gone, linked_begun, linked_pushed, queued_waits, queued_lacks, queued_with, queued_without, linked_again, linked_taken, linked_left, push-names}
 use Rattle.mea_lock.specs.declared.guard_entry.GuardEntry.{GuardEntry}
@@ -32,7 +32,8 @@ use Rattle.mea_lock.specs.Cores.{NamedLock, acquire_of, IsFreeFor, TakesLock, Un
 use Rattle.mea_lock.specs.Entries.{KeptLock, KeptFuture, begun, finished, settled}
 use Rattle.mea_lock.specs.Waits.{has_number, is_polled, IsNewWait}
 use Rattle.mea_lock.specs.Parts.{lock_seen, acquires_of, held_by, held_in, IsHolder, WaitsWrite, AreKept, IsNewLock}
-use Rattle.mea_lock.proofs.Pours.{no_debt_without, queue_poured, free_poured, woken_poured, poured_linked}
+use Rattle.mea_linked.proofs.Poured.{queue_poured, woken_poured, poured_linked}
+use Rattle.mea_lock.proofs.Pours.{no_debt_without, free_poured}
 
 -- ---- waits and their acquires
 -- an acquire that is home belongs to its core, and was not ready

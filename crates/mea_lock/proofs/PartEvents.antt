@@ -1,41 +1,42 @@
 -- what each event does to the locks of one kind, as they are kept and as they are seen
-use Rattle.std.proofs.Common.{◌≡◌, ℕ, ◌+◌, ◌-◌, ◌<◌, ◌≤◌, ◌^◌, ◌==◌, ◌&&◌, ◌||◌, ◌++◌, inl, inr, Bool, true, false, not, cond, length, List, [], ◌∷◌, map, nat_lt, Option, Some, None, option_map, is_some, refl, ap, sym, subst, ◌∙◌, arith, append-nil, if◌then◌else◌}
+use Rattle.std.proofs.Common.{◌≡◌, ℕ, ◌+◌, ◌-◌, ◌<◌, ◌≤◌, ◌^◌, ◌==◌, ◌&&◌, ◌||◌, ◌++◌, inl, inr, Bool, true, false, not, cond, length, [], map, nat_lt, Option, Some, None, option_map, is_some, refl, ap, sym, subst, ◌∙◌, arith, if◌then◌else◌}
 use Rattle.std.specs.Option.{IsSome}
 use Rattle.std.specs.FinMap.{get, insert, remove, len, empty}
-use Rattle.std.proofs.lemmas.Bool.{cases_lt, eqb-true}
+use Rattle.std.proofs.lemmas.Bool.{cases_lt}
 use Rattle.std.proofs.lemmas.Bool.Decides.{nat_tests}
 use Rattle.mea_base.specs.declared.answer.Answer.{Answer}
 use Rattle.mea_base.specs.declared.answer.Answer.TheVariants as answers
-use Rattle.mea_base.specs.declared.turn.Turn.TheVariants.{Ready, Pending}
-use Rattle.mea_base.specs.Family.{Outcome, quietly}
+use Rattle.mea_base.specs.declared.turn.Turn.TheVariants.{Ready}
+use Rattle.mea_base.specs.Family.{Outcome}
 use Rattle.mea_base.specs.Ready.{Waking}
 use Rattle.mea_base.specs.Totals.{total, weight}
-use Rattle.mea_base.proofs.Maps.{total-has, nothing_at, inside, get-there, get-gone, is_there}
-use Rattle.mea_base.proofs.Totals.{get_inserted, get_removed, total-insert, total-remove, total-same}
-use Rattle.mea_base.proofs.NamedMaps.{is_some-map, get-seen, same_named}
+use Rattle.mea_base.proofs.Maps.{total-has, nothing_at, inside, get-there, is_there}
+use Rattle.mea_base.proofs.Totals.{total-insert, total-remove, total-same}
+use Rattle.mea_base.proofs.NamedMaps.{is_some-map, get-seen}
 use Rattle.mea_named.specs.ByName.{Names, seen, own, count}
 use Rattle.mea_named.specs.Play.{Part, PartYields, PartRests, found}
 use Rattle.mea_named.specs.NamedQueue.{waits}
-use Rattle.mea_named.specs.LackingQueue.{who, woken_by}
+use Rattle.mea_named.specs.LackingQueue.{who}
 use Rattle.mea_named.proofs.LackingQueues.{length-who}
 use Rattle.mea_named.proofs.Cases.{found_is, if_true, if_false}
 use Rattle.mea_named.proofs.Halls as halls
 use Rattle.mea_named.proofs.Own.{seen-at, seen-back, seen-empty, seen-insert, seen-remove, seen-alike, own-seen, len-seen, total-seen, own-at, own-none, own-put, own-gone, len-some, count-gone, insert_same, put_gone, gone_none, Moves, Stays, Comes, Goes}
 use Rattle.mea_named.specs.declared.named_waker.NamedWaker.{NamedWaker}
-use Rattle.mea_lock_core.specs.RwLock.{MayPoll, MayCancel, LetsIn, share_of, is_write}
-use Rattle.mea_sem_core.specs.Core.{Waiter}
+use Rattle.mea_lock_core.specs.RwLock.{LetsIn, share_of}
 use Rattle.mea_lock_model.specs.Locks as model
-use Rattle.mea_lock_model.specs.Locks.{Lock, LockFuture, LockGuard, Locks, Until, goes_on, taken_from, was_polled, is_named, is_named_lock, is_future, is_lock_future, is_condvar_future, is_waiting_for, is_guard, is_write_guard, is_write as guard_writes, things_of, plain_of, registered, waiting_at, tidied_locks, size}
+use Rattle.mea_lock_model.specs.Locks.{Lock, LockFuture, LockGuard, Locks, is_named, is_named_lock, is_future, is_lock_future, is_condvar_future, is_waiting_for, is_guard, is_write_guard, is_write as guard_writes, things_of, plain_of, registered, tidied_locks, size}
 use Rattle.mea_lock_model.specs.Valid.{held_by, FitGuards}
-use Rattle.mea_lock_model.specs.Actions.{Action, act_in, Make, Begin, Poll, Try, Get, Set, Lower, End, Peek, Put, Take, Drop, Hand, PollUntil, EndWait}
+use Rattle.mea_lock_model.specs.Actions.{act_in, Make, Begin, Try, Get, Set, Lower, End, Peek, Put, Take, Drop, Hand}
 use Rattle.mea_linked.specs.Linked.{names_in}
 use Rattle.mea_lock.specs.declared.guard_entry.GuardEntry.{GuardEntry}
-use Rattle.mea_lock.specs.Cores.{NamedLock, CancelsLock, TakesLock, UnlocksLock, LowersLock, IsHeldAs, IsFreeFor}
-use Rattle.mea_lock.specs.Entries.{KeptLock, KeptFuture, begun, finished, settled, is_over, Settles, EndsLock, Polled, HasLock}
+use Rattle.mea_lock.specs.Cores.{NamedLock, TakesLock, UnlocksLock, LowersLock, IsHeldAs, IsFreeFor}
+use Rattle.mea_lock.specs.Entries.{KeptLock, KeptFuture, begun, finished, settled, is_over, Settles}
 use Rattle.mea_lock.specs.Waits.{IsNewWait, is_polled}
 use Rattle.mea_lock.specs.Parts.{lock_seen, future_seen, guard_seen, locks_seen, held_by as held_of_guards, AreKept, IsKept, IsNewLock, of_future, of_guard}
 use Rattle.mea_lock.specs.Lends.{StandsFor}
 use Rattle.mea_lock.proofs.OneLock as one
+use Rattle.mea_linked.proofs.Waiters.{length-names}
+use Rattle.mea_base.proofs.Tests.{over_is}
 
 -- how many wait at the locks that are kept
 abbrev pub waiters : KeptLock → ℕ
@@ -43,10 +44,6 @@ waiters e = length e.lock.permits.queue
 
 abbrev waiting_in : Names KeptLock → ℕ
 waiting_in ls = total (λ o e. waiters e) ls
-
-length-names : (q : List (Waiter NamedWaker × ℕ)) → length (names_in q) ≡ length q
-length-names [] = refl
-length-names (e ∷ q) = omega (arith, length-names q)
 
 registered_is : (ls : Names KeptLock) (fs : Names KeptFuture) (gs : Names GuardEntry) → registered (locks_seen ls fs gs) ≡ waiting_in ls
 registered_is ls fs gs = total-seen lock_seen (λ (r : Lock). length (who r.queue)) ls
@@ -159,10 +156,6 @@ of_sort condvar (Some x) is = refl
 writes_there : (o : Option GuardEntry) → guard_writes (option_map guard_seen o) ≡ true → IsSome o
 writes_there None is = absurd (cc)
 writes_there (Some e) is = refl
-
-over_is : (named : Bool) (n : ℕ) → (not named && n == 0) ≡ true → (named ≡ false) × (n ≡ 0)
-over_is true n is = absurd (cc)
-over_is false n is = (refl, eqb-true n 0 is)
 
 -- a lock that lets a write in writes, and one that lets a read in does not
 pub writing_ready : (l : NamedLock) (k : NamedWaker) (b w : Bool) → l.writing ≡ b → LetsIn w l (Ready k) → (b || cond w true false) ≡ w

@@ -8,7 +8,8 @@ use Rattle.mea_base.proofs.Waits.{IsDistinct-push, IsDistinct-without, absent_fr
 use Rattle.mea_lock_core.specs.Notes.{AreNoted, IsWaiting, IsIdle, notified_in}
 use Rattle.mea_lock_core.specs.declared.note.Note.{Note}
 use Rattle.mea_lock_core.specs.declared.note.Note.TheVariants.{Waiting, Notified}
-use Rattle.mea_lock_core.proofs.Numbers.{any_cons, absent_any, any_end, any_end_here, any_without, unlinked_after}
+use Rattle.mea_lock_core.proofs.Numbers.{any_cons, any_end, any_end_here, any_without, unlinked_after}
+use Rattle.mea_base.proofs.Chains.{unlinked_from_absent}
 
 module _ {W : Type 0} where
   -- a number with a note is a place
@@ -43,7 +44,7 @@ module _ {W : Type 0} where
       let distinct : IsDistinct (n ∷ ns) = rw before at apart in
       noted_by w v n (rw after distinct.1) updates.others
       (λ m differs. ap (λ o. list_any (λ k. eqb k m) o) after ∙ sym (any_cons m n ns (λ e. differs (sym e))) ∙ sym (ap (λ o. list_any (λ k. eqb k m) o) before))
-      (λ linked. absurd (let gone = ap (λ o. list_any (λ k. eqb k n) o) after ∙ absent_any n ns distinct.0 in cc))
+      (λ linked. absurd (let gone = ap (λ o. list_any (λ k. eqb k n) o) after ∙ unlinked_from_absent n ns distinct.0 in cc))
       (λ _. rw updates.changed idle)
       noted
 

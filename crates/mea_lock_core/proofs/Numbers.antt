@@ -2,15 +2,11 @@
 use Rattle.std.proofs.Common.{◌≡◌, ◌≢◌, ℕ, List, [], ◌∷◌, ◌++◌, Bool, true, false, not, ◌||◌, eqb, refl, sym, ap, ◌∙◌, inl, inr}
 use Rattle.std.proofs.lemmas.Bool.{cases_eq}
 use Rattle.std.specs.List.{list_any}
-use Rattle.mea_base.specs.WaitList.{without, IsAbsent}
+use Rattle.mea_base.specs.WaitList.{without}
 use Rattle.mea_base.proofs.Tests.{test_same, test_differs}
 
 pub any_cons : (m k : ℕ) (ks : List ℕ) → k ≢ m → list_any (λ j. eqb j m) (k ∷ ks) ≡ list_any (λ j. eqb j m) ks
 any_cons m k ks differs = rw (test_differs k m differs) refl
-
-pub absent_any : (n : ℕ) (ns : List ℕ) → IsAbsent n ns → list_any (λ k. eqb k n) ns ≡ false
-absent_any n [] absent = refl
-absent_any n (k ∷ ks) absent = rw (test_differs k n absent.0) (absent_any n ks absent.1)
 
 -- at the end
 pub any_end : (m n : ℕ) (ns : List ℕ) → n ≢ m → list_any (λ k. eqb k m) (ns ++ n ∷ []) ≡ list_any (λ k. eqb k m) ns

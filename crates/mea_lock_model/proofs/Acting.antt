@@ -17,7 +17,7 @@ use Rattle.mea_named.proofs.LackingQueues.{local_pushed, local_rewoken, local_po
 use Rattle.mea_named.proofs.OneObject.{Goes, ObjectsGo, Same, Put, Made, Gone, Kept, Begun, Turned, Ended, None_is, Polled, Ends}
 use Rattle.mea_named.proofs.Own.{own-nothing}
 use Rattle.mea_lock_model.specs.Locks as locks
-use Rattle.mea_lock_model.specs.Locks.{Lock, LockFuture, LockGuard, Locks, new_lock, Until, goes_on, poured, tidied_locks, is_named, is_named_lock, things_of, waiting_at, size}
+use Rattle.mea_lock_model.specs.Locks.{Lock, LockFuture, LockGuard, Locks, new_lock, Until, goes_on, tidied_locks, is_named, is_named_lock, things_of, waiting_at, size}
 use Rattle.mea_lock_model.specs.Actions.{Action, Make, Begin, Poll, Try, Get, Set, Lower, End, Peek, Put as Write, Take, Drop, Hand, PollUntil, EndWait, act_in, registers_in, polled_in, ends_in, cause_in, borrowed_by}
 
 -- what is named is there

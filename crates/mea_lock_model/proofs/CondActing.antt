@@ -1,16 +1,14 @@
 -- what each action on condition variables changes of them: one of them and one wait at the most
-use Rattle.std.proofs.Common.{◌≡◌, ℕ, ◌==◌, inr, Bool, true, false, cond, List, [], ◌∷◌, map, length, Option, Some, None, is_some, rules, refl, ap, sym, subst, ◌∙◌, arith}
-use Rattle.std.specs.List.{Contains}
+use Rattle.std.proofs.Common.{◌≡◌, ℕ, ◌==◌, Bool, true, false, [], ◌∷◌, Option, Some, None, is_some, refl, ap, sym, ◌∙◌, arith}
 use Rattle.std.specs.Option.{IsSome}
 use Rattle.std.proofs.lemmas.Bool.{eqb-true, eq-eqb}
-use Rattle.std.proofs.lemmas.List.Elements.{Contains-append_right}
 use Rattle.std.specs.FinMap.{get, insert, remove}
 use Rattle.mea_base.specs.Family.{Outcome}
 use Rattle.mea_base.proofs.Maps.{by_put, get-gone, get-removed_other}
 use Rattle.mea_named.specs.ByName.{Names, seen}
-use Rattle.mea_named.specs.NamedQueue.{Waiting, waker_for, waits}
+use Rattle.mea_named.specs.NamedQueue.{Waiting, waits}
 use Rattle.mea_named.proofs.Cases.{by_if}
-use Rattle.mea_named.proofs.NamedQueues.{Local, local_appended, local_with, local_without, local_popped}
+use Rattle.mea_named.proofs.NamedQueues.{local_appended, local_with, local_without, local_popped, local_drained}
 use Rattle.mea_named.proofs.OneObject.{Goes, FuturesGo, Same, Put, Made, Gone, Kept, Begun, Turned, Ended, None_is, Polled, Ends}
 use Rattle.mea_named.proofs.Own.{seen-at, seen-back, seen-insert, seen-remove, seen-alike, own-nothing}
 use Rattle.mea_lock_model.specs.Condvars as condvars
@@ -29,25 +27,6 @@ keys ws = seen key_of ws
 
 abbrev pub owner : Key → ℕ
 owner k = k.condvar
-
--- all are woken
-all_woken : (q : Waiting) (f w : ℕ) → waker_for q f ≡ Some w → Contains (map (λ (e : ℕ × ℕ). e.1) q) w
-all_woken [] f w = λ is. absurd (cc)
-all_woken (e ∷ q) f w = elim (e.0 == f) as (λ b. cond b (Some e.1) (waker_for q f) ≡ Some w → Contains (map (λ (e : ℕ × ℕ). e.1) (e ∷ q)) w) [
-  | true ↦ λ is. let same : e.1 ≡ w = cc in
-      subst (Contains (map (λ (e : ℕ × ℕ). e.1) (e ∷ q))) same (first e.1 (map (λ (e : ℕ × ℕ). e.1) q))
-  | false ↦ λ is. Contains-append_right (e.1 ∷ []) (map (λ (e : ℕ × ℕ). e.1) q) w (all_woken q f w is)
-]
-  where
-    first : (w : ℕ) (ws : List ℕ) → Contains (w ∷ ws) w
-    first w ws = search rules
-
-length-woken : (q : Waiting) → length (map (λ (e : ℕ × ℕ). e.1) q) ≡ length q
-length-woken [] = refl
-length-woken (e ∷ q) = omega (arith, length-woken q)
-
-local_drained : (q : Waiting) (k : ℕ) → Local q [] (map (λ (e : ℕ × ℕ). e.1) q) k 0
-local_drained q k = record { keeps = λ f w apart is. inr (all_woken q f w is); fits = omega (arith, length-woken q); most = omega (arith, length-woken q) }
 
 -- what is there stays when something is put
 pub put_stands : (m : Names Waiting) (k : ℕ) (q : Waiting) (c : ℕ) → IsSome (get m c) → IsSome (get (insert m k q) c)

@@ -22,7 +22,7 @@ use Rattle.mea_named.proofs.Own.{seen-at, seen-back, seen-empty}
 use Rattle.mea_lock_model.specs.Locks as locks
 use Rattle.mea_lock_model.specs.Locks.{Lock, LockFuture, Locks, Until, goes_on, is_waiting_for, is_lock_future, is_condvar_future, was_polled, waiting_at, taken_from, size}
 use Rattle.mea_lock_model.specs.Condvars as condvars
-use Rattle.mea_lock_model.specs.Condvars.{Condvars, CondWait, is_wait, until_of, queue_of}
+use Rattle.mea_lock_model.specs.Condvars.{CondWait, is_wait, until_of, queue_of}
 use Rattle.mea_lock_model.specs.Actions.{Action, Make, Begin, Poll, Try, Get, Set, Lower, End, Peek, Put, Take, Drop, Hand, PollUntil, EndWait, is_of_wait, act_in, polled_in, ends_in, cause_in}
 use Rattle.mea_lock_model.specs.CondActions as on
 use Rattle.mea_lock_model.specs.CondActions.{CondAction, cause_on, act_on, on_both, told_by, poll_wait, polled_on, ends_on}

@@ -7,7 +7,7 @@ use Rattle.mea_base.specs.Causes.{unknown_unless}
 use Rattle.mea_base.specs.Family.{Outcome}
 use Rattle.mea_named.specs.Play.{found}
 use Rattle.mea_lock_model.specs.Locks as locks
-use Rattle.mea_lock_model.specs.Locks.{Locks, LockFuture, Until, is_named, is_future, is_lock_future, is_condvar_future, is_guard, is_write_guard, things_of, plain_of}
+use Rattle.mea_lock_model.specs.Locks.{Locks, Until, is_named, is_future, is_lock_future, is_condvar_future, is_guard, is_write_guard, things_of, plain_of}
 
 pub data Action : Type 0 where
   -- a lock with this value, and so many permits

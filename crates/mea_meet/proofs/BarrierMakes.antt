@@ -22,7 +22,8 @@ use Rattle.mea_meet.specs.declared.barriers.BarrierEntry.{BarrierEntry}
 use Rattle.mea_meet.specs.declared.barriers.BarrierWaitEntry.{BarrierWaitEntry}
 use Rattle.mea_meet.specs.declared.barriers.BarrierHall.TheInside.{Inside}
 use Rattle.mea_meet.proofs.Names.{waiting-length, named-later, named-new}
-use Rattle.mea_meet.proofs.Maps.{Puts, put_there, put_other, kept-puts, seen-some, seen-none, seen_put, seen_gone, insert_same, weight-within, none_if, kept-none, seen-empty}
+use Rattle.mea_base.proofs.Maps.{none_if}
+use Rattle.mea_meet.proofs.Maps.{Puts, put_there, put_other, kept-puts, seen-some, seen-none, seen_put, seen_gone, insert_same, weight-within, kept-none, seen-empty}
 use Rattle.mea_meet.proofs.BarrierChanges.{Changes, slot_entry, at_barrier, kept_after, hall_put}
 use Rattle.mea_meet.proofs.BarrierPlays.{Rested, Played, store_in, seen_in, IsKeptIn}
 use Rattle.mea_meet.proofs.BarrierStores.{counts}

@@ -14,7 +14,7 @@ use Rattle.mea_sets.specs.Poll.{Poll, Ready, Pending}
 use Rattle.mea_sets.specs.WaitSet.{Registered, has_given, with_waker, slot_after, drained}
 use Rattle.mea_meet_model.specs.Waiting.{registering, ending, wakers}
 use Rattle.mea_meet_model.specs.Barriers as model
-use Rattle.mea_meet_model.specs.Barriers.{Barrier, BarrierWait, Barriers, barrier_at, registered}
+use Rattle.mea_meet_model.specs.Barriers.{Barrier, Barriers, barrier_at, registered}
 use Rattle.mea_meet_core.specs.Barrier as cores
 use Rattle.mea_meet_core.specs.declared.barrier_fault.BarrierFault.{BarrierFault}
 use Rattle.mea_meet_core.specs.Barrier.{is_open, is_own, leads, led, joined, Arrives, Returns, Polls, round_of as round_under_way}

@@ -9,7 +9,7 @@ use Rattle.mea_base.specs.Ready.{Waking}
 use Rattle.mea_sets.specs.declared.place.Place.{Place}
 use Rattle.mea_sets.specs.WaitSet.{has_given, with_waker, slot_after, drained}
 use Rattle.mea_meet_core.specs.Barrier as cores
-use Rattle.mea_meet_core.specs.Barrier.{is_open, is_own, leads}
+use Rattle.mea_meet_core.specs.Barrier.{is_open}
 use Rattle.mea_meet_core.specs.declared.barrier_wait.BarrierWait.TheVariants.{Arrived}
 use Rattle.mea_meet_model.specs.Waiting.{registering, ending}
 use Rattle.mea_meet_model.specs.Barriers.{Barrier, Barriers, registered}

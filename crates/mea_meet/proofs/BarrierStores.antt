@@ -14,7 +14,8 @@ use Rattle.mea_meet.specs.declared.barriers.BarrierEntry.{BarrierEntry}
 use Rattle.mea_meet.specs.declared.barriers.BarrierWaitEntry.{BarrierWaitEntry}
 use Rattle.mea_meet.specs.declared.barriers.BarrierHall.TheInside.{Inside}
 use Rattle.mea_meet.proofs.Names.{waiting-wakers}
-use Rattle.mea_meet.proofs.Maps.{kept-unchanged, seen-none, not_none, total-named}
+use Rattle.mea_base.proofs.Maps.{not_none}
+use Rattle.mea_meet.proofs.Maps.{kept-unchanged, seen-none, total-named}
 use Rattle.mea_meet.proofs.BarrierChanges.{at_barrier, barrier_seen, wakers_within}
 use Rattle.mea_meet.proofs.BarrierPlays.{store_in, seen_in, IsKeptIn}
 

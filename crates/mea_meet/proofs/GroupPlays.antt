@@ -9,10 +9,10 @@ use Rattle.mea_base.specs.declared.answer.Answer.TheVariants as answers
 use Rattle.mea_base.specs.Family.{Outcome, quietly}
 use Rattle.mea_base.specs.Named.{named, at, ChangesAt}
 use Rattle.mea_base.specs.Ready.{Waking}
-use Rattle.mea_base.proofs.NamedMaps.{same_named, kept-at, found}
+use Rattle.mea_base.proofs.NamedMaps.{same_named, kept-at, found, changes_twice, changed_at}
 use Rattle.mea_base.proofs.Tests.{by_name}
 use Rattle.mea_sets.specs.Countdown as cores
-use Rattle.mea_sets.specs.Countdown.{Counting, decreased, ends, woken_by}
+use Rattle.mea_sets.specs.Countdown.{Counting, decreased, woken_by}
 use Rattle.mea_sets.specs.WaitSet.{Registered, has_given, with_waker, slot_after}
 use Rattle.mea_meet_model.specs.Count as counts
 use Rattle.mea_meet_model.specs.Count.{Count}
@@ -26,7 +26,8 @@ use Rattle.mea_meet.specs.declared.groups.GroupEntry.{GroupEntry}
 use Rattle.mea_meet.specs.declared.groups.GroupWaitEntry.{GroupWaitEntry}
 use Rattle.mea_meet.specs.declared.groups.GroupHall.TheInside.{Inside}
 use Rattle.mea_meet.proofs.Names.{waiting-registers, waiting-ends, named-later, named-new, named-registers, named-ends, given-registers}
-use Rattle.mea_meet.proofs.Maps.{Puts, kept-puts, changes_twice, insert_same, seen-some, seen_put, seen_gone, puts_same, is_insert, is_remove, none_if, changed_at, some_if, if_some}
+use Rattle.mea_base.proofs.Maps.{none_if}
+use Rattle.mea_meet.proofs.Maps.{Puts, kept-puts, insert_same, seen-some, seen_put, seen_gone, puts_same, is_insert, is_remove, some_if, if_some}
 use Rattle.mea_meet.proofs.GroupChanges.{Changes, slot_entry, are_given, used_left, kept_after, hall_used, hall_tidied, registered_after, group_seen, waits_within, handles_within}
 use Rattle.mea_meet.proofs.Slots.{slot_owner, slots_there, slots_other, IsApart, apart_unplaced, waiting_beside, given_beside, waiting_later}
 use Rattle.mea_meet.proofs.Counts.{decreased-seen, woken-seen, given-decreased, woken-all}

@@ -18,14 +18,15 @@ use Rattle.mea_sets.specs.Countdown.{count_from}
 use Rattle.mea_meet_model.specs.Waiting.{registering, ending}
 use Rattle.mea_meet_model.specs.Count as counts
 use Rattle.mea_meet_model.specs.Latches as model
-use Rattle.mea_meet_model.specs.Latches.{Latch, LatchWait, Latches, registered}
+use Rattle.mea_meet_model.specs.Latches.{Latch, Latches, registered}
 use Rattle.mea_meet.specs.Names.{waiting_at, AreNamed}
 use Rattle.mea_meet.specs.Play.{Part}
 use Rattle.mea_meet.specs.LatchHall.{Store, slot_of, slots_of, latch_of, wait_of, latches_of, IsKeptEntry, IsKept, begun, ended, tidied, let_go}
 use Rattle.mea_meet.specs.declared.latches.LatchEntry.{LatchEntry}
 use Rattle.mea_meet.specs.declared.latches.LatchWaitEntry.{LatchWaitEntry}
 use Rattle.mea_meet.proofs.Names.{waiting-registers, waiting-ends, named-new, named-ends, named-registers, given-registers, given-with, given-drained}
-use Rattle.mea_meet.proofs.Maps.{put_here, put_other, is_insert, is_remove, weight-within, is_same, puts_over, none_if, Puts}
+use Rattle.mea_base.proofs.Maps.{none_if}
+use Rattle.mea_meet.proofs.Maps.{put_here, put_other, is_insert, is_remove, weight-within, is_same, puts_over, Puts}
 use Rattle.mea_meet.proofs.LatchStore.{slot_other, slot_was, slot_now, waits_after, waiting_other, waits_other, plain_other, others_other, waits_mine, plain_mine, latch_seen, wait_seen, registered_seen, waits_seen, later_kept, later_seen, Changes, kept_after, latches_after, registered_after, given_to, given_all}
 use Rattle.mea_meet.proofs.Counts.{decreased-seen, woken-seen, woken-all}
 use Rattle.mea_meet.proofs.Slots.{apart_unplaced, waiting_beside}

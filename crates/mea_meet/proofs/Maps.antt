@@ -1,5 +1,5 @@
 -- maps by name in the halls of meeting points: what is kept and what is seen of it, and both after a change
-use Rattle.std.proofs.Common.{nat_eq, ◌≡◌, ℕ, ◌+◌, ◌≤◌, ◌==◌, Bool, true, false, cond, List, [], Option, Some, None, IsSome, refl, ap, sym, subst, ◌∙◌, arith}
+use Rattle.std.proofs.Common.{◌≡◌, ℕ, ◌+◌, ◌≤◌, ◌==◌, Bool, true, false, cond, List, [], Option, Some, None, refl, ap, sym, subst, ◌∙◌, arith}
 use Rattle.std.specs.Option.{option_map, IfSome}
 use Rattle.std.specs.Ordering.{nat_cmp}
 use Rattle.std.specs.FinMap.{FinMap, get, insert, remove, empty, entries, get-empty}
@@ -8,18 +8,9 @@ use Rattle.mea_base.specs.Named.{named, at, ChangesAt}
 use Rattle.mea_base.specs.Totals.{total, weight}
 use Rattle.mea_base.proofs.NamedMaps.{same_named, get-seen, kept-at, found, kept-changed}
 use Rattle.mea_base.proofs.Totals.{get_inserted, get_removed, total-insert, total-remove, total-alike}
-use Rattle.mea_base.proofs.Tests.{at_same, at_apart, by_name}
+use Rattle.mea_base.proofs.Tests.{at_same, at_apart, by_name, last_stays}
 
 -- ---- what may be there
--- what is there is not none
-pub not_none : {X : Type 0} (o : Option X) → IsSome o → o ≡ None → ⊥
-not_none None there none = absurd (cc)
-not_none (Some x) there none = absurd (cc)
-
--- what nothing can be is none
-pub none_if : {X : Type 0} (o : Option X) → ((x : X) → o ≡ Some x → ⊥) → o ≡ None
-none_if None nothing = refl
-none_if (Some x) nothing = absurd (nothing x refl)
 
 -- what holds of what is there
 pub if_some : {X : Type 0} (P : X → Type 0) (o : Option X) (x : X) → o ≡ Some x → P x → IfSome o P
@@ -61,14 +52,6 @@ pub kept-puts-as : {X : Type 0} (old new : List (ℕ × X)) (k : ℕ) (v w : X) 
     → Puts (named (λ k x. x) old) (named (λ k x. x) new) k (Some w)
 kept-puts-as old new k v w h is q = kept-puts old new k (Some v) h q ∙ ap (λ x. cond (k == q) (Some x) (get (named (λ k x. x) old) q)) is
 
--- what is written last at a name stays
-last_stays : {X : Type 0} (t : Bool) (u v w : Option X) → cond t u (cond t v w) ≡ cond t u w
-last_stays true u v w = refl
-last_stays false u v w = refl
-
-pub changes_twice : {X : Type 0} (old mid new : List (ℕ × X)) (k : ℕ) (o p : Option X) → ChangesAt old mid k o → ChangesAt mid new k p → ChangesAt old new k p
-changes_twice {X} old mid new k o p first second q = second q ∙ ap (cond (nat_eq k q) p) (first q) ∙ last_stays (nat_eq k q) p o (at old q)
-
 -- ---- a map of which one name has changed
 module _ {X : Type 0} (m n : FinMap nat_cmp X) (k : ℕ) where
   pub put_there : (o : Option X) → Puts m n k o → (q : ℕ) → k ≡ q → get n q ≡ o
@@ -94,10 +77,6 @@ module _ {X : Type 0} (m n : FinMap nat_cmp X) (k : ℕ) where
   -- the same where what stood there is this
   pub total_puts_was : (w : ℕ → X → ℕ) (o p : Option X) → Puts m n k o → get m k ≡ p → total w n + weight w k p ≡ total w m + weight w k o
   total_puts_was w o p h was = ap (λ x. total w n + weight w k x) (sym was) ∙ total_puts w o h
-
--- what stands at a name after it was written
-pub changed_at : {X : Type 0} (old new : List (ℕ × X)) (k : ℕ) (o : Option X) → ChangesAt old new k o → at new k ≡ o
-changed_at old new k o change = sym (kept-at new k) ∙ put_here (named (λ q x. x) old) (named (λ q x. x) new) k o (kept-puts old new k o change)
 
 -- nothing is put where there is what there was
 pub puts_same : {X : Type 0} (m : FinMap nat_cmp X) (k : ℕ) (o : Option X) → get m k ≡ o → Puts m m k o

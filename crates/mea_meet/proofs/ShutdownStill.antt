@@ -11,7 +11,8 @@ use Rattle.mea_meet.specs.declared.shutdown_entries.ShutdownEntry.{ShutdownEntry
 use Rattle.mea_meet.specs.declared.shutdown_entries.ReceiverEntry.{ReceiverEntry}
 use Rattle.mea_meet.specs.declared.shutdown_entries.ShutdownWaitEntry.{ShutdownWaitEntry}
 use Rattle.mea_meet.specs.ShutdownHall.{Store, End, OfSignal, OfReceivers, awaits_of, count_at, slots_of, shutdown_of, hall_of, counting, borrowers_in, is_of, IsKeptEntry, IsKept}
-use Rattle.mea_meet.proofs.Maps.{Puts, total_puts, weight-within, none_if}
+use Rattle.mea_base.proofs.Maps.{none_if}
+use Rattle.mea_meet.proofs.Maps.{Puts, total_puts, weight-within}
 use Rattle.mea_meet.proofs.ShutdownChanges.{Changes, Unplaced, named_unplaced, alike_unplaced, given_unplaced, shutdowns_after}
 
 -- ---- what is absent

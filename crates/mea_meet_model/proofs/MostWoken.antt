@@ -6,13 +6,12 @@ use Rattle.mea_base.specs.declared.answer.Answer.TheVariants as answers
 use Rattle.mea_meet_model.specs.declared.event.MeetEvent.{MeetEvent}
 use Rattle.mea_meet_model.specs.declared.event.MeetEvent.TheVariants as events
 use Rattle.mea_meet_model.specs.Barriers as barriers
-use Rattle.mea_meet_model.specs.Barriers.{Barriers, BarrierWait}
+use Rattle.mea_meet_model.specs.Barriers.{BarrierWait}
 use Rattle.mea_meet_model.specs.Latches as latches
-use Rattle.mea_meet_model.specs.Latches.{Latches, LatchWait}
+use Rattle.mea_meet_model.specs.Latches.{LatchWait}
 use Rattle.mea_meet_model.specs.Groups as groups
-use Rattle.mea_meet_model.specs.Groups.{Groups}
 use Rattle.mea_meet_model.specs.Shutdowns as shutdowns
-use Rattle.mea_meet_model.specs.Shutdowns.{Shutdowns, ShutdownWait}
+use Rattle.mea_meet_model.specs.Shutdowns.{ShutdownWait}
 use Rattle.mea_meet_model.specs.Hall.{Hall, registered}
 use Rattle.mea_meet_model.specs.Step.{step, registers}
 use Rattle.mea_meet_model.proofs.Registrations.{barrier-leading, falls}

@@ -1,12 +1,12 @@
 -- queues with what each lacks: what a poll, an end and a pour do to who waits
-use Rattle.std.proofs.Common.{◌≡◌, ℕ, zero, suc, ◌+◌, ◌-◌, ◌≤◌, ◌==◌, ◌++◌, ◌⊎◌, inl, inr, Bool, true, false, cond, length, List, [], ◌∷◌, map, filter, min, nat_lt, Some, None, refl, ap, sym, subst, ◌∙◌, arith}
+use Rattle.std.proofs.Common.{◌≡◌, ℕ, zero, suc, ◌+◌, ◌-◌, ◌==◌, ◌++◌, ◌⊎◌, inl, inr, true, false, cond, length, List, [], ◌∷◌, map, filter, min, nat_lt, Some, refl, ap, subst, arith}
 use Rattle.std.specs.List.{Contains}
 use Rattle.std.proofs.lemmas.Bool.Decides.{nat_tests}
 use Rattle.std.proofs.lemmas.List.Elements.{Contains-push, Contains-append_left, Contains-append_right}
 use Rattle.mea_base.specs.Queue.{lacks_after, waiting_after, granted_in}
-use Rattle.mea_named.specs.NamedQueue.{Waiting, waker_for, with_waker, without}
+use Rattle.mea_named.specs.NamedQueue.{waker_for, with_waker, without}
 use Rattle.mea_named.specs.LackingQueue.{Lacking, who, rewoken, leaving, woken_by}
-use Rattle.mea_named.proofs.NamedQueues.{Local, local_appended, local_with, local_without}
+use Rattle.mea_named.proofs.NamedQueues.{Local, local_appended, local_with, local_without, length-wakers}
 
 pub who-append : (q p : Lacking) → who (q ++ p) ≡ who q ++ who p
 who-append [] p = refl
@@ -49,10 +49,6 @@ module _ {A : Type 0} where
   pub poured_parts : (q : List (A × ℕ)) (n : ℕ) → length (waiting_after q n) + length (granted_in q n) ≡ length q
   poured_parts q n = omega (arith, length-parts 0 n q, length-firsts (filter (λ (e : A × ℕ). e.1 == 0) (lacks_after 0 q n)))
 
-length-seconds : (q : Waiting) → length (map (λ (e : ℕ × ℕ). e.1) q) ≡ length q
-length-seconds [] = refl
-length-seconds (e ∷ q) = omega (arith, length-seconds q)
-
 -- the wakers of those who lack nothing any more
 abbrev wakers_in : Lacking → List ℕ
 wakers_in q = map (λ (e : ℕ × ℕ). e.1) (map {A = (ℕ × ℕ) × ℕ} (λ e. e.0) (filter (λ (e : (ℕ × ℕ) × ℕ). e.1 == 0) q))
@@ -85,7 +81,7 @@ local_poured q n k =
     let parts = poured_parts q n in
     let before = length-who q in
     let after = length-who (waiting_after q n) in
-    let woken = length-seconds (granted_in q n) in
+    let woken = length-wakers (granted_in q n) in
     record {
       keeps = λ f w apart is. poured_keeps q 0 n f w is;
       fits = omega (arith, parts, before, after, woken);

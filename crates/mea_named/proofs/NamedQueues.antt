@@ -1,9 +1,9 @@
 -- queues by name: what a poll, an end and a grant do to who waits
-use Rattle.std.proofs.Common.{◌≡◌, ℕ, ◌+◌, ◌≤◌, ◌==◌, ◌++◌, ◌⊎◌, inl, inr, Bool, true, false, cond, length, List, [], ◌∷◌, Some, None, is_some, refl, ap, sym, subst, ◌∙◌, arith}
+use Rattle.std.proofs.Common.{◌≡◌, ℕ, ◌+◌, ◌≤◌, ◌==◌, ◌++◌, ◌⊎◌, inl, inr, Bool, true, false, cond, length, List, [], ◌∷◌, Some, None, is_some, refl, ap, sym, subst, ◌∙◌, arith, map}
 use Rattle.std.specs.List.{Contains}
 use Rattle.std.proofs.lemmas.Bool.{eqb-true, eq-eqb, ne_eqb}
 use Rattle.std.proofs.lemmas.List.{length-append}
-use Rattle.std.proofs.lemmas.List.Elements.{Contains-push}
+use Rattle.std.proofs.lemmas.List.Elements.{Contains-push, Contains-append_left, Contains-append_right}
 use Rattle.mea_named.specs.NamedQueue.{Waiting, waker_for, waits, with_waker, without}
 
 -- ---- at the one that is named
@@ -97,3 +97,19 @@ local_popped e q k = record {
   fits = omega arith;
   most = omega arith;
 }
+
+-- ---- all are woken, and nobody waits any more
+all_woken : (q : Waiting) (f w : ℕ) → waker_for q f ≡ Some w → Contains (map (λ (e : ℕ × ℕ). e.1) q) w
+all_woken [] f w = λ is. absurd (cc)
+all_woken (e ∷ q) f w = elim (e.0 == f) as (λ b. cond b (Some e.1) (waker_for q f) ≡ Some w → Contains (map (λ (e : ℕ × ℕ). e.1) (e ∷ q)) w) [
+  | true ↦ λ is. let same : e.1 ≡ w = cc in
+      Contains-append_left (e.1 ∷ []) (map (λ (e : ℕ × ℕ). e.1) q) w (subst (Contains (e.1 ∷ [])) same (Contains-push [] e.1))
+  | false ↦ λ is. Contains-append_right (e.1 ∷ []) (map (λ (e : ℕ × ℕ). e.1) q) w (all_woken q f w is)
+]
+
+pub length-wakers : (q : Waiting) → length (map (λ (e : ℕ × ℕ). e.1) q) ≡ length q
+length-wakers [] = refl
+length-wakers (e ∷ q) = omega (arith, length-wakers q)
+
+pub local_drained : (q : Waiting) (k : ℕ) → Local q [] (map (λ (e : ℕ × ℕ). e.1) q) k 0
+local_drained q k = record { keeps = λ f w apart is. inr (all_woken q f w is); fits = omega (arith, length-wakers q); most = omega (arith, length-wakers q) }

@@ -92,7 +92,7 @@ length-ones : {X : Type 0} (es : List (ℕ × X)) → sum_by {X = ℕ × X} (λ 
 length-ones [] = refl
 length-ones (e ∷ es) = omega (arith, length-ones es, sum_by-cons (λ e. 1) e es)
 
-len-total : {X : Type 0} (m : Names X) → len m ≡ total (λ k x. 1) m
+pub len-total : {X : Type 0} (m : Names X) → len m ≡ total (λ k x. 1) m
 len-total m = len-entries m ∙ sym (length-ones (entries m))
 
 pub len-seen : {X Y : Type 0} (f : X → Y) (m : Names X) → len (seen f m) ≡ len m

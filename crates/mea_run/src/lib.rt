@@ -1,6 +1,5 @@
 //! The program: scripts from a source of bytes, and their replies to a sink of bytes. All that it does is
-//! `run`, over the halls of all families; the sources and sinks of this crate are those of the program,
-//! and those of its tests.
+//! `run`, over the halls of all families; the sources and sinks of `mea_io` are given again.
 #![tactic(auto)]
 
 mod begun;

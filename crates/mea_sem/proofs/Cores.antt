@@ -198,18 +198,6 @@ waker-without ((Acquires k d v, l) ∷ q) m n = elim (k == m)
     ] refl
 waker-without ((Owes, l) ∷ q) m n = waker-without q m n
 
-none_still : {X : Type 0} (b : Bool) (o : Option X) → o ≡ None → cond b None o ≡ None
-none_still true o h = refl
-none_still false o h = h
-
-pub AreApart-without : (q : Queue) (m : ℕ) → AreApart q → AreApart (without_acquire q m)
-AreApart-without [] m h = h
-AreApart-without ((Acquires k d v, l) ∷ q) m h = elim (k == m) as (λ b. AreApart (cond b (without_acquire q m) ((Acquires k d v, l) ∷ without_acquire q m))) [
-  | true ↦ AreApart-without q m h.1
-  | false ↦ (waiting-without q m k ∙ none_still (m == k) (waiting q k) h.0, AreApart-without q m h.1)
-]
-AreApart-without ((Owes, l) ∷ q) m h = AreApart-without q m h
-
 -- nobody waits where debts alone do
 pub only-waiting : (q : Queue) (n : ℕ) → HasOnlyDebts q → waiting q n ≡ None
 only-waiting [] n h = refl

@@ -22,6 +22,7 @@ use Rattle.mea_sem.proofs.Lives.{live-seen}
 use Rattle.mea_sem.proofs.Seen.{seen_at}
 use Rattle.mea_sem.proofs.Standing.{Semaphores}
 use Rattle.mea_sem.proofs.Meets.{semaphores_in, store_in, hall_in, IsKeptIn}
+use Rattle.mea_base.proofs.Tests.{on_false, on_first_false}
 
 -- ---- one list before another
 abbrev first : {X : Type 0} → Option X → Option X → Option X
@@ -133,31 +134,23 @@ module _ (a : Inside) (k : IsKeptIn a) (s : ℕ) (e : SemaphoreEntry) (there : a
       by_value n None is = sym (get-empty nat_cmp n)
       by_value n (Some d) is = absurd (let o = owned n d is in no_entry o.name o.entry o.there o.semaphore)
 
-  none_if : (b : Bool) (n : ℕ) → b ≡ false → cond b n 0 ≡ 0
-  none_if true n is = absurd (cc)
-  none_if false n is = refl
-
-  both_if : (b c : Bool) → b ≡ false → ◌≡◌ {A = ℕ} (cond (b && c) 1 0) 0
-  both_if true c is = absurd (cc)
-  both_if false c is = refl
-
   live_is : e.core.live ≡ e.core.free
   live_is =
       let all = live-seen (store_in a) a.registered a.outbox.spare a.next s e k here in
       let idle : free h s ≡ e.core.free = ap (λ (r : Semaphore). r.free) (seen_at (store_in a) a.next s e k.linked here) in
       let holds : held h s ≡ 0 = total-zero (λ p (x : Permit). cond (x.semaphore == s) x.size 0) h.permits
-      (λ p x is. none_if (x.semaphore == s) x.size (not_permit p x is)) in
+      (λ p x is. on_false (x.semaphore == s) x.size (not_permit p x is)) in
       let pays : paid h s ≡ 0 = total-zero (λ f (x : Future). cond (x.semaphore == s) (paid_to (queue_at h s) f x.demand x.stage) 0) h.futures
-      (λ f x is. none_if (x.semaphore == s) (paid_to (queue_at h s) f x.demand x.stage) (not_future f x is)) in
+      (λ f x is. on_false (x.semaphore == s) (paid_to (queue_at h s) f x.demand x.stage) (not_future f x is)) in
       omega (arith, all, idle, holds, pays)
 
   plain_is : e.plain ≡ 0
   plain_is =
       let all = entry.plain in
       let fs = total-zero (λ f (x : Future). cond (x.semaphore == s && x.plain) 1 0) h.futures
-      (λ f x is. both_if (x.semaphore == s) x.plain (not_future f x is)) in
+      (λ f x is. on_first_false (x.semaphore == s) x.plain (not_future f x is)) in
       let ps = total-zero (λ p (x : Permit). cond (x.semaphore == s && x.plain) 1 0) h.permits
-      (λ p x is. both_if (x.semaphore == s) x.plain (not_permit p x is)) in
+      (λ p x is. on_first_false (x.semaphore == s) x.plain (not_permit p x is)) in
       omega (arith, all, fs, ps)
 
   pub is_account : IsOver e → e ≡ as_ended (account_of e s)

@@ -15,10 +15,11 @@ use Rattle.mea_sem.specs.declared.entries.FutureEntry.{FutureEntry}
 use Rattle.mea_sem.specs.Store.{Store, is_under, has, who_of, queue_of, hall_of, IsNumbered, IsLinked}
 use Rattle.mea_sem.specs.Kept.{wakers_in}
 use Rattle.mea_sem.proofs.ClosedCores.{keeps_closed}
-use Rattle.mea_sem.proofs.Cores.{Queue, IsAt, all_at, all_by, is_number, waiting-without, waker-without, AreApart-without, only-waiting}
+use Rattle.mea_sem.proofs.Cores.{Queue, IsAt, all_at, all_by, is_number, waiting-without, waker-without, only-waiting}
 use Rattle.mea_sem.proofs.Stages.{cut_idle}
 use Rattle.mea_sem.proofs.Seen.{names-number}
 use Rattle.mea_sem.proofs.Changes.{Changes, linked_after, semaphores_after, futures_gone, name_kept}
+use Rattle.mea_sem_core.proofs.Without.{AreApart-without}
 
 -- whether a waiter is named as f where it has the number n
 abbrev NamedAs : (cores.Waiter ℕ → Who) → ℕ → ℕ → cores.Waiter ℕ × ℕ → Type 0

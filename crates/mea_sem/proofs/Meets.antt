@@ -1,5 +1,5 @@
 -- a hall as a method meets it, and as the method leaves it
-use Rattle.std.proofs.Common.{Result, Ok, Err, OnErr, ◌≡◌, ℕ, ◌+◌, ◌^◌, ◌<◌, ◌≤◌, ◌++◌, List, [], subst, sym, ap, ◌∙◌, append-nil, Some}
+use Rattle.std.proofs.Common.{◌≡◌, ℕ, ◌+◌, ◌^◌, ◌<◌, ◌≤◌, ◌++◌, List, [], subst, sym, ap, ◌∙◌, append-nil, Some}
 use Rattle.mea_base.specs.declared.answer.Answer.{Answer}
 use Rattle.mea_base.specs.Named.{at}
 use Rattle.mea_sem_model.specs.declared.event.SemEvent.{SemEvent}
@@ -68,11 +68,6 @@ its_semaphore m = record { meets = m.meets; there = m.there }
 
 pub permits_semaphore : {a : Inside} {v : Play} {i p : ℕ} {x : PermitEntry} {e : SemaphoreEntry} → MeetsPermit a v i p x e → MeetsSemaphore a v i x.semaphore e
 permits_semaphore m = record { meets = m.meets; there = m.there }
-
--- what holds anyway holds where there is an error
-pub on_err : {A E : Type 0} (r : Result A E) (P : Type 0) → P → OnErr r P
-on_err (Ok a) P p = tt
-on_err (Err e) P p = p
 
 -- what was written back as it stood left what was there
 pub kept_store : (a : Inside) {st : Store} → IsKeptIn a → st ≡ store_in a → IsKept st a.registered a.outbox.spare a.next

@@ -7,7 +7,7 @@ use Rattle.std.proofs.lemmas.Bool.{eqb-true, eqb-false}
 use Rattle.mea_base.specs.Totals.{total, weight}
 use Rattle.mea_base.proofs.NamedMaps.{same_named, get-seen}
 use Rattle.mea_base.proofs.Totals.{get_inserted, total-insert, total-zero}
-use Rattle.mea_base.proofs.Tests.{at_same, at_apart}
+use Rattle.mea_base.proofs.Tests.{at_same, at_apart, on_false, on_first_false}
 use Rattle.mea_sem_model.specs.declared.event.SemEvent.TheVariants as events
 use Rattle.mea_sem_model.specs.Hall.{Hall, Future, Permit, made_with, held, plain_things, with_semaphore}
 use Rattle.mea_sem_model.specs.Valid.{IsValid, IsBelow, IsAccounted}
@@ -50,25 +50,17 @@ module _ (st : Store) (w sp next i : ℕ) (k : IsKept st w sp next) (less : next
   not_of s some true h = absurd (let here : is_some (get (hall_of st next).semaphores i) ≡ true = ap
       (λ q. is_some (get (hall_of st next).semaphores q)) (sym (eqb-true s i h)) ∙ some in let none = none_seen in cc)
 
-  none_if : (t : Bool) (n : ℕ) → t ≡ false → cond t n 0 ≡ 0
-  none_if true n h = absurd (cc)
-  none_if false n h = refl
-
-  both_if : (t u : Bool) → t ≡ false → ◌≡◌ {A = ℕ} (cond (t && u) 1 0) 0
-  both_if true u h = absurd (cc)
-  both_if false u h = refl
-
   -- nothing is of a number that was not given
   pub none_held : held (hall_of st next) i ≡ 0
   none_held = total-zero (λ j (p : Permit). cond (p.semaphore == i) p.size 0) (hall_of st next).permits
-      (λ j p is. none_if (p.semaphore == i) p.size (not_of p.semaphore (k.valid.permits_of j p is) (p.semaphore == i) refl))
+      (λ j p is. on_false (p.semaphore == i) p.size (not_of p.semaphore (k.valid.permits_of j p is) (p.semaphore == i) refl))
 
   none_by : (chosen : Bool → Bool) → things_by chosen (hall_of st next) i ≡ 0
   none_by chosen =
       let fs = total-zero (λ j (p : Future). cond (p.semaphore == i && chosen p.plain) 1 0) (hall_of st next).futures
-      (λ j p is. both_if (p.semaphore == i) (chosen p.plain) (not_of p.semaphore (k.valid.futures_of j p is) (p.semaphore == i) refl)) in
+      (λ j p is. on_first_false (p.semaphore == i) (chosen p.plain) (not_of p.semaphore (k.valid.futures_of j p is) (p.semaphore == i) refl)) in
       let ps = total-zero (λ j (p : Permit). cond (p.semaphore == i && chosen p.plain) 1 0) (hall_of st next).permits
-      (λ j p is. both_if (p.semaphore == i) (chosen p.plain) (not_of p.semaphore (k.valid.permits_of j p is) (p.semaphore == i) refl)) in
+      (λ j p is. on_first_false (p.semaphore == i) (chosen p.plain) (not_of p.semaphore (k.valid.permits_of j p is) (p.semaphore == i) refl)) in
       omega (arith, fs, ps)
 
   pub none_plain : plain_things (hall_of st next) i ≡ 0

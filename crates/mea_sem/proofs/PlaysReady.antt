@@ -1,11 +1,11 @@
 -- a poll that is ready: the future is gone, and its permits are forgotten or become a permit
-use Rattle.std.proofs.Common.{◌≡◌, ℕ, ◌+◌, ◌-◌, ◌^◌, ◌<◌, ◌≤◌, ◌==◌, Bool, true, false, cond, refl, ap, sym, subst, ◌∙◌, arith, Some, None, if◌then◌else◌}
+use Rattle.std.proofs.Common.{◌≡◌, ℕ, ◌+◌, ◌-◌, ◌^◌, ◌<◌, ◌≤◌, ◌==◌, true, false, cond, refl, ap, sym, subst, ◌∙◌, arith, Some, None, if◌then◌else◌}
 use Rattle.std.specs.Ordering.{nat_cmp}
 use Rattle.std.specs.FinMap.{FinMap, get, insert, remove}
 use Rattle.mea_base.specs.declared.answer.Answer.{Answer}
 use Rattle.mea_base.proofs.NamedMaps.{same_named}
 use Rattle.mea_base.proofs.Totals.{get_inserted}
-use Rattle.mea_base.proofs.Tests.{at_same}
+use Rattle.mea_base.proofs.Tests.{at_same, last_stays}
 use Rattle.mea_sem_model.specs.declared.event.SemEvent.TheVariants as events
 use Rattle.mea_sem_model.specs.Hall.{Hall, Semaphore, Future, Permit, semaphore_at, with_semaphore}
 use Rattle.mea_sem_model.specs.Cause.{cause_of}
@@ -24,12 +24,8 @@ use Rattle.mea_sem.proofs.PlaysPermits.{no_permit}
 -- what is put twice is what was put last
 pub insert_twice : {X : Type 0} (m : FinMap nat_cmp X) (k : ℕ) (v w : X) → insert (insert m k v) k w ≡ insert m k w
 insert_twice m k v w = same_named _ _
-    (λ q. get_inserted (insert m k v) k q w ∙ ap (cond (k == q) (Some w)) (get_inserted m k q v) ∙ once (k == q) (Some w) (Some v) (get m q)
+    (λ q. get_inserted (insert m k v) k q w ∙ ap (cond (k == q) (Some w)) (get_inserted m k q v) ∙ last_stays (k == q) (Some w) (Some v) (get m q)
     ∙ sym (get_inserted m k q w))
-  where
-    once : {Y : Type 0} (t : Bool) (a b o : Y) → cond t a (cond t b o) ≡ cond t a o
-    once true a b o = refl
-    once false a b o = refl
 
 -- a plain future is counted
 pub future_counts : (st : Store) (w sp next f : ℕ) (x : Future) (e : SemaphoreEntry) → IsKept st w sp next → get (hall_of st next).futures f ≡ Some x

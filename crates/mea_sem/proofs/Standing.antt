@@ -1,7 +1,7 @@
 -- from the maps of a `SemHall` to what it keeps
-use Rattle.std.proofs.Common.{◌≡◌, ℕ, ◌==◌, Bool, true, false, cond, List, refl, sym, ap, ◌∙◌, Option, Some}
+use Rattle.std.proofs.Common.{◌≡◌, ℕ, ◌==◌, Bool, true, false, cond, List, refl, sym, ap, ◌∙◌, Some}
 use Rattle.std.specs.Option.{option_map}
-use Rattle.std.proofs.lemmas.Bool.{eqb-true, eq-eqb}
+use Rattle.std.proofs.lemmas.Bool.{eqb-true}
 use Rattle.std.specs.FinMap.{get}
 use Rattle.mea_base.specs.Named.{named, at, ChangesAt}
 use Rattle.mea_base.proofs.NamedMaps.{found, kept-changed, named-same}
@@ -31,18 +31,6 @@ puts_of ss ss' fs ps ps' s e v e' there changes is = record {
 pub semaphores_of : (ss ss' : Semaphores) (s : ℕ) (v e' : SemaphoreEntry) → ChangesAt ss ss' s (Some v) → v ≡ e' → (q : ℕ)
     → get (named (λ k x. x) ss') q ≡ cond (s == q) (Some e') (get (named (λ k x. x) ss) q)
 semaphores_of ss ss' s v e' changes is q = kept-changed ss ss' s (Some v) changes q ∙ ap (λ x. cond (s == q) (Some x) (get (named (λ k x. x) ss) q)) is
-
--- of two changes at one name the last stays
-pub changes_twice : {X : Type 0} (old mid new : List (ℕ × X)) (k : ℕ) (o u : Option X) → ChangesAt old mid k o → ChangesAt mid new k u → ChangesAt old new k u
-changes_twice {X} old mid new k o u first second q = second q ∙ ap (cond (k == q) u) (first q) ∙ by_test (k == q)
-  where
-    by_test : (b : Bool) → cond b u (cond b o (at old q)) ≡ cond b u (at old q)
-    by_test true = refl
-    by_test false = refl
-
--- what stands at a name that was written
-pub written_at : {X : Type 0} (old new : List (ℕ × X)) (k : ℕ) (o : Option X) → ChangesAt old new k o → at new k ≡ o
-written_at old new k o written = written k ∙ ap (λ b. cond b o (at old k)) (eq-eqb k k refl)
 
 -- what is written at a name is what stood there
 pub kept_same : {X Y : Type 0} (f : ℕ → X → Y) (old new : List (ℕ × X)) (k : ℕ) (x y : X) → at old k ≡ Some x → y ≡ x → ChangesAt old new k (Some y)

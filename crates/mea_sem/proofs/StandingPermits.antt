@@ -9,7 +9,7 @@ use Rattle.mea_base.specs.declared.answer.Answer.TheVariants as answers
 use Rattle.mea_base.specs.Named.{named, at, ChangesAt}
 use Rattle.mea_base.specs.Queue.{granted_in}
 use Rattle.mea_base.specs.Causes.{unknown_unless}
-use Rattle.mea_base.proofs.NamedMaps.{get-named, named_put, named_remove, same_named, get-seen, kept-at, found}
+use Rattle.mea_base.proofs.NamedMaps.{get-named, named_put, named_remove, same_named, get-seen, kept-at, found, changes_twice, changed_at}
 use Rattle.mea_base.proofs.Totals.{get_inserted, get_removed}
 use Rattle.mea_base.proofs.Maps.{inside}
 use Rattle.mea_base.specs.declared.stop.Stop.TheVariants as stops
@@ -32,7 +32,7 @@ use Rattle.mea_sem.proofs.PlaysPermits.{plays_try, plays_lose, plays_merge, play
 use Rattle.mea_sem.proofs.PlaysEnds.{plays_end_permit}
 use Rattle.mea_sem.proofs.Endings.{missing, not_permit}
 use Rattle.mea_sem.proofs.Meets.{semaphores_in, store_in, hall_in, IsKeptIn, Meets, MeetsSemaphore, MeetsPermit, Done, permits_semaphore, later, to_kept, done, done_quietly}
-use Rattle.mea_sem.proofs.Standing.{Semaphores, Permits, puts_of, semaphores_of, changes_twice, written_at, kept_same}
+use Rattle.mea_sem.proofs.Standing.{Semaphores, Permits, puts_of, semaphores_of, kept_same}
 use Rattle.mea_sem.proofs.StandingSemaphores.{small_forgotten, wakers_few, offered, not_offered, as_it_was}
 
 -- ---- permits among entries
@@ -329,7 +329,7 @@ pub undone : (a : Inside) (p n : ℕ) (x y : PermitEntry) (ps1 ps2 ps' : Permits
     → ChangesAt a.permits.entries ps1 p (Some (record x { size = x.size - n })) → ps2 ≡ ps1 → at ps2 p ≡ Some y
     → ChangesAt ps2 ps' p (Some (record y { size = y.size + n })) → store_of (semaphores_in a) a.futures.entries ps' ≡ store_in a
 undone a p n x y ps1 ps2 ps' is enough less_now same isy back =
-    let smaller : y ≡ record x { size = x.size - n } = inside (sym isy ∙ ap (λ ps. at ps p) same ∙ written_at a.permits.entries ps1 p _ less_now) in
+    let smaller : y ≡ record x { size = x.size - n } = inside (sym isy ∙ ap (λ ps. at ps p) same ∙ changed_at a.permits.entries ps1 p _ less_now) in
     let whole : record y { size = y.size + n } ≡ x = (λ j. record (smaller j) { size = (smaller j).size + n }) ∙ sizes_back in
     let back1 = subst (λ (ps : Permits). ChangesAt ps ps' p (Some (record y { size = y.size + n }))) same back in
     written_back a p x ps' is

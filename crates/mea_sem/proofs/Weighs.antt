@@ -9,6 +9,7 @@ use Rattle.mea_sem_model.specs.Hall.{Hall, Semaphore, Future, Permit, Stage, Gra
 use Rattle.mea_sem.specs.Kept.{things_by}
 use Rattle.mea_sem_model.specs.Step.{with_future, without_future, with_permit, without_permit}
 use Rattle.mea_sem_model.proofs.HallLemmas.{among, get-stage_all}
+use Rattle.mea_sem_model.proofs.Events.{sum_if}
 
 -- how many things leave or come, of those that a test of their form chooses
 abbrev pub Things : Type 0
@@ -34,10 +35,6 @@ pub record Weighs (h g : Hall) (s a b : ℕ) (p r : Things) : Type 0 where
 
 abbrev pub one : Bool → ℕ
 one plain = cond plain 1 0
-
-sum_if : (t : Bool) (m n : ℕ) → cond t (m + n) 0 ≡ cond t m 0 + cond t n 0
-sum_if true m n = refl
-sum_if false m n = refl
 
 pub weighs_after : (h g k : Hall) (s a b : ℕ) (p r : Things) (c d : ℕ) (t u : Things) → Weighs h g s a b p r → Weighs g k s c d t u
     → Weighs h k s (a + c) (b + d) (λ chosen. p chosen + t chosen) (λ chosen. r chosen + u chosen)

@@ -1,10 +1,10 @@
 -- that a closed semaphore's queue has debts only, as the queue changes
-use Rattle.std.proofs.Common.{◌≡◌, ℕ, ◌+◌, ◌-◌, Bool, true, false, cond, List, [], ◌∷◌, ◌++◌, filter, nat_lt, Some, None, refl, sym, ap, subst, ◌∙◌}
+use Rattle.std.proofs.Common.{◌≡◌, ℕ, ◌+◌, ◌-◌, Bool, true, false, cond, List, [], ◌∷◌, filter, nat_lt, Some, refl, sym, subst, ◌∙◌}
 use Rattle.std.specs.Ordering.{nat_cmp}
 use Rattle.std.specs.FinMap as fin
 use Rattle.std.specs.FinMap.{get-empty}
 use Rattle.mea_base.specs.Queue.{lacks_after, waiting_after}
-use Rattle.mea_sem_core.specs.Core.{Waiter, Acquires, Owes, only_debts, waiters_of, with_demands, wakers_of, HasOnlyDebts, CutsWhereClosed}
+use Rattle.mea_sem_core.specs.Core.{Waiter, Acquires, Owes, only_debts, HasOnlyDebts, CutsWhereClosed}
 use Rattle.mea_sem_core.specs.Calls.{with_waker, without_acquire}
 
 module _ {W : Type 0} where

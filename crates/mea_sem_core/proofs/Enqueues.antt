@@ -4,7 +4,7 @@ use Rattle.std.proofs.lemmas.Bool.{cases_eq}
 use Rattle.std.proofs.lemmas.Bool.Decides.{nat_tests}
 use Rattle.std.specs.List.{list_any}
 use Rattle.std.specs.FinMap as fin
-use Rattle.mea_base.specs.WaitList.{get, is_linked, value_count, IsAbsent, IsDistinct, Updates, without}
+use Rattle.mea_base.specs.WaitList.{get, value_count, IsAbsent, Updates}
 use Rattle.mea_base.specs.WaitList as base
 use Rattle.mea_base.proofs.Waits.{sum_by-updated, IsDistinct-push}
 use Rattle.mea_sem_core.specs.declared.place.Place.{Place}

@@ -9,7 +9,7 @@ use Rattle.std.specs.Cmp.{nat_cmp_total}
 use Rattle.std.specs.declared.cmp.Ordering.TheVariants.{Less, Equal, Greater}
 use Rattle.std.specs.FinMap as fin
 use Rattle.std.specs.FinMap.{find, put, entries, entries-insert, get-entries, get-from_entries, len-entries, len-empty}
-use Rattle.mea_base.specs.WaitList.{is_linked, IsAbsent, IsDistinct}
+use Rattle.mea_base.specs.WaitList.{IsDistinct}
 use Rattle.mea_base.specs.WaitList as base
 use Rattle.mea_base.proofs.Waits.{sum_by-updated}
 use Rattle.mea_sem_core.specs.declared.place.Place.{Place}

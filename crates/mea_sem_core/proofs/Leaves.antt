@@ -5,7 +5,7 @@ use Rattle.std.proofs.lemmas.Bool.Decides.{nat_tests}
 use Rattle.std.specs.List.{list_any}
 use Rattle.std.specs.FinMap as fin
 use Rattle.std.proofs.lemmas.List.Sums.{get_or-le-sum_by}
-use Rattle.mea_base.specs.WaitList.{get, is_linked, IsAbsent, IsDistinct, Updates, without}
+use Rattle.mea_base.specs.WaitList.{get, is_linked, IsAbsent, Updates, without}
 use Rattle.mea_base.specs.WaitList as base
 use Rattle.mea_base.proofs.Waits.{sum_by-updated, in_use_within, IsDistinct-without, without_absent, length-without}
 use Rattle.mea_base.proofs.Tests.{test_same, test_differs}

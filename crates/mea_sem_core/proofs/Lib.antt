@@ -12,3 +12,4 @@ pub mod Pours
 pub mod Sound
 pub mod Steadies
 pub mod Ones
+pub mod Without

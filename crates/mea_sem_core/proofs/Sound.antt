@@ -6,7 +6,7 @@ use Rattle.mea_sem_core.specs.declared.place.Place.{Place}
 use Rattle.mea_sem_core.specs.declared.place.Place.TheVariants.{Acquire, Debt, Granted, Cut}
 use Rattle.mea_sem_core.specs.Core.{waiting, AreApart, LacksWithin, AllLackWithin, CutsWhereClosed, IsSound}
 use Rattle.mea_sem_core.specs.Places.{entry, entries, queue_of, granted_of, cut_of, grant_of, cut_demand, IsWaiting, AllWaiting, IsQueue, paid_in}
-use Rattle.mea_sem_core.proofs.Places.{get-demands, length-entries}
+use Rattle.mea_sem_core.proofs.Places.{get-demands}
 use Rattle.mea_sem_core.proofs.Enqueues.{waiting_absent}
 use Rattle.mea_sem_core.proofs.Leaves.{granted_apart, cut_absent}
 use Rattle.mea_sem_core.proofs.Held.{paid-view, count-view}

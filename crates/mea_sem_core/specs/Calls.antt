@@ -8,7 +8,6 @@ use Rattle.mea_sem_core.specs.declared.acquire.Acquire.{Acquire}
 use Rattle.mea_sem_core.specs.declared.acquire.Acquire.TheVariants.{New, Queued, Done, Refused}
 use Rattle.mea_sem_core.specs.declared.open_turn.OpenTurn.{OpenTurn}
 use Rattle.mea_sem_core.specs.declared.open_turn.OpenTurn.TheVariants as open_turn
-use Rattle.mea_sem_core.specs.Acquire.{demand_of}
 use Rattle.mea_sem_core.specs.Core.{Waiter, Acquires, Owes, Core, HasNoDebt, held_of, poured, waiting}
 
 module _ {W : Type 0} where

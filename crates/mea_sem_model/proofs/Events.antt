@@ -26,9 +26,10 @@ use Rattle.mea_sem_model.proofs.Closings.{to_closing}
 use Rattle.mea_sem_model.proofs.Changes.{taken, taken_by, held_by, moves_semaphore, moves_future, moves_no_future, below_semaphore, below_future, below_no_future, below_more, no_semaphore_yet, no_future_yet, no_permit_yet, Changed, after, retold, nothing, to_semaphore, to_numbers, to_permit, to_no_permit, to_no_future, to_pour}
 
 -- ---- numbers by a test
-only : (b : Bool) (m n : ℕ) → cond b (m + n) 0 ≡ cond b m 0 + cond b n 0
-only true m n = refl
-only false m n = refl
+-- a sum is chosen by its parts
+pub sum_if : (b : Bool) (m n : ℕ) → cond b (m + n) 0 ≡ cond b m 0 + cond b n 0
+sum_if true m n = refl
+sum_if false m n = refl
 
 only_same : (b : Bool) (m n : ℕ) → m ≡ n → cond b m 0 ≡ cond b n 0
 only_same b m n e = ap (λ k. cond b k 0) e
@@ -218,7 +219,7 @@ module _ (h : Hall) (i : ℕ) (m : IsMatched h) (v : IsOrderly h) (low : IsBelow
       let first = lost q y at in
       let still : get (without_permit h q).permits p ≡ Some x = get-removed_other h.permits q p apart ∙ is in
       retold h _ (i + 1) _ _ (λ s. 0) (λ s. 0)
-      (λ s. omega (arith, only (x.semaphore == s) x.size y.size, ap (λ k. cond (k == s) y.size 0) same, ap (weight (held_by s) p) still))
+      (λ s. omega (arith, sum_if (x.semaphore == s) x.size y.size, ap (λ k. cond (k == s) y.size 0) same, ap (weight (held_by s) p) still))
       (after h (without_permit h q) _ (i + 1) _ _ _ _ first
       (to_permit (without_permit h q) (i + 1) first.matched first.orderly first.below p (record x { size = x.size + y.size })
       (wider.permits p (is_there (get h.permits p) x is))
@@ -237,7 +238,7 @@ module _ (h : Hall) (i : ℕ) (m : IsMatched h) (v : IsOrderly h) (low : IsBelow
       retold h _ (i + 1) _ _ (λ s. 0) (λ s. 0)
       (λ s. omega (
         arith,
-        only (x.semaphore == s) (x.size - n) n,
+        sum_if (x.semaphore == s) (x.size - n) n,
         only_same (x.semaphore == s) ((x.size - n) + n) x.size whole,
         ap (weight (held_by s) p) is,
         ap (weight (held_by s) i) (no_permit_yet g i first.below),
@@ -423,7 +424,7 @@ module _ (h : Hall) (i f : ℕ) (x : Future) (is : get h.futures f ≡ Some x) (
       retold h _ (i + 1) _ _ (λ s. 0) (λ s. 0)
       (λ s. omega (
         arith,
-        only (x.semaphore == s) l (x.demand - l),
+        sum_if (x.semaphore == s) l (x.demand - l),
         only_same (x.semaphore == s) (l + (x.demand - l)) x.demand whole,
         ap
             (λ t. cond (x.semaphore == s) (taken x.demand t) 0) e,

@@ -1,5 +1,5 @@
 -- whom an event that polls nobody grants
-use Rattle.std.proofs.Common.{◌≡◌, ℕ, ◌+◌, ◌-◌, ◌<◌, ◌==◌, ◌||◌, ◌++◌, ◌⊎◌, inl, inr, Bool, true, false, cond, List, [], ◌∷◌, map, not, Option, Some, None, refl, ap, sym, subst, ◌∙◌, arith, is_some, if◌then◌else◌, nat_le, nat_lt, min}
+use Rattle.std.proofs.Common.{◌≡◌, ℕ, ◌+◌, ◌-◌, ◌<◌, ◌==◌, ◌++◌, ◌⊎◌, inl, inr, Bool, true, false, cond, List, [], ◌∷◌, map, not, Option, Some, None, refl, ap, sym, subst, ◌∙◌, arith, is_some, if◌then◌else◌, nat_le, nat_lt, min}
 use Rattle.std.specs.List.{flat_map}
 use Rattle.std.specs.Option.{option_map, IsSome}
 use Rattle.std.specs.Ordering.{nat_cmp}
@@ -25,7 +25,7 @@ use Rattle.mea_sem_model.proofs.Closings.{queue_apart, nobody_waits, get-closing
 use Rattle.mea_sem_model.proofs.Orderly.{IsOrderly}
 use Rattle.mea_sem_model.proofs.Pours.{no_debt-after, no_debt-filter}
 use Rattle.mea_sem_model.proofs.Events.{named_there, release_known, counted_released, lost, gone, idle_granted, at_leaving}
-use Rattle.mea_sem_model.proofs.Ranks.{AreRanked, ranked_rest, ranked_filter, ranked_debt, ranked_nobody, ranked_and_nobody, uncounted}
+use Rattle.mea_sem_model.proofs.Ranks.{AreRanked, ranked_rest, ranked_filter, ranked_debt, ranked_nobody, ranked_and_nobody, uncounted, among_here, among_later}
 use Rattle.std.proofs.lemmas.Bool.{leb-true, leb-false}
 
 -- the futures among these
@@ -109,13 +109,10 @@ wakers_of : (m g : FinMap nat_cmp Future) (ws : List Who)
     → map (λ w. Some w) (flat_map (waker_of_who m) ws) ≡ map (λ f. waker_kept (get g f)) (futures_in ws)
 wakers_of m g [] wait = refl
 wakers_of m g (Waiter f ∷ ws) wait =
-    let here = wait f (ap (λ b. b || among ws f) (eq-eqb f f refl)) in
+    let here = wait f (among_here f ws) in
     ap (λ l. map (λ w. Some w) (l ++ flat_map (waker_of_who m) ws)) here.1
-    ∙ ap (λ l. Some here.0 ∷ l) (wakers_of m g ws (λ k a. wait k (later f k ws a)))
+    ∙ ap (λ l. Some here.0 ∷ l) (wakers_of m g ws (λ k a. wait k (among_later f k ws a)))
     ∙ ap (λ o. o ∷ map (λ k. waker_kept (get g k)) (futures_in ws)) (sym here.2)
-  where
-    later : (j k : ℕ) (vs : List Who) → among vs k ≡ true → among (Waiter j ∷ vs) k ≡ true
-    later j k vs a = elim (j == k) as (λ b. (b || among vs k) ≡ true) [ true ↦ refl | false ↦ a ]
 wakers_of m g (Debt ∷ ws) wait = wakers_of m g ws wait
 
 waiting_stage : (t : Stage) → one_if_waiting t ≡ 1 → (w : ℕ) × (t ≡ Waiting w)

@@ -21,7 +21,7 @@ use Rattle.mea_sem_model.proofs.Keeps.{no_queue, below_later}
 use Rattle.mea_sem_model.proofs.Balanced as balance
 use Rattle.mea_sem_model.proofs.LostWakes.{polls_living}
 use Rattle.mea_sem_model.proofs.Lives.{polls_or_not}
-use Rattle.mea_sem_model.proofs.Ranks.{AreRanked, AreAfter, ranked_front}
+use Rattle.mea_sem_model.proofs.Ranks.{AreRanked, AreAfter, ranked_front, among_here, among_later}
 use Rattle.mea_sem_model.proofs.Granting.{futures_in, Granting, grants}
 use Rattle.mea_sem_model.proofs.OrderKept.{rank, was_refused, lags, HasPermits, Ordered, waits_here}
 use Rattle.mea_sem_model.proofs.OrderQuiet.{quiet_ordered}
@@ -150,12 +150,6 @@ among_contains (Waiter g ∷ ws) f a = elim (g == f) as (λ b. (g == f) ≡ b �
 ] refl a
 among_contains (Debt ∷ ws) f a = among_contains ws f a
 
-among_first : (f : ℕ) (ws : List Who) → among (Waiter f ∷ ws) f ≡ true
-among_first f ws = ap (λ b. b || among ws f) (eq-eqb f f refl)
-
-among_rest : (g f : ℕ) (ws : List Who) → among ws f ≡ true → among (Waiter g ∷ ws) f ≡ true
-among_rest g f ws a = elim (g == f) as (λ b. (b || among ws f) ≡ true) [ true ↦ refl | false ↦ a ]
-
 -- ranks are the numbers of first polls
 polled_before : (trace : List Told) (f g : ℕ) → IsSome (first_poll trace f) → IsSome (first_poll trace g) → rank trace f < rank trace g
     → IsPolledBefore trace f g
@@ -170,8 +164,8 @@ before_all : (trace : List Told) (f : ℕ) (ws : List Who) → IsSome (first_pol
     → AreAfter (rank trace) (rank trace f) ws → IsPolledBeforeAll trace f (futures_in ws)
 before_all trace f [] a polled after = tt
 before_all trace f (Waiter g ∷ ws) a polled after = (
-  polled_before trace f g a (polled g (among_first g ws)) after.0,
-  before_all trace f ws a (λ k b. polled k (among_rest g k ws b)) after.1,
+  polled_before trace f g a (polled g (among_here g ws)) after.0,
+  before_all trace f ws a (λ k b. polled k (among_later g k ws b)) after.1,
 )
 before_all trace f (Debt ∷ ws) a polled after = before_all trace f ws a polled after
 
@@ -179,15 +173,15 @@ ranked_in_order : (trace : List Told) (ws : List Who) → ((g : ℕ) → among w
     → AreInOrder trace (futures_in ws)
 ranked_in_order trace [] polled ranked = tt
 ranked_in_order trace (Waiter f ∷ ws) polled ranked = (
-  before_all trace f ws (polled f (among_first f ws)) (λ k b. polled k (among_rest f k ws b)) ranked.0,
-  ranked_in_order trace ws (λ k b. polled k (among_rest f k ws b)) ranked.1,
+  before_all trace f ws (polled f (among_here f ws)) (λ k b. polled k (among_later f k ws b)) ranked.0,
+  ranked_in_order trace ws (λ k b. polled k (among_later f k ws b)) ranked.1,
 )
 ranked_in_order trace (Debt ∷ ws) polled ranked = ranked_in_order trace ws polled ranked
 
 map_alike : {B : Type 0} (a b : ℕ → B) (ws : List Who) → ((f : ℕ) → among ws f ≡ true → a f ≡ b f) → map a (futures_in ws) ≡ map b (futures_in ws)
 map_alike a b [] same = refl
-map_alike a b (Waiter f ∷ ws) same = ap (λ x. x ∷ map a (futures_in ws)) (same f (among_first f ws))
-    ∙ ap (λ xs. b f ∷ xs) (map_alike a b ws (λ k t. same k (among_rest f k ws t)))
+map_alike a b (Waiter f ∷ ws) same = ap (λ x. x ∷ map a (futures_in ws)) (same f (among_here f ws))
+    ∙ ap (λ xs. b f ∷ xs) (map_alike a b ws (λ k t. same k (among_later f k ws t)))
 map_alike a b (Debt ∷ ws) same = map_alike a b ws same
 
 -- who waited before an event and is as it was is not settled

@@ -27,10 +27,10 @@ one_of g f ws P here later a = elim (g == f) as (λ b. (g == f) ≡ b → (b || 
   | false ↦ λ e t. later t
 ] refl a
 
-among_here : (f : ℕ) (ws : List Who) → among (Waiter f ∷ ws) f ≡ true
+pub among_here : (f : ℕ) (ws : List Who) → among (Waiter f ∷ ws) f ≡ true
 among_here f ws = ap (λ b. b || among ws f) (eq-eqb f f refl)
 
-among_later : (g f : ℕ) (ws : List Who) → among ws f ≡ true → among (Waiter g ∷ ws) f ≡ true
+pub among_later : (g f : ℕ) (ws : List Who) → among ws f ≡ true → among (Waiter g ∷ ws) f ≡ true
 among_later g f ws a = elim (g == f) as (λ b. (b || among ws f) ≡ true) [ true ↦ refl | false ↦ a ]
 
 pub after_member : (rank : ℕ → ℕ) (k : ℕ) (ws : List Who) (f : ℕ) → AreAfter rank k ws → among ws f ≡ true → k < rank f

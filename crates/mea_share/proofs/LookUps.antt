@@ -1,46 +1,26 @@
 -- what is looked up in admissions as they are seen
-use Rattle.std.proofs.Common.{◌≡◌, ◌≢◌, ℕ, ◌+◌, ◌-◌, ◌<◌, ◌≤◌, ◌^◌, ◌==◌, ◌&&◌, ◌⊎◌, ◌++◌, inl, inr, Bool, true, false, not, cond, List, [], nat_lt, nat_eq, Option, Some, None, IsSome, option_map, is_some, if◌then◌else◌, refl, ap, sym, subst, ◌∙◌, arith, append-nil}
-use Rattle.std.specs.Ordering.{nat_cmp}
-use Rattle.std.specs.Cmp.{nat_cmp_total}
-use Rattle.std.specs.FinMap.{get, insert, remove, len, empty, len-empty, len-insert}
-use Rattle.std.proofs.lemmas.Bool.{cases_lt, eqb-true, eq-eqb}
-use Rattle.std.proofs.lemmas.Bool.Decides.{nat_tests}
-use Rattle.futures.specs.declared.task.Poll.{Poll}
-use Rattle.futures.specs.declared.task.Poll.TheVariants.{Ready, Pending}
-use Rattle.mea_base.specs.declared.answer.Answer.{Answer}
+use Rattle.std.proofs.Common.{◌≡◌, ℕ, ◌-◌, ◌≤◌, ◌⊎◌, inl, inr, true, cond, nat_lt, Option, Some, None, IsSome, option_map, is_some, refl, ap, sym, subst, ◌∙◌, arith}
+use Rattle.std.specs.FinMap.{get, insert, empty}
 use Rattle.mea_base.specs.declared.answer.Answer.TheVariants as answers
-use Rattle.mea_base.specs.Family.{Outcome, quietly}
-use Rattle.mea_base.specs.Causes.{unknown_unless}
 use Rattle.mea_base.specs.Ready.{Waking}
-use Rattle.mea_base.specs.Totals.{total, weight}
-use Rattle.mea_base.proofs.Maps.{total-has, nothing_at, inside, get-there, is_there, value_in, by_put, removed_there, is_absent}
-use Rattle.mea_base.proofs.Totals.{total-insert, total-remove, total-same, total-empty}
+use Rattle.mea_base.proofs.Maps.{total-has, nothing_at, get-there, is_there}
 use Rattle.mea_base.proofs.NamedMaps.{get-seen, is_some-map}
 use Rattle.mea_named.specs.ByName.{Names, seen, own, count}
-use Rattle.mea_named.specs.HallKept.{HallKept}
-use Rattle.mea_named.specs.Play.{Part, PartYields, PartRests, found}
-use Rattle.mea_named.proofs.Cases.{found_is, if_true, if_false}
+use Rattle.mea_named.specs.Play.{Part}
+use Rattle.mea_named.proofs.Cases.{if_true, if_false}
 use Rattle.mea_named.proofs.Halls as halls
-use Rattle.mea_named.proofs.Own.{seen-at, seen-back, seen-none, seen-empty, seen-insert, seen-remove, seen-alike, own-seen, len-seen, total-seen, own-at, own-none, own-put, own-gone, len-some, len-new, len-over, len-gone, count-put, count-over, count-new, count-gone, count-least, insert_same, put_gone, gone_none, Moves, Stays, Comes, Goes}
-use Rattle.mea_share_core.specs.declared.share_acquire.ShareStage.{ShareStage}
-use Rattle.mea_share_core.specs.declared.share_acquire.ShareStage.TheVariants.{New, Queued, Done}
-use Rattle.mea_share_core.specs.Share.{Share, waiting_of, IsWaiting, IsAdmitted, taken, queued, left, readied, given_up, released, weighing}
-use Rattle.mea_share_core.specs.Groups.{share_in, held_in, waiting_in}
-use Rattle.mea_share_core.specs.Fair.{Fair, IsSettled, share_of, waiters_of, is_queued, Becomes, IsSame, PassesOn, GivesBack, Belongs, Polls, Cancels}
-use Rattle.mea_share_model.specs.declared.event.ShareEvent.{ShareEvent}
-use Rattle.mea_share_model.specs.declared.event.ShareEvent.TheVariants.{FsNew, FsFree, FsWaiters, FsTry, FsTryo, FsAcq, FsAcqo, FsPoll, FsKey, FsEnd, FsDrop, FsWeight, FsWeightof}
+use Rattle.mea_named.proofs.Own.{seen-at, seen-back, seen-empty, own-seen, total-seen, insert_same}
+use Rattle.mea_share_core.specs.Groups.{waiting_in}
+use Rattle.mea_share_core.specs.Fair.{IsSettled}
+use Rattle.mea_share_model.specs.declared.event.ShareEvent.TheVariants.{FsDrop}
 use Rattle.mea_share_model.specs.Next as next_model
-use Rattle.mea_share_model.specs.Next.{Shares, Waiter, share_at, put_share, next_of}
 use Rattle.mea_share_model.specs.Admissions as model
-use Rattle.mea_share_model.specs.Admissions.{Admission, ShareFuture, SharePermit, ShareHall, registered, with_share, passed, woken, tidied_admissions, things_of, plain_of, is_named, is_named_one, is_future, is_permit}
-use Rattle.mea_share_model.specs.Meaning.{cause_of, step, end_by}
-use Rattle.mea_share_model.specs.Valid.{is_of as model_is_of, HasNumber, HasAt, AreValid}
-use Rattle.mea_share_model.proofs.Keeping.{AreLow, valid_after, valid_start}
-use Rattle.mea_share_model.proofs.Changes.{len-least, by_key}
-use Rattle.mea_share.specs.Kept.{KeptAdmission, KeptFuture, shares_seen, admission_seen, number_of, future_seen, hall_seen, AreGood, AreKept, of_future, of_permit, size_of, IsKept}
-use Rattle.mea_share.specs.Entries.{new_admission, begun, finished, is_over, Takes, Weighs, PollsEntry, HandsOn, EndsWait, Releases}
-use Rattle.mea_share.specs.Lends.{StandsFor, AreSettled, begins, tries}
-use Rattle.mea_share.proofs.Seen.{share_seen, alike_seen, sets_seen, nothing_seen, Tallies, tallies_sets, tallies_alike, passes_seen}
+use Rattle.mea_share_model.specs.Admissions.{Admission, ShareFuture, SharePermit, ShareHall, registered, plain_of, is_named, is_named_one, is_future}
+use Rattle.mea_share_model.specs.Meaning.{cause_of}
+use Rattle.mea_share_model.specs.Valid.{AreValid}
+use Rattle.mea_share_model.proofs.Keeping.{valid_start}
+use Rattle.mea_share.specs.Kept.{KeptAdmission, KeptFuture, shares_seen, admission_seen, future_seen, hall_seen, AreGood, of_future, of_permit, IsKept}
+use Rattle.mea_share.specs.Lends.{StandsFor, AreSettled}
 use Rattle.mea_share.proofs.Sites.{Site, low, part_of, registered_is, waiters}
 
 module _ {old : Part ShareHall} {i : ℕ} (s : Site old i) where

@@ -13,7 +13,7 @@ use Rattle.mea_named.proofs.Own.{len-some}
 use Rattle.mea_share_core.specs.Groups.{share_in, waiting_in, IsAlike, IsBefore, Sets, IsNextOf}
 use Rattle.mea_share_core.specs.Fair.{Fair, PassesOn, waiters_of}
 use Rattle.mea_share_model.specs.Next as model
-use Rattle.mea_share_model.specs.Next.{Shares, Waiter, share_at, is_idle, put_share, next_of}
+use Rattle.mea_share_model.specs.Next.{Waiter, share_at, is_idle, put_share, next_of}
 use Rattle.mea_share_model.specs.Admissions.{Admission, passed, woken}
 use Rattle.mea_share_model.proofs.Waiting.{waiting_put, share_waits, idle_new, next_found, nobody_next}
 use Rattle.mea_share.specs.Kept.{shares_seen}

@@ -1,46 +1,41 @@
 -- admissions before an event, and what holds after it as they are kept and as they are seen
-use Rattle.std.proofs.Common.{◌≡◌, ◌≢◌, ℕ, ◌+◌, ◌-◌, ◌<◌, ◌≤◌, ◌^◌, ◌==◌, ◌&&◌, ◌⊎◌, ◌++◌, inl, inr, Bool, true, false, not, cond, List, [], nat_lt, nat_eq, Option, Some, None, IsSome, option_map, is_some, if◌then◌else◌, refl, ap, sym, subst, ◌∙◌, arith, append-nil}
+use Rattle.std.proofs.Common.{◌≡◌, ◌≢◌, ℕ, ◌+◌, ◌-◌, ◌<◌, ◌≤◌, ◌^◌, ◌==◌, ◌++◌, inl, inr, true, false, cond, [], nat_eq, Option, Some, None, IsSome, option_map, is_some, refl, ap, sym, subst, ◌∙◌, arith}
 use Rattle.std.specs.Ordering.{nat_cmp}
 use Rattle.std.specs.Cmp.{nat_cmp_total}
 use Rattle.std.specs.FinMap.{get, insert, remove, len, empty, len-empty, len-insert}
-use Rattle.std.proofs.lemmas.Bool.{cases_lt, eqb-true, eq-eqb}
-use Rattle.std.proofs.lemmas.Bool.Decides.{nat_tests}
-use Rattle.futures.specs.declared.task.Poll.{Poll}
-use Rattle.futures.specs.declared.task.Poll.TheVariants.{Ready, Pending}
+use Rattle.std.proofs.lemmas.Bool.{cases_lt}
 use Rattle.mea_base.specs.declared.answer.Answer.{Answer}
 use Rattle.mea_base.specs.declared.answer.Answer.TheVariants as answers
 use Rattle.mea_base.specs.Family.{Outcome, quietly}
 use Rattle.mea_base.specs.Causes.{unknown_unless}
 use Rattle.mea_base.specs.Ready.{Waking}
 use Rattle.mea_base.specs.Totals.{total, weight}
-use Rattle.mea_base.proofs.Maps.{total-has, nothing_at, inside, get-there, is_there, value_in, by_put, removed_there, is_absent}
-use Rattle.mea_base.proofs.Totals.{total-insert, total-remove, total-same, total-empty}
+use Rattle.mea_base.proofs.Maps.{nothing_at, inside, value_in, by_put, removed_there}
+use Rattle.mea_base.proofs.Totals.{total-insert, total-same, total-empty}
 use Rattle.mea_base.proofs.NamedMaps.{get-seen, is_some-map}
-use Rattle.mea_named.specs.ByName.{Names, seen, own, count}
+use Rattle.mea_named.specs.ByName.{Names, seen, count}
 use Rattle.mea_named.specs.HallKept.{HallKept}
 use Rattle.mea_named.specs.Play.{Part, PartYields, PartRests, found}
-use Rattle.mea_named.proofs.Cases.{found_is, if_true, if_false}
+use Rattle.mea_named.proofs.Cases.{found_is, if_false}
 use Rattle.mea_named.proofs.Halls as halls
-use Rattle.mea_named.proofs.Own.{seen-at, seen-back, seen-none, seen-empty, seen-insert, seen-remove, seen-alike, own-seen, len-seen, total-seen, own-at, own-none, own-put, own-gone, len-some, len-new, len-over, len-gone, count-put, count-over, count-new, count-gone, count-least, insert_same, put_gone, gone_none, Moves, Stays, Comes, Goes}
-use Rattle.mea_share_core.specs.declared.share_acquire.ShareStage.{ShareStage}
-use Rattle.mea_share_core.specs.declared.share_acquire.ShareStage.TheVariants.{New, Queued, Done}
-use Rattle.mea_share_core.specs.Share.{Share, waiting_of, IsWaiting, IsAdmitted, taken, queued, left, readied, given_up, released, weighing}
+use Rattle.mea_named.proofs.Own.{seen-at, seen-back, seen-insert, total-seen, len-some, len-new, len-gone, count-new, count-gone}
+use Rattle.mea_share_core.specs.declared.share_acquire.ShareStage.TheVariants.{Done}
+use Rattle.mea_share_core.specs.Share.{Share, waiting_of, IsWaiting}
 use Rattle.mea_share_core.specs.Groups.{share_in, held_in, waiting_in}
-use Rattle.mea_share_core.specs.Fair.{Fair, IsSettled, share_of, waiters_of, is_queued, Becomes, IsSame, PassesOn, GivesBack, Belongs, Polls, Cancels}
+use Rattle.mea_share_core.specs.Fair.{Fair, IsSettled, share_of, waiters_of, is_queued, Becomes, PassesOn}
 use Rattle.mea_share_model.specs.declared.event.ShareEvent.{ShareEvent}
-use Rattle.mea_share_model.specs.declared.event.ShareEvent.TheVariants.{FsNew, FsFree, FsWaiters, FsTry, FsTryo, FsAcq, FsAcqo, FsPoll, FsKey, FsEnd, FsDrop, FsWeight, FsWeightof}
+use Rattle.mea_share_model.specs.declared.event.ShareEvent.TheVariants.{FsNew, FsFree, FsWaiters, FsKey, FsWeightof}
 use Rattle.mea_share_model.specs.Next as next_model
-use Rattle.mea_share_model.specs.Next.{Shares, Waiter, share_at, put_share, next_of}
+use Rattle.mea_share_model.specs.Next.{Shares, share_at, put_share}
 use Rattle.mea_share_model.specs.Admissions as model
-use Rattle.mea_share_model.specs.Admissions.{Admission, ShareFuture, SharePermit, ShareHall, registered, with_share, passed, woken, tidied_admissions, things_of, plain_of, is_named, is_named_one, is_future, is_permit}
-use Rattle.mea_share_model.specs.Meaning.{cause_of, step, end_by}
-use Rattle.mea_share_model.specs.Valid.{is_of as model_is_of, HasNumber, HasAt, AreValid}
-use Rattle.mea_share_model.proofs.Keeping.{AreLow, valid_after, valid_start}
+use Rattle.mea_share_model.specs.Admissions.{Admission, ShareFuture, SharePermit, ShareHall, registered, with_share, passed, woken, is_named, is_named_one, is_future, is_permit}
+use Rattle.mea_share_model.specs.Meaning.{cause_of, step}
+use Rattle.mea_share_model.specs.Valid.{AreValid}
+use Rattle.mea_share_model.proofs.Keeping.{AreLow, valid_after}
 use Rattle.mea_share_model.proofs.Changes.{len-least, by_key}
-use Rattle.mea_share.specs.Kept.{KeptAdmission, KeptFuture, shares_seen, admission_seen, number_of, future_seen, hall_seen, AreGood, AreKept, of_future, of_permit, size_of, IsKept}
-use Rattle.mea_share.specs.Entries.{new_admission, begun, finished, is_over, Takes, Weighs, PollsEntry, HandsOn, EndsWait, Releases}
-use Rattle.mea_share.specs.Lends.{StandsFor, AreSettled, begins, tries}
-use Rattle.mea_share.proofs.Seen.{share_seen, alike_seen, sets_seen, nothing_seen, Tallies, tallies_sets, tallies_alike, passes_seen}
+use Rattle.mea_share.specs.Kept.{KeptAdmission, KeptFuture, shares_seen, admission_seen, future_seen, hall_seen, AreGood, AreKept, of_future, of_permit, size_of, IsKept}
+use Rattle.mea_share.specs.Entries.{new_admission, begun, finished}
+use Rattle.mea_share.proofs.Seen.{share_seen, sets_seen, nothing_seen, tallies_sets}
 
 abbrev pub waiters : KeptAdmission → ℕ
 waiters e = waiters_of e.fair
@@ -251,14 +246,6 @@ good_without_permit e fs ps q p good there =
     let some = len-some ps q p there in
     let counted = count-gone ps q (λ (y : SharePermit). y.plain) p there in
     record { quiet = good.quiet; settled = good.settled; waiting = good.waiting; lasting = good.lasting; things = omega (arith, good.things, fewer, some); plain = omega (arith, good.plain, counted) }
-
-pub passed_next : (r : Admission) (a : Option Waiter) → (passed r a).next ≡ r.next
-passed_next r None = refl
-passed_next r (Some a) = refl
-
-pub over_is : (named : Bool) (n : ℕ) → (not named && n == 0) ≡ true → (named ≡ false) × (n ≡ 0)
-over_is true n is = absurd (cc)
-over_is false n is = (refl, eqb-true n 0 is)
 
 -- who waits and what is held, as a permit comes back
 pub passes_sums : (f f1 : Fair ℕ ℕ) → PassesOn nat_eq f f1 → waiting_in f1.shares + held_in f1.shares ≤ waiting_in f.shares + held_in f.shares

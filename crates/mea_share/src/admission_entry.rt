@@ -55,12 +55,14 @@ impl AdmissionEntry {
         }
     }
 
+    /// Its core.
     pub fn core(&self) -> &Core
         ensures { result.now ≡ self.now.fair }
     {
         &self.core
     }
 
+    /// Whether it is still named.
     pub fn is_named(&self) -> bool
         ensures { result ≡ self.now.named }
     {

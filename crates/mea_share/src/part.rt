@@ -81,18 +81,21 @@ impl SharePart {
         Some(entry.core())
     }
 
+    /// Whether an admission of this name is there and still named.
     pub fn is_named(&self, o: u64) -> bool
         ensures { result ≡ is_named self.now.hall o }
     {
         self.named_entry(o).is_some()
     }
 
+    /// Whether a future has this name.
     pub fn is_future(&self, f: u64) -> bool
         ensures { result ≡ is_future self.now.hall f }
     {
         self.futures.has(f)
     }
 
+    /// Whether a permit has this name.
     pub fn is_permit(&self, p: u64) -> bool
         ensures { result ≡ is_permit self.now.hall p }
     {

@@ -1,26 +1,38 @@
 -- what each event changes: one admission, one future and one permit at the most
-use Rattle.std.proofs.Common.{◌≡◌, ℕ, ◌+◌, ◌-◌, ◌<◌, ◌≤◌, ◌==◌, ◌&&◌, ◌⊎◌, inl, inr, Bool, true, false, cond, length, List, [], ◌∷◌, Option, Some, None, IsSome, is_some, nat_lt, if◌then◌else◌, refl, ap, sym, subst, ◌∙◌, arith}
+use Rattle.std.proofs.Common.{◌≡◌, ℕ, ◌+◌, ◌-◌, ◌<◌, ◌≤◌, ◌==◌, ◌&&◌, inl, Bool, true, false, cond, length, List, [], Option, Some, None, IsSome, is_some, if◌then◌else◌, refl, ap, sym, subst, ◌∙◌, arith}
 use Rattle.std.specs.FinMap.{get, insert, remove, len}
-use Rattle.std.proofs.lemmas.Bool.{eqb-true, eqb-false, eq-eqb, ne_eqb}
+use Rattle.std.proofs.lemmas.Bool.{eqb-true, eq-eqb, ne_eqb}
 use Rattle.mea_base.specs.declared.answer.Answer.TheVariants as answers
 use Rattle.mea_base.specs.Causes.{unknown_unless}
 use Rattle.mea_base.specs.Family.{Outcome, quietly}
-use Rattle.mea_base.proofs.Maps.{by_put, get-there, get-gone, get-other, get-removed_other, is_there, value_in, inside, removed_there}
+use Rattle.mea_base.proofs.Maps.{get-there, get-gone, is_there}
 use Rattle.mea_named.specs.ByName.{Names, own, count}
 use Rattle.mea_named.specs.Play.{found}
 use Rattle.mea_named.proofs.Cases.{by_found, by_if}
 use Rattle.mea_named.proofs.Own.{own-nothing, count-new, count-gone}
-use Rattle.mea_share_core.specs.Share.{Share, IsWaiting, taken, queued, left, admitting, readied, given_up, released, weighing}
+use Rattle.mea_share_core.specs.Share.{taken, queued, left, readied, given_up, released, weighing}
 use Rattle.mea_share_model.specs.declared.event.ShareEvent.{ShareEvent}
 use Rattle.mea_share_model.specs.declared.event.ShareEvent.TheVariants.{FsNew, FsFree, FsWaiters, FsTry, FsTryo, FsAcq, FsAcqo, FsPoll, FsKey, FsEnd, FsDrop, FsWeight, FsWeightof}
 use Rattle.mea_share_model.specs.Next.{Shares, Waiter, share_at, put_share, waiting_in, next_of}
 use Rattle.mea_share_model.specs.Admissions as admissions
-use Rattle.mea_share_model.specs.Admissions.{Admission, ShareFuture, SharePermit, ShareHall, new_admission, with_share, taken_for, passed, woken, tidied_admissions, things_of}
+use Rattle.mea_share_model.specs.Admissions.{Admission, ShareFuture, SharePermit, ShareHall, new_admission, with_share, taken_for, passed, woken, tidied_admissions}
 use Rattle.mea_share_model.specs.Meaning.{cause_of, step, registers, end_by}
 use Rattle.mea_share_model.specs.ShareFamily.{polled, ends}
 use Rattle.mea_share_model.specs.Valid.{is_of, HasNumber, HasAt, AreValid}
 use Rattle.mea_share_model.proofs.Waiting.{share_put}
-use Rattle.mea_share_model.proofs.Changes.{Change, Nowhere, At, at, Is, No, share_changes, no_change, change_less, passes, then_passes, takes, releases, weighs, gets_ready, gives_up, leaves, begins, waits_again}
+use Rattle.mea_share_model.proofs.Changes.{Change, At, at, Is, No, share_changes, no_change, change_less, passes, then_passes, takes, releases, weighs, gets_ready, gives_up, leaves, begins, waits_again}
+
+-- who is next has its number still
+pub passed_next : (r : Admission) (o : Option Waiter) → (passed r o).next ≡ r.next
+passed_next r None = refl
+passed_next r (Some a) = refl
+
+-- no future has the next number
+pub none_next : (h : ShareHall) → AreValid h → (o : ℕ) (r : Admission) → get h.admissions o ≡ Some r → (g : ℕ) (y : ShareFuture) (n : ℕ) → get h.futures g ≡ Some y → o ≡ y.admission → y.number ≡ Some n → r.next ≡ n
+    → ⊥
+none_next h valid o r there g y n was same of next =
+    let has : HasNumber (share_at r.shares y.key) n = subst (λ p. HasAt p y.key n) (ap (get h.admissions) (sym same) ∙ there) (valid.there g y n was of) in
+    absurd (let low = valid.below o r there y.key n has in omega (arith, low, next))
 
 -- one number of one key, or none
 abbrev pub On : Option (ℕ × ℕ) → ℕ → ℕ → Type 0
@@ -138,12 +150,6 @@ module _ (h : ShareHall) (i : ℕ) where
         → (x.key ≡ y.key) × (k ≡ n) → f ≡ g
     touch f x k is number g y n was same of spot = valid.apart f g x y n is was same (number ∙ ap (λ m. Some m) spot.1) of
 
-    -- no future has the next number
-    touch_next : (o : ℕ) (r : Admission) → get h.admissions o ≡ Some r → (g : ℕ) (y : ShareFuture) (n : ℕ) → get h.futures g ≡ Some y → o ≡ y.admission → y.number ≡ Some n → r.next ≡ n → ⊥
-    touch_next o r there g y n was same of next =
-        let has : HasNumber (share_at r.shares y.key) n = subst (λ p. HasAt p y.key n) (ap (get h.admissions) (sym same) ∙ there) (valid.there g y n was of) in
-        absurd (let low = valid.below o r there y.key n has in omega (arith, low, next))
-
     gone_with : (f g : ℕ) → f ≡ g → get (remove h.futures f) g ≡ None
     gone_with f g same = ap (get (remove h.futures f)) (sym same) ∙ get-gone h.futures f
 
@@ -229,7 +235,7 @@ module _ (h : ShareHall) (i : ℕ) where
             admissions = Put x.admission r (record (with_share r x.key (queued (share_at r.shares x.key) r.next w)) { next = r.next + 1 }) (Some (x.key, r.next)) None [] (at x.key 0) (at x.key 0) there
                 (one_touched x.key r.next r.shares _ r.next (r.next + 1) [] 1 (at x.key 0) (at x.key 0)
                 (share_changes r.shares x.key (queued (share_at r.shares x.key) r.next w) r.next (r.next + 1) (Is r.next) No [] 1 0 0 (begins (share_at r.shares x.key) r.next w) (omega arith)))
-                (λ g y n was same number spot. absurd (touch_next x.admission r there g y n was same number spot.1)) (λ g y n was same number never. absurd never)
+                (λ g y n was same number spot. absurd (none_next h valid x.admission r there g y n was same number spot.1)) (λ g y n was same number never. absurd never)
                 (λ j. refl) (λ p j apart. refl);
             futures = Queued x r is there (waits_now x r w);
             permits = Stay;
@@ -258,10 +264,6 @@ module _ (h : ShareHall) (i : ℕ) where
           (touch f x k is number))
 
     -- ---- what ends a future or a permit
-    passed_next : (r : Admission) (o : Option Waiter) → (passed r o).next ≡ r.next
-    passed_next r None = refl
-    passed_next r (Some a) = refl
-
     -- a permit comes back from a key
     gives : (r r1 : Admission) (s l : Option (ℕ × ℕ)) (more less : ℕ → ℕ) → r1.next ≡ r.next → Change r.shares r1.shares r.next r.next (On s) (On l) [] 0 more less
         → Change r.shares (passed r1 (next_of r1.shares)).shares r.next (passed r1 (next_of r1.shares)).next (On s) (On l) (woken (next_of r1.shares)) 0 more less

@@ -1,18 +1,17 @@
 -- what an event changes at one admission: who keeps its waker, which numbers are there, how many permits live
 use Rattle.std.proofs.Common.{◌≡◌, ℕ, ◌+◌, ◌-◌, ◌<◌, ◌≤◌, ◌==◌, ◌⊎◌, inl, inr, Bool, true, false, cond, length, List, [], ◌∷◌, Option, Some, None, IsSome, is_some, refl, ap, sym, subst, ◌∙◌, arith}
 use Rattle.std.specs.List.{Contains}
-use Rattle.std.specs.Ordering.{nat_cmp}
 use Rattle.std.specs.Cmp.{nat_cmp_total}
 use Rattle.std.specs.FinMap.{get, insert, remove, len, len-insert, len-remove}
 use Rattle.std.proofs.lemmas.Bool.{eqb-true, eqb-false, eq-eqb, ne_eqb}
 use Rattle.std.proofs.lemmas.List.Elements.{Contains-push}
-use Rattle.mea_base.specs.Totals.{total, weight}
-use Rattle.mea_base.proofs.Maps.{by_put, by_gone, get-there, get-other, get-removed_other, is_there, value_in, inside}
+use Rattle.mea_base.specs.Totals.{weight}
+use Rattle.mea_base.proofs.Maps.{by_put, by_gone, get-there, get-other, get-removed_other, is_there, inside}
 use Rattle.mea_base.proofs.Tests.{by_name}
 use Rattle.mea_named.proofs.Own.{len-gone, len-some}
 use Rattle.mea_share_core.specs.Share.{Share, waiting_of, IsWaiting, IsAdmitted, taken, queued, left, admitting, readied, given_up, released, weighing}
 use Rattle.mea_share_model.specs.Next.{Shares, Waiter, share_at, put_share, waiting_in, next_of}
-use Rattle.mea_share_model.specs.Admissions.{Admission, with_share, passed, woken}
+use Rattle.mea_share_model.specs.Admissions.{Admission, passed, woken}
 use Rattle.mea_share_model.specs.Valid.{HasNumber}
 use Rattle.mea_share_model.proofs.Waiting.{share_put, waiting_put, share_waits, next_is}
 

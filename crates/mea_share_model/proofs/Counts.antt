@@ -1,8 +1,7 @@
 -- how many wakers are registered, after any event of any hall
-use Rattle.std.proofs.Common.{◌≡◌, ℕ, ◌+◌, ◌-◌, ◌≤◌, ◌==◌, Bool, true, false, cond, length, List, [], ◌∷◌, Option, Some, None, is_some, if◌then◌else◌, refl, ap, sym, subst, ◌∙◌, arith}
-use Rattle.std.specs.Ordering.{nat_cmp}
+use Rattle.std.proofs.Common.{◌≡◌, ℕ, ◌+◌, ◌-◌, ◌≤◌, ◌==◌, Bool, true, false, cond, length, List, [], Option, Some, None, is_some, refl, ap, ◌∙◌, arith}
 use Rattle.std.specs.Cmp.{nat_cmp_total}
-use Rattle.std.specs.FinMap.{get, insert, remove, len, empty, len-insert, len-remove}
+use Rattle.std.specs.FinMap.{get, insert, remove, len, len-insert, len-remove}
 use Rattle.mea_base.specs.declared.answer.Answer.TheVariants as answers
 use Rattle.mea_base.specs.Totals.{total, weight}
 use Rattle.mea_base.specs.Family.{Outcome, quietly}
@@ -17,7 +16,7 @@ use Rattle.mea_share_model.specs.declared.event.ShareEvent.{ShareEvent}
 use Rattle.mea_share_model.specs.declared.event.ShareEvent.TheVariants.{FsNew, FsFree, FsWaiters, FsTry, FsTryo, FsAcq, FsAcqo, FsPoll, FsKey, FsEnd, FsDrop, FsWeight, FsWeightof}
 use Rattle.mea_share_model.specs.Next.{Shares, Waiter, share_at, put_share, waiting_in, next_of}
 use Rattle.mea_share_model.specs.Admissions as admissions
-use Rattle.mea_share_model.specs.Admissions.{Admission, ShareFuture, SharePermit, ShareHall, new_admission, with_share, passed, woken, registered, tidied_admissions, things_of}
+use Rattle.mea_share_model.specs.Admissions.{Admission, ShareFuture, ShareHall, new_admission, with_share, passed, woken, registered, tidied_admissions, things_of}
 use Rattle.mea_share_model.specs.Meaning.{step, registers, end_by}
 use Rattle.mea_share_model.proofs.Waiting.{waiting_put, share_waits, next_is}
 use Rattle.mea_share_model.proofs.Changes.{len-least, less-least}

@@ -1,12 +1,11 @@
 -- what holds of every hall that events reach
-use Rattle.std.proofs.Common.{◌≡◌, ℕ, ◌+◌, ◌<◌, ◌≤◌, ◌==◌, ◌&&◌, ◌⊎◌, inl, inr, Bool, true, false, cond, List, [], Option, Some, None, IsSome, refl, ap, sym, subst, ◌∙◌, arith}
-use Rattle.std.specs.Ordering.{nat_cmp}
-use Rattle.std.specs.FinMap.{get, insert, remove, empty, get-empty}
-use Rattle.std.proofs.lemmas.Bool.{eqb-false, ne_eqb}
+use Rattle.std.proofs.Common.{◌≡◌, ℕ, ◌+◌, ◌<◌, ◌≤◌, ◌==◌, ◌&&◌, ◌⊎◌, inl, inr, cond, List, Option, Some, None, refl, ap, sym, subst, ◌∙◌, arith}
+use Rattle.std.specs.FinMap.{get, insert, remove, empty}
+use Rattle.std.proofs.lemmas.Bool.{ne_eqb}
 use Rattle.mea_base.specs.Family.{Runs, RunOf, Starts, Goes}
-use Rattle.mea_base.proofs.Maps.{by_put, by_gone, get-there, get-other, get-removed_other, is_there, value_in, inside, removed_there, nothing_at, nothing_there, at-empty}
+use Rattle.mea_base.proofs.Maps.{by_put, by_gone, get-there, get-other, get-removed_other, value_in, inside, removed_there, nothing_at, nothing_there, at-empty}
 use Rattle.mea_base.proofs.Tests.{by_name}
-use Rattle.mea_base.proofs.Totals.{total-zero, total-empty}
+use Rattle.mea_base.proofs.Totals.{total-zero}
 use Rattle.mea_named.specs.ByName.{Names, count}
 use Rattle.mea_named.proofs.OneObject.{IsBelow, below_put, below_gone, below_later}
 use Rattle.mea_share_core.specs.Share.{Share, new_share}
@@ -16,7 +15,7 @@ use Rattle.mea_share_model.specs.Admissions.{Admission, ShareFuture, SharePermit
 use Rattle.mea_share_model.specs.Meaning.{cause_of, step, registers}
 use Rattle.mea_share_model.specs.ShareFamily.{shares_family}
 use Rattle.mea_share_model.specs.Valid.{is_of, HasNumber, HasAt, AreValid}
-use Rattle.mea_share_model.proofs.Acting.{On, AdmissionsGo, Same, Put, Made, Gone, FuturesGo, Kept, Begun, Queued, Ended, PermitsGo, Stay, Come, Leave, Acts, acts}
+use Rattle.mea_share_model.proofs.Acting.{AdmissionsGo, Same, Put, Made, Gone, FuturesGo, Kept, Begun, Queued, Ended, PermitsGo, Stay, Come, Leave, Acts, acts, none_next}
 
 -- all names are below n, and so are the admissions of futures and permits
 pub record AreLow (h : ShareHall) (n : ℕ) : Type 0 where
@@ -154,12 +153,6 @@ module _ (h : ShareHall) (n i : ℕ) (low : AreLow h n) (later : n ≤ i) where
         (λ apart. has_after f extra (insert h.futures f (record y { number = Some r.next })) ps rs ws went g z m (sym (get-other h.futures f g (record y { number = Some r.next }) apart) ∙ is) is of)
     there_after f extra ps rs ws _ went Ended g z m is of = has_after f extra (remove h.futures f) ps rs ws went g z m (removed_there h.futures f g z is) is of
 
-    -- a future that was there has not the next number
-    not_next : (o : ℕ) (r : Admission) → get h.admissions o ≡ Some r → (g : ℕ) (z : ShareFuture) (m : ℕ) → get h.futures g ≡ Some z → o ≡ z.admission → z.number ≡ Some m → r.next ≡ m → ⊥
-    not_next o r there g z m is mine of next =
-        let has : HasNumber (share_at r.shares z.key) m = subst (λ t. HasAt t z.key m) (ap (get h.admissions) (sym mine) ∙ there) (valid.there g z m is of) in
-        absurd (let small = valid.below o r there z.key m has in omega (arith, small, next))
-
     no_number : (m : ℕ) → ◌≡◌ {A = Option ℕ} None (Some m) → ⊥
     no_number m is = absurd (cc)
 
@@ -181,7 +174,7 @@ module _ (h : ShareHall) (n i : ℕ) (low : AreLow h n) (later : n ≤ i) where
             → f ≡ a → (f ≡ b → ⊥) → u.admission ≡ v.admission → u.number ≡ Some m → v.number ≡ Some m → ⊥
         fresh a u b v isa isb here apart same one two =
             let mine : record z { number = Some r.next } ≡ u = inside (sym (get-there h.futures f (record z { number = Some r.next })) ∙ ap (get (insert h.futures f (record z { number = Some r.next }))) here ∙ isa) in
-            not_next z.admission r there b v m (sym (get-other h.futures f b (record z { number = Some r.next }) apart) ∙ isb) (ap (λ (t : ShareFuture). t.admission) mine ∙ same) two
+            none_next h valid z.admission r there b v m (sym (get-other h.futures f b (record z { number = Some r.next }) apart) ∙ isb) (ap (λ (t : ShareFuture). t.admission) mine ∙ same) two
             (inside (ap (λ (t : ShareFuture). t.number) mine ∙ one))
     apart_after f rs _ Ended g j x y m first second same one two = valid.apart g j x y m (removed_there h.futures f g x first) (removed_there h.futures f j y second) same one two
 

@@ -1,12 +1,11 @@
 -- while anyone waits no permit is free, after any event
-use Rattle.std.proofs.Common.{◌≡◌, ℕ, ◌+◌, ◌-◌, ◌<◌, ◌≤◌, ◌==◌, ◌⊎◌, inl, inr, Bool, true, false, cond, Option, Some, None, is_some, if◌then◌else◌, refl, ap, sym, subst, ◌∙◌, arith}
-use Rattle.std.specs.Ordering.{nat_cmp}
+use Rattle.std.proofs.Common.{◌≡◌, ℕ, ◌+◌, ◌-◌, ◌<◌, ◌≤◌, ◌==◌, inl, inr, Bool, true, false, cond, Option, Some, None, is_some, refl, ap, sym, subst, arith}
 use Rattle.std.specs.Cmp.{nat_cmp_total}
-use Rattle.std.specs.FinMap.{get, insert, remove, len, empty, len-insert, len-remove}
+use Rattle.std.specs.FinMap.{get, insert, remove, len, len-insert, len-remove}
 use Rattle.std.proofs.lemmas.Bool.{eqb-true, eqb-false, cases_lt}
 use Rattle.mea_base.specs.declared.answer.Answer.TheVariants as answers
 use Rattle.mea_base.specs.declared.stop.Stop.TheVariants as stops
-use Rattle.mea_base.specs.Family.{Outcome, quietly, Runs, RunOf, Starts, Goes}
+use Rattle.mea_base.specs.Family.{Outcome, Runs, RunOf, Starts, Goes}
 use Rattle.mea_base.proofs.Maps.{by_put, removed_there, nothing_at, inside, at-empty}
 use Rattle.mea_base.proofs.Totals.{total-empty}
 use Rattle.mea_named.specs.ByName.{Names}
@@ -15,14 +14,14 @@ use Rattle.mea_named.proofs.Cases.{by_found, by_if}
 use Rattle.mea_share_core.specs.Share.{Share, new_share, waiting_of, taken, queued, left, admitting, readied, given_up, released, weighing}
 use Rattle.mea_share_model.specs.declared.event.ShareEvent.{ShareEvent}
 use Rattle.mea_share_model.specs.declared.event.ShareEvent.TheVariants.{FsNew, FsFree, FsWaiters, FsTry, FsTryo, FsAcq, FsAcqo, FsPoll, FsKey, FsEnd, FsDrop, FsWeight, FsWeightof}
-use Rattle.mea_share_model.specs.Next.{Shares, Waiter, share_at, put_share, waiting_in, next_of}
+use Rattle.mea_share_model.specs.Next.{Shares, Waiter, share_at, put_share, next_of}
 use Rattle.mea_share_model.specs.Admissions as admissions
-use Rattle.mea_share_model.specs.Admissions.{Admission, ShareFuture, ShareHall, empty_hall, new_admission, with_share, passed, tidied_admissions, things_of, is_named, is_named_one}
+use Rattle.mea_share_model.specs.Admissions.{Admission, ShareFuture, ShareHall, new_admission, with_share, passed, tidied_admissions, things_of, is_named}
 use Rattle.mea_share_model.specs.Meaning.{cause_of, step, end_by, refused_if}
 use Rattle.mea_share_model.specs.ShareFamily.{shares_family}
 use Rattle.mea_share_model.specs.Settled.{IsSettled, AreSettled}
-use Rattle.mea_share_model.proofs.Changes.{len-least, less-least}
-use Rattle.mea_share_model.proofs.Waiting.{share_put, waiting_put, share_waits, next_is}
+use Rattle.mea_share_model.proofs.Changes.{less-least}
+use Rattle.mea_share_model.proofs.Waiting.{share_put, waiting_put}
 use Rattle.mea_share_model.proofs.Least.{nobody_waits}
 
 -- weights are above 0, and it is settled

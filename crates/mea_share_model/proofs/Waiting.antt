@@ -1,8 +1,7 @@
 -- what the keys of an admission have after a change, and who is next of those that wait
 use Rattle.std.proofs.Common.{◌≡◌, ℕ, ◌+◌, ◌*◌, ◌<◌, ◌≤◌, ◌==◌, ◌&&◌, ◌||◌, ◌⊎◌, inl, inr, Bool, true, false, cond, List, [], ◌∷◌, ◌++◌, Option, Some, None, IsSome, unwrap_or, nat_lt, if◌then◌else◌, refl, ap, sym, subst, ◌∙◌, arith}
 use Rattle.std.specs.Ordering.{nat_cmp}
-use Rattle.std.specs.Cmp.{nat_cmp_total}
-use Rattle.std.specs.FinMap.{get, insert, remove, entries, find, get-entries, len, len-insert, len-remove, len-empty}
+use Rattle.std.specs.FinMap.{get, insert, remove, entries, find, get-entries, len-empty}
 use Rattle.std.proofs.lemmas.Bool.{eqb-true, cases_lt}
 use Rattle.std.proofs.lemmas.Bool.Decides.{nat_tests}
 use Rattle.mea_base.specs.Totals.{total, weight}
@@ -14,6 +13,7 @@ use Rattle.mea_share_core.specs.Groups.{IsBefore}
 use Rattle.mea_share_core.proofs.Kept.{idle_share}
 use Rattle.mea_share_model.specs.Next.{Shares, Waiter, share_at, is_idle, put_share, waiting_in, waiters_of, waiters_among, waiters_in, goes_before, none_before, first_of, next_of, IsNextIn}
 use Rattle.mea_share_model.proofs.Sorted.{AllIn, all_there}
+use Rattle.mea_share_core.proofs.Ranks.{reads}
 
 -- ---- a key has something else
 both_true : (a b : Bool) → a && b ≡ true → (a ≡ true) × (b ≡ true)
@@ -141,8 +141,6 @@ waits_there m k n w waits = at (get m k) refl waits
     at (Some s) is found = is
 
 -- ---- who is next
-reads : (x y i j : ℕ) → nat_lt x y || ((x == y) && nat_lt i j) ≡ false → (y ≤ x) × (x ≡ y → j ≤ i)
-reads x y i j is = (grind (arith, nat_tests), λ same. grind (arith, nat_tests))
 
 not_before : (a b : Waiter) → goes_before a b ≡ false → IsBefore a.share a.number b.share b.number → ⊥
 not_before a b is = at (reads (held_of a.share * b.share.weight) (held_of b.share * a.share.weight) a.number b.number is)

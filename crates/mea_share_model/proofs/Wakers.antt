@@ -1,31 +1,28 @@
 -- the wakers of futures that wait
-use Rattle.std.proofs.Common.{◌≡◌, ℕ, ◌+◌, ◌<◌, ◌≤◌, ◌==◌, ◌⊎◌, inl, inr, Bool, true, false, cond, length, List, [], Option, Some, None, IsSome, is_some, if◌then◌else◌, refl, ap, sym, subst, ◌∙◌, arith}
+use Rattle.std.proofs.Common.{◌≡◌, ℕ, ◌+◌, ◌≤◌, ◌==◌, ◌⊎◌, inl, inr, Bool, true, false, cond, List, Option, Some, None, IsSome, is_some, refl, ap, sym, subst, ◌∙◌}
 use Rattle.std.specs.List.{Contains}
-use Rattle.std.specs.Ordering.{nat_cmp}
-use Rattle.std.specs.FinMap.{get, insert, remove}
+use Rattle.std.specs.FinMap.{get}
 use Rattle.std.proofs.lemmas.Bool.{eqb-true, eq-eqb}
 use Rattle.mea_base.specs.declared.answer.Answer.TheVariants as answers
 use Rattle.mea_base.specs.Causes.{unknown_unless}
-use Rattle.mea_base.specs.Totals.{total, weight}
-use Rattle.mea_base.specs.Family.{Outcome, quietly, Runs, RunOf, KeepsWakers, LosesNoWake, NamesFutures}
-use Rattle.mea_base.proofs.Totals.{total-insert, total-remove, total-empty}
-use Rattle.mea_base.proofs.Maps.{by_put, by_gone, get-there, get-other, get-removed_other, is_there, value_in, inside, removed_there, total-has}
+use Rattle.mea_base.specs.Family.{Outcome, Runs, RunOf, KeepsWakers, LosesNoWake, NamesFutures}
+use Rattle.mea_base.proofs.Maps.{by_put, by_gone, get-there, get-other, get-removed_other, is_there, value_in, inside}
 use Rattle.mea_base.proofs.Tests.{by_name}
 use Rattle.mea_base.proofs.Wakes.{loses_no_wake}
 use Rattle.mea_named.specs.ByName.{Names}
 use Rattle.mea_named.specs.Play.{found}
-use Rattle.mea_named.proofs.Cases.{by_found, by_if, found_is, if_true}
+use Rattle.mea_named.proofs.Cases.{by_found, by_if, if_true}
 use Rattle.mea_share_core.specs.Share.{Share, queued}
 use Rattle.mea_share_model.specs.declared.event.ShareEvent.{ShareEvent}
 use Rattle.mea_share_model.specs.declared.event.ShareEvent.TheVariants.{FsNew, FsFree, FsWaiters, FsTry, FsTryo, FsAcq, FsAcqo, FsPoll, FsKey, FsEnd, FsDrop, FsWeight, FsWeightof}
-use Rattle.mea_share_model.specs.Next.{Shares, share_at, put_share, waiting_in}
+use Rattle.mea_share_model.specs.Next.{Shares, share_at, put_share}
 use Rattle.mea_share_model.specs.Admissions as admissions
-use Rattle.mea_share_model.specs.Admissions.{Admission, ShareFuture, SharePermit, ShareHall, new_admission, with_share, waker_under, waker_at, placed, registered}
+use Rattle.mea_share_model.specs.Admissions.{Admission, ShareFuture, SharePermit, ShareHall, new_admission, with_share, waker_under, waker_at, placed}
 use Rattle.mea_share_model.specs.Meaning.{cause_of, step, registers}
 use Rattle.mea_share_model.specs.ShareFamily.{polled, ends, shares_family}
 use Rattle.mea_share_model.specs.Valid.{AreValid}
 use Rattle.mea_share_model.proofs.Waiting.{share_put}
-use Rattle.mea_share_model.proofs.Acting.{On, AdmissionsGo, Same, Put, Made, Gone, FuturesGo, Kept, Begun, Queued, Ended, Touches, Fresh, Polled, Ends, Acts, acts}
+use Rattle.mea_share_model.proofs.Acting.{AdmissionsGo, Same, Put, Made, Gone, FuturesGo, Kept, Begun, Queued, Ended, Touches, Fresh, Polled, Ends, Acts}
 use Rattle.mea_share_model.proofs.Keeping.{AreLow, did, reached, no_future, no_admission}
 
 no_waker : (w : ℕ) → ◌≡◌ {A = Option ℕ} None (Some w) → ⊥

@@ -11,7 +11,7 @@ use Rattle.mea_share_model.specs.declared.event.ShareEvent.{ShareEvent}
 use Rattle.mea_share_model.specs.declared.event.ShareEvent.TheVariants.{FsNew, FsFree, FsWaiters, FsTry, FsTryo, FsAcq, FsAcqo, FsPoll, FsKey, FsEnd, FsDrop, FsWeight, FsWeightof}
 use Rattle.mea_share_model.specs.Next.{share_at, waiting_in}
 use Rattle.mea_share_model.specs.Admissions as admissions
-use Rattle.mea_share_model.specs.Admissions.{ShareHall, ShareFuture, SharePermit, is_named, is_future, is_permit, plain_of}
+use Rattle.mea_share_model.specs.Admissions.{ShareHall, ShareFuture, is_named, is_future, is_permit, plain_of}
 
 -- unknown, unless this is known; and then refused where that holds
 abbrev pub refused_if : Bool → Bool → Stop → Option Stop

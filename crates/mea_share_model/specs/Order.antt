@@ -1,5 +1,5 @@
 -- the order in which those that wait are admitted
-use Rattle.std.specs.Prelude.{ℕ, ◌≡◌, ◌⊎◌, List, [], ◌∷◌, Some}
+use Rattle.std.specs.Prelude.{ℕ, ◌≡◌, ◌⊎◌, [], ◌∷◌, Some}
 use Rattle.std.specs.FinMap.{get}
 use Rattle.mea_base.specs.Family.{Outcome}
 use Rattle.mea_share_core.specs.Share.{Share, admitting}

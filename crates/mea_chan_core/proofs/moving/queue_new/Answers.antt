@@ -1,5 +1,4 @@
-use Rattle.std.proofs.Common.{◌≡◌, ◌-◌, ◌<◌, ◌≤◌, ℕ, ap, sym, ◌∙◌, arith}
-use Rattle.mea_sem_core.specs.Core.{Core}
+use Rattle.std.proofs.Common.{◌≡◌, ◌-◌, ◌<◌, ℕ, ap, sym, ◌∙◌, arith}
 use Rattle.mea_chan_core.proofs.Senders.{undone}
 use Rattle.mea_chan_core.proofs.moving.queue_new.Goals as goal
 

@@ -1,5 +1,5 @@
 use Rattle.std.proofs.Common.{◌+◌, ◌-◌, ◌<◌, ◌≤◌, ◌++◌, ◌∙◌, ℕ, Some, ap, sym, drop, length, arith, length-take}
-use Rattle.mea_run.proofs.Ended.{no_line, taken_further, taken_to}
+use Rattle.mea_run.proofs.Ended.{taken_further, taken_to}
 use Rattle.mea_run.proofs.Tells.{goes_alike, ends_later}
 use Rattle.mea_run.proofs.Pieces.{took, pieces_on, nothing_left, no_room, stops_later_status, stops_later}
 use Rattle.mea_run.proofs.running.play_pieces.Goals as goal

@@ -1,7 +1,6 @@
-use Rattle.std.proofs.Common.{◌≡◌, ◌≢◌, not, eqb, false, true, sym, ap, ◌∙◌, map, arith}
+use Rattle.std.proofs.Common.{◌≡◌, ◌≢◌, not, eqb, false, true, sym, ap, ◌∙◌, arith}
 use Rattle.std.proofs.lemmas.Bool.{eq-eqb, ne_eqb}
-use Rattle.mea_base.specs.WaitList.{trim}
-use Rattle.mea_base.specs.WaitListLinks.{next_in, prev_in, value_of}
+use Rattle.mea_base.specs.WaitListLinks.{next_in}
 use Rattle.mea_base.proofs.Chains.{without-absent}
 use Rattle.mea_base.proofs.WaitLinks.{any_key, used_node, node_behind, sentinel_here, around, absent_here, alone_here, before_moves, linked_test, left_alone, taken_out, after_unlink, after_nothing, same_view}
 use Rattle.mea_base.proofs.wait_list.WaitList.unlink_counted.Goals as goal

@@ -1,4 +1,4 @@
-use Rattle.std.proofs.Common.{◌≡◌, ◌+◌, ◌≤◌, [], length, refl, ap, sym, ◌∙◌, arith, rules}
+use Rattle.std.proofs.Common.{length, ap, arith}
 use Rattle.mea_sem_core.proofs.Ones.{ones_no_debt, ones_lacks}
 use Rattle.mea_chan_core.proofs.Senders.{wakes_all}
 use Rattle.mea_chan_core.proofs.bounded.BoundedCore.end_receiver.Goals as goal

@@ -1,4 +1,4 @@
-use Rattle.std.proofs.Common.{◌≡◌, ◌+◌, ◌≤◌, [], length, refl, ap, sym, ◌∙◌, arith, rules}
+use Rattle.std.proofs.Common.{length, ap, arith}
 use Rattle.mea_chan_core.proofs.Senders.{cancels_keeps}
 use Rattle.mea_chan_core.proofs.bounded.BoundedCore.end_send.Goals as goal
 

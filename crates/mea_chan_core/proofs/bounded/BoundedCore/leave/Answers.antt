@@ -1,4 +1,4 @@
-use Rattle.std.proofs.Common.{◌≡◌, ◌+◌, ◌≤◌, [], length, refl, ap, sym, ◌∙◌, arith, rules}
+use Rattle.std.proofs.Common.{refl, arith}
 use Rattle.mea_chan_core.proofs.Senders.{loses_keeps}
 use Rattle.mea_chan_core.proofs.bounded.BoundedCore.leave.Goals as goal
 

@@ -1,4 +1,4 @@
-use Rattle.std.proofs.Common.{sym, ap, ◌∙◌, Err, rules}
+use Rattle.std.proofs.Common.{sym, ap, ◌∙◌, Err}
 use Rattle.mea_chan_core.proofs.Sends.{polls_sent, polls_refused, polls_full}
 use Rattle.mea_chan_core.proofs.bounded.BoundedCore.poll_send.Goals as goal
 

@@ -1,4 +1,4 @@
-use Rattle.std.proofs.Common.{◌≡◌, ◌+◌, ◌≤◌, length, arith, rules}
+use Rattle.std.proofs.Common.{arith}
 use Rattle.mea_chan_core.proofs.Senders.{rewakes_there}
 use Rattle.mea_chan_core.proofs.bounded.BoundedCore.replace_waker.Goals as goal
 

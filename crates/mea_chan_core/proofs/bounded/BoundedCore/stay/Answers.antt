@@ -1,4 +1,4 @@
-use Rattle.std.proofs.Common.{Ok, refl, rules}
+use Rattle.std.proofs.Common.{Ok, refl}
 use Rattle.mea_chan_core.proofs.Sends.{stays_there, stays_out}
 use Rattle.mea_chan_core.proofs.bounded.BoundedCore.stay.Goals as goal
 

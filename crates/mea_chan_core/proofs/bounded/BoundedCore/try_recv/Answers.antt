@@ -1,4 +1,4 @@
-use Rattle.std.proofs.Common.{◌≡◌, ◌+◌, ◌≤◌, [], length, refl, ap, sym, ◌∙◌, arith, rules}
+use Rattle.std.proofs.Common.{length, ap, sym, ◌∙◌, arith}
 use Rattle.mea_chan_core.proofs.Senders.{makes_way}
 use Rattle.mea_chan_core.proofs.bounded.BoundedCore.try_recv.Goals as goal
 

@@ -1,4 +1,4 @@
-use Rattle.std.proofs.Common.{inl, sym, ◌∙◌}
+use Rattle.std.proofs.Common.{inl}
 use Rattle.mea_lock_core.proofs.Changes.{in_use, waits_note, rewoken_note, sound_of}
 use Rattle.mea_lock_core.proofs.Kept.{noted_rewoken_by}
 use Rattle.mea_lock_core.proofs.condvar_core.CondvarCore.rewake.Goals as goal

@@ -1,6 +1,6 @@
 use Rattle.std.proofs.Common.{rules, Some, None, refl, sym, ap, ◌∙◌, arith}
 use Rattle.std.specs.Option.{option_copied_mut}
-use Rattle.mea_meet.proofs.Maps.{changes_twice}
+use Rattle.mea_base.proofs.NamedMaps.{changes_twice}
 use Rattle.mea_meet.proofs.BarrierStores.{wait_found, its_barrier, room, kept_unchanged, seen_unchanged}
 use Rattle.mea_meet.proofs.BarrierOutcomes as outcomes
 use Rattle.mea_meet.proofs.barriers.BarrierHall.poll.Goals as goal

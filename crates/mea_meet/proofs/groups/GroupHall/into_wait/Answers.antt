@@ -1,10 +1,11 @@
-use Rattle.std.proofs.Common.{rules, ℕ, ◌+◌, ◌<◌, ◌^◌, List, Result, Ok, Err, OnErr, refl, sym, subst, ap, ◌∙◌, arith}
+use Rattle.std.proofs.Common.{rules, ℕ, ◌+◌, ◌<◌, ◌^◌, List, refl, sym, subst, ap, ◌∙◌, arith}
 use Rattle.std.specs.Option.{option_copied, option_copied_mut}
 use Rattle.mea_meet.specs.GroupHall.{store_of, groups_of, IsKept}
 use Rattle.mea_meet.specs.declared.groups.GroupWaitEntry.{GroupWaitEntry}
 use Rattle.mea_meet.proofs.GroupStores.{handle_found, group_of_handle, room}
 use Rattle.mea_meet.proofs.GroupPlays.{few_waits, quiet, lives, turns}
 use Rattle.mea_meet.proofs.groups.GroupHall.into_wait.Goals as goal
+use Rattle.mea_base.proofs.Tests.{on_err}
 
 pub unreachable-requires : goal.unreachable-requires
 unreachable-requires c = handle_found c.self.inside c.args.self.now c.self.view_is c.args.k c.requires.there
@@ -13,10 +14,6 @@ unreachable-requires c = handle_found c.self.inside c.args.self.now c.self.view_
 pub invariant_of-self : goal.invariant_of-self
 invariant_of-self c = subst (λ (ws : List (ℕ × GroupWaitEntry)). IsKept (store_of c.self.inside.groups.entries c.self.inside.handles.entries ws)
     c.self.inside.next) (sym c.in_err-insert.ensures.err) c.self.invariant
-
-on_err : {A E : Type 0} (r : Result A E) (P : Type 0) → P → OnErr r P
-on_err (Ok a) P p = tt
-on_err (Err e) P p = p
 
 pub returns-in_err-insert-clause-err : goal.returns-in_err-insert-clause-err
 returns-in_err-insert-clause-err c = on_err c.from_residual.result _ (

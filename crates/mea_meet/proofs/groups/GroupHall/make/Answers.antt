@@ -1,5 +1,5 @@
 use Rattle.std.proofs.Common.{Some, None, arith}
-use Rattle.mea_meet.proofs.Maps.{changes_twice}
+use Rattle.mea_base.proofs.NamedMaps.{changes_twice}
 use Rattle.mea_meet.proofs.GroupPlays.{kept_undone, seen_undone, makes}
 use Rattle.mea_meet.proofs.groups.GroupHall.make.Goals as goal
 

@@ -2,7 +2,7 @@ use Rattle.std.proofs.Common.{rules, ◌≡◌, ◌+◌, ◌≤◌, Some, None, 
 use Rattle.std.specs.Option.{option_copied_mut}
 use Rattle.mea_meet.specs.GroupHall.{wakers_left}
 use Rattle.mea_meet.specs.declared.groups.GroupEntry.{GroupEntry}
-use Rattle.mea_meet.proofs.Maps.{changes_twice}
+use Rattle.mea_base.proofs.NamedMaps.{changes_twice}
 use Rattle.mea_meet.proofs.GroupStores.{wait_found, group_of_wait, room, kept_unchanged, seen_unchanged}
 use Rattle.mea_meet.proofs.GroupPlays.{tidied_at, tidied_if, if_tidied, waits, slot_given, waits_on, is_ready}
 use Rattle.mea_meet.proofs.groups.GroupHall.poll.Goals as goal

@@ -2,7 +2,8 @@ use Rattle.std.proofs.Common.{rules, ◌≡◌, Some, false, sym, ap, ◌∙◌,
 use Rattle.std.specs.Option.{option_copied_mut}
 use Rattle.mea_base.specs.Named.{at}
 use Rattle.mea_meet.proofs.LatchStanding.{never_named, room_at, let_go_most, drops_at}
-use Rattle.mea_meet.proofs.Maps.{changes_twice, changed_at, some_if}
+use Rattle.mea_base.proofs.NamedMaps.{changes_twice, changed_at}
+use Rattle.mea_meet.proofs.Maps.{some_if}
 use Rattle.mea_meet.proofs.latches.LatchHall.drop.Goals as goal
 
 pub unreachable-requires : goal.unreachable-requires

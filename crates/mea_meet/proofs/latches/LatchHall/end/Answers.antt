@@ -4,7 +4,8 @@ use Rattle.mea_base.specs.Named.{ChangesAt}
 use Rattle.mea_meet.specs.LatchHall.{ended, tidied, let_go}
 use Rattle.mea_meet.specs.declared.latches.LatchEntry.{LatchEntry}
 use Rattle.mea_meet.proofs.LatchStanding.{never_wait, never_latch, endable_with, let_go_most, ends_at}
-use Rattle.mea_meet.proofs.Maps.{changes_twice, changed_at, some_if}
+use Rattle.mea_base.proofs.NamedMaps.{changes_twice, changed_at}
+use Rattle.mea_meet.proofs.Maps.{some_if}
 use Rattle.mea_meet.proofs.latches.LatchHall.end.Goals as goal
 
 pub unreachable-requires : goal.unreachable-requires

@@ -4,7 +4,8 @@ use Rattle.std.specs.FinMap.{get}
 use Rattle.mea_base.specs.declared.answer.Answer.TheVariants as answers
 use Rattle.mea_meet_model.specs.Shutdowns.{copy_sender_of}
 use Rattle.mea_meet.specs.ShutdownHall.{hall_of}
-use Rattle.mea_meet.proofs.Maps.{kept-puts, not_none}
+use Rattle.mea_base.proofs.Maps.{not_none}
+use Rattle.mea_meet.proofs.Maps.{kept-puts}
 use Rattle.mea_meet.proofs.ShutdownSeen.{kept_in, sender-at, shutdown-kept}
 use Rattle.mea_meet.proofs.ShutdownPlays.{rests, copy_sender_goes}
 use Rattle.mea_meet.proofs.shutdowns.ShutdownHall.copy_sender.Goals as goal

@@ -3,7 +3,7 @@ use Rattle.std.specs.Option.{option_copied}
 use Rattle.std.specs.FinMap.{get}
 use Rattle.mea_meet.proofs.ShutdownSeen.{kept_in, receiver-at, receiver-there, borrowers-seen}
 use Rattle.mea_meet.proofs.shutdowns.ShutdownHall.is_borrowed.Goals as goal
-use Rattle.mea_meet.proofs.Maps.{not_none}
+use Rattle.mea_base.proofs.Maps.{not_none}
 
 pub unreachable-requires : goal.unreachable-requires
 unreachable-requires c =

@@ -4,7 +4,7 @@ use Rattle.std.specs.FinMap.{get}
 use Rattle.mea_meet.proofs.ShutdownSeen.{kept_in, wait-at, wait-there, shutdown-kept}
 use Rattle.mea_meet.proofs.ShutdownGone.{waits-seen, poll_finished}
 use Rattle.mea_meet.proofs.shutdowns.ShutdownHall.poll.Goals as goal
-use Rattle.mea_meet.proofs.Maps.{not_none}
+use Rattle.mea_base.proofs.Maps.{not_none}
 
 pub unreachable-requires : goal.unreachable-requires
 unreachable-requires c =

@@ -2,7 +2,8 @@ use Rattle.std.proofs.Common.{rules, ◌++◌, ◌+◌, ◌≡◌, None, Some, s
 use Rattle.std.specs.Option.{option_map, option_copied_mut}
 use Rattle.std.specs.FinMap.{get}
 use Rattle.mea_meet.specs.ShutdownHall.{receiver_of, borrowers_in}
-use Rattle.mea_meet.proofs.Maps.{kept-puts, kept-puts-as, not_none, if_some}
+use Rattle.mea_base.proofs.Maps.{not_none}
+use Rattle.mea_meet.proofs.Maps.{kept-puts, kept-puts-as, if_some}
 use Rattle.mea_meet.proofs.ShutdownSeen.{kept_in, receiver-at, receiver-there, receiver-seen, borrowers-seen, shutdown-kept, still-there}
 use Rattle.mea_meet.proofs.ShutdownChanges.{wakers-within}
 use Rattle.mea_meet.proofs.ShutdownReceivers.{receiver_counted, receiver_lives, remove_receiver_wakes, remove_receiver_woken}

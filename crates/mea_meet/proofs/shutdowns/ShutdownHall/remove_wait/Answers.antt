@@ -1,7 +1,8 @@
 use Rattle.std.proofs.Common.{rules, ◌+◌, ◌-◌, ◌≡◌, None, Some, sym, ap, ◌∙◌, refl, arith}
 use Rattle.std.specs.Option.{option_map, option_copied_mut}
 use Rattle.std.specs.FinMap.{get}
-use Rattle.mea_meet.proofs.Maps.{kept-puts, not_none, if_some}
+use Rattle.mea_base.proofs.Maps.{not_none}
+use Rattle.mea_meet.proofs.Maps.{kept-puts, if_some}
 use Rattle.mea_meet.specs.ShutdownHall.{wait_of}
 use Rattle.mea_meet.proofs.ShutdownSeen.{kept_in, wait-at, wait-there, wait-seen, shutdown-kept, still-there}
 use Rattle.mea_meet.proofs.ShutdownEnds.{can_give_back, wait_counted, remove_wait_goes}

@@ -3,7 +3,8 @@ use Rattle.std.specs.Option.{option_copied, option_copied_mut}
 use Rattle.std.specs.FinMap.{get}
 use Rattle.mea_base.specs.declared.answer.Answer.TheVariants as answers
 use Rattle.mea_meet.specs.ShutdownHall.{hall_of}
-use Rattle.mea_meet.proofs.Maps.{kept-puts-as, not_none}
+use Rattle.mea_base.proofs.Maps.{not_none}
+use Rattle.mea_meet.proofs.Maps.{kept-puts-as}
 use Rattle.mea_meet_model.specs.Shutdowns.{signal_of, with_shutdown, shutdown_at}
 use Rattle.mea_meet_model.specs.Count.{decreased}
 use Rattle.mea_meet.proofs.ShutdownSeen.{kept_in, sender-at, shutdown-kept}

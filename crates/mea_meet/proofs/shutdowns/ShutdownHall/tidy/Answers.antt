@@ -1,7 +1,8 @@
 use Rattle.std.proofs.Common.{◌≡◌, ℕ, None, Some, sym, ap, ◌∙◌, arith}
 use Rattle.std.specs.Option.{option_copied}
 use Rattle.std.specs.FinMap.{get}
-use Rattle.mea_meet.proofs.Maps.{kept-puts, not_none}
+use Rattle.mea_base.proofs.Maps.{not_none}
+use Rattle.mea_meet.proofs.Maps.{kept-puts}
 use Rattle.mea_base.specs.Ready.{Waking}
 use Rattle.mea_meet.proofs.ShutdownSeen.{kept_in, shutdown-there, shutdown-kept}
 use Rattle.mea_meet.proofs.ShutdownChanges.{wakers-within}

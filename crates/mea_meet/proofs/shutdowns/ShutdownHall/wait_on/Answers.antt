@@ -4,7 +4,8 @@ use Rattle.std.specs.FinMap.{get}
 use Rattle.mea_meet.specs.ShutdownHall.{Store, hall_of, IsKept}
 use Rattle.mea_meet.specs.declared.shutdown_entries.ShutdownEntry.{ShutdownEntry}
 use Rattle.mea_meet.specs.ShutdownHall.{count_at, end_of, set_at}
-use Rattle.mea_meet.proofs.Maps.{kept-puts-as, is_same, not_none}
+use Rattle.mea_base.proofs.Maps.{not_none}
+use Rattle.mea_meet.proofs.Maps.{kept-puts-as, is_same}
 use Rattle.mea_meet.proofs.ShutdownSeen.{kept_in, wait-at, wait-there, shutdown-kept}
 use Rattle.mea_meet.proofs.ShutdownPolls.{wait-given, waits-number, wait_on_kept, wait_on_yields}
 use Rattle.mea_meet.proofs.shutdowns.ShutdownHall.wait_on.Goals as goal

@@ -2,12 +2,12 @@ use Rattle.std.proofs.Common.{◌≡◌, ℕ, List, None, Some, sym, ap, subst, 
 use Rattle.std.specs.Option.{option_copied}
 use Rattle.std.specs.FinMap.{get}
 use Rattle.mea_base.specs.declared.answer.Answer.TheVariants as answers
-use Rattle.mea_base.proofs.Maps.{value_in}
+use Rattle.mea_base.proofs.Maps.{value_in, not_none}
 use Rattle.mea_meet_model.specs.Shutdowns.{await_of}
 use Rattle.mea_meet.specs.ShutdownHall.{hall_of, store_of, IsKept}
 use Rattle.mea_meet.specs.declared.shutdown_entries.ShutdownWaitEntry.{ShutdownWaitEntry}
 use Rattle.mea_meet.specs.declared.shutdown_entries.ShutdownWait.TheVariants as waits
-use Rattle.mea_meet.proofs.Maps.{kept-puts, kept-puts-as, not_none}
+use Rattle.mea_meet.proofs.Maps.{kept-puts, kept-puts-as}
 use Rattle.mea_meet.proofs.ShutdownSeen.{kept_in, sender-at}
 use Rattle.mea_meet.proofs.ShutdownPlays.{rests}
 use Rattle.mea_meet.proofs.ShutdownWaits.{wait_on_receivers_goes}

@@ -8,7 +8,8 @@ use Rattle.mea_meet.specs.declared.shutdown_entries.ReceiverEntry.{ReceiverEntry
 use Rattle.mea_meet.specs.declared.shutdown_entries.ShutdownWaitEntry.{ShutdownWaitEntry}
 use Rattle.mea_meet.specs.declared.shutdown_entries.ShutdownWait.TheVariants as waits
 use Rattle.mea_meet.specs.ShutdownHall.{receiver_of}
-use Rattle.mea_meet.proofs.Maps.{kept-puts, kept-puts-as, inside, not_none}
+use Rattle.mea_base.proofs.Maps.{not_none}
+use Rattle.mea_meet.proofs.Maps.{kept-puts, kept-puts-as, inside}
 use Rattle.mea_meet.proofs.ShutdownSeen.{kept_in, receiver-at, receiver-there, receiver-seen, shutdown-kept}
 use Rattle.mea_meet.proofs.ShutdownPlays.{rests}
 use Rattle.mea_meet.proofs.ShutdownWaits.{at_most_one, wait_on_signal_goes}

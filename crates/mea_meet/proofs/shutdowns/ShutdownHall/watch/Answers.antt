@@ -9,7 +9,7 @@ use Rattle.mea_meet.specs.ShutdownHall.{receiver_of}
 use Rattle.mea_meet.proofs.ShutdownSeen.{kept_in, receiver-at, receiver-there, receiver-seen}
 use Rattle.mea_meet.proofs.ShutdownReceivers.{copy_there}
 use Rattle.mea_meet.proofs.shutdowns.ShutdownHall.watch.Goals as goal
-use Rattle.mea_meet.proofs.Maps.{not_none}
+use Rattle.mea_base.proofs.Maps.{not_none}
 
 pub unreachable-requires : goal.unreachable-requires
 unreachable-requires c =

@@ -2,7 +2,8 @@ use Rattle.std.proofs.Common.{sym, ap, ◌∙◌}
 use Rattle.std.specs.Option.{option_copied}
 use Rattle.std.specs.FinMap.{get}
 use Rattle.mea_base.proofs.NamedMaps.{kept-at}
-use Rattle.mea_named.proofs.Kept.{is_some_of, copied_some}
+use Rattle.mea_base.proofs.Maps.{is_some_of}
+use Rattle.mea_named.proofs.Kept.{copied_some}
 use Rattle.mea_named.proofs.by_name.ByName.at.Goals as goal
 
 pub unwrap-requires : goal.unwrap-requires

@@ -2,7 +2,7 @@ use Rattle.std.proofs.Common.{refl, sym, ap, ◌∙◌}
 use Rattle.std.specs.Option.{option_copied_mut}
 use Rattle.std.specs.FinMap.{get, insert}
 use Rattle.mea_base.proofs.NamedMaps.{kept-at, named_put}
-use Rattle.mea_named.proofs.Kept.{is_some_of, lent_some}
+use Rattle.mea_base.proofs.Maps.{is_some_of, lent_some}
 use Rattle.mea_named.proofs.by_name.ByName.at_mut.Goals as goal
 
 pub unwrap-requires : goal.unwrap-requires

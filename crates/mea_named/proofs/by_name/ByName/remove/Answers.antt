@@ -1,7 +1,7 @@
 use Rattle.std.proofs.Common.{sym, ap, ◌∙◌}
 use Rattle.std.specs.FinMap.{get, remove}
 use Rattle.mea_base.proofs.NamedMaps.{kept-at, named_remove}
-use Rattle.mea_named.proofs.Kept.{not_none}
+use Rattle.mea_base.proofs.Maps.{not_none}
 use Rattle.mea_named.proofs.by_name.ByName.remove.Goals as goal
 
 pub unreachable-requires : goal.unreachable-requires

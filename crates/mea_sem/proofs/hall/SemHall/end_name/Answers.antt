@@ -1,6 +1,7 @@
 use Rattle.std.proofs.Common.{rules, false, refl, sym, ap, ◌∙◌, arith}
 use Rattle.std.specs.Option.{option_copied_mut}
-use Rattle.mea_sem.proofs.Meets.{tidied, MeetsSemaphore, on_err}
+use Rattle.mea_base.proofs.Tests.{on_err}
+use Rattle.mea_sem.proofs.Meets.{tidied, MeetsSemaphore}
 use Rattle.mea_sem.proofs.Refusals.{unknown_missing, refuses_unknown, refuses}
 use Rattle.mea_sem.proofs.StandingSemaphores.{endsem_known, endsem_refused, kept_unchanged, seen_unchanged, done_endsem}
 use Rattle.mea_sem.proofs.Endings.{living_in, beside}

@@ -1,6 +1,7 @@
 use Rattle.std.proofs.Common.{refl, rules, sym, ap, ◌∙◌, arith}
 use Rattle.std.specs.Option.{option_copied_mut}
-use Rattle.mea_sem.proofs.Meets.{MeetsSemaphore, on_err}
+use Rattle.mea_base.proofs.Tests.{on_err}
+use Rattle.mea_sem.proofs.Meets.{MeetsSemaphore}
 use Rattle.mea_sem.proofs.Refusals.{unknown_missing, refuses_unknown, refuses}
 use Rattle.mea_sem.proofs.StandingSemaphores.{while_named, once_unnamed, kept_unchanged, seen_unchanged, small_forgotten, done_forget}
 use Rattle.mea_sem.proofs.Endings.{living_in, beside}

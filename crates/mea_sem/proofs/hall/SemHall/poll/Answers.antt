@@ -1,9 +1,10 @@
 use Rattle.std.proofs.Common.{Some, None, inl, refl, rules, sym, ap, ◌∙◌, arith}
 use Rattle.std.specs.Option.{option_copied_mut}
 use Rattle.mea_sem.specs.declared.entries.FutureEntry.{FutureEntry}
-use Rattle.mea_sem.proofs.Meets.{tidied, MeetsFuture, kept_as_futures, on_err}
+use Rattle.mea_base.proofs.Tests.{on_err}
+use Rattle.mea_sem.proofs.Meets.{tidied, MeetsFuture, kept_as_futures}
 use Rattle.mea_sem.proofs.Refusals.{future_unknown, lacks_memory}
-use Rattle.mea_sem.proofs.Standing.{changes_twice}
+use Rattle.mea_base.proofs.NamedMaps.{changes_twice}
 use Rattle.mea_sem.proofs.StandingFutures.{semaphore_living, its_belongs, future_plain, tally_fits, may_poll, forgotten_done, kept_done, refused_done, future_thing}
 use Rattle.mea_sem.proofs.StandingWaits.{queued_done, waited_done, kept_as_found, seen_as_found}
 use Rattle.mea_sem.proofs.Endings.{living_in, beside}

@@ -1,6 +1,7 @@
 use Rattle.std.proofs.Common.{refl, rules, sym, ap, ◌∙◌, arith}
 use Rattle.std.specs.Option.{option_copied_mut}
-use Rattle.mea_sem.proofs.Meets.{MeetsSemaphore, on_err}
+use Rattle.mea_base.proofs.Tests.{on_err}
+use Rattle.mea_sem.proofs.Meets.{MeetsSemaphore}
 use Rattle.mea_sem.proofs.Refusals.{unknown_missing, refuses_unknown, refuses}
 use Rattle.mea_sem.proofs.StandingSemaphores.{release_known, release_refused, kept_unchanged, seen_unchanged, small_released, is_quiet, wakers_few, wakers_fit, done_release}
 use Rattle.mea_sem.proofs.Endings.{living_in, beside}

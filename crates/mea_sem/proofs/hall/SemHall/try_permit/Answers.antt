@@ -1,6 +1,7 @@
 use Rattle.std.proofs.Common.{Some, inl, refl, rules, sym, ap, ◌∙◌, arith}
 use Rattle.std.specs.Option.{option_copied_mut}
-use Rattle.mea_sem.proofs.Meets.{MeetsSemaphore, on_err}
+use Rattle.mea_base.proofs.Tests.{on_err}
+use Rattle.mea_sem.proofs.Meets.{MeetsSemaphore}
 use Rattle.mea_sem.proofs.Refusals.{unknown_missing, refuses_first, lacks_memory}
 use Rattle.mea_sem.proofs.StandingSemaphores.{while_named, once_unnamed, kept_unchanged, seen_unchanged, kept_with_permits, seen_with_permits, plain_fits, things_fit}
 use Rattle.mea_sem.proofs.StandingPermits.{tried, tried_for_nothing}

@@ -1,4 +1,4 @@
-use Rattle.std.proofs.Common.{sym, inl, inr, ◌∙◌}
+use Rattle.std.proofs.Common.{sym, ◌∙◌}
 use Rattle.mea_sem_core.proofs.Belongs.{in_use}
 use Rattle.mea_sem_core.proofs.Leaves.{cut_at, uncut_at}
 use Rattle.mea_sem_core.proofs.Sound.{sound}

@@ -1,4 +1,4 @@
-use Rattle.std.proofs.Common.{sym, ap, refl, ◌∙◌, arith}
+use Rattle.std.proofs.Common.{sym, refl, ◌∙◌, arith}
 use Rattle.mea_sem_core.proofs.Closings.{closing_dropped}
 use Rattle.mea_sem_core.proofs.Grants.{unlinked_from_absent}
 use Rattle.mea_sem_core.proofs.Held.{paid-view}
