@@ -24,7 +24,7 @@ use Rattle.mea_once_model.specs.declared.job.Job.TheVariants.{Computes}
 use Rattle.mea_once_model.specs.Cells as cells
 use Rattle.mea_once_model.specs.Cells.{Cell, CellFuture, Step}
 use Rattle.mea_once_model.specs.Tables as tables
-use Rattle.mea_once_model.specs.Tables.{Table, Tables, KeyStep, is_this, others_of, applied}
+use Rattle.mea_once_model.specs.Tables.{Tables, KeyStep, is_this, others_of, applied}
 use Rattle.mea_once.specs.declared.key_future.KeyFuture.{KeyFuture}
 use Rattle.mea_once.specs.declared.round.Round.{Round}
 use Rattle.mea_once.specs.declared.scripted.Scripted.{Scripted}
@@ -37,7 +37,7 @@ use Rattle.mea_once.specs.Parts.{future_seen}
 use Rattle.mea_once.specs.KeyParts.{value_of, kept_cell, round_in, round_seen, table_seen, key_future_seen, as_caller, IsKey, Absent, Computing, Valued, IsRound, others, left_by, StandsTable, SteppedTable}
 use Rattle.mea_once.proofs.OneCell.{may_poll, woken_in}
 use Rattle.mea_once.proofs.KeyCells.{named, polled_cell}
-use Rattle.mea_once.proofs.KeySteps.{Entry, number, Asked, AskedNew, goes_on, begins_at, begins_new, finds_at}
+use Rattle.mea_once.proofs.KeySteps.{Entry, number, Asked, AskedNew, by_none, goes_on, begins_at, begins_new, finds_at}
 use Rattle.mea_once.proofs.KeyTables.{round_fits, get_values, value_at}
 use Rattle.std.proofs.lemmas.Bool.{eq-eqb}
 use Rattle.mea_once.proofs.KeyStarts.{Start, Status, Current, Full, Aside}
@@ -48,10 +48,6 @@ use Rattle.mea_once.proofs.KeyPolls.{rested_table, its_stand, key_step, polled_d
 pub by_some : (A : Type 0) (B : ℕ → Type 0) (o : Option ℕ) (v : ℕ) → MatchOption o A B → o ≡ Some v → B v
 by_some A B None v h is = absurd (cc)
 by_some A B (Some u) v h is = subst B (inside is) h
-
-pub by_absent : (A : Type 0) (B : ℕ → Type 0) (o : Option ℕ) → MatchOption o A B → o ≡ None → A
-by_absent A B None h is = h
-by_absent A B (Some u) h is = absurd (cc)
 
 -- what a step at a round is in the model
 pub in_round_is : (once : Bool) (e : KeptTable) (fs : Names KeyFuture) (f : ℕ) (x : KeyFuture) (n : ℕ) (act : CellFuture → Cell → Step) (h : Tables) (c : Cell) (y : CellFuture) → others_of h f x.table n ≡ others fs f n → get (table_seen e).rounds n ≡ Some c → tables.caller (key_future_seen x) ≡ y
@@ -238,12 +234,12 @@ module _ (once : Bool) (e : KeptTable) (f w : ℕ) (x : KeyFuture) (i : ℕ) (s 
           closes_twice = ap (λ m. current_without m x.key i) closes_once ∙ ap (λ o. cond (is_this i o) (remove e.current x.key) e.current) none
 
           back : one_future_less (left_round (closed (record opened { keyed = k' }) x.key i) x.key i (new_round x.key)) ≡ record { keyed = k'; current = e.current; rounds = e.rounds; futures = e.futures - 1 }
-          back = λ j. record { keyed = k'; current = closes_twice j; rounds = (put_gone e.rounds i (new_round x.key) ∙ gone_none e.rounds i (no_round once e f x i s of)) j; futures = e.futures - 1 }
+          back = λ j. record { keyed = k'; current = closes_twice j; rounds = (put_gone e.rounds i (new_round x.key) ∙ gone_none e.rounds i (no_round once e f x i s)) j; futures = e.futures - 1 }
 
       pub polls_opened : (told : Told) (e3 : KeptTable) (x3 : KeyFuture) → FollowsKey poll (record opened { keyed = k' }) i (new_round x.key) (record x { call = call' }) (named f w) told e3 x3 → Polled_so (running_in call'.call.stage None (named f w)) None told e3 x3
       polls_opened = at (s.kept.keys x.key)
         where
           at : IsKey once e x.key → (told : Told) (e3 : KeptTable) (x3 : KeyFuture) → FollowsKey poll (record opened { keyed = k' }) i (new_round x.key) (record x { call = call' }) (named f w) told e3 x3 → Polled_so (running_in call'.call.stage None (named f w)) None told e3 x3
-          at (Absent no_number current) = by_new no_number (begins_new once e.keyed k' x.key x.call.call call'.call (named f w) poll call'.stage (number_there once e f x i s of) (by_absent _ _ (number e.keyed x.key) first no_number))
+          at (Absent no_number current) = by_new no_number (begins_new once e.keyed k' x.key x.call.call call'.call (named f w) poll call'.stage (number_there once e f x i s of) (by_none _ _ (number e.keyed x.key) first no_number))
           at (Computing n r z num current is key entry empty listed) = absurd (cc)
           at (Valued m v z num current entry full listed map_only round) = by_value m v z num entry full

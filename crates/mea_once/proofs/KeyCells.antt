@@ -26,7 +26,7 @@ use Rattle.mea_once.specs.KeyCores.{answers}
 use Rattle.mea_once.specs.Entries.{KeptCell, finished, stopped, runs, pending, over, Ran}
 use Rattle.mea_once.specs.KeyEntries.{running_in}
 use Rattle.mea_once.specs.Parts as parts
-use Rattle.mea_once.specs.Parts.{StageFits, Stands, future_seen}
+use Rattle.mea_once.specs.Parts.{Stands, future_seen}
 use Rattle.mea_once.proofs.Permits.{turned_one, passed_one, left_one}
 use Rattle.mea_once.proofs.Turns.{free_or_taken}
 use Rattle.mea_once.proofs.OneCell.{may_poll, may_end}

@@ -17,18 +17,18 @@ use Rattle.mea_once_core.specs.Waiting.{waiting_at, waiting_in}
 use Rattle.mea_once_core.proofs.Waits.{waiting-changes, at-most}
 use Rattle.mea_once_model.specs.declared.job.Initialiser.{Initialiser}
 use Rattle.mea_once_model.specs.Tables as tables
-use Rattle.mea_once_model.specs.Tables.{Tables, without_key}
+use Rattle.mea_once_model.specs.Tables.{without_key}
 use Rattle.mea_once.specs.declared.key_future.KeyFuture.{KeyFuture}
 use Rattle.mea_once.specs.declared.round.Round.{Round}
 use Rattle.mea_once.specs.Entries.{of_running, waking, keeps}
 use Rattle.mea_once.specs.KeyCores.{NamedKeyed}
 use Rattle.mea_once.specs.KeyEntries.{KeptTable, stopped_waker}
 use Rattle.mea_once.specs.KeyParts.{value_of, kept_cell, round_in, round_seen, table_seen, key_future_seen, IsRound, HasRound, IsKey, Absent, Computing, Valued, CallFits, waiting_of, callers_of, AreTogether, table_keeps, StandsTable, SteppedTable}
-use Rattle.mea_once.proofs.KeySteps.{Entry, number}
+use Rattle.mea_once.proofs.KeySteps.{Entry, number, by_none}
 use Rattle.mea_once.proofs.KeyTables.{get_values, value_at}
 use Rattle.mea_once.proofs.KeyEvents.{its_call, its_round, its_there, its_entry, starts_there}
 use Rattle.mea_once.proofs.KeyResults.{same_seen, same_keeps, same_all, same_together}
-use Rattle.mea_once.proofs.KeyCalls.{by_some, by_absent}
+use Rattle.mea_once.proofs.KeyCalls.{by_some}
 use Rattle.mea_once.proofs.KeyOthers.{settled_future}
 use Rattle.mea_once.specs.Parts as parts
 
@@ -222,7 +222,7 @@ module _ (once : Bool) (e : KeptTable) (fs : Names KeyFuture) (kept : AreTogethe
           some_so m z num entry alone gone.0 (subst (λ j. Renumbers nat_eq e.keyed.table.pairs k'.table.pairs j None) same gone.1.2) both.1
 
       at : IsKey once e k → Discarded
-      at (Absent none current) = none_so none current (by_absent _ _ (number e.keyed k) discards none)
+      at (Absent none current) = none_so none current (by_none _ _ (number e.keyed k) discards none)
       at (Computing n r z num current is key entry empty listed) = with_entry r.entry z num entry (λ none.
           let it = kept.rounds n r is in
           let one : it.shown ≡ z = inside (sym it.there ∙ entry) in

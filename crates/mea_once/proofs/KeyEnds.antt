@@ -16,9 +16,9 @@ use Rattle.mea_once_core.specs.Waiting.{waiting_at}
 use Rattle.mea_once_core.proofs.Tables.{and-false, and-true}
 use Rattle.mea_once_model.specs.declared.job.Job.TheVariants.{Computes}
 use Rattle.mea_once_model.specs.Cells as cells
-use Rattle.mea_once_model.specs.Cells.{Cell, CellFuture, Step}
+use Rattle.mea_once_model.specs.Cells.{Step}
 use Rattle.mea_once_model.specs.Tables as tables
-use Rattle.mea_once_model.specs.Tables.{Table, Tables, KeyStep, is_this, others_of, applied}
+use Rattle.mea_once_model.specs.Tables.{KeyStep, is_this, applied}
 use Rattle.mea_once.specs.declared.key_future.KeyFuture.{KeyFuture}
 use Rattle.mea_once.specs.declared.round.Round.{Round}
 use Rattle.mea_once.specs.declared.future_entry.FutureEntry.{FutureEntry}
@@ -69,13 +69,6 @@ module _ (once : Bool) (e : KeptTable) (f : ℕ) (x : KeyFuture) (i : ℕ) (s : 
       at (Absent none current) = absurd (cc)
       at (Computing q r z num current is key entry empty listed) = ap is_some (ap (get e.rounds) (inside (sym now ∙ current)) ∙ is)
       at (Valued m v z num current entry full listed map_only round) = absurd (cc)
-
-  pub enter_new : get e.rounds i ≡ None
-  enter_new = at (get e.rounds i) refl
-    where
-      at : (o : Option Round) → get e.rounds i ≡ o → get e.rounds i ≡ None
-      at None is = is
-      at (Some r) is = absurd (let below = s.low i r is in omega arith)
 
   -- a further caller finds room at its key's entry
   has_room : x.round ≡ None → HasRoom nat_eq e.keyed.table x.key

@@ -53,6 +53,14 @@ module _ (once : Bool) (e : KeptTable) (f : ℕ) (x : KeyFuture) (i : ℕ) (s : 
   pub its_call : (o : Option ℕ) → x.round ≡ o → CallFits o e x
   its_call o is = subst (λ o. CallFits o e x) is (kept.calls f x s.there)
 
+  -- the number of this event is no round yet
+  pub no_round : get e.rounds i ≡ None
+  no_round = at (get e.rounds i) refl
+    where
+      at : (o : Option Round) → get e.rounds i ≡ o → get e.rounds i ≡ None
+      at None is = is
+      at (Some r) is = absurd (let below = s.low i r is in omega arith)
+
   -- ---- it is a caller of a round
   module _ (n : ℕ) (of : x.round ≡ Some n) where
     abbrev pub at_it : CallFits (Some n) e x
@@ -230,14 +238,6 @@ module _ (once : Bool) (e : KeptTable) (f : ℕ) (x : KeyFuture) (i : ℕ) (s : 
         at (Absent none current) = absurd (cc)
         at (Computing q t z num current there key entry none listed) = ap is_some (ap (entry_at e.keyed.table) (inside (sym is ∙ num)) ∙ entry)
         at (Valued q v z num current entry full listed map_only round) = ap is_some (ap (entry_at e.keyed.table) (inside (sym is ∙ num)) ∙ entry)
-
-    -- the number of this event is no round yet
-    pub no_round : get e.rounds i ≡ None
-    no_round = at (get e.rounds i) refl
-      where
-        at : (o : Option Round) → get e.rounds i ≡ o → get e.rounds i ≡ None
-        at None is = is
-        at (Some r) is = absurd (let below = s.low i r is in omega arith)
 
     nobody_there : callers_of i fs ≡ empty
     nobody_there = ap (seen as_caller) (own-empty of_round (i + 1) fs (λ g y is mine. at g y is y.round refl mine)) ∙ seen-empty as_caller

@@ -12,7 +12,7 @@ use Rattle.mea_once_core.specs.Keyed.{without_caller}
 use Rattle.mea_once_core.proofs.Tables.{and-false, and-true}
 use Rattle.mea_once_model.specs.Cells.{Cell}
 use Rattle.mea_once_model.specs.Tables as tables
-use Rattle.mea_once_model.specs.Tables.{Table, is_this, is_current}
+use Rattle.mea_once_model.specs.Tables.{Table, is_this}
 use Rattle.mea_once.specs.declared.key_future.KeyFuture.{KeyFuture}
 use Rattle.mea_once.specs.declared.round.Round.{Round}
 use Rattle.mea_once.specs.KeyEntries.{KeptTable, current_without}
@@ -22,7 +22,7 @@ use Rattle.mea_once.specs.KeyParts.{value_of, table_seen, callers_of, IsKey, Abs
 use Rattle.mea_once.proofs.OneCell.{no_queue}
 use Rattle.mea_once.proofs.KeyCells.{cell_of}
 use Rattle.mea_once.proofs.KeySteps.{Entry, number, with_cell}
-use Rattle.mea_once.proofs.KeyTables.{Elsewhere, value_at, Changed}
+use Rattle.mea_once.proofs.KeyTables.{Elsewhere, value_at, other_entries, Changed}
 use Rattle.mea_once.proofs.KeyStarts.{Start, Status, Current, Full, Aside, at_round, entered, aside_key, aside_value, one_less, full_left, without_elsewhere, without_same, without_gone, without_none, left_current, closed_current, closed_rounds, closed_values, gone_changed, gone_seen, last_by}
 
 module _ (once : Bool) (e : KeptTable) (fs : Names KeyFuture) (kept : AreTogether once e fs) (i f : ℕ) (x : KeyFuture) (there : get fs f ≡ Some x) (n m : ℕ) (r : Round) (s : Entry) (cur : Names ℕ) (p : Option ℕ) (start : Start once e fs i f x n m r s cur p)
@@ -76,9 +76,6 @@ module _ (once : Bool) (e : KeptTable) (fs : Names KeyFuture) (kept : AreTogethe
     current_now : (b : Bool) → last ≡ b → e'.current ≡ cond b (current_without cur x.key n) cur
     current_now b is = current ∙ ap (λ b. cond b (current_without cur x.key n) cur) is
 
-    other_entries : (q : ℕ) → (m ≡ q → ⊥) → entry_at e'.keyed.table q ≡ entry_at e.keyed.table q
-    other_entries q apart = entries.others q (λ same. apart (sym same))
-
     key_by : (b : Bool) → last ≡ b → Status once e n m x.key s cur p → IsKey once e' x.key
     key_by true is (Current listed none now num_p _) = Absent (own_number ∙ num_by true is ∙ ap (λ b. cond (b && true) None p) listed) (ap (λ m. get m x.key) (current_now true is) ∙ without_gone cur x.key n now)
     key_by false is (Current listed none now num_p _) =
@@ -88,7 +85,7 @@ module _ (once : Bool) (e : KeptTable) (fs : Names KeyFuture) (kept : AreTogethe
         (here ∙ ap (λ b. cond b None (Some (record r { running = run; callers = r.callers - 1 }))) is) start.key (ap (entry_at e'.keyed.table) entry ∙ entries.changed ∙ one_less (with_cell s c) (last_entry false is)) empty listed
     key_by b is (Full v listed full now num_p map_only _) = absurd (cc)
     key_by b is (Aside unlisted key other num_p same now) = aside_key once e fs kept i f x there n m r s cur p start e' key other (own_number ∙ aside unlisted ∙ num_p)
-        (ap (λ m. get m x.key) (current ∙ by_last (current_without cur x.key n) cur (λ m. m ≡ e.current) (without_same cur x.key n now ∙ same) same)) other_entries rounds
+        (ap (λ m. get m x.key) (current ∙ by_last (current_without cur x.key n) cur (λ m. m ≡ e.current) (without_same cur x.key n now ∙ same) same)) (other_entries e.keyed.table e'.keyed.table m _ entries) rounds
 
     elsewhere : Elsewhere e.current e'.current x.key
     elsewhere = rw current (by_last (current_without cur x.key n) cur (λ m. Elsewhere e.current m x.key) (without_twice cur start.current) start.current)
@@ -100,7 +97,7 @@ module _ (once : Bool) (e : KeptTable) (fs : Names KeyFuture) (kept : AreTogethe
     value_by true is (Current listed none now num_p nothing) = nothing ∙ sym (ap (value_at e'.keyed.table) (num_by true is ∙ ap (λ b. cond (b && true) None p) listed))
     value_by false is (Current listed none now num_p nothing) = nothing ∙ sym (ap (value_at e'.keyed.table) (num_more is ∙ num_p) ∙ ap value_of (entries.changed ∙ one_less (with_cell s c) (last_entry false is)) ∙ empty)
     value_by b is (Full v listed full now num_p map_only _) = absurd (cc)
-    value_by b is (Aside unlisted key other num_p same now) = sym (ap (value_at e'.keyed.table) (aside unlisted ∙ num_p) ∙ aside_value once e fs kept i f x there n m r s cur p start e' other other_entries)
+    value_by b is (Aside unlisted key other num_p same now) = sym (ap (value_at e'.keyed.table) (aside unlisted ∙ num_p) ∙ aside_value once e fs kept i f x there n m r s cur p start e' other (other_entries e.keyed.table e'.keyed.table m _ entries))
 
     pub empty_seen : table_seen e' ≡ tables.left x.key n (r.callers - 1) (tables.closed once x.key n c.value with_round)
     empty_seen =
@@ -150,9 +147,6 @@ module _ (once : Bool) (e : KeptTable) (fs : Names KeyFuture) (kept : AreTogethe
         at false is (Full u _ some now num_p map_only _) = num_map is ∙ num_p
         at false is (Aside unlisted key other num_p same now) = absurd (let none : left_entry.listed ≡ false = ap (λ l. l && not once) unlisted in cc)
 
-    other_entries_f : (q : ℕ) → (m ≡ q → ⊥) → entry_at e'.keyed.table q ≡ entry_at e.keyed.table q
-    other_entries_f q apart = entries.others q (λ same. apart (sym same))
-
     -- its key has no current round
     no_current : get (current_without cur x.key n) x.key ≡ None → get e'.current x.key ≡ None
     no_current none = ap (λ m. get m x.key) current ∙ by_last (current_without (current_without cur x.key n) x.key n) (current_without cur x.key n) (λ m. get m x.key ≡ None) (without_none (current_without cur x.key n) x.key n none) none
@@ -180,7 +174,7 @@ module _ (once : Bool) (e : KeptTable) (fs : Names KeyFuture) (kept : AreTogethe
         at false is = Valued m v (record left_entry { callers = s.callers - 1 }) (own_number_f ∙ num_map is ∙ num_p) nobody (stays_there is listed) full (listed_map is listed) is (has_round is listed last refl queue_of)
     key_f (Full u listed some now num_p is _) =
         Valued m v (record left_entry { callers = s.callers - 1 }) (own_number_f ∙ num_map is ∙ num_p) (no_current (without_none cur x.key n now)) (stays_there is listed) full (listed_map is listed) is (has_round is listed last refl queue_of)
-    key_f (Aside unlisted key other num_p same now) = aside_key once e fs kept i f x there n m r s cur p start e' key other (own_number_f ∙ aside_f unlisted ∙ num_p) (ap (λ m. get m x.key) still) other_entries_f rounds
+    key_f (Aside unlisted key other num_p same now) = aside_key once e fs kept i f x there n m r s cur p start e' key other (own_number_f ∙ aside_f unlisted ∙ num_p) (ap (λ m. get m x.key) still) (other_entries e.keyed.table e'.keyed.table m _ entries) rounds
       where
         once_same : current_without cur x.key n ≡ cur
         once_same = without_same cur x.key n now
@@ -220,7 +214,7 @@ module _ (once : Bool) (e : KeptTable) (fs : Names KeyFuture) (kept : AreTogethe
         same_value : c.value ≡ Some u
         same_value = elim either as (λ x. c.value ≡ Some u) [ inl same ↦ sym same ∙ some | inr none ↦ absurd (cc) ]
     value_f (Aside unlisted key other num_p same now) =
-        ap (λ (m : Names ℕ). get m x.key) (values_after false now) ∙ sym (ap (value_at e'.keyed.table) (aside_f unlisted ∙ num_p) ∙ aside_value once e fs kept i f x there n m r s cur p start e' other other_entries_f)
+        ap (λ (m : Names ℕ). get m x.key) (values_after false now) ∙ sym (ap (value_at e'.keyed.table) (aside_f unlisted ∙ num_p) ∙ aside_value once e fs kept i f x there n m r s cur p start e' other (other_entries e.keyed.table e'.keyed.table m _ entries))
 
     pub full_seen : table_seen e' ≡ tables.left x.key n (r.callers - 1) (tables.closed once x.key n c.value with_round)
     full_seen =

@@ -22,7 +22,7 @@ use Rattle.mea_once_model.specs.declared.job.Job.TheVariants.{Computes}
 use Rattle.mea_once_model.specs.Cells as cells
 use Rattle.mea_once_model.specs.Cells.{Cell, CellFuture, Step}
 use Rattle.mea_once_model.specs.Tables as tables
-use Rattle.mea_once_model.specs.Tables.{Table, KeyStep}
+use Rattle.mea_once_model.specs.Tables.{KeyStep}
 use Rattle.mea_once.specs.declared.key_future.KeyFuture.{KeyFuture}
 use Rattle.mea_once.specs.declared.round.Round.{Round}
 use Rattle.mea_once.specs.declared.scripted.Scripted.{Scripted}

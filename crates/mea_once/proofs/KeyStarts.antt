@@ -1,17 +1,15 @@
 -- a map or a group after a caller of a round was polled, or is gone
-use Rattle.std.proofs.Common.{◌≡◌, ℕ, ◌+◌, ◌-◌, ◌≤◌, ◌==◌, ◌&&◌, ◌⊎◌, inl, inr, Bool, true, false, not, cond, length, List, [], ◌∷◌, Option, Some, None, is_some, is_none, option_map, nat_eq, refl, ap, sym, subst, ◌∙◌, arith, if◌then◌else◌}
+use Rattle.std.proofs.Common.{◌≡◌, ℕ, ◌+◌, ◌-◌, ◌≤◌, ◌==◌, ◌&&◌, ◌⊎◌, inl, inr, Bool, true, false, not, cond, length, [], Option, Some, None, is_some, is_none, option_map, nat_eq, refl, ap, sym, subst, ◌∙◌, arith, if◌then◌else◌}
 use Rattle.std.specs.Option.{IsSome}
 use Rattle.std.proofs.lemmas.Bool.{eqb-true, eq-eqb, ne_eqb, cases_eq}
-use Rattle.std.specs.FinMap.{get, insert, remove, len, entries, len-entries}
-use Rattle.std.proofs.lemmas.List.Sums.{sum_by-cons}
-use Rattle.std.proofs.Common.{sum_by}
+use Rattle.std.specs.FinMap.{get, insert, remove, len, entries}
 use Rattle.mea_base.specs.declared.answer.Answer.{Answer}
-use Rattle.mea_base.specs.Totals.{total, weight}
+use Rattle.mea_base.specs.Totals.{weight}
 use Rattle.mea_base.proofs.Maps.{inside, get-there, get-other, get-gone, get-removed_other}
 use Rattle.mea_base.proofs.Totals.{total-alike}
 use Rattle.mea_named.specs.declared.named_waker.NamedWaker.{NamedWaker}
 use Rattle.mea_named.specs.ByName.{Names, own, count, is_of}
-use Rattle.mea_named.proofs.Own.{get-own, own-at, seen-at, len-seen, len-gone, len-over, len-some}
+use Rattle.mea_named.proofs.Own.{get-own, own-at, seen-at, len-seen, len-gone, len-over, len-some, len-total}
 use Rattle.mea_once_core.specs.Cell.{Cell as CoreCell, rested}
 use Rattle.mea_once_core.specs.Links.{Changes, left}
 use Rattle.mea_once_core.specs.Table.{entry_at, is_last}
@@ -35,7 +33,7 @@ use Rattle.mea_once.proofs.OneCell.{no_queue}
 use Rattle.mea_once.proofs.Steps.{Makes}
 use Rattle.mea_once.proofs.KeyCells.{cell_of}
 use Rattle.mea_once.proofs.KeySteps.{Entry, number, with_cell}
-use Rattle.mea_once.proofs.KeyTables.{Elsewhere, Around, Changed, callers_turned, get_values, value_at, seen_as}
+use Rattle.mea_once.proofs.KeyTables.{Elsewhere, Around, Changed, callers_turned, get_values, value_at, other_entries, seen_as}
 
 -- ---- what is left of an entry where a caller has left it
 -- a further caller is there
@@ -69,12 +67,6 @@ pub without_none : (m : Names ℕ) (k n : ℕ) → get m k ≡ None → get (cur
 without_none m k n is = ap (λ b. get (cond b (remove m k) m) k) (ap (is_this n) is) ∙ is
 
 -- ---- how many callers a round has
-length-ones : {X : Type 0} (es : List (ℕ × X)) → sum_by {X = ℕ × X} (λ e. 1) es ≡ length es
-length-ones [] = refl
-length-ones (e ∷ es) = omega (arith, length-ones es, sum_by-cons (λ e. 1) e es)
-
-len-total : {X : Type 0} (m : Names X) → len m ≡ total (λ k x. 1) m
-len-total m = len-entries m ∙ sym (length-ones (entries m))
 
 pub count_callers : (n : ℕ) (m : Names KeyFuture) → count (λ (x : KeyFuture). is_this n x.round) m ≡ len (callers_of n m)
 count_callers n m = total-alike (λ k (x : KeyFuture). cond (is_this n x.round) 1 0) (λ k (x : KeyFuture). 1) m (own of_round (n + 1) m) (λ k. at k (get m k) ∙ ap (weight (λ k (x : KeyFuture). 1) k) (sym (get-own of_round (n + 1) m k)))
@@ -219,13 +211,10 @@ module _ (once : Bool) (e : KeptTable) (fs : Names KeyFuture) (kept : AreTogethe
     stays_number : number e'.keyed x.key ≡ p
     stays_number = numbers x.key ∙ ap (λ b. cond b p (number e.keyed x.key)) (eq-eqb x.key x.key refl)
 
-    stays_entries : (q : ℕ) → (m ≡ q → ⊥) → entry_at e'.keyed.table q ≡ entry_at e.keyed.table q
-    stays_entries q apart = entries.others q (λ same. apart (sym same))
-
     stays_key : Status once e n m x.key s cur p → IsKey once e' x.key
     stays_key (Current listed empty now is _) = Computing n r' (with_cell s c) (stays_number ∙ is) (ap (λ m. get m x.key) current ∙ now) here start.key entries.changed (value ∙ empty) listed
     stays_key (Full v listed full now is map_only _) = Valued m v (with_cell s c) (stays_number ∙ is) (ap (λ m. get m x.key) current ∙ now) entries.changed (value ∙ full) listed map_only (inr (n, r', here, refl, start.key))
-    stays_key (Aside listed key other is same now) = aside_key e' key other (stays_number ∙ is) (ap (λ m. get m x.key) (current ∙ same)) stays_entries rounds
+    stays_key (Aside listed key other is same now) = aside_key e' key other (stays_number ∙ is) (ap (λ m. get m x.key) (current ∙ same)) (other_entries e.keyed.table e'.keyed.table m _ entries) rounds
 
     stays_listed : Status once e n m x.key s cur p → s.listed ≡ true → number e'.keyed x.key ≡ Some m
     stays_listed (Current listed empty now is _) _ = stays_number ∙ is
@@ -273,7 +262,7 @@ module _ (once : Bool) (e : KeptTable) (fs : Names KeyFuture) (kept : AreTogethe
     stays_value : Status once e n m x.key s cur p → get (table_seen e).values x.key ≡ value_at e'.keyed.table p
     stays_value (Current listed empty now is none) = none ∙ sym (ap (value_at e'.keyed.table) is ∙ ap value_of entries.changed ∙ value ∙ empty)
     stays_value (Full v listed full now is map_only had) = had ∙ sym (ap (value_at e'.keyed.table) is ∙ ap value_of entries.changed ∙ value ∙ full)
-    stays_value (Aside unlisted key other is same now) = sym (ap (value_at e'.keyed.table) is ∙ aside_value e' other stays_entries)
+    stays_value (Aside unlisted key other is same now) = sym (ap (value_at e'.keyed.table) is ∙ aside_value e' other (other_entries e.keyed.table e'.keyed.table m _ entries))
 
     pub stays_seen : table_seen e' ≡ record (entered e cur) { rounds = insert (table_seen e).rounds n stays_cell }
     unfolding stays_changed

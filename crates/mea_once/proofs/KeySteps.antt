@@ -22,6 +22,7 @@ use Rattle.mea_once.specs.declared.scripted.Scripted.{Scripted}
 use Rattle.mea_once.specs.Cores.{IsOnePermit}
 use Rattle.mea_once.specs.KeyCores.{NamedKeyed, answers}
 use Rattle.mea_once.proofs.OneCell.{not_waiting}
+use Rattle.mea_base.proofs.Tests.{last_stays}
 
 abbrev pub Entry : Type 0
 Entry = Shown ℕ NamedWaker
@@ -35,14 +36,10 @@ pub record Becomes (k k' : NamedKeyed) (m : ℕ) (o : Option Entry) (key : ℕ) 
   pub numbers : Renumbers nat_eq k.table.pairs k'.table.pairs key p
   pub wakes : k'.wakes ≡ k.wakes ++ ws
 
-again : {X : Type 0} (b : Bool) (p q r : X) → cond b p (cond b q r) ≡ cond b p r
-again true p q r = refl
-again false p q r = refl
-
 pub two_steps : (k k1 k2 : NamedKeyed) (m key : ℕ) (o o2 : Option Entry) (p p2 : Option ℕ) (ws vs : List NamedWaker) → Becomes k k1 m o key p ws → Becomes k1 k2 m o2 key p2 vs → Becomes k k2 m o2 key p2 (ws ++ vs)
 two_steps k k1 k2 m key o o2 p p2 ws vs first second = record {
   entries = changes-twice k.table.slots k1.table.slots k2.table.slots m o o2 first.entries second.entries;
-  numbers = λ j. second.numbers j ∙ ap (cond (nat_eq key j) p2) (first.numbers j) ∙ again (nat_eq key j) p2 p (number k j);
+  numbers = λ j. second.numbers j ∙ ap (cond (nat_eq key j) p2) (first.numbers j) ∙ last_stays (nat_eq key j) p2 p (number k j);
   wakes = second.wakes ∙ ap (λ us. us ++ vs) first.wakes ∙ append_assoc k.wakes ws vs;
 }
 
@@ -157,7 +154,7 @@ finds_or c one (Queued n) (inr waits) = inr (λ both. absurd (let none = not_wai
 finds_or c one Running may = inr (λ finds. finds)
 finds_or c one Done may = absurd may
 
-by_none : (A : Type 0) (B : ℕ → Type 0) (v : Option ℕ) → MatchOption v A B → v ≡ None → A
+pub by_none : (A : Type 0) (B : ℕ → Type 0) (v : Option ℕ) → MatchOption v A B → v ≡ None → A
 by_none A B None h is = h
 by_none A B (Some v) h is = absurd (cc)
 

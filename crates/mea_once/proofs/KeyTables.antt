@@ -26,6 +26,10 @@ use Rattle.mea_once.specs.Parts.{AreKept}
 use Rattle.mea_once.specs.KeyParts.{value_of, valued, values_in, kept_cell, round_in, round_seen, table_seen, as_caller, slot_of, of_round, callers_of, IsRound, HasRound, IsKey, Absent, Computing, Valued, CallFits, waiting_of, AreTogether, turned_to}
 use Rattle.mea_once.proofs.KeySteps.{Entry, number, IsOnly}
 
+-- where one entry has changed, each other is as it was
+pub other_entries : (t t' : CoreTable ℕ ℕ NamedWaker) (m : ℕ) (o : Option Entry) → Changes t.slots t'.slots m o → (q : ℕ) → (m ≡ q → ⊥) → entry_at t' q ≡ entry_at t q
+other_entries t t' m o entries q apart = entries.others q (λ same. apart (sym same))
+
 -- ---- maps that differ at one name
 abbrev pub Elsewhere : {X : Type 0} → Names X → Names X → ℕ → Type 0
 Elsewhere m m' k = (j : ℕ) → (k ≡ j → ⊥) → get m' j ≡ get m j

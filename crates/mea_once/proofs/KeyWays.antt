@@ -20,9 +20,9 @@ use Rattle.mea_once.specs.KeyEntries.{KeptTable, Enters, Stays, Joins, Opens, Fo
 use Rattle.mea_once.specs.KeyParts.{IsRound, callers_of, table_keeps, StandsTable}
 use Rattle.mea_once.proofs.KeyCells.{named}
 use Rattle.mea_once.proofs.KeyTables.{put_twice}
-use Rattle.mea_once.proofs.KeyEvents.{its_round, its_there, not_of}
+use Rattle.mea_once.proofs.KeyEvents.{its_round, its_there, no_round, not_of}
 use Rattle.mea_once.proofs.KeyCalls.{Polled_so, polls_there, polls_joined, polls_opened}
-use Rattle.mea_once.proofs.KeyEnds.{room_for, enter_new}
+use Rattle.mea_once.proofs.KeyEnds.{room_for}
 
 pub one_back : (m : ℕ) → m + 1 - 1 ≡ m
 one_back m = omega arith
@@ -106,6 +106,6 @@ module _ (once : Bool) (e : KeptTable) (f w : ℕ) (x : KeyFuture) (i : ℕ) (s 
       (subst (λ r. IsSameTable e (left_round (record e { keyed = k'; rounds = insert e.rounds i (new_round x.key); current = insert e.current x.key i }) x.key i r)) both (record {
         keyed = same;
         current = ap (λ o. cond (is_this i o) (remove (insert e.current x.key i) x.key) (insert e.current x.key i)) (get-there e.current x.key i) ∙ ap (λ b. cond b (remove (insert e.current x.key i) x.key) (insert e.current x.key i)) (eq-eqb i i refl) ∙ put_gone e.current x.key i ∙ gone_none e.current x.key none;
-        rounds = put_gone e.rounds i (new_round x.key) ∙ gone_none e.rounds i (enter_new once e f x i s);
+        rounds = put_gone e.rounds i (new_round x.key) ∙ gone_none e.rounds i (no_round once e f x i s);
         futures = refl;
       }))

@@ -5,7 +5,7 @@ use Rattle.std.specs.Ordering.{nat_cmp}
 use Rattle.std.proofs.lemmas.Bool.{eqb-true, eq-eqb}
 use Rattle.mea_base.specs.Totals.{weight}
 use Rattle.mea_base.specs.Queue.{waiting_after, granted_in}
-use Rattle.mea_base.proofs.Maps.{by_put, removed_there, nothing_at, total-has, get-removed_other, inside}
+use Rattle.mea_base.proofs.Maps.{by_put, removed_there, nothing_at, total-has, get-removed_other, inside, is_absent, value_in}
 use Rattle.mea_base.proofs.NamedMaps.{same_named}
 use Rattle.mea_base.proofs.Totals.{total-empty}
 use Rattle.mea_named.specs.declared.named_waker.NamedWaker.{NamedWaker}
@@ -186,6 +186,13 @@ module _ (once : Bool) (e : KeptCell) (fs : Names FutureEntry) (tied : Tied once
           let same : it.0 ≡ x = inside (sym it.1 ∙ ap (get fs) (eqb-true k.future f run) ∙ there) in
           subst MayRun same it.2
 
+  pub runs_not : is_alone x.job ≡ false → is_running x ≡ false → runs e.running f ≡ false
+  runs_not shares none = at (runs e.running f) refl
+    where
+      at : (b : Bool) → runs e.running f ≡ b → runs e.running f ≡ false
+      at false idle = idle
+      at true run = absurd (let may : cond (is_alone x.job) true (is_running x) ≡ true = runs_may run in let no : cond (is_alone x.job) true (is_running x) ≡ false = ap (λ b. cond b true (is_running x)) shares ∙ none in cc)
+
   -- ---- it changes its stage
   module _ (c : NamedCell) (s : Stage) (stage : StageFits (is_caller x.job) s) (run : runs_at x.stage ≡ true → runs_at s ≡ true) (linked : Linked c.permit.queue c.permit.granted (insert acquires f (acquire_at s)))
       (held : HoldsAs e.cell.permit x.stage c.permit s) (waits : c.waits ≡ e.cell.waits) where
@@ -339,16 +346,21 @@ free_where s is no_queue no_granted none_held =
     let paid : sum_by (λ d. d) (values s.granted) ≡ 0 = ap (λ m. sum_by (λ d. d) (values m)) no_granted ∙ ap (λ es. sum_by (λ d. d) (map (λ (e : ℕ × ℕ). e.1) es)) entries_empty in
     omega (arith, is.total, is.one, none_held, queued, paid)
 
+pub holds_none : {X : Type 0} (m : Names X) → ((k : ℕ) (x : X) → get m k ≡ Some x → ⊥) → m ≡ empty
+holds_none m none = same_named m empty (λ k. is_absent (get m k) (λ some. let there = value_in (get m k) some in none k there.0 there.1) ∙ sym (get-empty nat_cmp k))
+
+-- where no acquire waits under a number, nobody waits
+pub nobody_queued : (q : Queue) (acquires : Names Acquire) → AskForOne q → AreOf acquires q → ((f d n : ℕ) → get acquires f ≡ Some (acquire.Queued d n) → ⊥) → q ≡ []
+nobody_queued [] acquires asks are none = refl
+nobody_queued ((Acquires n d k, l) ∷ q) acquires asks are none = absurd (none k.future d n are.0)
+nobody_queued ((Owes, l) ∷ q) acquires asks are none = absurd asks
+
 module _ (once : Bool) (e : KeptCell) (fs : Names FutureEntry) (kept : AreKept once e fs) (none : e.futures ≡ 0) where
   no_future : (f : ℕ) (x : FutureEntry) → get fs f ≡ Some x → ⊥
   no_future f x is = absurd (omega (arith, kept.tied.futures, none, len-some fs f x is))
 
   nothing : fs ≡ empty
-  nothing = same_named fs empty (λ k. at k (get fs k) refl ∙ sym (get-empty nat_cmp k))
-    where
-      at : (k : ℕ) (o : Option FutureEntry) → get fs k ≡ o → get fs k ≡ None
-      at k None is = is
-      at k (Some g) is = absurd (no_future k g is)
+  nothing = holds_none fs no_future
 
   none_held : held_of e.cell.permit ≡ 0
   none_held = omega (arith, kept.tied.held, ap (count is_running) nothing, total-empty (λ k (x : FutureEntry). cond (is_running x) 1 0))
@@ -357,19 +369,10 @@ module _ (once : Bool) (e : KeptCell) (fs : Names FutureEntry) (kept : AreKept o
   acquires_none f a is = let one = seen-back acquire_of fs f a is in no_future f one.0 one.1
 
   pub no_queue : e.cell.permit.queue ≡ []
-  no_queue = at e.cell.permit.queue refl kept.sound.permit.asks kept.tied.linked.waits
-    where
-      at : (q : Queue) → e.cell.permit.queue ≡ q → AskForOne q → AreOf (seen acquire_of fs) q → e.cell.permit.queue ≡ []
-      at [] is asks are = is
-      at ((Acquires n d k, l) ∷ q) is asks are = absurd (acquires_none k.future (acquire.Queued d n) are.0)
-      at ((Owes, l) ∷ q) is asks are = absurd asks
+  no_queue = nobody_queued e.cell.permit.queue (seen acquire_of fs) kept.sound.permit.asks kept.tied.linked.waits (λ f d n. acquires_none f (acquire.Queued d n))
 
   no_granted : e.cell.permit.granted ≡ empty
-  no_granted = same_named e.cell.permit.granted empty (λ n. at n (get e.cell.permit.granted n) refl ∙ sym (get-empty nat_cmp n))
-    where
-      at : (n : ℕ) (o : Option ℕ) → get e.cell.permit.granted n ≡ o → get e.cell.permit.granted n ≡ None
-      at n None is = is
-      at n (Some d) is = absurd (let one = kept.tied.linked.owned n d is in acquires_none one.0 (acquire.Queued d n) one.1)
+  no_granted = holds_none e.cell.permit.granted (λ n d is. let one = kept.tied.linked.owned n d is in acquires_none one.0 (acquire.Queued d n) one.1)
 
   pub idle : e.cell.permit.free ≡ 1
   idle = free_where e.cell.permit kept.sound.permit no_queue no_granted none_held

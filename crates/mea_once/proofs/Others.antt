@@ -1,13 +1,11 @@
 -- what is done to an initialiser that keeps a waker, and polls of those that do not ask for a turn
 use Rattle.std.proofs.Common.{◌≡◌, ℕ, ◌+◌, ◌-◌, ◌≤◌, ◌==◌, ◌++◌, Bool, true, false, not, cond, length, List, [], ◌∷◌, map, Option, Some, None, is_some, option_to_list, refl, ap, sym, subst, ◌∙◌, arith, append-nil, if◌then◌else◌}
-use Rattle.std.specs.FinMap.{get, insert, remove, empty, get-empty}
-use Rattle.std.specs.Ordering.{nat_cmp}
+use Rattle.std.specs.FinMap.{get, insert, remove, empty}
 use Rattle.std.proofs.lemmas.Bool.{eqb-true}
 use Rattle.mea_base.specs.declared.answer.Answer.{Answer}
 use Rattle.mea_base.specs.declared.answer.Answer.TheVariants as answers
 use Rattle.mea_base.specs.Ready.{Waking}
 use Rattle.mea_base.proofs.Maps.{by_put, get-gone, removed_there, inside}
-use Rattle.mea_base.proofs.NamedMaps.{same_named}
 use Rattle.mea_base.proofs.Totals.{total-empty}
 use Rattle.mea_named.specs.declared.named_waker.NamedWaker.{NamedWaker}
 use Rattle.mea_named.specs.ByName.{seen, count}
@@ -16,14 +14,13 @@ use Rattle.mea_named.specs.LackingQueue.{who}
 use Rattle.mea_named.proofs.Cases.{if_true, if_false}
 use Rattle.mea_named.proofs.Own.{insert_same, seen-at, seen-back, seen-insert, len-over, count-over, count-gone}
 use Rattle.mea_sem_core.specs.declared.acquire.Acquire.TheVariants as acquire
-use Rattle.mea_sem_core.specs.Ones.{AskForOne}
-use Rattle.mea_sem_core.specs.Core.{Acquires, Owes, held_of}
+use Rattle.mea_sem_core.specs.Core.{held_of}
 use Rattle.mea_sets.specs.declared.place.Place.{Place}
 use Rattle.mea_sets.specs.WaitSet as sets
-use Rattle.mea_sets.specs.WaitSet.{Registered, is_registered, has_given, slot_after}
-use Rattle.mea_linked.specs.Linked.{names_in, AreOf, Linked}
+use Rattle.mea_sets.specs.WaitSet.{slot_after}
+use Rattle.mea_linked.specs.Linked.{names_in, Linked}
 use Rattle.mea_linked.specs.SetLinked as set_linked
-use Rattle.mea_linked.specs.SetLinked.{SlotIs, AreBelow, SetLinked, names_of, set_names}
+use Rattle.mea_linked.specs.SetLinked.{SlotIs, SetLinked, names_of, set_names}
 use Rattle.mea_linked.proofs.Linking.{linked_gone}
 use Rattle.mea_linked.proofs.Sets.{registered_names, registered_links}
 use Rattle.mea_once_core.specs.declared.stage.Stage.{Stage}
@@ -33,13 +30,13 @@ use Rattle.mea_once_model.specs.declared.job.Initialiser.TheVariants.{Unsettled,
 use Rattle.mea_once_model.specs.declared.job.Job.{Job}
 use Rattle.mea_once_model.specs.declared.job.Job.TheVariants.{Calls, Computes, Alone, Sets, Inserts, Awaits}
 use Rattle.mea_once_model.specs.Cells as model
-use Rattle.mea_once_model.specs.Cells.{Cell, CellFuture, Step, init_of, is_alone, settled, registering}
+use Rattle.mea_once_model.specs.Cells.{Cell, Step, init_of, is_alone, settled, registering}
 use Rattle.mea_once.specs.declared.future_entry.FutureEntry.{FutureEntry}
 use Rattle.mea_once.specs.declared.told.Told.{Told}
 use Rattle.mea_once.specs.Cores.{NamedCell, IsSoundCell, WaitsCell}
 use Rattle.mea_once.specs.Entries.{KeptCell, finished, stopped, waking, runs, of_running, keeps, HandsOn, RanAlone, left_by}
 use Rattle.mea_once.specs.Parts.{is_polled, cell_seen, future_seen, runner_of, is_caller, is_wait, fits, acquire_at, acquire_of, runs_at, is_running, StageFits, IsFuture, MayRun, Tied, Stands, Stepped}
-use Rattle.mea_once.proofs.OneCell.{Queue, free_where, runner_waits, runner_without, unqueued, runs_may, keeps_waker, nobody_runs, held_few}
+use Rattle.mea_once.proofs.OneCell.{free_where, holds_none, nobody_queued, runner_waits, runner_without, unqueued, runs_may, runs_not, keeps_waker, nobody_runs, held_few}
 use Rattle.mea_once.proofs.Steps.{Makes, handed, out_of_queue, out_of_waits, caller_shares, goes, all_set, empty_is}
 
 -- ---- an initialiser that keeps a waker
@@ -218,14 +215,7 @@ module _ (once : Bool) (e : KeptCell) (f : ℕ) (x : FutureEntry) (s : Stands on
       at Done is it = absurd it
 
   wait_idle : is_wait x.job ≡ true → runs e.running f ≡ false
-  wait_idle wait = at (runs e.running f) refl
-    where
-      at : (b : Bool) → runs e.running f ≡ b → runs e.running f ≡ false
-      at false idle = idle
-      at true run =
-          let may : cond (is_alone x.job) true (is_running x) ≡ true = runs_may once e s.fs s.kept.tied f x s.there run in
-          absurd (let none : is_running x ≡ false = ap runs_at (at_first (wait_asks_not x.job wait)) in
-          let no_turn : cond (is_alone x.job) true (is_running x) ≡ false = ap (λ b. cond b true (is_running x)) (wait_shares x.job wait) ∙ none in cc)
+  wait_idle wait = runs_not once e s.fs s.kept.tied f x s.there (wait_shares x.job wait) (ap runs_at (at_first (wait_asks_not x.job wait)))
 
   first_out : is_caller x.job ≡ false → waits (cell_seen e).queue f ≡ false
   first_out none = out_of_queue once e f x s New (at_first none) (λ n same. absurd (cc))
@@ -398,30 +388,19 @@ module _ (once : Bool) (e : KeptCell) (f : ℕ) (x : FutureEntry) (s : Stands on
         absurd (let new : acquire_of had.0 ≡ acquire.New 1 = ap acquire_of (sym it) ∙ ap acquire_at first_stage in let queued = had.2 in cc)
 
     none_queued : e.cell.permit.queue ≡ []
-    none_queued = at e.cell.permit.queue refl s.kept.sound.permit.asks s.kept.tied.linked.waits
-      where
-        at : (q : Queue) → e.cell.permit.queue ≡ q → AskForOne q → AreOf (seen acquire_of s.fs) q → e.cell.permit.queue ≡ []
-        at [] is asks are = is
-        at ((Acquires n d k, l) ∷ q) is asks are =
-            absurd (no_number k.future d n are.0)
-        at ((Owes, l) ∷ q) is asks are = absurd asks
+    none_queued = nobody_queued e.cell.permit.queue (seen acquire_of s.fs) s.kept.sound.permit.asks s.kept.tied.linked.waits no_number
 
     none_granted : e.cell.permit.granted ≡ empty
-    none_granted = same_named e.cell.permit.granted empty (λ n. at n (get e.cell.permit.granted n) refl ∙ sym (get-empty nat_cmp n))
-      where
-        at : (n : ℕ) (o : Option ℕ) → get e.cell.permit.granted n ≡ o → get e.cell.permit.granted n ≡ None
-        at n None is = is
-        at n (Some d) is = absurd (let one = s.kept.tied.linked.owned n d is in no_number one.0 d n one.1)
+    none_granted = holds_none e.cell.permit.granted (λ n d is. let one = s.kept.tied.linked.owned n d is in no_number one.0 d n one.1)
 
     none_has_it : held_of e.cell.permit ≡ 0
     none_has_it =
-        let others : remove s.fs f ≡ empty = same_named (remove s.fs f) empty (λ g. at g (get (remove s.fs f) g) refl ∙ sym (get-empty nat_cmp g)) in
+        let others : remove s.fs f ≡ empty = holds_none (remove s.fs f) alone_there in
         let rest : count is_running (remove s.fs f) ≡ 0 = ap (count is_running) others ∙ total-empty (λ k (x : FutureEntry). cond (is_running x) 1 0) in
         omega (arith, s.kept.tied.held, no_turn, rest, count-gone s.fs f is_running x s.there)
       where
-        at : (g : ℕ) (o : Option FutureEntry) → get (remove s.fs f) g ≡ o → get (remove s.fs f) g ≡ None
-        at g None is = is
-        at g (Some y) is = absurd (let mine : f ≡ g = s.kept.tied.single f g x y s.there (removed_there s.fs f g y is) alone in let none = ap (get (remove s.fs f)) (sym mine) ∙ get-gone s.fs f in cc)
+        alone_there : (g : ℕ) (y : FutureEntry) → get (remove s.fs f) g ≡ Some y → ⊥
+        alone_there g y is = absurd (let mine : f ≡ g = s.kept.tied.single f g x y s.there (removed_there s.fs f g y is) alone in let none = ap (get (remove s.fs f)) (sym mine) ∙ get-gone s.fs f in cc)
 
     pub alone_free : e.cell.permit.free ≡ 1
     alone_free = free_where e.cell.permit s.kept.sound.permit none_queued none_granted none_has_it

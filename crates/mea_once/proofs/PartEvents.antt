@@ -21,7 +21,6 @@ use Rattle.mea_named.proofs.LackingQueues.{length-who}
 use Rattle.mea_named.proofs.Cases.{found_is}
 use Rattle.mea_named.proofs.Halls as halls
 use Rattle.mea_named.proofs.Own.{seen-at, seen-empty, seen-insert, seen-remove, seen-alike, own-seen, len-seen, total-seen, own-at, own-had, own-none, own-put, own-gone, count-least, own-empty, insert_same, put_gone, Moves, Stays, Comes, Goes}
-use Rattle.mea_sem_core.specs.Core.{Waiter}
 use Rattle.mea_linked.specs.Linked.{names_in}
 use Rattle.mea_linked.specs.SetLinked.{AreBelow, names_of, set_names}
 use Rattle.mea_linked.proofs.Sets.{below_absent}
@@ -38,14 +37,12 @@ use Rattle.mea_once.specs.Entries.{KeptCell, begun, keeps, of_running, left_by}
 use Rattle.mea_once.specs.Parts.{is_polled, cell_seen, future_seen, cells_seen, runner_of, is_caller, is_wait, fits, gives_nothing, AreKept, Stands, Stepped, turned_to, IsOf, of_future, of_none, IsKept, IsNewCell, job_at, awaits_full, uses_alone, FitsSettled}
 use Rattle.mea_once.specs.Lends.{StandsFor}
 use Rattle.mea_once.proofs.OneCell.{begins, idle, new_tied}
+use Rattle.mea_linked.proofs.Waiters.{length-names}
 
 abbrev Good : Bool → KeptCell → Names FutureEntry → Names ℕ → Type 0
 Good once e xs ys = AreKept once e xs
 
 -- ---- how many wakers are kept
-length-names : (q : List (Waiter NamedWaker × ℕ)) → length (names_in q) ≡ length q
-length-names [] = refl
-length-names (e ∷ q) = omega (arith, length-names q)
 
 length-set : (ks : List NamedWaker) → length (names_of ks) ≡ length ks
 length-set [] = refl

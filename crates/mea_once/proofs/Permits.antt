@@ -5,19 +5,20 @@ use Rattle.std.proofs.lemmas.List.Sums.{sum_by-cons}
 use Rattle.std.specs.Ordering.{nat_cmp}
 use Rattle.std.specs.FinMap.{FinMap, get, insert, remove, entries, values}
 use Rattle.mea_base.specs.Totals.{total, weight}
-use Rattle.mea_base.proofs.Maps.{by_put}
-use Rattle.mea_base.proofs.Totals.{total-insert, total-remove, get_removed}
+use Rattle.mea_base.proofs.Maps.{by_put, removed_none}
+use Rattle.mea_base.proofs.Totals.{total-insert, total-remove}
 use Rattle.mea_named.specs.declared.named_waker.NamedWaker.{NamedWaker}
 use Rattle.mea_sem_core.specs.Core.{Core, Waiter, Acquires, Owes, AreApart, held_of, paid_to, paid_waiting, waiting}
 use Rattle.mea_sem_core.specs.Calls.{Queues, with_waker, without_acquire}
 use Rattle.mea_sem_core.specs.Ones.{AskForOne}
 use Rattle.mea_sem_core.proofs.Ones.{ones_append, ones_rewaked, ones_without}
-use Rattle.mea_linked.proofs.Waiters.{waiting-with, waiting-without}
+use Rattle.mea_linked.proofs.Waiters.{waiting-with}
 use Rattle.mea_once_core.specs.Permit.{IsNext, MayEnd, Leaves, HoldsAs, held_at, passed_to, passed_on}
 use Rattle.mea_once_core.specs.declared.stage.Stage.{Stage}
 use Rattle.mea_once_core.specs.declared.stage.Stage.TheVariants.{New, Queued, Running, Done}
 use Rattle.mea_once_core.specs.declared.cell_turn.CellTurn.{CellTurn}
 use Rattle.mea_once.specs.Cores.{TurnsTo, FindsFull, FindsLate, TakesFree, TakesNext, GoesOn, LinesUp, WaitsOn, IsOnePermit}
+use Rattle.mea_sem_core.proofs.Without.{waiting-without, AreApart-without}
 
 abbrev Queue : Type 0
 Queue = List (Waiter NamedWaker × ℕ)
@@ -114,17 +115,6 @@ left_waits q n m some = elim (cases_eq n m) as (λ x. Waits q m) [
   | inr other ↦ λ none. some (waiting-without q n m other ∙ none)
 ]
 
-apart_left : (q : Queue) (n : ℕ) → AreApart q → AreApart (without_acquire q n)
-apart_left [] n apart = tt
-apart_left ((Acquires i e v, j) ∷ q) n apart = elim (i == n) as (λ b. (i == n) ≡ b → AreApart (cond b (without_acquire q n) ((Acquires i e v, j) ∷ without_acquire q n))) [
-  | true ↦ λ is. apart_left q n apart.1
-  | false ↦ λ is. (waiting-without q n i (λ same. absurd (let equal : (i == n) ≡ true = eq-eqb i n (sym same) in cc)) ∙ apart.0, apart_left q n apart.1)
-] refl
-apart_left ((Owes, j) ∷ q) n apart = apart_left q n apart
-
-none_removed : (m : FinMap nat_cmp ℕ) (n k : ℕ) → get m k ≡ None → get (remove m n) k ≡ None
-none_removed m n k none = get_removed m n k ∙ ap (cond {A = Option ℕ} (n == k) None) none ∙ (elim (n == k) as (λ b. cond {A = Option ℕ} b None None ≡ None) [ true ↦ refl | false ↦ refl ])
-
 -- ---- the steps
 module _ (s : Core NamedWaker) (is : IsOnePermit s) where
   took_free : s.free ≡ 1 → IsOnePermit (record s { free = 0 }) × HoldsAs s New (record s { free = 0 }) Running
@@ -141,7 +131,7 @@ module _ (s : Core NamedWaker) (is : IsOnePermit s) where
       let all = shares s is in
       let sum = sum_without s.granted n 1 next in
       let left = held_left (taken n) is.one is.asks in
-      (kept_one (taken n) is.one is.asks is.apart (λ k some. none_removed s.granted n k (is.granted_apart k some)) (omega arith), omega arith)
+      (kept_one (taken n) is.one is.asks is.apart (λ k some. removed_none s.granted n k (is.granted_apart k some)) (omega arith), omega arith)
 
   lined_up : (t : Core NamedWaker) (w : NamedWaker) (n : ℕ) → s.free ≡ 0 → Queues s t 1 w n → IsOnePermit t × HoldsAs s New t (Queued n)
   lined_up t w n none queues =
@@ -171,7 +161,7 @@ module _ (s : Core NamedWaker) (is : IsOnePermit s) where
       let all = shares s is in
       let asks = ones_without s.queue n is.asks in
       let left = held_left (record s { queue = without_acquire s.queue n }) is.one asks in
-      (kept_one (record s { queue = without_acquire s.queue n }) is.one asks (apart_left s.queue n is.apart) (λ k some. is.granted_apart k (left_waits s.queue n k some)) (omega arith), omega arith)
+      (kept_one (record s { queue = without_acquire s.queue n }) is.one asks (AreApart-without s.queue n is.apart) (λ k some. is.granted_apart k (left_waits s.queue n k some)) (omega arith), omega arith)
 
   -- who has the permit gives it to the next
   pub passed_one : 1 ≤ held_of s → IsOnePermit (passed_on s) × (held_of (passed_on s) ≡ 0)

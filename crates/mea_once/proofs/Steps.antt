@@ -35,14 +35,14 @@ use Rattle.mea_once_model.specs.declared.job.Initialiser.TheVariants.{Unsettled,
 use Rattle.mea_once_model.specs.declared.job.Job.{Job}
 use Rattle.mea_once_model.specs.declared.job.Job.TheVariants.{Calls, Computes, Alone, Sets, Inserts, Awaits}
 use Rattle.mea_once_model.specs.Cells as model
-use Rattle.mea_once_model.specs.Cells.{Cell, CellFuture, Step, init_of, is_alone, passed, woken_next, wakers, given_up, filled, found_full, has_filled}
+use Rattle.mea_once_model.specs.Cells.{Cell, CellFuture, Step, init_of, is_alone, passed, woken_next, wakers, given_up, found_full, has_filled}
 use Rattle.mea_once.specs.declared.future_entry.FutureEntry.{FutureEntry}
 use Rattle.mea_once.specs.declared.told.Told.{Told}
 use Rattle.mea_once.specs.Cores.{NamedCell, IsSoundCell, TurnsTo, FindsFull, FindsLate, TakesFree, TakesNext, GoesOn, LinesUp, WaitsOn, TurnsCell, TurnFits, TurnIsQuiet, Drains, LeavesCell}
 use Rattle.mea_once.specs.Entries.{KeptCell, finished, stopped, runs, of_running, keeps, HandsOn, Ran, Follows, left_by}
 use Rattle.mea_once.specs.Parts.{is_polled, cell_seen, future_seen, runner_of, is_caller, is_wait, acquire_at, acquire_of, runs_at, is_running, StageFits, MayRun, Tied, AreKept, Stands, Stepped, turned_to, IsOf}
 use Rattle.mea_once.proofs.Turns.{permit_with}
-use Rattle.mea_once.proofs.OneCell.{Queue, length-with, length-without, fits_any, running_held, no_debts, pass_linked, seen_with, pass_seen, woken_in, pass_woken, pass_length, runner_waits, runner_without, absent_waits, held_is, its_acquire, unqueued, still_insert, runs_may, turned, departs, keeps_waker, nobody_runs, not_waiting, not_granted, held_few}
+use Rattle.mea_once.proofs.OneCell.{Queue, length-with, length-without, fits_any, running_held, no_debts, pass_linked, seen_with, pass_seen, woken_in, pass_woken, pass_length, runner_waits, runner_without, absent_waits, held_is, its_acquire, unqueued, still_insert, runs_not, turned, departs, keeps_waker, nobody_runs, not_waiting, not_granted, held_few}
 
 -- what is left of a cell and of its future, before the wakers that are ready are handed on
 pub record Makes (once : Bool) (old : KeptCell) (fs : Names FutureEntry) (n f o more : ℕ) (answer : Answer) (p : Option FutureEntry) (s : Step) (new : KeptCell) : Type 0 where
@@ -441,19 +441,14 @@ module _ (once : Bool) (e : KeptCell) (f : ℕ) (x : FutureEntry) (s : Stands on
   end_in_queue queued = if_true (waits seen_cell.queue f) _ _ queued
 
   waiting_idle : (n : ℕ) → x.stage ≡ Queued n → runs e.running f ≡ false
-  waiting_idle n is = at (runs e.running f) refl
+  waiting_idle n is = runs_not once e s.fs tie f x s.there (caller_shares x.job caller) (ap runs_at is)
     where
       fits_caller : (b : Bool) → StageFits b (Queued n) → b ≡ true
       fits_caller true is_it = refl
       fits_caller false is_it = absurd is_it
 
-      at : (b : Bool) → runs e.running f ≡ b → runs e.running f ≡ false
-      at false idle = idle
-      at true run =
-          let caller : is_caller x.job ≡ true = fits_caller (is_caller x.job) (subst (StageFits (is_caller x.job)) is (tie.each f x s.there).stage) in
-          let may : cond (is_alone x.job) true (is_running x) ≡ true = runs_may once e s.fs tie f x s.there run in
-          absurd (let not_alone = caller_shares x.job caller in let no_turn : is_running x ≡ false = ap runs_at is in
-          let no : cond (is_alone x.job) true (is_running x) ≡ false = ap (λ b. cond b true (is_running x)) not_alone ∙ no_turn in cc)
+      caller : is_caller x.job ≡ true
+      caller = fits_caller (is_caller x.job) (subst (StageFits (is_caller x.job)) is (tie.each f x s.there).stage)
 
   pub ends_make : (c : NamedCell) → LeavesCell e.cell x.stage c → Makes once e s.fs s.n f x.cell 0 answers.Done None (model.end f seen_future seen_cell) (Left c)
   ends_make c left = at x.stage refl left.leaves

@@ -87,8 +87,10 @@ over reply = record { answer = reply; over = true }
 -- the initialiser of a future whose turn it is ran
 abbrev pub Ran : Initialiser → KeptCell → NamedWaker → Job → Told → KeptCell → Type 0
 Ran Unsettled e k job told e' = (told ≡ pending) × (e' ≡ record e { running = Some k })
-Ran (Gives v) e k job told e' = (c : NamedCell) × FillsCell e.cell v c × (told ≡ over (has_filled job v)) × (e' ≡ finished (stopped (record e { cell = c }) k.future) job)
-Ran (Fails x) e k job told e' = (c : NamedCell) × GivesUpCell e.cell c × (told ≡ over (answers.Failure x)) × (e' ≡ finished (stopped (record e { cell = c }) k.future) job)
+Ran (Gives v) e k job told e' =
+    (c : NamedCell) × FillsCell e.cell v c × (told ≡ over (has_filled job v)) × (e' ≡ finished (stopped (record e { cell = c }) k.future) job)
+Ran (Fails x) e k job told e' =
+    (c : NamedCell) × GivesUpCell e.cell c × (told ≡ over (answers.Failure x)) × (e' ≡ finished (stopped (record e { cell = c }) k.future) job)
 
 -- what follows from a poll for one's turn
 abbrev pub Follows : CellTurn NamedWaker → KeptCell → NamedWaker → Job → Told → KeptCell → Type 0
@@ -105,5 +107,6 @@ left_by false x = Some x
 abbrev pub RanAlone : Option ℕ → Initialiser → KeptCell → NamedWaker → Job → Told → KeptCell → Type 0
 RanAlone (Some v) r e k job told e' = (told ≡ over (found_full job v)) × (e' ≡ finished (stopped e k.future) job)
 RanAlone None Unsettled e k job told e' = (told ≡ pending) × (e' ≡ record e { running = Some k })
-RanAlone None (Gives v) e k job told e' = (told ≡ over (found_full job v)) × (e' ≡ finished (stopped (record e { cell = record e.cell { value = Some v } }) k.future) job)
+RanAlone None (Gives v) e k job told e' =
+    (told ≡ over (found_full job v)) × (e' ≡ finished (stopped (record e { cell = record e.cell { value = Some v } }) k.future) job)
 RanAlone None (Fails x) e k job told e' = (told ≡ over (answers.Failure x)) × (e' ≡ finished (stopped e k.future) job)

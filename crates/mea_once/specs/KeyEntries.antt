@@ -34,7 +34,8 @@ round_code =
 
 abbrev pub kept_table_code : Coded KeptTable
 kept_table_code =
-    code_by (NamedKeyed × (Names ℕ × (Names Round × ℕ))) (coded× (keyed_code coded_ℕ coded_ℕ waker_code) (coded× (names_code coded_ℕ) (coded× (names_code round_code) coded_ℕ)))
+    code_by (NamedKeyed × (Names ℕ × (Names Round × ℕ)))
+    (coded× (keyed_code coded_ℕ coded_ℕ waker_code) (coded× (names_code coded_ℕ) (coded× (names_code round_code) coded_ℕ)))
     (λ e. (e.keyed, (e.current, (e.rounds, e.futures)))) (λ p. record { keyed = p.0; current = p.1.0; rounds = p.1.1.0; futures = p.1.1.1 }) (λ _. refl)
 
 -- a new round of a key, with one caller
@@ -51,8 +52,10 @@ parted r = record r { callers = r.callers - 1 }
 -- the round that a poll of a future is at, of which it is a caller then: its own; its key's current one; or a new one
 pub data Enters (e : KeptTable) (i : ℕ) (x : KeyFuture) : ℕ → KeptTable → Type 0 where
   Stays : (n : ℕ) → x.round ≡ Some n → Enters e i x n e
-  Joins : (n : ℕ) (r : Round) → x.round ≡ None → get e.current x.key ≡ Some n → get e.rounds n ≡ Some r → Enters e i x n (record e { rounds = insert e.rounds n (joined r) })
-  Opens : x.round ≡ None → get e.current x.key ≡ None → Enters e i x i (record e { rounds = insert e.rounds i (new_round x.key); current = insert e.current x.key i })
+  Joins : (n : ℕ) (r : Round) → x.round ≡ None → get e.current x.key ≡ Some n → get e.rounds n ≡ Some r
+      → Enters e i x n (record e { rounds = insert e.rounds n (joined r) })
+  Opens : x.round ≡ None → get e.current x.key ≡ None
+      → Enters e i x i (record e { rounds = insert e.rounds i (new_round x.key); current = insert e.current x.key i })
 
 -- the key has this round no more, where it was its current one
 abbrev pub current_without : Names ℕ → ℕ → ℕ → Names ℕ

@@ -97,15 +97,18 @@ HasRound e k m s = ((s.callers ≡ 0) × (s.cell.permit.queue ≡ [])) ⊎ ((n :
 -- group has
 pub data IsKey (once : Bool) (e : KeptTable) (k : ℕ) : Type 0 where
   Absent : number_of nat_eq e.keyed.table k ≡ None → get e.current k ≡ None → IsKey once e k
-  Computing : (n : ℕ) (r : Round) (s : Shown ℕ NamedWaker) → number_of nat_eq e.keyed.table k ≡ Some r.entry → get e.current k ≡ Some n → get e.rounds n ≡ Some r → r.key ≡ k → entry_at e.keyed.table r.entry ≡ Some s
+  Computing : (n : ℕ) (r : Round) (s : Shown ℕ NamedWaker) → number_of nat_eq e.keyed.table k ≡ Some r.entry → get e.current k ≡ Some n
+      → get e.rounds n ≡ Some r → r.key ≡ k → entry_at e.keyed.table r.entry ≡ Some s
       → s.cell.value ≡ None → s.listed ≡ true → IsKey once e k
-  Valued : (m v : ℕ) (s : Shown ℕ NamedWaker) → number_of nat_eq e.keyed.table k ≡ Some m → get e.current k ≡ None → entry_at e.keyed.table m ≡ Some s → s.cell.value ≡ Some v → s.listed ≡ true → once ≡ false → HasRound e k m s
+  Valued : (m v : ℕ) (s : Shown ℕ NamedWaker) → number_of nat_eq e.keyed.table k ≡ Some m → get e.current k ≡ None
+      → entry_at e.keyed.table m ≡ Some s → s.cell.value ≡ Some v → s.listed ≡ true → once ≡ false → HasRound e k m s
       → IsKey once e k
 
 -- a future of a round is at the round's entry with the round's key, and has asked for its turn; one of none is new
 abbrev pub CallFits : Option ℕ → KeptTable → KeyFuture → Type 0
 CallFits None e x = (x.call.stage ≡ key_stages.New x.key) × (x.call.call.stage ≡ stages.New)
-CallFits (Some n) e x = (r : Round) × (get e.rounds n ≡ Some r) × (x.call.stage ≡ key_stages.Calls r.entry) × (r.key ≡ x.key) × (is_polled x.call.call.stage ≡ true)
+CallFits (Some n) e x =
+    (r : Round) × (get e.rounds n ≡ Some r) × (x.call.stage ≡ key_stages.Calls r.entry) × (r.key ≡ x.key) × (is_polled x.call.call.stage ≡ true)
 
 -- how many wait in the cell of a round's entry
 abbrev pub waiting_of : KeptTable → ℕ → Round → ℕ

@@ -36,5 +36,6 @@ pub record StandsForTable (h : Tables) (o : ℕ) (k : NamedKeyed) : Type 0 where
   pub table : Table
   pub there : get h.tables o ≡ Some table
   pub values : (key : ℕ) → get table.values key ≡ value_for nat_eq k key
-  pub current : (key n : ℕ) → get table.current key ≡ Some n → (c : Cell) × (m : ℕ) × (s : Shown ℕ NamedWaker) × (get table.rounds n ≡ Some c) × (number_of nat_eq k.table key ≡ Some m) × (entry_at k.table m ≡ Some s) × IsRoundOf c s
+  pub current : (key n : ℕ) → get table.current key ≡ Some n → (c : Cell) × (m : ℕ) × (s : Shown ℕ NamedWaker)
+      × (get table.rounds n ≡ Some c) × (number_of nat_eq k.table key ≡ Some m) × (entry_at k.table m ≡ Some s) × IsRoundOf c s
   pub absent : (key : ℕ) → get table.values key ≡ None → get table.current key ≡ None → number_of nat_eq k.table key ≡ None

@@ -38,7 +38,14 @@ runner_of None = []
 runner_of (Some k) = (k.future, k.waker) ∷ []
 
 abbrev pub cell_seen : KeptCell → Cell
-cell_seen e = record { value = e.cell.value; taken = e.cell.permit.free == 0; queue = who (names_in e.cell.permit.queue); runner = runner_of e.running; waits = set_names e.cell.waits }
+cell_seen e =
+    record {
+      value = e.cell.value;
+      taken = e.cell.permit.free == 0;
+      queue = who (names_in e.cell.permit.queue);
+      runner = runner_of e.running;
+      waits = set_names e.cell.waits;
+    }
 
 abbrev pub future_seen : FutureEntry → CellFuture
 future_seen x = record { cell = x.cell; job = x.job; polled = is_polled x.stage }

@@ -210,7 +210,9 @@ impl<C: TurnCore> CellEntry<C> {
         requires stands { Stands C.is_once self.old f future.old }
         requires caller { is_caller future.old.job ≡ true }
         requires room { keeps self.old ≤ ready.old.registered }
-        ensures steps { IfOk result (λ told. (s : Stands C.is_once self.old f future.old) → Stepped C.is_once self.old s.fs s.n f future.old.cell (left_by told.over future.new) (poll f waker (future_seen future.old) (cell_seen self.old)) told.answer self.new ready.old ready.new) }
+        ensures steps { IfOk result (λ told. (s : Stands C.is_once self.old f future.old) →
+            Stepped C.is_once self.old s.fs s.n f future.old.cell (left_by told.over future.new)
+            (poll f waker (future_seen future.old) (cell_seen self.old)) told.answer self.new ready.old ready.new) }
         ensures err { OnErr result ((self.new ≡ self.old) × (future.new ≡ future.old) × (ready.new ≡ ready.old)) }
     {
         let named = NamedWaker { future: f, waker };
@@ -256,7 +258,9 @@ impl<C: TurnCore> CellEntry<C> {
     )
         requires room { keeps self.old ≤ ready.old.registered }
         requires fits { fits C.is_once (settled outcome future.old.job) ≡ true }
-        ensures { (s : Stands C.is_once self.old f future.old) → Stepped C.is_once self.old s.fs s.n f future.old.cell (Some future.new) (settle f outcome (future_seen future.old) (cell_seen self.old)) Answer.Done self.new ready.old ready.new }
+        ensures { (s : Stands C.is_once self.old f future.old) →
+            Stepped C.is_once self.old s.fs s.n f future.old.cell (Some future.new)
+            (settle f outcome (future_seen future.old) (cell_seen self.old)) Answer.Done self.new ready.old ready.new }
     {
         self.wake_kept(f, ready);
         future.job = settled(future.job, outcome);
@@ -266,7 +270,8 @@ impl<C: TurnCore> CellEntry<C> {
     pub fn end(&mut self, f: u64, future: FutureEntry, ready: &mut Ready<u64>)
         requires stands { Stands C.is_once self.old f future }
         requires room { keeps self.old ≤ ready.old.registered }
-        ensures { (s : Stands C.is_once self.old f future) → Stepped C.is_once self.old s.fs s.n f future.cell None (end f (future_seen future) (cell_seen self.old)) Answer.Done self.new ready.old ready.new }
+        ensures { (s : Stands C.is_once self.old f future) →
+            Stepped C.is_once self.old s.fs s.n f future.cell None (end f (future_seen future) (cell_seen self.old)) Answer.Done self.new ready.old ready.new }
     {
         let more = self.keeps(ready);
         self.core.leave(future.stage);
@@ -310,7 +315,9 @@ impl<C: WaitCore> CellEntry<C> {
         requires stands { Stands C.TurnCore.is_once self.old f future.old }
         requires wait { is_wait future.old.job ≡ true }
         requires room { keeps self.old ≤ ready.old.registered }
-        ensures steps { IfOk result (λ told. (s : Stands C.TurnCore.is_once self.old f future.old) → Stepped C.TurnCore.is_once self.old s.fs s.n f future.old.cell (left_by told.over future.new) (poll f waker (future_seen future.old) (cell_seen self.old)) told.answer self.new ready.old ready.new) }
+        ensures steps { IfOk result (λ told. (s : Stands C.TurnCore.is_once self.old f future.old) →
+            Stepped C.TurnCore.is_once self.old s.fs s.n f future.old.cell (left_by told.over future.new)
+            (poll f waker (future_seen future.old) (cell_seen self.old)) told.answer self.new ready.old ready.new) }
         ensures err { OnErr result ((self.new ≡ self.old) × (future.new ≡ future.old) × (ready.new ≡ ready.old)) }
     {
         let Ok(()) = ready.register() else {
@@ -378,7 +385,9 @@ impl<C: WholeCore> CellEntry<C> {
         requires stands { Stands C.TurnCore.is_once self.old f future.old }
         requires alone { is_alone future.old.job ≡ true }
         requires room { keeps self.old ≤ ready.old.registered }
-        ensures steps { IfOk result (λ told. (s : Stands C.TurnCore.is_once self.old f future.old) → Stepped C.TurnCore.is_once self.old s.fs s.n f future.old.cell (left_by told.over future.new) (poll f waker (future_seen future.old) (cell_seen self.old)) told.answer self.new ready.old ready.new) }
+        ensures steps { IfOk result (λ told. (s : Stands C.TurnCore.is_once self.old f future.old) →
+            Stepped C.TurnCore.is_once self.old s.fs s.n f future.old.cell (left_by told.over future.new)
+            (poll f waker (future_seen future.old) (cell_seen self.old)) told.answer self.new ready.old ready.new) }
         ensures err { OnErr result ((self.new ≡ self.old) × (future.new ≡ future.old) × (ready.new ≡ ready.old)) }
     {
         let named = NamedWaker { future: f, waker };

@@ -133,7 +133,8 @@ impl OnceHall {
         requires { self.old.next ≤ number }
         ensures played { IfOk result (λ reply. Yields self.old number (step self.old.hall number event.now) reply self.new) }
         ensures allowed { OnOk result (cause_of self.old.hall event.now ≡ None) }
-        ensures refused { IfErr result (λ stop. (cause_of self.old.hall event.now ≡ Some stop) ⊎ ((cause_of self.old.hall event.now ≡ None) × (stop ≡ Stop.NoMemory))) }
+        ensures refused { IfErr result (λ stop. (cause_of self.old.hall event.now ≡ Some stop)
+            ⊎ ((cause_of self.old.hall event.now ≡ None) × (stop ≡ Stop.NoMemory))) }
         ensures no_memory { TakesNoMemory event.now → result ≢ Err Stop.NoMemory }
         ensures err { OnErr result (self.new ≡ self.old) }
     {

@@ -146,7 +146,8 @@ impl<C: KeyCore> KeyPart<C> {
         requires next { self.old.next ≤ number }
         requires there { is_future self.old.hall f ≡ true }
         requires room { registered self.old.hall ≤ ready.old.registered }
-        ensures ok { IfOk result (λ answer. PartYields registered self.old number (key_act C.is_once self.old.hall number (PollKey f waker)) answer self.new ready.old ready.new) }
+        ensures ok { IfOk result (λ answer.
+            PartYields registered self.old number (key_act C.is_once self.old.hall number (PollKey f waker)) answer self.new ready.old ready.new) }
         ensures err { OnErr result ((self.new ≡ self.old) × (ready.new ≡ ready.old)) }
     {
         let future = self.futures.at_mut(f);

@@ -66,9 +66,12 @@ impl Kinds {
         requires below { AreBelow (parts self.old.onces self.old.values self.old.maps self.old.groups) number }
         requires room { registered (hall_of (parts self.old.onces self.old.values self.old.maps self.old.groups)) ≤ ready.old.registered }
         requires allowed { cause_of (hall_of (parts self.old.onces self.old.values self.old.maps self.old.groups)) event.now ≡ None }
-        ensures played { IfOk result (λ answer. PlaysKinds (parts self.old.onces self.old.values self.old.maps self.old.groups) number event.now answer (parts self.new.onces self.new.values self.new.maps self.new.groups) ready.old ready.new) }
+        ensures played { IfOk result (λ answer.
+            PlaysKinds (parts self.old.onces self.old.values self.old.maps self.old.groups) number event.now answer
+            (parts self.new.onces self.new.values self.new.maps self.new.groups) ready.old ready.new) }
         ensures no_memory { TakesNoMemory event.now → OnErr result ⊥ }
-        ensures err { OnErr result ((parts self.new.onces self.new.values self.new.maps self.new.groups ≡ parts self.old.onces self.old.values self.old.maps self.old.groups) × (ready.new ≡ ready.old)) }
+        ensures err { OnErr result ((parts self.new.onces self.new.values self.new.maps self.new.groups
+            ≡ parts self.old.onces self.old.values self.old.maps self.old.groups) × (ready.new ≡ ready.old)) }
     {
         match *event {
             OnceEvent::OmNew => {
@@ -103,9 +106,12 @@ impl Kinds {
         requires below { AreBelow (parts self.old.onces self.old.values self.old.maps self.old.groups) number }
         requires room { registered (hall_of (parts self.old.onces self.old.values self.old.maps self.old.groups)) ≤ ready.old.registered }
         requires allowed { cause_of (hall_of (parts self.old.onces self.old.values self.old.maps self.old.groups)) event.now ≡ None }
-        ensures played { IfOk result (λ answer. PlaysKinds (parts self.old.onces self.old.values self.old.maps self.old.groups) number event.now answer (parts self.new.onces self.new.values self.new.maps self.new.groups) ready.old ready.new) }
+        ensures played { IfOk result (λ answer.
+            PlaysKinds (parts self.old.onces self.old.values self.old.maps self.old.groups) number event.now answer
+            (parts self.new.onces self.new.values self.new.maps self.new.groups) ready.old ready.new) }
         ensures no_memory { TakesNoMemory event.now → OnErr result ⊥ }
-        ensures err { OnErr result ((parts self.new.onces self.new.values self.new.maps self.new.groups ≡ parts self.old.onces self.old.values self.old.maps self.old.groups) × (ready.new ≡ ready.old)) }
+        ensures err { OnErr result ((parts self.new.onces self.new.values self.new.maps self.new.groups
+            ≡ parts self.old.onces self.old.values self.old.maps self.old.groups) × (ready.new ≡ ready.old)) }
     {
         match *event {
             OnceEvent::SfNew => {

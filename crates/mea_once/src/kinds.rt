@@ -103,7 +103,8 @@ impl Kinds {
         requires next { self.old.onces.next ≤ number }
         requires there { is_future self.old.onces.hall f ≡ true }
         requires room { parts.registered self.old.onces.hall ≤ ready.old.registered }
-        ensures ok { IfOk result (λ answer. PartYields parts.registered self.old.onces number (act_in self.old.onces.hall number (Poll f waker)) answer self.new.onces ready.old ready.new) }
+        ensures ok { IfOk result (λ answer.
+            PartYields parts.registered self.old.onces number (act_in self.old.onces.hall number (Poll f waker)) answer self.new.onces ready.old ready.new) }
         ensures same { (self.new.values ≡ self.old.values) × (self.new.maps ≡ self.old.maps) × (self.new.groups ≡ self.old.groups) }
         ensures err { OnErr result ((self.new.onces ≡ self.old.onces) × (ready.new ≡ ready.old)) }
     {
@@ -125,7 +126,8 @@ impl Kinds {
         requires next { self.old.values.next ≤ number }
         requires there { is_future self.old.values.hall f ≡ true }
         requires room { parts.registered self.old.values.hall ≤ ready.old.registered }
-        ensures ok { IfOk result (λ answer. PartYields parts.registered self.old.values number (act_in self.old.values.hall number (Poll f waker)) answer self.new.values ready.old ready.new) }
+        ensures ok { IfOk result (λ answer.
+            PartYields parts.registered self.old.values number (act_in self.old.values.hall number (Poll f waker)) answer self.new.values ready.old ready.new) }
         ensures same { (self.new.onces ≡ self.old.onces) × (self.new.maps ≡ self.old.maps) × (self.new.groups ≡ self.old.groups) }
         ensures err { OnErr result ((self.new.values ≡ self.old.values) × (ready.new ≡ ready.old)) }
     {
@@ -146,9 +148,12 @@ impl Kinds {
         requires below { AreBelow (parts self.old.onces self.old.values self.old.maps self.old.groups) number }
         requires room { registered (hall_of (parts self.old.onces self.old.values self.old.maps self.old.groups)) ≤ ready.old.registered }
         requires allowed { cause_of (hall_of (parts self.old.onces self.old.values self.old.maps self.old.groups)) event.now ≡ None }
-        ensures played { IfOk result (λ answer. PlaysKinds (parts self.old.onces self.old.values self.old.maps self.old.groups) number event.now answer (parts self.new.onces self.new.values self.new.maps self.new.groups) ready.old ready.new) }
+        ensures played { IfOk result (λ answer.
+            PlaysKinds (parts self.old.onces self.old.values self.old.maps self.old.groups) number event.now answer
+            (parts self.new.onces self.new.values self.new.maps self.new.groups) ready.old ready.new) }
         ensures no_memory { TakesNoMemory event.now → OnErr result ⊥ }
-        ensures err { OnErr result ((parts self.new.onces self.new.values self.new.maps self.new.groups ≡ parts self.old.onces self.old.values self.old.maps self.old.groups) × (ready.new ≡ ready.old)) }
+        ensures err { OnErr result ((parts self.new.onces self.new.values self.new.maps self.new.groups
+            ≡ parts self.old.onces self.old.values self.old.maps self.old.groups) × (ready.new ≡ ready.old)) }
     {
         match *event {
             OnceEvent::OmNew

@@ -166,7 +166,8 @@ impl<C: KeyCore> TableEntry<C> {
     // A new round is the key's current one. On an error nothing has changed.
     fn open(&mut self, number: u64, key: u64) -> Result<u64, NoMemory>
         requires { get self.old.rounds number ≡ None }
-        ensures ok { IfOk result (λ n. (n ≡ number) × (self.new ≡ record self.old { rounds = insert self.old.rounds number (new_round key); current = insert self.old.current key number })) }
+        ensures ok { IfOk result (λ n. (n ≡ number)
+            × (self.new ≡ record self.old { rounds = insert self.old.rounds number (new_round key); current = insert self.old.current key number })) }
         ensures err { OnErr result (self.new ≡ self.old) }
     {
         let Ok(()) = self.rounds.insert(number, Round::new(key)) else {
@@ -311,7 +312,10 @@ impl<C: KeyCore> TableEntry<C> {
     ) -> Result<Told, NoMemory>
         requires stands { StandsTable C.is_once self.old f future.old number }
         requires room { table_keeps self.old ≤ ready.old.registered }
-        ensures steps { IfOk result (λ told. (s : StandsTable C.is_once self.old f future.old number) → SteppedTable C.is_once self.old s.fs number f future.old.table (left_by told.over future.new) (λ h. tables.poll C.is_once h number f waker (key_future_seen future.old) (table_seen self.old) future.old.round) told.answer self.new ready.old ready.new) }
+        ensures steps { IfOk result (λ told. (s : StandsTable C.is_once self.old f future.old number) →
+            SteppedTable C.is_once self.old s.fs number f future.old.table (left_by told.over future.new)
+            (λ h. tables.poll C.is_once h number f waker (key_future_seen future.old) (table_seen self.old) future.old.round)
+            told.answer self.new ready.old ready.new) }
         ensures err { OnErr result (IsSameTable self.old self.new × (future.new ≡ future.old) × (ready.new ≡ ready.old)) }
     {
         let named = NamedWaker { future: f, waker };
@@ -361,7 +365,10 @@ impl<C: KeyCore> TableEntry<C> {
     )
         requires stands { (i : ℕ) × StandsTable C.is_once self.old f future.old i }
         requires room { table_keeps self.old ≤ ready.old.registered }
-        ensures { (i : ℕ) (s : StandsTable C.is_once self.old f future.old i) → SteppedTable C.is_once self.old s.fs i f future.old.table (Some future.new) (λ h. tables.settle C.is_once h f outcome (key_future_seen future.old) (table_seen self.old) future.old.round) Answer.Done self.new ready.old ready.new }
+        ensures { (i : ℕ) (s : StandsTable C.is_once self.old f future.old i) →
+            SteppedTable C.is_once self.old s.fs i f future.old.table (Some future.new)
+            (λ h. tables.settle C.is_once h f outcome (key_future_seen future.old) (table_seen self.old) future.old.round)
+            Answer.Done self.new ready.old ready.new }
     {
         future.call.call.init.settle(outcome);
         let Some(n) = future.round else {
@@ -378,7 +385,10 @@ impl<C: KeyCore> TableEntry<C> {
     pub fn end(&mut self, f: u64, future: KeyFuture, ready: &mut Ready<u64>)
         requires stands { (i : ℕ) × StandsTable C.is_once self.old f future i }
         requires room { table_keeps self.old ≤ ready.old.registered }
-        ensures { (i : ℕ) (s : StandsTable C.is_once self.old f future i) → SteppedTable C.is_once self.old s.fs i f future.table None (λ h. tables.end C.is_once h f (key_future_seen future) (Some (table_seen self.old))) Answer.Done self.new ready.old ready.new }
+        ensures { (i : ℕ) (s : StandsTable C.is_once self.old f future i) →
+            SteppedTable C.is_once self.old s.fs i f future.table None
+            (λ h. tables.end C.is_once h f (key_future_seen future) (Some (table_seen self.old)))
+            Answer.Done self.new ready.old ready.new }
     {
         let Some(n) = future.round else {
             self.core.end(future.call);
@@ -396,7 +406,10 @@ impl<C: KeyCore> TableEntry<C> {
 
     /// The key has neither a value nor a current round any more; callers go on.
     pub fn discard(&mut self, key: u64)
-        ensures { (fs : Names KeyFuture) → AreTogether C.is_once self.old fs → (table_seen self.new ≡ without_key key (table_seen self.old)) × AreTogether C.is_once self.new fs × (table_keeps self.new ≡ table_keeps self.old) × (self.new.rounds ≡ self.old.rounds) × (self.new.futures ≡ self.old.futures) }
+        ensures { (fs : Names KeyFuture) → AreTogether C.is_once self.old fs →
+            (table_seen self.new ≡ without_key key (table_seen self.old))
+            × AreTogether C.is_once self.new fs × (table_keeps self.new ≡ table_keeps self.old)
+            × (self.new.rounds ≡ self.old.rounds) × (self.new.futures ≡ self.old.futures) }
     {
         self.core.discard(key);
         if self.current.has(key) {

@@ -37,7 +37,8 @@ pub trait TurnCore: Drop {
 
     /// Takes the first waker that is ready.
     fn next_wake(&mut self) -> Option<NamedWaker>
-        ensures some { IfSome result (λ waker. seen_as self.old ≡ record (seen_as self.new) { permit = record (seen_as self.new).permit { wakes = waker ∷ (seen_as self.new).permit.wakes } }) }
+        ensures some { IfSome result (λ waker. seen_as self.old ≡
+            record (seen_as self.new) { permit = record (seen_as self.new).permit { wakes = waker ∷ (seen_as self.new).permit.wakes } }) }
         ensures none { IfNone result (((seen_as self.old).permit.wakes ≡ []) × (self.new ≡ self.old)) };
 
     /// Polls a call for its turn. On an error nothing has changed.

@@ -15,7 +15,7 @@ use Rattle.mea_once_core.specs.Links.{AreLinked, Shown, shown, shown_at, Changes
 use Rattle.mea_once_core.specs.Table.{Table, entry_at, number_of}
 use Rattle.mea_once_core.specs.Inserts.{Inserts, IsIdle, full_cell, listed_entry, last_value, value_in}
 use Rattle.mea_once_core.proofs.Links.{told-last}
-use Rattle.mea_once_core.proofs.Tables.{unlists, linked-dropped}
+use Rattle.mea_once_core.proofs.Tables.{unlists, linked-dropped, same_entry}
 
 module _ {K : Type 0} (eq : K → K → Bool) (key : K) (m n : ℕ) where
   -- a number in the place of another: the pair stands at the first place of the key, and each other pair as it did
@@ -201,14 +201,11 @@ module _ {K V W : Type 0} (eq : K → K → Bool) where
     one_key = λ k l n has had. key_by k l n (eq key k) refl (eq key l) refl (sym (put.numbers k) ∙ has) (sym (put.numbers l) ∙ had);
   }
     where
-      inside : (x y : Shown V W) → ◌≡◌ {A = Option (Shown V W)} (Some x) (Some y) → x ≡ y
-      inside x y is = ap (λ o. unwrap_or o x) is
-
       gone : (e : Shown V W) → IsIdle e → unlisted e ≡ None
       gone e idle = ap unlisted idle.1
 
       entry_by : (n : ℕ) (e : Shown V W) → entry_at t' n ≡ Some e → (n ≡ put.number) ⊎ (n ≡ put.number → ⊥) → (o : Option ℕ) → number_of eq t key ≡ o → IsIdle e
-      entry_by n e there (inl same) o has = (value, sym (inside (listed_entry (full_cell value)) e (sym put.entry ∙ ap (entry_at t') (sym same) ∙ there)))
+      entry_by n e there (inl same) o has = (value, sym (same_entry (listed_entry (full_cell value)) e (sym put.entry ∙ ap (entry_at t') (sym same) ∙ there)))
       entry_by n e there (inr differs) None has = made.entries n e (sym (put.others n differs (λ had. absurd (let both : None ≡ Some n = sym has ∙ had in cc))) ∙ there)
       entry_by n e there (inr differs) (Some m) has = old_by (cases_eq n m)
         where

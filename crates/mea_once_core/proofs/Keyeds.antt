@@ -1,5 +1,5 @@
 -- what a map or a group of calls keeps
-use Rattle.std.proofs.Common.{◌≡◌, ◌≢◌, ◌∙◌, ℕ, ◌+◌, ◌-◌, ◌≤◌, ◌==◌, ◌&&◌, ◌++◌, Bool, true, false, not, cond, List, [], length, Option, Some, None, unwrap_or, Result, Ok, Err, is_err, OnOk, IfOk, IfErr, MatchOption, MatchResult, IsSome, IfSome, is_some, append-nil, refl, ap, sym, subst, arith}
+use Rattle.std.proofs.Common.{◌≡◌, ◌≢◌, ◌∙◌, ℕ, ◌+◌, ◌-◌, ◌≤◌, ◌==◌, ◌&&◌, ◌++◌, Bool, true, false, not, cond, List, [], length, Option, Some, None, unwrap_or, Result, Ok, Err, is_err, OnOk, IfOk, IfErr, IsTrue, ◌↔◌, MatchOption, MatchResult, IsSome, IfSome, is_some, append-nil, refl, ap, sym, subst, arith}
 use Rattle.std.specs.Map.{lookup}
 use Rattle.mea_base.specs.declared.no_memory.NoMemory.{NoMemory}
 use Rattle.mea_base.specs.Outbox.{Wakes}
@@ -18,20 +18,17 @@ use Rattle.mea_once_core.specs.declared.stage.Stage.TheVariants as stages
 use Rattle.mea_once_core.specs.declared.key_call.KeyStage.{KeyStage}
 use Rattle.mea_once_core.specs.Permit.{Waits}
 use Rattle.std.specs.FinMap as map
-use Rattle.mea_once_core.proofs.Tables.{gives-up, changes-twice, and-true, and-false, same-changes}
+use Rattle.mea_once_core.proofs.Tables.{gives-up, changes-twice, and-true, and-false, same-changes, at_entry, same_entry}
 use Rattle.mea_once_core.proofs.Onces.{refused}
 use Rattle.mea_once_core.proofs.Waits.{same-waiting, waiting-changes, quiet-changes, at-most}
 
 module _ {V W : Type 0} where
-  inside_some : (f s : Shown V W) → ◌≡◌ {A = Option (Shown V W)} (Some f) (Some s) → f ≡ s
-  inside_some f s is = ap (λ y. unwrap_or y f) is
-
   -- where the cell of one entry stays, all cells rest and as many wait
   pub kept : (xs ys : List (Option (Entry V W))) (n : ℕ) (e f : Shown V W) → shown_at xs n ≡ Some e → Changes xs ys n (Some f) → f.cell ≡ e.cell → AreQuiet xs → AreQuiet ys × (waiting_in ys ≡ waiting_in xs)
   kept xs ys n e f is c same quiet =
       let sum : waiting_in ys + waiting_at (Some e) ≡ waiting_in xs + waiting_at (Some f) = waiting-changes xs ys n (Some e) (Some f) is c in
       let count : waiting_at (Some f) ≡ waiting_at (Some e) = ap (λ (x : Cell V W). length x.permit.queue) same in
-      (quiet-changes xs ys n (Some f) (λ s there. ap (λ (x : Shown V W). x.cell.permit.wakes) (sym (inside_some f s there)) ∙ ap (λ (x : Cell V W). x.permit.wakes) same ∙ quiet n e is) c quiet, omega arith)
+      (quiet-changes xs ys n (Some f) (λ s there. ap (λ (x : Shown V W). x.cell.permit.wakes) (sym (same_entry f s there)) ∙ ap (λ (x : Cell V W). x.permit.wakes) same ∙ quiet n e is) c quiet, omega arith)
 
   -- where an entry goes
   pub kept-without : (xs ys : List (Option (Entry V W))) (n : ℕ) (e : Shown V W) → shown_at xs n ≡ Some e → Changes xs ys n None → AreQuiet xs → AreQuiet ys × (waiting_in ys + length e.cell.permit.queue ≡ waiting_in xs)
@@ -45,7 +42,7 @@ module _ {V W : Type 0} where
   -- what is left of an entry, by whether it is in use
   pub left-some : (b : Bool) (e s : Shown V W) → ◌≡◌ {A = Option (Shown V W)} (cond b None (Some e)) (Some s) → s ≡ e
   left-some true e s is = absurd (cc)
-  left-some false e s is = sym (inside_some e s is)
+  left-some false e s is = sym (same_entry e s is)
 
   stays-or-goes : (o : Option (Shown V W)) (b : Bool) (e : Shown V W) → o ≡ cond b None (Some e) → IsSome o → o ≡ Some e
   stays-or-goes o true e is some = absurd (let there : is_some {T = Shown V W} None ≡ true = ap is_some (sym is) ∙ some in cc)
@@ -56,9 +53,6 @@ module _ {V W : Type 0} where
   goes-or-stays o false e is none = absurd (none (ap is_some is))
 
 module _ {K V W : Type 0} (eq : K → K → Bool) where
-  pub at_some : (P : Shown V W → Type 0) (o : Option (Shown V W)) (e : Shown V W) → o ≡ Some e → IfSome o P → P e
-  at_some P o e is h = let f : (x : Option (Shown V W)) → Type 0 = λ x. IfSome x P in subst f is h
-
   pub given-up : (k k' : Keyed K V W) (n : ℕ) (once : Bool) (e : Shown V W) → once ≡ true → entry_at k.table n ≡ Some e → 1 ≤ e.callers → IfSome (entry_at k.table n) (λ s. s.listed ≡ true → Unlists eq k.table k'.table n)
       → IfSome (entry_at k.table n) (λ s. s.listed ≡ false → IsSame eq k.table k'.table) → k'.wakes ≡ k.wakes → GivesUp eq once k n e k'
   given-up k k' n once e is_once is some listed away wakes =
@@ -94,7 +88,7 @@ module _ {K V W : Type 0} (eq : K → K → Bool) where
       → Computed eq {E = E} once k n e (Ok (Ready (Ok v))) k' Done
   computed-some E k b k' n once e v gives value leave =
       let e1 : Shown V W = record e { listed = e.listed && not once } in
-      (b, gives, (v, at_some (λ s. s.cell.value ≡ Some v) (entry_at b.table n) e1 gives.entries.changed value, refl, leave e1 gives.entries.changed, refl))
+      (b, gives, (v, at_entry (λ s. s.cell.value ≡ Some v) (entry_at b.table n) e1 gives.entries.changed value, refl, leave e1 gives.entries.changed, refl))
 
   pub kept-given : (t t' : Table K V W) (n : ℕ) → HasCaller t n → IfSome (entry_at t n) (λ s. s.listed ≡ true → Unlists eq t t' n) → IfSome (entry_at t n) (λ s. s.listed ≡ false → IsSame eq t t') → AreQuiet t.slots
       → AreQuiet t'.slots × (waiting_in t'.slots ≡ waiting_in t.slots)
@@ -160,6 +154,17 @@ module _ {K V W : Type 0} (eq : K → K → Bool) where
       let most : length has.0.cell.permit.queue ≤ waiting_in t.slots = queue-within t.slots n has.0 has.1 in
       omega arith
 
+  -- the count of who waits, without those of an entry that is in use no more
+  pub counted-left : (t u t' : Table K V W) (n q count spare : ℕ) (c : Cell V W) (in_use : Bool) → HasCaller t n → ((e : Shown V W) → entry_at t n ≡ Some e → Retires eq t n e u) → ((s : Shown V W) → entry_at u n ≡ Some s → Sets eq u t' n (left s)) → AreQuiet t.slots
+      → IfSome (entry_at u n) (λ s. c ≡ s.cell) → q ≡ length c.permit.queue → (IsTrue in_use ↔ IsSome (entry_at t' n)) → count ≡ waiting_in t.slots → count ≤ spare
+      → AreQuiet t'.slots × (cond in_use count (count - q) ≡ waiting_in t'.slots) × (cond in_use count (count - q) ≤ spare)
+  counted-left t u t' n q count spare c true has retire sets quiet is_cell queue used counted room =
+      let k = kept-left t u t' n has retire sets quiet (used.0 refl) in (k.0, counted ∙ sym k.1, room)
+  counted-left t u t' n q count spare c false has retire sets quiet is_cell queue used counted room =
+      let k = kept-gone t u t' n q c has retire sets quiet is_cell queue (λ some. absurd (let no = used.1 some in cc)) in
+      let sum = k.1 in
+      (k.0, omega arith, omega arith)
+
   -- ---- a cell changes, and its wakers move
   -- the wakers that a cell has made ready have room
   pub room-after : (t u : Table K V W) (n k waiting spare : ℕ) (e : Shown V W) (c : Cell V W) → entry_at t n ≡ Some e → AreQuiet t.slots → waiting ≡ waiting_in t.slots → AddAtMost k e.cell c → Sets eq t u n (Some (record e { cell = c })) → waiting + k ≤ spare
@@ -167,7 +172,7 @@ module _ {K V W : Type 0} (eq : K → K → Bool) where
   room-after t u n k waiting spare e c is quiet counted few sets room s there =
       let none : length e.cell.permit.wakes ≡ 0 = ap length (quiet n e is) in
       let within : length e.cell.permit.queue ≤ waiting_in t.slots = queue-within t.slots n e is in
-      let same : c ≡ s.cell = ap (λ (x : Shown V W). x.cell) (inside_some (record e { cell = c }) s (sym sets.0.changed ∙ there)) in
+      let same : c ≡ s.cell = ap (λ (x : Shown V W). x.cell) (same_entry (record e { cell = c }) s (sym sets.0.changed ∙ there)) in
       let count : length s.cell.permit.wakes ≡ length c.permit.wakes = ap (λ (x : Cell V W). length x.permit.wakes) (sym same) in
       let most : length c.permit.queue + length c.permit.wakes ≤ length e.cell.permit.queue + length e.cell.permit.wakes + k = few in
       omega arith
@@ -192,14 +197,14 @@ module _ {K V W : Type 0} (eq : K → K → Bool) where
       let spare : out'.spare + length c.permit.wakes ≡ out.spare = rest.spare in
       let both = changes-twice t.slots u.slots v.slots n (Some (record e { cell = c })) (Some (record e { cell = rested c })) sets.0 rest.sets.0 in
       let sum : waiting_in v.slots + length e.cell.permit.queue ≡ waiting_in t.slots + length c.permit.queue = waiting-changes t.slots v.slots n (Some e) (Some (record e { cell = rested c })) is both in
-      let old : d ≡ e.cell = at_some (λ s. d ≡ s.cell) (entry_at t n) e is first in
-      let new : d' ≡ rested c = at_some (λ s. d' ≡ s.cell) (entry_at v n) (record e { cell = rested c }) both.changed last in
+      let old : d ≡ e.cell = at_entry (λ s. d ≡ s.cell) (entry_at t n) e is first in
+      let new : d' ≡ rested c = at_entry (λ s. d' ≡ s.cell) (entry_at v n) (record e { cell = rested c }) both.changed last in
       let was : before ≡ length e.cell.permit.queue = first_is ∙ ap (λ (x : Cell V W). length x.permit.queue) old in
       let now_is : after ≡ length c.permit.queue = last_is ∙ ap (λ (x : Cell V W). length x.permit.queue) new in
       record {
         sub = omega arith;
         most = omega arith;
-        quiet = quiet-changes t.slots v.slots n (Some (record e { cell = rested c })) (λ s there. ap (λ (x : Shown V W). x.cell.permit.wakes) (sym (inside_some (record e { cell = rested c }) s there))) both quiet;
+        quiet = quiet-changes t.slots v.slots n (Some (record e { cell = rested c })) (λ s there. ap (λ (x : Shown V W). x.cell.permit.wakes) (sym (same_entry (record e { cell = rested c }) s there))) both quiet;
         counted = omega arith;
         room = omega arith;
         sets = (both, λ key. rest.sets.1 key ∙ sets.1 key);
@@ -215,7 +220,7 @@ module _ {K V W E I : Type 0} (answers : I → W → Poll (Result V E) → I →
   pub refused-cell : (k k' : Keyed K V W) (n : ℕ) (e : Shown V W) (call : InitCall I) (w : W) (m : NoMemory) (q : ℕ) (d : Cell V W) → entry_at k.table n ≡ Some e → AreQuiet k.table.slots → IfSome (entry_at k.table n) (λ s. d ≡ s.cell)
       → q ≡ queues_more d call.stage → q ≢ 0 → k'.table ≡ k.table → k'.wakes ≡ k.wakes → (cell : Cell V W) × StepsCell answers eq k n e call w (Err (w, m)) cell k' call
   refused-cell k k' n e call w m q d is quiet cell count more table wakes =
-      let same : d ≡ e.cell = at_some eq (λ s. d ≡ s.cell) (entry_at k.table n) e is cell in
+      let same : d ≡ e.cell = at_entry (λ s. d ≡ s.cell) (entry_at k.table n) e is cell in
       let none : e.cell.permit.wakes ≡ [] = quiet n e is in
       let more_at : queues_more e.cell call.stage ≢ 0 = λ zero. more (count ∙ ap (λ c. queues_more c call.stage) same ∙ zero) in
       let rest : rested e.cell ≡ e.cell = λ i. record { value = e.cell.value; permit = record e.cell.permit { wakes = sym none i } } in
@@ -289,7 +294,7 @@ module _ {K V W : Type 0} (eq : K → K → Bool) where
   pub kept-made : (t t' : Table K V W) (key : K) (r : Result ℕ (K × NoMemory)) → IfOk r (λ n. Makes eq t t' key n fresh_entry) → IfErr r (λ x. (x.0 ≡ key) × IsSame eq t t') → AreQuiet t.slots → AreQuiet t'.slots × (waiting_in t'.slots ≡ waiting_in t.slots)
   kept-made t t' key (Ok n) made err quiet =
       let sum : waiting_in t'.slots + 0 ≡ waiting_in t.slots + 0 = waiting-changes t.slots t'.slots n None (Some fresh_entry) made.fresh made.entries in
-      (quiet-changes t.slots t'.slots n (Some fresh_entry) (λ s there. ap (λ (x : Shown V W). x.cell.permit.wakes) (sym (inside_some fresh_entry s there))) made.entries quiet, omega arith)
+      (quiet-changes t.slots t'.slots n (Some fresh_entry) (λ s there. ap (λ (x : Shown V W). x.cell.permit.wakes) (sym (same_entry fresh_entry s there))) made.entries quiet, omega arith)
   kept-made t t' key (Err x) made err quiet =
       ((λ m e there. quiet m e (sym (err.1.0 m) ∙ there)), same-waiting t.slots t'.slots (λ m. ap waiting_at (err.1.0 m)))
 
@@ -335,5 +340,23 @@ module _ {K V W : Type 0} (eq : K → K → Bool) where
       let told = out e.0 e.1 in
       let goes : entry_at t' n ≡ None = goes-or-stays (entry_at t' n) (e.0.callers == 0) (record e.0 { listed = false }) told.0.changed none in
       let then = kept-without t.slots t'.slots n e.0 e.1 (record { changed = goes; others = told.0.others }) quiet in
-      let same : q ≡ length e.0.cell.permit.queue = count ∙ ap (λ (x : Cell V W). length x.permit.queue) (at_some eq (λ s. c ≡ s.cell) (entry_at t n) e.0 e.1 is_cell) in
+      let same : q ≡ length e.0.cell.permit.queue = count ∙ ap (λ (x : Cell V W). length x.permit.queue) (at_entry (λ s. c ≡ s.cell) (entry_at t n) e.0 e.1 is_cell) in
       (then.0, ap (λ m. waiting_in t'.slots + m) same ∙ then.1)
+
+  -- the count of who waits, without those of an entry that is in use no more
+  pub counted-unlisted : (t t' : Table K V W) (n q count spare : ℕ) (c : Cell V W) (in_use : Bool) → IsSome (entry_at t n) → Unlists eq t t' n → AreQuiet t.slots → IfSome (entry_at t n) (λ s. c ≡ s.cell) → q ≡ length c.permit.queue
+      → (IsTrue in_use ↔ IsSome (entry_at t' n)) → count ≡ waiting_in t.slots → count ≤ spare
+      → AreQuiet t'.slots × (cond in_use count (count - q) ≡ waiting_in t'.slots) × (cond in_use count (count - q) ≤ spare)
+  counted-unlisted t t' n q count spare c true there out quiet is_cell queue used counted room =
+      let k = kept-unlisted t t' n there out quiet (used.0 refl) in (k.0, counted ∙ sym k.1, room)
+  counted-unlisted t t' n q count spare c false there out quiet is_cell queue used counted room =
+      let k = gone-unlisted t t' n q c there out quiet is_cell queue (λ some. absurd (let no = used.1 some in cc)) in
+      let sum = k.1 in
+      (k.0, omega arith, omega arith)
+
+  pub unlisted-within : (t : Table K V W) (n q : ℕ) (c : Cell V W) → IsSome (entry_at t n) → IfSome (entry_at t n) (λ s. c ≡ s.cell) → q ≡ length c.permit.queue → q ≤ waiting_in t.slots
+  unlisted-within t n q c there is_cell count =
+      let e = some-of (entry_at t n) there in
+      let same : q ≡ length e.0.cell.permit.queue = count ∙ ap (λ (x : Cell V W). length x.permit.queue) (at_entry (λ s. c ≡ s.cell) (entry_at t n) e.0 e.1 is_cell) in
+      let most : length e.0.cell.permit.queue ≤ waiting_in t.slots = queue-within t.slots n e.0 e.1 in
+      omega arith

@@ -1,6 +1,6 @@
 -- an entry leaves the table
-use Rattle.std.proofs.Common.{◌≡◌, ◌≢◌, ℕ, suc, zero, ◌+◌, ◌-◌, ◌<◌, ◌≤◌, ◌==◌, ◌⊎◌, inl, inr, Bool, true, false, cond, List, [], ◌∷◌, length, take, nat_lt, slice_get, slice_set, swap_remove, slice_index_or, Option, Some, None, unwrap_or, IsSome, IfSome, refl, ap, sym, subst, ◌∙◌, arith, ◌++◌, is_some}
-use Rattle.std.proofs.lemmas.Bool.{cases_lt, cases_eq, eqb-true, eqb-false, ltb-true, eq-eqb, ne_eqb, lt-ltb, le-ltb}
+use Rattle.std.proofs.Common.{◌≡◌, ◌≢◌, ℕ, suc, zero, ◌+◌, ◌-◌, ◌<◌, ◌≤◌, ◌==◌, ◌⊎◌, inl, inr, Bool, true, false, cond, List, [], ◌∷◌, length, nat_lt, slice_get, slice_set, swap_remove, slice_index_or, Option, Some, None, unwrap_or, IsSome, IfSome, refl, ap, sym, subst, ◌∙◌, arith, ◌++◌, is_some}
+use Rattle.std.proofs.lemmas.Bool.{cases_lt, cases_eq, eqb-true, eqb-false, ltb-true, eq-eqb, ne_eqb, lt-ltb}
 use Rattle.std.proofs.lemmas.Bool.Decides.{nat_tests}
 use Rattle.std.proofs.lemmas.Option.{slice_get-get_or, slice_get_within}
 use Rattle.std.specs.Option.{option_map}
@@ -13,17 +13,12 @@ use Rattle.std.specs.Borrow.{Bor}
 use Rattle.std.specs.HashMap as hash
 use Rattle.std.specs.HashMap.{HashMap}
 use Rattle.mea_once_core.specs.Links.{AreLinked, Forgets, Shown, shown, shown_at, Changes}
+use Rattle.mea_base.proofs.Places.{get-take}
 
 module _ {X : Type 0} where
   gone : (b : Bool) → ◌≡◌ {A = Option X} None (cond b None None)
   gone true = refl
   gone false = refl
-
-  get-take : (n : ℕ) (xs : List X) (q : ℕ) → slice_get (take n xs) q ≡ cond (nat_lt q n) (slice_get xs q) None
-  get-take zero xs q = sym (ap (λ b. cond b (slice_get xs q) None) (le-ltb q 0 (omega arith)))
-  get-take (suc n) [] q = gone (nat_lt q (suc n))
-  get-take (suc n) (x ∷ xs) zero = sym (ap (λ b. cond b (Some x) None) (lt-ltb 0 (suc n) (omega arith)))
-  get-take (suc n) (x ∷ xs) (suc q) = get-take n xs q ∙ ap (λ b. cond b (slice_get xs q) None) (grind (arith, nat_tests))
 
   get-set : (xs : List X) (p q : ℕ) (y : X) → p < length xs → slice_get (slice_set xs p y) q ≡ cond (q == p) (Some y) (slice_get xs q)
   get-set [] p q y within = absurd (omega arith)

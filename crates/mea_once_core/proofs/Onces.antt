@@ -1,11 +1,11 @@
 -- what the calls of a once do, from what those of its cell do
-use Rattle.std.proofs.Common.{◌≡◌, ◌≢◌, ◌∙◌, ℕ, ◌-◌, ◌==◌, ◌++◌, ◌&&◌, Bool, true, false, cond, nat_lt, nat_le, List, [], Option, Some, None, is_none, IsSome, IsOk, is_err, Result, Ok, Err, MatchOption, refl, ap, sym, arith, append-nil}
+use Rattle.std.proofs.Common.{◌≡◌, ◌≢◌, ◌∙◌, ℕ, ◌-◌, ◌==◌, ◌++◌, ◌&&◌, Bool, true, false, cond, nat_lt, nat_le, List, [], Option, Some, None, is_none, IsSome, IsOk, is_err, Result, Ok, Err, MatchOption, refl, ap, sym, subst, arith, append-nil}
 use Rattle.std.proofs.lemmas.Bool.{eqb-true}
 use Rattle.mea_base.specs.declared.no_memory.NoMemory.{NoMemory}
 use Rattle.mea_sets.specs.Poll.{Poll, Ready}
 use Rattle.mea_sets.specs.WaitSet.{drained}
 use Rattle.mea_sets.specs.Countdown.{Count, Counting, decreased, woken_by, ends}
-use Rattle.mea_once_core.specs.Cell.{Cell, PollsTurn, PollsInit, PollsStage, Ends, queues_more}
+use Rattle.mea_once_core.specs.Cell.{Cell, PollsTurn, HasTurn, PollsInit, PollsStage, Ends, queues_more}
 use Rattle.mea_once_core.specs.Once.{Once, IsSound, count_after, woken, quieted, with_cell, answered, EndsCall, TurnsCall, PollsCall}
 use Rattle.mea_once_core.specs.declared.cell_turn.CellTurn.{CellTurn}
 use Rattle.mea_once_core.specs.declared.cell_turn.CellTurn.TheVariants as cell_turn
@@ -124,6 +124,15 @@ module _ {W : Type 0} where
   refused_turn (Queued n) c w m more = absurd (more refl)
   refused_turn Running c w m more = absurd (more refl)
   refused_turn Done c w m more = absurd (more refl)
+
+  -- who has the turn has it still once the wakers of the cell have gone
+  turn_rests : (turn : CellTurn W) (c : Cell (Unit {0}) W) (stage : Stage) → HasTurn turn c stage → HasTurn turn (quieted c) stage
+  turn_rests cell_turn.Full c stage has = has
+  turn_rests (cell_turn.Mine w) c stage has = has
+  turn_rests cell_turn.Pending c stage has = tt
+
+  pub turn_settled : (turn : CellTurn W) (c c' : Cell (Unit {0}) W) (stage : Stage) → c' ≡ quieted c → HasTurn turn c stage → HasTurn turn c' stage
+  turn_settled turn c c' stage is has = subst (λ (x : Cell (Unit {0}) W). HasTurn turn x stage) (sym is) (turn_rests turn c stage has)
 
   pub turns_call : (o : Once W) (stage stage' : Stage) (w : W) (turn : CellTurn W) (left cell' : Cell (Unit {0}) W) (done' : Counting W) (wakes' : List W)
       → PollsTurn stage o.cell w (Ok turn) left stage' → Settled o left cell' done' wakes' → TurnsCall o stage w (Ok turn) (record { cell = cell'; done = done'.count; wakes = wakes' }) stage'

@@ -11,7 +11,8 @@ use Rattle.mea_once_core.specs.Keyed.{Keyed, GivesUp, StepsCell, Told, PollsCall
 use Rattle.mea_once_core.specs.declared.init_call.InitCall.{InitCall}
 use Rattle.mea_once_core.specs.declared.stage.Stage.TheVariants as stages
 use Rattle.mea_once_core.specs.declared.key_call.KeyStage.{KeyStage}
-use Rattle.mea_once_core.proofs.Keyeds.{at_some, asks-fresh}
+use Rattle.mea_once_core.proofs.Tables.{at_entry}
+use Rattle.mea_once_core.proofs.Keyeds.{asks-fresh}
 
 module _ {K V W : Type 0} (eq : K → K → Bool) where
   -- a cell that has not changed rests in its entry as it did, and makes no waker ready
@@ -43,7 +44,7 @@ module _ {K V W : Type 0} (eq : K → K → Bool) where
   pub given-value : (A : Type 0) (k k' : Keyed K V W) (n : ℕ) (once : Bool) → HasCaller k.table n → ((e : Shown V W) → entry_at k.table n ≡ Some e → GivesUp eq once k n e k')
       → IfSome (entry_at k.table n) (λ e. IsSome e.cell.value) → IfSome (entry_at k'.table n) (λ e. IsSome e.cell.value → A) → A
   given-value A k k' n once has gives filled told =
-      at_some eq (λ s. IsSome s.cell.value → A) (entry_at k'.table n) (record has.0 { listed = has.0.listed && not once }) (gives has.0 has.1).entries.changed told (at_some eq (λ s. IsSome s.cell.value) (entry_at k.table n) has.0 has.1 filled)
+      at_entry (λ s. IsSome s.cell.value → A) (entry_at k'.table n) (record has.0 { listed = has.0.listed && not once }) (gives has.0 has.1).entries.changed told (at_entry (λ s. IsSome s.cell.value) (entry_at k.table n) has.0 has.1 filled)
 
 -- where no waker came back, nothing is said of one that did
 pub none-back : {A B W : Type 0} (P : Type 0) (r : Result A (Option W × B)) → IfErr r (λ failed. failed.0 ≡ None) → IfErr r (λ failed. IfSome failed.0 (λ _. P))

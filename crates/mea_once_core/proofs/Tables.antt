@@ -208,15 +208,20 @@ module _ {V W : Type 0} where
       let shows : shown f ≡ record s { listed = false } = (let both : Some (shown f) ≡ Some (record s { listed = false }) = sym (ap (option_map shown) is) ∙ first.changed in ap (λ y. unwrap_or y (shown f)) both) in
       changes-twice A.slots B.slots C.slots n (Some (record s { listed = false })) (unlisted s) first (unlisted-by B C n f s is shows used unused)
 
+module _ {V W : Type 0} where
+  -- what is said of an entry where there is one holds of the one that is there
+  pub at_entry : (P : Shown V W → Type 0) (o : Option (Shown V W)) (e : Shown V W) → o ≡ Some e → IfSome o P → P e
+  at_entry P o e is h = let f : (x : Option (Shown V W)) → Type 0 = λ x. IfSome x P in subst f is h
+
+  pub same_entry : (e f : Shown V W) → ◌≡◌ {A = Option (Shown V W)} (Some e) (Some f) → e ≡ f
+  same_entry e f is = ap (λ o. unwrap_or o e) is
+
 module _ {K V W : Type 0} (eq : K → K → Bool) where
   stays-listed : (e : Shown V W) (b : Bool) → e.listed ≡ b → ◌≡◌ {A = Shown V W} (record e { listed = b }) e
   stays-listed e b is = λ i. record { cell = e.cell; callers = e.callers; listed = sym is i }
 
   pub same-changes : (xs ys : List (Option (Entry V W))) (n : ℕ) (e : Shown V W) → ((m : ℕ) → shown_at ys m ≡ shown_at xs m) → shown_at xs n ≡ Some e → Changes xs ys n (Some e)
   same-changes xs ys n e same is = record { changed = same n ∙ is; others = λ m differs. same m }
-
-  at_entry : (P : Shown V W → Type 0) (o : Option (Shown V W)) (e : Shown V W) → o ≡ Some e → IfSome o P → P e
-  at_entry P o e is h = let f : (x : Option (Shown V W)) → Type 0 = λ x. IfSome x P in subst f is h
 
   -- what is left where the table gave it up, or had not got it
   pub gives-up : (t t' : Table K V W) (n : ℕ) (e : Shown V W) → entry_at t n ≡ Some e → 1 ≤ e.callers → IfSome (entry_at t n) (λ s. s.listed ≡ true → Unlists eq t t' n) → IfSome (entry_at t n) (λ s. s.listed ≡ false → IsSame eq t t')

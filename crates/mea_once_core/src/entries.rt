@@ -135,7 +135,7 @@ pub(crate) fn make<K: Eq + Hash + Drop, V: Drop, S: BuildHasher, W: Drop>(
 {
     match entries.reserve(1) {
         Ok(()) => {}
-        Err(_) => return Err((key, NoMemory)),
+        Err(_) => return Err(refused(key, cell)),
     }
     let number = entries.vacant_key();
     let place = numbers.len();
@@ -148,8 +148,16 @@ pub(crate) fn make<K: Eq + Hash + Drop, V: Drop, S: BuildHasher, W: Drop>(
             });
             Ok(number)
         }
-        Err(failed) => Err((failed.value.0, NoMemory)),
+        Err(failed) => Err(refused(failed.value.0, cell)),
     }
+}
+
+// The key for which there was no memory. What was to stand under it goes by a type parameter, so that no proof takes a
+// cell apart to drop it.
+fn refused<K, C: Drop>(key: K, _cell: C) -> (K, NoMemory)
+    ensures { result.0 ≡ key }
+{
+    (key, NoMemory)
 }
 
 // A new entry takes the place of the one that a key has, which stays for its callers.

@@ -1,6 +1,6 @@
 ghost use Rattle.mea_once_core.specs.Table.{entry_at};
 ghost use Rattle.mea_once_core.specs.Links.{Shown};
-ghost use Rattle.std.specs.Prelude.{◌≡◌, ◌<◌, ◌++◌, ◌∷◌, IfNone, ℕ, ◌+◌, ◌≤◌, ◌↔◌, IsTrue, IsSome, IfOk, IfErr, IfSome, OnOk, OnErr, IsOk, length, Some, None, Ok, []};
+ghost use Rattle.std.specs.Prelude.{◌≡◌, ◌<◌, ◌++◌, ◌∷◌, IfNone, ℕ, ◌+◌, ◌-◌, ◌≤◌, cond, ◌↔◌, IsTrue, IsSome, IfOk, IfErr, IfSome, OnOk, OnErr, IsOk, length, Some, None, Ok, []};
 
 use crate::init::Init;
 use crate::init_call::InitCall;
@@ -393,9 +393,7 @@ impl<K: Eq + Hash + Drop, V: Clone, S: BuildHasher + Drop, W: Drop> Keyed<K, V, 
         self.table.retire(number);
         let waiting = self.table.cell(number).waiting();
         self.table.leave(number);
-        if !self.table.is_in_use(number) {
-            self.waiting -= waiting;
-        }
+        self.waiting = waiting_after(self.waiting, waiting, self.table.is_in_use(number));
     }
 
     // Where a value is for one round alone, the table gives the entry up, which stays for its callers. It takes
@@ -460,9 +458,7 @@ impl<K: Eq + Hash + Drop, V: Clone, S: BuildHasher + Drop, W: Drop> Keyed<K, V, 
         };
         let waiting = self.table.cell(number).waiting();
         let _ = self.table.remove(key);
-        if !self.table.is_in_use(number) {
-            self.waiting -= waiting;
-        }
+        self.waiting = waiting_after(self.waiting, waiting, self.table.is_in_use(number));
     }
 
     // Whether the call is one of this table that was not ready yet, and where it is new, whether its key's entry
@@ -560,6 +556,14 @@ impl<K: Eq + Hash + Drop, V: Clone, S: BuildHasher + Drop, W: Drop> Keyed<K, V, 
     {
         self.outbox.pop()
     }
+}
+
+// How many wait of all, of whom so many waited at an entry that may be in use no more.
+fn waiting_after(all: usize, at_entry: usize, in_use: bool) -> usize
+    requires { at_entry ≤ all }
+    ensures { result ≡ cond in_use all (all - at_entry) }
+{
+    if in_use { all } else { all - at_entry }
 }
 
 // Makes room for the wakers of those who wait, and of `more`; it can fail only where that is not 0.

@@ -19,7 +19,7 @@ use Rattle.mea_once_model.specs.declared.job.Initialiser.{Initialiser}
 use Rattle.mea_once_model.specs.declared.job.Initialiser.TheVariants.{Unsettled, Gives, Fails}
 use Rattle.mea_once_model.specs.declared.job.Job.{Job}
 use Rattle.mea_once_model.specs.declared.job.Job.TheVariants.{Calls, Computes, Alone, Sets, Inserts, Awaits}
-use Rattle.mea_once_model.specs.Cells.{Cell, CellFuture, Cells, Step, waiting_at, new_cell, passed, woken_next, wakers, given_up, filled, registering, init_of, is_cell, is_alone, futures_of, alone_of}
+use Rattle.mea_once_model.specs.Cells.{Cell, CellFuture, Cells, Step, waiting_at, new_cell, passed, woken_next, wakers, given_up, filled, registering, init_of, is_cell, futures_of}
 use Rattle.mea_once_model.specs.Actions.{Action, Make, Begin, Poll, Settle, End, TellFull, Tell, Peek, Put as Write, Take, TakeOut, Drop, act_in, registers_in, polled_in, ends_in, cause_in, borrowed_by, in_the_way}
 use Rattle.mea_once_model.proofs.Parts.{part_same, part_pushed, part_with, part_without, part_registering, part_settled, part_next, part_drained, behind, together}
 

@@ -9,7 +9,7 @@ use Rattle.mea_base.specs.Family.{Outcome}
 use Rattle.mea_base.proofs.Maps.{nothing_at, get-there}
 use Rattle.mea_base.proofs.Tests.{known}
 use Rattle.mea_named.specs.NamedQueue as named_queue
-use Rattle.mea_named.specs.NamedQueue.{Waiting, waits, with_waker, waker_for}
+use Rattle.mea_named.specs.NamedQueue.{waits, with_waker, waker_for}
 use Rattle.mea_named.specs.Play.{found}
 use Rattle.mea_named.proofs.Cases.{by_found, by_if, found_is}
 use Rattle.mea_named.proofs.NamedQueues.{appended-there, with_waker-there}
@@ -20,7 +20,7 @@ use Rattle.mea_once_model.specs.declared.job.Initialiser.{Initialiser}
 use Rattle.mea_once_model.specs.declared.job.Initialiser.TheVariants.{Unsettled, Gives, Fails}
 use Rattle.mea_once_model.specs.declared.job.Job.{Job}
 use Rattle.mea_once_model.specs.declared.job.Job.TheVariants.{Calls, Computes, Alone, Sets, Inserts, Awaits}
-use Rattle.mea_once_model.specs.Cells.{Cell, CellFuture, Cells, Step, waiting_at, registering, init_of, is_alone, is_future}
+use Rattle.mea_once_model.specs.Cells.{Cell, CellFuture, Cells, Step, waiting_at, init_of, is_alone, is_future}
 use Rattle.mea_once_model.specs.Actions.{Action, Make, Begin, Poll, Settle, End, TellFull, Tell, Peek, Put, Take, TakeOut, Drop, act_in, polled_in, ends_in, cause_in}
 use Rattle.mea_once_model.proofs.Parts.{in_first, in_second, not_waiting, registers_there}
 use Rattle.mea_once_model.proofs.Acting.{keys, owner, goes}

@@ -13,7 +13,7 @@ use Rattle.mea_once_model.specs.declared.job.Initialiser.{Initialiser}
 use Rattle.mea_once_model.specs.Cells as cells
 use Rattle.mea_once_model.specs.Cells.{Cell, CellFuture, Step, new_cell}
 use Rattle.mea_once_model.specs.Tables as tables
-use Rattle.mea_once_model.specs.Tables.{Table, KeyFuture, Tables, is_this, is_current, closed, left, left_by, at_round, caller, caller_after, others_of, without_key, new_table, futures_of, is_table, is_future}
+use Rattle.mea_once_model.specs.Tables.{Table, KeyFuture, Tables, is_this, is_current, closed, left, left_by, at_round, caller, caller_after, others_of, without_key, new_table, futures_of, is_table}
 use Rattle.mea_once_model.specs.KeyActions.{KeyAction, MakeTable, BeginKey, PollKey, SettleKey, EndKey, TellKey, DiscardKey, RemoveKey, DropTable, key_act, key_cause, with_future}
 use Rattle.mea_once_model.specs.KeyValid.{IsValidTable, IsValidFuture, AreValid}
 use Rattle.mea_once_model.proofs.Acting.{not_borrowed}

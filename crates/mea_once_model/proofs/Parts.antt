@@ -5,7 +5,7 @@ use Rattle.std.proofs.lemmas.Bool.{eqb-true, eq-eqb, ne_eqb}
 use Rattle.std.proofs.lemmas.List.{length-append}
 use Rattle.std.proofs.lemmas.List.Elements.{Contains-append_cases, Contains-append_left, Contains-append_right}
 use Rattle.mea_named.specs.NamedQueue.{Waiting, waker_for, waits, with_waker, without}
-use Rattle.mea_named.proofs.NamedQueues.{Local, appended-other, with_waker-other, without-other, length-with_waker, length-without}
+use Rattle.mea_named.proofs.NamedQueues.{Local, appended-other, with_waker-other, without-other, length-with_waker, length-without, local_drained}
 use Rattle.mea_once_model.specs.Cells.{wakers, woken_next, registering}
 
 -- ---- who waits in one list or in another
@@ -159,19 +159,8 @@ part_next (e ∷ q) k = record {
   most = omega arith;
 }
 
-all_woken : (q : Waiting) (f w : ℕ) → waker_for q f ≡ Some w → Contains (wakers q) w
-all_woken [] f w = λ is. absurd (cc)
-all_woken (e ∷ q) f w = elim (e.0 == f) as (λ b. cond b (Some e.1) (waker_for q f) ≡ Some w → Contains (wakers (e ∷ q)) w) [
-  | true ↦ λ is. let same : e.1 ≡ w = cc in subst (Contains (wakers (e ∷ q))) same (one-of e.1 (wakers q))
-  | false ↦ λ is. Contains-append_right (e.1 ∷ []) (wakers q) w (all_woken q f w is)
-]
-
-length-wakers : (q : Waiting) → length (wakers q) ≡ length q
-length-wakers [] = refl
-length-wakers (e ∷ q) = omega (arith, length-wakers q)
-
 pub part_drained : (q : Waiting) (k : ℕ) → Part q [] (wakers q) k 0
-part_drained q k = record { keeps = λ f w apart is. inr (all_woken q f w is); none = λ f apart is. refl; fits = omega (arith, length-wakers q); most = omega (arith, length-wakers q) }
+part_drained q k = let drained = local_drained q k in record { keeps = drained.keeps; none = λ f apart is. refl; fits = drained.fits; most = drained.most }
 
 -- ---- changes of two lists together, whose wakes are all among these
 pub both : (a a' b b' : Waiting) (ws vs us : List ℕ) (k m n : ℕ) → Part a a' ws k m → Part b b' vs k n → ((w : ℕ) → Contains ws w → Contains us w) → ((w : ℕ) → Contains vs w → Contains us w)

@@ -10,7 +10,6 @@ use Rattle.mea_base.proofs.Maps.{total-gone, total-has}
 use Rattle.mea_base.proofs.Totals.{total-insert, total-remove, total-empty}
 use Rattle.mea_named.specs.ByName.{Names}
 use Rattle.mea_named.specs.NamedQueue as named_queue
-use Rattle.mea_named.specs.NamedQueue.{Waiting, waker_for, queue_of}
 use Rattle.mea_named.specs.Play.{found}
 use Rattle.mea_named.proofs.Cases.{by_found, by_if}
 use Rattle.mea_named.proofs.NamedQueues.{Local}
@@ -19,7 +18,7 @@ use Rattle.mea_once_model.specs.declared.job.Initialiser.{Initialiser}
 use Rattle.mea_once_model.specs.Cells as cells
 use Rattle.mea_once_model.specs.Cells.{Cell, CellFuture, Step, waiting_at, new_cell}
 use Rattle.mea_once_model.specs.Tables as tables
-use Rattle.mea_once_model.specs.Tables.{Table, KeyFuture, Tables, KeyStep, is_this, is_current, closed, left, left_by, at_round, caller, caller_after, others_of, without_key, new_table, registered}
+use Rattle.mea_once_model.specs.Tables.{Table, KeyFuture, Tables, is_current, closed, left_by, at_round, caller, others_of, without_key, new_table, registered}
 use Rattle.mea_once_model.specs.KeyActions.{KeyAction, MakeTable, BeginKey, PollKey, SettleKey, EndKey, TellKey, DiscardKey, RemoveKey, DropTable, key_act, key_registers, with_future}
 use Rattle.mea_once_model.proofs.Acting.{Fine, polls, ends_local, settles_local}
 

@@ -22,7 +22,7 @@ use Rattle.mea_once_model.specs.Tables.{Table, KeyFuture, Tables, is_future, clo
 use Rattle.mea_once_model.specs.KeyActions.{KeyAction, MakeTable, BeginKey, PollKey, SettleKey, EndKey, TellKey, DiscardKey, RemoveKey, DropTable, key_act, key_cause, key_polled, key_ends}
 use Rattle.mea_once_model.proofs.CellWakers.{Placed, poll_places, poll_waits}
 use Rattle.mea_once_model.proofs.TableActing.{closed-rounds}
-use Rattle.mea_once_model.proofs.TableWakers.{Below, LowTables, TablesGo, Same, Put, Made, Gone, KeyGoes, silent, of_table, key_goes}
+use Rattle.mea_once_model.proofs.TableWakers.{Below, LowTables, TablesGo, Same, Put, Made, Gone, KeyGoes, silent, of_table, key_goes, later_below}
 
 -- ---- what holds of the maps or groups after an event
 module _ (h : Tables) (n i : ℕ) (low : LowTables h n) (later : n ≤ i) (k : ℕ) where
@@ -32,15 +32,12 @@ module _ (h : Tables) (n i : ℕ) (low : LowTables h n) (later : n ≤ i) (k : �
   lows_after _ _ Made = below_put h.tables n i i new_table low.lows later (omega arith)
   lows_after _ _ (Gone o alone) = below_gone h.tables n i o low.lows later
 
-  current_old : (o : ℕ) (t : Table) → get h.tables o ≡ Some t → Below t.current (i + 1)
-  current_old o t is = record { at = λ k v there. omega (arith, (low.current o t is).at k v there, later) }
-
   current_after : (ts : Names Table) (ws : _) → TablesGo h i k ts ws → (o : ℕ) (t : Table) → get ts o ≡ Some t → Below t.current (i + 1)
-  current_after _ _ Same o t is = current_old o t is
-  current_after _ _ (Put p u t' ws there keeps below) o t is = by_put h.tables p t' (λ o q. q ≡ Some t → Below t.current (i + 1)) (λ is. let same : t' ≡ t = inside is in rw (← same) below) (λ o apart is. current_old o t is) o is
+  current_after _ _ Same o t is = later_below h n i low later o t is
+  current_after _ _ (Put p u t' ws there keeps below) o t is = by_put h.tables p t' (λ o q. q ≡ Some t → Below t.current (i + 1)) (λ is. let same : t' ≡ t = inside is in rw (← same) below) (λ o apart is. later_below h n i low later o t is) o is
   current_after _ _ Made o t is = by_put h.tables i new_table (λ o q. q ≡ Some t → Below t.current (i + 1))
-      (λ is. let same : new_table ≡ t = inside is in rw (← same) (record { at = λ k v there. absurd (nothing_at ℕ k v there) })) (λ o apart is. current_old o t is) o is
-  current_after _ _ (Gone p alone) o t is = current_old o t (removed_there h.tables p o t is)
+      (λ is. let same : new_table ≡ t = inside is in rw (← same) (record { at = λ k v there. absurd (nothing_at ℕ k v there) })) (λ o apart is. later_below h n i low later o t is) o is
+  current_after _ _ (Gone p alone) o t is = later_below h n i low later o t (removed_there h.tables p o t is)
 
   -- a caller keeps its waker, or it is woken
   kept_at : (g w m : ℕ) (x : KeyFuture) → (k ≡ g → ⊥) → get h.futures g ≡ Some x → x.round ≡ Some m → (ts : Names Table) (ws : _) → TablesGo h i k ts ws

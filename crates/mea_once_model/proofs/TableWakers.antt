@@ -18,7 +18,7 @@ use Rattle.mea_once_model.specs.declared.job.Initialiser.{Initialiser}
 use Rattle.mea_once_model.specs.Cells as cells
 use Rattle.mea_once_model.specs.Cells.{Cell, CellFuture, Step, waiting_at, new_cell}
 use Rattle.mea_once_model.specs.Tables as tables
-use Rattle.mea_once_model.specs.Tables.{Table, KeyFuture, Tables, KeyStep, is_this, is_current, is_future, closed, left, left_by, at_round, caller, caller_after, others_of, without_key, new_table, futures_of, is_table, placed_in, placed_of, rounds_of}
+use Rattle.mea_once_model.specs.Tables.{Table, KeyFuture, Tables, is_this, is_current, closed, left, left_by, at_round, caller, caller_after, others_of, without_key, new_table, futures_of, is_table}
 use Rattle.mea_once_model.specs.KeyActions.{KeyAction, MakeTable, BeginKey, PollKey, SettleKey, EndKey, TellKey, DiscardKey, RemoveKey, DropTable, key_act, key_cause, key_polled, key_ends, with_future}
 use Rattle.mea_once_model.proofs.Acting.{Fine, polls, ends_local, settles_local, ends_gone, not_borrowed}
 use Rattle.mea_once_model.proofs.TableActing.{by_rounds}
@@ -113,7 +113,8 @@ module _ (h : Tables) (n i : ℕ) (low : LowTables h n) (later : n ≤ i) where
     made = inl (is_there (get h.futures f) y is);
   }
 
-  later_below : (o : ℕ) (t : Table) → get h.tables o ≡ Some t → Below t.current (i + 1)
+  -- what was below the number of an event is below the next
+  pub later_below : (o : ℕ) (t : Table) → get h.tables o ≡ Some t → Below t.current (i + 1)
   later_below o t there = record { at = λ k v is. omega (arith, (low.current o t there).at k v is, later) }
 
   -- a future that has no other caller beside it in its round

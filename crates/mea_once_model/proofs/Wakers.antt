@@ -22,7 +22,7 @@ use Rattle.mea_once_model.specs.Meaning.{Doing, KeyDoing, Meaning, OfCells, OfTa
 use Rattle.mea_once_model.specs.OnceFamily.{Future, AtCell, ByKey, onces_family, polled_by, ends_by, name, lives, placed}
 use Rattle.mea_once_model.proofs.Acting.{keys, owner, goes}
 use Rattle.mea_once_model.proofs.CellWakers as cell
-use Rattle.mea_once_model.proofs.CellWakers.{Low, at_cell, same_poll}
+use Rattle.mea_once_model.proofs.CellWakers.{Low, at_cell}
 use Rattle.mea_once_model.proofs.TableActing as table_acting
 use Rattle.mea_once_model.proofs.TableWakers.{LowTables}
 use Rattle.mea_once_model.proofs.TableLaws as table

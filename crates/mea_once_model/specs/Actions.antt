@@ -10,7 +10,7 @@ use Rattle.mea_named.specs.Play.{found}
 use Rattle.mea_once_model.specs.declared.job.Initialiser.{Initialiser}
 use Rattle.mea_once_model.specs.declared.job.Job.{Job}
 use Rattle.mea_once_model.specs.Cells as cells
-use Rattle.mea_once_model.specs.Cells.{Cell, CellFuture, Cells, is_cell, is_future, is_unsettled, is_alone, futures_of, alone_of, content}
+use Rattle.mea_once_model.specs.Cells.{Cells, is_cell, is_future, is_unsettled, is_alone, futures_of, alone_of, content}
 
 pub data Action : Type 0 where
   -- a cell, with this value or none

@@ -8,13 +8,13 @@ use Rattle.mea_base.specs.Family.{Outcome, quietly}
 use Rattle.mea_base.specs.Totals.{total}
 use Rattle.mea_named.specs.ByName.{Names, names_code, own, count}
 use Rattle.mea_named.specs.NamedQueue as named_queue
-use Rattle.mea_named.specs.NamedQueue.{Waiting, queue_of, waker_for}
+use Rattle.mea_named.specs.NamedQueue.{queue_of, waker_for}
 use Rattle.mea_named.specs.Play.{found}
 use Rattle.mea_once_model.specs.declared.job.Initialiser.{Initialiser}
 use Rattle.mea_once_model.specs.declared.job.Initialiser.TheVariants.{Unsettled}
 use Rattle.mea_once_model.specs.declared.job.Job.TheVariants.{Computes}
 use Rattle.mea_once_model.specs.Cells as cells
-use Rattle.mea_once_model.specs.Cells.{Cell, CellFuture, Step, waiting_at, new_cell, is_open, cell_code, init_code, content}
+use Rattle.mea_once_model.specs.Cells.{Cell, CellFuture, Step, waiting_at, new_cell, is_open, cell_code, init_code}
 
 -- a map or a group. A key that was computed has its value here. A key that is being computed has a current round: the cell
 -- that its callers share, by the number of the poll that made it. A round is there as long as it has a caller, also where

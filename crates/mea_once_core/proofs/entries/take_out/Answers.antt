@@ -1,7 +1,6 @@
 use Rattle.std.proofs.Common.{◌∙◌, refl, ap, sym}
 use Rattle.std.specs.Option.{option_map}
 use Rattle.slab.specs.Slab as slab
-use Rattle.slab.specs.Slab.{Slab}
 use Rattle.mea_once_core.proofs.Links.{unlisted-moved, unlisted-last, told-there, told-moved, told-last, forgets}
 use Rattle.mea_once_core.proofs.entries.take_out.Goals as goal
 

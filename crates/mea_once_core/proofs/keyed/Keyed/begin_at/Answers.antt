@@ -4,7 +4,8 @@ use Rattle.mea_once_core.specs.Cell.{Cell, rested}
 use Rattle.mea_once_core.specs.Permit.{MayPoll}
 use Rattle.mea_once_core.specs.Keyed.{Keyed, StepsCell}
 use Rattle.mea_once_core.specs.Table.{entry_at}
-use Rattle.mea_once_core.proofs.Keyeds.{match-none, none-of, at_some}
+use Rattle.mea_once_core.proofs.Tables.{at_entry}
+use Rattle.mea_once_core.proofs.Keyeds.{match-none, none-of}
 use Rattle.mea_once_core.proofs.keyed.Keyed.begin_at.Goals as goal
 
 pub poll_cell-requires-clause-may : goal.poll_cell-requires-clause-may
@@ -28,7 +29,7 @@ pub returns-in-Ok-clause-starts : goal.returns-in-Ok-clause-starts
 returns-in-Ok-clause-starts g c =
     λ e there.
     let none : e.cell.value ≡ None = none-of e.cell.value (λ some.
-    let at : c.is_full.result ≡ true = c.is_full.ensures.is.1 (subst (λ (x : Cell g.row.V.Denot g.row.W.Denot). IsSome x.value) (sym (at_some g.K.PartialEq.eq (λ s. c.cell.result.now ≡ s.cell) (entry_at c.self.inside.table c.args.number) e (subst (λ (s : Keyed g.row.K.Denot g.row.V.Denot g.row.W.Denot). entry_at s.table c.args.number ≡ Some e) (sym c.self.view_is) there) c.cell.ensures)) some) in
+    let at : c.is_full.result ≡ true = c.is_full.ensures.is.1 (subst (λ (x : Cell g.row.V.Denot g.row.W.Denot). IsSome x.value) (sym (at_entry (λ s. c.cell.result.now ≡ s.cell) (entry_at c.self.inside.table c.args.number) e (subst (λ (s : Keyed g.row.K.Denot g.row.V.Denot g.row.W.Denot). entry_at s.table c.args.number ≡ Some e) (sym c.self.view_is) there) c.cell.ensures)) some) in
     let out = c.if-is_full.false in absurd (cc)) in
     let step = c.in-Ok.ensures.steps e there in
     let e1 : Shown g.row.V.Denot g.row.W.Denot = record e { cell = rested step.0 } in
@@ -49,7 +50,7 @@ pub returns-in-Err-clause-starts : goal.returns-in-Err-clause-starts
 returns-in-Err-clause-starts g c =
     λ e there.
     let none : e.cell.value ≡ None = none-of e.cell.value (λ some.
-    let at : c.is_full.result ≡ true = c.is_full.ensures.is.1 (subst (λ (x : Cell g.row.V.Denot g.row.W.Denot). IsSome x.value) (sym (at_some g.K.PartialEq.eq (λ s. c.cell.result.now ≡ s.cell) (entry_at c.self.inside.table c.args.number) e (subst (λ (s : Keyed g.row.K.Denot g.row.V.Denot g.row.W.Denot). entry_at s.table c.args.number ≡ Some e) (sym c.self.view_is) there) c.cell.ensures)) some) in
+    let at : c.is_full.result ≡ true = c.is_full.ensures.is.1 (subst (λ (x : Cell g.row.V.Denot g.row.W.Denot). IsSome x.value) (sym (at_entry (λ s. c.cell.result.now ≡ s.cell) (entry_at c.self.inside.table c.args.number) e (subst (λ (s : Keyed g.row.K.Denot g.row.V.Denot g.row.W.Denot). entry_at s.table c.args.number ≡ Some e) (sym c.self.view_is) there) c.cell.ensures)) some) in
     let out = c.if-is_full.false in absurd (cc)) in
     let step = c.in-Err.ensures.steps e there in
     match-none _ _ e.cell.value none (inr ((c.in-Err.waker, c.in-Err.field-0-1), step.0, step.1, refl, refl))

@@ -2,7 +2,8 @@ use Rattle.std.proofs.Common.{◌≡◌, Ok, Err, Some, true, refl, sym, subst}
 use Rattle.mea_once_core.specs.Cell.{Finds}
 use Rattle.mea_once_core.specs.Keyed.{Keyed, AsksCell}
 use Rattle.mea_once_core.specs.Table.{entry_at}
-use Rattle.mea_once_core.proofs.Keyeds.{finds-ready, stepped-there, finds-value, asks-cell, at_some, same-keyed}
+use Rattle.mea_once_core.proofs.Tables.{at_entry}
+use Rattle.mea_once_core.proofs.Keyeds.{finds-ready, stepped-there, finds-value, asks-cell, same-keyed}
 use Rattle.mea_once_core.proofs.keyed.Keyed.go_on.Goals as goal
 
 pub leave-requires : goal.leave-requires
@@ -21,17 +22,17 @@ returns-then-finds-clause-polls g c =
       λ finds.
           let step = c.poll_cell.ensures.steps e there in
           finds-value g.I.Init.answers g.K.PartialEq.eq c.args.self.now c.poll_cell.new.self c.leave.new.self c.args.number e c.args.call.now.call c.poll_cell.new.call c.args.waker c.poll_cell.result c.in-Some.value
-          (at_some g.K.PartialEq.eq (λ s. s.cell.value ≡ Some c.in-Some.value) (entry_at c.args.self.now.table c.args.number) e there c.in-Some.ensures.is)
+          (at_entry (λ s. s.cell.value ≡ Some c.in-Some.value) (entry_at c.args.self.now.table c.args.number) e there c.in-Some.ensures.is)
           (finds-ready g.I.Init.answers g.K.PartialEq.eq c.args.call.now.call.stage e.cell c.args.call.now.call c.poll_cell.new.call c.args.waker c.poll_cell.result step.0 finds step.1.polls)
           step c.leave.ensures,
-      λ away. absurd (away (subst (λ x. Finds x c.args.call.now.call.stage) (at_some g.K.PartialEq.eq (λ s. c.cell.result.now ≡ s.cell) (entry_at c.self.inside.table c.args.number) e (subst (λ (s : Keyed g.row.K.Denot g.row.V.Denot g.row.W.Denot). entry_at s.table c.args.number ≡ Some e) (sym c.self.view_is) there) c.cell.ensures) (c.finds.ensures.0 c.if-finds.true))),
+      λ away. absurd (away (subst (λ x. Finds x c.args.call.now.call.stage) (at_entry (λ s. c.cell.result.now ≡ s.cell) (entry_at c.self.inside.table c.args.number) e (subst (λ (s : Keyed g.row.K.Denot g.row.V.Denot g.row.W.Denot). entry_at s.table c.args.number ≡ Some e) (sym c.self.view_is) there) c.cell.ensures) (c.finds.ensures.0 c.if-finds.true))),
     )
 
 pub returns-in-Ok-clause-polls : goal.returns-in-Ok-clause-polls
 returns-in-Ok-clause-polls g c =
     λ e there. (
       λ finds.
-          absurd (let at : c.finds.result ≡ true = c.finds.ensures.1 (subst (λ x. Finds x c.args.call.now.call.stage) (sym (at_some g.K.PartialEq.eq (λ s. c.cell.result.now ≡ s.cell) (entry_at c.self.inside.table c.args.number) e (subst (λ (s : Keyed g.row.K.Denot g.row.V.Denot g.row.W.Denot). entry_at s.table c.args.number ≡ Some e) (sym c.self.view_is) there) c.cell.ensures)) finds) in let out = c.if-finds.false in cc),
+          absurd (let at : c.finds.result ≡ true = c.finds.ensures.1 (subst (λ x. Finds x c.args.call.now.call.stage) (sym (at_entry (λ s. c.cell.result.now ≡ s.cell) (entry_at c.self.inside.table c.args.number) e (subst (λ (s : Keyed g.row.K.Denot g.row.V.Denot g.row.W.Denot). entry_at s.table c.args.number ≡ Some e) (sym c.self.view_is) there) c.cell.ensures)) finds) in let out = c.if-finds.false in cc),
       λ away.
           subst (λ call. AsksCell g.I.Init.answers g.K.PartialEq.eq c.args.once c.args.self.now c.args.number e c.args.call.now.call c.args.waker c.answer.result c.answer.new.self call c.answer.new.call.stage) (sym c.answer.ensures.call)
           (asks-cell g.I.Init.answers g.K.PartialEq.eq c.args.self.now c.poll_cell-2.new.self c.answer.new.self c.args.number c.args.once e c.args.call.now.call c.poll_cell-2.new.call c.args.waker (Ok c.in-Ok.answer) c.answer.result c.answer.new.call.stage
@@ -42,7 +43,7 @@ pub returns-in-Err-clause-polls : goal.returns-in-Err-clause-polls
 returns-in-Err-clause-polls g c =
     λ e there. (
       λ finds.
-          absurd (let at : c.finds.result ≡ true = c.finds.ensures.1 (subst (λ x. Finds x c.args.call.now.call.stage) (sym (at_some g.K.PartialEq.eq (λ s. c.cell.result.now ≡ s.cell) (entry_at c.self.inside.table c.args.number) e (subst (λ (s : Keyed g.row.K.Denot g.row.V.Denot g.row.W.Denot). entry_at s.table c.args.number ≡ Some e) (sym c.self.view_is) there) c.cell.ensures)) finds) in let out = c.if-finds.false in cc),
+          absurd (let at : c.finds.result ≡ true = c.finds.ensures.1 (subst (λ x. Finds x c.args.call.now.call.stage) (sym (at_entry (λ s. c.cell.result.now ≡ s.cell) (entry_at c.self.inside.table c.args.number) e (subst (λ (s : Keyed g.row.K.Denot g.row.V.Denot g.row.W.Denot). entry_at s.table c.args.number ≡ Some e) (sym c.self.view_is) there) c.cell.ensures)) finds) in let out = c.if-finds.false in cc),
       λ away.
           asks-cell g.I.Init.answers g.K.PartialEq.eq c.args.self.now c.poll_cell-2.new.self c.poll_cell-2.new.self c.args.number c.args.once e c.args.call.now.call c.poll_cell-2.new.call c.args.waker (Err (c.in-Err.waker, c.in-Err.field-0-1)) (Err (Some c.in-Err.waker, record {})) c.args.call.now.stage
           (c.in-Err.ensures.steps e there) (λ s here. (refl, same-keyed g.K.PartialEq.eq c.poll_cell-2.new.self, c.requires.stage)),

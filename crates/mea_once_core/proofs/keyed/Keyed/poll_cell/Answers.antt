@@ -5,7 +5,8 @@ use Rattle.mea_once_core.specs.Links.{Shown}
 use Rattle.mea_once_core.specs.Table.{entry_at}
 use Rattle.mea_once_core.specs.Keyed.{Keyed, IsSameKeyed, StepsCell}
 use Rattle.mea_once_core.proofs.Onces.{ok_no_err}
-use Rattle.mea_once_core.proofs.Keyeds.{moved, room-after, refused-cell, on_ok_of, at_some, queue-within}
+use Rattle.mea_once_core.proofs.Tables.{at_entry}
+use Rattle.mea_once_core.proofs.Keyeds.{moved, room-after, refused-cell, on_ok_of, queue-within}
 use Rattle.mea_once_core.proofs.Refusals.{refused-same, fills-entry}
 use Rattle.mea_once_core.proofs.keyed.Keyed.poll_cell.Goals as goal
 
@@ -27,7 +28,7 @@ pub move_wakes-requires-clause-room : goal.move_wakes-requires-clause-room
 move_wakes-requires-clause-room g c = λ s there.
     let has = (subst (λ (s : Keyed g.row.K.Denot g.row.V.Denot g.row.W.Denot). (e : Shown g.row.V.Denot g.row.W.Denot) × (entry_at s.table c.args.number ≡ Some e) × MayPoll e.cell.permit c.args.call.now.stage) (sym c.self.view_is) c.requires.may) in
     let p = c.poll_init-answer.ensures.polls has.0 has.1 in
-    let more : c.queues_more-more.result ≡ queues_more has.0.cell c.args.call.now.stage = c.queues_more-more.ensures.is ∙ ap (λ x. queues_more x c.args.call.now.stage) (at_some g.K.PartialEq.eq (λ s. c.cell.result.now ≡ s.cell) (entry_at c.self.inside.table c.args.number) has.0 has.1 c.cell.ensures) in
+    let more : c.queues_more-more.result ≡ queues_more has.0.cell c.args.call.now.stage = c.queues_more-more.ensures.is ∙ ap (λ x. queues_more x c.args.call.now.stage) (at_entry (λ s. c.cell.result.now ≡ s.cell) (entry_at c.self.inside.table c.args.number) has.0 has.1 c.cell.ensures) in
     let few = subst (λ k. AddAtMost k has.0.cell p.cell) (sym more) p.few in
     let room = on_ok_of (c.self.inside.waiting + c.queues_more-more.result ≤ c.reserve.new.outbox.spare) c.reserve.result (sym c.is_err.ensures.value ∙ c.if-is_err.false) c.reserve.ensures.room in
     room-after g.K.PartialEq.eq c.self.inside.table c.poll_init-answer.new.self c.args.number c.queues_more-more.result c.self.inside.waiting c.reserve.new.outbox.spare has.0 p.cell has.1 c.self.invariant.quiet c.self.invariant.counted few p.sets room s there
@@ -35,7 +36,7 @@ move_wakes-requires-clause-room g c = λ s there.
 pub overflow_sub-self : goal.overflow_sub-self
 overflow_sub-self g c =
     let has = (subst (λ (s : Keyed g.row.K.Denot g.row.V.Denot g.row.W.Denot). (e : Shown g.row.V.Denot g.row.W.Denot) × (entry_at s.table c.args.number ≡ Some e) × MayPoll e.cell.permit c.args.call.now.stage) (sym c.self.view_is) c.requires.may) in
-    let cell = at_some g.K.PartialEq.eq (λ s. c.cell-2.result.now ≡ s.cell) (entry_at c.self.inside.table c.args.number) has.0 has.1 c.cell-2.ensures in
+    let cell = at_entry (λ s. c.cell-2.result.now ≡ s.cell) (entry_at c.self.inside.table c.args.number) has.0 has.1 c.cell-2.ensures in
     let count = c.waiting-before.ensures ∙ ap (λ (x : Cell g.row.V.Denot g.row.W.Denot). length x.permit.queue) cell in
     let within = queue-within c.self.inside.table.slots c.args.number has.0 has.1 in
     let counted = c.self.invariant.counted in
@@ -52,7 +53,7 @@ pub overflow_add-self : goal.overflow_add-self
 overflow_add-self g c =
     let has = (subst (λ (s : Keyed g.row.K.Denot g.row.V.Denot g.row.W.Denot). (e : Shown g.row.V.Denot g.row.W.Denot) × (entry_at s.table c.args.number ≡ Some e) × MayPoll e.cell.permit c.args.call.now.stage) (sym c.self.view_is) c.requires.may) in
     let p = c.poll_init-answer.ensures.polls has.0 has.1 in
-    let more : c.queues_more-more.result ≡ queues_more has.0.cell c.args.call.now.stage = c.queues_more-more.ensures.is ∙ ap (λ x. queues_more x c.args.call.now.stage) (at_some g.K.PartialEq.eq (λ s. c.cell.result.now ≡ s.cell) (entry_at c.self.inside.table c.args.number) has.0 has.1 c.cell.ensures) in
+    let more : c.queues_more-more.result ≡ queues_more has.0.cell c.args.call.now.stage = c.queues_more-more.ensures.is ∙ ap (λ x. queues_more x c.args.call.now.stage) (at_entry (λ s. c.cell.result.now ≡ s.cell) (entry_at c.self.inside.table c.args.number) has.0 has.1 c.cell.ensures) in
     let few = subst (λ k. AddAtMost k has.0.cell p.cell) (sym more) p.few in
     let room = on_ok_of (c.self.inside.waiting + c.queues_more-more.result ≤ c.reserve.new.outbox.spare) c.reserve.result (sym c.is_err.ensures.value ∙ c.if-is_err.false) c.reserve.ensures.room in
     let m = moved g.K.PartialEq.eq c.self.inside.table c.poll_init-answer.new.self c.move_wakes.new.self c.args.number c.queues_more-more.result c.self.inside.waiting c.waiting-before.result c.waiting.result c.reserve.new.outbox c.move_wakes.new.out has.0 p.cell c.cell-2.result.now c.cell-3.result.now
@@ -65,7 +66,7 @@ pub invariant_of-self-2 : goal.invariant_of-self-2
 invariant_of-self-2 g c =
     let has = (subst (λ (s : Keyed g.row.K.Denot g.row.V.Denot g.row.W.Denot). (e : Shown g.row.V.Denot g.row.W.Denot) × (entry_at s.table c.args.number ≡ Some e) × MayPoll e.cell.permit c.args.call.now.stage) (sym c.self.view_is) c.requires.may) in
     let p = c.poll_init-answer.ensures.polls has.0 has.1 in
-    let more : c.queues_more-more.result ≡ queues_more has.0.cell c.args.call.now.stage = c.queues_more-more.ensures.is ∙ ap (λ x. queues_more x c.args.call.now.stage) (at_some g.K.PartialEq.eq (λ s. c.cell.result.now ≡ s.cell) (entry_at c.self.inside.table c.args.number) has.0 has.1 c.cell.ensures) in
+    let more : c.queues_more-more.result ≡ queues_more has.0.cell c.args.call.now.stage = c.queues_more-more.ensures.is ∙ ap (λ x. queues_more x c.args.call.now.stage) (at_entry (λ s. c.cell.result.now ≡ s.cell) (entry_at c.self.inside.table c.args.number) has.0 has.1 c.cell.ensures) in
     let few = subst (λ k. AddAtMost k has.0.cell p.cell) (sym more) p.few in
     let room = on_ok_of (c.self.inside.waiting + c.queues_more-more.result ≤ c.reserve.new.outbox.spare) c.reserve.result (sym c.is_err.ensures.value ∙ c.if-is_err.false) c.reserve.ensures.room in
     let m = moved g.K.PartialEq.eq c.self.inside.table c.poll_init-answer.new.self c.move_wakes.new.self c.args.number c.queues_more-more.result c.self.inside.waiting c.waiting-before.result c.waiting.result c.reserve.new.outbox c.move_wakes.new.out has.0 p.cell c.cell-2.result.now c.cell-3.result.now
@@ -76,7 +77,7 @@ pub returns-clause-steps : goal.returns-clause-steps
 returns-clause-steps g c = λ e there.
     let here = subst (λ (s : Keyed g.row.K.Denot g.row.V.Denot g.row.W.Denot). entry_at s.table c.args.number ≡ Some e) (sym c.self.view_is) there in
     let p = c.poll_init-answer.ensures.polls e here in
-    let more : c.queues_more-more.result ≡ queues_more e.cell c.args.call.now.stage = c.queues_more-more.ensures.is ∙ ap (λ x. queues_more x c.args.call.now.stage) (at_some g.K.PartialEq.eq (λ s. c.cell.result.now ≡ s.cell) (entry_at c.self.inside.table c.args.number) e here c.cell.ensures) in
+    let more : c.queues_more-more.result ≡ queues_more e.cell c.args.call.now.stage = c.queues_more-more.ensures.is ∙ ap (λ x. queues_more x c.args.call.now.stage) (at_entry (λ s. c.cell.result.now ≡ s.cell) (entry_at c.self.inside.table c.args.number) e here c.cell.ensures) in
     let few = subst (λ k. AddAtMost k e.cell p.cell) (sym more) p.few in
     let room = on_ok_of (c.self.inside.waiting + c.queues_more-more.result ≤ c.reserve.new.outbox.spare) c.reserve.result (sym c.is_err.ensures.value ∙ c.if-is_err.false) c.reserve.ensures.room in
     let m = moved g.K.PartialEq.eq c.self.inside.table c.poll_init-answer.new.self c.move_wakes.new.self c.args.number c.queues_more-more.result c.self.inside.waiting c.waiting-before.result c.waiting.result c.reserve.new.outbox c.move_wakes.new.out e p.cell c.cell-2.result.now c.cell-3.result.now
@@ -89,7 +90,7 @@ pub returns-clause-same : goal.returns-clause-same
 returns-clause-same g c =
     let has = (subst (λ (s : Keyed g.row.K.Denot g.row.V.Denot g.row.W.Denot). (e : Shown g.row.V.Denot g.row.W.Denot) × (entry_at s.table c.args.number ≡ Some e) × MayPoll e.cell.permit c.args.call.now.stage) (sym c.self.view_is) c.requires.may) in
     let p = c.poll_init-answer.ensures.polls has.0 has.1 in
-    let more : c.queues_more-more.result ≡ queues_more has.0.cell c.args.call.now.stage = c.queues_more-more.ensures.is ∙ ap (λ x. queues_more x c.args.call.now.stage) (at_some g.K.PartialEq.eq (λ s. c.cell.result.now ≡ s.cell) (entry_at c.self.inside.table c.args.number) has.0 has.1 c.cell.ensures) in
+    let more : c.queues_more-more.result ≡ queues_more has.0.cell c.args.call.now.stage = c.queues_more-more.ensures.is ∙ ap (λ x. queues_more x c.args.call.now.stage) (at_entry (λ s. c.cell.result.now ≡ s.cell) (entry_at c.self.inside.table c.args.number) has.0 has.1 c.cell.ensures) in
     let few = subst (λ k. AddAtMost k has.0.cell p.cell) (sym more) p.few in
     let room = on_ok_of (c.self.inside.waiting + c.queues_more-more.result ≤ c.reserve.new.outbox.spare) c.reserve.result (sym c.is_err.ensures.value ∙ c.if-is_err.false) c.reserve.ensures.room in
     let m = moved g.K.PartialEq.eq c.self.inside.table c.poll_init-answer.new.self c.move_wakes.new.self c.args.number c.queues_more-more.result c.self.inside.waiting c.waiting-before.result c.waiting.result c.reserve.new.outbox c.move_wakes.new.out has.0 p.cell c.cell-2.result.now c.cell-3.result.now

@@ -1,7 +1,8 @@
-use Rattle.std.proofs.Common.{◌≡◌, ◌++◌, ◌∙◌, Ok, Err, sym, subst}
-use Rattle.mea_once_core.specs.Cell.{PollsTurn}
+use Rattle.std.proofs.Common.{◌≡◌, ◌++◌, ◌∙◌, Ok, Err, refl, sym, subst}
+use Rattle.mea_once_core.specs.Cell.{Cell, PollsTurn}
+use Rattle.mea_once_core.specs.Permit.{HoldsAs}
 use Rattle.mea_once_core.specs.Once.{Once, woken, TurnsCall}
-use Rattle.mea_once_core.proofs.Onces.{refused_turn, refuses_turn, turns_call, ok_no_err}
+use Rattle.mea_once_core.proofs.Onces.{refused_turn, refuses_turn, turns_call, turn_settled, ok_no_err}
 use Rattle.mea_once_core.proofs.once_core.OnceCore.poll_turn.Goals as goal
 
 pub returns-then-is_err-clause-polls : goal.returns-then-is_err-clause-polls
@@ -34,3 +35,20 @@ returns-in-Ok-clause-polls g c =
       c.settle.ensures.done,
       subst (λ ws. c.settle.new.outbox.wakers ≡ (ws ++ woken c.poll_turn.new.self.value c.self.inside.done.count) ++ c.poll_turn.new.self.permit.wakes) c.reserve.ensures.same c.settle.ensures.wakers,
     ))
+
+pub returns-in-Ok-clause-turn : goal.returns-in-Ok-clause-turn
+returns-in-Ok-clause-turn g c = turn_settled c.in-Ok.turn c.poll_turn.new.self c.settle.new.cell c.poll_turn.new.stage c.settle.ensures.cell c.in-Ok.ensures.turn
+
+pub returns-in-Ok-clause-held : goal.returns-in-Ok-clause-held
+returns-in-Ok-clause-held g c =
+    subst (λ (s : Once g.row.W.Denot). HoldsAs s.cell.permit c.args.stage.now c.settle.new.cell.permit c.poll_turn.new.stage) c.self.view_is
+    (subst (λ (x : Cell (Unit {0}) g.row.W.Denot). HoldsAs c.self.inside.cell.permit c.args.stage.now x.permit c.poll_turn.new.stage) (sym c.settle.ensures.cell) c.in-Ok.ensures.held)
+
+pub returns-in-Err-clause-held : goal.returns-in-Err-clause-held
+returns-in-Err-clause-held g c = subst (λ (s : Once g.row.W.Denot). HoldsAs s.cell.permit c.args.stage.now c.poll_turn.new.self.permit c.poll_turn.new.stage) c.self.view_is c.in-Err.ensures.held
+
+pub returns-in-Err-clause-err : goal.returns-in-Err-clause-err
+returns-in-Err-clause-err g c = ((λ i. record { cell = c.in-Err.ensures.err.0 i; done = c.self.inside.done.count; wakes = c.reserve.ensures.same i }) ∙ c.self.view_is, c.in-Err.ensures.err.1)
+
+pub returns-then-is_err-clause-err : goal.returns-then-is_err-clause-err
+returns-then-is_err-clause-err g c = ((λ i. record { cell = c.self.inside.cell; done = c.self.inside.done.count; wakes = c.reserve.ensures.same i }) ∙ c.self.view_is, refl)
