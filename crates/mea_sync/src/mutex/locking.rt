@@ -52,7 +52,7 @@ impl<T: Drop, W: Wake, H: Holds<Mutex<T, W>>> Waits<W, LockGuard<H, T, W>> for L
         } = self;
         let answer = of.held().rest.lock(rt).poll(&mut wait, waker);
         match answer {
-            Ok(Some(value)) => Ok(Polled::Ready(LockGuard::of(of, value))),
+            Ok(Some((value, _))) => Ok(Polled::Ready(LockGuard::of(of, value))),
             Ok(None) => Ok(Polled::Pending(Locking { of, wait, locks })),
             Err((waker, NoMemory)) => Err(Unpolled::no_memory(Locking { of, wait, locks }, waker)),
         }

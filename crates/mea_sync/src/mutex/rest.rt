@@ -1,6 +1,10 @@
-ghost use Rattle.std.specs.Prelude.{◌≡◌, ◌-◌, ◌<◌, ◌≤◌, length, Some, None, IsSome, IfOk, IfErr, MatchOption};
+ghost use Rattle.std.specs.Prelude.{◌≡◌, ◌-◌, ◌<◌, ◌≤◌, [], ◌∷◌, length, Some, None, IsSome, IfOk, IfErr, IfSome, IfNone, OnErr, MatchOption};
+ghost use Rattle.std.specs.Option.{option_copied_mut};
+ghost use Rattle.mea_sem_core.specs.Acquire.{renewed};
 ghost use Rattle.mea_sem_core.specs.Core.{held_of};
-ghost use Rattle.mea_sem_core.specs.Calls.{Belongs, Cancels, given_back};
+ghost use Rattle.mea_sem_core.specs.Calls.{Belongs, Cancels, Polls, given_back};
+ghost use Rattle.mea_lock_core.specs.Lock.{MayPoll, permits_of};
+ghost use Rattle.mea_sync.specs.Notified.{turn_of};
 
 use mea_base::{NoMemory, Turn};
 use mea_lock_core::{LockWait, MutexCore};
@@ -17,7 +21,8 @@ pub(crate) struct Rest<T, W> {
 impl<T: Drop, W: Drop> Rest<T, W> {
     // A value that nobody holds.
     pub(super) fn new(alloc: Global, value: T) -> Self
-        ensures { result.value ≡ Some value }
+        ensures value { result.value ≡ Some value }
+        ensures lock { result.lock.permits ≡ permits_of 1 }
     {
         Rest {
             lock: MutexCore::new(alloc, ()),
@@ -34,15 +39,19 @@ impl<T: Drop, W: Drop> Rest<T, W> {
     }
 
     // The value for writing, where no guard has it.
-    pub(super) fn value_mut(&mut self) -> Option<&mut T> {
+    pub(super) fn value_mut(&mut self) -> Option<&mut T>
+        ensures { option_copied_mut result ≡ self.old.value }
+    {
         self.value.as_mut()
     }
 
     // Takes the lock and the value, if nobody holds them.
     pub(super) fn try_lock(&mut self) -> Option<T>
-        ensures { MatchOption result
+        ensures taken { MatchOption result
             (self.new ≡ self.old)
             (λ value. (self.old.value ≡ Some value) × (held_of self.old.lock.permits ≡ 0) × (held_of self.new.lock.permits ≡ 1)) }
+        ensures free { 1 ≤ self.old.lock.permits.free → IsSome result
+            × (self.new.lock ≡ record self.old.lock { permits = record self.old.lock.permits { free = self.old.lock.permits.free - 1 } }) }
     {
         if self.lock.try_lock() {
             self.value.take()
@@ -51,18 +60,26 @@ impl<T: Drop, W: Drop> Rest<T, W> {
         }
     }
 
-    // Polls a wait: where it is ready, the lock is held and the value taken.
-    pub(super) fn poll(&mut self, wait: &mut LockWait, waker: W) -> Result<Option<T>, (W, NoMemory)>
+    // Polls a wait: where it is ready, the lock is held and the value taken, and the waker comes back.
+    pub(super) fn poll(
+        &mut self,
+        wait: &mut LockWait,
+        waker: W,
+    ) -> Result<Option<(T, W)>, (W, NoMemory)>
+        ensures allowed { MayPoll self.old.lock wait.old → Polls self.old.lock.permits wait.old waker (turn_of result) self.new.lock.permits wait.new }
+        ensures renewed { ¬ MayPoll self.old.lock wait.old → Polls self.old.lock.permits (renewed wait.old) waker (turn_of result) self.new.lock.permits wait.new }
         ensures taken { IfOk result (λ taken. MatchOption taken
             ((self.new.value ≡ self.old.value) × (held_of self.new.lock.permits ≡ held_of self.old.lock.permits))
-            (λ value. (self.old.value ≡ Some value) × (held_of self.old.lock.permits ≡ 0) × (held_of self.new.lock.permits ≡ 1))) }
+            (λ given. (self.old.value ≡ Some given.0) × (held_of self.old.lock.permits ≡ 0) × (held_of self.new.lock.permits ≡ 1))) }
+        ensures err { OnErr result ((self.new.lock ≡ self.old.lock) × (self.new.value ≡ self.old.value)) }
     {
-        match self.lock.poll_checked(wait, waker)? {
-            Turn::Ready(_) => match self.value.take() {
-                Some(value) => Ok(Some(value)),
+        match self.lock.poll_checked(wait, waker) {
+            Ok(Turn::Ready(waker)) => match self.value.take() {
+                Some(value) => Ok(Some((value, waker))),
                 None => unreachable!(),
             },
-            Turn::Pending => Ok(None),
+            Ok(Turn::Pending) => Ok(None),
+            Err(failed) => Err(failed),
         }
     }
 
@@ -92,7 +109,11 @@ impl<T: Drop, W: Drop> Rest<T, W> {
     }
 
     // Takes the first waker that is to be called.
-    pub(crate) fn next_wake(&mut self) -> Option<W> {
+    pub(crate) fn next_wake(&mut self) -> Option<W>
+        ensures some { IfSome result (λ waker. self.old.lock ≡ record self.new.lock { permits = record self.new.lock.permits { wakes = waker ∷ self.new.lock.permits.wakes } }) }
+        ensures none { IfNone result ((self.old.lock.permits.wakes ≡ []) × (self.new.lock ≡ self.old.lock)) }
+        ensures value { self.new.value ≡ self.old.value }
+    {
         self.lock.next_wake()
     }
 }

@@ -1,8 +1,11 @@
-ghost use Rattle.std.specs.Prelude.{◌≡◌, ◌-◌, ◌+◌, ◌<◌, ◌≤◌, length, Some, None, true, false, IsSome, IfOk, IfSome, OnErr, MatchOption, MatchResult};
+ghost use Rattle.std.specs.Prelude.{◌≡◌, ◌-◌, ◌+◌, ◌<◌, ◌≤◌, [], ◌∷◌, length, Some, None, true, false, IsSome, IfOk, IfSome, IfNone, OnOk, OnErr, MatchOption, MatchResult};
+ghost use Rattle.std.specs.Option.{option_copied_mut};
 ghost use Rattle.std.specs.Arc.{arc_value};
 ghost use Rattle.mea_sem_core.specs.Core.{held_of};
 ghost use Rattle.mea_sem_core.specs.Calls.{given_back};
-ghost use Rattle.mea_lock_core.specs.RwLock.{is_write, readers_of, MayCancel, CancelsRw};
+ghost use Rattle.mea_lock_core.specs.Lock.{permits_of};
+ghost use Rattle.mea_lock_core.specs.RwLock.{is_write, readers_of, renewed_rw, MayPoll, MayCancel, PollsRw, CancelsRw};
+ghost use Rattle.mea_sync.specs.Notified.{turn_of};
 ghost use Rattle.mea_sync.specs.Slot.{value_in};
 
 use crate::rwlock::slot;
@@ -27,6 +30,8 @@ impl<T: Drop, W: Drop> Rest<T, W> {
     // A value that nobody holds.
     pub(super) fn new(alloc: Global, value: T, max_readers: usize) -> Self
         requires { 0 < max_readers }
+        ensures value { result.owned ≡ Some value }
+        ensures lock { (result.lock.permits ≡ permits_of max_readers) × (result.lock.most ≡ max_readers) × (result.lock.writing ≡ false) }
     {
         Rest {
             alloc,
@@ -45,7 +50,9 @@ impl<T: Drop, W: Drop> Rest<T, W> {
     }
 
     // The value for writing, where no guard has it or a share of it.
-    pub(super) fn value_mut(&mut self) -> Option<&mut T> {
+    pub(super) fn value_mut(&mut self) -> Option<&mut T>
+        ensures { IfSome (option_copied_mut result) (λ value. value_in self.old.owned self.old.shared ≡ Some value) }
+    {
         slot::unshare(&mut self.owned, &mut self.shared);
         self.owned.as_mut()
     }
@@ -54,6 +61,9 @@ impl<T: Drop, W: Drop> Rest<T, W> {
     pub(super) fn try_read(&mut self) -> Result<Option<Arc<T>>, NoMemory>
         ensures shared { IfOk result (λ shared. IfSome shared (λ arc. (value_in self.old.owned self.old.shared ≡ Some (arc_value arc))
             × (self.old.lock.writing ≡ false) × (held_of self.new.lock.permits ≡ held_of self.old.lock.permits + 1))) }
+        ensures free { 1 ≤ self.old.lock.permits.free → IfOk result (λ shared. IsSome shared
+            × (self.new.lock ≡ record self.old.lock { permits = record self.old.lock.permits { free = self.old.lock.permits.free - 1 } })) }
+        ensures none { self.old.lock.permits.free ≡ 0 → IfOk result (λ shared. (shared ≡ None) × (self.new.lock ≡ self.old.lock)) }
         ensures err { OnErr result (self.new.lock ≡ self.old.lock) }
         ensures value { value_in self.new.owned self.new.shared ≡ value_in self.old.owned self.old.shared }
     {
@@ -65,16 +75,18 @@ impl<T: Drop, W: Drop> Rest<T, W> {
         }
     }
 
-    // Polls a wait for a read: where it is ready, the read is held and the value shared.
+    // Polls a wait for a read: where it is ready, the read is held and the value shared, and the waker comes back.
     pub(super) fn poll_read(
         &mut self,
         wait: &mut RwWait,
         waker: W,
-    ) -> Result<Option<Arc<T>>, (W, NoMemory)>
+    ) -> Result<Option<(Arc<T>, W)>, (W, NoMemory)>
         requires { is_write wait.old ≡ false }
+        ensures allowed { MayPoll self.old.lock wait.old → OnOk result (PollsRw self.old.lock wait.old waker (turn_of result) self.new.lock wait.new) }
+        ensures renewed { ¬ MayPoll self.old.lock wait.old → OnOk result (PollsRw self.old.lock (renewed_rw wait.old) waker (turn_of result) self.new.lock wait.new) }
         ensures shared { IfOk result (λ shared. MatchOption shared
             (held_of self.new.lock.permits ≡ held_of self.old.lock.permits)
-            (λ arc. (value_in self.old.owned self.old.shared ≡ Some (arc_value arc)) × (self.old.lock.writing ≡ false)
+            (λ given. (value_in self.old.owned self.old.shared ≡ Some (arc_value given.0)) × (self.old.lock.writing ≡ false)
             × (held_of self.new.lock.permits ≡ held_of self.old.lock.permits + 1))) }
         ensures kind { is_write wait.new ≡ false }
         ensures err { OnErr result (self.new.lock ≡ self.old.lock) }
@@ -83,12 +95,13 @@ impl<T: Drop, W: Drop> Rest<T, W> {
         let Ok(shared) = slot::share(&mut self.owned, &mut self.shared, self.alloc) else {
             return Err((waker, NoMemory));
         };
-        match self.lock.poll_checked(wait, waker)? {
-            Turn::Ready(_) => match shared {
-                Some(arc) => Ok(Some(arc)),
+        match self.lock.poll_checked(wait, waker) {
+            Ok(Turn::Ready(waker)) => match shared {
+                Some(arc) => Ok(Some((arc, waker))),
                 None => unreachable!(),
             },
-            Turn::Pending => Ok(None),
+            Ok(Turn::Pending) => Ok(None),
+            Err(failed) => Err(failed),
         }
     }
 
@@ -97,47 +110,66 @@ impl<T: Drop, W: Drop> Rest<T, W> {
     pub(super) fn try_write(&mut self) -> (Option<T>, usize)
         ensures taken { IfSome result.0 (λ value. (value_in self.old.owned self.old.shared ≡ Some value)
             × (held_of self.old.lock.permits ≡ 0) × (self.new.lock.writing ≡ true)) }
+        ensures refused { self.old.lock.permits.free < self.old.lock.most → (result.0 ≡ None) × (self.new.lock ≡ self.old.lock) }
+        ensures free { self.old.lock.writing ≡ false → self.old.lock.most ≤ self.old.lock.permits.free → IfSome result.0 (λ _. self.new.lock
+            ≡ record self.old.lock { permits = record self.old.lock.permits { free = self.old.lock.permits.free - self.old.lock.most }; writing = true }) }
+        ensures made { result.1 ≡ length self.new.lock.permits.wakes - length self.old.lock.permits.wakes }
     {
         let before = self.lock.wakes_ready();
-        if self.lock.is_writing() || !self.lock.try_write() {
-            return (None, 0);
-        }
-        let taken = self.take_or_unlock();
+        let taken = if self.lock.is_writing() || !self.lock.try_write() {
+            None
+        } else {
+            self.take_or_unlock()
+        };
         (taken, self.lock.wakes_ready().saturating_sub(before))
     }
 
-    // Polls a wait for a write: where it is ready, the write is held and the value taken. It tells how many
-    // wakers are to be woken. All shares of the value go before their read is given back; where one is left
+    // Polls a wait for a write: where it is ready, the write is held and the value taken, and the waker comes back. It tells how
+    // many wakers are to be woken. All shares of the value go before their read is given back; where one is left
     // nonetheless, the write is given back, and the answer is that of no memory.
     pub(super) fn poll_write(
         &mut self,
         wait: &mut RwWait,
         waker: W,
-    ) -> (Result<Option<T>, (W, NoMemory)>, usize)
+    ) -> (Result<Option<(T, W)>, (W, NoMemory)>, usize)
         requires { is_write wait.old ≡ true }
+        ensures allowed { MayPoll self.old.lock wait.old → OnOk result.0 (PollsRw self.old.lock wait.old waker (turn_of result.0) self.new.lock wait.new) }
+        ensures renewed { ¬ MayPoll self.old.lock wait.old → OnOk result.0 (PollsRw self.old.lock (renewed_rw wait.old) waker (turn_of result.0) self.new.lock wait.new) }
         ensures taken { IfOk result.0 (λ taken. MatchOption taken
             (held_of self.new.lock.permits ≡ held_of self.old.lock.permits)
-            (λ value. (value_in self.old.owned self.old.shared ≡ Some value) × (held_of self.old.lock.permits ≡ 0) × (self.new.lock.writing ≡ true))) }
+            (λ given. (value_in self.old.owned self.old.shared ≡ Some given.0) × (held_of self.old.lock.permits ≡ 0) × (self.new.lock.writing ≡ true))) }
         ensures kind { is_write wait.new ≡ true }
+        ensures made { result.1 ≡ length self.new.lock.permits.wakes - length self.old.lock.permits.wakes }
     {
         let before = self.lock.wakes_ready();
+        let answer = self.take_write(wait, waker);
+        (answer, self.lock.wakes_ready().saturating_sub(before))
+    }
+
+    // Polls a wait for a write, and takes the value where it is ready.
+    fn take_write(&mut self, wait: &mut RwWait, waker: W) -> Result<Option<(T, W)>, (W, NoMemory)>
+        requires { is_write wait.old ≡ true }
+        ensures allowed { MayPoll self.old.lock wait.old → OnOk result (PollsRw self.old.lock wait.old waker (turn_of result) self.new.lock wait.new) }
+        ensures renewed { ¬ MayPoll self.old.lock wait.old → OnOk result (PollsRw self.old.lock (renewed_rw wait.old) waker (turn_of result) self.new.lock wait.new) }
+        ensures taken { IfOk result (λ taken. MatchOption taken
+            (held_of self.new.lock.permits ≡ held_of self.old.lock.permits)
+            (λ given. (value_in self.old.owned self.old.shared ≡ Some given.0) × (held_of self.old.lock.permits ≡ 0) × (self.new.lock.writing ≡ true))) }
+        ensures kind { is_write wait.new ≡ true }
+    {
         let was_writing = self.lock.is_writing();
-        let turn = match self.lock.poll_checked(wait, waker) {
-            Ok(turn) => turn,
-            Err(e) => return (Err(e), 0),
-        };
-        let Turn::Ready(waker) = turn else {
-            return (Ok(None), 0);
+        let waker = match self.lock.poll_checked(wait, waker) {
+            Ok(Turn::Ready(waker)) => waker,
+            Ok(Turn::Pending) => return Ok(None),
+            Err(failed) => return Err(failed),
         };
         if was_writing {
             unreachable!();
         }
         match self.take_or_unlock() {
-            Some(value) => (Ok(Some(value)), 0),
+            Some(value) => Ok(Some((value, waker))),
             None => {
                 *wait = RwWait::write();
-                let made = self.lock.wakes_ready().saturating_sub(before);
-                (Err((waker, NoMemory)), made)
+                Err((waker, NoMemory))
             }
         }
     }
@@ -217,7 +249,11 @@ impl<T: Drop, W: Drop> Rest<T, W> {
     }
 
     // Takes the first waker that is to be called.
-    pub(super) fn next_wake(&mut self) -> Option<W> {
+    pub(super) fn next_wake(&mut self) -> Option<W>
+        ensures some { IfSome result (λ waker. self.old.lock ≡ record self.new.lock { permits = record self.new.lock.permits { wakes = waker ∷ self.new.lock.permits.wakes } }) }
+        ensures none { IfNone result ((self.old.lock.permits.wakes ≡ []) × (self.new.lock ≡ self.old.lock)) }
+        ensures value { (self.new.owned ≡ self.old.owned) × (self.new.shared ≡ self.old.shared) }
+    {
         self.lock.next_wake()
     }
 }

@@ -90,7 +90,7 @@ impl<T: Drop, W: Wake, H: Holds<RwLock<T, W>>> Waits<W, ReadGuard<H, T, W>> for 
         } = self;
         let answer = of.held().rest.lock(rt).poll_read(&mut wait, waker);
         match answer {
-            Ok(Some(value)) => Ok(Polled::Ready(ReadGuard::of(of, value))),
+            Ok(Some((shared, _))) => Ok(Polled::Ready(ReadGuard::of(of, shared))),
             Ok(None) => Ok(Polled::Pending(Reading { of, wait, locks })),
             Err((waker, NoMemory)) => Err(Unpolled::no_memory(Reading { of, wait, locks }, waker)),
         }
@@ -111,7 +111,7 @@ impl<T: Drop, W: Wake, H: Holds<RwLock<T, W>>> Waits<W, WriteGuard<H, T, W>> for
         let (answer, made) = of.held().rest.lock(rt).poll_write(&mut wait, waker);
         of.held().wake(rt, made);
         match answer {
-            Ok(Some(value)) => Ok(Polled::Ready(WriteGuard::of(of, value))),
+            Ok(Some((value, _))) => Ok(Polled::Ready(WriteGuard::of(of, value))),
             Ok(None) => Ok(Polled::Pending(Writing { of, wait, locks })),
             Err((waker, NoMemory)) => Err(Unpolled::no_memory(Writing { of, wait, locks }, waker)),
         }

@@ -1,4 +1,5 @@
 ghost use Rattle.std.specs.Prelude.{◌≡◌, IfOk};
+ghost use Rattle.mea_sem_core.specs.Acquire.{demand_of};
 
 use crate::semaphore::permit::Permit;
 use crate::semaphore::{Closed, Semaphore, steps};
@@ -15,6 +16,7 @@ pub struct AcquireToHold<H, W> {
     permits: usize,
     place: Place,
     waker: PhantomData<W>,
+    ghost asks: { demand_of place ≡ permits },
 }
 
 /// A wait for permits that are gone for ever once they are granted. It must be polled to its end, or ended. A contract
@@ -24,6 +26,7 @@ pub struct AcquireToForget<H, W> {
     permits: usize,
     place: Place,
     waker: PhantomData<W>,
+    ghost asks: { demand_of place ≡ permits },
 }
 
 /// The future of `Semaphore::acquire`.
@@ -125,7 +128,7 @@ impl<W: Wake, H: Holds<Semaphore<W>>> Waits<W, Result<Permit<H, W>, Closed>>
             mut place,
             waker: marker,
         } = self;
-        let answer = of.held().core.lock(rt).poll_open_checked(&mut place, waker);
+        let answer = steps::poll(&mut *of.held().core.lock(rt), &mut place, waker);
         match answer {
             Ok(OpenTurn::Ready(_)) => Ok(Polled::Ready(Ok(Permit::of(of, permits)))),
             Ok(OpenTurn::Pending) => Ok(Polled::Pending(AcquireToHold {

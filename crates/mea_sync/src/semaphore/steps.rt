@@ -2,8 +2,8 @@
 //! so that as many are woken once the lock is free.
 ghost use Rattle.std.specs.Prelude.{◌≡◌, ◌+◌, ◌-◌, ◌<◌, ◌≤◌, ◌↔◌, length, true, false, IsErr, IfErr, OnOk, OnErr};
 ghost use Rattle.mea_sem_core.specs.Core.{held_of, poured, closed_core};
-ghost use Rattle.mea_sem_core.specs.Calls.{Belongs, Cancels, given_back};
-ghost use Rattle.mea_sem_core.specs.Acquire.{renewed};
+ghost use Rattle.mea_sem_core.specs.Calls.{Belongs, Cancels, PollsOpen, given_back};
+ghost use Rattle.mea_sem_core.specs.Acquire.{demand_of, renewed};
 ghost use Rattle.mea_sync.specs.Forgets.{ForgetsGranted, LosesGranted};
 
 use mea_base::{NoMemory, Overflow};
@@ -69,6 +69,24 @@ pub(super) fn take_and_lose<W: Drop>(core: &mut SemCore<W>, n: usize) -> bool
     taken
 }
 
+// Polls an acquire, which asks for as many permits after it as before.
+#[tactic(auto, using(crate::proofs::Demands::keeps_demand))]
+pub(super) fn poll<W: Drop>(
+    core: &mut SemCore<W>,
+    place: &mut Acquire,
+    waker: W,
+) -> Result<OpenTurn<W>, (W, NoMemory)>
+    ensures allowed { Belongs core.old place.old → PollsOpen core.old place.old waker result core.new place.new }
+    ensures renewed { ¬ Belongs core.old place.old → PollsOpen core.old (renewed place.old) waker result core.new place.new }
+    ensures demand { demand_of place.new ≡ demand_of place.old }
+    ensures waker { IfErr result (λ e. e.0 ≡ waker) }
+{
+    if !core.poll_allowed(place) {
+        place.renew();
+    }
+    core.poll_open(place, waker)
+}
+
 // Polls an acquire whose permits are lost in the same step in which it is ready.
 pub(super) fn poll_to_forget<W: Drop>(
     core: &mut SemCore<W>,
@@ -78,9 +96,10 @@ pub(super) fn poll_to_forget<W: Drop>(
 ) -> Result<OpenTurn<W>, (W, NoMemory)>
     ensures allowed { Belongs core.old place.old → ForgetsGranted core.old place.old permits waker result core.new place.new }
     ensures renewed { ¬ Belongs core.old place.old → ForgetsGranted core.old (renewed place.old) permits waker result core.new place.new }
+    ensures demand { demand_of place.new ≡ demand_of place.old }
     ensures waker { IfErr result (λ e. e.0 ≡ waker) }
 {
-    let answer = core.poll_open_checked(place, waker);
+    let answer = poll(core, place, waker);
     lose_granted(core, &answer, permits);
     answer
 }
