@@ -1,7 +1,5 @@
 -- one group of many changes, or goes
-use Rattle.std.proofs.Common.{◌≡◌, ◌≢◌, ℕ, suc, zero, ◌+◌, ◌-◌, ◌<◌, Bool, true, false, cond, List, [], ◌∷◌, ◌++◌, length, take, nat_lt, slice_get, slice_set, swap_remove, slice_index_or, get_or, Option, Some, None, unwrap_or, refl, ap, sym, subst, ◌∙◌, arith}
-use Rattle.std.proofs.lemmas.Bool.{lt-ltb, le-ltb}
-use Rattle.std.proofs.lemmas.Bool.Decides.{nat_tests}
+use Rattle.std.proofs.Common.{◌≡◌, ◌≢◌, ℕ, suc, zero, ◌+◌, ◌-◌, ◌<◌, Bool, true, false, cond, List, [], ◌∷◌, ◌++◌, length, nat_lt, slice_get, slice_set, swap_remove, slice_index_or, get_or, Option, Some, None, unwrap_or, refl, ap, sym, subst, ◌∙◌, arith}
 use Rattle.std.proofs.lemmas.Option.{slice_get_within, get_or_from_slice_get}
 use Rattle.std.proofs.lemmas.List.Sums.{sum_by-cons, sum_by-swap_remove, sum_by_push}
 use Rattle.std.specs.List.{sum_by, IsDistinct, AllByRecursion}
@@ -14,18 +12,13 @@ use Rattle.std.proofs.lemmas.Map.Entries.{lookup_from_place}
 use Rattle.indexmap.specs.IndexMap.{set_value_at}
 use Rattle.mea_share_core.specs.Share.{Share, new_share, held_of, waiting_of}
 use Rattle.mea_share_core.specs.Groups.{held_in, waiting_in, share_in, IsAlike, Sets, StandsAt}
+use Rattle.mea_base.proofs.Places.{get-take}
 
 -- ---- what stands at each place
 module _ {X : Type 0} where
   gone : (b : Bool) → ◌≡◌ {A = Option X} None (cond b None None)
   gone true = refl
   gone false = refl
-
-  get-take : (n : ℕ) (xs : List X) (q : ℕ) → slice_get (take n xs) q ≡ cond (nat_lt q n) (slice_get xs q) None
-  get-take zero xs q = sym (ap (λ b. cond b (slice_get xs q) None) (le-ltb q 0 (omega arith)))
-  get-take (suc n) [] q = gone (nat_lt q (suc n))
-  get-take (suc n) (x ∷ xs) zero = sym (ap (λ b. cond b (Some x) None) (lt-ltb 0 (suc n) (omega arith)))
-  get-take (suc n) (x ∷ xs) (suc q) = get-take n xs q ∙ ap (λ b. cond b (slice_get xs q) None) (grind (arith, nat_tests))
 
   get-set : (xs : List X) (p q : ℕ) (y : X) → q ≢ p → slice_get (slice_set xs p y) q ≡ slice_get xs q
   get-set [] p q y other = refl

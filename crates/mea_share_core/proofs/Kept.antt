@@ -1,30 +1,15 @@
 -- what maps of numbers stand for
 use Rattle.std.proofs.Common.{◌≡◌, ◌≤◌, ℕ, suc, zero, ◌+◌, ◌-◌, false, cond, List, [], ◌∷◌, nat_eq, Option, Some, None, IsSome, is_some, refl, ap, sym, ◌∙◌, arith}
-use Rattle.std.specs.Option.{option_copied_mut}
 use Rattle.std.specs.Ordering.{nat_cmp, is_gt}
 use Rattle.std.specs.Cmp.{nat_cmp_total}
 use Rattle.std.proofs.lemmas.Bool.Decides.{nat_tests}
-use Rattle.std.specs.FinMap.{empty, get, insert, remove, len, get-empty, len-empty, len-insert, len-remove, empty_of_len}
-use Rattle.std.specs.Borrow.{MutBor}
+use Rattle.std.specs.FinMap.{get, insert, remove, len, get-empty, len-empty, len-insert, len-remove, empty_of_len}
 use Rattle.mea_base.specs.Named.{at}
 use Rattle.std.specs.Map.{lookup}
 use Rattle.std.specs.BTreeMap.{is_at}
-use Rattle.mea_base.proofs.NamedMaps.{kept-at, same_named, is_at-eq, named_put, named_remove}
+use Rattle.mea_base.proofs.NamedMaps.{kept-at, same_named, is_at-eq, named_put, named_remove, named_none}
 use Rattle.mea_share_core.specs.Share.{Numbers, kept, Share, new_share, held_of, waiting_of}
-
-pub not_none : {X : Type 0} (o : Option X) → IsSome o → o ≡ None → ⊥
-not_none None there none = absurd (cc)
-not_none (Some x) there none = absurd (cc)
-
-pub kept_of_none : {X : Type 0} (es : List (ℕ × X)) → es ≡ [] → kept es ≡ empty
-kept_of_none es is = same_named (kept es) empty (λ q. kept-at es q ∙ ap (λ fs. at fs q) is ∙ sym (get-empty nat_cmp q))
-
-pub is_some_of : {X : Type 0} (o p : Option X) → o ≡ p → IsSome o → IsSome p
-is_some_of o p is some = rw (← is) some
-
-pub lent_some : {X : Type 0} (o : Option (MutBor X)) → IsSome (option_copied_mut o) → IsSome o
-lent_some None some = absurd (cc)
-lent_some (Some x) some = refl
+use Rattle.mea_base.proofs.Maps.{is_some_of, not_none}
 
 -- entries that answer alike stand for one map
 pub kept-same : {X : Type 0} (es fs : List (ℕ × X)) → ((q : ℕ) → at fs q ≡ at es q) → kept fs ≡ kept es
@@ -86,7 +71,7 @@ pub first_least : {X : Type 0} (es : List (ℕ × X)) (n : ℕ) → ((q : ℕ) �
 first_least es n lower m some = not_above n m (lower m (is_some_of (get (kept es) m) (lookup (is_at (nat_cmp m)) es) (tree-kept es m) some))
 
 pub none-len : {X : Type 0} (es : List (ℕ × X)) → es ≡ [] → len (kept es) ≡ 0
-none-len {X} es is = ap len (kept_of_none es is) ∙ len-empty nat_cmp X
+none-len {X} es is = ap len (named_none es is) ∙ len-empty nat_cmp X
 
 -- of a share of which nothing is left
 pub idle_share : {W : Type 0} (s : Share W) → s.weight ≡ 1 → held_of s ≡ 0 → waiting_of s ≡ 0 → s ≡ new_share

@@ -1,7 +1,6 @@
 -- who is next, by its rank
-use Rattle.std.proofs.Common.{◌≡◌, ℕ, zero, suc, ◌*◌, ◌≤◌, ◌==◌, ◌&&◌, ◌||◌, inl, inr, Bool, false, nat_lt, List, [], ◌∷◌, length, slice_get, get_or, Option, Some, None, IsSome, IfSome, IfNone, unwrap_or, refl, ap, sym, subst, ◌∙◌, arith}
+use Rattle.std.proofs.Common.{◌≡◌, ℕ, zero, suc, ◌*◌, ◌≤◌, inl, inr, Bool, false, List, [], ◌∷◌, length, slice_get, get_or, Option, Some, None, IsSome, IfSome, IfNone, unwrap_or, refl, ap, sym, subst, ◌∙◌, arith}
 use Rattle.std.proofs.lemmas.Bool.{cases_lt}
-use Rattle.std.proofs.lemmas.Bool.Decides.{nat_tests}
 use Rattle.std.proofs.lemmas.List.{get_or_past}
 use Rattle.std.proofs.lemmas.List.Sums.{sum_by-cons}
 use Rattle.std.specs.List.{IsDistinct}
@@ -15,6 +14,7 @@ use Rattle.mea_share_core.specs.declared.rank.Rank.{Rank}
 use Rattle.mea_share_core.specs.Rank.{is_before, NotBefore, IsNext}
 use Rattle.mea_share_core.specs.Share.{Share, new_share, held_of, waiting_of, IsWaiting}
 use Rattle.mea_share_core.specs.Groups.{waiting_in, IsRank, Ranks, AreRanked, share_in, IsBefore, Leads}
+use Rattle.mea_share_core.proofs.Ranks.{reads}
 
 -- past the leaves there is no rank
 not_before : (leaves : List (Option Rank)) (r : Option Rank) → IsNext leaves r → (p : ℕ) → NotBefore (get_or leaves p None) r
@@ -36,9 +36,6 @@ not_earlier s t p q a b m ranks leads waits is before =
     let told = reads (a.held * b.weight) (b.held * a.weight) a.sequence b.sequence is in
     by_case before first e1 e2 told
   where
-    reads : (x y i j : ℕ) → nat_lt x y || ((x == y) && nat_lt i j) ≡ false → (y ≤ x) × (x ≡ y → j ≤ i)
-    reads x y i j is = (grind (arith, nat_tests), λ same. grind (arith, nat_tests))
-
     by_case : IsBefore s m t b.sequence → a.sequence ≤ m → a.held * b.weight ≡ held_of s * t.weight → b.held * a.weight ≡ held_of t * s.weight
         → (b.held * a.weight ≤ a.held * b.weight) × (a.held * b.weight ≡ b.held * a.weight → b.sequence ≤ a.sequence) → ⊥
     by_case (inl less) first e1 e2 told = absurd (let le = told.0 in omega (arith, le, less, e1, e2))

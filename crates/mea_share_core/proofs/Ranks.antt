@@ -16,7 +16,7 @@ chains ah aw bh bw ch cw some first second =
     le_of_mul-le-mul_right (omega (arith, e1, l1, e2, l2, e3)) some
 
 -- what the test says where it fails
-reads : (x y s t : ℕ) → nat_lt x y || ((x == y) && nat_lt s t) ≡ false → (y ≤ x) × (x ≡ y → t ≤ s)
+pub reads : (x y s t : ℕ) → nat_lt x y || ((x == y) && nat_lt s t) ≡ false → (y ≤ x) × (x ≡ y → t ≤ s)
 reads x y s t is = (grind (arith, nat_tests), λ same. grind (arith, nat_tests))
 
 tells : (x y s t : ℕ) → y ≤ x → (x ≡ y → t ≤ s) → nat_lt x y || ((x == y) && nat_lt s t) ≡ false

@@ -41,9 +41,10 @@ module _ {K W : Type 0} where
   abbrev pub IsSettled : Fair K W → Type 0
   IsSettled f = (f.free ≡ 0) ⊎ (waiters_of f ≡ 0)
 
-  -- why a poll fails: there was no memory, or no next number for one that has to wait; the waker comes back
+  -- why the poll of a new acquire fails: there was no memory, or no next number for one that has to wait; the waker comes back.
+  -- No other fails
   abbrev pub FaultOf : Fair K W → ShareStage → W → ShareFault W → Type 0
-  FaultOf f a w (NoMemory v) = v ≡ w
+  FaultOf f a w (NoMemory v) = (v ≡ w) × (a ≡ New)
   FaultOf f a w (Overflow v) = (v ≡ w) × (a ≡ New) × (f.free ≡ 0) × (f.next ≡ 18446744073709551615)
 
 module _ {K W : Type 0} (eq : K → K → Bool) where

@@ -1,4 +1,4 @@
-ghost use Rattle.std.specs.Prelude.{◌≡◌, ◌<◌, ◌⊎◌, ◌↔◌, IsTrue, IfOk, IfErr};
+ghost use Rattle.std.specs.Prelude.{◌≡◌, ◌<◌, ◌⊎◌, ◌↔◌, IsTrue, IfOk, IfErr, OnErr};
 
 use crate::fair_core::FairCore;
 use crate::share_acquire::{ShareAcquire, ShareStage};
@@ -60,7 +60,8 @@ impl<K: Eq + Hash + Drop, W: Drop, S: BuildHasher> FairCore<K, W, S> {
         ensures key { acquire.new.key ≡ acquire.old.key }
         ensures allowed { Belongs K.eq self.old acquire.old.key acquire.old.stage → IfOk result (λ poll. Polls K.eq self.old acquire.old.key acquire.old.stage waker poll self.new acquire.new.stage) }
         ensures renewed { ¬ Belongs K.eq self.old acquire.old.key acquire.old.stage → IfOk result (λ poll. Polls K.eq self.old acquire.old.key ShareStage.New waker poll self.new acquire.new.stage) }
-        ensures err { IfErr result (λ e. IsSame K.eq self.old self.new) }
+        ensures err { IfErr result (λ e. IsSame K.eq self.old self.new × (acquire.new.stage ≡ ShareStage.New) × FaultOf self.old ShareStage.New waker e) }
+        ensures goes_on { Belongs K.eq self.old acquire.old.key acquire.old.stage → OnErr result (acquire.old.stage ≡ ShareStage.New) }
         ensures settled { IsSettled self.new }
     {
         if !self.poll_allowed(acquire) {

@@ -127,6 +127,7 @@ impl<K: Eq + Hash + Drop, W: Drop, S: BuildHasher> FairCore<K, W, S> {
         ensures ok { IfOk result (λ got. (got ≡ true → 0 < self.old.free) × (got ≡ false → self.old.free ≡ 0)) }
         ensures taken { result ≡ Ok true → Becomes K.eq self.old self.new key.now (taken (share_of K.eq self.old key.now)) (self.old.free - 1) self.old.next }
         ensures refused { result ≡ Ok false → self.new ≡ self.old }
+        ensures none { self.old.free ≡ 0 → result ≡ Ok false }
         ensures err { OnErr result (self.new ≡ self.old) }
         ensures settled { IsSettled self.new }
     {

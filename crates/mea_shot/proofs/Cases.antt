@@ -1,7 +1,6 @@
 -- The cases of the steps.
 use Rattle.std.proofs.Common.{◌≡◌, ℕ, ◌+◌, ◌%◌, ◌^◌, ◌==◌, List, [], ◌∷◌, Some, None, refl, sym, ap, inl, inr, ◌⊎◌}
 use mathlib.Core.Option as maybe
-use mathlib.Core.Option.{some-injective, some-ne-none}
 use prog.Atomic.{either}
 use Rattle.atomic_table.specs.Table.{Me, keeps, takes, gives, step, Allows}
 use Rattle.mea_shot.specs.Rule.{Holds, Legal, Slot}

@@ -1,4 +1,4 @@
-ghost use Rattle.std.specs.Prelude.{◌≡◌, ◌⊎◌, ◌↔◌, true, IsTrue, IfOk, OnOk, IfErr, IsOk};
+ghost use Rattle.std.specs.Prelude.{◌≡◌, ◌≢◌, ◌⊎◌, ◌↔◌, true, IsTrue, IfOk, OnOk, IfErr, IsOk};
 ghost use Rattle.std.specs.Arc.{arc_value};
 ghost use Rattle.mea_shot.specs.Steps.{IsOn, IsUnpublished};
 ghost use Rattle.mea_shot.specs.declared.view.View.TheVariants.{Receives};
@@ -132,6 +132,8 @@ impl<T: Message + Drop, W: Wake + Drop> Recv<T, W> {
     pub fn poll(&mut self, waker: W) -> Poll<Result<T, RecvError>>
         ensures ready { (r : _) → result ≡ Poll.Ready r → (self.new ≡ Receives Closed) × IfOk r (λ m. T.fits m) }
         ensures pending { result ≡ Poll.Pending → (self.new ≡ Receives (Published waker)) ⊎ (self.new ≡ Receives Woken) }
+        ensures full { self.old ≡ Receives Full → result ≢ Poll.Pending }
+        ensures given { self.old ≡ Receives Full → (r : _) → result ≡ Poll.Ready r → IsOk r }
     {
         let got = if self.published {
             poll_published(&*self.board, &mut self.seat, waker)

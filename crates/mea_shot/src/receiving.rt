@@ -1,4 +1,4 @@
-ghost use Rattle.std.specs.Prelude.{◌≡◌, ◌⊎◌, [], ◌∷◌, Some, None, IfSome, IfOk, IfErr, OnOk, OnErr, IsOk, IsErr, MatchBool, MatchOption};
+ghost use Rattle.std.specs.Prelude.{◌≡◌, ◌⊎◌, [], ◌∷◌, Some, None, IsSome, IsSomeAnd, IfSome, IfOk, IfErr, OnOk, OnErr, IsOk, IsErr, MatchBool, MatchOption};
 ghost use Rattle.atomic_table.specs.Table.{rest};
 ghost use Rattle.mea_shot.specs.Steps.{IsOn, IsUnpublished, IsPublished, MayEnd};
 ghost use Rattle.mea_shot.specs.declared.view.View.TheVariants.{Receives};
@@ -62,6 +62,7 @@ pub(crate) fn poll_unpublished<T: Message + Drop, W: Wake + Drop>(
     requires stage { IsUnpublished seat.old.me }
     ensures board { seat.new.table_id ≡ seat.old.table_id }
     ensures pending { result ≡ None → seat.new.me ≡ (Receives (Published waker), []) }
+    ensures full { seat.old.me.0 ≡ Receives Full → IsSomeAnd result (λ r. IsSome r) }
     ensures ready { IfSome result (λ r. (seat.new.me.0 ≡ Receives Closed) × IfSome r (λ m. T.fits m)) }
     ensures next { MatchOption result (IsPublished seat.new.me) (λ r. IsUnpublished seat.new.me) }
 {

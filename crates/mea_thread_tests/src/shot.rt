@@ -116,6 +116,24 @@ fn a_message_is_there(rt: HostRuntime) {
     receiver.end();
 }
 
+// A message that was sent before anyone looked comes by the first call, and once.
+#[test]
+fn a_message_comes_by_the_first_call(rt: HostRuntime) -> Result<(), Fail> {
+    let woken = Arc::new(rt.alloc(), AtomicU64::new(0))?;
+    let (sender, mut receiver) = ends(&rt);
+    assert_eq!(rt; send(sender, 5), None);
+    assert_eq!(rt; received(&mut receiver), Ok(5));
+    assert_eq!(rt; received(&mut receiver), Err(TryRecvError::Disconnected));
+    receiver.end();
+    let (sender, receiver) = ends(&rt);
+    assert_eq!(rt; send(sender, 6), None);
+    let mut recv = receiver.into_future();
+    assert!(rt; matches!(polled(&mut recv, waker(&rt, &woken)), Poll::Ready(Ok(6))));
+    recv.end();
+    assert_eq!(rt; woken.load(Ordering::SeqCst), 0);
+    Ok(())
+}
+
 #[test]
 fn texts(rt: HostRuntime) -> Result<(), Fail> {
     let alloc = rt.alloc();

@@ -1,8 +1,9 @@
-use Rattle.mea_share_core.proofs.Kept.{kept_of_none, none-len}
+use Rattle.mea_base.proofs.NamedMaps.{named_none}
+use Rattle.mea_share_core.proofs.Kept.{none-len}
 use Rattle.mea_share_core.proofs.waiters.Waiters.new.Goals as goal
 
 pub returns-clause-is : goal.returns-clause-is
-returns-clause-is g c = kept_of_none c.new.result.entries c.new.ensures.empty
+returns-clause-is g c = named_none c.new.result.entries c.new.ensures.empty
 
 pub returns-clause-none : goal.returns-clause-none
 returns-clause-none g c = none-len c.new.result.entries c.new.ensures.empty

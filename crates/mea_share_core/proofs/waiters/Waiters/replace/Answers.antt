@@ -1,6 +1,7 @@
 use Rattle.std.proofs.Common.{sym, ap, ◌∙◌}
 use Rattle.std.specs.FinMap.{get, insert, len}
-use Rattle.mea_share_core.proofs.Kept.{not_none, tree-kept, tree_put, len-again}
+use Rattle.mea_base.proofs.Maps.{not_none}
+use Rattle.mea_share_core.proofs.Kept.{tree-kept, tree_put, len-again}
 use Rattle.mea_share_core.proofs.waiters.Waiters.replace.Goals as goal
 
 pub unreachable-requires : goal.unreachable-requires
