@@ -1,14 +1,14 @@
 -- a poll of a send keeps its value, or hands it out
-use Rattle.std.proofs.Common.{◌≡◌, ◌≤◌, Option, Some, None, Result, Ok, Err, MatchResult, refl, sym, ap, ◌∙◌, subst}
+use Rattle.std.proofs.Common.{◌≡◌, Option, Some, None, Result, Ok, Err, MatchResult, refl, sym, subst}
 use Rattle.futures.specs.declared.task.Poll.{Poll}
-use Rattle.futures.specs.declared.task.Poll.TheVariants.{Ready, Pending}
+use Rattle.futures.specs.declared.task.Poll.TheVariants.{Pending}
 use Rattle.mea_base.specs.declared.no_memory.NoMemory.{NoMemory}
 use Rattle.mea_sem_core.specs.declared.acquire.Acquire.{Acquire}
 use Rattle.mea_chan_core.specs.declared.errors.SendError.{SendError}
 use Rattle.mea_chan_core.specs.declared.errors.TrySendError.{TrySendError}
 use Rattle.mea_chan_core.specs.declared.errors.TrySendError.TheVariants.{Full, Disconnected}
 use Rattle.mea_chan_core.specs.Channel.{Channel}
-use Rattle.mea_chan_core.specs.Bounded.{PollsSend, PollsValue, StaysPending, send_answer}
+use Rattle.mea_chan_core.specs.Bounded.{PollsSend, PollsValue, send_answer}
 use Rattle.mea_link.specs.Back.{ComesBack}
 
 -- what a poll of a send answers

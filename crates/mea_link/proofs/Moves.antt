@@ -1,5 +1,5 @@
 -- an answer of a broadcast takes a receiver on as far as it tells
-use Rattle.std.proofs.Common.{◌≡◌, ℕ, ◌+◌, ◌-◌, ◌≤◌, ◌<◌, ◌==◌, Bool, true, false, cond, Option, Some, None, Result, Ok, Err, MatchResult, length, refl, sym, ap, ◌∙◌, subst, arith, nat_lt, nat_le}
+use Rattle.std.proofs.Common.{◌≡◌, ℕ, ◌+◌, ◌-◌, ◌≤◌, ◌<◌, ◌==◌, Bool, true, false, cond, Result, Ok, Err, MatchResult, refl, sym, ap, ◌∙◌, subst, arith, nat_lt, nat_le}
 use Rattle.std.specs.List.{slice_get}
 use Rattle.std.proofs.lemmas.Bool.Decides.{nat_tests}
 use Rattle.mea_broadcast_core.specs.declared.errors.BroadcastTry.{BroadcastTry}
@@ -7,16 +7,13 @@ use Rattle.mea_broadcast_core.specs.declared.errors.BroadcastTry.TheVariants as 
 use Rattle.mea_broadcast_core.specs.Broadcast.{Broadcast, oldest}
 use Rattle.mea_broadcast_core.specs.Receives.{Found, Behind, Holds, AtTail, found, found_at, Receives, usable_position}
 use Rattle.mea_link.specs.Positions.{MovesBy}
+use Rattle.mea_broadcast_core.proofs.Walks.{never_behind}
 
 module _ {T : Type 0} where
   abbrev lag_of : Found T → ℕ
   lag_of (Behind k) = k
   lag_of (Holds v) = 0
   lag_of AtTail = 0
-
-  never_behind : {A : Type 0} (o : Option T) (k : ℕ) → found_at o ≡ Behind k → A
-  never_behind None k is = absurd (cc)
-  never_behind (Some v) k is = absurd (cc)
 
 module _ {T W : Type 0} where
   -- the position that a checked call goes by is the receiver's own, or below it

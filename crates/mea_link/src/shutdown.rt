@@ -69,6 +69,7 @@ fn signal<W: Drop>(core: &mut LatchSeats<W>) -> usize
 // A receiver ends, in one step under the lock. It tells how many wakers that made ready.
 fn end_receiver<W: Drop>(core: &mut GroupSeats<W>) -> usize
     ensures leaves { 0 < core.old.seats.count.number → core.new ≡ fallen core.old 1 }
+    ensures ended { core.old.seats.count.number ≡ 0 → core.new ≡ core.old }
     ensures made { result ≡ length core.new.wakes - length core.old.wakes }
 {
     let before = core.wakes_ready();

@@ -26,6 +26,7 @@ pub struct Wait<W> {
 // A handle ends, in one step under the lock. It tells how many wakers that made ready.
 fn leave<W: Drop>(core: &mut GroupSeats<W>) -> usize
     ensures leaves { 0 < core.old.seats.count.number → core.new ≡ fallen core.old 1 }
+    ensures ended { core.old.seats.count.number ≡ 0 → core.new ≡ core.old }
     ensures made { result ≡ length core.new.wakes - length core.old.wakes }
 {
     let before = core.wakes_ready();

@@ -1,5 +1,5 @@
 -- a set has no more places than waited at one time
-use Rattle.std.proofs.Common.{◌≡◌, ◌≤◌, ◌<◌, ℕ, ◌+◌, ◌-◌, Bool, true, false, List, [], ◌∷◌, ◌++◌, Option, Some, None, length, max, nat_lt, arith, refl, if◌then◌else◌, ap, length-append}
+use Rattle.std.proofs.Common.{◌≡◌, ◌≤◌, ◌<◌, ℕ, ◌+◌, ◌-◌, Bool, true, false, List, [], ◌∷◌, ◌++◌, Option, length, max, nat_lt, arith, refl, if◌then◌else◌, ap, length-append}
 use Rattle.std.proofs.lemmas.Bool.Decides.{nat_tests}
 use Rattle.std.proofs.lemmas.Grind.{common_steps}
 use Rattle.std.proofs.lemmas.List.Elements.{All-append}
@@ -7,8 +7,8 @@ use Rattle.mea_sets.specs.declared.place.Place.{Place}
 use Rattle.mea_sets.specs.WaitSet.{Registered, is_registered, with_waker}
 use Rattle.mea_seats.specs.declared.seat.Seat.{Seat}
 use Rattle.mea_seats.specs.declared.seat.Seat.TheVariants.{Taken, Vacant}
-use Rattle.mea_seats.specs.Vacant.{first_or, others_of}
-use Rattle.mea_seats.specs.Seats.{Seats, AllThere, place_for, seated, vacated}
+use Rattle.mea_seats.specs.Vacant.{others_of}
+use Rattle.mea_seats.specs.Seats.{Seats, AllThere, place_for, seated}
 use Rattle.mea_seats.specs.Runs.{Runs, Begins, Polls, Ends, Counts, places, taken}
 use Rattle.mea_seats.proofs.Places.{all_stay, length_replaced, length_appended, others_there, found}
 

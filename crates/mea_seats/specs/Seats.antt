@@ -1,5 +1,5 @@
 -- what a contract sees of a count whose waits give their places back, and what their polls and ends do
-use Rattle.std.specs.Prelude.{ℕ, ◌≡◌, ◌<◌, ◌++◌, List, [], ◌∷◌, Option, Some, None, true, false, Result, Ok, MatchResult, nat_lt, length, if◌then◌else◌, refl}
+use Rattle.std.specs.Prelude.{ℕ, ◌≡◌, ◌<◌, ◌++◌, List, [], ◌∷◌, Option, Some, None, true, Result, Ok, MatchResult, nat_lt, length, if◌then◌else◌, refl}
 use Rattle.std.specs.List.{All}
 use Rattle.std.specs.Coded.{Coded, code_by, coded×, coded_ℕ, coded_list, coded_option}
 use Rattle.mea_base.specs.declared.no_memory.NoMemory.{NoMemory}

@@ -1,4 +1,4 @@
-ghost use Rattle.std.specs.Prelude.{ℕ, ◌≡◌, ◌+◌, ◌*◌, ◌<◌, Option, true};
+ghost use Rattle.std.specs.Prelude.{ℕ, ◌≡◌, ◌+◌, ◌*◌, ◌<◌, Option, true, false};
 ghost use Rattle.mea_sets.specs.declared.place.Place.{Place};
 ghost use Rattle.mea_sets.specs.WaitSet.{is_registered, with_waker};
 ghost use Rattle.mea_meet_core.specs.declared.barrier_wait.BarrierWait.{BarrierWait};
@@ -14,6 +14,7 @@ use mea_meet_core::{BarrierCore, BarrierWait};
 pub fn withdraw_from<W: Drop>(core: &mut BarrierCore<Seat<W>>, wait: BarrierWait)
     ensures unpolled { wait ≡ BarrierWait.New → core.new ≡ core.old }
     ensures done { wait ≡ BarrierWait.Done → core.new ≡ core.old }
+    ensures foreign { is_open core.old wait ≡ false → core.new ≡ core.old }
     ensures over { (round : ℕ) (slot : Option Place) → wait ≡ BarrierWait.Arrived round slot → HasCompleted core.old round → core.new ≡ core.old }
     ensures waits { (round : ℕ) (slot : Option Place) → wait ≡ BarrierWait.Arrived round slot → is_open core.old wait ≡ true
         → core.old.arrivals < (round + 1) * core.old.size → is_registered core.old.waiting slot ≡ true

@@ -17,6 +17,7 @@ pub struct Admission<H, K, W, S> {
     key: SharedKey<K>,
     acquire: ShareAcquire<K>,
     kind: PhantomData<(W, S)>,
+    ghost asks: { acquire.key ≡ key },
 }
 
 /// The future of `FairShare::acquire`.

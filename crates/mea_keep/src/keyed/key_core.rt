@@ -1,4 +1,4 @@
-ghost use Rattle.std.specs.Prelude.{◌≡◌, length, Bool, Option, true, false, MatchResult};
+ghost use Rattle.std.specs.Prelude.{◌≡◌, [], ◌∷◌, length, Bool, Option, true, false, IfSome, IfNone, MatchResult};
 ghost use Rattle.mea_once_core.specs.Keyed.{Keyed, MayPollKey, MayEndKey, EndsAt, PollsKey};
 ghost use Rattle.mea_keep.specs.Promise.{Promises};
 
@@ -37,7 +37,9 @@ pub trait KeyCore<K: Eq + Hash, V, W>: Drop {
         ensures { result ≡ length (shows self.now).wakes };
 
     // Takes the first waker that is ready.
-    fn next_wake(&mut self) -> Option<Option<W>>;
+    fn next_wake(&mut self) -> Option<Option<W>>
+        ensures some { IfSome result (λ waker. shows self.old ≡ record (shows self.new) { wakes = waker ∷ (shows self.new).wakes }) }
+        ensures none { IfNone result (((shows self.old).wakes ≡ []) × (shows self.new ≡ shows self.old)) };
 }
 
 impl<K: Eq + Hash + Drop, V: Drop, S: BuildHasher + Drop, W: Drop> KeyCore<K, V, W>

@@ -1,5 +1,6 @@
 //! The steps of a core of calls by key that are made under its lock. Each tells how many wakers it made ready.
-ghost use Rattle.std.specs.Prelude.{◌≡◌, ◌-◌, length, None, IfSome, IfNone, MatchResult};
+ghost use Rattle.std.specs.Prelude.{ℕ, ◌≡◌, ◌-◌, length, None, IsSome, IsNone, IfSome, IfNone, MatchResult};
+ghost use Rattle.mea_once_core.specs.declared.key_call.KeyStage.{KeyStage};
 ghost use Rattle.mea_once_core.specs.Keyed.{MayPollKey, MayEndKey, EndsAt, PollsKey};
 ghost use Rattle.mea_keep.specs.Promise.{Promises};
 
@@ -40,6 +41,10 @@ pub(super) fn take<K: Eq + Hash, V, W, C: KeyCore<K, V, W>>(
     ensures alone { IfSome result (λ told. ¬ MayPollKey K.eq (C.shows core.old) call.old → C.shows core.new ≡ C.shows core.old) }
     ensures made { IfSome result (λ told. told.1 ≡ length (C.shows core.new).wakes - length (C.shows core.old).wakes) }
     ensures none { IfNone result ((C.shows core.new ≡ C.shows core.old) × (call.new ≡ call.old)) }
+    ensures calls { (number : ℕ) → call.old.stage ≡ KeyStage.Calls number → IsSome result }
+    ensures kept { (number : ℕ) → call.old.stage ≡ KeyStage.Kept number → IsSome result }
+    ensures unpolled { (key : K) → call.old.stage ≡ KeyStage.New key → IsNone result }
+    ensures done { call.old.stage ≡ KeyStage.Done → IsNone result }
 {
     match call.stage {
         KeyStage::Calls { .. } | KeyStage::Kept { .. } => Some(poll(core, call, None)),

@@ -25,12 +25,14 @@ pub struct Sender<T, W> {
     shared: Arc<Shared<T, W>>,
 }
 
-/// An end that receives all that is sent while it keeps up. A contract sees of it how many messages it has passed. It
-/// ports `mea::broadcast::overflow::Receiver`.
+/// An end that receives all that is sent while it keeps up. A contract sees of it how many messages it has passed. It has
+/// one place among those who wait, which each of its waits takes in turn, so however many are polled and ended before a
+/// message comes, one waker is kept. It ports `mea::broadcast::overflow::Receiver`.
 #[derive(Drop)]
 pub struct Receiver<T, W> {
     shared: Arc<Shared<T, W>>,
     cursor: Cursor,
+    place: RecvWait,
 }
 
 impl<T, W> Model for Receiver<T, W> {
@@ -42,11 +44,11 @@ impl<T, W> Model for Receiver<T, W> {
 }
 
 /// The future of `Receiver::recv`. It must be polled to its end, or ended; ended, its waker stays until the next
-/// message.
+/// message or the first poll of the receiver's next wait.
 pub struct Recv<'a, T, W> {
     of: &'a Shared<T, W>,
     cursor: &'a mut Cursor,
-    place: RecvWait,
+    place: &'a mut RecvWait,
 }
 
 /// A channel that keeps the last messages: as many as the least power of two that is at least `capacity`.
@@ -55,7 +57,8 @@ pub fn channel<T: Clone + Drop, W: Wake>(
     capacity: usize,
 ) -> Result<(Sender<T, W>, Receiver<T, W>), BroadcastFault>
     requires { 0 < capacity }
-    ensures { (result ≡ Err BroadcastFault.Overflow) ↔ (2 ^ 63 < capacity) }
+    ensures overflow { (result ≡ Err BroadcastFault.Overflow) ↔ (2 ^ 63 < capacity) }
+    ensures starts { IfOk result (λ ends. ends.1 ≡ 0) }
 {
     let core = BroadcastCore::new(alloc, capacity)?;
     let cursor = core.subscribe();
@@ -70,10 +73,7 @@ pub fn channel<T: Clone + Drop, W: Wake>(
     let Ok(other) = Arc::try_clone(&shared) else {
         return Err(BroadcastFault::NoMemory);
     };
-    let receiver = Receiver {
-        shared: other,
-        cursor,
-    };
+    let receiver = Receiver::new(other, cursor);
     Ok((Sender { shared }, receiver))
 }
 
@@ -117,6 +117,7 @@ fn copy<T: Clone + Drop, W: Drop>(core: &BroadcastCore<T, W>, cursor: &Cursor) -
 // A sender ends, as above.
 fn end_sender<T: Clone + Drop, W: Drop>(core: &mut BroadcastCore<T, W>) -> usize
     ensures allowed { 0 < core.old.senders → core.new ≡ without_sender core.old }
+    ensures none { core.old.senders ≡ 0 → core.new ≡ core.old }
     ensures made { result ≡ length core.new.wakes - length core.old.wakes }
 {
     let before = core.wakes_ready();
@@ -154,7 +155,7 @@ impl<T: Clone + Drop, W: Wake> Sender<T, W> {
     pub fn subscribe<R: Wait>(&self, rt: &R) -> Result<Receiver<T, W>, NoMemory> {
         let shared = share(&self.shared)?;
         let cursor = shared.core.lock(rt).subscribe();
-        Ok(Receiver { shared, cursor })
+        Ok(Receiver::new(shared, cursor))
     }
 
     /// A further sender. It is refused at the greatest number, and then nothing has changed.
@@ -166,6 +167,19 @@ impl<T: Clone + Drop, W: Wake> Sender<T, W> {
         match added {
             Ok(()) => Ok(Sender { shared }),
             Err(Overflow) => Err(HandleFault::Overflow),
+        }
+    }
+}
+
+impl<T, W> Receiver<T, W> {
+    // A receiver that stands at this cursor and has not waited.
+    fn new(shared: Arc<Shared<T, W>>, cursor: Cursor) -> Self
+        ensures { result ≡ cursor.position }
+    {
+        Receiver {
+            shared,
+            cursor,
+            place: RecvWait::new(),
         }
     }
 }
@@ -184,7 +198,7 @@ impl<T: Clone + Drop, W: Wake> Receiver<T, W> {
         Recv {
             of: &*self.shared,
             cursor: &mut self.cursor,
-            place: RecvWait::new(),
+            place: &mut self.place,
         }
     }
 
@@ -192,7 +206,7 @@ impl<T: Clone + Drop, W: Wake> Receiver<T, W> {
     pub fn resubscribe<R: Wait>(&self, rt: &R) -> Result<Self, NoMemory> {
         let shared = share(&self.shared)?;
         let cursor = shared.core.lock(rt).subscribe();
-        Ok(Receiver { shared, cursor })
+        Ok(Receiver::new(shared, cursor))
     }
 
     /// A receiver of what this one has yet to hear. A further share may be refused.
@@ -201,7 +215,7 @@ impl<T: Clone + Drop, W: Wake> Receiver<T, W> {
     {
         let shared = share(&self.shared)?;
         let cursor = copy(&*shared.core.lock(rt), &self.cursor);
-        Ok(Receiver { shared, cursor })
+        Ok(Receiver::new(shared, cursor))
     }
 }
 
@@ -220,13 +234,12 @@ impl<T: Clone + Drop, W: Wake> End for Receiver<T, W> {
 }
 
 impl<'a, T: Clone + Drop, W: Wake> End for Recv<'a, T, W> {
-    fn end<R: Wait>(self, rt: &R) {
+    fn end<R: Wait>(self, _rt: &R) {
         let Recv {
-            of,
+            of: _,
             cursor: _,
-            place,
+            place: _,
         } = self;
-        of.core.lock(rt).end_recv_checked(place);
     }
 }
 
@@ -236,15 +249,11 @@ impl<'a, T: Clone + Drop, W: Wake> Waits<W, Result<T, RecvError>> for Recv<'a, T
         rt: &R,
         waker: W,
     ) -> Result<Polled<Self, Result<T, RecvError>>, Unpolled<Self, W>> {
-        let Recv {
-            of,
-            cursor,
-            mut place,
-        } = self;
+        let Recv { of, cursor, place } = self;
         let answer = of
             .core
             .lock(rt)
-            .poll_recv_checked(&mut *cursor, &mut place, waker);
+            .poll_recv_checked(&mut *cursor, &mut *place, waker);
         match answer {
             Ok(Poll::Ready(got)) => Ok(Polled::Ready(got)),
             Ok(Poll::Pending) => Ok(Polled::Pending(Recv { of, cursor, place })),

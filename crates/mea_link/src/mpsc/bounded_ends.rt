@@ -1,4 +1,4 @@
-ghost use Rattle.std.specs.Prelude.{◌≡◌, ◌-◌, ◌<◌, length, false, Some, IfErr};
+ghost use Rattle.std.specs.Prelude.{◌≡◌, ◌-◌, ◌<◌, length, true, false, Some, IfErr};
 ghost use Rattle.mea_chan_core.specs.Bounded.{send_answer, after_send, recv_answer, after_recv, without_sender, without_receiver, PollsRecv, PollsSend, EndsSend};
 ghost use Rattle.mea_chan_core.specs.Errors.{unsent};
 ghost use Rattle.mea_link.specs.Back.{ComesBack};
@@ -135,6 +135,7 @@ fn poll_send<T: Drop, W: Drop>(
 // Ends a send, as above. Its value is dropped where it was not sent.
 fn end_send<T: Drop, W: Drop>(core: &mut BoundedCore<T, W>, send: SendWait<T>) -> usize
     ensures allowed { Belongs core.old.waiting send.acquire → EndsSend core.old send.acquire core.new }
+    ensures refused { ¬ Belongs core.old.waiting send.acquire → core.new ≡ core.old }
     ensures made { result ≡ length core.new.wakes - length core.old.wakes }
 {
     let before = core.wakes_ready();
@@ -145,6 +146,7 @@ fn end_send<T: Drop, W: Drop>(core: &mut BoundedCore<T, W>, send: SendWait<T>) -
 // A sender ends, as above.
 fn end_sender<T: Drop, W: Drop>(core: &mut BoundedCore<T, W>) -> usize
     ensures allowed { 0 < core.old.senders → core.new ≡ without_sender core.old }
+    ensures none { core.old.senders ≡ 0 → core.new ≡ core.old }
     ensures made { result ≡ length core.new.wakes - length core.old.wakes }
 {
     let before = core.wakes_ready();
@@ -155,6 +157,7 @@ fn end_sender<T: Drop, W: Drop>(core: &mut BoundedCore<T, W>) -> usize
 // The receiver ends, as above.
 fn end_receiver<T: Drop, W: Drop>(core: &mut BoundedCore<T, W>) -> usize
     ensures allowed { core.old.ended ≡ false → core.new ≡ without_receiver core.old }
+    ensures ended { core.old.ended ≡ true → core.new ≡ core.old }
     ensures made { result ≡ length core.new.wakes - length core.old.wakes }
 {
     let before = core.wakes_ready();

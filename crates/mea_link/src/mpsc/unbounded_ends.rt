@@ -67,6 +67,7 @@ fn send<T: Drop, W: Drop>(
 // A sender ends, as above.
 fn end_sender<T: Drop, W: Drop>(core: &mut UnboundedCore<T, W>) -> usize
     ensures allowed { 0 < core.old.senders → core.new ≡ without_sender core.old }
+    ensures none { core.old.senders ≡ 0 → core.new ≡ core.old }
     ensures made { result ≡ length core.new.wakes - length core.old.wakes }
 {
     let before = core.wakes_ready();

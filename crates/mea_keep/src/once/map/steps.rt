@@ -1,5 +1,5 @@
 //! The steps of a map's core that are made under its lock, beside those of its calls.
-ghost use Rattle.std.specs.Prelude.{◌≡◌, Ok, None, IfOk, OnErr, OnSome};
+ghost use Rattle.std.specs.Prelude.{◌≡◌, Ok, Some, None, IfSome, IfOk, OnErr, OnSome};
 ghost use Rattle.mea_once_core.specs.Keyed.{Discards, value_for};
 
 use crate::computed::Computed;
@@ -12,7 +12,8 @@ pub(super) fn discard<K: Eq + Hash + Drop, V: Drop, S: BuildHasher + Drop, W: Dr
     core: &mut MapCore<K, Computed<V>, S, W>,
     key: &K,
 ) -> Option<Computed<V>>
-    ensures { Discards K.eq core.old key.now core.new }
+    ensures leaves { Discards K.eq core.old key.now core.new }
+    ensures value { IfSome result (λ kept. Some kept ≡ value_for K.eq core.old key.now) }
 {
     let kept = core.get(key);
     core.discard(key);

@@ -1,4 +1,4 @@
-use Rattle.std.proofs.Common.{ℕ, ◌≡◌, ◌<◌, ◌≤◌, ◌+◌, List, Option, length, arith, subst, sym, ap, ◌∙◌, if◌then◌else◌}
+use Rattle.std.proofs.Common.{ℕ, ◌<◌, ◌≤◌, ◌+◌, List, Option, length, arith, subst, sym, ap, ◌∙◌, if◌then◌else◌}
 use Rattle.mea_sets.specs.declared.place.Place.{Place}
 use Rattle.mea_seats.specs.Seats.{AllThere}
 use Rattle.mea_seats.specs.Vacant.{first_or}
