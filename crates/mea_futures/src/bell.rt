@@ -5,6 +5,8 @@ use futures::spin::lock;
 use futures::task::{Context, Poll, Source, Waker};
 use mea_base::Wake;
 use std::alloc::{AllocError, Global};
+use std::sync::atomic::AtomicBool;
+use std::sync::atomic::Ordering::SeqCst;
 use std::sync::{Arc, Mutex};
 
 // What a wake finds: whether one came since the last poll began, and the waker of the task that waits.
@@ -60,6 +62,16 @@ impl Ring {
     }
 }
 
+// What all shares of a bell ring.
+#[derive(Drop)]
+struct Tower {
+    ring: Mutex<Ring>,
+    // What the ring says of itself, to be read without its lock, under which it is written. A poll that begins while a wake is
+    // under way may find it false: then the task polls once more than it has to. No wake is lost by it, since where a task
+    // comes to rest the ring itself is asked.
+    is_rung: AtomicBool,
+}
+
 /// The waker that the types of `mea` keep for a task of an executor: it rings for one wait, and a ring wakes the task that
 /// polled that wait last.
 ///
@@ -68,14 +80,18 @@ impl Ring {
 /// steps alone, and none of them waits.
 #[derive(Drop)]
 pub struct Bell {
-    ring: Arc<Mutex<Ring>>,
+    tower: Arc<Tower>,
 }
 
 impl Wake for Bell {
     fn wake(self) {
         // The task's waker is dropped below, with no lock held.
-        let waker = match lock(&self.ring) {
-            Some(mut ring) => ring.ring(),
+        let waker = match lock(&self.tower.ring) {
+            Some(mut ring) => {
+                let waker = ring.ring();
+                self.tower.is_rung.store(true, SeqCst);
+                waker
+            }
             None => None,
         };
         drop(waker);
@@ -85,31 +101,43 @@ impl Wake for Bell {
 impl Bell {
     // The bell of one wait.
     pub(crate) fn new(alloc: Global) -> Result<Self, AllocError> {
-        let ring = Arc::new(alloc, Mutex::new(Ring::new()))?;
-        Ok(Bell { ring })
+        let tower = Arc::new(
+            alloc,
+            Tower {
+                ring: Mutex::new(Ring::new()),
+                is_rung: AtomicBool::new(false),
+            },
+        )?;
+        Ok(Bell { tower })
     }
 
     // The same bell once more, for a core to keep.
     pub(crate) fn again(&self) -> Option<Self> {
-        match Arc::try_clone(&self.ring) {
-            Ok(ring) => Some(Bell { ring }),
+        match Arc::try_clone(&self.tower) {
+            Ok(tower) => Some(Bell { tower }),
             Err(_) => None,
         }
     }
 
-    // A poll begins.
-    pub(crate) fn calm(&self) {
-        if let Some(mut ring) = lock(&self.ring) {
-            ring.calm();
+    // A poll begins. It takes the lock only where there is a wake to be forgotten, and tells whether there was one: then the
+    // bell has no task's waker.
+    pub(crate) fn calm(&self) -> bool {
+        if !self.is_rung() {
+            return false;
+        }
+        match lock(&self.tower.ring) {
+            Some(mut ring) => {
+                ring.calm();
+                self.tower.is_rung.store(false, SeqCst);
+                true
+            }
+            None => false,
         }
     }
 
     // Whether a wake came since the last poll began.
     pub(crate) fn is_rung(&self) -> bool {
-        match lock(&self.ring) {
-            Some(ring) => ring.is_rung,
-            None => true,
-        }
+        self.tower.is_rung.load(SeqCst)
     }
 
     // A poll was pending.
@@ -118,7 +146,7 @@ impl Bell {
         ensures registered { Covers cx.new (λ s. s ≡ source.now.id) }
         ensures kept { Keeps cx.old cx.new }
     {
-        match lock(&self.ring) {
+        match lock(&self.tower.ring) {
             Some(mut ring) => ring.rest(cx, source),
             None => cx.yield_now(),
         }

@@ -1,4 +1,4 @@
-ghost use Rattle.std.specs.Prelude.{◌≡◌, Ok, IsSomeAnd, IfOk};
+ghost use Rattle.std.specs.Prelude.{◌≡◌, Ok, Some, IsSomeAnd, IfOk};
 
 use crate::bell::Bell;
 use crate::waiting::Waiting;
@@ -39,6 +39,26 @@ impl<'a, R: Wait, F: Waits<Bell, Result<P, E>>, P, E> Waiting<'a, R, F, Result<P
     {
         let rt = self.rt;
         TryHolding { rt, waiting: self }
+    }
+}
+
+impl<'a, R: Wait, F: Waits<Bell, O>, O> Holding<'a, R, F, O> {
+    /// Begins a further wait with the same bell, as `restart` of `Waiting` does: it takes no memory.
+    pub fn restart(&mut self, wait: F)
+        requires { F.can_poll wait }
+        ensures { self.new.waiting.wait ≡ Some wait }
+    {
+        self.waiting.restart(wait);
+    }
+}
+
+impl<'a, R: Wait, F: Waits<Bell, Result<P, E>>, P, E> TryHolding<'a, R, F, P, E> {
+    /// Begins a further wait with the same bell, as `restart` of `Waiting` does: it takes no memory.
+    pub fn restart(&mut self, wait: F)
+        requires { F.can_poll wait }
+        ensures { self.new.waiting.wait ≡ Some wait }
+    {
+        self.waiting.restart(wait);
     }
 }
 

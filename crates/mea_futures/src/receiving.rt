@@ -130,14 +130,14 @@ impl<'a, R: Wait, C: Receives<M>, M> Stream for Receiving<'a, R, C, M> {
     ghost needs = { λ stream s. s ≡ stream.rung.id };
 
     fn poll_next(&mut self, cx: &mut Context<'_>) -> Poll<Option<M>> {
-        // A receiver that has the bell has no message yet. To ask again would leave one bell more with a broadcast.
+        // A receiver that has the bell has no message yet. To ask again would take its channel's lock for nothing.
         if self.has_bell && !self.bell.is_rung() {
             return self.bell.rest(cx, &self.rung);
         }
         let Some(bell) = self.bell.again() else {
             return cx.yield_now();
         };
-        self.bell.calm();
+        let _ = self.bell.calm();
         match self.receiver.get_mut().poll_message(self.rt, bell) {
             Ok(Poll::Ready(message)) => {
                 self.has_bell = false;

@@ -23,6 +23,8 @@ pub struct Waiting<'a, R: Wait, F: Waits<Bell, O>, O> {
     bell: Bell,
     // What its bell rings, for this wait alone.
     rung: Source,
+    // The bell may have the waker of a task.
+    has_rested: bool,
     output: PhantomData<O>,
 }
 
@@ -41,6 +43,7 @@ pub fn wait<'a, R: Wait, F: Waits<Bell, O>, O>(
             wait: Some(wait),
             bell,
             rung: Source::new(),
+            has_rested: false,
             output: PhantomData,
         }),
         Err(_) => {
@@ -72,6 +75,7 @@ impl<'a, R: Wait, F: Waits<Bell, O>, O> Waiting<'a, R, F, O> {
                 wait: None,
                 bell,
                 rung: Source::new(),
+                has_rested: false,
                 output: PhantomData,
             }),
             Err(_) => Err(NoMemory),
@@ -85,6 +89,18 @@ impl<'a, R: Wait, F: Waits<Bell, O>, O> Waiting<'a, R, F, O> {
         ensures rung { self.new.rung ≡ self.old.rung }
     {
         put(&mut self.wait, wait);
+    }
+
+    /// Begins a further wait with the same bell: it takes no memory, so a task that waits again and again takes some once. Where
+    /// the wait before was not ready yet, it is ended.
+    pub fn restart(&mut self, wait: F)
+        requires { F.can_poll wait }
+        ensures wait { self.new.wait ≡ Some wait }
+        ensures rung { self.new.rung ≡ self.old.rung }
+    {
+        if let Some(abandoned) = mem::replace(&mut self.wait, Some(wait)) {
+            abandoned.end(self.rt);
+        }
     }
 
     // Polls the wait, of which there is nothing left where this is ready.
@@ -106,11 +122,14 @@ impl<'a, R: Wait, F: Waits<Bell, O>, O> Waiting<'a, R, F, O> {
             return Poll::Ready(Err(PollFault::NoMemory));
         };
         // A wake from here on is seen where the task comes to rest, so it may register after the poll.
-        self.bell.calm();
+        if self.bell.calm() {
+            self.has_rested = false;
+        }
         match wait.poll(self.rt, bell) {
             Ok(Polled::Ready(output)) => Poll::Ready(Ok(output)),
             Ok(Polled::Pending(wait)) => {
                 put(&mut self.wait, wait);
+                self.has_rested = true;
                 self.bell.rest(cx, &self.rung)
             }
             Err(
@@ -148,12 +167,15 @@ impl<'a, R: Wait, F: Waits<Bell, O>, O> Drop for Waiting<'a, R, F, O> {
             wait,
             bell,
             rung: _,
+            has_rested,
             output: _,
         } = self;
         if let Some(wait) = wait {
             wait.end(rt);
         }
         // A type that keeps its bell until later has none then that could wake the task where it is dropped under a lock.
-        bell.wake();
+        if has_rested {
+            bell.wake();
+        }
     }
 }
