@@ -1,5 +1,5 @@
 //! The program `mea_speed`: uses each sort of shared type in rounds, on one thread or between threads, and prints how many
-//! nanoseconds a round took; where std has the like, it stands beside it. It tells nothing of what the calls answer.
+//! nanoseconds a round took; where std or the kit's tokio has the like, it stands beside it. It tells nothing of what the calls answer.
 //!
 //!     mea_speed ROUNDS
 //!
@@ -14,13 +14,16 @@ mod channels;
 mod fault;
 mod handoff;
 mod handover;
+mod sending;
 mod shots;
+mod tasks;
 mod waiter;
 mod work;
 
 use crate::fault::Fault;
 use crate::work::WORKS;
 use std::process::ExitCode;
+use std::random::RandomSource;
 use std::sync::Wait;
 use std::thread::Threads;
 use std::time::Clock;
@@ -53,14 +56,22 @@ fn rounds(rt: &(impl env::Env + AllocGlobal)) -> io::Result<Option<u64>> {
     )
 }
 
-// Measures each work in turn, and prints a line for it.
-fn report<R: Print + Clock + Threads + Wait + AllocGlobal + Sync>(
+// Measures each work in turn, and prints a line for it; beside std's and tokio's, what part of it ours took.
+fn report<R: Print + Clock + Threads + Wait + RandomSource + AllocGlobal + Sync>(
     rt: &R,
     rounds: u64,
 ) -> Result<(), Fault> {
+    let mut before = 0u128;
     for (name, work) in &WORKS {
-        let nanoseconds = work.nanoseconds(rt, rounds)?;
-        println!(rt; "{name} {nanoseconds} ns")?;
+        let all = work.nanoseconds(rt, rounds)?;
+        let each = all / u128::from(rounds.max(1));
+        if work.is_beside() {
+            let percent = before.saturating_mul(100) / all.max(1);
+            println!(rt; "{name} {each} ns, and ours took {percent} % of that")?;
+        } else {
+            println!(rt; "{name} {each} ns")?;
+        }
+        before = all;
     }
     Ok(())
 }

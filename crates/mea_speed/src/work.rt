@@ -1,5 +1,6 @@
 use crate::fault::Fault;
-use crate::{across, alone, channels, handover, shots};
+use crate::{across, alone, channels, handover, sending, shots, tasks};
+use std::random::RandomSource;
 use std::sync::Wait;
 use std::thread::Threads;
 use std::time::{Clock, Instant};
@@ -33,10 +34,18 @@ pub enum Work {
     ShotsAcross,
     /// A message through a oneshot channel with a lock, from one thread to another.
     LockedShotsAcross,
+    /// Two tasks of one pool hand a permit to each other.
+    TaskPermits,
+    /// The same with the semaphore of tokio.
+    TokioPermits,
+    /// Messages go through a bounded channel from one task to another of its pool.
+    TaskMessages,
+    /// The same with the channel of tokio.
+    TokioMessages,
 }
 
 /// All works, in the order in which they are done, each with its name in the report.
-pub const WORKS: [(&str, Work); 13] = [
+pub const WORKS: [(&str, Work); 17] = [
     ("permit", Work::Permits),
     ("lock", Work::Locks),
     ("lock of std", Work::StdLocks),
@@ -53,11 +62,23 @@ pub const WORKS: [(&str, Work); 13] = [
         "oneshot with a lock between two threads",
         Work::LockedShotsAcross,
     ),
+    ("permit between two tasks", Work::TaskPermits),
+    ("permit of tokio between two tasks", Work::TokioPermits),
+    ("message between two tasks", Work::TaskMessages),
+    ("message of tokio between two tasks", Work::TokioMessages),
 ];
 
 impl Work {
-    /// How long a round takes.
-    pub fn nanoseconds<R: Clock + Threads + Wait + AllocGlobal + Sync>(
+    /// Whether this is the like, in std or tokio, of the work before it.
+    pub fn is_beside(self) -> bool {
+        matches!(
+            self,
+            Work::StdLocks | Work::StdHandovers | Work::TokioPermits | Work::TokioMessages
+        )
+    }
+
+    /// How long so many rounds take.
+    pub fn nanoseconds<R: Clock + Threads + Wait + RandomSource + AllocGlobal + Sync>(
         self,
         rt: &R,
         rounds: u64,
@@ -67,13 +88,17 @@ impl Work {
         };
         self.run(rt, rounds)?;
         match start.elapsed(rt) {
-            Ok(elapsed) => Ok(elapsed.as_nanos() / u128::from(rounds.max(1))),
+            Ok(elapsed) => Ok(elapsed.as_nanos()),
             Err(_) => Err(Fault::Clock),
         }
     }
 
     // Runs so many rounds.
-    fn run<R: Threads + Wait + AllocGlobal + Sync>(self, rt: &R, rounds: u64) -> Result<(), Fault> {
+    fn run<R: Threads + Wait + RandomSource + AllocGlobal + Sync>(
+        self,
+        rt: &R,
+        rounds: u64,
+    ) -> Result<(), Fault> {
         match self {
             Work::Permits => alone::permits(rt, rounds),
             Work::Locks => alone::locks(rt, rounds),
@@ -91,6 +116,10 @@ impl Work {
             Work::LockedShots => shots::locked_shots(rt, rounds),
             Work::ShotsAcross => across::shots(rt, rounds),
             Work::LockedShotsAcross => across::locked_shots(rt, rounds),
+            Work::TaskPermits => tasks::permits(rt, rounds),
+            Work::TokioPermits => tasks::tokio_permits(rt, rounds),
+            Work::TaskMessages => sending::messages(rt, rounds),
+            Work::TokioMessages => sending::tokio_messages(rt, rounds),
         }
     }
 }
