@@ -1,5 +1,5 @@
 -- the first item of a list, as a part
-use Rattle.std.specs.Prelude.{◌≡◌, ℕ, List, [], ◌∷◌, Some, IsSome, length, refl, slice_get, slice_set}
+use Rattle.std.specs.Prelude.{◌≡◌, List, [], ◌∷◌, Some, IsSome, length, refl, slice_get, slice_set}
 use Rattle.std.specs.Global.{Vec}
 use Rattle.std.specs.Vec.{with_item}
 use Rattle.std.proofs.Common.{ap, sym, subst, ◌∙◌}

@@ -8,6 +8,7 @@ use mea_wait::End;
 fn a_bounded_channel(rt: HostRuntime) {
     let bell = count(&rt);
     let Ok((sender, mut receiver)) = bounded(rt.alloc(), 1) else {
+        assert!(rt; false);
         return;
     };
     assert!(rt; sender.try_send(&rt, 7u64) == Ok(()));
@@ -31,6 +32,7 @@ fn a_bounded_channel(rt: HostRuntime) {
 fn an_unbounded_channel(rt: HostRuntime) {
     let bell = count(&rt);
     let Ok((sender, mut receiver)) = unbounded(rt.alloc()) else {
+        assert!(rt; false);
         return;
     };
     match poll(&rt, receiver.recv(), &bell) {
@@ -50,6 +52,7 @@ fn an_unbounded_channel(rt: HostRuntime) {
 fn a_broadcast(rt: HostRuntime) {
     let bell = count(&rt);
     let Ok((sender, mut slow)) = overflow::channel(rt.alloc(), 2) else {
+        assert!(rt; false);
         return;
     };
     for message in 1..5u64 {

@@ -12,6 +12,7 @@ fn a_wait_is_notified(rt: HostRuntime) {
     let mutex = Mutex::new(rt.alloc(), 0u64);
     let condvar = Condvar::new(rt.alloc());
     let Some(guard) = mutex.try_lock(&rt) else {
+        assert!(rt; false);
         return;
     };
     let first = pends(&rt, condvar.wait(guard), &one);
@@ -35,6 +36,7 @@ fn a_wait_goes_on_while_its_condition_holds(rt: HostRuntime) -> Result<(), Fail>
     let mutex = Arc::new(rt.alloc(), Mutex::new(rt.alloc(), 0u64))?;
     let condvar = Condvar::new(rt.alloc());
     let Some(guard) = Arc::try_clone(&mutex)?.try_lock_owned(&rt) else {
+        assert!(rt; false);
         return Ok(());
     };
     let wait = pends(

@@ -1,6 +1,7 @@
 use crate::bell::{Bell, Count, Told, count, end, gives, poll, rung};
 use mea_base::Poll;
 use mea_link::barrier::Barrier;
+use mea_link::broadcast::overflow;
 use mea_link::latch::Latch;
 use mea_link::shutdown::new_pair;
 use mea_link::waitgroup::WaitGroup;
@@ -71,6 +72,7 @@ fn a_place_is_given_back(rt: HostRuntime) {
 fn a_million_waits_for_a_shutdown(rt: HostRuntime) {
     let bell = count(&rt);
     let Ok((sender, receiver)) = new_pair(rt.alloc()) else {
+        assert!(rt; false);
         return;
     };
     for _ in 0..1_000_000u64 {
@@ -92,6 +94,25 @@ fn a_million_waits_for_a_shutdown(rt: HostRuntime) {
     assert!(rt; rung(&bell) == 1);
 }
 
+// A million waits of one receiver are polled and ended before a message comes: one waker is kept, and woken.
+#[test]
+fn a_million_waits_for_a_message(rt: HostRuntime) {
+    let bell = count(&rt);
+    let Ok((sender, mut receiver)) = overflow::channel::<u64, Bell>(rt.alloc(), 2) else {
+        assert!(rt; false);
+        return;
+    };
+    for _ in 0..1_000_000u64 {
+        assert!(rt; comes_and_goes(&rt, receiver.recv(), &bell));
+    }
+    assert!(rt; Arc::strong_count(&bell) == 2);
+    assert!(rt; sender.send(&rt, 5).is_ok() && rung(&bell) == 1);
+    assert!(rt; Arc::strong_count(&bell) == 1);
+    assert!(rt; gives(&rt, Some(receiver.recv()), &bell) == Some(Ok(5)));
+    receiver.end(&rt);
+    sender.end(&rt);
+}
+
 // A wait that ended is not woken by its latch or group, and those beside it are.
 #[test]
 fn only_those_who_wait_are_woken(rt: HostRuntime) {
@@ -107,6 +128,7 @@ fn only_those_who_wait_are_woken(rt: HostRuntime) {
         Told::Ready(()) | Told::Refused => assert!(rt; false),
     }
     let Ok(first) = WaitGroup::new(rt.alloc()) else {
+        assert!(rt; false);
         return;
     };
     let second = first.clone_handle(&rt).ok();

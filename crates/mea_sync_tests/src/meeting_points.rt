@@ -47,6 +47,7 @@ fn a_barrier_has_a_leader(rt: HostRuntime) {
 fn a_group_is_waited_for(rt: HostRuntime) {
     let bell = count(&rt);
     let Ok(first) = WaitGroup::new(rt.alloc()) else {
+        assert!(rt; false);
         return;
     };
     let second = first.clone_handle(&rt).ok();
@@ -68,6 +69,7 @@ fn a_group_is_waited_for(rt: HostRuntime) {
 fn a_shutdown_is_heard_and_waited_for(rt: HostRuntime) {
     let bell = count(&rt);
     let Ok((sender, receiver)) = new_pair(rt.alloc()) else {
+        assert!(rt; false);
         return;
     };
     let watch = receiver.watch().ok();

@@ -10,6 +10,7 @@ fn a_mutex_is_handed_on(rt: HostRuntime) {
     let (one, two) = (count(&rt), count(&rt));
     let mutex = Mutex::new(rt.alloc(), 5u64);
     let Some(mut guard) = mutex.try_lock(&rt) else {
+        assert!(rt; false);
         return;
     };
     assert!(rt; !end(&rt, mutex.try_lock(&rt)));

@@ -106,6 +106,7 @@ fn a_close_is_heard(rt: HostRuntime) {
 fn permits_split_and_merge(rt: HostRuntime) {
     let semaphore: Semaphore<Bell> = Semaphore::new(rt.alloc(), 6);
     let Some(mut permit) = semaphore.try_acquire(&rt, 4) else {
+        assert!(rt; false);
         return;
     };
     assert!(rt; semaphore.available_permits(&rt) == 2);
@@ -138,18 +139,25 @@ fn owned_and_forgetting_forms(rt: HostRuntime) -> Result<(), Fail> {
     let semaphore = Arc::new(rt.alloc(), Semaphore::new(rt.alloc(), 5))?;
     let share = Arc::try_clone(&semaphore)?;
     assert!(rt; Arc::try_clone(&semaphore)?.try_acquire_owned_and_forget(&rt, 1));
-    if let Some(mut permit) = share.try_acquire_owned(&rt, 3) {
-        if let Ok(split) = permit.split(1) {
-            assert!(rt; end(&rt, split));
+    match share.try_acquire_owned(&rt, 3) {
+        Some(mut permit) => {
+            match permit.split(1) {
+                Ok(split) => assert!(rt; end(&rt, split)),
+                Err(_) => assert!(rt; false),
+            }
+            assert!(rt; permit.permits() == 2 && semaphore.available_permits(&rt) == 2);
+            permit.end(&rt);
         }
-        assert!(rt; permit.permits() == 2 && semaphore.available_permits(&rt) == 2);
-        permit.end(&rt);
+        None => assert!(rt; false),
     }
     assert!(rt; semaphore.available_permits(&rt) == 4);
     match poll(&rt, Arc::try_clone(&semaphore)?.acquire_owned(2), &rung_all) {
         Told::Ready(Ok(permit)) => permit.end(&rt),
         Told::Ready(Err(Closed)) | Told::Refused => assert!(rt; false),
-        Told::Pending(wait) => wait.end(&rt),
+        Told::Pending(wait) => {
+            wait.end(&rt);
+            assert!(rt; false);
+        }
     }
     assert!(rt; forgets(&rt, semaphore.acquire_and_forget(1), &rung_all));
     assert!(rt;

@@ -169,6 +169,7 @@ fn plays<R: Wait>(rt: &R, part: &mut Part<'_, R>, bell: &Count) {
 fn a_shutdown_of_eight(rt: HostRuntime) -> Result<(), Fail> {
     let bell = count(&rt);
     let Ok((sender, receiver)) = new_pair(rt.alloc()) else {
+        assert!(rt; false);
         return Ok(());
     };
     let first = Kept::new(&rt, receiver);
@@ -180,6 +181,7 @@ fn a_shutdown_of_eight(rt: HostRuntime) -> Result<(), Fail> {
     })?;
     for _ in 0..8u64 {
         let Ok(receiver) = first.get().clone_handle(&rt) else {
+            assert!(rt; false);
             return Ok(());
         };
         parts.push(Part {
@@ -221,12 +223,14 @@ fn send_ten<R: Wait>(rt: &R, of: &Sends<'_, R>) {
 #[test]
 fn test_multi_senders_concurrent(rt: HostRuntime) -> Result<(), Fail> {
     let Ok((sender, mut receiver)) = overflow::channel(rt.alloc(), 100) else {
+        assert!(rt; false);
         return Ok(());
     };
     let first = Kept::new(&rt, sender);
     let mut all = Vec::new(rt.alloc());
     for from in 0..3u64 {
         let Ok(sender) = first.get().clone_handle(&rt) else {
+            assert!(rt; false);
             return Ok(());
         };
         all.push(Sends {

@@ -241,18 +241,28 @@ fn writes(room: &mut Room, value: u64) -> Told {
     Told::wake(room.condvar.next_wake())
 }
 
+// Whether a wait that goes on while the value is below 3 is pending with each waker, which the write of the value beside it
+// wakes, and then has the lock.
+fn waits_below(rt: &HostRuntime, turns: &[(u64, u64)]) -> Result<bool, Fail> {
+    let mut room = Room::new(rt);
+    let mut wait = WaitWhile::new(|value: &mut u64| *value < 3);
+    if room.told(RoomCall::TryLock)? != Told::Yes {
+        return Ok(false);
+    }
+    for &(waker, value) in turns {
+        let told = while_told(&mut room, &mut wait, waker)?;
+        if told != Told::Pending || writes(&mut room, value) != Told::Value(waker) {
+            return Ok(false);
+        }
+    }
+    let told = while_told(&mut room, &mut wait, 12)?;
+    Ok(told == Told::Ready && room.told(RoomCall::TryLock)? == Told::No)
+}
+
 // A wait goes on while the value is below 3, however often it is notified.
 #[test]
 fn waits_while_below(rt: HostRuntime) -> Result<(), Fail> {
-    let mut room = Room::new(&rt);
-    let mut wait = WaitWhile::new(|value: &mut u64| *value < 3);
-    assert_eq!(rt; room.told(RoomCall::TryLock)?, Told::Yes);
-    assert_eq!(rt; while_told(&mut room, &mut wait, 10)?, Told::Pending);
-    assert_eq!(rt; writes(&mut room, 2), Told::Value(10));
-    assert_eq!(rt; while_told(&mut room, &mut wait, 11)?, Told::Pending);
-    assert_eq!(rt; writes(&mut room, 3), Told::Value(11));
-    assert_eq!(rt; while_told(&mut room, &mut wait, 12)?, Told::Ready);
-    assert_eq!(rt; room.told(RoomCall::TryLock)?, Told::No);
+    assert!(rt; waits_below(&rt, &[(10, 2), (11, 3)])?);
     Ok(())
 }
 
