@@ -1,32 +1,11 @@
-ghost use Rattle.std.specs.Prelude.{IfOk, IsSome};
-
+use crate::job::queued;
 use futures::task::Poll;
 use futures::test::MockTask;
-use mea_futures::{Bell, TryHolding, wait};
-use mea_sync::semaphore::{Closed, OwnedAcquire, OwnedSemaphorePermit, Semaphore};
-use std::alloc::{AllocError, AllocGlobal};
-use std::sync::{Arc, Wait};
+use mea_sync::semaphore::Semaphore;
+use std::sync::Arc;
 use std::test::Fail;
 use std::time::{Duration, Instant};
 use tokio::time::Driver;
-
-// A wait for permits of a shared semaphore, and what it gives.
-type Queued<'a, R> = TryHolding<'a, R, OwnedAcquire<Bell>, OwnedSemaphorePermit<Bell>, Closed>;
-
-// One that was never polled.
-fn queued<'a, R: Wait + AllocGlobal>(
-    rt: &'a R,
-    semaphore: &Arc<Semaphore<Bell>>,
-    permits: usize,
-) -> Result<Queued<'a, R>, AllocError>
-    ensures { IfOk result (λ queued. IsSome queued.waiting.wait) }
-{
-    let acquire = Arc::try_clone(semaphore)?.acquire_owned(permits);
-    match wait(rt, rt.alloc(), acquire) {
-        Ok(waiting) => Ok(waiting.try_holding()),
-        Err(_) => Err(AllocError),
-    }
-}
 
 // A further poll of the same task wakes nobody; one of another task takes the wait over.
 #[test]

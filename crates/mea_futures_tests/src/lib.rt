@@ -1,5 +1,5 @@
-//! Tests of the waits of `mea` under executors, by public contracts alone: joined, under a time limit, as streams, with a
-//! future of the user's that computes, and dropped in each stage.
+//! Tests of the waits of `mea` under executors, by public contracts alone: held by tasks of each executor, joined, under a
+//! time limit, as streams, with a future of the user's that computes, and dropped in each stage.
 #![tactic(auto)]
 
 #[cfg(test)]
@@ -8,5 +8,9 @@ mod claims;
 mod combined;
 #[cfg(test)]
 mod drops;
+#[cfg(test)]
+mod job;
+#[cfg(test)]
+mod pools;
 #[cfg(test)]
 mod streams;
