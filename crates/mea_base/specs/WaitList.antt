@@ -1,5 +1,5 @@
 -- what a contract sees of a `WaitList`
-use Rattle.std.specs.Prelude.{◌≡◌, ◌≢◌, ℕ, ◌<◌, ◌^◌, ◌==◌, List, [], ◌∷◌, ◌++◌, Option, Some, None, IsSome, is_some, Bool, not, count_by, filter, filter_map, option_map, slice_index_or, slice_set, refl}
+use Rattle.std.specs.Prelude.{◌≡◌, ◌≢◌, ℕ, ◌<◌, ◌^◌, ◌==◌, List, [], ◌∷◌, ◌++◌, Option, Some, None, IsSome, is_some, Bool, not, count_by, filter, slice_index_or, slice_set, refl}
 use Rattle.std.specs.List.{list_any}
 use Rattle.std.specs.Coded.{Coded, code_by, coded×, coded_ℕ, coded_list, coded_option}
 
@@ -74,10 +74,6 @@ module _ {T : Type 0} where
   -- how many numbers have a value
   abbrev pub value_count : Waits T → ℕ
   value_count w = count_by is_some w.slots
-
-  -- the linked pairs, in their order
-  abbrev pub linked_pairs : Waits T → List (ℕ × T)
-  linked_pairs w = filter_map (λ n. option_map (λ value. (n, value)) (get w n)) w.order
 
   -- the list after a write through `get_mut(n)`
   abbrev pub with_value : Waits T → ℕ → T → Waits T

@@ -21,6 +21,7 @@ use Rattle.mea_named.specs.ByName.{Names, seen, own}
 use Rattle.mea_named.specs.Play.{Part, PartYields, PartRests, found}
 use Rattle.mea_named.proofs.Cases.{found_is, if_true, if_false}
 use Rattle.mea_named.proofs.Own.{Stays, Comes, Goes, seen-at, seen-back, seen-empty, seen-insert, seen-remove, own-at, own-put, own-gone, own-empty, own-had, insert_same, put_gone, gone_none, len-some}
+use Rattle.mea_named.specs.NamedQueue.{registering}
 use Rattle.mea_linked.specs.SetLinked.{SetLinked, set_names}
 use Rattle.mea_linked.proofs.Sets.{registered_names, registered_links, drained_links, begun_links, gone_links}
 use Rattle.mea_sets.specs.WaitSet.{has_given, with_waker, slot_after}
@@ -28,7 +29,7 @@ use Rattle.mea_broadcast_core.specs.Broadcast.{IsFresh, after_send, without_send
 use Rattle.mea_broadcast_core.specs.Receives as cores
 use Rattle.mea_broadcast_core.specs.Receives.{Found}
 use Rattle.mea_chan_model.specs.Broadcasts as model
-use Rattle.mea_chan_model.specs.Broadcasts.{Broadcasts, Broadcast, Listener, of_hearing, is_broadcast, is_sender, is_hearing, is_over, tidied, stands, registered, ring_size, new_broadcast, taking, senders_in, tail_in, channel_of}
+use Rattle.mea_chan_model.specs.Broadcasts.{Broadcasts, Broadcast, Listener, of_hearing, is_broadcast, is_sender, is_hearing, is_over, tidied, stands, registered, ring_size, new_broadcast, senders_in, tail_in, channel_of}
 use Rattle.mea_chan_model.specs.BroadcastActions.{BroadcastAction, Open, AddSender, SendAll, EndSender, Subscribe, Resubscribe, CopyReceiver, Hear, EndReceiver, BeginHear, PollHear, EndHear, most_senders, last_tail, most_size, unusable, broadcast_cause, broadcast_act}
 use Rattle.mea_chan_model.specs.BroadcastValid.{AreKept, AreHeard, Hears, of_listener}
 use Rattle.mea_chan_model.proofs.BroadcastActing.{fresh_channel, fresh_receiver, fresh_future, fresh_sender, over_none, joins}
@@ -40,7 +41,7 @@ use Rattle.mea_broadcast.specs.declared.recv_entry.RecvEntry.{RecvEntry}
 use Rattle.mea_broadcast.specs.BroadcastCores.{NamedBroadcast, kept_by, handed_on, HandsOn, heard_told, moved_to, Polls, PollsAtTail, IsPolled}
 use Rattle.mea_broadcast.specs.BroadcastParts.{core_seen, broadcast_seen, listener_seen, hearing_seen, broadcasts_seen, of_channel, slots_of, AreLinked, IsKept}
 use Rattle.mea_broadcast.specs.BroadcastLends.{StandsForBroadcast}
-use Rattle.mea_broadcast.proofs.Seeing.{length-names, taking_is, seen_less, woken_sent, woken_less, as_stands, stands_is, kept_in, registered_is, ring_is}
+use Rattle.mea_broadcast.proofs.Seeing.{length-names, seen_less, woken_sent, woken_less, as_stands, stands_is, kept_in, registered_is, ring_is}
 use Rattle.mea_broadcast.proofs.Linking.{links_rest, links_turned, links_gone, fresh_linked, linked_later}
 
 seen_none : {X Y : Type 0} (f : X → Y) (m : Names X) (k : ℕ) → get (seen f m) k ≡ None → get m k ≡ None
@@ -564,11 +565,11 @@ module _ {old : Part Broadcasts} {i : ℕ} (s : Site old i) where
               → listener_seen x' ≡ listener_seen x → after.wakers ≡ before.wakers → after.registered + kept_by e.core ≡ before.registered + kept_by core' → Polled false
           waits same some told core_now slot_now seen_now woken counted =
               let linked = s.kept.links.linked y.channel e there in
-              let names : set_names core'.waiting ≡ taking (set_names e.core.waiting) f w = ap (λ (b : NamedBroadcast). set_names b.waiting) core_now ∙ registered_names e.core.waiting (slots_of y.channel s.ys) s.next f w y.wait linked its_slot ∙ sym (taking_is (set_names e.core.waiting) f w) in
-              let core_is : core_seen core' e.receivers ≡ record (broadcast_seen e) { waiting = taking (set_names e.core.waiting) f w } = ap (λ b. core_seen b e.receivers) core_now ∙ (λ j. record (broadcast_seen e) { waiting = (sym (ap (λ (b : NamedBroadcast). set_names b.waiting) core_now) ∙ names) j }) in
+              let names : set_names core'.waiting ≡ registering (set_names e.core.waiting) f w = ap (λ (b : NamedBroadcast). set_names b.waiting) core_now ∙ registered_names e.core.waiting (slots_of y.channel s.ys) s.next f w y.wait linked its_slot in
+              let core_is : core_seen core' e.receivers ≡ record (broadcast_seen e) { waiting = registering (set_names e.core.waiting) f w } = ap (λ b. core_seen b e.receivers) core_now ∙ (λ j. record (broadcast_seen e) { waiting = (sym (ap (λ (b : NamedBroadcast). set_names b.waiting) core_now) ∙ names) j }) in
               let y_seen : hearing_seen y' ≡ hearing_seen y = ap hearing_seen of_y in
               let mine : y'.channel ≡ y.channel = ap (λ (z : RecvEntry). z.channel) of_y in
-              yields_as fits (PollHear f w) (hearing_known (PollHear f w) refl) (quietly (record h { channels = insert (seen broadcast_seen s.es) x.channel (record (broadcast_seen e) { waiting = taking (set_names e.core.waiting) f w }) }) answers.Pending)
+              yields_as fits (PollHear f w) (hearing_known (PollHear f w) refl) (quietly (record h { channels = insert (seen broadcast_seen s.es) x.channel (record (broadcast_seen e) { waiting = registering (set_names e.core.waiting) f w }) }) answers.Pending)
               (polls_as w cores.AtTail same ∙ if_false (e.core.senders == 0) _ _ some) answer told
               (insert s.es y.channel (record e { core = core' })) s.ss (insert s.xs y.receiver x') (insert s.ys f y')
               (seen-insert broadcast_seen s.es y.channel (record e { core = core' }) ∙ (λ j. insert (seen broadcast_seen s.es) (sym same_channel j) (core_is j))) refl

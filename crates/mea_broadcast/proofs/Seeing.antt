@@ -1,5 +1,5 @@
 -- what is seen of the core of a broadcast channel, after each of its calls
-use Rattle.std.proofs.Common.{◌≡◌, ℕ, zero, suc, ◌+◌, ◌-◌, ◌*◌, ◌^◌, ◌/◌, ◌<◌, ◌≤◌, ◌==◌, ◌++◌, Bool, true, false, cond, List, [], ◌∷◌, length, map, max, nat_lt, nat_le, slice_get, Option, Some, None, if◌then◌else◌, refl, ap, sym, subst, ◌∙◌, arith}
+use Rattle.std.proofs.Common.{◌≡◌, ℕ, zero, suc, ◌+◌, ◌-◌, ◌*◌, ◌^◌, ◌/◌, ◌<◌, ◌≤◌, ◌==◌, ◌++◌, Bool, true, false, List, [], ◌∷◌, length, map, max, nat_lt, nat_le, slice_get, Option, Some, None, if◌then◌else◌, refl, ap, sym, subst, ◌∙◌, arith}
 use Rattle.std.specs.Int.{IsNextPowerOfTwo}
 use native.Mathlib.Nat.{pow-suc, pow-le-pow_right}
 use Rattle.std.proofs.lemmas.Bool.Decides.{nat_tests}
@@ -7,14 +7,14 @@ use Rattle.mea_base.specs.Totals.{total}
 use Rattle.mea_base.proofs.Totals.{total-same}
 use Rattle.mea_named.specs.declared.named_waker.NamedWaker.{NamedWaker}
 use Rattle.mea_named.specs.ByName.{Names, seen}
-use Rattle.mea_named.specs.NamedQueue.{Waiting}
+use Rattle.mea_named.specs.NamedQueue.{wakers}
 use Rattle.mea_named.proofs.Own.{total-seen}
-use Rattle.mea_linked.specs.SetLinked.{names_of, set_names, registering}
+use Rattle.mea_linked.specs.SetLinked.{names_of, set_names}
 use Rattle.mea_broadcast_core.specs.Broadcast.{oldest, after_send, without_sender, woken}
 use Rattle.mea_broadcast_core.specs.Receives as cores
 use Rattle.mea_broadcast_core.specs.Receives.{Found, found, found_at}
 use Rattle.mea_chan_model.specs.Broadcasts as model
-use Rattle.mea_chan_model.specs.Broadcasts.{Stands, Behind, Holds, AtTail, stands, stands_at, taking, wakers, with_message, less_sender, woken_by_end, power_from, ring_size}
+use Rattle.mea_chan_model.specs.Broadcasts.{Stands, Behind, Holds, AtTail, stands, stands_at, with_message, less_sender, woken_by_end, power_from, ring_size}
 use Rattle.mea_broadcast.specs.declared.broadcast_entry.BroadcastEntry.{BroadcastEntry}
 use Rattle.mea_broadcast.specs.BroadcastCores.{NamedBroadcast, kept_by, handed_on}
 use Rattle.mea_broadcast.specs.BroadcastParts.{core_seen, broadcast_seen}
@@ -27,10 +27,6 @@ length-names (k ∷ ks) = omega (arith, length-names ks)
 pub wakers-names : (ks : List NamedWaker) → wakers (names_of ks) ≡ map (λ (k : NamedWaker). k.waker) ks
 wakers-names [] = refl
 wakers-names (k ∷ ks) = ap (λ ws. k.waker ∷ ws) (wakers-names ks)
-
-pub taking_is : (q : Waiting) (f w : ℕ) → taking q f w ≡ registering q f w
-taking_is [] f w = refl
-taking_is (e ∷ q) f w = ap (λ p. cond (e.0 == f) ((e.0, w) ∷ q) (e ∷ p)) (taking_is q f w)
 
 -- ---- the calls
 module _ (b : NamedBroadcast) (n : ℕ) where

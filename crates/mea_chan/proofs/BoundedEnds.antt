@@ -57,7 +57,7 @@ use Rattle.mea_chan.specs.MailboxParts.{channel_seen, receiver_seen, mailboxes_s
 use Rattle.mea_chan.proofs.BoundedSteps.{made, grants_linked, grants_seen, grants_woken, its_belongs, Ended, ends, left, joins}
 use Rattle.mea_chan.proofs.OneChannel as one
 use Rattle.mea_chan.proofs.MailboxEvents as mail
-use Rattle.mea_chan.proofs.BoundedEvents.{BoundedSite, ends_is, part_of, kept_in, woken_of, woken_both, none_seen, over_none, keeps_none, no_value, left_capacity, joined_capacity, letters, before_it, yields_as, senders_channel, sends_sender, seen_there, its_quiet, its_linked, kept_now, links_stay, from_rests, from_yields, counts_rest, rooms_at, woken_at, same_rooms, full_is, some_sender}
+use Rattle.mea_chan.proofs.BoundedEvents.{BoundedSite, ends_is, part_of, kept_in, woken_of, woken_both, none_seen, over_none, keeps_none, no_value, left_capacity, joined_capacity, letters, before_it, yields_as, senders_channel, sends_sender, seen_there, its_quiet, its_linked, kept_now, links_stay, from_rests, from_yields, counts_rest, rooms_at, woken_at, same_rooms, full_is, some_sender, no_sender, not_new}
 
 module _ {old : Part Bounded} {i : ℕ} (s : BoundedSite old i) where
   -- ---- a channel is this now, or gone where that is over
@@ -245,21 +245,11 @@ module _ {old : Part Bounded} {i : ℕ} (s : BoundedSite old i) where
   looked_both f x c send there = rw (insert_same s.cs x.channel c there, insert_same s.xs f x send) (s.kept, s.view)
 
   -- ---- a sender whose name is new
-  no_sender : get s.ss i ≡ None
-  no_sender = halls.no_object of_sender itself AreCounted (λ y. y.sends) s.ss s.xs empty s.next i s.kept.counted s.later s.fits
-
   no_send : get s.xs i ≡ None
   no_send = halls.no_first of_sender itself AreCounted (λ y. y.sends) s.ss s.xs empty s.next i s.kept.counted s.later s.fits
 
   no_receiver : get s.rs i ≡ None
   no_receiver = halls.no_second mine of_receiver AreKept (λ m. 0) (seen as_mailbox s.cs) (seen channel_of_sender s.ss) s.rs s.next i s.kept.mail s.later s.fits
-
-  not_new : (f : ℕ) (x : KeptSend) → get s.xs f ≡ Some x → x.sender ≡ i → ⊥
-  not_new f x here same = at (get s.ss i) no_sender (ap (λ q. is_some (get s.ss q)) (sym same) ∙ (sends_sender s) f x here)
-    where
-      at : (p : Option SenderEntry) → p ≡ None → is_some p ≡ true → ⊥
-      at None none some = absurd (cc)
-      at (Some z) none some = absurd (cc)
 
   -- ---- a channel is made
   module _ (n : ℕ) where
@@ -294,7 +284,7 @@ module _ {old : Part Bounded} {i : ℕ} (s : BoundedSite old i) where
             }) refl;
             counted = halls.makes of_sender itself AreCounted (λ y. y.sends) s.ss s.xs empty s.next i s.kept.counted s.later s.fits first_sender (record { sends = sym (len-empty nat_cmp KeptSend) }) refl;
             alike = λ f x z here. by_put s.ss i first_sender (λ q p. x.sender ≡ q → p ≡ Some z → z.channel ≡ x.channel)
-                (λ same is. absurd (not_new f x here same)) (λ q apart same is. s.kept.alike f x z here (ap (get s.ss) same ∙ is)) x.sender refl;
+                (λ same is. absurd (not_new s f x here same)) (λ q apart same is. s.kept.alike f x z here (ap (get s.ss) same ∙ is)) x.sender refl;
           },
           (yields_as s) (MakeRoom n) (bounded_act (before_it s) i (MakeRoom n)) answers.Made (insert s.cs i fresh) (insert s.ss i first_sender) (insert s.rs i first_receiver) s.xs w w refl m.replied
               (λ j. record { mail = m.hall j; rooms = rooms j; sends = seen send_seen s.xs }) (sym (append-nil w.wakers) ∙ ap (λ ws. w.wakers ++ ws) m.wakes)
@@ -303,11 +293,11 @@ module _ {old : Part Bounded} {i : ℕ} (s : BoundedSite old i) where
 
     -- where there is no memory, what was put is taken away again
     pub unmade : (rs' : Names ReceiverEntry) → rs' ≡ s.rs → (ss' : Names SenderEntry) → ss' ≡ insert s.ss i first_sender → (IsKeptBounded s.cs (remove ss' i) rs' s.xs s.next) × (part_of s.cs (remove ss' i) rs' s.xs s.next ≡ old)
-    unmade rs' receivers ss' senders = rw (receivers, senders, put_gone s.ss i first_sender, gone_none s.ss i no_sender) (s.kept, s.view)
+    unmade rs' receivers ss' senders = rw (receivers, senders, put_gone s.ss i first_sender, gone_none s.ss i (no_sender s)) (s.kept, s.view)
 
     pub all_unmade : (cs' : Names NamedChannel) → cs' ≡ s.cs → (rs' : Names ReceiverEntry) → rs' ≡ insert s.rs i first_receiver → (ss' : Names SenderEntry) → ss' ≡ insert s.ss i first_sender
         → (IsKeptBounded cs' (remove ss' i) (remove rs' i) s.xs s.next) × (part_of cs' (remove ss' i) (remove rs' i) s.xs s.next ≡ old)
-    all_unmade cs' channels rs' receivers ss' senders = rw (channels, receivers, senders, put_gone s.ss i first_sender, gone_none s.ss i no_sender, put_gone s.rs i first_receiver, gone_none s.rs i no_receiver) (s.kept, s.view)
+    all_unmade cs' channels rs' receivers ss' senders = rw (channels, receivers, senders, put_gone s.ss i first_sender, gone_none s.ss i (no_sender s), put_gone s.rs i first_receiver, gone_none s.rs i no_receiver) (s.kept, s.view)
 
   -- ---- a send is made
   module _ (k : ℕ) (y : SenderEntry) (sender : get s.ss k ≡ Some y) where

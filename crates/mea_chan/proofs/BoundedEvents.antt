@@ -251,6 +251,17 @@ module _ {old : Part Bounded} {i : ℕ} (s : BoundedSite old i) where
   pub sends_sender : (f : ℕ) (x : KeptSend) → get s.xs f ≡ Some x → IsSome (get s.ss x.sender)
   sends_sender f x there = (s.kept.counted.firsts.at f x there).1
 
+  -- no sender has the number of this event, so no send is of it
+  pub no_sender : get s.ss i ≡ None
+  no_sender = halls.no_object of_sender itself AreCounted (λ y. y.sends) s.ss s.xs empty s.next i s.kept.counted s.later s.fits
+
+  pub not_new : (f : ℕ) (x : KeptSend) → get s.xs f ≡ Some x → x.sender ≡ i → ⊥
+  not_new f x there same = at (get s.ss i) no_sender (ap (λ q. is_some (get s.ss q)) (sym same) ∙ sends_sender f x there)
+    where
+      at : (p : Option SenderEntry) → p ≡ None → is_some p ≡ true → ⊥
+      at None none some = absurd (cc)
+      at (Some z) none some = absurd (cc)
+
   pub copier_there : (k : ℕ) → bounded_cause old.hall (CopySender k) ≡ None → IsSome (get s.ss k)
   copier_there k allowed = sender_there k (at (is_sender old.hall.mail k) refl allowed)
     where
@@ -401,13 +412,6 @@ module _ {old : Part Bounded} {i : ℕ} (s : BoundedSite old i) where
           yields_as (CopySender k) (bounded_act before_it i (CopySender k)) answers.Made (insert s.cs y.channel (record c { senders = c.senders + 1 })) (insert s.ss i (record { channel = y.channel; sends = 0 })) s.rs s.xs w w refl m.replied
               (λ j. record { mail = m.hall j; rooms = rooms j; sends = seen send_seen s.xs }) (sym (append-nil w.wakers) ∙ ap (λ ws. w.wakers ++ ws) m.wakes) (omega (arith, counted)),
         )
-      where
-        not_new : (f : ℕ) (x : KeptSend) → get s.xs f ≡ Some x → x.sender ≡ i → ⊥
-        not_new f x mine same = at (get s.ss i) (halls.no_object of_sender itself AreCounted (λ y. y.sends) s.ss s.xs empty s.next i s.kept.counted s.later s.fits) (ap (λ q. is_some (get s.ss q)) (sym same) ∙ sends_sender f x mine)
-          where
-            at : (p : Option SenderEntry) → p ≡ None → is_some p ≡ true → ⊥
-            at None none some = absurd (cc)
-            at (Some z) none some = absurd (cc)
 
     -- a message is tried
     pub tried : (v : ℕ) (c' : NamedChannel) (answer : Answer) (before after : Waking ℕ) → answer ≡ tried_told (core.send_answer c v) → HandsOn c (core.after_send c v) c' before after

@@ -1,6 +1,7 @@
 ghost use Rattle.std.specs.Prelude.{◌≡◌, true, None, IsSome, IfOk, IfSome, OnErr, is_some, Some};
 ghost use Rattle.std.specs.FinMap as map;
-ghost use Rattle.mea_chan_model.specs.Boxes.{is_box, MakeBox, Swap, Store, Tell, TakeOut, DropBox, content as content_told};
+ghost use Rattle.mea_named.specs.Play.{content as content_told};
+ghost use Rattle.mea_chan_model.specs.Boxes.{is_box, MakeBox, Swap, Store, Tell, TakeOut, DropBox};
 ghost use Rattle.mea_chan.specs.BoxParts.{BoxYields};
 
 use crate::box_core::BoxedCore;

@@ -8,14 +8,15 @@ use Rattle.mea_base.specs.declared.stop.Stop.TheVariants as stops
 use Rattle.mea_base.proofs.Maps.{by_put, by_gone, get-there, is_there, inside, removed_there}
 use Rattle.mea_base.proofs.Tests.{by_name}
 use Rattle.mea_named.specs.ByName.{Names, own, AreHome}
-use Rattle.mea_named.specs.NamedQueue.{waker_for}
+use Rattle.mea_named.specs.NamedQueue.{waker_for, registering}
 use Rattle.mea_named.proofs.Cases.{by_if}
 use Rattle.mea_named.proofs.Own.{Moves, Stays, Comes, Goes as Leaves, moves_elsewhere, moves_home, own-at, own-put, own-gone, own-none, own-empty, own-nothing, len-new, len-gone, len-some}
+use Rattle.mea_named.proofs.NamedQueues.{registering-other}
 use Rattle.mea_chan_model.specs.Broadcasts as broadcasts
-use Rattle.mea_chan_model.specs.Broadcasts.{Broadcast, Broadcasts, Listener, Hearing, of_hearing, is_over, tidied, with_message, less_sender, taking}
+use Rattle.mea_chan_model.specs.Broadcasts.{Broadcast, Broadcasts, Listener, Hearing, of_hearing, is_over, tidied, with_message, less_sender}
 use Rattle.mea_chan_model.specs.BroadcastActions.{unusable}
 use Rattle.mea_chan_model.specs.BroadcastValid.{AreKept, AreHeard, Hears, of_listener, of_itself}
-use Rattle.mea_chan_model.proofs.OneBroadcast.{sender_added, was_sent, sender_less, joined, moved, receiver_less, lent, freed, waits_now, nobody, taking-other}
+use Rattle.mea_chan_model.proofs.OneBroadcast.{sender_added, was_sent, sender_less, joined, moved, receiver_less, lent, freed, waits_now, nobody}
 
 pub free_there : (p : Option Listener) (x : Listener) → p ≡ Some x → unusable p ≡ None → x.user ≡ None
 free_there p x is allowed = at x.user (ap unusable (sym is) ∙ allowed)
@@ -230,7 +231,7 @@ module _ (h : Broadcasts) (n i : ℕ) (k : AreKept h n) (later : n ≤ i) where
           turned o (insert h.receivers y.receiver z) (remove h.futures f) h.senders (Comes y.receiver z (omega (arith, below, later)) of (λ u is. ap (λ (u : Listener). u.channel) (inside (sym is ∙ receiver)) ∙ of)) (Leaves f (λ u is. ap (λ (u : Hearing). u.channel) (inside (sym is ∙ future)) ∙ mine)) Stays c small few
           (rw (own-put of_listener o h.receivers y.receiver z of, own-gone of_hearing o h.futures f) (freed c xs ys heard f y own_future z low)) (k.served o c there) named_still
 
-      pub waits : (w : ℕ) → its.x.cursor ≡ c.tail → 0 < c.senders → AreKept (record h { channels = insert h.channels o (record c { waiting = taking c.waiting f w }) }) (i + 1)
+      pub waits : (w : ℕ) → its.x.cursor ≡ c.tail → 0 < c.senders → AreKept (record h { channels = insert h.channels o (record c { waiting = registering c.waiting f w }) }) (i + 1)
       unfolding heard its own_future
-      waits w reached some = turned o h.receivers h.futures h.senders Stays Stays Stays (record c { waiting = taking c.waiting f w }) small few (waits_now c xs ys heard f y own_future w reached some) (k.served o c there)
-          (λ g v waiting. by_name f g (λ same. let below = (k.futures.at f y future).0 in omega (arith, below, later, same)) (λ apart. named_still g v (sym (taking-other c.waiting f w g apart) ∙ waiting)))
+      waits w reached some = turned o h.receivers h.futures h.senders Stays Stays Stays (record c { waiting = registering c.waiting f w }) small few (waits_now c xs ys heard f y own_future w reached some) (k.served o c there)
+          (λ g v waiting. by_name f g (λ same. let below = (k.futures.at f y future).0 in omega (arith, below, later, same)) (λ apart. named_still g v (sym (registering-other c.waiting f w g apart) ∙ waiting)))

@@ -9,17 +9,17 @@ use Rattle.mea_base.specs.Family.{Outcome, quietly}
 use Rattle.mea_base.proofs.Maps.{get-gone, value_in, inside}
 use Rattle.mea_base.proofs.Tests.{known}
 use Rattle.mea_named.specs.ByName.{Names, own}
-use Rattle.mea_named.specs.NamedQueue.{waker_for}
+use Rattle.mea_named.specs.NamedQueue.{waker_for, registering, wakers}
 use Rattle.mea_named.specs.Play.{found}
 use Rattle.mea_named.proofs.Cases.{by_found, by_if, found_is, if_false}
-use Rattle.mea_named.proofs.NamedQueues.{Local, local_same, local_drained}
+use Rattle.mea_named.proofs.NamedQueues.{Local, local_same, local_drained, local_registering, registering-there}
 use Rattle.mea_named.proofs.OneObject.{Goes, ObjectsGo, Same, Put, Made, Gone, Kept, Begun, Ended, None_is, Polled, Ends}
 use Rattle.mea_named.proofs.Own.{Stays, Comes, own-at, own-put, own-gone, own-empty, own-had, len-new}
 use Rattle.mea_chan_model.specs.Broadcasts as broadcasts
-use Rattle.mea_chan_model.specs.Broadcasts.{Broadcast, Broadcasts, Listener, Hearing, Stands, Behind, Holds, AtTail, waiting_at, of_hearing, is_over, tidied, stands, oldest, ring_size, new_broadcast, with_message, less_sender, woken_by_end, wakers, taking, is_hearing}
+use Rattle.mea_chan_model.specs.Broadcasts.{Broadcast, Broadcasts, Listener, Hearing, Stands, Behind, Holds, AtTail, waiting_at, of_hearing, is_over, tidied, stands, oldest, ring_size, new_broadcast, with_message, less_sender, woken_by_end, is_hearing}
 use Rattle.mea_chan_model.specs.BroadcastActions.{BroadcastAction, Open, AddSender, SendAll, EndSender, Subscribe, Resubscribe, CopyReceiver, Hear, EndReceiver, BeginHear, PollHear, EndHear, unusable, broadcast_cause, broadcast_act, broadcast_polled, broadcast_ends, broadcast_registers}
 use Rattle.mea_chan_model.specs.BroadcastValid.{AreKept, AreHeard, Hears, of_listener, of_itself}
-use Rattle.mea_chan_model.proofs.OneBroadcast.{local_taking, by_stands, sender_less, receiver_less, new_heard, taking-there}
+use Rattle.mea_chan_model.proofs.OneBroadcast.{by_stands, sender_less, receiver_less, new_heard}
 use Rattle.std.specs.List.{Contains}
 use Rattle.mea_named.proofs.OneObject.{Counted, goes_counted, IsBelow, AreBelow, goes_stays, goes_kept, goes_made, placed_is, placed_put}
 use Rattle.mea_named.proofs.Own.{insert_same}
@@ -209,7 +209,7 @@ module _ (h : Broadcasts) (i f w r : ℕ) (x : Listener) (o : ℕ) (c : Broadcas
   polls_goes (Behind m) = frees_goes (oldest c) (answers.Lagged m)
   polls_goes (Holds v) = frees_goes (x.cursor + 1) (answers.Got v)
   polls_goes AtTail = by_if PollGoes (c.senders == 0) _ _ (λ gone. frees_goes x.cursor answers.Gone)
-      (λ some. record { k = f; touches = Polled w mine_polled; objects = Put o c (record c { waiting = taking c.waiting f w }) [] 1 there (local_taking c.waiting f w) (omega arith); futures = Kept; over = λ g is. absurd (cc) })
+      (λ some. record { k = f; touches = Polled w mine_polled; objects = Put o c (record c { waiting = registering c.waiting f w }) [] 1 there (local_registering c.waiting f w) (omega arith); futures = Kept; over = λ g is. absurd (cc) })
 
 unpolled_quiet : (h : Broadcasts) (i f w : ℕ) → Goes waiting_at of_hearing h.channels h.futures (IsBefore h i (PollHear f w)) (broadcast_polled (PollHear f w)) (broadcast_ends (PollHear f w)) i 1 h.channels h.futures []
 unpolled_quiet h i f w = quiet_goes h i (PollHear f w) (λ g is. absurd (cc)) 1 (quietly h answers.Done) refl refl refl
@@ -310,9 +310,9 @@ module _ (h : Broadcasts) (n i : ℕ) (k : AreKept h n) (later : n ≤ i) where
       at_poll v same = by_found P (get h.futures f) h _ (λ is. absurd (cc)) (λ y future. by_found P (get h.receivers y.receiver) h _ (λ is. absurd (cc)) (λ x receiver. by_found P (get h.channels x.channel) h _ (λ is. absurd (cc))
           (λ c there. at_stands y future x receiver c (stands c x.cursor))))
         where
-          pending : (y : Hearing) → get h.futures f ≡ Some y → (x : Listener) → x.channel ≡ y.channel → (c : Broadcast) → broadcasts.placed (record h { channels = insert h.channels x.channel (record c { waiting = taking c.waiting f v }) }) f ≡ Some w
-          pending y future x mine c = subst (λ o. broadcasts.placed (record h { channels = insert h.channels o (record c { waiting = taking c.waiting f v }) }) f ≡ Some w) (sym mine)
-              (placed_put waiting_at of_hearing h.channels h.futures f w y (record c { waiting = taking c.waiting f v }) future (taking-there c.waiting f v ∙ ap (λ u. Some u) same))
+          pending : (y : Hearing) → get h.futures f ≡ Some y → (x : Listener) → x.channel ≡ y.channel → (c : Broadcast) → broadcasts.placed (record h { channels = insert h.channels x.channel (record c { waiting = registering c.waiting f v }) }) f ≡ Some w
+          pending y future x mine c = subst (λ o. broadcasts.placed (record h { channels = insert h.channels o (record c { waiting = registering c.waiting f v }) }) f ≡ Some w) (sym mine)
+              (placed_put waiting_at of_hearing h.channels h.futures f w y (record c { waiting = registering c.waiting f v }) future (registering-there c.waiting f v ∙ ap (λ u. Some u) same))
 
           at_stands : (y : Hearing) → get h.futures f ≡ Some y → (x : Listener) → get h.receivers y.receiver ≡ Some x → (c : Broadcast) (s : Stands) → P (broadcasts.poll h f v y.receiver x x.channel c s)
           at_stands y future x receiver c (Behind m) = λ is. absurd (cc)

@@ -1,42 +1,18 @@
 -- one broadcast channel: what each change of it keeps of its receivers and futures
-use Rattle.std.proofs.Common.{◌≡◌, ℕ, zero, suc, ◌+◌, ◌-◌, ◌<◌, ◌≤◌, ◌==◌, ◌++◌, inl, inr, Bool, true, false, cond, List, [], ◌∷◌, length, drop, nat_lt, slice_get, Option, Some, None, if◌then◌else◌, refl, ap, sym, subst, ◌∙◌, arith, length-append}
+use Rattle.std.proofs.Common.{◌≡◌, ℕ, zero, suc, ◌+◌, ◌-◌, ◌<◌, ◌≤◌, ◌==◌, ◌++◌, inl, inr, Bool, true, false, List, [], ◌∷◌, length, drop, nat_lt, slice_get, Option, Some, None, if◌then◌else◌, refl, ap, sym, subst, ◌∙◌, arith, length-append}
 use Rattle.std.specs.Ordering.{nat_cmp}
 use Rattle.std.specs.FinMap.{get, insert, remove, empty, get-empty, len-empty}
-use Rattle.std.proofs.lemmas.Bool.{eqb-true, eqb-false, eq-eqb, ne_eqb}
+use Rattle.std.proofs.lemmas.Bool.{eqb-false}
 use Rattle.std.proofs.lemmas.Bool.Decides.{nat_tests}
 use Rattle.std.proofs.lemmas.Option.{slice_get_past, slice_get_within, slice_get_cases}
 use Rattle.mea_base.proofs.Maps.{by_put, by_gone, get-there, get-other, get-removed_other, removed_there, inside}
 use Rattle.mea_base.proofs.Tests.{by_name}
 use Rattle.mea_named.specs.ByName.{Names}
-use Rattle.mea_named.specs.NamedQueue.{Waiting, waker_for}
-use Rattle.mea_named.proofs.NamedQueues.{Local}
+use Rattle.mea_named.specs.NamedQueue.{waker_for, registering}
 use Rattle.mea_named.proofs.Own.{len-new, len-over, len-gone, len-some}
-use Rattle.mea_chan_model.specs.Broadcasts.{Broadcast, Listener, Hearing, Stands, Behind, Holds, AtTail, oldest, stands, stands_at, taking, newest, new_broadcast, with_message, less_sender}
+use Rattle.mea_named.proofs.NamedQueues.{registering-other}
+use Rattle.mea_chan_model.specs.Broadcasts.{Broadcast, Listener, Hearing, Stands, Behind, Holds, AtTail, oldest, stands, stands_at, newest, new_broadcast, with_message, less_sender}
 use Rattle.mea_chan_model.specs.BroadcastValid.{Hears, AreHeard}
-
--- ---- who waits
-pub taking-there : (q : Waiting) (f w : ℕ) → waker_for (taking q f w) f ≡ Some w
-taking-there [] f w = ap (λ b. cond b (Some w) None) (eq-eqb f f refl)
-taking-there (e ∷ q) f w = at (e.0 == f) refl (taking-there q f w)
-  where
-    at : (b : Bool) → (e.0 == f) ≡ b → waker_for (taking q f w) f ≡ Some w → waker_for (cond b ((e.0, w) ∷ q) (e ∷ taking q f w)) f ≡ Some w
-    at true is rest = ap (λ b. cond b (Some w) (waker_for q f)) is
-    at false is rest = ap (λ b. cond b (Some e.1) (waker_for (taking q f w) f)) is ∙ rest
-
-pub taking-other : (q : Waiting) (f w g : ℕ) → (f ≡ g → ⊥) → waker_for (taking q f w) g ≡ waker_for q g
-taking-other [] f w g apart = ap (λ b. cond b (Some w) None) (ne_eqb f g apart)
-taking-other (e ∷ q) f w g apart = at (e.0 == f) refl (taking-other q f w g apart)
-  where
-    at : (b : Bool) → (e.0 == f) ≡ b → waker_for (taking q f w) g ≡ waker_for q g → waker_for (cond b ((e.0, w) ∷ q) (e ∷ taking q f w)) g ≡ waker_for (e ∷ q) g
-    at true is rest = let differs = ne_eqb e.0 g (λ same. apart (sym (eqb-true e.0 f is) ∙ same)) in ap (λ b. cond b (Some w) (waker_for q g)) differs ∙ sym (ap (λ b. cond b (Some e.1) (waker_for q g)) differs)
-    at false is rest = ap (cond (e.0 == g) (Some e.1)) rest
-
-taking-length : (q : Waiting) (f w : ℕ) → length (taking q f w) ≤ length q + 1
-taking-length [] f w = omega arith
-taking-length (e ∷ q) f w = elim (e.0 == f) as (λ b. length (cond b ((e.0, w) ∷ q) (e ∷ taking q f w)) ≤ length (e ∷ q) + 1) [ true ↦ omega arith | false ↦ omega (arith, taking-length q f w) ]
-
-pub local_taking : (q : Waiting) (f w : ℕ) → Local q (taking q f w) [] f 1
-local_taking q f w = record { keeps = λ g v apart is. inl (taking-other q f w g apart ∙ is); fits = omega (arith, taking-length q f w); most = omega arith }
 
 -- ---- what stands at a cursor
 module _ (c : Broadcast) (few : length c.kept ≤ c.tail) where
@@ -185,7 +161,7 @@ module _ (c : Broadcast) (xs : Names Listener) (ys : Names Hearing) (a : AreHear
     }
 
     -- it waits
-    pub waits_now : (w : ℕ) → its.x.cursor ≡ c.tail → 0 < c.senders → AreHeard (record c { waiting = taking c.waiting f w }) xs ys
+    pub waits_now : (w : ℕ) → its.x.cursor ≡ c.tail → 0 < c.senders → AreHeard (record c { waiting = registering c.waiting f w }) xs ys
     waits_now w reached some = record {
       counted = a.counted;
       receivers = a.receivers;
@@ -193,7 +169,7 @@ module _ (c : Broadcast) (xs : Names Listener) (ys : Names Hearing) (a : AreHear
       hears = λ g z is. by_name f g
           (λ same. let it = a.hears g z is in let mine : its.x ≡ it.x = inside (sym its.there ∙ ap (λ (u : Hearing). get xs u.receiver) (inside (sym future ∙ ap (get ys) same ∙ is)) ∙ it.there) in
           record { x = it.x; there = it.there; user = it.user; awake = λ v waiting. (ap (λ (x : Listener). x.cursor) (sym mine) ∙ reached, some) })
-          (λ apart. let it = a.hears g z is in record { x = it.x; there = it.there; user = it.user; awake = λ v waiting. it.awake v (sym (taking-other c.waiting f w g apart) ∙ waiting) });
+          (λ apart. let it = a.hears g z is in record { x = it.x; there = it.there; user = it.user; awake = λ v waiting. it.awake v (sym (registering-other c.waiting f w g apart) ∙ waiting) });
       silent = λ none. absurd (omega (arith, none, some));
     }
 

@@ -1,14 +1,13 @@
 -- boxes by name, each with a value or empty: why what is done to them is refused, and what it does
-use Rattle.std.specs.Prelude.{ℕ, Bool, Option, Some, None, is_some}
+use Rattle.std.specs.Prelude.{ℕ, Bool, Option, None, is_some}
 use Rattle.std.specs.Coded.{Coded, coded_ℕ, coded_option}
 use Rattle.std.specs.FinMap.{get, insert, remove}
-use Rattle.mea_base.specs.declared.answer.Answer.{Answer}
 use Rattle.mea_base.specs.declared.answer.Answer.TheVariants as answers
 use Rattle.mea_base.specs.declared.stop.Stop.{Stop}
 use Rattle.mea_base.specs.Causes.{unknown_unless}
 use Rattle.mea_base.specs.Family.{Outcome, quietly}
 use Rattle.mea_named.specs.ByName.{Names, names_code}
-use Rattle.mea_named.specs.Play.{found}
+use Rattle.mea_named.specs.Play.{found, content}
 
 -- what each box contains, if it does
 abbrev pub Boxes : Type 0
@@ -27,10 +26,6 @@ pub data BoxAction : Type 0 where
   Tell : ℕ → BoxAction
   TakeOut : ℕ → BoxAction
   DropBox : ℕ → BoxAction
-
-abbrev pub content : Option ℕ → Answer
-content None = answers.Lacking
-content (Some v) = answers.Value v
 
 abbrev pub box_cause : Boxes → BoxAction → Option Stop
 box_cause h (MakeBox c) = None

@@ -1,12 +1,12 @@
 -- broadcast channels by name, with the senders, receivers and futures that are of them
-use Rattle.std.specs.Prelude.{ℕ, zero, suc, ◌+◌, ◌-◌, ◌*◌, ◌==◌, ◌++◌, Bool, false, cond, List, [], ◌∷◌, length, map, drop, slice_get, nat_lt, nat_le, Option, Some, None, is_some, if◌then◌else◌, refl}
+use Rattle.std.specs.Prelude.{ℕ, zero, suc, ◌+◌, ◌-◌, ◌*◌, ◌==◌, ◌++◌, Bool, false, List, [], ◌∷◌, length, drop, slice_get, nat_lt, nat_le, Option, Some, None, is_some, if◌then◌else◌, refl}
 use Rattle.std.specs.Coded.{Coded, code_by, coded×, coded_ℕ, coded_list, coded_option}
 use Rattle.std.specs.FinMap.{empty, get, insert, remove}
 use Rattle.mea_base.specs.declared.answer.Answer.TheVariants as answers
 use Rattle.mea_base.specs.Family.{Outcome, quietly}
 use Rattle.mea_named.specs.ByName.{Names, names_code}
 use Rattle.mea_named.specs.NamedQueue as named_queue
-use Rattle.mea_named.specs.NamedQueue.{Waiting}
+use Rattle.mea_named.specs.NamedQueue.{Waiting, wakers, registering}
 
 -- a broadcast channel: the messages that are kept, oldest first, how many were ever sent, how many its ring keeps, how many
 -- senders and receivers it has, and the wakers that are registered, each with its future's name. That of a future that has
@@ -107,15 +107,6 @@ stands_at (Some v) = Holds v
 abbrev pub stands : Broadcast → ℕ → Stands
 stands c cursor = if nat_lt cursor (oldest c) then Behind (oldest c - cursor) else stands_at (slice_get c.kept (cursor - oldest c))
 
--- f waits with this waker: in the place of its own, or last
-abbrev pub taking : Waiting → ℕ → ℕ → Waiting
-taking [] f w = (f, w) ∷ []
-taking (e ∷ q) f w = cond (e.0 == f) ((e.0, w) ∷ q) (e ∷ taking q f w)
-
--- the wakers of all who wait
-abbrev pub wakers : Waiting → List ℕ
-wakers q = map (λ (e : ℕ × ℕ). e.1) q
-
 abbrev pub new_broadcast : ℕ → Broadcast
 new_broadcast size = record { kept = []; tail = 0; size = size; senders = 1; receivers = 1; waiting = [] }
 
@@ -178,7 +169,7 @@ leaving h f = record h { futures = remove h.futures f }
 abbrev pub poll : Broadcasts → ℕ → ℕ → ℕ → Listener → ℕ → Broadcast → Stands → Outcome Broadcasts
 poll h f w r x o c (Behind k) = quietly (freed h f r x (oldest c)) (answers.Lagged k)
 poll h f w r x o c (Holds v) = quietly (freed h f r x (x.cursor + 1)) (answers.Got v)
-poll h f w r x o c AtTail = if c.senders == 0 then quietly (freed h f r x x.cursor) answers.Gone else quietly (record h { channels = insert h.channels o (record c { waiting = taking c.waiting f w }) }) answers.Pending
+poll h f w r x o c AtTail = if c.senders == 0 then quietly (freed h f r x x.cursor) answers.Gone else quietly (record h { channels = insert h.channels o (record c { waiting = registering c.waiting f w }) }) answers.Pending
 
 abbrev pub end_future : Broadcasts → ℕ → ℕ → Listener → Outcome Broadcasts
 end_future h f r x = quietly (freed h f r x x.cursor) answers.Done

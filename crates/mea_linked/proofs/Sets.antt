@@ -11,7 +11,8 @@ use Rattle.mea_named.proofs.Own.{insert_same}
 use Rattle.mea_sets.specs.declared.place.Place.{Place}
 use Rattle.mea_sets.specs.WaitSet.{Registered, is_registered, has_given, index_of, fresh_place, with_waker, slot_after, drained}
 use Rattle.mea_named.specs.declared.named_waker.NamedWaker.{NamedWaker}
-use Rattle.mea_linked.specs.SetLinked.{names_of, set_names, SlotIs, SetLinked, registering, StandsAt, IsAbsent, AreBelow}
+use Rattle.mea_named.specs.NamedQueue.{registering}
+use Rattle.mea_linked.specs.SetLinked.{names_of, set_names, SlotIs, SetLinked, StandsAt, IsAbsent, AreBelow}
 
 -- its waker is replaced where its number says
 pub set_there : (ks : List NamedWaker) (i r f w : ℕ) → StandsAt i ks (i + r) f → r < length ks → names_of (slice_set ks r (record { future = f; waker = w })) ≡ registering (names_of ks) f w

@@ -1,5 +1,5 @@
 -- sets of wakers, each known by the name of its future
-use Rattle.std.specs.Prelude.{ℕ, ◌≡◌, ◌<◌, ◌+◌, ◌==◌, true, false, cond, List, [], ◌∷◌, Option, Some}
+use Rattle.std.specs.Prelude.{ℕ, ◌≡◌, ◌<◌, ◌+◌, ◌==◌, true, false, List, [], ◌∷◌, Option, Some}
 use Rattle.std.specs.FinMap.{get}
 use Rattle.mea_named.specs.declared.named_waker.NamedWaker.{NamedWaker}
 use Rattle.mea_named.specs.ByName.{Names}
@@ -14,11 +14,6 @@ names_of (k ∷ ks) = (k.future, k.waker) ∷ names_of ks
 -- who is registered, in order. The name of a future that has ended stays
 abbrev pub set_names : Registered NamedWaker → Waiting
 set_names s = names_of s.wakers
-
--- f has this waker: in the place of its own, or last
-abbrev pub registering : Waiting → ℕ → ℕ → Waiting
-registering [] f w = (f, w) ∷ []
-registering (e ∷ q) f w = cond (e.0 == f) ((e.0, w) ∷ q) (e ∷ registering q f w)
 
 -- from place i on, f stands at one place alone
 abbrev pub StandsAt : ℕ → List NamedWaker → ℕ → ℕ → Type 0

@@ -4,12 +4,13 @@ ghost use Rattle.std.specs.FinMap.{FinMap, get, insert};
 ghost use Rattle.mea_base.specs.Queue.{waiting_after, granted_in};
 ghost use Rattle.mea_named.specs.declared.named_waker.NamedWaker.{NamedWaker};
 ghost use Rattle.mea_named.specs.ByName.{Names};
+ghost use Rattle.mea_named.specs.NamedQueue.{registering};
 ghost use Rattle.mea_sem_core.specs.declared.acquire.Acquire.{Acquire};
 ghost use Rattle.mea_sem_core.specs.Core.{Waiter, granting};
 ghost use Rattle.mea_sets.specs.declared.place.Place.{Place};
 ghost use Rattle.mea_sets.specs.WaitSet.{Registered, with_waker, slot_after};
 ghost use Rattle.mea_linked.specs.Linked.{Linked};
-ghost use Rattle.mea_linked.specs.SetLinked.{SetLinked, set_names, registering};
+ghost use Rattle.mea_linked.specs.SetLinked.{SetLinked, set_names};
 
 /// However many permits are poured, each number that is granted or waits is that of the future which its
 /// waker named.

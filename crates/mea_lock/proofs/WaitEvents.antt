@@ -4,6 +4,7 @@ use Rattle.std.specs.Option.{IsSome}
 use Rattle.std.specs.Ordering.{nat_cmp}
 use Rattle.std.specs.FinMap.{get, insert, remove, len, empty, len-empty}
 use Rattle.std.proofs.lemmas.List.{length-map, length-append}
+use Rattle.mea_base.specs.Causes.{borrowed_by}
 use Rattle.mea_base.specs.declared.answer.Answer.{Answer}
 use Rattle.mea_base.specs.declared.answer.Answer.TheVariants as answers
 use Rattle.mea_base.specs.Family.{Outcome, quietly, is_pending}
@@ -26,7 +27,7 @@ use Rattle.mea_lock_model.specs.Locks.{Locks, was_polled}
 use Rattle.mea_lock_model.specs.Condvars as model
 use Rattle.mea_lock_model.specs.Condvars.{Condvars, CondWait, is_condvar, is_wait, waits_of, until_of, registered}
 use Rattle.mea_base.specs.declared.stop.Stop.TheVariants as stops
-use Rattle.mea_lock_model.specs.Actions.{Action, borrowed_by, Hand, PollUntil, EndWait, act_in}
+use Rattle.mea_lock_model.specs.Actions.{Action, Hand, PollUntil, EndWait, act_in}
 use Rattle.mea_lock_model.specs.CondActions.{CondAction, Make, Wait, Poll, One, All, End, Drop, act_on, on_both, told_by}
 use Rattle.mea_lock_model.specs.LockHall.{LockHall}
 use Rattle.mea_lock.specs.declared.wait_entry.WaitEntry.{WaitEntry}

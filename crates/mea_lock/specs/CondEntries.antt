@@ -10,7 +10,7 @@ use Rattle.std.specs.FinMap as fin
 use Rattle.mea_lock_core.specs.Condvar.{Condvar, condvar_code, waker_under, with_waker, without_wait, notifying}
 use Rattle.mea_lock_model.specs.Condvars.{CondWait}
 use Rattle.mea_lock.specs.declared.wait_entry.WaitEntry.{WaitEntry}
-use Rattle.mea_lock.specs.Entries.{waker_code}
+use Rattle.mea_named.specs.NamedWaker.{waker_code}
 
 -- a condition variable whose wakers carry the names of their waits, and how many waits it has
 pub record KeptCondvar : Type 0 where

@@ -5,6 +5,7 @@ use Rattle.mea_base.specs.declared.turn.Turn.{Turn}
 use Rattle.mea_base.specs.declared.turn.Turn.TheVariants.{Ready, Pending}
 use Rattle.mea_base.specs.Ready.{Waking}
 use Rattle.mea_named.specs.declared.named_waker.NamedWaker.{NamedWaker}
+use Rattle.mea_named.specs.NamedWaker.{waker_code}
 use Rattle.mea_lock_core.specs.RwLock.{rw_code}
 use Rattle.mea_lock_core.specs.declared.rw_wait.RwWait.{RwWait}
 use Rattle.mea_lock_model.specs.Locks.{Until, goes_on}
@@ -28,9 +29,6 @@ pub record KeptFuture : Type 0 where
   pub wait : RwWait
   pub of_condvar : Bool
   pub holds : Bool
-
-abbrev pub waker_code : Coded NamedWaker
-waker_code = code_by (ℕ × ℕ) (coded× coded_ℕ coded_ℕ) (λ k. (k.future, k.waker)) (λ p. record { future = p.0; waker = p.1 }) (λ _. refl)
 
 abbrev pub kept_lock_code : Coded KeptLock
 kept_lock_code = code_by (NamedLock × (Bool × (ℕ × ℕ))) (coded× (rw_code coded_ℕ waker_code) (coded× coded_bool (coded× coded_ℕ coded_ℕ))) (λ e. (e.lock, (e.named, (e.things, e.plain)))) (λ p. record { lock = p.0; named = p.1.0; things = p.1.1.0; plain = p.1.1.1 }) (λ _. refl)

@@ -4,6 +4,7 @@ use Rattle.std.specs.Option.{IsSome}
 use Rattle.std.proofs.lemmas.Bool.{eqb-true, eq-eqb}
 use Rattle.std.proofs.lemmas.Bool.Decides.{nat_tests}
 use Rattle.std.specs.FinMap.{get, insert, remove}
+use Rattle.mea_base.specs.Causes.{borrowed_by}
 use Rattle.mea_base.specs.declared.answer.Answer.TheVariants as answers
 use Rattle.mea_base.specs.Family.{Outcome, quietly}
 use Rattle.mea_base.proofs.Maps.{inside, is_there, get-there, get-gone, get-removed_other}
@@ -18,7 +19,7 @@ use Rattle.mea_named.proofs.OneObject.{Goes, ObjectsGo, Same, Put, Made, Gone, K
 use Rattle.mea_named.proofs.Own.{own-nothing}
 use Rattle.mea_lock_model.specs.Locks as locks
 use Rattle.mea_lock_model.specs.Locks.{Lock, LockFuture, LockGuard, Locks, new_lock, Until, goes_on, tidied_locks, is_named, is_named_lock, things_of, waiting_at, size}
-use Rattle.mea_lock_model.specs.Actions.{Action, Make, Begin, Poll, Try, Get, Set, Lower, End, Peek, Put as Write, Take, Drop, Hand, PollUntil, EndWait, act_in, registers_in, polled_in, ends_in, cause_in, borrowed_by}
+use Rattle.mea_lock_model.specs.Actions.{Action, Make, Begin, Poll, Try, Get, Set, Lower, End, Peek, Put as Write, Take, Drop, Hand, PollUntil, EndWait, act_in, registers_in, polled_in, ends_in, cause_in}
 
 -- what is named is there
 named_there : (o : Option Lock) → is_named_lock o ≡ true → IsSome o

@@ -1,9 +1,9 @@
 -- what can be done to locks by name, of whichever kind: why it is refused, and what it does
-use Rattle.std.specs.Prelude.{ℕ, ◌==◌, Bool, true, false, cond, Option, Some, None, nat_lt, if◌then◌else◌}
+use Rattle.std.specs.Prelude.{ℕ, ◌==◌, Bool, true, false, cond, Option, Some, None, if◌then◌else◌}
 use Rattle.std.specs.FinMap.{get}
 use Rattle.mea_base.specs.declared.stop.Stop.{Stop}
 use Rattle.mea_base.specs.declared.stop.Stop.TheVariants as stops
-use Rattle.mea_base.specs.Causes.{unknown_unless}
+use Rattle.mea_base.specs.Causes.{unknown_unless, borrowed_by}
 use Rattle.mea_base.specs.Family.{Outcome}
 use Rattle.mea_named.specs.Play.{found}
 use Rattle.mea_lock_model.specs.Locks as locks
@@ -34,10 +34,6 @@ pub data Action : Type 0 where
   Hand : ℕ → Action
   PollUntil : ℕ → ℕ → Until → Action
   EndWait : ℕ → Action
-
--- unknown, unless this is known; and then borrowed where there are so many borrowers
-abbrev pub borrowed_by : Bool → ℕ → Option Stop
-borrowed_by known n = if known then (if nat_lt 0 n then Some stops.Borrowed else None) else Some stops.Unknown
 
 abbrev pub cause_in : Locks → Action → Option Stop
 cause_in h (Make v most) = if most == 0 then Some stops.Zero else None

@@ -3,14 +3,14 @@
 use Rattle.std.specs.Prelude.{ℕ, ◌==◌, ◌&&◌, ◌++◌, Bool, true, false, cond, Option, Some, None, if◌then◌else◌}
 use Rattle.std.specs.FinMap.{get}
 use Rattle.mea_base.specs.declared.stop.Stop.{Stop}
-use Rattle.mea_base.specs.Causes.{unknown_unless}
+use Rattle.mea_base.specs.Causes.{unknown_unless, borrowed_by}
 use Rattle.mea_base.specs.Family.{Outcome, is_pending}
 use Rattle.mea_named.specs.NamedQueue.{Waiting, waits}
 use Rattle.mea_named.specs.Play.{found}
 use Rattle.mea_lock_model.specs.Locks.{Locks, is_write_guard, is_condvar_future, was_polled}
 use Rattle.mea_lock_model.specs.Condvars as condvars
 use Rattle.mea_lock_model.specs.Condvars.{Condvars, CondWait, is_condvar, is_wait, waits_of, until_of}
-use Rattle.mea_lock_model.specs.Actions.{borrowed_by, act_in, Hand, PollUntil, EndWait}
+use Rattle.mea_lock_model.specs.Actions.{act_in, Hand, PollUntil, EndWait}
 use Rattle.mea_lock_model.specs.LockHall.{LockHall}
 
 pub data CondAction : Type 0 where

@@ -4,6 +4,7 @@ use Rattle.std.specs.List.{Contains}
 use Rattle.std.specs.Option.{IsSome}
 use Rattle.std.specs.FinMap.{get}
 use Rattle.std.proofs.lemmas.Bool.{ltb-false, eq-eqb, cases_lt}
+use Rattle.mea_base.specs.Causes.{borrowed_by}
 use Rattle.mea_base.specs.Family.{Outcome}
 use Rattle.mea_base.specs.declared.stop.Stop.TheVariants as stops
 use Rattle.mea_base.proofs.Maps.{inside}
@@ -18,7 +19,7 @@ use Rattle.mea_meet_model.specs.Groups.{Groups}
 use Rattle.mea_meet_model.specs.Shutdowns as shutdowns
 use Rattle.mea_meet_model.specs.Shutdowns.{Shutdowns}
 use Rattle.mea_meet_model.specs.Hall.{Hall, empty_hall}
-use Rattle.mea_meet_model.specs.Cause.{cause_of, borrowed_by}
+use Rattle.mea_meet_model.specs.Cause.{cause_of}
 use Rattle.mea_meet_model.specs.Step.{step, on_barriers, on_latches, on_groups, on_shutdowns}
 use Rattle.mea_meet_model.specs.Meets.{Future, AtBarrier, ForLatch, ForGroup, ForShutdown, waker_if, polled, name, lives, placed}
 use Rattle.mea_meet_model.specs.Valid.{HasBarriers, IsValid}

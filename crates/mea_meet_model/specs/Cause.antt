@@ -1,10 +1,10 @@
 -- why an event on meeting points is refused: a name that is unknown, then a thing that is borrowed, then a
 -- count at its end
-use Rattle.std.specs.Prelude.{ℕ, ◌==◌, not, Bool, true, false, Option, Some, None, is_some, nat_lt, if◌then◌else◌}
+use Rattle.std.specs.Prelude.{ℕ, ◌==◌, not, Bool, true, false, Option, Some, None, is_some, if◌then◌else◌}
 use Rattle.std.specs.FinMap as map
 use Rattle.mea_base.specs.declared.stop.Stop.{Stop}
 use Rattle.mea_base.specs.declared.stop.Stop.TheVariants as stops
-use Rattle.mea_base.specs.Causes.{unknown_unless}
+use Rattle.mea_base.specs.Causes.{unknown_unless, borrowed_by}
 use Rattle.mea_meet_model.specs.declared.event.MeetEvent.{MeetEvent}
 use Rattle.mea_meet_model.specs.declared.event.MeetEvent.TheVariants.{BarNew, BarWait, BarPoll, BarEnd, BarDrop, LatNew, LatCount, LatDown, LatArrive, LatTry, LatWait, LatWaito, LatPoll, LatEnd, LatDrop, WgNew, WgClone, WgInto, WgCopy, WgPoll, WgEnd, SdNew, SdCopys, SdCopyr, SdSignal, SdNow, SdWatch, SdIs, SdIso, SdAwait, SdPoll, SdEnd, SdEnds, SdEndr}
 use Rattle.mea_meet_model.specs.Barriers as barriers
@@ -14,10 +14,6 @@ use Rattle.mea_meet_model.specs.Groups.{Groups}
 use Rattle.mea_meet_model.specs.Shutdowns as shutdowns
 use Rattle.mea_meet_model.specs.Shutdowns.{Shutdowns, Receiver}
 use Rattle.mea_meet_model.specs.Hall.{Hall}
-
--- unknown, unless this is known; and then borrowed where there are so many borrowers
-abbrev pub borrowed_by : Bool → ℕ → Option Stop
-borrowed_by known n = if known then (if nat_lt 0 n then Some stops.Borrowed else None) else Some stops.Unknown
 
 -- one more passes what a count can hold
 abbrev pub overflow_at : ℕ → Option Stop

@@ -4,7 +4,7 @@ use Rattle.std.specs.List.{Contains}
 use Rattle.std.proofs.lemmas.Bool.{eqb-true, eq-eqb, ne_eqb}
 use Rattle.std.proofs.lemmas.List.{length-append}
 use Rattle.std.proofs.lemmas.List.Elements.{Contains-push, Contains-append_left, Contains-append_right}
-use Rattle.mea_named.specs.NamedQueue.{Waiting, waker_for, waits, with_waker, without}
+use Rattle.mea_named.specs.NamedQueue.{Waiting, waker_for, waits, with_waker, registering, without}
 
 -- ---- at the one that is named
 pub appended-there : (q : Waiting) (f w : ℕ) → waits q f ≡ false → waker_for (q ++ (f, w) ∷ []) f ≡ Some w
@@ -20,6 +20,13 @@ with_waker-there (e ∷ q) f w = elim (e.0 == f) as (λ b. is_some (cond b (Some
   | true ↦ λ some. refl
   | false ↦ λ some. with_waker-there q f w some
 ]
+
+pub registering-there : (q : Waiting) (f w : ℕ) → waker_for (registering q f w) f ≡ Some w
+registering-there [] f w = ap (λ b. cond b (Some w) None) (eq-eqb f f refl)
+registering-there (e ∷ q) f w = elim (e.0 == f) as (λ b. (e.0 == f) ≡ b → waker_for (cond b ((e.0, w) ∷ q) (e ∷ registering q f w)) f ≡ Some w) [
+  | true ↦ λ is. ap (λ b. cond b (Some w) (waker_for q f)) is
+  | false ↦ λ is. ap (λ b. cond b (Some e.1) (waker_for (registering q f w) f)) is ∙ registering-there q f w
+] refl
 
 pub waits-some : (q : Waiting) (f w : ℕ) → waker_for q f ≡ Some w → waits q f ≡ true
 waits-some q f w is = ap is_some is
@@ -37,6 +44,15 @@ with_waker-other (e ∷ q) f w g apart = ap (cond (e.0 == g) (Some (cond (e.0 ==
     at true is = ap (λ c. Some (cond c w e.1)) (ne_eqb e.0 f (λ same. apart (sym same ∙ eqb-true e.0 g is)))
     at false is = refl
 
+pub registering-other : (q : Waiting) (f w g : ℕ) → (f ≡ g → ⊥) → waker_for (registering q f w) g ≡ waker_for q g
+registering-other [] f w g apart = ap (λ b. cond b (Some w) None) (ne_eqb f g apart)
+registering-other (e ∷ q) f w g apart = elim (e.0 == f) as (λ b. (e.0 == f) ≡ b → waker_for (cond b ((e.0, w) ∷ q) (e ∷ registering q f w)) g ≡ cond (e.0 == g) (Some e.1) (waker_for q g)) [
+  | true ↦ λ is.
+      let other : (e.0 == g) ≡ false = ne_eqb e.0 g (λ same. apart (sym (eqb-true e.0 f is) ∙ same)) in
+      ap (λ b. cond b (Some w) (waker_for q g)) other ∙ sym (ap (λ b. cond b (Some e.1) (waker_for q g)) other)
+  | false ↦ λ is. ap (cond (e.0 == g) (Some e.1)) (registering-other q f w g apart)
+] refl
+
 pub without-other : (q : Waiting) (f g : ℕ) → (f ≡ g → ⊥) → waker_for (without q f) g ≡ waker_for q g
 without-other [] f g apart = refl
 without-other (e ∷ q) f g apart = elim (e.0 == f) as (λ b. (e.0 == f) ≡ b → waker_for (cond b (without q f) (e ∷ without q f)) g ≡ waker_for (e ∷ q) g) [
@@ -48,6 +64,13 @@ without-other (e ∷ q) f g apart = elim (e.0 == f) as (λ b. (e.0 == f) ≡ b �
 pub length-with_waker : (q : Waiting) (f w : ℕ) → length (with_waker q f w) ≡ length q
 length-with_waker [] f w = refl
 length-with_waker (e ∷ q) f w = omega (arith, length-with_waker q f w)
+
+pub length-registering : (q : Waiting) (f w : ℕ) → length (registering q f w) ≤ length q + 1
+length-registering [] f w = omega arith
+length-registering (e ∷ q) f w = elim (e.0 == f) as (λ b. length (cond b ((e.0, w) ∷ q) (e ∷ registering q f w)) ≤ length (e ∷ q) + 1) [
+  | true ↦ omega arith
+  | false ↦ omega (arith, length-registering q f w)
+]
 
 pub length-without : (q : Waiting) (f : ℕ) → length (without q f) ≤ length q
 length-without [] f = omega arith
@@ -77,6 +100,13 @@ pub local_with : (q : Waiting) (f w : ℕ) → Local q (with_waker q f w) [] f 0
 local_with q f w = record {
   keeps = λ g v apart is. inl (with_waker-other q f w g apart ∙ is);
   fits = omega (arith, length-with_waker q f w);
+  most = omega arith;
+}
+
+pub local_registering : (q : Waiting) (f w : ℕ) → Local q (registering q f w) [] f 1
+local_registering q f w = record {
+  keeps = λ g v apart is. inl (registering-other q f w g apart ∙ is);
+  fits = omega (arith, length-registering q f w);
   most = omega arith;
 }
 

@@ -1,6 +1,7 @@
 pub mod ByName
 pub mod ByNameLends
 pub mod NamedQueue
+pub mod NamedWaker
 pub mod LackingQueue
 pub mod Play
 pub mod HallKept

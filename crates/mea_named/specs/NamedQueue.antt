@@ -1,5 +1,5 @@
 -- who waits, in order, each by its name and with the waker of its last poll
-use Rattle.std.specs.Prelude.{ℕ, ◌==◌, Bool, cond, List, [], ◌∷◌, Option, Some, None, is_some, length}
+use Rattle.std.specs.Prelude.{ℕ, ◌==◌, Bool, cond, List, [], ◌∷◌, Option, Some, None, is_some, length, map}
 use Rattle.std.specs.FinMap.{get}
 use Rattle.mea_base.specs.Totals.{total}
 use Rattle.mea_named.specs.ByName.{Names}
@@ -20,6 +20,15 @@ waits q f = is_some (waker_for q f)
 abbrev pub with_waker : Waiting → ℕ → ℕ → Waiting
 with_waker [] f w = []
 with_waker (e ∷ q) f w = (e.0, cond (e.0 == f) w e.1) ∷ with_waker q f w
+
+-- f has this waker: in the place of its own, or last
+abbrev pub registering : Waiting → ℕ → ℕ → Waiting
+registering [] f w = (f, w) ∷ []
+registering (e ∷ q) f w = cond (e.0 == f) ((e.0, w) ∷ q) (e ∷ registering q f w)
+
+-- the wakers of all who wait
+abbrev pub wakers : Waiting → List ℕ
+wakers q = map (λ (e : ℕ × ℕ). e.1) q
 
 -- all but f
 abbrev pub without : Waiting → ℕ → Waiting

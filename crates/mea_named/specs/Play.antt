@@ -48,3 +48,8 @@ module _ {H : Type 0} (registered : H → ℕ) where
 abbrev pub found : {H X : Type 0} → Option X → H → (X → Outcome H) → Outcome H
 found None h act = quietly h answers.Done
 found (Some x) h act = act x
+
+-- what is replied where a content is told
+abbrev pub content : Option ℕ → Answer
+content None = answers.Lacking
+content (Some v) = answers.Value v

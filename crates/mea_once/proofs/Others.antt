@@ -9,7 +9,7 @@ use Rattle.mea_base.proofs.Maps.{by_put, get-gone, removed_there, inside}
 use Rattle.mea_base.proofs.Totals.{total-empty}
 use Rattle.mea_named.specs.declared.named_waker.NamedWaker.{NamedWaker}
 use Rattle.mea_named.specs.ByName.{seen, count}
-use Rattle.mea_named.specs.NamedQueue.{Waiting, waits, waker_for, with_waker, without}
+use Rattle.mea_named.specs.NamedQueue.{Waiting, waits, waker_for, with_waker, without, registering, wakers}
 use Rattle.mea_named.specs.LackingQueue.{who}
 use Rattle.mea_named.proofs.Cases.{if_true, if_false}
 use Rattle.mea_named.proofs.Own.{insert_same, seen-at, seen-back, seen-insert, len-over, count-over, count-gone}
@@ -19,7 +19,6 @@ use Rattle.mea_sets.specs.declared.place.Place.{Place}
 use Rattle.mea_sets.specs.WaitSet as sets
 use Rattle.mea_sets.specs.WaitSet.{slot_after}
 use Rattle.mea_linked.specs.Linked.{names_in, Linked}
-use Rattle.mea_linked.specs.SetLinked as set_linked
 use Rattle.mea_linked.specs.SetLinked.{SlotIs, SetLinked, names_of, set_names}
 use Rattle.mea_linked.proofs.Linking.{linked_gone}
 use Rattle.mea_linked.proofs.Sets.{registered_names, registered_links}
@@ -30,7 +29,7 @@ use Rattle.mea_once_model.specs.declared.job.Initialiser.TheVariants.{Unsettled,
 use Rattle.mea_once_model.specs.declared.job.Job.{Job}
 use Rattle.mea_once_model.specs.declared.job.Job.TheVariants.{Calls, Computes, Alone, Sets, Inserts, Awaits}
 use Rattle.mea_once_model.specs.Cells as model
-use Rattle.mea_once_model.specs.Cells.{Cell, Step, init_of, is_alone, settled, registering}
+use Rattle.mea_once_model.specs.Cells.{Cell, Step, init_of, is_alone, settled}
 use Rattle.mea_once.specs.declared.future_entry.FutureEntry.{FutureEntry}
 use Rattle.mea_once.specs.declared.told.Told.{Told}
 use Rattle.mea_once.specs.Cores.{NamedCell, IsSoundCell, WaitsCell}
@@ -168,10 +167,6 @@ module _ (once : Bool) (e : KeptCell) (f : ℕ) (x : FutureEntry) (s : Stands on
     }
 
   -- ---- a wait
-  same_registering : (q : Waiting) (f w : ℕ) → set_linked.registering q f w ≡ registering q f w
-  same_registering [] f w = refl
-  same_registering (e ∷ q) f w = ap (λ r. cond (e.0 == f) ((e.0, w) ∷ q) (e ∷ r)) (same_registering q f w)
-
   wait_shares : (j : Job) → is_wait j ≡ true → is_alone j ≡ false
   wait_shares (Calls r) is = refl
   wait_shares (Computes r) is = refl
@@ -320,7 +315,7 @@ module _ (once : Bool) (e : KeptCell) (f : ℕ) (x : FutureEntry) (s : Stands on
 
       pub waits_make : IsSoundCell c → Makes once e s.fs s.n f x.cell 1 answers.Pending (Some z) Polls (record e { cell = c })
       waits_make sound =
-          let names : set_names c.waits ≡ registering (set_names e.cell.waits) f w = registered_names e.cell.waits (seen place_of s.fs) s.n f w x.wait (all_set once e f x s) its_place ∙ same_registering (set_names e.cell.waits) f w in
+          let names : set_names c.waits ≡ registering (set_names e.cell.waits) f w = registered_names e.cell.waits (seen place_of s.fs) s.n f w x.wait (all_set once e f x s) its_place in
           let none : e.cell.value ≡ None = empty_is once e f x s e.cell.value empty in
           let later : (if is_polled x.stage then model.take_turn f w (future_seen x) (cell_seen e) e.cell.value else model.start f w (future_seen x) (cell_seen e) e.cell.value) ≡ model.awaits f w (future_seen x) (cell_seen e) =
           if_false (is_polled x.stage) _ _ not_new ∙ ap (model.start f w (future_seen x) (cell_seen e)) none ∙ start_wait w x.job (cell_seen e) wait in
@@ -462,10 +457,10 @@ module _ (once : Bool) (e : KeptCell) (f : ℕ) (x : FutureEntry) (s : Stands on
 
       pub alone_made : (v : ℕ) → e.cell.value ≡ None → init_of x.job ≡ Gives v → IsSoundCell (record e.cell { value = Some v }) → Makes once e s.fs s.n f x.cell 1 (answers.Value v) None Alone_polls (Gone (record e.cell { value = Some v }))
       alone_made v is gives sound =
-          let told : Alone_polls ≡ model.leaves (model.filled f v (cell_seen e)) (answers.Value v) (model.wakers (set_names e.cell.waits) ++ model.woken_next (cell_seen e).queue) =
-          alone_told None is ∙ alone_runs x.job (cell_seen e) alone ∙ ap (model.run f w (future_seen x) (cell_seen e)) gives ∙ ap (λ a. model.leaves (model.filled f v (cell_seen e)) a (model.wakers (set_names e.cell.waits) ++ model.woken_next (cell_seen e).queue)) (filled_alone v x.job alone) in
-          rw told (alone_leaves (Some v) (model.leaves (model.filled f v (cell_seen e)) (answers.Value v) (model.wakers (set_names e.cell.waits) ++ model.woken_next (cell_seen e).queue)) (answers.Value v) refl refl
-          (λ i. model.wakers (no_waits e.cell.waits.wakers none_waits i) ++ model.woken_next (who (names_in (none_queued i))))
+          let told : Alone_polls ≡ model.leaves (model.filled f v (cell_seen e)) (answers.Value v) (wakers (set_names e.cell.waits) ++ model.woken_next (cell_seen e).queue) =
+          alone_told None is ∙ alone_runs x.job (cell_seen e) alone ∙ ap (model.run f w (future_seen x) (cell_seen e)) gives ∙ ap (λ a. model.leaves (model.filled f v (cell_seen e)) a (wakers (set_names e.cell.waits) ++ model.woken_next (cell_seen e).queue)) (filled_alone v x.job alone) in
+          rw told (alone_leaves (Some v) (model.leaves (model.filled f v (cell_seen e)) (answers.Value v) (wakers (set_names e.cell.waits) ++ model.woken_next (cell_seen e).queue)) (answers.Value v) refl refl
+          (λ i. wakers (no_waits e.cell.waits.wakers none_waits i) ++ model.woken_next (who (names_in (none_queued i))))
           (sym ((λ i. model.passed (who (names_in (none_queued i))) (record (cell_seen e) { value = Some v; queue = who (names_in (none_queued i)); runner = (runner_without e.running f ∙ ap (λ r. runner_of (cond (runs r f) None r)) no_runner) i; waits = sym (no_waits e.cell.waits.wakers none_waits) i }))
           ∙ (λ i. record (cell_seen e) { value = Some v; taken = sym (ap (λ n. n == 0) alone_free) i; queue = who (names_in (sym none_queued i)); runner = [] }))) sound)
 

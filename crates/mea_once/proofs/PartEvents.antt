@@ -4,6 +4,7 @@ use Rattle.std.specs.Option.{IsSome}
 use Rattle.std.specs.FinMap.{get, insert, remove, len, empty, len-empty}
 use Rattle.std.specs.Ordering.{nat_cmp}
 use Rattle.std.proofs.lemmas.List.{length-append}
+use Rattle.mea_base.specs.Causes.{borrowed_by}
 use Rattle.mea_base.specs.declared.answer.Answer.{Answer}
 use Rattle.mea_base.specs.declared.answer.Answer.TheVariants as answers
 use Rattle.mea_base.specs.declared.stop.Stop.TheVariants as stops
@@ -15,7 +16,7 @@ use Rattle.mea_base.proofs.Totals.{total-insert, total-remove, total-same}
 use Rattle.mea_base.proofs.NamedMaps.{is_some-map, get-seen}
 use Rattle.mea_named.specs.declared.named_waker.NamedWaker.{NamedWaker}
 use Rattle.mea_named.specs.ByName.{Names, seen, own, count}
-use Rattle.mea_named.specs.Play.{Part, PartYields, PartRests, found}
+use Rattle.mea_named.specs.Play.{Part, PartYields, PartRests, found, content}
 use Rattle.mea_named.specs.LackingQueue.{who}
 use Rattle.mea_named.proofs.LackingQueues.{length-who}
 use Rattle.mea_named.proofs.Cases.{found_is}
@@ -29,8 +30,8 @@ use Rattle.mea_once_model.specs.declared.job.Initialiser.{Initialiser}
 use Rattle.mea_once_model.specs.declared.job.Job.{Job}
 use Rattle.mea_once_model.specs.declared.job.Job.TheVariants.{Calls, Computes, Alone, Sets, Inserts, Awaits}
 use Rattle.mea_once_model.specs.Cells as model
-use Rattle.mea_once_model.specs.Cells.{Cell, CellFuture, Cells, Step, is_cell, is_future, is_unsettled, settles_in, futures_of, alone_of, registered, waiting_at, is_alone, settled, content}
-use Rattle.mea_once_model.specs.Actions.{act_in, Make, Begin, Poll, Settle, End, TellFull, Tell, Peek, Put, Take, TakeOut, Drop, in_the_way, borrowed_by}
+use Rattle.mea_once_model.specs.Cells.{Cell, CellFuture, Cells, Step, is_cell, is_future, is_unsettled, settles_in, futures_of, alone_of, registered, waiting_at, is_alone, settled}
+use Rattle.mea_once_model.specs.Actions.{act_in, Make, Begin, Poll, Settle, End, TellFull, Tell, Peek, Put, Take, TakeOut, Drop, in_the_way}
 use Rattle.mea_once.specs.declared.future_entry.FutureEntry.{FutureEntry}
 use Rattle.mea_once.specs.Cores.{NamedCell, IsSoundCell}
 use Rattle.mea_once.specs.Entries.{KeptCell, begun, keeps, of_running, left_by}

@@ -9,7 +9,7 @@ use Rattle.mea_base.proofs.Maps.{total-has, by_put, get-there, get-other, get-go
 use Rattle.mea_base.proofs.NamedMaps.{same_named}
 use Rattle.mea_named.specs.declared.named_waker.NamedWaker.{NamedWaker}
 use Rattle.mea_named.specs.ByName.{Names, seen}
-use Rattle.mea_named.specs.NamedQueue.{Waiting, waits, with_waker, without}
+use Rattle.mea_named.specs.NamedQueue.{Waiting, waits, with_waker, without, wakers}
 use Rattle.mea_named.specs.LackingQueue.{who}
 use Rattle.mea_named.proofs.Cases.{if_true, if_false}
 use Rattle.mea_named.proofs.LackingQueues.{who-append, who-rewoken, who-leaving}
@@ -35,7 +35,7 @@ use Rattle.mea_once_model.specs.declared.job.Initialiser.TheVariants.{Unsettled,
 use Rattle.mea_once_model.specs.declared.job.Job.{Job}
 use Rattle.mea_once_model.specs.declared.job.Job.TheVariants.{Calls, Computes, Alone, Sets, Inserts, Awaits}
 use Rattle.mea_once_model.specs.Cells as model
-use Rattle.mea_once_model.specs.Cells.{Cell, CellFuture, Step, init_of, is_alone, passed, woken_next, wakers, given_up, found_full, has_filled}
+use Rattle.mea_once_model.specs.Cells.{Cell, CellFuture, Step, init_of, is_alone, passed, woken_next, given_up, found_full, has_filled}
 use Rattle.mea_once.specs.declared.future_entry.FutureEntry.{FutureEntry}
 use Rattle.mea_once.specs.declared.told.Told.{Told}
 use Rattle.mea_once.specs.Cores.{NamedCell, IsSoundCell, TurnsTo, FindsFull, FindsLate, TakesFree, TakesNext, GoesOn, LinesUp, WaitsOn, TurnsCell, TurnFits, TurnIsQuiet, Drains, LeavesCell}

@@ -3,6 +3,7 @@ use Rattle.std.proofs.Common.{◌≡◌, ℕ, ◌+◌, ◌<◌, ◌≤◌, ◌^�
 use Rattle.std.specs.Option.{IsSome}
 use Rattle.std.specs.FinMap.{get, insert, remove, len, empty, len-empty, get-empty}
 use Rattle.std.specs.Ordering.{nat_cmp}
+use Rattle.mea_base.specs.Causes.{borrowed_by}
 use Rattle.mea_base.specs.declared.answer.Answer.{Answer}
 use Rattle.mea_base.specs.declared.answer.Answer.TheVariants as answers
 use Rattle.mea_base.specs.declared.stop.Stop.TheVariants as stops
@@ -15,7 +16,7 @@ use Rattle.mea_base.proofs.NamedMaps.{is_some-map, get-seen, same_named}
 use Rattle.mea_named.specs.ByName.{Names, seen, own, count}
 use Rattle.mea_named.specs.NamedQueue as named_queue
 use Rattle.mea_named.specs.HallKept.{HallKept}
-use Rattle.mea_named.specs.Play.{Part, PartYields, PartRests, found}
+use Rattle.mea_named.specs.Play.{Part, PartYields, PartRests, found, content}
 use Rattle.mea_named.proofs.Cases.{found_is}
 use Rattle.mea_named.proofs.Halls as halls
 use Rattle.mea_named.proofs.Own.{count-least, seen-at, seen-empty, seen-insert, seen-remove, seen-alike, own-seen, len-seen, len-new, total-seen, own-at, own-had, own-none, own-put, own-gone, own-empty, insert_same, put_gone, Moves, Stays, Comes, Goes}
@@ -25,11 +26,10 @@ use Rattle.mea_once_core.proofs.Waits.{same-waiting}
 use Rattle.mea_once_model.specs.declared.job.Initialiser.{Initialiser}
 use Rattle.mea_once_model.specs.declared.job.Initialiser.TheVariants.{Unsettled}
 use Rattle.mea_once_model.specs.Cells as cells
-use Rattle.mea_once_model.specs.Cells.{Cell, content}
+use Rattle.mea_once_model.specs.Cells.{Cell}
 use Rattle.mea_once_model.specs.Tables as model
 use Rattle.mea_once_model.specs.Tables.{Table, KeyFuture as ModelFuture, Tables, is_table, is_future, is_unsettled, settles_in, futures_of, others_of, registered, is_this, without_key}
 use Rattle.mea_once_model.specs.KeyActions.{key_act, with_future, MakeTable, BeginKey, PollKey, SettleKey, EndKey, TellKey, DiscardKey, RemoveKey, DropTable}
-use Rattle.mea_once_model.specs.Actions.{borrowed_by}
 use Rattle.mea_once.specs.declared.key_future.KeyFuture.{KeyFuture}
 use Rattle.mea_once.specs.declared.round.Round.{Round}
 use Rattle.mea_once_core.specs.declared.key_call.KeyStage.TheVariants as key_stages

@@ -5,6 +5,7 @@ use Rattle.mea_base.specs.declared.answer.Answer.{Answer}
 use Rattle.mea_base.specs.declared.answer.Answer.TheVariants as answers
 use Rattle.mea_base.specs.Ready.{Waking}
 use Rattle.mea_named.specs.declared.named_waker.NamedWaker.{NamedWaker}
+use Rattle.mea_named.specs.NamedWaker.{waker_code}
 use Rattle.mea_sem_core.specs.Core.{core_code}
 use Rattle.mea_sets.specs.WaitSet.{registered_code}
 use Rattle.mea_once_core.specs.declared.cell_turn.CellTurn.{CellTurn}
@@ -24,9 +25,6 @@ pub record KeptCell : Type 0 where
   pub running : Option NamedWaker
   pub futures : ℕ
   pub alone : ℕ
-
-abbrev pub waker_code : Coded NamedWaker
-waker_code = code_by (ℕ × ℕ) (coded× coded_ℕ coded_ℕ) (λ k. (k.future, k.waker)) (λ p. record { future = p.0; waker = p.1 }) (λ _. refl)
 
 abbrev pub named_cell_code : Coded NamedCell
 named_cell_code =

@@ -18,7 +18,8 @@ use Rattle.mea_once.specs.declared.key_future.KeyFuture.{KeyFuture}
 use Rattle.mea_once.specs.declared.round.Round.{Round}
 use Rattle.mea_once.specs.declared.told.Told.{Told}
 use Rattle.mea_once.specs.KeyCores.{NamedKeyed}
-use Rattle.mea_once.specs.Entries.{waker_code, of_running, runs, pending, over}
+use Rattle.mea_named.specs.NamedWaker.{waker_code}
+use Rattle.mea_once.specs.Entries.{of_running, runs, pending, over}
 
 -- a map or a group: its core, the current round of each key that is being computed, its rounds, and how many futures it has
 pub record KeptTable : Type 0 where

@@ -1,5 +1,6 @@
 ghost use Rattle.std.specs.Prelude.{◌≡◌, cond, is_some, if◌then◌else◌};
-ghost use Rattle.mea_once_model.specs.Cells.{is_alone, can_settle, found_full, has_filled, settled, init_of, content};
+ghost use Rattle.mea_named.specs.Play.{content};
+ghost use Rattle.mea_once_model.specs.Cells.{is_alone, can_settle, found_full, has_filled, settled, init_of};
 ghost use Rattle.mea_once.specs.Parts.{is_wait};
 
 use mea_base::Answer;

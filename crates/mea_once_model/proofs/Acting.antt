@@ -3,13 +3,14 @@ use Rattle.std.proofs.Common.{◌≡◌, ℕ, ◌≤◌, ◌==◌, ◌++◌, Boo
 use Rattle.std.proofs.lemmas.Bool.{eqb-true, eq-eqb}
 use Rattle.std.proofs.lemmas.Bool.Decides.{nat_tests}
 use Rattle.std.specs.FinMap.{get, insert, remove}
+use Rattle.mea_base.specs.Causes.{borrowed_by}
 use Rattle.mea_base.specs.declared.answer.Answer.{Answer}
 use Rattle.mea_base.specs.declared.answer.Answer.TheVariants as answers
 use Rattle.mea_base.specs.Family.{Outcome, quietly}
 use Rattle.mea_base.proofs.Maps.{get-gone}
 use Rattle.mea_named.specs.ByName.{Names, seen}
-use Rattle.mea_named.specs.NamedQueue.{Waiting, waits, waker_for, with_waker, without}
-use Rattle.mea_named.specs.Play.{found}
+use Rattle.mea_named.specs.NamedQueue.{Waiting, waits, waker_for, with_waker, without, wakers, registering}
+use Rattle.mea_named.specs.Play.{found, content}
 use Rattle.mea_named.proofs.Cases.{by_found, by_if}
 use Rattle.mea_named.proofs.NamedQueues.{Local, local_same}
 use Rattle.mea_named.proofs.OneObject.{Goes, FuturesGo, Same, Put, Made, Gone, Kept, Begun, Ended, None_is, Polled, Ends}
@@ -19,8 +20,8 @@ use Rattle.mea_once_model.specs.declared.job.Initialiser.{Initialiser}
 use Rattle.mea_once_model.specs.declared.job.Initialiser.TheVariants.{Unsettled, Gives, Fails}
 use Rattle.mea_once_model.specs.declared.job.Job.{Job}
 use Rattle.mea_once_model.specs.declared.job.Job.TheVariants.{Calls, Computes, Alone, Sets, Inserts, Awaits}
-use Rattle.mea_once_model.specs.Cells.{Cell, CellFuture, Cells, Step, waiting_at, new_cell, passed, woken_next, wakers, given_up, filled, registering, init_of, is_cell, futures_of}
-use Rattle.mea_once_model.specs.Actions.{Action, Make, Begin, Poll, Settle, End, TellFull, Tell, Peek, Put as Write, Take, TakeOut, Drop, act_in, registers_in, polled_in, ends_in, cause_in, borrowed_by, in_the_way}
+use Rattle.mea_once_model.specs.Cells.{Cell, CellFuture, Cells, Step, waiting_at, new_cell, passed, woken_next, given_up, filled, init_of, is_cell, futures_of}
+use Rattle.mea_once_model.specs.Actions.{Action, Make, Begin, Poll, Settle, End, TellFull, Tell, Peek, Put as Write, Take, TakeOut, Drop, act_in, registers_in, polled_in, ends_in, cause_in, in_the_way}
 use Rattle.mea_once_model.proofs.Parts.{part_same, part_pushed, part_with, part_without, part_registering, part_settled, part_next, part_drained, behind, together}
 
 -- ---- causes
@@ -278,6 +279,6 @@ module _ (h : Cells) (i : ℕ) where
   goes (Tell o) = by_cell (Tell o) (λ f is. absurd (cc)) o _ (λ c there. tells h i (Tell o) (λ f is. absurd (cc)) 0 (cells.tell h c) refl refl)
   goes (Peek o) = by_cell (Peek o) (λ f is. absurd (cc)) o _ (λ c there. tells h i (Peek o) (λ f is. absurd (cc)) 0 (cells.tell h c) refl refl)
   goes (Write o v) = by_cell (Write o v) (λ f is. absurd (cc)) o _ (λ c there. puts h i (Write o v) (λ f is. absurd (cc)) o v c there c.value)
-  goes (Take o) = by_cell (Take o) (λ f is. absurd (cc)) o _ (λ c there. turns h i (Take o) (λ f is. absurd (cc)) o c (record c { value = None }) (cells.content c.value) there refl)
-  goes (TakeOut o) = by_cell (TakeOut o) (λ f is. absurd (cc)) o _ (λ c there. goes_out h i (TakeOut o) (λ f is. absurd (cc)) o c (cells.content c.value) there (λ allowed. not_borrowed (is_cell h o) (futures_of h o) allowed))
+  goes (Take o) = by_cell (Take o) (λ f is. absurd (cc)) o _ (λ c there. turns h i (Take o) (λ f is. absurd (cc)) o c (record c { value = None }) (content c.value) there refl)
+  goes (TakeOut o) = by_cell (TakeOut o) (λ f is. absurd (cc)) o _ (λ c there. goes_out h i (TakeOut o) (λ f is. absurd (cc)) o c (content c.value) there (λ allowed. not_borrowed (is_cell h o) (futures_of h o) allowed))
   goes (Drop o) = by_cell (Drop o) (λ f is. absurd (cc)) o _ (λ c there. goes_out h i (Drop o) (λ f is. absurd (cc)) o c answers.Done there (λ allowed. not_borrowed (is_cell h o) (futures_of h o) allowed))

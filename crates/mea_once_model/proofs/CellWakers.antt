@@ -12,7 +12,7 @@ use Rattle.mea_named.specs.NamedQueue as named_queue
 use Rattle.mea_named.specs.NamedQueue.{waits, with_waker, waker_for}
 use Rattle.mea_named.specs.Play.{found}
 use Rattle.mea_named.proofs.Cases.{by_found, by_if, found_is}
-use Rattle.mea_named.proofs.NamedQueues.{appended-there, with_waker-there}
+use Rattle.mea_named.proofs.NamedQueues.{appended-there, with_waker-there, registering-there}
 use Rattle.mea_named.proofs.OneObject.{IsBelow, AreBelow, goes_lows, goes_below, goes_made, goes_stays, goes_kept, placed_is, placed_put}
 use Rattle.mea_named.proofs.Own.{seen-at, seen-back, seen-none}
 use Rattle.mea_once_model.specs.Cells as cells
@@ -22,7 +22,7 @@ use Rattle.mea_once_model.specs.declared.job.Job.{Job}
 use Rattle.mea_once_model.specs.declared.job.Job.TheVariants.{Calls, Computes, Alone, Sets, Inserts, Awaits}
 use Rattle.mea_once_model.specs.Cells.{Cell, CellFuture, Cells, Step, waiting_at, init_of, is_alone, is_future}
 use Rattle.mea_once_model.specs.Actions.{Action, Make, Begin, Poll, Settle, End, TellFull, Tell, Peek, Put, Take, TakeOut, Drop, act_in, polled_in, ends_in, cause_in}
-use Rattle.mea_once_model.proofs.Parts.{in_first, in_second, not_waiting, registers_there}
+use Rattle.mea_once_model.proofs.Parts.{in_first, in_second, not_waiting}
 use Rattle.mea_once_model.proofs.Acting.{keys, owner, goes}
 
 -- ---- the cells of one kind
@@ -72,7 +72,7 @@ module _ (f w : ℕ) (x : CellFuture) (c : Cell) where
       future = x;
       there = refl;
       mine = refl;
-      waker = in_second c.queue _ f (not_waiting c.queue f out) ∙ in_second c.runner _ f (not_waiting c.runner f idle) ∙ registers_there c.waits f w;
+      waker = in_second c.queue _ f (not_waiting c.queue f out) ∙ in_second c.runner _ f (not_waiting c.runner f idle) ∙ registering-there c.waits f w;
     }
 
     turn_places : (v : Option ℕ) → P (cells.take_turn f w x c v)

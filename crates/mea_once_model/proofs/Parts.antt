@@ -1,12 +1,12 @@
 -- what an event does to each of the lists of who waits at a cell, and so to all who wait there
 use Rattle.std.proofs.Common.{◌≡◌, ℕ, ◌+◌, ◌≤◌, ◌==◌, ◌++◌, ◌⊎◌, inl, inr, Bool, true, false, cond, length, List, [], ◌∷◌, Option, Some, None, is_some, option_to_list, rules, refl, ap, sym, subst, ◌∙◌, arith}
 use Rattle.std.specs.List.{Contains}
-use Rattle.std.proofs.lemmas.Bool.{eqb-true, eq-eqb, ne_eqb}
+use Rattle.std.proofs.lemmas.Bool.{eqb-true, eq-eqb}
 use Rattle.std.proofs.lemmas.List.{length-append}
 use Rattle.std.proofs.lemmas.List.Elements.{Contains-append_cases, Contains-append_left, Contains-append_right}
-use Rattle.mea_named.specs.NamedQueue.{Waiting, waker_for, waits, with_waker, without}
-use Rattle.mea_named.proofs.NamedQueues.{Local, appended-other, with_waker-other, without-other, length-with_waker, length-without, local_drained}
-use Rattle.mea_once_model.specs.Cells.{wakers, woken_next, registering}
+use Rattle.mea_named.specs.NamedQueue.{Waiting, waker_for, waits, with_waker, without, wakers, registering}
+use Rattle.mea_named.proofs.NamedQueues.{Local, appended-other, with_waker-other, without-other, length-with_waker, length-without, local_drained, registering-other, length-registering}
+use Rattle.mea_once_model.specs.Cells.{woken_next}
 
 -- ---- who waits in one list or in another
 abbrev first_of : Option ℕ → Option ℕ → Option ℕ
@@ -69,29 +69,6 @@ part_without q f = record {
 }
 
 -- ---- one registers
-registering-there : (q : Waiting) (f w : ℕ) → waker_for (registering q f w) f ≡ Some w
-registering-there [] f w = ap (λ b. cond b (Some w) None) (eq-eqb f f refl)
-registering-there (e ∷ q) f w = elim (e.0 == f) as (λ b. (e.0 == f) ≡ b → waker_for (cond b ((e.0, w) ∷ q) (e ∷ registering q f w)) f ≡ Some w) [
-  | true ↦ λ is. ap (λ b. cond b (Some w) (waker_for q f)) is
-  | false ↦ λ is. ap (λ b. cond b (Some e.1) (waker_for (registering q f w) f)) is ∙ registering-there q f w
-] refl
-
-registering-other : (q : Waiting) (f w g : ℕ) → (f ≡ g → ⊥) → waker_for (registering q f w) g ≡ waker_for q g
-registering-other [] f w g apart = ap (λ b. cond b (Some w) None) (ne_eqb f g apart)
-registering-other (e ∷ q) f w g apart = elim (e.0 == f) as (λ b. (e.0 == f) ≡ b → waker_for (cond b ((e.0, w) ∷ q) (e ∷ registering q f w)) g ≡ cond (e.0 == g) (Some e.1) (waker_for q g)) [
-  | true ↦ λ is.
-      let other : (e.0 == g) ≡ false = ne_eqb e.0 g (λ same. apart (sym (eqb-true e.0 f is) ∙ same)) in
-      ap (λ b. cond b (Some w) (waker_for q g)) other ∙ sym (ap (λ b. cond b (Some e.1) (waker_for q g)) other)
-  | false ↦ λ is. ap (cond (e.0 == g) (Some e.1)) (registering-other q f w g apart)
-] refl
-
-length-registering : (q : Waiting) (f w : ℕ) → length (registering q f w) ≤ length q + 1
-length-registering [] f w = omega arith
-length-registering (e ∷ q) f w = elim (e.0 == f) as (λ b. length (cond b ((e.0, w) ∷ q) (e ∷ registering q f w)) ≤ length (e ∷ q) + 1) [
-  | true ↦ omega arith
-  | false ↦ omega (arith, length-registering q f w)
-]
-
 pub part_registering : (q : Waiting) (f w : ℕ) → Part q (registering q f w) [] f 1
 part_registering q f w = record {
   keeps = λ g v apart is. inl (registering-other q f w g apart ∙ is);
@@ -99,9 +76,6 @@ part_registering q f w = record {
   fits = omega (arith, length-registering q f w);
   most = omega arith;
 }
-
-pub registers_there : (q : Waiting) (f w : ℕ) → waker_for (registering q f w) f ≡ Some w
-registers_there q f w = registering-there q f w
 
 -- ---- one is woken, the first is, and all are
 one-of : (w : ℕ) (ws : List ℕ) → Contains (w ∷ ws) w

@@ -1,16 +1,16 @@
 -- what can be done to cells by name: why it is refused, and what it does
-use Rattle.std.specs.Prelude.{ℕ, ◌==◌, Bool, true, false, cond, Option, Some, None, nat_lt, if◌then◌else◌}
+use Rattle.std.specs.Prelude.{ℕ, ◌==◌, Bool, true, false, cond, Option, Some, None, if◌then◌else◌}
 use Rattle.std.specs.FinMap.{get}
 use Rattle.mea_base.specs.declared.answer.Answer.TheVariants as answers
 use Rattle.mea_base.specs.declared.stop.Stop.{Stop}
 use Rattle.mea_base.specs.declared.stop.Stop.TheVariants as stops
-use Rattle.mea_base.specs.Causes.{unknown_unless}
+use Rattle.mea_base.specs.Causes.{unknown_unless, borrowed_by}
 use Rattle.mea_base.specs.Family.{Outcome}
-use Rattle.mea_named.specs.Play.{found}
+use Rattle.mea_named.specs.Play.{found, content}
 use Rattle.mea_once_model.specs.declared.job.Initialiser.{Initialiser}
 use Rattle.mea_once_model.specs.declared.job.Job.{Job}
 use Rattle.mea_once_model.specs.Cells as cells
-use Rattle.mea_once_model.specs.Cells.{Cells, is_cell, is_future, is_unsettled, is_alone, futures_of, alone_of, content}
+use Rattle.mea_once_model.specs.Cells.{Cells, is_cell, is_future, is_unsettled, is_alone, futures_of, alone_of}
 
 pub data Action : Type 0 where
   -- a cell, with this value or none
@@ -30,10 +30,6 @@ pub data Action : Type 0 where
   Take : ℕ → Action
   TakeOut : ℕ → Action
   Drop : ℕ → Action
-
--- unknown, unless this is known; and then borrowed where there are so many borrowers
-abbrev pub borrowed_by : Bool → ℕ → Option Stop
-borrowed_by known n = if known then (if nat_lt 0 n then Some stops.Borrowed else None) else Some stops.Unknown
 
 -- how many futures are in the way of a new one: one that is to use the cell alone suffers none beside it, and else none
 -- that does may be there

@@ -1,5 +1,5 @@
 -- cells by name that are filled once, with the futures that are of them
-use Rattle.std.specs.Prelude.{ℕ, zero, suc, ◌≡◌, ◌++◌, ◌==◌, Bool, true, false, not, cond, List, [], ◌∷◌, map, Option, Some, None, is_some, option_to_list, if◌then◌else◌, refl}
+use Rattle.std.specs.Prelude.{ℕ, zero, suc, ◌≡◌, ◌++◌, Bool, true, false, not, List, [], ◌∷◌, Option, Some, None, is_some, option_to_list, if◌then◌else◌, refl}
 use Rattle.std.specs.Coded.{Coded, code_by, coded×, coded_ℕ, coded_bool, coded_list, coded_option}
 use Rattle.std.specs.FinMap.{empty, get, insert, remove, len}
 use Rattle.mea_base.specs.declared.answer.Answer.{Answer}
@@ -11,7 +11,8 @@ use Rattle.mea_once_model.specs.declared.job.Job.{Job}
 use Rattle.mea_once_model.specs.declared.job.Job.TheVariants.{Calls, Computes, Alone, Sets, Inserts, Awaits}
 use Rattle.mea_named.specs.ByName.{Names, names_code, own, count}
 use Rattle.mea_named.specs.NamedQueue as named_queue
-use Rattle.mea_named.specs.NamedQueue.{Waiting, waker_for, waits, with_waker, without}
+use Rattle.mea_named.specs.NamedQueue.{Waiting, waker_for, waits, with_waker, without, wakers, registering}
+use Rattle.mea_named.specs.Play.{content}
 
 -- a cell: its value or none; whether one of its callers has its turn; who waits for the turn, in order; whose initialiser
 -- was polled with which waker, and is not settled; and who waits until it is full. A call that runs once is a cell whose
@@ -108,10 +109,6 @@ has_filled (Sets u) v = answers.Accepted
 has_filled (Inserts u) v = answers.Value v
 has_filled Awaits v = answers.Ready
 
-abbrev pub content : Option ℕ → Answer
-content None = answers.Lacking
-content (Some v) = answers.Value v
-
 -- ---- what becomes of a cell
 abbrev pub new_cell : Option ℕ → Cell
 new_cell v = record { value = v; taken = false; queue = []; runner = []; waits = [] }
@@ -125,9 +122,6 @@ abbrev pub woken_next : Waiting → List ℕ
 woken_next [] = []
 woken_next (e ∷ q) = e.1 ∷ []
 
-abbrev pub wakers : Waiting → List ℕ
-wakers q = map (λ (e : ℕ × ℕ). e.1) q
-
 -- f, whose turn it is, gives it up
 abbrev pub given_up : ℕ → Cell → Cell
 given_up f c = passed c.queue (record c { runner = without c.runner f })
@@ -135,11 +129,6 @@ given_up f c = passed c.queue (record c { runner = without c.runner f })
 -- f fills it, and all who wait for that are woken
 abbrev pub filled : ℕ → ℕ → Cell → Cell
 filled f v c = passed c.queue (record c { value = Some v; runner = without c.runner f; waits = [] })
-
--- f has this waker: in the place of its own, or last
-abbrev pub registering : Waiting → ℕ → ℕ → Waiting
-registering [] f w = (f, w) ∷ []
-registering (e ∷ q) f w = cond (e.0 == f) ((e.0, w) ∷ q) (e ∷ registering q f w)
 
 -- ---- what a future does
 abbrev pub init_of : Job → Initialiser

@@ -3,12 +3,10 @@ use Rattle.std.specs.Prelude.{ℕ, ◌==◌, Bool, true, false, cond, Option, So
 use Rattle.std.specs.FinMap.{get, remove}
 use Rattle.mea_base.specs.declared.answer.Answer.TheVariants as answers
 use Rattle.mea_base.specs.declared.stop.Stop.{Stop}
-use Rattle.mea_base.specs.Causes.{unknown_unless}
+use Rattle.mea_base.specs.Causes.{unknown_unless, borrowed_by}
 use Rattle.mea_base.specs.Family.{Outcome, quietly}
-use Rattle.mea_named.specs.Play.{found}
+use Rattle.mea_named.specs.Play.{found, content}
 use Rattle.mea_once_model.specs.declared.job.Initialiser.{Initialiser}
-use Rattle.mea_once_model.specs.Cells.{content}
-use Rattle.mea_once_model.specs.Actions.{borrowed_by}
 use Rattle.mea_once_model.specs.Tables as tables
 use Rattle.mea_once_model.specs.Tables.{Table, KeyFuture, Tables, is_table, is_future, is_unsettled, futures_of, without_key}
 

@@ -295,11 +295,8 @@ module _ (r : Run) (i g w : ℕ) (x : Future) (is : get r.hall.futures g ≡ Som
   stays : (f : ℕ) → IsSome (first_poll r.trace f) → rank next.trace f ≡ rank r.trace f
   stays f some = rank_stays t r.trace f some
 
-  in_queue : (s f : ℕ) → among (everyone (queue_at r.hall s)) f ≡ true → IsSome (first_poll r.trace f)
-  in_queue s f a = in_queue_polled r o kept.matched s f a
-
   still_ranked : (s : ℕ) → AreRanked (rank next.trace) (everyone (queue_at r.hall s))
-  still_ranked s = ranked_alike (rank r.trace) (rank next.trace) (everyone (queue_at r.hall s)) (λ f a. stays f (in_queue s f a)) (o.ranked s)
+  still_ranked s = ranked_alike (rank r.trace) (rank next.trace) (everyone (queue_at r.hall s)) (λ f a. stays f (in_queue_polled r o kept.matched s f a)) (o.ranked s)
 
   as_ranked : (s : ℕ) → queue_at next.hall s ≡ queue_at r.hall s → AreRanked (rank next.trace) (everyone (queue_at next.hall s))
   as_ranked s same = subst (λ q. AreRanked (rank next.trace) (everyone q)) (sym same) (still_ranked s)
@@ -311,7 +308,7 @@ module _ (r : Run) (i g w : ℕ) (x : Future) (is : get r.hall.futures g ≡ Som
       by_how (inl (inl ready)) = as_ranked s (ready.queues s)
       by_how (inl (inr refused)) = as_ranked s (refused.queues s)
       by_how (inr pended) = pended.ranked (rank next.trace) still_ranked
-          (λ new k f a. omega (arith, rank_now new, stays f (in_queue k f a), rank_low f (in_queue k f a))) s
+          (λ new k f a. omega (arith, rank_now new, stays f (in_queue_polled r o kept.matched k f a), rank_low f (in_queue_polled r o kept.matched k f a))) s
 
   -- who had its permits before comes before who lags now
   after_old : (k s n : ℕ) → asked next.trace k ≡ Some (s, n) → 0 < n → HasPermits r k → (f : ℕ) (y : Future) → get next.hall.futures f ≡ Some y
