@@ -230,6 +230,16 @@ impl<W: Drop> BarrierCore<W> {
         }
     }
 
+    /// Whether the waker of this wait is registered, as that of one that waits for the end of its round is. It takes no memory.
+    pub fn is_registered(&self, wait: &BarrierWait) -> bool
+        ensures { result ≡ is_registered self.now wait.now }
+    {
+        match *wait {
+            BarrierWait::Arrived { slot, .. } => self.waiting.is_registered(&slot),
+            BarrierWait::New | BarrierWait::Done => false,
+        }
+    }
+
     /// How many wakers are registered. It takes no memory.
     pub fn registered(&self) -> usize
         ensures { result ≡ length self.now.waiting.wakers }
