@@ -2,6 +2,7 @@ pub mod Exists
 pub mod Inserts
 pub mod Keyeds
 pub mod Links
+pub mod Memory
 pub mod Onces
 pub mod Permits
 pub mod Refusals

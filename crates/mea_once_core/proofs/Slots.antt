@@ -53,8 +53,8 @@ on-err-first P Q (Err e) h = h.0
 module _ {V E W I : Type 0} (answers : I → W → Poll (Result V E) → I → Type 0) where
   pub polled-slot : (xs : List (Option (Entry V W))) (n : ℕ) (f : Entry V W) (call call' : InitCall I) (w : W) (r : Result (Poll (Result (Unit {0}) E)) (W × NoMemory)) (c : Cell V W)
       → slice_index_or xs n None ≡ Some f → PollsInit answers f.cell call w r c call' → AddAtMost (queues_more f.cell call.stage) f.cell c
-      → OnErr r ((c ≡ f.cell) × (call' ≡ call)) → IfOk r (λ poll. poll ≡ Ready (Ok tt) → IsSome c.value)
+      → OnErr r ((c ≡ f.cell) × (call' ≡ call)) → OnErr r (queues_more f.cell call.stage ≡ 1) → IfOk r (λ poll. poll ≡ Ready (Ok tt) → IsSome c.value)
       → IfSome (slice_index_or xs n None) (λ e. PollsSlot answers xs n e call w r (slice_set xs n (Some (record f { cell = c }))) call')
-  polled-slot xs n f call call' w r c is polled few stays fills =
+  polled-slot xs n f call call' w r c is polled few stays no_memory fills =
       subst (λ (o : Option (Entry V W)). IfSome o (λ e. PollsSlot answers xs n e call w r (slice_set xs n (Some (record f { cell = c }))) call')) (sym is)
-      (record { cell = c; polls = polled; few = few; stays = on-err-first (c ≡ f.cell) (call' ≡ call) r stays; fills = fills; sets = sets-slot xs n f (record f { cell = c }) is })
+      (record { cell = c; polls = polled; few = few; stays = on-err-first (c ≡ f.cell) (call' ≡ call) r stays; no_memory = no_memory; fills = fills; sets = sets-slot xs n f (record f { cell = c }) is })

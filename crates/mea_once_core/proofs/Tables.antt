@@ -137,6 +137,7 @@ module _ {K V W E I : Type 0} (answers : I → W → Poll (Result V E) → I →
         polls = told.polls;
         few = told.few;
         stays = told.stays;
+        no_memory = told.no_memory;
         fills = told.fills;
         sets = (record { changed = ap (option_map shown) told.sets.changed; others = λ m differs. ap (option_map shown) (told.sets.others m differs) }, λ k. ap (lookup (eq k)) pairs);
       })

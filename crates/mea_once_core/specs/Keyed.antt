@@ -5,7 +5,7 @@ use Rattle.std.specs.Coded.{Coded, code_by, coded×, coded_list}
 use Rattle.mea_base.specs.declared.no_memory.NoMemory.{NoMemory}
 use Rattle.mea_sets.specs.Poll.{Poll, Ready, Pending}
 use Rattle.mea_once_core.specs.Permit.{MayPoll, MayEnd}
-use Rattle.mea_once_core.specs.Cell.{Cell, PollsInit, Ends, Finds, rested}
+use Rattle.mea_once_core.specs.Cell.{Cell, PollsInit, Ends, Finds, queues_more, rested}
 use Rattle.mea_once_core.specs.Links.{Shown, left, Changes}
 use Rattle.mea_once_core.specs.Table.{Table, table_code, entry_at, number_of, HasCaller, HasRoom, IsSame, Sets, Joins, Makes, Unlists, NumbersGo, is_last, fresh_entry}
 use Rattle.mea_once_core.specs.declared.init_call.InitCall.{InitCall}
@@ -86,6 +86,17 @@ module _ {K V W : Type 0} (eq : K → K → Bool) where
 
   abbrev pub MayPollKey : {I : Type 0} → Keyed K V W → KeyCall K I → Type 0
   MayPollKey k call = MayPollAt call.stage k call.call
+
+  -- the poll of such a call takes memory beside that for a clone: a new one makes an entry for its key, or queues at the one
+  -- that its key has; another queues at its own
+  abbrev pub TakesMemoryAt : {I : Type 0} → KeyStage K → Keyed K V W → InitCall I → Type 0
+  TakesMemoryAt (New key) k call = (n : ℕ) (e : Shown V W) → number_of eq k.table key ≡ Some n → entry_at k.table n ≡ Some e → queues_more e.cell call.stage ≡ 1
+  TakesMemoryAt (Calls n) k call = (e : Shown V W) → entry_at k.table n ≡ Some e → queues_more e.cell call.stage ≡ 1
+  TakesMemoryAt (Kept n) k call = ⊥
+  TakesMemoryAt Done k call = ⊥
+
+  abbrev pub TakesMemory : {I : Type 0} → Keyed K V W → KeyCall K I → Type 0
+  TakesMemory k call = TakesMemoryAt call.stage k call.call
 
   abbrev pub MayEndAt : {I : Type 0} → KeyStage K → Keyed K V W → InitCall I → Type 0
   MayEndAt (New key) k call = Unit {0}

@@ -109,6 +109,7 @@ module _ {K V W E I : Type 0} (answers : I → W → Poll (Result V E) → I →
     pub polls : PollsInit answers e.cell call w r cell call'
     pub few : AddAtMost (queues_more e.cell call.stage) e.cell cell
     pub stays : OnErr r (cell ≡ e.cell)
+    pub no_memory : OnErr r (queues_more e.cell call.stage ≡ 1)
     pub fills : IfOk r (λ poll. poll ≡ Ready (Ok tt) → IsSome cell.value)
     pub sets : Sets eq t t' n (Some (record e { cell = cell }))
 

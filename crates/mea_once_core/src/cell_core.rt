@@ -108,6 +108,7 @@ impl<T: Drop, W: Drop> CellCore<T, W> {
         ensures turn { IfOk result (λ turn. HasTurn turn self.new stage.new) }
         ensures held { HoldsAs self.old.permit stage.old self.new.permit stage.new }
         ensures few { AddAtMost (queues_more self.old stage.old) self.old self.new }
+        ensures no_memory { OnErr result (queues_more self.old stage.old ≡ 1) }
         ensures err { OnErr result ((self.new ≡ self.old) × (stage.new ≡ stage.old)) }
         ensures sound { IsSound self.new }
     {
@@ -129,6 +130,7 @@ impl<T: Drop, W: Drop> CellCore<T, W> {
         ensures turn { IfOk result (λ turn. HasTurn turn self.new stage.new) }
         ensures held { HoldsAs self.old.permit Stage.New self.new.permit stage.new }
         ensures few { AddAtMost (queues_more self.old Stage.New) self.old self.new }
+        ensures no_memory { OnErr result (queues_more self.old Stage.New ≡ 1) }
         ensures err { OnErr result ((self.new ≡ self.old) × (stage.new ≡ stage.old)) }
         ensures sound { IsSound self.new }
     {
@@ -210,6 +212,7 @@ impl<T: Drop, W: Drop> CellCore<T, W> {
         ensures again { IfOk result (λ poll. poll ≡ Poll.Pending → I.may_poll call.new.init) }
         ensures few { AddAtMost (queues_more self.old call.old.stage) self.old self.new }
         ensures fills { IfOk result (λ poll. poll ≡ Poll.Ready (Ok tt) → IsSome self.new.value) }
+        ensures no_memory { OnErr result (queues_more self.old call.old.stage ≡ 1) }
         ensures err { OnErr result ((self.new ≡ self.old) × (call.new ≡ call.old)) }
         ensures sound { IsSound self.new }
     {
@@ -277,6 +280,7 @@ impl<T: Drop, W: Drop> CellCore<T, W> {
     ) -> Result<Poll<Result<(), T>>, (W, NoMemory)>
         requires { MayInsert self.old call.old }
         ensures polls { PollsInsert self.old call.old waker result self.new call.new }
+        ensures no_memory { OnErr result (queues_more self.old call.old.stage ≡ 1) }
         ensures err { OnErr result ((self.new ≡ self.old) × (call.new ≡ call.old)) }
         ensures sound { IsSound self.new }
     {

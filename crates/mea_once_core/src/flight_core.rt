@@ -28,7 +28,7 @@ impl<K: Eq + Hash, V, S: BuildHasher, W> Model for FlightCore<K, V, S, W> {
 }
 
 impl<K: Eq + Hash + Drop, V: Clone, S: BuildHasher + Drop, W: Drop> FlightCore<K, V, S, W> {
-    ghost use Rattle.mea_once_core.specs.Keyed.{IsSameKeyed, Discards, MayPollKey, MayEndKey, EndsAt, PollsKey, MayRun, value_for};
+    ghost use Rattle.mea_once_core.specs.Keyed.{TakesMemory, IsSameKeyed, Discards, MayPollKey, MayEndKey, EndsAt, PollsKey, MayRun, value_for};
     ghost use Rattle.mea_once_core.specs.Table.{entry_at, number_of};
     ghost use Rattle.mea_once_core.specs.Waiting.{waiting_in};
 
@@ -57,6 +57,7 @@ impl<K: Eq + Hash + Drop, V: Clone, S: BuildHasher + Drop, W: Drop> FlightCore<K
         ensures polls { PollsKey I.answers K.eq true self.old call.old waker result self.new call.new }
         ensures back { IfErr result (λ failed. IfSome failed.0 (λ _. IsSameKeyed K.eq self.old self.new × (call.new ≡ call.old))) }
         ensures returned { ((value : V) → V.is_infallible value) → IfErr result (λ failed. IsSome failed.0) }
+        ensures no_memory { ((value : V) → V.is_infallible value) → OnErr result (TakesMemory K.eq self.old call.old) }
     {
         self.keyed.poll(call, waker, true)
     }
@@ -96,6 +97,7 @@ impl<K: Eq + Hash + Drop, V: Clone, S: BuildHasher + Drop, W: Drop> FlightCore<K
         requires init { I.may_poll call.old.call.init }
         ensures allowed { MayPollKey K.eq self.old call.old → PollsKey I.answers K.eq true self.old call.old waker result self.new call.new }
         ensures alone { ¬ MayPollKey K.eq self.old call.old → (self.new ≡ self.old) × MatchResult result (λ poll. I.answers call.old.call.init waker poll call.new.call.init) (λ _. ⊥) }
+        ensures no_memory { ((value : V) → V.is_infallible value) → OnErr result (TakesMemory K.eq self.old call.old) }
     {
         if self.poll_work_allowed(call) {
             return self.poll_work(call, waker);

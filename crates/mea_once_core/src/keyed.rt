@@ -39,13 +39,13 @@ impl<K: Eq + Hash, V, S: BuildHasher, W> Model for Keyed<K, V, S, W> {
 }
 
 impl<K: Eq + Hash + Drop, V: Clone, S: BuildHasher + Drop, W: Drop> Keyed<K, V, S, W> {
-    ghost use Rattle.mea_once_core.specs.Cell.{Cell, Finds, PollsInit};
+    ghost use Rattle.mea_once_core.specs.Cell.{Cell, Finds, PollsInit, queues_more};
     ghost use Rattle.mea_once_core.specs.Permit.{MayPoll, MayEnd};
     ghost use Rattle.mea_once_core.specs.Inserts.{IsIdle, last_value};
     ghost use Rattle.mea_once_core.specs.declared.stage.Stage.TheVariants as stages;
     ghost use Rattle.mea_once_core.specs.Waiting.{waiting_in};
     ghost use Rattle.mea_once_core.specs.Table.{number_of, HasCaller, HasRoom, Joins, Makes, fresh_entry};
-    ghost use Rattle.mea_once_core.specs.Keyed.{value_for, GivesUp, EndsCell, IsSameKeyed, LeavesEntry, Discards, MayPollKey, MayEndKey, EndsAt, HandsOut, Told, StepsCell, PollsCaller, StartsAt, StartsNew, HandsFirst, PollsKey, MayRun};
+    ghost use Rattle.mea_once_core.specs.Keyed.{value_for, GivesUp, EndsCell, IsSameKeyed, LeavesEntry, Discards, MayPollKey, MayEndKey, EndsAt, HandsOut, Told, StepsCell, PollsCaller, StartsAt, StartsNew, HandsFirst, PollsKey, MayRun, TakesMemory};
 
     // A table with no entry. It takes no memory.
     pub(crate) fn with_hasher(alloc: Global, hasher: S) -> Self
@@ -110,6 +110,7 @@ impl<K: Eq + Hash + Drop, V: Clone, S: BuildHasher + Drop, W: Drop> Keyed<K, V, 
         ensures polls { PollsKey I.answers K.eq once self.old call.old waker result self.new call.new }
         ensures back { IfErr result (λ failed. IfSome failed.0 (λ _. IsSameKeyed K.eq self.old self.new × (call.new ≡ call.old))) }
         ensures returned { ((value : V) → V.is_infallible value) → IfErr result (λ failed. IsSome failed.0) }
+        ensures no_memory { ((value : V) → V.is_infallible value) → OnErr result (TakesMemory K.eq self.old call.old) }
     {
         match call.stage {
             KeyStage::New { .. } => self.begin(call, waker, once),
@@ -134,6 +135,7 @@ impl<K: Eq + Hash + Drop, V: Clone, S: BuildHasher + Drop, W: Drop> Keyed<K, V, 
         ensures polls { PollsKey I.answers K.eq once self.old call.old waker result self.new call.new }
         ensures back { IfErr result (λ failed. IfSome failed.0 (λ _. IsSameKeyed K.eq self.old self.new × (call.new ≡ call.old))) }
         ensures returned { ((value : V) → V.is_infallible value) → IfErr result (λ failed. IsSome failed.0) }
+        ensures no_memory { ((value : V) → V.is_infallible value) → OnErr result (TakesMemory K.eq self.old call.old) }
     {
         let KeyStage::New { key } = std::mem::replace(&mut call.stage, KeyStage::Done) else {
             unreachable!();
@@ -161,6 +163,7 @@ impl<K: Eq + Hash + Drop, V: Clone, S: BuildHasher + Drop, W: Drop> Keyed<K, V, 
         ensures starts { (e : Shown V W) → entry_at self.old.table number ≡ Some e → StartsAt I.answers K.eq once self.old key number e call.old.call waker result self.new call.new.call call.new.stage }
         ensures back { IfErr result (λ failed. IfSome failed.0 (λ _. IsSameKeyed K.eq self.old self.new × (call.new ≡ record call.old { stage = KeyStage.New key }))) }
         ensures returned { ((value : V) → V.is_infallible value) → IfErr result (λ failed. IsSome failed.0) }
+        ensures no_memory { ((value : V) → V.is_infallible value) → OnErr result ((e : Shown V W) → entry_at self.old.table number ≡ Some e → queues_more e.cell call.old.call.stage ≡ 1) }
     {
         if self.table.cell(number).is_full() {
             return self.hand_out_first(call, key, number, waker);
@@ -193,6 +196,7 @@ impl<K: Eq + Hash + Drop, V: Clone, S: BuildHasher + Drop, W: Drop> Keyed<K, V, 
         ensures hands { IfSome (entry_at self.old.table number) (λ e. HandsFirst key call.old.call waker e result call.new.call call.new.stage) }
         ensures same { self.new ≡ self.old }
         ensures back { IfErr result (λ failed. (failed.0 ≡ Some waker) × (call.new ≡ record call.old { stage = KeyStage.New key })) }
+        ensures succeeds { ((value : V) → V.is_infallible value) → IfSome (entry_at self.old.table number) (λ e. IsSome e.cell.value → IsOk result) }
     {
         let Some(value) = self.value_of(number) else {
             call.stage = KeyStage::New { key };
@@ -257,6 +261,7 @@ impl<K: Eq + Hash + Drop, V: Clone, S: BuildHasher + Drop, W: Drop> Keyed<K, V, 
         ensures polls { (e : Shown V W) → entry_at self.old.table number ≡ Some e → PollsCaller I.answers K.eq once self.old number e call.old.call waker result self.new call.new.call call.new.stage }
         ensures back { IfErr result (λ failed. IfSome failed.0 (λ _. IsSameKeyed K.eq self.old self.new × (call.new ≡ call.old))) }
         ensures returned { ((value : V) → V.is_infallible value) → IfErr result (λ failed. IsSome failed.0) }
+        ensures no_memory { ((value : V) → V.is_infallible value) → OnErr result ((e : Shown V W) → entry_at self.old.table number ≡ Some e → queues_more e.cell call.old.call.stage ≡ 1) }
     {
         if self.table.cell(number).finds(call.call.stage) {
             let Some(value) = self.value_of(number) else {
@@ -326,6 +331,7 @@ impl<K: Eq + Hash + Drop, V: Clone, S: BuildHasher + Drop, W: Drop> Keyed<K, V, 
         ensures handed { (e : Shown V W) → entry_at self.old.table number ≡ Some e → HandsOut K.eq (Some waker) (KeyStage.Kept number) self.old number e result self.new call.new.stage }
         ensures call { call.new.call ≡ call.old.call }
         ensures back { IfErr result (λ failed. (failed.0 ≡ Some waker) × (self.new ≡ self.old) × (call.new ≡ call.old)) }
+        ensures succeeds { ((value : V) → V.is_infallible value) → IsOk result }
     {
         let Some(value) = self.value_of(number) else {
             return Err((Some(waker), NoMemory));
@@ -361,6 +367,7 @@ impl<K: Eq + Hash + Drop, V: Clone, S: BuildHasher + Drop, W: Drop> Keyed<K, V, 
         ensures back { OnErr result (call.new ≡ call.old) }
         ensures steps { (e : Shown V W) → entry_at self.old.table number ≡ Some e → (cell : Cell V W) × StepsCell I.answers K.eq self.old number e call.old waker result cell self.new call.new }
         ensures same { OnErr result (IsSameKeyed K.eq self.old self.new) }
+        ensures no_memory { (e : Shown V W) → entry_at self.old.table number ≡ Some e → OnErr result (queues_more e.cell call.old.stage ≡ 1) }
         ensures fills { IfOk result (λ poll. poll ≡ Poll.Ready (Ok tt) → IfSome (entry_at self.new.table number) (λ e. IsSome e.cell.value)) }
     {
         let more = self.table.cell(number).queues_more(call.stage);
@@ -435,6 +442,7 @@ impl<K: Eq + Hash + Drop, V: Clone, S: BuildHasher + Drop, W: Drop> Keyed<K, V, 
     pub(crate) fn get(&self, key: &K) -> Result<Option<V>, NoMemory>
         requires clones { (x y : V) → V.is_clone x y → y ≡ x }
         ensures is { IfOk result (λ value. value ≡ value_for K.eq self.now key.now) }
+        ensures no_memory { OnErr result (IsSome (value_for K.eq self.now key.now)) }
         ensures succeeds { ((value : V) → V.is_infallible value) → IsOk result }
     {
         let Some(number) = self.table.get(key) else {

@@ -27,7 +27,7 @@ impl<K: Eq + Hash, V, S: BuildHasher, W> Model for MapCore<K, V, S, W> {
 }
 
 impl<K: Eq + Hash + Drop, V: Clone, S: BuildHasher + Drop, W: Drop> MapCore<K, V, S, W> {
-    ghost use Rattle.mea_once_core.specs.Keyed.{IsSameKeyed, Discards, MayPollKey, MayEndKey, EndsAt, PollsKey, MayRun, value_for};
+    ghost use Rattle.mea_once_core.specs.Keyed.{TakesMemory, IsSameKeyed, Discards, MayPollKey, MayEndKey, EndsAt, PollsKey, MayRun, value_for};
     ghost use Rattle.mea_once_core.specs.Table.{entry_at, number_of};
     ghost use Rattle.mea_once_core.specs.Waiting.{waiting_in};
     ghost use Rattle.mea_once_core.specs.Links.{Shown};
@@ -86,6 +86,7 @@ impl<K: Eq + Hash + Drop, V: Clone, S: BuildHasher + Drop, W: Drop> MapCore<K, V
         ensures polls { PollsKey I.answers K.eq false self.old call.old waker result self.new call.new }
         ensures back { IfErr result (λ failed. IfSome failed.0 (λ _. IsSameKeyed K.eq self.old self.new × (call.new ≡ call.old))) }
         ensures returned { ((value : V) → V.is_infallible value) → IfErr result (λ failed. IsSome failed.0) }
+        ensures no_memory { ((value : V) → V.is_infallible value) → OnErr result (TakesMemory K.eq self.old call.old) }
     {
         self.keyed.poll(call, waker, false)
     }
@@ -102,6 +103,7 @@ impl<K: Eq + Hash + Drop, V: Clone, S: BuildHasher + Drop, W: Drop> MapCore<K, V
     pub fn get(&self, key: &K) -> Result<Option<V>, NoMemory>
         requires clones { (x y : V) → V.is_clone x y → y ≡ x }
         ensures is { IfOk result (λ value. value ≡ value_for K.eq self.now key.now) }
+        ensures no_memory { OnErr result (IsSome (value_for K.eq self.now key.now)) }
         ensures succeeds { ((value : V) → V.is_infallible value) → IsOk result }
     {
         self.keyed.get(key)
@@ -120,6 +122,7 @@ impl<K: Eq + Hash + Drop, V: Clone, S: BuildHasher + Drop, W: Drop> MapCore<K, V
         requires clones { (x y : V) → V.is_clone x y → y ≡ x }
         ensures value { IfOk result (λ value. value ≡ value_for K.eq self.old key.now) }
         ensures ok { OnOk result (Discards K.eq self.old key.now self.new) }
+        ensures no_memory { OnErr result (IsSome (value_for K.eq self.old key.now)) }
         ensures err { OnErr result (self.new ≡ self.old) }
         ensures succeeds { ((value : V) → V.is_infallible value) → IsOk result }
     {
@@ -148,6 +151,7 @@ impl<K: Eq + Hash + Drop, V: Clone, S: BuildHasher + Drop, W: Drop> MapCore<K, V
         requires init { I.may_poll call.old.call.init }
         ensures allowed { MayPollKey K.eq self.old call.old → PollsKey I.answers K.eq false self.old call.old waker result self.new call.new }
         ensures alone { ¬ MayPollKey K.eq self.old call.old → (self.new ≡ self.old) × MatchResult result (λ poll. I.answers call.old.call.init waker poll call.new.call.init) (λ _. ⊥) }
+        ensures no_memory { ((value : V) → V.is_infallible value) → OnErr result (TakesMemory K.eq self.old call.old) }
     {
         if self.poll_compute_allowed(call) {
             return self.poll_compute(call, waker);

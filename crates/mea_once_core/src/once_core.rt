@@ -1,5 +1,5 @@
 ghost use Rattle.std.specs.Prelude.{◌≡◌, ◌+◌, ◌≤◌, ◌↔◌, [], ◌∷◌, ◌++◌, length, true, IsTrue, IsOk, IfOk, IfSome, IfNone, OnOk, OnErr};
-ghost use Rattle.mea_sets.specs.WaitSet.{has_given};
+ghost use Rattle.mea_sets.specs.WaitSet.{has_given, is_registered};
 ghost use Rattle.mea_sets.specs.Countdown.{Counting, PollsCount};
 ghost use Rattle.mea_meet_core.specs.Count.{usable};
 ghost use Rattle.mea_sem_core.specs.Core.{held_of};
@@ -84,6 +84,7 @@ impl<W: Drop> OnceCore<W> {
         requires init { I.may_poll call.old.init }
         ensures again { IfOk result (λ poll. poll ≡ Poll.Pending → I.may_poll call.new.init) }
         ensures polls { PollsCall I.answers self.old call.old waker result self.new call.new }
+        ensures no_memory { OnErr result (cells.queues_more self.old.cell call.old.stage ≡ 1) }
         ensures err { OnErr result ((self.new ≡ self.old) × (call.new ≡ call.old)) }
         ensures sound { IsSound self.new }
     {
@@ -115,6 +116,7 @@ impl<W: Drop> OnceCore<W> {
         ensures polls { TurnsCall self.old stage.old waker result self.new stage.new }
         ensures turn { IfOk result (λ turn. HasTurn turn self.new.cell stage.new) }
         ensures held { HoldsAs self.old.cell.permit stage.old self.new.cell.permit stage.new }
+        ensures no_memory { OnErr result (cells.queues_more self.old.cell stage.old ≡ 1) }
         ensures err { OnErr result ((self.new ≡ self.old) × (stage.new ≡ stage.old)) }
         ensures sound { IsSound self.new }
     {
@@ -179,15 +181,19 @@ impl<W: Drop> OnceCore<W> {
     // ---- waits
 
     /// Is ready where a call has completed. Else the waker is registered, in place of this wait's earlier
-    /// one if that is registered; with no memory nothing has changed.
+    /// one if that is registered, which takes no memory; with no memory for a further one nothing has changed.
     pub fn poll_wait(&mut self, wait: &mut LatchWait, waker: W) -> Result<Poll<()>, (W, NoMemory)>
         requires { has_given self.old.done.waiting wait.old ≡ true }
         ensures polls { PollsCount self.old.done wait.old waker result self.new.done wait.new }
         ensures rest { self.new ≡ record self.old { done = self.new.done } }
+        ensures replaces { is_registered self.old.done.waiting wait.old ≡ true → IsOk result }
         ensures sound { IsSound self.new }
     {
         if self.is_completed() {
             return Ok(Poll::Ready(()));
+        }
+        if self.done.is_registered(wait) {
+            return self.done.poll(wait, waker);
         }
         let Some(registered) = self.done.registered_with(wait) else {
             return Err((waker, NoMemory));
@@ -312,6 +318,7 @@ impl<W: Drop> OnceCore<W> {
     ) -> Result<Poll<()>, (W, NoMemory)>
         ensures polls { PollsCount self.old.done (usable self.old.done wait.old) waker result self.new.done wait.new }
         ensures rest { self.new ≡ record self.old { done = self.new.done } }
+        ensures replaces { is_registered self.old.done.waiting wait.old ≡ true → IsOk result }
         ensures sound { IsSound self.new }
     {
         if !self.poll_wait_allowed(wait) {

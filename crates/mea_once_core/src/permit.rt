@@ -47,6 +47,7 @@ impl<W: Drop> Permit<W> {
         ensures takes { IfOk result (λ turn. TakesPermit self.old turn self.new) }
         ensures held { HoldsAs self.old stage.old self.new stage.new }
         ensures few { length self.new.queue + length self.new.wakes ≤ length self.old.queue + length self.old.wakes + asks_more self.old stage.old }
+        ensures no_memory { OnErr result (asks_more self.old stage.old ≡ 1) }
         ensures err { OnErr result ((self.new ≡ self.old) × (stage.new ≡ stage.old)) }
         ensures sound { IsPermit self.new }
     {

@@ -7,6 +7,7 @@ use Rattle.mea_once_core.specs.Keyed.{Keyed, IsSameKeyed, StepsCell}
 use Rattle.mea_once_core.proofs.Onces.{ok_no_err}
 use Rattle.mea_once_core.proofs.Tables.{at_entry}
 use Rattle.mea_once_core.proofs.Keyeds.{moved, room-after, refused-cell, on_ok_of, queue-within}
+use Rattle.mea_once_core.proofs.Memory.{one-of}
 use Rattle.mea_once_core.proofs.Refusals.{refused-same, fills-entry}
 use Rattle.mea_once_core.proofs.keyed.Keyed.poll_cell.Goals as goal
 
@@ -105,3 +106,14 @@ returns-clause-fills g c =
     let p = c.poll_init-answer.ensures.polls has.0 has.1 in
     let r = c.move_wakes.ensures.rests (record has.0 { cell = p.cell }) p.sets.0.changed in
     fills-entry g.K.PartialEq.eq c.poll_init-answer.result c.move_wakes.new.self c.args.number has.0 p.cell p.fills r.sets.0.changed
+
+pub returns-then-is_err-clause-no_memory : goal.returns-then-is_err-clause-no_memory
+returns-then-is_err-clause-no_memory g c = λ e there.
+    let here = subst (λ (s : Keyed g.row.K.Denot g.row.V.Denot g.row.W.Denot). entry_at s.table c.args.number ≡ Some e) (sym c.self.view_is) there in
+    let more : c.queues_more-more.result ≡ queues_more e.cell c.args.call.now.stage = c.queues_more-more.ensures.is ∙ ap (λ x. queues_more x c.args.call.now.stage) (at_entry (λ s. c.cell.result.now ≡ s.cell) (entry_at c.self.inside.table c.args.number) e here c.cell.ensures) in
+    sym more ∙ one-of c.queues_more-more.result c.queues_more-more.ensures.small (λ none. ok_no_err c.reserve.result (c.reserve.ensures.succeeds none) (sym c.is_err.ensures.value ∙ c.if-is_err.true))
+
+pub returns-clause-no_memory : goal.returns-clause-no_memory
+returns-clause-no_memory g c = λ e there.
+    let here = subst (λ (s : Keyed g.row.K.Denot g.row.V.Denot g.row.W.Denot). entry_at s.table c.args.number ≡ Some e) (sym c.self.view_is) there in
+    (c.poll_init-answer.ensures.polls e here).no_memory

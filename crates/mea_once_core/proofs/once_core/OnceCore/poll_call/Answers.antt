@@ -1,7 +1,8 @@
 use Rattle.std.proofs.Common.{◌≡◌, ◌++◌, ◌∙◌, Ok, Err, refl, sym, subst}
-use Rattle.mea_once_core.specs.Cell.{PollsInit}
+use Rattle.mea_once_core.specs.Cell.{PollsInit, queues_more}
 use Rattle.mea_once_core.specs.Once.{Once, woken, PollsCall}
 use Rattle.mea_once_core.proofs.Onces.{refused, refuses_call, polls_call, ok_no_err}
+use Rattle.mea_once_core.proofs.Memory.{one-of}
 use Rattle.mea_once_core.proofs.once_core.OnceCore.poll_call.Goals as goal
 
 pub returns-then-is_err-clause-polls : goal.returns-then-is_err-clause-polls
@@ -34,3 +35,12 @@ returns-in-Ok-clause-polls g c =
       c.settle.ensures.done,
       subst (λ ws. c.settle.new.outbox.wakers ≡ (ws ++ woken c.poll_init.new.self.value c.self.inside.done.count) ++ c.poll_init.new.self.permit.wakes) c.reserve.ensures.same c.settle.ensures.wakers,
     ))
+
+pub returns-then-is_err-clause-no_memory : goal.returns-then-is_err-clause-no_memory
+returns-then-is_err-clause-no_memory g c =
+    subst (λ (s : Once g.row.W.Denot). queues_more s.cell c.args.call.now.stage ≡ 1) c.self.view_is
+    (sym c.queues_more-more.ensures.is
+    ∙ one-of c.queues_more-more.result c.queues_more-more.ensures.small (λ none. ok_no_err c.reserve.result (c.reserve.ensures.succeeds none) (sym c.is_err.ensures.value ∙ c.if-is_err.true)))
+
+pub returns-in-Err-clause-no_memory : goal.returns-in-Err-clause-no_memory
+returns-in-Err-clause-no_memory g c = subst (λ (s : Once g.row.W.Denot). queues_more s.cell c.args.call.now.stage ≡ 1) c.self.view_is c.in-Err.ensures.no_memory

@@ -1,8 +1,9 @@
 use Rattle.std.proofs.Common.{◌≡◌, ◌++◌, ◌∙◌, Ok, Err, refl, sym, subst}
-use Rattle.mea_once_core.specs.Cell.{Cell, PollsTurn}
+use Rattle.mea_once_core.specs.Cell.{Cell, PollsTurn, queues_more}
 use Rattle.mea_once_core.specs.Permit.{HoldsAs}
 use Rattle.mea_once_core.specs.Once.{Once, woken, TurnsCall}
 use Rattle.mea_once_core.proofs.Onces.{refused_turn, refuses_turn, turns_call, turn_settled, ok_no_err}
+use Rattle.mea_once_core.proofs.Memory.{one-of}
 use Rattle.mea_once_core.proofs.once_core.OnceCore.poll_turn.Goals as goal
 
 pub returns-then-is_err-clause-polls : goal.returns-then-is_err-clause-polls
@@ -52,3 +53,12 @@ returns-in-Err-clause-err g c = ((λ i. record { cell = c.in-Err.ensures.err.0 i
 
 pub returns-then-is_err-clause-err : goal.returns-then-is_err-clause-err
 returns-then-is_err-clause-err g c = ((λ i. record { cell = c.self.inside.cell; done = c.self.inside.done.count; wakes = c.reserve.ensures.same i }) ∙ c.self.view_is, refl)
+
+pub returns-then-is_err-clause-no_memory : goal.returns-then-is_err-clause-no_memory
+returns-then-is_err-clause-no_memory g c =
+    subst (λ (s : Once g.row.W.Denot). queues_more s.cell c.args.stage.now ≡ 1) c.self.view_is
+    (sym c.queues_more-more.ensures.is
+    ∙ one-of c.queues_more-more.result c.queues_more-more.ensures.small (λ none. ok_no_err c.reserve.result (c.reserve.ensures.succeeds none) (sym c.is_err.ensures.value ∙ c.if-is_err.true)))
+
+pub returns-in-Err-clause-no_memory : goal.returns-in-Err-clause-no_memory
+returns-in-Err-clause-no_memory g c = subst (λ (s : Once g.row.W.Denot). queues_more s.cell c.args.stage.now ≡ 1) c.self.view_is c.in-Err.ensures.no_memory
