@@ -10,9 +10,9 @@ use Rattle.mea_shot.specs.declared.view.View.TheVariants.{Sends, Receives}
 use Rattle.mea_shot.specs.declared.view.SendStage.{SendStage}
 use Rattle.mea_shot.specs.declared.view.SendStage.TheVariants.{Ready, Shut, Writing, WritingShut, Finishing, Leaving, Sent, Refused, Gone}
 use Rattle.mea_shot.specs.declared.view.RecvStage.{RecvStage}
-use Rattle.mea_shot.specs.declared.view.RecvStage.TheVariants.{Waiting, Holding, Published, Woken, Full, Closed, Ended}
+use Rattle.mea_shot.specs.declared.view.RecvStage.TheVariants.{Waiting, Holding, Published, Woken, Full, Received, Closed, Ended}
 use Rattle.std.specs.Prelude.{bit_xor}
-use Rattle.mea_shot.specs.Steps.{opens, asks, puts, finishes, flips, leaves, looks, grasps, publishes, reclaims, takes_message, closes, IsSender, IsWriting, IsUnpublished, IsPublished}
+use Rattle.mea_shot.specs.Steps.{opens, asks, puts, finishes, flips, leaves, looks, grasps, publishes, reclaims, takes_message, closes, IsSender, IsWriting, IsOver, IsUnpublished, IsPublished}
 use Rattle.mea_shot.proofs.Keeps.{SendTurn, RecvTurn, sends, receives}
 
 ready_shut : {W : Type 0} → ◌≡◌ {A = View W} (Sends Ready) (Sends Shut) → ⊥
@@ -24,8 +24,20 @@ waiting_full e = cc
 waiting_closed : {W : Type 0} → ◌≡◌ {A = View W} (Receives Waiting) (Receives Closed) → ⊥
 waiting_closed e = cc
 
+waiting_received : {W : Type 0} → ◌≡◌ {A = View W} (Receives Waiting) (Receives Received) → ⊥
+waiting_received e = cc
+
+full_received : {W : Type 0} → ◌≡◌ {A = View W} (Receives Full) (Receives Received) → ⊥
+full_received e = cc
+
 full_closed : {W : Type 0} → ◌≡◌ {A = View W} (Receives Full) (Receives Closed) → ⊥
 full_closed e = cc
+
+waiting_over : {W : Type 0} → IsOver {W = W} (Receives Waiting) → ⊥
+waiting_over o = elim o [ inl e ↦ waiting_received e | inr e ↦ waiting_closed e ]
+
+full_over : {W : Type 0} → IsOver {W = W} (Receives Full) → ⊥
+full_over o = elim o [ inl e ↦ full_received e | inr e ↦ full_closed e ]
 
 module _ {T W : Type 0} (fits : T → Type 0) where
   opens_ready : (b : RecvStage W) (n : ℕ) (h g : maybe.Option (Slot T W)) → Legal fits Ready b n h g → SendTurn fits ([]) (λ n. n) (opens fits (step 2 0 0 0 maybe.none) (Sends Ready, [])) b n h g
@@ -85,35 +97,41 @@ module _ {T W : Type 0} (fits : T → Type 0) where
   leaves_each y other n h g l = absurd l
 
   looks_waiting : (a : SendStage) (n : ℕ) (h g : maybe.Option (Slot T W)) → Legal fits a Waiting n h g → RecvTurn fits ([]) (λ n. n) (looks fits (step 2 0 0 0 maybe.none) (Receives Waiting, [])) a n h g
-  looks_waiting Ready n h g l = rw l.0 (Waiting, (keeps, h, g, tt, refl, (refl, l.1, l.2), ((refl, refl, refl), (λ e. absurd (waiting_full e)), (λ e. absurd (waiting_closed e)))))
-  looks_waiting Writing n h g l = rw l.0 (Waiting, (keeps, h, g, tt, refl, (refl, l.1), ((refl, refl, refl), (λ e. absurd (waiting_full e)), (λ e. absurd (waiting_closed e)))))
-  looks_waiting Sent n h g l = rw l.0 (Full, (keeps, h, g, tt, refl, (refl, l.1), (refl, (λ e. absurd (waiting_full e)), (λ e. absurd (waiting_closed e)))))
-  looks_waiting Gone n h g l = rw l (Closed, (keeps, h, g, tt, refl, refl, (refl, (λ e. absurd (waiting_full e)), (λ e. absurd (waiting_closed e)))))
+  looks_waiting Ready n h g l = rw l.0 (Waiting, (keeps, h, g, tt, refl, (refl, l.1, l.2), ((refl, refl, refl), (λ e. absurd (waiting_full e)), (λ e. absurd (waiting_over e)))))
+  looks_waiting Writing n h g l = rw l.0 (Waiting, (keeps, h, g, tt, refl, (refl, l.1), ((refl, refl, refl), (λ e. absurd (waiting_full e)), (λ e. absurd (waiting_over e)))))
+  looks_waiting Sent n h g l = rw l.0 (Full, (keeps, h, g, tt, refl, (refl, l.1), (refl, (λ e. absurd (waiting_full e)), (λ e. absurd (waiting_over e)))))
+  looks_waiting Gone n h g l = rw l (Closed, (keeps, h, g, tt, refl, refl, ((inr refl, refl), (λ e. absurd (waiting_full e)), (λ e. absurd (waiting_over e)))))
   looks_waiting other n h g l = absurd l
 
   looks_full : (c : List (ℕ × Slot T W)) → (a : SendStage) (n : ℕ) (h g : maybe.Option (Slot T W)) → Legal fits a Full n h g → RecvTurn fits (c) (λ n. n) (looks fits (step 2 0 0 0 maybe.none) (Receives Full, c)) a n h g
-  looks_full c Sent n h g l = rw l.0 (Full, (keeps, h, g, tt, refl, (refl, l.1), (refl, (λ e. refl), (λ e. absurd (full_closed e)))))
+  looks_full c Sent n h g l = rw l.0 (Full, (keeps, h, g, tt, refl, (refl, l.1), (refl, (λ e. refl), (λ e. absurd (full_over e)))))
   looks_full c other n h g l = absurd l
 
+  looks_received : (c : List (ℕ × Slot T W)) → (a : SendStage) (n : ℕ) (h g : maybe.Option (Slot T W)) → Legal fits a Received n h g → RecvTurn fits (c) (λ n. n) (looks fits (step 2 0 0 0 maybe.none) (Receives Received, c)) a n h g
+  looks_received c Sent n h g l = rw l (Received, (keeps, h, g, tt, refl, refl, ((inl (refl, refl), refl), (λ e. absurd (full_received (sym e))), (λ e. (refl, refl)))))
+  looks_received c other n h g l = absurd l
+
   looks_closed : (c : List (ℕ × Slot T W)) → (a : SendStage) (n : ℕ) (h g : maybe.Option (Slot T W)) → Legal fits a Closed n h g → RecvTurn fits (c) (λ n. n) (looks fits (step 2 0 0 0 maybe.none) (Receives Closed, c)) a n h g
-  looks_closed c Sent n h g l = rw l (Closed, (keeps, h, g, tt, refl, refl, (refl, (λ e. absurd (full_closed (sym e))), (λ e. refl))))
-  looks_closed c Gone n h g l = rw l (Closed, (keeps, h, g, tt, refl, refl, (refl, (λ e. absurd (full_closed (sym e))), (λ e. refl))))
+  looks_closed c Gone n h g l = rw l (Closed, (keeps, h, g, tt, refl, refl, ((inr refl, refl), (λ e. absurd (full_closed (sym e))), (λ e. (refl, refl)))))
   looks_closed c other n h g l = absurd l
 
   grasps_waiting : (a : SendStage) (n : ℕ) (h g : maybe.Option (Slot T W)) → Legal fits a Waiting n h g → RecvTurn fits ([]) (λ n. n) (grasps fits (step 2 0 0 0 maybe.none) (Receives Waiting, [])) a n h g
-  grasps_waiting Ready n h g l = rw l.0 (Holding, (takes 1 None, h, maybe.none, ap maybe.some l.2, refl, (refl, l.1), ((refl, refl), (λ e. absurd (waiting_full e)), (λ e. absurd (waiting_closed e)))))
-  grasps_waiting Writing n h g l = rw l.0 (Holding, (takes 1 None, h, maybe.none, ap maybe.some l.1, refl, refl, ((refl, refl), (λ e. absurd (waiting_full e)), (λ e. absurd (waiting_closed e)))))
-  grasps_waiting Sent n h g l = rw l.0 (Full, (keeps, h, g, tt, refl, (refl, l.1), (refl, (λ e. absurd (waiting_full e)), (λ e. absurd (waiting_closed e)))))
-  grasps_waiting Gone n h g l = rw l (Closed, (keeps, h, g, tt, refl, refl, (refl, (λ e. absurd (waiting_full e)), (λ e. absurd (waiting_closed e)))))
+  grasps_waiting Ready n h g l = rw l.0 (Holding, (takes 1 None, h, maybe.none, ap maybe.some l.2, refl, (refl, l.1), ((refl, refl), (λ e. absurd (waiting_full e)), (λ e. absurd (waiting_over e)))))
+  grasps_waiting Writing n h g l = rw l.0 (Holding, (takes 1 None, h, maybe.none, ap maybe.some l.1, refl, refl, ((refl, refl), (λ e. absurd (waiting_full e)), (λ e. absurd (waiting_over e)))))
+  grasps_waiting Sent n h g l = rw l.0 (Full, (keeps, h, g, tt, refl, (refl, l.1), (refl, (λ e. absurd (waiting_full e)), (λ e. absurd (waiting_over e)))))
+  grasps_waiting Gone n h g l = rw l (Closed, (keeps, h, g, tt, refl, refl, ((inr refl, refl), (λ e. absurd (waiting_full e)), (λ e. absurd (waiting_over e)))))
   grasps_waiting other n h g l = absurd l
 
   grasps_full : (c : List (ℕ × Slot T W)) → (a : SendStage) (n : ℕ) (h g : maybe.Option (Slot T W)) → Legal fits a Full n h g → RecvTurn fits (c) (λ n. n) (grasps fits (step 2 0 0 0 maybe.none) (Receives Full, c)) a n h g
-  grasps_full c Sent n h g l = rw l.0 (Full, (keeps, h, g, tt, refl, (refl, l.1), (refl, (λ e. refl), (λ e. absurd (full_closed e)))))
+  grasps_full c Sent n h g l = rw l.0 (Full, (keeps, h, g, tt, refl, (refl, l.1), (refl, (λ e. refl), (λ e. absurd (full_over e)))))
   grasps_full c other n h g l = absurd l
 
+  grasps_received : (c : List (ℕ × Slot T W)) → (a : SendStage) (n : ℕ) (h g : maybe.Option (Slot T W)) → Legal fits a Received n h g → RecvTurn fits (c) (λ n. n) (grasps fits (step 2 0 0 0 maybe.none) (Receives Received, c)) a n h g
+  grasps_received c Sent n h g l = rw l (Received, (keeps, h, g, tt, refl, refl, ((inl (refl, refl), refl), (λ e. absurd (full_received (sym e))), (λ e. (refl, refl)))))
+  grasps_received c other n h g l = absurd l
+
   grasps_closed : (c : List (ℕ × Slot T W)) → (a : SendStage) (n : ℕ) (h g : maybe.Option (Slot T W)) → Legal fits a Closed n h g → RecvTurn fits (c) (λ n. n) (grasps fits (step 2 0 0 0 maybe.none) (Receives Closed, c)) a n h g
-  grasps_closed c Sent n h g l = rw l (Closed, (keeps, h, g, tt, refl, refl, (refl, (λ e. absurd (full_closed (sym e))), (λ e. refl))))
-  grasps_closed c Gone n h g l = rw l (Closed, (keeps, h, g, tt, refl, refl, (refl, (λ e. absurd (full_closed (sym e))), (λ e. refl))))
+  grasps_closed c Gone n h g l = rw l (Closed, (keeps, h, g, tt, refl, refl, ((inr refl, refl), (λ e. absurd (full_closed (sym e))), (λ e. (refl, refl)))))
   grasps_closed c other n h g l = absurd l
 
   publishes_each : (w : W) → (a : SendStage) (n : ℕ) (h g : maybe.Option (Slot T W)) → Legal fits a Holding n h g → RecvTurn fits ((1, Some (Waker w)) ∷ []) (λ n. either (n == 3) 0 n) (publishes fits (step 2 0 3 0 maybe.none) (Receives Holding, (1, Some (Waker w)) ∷ [])) a n h g
@@ -140,7 +158,7 @@ module _ {T W : Type 0} (fits : T → Type 0) where
   reclaims_woken other n h g l = absurd l
 
   takes_full : (c : List (ℕ × Slot T W)) → (a : SendStage) (n : ℕ) (h g : maybe.Option (Slot T W)) → Legal fits a Full n h g → RecvTurn fits (c) (λ _. 2) (takes_message fits (step 2 0 2 0 maybe.none) (Receives Full, c)) a n h g
-  takes_full c Sent n h g l = (Closed, (takes 0 (Some (Message l.1.0)), maybe.none, g, ap maybe.some l.1.2, refl, refl, (l.1.0, l.1.1, refl)))
+  takes_full c Sent n h g l = (Received, (takes 0 (Some (Message l.1.0)), maybe.none, g, ap maybe.some l.1.2, refl, refl, (l.1.0, l.1.1, refl)))
   takes_full c other n h g l = absurd l
 
   closes_waiting : (c : List (ℕ × Slot T W)) → (a : SendStage) (n : ℕ) (h g : maybe.Option (Slot T W)) → Legal fits a Waiting n h g → RecvTurn fits (c) (λ _. 2) (closes fits (step 2 0 2 0 maybe.none) (Receives Waiting, c)) a n h g
@@ -168,8 +186,11 @@ module _ {T W : Type 0} (fits : T → Type 0) where
   closes_full c Sent n h g l = rw l.0 (Ended, (takes 0 (Some (Message l.1.0)), maybe.none, g, ap maybe.some l.1.2, refl, refl, (l.1.0, refl)))
   closes_full c other n h g l = absurd l
 
+  closes_received : (c : List (ℕ × Slot T W)) → (a : SendStage) (n : ℕ) (h g : maybe.Option (Slot T W)) → Legal fits a Received n h g → RecvTurn fits (c) (λ _. 2) (closes fits (step 2 0 2 0 maybe.none) (Receives Received, c)) a n h g
+  closes_received c Sent n h g l = rw l (Ended, (keeps, h, g, tt, refl, refl, refl))
+  closes_received c other n h g l = absurd l
+
   closes_closed : (c : List (ℕ × Slot T W)) → (a : SendStage) (n : ℕ) (h g : maybe.Option (Slot T W)) → Legal fits a Closed n h g → RecvTurn fits (c) (λ _. 2) (closes fits (step 2 0 2 0 maybe.none) (Receives Closed, c)) a n h g
-  closes_closed c Sent n h g l = rw l (Ended, (keeps, h, g, tt, refl, refl, refl))
   closes_closed c Gone n h g l = rw l (Ended, (keeps, h, g, tt, refl, inl refl, refl))
   closes_closed c other n h g l = absurd l
 
@@ -207,11 +228,14 @@ module _ {T W : Type 0} (fits : T → Type 0) where
   pub leave_allowed : (id : ℕ) (y : Slot T W) → Allows (Holds fits) 2 id (Sends Leaving, (1, y) ∷ []) 0 (λ _. 2) (leaves fits (step 2 0 2 0 maybe.none) (Sends Leaving, (1, y) ∷ []))
   leave_allowed id y = sends fits 2 id Leaving ((1, y) ∷ []) (λ _. 2) (leaves fits (step 2 0 2 0 maybe.none) (Sends Leaving, (1, y) ∷ [])) (leaves_each y)
 
-  look_again_allowed : (id : ℕ) (v : View W) (c : List (ℕ × Slot T W)) → (v ≡ Receives Full) ⊎ (v ≡ Receives Closed) → Allows (Holds fits) 2 id (v, c) 0 (λ n. n) (looks fits (step 2 0 0 0 maybe.none) (v, c))
+  look_again_allowed : (id : ℕ) (v : View W) (c : List (ℕ × Slot T W)) → (v ≡ Receives Full) ⊎ IsOver v → Allows (Holds fits) 2 id (v, c) 0 (λ n. n) (looks fits (step 2 0 0 0 maybe.none) (v, c))
   look_again_allowed id v c s =
       elim s [
         | inl e ↦ rw e (receives fits 2 id Full (c) (λ n. n) (looks fits (step 2 0 0 0 maybe.none) (Receives Full, c)) (looks_full c))
-        | inr e ↦ rw e (receives fits 2 id Closed (c) (λ n. n) (looks fits (step 2 0 0 0 maybe.none) (Receives Closed, c)) (looks_closed c))
+        | inr o ↦ elim o [
+          | inl e ↦ rw e (receives fits 2 id Received (c) (λ n. n) (looks fits (step 2 0 0 0 maybe.none) (Receives Received, c)) (looks_received c))
+          | inr e ↦ rw e (receives fits 2 id Closed (c) (λ n. n) (looks fits (step 2 0 0 0 maybe.none) (Receives Closed, c)) (looks_closed c))
+        ]
       ]
 
   pub look_allowed : (id : ℕ) (me : Me (Slot T W) (View W)) → IsUnpublished me → Allows (Holds fits) 2 id me 0 (λ n. n) (looks fits (step 2 0 0 0 maybe.none) me)
@@ -221,11 +245,14 @@ module _ {T W : Type 0} (fits : T → Type 0) where
         | inr t ↦ look_again_allowed id me.0 me.1 t
       ]
 
-  grasp_again_allowed : (id : ℕ) (v : View W) (c : List (ℕ × Slot T W)) → (v ≡ Receives Full) ⊎ (v ≡ Receives Closed) → Allows (Holds fits) 2 id (v, c) 0 (λ n. n) (grasps fits (step 2 0 0 0 maybe.none) (v, c))
+  grasp_again_allowed : (id : ℕ) (v : View W) (c : List (ℕ × Slot T W)) → (v ≡ Receives Full) ⊎ IsOver v → Allows (Holds fits) 2 id (v, c) 0 (λ n. n) (grasps fits (step 2 0 0 0 maybe.none) (v, c))
   grasp_again_allowed id v c s =
       elim s [
         | inl e ↦ rw e (receives fits 2 id Full (c) (λ n. n) (grasps fits (step 2 0 0 0 maybe.none) (Receives Full, c)) (grasps_full c))
-        | inr e ↦ rw e (receives fits 2 id Closed (c) (λ n. n) (grasps fits (step 2 0 0 0 maybe.none) (Receives Closed, c)) (grasps_closed c))
+        | inr o ↦ elim o [
+          | inl e ↦ rw e (receives fits 2 id Received (c) (λ n. n) (grasps fits (step 2 0 0 0 maybe.none) (Receives Received, c)) (grasps_received c))
+          | inr e ↦ rw e (receives fits 2 id Closed (c) (λ n. n) (grasps fits (step 2 0 0 0 maybe.none) (Receives Closed, c)) (grasps_closed c))
+        ]
       ]
 
   pub grasp_allowed : (id : ℕ) (me : Me (Slot T W) (View W)) → IsUnpublished me → Allows (Holds fits) 2 id me 0 (λ n. n) (grasps fits (step 2 0 0 0 maybe.none) me)
@@ -249,7 +276,7 @@ module _ {T W : Type 0} (fits : T → Type 0) where
   take_allowed id v c e = rw e (receives fits 2 id Full (c) (λ _. 2) (takes_message fits (step 2 0 2 0 maybe.none) (Receives Full, c)) (takes_full c))
 
   abbrev Ends : View W → Type 0
-  Ends v = (v ≡ Receives Waiting) ⊎ (v ≡ Receives Holding) ⊎ (v ≡ Receives Woken) ⊎ (v ≡ Receives Full) ⊎ (v ≡ Receives Closed)
+  Ends v = (v ≡ Receives Waiting) ⊎ (v ≡ Receives Holding) ⊎ (v ≡ Receives Woken) ⊎ (v ≡ Receives Full) ⊎ IsOver v
 
   pub close_allowed : (id : ℕ) (v : View W) (c : List (ℕ × Slot T W)) → Ends v → Allows (Holds fits) 2 id (v, c) 0 (λ _. 2) (closes fits (step 2 0 2 0 maybe.none) (v, c))
   close_allowed id v c s =
@@ -261,7 +288,10 @@ module _ {T W : Type 0} (fits : T → Type 0) where
             | inl e ↦ rw e (receives fits 2 id Woken (c) (λ _. 2) (closes fits (step 2 0 2 0 maybe.none) (Receives Woken, c)) (closes_woken c))
             | inr s3 ↦ elim s3 [
               | inl e ↦ rw e (receives fits 2 id Full (c) (λ _. 2) (closes fits (step 2 0 2 0 maybe.none) (Receives Full, c)) (closes_full c))
-              | inr e ↦ rw e (receives fits 2 id Closed (c) (λ _. 2) (closes fits (step 2 0 2 0 maybe.none) (Receives Closed, c)) (closes_closed c))
+              | inr o ↦ elim o [
+                | inl e ↦ rw e (receives fits 2 id Received (c) (λ _. 2) (closes fits (step 2 0 2 0 maybe.none) (Receives Received, c)) (closes_received c))
+                | inr e ↦ rw e (receives fits 2 id Closed (c) (λ _. 2) (closes fits (step 2 0 2 0 maybe.none) (Receives Closed, c)) (closes_closed c))
+              ]
             ]
           ]
         ]

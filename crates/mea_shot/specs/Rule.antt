@@ -1,5 +1,5 @@
 -- What holds of the word, the two slots and the two views of a channel.
--- The word is 3 while it is empty, 0 while a waker waits, 1 while the sender wakes it, 4 while there is a message, and 2 once an end is gone.
+-- The word is 3 while it is empty, 0 while a waker waits, 1 while the sender wakes it, 4 while there is a message, and 2 once an end is gone or the message was received.
 use Rattle.std.specs.Prelude.{ℕ, ◌≡◌, ◌⊎◌, [], ◌∷◌, Option, Some, None}
 use mathlib.Core.Option as maybe
 use Rattle.atomic_table.specs.Table.{State}
@@ -10,7 +10,7 @@ use Rattle.mea_shot.specs.declared.view.View.TheVariants.{Whole, Sends, Receives
 use Rattle.mea_shot.specs.declared.view.SendStage.{SendStage}
 use Rattle.mea_shot.specs.declared.view.SendStage.TheVariants.{Ready, Shut, Writing, WritingShut, Finishing, Leaving, Sent, Refused, Gone}
 use Rattle.mea_shot.specs.declared.view.RecvStage.{RecvStage}
-use Rattle.mea_shot.specs.declared.view.RecvStage.TheVariants.{Waiting, Holding, Published, Woken, Full, Closed, Ended}
+use Rattle.mea_shot.specs.declared.view.RecvStage.TheVariants.{Waiting, Holding, Published, Woken, Full, Received, Closed, Ended}
 
 abbrev pub Slot : Type 0 → Type 0 → Type 0
 Slot T W = Option (Content T W)
@@ -54,7 +54,8 @@ module _ {T W : Type 0} (fits : T → Type 0) where
   Legal Sent (Published w) n h g = (n ≡ 4) × HasMessage h
   Legal Sent Woken n h g = (n ≡ 4) × HasMessage h
   Legal Sent Full n h g = (n ≡ 4) × HasMessage h
-  Legal Sent Closed n h g = n ≡ 2
+  Legal Sent Received n h g = n ≡ 2
+  Legal Sent Closed n h g = ⊥
   Legal Sent Ended n h g = n ≡ 2
   Legal Refused Ended n h g = (n ≡ 3) ⊎ (n ≡ 4)
   Legal Refused b n h g = ⊥
@@ -65,6 +66,7 @@ module _ {T W : Type 0} (fits : T → Type 0) where
   Legal Gone Closed n h g = n ≡ 2
   Legal Gone Ended n h g = (n ≡ 2) ⊎ (n ≡ 3)
   Legal Gone Full n h g = ⊥
+  Legal Gone Received n h g = ⊥
 
   abbrev pub IsWhole : State (Slot T W) (View W) → Type 0
   IsWhole s = (s.words ≡ 3 ∷ []) × (s.homes ≡ maybe.some None ∷ maybe.some None ∷ []) × (s.views ≡ Whole ∷ [])

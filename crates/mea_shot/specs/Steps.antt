@@ -7,7 +7,7 @@ use Rattle.mea_shot.specs.declared.message.Content.TheVariants.{Message, Waker}
 use Rattle.mea_shot.specs.declared.view.View.{View}
 use Rattle.mea_shot.specs.declared.view.View.TheVariants.{Sends, Receives}
 use Rattle.mea_shot.specs.declared.view.SendStage.TheVariants.{Ready, Shut, Writing, WritingShut, Finishing, Leaving, Sent, Refused, Gone}
-use Rattle.mea_shot.specs.declared.view.RecvStage.TheVariants.{Waiting, Holding, Published, Woken, Full, Closed, Ended}
+use Rattle.mea_shot.specs.declared.view.RecvStage.TheVariants.{Waiting, Holding, Published, Woken, Full, Received, Closed, Ended}
 
 -- a seat at this table, which has one word and two slots
 abbrev pub IsOn : TableId → TableId → Type 0
@@ -24,10 +24,23 @@ writing_stage v = Sends Writing
 abbrev pub IsWriting : {W : Type 0} → View W → Type 0
 IsWriting v = (v ≡ Sends Writing) ⊎ (v ≡ Sends WritingShut)
 
+-- a receiver to which nothing comes any more: it has received the message, or knows that the sender has ended without one
+abbrev pub IsOver : {W : Type 0} → View W → Type 0
+IsOver v = (v ≡ Receives Received) ⊎ (v ≡ Receives Closed)
+
+-- a call, of the receiver before and after it, that finds nothing, and to which nothing comes any more: the message was
+-- received before it, or the sender has ended without one
+abbrev pub FindsNothing : {W : Type 0} → View W → View W → Type 0
+FindsNothing old new = ((old ≡ Receives Received) × (new ≡ Receives Received)) ⊎ (new ≡ Receives Closed)
+
+-- a call that takes no message: the receiver has received one after it only if it had before it
+abbrev pub TakesNothing : {W : Type 0} → View W → View W → Type 0
+TakesNothing old new = new ≡ Receives Received → old ≡ Receives Received
+
 module _ {S W : Type 0} where
-  -- a receiver whose waker is not out: it waits, or knows the end
+  -- a receiver whose waker is not out: it waits, knows of the message, or gets nothing any more
   abbrev pub IsUnpublished : Me S (View W) → Type 0
-  IsUnpublished me = (me ≡ (Receives Waiting, [])) ⊎ (me.0 ≡ Receives Full) ⊎ (me.0 ≡ Receives Closed)
+  IsUnpublished me = (me ≡ (Receives Waiting, [])) ⊎ (me.0 ≡ Receives Full) ⊎ IsOver me.0
 
   -- one whose waker is out
   abbrev pub IsPublished : Me S (View W) → Type 0
@@ -35,7 +48,7 @@ module _ {S W : Type 0} where
 
   -- one that may end at once
   abbrev pub MayEnd : Me S (View W) → Type 0
-  MayEnd me = (me.0 ≡ Receives Waiting) ⊎ (me.0 ≡ Receives Holding) ⊎ (me.0 ≡ Receives Woken) ⊎ (me.0 ≡ Receives Full) ⊎ (me.0 ≡ Receives Closed)
+  MayEnd me = (me.0 ≡ Receives Waiting) ⊎ (me.0 ≡ Receives Holding) ⊎ (me.0 ≡ Receives Woken) ⊎ (me.0 ≡ Receives Full) ⊎ IsOver me.0
 
 abbrev pub StepTells : Type 0 → Type 0 → Type 1
 StepTells T W = Step (Slot T W) → Me (Slot T W) (View W) → ℕ → Me (Slot T W) (View W) → Type 0
@@ -66,13 +79,13 @@ module _ {T W : Type 0} (fits : T → Type 0) where
 
   abbrev pub looks : StepTells T W
   looks s me n you =
-      MatchBool (nat_eq n 2) (you ≡ (Receives Closed, me.1)) (MatchBool (nat_eq n 4) (you ≡ (Receives Full, me.1)) ((n ≡ 3) × (me ≡ (Receives Waiting, [])) × (you ≡ me)))
-      × (me.0 ≡ Receives Full → n ≡ 4) × (me.0 ≡ Receives Closed → n ≡ 2)
+      MatchBool (nat_eq n 2) (FindsNothing me.0 you.0 × (you.1 ≡ me.1)) (MatchBool (nat_eq n 4) (you ≡ (Receives Full, me.1)) ((n ≡ 3) × (me ≡ (Receives Waiting, [])) × (you ≡ me)))
+      × (me.0 ≡ Receives Full → n ≡ 4) × (IsOver me.0 → (n ≡ 2) × (you ≡ me))
 
   abbrev pub grasps : StepTells T W
   grasps s me n you =
-      MatchBool (nat_eq n 2) (you ≡ (Receives Closed, me.1)) (MatchBool (nat_eq n 4) (you ≡ (Receives Full, me.1)) ((n ≡ 3) × (you ≡ (Receives Holding, (1, None) ∷ []))))
-      × (me.0 ≡ Receives Full → n ≡ 4) × (me.0 ≡ Receives Closed → n ≡ 2)
+      MatchBool (nat_eq n 2) (FindsNothing me.0 you.0 × (you.1 ≡ me.1)) (MatchBool (nat_eq n 4) (you ≡ (Receives Full, me.1)) ((n ≡ 3) × (you ≡ (Receives Holding, (1, None) ∷ []))))
+      × (me.0 ≡ Receives Full → n ≡ 4) × (IsOver me.0 → (n ≡ 2) × (you ≡ me))
 
   abbrev pub publishes : StepTells T W
   publishes s me n you =
@@ -86,7 +99,7 @@ module _ {T W : Type 0} (fits : T → Type 0) where
       (MatchBool (nat_eq n 4) (you ≡ (Receives Full, [])) ((n ≡ 2) × (you ≡ (Receives Closed, [])))))
 
   abbrev pub takes_message : StepTells T W
-  takes_message s me n you = (x : T) × fits x × (you ≡ (Receives Closed, (0, Some (Message x)) ∷ me.1))
+  takes_message s me n you = (x : T) × fits x × (you ≡ (Receives Received, (0, Some (Message x)) ∷ me.1))
 
   abbrev pub closes : StepTells T W
   closes s me n you =

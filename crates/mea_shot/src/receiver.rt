@@ -1,8 +1,8 @@
-ghost use Rattle.std.specs.Prelude.{◌≡◌, ◌≢◌, ◌⊎◌, ◌↔◌, true, IsTrue, IfOk, OnOk, IfErr, IsOk};
+ghost use Rattle.std.specs.Prelude.{◌≡◌, ◌≢◌, ◌⊎◌, ◌↔◌, true, IsTrue, IfOk, OnOk, IfErr, OnErr, IsOk};
 ghost use Rattle.std.specs.Arc.{arc_value};
-ghost use Rattle.mea_shot.specs.Steps.{IsOn, IsUnpublished};
+ghost use Rattle.mea_shot.specs.Steps.{IsOn, IsOver, FindsNothing, TakesNothing, IsUnpublished};
 ghost use Rattle.mea_shot.specs.declared.view.View.TheVariants.{Receives};
-ghost use Rattle.mea_shot.specs.declared.view.RecvStage.TheVariants.{Waiting, Published, Woken, Full, Closed};
+ghost use Rattle.mea_shot.specs.declared.view.RecvStage.TheVariants.{Waiting, Published, Woken, Full, Received};
 
 use crate::errors::{RecvError, TryRecvError};
 use crate::message::{Content, Message};
@@ -69,31 +69,34 @@ impl<T: Message, W> Receiver<T, W> {
 }
 
 impl<T: Message + Drop, W: Wake + Drop> Receiver<T, W> {
-    /// Whether nothing comes any more: each call that receives then answers `Disconnected`. It ports
-    /// `mea::oneshot::Receiver::is_closed`.
+    /// Whether nothing comes any more, since the message was received or the sender has ended without one: each call that
+    /// receives then answers `Disconnected`. It takes no message. It ports `mea::oneshot::Receiver::is_closed`.
     pub fn is_closed(&mut self) -> bool
-        ensures tells { IsTrue result ↔ (self.new ≡ Receives Closed) }
-        ensures stays { self.old ≡ Receives Closed → result ≡ true }
+        ensures tells { IsTrue result ↔ IsOver self.new }
+        ensures keeps { TakesNothing self.old self.new }
+        ensures stays { IsOver self.old → (result ≡ true) × (self.new ≡ self.old) }
     {
         look(&*self.board, &mut self.seat) == 2
     }
 
-    /// Whether the message is there: the next call that receives gives it. It ports
+    /// Whether the message is there: the next call that receives gives it. It takes no message. It ports
     /// `mea::oneshot::Receiver::has_message`.
     pub fn has_message(&mut self) -> bool
         ensures tells { IsTrue result ↔ (self.new ≡ Receives Full) }
+        ensures keeps { TakesNothing self.old self.new }
         ensures stays { self.old ≡ Receives Full → result ≡ true }
     {
         look(&*self.board, &mut self.seat) == 4
     }
 
-    /// Takes the message, where it is there. It ports `mea::oneshot::Receiver::try_recv`.
+    /// Takes the message, where it is there. It answers `Disconnected` only where the message was received before, or the
+    /// sender has ended without one. It ports `mea::oneshot::Receiver::try_recv`.
     pub fn try_recv(&mut self) -> Result<T, TryRecvError>
         ensures fits { IfOk result (λ m. T.fits m) }
-        ensures taken { OnOk result (self.new ≡ Receives Closed) }
-        ensures err { IfErr result (λ e. (e ≡ TryRecvError.Empty → self.new ≡ Receives Waiting) × (e ≡ TryRecvError.Disconnected → self.new ≡ Receives Closed)) }
+        ensures taken { OnOk result (self.new ≡ Receives Received) }
+        ensures err { IfErr result (λ e. (e ≡ TryRecvError.Empty → self.new ≡ Receives Waiting) × (e ≡ TryRecvError.Disconnected → FindsNothing self.old self.new)) }
         ensures full { self.old ≡ Receives Full → IsOk result }
-        ensures closed { self.old ≡ Receives Closed → result ≡ Err TryRecvError.Disconnected }
+        ensures over { IsOver self.old → (result ≡ Err TryRecvError.Disconnected) × (self.new ≡ self.old) }
     {
         let found = look(&*self.board, &mut self.seat);
         if found == 2 {
@@ -127,10 +130,13 @@ impl<T: Message + Drop, W: Wake + Drop> Receiver<T, W> {
 
 impl<T: Message + Drop, W: Wake + Drop> Recv<T, W> {
     /// Takes the message, or leaves the waker for the sender; the waker of the poll before is dropped. Where the sender
-    /// is just about to wake that one, this waker is woken at once instead. After the message it answers
-    /// `Disconnected`. It ports `mea::oneshot::Recv::poll`.
+    /// is just about to wake that one, this waker is woken at once instead. It answers `Disconnected` only where the
+    /// message was received before, or the sender has ended without one. It ports `mea::oneshot::Recv::poll`.
     pub fn poll(&mut self, waker: W) -> Poll<Result<T, RecvError>>
-        ensures ready { (r : _) → result ≡ Poll.Ready r → (self.new ≡ Receives Closed) × IfOk r (λ m. T.fits m) }
+        ensures fits { (r : _) → result ≡ Poll.Ready r → IfOk r (λ m. T.fits m) }
+        ensures taken { (r : _) → result ≡ Poll.Ready r → OnOk r (self.new ≡ Receives Received) }
+        ensures err { (r : _) → result ≡ Poll.Ready r → OnErr r (FindsNothing self.old self.new) }
+        ensures over { IsOver self.old → (result ≡ Poll.Ready (Err RecvError.Disconnected)) × (self.new ≡ self.old) }
         ensures pending { result ≡ Poll.Pending → (self.new ≡ Receives (Published waker)) ⊎ (self.new ≡ Receives Woken) }
         ensures full { self.old ≡ Receives Full → result ≢ Poll.Pending }
         ensures given { self.old ≡ Receives Full → (r : _) → result ≡ Poll.Ready r → IsOk r }

@@ -1,8 +1,8 @@
 ghost use Rattle.std.specs.Prelude.{◌≡◌, ◌⊎◌, [], ◌∷◌, Some, None, IsSome, IsSomeAnd, IfSome, IfOk, IfErr, OnOk, OnErr, IsOk, IsErr, MatchBool, MatchOption};
 ghost use Rattle.atomic_table.specs.Table.{rest};
-ghost use Rattle.mea_shot.specs.Steps.{IsOn, IsUnpublished, IsPublished, MayEnd};
+ghost use Rattle.mea_shot.specs.Steps.{IsOn, IsOver, FindsNothing, IsUnpublished, IsPublished, MayEnd};
 ghost use Rattle.mea_shot.specs.declared.view.View.TheVariants.{Receives};
-ghost use Rattle.mea_shot.specs.declared.view.RecvStage.TheVariants.{Waiting, Holding, Published, Woken, Full, Closed, Ended};
+ghost use Rattle.mea_shot.specs.declared.view.RecvStage.TheVariants.{Waiting, Holding, Published, Woken, Full, Received, Closed, Ended};
 
 use crate::message::{Content, Message};
 use crate::sending::{message_out, waker_out};
@@ -19,7 +19,7 @@ pub(crate) fn take<T: Message, W>(
     requires board { IsOn seat.old.table_id board.now.shared.table_id }
     requires stage { seat.old.me.0 ≡ Receives Full }
     ensures board { seat.new.table_id ≡ seat.old.table_id }
-    ensures stage { seat.new.me.0 ≡ Receives Closed }
+    ensures stage { seat.new.me.0 ≡ Receives Received }
     ensures next { IsUnpublished seat.new.me }
     ensures fits { T.fits result }
 {
@@ -37,7 +37,9 @@ fn publish_on<T: Message + Drop, W: Wake + Drop>(
     requires held { (y : _) × (seat.old.me ≡ (Receives Holding, (1, y) ∷ [])) }
     ensures board { seat.new.table_id ≡ seat.old.table_id }
     ensures pending { result ≡ None → seat.new.me ≡ (Receives (Published waker), []) }
-    ensures ready { IfSome result (λ r. (seat.new.me.0 ≡ Receives Closed) × IfSome r (λ m. T.fits m)) }
+    ensures fits { IfSome result (λ r. IfSome r (λ m. T.fits m)) }
+    ensures taken { IfSome result (λ r. IfSome r (λ m. seat.new.me.0 ≡ Receives Received)) }
+    ensures nothing { result ≡ Some None → seat.new.me.0 ≡ Receives Closed }
     ensures next { MatchOption result (IsPublished seat.new.me) (λ r. IsUnpublished seat.new.me) }
 {
     let _old = board.shared.exchange(seat, 1, Some(Content::Waker(waker)));
@@ -63,7 +65,10 @@ pub(crate) fn poll_unpublished<T: Message + Drop, W: Wake + Drop>(
     ensures board { seat.new.table_id ≡ seat.old.table_id }
     ensures pending { result ≡ None → seat.new.me ≡ (Receives (Published waker), []) }
     ensures full { seat.old.me.0 ≡ Receives Full → IsSomeAnd result (λ r. IsSome r) }
-    ensures ready { IfSome result (λ r. (seat.new.me.0 ≡ Receives Closed) × IfSome r (λ m. T.fits m)) }
+    ensures fits { IfSome result (λ r. IfSome r (λ m. T.fits m)) }
+    ensures taken { IfSome result (λ r. IfSome r (λ m. seat.new.me.0 ≡ Receives Received)) }
+    ensures nothing { result ≡ Some None → FindsNothing seat.old.me.0 seat.new.me.0 }
+    ensures over { IsOver seat.old.me.0 → (result ≡ Some None) × (seat.new.me ≡ seat.old.me) }
     ensures next { MatchOption result (IsPublished seat.new.me) (λ r. IsUnpublished seat.new.me) }
 {
     let found = grasp(board, seat);
@@ -86,7 +91,9 @@ pub(crate) fn poll_published<T: Message + Drop, W: Wake + Drop>(
     requires stage { IsPublished seat.old.me }
     ensures board { seat.new.table_id ≡ seat.old.table_id }
     ensures pending { result ≡ None → (seat.new.me ≡ (Receives (Published waker), [])) ⊎ (seat.new.me ≡ (Receives Woken, [])) }
-    ensures ready { IfSome result (λ r. (seat.new.me.0 ≡ Receives Closed) × IfSome r (λ m. T.fits m)) }
+    ensures fits { IfSome result (λ r. IfSome r (λ m. T.fits m)) }
+    ensures taken { IfSome result (λ r. IfSome r (λ m. seat.new.me.0 ≡ Receives Received)) }
+    ensures nothing { result ≡ Some None → seat.new.me.0 ≡ Receives Closed }
     ensures next { MatchOption result (IsPublished seat.new.me) (λ r. IsUnpublished seat.new.me) }
 {
     let found = reclaim(board, seat);

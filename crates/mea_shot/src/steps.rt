@@ -1,10 +1,10 @@
 ghost use Rattle.std.specs.Prelude.{◌≡◌, ◌≢◌, ◌⊎◌, [], ◌∷◌, Some, None, MatchBool, nat_eq, cond, true, false};
 ghost use Rattle.mea_shot.specs.Rule.{Holds};
-ghost use Rattle.mea_shot.specs.Steps.{IsOn, opens, asks, puts, finishes, flips, leaves, looks, grasps, publishes, reclaims, takes_message, closes, IsSender, IsWriting, writing_stage, IsUnpublished, IsPublished, MayEnd};
+ghost use Rattle.mea_shot.specs.Steps.{IsOn, opens, asks, puts, finishes, flips, leaves, looks, grasps, publishes, reclaims, takes_message, closes, IsSender, IsWriting, writing_stage, IsOver, FindsNothing, IsUnpublished, IsPublished, MayEnd};
 ghost use Rattle.mea_shot.specs.declared.view.View.TheVariants.{Whole, Sends, Receives};
 ghost use Rattle.mea_shot.specs.declared.view.SendStage.TheVariants.{Ready, Shut, Writing, WritingShut, Finishing, Leaving, Refused, Gone};
 ghost use Rattle.mea_shot.specs.declared.view.SendStage.TheVariants.{Sent as SentStage};
-ghost use Rattle.mea_shot.specs.declared.view.RecvStage.TheVariants.{Waiting, Holding, Published, Woken, Full, Closed, Ended};
+ghost use Rattle.mea_shot.specs.declared.view.RecvStage.TheVariants.{Waiting, Holding, Published, Woken, Full, Received, Closed, Ended};
 
 use crate::message::{Content, Message};
 use crate::view::View;
@@ -206,9 +206,9 @@ pub(crate) fn look<T: Message, W>(
     requires board { IsOn seat.old.table_id board.now.shared.table_id }
     requires seat { IsUnpublished seat.old.me }
     ensures board { seat.new.table_id ≡ seat.old.table_id }
-    ensures seat { MatchBool (nat_eq result 2) (seat.new.me ≡ (Receives Closed, seat.old.me.1)) (MatchBool (nat_eq result 4) (seat.new.me ≡ (Receives Full, seat.old.me.1)) ((result ≡ 3) × (seat.old.me ≡ (Receives Waiting, [])) × (seat.new.me ≡ seat.old.me))) }
+    ensures seat { MatchBool (nat_eq result 2) (FindsNothing seat.old.me.0 seat.new.me.0 × (seat.new.me.1 ≡ seat.old.me.1)) (MatchBool (nat_eq result 4) (seat.new.me ≡ (Receives Full, seat.old.me.1)) ((result ≡ 3) × (seat.old.me ≡ (Receives Waiting, [])) × (seat.new.me ≡ seat.old.me))) }
     ensures full { seat.old.me.0 ≡ Receives Full → result ≡ 4 }
-    ensures closed { seat.old.me.0 ≡ Receives Closed → result ≡ 2 }
+    ensures over { IsOver seat.old.me.0 → (result ≡ 2) × (seat.new.me ≡ seat.old.me) }
 {
     board.shared.load::<Looks>(seat, 0)
 }
@@ -221,9 +221,9 @@ pub(crate) fn grasp<T: Message, W>(
     requires board { IsOn seat.old.table_id board.now.shared.table_id }
     requires seat { IsUnpublished seat.old.me }
     ensures board { seat.new.table_id ≡ seat.old.table_id }
-    ensures seat { MatchBool (nat_eq result 2) (seat.new.me ≡ (Receives Closed, seat.old.me.1)) (MatchBool (nat_eq result 4) (seat.new.me ≡ (Receives Full, seat.old.me.1)) ((result ≡ 3) × (seat.new.me ≡ (Receives Holding, (1, None) ∷ [])))) }
+    ensures seat { MatchBool (nat_eq result 2) (FindsNothing seat.old.me.0 seat.new.me.0 × (seat.new.me.1 ≡ seat.old.me.1)) (MatchBool (nat_eq result 4) (seat.new.me ≡ (Receives Full, seat.old.me.1)) ((result ≡ 3) × (seat.new.me ≡ (Receives Holding, (1, None) ∷ [])))) }
     ensures full { seat.old.me.0 ≡ Receives Full → result ≡ 4 }
-    ensures closed { seat.old.me.0 ≡ Receives Closed → result ≡ 2 }
+    ensures over { IsOver seat.old.me.0 → (result ≡ 2) × (seat.new.me ≡ seat.old.me) }
 {
     board.shared.load::<Grasps>(seat, 0)
 }
@@ -262,7 +262,7 @@ pub(crate) fn take_slot<T: Message, W>(
     requires board { IsOn seat.old.table_id board.now.shared.table_id }
     requires seat { seat.old.me.0 ≡ Receives Full }
     ensures board { seat.new.table_id ≡ seat.old.table_id }
-    ensures seat { (x : T) × T.fits x × (seat.new.me ≡ (Receives Closed, (0, Some (Content.Message x)) ∷ seat.old.me.1)) }
+    ensures seat { (x : T) × T.fits x × (seat.new.me ≡ (Receives Received, (0, Some (Content.Message x)) ∷ seat.old.me.1)) }
 {
     board.shared.swap::<TakesMessage>(seat, 0, 2);
 }

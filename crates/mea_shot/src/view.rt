@@ -33,7 +33,9 @@ pub enum RecvStage<W> {
     Woken,
     /// It knows that the message is there.
     Full,
-    /// It knows that nothing comes any more.
+    /// It has received the message.
+    Received,
+    /// It knows that the sender has ended without a message.
     Closed,
     /// It has ended.
     Ended,
