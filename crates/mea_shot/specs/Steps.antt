@@ -17,6 +17,11 @@ IsOn seat table = (seat ≡ table) × (table.words ≡ 1) × (table.slots ≡ 2)
 abbrev pub IsSender : {W : Type 0} → View W → Type 0
 IsSender v = (v ≡ Sends Ready) ⊎ (v ≡ Sends Shut)
 
+-- an end that is over: a sender that has sent, was refused or has gone, or a receiver that has ended
+abbrev pub IsSpent : {W : Type 0} → View W → Type 0
+IsSpent v = (v ≡ Sends Sent) ⊎ (v ≡ Sends Refused) ⊎ (v ≡ Sends Gone) ⊎ (v ≡ Receives Ended)
+
+-- the stage of a sender that takes the message's slot
 abbrev pub writing_stage : {W : Type 0} → View W → View W
 writing_stage (Sends Shut) = Sends WritingShut
 writing_stage v = Sends Writing

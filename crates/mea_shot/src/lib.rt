@@ -5,6 +5,7 @@
 //! the slots and both views, in `specs/Rule`; each kind of step is a function of `steps`.
 #![tactic(auto)]
 
+mod duty;
 mod errors;
 mod message;
 mod receiver;
@@ -17,5 +18,5 @@ mod view;
 pub use errors::{RecvError, SendError, TryRecvError};
 pub use message::{Message, Plain};
 pub use receiver::{Receiver, Recv};
-pub use sender::{Sender, Sent, channel};
+pub use sender::{Sender, Sent, Unsent, channel};
 pub use view::{RecvStage, SendStage, View};

@@ -4,6 +4,7 @@ ghost use Rattle.mea_shot.specs.Steps.{IsOn, IsOver, FindsNothing, TakesNothing,
 ghost use Rattle.mea_shot.specs.declared.view.View.TheVariants.{Receives};
 ghost use Rattle.mea_shot.specs.declared.view.RecvStage.TheVariants.{Waiting, Published, Woken, Full, Received};
 
+use crate::duty::Duty;
 use crate::errors::{RecvError, TryRecvError};
 use crate::message::{Content, Message};
 use crate::receiving::{end_unpublished, poll_published, poll_unpublished, take};
@@ -19,6 +20,7 @@ use std::sync::Arc;
 pub struct Receiver<T: Message, W> {
     board: Arc<Board<T, W>>,
     seat: Seat<Option<Content<T, W>>, View<W>>,
+    duty: Duty,
 }
 
 impl<T: Message, W> Model for Receiver<T, W> {
@@ -40,6 +42,7 @@ pub struct Recv<T: Message, W> {
     board: Arc<Board<T, W>>,
     seat: Seat<Option<Content<T, W>>, View<W>>,
     published: bool,
+    duty: Duty,
 }
 
 impl<T: Message, W> Model for Recv<T, W> {
@@ -64,7 +67,11 @@ impl<T: Message, W> Receiver<T, W> {
         requires seat { IsUnpublished seat.me }
         ensures { result ≡ seat.me.0 }
     {
-        Receiver { board, seat }
+        Receiver {
+            board,
+            seat,
+            duty: Duty::new(),
+        }
     }
 }
 
@@ -112,19 +119,25 @@ impl<T: Message + Drop, W: Wake + Drop> Receiver<T, W> {
     pub fn into_future(self) -> Recv<T, W>
         ensures { result ≡ self }
     {
-        let Receiver { board, seat } = self;
+        let Receiver { board, seat, duty } = self;
         Recv {
             board,
             seat,
             published: false,
+            duty,
         }
     }
 
     /// Ends the receiver. A message that it has not received is dropped, and a later send is refused. It ports the
     /// drop of `mea::oneshot::Receiver`.
     pub fn end(self) {
-        let Receiver { board, mut seat } = self;
+        let Receiver {
+            board,
+            mut seat,
+            duty,
+        } = self;
         end_unpublished(&*board, &mut seat);
+        duty.done(&seat);
     }
 }
 
@@ -169,10 +182,12 @@ impl<T: Message + Drop, W: Wake + Drop> Recv<T, W> {
             board,
             mut seat,
             published,
+            duty,
         } = self;
         if published {
             reclaim(&*board, &mut seat);
         }
         end_unpublished(&*board, &mut seat);
+        duty.done(&seat);
     }
 }

@@ -1,9 +1,10 @@
 ghost use Rattle.std.specs.Prelude.{◌≡◌, ◌↔◌, true, IsTrue, IfOk, IfErr, IsErr};
 ghost use Rattle.mea_shot.specs.declared.view.View.TheVariants.{Sends, Receives};
-ghost use Rattle.mea_shot.specs.declared.view.SendStage.TheVariants.{Ready, Shut};
+ghost use Rattle.mea_shot.specs.declared.view.SendStage.TheVariants.{Ready, Shut, Refused};
 ghost use Rattle.mea_shot.specs.declared.view.SendStage.TheVariants.{Sent as SentStage};
 ghost use Rattle.mea_shot.specs.declared.view.RecvStage.TheVariants.{Waiting};
 
+use crate::duty::Duty;
 use crate::errors::SendError;
 use crate::message::{Content, Message};
 use crate::receiver::Receiver;
@@ -21,6 +22,7 @@ use std::sync::Arc;
 pub struct Sender<T: Message, W> {
     board: Arc<Board<T, W>>,
     seat: Seat<Option<Content<T, W>>, View<W>>,
+    duty: Duty,
 }
 
 impl<T: Message, W> Model for Sender<T, W> {
@@ -42,6 +44,16 @@ pub struct Sent<T: Message, W> {
     board: Arc<Board<T, W>>,
     seat: Seat<Option<Content<T, W>>, View<W>>,
     pub ghost sent: { seat.me.0 ≡ Sends SentStage },
+}
+
+/// What a refused send leaves: the message, and the sender's seat, which says that this call found the receiver ended.
+/// `into_error` gives the message back.
+#[derive(Drop)]
+pub struct Unsent<T: Message, W> {
+    message: T,
+    board: Arc<Board<T, W>>,
+    seat: Seat<Option<Content<T, W>>, View<W>>,
+    pub ghost refused: { seat.me.0 ≡ Sends Refused },
 }
 
 /// A channel for one message. It takes the memory that both ends share; no later call takes any. It ports
@@ -68,23 +80,41 @@ pub fn channel<T: Message + Drop, W: Wake + Drop>(
         return Err(NoMemory);
     };
     Ok((
-        Sender { board, seat },
+        Sender {
+            board,
+            seat,
+            duty: Duty::new(),
+        },
         Receiver::new(other_board, other_seat),
     ))
 }
 
 impl<T: Message + Drop, W: Wake + Drop> Sender<T, W> {
-    /// Sends the message, and wakes the receiver that waits for it. It is refused where the receiver has ended, also
+    /// Sends the message, and wakes the receiver that waits for it. It is refused only where the receiver has ended, also
     /// in the middle of the call; the message then comes back. It ports `mea::oneshot::Sender::send`.
-    pub fn send(self, message: T) -> Result<Sent<T, W>, SendError<T>>
+    pub fn send(self, message: T) -> Result<Sent<T, W>, Unsent<T, W>>
         requires { T.fits message }
-        ensures refused { IfErr result (λ e. e.0 ≡ message) }
+        ensures refused { IfErr result (λ e. e.message ≡ message) }
         ensures shut { self ≡ Sends Shut → IsErr result }
     {
-        let Sender { board, mut seat } = self;
+        let Sender {
+            board,
+            mut seat,
+            duty,
+        } = self;
         match send_on(&*board, &mut seat, message) {
-            Ok(()) => Ok(Sent { board, seat }),
-            Err(message) => Err(SendError(message)),
+            Ok(()) => {
+                duty.done(&seat);
+                Ok(Sent { board, seat })
+            }
+            Err(message) => {
+                duty.done(&seat);
+                Err(Unsent {
+                    message,
+                    board,
+                    seat,
+                })
+            }
         }
     }
 
@@ -99,8 +129,13 @@ impl<T: Message + Drop, W: Wake + Drop> Sender<T, W> {
     /// Ends the sender without a message, and wakes the receiver that waits for one. It ports the drop of
     /// `mea::oneshot::Sender`.
     pub fn end(self) {
-        let Sender { board, mut seat } = self;
+        let Sender {
+            board,
+            mut seat,
+            duty,
+        } = self;
         end_on(&*board, &mut seat);
+        duty.done(&seat);
     }
 }
 
@@ -108,5 +143,19 @@ impl<T: Message + Drop, W: Wake + Drop> Sent<T, W> {
     /// Gives the token up.
     pub fn end(self) {
         let Sent { board: _, seat: _ } = self;
+    }
+}
+
+impl<T: Message + Drop, W: Wake + Drop> Unsent<T, W> {
+    /// The error with the message that was not sent.
+    pub fn into_error(self) -> SendError<T>
+        ensures { result.0 ≡ self.message }
+    {
+        let Unsent {
+            message,
+            board: _,
+            seat: _,
+        } = self;
+        SendError(message)
     }
 }
