@@ -1,5 +1,5 @@
 -- a permit that is poured goes to the first that waits
-use Rattle.std.proofs.Common.{◌≡◌, ◌∙◌, ℕ, suc, ◌+◌, ◌-◌, ◌<◌, ◌≤◌, ◌==◌, ◌++◌, ◌⊎◌, inl, inr, Bool, true, false, cond, nat_lt, min, List, [], ◌∷◌, Some, unwrap_or, Result, Ok, Err, OnErr, filter, MatchResult, length, zero, length-append, refl, ap, sym, subst, arith, append-nil}
+use Rattle.std.proofs.Common.{◌≡◌, ◌∙◌, ℕ, suc, ◌+◌, ◌-◌, ◌<◌, ◌≤◌, ◌==◌, ◌++◌, ◌⊎◌, inl, inr, Bool, true, false, cond, nat_lt, min, List, [], ◌∷◌, Some, unwrap_or, Result, Ok, Err, filter, MatchResult, length, zero, length-append, refl, ap, sym, subst, arith, append-nil}
 use Rattle.std.proofs.lemmas.Bool.{cases_lt}
 use Rattle.std.proofs.lemmas.List.Sums.{sum_by-cons}
 use Rattle.std.specs.Prelude.{map as map_list}
@@ -237,22 +237,6 @@ module _ {W : Type 0} where
       omega arith
   few_polled Running s s' a' w r may polls = absurd may
   few_polled Done s s' a' w r may polls = absurd may
-
-  -- a poll that finds no memory is the first of a call that finds the permit taken
-  pub unpaid_polled : (stage : Stage) (s s' : Core W) (a' : Acquire) (w : W) (r : Result (Turn W) (W × NoMemory)) → MayAsk s stage → Polls s (acquire_of stage) w r s' a' → OnErr r (asks_more s stage ≡ 1)
-  unpaid_polled stage s s' a' w (Ok turn) may polls = tt
-  unpaid_polled New s s' a' w (Err e) may polls = by_free (ready_or s.free)
-    where
-      ready_or : (n : ℕ) → (1 ≤ n) ⊎ (n < 1)
-      ready_or n = elim (cases_lt n 1) [ inl low ↦ inr low | inr high ↦ inl (omega arith) ]
-
-      by_free : (1 ≤ s.free) ⊎ (s.free < 1) → asks_more s New ≡ 1
-      by_free (inl high) = absurd (let ready = (polls.0 high).0 in cc)
-      by_free (inr low) = one_at_0 s.free low
-  unpaid_polled (Queued n) s s' a' w (Err e) (inl next) polls = absurd (let ready = (polls.0 next).0 in cc)
-  unpaid_polled (Queued n) s s' a' w (Err e) (inr waits) polls = absurd (let pending = (polls.1 waits).0 in cc)
-  unpaid_polled Running s s' a' w (Err e) may polls = absurd may
-  unpaid_polled Done s s' a' w (Err e) may polls = absurd may
 
   pub few_cancelled : (s s' : Core W) (n : ℕ) → Leaves s (Queued n) s' → IsNext s n ⊎ IsWaiting s n → length s'.queue + length s'.wakes ≤ length s.queue + length s.wakes
   few_cancelled s s' n leaves (inl next) = subst (λ (t : Core W). count_of t ≤ count_of s) (sym (leaves.0 next)) (few_passed s.queue (record s { granted = map.remove s.granted n }) refl)
