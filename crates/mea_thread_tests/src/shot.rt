@@ -21,7 +21,10 @@ pub fn send(sender: Sender<Plain<u64>, Bell>, number: u64) -> Option<u64> {
             sent.end();
             None
         }
-        Err(SendError(Plain(number))) => Some(number),
+        Err(unsent) => {
+            let SendError(Plain(number)) = unsent.into_error();
+            Some(number)
+        }
     }
 }
 
