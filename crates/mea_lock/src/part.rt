@@ -1,8 +1,9 @@
 ghost use Rattle.std.specs.Prelude.{◌≡◌, ◌≤◌, ◌≢◌, OnErr, IfOk, IfErr, IfSome, is_some, None, Some, true, false, if◌then◌else◌};
 ghost use Rattle.std.specs.FinMap as map;
+ghost use Rattle.mea_base.specs.Causes.{borrowed_by};
 ghost use Rattle.mea_named.specs.Play.{PartYields, PartRests};
 ghost use Rattle.mea_lock_model.specs.Locks.{no_locks, is_named, is_future, is_lock_future, is_condvar_future, is_guard, is_write_guard, was_polled, things_of, plain_of, registered};
-ghost use Rattle.mea_lock_model.specs.Actions.{act_in, Make, Begin, Poll, Try, Get, Set, Lower, End, Peek, Put, Take, Drop, Hand, PollUntil, EndWait, borrowed_by};
+ghost use Rattle.mea_lock_model.specs.Actions.{act_in, Make, Begin, Poll, Try, Get, Set, Lower, End, Peek, Put, Take, Drop, Hand, PollUntil, EndWait};
 ghost use Rattle.mea_lock_model.specs.Valid.{FitGuards};
 ghost use Rattle.mea_lock.specs.Parts.{IsNewLock};
 ghost use Rattle.mea_lock.specs.Lends.{StandsFor};

@@ -1,10 +1,10 @@
 ghost use Rattle.std.specs.Prelude.{ℕ, ◌≡◌, ◌≤◌, ◌+◌, OnErr, IfOk, IfSome, is_some, true};
+ghost use Rattle.mea_base.specs.Causes.{borrowed_by};
 ghost use Rattle.mea_base.specs.Ready.{Waking};
 ghost use Rattle.mea_named.specs.Play.{Part};
 ghost use Rattle.mea_lock_model.specs.Condvars.{no_condvars, is_condvar, is_wait, waits_of, until_of, registered};
 ghost use Rattle.mea_lock_model.specs.Locks as locks;
 ghost use Rattle.mea_lock_model.specs.Locks.{Locks, is_condvar_future, is_write_guard};
-ghost use Rattle.mea_lock_model.specs.Actions.{borrowed_by};
 ghost use Rattle.mea_lock_model.specs.CondActions.{Make, Wait, Poll, One, All, End, Drop};
 ghost use Rattle.mea_lock.specs.Halls.{PlaysWaits};
 ghost use Rattle.mea_lock.specs.Waits.{until_seen};

@@ -5,8 +5,8 @@ ghost use Rattle.mea_meet_model.specs.Latches as latches;
 ghost use Rattle.mea_meet_model.specs.Groups as groups;
 ghost use Rattle.mea_meet_model.specs.Shutdowns as shutdowns;
 ghost use Rattle.mea_meet_model.specs.Hall.{empty_hall, registered};
-ghost use Rattle.mea_base.specs.Causes.{unknown_unless};
-ghost use Rattle.mea_meet_model.specs.Cause.{cause_of, borrowed_by, clone_cause, copy_cause};
+ghost use Rattle.mea_base.specs.Causes.{unknown_unless, borrowed_by};
+ghost use Rattle.mea_meet_model.specs.Cause.{cause_of, clone_cause, copy_cause};
 ghost use Rattle.mea_meet.specs.Play.{Yields, TakesNoMemory};
 ghost use Rattle.mea_meet.specs.Parts.{hall_of, IsLow, PlaysParts};
 

@@ -1,8 +1,8 @@
 ghost use Rattle.std.specs.Prelude.{◌≡◌, ◌≤◌, OnErr, IfOk, IfSome, is_some, None, Some, true};
+ghost use Rattle.mea_base.specs.Causes.{borrowed_by};
 ghost use Rattle.mea_named.specs.Play.{PartYields, PartRests};
 ghost use Rattle.mea_once_model.specs.Tables.{no_tables, is_table, is_future, is_unsettled, futures_of, registered};
 ghost use Rattle.mea_once_model.specs.KeyActions.{key_act, MakeTable, BeginKey, PollKey, SettleKey, EndKey, TellKey, DiscardKey, RemoveKey, DropTable};
-ghost use Rattle.mea_once_model.specs.Actions.{borrowed_by};
 ghost use Rattle.mea_once.specs.KeyParts.{IsNewKeyed};
 ghost use Rattle.mea_once.specs.Lends.{StandsForTable};
 

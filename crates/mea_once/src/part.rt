@@ -1,8 +1,9 @@
 ghost use Rattle.std.specs.Prelude.{◌≡◌, ◌≤◌, OnErr, IfOk, IfSome, is_some, None, Some, true, false, if◌then◌else◌};
 ghost use Rattle.std.specs.FinMap.{get};
+ghost use Rattle.mea_base.specs.Causes.{borrowed_by};
 ghost use Rattle.mea_named.specs.Play.{PartYields, PartRests};
 ghost use Rattle.mea_once_model.specs.Cells.{no_cells, is_cell, is_future, is_unsettled, futures_of, alone_of, registered};
-ghost use Rattle.mea_once_model.specs.Actions.{act_in, Make, Begin, Poll, Settle, End, TellFull, Tell, Peek, Put, Take, TakeOut, Drop, borrowed_by, in_the_way};
+ghost use Rattle.mea_once_model.specs.Actions.{act_in, Make, Begin, Poll, Settle, End, TellFull, Tell, Peek, Put, Take, TakeOut, Drop, in_the_way};
 ghost use Rattle.mea_once.specs.Parts.{IsNewCell, fits, job_at, asks_turn, awaits_full, uses_alone, FitsSettled};
 ghost use Rattle.mea_once.specs.Lends.{StandsFor};
 
