@@ -5,7 +5,7 @@ use crate::waiting::Waiting;
 use futures::task::{Context, Poll};
 use futures::{Sink, ready};
 use mea_base::NoMemory;
-use mea_link::mpsc::{BoundedSend, BoundedSender, SendError};
+use mea_link::mpsc::{BoundedSend, BoundedSender, SendError, TrySendError};
 use mea_wait::PollFault;
 use std::alloc::Global;
 use std::sync::Wait;
@@ -19,8 +19,9 @@ pub enum FeedError<T> {
     Refused(PollFault),
 }
 
-/// A bounded sender as a sink. It holds one item at most, which waits for its place behind those who wait; to drop it ends
-/// that wait, and drops the item where it was not sent.
+/// A bounded sender as a sink. An item goes at once where there is a place, as at the first poll of a send. The sink holds one
+/// item at most, which waits for its place behind those who wait; to drop it ends that wait, and drops the item where it was
+/// not sent.
 ///
 /// It borrows the sender, which is ended by whoever has it: a sink that is closed has sent all, and no more. What a channel
 /// was sent no clause says, since each item goes through a lock; that the sink holds none once it is flushed, one does.
@@ -80,9 +81,17 @@ impl<'a, R: Wait, T: Drop> Sink<T> for Feeding<'a, R, T> {
     }
 
     fn start_send(&mut self, item: T) -> Result<(), FeedError<T>> {
-        let send = self.sender.send(item);
-        self.send.begin(send);
-        Ok(())
+        // A send asks for a place at its first poll too, so nobody is passed who would not be. A wait is begun where there is
+        // none: it alone needs a bell.
+        match self.sender.try_send(self.send.rt, item) {
+            Ok(()) => Ok(()),
+            Err(TrySendError::Full(item)) => {
+                let send = self.sender.send(item);
+                self.send.begin(send);
+                Ok(())
+            }
+            Err(TrySendError::Disconnected(item)) => Err(FeedError::Closed(item)),
+        }
     }
 
     fn poll_flush(&mut self, cx: &mut Context<'_>) -> Poll<Result<(), FeedError<T>>> {

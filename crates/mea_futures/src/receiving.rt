@@ -5,7 +5,7 @@ use futures::Stream;
 use futures::task::{Context, Poll, Source};
 use mea_base::NoMemory;
 use mea_link::broadcast::overflow;
-use mea_link::mpsc::{BoundedReceiver, RecvError, UnboundedReceiver};
+use mea_link::mpsc::{BoundedReceiver, RecvError, TryRecvError, UnboundedReceiver};
 use mea_wait::{End, Kept, PollFault, Polled, Unpolled, Waits};
 use std::alloc::Global;
 use std::marker::PhantomData;
@@ -18,6 +18,10 @@ pub struct Lagged(pub u64);
 /// A receiver that gives its messages one after another, and None once no more come: each of `mea::mpsc` and
 /// `mea::broadcast`.
 pub trait Receives<M>: End {
+    /// The next message where it has come, or None where no more do. It is pending where neither is known without a wait, and
+    /// leaves nothing with the receiver then.
+    fn take_message<R: Wait>(&mut self, rt: &R) -> Poll<Option<M>>;
+
     /// Asks for the next message. A pending answer has left the bell with the receiver, until a message comes or no more do.
     fn poll_message<R: Wait>(&mut self, rt: &R, bell: Bell) -> Result<Poll<Option<M>>, PollFault>;
 }
@@ -50,6 +54,14 @@ fn poll_once<R: Wait, F: Waits<Bell, O>, O>(
 }
 
 impl<T: Drop> Receives<T> for BoundedReceiver<T, Bell> {
+    fn take_message<R: Wait>(&mut self, rt: &R) -> Poll<Option<T>> {
+        match self.try_recv(rt) {
+            Ok(message) => Poll::Ready(Some(message)),
+            Err(TryRecvError::Disconnected) => Poll::Ready(None),
+            Err(TryRecvError::Empty) => Poll::Pending,
+        }
+    }
+
     fn poll_message<R: Wait>(&mut self, rt: &R, bell: Bell) -> Result<Poll<Option<T>>, PollFault> {
         match poll_once(rt, self.recv(), bell)? {
             Poll::Ready(Ok(message)) => Ok(Poll::Ready(Some(message))),
@@ -60,6 +72,14 @@ impl<T: Drop> Receives<T> for BoundedReceiver<T, Bell> {
 }
 
 impl<T: Drop> Receives<T> for UnboundedReceiver<T, Bell> {
+    fn take_message<R: Wait>(&mut self, rt: &R) -> Poll<Option<T>> {
+        match self.try_recv(rt) {
+            Ok(message) => Poll::Ready(Some(message)),
+            Err(TryRecvError::Disconnected) => Poll::Ready(None),
+            Err(TryRecvError::Empty) => Poll::Pending,
+        }
+    }
+
     fn poll_message<R: Wait>(&mut self, rt: &R, bell: Bell) -> Result<Poll<Option<T>>, PollFault> {
         match poll_once(rt, self.recv(), bell)? {
             Poll::Ready(Ok(message)) => Ok(Poll::Ready(Some(message))),
@@ -70,6 +90,15 @@ impl<T: Drop> Receives<T> for UnboundedReceiver<T, Bell> {
 }
 
 impl<T: Clone + Drop> Receives<Result<T, Lagged>> for overflow::Receiver<T, Bell> {
+    fn take_message<R: Wait>(&mut self, rt: &R) -> Poll<Option<Result<T, Lagged>>> {
+        match self.try_recv(rt) {
+            Ok(message) => Poll::Ready(Some(Ok(message))),
+            Err(overflow::TryRecvError::Lagged(lost)) => Poll::Ready(Some(Err(Lagged(lost)))),
+            Err(overflow::TryRecvError::Disconnected) => Poll::Ready(None),
+            Err(overflow::TryRecvError::Empty | overflow::TryRecvError::NoMemory) => Poll::Pending,
+        }
+    }
+
     fn poll_message<R: Wait>(
         &mut self,
         rt: &R,
@@ -133,6 +162,11 @@ impl<'a, R: Wait, C: Receives<M>, M> Stream for Receiving<'a, R, C, M> {
         // A receiver that has the bell has no message yet. To ask again would take its channel's lock for nothing.
         if self.has_bell && !self.bell.is_rung() {
             return self.bell.rest(cx, &self.rung);
+        }
+        // A message that has come is taken as it is: a bell is made for a wait alone.
+        if let Poll::Ready(message) = self.receiver.get_mut().take_message(self.rt) {
+            self.has_bell = false;
+            return Poll::Ready(message);
         }
         let Some(bell) = self.bell.again() else {
             return cx.yield_now();
