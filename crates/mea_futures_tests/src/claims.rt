@@ -1,10 +1,16 @@
+use futures::Future;
 use futures::future::{pending, ready};
-use futures::task::Poll;
+use futures::task::{Context, Poll};
 use futures::test::MockTask;
 use mea_futures::{Bell, initialise};
 use mea_keep::Never;
 use mea_keep::once::OnceCell;
+use mea_keep::singleflight::Group;
+use mea_wait::PollFault;
 use std::alloc::AllocError;
+use std::hash::{BuildHasherDefault, FoldHasher};
+use std::sync::atomic::AtomicU64;
+use std::sync::atomic::Ordering::SeqCst;
 use std::test::Fail;
 
 // An initialiser is dropped while its future computes: the next that waits fills the cell.
@@ -31,5 +37,101 @@ fn an_abandoned_initialiser_passes_its_turn_on(rt: HostRuntime) -> Result<(), Fa
         _ => assert!(rt; false, "not filled"),
     }
     assert!(rt; cell.get() == Some(&9));
+    Ok(())
+}
+
+// A page that is fetched in two polls.
+#[derive(Drop)]
+struct Fetch<'a> {
+    page: u64,
+    is_asked: bool,
+    fetches: &'a AtomicU64,
+}
+
+impl<'a> Future for Fetch<'a> {
+    type Output = Result<u64, u8>;
+
+    fn poll(&mut self, cx: &mut Context<'_>) -> Poll<Result<u64, u8>> {
+        if !self.is_asked {
+            self.is_asked = true;
+            return cx.yield_now();
+        }
+        self.fetches.fetch_add(1, SeqCst);
+        if self.page == 0 {
+            return Poll::Ready(Err(7));
+        }
+        Poll::Ready(Ok(self.page.wrapping_mul(10)))
+    }
+}
+
+// A fetch that was never polled.
+fn new_fetch(page: u64, fetches: &AtomicU64) -> Fetch<'_> {
+    Fetch {
+        page,
+        is_asked: false,
+        fetches,
+    }
+}
+
+// What a request for a page comes to: the page, or why it was not fetched.
+type Answer = Result<Result<u64, u8>, PollFault>;
+
+// Two requests are polled in turn: the first fetches, and the second waits for it. It tells what both have.
+fn answers<F: Future<Output = Answer>>(
+    one: &MockTask,
+    two: &MockTask,
+    mut first: F,
+    mut second: F,
+) -> Option<(Poll<Answer>, Poll<Answer>)>
+    requires first { F.can_poll first }
+    requires second { F.can_poll second }
+{
+    if one.poll(&mut first).is_ready() {
+        return None;
+    }
+    if two.poll(&mut second).is_ready() {
+        return None;
+    }
+    if two.is_woken() {
+        return None;
+    }
+    let page = one.poll(&mut first);
+    if !two.is_woken() {
+        return None;
+    }
+    let same = two.poll(&mut second);
+    Some((page, same))
+}
+
+// Two requests for a page at a time: it is fetched once, and both have it.
+#[test]
+fn a_page_is_fetched_once(rt: HostRuntime) -> Result<(), Fail> {
+    let (one, two) = (MockTask::new(&rt)?, MockTask::new(&rt)?);
+    let flights: Group<u64, u64, BuildHasherDefault<FoldHasher>, Bell> = Group::new(rt.alloc());
+    let fetches = AtomicU64::new(0);
+    let first = initialise(&rt, rt.alloc(), flights.claim(4), new_fetch(4, &fetches)).map_err(
+        |_| AllocError,
+    )?;
+    let second = initialise(&rt, rt.alloc(), flights.claim(4), new_fetch(4, &fetches)).map_err(
+        |_| AllocError,
+    )?;
+    let both = answers(&one, &two, first, second);
+    assert!(rt; both == Some((Poll::Ready(Ok(Ok(40))), Poll::Ready(Ok(Ok(40))))));
+    assert!(rt; fetches.load(SeqCst) == 1);
+    Ok(())
+}
+
+// A fetch that fails gives its error to who fetched.
+#[test]
+fn an_error_is_that_of_who_fetched(rt: HostRuntime) -> Result<(), Fail> {
+    let task = MockTask::new(&rt)?;
+    let flights: Group<u64, u64, BuildHasherDefault<FoldHasher>, Bell> = Group::new(rt.alloc());
+    let fetches = AtomicU64::new(0);
+    let mut none = initialise(&rt, rt.alloc(), flights.claim(0), new_fetch(0, &fetches)).map_err(
+        |_| AllocError,
+    )?;
+    assert!(rt; task.poll(&mut none).is_pending());
+    assert!(rt; matches!(task.poll(&mut none), Poll::Ready(Ok(Err(7)))));
+    assert!(rt; fetches.load(SeqCst) == 1);
     Ok(())
 }

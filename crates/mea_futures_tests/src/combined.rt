@@ -1,9 +1,16 @@
+ghost use Rattle.std.specs.Prelude.{◌≡◌, IsSomeAnd};
+
+use futures::Future;
 use futures::executor::block_on;
-use futures::future::{join, ready};
+use futures::future::{Either, Pending, Select, join, pending, ready, select};
+use futures::task::{Context, Poll};
+use futures::test::MockTask;
 use mea_futures::{TakeError, take, take_before, wait};
 use mea_link::latch::Latch;
 use mea_sync::semaphore::Semaphore;
+use mea_wait::PollFault;
 use std::alloc::AllocError;
+use std::sync::Arc;
 use std::test::Fail;
 use std::thread;
 
@@ -44,5 +51,90 @@ fn permits_are_taken(rt: HostRuntime) -> Result<(), Fail> {
     assert!(rt; matches!(take_before(&rt, &semaphore, 1, ready(()))?, Ok(Some(_))));
     semaphore.close(&rt);
     assert!(rt; matches!(take(&rt, &semaphore, 1)?, Err(TakeError::Closed)));
+    Ok(())
+}
+
+// A job that is done at its second poll, or one that is never done and wakes nobody.
+#[derive(Drop)]
+struct Nap {
+    is_endless: bool,
+    is_begun: bool,
+    never: Pending<()>,
+}
+
+impl Nap {
+    fn new(is_endless: bool) -> Self {
+        Nap {
+            is_endless,
+            is_begun: false,
+            never: pending(),
+        }
+    }
+}
+
+impl Future for Nap {
+    type Output = ();
+
+    fn poll(&mut self, cx: &mut Context<'_>) -> Poll<()> {
+        if self.is_endless {
+            return self.never.poll(cx);
+        }
+        if self.is_begun {
+            return Poll::Ready(());
+        }
+        self.is_begun = true;
+        cx.yield_now()
+    }
+}
+
+// Does one job after another until its wait is over, and tells how many. The wait is kept: each select hands it back.
+#[derive(Drop)]
+struct Until<F: Future> {
+    next: Select<F, Nap>,
+    done: u64,
+}
+
+impl<F: Future> Until<F> {
+    fn new(wait: F) -> Self
+        requires { F.can_poll wait }
+        ensures { IsSomeAnd result.next.inner (λ both. both.0 ≡ wait) }
+    {
+        Until {
+            next: select(wait, Nap::new(false)),
+            done: 0,
+        }
+    }
+}
+
+impl<F: Future<Output = Result<(), PollFault>>> Future for Until<F> {
+    type Output = u64;
+
+    ghost can_poll = { λ until. IsSomeAnd until.next.inner (λ both. F.can_poll both.0) };
+
+    fn poll(&mut self, cx: &mut Context<'_>) -> Poll<u64> {
+        match self.next.poll(cx) {
+            Poll::Ready(Either::Left((_, _nap))) => Poll::Ready(self.done),
+            Poll::Ready(Either::Right(((), wait))) => {
+                self.done = self.done.wrapping_add(1);
+                self.next = select(wait, Nap::new(self.done == 2));
+                cx.yield_now()
+            }
+            Poll::Pending => Poll::Pending,
+        }
+    }
+}
+
+// A wait goes from select to select, and the task still hears of it: two jobs are done, and a third never ends.
+#[test]
+fn a_wait_is_kept_from_select_to_select(rt: HostRuntime) -> Result<(), Fail> {
+    let task = MockTask::new(&rt)?;
+    let latch = Arc::new(rt.alloc(), Latch::new(rt.alloc(), 1))?;
+    let open = wait(&rt, rt.alloc(), Arc::try_clone(&latch)?.wait_owned()).map_err(|_| AllocError)?;
+    let mut until = Until::new(open);
+    assert!(rt; task.poll(&mut until).is_pending() && task.poll(&mut until).is_pending());
+    assert!(rt; task.poll(&mut until).is_pending() && task.poll(&mut until).is_pending());
+    assert!(rt; task.poll(&mut until).is_pending() && !task.is_woken());
+    latch.count_down(&rt);
+    assert!(rt; task.is_woken() && matches!(task.poll(&mut until), Poll::Ready(2)));
     Ok(())
 }

@@ -65,3 +65,36 @@ fn a_timeout_abandons_a_queued_acquire(rt: HostRuntime) -> Result<(), Fail> {
     assert!(rt; matches!(two.poll(&mut second), Poll::Ready(Ok(Ok(_)))));
     Ok(())
 }
+
+// A further wait with the same bell, after one that was ready.
+#[test]
+fn a_wait_that_was_ready_begins_again(rt: HostRuntime) -> Result<(), Fail> {
+    let semaphore = Arc::new(rt.alloc(), Semaphore::new(rt.alloc(), 1))?;
+    let task = MockTask::new(&rt)?;
+    let mut acquire = queued(&rt, &semaphore, 1)?;
+    assert!(rt; matches!(task.poll(&mut acquire), Poll::Ready(Ok(Ok(_)))));
+    acquire.restart(Arc::try_clone(&semaphore)?.acquire_owned(2));
+    assert!(rt; task.poll(&mut acquire).is_pending() && !task.is_woken());
+    assert!(rt; semaphore.release(&rt, 1).is_ok() && task.is_woken());
+    assert!(rt; matches!(task.poll(&mut acquire), Poll::Ready(Ok(Ok(_)))));
+    assert!(rt; semaphore.available_permits(&rt) == 2);
+    Ok(())
+}
+
+// One that was not ready yet is ended by the further wait, which stands behind those who wait by then.
+#[test]
+fn a_wait_that_was_not_ready_is_ended_by_the_next(rt: HostRuntime) -> Result<(), Fail> {
+    let semaphore = Arc::new(rt.alloc(), Semaphore::new(rt.alloc(), 1))?;
+    let (one, two) = (MockTask::new(&rt)?, MockTask::new(&rt)?);
+    let mut first = queued(&rt, &semaphore, 2)?;
+    let mut second = queued(&rt, &semaphore, 1)?;
+    assert!(rt; one.poll(&mut first).is_pending() && two.poll(&mut second).is_pending());
+    assert!(rt; !two.is_woken());
+    first.restart(Arc::try_clone(&semaphore)?.acquire_owned(1));
+    assert!(rt; two.is_woken() && one.poll(&mut first).is_pending() && !one.is_woken());
+    assert!(rt; matches!(two.poll(&mut second), Poll::Ready(Ok(Ok(_)))));
+    assert!(rt; one.is_woken());
+    assert!(rt; matches!(one.poll(&mut first), Poll::Ready(Ok(Ok(_)))));
+    assert!(rt; semaphore.available_permits(&rt) == 1);
+    Ok(())
+}

@@ -13,4 +13,10 @@ mod job;
 #[cfg(test)]
 mod pools;
 #[cfg(test)]
+mod selects;
+#[cfg(test)]
+mod sinks;
+#[cfg(test)]
 mod streams;
+#[cfg(test)]
+mod supervisor;
