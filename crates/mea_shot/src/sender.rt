@@ -50,7 +50,8 @@ pub struct Sent<T: Message, W> {
 /// `into_error` gives the message back.
 #[derive(Drop)]
 pub struct Unsent<T: Message, W> {
-    message: T,
+    /// The message that was not sent.
+    pub message: T,
     board: Arc<Board<T, W>>,
     seat: Seat<Option<Content<T, W>>, View<W>>,
     pub ghost refused: { seat.me.0 ≡ Sends Refused },
