@@ -1,5 +1,6 @@
 -- the receipts of passes, held against the entries that they name
 use Rattle.std.specs.Prelude.{suc, ℕ, ◌≡◌, ◌≢◌, ◌+◌, ◌≤◌, ◌⊎◌, Bool, true, List, [], ◌∷◌, Some, slice_get, nat_lt, ◌&&◌, Any, length}
+use Rattle.mea_sem_model.specs.declared.event.SemEvent.{SemEvent}
 use Rattle.mea_history.specs.History.{History, answer_at}
 use Rattle.mea_history.specs.declared.pass.Noted.{Noted}
 use Rattle.mea_history.specs.declared.mismatch.Mismatch.{Mismatch}
@@ -47,3 +48,10 @@ IsOutOfOrder ns (mismatches.Order before after) = Follow before after ns × (aft
 -- why the receipts of a pass and a history do not agree
 abbrev pub Explains : History → Mismatch → List Noted → Type 0
 Explains h m ns = Any (Differs h m) ns ⊎ IsOutOfOrder ns m
+
+-- the first entry holds another event than was asked for it
+abbrev pub BeginsOtherwise : History → SemEvent → Mismatch → Type 0
+BeginsOtherwise h first (mismatches.Entry number asked played told kept) =
+    (number ≡ 0) × (asked ≡ first) × (slice_get h.events 0 ≡ Some played) × (answer_at h 0 ≡ Some kept) × (told ≡ kept) × (asked ≢ played)
+BeginsOtherwise h first (mismatches.Beyond number entries) = ⊥
+BeginsOtherwise h first (mismatches.Order before after) = ⊥

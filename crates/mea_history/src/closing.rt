@@ -1,5 +1,5 @@
-ghost use Rattle.std.specs.Prelude.{◌≡◌, ◌≢◌, ◌+◌, ◌<◌, ◌≤◌, ◌^◌, [], true, false, All, Any, OnOk, IfErr, length};
-ghost use Rattle.mea_history.specs.Closing.{Stands, rise_from, Differs, IsOutOfOrder, Explains};
+ghost use Rattle.std.specs.Prelude.{◌≡◌, ◌≢◌, ◌+◌, ◌<◌, ◌≤◌, ◌^◌, [], true, false, Some, All, Any, OnOk, IfErr, length, slice_get};
+ghost use Rattle.mea_history.specs.Closing.{Stands, rise_from, Differs, IsOutOfOrder, Explains, BeginsOtherwise};
 
 use crate::mismatch::Mismatch;
 use crate::pass::{Noted, Pass};
@@ -54,6 +54,25 @@ fn compare_one(recorded: &Recorded, noted: &Noted) -> Result<(), Mismatch>
         asked: noted.asked,
         played,
         told: noted.receipt.answer,
+        kept,
+    })
+}
+
+/// Holds the first entry against the event that was asked for it.
+pub fn compare_first(recorded: &Recorded, asked: &SemEvent) -> Result<(), Mismatch>
+    requires { 0 < length recorded.now.events }
+    ensures begins { OnOk result (slice_get recorded.now.events 0 ≡ Some asked.now) }
+    ensures explained { IfErr result (λ m. BeginsOtherwise recorded.now asked.now m) }
+{
+    let (played, kept) = recorded.entry_at(0);
+    if is_event(&played, asked) {
+        return Ok(());
+    }
+    Err(Mismatch::Entry {
+        number: 0,
+        asked: *asked,
+        played,
+        told: kept,
         kept,
     })
 }

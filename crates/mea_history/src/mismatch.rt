@@ -1,10 +1,10 @@
 use mea_base::Answer;
 use mea_sem_model::SemEvent;
 
-/// Where the receipts of passes and the entries of a history do not agree.
+/// Where the receipts of passes, or what the semaphore was made with, and the entries of a history do not agree.
 #[derive(Clone, Copy, Debug, Drop, PartialEq, Eq)]
 pub enum Mismatch {
-    /// The entry of a receipt's number holds another event than was asked, or another answer than was told.
+    /// The entry of a receipt's number, or the first, holds another event than was asked, or another answer than was told.
     Entry {
         number: u64,
         asked: SemEvent,

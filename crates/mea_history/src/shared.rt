@@ -1,7 +1,9 @@
-ghost use Rattle.std.specs.Prelude.{◌≡◌, ◌≢◌, ◌+◌, ◌<◌, ◌≤◌, ◌++◌, ◌∷◌, [], ℕ, true, All, Any, IfOk, OnErr, OnOk, IfErr, length, vec_len, sum_by};
-ghost use Rattle.mea_history.specs.Closing.{Stands, rise_from, Explains};
+ghost use Rattle.std.specs.Prelude.{◌≡◌, ◌≢◌, ◌+◌, ◌<◌, ◌≤◌, ◌++◌, ◌∷◌, [], ℕ, true, Some, All, Any, ◌⊎◌, IfOk, OnErr, OnOk, IfErr, length, vec_len, slice_get, sum_by};
+ghost use Rattle.mea_sem_model.specs.declared.event.SemEvent.TheVariants as lines;
+ghost use Rattle.mea_history.specs.Closing.{Stands, rise_from, Explains, BeginsOtherwise};
 ghost use Rattle.mea_history.specs.History.{IsHistory};
 
+use crate::closing::compare_first;
 use crate::desk::Desk;
 use crate::mismatch::Mismatch;
 use crate::pass::Pass;
@@ -18,6 +20,8 @@ use std::sync::{Mutex, Wait};
 #[derive(Drop)]
 pub struct RecordedSemaphore<L: Ledger> {
     desk: Mutex<Desk<L>>,
+    // What it was made with. The lock tells nothing of the desk, so the first entry is held against it at the end.
+    pub(crate) permits: usize,
 }
 
 impl<L: Ledger> RecordedSemaphore<L> {
@@ -30,7 +34,8 @@ impl<L: Ledger> RecordedSemaphore<L> {
     ) -> Result<(RecordedSemaphore<L>, Pass<L>), NoMemory>
         requires name { blank.name ≡ L.name }
         requires parts { (blank.parts ≡ L.parts) × (L.parts ≡ parts) × (0 < parts) }
-        ensures { IfOk result (λ r. (r.1.parts ≡ L.parts) × (r.1.noted.items ≡ [])) }
+        ensures permits { IfOk result (λ r. r.0.permits ≡ permits) }
+        ensures pass { IfOk result (λ r. (r.1.parts ≡ L.parts) × (r.1.noted.items ≡ [])) }
     {
         let recorded = Recorded::new(alloc, permits)?;
         let (book, mut share) = blank.open::<L>();
@@ -48,6 +53,7 @@ impl<L: Ledger> RecordedSemaphore<L> {
         };
         let shared = RecordedSemaphore {
             desk: Mutex::new(desk),
+            permits,
         };
         Ok((shared, pass))
     }
@@ -77,16 +83,22 @@ impl<L: Ledger> RecordedSemaphore<L> {
     }
 
     /// Takes the history out, once all passes are together. It is refused where a receipt does not agree with its
-    /// entry, which no order of calls brings about; the history comes back then too.
+    /// entry, or the first entry with the permits that the semaphore was made with, which no order of calls brings
+    /// about; the history comes back then too.
     pub fn close(self, passes: Vec<Pass<L>>) -> Result<Recorded, (Recorded, Mismatch)>
         requires { sum_by (λ p. p.parts) passes.items ≡ L.parts }
         ensures history { IfOk result (λ r. IsHistory r) }
+        ensures begins { IfOk result (λ r. slice_get r.events 0 ≡ Some (lines.New self.permits)) }
         ensures count { IfOk result (λ r. length r.events ≡ sum_by (λ p. vec_len p.noted) passes.items + 1) }
         ensures stand { IfOk result (λ r. All (λ p. All (λ n. Stands r n) p.noted.items) passes.items) }
         ensures rise { IfOk result (λ r. All (λ p. rise_from 0 p.noted.items ≡ true) passes.items) }
-        ensures explained { IfErr result (λ e. Any (λ p. Explains e.0 e.1 p.noted.items) passes.items) }
+        ensures explained { IfErr result (λ e. Any (λ p. Explains e.0 e.1 p.noted.items) passes.items ⊎ BeginsOtherwise e.0 (lines.New self.permits) e.1) }
     {
-        let RecordedSemaphore { desk } = self;
-        desk.into_inner().close(passes)
+        let RecordedSemaphore { desk, permits } = self;
+        let recorded = desk.into_inner().close(passes)?;
+        match compare_first(&recorded, &SemEvent::New(permits as u64)) {
+            Ok(()) => Ok(recorded),
+            Err(mismatch) => Err((recorded, mismatch)),
+        }
     }
 }
