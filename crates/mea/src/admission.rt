@@ -61,7 +61,8 @@ impl<K: Eq + Hash + Drop, W: Wake, S: BuildHasher + Drop> FairShare<K, W, S> {
         self.core.lock(rt).num_waiters()
     }
 
-    /// A permit of the key, if one is free, which it is only while nobody waits.
+    /// A permit of the key, if one is free, which it is only while nobody waits. It takes memory to share the key, and for
+    /// what is kept of a key that holds or waits; where there is none nothing has changed.
     pub fn try_acquire<R: Wait>(
         &self,
         rt: &R,
@@ -75,14 +76,14 @@ impl<K: Eq + Hash + Drop, W: Wake, S: BuildHasher + Drop> FairShare<K, W, S> {
         }
     }
 
-    /// A wait for a permit of the key. It takes no lock before its first poll.
+    /// A wait for a permit of the key. It takes no lock before its first poll, and memory to share the key.
     pub fn acquire(&self, key: K) -> Result<ShareWait<'_, K, W, S>, NoMemory>
         ensures { IfOk result (λ wait. wait ≡ key) }
     {
         Admission::of(self, self.alloc, key)
     }
 
-    /// `try_acquire`, for a permit that owns a share of the admission.
+    /// `try_acquire`, for a permit that owns a share of the admission. It takes memory as that does.
     pub fn try_acquire_owned<R: Wait>(
         self: Arc<Self>,
         rt: &R,
@@ -96,7 +97,7 @@ impl<K: Eq + Hash + Drop, W: Wake, S: BuildHasher + Drop> FairShare<K, W, S> {
         }
     }
 
-    /// `acquire`, for a wait that owns a share of the admission.
+    /// `acquire`, for a wait that owns a share of the admission. It takes memory as that does.
     pub fn acquire_owned(self: Arc<Self>, key: K) -> Result<OwnedShareWait<K, W, S>, NoMemory>
         ensures { IfOk result (λ wait. wait ≡ key) }
     {
@@ -105,13 +106,13 @@ impl<K: Eq + Hash + Drop, W: Wake, S: BuildHasher + Drop> FairShare<K, W, S> {
     }
 
     /// Sets the weight of a key, which stays until it is set again: a key of weight 2 may hold twice as much before it
-    /// stands back. It admits nobody.
+    /// stands back. It admits nobody. It takes memory to share the key and to keep its weight.
     pub fn set_weight<R: Wait>(&self, rt: &R, key: K, weight: NonZeroU64) -> Result<(), NoMemory> {
         let key = shared(self.alloc, key)?;
         self.core.lock(rt).set_weight(&key, weight.get())
     }
 
-    /// The weight of a key, which is 1 until it is set.
+    /// The weight of a key, which is 1 until it is set. It takes memory to share the key.
     pub fn weight<R: Wait>(&self, rt: &R, key: K) -> Result<u64, NoMemory> {
         let key = shared(self.alloc, key)?;
         Ok(self.core.lock(rt).weight(&key))

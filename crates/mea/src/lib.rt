@@ -8,12 +8,13 @@
 pub mod admission;
 pub mod atomicbox;
 
-pub use mea_base::{NoMemory, Overflow, Wake};
+pub use mea_base::{NoMemory, Overflow, Poll, Wake};
 pub use mea_keep::{
     AtOnce, Claim, Claimed, Claiming, Computed, Computing, Init, Never, Ready, Step, TryAtOnce,
     Unfailing, once, singleflight,
 };
 pub use mea_link::{barrier, broadcast, latch, mpsc, shutdown, waitgroup};
+pub use mea_lock_core::{Part, Then};
 pub use mea_shot as oneshot;
-pub use mea_sync::{condvar, mutex, rwlock, semaphore};
+pub use mea_sync::{Access, Downgrades, Shows, condvar, mutex, rwlock, semaphore};
 pub use mea_wait::{End, HandleFault, Holds, Kept, PollFault, Polled, Unpolled, Waits};

@@ -19,9 +19,9 @@ pub enum FeedError<T> {
     Refused(PollFault),
 }
 
-/// A bounded sender as a sink. An item goes at once where there is a place, as at the first poll of a send. The sink holds one
-/// item at most, which waits for its place behind those who wait; to drop it ends that wait, and drops the item where it was
-/// not sent.
+/// A bounded sender as a sink. An item goes at once where there is a place, as at each poll of a send. The sink holds one
+/// item at most, which else waits for its place behind those who wait; to drop it ends that wait, and drops the item where it
+/// was not sent.
 ///
 /// It borrows the sender, which is ended by whoever has it: a sink that is closed has sent all, and no more. What a channel
 /// was sent no clause says, since each item goes through a lock; that the sink holds none once it is flushed, one does.

@@ -9,7 +9,9 @@ use std::sync::ledger::{Ledger, Share};
 /// An event that was asked, with its receipt.
 #[derive(Clone, Copy, Debug, Drop, PartialEq, Eq)]
 pub struct Noted {
+    /// The event.
     pub asked: SemEvent,
+    /// What was told of it.
     pub receipt: Receipt,
 }
 

@@ -105,7 +105,8 @@ impl<W: Wake> ShutdownRecv<W> {
         })
     }
 
-    /// A further receiver. It is refused where there are 4294967295, and then nothing has changed.
+    /// A further receiver. It is refused where there are 4294967295, and where no further share can be had; then nothing
+    /// has changed.
     pub fn clone_handle<R: sync::Wait>(&self, rt: &R) -> Result<Self, HandleFault> {
         let Ok(shared) = Arc::try_clone(&self.shared) else {
             return Err(HandleFault::NoMemory);

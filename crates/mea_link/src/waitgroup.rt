@@ -35,7 +35,7 @@ fn leave<W: Drop>(core: &mut GroupSeats<W>) -> usize
 }
 
 impl<W: Wake> WaitGroup<W> {
-    /// The first handle of a new group.
+    /// The first handle of a new group. It takes the memory that all handles share.
     pub fn new(alloc: Global) -> Result<Self, NoMemory> {
         match Arc::new(alloc, Mutex::new(GroupSeats::new(alloc))) {
             Ok(group) => Ok(WaitGroup { group }),
@@ -43,7 +43,8 @@ impl<W: Wake> WaitGroup<W> {
         }
     }
 
-    /// A further handle. It is refused where there are 4294967295, and then nothing has changed.
+    /// A further handle. It is refused where there are 4294967295, and where no further share can be had; then nothing has
+    /// changed.
     pub fn clone_handle<R: sync::Wait>(&self, rt: &R) -> Result<Self, HandleFault> {
         let Ok(group) = Arc::try_clone(&self.group) else {
             return Err(HandleFault::NoMemory);

@@ -85,7 +85,8 @@ impl<W: Drop> GroupSeats<W> {
         self.core.poll(wait, Seat::Taken(waker))
     }
 
-    /// Ends a wait: its waker goes, nobody is woken at its place, and the next wait takes that. It takes no memory.
+    /// Ends a wait: its waker goes, and nobody is woken at its place, which is kept for the next wait where there is room to
+    /// note it: each poll that takes a place makes that room. It takes no memory.
     pub fn withdraw(&mut self, wait: GroupWait)
         ensures seats { self.new.seats ≡ vacated self.old.seats wait }
         ensures wakes { self.new.wakes ≡ self.old.wakes }

@@ -36,7 +36,7 @@ impl<P: Drop> Vacancies<P> {
         }
     }
 
-    /// Makes room for `n` more.
+    /// Makes room for `n` more, which may take memory.
     pub fn reserve(&mut self, n: usize) -> Result<(), NoMemory>
         ensures room { OnOk result (n ≤ self.new.spare) }
         ensures grows { self.old.spare ≤ self.new.spare }
@@ -64,7 +64,8 @@ impl<P: Drop> Vacancies<P> {
     }
 
     /// Finds a place for a wait that is polled: its own, if it has one; else the first that was given back; else that
-    /// of a new wait, and then room is made to give back one more than there are. On an error the wait is a new one.
+    /// of a new wait, and then room is made to give back one more than there are, which may take memory. On an error the wait
+    /// is a new one.
     pub fn seat(
         &mut self,
         wait: &mut P,

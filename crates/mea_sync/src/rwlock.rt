@@ -99,7 +99,7 @@ impl<T: Drop, W: Wake> RwLock<T, W> {
         }
     }
 
-    /// `try_read`, for a guard that owns a share of the lock.
+    /// `try_read`, for a guard that owns a share of the lock. It may take memory as that does.
     pub fn try_read_owned<R: Wait>(
         self: Arc<Self>,
         rt: &R,

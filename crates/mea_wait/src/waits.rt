@@ -18,7 +18,7 @@ pub trait Waits<W, O>: End {
     ghost gives: { Self → O → Type 0 } = { λ _ _. ⊤ };
 
     /// Polls the wait: ready with its output, or pending with the waker kept until the next poll. The waker
-    /// of the poll before is dropped. Where it is refused, nothing has changed.
+    /// of the poll before is dropped. Where it is refused, the wait comes back and may be polled again.
     fn poll<R: Wait>(self, rt: &R, waker: W) -> Result<Polled<Self, O>, Unpolled<Self, W>>
         requires { can_poll self }
         ensures value { Gives gives self result }

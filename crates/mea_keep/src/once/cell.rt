@@ -145,7 +145,7 @@ impl<T: Drop, W: Wake> OnceCell<T, W> {
         }
     }
 
-    /// A cell with a clone of the value, if there is one.
+    /// A cell with a clone of the value, if there is one. It is refused where the clone is.
     pub fn try_clone(&self) -> Result<Self, NoMemory>
     where
         T: Clone,

@@ -54,7 +54,7 @@ impl<K: Eq + Hash + Drop, V: Clone + Drop, W: Wake> OnceMap<
         OnceMap::with_hasher(alloc, BuildHasherDefault::new())
     }
 
-    /// A map with no entry, and with room for so many.
+    /// A map with no entry, and with room for so many, for which it takes memory.
     pub fn with_capacity(alloc: Global, capacity: usize) -> Result<Self, NoMemory> {
         OnceMap::with_capacity_and_hasher(alloc, capacity, BuildHasherDefault::new())
     }
@@ -71,7 +71,7 @@ impl<K: Eq + Hash + Drop, V: Clone + Drop, S: BuildHasher + Drop, W: Wake> OnceM
         }
     }
 
-    /// `with_capacity` with a hasher of the caller's.
+    /// `with_capacity` with a hasher of the caller's. It takes memory as that does.
     pub fn with_capacity_and_hasher(
         alloc: Global,
         capacity: usize,
@@ -84,7 +84,8 @@ impl<K: Eq + Hash + Drop, V: Clone + Drop, S: BuildHasher + Drop, W: Wake> OnceM
         })
     }
 
-    /// A map of these pairs, in which the last pair of a key stands.
+    /// A map of these pairs, in which the last pair of a key stands. It takes memory for them; where there is none, they are
+    /// dropped.
     pub fn from_pairs(alloc: Global, pairs: Vec<(K, V)>, hasher: S) -> Result<Self, NoMemory> {
         let mut kept = Vec::new(alloc);
         for (key, value) in pairs {
@@ -126,7 +127,8 @@ impl<K: Eq + Hash + Drop, V: Clone + Drop, S: BuildHasher + Drop, W: Wake> OnceM
         Computing::of(self.keyed.claiming(key), init)
     }
 
-    /// A clone of the key's value, if it has one.
+    /// A clone of the key's value, if it has one. It is refused where the clone is, or no further share of the value can be
+    /// had.
     pub fn get<R: Wait>(&self, rt: &R, key: &K) -> Result<Option<V>, NoMemory> {
         let kept = self.keyed.core.lock(rt).get(key)?;
         match kept {

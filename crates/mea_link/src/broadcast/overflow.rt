@@ -158,7 +158,8 @@ impl<T: Clone + Drop, W: Wake> Sender<T, W> {
         Ok(Receiver::new(shared, cursor))
     }
 
-    /// A further sender. It is refused at the greatest number, and then nothing has changed.
+    /// A further sender. It is refused at the greatest number, and where no further share can be had; then nothing has
+    /// changed.
     pub fn clone_handle<R: Wait>(&self, rt: &R) -> Result<Self, HandleFault> {
         let Ok(shared) = Arc::try_clone(&self.shared) else {
             return Err(HandleFault::NoMemory);

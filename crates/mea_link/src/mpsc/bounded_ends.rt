@@ -57,7 +57,8 @@ pub struct BoundedRecv<'a, T, W> {
     of: &'a Shared<T, W>,
 }
 
-/// A channel that keeps at most `buffer` messages. It reserves their room at once.
+/// A channel that keeps at most `buffer` messages. It takes the memory that both ends share, and reserves the room of the
+/// messages at once.
 pub fn bounded<T: Drop, W: Wake>(
     alloc: Global,
     buffer: usize,
@@ -182,8 +183,8 @@ impl<T: Drop, W: Wake> Shared<T, W> {
 }
 
 impl<T: Drop, W: Wake> BoundedSender<T, W> {
-    /// A wait until the value is sent, behind those who wait. Where the receiver has ended the value comes back.
-    /// It takes no memory before its first poll.
+    /// A wait until the value is sent: a poll that finds a place sends it at once, and else it waits behind those who
+    /// wait. Where the receiver has ended the value comes back. It takes no memory before its first poll.
     pub fn send(&self, value: T) -> BoundedSend<'_, T, W>
         ensures { result ≡ Some value }
     {
@@ -203,7 +204,8 @@ impl<T: Drop, W: Wake> BoundedSender<T, W> {
         answer
     }
 
-    /// A further sender. It is refused at the greatest number, and then nothing has changed.
+    /// A further sender. It is refused at the greatest number, and where no further share can be had; then nothing has
+    /// changed.
     pub fn clone_handle<R: Wait>(&self, rt: &R) -> Result<Self, HandleFault> {
         let Ok(shared) = Arc::try_clone(&self.shared) else {
             return Err(HandleFault::NoMemory);

@@ -32,7 +32,7 @@ pub struct UnboundedRecv<'a, T, W> {
     of: &'a Shared<T, W>,
 }
 
-/// A channel that keeps any number of messages.
+/// A channel that keeps any number of messages. It takes the memory that both ends share.
 pub fn unbounded<T: Drop, W: Wake>(
     alloc: Global,
 ) -> Result<(UnboundedSender<T, W>, UnboundedReceiver<T, W>), NoMemory> {
@@ -92,7 +92,8 @@ impl<T: Drop, W: Wake> UnboundedSender<T, W> {
         answer
     }
 
-    /// A further sender. It is refused at the greatest number, and then nothing has changed.
+    /// A further sender. It is refused at the greatest number, and where no further share can be had; then nothing has
+    /// changed.
     pub fn clone_handle<R: Wait>(&self, rt: &R) -> Result<Self, HandleFault> {
         let Ok(shared) = Arc::try_clone(&self.shared) else {
             return Err(HandleFault::NoMemory);

@@ -11,7 +11,7 @@ use std::marker::PhantomData;
 use std::sync::{Arc, Wait};
 
 /// A wait to be notified, which gives the guard that it has taken over. It must be polled to its end, or
-/// ended. It may be polled with the lock of no other guard of the same mutex held by its own task.
+/// ended. Once notified it is pending while anyone has the lock, its own task among them.
 pub struct Notified<'a, H, T, W> {
     of: &'a Condvar<W>,
     mutex: H,
