@@ -7,9 +7,13 @@ mod claims;
 #[cfg(test)]
 mod combined;
 #[cfg(test)]
+mod crowd;
+#[cfg(test)]
 mod drops;
 #[cfg(test)]
 mod job;
+#[cfg(test)]
+mod members;
 #[cfg(test)]
 mod pools;
 #[cfg(test)]
@@ -20,3 +24,5 @@ mod sinks;
 mod streams;
 #[cfg(test)]
 mod supervisor;
+#[cfg(test)]
+mod uses;
