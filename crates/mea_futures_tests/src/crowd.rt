@@ -146,7 +146,7 @@ fn two_workers<R: Wait + Threads + Sync, F: Future<Output = ()> + Send>(
     thread::join(rt, || tasks.work(rt, 2), || tasks.work(rt, 3));
 }
 
-// Four threads work at a set until no task is left.
+// Three of them.
 fn three_workers<R: Wait + Threads + Sync, F: Future<Output = ()> + Send>(
     rt: &R,
     tasks: &TaskSet<F>,
