@@ -6,3 +6,5 @@
 mod admission;
 #[cfg(test)]
 mod play;
+#[cfg(test)]
+mod tournament;
