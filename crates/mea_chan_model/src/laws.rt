@@ -40,8 +40,8 @@ pub fn messages_are_in_order()
 {}
 
 /// Enough senders are woken: at every point of every run a pending send of a bounded channel that was granted a place has
-/// had the waker of its last poll woken since. While the receiver lives, as many are granted as places are free, or all
-/// that are pending; once it has ended, all are.
+/// had the waker of its last poll woken since. While the receiver lives, at least as many are granted as places are free,
+/// or all that are pending; once it has ended, all are.
 pub fn enough_senders_are_woken()
     ensures woken { (run : RunOf chans_family) → Runs chans_family run → (f : ℕ) (x : BoundedSend) → get run.hall.bounded.sends f ≡ Some x → is_granted_at (queue_at run.hall.bounded x.channel) x.channel f x ≡ true → (w : ℕ) × (last_waker sends_family run.trace f ≡ Some w) × Contains (wakes_since sends_family run.trace f) w }
     ensures enough { (run : RunOf chans_family) → Runs chans_family run → (o : ℕ) (c : Mailbox) → get run.hall.bounded.mail.channels o ≡ Some c → c.ended ≡ false → min (capacity_at run.hall.bounded o - length c.queued) (pending_at run.hall.bounded o) ≤ granted_at run.hall.bounded o }

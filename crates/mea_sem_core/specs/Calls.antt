@@ -78,7 +78,7 @@ module _ {W : Type 0} where
   PollsOpen s (Done demand) w r s' a' = PollsAs (λ waker. open_turn.Ready waker) open_turn.Pending s (Done demand) w r s' a'
   PollsOpen s (Refused demand) w r s' a' = (r ≡ Ok (open_turn.Closed w)) × (s' ≡ s) × (a' ≡ Refused demand)
 
-  -- a poll that may find no memory: the first one, where it has to wait; then nothing has changed
+  -- a poll that may find no memory: one that has to wait at an open semaphore; then nothing has changed
   pub record FindsNoMemory (s : Core W) (demand : ℕ) (s' : Core W) : Type 0 where
     pub is_open : s.closed ≡ false
     pub waits : s.free < demand

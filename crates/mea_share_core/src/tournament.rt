@@ -1,4 +1,4 @@
-ghost use Rattle.std.specs.Prelude.{◌≡◌, ℕ, ◌<◌, ◌≤◌, ◌*◌, ◌+◌, ◌^◌, [], length, None, get_or, slice_set, IsTrue, OnOk, OnErr, IfOk};
+ghost use Rattle.std.specs.Prelude.{◌≡◌, ℕ, ◌<◌, ◌≤◌, ◌*◌, ◌+◌, ◌^◌, [], length, None, is_none, get_or, slice_set, OnOk, OnErr, IfOk};
 ghost use Rattle.mea_share_core.specs.Rank.{IsNext};
 ghost use Rattle.mea_share_core.specs.Tournament.{IsTree, leaves_of};
 
@@ -63,7 +63,7 @@ impl Tournament {
     /// Whether a group is not queued. It takes no memory.
     pub fn is_vacant(&self, group: usize) -> bool
         requires { group < length self.now }
-        ensures { IsTrue result → get_or self.now group None ≡ None }
+        ensures { result ≡ is_none (get_or self.now group None) }
     {
         self.nodes[self.groups + group].is_none()
     }
