@@ -26,11 +26,14 @@ pub type GroupClaiming<'a, K, V, S, W> = KeyClaiming<'a, Core<K, V, S, W>, K, V,
 /// What `Group::claim` gives where nobody computes the key's value: it must be spent.
 pub type GroupClaim<'a, K, V, S, W> = KeyClaim<'a, Core<K, V, S, W>, K, V, W>;
 
+/// What comes back of a `GroupClaim` where there is no memory to keep or to clone the value: it must be spent.
+pub type GroupFilling<'a, K, V, S, W> = KeyFilling<'a, Core<K, V, S, W>, K, V, W>;
+
 /// The future of `Group::try_work`.
 pub type GroupTryWork<'a, K, V, E, I, S, W> = Computing<
     GroupClaiming<'a, K, V, S, W>,
     GroupClaim<'a, K, V, S, W>,
-    KeyFilling<'a, Core<K, V, S, W>, K, V, W>,
+    GroupFilling<'a, K, V, S, W>,
     I,
     V,
     E,

@@ -30,11 +30,14 @@ pub type MapClaiming<'a, K, V, S, W> = KeyClaiming<'a, Core<K, V, S, W>, K, V, W
 /// What `OnceMap::claim` gives where the key has no value: it must be spent.
 pub type MapClaim<'a, K, V, S, W> = KeyClaim<'a, Core<K, V, S, W>, K, V, W>;
 
+/// What comes back of a `MapClaim` where there is no memory to keep or to clone the value: it must be spent.
+pub type MapFilling<'a, K, V, S, W> = KeyFilling<'a, Core<K, V, S, W>, K, V, W>;
+
 /// The future of `OnceMap::try_compute`.
 pub type MapTryCompute<'a, K, V, E, I, S, W> = Computing<
     MapClaiming<'a, K, V, S, W>,
     MapClaim<'a, K, V, S, W>,
-    KeyFilling<'a, Core<K, V, S, W>, K, V, W>,
+    MapFilling<'a, K, V, S, W>,
     I,
     V,
     E,
