@@ -7,13 +7,9 @@ mod claims;
 #[cfg(test)]
 mod combined;
 #[cfg(test)]
-mod crowd;
-#[cfg(test)]
 mod drops;
 #[cfg(test)]
 mod job;
-#[cfg(test)]
-mod members;
 #[cfg(test)]
 mod pools;
 #[cfg(test)]
@@ -24,5 +20,3 @@ mod sinks;
 mod streams;
 #[cfg(test)]
 mod supervisor;
-#[cfg(test)]
-mod uses;

@@ -1,12 +1,12 @@
-use crate::bell::{Told, count, gives, poll, rung};
 use mea_link::broadcast::overflow::{self, RecvError};
 use mea_link::mpsc::{TryRecvError, TrySendError, bounded, unbounded};
+use mea_probe::{Told, count, gives, poll, rung};
 use mea_wait::End;
 
 // A full channel keeps a send waiting until a message is received, in order.
 #[test]
 fn a_bounded_channel(rt: HostRuntime) {
-    let bell = count(&rt);
+    let bell = count(rt.alloc()).expect(&rt, "memory");
     let Ok((sender, mut receiver)) = bounded(rt.alloc(), 1) else {
         assert!(rt; false);
         return;
@@ -30,7 +30,7 @@ fn a_bounded_channel(rt: HostRuntime) {
 // A receiver that waits is woken by a message, and hears that the last sender has ended.
 #[test]
 fn an_unbounded_channel(rt: HostRuntime) {
-    let bell = count(&rt);
+    let bell = count(rt.alloc()).expect(&rt, "memory");
     let Ok((sender, mut receiver)) = unbounded(rt.alloc()) else {
         assert!(rt; false);
         return;
@@ -50,7 +50,7 @@ fn an_unbounded_channel(rt: HostRuntime) {
 // A slow receiver of a broadcast hears how many messages it has lost.
 #[test]
 fn a_broadcast(rt: HostRuntime) {
-    let bell = count(&rt);
+    let bell = count(rt.alloc()).expect(&rt, "memory");
     let Ok((sender, mut slow)) = overflow::channel(rt.alloc(), 2) else {
         assert!(rt; false);
         return;

@@ -1,4 +1,4 @@
-use crate::bell::{count, end, gives, pends, rung};
+use mea_probe::{count, end, gives, pends, rung};
 use mea_sync::condvar::Condvar;
 use mea_sync::mutex::Mutex;
 use mea_wait::End;
@@ -8,7 +8,10 @@ use std::test::Fail;
 // A wait gives the lock back, is woken by the notification, and has the guard again.
 #[test]
 fn a_wait_is_notified(rt: HostRuntime) {
-    let (one, two) = (count(&rt), count(&rt));
+    let (one, two) = (
+        count(rt.alloc()).expect(&rt, "memory"),
+        count(rt.alloc()).expect(&rt, "memory"),
+    );
     let mutex = Mutex::new(rt.alloc(), 0u64);
     let condvar = Condvar::new(rt.alloc());
     let Some(guard) = mutex.try_lock(&rt) else {
@@ -32,7 +35,7 @@ fn a_wait_is_notified(rt: HostRuntime) {
 // A wait with a condition goes on until it does not hold.
 #[test]
 fn a_wait_goes_on_while_its_condition_holds(rt: HostRuntime) -> Result<(), Fail> {
-    let rung_all = count(&rt);
+    let rung_all = count(rt.alloc()).expect(&rt, "memory");
     let mutex = Arc::new(rt.alloc(), Mutex::new(rt.alloc(), 0u64))?;
     let condvar = Condvar::new(rt.alloc());
     let Some(guard) = Arc::try_clone(&mutex)?.try_lock_owned(&rt) else {

@@ -1,4 +1,3 @@
-use crate::bell::{Bell, Count, Told, count, end, gives, poll, rung};
 use mea_base::Poll;
 use mea_link::barrier::Barrier;
 use mea_link::broadcast::overflow;
@@ -6,6 +5,7 @@ use mea_link::latch::Latch;
 use mea_link::shutdown::new_pair;
 use mea_link::waitgroup::WaitGroup;
 use mea_meet_core::{GroupWait, LatchWait};
+use mea_probe::{Bell, Count, Told, count, end, gives, poll, rung};
 use mea_seats::{GroupSeats, LatchSeats, Seat};
 use mea_wait::{End, Waits};
 use std::sync::{Arc, Wait};
@@ -70,7 +70,7 @@ fn a_place_is_given_back(rt: HostRuntime) {
 // A million waits for one shutdown are polled and ended: none keeps its waker, and none is woken.
 #[test]
 fn a_million_waits_for_a_shutdown(rt: HostRuntime) {
-    let bell = count(&rt);
+    let bell = count(rt.alloc()).expect(&rt, "memory");
     let Ok((sender, receiver)) = new_pair(rt.alloc()) else {
         assert!(rt; false);
         return;
@@ -97,7 +97,7 @@ fn a_million_waits_for_a_shutdown(rt: HostRuntime) {
 // A million waits of one receiver are polled and ended before a message comes: one waker is kept, and woken.
 #[test]
 fn a_million_waits_for_a_message(rt: HostRuntime) {
-    let bell = count(&rt);
+    let bell = count(rt.alloc()).expect(&rt, "memory");
     let Ok((sender, mut receiver)) = overflow::channel::<u64, Bell>(rt.alloc(), 2) else {
         assert!(rt; false);
         return;
@@ -116,7 +116,7 @@ fn a_million_waits_for_a_message(rt: HostRuntime) {
 // A wait that ended is not woken by its latch or group, and those beside it are.
 #[test]
 fn only_those_who_wait_are_woken(rt: HostRuntime) {
-    let bell = count(&rt);
+    let bell = count(rt.alloc()).expect(&rt, "memory");
     let latch = Latch::new(rt.alloc(), 1);
     assert!(rt; comes_and_goes(&rt, latch.wait(), &bell));
     let other = poll(&rt, latch.wait(), &bell);
@@ -141,7 +141,7 @@ fn only_those_who_wait_are_woken(rt: HostRuntime) {
 // The arrival of a wait that ended at a barrier counts, and its waker is gone.
 #[test]
 fn an_arrival_stays_without_its_waker(rt: HostRuntime) {
-    let bell = count(&rt);
+    let bell = count(rt.alloc()).expect(&rt, "memory");
     let barrier = Barrier::new(rt.alloc(), 3);
     assert!(rt; comes_and_goes(&rt, barrier.wait(), &bell));
     assert!(rt; Arc::strong_count(&bell) == 1);

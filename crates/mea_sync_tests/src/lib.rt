@@ -1,8 +1,7 @@
 //! Tests of the shared types, by public contracts alone: each call once, its answer and the wakers that it woke,
-//! and runs of several threads. Beside the tests it has the wakers that they count with.
+//! and runs of several threads.
 #![tactic(auto)]
 
-pub mod bell;
 #[cfg(test)]
 mod channels;
 #[cfg(test)]

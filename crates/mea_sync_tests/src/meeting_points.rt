@@ -1,8 +1,8 @@
-use crate::bell::{Told, count, end, gives, poll, rung};
 use mea_link::barrier::Barrier;
 use mea_link::latch::Latch;
 use mea_link::shutdown::new_pair;
 use mea_link::waitgroup::WaitGroup;
+use mea_probe::{Told, count, end, gives, poll, rung};
 use mea_wait::End;
 use std::sync::Arc;
 use std::test::Fail;
@@ -10,7 +10,7 @@ use std::test::Fail;
 // A latch wakes those who wait once it is at 0, and stays there.
 #[test]
 fn a_latch_opens(rt: HostRuntime) -> Result<(), Fail> {
-    let bell = count(&rt);
+    let bell = count(rt.alloc()).expect(&rt, "memory");
     let latch = Arc::new(rt.alloc(), Latch::new(rt.alloc(), 3))?;
     latch.count_down(&rt);
     assert!(rt; latch.count(&rt) == 2 && latch.try_wait(&rt) == Err(2));
@@ -29,7 +29,7 @@ fn a_latch_opens(rt: HostRuntime) -> Result<(), Fail> {
 // The last to arrive at a barrier leads and wakes the other.
 #[test]
 fn a_barrier_has_a_leader(rt: HostRuntime) {
-    let bell = count(&rt);
+    let bell = count(rt.alloc()).expect(&rt, "memory");
     let barrier = Barrier::new(rt.alloc(), 2);
     match poll(&rt, barrier.wait(), &bell) {
         Told::Pending(first) => {
@@ -45,7 +45,7 @@ fn a_barrier_has_a_leader(rt: HostRuntime) {
 // A wait for a group is ready once its last handle has ended.
 #[test]
 fn a_group_is_waited_for(rt: HostRuntime) {
-    let bell = count(&rt);
+    let bell = count(rt.alloc()).expect(&rt, "memory");
     let Ok(first) = WaitGroup::new(rt.alloc()) else {
         assert!(rt; false);
         return;
@@ -67,7 +67,7 @@ fn a_group_is_waited_for(rt: HostRuntime) {
 // A receiver hears of the shutdown, and the sender waits for all receivers.
 #[test]
 fn a_shutdown_is_heard_and_waited_for(rt: HostRuntime) {
-    let bell = count(&rt);
+    let bell = count(rt.alloc()).expect(&rt, "memory");
     let Ok((sender, receiver)) = new_pair(rt.alloc()) else {
         assert!(rt; false);
         return;

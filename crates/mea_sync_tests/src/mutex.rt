@@ -1,4 +1,4 @@
-use crate::bell::{count, end, gives, pends, rung};
+use mea_probe::{count, end, gives, pends, rung};
 use mea_sync::mutex::Mutex;
 use mea_wait::End;
 use std::sync::Arc;
@@ -7,7 +7,10 @@ use std::test::Fail;
 // The lock goes to the first that waits, with the value as it was left.
 #[test]
 fn a_mutex_is_handed_on(rt: HostRuntime) {
-    let (one, two) = (count(&rt), count(&rt));
+    let (one, two) = (
+        count(rt.alloc()).expect(&rt, "memory"),
+        count(rt.alloc()).expect(&rt, "memory"),
+    );
     let mutex = Mutex::new(rt.alloc(), 5u64);
     let Some(mut guard) = mutex.try_lock(&rt) else {
         assert!(rt; false);
@@ -35,7 +38,7 @@ fn a_mutex_is_handed_on(rt: HostRuntime) {
 // The forms that own a share of the mutex.
 #[test]
 fn owned_guards(rt: HostRuntime) -> Result<(), Fail> {
-    let rung_all = count(&rt);
+    let rung_all = count(rt.alloc()).expect(&rt, "memory");
     let mutex = Arc::new(rt.alloc(), Mutex::new(rt.alloc(), 1u64))?;
     if let Some(mut guard) = Arc::try_clone(&mutex)?.try_lock_owned(&rt) {
         *guard = 3;

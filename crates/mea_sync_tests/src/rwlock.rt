@@ -1,4 +1,4 @@
-use crate::bell::{count, end, found, gives, pends, rung};
+use mea_probe::{count, end, found, gives, pends, rung};
 use mea_sync::rwlock::RwLock;
 use mea_wait::End;
 use std::num::NonZeroUsize;
@@ -8,7 +8,10 @@ use std::test::Fail;
 // Several read at a time, and one writes once they have all ended.
 #[test]
 fn readers_share_and_a_writer_is_alone(rt: HostRuntime) {
-    let (one, two) = (count(&rt), count(&rt));
+    let (one, two) = (
+        count(rt.alloc()).expect(&rt, "memory"),
+        count(rt.alloc()).expect(&rt, "memory"),
+    );
     let lock = RwLock::new(rt.alloc(), 4u64);
     let first = found(lock.try_read(&rt));
     let second = gives(&rt, Some(lock.read()), &one);
@@ -43,7 +46,7 @@ fn readers_share_and_a_writer_is_alone(rt: HostRuntime) {
 // As many readers as were asked for, and the forms that own a share of the lock.
 #[test]
 fn owned_guards_and_a_most(rt: HostRuntime) -> Result<(), Fail> {
-    let rung_all = count(&rt);
+    let rung_all = count(rt.alloc()).expect(&rt, "memory");
     let most = NonZeroUsize::new(1).unwrap_or(NonZeroUsize::MIN);
     let lock = Arc::new(rt.alloc(), RwLock::with_max_readers(rt.alloc(), 2u64, most))?;
     let read = found(Arc::try_clone(&lock)?.try_read_owned(&rt));

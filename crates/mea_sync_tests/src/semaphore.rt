@@ -1,5 +1,5 @@
-use crate::bell::{Bell, Count, Told, count, end, poll, rung};
 use mea_base::Overflow;
+use mea_probe::{Bell, Count, Told, count, end, poll, rung};
 use mea_sync::semaphore::{Acquire, Closed, Semaphore, SemaphorePermit};
 use mea_wait::{End, Waits};
 use std::sync::{Arc, Wait};
@@ -55,7 +55,10 @@ fn hears<'s, R: Wait>(rt: &R, wait: Option<Acquire<'s, Bell>>, count: &Count) ->
 // A release pays the first that waits, and its end the second: each is woken once, in this order.
 #[test]
 fn a_release_wakes_the_first(rt: HostRuntime) {
-    let (one, two) = (count(&rt), count(&rt));
+    let (one, two) = (
+        count(rt.alloc()).expect(&rt, "memory"),
+        count(rt.alloc()).expect(&rt, "memory"),
+    );
     let semaphore = Semaphore::new(rt.alloc(), 0);
     let first = waits(&rt, semaphore.acquire(1), &one);
     let second = waits(&rt, semaphore.acquire(1), &two);
@@ -73,7 +76,10 @@ fn a_release_wakes_the_first(rt: HostRuntime) {
 // What an abandoned acquire was paid goes to the next.
 #[test]
 fn an_abandoned_acquire_pays_the_next(rt: HostRuntime) {
-    let (one, two) = (count(&rt), count(&rt));
+    let (one, two) = (
+        count(rt.alloc()).expect(&rt, "memory"),
+        count(rt.alloc()).expect(&rt, "memory"),
+    );
     let semaphore = Semaphore::new(rt.alloc(), 2);
     let first = waits(&rt, semaphore.acquire(3), &one);
     let second = waits(&rt, semaphore.acquire(2), &two);
@@ -87,7 +93,7 @@ fn an_abandoned_acquire_pays_the_next(rt: HostRuntime) {
 // A close wakes who waits, who then hears of it; permits come back as before.
 #[test]
 fn a_close_is_heard(rt: HostRuntime) {
-    let rung_all = count(&rt);
+    let rung_all = count(rt.alloc()).expect(&rt, "memory");
     let semaphore = Semaphore::new(rt.alloc(), 1);
     let held = semaphore.try_acquire(&rt, 1);
     let first = waits(&rt, semaphore.acquire(1), &rung_all);
@@ -135,7 +141,7 @@ fn permits_split_and_merge(rt: HostRuntime) {
 // The forms that own a share of the semaphore, and those that forget.
 #[test]
 fn owned_and_forgetting_forms(rt: HostRuntime) -> Result<(), Fail> {
-    let rung_all = count(&rt);
+    let rung_all = count(rt.alloc()).expect(&rt, "memory");
     let semaphore = Arc::new(rt.alloc(), Semaphore::new(rt.alloc(), 5))?;
     let share = Arc::try_clone(&semaphore)?;
     assert!(rt; Arc::try_clone(&semaphore)?.try_acquire_owned_and_forget(&rt, 1));

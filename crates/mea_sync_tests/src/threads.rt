@@ -1,4 +1,4 @@
-use crate::bell::{Bell, Count, Told, count, end, poll};
+use mea_probe::{Bell, Count, Told, count, end, poll};
 use mea_sync::mutex::Mutex;
 use mea_sync::rwlock::RwLock;
 use mea_sync::semaphore::{Closed, Semaphore};
@@ -56,7 +56,7 @@ fn many<R: Threads + Wait + Sync>(rt: &R, threads: u64, of: &Semaphore<Bell>, co
 // A hundred threads acquire one of five permits each, and end it: then five are free.
 #[test]
 fn stress_test(rt: HostRuntime) {
-    let rung_all = count(&rt);
+    let rung_all = count(rt.alloc()).expect(&rt, "memory");
     let semaphore = Semaphore::new(rt.alloc(), 5);
     many(&rt, 100, &semaphore, &rung_all);
     let all = semaphore.try_acquire(&rt, 5);
@@ -84,7 +84,7 @@ fn abandons<R: Wait>(rt: &R, of: &Semaphore<Bell>, count: &Count, thread: u64) {
 // A thousand waits of four threads, abandoned in each stage: then all permits are free.
 #[test]
 fn abandoned_waits_give_all_back(rt: HostRuntime) {
-    let rung_all = count(&rt);
+    let rung_all = count(rt.alloc()).expect(&rt, "memory");
     let semaphore = Semaphore::new(rt.alloc(), 3);
     let (rt, of, all) = (&rt, &semaphore, &rung_all);
     thread::scope(thread::scope_env(), rt, |scope| {
@@ -124,7 +124,7 @@ fn visit<R: Wait>(rt: &R, of: &RwLock<u64, Bell>, count: &Count, writes: bool) -
 // One writer adds one a hundred times beside eight readers.
 #[test]
 fn a_writer_and_eight_readers(rt: HostRuntime) {
-    let rung_all = count(&rt);
+    let rung_all = count(rt.alloc()).expect(&rt, "memory");
     let lock = RwLock::new(rt.alloc(), 1u64);
     let (rt, of, all) = (&rt, &lock, &rung_all);
     thread::scope(thread::scope_env(), rt, |scope| {

@@ -1,6 +1,6 @@
-use crate::bell::{Bell, count, end, found, gives, pends, rung};
 use mea::End;
 use mea::admission::FairShare;
+use mea_probe::{Bell, count, end, found, gives, pends, rung};
 use std::hash::{BuildHasherDefault, FoldHasher};
 use std::num::NonZeroU64;
 use std::sync::Arc;
@@ -9,7 +9,10 @@ use std::test::Fail;
 // A permit that comes back goes to the key that holds least.
 #[test]
 fn the_key_that_holds_least_is_next(rt: HostRuntime) -> Result<(), Fail> {
-    let (one, two) = (count(&rt), count(&rt));
+    let (one, two) = (
+        count(rt.alloc()).expect(&rt, "memory"),
+        count(rt.alloc()).expect(&rt, "memory"),
+    );
     let share: FairShare<u64, Bell, BuildHasherDefault<FoldHasher>> = FairShare::new(rt.alloc(), 2);
     let first = found(share.try_acquire(&rt, 7));
     let second = found(share.try_acquire(&rt, 7));
@@ -26,7 +29,7 @@ fn the_key_that_holds_least_is_next(rt: HostRuntime) -> Result<(), Fail> {
     assert!(rt; end(&rt, first));
     assert!(rt; rung(&one) == 0 && rung(&two) == 1);
     match other {
-        Some(wait) => match gives(&rt, wait, &two) {
+        Some(wait) => match gives(&rt, Some(wait), &two) {
             Some(permit) => {
                 assert!(rt; *permit.key() == 8);
                 permit.end(&rt);
@@ -45,7 +48,7 @@ fn the_key_that_holds_least_is_next(rt: HostRuntime) -> Result<(), Fail> {
 // Weights, and the forms that own a share.
 #[test]
 fn a_key_has_a_weight(rt: HostRuntime) -> Result<(), Fail> {
-    let bell = count(&rt);
+    let bell = count(rt.alloc()).expect(&rt, "memory");
     let hasher: BuildHasherDefault<FoldHasher> = BuildHasherDefault::new();
     let share: FairShare<u64, Bell, BuildHasherDefault<FoldHasher>> = FairShare::with_hasher(
         rt.alloc(),

@@ -1,12 +1,16 @@
-use crate::bell::{Bell, count, end, gives, mine, queues, rung, there};
+use crate::claims::{mine, queues, there};
 use mea::singleflight::Group;
 use mea::{AtOnce, TryAtOnce};
+use mea_probe::{Bell, count, end, gives, rung};
 use std::hash::{BuildHasherDefault, FoldHasher};
 
 // Calls of one key share a value while it is computed; the next call computes anew.
 #[test]
 fn calls_share_a_value(rt: HostRuntime) {
-    let (one, two) = (count(&rt), count(&rt));
+    let (one, two) = (
+        count(rt.alloc()).expect(&rt, "memory"),
+        count(rt.alloc()).expect(&rt, "memory"),
+    );
     let group: Group<u64, u64, BuildHasherDefault<FoldHasher>, Bell> = Group::new(rt.alloc());
     match mine(&rt, group.claim(5), &one) {
         Some(claim) => {
@@ -19,18 +23,21 @@ fn calls_share_a_value(rt: HostRuntime) {
         }
         None => assert!(rt; false),
     }
-    assert!(rt; gives(&rt, group.work(5, AtOnce::new(|| 51u64)), &one) == Some(51));
+    assert!(rt; gives(&rt, Some(group.work(5, AtOnce::new(|| 51u64))), &one) == Some(51));
     let refuses = TryAtOnce::new(|| -> Result<u64, u8> { Err(4) });
-    assert!(rt; gives(&rt, group.try_work(5, refuses), &one) == Some(Err(4)));
+    assert!(rt; gives(&rt, Some(group.try_work(5, refuses)), &one) == Some(Err(4)));
 }
 
 // A key that is forgotten is computed anew beside the call that runs.
 #[test]
 fn a_key_is_forgotten(rt: HostRuntime) {
-    let (one, two) = (count(&rt), count(&rt));
+    let (one, two) = (
+        count(rt.alloc()).expect(&rt, "memory"),
+        count(rt.alloc()).expect(&rt, "memory"),
+    );
     let group: Group<u64, u64, BuildHasherDefault<FoldHasher>, Bell> = Group::new(rt.alloc());
     let first = mine(&rt, group.claim(5), &one);
     group.forget(&rt, &5);
-    assert!(rt; gives(&rt, group.work(5, AtOnce::new(|| 51u64)), &two) == Some(51));
+    assert!(rt; gives(&rt, Some(group.work(5, AtOnce::new(|| 51u64))), &two) == Some(51));
     assert!(rt; end(&rt, first));
 }

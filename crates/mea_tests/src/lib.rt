@@ -1,15 +1,15 @@
 //! Tests of the crate `mea`, by public contracts alone: each call of the once types, of fair admission, of the boxes and of
-//! mapped guards once, its answer and the wakers that it woke, and runs of several threads. Beside the tests it has
-//! the wakers that they count with.
+//! mapped guards once, its answer and the wakers that it woke, and runs of several threads.
 #![tactic(auto)]
 
 #[cfg(test)]
 mod admission;
-pub mod bell;
 #[cfg(test)]
 mod boxes;
 #[cfg(test)]
 mod cell;
+#[cfg(test)]
+mod claims;
 #[cfg(test)]
 mod group;
 #[cfg(test)]

@@ -1,10 +1,10 @@
 ghost use Rattle.std.specs.Prelude.{Some, None, refl};
 
-use crate::bell::{Bell, end, found};
 use mea::End;
 use mea::mutex::Mutex;
 use mea::rwlock::{Mapped, RwLock};
 use mea_lock_core::Part;
+use mea_probe::{Bell, end, found};
 
 // The first of a pair.
 #[derive(Clone, Copy, Drop)]

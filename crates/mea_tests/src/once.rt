@@ -1,6 +1,7 @@
-use crate::bell::{Bell, count, end, gives, goes_on, mine, queues, rung, there};
+use crate::claims::{mine, queues, there};
 use mea::AtOnce;
 use mea::once::Once;
+use mea_probe::{Bell, count, end, gives, goes_on, rung};
 use std::sync::Arc;
 use std::sync::atomic::AtomicU64;
 use std::sync::atomic::Ordering::SeqCst;
@@ -8,7 +9,11 @@ use std::sync::atomic::Ordering::SeqCst;
 // A call runs once; who waits for it is woken first, and then the next caller.
 #[test]
 fn a_call_runs_once(rt: HostRuntime) {
-    let (one, two, three) = (count(&rt), count(&rt), count(&rt));
+    let (one, two, three) = (
+        count(rt.alloc()).expect(&rt, "memory"),
+        count(rt.alloc()).expect(&rt, "memory"),
+        count(rt.alloc()).expect(&rt, "memory"),
+    );
     let once: Once<Bell> = Once::new(rt.alloc());
     let wait = goes_on(&rt, once.wait(), &one);
     match mine(&rt, once.claim(), &two) {
@@ -23,13 +28,16 @@ fn a_call_runs_once(rt: HostRuntime) {
     }
     assert!(rt; once.is_completed(&rt));
     assert!(rt; end(&rt, wait));
-    assert!(rt; gives(&rt, once.wait(), &one) == Some(()));
+    assert!(rt; gives(&rt, Some(once.wait()), &one) == Some(()));
 }
 
 // A wait that ended keeps no waker and is not woken; the one that came after it is.
 #[test]
 fn an_ended_wait_is_forgotten(rt: HostRuntime) {
-    let (one, two) = (count(&rt), count(&rt));
+    let (one, two) = (
+        count(rt.alloc()).expect(&rt, "memory"),
+        count(rt.alloc()).expect(&rt, "memory"),
+    );
     let once: Once<Bell> = Once::new(rt.alloc());
     assert!(rt; end(&rt, goes_on(&rt, once.wait(), &one)));
     assert!(rt; Arc::strong_count(&one) == 1);
@@ -45,14 +53,14 @@ fn an_ended_wait_is_forgotten(rt: HostRuntime) {
 // The initialiser of a call that has completed is not run.
 #[test]
 fn a_second_call_runs_nothing(rt: HostRuntime) {
-    let bell = count(&rt);
+    let bell = count(rt.alloc()).expect(&rt, "memory");
     let once: Once<Bell> = Once::new(rt.alloc());
     let calls = AtomicU64::new(0);
     for _ in 0..2u64 {
         let run = || {
             calls.fetch_add(1, SeqCst);
         };
-        assert!(rt; gives(&rt, once.call_once(AtOnce::new(run)), &bell) == Some(()));
+        assert!(rt; gives(&rt, Some(once.call_once(AtOnce::new(run))), &bell) == Some(()));
     }
     assert!(rt; calls.load(SeqCst) == 1);
 }

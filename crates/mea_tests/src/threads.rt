@@ -1,10 +1,10 @@
-use crate::bell::{Bell, Count, Told, count, poll};
 use mea::atomicbox::AtomicBox;
 use mea::broadcast::overflow;
 use mea::shutdown::{ShutdownRecv, ShutdownSend, new_pair};
 use mea::singleflight::Group;
 use mea::{End, Init, Kept, Never, Waits};
 use mea_base::Poll;
+use mea_probe::{Bell, Count, Told, count, poll};
 use std::hash::{BuildHasherDefault, FoldHasher};
 use std::sync::Wait;
 use std::sync::atomic::AtomicU64;
@@ -123,7 +123,7 @@ fn works<R: Wait>(
 // Sixteen threads ask for one key: its initialiser runs once, and each has the value.
 #[test]
 fn a_single_flight(rt: HostRuntime) -> Result<(), Fail> {
-    let bell = count(&rt);
+    let bell = count(rt.alloc()).expect(&rt, "memory");
     let group: Flights = Group::new(rt.alloc());
     let (waiting, runs) = (AtomicU64::new(0), AtomicU64::new(0));
     let mut answers: Vec<Option<u64>> = Vec::new(rt.alloc());
@@ -167,7 +167,7 @@ fn plays<R: Wait>(rt: &R, part: &mut Part<'_, R>, bell: &Count) {
 // A shutdown is awaited by one thread while eight end their receivers.
 #[test]
 fn a_shutdown_of_eight(rt: HostRuntime) -> Result<(), Fail> {
-    let bell = count(&rt);
+    let bell = count(rt.alloc()).expect(&rt, "memory");
     let Ok((sender, receiver)) = new_pair(rt.alloc()) else {
         assert!(rt; false);
         return Ok(());

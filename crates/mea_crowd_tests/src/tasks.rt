@@ -1,16 +1,14 @@
-//! Tasks of a crowd that wait and use what they have, each of which may be dropped in any stage.
+//! Tasks that any wait or any receiver may have.
 ghost use Rattle.std.specs.Prelude.{◌≡◌, None, Some, IsSomeAnd, IfNone, IfOk};
 
 use futures::task::{Context, Poll};
-use futures::{Future, ready};
-use mea_futures::{Bell, Holding, Initialising, Kept, Waiting, wait};
-use mea_keep::once::{CellClaim, CellClaiming};
-use mea_keep::{Never, Ready};
-use mea_link::latch::{Latch, OwnedLatchWait};
-use mea_sync::rwlock::{OwnedRead, OwnedRwLockReadGuard, OwnedRwLockWriteGuard, OwnedWrite};
-use mea_wait::{End, Waits};
+use futures::{Future, Stream, ready};
+use mea::{End, Never, Waits};
+use mea_futures::{Bell, Holding, Kept, Receives, Receiving, wait};
 use std::alloc::{AllocError, AllocGlobal};
 use std::sync::Wait;
+use std::sync::atomic::AtomicU64;
+use std::sync::atomic::Ordering::SeqCst;
 
 /// A task that waits for what has to be spent, yields with it, and ends it where it drops what it kept.
 #[derive(Drop)]
@@ -18,12 +16,6 @@ pub struct Uses<'a, R: Wait, F: Waits<Bell, O>, O: End> {
     turn: Holding<'a, R, F, O>,
     held: Option<Kept<'a, R, O>>,
 }
-
-/// One that reads.
-pub type Reads<'a, R> = Uses<'a, R, OwnedRead<u64, Bell>, OwnedRwLockReadGuard<u64, Bell>>;
-
-/// One that is alone.
-pub type Writes<'a, R> = Uses<'a, R, OwnedWrite<u64, Bell>, OwnedRwLockWriteGuard<u64, Bell>>;
 
 impl<'a, R: Wait + AllocGlobal, F: Waits<Bell, O>, O: End> Uses<'a, R, F, O> {
     /// One that was never polled.
@@ -66,23 +58,6 @@ pub struct Awaits<F: Future> {
     pub awaited: F,
 }
 
-/// One that waits until a latch is open.
-pub type Passes<'a, R> = Awaits<Waiting<'a, R, OwnedLatchWait<Bell>, ()>>;
-
-/// One that waits for the value of a cell, and computes it where nobody else does.
-pub type Fills<'a, R> = Awaits<
-    Initialising<
-        'a,
-        R,
-        CellClaiming<'a, u64, Bell>,
-        &'a u64,
-        CellClaim<'a, u64, Bell>,
-        u64,
-        Ready<&'a u64>,
-        Computes,
-    >,
->;
-
 impl<O: Drop, F: Future<Output = O>> Future for Awaits<F> {
     type Output = ();
 
@@ -96,36 +71,53 @@ impl<O: Drop, F: Future<Output = O>> Future for Awaits<F> {
     }
 }
 
-/// A value that takes two polls.
+/// A task that takes messages until no more come.
 #[derive(Drop)]
-pub struct Computes {
-    pub is_begun: bool,
+pub struct Drains<'a, R: Wait, C: Receives<M>, M> {
+    pub stream: Receiving<'a, R, C, M>,
+    pub taken: &'a AtomicU64,
 }
 
-impl Future for Computes {
-    type Output = Result<u64, Never>;
+impl<'a, R: Wait, C: Receives<M>, M: Drop> Future for Drains<'a, R, C, M> {
+    type Output = ();
 
-    fn poll(&mut self, cx: &mut Context<'_>) -> Poll<Result<u64, Never>> {
-        if self.is_begun {
-            return Poll::Ready(Ok(9));
+    fn poll(&mut self, cx: &mut Context<'_>) -> Poll<()> {
+        if ready!(self.stream.poll_next(cx)).is_none() {
+            return Poll::Ready(());
         }
-        self.is_begun = true;
+        self.taken.fetch_add(1, SeqCst);
         cx.yield_now()
     }
 }
 
-/// A task that opens a latch of one.
+/// A value that takes two polls, and is counted where it was computed.
 #[derive(Drop)]
-pub struct Opens<'a, R: Wait> {
-    pub rt: &'a R,
-    pub latch: &'a Latch<Bell>,
+pub struct Computes<'a, T> {
+    value: T,
+    is_begun: bool,
+    computed: &'a AtomicU64,
 }
 
-impl<'a, R: Wait> Future for Opens<'a, R> {
-    type Output = ();
+impl<'a, T: Drop> Computes<'a, T> {
+    /// One that was never polled.
+    pub fn new(value: T, computed: &'a AtomicU64) -> Self {
+        Computes {
+            value,
+            is_begun: false,
+            computed,
+        }
+    }
+}
 
-    fn poll(&mut self, _cx: &mut Context<'_>) -> Poll<()> {
-        self.latch.count_down(self.rt);
-        Poll::Ready(())
+impl<'a, T: Copy> Future for Computes<'a, T> {
+    type Output = Result<T, Never>;
+
+    fn poll(&mut self, cx: &mut Context<'_>) -> Poll<Result<T, Never>> {
+        if !self.is_begun {
+            self.is_begun = true;
+            return cx.yield_now();
+        }
+        self.computed.fetch_add(1, SeqCst);
+        Poll::Ready(Ok(self.value))
     }
 }

@@ -1,38 +1,9 @@
-//! Wakers that count, and the polls of the tests.
-ghost use Rattle.std.specs.Prelude.{IfSome};
-ghost use Rattle.mea_sync_tests.specs.Told.{IfStillWaiting};
+ghost use Rattle.std.specs.Prelude.{IsSomeAnd, IfSome};
+ghost use Rattle.mea_probe.specs.Polls.{IfReady, IfPending};
 
-use mea_base::{NoMemory, Wake};
+use crate::bell::{Bell, Count};
 use mea_wait::{End, Polled, Unpolled, Waits};
-#[cfg(test)]
-use std::process::Abort;
-use std::sync::atomic::AtomicU64;
-use std::sync::atomic::Ordering::SeqCst;
 use std::sync::{Arc, Wait};
-
-/// A waker that counts how often its like were woken.
-#[derive(Drop)]
-pub struct Bell(pub Arc<AtomicU64>);
-
-/// How often the wakers of a test were woken.
-pub type Count = Arc<AtomicU64>;
-
-impl Wake for Bell {
-    fn wake(self) {
-        self.0.fetch_add(1, SeqCst);
-    }
-}
-
-/// A count of no wakes.
-#[cfg(test)]
-pub fn count(rt: &(impl Abort + AllocGlobal)) -> Count {
-    Arc::new(rt.alloc(), AtomicU64::new(0)).expect(rt, "memory")
-}
-
-/// How often the wakers of a count were woken.
-pub fn rung(count: &Count) -> u64 {
-    count.load(SeqCst)
-}
 
 /// What a poll came to: the output, or the wait, which has ended where it was refused.
 pub enum Told<F, O> {
@@ -41,10 +12,12 @@ pub enum Told<F, O> {
     Refused,
 }
 
-/// Polls the wait with a waker that counts.
+/// Polls a wait with a waker that counts. It is refused for want of memory or for a fault of the wait.
 pub fn poll<R: Wait, F: Waits<Bell, O>, O>(rt: &R, wait: F, count: &Count) -> Told<F, O>
     requires { F.can_poll wait }
-    ensures { IfStillWaiting F.can_poll result }
+    ensures value { IfReady result (F.gives wait) }
+    ensures same { IfPending result (λ f. (x : _) → F.gives f x → F.gives wait x) }
+    ensures again { IfPending result F.can_poll }
 {
     let Ok(count) = Arc::try_clone(count) else {
         wait.end(rt);
@@ -69,7 +42,8 @@ pub fn poll<R: Wait, F: Waits<Bell, O>, O>(rt: &R, wait: F, count: &Count) -> To
 /// Polls a wait that is to go on, and hands it back; what it gives instead is ended.
 pub fn pends<R: Wait, F: Waits<Bell, O>, O: End>(rt: &R, wait: F, count: &Count) -> Option<F>
     requires { F.can_poll wait }
-    ensures { IfSome result F.can_poll }
+    ensures same { IfSome result (λ f. (x : _) → F.gives f x → F.gives wait x) }
+    ensures again { IfSome result F.can_poll }
 {
     match poll(rt, wait, count) {
         Told::Ready(output) => {
@@ -81,9 +55,23 @@ pub fn pends<R: Wait, F: Waits<Bell, O>, O: End>(rt: &R, wait: F, count: &Count)
     }
 }
 
-/// Polls a wait that is to be ready, and hands out what it gives; a wait that goes on is ended.
+/// Polls a wait that is to go on, and hands it back; what it gives instead is dropped.
+pub fn goes_on<R: Wait, F: Waits<Bell, O>, O: Drop>(rt: &R, wait: F, count: &Count) -> Option<F>
+    requires { F.can_poll wait }
+    ensures same { IfSome result (λ f. (x : _) → F.gives f x → F.gives wait x) }
+    ensures again { IfSome result F.can_poll }
+{
+    match poll(rt, wait, count) {
+        Told::Ready(_) => None,
+        Told::Pending(wait) => Some(wait),
+        Told::Refused => None,
+    }
+}
+
+/// Polls a wait that is to be ready, if there is one, and hands out what it gives; a wait that goes on is ended.
 pub fn gives<R: Wait, F: Waits<Bell, O>, O>(rt: &R, wait: Option<F>, count: &Count) -> Option<O>
     requires { IfSome wait F.can_poll }
+    ensures { IfSome result (λ output. IsSomeAnd wait (λ f. F.gives f output)) }
 {
     match poll(rt, wait?, count) {
         Told::Ready(output) => Some(output),
@@ -92,24 +80,5 @@ pub fn gives<R: Wait, F: Waits<Bell, O>, O>(rt: &R, wait: Option<F>, count: &Cou
             None
         }
         Told::Refused => None,
-    }
-}
-
-/// Ends what there is.
-pub fn end<R: Wait, T: End>(rt: &R, value: Option<T>) -> bool {
-    match value {
-        Some(value) => {
-            value.end(rt);
-            true
-        }
-        None => false,
-    }
-}
-
-/// What a call found; want of memory finds nothing.
-pub fn found<T>(answer: Result<Option<T>, NoMemory>) -> Option<T> {
-    match answer {
-        Ok(found) => found,
-        Err(NoMemory) => None,
     }
 }

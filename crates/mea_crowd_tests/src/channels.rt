@@ -1,0 +1,363 @@
+//! Those of the crowd who send and receive.
+ghost use Rattle.std.specs.Prelude.{◌≡◌, IsSome, IfSome, IfOk};
+
+use crate::crowd::{Member, Tasks};
+use crate::oneshots::{Answers, Asks, Oneshots, asking};
+use crate::spawns::{Tally, kind, patience, spawn};
+use crate::tasks::Drains;
+use futures::task::{Context, Poll};
+use futures::{Future, Sink, Stream, ready};
+use mea::broadcast::overflow;
+use mea::mpsc::{BoundedReceiver, BoundedSender, UnboundedReceiver, UnboundedSender};
+use mea::waitgroup;
+use mea::waitgroup::WaitGroup;
+use mea_futures::{Bell, Feeding, Kept, Lagged, Receiving, Waiting, feed, receive, wait};
+use std::alloc::{AllocError, AllocGlobal};
+use std::sync::Wait;
+use std::sync::atomic::AtomicU64;
+use std::sync::atomic::Ordering::SeqCst;
+
+/// What they did.
+#[derive(Drop)]
+pub struct Channels {
+    oneshots: Oneshots,
+    sent: AtomicU64,
+    taken: AtomicU64,
+    said: AtomicU64,
+    drained: AtomicU64,
+    told: AtomicU64,
+    // By listeners with patience, and by those who were given up.
+    heard: AtomicU64,
+    overheard: AtomicU64,
+    // How many listeners have patience.
+    listeners: AtomicU64,
+}
+
+impl Channels {
+    /// Nothing yet.
+    pub fn new() -> Self {
+        Channels {
+            oneshots: Oneshots::new(),
+            sent: AtomicU64::new(0),
+            taken: AtomicU64::new(0),
+            said: AtomicU64::new(0),
+            drained: AtomicU64::new(0),
+            told: AtomicU64::new(0),
+            heard: AtomicU64::new(0),
+            overheard: AtomicU64::new(0),
+            listeners: AtomicU64::new(0),
+        }
+    }
+
+    /// A task that takes what comes from the unbounded channel.
+    pub fn collecting<'a, R: Wait>(
+        &'a self,
+        stream: Receiving<'a, R, UnboundedReceiver<u64, Bell>, u64>,
+    ) -> Collects<'a, R> {
+        Drains {
+            stream,
+            taken: &self.drained,
+        }
+    }
+
+    /// How many oneshots were answered, and how many had an answer.
+    pub fn answers(&self) -> (u64, u64) {
+        self.oneshots.counts()
+    }
+
+    /// How many messages went into the bounded channel, and how many came out.
+    pub fn bounded(&self) -> (u64, u64) {
+        (self.sent.load(SeqCst), self.taken.load(SeqCst))
+    }
+
+    /// How many messages went into the unbounded channel, and how many came out.
+    pub fn unbounded(&self) -> (u64, u64) {
+        (self.said.load(SeqCst), self.drained.load(SeqCst))
+    }
+
+    /// How many messages were told to all, how many listeners have patience, and how many messages these heard.
+    pub fn broadcast(&self) -> (u64, u64, u64) {
+        let told = self.told.load(SeqCst);
+        (told, self.listeners.load(SeqCst), self.heard.load(SeqCst))
+    }
+}
+
+/// The ends that those who send are given shares of.
+#[derive(Drop)]
+pub struct Ends<'a, R: Wait> {
+    pub sender: &'a BoundedSender<u64, Bell>,
+    pub senders: Kept<'a, R, WaitGroup<Bell>>,
+    pub speaker: Kept<'a, R, UnboundedSender<u64, Bell>>,
+    pub hub: Kept<'a, R, overflow::Sender<u64, Bell>>,
+}
+
+/// A task that sends a message, and has a handle of the group of those who send until it ends.
+#[derive(Drop)]
+pub struct Posts<'a, R: Wait> {
+    sink: Feeding<'a, R, u64>,
+    is_begun: bool,
+    sent: &'a AtomicU64,
+    handle: Kept<'a, R, WaitGroup<Bell>>,
+}
+
+impl<'a, R: Wait + AllocGlobal> Posts<'a, R> {
+    /// One that was never polled.
+    pub fn new(rt: &'a R, ends: &Ends<'a, R>, channels: &'a Channels) -> Result<Self, AllocError> {
+        let handle = ends.senders.get().clone_handle(rt).map_err(|_| AllocError)?;
+        let handle = Kept::new(rt, handle);
+        match feed(rt, rt.alloc(), ends.sender) {
+            Ok(sink) => Ok(Posts {
+                sink,
+                is_begun: false,
+                sent: &channels.sent,
+                handle,
+            }),
+            Err(_) => Err(AllocError),
+        }
+    }
+}
+
+impl<'a, R: Wait> Future for Posts<'a, R> {
+    type Output = ();
+
+    fn poll(&mut self, cx: &mut Context<'_>) -> Poll<()> {
+        if ready!(self.sink.poll_ready(cx)).is_err() {
+            return Poll::Ready(());
+        }
+        if !self.is_begun {
+            self.is_begun = true;
+            if self.sink.start_send(1).is_err() || ready!(self.sink.poll_flush(cx)).is_err() {
+                return Poll::Ready(());
+            }
+        }
+        self.sent.fetch_add(1, SeqCst);
+        Poll::Ready(())
+    }
+}
+
+/// A task that takes messages until there are none and all who send have ended.
+#[derive(Drop)]
+pub struct Takes<'a, R: Wait> {
+    stream: Receiving<'a, R, BoundedReceiver<u64, Bell>, u64>,
+    senders: Option<Waiting<'a, R, waitgroup::Wait<Bell>, ()>>,
+    taken: &'a AtomicU64,
+}
+
+impl<'a, R: Wait + AllocGlobal> Takes<'a, R> {
+    /// One that was never polled.
+    pub fn new(
+        rt: &'a R,
+        stream: Receiving<'a, R, BoundedReceiver<u64, Bell>, u64>,
+        senders: waitgroup::Wait<Bell>,
+        channels: &'a Channels,
+    ) -> Result<Self, AllocError>
+        ensures { IfOk result (λ takes. IfSome takes.senders (λ senders. IsSome senders.wait)) }
+    {
+        match wait(rt, rt.alloc(), senders) {
+            Ok(senders) => Ok(Takes {
+                stream,
+                senders: Some(senders),
+                taken: &channels.taken,
+            }),
+            Err(_) => Err(AllocError),
+        }
+    }
+}
+
+impl<'a, R: Wait> Future for Takes<'a, R> {
+    type Output = ();
+
+    ghost can_poll = { λ t. IfSome t.senders (λ senders. IsSome senders.wait) };
+
+    fn poll(&mut self, cx: &mut Context<'_>) -> Poll<()> {
+        if let Poll::Ready(message) = self.stream.poll_next(cx) {
+            if message.is_none() {
+                return Poll::Ready(());
+            }
+            self.taken.fetch_add(1, SeqCst);
+            return cx.yield_now();
+        }
+        // What was sent before the last one ended is taken by a further poll.
+        match self.senders.take() {
+            Some(mut senders) => {
+                if senders.poll(cx).is_ready() {
+                    return cx.yield_now();
+                }
+                self.senders = Some(senders);
+                Poll::Pending
+            }
+            None => Poll::Ready(()),
+        }
+    }
+}
+
+/// A task that sends a message which never waits.
+#[derive(Drop)]
+pub struct Says<'a, R: Wait> {
+    rt: &'a R,
+    speaker: Kept<'a, R, UnboundedSender<u64, Bell>>,
+    said: &'a AtomicU64,
+}
+
+impl<'a, R: Wait> Future for Says<'a, R> {
+    type Output = ();
+
+    fn poll(&mut self, _cx: &mut Context<'_>) -> Poll<()> {
+        if self.speaker.get().send(self.rt, 1).is_ok() {
+            self.said.fetch_add(1, SeqCst);
+        }
+        Poll::Ready(())
+    }
+}
+
+/// A task that sends a message to all who listen.
+#[derive(Drop)]
+pub struct Tells<'a, R: Wait> {
+    rt: &'a R,
+    hub: Kept<'a, R, overflow::Sender<u64, Bell>>,
+    told: &'a AtomicU64,
+}
+
+impl<'a, R: Wait> Future for Tells<'a, R> {
+    type Output = ();
+
+    fn poll(&mut self, _cx: &mut Context<'_>) -> Poll<()> {
+        if self.hub.get().send(self.rt, 1).is_ok() {
+            self.told.fetch_add(1, SeqCst);
+        }
+        Poll::Ready(())
+    }
+}
+
+/// One that takes what comes from the unbounded channel.
+pub type Collects<'a, R> = Drains<'a, R, UnboundedReceiver<u64, Bell>, u64>;
+
+/// One that listens to what is told to all.
+pub type Listens<'a, R> = Drains<'a, R, overflow::Receiver<u64, Bell>, Result<u64, Lagged>>;
+
+/// A task at an end of a channel.
+#[derive(Drop)]
+pub enum ChannelMember<'a, R: Wait> {
+    Posts(Posts<'a, R>),
+    Takes(Takes<'a, R>),
+    Says(Says<'a, R>),
+    Collects(Collects<'a, R>),
+    Tells(Tells<'a, R>),
+    Listens(Listens<'a, R>),
+    Asks(Asks<'a, R>),
+    Answers(Answers<'a>),
+}
+
+impl<'a, R: Wait> Future for ChannelMember<'a, R> {
+    ghost use Rattle.mea_crowd_tests.specs.declared.channels.ChannelMember.TheVariants.{Posts, Takes, Says, Collects, Tells, Listens, Asks, Answers};
+    ghost use Rattle.std.specs.Prelude.{⊤, IsSome, IfSome};
+
+    type Output = ();
+
+    ghost can_poll = { elim [ Posts p ↦ ⊤ | Takes t ↦ IfSome t.senders (λ senders. IsSome senders.wait) | Says s ↦ ⊤ | Collects d ↦ ⊤ | Tells t ↦ ⊤ | Listens d ↦ ⊤ | Asks a ↦ IsSome a.answer.wait | Answers a ↦ ⊤ ] };
+
+    fn poll(&mut self, cx: &mut Context<'_>) -> Poll<()> {
+        match self {
+            ChannelMember::Posts(task) => task.poll(cx),
+            ChannelMember::Takes(task) => task.poll(cx),
+            ChannelMember::Says(task) => task.poll(cx),
+            ChannelMember::Collects(task) => task.poll(cx),
+            ChannelMember::Tells(task) => task.poll(cx),
+            ChannelMember::Listens(task) => task.poll(cx),
+            ChannelMember::Asks(task) => task.poll(cx),
+            ChannelMember::Answers(task) => task.poll(cx),
+        }
+    }
+}
+
+// A task that sends a message which never waits, with a sender of its own.
+fn saying<'a, R: Wait>(
+    rt: &'a R,
+    ends: &Ends<'a, R>,
+    channels: &'a Channels,
+) -> Result<Says<'a, R>, AllocError> {
+    let speaker = ends.speaker.get().clone_handle(rt).map_err(|_| AllocError)?;
+    Ok(Says {
+        rt,
+        speaker: Kept::new(rt, speaker),
+        said: &channels.said,
+    })
+}
+
+// A task that sends a message to all, with a sender of its own.
+fn telling<'a, R: Wait>(
+    rt: &'a R,
+    ends: &Ends<'a, R>,
+    channels: &'a Channels,
+) -> Result<Tells<'a, R>, AllocError> {
+    let hub = ends.hub.get().clone_handle(rt).map_err(|_| AllocError)?;
+    Ok(Tells {
+        rt,
+        hub: Kept::new(rt, hub),
+        told: &channels.told,
+    })
+}
+
+// A task that listens, and hears all that is told from here on where it has patience.
+fn listening<'a, R: Wait + AllocGlobal>(
+    rt: &'a R,
+    ends: &Ends<'a, R>,
+    channels: &'a Channels,
+    has_patience: bool,
+) -> Result<Listens<'a, R>, AllocError> {
+    let receiver = ends.hub.get().subscribe(rt).map_err(|_| AllocError)?;
+    let stream = receive(rt, rt.alloc(), receiver).map_err(|_| AllocError)?;
+    let taken = if has_patience {
+        channels.listeners.fetch_add(1, SeqCst);
+        &channels.heard
+    } else {
+        &channels.overheard
+    };
+    Ok(Drains { stream, taken })
+}
+
+/// Spawns the task with this number, that was never polled: of one of five kinds; of a oneshot, both ends.
+pub fn spawn_channel<'a, R: Wait + AllocGlobal>(
+    rt: &'a R,
+    tasks: &Tasks<'a, R>,
+    tally: &'a Tally,
+    channels: &'a Channels,
+    ends: &Ends<'a, R>,
+    number: u64,
+    left: Option<u64>,
+) -> Result<(), AllocError> {
+    let member = match kind(number).0 {
+        9 => ChannelMember::Posts(Posts::new(rt, ends, channels)?),
+        10 => ChannelMember::Says(saying(rt, ends, channels)?),
+        11 => ChannelMember::Tells(telling(rt, ends, channels)?),
+        12 => ChannelMember::Listens(listening(rt, ends, channels, left.is_none())?),
+        _ => {
+            let (asks, answers) = asking(rt, &channels.oneshots)?;
+            let answers = ChannelMember::Answers(answers);
+            spawn(
+                tasks,
+                tally,
+                Member::Channels(answers),
+                patience(number.wrapping_add(1)),
+            )?;
+            ChannelMember::Asks(asks)
+        }
+    };
+    spawn(tasks, tally, Member::Channels(member), left)
+}
+
+/// Spawns those who take what comes from the two queues.
+pub fn spawn_takers<'a, R: Wait + AllocGlobal>(
+    rt: &'a R,
+    tasks: &Tasks<'a, R>,
+    tally: &'a Tally,
+    takes: Takes<'a, R>,
+    collects: Collects<'a, R>,
+) -> Result<(), AllocError>
+    requires { IfSome takes.senders (λ senders. IsSome senders.wait) }
+{
+    let takes = ChannelMember::Takes(takes);
+    spawn(tasks, tally, Member::Channels(takes), None)?;
+    let collects = ChannelMember::Collects(collects);
+    spawn(tasks, tally, Member::Channels(collects), None)
+}

@@ -1,0 +1,22 @@
+//! A crowd of tasks over all primitives of `mea` at a time, on four threads, by public contracts alone. Half of them are given
+//! up after a few polls, in whatever stage they are then.
+#![tactic(auto)]
+
+#[cfg(test)]
+mod channels;
+#[cfg(test)]
+mod crowd;
+#[cfg(test)]
+mod hearing;
+#[cfg(test)]
+mod keeps;
+#[cfg(test)]
+mod locks;
+#[cfg(test)]
+mod meets;
+#[cfg(test)]
+mod oneshots;
+#[cfg(test)]
+mod spawns;
+#[cfg(test)]
+mod tasks;

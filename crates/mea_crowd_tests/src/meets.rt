@@ -1,0 +1,267 @@
+//! Those of the crowd who meet: at a latch, at a barrier, and at a shutdown.
+ghost use Rattle.std.specs.Prelude.{◌≡◌, IsSome, IfOk};
+
+use crate::crowd::{Member, Tasks};
+use crate::spawns::{ARRIVES, Tally, kind, patience, spawn};
+use crate::tasks::Awaits;
+use futures::task::{Context, Poll};
+use futures::{Future, ready};
+use mea::barrier::{Barrier, BarrierWait, BarrierWaitResult};
+use mea::latch::{Latch, OwnedLatchWait};
+use mea::shutdown;
+use mea::shutdown::{OwnedSignal, ShutdownRecv, ShutdownSend};
+use mea_futures::{Bell, Kept, Waiting, wait};
+use std::alloc::{AllocError, AllocGlobal, Global};
+use std::sync::atomic::AtomicU64;
+use std::sync::atomic::Ordering::SeqCst;
+use std::sync::{Arc, Wait};
+
+/// What they share.
+#[derive(Drop)]
+pub struct Meets {
+    latch: Arc<Latch<Bell>>,
+    barrier: Barrier<Bell>,
+    met: AtomicU64,
+    led: AtomicU64,
+}
+
+// Of the tasks with numbers below this, how many meet at the barrier and are polled at least once.
+fn arrivals(numbers: u64) -> u32 {
+    let mut arrivals = 0u32;
+    for number in 0..numbers {
+        if kind(number).0 == ARRIVES && patience(number) != Some(0) {
+            arrivals = arrivals.saturating_add(1);
+        }
+    }
+    arrivals
+}
+
+impl Meets {
+    /// A latch of one, and a barrier for all who come to it of the tasks with numbers below this.
+    pub fn new(alloc: Global, numbers: u64) -> Result<Self, AllocError> {
+        Ok(Meets {
+            latch: Arc::new(alloc, Latch::new(alloc, 1))?,
+            barrier: Barrier::new(alloc, arrivals(numbers)),
+            met: AtomicU64::new(0),
+            led: AtomicU64::new(0),
+        })
+    }
+
+    /// Whether the latch is open.
+    pub fn is_open<R: Wait>(&self, rt: &R) -> bool {
+        self.latch.count(rt) == 0
+    }
+
+    /// How many have met at the barrier, and how many of them led.
+    pub fn counts(&self) -> (u64, u64) {
+        (self.met.load(SeqCst), self.led.load(SeqCst))
+    }
+}
+
+/// One that waits until a latch is open.
+pub type Passes<'a, R> = Awaits<Waiting<'a, R, OwnedLatchWait<Bell>, ()>>;
+
+/// A task that opens the latch.
+#[derive(Drop)]
+pub struct Opens<'a, R: Wait> {
+    rt: &'a R,
+    latch: &'a Latch<Bell>,
+}
+
+impl<'a, R: Wait> Future for Opens<'a, R> {
+    type Output = ();
+
+    fn poll(&mut self, _cx: &mut Context<'_>) -> Poll<()> {
+        self.latch.count_down(self.rt);
+        Poll::Ready(())
+    }
+}
+
+/// A task that meets others at the barrier.
+#[derive(Drop)]
+pub struct Arrives<'a, R: Wait> {
+    waiting: Waiting<'a, R, BarrierWait<'a, Bell>, BarrierWaitResult>,
+    met: &'a AtomicU64,
+    led: &'a AtomicU64,
+}
+
+impl<'a, R: Wait> Future for Arrives<'a, R> {
+    type Output = ();
+
+    ghost can_poll = { λ a. IsSome a.waiting.wait };
+
+    fn poll(&mut self, cx: &mut Context<'_>) -> Poll<()> {
+        if let Ok(round) = ready!(self.waiting.poll(cx)) {
+            self.met.fetch_add(1, SeqCst);
+            if round.is_leader() {
+                self.led.fetch_add(1, SeqCst);
+            }
+        }
+        Poll::Ready(())
+    }
+}
+
+/// A task that stops where it is asked to.
+#[derive(Drop)]
+pub struct Stops<'a, R: Wait> {
+    signal: Waiting<'a, R, OwnedSignal<Bell>, ()>,
+    receiver: Kept<'a, R, ShutdownRecv<Bell>>,
+}
+
+impl<'a, R: Wait> Future for Stops<'a, R> {
+    type Output = ();
+
+    ghost can_poll = { λ s. IsSome s.signal.wait };
+
+    fn poll(&mut self, cx: &mut Context<'_>) -> Poll<()> {
+        match self.signal.poll(cx) {
+            Poll::Ready(_) => Poll::Ready(()),
+            Poll::Pending => Poll::Pending,
+        }
+    }
+}
+
+/// A task that asks for the shutdown, and waits for all who stop.
+#[derive(Drop)]
+pub struct Shuts<'a, R: Wait> {
+    rt: &'a R,
+    sender: &'a ShutdownSend<Bell>,
+    ended: Waiting<'a, R, shutdown::Wait<Bell>, ()>,
+}
+
+impl<'a, R: Wait> Future for Shuts<'a, R> {
+    type Output = ();
+
+    ghost can_poll = { λ s. IsSome s.ended.wait };
+
+    fn poll(&mut self, cx: &mut Context<'_>) -> Poll<()> {
+        self.sender.shutdown(self.rt);
+        match self.ended.poll(cx) {
+            Poll::Ready(_) => Poll::Ready(()),
+            Poll::Pending => Poll::Pending,
+        }
+    }
+}
+
+/// A task at a place where others are met.
+#[derive(Drop)]
+pub enum MeetMember<'a, R: Wait> {
+    Passes(Passes<'a, R>),
+    Opens(Opens<'a, R>),
+    Arrives(Arrives<'a, R>),
+    Stops(Stops<'a, R>),
+    Shuts(Shuts<'a, R>),
+}
+
+impl<'a, R: Wait> Future for MeetMember<'a, R> {
+    ghost use Rattle.mea_crowd_tests.specs.declared.meets.MeetMember.TheVariants.{Passes, Opens, Arrives, Stops, Shuts};
+    ghost use Rattle.std.specs.Prelude.{⊤, IsSome};
+
+    type Output = ();
+
+    ghost can_poll = { elim [ Passes a ↦ IsSome a.awaited.wait | Opens o ↦ ⊤ | Arrives a ↦ IsSome a.waiting.wait | Stops s ↦ IsSome s.signal.wait | Shuts s ↦ IsSome s.ended.wait ] };
+
+    fn poll(&mut self, cx: &mut Context<'_>) -> Poll<()> {
+        match self {
+            MeetMember::Passes(task) => task.poll(cx),
+            MeetMember::Opens(task) => task.poll(cx),
+            MeetMember::Arrives(task) => task.poll(cx),
+            MeetMember::Stops(task) => task.poll(cx),
+            MeetMember::Shuts(task) => task.poll(cx),
+        }
+    }
+}
+
+// A task that waits for the latch and was never polled.
+fn passing<'a, R: Wait + AllocGlobal>(rt: &'a R, meets: &Meets) -> Result<Passes<'a, R>, AllocError>
+    ensures { IfOk result (λ passes. IsSome passes.awaited.wait) }
+{
+    match wait(rt, rt.alloc(), Arc::try_clone(&meets.latch)?.wait_owned()) {
+        Ok(awaited) => Ok(Awaits { awaited }),
+        Err(_) => Err(AllocError),
+    }
+}
+
+// A task that meets others and was never polled.
+fn arriving<'a, R: Wait + AllocGlobal>(
+    rt: &'a R,
+    meets: &'a Meets,
+) -> Result<Arrives<'a, R>, AllocError>
+    ensures { IfOk result (λ arrives. IsSome arrives.waiting.wait) }
+{
+    match wait(rt, rt.alloc(), meets.barrier.wait()) {
+        Ok(waiting) => Ok(Arrives {
+            waiting,
+            met: &meets.met,
+            led: &meets.led,
+        }),
+        Err(_) => Err(AllocError),
+    }
+}
+
+// A task that stops where it is asked to and was never polled.
+fn stopping<'a, R: Wait + AllocGlobal>(
+    rt: &'a R,
+    receiver: &ShutdownRecv<Bell>,
+) -> Result<Stops<'a, R>, AllocError>
+    ensures { IfOk result (λ stops. IsSome stops.signal.wait) }
+{
+    let receiver = Kept::new(rt, receiver.clone_handle(rt).map_err(|_| AllocError)?);
+    let signal = receiver.get().is_shutdown_owned().map_err(|_| AllocError)?;
+    match wait(rt, rt.alloc(), signal) {
+        Ok(signal) => Ok(Stops { signal, receiver }),
+        Err(_) => Err(AllocError),
+    }
+}
+
+// A task that asks for the shutdown and was never polled.
+fn shutting<'a, R: Wait + AllocGlobal>(
+    rt: &'a R,
+    sender: &'a ShutdownSend<Bell>,
+) -> Result<Shuts<'a, R>, AllocError>
+    ensures { IfOk result (λ shuts. IsSome shuts.ended.wait) }
+{
+    let ended = sender
+        .clone_handle()
+        .map_err(|_| AllocError)?
+        .await_shutdown();
+    match wait(rt, rt.alloc(), ended) {
+        Ok(ended) => Ok(Shuts { rt, sender, ended }),
+        Err(_) => Err(AllocError),
+    }
+}
+
+/// Spawns the task with this number, that was never polled: of one of three kinds.
+pub fn spawn_meet<'a, R: Wait + AllocGlobal>(
+    rt: &'a R,
+    tasks: &Tasks<'a, R>,
+    tally: &'a Tally,
+    meets: &'a Meets,
+    receiver: &ShutdownRecv<Bell>,
+    number: u64,
+    left: Option<u64>,
+) -> Result<(), AllocError> {
+    let member = match kind(number).0 {
+        6 => MeetMember::Passes(passing(rt, meets)?),
+        ARRIVES => MeetMember::Arrives(arriving(rt, meets)?),
+        _ => MeetMember::Stops(stopping(rt, receiver)?),
+    };
+    spawn(tasks, tally, Member::Meets(member), left)
+}
+
+/// Spawns those who open the latch and ask for the shutdown.
+pub fn spawn_openers<'a, R: Wait + AllocGlobal>(
+    rt: &'a R,
+    tasks: &Tasks<'a, R>,
+    tally: &'a Tally,
+    meets: &'a Meets,
+    sender: &'a ShutdownSend<Bell>,
+) -> Result<(), AllocError> {
+    let opens = Opens {
+        rt,
+        latch: &*meets.latch,
+    };
+    spawn(tasks, tally, Member::Meets(MeetMember::Opens(opens)), None)?;
+    let shuts = shutting(rt, sender)?;
+    spawn(tasks, tally, Member::Meets(MeetMember::Shuts(shuts)), None)
+}

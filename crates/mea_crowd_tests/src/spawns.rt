@@ -1,0 +1,150 @@
+//! A set of tasks on four threads, and a task that may be given up.
+use futures::Future;
+use futures::executor::TaskSet;
+use futures::task::{Context, Doorbell, Poll};
+use std::alloc::{AllocError, AllocGlobal};
+use std::random::RandomSource;
+use std::sync::Wait;
+use std::sync::atomic::AtomicU64;
+use std::sync::atomic::Ordering::SeqCst;
+use std::thread::Threads;
+use std::{io, thread};
+
+/// How many tasks were spawned, and how many have ended.
+#[derive(Drop)]
+pub struct Tally {
+    spawned: AtomicU64,
+    ended: AtomicU64,
+}
+
+impl Tally {
+    /// None yet.
+    pub fn new() -> Self {
+        Tally {
+            spawned: AtomicU64::new(0),
+            ended: AtomicU64::new(0),
+        }
+    }
+
+    /// How many were spawned, and how many of them have ended.
+    pub fn counts(&self) -> (u64, u64) {
+        (self.spawned.load(SeqCst), self.ended.load(SeqCst))
+    }
+}
+
+// How many kinds of task have a number.
+const KINDS: u64 = 18;
+
+/// Of which kind the task with this number is, and how many of its kind have a lower number.
+pub fn kind(number: u64) -> (u64, u64) {
+    (number % KINDS, number / KINDS)
+}
+
+/// The kind that meets at the barrier.
+pub const ARRIVES: u64 = 7;
+
+/// After how many polls the task with this number is given up: half of them are, after none to three.
+pub fn patience(number: u64) -> Option<u64> {
+    let mixed = number.wrapping_mul(0x9e37_79b9_7f4a_7c15) >> 32;
+    if mixed % 2 == 0 {
+        Some(mixed / 2 % 4)
+    } else {
+        None
+    }
+}
+
+/// A task that is given up after some polls, in whatever stage it is then, and asks for each of them; or one with patience.
+#[derive(Drop)]
+pub struct Impatient<'a, F: Future> {
+    task: F,
+    left: Option<u64>,
+    tally: &'a Tally,
+}
+
+impl<'a, F: Future<Output = ()>> Future for Impatient<'a, F> {
+    type Output = ();
+
+    ghost can_poll = { λ i. F.can_poll i.task };
+
+    fn poll(&mut self, cx: &mut Context<'_>) -> Poll<()> {
+        if self.left == Some(0) {
+            self.tally.ended.fetch_add(1, SeqCst);
+            return Poll::Ready(());
+        }
+        match self.task.poll(cx) {
+            Poll::Ready(()) => {
+                self.tally.ended.fetch_add(1, SeqCst);
+                Poll::Ready(())
+            }
+            Poll::Pending => match self.left {
+                Some(left) => {
+                    self.left = Some(left.saturating_sub(1));
+                    cx.yield_now()
+                }
+                None => Poll::Pending,
+            },
+        }
+    }
+}
+
+/// Spawns a task that is given up after so many polls.
+pub fn spawn<'a, F: Future<Output = ()>>(
+    tasks: &TaskSet<Impatient<'a, F>>,
+    tally: &'a Tally,
+    task: F,
+    left: Option<u64>,
+) -> Result<(), AllocError>
+    requires { F.can_poll task }
+{
+    match tasks.spawn(Impatient { task, left, tally }) {
+        Ok(()) => {
+            tally.spawned.fetch_add(1, SeqCst);
+            Ok(())
+        }
+        Err(_) => Err(AllocError),
+    }
+}
+
+/// What tasks a set is given.
+pub trait Spawns<F: Future> {
+    fn spawn_on(self, tasks: &TaskSet<F>) -> Result<(), AllocError>;
+}
+
+// Two of the four threads below.
+fn two_workers<R: Wait + Threads + Sync, F: Future<Output = ()> + Send>(
+    rt: &R,
+    tasks: &TaskSet<F>,
+) {
+    thread::join(rt, || tasks.work(rt, 2), || tasks.work(rt, 3));
+}
+
+// Three of them.
+fn three_workers<R: Wait + Threads + Sync, F: Future<Output = ()> + Send>(
+    rt: &R,
+    tasks: &TaskSet<F>,
+) {
+    thread::join(rt, || tasks.work(rt, 1), || two_workers(rt, tasks));
+}
+
+// Four threads work at a set until no task is left.
+fn four_workers<R: Wait + Threads + Sync, F: Future<Output = ()> + Send>(
+    rt: &R,
+    tasks: &TaskSet<F>,
+) {
+    thread::join(rt, || tasks.work(rt, 0), || three_workers(rt, tasks));
+}
+
+/// Four threads work at the tasks that are spawned, until none is left.
+pub fn on_four_threads<
+    R: Wait + Threads + Sync + RandomSource + AllocGlobal,
+    F: Future<Output = ()> + Send,
+    S: Spawns<F> + Drop,
+>(rt: &R, members: S) -> io::Result<()> {
+    let tasks = TaskSet::new(rt, Doorbell::parking(), 4)?;
+    let spawned = members.spawn_on(&tasks);
+    four_workers(rt, &tasks);
+    match spawned {
+        Ok(()) => Ok(()),
+        Err(error) => Err(io::Error::from(error)),
+    }
+}
