@@ -3,7 +3,8 @@ ghost use Rattle.std.specs.Prelude.{◌≡◌, IsSome, IfSome, IfOk};
 
 use crate::crowd::{Member, Tasks};
 use crate::oneshots::{Answers, Asks, Oneshots, asking};
-use crate::spawns::{Tally, kind, patience, spawn};
+use crate::patience::Patience;
+use crate::spawns::{Tally, kind, spawn};
 use crate::tasks::Drains;
 use futures::task::{Context, Poll};
 use futures::{Future, Sink, Stream, ready};
@@ -324,13 +325,13 @@ pub fn spawn_channel<'a, R: Wait + AllocGlobal>(
     channels: &'a Channels,
     ends: &Ends<'a, R>,
     number: u64,
-    left: Option<u64>,
+    patience: Patience,
 ) -> Result<(), AllocError> {
     let member = match kind(number).0 {
         9 => ChannelMember::Posts(Posts::new(rt, ends, channels)?),
         10 => ChannelMember::Says(saying(rt, ends, channels)?),
         11 => ChannelMember::Tells(telling(rt, ends, channels)?),
-        12 => ChannelMember::Listens(listening(rt, ends, channels, left.is_none())?),
+        12 => ChannelMember::Listens(listening(rt, ends, channels, patience == Patience::Endless)?),
         _ => {
             let (asks, answers) = asking(rt, &channels.oneshots)?;
             let answers = ChannelMember::Answers(answers);
@@ -338,12 +339,12 @@ pub fn spawn_channel<'a, R: Wait + AllocGlobal>(
                 tasks,
                 tally,
                 Member::Channels(answers),
-                patience(number.wrapping_add(1)),
+                Patience::of(number.wrapping_add(1)),
             )?;
             ChannelMember::Asks(asks)
         }
     };
-    spawn(tasks, tally, Member::Channels(member), left)
+    spawn(tasks, tally, Member::Channels(member), patience)
 }
 
 /// Spawns those who take what comes from the two queues.
@@ -357,7 +358,7 @@ pub fn spawn_takers<'a, R: Wait + AllocGlobal>(
     requires { IfSome takes.senders (λ senders. IsSome senders.wait) }
 {
     let takes = ChannelMember::Takes(takes);
-    spawn(tasks, tally, Member::Channels(takes), None)?;
+    spawn(tasks, tally, Member::Channels(takes), Patience::Endless)?;
     let collects = ChannelMember::Collects(collects);
-    spawn(tasks, tally, Member::Channels(collects), None)
+    spawn(tasks, tally, Member::Channels(collects), Patience::Endless)
 }

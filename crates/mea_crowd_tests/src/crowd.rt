@@ -5,7 +5,8 @@ use crate::channels::{
 use crate::keeps::{KeepMember, Keeps, spawn_keep};
 use crate::locks::{LockMember, Locks, spawn_lock, spawn_tells};
 use crate::meets::{MeetMember, Meets, spawn_meet, spawn_openers};
-use crate::spawns::{Impatient, Spawns, Tally, kind, on_four_threads, patience};
+use crate::patience::Patience;
+use crate::spawns::{Impatient, Spawns, Tally, kind, on_four_threads};
 use crate::tasks::Drains;
 use futures::Future;
 use futures::executor::TaskSet;
@@ -98,13 +99,13 @@ fn spawn_member<'a, R: Wait + AllocGlobal>(
     receiver: &ShutdownRecv<Bell>,
     number: u64,
 ) -> Result<(), AllocError> {
-    let left = patience(number);
+    let patience = Patience::of(number);
     let tally = &place.tally;
     match kind(number).0 {
-        0..=5 => spawn_lock(rt, tasks, tally, &place.locks, number, left),
-        6..=8 => spawn_meet(rt, tasks, tally, &place.meets, receiver, number, left),
-        9..=13 => spawn_channel(rt, tasks, tally, &place.channels, ends, number, left),
-        _ => spawn_keep(rt, tasks, tally, &place.keeps, number, left),
+        0..=5 => spawn_lock(rt, tasks, tally, &place.locks, number, patience),
+        6..=8 => spawn_meet(rt, tasks, tally, &place.meets, receiver, number, patience),
+        9..=13 => spawn_channel(rt, tasks, tally, &place.channels, ends, number, patience),
+        _ => spawn_keep(rt, tasks, tally, &place.keeps, number, patience),
     }
 }
 
@@ -132,10 +133,12 @@ impl<'a, R: Wait + AllocGlobal> Spawns<Task<'a, R>> for Members<'a, R> {
             stopped,
         } = self;
         for number in 0..NUMBERS {
+            if number == NUMBERS / 2 {
+                spawn_tells(rt, tasks, &place.tally, &place.locks)?;
+                spawn_openers(rt, tasks, &place.tally, &place.meets, stopper)?;
+            }
             spawn_member(rt, tasks, place, &ends, stopped.get(), number)?;
         }
-        spawn_tells(rt, tasks, &place.tally, &place.locks)?;
-        spawn_openers(rt, tasks, &place.tally, &place.meets, stopper)?;
         let ended = ends.senders.into_inner().into_future(rt);
         let takes = Takes::new(rt, stream, ended, &place.channels)?;
         spawn_takers(rt, tasks, &place.tally, takes, collects)
@@ -176,9 +179,9 @@ fn crowd<R: Wait + Threads + Sync + RandomSource + AllocGlobal>(
     on_four_threads(rt, members)
 }
 
-// A thousand tasks and more, over all primitives, on four threads. Half of them give up after a few polls, in each stage. Then
-// all have ended, every permit is free, nobody has a lock or waits, those who came to the barrier have met and one has led, what
-// was sent was taken, those who listen with patience heard all, and what is computed once was.
+// A thousand tasks and more, over all primitives, on four threads. Half of them give up, in each stage. Then all have ended, every
+// permit is free, nobody has a lock or waits, those who came to the barrier have met and one has led, what was sent was taken,
+// those who listen with patience heard all, and what is computed once was.
 #[test]
 fn a_crowd_that_gives_up(rt: HostRuntime) -> Result<(), Fail> {
     let place = Place::new(rt.alloc())?;

@@ -2,6 +2,7 @@
 ghost use Rattle.std.specs.Prelude.{◌≡◌, None, IsSome, IfOk};
 
 use crate::crowd::{Member, Tasks};
+use crate::patience::Patience;
 use crate::spawns::{Tally, kind, spawn};
 use crate::tasks::{Awaits, Computes};
 use futures::Future;
@@ -231,7 +232,7 @@ pub fn spawn_keep<'a, R: Wait + AllocGlobal>(
     tally: &'a Tally,
     keeps: &'a Keeps,
     number: u64,
-    left: Option<u64>,
+    patience: Patience,
 ) -> Result<(), AllocError> {
     let (kind, nth) = kind(number);
     let member = match kind {
@@ -240,5 +241,5 @@ pub fn spawn_keep<'a, R: Wait + AllocGlobal>(
         16 => KeepMember::Maps(mapping(rt, keeps, nth % 3)?),
         _ => KeepMember::Flies(flying(rt, keeps, nth % 3)?),
     };
-    spawn(tasks, tally, Member::Keeps(member), left)
+    spawn(tasks, tally, Member::Keeps(member), patience)
 }

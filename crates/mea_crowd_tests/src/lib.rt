@@ -1,5 +1,5 @@
 //! A crowd of tasks over all primitives of `mea` at a time, on four threads, by public contracts alone. Half of them are given
-//! up after a few polls, in whatever stage they are then.
+//! up, in whatever stage they are then or with what they were just woken for.
 #![tactic(auto)]
 
 #[cfg(test)]
@@ -16,6 +16,8 @@ mod locks;
 mod meets;
 #[cfg(test)]
 mod oneshots;
+#[cfg(test)]
+mod patience;
 #[cfg(test)]
 mod spawns;
 #[cfg(test)]

@@ -3,6 +3,7 @@ ghost use Rattle.std.specs.Prelude.{◌≡◌, None, IsSome, IfNone, IfOk};
 
 use crate::crowd::{Member, Tasks};
 use crate::hearing::{Hears, Tells};
+use crate::patience::Patience;
 use crate::spawns::{Tally, kind, spawn};
 use crate::tasks::Uses;
 use futures::task::{Context, Poll};
@@ -236,7 +237,7 @@ pub fn spawn_lock<'a, R: Wait + AllocGlobal>(
     tally: &'a Tally,
     locks: &'a Locks,
     number: u64,
-    left: Option<u64>,
+    patience: Patience,
 ) -> Result<(), AllocError> {
     let (kind, nth) = kind(number);
     let member = match kind {
@@ -254,7 +255,7 @@ pub fn spawn_lock<'a, R: Wait + AllocGlobal>(
             LockMember::Hears(Hears::new(rt, &locks.condvar, flag, &locks.heard)?)
         }
     };
-    spawn(tasks, tally, Member::Locks(member), left)
+    spawn(tasks, tally, Member::Locks(member), patience)
 }
 
 /// Spawns the one that sets the flag.
@@ -265,5 +266,10 @@ pub fn spawn_tells<'a, R: Wait + AllocGlobal>(
     locks: &'a Locks,
 ) -> Result<(), AllocError> {
     let tells = Tells::new(rt, &locks.condvar, Arc::try_clone(&locks.flag)?)?;
-    spawn(tasks, tally, Member::Locks(LockMember::Tells(tells)), None)
+    spawn(
+        tasks,
+        tally,
+        Member::Locks(LockMember::Tells(tells)),
+        Patience::Endless,
+    )
 }

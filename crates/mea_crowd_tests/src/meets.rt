@@ -2,7 +2,8 @@
 ghost use Rattle.std.specs.Prelude.{◌≡◌, IsSome, IfOk};
 
 use crate::crowd::{Member, Tasks};
-use crate::spawns::{ARRIVES, Tally, kind, patience, spawn};
+use crate::patience::Patience;
+use crate::spawns::{ARRIVES, Tally, kind, spawn};
 use crate::tasks::Awaits;
 use futures::task::{Context, Poll};
 use futures::{Future, ready};
@@ -29,7 +30,7 @@ pub struct Meets {
 fn arrivals(numbers: u64) -> u32 {
     let mut arrivals = 0u32;
     for number in 0..numbers {
-        if kind(number).0 == ARRIVES && patience(number) != Some(0) {
+        if kind(number).0 == ARRIVES && !Patience::of(number).is_gone() {
             arrivals = arrivals.saturating_add(1);
         }
     }
@@ -239,14 +240,14 @@ pub fn spawn_meet<'a, R: Wait + AllocGlobal>(
     meets: &'a Meets,
     receiver: &ShutdownRecv<Bell>,
     number: u64,
-    left: Option<u64>,
+    patience: Patience,
 ) -> Result<(), AllocError> {
     let member = match kind(number).0 {
         6 => MeetMember::Passes(passing(rt, meets)?),
         ARRIVES => MeetMember::Arrives(arriving(rt, meets)?),
         _ => MeetMember::Stops(stopping(rt, receiver)?),
     };
-    spawn(tasks, tally, Member::Meets(member), left)
+    spawn(tasks, tally, Member::Meets(member), patience)
 }
 
 /// Spawns those who open the latch and ask for the shutdown.
@@ -261,7 +262,17 @@ pub fn spawn_openers<'a, R: Wait + AllocGlobal>(
         rt,
         latch: &*meets.latch,
     };
-    spawn(tasks, tally, Member::Meets(MeetMember::Opens(opens)), None)?;
+    spawn(
+        tasks,
+        tally,
+        Member::Meets(MeetMember::Opens(opens)),
+        Patience::Endless,
+    )?;
     let shuts = shutting(rt, sender)?;
-    spawn(tasks, tally, Member::Meets(MeetMember::Shuts(shuts)), None)
+    spawn(
+        tasks,
+        tally,
+        Member::Meets(MeetMember::Shuts(shuts)),
+        Patience::Endless,
+    )
 }

@@ -1,4 +1,5 @@
 //! A set of tasks on four threads, and a task that may be given up.
+use crate::patience::Patience;
 use futures::Future;
 use futures::executor::TaskSet;
 use futures::task::{Context, Doorbell, Poll};
@@ -43,21 +44,11 @@ pub fn kind(number: u64) -> (u64, u64) {
 /// The kind that meets at the barrier.
 pub const ARRIVES: u64 = 7;
 
-/// After how many polls the task with this number is given up: half of them are, after none to three.
-pub fn patience(number: u64) -> Option<u64> {
-    let mixed = number.wrapping_mul(0x9e37_79b9_7f4a_7c15) >> 32;
-    if mixed % 2 == 0 {
-        Some(mixed / 2 % 4)
-    } else {
-        None
-    }
-}
-
-/// A task that is given up after some polls, in whatever stage it is then, and asks for each of them; or one with patience.
+/// A task that is given up where its patience has gone.
 #[derive(Drop)]
 pub struct Impatient<'a, F: Future> {
     task: F,
-    left: Option<u64>,
+    patience: Patience,
     tally: &'a Tally,
 }
 
@@ -67,36 +58,33 @@ impl<'a, F: Future<Output = ()>> Future for Impatient<'a, F> {
     ghost can_poll = { λ i. F.can_poll i.task };
 
     fn poll(&mut self, cx: &mut Context<'_>) -> Poll<()> {
-        if self.left == Some(0) {
+        if self.patience.is_gone() || self.task.poll(cx).is_ready() {
             self.tally.ended.fetch_add(1, SeqCst);
             return Poll::Ready(());
         }
-        match self.task.poll(cx) {
-            Poll::Ready(()) => {
-                self.tally.ended.fetch_add(1, SeqCst);
-                Poll::Ready(())
-            }
-            Poll::Pending => match self.left {
-                Some(left) => {
-                    self.left = Some(left.saturating_sub(1));
-                    cx.yield_now()
-                }
-                None => Poll::Pending,
-            },
+        self.patience = self.patience.worn();
+        if self.patience.is_restless() {
+            cx.yield_now()
+        } else {
+            Poll::Pending
         }
     }
 }
 
-/// Spawns a task that is given up after so many polls.
+/// Spawns a task with this much patience.
 pub fn spawn<'a, F: Future<Output = ()>>(
     tasks: &TaskSet<Impatient<'a, F>>,
     tally: &'a Tally,
     task: F,
-    left: Option<u64>,
+    patience: Patience,
 ) -> Result<(), AllocError>
     requires { F.can_poll task }
 {
-    match tasks.spawn(Impatient { task, left, tally }) {
+    match tasks.spawn(Impatient {
+        task,
+        patience,
+        tally,
+    }) {
         Ok(()) => {
             tally.spawned.fetch_add(1, SeqCst);
             Ok(())
