@@ -1,7 +1,8 @@
 -- histories of semaphores: what was played, and what the queue model says of it
-use Rattle.std.specs.Prelude.{ℕ, ◌≡◌, ◌+◌, ◌++◌, List, [], ◌∷◌, Option, None, length, slice_get}
+use Rattle.std.specs.Prelude.{ℕ, ◌≡◌, ◌+◌, ◌++◌, List, [], ◌∷◌, Option, Some, None, length, slice_get}
 use Rattle.std.specs.Option.{option_map}
 use Rattle.mea_base.specs.declared.answer.Answer.{Answer}
+use Rattle.mea_base.specs.declared.stop.Stop.{Stop}
 use Rattle.mea_base.specs.Family.{RunOf, start, goes_on}
 use Rattle.mea_sem_model.specs.declared.event.SemEvent.{SemEvent}
 use Rattle.mea_sem_model.specs.declared.event.SemEvent.TheVariants.{New}
@@ -56,6 +57,23 @@ pub record IsHistory (h : History) : Type 0 where
 -- the history with one more entry, as the model replies to it
 abbrev pub with_event : History → SemEvent → History
 with_event h e = record { events = h.events ++ e ∷ []; replies = h.replies ++ reply_of (hall_after h.events) (length h.events) e ∷ [] }
+
+-- some history of so many entries answers an event so
+abbrev pub IsAnsweredAfter : ℕ → SemEvent → Answer → Type 0
+IsAnsweredAfter entries e answer =
+    (h : History)
+    × IsHistory h
+    × (length h.events ≡ entries)
+    × (cause_of (hall_after h.events) e ≡ None)
+    × ((step (hall_after h.events) entries e).reply ≡ answer)
+
+-- some history of so many entries refuses an event for this cause
+abbrev pub IsRefusedAfter : ℕ → SemEvent → Stop → Type 0
+IsRefusedAfter entries e stop =
+    (h : History)
+    × IsHistory h
+    × (length h.events ≡ entries)
+    × (cause_of (hall_after h.events) e ≡ Some stop)
 
 -- a run of the model goes on with these events, the first of which has the number i
 abbrev pub run_from : RunOf semaphores → ℕ → List SemEvent → RunOf semaphores

@@ -2,7 +2,7 @@ ghost use Rattle.std.specs.Prelude.{◌≡◌, ◌≢◌, ◌+◌, ◌<◌, ◌�
 ghost use Rattle.mea_base.specs.declared.stop.Stop.TheVariants as stops;
 ghost use Rattle.mea_sem_model.specs.Cause.{cause_of};
 ghost use Rattle.mea_sem_model.specs.Step.{step};
-ghost use Rattle.mea_history.specs.History.{hall_after, with_event};
+ghost use Rattle.mea_history.specs.History.{IsHistory, hall_after, with_event};
 ghost use Rattle.mea_history.specs.Things.{ends};
 ghost use Rattle.mea_history.specs.Closing.{Stands, rise_from, Explains};
 
@@ -39,6 +39,7 @@ impl<L: Ledger> Desk<L> {
         ensures no_memory { ends event.now ≡ true → vec_len pass.old.noted < vec_capacity pass.old.noted → IfErr result (λ r. cause_of (hall_after self.old.recorded.events) event.now ≡ Some r.stop) }
         ensures err { OnErr result ((self.new.recorded ≡ self.old.recorded) × (pass.new.noted.items ≡ pass.old.noted.items)) }
         ensures parts { pass.new.parts ≡ pass.old.parts }
+        ensures history { IsHistory self.old.recorded }
     {
         let Desk {
             recorded,
@@ -51,12 +52,10 @@ impl<L: Ledger> Desk<L> {
             noted,
             alloc: _,
         } = pass;
+        let at = recorded.entries();
         if noted.reserve(1).is_err() {
             let stop = recorded.cause(event).unwrap_or(Stop::NoMemory);
-            return Err(Refused {
-                stop,
-                at: recorded.entries(),
-            });
+            return Err(Refused { stop, at });
         }
         match recorded.act_on(event) {
             Ok(receipt) => {

@@ -1,7 +1,9 @@
-ghost use Rattle.std.specs.Prelude.{◌≡◌, ◌≢◌, ◌+◌, ◌<◌, ◌≤◌, ◌++◌, ◌∷◌, [], ℕ, true, Some, All, Any, ◌⊎◌, IfOk, OnErr, OnOk, IfErr, length, vec_len, slice_get, sum_by};
+ghost use Rattle.std.specs.Prelude.{◌≡◌, ◌≢◌, ◌+◌, ◌<◌, ◌≤◌, ◌++◌, ◌∷◌, [], ℕ, true, Some, All, Any, ◌⊎◌, IfOk, OnErr, OnOk, IfErr, length, vec_len, vec_capacity, slice_get, sum_by};
+ghost use Rattle.mea_base.specs.declared.stop.Stop.TheVariants as stops;
 ghost use Rattle.mea_sem_model.specs.declared.event.SemEvent.TheVariants as lines;
 ghost use Rattle.mea_history.specs.Closing.{Stands, rise_from, Explains, BeginsOtherwise};
-ghost use Rattle.mea_history.specs.History.{IsHistory};
+ghost use Rattle.mea_history.specs.History.{IsHistory, IsAnsweredAfter, IsRefusedAfter};
+ghost use Rattle.mea_history.specs.Things.{ends};
 
 use crate::closing::compare_first;
 use crate::desk::Desk;
@@ -59,7 +61,8 @@ impl<L: Ledger> RecordedSemaphore<L> {
     }
 
     /// Plays an event by a pass, which keeps the receipt. In which state it was played nobody outside the lock can
-    /// name; the exact clauses stand on the call under it.
+    /// name: some history of as many entries as are told answers so, or refuses so. An end is not refused for want of
+    /// memory where the pass has room. The exact clauses stand on the call under the lock.
     pub fn act<R: Wait>(
         &self,
         rt: &R,
@@ -67,6 +70,9 @@ impl<L: Ledger> RecordedSemaphore<L> {
         event: &SemEvent,
     ) -> Result<Receipt, Refused>
         ensures noted { IfOk result (λ r. pass.new.noted.items ≡ pass.old.noted.items ++ record { asked = event.now; receipt = r } ∷ []) }
+        ensures answered { IfOk result (λ r. IsAnsweredAfter r.number event.now r.answer) }
+        ensures refused { IfErr result (λ r. IsRefusedAfter r.at event.now r.stop ⊎ (r.stop ≡ stops.NoMemory)) }
+        ensures no_memory { ends event.now ≡ true → vec_len pass.old.noted < vec_capacity pass.old.noted → IfErr result (λ r. IsRefusedAfter r.at event.now r.stop) }
         ensures err { OnErr result (pass.new.noted.items ≡ pass.old.noted.items) }
         ensures parts { pass.new.parts ≡ pass.old.parts }
     {
