@@ -38,11 +38,11 @@ pub fn run_crew<R: Threads + Wait + Sync, K: Sink>(
     ensures untouched { result ≡ CrewStatus.Usage → sink.new ≡ sink.old }
     ensures write_fault { result ≡ CrewStatus.WriteFault → Rose (K.faults sink.old) (K.faults sink.new) }
 
-    // Where the sink tells its bytes: all four lines, or a front of them where there was a fault.
+    // Where the sink tells its bytes: all four lines, or where there was a fault a front of them, or nothing.
     ensures done { (workers rounds : ℕ) (before : List ℕ) → IsCrew (map string_bytes words.now) workers rounds → K.taken sink.old ≡ Some before → result ≡ CrewStatus.Done
         → (h : History) × IsOfCrew workers rounds h × HasWritten (text_of h) before (K.taken sink.new) }
     ensures part { (workers rounds : ℕ) (before : List ℕ) → IsCrew (map string_bytes words.now) workers rounds → K.taken sink.old ≡ Some before
-        → (h : History) × HasWrittenPart (text_of h) before (K.taken sink.new) }
+        → HasWritten [] before (K.taken sink.new) ⊎ ((h : History) × IsOfCrew workers rounds h × HasWrittenPart (text_of h) before (K.taken sink.new)) }
 {
     match workers_and_rounds(words) {
         Some((workers, rounds)) => play(rt, alloc, workers, rounds, sink),
@@ -76,7 +76,8 @@ fn play<R: Threads + Wait + Sync, K: Sink>(
     ensures write_fault { result ≡ CrewStatus.WriteFault → Rose (K.faults sink.old) (K.faults sink.new) }
     ensures done { (before : List ℕ) → K.taken sink.old ≡ Some before → result ≡ CrewStatus.Done
         → (h : History) × IsOfCrew workers rounds h × HasWritten (text_of h) before (K.taken sink.new) }
-    ensures part { (before : List ℕ) → K.taken sink.old ≡ Some before → (h : History) × HasWrittenPart (text_of h) before (K.taken sink.new) }
+    ensures part { (before : List ℕ) → K.taken sink.old ≡ Some before
+        → HasWritten [] before (K.taken sink.new) ⊎ ((h : History) × IsOfCrew workers rounds h × HasWrittenPart (text_of h) before (K.taken sink.new)) }
 {
     let text = match lines_of(rt, alloc, workers, rounds) {
         Ok(text) => text,

@@ -1,10 +1,6 @@
-use Rattle.std.proofs.Common.{[], refl, sym, ap, ◌∙◌, Some, append-nil}
-use Rattle.mea_workers.specs.Crew.{text_of}
-use Rattle.mea_history.specs.History.{History}
+use Rattle.std.proofs.Common.{inl, sym, ap, ◌∙◌, Some, append-nil}
 use Rattle.mea_workers.proofs.running.play.Goals as goal
 
--- nothing was written, which is a front of any text
+-- nothing was written
 pub returns-in-Err-clause-part : goal.returns-in-Err-clause-part
-returns-in-Err-clause-part g c = λ before was.
-    let none : History = record { events = []; replies = [] } in
-    (none, ([], text_of none, refl, was ∙ ap Some (sym (append-nil before))))
+returns-in-Err-clause-part g c = λ before was. inl (was ∙ ap Some (sym (append-nil before)))
