@@ -7,5 +7,4 @@ pub mod Totals
 pub mod Trims
 pub mod WaitLinks
 pub mod Waits
-pub mod Wakes
 pub mod Tests

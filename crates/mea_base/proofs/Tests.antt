@@ -1,10 +1,9 @@
 -- tests of names, and what is chosen by them
-use Rattle.std.proofs.Common.{◌≡◌, ◌≢◌, ℕ, ◌==◌, Bool, true, false, cond, eqb, None, refl, ap, ◌∙◌, arith, Result, Ok, Err, OnErr, not, ◌&&◌}
+use Rattle.std.proofs.Common.{◌≡◌, ◌≢◌, ℕ, ◌==◌, Bool, true, false, cond, eqb, refl, ap, ◌∙◌, arith, Result, Ok, Err, OnErr, not, ◌&&◌}
 use Rattle.std.specs.Ordering.{nat_cmp, eq_by_cmp}
 use Rattle.std.specs.Cmp.{unsigned_tied}
 use Rattle.std.proofs.lemmas.Bool.{eqb-true, eqb-false, eq-eqb, ne_eqb}
 use Rattle.std.proofs.lemmas.Bool.Decides.{nat_tests}
-use Rattle.mea_base.specs.Causes.{unknown_unless}
 
 -- ---- whether two names are one, as each test of them says it
 pub test_same : (m n : ℕ) → m ≡ n → eqb m n ≡ true
@@ -50,11 +49,6 @@ on_true false n h = absurd (cc)
 pub on_false : (b : Bool) (n : ℕ) → b ≡ false → cond b n 0 ≡ 0
 on_false true n h = absurd (cc)
 on_false false n h = refl
-
--- ---- that there is no cause
-pub known : (b : Bool) → unknown_unless b ≡ None → b ≡ true
-known true e = refl
-known false e = absurd (cc)
 
 -- ---- what holds anyway holds where there is an error
 pub on_err : {A E : Type 0} (r : Result A E) (P : Type 0) → P → OnErr r P

@@ -5,6 +5,4 @@ pub mod Totals
 pub mod WaitList
 pub mod WaitListLends
 pub mod WaitListLinks
-pub mod Family
 pub mod Ready
-pub mod Causes

@@ -128,17 +128,13 @@ pub fn reserve_nodes<T>(nodes: &mut Slab<Node<T>>, n: usize) -> Result<(), NoMem
     ensures capacity { nodes.old.capacity ≤ nodes.new.capacity }
 {
     if nodes.contains(SENTINEL) {
-        return match nodes.reserve(n) {
-            Ok(()) => Ok(()),
-            Err(_) => Err(NoMemory),
-        };
+        nodes.reserve(n)?;
+        return Ok(());
     }
     let Some(whole) = n.checked_add(1) else {
         return Err(NoMemory);
     };
-    if nodes.reserve(whole).is_err() {
-        return Err(NoMemory);
-    }
+    nodes.reserve(whole)?;
     nodes.insert_reserved(Node {
         prev: SENTINEL,
         next: SENTINEL,

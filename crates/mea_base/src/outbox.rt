@@ -1,4 +1,4 @@
-ghost use Rattle.std.specs.Prelude.{◌≡◌, ◌+◌, ◌-◌, ◌≤◌, [], ◌∷◌, ◌++◌, length, IsOk, OnOk, IfSome, IfNone};
+ghost use Rattle.std.specs.Prelude.{◌≡◌, ◌+◌, ◌-◌, ◌<◌, ◌≤◌, ◌^◌, [], ◌∷◌, ◌++◌, length, IsOk, OnOk, IfSome, IfNone};
 ghost use Rattle.mea_base.specs.Outbox.{Wakes};
 
 use crate::no_memory::NoMemory;
@@ -64,9 +64,10 @@ impl<W> Outbox<W> {
         self.wakers.pop_front()
     }
 
-    /// How many wakers are ready. It takes no memory.
+    /// How many wakers are ready: always fewer than 2^63, so that two counts have a sum. It takes no memory.
     pub fn len(&self) -> usize
-        ensures { result ≡ length self.now.wakers }
+        ensures is { result ≡ length self.now.wakers }
+        ensures bound { result < 2 ^ 63 }
     {
         self.wakers.len()
     }

@@ -1,4 +1,4 @@
-ghost use Rattle.std.specs.Prelude.{◌≡◌, ◌+◌, ◌-◌, ◌≤◌, [], ◌∷◌, ◌++◌, length, OnOk, OnErr, IfSome, IfNone};
+ghost use Rattle.std.specs.Prelude.{◌≡◌, ◌+◌, ◌-◌, ◌<◌, ◌≤◌, ◌^◌, [], ◌∷◌, ◌++◌, length, OnOk, OnErr, IfSome, IfNone};
 
 use crate::no_memory::NoMemory;
 use crate::outbox::Outbox;
@@ -76,7 +76,8 @@ impl<W> Ready<W> {
 
     /// How many wakers are ready. It takes no memory.
     pub fn len(&self) -> usize
-        ensures { result ≡ length self.now.wakers }
+        ensures is { result ≡ length self.now.wakers }
+        ensures bound { result < 2 ^ 63 }
     {
         self.outbox.len()
     }

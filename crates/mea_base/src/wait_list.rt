@@ -75,9 +75,7 @@ impl<T> WaitList<T> {
         if n <= self.spare {
             return Ok(());
         }
-        if reserve_nodes(&mut self.nodes, n).is_err() {
-            return Err(NoMemory);
-        }
+        reserve_nodes(&mut self.nodes, n)?;
         self.spare = self.nodes.capacity() - self.nodes.len();
         Ok(())
     }

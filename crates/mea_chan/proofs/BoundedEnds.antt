@@ -3,10 +3,10 @@ use Rattle.std.proofs.Common.{◌≡◌, ℕ, ◌+◌, ◌-◌, ◌≤◌, ◌==
 use Rattle.std.specs.Option.{IsSome}
 use Rattle.std.specs.Ordering.{nat_cmp}
 use Rattle.std.specs.FinMap.{get, insert, remove, len, empty, len-empty}
-use Rattle.mea_base.specs.declared.answer.Answer.{Answer}
-use Rattle.mea_base.specs.declared.answer.Answer.TheVariants as answers
-use Rattle.mea_base.specs.declared.stop.Stop.TheVariants as stops
-use Rattle.mea_base.specs.Family.{Outcome, quietly}
+use Rattle.mea_family.specs.declared.answer.Answer.{Answer}
+use Rattle.mea_family.specs.declared.answer.Answer.TheVariants as answers
+use Rattle.mea_family.specs.declared.stop.Stop.TheVariants as stops
+use Rattle.mea_family.specs.Family.{Outcome, quietly}
 use Rattle.mea_base.specs.Ready.{Waking}
 use Rattle.std.proofs.lemmas.Bool.{eqb-true, eqb-false}
 use Rattle.std.proofs.lemmas.Bool.Decides.{nat_tests}
@@ -15,21 +15,21 @@ use Rattle.mea_base.proofs.Queues.{lacks-map}
 use Rattle.mea_base.specs.Totals.{weight}
 use Rattle.mea_base.proofs.Maps.{by_put, nothing_at, inside, get-there, get-gone, get-removed_other, removed_there, value_in}
 use Rattle.mea_base.proofs.Totals.{total-insert, total-remove}
-use Rattle.mea_named.specs.declared.named_waker.NamedWaker.{NamedWaker}
-use Rattle.mea_named.specs.ByName.{Names, seen, own}
-use Rattle.mea_named.specs.HallKept.{HallKept}
-use Rattle.mea_named.specs.NamedQueue.{waits}
-use Rattle.mea_named.specs.LackingQueue.{leaving, woken_by}
-use Rattle.mea_named.specs.Play.{Part, PartYields}
-use Rattle.mea_named.proofs.Cases.{found_is}
-use Rattle.mea_named.proofs.Halls as halls
-use Rattle.mea_named.proofs.Own.{seen-at, seen-insert, seen-remove, seen-alike, seen-empty, seen-none, own-at, own-none, own-gone, own-put, own-empty, own-nothing, len-gone, len-some, len-new, len-over, insert_same, put_gone, gone_none, Stays, Comes, Goes}
+use Rattle.mea_by_name.specs.declared.named_waker.NamedWaker.{NamedWaker}
+use Rattle.mea_by_name.specs.ByName.{Names, seen, own}
+use Rattle.mea_by_name.specs.HallKept.{HallKept}
+use Rattle.mea_by_name.specs.NamedQueue.{waits}
+use Rattle.mea_by_name.specs.LackingQueue.{leaving, woken_by}
+use Rattle.mea_family.specs.Play.{Part, PartYields}
+use Rattle.mea_by_name.proofs.Cases.{found_is}
+use Rattle.mea_by_name.proofs.Halls as halls
+use Rattle.mea_by_name.proofs.Own.{seen-at, seen-insert, seen-remove, seen-alike, seen-empty, seen-none, own-at, own-none, own-gone, own-put, own-empty, own-nothing, len-gone, len-some, len-new, len-over, insert_same, put_gone, gone_none, Stays, Comes, Goes}
 use Rattle.mea_sem_core.specs.Core.{poured}
 use Rattle.mea_sem_core.specs.Calls.{Belongs}
 use Rattle.mea_sem_core.specs.declared.acquire.Acquire.TheVariants.{New, Queued, Done, Refused}
 use Rattle.mea_sem_core.specs.declared.acquire.Acquire.{Acquire}
 use Rattle.mea_sem_core.specs.Acquire.{demand_of}
-use Rattle.mea_linked.proofs.Linking.{IsUnqueued, linked_begun}
+use Rattle.mea_cores_by_name.proofs.Linking.{IsUnqueued, linked_begun}
 use Rattle.mea_chan_core.specs.Channel.{no_senders}
 use Rattle.futures.specs.declared.task.Poll.TheVariants.{Ready, Pending}
 use Rattle.mea_chan_core.specs.declared.errors.SendError.{SendError}
@@ -46,7 +46,7 @@ use Rattle.mea_chan_model.specs.MailboxActions.{act_in}
 use Rattle.mea_chan_model.specs.Bounded as model
 use Rattle.mea_chan_model.specs.Bounded.{Bounded, Room, registered, is_full}
 use Rattle.mea_chan_model.specs.BoundedActions.{MakeRoom, BeginSend, PollSend, EndSend, DropSender, DropReceiver, bounded_act, bounded_cause}
-use Rattle.mea_linked.specs.Linked.{names_in, who_of, IsHome, Linked}
+use Rattle.mea_cores_by_name.specs.Linked.{names_in, who_of, IsHome, Linked}
 use Rattle.mea_chan.specs.declared.receiver_entry.ReceiverEntry.{ReceiverEntry}
 use Rattle.mea_chan.specs.declared.sender_entry.SenderEntry.{SenderEntry}
 use Rattle.mea_chan.specs.Cores.{Mailbox, message_sent, sent_answer, is_over}
@@ -307,9 +307,6 @@ module _ {old : Part Bounded} {i : ℕ} (s : BoundedSite old i) where
     abbrev newcomer : ℕ → KeptSend
     newcomer v = record { sender = k; channel = y.channel; value = Some v; acquire = New 1 }
 
-    pub few_sends : y.sends ≤ s.next
-    few_sends = (s.kept.counted.below k y sender).1
-
     pub looked_at : (IsKeptBounded s.cs (insert s.ss k y) s.rs s.xs s.next) × (part_of s.cs (insert s.ss k y) s.rs s.xs s.next ≡ old)
     looked_at = rw (insert_same s.ss k y sender) (s.kept, s.view)
 
@@ -354,9 +351,6 @@ module _ {old : Part Bounded} {i : ℕ} (s : BoundedSite old i) where
 
     links_of_it : AreLinked c (own of_channel x.channel s.xs) (own itself x.channel empty)
     links_of_it = (its_linked s) x.channel c there
-
-    pub send_belongs : Belongs c.waiting x.acquire
-    send_belongs = its_belongs c (own of_channel x.channel s.xs) links_of_it.linked is f x mine_is
 
     pub some_send : 1 ≤ y.sends
     some_send = omega (arith, (s.kept.counted.each x.sender y sender).sends, len-some (own of_sender x.sender s.xs) f x (own-at of_sender x.sender s.xs f x send refl))

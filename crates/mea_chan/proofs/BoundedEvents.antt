@@ -3,26 +3,26 @@ use Rattle.std.proofs.Common.{◌≡◌, ℕ, ◌+◌, ◌-◌, ◌<◌, ◌≤�
 use Rattle.std.specs.Option.{IsSome, option_map}
 use Rattle.std.specs.Ordering.{nat_cmp}
 use Rattle.std.specs.FinMap.{get, insert, len, empty, len-empty}
-use Rattle.mea_base.specs.declared.answer.Answer.{Answer}
-use Rattle.mea_base.specs.declared.answer.Answer.TheVariants as answers
-use Rattle.mea_base.specs.declared.stop.Stop.TheVariants as stops
-use Rattle.mea_base.specs.Family.{Outcome, quietly}
+use Rattle.mea_family.specs.declared.answer.Answer.{Answer}
+use Rattle.mea_family.specs.declared.answer.Answer.TheVariants as answers
+use Rattle.mea_family.specs.declared.stop.Stop.TheVariants as stops
+use Rattle.mea_family.specs.Family.{Outcome, quietly}
 use Rattle.mea_base.specs.Ready.{Waking}
 use Rattle.std.proofs.lemmas.Bool.{eqb-true}
 use Rattle.mea_base.specs.Totals.{total, weight}
 use Rattle.mea_base.proofs.Maps.{by_put, total-has, nothing_at, get-there, is_there}
 use Rattle.mea_base.proofs.Totals.{total-insert, total-plus, total-alike}
 use Rattle.mea_base.proofs.NamedMaps.{is_some-map, get-seen}
-use Rattle.mea_named.specs.declared.named_waker.NamedWaker.{NamedWaker}
-use Rattle.mea_named.specs.ByName.{Names, seen, own}
-use Rattle.mea_named.specs.HallKept.{HallKept}
-use Rattle.mea_named.specs.NamedQueue.{waits}
-use Rattle.mea_named.specs.LackingQueue.{who}
-use Rattle.mea_named.specs.Play.{Part, PartYields, PartRests, found}
-use Rattle.mea_named.proofs.Cases.{found_is, by_if, if_true, if_false}
-use Rattle.mea_named.proofs.Halls as halls
-use Rattle.mea_named.proofs.LackingQueues.{length-who}
-use Rattle.mea_named.proofs.Own.{seen-at, seen-back, seen-insert, seen-alike, total-seen, seen-empty, own-seen, len-seen, len-some, insert_same, Stays}
+use Rattle.mea_by_name.specs.declared.named_waker.NamedWaker.{NamedWaker}
+use Rattle.mea_by_name.specs.ByName.{Names, seen, own}
+use Rattle.mea_by_name.specs.HallKept.{HallKept}
+use Rattle.mea_by_name.specs.NamedQueue.{waits}
+use Rattle.mea_by_name.specs.LackingQueue.{who}
+use Rattle.mea_family.specs.Play.{Part, PartYields, PartRests, found}
+use Rattle.mea_by_name.proofs.Cases.{found_is, by_if, if_true, if_false}
+use Rattle.mea_by_name.proofs.Halls as halls
+use Rattle.mea_by_name.proofs.LackingQueues.{length-who}
+use Rattle.mea_by_name.proofs.Own.{seen-at, seen-back, seen-insert, seen-alike, total-seen, seen-empty, own-seen, len-seen, len-some, insert_same, Stays}
 use Rattle.mea_sem_core.specs.Core.{Waiter, Acquires, Owes}
 use Rattle.mea_sem_core.specs.Ones.{AskForOne}
 use Rattle.mea_sem_core.specs.declared.acquire.Acquire.TheVariants.{Queued, Done}
@@ -40,7 +40,7 @@ use Rattle.mea_chan_model.specs.Bounded as model
 use Rattle.mea_chan_model.specs.Bounded.{Bounded, Room, BoundedSend, registered, is_full, is_send, no_bounded}
 use Rattle.mea_chan_model.specs.BoundedActions.{BoundedAction, CopySender, TrySend, TryReceive, PollReceive, DropSender, bounded_act, bounded_cause}
 use Rattle.mea_chan_model.specs.Valid.{AreValid}
-use Rattle.mea_linked.specs.Linked.{names_in, AreOf, Linked}
+use Rattle.mea_cores_by_name.specs.Linked.{names_in, AreOf, Linked}
 use Rattle.mea_chan.specs.declared.receiver_entry.ReceiverEntry.{ReceiverEntry}
 use Rattle.mea_chan.specs.declared.sender_entry.SenderEntry.{SenderEntry}
 use Rattle.mea_chan.specs.Cores.{Mailbox, message_sent, sent_answer, is_over, ReceivesBy}
@@ -48,12 +48,12 @@ use Rattle.mea_chan.specs.Entries.{told, poll_told}
 use Rattle.mea_chan.specs.BoundedCores.{NamedChannel, KeptSend, as_mailbox, kept_by, handed_on, polled_as, HandsOn, tried_told}
 use Rattle.mea_chan.specs.BoundedParts.{room_seen, send_seen, channel_of_sender, bounded_seen, acquires_of, AreLinked, AreCounted, IsKeptBounded, of_channel, of_sender, itself}
 use Rattle.mea_chan.specs.BoundedLends.{StandsForBounded}
-use Rattle.mea_chan.specs.MailboxParts.{channel_seen, receiver_seen, mailboxes_seen, IsKept, of_sender as mine}
+use Rattle.mea_chan.specs.MailboxParts.{channel_seen, receiver_seen, mailboxes_seen, AreKeptMailboxes, of_sender as mine}
 use Rattle.mea_chan.proofs.BoundedSteps.{made, left}
 use Rattle.mea_chan.proofs.OneChannel as one
 use Rattle.mea_chan.proofs.MailboxEvents as mail
 use Rattle.mea_chan.proofs.MailboxEvents.{Site}
-use Rattle.mea_linked.proofs.Waiters.{length-names}
+use Rattle.mea_cores_by_name.proofs.Waiters.{length-names}
 
 abbrev pub part_of : Names NamedChannel → Names SenderEntry → Names ReceiverEntry → Names KeptSend → ℕ → Part Bounded
 part_of cs ss rs xs next = record { hall = bounded_seen cs ss rs xs; next = next }
@@ -245,9 +245,6 @@ module _ {old : Part Bounded} {i : ℕ} (s : BoundedSite old i) where
   pub receivers_channel : (r : ℕ) (x : ReceiverEntry) → get s.rs r ≡ Some x → IsSome (get s.cs x.channel)
   receivers_channel r x there = sym (is_some-map as_mailbox (get s.cs x.channel)) ∙ sym (ap is_some (get-seen (λ k c. as_mailbox c) s.cs x.channel)) ∙ mail.receivers_channel letters r x there
 
-  pub sends_channel : (f : ℕ) (x : KeptSend) → get s.xs f ≡ Some x → IsSome (get s.cs x.channel)
-  sends_channel f x there = (s.kept.linked.firsts.at f x there).1
-
   pub sends_sender : (f : ℕ) (x : KeptSend) → get s.xs f ≡ Some x → IsSome (get s.ss x.sender)
   sends_sender f x there = (s.kept.counted.firsts.at f x there).1
 
@@ -312,18 +309,15 @@ module _ {old : Part Bounded} {i : ℕ} (s : BoundedSite old i) where
     pub links_stay : (c' : NamedChannel) → Linked c'.waiting.queue c'.waiting.granted (acquires_of (own of_channel o s.xs)) → HallKept of_channel itself AreLinked (λ c. 0) (insert s.cs o c') s.xs empty (i + 1)
     links_stay c' links = halls.turns of_channel itself AreLinked (λ c. 0) s.cs s.xs empty s.next i s.kept.linked s.later s.fits o c c' s.xs empty there Stays Stays (record { linked = links; valued = its_linked.valued; ones = its_linked.ones }) (omega arith)
 
-    counts_stay : HallKept of_sender itself AreCounted (λ y. y.sends) s.ss s.xs empty (i + 1)
-    counts_stay = halls.rests of_sender itself AreCounted (λ y. y.sends) s.ss s.xs empty s.next i s.kept.counted s.later s.fits
-
   -- ---- what an action on the mailboxes did, as it is kept and as it is seen
   pub record Mails (a : Action) (answer : Answer) (cs' : Names NamedChannel) (ss' : Names SenderEntry) (rs' : Names ReceiverEntry) (ws : List ℕ) : Type 0 where
-    pub kept : IsKept (seen as_mailbox cs') (seen channel_of_sender ss') rs' (i + 1)
+    pub kept : AreKeptMailboxes (seen as_mailbox cs') (seen channel_of_sender ss') rs' (i + 1)
     pub replied : answer ≡ (act_in before_it.mail i a).reply
     pub hall : mailboxes_seen (seen as_mailbox cs') (seen channel_of_sender ss') rs' ≡ (act_in before_it.mail i a).hall
     pub wakes : ws ≡ (act_in before_it.mail i a).wakes
 
   pub from_rests : (a : Action) (answer : Answer) (cs' : Names NamedChannel) (ss' : Names SenderEntry) (rs' : Names ReceiverEntry) (ms : Names Mailbox) (ns : Names ℕ) → seen as_mailbox cs' ≡ ms → seen channel_of_sender ss' ≡ ns
-      → IsKept ms ns rs' (i + 1) → PartRests mailboxes.registered (mail_part s.cs s.ss s.rs s.next) i (act_in before_it.mail i a) answer (mail.part_of ms ns rs' (i + 1)) → Mails a answer cs' ss' rs' []
+      → AreKeptMailboxes ms ns rs' (i + 1) → PartRests mailboxes.registered (mail_part s.cs s.ss s.rs s.next) i (act_in before_it.mail i a) answer (mail.part_of ms ns rs' (i + 1)) → Mails a answer cs' ss' rs' []
   from_rests a answer cs' ss' rs' ms ns channels senders kept rests = record {
     kept = rw (channels, senders) kept;
     replied = rests.replied;
@@ -332,7 +326,7 @@ module _ {old : Part Bounded} {i : ℕ} (s : BoundedSite old i) where
   }
 
   pub from_yields : (a : Action) (answer : Answer) (cs' : Names NamedChannel) (ss' : Names SenderEntry) (rs' : Names ReceiverEntry) (ms : Names Mailbox) (ns : Names ℕ) (before after : Waking ℕ) → before.wakers ≡ [] → seen as_mailbox cs' ≡ ms → seen channel_of_sender ss' ≡ ns
-      → IsKept ms ns rs' (i + 1) → PartYields mailboxes.registered (mail_part s.cs s.ss s.rs s.next) i (act_in before_it.mail i a) answer (mail.part_of ms ns rs' (i + 1)) before after → Mails a answer cs' ss' rs' after.wakers
+      → AreKeptMailboxes ms ns rs' (i + 1) → PartYields mailboxes.registered (mail_part s.cs s.ss s.rs s.next) i (act_in before_it.mail i a) answer (mail.part_of ms ns rs' (i + 1)) before after → Mails a answer cs' ss' rs' after.wakers
   from_yields a answer cs' ss' rs' ms ns before after none channels senders kept yields = record {
     kept = rw (channels, senders) kept;
     replied = yields.replied;
@@ -347,7 +341,7 @@ module _ {old : Part Bounded} {i : ℕ} (s : BoundedSite old i) where
   rests = record { mail = mail.rests letters; linked = halls.rests of_channel itself AreLinked (λ c. 0) s.cs s.xs empty s.next i s.kept.linked s.later s.fits; counted = counts_rest; alike = s.kept.alike }
 
   -- the channel o became c', and the sends stay as they are
-  changed : (o : ℕ) (c c' : NamedChannel) (rs' : Names ReceiverEntry) → get s.cs o ≡ Some c → Linked c'.waiting.queue c'.waiting.granted (acquires_of (own of_channel o s.xs)) → IsKept (seen as_mailbox (insert s.cs o c')) (seen channel_of_sender s.ss) rs' (i + 1)
+  changed : (o : ℕ) (c c' : NamedChannel) (rs' : Names ReceiverEntry) → get s.cs o ≡ Some c → Linked c'.waiting.queue c'.waiting.granted (acquires_of (own of_channel o s.xs)) → AreKeptMailboxes (seen as_mailbox (insert s.cs o c')) (seen channel_of_sender s.ss) rs' (i + 1)
       → IsKeptBounded (insert s.cs o c') s.ss rs' s.xs (i + 1)
   changed o c c' rs' there links kept = record { mail = kept; linked = links_stay o c there c' links; counted = counts_rest; alike = s.kept.alike }
 

@@ -9,11 +9,11 @@ use Rattle.std.specs.FinMap.{FinMap}
 use Rattle.mea_base.proofs.Maps.{get-gone, removed_none}
 use Rattle.mea_base.proofs.NamedMaps.{same_named}
 use Rattle.mea_base.proofs.Totals.{get_inserted, get_removed}
-use Rattle.mea_named.specs.declared.named_waker.NamedWaker.{NamedWaker}
-use Rattle.mea_named.specs.ByName.{Names}
-use Rattle.mea_named.specs.NamedQueue.{waits}
-use Rattle.mea_named.specs.LackingQueue.{who, rewoken, leaving, woken_by}
-use Rattle.mea_named.proofs.Own.{seen-at, seen-insert, seen-remove, insert_same}
+use Rattle.mea_by_name.specs.declared.named_waker.NamedWaker.{NamedWaker}
+use Rattle.mea_by_name.specs.ByName.{Names}
+use Rattle.mea_by_name.specs.NamedQueue.{waits}
+use Rattle.mea_by_name.specs.LackingQueue.{who, rewoken, leaving, woken_by}
+use Rattle.mea_by_name.proofs.Own.{seen-at, seen-insert, seen-remove, insert_same}
 use Rattle.mea_sem_core.specs.Acquire.{demand_of}
 use Rattle.mea_sem_core.specs.declared.acquire.Acquire.{Acquire}
 use Rattle.mea_sem_core.specs.declared.acquire.Acquire.TheVariants.{New, Queued, Done, Refused}
@@ -32,9 +32,9 @@ use Rattle.mea_chan_core.specs.Bounded.{made_way, made_way_for, without_free, Is
 use Rattle.mea_chan_core.specs.Woken.{IsChannel}
 use Rattle.mea_chan_core.proofs.Senders.{Stays, makes_way, wakes_all, loses_keeps, cancels_keeps}
 use Rattle.mea_chan_model.specs.Bounded.{Room, left_by, joined}
-use Rattle.mea_linked.specs.Linked.{names_in, IsHome, Linked}
-use Rattle.mea_linked.proofs.Linking.{IsUnqueued, unqueued_waits, linked_gone, linked_pushed, queued_waits, queued_with, queued_without, linked_again, linked_taken, linked_left, push-names}
-use Rattle.mea_linked.proofs.Poured.{queue_poured, woken_poured, poured_linked}
+use Rattle.mea_cores_by_name.specs.Linked.{names_in, IsHome, Linked}
+use Rattle.mea_cores_by_name.proofs.Linking.{IsUnqueued, unqueued_waits, linked_gone, linked_pushed, queued_waits, queued_with, queued_without, linked_again, linked_taken, linked_left, push-names}
+use Rattle.mea_cores_by_name.proofs.Poured.{queue_poured, woken_poured, poured_linked}
 use Rattle.mea_chan.specs.BoundedCores.{NamedChannel, KeptSend, kept_by, polled_as}
 use Rattle.mea_chan.specs.BoundedParts.{room_seen, acquires_of, was_polled}
 

@@ -3,21 +3,21 @@ use Rattle.std.proofs.Common.{◌≡◌, ℕ, ◌+◌, ◌<◌, ◌≤◌, ◌^�
 use Rattle.std.specs.Option.{IsSome, option_map}
 use Rattle.std.specs.Ordering.{nat_cmp}
 use Rattle.std.specs.FinMap.{get, insert, remove, len, empty, get-empty, len-empty}
-use Rattle.mea_base.specs.declared.answer.Answer.{Answer}
-use Rattle.mea_base.specs.declared.answer.Answer.TheVariants as answers
-use Rattle.mea_base.specs.declared.stop.Stop.TheVariants as stops
-use Rattle.mea_base.specs.Family.{Outcome, quietly}
+use Rattle.mea_family.specs.declared.answer.Answer.{Answer}
+use Rattle.mea_family.specs.declared.answer.Answer.TheVariants as answers
+use Rattle.mea_family.specs.declared.stop.Stop.TheVariants as stops
+use Rattle.mea_family.specs.Family.{Outcome, quietly}
 use Rattle.mea_base.specs.Ready.{Waking}
 use Rattle.mea_base.specs.Totals.{total, weight}
 use Rattle.mea_base.proofs.Maps.{total-has, nothing_at, inside, get-there, get-other, get-removed_other, is_there, value_in}
 use Rattle.mea_base.proofs.Totals.{total-insert, total-remove, get_inserted, get_removed}
 use Rattle.mea_base.proofs.NamedMaps.{is_some-map, get-seen, same_named}
 use Rattle.std.proofs.lemmas.Bool.{eqb-true}
-use Rattle.mea_named.specs.ByName.{Names, seen, own}
-use Rattle.mea_named.specs.Play.{Part, PartYields, PartRests, found}
-use Rattle.mea_named.proofs.Cases.{found_is}
-use Rattle.mea_named.proofs.Halls as halls
-use Rattle.mea_named.proofs.Own.{seen-at, seen-back, own-seen, len-seen, seen-empty, seen-insert, seen-remove, total-seen, own-at, own-none, own-put, own-gone, own-empty, insert_same, put_gone, gone_none, len-new, Moves, Stays, Comes, Goes, Follows}
+use Rattle.mea_by_name.specs.ByName.{Names, seen, own}
+use Rattle.mea_family.specs.Play.{Part, PartYields, PartRests, found}
+use Rattle.mea_by_name.proofs.Cases.{found_is}
+use Rattle.mea_by_name.proofs.Halls as halls
+use Rattle.mea_by_name.proofs.Own.{seen-at, seen-back, own-seen, len-seen, seen-empty, seen-insert, seen-remove, total-seen, own-at, own-none, own-put, own-gone, own-empty, insert_same, put_gone, gone_none, len-new, Moves, Stays, Comes, Goes, Follows}
 use Rattle.mea_chan_core.specs.Mailbox.{recv_answer, after_recv, without_sender}
 use Rattle.mea_chan_model.specs.Mailboxes as model
 use Rattle.mea_chan_model.specs.Valid.{AreValid}
@@ -26,7 +26,7 @@ use Rattle.mea_chan_model.specs.MailboxActions.{act_in, cause_in, most_senders, 
 use Rattle.mea_chan.specs.declared.receiver_entry.ReceiverEntry.{ReceiverEntry}
 use Rattle.mea_chan.specs.Cores.{Mailbox, is_over, message_sent, sent_answer, last_sent, receiver_ended, has_message, no_message_comes, new_core}
 use Rattle.mea_chan.specs.Entries.{kept, told, poll_told, Settles, Polls}
-use Rattle.mea_chan.specs.MailboxParts.{channel_seen, receiver_seen, mailboxes_seen, AreKept, IsKept, of_sender, of_receiver}
+use Rattle.mea_chan.specs.MailboxParts.{channel_seen, receiver_seen, mailboxes_seen, AreKept, AreKeptMailboxes, of_sender, of_receiver}
 use Rattle.mea_chan.specs.Lends.{StandsFor}
 use Rattle.mea_chan.proofs.OneChannel as one
 use Rattle.mea_chan.proofs.OneChannel.{settled}
@@ -73,7 +73,7 @@ module _ {old : Part Mailboxes} (cs : Names Mailbox) (ss : Names ℕ) (rs : Name
       ∙ ap (λ (p : Part Mailboxes). cause_in p.hall (Copy s)) view
 
 -- what is kept to is seen
-pub seen_valid : {old : Part Mailboxes} (cs : Names Mailbox) (ss : Names ℕ) (rs : Names ReceiverEntry) (next : ℕ) → ◌≡◌ {A = Part Mailboxes} (record { hall = mailboxes_seen cs ss rs; next = next }) old → IsKept cs ss rs next → AreValid old.hall
+pub seen_valid : {old : Part Mailboxes} (cs : Names Mailbox) (ss : Names ℕ) (rs : Names ReceiverEntry) (next : ℕ) → ◌≡◌ {A = Part Mailboxes} (record { hall = mailboxes_seen cs ss rs; next = next }) old → AreKeptMailboxes cs ss rs next → AreValid old.hall
 seen_valid cs ss rs next view kept = subst (λ (p : Part Mailboxes). AreValid p.hall) view (record {
   senders = λ o c there. let it = seen-back channel_seen cs o c there in sym (ap (λ (c : model.Mailbox). c.senders) it.2) ∙ (kept.each o it.0 it.1).senders;
   receivers = λ o c there. let it = seen-back channel_seen cs o c there in
@@ -98,11 +98,11 @@ pub record Site (old : Part Mailboxes) (i : ℕ) : Type 0 where
   pub rs : Names ReceiverEntry
   pub next : ℕ
   pub view : ◌≡◌ {A = Part Mailboxes} (record { hall = mailboxes_seen cs ss rs; next = next }) old
-  pub kept : IsKept cs ss rs next
+  pub kept : AreKeptMailboxes cs ss rs next
   pub later : next ≤ i
   pub fits : i < 2 ^ 64
 
-abbrev pub site : {old : Part Mailboxes} {i : ℕ} (cs : Names Mailbox) (ss : Names ℕ) (rs : Names ReceiverEntry) (next : ℕ) → ◌≡◌ {A = Part Mailboxes} (record { hall = mailboxes_seen cs ss rs; next = next }) old → IsKept cs ss rs next → old.next ≤ i → i < 2 ^ 64 → Site old i
+abbrev pub site : {old : Part Mailboxes} {i : ℕ} (cs : Names Mailbox) (ss : Names ℕ) (rs : Names ReceiverEntry) (next : ℕ) → ◌≡◌ {A = Part Mailboxes} (record { hall = mailboxes_seen cs ss rs; next = next }) old → AreKeptMailboxes cs ss rs next → old.next ≤ i → i < 2 ^ 64 → Site old i
 site cs ss rs next view kept later fits = record { cs = cs; ss = ss; rs = rs; next = next; view = view; kept = kept; later = rw (← view) at later; fits = fits }
 
 -- the channels of one kind after it
@@ -155,7 +155,7 @@ module _ {old : Part Mailboxes} {i : ℕ} (s : Site old i) where
   no_channel : get s.cs i ≡ None
   no_channel = halls.no_object of_sender of_receiver AreKept (λ m. 0) s.cs s.ss s.rs s.next i s.kept s.later s.fits
 
-  pub rests : IsKept s.cs s.ss s.rs (i + 1)
+  pub rests : AreKeptMailboxes s.cs s.ss s.rs (i + 1)
   rests = halls.rests of_sender of_receiver AreKept (λ m. 0) s.cs s.ss s.rs s.next i s.kept s.later s.fits
 
   -- ---- a channel is made, with a sender and a receiver
@@ -174,7 +174,7 @@ module _ {old : Part Mailboxes} {i : ℕ} (s : Site old i) where
           quiet = refl;
         })
 
-    pub made : (IsKept (insert s.cs i new_core) (insert s.ss i i) (insert s.rs i newcomer) (i + 1))
+    pub made : (AreKeptMailboxes (insert s.cs i new_core) (insert s.ss i i) (insert s.rs i newcomer) (i + 1))
         × PartRests registered old i (act_in old.hall i (Make polls)) answers.Made (part_of (insert s.cs i new_core) (insert s.ss i i) (insert s.rs i newcomer) (i + 1))
     made =
         let nothing : weight (λ o m. kept m) i (get s.cs i) ≡ 0 = ap (weight (λ o m. kept m) i) no_channel in (
@@ -185,11 +185,11 @@ module _ {old : Part Mailboxes} {i : ℕ} (s : Site old i) where
         )
 
     -- where there is no memory, what was put is taken away again
-    pub unmade : (rs' : Names ReceiverEntry) → rs' ≡ s.rs → (ss' : Names ℕ) → ss' ≡ insert s.ss i i → (IsKept s.cs (remove ss' i) rs' s.next) × (part_of s.cs (remove ss' i) rs' s.next ≡ old)
+    pub unmade : (rs' : Names ReceiverEntry) → rs' ≡ s.rs → (ss' : Names ℕ) → ss' ≡ insert s.ss i i → (AreKeptMailboxes s.cs (remove ss' i) rs' s.next) × (part_of s.cs (remove ss' i) rs' s.next ≡ old)
     unmade rs' receivers ss' senders = rw (receivers, senders, put_gone s.ss i i, gone_none s.ss i no_sender) (s.kept, s.view)
 
     pub all_unmade : (cs' : Names Mailbox) → cs' ≡ s.cs → (rs' : Names ReceiverEntry) → rs' ≡ insert s.rs i newcomer → (ss' : Names ℕ) → ss' ≡ insert s.ss i i
-        → (IsKept cs' (remove ss' i) (remove rs' i) s.next) × (part_of cs' (remove ss' i) (remove rs' i) s.next ≡ old)
+        → (AreKeptMailboxes cs' (remove ss' i) (remove rs' i) s.next) × (part_of cs' (remove ss' i) (remove rs' i) s.next ≡ old)
     all_unmade cs' channels rs' receivers ss' senders = rw (channels, receivers, senders, put_gone s.ss i i, gone_none s.ss i no_sender, put_gone s.rs i newcomer, gone_none s.rs i no_receiver) (s.kept, s.view)
 
   -- ---- what is kept of a channel
@@ -211,11 +211,11 @@ module _ {old : Part Mailboxes} {i : ℕ} (s : Site old i) where
         let here : weight (λ o m. kept m) o (get s.cs o) ≡ kept m = ap (weight (λ o m. kept m) o) there in
         omega (arith, here, total-insert (λ o m. kept m) s.cs o m')
 
-    turns : (m' : Mailbox) (ss' : Names ℕ) (rs' : Names ReceiverEntry) → Moves of_sender o i s.ss ss' → Moves of_receiver o i s.rs rs' → AreKept m' (own of_sender o ss') (own of_receiver o rs') → IsKept (insert s.cs o m') ss' rs' (i + 1)
+    turns : (m' : Mailbox) (ss' : Names ℕ) (rs' : Names ReceiverEntry) → Moves of_sender o i s.ss ss' → Moves of_receiver o i s.rs rs' → AreKept m' (own of_sender o ss') (own of_receiver o rs') → AreKeptMailboxes (insert s.cs o m') ss' rs' (i + 1)
     turns m' ss' rs' firsts seconds good = halls.turns of_sender of_receiver AreKept (λ m. 0) s.cs s.ss s.rs s.next i s.kept s.later s.fits o m m' ss' rs' there firsts seconds good (omega arith)
 
     -- a look alone changes nothing
-    pub unchanged : (IsKept (insert s.cs o m) s.ss s.rs s.next) × (part_of (insert s.cs o m) s.ss s.rs s.next ≡ old)
+    pub unchanged : (AreKeptMailboxes (insert s.cs o m) s.ss s.rs s.next) × (part_of (insert s.cs o m) s.ss s.rs s.next ≡ old)
     unchanged = rw (insert_same s.cs o m there) (s.kept, s.view)
 
     pub over_there : (m' : Mailbox) → IsSome (get (insert s.cs o m') o)
@@ -226,7 +226,7 @@ module _ {old : Part Mailboxes} {i : ℕ} (s : Site old i) where
       abbrev tidied : Bool → Names Mailbox
       tidied over = if over then remove (insert s.cs o m') o else insert s.cs o m'
 
-      tidied_kept : (over : Bool) → is_over m' ≡ over → IsKept (tidied over) ss' rs' (i + 1)
+      tidied_kept : (over : Bool) → is_over m' ≡ over → AreKeptMailboxes (tidied over) ss' rs' (i + 1)
       tidied_kept true is =
           let gone = one.over_is m' is in
           let ended = ap (λ b. cond {A = ℕ} b 0 1) (sym gone.0) ∙ good.receivers in
@@ -264,7 +264,7 @@ module _ {old : Part Mailboxes} {i : ℕ} (s : Site old i) where
 
     -- a further one is made
     pub copied : (ss' : Names ℕ) → ss' ≡ insert s.ss i o
-        → (IsKept (insert s.cs o (record m { senders = m.senders + 1 })) ss' s.rs (i + 1)) × PartRests registered old i (act_in old.hall i (Copy k)) answers.Made (part_of (insert s.cs o (record m { senders = m.senders + 1 })) ss' s.rs (i + 1))
+        → (AreKeptMailboxes (insert s.cs o (record m { senders = m.senders + 1 })) ss' s.rs (i + 1)) × PartRests registered old i (act_in old.hall i (Copy k)) answers.Made (part_of (insert s.cs o (record m { senders = m.senders + 1 })) ss' s.rs (i + 1))
     copied ss' is =
         let m' : Mailbox = record m { senders = m.senders + 1 } in
         let counted = kept_now o m there (record m { senders = m.senders + 1 }) in
@@ -280,7 +280,7 @@ module _ {old : Part Mailboxes} {i : ℕ} (s : Site old i) where
 
     module _ (m' : Mailbox) (before after : Waking ℕ) where
       pub sent : (v : ℕ) (is : Bool) (answer : Answer) → answer ≡ (if is then answers.Accepted else answers.Closed v) → is ≡ sent_answer m → Settles m (message_sent m v) m' before after
-          → (IsKept (insert s.cs o m') s.ss s.rs (i + 1)) × PartYields registered old i (act_in old.hall i (Send k v)) answer (part_of (insert s.cs o m') s.ss s.rs (i + 1)) before after
+          → (AreKeptMailboxes (insert s.cs o m') s.ss s.rs (i + 1)) × PartYields registered old i (act_in old.hall i (Send k v)) answer (part_of (insert s.cs o m') s.ss s.rs (i + 1)) before after
       sent v is answer says same settles =
           let counted = kept_now o m there (settled (message_sent m v)) in
           let k' = its_kept o m there in
@@ -296,7 +296,7 @@ module _ {old : Part Mailboxes} {i : ℕ} (s : Site old i) where
       -- one is gone
       module _ (ss' : Names ℕ) (gone : ss' ≡ remove s.ss k) (over : Bool) (is_it : is_over m' ≡ over) where
         pub sender_ended : Settles m (without_sender m) m' before after
-            → (IsKept (if over then remove (insert s.cs o m') o else insert s.cs o m') ss' s.rs (i + 1))
+            → (AreKeptMailboxes (if over then remove (insert s.cs o m') o else insert s.cs o m') ss' s.rs (i + 1))
             × PartYields registered old i (act_in old.hall i (EndSender k)) answers.Done (part_of (if over then remove (insert s.cs o m') o else insert s.cs o m') ss' s.rs (i + 1)) before after
         sender_ended settles =
             let now = ap is_over (sym settles.entry) ∙ is_it in
@@ -311,7 +311,7 @@ module _ {old : Part Mailboxes} {i : ℕ} (s : Site old i) where
             )
 
         pub last_was_sent : (v : ℕ) (is : Bool) (answer : Answer) → answer ≡ (if is then answers.Accepted else answers.Closed v) → is ≡ sent_answer m → m.senders ≡ 1 → Settles m (last_sent m v) m' before after
-            → (IsKept (if over then remove (insert s.cs o m') o else insert s.cs o m') ss' s.rs (i + 1))
+            → (AreKeptMailboxes (if over then remove (insert s.cs o m') o else insert s.cs o m') ss' s.rs (i + 1))
             × PartYields registered old i (act_in old.hall i (SendLast k v)) answer (part_of (if over then remove (insert s.cs o m') o else insert s.cs o m') ss' s.rs (i + 1)) before after
         last_was_sent v is answer says same alone settles =
             let now = ap is_over (sym settles.entry) ∙ is_it in
@@ -348,10 +348,10 @@ module _ {old : Part Mailboxes} {i : ℕ} (s : Site old i) where
 
     -- it takes the first message
     pub received : (polls : Bool) (m' : Mailbox) (answer : Answer) → answer ≡ told (recv_answer m) → m' ≡ after_recv m
-        → (IsKept (insert s.cs x.channel m') s.ss s.rs (i + 1)) × PartRests registered old i (act_in old.hall i (Receive r polls)) answer (part_of (insert s.cs x.channel m') s.ss s.rs (i + 1))
+        → (AreKeptMailboxes (insert s.cs x.channel m') s.ss s.rs (i + 1)) × PartRests registered old i (act_in old.hall i (Receive r polls)) answer (part_of (insert s.cs x.channel m') s.ss s.rs (i + 1))
     received polls m' answer says is = at m.queued refl
       where
-        at : (q : List ℕ) → m.queued ≡ q → (IsKept (insert s.cs x.channel m') s.ss s.rs (i + 1)) × PartRests registered old i (act_in old.hall i (Receive r polls)) answer (part_of (insert s.cs x.channel m') s.ss s.rs (i + 1))
+        at : (q : List ℕ) → m.queued ≡ q → (AreKeptMailboxes (insert s.cs x.channel m') s.ss s.rs (i + 1)) × PartRests registered old i (act_in old.hall i (Receive r polls)) answer (part_of (insert s.cs x.channel m') s.ss s.rs (i + 1))
         at [] none = rw (is ∙ one.after_none m none, insert_same s.cs x.channel m there) (
           rests,
           rests_as (λ h. act_in h i (Receive r polls)) (model.receive_of (mailboxes_seen s.cs s.ss s.rs) x.channel (channel_seen m) []) answer s.cs s.ss s.rs
@@ -367,11 +367,11 @@ module _ {old : Part Mailboxes} {i : ℕ} (s : Site old i) where
 
     -- it is polled
     pub polled : (w : ℕ) (m' : Mailbox) (answer : Answer) (before after : Waking ℕ) → Polls m w answer m' before after
-        → (IsKept (insert s.cs x.channel m') s.ss s.rs (i + 1)) × PartYields registered old i (act_in old.hall i (Poll r w)) answer (part_of (insert s.cs x.channel m') s.ss s.rs (i + 1)) before after
+        → (AreKeptMailboxes (insert s.cs x.channel m') s.ss s.rs (i + 1)) × PartYields registered old i (act_in old.hall i (Poll r w)) answer (part_of (insert s.cs x.channel m') s.ss s.rs (i + 1)) before after
     polled w m' answer before after polls = at m.queued refl
       where
         Done : Type 0
-        Done = (IsKept (insert s.cs x.channel m') s.ss s.rs (i + 1)) × PartYields registered old i (act_in old.hall i (Poll r w)) answer (part_of (insert s.cs x.channel m') s.ss s.rs (i + 1)) before after
+        Done = (AreKeptMailboxes (insert s.cs x.channel m') s.ss s.rs (i + 1)) × PartYields registered old i (act_in old.hall i (Poll r w)) answer (part_of (insert s.cs x.channel m') s.ss s.rs (i + 1)) before after
 
         acted : (q : List ℕ) → m.queued ≡ q → act_in (mailboxes_seen s.cs s.ss s.rs) i (Poll r w) ≡ model.poll_of (mailboxes_seen s.cs s.ss s.rs) w x.channel (channel_seen m) q
         acted q is = found_receiver (λ o c. model.poll_of (mailboxes_seen s.cs s.ss s.rs) w o c c.queued) ∙ ap (model.poll_of (mailboxes_seen s.cs s.ss s.rs) w x.channel (channel_seen m)) is
@@ -417,7 +417,7 @@ module _ {old : Part Mailboxes} {i : ℕ} (s : Site old i) where
 
     -- it ends
     pub receiver_gone : (polls falls : Bool) (m' : Mailbox) (before after : Waking ℕ) (rs' : Names ReceiverEntry) → rs' ≡ remove s.rs r → (over : Bool) → is_over m' ≡ over → Settles m (receiver_ended falls m) m' before after
-        → (IsKept (if over then remove (insert s.cs x.channel m') x.channel else insert s.cs x.channel m') s.ss rs' (i + 1))
+        → (AreKeptMailboxes (if over then remove (insert s.cs x.channel m') x.channel else insert s.cs x.channel m') s.ss rs' (i + 1))
         × PartYields registered old i (act_in old.hall i (EndReceiver r polls falls)) answers.Done (part_of (if over then remove (insert s.cs x.channel m') x.channel else insert s.cs x.channel m') s.ss rs' (i + 1)) before after
     receiver_gone polls falls m' before after rs' gone over is_it settles =
         let now = ap is_over (sym settles.entry) ∙ is_it in
@@ -446,7 +446,7 @@ module _ {old : Part Mailboxes} {i : ℕ} (s : Site old i) where
     still_there = is_there _ x (get-other s.rs i r future (λ same. apart (sym same)) ∙ receiver)
 
     pub turned : (rs' : Names ReceiverEntry) → rs' ≡ insert s.rs i future
-        → (IsKept s.cs s.ss (remove rs' r) (i + 1)) × PartRests registered old i (act_in old.hall i (Turn r)) answers.Made (part_of s.cs s.ss (remove rs' r) (i + 1))
+        → (AreKeptMailboxes s.cs s.ss (remove rs' r) (i + 1)) × PartRests registered old i (act_in old.hall i (Turn r)) answers.Made (part_of s.cs s.ss (remove rs' r) (i + 1))
     turned rs' is =
         let m = value_in (get s.cs x.channel) (receivers_channel r x receiver) in
         let own_it = own_receiver r x m.0 receiver m.1 in
@@ -456,13 +456,13 @@ module _ {old : Part Mailboxes} {i : ℕ} (s : Site old i) where
         rw (own-put of_receiver x.channel (remove s.rs r) i future refl, own-gone of_receiver x.channel s.rs r)
         (one.turned_kept m.0 _ _ (its_kept x.channel m.0 m.1) r x own_it i future (rw (← own-gone of_receiver x.channel s.rs r) (own-none of_receiver x.channel (remove s.rs r) i free))) in
         rw (is, swapped s.rs r i future apart) (
-          subst (λ cs. IsKept cs s.ss (insert (remove s.rs r) i future) (i + 1)) (insert_same s.cs x.channel m.0 m.1) (turns x.channel m.0 m.1 m.0 s.ss (insert (remove s.rs r) i future) Stays moves good),
+          subst (λ cs. AreKeptMailboxes cs s.ss (insert (remove s.rs r) i future) (i + 1)) (insert_same s.cs x.channel m.0 m.1) (turns x.channel m.0 m.1 m.0 s.ss (insert (remove s.rs r) i future) Stays moves good),
           rests_as (λ h. act_in h i (Turn r)) _ answers.Made s.cs s.ss (insert (remove s.rs r) i future) (found_is _ (mailboxes_seen s.cs s.ss s.rs) _ (receiver_seen x) (seen-at receiver_seen s.rs r x receiver)) refl
               refl refl (seen-insert receiver_seen (remove s.rs r) i future ∙ ap (λ q. insert q i (receiver_seen future)) (seen-remove receiver_seen s.rs r)) refl refl,
         )
 
 -- ---- no channel
-pub new_kept : IsKept empty empty empty 0
+pub new_kept : AreKeptMailboxes empty empty empty 0
 new_kept = record {
   each = λ o m there. absurd (nothing_at Mailbox o m there);
   below = λ o m there. absurd (nothing_at Mailbox o m there);

@@ -2,10 +2,10 @@
 use Rattle.std.proofs.Common.{◌≡◌, ℕ, ◌+◌, ◌-◌, ◌<◌, ◌==◌, ◌++◌, Bool, true, false, not, cond, length, List, [], ◌∷◌, Option, Some, None, Ok, Err, option_to_list, if◌then◌else◌, refl, ap, sym, ◌∙◌, arith}
 use Rattle.std.specs.FinMap.{get, insert, remove, len}
 use Rattle.std.proofs.lemmas.Bool.{eqb-true, eqb-false}
-use Rattle.mea_base.specs.declared.answer.Answer.{Answer}
-use Rattle.mea_base.specs.declared.answer.Answer.TheVariants as answers
-use Rattle.mea_named.specs.ByName.{Names}
-use Rattle.mea_named.proofs.Own.{len-new, len-gone, len-some}
+use Rattle.mea_family.specs.declared.answer.Answer.{Answer}
+use Rattle.mea_family.specs.declared.answer.Answer.TheVariants as answers
+use Rattle.mea_by_name.specs.ByName.{Names}
+use Rattle.mea_by_name.proofs.Own.{len-new, len-gone, len-some}
 use Rattle.mea_chan_core.specs.declared.errors.TryRecvError.TheVariants as try
 use Rattle.mea_chan_core.specs.Mailbox.{with_message, recv_answer, recv_answer_of, after_recv, after_recv_of, without_sender}
 use Rattle.mea_chan_model.specs.Mailboxes as model

@@ -1,10 +1,10 @@
 -- what is said of the channels of one kind, and of all
 use Rattle.std.proofs.Common.{◌≡◌, ℕ, ◌+◌, ◌≤◌, ◌++◌, length, ap, sym, ◌∙◌, arith, append-nil}
-use Rattle.mea_base.specs.declared.answer.Answer.{Answer}
-use Rattle.mea_base.specs.Family.{Outcome}
+use Rattle.mea_family.specs.declared.answer.Answer.{Answer}
+use Rattle.mea_family.specs.Family.{Outcome}
 use Rattle.mea_base.specs.Ready.{Waking}
 use Rattle.mea_base.proofs.Totals.{total-empty}
-use Rattle.mea_named.specs.Play.{Part, PartYields, PartRests, Yields}
+use Rattle.mea_family.specs.Play.{Part, PartYields, PartRests, Yields}
 use Rattle.mea_chan_model.proofs.Wakers.{box_quiet}
 use Rattle.mea_chan_model.specs.declared.event.ChanEvent.{ChanEvent}
 use Rattle.mea_chan_model.specs.Mailboxes.{Mailbox, Mailboxes, kept, registered}

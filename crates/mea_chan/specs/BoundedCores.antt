@@ -3,15 +3,15 @@ use Rattle.std.specs.Prelude.{ℕ, ◌≡◌, ◌+◌, ◌++◌, [], length, map
 use Rattle.std.specs.Option.{option_map}
 use Rattle.futures.specs.declared.task.Poll.{Poll}
 use Rattle.mea_base.specs.Ready.{Waking}
-use Rattle.mea_named.specs.declared.named_waker.NamedWaker.{NamedWaker}
+use Rattle.mea_by_name.specs.declared.named_waker.NamedWaker.{NamedWaker}
 use Rattle.mea_sem_core.specs.Acquire.{demand_of}
 use Rattle.mea_sem_core.specs.declared.acquire.Acquire.{Acquire}
 use Rattle.mea_sem_core.specs.declared.acquire.Acquire.TheVariants as acquire
 use Rattle.mea_chan_core.specs.declared.errors.SendError.{SendError}
 use Rattle.mea_chan_core.specs.declared.errors.TrySendError.{TrySendError}
 use Rattle.mea_chan_core.specs.declared.errors.TrySendError.TheVariants.{Full, Disconnected}
-use Rattle.mea_base.specs.declared.answer.Answer.{Answer}
-use Rattle.mea_base.specs.declared.answer.Answer.TheVariants as answers
+use Rattle.mea_family.specs.declared.answer.Answer.{Answer}
+use Rattle.mea_family.specs.declared.answer.Answer.TheVariants as answers
 use Rattle.mea_chan_core.specs.declared.errors.TryRecvError.{TryRecvError}
 use Rattle.mea_chan_core.specs.declared.errors.TryRecvError.TheVariants as try
 use Rattle.mea_chan_core.specs.Channel.{Channel}

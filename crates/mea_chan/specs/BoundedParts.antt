@@ -1,18 +1,18 @@
 -- bounded channels as the hall keeps them: what is seen of them, and what they keep to
 use Rattle.std.specs.Prelude.{ℕ, ◌≡◌, Bool, true, false, Option, Some, None, IsSome}
 use Rattle.std.specs.FinMap.{empty, get, len}
-use Rattle.mea_named.specs.ByName.{Names, seen}
-use Rattle.mea_named.specs.HallKept.{HallKept}
+use Rattle.mea_by_name.specs.ByName.{Names, seen}
+use Rattle.mea_by_name.specs.HallKept.{HallKept}
 use Rattle.mea_sem_core.specs.Acquire.{demand_of}
 use Rattle.mea_sem_core.specs.declared.acquire.Acquire.{Acquire}
 use Rattle.mea_sem_core.specs.declared.acquire.Acquire.TheVariants as acquire
 use Rattle.mea_chan_model.specs.Bounded as model
 use Rattle.mea_chan_model.specs.Bounded.{Bounded, Room, BoundedSend}
-use Rattle.mea_linked.specs.Linked.{names_in, Linked}
+use Rattle.mea_cores_by_name.specs.Linked.{names_in, Linked}
 use Rattle.mea_chan.specs.declared.receiver_entry.ReceiverEntry.{ReceiverEntry}
 use Rattle.mea_chan.specs.declared.sender_entry.SenderEntry.{SenderEntry}
 use Rattle.mea_chan.specs.BoundedCores.{NamedChannel, KeptSend, as_mailbox}
-use Rattle.mea_chan.specs.MailboxParts.{mailboxes_seen, IsKept}
+use Rattle.mea_chan.specs.MailboxParts.{mailboxes_seen, AreKeptMailboxes}
 
 -- ---- what is seen of each thing
 abbrev pub room_seen : NamedChannel → Room
@@ -64,7 +64,7 @@ abbrev pub itself : ℕ → ℕ
 itself n = n
 
 pub record IsKeptBounded (cs : Names NamedChannel) (ss : Names SenderEntry) (rs : Names ReceiverEntry) (xs : Names KeptSend) (next : ℕ) : Type 0 where
-  pub mail : IsKept (seen as_mailbox cs) (seen channel_of_sender ss) rs next
+  pub mail : AreKeptMailboxes (seen as_mailbox cs) (seen channel_of_sender ss) rs next
   pub linked : HallKept of_channel itself AreLinked (λ c. 0) cs xs empty next
   pub counted : HallKept of_sender itself AreCounted (λ y. y.sends) ss xs empty next
   -- a send is of the channel of its sender

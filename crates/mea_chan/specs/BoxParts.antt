@@ -1,6 +1,6 @@
 -- what an event does to the boxes of one kind
 use Rattle.std.specs.Prelude.{ℕ, ◌≡◌}
-use Rattle.mea_base.specs.declared.answer.Answer.{Answer}
+use Rattle.mea_family.specs.declared.answer.Answer.{Answer}
 use Rattle.mea_chan_model.specs.Boxes.{Boxes, BoxAction, box_act}
 
 -- event number i did this, and this was replied

@@ -1,7 +1,7 @@
 -- what the calls of a channel's entry do
 use Rattle.std.specs.Prelude.{ℕ, ◌≡◌, ◌+◌, ◌++◌, [], length, option_to_list, Result, Ok, Err}
-use Rattle.mea_base.specs.declared.answer.Answer.{Answer}
-use Rattle.mea_base.specs.declared.answer.Answer.TheVariants as answers
+use Rattle.mea_family.specs.declared.answer.Answer.{Answer}
+use Rattle.mea_family.specs.declared.answer.Answer.TheVariants as answers
 use Rattle.mea_base.specs.Ready.{Waking}
 use Rattle.mea_chan_core.specs.declared.errors.TryRecvError.{TryRecvError}
 use Rattle.mea_chan_core.specs.declared.errors.TryRecvError.TheVariants as try

@@ -1,8 +1,8 @@
 -- the channels of one kind as the hall keeps them: what is seen of them, and what they keep to
 use Rattle.std.specs.Prelude.{ℕ, ◌≡◌, ◌<◌, cond, [], Some}
 use Rattle.std.specs.FinMap.{len}
-use Rattle.mea_named.specs.ByName.{Names, seen}
-use Rattle.mea_named.specs.HallKept.{HallKept}
+use Rattle.mea_by_name.specs.ByName.{Names, seen}
+use Rattle.mea_by_name.specs.HallKept.{HallKept}
 use Rattle.mea_chan_model.specs.Mailboxes as model
 use Rattle.mea_chan_model.specs.Mailboxes.{Mailboxes, Receiver}
 use Rattle.mea_chan.specs.declared.receiver_entry.ReceiverEntry.{ReceiverEntry}
@@ -34,5 +34,5 @@ of_sender o = o
 abbrev pub of_receiver : ReceiverEntry → ℕ
 of_receiver x = x.channel
 
-abbrev pub IsKept : Names Mailbox → Names ℕ → Names ReceiverEntry → ℕ → Type 0
-IsKept cs ss rs next = HallKept of_sender of_receiver AreKept (λ m. 0) cs ss rs next
+abbrev pub AreKeptMailboxes : Names Mailbox → Names ℕ → Names ReceiverEntry → ℕ → Type 0
+AreKeptMailboxes cs ss rs next = HallKept of_sender of_receiver AreKept (λ m. 0) cs ss rs next

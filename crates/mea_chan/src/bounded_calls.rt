@@ -7,8 +7,8 @@ ghost use Rattle.mea_chan.specs.BoundedCores.{NamedChannel, as_mailbox, HandsOn,
 
 use crate::send_entry::SendEntry;
 use mea_base::{NoMemory, Poll, Ready};
+use mea_by_name::NamedWaker;
 use mea_chan_core::{BoundedCore, RecvError, SendError, TryRecvError, TrySendError};
-use mea_named::NamedWaker;
 
 /// How many wakers a channel keeps.
 pub fn waiting(core: &BoundedCore<u64, NamedWaker>) -> usize

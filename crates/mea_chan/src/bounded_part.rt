@@ -1,6 +1,6 @@
 ghost use Rattle.std.specs.Prelude.{◌≡◌, ◌≤◌, ◌<◌, OnErr, IfOk, IfSome, is_some, None, Some, [], true, false, nat_lt, if◌then◌else◌};
 ghost use Rattle.std.specs.FinMap as map;
-ghost use Rattle.mea_named.specs.Play.{PartYields};
+ghost use Rattle.mea_family.specs.Play.{PartYields};
 ghost use Rattle.mea_chan_model.specs.Mailboxes.{is_channel, is_sender, is_receiver};
 ghost use Rattle.mea_chan_model.specs.Bounded.{no_bounded, is_send, sends_of, registered};
 ghost use Rattle.mea_chan_model.specs.BoundedActions.{bounded_act, bounded_cause, MakeRoom, CopySender, TrySend, BeginSend, PollSend, EndSend, TryReceive, PollReceive, DropSender, DropReceiver};
@@ -16,9 +16,10 @@ use crate::bounded_calls::{
 use crate::receiver_entry::ReceiverEntry;
 use crate::send_entry::SendEntry;
 use crate::sender_entry::SenderEntry;
-use mea_base::{Answer, NoMemory, Poll, Ready, Stop};
+use mea_base::{NoMemory, Poll, Ready};
+use mea_by_name::{ByName, NamedWaker};
 use mea_chan_core::{BoundedCore, SendError, TryRecvError, TrySendError};
-use mea_named::{ByName, NamedWaker};
+use mea_family::{Answer, Stop, borrowed_if, overflow_if};
 use std::alloc::Global;
 use std::marker::Model;
 
@@ -34,7 +35,7 @@ pub struct BoundedPart {
 }
 
 impl Model for BoundedPart {
-    ghost use Rattle.mea_named.specs.Play.{Part, part_code};
+    ghost use Rattle.mea_family.specs.Play.{Part, part_code};
     ghost use Rattle.mea_chan_model.specs.Bounded.{Bounded, bounded_code};
 
     ghost Value = { Part Bounded };
@@ -151,7 +152,6 @@ impl BoundedPart {
         ensures ok { IfOk result (λ answer. PartYields registered self.old number (bounded_act self.old.hall number (MakeRoom capacity)) answer self.new ready.old ready.new) }
         ensures err { OnErr result ((self.new ≡ self.old) × (ready.new ≡ ready.old)) }
     {
-        let _capacity = capacity;
         let _registered = ready.registered();
         let sender = SenderEntry {
             channel: number,
@@ -346,18 +346,6 @@ impl BoundedPart {
         self.next = number as u128 + 1;
         Answer::Done
     }
-}
-
-fn overflow_if(crowded: bool) -> Option<Stop>
-    ensures { result ≡ (if crowded then Some Stop.Overflow else None) }
-{
-    if crowded { Some(Stop::Overflow) } else { None }
-}
-
-fn borrowed_if(borrowed: bool) -> Option<Stop>
-    ensures { result ≡ (if borrowed then Some Stop.Borrowed else None) }
-{
-    if borrowed { Some(Stop::Borrowed) } else { None }
 }
 
 // What a script is told of a message that was tried.

@@ -1,12 +1,13 @@
 ghost use Rattle.std.specs.Prelude.{◌≡◌, true, None, IsSome, IfOk, IfSome, OnErr, is_some, Some};
 ghost use Rattle.std.specs.FinMap as map;
-ghost use Rattle.mea_named.specs.Play.{content as content_told};
+ghost use Rattle.mea_family.specs.Play.{content as content_told};
 ghost use Rattle.mea_chan_model.specs.Boxes.{is_box, MakeBox, Swap, Store, Tell, TakeOut, DropBox};
 ghost use Rattle.mea_chan.specs.BoxParts.{BoxYields};
 
 use crate::box_core::BoxedCore;
-use mea_base::{Answer, NoMemory};
-use mea_named::ByName;
+use mea_base::NoMemory;
+use mea_by_name::ByName;
+use mea_family::Answer;
 use std::alloc::Global;
 use std::marker::Model;
 
@@ -142,7 +143,6 @@ impl<C: BoxedCore> BoxPart<C> {
         let Ok(before) = self.boxes.at_mut(b).swap(alloc, content) else {
             return Err(NoMemory);
         };
-        let _ = number;
         Ok(told(before))
     }
 
@@ -163,7 +163,6 @@ impl<C: BoxedCore> BoxPart<C> {
         let Ok(_) = self.boxes.at_mut(b).swap(alloc, content) else {
             return Err(NoMemory);
         };
-        let _ = number;
         Ok(Answer::Done)
     }
 
@@ -173,7 +172,6 @@ impl<C: BoxedCore> BoxPart<C> {
         ensures { BoxYields self.old number (Tell b) result self.new }
     {
         let content = self.boxes.at(b).content();
-        let _ = number;
         told(content)
     }
 
@@ -183,7 +181,6 @@ impl<C: BoxedCore> BoxPart<C> {
         ensures { BoxYields self.old number (TakeOut b) result self.new }
     {
         let content = self.boxes.remove(b).into_content();
-        let _ = number;
         told(content)
     }
 
@@ -193,7 +190,6 @@ impl<C: BoxedCore> BoxPart<C> {
         ensures { BoxYields self.old number (DropBox b) result self.new }
     {
         let _ = self.boxes.remove(b);
-        let _ = number;
         Answer::Done
     }
 }

@@ -4,8 +4,9 @@ ghost use Rattle.mea_chan.specs.Cores.{is_over, message_sent, sent_answer, last_
 ghost use Rattle.mea_chan.specs.Entries.{kept, told, Settles, Polls, poll_told};
 
 use crate::mailbox_core::{MailboxCore, SharedCore, SingleCore};
-use mea_base::{Answer, NoMemory, Ready};
+use mea_base::{NoMemory, Ready};
 use mea_chan_core::TryRecvError;
+use mea_family::Answer;
 use std::marker::Model;
 
 /// What a hall keeps of a channel: its core.

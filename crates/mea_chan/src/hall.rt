@@ -1,9 +1,9 @@
 ghost use Rattle.std.specs.Prelude.{◌≡◌, ◌≢◌, ◌≤◌, ◌∷◌, [], ◌⊎◌, length, is_some, OnOk, OnErr, IfOk, IfErr, IfSome, IfNone, None, Some};
 ghost use Rattle.std.specs.FinMap as map;
-ghost use Rattle.mea_named.specs.Play.{Play, Yields};
+ghost use Rattle.mea_family.specs.Play.{Play, Yields};
 ghost use Rattle.mea_chan_model.specs.Mailboxes.{is_channel};
 ghost use Rattle.mea_chan_model.specs.Broadcasts.{is_broadcast};
-ghost use Rattle.mea_broadcast.specs.BroadcastLends.{StandsForBroadcast};
+ghost use Rattle.mea_chan_broadcast.specs.BroadcastLends.{StandsForBroadcast};
 ghost use Rattle.mea_chan_model.specs.Boxes.{is_box};
 ghost use Rattle.mea_chan_model.specs.ChanHall.{empty_hall, registered};
 ghost use Rattle.mea_chan_model.specs.Meaning.{step, cause_of};
@@ -15,11 +15,12 @@ ghost use Rattle.mea_chan.specs.Halls.{TakesNoMemory};
 ghost use Rattle.std.specs.Option.{option_map};
 
 use crate::kinds::Kinds;
-use mea_base::{Answer, Ready, Stop};
+use mea_base::Ready;
 use mea_broadcast_core::BroadcastCore;
+use mea_by_name::NamedWaker;
 use mea_chan_core::{BoundedCore, BoxCore, OneshotCore, OptionBoxCore, UnboundedCore};
 use mea_chan_model::{ChanEvent, wakes_are_of_the_registered};
-use mea_named::NamedWaker;
+use mea_family::{Answer, Stop};
 use std::alloc::Global;
 use std::marker::Model;
 
@@ -35,7 +36,7 @@ pub struct ChanHall {
 }
 
 impl Model for ChanHall {
-    ghost use Rattle.mea_named.specs.Play.{Play, play_code};
+    ghost use Rattle.mea_family.specs.Play.{Play, play_code};
     ghost use Rattle.mea_chan_model.specs.ChanHall as model;
 
     ghost Value = { Play model.ChanHall };

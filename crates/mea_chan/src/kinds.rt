@@ -1,5 +1,4 @@
 ghost use Rattle.std.specs.Prelude.{◌≡◌, ◌≤◌, OnErr, IfOk, None, Some, if◌then◌else◌};
-ghost use Rattle.mea_base.specs.Causes.{unknown_unless};
 ghost use Rattle.mea_chan_model.specs.Mailboxes.{registered};
 ghost use Rattle.mea_chan_model.specs.Bounded as bounded;
 ghost use Rattle.mea_chan_model.specs.Broadcasts as broadcasts;
@@ -11,10 +10,11 @@ ghost use Rattle.mea_chan.specs.Halls.{hall_of, PlaysKinds, TakesNoMemory};
 use crate::bounded_part::BoundedPart;
 use crate::box_part::BoxPart;
 use crate::mailbox_part::MailboxPart;
-use mea_base::{Answer, NoMemory, Ready, Stop};
-use mea_broadcast::BroadcastPart;
+use mea_base::{NoMemory, Ready};
+use mea_chan_broadcast::BroadcastPart;
 use mea_chan_core::{BoxCore, OneshotCore, OptionBoxCore, UnboundedCore};
 use mea_chan_model::ChanEvent;
+use mea_family::{Answer, Stop, unknown_unless, zero_if};
 use std::alloc::Global;
 
 /// The channels and boxes of each kind. An event on one kind leaves the others as they are.
@@ -198,20 +198,6 @@ impl Kinds {
             ChanEvent::AoDrop(b) => Ok(self.option_boxes.end(number, b)),
         }
     }
-}
-
-// Unknown, unless this holds.
-fn unknown_unless(known: bool) -> Option<Stop>
-    ensures { result ≡ unknown_unless known }
-{
-    if known { None } else { Some(Stop::Unknown) }
-}
-
-// Zero, where it is.
-fn zero_if(zero: bool) -> Option<Stop>
-    ensures { result ≡ (if zero then Some Stop.Zero else None) }
-{
-    if zero { Some(Stop::Zero) } else { None }
 }
 
 // Why a ring of this size is refused.

@@ -1,6 +1,6 @@
 ghost use Rattle.std.specs.Prelude.{◌≡◌, ◌≤◌, ◌==◌, OnErr, IfOk, IfSome, is_some, None, Some, true, false, not, if◌then◌else◌};
 ghost use Rattle.std.specs.FinMap as map;
-ghost use Rattle.mea_named.specs.Play.{PartYields, PartRests};
+ghost use Rattle.mea_family.specs.Play.{PartYields, PartRests};
 ghost use Rattle.mea_chan_model.specs.Mailboxes.{no_mailboxes, is_channel, is_sender, is_there, is_receiver, senders_beside, registered};
 ghost use Rattle.mea_chan_model.specs.MailboxActions.{act_in, cause_in, Make, Copy, Send, SendLast, EndSender, Receive, Poll, EndReceiver, Turn, TellClosed, TellOver, TellMessage};
 ghost use Rattle.mea_chan_model.specs.Valid.{AreValid};
@@ -10,8 +10,9 @@ ghost use Rattle.mea_chan.specs.Lends.{StandsFor};
 use crate::channel_entry::ChannelEntry;
 use crate::mailbox_core::{MailboxCore, SharedCore, SingleCore};
 use crate::receiver_entry::ReceiverEntry;
-use mea_base::{Answer, NoMemory, Ready, Stop};
-use mea_named::ByName;
+use mea_base::{NoMemory, Ready};
+use mea_by_name::ByName;
+use mea_family::{Answer, Stop, overflow_if, yes_if};
 use std::alloc::Global;
 use std::marker::Model;
 
@@ -27,18 +28,18 @@ pub struct MailboxPart<C: MailboxCore> {
 }
 
 impl<C: MailboxCore> Model for MailboxPart<C> {
-    ghost use Rattle.mea_named.specs.Play.{Part, part_code};
+    ghost use Rattle.mea_family.specs.Play.{Part, part_code};
     ghost use Rattle.mea_chan_model.specs.Mailboxes.{Mailboxes, mailboxes_code};
 
     ghost Value = { Part Mailboxes };
 
     ghost coded = { part_code mailboxes_code };
 
-    ghost use Rattle.mea_chan.specs.MailboxParts.{mailboxes_seen, IsKept};
+    ghost use Rattle.mea_chan.specs.MailboxParts.{mailboxes_seen, AreKeptMailboxes};
 
     ghost view = { λ a. record { hall = mailboxes_seen a.channels a.senders a.receivers; next = a.next } };
 
-    ghost invariant = { λ a. IsKept a.channels a.senders a.receivers a.next };
+    ghost invariant = { λ a. AreKeptMailboxes a.channels a.senders a.receivers a.next };
 }
 
 impl<C: MailboxCore> MailboxPart<C> {
@@ -315,12 +316,6 @@ fn is_as(polls: bool, wanted: bool) -> bool
     polls == wanted
 }
 
-fn overflow_if(crowded: bool) -> Option<Stop>
-    ensures { result ≡ (if crowded then Some Stop.Overflow else None) }
-{
-    if crowded { Some(Stop::Overflow) } else { None }
-}
-
 fn answer_of_send(sent: bool, message: u64) -> Answer
     ensures { result ≡ (if sent then Answer.Accepted else Answer.Closed message) }
 {
@@ -329,10 +324,4 @@ fn answer_of_send(sent: bool, message: u64) -> Answer
     } else {
         Answer::Closed(message)
     }
-}
-
-fn yes_if(is: bool) -> Answer
-    ensures { result ≡ (if is then Answer.Yes else Answer.No) }
-{
-    if is { Answer::Yes } else { Answer::No }
 }

@@ -4,12 +4,12 @@ use Rattle.std.specs.List.{Contains}
 use Rattle.std.specs.FinMap.{get, insert, remove}
 use Rattle.std.proofs.lemmas.Bool.{eqb-true, eqb-false, eq-eqb}
 use Rattle.std.proofs.lemmas.List.Elements.{Contains-push}
-use Rattle.mea_base.specs.declared.answer.Answer.TheVariants as answers
-use Rattle.mea_base.specs.Family.{Outcome, quietly}
+use Rattle.mea_family.specs.declared.answer.Answer.TheVariants as answers
+use Rattle.mea_family.specs.Family.{Outcome, quietly}
 use Rattle.mea_base.proofs.Maps.{get-gone, get-other}
-use Rattle.mea_named.specs.ByName.{Names}
-use Rattle.mea_named.specs.Play.{found}
-use Rattle.mea_named.proofs.Cases.{by_found, by_if}
+use Rattle.mea_by_name.specs.ByName.{Names}
+use Rattle.mea_family.specs.Play.{found}
+use Rattle.mea_by_name.proofs.Cases.{by_found, by_if}
 use Rattle.mea_chan_model.specs.Mailboxes as mailboxes
 use Rattle.mea_chan_model.specs.Mailboxes.{Mailbox, Mailboxes, Receiver, new_mailbox, kept, waker_in, woken, is_over, tidied_channels, with_message, woken_by_send, without_senders, less_sender, woken_by_end, without_receiver}
 use Rattle.mea_chan_model.specs.MailboxActions.{Action, Make, Copy, Send, SendLast, EndSender, Receive, Poll, EndReceiver, Turn, TellClosed, TellOver, TellMessage, act_in, registers_in, polled_in, ends_in}

@@ -4,14 +4,14 @@ use Rattle.std.specs.Option.{IsSome}
 use Rattle.std.specs.Ordering.{nat_cmp}
 use Rattle.std.specs.FinMap.{get, insert, remove, len, len-empty}
 use Rattle.std.proofs.lemmas.Bool.{eqb-true}
-use Rattle.mea_base.specs.declared.stop.Stop.TheVariants as stops
+use Rattle.mea_family.specs.declared.stop.Stop.TheVariants as stops
 use Rattle.mea_base.proofs.Maps.{by_put, by_gone, get-there, is_there, inside, removed_there}
 use Rattle.mea_base.proofs.Tests.{by_name}
-use Rattle.mea_named.specs.ByName.{Names, own, AreHome}
-use Rattle.mea_named.specs.NamedQueue.{waker_for, registering}
-use Rattle.mea_named.proofs.Cases.{by_if}
-use Rattle.mea_named.proofs.Own.{Moves, Stays, Comes, Goes as Leaves, moves_elsewhere, moves_home, own-at, own-put, own-gone, own-none, own-empty, own-nothing, len-new, len-gone, len-some}
-use Rattle.mea_named.proofs.NamedQueues.{registering-other}
+use Rattle.mea_by_name.specs.ByName.{Names, own, AreHome}
+use Rattle.mea_by_name.specs.NamedQueue.{waker_for, registering}
+use Rattle.mea_by_name.proofs.Cases.{by_if}
+use Rattle.mea_by_name.proofs.Own.{Moves, Stays, Comes, Goes as Leaves, moves_elsewhere, moves_home, own-at, own-put, own-gone, own-none, own-empty, own-nothing, len-new, len-gone, len-some}
+use Rattle.mea_by_name.proofs.NamedQueues.{registering-other}
 use Rattle.mea_chan_model.specs.Broadcasts as broadcasts
 use Rattle.mea_chan_model.specs.Broadcasts.{Broadcast, Broadcasts, Listener, Hearing, of_hearing, is_over, tidied, with_message, less_sender}
 use Rattle.mea_chan_model.specs.BroadcastActions.{unusable}

@@ -4,25 +4,25 @@ use Rattle.std.specs.Option.{IsSome}
 use Rattle.std.specs.Ordering.{nat_cmp}
 use Rattle.std.specs.FinMap.{get, insert, remove, empty, get-empty, len-empty}
 use Rattle.std.proofs.lemmas.Bool.{eqb-true, eqb-false, eq-eqb, ne_eqb}
-use Rattle.mea_base.specs.declared.answer.Answer.TheVariants as answers
-use Rattle.mea_base.specs.Family.{Outcome, quietly}
+use Rattle.mea_family.specs.declared.answer.Answer.TheVariants as answers
+use Rattle.mea_family.specs.Family.{Outcome, quietly}
 use Rattle.mea_base.proofs.Maps.{get-gone, value_in, inside}
-use Rattle.mea_base.proofs.Tests.{known}
-use Rattle.mea_named.specs.ByName.{Names, own}
-use Rattle.mea_named.specs.NamedQueue.{waker_for, registering, wakers}
-use Rattle.mea_named.specs.Play.{found}
-use Rattle.mea_named.proofs.Cases.{by_found, by_if, found_is, if_false}
-use Rattle.mea_named.proofs.NamedQueues.{Local, local_same, local_drained, local_registering, registering-there}
-use Rattle.mea_named.proofs.OneObject.{Goes, ObjectsGo, Same, Put, Made, Gone, Kept, Begun, Ended, None_is, Polled, Ends}
-use Rattle.mea_named.proofs.Own.{Stays, Comes, own-at, own-put, own-gone, own-empty, own-had, len-new}
+use Rattle.mea_family.proofs.Causes.{known}
+use Rattle.mea_by_name.specs.ByName.{Names, own}
+use Rattle.mea_by_name.specs.NamedQueue.{waker_for, registering, wakers}
+use Rattle.mea_family.specs.Play.{found}
+use Rattle.mea_by_name.proofs.Cases.{by_found, by_if, found_is, if_false}
+use Rattle.mea_by_name.proofs.NamedQueues.{Local, local_same, local_drained, local_registering, registering-there}
+use Rattle.mea_by_name.proofs.OneObject.{Goes, ObjectsGo, Same, Put, Made, Gone, Kept, Begun, Ended, None_is, Polled, Ends}
+use Rattle.mea_by_name.proofs.Own.{Stays, Comes, own-at, own-put, own-gone, own-empty, own-had, len-new}
 use Rattle.mea_chan_model.specs.Broadcasts as broadcasts
 use Rattle.mea_chan_model.specs.Broadcasts.{Broadcast, Broadcasts, Listener, Hearing, Stands, Behind, Holds, AtTail, waiting_at, of_hearing, is_over, tidied, stands, oldest, ring_size, new_broadcast, with_message, less_sender, woken_by_end, is_hearing}
 use Rattle.mea_chan_model.specs.BroadcastActions.{BroadcastAction, Open, AddSender, SendAll, EndSender, Subscribe, Resubscribe, CopyReceiver, Hear, EndReceiver, BeginHear, PollHear, EndHear, unusable, broadcast_cause, broadcast_act, broadcast_polled, broadcast_ends, broadcast_registers}
 use Rattle.mea_chan_model.specs.BroadcastValid.{AreKept, AreHeard, Hears, of_listener, of_itself}
 use Rattle.mea_chan_model.proofs.OneBroadcast.{by_stands, sender_less, receiver_less, new_heard}
 use Rattle.std.specs.List.{Contains}
-use Rattle.mea_named.proofs.OneObject.{Counted, goes_counted, IsBelow, AreBelow, goes_stays, goes_kept, goes_made, placed_is, placed_put}
-use Rattle.mea_named.proofs.Own.{insert_same}
+use Rattle.mea_by_name.proofs.OneObject.{Counted, goes_counted, IsBelow, AreBelow, goes_stays, goes_kept, goes_made, placed_is, placed_put}
+use Rattle.mea_by_name.proofs.Own.{insert_same}
 use Rattle.std.proofs.lemmas.Option.{cond_some}
 use Rattle.mea_base.proofs.Maps.{nothing_at}
 use Rattle.mea_chan_model.proofs.OneBroadcast.{stands_tail}

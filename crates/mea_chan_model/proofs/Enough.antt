@@ -4,8 +4,8 @@ use Rattle.std.specs.List.{Contains}
 use Rattle.std.specs.FinMap.{get}
 use Rattle.std.proofs.lemmas.List.Elements.{Contains-append_left, Contains-append_right}
 use Rattle.mea_base.proofs.Tests.{by_name}
-use Rattle.mea_named.specs.NamedQueue.{waits, waker_for}
-use Rattle.mea_named.specs.LackingQueue.{Lacking, who}
+use Rattle.mea_by_name.specs.NamedQueue.{waits, waker_for}
+use Rattle.mea_by_name.specs.LackingQueue.{Lacking, who}
 use Rattle.mea_chan_model.specs.Bounded.{Bounded, BoundedSend}
 use Rattle.mea_chan_model.specs.InOrder.{queued_in}
 use Rattle.mea_chan_model.specs.Sends.{queue_at, capacity_at, granted_at}

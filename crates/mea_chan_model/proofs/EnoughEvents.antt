@@ -6,23 +6,24 @@ use Rattle.std.specs.FinMap.{get, insert, remove, get-empty}
 use Rattle.std.proofs.lemmas.Bool.{eqb-true, eq-eqb, ne_eqb}
 use Rattle.std.proofs.lemmas.Bool.Decides.{nat_tests}
 use Rattle.std.proofs.lemmas.List.Elements.{Contains-append_right}
-use Rattle.mea_base.specs.declared.answer.Answer.{Answer}
-use Rattle.mea_base.specs.declared.answer.Answer.TheVariants as answers
-use Rattle.mea_base.specs.declared.stop.Stop.TheVariants as stops
-use Rattle.mea_base.specs.Family.{Outcome, quietly, Told, Runs, Starts, Goes, RunOf, last_waker, last_waker_at, wakes_since, wakes_at}
+use Rattle.mea_family.specs.declared.answer.Answer.{Answer}
+use Rattle.mea_family.specs.declared.answer.Answer.TheVariants as answers
+use Rattle.mea_family.specs.declared.stop.Stop.TheVariants as stops
+use Rattle.mea_family.specs.Family.{Outcome, quietly, ToldEvent, IsRun, Starts, Goes, RunOf, last_waker, last_waker_at, wakes_since, wakes_at}
 use Rattle.mea_base.specs.Queue.{lacks, waiting_after}
 use Rattle.mea_base.specs.Totals.{weight}
 use Rattle.mea_base.proofs.Maps.{by_put, get-there, get-other, get-gone, get-removed_other, removed_there, inside, nothing_at}
-use Rattle.mea_base.proofs.Tests.{by_name, known}
+use Rattle.mea_base.proofs.Tests.{by_name}
+use Rattle.mea_family.proofs.Causes.{known}
 use Rattle.mea_base.proofs.Totals.{total-same}
-use Rattle.mea_named.specs.ByName.{Names}
-use Rattle.mea_named.specs.NamedQueue.{waits, waker_for}
-use Rattle.mea_named.specs.LackingQueue.{Lacking, who, rewoken, leaving, woken_by}
-use Rattle.mea_named.specs.Play.{found}
-use Rattle.mea_named.proofs.Cases.{by_found, by_if, if_true, if_false}
-use Rattle.mea_named.proofs.NamedQueues.{without-other, with_waker-there, appended-there}
-use Rattle.mea_named.proofs.LackingQueues.{local_poured, local_pushed, local_rewoken, who-leaving, who-rewoken, who-append}
-use Rattle.mea_named.proofs.Own.{own-nothing}
+use Rattle.mea_by_name.specs.ByName.{Names}
+use Rattle.mea_by_name.specs.NamedQueue.{waits, waker_for}
+use Rattle.mea_by_name.specs.LackingQueue.{Lacking, who, rewoken, leaving, woken_by}
+use Rattle.mea_family.specs.Play.{found}
+use Rattle.mea_by_name.proofs.Cases.{by_found, by_if, if_true, if_false}
+use Rattle.mea_by_name.proofs.NamedQueues.{without-other, with_waker-there, appended-there}
+use Rattle.mea_by_name.proofs.LackingQueues.{local_poured, local_pushed, local_rewoken, who-leaving, who-rewoken, who-append}
+use Rattle.mea_by_name.proofs.Own.{own-nothing}
 use Rattle.mea_chan_model.specs.declared.event.ChanEvent.{ChanEvent}
 use Rattle.mea_chan_model.specs.Mailboxes.{Mailbox, Mailboxes, Receiver, new_mailbox, is_channel, is_sender}
 use Rattle.mea_chan_model.specs.MailboxActions as actions
@@ -150,7 +151,7 @@ left_others q f g apart = by_if (λ p. waker_for (who p) g ≡ waker_for (who q)
 left_none : (q : Lacking) (f : ℕ) → q ≡ [] → left_queue q f ≡ []
 left_none q f none = ap (λ p. left_queue p f) none
 
-abbrev tell : ChanHall → ℕ → ChanEvent → Outcome Bounded → Told ChanHall ChanEvent
+abbrev tell : ChanHall → ℕ → ChanEvent → Outcome Bounded → ToldEvent ChanHall ChanEvent
 tell all i e out = record { number = i; before = all; event = e; reply = out.reply; wakes = out.wakes }
 
 module _ (all : ChanHall) (e : ChanEvent) (h : Bounded) (last : ℕ → Option ℕ) (since : ℕ → List ℕ) (n i : ℕ) (held : Held h last since n) (later : n ≤ i) (fresh : get h.mail.channels i ≡ None) where
@@ -665,7 +666,7 @@ module _ (all : ChanHall) (e : ChanEvent) (h : Bounded) (last : ℕ → Option �
 
 -- ---- the channels of all kinds
 module _ (h : ChanHall) (e : ChanEvent) (last : ℕ → Option ℕ) (since : ℕ → List ℕ) (n i : ℕ) (held : Held h.bounded last since n) (later : n ≤ i) (fresh : get h.bounded.mail.channels i ≡ None) where
-  abbrev heard : Meaning → Told ChanHall ChanEvent
+  abbrev heard : Meaning → ToldEvent ChanHall ChanEvent
   heard m = record { number = i; before = h; event = e; reply = (step_by h i m).reply; wakes = (step_by h i m).wakes }
 
   steps : (m : Meaning) → cause_by h m ≡ None → Held (step_by h i m).hall.bounded (λ f. last_waker_at sends_family (heard m) (send_polled_by m f) (last f)) (λ f. wakes_at sends_family (heard m) (send_polled_by m f) (since f)) (i + 1)
@@ -690,7 +691,7 @@ starts = record {
     none : (o : ℕ) → queue_at bounded.no_bounded o ≡ []
     none o = ap queue_in (get-empty nat_cmp o)
 
-all_held : (r : RunOf chans_family) → Runs chans_family r → Held r.hall.bounded (λ f. last_waker sends_family r.trace f) (λ f. wakes_since sends_family r.trace f) r.next
+all_held : (r : RunOf chans_family) → IsRun chans_family r → Held r.hall.bounded (λ f. last_waker sends_family r.trace f) (λ f. wakes_since sends_family r.trace f) r.next
 all_held _ Starts = starts
 all_held _ (Goes r i e runs later cause) = steps r.hall e _ _ r.next i (all_held r runs) later (no_channel (get r.hall.bounded.mail.channels i) refl) (meaning_of e) cause
   where
@@ -698,7 +699,7 @@ all_held _ (Goes r i e runs later cause) = steps r.hall e _ _ r.next i (all_held
     no_channel None is = is
     no_channel (Some c) is = absurd (let small = (lows r runs ReceiverOfBounded).lows i c is in omega (arith, small, later))
 
-pub woken : (r : RunOf chans_family) → Runs chans_family r → (f : ℕ) (x : BoundedSend) → get r.hall.bounded.sends f ≡ Some x → is_granted_at (queue_at r.hall.bounded x.channel) x.channel f x ≡ true
+pub woken : (r : RunOf chans_family) → IsRun chans_family r → (f : ℕ) (x : BoundedSend) → get r.hall.bounded.sends f ≡ Some x → is_granted_at (queue_at r.hall.bounded x.channel) x.channel f x ≡ true
     → (w : ℕ) × (last_waker sends_family r.trace f ≡ Some w) × Contains (wakes_since sends_family r.trace f) w
 woken r runs f x is granted =
     let both = at (x.channel == x.channel) x.polled (waits (who (queue_at r.hall.bounded x.channel)) f) granted in
@@ -720,7 +721,7 @@ nobody_waits h o none = total-same (λ f x. cond (is_pending_at o x) 1 0) (count
     at true false is = refl
     at false false is = refl
 
-pub enough : (r : RunOf chans_family) → Runs chans_family r → (o : ℕ) (c : Mailbox) → get r.hall.bounded.mail.channels o ≡ Some c → c.ended ≡ false
+pub enough : (r : RunOf chans_family) → IsRun chans_family r → (o : ℕ) (c : Mailbox) → get r.hall.bounded.mail.channels o ≡ Some c → c.ended ≡ false
     → min (capacity_at r.hall.bounded o - length c.queued) (pending_at r.hall.bounded o) ≤ granted_at r.hall.bounded o
 enough r runs o c is lives = at (queue_at r.hall.bounded o) refl
   where
@@ -731,5 +732,5 @@ enough r runs o c is lives = at (queue_at r.hall.bounded o) refl
         let size = ap (λ p. length (queued_in p)) is in
         omega (arith, places, size)
 
-pub all_are_woken : (r : RunOf chans_family) → Runs chans_family r → (o : ℕ) (c : Mailbox) → get r.hall.bounded.mail.channels o ≡ Some c → c.ended ≡ true → pending_at r.hall.bounded o ≡ granted_at r.hall.bounded o
+pub all_are_woken : (r : RunOf chans_family) → IsRun chans_family r → (o : ℕ) (c : Mailbox) → get r.hall.bounded.mail.channels o ≡ Some c → c.ended ≡ true → pending_at r.hall.bounded o ≡ granted_at r.hall.bounded o
 all_are_woken r runs o c is ends = nobody_waits r.hall.bounded o ((all_held r runs).shut o (ap ended_in is ∙ ends))

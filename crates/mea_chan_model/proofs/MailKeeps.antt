@@ -1,12 +1,12 @@
 -- what the actions on mailboxes leave of what is queued at each channel, and of the senders
 use Rattle.std.proofs.Common.{◌≡◌, ℕ, ◌+◌, ◌-◌, ◌≤◌, ◌==◌, ◌++◌, Bool, true, false, length, List, [], ◌∷◌, Option, Some, None, if◌then◌else◌, refl, ap, sym, ◌∙◌, arith, length-append}
 use Rattle.std.specs.FinMap.{get}
-use Rattle.mea_base.specs.declared.answer.Answer.TheVariants as answers
-use Rattle.mea_base.specs.Family.{Outcome, quietly}
+use Rattle.mea_family.specs.declared.answer.Answer.TheVariants as answers
+use Rattle.mea_family.specs.Family.{Outcome, quietly}
 use Rattle.mea_base.proofs.Maps.{get-there, get-other, get-removed_other, removed_there}
 use Rattle.mea_base.proofs.Tests.{by_name}
-use Rattle.mea_named.specs.Play.{found}
-use Rattle.mea_named.proofs.Cases.{by_found, by_if}
+use Rattle.mea_family.specs.Play.{found}
+use Rattle.mea_by_name.proofs.Cases.{by_found, by_if}
 use Rattle.mea_chan_model.specs.Mailboxes as mailboxes
 use Rattle.mea_chan_model.specs.Mailboxes.{Mailbox, Mailboxes, Receiver, is_over, with_message, without_senders, less_sender, without_receiver}
 use Rattle.mea_chan_model.specs.MailboxActions.{Copy, Send, EndSender, Receive, Poll, EndReceiver, act_in}
@@ -113,14 +113,6 @@ module _ (m : Mailboxes) (i : ℕ) where
   pub end_receiver_others : (r : ℕ) (x : Receiver) (polls falls : Bool) → get m.receivers r ≡ Some x → (q : ℕ) → (x.channel ≡ q → ⊥) → Lessens 0 (get m.channels q) (get (act_in m i (EndReceiver r polls falls)).hall.channels q)
   end_receiver_others r x polls falls is q apart = rw is (by_found (λ (out : Outcome Mailboxes). Lessens 0 (get m.channels q) (get out.hall.channels q)) (get m.channels x.channel) (mailboxes.leaving m r) _ (lessens_same (get m.channels q))
       (λ c there. rw (left_is m.channels x.channel (without_receiver falls c), after-other m.channels x.channel q (left (without_receiver falls c)) apart) (lessens_same (get m.channels q))))
-
-  pub end_receiver_ended : (r : ℕ) (x : Receiver) (polls falls : Bool) → get m.receivers r ≡ Some x → ended_in (get (act_in m i (EndReceiver r polls falls)).hall.channels x.channel) ≡ true
-  end_receiver_ended r x polls falls is = rw is (at (get m.channels x.channel) refl)
-    where
-      at : (p : Option Mailbox) → get m.channels x.channel ≡ p → ended_in (get (found p (mailboxes.leaving m r) (mailboxes.end_receiver (mailboxes.leaving m r) falls x.channel)).hall.channels x.channel) ≡ true
-      at None none = ap ended_in none
-      at (Some c) there = rw (left_is m.channels x.channel (without_receiver falls c), after-there m.channels x.channel (left (without_receiver falls c)))
-          (by_if (λ p. ended_in p ≡ true) (is_over (without_receiver falls c)) None (Some (without_receiver falls c)) (λ over. refl) (λ stays. refl))
 
   pub end_receiver_senders : (r : ℕ) (polls falls : Bool) → (act_in m i (EndReceiver r polls falls)).hall.senders ≡ m.senders
   end_receiver_senders r polls falls = by_found (λ (out : Outcome Mailboxes). out.hall.senders ≡ m.senders) (get m.receivers r) m _ refl

@@ -3,15 +3,15 @@ use Rattle.std.proofs.Common.{◌≡◌, ℕ, ◌+◌, ◌-◌, ◌≤◌, ◌==
 use Rattle.std.specs.FinMap.{get, insert, get-empty}
 use Rattle.std.specs.Ordering.{nat_cmp}
 use Rattle.std.proofs.lemmas.Bool.{eq-eqb, ne_eqb}
-use Rattle.mea_base.specs.declared.answer.Answer.{Answer}
-use Rattle.mea_base.specs.declared.answer.Answer.TheVariants as answers
-use Rattle.mea_base.specs.Family.{Outcome, quietly, Runs, Starts, Goes, RunOf}
+use Rattle.mea_family.specs.declared.answer.Answer.{Answer}
+use Rattle.mea_family.specs.declared.answer.Answer.TheVariants as answers
+use Rattle.mea_family.specs.Family.{Outcome, quietly, IsRun, Starts, Goes, RunOf}
 use Rattle.mea_base.proofs.Maps.{get-there, get-other}
 use Rattle.mea_base.proofs.Tests.{by_name}
-use Rattle.mea_named.specs.ByName.{Names}
-use Rattle.mea_named.specs.NamedQueue.{waits}
-use Rattle.mea_named.specs.Play.{found}
-use Rattle.mea_named.proofs.Cases.{by_found, by_if}
+use Rattle.mea_by_name.specs.ByName.{Names}
+use Rattle.mea_by_name.specs.NamedQueue.{waits}
+use Rattle.mea_family.specs.Play.{found}
+use Rattle.mea_by_name.proofs.Cases.{by_found, by_if}
 use Rattle.mea_chan_model.specs.Mailboxes as mailboxes
 use Rattle.mea_chan_model.specs.Mailboxes.{Mailbox, Mailboxes, Receiver, new_mailbox, is_over, with_message, sent, without_senders, less_sender, without_receiver}
 use Rattle.mea_chan_model.specs.MailboxActions.{Action, Make, Copy, Send, SendLast, EndSender, Receive, Poll, EndReceiver, Turn, TellClosed, TellOver, TellMessage, act_in}
@@ -402,7 +402,7 @@ module _ (h : ChanHall) (i o : ℕ) where
 quiet_by : (p : Option Mailbox) (m : Moved) (c : Mailbox) → p ≡ Some c → Good p m → c.ended ≡ true → c.queued ≡ []
 quiet_by p m c is good ended = sym (ap queued_in is) ∙ good.ended (ap ended_in is ∙ ended)
 
-all_good : (r : RunOf chans_family) → Runs chans_family r → (k : ReceiverKind) (o : ℕ) → AllGood r k o
+all_good : (r : RunOf chans_family) → IsRun chans_family r → (k : ReceiverKind) (o : ℕ) → AllGood r k o
 all_good _ Starts k o = at k
   where
     at : (k : ReceiverKind) → AllGood (record { hall = empty_hall; trace = []; next = 0 }) k o
@@ -425,11 +425,11 @@ all_good _ (Goes r i e runs later cause) k o =
         at None is = is
         at (Some c) is = absurd (let small = (lows r runs k).lows o c is in omega (arith, small, later, low))
 
-pub in_order : (r : RunOf chans_family) → Runs chans_family r → (k : ReceiverKind) (o : ℕ) → (moved k o r.trace).accepted ≡ (moved k o r.trace).received ++ ((moved k o r.trace).fallen ++ queued_in (get (mail r.hall k).channels o))
+pub in_order : (r : RunOf chans_family) → IsRun chans_family r → (k : ReceiverKind) (o : ℕ) → (moved k o r.trace).accepted ≡ (moved k o r.trace).received ++ ((moved k o r.trace).fallen ++ queued_in (get (mail r.hall k).channels o))
 in_order r runs k o = (all_good r runs k o).good.order
 
-pub living : (r : RunOf chans_family) → Runs chans_family r → (k : ReceiverKind) (o : ℕ) (c : Mailbox) → get (mail r.hall k).channels o ≡ Some c → c.ended ≡ false → (moved k o r.trace).fallen ≡ []
+pub living : (r : RunOf chans_family) → IsRun chans_family r → (k : ReceiverKind) (o : ℕ) (c : Mailbox) → get (mail r.hall k).channels o ≡ Some c → c.ended ≡ false → (moved k o r.trace).fallen ≡ []
 living r runs k o c is lives = (all_good r runs k o).good.lives (ap ended_in is ∙ lives)
 
-pub over : (r : RunOf chans_family) → Runs chans_family r → (k : ReceiverKind) (o : ℕ) (c : Mailbox) → get (mail r.hall k).channels o ≡ Some c → c.ended ≡ true → c.queued ≡ []
+pub over : (r : RunOf chans_family) → IsRun chans_family r → (k : ReceiverKind) (o : ℕ) (c : Mailbox) → get (mail r.hall k).channels o ≡ Some c → c.ended ≡ true → c.queued ≡ []
 over r runs k o c is ended = quiet_by _ _ c is (all_good r runs k o).good ended

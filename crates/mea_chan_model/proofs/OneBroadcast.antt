@@ -7,10 +7,10 @@ use Rattle.std.proofs.lemmas.Bool.Decides.{nat_tests}
 use Rattle.std.proofs.lemmas.Option.{slice_get_past, slice_get_within, slice_get_cases}
 use Rattle.mea_base.proofs.Maps.{by_put, by_gone, get-there, get-other, get-removed_other, removed_there, inside}
 use Rattle.mea_base.proofs.Tests.{by_name}
-use Rattle.mea_named.specs.ByName.{Names}
-use Rattle.mea_named.specs.NamedQueue.{waker_for, registering}
-use Rattle.mea_named.proofs.Own.{len-new, len-over, len-gone, len-some}
-use Rattle.mea_named.proofs.NamedQueues.{registering-other}
+use Rattle.mea_by_name.specs.ByName.{Names}
+use Rattle.mea_by_name.specs.NamedQueue.{waker_for, registering}
+use Rattle.mea_by_name.proofs.Own.{len-new, len-over, len-gone, len-some}
+use Rattle.mea_by_name.proofs.NamedQueues.{registering-other}
 use Rattle.mea_chan_model.specs.Broadcasts.{Broadcast, Listener, Hearing, Stands, Behind, Holds, AtTail, oldest, stands, stands_at, newest, new_broadcast, with_message, less_sender}
 use Rattle.mea_chan_model.specs.BroadcastValid.{Hears, AreHeard}
 

@@ -9,11 +9,11 @@ use Rattle.mea_base.specs.Totals.{total, weight}
 use Rattle.mea_base.proofs.Maps.{get-removed_other, get-gone}
 use Rattle.mea_base.proofs.Tests.{by_name}
 use Rattle.mea_base.proofs.Totals.{total-alike, total-remove}
-use Rattle.mea_named.specs.ByName.{Names}
-use Rattle.mea_named.specs.NamedQueue.{Waiting, waits, waker_for, with_waker}
-use Rattle.mea_named.specs.LackingQueue.{Lacking, who, rewoken, leaving}
-use Rattle.mea_named.proofs.NamedQueues.{without-other, appended-other}
-use Rattle.mea_named.proofs.LackingQueues.{who-leaving, who-rewoken, who-append}
+use Rattle.mea_by_name.specs.ByName.{Names}
+use Rattle.mea_by_name.specs.NamedQueue.{Waiting, waits, waker_for, with_waker}
+use Rattle.mea_by_name.specs.LackingQueue.{Lacking, who, rewoken, leaving}
+use Rattle.mea_by_name.proofs.NamedQueues.{without-other, appended-other}
+use Rattle.mea_by_name.proofs.LackingQueues.{who-leaving, who-rewoken, who-append}
 use Rattle.mea_chan_model.specs.Bounded.{BoundedSend}
 use Rattle.mea_chan_model.specs.Sends.{is_pending_at, is_granted_at, granted_of}
 

@@ -6,24 +6,25 @@ use Rattle.std.specs.FinMap.{get, insert, remove}
 use Rattle.std.proofs.lemmas.Bool.{eqb-true}
 use Rattle.std.proofs.lemmas.Bool.Decides.{nat_tests}
 use Rattle.std.proofs.lemmas.Option.{cond_some}
-use Rattle.mea_base.specs.declared.answer.Answer.TheVariants as answers
-use Rattle.mea_base.specs.Family.{Outcome, quietly, Runs, Starts, Goes as GoesOn, RunOf, KeepsWakers, NamesFutures, LosesNoWake}
+use Rattle.mea_family.specs.declared.answer.Answer.TheVariants as answers
+use Rattle.mea_family.specs.Family.{Outcome, quietly, IsRun, Starts, Goes as GoesOn, RunOf, KeepsWakers, NamesFutures, LosesNoWake}
 use Rattle.mea_base.specs.Totals.{total, weight}
 use Rattle.mea_base.proofs.Maps.{by_put, nothing_at, is_there, inside, get-there, get-other, get-gone, get-removed_other, removed_there, value_in, total-has, none_if}
-use Rattle.mea_base.proofs.Tests.{known, by_name}
+use Rattle.mea_base.proofs.Tests.{by_name}
+use Rattle.mea_family.proofs.Causes.{known}
 use Rattle.mea_base.proofs.Totals.{total-insert, total-remove}
-use Rattle.mea_base.proofs.Wakes.{loses_no_wake}
-use Rattle.mea_named.specs.ByName.{Names}
-use Rattle.mea_named.specs.Play.{found}
-use Rattle.mea_named.specs.NamedQueue as named_queue
-use Rattle.mea_named.specs.NamedQueue.{waits}
-use Rattle.mea_named.specs.LackingQueue.{who, leaving}
-use Rattle.mea_named.proofs.NamedQueues.{local_without}
-use Rattle.mea_named.proofs.LackingQueues.{who-leaving}
-use Rattle.mea_named.proofs.OneObject.{counted_same, counted_put, counted_made}
+use Rattle.mea_family.proofs.Wakes.{loses_no_wake}
+use Rattle.mea_by_name.specs.ByName.{Names}
+use Rattle.mea_family.specs.Play.{found}
+use Rattle.mea_by_name.specs.NamedQueue as named_queue
+use Rattle.mea_by_name.specs.NamedQueue.{waits}
+use Rattle.mea_by_name.specs.LackingQueue.{who, leaving}
+use Rattle.mea_by_name.proofs.NamedQueues.{local_without}
+use Rattle.mea_by_name.proofs.LackingQueues.{who-leaving}
+use Rattle.mea_by_name.proofs.OneObject.{counted_same, counted_put, counted_made}
 use Rattle.mea_base.specs.Queue.{lacks}
 use Rattle.std.proofs.lemmas.List.{length-append}
-use Rattle.mea_named.proofs.Cases.{by_found, by_if, if_false}
+use Rattle.mea_by_name.proofs.Cases.{by_found, by_if, if_false}
 use Rattle.mea_chan_model.specs.declared.event.ChanEvent.{ChanEvent}
 use Rattle.mea_chan_model.specs.Mailboxes as mailboxes
 use Rattle.mea_chan_model.specs.Mailboxes.{Mailbox, Mailboxes, Receiver, new_mailbox, is_channel, is_receiver, polls_as, kept, waker_in, placed_of}
@@ -404,7 +405,7 @@ module _ (h : ChanHall) (i : ℕ) where
   lows_after n lows later = by_meaning (λ m. (j : ReceiverKind) → Low (mail (step_by h i m).hall j) (i + 1))
       (λ k a j. lows_acted a n lows later k j) (λ a j. low_bounded n lows later a j) (λ a j. rw beside_broadcasts (low_later (mail h j) n i (lows j) later)) (λ k a j. rw beside (low_later (mail h j) n i (lows j) later))
 
-pub lows : (r : RunOf chans_family) → Runs chans_family r → Lows r.hall r.next
+pub lows : (r : RunOf chans_family) → IsRun chans_family r → Lows r.hall r.next
 lows _ Starts = λ k. at k
   where
     none : Low mailboxes.no_mailboxes 0
@@ -421,7 +422,7 @@ lows _ Starts = λ k. at k
     at ReceiverOfBounded = none
 lows _ (GoesOn r i e runs later cause) = λ j. lows_after r.hall i r.next (lows r runs) later (meaning_of e) j
 
-module _ (r : RunOf chans_family) (i : ℕ) (runs : Runs chans_family r) (later : r.next ≤ i) (j : ReceiverKind) (g : ℕ) where
+module _ (r : RunOf chans_family) (i : ℕ) (runs : IsRun chans_family r) (later : r.next ≤ i) (j : ReceiverKind) (g : ℕ) where
   places : (m : Meaning) (w : ℕ) → receiver_polled_by m j g ≡ Some w → (step_by r.hall i m).reply ≡ answers.Pending → mailboxes.placed (mail (step_by r.hall i m).hall j) g ≡ Some w
   places (OfChannels k a) w is pending = polled_place r.hall i a g w k j is pending
   places (OfBounded b) w is pending = place_bounded r.hall i r.next (lows r runs) later b g w j is pending
@@ -453,7 +454,7 @@ module _ (r : RunOf chans_family) (i : ℕ) (runs : Runs chans_family r) (later 
   is_made (OfBroadcasts a) is = inl (ap (λ p. mailboxes.is_there p g) (sym (beside_broadcasts r.hall (broadcast_act r.hall.broadcasts i a).hall j)) ∙ is)
   is_made (OfBoxes k a) is = inl (ap (λ p. mailboxes.is_there p g) (sym (beside r.hall k i a j)) ∙ is)
 
-waits_on_poll : (r : RunOf chans_family) (i : ℕ) → Runs chans_family r → (j : ReceiverKind) (g : ℕ) (m : Meaning) (w v : ℕ) → mailboxes.placed (mail r.hall j) g ≡ Some w → receiver_polled_by m j g ≡ Some v → (step_by r.hall i m).reply ≡ answers.Pending
+waits_on_poll : (r : RunOf chans_family) (i : ℕ) → IsRun chans_family r → (j : ReceiverKind) (g : ℕ) (m : Meaning) (w v : ℕ) → mailboxes.placed (mail r.hall j) g ≡ Some w → receiver_polled_by m j g ≡ Some v → (step_by r.hall i m).reply ≡ answers.Pending
 waits_on_poll r i runs j g (OfChannels k a) w v is polls = polled_waits r.hall i a r.next (lows r runs) g w v k j is polls
 waits_on_poll r i runs j g (OfBounded b) w v is polls = wait_bounded r.hall r.next i (lows r runs) b g w v j is polls
 waits_on_poll r i runs j g (OfBroadcasts a) w v is polls = absurd (cc)
@@ -466,7 +467,7 @@ polls h (OfBroadcasts a) j g w none is = absurd (cc)
 polls h (OfBoxes k a) j g w none is = absurd (cc)
 
 -- ---- the futures of broadcast channels
-pub broadcasts_kept : (r : RunOf chans_family) → Runs chans_family r → AreKept r.hall.broadcasts r.next
+pub broadcasts_kept : (r : RunOf chans_family) → IsRun chans_family r → AreKept r.hall.broadcasts r.next
 broadcasts_kept _ Starts = none_kept
 broadcasts_kept _ (GoesOn r i e runs later cause) = at (meaning_of e) cause (broadcasts_kept r runs)
   where
@@ -556,7 +557,7 @@ names = record {
       (λ j g lives. is_made r i runs later j g (meaning_of e) lives) (λ g lives. hearing_is_made r.hall r.next i (broadcasts_kept r runs) later g (meaning_of e) cause lives) f;
 }
 
-pub no_wake_is_lost : (r : RunOf chans_family) → Runs chans_family r → LosesNoWake chans_family r
+pub no_wake_is_lost : (r : RunOf chans_family) → IsRun chans_family r → LosesNoWake chans_family r
 no_wake_is_lost r runs = loses_no_wake chans_family keeps names r runs
 
 -- ---- how many wakers are registered

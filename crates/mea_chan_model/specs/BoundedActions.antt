@@ -1,12 +1,12 @@
 -- what can be done to bounded channels: why it is refused, and what it does
 use Rattle.std.specs.Prelude.{ℕ, ◌==◌, Bool, true, false, nat_lt, Option, Some, None, if◌then◌else◌}
 use Rattle.std.specs.FinMap.{get}
-use Rattle.mea_base.specs.declared.answer.Answer.TheVariants as answers
-use Rattle.mea_base.specs.declared.stop.Stop.{Stop}
-use Rattle.mea_base.specs.declared.stop.Stop.TheVariants as stops
-use Rattle.mea_base.specs.Causes.{unknown_unless}
-use Rattle.mea_base.specs.Family.{Outcome, quietly}
-use Rattle.mea_named.specs.Play.{found}
+use Rattle.mea_family.specs.declared.answer.Answer.TheVariants as answers
+use Rattle.mea_family.specs.declared.stop.Stop.{Stop}
+use Rattle.mea_family.specs.declared.stop.Stop.TheVariants as stops
+use Rattle.mea_family.specs.Causes.{unknown_unless}
+use Rattle.mea_family.specs.Family.{Outcome, quietly}
+use Rattle.mea_family.specs.Play.{found}
 use Rattle.mea_chan_model.specs.Mailboxes.{is_sender}
 use Rattle.mea_chan_model.specs.MailboxActions as actions
 use Rattle.mea_chan_model.specs.MailboxActions.{cause_in, act_in, polled_in, ends_in}

@@ -2,12 +2,12 @@
 use Rattle.std.specs.Prelude.{ℕ, Bool, Option, None, is_some}
 use Rattle.std.specs.Coded.{Coded, coded_ℕ, coded_option}
 use Rattle.std.specs.FinMap.{get, insert, remove}
-use Rattle.mea_base.specs.declared.answer.Answer.TheVariants as answers
-use Rattle.mea_base.specs.declared.stop.Stop.{Stop}
-use Rattle.mea_base.specs.Causes.{unknown_unless}
-use Rattle.mea_base.specs.Family.{Outcome, quietly}
-use Rattle.mea_named.specs.ByName.{Names, names_code}
-use Rattle.mea_named.specs.Play.{found, content}
+use Rattle.mea_family.specs.declared.answer.Answer.TheVariants as answers
+use Rattle.mea_family.specs.declared.stop.Stop.{Stop}
+use Rattle.mea_family.specs.Causes.{unknown_unless}
+use Rattle.mea_family.specs.Family.{Outcome, quietly}
+use Rattle.mea_by_name.specs.ByName.{Names, names_code}
+use Rattle.mea_family.specs.Play.{found, content}
 
 -- what each box contains, if it does
 abbrev pub Boxes : Type 0

@@ -1,11 +1,11 @@
 -- what can be done to broadcast channels: why it is refused, and what it does
 use Rattle.std.specs.Prelude.{ℕ, ◌==◌, Bool, true, false, cond, nat_lt, Option, Some, None, is_some, if◌then◌else◌}
 use Rattle.std.specs.FinMap.{get}
-use Rattle.mea_base.specs.declared.stop.Stop.{Stop}
-use Rattle.mea_base.specs.declared.stop.Stop.TheVariants as stops
-use Rattle.mea_base.specs.Causes.{unknown_unless}
-use Rattle.mea_base.specs.Family.{Outcome}
-use Rattle.mea_named.specs.Play.{found}
+use Rattle.mea_family.specs.declared.stop.Stop.{Stop}
+use Rattle.mea_family.specs.declared.stop.Stop.TheVariants as stops
+use Rattle.mea_family.specs.Causes.{unknown_unless}
+use Rattle.mea_family.specs.Family.{Outcome}
+use Rattle.mea_family.specs.Play.{found}
 use Rattle.mea_chan_model.specs.Broadcasts as broadcasts
 use Rattle.mea_chan_model.specs.Broadcasts.{Broadcast, Broadcasts, Listener, is_sender, is_hearing, ring_size, senders_in, tail_in, channel_of, stands}
 

@@ -1,8 +1,8 @@
 -- what broadcast channels keep to after each event
 use Rattle.std.specs.Prelude.{ℕ, ◌≡◌, ◌<◌, ◌≤◌, [], length, Some}
 use Rattle.std.specs.FinMap.{get, len}
-use Rattle.mea_named.specs.ByName.{Names, own, AreHome}
-use Rattle.mea_named.specs.NamedQueue.{waker_for}
+use Rattle.mea_by_name.specs.ByName.{Names, own, AreHome}
+use Rattle.mea_by_name.specs.NamedQueue.{waker_for}
 use Rattle.mea_chan_model.specs.Broadcasts.{Broadcast, Broadcasts, Listener, Hearing, of_hearing}
 
 abbrev pub of_listener : Listener → ℕ

@@ -1,9 +1,9 @@
 -- what was accepted, received and dropped at each channel, as replies tell it
 use Rattle.std.specs.Prelude.{ℕ, ◌==◌, ◌++◌, true, false, cond, List, [], ◌∷◌, Option, Some, None}
 use Rattle.std.specs.FinMap.{get}
-use Rattle.mea_base.specs.declared.answer.Answer.{Answer}
-use Rattle.mea_base.specs.declared.answer.Answer.TheVariants as answers
-use Rattle.mea_base.specs.Family.{Told}
+use Rattle.mea_family.specs.declared.answer.Answer.{Answer}
+use Rattle.mea_family.specs.declared.answer.Answer.TheVariants as answers
+use Rattle.mea_family.specs.Family.{ToldEvent}
 use Rattle.mea_chan_model.specs.declared.event.ChanEvent.{ChanEvent}
 use Rattle.mea_chan_model.specs.Mailboxes.{Mailbox, Mailboxes, Receiver}
 use Rattle.mea_chan_model.specs.MailboxActions.{Action, Send, SendLast, Receive, Poll, EndReceiver}
@@ -85,6 +85,6 @@ moved_at h ReceiverOfBounded (OfBounded a) reply o = bounded_moved_by h.bounded 
 moved_at h _ m reply o = nothing
 
 -- all that was moved at the channel o of a kind
-abbrev pub moved : ReceiverKind → ℕ → List (Told ChanHall ChanEvent) → Moved
+abbrev pub moved : ReceiverKind → ℕ → List (ToldEvent ChanHall ChanEvent) → Moved
 moved k o [] = nothing
 moved k o (t ∷ older) = then_moved (moved k o older) (moved_at t.before k (meaning_of t.event) t.reply o)

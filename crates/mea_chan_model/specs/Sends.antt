@@ -2,12 +2,12 @@
 -- family: a send may find a place without having been woken
 use Rattle.std.specs.Prelude.{ℕ, ◌==◌, Bool, false, cond, not, [], Option, Some, None, if◌then◌else◌}
 use Rattle.std.specs.FinMap.{get}
-use Rattle.mea_base.specs.Family.{Family}
+use Rattle.mea_family.specs.Family.{Family}
 use Rattle.mea_base.specs.Totals.{total}
-use Rattle.mea_named.specs.ByName.{Names}
-use Rattle.mea_named.specs.NamedQueue as named_queue
-use Rattle.mea_named.specs.NamedQueue.{waits}
-use Rattle.mea_named.specs.LackingQueue.{Lacking, who}
+use Rattle.mea_by_name.specs.ByName.{Names}
+use Rattle.mea_by_name.specs.NamedQueue as named_queue
+use Rattle.mea_by_name.specs.NamedQueue.{waits}
+use Rattle.mea_by_name.specs.LackingQueue.{Lacking, who}
 use Rattle.mea_chan_model.specs.declared.event.ChanEvent.{ChanEvent}
 use Rattle.mea_chan_model.specs.Bounded.{Bounded, Room, BoundedSend, is_send, waiting_at}
 use Rattle.mea_chan_model.specs.BoundedActions.{BoundedAction, PollSend, EndSend}

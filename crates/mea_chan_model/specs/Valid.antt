@@ -1,7 +1,7 @@
 -- what holds of every hall that events reach
 use Rattle.std.specs.Prelude.{ℕ, ◌≡◌, ◌<◌, cond, [], Some}
 use Rattle.std.specs.FinMap.{get, len}
-use Rattle.mea_named.specs.ByName.{own}
+use Rattle.mea_by_name.specs.ByName.{own}
 use Rattle.mea_chan_model.specs.Mailboxes.{Mailbox, Mailboxes, Receiver}
 use Rattle.mea_chan_model.specs.ChanHall.{ChanHall}
 

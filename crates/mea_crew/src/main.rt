@@ -1,9 +1,9 @@
 //! The program `mea_crew`: threads share one recorded semaphore, and what is printed is read off its history.
-//! `mea_workers` does the work.
+//! `mea_crew_run` does the work.
 #![tactic(auto)]
 
+use mea_crew_run::{CrewStatus, run_crew};
 use mea_io::StdSink;
-use mea_workers::{CrewStatus, run_crew};
 use std::process::ExitCode;
 use std::{env, io};
 

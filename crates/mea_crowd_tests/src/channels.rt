@@ -20,7 +20,7 @@ use std::sync::atomic::Ordering::SeqCst;
 
 /// What they did.
 #[derive(Drop)]
-pub struct Channels {
+pub(crate) struct Channels {
     oneshots: Oneshots,
     sent: AtomicU64,
     taken: AtomicU64,
@@ -36,7 +36,7 @@ pub struct Channels {
 
 impl Channels {
     /// Nothing yet.
-    pub fn new() -> Self {
+    pub(crate) fn new() -> Self {
         Channels {
             oneshots: Oneshots::new(),
             sent: AtomicU64::new(0),
@@ -51,7 +51,7 @@ impl Channels {
     }
 
     /// A task that takes what comes from the unbounded channel.
-    pub fn collecting<'a, R: Wait>(
+    pub(crate) fn collecting<'a, R: Wait>(
         &'a self,
         stream: Receiving<'a, R, UnboundedReceiver<u64, Bell>, u64>,
     ) -> Collects<'a, R> {
@@ -62,22 +62,22 @@ impl Channels {
     }
 
     /// How many oneshots were answered, and how many had an answer.
-    pub fn answers(&self) -> (u64, u64) {
+    pub(crate) fn answers(&self) -> (u64, u64) {
         self.oneshots.counts()
     }
 
     /// How many messages went into the bounded channel, and how many came out.
-    pub fn bounded(&self) -> (u64, u64) {
+    pub(crate) fn bounded(&self) -> (u64, u64) {
         (self.sent.load(SeqCst), self.taken.load(SeqCst))
     }
 
     /// How many messages went into the unbounded channel, and how many came out.
-    pub fn unbounded(&self) -> (u64, u64) {
+    pub(crate) fn unbounded(&self) -> (u64, u64) {
         (self.said.load(SeqCst), self.drained.load(SeqCst))
     }
 
     /// How many messages were told to all, how many listeners have patience, and how many messages these heard.
-    pub fn broadcast(&self) -> (u64, u64, u64) {
+    pub(crate) fn broadcast(&self) -> (u64, u64, u64) {
         let told = self.told.load(SeqCst);
         (told, self.listeners.load(SeqCst), self.heard.load(SeqCst))
     }
@@ -85,16 +85,16 @@ impl Channels {
 
 /// The ends that those who send are given shares of.
 #[derive(Drop)]
-pub struct Ends<'a, R: Wait> {
-    pub sender: &'a BoundedSender<u64, Bell>,
-    pub senders: Kept<'a, R, WaitGroup<Bell>>,
-    pub speaker: Kept<'a, R, UnboundedSender<u64, Bell>>,
-    pub hub: Kept<'a, R, overflow::Sender<u64, Bell>>,
+pub(crate) struct Ends<'a, R: Wait> {
+    pub(crate) sender: &'a BoundedSender<u64, Bell>,
+    pub(crate) senders: Kept<'a, R, WaitGroup<Bell>>,
+    pub(crate) speaker: Kept<'a, R, UnboundedSender<u64, Bell>>,
+    pub(crate) hub: Kept<'a, R, overflow::Sender<u64, Bell>>,
 }
 
 /// A task that sends a message, and has a handle of the group of those who send until it ends.
 #[derive(Drop)]
-pub struct Posts<'a, R: Wait> {
+pub(crate) struct Posts<'a, R: Wait> {
     sink: Feeding<'a, R, u64>,
     is_begun: bool,
     sent: &'a AtomicU64,
@@ -103,7 +103,11 @@ pub struct Posts<'a, R: Wait> {
 
 impl<'a, R: Wait + AllocGlobal> Posts<'a, R> {
     /// One that was never polled.
-    pub fn new(rt: &'a R, ends: &Ends<'a, R>, channels: &'a Channels) -> Result<Self, AllocError> {
+    pub(crate) fn new(
+        rt: &'a R,
+        ends: &Ends<'a, R>,
+        channels: &'a Channels,
+    ) -> Result<Self, AllocError> {
         let handle = ends.senders.get().clone_handle(rt).map_err(|_| AllocError)?;
         let handle = Kept::new(rt, handle);
         match feed(rt, rt.alloc(), ends.sender) {
@@ -138,7 +142,7 @@ impl<'a, R: Wait> Future for Posts<'a, R> {
 
 /// A task that takes messages until there are none and all who send have ended.
 #[derive(Drop)]
-pub struct Takes<'a, R: Wait> {
+pub(crate) struct Takes<'a, R: Wait> {
     stream: Receiving<'a, R, BoundedReceiver<u64, Bell>, u64>,
     senders: Option<Waiting<'a, R, waitgroup::Wait<Bell>, ()>>,
     taken: &'a AtomicU64,
@@ -146,7 +150,7 @@ pub struct Takes<'a, R: Wait> {
 
 impl<'a, R: Wait + AllocGlobal> Takes<'a, R> {
     /// One that was never polled.
-    pub fn new(
+    pub(crate) fn new(
         rt: &'a R,
         stream: Receiving<'a, R, BoundedReceiver<u64, Bell>, u64>,
         senders: waitgroup::Wait<Bell>,
@@ -194,7 +198,7 @@ impl<'a, R: Wait> Future for Takes<'a, R> {
 
 /// A task that sends a message which never waits.
 #[derive(Drop)]
-pub struct Says<'a, R: Wait> {
+pub(crate) struct Says<'a, R: Wait> {
     rt: &'a R,
     speaker: Kept<'a, R, UnboundedSender<u64, Bell>>,
     said: &'a AtomicU64,
@@ -213,7 +217,7 @@ impl<'a, R: Wait> Future for Says<'a, R> {
 
 /// A task that sends a message to all who listen.
 #[derive(Drop)]
-pub struct Tells<'a, R: Wait> {
+pub(crate) struct Tells<'a, R: Wait> {
     rt: &'a R,
     hub: Kept<'a, R, overflow::Sender<u64, Bell>>,
     told: &'a AtomicU64,
@@ -231,14 +235,14 @@ impl<'a, R: Wait> Future for Tells<'a, R> {
 }
 
 /// One that takes what comes from the unbounded channel.
-pub type Collects<'a, R> = Drains<'a, R, UnboundedReceiver<u64, Bell>, u64>;
+pub(crate) type Collects<'a, R> = Drains<'a, R, UnboundedReceiver<u64, Bell>, u64>;
 
 /// One that listens to what is told to all.
-pub type Listens<'a, R> = Drains<'a, R, overflow::Receiver<u64, Bell>, Result<u64, Lagged>>;
+pub(crate) type Listens<'a, R> = Drains<'a, R, overflow::Receiver<u64, Bell>, Result<u64, Lagged>>;
 
 /// A task at an end of a channel.
 #[derive(Drop)]
-pub enum ChannelMember<'a, R: Wait> {
+pub(crate) enum ChannelMember<'a, R: Wait> {
     Posts(Posts<'a, R>),
     Takes(Takes<'a, R>),
     Says(Says<'a, R>),
@@ -318,7 +322,7 @@ fn listening<'a, R: Wait + AllocGlobal>(
 }
 
 /// Spawns the task with this number, that was never polled: of one of five kinds; of a oneshot, both ends.
-pub fn spawn_channel<'a, R: Wait + AllocGlobal>(
+pub(crate) fn spawn_channel<'a, R: Wait + AllocGlobal>(
     rt: &'a R,
     tasks: &Tasks<'a, R>,
     tally: &'a Tally,
@@ -348,7 +352,7 @@ pub fn spawn_channel<'a, R: Wait + AllocGlobal>(
 }
 
 /// Spawns those who take what comes from the two queues.
-pub fn spawn_takers<'a, R: Wait + AllocGlobal>(
+pub(crate) fn spawn_takers<'a, R: Wait + AllocGlobal>(
     rt: &'a R,
     tasks: &Tasks<'a, R>,
     tally: &'a Tally,

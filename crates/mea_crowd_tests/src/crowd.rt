@@ -26,7 +26,7 @@ use std::thread::Threads;
 
 /// A task of the crowd, of one of four families.
 #[derive(Drop)]
-pub enum Member<L, M, C, K> {
+pub(crate) enum Member<L, M, C, K> {
     Locks(L),
     Meets(M),
     Channels(C),
@@ -56,13 +56,13 @@ impl<
 }
 
 /// A task of any family.
-pub type Task<'a, R> = Impatient<
+pub(crate) type Task<'a, R> = Impatient<
     'a,
     Member<LockMember<'a, R>, MeetMember<'a, R>, ChannelMember<'a, R>, KeepMember<'a, R>>,
 >;
 
 /// The tasks.
-pub type Tasks<'a, R> = TaskSet<Task<'a, R>>;
+pub(crate) type Tasks<'a, R> = TaskSet<Task<'a, R>>;
 
 // How many tasks have a number: each but some of a kind that has two ends.
 const NUMBERS: u64 = 1000;

@@ -16,7 +16,7 @@ type Locks<'a, R> = Holding<'a, R, OwnedLock<bool, Bell>, OwnedMutexGuard<bool, 
 
 /// A task that waits until the flag is set, and then tells the next: only one is notified at a time.
 #[derive(Drop)]
-pub struct Hears<'a, R: Wait> {
+pub(crate) struct Hears<'a, R: Wait> {
     rt: &'a R,
     condvar: &'a Condvar<Bell>,
     lock: Locks<'a, R>,
@@ -26,7 +26,7 @@ pub struct Hears<'a, R: Wait> {
 
 impl<'a, R: Wait + AllocGlobal> Hears<'a, R> {
     /// One that was never polled.
-    pub fn new(
+    pub(crate) fn new(
         rt: &'a R,
         condvar: &'a Condvar<Bell>,
         flag: Arc<Mutex<bool, Bell>>,
@@ -79,7 +79,7 @@ impl<'a, R: Wait + AllocGlobal> Future for Hears<'a, R> {
 
 /// A task that sets the flag, and tells the first that waits.
 #[derive(Drop)]
-pub struct Tells<'a, R: Wait> {
+pub(crate) struct Tells<'a, R: Wait> {
     rt: &'a R,
     condvar: &'a Condvar<Bell>,
     lock: Locks<'a, R>,
@@ -87,7 +87,7 @@ pub struct Tells<'a, R: Wait> {
 
 impl<'a, R: Wait + AllocGlobal> Tells<'a, R> {
     /// One that was never polled.
-    pub fn new(
+    pub(crate) fn new(
         rt: &'a R,
         condvar: &'a Condvar<Bell>,
         flag: Arc<Mutex<bool, Bell>>,

@@ -25,7 +25,7 @@ type Hasher = BuildHasherDefault<FoldHasher>;
 
 /// What they share.
 #[derive(Drop)]
-pub struct Keeps {
+pub(crate) struct Keeps {
     cell: OnceCell<u64, Bell>,
     once: Once<Bell>,
     map: OnceMap<u64, u64, Hasher, Bell>,
@@ -38,7 +38,7 @@ pub struct Keeps {
 
 impl Keeps {
     /// Nothing computed.
-    pub fn new(alloc: Global) -> Self {
+    pub(crate) fn new(alloc: Global) -> Self {
         Keeps {
             cell: OnceCell::new(alloc),
             once: Once::new(alloc),
@@ -52,7 +52,7 @@ impl Keeps {
     }
 
     /// Whether the cell is full, the call was made, and each of three keys has its value, each of them computed once.
-    pub fn are_kept<R: Wait>(&self, rt: &R) -> bool {
+    pub(crate) fn are_kept<R: Wait>(&self, rt: &R) -> bool {
         for key in 0..3u64 {
             if self.map.get(rt, &key) != Ok(Some(key)) {
                 return false;
@@ -66,7 +66,12 @@ impl Keeps {
     }
 
     /// Whether nobody computes this key of the group any more, so that a further call has its turn at once.
-    pub fn is_landed<R: Wait + AllocGlobal>(&self, rt: &R, task: &MockTask, key: u64) -> bool {
+    pub(crate) fn is_landed<R: Wait + AllocGlobal>(
+        &self,
+        rt: &R,
+        task: &MockTask,
+        key: u64,
+    ) -> bool {
         has_turn(rt, task, self.flights.claim(key))
     }
 }
@@ -97,7 +102,7 @@ fn has_turn<'a, R: Wait + AllocGlobal + 'a, F: Waits<Bell, Claimed<V, C>>, V: Dr
 type Inits<'a, R, F, V, C, T, G> = Awaits<Initialising<'a, R, F, V, C, T, G, Computes<'a, T>>>;
 
 /// One that waits for the value of the cell.
-pub type Fills<'a, R> = Inits<
+pub(crate) type Fills<'a, R> = Inits<
     'a,
     R,
     CellClaiming<'a, u64, Bell>,
@@ -108,7 +113,7 @@ pub type Fills<'a, R> = Inits<
 >;
 
 /// One that waits until a call was made.
-pub type Calls<'a, R> = Inits<
+pub(crate) type Calls<'a, R> = Inits<
     'a,
     R,
     OnceClaiming<'a, Bell>,
@@ -119,7 +124,7 @@ pub type Calls<'a, R> = Inits<
 >;
 
 /// One that waits for the value of a key.
-pub type Maps<'a, R> = Inits<
+pub(crate) type Maps<'a, R> = Inits<
     'a,
     R,
     MapClaiming<'a, u64, u64, Hasher, Bell>,
@@ -130,7 +135,7 @@ pub type Maps<'a, R> = Inits<
 >;
 
 /// One that waits for a value which those who come meanwhile share.
-pub type Flies<'a, R> = Inits<
+pub(crate) type Flies<'a, R> = Inits<
     'a,
     R,
     GroupClaiming<'a, u64, u64, Hasher, Bell>,
@@ -142,7 +147,7 @@ pub type Flies<'a, R> = Inits<
 
 /// A task that waits for what is computed once.
 #[derive(Drop)]
-pub enum KeepMember<'a, R: Wait> {
+pub(crate) enum KeepMember<'a, R: Wait> {
     Fills(Fills<'a, R>),
     Calls(Calls<'a, R>),
     Maps(Maps<'a, R>),
@@ -226,7 +231,7 @@ fn flying<'a, R: Wait + AllocGlobal>(
 }
 
 /// Spawns the task with this number, that was never polled: of one of four kinds.
-pub fn spawn_keep<'a, R: Wait + AllocGlobal>(
+pub(crate) fn spawn_keep<'a, R: Wait + AllocGlobal>(
     rt: &'a R,
     tasks: &Tasks<'a, R>,
     tally: &'a Tally,

@@ -25,7 +25,7 @@ type Hasher = BuildHasherDefault<FoldHasher>;
 
 /// What they share.
 #[derive(Drop)]
-pub struct Locks {
+pub(crate) struct Locks {
     semaphore: Arc<Semaphore<Bell>>,
     share: Arc<FairShare<u64, Bell, Hasher>>,
     sum: Arc<Mutex<u64, Bell>>,
@@ -39,7 +39,7 @@ pub struct Locks {
 
 impl Locks {
     /// Three permits, two for the keys, and locks that nobody has.
-    pub fn new(alloc: Global) -> Result<Self, AllocError> {
+    pub(crate) fn new(alloc: Global) -> Result<Self, AllocError> {
         Ok(Locks {
             semaphore: Arc::new(alloc, Semaphore::new(alloc, 3))?,
             share: Arc::new(alloc, FairShare::new(alloc, 2))?,
@@ -54,7 +54,7 @@ impl Locks {
     }
 
     /// Whether every permit is free, and nobody has a lock or waits for a permit of a key.
-    pub fn are_free<R: Wait>(&self, rt: &R) -> bool {
+    pub(crate) fn are_free<R: Wait>(&self, rt: &R) -> bool {
         let board = match self.board.try_write(rt) {
             Some(guard) => {
                 guard.end(rt);
@@ -70,12 +70,12 @@ impl Locks {
     }
 
     /// How many worked with a permit, and how many heard of the flag.
-    pub fn counts(&self) -> (u64, u64) {
+    pub(crate) fn counts(&self) -> (u64, u64) {
         (self.worked.load(SeqCst), self.heard.load(SeqCst))
     }
 
     /// How many added one, and the sum, where nobody has its lock.
-    pub fn sums<R: Wait>(&self, rt: &R) -> (u64, Option<u64>) {
+    pub(crate) fn sums<R: Wait>(&self, rt: &R) -> (u64, Option<u64>) {
         (self.added.load(SeqCst), locked(rt, &*self.sum))
     }
 }
@@ -90,7 +90,7 @@ fn locked<R: Wait, T: Copy>(rt: &R, mutex: &Mutex<T, Bell>) -> Option<T> {
 
 /// A task that acquires, yields with the permit, and gives it back where it drops what it kept.
 #[derive(Drop)]
-pub struct Acquires<'a, R: Wait> {
+pub(crate) struct Acquires<'a, R: Wait> {
     acquire: TryHolding<'a, R, OwnedAcquire<Bell>, OwnedSemaphorePermit<Bell>, Closed>,
     held: Option<Kept<'a, R, OwnedSemaphorePermit<Bell>>>,
     worked: &'a AtomicU64,
@@ -98,7 +98,7 @@ pub struct Acquires<'a, R: Wait> {
 
 impl<'a, R: Wait + AllocGlobal> Acquires<'a, R> {
     /// One that was never polled.
-    pub fn new(rt: &'a R, locks: &'a Locks) -> Result<Self, AllocError>
+    pub(crate) fn new(rt: &'a R, locks: &'a Locks) -> Result<Self, AllocError>
         ensures { IfOk result (λ task. (task.held ≡ None) × IsSome task.acquire.waiting.wait) }
     {
         let acquire = Arc::try_clone(&locks.semaphore)?.acquire_owned(1);
@@ -135,7 +135,7 @@ impl<'a, R: Wait> Future for Acquires<'a, R> {
 
 /// A task that locks, reads, yields with the guard, and writes one more than it read.
 #[derive(Drop)]
-pub struct Adds<'a, R: Wait> {
+pub(crate) struct Adds<'a, R: Wait> {
     lock: Holding<'a, R, OwnedLock<u64, Bell>, OwnedMutexGuard<u64, Bell>>,
     held: Option<Kept<'a, R, OwnedMutexGuard<u64, Bell>>>,
     read: u64,
@@ -144,7 +144,7 @@ pub struct Adds<'a, R: Wait> {
 
 impl<'a, R: Wait + AllocGlobal> Adds<'a, R> {
     /// One that was never polled.
-    pub fn new(rt: &'a R, locks: &'a Locks) -> Result<Self, AllocError>
+    pub(crate) fn new(rt: &'a R, locks: &'a Locks) -> Result<Self, AllocError>
         ensures { IfOk result (λ adds. (adds.held ≡ None) × IsSome adds.lock.waiting.wait) }
     {
         let lock = Arc::try_clone(&locks.sum)?.lock_owned();
@@ -184,7 +184,7 @@ impl<'a, R: Wait> Future for Adds<'a, R> {
 }
 
 /// One that has a permit of a key.
-pub type Admits<'a, R> = Uses<
+pub(crate) type Admits<'a, R> = Uses<
     'a,
     R,
     OwnedShareWait<u64, Bell, Hasher>,
@@ -192,14 +192,19 @@ pub type Admits<'a, R> = Uses<
 >;
 
 /// One that reads.
-pub type Reads<'a, R> = Uses<'a, R, OwnedRead<u64, Bell>, OwnedRwLockReadGuard<u64, Bell>>;
+pub(crate) type Reads<'a, R> = Uses<'a, R, OwnedRead<u64, Bell>, OwnedRwLockReadGuard<u64, Bell>>;
 
 /// One that is alone.
-pub type Writes<'a, R> = Uses<'a, R, OwnedWrite<u64, Bell>, OwnedRwLockWriteGuard<u64, Bell>>;
+pub(crate) type Writes<'a, R> = Uses<
+    'a,
+    R,
+    OwnedWrite<u64, Bell>,
+    OwnedRwLockWriteGuard<u64, Bell>,
+>;
 
 /// A task at permits or a lock.
 #[derive(Drop)]
-pub enum LockMember<'a, R: Wait> {
+pub(crate) enum LockMember<'a, R: Wait> {
     Acquires(Acquires<'a, R>),
     Admits(Admits<'a, R>),
     Adds(Adds<'a, R>),
@@ -231,7 +236,7 @@ impl<'a, R: Wait + AllocGlobal> Future for LockMember<'a, R> {
 }
 
 /// Spawns the task with this number, that was never polled: of one of six kinds.
-pub fn spawn_lock<'a, R: Wait + AllocGlobal>(
+pub(crate) fn spawn_lock<'a, R: Wait + AllocGlobal>(
     rt: &'a R,
     tasks: &Tasks<'a, R>,
     tally: &'a Tally,
@@ -259,7 +264,7 @@ pub fn spawn_lock<'a, R: Wait + AllocGlobal>(
 }
 
 /// Spawns the one that sets the flag.
-pub fn spawn_tells<'a, R: Wait + AllocGlobal>(
+pub(crate) fn spawn_tells<'a, R: Wait + AllocGlobal>(
     rt: &'a R,
     tasks: &Tasks<'a, R>,
     tally: &'a Tally,

@@ -19,7 +19,7 @@ use std::sync::{Arc, Wait};
 
 /// What they share.
 #[derive(Drop)]
-pub struct Meets {
+pub(crate) struct Meets {
     latch: Arc<Latch<Bell>>,
     barrier: Barrier<Bell>,
     met: AtomicU64,
@@ -39,7 +39,7 @@ fn arrivals(numbers: u64) -> u32 {
 
 impl Meets {
     /// A latch of one, and a barrier for all who come to it of the tasks with numbers below this.
-    pub fn new(alloc: Global, numbers: u64) -> Result<Self, AllocError> {
+    pub(crate) fn new(alloc: Global, numbers: u64) -> Result<Self, AllocError> {
         Ok(Meets {
             latch: Arc::new(alloc, Latch::new(alloc, 1))?,
             barrier: Barrier::new(alloc, arrivals(numbers)),
@@ -49,22 +49,22 @@ impl Meets {
     }
 
     /// Whether the latch is open.
-    pub fn is_open<R: Wait>(&self, rt: &R) -> bool {
+    pub(crate) fn is_open<R: Wait>(&self, rt: &R) -> bool {
         self.latch.count(rt) == 0
     }
 
     /// How many have met at the barrier, and how many of them led.
-    pub fn counts(&self) -> (u64, u64) {
+    pub(crate) fn counts(&self) -> (u64, u64) {
         (self.met.load(SeqCst), self.led.load(SeqCst))
     }
 }
 
 /// One that waits until a latch is open.
-pub type Passes<'a, R> = Awaits<Waiting<'a, R, OwnedLatchWait<Bell>, ()>>;
+pub(crate) type Passes<'a, R> = Awaits<Waiting<'a, R, OwnedLatchWait<Bell>, ()>>;
 
 /// A task that opens the latch.
 #[derive(Drop)]
-pub struct Opens<'a, R: Wait> {
+pub(crate) struct Opens<'a, R: Wait> {
     rt: &'a R,
     latch: &'a Latch<Bell>,
 }
@@ -80,7 +80,7 @@ impl<'a, R: Wait> Future for Opens<'a, R> {
 
 /// A task that meets others at the barrier.
 #[derive(Drop)]
-pub struct Arrives<'a, R: Wait> {
+pub(crate) struct Arrives<'a, R: Wait> {
     waiting: Waiting<'a, R, BarrierWait<'a, Bell>, BarrierWaitResult>,
     met: &'a AtomicU64,
     led: &'a AtomicU64,
@@ -104,7 +104,7 @@ impl<'a, R: Wait> Future for Arrives<'a, R> {
 
 /// A task that stops where it is asked to.
 #[derive(Drop)]
-pub struct Stops<'a, R: Wait> {
+pub(crate) struct Stops<'a, R: Wait> {
     signal: Waiting<'a, R, OwnedSignal<Bell>, ()>,
     receiver: Kept<'a, R, ShutdownRecv<Bell>>,
 }
@@ -124,7 +124,7 @@ impl<'a, R: Wait> Future for Stops<'a, R> {
 
 /// A task that asks for the shutdown, and waits for all who stop.
 #[derive(Drop)]
-pub struct Shuts<'a, R: Wait> {
+pub(crate) struct Shuts<'a, R: Wait> {
     rt: &'a R,
     sender: &'a ShutdownSend<Bell>,
     ended: Waiting<'a, R, shutdown::Wait<Bell>, ()>,
@@ -146,7 +146,7 @@ impl<'a, R: Wait> Future for Shuts<'a, R> {
 
 /// A task at a place where others are met.
 #[derive(Drop)]
-pub enum MeetMember<'a, R: Wait> {
+pub(crate) enum MeetMember<'a, R: Wait> {
     Passes(Passes<'a, R>),
     Opens(Opens<'a, R>),
     Arrives(Arrives<'a, R>),
@@ -233,7 +233,7 @@ fn shutting<'a, R: Wait + AllocGlobal>(
 }
 
 /// Spawns the task with this number, that was never polled: of one of three kinds.
-pub fn spawn_meet<'a, R: Wait + AllocGlobal>(
+pub(crate) fn spawn_meet<'a, R: Wait + AllocGlobal>(
     rt: &'a R,
     tasks: &Tasks<'a, R>,
     tally: &'a Tally,
@@ -251,7 +251,7 @@ pub fn spawn_meet<'a, R: Wait + AllocGlobal>(
 }
 
 /// Spawns those who open the latch and ask for the shutdown.
-pub fn spawn_openers<'a, R: Wait + AllocGlobal>(
+pub(crate) fn spawn_openers<'a, R: Wait + AllocGlobal>(
     rt: &'a R,
     tasks: &Tasks<'a, R>,
     tally: &'a Tally,

@@ -12,14 +12,14 @@ use std::sync::atomic::Ordering::SeqCst;
 
 /// How many answered, and how many had an answer.
 #[derive(Drop)]
-pub struct Oneshots {
+pub(crate) struct Oneshots {
     answered: AtomicU64,
     got: AtomicU64,
 }
 
 impl Oneshots {
     /// None yet.
-    pub fn new() -> Self {
+    pub(crate) fn new() -> Self {
         Oneshots {
             answered: AtomicU64::new(0),
             got: AtomicU64::new(0),
@@ -27,13 +27,13 @@ impl Oneshots {
     }
 
     /// How many answered, and how many had an answer.
-    pub fn counts(&self) -> (u64, u64) {
+    pub(crate) fn counts(&self) -> (u64, u64) {
         (self.answered.load(SeqCst), self.got.load(SeqCst))
     }
 }
 
 /// A task that sends an answer, or ends its sender where it is dropped before.
-pub struct Answers<'a> {
+pub(crate) struct Answers<'a> {
     sender: Option<Sender<Plain<u64>, Bell>>,
     answered: &'a AtomicU64,
 }
@@ -66,7 +66,7 @@ impl<'a> Future for Answers<'a> {
 
 /// A task that waits for an answer.
 #[derive(Drop)]
-pub struct Asks<'a, R: Wait> {
+pub(crate) struct Asks<'a, R: Wait> {
     answer: Waiting<'a, R, MessageWait<Plain<u64>>, Result<Plain<u64>, RecvError>>,
     got: &'a AtomicU64,
 }
@@ -85,7 +85,7 @@ impl<'a, R: Wait> Future for Asks<'a, R> {
 }
 
 /// The two ends of a oneshot, as tasks that were never polled.
-pub fn asking<'a, R: Wait + AllocGlobal>(
+pub(crate) fn asking<'a, R: Wait + AllocGlobal>(
     rt: &'a R,
     oneshots: &'a Oneshots,
 ) -> Result<(Asks<'a, R>, Answers<'a>), AllocError>

@@ -2,7 +2,7 @@
 
 /// How long a task has patience. One that gives up does so where it would be polled once more.
 #[derive(Clone, Copy, PartialEq, Eq, Drop)]
-pub enum Patience {
+pub(crate) enum Patience {
     /// It waits to the end.
     Endless,
     /// It asks for each poll, and gives up after so many, in whatever stage it is then.
@@ -14,7 +14,7 @@ pub enum Patience {
 impl Patience {
     /// That of the task with this number. Half of them give up, the restless after none to thirty-one polls and the quiet after
     /// one to four.
-    pub fn of(number: u64) -> Self {
+    pub(crate) fn of(number: u64) -> Self {
         let mixed = number.wrapping_mul(0x9e37_79b9_7f4a_7c15) >> 32;
         match mixed % 8 {
             0 | 1 => Patience::Restless(mixed / 8 % 32),
@@ -24,7 +24,7 @@ impl Patience {
     }
 
     /// What is left of it after a poll.
-    pub fn worn(self) -> Self {
+    pub(crate) fn worn(self) -> Self {
         match self {
             Patience::Endless => Patience::Endless,
             Patience::Restless(left) => Patience::Restless(left.saturating_sub(1)),
@@ -33,12 +33,12 @@ impl Patience {
     }
 
     /// Whether none is left.
-    pub fn is_gone(self) -> bool {
+    pub(crate) fn is_gone(self) -> bool {
         matches!(self, Patience::Restless(0) | Patience::Quiet(0))
     }
 
     /// Whether it asks for each poll.
-    pub fn is_restless(self) -> bool {
+    pub(crate) fn is_restless(self) -> bool {
         matches!(self, Patience::Restless(_))
     }
 }

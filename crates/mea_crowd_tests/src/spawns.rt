@@ -13,14 +13,14 @@ use std::{io, thread};
 
 /// How many tasks were spawned, and how many have ended.
 #[derive(Drop)]
-pub struct Tally {
+pub(crate) struct Tally {
     spawned: AtomicU64,
     ended: AtomicU64,
 }
 
 impl Tally {
     /// None yet.
-    pub fn new() -> Self {
+    pub(crate) fn new() -> Self {
         Tally {
             spawned: AtomicU64::new(0),
             ended: AtomicU64::new(0),
@@ -28,7 +28,7 @@ impl Tally {
     }
 
     /// How many were spawned, and how many of them have ended.
-    pub fn counts(&self) -> (u64, u64) {
+    pub(crate) fn counts(&self) -> (u64, u64) {
         (self.spawned.load(SeqCst), self.ended.load(SeqCst))
     }
 }
@@ -37,16 +37,16 @@ impl Tally {
 const KINDS: u64 = 18;
 
 /// Of which kind the task with this number is, and how many of its kind have a lower number.
-pub fn kind(number: u64) -> (u64, u64) {
+pub(crate) fn kind(number: u64) -> (u64, u64) {
     (number % KINDS, number / KINDS)
 }
 
 /// The kind that meets at the barrier.
-pub const ARRIVES: u64 = 7;
+pub(crate) const ARRIVES: u64 = 7;
 
 /// A task that is given up where its patience has gone.
 #[derive(Drop)]
-pub struct Impatient<'a, F: Future> {
+pub(crate) struct Impatient<'a, F: Future> {
     task: F,
     patience: Patience,
     tally: &'a Tally,
@@ -72,7 +72,7 @@ impl<'a, F: Future<Output = ()>> Future for Impatient<'a, F> {
 }
 
 /// Spawns a task with this much patience.
-pub fn spawn<'a, F: Future<Output = ()>>(
+pub(crate) fn spawn<'a, F: Future<Output = ()>>(
     tasks: &TaskSet<Impatient<'a, F>>,
     tally: &'a Tally,
     task: F,
@@ -94,7 +94,7 @@ pub fn spawn<'a, F: Future<Output = ()>>(
 }
 
 /// What tasks a set is given.
-pub trait Spawns<F: Future> {
+pub(crate) trait Spawns<F: Future> {
     fn spawn_on(self, tasks: &TaskSet<F>) -> Result<(), AllocError>;
 }
 
@@ -123,7 +123,7 @@ fn four_workers<R: Wait + Threads + Sync, F: Future<Output = ()> + Send>(
 }
 
 /// Four threads work at the tasks that are spawned, until none is left.
-pub fn on_four_threads<
+pub(crate) fn on_four_threads<
     R: Wait + Threads + Sync + RandomSource + AllocGlobal,
     F: Future<Output = ()> + Send,
     S: Spawns<F> + Drop,

@@ -12,14 +12,14 @@ use std::sync::atomic::Ordering::SeqCst;
 
 /// A task that waits for what has to be spent, yields with it, and ends it where it drops what it kept.
 #[derive(Drop)]
-pub struct Uses<'a, R: Wait, F: Waits<Bell, O>, O: End> {
+pub(crate) struct Uses<'a, R: Wait, F: Waits<Bell, O>, O: End> {
     turn: Holding<'a, R, F, O>,
     held: Option<Kept<'a, R, O>>,
 }
 
 impl<'a, R: Wait + AllocGlobal, F: Waits<Bell, O>, O: End> Uses<'a, R, F, O> {
     /// One that was never polled.
-    pub fn new(rt: &'a R, turn: F) -> Result<Self, AllocError>
+    pub(crate) fn new(rt: &'a R, turn: F) -> Result<Self, AllocError>
         requires { F.can_poll turn }
         ensures { IfOk result (λ uses. (uses.held ≡ None) × (uses.turn.waiting.wait ≡ Some turn)) }
     {
@@ -54,8 +54,8 @@ impl<'a, R: Wait, F: Waits<Bell, O>, O: End> Future for Uses<'a, R, F, O> {
 
 /// A task that waits for what it then drops.
 #[derive(Drop)]
-pub struct Awaits<F: Future> {
-    pub awaited: F,
+pub(crate) struct Awaits<F: Future> {
+    pub(crate) awaited: F,
 }
 
 impl<O: Drop, F: Future<Output = O>> Future for Awaits<F> {
@@ -73,9 +73,9 @@ impl<O: Drop, F: Future<Output = O>> Future for Awaits<F> {
 
 /// A task that takes messages until no more come.
 #[derive(Drop)]
-pub struct Drains<'a, R: Wait, C: Receives<M>, M> {
-    pub stream: Receiving<'a, R, C, M>,
-    pub taken: &'a AtomicU64,
+pub(crate) struct Drains<'a, R: Wait, C: Receives<M>, M> {
+    pub(crate) stream: Receiving<'a, R, C, M>,
+    pub(crate) taken: &'a AtomicU64,
 }
 
 impl<'a, R: Wait, C: Receives<M>, M: Drop> Future for Drains<'a, R, C, M> {
@@ -92,7 +92,7 @@ impl<'a, R: Wait, C: Receives<M>, M: Drop> Future for Drains<'a, R, C, M> {
 
 /// A value that takes two polls, and is counted where it was computed.
 #[derive(Drop)]
-pub struct Computes<'a, T> {
+pub(crate) struct Computes<'a, T> {
     value: T,
     is_begun: bool,
     computed: &'a AtomicU64,
@@ -100,7 +100,7 @@ pub struct Computes<'a, T> {
 
 impl<'a, T: Drop> Computes<'a, T> {
     /// One that was never polled.
-    pub fn new(value: T, computed: &'a AtomicU64) -> Self {
+    pub(crate) fn new(value: T, computed: &'a AtomicU64) -> Self {
         Computes {
             value,
             is_begun: false,

@@ -1,8 +1,8 @@
 -- an event is played on the hall of its family alone
 use Rattle.std.proofs.Common.{◌≡◌, ℕ, ◌+◌, ◌≤◌, ◌++◌, Bool, true, false, cond, [], length, Result, Ok, Err, is_err, refl, ap, ◌∙◌, arith, append-nil}
 use Rattle.std.specs.Result.{IfOk, OnOk}
-use Rattle.mea_base.specs.declared.answer.Answer.{Answer}
-use Rattle.mea_base.specs.declared.stop.Stop.{Stop}
+use Rattle.mea_family.specs.declared.answer.Answer.{Answer}
+use Rattle.mea_family.specs.declared.stop.Stop.{Stop}
 use Rattle.mea_base.proofs.Totals.{total-empty}
 use Rattle.mea_sem_model.specs.declared.event.SemEvent.{SemEvent}
 use Rattle.mea_sem_model.specs.Hall as sem_hall
@@ -16,8 +16,8 @@ use Rattle.mea_meet_model.specs.Step as meet_step
 use Rattle.mea_meet_model.proofs.MostWoken as meet_most
 use Rattle.mea_meet_model.proofs.Registrations as meet_laws
 use Rattle.mea_meet.specs.Play as meet
-use Rattle.mea_named.specs.Play as named
-use Rattle.mea_named.specs.NamedQueue.{Waiting}
+use Rattle.mea_family.specs.Play as named
+use Rattle.mea_by_name.specs.NamedQueue.{Waiting}
 use Rattle.mea_lock_model.specs.declared.event.LockEvent.{LockEvent}
 use Rattle.mea_lock_model.specs.Locks.{Lock as LockRecord, waiting_at}
 use Rattle.mea_lock_model.specs.LockHall as lock_hall
@@ -40,8 +40,8 @@ use Rattle.mea_once_model.specs.declared.event.OnceEvent.{OnceEvent}
 use Rattle.mea_once_model.specs.OnceHall as once_hall
 use Rattle.mea_once_model.specs.Meaning as once_meaning
 use Rattle.mea_once_model.proofs.Wakers as once_laws
-use Rattle.mea_lines.specs.declared.event.Event.{Event}
-use Rattle.mea_lines.specs.declared.event.Event.TheVariants.{Sem, Meet, Lock, Chan, Share, Once}
+use Rattle.mea_events.specs.declared.event.Event.{Event}
+use Rattle.mea_events.specs.declared.event.Event.TheVariants.{Sem, Meet, Lock, Chan, Share, Once}
 use Rattle.mea_hall.specs.World.{World, OthersStay, empty_world, registered, registers, step}
 use Rattle.mea_hall.specs.Families.{LockPlay, ChanPlay, SharePlay, OncePlay, world_of, PlaysFamilies}
 

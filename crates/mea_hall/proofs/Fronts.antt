@@ -4,10 +4,10 @@ use Rattle.std.proofs.lemmas.List.{take_more, length-take-le, take-append-drop}
 use Rattle.std.proofs.Math.Seq.{drop-cons}
 use Rattle.std.specs.List.{slice_get}
 use Rattle.std.proofs.lemmas.Option.{slice_get-get_or}
-use Rattle.mea_base.specs.declared.answer.Answer.{Answer}
-use Rattle.mea_base.specs.declared.stop.Stop.{Stop}
-use Rattle.mea_base.specs.declared.stop.Stop.TheVariants.{Unknown, Borrowed, Zero, Overflow, NoMemory}
-use Rattle.mea_lines.specs.declared.event.Event.{Event}
+use Rattle.mea_family.specs.declared.answer.Answer.{Answer}
+use Rattle.mea_family.specs.declared.stop.Stop.{Stop}
+use Rattle.mea_family.specs.declared.stop.Stop.TheVariants.{Unknown, Borrowed, Zero, Overflow, NoMemory}
+use Rattle.mea_events.specs.declared.event.Event.{Event}
 use Rattle.mea_hall.specs.World.{World, empty_world, cause_of, step}
 use Rattle.mea_hall.specs.Front.{Front, front_at, front_from, front_of, prepended, IsLegal}
 

@@ -1,11 +1,11 @@
 -- a waker that goes from the halls to the last reply
 use Rattle.std.proofs.Common.{◌≡◌, ℕ, ◌-◌, ◌≤◌, List, [], ◌∷◌, ◌++◌, length, ap, sym, ◌∙◌, arith}
-use Rattle.mea_base.specs.declared.answer.Answer.{Answer}
-use Rattle.mea_lines.specs.declared.event.Event.{Event}
+use Rattle.mea_family.specs.declared.answer.Answer.{Answer}
+use Rattle.mea_events.specs.declared.event.Event.{Event}
 use Rattle.mea_hall.specs.World.{Play, Plays, registered, step}
 use Rattle.mea_hall.proofs.Families.{most_woken}
-use Rattle.mea_lines.specs.Replies.{Told, with_wake}
-use Rattle.mea_lines.proofs.ToldReplies.{Hands, hands_one}
+use Rattle.mea_events.specs.Replies.{Told, with_wake}
+use Rattle.mea_events.proofs.ToldReplies.{Hands, hands_one}
 
 pub record HandsOver (start : Play) (all : List (Answer × List ℕ)) (now : Play) (told : Told) : Type 0 where
   pub hall : now ≡ record start { wakes = now.wakes }

@@ -1,9 +1,9 @@
 -- what was played is a run of each family, so that the laws of runs hold of it
 use Rattle.std.proofs.Common.{◌≡◌, refl, ℕ, zero, suc, ◌+◌, ◌≤◌, List, [], ◌∷◌, Option, Some, None, length, take, ap, sym, subst, ◌∙◌, arith}
 use Rattle.std.proofs.lemmas.List.{take-take}
-use Rattle.mea_base.specs.declared.answer.Answer.{Answer}
-use Rattle.mea_base.specs.declared.stop.Stop.{Stop}
-use Rattle.mea_base.specs.Family.{Family, RunOf, Runs, Starts, Goes, start}
+use Rattle.mea_family.specs.declared.answer.Answer.{Answer}
+use Rattle.mea_family.specs.declared.stop.Stop.{Stop}
+use Rattle.mea_family.specs.Family.{Family, RunOf, IsRun, Starts, Goes, start}
 use Rattle.mea_sem_model.specs.Runs.{semaphores}
 use Rattle.mea_sem_model.proofs.Balanced.{balanced}
 use Rattle.mea_sem_model.proofs.Lives as sem_wakes
@@ -18,8 +18,8 @@ use Rattle.mea_share_model.specs.ShareFamily.{shares_family}
 use Rattle.mea_share_model.proofs.Wakers as share_wakes
 use Rattle.mea_once_model.specs.OnceFamily.{onces_family}
 use Rattle.mea_once_model.proofs.Wakers as once_wakes
-use Rattle.mea_lines.specs.declared.event.Event.{Event}
-use Rattle.mea_lines.specs.declared.event.Event.TheVariants.{Sem, Meet, Lock, Chan, Share, Once}
+use Rattle.mea_events.specs.declared.event.Event.{Event}
+use Rattle.mea_events.specs.declared.event.Event.TheVariants.{Sem, Meet, Lock, Chan, Share, Once}
 use Rattle.mea_hall.specs.World.{World, empty_world, cause_of, step}
 use Rattle.mea_hall.specs.Front.{Front, front_at, front_from, front_of}
 use Rattle.mea_hall.specs.History.{semaphore_part, meet_part, lock_part, chan_part, share_part, once_part, hears, run_from, run_after, AreBalanced, LoseNoWake, GrantInOrder}
@@ -41,7 +41,7 @@ module _ (F : Family) (part : Event → Option F.Event) (hall_in : World → F.H
   -- a run with its world
   record Follows (r : RunOf F) (i : ℕ) (w : World) : Type 0 where
     hall : r.hall ≡ hall_in w
-    runs : Runs F r
+    runs : IsRun F r
     low : r.next ≤ i
 
   -- one more event, which has no cause for refusal
@@ -57,7 +57,7 @@ module _ (F : Family) (part : Event → Option F.Event) (hall_in : World → F.H
           let wakes : (F.step r.hall i d).wakes ≡ (step w i e).reply.1 = ap (λ h. (F.step h i d).wakes) f.hall ∙ told.1 in
           record {
             hall = ap (λ h. (F.step h i d).hall) f.hall ∙ embeds.stepped w i e d is;
-            runs = subst (Runs F) (λ k. record {
+            runs = subst (IsRun F) (λ k. record {
               hall = (F.step r.hall i d).hall;
               trace = record { number = i; before = r.hall; event = d; reply = reply k; wakes = wakes k } ∷ r.trace;
               next = i + 1;
@@ -67,7 +67,7 @@ module _ (F : Family) (part : Event → Option F.Event) (hall_in : World → F.H
           }
 
   runs_from : (r : RunOf F) (i : ℕ) (w : World) → Follows r i w → (es : List Event) (k : ℕ) → k ≤ length (front_from w i es).replies
-      → Runs F (run_from F part r i (take k es) (take k (front_from w i es).replies))
+      → IsRun F (run_from F part r i (take k es) (take k (front_from w i es).replies))
   runs_from r i w f [] zero few = f.runs
   runs_from r i w f [] (suc k) few = f.runs
   runs_from r i w f (e ∷ es) zero few = f.runs
@@ -79,23 +79,23 @@ module _ (F : Family) (part : Event → Option F.Event) (hall_in : World → F.H
       next = front_from (step w i e).world (i + 1) es
 
       by_cause : (c : Option Stop) → cause_of w e ≡ c → suc k ≤ length (front_at c w (step w i e).reply next).replies
-          → (cause_of w e ≡ None → k ≤ length next.replies → Runs F
+          → (cause_of w e ≡ None → k ≤ length next.replies → IsRun F
           (run_from F part (hears F part r i (part e) (step w i e).reply) (i + 1) (take k es) (take k next.replies)))
-          → Runs F (run_from F part r i (e ∷ take k es) (take (suc k) (front_at c w (step w i e).reply next).replies))
+          → IsRun F (run_from F part r i (e ∷ take k es) (take (suc k) (front_at c w (step w i e).reply next).replies))
       by_cause (Some stop) is h later = absurd (omega (arith, h))
       by_cause None is h later = later is (omega (arith, h))
 
-  runs_after : (es : List Event) (i : ℕ) → i ≤ length (front_of es).replies → Runs F (run_after F part es (front_of es).replies i)
+  runs_after : (es : List Event) (i : ℕ) → i ≤ length (front_of es).replies → IsRun F (run_after F part es (front_of es).replies i)
   runs_after es i few = runs_from (start F) 0 empty_world (record { hall = embeds.empty; runs = Starts; low = omega arith }) es i few
 
   -- of a list of events of which the first n were played, with these replies
   played_runs : (es : List Event) (n : ℕ) (w : World) (rs : Replies) → front_of (take n es) ≡ record { world = w; replies = rs; cause = None }
-      → length rs ≡ n → (i : ℕ) → i ≤ length rs → Runs F (run_after F part es rs i)
+      → length rs ≡ n → (i : ℕ) → i ≤ length rs → IsRun F (run_after F part es rs i)
   played_runs es n w rs played counted i few =
       let told : (front_of (take n es)).replies ≡ rs = ap (λ f. f.replies) played in
       let runs = runs_after (take n es) i (subst (λ (ts : Replies). i ≤ length ts) (sym told) few) in
-      subst (λ (ts : Replies). Runs F (run_from F part (start F) 0 (take i es) (take i ts))) told
-      (subst (λ (fs : List Event). Runs F (run_from F part (start F) 0 fs (take i (front_of (take n es)).replies)))
+      subst (λ (ts : Replies). IsRun F (run_from F part (start F) 0 (take i es) (take i ts))) told
+      (subst (λ (fs : List Event). IsRun F (run_from F part (start F) 0 fs (take i (front_of (take n es)).replies)))
       (take-take i n es (omega (arith, few, counted))) runs)
 
 -- ---- each family in the world

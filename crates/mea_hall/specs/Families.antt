@@ -1,14 +1,14 @@
 -- the halls of the families, each with what it has ready
 use Rattle.std.specs.Prelude.{ℕ, ◌+◌, ◌≡◌, ◌≤◌, ◌++◌, false, length}
-use Rattle.mea_base.specs.declared.answer.Answer.{Answer}
+use Rattle.mea_family.specs.declared.answer.Answer.{Answer}
 use Rattle.mea_sem.specs.Play as sem
 use Rattle.mea_meet.specs.Play as meet
-use Rattle.mea_named.specs.Play as named
+use Rattle.mea_family.specs.Play as named
 use Rattle.mea_lock_model.specs.LockHall as lock
 use Rattle.mea_chan_model.specs.ChanHall as chan
 use Rattle.mea_share_model.specs.Admissions as share
 use Rattle.mea_once_model.specs.OnceHall as once
-use Rattle.mea_lines.specs.declared.event.Event.{Event}
+use Rattle.mea_events.specs.declared.event.Event.{Event}
 use Rattle.mea_hall.specs.World.{World, OthersStay, registered, registers, step}
 
 abbrev pub LockPlay : Type 0

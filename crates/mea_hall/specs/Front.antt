@@ -1,8 +1,8 @@
 -- a list of events, played from an empty hall up to the first that has a cause for refusal
 use Rattle.std.specs.Prelude.{ℕ, ◌≡◌, ◌+◌, ◌++◌, List, [], ◌∷◌, Option, Some, None}
-use Rattle.mea_base.specs.declared.answer.Answer.{Answer}
-use Rattle.mea_base.specs.declared.stop.Stop.{Stop}
-use Rattle.mea_lines.specs.declared.event.Event.{Event}
+use Rattle.mea_family.specs.declared.answer.Answer.{Answer}
+use Rattle.mea_family.specs.declared.stop.Stop.{Stop}
+use Rattle.mea_events.specs.declared.event.Event.{Event}
 use Rattle.mea_hall.specs.World.{World, empty_world, cause_of, step}
 
 -- the world after the events that were played, their replies with their wakes, and the cause of the next

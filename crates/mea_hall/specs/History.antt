@@ -1,7 +1,7 @@
 -- what was told of each family by events and their replies, and the laws of every such history
 use Rattle.std.specs.Prelude.{ℕ, ◌+◌, ◌≤◌, List, [], ◌∷◌, Option, Some, None, length, take}
-use Rattle.mea_base.specs.declared.answer.Answer.{Answer}
-use Rattle.mea_base.specs.Family.{Family, RunOf, start, LosesNoWake}
+use Rattle.mea_family.specs.declared.answer.Answer.{Answer}
+use Rattle.mea_family.specs.Family.{Family, RunOf, start, LosesNoWake}
 use Rattle.mea_sem_model.specs.declared.event.SemEvent.{SemEvent}
 use Rattle.mea_sem_model.specs.Runs.{semaphores, Balances}
 use Rattle.mea_sem_model.specs.Order.{GrantsInOrder, WakesInOrder, LetsNobodyPast}
@@ -15,8 +15,8 @@ use Rattle.mea_share_model.specs.declared.event.ShareEvent.{ShareEvent}
 use Rattle.mea_share_model.specs.ShareFamily.{shares_family}
 use Rattle.mea_once_model.specs.declared.event.OnceEvent.{OnceEvent}
 use Rattle.mea_once_model.specs.OnceFamily.{onces_family}
-use Rattle.mea_lines.specs.declared.event.Event.{Event}
-use Rattle.mea_lines.specs.declared.event.Event.TheVariants.{Sem, Meet, Lock, Chan, Share, Once}
+use Rattle.mea_events.specs.declared.event.Event.{Event}
+use Rattle.mea_events.specs.declared.event.Event.TheVariants.{Sem, Meet, Lock, Chan, Share, Once}
 
 -- the event as one of a family, if it is one
 abbrev pub semaphore_part : Event → Option SemEvent

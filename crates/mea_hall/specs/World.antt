@@ -1,9 +1,9 @@
 -- the halls of all families, and what an event does to them
 use Rattle.std.specs.Prelude.{ℕ, ◌+◌, ◌≡◌, ◌++◌, Bool, List, Option, refl}
 use Rattle.std.specs.Coded.{Coded, code_by, coded×, coded_ℕ, coded_list}
-use Rattle.mea_base.specs.declared.answer.Answer.{Answer}
-use Rattle.mea_base.specs.declared.stop.Stop.{Stop}
-use Rattle.mea_base.specs.Family as families
+use Rattle.mea_family.specs.declared.answer.Answer.{Answer}
+use Rattle.mea_family.specs.declared.stop.Stop.{Stop}
+use Rattle.mea_family.specs.Family as families
 use Rattle.mea_sem_model.specs.Hall as sem
 use Rattle.mea_sem_model.specs.Cause as sem_cause
 use Rattle.mea_sem_model.specs.Step as sem_step
@@ -31,8 +31,8 @@ use Rattle.mea_share.specs.Halls as share_plays
 use Rattle.mea_once_model.specs.OnceHall as once
 use Rattle.mea_once_model.specs.Meaning as once_meaning
 use Rattle.mea_once.specs.Halls as once_plays
-use Rattle.mea_lines.specs.declared.event.Event.{Event}
-use Rattle.mea_lines.specs.declared.event.Event.TheVariants.{Sem, Meet, Lock, Chan, Share, Once}
+use Rattle.mea_events.specs.declared.event.Event.{Event}
+use Rattle.mea_events.specs.declared.event.Event.TheVariants.{Sem, Meet, Lock, Chan, Share, Once}
 
 pub record World : Type 0 where
   pub semaphores : sem.Hall

@@ -1,12 +1,13 @@
 ghost use Rattle.std.specs.Prelude.{◌≡◌, ◌≢◌, ◌+◌, ◌-◌, ◌^◌, ◌<◌, ◌≤◌, ◌∷◌, [], ◌++◌, ◌⊎◌, ℕ, length, true, false, None, Some, OnOk, OnErr, IfOk, IfErr, IfSome, IfNone};
-ghost use Rattle.mea_lines.specs.declared.event.Event.{Event as Line};
+ghost use Rattle.mea_events.specs.declared.event.Event.{Event as Line};
 ghost use Rattle.mea_hall.specs.World.{empty_world, Play, Plays, OthersStay, IsValid, TakesNoMemory, cause_of, registered, registers};
 ghost use Rattle.mea_hall.specs.Families.{world_of, PlaysFamilies};
 
 use crate::waking::move_wakes;
-use mea_base::{Answer, NoMemory, Outbox, Stop};
+use mea_base::{NoMemory, Outbox};
 use mea_chan::{ChanEvent, ChanHall};
-use mea_lines::Event;
+use mea_events::Event;
+use mea_family::{Answer, Stop};
 use mea_lock::{LockEvent, LockHall};
 use mea_meet::MeetHall;
 use mea_meet_model::validity_is_kept;

@@ -1,5 +1,5 @@
 ghost use Rattle.std.specs.Prelude.{List};
-ghost use Rattle.mea_lines.specs.declared.event.Event.{Event as Line};
+ghost use Rattle.mea_events.specs.declared.event.Event.{Event as Line};
 ghost use Rattle.mea_hall.specs.Front.{front_of};
 ghost use Rattle.mea_hall.specs.History.{AreBalanced, LoseNoWake, GrantInOrder};
 

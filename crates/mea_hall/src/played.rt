@@ -1,14 +1,14 @@
 ghost use Rattle.std.specs.Prelude.{◌≡◌, ◌≢◌, ◌+◌, ◌-◌, ◌^◌, ◌<◌, ◌≤◌, ◌∷◌, [], ◌++◌, ◌⊎◌, length, take, Some, None, OnOk, OnErr, IfErr, slice_get};
-ghost use Rattle.mea_base.specs.declared.answer.Answer.{Answer as Reply};
-ghost use Rattle.mea_lines.specs.declared.event.Event.{Event as Line};
+ghost use Rattle.mea_family.specs.declared.answer.Answer.{Answer as Reply};
+ghost use Rattle.mea_events.specs.declared.event.Event.{Event as Line};
 ghost use Rattle.mea_hall.specs.World.{cause_of, step};
 ghost use Rattle.mea_hall.specs.Front.{Front, front_of, IsLegal};
 ghost use Rattle.mea_hall.specs.History.{AreBalanced, LoseNoWake, GrantInOrder};
-ghost use Rattle.mea_lines.specs.Replies.{with_wakes};
+ghost use Rattle.mea_events.specs.Replies.{with_wakes};
 
 use crate::hall::Hall;
-use mea_base::Stop;
-use mea_lines::{Event, Replies};
+use mea_events::{Event, Replies};
+use mea_family::Stop;
 use std::alloc::Global;
 
 /// A list of events that was played up to the first that was refused, whose number is that of the replies.

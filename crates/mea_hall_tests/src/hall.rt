@@ -1,8 +1,10 @@
-use mea_base::{Answer, Stop};
+use mea_events::{Event, Replies};
+use mea_family::{Answer, Stop};
 use mea_hall::{Hall, Played, replay};
-use mea_lines::{Event, Replies, lines_have_one_spelling, put_number, put_reply, put_text};
+use mea_lines::lines_have_one_spelling;
 use mea_meet::MeetEvent;
 use mea_sem_model::SemEvent;
+use mea_text::{put_number, put_reply, put_text};
 use std::alloc::Global;
 
 // An expected reply: its number, its answer, and the waker that its event made ready.

@@ -1,8 +1,22 @@
-//! Tests of the calls of the hall of all families and of the program's sources and sinks, by their public
-//! contracts alone. It has no code but tests.
+//! Tests of the halls of all families, by their public contracts alone: each family's as tables of events with their
+//! replies and wakes, the hall of all, and the program's sources and sinks. It has no code but tests.
 #![tactic(auto)]
 
 #[cfg(test)]
+mod chan;
+#[cfg(test)]
 mod hall;
 #[cfg(test)]
+mod lock;
+#[cfg(test)]
+mod meet;
+#[cfg(test)]
+mod once;
+#[cfg(test)]
+mod play;
+#[cfg(test)]
 mod run;
+#[cfg(test)]
+mod sem;
+#[cfg(test)]
+mod share;

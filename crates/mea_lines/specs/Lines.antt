@@ -1,24 +1,19 @@
--- the event of a line: the families of events in turn
+-- the event of a line: a word without a dot is of a semaphore, and else the mark before the dot tells the table
 use Rattle.std.specs.Prelude.{ℕ, List, Option, Some}
-use Rattle.std.specs.Option.{option_or}
-use Rattle.mea_lines.specs.declared.event.Event.{Event}
-use Rattle.mea_lines.specs.declared.event.Event.TheVariants.{Sem, Meet, Lock, Chan, Share, Once}
-use Rattle.mea_lines.specs.Words.{◌>>=◌}
-use Rattle.mea_lines.specs.SemLines.{semaphore_event}
-use Rattle.mea_lines.specs.MeetLines.{meet_event, bare_meet_event}
-use Rattle.mea_lines.specs.LockLines.{lock_event, bare_lock_event}
-use Rattle.mea_lines.specs.ChanLines.{chan_event, bare_chan_event}
-use Rattle.mea_lines.specs.ShareLines.{share_event}
-use Rattle.mea_lines.specs.OnceLines.{once_event, bare_once_event}
-pub use Rattle.mea_lines.specs.Words.{cut}
+use Rattle.std.specs.Option.{option_map_or}
+use Rattle.mea_events.specs.declared.event.Event.{Event}
+use Rattle.mea_events.specs.declared.event.Event.TheVariants.{Sem}
+use Rattle.mea_text.specs.declared.numbers.Numbers.{Numbers}
+use Rattle.mea_text.specs.declared.numbers.Numbers.TheVariants.{Bare}
+use Rattle.mea_text.specs.Words.{◌>>=◌, cut, numbers_of}
+use Rattle.mea_text.specs.Tables.{of_table}
+use Rattle.mea_lines.specs.SemLines.{semaphore_lines}
+use Rattle.mea_lines.specs.Marks.{marks, of_marks}
 
 -- the event of a word, and of the numbers after it
-abbrev pub numbered_event : List ℕ → List ℕ → Option Event
-numbered_event word rest = option_or (option_or (option_or (option_or (option_or (semaphore_event word rest >>= (λ event. Some (Sem event))) (meet_event word rest >>= (λ event. Some (Meet event)))) (lock_event word rest >>= (λ event. Some (Lock event)))) (chan_event word rest >>= (λ event. Some (Chan event)))) (share_event word rest >>= (λ event. Some (Share event)))) (once_event word rest >>= (λ event. Some (Once event)))
+unfoldable pub event_of_word : List ℕ → Numbers → Option Event
+event_of_word word numbers = option_map_or (λ parts. of_marks marks parts.0 parts.1 numbers) (cut 46 word) (of_table semaphore_lines word numbers >>= (λ event. Some (Sem event)))
 
--- the event of a word alone
-abbrev pub bare_event : List ℕ → Option Event
-bare_event line = option_or (option_or (option_or (bare_meet_event line >>= (λ event. Some (Meet event))) (bare_lock_event line >>= (λ event. Some (Lock event)))) (bare_chan_event line >>= (λ event. Some (Chan event)))) (bare_once_event line >>= (λ event. Some (Once event)))
-
+-- the event of a line, if it is one
 abbrev pub event_of : List ℕ → Option Event
-event_of line = option_or (cut 32 line >>= (λ parts. numbered_event parts.0 parts.1)) (bare_event line)
+event_of line = option_map_or (λ parts. numbers_of parts.1 >>= event_of_word parts.0) (cut 32 line) (event_of_word line Bare)

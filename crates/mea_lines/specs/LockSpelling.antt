@@ -1,94 +1,55 @@
 -- how an event of a lock is spelled
-use Rattle.std.specs.Prelude.{ℕ, List, [], ◌∷◌, codes}
+use Rattle.std.specs.Prelude.{ℕ, List, codes}
 use Rattle.mea_lock_model.specs.declared.event.LockEvent.{LockEvent}
-use Rattle.mea_lock_model.specs.declared.event.LockEvent.TheVariants.{MxNew, MxLock, MxLocko, MxPoll, MxTry, MxTryo, MxGet, MxSet, MxEnd, MxPeek, MxPut, MxInto, MxDrop, RwNew, RwMax, RwRead, RwReado, RwWrite, RwWriteo, RwPoll, RwTryr, RwTryro, RwTryw, RwTrywo, RwDown, RwGet, RwSet, RwEnd, RwPeek, RwPut, RwInto, RwDrop, CvNew, CvWait, CvWaitw, CvPoll, CvOne, CvAll, CvEnd, CvDrop}
-use Rattle.mea_lines.specs.Number.{AreFit}
+use Rattle.mea_lock_model.specs.declared.event.LockEvent.TheVariants as Lock
+use Rattle.mea_text.specs.declared.numbers.Numbers.{Numbers}
+use Rattle.mea_text.specs.declared.numbers.Numbers.TheVariants.{Bare, One, Two, Three}
+use Rattle.mea_text.specs.Number.{AreFit}
+use Rattle.mea_text.specs.Words.{listed}
 
-abbrev pub lock_word : LockEvent → List ℕ
-lock_word (MxNew v) = codes "mx.new"
-lock_word (MxLock m) = codes "mx.lock"
-lock_word (MxLocko m) = codes "mx.locko"
-lock_word (MxPoll f w) = codes "mx.poll"
-lock_word (MxTry m) = codes "mx.try"
-lock_word (MxTryo m) = codes "mx.tryo"
-lock_word (MxGet g) = codes "mx.get"
-lock_word (MxSet g v) = codes "mx.set"
-lock_word (MxEnd x) = codes "mx.end"
-lock_word (MxPeek m) = codes "mx.peek"
-lock_word (MxPut m v) = codes "mx.put"
-lock_word (MxInto m) = codes "mx.into"
-lock_word (MxDrop m) = codes "mx.drop"
-lock_word (RwNew v) = codes "rw.new"
-lock_word (RwMax v n) = codes "rw.max"
-lock_word (RwRead l) = codes "rw.read"
-lock_word (RwReado l) = codes "rw.reado"
-lock_word (RwWrite l) = codes "rw.write"
-lock_word (RwWriteo l) = codes "rw.writeo"
-lock_word (RwPoll f w) = codes "rw.poll"
-lock_word (RwTryr l) = codes "rw.tryr"
-lock_word (RwTryro l) = codes "rw.tryro"
-lock_word (RwTryw l) = codes "rw.tryw"
-lock_word (RwTrywo l) = codes "rw.trywo"
-lock_word (RwDown g) = codes "rw.down"
-lock_word (RwGet g) = codes "rw.get"
-lock_word (RwSet g v) = codes "rw.set"
-lock_word (RwEnd x) = codes "rw.end"
-lock_word (RwPeek l) = codes "rw.peek"
-lock_word (RwPut l v) = codes "rw.put"
-lock_word (RwInto l) = codes "rw.into"
-lock_word (RwDrop l) = codes "rw.drop"
-lock_word CvNew = codes "cv.new"
-lock_word (CvWait c g) = codes "cv.wait"
-lock_word (CvWaitw c g v) = codes "cv.waitw"
-lock_word (CvPoll f w) = codes "cv.poll"
-lock_word (CvOne c) = codes "cv.one"
-lock_word (CvAll c) = codes "cv.all"
-lock_word (CvEnd f) = codes "cv.end"
-lock_word (CvDrop c) = codes "cv.drop"
-
--- the numbers after the word, in their order
-abbrev pub lock_numbers : LockEvent → List ℕ
-lock_numbers (MxNew v) = v ∷ []
-lock_numbers (MxLock m) = m ∷ []
-lock_numbers (MxLocko m) = m ∷ []
-lock_numbers (MxPoll f w) = f ∷ w ∷ []
-lock_numbers (MxTry m) = m ∷ []
-lock_numbers (MxTryo m) = m ∷ []
-lock_numbers (MxGet g) = g ∷ []
-lock_numbers (MxSet g v) = g ∷ v ∷ []
-lock_numbers (MxEnd x) = x ∷ []
-lock_numbers (MxPeek m) = m ∷ []
-lock_numbers (MxPut m v) = m ∷ v ∷ []
-lock_numbers (MxInto m) = m ∷ []
-lock_numbers (MxDrop m) = m ∷ []
-lock_numbers (RwNew v) = v ∷ []
-lock_numbers (RwMax v n) = v ∷ n ∷ []
-lock_numbers (RwRead l) = l ∷ []
-lock_numbers (RwReado l) = l ∷ []
-lock_numbers (RwWrite l) = l ∷ []
-lock_numbers (RwWriteo l) = l ∷ []
-lock_numbers (RwPoll f w) = f ∷ w ∷ []
-lock_numbers (RwTryr l) = l ∷ []
-lock_numbers (RwTryro l) = l ∷ []
-lock_numbers (RwTryw l) = l ∷ []
-lock_numbers (RwTrywo l) = l ∷ []
-lock_numbers (RwDown g) = g ∷ []
-lock_numbers (RwGet g) = g ∷ []
-lock_numbers (RwSet g v) = g ∷ v ∷ []
-lock_numbers (RwEnd x) = x ∷ []
-lock_numbers (RwPeek l) = l ∷ []
-lock_numbers (RwPut l v) = l ∷ v ∷ []
-lock_numbers (RwInto l) = l ∷ []
-lock_numbers (RwDrop l) = l ∷ []
-lock_numbers CvNew = []
-lock_numbers (CvWait c g) = c ∷ g ∷ []
-lock_numbers (CvWaitw c g v) = c ∷ g ∷ v ∷ []
-lock_numbers (CvPoll f w) = f ∷ w ∷ []
-lock_numbers (CvOne c) = c ∷ []
-lock_numbers (CvAll c) = c ∷ []
-lock_numbers (CvEnd f) = f ∷ []
-lock_numbers (CvDrop c) = c ∷ []
+-- its word, and the numbers after it in their order
+abbrev pub lock_said : LockEvent → List ℕ × Numbers
+lock_said (Lock.MxNew v) = (codes "mx.new", One v)
+lock_said (Lock.MxLock m) = (codes "mx.lock", One m)
+lock_said (Lock.MxLocko m) = (codes "mx.locko", One m)
+lock_said (Lock.MxPoll f w) = (codes "mx.poll", Two f w)
+lock_said (Lock.MxTry m) = (codes "mx.try", One m)
+lock_said (Lock.MxTryo m) = (codes "mx.tryo", One m)
+lock_said (Lock.MxGet g) = (codes "mx.get", One g)
+lock_said (Lock.MxSet g v) = (codes "mx.set", Two g v)
+lock_said (Lock.MxEnd x) = (codes "mx.end", One x)
+lock_said (Lock.MxPeek m) = (codes "mx.peek", One m)
+lock_said (Lock.MxPut m v) = (codes "mx.put", Two m v)
+lock_said (Lock.MxInto m) = (codes "mx.into", One m)
+lock_said (Lock.MxDrop m) = (codes "mx.drop", One m)
+lock_said (Lock.RwNew v) = (codes "rw.new", One v)
+lock_said (Lock.RwMax v n) = (codes "rw.max", Two v n)
+lock_said (Lock.RwRead l) = (codes "rw.read", One l)
+lock_said (Lock.RwReado l) = (codes "rw.reado", One l)
+lock_said (Lock.RwWrite l) = (codes "rw.write", One l)
+lock_said (Lock.RwWriteo l) = (codes "rw.writeo", One l)
+lock_said (Lock.RwPoll f w) = (codes "rw.poll", Two f w)
+lock_said (Lock.RwTryr l) = (codes "rw.tryr", One l)
+lock_said (Lock.RwTryro l) = (codes "rw.tryro", One l)
+lock_said (Lock.RwTryw l) = (codes "rw.tryw", One l)
+lock_said (Lock.RwTrywo l) = (codes "rw.trywo", One l)
+lock_said (Lock.RwGet g) = (codes "rw.get", One g)
+lock_said (Lock.RwSet g v) = (codes "rw.set", Two g v)
+lock_said (Lock.RwDown g) = (codes "rw.down", One g)
+lock_said (Lock.RwEnd x) = (codes "rw.end", One x)
+lock_said (Lock.RwPeek l) = (codes "rw.peek", One l)
+lock_said (Lock.RwPut l v) = (codes "rw.put", Two l v)
+lock_said (Lock.RwInto l) = (codes "rw.into", One l)
+lock_said (Lock.RwDrop l) = (codes "rw.drop", One l)
+lock_said Lock.CvNew = (codes "cv.new", Bare)
+lock_said (Lock.CvWait c g) = (codes "cv.wait", Two c g)
+lock_said (Lock.CvWaitw c g v) = (codes "cv.waitw", Three c g v)
+lock_said (Lock.CvPoll f w) = (codes "cv.poll", Two f w)
+lock_said (Lock.CvOne c) = (codes "cv.one", One c)
+lock_said (Lock.CvAll c) = (codes "cv.all", One c)
+lock_said (Lock.CvEnd f) = (codes "cv.end", One f)
+lock_said (Lock.CvDrop c) = (codes "cv.drop", One c)
 
 -- each number fits its type
 abbrev pub LockFits : LockEvent → Type 0
-LockFits e = AreFit (lock_numbers e)
+LockFits e = AreFit (listed (lock_said e).1)

@@ -1,67 +1,67 @@
--- the lines of calls that run once and of cells, and with those of maps and groups all lines of once types
-use Rattle.std.specs.Prelude.{ℕ, List, Option, Some, None, codes, if◌then◌else◌}
-use Rattle.std.specs.Option.{option_or}
-use Rattle.std.specs.Str.{bytes_eq}
+-- the lines of once types
+use Rattle.std.specs.Prelude.{ℕ, List, [], ◌∷◌, codes}
 use Rattle.mea_once_model.specs.declared.event.OnceEvent.{OnceEvent}
-use Rattle.mea_once_model.specs.declared.event.OnceEvent.TheVariants.{OnNew, OnDone, OnCall, OnWait, OnPoll, OnSettle, OnEnd, OnDrop, OcNew, OcFrom, OcGet, OcInit, OcSet, OcIns, OcMinit, OcPoll, OcSettle, OcFail, OcEnd, OcPeek, OcPut, OcTake, OcInto, OcDrop, OmNew, SfNew}
-use Rattle.mea_lines.specs.Words.{with_number, with_numbers}
-use Rattle.mea_lines.specs.KeyLines.{key_event}
+use Rattle.mea_once_model.specs.declared.event.OnceEvent.TheVariants as Once
+use Rattle.mea_text.specs.Tables.{Line, alone, one, two}
 
--- the lines that speak of a call that runs once, and of its futures
-abbrev pub call_event : List ℕ → List ℕ → Option OnceEvent
-call_event word rest =
-    if bytes_eq word (codes "on.done") then with_number OnDone rest
-    else if bytes_eq word (codes "on.call") then with_number OnCall rest
-    else if bytes_eq word (codes "on.wait") then with_number OnWait rest
-    else if bytes_eq word (codes "on.poll") then with_numbers OnPoll rest
-    else if bytes_eq word (codes "on.settle") then with_number OnSettle rest
-    else if bytes_eq word (codes "on.end") then with_number OnEnd rest
-    else if bytes_eq word (codes "on.drop") then with_number OnDrop rest
-    else None
+-- on: the lines that speak of a call that runs once, and of its futures
+unfoldable pub call_lines : List (Line OnceEvent)
+call_lines =
+    alone (codes "new") Once.OnNew ∷
+    one (codes "done") Once.OnDone ∷
+    one (codes "call") Once.OnCall ∷
+    one (codes "wait") Once.OnWait ∷
+    two (codes "poll") Once.OnPoll ∷
+    one (codes "settle") Once.OnSettle ∷
+    one (codes "end") Once.OnEnd ∷
+    one (codes "drop") Once.OnDrop ∷
+    []
 
--- the lines that make a cell and its futures
-abbrev pub cell_event : List ℕ → List ℕ → Option OnceEvent
-cell_event word rest =
-    if bytes_eq word (codes "oc.from") then with_number OcFrom rest
-    else if bytes_eq word (codes "oc.get") then with_number OcGet rest
-    else if bytes_eq word (codes "oc.init") then with_number OcInit rest
-    else if bytes_eq word (codes "oc.set") then with_numbers OcSet rest
-    else if bytes_eq word (codes "oc.ins") then with_numbers OcIns rest
-    else if bytes_eq word (codes "oc.minit") then with_number OcMinit rest
-    else None
+-- oc: the lines that speak of a cell and its futures
+unfoldable pub cell_lines : List (Line OnceEvent)
+cell_lines =
+    alone (codes "new") Once.OcNew ∷
+    one (codes "from") Once.OcFrom ∷
+    one (codes "get") Once.OcGet ∷
+    one (codes "init") Once.OcInit ∷
+    two (codes "set") Once.OcSet ∷
+    two (codes "ins") Once.OcIns ∷
+    one (codes "minit") Once.OcMinit ∷
+    two (codes "poll") Once.OcPoll ∷
+    two (codes "settle") Once.OcSettle ∷
+    two (codes "fail") Once.OcFail ∷
+    one (codes "end") Once.OcEnd ∷
+    one (codes "peek") Once.OcPeek ∷
+    two (codes "put") Once.OcPut ∷
+    one (codes "take") Once.OcTake ∷
+    one (codes "into") Once.OcInto ∷
+    one (codes "drop") Once.OcDrop ∷
+    []
 
--- the lines that speak of the futures of a cell
-abbrev pub cell_wait_event : List ℕ → List ℕ → Option OnceEvent
-cell_wait_event word rest =
-    if bytes_eq word (codes "oc.poll") then with_numbers OcPoll rest
-    else if bytes_eq word (codes "oc.settle") then with_numbers OcSettle rest
-    else if bytes_eq word (codes "oc.fail") then with_numbers OcFail rest
-    else if bytes_eq word (codes "oc.end") then with_number OcEnd rest
-    else None
+-- om: the lines that speak of a map and its futures
+unfoldable pub map_lines : List (Line OnceEvent)
+map_lines =
+    alone (codes "new") Once.OmNew ∷
+    two (codes "get") Once.OmGet ∷
+    two (codes "compute") Once.OmCompute ∷
+    two (codes "poll") Once.OmPoll ∷
+    two (codes "settle") Once.OmSettle ∷
+    two (codes "fail") Once.OmFail ∷
+    two (codes "discard") Once.OmDiscard ∷
+    two (codes "remove") Once.OmRemove ∷
+    one (codes "end") Once.OmEnd ∷
+    one (codes "drop") Once.OmDrop ∷
+    []
 
--- the lines that use a cell alone, and its end
-abbrev pub cell_use_event : List ℕ → List ℕ → Option OnceEvent
-cell_use_event word rest =
-    if bytes_eq word (codes "oc.peek") then with_number OcPeek rest
-    else if bytes_eq word (codes "oc.put") then with_numbers OcPut rest
-    else if bytes_eq word (codes "oc.take") then with_number OcTake rest
-    else if bytes_eq word (codes "oc.into") then with_number OcInto rest
-    else if bytes_eq word (codes "oc.drop") then with_number OcDrop rest
-    else None
-
--- the lines that are a word alone
-abbrev pub bare_once_event : List ℕ → Option OnceEvent
-bare_once_event line =
-    if bytes_eq line (codes "on.new") then Some OnNew
-    else if bytes_eq line (codes "oc.new") then Some OcNew
-    else if bytes_eq line (codes "om.new") then Some OmNew
-    else if bytes_eq line (codes "sf.new") then Some SfNew
-    else None
-
--- the event of a call or a cell of a word, and of what stands after it
-abbrev pub call_or_cell_event : List ℕ → List ℕ → Option OnceEvent
-call_or_cell_event word rest = option_or (option_or (option_or (call_event word rest) (cell_event word rest)) (cell_wait_event word rest)) (cell_use_event word rest)
-
--- or of a map or a group
-abbrev pub once_event : List ℕ → List ℕ → Option OnceEvent
-once_event word rest = option_or (call_or_cell_event word rest) (key_event word rest)
+-- sf: the lines that speak of a group that works once for a key, and of its futures
+unfoldable pub work_lines : List (Line OnceEvent)
+work_lines =
+    alone (codes "new") Once.SfNew ∷
+    two (codes "work") Once.SfWork ∷
+    two (codes "poll") Once.SfPoll ∷
+    two (codes "settle") Once.SfSettle ∷
+    two (codes "fail") Once.SfFail ∷
+    two (codes "forget") Once.SfForget ∷
+    one (codes "end") Once.SfEnd ∷
+    one (codes "drop") Once.SfDrop ∷
+    []

@@ -1,98 +1,57 @@
 -- how an event of once types is spelled
-use Rattle.std.specs.Prelude.{ℕ, List, [], ◌∷◌, codes}
+use Rattle.std.specs.Prelude.{ℕ, List, codes}
 use Rattle.mea_once_model.specs.declared.event.OnceEvent.{OnceEvent}
-use Rattle.mea_once_model.specs.declared.event.OnceEvent.TheVariants.{OnNew, OnDone, OnCall, OnWait, OnPoll, OnSettle, OnEnd, OnDrop, OcNew, OcFrom, OcGet, OcInit, OcSet, OcIns, OcMinit, OcPoll, OcSettle, OcFail, OcEnd, OcPeek, OcPut, OcTake, OcInto, OcDrop, OmNew, OmGet, OmCompute, OmPoll, OmSettle, OmFail, OmDiscard, OmRemove, OmEnd, OmDrop, SfNew, SfWork, SfPoll, SfSettle, SfFail, SfForget, SfEnd, SfDrop}
-use Rattle.mea_lines.specs.Number.{AreFit}
+use Rattle.mea_once_model.specs.declared.event.OnceEvent.TheVariants as Once
+use Rattle.mea_text.specs.declared.numbers.Numbers.{Numbers}
+use Rattle.mea_text.specs.declared.numbers.Numbers.TheVariants.{Bare, One, Two}
+use Rattle.mea_text.specs.Number.{AreFit}
+use Rattle.mea_text.specs.Words.{listed}
 
-abbrev pub once_word : OnceEvent → List ℕ
-once_word OnNew = codes "on.new"
-once_word (OnDone o) = codes "on.done"
-once_word (OnCall o) = codes "on.call"
-once_word (OnWait o) = codes "on.wait"
-once_word (OnPoll f w) = codes "on.poll"
-once_word (OnSettle f) = codes "on.settle"
-once_word (OnEnd f) = codes "on.end"
-once_word (OnDrop o) = codes "on.drop"
-once_word OcNew = codes "oc.new"
-once_word (OcFrom v) = codes "oc.from"
-once_word (OcGet c) = codes "oc.get"
-once_word (OcInit c) = codes "oc.init"
-once_word (OcSet c v) = codes "oc.set"
-once_word (OcIns c v) = codes "oc.ins"
-once_word (OcMinit c) = codes "oc.minit"
-once_word (OcPoll f w) = codes "oc.poll"
-once_word (OcSettle f v) = codes "oc.settle"
-once_word (OcFail f e) = codes "oc.fail"
-once_word (OcEnd f) = codes "oc.end"
-once_word (OcPeek c) = codes "oc.peek"
-once_word (OcPut c v) = codes "oc.put"
-once_word (OcTake c) = codes "oc.take"
-once_word (OcInto c) = codes "oc.into"
-once_word (OcDrop c) = codes "oc.drop"
-once_word OmNew = codes "om.new"
-once_word (OmGet m k) = codes "om.get"
-once_word (OmCompute m k) = codes "om.compute"
-once_word (OmPoll f w) = codes "om.poll"
-once_word (OmSettle f v) = codes "om.settle"
-once_word (OmFail f e) = codes "om.fail"
-once_word (OmDiscard m k) = codes "om.discard"
-once_word (OmRemove m k) = codes "om.remove"
-once_word (OmEnd f) = codes "om.end"
-once_word (OmDrop m) = codes "om.drop"
-once_word SfNew = codes "sf.new"
-once_word (SfWork g k) = codes "sf.work"
-once_word (SfPoll f w) = codes "sf.poll"
-once_word (SfSettle f v) = codes "sf.settle"
-once_word (SfFail f e) = codes "sf.fail"
-once_word (SfForget g k) = codes "sf.forget"
-once_word (SfEnd f) = codes "sf.end"
-once_word (SfDrop g) = codes "sf.drop"
-
--- the numbers after the word, in their order
-abbrev pub once_numbers : OnceEvent → List ℕ
-once_numbers OnNew = []
-once_numbers (OnDone o) = o ∷ []
-once_numbers (OnCall o) = o ∷ []
-once_numbers (OnWait o) = o ∷ []
-once_numbers (OnPoll f w) = f ∷ w ∷ []
-once_numbers (OnSettle f) = f ∷ []
-once_numbers (OnEnd f) = f ∷ []
-once_numbers (OnDrop o) = o ∷ []
-once_numbers OcNew = []
-once_numbers (OcFrom v) = v ∷ []
-once_numbers (OcGet c) = c ∷ []
-once_numbers (OcInit c) = c ∷ []
-once_numbers (OcSet c v) = c ∷ v ∷ []
-once_numbers (OcIns c v) = c ∷ v ∷ []
-once_numbers (OcMinit c) = c ∷ []
-once_numbers (OcPoll f w) = f ∷ w ∷ []
-once_numbers (OcSettle f v) = f ∷ v ∷ []
-once_numbers (OcFail f e) = f ∷ e ∷ []
-once_numbers (OcEnd f) = f ∷ []
-once_numbers (OcPeek c) = c ∷ []
-once_numbers (OcPut c v) = c ∷ v ∷ []
-once_numbers (OcTake c) = c ∷ []
-once_numbers (OcInto c) = c ∷ []
-once_numbers (OcDrop c) = c ∷ []
-once_numbers OmNew = []
-once_numbers (OmGet m k) = m ∷ k ∷ []
-once_numbers (OmCompute m k) = m ∷ k ∷ []
-once_numbers (OmPoll f w) = f ∷ w ∷ []
-once_numbers (OmSettle f v) = f ∷ v ∷ []
-once_numbers (OmFail f e) = f ∷ e ∷ []
-once_numbers (OmDiscard m k) = m ∷ k ∷ []
-once_numbers (OmRemove m k) = m ∷ k ∷ []
-once_numbers (OmEnd f) = f ∷ []
-once_numbers (OmDrop m) = m ∷ []
-once_numbers SfNew = []
-once_numbers (SfWork g k) = g ∷ k ∷ []
-once_numbers (SfPoll f w) = f ∷ w ∷ []
-once_numbers (SfSettle f v) = f ∷ v ∷ []
-once_numbers (SfFail f e) = f ∷ e ∷ []
-once_numbers (SfForget g k) = g ∷ k ∷ []
-once_numbers (SfEnd f) = f ∷ []
-once_numbers (SfDrop g) = g ∷ []
+-- its word, and the numbers after it in their order
+abbrev pub once_said : OnceEvent → List ℕ × Numbers
+once_said Once.OnNew = (codes "on.new", Bare)
+once_said (Once.OnDone o) = (codes "on.done", One o)
+once_said (Once.OnCall o) = (codes "on.call", One o)
+once_said (Once.OnWait o) = (codes "on.wait", One o)
+once_said (Once.OnPoll f w) = (codes "on.poll", Two f w)
+once_said (Once.OnSettle f) = (codes "on.settle", One f)
+once_said (Once.OnEnd f) = (codes "on.end", One f)
+once_said (Once.OnDrop o) = (codes "on.drop", One o)
+once_said Once.OcNew = (codes "oc.new", Bare)
+once_said (Once.OcFrom v) = (codes "oc.from", One v)
+once_said (Once.OcGet c) = (codes "oc.get", One c)
+once_said (Once.OcInit c) = (codes "oc.init", One c)
+once_said (Once.OcSet c v) = (codes "oc.set", Two c v)
+once_said (Once.OcIns c v) = (codes "oc.ins", Two c v)
+once_said (Once.OcMinit c) = (codes "oc.minit", One c)
+once_said (Once.OcPoll f w) = (codes "oc.poll", Two f w)
+once_said (Once.OcSettle f v) = (codes "oc.settle", Two f v)
+once_said (Once.OcFail f e) = (codes "oc.fail", Two f e)
+once_said (Once.OcEnd f) = (codes "oc.end", One f)
+once_said (Once.OcPeek c) = (codes "oc.peek", One c)
+once_said (Once.OcPut c v) = (codes "oc.put", Two c v)
+once_said (Once.OcTake c) = (codes "oc.take", One c)
+once_said (Once.OcInto c) = (codes "oc.into", One c)
+once_said (Once.OcDrop c) = (codes "oc.drop", One c)
+once_said Once.OmNew = (codes "om.new", Bare)
+once_said (Once.OmGet m k) = (codes "om.get", Two m k)
+once_said (Once.OmCompute m k) = (codes "om.compute", Two m k)
+once_said (Once.OmPoll f w) = (codes "om.poll", Two f w)
+once_said (Once.OmSettle f v) = (codes "om.settle", Two f v)
+once_said (Once.OmFail f e) = (codes "om.fail", Two f e)
+once_said (Once.OmDiscard m k) = (codes "om.discard", Two m k)
+once_said (Once.OmRemove m k) = (codes "om.remove", Two m k)
+once_said (Once.OmEnd f) = (codes "om.end", One f)
+once_said (Once.OmDrop m) = (codes "om.drop", One m)
+once_said Once.SfNew = (codes "sf.new", Bare)
+once_said (Once.SfWork g k) = (codes "sf.work", Two g k)
+once_said (Once.SfPoll f w) = (codes "sf.poll", Two f w)
+once_said (Once.SfSettle f v) = (codes "sf.settle", Two f v)
+once_said (Once.SfFail f e) = (codes "sf.fail", Two f e)
+once_said (Once.SfForget g k) = (codes "sf.forget", Two g k)
+once_said (Once.SfEnd f) = (codes "sf.end", One f)
+once_said (Once.SfDrop g) = (codes "sf.drop", One g)
 
 -- each number fits its type
 abbrev pub OnceFits : OnceEvent → Type 0
-OnceFits e = AreFit (once_numbers e)
+OnceFits e = AreFit (listed (once_said e).1)

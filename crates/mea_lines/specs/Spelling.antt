@@ -1,23 +1,29 @@
 -- how an event is spelled in a line
 use Rattle.std.specs.Prelude.{ℕ, ◌++◌, List}
-use Rattle.mea_lines.specs.declared.event.Event.{Event}
-use Rattle.mea_lines.specs.declared.event.Event.TheVariants.{Sem, Meet, Lock, Chan, Share, Once}
-use Rattle.mea_lines.specs.Text.{numbers_text}
-use Rattle.mea_lines.specs.SemSpelling.{semaphore_word, semaphore_numbers, SemaphoreFits}
-use Rattle.mea_lines.specs.MeetSpelling.{meet_word, meet_numbers, MeetFits}
-use Rattle.mea_lines.specs.LockSpelling.{lock_word, lock_numbers, LockFits}
-use Rattle.mea_lines.specs.ChanSpelling.{chan_word, chan_numbers, ChanFits}
-use Rattle.mea_lines.specs.ShareSpelling.{share_word, share_numbers, ShareFits}
-use Rattle.mea_lines.specs.OnceSpelling.{once_word, once_numbers, OnceFits}
+use Rattle.mea_events.specs.declared.event.Event.{Event}
+use Rattle.mea_events.specs.declared.event.Event.TheVariants.{Sem, Meet, Lock, Chan, Share, Once}
+use Rattle.mea_text.specs.declared.numbers.Numbers.{Numbers}
+use Rattle.mea_text.specs.Text.{numbers_text}
+use Rattle.mea_text.specs.Words.{listed}
+use Rattle.mea_lines.specs.SemSpelling.{semaphore_said, SemaphoreFits}
+use Rattle.mea_lines.specs.MeetSpelling.{meet_said, MeetFits}
+use Rattle.mea_lines.specs.LockSpelling.{lock_said, LockFits}
+use Rattle.mea_lines.specs.ChanSpelling.{chan_said, ChanFits}
+use Rattle.mea_lines.specs.ShareSpelling.{share_said, ShareFits}
+use Rattle.mea_lines.specs.OnceSpelling.{once_said, OnceFits}
+
+-- its word, and the numbers after it in their order
+abbrev pub said : Event → List ℕ × Numbers
+said (Sem e) = semaphore_said e
+said (Meet e) = meet_said e
+said (Lock e) = lock_said e
+said (Chan e) = chan_said e
+said (Share e) = share_said e
+said (Once e) = once_said e
 
 -- a word, and each number in decimal after a space
 abbrev pub spelling : Event → List ℕ
-spelling (Sem e) = semaphore_word e ++ numbers_text (semaphore_numbers e)
-spelling (Meet e) = meet_word e ++ numbers_text (meet_numbers e)
-spelling (Lock e) = lock_word e ++ numbers_text (lock_numbers e)
-spelling (Chan e) = chan_word e ++ numbers_text (chan_numbers e)
-spelling (Share e) = share_word e ++ numbers_text (share_numbers e)
-spelling (Once e) = once_word e ++ numbers_text (once_numbers e)
+spelling event = (said event).0 ++ numbers_text (listed (said event).1)
 
 -- each number fits its type
 abbrev pub Fits : Event → Type 0

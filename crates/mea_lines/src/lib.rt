@@ -1,25 +1,13 @@
-//! The lines of a script: which event a line stands for, and the text of a reply. Below it stand the events of
-//! each family, in the family's model; above it the halls that play events and the program that reads lines.
+//! The words of a script: which event a line stands for. Below it stand the events of all families, in `mea_events`,
+//! and the reading of words and numbers, in `mea_text`; above it the program that reads scripts.
 #![tactic(auto)]
 
-mod broadcast_words;
 mod chan_words;
-mod command;
-mod event;
-mod key_words;
 mod lines;
 mod lock_words;
 mod meet_words;
-mod number;
 mod once_words;
-mod replies;
 mod sem_words;
 mod share_words;
-mod text;
 
-pub use command::numbers_of_command;
-pub use event::Event;
-pub use lines::{cut, event_of_line, lines_have_one_spelling, long_lines_are_no_events};
-pub use number::number_of;
-pub use replies::Replies;
-pub use text::{put_line, put_number, put_reply, put_text};
+pub use lines::{event_of_line, lines_have_one_spelling, long_lines_are_no_events};

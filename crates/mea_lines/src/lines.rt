@@ -1,66 +1,68 @@
-ghost use Rattle.std.specs.Prelude.{◌≡◌, ◌<◌, ◌↔◌, ℕ, List, Some, length, position, IfSome, ◌==◌};
-ghost use Rattle.std.specs.Option.{option_map};
-ghost use Rattle.mea_lines.specs.declared.event.Event.{Event as Line};
-ghost use Rattle.mea_lines.specs.Lines.{cut, numbered_event, bare_event, event_of};
+ghost use Rattle.std.specs.Prelude.{◌≡◌, ◌<◌, ◌↔◌, ℕ, List, None, Some, length};
+ghost use Rattle.mea_events.specs.declared.event.Event.{Event as Line};
+ghost use Rattle.mea_lines.specs.Lines.{event_of, event_of_word};
+ghost use Rattle.mea_lines.specs.Marks.{marks, of_marks};
 ghost use Rattle.mea_lines.specs.Spelling.{spelling, Fits};
 
-use crate::chan_words::{bare_chan_event, chan_event};
-use crate::event::Event;
-use crate::lock_words::{bare_lock_event, lock_event};
-use crate::meet_words::{bare_meet_event, meet_event};
-use crate::once_words::{bare_once_event, once_event};
+use crate::chan_words::{
+    bounded_event, box_event, broadcast_event, oneshot_event, option_box_event, unbounded_event,
+};
+use crate::lock_words::{condvar_event, mutex_event, rw_lock_event};
+use crate::meet_words::{barrier_event, group_event, latch_event, shutdown_event};
+use crate::once_words::{call_event, cell_event, map_event, work_event};
 use crate::sem_words::semaphore_event;
-use crate::share_words::share_event;
+use crate::share_words::admission_event;
+use mea_events::Event;
+use mea_text::{Numbers, cut, numbers_of};
 
 /// The event of a line without its newline, if it is one: a word and its numbers, each after one space. It
 /// takes no memory.
 pub fn event_of_line(line: &[u8]) -> Option<Event>
     ensures { result ≡ event_of line.now }
 {
-    cut(line, b' ')
-        .and_then(|(word, rest)| numbered_event(word, rest))
-        .or_else(|| bare_event(line))
-}
-
-/// The event of a word, and of the numbers after it.
-fn numbered_event(word: &[u8], rest: &[u8]) -> Option<Event>
-    ensures { result ≡ numbered_event word.now rest.now }
-{
-    semaphore_event(word, rest)
-        .map(Event::Sem)
-        .or_else(|| meet_event(word, rest).map(Event::Meet))
-        .or_else(|| lock_event(word, rest).map(Event::Lock))
-        .or_else(|| chan_event(word, rest).map(Event::Chan))
-        .or_else(|| share_event(word, rest).map(Event::Share))
-        .or_else(|| once_event(word, rest).map(Event::Once))
-}
-
-/// The event of a word alone.
-fn bare_event(line: &[u8]) -> Option<Event>
-    ensures { result ≡ bare_event line.now }
-{
-    bare_meet_event(line)
-        .map(Event::Meet)
-        .or_else(|| bare_lock_event(line).map(Event::Lock))
-        .or_else(|| bare_chan_event(line).map(Event::Chan))
-        .or_else(|| bare_once_event(line).map(Event::Once))
-}
-
-/// What stands before and after the first such byte, if there is one. It takes no memory.
-pub fn cut(bytes: &[u8], byte: u8) -> Option<(&[u8], &[u8])>
-    ensures { option_map (λ parts. (parts.0.now, parts.1.now)) result ≡ cut byte bytes.now }
-{
-    match place_of(bytes, byte) {
-        None => None,
-        Some(at) => Some((&bytes[..at], &bytes[at + 1..])),
+    match cut(line, b' ') {
+        None => event_of_word(line, Numbers::Bare),
+        Some((word, rest)) => event_of_word(word, numbers_of(rest)?),
     }
 }
 
-fn place_of(bytes: &[u8], byte: u8) -> Option<usize>
-    ensures place { result ≡ position (λ b. b == byte) bytes.now }
-    ensures within { IfSome result (λ at. at < length bytes.now) }
+/// The event of a word and its numbers.
+#[tactic(auto, unfolding(crate::specs::Lines::event_of_word))]
+fn event_of_word(word: &[u8], numbers: Numbers) -> Option<Event>
+    ensures { result ≡ event_of_word word.now numbers }
 {
-    bytes.iter().position(|b| *b == byte)
+    match cut(word, b'.') {
+        None => semaphore_event(word, numbers).map(Event::Sem),
+        Some((mark, verb)) => marked_event(mark, verb, numbers),
+    }
+}
+
+/// The event of a word that has a dot, by what stands before and after it.
+#[tactic(auto, unfolding(crate::specs::Marks::marks))]
+fn marked_event(mark: &[u8], verb: &[u8], numbers: Numbers) -> Option<Event>
+    ensures { result ≡ of_marks marks mark.now verb.now numbers }
+{
+    match mark {
+        b"bar" => barrier_event(verb, numbers).map(Event::Meet),
+        b"lat" => latch_event(verb, numbers).map(Event::Meet),
+        b"wg" => group_event(verb, numbers).map(Event::Meet),
+        b"sd" => shutdown_event(verb, numbers).map(Event::Meet),
+        b"mx" => mutex_event(verb, numbers).map(Event::Lock),
+        b"rw" => rw_lock_event(verb, numbers).map(Event::Lock),
+        b"cv" => condvar_event(verb, numbers).map(Event::Lock),
+        b"mb" => bounded_event(verb, numbers).map(Event::Chan),
+        b"mu" => unbounded_event(verb, numbers).map(Event::Chan),
+        b"os" => oneshot_event(verb, numbers).map(Event::Chan),
+        b"bc" => broadcast_event(verb, numbers).map(Event::Chan),
+        b"ab" => box_event(verb, numbers).map(Event::Chan),
+        b"ao" => option_box_event(verb, numbers).map(Event::Chan),
+        b"fs" => admission_event(verb, numbers).map(Event::Share),
+        b"on" => call_event(verb, numbers).map(Event::Once),
+        b"oc" => cell_event(verb, numbers).map(Event::Once),
+        b"om" => map_event(verb, numbers).map(Event::Once),
+        b"sf" => work_event(verb, numbers).map(Event::Once),
+        _ => None,
+    }
 }
 
 /// Each event has one spelling: a line stands for an event exactly where it is the spelling of the event,

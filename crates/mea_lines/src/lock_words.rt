@@ -1,150 +1,100 @@
 ghost use Rattle.std.specs.Prelude.{◌≡◌};
-ghost use Rattle.mea_lines.specs.LockLines.{mutex_event, mutex_use_event, rw_lock_event, rw_guard_event, rw_use_event, condvar_event, bare_lock_event, lock_event};
+ghost use Rattle.mea_text.specs.Tables.{of_table};
+ghost use Rattle.mea_lines.specs.LockLines.{mutex_lines, rw_lock_lines, condvar_lines};
 
-use crate::number::{number_of, numbers_of, three_numbers_of};
 use mea_lock_model::LockEvent;
+use mea_text::Numbers::{self, Bare, One, Three, Two};
+use mea_text::is;
 
-/// The event of a lock of a word, and of the numbers after it.
-pub fn lock_event(word: &[u8], rest: &[u8]) -> Option<LockEvent>
-    ensures { result ≡ lock_event word.now rest.now }
+/// The lines that speak of a mutex.
+#[tactic(auto, unfolding(crate::specs::LockLines::mutex_lines))]
+pub fn mutex_event(verb: &[u8], numbers: Numbers) -> Option<LockEvent>
+    ensures { result ≡ of_table mutex_lines verb.now numbers }
 {
-    mutex_event(word, rest)
-        .or_else(|| mutex_use_event(word, rest))
-        .or_else(|| rw_lock_event(word, rest))
-        .or_else(|| rw_guard_event(word, rest))
-        .or_else(|| rw_use_event(word, rest))
-        .or_else(|| condvar_event(word, rest))
-}
-
-/// The event of a lock whose line is a word alone.
-pub fn bare_lock_event(line: &[u8]) -> Option<LockEvent>
-    ensures { result ≡ bare_lock_event line.now }
-{
-    match line {
-        b"cv.new" => Some(LockEvent::CvNew),
+    match numbers {
+        One(first) => match verb {
+            _ if is(verb, b"new") => Some(LockEvent::MxNew(first)),
+            _ if is(verb, b"lock") => Some(LockEvent::MxLock(first)),
+            _ if is(verb, b"locko") => Some(LockEvent::MxLocko(first)),
+            _ if is(verb, b"try") => Some(LockEvent::MxTry(first)),
+            _ if is(verb, b"tryo") => Some(LockEvent::MxTryo(first)),
+            _ if is(verb, b"get") => Some(LockEvent::MxGet(first)),
+            _ if is(verb, b"end") => Some(LockEvent::MxEnd(first)),
+            _ if is(verb, b"peek") => Some(LockEvent::MxPeek(first)),
+            _ if is(verb, b"into") => Some(LockEvent::MxInto(first)),
+            _ if is(verb, b"drop") => Some(LockEvent::MxDrop(first)),
+            _ => None,
+        },
+        Two(first, second) => match verb {
+            _ if is(verb, b"poll") => Some(LockEvent::MxPoll(first, second)),
+            _ if is(verb, b"set") => Some(LockEvent::MxSet(first, second)),
+            _ if is(verb, b"put") => Some(LockEvent::MxPut(first, second)),
+            _ => None,
+        },
         _ => None,
     }
 }
 
-/// The lines that make a mutex, its futures and its guards.
-fn mutex_event(word: &[u8], rest: &[u8]) -> Option<LockEvent>
-    ensures { result ≡ mutex_event word.now rest.now }
+/// The lines that speak of a reader-writer lock.
+#[tactic(auto, unfolding(crate::specs::LockLines::rw_lock_lines))]
+pub fn rw_lock_event(verb: &[u8], numbers: Numbers) -> Option<LockEvent>
+    ensures { result ≡ of_table rw_lock_lines verb.now numbers }
 {
-    match word {
-        b"mx.new" => Some(LockEvent::MxNew(number_of(rest)?)),
-        b"mx.lock" => Some(LockEvent::MxLock(number_of(rest)?)),
-        b"mx.locko" => Some(LockEvent::MxLocko(number_of(rest)?)),
-        b"mx.poll" => {
-            let (future, waker) = numbers_of(rest)?;
-            Some(LockEvent::MxPoll(future, waker))
-        }
-        b"mx.try" => Some(LockEvent::MxTry(number_of(rest)?)),
-        b"mx.tryo" => Some(LockEvent::MxTryo(number_of(rest)?)),
-        _ => None,
-    }
-}
-
-/// The lines that use a mutex, and its end.
-fn mutex_use_event(word: &[u8], rest: &[u8]) -> Option<LockEvent>
-    ensures { result ≡ mutex_use_event word.now rest.now }
-{
-    match word {
-        b"mx.get" => Some(LockEvent::MxGet(number_of(rest)?)),
-        b"mx.set" => {
-            let (guard, value) = numbers_of(rest)?;
-            Some(LockEvent::MxSet(guard, value))
-        }
-        b"mx.end" => Some(LockEvent::MxEnd(number_of(rest)?)),
-        b"mx.peek" => Some(LockEvent::MxPeek(number_of(rest)?)),
-        b"mx.put" => {
-            let (mutex, value) = numbers_of(rest)?;
-            Some(LockEvent::MxPut(mutex, value))
-        }
-        b"mx.into" => Some(LockEvent::MxInto(number_of(rest)?)),
-        b"mx.drop" => Some(LockEvent::MxDrop(number_of(rest)?)),
-        _ => None,
-    }
-}
-
-/// The lines that make a reader-writer lock and its futures.
-fn rw_lock_event(word: &[u8], rest: &[u8]) -> Option<LockEvent>
-    ensures { result ≡ rw_lock_event word.now rest.now }
-{
-    match word {
-        b"rw.new" => Some(LockEvent::RwNew(number_of(rest)?)),
-        b"rw.max" => {
-            let (value, readers) = numbers_of(rest)?;
-            Some(LockEvent::RwMax(value, readers))
-        }
-        b"rw.read" => Some(LockEvent::RwRead(number_of(rest)?)),
-        b"rw.reado" => Some(LockEvent::RwReado(number_of(rest)?)),
-        b"rw.write" => Some(LockEvent::RwWrite(number_of(rest)?)),
-        b"rw.writeo" => Some(LockEvent::RwWriteo(number_of(rest)?)),
-        _ => None,
-    }
-}
-
-/// The lines that make the guards of a reader-writer lock.
-fn rw_guard_event(word: &[u8], rest: &[u8]) -> Option<LockEvent>
-    ensures { result ≡ rw_guard_event word.now rest.now }
-{
-    match word {
-        b"rw.poll" => {
-            let (future, waker) = numbers_of(rest)?;
-            Some(LockEvent::RwPoll(future, waker))
-        }
-        b"rw.tryr" => Some(LockEvent::RwTryr(number_of(rest)?)),
-        b"rw.tryro" => Some(LockEvent::RwTryro(number_of(rest)?)),
-        b"rw.tryw" => Some(LockEvent::RwTryw(number_of(rest)?)),
-        b"rw.trywo" => Some(LockEvent::RwTrywo(number_of(rest)?)),
-        b"rw.down" => Some(LockEvent::RwDown(number_of(rest)?)),
-        _ => None,
-    }
-}
-
-/// The lines that use a reader-writer lock, and its end.
-fn rw_use_event(word: &[u8], rest: &[u8]) -> Option<LockEvent>
-    ensures { result ≡ rw_use_event word.now rest.now }
-{
-    match word {
-        b"rw.get" => Some(LockEvent::RwGet(number_of(rest)?)),
-        b"rw.set" => {
-            let (guard, value) = numbers_of(rest)?;
-            Some(LockEvent::RwSet(guard, value))
-        }
-        b"rw.end" => Some(LockEvent::RwEnd(number_of(rest)?)),
-        b"rw.peek" => Some(LockEvent::RwPeek(number_of(rest)?)),
-        b"rw.put" => {
-            let (lock, value) = numbers_of(rest)?;
-            Some(LockEvent::RwPut(lock, value))
-        }
-        b"rw.into" => Some(LockEvent::RwInto(number_of(rest)?)),
-        b"rw.drop" => Some(LockEvent::RwDrop(number_of(rest)?)),
+    match numbers {
+        One(first) => match verb {
+            _ if is(verb, b"new") => Some(LockEvent::RwNew(first)),
+            _ if is(verb, b"read") => Some(LockEvent::RwRead(first)),
+            _ if is(verb, b"reado") => Some(LockEvent::RwReado(first)),
+            _ if is(verb, b"write") => Some(LockEvent::RwWrite(first)),
+            _ if is(verb, b"writeo") => Some(LockEvent::RwWriteo(first)),
+            _ if is(verb, b"tryr") => Some(LockEvent::RwTryr(first)),
+            _ if is(verb, b"tryro") => Some(LockEvent::RwTryro(first)),
+            _ if is(verb, b"tryw") => Some(LockEvent::RwTryw(first)),
+            _ if is(verb, b"trywo") => Some(LockEvent::RwTrywo(first)),
+            _ if is(verb, b"get") => Some(LockEvent::RwGet(first)),
+            _ if is(verb, b"down") => Some(LockEvent::RwDown(first)),
+            _ if is(verb, b"end") => Some(LockEvent::RwEnd(first)),
+            _ if is(verb, b"peek") => Some(LockEvent::RwPeek(first)),
+            _ if is(verb, b"into") => Some(LockEvent::RwInto(first)),
+            _ if is(verb, b"drop") => Some(LockEvent::RwDrop(first)),
+            _ => None,
+        },
+        Two(first, second) => match verb {
+            _ if is(verb, b"max") => Some(LockEvent::RwMax(first, second)),
+            _ if is(verb, b"poll") => Some(LockEvent::RwPoll(first, second)),
+            _ if is(verb, b"set") => Some(LockEvent::RwSet(first, second)),
+            _ if is(verb, b"put") => Some(LockEvent::RwPut(first, second)),
+            _ => None,
+        },
         _ => None,
     }
 }
 
 /// The lines that speak of a condition variable and its waits.
-fn condvar_event(word: &[u8], rest: &[u8]) -> Option<LockEvent>
-    ensures { result ≡ condvar_event word.now rest.now }
+#[tactic(auto, unfolding(crate::specs::LockLines::condvar_lines))]
+pub fn condvar_event(verb: &[u8], numbers: Numbers) -> Option<LockEvent>
+    ensures { result ≡ of_table condvar_lines verb.now numbers }
 {
-    match word {
-        b"cv.wait" => {
-            let (condvar, guard) = numbers_of(rest)?;
-            Some(LockEvent::CvWait(condvar, guard))
-        }
-        b"cv.waitw" => {
-            let (condvar, (guard, value)) = three_numbers_of(rest)?;
-            Some(LockEvent::CvWaitw(condvar, guard, value))
-        }
-        b"cv.poll" => {
-            let (future, waker) = numbers_of(rest)?;
-            Some(LockEvent::CvPoll(future, waker))
-        }
-        b"cv.one" => Some(LockEvent::CvOne(number_of(rest)?)),
-        b"cv.all" => Some(LockEvent::CvAll(number_of(rest)?)),
-        b"cv.end" => Some(LockEvent::CvEnd(number_of(rest)?)),
-        b"cv.drop" => Some(LockEvent::CvDrop(number_of(rest)?)),
-        _ => None,
+    match numbers {
+        Bare => match verb {
+            _ if is(verb, b"new") => Some(LockEvent::CvNew),
+            _ => None,
+        },
+        One(first) => match verb {
+            _ if is(verb, b"one") => Some(LockEvent::CvOne(first)),
+            _ if is(verb, b"all") => Some(LockEvent::CvAll(first)),
+            _ if is(verb, b"end") => Some(LockEvent::CvEnd(first)),
+            _ if is(verb, b"drop") => Some(LockEvent::CvDrop(first)),
+            _ => None,
+        },
+        Two(first, second) => match verb {
+            _ if is(verb, b"wait") => Some(LockEvent::CvWait(first, second)),
+            _ if is(verb, b"poll") => Some(LockEvent::CvPoll(first, second)),
+            _ => None,
+        },
+        Three(first, second, third) => match verb {
+            _ if is(verb, b"waitw") => Some(LockEvent::CvWaitw(first, second, third)),
+            _ => None,
+        },
     }
 }

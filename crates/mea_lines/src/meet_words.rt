@@ -1,141 +1,111 @@
 ghost use Rattle.std.specs.Prelude.{◌≡◌};
-ghost use Rattle.mea_lines.specs.MeetLines.{barrier_event, count_event, latch_wait_event, latch_event, group_event, side_event, signal_event, shutdown_event, meet_event, bare_meet_event};
+ghost use Rattle.mea_text.specs.Tables.{of_table};
+ghost use Rattle.mea_lines.specs.MeetLines.{barrier_lines, latch_lines, group_lines, shutdown_lines};
 
-use crate::number::{count_of, number_and_count_of, number_of, numbers_of};
 use mea_meet_model::MeetEvent;
-
-/// The event of a meeting point of a word, and of the numbers after it.
-pub fn meet_event(word: &[u8], rest: &[u8]) -> Option<MeetEvent>
-    ensures { result ≡ meet_event word.now rest.now }
-{
-    barrier_event(word, rest)
-        .or_else(|| latch_event(word, rest))
-        .or_else(|| group_event(word, rest))
-        .or_else(|| shutdown_event(word, rest))
-}
-
-/// The event of a meeting point whose line is a word alone.
-pub fn bare_meet_event(line: &[u8]) -> Option<MeetEvent>
-    ensures { result ≡ bare_meet_event line.now }
-{
-    match line {
-        b"wg.new" => Some(MeetEvent::WgNew),
-        b"sd.new" => Some(MeetEvent::SdNew),
-        _ => None,
-    }
-}
+use mea_text::Numbers::{self, Bare, One, Two};
+use mea_text::{count_of, is};
 
 /// The lines that speak of a barrier.
-fn barrier_event(word: &[u8], rest: &[u8]) -> Option<MeetEvent>
-    ensures { result ≡ barrier_event word.now rest.now }
+#[tactic(auto, unfolding(crate::specs::MeetLines::barrier_lines))]
+pub fn barrier_event(verb: &[u8], numbers: Numbers) -> Option<MeetEvent>
+    ensures { result ≡ of_table barrier_lines verb.now numbers }
 {
-    match word {
-        b"bar.new" => Some(MeetEvent::BarNew(count_of(rest)?)),
-        b"bar.wait" => Some(MeetEvent::BarWait(number_of(rest)?)),
-        b"bar.poll" => {
-            let (future, waker) = numbers_of(rest)?;
-            Some(MeetEvent::BarPoll(future, waker))
-        }
-        b"bar.end" => Some(MeetEvent::BarEnd(number_of(rest)?)),
-        b"bar.drop" => Some(MeetEvent::BarDrop(number_of(rest)?)),
+    match numbers {
+        One(first) => match verb {
+            _ if is(verb, b"new") => Some(MeetEvent::BarNew(count_of(first)?)),
+            _ if is(verb, b"wait") => Some(MeetEvent::BarWait(first)),
+            _ if is(verb, b"end") => Some(MeetEvent::BarEnd(first)),
+            _ if is(verb, b"drop") => Some(MeetEvent::BarDrop(first)),
+            _ => None,
+        },
+        Two(first, second) => match verb {
+            _ if is(verb, b"poll") => Some(MeetEvent::BarPoll(first, second)),
+            _ => None,
+        },
         _ => None,
     }
 }
 
 /// The lines that speak of a latch.
-fn latch_event(word: &[u8], rest: &[u8]) -> Option<MeetEvent>
-    ensures { result ≡ latch_event word.now rest.now }
+#[tactic(auto, unfolding(crate::specs::MeetLines::latch_lines))]
+pub fn latch_event(verb: &[u8], numbers: Numbers) -> Option<MeetEvent>
+    ensures { result ≡ of_table latch_lines verb.now numbers }
 {
-    count_event(word, rest).or_else(|| latch_wait_event(word, rest))
-}
-
-/// The lines that speak of the count of a latch.
-fn count_event(word: &[u8], rest: &[u8]) -> Option<MeetEvent>
-    ensures { result ≡ count_event word.now rest.now }
-{
-    match word {
-        b"lat.new" => Some(MeetEvent::LatNew(count_of(rest)?)),
-        b"lat.count" => Some(MeetEvent::LatCount(number_of(rest)?)),
-        b"lat.down" => Some(MeetEvent::LatDown(number_of(rest)?)),
-        b"lat.arrive" => {
-            let (l, n) = number_and_count_of(rest)?;
-            Some(MeetEvent::LatArrive(l, n))
-        }
-        b"lat.try" => Some(MeetEvent::LatTry(number_of(rest)?)),
-        _ => None,
-    }
-}
-
-/// The lines that wait for a latch, and its end.
-fn latch_wait_event(word: &[u8], rest: &[u8]) -> Option<MeetEvent>
-    ensures { result ≡ latch_wait_event word.now rest.now }
-{
-    match word {
-        b"lat.wait" => Some(MeetEvent::LatWait(number_of(rest)?)),
-        b"lat.waito" => Some(MeetEvent::LatWaito(number_of(rest)?)),
-        b"lat.poll" => {
-            let (future, waker) = numbers_of(rest)?;
-            Some(MeetEvent::LatPoll(future, waker))
-        }
-        b"lat.end" => Some(MeetEvent::LatEnd(number_of(rest)?)),
-        b"lat.drop" => Some(MeetEvent::LatDrop(number_of(rest)?)),
+    match numbers {
+        One(first) => match verb {
+            _ if is(verb, b"new") => Some(MeetEvent::LatNew(count_of(first)?)),
+            _ if is(verb, b"count") => Some(MeetEvent::LatCount(first)),
+            _ if is(verb, b"down") => Some(MeetEvent::LatDown(first)),
+            _ if is(verb, b"try") => Some(MeetEvent::LatTry(first)),
+            _ if is(verb, b"wait") => Some(MeetEvent::LatWait(first)),
+            _ if is(verb, b"waito") => Some(MeetEvent::LatWaito(first)),
+            _ if is(verb, b"end") => Some(MeetEvent::LatEnd(first)),
+            _ if is(verb, b"drop") => Some(MeetEvent::LatDrop(first)),
+            _ => None,
+        },
+        Two(first, second) => match verb {
+            _ if is(verb, b"arrive") => Some(MeetEvent::LatArrive(first, count_of(second)?)),
+            _ if is(verb, b"poll") => Some(MeetEvent::LatPoll(first, second)),
+            _ => None,
+        },
         _ => None,
     }
 }
 
 /// The lines that speak of a handle or a future of a wait group.
-fn group_event(word: &[u8], rest: &[u8]) -> Option<MeetEvent>
-    ensures { result ≡ group_event word.now rest.now }
+#[tactic(auto, unfolding(crate::specs::MeetLines::group_lines))]
+pub fn group_event(verb: &[u8], numbers: Numbers) -> Option<MeetEvent>
+    ensures { result ≡ of_table group_lines verb.now numbers }
 {
-    match word {
-        b"wg.clone" => Some(MeetEvent::WgClone(number_of(rest)?)),
-        b"wg.into" => Some(MeetEvent::WgInto(number_of(rest)?)),
-        b"wg.copy" => Some(MeetEvent::WgCopy(number_of(rest)?)),
-        b"wg.poll" => {
-            let (future, waker) = numbers_of(rest)?;
-            Some(MeetEvent::WgPoll(future, waker))
-        }
-        b"wg.end" => Some(MeetEvent::WgEnd(number_of(rest)?)),
+    match numbers {
+        Bare => match verb {
+            _ if is(verb, b"new") => Some(MeetEvent::WgNew),
+            _ => None,
+        },
+        One(first) => match verb {
+            _ if is(verb, b"clone") => Some(MeetEvent::WgClone(first)),
+            _ if is(verb, b"into") => Some(MeetEvent::WgInto(first)),
+            _ if is(verb, b"copy") => Some(MeetEvent::WgCopy(first)),
+            _ if is(verb, b"end") => Some(MeetEvent::WgEnd(first)),
+            _ => None,
+        },
+        Two(first, second) => match verb {
+            _ if is(verb, b"poll") => Some(MeetEvent::WgPoll(first, second)),
+            _ => None,
+        },
         _ => None,
     }
 }
 
 /// The lines that speak of a shutdown.
-fn shutdown_event(word: &[u8], rest: &[u8]) -> Option<MeetEvent>
-    ensures { result ≡ shutdown_event word.now rest.now }
+#[tactic(auto, unfolding(crate::specs::MeetLines::shutdown_lines))]
+pub fn shutdown_event(verb: &[u8], numbers: Numbers) -> Option<MeetEvent>
+    ensures { result ≡ of_table shutdown_lines verb.now numbers }
 {
-    side_event(word, rest).or_else(|| signal_event(word, rest))
-}
-
-/// The lines that speak of the senders and the receivers of a shutdown.
-fn side_event(word: &[u8], rest: &[u8]) -> Option<MeetEvent>
-    ensures { result ≡ side_event word.now rest.now }
-{
-    match word {
-        b"sd.copys" => Some(MeetEvent::SdCopys(number_of(rest)?)),
-        b"sd.copyr" => Some(MeetEvent::SdCopyr(number_of(rest)?)),
-        b"sd.watch" => Some(MeetEvent::SdWatch(number_of(rest)?)),
-        b"sd.await" => Some(MeetEvent::SdAwait(number_of(rest)?)),
-        b"sd.ends" => Some(MeetEvent::SdEnds(number_of(rest)?)),
-        b"sd.endr" => Some(MeetEvent::SdEndr(number_of(rest)?)),
-        _ => None,
-    }
-}
-
-/// The lines that speak of the signal of a shutdown and of who waits for it.
-fn signal_event(word: &[u8], rest: &[u8]) -> Option<MeetEvent>
-    ensures { result ≡ signal_event word.now rest.now }
-{
-    match word {
-        b"sd.signal" => Some(MeetEvent::SdSignal(number_of(rest)?)),
-        b"sd.now" => Some(MeetEvent::SdNow(number_of(rest)?)),
-        b"sd.is" => Some(MeetEvent::SdIs(number_of(rest)?)),
-        b"sd.iso" => Some(MeetEvent::SdIso(number_of(rest)?)),
-        b"sd.poll" => {
-            let (future, waker) = numbers_of(rest)?;
-            Some(MeetEvent::SdPoll(future, waker))
-        }
-        b"sd.end" => Some(MeetEvent::SdEnd(number_of(rest)?)),
+    match numbers {
+        Bare => match verb {
+            _ if is(verb, b"new") => Some(MeetEvent::SdNew),
+            _ => None,
+        },
+        One(first) => match verb {
+            _ if is(verb, b"copys") => Some(MeetEvent::SdCopys(first)),
+            _ if is(verb, b"copyr") => Some(MeetEvent::SdCopyr(first)),
+            _ if is(verb, b"signal") => Some(MeetEvent::SdSignal(first)),
+            _ if is(verb, b"now") => Some(MeetEvent::SdNow(first)),
+            _ if is(verb, b"watch") => Some(MeetEvent::SdWatch(first)),
+            _ if is(verb, b"is") => Some(MeetEvent::SdIs(first)),
+            _ if is(verb, b"iso") => Some(MeetEvent::SdIso(first)),
+            _ if is(verb, b"await") => Some(MeetEvent::SdAwait(first)),
+            _ if is(verb, b"end") => Some(MeetEvent::SdEnd(first)),
+            _ if is(verb, b"ends") => Some(MeetEvent::SdEnds(first)),
+            _ if is(verb, b"endr") => Some(MeetEvent::SdEndr(first)),
+            _ => None,
+        },
+        Two(first, second) => match verb {
+            _ if is(verb, b"poll") => Some(MeetEvent::SdPoll(first, second)),
+            _ => None,
+        },
         _ => None,
     }
 }

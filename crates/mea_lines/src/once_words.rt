@@ -1,115 +1,125 @@
 ghost use Rattle.std.specs.Prelude.{◌≡◌};
-ghost use Rattle.mea_lines.specs.OnceLines.{call_event, cell_event, cell_wait_event, cell_use_event, bare_once_event, call_or_cell_event, once_event};
+ghost use Rattle.mea_text.specs.Tables.{of_table};
+ghost use Rattle.mea_lines.specs.OnceLines.{call_lines, cell_lines, map_lines, work_lines};
 
-use crate::key_words::key_event;
-use crate::number::{number_of, numbers_of};
 use mea_once_model::OnceEvent;
-
-/// The event of once types, of a word and of the numbers after it.
-pub fn once_event(word: &[u8], rest: &[u8]) -> Option<OnceEvent>
-    ensures { result ≡ once_event word.now rest.now }
-{
-    call_or_cell_event(word, rest).or_else(|| key_event(word, rest))
-}
-
-/// The event of a call that runs once or of a cell.
-fn call_or_cell_event(word: &[u8], rest: &[u8]) -> Option<OnceEvent>
-    ensures { result ≡ call_or_cell_event word.now rest.now }
-{
-    call_event(word, rest)
-        .or_else(|| cell_event(word, rest))
-        .or_else(|| cell_wait_event(word, rest))
-        .or_else(|| cell_use_event(word, rest))
-}
-
-/// The event of once types whose line is a word alone.
-pub fn bare_once_event(line: &[u8]) -> Option<OnceEvent>
-    ensures { result ≡ bare_once_event line.now }
-{
-    match line {
-        b"on.new" => Some(OnceEvent::OnNew),
-        b"oc.new" => Some(OnceEvent::OcNew),
-        b"om.new" => Some(OnceEvent::OmNew),
-        b"sf.new" => Some(OnceEvent::SfNew),
-        _ => None,
-    }
-}
+use mea_text::Numbers::{self, Bare, One, Two};
+use mea_text::is;
 
 /// The lines that speak of a call that runs once, and of its futures.
-fn call_event(word: &[u8], rest: &[u8]) -> Option<OnceEvent>
-    ensures { result ≡ call_event word.now rest.now }
+#[tactic(auto, unfolding(crate::specs::OnceLines::call_lines))]
+pub fn call_event(verb: &[u8], numbers: Numbers) -> Option<OnceEvent>
+    ensures { result ≡ of_table call_lines verb.now numbers }
 {
-    match word {
-        b"on.done" => Some(OnceEvent::OnDone(number_of(rest)?)),
-        b"on.call" => Some(OnceEvent::OnCall(number_of(rest)?)),
-        b"on.wait" => Some(OnceEvent::OnWait(number_of(rest)?)),
-        b"on.poll" => {
-            let (future, waker) = numbers_of(rest)?;
-            Some(OnceEvent::OnPoll(future, waker))
-        }
-        b"on.settle" => Some(OnceEvent::OnSettle(number_of(rest)?)),
-        b"on.end" => Some(OnceEvent::OnEnd(number_of(rest)?)),
-        b"on.drop" => Some(OnceEvent::OnDrop(number_of(rest)?)),
+    match numbers {
+        Bare => match verb {
+            _ if is(verb, b"new") => Some(OnceEvent::OnNew),
+            _ => None,
+        },
+        One(first) => match verb {
+            _ if is(verb, b"done") => Some(OnceEvent::OnDone(first)),
+            _ if is(verb, b"call") => Some(OnceEvent::OnCall(first)),
+            _ if is(verb, b"wait") => Some(OnceEvent::OnWait(first)),
+            _ if is(verb, b"settle") => Some(OnceEvent::OnSettle(first)),
+            _ if is(verb, b"end") => Some(OnceEvent::OnEnd(first)),
+            _ if is(verb, b"drop") => Some(OnceEvent::OnDrop(first)),
+            _ => None,
+        },
+        Two(first, second) => match verb {
+            _ if is(verb, b"poll") => Some(OnceEvent::OnPoll(first, second)),
+            _ => None,
+        },
         _ => None,
     }
 }
 
-/// The lines that make a cell and its futures.
-fn cell_event(word: &[u8], rest: &[u8]) -> Option<OnceEvent>
-    ensures { result ≡ cell_event word.now rest.now }
+/// The lines that speak of a cell and its futures.
+#[tactic(auto, unfolding(crate::specs::OnceLines::cell_lines))]
+pub fn cell_event(verb: &[u8], numbers: Numbers) -> Option<OnceEvent>
+    ensures { result ≡ of_table cell_lines verb.now numbers }
 {
-    match word {
-        b"oc.from" => Some(OnceEvent::OcFrom(number_of(rest)?)),
-        b"oc.get" => Some(OnceEvent::OcGet(number_of(rest)?)),
-        b"oc.init" => Some(OnceEvent::OcInit(number_of(rest)?)),
-        b"oc.set" => {
-            let (cell, value) = numbers_of(rest)?;
-            Some(OnceEvent::OcSet(cell, value))
-        }
-        b"oc.ins" => {
-            let (cell, value) = numbers_of(rest)?;
-            Some(OnceEvent::OcIns(cell, value))
-        }
-        b"oc.minit" => Some(OnceEvent::OcMinit(number_of(rest)?)),
+    match numbers {
+        Bare => match verb {
+            _ if is(verb, b"new") => Some(OnceEvent::OcNew),
+            _ => None,
+        },
+        One(first) => match verb {
+            _ if is(verb, b"from") => Some(OnceEvent::OcFrom(first)),
+            _ if is(verb, b"get") => Some(OnceEvent::OcGet(first)),
+            _ if is(verb, b"init") => Some(OnceEvent::OcInit(first)),
+            _ if is(verb, b"minit") => Some(OnceEvent::OcMinit(first)),
+            _ if is(verb, b"end") => Some(OnceEvent::OcEnd(first)),
+            _ if is(verb, b"peek") => Some(OnceEvent::OcPeek(first)),
+            _ if is(verb, b"take") => Some(OnceEvent::OcTake(first)),
+            _ if is(verb, b"into") => Some(OnceEvent::OcInto(first)),
+            _ if is(verb, b"drop") => Some(OnceEvent::OcDrop(first)),
+            _ => None,
+        },
+        Two(first, second) => match verb {
+            _ if is(verb, b"set") => Some(OnceEvent::OcSet(first, second)),
+            _ if is(verb, b"ins") => Some(OnceEvent::OcIns(first, second)),
+            _ if is(verb, b"poll") => Some(OnceEvent::OcPoll(first, second)),
+            _ if is(verb, b"settle") => Some(OnceEvent::OcSettle(first, second)),
+            _ if is(verb, b"fail") => Some(OnceEvent::OcFail(first, second)),
+            _ if is(verb, b"put") => Some(OnceEvent::OcPut(first, second)),
+            _ => None,
+        },
         _ => None,
     }
 }
 
-/// The lines that speak of the futures of a cell.
-fn cell_wait_event(word: &[u8], rest: &[u8]) -> Option<OnceEvent>
-    ensures { result ≡ cell_wait_event word.now rest.now }
+/// The lines that speak of a map and its futures.
+#[tactic(auto, unfolding(crate::specs::OnceLines::map_lines))]
+pub fn map_event(verb: &[u8], numbers: Numbers) -> Option<OnceEvent>
+    ensures { result ≡ of_table map_lines verb.now numbers }
 {
-    match word {
-        b"oc.poll" => {
-            let (future, waker) = numbers_of(rest)?;
-            Some(OnceEvent::OcPoll(future, waker))
-        }
-        b"oc.settle" => {
-            let (future, value) = numbers_of(rest)?;
-            Some(OnceEvent::OcSettle(future, value))
-        }
-        b"oc.fail" => {
-            let (future, error) = numbers_of(rest)?;
-            Some(OnceEvent::OcFail(future, error))
-        }
-        b"oc.end" => Some(OnceEvent::OcEnd(number_of(rest)?)),
+    match numbers {
+        Bare => match verb {
+            _ if is(verb, b"new") => Some(OnceEvent::OmNew),
+            _ => None,
+        },
+        One(first) => match verb {
+            _ if is(verb, b"end") => Some(OnceEvent::OmEnd(first)),
+            _ if is(verb, b"drop") => Some(OnceEvent::OmDrop(first)),
+            _ => None,
+        },
+        Two(first, second) => match verb {
+            _ if is(verb, b"get") => Some(OnceEvent::OmGet(first, second)),
+            _ if is(verb, b"compute") => Some(OnceEvent::OmCompute(first, second)),
+            _ if is(verb, b"poll") => Some(OnceEvent::OmPoll(first, second)),
+            _ if is(verb, b"settle") => Some(OnceEvent::OmSettle(first, second)),
+            _ if is(verb, b"fail") => Some(OnceEvent::OmFail(first, second)),
+            _ if is(verb, b"discard") => Some(OnceEvent::OmDiscard(first, second)),
+            _ if is(verb, b"remove") => Some(OnceEvent::OmRemove(first, second)),
+            _ => None,
+        },
         _ => None,
     }
 }
 
-/// The lines that use a cell alone, and its end.
-fn cell_use_event(word: &[u8], rest: &[u8]) -> Option<OnceEvent>
-    ensures { result ≡ cell_use_event word.now rest.now }
+/// The lines that speak of a group that works once for a key, and of its futures.
+#[tactic(auto, unfolding(crate::specs::OnceLines::work_lines))]
+pub fn work_event(verb: &[u8], numbers: Numbers) -> Option<OnceEvent>
+    ensures { result ≡ of_table work_lines verb.now numbers }
 {
-    match word {
-        b"oc.peek" => Some(OnceEvent::OcPeek(number_of(rest)?)),
-        b"oc.put" => {
-            let (cell, value) = numbers_of(rest)?;
-            Some(OnceEvent::OcPut(cell, value))
-        }
-        b"oc.take" => Some(OnceEvent::OcTake(number_of(rest)?)),
-        b"oc.into" => Some(OnceEvent::OcInto(number_of(rest)?)),
-        b"oc.drop" => Some(OnceEvent::OcDrop(number_of(rest)?)),
+    match numbers {
+        Bare => match verb {
+            _ if is(verb, b"new") => Some(OnceEvent::SfNew),
+            _ => None,
+        },
+        One(first) => match verb {
+            _ if is(verb, b"end") => Some(OnceEvent::SfEnd(first)),
+            _ if is(verb, b"drop") => Some(OnceEvent::SfDrop(first)),
+            _ => None,
+        },
+        Two(first, second) => match verb {
+            _ if is(verb, b"work") => Some(OnceEvent::SfWork(first, second)),
+            _ if is(verb, b"poll") => Some(OnceEvent::SfPoll(first, second)),
+            _ if is(verb, b"settle") => Some(OnceEvent::SfSettle(first, second)),
+            _ if is(verb, b"fail") => Some(OnceEvent::SfFail(first, second)),
+            _ if is(verb, b"forget") => Some(OnceEvent::SfForget(first, second)),
+            _ => None,
+        },
         _ => None,
     }
 }

@@ -1,106 +1,46 @@
 ghost use Rattle.std.specs.Prelude.{◌≡◌};
-ghost use Rattle.mea_lines.specs.SemLines.{permits_event, asking_event, holding_event, semaphore_event};
+ghost use Rattle.mea_text.specs.Tables.{of_table};
+ghost use Rattle.mea_lines.specs.SemLines.{semaphore_lines};
 
-use crate::number::{number_of, numbers_of};
 use mea_sem_model::SemEvent;
+use mea_text::Numbers::{self, One, Two};
+use mea_text::is;
 
-/// The semaphore event of a word, and of the numbers after it.
-pub fn semaphore_event(word: &[u8], rest: &[u8]) -> Option<SemEvent>
-    ensures { result ≡ semaphore_event word.now rest.now }
+/// The lines that speak of a semaphore, its futures and its permits.
+#[tactic(auto, unfolding(crate::specs::SemLines::semaphore_lines))]
+pub fn semaphore_event(word: &[u8], numbers: Numbers) -> Option<SemEvent>
+    ensures { result ≡ of_table semaphore_lines word.now numbers }
 {
-    permits_event(word, rest)
-        .or_else(|| asking_event(word, rest))
-        .or_else(|| holding_event(word, rest))
-}
-
-/// The lines that speak of a semaphore and its free permits.
-fn permits_event(word: &[u8], rest: &[u8]) -> Option<SemEvent>
-    ensures { result ≡ permits_event word.now rest.now }
-{
-    match word {
-        b"new" => Some(SemEvent::New(number_of(rest)?)),
-        b"free" => Some(SemEvent::Free(number_of(rest)?)),
-        b"forget" => {
-            let (s, n) = numbers_of(rest)?;
-            Some(SemEvent::Forget(s, n))
-        }
-        b"forgetx" => {
-            let (s, n) = numbers_of(rest)?;
-            Some(SemEvent::Forgetx(s, n))
-        }
-        b"release" => {
-            let (s, n) = numbers_of(rest)?;
-            Some(SemEvent::Release(s, n))
-        }
-        b"endsem" => Some(SemEvent::Endsem(number_of(rest)?)),
-        b"ledger" => Some(SemEvent::Ledger(number_of(rest)?)),
-        b"close" => Some(SemEvent::Close(number_of(rest)?)),
-        b"closed" => Some(SemEvent::Closed(number_of(rest)?)),
-        _ => None,
-    }
-}
-
-/// The lines that ask for permits.
-fn asking_event(word: &[u8], rest: &[u8]) -> Option<SemEvent>
-    ensures { result ≡ asking_event word.now rest.now }
-{
-    match word {
-        b"try" => {
-            let (s, n) = numbers_of(rest)?;
-            Some(SemEvent::Try(s, n))
-        }
-        b"tryo" => {
-            let (s, n) = numbers_of(rest)?;
-            Some(SemEvent::Tryo(s, n))
-        }
-        b"tryf" => {
-            let (s, n) = numbers_of(rest)?;
-            Some(SemEvent::Tryf(s, n))
-        }
-        b"tryof" => {
-            let (s, n) = numbers_of(rest)?;
-            Some(SemEvent::Tryof(s, n))
-        }
-        b"acq" => {
-            let (s, n) = numbers_of(rest)?;
-            Some(SemEvent::Acq(s, n))
-        }
-        b"acqo" => {
-            let (s, n) = numbers_of(rest)?;
-            Some(SemEvent::Acqo(s, n))
-        }
-        b"acqf" => {
-            let (s, n) = numbers_of(rest)?;
-            Some(SemEvent::Acqf(s, n))
-        }
-        b"acqof" => {
-            let (s, n) = numbers_of(rest)?;
-            Some(SemEvent::Acqof(s, n))
-        }
-        _ => None,
-    }
-}
-
-/// The lines that speak of a future or a permit.
-fn holding_event(word: &[u8], rest: &[u8]) -> Option<SemEvent>
-    ensures { result ≡ holding_event word.now rest.now }
-{
-    match word {
-        b"poll" => {
-            let (future, waker) = numbers_of(rest)?;
-            Some(SemEvent::Poll(future, waker))
-        }
-        b"end" => Some(SemEvent::End(number_of(rest)?)),
-        b"lose" => Some(SemEvent::Lose(number_of(rest)?)),
-        b"merge" => {
-            let (p, q) = numbers_of(rest)?;
-            Some(SemEvent::Merge(p, q))
-        }
-        b"split" => {
-            let (p, n) = numbers_of(rest)?;
-            Some(SemEvent::Split(p, n))
-        }
-        b"size" => Some(SemEvent::Size(number_of(rest)?)),
+    match numbers {
+        One(first) => match word {
+            _ if is(word, b"new") => Some(SemEvent::New(first)),
+            _ if is(word, b"free") => Some(SemEvent::Free(first)),
+            _ if is(word, b"end") => Some(SemEvent::End(first)),
+            _ if is(word, b"lose") => Some(SemEvent::Lose(first)),
+            _ if is(word, b"size") => Some(SemEvent::Size(first)),
+            _ if is(word, b"endsem") => Some(SemEvent::Endsem(first)),
+            _ if is(word, b"ledger") => Some(SemEvent::Ledger(first)),
+            _ if is(word, b"close") => Some(SemEvent::Close(first)),
+            _ if is(word, b"closed") => Some(SemEvent::Closed(first)),
+            _ => None,
+        },
+        Two(first, second) => match word {
+            _ if is(word, b"forget") => Some(SemEvent::Forget(first, second)),
+            _ if is(word, b"forgetx") => Some(SemEvent::Forgetx(first, second)),
+            _ if is(word, b"release") => Some(SemEvent::Release(first, second)),
+            _ if is(word, b"try") => Some(SemEvent::Try(first, second)),
+            _ if is(word, b"tryo") => Some(SemEvent::Tryo(first, second)),
+            _ if is(word, b"tryf") => Some(SemEvent::Tryf(first, second)),
+            _ if is(word, b"tryof") => Some(SemEvent::Tryof(first, second)),
+            _ if is(word, b"acq") => Some(SemEvent::Acq(first, second)),
+            _ if is(word, b"acqo") => Some(SemEvent::Acqo(first, second)),
+            _ if is(word, b"acqf") => Some(SemEvent::Acqf(first, second)),
+            _ if is(word, b"acqof") => Some(SemEvent::Acqof(first, second)),
+            _ if is(word, b"poll") => Some(SemEvent::Poll(first, second)),
+            _ if is(word, b"merge") => Some(SemEvent::Merge(first, second)),
+            _ if is(word, b"split") => Some(SemEvent::Split(first, second)),
+            _ => None,
+        },
         _ => None,
     }
 }

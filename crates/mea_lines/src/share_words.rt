@@ -1,64 +1,39 @@
 ghost use Rattle.std.specs.Prelude.{◌≡◌};
-ghost use Rattle.mea_lines.specs.ShareLines.{admission_event, acquire_event, share_event};
+ghost use Rattle.mea_text.specs.Tables.{of_table};
+ghost use Rattle.mea_lines.specs.ShareLines.{admission_lines};
 
-use crate::number::{number_of, numbers_of, three_numbers_of};
 use mea_share_model::ShareEvent;
+use mea_text::Numbers::{self, One, Three, Two};
+use mea_text::is;
 
-/// The event of fair admission of a word, and of the numbers after it.
-pub fn share_event(word: &[u8], rest: &[u8]) -> Option<ShareEvent>
-    ensures { result ≡ share_event word.now rest.now }
+/// The lines that speak of an admission, its futures and its permits.
+#[tactic(auto, unfolding(crate::specs::ShareLines::admission_lines))]
+pub fn admission_event(verb: &[u8], numbers: Numbers) -> Option<ShareEvent>
+    ensures { result ≡ of_table admission_lines verb.now numbers }
 {
-    admission_event(word, rest).or_else(|| acquire_event(word, rest))
-}
-
-/// The lines that make an admission, tell of it, take its free permits, and set and tell weights.
-fn admission_event(word: &[u8], rest: &[u8]) -> Option<ShareEvent>
-    ensures { result ≡ admission_event word.now rest.now }
-{
-    match word {
-        b"fs.new" => Some(ShareEvent::FsNew(number_of(rest)?)),
-        b"fs.free" => Some(ShareEvent::FsFree(number_of(rest)?)),
-        b"fs.waiters" => Some(ShareEvent::FsWaiters(number_of(rest)?)),
-        b"fs.try" => {
-            let (admission, key) = numbers_of(rest)?;
-            Some(ShareEvent::FsTry(admission, key))
-        }
-        b"fs.tryo" => {
-            let (admission, key) = numbers_of(rest)?;
-            Some(ShareEvent::FsTryo(admission, key))
-        }
-        b"fs.weight" => {
-            let (admission, (key, weight)) = three_numbers_of(rest)?;
-            Some(ShareEvent::FsWeight(admission, key, weight))
-        }
-        b"fs.weightof" => {
-            let (admission, key) = numbers_of(rest)?;
-            Some(ShareEvent::FsWeightof(admission, key))
-        }
-        _ => None,
-    }
-}
-
-/// The lines that make a future of a permit, poll that, tell a permit's key, and end them.
-fn acquire_event(word: &[u8], rest: &[u8]) -> Option<ShareEvent>
-    ensures { result ≡ acquire_event word.now rest.now }
-{
-    match word {
-        b"fs.acq" => {
-            let (admission, key) = numbers_of(rest)?;
-            Some(ShareEvent::FsAcq(admission, key))
-        }
-        b"fs.acqo" => {
-            let (admission, key) = numbers_of(rest)?;
-            Some(ShareEvent::FsAcqo(admission, key))
-        }
-        b"fs.poll" => {
-            let (future, waker) = numbers_of(rest)?;
-            Some(ShareEvent::FsPoll(future, waker))
-        }
-        b"fs.key" => Some(ShareEvent::FsKey(number_of(rest)?)),
-        b"fs.end" => Some(ShareEvent::FsEnd(number_of(rest)?)),
-        b"fs.drop" => Some(ShareEvent::FsDrop(number_of(rest)?)),
+    match numbers {
+        One(first) => match verb {
+            _ if is(verb, b"new") => Some(ShareEvent::FsNew(first)),
+            _ if is(verb, b"free") => Some(ShareEvent::FsFree(first)),
+            _ if is(verb, b"waiters") => Some(ShareEvent::FsWaiters(first)),
+            _ if is(verb, b"key") => Some(ShareEvent::FsKey(first)),
+            _ if is(verb, b"end") => Some(ShareEvent::FsEnd(first)),
+            _ if is(verb, b"drop") => Some(ShareEvent::FsDrop(first)),
+            _ => None,
+        },
+        Two(first, second) => match verb {
+            _ if is(verb, b"try") => Some(ShareEvent::FsTry(first, second)),
+            _ if is(verb, b"tryo") => Some(ShareEvent::FsTryo(first, second)),
+            _ if is(verb, b"acq") => Some(ShareEvent::FsAcq(first, second)),
+            _ if is(verb, b"acqo") => Some(ShareEvent::FsAcqo(first, second)),
+            _ if is(verb, b"poll") => Some(ShareEvent::FsPoll(first, second)),
+            _ if is(verb, b"weightof") => Some(ShareEvent::FsWeightof(first, second)),
+            _ => None,
+        },
+        Three(first, second, third) => match verb {
+            _ if is(verb, b"weight") => Some(ShareEvent::FsWeight(first, second, third)),
+            _ => None,
+        },
         _ => None,
     }
 }

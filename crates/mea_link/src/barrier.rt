@@ -1,12 +1,12 @@
 //! A barrier that threads and tasks share: `mea::barrier`.
 ghost use Rattle.std.specs.Prelude.{◌≡◌, ◌-◌, length};
 ghost use Rattle.mea_meet_core.specs.Barrier.{Polls, usable_wait};
-ghost use Rattle.mea_seats.specs.declared.seat.Seat.{Seat};
+ghost use Rattle.mea_meet_seats.specs.declared.seat.Seat.{Seat};
 
 use mea_base::{Poll, Wake};
 pub use mea_meet_core::BarrierWaitResult;
 use mea_meet_core::{BarrierCore, BarrierFault, BarrierWait as Place};
-use mea_seats::{Seat, withdraw_from};
+use mea_meet_seats::{Seat, withdraw_from};
 use mea_wait::{End, PollFault, Polled, Unpolled, Waits, hand_out};
 use std::alloc::Global;
 use std::sync::{Mutex, Wait};

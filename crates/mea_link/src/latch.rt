@@ -1,10 +1,10 @@
 //! A latch that threads and tasks share: `mea::latch`.
 ghost use Rattle.std.specs.Prelude.{◌≡◌, ◌-◌, length};
-ghost use Rattle.mea_seats.specs.Seats.{fallen};
+ghost use Rattle.mea_meet_seats.specs.Seats.{fallen};
 
 use mea_base::{NoMemory, Poll, Wake};
 use mea_meet_core::LatchWait as Place;
-use mea_seats::LatchSeats;
+use mea_meet_seats::LatchSeats;
 use mea_wait::{End, Holds, PollFault, Polled, Unpolled, Waits, hand_out};
 use std::alloc::Global;
 use std::marker::PhantomData;

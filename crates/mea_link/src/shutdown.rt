@@ -1,11 +1,11 @@
 //! A shutdown that threads and tasks share: `mea::shutdown`.
 ghost use Rattle.std.specs.Prelude.{◌≡◌, ◌-◌, ◌<◌, length};
-ghost use Rattle.mea_seats.specs.Seats.{fallen};
+ghost use Rattle.mea_meet_seats.specs.Seats.{fallen};
 
 mod waits;
 
 use mea_base::{NoMemory, Overflow, Wake};
-use mea_seats::{GroupSeats, LatchSeats};
+use mea_meet_seats::{GroupSeats, LatchSeats};
 use mea_wait::{End, HandleFault, hand_out};
 use std::alloc::Global;
 use std::sync;

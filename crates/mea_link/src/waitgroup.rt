@@ -1,10 +1,10 @@
 //! A wait group that threads and tasks share: `mea::waitgroup`.
 ghost use Rattle.std.specs.Prelude.{◌≡◌, ◌-◌, ◌<◌, length};
-ghost use Rattle.mea_seats.specs.Seats.{fallen};
+ghost use Rattle.mea_meet_seats.specs.Seats.{fallen};
 
 use mea_base::{NoMemory, Overflow, Poll, Wake};
 use mea_meet_core::GroupWait;
-use mea_seats::GroupSeats;
+use mea_meet_seats::GroupSeats;
 use mea_wait::{End, HandleFault, PollFault, Polled, Unpolled, Waits, hand_out};
 use std::alloc::Global;
 use std::sync;

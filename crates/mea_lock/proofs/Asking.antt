@@ -2,7 +2,7 @@
 use Rattle.std.proofs.Common.{◌≡◌, ℕ, ◌≤◌, ◌||◌, Bool, true, false, length, [], refl, ap, ◌∙◌, arith, if◌then◌else◌}
 use Rattle.mea_base.specs.Ready.{Waking}
 use Rattle.mea_base.specs.declared.turn.Turn.TheVariants.{Ready}
-use Rattle.mea_named.specs.declared.named_waker.NamedWaker.{NamedWaker}
+use Rattle.mea_by_name.specs.declared.named_waker.NamedWaker.{NamedWaker}
 use Rattle.mea_lock_core.specs.RwLock.{IsSound, MayPoll, is_write}
 use Rattle.mea_lock.specs.Cores.{NamedLock}
 use Rattle.mea_lock.specs.Entries.{KeptLock, KeptFuture, Polled, HasLock, Asks}

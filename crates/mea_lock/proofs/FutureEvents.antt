@@ -1,32 +1,32 @@
 -- what each event on a future does to the locks of one kind, as they are kept and as they are seen
 use Rattle.std.proofs.Common.{◌≡◌, ℕ, ◌+◌, ◌-◌, ◌≤◌, ◌==◌, ◌||◌, ◌++◌, inl, inr, Bool, true, false, not, cond, length, List, [], map, nat_lt, Some, None, refl, ap, sym, subst, ◌∙◌, arith, append-nil, if◌then◌else◌}
 use Rattle.std.specs.FinMap.{get, insert, remove}
-use Rattle.mea_base.specs.declared.answer.Answer.{Answer}
-use Rattle.mea_base.specs.declared.answer.Answer.TheVariants as answers
+use Rattle.mea_family.specs.declared.answer.Answer.{Answer}
+use Rattle.mea_family.specs.declared.answer.Answer.TheVariants as answers
 use Rattle.mea_base.specs.declared.turn.Turn.TheVariants.{Ready, Pending}
-use Rattle.mea_base.specs.Family.{Outcome, quietly}
+use Rattle.mea_family.specs.Family.{Outcome, quietly}
 use Rattle.mea_base.specs.Ready.{Waking}
 use Rattle.mea_base.proofs.Maps.{inside, get-there, get-gone}
 use Rattle.mea_base.proofs.Totals.{get_inserted, get_removed}
 use Rattle.mea_base.proofs.NamedMaps.{same_named}
-use Rattle.mea_named.specs.ByName.{Names, seen, own}
-use Rattle.mea_named.specs.Play.{Part, PartYields}
-use Rattle.mea_named.specs.NamedQueue.{waits}
-use Rattle.mea_named.specs.LackingQueue.{who, woken_by}
-use Rattle.mea_named.proofs.Cases.{found_is, if_true, if_false}
-use Rattle.mea_named.proofs.Halls as halls
-use Rattle.mea_named.proofs.Own.{seen-at, seen-insert, seen-remove, seen-alike, own-at, own-none, own-put, own-gone, len-some, count-gone, insert_same, put_gone, gone_none, Moves, Stays, Comes, Goes}
-use Rattle.mea_named.specs.declared.named_waker.NamedWaker.{NamedWaker}
+use Rattle.mea_by_name.specs.ByName.{Names, seen, own}
+use Rattle.mea_family.specs.Play.{Part, PartYields}
+use Rattle.mea_by_name.specs.NamedQueue.{waits}
+use Rattle.mea_by_name.specs.LackingQueue.{who, woken_by}
+use Rattle.mea_by_name.proofs.Cases.{found_is, if_true, if_false}
+use Rattle.mea_by_name.proofs.Halls as halls
+use Rattle.mea_by_name.proofs.Own.{seen-at, seen-insert, seen-remove, seen-alike, own-at, own-none, own-put, own-gone, len-some, count-gone, insert_same, put_gone, gone_none, Moves, Stays, Comes, Goes}
+use Rattle.mea_by_name.specs.declared.named_waker.NamedWaker.{NamedWaker}
 use Rattle.mea_lock_core.specs.RwLock.{MayPoll, MayCancel, share_of, is_write}
 use Rattle.mea_lock_model.specs.Locks as model
 use Rattle.mea_lock_model.specs.Locks.{Lock, LockFuture, Locks, Until, goes_on, taken_from, was_polled, is_lock_future, is_condvar_future, is_waiting_for, things_of, registered, tidied_locks, size}
 use Rattle.mea_lock_model.specs.Actions.{Action, act_in, Poll, PollUntil, EndWait}
-use Rattle.mea_linked.specs.Linked.{names_in}
+use Rattle.mea_cores_by_name.specs.Linked.{names_in}
 use Rattle.mea_lock.specs.declared.guard_entry.GuardEntry.{GuardEntry}
 use Rattle.mea_lock.specs.Cores.{NamedLock, CancelsLock, UnlocksLock, IsHeldAs}
 use Rattle.mea_lock.specs.Entries.{KeptLock, KeptFuture, finished, settled, is_over, Settles, EndsLock, Polled, HasLock}
 use Rattle.mea_lock.specs.Waits.{IsNewWait, is_polled}
-use Rattle.mea_lock.specs.Parts.{lock_seen, future_seen, guard_seen, locks_seen, AreKept, IsKept, of_future, of_guard}
+use Rattle.mea_lock.specs.Parts.{lock_seen, future_seen, guard_seen, locks_seen, AreKept, AreKeptLocks, of_future, of_guard}
 use Rattle.mea_lock.proofs.OneLock as one
 use Rattle.mea_lock.proofs.PartEvents.{Site, tidied_seen, waiting_tidied, tidied_kept, waiters, part_of, writing_ready, writing_pending, free_ready, polled_by, yields_as, no_guard, its_kept, found_lock, waiting_now, turns}
 
@@ -99,7 +99,7 @@ module _ {old : Part Locks} {i : ℕ} (s : Site old i) where
           ∙ ap (λ b. model.gives_up (record (locks_seen s.ls s.fs s.gs) { futures = remove (seen future_seen s.fs) f }) x.lock (lock_seen e) (size (lock_seen e) b)) holder_writes
 
       pub holder_ended : (over : Bool) → is_over (finished e' x.plain) ≡ over
-          → (IsKept (if over then remove (insert s.ls x.lock (finished e' x.plain)) x.lock else insert s.ls x.lock (finished e' x.plain)) (remove s.fs f) s.gs (i + 1))
+          → (AreKeptLocks (if over then remove (insert s.ls x.lock (finished e' x.plain)) x.lock else insert s.ls x.lock (finished e' x.plain)) (remove s.fs f) s.gs (i + 1))
           × PartYields registered old i (act_in old.hall i (EndWait f)) answers.Done (part_of (if over then remove (insert s.ls x.lock (finished e' x.plain)) x.lock else insert s.ls x.lock (finished e' x.plain)) (remove s.fs f) s.gs (i + 1)) before after
       holder_ended over is =
           let over_now : is_over (finished given_up x.plain) ≡ over = ap (λ e. is_over (finished e x.plain)) (sym given_up_is) ∙ is in
@@ -156,7 +156,7 @@ module _ {old : Part Locks} {i : ℕ} (s : Site old i) where
         ]
 
       pub future_ended : (over : Bool) → is_over (finished e' x.plain) ≡ over
-          → (IsKept (if over then remove (insert s.ls x.lock (finished e' x.plain)) x.lock else insert s.ls x.lock (finished e' x.plain)) (remove s.fs f) s.gs (i + 1))
+          → (AreKeptLocks (if over then remove (insert s.ls x.lock (finished e' x.plain)) x.lock else insert s.ls x.lock (finished e' x.plain)) (remove s.fs f) s.gs (i + 1))
           × PartYields registered old i (act_in old.hall i (EndWait f)) answers.Done (part_of (if over then remove (insert s.ls x.lock (finished e' x.plain)) x.lock else insert s.ls x.lock (finished e' x.plain)) (remove s.fs f) s.gs (i + 1)) before after
       future_ended over is =
           let over_now : is_over (finished ended x.plain) ≡ over = ap (λ e. is_over (finished e x.plain)) (sym ended_is) ∙ is in
@@ -164,11 +164,11 @@ module _ {old : Part Locks} {i : ℕ} (s : Site old i) where
 
     -- either
     module _ (l : NamedLock) (e' : KeptLock) (before after : Waking ℕ) (ends : EndsLock e.lock x l) (settles : Settles e l e' before after) (over : Bool) (is : is_over (finished e' x.plain) ≡ over) where
-      pub wait_ended : (IsKept (if over then remove (insert s.ls x.lock (finished e' x.plain)) x.lock else insert s.ls x.lock (finished e' x.plain)) (remove s.fs f) s.gs (i + 1))
+      pub wait_ended : (AreKeptLocks (if over then remove (insert s.ls x.lock (finished e' x.plain)) x.lock else insert s.ls x.lock (finished e' x.plain)) (remove s.fs f) s.gs (i + 1))
           × PartYields registered old i (act_in old.hall i (EndWait f)) answers.Done (part_of (if over then remove (insert s.ls x.lock (finished e' x.plain)) x.lock else insert s.ls x.lock (finished e' x.plain)) (remove s.fs f) s.gs (i + 1)) before after
       wait_ended = at x.holds refl
         where
-          at : (b : Bool) → x.holds ≡ b → (IsKept (if over then remove (insert s.ls x.lock (finished e' x.plain)) x.lock else insert s.ls x.lock (finished e' x.plain)) (remove s.fs f) s.gs (i + 1))
+          at : (b : Bool) → x.holds ≡ b → (AreKeptLocks (if over then remove (insert s.ls x.lock (finished e' x.plain)) x.lock else insert s.ls x.lock (finished e' x.plain)) (remove s.fs f) s.gs (i + 1))
               × PartYields registered old i (act_in old.hall i (EndWait f)) answers.Done (part_of (if over then remove (insert s.ls x.lock (finished e' x.plain)) x.lock else insert s.ls x.lock (finished e' x.plain)) (remove s.fs f) s.gs (i + 1)) before after
           at true holds = holder_ended holds l e' before after (ends.0 holds) settles over is
           at false waits = future_ended waits l e' before after (ends.1 waits) settles over is
@@ -189,11 +189,11 @@ module _ {old : Part Locks} {i : ℕ} (s : Site old i) where
 
     -- a poll that found no memory has changed nothing
     pub undone : (e' : KeptLock) (x' : KeptFuture) (gs' : Names GuardEntry) → e' ≡ e → x' ≡ x → gs' ≡ s.gs
-        → (IsKept (insert s.ls x.lock e') (insert s.fs f x') gs' s.next) × (part_of (insert s.ls x.lock e') (insert s.fs f x') gs' s.next ≡ old)
+        → (AreKeptLocks (insert s.ls x.lock e') (insert s.fs f x') gs' s.next) × (part_of (insert s.ls x.lock e') (insert s.fs f x') gs' s.next ≡ old)
     undone e' x' gs' same alike still = rw (same, alike, still, insert_same s.ls x.lock e there, insert_same s.fs f x future) (s.kept, s.view)
 
     pub undone_after : (e' : KeptLock) (x' : KeptFuture) (gs' gs'' : Names GuardEntry) → e' ≡ e → x' ≡ x → gs' ≡ insert s.gs i guard_made → gs'' ≡ remove gs' i
-        → (IsKept (insert s.ls x.lock e') (insert s.fs f x') gs'' s.next) × (part_of (insert s.ls x.lock e') (insert s.fs f x') gs'' s.next ≡ old)
+        → (AreKeptLocks (insert s.ls x.lock e') (insert s.fs f x') gs'' s.next) × (part_of (insert s.ls x.lock e') (insert s.fs f x') gs'' s.next ≡ old)
     undone_after e' x' gs' gs'' same alike made gone = undone e' x' gs'' same alike (gone ∙ unmade gs' made)
 
     module _ (waits_now : x.holds ≡ false) (w : ℕ) (e' : KeptLock) (x' : KeptFuture) (before after : Waking ℕ) where
@@ -214,7 +214,7 @@ module _ {old : Part Locks} {i : ℕ} (s : Site old i) where
         abbrev ready_locks : Names KeptLock
         ready_locks = insert s.ls x.lock locked_by
 
-        ready_kept : IsKept ready_locks (remove s.fs f) (insert s.gs i guard_made) (i + 1)
+        ready_kept : AreKeptLocks ready_locks (remove s.fs f) (insert s.gs i guard_made) (i + 1)
         ready_kept = (turns s) x.lock e there locked_by (remove s.fs f) (insert s.gs i guard_made)
             (Goes f (λ y is. ap of_future (inside (sym is ∙ future))))
             (Comes i guard_made (omega arith) refl (λ y had. absurd (let none = (no_guard s) in cc)))
@@ -235,7 +235,7 @@ module _ {old : Part Locks} {i : ℕ} (s : Site old i) where
             (first : waits (who (names_in e.lock.permits.queue)) f ≡ false → is_polled x.wait ≡ false → nat_lt e.lock.permits.free (share_of e.lock (is_write x.wait)) ≡ false
             → act_in (locks_seen s.ls s.fs s.gs) i a ≡ model.becomes_guard (locks_seen s.ls s.fs s.gs) i f (future_seen x) (taken_from (lock_seen e) (share_of e.lock (is_write x.wait)))) where
           readied_by : (fs' : Names KeptFuture) → fs' ≡ remove (insert s.fs f x') f → (gs' : Names GuardEntry) → gs' ≡ insert s.gs i guard_made
-              → (IsKept (insert s.ls x.lock e') fs' gs' (i + 1)) × PartYields registered old i (act_in old.hall i a) answers.Ready (part_of (insert s.ls x.lock e') fs' gs' (i + 1)) before after
+              → (AreKeptLocks (insert s.ls x.lock e') fs' gs' (i + 1)) × PartYields registered old i (act_in old.hall i a) answers.Ready (part_of (insert s.ls x.lock e') fs' gs' (i + 1)) before after
           readied_by fs' gone gs' made = rw (entry_is, gone, made, put_gone s.fs f x') (
             ready_kept,
             elim its_ready.seen [
@@ -245,13 +245,13 @@ module _ {old : Part Locks} {i : ℕ} (s : Site old i) where
           )
 
         pub readied : (fs' : Names KeptFuture) → fs' ≡ remove (insert s.fs f x') f → (gs' : Names GuardEntry) → gs' ≡ insert s.gs i guard_made
-            → (IsKept (insert s.ls x.lock e') fs' gs' (i + 1)) × PartYields registered old i (act_in old.hall i (Poll f w)) answers.Ready (part_of (insert s.ls x.lock e') fs' gs' (i + 1)) before after
+            → (AreKeptLocks (insert s.ls x.lock e') fs' gs' (i + 1)) × PartYields registered old i (act_in old.hall i (Poll f w)) answers.Ready (part_of (insert s.ls x.lock e') fs' gs' (i + 1)) before after
         readied = readied_by (Poll f w) (λ apart had. polls_as w _ (if_false _ _ _ apart ∙ if_true _ _ _ (polled_by x.holds (is_polled x.wait) waits_now had)))
             (λ apart new enough. polls_as w _ (if_false _ _ _ apart ∙ if_false _ _ _ (polled_by x.holds (is_polled x.wait) waits_now new) ∙ if_false _ _ _ enough))
 
         -- the wait is over at this value
         pub readied_until : (until : Until) → goes_on until e.lock.value ≡ false → (fs' : Names KeptFuture) → fs' ≡ remove (insert s.fs f x') f → (gs' : Names GuardEntry) → gs' ≡ insert s.gs i guard_made
-            → (IsKept (insert s.ls x.lock e') fs' gs' (i + 1)) × PartYields registered old i (act_in old.hall i (PollUntil f w until)) answers.Ready (part_of (insert s.ls x.lock e') fs' gs' (i + 1)) before after
+            → (AreKeptLocks (insert s.ls x.lock e') fs' gs' (i + 1)) × PartYields registered old i (act_in old.hall i (PollUntil f w until)) answers.Ready (part_of (insert s.ls x.lock e') fs' gs' (i + 1)) before after
         readied_until until over = readied_by (PollUntil f w until) (λ apart had. until_as w until _ (if_false _ _ _ apart ∙ if_true _ _ _ (polled_by x.holds (is_polled x.wait) waits_now had) ∙ if_false _ _ _ over))
             (λ apart new enough. until_as w until _ (if_false _ _ _ apart ∙ if_false _ _ _ (polled_by x.holds (is_polled x.wait) waits_now new) ∙ if_false _ _ _ enough ∙ if_false _ _ _ over))
 
@@ -271,7 +271,7 @@ module _ {old : Part Locks} {i : ℕ} (s : Site old i) where
         its_pending : one.IsPending e (own of_future x.lock s.fs) (own of_guard x.lock s.gs) ((its_kept s) x.lock e there) f x own_future waits_now w polled.left.permits x'.wait
         its_pending = one.polls_pending e _ _ ((its_kept s) x.lock e there) f x own_future waits_now w polled.left.permits x'.wait polled.polls.holds (rw left_still at polled.polls.sound) polled.polls.writes polled.polls.polls
 
-        pending_kept : IsKept (insert s.ls x.lock waited_for) (insert s.fs f waiting_on) s.gs (i + 1)
+        pending_kept : AreKeptLocks (insert s.ls x.lock waited_for) (insert s.fs f waiting_on) s.gs (i + 1)
         pending_kept = (turns s) x.lock e there waited_for (insert s.fs f waiting_on) s.gs
             (Comes f waiting_on (omega (arith, (s.kept.firsts.at f x future).0, s.later)) refl (λ y is. ap of_future (inside (sym is ∙ future)))) Stays
             (rw (own-put of_future x.lock s.fs f waiting_on refl) its_pending.stays) (omega arith)
@@ -297,7 +297,7 @@ module _ {old : Part Locks} {i : ℕ} (s : Site old i) where
             (first : waits (who (names_in e.lock.permits.queue)) f ≡ false → is_polled x.wait ≡ false → nat_lt e.lock.permits.free (share_of e.lock (is_write x.wait)) ≡ true
             → act_in (locks_seen s.ls s.fs s.gs) i a ≡ model.queues (locks_seen s.ls s.fs s.gs) f w (future_seen x) (lock_seen e)) where
           pended_by : (gs' gs'' : Names GuardEntry) → gs' ≡ insert s.gs i guard_made → gs'' ≡ remove gs' i
-              → (IsKept (insert s.ls x.lock e') (insert s.fs f x') gs'' (i + 1)) × PartYields registered old i (act_in old.hall i a) answers.Pending (part_of (insert s.ls x.lock e') (insert s.fs f x') gs'' (i + 1)) before after
+              → (AreKeptLocks (insert s.ls x.lock e') (insert s.fs f x') gs'' (i + 1)) × PartYields registered old i (act_in old.hall i a) answers.Pending (part_of (insert s.ls x.lock e') (insert s.fs f x') gs'' (i + 1)) before after
           pended_by gs' gs'' made gone = rw (entry_still, polled.future, gone ∙ unmade gs' made) (
             pending_kept,
             elim its_pending.seen [
@@ -308,19 +308,19 @@ module _ {old : Part Locks} {i : ℕ} (s : Site old i) where
           )
 
         pub pended : (gs' gs'' : Names GuardEntry) → gs' ≡ insert s.gs i guard_made → gs'' ≡ remove gs' i
-            → (IsKept (insert s.ls x.lock e') (insert s.fs f x') gs'' (i + 1)) × PartYields registered old i (act_in old.hall i (Poll f w)) answers.Pending (part_of (insert s.ls x.lock e') (insert s.fs f x') gs'' (i + 1)) before after
+            → (AreKeptLocks (insert s.ls x.lock e') (insert s.fs f x') gs'' (i + 1)) × PartYields registered old i (act_in old.hall i (Poll f w)) answers.Pending (part_of (insert s.ls x.lock e') (insert s.fs f x') gs'' (i + 1)) before after
         pended = pended_by (Poll f w) (λ on. polls_as w _ (if_true _ _ _ on))
             (λ apart new few. polls_as w _ (if_false _ _ _ apart ∙ if_false _ _ _ (polled_by x.holds (is_polled x.wait) waits_now new) ∙ if_true _ _ _ few))
 
         pub pended_until : (until : Until) (gs' gs'' : Names GuardEntry) → gs' ≡ insert s.gs i guard_made → gs'' ≡ remove gs' i
-            → (IsKept (insert s.ls x.lock e') (insert s.fs f x') gs'' (i + 1)) × PartYields registered old i (act_in old.hall i (PollUntil f w until)) answers.Pending (part_of (insert s.ls x.lock e') (insert s.fs f x') gs'' (i + 1)) before after
+            → (AreKeptLocks (insert s.ls x.lock e') (insert s.fs f x') gs'' (i + 1)) × PartYields registered old i (act_in old.hall i (PollUntil f w until)) answers.Pending (part_of (insert s.ls x.lock e') (insert s.fs f x') gs'' (i + 1)) before after
         pended_until until = pended_by (PollUntil f w until) (λ on. until_as w until _ (if_true _ _ _ on))
             (λ apart new few. until_as w until _ (if_false _ _ _ apart ∙ if_false _ _ _ (polled_by x.holds (is_polled x.wait) waits_now new) ∙ if_true _ _ _ few))
 
     -- ---- the poll of that of a wait
     -- the outcome of a poll that leaves these
     abbrev Until_yields : ℕ → Until → Answer → KeptLock → Names KeptFuture → Names GuardEntry → Waking ℕ → Waking ℕ → Type 0
-    Until_yields w until answer e' fs' gs' before after = (IsKept (insert s.ls x.lock e') fs' gs' (i + 1)) × PartYields registered old i (act_in old.hall i (PollUntil f w until)) answer (part_of (insert s.ls x.lock e') fs' gs' (i + 1)) before after
+    Until_yields w until answer e' fs' gs' before after = (AreKeptLocks (insert s.ls x.lock e') fs' gs' (i + 1)) × PartYields registered old i (act_in old.hall i (PollUntil f w until)) answer (part_of (insert s.ls x.lock e') fs' gs' (i + 1)) before after
 
     -- one that holds the lock is ready
     module _ (holds : x.holds ≡ true) (w : ℕ) (until : Until) where

@@ -1,7 +1,7 @@
 -- the calls of each kind of core, as the hall sees them
 use Rattle.std.proofs.Common.{◌≡◌, ℕ, ◌+◌, ◌-◌, ◌≤◌, Bool, true, false, nat_lt, refl, ap, ◌∙◌, arith}
 use Rattle.std.proofs.lemmas.Bool.Decides.{nat_tests}
-use Rattle.mea_named.specs.declared.named_waker.NamedWaker.{NamedWaker}
+use Rattle.mea_by_name.specs.declared.named_waker.NamedWaker.{NamedWaker}
 use Rattle.mea_sem_core.specs.Core.{held_of}
 use Rattle.mea_sem_core.specs.Calls.{given_back}
 use Rattle.mea_lock_core.specs.Lock as mutex

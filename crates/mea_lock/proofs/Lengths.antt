@@ -4,8 +4,8 @@ use Rattle.std.proofs.lemmas.Bool.{cases_lt}
 use Rattle.std.proofs.lemmas.List.{length-append}
 use Rattle.mea_base.specs.Queue.{granted_in}
 use Rattle.mea_base.specs.declared.turn.Turn.{Turn}
-use Rattle.mea_named.proofs.LackingQueues.{poured_parts}
-use Rattle.mea_named.specs.declared.named_waker.NamedWaker.{NamedWaker}
+use Rattle.mea_by_name.proofs.LackingQueues.{poured_parts}
+use Rattle.mea_by_name.specs.declared.named_waker.NamedWaker.{NamedWaker}
 use Rattle.mea_sem_core.specs.declared.acquire.Acquire.{Acquire}
 use Rattle.mea_sem_core.specs.declared.acquire.Acquire.TheVariants.{New, Queued, Done, Refused}
 use Rattle.mea_sem_core.specs.Core.{Core, Waiter, Acquires, Owes, wakers_of, poured}

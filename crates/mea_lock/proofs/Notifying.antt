@@ -2,7 +2,7 @@
 use Rattle.std.proofs.Common.{◌≡◌, ℕ, ◌-◌, ◌++◌, true, length, List, [], ◌∷◌, map, refl, ap, sym, ◌∙◌}
 use Rattle.std.proofs.lemmas.List.{length-map}
 use Rattle.mea_base.specs.Ready.{Waking}
-use Rattle.mea_named.specs.declared.named_waker.NamedWaker.{NamedWaker}
+use Rattle.mea_by_name.specs.declared.named_waker.NamedWaker.{NamedWaker}
 use Rattle.mea_lock_core.specs.Condvar.{Condvar, first_notified, notified_one, notified_all}
 use Rattle.mea_lock.specs.CondEntries.{wakers_in, NotifiesFirst}
 
@@ -36,17 +36,6 @@ popped s s1 s2 k n before after quiet told taken ready = at s.waiting refl
           };
           ready = ready;
         }
-
--- where no waker was made ready nobody waits
-pub unpopped : (s s1 s2 : Condvar NamedWaker) → s.wakes ≡ [] → s1 ≡ notified_one s → s1.wakes ≡ [] → s2 ≡ s1 → (s.waiting ≡ []) × (s2 ≡ s)
-unpopped s s1 s2 quiet told none same = at s.waiting refl
-  where
-    at : (q : List (ℕ × NamedWaker)) → s.waiting ≡ q → (s.waiting ≡ []) × (s2 ≡ s)
-    at [] is = (is, same ∙ told ∙ ap (λ q. first_notified true q s) is)
-    at (e ∷ q) is = absurd (
-        let some : s1.wakes ≡ s.wakes ++ e.1 ∷ [] = ap (λ (s : Condvar NamedWaker). s.wakes) (told ∙ ap (λ q. first_notified true q s) is) in
-        let one : s1.wakes ≡ e.1 ∷ [] = some ∙ ap (λ ws. ws ++ e.1 ∷ []) quiet in
-        cc)
 
 pub wakers-all : (q : List (ℕ × NamedWaker)) → map (λ (k : NamedWaker). k.waker) (map (λ (e : ℕ × NamedWaker). e.1) q) ≡ wakers_in q
 wakers-all [] = refl

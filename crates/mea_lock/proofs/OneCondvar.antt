@@ -5,11 +5,11 @@ use Rattle.std.specs.Ordering.{nat_cmp}
 use Rattle.std.specs.FinMap.{FinMap, get, insert, remove, empty, len-empty}
 use Rattle.std.proofs.lemmas.Bool.{cases_eq, eqb-true, eqb-false, eq-eqb, ne_eqb}
 use Rattle.mea_base.proofs.Maps.{by_put, by_gone, removed_there, nothing_at, inside, get-there, get-other, get-removed_other}
-use Rattle.mea_named.specs.declared.named_waker.NamedWaker.{NamedWaker}
-use Rattle.mea_named.specs.ByName.{Names}
-use Rattle.mea_named.specs.NamedQueue as named
-use Rattle.mea_named.specs.NamedQueue.{waits}
-use Rattle.mea_named.proofs.Own.{len-new, len-gone, len-over, len-some}
+use Rattle.mea_by_name.specs.declared.named_waker.NamedWaker.{NamedWaker}
+use Rattle.mea_by_name.specs.ByName.{Names}
+use Rattle.mea_by_name.specs.NamedQueue as named
+use Rattle.mea_by_name.specs.NamedQueue.{waits}
+use Rattle.mea_by_name.proofs.Own.{len-new, len-gone, len-over, len-some}
 use Rattle.mea_lock_core.specs.Condvar.{Condvar, Knows, AreApart, waker_under, with_waker, without_wait, notifying}
 use Rattle.mea_lock.specs.declared.wait_entry.WaitEntry.{WaitEntry}
 use Rattle.mea_lock.specs.CondEntries.{KeptCondvar, listed_in, IsWaitingUnder, forgotten, forgotten_under}

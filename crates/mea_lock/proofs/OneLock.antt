@@ -9,11 +9,11 @@ use Rattle.mea_base.specs.Totals.{weight}
 use Rattle.mea_base.specs.declared.turn.Turn.TheVariants.{Ready, Pending}
 use Rattle.mea_base.proofs.Maps.{by_put, removed_there, nothing_at, total-has, get-removed_other}
 use Rattle.mea_base.proofs.Totals.{total-empty, total-insert, total-remove}
-use Rattle.mea_named.specs.declared.named_waker.NamedWaker.{NamedWaker}
-use Rattle.mea_named.specs.ByName.{Names}
-use Rattle.mea_named.specs.NamedQueue.{waits}
-use Rattle.mea_named.specs.LackingQueue.{who, lack_for, rewoken, leaving, woken_by}
-use Rattle.mea_named.proofs.Own.{seen-at, seen-none, seen-back, seen-insert, seen-remove, seen-empty, len-new, len-gone, len-over, len-some, count-least, insert_same, count-new, count-gone, count-over}
+use Rattle.mea_by_name.specs.declared.named_waker.NamedWaker.{NamedWaker}
+use Rattle.mea_by_name.specs.ByName.{Names}
+use Rattle.mea_by_name.specs.NamedQueue.{waits}
+use Rattle.mea_by_name.specs.LackingQueue.{who, lack_for, rewoken, leaving, woken_by}
+use Rattle.mea_by_name.proofs.Own.{seen-at, seen-none, seen-back, seen-insert, seen-remove, seen-empty, len-new, len-gone, len-over, len-some, count-least, insert_same, count-new, count-gone, count-over}
 use Rattle.mea_sem_core.specs.Acquire.{demand_of}
 use Rattle.mea_sem_core.specs.declared.acquire.Acquire.{Acquire}
 use Rattle.mea_sem_core.specs.declared.acquire.Acquire.TheVariants.{New, Queued, Done, Refused}
@@ -25,14 +25,14 @@ use Rattle.mea_lock_core.specs.declared.rw_wait.RwWait.{RwWait}
 use Rattle.mea_lock_core.specs.declared.rw_wait.RwWait.TheVariants.{Read, NewWrite, Write}
 use Rattle.mea_lock_model.specs.Locks as model
 use Rattle.mea_lock_model.specs.Locks.{taken_from}
-use Rattle.mea_linked.specs.Linked.{names_in, AreOf, IsHome, Linked}
-use Rattle.mea_linked.proofs.Linking.{IsUnqueued, unqueued_waits, linked_gone, linked_begun, linked_pushed, queued_waits, queued_lacks, queued_with, queued_without, linked_again, linked_taken, linked_left, push-names}
+use Rattle.mea_cores_by_name.specs.Linked.{names_in, AreOf, IsHome, Linked}
+use Rattle.mea_cores_by_name.proofs.Linking.{IsUnqueued, unqueued_waits, linked_gone, linked_begun, linked_pushed, queued_waits, queued_lacks, queued_with, queued_without, linked_again, linked_taken, linked_left, push-names}
 use Rattle.mea_lock.specs.declared.guard_entry.GuardEntry.{GuardEntry}
 use Rattle.mea_lock.specs.Cores.{NamedLock, acquire_of, IsFreeFor, TakesLock, UnlocksLock, LowersLock, IsHeldAs}
 use Rattle.mea_lock.specs.Entries.{KeptLock, KeptFuture, begun, finished, settled}
 use Rattle.mea_lock.specs.Waits.{has_number, is_polled, IsNewWait}
 use Rattle.mea_lock.specs.Parts.{lock_seen, acquires_of, held_by, held_in, IsHolder, WaitsWrite, AreKept, IsNewLock}
-use Rattle.mea_linked.proofs.Poured.{queue_poured, woken_poured, poured_linked}
+use Rattle.mea_cores_by_name.proofs.Poured.{queue_poured, woken_poured, poured_linked}
 use Rattle.mea_lock.proofs.Pours.{no_debt_without, free_poured}
 
 -- ---- waits and their acquires

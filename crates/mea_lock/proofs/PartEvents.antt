@@ -4,38 +4,38 @@ use Rattle.std.specs.Option.{IsSome}
 use Rattle.std.specs.FinMap.{get, insert, remove, len, empty}
 use Rattle.std.proofs.lemmas.Bool.{cases_lt}
 use Rattle.std.proofs.lemmas.Bool.Decides.{nat_tests}
-use Rattle.mea_base.specs.declared.answer.Answer.{Answer}
-use Rattle.mea_base.specs.declared.answer.Answer.TheVariants as answers
+use Rattle.mea_family.specs.declared.answer.Answer.{Answer}
+use Rattle.mea_family.specs.declared.answer.Answer.TheVariants as answers
 use Rattle.mea_base.specs.declared.turn.Turn.TheVariants.{Ready}
-use Rattle.mea_base.specs.Family.{Outcome}
+use Rattle.mea_family.specs.Family.{Outcome}
 use Rattle.mea_base.specs.Ready.{Waking}
 use Rattle.mea_base.specs.Totals.{total, weight}
 use Rattle.mea_base.proofs.Maps.{total-has, nothing_at, inside, get-there, is_there}
 use Rattle.mea_base.proofs.Totals.{total-insert, total-remove, total-same}
 use Rattle.mea_base.proofs.NamedMaps.{is_some-map, get-seen}
-use Rattle.mea_named.specs.ByName.{Names, seen, own, count}
-use Rattle.mea_named.specs.Play.{Part, PartYields, PartRests, found}
-use Rattle.mea_named.specs.NamedQueue.{waits}
-use Rattle.mea_named.specs.LackingQueue.{who}
-use Rattle.mea_named.proofs.LackingQueues.{length-who}
-use Rattle.mea_named.proofs.Cases.{found_is, if_true, if_false}
-use Rattle.mea_named.proofs.Halls as halls
-use Rattle.mea_named.proofs.Own.{seen-at, seen-back, seen-empty, seen-insert, seen-remove, seen-alike, own-seen, len-seen, total-seen, own-at, own-none, own-put, own-gone, len-some, count-gone, insert_same, put_gone, gone_none, Moves, Stays, Comes, Goes}
-use Rattle.mea_named.specs.declared.named_waker.NamedWaker.{NamedWaker}
+use Rattle.mea_by_name.specs.ByName.{Names, seen, own, count}
+use Rattle.mea_family.specs.Play.{Part, PartYields, PartRests, found}
+use Rattle.mea_by_name.specs.NamedQueue.{waits}
+use Rattle.mea_by_name.specs.LackingQueue.{who}
+use Rattle.mea_by_name.proofs.LackingQueues.{length-who}
+use Rattle.mea_by_name.proofs.Cases.{found_is, if_true, if_false}
+use Rattle.mea_by_name.proofs.Halls as halls
+use Rattle.mea_by_name.proofs.Own.{seen-at, seen-back, seen-empty, seen-insert, seen-remove, seen-alike, own-seen, len-seen, total-seen, own-at, own-none, own-put, own-gone, len-some, count-gone, insert_same, put_gone, gone_none, Moves, Stays, Comes, Goes}
+use Rattle.mea_by_name.specs.declared.named_waker.NamedWaker.{NamedWaker}
 use Rattle.mea_lock_core.specs.RwLock.{LetsIn, share_of}
 use Rattle.mea_lock_model.specs.Locks as model
 use Rattle.mea_lock_model.specs.Locks.{Lock, LockFuture, LockGuard, Locks, is_named, is_named_lock, is_future, is_lock_future, is_condvar_future, is_waiting_for, is_guard, is_write_guard, is_write as guard_writes, things_of, plain_of, registered, tidied_locks, size}
 use Rattle.mea_lock_model.specs.Valid.{held_by, FitGuards}
 use Rattle.mea_lock_model.specs.Actions.{act_in, Make, Begin, Try, Get, Set, Lower, End, Peek, Put, Take, Drop, Hand}
-use Rattle.mea_linked.specs.Linked.{names_in}
+use Rattle.mea_cores_by_name.specs.Linked.{names_in}
 use Rattle.mea_lock.specs.declared.guard_entry.GuardEntry.{GuardEntry}
 use Rattle.mea_lock.specs.Cores.{NamedLock, TakesLock, UnlocksLock, LowersLock, IsHeldAs, IsFreeFor}
 use Rattle.mea_lock.specs.Entries.{KeptLock, KeptFuture, begun, finished, settled, is_over, Settles}
 use Rattle.mea_lock.specs.Waits.{IsNewWait, is_polled}
-use Rattle.mea_lock.specs.Parts.{lock_seen, future_seen, guard_seen, locks_seen, held_by as held_of_guards, AreKept, IsKept, IsNewLock, of_future, of_guard}
+use Rattle.mea_lock.specs.Parts.{lock_seen, future_seen, guard_seen, locks_seen, held_by as held_of_guards, AreKept, AreKeptLocks, IsNewLock, of_future, of_guard}
 use Rattle.mea_lock.specs.Lends.{StandsFor}
 use Rattle.mea_lock.proofs.OneLock as one
-use Rattle.mea_linked.proofs.Waiters.{length-names}
+use Rattle.mea_cores_by_name.proofs.Waiters.{length-names}
 use Rattle.mea_base.proofs.Tests.{over_is}
 
 -- how many wait at the locks that are kept
@@ -93,7 +93,7 @@ module _ {old : Part Locks} (ls : Names KeptLock) (fs : Names KeptFuture) (gs : 
   pub waiting_of : (condvar : Bool) (f : ℕ) (p : Option KeptFuture) → get fs f ≡ p → is_waiting_for condvar (option_map future_seen p) ≡ is_waiting_for condvar (get old.hall.futures f)
   waiting_of condvar f p is = ap (λ q. is_waiting_for condvar (option_map future_seen q)) (sym is) ∙ ap (is_waiting_for condvar) (sym (get-seen (λ k x. future_seen x) fs f)) ∙ ap (λ (p : Part Locks). is_waiting_for condvar (get p.hall.futures f)) view
 
-  module _ (kept : IsKept ls fs gs next) (o : ℕ) (e : KeptLock) (there : get ls o ≡ Some e) where
+  module _ (kept : AreKeptLocks ls fs gs next) (o : ℕ) (e : KeptLock) (there : get ls o ≡ Some e) where
     pub things_of_it : things_of old.hall o ≡ e.things
     things_of_it = ap (λ (p : Part Locks). things_of p.hall o) (sym view) ∙ things_seen ls fs gs o ∙ sym (kept.each o e there).things
 
@@ -105,7 +105,7 @@ module _ {old : Part Locks} (ls : Names KeptLock) (fs : Names KeptFuture) (gs : 
         ∙ (λ i. Some (record { value = e.lock.value; most = e.lock.most; free = e.lock.permits.free; queue = names_in e.lock.permits.queue; named = named i }))
 
   -- the guards of each lock have no more than the lock has
-  pub guards_fit : IsKept ls fs gs next → FitGuards old.hall
+  pub guards_fit : AreKeptLocks ls fs gs next → FitGuards old.hall
   guards_fit kept = subst (λ (p : Part Locks). FitGuards p.hall) view (record {
     some = λ o r there. let it = seen-back lock_seen ls o r there in
         let most : it.0.lock.most ≡ r.most = ap (λ (r : Lock). r.most) it.2 in
@@ -131,11 +131,11 @@ pub record Site (old : Part Locks) (i : ℕ) : Type 0 where
   pub gs : Names GuardEntry
   pub next : ℕ
   pub view : ◌≡◌ {A = Part Locks} (record { hall = locks_seen ls fs gs; next = next }) old
-  pub kept : IsKept ls fs gs next
+  pub kept : AreKeptLocks ls fs gs next
   pub later : next ≤ i
   pub fits : i < 2 ^ 64
 
-abbrev pub site : {old : Part Locks} {i : ℕ} (ls : Names KeptLock) (fs : Names KeptFuture) (gs : Names GuardEntry) (next : ℕ) → ◌≡◌ {A = Part Locks} (record { hall = locks_seen ls fs gs; next = next }) old → IsKept ls fs gs next → old.next ≤ i → i < 2 ^ 64 → Site old i
+abbrev pub site : {old : Part Locks} {i : ℕ} (ls : Names KeptLock) (fs : Names KeptFuture) (gs : Names GuardEntry) (next : ℕ) → ◌≡◌ {A = Part Locks} (record { hall = locks_seen ls fs gs; next = next }) old → AreKeptLocks ls fs gs next → old.next ≤ i → i < 2 ^ 64 → Site old i
 site ls fs gs next view kept later fits = record { ls = ls; fs = fs; gs = gs; next = next; view = view; kept = kept; later = rw (← view) at later; fits = fits }
 
 -- the locks of one kind after it
@@ -236,12 +236,12 @@ module _ {old : Part Locks} {i : ℕ} (s : Site old i) where
   pub no_guard : get s.gs i ≡ None
   no_guard = halls.no_second of_future of_guard AreKept (λ e. e.things) s.ls s.fs s.gs s.next i s.kept s.later s.fits
 
-  pub rests : IsKept s.ls s.fs s.gs (i + 1)
+  pub rests : AreKeptLocks s.ls s.fs s.gs (i + 1)
   rests = halls.rests of_future of_guard AreKept (λ e. e.things) s.ls s.fs s.gs s.next i s.kept s.later s.fits
 
   -- ---- a lock is made
   pub made : (l : NamedLock) → IsNewLock l l.value l.most
-      → IsKept (insert s.ls i (record { lock = l; named = true; things = 0; plain = 0 })) s.fs s.gs (i + 1)
+      → AreKeptLocks (insert s.ls i (record { lock = l; named = true; things = 0; plain = 0 })) s.fs s.gs (i + 1)
       × PartRests registered old i (act_in old.hall i (Make l.value l.most)) answers.Made (part_of (insert s.ls i (record { lock = l; named = true; things = 0; plain = 0 })) s.fs s.gs (i + 1))
   made l new =
       let e : KeptLock = record { lock = l; named = true; things = 0; plain = 0 } in
@@ -289,7 +289,7 @@ module _ {old : Part Locks} {i : ℕ} (s : Site old i) where
         omega (arith, here, total-insert (λ o e. waiters e) s.ls o e')
 
     pub turns : (e' : KeptLock) (fs' : Names KeptFuture) (gs' : Names GuardEntry) → Moves of_future o i s.fs fs' → Moves of_guard o i s.gs gs' → AreKept e' (own of_future o fs') (own of_guard o gs') → e'.things ≤ e.things + 1
-        → IsKept (insert s.ls o e') fs' gs' (i + 1)
+        → AreKeptLocks (insert s.ls o e') fs' gs' (i + 1)
     turns e' fs' gs' firsts seconds good few = halls.turns of_future of_guard AreKept (λ e. e.things) s.ls s.fs s.gs s.next i s.kept s.later s.fits o e e' fs' gs' there firsts seconds good few
 
     -- ---- the lock is e' now, or gone where that is over
@@ -297,7 +297,7 @@ module _ {old : Part Locks} {i : ℕ} (s : Site old i) where
       abbrev pub tidied : Bool → Names KeptLock
       tidied over = if over then remove (insert s.ls o e') o else insert s.ls o e'
 
-      pub tidied_kept : (over : Bool) → is_over e' ≡ over → IsKept (tidied over) fs' gs' (i + 1)
+      pub tidied_kept : (over : Bool) → is_over e' ≡ over → AreKeptLocks (tidied over) fs' gs' (i + 1)
       tidied_kept true is =
           let none = (over_is e'.named e'.things is).1 in
           rw put_gone (halls.goes_out of_future of_guard AreKept (λ e. e.things) s.ls s.fs s.gs s.next i s.kept s.later s.fits o e fs' gs' there firsts seconds (omega (arith, none, good.things)) (omega (arith, none, good.things)))
@@ -325,7 +325,7 @@ module _ {old : Part Locks} {i : ℕ} (s : Site old i) where
       waiting_tidied false is = waiting_now e'
 
     -- a look alone changes nothing
-    pub unchanged : (IsKept (insert s.ls o e) s.fs s.gs s.next) × (part_of (insert s.ls o e) s.fs s.gs s.next ≡ old)
+    pub unchanged : (AreKeptLocks (insert s.ls o e) s.fs s.gs s.next) × (part_of (insert s.ls o e) s.fs s.gs s.next ≡ old)
     unchanged = rw (insert_same s.ls o e there) (s.kept, s.view)
 
     pub over_there : (e' : KeptLock) → IsSome (get (insert s.ls o e') o)
@@ -335,7 +335,7 @@ module _ {old : Part Locks} {i : ℕ} (s : Site old i) where
     abbrev pub revalue : ℕ → Bool → KeptLock
     revalue v named = record e { lock = record e.lock { value = v }; named = named }
 
-    pub valued : (v : ℕ) → IsKept (insert s.ls o (revalue v e.named)) s.fs s.gs (i + 1)
+    pub valued : (v : ℕ) → AreKeptLocks (insert s.ls o (revalue v e.named)) s.fs s.gs (i + 1)
     valued v = turns (revalue v e.named) s.fs s.gs Stays Stays (one.revalued e _ _ its_kept v e.named) (omega arith)
 
     writes_by : (out : Locks → Outcome Locks) (v : ℕ) → out (locks_seen s.ls s.fs s.gs) ≡ model.write (locks_seen s.ls s.fs s.gs) o v (lock_seen e) → PartRests registered old i (out old.hall) answers.Done (part_of (insert s.ls o (revalue v e.named)) s.fs s.gs (i + 1))
@@ -347,11 +347,11 @@ module _ {old : Part Locks} {i : ℕ} (s : Site old i) where
     tells_by : (out : Locks → Outcome Locks) → out (locks_seen s.ls s.fs s.gs) ≡ model.tell (locks_seen s.ls s.fs s.gs) (lock_seen e) → PartRests registered old i (out old.hall) (answers.Value e.lock.value) (part_of s.ls s.fs s.gs (i + 1))
     tells_by out is = rests_as out _ (answers.Value e.lock.value) s.ls s.fs s.gs is refl refl refl refl refl refl
 
-    pub peeked : (IsKept (insert s.ls o e) s.fs s.gs (i + 1)) × PartRests registered old i (act_in old.hall i (Peek o)) (answers.Value e.lock.value) (part_of (insert s.ls o e) s.fs s.gs (i + 1))
+    pub peeked : (AreKeptLocks (insert s.ls o e) s.fs s.gs (i + 1)) × PartRests registered old i (act_in old.hall i (Peek o)) (answers.Value e.lock.value) (part_of (insert s.ls o e) s.fs s.gs (i + 1))
     peeked = rw (insert_same s.ls o e there) (rests, tells_by (λ h. act_in h i (Peek o)) (found_lock _))
 
     pub dropped : (over : Bool) → is_over (record e { named = false }) ≡ over
-        → (IsKept (if over then remove (insert s.ls o (record e { named = false })) o else insert s.ls o (record e { named = false })) s.fs s.gs (i + 1))
+        → (AreKeptLocks (if over then remove (insert s.ls o (record e { named = false })) o else insert s.ls o (record e { named = false })) s.fs s.gs (i + 1))
         × PartRests registered old i (act_in old.hall i (Drop o)) answers.Done (part_of (if over then remove (insert s.ls o (record e { named = false })) o else insert s.ls o (record e { named = false })) s.fs s.gs (i + 1))
     dropped over is =
         let good = one.revalued e _ _ its_kept e.lock.value false in
@@ -368,7 +368,7 @@ module _ {old : Part Locks} {i : ℕ} (s : Site old i) where
       pub is_idle : e.lock.permits.free ≡ e.lock.most
       is_idle = one.idle e _ _ its_kept nothing
 
-      pub taken : (IsKept (remove s.ls o) s.fs s.gs (i + 1)) × PartRests registered old i (act_in old.hall i (Take o)) (answers.Value e.lock.value) (part_of (remove s.ls o) s.fs s.gs (i + 1))
+      pub taken : (AreKeptLocks (remove s.ls o) s.fs s.gs (i + 1)) × PartRests registered old i (act_in old.hall i (Take o)) (answers.Value e.lock.value) (part_of (remove s.ls o) s.fs s.gs (i + 1))
       taken =
           let none = nothing in
           let nobody : waiters e ≡ 0 = ap length (one.no_queue e _ _ its_kept nothing) in
@@ -379,7 +379,7 @@ module _ {old : Part Locks} {i : ℕ} (s : Site old i) where
 
     -- ---- a future of it is made
     pub begins : (plain write : Bool) (x : KeptFuture) → x ≡ record { lock = o; plain = plain; wait = x.wait; of_condvar = false; holds = false } → IsNewWait e.lock write x.wait
-        → (IsKept (insert s.ls o (begun e plain)) (insert s.fs i x) s.gs (i + 1)) × PartRests registered old i (act_in old.hall i (Begin o plain write)) answers.Made (part_of (insert s.ls o (begun e plain)) (insert s.fs i x) s.gs (i + 1))
+        → (AreKeptLocks (insert s.ls o (begun e plain)) (insert s.fs i x) s.gs (i + 1)) × PartRests registered old i (act_in old.hall i (Begin o plain write)) answers.Made (part_of (insert s.ls o (begun e plain)) (insert s.fs i x) s.gs (i + 1))
     begins plain write x is new =
         let mine : x.lock ≡ o = ap (λ (x : KeptFuture). x.lock) is in
         let alike : x.plain ≡ plain = ap (λ (x : KeptFuture). x.plain) is in
@@ -403,7 +403,7 @@ module _ {old : Part Locks} {i : ℕ} (s : Site old i) where
       taken_now = record e { lock = record e.lock { permits = record e.lock.permits { free = e.lock.permits.free - share_of e.lock write }; writing = write } }
 
       pub try_holds : share_of e.lock write ≤ e.lock.permits.free → (l : NamedLock) → TakesLock e.lock write l
-          → (IsKept (insert s.ls o (begun (record e { lock = l }) plain)) s.fs (insert s.gs i taker) (i + 1))
+          → (AreKeptLocks (insert s.ls o (begun (record e { lock = l }) plain)) s.fs (insert s.gs i taker) (i + 1))
           × PartRests registered old i (act_in old.hall i (Try o plain write)) answers.Held (part_of (insert s.ls o (begun (record e { lock = l }) plain)) s.fs (insert s.gs i taker) (i + 1))
       try_holds enough l takes =
           let not_few : nat_lt e.lock.permits.free (share_of e.lock write) ≡ false = grind (arith, nat_tests, enough) in
@@ -416,7 +416,7 @@ module _ {old : Part Locks} {i : ℕ} (s : Site old i) where
           )
 
       pub try_lacks : e.lock.permits.free < share_of e.lock write → (gs' : Names GuardEntry) → gs' ≡ insert s.gs i taker
-          → (IsKept (insert s.ls o e) s.fs (remove gs' i) (i + 1)) × PartRests registered old i (act_in old.hall i (Try o plain write)) answers.Lacking (part_of (insert s.ls o e) s.fs (remove gs' i) (i + 1))
+          → (AreKeptLocks (insert s.ls o e) s.fs (remove gs' i) (i + 1)) × PartRests registered old i (act_in old.hall i (Try o plain write)) answers.Lacking (part_of (insert s.ls o e) s.fs (remove gs' i) (i + 1))
       try_lacks few gs' is =
           let is_few : nat_lt e.lock.permits.free (share_of e.lock write) ≡ true = grind (arith, nat_tests, few) in
           rw (is, put_gone s.gs i taker, gone_none s.gs i no_guard, insert_same s.ls o e there) (
@@ -450,10 +450,10 @@ module _ {old : Part Locks} {i : ℕ} (s : Site old i) where
 
     -- ---- it is handed over to a wait on a condition variable
     module _ (writes : x.writes ≡ true) (y : KeptFuture) (is : y ≡ record { lock = x.lock; plain = x.plain; wait = y.wait; of_condvar = true; holds = true }) (new : IsNewWait e.lock true y.wait) where
-      handed_kept : IsKept s.ls (insert s.fs i y) (remove s.gs g) (i + 1)
+      handed_kept : AreKeptLocks s.ls (insert s.fs i y) (remove s.gs g) (i + 1)
       handed_kept =
           let mine : y.lock ≡ x.lock = ap (λ (y : KeptFuture). y.lock) is in
-          subst (λ ls. IsKept ls (insert s.fs i y) (remove s.gs g) (i + 1)) (insert_same s.ls x.lock e there)
+          subst (λ ls. AreKeptLocks ls (insert s.fs i y) (remove s.gs g) (i + 1)) (insert_same s.ls x.lock e there)
           (turns x.lock e there e (insert s.fs i y) (remove s.gs g) (Comes i y (omega arith) mine (λ z had. absurd (let none = no_future in cc))) (Goes g (λ z is. ap of_guard (inside (sym is ∙ guard))))
           (rw (own-put of_future x.lock s.fs i y mine, own-gone of_guard x.lock s.gs g)
           (one.hands e _ _ (its_kept x.lock e there) i y g x (own-none of_future x.lock s.fs i no_future) own_guard writes (ap (λ (y : KeptFuture). y.plain) is) (ap (λ (y : KeptFuture). y.of_condvar) is) (ap (λ (y : KeptFuture). y.holds) is) new)) (omega arith))
@@ -467,7 +467,7 @@ module _ {old : Part Locks} {i : ℕ} (s : Site old i) where
         of_condvar = ap (λ (y : KeptFuture). y.of_condvar) is j;
       }
 
-      pub handed : (IsKept s.ls (insert s.fs i y) (remove s.gs g) (i + 1)) × PartRests registered old i (act_in old.hall i (Hand g)) answers.Made (part_of s.ls (insert s.fs i y) (remove s.gs g) (i + 1))
+      pub handed : (AreKeptLocks s.ls (insert s.fs i y) (remove s.gs g) (i + 1)) × PartRests registered old i (act_in old.hall i (Hand g)) answers.Made (part_of s.ls (insert s.fs i y) (remove s.gs g) (i + 1))
       handed = (
         handed_kept,
         rests_as (λ h. act_in h i (Hand g)) _ answers.Made s.ls (insert s.fs i y) (remove s.gs g) (found_guard (λ z r. model.hand (locks_seen s.ls s.fs s.gs) i g z)) refl refl
@@ -489,7 +489,7 @@ module _ {old : Part Locks} {i : ℕ} (s : Site old i) where
       guard_goes = Goes g (λ y is. ap of_guard (inside (sym is ∙ guard)))
 
       pub guard_ended : (over : Bool) → is_over (finished e' x.plain) ≡ over
-          → (IsKept (if over then remove (insert s.ls x.lock (finished e' x.plain)) x.lock else insert s.ls x.lock (finished e' x.plain)) s.fs (remove s.gs g) (i + 1))
+          → (AreKeptLocks (if over then remove (insert s.ls x.lock (finished e' x.plain)) x.lock else insert s.ls x.lock (finished e' x.plain)) s.fs (remove s.gs g) (i + 1))
           × PartYields registered old i (act_in old.hall i (End g)) answers.Done (part_of (if over then remove (insert s.ls x.lock (finished e' x.plain)) x.lock else insert s.ls x.lock (finished e' x.plain)) s.fs (remove s.gs g) (i + 1)) before after
       guard_ended over is =
           let over_now : is_over (finished unlocked x.plain) ≡ over = ap (λ e. is_over (finished e x.plain)) (sym unlocked_is) ∙ is in
@@ -517,7 +517,7 @@ module _ {old : Part Locks} {i : ℕ} (s : Site old i) where
       lowered_is : e' ≡ lowered_now
       lowered_is = settles.entry ∙ ap (λ l. record e { lock = settled l }) lowers.lock
 
-      pub lowered : (IsKept (insert s.ls x.lock e') s.fs (insert s.gs g reading) (i + 1)) × PartYields registered old i (act_in old.hall i (Lower g)) answers.Done (part_of (insert s.ls x.lock e') s.fs (insert s.gs g reading) (i + 1)) before after
+      pub lowered : (AreKeptLocks (insert s.ls x.lock e') s.fs (insert s.gs g reading) (i + 1)) × PartYields registered old i (act_in old.hall i (Lower g)) answers.Done (part_of (insert s.ls x.lock e') s.fs (insert s.gs g reading) (i + 1)) before after
       lowered =
           let counted = waiting_now x.lock e there lowered_now in
           let queue = ap (λ (l : NamedLock). length l.permits.queue) lowers.lock in
@@ -531,7 +531,7 @@ module _ {old : Part Locks} {i : ℕ} (s : Site old i) where
           )
 
 -- ---- no lock
-pub new_kept : IsKept empty empty empty 0
+pub new_kept : AreKeptLocks empty empty empty 0
 new_kept = record {
   each = λ o e there. absurd (nothing_at KeptLock o e there);
   below = λ o e there. absurd (nothing_at KeptLock o e there);

@@ -1,10 +1,10 @@
 -- what is said of the locks of one kind, and of all with condition variables
 use Rattle.std.proofs.Common.{◌≡◌, ℕ, ◌+◌, ◌≤◌, ◌++◌, length, ap, sym, ◌∙◌, arith, append-nil}
-use Rattle.mea_base.specs.declared.answer.Answer.{Answer}
-use Rattle.mea_base.specs.Family.{Outcome}
+use Rattle.mea_family.specs.declared.answer.Answer.{Answer}
+use Rattle.mea_family.specs.Family.{Outcome}
 use Rattle.mea_base.specs.Ready.{Waking}
-use Rattle.mea_named.specs.Play.{Part, PartYields, PartRests, Yields}
-use Rattle.mea_named.specs.NamedQueue.{Waiting}
+use Rattle.mea_family.specs.Play.{Part, PartYields, PartRests, Yields}
+use Rattle.mea_by_name.specs.NamedQueue.{Waiting}
 use Rattle.mea_base.proofs.Totals.{total-empty}
 use Rattle.mea_lock_model.specs.declared.event.LockEvent.{LockEvent}
 use Rattle.mea_lock_model.specs.Locks.{Lock, Locks, registered, waiting_at}

@@ -2,10 +2,10 @@
 use Rattle.std.proofs.Common.{◌≡◌, ℕ, ◌+◌, ◌-◌, ◌==◌, true, false, cond, List, [], ◌∷◌, ap, sym, ◌∙◌}
 use Rattle.mea_base.specs.Queue.{left_over}
 use Rattle.mea_base.proofs.Queues.{lacks-map}
-use Rattle.mea_named.specs.declared.named_waker.NamedWaker.{NamedWaker}
+use Rattle.mea_by_name.specs.declared.named_waker.NamedWaker.{NamedWaker}
 use Rattle.mea_sem_core.specs.Core.{Core, Waiter, Acquires, Owes, HasNoDebt, poured}
 use Rattle.mea_sem_core.specs.Calls.{without_acquire}
-use Rattle.mea_linked.specs.Linked.{who_of, names_in}
+use Rattle.mea_cores_by_name.specs.Linked.{who_of, names_in}
 
 abbrev Queue : Type 0
 Queue = List (Waiter NamedWaker × ℕ)

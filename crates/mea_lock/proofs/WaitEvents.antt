@@ -4,29 +4,29 @@ use Rattle.std.specs.Option.{IsSome}
 use Rattle.std.specs.Ordering.{nat_cmp}
 use Rattle.std.specs.FinMap.{get, insert, remove, len, empty, len-empty}
 use Rattle.std.proofs.lemmas.List.{length-map, length-append}
-use Rattle.mea_base.specs.Causes.{borrowed_by}
-use Rattle.mea_base.specs.declared.answer.Answer.{Answer}
-use Rattle.mea_base.specs.declared.answer.Answer.TheVariants as answers
-use Rattle.mea_base.specs.Family.{Outcome, quietly, is_pending}
+use Rattle.mea_family.specs.Causes.{borrowed_by}
+use Rattle.mea_family.specs.declared.answer.Answer.{Answer}
+use Rattle.mea_family.specs.declared.answer.Answer.TheVariants as answers
+use Rattle.mea_family.specs.Family.{Outcome, quietly, is_pending}
 use Rattle.mea_base.specs.Ready.{Waking}
 use Rattle.mea_base.specs.Totals.{total, weight}
 use Rattle.mea_base.proofs.Maps.{by_put, total-has, nothing_at, inside, get-there, is_there, removed_there}
 use Rattle.mea_base.proofs.Totals.{total-insert, total-remove, total-same}
 use Rattle.mea_base.proofs.NamedMaps.{is_some-map, get-seen}
-use Rattle.mea_named.specs.declared.named_waker.NamedWaker.{NamedWaker}
-use Rattle.mea_named.specs.ByName.{Names, seen, own, AreHome}
-use Rattle.mea_named.specs.Play.{Part, PartYields, PartRests, found}
-use Rattle.mea_named.specs.NamedQueue.{Waiting, waits}
-use Rattle.mea_named.proofs.NamedQueues.{length-with_waker}
-use Rattle.mea_named.proofs.Cases.{found_is, if_true, if_false}
-use Rattle.mea_named.proofs.Halls as halls
-use Rattle.mea_named.proofs.Own.{seen-at, seen-empty, seen-insert, seen-remove, seen-alike, own-seen, len-seen, total-seen, own-at, own-had, own-none, own-put, own-gone, own-empty, len-some, insert_same, Moves, Stays, Comes, Goes, moves_elsewhere, moves_home}
+use Rattle.mea_by_name.specs.declared.named_waker.NamedWaker.{NamedWaker}
+use Rattle.mea_by_name.specs.ByName.{Names, seen, own, AreHome}
+use Rattle.mea_family.specs.Play.{Part, PartYields, PartRests, found}
+use Rattle.mea_by_name.specs.NamedQueue.{Waiting, waits}
+use Rattle.mea_by_name.proofs.NamedQueues.{length-with_waker}
+use Rattle.mea_by_name.proofs.Cases.{found_is, if_true, if_false}
+use Rattle.mea_by_name.proofs.Halls as halls
+use Rattle.mea_by_name.proofs.Own.{seen-at, seen-empty, seen-insert, seen-remove, seen-alike, own-seen, len-seen, total-seen, own-at, own-had, own-none, own-put, own-gone, own-empty, len-some, insert_same, Moves, Stays, Comes, Goes, moves_elsewhere, moves_home}
 use Rattle.mea_lock_core.specs.Condvar.{Condvar, Lists, Knows, waker_under, without_wait}
 use Rattle.mea_lock_model.specs.Locks as locks
 use Rattle.mea_lock_model.specs.Locks.{Locks, was_polled}
 use Rattle.mea_lock_model.specs.Condvars as model
 use Rattle.mea_lock_model.specs.Condvars.{Condvars, CondWait, is_condvar, is_wait, waits_of, until_of, registered}
-use Rattle.mea_base.specs.declared.stop.Stop.TheVariants as stops
+use Rattle.mea_family.specs.declared.stop.Stop.TheVariants as stops
 use Rattle.mea_lock_model.specs.Actions.{Action, Hand, PollUntil, EndWait, act_in}
 use Rattle.mea_lock_model.specs.CondActions.{CondAction, Make, Wait, Poll, One, All, End, Drop, act_on, on_both, told_by}
 use Rattle.mea_lock_model.specs.LockHall.{LockHall}
@@ -146,9 +146,6 @@ module _ {old : Part Condvars} {i : ℕ} (s : Site old i) where
 
   pub wait_there : (f : ℕ) → is_wait old.hall f ≡ true → IsSome (get s.ws f)
   wait_there f is = wait_of s.cs s.ws s.next s.view f ∙ is
-
-  pub its_condvar : (f : ℕ) (x : WaitEntry) → get s.ws f ≡ Some x → IsSome (get s.cs x.condvar)
-  its_condvar f x there = (s.kept.firsts.at f x there).1
 
   pub no_wait : get s.ws i ≡ None
   no_wait = halls.no_first of_wait of_wait AreGood (λ e. e.waits) s.cs s.ws empty s.next i s.kept s.later s.fits

@@ -3,14 +3,14 @@ use Rattle.std.specs.Prelude.{ℕ, ◌≡◌, ◌+◌, ◌-◌, ◌++◌, List, 
 use Rattle.std.specs.Ordering.{nat_cmp}
 use Rattle.mea_base.specs.Ready.{Waking}
 use Rattle.std.specs.Coded.{Coded, code_by, coded×, coded_ℕ}
-use Rattle.mea_named.specs.declared.named_waker.NamedWaker.{NamedWaker}
-use Rattle.mea_named.specs.NamedQueue.{Waiting}
+use Rattle.mea_by_name.specs.declared.named_waker.NamedWaker.{NamedWaker}
+use Rattle.mea_by_name.specs.NamedQueue.{Waiting}
 use Rattle.std.specs.Option.{IsSome}
 use Rattle.std.specs.FinMap as fin
 use Rattle.mea_lock_core.specs.Condvar.{Condvar, condvar_code, waker_under, with_waker, without_wait, notifying}
 use Rattle.mea_lock_model.specs.Condvars.{CondWait}
 use Rattle.mea_lock.specs.declared.wait_entry.WaitEntry.{WaitEntry}
-use Rattle.mea_named.specs.NamedWaker.{waker_code}
+use Rattle.mea_by_name.specs.NamedWaker.{waker_code}
 
 -- a condition variable whose wakers carry the names of their waits, and how many waits it has
 pub record KeptCondvar : Type 0 where

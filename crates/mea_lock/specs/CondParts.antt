@@ -1,9 +1,9 @@
 -- the condition variables as the hall keeps them: what is seen of them, and what they keep to
 use Rattle.std.specs.Prelude.{ℕ, ◌≡◌, true, List, [], ◌∷◌, Some}
 use Rattle.std.specs.FinMap.{get, len, empty}
-use Rattle.mea_named.specs.declared.named_waker.NamedWaker.{NamedWaker}
-use Rattle.mea_named.specs.ByName.{Names, seen}
-use Rattle.mea_named.specs.HallKept.{HallKept}
+use Rattle.mea_by_name.specs.declared.named_waker.NamedWaker.{NamedWaker}
+use Rattle.mea_by_name.specs.ByName.{Names, seen}
+use Rattle.mea_by_name.specs.HallKept.{HallKept}
 use Rattle.mea_lock_core.specs.Condvar.{Knows, AreApart}
 use Rattle.mea_lock_model.specs.Condvars.{Condvars}
 use Rattle.mea_lock.specs.declared.wait_entry.WaitEntry.{WaitEntry}

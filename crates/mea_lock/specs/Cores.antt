@@ -1,7 +1,7 @@
 -- what a hall sees of the core of a lock: that of either kind is seen as a reader-writer lock
 use Rattle.std.specs.Prelude.{ℕ, ◌≡◌, ◌+◌, ◌-◌, ◌≤◌, ◌||◌, Bool, true, false, nat_lt, if◌then◌else◌, Ok}
 use Rattle.mea_base.specs.declared.turn.Turn.{Turn}
-use Rattle.mea_named.specs.declared.named_waker.NamedWaker.{NamedWaker}
+use Rattle.mea_by_name.specs.declared.named_waker.NamedWaker.{NamedWaker}
 use Rattle.mea_sem_core.specs.declared.acquire.Acquire.{Acquire}
 use Rattle.mea_sem_core.specs.declared.acquire.Acquire.TheVariants as acquire
 use Rattle.mea_sem_core.specs.Core.{held_of}

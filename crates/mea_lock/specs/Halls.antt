@@ -1,8 +1,8 @@
 -- the locks of all kinds and the condition variables, and what an event does to them
 use Rattle.std.specs.Prelude.{ℕ, ◌≡◌, ◌≤◌, ◌+◌, ◌++◌, List}
-use Rattle.mea_base.specs.declared.answer.Answer.{Answer}
+use Rattle.mea_family.specs.declared.answer.Answer.{Answer}
 use Rattle.mea_base.specs.Ready.{Waking}
-use Rattle.mea_named.specs.Play.{Part, PartYields}
+use Rattle.mea_family.specs.Play.{Part, PartYields}
 use Rattle.mea_lock_model.specs.declared.event.LockEvent.{LockEvent}
 use Rattle.mea_lock_model.specs.Locks as locks
 use Rattle.mea_lock_model.specs.Locks.{Locks}

@@ -2,8 +2,8 @@
 use Rattle.std.specs.Prelude.{ℕ, ◌≡◌, true, Some}
 use Rattle.std.specs.FinMap.{get}
 use Rattle.mea_lock_model.specs.Locks.{Locks}
-use Rattle.mea_linked.specs.Linked.{names_in}
-use Rattle.mea_named.specs.declared.named_waker.NamedWaker.{NamedWaker}
+use Rattle.mea_cores_by_name.specs.Linked.{names_in}
+use Rattle.mea_by_name.specs.declared.named_waker.NamedWaker.{NamedWaker}
 use Rattle.mea_lock_core.specs.Condvar.{Condvar}
 use Rattle.mea_lock_model.specs.Condvars.{Condvars}
 use Rattle.mea_lock.specs.Cores.{NamedLock}

@@ -1,3 +1,4 @@
+pub mod Accesses
 pub mod Cores
 pub mod Waits
 pub mod Entries

@@ -2,8 +2,8 @@
 use Rattle.std.specs.Prelude.{ℕ, ◌≡◌, ◌+◌, ◌||◌, true, false, cond, [], Some}
 use Rattle.std.specs.FinMap.{get, len}
 use Rattle.mea_base.specs.Totals.{total}
-use Rattle.mea_named.specs.ByName.{Names, seen, count}
-use Rattle.mea_named.specs.HallKept.{HallKept}
+use Rattle.mea_by_name.specs.ByName.{Names, seen, count}
+use Rattle.mea_by_name.specs.HallKept.{HallKept}
 use Rattle.mea_sem_core.specs.Acquire.{demand_of}
 use Rattle.mea_sem_core.specs.Core.{held_of}
 use Rattle.mea_sem_core.specs.declared.acquire.Acquire.{Acquire}
@@ -11,7 +11,7 @@ use Rattle.mea_sem_core.specs.declared.acquire.Acquire.TheVariants.{New}
 use Rattle.mea_lock_core.specs.Lock.{permits_of}
 use Rattle.mea_lock_core.specs.RwLock.{IsSound, share_of, is_write}
 use Rattle.mea_lock_model.specs.Locks.{Lock, LockFuture, LockGuard, Locks}
-use Rattle.mea_linked.specs.Linked.{names_in, Linked}
+use Rattle.mea_cores_by_name.specs.Linked.{names_in, Linked}
 use Rattle.mea_lock.specs.declared.guard_entry.GuardEntry.{GuardEntry}
 use Rattle.mea_lock.specs.Cores.{NamedLock, acquire_of}
 use Rattle.mea_lock.specs.Entries.{KeptLock, KeptFuture}
@@ -74,8 +74,8 @@ of_future x = x.lock
 abbrev pub of_guard : GuardEntry → ℕ
 of_guard g = g.lock
 
-abbrev pub IsKept : Names KeptLock → Names KeptFuture → Names GuardEntry → ℕ → Type 0
-IsKept ls fs gs next = HallKept of_future of_guard AreKept (λ e. e.things) ls fs gs next
+abbrev pub AreKeptLocks : Names KeptLock → Names KeptFuture → Names GuardEntry → ℕ → Type 0
+AreKeptLocks ls fs gs next = HallKept of_future of_guard AreKept (λ e. e.things) ls fs gs next
 
 -- ---- what is new
 -- a lock that nobody holds or waits for

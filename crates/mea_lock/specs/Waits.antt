@@ -6,8 +6,8 @@ use Rattle.mea_lock_core.specs.RwLock.{share_of, is_write}
 use Rattle.mea_lock_core.specs.declared.rw_wait.RwWait.{RwWait}
 use Rattle.mea_lock_model.specs.Locks as model
 use Rattle.mea_lock.specs.Cores.{NamedLock, acquire_of}
-use Rattle.mea_base.specs.declared.answer.Answer.{Answer}
-use Rattle.mea_base.specs.declared.answer.Answer.TheVariants as answers
+use Rattle.mea_family.specs.declared.answer.Answer.{Answer}
+use Rattle.mea_family.specs.declared.answer.Answer.TheVariants as answers
 use Rattle.mea_lock.specs.declared.until.Asked.{Asked}
 use Rattle.mea_lock.specs.declared.until.Asked.TheVariants as asked
 use Rattle.mea_lock.specs.declared.until.Until.{Until}

@@ -3,8 +3,8 @@ ghost use Rattle.std.specs.FinMap as map;
 ghost use Rattle.mea_lock_core.specs.Condvar.{Knows, Lists, waker_under, without_wait};
 
 use mea_base::{NoMemory, Ready};
+use mea_by_name::NamedWaker;
 use mea_lock_core::CondvarCore;
-use mea_named::NamedWaker;
 use std::alloc::Global;
 use std::marker::Model;
 

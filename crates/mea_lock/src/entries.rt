@@ -7,7 +7,8 @@ use crate::guard_entry::GuardEntry;
 use crate::lock_core::{LockCore, LoweredCore};
 use crate::until::{Asked, Until};
 use mea_base::{NoMemory, Ready, Turn};
-use mea_named::NamedWaker;
+use mea_by_name::NamedWaker;
+use mea_family::one_if;
 use std::marker::Model;
 
 /// What a hall keeps of a lock.
@@ -47,13 +48,6 @@ impl<C: LockCore> Model for FutureEntry<C> {
     ghost Value = { KeptFuture };
 
     ghost view = { λ x. record { lock = x.lock; plain = x.plain; wait = C.wait_of x.wait; of_condvar = x.of_condvar; holds = x.holds } };
-}
-
-/// 1 for a plain thing.
-fn one_if(plain: bool) -> u128
-    ensures { result ≡ cond plain 1 0 }
-{
-    if plain { 1 } else { 0 }
 }
 
 impl<C: LockCore> FutureEntry<C> {

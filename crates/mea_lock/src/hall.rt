@@ -1,5 +1,5 @@
 ghost use Rattle.std.specs.Prelude.{◌≡◌, ◌≢◌, ◌≤◌, ◌∷◌, [], ◌⊎◌, length, is_some, OnOk, OnErr, IfOk, IfErr, IfSome, IfNone, None, Some};
-ghost use Rattle.mea_named.specs.Play.{Play, Yields};
+ghost use Rattle.mea_family.specs.Play.{Play, Yields};
 ghost use Rattle.mea_lock_model.specs.Locks.{is_named};
 ghost use Rattle.mea_lock_model.specs.Condvars.{is_condvar};
 ghost use Rattle.mea_lock_model.specs.LockHall.{empty_hall, registered};
@@ -10,10 +10,11 @@ ghost use Rattle.mea_lock.specs.Lends.{StandsFor, ListsAs};
 ghost use Rattle.mea_lock.specs.Halls.{TakesNoMemory};
 
 use crate::kinds::Kinds;
-use mea_base::{Answer, Ready, Stop};
+use mea_base::Ready;
+use mea_by_name::NamedWaker;
+use mea_family::{Answer, Stop};
 use mea_lock_core::{CondvarCore, MutexCore, RwCore};
 use mea_lock_model::{LockEvent, wakes_are_of_the_registered};
-use mea_named::NamedWaker;
 use std::alloc::Global;
 use std::marker::Model;
 
@@ -30,7 +31,7 @@ pub struct LockHall {
 }
 
 impl Model for LockHall {
-    ghost use Rattle.mea_named.specs.Play.{Play, play_code};
+    ghost use Rattle.mea_family.specs.Play.{Play, play_code};
     ghost use Rattle.mea_lock_model.specs.LockHall as model;
 
     ghost Value = { Play model.LockHall };

@@ -1,15 +1,16 @@
 ghost use Rattle.std.specs.Prelude.{◌≡◌, ◌≤◌, ◌≢◌, OnErr, IfOk, None, Some, true, if◌then◌else◌};
-ghost use Rattle.mea_base.specs.Causes.{unknown_unless};
 ghost use Rattle.mea_lock_model.specs.LockHall.{empty_hall, registered};
 ghost use Rattle.mea_lock_model.specs.Meaning.{cause_of};
 ghost use Rattle.mea_lock.specs.Halls.{hall_of, PlaysKinds, TakesNoMemory};
 
+use crate::access::Access;
 use crate::part::LockPart;
 use crate::wait_part::WaitPart;
-use mea_base::{Answer, NoMemory, Ready, Stop};
+use mea_base::{NoMemory, Ready};
+use mea_by_name::NamedWaker;
+use mea_family::{Answer, Form, Stop, unknown_unless, zero_if};
 use mea_lock_core::{MutexCore, RwCore};
 use mea_lock_model::LockEvent;
-use mea_named::NamedWaker;
 use std::alloc::Global;
 
 /// The most that may read at a time, where a script gives no number.
@@ -114,11 +115,11 @@ impl Kinds {
     {
         match *event {
             LockEvent::MxNew(v) => self.mutexes.make(number, MutexCore::new(self.alloc, v)),
-            LockEvent::MxLock(m) => self.mutexes.begin(number, m, true, true),
-            LockEvent::MxLocko(m) => self.mutexes.begin(number, m, false, true),
+            LockEvent::MxLock(m) => self.mutexes.begin(number, m, Form::Plain, Access::Write),
+            LockEvent::MxLocko(m) => self.mutexes.begin(number, m, Form::Owned, Access::Write),
             LockEvent::MxPoll(f, waker) => self.mutexes.poll(number, f, waker, ready),
-            LockEvent::MxTry(m) => self.mutexes.try_lock(number, m, true, true),
-            LockEvent::MxTryo(m) => self.mutexes.try_lock(number, m, false, true),
+            LockEvent::MxTry(m) => self.mutexes.try_lock(number, m, Form::Plain, Access::Write),
+            LockEvent::MxTryo(m) => self.mutexes.try_lock(number, m, Form::Owned, Access::Write),
             LockEvent::MxGet(g) => Ok(self.mutexes.get(number, g)),
             LockEvent::MxSet(g, v) => Ok(self.mutexes.set(number, g, v)),
             LockEvent::MxEnd(x) => Ok(self.mutexes.end(number, x, ready)),
@@ -132,15 +133,19 @@ impl Kinds {
             LockEvent::RwMax(v, n) => self
                 .rw_locks
                 .make(number, RwCore::new(self.alloc, v, n as usize)),
-            LockEvent::RwRead(l) => self.rw_locks.begin(number, l, true, false),
-            LockEvent::RwReado(l) => self.rw_locks.begin(number, l, false, false),
-            LockEvent::RwWrite(l) => self.rw_locks.begin(number, l, true, true),
-            LockEvent::RwWriteo(l) => self.rw_locks.begin(number, l, false, true),
+            LockEvent::RwRead(l) => self.rw_locks.begin(number, l, Form::Plain, Access::Read),
+            LockEvent::RwReado(l) => self.rw_locks.begin(number, l, Form::Owned, Access::Read),
+            LockEvent::RwWrite(l) => self.rw_locks.begin(number, l, Form::Plain, Access::Write),
+            LockEvent::RwWriteo(l) => self.rw_locks.begin(number, l, Form::Owned, Access::Write),
             LockEvent::RwPoll(f, waker) => self.rw_locks.poll(number, f, waker, ready),
-            LockEvent::RwTryr(l) => self.rw_locks.try_lock(number, l, true, false),
-            LockEvent::RwTryro(l) => self.rw_locks.try_lock(number, l, false, false),
-            LockEvent::RwTryw(l) => self.rw_locks.try_lock(number, l, true, true),
-            LockEvent::RwTrywo(l) => self.rw_locks.try_lock(number, l, false, true),
+            LockEvent::RwTryr(l) => self.rw_locks.try_lock(number, l, Form::Plain, Access::Read),
+            LockEvent::RwTryro(l) => self.rw_locks.try_lock(number, l, Form::Owned, Access::Read),
+            LockEvent::RwTryw(l) => self
+                .rw_locks
+                .try_lock(number, l, Form::Plain, Access::Write),
+            LockEvent::RwTrywo(l) => self
+                .rw_locks
+                .try_lock(number, l, Form::Owned, Access::Write),
             LockEvent::RwGet(g) => Ok(self.rw_locks.get(number, g)),
             LockEvent::RwSet(g, v) => Ok(self.rw_locks.set(number, g, v)),
             LockEvent::RwDown(g) => Ok(self.rw_locks.lower(number, g, ready)),
@@ -163,17 +168,4 @@ impl Kinds {
             LockEvent::CvDrop(c) => Ok(self.condvars.end_name(number, c)),
         }
     }
-}
-
-// Unknown, unless this holds.
-fn unknown_unless(known: bool) -> Option<Stop>
-    ensures { result ≡ unknown_unless known }
-{
-    if known { None } else { Some(Stop::Unknown) }
-}
-
-fn zero_if(zero: bool) -> Option<Stop>
-    ensures { result ≡ (if zero then Some Stop.Zero else None) }
-{
-    if zero { Some(Stop::Zero) } else { None }
 }

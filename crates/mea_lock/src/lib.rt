@@ -3,6 +3,7 @@
 //! alone.
 #![tactic(auto)]
 
+mod access;
 mod condvar_entry;
 mod entries;
 mod guard_entry;

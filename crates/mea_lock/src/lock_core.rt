@@ -4,7 +4,7 @@ ghost use Rattle.mea_lock.specs.Cores.{PollsLock, CancelsLock, TakesLock, Unlock
 ghost use Rattle.mea_lock.specs.Waits.{IsNewWait};
 
 use mea_base::{NoMemory, Turn};
-use mea_named::NamedWaker;
+use mea_by_name::NamedWaker;
 
 /// The core of a lock as a hall uses it. Each kind is seen as a reader-writer lock: a mutex is one of one
 /// permit that is only written. Only `poll` takes memory.

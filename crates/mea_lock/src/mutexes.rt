@@ -1,7 +1,7 @@
 use crate::lock_core::LockCore;
 use mea_base::{NoMemory, Turn};
+use mea_by_name::NamedWaker;
 use mea_lock_core::{LockWait, MutexCore};
-use mea_named::NamedWaker;
 
 impl LockCore for MutexCore<u64, NamedWaker> {
     type Wait = LockWait;

@@ -1,20 +1,24 @@
 ghost use Rattle.std.specs.Prelude.{◌≡◌, ◌≤◌, ◌≢◌, OnErr, IfOk, IfErr, IfSome, is_some, None, Some, true, false, if◌then◌else◌};
 ghost use Rattle.std.specs.FinMap as map;
-ghost use Rattle.mea_base.specs.Causes.{borrowed_by};
-ghost use Rattle.mea_named.specs.Play.{PartYields, PartRests};
+ghost use Rattle.mea_family.specs.Causes.{borrowed_by};
+ghost use Rattle.mea_family.specs.Forms.{is_plain};
+ghost use Rattle.mea_family.specs.Play.{PartYields, PartRests};
 ghost use Rattle.mea_lock_model.specs.Locks.{no_locks, is_named, is_future, is_lock_future, is_condvar_future, is_guard, is_write_guard, was_polled, things_of, plain_of, registered};
 ghost use Rattle.mea_lock_model.specs.Actions.{act_in, Make, Begin, Poll, Try, Get, Set, Lower, End, Peek, Put, Take, Drop, Hand, PollUntil, EndWait};
 ghost use Rattle.mea_lock_model.specs.Valid.{FitGuards};
+ghost use Rattle.mea_lock.specs.Accesses.{writes};
 ghost use Rattle.mea_lock.specs.Parts.{IsNewLock};
 ghost use Rattle.mea_lock.specs.Lends.{StandsFor};
 ghost use Rattle.mea_lock.specs.Waits.{until_seen, answer_to, AsksFor};
 
+use crate::access::Access;
 use crate::entries::{FutureEntry, LockEntry};
 use crate::guard_entry::GuardEntry;
 use crate::lock_core::{LockCore, LoweredCore};
 use crate::until::{Asked, Until};
-use mea_base::{Answer, NoMemory, Ready, Stop, Turn};
-use mea_named::ByName;
+use mea_base::{NoMemory, Ready, Turn};
+use mea_by_name::ByName;
+use mea_family::{Answer, Form, Stop, borrowed_if};
 use std::alloc::Global;
 use std::marker::Model;
 
@@ -31,18 +35,18 @@ pub struct LockPart<C: LockCore> {
 }
 
 impl<C: LockCore> Model for LockPart<C> {
-    ghost use Rattle.mea_named.specs.Play.{Part, part_code};
+    ghost use Rattle.mea_family.specs.Play.{Part, part_code};
     ghost use Rattle.mea_lock_model.specs.Locks.{Locks, locks_code};
 
     ghost Value = { Part Locks };
 
     ghost coded = { part_code locks_code };
 
-    ghost use Rattle.mea_lock.specs.Parts.{locks_seen, IsKept};
+    ghost use Rattle.mea_lock.specs.Parts.{locks_seen, AreKeptLocks};
 
     ghost view = { λ a. record { hall = locks_seen a.locks a.futures a.guards; next = a.next } };
 
-    ghost invariant = { λ a. IsKept a.locks a.futures a.guards a.next };
+    ghost invariant = { λ a. AreKeptLocks a.locks a.futures a.guards a.next };
 }
 
 impl<C: LockCore> LockPart<C> {
@@ -171,15 +175,17 @@ impl<C: LockCore> LockPart<C> {
         &mut self,
         number: u64,
         o: u64,
-        plain: bool,
-        write: bool,
+        form: Form,
+        access: Access,
     ) -> Result<Answer, NoMemory>
         requires next { self.old.next ≤ number }
         requires named { is_named self.old.hall o ≡ true }
-        requires writes { C.is_only_written ≡ true → write ≡ true }
-        ensures ok { IfOk result (λ answer. PartRests registered self.old number (act_in self.old.hall number (Begin o plain write)) answer self.new) }
+        requires writes { C.is_only_written ≡ true → writes access ≡ true }
+        ensures ok { IfOk result (λ answer. PartRests registered self.old number (act_in self.old.hall number (Begin o (is_plain form) (writes access))) answer self.new) }
         ensures err { OnErr result (self.new ≡ self.old) }
     {
+        let plain = form.is_plain();
+        let write = access.writes();
         let entry = self.locks.at_mut(o);
         let Ok(()) = self
             .futures
@@ -302,15 +308,17 @@ impl<C: LockCore> LockPart<C> {
         &mut self,
         number: u64,
         o: u64,
-        plain: bool,
-        write: bool,
+        form: Form,
+        access: Access,
     ) -> Result<Answer, NoMemory>
         requires next { self.old.next ≤ number }
         requires named { is_named self.old.hall o ≡ true }
-        requires writes { C.is_only_written ≡ true → write ≡ true }
-        ensures ok { IfOk result (λ answer. PartRests registered self.old number (act_in self.old.hall number (Try o plain write)) answer self.new) }
+        requires writes { C.is_only_written ≡ true → writes access ≡ true }
+        ensures ok { IfOk result (λ answer. PartRests registered self.old number (act_in self.old.hall number (Try o (is_plain form) (writes access))) answer self.new) }
         ensures err { OnErr result (self.new ≡ self.old) }
     {
+        let plain = form.is_plain();
+        let write = access.writes();
         let guard = GuardEntry {
             lock: o,
             plain,
@@ -480,11 +488,4 @@ impl<C: LoweredCore> LockPart<C> {
         self.next = number as u128 + 1;
         Answer::Done
     }
-}
-
-// Borrowed, where something borrows it.
-pub(crate) fn borrowed_if(borrowed: bool) -> Option<Stop>
-    ensures { result ≡ (if borrowed then Some Stop.Borrowed else None) }
-{
-    if borrowed { Some(Stop::Borrowed) } else { None }
 }

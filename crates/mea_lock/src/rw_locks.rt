@@ -1,7 +1,7 @@
 use crate::lock_core::{LockCore, LoweredCore};
 use mea_base::{NoMemory, Turn};
+use mea_by_name::NamedWaker;
 use mea_lock_core::{RwCore, RwWait};
-use mea_named::NamedWaker;
 
 impl LockCore for RwCore<u64, NamedWaker> {
     type Wait = RwWait;

@@ -1,7 +1,7 @@
 ghost use Rattle.std.specs.Prelude.{ℕ, ◌≡◌, ◌≤◌, ◌+◌, OnErr, IfOk, IfSome, is_some, true};
-ghost use Rattle.mea_base.specs.Causes.{borrowed_by};
+ghost use Rattle.mea_family.specs.Causes.{borrowed_by};
 ghost use Rattle.mea_base.specs.Ready.{Waking};
-ghost use Rattle.mea_named.specs.Play.{Part};
+ghost use Rattle.mea_family.specs.Play.{Part};
 ghost use Rattle.mea_lock_model.specs.Condvars.{no_condvars, is_condvar, is_wait, waits_of, until_of, registered};
 ghost use Rattle.mea_lock_model.specs.Locks as locks;
 ghost use Rattle.mea_lock_model.specs.Locks.{Locks, is_condvar_future, is_write_guard};
@@ -12,12 +12,13 @@ ghost use Rattle.mea_lock.specs.CondEntries.{wait_seen};
 ghost use Rattle.mea_lock.specs.Lends.{ListsAs};
 
 use crate::condvar_entry::CondvarEntry;
-use crate::part::{LockPart, borrowed_if};
+use crate::part::LockPart;
 use crate::until::{Asked, Until};
 use crate::wait_entry::WaitEntry;
-use mea_base::{Answer, NoMemory, Ready, Stop};
+use mea_base::{NoMemory, Ready};
+use mea_by_name::{ByName, NamedWaker};
+use mea_family::{Answer, Stop, borrowed_if};
 use mea_lock_core::{CondvarCore, MutexCore};
-use mea_named::{ByName, NamedWaker};
 use std::alloc::Global;
 use std::marker::Model;
 
@@ -36,7 +37,7 @@ pub struct WaitPart {
 }
 
 impl Model for WaitPart {
-    ghost use Rattle.mea_named.specs.Play.{Part, part_code};
+    ghost use Rattle.mea_family.specs.Play.{Part, part_code};
     ghost use Rattle.mea_lock_model.specs.Condvars.{Condvars, condvars_code};
 
     ghost Value = { Part Condvars };

@@ -4,18 +4,15 @@ use Rattle.std.proofs.lemmas.Bool.{cases_eq}
 use Rattle.std.proofs.lemmas.List.{get_or-set_same, get_or-set_other, get_or_past}
 use Rattle.std.specs.List.{list_any}
 use Rattle.mea_base.specs.WaitList.{Waits, get, is_linked, with_value, Updates, without, IsDistinct}
-use Rattle.mea_base.proofs.Waits.{IsDistinct-push, IsDistinct-without, absent_from_unlinked}
+use Rattle.mea_base.proofs.Waits.{in_use_within, IsDistinct-push, IsDistinct-without, absent_from_unlinked}
 use Rattle.mea_lock_core.specs.Notes.{AreNoted, IsWaiting, IsIdle, notified_in}
 use Rattle.mea_lock_core.specs.declared.note.Note.{Note}
 use Rattle.mea_lock_core.specs.declared.note.Note.TheVariants.{Waiting, Notified}
-use Rattle.mea_lock_core.proofs.Numbers.{any_cons, any_end, any_end_here, any_without, unlinked_after}
+use Rattle.mea_lock_core.proofs.Numbers.{any_cons, any_end, any_end_here, any_without}
+use Rattle.mea_sem_core.proofs.Leaves.{unlinked_after}
 use Rattle.mea_base.proofs.Chains.{unlinked_from_absent}
 
 module _ {W : Type 0} where
-  -- a number with a note is a place
-  in_use_within : (slots : List (Option (Note W))) (n : ℕ) → IsSome (get_or slots n None) → n < length slots
-  in_use_within slots n used = grind (arith, get_or_past)
-
   -- one number changes, and the others keep their places
   noted_by : (w v : Waits (Note W)) (n : ℕ) → IsDistinct v.order → ((m : ℕ) → m ≢ n → get v m ≡ get w m) → ((m : ℕ) → m ≢ n → is_linked v m ≡ is_linked w m)
       → (is_linked v n ≡ true → IsWaiting (get v n)) → (is_linked v n ≡ false → IsIdle (get v n)) → AreNoted w → AreNoted v

@@ -1,12 +1,14 @@
 -- how a change of one note changes those that wait
-use Rattle.std.proofs.Common.{◌≡◌, ◌≢◌, ℕ, true, cond, not, eqb, List, [], ◌∷◌, ◌++◌, get_or, Option, Some, None, refl, sym, ap, ap₂, ◌∙◌, inl, inr}
+use Rattle.std.proofs.Common.{◌≡◌, ◌≢◌, ℕ, suc, true, cond, not, eqb, length, List, [], ◌∷◌, ◌++◌, get_or, Option, Some, None, refl, sym, ap, ap₂, ◌∙◌, inl, inr}
 use Rattle.std.proofs.lemmas.Bool.{cases_eq}
 use Rattle.std.specs.List.{list_any}
 use Rattle.mea_base.specs.WaitList.{without, IsAbsent, IsDistinct}
 use Rattle.mea_base.proofs.Tests.{test_same, test_differs}
 use Rattle.mea_lock_core.specs.Condvar.{waker_under, with_waker, without_wait, AreApart}
-use Rattle.mea_lock_core.specs.Notes.{waker_in, with_wait, waits_in}
+use Rattle.mea_lock_core.specs.Notes.{waker_in, with_wait, waits_in, IsWaiting}
 use Rattle.mea_lock_core.specs.declared.note.Note.{Note}
+use Rattle.mea_lock_core.specs.declared.note.Note.TheVariants.{Waiting, Notified}
+use Rattle.mea_lock_core.proofs.Numbers.{any_here, any_behind}
 
 module _ {W : Type 0} where
   -- changes at an absent number alone
@@ -26,6 +28,18 @@ module _ {W : Type 0} where
   waits_in-end slots n (m ∷ ms) =
       ap (with_wait m (waker_in (get_or slots m None))) (waits_in-end slots n ms)
       ∙ append-with_wait m (waker_in (get_or slots m None)) (waits_in slots ms) (with_wait n (waker_in (get_or slots n None)) [])
+
+  -- where each number of the order waits, there are as many waits as numbers
+  pub length-waits_in : (slots : List (Option (Note W))) (ns : List ℕ) → ((n : ℕ) → list_any (λ k. eqb k n) ns ≡ true → IsWaiting (get_or slots n None))
+      → length (waits_in slots ns) ≡ length ns
+  length-waits_in slots [] waits = refl
+  length-waits_in slots (n ∷ ns) waits =
+      by_note (get_or slots n None) (waits n (any_here n ns)) (length-waits_in slots ns (λ m linked. waits m (any_behind m n ns linked)))
+    where
+      by_note : (x : Option (Note W)) → IsWaiting x → length (waits_in slots ns) ≡ length ns → length (with_wait n (waker_in x) (waits_in slots ns)) ≡ suc (length ns)
+      by_note None waiting same = absurd waiting
+      by_note (Some (Waiting w)) waiting same = ap suc same
+      by_note (Some (Notified b)) waiting same = absurd waiting
 
   -- another wait stands before
   waker_under-behind : (m n : ℕ) (x : Option W) (q : List (ℕ × W)) → m ≢ n → waker_under (with_wait m x q) n ≡ waker_under q n

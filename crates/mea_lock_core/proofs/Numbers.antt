@@ -8,6 +8,17 @@ use Rattle.mea_base.proofs.Tests.{test_same, test_differs}
 pub any_cons : (m k : ℕ) (ks : List ℕ) → k ≢ m → list_any (λ j. eqb j m) (k ∷ ks) ≡ list_any (λ j. eqb j m) ks
 any_cons m k ks differs = rw (test_differs k m differs) refl
 
+-- at the head, and behind it
+pub any_here : (n : ℕ) (ns : List ℕ) → list_any (λ k. eqb k n) (n ∷ ns) ≡ true
+any_here n ns = rw (test_same n n refl) refl
+
+pub any_behind : (m n : ℕ) (ns : List ℕ) → list_any (λ k. eqb k m) ns ≡ true → list_any (λ k. eqb k m) (n ∷ ns) ≡ true
+any_behind m n ns linked = by_test (eqb n m) linked
+  where
+    by_test : (b : Bool) → list_any (λ k. eqb k m) ns ≡ true → (b || list_any (λ k. eqb k m) ns) ≡ true
+    by_test true linked = refl
+    by_test false linked = linked
+
 -- at the end
 pub any_end : (m n : ℕ) (ns : List ℕ) → n ≢ m → list_any (λ k. eqb k m) (ns ++ n ∷ []) ≡ list_any (λ k. eqb k m) ns
 any_end m n [] differs = rw (test_differs n m differs) refl
@@ -29,13 +40,4 @@ any_without m n (k ∷ ks) differs =
     elim (cases_eq k n) [
       | inl same ↦ rw (ap not (test_same k n same), test_differs k m (λ e. differs (sym e ∙ same))) rest
       | inr stays ↦ rw (ap not (test_differs k n stays)) (ap (λ b. eqb k m || b) rest)
-    ]
-
-pub unlinked_after : (n : ℕ) (ns : List ℕ) → list_any (λ m. eqb m n) (without n ns) ≡ false
-unlinked_after n [] = refl
-unlinked_after n (k ∷ ks) =
-    let rest = unlinked_after n ks in
-    elim (cases_eq k n) [
-      | inl same ↦ rw (ap not (test_same k n same)) rest
-      | inr differs ↦ rw (ap not (test_differs k n differs)) (rw (test_differs k n differs) rest)
     ]

@@ -1,4 +1,4 @@
-ghost use Rattle.std.specs.Prelude.{◌≡◌, ◌≤◌, ◌↔◌, [], ◌∷◌, length, IsTrue, IsSome, Bool, Some, false, IfOk, IfErr, IfSome, IfNone, OnOk, OnErr};
+ghost use Rattle.std.specs.Prelude.{◌≡◌, ◌<◌, ◌≤◌, ◌^◌, ◌↔◌, [], ◌∷◌, length, IsTrue, IsSome, Bool, Some, false, IfOk, IfErr, IfSome, IfNone, OnOk, OnErr};
 ghost use Rattle.std.specs.FinMap as map;
 ghost use Rattle.mea_sem_core.specs.Core.{held_of};
 ghost use Rattle.mea_lock_core.specs.Condvar.{notified_one, notified_all, waker_under, with_waker, without_wait, IsSound, Knows, Lists};
@@ -265,9 +265,18 @@ impl<W: Drop> CondvarCore<W> {
         pass_on(&mut self.waiters, &mut self.outbox, note.is_by_one());
     }
 
+    /// How many wait to be notified. It takes no memory.
+    pub fn queue_len(&self) -> usize
+        ensures is { result ≡ length self.now.waiting }
+        ensures sound { IsSound self.now }
+    {
+        self.waiters.len()
+    }
+
     /// How many wakers are to be called. It takes no memory.
     pub fn wakes_ready(&self) -> usize
         ensures is { result ≡ length self.now.wakes }
+        ensures bound { result < 2 ^ 63 }
         ensures sound { IsSound self.now }
     {
         self.outbox.len()

@@ -1,4 +1,4 @@
-ghost use Rattle.std.specs.Prelude.{◌≡◌, ◌≤◌, ◌-◌, ◌<◌, ◌↔◌, [], ◌∷◌, length, true, false, IsTrue, IfOk, IfErr, IfSome, IfNone, OnErr};
+ghost use Rattle.std.specs.Prelude.{◌≡◌, ◌≤◌, ◌-◌, ◌<◌, ◌^◌, ◌↔◌, [], ◌∷◌, length, true, false, IsTrue, IfOk, IfErr, IfSome, IfNone, OnErr};
 ghost use Rattle.std.specs.Borrow.{sem};
 ghost use Rattle.mea_sem_core.specs.Acquire.{renewed};
 ghost use Rattle.mea_sem_core.specs.Core.{held_of};
@@ -156,7 +156,8 @@ impl<V, W: Drop> MutexCore<V, W> {
 
     /// How many wakers are to be called. It takes no memory.
     pub fn wakes_ready(&self) -> usize
-        ensures { result ≡ length self.now.permits.wakes }
+        ensures is { result ≡ length self.now.permits.wakes }
+        ensures bound { result < 2 ^ 63 }
     {
         self.permits.wakes_ready()
     }

@@ -1,4 +1,4 @@
-ghost use Rattle.std.specs.Prelude.{◌≡◌, ◌≤◌, ◌+◌, ◌-◌, ◌<◌, ◌↔◌, ◌||◌, if◌then◌else◌, [], ◌∷◌, length, true, false, IsTrue, IfOk, IfSome, IfNone, OnErr};
+ghost use Rattle.std.specs.Prelude.{◌≡◌, ◌≤◌, ◌+◌, ◌-◌, ◌<◌, ◌^◌, ◌↔◌, ◌||◌, if◌then◌else◌, [], ◌∷◌, length, true, false, IsTrue, IfOk, IfSome, IfNone, OnErr};
 ghost use Rattle.std.specs.Borrow.{sem};
 ghost use Rattle.mea_sem_core.specs.Acquire.{demand_of};
 ghost use Rattle.mea_sem_core.specs.Core.{held_of};
@@ -258,7 +258,8 @@ impl<V, W: Drop> RwCore<V, W> {
 
     /// How many wakers are to be called. It takes no memory.
     pub fn wakes_ready(&self) -> usize
-        ensures { result ≡ length self.now.permits.wakes }
+        ensures is { result ≡ length self.now.permits.wakes }
+        ensures bound { result < 2 ^ 63 }
     {
         self.permits.wakes_ready()
     }

@@ -4,19 +4,19 @@ use Rattle.std.specs.Option.{IsSome}
 use Rattle.std.proofs.lemmas.Bool.{eqb-true, eq-eqb}
 use Rattle.std.proofs.lemmas.Bool.Decides.{nat_tests}
 use Rattle.std.specs.FinMap.{get, insert, remove}
-use Rattle.mea_base.specs.Causes.{borrowed_by}
-use Rattle.mea_base.specs.declared.answer.Answer.TheVariants as answers
-use Rattle.mea_base.specs.Family.{Outcome, quietly}
+use Rattle.mea_family.specs.Causes.{borrowed_by}
+use Rattle.mea_family.specs.declared.answer.Answer.TheVariants as answers
+use Rattle.mea_family.specs.Family.{Outcome, quietly}
 use Rattle.mea_base.proofs.Maps.{inside, is_there, get-there, get-gone, get-removed_other}
-use Rattle.mea_base.proofs.Tests.{known}
-use Rattle.mea_named.specs.ByName.{Names}
-use Rattle.mea_named.specs.NamedQueue.{waits}
-use Rattle.mea_named.specs.Play.{found}
-use Rattle.mea_named.proofs.Cases.{by_found, by_if}
-use Rattle.mea_named.proofs.NamedQueues.{Local, local_same}
-use Rattle.mea_named.proofs.LackingQueues.{local_pushed, local_rewoken, local_poured, local_left}
-use Rattle.mea_named.proofs.OneObject.{Goes, ObjectsGo, Same, Put, Made, Gone, Kept, Begun, Turned, Ended, None_is, Polled, Ends}
-use Rattle.mea_named.proofs.Own.{own-nothing}
+use Rattle.mea_family.proofs.Causes.{known}
+use Rattle.mea_by_name.specs.ByName.{Names}
+use Rattle.mea_by_name.specs.NamedQueue.{waits}
+use Rattle.mea_family.specs.Play.{found}
+use Rattle.mea_by_name.proofs.Cases.{by_found, by_if}
+use Rattle.mea_by_name.proofs.NamedQueues.{Local, local_same}
+use Rattle.mea_by_name.proofs.LackingQueues.{local_pushed, local_rewoken, local_poured, local_left}
+use Rattle.mea_by_name.proofs.OneObject.{Goes, ObjectsGo, Same, Put, Made, Gone, Kept, Begun, Turned, Ended, None_is, Polled, Ends}
+use Rattle.mea_by_name.proofs.Own.{own-nothing}
 use Rattle.mea_lock_model.specs.Locks as locks
 use Rattle.mea_lock_model.specs.Locks.{Lock, LockFuture, LockGuard, Locks, new_lock, Until, goes_on, tidied_locks, is_named, is_named_lock, things_of, waiting_at, size}
 use Rattle.mea_lock_model.specs.Actions.{Action, Make, Begin, Poll, Try, Get, Set, Lower, End, Peek, Put as Write, Take, Drop, Hand, PollUntil, EndWait, act_in, registers_in, polled_in, ends_in, cause_in}

@@ -5,8 +5,8 @@ use Rattle.mea_base.specs.Totals.{weight}
 use Rattle.mea_base.proofs.Maps.{total-has, get-removed_other}
 use Rattle.mea_base.proofs.Tests.{by_name}
 use Rattle.mea_base.proofs.Totals.{total-remove}
-use Rattle.mea_named.specs.ByName.{own}
-use Rattle.mea_named.proofs.Own.{own-at}
+use Rattle.mea_by_name.specs.ByName.{own}
+use Rattle.mea_by_name.proofs.Own.{own-at}
 use Rattle.mea_lock_model.specs.Locks.{Lock, LockGuard, Locks, size}
 use Rattle.mea_lock_model.specs.Valid.{FitGuards, WritesAlone, OneGuard}
 

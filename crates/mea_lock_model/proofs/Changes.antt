@@ -3,13 +3,13 @@ use Rattle.std.proofs.Common.{◌≡◌, ℕ, ◌+◌, ◌≤◌, ◌⊎◌, inl
 use Rattle.std.specs.List.{Contains}
 use Rattle.std.specs.Option.{IsSome}
 use Rattle.std.specs.FinMap.{get}
-use Rattle.mea_base.specs.Family.{Outcome}
+use Rattle.mea_family.specs.Family.{Outcome}
 use Rattle.mea_base.proofs.Maps.{by_put, inside, get-other, get-removed_other, removed_there, is_there, value_in}
 use Rattle.mea_base.proofs.Tests.{by_name}
-use Rattle.mea_named.specs.ByName.{Names}
-use Rattle.mea_named.specs.NamedQueue as named_queue
-use Rattle.mea_named.specs.NamedQueue.{Waiting}
-use Rattle.mea_named.proofs.OneObject.{IsBelow, AreBelow, FuturesGo, Touches, Kept, Begun, Turned, Ended, None_is, Polled, Ends, below_later, goes_lows, goes_below, goes_kept, goes_made}
+use Rattle.mea_by_name.specs.ByName.{Names}
+use Rattle.mea_by_name.specs.NamedQueue as named_queue
+use Rattle.mea_by_name.specs.NamedQueue.{Waiting}
+use Rattle.mea_by_name.proofs.OneObject.{IsBelow, AreBelow, FuturesGo, Touches, Kept, Begun, Turned, Ended, None_is, Polled, Ends, below_later, goes_lows, goes_below, goes_kept, goes_made}
 use Rattle.mea_lock_model.specs.Locks as locks
 use Rattle.mea_lock_model.specs.Locks.{Locks, LockFuture, waiting_at}
 use Rattle.mea_lock_model.specs.Condvars.{Condvars, queue_of}

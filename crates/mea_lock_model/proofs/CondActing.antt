@@ -3,14 +3,14 @@ use Rattle.std.proofs.Common.{◌≡◌, ℕ, ◌==◌, Bool, true, false, [], �
 use Rattle.std.specs.Option.{IsSome}
 use Rattle.std.proofs.lemmas.Bool.{eqb-true, eq-eqb}
 use Rattle.std.specs.FinMap.{get, insert, remove}
-use Rattle.mea_base.specs.Family.{Outcome}
+use Rattle.mea_family.specs.Family.{Outcome}
 use Rattle.mea_base.proofs.Maps.{by_put, get-gone, get-removed_other}
-use Rattle.mea_named.specs.ByName.{Names, seen}
-use Rattle.mea_named.specs.NamedQueue.{Waiting, waits}
-use Rattle.mea_named.proofs.Cases.{by_if}
-use Rattle.mea_named.proofs.NamedQueues.{local_appended, local_with, local_without, local_popped, local_drained}
-use Rattle.mea_named.proofs.OneObject.{Goes, FuturesGo, Same, Put, Made, Gone, Kept, Begun, Turned, Ended, None_is, Polled, Ends}
-use Rattle.mea_named.proofs.Own.{seen-at, seen-back, seen-insert, seen-remove, seen-alike, own-nothing}
+use Rattle.mea_by_name.specs.ByName.{Names, seen}
+use Rattle.mea_by_name.specs.NamedQueue.{Waiting, waits}
+use Rattle.mea_by_name.proofs.Cases.{by_if}
+use Rattle.mea_by_name.proofs.NamedQueues.{local_appended, local_with, local_without, local_popped, local_drained}
+use Rattle.mea_by_name.proofs.OneObject.{Goes, FuturesGo, Same, Put, Made, Gone, Kept, Begun, Turned, Ended, None_is, Polled, Ends}
+use Rattle.mea_by_name.proofs.Own.{seen-at, seen-back, seen-insert, seen-remove, seen-alike, own-nothing}
 use Rattle.mea_lock_model.specs.Condvars as condvars
 use Rattle.mea_lock_model.specs.Condvars.{Condvars, CondWait, queue_of, noted, noted_at, waits_of}
 

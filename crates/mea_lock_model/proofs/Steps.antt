@@ -3,14 +3,14 @@ use Rattle.std.proofs.Common.{◌≡◌, ℕ, ◌+◌, ◌≤◌, ◌==◌, ◌&
 use Rattle.std.proofs.lemmas.Bool.{eq-eqb}
 use Rattle.std.proofs.lemmas.List.Elements.{Contains-append_left, Contains-append_right}
 use Rattle.std.specs.FinMap.{get}
-use Rattle.mea_base.specs.Causes.{unknown_unless}
-use Rattle.mea_base.specs.declared.answer.Answer.TheVariants as answers
-use Rattle.mea_base.specs.declared.stop.Stop.{Stop}
-use Rattle.mea_base.specs.declared.stop.Stop.TheVariants as stops
-use Rattle.mea_base.specs.Family.{Outcome, quietly, is_pending}
-use Rattle.mea_base.proofs.Tests.{known}
-use Rattle.mea_named.specs.NamedQueue.{Waiting, waits}
-use Rattle.mea_named.proofs.Cases.{by_found, by_if}
+use Rattle.mea_family.specs.Causes.{unknown_unless}
+use Rattle.mea_family.specs.declared.answer.Answer.TheVariants as answers
+use Rattle.mea_family.specs.declared.stop.Stop.{Stop}
+use Rattle.mea_family.specs.declared.stop.Stop.TheVariants as stops
+use Rattle.mea_family.specs.Family.{Outcome, quietly, is_pending}
+use Rattle.mea_family.proofs.Causes.{known}
+use Rattle.mea_by_name.specs.NamedQueue.{Waiting, waits}
+use Rattle.mea_by_name.proofs.Cases.{by_found, by_if}
 use Rattle.mea_lock_model.specs.Locks.{Locks, is_condvar_future, is_write_guard, was_polled}
 use Rattle.mea_lock_model.specs.Condvars as condvars
 use Rattle.mea_lock_model.specs.Condvars.{Condvars, CondWait, is_condvar, is_wait, waits_of, until_of}

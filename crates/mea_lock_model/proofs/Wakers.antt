@@ -5,20 +5,20 @@ use Rattle.std.specs.List.{Contains}
 use Rattle.std.specs.FinMap.{get, insert, empty}
 use Rattle.std.proofs.lemmas.Bool.{eqb-true, eq-eqb, ne_eqb, and_from, and_left, and_right}
 use Rattle.std.proofs.lemmas.Option.{cond_some}
-use Rattle.mea_base.specs.declared.answer.Answer.TheVariants as answers
-use Rattle.mea_base.specs.Family.{Outcome, Runs, Starts, Goes, RunOf, KeepsWakers, NamesFutures, LosesNoWake, is_pending}
+use Rattle.mea_family.specs.declared.answer.Answer.TheVariants as answers
+use Rattle.mea_family.specs.Family.{Outcome, IsRun, Starts, Goes, RunOf, KeepsWakers, NamesFutures, LosesNoWake, is_pending}
 use Rattle.mea_base.proofs.Maps.{nothing_at, get-there, value_in, is_there}
-use Rattle.mea_base.proofs.Tests.{known}
-use Rattle.mea_base.proofs.Wakes.{loses_no_wake}
-use Rattle.mea_named.specs.NamedQueue as named_queue
-use Rattle.mea_named.specs.NamedQueue.{Waiting, waits, with_waker, waker_for}
-use Rattle.mea_named.specs.LackingQueue.{rewoken}
-use Rattle.mea_named.specs.Play.{found}
-use Rattle.mea_named.proofs.Cases.{by_found, by_if, found_is, if_true}
-use Rattle.mea_named.proofs.NamedQueues.{appended-there, with_waker-there, waits-some}
-use Rattle.mea_named.proofs.LackingQueues.{who-append, who-rewoken}
-use Rattle.mea_named.proofs.OneObject.{placed_is, placed_put}
-use Rattle.mea_named.proofs.Own.{seen-at, seen-back, seen-empty}
+use Rattle.mea_family.proofs.Causes.{known}
+use Rattle.mea_family.proofs.Wakes.{loses_no_wake}
+use Rattle.mea_by_name.specs.NamedQueue as named_queue
+use Rattle.mea_by_name.specs.NamedQueue.{Waiting, waits, with_waker, waker_for}
+use Rattle.mea_by_name.specs.LackingQueue.{rewoken}
+use Rattle.mea_family.specs.Play.{found}
+use Rattle.mea_by_name.proofs.Cases.{by_found, by_if, found_is, if_true}
+use Rattle.mea_by_name.proofs.NamedQueues.{appended-there, with_waker-there, waits-some}
+use Rattle.mea_by_name.proofs.LackingQueues.{who-append, who-rewoken}
+use Rattle.mea_by_name.proofs.OneObject.{placed_is, placed_put}
+use Rattle.mea_by_name.proofs.Own.{seen-at, seen-back, seen-empty}
 use Rattle.mea_lock_model.specs.Locks as locks
 use Rattle.mea_lock_model.specs.Locks.{Lock, LockFuture, Locks, Until, goes_on, is_waiting_for, is_lock_future, is_condvar_future, was_polled, waiting_at, taken_from, size}
 use Rattle.mea_lock_model.specs.Condvars as condvars
@@ -413,7 +413,7 @@ nothing_low = record { lows = record { at = λ k x is. absurd (nothing_at Lock k
 no_key : (f : ℕ) (x : Key) → get (keys empty) f ≡ Some x → ⊥
 no_key f x is = nothing_at Key f x (sym (ap (λ m. get m f) (seen-empty key_of)) ∙ is)
 
-lows : (r : RunOf locks_family) → Runs locks_family r → Lows r.hall r.next
+lows : (r : RunOf locks_family) → IsRun locks_family r → Lows r.hall r.next
 lows _ Starts = record {
   mutexes = nothing_low;
   rw_locks = nothing_low;
@@ -425,7 +425,7 @@ lows _ Starts = record {
 }
 lows _ (Goes r i e runs later cause) = lows_after r.hall r.next i (lows r runs) later (doing e) cause
 
-home : (r : RunOf locks_family) → Runs locks_family r → (f : ℕ) (x : CondWait) → get r.hall.condvars.waits f ≡ Some x → IsSome (get r.hall.condvars.condvars x.condvar)
+home : (r : RunOf locks_family) → IsRun locks_family r → (f : ℕ) (x : CondWait) → get r.hall.condvars.waits f ≡ Some x → IsSome (get r.hall.condvars.condvars x.condvar)
 home r runs f x is = (lows r runs).condvars.home f (key_of x) (seen-at key_of r.hall.condvars.waits f x is)
 
 pub keeps : KeepsWakers locks_family
@@ -444,5 +444,5 @@ names = record {
   made = λ r i e runs later cause f lives. made r.hall r.next i (lows r runs) later (doing e) cause f.name f.sort lives;
 }
 
-pub no_wake_is_lost : (r : RunOf locks_family) → Runs locks_family r → LosesNoWake locks_family r
+pub no_wake_is_lost : (r : RunOf locks_family) → IsRun locks_family r → LosesNoWake locks_family r
 no_wake_is_lost r runs = loses_no_wake locks_family keeps names r runs

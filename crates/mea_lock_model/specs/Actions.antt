@@ -1,11 +1,11 @@
 -- what can be done to locks by name, of whichever kind: why it is refused, and what it does
 use Rattle.std.specs.Prelude.{ℕ, ◌==◌, Bool, true, false, cond, Option, Some, None, if◌then◌else◌}
 use Rattle.std.specs.FinMap.{get}
-use Rattle.mea_base.specs.declared.stop.Stop.{Stop}
-use Rattle.mea_base.specs.declared.stop.Stop.TheVariants as stops
-use Rattle.mea_base.specs.Causes.{unknown_unless, borrowed_by}
-use Rattle.mea_base.specs.Family.{Outcome}
-use Rattle.mea_named.specs.Play.{found}
+use Rattle.mea_family.specs.declared.stop.Stop.{Stop}
+use Rattle.mea_family.specs.declared.stop.Stop.TheVariants as stops
+use Rattle.mea_family.specs.Causes.{unknown_unless, borrowed_by}
+use Rattle.mea_family.specs.Family.{Outcome}
+use Rattle.mea_family.specs.Play.{found}
 use Rattle.mea_lock_model.specs.Locks as locks
 use Rattle.mea_lock_model.specs.Locks.{Locks, Until, is_named, is_future, is_lock_future, is_condvar_future, is_guard, is_write_guard, things_of, plain_of}
 

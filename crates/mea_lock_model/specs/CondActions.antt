@@ -2,11 +2,11 @@
 -- it does
 use Rattle.std.specs.Prelude.{ℕ, ◌==◌, ◌&&◌, ◌++◌, Bool, true, false, cond, Option, Some, None, if◌then◌else◌}
 use Rattle.std.specs.FinMap.{get}
-use Rattle.mea_base.specs.declared.stop.Stop.{Stop}
-use Rattle.mea_base.specs.Causes.{unknown_unless, borrowed_by}
-use Rattle.mea_base.specs.Family.{Outcome, is_pending}
-use Rattle.mea_named.specs.NamedQueue.{Waiting, waits}
-use Rattle.mea_named.specs.Play.{found}
+use Rattle.mea_family.specs.declared.stop.Stop.{Stop}
+use Rattle.mea_family.specs.Causes.{unknown_unless, borrowed_by}
+use Rattle.mea_family.specs.Family.{Outcome, is_pending}
+use Rattle.mea_by_name.specs.NamedQueue.{Waiting, waits}
+use Rattle.mea_family.specs.Play.{found}
 use Rattle.mea_lock_model.specs.Locks.{Locks, is_write_guard, is_condvar_future, was_polled}
 use Rattle.mea_lock_model.specs.Condvars as condvars
 use Rattle.mea_lock_model.specs.Condvars.{Condvars, CondWait, is_condvar, is_wait, waits_of, until_of}

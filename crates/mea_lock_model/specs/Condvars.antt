@@ -2,11 +2,11 @@
 use Rattle.std.specs.Prelude.{ℕ, Bool, true, false, [], ◌∷◌, ◌++◌, map, Option, Some, None, is_some, if◌then◌else◌, refl}
 use Rattle.std.specs.Coded.{Coded, code_by, coded×, coded_ℕ, coded_bool, coded_list, coded_option}
 use Rattle.std.specs.FinMap.{empty, get, insert, remove, len}
-use Rattle.mea_base.specs.declared.answer.Answer.TheVariants as answers
-use Rattle.mea_base.specs.Family.{Outcome, quietly}
-use Rattle.mea_named.specs.ByName.{Names, names_code, own}
-use Rattle.mea_named.specs.NamedQueue as named_queue
-use Rattle.mea_named.specs.NamedQueue.{Waiting, waits, with_waker, without}
+use Rattle.mea_family.specs.declared.answer.Answer.TheVariants as answers
+use Rattle.mea_family.specs.Family.{Outcome, quietly}
+use Rattle.mea_by_name.specs.ByName.{Names, names_code, own}
+use Rattle.mea_by_name.specs.NamedQueue as named_queue
+use Rattle.mea_by_name.specs.NamedQueue.{Waiting, waits, with_waker, without}
 use Rattle.mea_lock_model.specs.Locks.{Until, Held, Reached, Never}
 
 -- a wait: whose it is, and the value that it waits for, if it waits for one; whether it was polled; whether it is

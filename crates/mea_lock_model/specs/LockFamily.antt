@@ -1,9 +1,9 @@
 -- locks and condition variables as one of the families
 use Rattle.std.specs.Prelude.{ℕ, ◌&&◌, Bool, false, Option, Some, None, if◌then◌else◌}
 use Rattle.std.specs.FinMap.{get}
-use Rattle.mea_base.specs.Family.{Family}
-use Rattle.mea_named.specs.NamedQueue as named_queue
-use Rattle.mea_named.specs.NamedQueue.{waker_for}
+use Rattle.mea_family.specs.Family.{Family}
+use Rattle.mea_by_name.specs.NamedQueue as named_queue
+use Rattle.mea_by_name.specs.NamedQueue.{waker_for}
 use Rattle.mea_lock_model.specs.declared.event.LockEvent.{LockEvent}
 use Rattle.mea_lock_model.specs.Locks as locks
 use Rattle.mea_lock_model.specs.Locks.{is_lock_future, is_condvar_future}

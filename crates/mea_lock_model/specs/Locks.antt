@@ -2,14 +2,14 @@
 use Rattle.std.specs.Prelude.{ℕ, ◌+◌, ◌-◌, ◌==◌, Bool, true, false, not, [], ◌∷◌, ◌++◌, Option, Some, None, is_some, nat_lt, if◌then◌else◌, refl}
 use Rattle.std.specs.Coded.{Coded, code_by, coded×, coded_ℕ, coded_bool, coded_list}
 use Rattle.std.specs.FinMap.{empty, get, insert, remove, len}
-use Rattle.mea_base.specs.declared.answer.Answer.TheVariants as answers
-use Rattle.mea_base.specs.Family.{Outcome, quietly}
+use Rattle.mea_family.specs.declared.answer.Answer.TheVariants as answers
+use Rattle.mea_family.specs.Family.{Outcome, quietly}
 use Rattle.mea_base.specs.Queue.{waiting_after, left_over}
-use Rattle.mea_named.specs.ByName.{Names, names_code, own, count}
-use Rattle.mea_named.specs.NamedQueue as named_queue
-use Rattle.mea_named.specs.Play.{found}
-use Rattle.mea_named.specs.NamedQueue.{Waiting, waits}
-use Rattle.mea_named.specs.LackingQueue.{Lacking, who, lack_for, rewoken, leaving, woken_by}
+use Rattle.mea_by_name.specs.ByName.{Names, names_code, own, count}
+use Rattle.mea_by_name.specs.NamedQueue as named_queue
+use Rattle.mea_family.specs.Play.{found}
+use Rattle.mea_by_name.specs.NamedQueue.{Waiting, waits}
+use Rattle.mea_by_name.specs.LackingQueue.{Lacking, who, lack_for, rewoken, leaving, woken_by}
 
 -- a lock: its value, how many permits it has, how many of them are free, who waits for permits, and whether it
 -- is named. To read takes one permit, and to write takes all. A mutex has one, and is only written

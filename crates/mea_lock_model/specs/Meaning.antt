@@ -1,8 +1,8 @@
 -- what each line does, and to locks of which kind or to condition variables
 use Rattle.std.specs.Prelude.{ℕ, Bool, true, false, Option, Some, None, if◌then◌else◌}
-use Rattle.mea_base.specs.declared.stop.Stop.{Stop}
-use Rattle.mea_base.specs.declared.stop.Stop.TheVariants as stops
-use Rattle.mea_base.specs.Family.{Outcome}
+use Rattle.mea_family.specs.declared.stop.Stop.{Stop}
+use Rattle.mea_family.specs.declared.stop.Stop.TheVariants as stops
+use Rattle.mea_family.specs.Family.{Outcome}
 use Rattle.mea_lock_model.specs.declared.event.LockEvent.{LockEvent}
 use Rattle.mea_lock_model.specs.declared.event.LockEvent.TheVariants.{MxNew, MxLock, MxLocko, MxPoll, MxTry, MxTryo, MxGet, MxSet, MxEnd, MxPeek, MxPut, MxInto, MxDrop, RwNew, RwMax, RwRead, RwReado, RwWrite, RwWriteo, RwPoll, RwTryr, RwTryro, RwTryw, RwTrywo, RwGet, RwSet, RwDown, RwEnd, RwPeek, RwPut, RwInto, RwDrop, CvNew, CvWait, CvWaitw, CvPoll, CvOne, CvAll, CvEnd, CvDrop}
 use Rattle.mea_lock_model.specs.Locks.{Locks}

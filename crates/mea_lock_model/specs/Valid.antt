@@ -2,7 +2,7 @@
 use Rattle.std.specs.Prelude.{ℕ, ◌+◌, ◌≡◌, ◌≤◌, ◌<◌, true, Some}
 use Rattle.std.specs.FinMap.{get}
 use Rattle.mea_base.specs.Totals.{total}
-use Rattle.mea_named.specs.ByName.{Names, own}
+use Rattle.mea_by_name.specs.ByName.{Names, own}
 use Rattle.mea_lock_model.specs.Locks.{Lock, LockGuard, Locks, size}
 use Rattle.mea_lock_model.specs.LockHall.{LockHall}
 

@@ -1,5 +1,5 @@
 ghost use Rattle.std.specs.Prelude.{◌≡◌, ℕ, ◌+◌, ◌≤◌, false, length};
-ghost use Rattle.mea_base.specs.Family.{Runs, RunOf, KeepsWakers, LosesNoWake};
+ghost use Rattle.mea_family.specs.Family.{IsRun, RunOf, KeepsWakers, LosesNoWake};
 ghost use Rattle.mea_lock_model.specs.declared.event.LockEvent.{LockEvent};
 ghost use Rattle.mea_lock_model.specs.LockHall.{LockHall, registered};
 ghost use Rattle.mea_lock_model.specs.Meaning.{step, registers};
@@ -17,7 +17,7 @@ pub fn wakers_are_kept()
 /// A living future whose last poll replied `pending`, and whose next poll would reply something else, has
 /// had the waker of that last poll woken since.
 pub fn no_wake_is_lost()
-    ensures { (run : RunOf locks_family) → Runs locks_family run → LosesNoWake locks_family run }
+    ensures { (run : RunOf locks_family) → IsRun locks_family run → LosesNoWake locks_family run }
 {}
 
 /// An event wakes none but registered wakers, registers at most one, and none but a poll registers any.

@@ -16,7 +16,7 @@ use Rattle.mea_meet_core.specs.Barrier.{is_open}
 use Rattle.mea_meet_core.specs.declared.barrier_wait.BarrierWait.{BarrierWait as Wait}
 use Rattle.mea_meet_core.specs.declared.barrier_wait.BarrierWait.TheVariants.{New, Arrived, Done}
 use Rattle.mea_meet.specs.Names.{waiting_at, AreNamed, AreGiven}
-use Rattle.mea_meet.specs.BarrierHall.{Store, slot_of, slots_of, barrier_of, wait_of, barriers_of, IsKeptEntry, IsHome, IsKept}
+use Rattle.mea_meet.specs.BarrierHall.{Store, slot_of, slots_of, barrier_of, wait_of, barriers_of, IsKeptEntry, IsHome, AreKeptBarriers}
 use Rattle.mea_meet.specs.declared.barriers.BarrierEntry.{BarrierEntry}
 use Rattle.mea_meet.specs.declared.barriers.BarrierWaitEntry.{BarrierWaitEntry}
 use Rattle.mea_meet.proofs.Names.{waiting-length}
@@ -51,13 +51,13 @@ open_given b New h = refl
 open_given b (Arrived round slot) h = (and_parts (nat_le round (b.arrivals / b.size)) (has_given b.waiting slot) h).1
 open_given b Done h = absurd (cc)
 
-pub home_open : (st : Store) (n f b : ℕ) (x : BarrierWaitEntry) (e : BarrierEntry) → IsKept st n → get st.waits f ≡ Some x → x.barrier ≡ b
+pub home_open : (st : Store) (n f b : ℕ) (x : BarrierWaitEntry) (e : BarrierEntry) → AreKeptBarriers st n → get st.waits f ≡ Some x → x.barrier ≡ b
     → get st.barriers b ≡ Some e → is_open e.core x.wait ≡ true
 home_open st n f b x e k is mine there =
     let h = k.home f x is in
     subst (λ (d : BarrierEntry). is_open d.core x.wait ≡ true) (one_entry st.barriers x.barrier b h.entry e h.there mine there) h.belongs
 
-pub are_given : (st : Store) (n b : ℕ) (e : BarrierEntry) → IsKept st n → get st.barriers b ≡ Some e → AreGiven (slots_of st.waits) b e.core.waiting
+pub are_given : (st : Store) (n b : ℕ) (e : BarrierEntry) → AreKeptBarriers st n → get st.barriers b ≡ Some e → AreGiven (slots_of st.waits) b e.core.waiting
 are_given st n b e k there = given_by (λ (x : BarrierWaitEntry). x.barrier) (λ x. slot_of x.wait) st.waits b e.core.waiting
     (λ f x is mine. open_given e.core x.wait (home_open st n f b x e k is mine there))
 
@@ -83,7 +83,7 @@ pub record Changes (st st' : Store) (n n' b f : ℕ) (e e' : BarrierEntry) (o o'
   pub few : e'.core.arrivals ≤ e.core.arrivals + 1
   pub counted : e'.waits + one_of o ≡ e.waits + one_of o'
 
-module _ (st st' : Store) (n n' b f : ℕ) (e e' : BarrierEntry) (o o' : Option BarrierWaitEntry) (k : IsKept st n) (c : Changes st st' n n' b f e e' o o') where
+module _ (st st' : Store) (n n' b f : ℕ) (e e' : BarrierEntry) (o o' : Option BarrierWaitEntry) (k : AreKeptBarriers st n) (c : Changes st st' n n' b f e e' o o') where
   barrier_other : (q : ℕ) → (b ≡ q → ⊥) → get st'.barriers q ≡ get st.barriers q
   barrier_other = put_other st.barriers st'.barriers b (Some e') c.barriers
 
@@ -145,7 +145,7 @@ module _ (st st' : Store) (n n' b f : ℕ) (e e' : BarrierEntry) (o o' : Option 
       record { entry = e'; there = barrier_there x.barrier (sym (c.is_of x here)); belongs = c.home x here })
       (λ apart. home_other g x (sym (wait_other g apart) ∙ is))
 
-  pub kept_after : IsKept st' n'
+  pub kept_after : AreKeptBarriers st' n'
   kept_after = record { each = each_after; home = home_after; named = c.named; low = c.low }
 
   -- ---- the barriers that are stood for
@@ -205,7 +205,7 @@ wakers_within st n b e there =
     omega (arith, mine, waiting-length (slots_of st.waits) n b e.core.waiting)
 
 -- a future counts at its barrier
-pub waits_within : (st : Store) (n f b : ℕ) (x : BarrierWaitEntry) (e : BarrierEntry) → IsKept st n → get st.waits f ≡ Some x → x.barrier ≡ b
+pub waits_within : (st : Store) (n f b : ℕ) (x : BarrierWaitEntry) (e : BarrierEntry) → AreKeptBarriers st n → get st.waits f ≡ Some x → x.barrier ≡ b
     → get st.barriers b ≡ Some e → 1 ≤ e.waits
 waits_within st n f b x e k is mine there =
     let one : at_barrier b f x ≡ 1 = at_same x.barrier b 1 0 mine in

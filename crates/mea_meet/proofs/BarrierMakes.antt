@@ -3,7 +3,7 @@ use Rattle.std.proofs.Common.{◌≡◌, ℕ, ◌+◌, ◌-◌, ◌^◌, ◌<◌
 use Rattle.std.specs.Option.{option_map}
 use Rattle.std.specs.Ordering.{nat_cmp}
 use Rattle.std.specs.FinMap.{FinMap, get, insert, remove}
-use Rattle.mea_base.specs.declared.answer.Answer.TheVariants as answers
+use Rattle.mea_family.specs.declared.answer.Answer.TheVariants as answers
 use Rattle.mea_base.specs.Named.{at, ChangesAt}
 use Rattle.mea_base.specs.Ready.{Waking}
 use Rattle.mea_base.specs.Totals.{total, weight}
@@ -16,8 +16,8 @@ use Rattle.mea_meet_core.specs.Barrier as cores
 use Rattle.mea_meet_core.specs.Barrier.{is_open}
 use Rattle.mea_meet_core.specs.declared.barrier_wait.BarrierWait.TheVariants.{New}
 use Rattle.mea_meet.specs.Names.{AreNamed}
-use Rattle.mea_meet.specs.Play.{Part}
-use Rattle.mea_meet.specs.BarrierHall.{Store, store_of, slot_of, round_of, slots_of, barrier_of, wait_of, barriers_of, IsKeptEntry, IsKept}
+use Rattle.mea_family.specs.Play.{Part}
+use Rattle.mea_meet.specs.BarrierHall.{Store, store_of, slot_of, round_of, slots_of, barrier_of, wait_of, barriers_of, IsKeptEntry, AreKeptBarriers}
 use Rattle.mea_meet.specs.declared.barriers.BarrierEntry.{BarrierEntry}
 use Rattle.mea_meet.specs.declared.barriers.BarrierWaitEntry.{BarrierWaitEntry}
 use Rattle.mea_meet.specs.declared.barriers.BarrierHall.TheInside.{Inside}
@@ -31,15 +31,15 @@ use Rattle.mea_meet.proofs.Slots.{slots_there, slots_other, apart_unplaced, wait
 use Rattle.mea_meet.proofs.Plays.{rests_by, yields_by}
 
 -- ---- names that were not given yet
-pub no_barrier : (st : Store) (n i : ℕ) → IsKept st n → n ≤ i → get st.barriers i ≡ None
+pub no_barrier : (st : Store) (n i : ℕ) → AreKeptBarriers st n → n ≤ i → get st.barriers i ≡ None
 no_barrier st n i k less = none_if (get st.barriers i) (λ e is. let small = (k.each i e is).below in omega (arith, small, less))
 
-pub no_wait : (st : Store) (n i : ℕ) → IsKept st n → n ≤ i → get st.waits i ≡ None
+pub no_wait : (st : Store) (n i : ℕ) → AreKeptBarriers st n → n ≤ i → get st.waits i ≡ None
 no_wait st n i k less = none_if (get st.waits i)
     (λ x is. let small = k.named.below i (slot_entry x) (ap (option_map slot_entry) is) in omega (arith, small, less))
 
 -- ---- a barrier at which nobody waits comes or goes: o' is what stands at b now
-module _ (st : Store) (m : FinMap nat_cmp BarrierEntry) (n i b : ℕ) (o' : Option BarrierEntry) (k : IsKept st n) (less : n ≤ i) (low : i < 2 ^ 64)
+module _ (st : Store) (m : FinMap nat_cmp BarrierEntry) (n i b : ℕ) (o' : Option BarrierEntry) (k : AreKeptBarriers st n) (less : n ≤ i) (low : i < 2 ^ 64)
     (barriers : Puts st.barriers m b o')
     (nobody : (f : ℕ) (x : BarrierWaitEntry) → get st.waits f ≡ Some x → x.barrier ≡ b → ⊥) where
   abbrev st' : Store
@@ -62,7 +62,7 @@ module _ (st : Store) (m : FinMap nat_cmp BarrierEntry) (n i b : ℕ) (o' : Opti
   none_counted = total-zero (at_barrier b) st.waits
       (λ f x is. by_name x.barrier b (λ same. absurd (nobody f x is same)) (λ apart. at_apart x.barrier b 1 0 apart))
 
-  pub kept_beside : ((d : BarrierEntry) → o' ≡ Some d → IsKeptEntry st' (i + 1) b d) → IsKept st' (i + 1)
+  pub kept_beside : ((d : BarrierEntry) → o' ≡ Some d → IsKeptEntry st' (i + 1) b d) → AreKeptBarriers st' (i + 1)
   kept_beside here = record {
     each = λ q d is. by_name b q
         (λ same. subst (λ p. IsKeptEntry st' (i + 1) p d) same (here d (sym (put_there st.barriers m b o' barriers q same) ∙ is)))
@@ -93,7 +93,7 @@ module _ (st : Store) (m : FinMap nat_cmp BarrierEntry) (n i b : ℕ) (o' : Opti
       λ j. record { barriers = now j; waits = (barriers_of st n).waits }
 
 -- ---- no barrier
-pub kept_empty : (bs : List (ℕ × BarrierEntry)) (ws : List (ℕ × BarrierWaitEntry)) → bs ≡ [] → ws ≡ [] → IsKept (store_of bs ws) 0
+pub kept_empty : (bs : List (ℕ × BarrierEntry)) (ws : List (ℕ × BarrierWaitEntry)) → bs ≡ [] → ws ≡ [] → AreKeptBarriers (store_of bs ws) 0
 kept_empty bs ws no_bs no_ws =
     let nothing = kept-none bs no_bs in
     let nobody = kept-none ws no_ws in

@@ -3,9 +3,9 @@ use Rattle.std.proofs.Common.{◌≡◌, ℕ, ◌+◌, ◌-◌, ◌*◌, ◌/◌
 use Rattle.std.specs.FinMap.{get, insert, remove}
 use Rattle.std.proofs.lemmas.Bool.{le-leb, and_parts, cases_Bool, cases_eq}
 use Rattle.std.proofs.lemmas.Bool.Decides.{nat_tests}
-use Rattle.mea_base.specs.declared.answer.Answer.{Answer}
-use Rattle.mea_base.specs.declared.answer.Answer.TheVariants as answers
-use Rattle.mea_base.specs.Family.{Outcome, quietly}
+use Rattle.mea_family.specs.declared.answer.Answer.{Answer}
+use Rattle.mea_family.specs.declared.answer.Answer.TheVariants as answers
+use Rattle.mea_family.specs.Family.{Outcome, quietly}
 use Rattle.mea_base.specs.Named.{at, ChangesAt}
 use Rattle.mea_base.specs.Ready.{Waking}
 use Rattle.mea_base.proofs.NamedMaps.{kept-at}
@@ -20,8 +20,8 @@ use Rattle.mea_meet_core.specs.declared.barrier_fault.BarrierFault.{BarrierFault
 use Rattle.mea_meet_core.specs.Barrier.{is_open, is_own, leads, led, joined, Arrives, Returns, Polls, round_of as round_under_way}
 use Rattle.mea_meet_core.specs.declared.barrier_wait.BarrierWait.{BarrierWait as Wait}
 use Rattle.mea_meet_core.specs.declared.barrier_wait.BarrierWait.TheVariants.{New, Arrived, Done}
-use Rattle.mea_meet.specs.Play.{Part}
-use Rattle.mea_meet.specs.BarrierHall.{Store, store_of, slot_of, round_of, slots_of, barrier_of, wait_of, barriers_of, IsKept, Turns}
+use Rattle.mea_family.specs.Play.{Part}
+use Rattle.mea_meet.specs.BarrierHall.{Store, store_of, slot_of, round_of, slots_of, barrier_of, wait_of, barriers_of, AreKeptBarriers, Turns}
 use Rattle.mea_meet.specs.declared.barriers.BarrierEntry.{BarrierEntry}
 use Rattle.mea_meet.specs.declared.barriers.BarrierWaitEntry.{BarrierWaitEntry}
 use Rattle.mea_meet.specs.declared.barriers.BarrierHall.TheInside.{Inside}
@@ -160,7 +160,7 @@ module _ (a : Inside) (v : Part Barriers) (i f : ℕ) (x : BarrierWaitEntry) (e 
     barriers : Puts st.barriers st'.barriers b (Some e')
     barriers = kept-puts a.barriers.entries bs' b (Some e') puts
 
-    done : (o : Outcome Barriers) (w : ℕ) (answer : Answer) (before after : Waking ℕ) → outcome w ≡ o → IsKept st' (i + 1) → barriers_of st' (i + 1) ≡ o.hall
+    done : (o : Outcome Barriers) (w : ℕ) (answer : Answer) (before after : Waking ℕ) → outcome w ≡ o → AreKeptBarriers st' (i + 1) → barriers_of st' (i + 1) ≡ o.hall
         → registered (barriers_of st' (i + 1)) + length e.core.waiting.wakers ≡ registered h + length e'.core.waiting.wakers
         → answer ≡ o.reply → after.wakers ≡ before.wakers ++ o.wakes
         → after.registered + length e.core.waiting.wakers ≡ before.registered + length e'.core.waiting.wakers

@@ -3,8 +3,8 @@ use Rattle.std.proofs.Common.{◌≡◌, ℕ, ◌+◌, ◌-◌, ◌/◌, ◌^◌
 use Rattle.std.specs.Option.{option_map}
 use Rattle.std.specs.FinMap.{get, insert, remove}
 use Rattle.std.proofs.lemmas.Bool.{and_from}
-use Rattle.mea_base.specs.declared.answer.Answer.{Answer}
-use Rattle.mea_base.specs.Family.{Outcome}
+use Rattle.mea_family.specs.declared.answer.Answer.{Answer}
+use Rattle.mea_family.specs.Family.{Outcome}
 use Rattle.mea_base.specs.Ready.{Waking}
 use Rattle.mea_sets.specs.declared.place.Place.{Place}
 use Rattle.mea_sets.specs.WaitSet.{has_given, with_waker, slot_after, drained}
@@ -14,8 +14,8 @@ use Rattle.mea_meet_core.specs.declared.barrier_wait.BarrierWait.TheVariants.{Ar
 use Rattle.mea_meet_model.specs.Waiting.{registering, ending}
 use Rattle.mea_meet_model.specs.Barriers.{Barrier, Barriers, registered}
 use Rattle.mea_meet.specs.Names.{waiting_at, AreNamed, AreGiven}
-use Rattle.mea_meet.specs.Play.{Part}
-use Rattle.mea_meet.specs.BarrierHall.{Store, store_of, slot_of, round_of, slots_of, barrier_of, barriers_of, IsKept}
+use Rattle.mea_family.specs.Play.{Part}
+use Rattle.mea_meet.specs.BarrierHall.{Store, store_of, slot_of, round_of, slots_of, barrier_of, barriers_of, AreKeptBarriers}
 use Rattle.mea_meet.specs.declared.barriers.BarrierEntry.{BarrierEntry}
 use Rattle.mea_meet.specs.declared.barriers.BarrierWaitEntry.{BarrierWaitEntry}
 use Rattle.mea_meet.specs.declared.barriers.BarrierHall.TheInside.{Inside}
@@ -27,11 +27,11 @@ use Rattle.mea_meet.proofs.Plays.{RestedIn, PlayedIn}
 
 -- event i had this outcome, which touches no waker
 abbrev pub Rested : Part Barriers → ℕ → Outcome Barriers → Answer → Store → Type 0
-Rested v i o answer st = RestedIn registered IsKept barriers_of v i o answer st
+Rested v i o answer st = RestedIn registered AreKeptBarriers barriers_of v i o answer st
 
 -- the same of an outcome that may touch wakers
 abbrev pub Played : Part Barriers → ℕ → Outcome Barriers → Answer → Store → Waking ℕ → Waking ℕ → Type 0
-Played v i o answer st before after = PlayedIn registered IsKept barriers_of v i o answer st before after
+Played v i o answer st before after = PlayedIn registered AreKeptBarriers barriers_of v i o answer st before after
 
 abbrev pub store_in : Inside → Store
 store_in a = store_of a.barriers.entries a.waits.entries
@@ -40,10 +40,10 @@ abbrev pub seen_in : Inside → Part Barriers
 seen_in a = record { hall = barriers_of (store_in a) a.next; next = a.next }
 
 abbrev pub IsKeptIn : Inside → Type 0
-IsKeptIn a = IsKept (store_in a) a.next
+IsKeptIn a = AreKeptBarriers (store_in a) a.next
 
 -- ---- a future of a barrier is polled or ends
-module _ (st st' : Store) (n i f : ℕ) (x : BarrierWaitEntry) (e e' : BarrierEntry) (k : IsKept st n) (less : n ≤ i) (low : i < 2 ^ 64)
+module _ (st st' : Store) (n i f : ℕ) (x : BarrierWaitEntry) (e e' : BarrierEntry) (k : AreKeptBarriers st n) (less : n ≤ i) (low : i < 2 ^ 64)
     (is : get st.waits f ≡ Some x) (there : get st.barriers x.barrier ≡ Some e) (barriers : Puts st.barriers st'.barriers x.barrier (Some e')) where
   abbrev h : Barriers
   h = barriers_of st n

@@ -7,9 +7,9 @@ use Rattle.mea_base.specs.Totals.{total}
 use Rattle.mea_base.proofs.NamedMaps.{get-seen, is_some-map, kept-at, found}
 use Rattle.mea_meet_model.specs.Waiting.{wakers}
 use Rattle.mea_meet_model.specs.Barriers.{Barrier, BarrierWait, Barriers, waits_of, registered}
-use Rattle.mea_meet.specs.Play.{Part}
+use Rattle.mea_family.specs.Play.{Part}
 use Rattle.mea_meet.specs.StandsFor.{StandsForBarrier}
-use Rattle.mea_meet.specs.BarrierHall.{Store, store_of, slots_of, barrier_of, wait_of, barriers_of, IsKept}
+use Rattle.mea_meet.specs.BarrierHall.{Store, store_of, slots_of, barrier_of, wait_of, barriers_of, AreKeptBarriers}
 use Rattle.mea_meet.specs.declared.barriers.BarrierEntry.{BarrierEntry}
 use Rattle.mea_meet.specs.declared.barriers.BarrierWaitEntry.{BarrierWaitEntry}
 use Rattle.mea_meet.specs.declared.barriers.BarrierHall.TheInside.{Inside}
@@ -89,8 +89,8 @@ module _ (a : Inside) (v : Part Barriers) (seen : seen_in a ≡ v) (f b : ℕ) (
       let waits = kept-unchanged a.waits.entries ws' f x y is writes same_x in
       λ j. record { barriers = barriers j; waits = waits j }
 
-  pub kept_unchanged : IsKeptIn a → IsKept (store_of bs' ws') a.next
-  kept_unchanged k = subst (λ st. IsKept st a.next) (sym as_it_was) k
+  pub kept_unchanged : IsKeptIn a → AreKeptBarriers (store_of bs' ws') a.next
+  kept_unchanged k = subst (λ st. AreKeptBarriers st a.next) (sym as_it_was) k
 
   pub seen_unchanged : record { hall = barriers_of (store_of bs' ws') a.next; next = a.next } ≡ v
   seen_unchanged = ap (λ st. record { hall = barriers_of st a.next; next = a.next }) as_it_was ∙ seen

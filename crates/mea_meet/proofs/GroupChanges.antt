@@ -15,7 +15,7 @@ use Rattle.mea_sets.specs.WaitSet.{has_given}
 use Rattle.mea_meet_model.specs.Count.{Count, count_from}
 use Rattle.mea_meet_model.specs.Groups.{Groups, group_at, handles_of, waits_of, registered, tidied}
 use Rattle.mea_meet.specs.Names.{waiting_at, AreNamed, AreGiven}
-use Rattle.mea_meet.specs.GroupHall.{Store, slots_of, count_of, groups_of, IsKeptEntry, IsOwned, IsHome, IsKept, is_used, left, wakers_left}
+use Rattle.mea_meet.specs.GroupHall.{Store, slots_of, count_of, groups_of, IsKeptEntry, IsOwned, IsHome, AreKeptGroups, is_used, left, wakers_left}
 use Rattle.mea_meet.specs.declared.groups.GroupEntry.{GroupEntry}
 use Rattle.mea_meet.specs.declared.groups.GroupWaitEntry.{GroupWaitEntry}
 use Rattle.mea_meet.proofs.Names.{waiting-length}
@@ -26,13 +26,13 @@ use Rattle.mea_meet.proofs.Slots.{apart_belongs, waiting_beside, given_by}
 abbrev pub slot_entry : GroupWaitEntry → ℕ × Option Place
 slot_entry x = (x.group, x.wait)
 
-pub home_given : (st : Store) (n f g : ℕ) (x : GroupWaitEntry) (e : GroupEntry) → IsKept st n → get st.waits f ≡ Some x → x.group ≡ g
+pub home_given : (st : Store) (n f g : ℕ) (x : GroupWaitEntry) (e : GroupEntry) → AreKeptGroups st n → get st.waits f ≡ Some x → x.group ≡ g
     → get st.groups g ≡ Some e → has_given e.core.count.waiting x.wait ≡ true
 home_given st n f g x e k is mine there =
     let h = k.home f x is in
     subst (λ (d : GroupEntry). has_given d.core.count.waiting x.wait ≡ true) (one_entry st.groups x.group g h.entry e h.there mine there) h.given
 
-pub are_given : (st : Store) (n g : ℕ) (e : GroupEntry) → IsKept st n → get st.groups g ≡ Some e → AreGiven (slots_of st.waits) g e.core.count.waiting
+pub are_given : (st : Store) (n g : ℕ) (e : GroupEntry) → AreKeptGroups st n → get st.groups g ≡ Some e → AreGiven (slots_of st.waits) g e.core.count.waiting
 are_given st n g e k there = given_by (λ (x : GroupWaitEntry). x.group) (λ x. x.wait) st.waits g e.core.count.waiting
     (λ f x is mine. home_given st n f g x e k is mine there)
 
@@ -91,7 +91,7 @@ pub record Changes (st st' : Store) (n n' g k f : ℕ) (q : Option GroupEntry) (
   pub waits_counted : d.waits + one_of o ≡ waits_in q + one_of o'
 
 -- ---- the counts of a group that may not be there
-module _ (st : Store) (n g : ℕ) (k : IsKept st n) where
+module _ (st : Store) (n g : ℕ) (k : AreKeptGroups st n) where
   pub handles_before : (q : Option GroupEntry) → get st.groups g ≡ q → total (of_group g) st.handles ≡ handles_in q
   handles_before None none = total-zero (of_group g) st.handles (λ j q is. by_name q g
       (λ same. absurd (let own = k.owned j q is in let clash : None ≡ Some own.entry = sym none ∙ ap (get st.groups) (sym same) ∙ own.there in cc))
@@ -120,7 +120,7 @@ wakers_seen st n g (Some e) there = ap (weight (λ j (c : Count). length c.waiti
     ∙ waiting-length (slots_of st.waits) n g e.core.count.waiting
 
 module _ (st st' : Store) (n n' g k f : ℕ) (q : Option GroupEntry) (d : GroupEntry) (p p' : Option ℕ) (o o' : Option GroupWaitEntry)
-    (kept : IsKept st n) (c : Changes st st' n n' g k f q d p p' o o') where
+    (kept : AreKeptGroups st n) (c : Changes st st' n n' g k f q d p p' o o') where
   group_other : (j : ℕ) → (g ≡ j → ⊥) → get st'.groups j ≡ get st.groups j
   group_other = put_other st.groups st'.groups g (left d) c.groups
 
@@ -214,7 +214,7 @@ module _ (st st' : Store) (n n' g k f : ℕ) (q : Option GroupEntry) (d : GroupE
       (λ apart. let old = kept.home j x (sym (wait_other j (λ mine. apart (sym (c.wait_is_of x (sym (wait_there j mine) ∙ is))))) ∙ is) in
       record { entry = old.entry; there = group_other x.group apart ∙ old.there; given = old.given })
 
-  pub kept_after : IsKept st' n'
+  pub kept_after : AreKeptGroups st' n'
   kept_after = record { each = each_after; owned = owned_after; home = home_after; named = c.named; low = c.low }
 
   -- ---- the groups that are stood for
@@ -304,7 +304,7 @@ wakers_within st n g e there =
     omega (arith, mine, waiting-length (slots_of st.waits) n g e.core.count.waiting)
 
 -- a future counts at its group
-pub waits_within : (st : Store) (n f g : ℕ) (x : GroupWaitEntry) (e : GroupEntry) → IsKept st n → get st.waits f ≡ Some x → x.group ≡ g
+pub waits_within : (st : Store) (n f g : ℕ) (x : GroupWaitEntry) (e : GroupEntry) → AreKeptGroups st n → get st.waits f ≡ Some x → x.group ≡ g
     → get st.groups g ≡ Some e → 1 ≤ e.waits
 waits_within st n f g x e k is mine there =
     let one : at_group g f x ≡ 1 = at_same x.group g 1 0 mine in
@@ -313,7 +313,7 @@ waits_within st n f g x e k is mine there =
     omega (arith, one, all, counts)
 
 -- a handle counts at its group
-pub handles_within : (st : Store) (n k g : ℕ) (e : GroupEntry) → IsKept st n → get st.handles k ≡ Some g → get st.groups g ≡ Some e → 1 ≤ e.core.count.number
+pub handles_within : (st : Store) (n k g : ℕ) (e : GroupEntry) → AreKeptGroups st n → get st.handles k ≡ Some g → get st.groups g ≡ Some e → 1 ≤ e.core.count.number
 handles_within st n k g e kept is there =
     let one : of_group g k g ≡ 1 = at_same g g 1 0 refl in
     let all : of_group g k g ≤ total (of_group g) st.handles = weight-within (of_group g) st.handles k g is in

@@ -4,9 +4,9 @@ use Rattle.std.specs.Option.{option_map, IfSome}
 use Rattle.std.specs.Ordering.{nat_cmp}
 use Rattle.std.specs.FinMap.{FinMap, get, insert, remove, entries}
 use Rattle.std.proofs.lemmas.Bool.{ne_eqb, eq-eqb}
-use Rattle.mea_base.specs.declared.answer.Answer.{Answer}
-use Rattle.mea_base.specs.declared.answer.Answer.TheVariants as answers
-use Rattle.mea_base.specs.Family.{Outcome, quietly}
+use Rattle.mea_family.specs.declared.answer.Answer.{Answer}
+use Rattle.mea_family.specs.declared.answer.Answer.TheVariants as answers
+use Rattle.mea_family.specs.Family.{Outcome, quietly}
 use Rattle.mea_base.specs.Named.{named, at, ChangesAt}
 use Rattle.mea_base.specs.Ready.{Waking}
 use Rattle.mea_base.proofs.NamedMaps.{same_named, kept-at, found, changes_twice, changed_at}
@@ -20,8 +20,8 @@ use Rattle.mea_meet_model.specs.Groups as model
 use Rattle.mea_meet_model.specs.Groups.{Groups, group_at, tidied, registered}
 use Rattle.mea_meet_core.specs.Count.{increased}
 use Rattle.mea_meet.specs.Names.{waiting_at, AreNamed, AreGiven}
-use Rattle.mea_meet.specs.Play.{Part}
-use Rattle.mea_meet.specs.GroupHall.{Store, store_of, slots_of, count_of, groups_of, IsKept, left, left_at, is_used, wakers_left, Registers}
+use Rattle.mea_family.specs.Play.{Part}
+use Rattle.mea_meet.specs.GroupHall.{Store, store_of, slots_of, count_of, groups_of, AreKeptGroups, left, left_at, is_used, wakers_left, Registers}
 use Rattle.mea_meet.specs.declared.groups.GroupEntry.{GroupEntry}
 use Rattle.mea_meet.specs.declared.groups.GroupWaitEntry.{GroupWaitEntry}
 use Rattle.mea_meet.specs.declared.groups.GroupHall.TheInside.{Inside}
@@ -35,11 +35,11 @@ use Rattle.mea_meet.proofs.Plays.{rests_by, yields_by, RestedIn, PlayedIn}
 
 -- event i had this outcome, which touches no waker
 abbrev pub Rested : Part Groups → ℕ → Outcome Groups → Answer → Store → Type 0
-Rested v i o answer st = RestedIn registered IsKept groups_of v i o answer st
+Rested v i o answer st = RestedIn registered AreKeptGroups groups_of v i o answer st
 
 -- the same of an outcome that may touch wakers
 abbrev pub Played : Part Groups → ℕ → Outcome Groups → Answer → Store → Waking ℕ → Waking ℕ → Type 0
-Played v i o answer st before after = PlayedIn registered IsKept groups_of v i o answer st before after
+Played v i o answer st before after = PlayedIn registered AreKeptGroups groups_of v i o answer st before after
 
 abbrev pub store_in : Inside → Store
 store_in a = store_of a.groups.entries a.handles.entries a.waits.entries
@@ -48,7 +48,7 @@ abbrev pub seen_in : Inside → Part Groups
 seen_in a = record { hall = groups_of (store_in a) a.next; next = a.next }
 
 abbrev pub IsKeptIn : Inside → Type 0
-IsKeptIn a = IsKept (store_in a) a.next
+IsKeptIn a = AreKeptGroups (store_in a) a.next
 
 -- ---- a handle less
 abbrev pub leaving : GroupEntry → ℕ → GroupEntry
@@ -106,14 +106,14 @@ module _ (a : Inside) (v : Part Groups) (i : ℕ) (seen : seen_in a ≡ v) (k : 
   same_waits = puts_same st.waits i None no_wait
 
   -- ---- what the contracts say, by the outcome
-  rested : (out : Groups → Outcome Groups) (o : Outcome Groups) (answer : Answer) (st' : Store) → out h ≡ o → IsKept st' (i + 1)
+  rested : (out : Groups → Outcome Groups) (o : Outcome Groups) (answer : Answer) (st' : Store) → out h ≡ o → AreKeptGroups st' (i + 1)
       → groups_of st' (i + 1) ≡ o.hall → answer ≡ o.reply → o.wakes ≡ []
       → registered (groups_of st' (i + 1)) ≡ registered h → Rested v i (out v.hall) answer st'
   rested out o answer st' chosen kept hall_is replied silent counted =
       record { kept = kept; rests = rests_by registered (seen_in a) v i seen out o answer (groups_of st' (i + 1)) chosen hall_is replied silent counted }
 
   played : (out : Groups → Outcome Groups) (o : Outcome Groups) (answer : Answer) (st' : Store) (before after : Waking ℕ) → out h ≡ o
-      → IsKept st' (i + 1) → groups_of st' (i + 1) ≡ o.hall → answer ≡ o.reply
+      → AreKeptGroups st' (i + 1) → groups_of st' (i + 1) ≡ o.hall → answer ≡ o.reply
       → after.wakers ≡ before.wakers ++ o.wakes → after.registered + registered h ≡ before.registered + registered (groups_of st' (i + 1))
       → Played v i (out v.hall) answer st' before after
   played out o answer st' before after chosen kept hall_is replied woken counted =
@@ -131,8 +131,8 @@ module _ (a : Inside) (v : Part Groups) (i : ℕ) (seen : seen_in a ≡ v) (k : 
         same_named _ _ (λ q. kept-puts a.handles.entries hs' i None undoes q ∙ sym (same_handles q)) in
         λ j. record { groups = named (λ q e. e) (same j); handles = handles j; waits = st.waits }
 
-    pub kept_undone : IsKept (store_of gs' hs' a.waits.entries) n
-    kept_undone = subst (λ u. IsKept u n) (sym undone) k
+    pub kept_undone : AreKeptGroups (store_of gs' hs' a.waits.entries) n
+    kept_undone = subst (λ u. AreKeptGroups u n) (sym undone) k
 
     pub seen_undone : record { hall = groups_of (store_of gs' hs' a.waits.entries) n; next = n } ≡ v
     seen_undone = ap (λ u. record { hall = groups_of u n; next = n }) undone ∙ seen

@@ -8,9 +8,9 @@ use Rattle.mea_base.proofs.NamedMaps.{get-seen, is_some-map, kept-at, found}
 use Rattle.mea_meet_model.specs.Waiting.{wakers}
 use Rattle.mea_meet_model.specs.Count.{Count}
 use Rattle.mea_meet_model.specs.Groups.{Groups, no_groups, group_at, registered}
-use Rattle.mea_meet.specs.Play.{Part}
+use Rattle.mea_family.specs.Play.{Part}
 use Rattle.mea_meet.specs.StandsFor.{StandsForGroup}
-use Rattle.mea_meet.specs.GroupHall.{Store, store_of, slots_of, count_of, groups_of, IsKept, is_full}
+use Rattle.mea_meet.specs.GroupHall.{Store, store_of, slots_of, count_of, groups_of, AreKeptGroups, is_full}
 use Rattle.mea_meet.specs.declared.groups.GroupEntry.{GroupEntry}
 use Rattle.mea_meet.specs.declared.groups.GroupWaitEntry.{GroupWaitEntry}
 use Rattle.mea_meet.specs.declared.groups.GroupHall.TheInside.{Inside}
@@ -35,7 +35,7 @@ module _ (gs : List (ℕ × GroupEntry)) (hs : List (ℕ × ℕ)) (ws : List (�
   nobody : (f : ℕ) → get st.waits f ≡ None
   nobody = kept-none ws no_ws
 
-  pub kept_empty : IsKept st 0
+  pub kept_empty : AreKeptGroups st 0
   kept_empty = record {
     each = λ g e is. absurd (let clash : None ≡ Some e = sym (nothing g) ∙ is in cc);
     owned = λ k g is. absurd (let clash : None ≡ Some g = sym (no_handle k) ∙ is in cc);
@@ -126,8 +126,8 @@ module _ (a : Inside) (v : Part Groups) (seen : seen_in a ≡ v) (f g : ℕ) (x 
       let waits = kept-unchanged a.waits.entries ws' f x y is writes same_x in
       λ j. record { groups = groups j; handles = (store_in a).handles; waits = waits j }
 
-  pub kept_unchanged : IsKeptIn a → IsKept (store_of gs' a.handles.entries ws') a.next
-  kept_unchanged k = subst (λ st. IsKept st a.next) (sym as_it_was) k
+  pub kept_unchanged : IsKeptIn a → AreKeptGroups (store_of gs' a.handles.entries ws') a.next
+  kept_unchanged k = subst (λ st. AreKeptGroups st a.next) (sym as_it_was) k
 
   pub seen_unchanged : record { hall = groups_of (store_of gs' a.handles.entries ws') a.next; next = a.next } ≡ v
   seen_unchanged = ap (λ st. record { hall = groups_of st a.next; next = a.next }) as_it_was ∙ seen

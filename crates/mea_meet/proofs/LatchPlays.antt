@@ -5,9 +5,9 @@ use Rattle.std.specs.Ordering.{nat_cmp}
 use Rattle.std.specs.FinMap.{FinMap, get, insert, remove}
 use Rattle.std.proofs.lemmas.Bool.{eqb-true, eqb-false, ne_eqb}
 use Rattle.std.proofs.lemmas.Bool.Decides.{nat_tests}
-use Rattle.mea_base.specs.declared.answer.Answer.{Answer}
-use Rattle.mea_base.specs.declared.answer.Answer.TheVariants as answers
-use Rattle.mea_base.specs.Family.{Outcome, quietly}
+use Rattle.mea_family.specs.declared.answer.Answer.{Answer}
+use Rattle.mea_family.specs.declared.answer.Answer.TheVariants as answers
+use Rattle.mea_family.specs.Family.{Outcome, quietly}
 use Rattle.mea_base.specs.Ready.{Waking}
 use Rattle.mea_base.specs.Totals.{weight}
 use Rattle.mea_base.proofs.Totals.{get_inserted, total-zero}
@@ -20,8 +20,8 @@ use Rattle.mea_meet_model.specs.Count as counts
 use Rattle.mea_meet_model.specs.Latches as model
 use Rattle.mea_meet_model.specs.Latches.{Latch, Latches, registered}
 use Rattle.mea_meet.specs.Names.{waiting_at, AreNamed}
-use Rattle.mea_meet.specs.Play.{Part}
-use Rattle.mea_meet.specs.LatchHall.{Store, slot_of, slots_of, latch_of, wait_of, latches_of, IsKeptEntry, IsKept, begun, ended, tidied, let_go}
+use Rattle.mea_family.specs.Play.{Part}
+use Rattle.mea_meet.specs.LatchHall.{Store, slot_of, slots_of, latch_of, wait_of, latches_of, IsKeptEntry, AreKeptLatches, begun, ended, tidied, let_go}
 use Rattle.mea_meet.specs.declared.latches.LatchEntry.{LatchEntry}
 use Rattle.mea_meet.specs.declared.latches.LatchWaitEntry.{LatchWaitEntry}
 use Rattle.mea_meet.proofs.Names.{waiting-registers, waiting-ends, named-new, named-ends, named-registers, given-registers, given-with, given-drained}
@@ -34,10 +34,10 @@ use Rattle.mea_meet.proofs.Plays.{rests_by, yields_by, RestedIn, PlayedIn}
 
 -- ---- what an event came to
 abbrev pub RestedAt : Part Latches → Store → ℕ → Outcome Latches → Answer → Type 0
-RestedAt v st i o answer = RestedIn registered IsKept latches_of v i o answer st
+RestedAt v st i o answer = RestedIn registered AreKeptLatches latches_of v i o answer st
 
 abbrev pub YieldedAt : Part Latches → Store → ℕ → Outcome Latches → Answer → Waking ℕ → Waking ℕ → Type 0
-YieldedAt v st i o answer before after = PlayedIn registered IsKept latches_of v i o answer st before after
+YieldedAt v st i o answer before after = PlayedIn registered AreKeptLatches latches_of v i o answer st before after
 
 -- the same where these latches were kept before
 abbrev pub Rested : Store → Store → ℕ → ℕ → Outcome Latches → Answer → Type 0
@@ -63,7 +63,7 @@ pub wait_there : (st : Store) (b f : ℕ) (x : LatchWaitEntry) → get st.waits 
 wait_there st b f x there = wait_seen st b f ∙ ap (option_map wait_of) there
 
 -- ---- a latch changes, and no future
-module _ (st : Store) (b : ℕ) (k : IsKept st b) (ls' : FinMap nat_cmp LatchEntry) (l : ℕ) where
+module _ (st : Store) (b : ℕ) (k : AreKeptLatches st b) (ls' : FinMap nat_cmp LatchEntry) (l : ℕ) where
   pub alone : (e' : Option LatchEntry) → Puts st.latches ls' l e'
       → ((f : ℕ) (x : LatchWaitEntry) → l ≡ x.latch → get st.waits f ≡ Some x
       → (e : LatchEntry) × (e' ≡ Some e) × (has_given e.core.count.waiting x.wait ≡ true))
@@ -81,7 +81,7 @@ module _ (st : Store) (b : ℕ) (k : IsKept st b) (ls' : FinMap nat_cmp LatchEnt
   }
 
 -- ---- a latch changes, and one of its futures
-module _ (st : Store) (b : ℕ) (k : IsKept st b) (ls' : FinMap nat_cmp LatchEntry) (ws' : FinMap nat_cmp LatchWaitEntry) (l f : ℕ)
+module _ (st : Store) (b : ℕ) (k : AreKeptLatches st b) (ls' : FinMap nat_cmp LatchEntry) (ws' : FinMap nat_cmp LatchWaitEntry) (l f : ℕ)
     (o o' : Option LatchWaitEntry) (named' : AreNamed (slots_of ws') b) (was : get st.waits f ≡ o) (now : Puts st.waits ws' f o')
     (mine : (x : LatchWaitEntry) → o ≡ Some x → x.latch ≡ l) (mine' : (x : LatchWaitEntry) → o' ≡ Some x → x.latch ≡ l) where
   pub joined : (e' : Option LatchEntry) → Puts st.latches ls' l e'
@@ -110,7 +110,7 @@ module _ (st : Store) (b : ℕ) (k : IsKept st b) (ls' : FinMap nat_cmp LatchEnt
       by_test false h = stays x (given_to st b l e k there g x (sym (put_other st.waits ws' f o' now g (eqb-false f g h)) ∙ is) (sym at_l))
 
 -- ---- a latch that has neither a name nor a future is taken away
-module _ (st : Store) (b : ℕ) (k : IsKept st b) (ls' : FinMap nat_cmp LatchEntry) (l : ℕ) (e : LatchEntry) (there : get st.latches l ≡ Some e)
+module _ (st : Store) (b : ℕ) (k : AreKeptLatches st b) (ls' : FinMap nat_cmp LatchEntry) (l : ℕ) (e : LatchEntry) (there : get st.latches l ≡ Some e)
     (latches : Puts st.latches ls' l (tidied e)) where
   abbrev tidy_store : Store
   tidy_store = record { latches = ls'; waits = st.waits }
@@ -140,7 +140,7 @@ module _ (st : Store) (b : ℕ) (k : IsKept st b) (ls' : FinMap nat_cmp LatchEnt
       by_kept d true is = (let same : e ≡ d = cc in subst (λ y. IsKeptEntry st b l y) same (k.each l e there))
       by_kept d false is = absurd (cc)
 
-  pub tidy_kept : IsKept tidy_store b
+  pub tidy_kept : AreKeptLatches tidy_store b
   tidy_kept = kept_after st tidy_store b l (tidied e) k tidy_changes
 
   pub tidy_hall : latches_of tidy_store b ≡ model.tidied (latches_of st b) l
@@ -185,8 +185,8 @@ abbrev pub registering_wait : LatchEntry → LatchWaitEntry → LatchWaitEntry
 registering_wait e x = record x { wait = slot_after e.core.count.waiting x.wait }
 
 -- ---- the events
-module _ (st : Store) (next i : ℕ) (k : IsKept st next) (less : next ≤ i) (low : i < 2 ^ 64) where
-  pub k1 : IsKept st (i + 1)
+module _ (st : Store) (next i : ℕ) (k : AreKeptLatches st next) (less : next ≤ i) (low : i < 2 ^ 64) where
+  pub k1 : AreKeptLatches st (i + 1)
   k1 = later_kept st next (i + 1) k (omega (arith, less)) (omega (arith, low))
 
   h1 : latches_of st (i + 1) ≡ latches_of st next
@@ -195,7 +195,7 @@ module _ (st : Store) (next i : ℕ) (k : IsKept st next) (less : next ≤ i) (l
   abbrev now : Latches
   now = latches_of st (i + 1)
 
-  pub rested : (st' : Store) (F : Latches → Outcome Latches) (answer : Answer) → IsKept st' (i + 1) → latches_of st' (i + 1) ≡ (F now).hall
+  pub rested : (st' : Store) (F : Latches → Outcome Latches) (answer : Answer) → AreKeptLatches st' (i + 1) → latches_of st' (i + 1) ≡ (F now).hall
       → (F now).wakes ≡ [] → answer ≡ (F now).reply → registered (latches_of st' (i + 1)) ≡ registered now
       → Rested st st' next i (F (latches_of st next)) answer
   rested st' F answer kept hall quiet replied counted = record {
@@ -204,7 +204,7 @@ module _ (st : Store) (next i : ℕ) (k : IsKept st next) (less : next ≤ i) (l
         (λ j. record { hall = h1 j; next = next }) F (F now) answer (latches_of st' (i + 1)) refl hall replied quiet counted;
   }
 
-  pub yielded : (st' : Store) (F : Latches → Outcome Latches) (answer : Answer) (before after : Waking ℕ) → IsKept st' (i + 1)
+  pub yielded : (st' : Store) (F : Latches → Outcome Latches) (answer : Answer) (before after : Waking ℕ) → AreKeptLatches st' (i + 1)
       → latches_of st' (i + 1) ≡ (F now).hall → answer ≡ (F now).reply → after.wakers ≡ before.wakers ++ (F now).wakes
       → after.registered + registered now ≡ before.registered + registered (latches_of st' (i + 1))
       → Yielded st st' next i (F (latches_of st next)) answer before after

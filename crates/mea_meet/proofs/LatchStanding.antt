@@ -3,9 +3,9 @@ use Rattle.std.proofs.Common.{◌≡◌, ℕ, ◌+◌, ◌-◌, ◌<◌, ◌≤�
 use Rattle.std.specs.Option.{option_map, is_some, IsSome}
 use Rattle.std.specs.FinMap.{get}
 use Rattle.std.proofs.lemmas.Bool.{eq-eqb, cases_lt}
-use Rattle.mea_base.specs.declared.answer.Answer.{Answer}
-use Rattle.mea_base.specs.declared.answer.Answer.TheVariants as answers
-use Rattle.mea_base.specs.Family.{Outcome, quietly}
+use Rattle.mea_family.specs.declared.answer.Answer.{Answer}
+use Rattle.mea_family.specs.declared.answer.Answer.TheVariants as answers
+use Rattle.mea_family.specs.Family.{Outcome, quietly}
 use Rattle.mea_base.specs.Named.{named, at, ChangesAt}
 use Rattle.mea_base.specs.Ready.{Waking}
 use Rattle.mea_base.proofs.Tests.{at_same}
@@ -20,9 +20,9 @@ use Rattle.mea_meet_model.specs.Count.{with_waker}
 use Rattle.mea_meet_model.specs.Latches as model
 use Rattle.mea_meet_model.specs.Latches.{Latch, Latches, registered}
 use Rattle.mea_meet_core.specs.Count.{tried}
-use Rattle.mea_meet.specs.Play.{Part, Yields}
+use Rattle.mea_family.specs.Play.{Part, PartYields}
 use Rattle.mea_meet.specs.StandsFor.{StandsForCount, StandsForLatch}
-use Rattle.mea_meet.specs.LatchHall.{Store, store_of, slot_of, slots_of, latch_of, latches_of, wait_of, IsKeptEntry, IsKept, begun, ended, tidied, let_go, PollsLatch}
+use Rattle.mea_meet.specs.LatchHall.{Store, store_of, slot_of, slots_of, latch_of, latches_of, wait_of, IsKeptEntry, AreKeptLatches, begun, ended, tidied, let_go, PollsLatch}
 use Rattle.mea_meet.specs.declared.latches.LatchEntry.{LatchEntry}
 use Rattle.mea_meet.specs.declared.latches.LatchWaitEntry.{LatchWaitEntry}
 use Rattle.mea_meet.proofs.Names.{waiting-wakers}
@@ -61,7 +61,7 @@ told_ready c c' slot slot' w polls = elim (cases_lt 0 c.number) [
 ]
 
 -- ---- a hall with nothing in it
-pub kept_empty : (ls : Latchs) (ws : Waits) → ls ≡ [] → ws ≡ [] → IsKept (store_of ls ws) 0
+pub kept_empty : (ls : Latchs) (ws : Waits) → ls ≡ [] → ws ≡ [] → AreKeptLatches (store_of ls ws) 0
 kept_empty ls ws none_l none_w = record {
   each = λ l e is. absurd (let none = kept-none ls none_l l in cc);
   home = λ f x is. absurd (let none = kept-none ws none_w f in cc);
@@ -98,7 +98,7 @@ module _ (ls : Latchs) (ws : Waits) (next : ℕ) (v : Part Latches) (seen : reco
           wait_none none = wait_seen (store_of ls ws) next f ∙ ap (option_map wait_of) none
       by_wait (Some x) is = ap is_some (sym (wait_there (store_of ls ws) next f x (found ws f x is)))
 
-  pub borrowed_at : (l : ℕ) (e : LatchEntry) → IsKept (store_of ls ws) next → at ls l ≡ Some e → e.plain ≡ model.plain_waits_of v.hall l
+  pub borrowed_at : (l : ℕ) (e : LatchEntry) → AreKeptLatches (store_of ls ws) next → at ls l ≡ Some e → e.plain ≡ model.plain_waits_of v.hall l
   borrowed_at l e k is = (k.each l e (found ls l e is)).plain ∙ sym (plain_seen (store_of ls ws) next l)
       ∙ ap (λ (p : Part Latches). model.plain_waits_of p.hall l) seen
 
@@ -119,13 +119,13 @@ module _ (ls : Latchs) (ws : Waits) (next : ℕ) (v : Part Latches) (seen : reco
       omega (arith, most, all, same)
 
   -- the latch of a future
-  pub latch_at_wait : (f : ℕ) (x : LatchWaitEntry) → IsKept (store_of ls ws) next → at ws f ≡ Some x → (e : LatchEntry) × (at ls x.latch ≡ Some e)
+  pub latch_at_wait : (f : ℕ) (x : LatchWaitEntry) → AreKeptLatches (store_of ls ws) next → at ws f ≡ Some x → (e : LatchEntry) × (at ls x.latch ≡ Some e)
   latch_at_wait f x k is = let home = k.home f x (found ws f x is) in (home.entry, sym (kept-at ls x.latch) ∙ home.there)
 
-  pub kept_at : (l : ℕ) (e : LatchEntry) → IsKept (store_of ls ws) next → at ls l ≡ Some e → IsKeptEntry (store_of ls ws) next l e
+  pub kept_at : (l : ℕ) (e : LatchEntry) → AreKeptLatches (store_of ls ws) next → at ls l ≡ Some e → IsKeptEntry (store_of ls ws) next l e
   kept_at l e k is = k.each l e (found ls l e is)
 
-  pub quiet_at : (l : ℕ) (e : LatchEntry) → IsKept (store_of ls ws) next → at ls l ≡ Some e → e.core.wakes ≡ []
+  pub quiet_at : (l : ℕ) (e : LatchEntry) → AreKeptLatches (store_of ls ws) next → at ls l ≡ Some e → e.core.wakes ≡ []
   quiet_at l e k is = (kept_at l e k is).quiet
 
   pub find_wait : (f : ℕ) → IsSome (get v.hall.waits f) → (x : LatchWaitEntry) × (at ws f ≡ Some x)
@@ -134,14 +134,14 @@ module _ (ls : Latchs) (ws : Waits) (next : ℕ) (v : Part Latches) (seen : reco
   pub never_wait : (f : ℕ) → IsSome (get v.hall.waits f) → at ws f ≡ None → ⊥
   never_wait f there none = let x = find_wait f there in absurd (let clash : None ≡ Some x.0 = sym none ∙ x.1 in cc)
 
-  pub never_latch : (f : ℕ) (x : LatchWaitEntry) → IsKept (store_of ls ws) next → at ws f ≡ Some x → at ls x.latch ≡ None → ⊥
+  pub never_latch : (f : ℕ) (x : LatchWaitEntry) → AreKeptLatches (store_of ls ws) next → at ws f ≡ Some x → at ls x.latch ≡ None → ⊥
   never_latch f x k is none = let e = latch_at_wait f x k is in absurd (let clash : None ≡ Some e.0 = sym none ∙ e.1 in cc)
 
-  pub given_at : (f : ℕ) (x : LatchWaitEntry) (e : LatchEntry) → IsKept (store_of ls ws) next → at ws f ≡ Some x → at ls x.latch ≡ Some e
+  pub given_at : (f : ℕ) (x : LatchWaitEntry) (e : LatchEntry) → AreKeptLatches (store_of ls ws) next → at ws f ≡ Some x → at ls x.latch ≡ Some e
       → has_given e.core.count.waiting x.wait ≡ true
   given_at f x e k is there = given_to (store_of ls ws) next x.latch e k (found ls x.latch e there) f x (found ws f x is) refl
 
-  pub endable_with : (f : ℕ) (x : LatchWaitEntry) (e : LatchEntry) (ready : Waking ℕ) → IsKept (store_of ls ws) next → at ws f ≡ Some x
+  pub endable_with : (f : ℕ) (x : LatchWaitEntry) (e : LatchEntry) (ready : Waking ℕ) → AreKeptLatches (store_of ls ws) next → at ws f ≡ Some x
       → at ls x.latch ≡ Some e → registered v.hall ≤ ready.registered → IsEndable ready e x
   endable_with f x e ready k is there room =
       let kept = k.each x.latch e (found ls x.latch e there) in
@@ -169,8 +169,8 @@ same_store ls ls' ws ws' l f e d x y there is change same change_wait same_wait 
 }
 
 -- where an insertion fails, all is as it was
-pub same_waits : (ls : Latchs) (ws : Waits) (next : ℕ) (ws' : Waits) → IsKept (store_of ls ws) next → ws' ≡ ws → IsKept (store_of ls ws') next
-same_waits ls ws next ws' k same = subst (λ es. IsKept (store_of ls es) next) (sym same) k
+pub same_waits : (ls : Latchs) (ws : Waits) (next : ℕ) (ws' : Waits) → AreKeptLatches (store_of ls ws) next → ws' ≡ ws → AreKeptLatches (store_of ls ws') next
+same_waits ls ws next ws' k same = subst (λ es. AreKeptLatches (store_of ls es) next) (sym same) k
 
 -- at most its own wakers leave with a latch
 pub let_go_most : (e : LatchEntry) → let_go e ≤ length e.core.count.waiting.wakers
@@ -190,7 +190,7 @@ told_try (Err m) = answers.Left m
 
 -- ---- what an event came to
 module _ (ls : Latchs) (ws : Waits) (next i : ℕ) (v : Part Latches) (seen : record { hall = latches_of (store_of ls ws) next; next = next } ≡ v)
-    (k : IsKept (store_of ls ws) next) (later : v.next ≤ i) (low : i < 2 ^ 64) where
+    (k : AreKeptLatches (store_of ls ws) next) (later : v.next ≤ i) (low : i < 2 ^ 64) where
   less : next ≤ i
   less = let same : next ≡ v.next = ap (λ (p : Part Latches). p.next) seen in omega (arith, same, later)
 
@@ -293,17 +293,17 @@ module _ (ls : Latchs) (ws : Waits) (next i : ℕ) (v : Part Latches) (seen : re
 -- ---- a poll that is ready or fails changes nothing
 pub record Unchanged (ls' : Latchs) (ws' : Waits) (next : ℕ) (v : Part Latches) : Type 0 where
   pub seen : record { hall = latches_of (store_of ls' ws') next; next = next } ≡ v
-  pub kept : IsKept (store_of ls' ws') next
+  pub kept : AreKeptLatches (store_of ls' ws') next
 
 module _ (ls ls' : Latchs) (ws ws' : Waits) (next : ℕ) (v : Part Latches) (seen : record { hall = latches_of (store_of ls ws) next; next = next } ≡ v)
-    (k : IsKept (store_of ls ws) next) (f : ℕ) (x y : LatchWaitEntry) (e d : LatchEntry)
+    (k : AreKeptLatches (store_of ls ws) next) (f : ℕ) (x y : LatchWaitEntry) (e d : LatchEntry)
     (is : at ws f ≡ Some x) (there : at ls x.latch ≡ Some e) (latches : ChangesAt ls ls' x.latch (Some d)) (waits : ChangesAt ws ws' f (Some y)) where
   pub unchanged : d ≡ e → y ≡ x → Unchanged ls' ws' next v
   unchanged same_entry same_future =
       let same = same_store ls ls' ws ws' x.latch f e d x y there is latches same_entry waits same_future in
       record {
         seen = ap {B = Part Latches} (λ (st : Store). record { hall = latches_of st next; next = next }) same ∙ seen;
-        kept = subst (λ (st : Store). IsKept st next) (sym same) k;
+        kept = subst (λ (st : Store). AreKeptLatches st next) (sym same) k;
       }
 
   module _ (w : ℕ) (before after : Waking ℕ) (rest : d ≡ record e { core = d.core }) (mine : y ≡ record x { wait = y.wait })
@@ -333,8 +333,8 @@ module _ (ls ls' : Latchs) (ws ws' : Waits) (next : ℕ) (v : Part Latches) (see
 
     -- and its end is the poll, but for the reply
     pub ready_done : (i : ℕ) (mid new : Part Latches) (answer : Answer) (last : Waking ℕ) → mid ≡ v
-        → Yields registered mid i (model.end_of mid.hall f (get mid.hall.waits f)) answer new after last
-        → Yields registered v i (model.poll_of v.hall f w (get v.hall.waits f)) answers.Ready new before last
+        → PartYields registered mid i (model.end_of mid.hall f (get mid.hall.waits f)) answer new after last
+        → PartYields registered v i (model.poll_of v.hall f w (get v.hall.waits f)) answers.Ready new before last
     ready_done i mid new answer last same ends =
         let its : get v.hall.waits f ≡ Some (wait_of x) = subst (λ (p : Part Latches). get p.hall.waits f ≡ Some (wait_of x)) seen
         (wait_there (store_of ls ws) next f x (found ws f x is)) in
@@ -342,9 +342,9 @@ module _ (ls ls' : Latchs) (ws ws' : Waits) (next : ℕ) (v : Part Latches) (see
         subst (λ (p : Part Latches). (model.latch_at p.hall x.latch).count.number ≡ 0) seen
         (ap (λ (r : Latch). r.count.number) (latch_is (store_of ls ws) next x.latch e (found ls x.latch e there)) ∙ told.0) in
         let still : after ≡ before = (λ j. record { wakers = polls.woken j; registered = as_many j }) in
-        let here : Yields registered v i (model.end_of v.hall f (get v.hall.waits f)) answer new before last =
-        subst (λ (p : Part Latches). Yields registered p i (model.end_of p.hall f (get p.hall.waits f)) answer new before last) same
-        (subst (λ u. Yields registered mid i (model.end_of mid.hall f (get mid.hall.waits f)) answer new u last) still ends) in
+        let here : PartYields registered v i (model.end_of v.hall f (get v.hall.waits f)) answer new before last =
+        subst (λ (p : Part Latches). PartYields registered p i (model.end_of p.hall f (get p.hall.waits f)) answer new before last) same
+        (subst (λ u. PartYields registered mid i (model.end_of mid.hall f (get mid.hall.waits f)) answer new u last) still ends) in
         let gone = ap (model.end_of v.hall f) its in
         let step = ap (model.poll_of v.hall f w) its
         ∙ ap (λ t. if t then quietly (model.gone v.hall f (wait_of x)) answers.Ready

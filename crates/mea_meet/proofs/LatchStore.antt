@@ -11,7 +11,7 @@ use Rattle.mea_base.proofs.NamedMaps.{get-seen}
 use Rattle.mea_sets.specs.WaitSet.{Registered, has_given}
 use Rattle.mea_meet_model.specs.Latches.{Latch, LatchWait, registered}
 use Rattle.mea_meet.specs.Names.{waiting_at, AreNamed, AreGiven}
-use Rattle.mea_meet.specs.LatchHall.{Store, slot_of, slots_of, latch_of, wait_of, latches_of, waits_in, plain_in, IsKeptEntry, IsHome, IsKept}
+use Rattle.mea_meet.specs.LatchHall.{Store, slot_of, slots_of, latch_of, wait_of, latches_of, waits_in, plain_in, IsKeptEntry, IsHome, AreKeptLatches}
 use Rattle.mea_meet.specs.declared.latches.LatchEntry.{LatchEntry}
 use Rattle.mea_meet.specs.declared.latches.LatchWaitEntry.{LatchWaitEntry}
 use Rattle.mea_meet.proofs.Names.{waiting-length, named-later}
@@ -49,8 +49,8 @@ pub plain_seen : (st : Store) (b l : ℕ) → total (λ f (x : LatchWait). cond 
 plain_seen st b l = total-named (λ f x. wait_of x) (λ f (x : LatchWait). cond (x.latch == l && x.plain) 1 0) st.waits
 
 -- ---- where nothing changes, and the bound rises
-module _ (st : Store) (b b' : ℕ) (k : IsKept st b) (rises : b ≤ b') where
-  pub later_kept : b' ≤ 2 ^ 64 → IsKept st b'
+module _ (st : Store) (b b' : ℕ) (k : AreKeptLatches st b) (rises : b ≤ b') where
+  pub later_kept : b' ≤ 2 ^ 64 → AreKeptLatches st b'
   later_kept low = record {
     each = λ l e is. (let old = k.each l e is in let few = old.few in let few_plain = old.few_plain in let below = old.below in
         record {
@@ -90,7 +90,7 @@ pub record Changes (st st' : Store) (b l : ℕ) (e' : Option LatchEntry) : Type 
       → (e : LatchEntry) × (e' ≡ Some e) × (has_given e.core.count.waiting x.wait ≡ true)
   pub kept : (e : LatchEntry) → e' ≡ Some e → IsKeptEntry st' b l e
 
-module _ (st st' : Store) (b l : ℕ) (e' : Option LatchEntry) (k : IsKept st b) (c : Changes st st' b l e') where
+module _ (st st' : Store) (b l : ℕ) (e' : Option LatchEntry) (k : AreKeptLatches st b) (c : Changes st st' b l e') where
   each_after : (q : ℕ) (e : LatchEntry) → get st'.latches q ≡ Some e → IsKeptEntry st' b q e
   each_after q e is = by_name l q
       (λ same. subst (λ p. IsKeptEntry st' b p e) same (c.kept e (sym (put_there st.latches st'.latches l e' c.latches q same) ∙ is)))
@@ -111,7 +111,7 @@ module _ (st st' : Store) (b l : ℕ) (e' : Option LatchEntry) (k : IsKept st b)
       (λ apart. let old = k.home f x (c.others f x apart is) in
       record { entry = old.entry; there = put_other st.latches st'.latches l e' c.latches x.latch apart ∙ old.there; given = old.given })
 
-  pub kept_after : IsKept st' b
+  pub kept_after : AreKeptLatches st' b
   kept_after = record { each = each_after; home = home_after; named = c.named; low = k.low }
 
   pub latches_after : Puts (latches_of st b).latches (latches_of st' b).latches l (option_map (latch_of st'.waits b l) e')
@@ -198,11 +198,11 @@ module _ (ws ws' : Kept) (b l f : ℕ) (o o' : Option LatchWaitEntry) (named : A
       weighs (Some x) own = ap (λ t. cond (t && x.plain) 1 0) (eq-eqb x.latch l (own x refl))
 
 -- the numbers that the futures of l have
-pub given_to : (st : Store) (b l : ℕ) (e : LatchEntry) → IsKept st b → get st.latches l ≡ Some e → (f : ℕ) (x : LatchWaitEntry)
+pub given_to : (st : Store) (b l : ℕ) (e : LatchEntry) → AreKeptLatches st b → get st.latches l ≡ Some e → (f : ℕ) (x : LatchWaitEntry)
     → get st.waits f ≡ Some x → x.latch ≡ l → has_given e.core.count.waiting x.wait ≡ true
 given_to st b l e k there f x is own =
     let home = k.home f x is in
     subst (λ (d : LatchEntry). has_given d.core.count.waiting x.wait ≡ true) (one_entry st.latches x.latch l home.entry e home.there own there) home.given
 
-pub given_all : (st : Store) (b l : ℕ) (e : LatchEntry) → IsKept st b → get st.latches l ≡ Some e → AreGiven (slots_of st.waits) l e.core.count.waiting
+pub given_all : (st : Store) (b l : ℕ) (e : LatchEntry) → AreKeptLatches st b → get st.latches l ≡ Some e → AreGiven (slots_of st.waits) l e.core.count.waiting
 given_all st b l e k there = given_by (λ (x : LatchWaitEntry). x.latch) (λ x. x.wait) st.waits l e.core.count.waiting (given_to st b l e k there)

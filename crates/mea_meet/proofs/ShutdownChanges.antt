@@ -15,7 +15,7 @@ use Rattle.mea_meet.specs.declared.shutdown_entries.ReceiverEntry.{ReceiverEntry
 use Rattle.mea_meet.specs.declared.shutdown_entries.ShutdownWaitEntry.{ShutdownWaitEntry}
 use Rattle.mea_meet.specs.declared.shutdown_entries.ShutdownWait.{ShutdownWait as Wait}
 use Rattle.mea_meet.specs.declared.shutdown_entries.ShutdownWait.TheVariants as waits
-use Rattle.mea_meet.specs.ShutdownHall.{Store, End, OfSignal, OfReceivers, awaits_of, slot_at, slot_in, slots_of, shutdown_of, hall_of, borrowers_in, is_of, IsKeptEntry, IsKeptSender, IsKeptReceiver, IsKeptWait, IsKept}
+use Rattle.mea_meet.specs.ShutdownHall.{Store, End, OfSignal, OfReceivers, awaits_of, slot_at, slot_in, slots_of, shutdown_of, hall_of, borrowers_in, is_of, IsKeptEntry, IsKeptSender, IsKeptReceiver, IsKeptWait, AreKeptShutdowns}
 use Rattle.mea_meet.proofs.Names.{waiting-length, named-ends, named-new, object_in}
 use Rattle.mea_meet.proofs.Maps.{Puts, Belongs, put_here, put_other, total_puts, by_put, total-named, total_elsewhere, weight-within, seen_puts, inside}
 use Rattle.mea_meet.proofs.Slots.{IsUnplaced, slots_there, slots_other, apart_unplaced, waiting_beside, given_beside}
@@ -68,7 +68,7 @@ wakers-within st n s e there =
     omega (arith, part, all)
 
 module _ (st st' : Store) (next next' s a b f : ℕ) (e2 : ShutdownEntry) (oa : Option ℕ) (ob : Option ReceiverEntry) (ow : Option ShutdownWaitEntry)
-    (k : IsKept st next) (c : Changes st st' s a b f e2 oa ob ow) (later : next ≤ next') where
+    (k : AreKeptShutdowns st next) (c : Changes st st' s a b f e2 oa ob ow) (later : next ≤ next') where
   there_still : (q : ℕ) → IsSome (get st.shutdowns q) → IsSome (get st'.shutdowns q)
   there_still q there = ap is_some (c.shutdowns q) ∙ by_test (s == q)
     where
@@ -199,7 +199,7 @@ module _ (st st' : Store) (next next' s a b f : ℕ) (e2 : ShutdownEntry) (oa : 
               (put_other st.waits st'.waits f ow c.waits g apart ∙ is) (ap (borrows (awaits_of y.wait)) same ∙ lent)
           by_test false h = ap (λ o. is_of o y.shutdown) (put_other st.receivers st'.receivers b ob c.receivers q (eqb-false b q h)) ∙ old
 
-      pub kept_after : IsKept st' next'
+      pub kept_after : AreKeptShutdowns st' next'
       kept_after = record {
         each = by_put st.shutdowns st'.shutdowns s (Some e2) c.shutdowns (λ q e. IsKeptEntry st' next' q e)
             (λ e is. subst (IsKeptEntry st' next' s) (inside e2 e is) w.entry) entry_other;

@@ -17,7 +17,7 @@ use Rattle.mea_meet.specs.declared.shutdown_entries.ReceiverEntry.{ReceiverEntry
 use Rattle.mea_meet.specs.declared.shutdown_entries.ShutdownWaitEntry.{ShutdownWaitEntry}
 use Rattle.mea_meet.specs.declared.shutdown_entries.ShutdownWait.{ShutdownWait as Wait}
 use Rattle.mea_meet.specs.declared.shutdown_entries.ShutdownWait.TheVariants as waits
-use Rattle.mea_meet.specs.ShutdownHall.{Store, End, OfSignal, OfReceivers, awaits_of, borrowed_of, slot_at, slot_in, count_at, slots_of, shutdown_of, receiver_of, wait_of, hall_of, counting, borrowers_in, is_of, GivesBack, without_wait, IsKeptEntry, IsKept}
+use Rattle.mea_meet.specs.ShutdownHall.{Store, End, OfSignal, OfReceivers, awaits_of, borrowed_of, slot_at, slot_in, count_at, slots_of, shutdown_of, receiver_of, wait_of, hall_of, counting, borrowers_in, is_of, GivesBack, without_wait, IsKeptEntry, AreKeptShutdowns}
 use Rattle.mea_meet.proofs.Names.{waiting-ends}
 use Rattle.mea_meet.proofs.Maps.{Puts, Belongs, kept-puts, puts_same, puts_seen, total_puts, is_same, is_insert, is_remove, belongs-none, belongs-some, inside, weight-within}
 use Rattle.mea_meet.proofs.ShutdownChanges.{Changes, Unplaced, kept_after, registered_after, wakers_at, slot_now, slot_other, named_unplaced, given_unplaced, alike_unplaced, shutdowns_after}
@@ -40,7 +40,7 @@ is_of-some : (o : Option ReceiverEntry) (s : ℕ) → is_of o s ≡ true → (x 
 is_of-some None s h = absurd (cc)
 is_of-some (Some x) s h = (x, refl, eqb-true x.shutdown s h)
 
-module _ (st : Store) (next f r : ℕ) (x : ShutdownWaitEntry) (k : IsKept st next) (is : get st.waits f ≡ Some x) (borrowed : borrowed_of x.wait ≡ Some r) where
+module _ (st : Store) (next f r : ℕ) (x : ShutdownWaitEntry) (k : AreKeptShutdowns st next) (is : get st.waits f ≡ Some x) (borrowed : borrowed_of x.wait ≡ Some r) where
   lends-it : borrows (awaits_of x.wait) r ≡ true
   lends-it = borrows-of x.wait r ∙ ap (λ o. lent o r) borrowed ∙ eq-eqb r r refl
 
@@ -55,7 +55,7 @@ module _ (st : Store) (next f r : ℕ) (x : ShutdownWaitEntry) (k : IsKept st ne
       omega (arith, part, one, all)
 
 -- what a future borrows can be given back
-pub can_give_back : (st : Store) (es : List (ℕ × ReceiverEntry)) (next f : ℕ) (x : ShutdownWaitEntry) (o : Option ℕ) → IsKept st next
+pub can_give_back : (st : Store) (es : List (ℕ × ReceiverEntry)) (next f : ℕ) (x : ShutdownWaitEntry) (o : Option ℕ) → AreKeptShutdowns st next
     → get st.waits f ≡ Some x → st.receivers ≡ named (λ k x. x) es → borrowed_of x.wait ≡ o → IfSome o (λ r. IfSome (at es r) (λ y. 1 ≤ y.plain))
 can_give_back st es next f x None k is same borrowed = tt
 can_give_back st es next f x (Some r) k is same borrowed = by_value (at es r) refl
@@ -65,7 +65,7 @@ can_give_back st es next f x (Some r) k is same borrowed = by_value (at es r) re
     by_value (Some y) there = receiver-lends st next f r x k is borrowed y (ap (λ m. get m r) same ∙ kept-at es r ∙ there)
 
 -- its shutdown counts it
-pub wait_counted : (st : Store) (next f : ℕ) (x : ShutdownWaitEntry) (e : ShutdownEntry) → IsKept st next → get st.waits f ≡ Some x
+pub wait_counted : (st : Store) (next f : ℕ) (x : ShutdownWaitEntry) (e : ShutdownEntry) → AreKeptShutdowns st next → get st.waits f ≡ Some x
     → get st.shutdowns x.shutdown ≡ Some e → 1 ≤ e.things
 wait_counted st next f x e k is there =
     let part = weight-within (λ q (y : ShutdownWaitEntry). cond (y.shutdown == x.shutdown) 1 0) st.waits f x is in
@@ -74,7 +74,7 @@ wait_counted st next f x e k is there =
     omega (arith, part, one, all)
 
 module _ (st : Store) (ss' : FinMap nat_cmp ShutdownEntry) (rs' : FinMap nat_cmp ReceiverEntry) (ws' : FinMap nat_cmp ShutdownWaitEntry)
-    (next i f b : ℕ) (e : ShutdownEntry) (x : ShutdownWaitEntry) (ob : Option ReceiverEntry) (k : IsKept st next) (less : next ≤ i) (low : i < 2 ^ 64)
+    (next i f b : ℕ) (e : ShutdownEntry) (x : ShutdownWaitEntry) (ob : Option ReceiverEntry) (k : AreKeptShutdowns st next) (less : next ≤ i) (low : i < 2 ^ 64)
     (is : get st.waits f ≡ Some x) (there : get st.shutdowns x.shutdown ≡ Some e)
     (shutdowns : Puts st.shutdowns ss' x.shutdown (Some (record e { things = e.things - 1 }))) (receivers : Puts st.receivers rs' b ob)
     (futures : Puts st.waits ws' f None)
@@ -204,7 +204,7 @@ module _ (st : Store) (ss' : FinMap nat_cmp ShutdownEntry) (rs' : FinMap nat_cmp
 
 -- the receivers as lists
 module _ (st : Store) (ss' : FinMap nat_cmp ShutdownEntry) (old new : List (ℕ × ReceiverEntry)) (ws' : FinMap nat_cmp ShutdownWaitEntry)
-    (next i f : ℕ) (e : ShutdownEntry) (x : ShutdownWaitEntry) (k : IsKept st next) (less : next ≤ i) (low : i < 2 ^ 64)
+    (next i f : ℕ) (e : ShutdownEntry) (x : ShutdownWaitEntry) (k : AreKeptShutdowns st next) (less : next ≤ i) (low : i < 2 ^ 64)
     (is : get st.waits f ≡ Some x) (there : get st.shutdowns x.shutdown ≡ Some e)
     (shutdowns : Puts st.shutdowns ss' x.shutdown (Some (record e { things = e.things - 1 }))) (receivers : st.receivers ≡ named (λ k x. x) old)
     (futures : Puts st.waits ws' f None) where

@@ -3,13 +3,13 @@ use Rattle.std.proofs.Common.{◌≡◌, ℕ, ◌+◌, ◌==◌, ◌++◌, Bool,
 use Rattle.std.proofs.lemmas.Bool.{eqb-false}
 use Rattle.std.specs.Option.{option_map, IsSome, IfSome}
 use Rattle.std.specs.FinMap.{get, remove}
-use Rattle.mea_base.specs.Family.{Outcome, quietly}
+use Rattle.mea_family.specs.Family.{Outcome, quietly}
 use Rattle.mea_base.specs.Ready.{Waking}
-use Rattle.mea_base.specs.declared.answer.Answer.{Answer}
-use Rattle.mea_base.specs.declared.answer.Answer.TheVariants as answers
+use Rattle.mea_family.specs.declared.answer.Answer.{Answer}
+use Rattle.mea_family.specs.declared.answer.Answer.TheVariants as answers
 use Rattle.mea_meet_model.specs.Shutdowns.{Shutdown, Shutdowns, Receiver, ShutdownWait, shutdown_at, awaited, with_awaited, with_shutdown, tidied, gone, poll_of, end_sender_of, end_receiver_of, registered}
 use Rattle.mea_meet_model.specs.Count.{with_waker}
-use Rattle.mea_meet.specs.Play.{Part, Yields}
+use Rattle.mea_family.specs.Play.{Part, PartYields}
 use Rattle.mea_meet.specs.declared.shutdown_entries.ShutdownEntry.{ShutdownEntry}
 use Rattle.mea_meet.specs.declared.shutdown_entries.ShutdownWaitEntry.{ShutdownWaitEntry}
 use Rattle.mea_meet.specs.ShutdownHall.{Store, end_of, awaits_of, count_at, wait_of, hall_of, without_wait, without_receiver, woken_at_end}
@@ -34,7 +34,7 @@ finished h f i s mid new = by_value (get h.waits f)
 -- what was played yields its outcome
 yields-from : (old mid new : Part Shutdowns) (i : ℕ) (o : Outcome Shutdowns) (reply : Answer) (before after : Waking ℕ) → reply ≡ o.reply
     → new ≡ record { hall = o.hall; next = i + 1 } → after.wakers ≡ before.wakers ++ o.wakes
-    → after.registered + registered old.hall ≡ before.registered + registered new.hall → Yields registered old i o reply new before after
+    → after.registered + registered old.hall ≡ before.registered + registered new.hall → PartYields registered old i o reply new before after
 yields-from old mid new i o reply before after replied moved woken counted = record {
   replied = replied;
   moved = moved;
@@ -48,14 +48,14 @@ pub sender_ended : (old mid new : Part Shutdowns) (k i s : ℕ) (before after : 
     → IsTidied mid s new
     → registered mid.hall ≡ registered old.hall → after.wakers ≡ before.wakers
     → after.registered + registered mid.hall ≡ before.registered + registered new.hall
-    → Yields registered old i (end_sender_of old.hall k (get old.hall.senders k)) answers.Done new before after
+    → PartYields registered old i (end_sender_of old.hall k (get old.hall.senders k)) answers.Done new before after
 sender_ended old mid new k i s before after = by_value (get old.hall.senders k)
   where
     by_value : (o : Option ℕ) → IsSome o → IfSome o
         (λ p. (p ≡ s) × (mid ≡ record { hall = record old.hall { senders = remove old.hall.senders k }; next = i + 1 })) → IsTidied mid s new
         → registered mid.hall ≡ registered old.hall → after.wakers ≡ before.wakers
         → after.registered + registered mid.hall ≡ before.registered + registered new.hall
-        → Yields registered old i (end_sender_of old.hall k o) answers.Done new before after
+        → PartYields registered old i (end_sender_of old.hall k o) answers.Done new before after
     by_value None there ends tidies same wakers counted = absurd (cc)
     by_value (Some p) there ends tidies same wakers counted =
         yields-from old mid new i (end_sender_of old.hall k (Some p)) answers.Done before after refl
@@ -79,7 +79,7 @@ pub receiver_ended : (old mid new : Part Shutdowns) (k i s : ℕ) (before betwee
     × (between.wakers ≡ before.wakers ++ woken_at_end old.hall x)) → IsTidied mid s new
     → between.registered + registered old.hall ≡ before.registered + registered mid.hall → after.wakers ≡ between.wakers
     → after.registered + registered mid.hall ≡ between.registered + registered new.hall
-    → Yields registered old i (end_receiver_of old.hall k (get old.hall.receivers k)) answers.Done new before after
+    → PartYields registered old i (end_receiver_of old.hall k (get old.hall.receivers k)) answers.Done new before after
 receiver_ended old mid new k i s before between after = by_value (get old.hall.receivers k)
   where
     by_value : (o : Option Receiver) → IsSome o → IfSome o
@@ -87,7 +87,7 @@ receiver_ended old mid new k i s before between after = by_value (get old.hall.r
         × (between.wakers ≡ before.wakers ++ woken_at_end old.hall x)) → IsTidied mid s new
         → between.registered + registered old.hall ≡ before.registered + registered mid.hall → after.wakers ≡ between.wakers
         → after.registered + registered mid.hall ≡ between.registered + registered new.hall
-        → Yields registered old i (end_receiver_of old.hall k o) answers.Done new before after
+        → PartYields registered old i (end_receiver_of old.hall k o) answers.Done new before after
     by_value None there ends tidies counted wakers left = absurd (cc)
     by_value (Some x) there ends tidies counted wakers left =
         let is = end-receiver old.hall k x.shutdown x.watch in
@@ -126,7 +126,7 @@ module _ (st : Store) (next f v : ℕ) (e : ShutdownEntry) (x : ShutdownWaitEntr
   pub poll_finished : (i : ℕ) (new : Part Shutdowns) (before after : Waking ℕ) → ((count_at (end_of x.wait) e.core).number == 0) ≡ true
       → IfSome (get (hall_of st next).waits f) (λ y. new ≡ record { hall = gone (hall_of st next) f y; next = i + 1 })
       → after.wakers ≡ before.wakers → after.registered + registered (hall_of st next) ≡ before.registered + registered new.hall
-      → Yields registered (record { hall = hall_of st next; next = next }) i (poll_of (hall_of st next) f v (get (hall_of st next).waits f))
+      → PartYields registered (record { hall = hall_of st next; next = next }) i (poll_of (hall_of st next) f v (get (hall_of st next).waits f))
       answers.Ready new before after
   poll_finished i new before after over ends wakers counted =
       let is_ready = poll-ready over in

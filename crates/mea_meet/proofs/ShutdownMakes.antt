@@ -14,14 +14,14 @@ use Rattle.mea_meet.specs.Names.{AreGiven}
 use Rattle.mea_meet.specs.declared.shutdown_entries.ShutdownEntry.{ShutdownEntry}
 use Rattle.mea_meet.specs.declared.shutdown_entries.ReceiverEntry.{ReceiverEntry}
 use Rattle.mea_meet.specs.declared.shutdown_entries.ShutdownWaitEntry.{ShutdownWaitEntry}
-use Rattle.mea_meet.specs.ShutdownHall.{Store, End, count_at, slot_in, slots_of, receiver_of, hall_of, counting, senders_in, receivers_in, waits_in, IsKeptEntry, IsKept}
+use Rattle.mea_meet.specs.ShutdownHall.{Store, End, count_at, slot_in, slots_of, receiver_of, hall_of, counting, senders_in, receivers_in, waits_in, IsKeptEntry, AreKeptShutdowns}
 use Rattle.mea_meet.proofs.Maps.{Puts, puts_same, puts_seen, total_puts, is_insert, belongs-none, belongs-some, inside}
 use Rattle.mea_meet.proofs.ShutdownChanges.{Changes, slot_home, wakers_at}
 use Rattle.mea_meet.proofs.ShutdownStill.{no-sender, no-receiver, no-wait, no-shutdown, unborrowed}
 use Rattle.mea_meet.proofs.ShutdownPlays.{Goes, kept_all, shutdowns_put, waits_same, counts_after}
 
 -- ---- nothing is of a shutdown that is not there
-module _ (st : Store) (next s : ℕ) (k : IsKept st next) (none : get st.shutdowns s ≡ None) where
+module _ (st : Store) (next s : ℕ) (k : AreKeptShutdowns st next) (none : get st.shutdowns s ≡ None) where
   there_not : (p : ℕ) → IsSome (get st.shutdowns p) → p ≡ s → ⊥
   there_not p there same = (let clash : false ≡ true = sym (ap is_some (ap (get st.shutdowns) same ∙ none)) ∙ there in cc)
 
@@ -52,7 +52,7 @@ abbrev pub made : ShutdownEntry
 made = record { core = record { signal = count_from 1; receivers = count_from 1; wakes = [] }; things = 2 }
 
 module _ (st : Store) (ss' : FinMap nat_cmp ShutdownEntry) (ks' : FinMap nat_cmp ℕ) (rs' : FinMap nat_cmp ReceiverEntry) (next i : ℕ)
-    (k : IsKept st next) (less : next ≤ i) (low : i < 2 ^ 64)
+    (k : AreKeptShutdowns st next) (less : next ≤ i) (low : i < 2 ^ 64)
     (shutdowns : Puts st.shutdowns ss' i (Some made)) (senders : Puts st.senders ks' i (Some i))
     (receivers : Puts st.receivers rs' i (Some (record { shutdown = i; watch = false; plain = 0 }))) where
   abbrev after : Store

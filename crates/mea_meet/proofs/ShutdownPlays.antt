@@ -4,19 +4,19 @@ use Rattle.std.specs.Option.{option_map}
 use Rattle.std.specs.Ordering.{nat_cmp}
 use Rattle.std.specs.FinMap.{FinMap, get, insert, remove}
 use Rattle.mea_base.specs.Totals.{total, weight}
-use Rattle.mea_base.specs.Family.{Outcome, quietly}
+use Rattle.mea_family.specs.Family.{Outcome, quietly}
 use Rattle.mea_base.specs.Ready.{Waking}
-use Rattle.mea_base.specs.declared.answer.Answer.{Answer}
+use Rattle.mea_family.specs.declared.answer.Answer.{Answer}
 use Rattle.mea_base.proofs.Tests.{at_same}
 use Rattle.mea_sets.specs.Countdown.{decreased, woken_by}
 use Rattle.mea_meet_model.specs.Count as model
 use Rattle.mea_meet_model.specs.Shutdowns.{Shutdown, Shutdowns, shutdown_at, borrows, registered}
 use Rattle.mea_meet.specs.Names.{AreNamed, AreGiven, count_seen}
-use Rattle.mea_meet.specs.Play.{Rests, Yields}
+use Rattle.mea_family.specs.Play.{PartRests, PartYields}
 use Rattle.mea_meet.specs.declared.shutdown_entries.ShutdownEntry.{ShutdownEntry}
 use Rattle.mea_meet.specs.declared.shutdown_entries.ReceiverEntry.{ReceiverEntry}
 use Rattle.mea_meet.specs.declared.shutdown_entries.ShutdownWaitEntry.{ShutdownWaitEntry}
-use Rattle.mea_meet.specs.ShutdownHall.{Store, End, OfSignal, OfReceivers, awaits_of, wait_of, count_at, slot_in, slots_of, shutdown_of, hall_of, counting, borrowers_in, is_of, IsKeptEntry, IsKept}
+use Rattle.mea_meet.specs.ShutdownHall.{Store, End, OfSignal, OfReceivers, awaits_of, wait_of, count_at, slot_in, slots_of, shutdown_of, hall_of, counting, borrowers_in, is_of, IsKeptEntry, AreKeptShutdowns}
 use Rattle.mea_meet.proofs.Maps.{Puts, Belongs, puts_same, puts_seen, is_same, is_insert, is_remove, weight-within, belongs-none, belongs-some}
 use Rattle.mea_meet.proofs.ShutdownChanges.{Changes, Unplaced, kept_after, registered_after, wakers_at}
 use Rattle.mea_meet.proofs.Counts.{decreased-seen, woken-seen, given-decreased, woken-all}
@@ -26,33 +26,33 @@ use Rattle.mea_meet.proofs.Plays.{rests_by, yields_by}
 
 -- an event leaves these shutdowns, and no waker is registered or woken
 pub record Goes (st st' : Store) (next i : ℕ) (h : Shutdowns) : Type 0 where
-  pub kept : IsKept st' (i + 1)
+  pub kept : AreKeptShutdowns st' (i + 1)
   pub moved : hall_of st' (i + 1) ≡ h
   pub counted : registered (hall_of st' (i + 1)) ≡ registered (hall_of st next)
 
 pub rests : (st st' : Store) (next i : ℕ) (h : Shutdowns) (o : Outcome Shutdowns) (reply : Answer) → Goes st st' next i h → o ≡ quietly h reply
-    → Rests registered (record { hall = hall_of st next; next = next }) i o reply (record { hall = hall_of st' (i + 1); next = i + 1 })
+    → PartRests registered (record { hall = hall_of st next; next = next }) i o reply (record { hall = hall_of st' (i + 1); next = i + 1 })
 rests st st' next i h o reply goes is =
     rests_by registered (record { hall = hall_of st next; next = next }) (record { hall = hall_of st next; next = next }) i refl (λ u. o)
     (quietly h reply) reply (hall_of st' (i + 1)) is goes.moved refl refl goes.counted
 
 -- an event leaves these shutdowns, and wakes these wakers, which were registered
 pub record Wakes (st st' : Store) (next i : ℕ) (h : Shutdowns) (woken : List ℕ) : Type 0 where
-  pub kept : IsKept st' (i + 1)
+  pub kept : AreKeptShutdowns st' (i + 1)
   pub moved : hall_of st' (i + 1) ≡ h
   pub counted : registered (hall_of st' (i + 1)) + length woken ≡ registered (hall_of st next)
 
 pub yields : (st st' : Store) (next i : ℕ) (h : Shutdowns) (o : Outcome Shutdowns) (reply : Answer) (woken : List ℕ) (before after : Waking ℕ)
     → Wakes st st' next i h woken → o ≡ record { hall = h; reply = reply; wakes = woken } → after.wakers ≡ before.wakers ++ woken
     → after.registered + length woken ≡ before.registered
-    → Yields registered (record { hall = hall_of st next; next = next }) i o reply (record { hall = hall_of st' (i + 1); next = i + 1 }) before after
+    → PartYields registered (record { hall = hall_of st next; next = next }) i o reply (record { hall = hall_of st' (i + 1); next = i + 1 }) before after
 yields st st' next i h o reply woken before after wakes is moved counted =
     let all = wakes.counted in
     yields_by registered (record { hall = hall_of st next; next = next }) (record { hall = hall_of st next; next = next }) i refl (λ u. o)
     (record { hall = h; reply = reply; wakes = woken }) reply (hall_of st' (i + 1)) is wakes.moved refl before after moved (omega (arith, all, counted))
 
 -- no future changes: those of the number of the event are none
-module _ (st st' : Store) (next i s a b : ℕ) (e2 : ShutdownEntry) (oa : Option ℕ) (ob : Option ReceiverEntry) (k : IsKept st next) (less : next ≤ i)
+module _ (st st' : Store) (next i s a b : ℕ) (e2 : ShutdownEntry) (oa : Option ℕ) (ob : Option ReceiverEntry) (k : AreKeptShutdowns st next) (less : next ≤ i)
     (c : Changes st st' s a b i e2 oa ob None) where
   abbrev later : next ≤ i + 1
   later = omega (arith, less)
@@ -83,7 +83,7 @@ module _ (st st' : Store) (next i s a b : ℕ) (e2 : ShutdownEntry) (oa : Option
   module _ (low : i < 2 ^ 64) (entry : IsKeptEntry st' (i + 1) s e2) (sender_below : (p : ℕ) → oa ≡ Some p → a < i + 1)
       (receiver : (x : ReceiverEntry) → ob ≡ Some x → (x.plain ≡ 0) × (borrowers_in st b ≡ 0) × (b < i + 1))
       (stays : borrowers_in st b ≡ 0 ⊎ ob ≡ get st.receivers b) where
-    pub kept_all : IsKept st' (i + 1)
+    pub kept_all : AreKeptShutdowns st' (i + 1)
     kept_all = kept_after st st' next (i + 1) s a b i e2 oa ob None k c later named (record {
       low = omega (arith, low);
       entry = entry;
@@ -106,7 +106,7 @@ module _ (st st' : Store) (next i s a b : ℕ) (e2 : ShutdownEntry) (oa : Option
 
 -- ---- events that change no receiver
 module _ (st : Store) (ss' : FinMap nat_cmp ShutdownEntry) (ks' : FinMap nat_cmp ℕ) (next i s a : ℕ) (e e2 : ShutdownEntry) (oa : Option ℕ)
-    (k : IsKept st next) (less : next ≤ i) (low : i < 2 ^ 64)
+    (k : AreKeptShutdowns st next) (less : next ≤ i) (low : i < 2 ^ 64)
     (there : get st.shutdowns s ≡ Some e) (shutdowns : Puts st.shutdowns ss' s (Some e2)) (senders : Puts st.senders ks' a oa)
     (was : Belongs {X = ℕ} (λ p. p) s (get st.senders a)) (is : Belongs {X = ℕ} (λ p. p) s oa) where
   abbrev by_sender : Store
@@ -129,7 +129,7 @@ module _ (st : Store) (ss' : FinMap nat_cmp ShutdownEntry) (ks' : FinMap nat_cmp
   pub sender_kept : e2.core.wakes ≡ [] → e2.core.receivers.number ≡ e.core.receivers.number
       → e2.things + weight (λ q (p : ℕ). cond (p == s) 1 0) a (get st.senders a) ≡ e.things + weight (λ q (p : ℕ). cond (p == s) 1 0) a oa
       → e2.things ≤ e.things + 1
-      → ((end : End) → AreGiven (slots_of end st.waits) s (count_at end e2.core).waiting) → ((p : ℕ) → oa ≡ Some p → a < i + 1) → IsKept by_sender (i + 1)
+      → ((end : End) → AreGiven (slots_of end st.waits) s (count_at end e2.core).waiting) → ((p : ℕ) → oa ≡ Some p → a < i + 1) → AreKeptShutdowns by_sender (i + 1)
   sender_kept quiet number things few given_still below = kept_all st by_sender next i s a i e2 oa None k less sender_changes low
       (entry_after st by_sender next i s a i i e2 oa None None k sender_changes e there less quiet
       (let none : weight (λ q (x : ReceiverEntry). counting s x) i (get st.receivers i) ≡ 0 = ap (weight (λ q (x : ReceiverEntry). counting s x) i)
@@ -160,7 +160,7 @@ pub seen_before : (st : Store) (next s : ℕ) (e : ShutdownEntry) → get st.shu
 seen_before st next s e there = shutdown-seen st next s ∙ ap (option_map (shutdown_of st.waits next s)) there
 
 -- ---- a sender more
-module _ (st : Store) (ss' : FinMap nat_cmp ShutdownEntry) (ks' : FinMap nat_cmp ℕ) (next i s : ℕ) (e : ShutdownEntry) (k : IsKept st next)
+module _ (st : Store) (ss' : FinMap nat_cmp ShutdownEntry) (ks' : FinMap nat_cmp ℕ) (next i s : ℕ) (e : ShutdownEntry) (k : AreKeptShutdowns st next)
     (less : next ≤ i) (low : i < 2 ^ 64) (there : get st.shutdowns s ≡ Some e)
     (shutdowns : Puts st.shutdowns ss' s (Some (record e { things = e.things + 1 }))) (senders : Puts st.senders ks' i (Some s)) where
   abbrev e2 : ShutdownEntry
@@ -193,14 +193,14 @@ module _ (st : Store) (ss' : FinMap nat_cmp ShutdownEntry) (ks' : FinMap nat_cmp
 
 -- ---- a sender less
 -- its shutdown counts it
-pub sender_counted : (st : Store) (next a s : ℕ) (e : ShutdownEntry) → IsKept st next → get st.shutdowns s ≡ Some e → get st.senders a ≡ Some s → 1 ≤ e.things
+pub sender_counted : (st : Store) (next a s : ℕ) (e : ShutdownEntry) → AreKeptShutdowns st next → get st.shutdowns s ≡ Some e → get st.senders a ≡ Some s → 1 ≤ e.things
 sender_counted st next a s e k there sender =
     let part = weight-within (λ q (p : ℕ). cond (p == s) 1 0) st.senders a s sender in
     let one : ◌≡◌ {A = ℕ} (cond (s == s) 1 0) 1 = at_same s s 1 0 refl in
     let all = (k.each s e there).things in
     omega (arith, part, one, all)
 
-module _ (st : Store) (ss' : FinMap nat_cmp ShutdownEntry) (ks' : FinMap nat_cmp ℕ) (next i a s : ℕ) (e : ShutdownEntry) (k : IsKept st next)
+module _ (st : Store) (ss' : FinMap nat_cmp ShutdownEntry) (ks' : FinMap nat_cmp ℕ) (next i a s : ℕ) (e : ShutdownEntry) (k : AreKeptShutdowns st next)
     (less : next ≤ i) (low : i < 2 ^ 64) (there : get st.shutdowns s ≡ Some e) (sender : get st.senders a ≡ Some s)
     (shutdowns : Puts st.shutdowns ss' s (Some (record e { things = e.things - 1 }))) (senders : Puts st.senders ks' a None) where
   abbrev less_sender : ShutdownEntry
@@ -232,7 +232,7 @@ module _ (st : Store) (ss' : FinMap nat_cmp ShutdownEntry) (ks' : FinMap nat_cmp
   }
 
 -- ---- the signal is set
-module _ (st : Store) (ss' : FinMap nat_cmp ShutdownEntry) (next i s : ℕ) (e : ShutdownEntry) (k : IsKept st next) (less : next ≤ i)
+module _ (st : Store) (ss' : FinMap nat_cmp ShutdownEntry) (next i s : ℕ) (e : ShutdownEntry) (k : AreKeptShutdowns st next) (less : next ≤ i)
     (low : i < 2 ^ 64) (there : get st.shutdowns s ≡ Some e)
     (shutdowns : Puts st.shutdowns ss' s (Some (record e { core = record e.core { signal = decreased e.core.signal 1 } }))) where
   abbrev signalled : ShutdownEntry
@@ -290,7 +290,7 @@ signal_woken st next s e there = ap (λ (r : Shutdown). model.woken_by r.signal 
     ∙ woken-seen (slots_of OfSignal st.waits) next s e.core.signal 1
 
 -- ---- nothing changes
-module _ (st : Store) (next i s : ℕ) (e : ShutdownEntry) (k : IsKept st next) (less : next ≤ i) (low : i < 2 ^ 64) (there : get st.shutdowns s ≡ Some e) where
+module _ (st : Store) (next i s : ℕ) (e : ShutdownEntry) (k : AreKeptShutdowns st next) (less : next ≤ i) (low : i < 2 ^ 64) (there : get st.shutdowns s ≡ Some e) where
   abbrev same_shutdowns : Puts st.shutdowns st.shutdowns s (Some e)
   same_shutdowns = puts_same st.shutdowns s (Some e) there
 

@@ -5,21 +5,21 @@ use Rattle.std.specs.Ordering.{nat_cmp}
 use Rattle.std.specs.FinMap.{FinMap, get, insert}
 use Rattle.std.proofs.lemmas.Bool.{ne_eqb}
 use Rattle.mea_base.specs.Totals.{weight}
-use Rattle.mea_base.specs.Family.{Outcome, quietly}
+use Rattle.mea_family.specs.Family.{Outcome, quietly}
 use Rattle.mea_base.specs.Ready.{Waking}
-use Rattle.mea_base.specs.declared.answer.Answer.TheVariants as answers
+use Rattle.mea_family.specs.declared.answer.Answer.TheVariants as answers
 use Rattle.mea_sets.specs.declared.place.Place.{Place}
 use Rattle.mea_sets.specs.WaitSet.{has_given, with_waker, slot_after}
 use Rattle.mea_meet_model.specs.Count as model
 use Rattle.mea_meet_model.specs.Shutdowns.{Shutdown, Shutdowns, ShutdownWait, borrows, shutdown_at, awaited, with_awaited, with_shutdown, poll_of, gone, registered}
 use Rattle.mea_meet.specs.Names.{AreNamed, AreGiven, count_seen}
-use Rattle.mea_meet.specs.Play.{Yields}
+use Rattle.mea_family.specs.Play.{PartYields}
 use Rattle.mea_meet.specs.declared.shutdown_entries.ShutdownEntry.{ShutdownEntry}
 use Rattle.mea_meet.specs.declared.shutdown_entries.ReceiverEntry.{ReceiverEntry}
 use Rattle.mea_meet.specs.declared.shutdown_entries.ShutdownWaitEntry.{ShutdownWaitEntry}
 use Rattle.mea_meet.specs.declared.shutdown_entries.ShutdownWait.{ShutdownWait as Wait}
 use Rattle.mea_meet.specs.declared.shutdown_entries.ShutdownWait.TheVariants as waits
-use Rattle.mea_meet.specs.ShutdownHall.{Store, End, OfSignal, OfReceivers, end_of, slot_of, awaits_of, set_at, polled, polled_wait, slot_at, slot_in, count_at, slots_of, shutdown_of, wait_of, hall_of, counting, is_of, IsKeptEntry, IsKept}
+use Rattle.mea_meet.specs.ShutdownHall.{Store, End, OfSignal, OfReceivers, end_of, slot_of, awaits_of, set_at, polled, polled_wait, slot_at, slot_in, count_at, slots_of, shutdown_of, wait_of, hall_of, counting, is_of, IsKeptEntry, AreKeptShutdowns}
 use Rattle.mea_meet.proofs.Names.{waiting-registers, named-registers, given-registers}
 use Rattle.mea_meet.proofs.Maps.{Puts, puts_same, puts_seen, is_same, is_insert, belongs-none, belongs-some, inside}
 use Rattle.mea_meet.proofs.ShutdownChanges.{Changes, Unplaced, kept_after, registered_after, wakers_at, slot_now, slot_other, named_unplaced, given_unplaced, alike_unplaced, shutdowns_after}
@@ -52,7 +52,7 @@ awaited-number st next s e (waits.Signal slot borrowed) = refl
 awaited-number st next s e (waits.Receivers slot) = refl
 
 -- the number of a wait was given by what it waits for
-pub wait-given : (st : Store) (next f : ℕ) (e : ShutdownEntry) (x : ShutdownWaitEntry) → IsKept st next → get st.waits f ≡ Some x
+pub wait-given : (st : Store) (next f : ℕ) (e : ShutdownEntry) (x : ShutdownWaitEntry) → AreKeptShutdowns st next → get st.waits f ≡ Some x
     → get st.shutdowns x.shutdown ≡ Some e → has_given (set_at e x.wait) (slot_of x.wait) ≡ true
 wait-given st next f e x k is there = by_wait x.wait refl
   where
@@ -74,7 +74,7 @@ waits-number st next f e x is there asks =
     subst (λ n. 0 < n) number some
 
 module _ (st : Store) (ss' : FinMap nat_cmp ShutdownEntry) (ws' : FinMap nat_cmp ShutdownWaitEntry) (next i f v : ℕ) (e : ShutdownEntry)
-    (x : ShutdownWaitEntry) (k : IsKept st next) (less : next ≤ i) (low : i < 2 ^ 64) (is : get st.waits f ≡ Some x)
+    (x : ShutdownWaitEntry) (k : AreKeptShutdowns st next) (less : next ≤ i) (low : i < 2 ^ 64) (is : get st.waits f ≡ Some x)
     (there : get st.shutdowns x.shutdown ≡ Some e)
     (shutdowns : Puts st.shutdowns ss' x.shutdown (Some (polled e x.wait v)))
     (futures : Puts st.waits ws' f (Some (record { shutdown = x.shutdown; wait = polled_wait e x.wait }))) where
@@ -212,7 +212,7 @@ module _ (st : Store) (ss' : FinMap nat_cmp ShutdownEntry) (ws' : FinMap nat_cmp
       (omega arith)
       (λ end. given_by end x.wait refl)
 
-  pub wait_on_kept : IsKept after (i + 1)
+  pub wait_on_kept : AreKeptShutdowns after (i + 1)
   wait_on_kept = kept_after st after next (i + 1) s i i f e2 None None (Some waiting) k changes later named (record {
     low = omega (arith, low);
     entry = entry;
@@ -268,7 +268,7 @@ module _ (st : Store) (ss' : FinMap nat_cmp ShutdownEntry) (ws' : FinMap nat_cmp
 
   pub wait_on_yields : (before now : Waking ℕ) → 0 < (count_at (end_of x.wait) e.core).number → now.wakers ≡ before.wakers
       → now.registered + length (set_at e x.wait).wakers ≡ before.registered + length (set_at e2 x.wait).wakers
-      → Yields registered (record { hall = hall_of st next; next = next }) i (poll_of (hall_of st next) f v (get (hall_of st next).waits f))
+      → PartYields registered (record { hall = hall_of st next; next = next }) i (poll_of (hall_of st next) f v (get (hall_of st next).waits f))
       answers.Pending (record { hall = hall_of after (i + 1); next = i + 1 }) before now
   wait_on_yields before now some wakers counted = record {
     replied = sym (ap (λ (o : Outcome Shutdowns). o.reply) (pending some));

@@ -15,7 +15,7 @@ use Rattle.mea_meet.specs.Names.{AreGiven, count_seen}
 use Rattle.mea_meet.specs.declared.shutdown_entries.ShutdownEntry.{ShutdownEntry}
 use Rattle.mea_meet.specs.declared.shutdown_entries.ReceiverEntry.{ReceiverEntry}
 use Rattle.mea_meet.specs.declared.shutdown_entries.ShutdownWaitEntry.{ShutdownWaitEntry}
-use Rattle.mea_meet.specs.ShutdownHall.{Store, End, OfSignal, OfReceivers, count_at, slots_of, shutdown_of, receiver_of, hall_of, counting, borrowers_in, without_receiver, woken_at_end, is_full, IsKept}
+use Rattle.mea_meet.specs.ShutdownHall.{Store, End, OfSignal, OfReceivers, count_at, slots_of, shutdown_of, receiver_of, hall_of, counting, borrowers_in, without_receiver, woken_at_end, is_full, AreKeptShutdowns}
 use Rattle.mea_meet.proofs.Maps.{Puts, Belongs, puts_same, puts_seen, is_same, is_insert, is_remove, belongs-none, belongs-some, inside, weight-within}
 use Rattle.mea_meet.proofs.ShutdownChanges.{Changes, wakers_at}
 use Rattle.mea_meet.proofs.ShutdownSeen.{shutdown-at, shutdown-there, receiver-seen}
@@ -24,7 +24,7 @@ use Rattle.mea_meet.proofs.Counts.{decreased-seen, woken-seen, given-decreased, 
 use Rattle.mea_meet.proofs.ShutdownPlays.{Goes, Wakes, seen_before, kept_all, given, shutdowns_put, waits_same, counts_after}
 
 module _ (st : Store) (ss' : FinMap nat_cmp ShutdownEntry) (rs' : FinMap nat_cmp ReceiverEntry) (next i s b : ℕ) (e e2 : ShutdownEntry)
-    (ob : Option ReceiverEntry) (k : IsKept st next) (less : next ≤ i) (low : i < 2 ^ 64)
+    (ob : Option ReceiverEntry) (k : AreKeptShutdowns st next) (less : next ≤ i) (low : i < 2 ^ 64)
     (there : get st.shutdowns s ≡ Some e) (shutdowns : Puts st.shutdowns ss' s (Some e2)) (receivers : Puts st.receivers rs' b ob)
     (was : Belongs {X = ReceiverEntry} (λ x. x.shutdown) s (get st.receivers b)) (is : Belongs {X = ReceiverEntry} (λ x. x.shutdown) s ob) where
   abbrev by_receiver : Store
@@ -50,7 +50,7 @@ module _ (st : Store) (ss' : FinMap nat_cmp ShutdownEntry) (rs' : FinMap nat_cmp
       → e2.things + weight (λ q (x : ReceiverEntry). cond (x.shutdown == s) 1 0) b (get st.receivers b) ≡ e.things + weight
       (λ q (x : ReceiverEntry). cond (x.shutdown == s) 1 0) b ob → e2.things ≤ e.things + 1
       → ((end : End) → AreGiven (slots_of end st.waits) s (count_at end e2.core).waiting)
-      → borrowers_in st b ≡ 0 → ((x : ReceiverEntry) → ob ≡ Some x → (x.plain ≡ 0) × (b < i + 1)) → IsKept by_receiver (i + 1)
+      → borrowers_in st b ≡ 0 → ((x : ReceiverEntry) → ob ≡ Some x → (x.plain ≡ 0) × (b < i + 1)) → AreKeptShutdowns by_receiver (i + 1)
   receiver_kept quiet number things few given_still free new = kept_all st by_receiver next i s i b e2 None ob k less receiver_changes low
       (entry_after st by_receiver next i s i b i e2 None ob None k receiver_changes e there less quiet number
       (let senders : weight (λ q (p : ℕ). cond (p == s) 1 0) i (get st.senders i) ≡ 0 = ap (weight (λ q (p : ℕ). cond (p == s) 1 0) i)
@@ -96,7 +96,7 @@ added_set e false OfSignal = refl
 added_set e false OfReceivers = refl
 
 module _ (st : Store) (ss' : FinMap nat_cmp ShutdownEntry) (rs' : FinMap nat_cmp ReceiverEntry) (next i s : ℕ) (e : ShutdownEntry) (watch : Bool)
-    (k : IsKept st next) (less : next ≤ i) (low : i < 2 ^ 64)
+    (k : AreKeptShutdowns st next) (less : next ≤ i) (low : i < 2 ^ 64)
     (there : get st.shutdowns s ≡ Some e) (shutdowns : Puts st.shutdowns ss' s (Some (added e watch)))
     (receivers : Puts st.receivers rs' i (Some (record { shutdown = s; watch = watch; plain = 0 }))) where
   abbrev the_receiver : ReceiverEntry
@@ -175,7 +175,7 @@ lessened_wakers : (e : ShutdownEntry) (w : Bool) → wakers_at (lessened e w) + 
 lessened_wakers e true = omega arith
 lessened_wakers e false = (let all = woken-all e.core.receivers 1 in omega (arith, all))
 
-module _ (st : Store) (next i b s : ℕ) (e : ShutdownEntry) (x : ReceiverEntry) (k : IsKept st next) (there : get st.shutdowns s ≡ Some e)
+module _ (st : Store) (next i b s : ℕ) (e : ShutdownEntry) (x : ReceiverEntry) (k : AreKeptShutdowns st next) (there : get st.shutdowns s ≡ Some e)
     (receiver : get st.receivers b ≡ Some x) (mine : x.shutdown ≡ s) where
   -- its shutdown counts it
   pub receiver_counted : 1 ≤ e.things
@@ -200,7 +200,7 @@ module _ (st : Store) (next i b s : ℕ) (e : ShutdownEntry) (x : ReceiverEntry)
       omega (arith, some, one)
 
 module _ (st : Store) (ss' : FinMap nat_cmp ShutdownEntry) (rs' : FinMap nat_cmp ReceiverEntry) (next i b s : ℕ) (e : ShutdownEntry)
-    (x : ReceiverEntry) (k : IsKept st next) (less : next ≤ i) (low : i < 2 ^ 64)
+    (x : ReceiverEntry) (k : AreKeptShutdowns st next) (less : next ≤ i) (low : i < 2 ^ 64)
     (there : get st.shutdowns s ≡ Some e) (receiver : get st.receivers b ≡ Some x) (mine : x.shutdown ≡ s)
     (shutdowns : Puts st.shutdowns ss' s (Some (lessened e x.watch))) (receivers : Puts st.receivers rs' b None) (free : borrowers_in st b ≡ 0) where
   abbrev lessened_was : Belongs {X = ReceiverEntry} (λ y. y.shutdown) s (get st.receivers b)
@@ -279,7 +279,7 @@ module _ (st : Store) (ss' : FinMap nat_cmp ShutdownEntry) (rs' : FinMap nat_cmp
           ∙ woken-seen (slots_of OfReceivers st.waits) next s e.core.receivers 1
 
 -- ---- a receiver or watch that is copied
-module _ (st : Store) (next b : ℕ) (x : ReceiverEntry) (k : IsKept st next) (receiver : get st.receivers b ≡ Some x) where
+module _ (st : Store) (next b : ℕ) (x : ReceiverEntry) (k : AreKeptShutdowns st next) (receiver : get st.receivers b ≡ Some x) where
   -- its shutdown is there
   pub copy_there : IsSome (get (hall_of st next).shutdowns x.shutdown)
   copy_there = shutdown-there st next x.shutdown ∙ (k.receiver b x receiver).there

@@ -9,10 +9,10 @@ use Rattle.mea_meet_model.specs.Shutdowns.{Shutdown, Receiver, ShutdownWait, Shu
 use Rattle.mea_meet.specs.declared.shutdown_entries.ShutdownEntry.{ShutdownEntry}
 use Rattle.mea_meet.specs.declared.shutdown_entries.ReceiverEntry.{ReceiverEntry}
 use Rattle.mea_meet.specs.declared.shutdown_entries.ShutdownWaitEntry.{ShutdownWaitEntry}
-use Rattle.mea_meet.specs.Play.{Part}
+use Rattle.mea_family.specs.Play.{Part}
 use Rattle.mea_meet.specs.declared.shutdowns.ShutdownHall.TheInside.{Inside}
 use Rattle.mea_meet.specs.StandsFor.{StandsForShutdown, StandsForCount}
-use Rattle.mea_meet.specs.ShutdownHall.{Store, store_of, slot_in, OfSignal, OfReceivers, slots_of, shutdown_of, receiver_of, wait_of, hall_of, receivers_in, waits_in, borrowers_in, is_full, IsKept}
+use Rattle.mea_meet.specs.ShutdownHall.{Store, store_of, slot_in, OfSignal, OfReceivers, slots_of, shutdown_of, receiver_of, wait_of, hall_of, receivers_in, waits_in, borrowers_in, is_full, AreKeptShutdowns}
 use Rattle.mea_meet.proofs.Names.{waiting-wakers}
 use Rattle.mea_meet.proofs.Maps.{Puts, put_here, total-named, kept-none, is_empty, seen-empty}
 use Rattle.mea_meet.proofs.Slots.{named_none}
@@ -56,7 +56,7 @@ module _ (st : Store) (n : ℕ) where
         (record { number = refl; waiting = sym (waiting-wakers (slots_of OfReceivers st.waits) n s e.core.receivers.waiting) });
   }
 
-  pub full-seen : (k : ℕ) (x : ReceiverEntry) (e : ShutdownEntry) → IsKept st n → get st.receivers k ≡ Some x → get st.shutdowns x.shutdown ≡ Some e
+  pub full-seen : (k : ℕ) (x : ReceiverEntry) (e : ShutdownEntry) → AreKeptShutdowns st n → get st.receivers k ≡ Some x → get st.shutdowns x.shutdown ≡ Some e
       → is_full (hall_of st n) (get (hall_of st n).receivers k) ≡ (not x.watch && e.core.receivers.number == 4294967295)
   full-seen k x e kept is there = ap (is_full (hall_of st n)) (receiver-seen k ∙ ap (option_map receiver_of) is)
       ∙ ap (λ (r : Shutdown). not x.watch && r.receivers.number == 4294967295) (shutdown-at x.shutdown e there)
@@ -65,7 +65,7 @@ module _ (st : Store) (n : ℕ) where
 none : {X : Type 0} (q : ℕ) → get (named (λ k (x : X). x) []) q ≡ None
 none = kept-none [] refl
 
-pub none-kept : IsKept (store_of [] [] [] []) 0
+pub none-kept : AreKeptShutdowns (store_of [] [] [] []) 0
 none-kept = record {
   each = λ s e is. absurd (let clash : None ≡ Some e = sym (none s) ∙ is in cc);
   sender = λ k s is. absurd (let clash : None ≡ Some s = sym (none k) ∙ is in cc);

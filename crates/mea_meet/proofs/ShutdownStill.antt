@@ -10,26 +10,26 @@ use Rattle.mea_meet.specs.Names.{AreNamed, AreGiven, count_seen}
 use Rattle.mea_meet.specs.declared.shutdown_entries.ShutdownEntry.{ShutdownEntry}
 use Rattle.mea_meet.specs.declared.shutdown_entries.ReceiverEntry.{ReceiverEntry}
 use Rattle.mea_meet.specs.declared.shutdown_entries.ShutdownWaitEntry.{ShutdownWaitEntry}
-use Rattle.mea_meet.specs.ShutdownHall.{Store, End, OfSignal, OfReceivers, awaits_of, count_at, slots_of, shutdown_of, hall_of, counting, borrowers_in, is_of, IsKeptEntry, IsKept}
+use Rattle.mea_meet.specs.ShutdownHall.{Store, End, OfSignal, OfReceivers, awaits_of, count_at, slots_of, shutdown_of, hall_of, counting, borrowers_in, is_of, IsKeptEntry, AreKeptShutdowns}
 use Rattle.mea_base.proofs.Maps.{none_if}
 use Rattle.mea_meet.proofs.Maps.{Puts, total_puts, weight-within}
 use Rattle.mea_meet.proofs.ShutdownChanges.{Changes, Unplaced, named_unplaced, alike_unplaced, given_unplaced, shutdowns_after}
 
 -- ---- what is absent
-pub no-sender : (st : Store) (next i : ℕ) → IsKept st next → next ≤ i → get st.senders i ≡ None
+pub no-sender : (st : Store) (next i : ℕ) → AreKeptShutdowns st next → next ≤ i → get st.senders i ≡ None
 no-sender st next i k less = none_if (get st.senders i) (λ s is. let below = (k.sender i s is).below in omega (arith, below, less))
 
-pub no-receiver : (st : Store) (next i : ℕ) → IsKept st next → next ≤ i → get st.receivers i ≡ None
+pub no-receiver : (st : Store) (next i : ℕ) → AreKeptShutdowns st next → next ≤ i → get st.receivers i ≡ None
 no-receiver st next i k less = none_if (get st.receivers i) (λ x is. let below = (k.receiver i x is).below in omega (arith, below, less))
 
-pub no-wait : (st : Store) (next i : ℕ) → IsKept st next → next ≤ i → get st.waits i ≡ None
+pub no-wait : (st : Store) (next i : ℕ) → AreKeptShutdowns st next → next ≤ i → get st.waits i ≡ None
 no-wait st next i k less = none_if (get st.waits i) (λ x is. let below = (k.wait i x is).below in omega (arith, below, less))
 
-pub no-shutdown : (st : Store) (next i : ℕ) → IsKept st next → next ≤ i → get st.shutdowns i ≡ None
+pub no-shutdown : (st : Store) (next i : ℕ) → AreKeptShutdowns st next → next ≤ i → get st.shutdowns i ≡ None
 no-shutdown st next i k less = none_if (get st.shutdowns i) (λ e is. let below = (k.each i e is).below in omega (arith, below, less))
 
 -- nobody borrows what is not there
-pub unborrowed : (st : Store) (next q : ℕ) → IsKept st next → get st.receivers q ≡ None → borrowers_in st q ≡ 0
+pub unborrowed : (st : Store) (next q : ℕ) → AreKeptShutdowns st next → get st.receivers q ≡ None → borrowers_in st q ≡ 0
 unborrowed st next q k none = total-zero _ st.waits
     (λ g y is. by_test y (borrows (awaits_of y.wait) q) refl (λ lent. ap (λ o. is_of o y.shutdown) (sym none) ∙ (k.wait g y is).borrowed q lent))
   where
@@ -46,7 +46,7 @@ borrows-nothing st q g y none is lent =
     omega (arith, part, one, none)
 
 module _ (st st' : Store) (next i s a b f : ℕ) (e2 : ShutdownEntry) (oa : Option ℕ) (ob : Option ReceiverEntry) (ow : Option ShutdownWaitEntry)
-    (k : IsKept st next) (c : Changes st st' s a b f e2 oa ob ow) where
+    (k : AreKeptShutdowns st next) (c : Changes st st' s a b f e2 oa ob ow) where
   -- the entry of s after the change
   pub entry_after : (e : ShutdownEntry) → get st.shutdowns s ≡ Some e → next ≤ i → e2.core.wakes ≡ []
       → e2.core.receivers.number + weight (λ q (x : ReceiverEntry). counting s x) b (get st.receivers b) ≡ e.core.receivers.number + weight

@@ -10,12 +10,12 @@ use Rattle.mea_meet_model.specs.Shutdowns.{tidied, senders_of, receivers_of, wai
 use Rattle.mea_meet.specs.declared.shutdown_entries.ShutdownEntry.{ShutdownEntry}
 use Rattle.mea_meet.specs.declared.shutdown_entries.ReceiverEntry.{ReceiverEntry}
 use Rattle.mea_meet.specs.declared.shutdown_entries.ShutdownWaitEntry.{ShutdownWaitEntry}
-use Rattle.mea_meet.specs.ShutdownHall.{Store, shutdown_of, hall_of, senders_in, IsKeptEntry, IsKept}
+use Rattle.mea_meet.specs.ShutdownHall.{Store, shutdown_of, hall_of, senders_in, IsKeptEntry, AreKeptShutdowns}
 use Rattle.mea_meet.proofs.Maps.{Puts, put_other, total_puts, by_put, is_remove, weight-within, seen_puts}
 use Rattle.mea_meet.proofs.ShutdownChanges.{wakers_at, registered-seen}
 use Rattle.mea_meet.proofs.ShutdownSeen.{receivers-seen, waits-seen}
 
-module _ (st : Store) (next s : ℕ) (e : ShutdownEntry) (k : IsKept st next) (there : get st.shutdowns s ≡ Some e) where
+module _ (st : Store) (next s : ℕ) (e : ShutdownEntry) (k : AreKeptShutdowns st next) (there : get st.shutdowns s ≡ Some e) where
   -- what is left is what the model counts
   tidied-is : tidied (hall_of st next)
       s ≡ (if nat_lt 0 e.things then hall_of st next else record (hall_of st next) { shutdowns = remove (hall_of st next).shutdowns s })
@@ -62,7 +62,7 @@ module _ (st : Store) (next s : ℕ) (e : ShutdownEntry) (k : IsKept st next) (t
         let all = (k.each s e there).things in
         omega (arith, part, one, all, none)
 
-    pub tidy_kept : IsKept st' next
+    pub tidy_kept : AreKeptShutdowns st' next
     tidy_kept = record {
       each = by_put st.shutdowns ss' s None gone (λ q d. IsKeptEntry st' next q d) (λ d is. absurd (cc))
           (λ q d apart is. let old = k.each q d is in

@@ -12,7 +12,7 @@ use Rattle.mea_meet.specs.declared.shutdown_entries.ShutdownEntry.{ShutdownEntry
 use Rattle.mea_meet.specs.declared.shutdown_entries.ReceiverEntry.{ReceiverEntry}
 use Rattle.mea_meet.specs.declared.shutdown_entries.ShutdownWaitEntry.{ShutdownWaitEntry}
 use Rattle.mea_meet.specs.declared.shutdown_entries.ShutdownWait.TheVariants as waits
-use Rattle.mea_meet.specs.ShutdownHall.{Store, End, OfSignal, OfReceivers, awaits_of, slot_in, count_at, slots_of, shutdown_of, receiver_of, wait_of, hall_of, counting, borrowers_in, is_of, IsKeptEntry, IsKept}
+use Rattle.mea_meet.specs.ShutdownHall.{Store, End, OfSignal, OfReceivers, awaits_of, slot_in, count_at, slots_of, shutdown_of, receiver_of, wait_of, hall_of, counting, borrowers_in, is_of, IsKeptEntry, AreKeptShutdowns}
 use Rattle.mea_meet.proofs.Maps.{Puts, puts_same, puts_seen, put_here, total_puts, is_same, is_insert, is_remove, belongs-none, belongs-some, inside}
 use Rattle.mea_meet.proofs.ShutdownChanges.{Changes, Unplaced, Keeps, kept_after, registered_after, wakers_at}
 use Rattle.mea_meet.proofs.ShutdownSeen.{receiver-seen}
@@ -47,7 +47,7 @@ at_most_one false = omega arith
 
 -- ---- a future on the signal
 module _ (st : Store) (ss' : FinMap nat_cmp ShutdownEntry) (rs' : FinMap nat_cmp ReceiverEntry) (ws' : FinMap nat_cmp ShutdownWaitEntry)
-    (next i r s : ℕ) (plain : Bool) (e : ShutdownEntry) (x : ReceiverEntry) (k : IsKept st next) (less : next ≤ i) (low : i < 2 ^ 64)
+    (next i r s : ℕ) (plain : Bool) (e : ShutdownEntry) (x : ReceiverEntry) (k : AreKeptShutdowns st next) (less : next ≤ i) (low : i < 2 ^ 64)
     (there : get st.shutdowns s ≡ Some e) (receiver : get st.receivers r ≡ Some x) (mine : x.shutdown ≡ s)
     (shutdowns : Puts st.shutdowns ss' s (Some (record e { things = e.things + 1 })))
     (receivers : Puts st.receivers rs' r (Some (record x { plain = x.plain + cond plain 1 0 })))
@@ -153,7 +153,7 @@ module _ (st : Store) (ss' : FinMap nat_cmp ShutdownEntry) (rs' : FinMap nat_cmp
   }
 
 -- ---- a sender becomes a future on the end of all receivers
-module _ (st : Store) (ks' : FinMap nat_cmp ℕ) (ws' : FinMap nat_cmp ShutdownWaitEntry) (next i a s : ℕ) (e : ShutdownEntry) (k : IsKept st next)
+module _ (st : Store) (ks' : FinMap nat_cmp ℕ) (ws' : FinMap nat_cmp ShutdownWaitEntry) (next i a s : ℕ) (e : ShutdownEntry) (k : AreKeptShutdowns st next)
     (less : next ≤ i) (low : i < 2 ^ 64)
     (there : get st.shutdowns s ≡ Some e) (sender : get st.senders a ≡ Some s) (senders : Puts st.senders ks' a None)
     (futures : Puts st.waits ws' i (Some (record { shutdown = s; wait = waits.Receivers None }))) where

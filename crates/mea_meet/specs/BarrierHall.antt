@@ -65,7 +65,7 @@ pub record IsHome (st : Store) (x : BarrierWaitEntry) : Type 0 where
   pub there : get st.barriers x.barrier ≡ Some entry
   pub belongs : is_open entry.core x.wait ≡ true
 
-pub record IsKept (st : Store) (next : ℕ) : Type 0 where
+pub record AreKeptBarriers (st : Store) (next : ℕ) : Type 0 where
   pub each : (b : ℕ) (e : BarrierEntry) → get st.barriers b ≡ Some e → IsKeptEntry st next b e
   pub home : (f : ℕ) (x : BarrierWaitEntry) → get st.waits f ≡ Some x → IsHome st x
   pub named : AreNamed (slots_of st.waits) next

@@ -57,7 +57,7 @@ pub record IsHome (st : Store) (x : GroupWaitEntry) : Type 0 where
   pub there : get st.groups x.group ≡ Some entry
   pub given : has_given entry.core.count.waiting x.wait ≡ true
 
-pub record IsKept (st : Store) (next : ℕ) : Type 0 where
+pub record AreKeptGroups (st : Store) (next : ℕ) : Type 0 where
   pub each : (g : ℕ) (e : GroupEntry) → get st.groups g ≡ Some e → IsKeptEntry st next g e
   pub owned : (k g : ℕ) → get st.handles k ≡ Some g → IsOwned st next k g
   pub home : (f : ℕ) (x : GroupWaitEntry) → get st.waits f ≡ Some x → IsHome st x

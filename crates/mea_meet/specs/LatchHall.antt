@@ -64,7 +64,7 @@ pub record IsHome (st : Store) (x : LatchWaitEntry) : Type 0 where
   pub there : get st.latches x.latch ≡ Some entry
   pub given : has_given entry.core.count.waiting x.wait ≡ true
 
-pub record IsKept (st : Store) (next : ℕ) : Type 0 where
+pub record AreKeptLatches (st : Store) (next : ℕ) : Type 0 where
   pub each : (l : ℕ) (e : LatchEntry) → get st.latches l ≡ Some e → IsKeptEntry st next l e
   pub home : (f : ℕ) (x : LatchWaitEntry) → get st.waits f ≡ Some x → IsHome st x
   pub named : AreNamed (slots_of st.waits) next

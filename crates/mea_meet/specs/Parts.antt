@@ -1,6 +1,6 @@
 -- the meeting points of the four kinds, each with the least number that its next event may have
 use Rattle.std.specs.Prelude.{ℕ, ◌+◌, ◌≡◌, ◌≤◌, ◌++◌}
-use Rattle.mea_base.specs.declared.answer.Answer.{Answer}
+use Rattle.mea_family.specs.declared.answer.Answer.{Answer}
 use Rattle.mea_base.specs.Ready.{Waking}
 use Rattle.mea_meet_model.specs.declared.event.MeetEvent.{MeetEvent}
 use Rattle.mea_meet_model.specs.Barriers.{Barriers}
@@ -9,7 +9,7 @@ use Rattle.mea_meet_model.specs.Groups.{Groups}
 use Rattle.mea_meet_model.specs.Shutdowns.{Shutdowns}
 use Rattle.mea_meet_model.specs.Hall.{Hall, registered}
 use Rattle.mea_meet_model.specs.Step.{step}
-use Rattle.mea_meet.specs.Play.{Part}
+use Rattle.mea_family.specs.Play.{Part}
 
 abbrev pub hall_of : Part Barriers → Part Latches → Part Groups → Part Shutdowns → Hall
 hall_of b l g s = record { barriers = b.hall; latches = l.hall; groups = g.hall; shutdowns = s.hall }

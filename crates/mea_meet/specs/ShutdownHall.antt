@@ -161,7 +161,7 @@ pub record IsKeptWait (st : Store) (next f : ℕ) (x : ShutdownWaitEntry) : Type
   pub borrowed : (k : ℕ) → borrows (awaits_of x.wait) k ≡ true → is_of (get st.receivers k) x.shutdown ≡ true
   pub below : f < next
 
-pub record IsKept (st : Store) (next : ℕ) : Type 0 where
+pub record AreKeptShutdowns (st : Store) (next : ℕ) : Type 0 where
   pub each : (s : ℕ) (e : ShutdownEntry) → get st.shutdowns s ≡ Some e → IsKeptEntry st next s e
   pub sender : (k s : ℕ) → get st.senders k ≡ Some s → IsKeptSender st next k s
   pub receiver : (k : ℕ) (x : ReceiverEntry) → get st.receivers k ≡ Some x → IsKeptReceiver st next k x

@@ -2,11 +2,12 @@ ghost use Rattle.std.specs.Prelude.{◌≡◌, ◌-◌, ◌<◌, ◌≤◌, [], 
 ghost use Rattle.std.specs.FinMap as map;
 ghost use Rattle.mea_meet_model.specs.Barriers as model;
 ghost use Rattle.mea_meet_model.specs.Barriers.{no_barriers, registered};
-ghost use Rattle.mea_meet.specs.Play.{Yields, Rests};
+ghost use Rattle.mea_family.specs.Play.{PartYields, PartRests};
 ghost use Rattle.mea_meet.specs.StandsFor.{StandsForBarrier};
 
 use crate::moving::hand_on;
-use mea_base::{Answer, NoMemory, Poll, Ready, Stop};
+use mea_base::{NoMemory, Poll, Ready};
+use mea_family::{Answer, Stop};
 use mea_meet_core::{BarrierCore, BarrierWait, BarrierWaitResult};
 use std::alloc::Global;
 use std::collections::HashMap;
@@ -100,17 +101,17 @@ pub struct BarrierHall {
 
 impl Model for BarrierHall {
     ghost use Rattle.mea_meet_model.specs.Barriers.{Barriers, barriers_code};
-    ghost use Rattle.mea_meet.specs.Play.{Part, part_code};
+    ghost use Rattle.mea_family.specs.Play.{Part, part_code};
 
     ghost Value = { Part Barriers };
 
     ghost coded = { part_code barriers_code };
 
-    ghost use Rattle.mea_meet.specs.BarrierHall.{store_of, barriers_of, IsKept};
+    ghost use Rattle.mea_meet.specs.BarrierHall.{store_of, barriers_of, AreKeptBarriers};
 
     ghost view = { λ a. record { hall = barriers_of (store_of a.barriers.entries a.waits.entries) a.next; next = a.next } };
 
-    ghost invariant = { λ a. IsKept (store_of a.barriers.entries a.waits.entries) a.next };
+    ghost invariant = { λ a. AreKeptBarriers (store_of a.barriers.entries a.waits.entries) a.next };
 }
 
 impl BarrierHall {
@@ -163,7 +164,7 @@ impl BarrierHall {
     /// `bar.new n`.
     pub fn make(&mut self, number: u64, n: u32) -> Result<Answer, Stop>
         requires { self.old.next ≤ number }
-        ensures rests { IfOk result (λ answer. Rests registered self.old number (model.make self.old.hall number n) answer self.new) }
+        ensures rests { IfOk result (λ answer. PartRests registered self.old number (model.make self.old.hall number n) answer self.new) }
         ensures memory { IfErr result (λ stop. stop ≡ Stop.NoMemory) }
         ensures err { OnErr result (self.new ≡ self.old) }
     {
@@ -180,7 +181,7 @@ impl BarrierHall {
     pub fn wait(&mut self, number: u64, b: u64) -> Result<Answer, Stop>
         requires next { self.old.next ≤ number }
         requires there { IsSome (map.get self.old.hall.barriers b) }
-        ensures rests { IfOk result (λ answer. Rests registered self.old number (model.wait self.old.hall number b) answer self.new) }
+        ensures rests { IfOk result (λ answer. PartRests registered self.old number (model.wait self.old.hall number b) answer self.new) }
         ensures memory { IfErr result (λ stop. stop ≡ Stop.NoMemory) }
         ensures err { OnErr result (self.new ≡ self.old) }
     {
@@ -208,7 +209,7 @@ impl BarrierHall {
         requires next { self.old.next ≤ number }
         requires there { IsSome (map.get self.old.hall.waits f) }
         requires room { registered self.old.hall ≤ ready.old.registered }
-        ensures played { IfOk result (λ answer. Yields registered self.old number (model.poll_of self.old.hall f waker (map.get self.old.hall.waits f)) answer
+        ensures played { IfOk result (λ answer. PartYields registered self.old number (model.poll_of self.old.hall f waker (map.get self.old.hall.waits f)) answer
             self.new ready.old ready.new) }
         ensures memory { IfErr result (λ stop. stop ≡ Stop.NoMemory) }
         ensures err { OnErr result ((self.new ≡ self.old) × (ready.new ≡ ready.old)) }
@@ -237,7 +238,7 @@ impl BarrierHall {
     pub fn end(&mut self, number: u64, f: u64) -> Answer
         requires next { self.old.next ≤ number }
         requires there { IsSome (map.get self.old.hall.waits f) }
-        ensures { Rests registered self.old number (model.end_of self.old.hall f (map.get self.old.hall.waits f)) result self.new }
+        ensures { PartRests registered self.old number (model.end_of self.old.hall f (map.get self.old.hall.waits f)) result self.new }
     {
         let Some(future) = self.waits.remove(&f) else {
             unreachable!()
@@ -256,7 +257,7 @@ impl BarrierHall {
         requires there { IsSome (map.get self.old.hall.barriers b) }
         requires free { model.waits_of self.old.hall b ≡ 0 }
         requires room { registered self.old.hall ≤ ready.old.registered }
-        ensures { Yields registered self.old number (model.drop self.old.hall b) result self.new ready.old ready.new }
+        ensures { PartYields registered self.old number (model.drop self.old.hall b) result self.new ready.old ready.new }
     {
         let Some(entry) = self.barriers.remove(&b) else {
             unreachable!()

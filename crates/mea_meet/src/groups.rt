@@ -7,12 +7,13 @@ ghost use Rattle.mea_sets.specs.WaitSet.{has_given};
 ghost use Rattle.mea_meet_core.specs.Count.{increased};
 ghost use Rattle.mea_meet_model.specs.Groups as model;
 ghost use Rattle.mea_meet_model.specs.Groups.{no_groups, registered};
-ghost use Rattle.mea_meet.specs.Play.{Yields, Rests};
+ghost use Rattle.mea_family.specs.Play.{PartYields, PartRests};
 ghost use Rattle.mea_meet.specs.StandsFor.{StandsForGroup};
 ghost use Rattle.mea_meet.specs.GroupHall.{left_at, wakers_left};
 
 use crate::moving::hand_on;
-use mea_base::{Answer, NoMemory, Poll, Ready, Stop};
+use mea_base::{NoMemory, Poll, Ready};
+use mea_family::{Answer, Stop};
 use mea_meet_core::{GroupCore, GroupWait};
 use std::alloc::Global;
 use std::collections::HashMap;
@@ -138,17 +139,17 @@ pub struct GroupHall {
 
 impl Model for GroupHall {
     ghost use Rattle.mea_meet_model.specs.Groups.{Groups, groups_code};
-    ghost use Rattle.mea_meet.specs.Play.{Part, part_code};
+    ghost use Rattle.mea_family.specs.Play.{Part, part_code};
 
     ghost Value = { Part Groups };
 
     ghost coded = { part_code groups_code };
 
-    ghost use Rattle.mea_meet.specs.GroupHall.{store_of, groups_of, IsKept};
+    ghost use Rattle.mea_meet.specs.GroupHall.{store_of, groups_of, AreKeptGroups};
 
     ghost view = { λ a. record { hall = groups_of (store_of a.groups.entries a.handles.entries a.waits.entries) a.next; next = a.next } };
 
-    ghost invariant = { λ a. IsKept (store_of a.groups.entries a.handles.entries a.waits.entries) a.next };
+    ghost invariant = { λ a. AreKeptGroups (store_of a.groups.entries a.handles.entries a.waits.entries) a.next };
 }
 
 impl GroupHall {
@@ -207,7 +208,7 @@ impl GroupHall {
     /// `wg.new`: a group, and its first handle of the same name.
     pub fn make(&mut self, number: u64) -> Result<Answer, Stop>
         requires { self.old.next ≤ number }
-        ensures rests { IfOk result (λ answer. Rests registered self.old number (model.make self.old.hall number) answer self.new) }
+        ensures rests { IfOk result (λ answer. PartRests registered self.old number (model.make self.old.hall number) answer self.new) }
         ensures memory { IfErr result (λ stop. stop ≡ Stop.NoMemory) }
         ensures err { OnErr result (self.new ≡ self.old) }
     {
@@ -236,7 +237,7 @@ impl GroupHall {
         requires next { self.old.next ≤ number }
         requires there { IsSome (map.get self.old.hall.handles k) }
         requires fits { is_full self.old.hall (map.get self.old.hall.handles k) ≡ false }
-        ensures rests { IfOk result (λ answer. Rests registered self.old number (model.clone_of self.old.hall number (map.get self.old.hall.handles k)) answer
+        ensures rests { IfOk result (λ answer. PartRests registered self.old number (model.clone_of self.old.hall number (map.get self.old.hall.handles k)) answer
             self.new) }
         ensures memory { IfErr result (λ stop. stop ≡ Stop.NoMemory) }
         ensures err { OnErr result (self.new ≡ self.old) }
@@ -258,7 +259,7 @@ impl GroupHall {
         requires next { self.old.next ≤ number }
         requires there { IsSome (map.get self.old.hall.handles k) }
         requires room { registered self.old.hall ≤ ready.old.registered }
-        ensures played { IfOk result (λ answer. Yields registered self.old number (model.into_of self.old.hall number k (map.get self.old.hall.handles k))
+        ensures played { IfOk result (λ answer. PartYields registered self.old number (model.into_of self.old.hall number k (map.get self.old.hall.handles k))
             answer self.new ready.old ready.new) }
         ensures memory { IfErr result (λ stop. stop ≡ Stop.NoMemory) }
         ensures err { OnErr result ((self.new ≡ self.old) × (ready.new ≡ ready.old)) }
@@ -285,7 +286,7 @@ impl GroupHall {
     pub fn copy(&mut self, number: u64, f: u64) -> Result<Answer, Stop>
         requires next { self.old.next ≤ number }
         requires there { IsSome (map.get self.old.hall.waits f) }
-        ensures rests { IfOk result (λ answer. Rests registered self.old number (model.copy_of self.old.hall number (map.get self.old.hall.waits f)) answer
+        ensures rests { IfOk result (λ answer. PartRests registered self.old number (model.copy_of self.old.hall number (map.get self.old.hall.waits f)) answer
             self.new) }
         ensures memory { IfErr result (λ stop. stop ≡ Stop.NoMemory) }
         ensures err { OnErr result (self.new ≡ self.old) }
@@ -318,7 +319,7 @@ impl GroupHall {
         requires next { self.old.next ≤ number }
         requires there { IsSome (map.get self.old.hall.waits f) }
         requires room { registered self.old.hall ≤ ready.old.registered }
-        ensures played { IfOk result (λ answer. Yields registered self.old number (model.poll_of self.old.hall f waker (map.get self.old.hall.waits f)) answer
+        ensures played { IfOk result (λ answer. PartYields registered self.old number (model.poll_of self.old.hall f waker (map.get self.old.hall.waits f)) answer
             self.new ready.old ready.new) }
         ensures memory { IfErr result (λ stop. stop ≡ Stop.NoMemory) }
         ensures err { OnErr result ((self.new ≡ self.old) × (ready.new ≡ ready.old)) }
@@ -350,7 +351,7 @@ impl GroupHall {
         requires next { self.old.next ≤ number }
         requires there { IsSome (map.get self.old.hall.waits f) }
         requires room { registered self.old.hall ≤ ready.old.registered }
-        ensures { Yields registered self.old number (model.end_wait self.old.hall f (map.get self.old.hall.waits f)) result self.new ready.old ready.new }
+        ensures { PartYields registered self.old number (model.end_wait self.old.hall f (map.get self.old.hall.waits f)) result self.new ready.old ready.new }
     {
         let Some(future) = self.waits.remove(&f) else {
             unreachable!()
@@ -370,7 +371,7 @@ impl GroupHall {
         requires next { self.old.next ≤ number }
         requires there { IsSome (map.get self.old.hall.handles k) }
         requires room { registered self.old.hall ≤ ready.old.registered }
-        ensures { Yields registered self.old number (model.end_of self.old.hall k (map.get self.old.hall.handles k)) result self.new ready.old ready.new }
+        ensures { PartYields registered self.old number (model.end_of self.old.hall k (map.get self.old.hall.handles k)) result self.new ready.old ready.new }
     {
         let Some(g) = self.handles.remove(&k) else {
             unreachable!()

@@ -10,7 +10,8 @@ ghost use Rattle.mea_meet.specs.Play.{Play, Plays, TakesNoMemory};
 ghost use Rattle.mea_meet.specs.StandsFor.{StandsForBarrier, StandsForLatch, StandsForGroup, StandsForShutdown};
 
 use crate::parts::Parts;
-use mea_base::{Answer, Ready, Stop};
+use mea_base::Ready;
+use mea_family::{Answer, Stop};
 use mea_meet_core::{BarrierCore, GroupCore, LatchCore, ShutdownCore};
 use mea_meet_model::{
     MeetEvent, validity_is_kept, wakes_are_of_the_registered, what_is_there_lives,

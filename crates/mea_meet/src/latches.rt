@@ -5,11 +5,13 @@ ghost use Rattle.mea_sets.specs.WaitSet.{has_given};
 ghost use Rattle.mea_sets.specs.Countdown.{decreased, woken_by};
 ghost use Rattle.mea_meet_model.specs.Latches as model;
 ghost use Rattle.mea_meet_model.specs.Latches.{no_latches, registered};
-ghost use Rattle.mea_meet.specs.Play.{Yields, Rests};
+ghost use Rattle.mea_family.specs.Forms.{is_plain};
+ghost use Rattle.mea_family.specs.Play.{PartYields, PartRests};
 ghost use Rattle.mea_meet.specs.StandsFor.{StandsForLatch};
 
 use crate::moving::hand_on;
-use mea_base::{Answer, NoMemory, Poll, Ready, Stop};
+use mea_base::{NoMemory, Poll, Ready};
+use mea_family::{Answer, Form, Stop, one_if};
 use mea_meet_core::{LatchCore, LatchWait};
 use std::alloc::Global;
 use std::collections::HashMap;
@@ -31,13 +33,6 @@ pub struct LatchWaitEntry {
     pub latch: u64,
     pub wait: LatchWait,
     pub plain: bool,
-}
-
-/// 1 for a plain future.
-fn one_if(plain: bool) -> u128
-    ensures { result ≡ cond plain 1 0 }
-{
-    if plain { 1 } else { 0 }
 }
 
 impl LatchEntry {
@@ -124,17 +119,17 @@ pub struct LatchHall {
 
 impl Model for LatchHall {
     ghost use Rattle.mea_meet_model.specs.Latches.{Latches, latches_code};
-    ghost use Rattle.mea_meet.specs.Play.{Part, part_code};
+    ghost use Rattle.mea_family.specs.Play.{Part, part_code};
 
     ghost Value = { Part Latches };
 
     ghost coded = { part_code latches_code };
 
-    ghost use Rattle.mea_meet.specs.LatchHall.{store_of, latches_of, IsKept};
+    ghost use Rattle.mea_meet.specs.LatchHall.{store_of, latches_of, AreKeptLatches};
 
     ghost view = { λ a. record { hall = latches_of (store_of a.latches.entries a.waits.entries) a.next; next = a.next } };
 
-    ghost invariant = { λ a. IsKept (store_of a.latches.entries a.waits.entries) a.next };
+    ghost invariant = { λ a. AreKeptLatches (store_of a.latches.entries a.waits.entries) a.next };
 }
 
 impl LatchHall {
@@ -192,7 +187,7 @@ impl LatchHall {
     /// `lat.new n`.
     pub fn make(&mut self, number: u64, n: u32) -> Result<Answer, Stop>
         requires { self.old.next ≤ number }
-        ensures rests { IfOk result (λ answer. Rests registered self.old number (model.make self.old.hall number n) answer self.new) }
+        ensures rests { IfOk result (λ answer. PartRests registered self.old number (model.make self.old.hall number n) answer self.new) }
         ensures memory { IfErr result (λ stop. stop ≡ Stop.NoMemory) }
         ensures err { OnErr result (self.new ≡ self.old) }
     {
@@ -211,7 +206,7 @@ impl LatchHall {
     pub fn count(&mut self, number: u64, l: u64) -> Answer
         requires next { self.old.next ≤ number }
         requires named { model.is_named self.old.hall l ≡ true }
-        ensures { Rests registered self.old number (model.count self.old.hall l) result self.new }
+        ensures { PartRests registered self.old number (model.count self.old.hall l) result self.new }
     {
         let Some(entry) = self.latches.get(&l) else {
             unreachable!()
@@ -226,7 +221,7 @@ impl LatchHall {
         requires next { self.old.next ≤ number }
         requires named { model.is_named self.old.hall l ≡ true }
         requires room { registered self.old.hall ≤ ready.old.registered }
-        ensures { Yields registered self.old number (model.arrive self.old.hall l n) result self.new ready.old ready.new }
+        ensures { PartYields registered self.old number (model.arrive self.old.hall l n) result self.new ready.old ready.new }
     {
         let Some(entry) = self.latches.get_mut(&l) else {
             unreachable!()
@@ -240,7 +235,7 @@ impl LatchHall {
     pub fn try_wait(&mut self, number: u64, l: u64) -> Answer
         requires next { self.old.next ≤ number }
         requires named { model.is_named self.old.hall l ≡ true }
-        ensures { Rests registered self.old number (model.try self.old.hall l) result self.new }
+        ensures { PartRests registered self.old number (model.try self.old.hall l) result self.new }
     {
         let Some(entry) = self.latches.get(&l) else {
             unreachable!()
@@ -254,13 +249,14 @@ impl LatchHall {
     }
 
     /// `lat.wait l`, and `lat.waito l`, which is not plain.
-    pub fn wait(&mut self, number: u64, l: u64, plain: bool) -> Result<Answer, Stop>
+    pub fn wait(&mut self, number: u64, l: u64, form: Form) -> Result<Answer, Stop>
         requires next { self.old.next ≤ number }
         requires named { model.is_named self.old.hall l ≡ true }
-        ensures rests { IfOk result (λ answer. Rests registered self.old number (model.wait self.old.hall number l plain) answer self.new) }
+        ensures rests { IfOk result (λ answer. PartRests registered self.old number (model.wait self.old.hall number l (is_plain form)) answer self.new) }
         ensures memory { IfErr result (λ stop. stop ≡ Stop.NoMemory) }
         ensures err { OnErr result (self.new ≡ self.old) }
     {
+        let plain = form.is_plain();
         let future = LatchWaitEntry {
             latch: l,
             wait: LatchWait::new(),
@@ -286,7 +282,7 @@ impl LatchHall {
         requires next { self.old.next ≤ number }
         requires there { IsSome (map.get self.old.hall.waits f) }
         requires room { registered self.old.hall ≤ ready.old.registered }
-        ensures yields { IfOk result (λ answer. Yields registered self.old number (model.poll_of self.old.hall f waker (map.get self.old.hall.waits f)) answer
+        ensures yields { IfOk result (λ answer. PartYields registered self.old number (model.poll_of self.old.hall f waker (map.get self.old.hall.waits f)) answer
             self.new ready.old ready.new) }
         ensures memory { IfErr result (λ stop. stop ≡ Stop.NoMemory) }
         ensures err { OnErr result ((self.new ≡ self.old) × (ready.new ≡ ready.old)) }
@@ -315,7 +311,7 @@ impl LatchHall {
         requires next { self.old.next ≤ number }
         requires there { IsSome (map.get self.old.hall.waits f) }
         requires room { registered self.old.hall ≤ ready.old.registered }
-        ensures { Yields registered self.old number (model.end_of self.old.hall f (map.get self.old.hall.waits f)) result self.new ready.old ready.new }
+        ensures { PartYields registered self.old number (model.end_of self.old.hall f (map.get self.old.hall.waits f)) result self.new ready.old ready.new }
     {
         let Some(future) = self.waits.remove(&f) else {
             unreachable!()
@@ -336,7 +332,7 @@ impl LatchHall {
         requires named { model.is_named self.old.hall l ≡ true }
         requires free { model.plain_waits_of self.old.hall l ≡ 0 }
         requires room { registered self.old.hall ≤ ready.old.registered }
-        ensures { Yields registered self.old number (model.drop self.old.hall l) result self.new ready.old ready.new }
+        ensures { PartYields registered self.old number (model.drop self.old.hall l) result self.new ready.old ready.new }
     {
         let Some(entry) = self.latches.get_mut(&l) else {
             unreachable!()

@@ -5,16 +5,18 @@ ghost use Rattle.mea_meet_model.specs.Latches as latches;
 ghost use Rattle.mea_meet_model.specs.Groups as groups;
 ghost use Rattle.mea_meet_model.specs.Shutdowns as shutdowns;
 ghost use Rattle.mea_meet_model.specs.Hall.{empty_hall, registered};
-ghost use Rattle.mea_base.specs.Causes.{unknown_unless, borrowed_by};
+ghost use Rattle.mea_family.specs.Causes.{borrowed_by};
 ghost use Rattle.mea_meet_model.specs.Cause.{cause_of, clone_cause, copy_cause};
-ghost use Rattle.mea_meet.specs.Play.{Yields, TakesNoMemory};
+ghost use Rattle.mea_family.specs.Play.{PartYields};
+ghost use Rattle.mea_meet.specs.Play.{TakesNoMemory};
 ghost use Rattle.mea_meet.specs.Parts.{hall_of, IsLow, PlaysParts};
 
 use crate::barriers::BarrierHall;
 use crate::groups::GroupHall;
 use crate::latches::LatchHall;
 use crate::shutdowns::ShutdownHall;
-use mea_base::{Answer, Ready, Stop};
+use mea_base::Ready;
+use mea_family::{Answer, Form, Stop, borrowed_if, overflow_if, unknown_unless};
 use mea_meet_model::MeetEvent;
 use std::alloc::Global;
 
@@ -114,8 +116,8 @@ impl Parts {
             MeetEvent::LatDown(l) => Ok(self.latches.arrive(number, l, 1, ready)),
             MeetEvent::LatArrive(l, n) => Ok(self.latches.arrive(number, l, n, ready)),
             MeetEvent::LatTry(l) => Ok(self.latches.try_wait(number, l)),
-            MeetEvent::LatWait(l) => self.latches.wait(number, l, true),
-            MeetEvent::LatWaito(l) => self.latches.wait(number, l, false),
+            MeetEvent::LatWait(l) => self.latches.wait(number, l, Form::Plain),
+            MeetEvent::LatWaito(l) => self.latches.wait(number, l, Form::Owned),
             MeetEvent::LatPoll(f, waker) => self.latches.poll(number, f, waker, ready),
             MeetEvent::LatEnd(f) => Ok(self.latches.end(number, f, ready)),
             MeetEvent::LatDrop(l) => Ok(self.latches.drop(number, l, ready)),
@@ -131,8 +133,8 @@ impl Parts {
             MeetEvent::SdSignal(k) => Ok(self.shutdowns.signal(number, k, ready)),
             MeetEvent::SdNow(k) => Ok(self.shutdowns.now(number, k)),
             MeetEvent::SdWatch(k) => self.shutdowns.watch(number, k),
-            MeetEvent::SdIs(k) => self.shutdowns.wait_on_signal(number, k, true),
-            MeetEvent::SdIso(k) => self.shutdowns.wait_on_signal(number, k, false),
+            MeetEvent::SdIs(k) => self.shutdowns.wait_on_signal(number, k, Form::Plain),
+            MeetEvent::SdIso(k) => self.shutdowns.wait_on_signal(number, k, Form::Owned),
             MeetEvent::SdAwait(k) => self.shutdowns.wait_on_receivers(number, k),
             MeetEvent::SdPoll(f, waker) => self.shutdowns.poll(number, f, waker, ready),
             MeetEvent::SdEnd(f) => Ok(self.shutdowns.end(number, f, ready)),
@@ -146,7 +148,7 @@ impl Parts {
         requires next { self.old.groups.next ≤ number }
         requires known { (if is_some (map.get self.old.groups.hall.handles x) then true else is_some (map.get self.old.groups.hall.waits x)) ≡ true }
         requires room { groups.registered self.old.groups.hall ≤ ready.old.registered }
-        ensures yields { Yields groups.registered self.old.groups number (groups.end_of self.old.groups.hall x (map.get self.old.groups.hall.handles x)) result
+        ensures yields { PartYields groups.registered self.old.groups number (groups.end_of self.old.groups.hall x (map.get self.old.groups.hall.handles x)) result
             self.new.groups ready.old ready.new }
         ensures others { self.new ≡ record self.old { groups = self.new.groups } }
     {
@@ -206,23 +208,4 @@ impl Parts {
         }
         borrowed_if(self.shutdowns.is_borrowed(k))
     }
-}
-
-// Unknown, unless this holds.
-fn unknown_unless(known: bool) -> Option<Stop>
-    ensures { result ≡ unknown_unless known }
-{
-    if known { None } else { Some(Stop::Unknown) }
-}
-
-fn borrowed_if(borrowed: bool) -> Option<Stop>
-    ensures { result ≡ (if borrowed then Some Stop.Borrowed else None) }
-{
-    if borrowed { Some(Stop::Borrowed) } else { None }
-}
-
-fn overflow_if(full: bool) -> Option<Stop>
-    ensures { result ≡ (if full then Some Stop.Overflow else None) }
-{
-    if full { Some(Stop::Overflow) } else { None }
 }

@@ -4,7 +4,8 @@ ghost use Rattle.mea_sets.specs.Countdown.{decreased, woken_by};
 ghost use Rattle.mea_meet_core.specs.Count.{increased};
 
 use crate::moving::hand_on;
-use mea_base::{Ready, Stop};
+use mea_base::Ready;
+use mea_family::Stop;
 use mea_meet_core::{GroupWait, LatchWait, ShutdownCore};
 
 /// What a hall keeps of a shutdown.

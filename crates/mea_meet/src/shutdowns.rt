@@ -2,39 +2,27 @@ ghost use Rattle.std.specs.Prelude.{ℕ, ◌≡◌, ◌≢◌, ◌+◌, ◌-◌,
 ghost use Rattle.std.specs.FinMap as map;
 ghost use Rattle.mea_base.specs.Named.{at};
 ghost use Rattle.mea_meet.specs.ShutdownHall.{GivesBack};
-ghost use Rattle.mea_base.specs.Family.{quietly};
+ghost use Rattle.mea_family.specs.Family.{quietly};
 ghost use Rattle.mea_meet_model.specs.Cause.{counts};
 ghost use Rattle.mea_meet_model.specs.Shutdowns as model;
 ghost use Rattle.mea_meet_model.specs.Shutdowns.{no_shutdowns, registered};
-ghost use Rattle.mea_meet.specs.Play.{Yields, Rests};
+ghost use Rattle.mea_family.specs.Forms.{is_plain};
+ghost use Rattle.mea_family.specs.Play.{PartYields, PartRests};
 ghost use Rattle.mea_meet.specs.StandsFor.{StandsForShutdown};
 
 use crate::shutdown_entries::{ReceiverEntry, ShutdownEntry, ShutdownWait, ShutdownWaitEntry};
-use mea_base::{Answer, Ready, Stop};
+use mea_base::Ready;
+use mea_family::{Answer, Form, Stop, one_if, yes_if};
 use mea_meet_core::{GroupWait, LatchWait, ShutdownCore};
 use std::alloc::Global;
 use std::collections::HashMap;
 use std::marker::Model;
 
-// 1 for a plain future.
-fn one_if(plain: bool) -> u128
-    ensures { result ≡ cond plain 1 0 }
-{
-    if plain { 1 } else { 0 }
-}
-
-// What a future borrows.
-fn borrowed_if(plain: bool, k: u64) -> Option<u64>
+// The receiver that a future borrows: this, where it is plain.
+fn receiver_if(plain: bool, k: u64) -> Option<u64>
     ensures { result ≡ cond plain (Some k) None }
 {
     if plain { Some(k) } else { None }
-}
-
-// The answer `yes` or `no`.
-fn yes_if(holds: bool) -> Answer
-    ensures { result ≡ cond holds Answer.Yes Answer.No }
-{
-    if holds { Answer::Yes } else { Answer::No }
 }
 
 // A receiver or watch is borrowed by one future less.
@@ -63,17 +51,17 @@ pub struct ShutdownHall {
 
 impl Model for ShutdownHall {
     ghost use Rattle.mea_meet_model.specs.Shutdowns.{Shutdowns, shutdowns_code};
-    ghost use Rattle.mea_meet.specs.Play.{Part, part_code};
+    ghost use Rattle.mea_family.specs.Play.{Part, part_code};
 
     ghost Value = { Part Shutdowns };
 
     ghost coded = { part_code shutdowns_code };
 
-    ghost use Rattle.mea_meet.specs.ShutdownHall.{store_of, hall_of, IsKept};
+    ghost use Rattle.mea_meet.specs.ShutdownHall.{store_of, hall_of, AreKeptShutdowns};
 
     ghost view = { λ a. record { hall = hall_of (store_of a.shutdowns.entries a.senders.entries a.receivers.entries a.waits.entries) a.next; next = a.next } };
 
-    ghost invariant = { λ a. IsKept (store_of a.shutdowns.entries a.senders.entries a.receivers.entries a.waits.entries) a.next };
+    ghost invariant = { λ a. AreKeptShutdowns (store_of a.shutdowns.entries a.senders.entries a.receivers.entries a.waits.entries) a.next };
 }
 
 impl ShutdownHall {
@@ -161,7 +149,7 @@ impl ShutdownHall {
     /// `sd.new`.
     pub fn make(&mut self, number: u64) -> Result<Answer, Stop>
         requires { self.old.next ≤ number }
-        ensures rests { IfOk result (λ answer. Rests registered self.old number (model.make self.old.hall number) answer self.new) }
+        ensures rests { IfOk result (λ answer. PartRests registered self.old number (model.make self.old.hall number) answer self.new) }
         ensures memory { IfErr result (λ stop. stop ≡ Stop.NoMemory) }
         ensures err { OnErr result (self.new ≡ self.old) }
     {
@@ -202,7 +190,7 @@ impl ShutdownHall {
     pub fn copy_sender(&mut self, number: u64, k: u64) -> Result<Answer, Stop>
         requires next { self.old.next ≤ number }
         requires there { IsSome (map.get self.old.hall.senders k) }
-        ensures rests { IfOk result (λ answer. Rests registered self.old number (model.copy_sender_of self.old.hall number (map.get self.old.hall.senders k))
+        ensures rests { IfOk result (λ answer. PartRests registered self.old number (model.copy_sender_of self.old.hall number (map.get self.old.hall.senders k))
             answer self.new) }
         ensures memory { IfErr result (λ stop. stop ≡ Stop.NoMemory) }
         ensures err { OnErr result (self.new ≡ self.old) }
@@ -225,7 +213,7 @@ impl ShutdownHall {
         requires next { self.old.next ≤ number }
         requires there { IsSome (map.get self.old.hall.receivers k) }
         requires fits { is_full self.old.hall (map.get self.old.hall.receivers k) ≡ false }
-        ensures rests { IfOk result (λ answer. Rests registered self.old number
+        ensures rests { IfOk result (λ answer. PartRests registered self.old number
             (model.copy_receiver_of self.old.hall number (map.get self.old.hall.receivers k)) answer self.new) }
         ensures memory { IfErr result (λ stop. stop ≡ Stop.NoMemory) }
         ensures err { OnErr result (self.new ≡ self.old) }
@@ -244,7 +232,7 @@ impl ShutdownHall {
         requires there { IsSome (map.get self.old.hall.shutdowns s) }
         requires live { watch ≡ false → 0 < (model.shutdown_at self.old.hall s).receivers.number }
         requires fits { watch ≡ false → (model.shutdown_at self.old.hall s).receivers.number ≢ 4294967295 }
-        ensures rests { IfOk result (λ answer. Rests registered self.old number
+        ensures rests { IfOk result (λ answer. PartRests registered self.old number
             (quietly (model.copied self.old.hall number (record { shutdown = s; watch = watch })) Answer.Made) answer self.new) }
         ensures memory { IfErr result (λ stop. stop ≡ Stop.NoMemory) }
         ensures err { OnErr result (self.new ≡ self.old) }
@@ -268,7 +256,7 @@ impl ShutdownHall {
         requires next { self.old.next ≤ number }
         requires there { IsSome (map.get self.old.hall.senders k) }
         requires room { registered self.old.hall ≤ ready.old.registered }
-        ensures { Yields registered self.old number (model.signal_of self.old.hall (map.get self.old.hall.senders k)) result self.new ready.old ready.new }
+        ensures { PartYields registered self.old number (model.signal_of self.old.hall (map.get self.old.hall.senders k)) result self.new ready.old ready.new }
     {
         let Some(sender) = self.senders.get(&k) else {
             unreachable!()
@@ -285,7 +273,7 @@ impl ShutdownHall {
     pub fn now(&mut self, number: u64, k: u64) -> Answer
         requires next { self.old.next ≤ number }
         requires there { IsSome (map.get self.old.hall.receivers k) }
-        ensures { Rests registered self.old number (model.now_of self.old.hall (map.get self.old.hall.receivers k)) result self.new }
+        ensures { PartRests registered self.old number (model.now_of self.old.hall (map.get self.old.hall.receivers k)) result self.new }
     {
         let Some(receiver) = self.receivers.get(&k) else {
             unreachable!()
@@ -302,7 +290,7 @@ impl ShutdownHall {
     pub fn watch(&mut self, number: u64, k: u64) -> Result<Answer, Stop>
         requires next { self.old.next ≤ number }
         requires there { IsSome (map.get self.old.hall.receivers k) }
-        ensures rests { IfOk result (λ answer. Rests registered self.old number (model.watch_of self.old.hall number (map.get self.old.hall.receivers k))
+        ensures rests { IfOk result (λ answer. PartRests registered self.old number (model.watch_of self.old.hall number (map.get self.old.hall.receivers k))
             answer self.new) }
         ensures memory { IfErr result (λ stop. stop ≡ Stop.NoMemory) }
         ensures err { OnErr result (self.new ≡ self.old) }
@@ -315,21 +303,22 @@ impl ShutdownHall {
     }
 
     /// `sd.is k`, which is plain, and `sd.iso k`.
-    pub fn wait_on_signal(&mut self, number: u64, k: u64, plain: bool) -> Result<Answer, Stop>
+    pub fn wait_on_signal(&mut self, number: u64, k: u64, form: Form) -> Result<Answer, Stop>
         requires next { self.old.next ≤ number }
         requires there { IsSome (map.get self.old.hall.receivers k) }
-        ensures rests { IfOk result (λ answer. Rests registered self.old number
-            (model.wait_of self.old.hall number (cond plain (Some k) None) (map.get self.old.hall.receivers k)) answer self.new) }
+        ensures rests { IfOk result (λ answer. PartRests registered self.old number
+            (model.wait_of self.old.hall number (cond (is_plain form) (Some k) None) (map.get self.old.hall.receivers k)) answer self.new) }
         ensures memory { IfErr result (λ stop. stop ≡ Stop.NoMemory) }
         ensures err { OnErr result (self.new ≡ self.old) }
     {
+        let plain = form.is_plain();
         let Some(receiver) = self.receivers.get(&k) else {
             unreachable!()
         };
         let s = receiver.shutdown;
         let wait = ShutdownWait::Signal {
             wait: LatchWait::new(),
-            borrowed: borrowed_if(plain, k),
+            borrowed: receiver_if(plain, k),
         };
         match self
             .waits
@@ -354,7 +343,7 @@ impl ShutdownHall {
     pub fn wait_on_receivers(&mut self, number: u64, k: u64) -> Result<Answer, Stop>
         requires next { self.old.next ≤ number }
         requires there { IsSome (map.get self.old.hall.senders k) }
-        ensures rests { IfOk result (λ answer. Rests registered self.old number (model.await_of self.old.hall number k (map.get self.old.hall.senders k))
+        ensures rests { IfOk result (λ answer. PartRests registered self.old number (model.await_of self.old.hall number k (map.get self.old.hall.senders k))
             answer self.new) }
         ensures memory { IfErr result (λ stop. stop ≡ Stop.NoMemory) }
         ensures err { OnErr result (self.new ≡ self.old) }
@@ -385,7 +374,7 @@ impl ShutdownHall {
         requires next { self.old.next ≤ number }
         requires there { IsSome (map.get self.old.hall.waits f) }
         requires room { registered self.old.hall ≤ ready.old.registered }
-        ensures yields { IfOk result (λ answer. Yields registered self.old number (model.poll_of self.old.hall f waker (map.get self.old.hall.waits f)) answer
+        ensures yields { IfOk result (λ answer. PartYields registered self.old number (model.poll_of self.old.hall f waker (map.get self.old.hall.waits f)) answer
             self.new ready.old ready.new) }
         ensures memory { IfErr result (λ stop. stop ≡ Stop.NoMemory) }
         ensures err { OnErr result ((self.new ≡ self.old) × (ready.new ≡ ready.old)) }
@@ -416,7 +405,7 @@ impl ShutdownHall {
         requires waits { IfSome (map.get self.old.hall.waits f) (λ x. 0 < (model.awaited (model.shutdown_at self.old.hall x.shutdown) x.awaits).number) }
         requires there { IsSome (map.get self.old.hall.waits f) }
         requires room { registered self.old.hall ≤ ready.old.registered }
-        ensures yields { IfOk result (λ answer. Yields registered self.old number (model.poll_of self.old.hall f waker (map.get self.old.hall.waits f)) answer
+        ensures yields { IfOk result (λ answer. PartYields registered self.old number (model.poll_of self.old.hall f waker (map.get self.old.hall.waits f)) answer
             self.new ready.old ready.new) }
         ensures memory { IfErr result (λ stop. stop ≡ Stop.NoMemory) }
         ensures err { OnErr result ((self.new ≡ self.old) × (ready.new ≡ ready.old)) }
@@ -441,7 +430,7 @@ impl ShutdownHall {
         requires next { self.old.next ≤ number }
         requires there { IsSome (map.get self.old.hall.waits f) }
         requires room { registered self.old.hall ≤ ready.old.registered }
-        ensures { Yields registered self.old number (model.end_of self.old.hall f (map.get self.old.hall.waits f)) result self.new ready.old ready.new }
+        ensures { PartYields registered self.old number (model.end_of self.old.hall f (map.get self.old.hall.waits f)) result self.new ready.old ready.new }
     {
         self.finish(number, f, ready);
         Answer::Done
@@ -505,7 +494,7 @@ impl ShutdownHall {
         requires next { self.old.next ≤ number }
         requires there { IsSome (map.get self.old.hall.senders k) }
         requires room { registered self.old.hall ≤ ready.old.registered }
-        ensures { Yields registered self.old number (model.end_sender_of self.old.hall k (map.get self.old.hall.senders k)) result self.new ready.old ready.new }
+        ensures { PartYields registered self.old number (model.end_sender_of self.old.hall k (map.get self.old.hall.senders k)) result self.new ready.old ready.new }
     {
         let s = self.remove_sender(number, k);
         self.tidy(s, ready);
@@ -538,7 +527,7 @@ impl ShutdownHall {
         requires there { IsSome (map.get self.old.hall.receivers k) }
         requires free { model.borrowers_of self.old.hall k ≡ 0 }
         requires room { registered self.old.hall ≤ ready.old.registered }
-        ensures { Yields registered self.old number (model.end_receiver_of self.old.hall k (map.get self.old.hall.receivers k)) result self.new ready.old
+        ensures { PartYields registered self.old number (model.end_receiver_of self.old.hall k (map.get self.old.hall.receivers k)) result self.new ready.old
             ready.new }
     {
         let s = self.remove_receiver(number, k, ready);

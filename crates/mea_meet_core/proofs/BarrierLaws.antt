@@ -13,7 +13,7 @@ use Rattle.mea_sets.specs.WaitSet.{with_waker, slot_after}
 use Rattle.mea_meet_core.specs.declared.barrier_wait.BarrierWait.{BarrierWait}
 use Rattle.mea_meet_core.specs.declared.barrier_wait.BarrierWait.TheVariants.{New, Arrived, Done}
 use Rattle.mea_meet_core.specs.Barrier.{Barrier, round_of, leads, led, joined, Arrives, Returns, Polls, is_open}
-use Rattle.mea_meet_core.specs.BarrierRuns.{Runs, Starts, Polled, Woken, arrival_of, arrival_by, leaders}
+use Rattle.mea_meet_core.specs.BarrierRuns.{BarrierRuns, Starts, Polled, Woken, arrival_of, arrival_by, leaders}
 use Rattle.mea_meet_core.proofs.Rounds.{last_of_round, not_last_of_round, next_round}
 
 -- one arrival more completes a round where the sum is a multiple of the size
@@ -123,7 +123,7 @@ module _ {W : Type 0} where
     rounds = omega (arith, leaders-append ys xs);
   }
 
-  pub runs_on : (b c : Barrier W) (arrivals : List Bool) → Runs b arrivals c → Moves b c arrivals
+  pub runs_on : (b c : Barrier W) (arrivals : List Bool) → BarrierRuns b arrivals c → Moves b c arrivals
   runs_on _ _ _ (Starts b) = none_moves b b refl
   runs_on _ _ _ (Polled b c d arrivals wait wait' w result run may polls) =
       on_after b c d arrivals (arrival_by wait result) (runs_on b c arrivals run) (polls_on c d wait wait' w result may polls)
@@ -136,7 +136,7 @@ module _ {W : Type 0} where
       }
 
   -- as many arrivals as make a round complete one
-  pub a_round : (b c : Barrier W) (arrivals : List Bool) → Runs b arrivals c → 0 < b.size → length arrivals ≡ b.size
+  pub a_round : (b c : Barrier W) (arrivals : List Bool) → BarrierRuns b arrivals c → 0 < b.size → length arrivals ≡ b.size
       → (round_of c ≡ round_of b + 1) × (leaders arrivals ≡ 1)
   a_round b c arrivals run positive whole =
       let m = runs_on b c arrivals run in
@@ -145,7 +145,7 @@ module _ {W : Type 0} where
       (next, omega (arith, m.rounds, next))
 
   -- fewer, from the start of a round, do not
-  pub a_part : (b c : Barrier W) (arrivals : List Bool) → Runs b arrivals c → b.arrivals % b.size ≡ 0 → length arrivals < b.size
+  pub a_part : (b c : Barrier W) (arrivals : List Bool) → BarrierRuns b arrivals c → b.arrivals % b.size ≡ 0 → length arrivals < b.size
       → (round_of c ≡ round_of b) × (leaders arrivals ≡ 0)
   a_part b c arrivals run start few =
       let m = runs_on b c arrivals run in

@@ -4,7 +4,7 @@ use Rattle.std.proofs.lemmas.Bool.Decides.{nat_tests}
 use Rattle.std.proofs.lemmas.Grind.{common_steps}
 use Rattle.mea_sets.specs.WaitSet.{drained}
 use Rattle.mea_sets.specs.Countdown.{Count, ends, decreased}
-use Rattle.mea_meet_core.specs.CountRuns.{Runs, Starts, Fell, Polled}
+use Rattle.mea_meet_core.specs.CountRuns.{CountRuns, Starts, Fell, Polled}
 
 module _ {W : Type 0} where
   ended_before : (c : Count W) (n : ℕ) → c.number ≡ 0 → ends c n ≡ false
@@ -16,7 +16,7 @@ module _ {W : Type 0} where
       let waiting = ap (λ (b : Bool). if b then drained c.waiting else c.waiting) (ended_before c n none) in
       λ i. record { number = number i; waiting = waiting i }
 
-  pub stays : (c d : Count W) → Runs c d → c.number ≡ 0 → d ≡ c
+  pub stays : (c d : Count W) → CountRuns c d → c.number ≡ 0 → d ≡ c
   stays _ _ (Starts c) none = refl
   stays _ _ (Fell c d n run) none =
       let same = stays c d run none in

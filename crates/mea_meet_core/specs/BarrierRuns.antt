@@ -20,10 +20,10 @@ module _ {W : Type 0} where
   arrival_by Done result = []
 
   -- polls and taken wakes lead from one barrier to another, with these arrivals, the last one first
-  pub data Runs : Barrier W → List Bool → Barrier W → Type 0 where
-    Starts : (b : Barrier W) → Runs b [] b
-    Polled : (b c d : Barrier W) (arrivals : List Bool) (wait wait' : BarrierWait) (w : W) (result : Result (Poll Bool) (BarrierFault W)) → Runs b arrivals c → is_open c wait ≡ true → Polls c wait w result d wait' → Runs b (arrival_by wait result ++ arrivals) d
-    Woken : (b c d : Barrier W) (arrivals : List Bool) (w : W) → Runs b arrivals c → c ≡ record d { wakes = w ∷ d.wakes } → Runs b arrivals d
+  pub data BarrierRuns : Barrier W → List Bool → Barrier W → Type 0 where
+    Starts : (b : Barrier W) → BarrierRuns b [] b
+    Polled : (b c d : Barrier W) (arrivals : List Bool) (wait wait' : BarrierWait) (w : W) (result : Result (Poll Bool) (BarrierFault W)) → BarrierRuns b arrivals c → is_open c wait ≡ true → Polls c wait w result d wait' → BarrierRuns b (arrival_by wait result ++ arrivals) d
+    Woken : (b c d : Barrier W) (arrivals : List Bool) (w : W) → BarrierRuns b arrivals c → c ≡ record d { wakes = w ∷ d.wakes } → BarrierRuns b arrivals d
 
 -- how many of these arrivals led
 abbrev pub leaders : List Bool → ℕ

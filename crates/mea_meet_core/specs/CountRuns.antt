@@ -7,7 +7,7 @@ use Rattle.mea_sets.specs.Countdown.{Count, decreased, PollsCount}
 
 module _ {W : Type 0} where
   -- arrivals and polls lead from one count to another
-  pub data Runs : Count W → Count W → Type 0 where
-    Starts : (c : Count W) → Runs c c
-    Fell : (c d : Count W) (n : ℕ) → Runs c d → Runs c (decreased d n)
-    Polled : (c d e : Count W) (slot slot' : Option Place) (w : W) (result : Result (Poll (Unit {0})) (W × NoMemory)) → Runs c d → PollsCount d slot w result e slot' → Runs c e
+  pub data CountRuns : Count W → Count W → Type 0 where
+    Starts : (c : Count W) → CountRuns c c
+    Fell : (c d : Count W) (n : ℕ) → CountRuns c d → CountRuns c (decreased d n)
+    Polled : (c d e : Count W) (slot slot' : Option Place) (w : W) (result : Result (Poll (Unit {0})) (W × NoMemory)) → CountRuns c d → PollsCount d slot w result e slot' → CountRuns c e

@@ -1,5 +1,5 @@
 -- what a contract sees of a `ShutdownCore`
-use Rattle.std.specs.Prelude.{◌++◌, List, refl}
+use Rattle.std.specs.Prelude.{ℕ, ◌++◌, List, refl}
 use Rattle.std.specs.Coded.{Coded, code_by, coded×, coded_list}
 use Rattle.mea_sets.specs.Countdown.{Count, count_code, decreased, woken_by}
 
@@ -25,6 +25,10 @@ module _ {W : Type 0} where
   abbrev pub signalled : Shutdown W → Shutdown W
   signalled s = record s { signal = decreased s.signal 1; wakes = s.wakes ++ woken_by s.signal 1 }
 
-  -- the shutdown with one receiver less, which wakes those who wait for the last
+  -- the shutdown with n receivers less, which wakes those who wait for the last where none is left
+  abbrev pub without_receivers : Shutdown W → ℕ → Shutdown W
+  without_receivers s n = record s { receivers = decreased s.receivers n; wakes = s.wakes ++ woken_by s.receivers n }
+
+  -- the shutdown with one receiver less
   abbrev pub without_receiver : Shutdown W → Shutdown W
-  without_receiver s = record s { receivers = decreased s.receivers 1; wakes = s.wakes ++ woken_by s.receivers 1 }
+  without_receiver s = without_receivers s 1

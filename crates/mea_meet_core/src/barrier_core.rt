@@ -1,4 +1,4 @@
-ghost use Rattle.std.specs.Prelude.{◌≡◌, ◌*◌, ◌<◌, [], ◌∷◌, length, max, true, false, IsOk, IfNone, IfSome};
+ghost use Rattle.std.specs.Prelude.{◌≡◌, ◌*◌, ◌<◌, ◌^◌, [], ◌∷◌, length, max, true, false, IsOk, IfNone, IfSome};
 ghost use Rattle.mea_sets.specs.WaitSet as sets;
 ghost use Rattle.mea_meet_core.specs.declared.barrier_wait.BarrierWait.{BarrierWait};
 ghost use Rattle.mea_meet_core.specs.Barrier.{Arrives, Returns, Polls, leads, has_seen, is_own, is_open, is_registered, usable_wait};
@@ -207,9 +207,7 @@ impl<W: Drop> BarrierCore<W> {
     pub fn end(&mut self, wait: BarrierWait)
         requires { is_own self.old wait ≡ true }
         ensures { self.new ≡ self.old }
-    {
-        let _ = wait;
-    }
+    {}
 
     /// Whether the wait belongs to this barrier, as `end` asks. It takes no memory.
     pub fn end_allowed(&self, wait: &BarrierWait) -> bool
@@ -249,7 +247,8 @@ impl<W: Drop> BarrierCore<W> {
 
     /// How many wakers are ready. It takes no memory.
     pub fn wakes_ready(&self) -> usize
-        ensures { result ≡ length self.now.wakes }
+        ensures is { result ≡ length self.now.wakes }
+        ensures bound { result < 2 ^ 63 }
     {
         self.outbox.len()
     }

@@ -1,4 +1,4 @@
-ghost use Rattle.std.specs.Prelude.{◌≡◌, ◌+◌, ◌<◌, ◌≤◌, ◌↔◌, [], ◌∷◌, ◌++◌, length, true, IsTrue, IsOk, IsErr, IfNone, IfSome, OnErr, OnOk};
+ghost use Rattle.std.specs.Prelude.{◌≡◌, ◌+◌, ◌<◌, ◌≤◌, ◌^◌, ◌↔◌, [], ◌∷◌, ◌++◌, length, true, IsTrue, IsOk, IsErr, IfNone, IfSome, OnErr, OnOk};
 ghost use Rattle.mea_sets.specs.WaitSet.{has_given, is_registered};
 ghost use Rattle.mea_sets.specs.Countdown.{Counting, count_from, decreasing, PollsCount};
 ghost use Rattle.mea_meet_core.specs.Count.{increased, usable};
@@ -93,6 +93,13 @@ impl<W: Drop> GroupCore<W> {
         self.countdown.decrement(1);
     }
 
+    // As many handles less, as so many calls of `leave`; at the last it wakes those who wait. It takes no memory.
+    pub(crate) fn leave_many(&mut self, n: u32)
+        ensures { self.new ≡ decreasing self.old n }
+    {
+        self.countdown.decrement(n);
+    }
+
     /// Whether a handle lives, as `leave` asks. It takes no memory.
     pub fn leave_allowed(&self) -> bool
         ensures { IsTrue result ↔ (0 < self.now.count.number) }
@@ -148,9 +155,7 @@ impl<W: Drop> GroupCore<W> {
     pub fn end(&mut self, wait: GroupWait)
         requires { has_given self.old.count.waiting wait ≡ true }
         ensures { self.new ≡ self.old }
-    {
-        let _ = wait;
-    }
+    {}
 
     /// Whether the wait belongs to this group, as `end` asks. It takes no memory.
     pub fn end_allowed(&self, wait: &GroupWait) -> bool
@@ -195,7 +200,8 @@ impl<W: Drop> GroupCore<W> {
 
     /// How many wakers are ready. It takes no memory.
     pub fn wakes_ready(&self) -> usize
-        ensures { result ≡ length self.now.wakes }
+        ensures is { result ≡ length self.now.wakes }
+        ensures bound { result < 2 ^ 63 }
     {
         self.countdown.wakes_ready()
     }

@@ -1,4 +1,4 @@
-ghost use Rattle.std.specs.Prelude.{◌≡◌, ◌+◌, ◌≤◌, [], ◌∷◌, ◌++◌, length, true, IsOk, IsSome, IfNone, IfSome};
+ghost use Rattle.std.specs.Prelude.{◌≡◌, ◌+◌, ◌<◌, ◌≤◌, ◌^◌, [], ◌∷◌, ◌++◌, length, true, IsOk, IsSome, IfNone, IfSome};
 ghost use Rattle.mea_sets.specs.WaitSet.{has_given, is_registered, length_with};
 ghost use Rattle.mea_sets.specs.Countdown.{Counting, count_from, decreasing, PollsCount};
 ghost use Rattle.mea_meet_core.specs.Count.{tried, usable};
@@ -108,9 +108,7 @@ impl<W: Drop> LatchCore<W> {
     pub fn end(&mut self, wait: LatchWait)
         requires { has_given self.old.count.waiting wait ≡ true }
         ensures { self.new ≡ self.old }
-    {
-        let _ = wait;
-    }
+    {}
 
     /// Whether the wait belongs to this latch, as `end` asks. It takes no memory.
     pub fn end_allowed(&self, wait: &LatchWait) -> bool
@@ -164,7 +162,8 @@ impl<W: Drop> LatchCore<W> {
 
     /// How many wakers are ready. It takes no memory.
     pub fn wakes_ready(&self) -> usize
-        ensures { result ≡ length self.now.wakes }
+        ensures is { result ≡ length self.now.wakes }
+        ensures bound { result < 2 ^ 63 }
     {
         self.countdown.wakes_ready()
     }

@@ -1,8 +1,8 @@
-ghost use Rattle.std.specs.Prelude.{◌≡◌, ◌+◌, ◌<◌, ◌≤◌, ◌↔◌, [], ◌∷◌, length, true, false, IsTrue, IsOk, IsErr, IfNone, IfSome, OnErr, OnOk};
+ghost use Rattle.std.specs.Prelude.{◌≡◌, ◌+◌, ◌<◌, ◌≤◌, ◌^◌, ◌↔◌, [], ◌∷◌, length, true, false, IsTrue, IsOk, IsErr, IfNone, IfSome, OnErr, OnOk};
 ghost use Rattle.mea_sets.specs.WaitSet.{has_given, is_registered};
 ghost use Rattle.mea_sets.specs.Countdown.{count_from, PollsCount};
 ghost use Rattle.mea_meet_core.specs.Count.{increased, usable};
-ghost use Rattle.mea_meet_core.specs.Shutdown.{Shutdown, signalled, without_receiver};
+ghost use Rattle.mea_meet_core.specs.Shutdown.{Shutdown, signalled, without_receiver, without_receivers};
 
 use crate::group_core::GroupCore;
 use crate::group_wait::GroupWait;
@@ -183,6 +183,33 @@ impl<W: Drop> ShutdownCore<W> {
         }
     }
 
+    /// `n` receivers less at once, where so many live, as `n` calls of `end_receiver`; at the last it wakes those
+    /// who wait for that. It takes no memory, and no more time for many than for one.
+    pub fn leave(&mut self, n: u32)
+        requires { n ≤ self.old.receivers.number }
+        ensures { self.new ≡ without_receivers self.old n }
+    {
+        self.receivers.leave_many(n);
+        self.receivers.move_wakes(&mut self.outbox);
+    }
+
+    /// Whether `n` receivers live, as `leave` asks. It takes no memory.
+    pub fn leave_allowed(&self, n: u32) -> bool
+        ensures { IsTrue result ↔ (n ≤ self.now.receivers.number) }
+    {
+        n <= self.receivers()
+    }
+
+    /// As `leave`; where fewer receivers live it changes nothing. It takes no memory.
+    pub fn leave_checked(&mut self, n: u32)
+        ensures leaves { n ≤ self.old.receivers.number → self.new ≡ without_receivers self.old n }
+        ensures refused { self.old.receivers.number < n → self.new ≡ self.old }
+    {
+        if self.leave_allowed(n) {
+            self.leave(n);
+        }
+    }
+
     /// Is ready where no receiver lives, whatever the signal. Else the waker is registered for that, in
     /// place of this wait's earlier one if that is registered; with no memory nothing has changed.
     pub fn poll_receivers(
@@ -298,7 +325,8 @@ impl<W: Drop> ShutdownCore<W> {
 
     /// How many wakers are ready. It takes no memory.
     pub fn wakes_ready(&self) -> usize
-        ensures { result ≡ length self.now.wakes }
+        ensures is { result ≡ length self.now.wakes }
+        ensures bound { result < 2 ^ 63 }
     {
         self.outbox.len()
     }

@@ -6,9 +6,9 @@ use Rattle.std.specs.Ordering.{nat_cmp}
 use Rattle.std.specs.FinMap.{FinMap, get, insert, remove}
 use Rattle.std.proofs.lemmas.Bool.{eqb-true, eqb-false}
 use Rattle.std.proofs.lemmas.Bool.Decides.{nat_tests}
-use Rattle.mea_base.specs.Family.{Outcome, quietly}
-use Rattle.mea_base.specs.declared.answer.Answer.{Answer}
-use Rattle.mea_base.specs.declared.answer.Answer.TheVariants as answers
+use Rattle.mea_family.specs.Family.{Outcome, quietly}
+use Rattle.mea_family.specs.declared.answer.Answer.{Answer}
+use Rattle.mea_family.specs.declared.answer.Answer.TheVariants as answers
 use Rattle.mea_base.proofs.Maps.{by_put, by_at_put, by_at_gone, at-there, at-other, at-removed_other, at-empty, get-there, get-other, get-removed_other, is_there, inside, removed_there, nothing_at}
 use Rattle.mea_meet_model.specs.Waiting.{waker_for, registering, ending, wakers}
 use Rattle.mea_meet_model.specs.Barriers.{Barriers, Barrier, BarrierWait, no_barriers, new_barrier, barrier_at, waits_of, placed, placed_of, make, wait, drop, gone, end_of, leads, has_completed, leading, joining, waiting_on, poll_at, poll_of}

@@ -4,11 +4,11 @@ use Rattle.std.specs.List.{Contains}
 use Rattle.std.specs.Option.{IsSome}
 use Rattle.std.specs.FinMap.{get}
 use Rattle.std.proofs.lemmas.Bool.{ltb-false, eq-eqb, cases_lt}
-use Rattle.mea_base.specs.Causes.{borrowed_by}
-use Rattle.mea_base.specs.Family.{Outcome}
-use Rattle.mea_base.specs.declared.stop.Stop.TheVariants as stops
+use Rattle.mea_family.specs.Causes.{borrowed_by}
+use Rattle.mea_family.specs.Family.{Outcome}
+use Rattle.mea_family.specs.declared.stop.Stop.TheVariants as stops
 use Rattle.mea_base.proofs.Maps.{inside}
-use Rattle.mea_base.proofs.Tests.{known}
+use Rattle.mea_family.proofs.Causes.{known}
 use Rattle.mea_meet_model.specs.declared.event.MeetEvent.{MeetEvent}
 use Rattle.mea_meet_model.specs.declared.event.MeetEvent.TheVariants as events
 use Rattle.mea_meet_model.specs.Barriers as barriers

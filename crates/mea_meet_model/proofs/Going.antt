@@ -4,7 +4,7 @@ use Rattle.std.specs.List.{Contains}
 use Rattle.std.specs.Option.{IsSome}
 use Rattle.std.specs.Ordering.{nat_cmp}
 use Rattle.std.specs.FinMap.{FinMap, get}
-use Rattle.mea_base.specs.Family.{Outcome}
+use Rattle.mea_family.specs.Family.{Outcome}
 use Rattle.mea_meet_model.proofs.Belongs.{IsMade}
 
 -- of halls of one kind: when they are valid, their futures, and the waker that is registered for one

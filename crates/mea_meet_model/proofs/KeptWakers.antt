@@ -3,10 +3,10 @@ use Rattle.std.proofs.Common.{◌≡◌, ℕ, ◌<◌, ◌==◌, true, cond, Som
 use Rattle.std.specs.FinMap.{get}
 use Rattle.std.proofs.lemmas.Bool.{eqb-true}
 use Rattle.std.proofs.lemmas.Option.{cond_some}
-use Rattle.mea_base.specs.Family.{RunOf, Runs, Starts, Goes, LosesNoWake, KeepsWakers, NamesFutures}
-use Rattle.mea_base.specs.declared.answer.Answer.TheVariants as answers
-use Rattle.mea_base.proofs.Wakes as wakes
-use Rattle.mea_base.proofs.Tests.{known}
+use Rattle.mea_family.specs.Family.{RunOf, IsRun, Starts, Goes, LosesNoWake, KeepsWakers, NamesFutures}
+use Rattle.mea_family.specs.declared.answer.Answer.TheVariants as answers
+use Rattle.mea_family.proofs.Wakes as wakes
+use Rattle.mea_family.proofs.Causes.{known}
 use Rattle.mea_meet_model.specs.declared.event.MeetEvent.{MeetEvent}
 use Rattle.mea_meet_model.specs.declared.event.MeetEvent.TheVariants as events
 use Rattle.mea_meet_model.specs.Hall.{Hall}
@@ -22,7 +22,7 @@ use Rattle.mea_meet_model.proofs.EachEvent.{steps, valid_empty}
 use Rattle.mea_meet_model.proofs.Lives.{stays, goes}
 
 -- every hall that events reach is valid
-pub valid_run : (r : RunOf meets) → Runs meets r → IsValid r.hall r.next
+pub valid_run : (r : RunOf meets) → IsRun meets r → IsValid r.hall r.next
 valid_run _ (Starts) = valid_empty
 valid_run _ (Goes r i e runs later cause) = (steps r.hall r.next i later (valid_run r runs) e cause).valid
 
@@ -98,5 +98,5 @@ names = record {
   made = λ r i e runs later cause f living. (steps r.hall r.next i later (valid_run r runs) e cause).made f living;
 }
 
-pub no_wake_is_lost : (r : RunOf meets) → Runs meets r → LosesNoWake meets r
+pub no_wake_is_lost : (r : RunOf meets) → IsRun meets r → LosesNoWake meets r
 no_wake_is_lost r runs = wakes.loses_no_wake meets keeps names r runs

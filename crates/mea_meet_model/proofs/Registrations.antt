@@ -1,8 +1,8 @@
 -- how many wakers are registered after an event
 use Rattle.std.proofs.Common.{◌≡◌, ℕ, ◌+◌, ◌≤◌, ◌==◌, ◌||◌, Bool, true, false, cond, length, [], Option, Some, None, refl, arith, nat_lt, if◌then◌else◌}
 use Rattle.std.specs.FinMap.{get, insert, remove}
-use Rattle.mea_base.specs.Family.{Outcome, quietly}
-use Rattle.mea_base.specs.declared.answer.Answer.TheVariants as answers
+use Rattle.mea_family.specs.Family.{Outcome, quietly}
+use Rattle.mea_family.specs.declared.answer.Answer.TheVariants as answers
 use Rattle.mea_base.proofs.Totals.{total-empty}
 use Rattle.mea_base.proofs.Maps.{sizes-put, total-gone}
 use Rattle.mea_meet_model.specs.declared.event.MeetEvent.{MeetEvent}

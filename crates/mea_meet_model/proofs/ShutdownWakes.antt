@@ -3,9 +3,9 @@ use Rattle.std.proofs.Common.{◌≡◌, ℕ, ◌+◌, ◌≤◌, ◌==◌, ◌�
 use Rattle.std.specs.List.{Contains}
 use Rattle.std.specs.Option.{IsSome}
 use Rattle.std.specs.FinMap.{get, insert, remove}
-use Rattle.mea_base.specs.Family.{Outcome, quietly}
-use Rattle.mea_base.specs.declared.answer.Answer.{Answer}
-use Rattle.mea_base.specs.declared.answer.Answer.TheVariants as answers
+use Rattle.mea_family.specs.Family.{Outcome, quietly}
+use Rattle.mea_family.specs.declared.answer.Answer.{Answer}
+use Rattle.mea_family.specs.declared.answer.Answer.TheVariants as answers
 use Rattle.mea_base.proofs.Maps.{by_at_put, at-there, at-other, at-removed_other, get-other, get-removed_other, inside, is_there}
 use Rattle.mea_meet_model.specs.Waiting.{waker_for}
 use Rattle.mea_meet_model.specs.Count.{Count, decreased, increased, woken_by, with_waker, without_future}

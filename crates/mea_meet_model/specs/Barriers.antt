@@ -3,8 +3,8 @@ use Rattle.std.specs.Prelude.{ℕ, ◌+◌, ◌*◌, ◌/◌, ◌%◌, ◌==◌,
 use Rattle.std.specs.Ordering.{nat_cmp}
 use Rattle.std.specs.Coded.{Coded, code_by, coded×, coded_ℕ, coded_option}
 use Rattle.std.specs.FinMap as map
-use Rattle.mea_base.specs.declared.answer.Answer.TheVariants as answers
-use Rattle.mea_base.specs.Family.{Outcome, quietly}
+use Rattle.mea_family.specs.declared.answer.Answer.TheVariants as answers
+use Rattle.mea_family.specs.Family.{Outcome, quietly}
 use Rattle.mea_base.specs.Totals.{total}
 use Rattle.mea_meet_model.specs.Waiting.{Whose, waker_for, registering, ending, wakers, waiting_code}
 

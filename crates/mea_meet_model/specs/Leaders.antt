@@ -1,8 +1,8 @@
 -- who leads a round of a barrier
 use Rattle.std.specs.Prelude.{ℕ, zero, suc, ◌+◌, ◌==◌, Bool, true, false, cond, Option, Some, None}
 use Rattle.std.specs.FinMap as map
-use Rattle.mea_base.specs.declared.answer.Answer.{Answer}
-use Rattle.mea_base.specs.declared.answer.Answer.TheVariants as answers
+use Rattle.mea_family.specs.declared.answer.Answer.{Answer}
+use Rattle.mea_family.specs.declared.answer.Answer.TheVariants as answers
 use Rattle.mea_meet_model.specs.declared.event.MeetEvent.{MeetEvent}
 use Rattle.mea_meet_model.specs.declared.event.MeetEvent.TheVariants.{BarPoll}
 use Rattle.mea_meet_model.specs.Barriers.{Barriers, Barrier, BarrierWait, barrier_at, leads}

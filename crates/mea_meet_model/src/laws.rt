@@ -1,4 +1,4 @@
-ghost use Rattle.mea_base.specs.Family.{RunOf, Runs, KeepsWakers, LosesNoWake};
+ghost use Rattle.mea_family.specs.Family.{RunOf, IsRun, KeepsWakers, LosesNoWake};
 ghost use Rattle.mea_meet_model.specs.Meets.{meets};
 
 /// In every hall that events reach: an event that replies `pending` to a poll places the waker given;
@@ -12,5 +12,5 @@ pub fn wakers_are_kept()
 /// A living future whose last poll replied `pending`, and which a poll would answer otherwise now, has had
 /// the waker of that last poll woken since.
 pub fn no_wake_is_lost()
-    ensures { (run : RunOf meets) → Runs meets run → LosesNoWake meets run }
+    ensures { (run : RunOf meets) → IsRun meets run → LosesNoWake meets run }
 {}

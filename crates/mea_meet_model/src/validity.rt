@@ -1,6 +1,6 @@
 ghost use Rattle.std.specs.Prelude.{◌≡◌, ℕ, ◌+◌, ◌<◌, ◌≤◌, None, IsSome, is_some};
 ghost use Rattle.std.specs.FinMap as finmap;
-ghost use Rattle.mea_base.specs.Family.{RunOf, Runs};
+ghost use Rattle.mea_family.specs.Family.{RunOf, IsRun};
 ghost use Rattle.mea_meet_model.specs.declared.event.MeetEvent.{MeetEvent as Event};
 ghost use Rattle.mea_meet_model.specs.Latches as latches;
 ghost use Rattle.mea_meet_model.specs.Groups as groups;
@@ -23,7 +23,7 @@ pub fn validity_is_kept()
 
 /// Every hall in a run is valid.
 pub fn halls_are_valid()
-    ensures { (run : RunOf meets) → Runs meets run → IsValid run.hall run.next }
+    ensures { (run : RunOf meets) → IsRun meets run → IsValid run.hall run.next }
 {}
 
 /// A latch is there exactly while it is named or a future of it lives, a group while a handle or a future of

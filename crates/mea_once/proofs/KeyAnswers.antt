@@ -1,12 +1,12 @@
 -- what the calls of an entry of a map or a group are asked for, as its code leaves it
 use Rattle.std.proofs.Common.{◌≡◌, ℕ, ◌+◌, ◌-◌, ◌≤◌, ◌++◌, Bool, cond, length, [], ◌∷◌, Option, Some, None, nat_eq, refl, ap, sym, subst, ◌∙◌, arith, append-nil}
 use Rattle.std.specs.FinMap.{get, remove}
-use Rattle.mea_base.specs.declared.answer.Answer.TheVariants as answer_is
+use Rattle.mea_family.specs.declared.answer.Answer.TheVariants as answer_is
 use Rattle.mea_base.specs.Ready.{Waking}
 use Rattle.mea_base.proofs.Maps.{inside}
-use Rattle.mea_named.specs.declared.named_waker.NamedWaker.{NamedWaker}
-use Rattle.mea_named.specs.ByName.{Names}
-use Rattle.mea_named.proofs.Own.{insert_same}
+use Rattle.mea_by_name.specs.declared.named_waker.NamedWaker.{NamedWaker}
+use Rattle.mea_by_name.specs.ByName.{Names}
+use Rattle.mea_by_name.proofs.Own.{insert_same}
 use Rattle.mea_once_core.specs.Keyed.{EndsAt, Discards}
 use Rattle.mea_once_model.specs.declared.job.Initialiser.{Initialiser}
 use Rattle.mea_once_model.specs.Tables as tables

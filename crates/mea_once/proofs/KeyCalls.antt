@@ -1,16 +1,16 @@
 -- a poll of a future of a map or a group, in whichever way it comes to its round
 use Rattle.std.proofs.Common.{◌≡◌, ℕ, ◌+◌, ◌-◌, ◌≤◌, ◌++◌, inl, inr, Bool, false, cond, length, List, [], Option, Some, None, Result, Ok, is_some, MatchOption, nat_eq, refl, ap, sym, subst, ◌∙◌, arith}
 use Rattle.std.specs.FinMap.{get, insert, remove}
-use Rattle.mea_base.specs.declared.answer.Answer.{Answer}
-use Rattle.mea_base.specs.declared.answer.Answer.TheVariants as answer_is
-use Rattle.mea_base.specs.Family.{Outcome}
+use Rattle.mea_family.specs.declared.answer.Answer.{Answer}
+use Rattle.mea_family.specs.declared.answer.Answer.TheVariants as answer_is
+use Rattle.mea_family.specs.Family.{Outcome}
 use Rattle.mea_base.specs.Ready.{Waking}
 use Rattle.mea_base.proofs.Maps.{inside, get-there, get-other, get-gone, get-removed_other}
 use Rattle.mea_sets.specs.Poll.{Poll, Ready}
-use Rattle.mea_named.specs.ByName.{Names}
-use Rattle.mea_named.specs.declared.named_waker.NamedWaker.{NamedWaker}
-use Rattle.mea_named.proofs.Cases.{found_is}
-use Rattle.mea_named.proofs.Own.{seen-at, put_gone, gone_none, len-gone}
+use Rattle.mea_by_name.specs.ByName.{Names}
+use Rattle.mea_by_name.specs.declared.named_waker.NamedWaker.{NamedWaker}
+use Rattle.mea_by_name.proofs.Cases.{found_is}
+use Rattle.mea_by_name.proofs.Own.{seen-at, put_gone, gone_none, len-gone}
 use Rattle.mea_once_core.specs.Cell.{Cell as CoreCell, PollsInit}
 use Rattle.mea_once_core.specs.Table.{entry_at, fresh_entry}
 use Rattle.mea_once_core.specs.Keyed.{PollsKey, PollsAt, IsSameKeyed}
@@ -28,7 +28,7 @@ use Rattle.mea_once_model.specs.Tables.{Tables, KeyStep, is_this, others_of, app
 use Rattle.mea_once.specs.declared.key_future.KeyFuture.{KeyFuture}
 use Rattle.mea_once.specs.declared.round.Round.{Round}
 use Rattle.mea_once.specs.declared.scripted.Scripted.{Scripted}
-use Rattle.mea_once.specs.declared.told.Told.{Told}
+use Rattle.mea_once.specs.declared.poll_reply.PollReply.{PollReply}
 use Rattle.mea_once.specs.Entries.{of_running, runs}
 use Rattle.mea_once.specs.KeyCores.{NamedKeyed, answers}
 use Rattle.mea_once.specs.KeyEntries.{KeptTable, FollowsKey, HandsKeys, kept_with, joined, new_round, closed, left_round, one_future_less, running_in, current_without}
@@ -84,12 +84,12 @@ module _ (once : Bool) (e : KeptTable) (f w : ℕ) (x : KeyFuture) (i : ℕ) (s 
   out h = tables.poll once h i f w (key_future_seen x) (table_seen e) x.round
 
   -- what is to be shown of a poll that told this and left this, before wakers are handed on; so many were kept before
-  pub record Polled_so (r kept_before : Option NamedWaker) (told : Told) (e3 : KeptTable) (x3 : KeyFuture) : Type 0 where
+  pub record Polled_so (r kept_before : Option NamedWaker) (told : PollReply) (e3 : KeptTable) (x3 : KeyFuture) : Type 0 where
     pub fit : kept_with e3 r + length e3.keyed.wakes ≤ waiting_in e.keyed.table.slots + of_running kept_before + 1
     pub steps : (new : KeptTable) (more : ℕ) (before ready after : Waking ℕ) → HandsKeys e3 r new more ready after → more ≡ waiting_in e.keyed.table.slots + of_running kept_before + 1 → ready.wakers ≡ before.wakers → ready.registered ≡ before.registered + 1
         → SteppedTable once e s.fs i f x.table (left_by told.over x3) out told.answer new before after
 
-  by_did : (n m : ℕ) (r : Round) (se : Entry) (cur : Names ℕ) (num : Option ℕ) (start : Start once e s.fs i f x n m r se cur num) (k' : NamedKeyed) (run : Option NamedWaker) (told : Told) (e3 : KeptTable) (x3 : KeyFuture) (step : KeyStep)
+  by_did : (n m : ℕ) (r : Round) (se : Entry) (cur : Names ℕ) (num : Option ℕ) (start : Start once e s.fs i f x n m r se cur num) (k' : NamedKeyed) (run : Option NamedWaker) (told : PollReply) (e3 : KeptTable) (x3 : KeyFuture) (step : KeyStep)
       → Did once e s.fs i f x n m r (left_by told.over x3) (rested_table e3) run k'.wakes 1 step told.answer → e3.keyed ≡ k' → ((h : Tables) → get h.tables x.table ≡ Some (table_seen e) → ((n : ℕ) → others_of h f x.table n ≡ others s.fs f n) → out h ≡ applied h f x.table step) → Polled_so run r.running told e3 x3
   by_did n m r se cur num start k' run told e3 x3 step did same is = record {
     fit = let wakes : length e3.keyed.wakes ≡ length k'.wakes = ap (λ (k : NamedKeyed). length k.wakes) same in omega (arith, wakes, did_fit once e f x i s n m r se cur num start (left_by told.over x3) (rested_table e3) run k'.wakes 1 step told.answer did);
@@ -131,7 +131,7 @@ module _ (once : Bool) (e : KeptTable) (f w : ℕ) (x : KeyFuture) (i : ℕ) (s 
         (may_poll false (kept_cell se0.cell r0) (its_stand once e f w x i s n r0.entry r0 se0 e.current (number e.keyed x.key) start0).fs start0.kept.tied f (as_caller x) (its_stand once e f w x i s n r0.entry r0 se0 e.current (number e.keyed x.key) start0).there)
         (caller se0 shown0.there) (still_full n r0.entry r0 se0 e.current (number e.keyed x.key) start0 idle call'.call)
 
-    pub polls_there : (told : Told) (e3 : KeptTable) (x3 : KeyFuture) → FollowsKey poll (record e { keyed = k' }) n r0 (record x { call = call' }) (named f w) told e3 x3 → Polled_so (running_in call'.call.stage r0.running (named f w)) r0.running told e3 x3
+    pub polls_there : (told : PollReply) (e3 : KeptTable) (x3 : KeyFuture) → FollowsKey poll (record e { keyed = k' }) n r0 (record x { call = call' }) (named f w) told e3 x3 → Polled_so (running_in call'.call.stage r0.running (named f w)) r0.running told e3 x3
     polls_there told e3 x3 follows =
         let did = polled_did once e f w x i s n r0.entry r0 se0 e.current (number e.keyed x.key) start0 idle k' call'.call poll call'.stage asked0 e.rounds (λ q apart. refl) told e3 x3 follows in
         by_did n r0.entry r0 se0 e.current (number e.keyed x.key) start0 k' (running_in call'.call.stage r0.running (named f w)) told e3 x3
@@ -176,7 +176,7 @@ module _ (once : Bool) (e : KeptTable) (f w : ℕ) (x : KeyFuture) (i : ℕ) (s 
           at (Full v listed full is num map_only had) = absurd (cc)
           at (Aside unlisted key other num same no_more) = absurd (let listed = (is_now once e f x i s of n now r there).listed in cc)
 
-      pub polls_joined : (told : Told) (e3 : KeptTable) (x3 : KeyFuture) → FollowsKey poll (record e { keyed = k'; rounds = insert e.rounds n (joined r) }) n (joined r) (record x { call = call' }) (named f w) told e3 x3 → Polled_so (running_in call'.call.stage r.running (named f w)) r.running told e3 x3
+      pub polls_joined : (told : PollReply) (e3 : KeptTable) (x3 : KeyFuture) → FollowsKey poll (record e { keyed = k'; rounds = insert e.rounds n (joined r) }) n (joined r) (record x { call = call' }) (named f w) told e3 x3 → Polled_so (running_in call'.call.stage r.running (named f w)) r.running told e3 x3
       polls_joined told e3 x3 follows =
           let did = polled_did once e f w x i s n r.entry (joined r) se1 e.current (number e.keyed x.key) start1 idle k' call'.call poll call'.stage asked1 (insert e.rounds n (joined r)) (λ q apart. get-other e.rounds n q (joined r) apart) told e3 x3 follows in
           by_did n r.entry (joined r) se1 e.current (number e.keyed x.key) start1 k' (running_in call'.call.stage r.running (named f w)) told e3 x3
@@ -189,7 +189,7 @@ module _ (once : Bool) (e : KeptTable) (f w : ℕ) (x : KeyFuture) (i : ℕ) (s 
       opened = record e { rounds = insert e.rounds i (new_round x.key); current = insert e.current x.key i }
 
       -- the key has neither a value nor a round
-      by_new : number e.keyed x.key ≡ None → AskedNew once e.keyed k' x.key x.call.call call'.call (named f w) poll call'.stage → (told : Told) (e3 : KeptTable) (x3 : KeyFuture) → FollowsKey poll (record opened { keyed = k' }) i (new_round x.key) (record x { call = call' }) (named f w) told e3 x3
+      by_new : number e.keyed x.key ≡ None → AskedNew once e.keyed k' x.key x.call.call call'.call (named f w) poll call'.stage → (told : PollReply) (e3 : KeptTable) (x3 : KeyFuture) → FollowsKey poll (record opened { keyed = k' }) i (new_round x.key) (record x { call = call' }) (named f w) told e3 x3
           → Polled_so (running_in call'.call.stage None (named f w)) None told e3 x3
       by_new no_number asked told e3 x3 follows =
           let start = starts_new once e f x i s of none no_number asked.m asked.fresh in
@@ -205,7 +205,7 @@ module _ (once : Bool) (e : KeptTable) (f w : ℕ) (x : KeyFuture) (i : ℕ) (s 
           value_none (Aside unlisted key other num same no_more) = absurd (cc)
 
       -- the key has a value
-      by_value : (m v : ℕ) (z : Entry) → number e.keyed x.key ≡ Some m → entry_at e.keyed.table m ≡ Some z → z.cell.value ≡ Some v → (told : Told) (e3 : KeptTable) (x3 : KeyFuture) → FollowsKey poll (record opened { keyed = k' }) i (new_round x.key) (record x { call = call' }) (named f w) told e3 x3
+      by_value : (m v : ℕ) (z : Entry) → number e.keyed x.key ≡ Some m → entry_at e.keyed.table m ≡ Some z → z.cell.value ≡ Some v → (told : PollReply) (e3 : KeptTable) (x3 : KeyFuture) → FollowsKey poll (record opened { keyed = k' }) i (new_round x.key) (record x { call = call' }) (named f w) told e3 x3
           → Polled_so (running_in call'.call.stage None (named f w)) None told e3 x3
       by_value m v z num entry full told e3 x3 follows =
           let found_it = finds_at once e.keyed k' x.key x.call.call call'.call (named f w) poll call'.stage m v z full (by_some _ _ (number e.keyed x.key) m first num z entry) in
@@ -236,10 +236,10 @@ module _ (once : Bool) (e : KeptTable) (f w : ℕ) (x : KeyFuture) (i : ℕ) (s 
           back : one_future_less (left_round (closed (record opened { keyed = k' }) x.key i) x.key i (new_round x.key)) ≡ record { keyed = k'; current = e.current; rounds = e.rounds; futures = e.futures - 1 }
           back = λ j. record { keyed = k'; current = closes_twice j; rounds = (put_gone e.rounds i (new_round x.key) ∙ gone_none e.rounds i (no_round once e f x i s)) j; futures = e.futures - 1 }
 
-      pub polls_opened : (told : Told) (e3 : KeptTable) (x3 : KeyFuture) → FollowsKey poll (record opened { keyed = k' }) i (new_round x.key) (record x { call = call' }) (named f w) told e3 x3 → Polled_so (running_in call'.call.stage None (named f w)) None told e3 x3
+      pub polls_opened : (told : PollReply) (e3 : KeptTable) (x3 : KeyFuture) → FollowsKey poll (record opened { keyed = k' }) i (new_round x.key) (record x { call = call' }) (named f w) told e3 x3 → Polled_so (running_in call'.call.stage None (named f w)) None told e3 x3
       polls_opened = at (s.kept.keys x.key)
         where
-          at : IsKey once e x.key → (told : Told) (e3 : KeptTable) (x3 : KeyFuture) → FollowsKey poll (record opened { keyed = k' }) i (new_round x.key) (record x { call = call' }) (named f w) told e3 x3 → Polled_so (running_in call'.call.stage None (named f w)) None told e3 x3
+          at : IsKey once e x.key → (told : PollReply) (e3 : KeptTable) (x3 : KeyFuture) → FollowsKey poll (record opened { keyed = k' }) i (new_round x.key) (record x { call = call' }) (named f w) told e3 x3 → Polled_so (running_in call'.call.stage None (named f w)) None told e3 x3
           at (Absent no_number current) = by_new no_number (begins_new once e.keyed k' x.key x.call.call call'.call (named f w) poll call'.stage (number_there once e f x i s of) (by_none _ _ (number e.keyed x.key) first no_number))
           at (Computing n r z num current is key entry empty listed) = absurd (cc)
           at (Valued m v z num current entry full listed map_only round) = by_value m v z num entry full

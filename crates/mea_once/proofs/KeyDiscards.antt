@@ -2,14 +2,14 @@
 use Rattle.std.proofs.Common.{◌≡◌, ℕ, ◌-◌, ◌≤◌, ◌==◌, ◌++◌, ◌⊎◌, inl, inr, Bool, true, false, cond, length, List, [], ◌∷◌, Option, Some, None, is_some, option_map, nat_eq, refl, ap, sym, subst, ◌∙◌, arith, append-nil}
 use Rattle.std.proofs.lemmas.Bool.{eq-eqb, ne_eqb, cases_eq}
 use Rattle.std.specs.FinMap.{get, insert, remove}
-use Rattle.mea_base.specs.declared.answer.Answer.TheVariants as answer_is
+use Rattle.mea_family.specs.declared.answer.Answer.TheVariants as answer_is
 use Rattle.mea_base.specs.Ready.{Waking}
 use Rattle.mea_base.proofs.Maps.{inside, get-there, get-other, get-gone, get-removed_other, total-has}
 use Rattle.mea_base.proofs.NamedMaps.{same_named, get-seen}
 use Rattle.mea_base.proofs.Totals.{total-same}
-use Rattle.mea_named.specs.ByName.{Names}
-use Rattle.mea_named.specs.declared.named_waker.NamedWaker.{NamedWaker}
-use Rattle.mea_named.proofs.Own.{gone_none, insert_same, len-over}
+use Rattle.mea_by_name.specs.ByName.{Names}
+use Rattle.mea_by_name.specs.declared.named_waker.NamedWaker.{NamedWaker}
+use Rattle.mea_by_name.proofs.Own.{gone_none, insert_same, len-over}
 use Rattle.mea_once_core.specs.Links.{Changes, unlisted, Renumbers}
 use Rattle.mea_once_core.specs.Table.{entry_at}
 use Rattle.mea_once_core.specs.Keyed.{IsSameKeyed, Discards}

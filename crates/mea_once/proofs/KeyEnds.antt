@@ -1,14 +1,13 @@
 -- the end of a future by key, what polls and ends ask for, and polls in whichever way a future comes to its round
 use Rattle.std.proofs.Common.{◌≡◌, ℕ, ◌+◌, ◌-◌, ◌<◌, ◌≤◌, ◌^◌, ◌==◌, ◌++◌, ◌&&◌, inl, inr, Bool, false, not, cond, length, List, [], Option, Some, None, is_some, nat_eq, refl, ap, sym, subst, ◌∙◌, arith, append-nil}
-use Rattle.std.specs.Option.{IsSome}
 use Rattle.std.proofs.lemmas.Bool.{ne_eqb}
 use Rattle.std.specs.FinMap.{get, insert, remove}
-use Rattle.mea_base.specs.declared.answer.Answer.TheVariants as answer_is
+use Rattle.mea_family.specs.declared.answer.Answer.TheVariants as answer_is
 use Rattle.mea_base.specs.Ready.{Waking}
 use Rattle.mea_base.proofs.Maps.{inside, total-has}
-use Rattle.mea_named.specs.ByName.{Names, count}
-use Rattle.mea_named.specs.declared.named_waker.NamedWaker.{NamedWaker}
-use Rattle.mea_named.proofs.Own.{count-least, count-gone, len-gone, len-some}
+use Rattle.mea_by_name.specs.ByName.{Names, count}
+use Rattle.mea_by_name.specs.declared.named_waker.NamedWaker.{NamedWaker}
+use Rattle.mea_by_name.proofs.Own.{count-least, count-gone, len-gone, len-some}
 use Rattle.mea_once_core.specs.Cell.{Cell as CoreCell, rested}
 use Rattle.mea_once_core.specs.Table.{entry_at, is_last, HasRoom}
 use Rattle.mea_once_core.specs.Keyed.{MayPollKey, MayPollAt, MayEndKey, MayEndAt, EndsAt, EndsCaller, without_caller}
@@ -61,14 +60,6 @@ module _ (once : Bool) (e : KeptTable) (f : ℕ) (x : KeyFuture) (i : ℕ) (s : 
 
   pub enter_few : (n : ℕ) (r : Round) → get e.rounds n ≡ Some r → r.callers + 1 < 2 ^ 128
   enter_few n r there = let few = all_callers n r there in let small = s.few in let fits = s.fits in omega arith
-
-  pub enter_there : (n : ℕ) → get e.current x.key ≡ Some n → IsSome (get e.rounds n)
-  enter_there n now = at (s.kept.keys x.key)
-    where
-      at : IsKey once e x.key → IsSome (get e.rounds n)
-      at (Absent none current) = absurd (cc)
-      at (Computing q r z num current is key entry empty listed) = ap is_some (ap (get e.rounds) (inside (sym now ∙ current)) ∙ is)
-      at (Valued m v z num current entry full listed map_only round) = absurd (cc)
 
   -- a further caller finds room at its key's entry
   has_room : x.round ≡ None → HasRoom nat_eq e.keyed.table x.key

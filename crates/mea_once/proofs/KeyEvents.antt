@@ -7,9 +7,9 @@ use Rattle.std.specs.Ordering.{nat_cmp}
 use Rattle.mea_base.specs.Totals.{weight}
 use Rattle.mea_base.proofs.Maps.{inside, value_in, get-there, get-other}
 use Rattle.mea_base.proofs.Totals.{total-empty}
-use Rattle.mea_named.specs.ByName.{Names, seen, own}
-use Rattle.mea_named.specs.declared.named_waker.NamedWaker.{NamedWaker}
-use Rattle.mea_named.proofs.Own.{own-put, own-had, own-empty, seen-insert, seen-none, seen-empty, insert_same}
+use Rattle.mea_by_name.specs.ByName.{Names, seen, own}
+use Rattle.mea_by_name.specs.declared.named_waker.NamedWaker.{NamedWaker}
+use Rattle.mea_by_name.proofs.Own.{own-put, own-had, own-empty, seen-insert, seen-none, seen-empty, insert_same}
 use Rattle.mea_sem_core.specs.Core.{held_of}
 use Rattle.mea_once_core.specs.Permit.{free_permit}
 use Rattle.mea_once_core.specs.Table.{entry_at, empty_cell, fresh_entry}

@@ -3,8 +3,8 @@ use Rattle.std.proofs.Common.{◌≡◌, ℕ, ◌-◌, ◌==◌, ◌&&◌, ◌�
 use Rattle.std.proofs.lemmas.Bool.{eqb-true, eq-eqb}
 use Rattle.std.specs.FinMap.{get, insert}
 use Rattle.mea_base.proofs.Maps.{get-there, get-other}
-use Rattle.mea_named.specs.ByName.{Names}
-use Rattle.mea_named.specs.declared.named_waker.NamedWaker.{NamedWaker}
+use Rattle.mea_by_name.specs.ByName.{Names}
+use Rattle.mea_by_name.specs.declared.named_waker.NamedWaker.{NamedWaker}
 use Rattle.mea_once_core.specs.Cell.{Cell as CoreCell, rested}
 use Rattle.mea_once_core.specs.Links.{Changes}
 use Rattle.mea_once_core.specs.Table.{entry_at, is_last}

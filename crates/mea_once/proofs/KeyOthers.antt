@@ -2,14 +2,14 @@
 use Rattle.std.proofs.Common.{◌≡◌, ℕ, ◌+◌, ◌<◌, ◌≤◌, inl, inr, Bool, true, false, cond, [], Option, Some, None, Result, Ok, Err, IfOk, is_some, nat_eq, refl, ap, sym, subst, ◌∙◌, arith}
 use Rattle.std.proofs.lemmas.Bool.{eqb-true, cases_eq}
 use Rattle.std.specs.FinMap.{get, insert}
-use Rattle.mea_base.specs.declared.answer.Answer.{Answer}
-use Rattle.mea_base.specs.declared.answer.Answer.TheVariants as answer_is
+use Rattle.mea_family.specs.declared.answer.Answer.{Answer}
+use Rattle.mea_family.specs.declared.answer.Answer.TheVariants as answer_is
 use Rattle.mea_base.specs.declared.no_memory.NoMemory.{NoMemory}
-use Rattle.mea_base.specs.Family.{Outcome}
+use Rattle.mea_family.specs.Family.{Outcome}
 use Rattle.mea_base.specs.Ready.{Waking}
 use Rattle.mea_base.specs.Totals.{weight}
 use Rattle.mea_base.proofs.Maps.{get-there, get-other}
-use Rattle.mea_named.specs.declared.named_waker.NamedWaker.{NamedWaker}
+use Rattle.mea_by_name.specs.declared.named_waker.NamedWaker.{NamedWaker}
 use Rattle.mea_once_core.specs.Cell.{rested}
 use Rattle.mea_once_core.specs.Links.{Changes}
 use Rattle.mea_once_model.specs.declared.job.Initialiser.{Initialiser}

@@ -2,14 +2,14 @@
 use Rattle.std.proofs.Common.{◌≡◌, ℕ, ◌+◌, ◌-◌, ◌<◌, ◌≤◌, ◌==◌, ◌++◌, ◌&&◌, ◌⊎◌, Bool, true, false, not, cond, length, List, [], Option, Some, None, Result, Ok, Err, refl, ap, sym, subst, ◌∙◌, arith}
 use Rattle.std.specs.FinMap.{get, insert, remove, len}
 use Rattle.std.proofs.lemmas.Bool.{eqb-true}
-use Rattle.mea_base.specs.declared.answer.Answer.{Answer}
-use Rattle.mea_base.specs.declared.answer.Answer.TheVariants as answer_is
+use Rattle.mea_family.specs.declared.answer.Answer.{Answer}
+use Rattle.mea_family.specs.declared.answer.Answer.TheVariants as answer_is
 use Rattle.mea_base.specs.Totals.{weight}
 use Rattle.mea_base.proofs.Maps.{inside, by_put, get-there, get-other, get-gone, get-removed_other}
 use Rattle.mea_sets.specs.Poll.{Poll, Ready, Pending}
-use Rattle.mea_named.specs.ByName.{Names, own}
-use Rattle.mea_named.specs.declared.named_waker.NamedWaker.{NamedWaker}
-use Rattle.mea_named.proofs.Own.{own-at, own-had, seen-at, seen-back}
+use Rattle.mea_by_name.specs.ByName.{Names, own}
+use Rattle.mea_by_name.specs.declared.named_waker.NamedWaker.{NamedWaker}
+use Rattle.mea_by_name.proofs.Own.{own-at, own-had, seen-at, seen-back}
 use Rattle.mea_once_core.specs.Cell.{Cell as CoreCell, rested}
 use Rattle.mea_once_core.specs.Table.{is_last}
 use Rattle.mea_once_core.specs.Keyed.{without_caller}
@@ -26,7 +26,7 @@ use Rattle.mea_once_model.specs.Tables.{KeyStep}
 use Rattle.mea_once.specs.declared.key_future.KeyFuture.{KeyFuture}
 use Rattle.mea_once.specs.declared.round.Round.{Round}
 use Rattle.mea_once.specs.declared.scripted.Scripted.{Scripted}
-use Rattle.mea_once.specs.declared.told.Told.{Told}
+use Rattle.mea_once.specs.declared.poll_reply.PollReply.{PollReply}
 use Rattle.mea_once.specs.declared.future_entry.FutureEntry.{FutureEntry}
 use Rattle.mea_once.specs.Entries.{of_running, runs}
 use Rattle.mea_once.specs.KeyCores.{NamedKeyed}
@@ -133,7 +133,7 @@ module _ (once : Bool) (e : KeptTable) (f w : ℕ) (x : KeyFuture) (i : ℕ) (s 
     abbrev run : Option NamedWaker
     run = running_in call'.stage r.running k
 
-    abbrev Result_is : Told → KeptTable → KeyFuture → Type 0
+    abbrev Result_is : PollReply → KeptTable → KeyFuture → Type 0
     Result_is told e3 x3 = Did once e s.fs i f x n m r (left_by told.over x3) (rested_table e3) run k'.wakes 1 (key_step cell_step) told.answer × (e3.keyed ≡ k')
 
     only_wakes : (c : CoreCell ℕ NamedWaker) (o : Option Entry) (p : Option ℕ) → Becomes e.keyed k' m o x.key p c.permit.wakes → c.permit.wakes ≡ k'.wakes
@@ -212,7 +212,7 @@ module _ (once : Bool) (e : KeptTable) (f w : ℕ) (x : KeyFuture) (i : ℕ) (s 
         (full_seen once e s.fs s.kept i f x s.there n m r se cur num start (left_table now) c r.running good refl (rounds_left r.running rounds1 elsewhere) (here_left r.running rounds1) refl v full either becomes.entries becomes.numbers refl)
 
     by_told : (t : Poll (Result (Unit {0}) ℕ)) (c : CoreCell ℕ NamedWaker) → Polled se.cell r.running r.callers f x.table x.call.call.init.outcome x.call.call.stage its_stand w idle t c call'.stage → call'.init ≡ x.call.call.init → CorePolled once e.keyed m x.key se num t c poll k' stage'
-        → (told : Told) (e3 : KeptTable) (x3 : KeyFuture) → FollowsKey poll e2 n r x2 k told e3 x3 → Result_is told e3 x3
+        → (told : PollReply) (e3 : KeptTable) (x3 : KeyFuture) → FollowsKey poll e2 n r x2 k told e3 x3 → Result_is told e3 x3
     by_told Pending c polled init core told e3 x3 follows =
         let after = subst (λ q. FollowsKey q e2 n r x2 k told e3 x3) core.0 follows in
         rw (after.0, after.1, after.2) (pends c init polled.0 polled.1 polled.2 core.1 core.2, refl)
@@ -229,7 +229,7 @@ module _ (once : Bool) (e : KeptTable) (f w : ℕ) (x : KeyFuture) (i : ℕ) (s 
           left_keyed (closed e2 x.key n) x.key n r,
         )
 
-    pub polled_did : (told : Told) (e3 : KeptTable) (x3 : KeyFuture) → FollowsKey poll e2 n r x2 k told e3 x3 → Result_is told e3 x3
+    pub polled_did : (told : PollReply) (e3 : KeptTable) (x3 : KeyFuture) → FollowsKey poll e2 n r x2 k told e3 x3 → Result_is told e3 x3
     polled_did =
         let made = polled_cell se.cell r.running r.callers f x.table x.call.call.init.outcome x.call.call.stage its_stand w idle x.call.call.init refl asked.told asked.cell call' asked.polls in
         by_told asked.told asked.cell made.0 made.1 asked.core

@@ -3,13 +3,13 @@ use Rattle.std.proofs.Common.{◌≡◌, ℕ, ◌+◌, ◌-◌, ◌≤◌, ◌==
 use Rattle.std.specs.Option.{IsSome}
 use Rattle.std.proofs.lemmas.Bool.{eqb-true, eq-eqb, ne_eqb, cases_eq}
 use Rattle.std.specs.FinMap.{get, insert, remove, len, entries}
-use Rattle.mea_base.specs.declared.answer.Answer.{Answer}
+use Rattle.mea_family.specs.declared.answer.Answer.{Answer}
 use Rattle.mea_base.specs.Totals.{weight}
 use Rattle.mea_base.proofs.Maps.{inside, get-there, get-other, get-gone, get-removed_other}
 use Rattle.mea_base.proofs.Totals.{total-alike}
-use Rattle.mea_named.specs.declared.named_waker.NamedWaker.{NamedWaker}
-use Rattle.mea_named.specs.ByName.{Names, own, count, is_of}
-use Rattle.mea_named.proofs.Own.{get-own, own-at, seen-at, len-seen, len-gone, len-over, len-some, len-total}
+use Rattle.mea_by_name.specs.declared.named_waker.NamedWaker.{NamedWaker}
+use Rattle.mea_by_name.specs.ByName.{Names, own, count, is_of}
+use Rattle.mea_by_name.proofs.Own.{get-own, own-at, seen-at, len-seen, len-gone, len-over, len-some, len-total}
 use Rattle.mea_once_core.specs.Cell.{Cell as CoreCell, rested}
 use Rattle.mea_once_core.specs.Links.{Changes, left}
 use Rattle.mea_once_core.specs.Table.{entry_at, is_last}
@@ -45,9 +45,6 @@ one_less s more = ap (λ b. left (record s { listed = s.listed && not (b && is_n
 pub none_left : (s : Entry) → (s.callers == 1) ≡ true → s.cell.value ≡ None → without_caller s ≡ None
 none_left s last empty = ap (λ o. left (record s { listed = s.listed && not ((s.callers == 1) && is_none o) })) empty ∙ ap (λ b. left (record s { listed = s.listed && not (b && true) })) last ∙ ap (λ b. left (record s { listed = b })) (and-false s.listed)
     ∙ ap (λ b. cond (b && true) None (Some (record s { callers = s.callers - 1; listed = false }))) last
-
-pub unlisted_left : (s : Entry) → (s.callers == 1) ≡ true → s.listed ≡ false → without_caller s ≡ None
-unlisted_left s last unlisted = ap (λ b. left (record s { listed = b && not (is_last s) })) unlisted ∙ ap (λ b. cond (b && true) None (Some (record s { callers = s.callers - 1; listed = false }))) last
 
 pub full_left : (s : Entry) (v : ℕ) → s.cell.value ≡ Some v → s.listed ≡ true → without_caller s ≡ Some (record s { callers = s.callers - 1 })
 full_left s v full listed = ap (λ o. left (record s { listed = s.listed && not ((s.callers == 1) && is_none o) })) full ∙ ap (λ b. left (record s { listed = s.listed && not b })) (and-false (s.callers == 1)) ∙ ap (λ b. left (record s { listed = b })) (and-true s.listed)

@@ -6,7 +6,7 @@ use Rattle.std.proofs.lemmas.List.{append_assoc}
 use Rattle.mea_sets.specs.Poll.{Poll, Ready, Pending}
 use Rattle.mea_base.specs.declared.no_memory.NoMemory.{NoMemory}
 use Rattle.mea_base.proofs.Maps.{inside, value_in}
-use Rattle.mea_named.specs.declared.named_waker.NamedWaker.{NamedWaker}
+use Rattle.mea_by_name.specs.declared.named_waker.NamedWaker.{NamedWaker}
 use Rattle.mea_once_core.specs.Permit.{IsNext, MayPoll}
 use Rattle.mea_once_core.specs.Cell.{Cell as CoreCell, PollsInit, Finds, rested}
 use Rattle.mea_once_core.specs.Links.{Shown, Changes, Renumbers, SameNumbers}

@@ -9,9 +9,9 @@ use Rattle.mea_base.specs.Totals.{total, weight}
 use Rattle.mea_base.proofs.Maps.{inside, value_in, by_put, get-there, get-other, get-gone, get-removed_other}
 use Rattle.mea_base.proofs.NamedMaps.{same_named, get-seen}
 use Rattle.mea_base.proofs.Totals.{total-remove, total-same, get_removed, get_inserted}
-use Rattle.mea_named.specs.declared.named_waker.NamedWaker.{NamedWaker}
-use Rattle.mea_named.specs.ByName.{Names, seen, own, is_of}
-use Rattle.mea_named.proofs.Own.{get-own, own-put, own-gone, put_gone, seen-insert, seen-remove}
+use Rattle.mea_by_name.specs.declared.named_waker.NamedWaker.{NamedWaker}
+use Rattle.mea_by_name.specs.ByName.{Names, seen, own, is_of}
+use Rattle.mea_by_name.proofs.Own.{get-own, own-put, own-gone, put_gone, seen-insert, seen-remove}
 use Rattle.mea_once_core.specs.Links.{Changes}
 use Rattle.mea_once_core.specs.Table.{Table as CoreTable, entry_at}
 use Rattle.mea_once_core.specs.Waiting.{waiting_at, waiting_in}

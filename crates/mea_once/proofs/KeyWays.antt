@@ -5,15 +5,15 @@ use Rattle.std.proofs.lemmas.Bool.{eq-eqb, ne_eqb}
 use Rattle.std.specs.FinMap.{get, insert, remove}
 use Rattle.mea_base.proofs.Maps.{inside, get-there}
 use Rattle.mea_sets.specs.Poll.{Poll}
-use Rattle.mea_named.specs.declared.named_waker.NamedWaker.{NamedWaker}
-use Rattle.mea_named.proofs.Own.{put_gone, gone_none, insert_same}
+use Rattle.mea_by_name.specs.declared.named_waker.NamedWaker.{NamedWaker}
+use Rattle.mea_by_name.proofs.Own.{put_gone, gone_none, insert_same}
 use Rattle.mea_once_core.specs.Keyed.{IsSameKeyed, PollsKey}
 use Rattle.mea_once_core.specs.declared.key_call.KeyCall.{KeyCall}
 use Rattle.mea_once_model.specs.Tables.{is_this}
 use Rattle.mea_once.specs.declared.key_future.KeyFuture.{KeyFuture}
 use Rattle.mea_once.specs.declared.round.Round.{Round}
 use Rattle.mea_once.specs.declared.scripted.Scripted.{Scripted}
-use Rattle.mea_once.specs.declared.told.Told.{Told}
+use Rattle.mea_once.specs.declared.poll_reply.PollReply.{PollReply}
 use Rattle.mea_once.specs.Entries.{runs}
 use Rattle.mea_once.specs.KeyCores.{NamedKeyed, answers}
 use Rattle.mea_once.specs.KeyEntries.{KeptTable, Enters, Stays, Joins, Opens, FollowsKey, kept_with, joined, new_round, left_round, parted, running_in, IsSameTable, runs_round}
@@ -48,7 +48,7 @@ module _ (once : Bool) (e : KeptTable) (f w : ℕ) (x : KeyFuture) (i : ℕ) (s 
   pub idle_where : (b : Bool) → (x.round ≡ None → b ≡ false) → ((m : ℕ) → x.round ≡ Some m → b ≡ runs_round (get e.rounds m) f) → b ≡ false → IsIdle
   idle_where b none some idle m r of there = ap (λ o. runs_round o f) (sym there) ∙ sym (some m of) ∙ idle
 
-  module _ (idle : IsIdle) (k' : NamedKeyed) (call' : KeyCall ℕ Scripted) (poll : Poll (Result ℕ ℕ)) (told : Told) (e3 : KeptTable) (x3 : KeyFuture) where
+  module _ (idle : IsIdle) (k' : NamedKeyed) (call' : KeyCall ℕ Scripted) (poll : Poll (Result ℕ ℕ)) (told : PollReply) (e3 : KeptTable) (x3 : KeyFuture) where
     abbrev x2 : KeyFuture
     x2 = record x { call = call' }
 

@@ -8,21 +8,21 @@ use Rattle.mea_base.specs.Queue.{waiting_after, granted_in}
 use Rattle.mea_base.proofs.Maps.{by_put, removed_there, nothing_at, total-has, get-removed_other, inside, is_absent, value_in}
 use Rattle.mea_base.proofs.NamedMaps.{same_named}
 use Rattle.mea_base.proofs.Totals.{total-empty}
-use Rattle.mea_named.specs.declared.named_waker.NamedWaker.{NamedWaker}
-use Rattle.mea_named.specs.ByName.{Names, seen, count}
-use Rattle.mea_named.specs.NamedQueue.{Waiting, waits, waker_for, without}
-use Rattle.mea_named.specs.LackingQueue.{who}
-use Rattle.mea_named.proofs.Own.{seen-at, seen-back, seen-none, seen-insert, seen-remove, seen-empty, len-new, len-over, len-gone, len-some, count-put, count-new, count-over, count-gone, insert_same}
+use Rattle.mea_by_name.specs.declared.named_waker.NamedWaker.{NamedWaker}
+use Rattle.mea_by_name.specs.ByName.{Names, seen, count}
+use Rattle.mea_by_name.specs.NamedQueue.{Waiting, waits, waker_for, without}
+use Rattle.mea_by_name.specs.LackingQueue.{who}
+use Rattle.mea_by_name.proofs.Own.{seen-at, seen-back, seen-none, seen-insert, seen-remove, seen-empty, len-new, len-over, len-gone, len-some, count-put, count-new, count-over, count-gone, insert_same}
 use Rattle.mea_sem_core.specs.declared.acquire.Acquire.{Acquire}
 use Rattle.mea_sem_core.specs.declared.acquire.Acquire.TheVariants as acquire
 use Rattle.mea_sem_core.specs.Core.{Core, Waiter, Acquires, Owes, HasNoDebt, held_of, paid_to, granting, waiting}
 use Rattle.mea_sem_core.specs.Calls as sem_calls
 use Rattle.mea_sem_core.specs.Calls.{without_acquire}
 use Rattle.mea_sem_core.specs.Ones.{AskForOne}
-use Rattle.mea_linked.specs.Linked.{names_in, Linked, AreOf}
-use Rattle.mea_linked.specs.SetLinked.{SlotIs, IsAbsent, names_of}
-use Rattle.mea_linked.proofs.Linking.{IsUnqueued, linked_begun}
-use Rattle.mea_linked.proofs.Pours.{linked_poured}
+use Rattle.mea_cores_by_name.specs.Linked.{names_in, Linked, AreOf}
+use Rattle.mea_cores_by_name.specs.SetLinked.{SlotIs, IsAbsent, names_of}
+use Rattle.mea_cores_by_name.proofs.Linking.{IsUnqueued, linked_begun}
+use Rattle.mea_cores_by_name.proofs.Pours.{linked_poured}
 use Rattle.mea_once_core.specs.Permit.{MayPoll, MayEnd, HoldsAs, held_at, passed_to}
 use Rattle.mea_once_core.specs.declared.stage.Stage.{Stage}
 use Rattle.mea_once_core.specs.declared.stage.Stage.TheVariants.{New, Queued, Running, Done}

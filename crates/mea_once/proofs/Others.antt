@@ -2,26 +2,26 @@
 use Rattle.std.proofs.Common.{◌≡◌, ℕ, ◌+◌, ◌-◌, ◌≤◌, ◌==◌, ◌++◌, Bool, true, false, not, cond, length, List, [], ◌∷◌, map, Option, Some, None, is_some, option_to_list, refl, ap, sym, subst, ◌∙◌, arith, append-nil, if◌then◌else◌}
 use Rattle.std.specs.FinMap.{get, insert, remove, empty}
 use Rattle.std.proofs.lemmas.Bool.{eqb-true}
-use Rattle.mea_base.specs.declared.answer.Answer.{Answer}
-use Rattle.mea_base.specs.declared.answer.Answer.TheVariants as answers
+use Rattle.mea_family.specs.declared.answer.Answer.{Answer}
+use Rattle.mea_family.specs.declared.answer.Answer.TheVariants as answers
 use Rattle.mea_base.specs.Ready.{Waking}
 use Rattle.mea_base.proofs.Maps.{by_put, get-gone, removed_there, inside}
 use Rattle.mea_base.proofs.Totals.{total-empty}
-use Rattle.mea_named.specs.declared.named_waker.NamedWaker.{NamedWaker}
-use Rattle.mea_named.specs.ByName.{seen, count}
-use Rattle.mea_named.specs.NamedQueue.{Waiting, waits, waker_for, with_waker, without, registering, wakers}
-use Rattle.mea_named.specs.LackingQueue.{who}
-use Rattle.mea_named.proofs.Cases.{if_true, if_false}
-use Rattle.mea_named.proofs.Own.{insert_same, seen-at, seen-back, seen-insert, len-over, count-over, count-gone}
+use Rattle.mea_by_name.specs.declared.named_waker.NamedWaker.{NamedWaker}
+use Rattle.mea_by_name.specs.ByName.{seen, count}
+use Rattle.mea_by_name.specs.NamedQueue.{Waiting, waits, waker_for, with_waker, without, registering, wakers}
+use Rattle.mea_by_name.specs.LackingQueue.{who}
+use Rattle.mea_by_name.proofs.Cases.{if_true, if_false}
+use Rattle.mea_by_name.proofs.Own.{insert_same, seen-at, seen-back, seen-insert, len-over, count-over, count-gone}
 use Rattle.mea_sem_core.specs.declared.acquire.Acquire.TheVariants as acquire
 use Rattle.mea_sem_core.specs.Core.{held_of}
 use Rattle.mea_sets.specs.declared.place.Place.{Place}
 use Rattle.mea_sets.specs.WaitSet as sets
 use Rattle.mea_sets.specs.WaitSet.{slot_after}
-use Rattle.mea_linked.specs.Linked.{names_in, Linked}
-use Rattle.mea_linked.specs.SetLinked.{SlotIs, SetLinked, names_of, set_names}
-use Rattle.mea_linked.proofs.Linking.{linked_gone}
-use Rattle.mea_linked.proofs.Sets.{registered_names, registered_links}
+use Rattle.mea_cores_by_name.specs.Linked.{names_in, Linked}
+use Rattle.mea_cores_by_name.specs.SetLinked.{SlotIs, SetLinked, names_of, set_names}
+use Rattle.mea_cores_by_name.proofs.Linking.{linked_gone}
+use Rattle.mea_cores_by_name.proofs.Sets.{registered_names, registered_links}
 use Rattle.mea_once_core.specs.declared.stage.Stage.{Stage}
 use Rattle.mea_once_core.specs.declared.stage.Stage.TheVariants.{New, Queued, Running, Done}
 use Rattle.mea_once_model.specs.declared.job.Initialiser.{Initialiser}
@@ -31,7 +31,7 @@ use Rattle.mea_once_model.specs.declared.job.Job.TheVariants.{Calls, Computes, A
 use Rattle.mea_once_model.specs.Cells as model
 use Rattle.mea_once_model.specs.Cells.{Cell, Step, init_of, is_alone, settled}
 use Rattle.mea_once.specs.declared.future_entry.FutureEntry.{FutureEntry}
-use Rattle.mea_once.specs.declared.told.Told.{Told}
+use Rattle.mea_once.specs.declared.poll_reply.PollReply.{PollReply}
 use Rattle.mea_once.specs.Cores.{NamedCell, IsSoundCell, WaitsCell}
 use Rattle.mea_once.specs.Entries.{KeptCell, finished, stopped, waking, runs, of_running, keeps, HandsOn, RanAlone, left_by}
 use Rattle.mea_once.specs.Parts.{is_polled, cell_seen, future_seen, runner_of, is_caller, is_wait, fits, acquire_at, acquire_of, runs_at, is_running, StageFits, IsFuture, MayRun, Tied, Stands, Stepped}
@@ -404,14 +404,6 @@ module _ (once : Bool) (e : KeptCell) (f : ℕ) (x : FutureEntry) (s : Stands on
     alone_told : (v : Option ℕ) → e.cell.value ≡ v → Alone_polls ≡ model.start f w (future_seen x) (cell_seen e) v
     alone_told v is = alone_starts ∙ ap (model.start f w (future_seen x) (cell_seen e)) is
 
-    init_alone : (r : Initialiser) (j : Job) → is_alone j ≡ true → init_of j ≡ r → j ≡ Alone r
-    init_alone r (Calls i) is it = absurd (cc)
-    init_alone r (Computes i) is it = absurd (cc)
-    init_alone r (Alone i) is it = ap (λ i. Alone i) it
-    init_alone r (Sets v) is it = absurd (cc)
-    init_alone r (Inserts v) is it = absurd (cc)
-    init_alone r Awaits is it = absurd (cc)
-
     full_alone : (v : ℕ) (j : Job) → is_alone j ≡ true → model.found_full j v ≡ answers.Value v
     full_alone v (Calls r) is = absurd (cc)
     full_alone v (Computes r) is = absurd (cc)
@@ -509,18 +501,18 @@ abbrev waker_of : ℕ → ℕ → NamedWaker
 waker_of f w = record { future = f; waker = w }
 
 -- a future that uses its cell alone ran
-alone_ran : (once : Bool) (e : KeptCell) (f w : ℕ) (x : FutureEntry) (s : Stands once e f x) (alone : is_alone x.job ≡ true) (idle : runs e.running f ≡ false) (v : Option ℕ) (r : Initialiser) (told : Told) (e2 : KeptCell) → e.cell.value ≡ v → init_of x.job ≡ r → length e.cell.waits.wakers ≡ 0
+alone_ran : (once : Bool) (e : KeptCell) (f w : ℕ) (x : FutureEntry) (s : Stands once e f x) (alone : is_alone x.job ≡ true) (idle : runs e.running f ≡ false) (v : Option ℕ) (r : Initialiser) (told : PollReply) (e2 : KeptCell) → e.cell.value ≡ v → init_of x.job ≡ r → length e.cell.waits.wakers ≡ 0
     → RanAlone v r e (waker_of f w) x.job told e2 → IsSoundCell e2.cell → Makes once e s.fs s.n f x.cell 1 told.answer (left_by told.over x) (model.poll f w (future_seen x) (cell_seen e)) e2
 alone_ran once e f w x s alone idle (Some v) r told e2 is it none ran sound = rw (ran.0, ran.1, full_alone once e f x s w alone idle v x.job alone) (alone_full once e f x s w alone idle none v is)
 alone_ran once e f w x s alone idle None Unsettled told e2 is it none ran sound = rw (ran.0, ran.1) (alone_pends once e f x s w alone idle is it)
 alone_ran once e f w x s alone idle None (Gives v) told e2 is it none ran sound = rw (ran.0, ran.1, full_alone once e f x s w alone idle v x.job alone) (alone_made once e f x s w alone idle none v is it (subst (λ (e : KeptCell). IsSoundCell e.cell) ran.1 sound))
 alone_ran once e f w x s alone idle None (Fails z) told e2 is it none ran sound = rw (ran.0, ran.1) (alone_failed once e f x s w alone idle none z is it)
 
-pub alone_fits : (once : Bool) (e : KeptCell) (f w : ℕ) (x : FutureEntry) (told : Told) (e2 : KeptCell) (more : ℕ) → Stands once e f x → is_alone x.job ≡ true → runs e.running f ≡ false → length e.cell.waits.wakers ≡ 0 → RanAlone e.cell.value (init_of x.job) e (waker_of f w) x.job told e2
+pub alone_fits : (once : Bool) (e : KeptCell) (f w : ℕ) (x : FutureEntry) (told : PollReply) (e2 : KeptCell) (more : ℕ) → Stands once e f x → is_alone x.job ≡ true → runs e.running f ≡ false → length e.cell.waits.wakers ≡ 0 → RanAlone e.cell.value (init_of x.job) e (waker_of f w) x.job told e2
     → IsSoundCell e2.cell → more ≡ keeps e + 1 → keeps e2 + length e2.cell.permit.wakes ≤ more
 alone_fits once e f w x told e2 more s alone idle none ran sound all = rw all (alone_ran once e f w x s alone idle e.cell.value (init_of x.job) told e2 refl refl none ran sound).fit
 
-pub alone_steps : (once : Bool) (e : KeptCell) (f w : ℕ) (x : FutureEntry) (told : Told) (e2 new : KeptCell) (more : ℕ) (before ready after : Waking ℕ) (s : Stands once e f x) → is_alone x.job ≡ true → runs e.running f ≡ false → length e.cell.waits.wakers ≡ 0
+pub alone_steps : (once : Bool) (e : KeptCell) (f w : ℕ) (x : FutureEntry) (told : PollReply) (e2 new : KeptCell) (more : ℕ) (before ready after : Waking ℕ) (s : Stands once e f x) → is_alone x.job ≡ true → runs e.running f ≡ false → length e.cell.waits.wakers ≡ 0
     → RanAlone e.cell.value (init_of x.job) e (waker_of f w) x.job told e2 → IsSoundCell e2.cell → more ≡ keeps e + 1 → ready ≡ record before { registered = before.registered + 1 } → HandsOn e2 new more ready after
     → Stepped once e s.fs s.n f x.cell (left_by told.over x) (model.poll f w (future_seen x) (cell_seen e)) told.answer new before after
 alone_steps once e f w x told e2 new more before ready after s alone idle none ran sound all grown hands =

@@ -4,27 +4,27 @@ use Rattle.std.specs.Option.{IsSome}
 use Rattle.std.specs.FinMap.{get, insert, remove, len, empty, len-empty}
 use Rattle.std.specs.Ordering.{nat_cmp}
 use Rattle.std.proofs.lemmas.List.{length-append}
-use Rattle.mea_base.specs.Causes.{borrowed_by}
-use Rattle.mea_base.specs.declared.answer.Answer.{Answer}
-use Rattle.mea_base.specs.declared.answer.Answer.TheVariants as answers
-use Rattle.mea_base.specs.declared.stop.Stop.TheVariants as stops
-use Rattle.mea_base.specs.Family.{Outcome, quietly}
+use Rattle.mea_family.specs.Causes.{borrowed_by}
+use Rattle.mea_family.specs.declared.answer.Answer.{Answer}
+use Rattle.mea_family.specs.declared.answer.Answer.TheVariants as answers
+use Rattle.mea_family.specs.declared.stop.Stop.TheVariants as stops
+use Rattle.mea_family.specs.Family.{Outcome, quietly}
 use Rattle.mea_base.specs.Ready.{Waking}
 use Rattle.mea_base.specs.Totals.{total, weight}
 use Rattle.mea_base.proofs.Maps.{by_put, total-has, nothing_at, inside, removed_there}
 use Rattle.mea_base.proofs.Totals.{total-insert, total-remove, total-same}
 use Rattle.mea_base.proofs.NamedMaps.{is_some-map, get-seen}
-use Rattle.mea_named.specs.declared.named_waker.NamedWaker.{NamedWaker}
-use Rattle.mea_named.specs.ByName.{Names, seen, own, count}
-use Rattle.mea_named.specs.Play.{Part, PartYields, PartRests, found, content}
-use Rattle.mea_named.specs.LackingQueue.{who}
-use Rattle.mea_named.proofs.LackingQueues.{length-who}
-use Rattle.mea_named.proofs.Cases.{found_is}
-use Rattle.mea_named.proofs.Halls as halls
-use Rattle.mea_named.proofs.Own.{seen-at, seen-empty, seen-insert, seen-remove, seen-alike, own-seen, len-seen, total-seen, own-at, own-had, own-none, own-put, own-gone, count-least, own-empty, insert_same, put_gone, Moves, Stays, Comes, Goes}
-use Rattle.mea_linked.specs.Linked.{names_in}
-use Rattle.mea_linked.specs.SetLinked.{AreBelow, names_of, set_names}
-use Rattle.mea_linked.proofs.Sets.{below_absent}
+use Rattle.mea_by_name.specs.declared.named_waker.NamedWaker.{NamedWaker}
+use Rattle.mea_by_name.specs.ByName.{Names, seen, own, count}
+use Rattle.mea_family.specs.Play.{Part, PartYields, PartRests, found, content}
+use Rattle.mea_by_name.specs.LackingQueue.{who}
+use Rattle.mea_by_name.proofs.LackingQueues.{length-who}
+use Rattle.mea_by_name.proofs.Cases.{found_is}
+use Rattle.mea_by_name.proofs.Halls as halls
+use Rattle.mea_by_name.proofs.Own.{seen-at, seen-empty, seen-insert, seen-remove, seen-alike, own-seen, len-seen, total-seen, own-at, own-had, own-none, own-put, own-gone, count-least, own-empty, insert_same, put_gone, Moves, Stays, Comes, Goes}
+use Rattle.mea_cores_by_name.specs.Linked.{names_in}
+use Rattle.mea_cores_by_name.specs.SetLinked.{AreBelow, names_of, set_names}
+use Rattle.mea_cores_by_name.proofs.Sets.{below_absent}
 use Rattle.mea_once_core.specs.declared.stage.Stage.TheVariants.{New}
 use Rattle.mea_once_model.specs.declared.job.Initialiser.{Initialiser}
 use Rattle.mea_once_model.specs.declared.job.Job.{Job}
@@ -35,10 +35,10 @@ use Rattle.mea_once_model.specs.Actions.{act_in, Make, Begin, Poll, Settle, End,
 use Rattle.mea_once.specs.declared.future_entry.FutureEntry.{FutureEntry}
 use Rattle.mea_once.specs.Cores.{NamedCell, IsSoundCell}
 use Rattle.mea_once.specs.Entries.{KeptCell, begun, keeps, of_running, left_by}
-use Rattle.mea_once.specs.Parts.{is_polled, cell_seen, future_seen, cells_seen, runner_of, is_caller, is_wait, fits, gives_nothing, AreKept, Stands, Stepped, turned_to, IsOf, of_future, of_none, IsKept, IsNewCell, job_at, awaits_full, uses_alone, FitsSettled}
+use Rattle.mea_once.specs.Parts.{is_polled, cell_seen, future_seen, cells_seen, runner_of, is_caller, is_wait, fits, gives_nothing, AreKept, Stands, Stepped, turned_to, IsOf, of_future, of_none, AreKeptCells, IsNewCell, job_at, awaits_full, uses_alone, FitsSettled}
 use Rattle.mea_once.specs.Lends.{StandsFor}
 use Rattle.mea_once.proofs.OneCell.{begins, idle, new_tied}
-use Rattle.mea_linked.proofs.Waiters.{length-names}
+use Rattle.mea_cores_by_name.proofs.Waiters.{length-names}
 
 abbrev Good : Bool → KeptCell → Names FutureEntry → Names ℕ → Type 0
 Good once e xs ys = AreKept once e xs
@@ -87,7 +87,7 @@ module _ (once : Bool) {old : Part Cells} (es : Names KeptCell) (fs : Names Futu
   pub cell_of : (o : ℕ) (p : Option KeptCell) → get es o ≡ p → is_some p ≡ is_cell old.hall o
   cell_of o p is = sym (is_some-map cell_seen p) ∙ ap (λ q. is_some (option_map cell_seen q)) (sym is) ∙ ap is_some (sym (get-seen (λ k e. cell_seen e) es o)) ∙ ap (λ (p : Part Cells). is_cell p.hall o) view
 
-  module _ (kept : IsKept once es fs next) (o : ℕ) (e : KeptCell) (there : get es o ≡ Some e) where
+  module _ (kept : AreKeptCells once es fs next) (o : ℕ) (e : KeptCell) (there : get es o ≡ Some e) where
     own_seen : own (λ (x : CellFuture). x.cell) o (seen future_seen fs) ≡ seen future_seen (own of_future o fs)
     own_seen = own-seen of_future (λ (x : CellFuture). x.cell) future_seen (λ x. refl) o fs
 
@@ -120,11 +120,11 @@ pub record Site (once : Bool) (old : Part Cells) (i : ℕ) : Type 0 where
   pub fs : Names FutureEntry
   pub next : ℕ
   pub view : ◌≡◌ {A = Part Cells} (record { hall = cells_seen es fs; next = next }) old
-  pub kept : IsKept once es fs next
+  pub kept : AreKeptCells once es fs next
   pub later : next ≤ i
   pub fits : i < 2 ^ 64
 
-abbrev pub site : (once : Bool) {old : Part Cells} {i : ℕ} (es : Names KeptCell) (fs : Names FutureEntry) (next : ℕ) → ◌≡◌ {A = Part Cells} (record { hall = cells_seen es fs; next = next }) old → IsKept once es fs next → old.next ≤ i → i < 2 ^ 64 → Site once old i
+abbrev pub site : (once : Bool) {old : Part Cells} {i : ℕ} (es : Names KeptCell) (fs : Names FutureEntry) (next : ℕ) → ◌≡◌ {A = Part Cells} (record { hall = cells_seen es fs; next = next }) old → AreKeptCells once es fs next → old.next ≤ i → i < 2 ^ 64 → Site once old i
 site once es fs next view kept later fits = record { es = es; fs = fs; next = next; view = view; kept = kept; later = rw (← view) at later; fits = fits }
 
 abbrev pub part_of : Names KeptCell → Names FutureEntry → ℕ → Part Cells
@@ -165,9 +165,6 @@ module _ (once : Bool) {old : Part Cells} {i : ℕ} (s : Site once old i) where
   pub cell_there : (o : ℕ) → is_cell old.hall o ≡ true → IsSome (get s.es o)
   cell_there o is = cell_of once s.es s.fs s.next s.view o (get s.es o) refl ∙ is
 
-  pub its_cell : (f : ℕ) (x : FutureEntry) → get s.fs f ≡ Some x → IsSome (get s.es x.cell)
-  its_cell f x there = (s.kept.hall.firsts.at f x there).1
-
   pub job_is : (test : Job → Bool) (f : ℕ) (x : FutureEntry) → get s.fs f ≡ Some x → job_at test (get old.hall.futures f) ≡ true → test x.job ≡ true
   job_is test f x there is = job_of once s.es s.fs s.next s.view test f (Some x) there ∙ is
 
@@ -178,12 +175,12 @@ module _ (once : Bool) {old : Part Cells} {i : ℕ} (s : Site once old i) where
   low_old : (q : ℕ) (d : KeptCell) → get s.es q ≡ Some d → AreBelow d.cell.waits.wakers (i + 1)
   low_old q d there = below_more d.cell.waits.wakers s.next (i + 1) (s.kept.low q d there) (let later = s.later in omega arith)
 
-  pub rests : IsKept once s.es s.fs (i + 1)
+  pub rests : AreKeptCells once s.es s.fs (i + 1)
   rests = record { hall = halls.rests of_future of_none (Good once) (λ e. e.futures) s.es s.fs empty s.next i s.kept.hall s.later s.fits; low = low_old }
 
   -- ---- a cell is made
   pub made : (c : NamedCell) → IsNewCell c c.value
-      → IsKept once (insert s.es i (record { cell = c; running = None; futures = 0; alone = 0 })) s.fs (i + 1)
+      → AreKeptCells once (insert s.es i (record { cell = c; running = None; futures = 0; alone = 0 })) s.fs (i + 1)
       × PartRests registered old i (act_in old.hall i (Make c.value)) answers.Made (part_of (insert s.es i (record { cell = c; running = None; futures = 0; alone = 0 })) s.fs (i + 1))
   made c new =
       let e : KeptCell = record { cell = c; running = None; futures = 0; alone = 0 } in
@@ -225,14 +222,14 @@ module _ (once : Bool) {old : Part Cells} {i : ℕ} (s : Site once old i) where
         let here : weight (λ o e. keeps e) o (get s.es o) ≡ keeps e = ap (weight (λ o e. keeps e) o) there in
         omega (arith, here, total-insert (λ o e. keeps e) s.es o e')
 
-    turns : (e' : KeptCell) (fs' : Names FutureEntry) → Moves of_future o i s.fs fs' → AreKept once e' (own of_future o fs') → e'.futures ≤ e.futures + 1 → AreBelow e'.cell.waits.wakers (i + 1) → IsKept once (insert s.es o e') fs' (i + 1)
+    turns : (e' : KeptCell) (fs' : Names FutureEntry) → Moves of_future o i s.fs fs' → AreKept once e' (own of_future o fs') → e'.futures ≤ e.futures + 1 → AreBelow e'.cell.waits.wakers (i + 1) → AreKeptCells once (insert s.es o e') fs' (i + 1)
     turns e' fs' firsts good few low = record {
       hall = halls.turns of_future of_none (Good once) (λ e. e.futures) s.es s.fs empty s.next i s.kept.hall s.later s.fits o e e' fs' empty there firsts Stays good few;
       low = low_after (insert s.es o e') o e' refl low;
     }
 
     -- a look alone changes nothing
-    pub unchanged : (IsKept once (insert s.es o e) s.fs s.next) × (part_of (insert s.es o e) s.fs s.next ≡ old)
+    pub unchanged : (AreKeptCells once (insert s.es o e) s.fs s.next) × (part_of (insert s.es o e) s.fs s.next ≡ old)
     unchanged = rw (insert_same s.es o e there) (s.kept, s.view)
 
     pub told_full : PartRests registered old i (act_in old.hall i (TellFull o)) (if is_some e.cell.value then answers.Yes else answers.No) (part_of s.es s.fs (i + 1))
@@ -241,7 +238,7 @@ module _ (once : Bool) {old : Part Cells} {i : ℕ} (s : Site once old i) where
     pub told : PartRests registered old i (act_in old.hall i (Tell o)) (content e.cell.value) (part_of s.es s.fs (i + 1))
     told = rests_as (λ h. act_in h i (Tell o)) _ _ s.es s.fs (found_cell _) refl refl refl refl refl
 
-    pub peeked : (IsKept once (insert s.es o e) s.fs (i + 1)) × PartRests registered old i (act_in old.hall i (Peek o)) (content e.cell.value) (part_of (insert s.es o e) s.fs (i + 1))
+    pub peeked : (AreKeptCells once (insert s.es o e) s.fs (i + 1)) × PartRests registered old i (act_in old.hall i (Peek o)) (content e.cell.value) (part_of (insert s.es o e) s.fs (i + 1))
     peeked = rw (insert_same s.es o e there) (rests, rests_as (λ h. act_in h i (Peek o)) _ _ s.es s.fs (found_cell _) refl refl refl refl refl)
 
     -- ---- for who uses the whole cell
@@ -262,7 +259,7 @@ module _ (once : Bool) {old : Part Cells} {i : ℕ} (s : Site once old i) where
       low_there : AreBelow e.cell.waits.wakers (i + 1)
       low_there = low_old o e there
 
-      pub valued : (v : Option ℕ) → IsSoundCell (record e.cell { value = v }) → IsKept once (insert s.es o (record e { cell = record e.cell { value = v } })) s.fs (i + 1)
+      pub valued : (v : Option ℕ) → IsSoundCell (record e.cell { value = v }) → AreKeptCells once (insert s.es o (record e { cell = record e.cell { value = v } })) s.fs (i + 1)
       valued v sound = turns (record e { cell = record e.cell { value = v } }) s.fs Stays (revalued v sound) (omega arith) low_there
 
       pub taken : PartRests registered old i (act_in old.hall i (Take o)) (content e.cell.value) (part_of (insert s.es o (record e { cell = record e.cell { value = None } })) s.fs (i + 1))
@@ -275,7 +272,7 @@ module _ (once : Bool) {old : Part Cells} {i : ℕ} (s : Site once old i) where
           by_value None is = absurd (cc)
           by_value (Some u) is = refl
 
-      pub put_empty : (v : ℕ) → is_some e.cell.value ≡ false → (IsKept once (insert s.es o e) s.fs (i + 1)) × PartRests registered old i (act_in old.hall i (Put o v)) answers.Lacking (part_of (insert s.es o e) s.fs (i + 1))
+      pub put_empty : (v : ℕ) → is_some e.cell.value ≡ false → (AreKeptCells once (insert s.es o e) s.fs (i + 1)) × PartRests registered old i (act_in old.hall i (Put o v)) answers.Lacking (part_of (insert s.es o e) s.fs (i + 1))
       put_empty v none = rw (insert_same s.es o e there) (rests, rests_as (λ h. act_in h i (Put o v)) _ _ s.es s.fs (found_cell _ ∙ by_value e.cell.value none) refl refl refl refl refl)
         where
           by_value : (u : Option ℕ) → is_some u ≡ false → model.put_in seen_all o v (cell_seen e) u ≡ quietly seen_all answers.Lacking
@@ -284,12 +281,12 @@ module _ (once : Bool) {old : Part Cells} {i : ℕ} (s : Site once old i) where
 
       -- it is written where there is a value
       pub put_part : (v : ℕ) (b : Bool) (e' : KeptCell) → b ≡ is_some e.cell.value → (b ≡ true → e' ≡ record e { cell = record e.cell { value = Some v } }) → (is_some e.cell.value ≡ false → e' ≡ e) → IsSoundCell e'.cell
-          → (IsKept once (insert s.es o e') s.fs (i + 1)) × PartRests registered old i (act_in old.hall i (Put o v)) (if b then answers.Done else answers.Lacking) (part_of (insert s.es o e') s.fs (i + 1))
+          → (AreKeptCells once (insert s.es o e') s.fs (i + 1)) × PartRests registered old i (act_in old.hall i (Put o v)) (if b then answers.Done else answers.Lacking) (part_of (insert s.es o e') s.fs (i + 1))
       put_part v true e' is full empty_is sound = rw (full refl) (valued (Some v) (subst (λ (e : KeptCell). IsSoundCell e.cell) (full refl) sound), put_full v (sym is))
       put_part v false e' is full empty_is sound = rw (empty_is (sym is)) (put_empty v (sym is))
 
       -- it is gone
-      pub goes_kept : IsKept once (remove s.es o) s.fs (i + 1)
+      pub goes_kept : AreKeptCells once (remove s.es o) s.fs (i + 1)
       goes_kept = record {
         hall = halls.goes_out of_future of_none (Good once) (λ e. e.futures) s.es s.fs empty s.next i s.kept.hall s.later s.fits o e s.fs empty there Stays Stays (omega (arith, nothing, its_kept.tied.futures)) nobody_else;
         low = λ q d is. low_old q d (removed_there s.es o q d is);
@@ -312,7 +309,7 @@ module _ (once : Bool) {old : Part Cells} {i : ℕ} (s : Site once old i) where
 
     -- ---- a future of it is made
     pub begins_future : (x : FutureEntry) → x.cell ≡ o → x.stage ≡ New → x.wait ≡ None → fits once x.job ≡ true → in_the_way old.hall o x.job ≡ 0
-        → (IsKept once (insert s.es o (begun e x.job)) (insert s.fs i x) (i + 1)) × PartRests registered old i (act_in old.hall i (Begin o x.job)) answers.Made (part_of (insert s.es o (begun e x.job)) (insert s.fs i x) (i + 1))
+        → (AreKeptCells once (insert s.es o (begun e x.job)) (insert s.fs i x) (i + 1)) × PartRests registered old i (act_in old.hall i (Begin o x.job)) answers.Made (part_of (insert s.es o (begun e x.job)) (insert s.fs i x) (i + 1))
     begins_future x mine new unplaced fit free =
         let no_future = halls.no_first of_future of_none (Good once) (λ e. e.futures) s.es s.fs empty s.next i s.kept.hall s.later s.fits in
         let counted = kept_now (begun e x.job) in (
@@ -359,7 +356,7 @@ module _ (once : Bool) {old : Part Cells} {i : ℕ} (s : Site once old i) where
     seen_turned (Some y) = seen-insert future_seen s.fs f y
 
     module _ (p : Option FutureEntry) (step : Step) (answer : Answer) (e' : KeptCell) (before after : Waking ℕ) (stepped : Stepped once e (own of_future x.cell s.fs) s.next f x.cell p step answer e' before after) where
-      pub step_kept : IsKept once (insert s.es x.cell e') (turned_to s.fs f p) (i + 1)
+      pub step_kept : AreKeptCells once (insert s.es x.cell e') (turned_to s.fs f p) (i + 1)
       step_kept = turns x.cell e there e' (turned_to s.fs f p) (moves p stepped.mine) (rw (own_turned p stepped.mine) stepped.kept) stepped.few (below_more e'.cell.waits.wakers s.next (i + 1) stepped.low (let later = s.later in omega arith))
 
       step_yields : (out : Cells → Outcome Cells) → out seen_all ≡ model.applied seen_all f x.cell step → PartYields registered old i (out old.hall) answer (part_of (insert s.es x.cell e') (turned_to s.fs f p) (i + 1)) before after
@@ -379,7 +376,7 @@ module _ (once : Bool) {old : Part Cells} {i : ℕ} (s : Site once old i) where
     left_turned false y = refl
 
     pub polled : (w : ℕ) (b : Bool) (y : FutureEntry) (answer : Answer) (e' : KeptCell) (before after : Waking ℕ) → ((st : Stands once e f x) → Stepped once e st.fs st.n f x.cell (left_by b y) (model.poll f w (future_seen x) (cell_seen e)) answer e' before after)
-        → (IsKept once (insert s.es x.cell e') (if b then remove (insert s.fs f y) f else insert s.fs f y) (i + 1))
+        → (AreKeptCells once (insert s.es x.cell e') (if b then remove (insert s.fs f y) f else insert s.fs f y) (i + 1))
         × PartYields registered old i (act_in old.hall i (Poll f w)) answer (part_of (insert s.es x.cell e') (if b then remove (insert s.fs f y) f else insert s.fs f y) (i + 1)) before after
     polled w b y answer e' before after steps = rw (left_turned b y) (
       step_kept (left_by b y) _ answer e' before after (steps stands_there),
@@ -388,7 +385,7 @@ module _ (once : Bool) {old : Part Cells} {i : ℕ} (s : Site once old i) where
     )
 
     pub settled_part : (r : Initialiser) (y : FutureEntry) (e' : KeptCell) (before after : Waking ℕ) → ((st : Stands once e f x) → Stepped once e st.fs st.n f x.cell (Some y) (model.settle f r (future_seen x) (cell_seen e)) answers.Done e' before after)
-        → (IsKept once (insert s.es x.cell e') (insert s.fs f y) (i + 1)) × PartYields registered old i (act_in old.hall i (Settle f r)) answers.Done (part_of (insert s.es x.cell e') (insert s.fs f y) (i + 1)) before after
+        → (AreKeptCells once (insert s.es x.cell e') (insert s.fs f y) (i + 1)) × PartYields registered old i (act_in old.hall i (Settle f r)) answers.Done (part_of (insert s.es x.cell e') (insert s.fs f y) (i + 1)) before after
     settled_part r y e' before after steps = (
       step_kept (Some y) _ answers.Done e' before after (steps stands_there),
       step_yields (Some y) _ answers.Done e' before after (steps stands_there) (λ h. act_in h i (Settle f r))
@@ -396,7 +393,7 @@ module _ (once : Bool) {old : Part Cells} {i : ℕ} (s : Site once old i) where
     )
 
     pub ended : (e' : KeptCell) (before after : Waking ℕ) → ((st : Stands once e f x) → Stepped once e st.fs st.n f x.cell None (model.end f (future_seen x) (cell_seen e)) answers.Done e' before after)
-        → (IsKept once (insert s.es x.cell e') (remove s.fs f) (i + 1)) × PartYields registered old i (act_in old.hall i (End f)) answers.Done (part_of (insert s.es x.cell e') (remove s.fs f) (i + 1)) before after
+        → (AreKeptCells once (insert s.es x.cell e') (remove s.fs f) (i + 1)) × PartYields registered old i (act_in old.hall i (End f)) answers.Done (part_of (insert s.es x.cell e') (remove s.fs f) (i + 1)) before after
     ended e' before after steps = (
       step_kept None _ answers.Done e' before after (steps stands_there),
       step_yields None _ answers.Done e' before after (steps stands_there) (λ h. act_in h i (End f))
@@ -404,7 +401,7 @@ module _ (once : Bool) {old : Part Cells} {i : ℕ} (s : Site once old i) where
     )
 
     -- a look at a future and its cell changes nothing
-    pub looked : (IsKept once (insert s.es x.cell e) (insert s.fs f x) s.next) × (part_of (insert s.es x.cell e) (insert s.fs f x) s.next ≡ old)
+    pub looked : (AreKeptCells once (insert s.es x.cell e) (insert s.fs f x) s.next) × (part_of (insert s.es x.cell e) (insert s.fs f x) s.next ≡ old)
     looked = rw (insert_same s.es x.cell e there, insert_same s.fs f x future) (s.kept, s.view)
 
     -- who neither waits nor uses its cell alone asks for its turn
@@ -429,10 +426,6 @@ module _ (once : Bool) {old : Part Cells} {i : ℕ} (s : Site once old i) where
     pub fits_settled : (r : Initialiser) → FitsSettled once r → fits once (settled r x.job) ≡ true
     fits_settled r fit = at x.job ((stands_there.kept.tied.each f x stands_there.there).fits)
       where
-        nothing_given : (b : Bool) → once ≡ b → cond b (gives_nothing r) false ≡ cond b true false
-        nothing_given true is = fit is
-        nothing_given false is = refl
-
         at : (j : Job) → fits once j ≡ true → fits once (settled r j) ≡ true
         at (Calls q) is = by_kind once refl is
           where
@@ -446,7 +439,7 @@ module _ (once : Bool) {old : Part Cells} {i : ℕ} (s : Site once old i) where
         at Awaits is = is
 
 -- ---- no cell
-pub new_kept : (once : Bool) → IsKept once empty empty 0
+pub new_kept : (once : Bool) → AreKeptCells once empty empty 0
 new_kept once = record {
   hall = record {
     each = λ o e there. absurd (nothing_at KeptCell o e there);

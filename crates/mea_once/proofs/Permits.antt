@@ -7,12 +7,12 @@ use Rattle.std.specs.FinMap.{FinMap, get, insert, remove, entries, values}
 use Rattle.mea_base.specs.Totals.{total, weight}
 use Rattle.mea_base.proofs.Maps.{by_put, removed_none}
 use Rattle.mea_base.proofs.Totals.{total-insert, total-remove}
-use Rattle.mea_named.specs.declared.named_waker.NamedWaker.{NamedWaker}
+use Rattle.mea_by_name.specs.declared.named_waker.NamedWaker.{NamedWaker}
 use Rattle.mea_sem_core.specs.Core.{Core, Waiter, Acquires, Owes, AreApart, held_of, paid_to, paid_waiting, waiting}
 use Rattle.mea_sem_core.specs.Calls.{Queues, with_waker, without_acquire}
 use Rattle.mea_sem_core.specs.Ones.{AskForOne}
 use Rattle.mea_sem_core.proofs.Ones.{ones_append, ones_rewaked, ones_without}
-use Rattle.mea_linked.proofs.Waiters.{waiting-with}
+use Rattle.mea_cores_by_name.proofs.Waiters.{waiting-with}
 use Rattle.mea_once_core.specs.Permit.{IsNext, MayEnd, Leaves, HoldsAs, held_at, passed_to, passed_on}
 use Rattle.mea_once_core.specs.declared.stage.Stage.{Stage}
 use Rattle.mea_once_core.specs.declared.stage.Stage.TheVariants.{New, Queued, Running, Done}

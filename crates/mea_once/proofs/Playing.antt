@@ -1,10 +1,10 @@
 -- what is said of the things of one kind, and of all
 use Rattle.std.proofs.Common.{◌≡◌, ◌⊎◌, inl, inr, ℕ, ◌+◌, ◌≤◌, ◌++◌, length, true, false, Result, Ok, Err, IfOk, refl, ap, sym, subst, ◌∙◌, arith, append-nil}
-use Rattle.mea_base.specs.declared.answer.Answer.{Answer}
+use Rattle.mea_family.specs.declared.answer.Answer.{Answer}
 use Rattle.mea_base.specs.declared.no_memory.NoMemory.{NoMemory}
-use Rattle.mea_base.specs.Family.{Outcome}
+use Rattle.mea_family.specs.Family.{Outcome}
 use Rattle.mea_base.specs.Ready.{Waking}
-use Rattle.mea_named.specs.Play.{Part, PartYields, PartRests, Yields}
+use Rattle.mea_family.specs.Play.{Part, PartYields, PartRests, Yields}
 use Rattle.mea_once_model.specs.declared.event.OnceEvent.{OnceEvent}
 use Rattle.mea_once_model.specs.declared.event.OnceEvent.TheVariants.{OmNew, OmGet, OmCompute, OmPoll, OmSettle, OmFail, OmDiscard, OmRemove, OmEnd, OmDrop, SfNew, SfWork, SfPoll, SfSettle, SfFail, SfForget, SfEnd, SfDrop}
 use Rattle.mea_once_model.specs.declared.job.Initialiser.TheVariants.{Gives, Fails}

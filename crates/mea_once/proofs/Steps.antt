@@ -2,18 +2,18 @@
 use Rattle.std.proofs.Common.{◌≡◌, ℕ, ◌+◌, ◌-◌, ◌≤◌, ◌==◌, ◌++◌, inl, inr, Bool, true, false, not, cond, length, List, [], ◌∷◌, Option, Some, None, is_some, option_map, refl, ap, sym, subst, ◌∙◌, arith, if◌then◌else◌}
 use Rattle.std.specs.FinMap.{get, insert, remove}
 use Rattle.std.proofs.lemmas.List.{length-append}
-use Rattle.mea_base.specs.declared.answer.Answer.{Answer}
-use Rattle.mea_base.specs.declared.answer.Answer.TheVariants as answers
+use Rattle.mea_family.specs.declared.answer.Answer.{Answer}
+use Rattle.mea_family.specs.declared.answer.Answer.TheVariants as answers
 use Rattle.mea_base.specs.Ready.{Waking}
 use Rattle.mea_base.proofs.Maps.{total-has, by_put, get-there, get-other, get-gone, get-removed_other}
 use Rattle.mea_base.proofs.NamedMaps.{same_named}
-use Rattle.mea_named.specs.declared.named_waker.NamedWaker.{NamedWaker}
-use Rattle.mea_named.specs.ByName.{Names, seen}
-use Rattle.mea_named.specs.NamedQueue.{Waiting, waits, with_waker, without, wakers}
-use Rattle.mea_named.specs.LackingQueue.{who}
-use Rattle.mea_named.proofs.Cases.{if_true, if_false}
-use Rattle.mea_named.proofs.LackingQueues.{who-append, who-rewoken, who-leaving}
-use Rattle.mea_named.proofs.Own.{seen-at, seen-back}
+use Rattle.mea_by_name.specs.declared.named_waker.NamedWaker.{NamedWaker}
+use Rattle.mea_by_name.specs.ByName.{Names, seen}
+use Rattle.mea_by_name.specs.NamedQueue.{Waiting, waits, with_waker, without, wakers}
+use Rattle.mea_by_name.specs.LackingQueue.{who}
+use Rattle.mea_by_name.proofs.Cases.{if_true, if_false}
+use Rattle.mea_by_name.proofs.LackingQueues.{who-append, who-rewoken, who-leaving}
+use Rattle.mea_by_name.proofs.Own.{seen-at, seen-back}
 use Rattle.mea_sem_core.specs.declared.acquire.Acquire.{Acquire}
 use Rattle.mea_sem_core.specs.declared.acquire.Acquire.TheVariants as acquire
 use Rattle.mea_sem_core.specs.Core.{Core, Acquires, held_of}
@@ -22,10 +22,10 @@ use Rattle.mea_sem_core.specs.Calls.{without_acquire}
 use Rattle.mea_sem_core.specs.Ones.{AskForOne}
 use Rattle.mea_sets.specs.declared.place.Place.{Place}
 use Rattle.mea_sets.specs.WaitSet.{Registered, is_registered}
-use Rattle.mea_linked.specs.Linked.{names_in, Linked}
-use Rattle.mea_linked.specs.SetLinked.{SlotIs, AreBelow, SetLinked, names_of, set_names}
-use Rattle.mea_linked.proofs.Linking.{unqueued_waits, queued_waits, queued_with, queued_without, linked_gone, linked_begun, linked_pushed, linked_again, linked_taken, linked_left, push-names}
-use Rattle.mea_linked.proofs.Sets.{drained_links}
+use Rattle.mea_cores_by_name.specs.Linked.{names_in, Linked}
+use Rattle.mea_cores_by_name.specs.SetLinked.{SlotIs, AreBelow, SetLinked, names_of, set_names}
+use Rattle.mea_cores_by_name.proofs.Linking.{unqueued_waits, queued_waits, queued_with, queued_without, linked_gone, linked_begun, linked_pushed, linked_again, linked_taken, linked_left, push-names}
+use Rattle.mea_cores_by_name.proofs.Sets.{drained_links}
 use Rattle.mea_once_core.specs.Permit.{IsNext, IsWaiting, Leaves, HoldsAs, held_at, passed_on}
 use Rattle.mea_once_core.specs.declared.stage.Stage.{Stage}
 use Rattle.mea_once_core.specs.declared.stage.Stage.TheVariants.{New, Queued, Running, Done}
@@ -37,7 +37,7 @@ use Rattle.mea_once_model.specs.declared.job.Job.TheVariants.{Calls, Computes, A
 use Rattle.mea_once_model.specs.Cells as model
 use Rattle.mea_once_model.specs.Cells.{Cell, CellFuture, Step, init_of, is_alone, passed, woken_next, given_up, found_full, has_filled}
 use Rattle.mea_once.specs.declared.future_entry.FutureEntry.{FutureEntry}
-use Rattle.mea_once.specs.declared.told.Told.{Told}
+use Rattle.mea_once.specs.declared.poll_reply.PollReply.{PollReply}
 use Rattle.mea_once.specs.Cores.{NamedCell, IsSoundCell, TurnsTo, FindsFull, FindsLate, TakesFree, TakesNext, GoesOn, LinesUp, WaitsOn, TurnsCell, TurnFits, TurnIsQuiet, Drains, LeavesCell}
 use Rattle.mea_once.specs.Entries.{KeptCell, finished, stopped, runs, of_running, keeps, HandsOn, Ran, Follows, left_by}
 use Rattle.mea_once.specs.Parts.{is_polled, cell_seen, future_seen, runner_of, is_caller, is_wait, acquire_at, acquire_of, runs_at, is_running, StageFits, MayRun, Tied, AreKept, Stands, Stepped, turned_to, IsOf}
@@ -294,7 +294,7 @@ module _ (once : Bool) (e : KeptCell) (f : ℕ) (x : FutureEntry) (s : Stands on
     none_runs : e.running ≡ None
     none_runs = nobody_runs once e1 (insert s.fs f y) mid f y (get-there s.fs f y) idle may (held_few p sound.permit)
 
-    pub run_makes : (r : Initialiser) (told : Told) (e2 : KeptCell) → Ran r e1 waker x.job told e2 → Makes once e s.fs s.n f x.cell 1 told.answer (left_by told.over y) (model.run f w seen_future (cell_seen e1) r) e2
+    pub run_makes : (r : Initialiser) (told : PollReply) (e2 : KeptCell) → Ran r e1 waker x.job told e2 → Makes once e s.fs s.n f x.cell 1 told.answer (left_by told.over y) (model.run f w seen_future (cell_seen e1) r) e2
     run_makes Unsettled told e2 ran = rw (ran.0, ran.1) (record {
       replied = refl;
       cell = λ i. record { value = e.cell.value; taken = p.free == 0; queue = who (names_in p.queue); runner = runner_of (sym none_runs i) ++ (f, w) ∷ []; waits = set_names e.cell.waits };
@@ -328,7 +328,7 @@ module _ (once : Bool) (e : KeptCell) (f : ℕ) (x : FutureEntry) (s : Stands on
     k = record { future = f; waker = w }
 
     abbrev Polled : CellTurn NamedWaker → Core NamedWaker → Stage → Type 0
-    Polled turn p t = HoldsAs permit x.stage p t → IsSoundCell (record e.cell { permit = p }) → (told : Told) (e2 : KeptCell) → Follows turn (record e { cell = record e.cell { permit = p } }) k x.job told e2
+    Polled turn p t = HoldsAs permit x.stage p t → IsSoundCell (record e.cell { permit = p }) → (told : PollReply) (e2 : KeptCell) → Follows turn (record e { cell = record e.cell { permit = p } }) k x.job told e2
         → Makes once e s.fs s.n f x.cell 1 told.answer (left_by told.over (record x { stage = t })) (model.poll f w seen_future seen_cell) e2
 
     abbrev Polls : Step
@@ -412,7 +412,7 @@ module _ (once : Bool) (e : KeptCell) (f : ℕ) (x : FutureEntry) (s : Stands on
     at_stage Running is turn p t turns_as = at_running turn p t is turns_as
     at_stage Done is turn p t turns_as = absurd (let fits_now = fits_any (is_caller x.job) x.stage (tie.each f x s.there).stage in subst (StageFits true) is fits_now)
 
-    pub polls_make : (turn : CellTurn NamedWaker) (c : NamedCell) (t : Stage) → TurnsCell e.cell x.stage k turn c t → (told : Told) (e2 : KeptCell) → Follows turn (record e { cell = c }) k x.job told e2
+    pub polls_make : (turn : CellTurn NamedWaker) (c : NamedCell) (t : Stage) → TurnsCell e.cell x.stage k turn c t → (told : PollReply) (e2 : KeptCell) → Follows turn (record e { cell = c }) k x.job told e2
         → Makes once e s.fs s.n f x.cell 1 told.answer (left_by told.over (record x { stage = t })) Polls e2
     polls_make turn c t turned_as told e2 follows = at_stage x.stage refl turn c.permit t turned_as.turns turned_as.held (rw turned_as.rest at turned_as.sound) told e2 (rw turned_as.rest at follows)
 
@@ -514,11 +514,11 @@ end_steps once e e2 new f x c more before after s left is all hands =
     handed once e s.fs s.n f x.cell 0 answers.Done None (model.end f (future_seen x) (cell_seen e)) e2 new before before after (rw is (ends_make once e f x s c left)) (rw exactly at hands) refl (omega arith)
 
 -- a caller whose initialiser keeps no waker was polled
-pub polled_fits : (once : Bool) (e e2 : KeptCell) (f w : ℕ) (x : FutureEntry) (turn : CellTurn NamedWaker) (c : NamedCell) (t : Stage) (told : Told) (more : ℕ) → Stands once e f x → is_caller x.job ≡ true → runs e.running f ≡ false
+pub polled_fits : (once : Bool) (e e2 : KeptCell) (f w : ℕ) (x : FutureEntry) (turn : CellTurn NamedWaker) (c : NamedCell) (t : Stage) (told : PollReply) (more : ℕ) → Stands once e f x → is_caller x.job ≡ true → runs e.running f ≡ false
     → TurnsCell e.cell x.stage (record { future = f; waker = w }) turn c t → Follows turn (record e { cell = c }) (record { future = f; waker = w }) x.job told e2 → more ≡ keeps e + 1 → keeps e2 + length e2.cell.permit.wakes ≤ more
 polled_fits once e e2 f w x turn c t told more s caller idle turned_as follows all = rw all (polls_make once e f x s caller w idle turn c t turned_as told e2 follows).fit
 
-pub polled_steps : (once : Bool) (e e2 new : KeptCell) (f w : ℕ) (x y : FutureEntry) (turn : CellTurn NamedWaker) (c : NamedCell) (t : Stage) (told : Told) (more : ℕ) (before ready after : Waking ℕ) (s : Stands once e f x) → is_caller x.job ≡ true → runs e.running f ≡ false
+pub polled_steps : (once : Bool) (e e2 new : KeptCell) (f w : ℕ) (x y : FutureEntry) (turn : CellTurn NamedWaker) (c : NamedCell) (t : Stage) (told : PollReply) (more : ℕ) (before ready after : Waking ℕ) (s : Stands once e f x) → is_caller x.job ≡ true → runs e.running f ≡ false
     → TurnsCell e.cell x.stage (record { future = f; waker = w }) turn c t → Follows turn (record e { cell = c }) (record { future = f; waker = w }) x.job told e2 → (told.over ≡ false → y ≡ record x { stage = t }) → more ≡ keeps e + 1
     → ready ≡ record before { registered = before.registered + 1 } → HandsOn e2 new more ready after → Stepped once e s.fs s.n f x.cell (left_by told.over y) (model.poll f w (future_seen x) (cell_seen e)) told.answer new before after
 polled_steps once e e2 new f w x y turn c t told more before ready after s caller idle turned_as follows stays all grown hands =

@@ -3,23 +3,23 @@ use Rattle.std.proofs.Common.{◌≡◌, ℕ, ◌+◌, ◌<◌, ◌≤◌, ◌^�
 use Rattle.std.specs.Option.{IsSome}
 use Rattle.std.specs.FinMap.{get, insert, remove, len, empty, len-empty, get-empty}
 use Rattle.std.specs.Ordering.{nat_cmp}
-use Rattle.mea_base.specs.Causes.{borrowed_by}
-use Rattle.mea_base.specs.declared.answer.Answer.{Answer}
-use Rattle.mea_base.specs.declared.answer.Answer.TheVariants as answers
-use Rattle.mea_base.specs.declared.stop.Stop.TheVariants as stops
-use Rattle.mea_base.specs.Family.{Outcome, quietly}
+use Rattle.mea_family.specs.Causes.{borrowed_by}
+use Rattle.mea_family.specs.declared.answer.Answer.{Answer}
+use Rattle.mea_family.specs.declared.answer.Answer.TheVariants as answers
+use Rattle.mea_family.specs.declared.stop.Stop.TheVariants as stops
+use Rattle.mea_family.specs.Family.{Outcome, quietly}
 use Rattle.mea_base.specs.Ready.{Waking}
 use Rattle.mea_base.specs.Totals.{total, weight}
 use Rattle.mea_base.proofs.Maps.{by_put, total-has, nothing_at, inside, removed_there, get-there, get-other}
 use Rattle.mea_base.proofs.Totals.{total-insert, total-remove, total-same, total-plus, total-zero, total-empty}
 use Rattle.mea_base.proofs.NamedMaps.{is_some-map, get-seen, same_named}
-use Rattle.mea_named.specs.ByName.{Names, seen, own, count}
-use Rattle.mea_named.specs.NamedQueue as named_queue
-use Rattle.mea_named.specs.HallKept.{HallKept}
-use Rattle.mea_named.specs.Play.{Part, PartYields, PartRests, found, content}
-use Rattle.mea_named.proofs.Cases.{found_is}
-use Rattle.mea_named.proofs.Halls as halls
-use Rattle.mea_named.proofs.Own.{count-least, seen-at, seen-empty, seen-insert, seen-remove, seen-alike, own-seen, len-seen, len-new, total-seen, own-at, own-had, own-none, own-put, own-gone, own-empty, insert_same, put_gone, Moves, Stays, Comes, Goes}
+use Rattle.mea_by_name.specs.ByName.{Names, seen, own, count}
+use Rattle.mea_by_name.specs.NamedQueue as named_queue
+use Rattle.mea_by_name.specs.HallKept.{HallKept}
+use Rattle.mea_family.specs.Play.{Part, PartYields, PartRests, found, content}
+use Rattle.mea_by_name.proofs.Cases.{found_is}
+use Rattle.mea_by_name.proofs.Halls as halls
+use Rattle.mea_by_name.proofs.Own.{count-least, seen-at, seen-empty, seen-insert, seen-remove, seen-alike, own-seen, len-seen, len-new, total-seen, own-at, own-had, own-none, own-put, own-gone, own-empty, insert_same, put_gone, Moves, Stays, Comes, Goes}
 use Rattle.mea_once_core.specs.Table.{entry_at}
 use Rattle.mea_once_core.specs.Waiting.{waiting_at, waiting_in}
 use Rattle.mea_once_core.proofs.Waits.{same-waiting}
@@ -39,7 +39,7 @@ use Rattle.mea_once.specs.KeyCores.{NamedKeyed}
 use Rattle.mea_once.specs.KeyEntries.{KeptTable, IsSameTable}
 use Rattle.mea_once.specs.Lends.{StandsForTable, IsRoundOf}
 use Rattle.mea_once_core.specs.Links.{Shown}
-use Rattle.mea_named.specs.declared.named_waker.NamedWaker.{NamedWaker}
+use Rattle.mea_by_name.specs.declared.named_waker.NamedWaker.{NamedWaker}
 use Rattle.mea_once.specs.Parts as parts
 use Rattle.mea_once.specs.Parts.{of_none}
 use Rattle.mea_once.specs.KeyParts.{values_in, callers_of, kept_cell, round_seen, round_in, table_seen, key_future_seen, tables_seen, IsRound, IsKey, Absent, Computing, Valued, value_of, waiting_of, AreTogether, table_keeps, RoundsBelow, others, turned_to, left_by, IsOfTable, StandsTable, SteppedTable, of_table, AreTables, IsNewKeyed}
@@ -166,9 +166,6 @@ module _ (once : Bool) {old : Part Tables} {i : ℕ} (s : Site once old i) where
 
   pub table_there : (o : ℕ) → is_table old.hall o ≡ true → IsSome (get s.es o)
   table_there o is = table_of once s.es s.fs s.next s.view o (get s.es o) refl ∙ is
-
-  pub its_table : (f : ℕ) (x : KeyFuture) → get s.fs f ≡ Some x → IsSome (get s.es x.table)
-  its_table f x there = (s.kept.hall.firsts.at f x there).1
 
   low_after : (o : ℕ) (e' : KeptTable) → RoundsBelow e' (i + 1) → (q : ℕ) (d : KeptTable) → get (insert s.es o e') q ≡ Some d → RoundsBelow d (i + 1)
   low_after o e' low q d there = by_put s.es o e' (λ q p. p ≡ Some d → RoundsBelow d (i + 1)) (λ it. subst (λ (e : KeptTable). RoundsBelow e (i + 1)) (inside it) low)

@@ -3,7 +3,7 @@ use Rattle.std.proofs.Common.{◌≡◌, ℕ, ◌⊎◌, inl, inr, ◌++◌, Boo
 use Rattle.std.specs.Option.{option_map}
 use Rattle.std.proofs.lemmas.Bool.{cases_lt}
 use Rattle.mea_base.proofs.NamedMaps.{is_some-map}
-use Rattle.mea_named.specs.declared.named_waker.NamedWaker.{NamedWaker}
+use Rattle.mea_by_name.specs.declared.named_waker.NamedWaker.{NamedWaker}
 use Rattle.mea_sem_core.specs.Core.{Core}
 use Rattle.mea_sets.specs.Countdown.{Count}
 use Rattle.mea_sets.specs.Poll.{Ready, Pending}
@@ -32,11 +32,6 @@ fails_by Unsettled a e told it = absurd (cc)
 fails_by (Gives u) a e told it = absurd (let other : Ok u ≡ a = cc in cc)
 fails_by (Fails x) a e told it = let same : x ≡ e = cc in ap (λ v. Fails v) same
 
-pub open_by : (r : Initialiser) → answer_of r ≡ Pending → r ≡ Unsettled
-open_by Unsettled is = refl
-open_by (Gives u) is = absurd (cc)
-open_by (Fails x) is = absurd (cc)
-
 pub as_one : (s : Core NamedWaker) → IsPermit s → IsOnePermit s
 as_one s is = record { one = is.one; asks = is.asks; apart = is.sound.apart; granted_apart = is.sound.granted_apart; total = is.sound.total }
 
@@ -51,11 +46,11 @@ as_turned : (full : Bool) (s : Core NamedWaker) (w : NamedWaker) (stage : Stage)
 as_turned full s w stage turn t q p after a is same left at = rw (same, left, at) is
 
 module _ {T : Type 0} where
-  abbrev Told : Option T → Core NamedWaker → NamedWaker → Stage → CellTurn NamedWaker → Cell T NamedWaker → Stage → Type 0
-  Told v s w stage turn c' after = TurnsTo (is_some v) s w stage turn c'.permit after × (c'.value ≡ v)
+  abbrev TurnsWith : Option T → Core NamedWaker → NamedWaker → Stage → CellTurn NamedWaker → Cell T NamedWaker → Stage → Type 0
+  TurnsWith v s w stage turn c' after = TurnsTo (is_some v) s w stage turn c'.permit after × (c'.value ≡ v)
 
-  new_to : (v : Option T) (s : Core NamedWaker) (c' : Cell T NamedWaker) (w : NamedWaker) (turn : CellTurn NamedWaker) (after : Stage) → IsPermit s → PollsTurn New (record { value = v; permit = s }) w (Ok turn) c' after → Told v s w New turn c' after
-  new_to None s c' w turn after is polls = elim (free_or_taken s (as_one s is)) as (λ x. Told None s w New turn c' after) [
+  new_to : (v : Option T) (s : Core NamedWaker) (c' : Cell T NamedWaker) (w : NamedWaker) (turn : CellTurn NamedWaker) (after : Stage) → IsPermit s → PollsTurn New (record { value = v; permit = s }) w (Ok turn) c' after → TurnsWith v s w New turn c' after
+  new_to None s c' w turn after is polls = elim (free_or_taken s (as_one s is)) as (λ x. TurnsWith None s w New turn c' after) [
     | inl one ↦
         let h = polls.0 one in
         let told : turn ≡ turns.Mine w = let same = h.0 in cc in
@@ -69,7 +64,7 @@ module _ {T : Type 0} where
       (as_turned true s w New turn _ c'.permit _ after Done (FindsFull refl) told (ap (λ (c : Cell T NamedWaker). c.permit) polls.1) polls.2, ap (λ (c : Cell T NamedWaker). c.value) polls.1)
 
   queued_to : (v : Option T) (s : Core NamedWaker) (n : ℕ) (c' : Cell T NamedWaker) (w : NamedWaker) (turn : CellTurn NamedWaker) (after : Stage) → MayPoll s (Queued n)
-      → PollsTurn (Queued n) (record { value = v; permit = s }) w (Ok turn) c' after → Told v s w (Queued n) turn c' after
+      → PollsTurn (Queued n) (record { value = v; permit = s }) w (Ok turn) c' after → TurnsWith v s w (Queued n) turn c' after
   queued_to None s n c' w turn after (inl next) polls =
       let h = polls.0 next in
       let told : turn ≡ turns.Mine w = let same = h.0 in cc in
@@ -83,7 +78,7 @@ module _ {T : Type 0} where
       let told : turn ≡ turns.Pending = let same = h.0 in cc in
       (as_turned (is_some v) s w (Queued n) turn _ c'.permit _ after (Queued n) (WaitsOn n waits) told (ap (λ (c : Cell T NamedWaker). c.permit) h.1) h.2, ap (λ (c : Cell T NamedWaker). c.value) h.1)
 
-  pub turns_to : (stage : Stage) (c c' : Cell T NamedWaker) (w : NamedWaker) (turn : CellTurn NamedWaker) (after : Stage) → cells.IsSound c → MayPoll c.permit stage → PollsTurn stage c w (Ok turn) c' after → Told c.value c.permit w stage turn c' after
+  pub turns_to : (stage : Stage) (c c' : Cell T NamedWaker) (w : NamedWaker) (turn : CellTurn NamedWaker) (after : Stage) → cells.IsSound c → MayPoll c.permit stage → PollsTurn stage c w (Ok turn) c' after → TurnsWith c.value c.permit w stage turn c' after
   turns_to New c c' w turn after sound may polls = new_to c.value c.permit c' w turn after sound.permit polls
   turns_to (Queued n) c c' w turn after sound may polls = queued_to c.value c.permit n c' w turn after may polls
   turns_to Running c c' w turn after sound may polls =

@@ -1,11 +1,11 @@
 -- what a hall keeps of a cell, and what the calls of its entry do
 use Rattle.std.specs.Prelude.{ℕ, ◌≡◌, ◌+◌, ◌-◌, ◌==◌, ◌++◌, Bool, true, false, cond, [], ◌∷◌, length, map, Option, Some, None, refl}
 use Rattle.std.specs.Coded.{Coded, code_by, coded×, coded_ℕ, coded_option}
-use Rattle.mea_base.specs.declared.answer.Answer.{Answer}
-use Rattle.mea_base.specs.declared.answer.Answer.TheVariants as answers
+use Rattle.mea_family.specs.declared.answer.Answer.{Answer}
+use Rattle.mea_family.specs.declared.answer.Answer.TheVariants as answers
 use Rattle.mea_base.specs.Ready.{Waking}
-use Rattle.mea_named.specs.declared.named_waker.NamedWaker.{NamedWaker}
-use Rattle.mea_named.specs.NamedWaker.{waker_code}
+use Rattle.mea_by_name.specs.declared.named_waker.NamedWaker.{NamedWaker}
+use Rattle.mea_by_name.specs.NamedWaker.{waker_code}
 use Rattle.mea_sem_core.specs.Core.{core_code}
 use Rattle.mea_sets.specs.WaitSet.{registered_code}
 use Rattle.mea_once_core.specs.declared.cell_turn.CellTurn.{CellTurn}
@@ -15,7 +15,7 @@ use Rattle.mea_once_model.specs.declared.job.Initialiser.TheVariants.{Unsettled,
 use Rattle.mea_once_model.specs.declared.job.Job.{Job}
 use Rattle.mea_once_model.specs.Cells.{init_of, is_alone, found_full, has_filled}
 use Rattle.mea_once.specs.declared.future_entry.FutureEntry.{FutureEntry}
-use Rattle.mea_once.specs.declared.told.Told.{Told}
+use Rattle.mea_once.specs.declared.poll_reply.PollReply.{PollReply}
 use Rattle.mea_once.specs.Cores.{NamedCell, FillsCell, GivesUpCell}
 
 -- a cell, the waker that an initialiser of its callers keeps, and how many futures it has, and how many of them use it
@@ -76,14 +76,14 @@ pub record HandsOn (old new : KeptCell) (more : ℕ) (before after : Waking ℕ)
   pub wakers : after.wakers ≡ before.wakers ++ map (λ (k : NamedWaker). k.waker) old.cell.permit.wakes
   pub counted : after.registered + more ≡ before.registered + keeps old
 
-abbrev pub pending : Told
+abbrev pub pending : PollReply
 pending = record { answer = answers.Pending; over = false }
 
-abbrev pub over : Answer → Told
+abbrev pub over : Answer → PollReply
 over reply = record { answer = reply; over = true }
 
 -- the initialiser of a future whose turn it is ran
-abbrev pub Ran : Initialiser → KeptCell → NamedWaker → Job → Told → KeptCell → Type 0
+abbrev pub Ran : Initialiser → KeptCell → NamedWaker → Job → PollReply → KeptCell → Type 0
 Ran Unsettled e k job told e' = (told ≡ pending) × (e' ≡ record e { running = Some k })
 Ran (Gives v) e k job told e' =
     (c : NamedCell) × FillsCell e.cell v c × (told ≡ over (has_filled job v)) × (e' ≡ finished (stopped (record e { cell = c }) k.future) job)
@@ -91,7 +91,7 @@ Ran (Fails x) e k job told e' =
     (c : NamedCell) × GivesUpCell e.cell c × (told ≡ over (answers.Failure x)) × (e' ≡ finished (stopped (record e { cell = c }) k.future) job)
 
 -- what follows from a poll for one's turn
-abbrev pub Follows : CellTurn NamedWaker → KeptCell → NamedWaker → Job → Told → KeptCell → Type 0
+abbrev pub Follows : CellTurn NamedWaker → KeptCell → NamedWaker → Job → PollReply → KeptCell → Type 0
 Follows turns.Pending e k job told e' = (told ≡ pending) × (e' ≡ e)
 Follows turns.Full e k job told e' = (v : ℕ) × (e.cell.value ≡ Some v) × (told ≡ over (found_full job v)) × (e' ≡ finished (stopped e k.future) job)
 Follows (turns.Mine k') e k job told e' = Ran (init_of job) e k job told e'
@@ -102,7 +102,7 @@ left_by true x = None
 left_by false x = Some x
 
 -- the initialiser of a future that uses the cell alone ran, where that was empty
-abbrev pub RanAlone : Option ℕ → Initialiser → KeptCell → NamedWaker → Job → Told → KeptCell → Type 0
+abbrev pub RanAlone : Option ℕ → Initialiser → KeptCell → NamedWaker → Job → PollReply → KeptCell → Type 0
 RanAlone (Some v) r e k job told e' = (told ≡ over (found_full job v)) × (e' ≡ finished (stopped e k.future) job)
 RanAlone None Unsettled e k job told e' = (told ≡ pending) × (e' ≡ record e { running = Some k })
 RanAlone None (Gives v) e k job told e' =

@@ -1,8 +1,8 @@
 -- the things of all kinds, and what an event does to them
 use Rattle.std.specs.Prelude.{ℕ, ◌≡◌, ◌≤◌}
-use Rattle.mea_base.specs.declared.answer.Answer.{Answer}
+use Rattle.mea_family.specs.declared.answer.Answer.{Answer}
 use Rattle.mea_base.specs.Ready.{Waking}
-use Rattle.mea_named.specs.Play.{Part, PartYields}
+use Rattle.mea_family.specs.Play.{Part, PartYields}
 use Rattle.mea_once_model.specs.declared.event.OnceEvent.{OnceEvent}
 use Rattle.mea_once_model.specs.Cells as cells
 use Rattle.mea_once_model.specs.Cells.{Cells}

@@ -2,11 +2,11 @@
 use Rattle.std.specs.Prelude.{ℕ, ◌≡◌, ◌+◌, ◌-◌, ◌==◌, ◌++◌, Bool, false, cond, [], map, Option, Some, None, Result, Ok, Err, nat_eq, refl}
 use Rattle.std.specs.Coded.{Coded, code_by, coded×, coded_ℕ, coded_option}
 use Rattle.std.specs.FinMap.{get, insert, remove}
-use Rattle.mea_base.specs.declared.answer.Answer.TheVariants as answers
+use Rattle.mea_family.specs.declared.answer.Answer.TheVariants as answers
 use Rattle.mea_base.specs.Ready.{Waking}
 use Rattle.mea_sets.specs.Poll.{Poll, Ready, Pending}
-use Rattle.mea_named.specs.declared.named_waker.NamedWaker.{NamedWaker}
-use Rattle.mea_named.specs.ByName.{Names, names_code}
+use Rattle.mea_by_name.specs.declared.named_waker.NamedWaker.{NamedWaker}
+use Rattle.mea_by_name.specs.ByName.{Names, names_code}
 use Rattle.mea_once_core.specs.Keyed.{keyed_code, IsSameKeyed}
 use Rattle.mea_once_core.specs.Waiting.{waiting_in}
 use Rattle.mea_once_core.specs.declared.key_call.KeyStage.{KeyStage}
@@ -16,9 +16,9 @@ use Rattle.mea_once_core.specs.declared.stage.Stage.TheVariants as stages
 use Rattle.mea_once_model.specs.Tables.{is_this}
 use Rattle.mea_once.specs.declared.key_future.KeyFuture.{KeyFuture}
 use Rattle.mea_once.specs.declared.round.Round.{Round}
-use Rattle.mea_once.specs.declared.told.Told.{Told}
+use Rattle.mea_once.specs.declared.poll_reply.PollReply.{PollReply}
 use Rattle.mea_once.specs.KeyCores.{NamedKeyed}
-use Rattle.mea_named.specs.NamedWaker.{waker_code}
+use Rattle.mea_by_name.specs.NamedWaker.{waker_code}
 use Rattle.mea_once.specs.Entries.{of_running, runs, pending, over}
 
 -- a map or a group: its core, the current round of each key that is being computed, its rounds, and how many futures it has
@@ -90,7 +90,7 @@ abbrev pub stayed : Round → KeyFuture → NamedWaker → Round
 stayed r x k = record r { entry = entry_in x.call.stage r.entry; running = running_in x.call.call.stage r.running k }
 
 -- what follows from a poll of a caller of round n
-abbrev pub FollowsKey : Poll (Result ℕ ℕ) → KeptTable → ℕ → Round → KeyFuture → NamedWaker → Told → KeptTable → KeyFuture → Type 0
+abbrev pub FollowsKey : Poll (Result ℕ ℕ) → KeptTable → ℕ → Round → KeyFuture → NamedWaker → PollReply → KeptTable → KeyFuture → Type 0
 FollowsKey Pending e n r x k told e' x' = (told ≡ pending) × (e' ≡ record e { rounds = insert e.rounds n (stayed r x k) }) × (x' ≡ record x { round = Some n })
 FollowsKey (Ready (Ok v)) e n r x k told e' x' = (told ≡ over (answers.Value v)) × (e' ≡ one_future_less (left_round (closed e x.key n) x.key n r))
 FollowsKey (Ready (Err z)) e n r x k told e' x' = (told ≡ over (answers.Failure z)) × (e' ≡ one_future_less (left_round e x.key n r))

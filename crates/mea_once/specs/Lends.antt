@@ -6,10 +6,10 @@ use Rattle.mea_once_core.specs.Table.{entry_at, number_of}
 use Rattle.mea_once_core.specs.Keyed.{value_for}
 use Rattle.mea_once_model.specs.Cells.{Cells, Cell}
 use Rattle.mea_once_model.specs.Tables.{Tables, Table}
-use Rattle.mea_named.specs.LackingQueue.{who}
-use Rattle.mea_linked.specs.Linked.{names_in}
-use Rattle.mea_linked.specs.SetLinked.{set_names}
-use Rattle.mea_named.specs.declared.named_waker.NamedWaker.{NamedWaker}
+use Rattle.mea_by_name.specs.LackingQueue.{who}
+use Rattle.mea_cores_by_name.specs.Linked.{names_in}
+use Rattle.mea_cores_by_name.specs.SetLinked.{set_names}
+use Rattle.mea_by_name.specs.declared.named_waker.NamedWaker.{NamedWaker}
 use Rattle.mea_once.specs.Cores.{NamedCell}
 use Rattle.mea_once.specs.KeyCores.{NamedKeyed}
 use Rattle.std.specs.Prelude.{◌==◌}

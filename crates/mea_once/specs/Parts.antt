@@ -2,19 +2,19 @@
 use Rattle.std.specs.Prelude.{ℕ, ◌≡◌, ◌+◌, ◌≤◌, ◌<◌, ◌==◌, ◌++◌, Bool, true, false, cond, [], ◌∷◌, Option, Some, None}
 use Rattle.std.specs.Option.{option_map}
 use Rattle.std.specs.FinMap.{get, len, insert, remove, empty}
-use Rattle.mea_base.specs.declared.answer.Answer.{Answer}
+use Rattle.mea_family.specs.declared.answer.Answer.{Answer}
 use Rattle.mea_base.specs.Ready.{Waking}
-use Rattle.mea_named.specs.declared.named_waker.NamedWaker.{NamedWaker}
-use Rattle.mea_named.specs.ByName.{Names, seen, count}
-use Rattle.mea_named.specs.NamedQueue.{Waiting}
-use Rattle.mea_named.specs.LackingQueue.{who}
-use Rattle.mea_named.specs.HallKept.{HallKept}
+use Rattle.mea_by_name.specs.declared.named_waker.NamedWaker.{NamedWaker}
+use Rattle.mea_by_name.specs.ByName.{Names, seen, count}
+use Rattle.mea_by_name.specs.NamedQueue.{Waiting}
+use Rattle.mea_by_name.specs.LackingQueue.{who}
+use Rattle.mea_by_name.specs.HallKept.{HallKept}
 use Rattle.mea_sem_core.specs.Core.{held_of}
 use Rattle.mea_sem_core.specs.declared.acquire.Acquire.{Acquire}
 use Rattle.mea_sem_core.specs.declared.acquire.Acquire.TheVariants as acquire
 use Rattle.mea_sets.specs.WaitSet.{Registered}
-use Rattle.mea_linked.specs.Linked.{names_in, Linked}
-use Rattle.mea_linked.specs.SetLinked.{set_names, SlotIs, AreBelow}
+use Rattle.mea_cores_by_name.specs.Linked.{names_in, Linked}
+use Rattle.mea_cores_by_name.specs.SetLinked.{set_names, SlotIs, AreBelow}
 use Rattle.mea_once_core.specs.declared.stage.Stage.{Stage}
 use Rattle.mea_once_core.specs.declared.stage.Stage.TheVariants.{New, Queued, Running, Done}
 use Rattle.mea_once_model.specs.declared.job.Initialiser.{Initialiser}
@@ -175,7 +175,7 @@ of_future x = x.cell
 abbrev pub of_none : ℕ → ℕ
 of_none k = k
 
-pub record IsKept (once : Bool) (es : Names KeptCell) (fs : Names FutureEntry) (next : ℕ) : Type 0 where
+pub record AreKeptCells (once : Bool) (es : Names KeptCell) (fs : Names FutureEntry) (next : ℕ) : Type 0 where
   pub hall : HallKept of_future of_none (λ e xs ys. AreKept once e xs) (λ e. e.futures) es fs empty next
   -- the names of those who wait until a cell is full, also of those that have ended
   pub low : (o : ℕ) (e : KeptCell) → get es o ≡ Some e → AreBelow e.cell.waits.wakers next

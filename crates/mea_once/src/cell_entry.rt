@@ -6,17 +6,18 @@ ghost use Rattle.mea_once.specs.Parts.{cell_seen, future_seen, fits, is_caller, 
 
 use crate::future_entry::FutureEntry;
 use crate::jobs::{found_full, has_filled, one_if_alone, settled};
+use crate::poll_reply::PollReply;
 use crate::scripted::Scripted;
-use crate::told::Told;
 use crate::turn_core::{TurnCore, WaitCore, WholeCore};
-use mea_base::{Answer, NoMemory, Poll, Ready};
-use mea_named::NamedWaker;
+use mea_base::{NoMemory, Poll, Ready};
+use mea_by_name::NamedWaker;
+use mea_family::Answer;
 use mea_once_core::{CellTurn, Init};
 use mea_once_model::{Initialiser, Job};
 use std::marker::Model;
 
 // A poll that goes on waiting.
-const PENDING: Told = Told {
+const PENDING: PollReply = PollReply {
     answer: Answer::Pending,
     over: false,
 };
@@ -135,7 +136,7 @@ impl<C: TurnCore> CellEntry<C> {
     }
 
     // The initialiser of the future whose turn it is runs.
-    fn run(&mut self, future: &mut FutureEntry, waker: NamedWaker) -> Told
+    fn run(&mut self, future: &mut FutureEntry, waker: NamedWaker) -> PollReply
         requires held { 1 ≤ held_of self.old.cell.permit }
         requires fits { fits C.is_once future.old.job ≡ true }
         requires quiet { self.old.cell.permit.wakes ≡ [] }
@@ -152,7 +153,7 @@ impl<C: TurnCore> CellEntry<C> {
             Poll::Ready(Ok(value)) => {
                 self.core.fill(&mut future.stage, value);
                 self.finish(waker.future, future.job);
-                Told {
+                PollReply {
                     answer: has_filled(future.job, value),
                     over: true,
                 }
@@ -160,7 +161,7 @@ impl<C: TurnCore> CellEntry<C> {
             Poll::Ready(Err(error)) => {
                 self.core.give_up(&mut future.stage);
                 self.finish(waker.future, future.job);
-                Told {
+                PollReply {
                     answer: Answer::Failure(error),
                     over: true,
                 }
@@ -174,7 +175,7 @@ impl<C: TurnCore> CellEntry<C> {
         future: &mut FutureEntry,
         turn: CellTurn<NamedWaker>,
         waker: NamedWaker,
-    ) -> Told
+    ) -> PollReply
         requires turn { TurnFits turn self.old.cell }
         requires fits { fits C.is_once future.old.job ≡ true }
         requires quiet { TurnIsQuiet turn self.old.cell }
@@ -190,7 +191,7 @@ impl<C: TurnCore> CellEntry<C> {
                     unreachable!()
                 };
                 self.finish(waker.future, future.job);
-                Told {
+                PollReply {
                     answer: found_full(future.job, value),
                     over: true,
                 }
@@ -206,7 +207,7 @@ impl<C: TurnCore> CellEntry<C> {
         future: &mut FutureEntry,
         waker: u64,
         ready: &mut Ready<u64>,
-    ) -> Result<Told, NoMemory>
+    ) -> Result<PollReply, NoMemory>
         requires stands { Stands C.is_once self.old f future.old }
         requires caller { is_caller future.old.job ≡ true }
         requires room { keeps self.old ≤ ready.old.registered }
@@ -281,10 +282,10 @@ impl<C: TurnCore> CellEntry<C> {
 }
 
 // What a poll of a wait told.
-fn wait_told(over: bool) -> Told
+fn wait_told(over: bool) -> PollReply
     ensures { result ≡ record { answer = cond over Answer.Ready Answer.Pending; over = over } }
 {
-    Told {
+    PollReply {
         answer: if over { Answer::Ready } else { Answer::Pending },
         over,
     }
@@ -311,7 +312,7 @@ impl<C: WaitCore> CellEntry<C> {
         future: &mut FutureEntry,
         waker: u64,
         ready: &mut Ready<u64>,
-    ) -> Result<Told, NoMemory>
+    ) -> Result<PollReply, NoMemory>
         requires stands { Stands C.TurnCore.is_once self.old f future.old }
         requires wait { is_wait future.old.job ≡ true }
         requires room { keeps self.old ≤ ready.old.registered }
@@ -341,7 +342,7 @@ impl<C: WholeCore> CellEntry<C> {
     ghost use Rattle.mea_once.specs.Entries.{keeps, left_by, RanAlone};
 
     // The initialiser of a future that uses the cell alone runs, where that is empty.
-    fn run_alone(&mut self, job: Job, waker: NamedWaker) -> Told
+    fn run_alone(&mut self, job: Job, waker: NamedWaker) -> PollReply
         requires free { self.old.cell.permit.free ≡ 1 }
         requires futures { 1 ≤ self.old.futures }
         requires alone { cond (is_alone job) 1 0 ≤ self.old.alone }
@@ -359,14 +360,14 @@ impl<C: WholeCore> CellEntry<C> {
                     unreachable!()
                 };
                 self.finish(waker.future, job);
-                Told {
+                PollReply {
                     answer: found_full(job, value),
                     over: true,
                 }
             }
             Poll::Ready(Err(error)) => {
                 self.finish(waker.future, job);
-                Told {
+                PollReply {
                     answer: Answer::Failure(error),
                     over: true,
                 }
@@ -381,7 +382,7 @@ impl<C: WholeCore> CellEntry<C> {
         future: &mut FutureEntry,
         waker: u64,
         ready: &mut Ready<u64>,
-    ) -> Result<Told, NoMemory>
+    ) -> Result<PollReply, NoMemory>
         requires stands { Stands C.TurnCore.is_once self.old f future.old }
         requires alone { is_alone future.old.job ≡ true }
         requires room { keeps self.old ≤ ready.old.registered }

@@ -1,13 +1,13 @@
-use crate::key_core::{KeyCore, ScriptedCall};
+use crate::table_core::{ScriptedCall, TableCore};
 use mea_base::{NoMemory, Poll};
-use mea_named::NamedWaker;
+use mea_by_name::NamedWaker;
 use mea_once_core::FlightCore;
 use std::hash::{BuildHasherDefault, FoldHasher};
 
 /// The core that a hall keeps of a group.
-pub type Group = FlightCore<u64, u64, BuildHasherDefault<FoldHasher>, NamedWaker>;
+pub type NamedGroup = FlightCore<u64, u64, BuildHasherDefault<FoldHasher>, NamedWaker>;
 
-impl KeyCore for Group {
+impl TableCore for NamedGroup {
     ghost use Rattle.std.specs.Prelude.{true};
 
     ghost seen_as = { λ c. c };

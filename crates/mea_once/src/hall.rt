@@ -1,5 +1,5 @@
 ghost use Rattle.std.specs.Prelude.{◌≡◌, ◌≢◌, ◌≤◌, ◌∷◌, [], ◌⊎◌, length, is_some, OnOk, OnErr, IfOk, IfErr, IfSome, IfNone, None, Some};
-ghost use Rattle.mea_named.specs.Play.{Play, Yields};
+ghost use Rattle.mea_family.specs.Play.{Play, Yields};
 ghost use Rattle.mea_once_model.specs.Cells.{is_cell};
 ghost use Rattle.mea_once_model.specs.Tables.{is_table};
 ghost use Rattle.mea_once_model.specs.OnceHall.{empty_hall, registered};
@@ -8,11 +8,12 @@ ghost use Rattle.mea_once.specs.Cores.{once_seen, cell_seen};
 ghost use Rattle.mea_once.specs.Lends.{StandsFor, StandsForTable};
 ghost use Rattle.mea_once.specs.Halls.{TakesNoMemory};
 
-use crate::groups::Group;
+use crate::groups::NamedGroup;
 use crate::kinds::Kinds;
-use crate::maps::Map;
-use mea_base::{Answer, Ready, Stop};
-use mea_named::NamedWaker;
+use crate::maps::NamedMap;
+use mea_base::Ready;
+use mea_by_name::NamedWaker;
+use mea_family::{Answer, Stop};
 use mea_once_core::{CellCore, OnceCore};
 use mea_once_model::{OnceEvent, wakes_are_of_the_registered};
 use std::alloc::Global;
@@ -32,7 +33,7 @@ pub struct OnceHall {
 }
 
 impl Model for OnceHall {
-    ghost use Rattle.mea_named.specs.Play.{Play, play_code};
+    ghost use Rattle.mea_family.specs.Play.{Play, play_code};
     ghost use Rattle.mea_once_model.specs.OnceHall as model;
 
     ghost Value = { Play model.OnceHall };
@@ -104,7 +105,7 @@ impl OnceHall {
     }
 
     /// The core of the map of this name, where there is one. It takes no memory.
-    pub fn map(&self, name: u64) -> Option<&Map>
+    pub fn map(&self, name: u64) -> Option<&NamedMap>
         ensures there { is_some result ≡ is_table self.now.hall.maps name }
         ensures stands { IfSome result (λ core. StandsForTable self.now.hall.maps name core.now) }
     {
@@ -112,7 +113,7 @@ impl OnceHall {
     }
 
     /// The core of the group of this name, where there is one. It takes no memory.
-    pub fn flight(&self, name: u64) -> Option<&Group>
+    pub fn flight(&self, name: u64) -> Option<&NamedGroup>
         ensures there { is_some result ≡ is_table self.now.hall.groups name }
         ensures stands { IfSome result (λ core. StandsForTable self.now.hall.groups name core.now) }
     {

@@ -1,9 +1,9 @@
 ghost use Rattle.std.specs.Prelude.{◌≡◌, cond, is_some, if◌then◌else◌};
-ghost use Rattle.mea_named.specs.Play.{content};
+ghost use Rattle.mea_family.specs.Play.{content};
 ghost use Rattle.mea_once_model.specs.Cells.{is_alone, can_settle, found_full, has_filled, settled, init_of};
 ghost use Rattle.mea_once.specs.Parts.{is_wait};
 
-use mea_base::Answer;
+use mea_family::Answer;
 use mea_once_model::{Initialiser, Job};
 
 /// Whether it uses its cell alone.

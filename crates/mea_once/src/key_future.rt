@@ -1,4 +1,4 @@
-use crate::key_core::ScriptedCall;
+use crate::table_core::ScriptedCall;
 
 /// What a hall keeps of a future by key: its map or group, its key, the round of which it is a caller, if it is one, and the
 /// call of the core.

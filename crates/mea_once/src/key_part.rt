@@ -1,19 +1,19 @@
 ghost use Rattle.std.specs.Prelude.{◌≡◌, ◌≤◌, OnErr, IfOk, IfSome, is_some, None, Some, true};
-ghost use Rattle.mea_base.specs.Causes.{borrowed_by};
-ghost use Rattle.mea_named.specs.Play.{PartYields, PartRests};
+ghost use Rattle.mea_family.specs.Causes.{borrowed_by};
+ghost use Rattle.mea_family.specs.Play.{PartYields, PartRests};
 ghost use Rattle.mea_once_model.specs.Tables.{no_tables, is_table, is_future, is_unsettled, futures_of, registered};
 ghost use Rattle.mea_once_model.specs.KeyActions.{key_act, MakeTable, BeginKey, PollKey, SettleKey, EndKey, TellKey, DiscardKey, RemoveKey, DropTable};
 ghost use Rattle.mea_once.specs.KeyParts.{IsNewKeyed};
 ghost use Rattle.mea_once.specs.Lends.{StandsForTable};
 
 use crate::jobs::content;
-use crate::key_core::{KeyCore, ValueCore};
 use crate::key_future::KeyFuture;
-use crate::part::borrowed_if;
 use crate::scripted::Scripted;
+use crate::table_core::{TableCore, ValueCore};
 use crate::table_entry::TableEntry;
-use mea_base::{Answer, NoMemory, Ready, Stop};
-use mea_named::ByName;
+use mea_base::{NoMemory, Ready};
+use mea_by_name::ByName;
+use mea_family::{Answer, Stop, borrowed_if};
 use mea_once_core::KeyCall;
 use mea_once_model::Initialiser;
 use std::alloc::Global;
@@ -22,15 +22,15 @@ use std::marker::Model;
 /// Maps, or groups, with their futures, each by the number of the event that made it. Each call costs a look-up by name, one
 /// by key, and what its core costs.
 #[derive(Drop)]
-pub struct KeyPart<C: KeyCore> {
+pub struct KeyPart<C: TableCore> {
     tables: ByName<TableEntry<C>>,
     futures: ByName<KeyFuture>,
     next: u128,
     alloc: Global,
 }
 
-impl<C: KeyCore> Model for KeyPart<C> {
-    ghost use Rattle.mea_named.specs.Play.{Part, part_code};
+impl<C: TableCore> Model for KeyPart<C> {
+    ghost use Rattle.mea_family.specs.Play.{Part, part_code};
     ghost use Rattle.mea_once_model.specs.Tables.{Tables, tables_code};
 
     ghost Value = { Part Tables };
@@ -44,7 +44,7 @@ impl<C: KeyCore> Model for KeyPart<C> {
     ghost invariant = { λ a. AreTables C.is_once a.tables a.futures a.next };
 }
 
-impl<C: KeyCore> KeyPart<C> {
+impl<C: TableCore> KeyPart<C> {
     /// Nothing. It takes no memory.
     pub fn new(alloc: Global) -> Self
         ensures { result ≡ record { hall = no_tables; next = 0 } }
@@ -226,7 +226,7 @@ impl<C: ValueCore> KeyPart<C> {
     pub fn tell(&mut self, number: u64, o: u64, key: u64) -> Answer
         requires next { self.old.next ≤ number }
         requires there { is_table self.old.hall o ≡ true }
-        ensures { PartRests registered self.old number (key_act C.KeyCore.is_once self.old.hall number (TellKey o key)) result self.new }
+        ensures { PartRests registered self.old number (key_act C.TableCore.is_once self.old.hall number (TellKey o key)) result self.new }
     {
         let value = self.tables.at(o).value(key);
         self.next = number as u128 + 1;
@@ -237,7 +237,7 @@ impl<C: ValueCore> KeyPart<C> {
     pub fn remove(&mut self, number: u64, o: u64, key: u64) -> Answer
         requires next { self.old.next ≤ number }
         requires there { is_table self.old.hall o ≡ true }
-        ensures { PartRests registered self.old number (key_act C.KeyCore.is_once self.old.hall number (RemoveKey o key)) result self.new }
+        ensures { PartRests registered self.old number (key_act C.TableCore.is_once self.old.hall number (RemoveKey o key)) result self.new }
     {
         let entry = self.tables.at_mut(o);
         let value = entry.value(key);

@@ -4,10 +4,11 @@ ghost use Rattle.mea_once_model.specs.OnceHall.{registered};
 ghost use Rattle.mea_once_model.specs.Meaning.{meaning_of, on_maps, on_groups, cause_of};
 ghost use Rattle.mea_once.specs.Halls.{parts, hall_of, AreBelow, PlaysKinds, TakesNoMemory};
 
-use crate::groups::Group;
-use crate::kinds::{Kinds, unknown_unless};
-use crate::maps::Map;
-use mea_base::{Answer, NoMemory, Ready, Stop};
+use crate::groups::NamedGroup;
+use crate::kinds::Kinds;
+use crate::maps::NamedMap;
+use mea_base::{NoMemory, Ready};
+use mea_family::{Answer, Stop, unknown_unless};
 use mea_once_model::{Initialiser, OnceEvent};
 use std::hash::BuildHasherDefault;
 
@@ -75,7 +76,7 @@ impl Kinds {
     {
         match *event {
             OnceEvent::OmNew => {
-                let map = Map::with_hasher(self.alloc, BuildHasherDefault::new());
+                let map = NamedMap::with_hasher(self.alloc, BuildHasherDefault::new());
                 self.maps.make(number, map)
             }
             OnceEvent::OmGet(m, key) => Ok(self.maps.tell(number, m, key)),
@@ -115,7 +116,7 @@ impl Kinds {
     {
         match *event {
             OnceEvent::SfNew => {
-                let group = Group::with_hasher(self.alloc, BuildHasherDefault::new());
+                let group = NamedGroup::with_hasher(self.alloc, BuildHasherDefault::new());
                 self.groups.make(number, group)
             }
             OnceEvent::SfWork(g, key) => self.groups.begin(number, g, key),

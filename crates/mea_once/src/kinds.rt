@@ -1,6 +1,5 @@
 ghost use Rattle.std.specs.Prelude.{◌≡◌, ◌≤◌, ◌≢◌, OnErr, IfOk, None, Some, true, if◌then◌else◌};
-ghost use Rattle.mea_base.specs.Causes.{unknown_unless};
-ghost use Rattle.mea_named.specs.Play.{PartYields};
+ghost use Rattle.mea_family.specs.Play.{PartYields};
 ghost use Rattle.mea_once_model.specs.Cells as parts;
 ghost use Rattle.mea_once_model.specs.Cells.{is_future};
 ghost use Rattle.mea_once_model.specs.Actions.{act_in, Poll};
@@ -8,12 +7,13 @@ ghost use Rattle.mea_once_model.specs.OnceHall.{empty_hall, registered};
 ghost use Rattle.mea_once_model.specs.Meaning.{cause_of};
 ghost use Rattle.mea_once.specs.Halls.{parts, hall_of, AreBelow, PlaysKinds, TakesNoMemory};
 
-use crate::groups::Group;
+use crate::groups::NamedGroup;
 use crate::key_part::KeyPart;
-use crate::maps::Map;
+use crate::maps::NamedMap;
 use crate::part::CellPart;
-use mea_base::{Answer, NoMemory, Ready, Stop};
-use mea_named::NamedWaker;
+use mea_base::{NoMemory, Ready};
+use mea_by_name::NamedWaker;
+use mea_family::{Answer, Stop, unknown_unless};
 use mea_once_core::{CellCore, OnceCore};
 use mea_once_model::{Initialiser, Job, OnceEvent};
 use std::alloc::Global;
@@ -24,8 +24,8 @@ pub struct Kinds {
     pub alloc: Global,
     pub onces: CellPart<OnceCore<NamedWaker>>,
     pub values: CellPart<CellCore<u64, NamedWaker>>,
-    pub maps: KeyPart<Map>,
-    pub groups: KeyPart<Group>,
+    pub maps: KeyPart<NamedMap>,
+    pub groups: KeyPart<NamedGroup>,
 }
 
 impl Kinds {
@@ -218,11 +218,4 @@ impl Kinds {
             OnceEvent::OcDrop(c) => Ok(self.values.end_cell(number, c, ready)),
         }
     }
-}
-
-/// Unknown, unless this is known.
-pub fn unknown_unless(known: bool) -> Option<Stop>
-    ensures { result ≡ unknown_unless known }
-{
-    if known { None } else { Some(Stop::Unknown) }
 }

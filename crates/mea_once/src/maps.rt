@@ -1,13 +1,13 @@
-use crate::key_core::{KeyCore, ScriptedCall, ValueCore};
+use crate::table_core::{ScriptedCall, TableCore, ValueCore};
 use mea_base::{NoMemory, Poll};
-use mea_named::NamedWaker;
+use mea_by_name::NamedWaker;
 use mea_once_core::MapCore;
 use std::hash::{BuildHasherDefault, FoldHasher};
 
 /// The core that a hall keeps of a map.
-pub type Map = MapCore<u64, u64, BuildHasherDefault<FoldHasher>, NamedWaker>;
+pub type NamedMap = MapCore<u64, u64, BuildHasherDefault<FoldHasher>, NamedWaker>;
 
-impl KeyCore for Map {
+impl TableCore for NamedMap {
     ghost use Rattle.std.specs.Prelude.{false};
 
     ghost seen_as = { λ c. c };
@@ -42,7 +42,7 @@ impl KeyCore for Map {
     }
 }
 
-impl ValueCore for Map {
+impl ValueCore for NamedMap {
     fn value(&self, key: u64) -> Option<u64> {
         match MapCore::get(self, &key) {
             Ok(value) => value,

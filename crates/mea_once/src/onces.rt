@@ -2,8 +2,8 @@ ghost use Rattle.std.specs.Prelude.{true};
 
 use crate::turn_core::{TurnCore, WaitCore};
 use mea_base::{NoMemory, Poll};
+use mea_by_name::NamedWaker;
 use mea_meet_core::LatchWait;
-use mea_named::NamedWaker;
 use mea_once_core::{CellTurn, InitCall, OnceCore, Stage};
 
 impl TurnCore for OnceCore<NamedWaker> {

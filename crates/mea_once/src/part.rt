@@ -1,7 +1,7 @@
 ghost use Rattle.std.specs.Prelude.{◌≡◌, ◌≤◌, OnErr, IfOk, IfSome, is_some, None, Some, true, false, if◌then◌else◌};
 ghost use Rattle.std.specs.FinMap.{get};
-ghost use Rattle.mea_base.specs.Causes.{borrowed_by};
-ghost use Rattle.mea_named.specs.Play.{PartYields, PartRests};
+ghost use Rattle.mea_family.specs.Causes.{borrowed_by};
+ghost use Rattle.mea_family.specs.Play.{PartYields, PartRests};
 ghost use Rattle.mea_once_model.specs.Cells.{no_cells, is_cell, is_future, is_unsettled, futures_of, alone_of, registered};
 ghost use Rattle.mea_once_model.specs.Actions.{act_in, Make, Begin, Poll, Settle, End, TellFull, Tell, Peek, Put, Take, TakeOut, Drop, in_the_way};
 ghost use Rattle.mea_once.specs.Parts.{IsNewCell, fits, job_at, asks_turn, awaits_full, uses_alone, FitsSettled};
@@ -11,9 +11,10 @@ use crate::cell_entry::CellEntry;
 use crate::future_entry::FutureEntry;
 use crate::jobs::{can_settle, content, done_if, is_alone, is_wait, yes_if_full};
 use crate::turn_core::{TurnCore, WaitCore, WholeCore};
-use mea_base::{Answer, NoMemory, Ready, Stop};
+use mea_base::{NoMemory, Ready};
+use mea_by_name::ByName;
+use mea_family::{Answer, Stop, borrowed_if};
 use mea_meet_core::LatchWait;
-use mea_named::ByName;
 use mea_once_core::Stage;
 use mea_once_model::{Initialiser, Job};
 use std::alloc::Global;
@@ -29,18 +30,18 @@ pub struct CellPart<C: TurnCore> {
 }
 
 impl<C: TurnCore> Model for CellPart<C> {
-    ghost use Rattle.mea_named.specs.Play.{Part, part_code};
+    ghost use Rattle.mea_family.specs.Play.{Part, part_code};
     ghost use Rattle.mea_once_model.specs.Cells.{Cells, cells_code};
 
     ghost Value = { Part Cells };
 
     ghost coded = { part_code cells_code };
 
-    ghost use Rattle.mea_once.specs.Parts.{cells_seen, IsKept};
+    ghost use Rattle.mea_once.specs.Parts.{cells_seen, AreKeptCells};
 
     ghost view = { λ a. record { hall = cells_seen a.cells a.futures; next = a.next } };
 
-    ghost invariant = { λ a. IsKept C.is_once a.cells a.futures a.next };
+    ghost invariant = { λ a. AreKeptCells C.is_once a.cells a.futures a.next };
 }
 
 impl<C: TurnCore> CellPart<C> {
@@ -369,11 +370,4 @@ impl<C: WholeCore> CellPart<C> {
         self.next = number as u128 + 1;
         content(value)
     }
-}
-
-/// Borrowed, where something borrows it.
-pub fn borrowed_if(borrowed: bool) -> Option<Stop>
-    ensures { result ≡ (if borrowed then Some Stop.Borrowed else None) }
-{
-    if borrowed { Some(Stop::Borrowed) } else { None }
 }

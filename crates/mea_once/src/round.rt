@@ -2,7 +2,7 @@ ghost use Rattle.std.specs.Prelude.{◌≡◌};
 ghost use Rattle.mea_once.specs.Entries.{runs};
 ghost use Rattle.mea_once.specs.KeyEntries.{new_round};
 
-use mea_named::NamedWaker;
+use mea_by_name::NamedWaker;
 
 /// What a hall keeps of a round beside its core: its key, the number of its entry there, the waker that the initialiser of
 /// the caller whose turn it is keeps, and how many callers it has.

@@ -4,7 +4,7 @@ ghost use Rattle.mea_once.specs.Cores.{answer_of};
 
 use crate::jobs::outcome;
 use mea_base::Poll;
-use mea_named::NamedWaker;
+use mea_by_name::NamedWaker;
 use mea_once_core::Init;
 use mea_once_model::{Initialiser, Job};
 

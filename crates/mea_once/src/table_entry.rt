@@ -1,6 +1,6 @@
 ghost use Rattle.std.specs.Prelude.{ℕ, ◌≡◌, ◌+◌, ◌-◌, ◌<◌, ◌≤◌, ◌^◌, ◌++◌, [], Bool, true, false, cond, length, nat_lt, nat_eq, Some, None, IsSome, is_some, OnErr, IfOk, IfSome, Ok};
 ghost use Rattle.std.specs.FinMap.{get, insert, remove, empty};
-ghost use Rattle.mea_named.specs.ByName.{Names};
+ghost use Rattle.mea_by_name.specs.ByName.{Names};
 ghost use Rattle.mea_once_core.specs.Keyed.{PollsKey, MayPollKey};
 ghost use Rattle.mea_once_model.specs.Tables as tables;
 ghost use Rattle.mea_once_model.specs.Tables.{is_this, without_key};
@@ -8,19 +8,20 @@ ghost use Rattle.mea_once.specs.Entries.{of_running, runs};
 ghost use Rattle.mea_once.specs.KeyEntries.{Enters, FollowsKey, HandsKeys, IsSameTable, kept_with, closed, left_round, one_future_less, stayed, running_in, entry_in, runs_round, with_running, joined, new_round, stopped_waker};
 ghost use Rattle.mea_once.specs.KeyParts.{StandsTable, SteppedTable, AreTogether, table_seen, table_keeps, key_future_seen};
 
-use crate::key_core::{KeyCore, ValueCore};
 use crate::key_future::KeyFuture;
+use crate::poll_reply::PollReply;
 use crate::round::Round;
-use crate::told::Told;
-use mea_base::{Answer, NoMemory, Poll, Ready};
-use mea_named::{ByName, NamedWaker};
+use crate::table_core::{TableCore, ValueCore};
+use mea_base::{NoMemory, Poll, Ready};
+use mea_by_name::{ByName, NamedWaker};
+use mea_family::Answer;
 use mea_once_core::{KeyStage, Stage};
 use mea_once_model::Initialiser;
 use std::alloc::Global;
 use std::marker::Model;
 
 // A poll that goes on waiting.
-const PENDING: Told = Told {
+const PENDING: PollReply = PollReply {
     answer: Answer::Pending,
     over: false,
 };
@@ -30,7 +31,7 @@ const PENDING: Told = Told {
 /// The core's entries have numbers of their own, which are used again. A round is known by the number of the poll that made
 /// it; it is there while the entry has a caller.
 #[derive(Drop)]
-pub struct TableEntry<C: KeyCore> {
+pub struct TableEntry<C: TableCore> {
     core: C,
     // The current round of each key that is being computed, and all rounds.
     current: ByName<u64>,
@@ -39,7 +40,7 @@ pub struct TableEntry<C: KeyCore> {
     futures: u128,
 }
 
-impl<C: KeyCore> Model for TableEntry<C> {
+impl<C: TableCore> Model for TableEntry<C> {
     ghost use Rattle.mea_once.specs.KeyEntries.{KeptTable, kept_table_code};
 
     ghost Value = { KeptTable };
@@ -49,7 +50,7 @@ impl<C: KeyCore> Model for TableEntry<C> {
     ghost view = { λ e. record { keyed = C.seen_as e.core; current = e.current; rounds = e.rounds; futures = e.futures } };
 }
 
-impl<C: KeyCore> TableEntry<C> {
+impl<C: TableCore> TableEntry<C> {
     ghost use Rattle.mea_once.specs.KeyCores.{answers};
     ghost use Rattle.mea_once.specs.KeyParts.{left_by};
 
@@ -251,7 +252,7 @@ impl<C: KeyCore> TableEntry<C> {
         future: &mut KeyFuture,
         answer: Poll<Result<u64, u64>>,
         waker: NamedWaker,
-    ) -> Told
+    ) -> PollReply
         requires there { IsSome (get self.old.rounds n) }
         requires some { 1 ≤ round.callers }
         requires futures { 1 ≤ self.old.futures }
@@ -266,7 +267,7 @@ impl<C: KeyCore> TableEntry<C> {
                 self.close(future.key, n);
                 self.leave(future.key, n, round);
                 self.finish();
-                Told {
+                PollReply {
                     answer: Answer::Value(value),
                     over: true,
                 }
@@ -274,7 +275,7 @@ impl<C: KeyCore> TableEntry<C> {
             Poll::Ready(Err(error)) => {
                 self.leave(future.key, n, round);
                 self.finish();
-                Told {
+                PollReply {
                     answer: Answer::Failure(error),
                     over: true,
                 }
@@ -309,7 +310,7 @@ impl<C: KeyCore> TableEntry<C> {
         future: &mut KeyFuture,
         waker: u64,
         ready: &mut Ready<u64>,
-    ) -> Result<Told, NoMemory>
+    ) -> Result<PollReply, NoMemory>
         requires stands { StandsTable C.is_once self.old f future.old number }
         requires room { table_keeps self.old ≤ ready.old.registered }
         ensures steps { IfOk result (λ told. (s : StandsTable C.is_once self.old f future.old number) →

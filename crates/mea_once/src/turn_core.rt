@@ -6,8 +6,8 @@ ghost use Rattle.mea_once.specs.Cores.{NamedCell, IsSoundCell, TurnsCell, FillsC
 
 use crate::scripted::Scripted;
 use mea_base::{NoMemory, Poll};
+use mea_by_name::NamedWaker;
 use mea_meet_core::LatchWait;
-use mea_named::NamedWaker;
 use mea_once_core::{CellTurn, Stage};
 
 /// The core of a cell as a hall uses it. A call that runs once is a cell whose value tells nothing. Only the polls take

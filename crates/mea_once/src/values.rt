@@ -1,7 +1,7 @@
 use crate::scripted::Scripted;
 use crate::turn_core::{TurnCore, WholeCore};
 use mea_base::{NoMemory, Poll};
-use mea_named::NamedWaker;
+use mea_by_name::NamedWaker;
 use mea_once_core::{CellCore, CellTurn, InitCall, Stage};
 
 impl TurnCore for CellCore<u64, NamedWaker> {

@@ -3,18 +3,18 @@ use Rattle.std.proofs.Common.{◌≡◌, ℕ, ◌≤◌, ◌==◌, ◌++◌, Boo
 use Rattle.std.proofs.lemmas.Bool.{eqb-true, eq-eqb}
 use Rattle.std.proofs.lemmas.Bool.Decides.{nat_tests}
 use Rattle.std.specs.FinMap.{get, insert, remove}
-use Rattle.mea_base.specs.Causes.{borrowed_by}
-use Rattle.mea_base.specs.declared.answer.Answer.{Answer}
-use Rattle.mea_base.specs.declared.answer.Answer.TheVariants as answers
-use Rattle.mea_base.specs.Family.{Outcome, quietly}
+use Rattle.mea_family.specs.Causes.{borrowed_by}
+use Rattle.mea_family.specs.declared.answer.Answer.{Answer}
+use Rattle.mea_family.specs.declared.answer.Answer.TheVariants as answers
+use Rattle.mea_family.specs.Family.{Outcome, quietly}
 use Rattle.mea_base.proofs.Maps.{get-gone}
-use Rattle.mea_named.specs.ByName.{Names, seen}
-use Rattle.mea_named.specs.NamedQueue.{Waiting, waits, waker_for, with_waker, without, wakers, registering}
-use Rattle.mea_named.specs.Play.{found, content}
-use Rattle.mea_named.proofs.Cases.{by_found, by_if}
-use Rattle.mea_named.proofs.NamedQueues.{Local, local_same}
-use Rattle.mea_named.proofs.OneObject.{Goes, FuturesGo, Same, Put, Made, Gone, Kept, Begun, Ended, None_is, Polled, Ends}
-use Rattle.mea_named.proofs.Own.{seen-none, seen-back, seen-insert, seen-remove, seen-alike, own-nothing}
+use Rattle.mea_by_name.specs.ByName.{Names, seen}
+use Rattle.mea_by_name.specs.NamedQueue.{Waiting, waits, waker_for, with_waker, without, wakers, registering}
+use Rattle.mea_family.specs.Play.{found, content}
+use Rattle.mea_by_name.proofs.Cases.{by_found, by_if}
+use Rattle.mea_by_name.proofs.NamedQueues.{Local, local_same}
+use Rattle.mea_by_name.proofs.OneObject.{Goes, FuturesGo, Same, Put, Made, Gone, Kept, Begun, Ended, None_is, Polled, Ends}
+use Rattle.mea_by_name.proofs.Own.{seen-none, seen-back, seen-insert, seen-remove, seen-alike, own-nothing}
 use Rattle.mea_once_model.specs.Cells as cells
 use Rattle.mea_once_model.specs.declared.job.Initialiser.{Initialiser}
 use Rattle.mea_once_model.specs.declared.job.Initialiser.TheVariants.{Unsettled, Gives, Fails}

@@ -4,17 +4,17 @@ use Rattle.std.specs.List.{Contains}
 use Rattle.std.specs.FinMap.{get, insert}
 use Rattle.std.proofs.lemmas.Bool.{eqb-true}
 use Rattle.std.proofs.lemmas.Option.{cond_some}
-use Rattle.mea_base.specs.declared.answer.Answer.TheVariants as answers
-use Rattle.mea_base.specs.Family.{Outcome}
+use Rattle.mea_family.specs.declared.answer.Answer.TheVariants as answers
+use Rattle.mea_family.specs.Family.{Outcome}
 use Rattle.mea_base.proofs.Maps.{nothing_at, get-there}
-use Rattle.mea_base.proofs.Tests.{known}
-use Rattle.mea_named.specs.NamedQueue as named_queue
-use Rattle.mea_named.specs.NamedQueue.{waits, with_waker, waker_for}
-use Rattle.mea_named.specs.Play.{found}
-use Rattle.mea_named.proofs.Cases.{by_found, by_if, found_is}
-use Rattle.mea_named.proofs.NamedQueues.{appended-there, with_waker-there, registering-there}
-use Rattle.mea_named.proofs.OneObject.{IsBelow, AreBelow, goes_lows, goes_below, goes_made, goes_stays, goes_kept, placed_is, placed_put}
-use Rattle.mea_named.proofs.Own.{seen-at, seen-back, seen-none}
+use Rattle.mea_family.proofs.Causes.{known}
+use Rattle.mea_by_name.specs.NamedQueue as named_queue
+use Rattle.mea_by_name.specs.NamedQueue.{waits, with_waker, waker_for}
+use Rattle.mea_family.specs.Play.{found}
+use Rattle.mea_by_name.proofs.Cases.{by_found, by_if, found_is}
+use Rattle.mea_by_name.proofs.NamedQueues.{appended-there, with_waker-there, registering-there}
+use Rattle.mea_by_name.proofs.OneObject.{IsBelow, AreBelow, goes_lows, goes_below, goes_made, goes_stays, goes_kept, placed_is, placed_put}
+use Rattle.mea_by_name.proofs.Own.{seen-at, seen-back, seen-none}
 use Rattle.mea_once_model.specs.Cells as cells
 use Rattle.mea_once_model.specs.declared.job.Initialiser.{Initialiser}
 use Rattle.mea_once_model.specs.declared.job.Initialiser.TheVariants.{Unsettled, Gives, Fails}

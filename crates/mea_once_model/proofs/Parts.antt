@@ -4,8 +4,8 @@ use Rattle.std.specs.List.{Contains}
 use Rattle.std.proofs.lemmas.Bool.{eqb-true, eq-eqb}
 use Rattle.std.proofs.lemmas.List.{length-append}
 use Rattle.std.proofs.lemmas.List.Elements.{Contains-append_cases, Contains-append_left, Contains-append_right}
-use Rattle.mea_named.specs.NamedQueue.{Waiting, waker_for, waits, with_waker, without, wakers, registering}
-use Rattle.mea_named.proofs.NamedQueues.{Local, appended-other, with_waker-other, without-other, length-with_waker, length-without, local_drained, registering-other, length-registering}
+use Rattle.mea_by_name.specs.NamedQueue.{Waiting, waker_for, waits, with_waker, without, wakers, registering}
+use Rattle.mea_by_name.proofs.NamedQueues.{Local, appended-other, with_waker-other, without-other, length-with_waker, length-without, local_drained, registering-other, length-registering}
 use Rattle.mea_once_model.specs.Cells.{woken_next}
 
 -- ---- who waits in one list or in another

@@ -5,15 +5,15 @@ use Rattle.std.specs.Ordering.{nat_cmp}
 use Rattle.std.specs.FinMap.{get, insert, empty, get-empty}
 use Rattle.std.proofs.lemmas.Bool.{eqb-true}
 use Rattle.std.proofs.lemmas.Option.{cond_some}
-use Rattle.mea_base.specs.declared.answer.Answer.TheVariants as answers
-use Rattle.mea_base.specs.Family.{Outcome}
+use Rattle.mea_family.specs.declared.answer.Answer.TheVariants as answers
+use Rattle.mea_family.specs.Family.{Outcome}
 use Rattle.mea_base.proofs.Maps.{by_put, get-there, get-other, get-removed_other, removed_there, inside, nothing_at, is_there, value_in}
-use Rattle.mea_base.proofs.Tests.{known}
-use Rattle.mea_named.specs.ByName.{Names}
-use Rattle.mea_named.specs.NamedQueue.{waker_for, queue_of}
-use Rattle.mea_named.specs.Play.{found}
-use Rattle.mea_named.proofs.Cases.{by_found, found_is}
-use Rattle.mea_named.proofs.OneObject.{IsBelow, below_put, below_gone, below_later, Touches, None_is, Polled, Ends}
+use Rattle.mea_family.proofs.Causes.{known}
+use Rattle.mea_by_name.specs.ByName.{Names}
+use Rattle.mea_by_name.specs.NamedQueue.{waker_for, queue_of}
+use Rattle.mea_family.specs.Play.{found}
+use Rattle.mea_by_name.proofs.Cases.{by_found, found_is}
+use Rattle.mea_by_name.proofs.OneObject.{IsBelow, below_put, below_gone, below_later, Touches, None_is, Polled, Ends}
 use Rattle.mea_once_model.specs.declared.job.Initialiser.{Initialiser}
 use Rattle.mea_once_model.specs.Cells as cells
 use Rattle.mea_once_model.specs.Cells.{Cell, CellFuture, Step, waiting_at, new_cell}

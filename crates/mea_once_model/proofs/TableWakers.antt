@@ -3,17 +3,17 @@ use Rattle.std.proofs.Common.{◌≡◌, ℕ, ◌+◌, ◌<◌, ◌≤◌, ◌==
 use Rattle.std.specs.List.{Contains}
 use Rattle.std.specs.FinMap.{get, insert, remove}
 use Rattle.std.proofs.lemmas.Bool.{eqb-true, eq-eqb}
-use Rattle.mea_base.specs.declared.answer.Answer.{Answer}
-use Rattle.mea_base.specs.declared.answer.Answer.TheVariants as answers
-use Rattle.mea_base.specs.Family.{Outcome, quietly}
+use Rattle.mea_family.specs.declared.answer.Answer.{Answer}
+use Rattle.mea_family.specs.declared.answer.Answer.TheVariants as answers
+use Rattle.mea_family.specs.Family.{Outcome, quietly}
 use Rattle.mea_base.proofs.Maps.{by_put, by_gone, get-other, get-gone, get-removed_other, removed_there, total-has, inside, is_there, value_in}
-use Rattle.mea_base.proofs.Tests.{known}
-use Rattle.mea_named.specs.ByName.{Names, own}
-use Rattle.mea_named.specs.NamedQueue.{Waiting, waker_for, queue_of}
-use Rattle.mea_named.specs.Play.{found}
-use Rattle.mea_named.proofs.Cases.{by_found, by_if}
-use Rattle.mea_named.proofs.OneObject.{IsBelow, Touches, None_is, Polled, Ends}
-use Rattle.mea_named.proofs.Own.{own-at, own-nothing}
+use Rattle.mea_family.proofs.Causes.{known}
+use Rattle.mea_by_name.specs.ByName.{Names, own}
+use Rattle.mea_by_name.specs.NamedQueue.{Waiting, waker_for, queue_of}
+use Rattle.mea_family.specs.Play.{found}
+use Rattle.mea_by_name.proofs.Cases.{by_found, by_if}
+use Rattle.mea_by_name.proofs.OneObject.{IsBelow, Touches, None_is, Polled, Ends}
+use Rattle.mea_by_name.proofs.Own.{own-at, own-nothing}
 use Rattle.mea_once_model.specs.declared.job.Initialiser.{Initialiser}
 use Rattle.mea_once_model.specs.Cells as cells
 use Rattle.mea_once_model.specs.Cells.{Cell, CellFuture, Step, waiting_at, new_cell}

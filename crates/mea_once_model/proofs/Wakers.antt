@@ -2,14 +2,14 @@
 use Rattle.std.proofs.Common.{◌≡◌, ℕ, ◌+◌, ◌<◌, ◌≤◌, ◌⊎◌, inl, Bool, true, false, cond, length, Some, None, sym, subst, arith}
 use Rattle.std.specs.List.{Contains}
 use Rattle.std.specs.FinMap.{get}
-use Rattle.mea_base.specs.declared.answer.Answer.TheVariants as answers
-use Rattle.mea_base.specs.Family.{Outcome, Runs, Starts, Goes, RunOf, KeepsWakers, NamesFutures, LosesNoWake}
+use Rattle.mea_family.specs.declared.answer.Answer.TheVariants as answers
+use Rattle.mea_family.specs.Family.{Outcome, IsRun, Starts, Goes, RunOf, KeepsWakers, NamesFutures, LosesNoWake}
 use Rattle.mea_base.proofs.Maps.{value_in}
 use Rattle.mea_base.proofs.Totals.{total-empty}
-use Rattle.mea_base.proofs.Wakes.{loses_no_wake}
-use Rattle.mea_named.specs.NamedQueue as named_queue
-use Rattle.mea_named.proofs.OneObject.{goes_counted}
-use Rattle.mea_named.proofs.Own.{seen-at}
+use Rattle.mea_family.proofs.Wakes.{loses_no_wake}
+use Rattle.mea_by_name.specs.NamedQueue as named_queue
+use Rattle.mea_by_name.proofs.OneObject.{goes_counted}
+use Rattle.mea_by_name.proofs.Own.{seen-at}
 use Rattle.mea_once_model.specs.declared.event.OnceEvent.{OnceEvent}
 use Rattle.mea_once_model.specs.Cells as cells
 use Rattle.mea_once_model.specs.Cells.{Cell, waiting_at, is_future}
@@ -168,7 +168,7 @@ nothing_low = record { cells = no_cell; tables = no_table }
     no_table Maps = table.no_low
     no_table Groups = table.no_low
 
-lows_of : (r : RunOf onces_family) → Runs onces_family r → Lows r.hall r.next
+lows_of : (r : RunOf onces_family) → IsRun onces_family r → Lows r.hall r.next
 lows_of _ Starts = nothing_low
 lows_of _ (Goes r i e runs later cause) = lows_after r.hall r.next i (lows_of r runs) later (meaning_of e) cause
 
@@ -194,7 +194,7 @@ names = record {
   made = λ r i e runs later cause f lives. made r.hall r.next i (lows_of r runs) later (meaning_of e) cause f lives;
 }
 
-pub no_wake_is_lost : (r : RunOf onces_family) → Runs onces_family r → LosesNoWake onces_family r
+pub no_wake_is_lost : (r : RunOf onces_family) → IsRun onces_family r → LosesNoWake onces_family r
 no_wake_is_lost r runs = loses_no_wake onces_family keeps names r runs
 
 -- ---- how many wakers are registered after an event
@@ -235,10 +235,10 @@ stays_valid h n i lows later valid (OfCells d) allowed k = rw (tables_stay h d.k
 stays_valid h n i lows later valid (OfTables d) allowed k = by_kind table_kinds h d.kind (key_act (is_once d.kind) (tables_of h d.kind) i d.action).hall (λ k p. AreValid p)
     (valid_after (is_once d.kind) (tables_of h d.kind) n i (lows.tables d.kind) later (valid d.kind) d.action allowed) (λ k other. valid k) k
 
-pub valid_of : (r : RunOf onces_family) → Runs onces_family r → (k : TableKind) → AreValid (tables_of r.hall k)
+pub valid_of : (r : RunOf onces_family) → IsRun onces_family r → (k : TableKind) → AreValid (tables_of r.hall k)
 valid_of _ Starts k = nothing_is_valid k
 valid_of _ (Goes r i e runs later cause) k = stays_valid r.hall r.next i (lows_of r runs) later (λ k. valid_of r runs k) (meaning_of e) cause k
 
-pub values_stay : (r : RunOf onces_family) → Runs onces_family r → (i : ℕ) → r.next ≤ i → (kind : TableKind) (a : KeyAction) (o k v : ℕ) → value_at (tables_of r.hall kind) o k ≡ Some v → takes_away a o k ≡ false
+pub values_stay : (r : RunOf onces_family) → IsRun onces_family r → (i : ℕ) → r.next ≤ i → (kind : TableKind) (a : KeyAction) (o k v : ℕ) → value_at (tables_of r.hall kind) o k ≡ Some v → takes_away a o k ≡ false
     → value_at (key_act (is_once kind) (tables_of r.hall kind) i a).hall o k ≡ Some v
 values_stay r runs i later kind a o k v had lasts = value_stays (is_once kind) (tables_of r.hall kind) r.next i ((lows_of r runs).tables kind) later (valid_of r runs kind) o k v had a lasts

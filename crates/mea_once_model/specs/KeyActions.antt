@@ -1,11 +1,11 @@
 -- what can be done to maps and groups by name: why it is refused, and what it does
 use Rattle.std.specs.Prelude.{ℕ, ◌==◌, Bool, true, false, cond, Option, Some, None}
 use Rattle.std.specs.FinMap.{get, remove}
-use Rattle.mea_base.specs.declared.answer.Answer.TheVariants as answers
-use Rattle.mea_base.specs.declared.stop.Stop.{Stop}
-use Rattle.mea_base.specs.Causes.{unknown_unless, borrowed_by}
-use Rattle.mea_base.specs.Family.{Outcome, quietly}
-use Rattle.mea_named.specs.Play.{found, content}
+use Rattle.mea_family.specs.declared.answer.Answer.TheVariants as answers
+use Rattle.mea_family.specs.declared.stop.Stop.{Stop}
+use Rattle.mea_family.specs.Causes.{unknown_unless, borrowed_by}
+use Rattle.mea_family.specs.Family.{Outcome, quietly}
+use Rattle.mea_family.specs.Play.{found, content}
 use Rattle.mea_once_model.specs.declared.job.Initialiser.{Initialiser}
 use Rattle.mea_once_model.specs.Tables as tables
 use Rattle.mea_once_model.specs.Tables.{Table, KeyFuture, Tables, is_table, is_future, is_unsettled, futures_of, without_key}

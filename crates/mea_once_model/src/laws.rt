@@ -1,7 +1,7 @@
 ghost use Rattle.std.specs.Prelude.{◌≡◌, ℕ, ◌+◌, ◌≤◌, Bool, Some, None, [], false, length, option_to_list};
 ghost use Rattle.std.specs.FinMap.{get};
-ghost use Rattle.mea_base.specs.Family.{Runs, RunOf, KeepsWakers, LosesNoWake};
-ghost use Rattle.mea_named.specs.NamedQueue.{waker_for};
+ghost use Rattle.mea_family.specs.Family.{IsRun, RunOf, KeepsWakers, LosesNoWake};
+ghost use Rattle.mea_by_name.specs.NamedQueue.{waker_for};
 ghost use Rattle.mea_once_model.specs.declared.event.OnceEvent.{OnceEvent};
 ghost use Rattle.mea_once_model.specs.declared.job.Initialiser.{Initialiser};
 ghost use Rattle.mea_once_model.specs.Cells.{Cell, CellFuture, Cells};
@@ -24,7 +24,7 @@ pub fn wakers_are_kept()
 /// A living future whose last poll replied `pending`, and whose next poll would reply something else, has
 /// had the waker of that last poll woken since.
 pub fn no_wake_is_lost()
-    ensures { (run : RunOf onces_family) → Runs onces_family run → LosesNoWake onces_family run }
+    ensures { (run : RunOf onces_family) → IsRun onces_family run → LosesNoWake onces_family run }
 {}
 
 /// An event wakes none but registered wakers, registers at most one, and none but a poll registers any.
@@ -45,11 +45,11 @@ pub fn a_settled_initialiser_is_woken()
 /// In each run the maps and groups are valid: the current round of a key is there, has no value yet, and is that of no other
 /// key; a key with a value has none; and the map or group of a future is there, with the round that it is a caller of.
 pub fn tables_are_valid()
-    ensures { (run : RunOf onces_family) → Runs onces_family run → (k : TableKind) → AreValid (tables_of run.hall k) }
+    ensures { (run : RunOf onces_family) → IsRun onces_family run → (k : TableKind) → AreValid (tables_of run.hall k) }
 {}
 
 /// In each run the value of a key stays until the key is taken out, or its map or group dropped.
 pub fn a_value_stays()
-    ensures { (run : RunOf onces_family) (i : ℕ) (kind : TableKind) (a : KeyAction) (o k v : ℕ) → Runs onces_family run → run.next ≤ i → value_at (tables_of run.hall kind) o k ≡ Some v → takes_away a o k ≡ false
+    ensures { (run : RunOf onces_family) (i : ℕ) (kind : TableKind) (a : KeyAction) (o k v : ℕ) → IsRun onces_family run → run.next ≤ i → value_at (tables_of run.hall kind) o k ≡ Some v → takes_away a o k ≡ false
         → value_at (key_act (is_once kind) (tables_of run.hall kind) i a).hall o k ≡ Some v }
 {}

@@ -1,5 +1,5 @@
 use crate::rows::{Row, check_rows};
-use mea_base::Stop;
+use mea_family::Stop;
 use mea_run::Status;
 use std::test::Fail;
 

@@ -1,5 +1,5 @@
 use crate::rows::{bytes_of, words_of};
-use mea_lines::Event;
+use mea_events::Event;
 use mea_run::{Status, SureSink, SureSource, make_script, run};
 use mea_sem_model::SemEvent;
 use std::alloc::AllocError;

@@ -1,15 +1,7 @@
-pub mod Begins
-pub mod Lines
-pub mod Unended
 pub mod Tells
-pub mod Plays
-pub mod Dues
-pub mod Puts
-pub mod Pieces
 pub mod Endings
 pub mod Rounds
 pub mod Legal
 pub mod RoundsLeft
 pub mod Counts
 pub mod Played
-pub mod Ended

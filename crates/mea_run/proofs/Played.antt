@@ -1,15 +1,15 @@
 -- a script that is played in parts
 use Rattle.std.proofs.Common.{◌≡◌, ◌≢◌, ℕ, ◌+◌, ◌-◌, ◌<◌, ◌++◌, List, [], ◌∷◌, Option, Some, None, length, refl, ap, sym, subst, ◌∙◌, arith, if◌then◌else◌, append_assoc}
-use Rattle.mea_base.specs.declared.answer.Answer.{Answer}
-use Rattle.mea_base.specs.declared.stop.Stop.{Stop}
-use Rattle.mea_base.specs.declared.stop.Stop.TheVariants.{Unknown, Borrowed, Zero, Overflow, NoMemory}
-use Rattle.mea_base.specs.Family.{is_pending}
+use Rattle.mea_family.specs.declared.answer.Answer.{Answer}
+use Rattle.mea_family.specs.declared.stop.Stop.{Stop}
+use Rattle.mea_family.specs.declared.stop.Stop.TheVariants.{Unknown, Borrowed, Zero, Overflow, NoMemory}
+use Rattle.mea_family.specs.Family.{is_pending}
 use Rattle.mea_sem_model.specs.declared.event.SemEvent.TheVariants as events
-use Rattle.mea_lines.specs.declared.event.Event.{Event}
-use Rattle.mea_lines.specs.declared.event.Event.TheVariants.{Sem}
+use Rattle.mea_events.specs.declared.event.Event.{Event}
+use Rattle.mea_events.specs.declared.event.Event.TheVariants.{Sem}
 use Rattle.mea_hall.specs.World.{World, Play, empty_world, cause_of, step}
 use Rattle.mea_hall.specs.Front.{Front, front_at, front_from, front_of, prepended, IsLegal}
-use Rattle.mea_lines.specs.Text.{reply_text}
+use Rattle.mea_text.specs.Reply.{reply_text}
 use Rattle.mea_hall.proofs.Fronts.{front_goes_on}
 use Rattle.mea_run.specs.Generated.{drawn_by, round_of, rounds_from, first_state, script_of, pendings, wakes_in, last_text}
 use Rattle.mea_run.proofs.Counts.{pendings-append, wakes_in-append}

@@ -3,17 +3,17 @@ use Rattle.std.proofs.Common.{◌≡◌, ℕ, ◌+◌, ◌-◌, ◌<◌, ◌≤�
 use Rattle.std.specs.Option.{IsSome, option_map}
 use Rattle.std.specs.FinMap.{get, insert}
 use Rattle.std.proofs.lemmas.Bool.{ne_eqb, lt-leb, lt-ltb}
-use Rattle.mea_base.specs.declared.answer.Answer.TheVariants as answers
-use Rattle.mea_base.specs.declared.stop.Stop.TheVariants as stops
-use Rattle.mea_base.specs.Causes.{unknown_unless}
-use Rattle.mea_base.specs.Family.{is_pending}
+use Rattle.mea_family.specs.declared.answer.Answer.TheVariants as answers
+use Rattle.mea_family.specs.declared.stop.Stop.TheVariants as stops
+use Rattle.mea_family.specs.Causes.{unknown_unless}
+use Rattle.mea_family.specs.Family.{is_pending}
 use Rattle.mea_base.proofs.Maps.{by_put, value_in, is_there, is_absent, get-there, get-other, get-gone}
 use Rattle.mea_base.proofs.Tests.{by_name}
 use Rattle.mea_base.specs.Queue.{granted_in}
 use Rattle.mea_base.proofs.Totals.{total-zero}
 use Rattle.mea_sem_model.specs.declared.event.SemEvent.{SemEvent}
 use Rattle.mea_sem_model.specs.declared.event.SemEvent.TheVariants as events
-use Rattle.mea_sem_model.specs.Hall.{Hall, Semaphore, Future, Permit, Stage, New, Waiting, Granted, Cut, Waiter, semaphore_at, is_closed, queue_at, lack_of, paid_to, free, live, poured, granted, pour, with_semaphore}
+use Rattle.mea_sem_model.specs.Hall.{Hall, Semaphore, Future, Permit, FutureStage, New, Waiting, Granted, Cut, Waiter, semaphore_at, is_closed, queue_at, lack_of, paid_to, free, live, poured, granted, pour, with_semaphore}
 use Rattle.mea_sem_model.specs.Cause.{is_named, is_named_semaphore, is_future, is_permit, cause_of}
 use Rattle.mea_sem_model.specs.Step.{Outcome, quietly, without_future, forgetting, forgetting_exactly, taking, made_ready, queueing, refusing, open_poll, poll_at, poll_of, without, leaving, end_future, end_of, released_to, step}
 use Rattle.mea_sem_model.specs.Valid.{IsValid, IsBelow, Fits}
@@ -142,7 +142,7 @@ module _ (h : Hall) (i f : ℕ) (x : Future) (is : get h.futures f ≡ Some x) w
       by_test true = refl
       by_test false = refl
 
-  end_stands : (t : Stage) → Stands h → Stands (end_future h f x t).hall
+  end_stands : (t : FutureStage) → Stands h → Stands (end_future h f x t).hall
   end_stands New stands = record { named = stands.named; is_open = stands.is_open }
   end_stands (Waiting u) stands =
       let left = still_stands h x.semaphore (record (semaphore_at h x.semaphore) { queue = without (queue_at h x.semaphore) f }) refl refl stands in
@@ -150,13 +150,13 @@ module _ (h : Hall) (i f : ℕ) (x : Future) (is : get h.futures f ≡ Some x) w
   end_stands Granted stands = pour_stands (without_future h f) x.semaphore x.demand (record { named = stands.named; is_open = stands.is_open })
   end_stands Cut stands = record { named = stands.named; is_open = stands.is_open }
 
-  permits_end : (t : Stage) → (end_future h f x t).hall.permits ≡ h.permits
+  permits_end : (t : FutureStage) → (end_future h f x t).hall.permits ≡ h.permits
   permits_end New = refl
   permits_end (Waiting u) = refl
   permits_end Granted = refl
   permits_end Cut = refl
 
-  gone_end : (t : Stage) → get (end_future h f x t).hall.futures f ≡ None
+  gone_end : (t : FutureStage) → get (end_future h f x t).hall.futures f ≡ None
   gone_end New = get-gone h.futures f
   gone_end (Waiting u) = gone_pour (leaving h f x) x.semaphore (x.demand - lack_of (queue_at h x.semaphore) f) (get-gone h.futures f)
   gone_end Granted = gone_pour (without_future h f) x.semaphore x.demand (get-gone h.futures f)
@@ -175,7 +175,7 @@ module _ (h : Hall) (i f : ℕ) (x : Future) (is : get h.futures f ≡ Some x) w
   ends_permits : (played h i (events.End f)).hall.permits ≡ h.permits
   ends_permits = ap (λ (o : Outcome). o.hall.permits) end_is ∙ permits_end x.stage
 
-  reply_end : (t : Stage) → is_pending (end_future h f x t).reply ≡ false
+  reply_end : (t : FutureStage) → is_pending (end_future h f x t).reply ≡ false
   reply_end New = refl
   reply_end (Waiting u) = refl
   reply_end Granted = refl

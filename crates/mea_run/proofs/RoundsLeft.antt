@@ -1,6 +1,6 @@
 -- how a generated script goes on
-use Rattle.std.proofs.Common.{◌≡◌, ℕ, suc, ◌+◌, ◌-◌, ◌<◌, ◌++◌, List, [], ap, sym, ◌∙◌, arith, append_assoc, append-nil}
-use Rattle.mea_lines.specs.declared.event.Event.{Event}
+use Rattle.std.proofs.Common.{◌≡◌, ℕ, suc, ◌+◌, ◌-◌, ◌<◌, ◌++◌, List, [], ap, sym, ◌∙◌, arith, append_assoc}
+use Rattle.mea_events.specs.declared.event.Event.{Event}
 use Rattle.mea_run.specs.Generated.{drawn_by, round_of, rounds_from}
 
 -- the next round, and those after it
@@ -18,7 +18,3 @@ made_on state j n made more all less so_far is =
     ap (λ es. es ++ rounds_from (drawn_by 4 state) (j + 1) (n - (j + 1))) is
     ∙ append_assoc made (round_of state j) (rounds_from (drawn_by 4 state) (j + 1) (n - (j + 1)))
     ∙ ap (λ es. made ++ es) (sym (rounds_step state j n less)) ∙ so_far
-
--- all rounds were made
-pub made_all : (state j n : ℕ) (made all : List Event) → j ≡ n → made ++ rounds_from state j (n - j) ≡ all → made ≡ all
-made_all state j n made all is so_far = sym (append-nil made) ∙ ap (λ es. made ++ es) (sym (rounds_done state j n is)) ∙ so_far

@@ -2,20 +2,21 @@
 use Rattle.std.specs.Prelude.{ℕ, zero, suc, ◌≡◌, ◌≢◌, ◌+◌, ◌*◌, ◌/◌, ◌%◌, ◌++◌, Bool, true, false, List, [], ◌∷◌, map, length, Some, None, codes, if◌then◌else◌}
 use Rattle.std.specs.List.{sum_by}
 use Rattle.std.specs.FinMap as finmap
-use Rattle.mea_base.specs.declared.answer.Answer.{Answer}
-use Rattle.mea_base.specs.declared.answer.Answer.TheVariants as answers
-use Rattle.mea_base.specs.Family.{is_pending}
+use Rattle.mea_family.specs.declared.answer.Answer.{Answer}
+use Rattle.mea_family.specs.declared.answer.Answer.TheVariants as answers
+use Rattle.mea_family.specs.Family.{is_pending}
 use Rattle.mea_sem_model.specs.declared.event.SemEvent.{SemEvent}
 use Rattle.mea_sem_model.specs.declared.event.SemEvent.TheVariants as events
 use Rattle.mea_sem_model.specs.Hall as sem
 use Rattle.mea_sem_model.specs.Cause.{is_named}
-use Rattle.mea_lines.specs.declared.event.Event.{Event}
-use Rattle.mea_lines.specs.declared.event.Event.TheVariants.{Sem, Meet, Lock, Chan, Share, Once}
-use Rattle.mea_base.specs.declared.stop.Stop.{Stop}
-use Rattle.mea_base.specs.declared.stop.Stop.TheVariants as stops
+use Rattle.mea_events.specs.declared.event.Event.{Event}
+use Rattle.mea_events.specs.declared.event.Event.TheVariants.{Sem, Meet, Lock, Chan, Share, Once}
+use Rattle.mea_family.specs.declared.stop.Stop.{Stop}
+use Rattle.mea_family.specs.declared.stop.Stop.TheVariants as stops
 use Rattle.mea_hall.specs.World.{Play}
 use Rattle.mea_hall.specs.Front.{front_from, front_of}
-use Rattle.mea_lines.specs.Text.{reply_text, counted_line}
+use Rattle.mea_text.specs.Text.{counted_line}
+use Rattle.mea_text.specs.Reply.{reply_text}
 
 -- ---- drawn numbers
 

@@ -2,18 +2,14 @@
 //! `run`, over the halls of all families; the sources and sinks of `mea_io` are given again.
 #![tactic(auto)]
 
-mod begun;
 mod generator;
+mod halls;
 mod making;
-mod player;
 mod running;
-mod script;
-mod status;
-mod transfer;
 
 pub use generator::{generated_scripts_are_legal, make_script};
 pub use mea_io::{
     Failed, MemSink, MemSource, PutFault, Sink, Source, StdSink, StdSource, SureSink, SureSource,
 };
+pub use mea_script::Status;
 pub use running::run;
-pub use status::Status;

@@ -1,14 +1,17 @@
 ghost use Rattle.std.specs.Prelude.{◌≡◌, ◌≢◌, ◌+◌, ◌*◌, ◌<◌, ◌≤◌, ◌^◌, ◌++◌, [], ◌∷◌, ℕ, List, length, None, Some, IfOk, OnOk, IfErr, codes, if◌then◌else◌};
-ghost use Rattle.mea_base.specs.Family.{is_pending};
+ghost use Rattle.mea_family.specs.Family.{is_pending};
 ghost use Rattle.mea_hall.specs.World.{empty_world, cause_of, step};
 ghost use Rattle.mea_hall.specs.Front.{front_from, front_of};
-ghost use Rattle.mea_lines.specs.Text.{reply_text, counted_line};
+ghost use Rattle.mea_text.specs.Text.{counted_line};
+ghost use Rattle.mea_text.specs.Reply.{reply_text};
 ghost use Rattle.mea_run.specs.Generated.{script_of, drawn_by, pendings, wakes_in, last_text, summary_of, PlaysRound, RefusesRound};
 
 use crate::generator::{FIRST, LAST, first_state, round_of};
-use mea_base::{Answer, NoMemory, Stop};
+use mea_base::NoMemory;
+use mea_events::Event;
+use mea_family::{Answer, Stop};
 use mea_hall::Hall;
-use mea_lines::{Event, put_line, put_reply};
+use mea_text::{put_line, put_reply};
 use std::alloc::Global;
 
 /// What is counted of events that were played: the replies `pending`, and all wakes.

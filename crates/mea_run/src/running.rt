@@ -1,23 +1,19 @@
-ghost use Rattle.std.specs.Prelude.{◌≡◌, ◌≢◌, ◌↔◌, ◌⊎◌, ◌+◌, ◌-◌, ◌^◌, ◌<◌, ◌≤◌, ◌++◌, ℕ, List, [], Some, IsTrue, IfOk, IfErr, OnOk, map, length, take, drop, string_bytes};
+ghost use Rattle.std.specs.Prelude.{◌≡◌, ◌≢◌, ◌↔◌, ◌⊎◌, ◌<◌, ◌≤◌, ◌^◌, ℕ, List, Some, IsTrue, map, string_bytes};
 ghost use Rattle.mea_io.specs.Bytes.{Rose};
-ghost use Rattle.mea_run.specs.Begun.{Keeps};
-ghost use Rattle.mea_run.specs.Player.{due};
-ghost use Rattle.mea_run.specs.Script.{limit, status_of, IsBalanced, LosesNoWake, GrantsInOrder};
-ghost use Rattle.mea_run.specs.Told.{IsUnended, GoesOn, Ends};
+ghost use Rattle.mea_run.specs.Script.{status_of, IsBalanced, LosesNoWake, GrantsInOrder};
 ghost use Rattle.mea_hall.specs.Front.{front_of, IsLegal};
 ghost use Rattle.mea_run.specs.Generated.{script_of, PollsWait};
-ghost use Rattle.mea_run.specs.Runs.{IsPlay, IsMake, IsCommand, IsFault, IsWriteFault, IsAnswered, IsTold, IsSummarized, IsMade, IsTakenTo, line_of, lines_ended};
+ghost use Rattle.mea_run.specs.Runs.{IsPlay, IsMake, IsCommand, IsFault, IsWriteFault, IsAnswered, IsTold, IsSummarized, IsMade, IsTakenTo, line_of};
 
 use crate::generator::generated_scripts_are_legal;
+use crate::halls::Halls;
 use crate::making::summary;
-use crate::player::Player;
-use crate::script::LIMIT;
-use crate::status::Status;
-use crate::transfer::{PIECE, write_last, zeros};
-use mea_base::Stop;
+use mea_family::Stop;
 use mea_hall::{grants_follow_first_polls, no_wake_is_lost, permits_balance};
 use mea_io::{Sink, Source};
-use mea_lines::numbers_of_command;
+use mea_lines::long_lines_are_no_events;
+use mea_script::{Status, play_script, write_last};
+use mea_text::numbers_of_command;
 use std::alloc::Global;
 
 /// The most rounds of a generated script.
@@ -113,90 +109,9 @@ fn play<S: Source, K: Sink>(alloc: Global, source: &mut S, sink: &mut K) -> Stat
     ensures taken_to { (script : List ℕ) (n : ℕ) → S.left source.old ≡ Some script → line_of result ≡ Some n
         → (left : List ℕ) × (S.left source.new ≡ Some left) × IsTakenTo n script left }
 {
-    let mut buffer = match zeros(alloc, PIECE) {
-        Ok(buffer) => buffer,
-        Err(_) => return Status::NoMemory,
-    };
-    let mut player = Player::new(alloc);
-    let status = play_pieces(&mut player, &mut buffer, source, sink);
-    player.close(sink, status)
-}
-
-/// Plays a script, piece by piece as it comes, and answers how it ends.
-fn play_pieces<S: Source, K: Sink>(
-    player: &mut Player,
-    buffer: &mut [u8],
-    source: &mut S,
-    sink: &mut K,
-) -> Status
-    requires buffer { length buffer.old ≡ 65536 }
-    requires hall { (player.old.hall.events ≡ 0) × (player.old.hall.wakes ≡ []) }
-    requires begun { Keeps player.old.begun [] }
-    ensures usage { result ≢ Status.Usage }
-    ensures read_fault { result ≡ Status.ReadFault → Rose (S.faults source.old) (S.faults source.new) }
-    ensures write_fault { result ≡ Status.WriteFault → Rose (K.faults sink.old) (K.faults sink.new) }
-    ensures cause { (at : ℕ) → result ≢ Status.Stopped at Stop.NoMemory }
-    ensures faults { K.faults sink.old ≤ K.faults sink.new }
-    ensures status { (script : List ℕ) → S.left source.old ≡ Some script → IsFault result ⊎ (result ≡ (due player.old limit script).status) }
-    ensures text { (script before : List ℕ) → S.left source.old ≡ Some script → K.taken sink.old ≡ Some before
-        → Ends result (due player.old limit script).text before (K.taken sink.new) player.new.text.items }
-    ensures taken_to { (script : List ℕ) (n : ℕ) → S.left source.old ≡ Some script → line_of result ≡ Some n
-        → (left : List ℕ) × (S.left source.new ≡ Some left) × IsTakenTo n script left }
-{
-    let mut read = 0;
-    while read < LIMIT {
-        let asked = PIECE.min(LIMIT - read);
-        match play_next(player, &mut buffer[..asked], source, sink) {
-            Ok(0) => return player.finish(),
-            Ok(count) => read += count,
-            Err(status) => return status,
-        }
-    }
-    match source.take(&mut buffer[..1]) {
-        Err(_) => Status::ReadFault,
-        Ok(0) => player.finish(),
-        Ok(_) => player.cut_off(),
-    }
-}
-
-/// Plays the next piece, and answers how many bytes it has: none where the script is at its end.
-fn play_next<S: Source, K: Sink>(
-    player: &mut Player,
-    buffer: &mut [u8],
-    source: &mut S,
-    sink: &mut K,
-) -> Result<usize, Status>
-    requires buffer { 0 < length buffer.old }
-    requires few { player.old.hall.events + length buffer.old < 2 ^ 64 - 1 }
-    requires quiet { player.old.hall.wakes ≡ [] }
-    ensures few { IfOk result (λ count. (count ≤ length buffer.old) × (player.new.hall.events ≤ player.old.hall.events + count)) }
-    ensures quiet { OnOk result (player.new.hall.wakes ≡ []) }
-    ensures counted { IfOk result (λ count. (rest : List ℕ) → S.left source.old ≡ Some rest
-        → (S.left source.new ≡ Some (drop count rest)) × (player.new.hall.events ≡ player.old.hall.events + lines_ended (take count rest))) }
-    ensures line { IfErr result (λ status. (n : ℕ) → line_of status ≡ Some n → player.old.hall.events ≤ n) }
-    ensures took { IfErr result (λ status. (n : ℕ) (rest : List ℕ) → line_of status ≡ Some n → S.left source.old ≡ Some rest
-        → (count : ℕ) × (count ≤ length buffer.old) × (S.left source.new ≡ Some (drop count rest))) }
-    ensures goes_on { IfOk result (λ count. (line rest : List ℕ) (room : ℕ) → Keeps player.old.begun line → IsUnended line → S.left source.old ≡ Some rest
-        → (next : List ℕ) × Keeps player.new.begun next × IsUnended next × (S.left source.new ≡ Some (drop count rest)) × (count ≡ 0 → rest ≡ [])
-        × GoesOn (due player.old (length line + (count + room)) (line ++ rest)) (due player.new (length next + room) (next ++ drop count rest)) (K.taken sink.old) (K.taken sink.new)) }
-    ensures status { IfErr result (λ status. (line rest : List ℕ) (room : ℕ) → Keeps player.old.begun line → IsUnended line → S.left source.old ≡ Some rest → length buffer.old ≤ room
-        → IsFault status ⊎ (status ≡ (due player.old (length line + room) (line ++ rest)).status)) }
-    ensures text { IfErr result (λ status. (line rest before : List ℕ) (room : ℕ) → Keeps player.old.begun line → IsUnended line → S.left source.old ≡ Some rest → length buffer.old ≤ room → K.taken sink.old ≡ Some before
-        → Ends status (due player.old (length line + room) (line ++ rest)).text before (K.taken sink.new) player.new.text.items) }
-    ensures read_fault { result ≡ Err Status.ReadFault → Rose (S.faults source.old) (S.faults source.new) }
-    ensures write_fault { result ≡ Err Status.WriteFault → Rose (K.faults sink.old) (K.faults sink.new) }
-    ensures usage { result ≢ Err Status.Usage }
-    ensures cause { (at : ℕ) → result ≢ Err (Status.Stopped at Stop.NoMemory) }
-    ensures source_faults { S.faults source.old ≤ S.faults source.new }
-    ensures faults { K.faults sink.old ≤ K.faults sink.new }
-{
-    match source.take(buffer) {
-        Err(_) => Err(Status::ReadFault),
-        Ok(count) => {
-            player.play(&buffer[..count], sink)?;
-            Ok(count)
-        }
-    }
+    long_lines_are_no_events();
+    let mut halls = Halls::new(alloc);
+    play_script(alloc, &mut halls, source, sink)
 }
 
 /// Plays a generated script, and writes its summary to the sink.

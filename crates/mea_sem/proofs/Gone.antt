@@ -8,7 +8,7 @@ use Rattle.std.proofs.Common.{◌&&◌}
 use Rattle.mea_base.proofs.Totals.{get_removed}
 use Rattle.mea_base.proofs.Tests.{at_same, at_apart}
 use Rattle.mea_base.proofs.NamedMaps.{same_named, get-seen}
-use Rattle.mea_sem_model.specs.Hall.{Stage}
+use Rattle.mea_sem_model.specs.Hall.{FutureStage}
 use Rattle.mea_sem_core.specs.declared.acquire.Acquire.{Acquire}
 use Rattle.mea_sem_core.specs.declared.acquire.Acquire.TheVariants as acquires
 use Rattle.mea_sem_core.specs.Acquire.{demand_of}
@@ -23,7 +23,7 @@ use Rattle.mea_sem.proofs.Stages.{granted_idle, granted_uncut, cut_idle}
 use Rattle.mea_sem.proofs.Changes.{Changes, linked_after, queue_kept, semaphores_after, futures_gone}
 
 -- a future as it is seen, at a stage that is known
-pub seen_future : (st : Store) (b f : ℕ) (x : FutureEntry) (e : SemaphoreEntry) (a : Acquire) (z : Stage) → get st.futures f ≡ Some x
+pub seen_future : (st : Store) (b f : ℕ) (x : FutureEntry) (e : SemaphoreEntry) (a : Acquire) (z : FutureStage) → get st.futures f ≡ Some x
     → get st.semaphores x.semaphore ≡ Some e → x.acquire ≡ a → stage_of a e.core ≡ z
     → get (hall_of st b).futures f ≡ Some (record { semaphore = x.semaphore; demand = demand_of a; plain = x.plain; forgets = x.forgets; stage = z })
 seen_future st b f x e a z is there acquire stage =

@@ -7,7 +7,7 @@ use Rattle.std.proofs.lemmas.Bool.{eqb-true, eq-eqb}
 use Rattle.mea_base.specs.Totals.{total, weight}
 use Rattle.mea_base.proofs.Totals.{total-alike}
 use Rattle.mea_base.proofs.NamedMaps.{get-seen}
-use Rattle.mea_sem_model.specs.Hall.{Future, Stage, New}
+use Rattle.mea_sem_model.specs.Hall.{Future, FutureStage, New}
 use Rattle.mea_sem_core.specs.declared.acquire.Acquire.{Acquire}
 use Rattle.mea_sem_core.specs.declared.acquire.Acquire.TheVariants as acquires
 use Rattle.mea_sem_core.specs.Calls.{Belongs}
@@ -25,7 +25,7 @@ number_of (acquires.Done d) = 0
 number_of (acquires.Refused d) = 0
 
 -- the futures of s that count one at their stage are those whose numbers are keys of some pairs of its core
-module _ (st : Store) (b s : ℕ) (e : SemaphoreEntry) (linked : IsLinked st b) (there : get st.semaphores s ≡ Some e) (one_of : Stage → ℕ)
+module _ (st : Store) (b s : ℕ) (e : SemaphoreEntry) (linked : IsLinked st b) (there : get st.semaphores s ≡ Some e) (one_of : FutureStage → ℕ)
     (pairs : FinMap nat_cmp ℕ) (unpolled : one_of New ≡ 0)
     (placed : (n d : ℕ) → get pairs n ≡ Some d → one_of (stage_of (acquires.Queued d n) e.core) ≡ 1)
     (belonging : (d n : ℕ) → Belongs e.core (acquires.Queued d n) → (one_of (stage_of (acquires.Queued d n) e.core) ≡ 0)

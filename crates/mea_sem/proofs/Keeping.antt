@@ -16,13 +16,13 @@ use Rattle.mea_sem_model.proofs.StaysValid.{kept_valid}
 use Rattle.mea_sem_core.specs.Core as cores
 use Rattle.mea_sem.specs.declared.entries.SemaphoreEntry.{SemaphoreEntry}
 use Rattle.mea_sem.specs.Store.{Store, hall_of, IsLinked}
-use Rattle.mea_sem.specs.Kept.{wakers_in, IsKeptEntry, IsKept}
+use Rattle.mea_sem.specs.Kept.{wakers_in, IsKeptEntry, AreKeptSemaphores}
 use Rattle.mea_sem.proofs.Weighs.{Weighs, Things, if_plain, always}
 
 -- event i is played on what is kept
 pub record Plays (st st' : Store) (next i : ℕ) (event : SemEvent) (w' sp' : ℕ) : Type 0 where
   pub hall : hall_of st' (i + 1) ≡ (step (hall_of st next) i event).hall
-  pub kept : IsKept st' w' sp' (i + 1)
+  pub kept : AreKeptSemaphores st' w' sp' (i + 1)
 
 -- what is known of the semaphore that an event changes; a, b, p and r are as in Weighs
 pub record Settles (e e' : SemaphoreEntry) (a b : ℕ) (p r : Things) : Type 0 where
@@ -35,7 +35,7 @@ pub record Settles (e e' : SemaphoreEntry) (a b : ℕ) (p r : Things) : Type 0 w
   pub released : e'.released ≤ e.released + 2 ^ 64
   pub forgotten : e'.forgotten ≤ e.forgotten + 2 ^ 64
 
-module _ (st st' : Store) (w sp next i s : ℕ) (event : SemEvent) (e e' : SemaphoreEntry) (k : IsKept st w sp next) (less : next ≤ i)
+module _ (st st' : Store) (w sp next i s : ℕ) (event : SemEvent) (e e' : SemaphoreEntry) (k : AreKeptSemaphores st w sp next) (less : next ≤ i)
     (low : i < 2 ^ 64) (fits : Fits event) (allowed : cause_of (hall_of st next) event ≡ None) where
   pub settled : (w' sp' a b : ℕ) (p r : Things) → get st.semaphores s ≡ Some e → ((q : ℕ) → get st'.semaphores q ≡ cond (s == q) (Some e') (get st.semaphores q))
       → hall_of st' (i + 1) ≡ (step (hall_of st next) i event).hall → IsLinked st' (i + 1)

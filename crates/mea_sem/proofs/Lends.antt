@@ -9,7 +9,7 @@ use Rattle.mea_sem_core.specs.declared.acquire.Acquire.TheVariants as acquires
 use Rattle.mea_sem_core.specs.Core as cores
 use Rattle.mea_sem.specs.declared.entries.SemaphoreEntry.{SemaphoreEntry}
 use Rattle.mea_sem.specs.Store.{Store, name_of, who_of, queue_of, stage_of, stage_under, core_in, future_of, hall_of, IsOwned, IsLinked}
-use Rattle.mea_sem.specs.Kept.{IsKept}
+use Rattle.mea_sem.specs.Kept.{AreKeptSemaphores}
 use Rattle.mea_sem.specs.StandsFor.{core_waker, StandsFor}
 use Rattle.mea_sem.proofs.Cores.{Queue, IsAt, all_at}
 use Rattle.mea_sem.proofs.Granted.{granted-seen, cut-seen}
@@ -38,7 +38,7 @@ module _ (st : Store) (b s : ℕ) (e : SemaphoreEntry) (linked : IsLinked st b) 
   wakers_alike [] at = refl
   wakers_alike (x ∷ q) at = λ i. (waker_seen x at.0 i, x.1) ∷ wakers_alike q at.1 i
 
-pub stands_for : (st : Store) (w sp next s : ℕ) (e : SemaphoreEntry) → IsKept st w sp next → get st.semaphores s ≡ Some e → StandsFor (hall_of st next) s e.core
+pub stands_for : (st : Store) (w sp next s : ℕ) (e : SemaphoreEntry) → AreKeptSemaphores st w sp next → get st.semaphores s ≡ Some e → StandsFor (hall_of st next) s e.core
 stands_for st w sp next s e kept there =
     let seen = seen_at st next s e kept.linked there in
     record {

@@ -10,7 +10,7 @@ use Rattle.mea_sem.specs.declared.entries.SemaphoreEntry.{SemaphoreEntry}
 use Rattle.mea_sem.specs.declared.entries.FutureEntry.{FutureEntry}
 use Rattle.mea_sem.specs.Entries.{ledger_of_entry}
 use Rattle.mea_sem.specs.Store.{Store, who_of, queue_of, semaphore_of, hall_of}
-use Rattle.mea_sem.specs.Kept.{IsKept}
+use Rattle.mea_sem.specs.Kept.{AreKeptSemaphores}
 use Rattle.mea_sem.proofs.Seen.{seen_at}
 
 -- the debts of a queue are the same by name
@@ -27,7 +27,7 @@ debts-seen m b s ((cores.Owes, l) ∷ q) =
     let mine = sum_by-cons (λ (e : cores.Waiter ℕ × ℕ). cores.debt_of e.0 e.1) (cores.Owes, l) q in
     omega (arith, rest, seen, mine)
 
-module _ (st : Store) (w sp next s : ℕ) (e : SemaphoreEntry) (k : IsKept st w sp next) (there : get st.semaphores s ≡ Some e) where
+module _ (st : Store) (w sp next s : ℕ) (e : SemaphoreEntry) (k : AreKeptSemaphores st w sp next) (there : get st.semaphores s ≡ Some e) where
   seen : semaphore_at (hall_of st next) s ≡ semaphore_of st.futures next s e
   seen = seen_at st next s e k.linked there
 

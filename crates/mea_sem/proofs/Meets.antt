@@ -1,6 +1,6 @@
 -- a hall as a method meets it, and as the method leaves it
 use Rattle.std.proofs.Common.{◌≡◌, ℕ, ◌+◌, ◌^◌, ◌<◌, ◌≤◌, ◌++◌, List, [], subst, sym, ap, ◌∙◌, append-nil, Some}
-use Rattle.mea_base.specs.declared.answer.Answer.{Answer}
+use Rattle.mea_family.specs.declared.answer.Answer.{Answer}
 use Rattle.mea_base.specs.Named.{at}
 use Rattle.mea_sem_model.specs.declared.event.SemEvent.{SemEvent}
 use Rattle.mea_sem_model.specs.Hall.{Hall}
@@ -10,8 +10,9 @@ use Rattle.mea_sem.specs.declared.entries.SemaphoreEntry.{SemaphoreEntry}
 use Rattle.mea_sem.specs.declared.entries.FutureEntry.{FutureEntry}
 use Rattle.mea_sem.specs.declared.entries.PermitEntry.{PermitEntry}
 use Rattle.mea_sem.specs.Store.{Store, store_of, with_ended, hall_of}
-use Rattle.mea_sem.specs.Kept.{IsKept}
-use Rattle.mea_sem.specs.Play.{Play, Yields}
+use Rattle.mea_sem.specs.Kept.{AreKeptSemaphores}
+use Rattle.mea_family.specs.Play.{Yields}
+use Rattle.mea_sem.specs.Play.{Play}
 use Rattle.mea_sem.proofs.Keeping.{Plays}
 
 -- its semaphores, those of which nothing is left too
@@ -28,7 +29,7 @@ abbrev pub seen_in : Inside → Play
 seen_in a = record { hall = hall_in a; wakes = a.outbox.wakers; next = a.next }
 
 abbrev pub IsKeptIn : Inside → Type 0
-IsKeptIn a = IsKept (store_in a) a.registered a.outbox.spare a.next
+IsKeptIn a = AreKeptSemaphores (store_in a) a.registered a.outbox.spare a.next
 
 -- the hall v, in which event number i is played
 pub record Meets (a : Inside) (v : Play) (i : ℕ) : Type 0 where
@@ -56,7 +57,7 @@ pub record MeetsPermit (a : Inside) (v : Play) (i p : ℕ) (x : PermitEntry) (e 
 
 -- event number i had this outcome: what is kept now, and what the contract says
 pub record Done (v : Play) (i : ℕ) (o : Outcome) (answer : Answer) (st' : Store) (w' sp' : ℕ) (wakes' : List ℕ) : Type 0 where
-  pub kept : IsKept st' w' sp' (i + 1)
+  pub kept : AreKeptSemaphores st' w' sp' (i + 1)
   pub yields : Yields v i o answer (record { hall = hall_of st' (i + 1); wakes = wakes'; next = i + 1 })
 
 -- what is played stays so where the hall is seen as before
@@ -70,8 +71,8 @@ pub permits_semaphore : {a : Inside} {v : Play} {i p : ℕ} {x : PermitEntry} {e
 permits_semaphore m = record { meets = m.meets; there = m.there }
 
 -- what was written back as it stood left what was there
-pub kept_store : (a : Inside) {st : Store} → IsKeptIn a → st ≡ store_in a → IsKept st a.registered a.outbox.spare a.next
-kept_store a k same = subst (λ (st : Store). IsKept st a.registered a.outbox.spare a.next) (sym same) k
+pub kept_store : (a : Inside) {st : Store} → IsKeptIn a → st ≡ store_in a → AreKeptSemaphores st a.registered a.outbox.spare a.next
+kept_store a k same = subst (λ (st : Store). AreKeptSemaphores st a.registered a.outbox.spare a.next) (sym same) k
 
 pub seen_store : (a : Inside) {v : Play} {st : Store} → seen_in a ≡ v → st ≡ store_in a
     → record { hall = hall_of st a.next; wakes = a.outbox.wakers; next = a.next } ≡ v
@@ -79,9 +80,9 @@ seen_store a seen same = (λ j. record { hall = hall_of (same j) a.next; wakes =
 
 -- an insertion that failed left what was there
 pub kept_as_futures : (a : Inside) {fs : List (ℕ × FutureEntry)} → IsKeptIn a → fs ≡ a.futures.entries
-    → IsKept (store_of (semaphores_in a) fs a.permits.entries) a.registered a.outbox.spare a.next
+    → AreKeptSemaphores (store_of (semaphores_in a) fs a.permits.entries) a.registered a.outbox.spare a.next
 kept_as_futures a k same = subst
-    (λ (fs : List (ℕ × FutureEntry)). IsKept (store_of (semaphores_in a) fs a.permits.entries) a.registered a.outbox.spare a.next) (sym same) k
+    (λ (fs : List (ℕ × FutureEntry)). AreKeptSemaphores (store_of (semaphores_in a) fs a.permits.entries) a.registered a.outbox.spare a.next) (sym same) k
 
 pub seen_as_futures : (a : Inside) {v : Play} {fs : List (ℕ × FutureEntry)} → seen_in a ≡ v → fs ≡ a.futures.entries
     → record { hall = hall_of (store_of (semaphores_in a) fs a.permits.entries) a.next; wakes = a.outbox.wakers; next = a.next } ≡ v
@@ -89,9 +90,9 @@ seen_as_futures a seen same =
     (λ j. record { hall = hall_of (store_of (semaphores_in a) (same j) a.permits.entries) a.next; wakes = a.outbox.wakers; next = a.next }) ∙ seen
 
 pub kept_as_permits : (a : Inside) {ps : List (ℕ × PermitEntry)} → IsKeptIn a → ps ≡ a.permits.entries
-    → IsKept (store_of (semaphores_in a) a.futures.entries ps) a.registered a.outbox.spare a.next
+    → AreKeptSemaphores (store_of (semaphores_in a) a.futures.entries ps) a.registered a.outbox.spare a.next
 kept_as_permits a k same = subst
-    (λ (ps : List (ℕ × PermitEntry)). IsKept (store_of (semaphores_in a) a.futures.entries ps) a.registered a.outbox.spare a.next) (sym same) k
+    (λ (ps : List (ℕ × PermitEntry)). AreKeptSemaphores (store_of (semaphores_in a) a.futures.entries ps) a.registered a.outbox.spare a.next) (sym same) k
 
 module _ {a : Inside} {v : Play} {i : ℕ} (m : Meets a v i) where
   pub later : a.next ≤ i
@@ -100,9 +101,6 @@ module _ {a : Inside} {v : Play} {i : ℕ} (m : Meets a v i) where
   -- what is said of the hall that callers see goes for the one that is kept, and the other way round
   pub to_kept : (P : Hall → Type 0) → P v.hall → P (hall_in a)
   to_kept P h = subst (λ (p : Play). P p.hall) (sym m.seen) h
-
-  pub to_seen : (P : Hall → Type 0) → P (hall_in a) → P v.hall
-  to_seen P h = subst (λ (p : Play). P p.hall) m.seen h
 
   -- the event is played, with these wakers and this reply
   pub done : {st' : Store} {w' sp' : ℕ} (wakes' : List ℕ) (event : SemEvent) (reply : Answer) → Plays (store_in a) st' a.next i event w' sp'

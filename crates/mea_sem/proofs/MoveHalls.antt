@@ -8,7 +8,7 @@ use Rattle.std.proofs.lemmas.Bool.{eqb-true, eqb-false}
 use Rattle.mea_base.proofs.NamedMaps.{same_named, get-seen}
 use Rattle.mea_base.proofs.Totals.{get_inserted}
 use Rattle.mea_base.proofs.Tests.{at_same, at_apart}
-use Rattle.mea_sem_model.specs.Hall.{Future, Stage, Who, staged, stage_all}
+use Rattle.mea_sem_model.specs.Hall.{Future, FutureStage, Who, staged, stage_all}
 use Rattle.mea_sem_model.proofs.HallLemmas.{among, get-stage_all}
 use Rattle.mea_sem_core.specs.declared.acquire.Acquire.{Acquire}
 use Rattle.mea_sem_core.specs.declared.acquire.Acquire.TheVariants as acquires
@@ -23,7 +23,7 @@ use Rattle.mea_sem.proofs.Seen.{among-number, among-unnamed}
 use Rattle.mea_sem.proofs.Names.{has-parts}
 
 -- in the core of s those of ws leave the queue and come to the stage t, and nobody else moves
-pub record MovesInto (st st' : Store) (s : ℕ) (t : Stage) (ws : List (cores.Waiter ℕ)) (e e' : SemaphoreEntry) : Type 0 where
+pub record MovesInto (st st' : Store) (s : ℕ) (t : FutureStage) (ws : List (cores.Waiter ℕ)) (e e' : SemaphoreEntry) : Type 0 where
   pub there : get st.semaphores s ≡ Some e
   pub semaphores : (q : ℕ) → get st'.semaphores q ≡ cond (s == q) (Some e') (get st.semaphores q)
   pub futures : st'.futures ≡ st.futures
@@ -43,7 +43,7 @@ pub record MovesInto (st st' : Store) (s : ℕ) (t : Stage) (ws : List (cores.Wa
   pub cut_from : (k d : ℕ) → get e'.core.cut k ≡ Some d → (get e.core.cut k ≡ Some d) ⊎ ((l : ℕ) × (cores.waiting e.core.queue k ≡ Some (d, l)))
   pub numbered : IsNumbered e'.core
 
-module _ (st st' : Store) (b s : ℕ) (t : Stage) (ws : List (cores.Waiter ℕ)) (e e' : SemaphoreEntry) (linked : IsLinked st b)
+module _ (st st' : Store) (b s : ℕ) (t : FutureStage) (ws : List (cores.Waiter ℕ)) (e e' : SemaphoreEntry) (linked : IsLinked st b)
     (c : MovesInto st st' s t ws e e') where
   semaphore_there : get st'.semaphores s ≡ Some e'
   semaphore_there = c.semaphores s ∙ at_same s s (Some e') (get st.semaphores s) refl
@@ -184,7 +184,7 @@ module _ (st st' : Store) (b s : ℕ) (t : Stage) (ws : List (cores.Waiter ℕ))
       (core_in (get st.semaphores y.semaphore)) → future_of st'.semaphores y ≡ future_of st.semaphores y
   same_future y same = λ i. record { semaphore = y.semaphore; demand = demand_of y.acquire; plain = y.plain; forgets = y.forgets; stage = same i }
 
-  staged_by : (x : Future) (z : Stage) (u : Bool) → z ≡ cond u t x.stage → ◌≡◌ {A = Future} (record x { stage = z }) (cond u (staged t x) x)
+  staged_by : (x : Future) (z : FutureStage) (u : Bool) → z ≡ cond u t x.stage → ◌≡◌ {A = Future} (record x { stage = z }) (cond u (staged t x) x)
   staged_by x z true h = λ i. record x { stage = h i }
   staged_by x z false h = λ i. record x { stage = h i }
 

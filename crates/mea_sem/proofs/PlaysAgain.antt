@@ -16,7 +16,7 @@ use Rattle.mea_sem_core.specs.Calls.{Belongs, with_waker}
 use Rattle.mea_sem.specs.declared.entries.SemaphoreEntry.{SemaphoreEntry}
 use Rattle.mea_sem.specs.declared.entries.FutureEntry.{FutureEntry}
 use Rattle.mea_sem.specs.Store.{Store, is_under, has, name_of, who_of, queue_of, core_in, semaphore_of, stage_of, stage_under, future_of, hall_of, IsOpen, IsOwned, IsNumbered, IsLinked}
-use Rattle.mea_sem.specs.Kept.{wakers_in, IsKept}
+use Rattle.mea_sem.specs.Kept.{wakers_in, AreKeptSemaphores}
 use Rattle.mea_sem.proofs.Cores.{IsAt, all_at, all_by, waiting-with_waker, waker-with_waker, waker-with_waker_same, debts-with_waker, AreApart-with_waker, only-with_waker}
 use Rattle.mea_sem.proofs.Stages.{cut_idle}
 use Rattle.mea_sem.proofs.Names.{name-owner, queue_of-same}
@@ -30,7 +30,7 @@ first_or_none None = 0
 first_or_none (Some p) = p.0
 
 -- ---- a future that waits under the number m waits on, with another waker
-module _ (st st' : Store) (w sp next i s f v d m l : ℕ) (x : FutureEntry) (e : SemaphoreEntry) (k : IsKept st w sp next) (less : next ≤ i)
+module _ (st st' : Store) (w sp next i s f v d m l : ℕ) (x : FutureEntry) (e : SemaphoreEntry) (k : AreKeptSemaphores st w sp next) (less : next ≤ i)
     (low : i < 2 ^ 64) (mine : x.semaphore ≡ s) (acquire : x.acquire ≡ acquires.Queued d m) where
   abbrev this_hall : Hall
   this_hall = hall_of st next

@@ -2,7 +2,7 @@
 use Rattle.std.proofs.Common.{◌≡◌, ℕ, ◌+◌, ◌^◌, ◌<◌, ◌≤◌, ◌==◌, true, false, cond, List, [], ◌∷◌, length, refl, ap, sym, ◌∙◌, arith, Some, None, if◌then◌else◌}
 use Rattle.std.specs.FinMap.{get}
 use Rattle.mea_base.specs.Queue.{granted_in}
-use Rattle.mea_base.specs.declared.answer.Answer.TheVariants as answers
+use Rattle.mea_family.specs.declared.answer.Answer.TheVariants as answers
 use Rattle.mea_sem_model.specs.declared.event.SemEvent.TheVariants as events
 use Rattle.mea_sem_model.specs.Hall.{Hall, Cut, semaphore_at, queue_at, everyone, debts_in, pour, cutting, closing, wakes_waiting}
 use Rattle.mea_sem_model.specs.Cause.{cause_of}
@@ -10,7 +10,7 @@ use Rattle.mea_sem_model.specs.Step.{Outcome, step, quietly}
 use Rattle.mea_sem_core.specs.Core as cores
 use Rattle.mea_sem.specs.declared.entries.SemaphoreEntry.{SemaphoreEntry}
 use Rattle.mea_sem.specs.Store.{Store, hall_of}
-use Rattle.mea_sem.specs.Kept.{wakers_in, IsKept}
+use Rattle.mea_sem.specs.Kept.{wakers_in, AreKeptSemaphores}
 use Rattle.mea_sem.proofs.Cores.{Queue, debts-only}
 use Rattle.mea_sem.proofs.Seen.{seen_at, wakes_waiting_seen}
 use Rattle.mea_sem.proofs.CutHalls.{cut_entry, linked_cut, hall_cut, paid_in_seen}
@@ -42,7 +42,7 @@ pub none_woken : (q : Queue) (n : ℕ) → cores.wakers_of (granted_in (cores.on
 none_woken q n = no_length (cores.wakers_of (granted_in (cores.only_debts q) n)) (none_poured q n)
 
 -- ---- the event
-module _ (st st' : Store) (w w' sp' sp next i s : ℕ) (e : SemaphoreEntry) (k : IsKept st w sp next) (less : next ≤ i) (low : i < 2 ^ 64)
+module _ (st st' : Store) (w w' sp' sp next i s : ℕ) (e : SemaphoreEntry) (k : AreKeptSemaphores st w sp next) (less : next ≤ i) (low : i < 2 ^ 64)
     (there : get st.semaphores s ≡ Some e) where
   abbrev h : Hall
   h = hall_of st next

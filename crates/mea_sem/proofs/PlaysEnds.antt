@@ -6,10 +6,10 @@ use Rattle.mea_base.specs.Queue.{granted_in}
 use Rattle.mea_base.proofs.NamedMaps.{get-seen}
 use Rattle.mea_sem_model.specs.declared.event.SemEvent.{SemEvent}
 use Rattle.mea_sem_model.specs.declared.event.SemEvent.TheVariants as events
-use Rattle.mea_sem_model.specs.Hall.{Hall, Future, Permit, Stage, New, Waiting, Granted, Cut, semaphore_at, queue_at, with_semaphore, lack_of}
+use Rattle.mea_sem_model.specs.Hall.{Hall, Future, Permit, FutureStage, New, Waiting, Granted, Cut, semaphore_at, queue_at, with_semaphore, lack_of}
 use Rattle.mea_sem_model.specs.Cause.{cause_of}
 use Rattle.mea_sem_model.specs.Valid.{Fits}
-use Rattle.mea_base.specs.declared.answer.Answer.{Answer}
+use Rattle.mea_family.specs.declared.answer.Answer.{Answer}
 use Rattle.mea_sem_model.specs.Step.{step, quietly, pouring, without_future, without_permit, without, leaving, released_to, end_permit, end_of}
 use Rattle.mea_sem_core.specs.declared.acquire.Acquire.TheVariants as acquires
 use Rattle.mea_sem_core.specs.Core as cores
@@ -17,7 +17,7 @@ use Rattle.mea_sem_core.specs.Calls.{without_acquire}
 use Rattle.mea_sem.specs.declared.entries.SemaphoreEntry.{SemaphoreEntry}
 use Rattle.mea_sem.specs.declared.entries.FutureEntry.{FutureEntry}
 use Rattle.mea_sem.specs.Store.{Store, queue_of, semaphore_of, hall_of}
-use Rattle.mea_sem.specs.Kept.{wakers_in, IsKept}
+use Rattle.mea_sem.specs.Kept.{wakers_in, AreKeptSemaphores}
 use Rattle.mea_sem.proofs.Cores.{debts-without}
 use Rattle.mea_sem.proofs.Stages.{stage_granted, stage_cut, stage_waits}
 use Rattle.mea_sem.proofs.Seen.{seen_at}
@@ -35,7 +35,7 @@ pub record PlaysWith (st st' : Store) (next i : ℕ) (event : SemEvent) (w' sp' 
   pub plays : Plays st st' next i event w' sp'
   pub wakes : (step (hall_of st next) i event).wakes ≡ woken
 
-module _ (st st' : Store) (w w' sp' sp next i s n : ℕ) (e : SemaphoreEntry) (k : IsKept st w sp next) (less : next ≤ i) (low : i < 2 ^ 64)
+module _ (st st' : Store) (w w' sp' sp next i s n : ℕ) (e : SemaphoreEntry) (k : AreKeptSemaphores st w sp next) (less : next ≤ i) (low : i < 2 ^ 64)
     (there : get st.semaphores s ≡ Some e) where
   abbrev h : Hall
   h = hall_of st next
@@ -114,7 +114,7 @@ module _ (st st' : Store) (w w' sp' sp next i s n : ℕ) (e : SemaphoreEntry) (k
   -- ---- a future ends that was never polled
   module _ (f d : ℕ) (x : FutureEntry) (mine : x.semaphore ≡ s) (was : get st.futures f ≡ Some x)
       (futures : (g : ℕ) → get st'.futures g ≡ cond (f == g) None (get st.futures g)) (permits : st'.permits ≡ st.permits) where
-    abbrev at_stage : Stage → Future
+    abbrev at_stage : FutureStage → Future
     at_stage z = record { semaphore = x.semaphore; demand = d; plain = x.plain; forgets = x.forgets; stage = z }
 
     abbrev pub fewer_entry : SemaphoreEntry
@@ -123,11 +123,11 @@ module _ (st st' : Store) (w w' sp' sp next i s n : ℕ) (e : SemaphoreEntry) (k
     home : get st.semaphores x.semaphore ≡ Some e
     home = ap (get st.semaphores) mine ∙ there
 
-    lost : (z : Stage) → get h.futures f ≡ Some (at_stage z) → Weighs h (without_future h f) s 0 0 (thing x.plain) nothing
+    lost : (z : FutureStage) → get h.futures f ≡ Some (at_stage z) → Weighs h (without_future h f) s 0 0 (thing x.plain) nothing
     lost z is = subst (λ q. Weighs h (without_future h f) q 0 0 (thing x.plain) nothing) mine (weighs_lost_future h f (at_stage z) is)
 
     -- it was paid nothing: the core is c1 after it, and the event gives this
-    module _ (event : SemEvent) (fits : Fits event) (allowed : cause_of h event ≡ None) (reply : Answer) (z : Stage) (c1 : cores.Core ℕ)
+    module _ (event : SemEvent) (fits : Fits event) (allowed : cause_of h event ≡ None) (reply : Answer) (z : FutureStage) (c1 : cores.Core ℕ)
         (live : c1.live ≡ e.core.live) (queue : c1.queue ≡ e.core.queue) (quiet : c1.wakes ≡ e.core.wakes) (frees : c1.free ≡ e.core.free)
         (closed : c1.closed ≡ e.core.closed) (held : cores.held_of c1 ≡ cores.held_of e.core) where
       abbrev pub unpaid_entry : SemaphoreEntry

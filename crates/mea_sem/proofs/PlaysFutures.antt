@@ -19,7 +19,7 @@ use Rattle.mea_sem_core.specs.Calls.{Belongs}
 use Rattle.mea_sem.specs.declared.entries.SemaphoreEntry.{SemaphoreEntry}
 use Rattle.mea_sem.specs.declared.entries.FutureEntry.{FutureEntry}
 use Rattle.mea_sem.specs.Store.{Store, is_under, has, name_of, who_of, queue_of, core_in, semaphore_of, stage_of, stage_under, future_of, hall_of, IsOpen, IsNumbered}
-use Rattle.mea_sem.specs.Kept.{wakers_in, IsKept}
+use Rattle.mea_sem.specs.Kept.{wakers_in, AreKeptSemaphores}
 use Rattle.mea_sem.proofs.Cores.{waiting-push, waker-push, debts-push, AreApart-push}
 use Rattle.mea_sem.proofs.Names.{has-from, name-has}
 use Rattle.mea_sem.proofs.Seen.{seen_at}
@@ -33,7 +33,7 @@ abbrev first_or_none : Option (ℕ × ℕ) → ℕ
 first_or_none None = 0
 first_or_none (Some p) = p.0
 
-module _ (st st' : Store) (w sp next i s n : ℕ) (e : SemaphoreEntry) (k : IsKept st w sp next) (less : next ≤ i) (low : i < 2 ^ 64) where
+module _ (st st' : Store) (w sp next i s n : ℕ) (e : SemaphoreEntry) (k : AreKeptSemaphores st w sp next) (less : next ≤ i) (low : i < 2 ^ 64) where
   abbrev h : Hall
   h = hall_of st next
 
@@ -115,7 +115,7 @@ module _ (st st' : Store) (w sp next i s n : ℕ) (e : SemaphoreEntry) (k : IsKe
       at_most false = omega arith
 
 -- ---- a future begins to wait under the number m, for d permits
-module _ (st st' : Store) (w sp sp' next i s f v d m : ℕ) (x : FutureEntry) (e : SemaphoreEntry) (k : IsKept st w sp next) (less : next ≤ i)
+module _ (st st' : Store) (w sp sp' next i s f v d m : ℕ) (x : FutureEntry) (e : SemaphoreEntry) (k : AreKeptSemaphores st w sp next) (less : next ≤ i)
     (low : i < 2 ^ 64) (mine : x.semaphore ≡ s) (acquire : x.acquire ≡ acquires.New d) where
   abbrev hall : Hall
   hall = hall_of st next

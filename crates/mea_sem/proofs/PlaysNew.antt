@@ -18,7 +18,7 @@ use Rattle.mea_sem_core.specs.Acquire.{demand_of}
 use Rattle.mea_sem.specs.declared.entries.SemaphoreEntry.{SemaphoreEntry}
 use Rattle.mea_sem.specs.declared.entries.FutureEntry.{FutureEntry}
 use Rattle.mea_sem.specs.Store.{Store, semaphore_of, stage_of, core_in, future_of, hall_of, IsHome, IsOwned, IsNumbered, IsLinked}
-use Rattle.mea_sem.specs.Kept.{things_by, things, wakers_in, IsKeptEntry, IsKept}
+use Rattle.mea_sem.specs.Kept.{things_by, things, wakers_in, IsKeptEntry, AreKeptSemaphores}
 use Rattle.mea_sem.proofs.Renumbered.{hall_renumbered}
 use Rattle.mea_sem.proofs.Weighs.{if_plain, always}
 use Rattle.mea_sem.proofs.Keeping.{Plays}
@@ -29,7 +29,7 @@ fresh_core n = record { free = n; live = n; queue = []; granted = empty; cut = e
 abbrev pub fresh_entry : ℕ → SemaphoreEntry
 fresh_entry n = record { core = fresh_core n; made = n; released = 0; forgotten = 0; named = true; plain = 0; things = 0 }
 
-module _ (st : Store) (w sp next i : ℕ) (k : IsKept st w sp next) (less : next ≤ i) (low : i < 2 ^ 64) where
+module _ (st : Store) (w sp next i : ℕ) (k : AreKeptSemaphores st w sp next) (less : next ≤ i) (low : i < 2 ^ 64) where
   -- there is no semaphore of a number that was not given
   no_semaphore : get st.semaphores i ≡ None
   no_semaphore = at_value (get st.semaphores i) refl

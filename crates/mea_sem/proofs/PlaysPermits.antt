@@ -4,7 +4,7 @@ use Rattle.std.specs.Ordering.{nat_cmp}
 use Rattle.std.specs.FinMap.{FinMap, get, insert, remove}
 use Rattle.std.proofs.lemmas.Bool.{le-leb, eqb-true}
 use Rattle.std.specs.Option.{option_map}
-use Rattle.mea_base.specs.declared.answer.Answer.TheVariants as answers
+use Rattle.mea_family.specs.declared.answer.Answer.TheVariants as answers
 use Rattle.mea_base.proofs.NamedMaps.{same_named, get-seen}
 use Rattle.mea_base.proofs.Totals.{get_removed, get_inserted}
 use Rattle.mea_base.proofs.Tests.{at_same, at_apart}
@@ -17,7 +17,7 @@ use Rattle.mea_sem_model.specs.Step.{step, quietly, taking, with_permit, without
 use Rattle.mea_sem_core.specs.Core as cores
 use Rattle.mea_sem.specs.declared.entries.SemaphoreEntry.{SemaphoreEntry}
 use Rattle.mea_sem.specs.Store.{Store, queue_of, semaphore_of, hall_of}
-use Rattle.mea_sem.specs.Kept.{IsKept}
+use Rattle.mea_sem.specs.Kept.{AreKeptSemaphores}
 use Rattle.mea_sem.proofs.Seen.{seen_at}
 use Rattle.mea_sem.proofs.Still.{IsStill, still_queue, linked_still, queue_still, hall_still}
 use Rattle.mea_sem.proofs.Weighs.{Weighs, Things, thing, nothing, if_plain, always, one, weighs_after, weighs_as, weighs_new_permit, weighs_permit, weighs_lost_permit}
@@ -25,7 +25,7 @@ use Rattle.mea_sem.proofs.Keeping.{Plays, settled_as}
 use Rattle.mea_sem.proofs.PlaysSemaphores.{Puts}
 
 -- there is no permit of a number that was not given
-pub no_permit : (st : Store) (w sp next i : ℕ) → IsKept st w sp next → next ≤ i → get st.permits i ≡ None
+pub no_permit : (st : Store) (w sp next i : ℕ) → AreKeptSemaphores st w sp next → next ≤ i → get st.permits i ≡ None
 no_permit st w sp next i k less = at_value (get st.permits i) refl
   where
     at_value : (o : Option Permit) → get st.permits i ≡ o → o ≡ None
@@ -52,7 +52,7 @@ pub weighs_besides : (h g : Hall) (q s a b : ℕ) (p r : Things) (m : Semaphore)
 weighs_besides h g q s a b p r m x = record { held = λ k. x.held k; things = λ chosen k. x.things chosen k }
 
 -- a permit is held, and a plain one is counted
-pub permit_counts : (st : Store) (w sp next p : ℕ) (x : Permit) (e : SemaphoreEntry) → IsKept st w sp next → get st.permits p ≡ Some x
+pub permit_counts : (st : Store) (w sp next p : ℕ) (x : Permit) (e : SemaphoreEntry) → AreKeptSemaphores st w sp next → get st.permits p ≡ Some x
     → get st.semaphores x.semaphore ≡ Some e → (x.size ≤ cores.held_of e.core) × (one x.plain ≤ e.plain) × (1 ≤ e.things)
 permit_counts st w sp next p x e k is there =
     let lost = weighs_lost_permit (hall_of st next) p x is in
@@ -70,7 +70,7 @@ permit_counts st w sp next p x e k is there =
     (omega (arith, a, c, t, u), omega (arith, b, d, v, u), omega (arith, b2, d2, v2, u))
 
 -- two permits of one semaphore are held together
-pub permits_count : (st : Store) (w sp next p q : ℕ) (x y : Permit) (e : SemaphoreEntry) → IsKept st w sp next → (p ≡ q → ⊥)
+pub permits_count : (st : Store) (w sp next p q : ℕ) (x y : Permit) (e : SemaphoreEntry) → AreKeptSemaphores st w sp next → (p ≡ q → ⊥)
     → get st.permits p ≡ Some x → get st.permits q ≡ Some y → x.semaphore ≡ y.semaphore → get st.semaphores x.semaphore ≡ Some e
     → x.size + y.size ≤ cores.held_of e.core
 permits_count st w sp next p q x y e k apart isx isy same there =
@@ -87,7 +87,7 @@ permits_count st w sp next p q x y e k apart isx isy same there =
     let z = at_same {X = ℕ} y.semaphore x.semaphore 0 0 (sym same) in
     omega (arith, a, b, c, t, u, v, z)
 
-module _ (st st' : Store) (w sp next i s n : ℕ) (e : SemaphoreEntry) (k : IsKept st w sp next) (less : next ≤ i) (low : i < 2 ^ 64) where
+module _ (st st' : Store) (w sp next i s n : ℕ) (e : SemaphoreEntry) (k : AreKeptSemaphores st w sp next) (less : next ≤ i) (low : i < 2 ^ 64) where
   -- ---- n free permits become permit i
   abbrev taken_entry : Bool → SemaphoreEntry
   taken_entry plain = record e { core = record e.core { free = e.core.free - n }; plain = e.plain + one plain; things = e.things + 1 }

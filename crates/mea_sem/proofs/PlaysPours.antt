@@ -12,7 +12,7 @@ use Rattle.mea_sem_model.specs.Step.{step}
 use Rattle.mea_sem_core.specs.Core as cores
 use Rattle.mea_sem.specs.declared.entries.SemaphoreEntry.{SemaphoreEntry}
 use Rattle.mea_sem.specs.Store.{Store, hall_of, IsLinked}
-use Rattle.mea_sem.specs.Kept.{wakers_in, IsKept}
+use Rattle.mea_sem.specs.Kept.{wakers_in, AreKeptSemaphores}
 use Rattle.mea_sem.proofs.Cores.{debts-pour, still_waiting, paid_whole, one_more}
 use Rattle.mea_sem.proofs.Seen.{wakes_seen}
 use Rattle.mea_sem.proofs.PourHalls.{PoursInto, hall_poured, linked_poured}
@@ -52,7 +52,7 @@ twice : {X : Type 0} (t : Bool) (a b c : X) → cond t a c ≡ cond t a (cond t 
 twice true a b c = refl
 twice false a b c = refl
 
-module _ (st st' : Store) (w sp next i s n : ℕ) (event : SemEvent) (e e1 : SemaphoreEntry) (k : IsKept st w sp next) (less : next ≤ i)
+module _ (st st' : Store) (w sp next i s n : ℕ) (event : SemEvent) (e e1 : SemaphoreEntry) (k : AreKeptSemaphores st w sp next) (less : next ≤ i)
     (low : i < 2 ^ 64) (there : get st.semaphores s ≡ Some e)
     (semaphores : (q : ℕ) → get st'.semaphores q ≡ cond (s == q) (Some (poured_entry e1 n)) (get st.semaphores q)) where
   abbrev st1 : Store

@@ -2,7 +2,7 @@
 use Rattle.std.proofs.Common.{◌≡◌, ℕ, ◌+◌, ◌-◌, ◌^◌, ◌<◌, ◌≤◌, ◌==◌, true, false, cond, refl, ap, sym, subst, ◌∙◌, arith, Some, None, if◌then◌else◌}
 use Rattle.std.specs.Ordering.{nat_cmp}
 use Rattle.std.specs.FinMap.{FinMap, get, insert, remove}
-use Rattle.mea_base.specs.declared.answer.Answer.{Answer}
+use Rattle.mea_family.specs.declared.answer.Answer.{Answer}
 use Rattle.mea_base.proofs.NamedMaps.{same_named}
 use Rattle.mea_base.proofs.Totals.{get_inserted}
 use Rattle.mea_base.proofs.Tests.{at_same, last_stays}
@@ -15,7 +15,7 @@ use Rattle.mea_sem_core.specs.Core as cores
 use Rattle.mea_sem.specs.declared.entries.SemaphoreEntry.{SemaphoreEntry}
 use Rattle.mea_sem.specs.declared.entries.FutureEntry.{FutureEntry}
 use Rattle.mea_sem.specs.Store.{Store, queue_of, hall_of}
-use Rattle.mea_sem.specs.Kept.{wakers_in, IsKept}
+use Rattle.mea_sem.specs.Kept.{wakers_in, AreKeptSemaphores}
 use Rattle.mea_sem.proofs.Gone.{Leaves, linked_gone, hall_gone}
 use Rattle.mea_sem.proofs.Weighs.{Weighs, thing, nothing, if_plain, always, one, weighs_after, weighs_as, weighs_new_permit, weighs_lost_future}
 use Rattle.mea_sem.proofs.Keeping.{Plays, settled_as}
@@ -28,7 +28,7 @@ insert_twice m k v w = same_named _ _
     ∙ sym (get_inserted m k q w))
 
 -- a plain future is counted
-pub future_counts : (st : Store) (w sp next f : ℕ) (x : Future) (e : SemaphoreEntry) → IsKept st w sp next → get (hall_of st next).futures f ≡ Some x
+pub future_counts : (st : Store) (w sp next f : ℕ) (x : Future) (e : SemaphoreEntry) → AreKeptSemaphores st w sp next → get (hall_of st next).futures f ≡ Some x
     → get st.semaphores x.semaphore ≡ Some e → (one x.plain ≤ e.plain) × (1 ≤ e.things)
 future_counts st w sp next f x e k is there =
     let lost = weighs_lost_future (hall_of st next) f x is in
@@ -43,7 +43,7 @@ future_counts st w sp next f x e k is there =
 
 -- what is the same for both ways of being ready: c1 is the core after the poll, and m what it is seen as
 module _ (st st' : Store) (w sp next i s f v : ℕ) (x : FutureEntry) (y : Future) (e : SemaphoreEntry) (c1 : cores.Core ℕ) (m : Semaphore)
-    (k : IsKept st w sp next) (less : next ≤ i) (low : i < 2 ^ 64)
+    (k : AreKeptSemaphores st w sp next) (less : next ≤ i) (low : i < 2 ^ 64)
     (allowed : cause_of (hall_of st next) (events.Poll f v) ≡ None) (seen : get (hall_of st next).futures f ≡ Some y) (mine : y.semaphore ≡ s)
     (form : y.plain ≡ x.plain) (small : y.demand < 2 ^ 64)
     (live : c1.live ≡ e.core.live) (queue : c1.queue ≡ e.core.queue) (quiet : c1.wakes ≡ e.core.wakes)

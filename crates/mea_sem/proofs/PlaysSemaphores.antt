@@ -2,7 +2,7 @@
 use Rattle.std.proofs.Common.{◌≡◌, ℕ, ◌+◌, ◌-◌, ◌^◌, ◌<◌, ◌≤◌, ◌==◌, ◌&&◌, not, true, false, cond, List, ◌∷◌, min, nat_le, refl, ap, sym, ◌∙◌, arith, Some, None, if◌then◌else◌}
 use Rattle.std.specs.FinMap.{get, insert}
 use Rattle.std.proofs.lemmas.Bool.{le-leb}
-use Rattle.mea_base.specs.declared.answer.Answer.TheVariants as answers
+use Rattle.mea_family.specs.declared.answer.Answer.TheVariants as answers
 use Rattle.mea_sem_model.specs.declared.event.SemEvent.{SemEvent}
 use Rattle.mea_sem_model.specs.declared.event.SemEvent.TheVariants as events
 use Rattle.mea_sem_model.specs.Hall.{Hall, Debt, semaphore_at, with_semaphore, free}
@@ -13,7 +13,7 @@ use Rattle.mea_sem_core.specs.Core as cores
 use Rattle.mea_sem_core.specs.Calls as calls
 use Rattle.mea_sem.specs.declared.entries.SemaphoreEntry.{SemaphoreEntry}
 use Rattle.mea_sem.specs.Store.{Store, queue_of, semaphore_of, hall_of}
-use Rattle.mea_sem.specs.Kept.{wakers_in, IsKept}
+use Rattle.mea_sem.specs.Kept.{wakers_in, AreKeptSemaphores}
 use Rattle.mea_sem.proofs.Seen.{seen_at}
 use Rattle.mea_sem.proofs.Renumbered.{hall_renumbered, kept_renumbered}
 use Rattle.mea_sem.proofs.Still.{IsStill, still_queue, linked_still, queue_still, hall_still}
@@ -27,7 +27,7 @@ pub record Puts (st st' : Store) (s : ℕ) (e e' : SemaphoreEntry) : Type 0 wher
   pub semaphores : (q : ℕ) → get st'.semaphores q ≡ cond (s == q) (Some e') (get st.semaphores q)
   pub futures : st'.futures ≡ st.futures
 
-module _ (st st' : Store) (w sp next i s n : ℕ) (e : SemaphoreEntry) (k : IsKept st w sp next) (less : next ≤ i) (low : i < 2 ^ 64) (small : n < 2 ^ 64) where
+module _ (st st' : Store) (w sp next i s n : ℕ) (e : SemaphoreEntry) (k : AreKeptSemaphores st w sp next) (less : next ≤ i) (low : i < 2 ^ 64) (small : n < 2 ^ 64) where
   abbrev forgot_entry : SemaphoreEntry
   forgot_entry = record e { core = calls.forgetting e.core n; forgotten = e.forgotten + min n e.core.free }
 
@@ -172,7 +172,7 @@ module _ (st st' : Store) (w sp next i s n : ℕ) (e : SemaphoreEntry) (k : IsKe
       refl k.room (let f = k.few in omega (arith, f))
 
 -- an event whose outcome leaves the hall as it is
-pub plays_nothing : (st : Store) (w sp next i : ℕ) (event : SemEvent) → IsKept st w sp next → next ≤ i → i < 2 ^ 64
+pub plays_nothing : (st : Store) (w sp next i : ℕ) (event : SemEvent) → AreKeptSemaphores st w sp next → next ≤ i → i < 2 ^ 64
     → (step (hall_of st next) i event).hall ≡ hall_of st next → Plays st st next i event w sp
 plays_nothing st w sp next i event k less low is = record {
   hall = hall_renumbered st next (i + 1) k.linked (omega arith) ∙ sym is;

@@ -4,10 +4,10 @@ use Rattle.std.specs.Option.{option_map}
 use Rattle.std.specs.FinMap.{get}
 use Rattle.std.specs.Result.{IfErr, OnOk, IsErrAnd}
 use Rattle.mea_base.specs.Named.{at}
-use Rattle.mea_base.specs.declared.stop.Stop.{Stop}
-use Rattle.mea_base.specs.declared.stop.Stop.TheVariants as stops
+use Rattle.mea_family.specs.declared.stop.Stop.{Stop}
+use Rattle.mea_family.specs.declared.stop.Stop.TheVariants as stops
 use Rattle.mea_base.proofs.NamedMaps.{get-named, get-seen, is_some-map, kept-at, found}
-use Rattle.mea_base.specs.Causes.{unknown_unless}
+use Rattle.mea_family.specs.Causes.{unknown_unless}
 use Rattle.mea_sem_model.specs.declared.event.SemEvent.TheVariants as events
 use Rattle.mea_sem_model.specs.Cause.{cause_of, is_named, is_named_semaphore, is_future, is_permit}
 use Rattle.mea_sem_model.specs.Hall.{live, plain_things}
@@ -45,10 +45,6 @@ module _ (a : Inside) {v : Play} (seen : seen_in a ≡ v) (k : ℕ) where
 
   pub unknown_missing : (o : Option Stop) → at a.semaphores.entries k ≡ None → cond (is_named v.hall k) o (Some stops.Unknown) ≡ Some stops.Unknown
   unknown_missing o none = ap (λ b. cond b o (Some stops.Unknown)) (named-missing none)
-
-  -- what names a semaphore is refused where that is not there, or not named any more; o is what else would refuse it
-  pub unknown_gone : (o : Option Stop) → at (semaphores_in a) k ≡ None → cond (is_named v.hall k) o (Some stops.Unknown) ≡ Some stops.Unknown
-  unknown_gone o none = ap (λ b. cond b o (Some stops.Unknown)) (named-none none)
 
   pub unknown_unnamed : (o : Option Stop) (e : SemaphoreEntry) → at (semaphores_in a) k ≡ Some e → e.named ≡ false
       → cond (is_named v.hall k) o (Some stops.Unknown) ≡ Some stops.Unknown
@@ -128,11 +124,6 @@ pub lacks_after : {A : Type 0} (r : Result A Stop) (c : Option Stop) → IfErr r
     → IfErr r (λ stop. (c ≡ Some stop) ⊎ ((c ≡ None) × (stop ≡ stops.NoMemory)))
 lacks_after (Ok a) c lacks allowed = tt
 lacks_after (Err f) c lacks allowed = inr (allowed, lacks)
-
--- what holds anyway holds where there is no error
-pub on_ok : {A E : Type 0} (r : Result A E) (P : Type 0) → P → OnOk r P
-on_ok (Ok a) P p = p
-on_ok (Err e) P p = tt
 
 -- what the entry of a semaphore says of it
 module _ (a : Inside) {v : Play} (seen : seen_in a ≡ v) (k : IsKeptIn a) (s : ℕ) (e : SemaphoreEntry) (there : at (semaphores_in a) s ≡ Some e) where

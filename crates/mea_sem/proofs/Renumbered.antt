@@ -9,7 +9,7 @@ use Rattle.mea_sem_model.proofs.Keeps.{below_later}
 use Rattle.mea_sem_core.specs.Core as cores
 use Rattle.mea_sem.specs.declared.entries.SemaphoreEntry.{SemaphoreEntry}
 use Rattle.mea_sem.specs.Store.{Store, who_of, queue_of, semaphore_of, hall_of, IsLinked}
-use Rattle.mea_sem.specs.Kept.{IsKeptEntry, IsKept}
+use Rattle.mea_sem.specs.Kept.{IsKeptEntry, AreKeptSemaphores}
 use Rattle.mea_sem.proofs.Cores.{IsAt, all_at, all_by}
 use Rattle.mea_sem.proofs.Names.{name-owner, queue_of-same}
 
@@ -59,7 +59,7 @@ module _ (st : Store) (b b' : ℕ) (linked : IsLinked st b) (more : b ≤ b') wh
   hall_renumbered = λ i. record { semaphores = semaphores_same i; futures = (hall_of st b).futures; permits = st.permits }
 
 -- an event that changes nothing
-pub kept_renumbered : (st : Store) (w sp next i : ℕ) → IsKept st w sp next → next ≤ i → i < 2 ^ 64 → IsKept st w sp (i + 1)
+pub kept_renumbered : (st : Store) (w sp next i : ℕ) → AreKeptSemaphores st w sp next → next ≤ i → i < 2 ^ 64 → AreKeptSemaphores st w sp (i + 1)
 kept_renumbered st w sp next i k less low =
     let same : hall_of st (i + 1) ≡ hall_of st next = hall_renumbered st next (i + 1) k.linked (omega arith) in
     record {

@@ -3,7 +3,7 @@ use Rattle.std.proofs.Common.{inl, inr, ◌≡◌, ℕ, ◌+◌, ◌-◌, ◌^�
 use Rattle.std.specs.Option.{option_map}
 use Rattle.std.specs.FinMap.{get, insert, remove}
 use Rattle.std.proofs.lemmas.Bool.{le-leb, lt-leb}
-use Rattle.mea_base.specs.declared.answer.Answer.TheVariants as answers
+use Rattle.mea_family.specs.declared.answer.Answer.TheVariants as answers
 use Rattle.mea_base.specs.Named.{named, at, ChangesAt}
 use Rattle.mea_base.specs.Totals.{weight}
 use Rattle.mea_base.proofs.NamedMaps.{named_put, get-seen, kept-at, found, kept-changed}
@@ -11,7 +11,7 @@ use Rattle.mea_base.proofs.Totals.{total-remove}
 use Rattle.mea_base.proofs.Tests.{at_same}
 use Rattle.mea_sem_model.specs.declared.event.SemEvent.{SemEvent}
 use Rattle.mea_sem_model.specs.declared.event.SemEvent.TheVariants as events
-use Rattle.mea_sem_model.specs.Hall.{Hall, Semaphore, Future, Stage, New, Waiting, Granted, Cut, semaphore_at, queue_at, is_closed, with_semaphore, free, held, paid_to}
+use Rattle.mea_sem_model.specs.Hall.{Hall, Semaphore, Future, FutureStage, New, Waiting, Granted, Cut, semaphore_at, queue_at, is_closed, with_semaphore, free, held, paid_to}
 use Rattle.mea_sem_model.specs.Cause.{cause_of}
 use Rattle.mea_sem_model.specs.Valid.{Fits}
 use Rattle.mea_sem_model.specs.Step.{step, quietly, taking, with_future, queueing, first_poll, open_poll, refusing, made_ready, poll_of, acquire_of}
@@ -62,7 +62,7 @@ abbrev pub permit_from : FutureEntry → PermitEntry
 permit_from x = record { semaphore = x.semaphore; size = demand_of x.acquire; plain = x.plain }
 
 -- a future as the hall has it, at a stage
-abbrev pub at_stage : FutureEntry → Stage → Future
+abbrev pub at_stage : FutureEntry → FutureStage → Future
 at_stage x z = record { semaphore = x.semaphore; demand = demand_of x.acquire; plain = x.plain; forgets = x.forgets; stage = z }
 
 module _ {a : Inside} {v : Play} {i f : ℕ} {x : FutureEntry} {e : SemaphoreEntry} (m : MeetsFuture a v i f x e) where
@@ -79,7 +79,7 @@ module _ {a : Inside} {v : Play} {i f : ℕ} {x : FutureEntry} {e : SemaphoreEnt
       let same : home.entry ≡ e = cc in
       (subst (λ (d : SemaphoreEntry). Belongs d.core x.acquire) same home.belongs, home.open_still)
 
-  pub seen_as : (z : Stage) → stage_of x.acquire e.core ≡ z → get (hall_in a).futures f ≡ Some (at_stage x z)
+  pub seen_as : (z : FutureStage) → stage_of x.acquire e.core ≡ z → get (hall_in a).futures f ≡ Some (at_stage x z)
   seen_as z stage = seen_future (store_in a) a.next f x e x.acquire z future_there home_there refl stage
 
   pub seen_now : get (hall_in a).futures f ≡ Some (at_stage x (stage_of x.acquire e.core))
@@ -256,7 +256,7 @@ acquire_done {a} {v} {i} {s} {e} m ss' fs' n plain forgets e2 x allowed changes 
 
 -- ---- a future is ready: its stage, the core after the poll, and what the semaphore is seen as
 record Readies (a : Inside) (i f w : ℕ) (x : FutureEntry) (e : SemaphoreEntry) : Type 0 where
-  stage : Stage
+  stage : FutureStage
   core : cores.Core ℕ
   semaphore : Semaphore
   seen : get (hall_in a).futures f ≡ Some (at_stage x stage)

@@ -4,15 +4,15 @@ use Rattle.std.specs.Option.{option_map}
 use Rattle.std.specs.Ordering.{nat_cmp}
 use Rattle.std.specs.FinMap.{FinMap, get, insert, remove}
 use Rattle.std.proofs.lemmas.Bool.{eq-eqb, eqb-true, ne_eqb, and_parts, le-leb, lt-leb}
-use Rattle.mea_base.specs.declared.answer.Answer.{Answer}
-use Rattle.mea_base.specs.declared.answer.Answer.TheVariants as answers
+use Rattle.mea_family.specs.declared.answer.Answer.{Answer}
+use Rattle.mea_family.specs.declared.answer.Answer.TheVariants as answers
 use Rattle.mea_base.specs.Named.{named, at, ChangesAt}
 use Rattle.mea_base.specs.Queue.{granted_in}
-use Rattle.mea_base.specs.Causes.{unknown_unless}
+use Rattle.mea_family.specs.Causes.{unknown_unless}
 use Rattle.mea_base.proofs.NamedMaps.{get-named, named_put, named_remove, same_named, get-seen, kept-at, found, changes_twice, changed_at}
 use Rattle.mea_base.proofs.Totals.{get_inserted, get_removed}
 use Rattle.mea_base.proofs.Maps.{inside}
-use Rattle.mea_base.specs.declared.stop.Stop.TheVariants as stops
+use Rattle.mea_family.specs.declared.stop.Stop.TheVariants as stops
 use Rattle.mea_sem_model.specs.declared.event.SemEvent.{SemEvent}
 use Rattle.mea_sem_model.specs.declared.event.SemEvent.TheVariants as events
 use Rattle.mea_sem_model.specs.Hall.{Hall, Permit, semaphore_at, with_semaphore}
@@ -41,9 +41,6 @@ seen_permits ps = named (λ p x. permit_of x) ps
 
 permit_at : (ps : Permits) (p : ℕ) (x : PermitEntry) → at ps p ≡ Some x → get (seen_permits ps) p ≡ Some (permit_of x)
 permit_at ps p x is = get-named (λ p x. permit_of x) ps p ∙ ap (option_map permit_of) is
-
-permit_missing : (ps : Permits) (p : ℕ) → at ps p ≡ None → get (seen_permits ps) p ≡ None
-permit_missing ps p is = get-named (λ p x. permit_of x) ps p ∙ ap (option_map permit_of) is
 
 -- a permit's semaphore is kept
 pub home_found : (a : Inside) (p : ℕ) {x : PermitEntry} → IsKeptIn a → at a.permits.entries p ≡ Some x → at (semaphores_in a) x.semaphore ≡ None → ⊥

@@ -7,10 +7,10 @@ use Rattle.std.proofs.lemmas.Bool.{le-leb, lt-leb}
 use Rattle.mea_base.specs.Named.{named, ChangesAt}
 use Rattle.mea_base.specs.Totals.{total, weight}
 use Rattle.mea_base.specs.Queue.{granted_in}
-use Rattle.mea_base.specs.declared.answer.Answer.TheVariants as answers
-use Rattle.mea_base.specs.declared.ledger.Ledger.{Ledger}
-use Rattle.mea_base.specs.declared.stop.Stop.{Stop}
-use Rattle.mea_base.specs.declared.stop.Stop.TheVariants as stops
+use Rattle.mea_family.specs.declared.answer.Answer.TheVariants as answers
+use Rattle.mea_family.specs.declared.ledger.Ledger.{Ledger}
+use Rattle.mea_family.specs.declared.stop.Stop.{Stop}
+use Rattle.mea_family.specs.declared.stop.Stop.TheVariants as stops
 use Rattle.mea_base.proofs.NamedMaps.{same_named, get-named, get-seen, kept-at, found}
 use Rattle.mea_base.proofs.Totals.{total-remove, total-empty}
 use Rattle.mea_sem_model.specs.declared.event.SemEvent.{SemEvent}
@@ -26,7 +26,7 @@ use Rattle.mea_sem.specs.declared.hall.SemHall.TheInside.{Inside}
 use Rattle.mea_sem.specs.declared.entries.SemaphoreEntry.{SemaphoreEntry}
 use Rattle.mea_sem.specs.Entries.{ledger_of_entry, close_wakes}
 use Rattle.mea_sem.specs.Store.{Store, store_of, permit_of, semaphore_of, future_of, hall_of}
-use Rattle.mea_sem.specs.Kept.{wakers_in, IsKept}
+use Rattle.mea_sem.specs.Kept.{wakers_in, AreKeptSemaphores}
 use Rattle.mea_sem.specs.Play.{Play}
 use Rattle.mea_sem.proofs.Refusals.{known_named, unknown_unnamed, refuses_unknown, live_as, plain_as}
 use Rattle.mea_sem.proofs.Seen.{seen_at}
@@ -40,7 +40,7 @@ use Rattle.mea_sem.proofs.Standing.{Semaphores, Futures, Permits, puts_of, semap
 use Rattle.mea_sem.proofs.Lives.{live-seen, ledger-seen}
 
 -- more room is room
-pub kept_room : {st : Store} {w sp n : ℕ} (sp' : ℕ) → IsKept st w sp n → w ≤ sp' → IsKept st w sp' n
+pub kept_room : {st : Store} {w sp n : ℕ} (sp' : ℕ) → AreKeptSemaphores st w sp n → w ≤ sp' → AreKeptSemaphores st w sp' n
 kept_room sp' k room = record {
   valid = k.valid;
   below = k.below;
@@ -233,15 +233,15 @@ module _ {a : Inside} {v : Play} {i s : ℕ} {e : SemaphoreEntry} (m : MeetsSema
         let same = kept_same (λ k x. x) (semaphores_in a) ss' s e x m.there is changes in
         λ j. record { semaphores = same j; futures = (store_in a).futures; permits = (store_in a).permits }
 
-    pub kept_unchanged : x ≡ e → (sp' : ℕ) → a.registered ≤ sp' → IsKept st' a.registered sp' a.next
-    kept_unchanged is sp' room = subst (λ (st : Store). IsKept st a.registered sp' a.next) (sym (as_it_was is)) (kept_room sp' k room)
+    pub kept_unchanged : x ≡ e → (sp' : ℕ) → a.registered ≤ sp' → AreKeptSemaphores st' a.registered sp' a.next
+    kept_unchanged is sp' room = subst (λ (st : Store). AreKeptSemaphores st a.registered sp' a.next) (sym (as_it_was is)) (kept_room sp' k room)
 
     pub seen_unchanged : x ≡ e → (wakes' : List ℕ) → wakes' ≡ a.outbox.wakers → record { hall = hall_of st' a.next; wakes = wakes'; next = a.next } ≡ v
     seen_unchanged is wakes' same = (λ j. record { hall = hall_of (as_it_was is j) a.next; wakes = same j; next = a.next }) ∙ m.meets.seen
 
     -- nor did an insertion that failed change anything
-    pub kept_with_futures : (fs : Futures) → x ≡ e → fs ≡ a.futures.entries → IsKept (store_of ss' fs a.permits.entries) a.registered a.outbox.spare a.next
-    kept_with_futures fs is same = subst (λ (xs : Futures). IsKept (store_of ss' xs a.permits.entries) a.registered a.outbox.spare a.next) (sym same)
+    pub kept_with_futures : (fs : Futures) → x ≡ e → fs ≡ a.futures.entries → AreKeptSemaphores (store_of ss' fs a.permits.entries) a.registered a.outbox.spare a.next
+    kept_with_futures fs is same = subst (λ (xs : Futures). AreKeptSemaphores (store_of ss' xs a.permits.entries) a.registered a.outbox.spare a.next) (sym same)
         (kept_unchanged is a.outbox.spare k.room)
 
     pub seen_with_futures : (fs : Futures) → x ≡ e → fs ≡ a.futures.entries
@@ -249,8 +249,8 @@ module _ {a : Inside} {v : Play} {i s : ℕ} {e : SemaphoreEntry} (m : MeetsSema
     seen_with_futures fs is same = (λ j. record { hall = hall_of (store_of ss' (same j) a.permits.entries) a.next; wakes = a.outbox.wakers; next = a.next })
         ∙ seen_unchanged is a.outbox.wakers refl
 
-    pub kept_with_permits : (ps : Permits) → x ≡ e → ps ≡ a.permits.entries → IsKept (store_of ss' a.futures.entries ps) a.registered a.outbox.spare a.next
-    kept_with_permits ps is same = subst (λ (xs : Permits). IsKept (store_of ss' a.futures.entries xs) a.registered a.outbox.spare a.next) (sym same)
+    pub kept_with_permits : (ps : Permits) → x ≡ e → ps ≡ a.permits.entries → AreKeptSemaphores (store_of ss' a.futures.entries ps) a.registered a.outbox.spare a.next
+    kept_with_permits ps is same = subst (λ (xs : Permits). AreKeptSemaphores (store_of ss' a.futures.entries xs) a.registered a.outbox.spare a.next) (sym same)
         (kept_unchanged is a.outbox.spare k.room)
 
     pub seen_with_permits : (ps : Permits) → x ≡ e → ps ≡ a.permits.entries
@@ -317,7 +317,7 @@ module _ {a : Inside} {v : Play} {i s : ℕ} {e : SemaphoreEntry} (m : MeetsSema
         let room : a.registered - r ≤ spare = let fits = k.room in omega (arith, fits, none, left) in
         subst (λ (st : Store). Done v i (step v.hall i (events.Close s)) answers.Done st (a.registered - r) spare wakers) (sym (as_it_was is))
         (done m.meets wakers (events.Close s) answers.Done
-        (record { hall = plays.hall; kept = subst (λ n. IsKept (store_in a) n spare (i + 1)) fewer (kept_room spare plays.kept (omega (arith, room, fewer))) })
+        (record { hall = plays.hall; kept = subst (λ n. AreKeptSemaphores (store_in a) n spare (i + 1)) fewer (kept_room spare plays.kept (omega (arith, room, fewer))) })
         (same ∙ sym (append-nil a.outbox.wakers) ∙ ap (λ ws. a.outbox.wakers ++ ws) (sym (ap (λ (o : Outcome). o.wakes) outcome)))
         (sym (ap (λ (o : Outcome). o.reply) outcome)))
 
@@ -403,7 +403,7 @@ hall_nothing = λ j. record {
 none_at : {X : Type 0} (q : ℕ) (x : X) → get (named (λ (k : ℕ) (y : X). y) []) q ≡ Some x → ⊥
 none_at {X} q x is = absurd (let none : ◌≡◌ {A = Option X} None (Some x) = sym (kept-at {X = X} [] q) ∙ is in cc)
 
-kept_nothing : (spare : ℕ) → IsKept nothing 0 spare 0
+kept_nothing : (spare : ℕ) → AreKeptSemaphores nothing 0 spare 0
 kept_nothing spare = record {
   valid = subst IsValid (sym hall_nothing) valid_empty;
   below = subst (λ h. IsBelow h 0) (sym hall_nothing) (below_empty 0);
@@ -428,8 +428,8 @@ kept_nothing spare = record {
 nothing_in : (ss : Semaphores) (fs : Futures) (ps : Permits) → ss ≡ [] → fs ≡ [] → ps ≡ [] → store_of ss fs ps ≡ nothing
 nothing_in ss fs ps none no_future no_permit = λ j. store_of (none j) (no_future j) (no_permit j)
 
-pub kept_empty : (ss : Semaphores) (fs : Futures) (ps : Permits) (spare : ℕ) → ss ≡ [] → fs ≡ [] → ps ≡ [] → IsKept (store_of ss fs ps) 0 spare 0
-kept_empty ss fs ps spare none no_future no_permit = subst (λ (st : Store). IsKept st 0 spare 0) (sym (nothing_in ss fs ps none no_future no_permit))
+pub kept_empty : (ss : Semaphores) (fs : Futures) (ps : Permits) (spare : ℕ) → ss ≡ [] → fs ≡ [] → ps ≡ [] → AreKeptSemaphores (store_of ss fs ps) 0 spare 0
+kept_empty ss fs ps spare none no_future no_permit = subst (λ (st : Store). AreKeptSemaphores st 0 spare 0) (sym (nothing_in ss fs ps none no_future no_permit))
     (kept_nothing spare)
 
 pub seen_empty : (ss : Semaphores) (fs : Futures) (ps : Permits) (wakers : List ℕ) → ss ≡ [] → fs ≡ [] → ps ≡ [] → wakers ≡ []

@@ -2,10 +2,10 @@
 use Rattle.std.proofs.Common.{◌≡◌, ◌≢◌, inl, inr, ℕ, ◌+◌, ◌-◌, ◌^◌, ◌<◌, ◌≤◌, ◌==◌, ◌++◌, true, cond, List, [], ◌∷◌, refl, ap, sym, subst, ◌∙◌, arith, Option, Some, None, append-nil, is_some, if◌then◌else◌}
 use Rattle.std.specs.Option.{IsSome}
 use Rattle.std.specs.FinMap.{get, remove}
-use Rattle.mea_base.specs.declared.answer.Answer.TheVariants as answers
+use Rattle.mea_family.specs.declared.answer.Answer.TheVariants as answers
 use Rattle.mea_base.specs.Named.{ChangesAt}
 use Rattle.mea_base.specs.Outbox.{Wakes}
-use Rattle.mea_base.specs.Causes.{unknown_unless}
+use Rattle.mea_family.specs.Causes.{unknown_unless}
 use Rattle.mea_base.proofs.NamedMaps.{kept-changed}
 use Rattle.mea_sem_model.specs.declared.event.SemEvent.TheVariants as events
 use Rattle.mea_sem_model.specs.Hall.{Hall, Semaphore, Future, New, Waiting, Granted, Cut, queue_at, lack_of}
@@ -20,7 +20,7 @@ use Rattle.mea_sem.specs.declared.entries.SemaphoreEntry.{SemaphoreEntry}
 use Rattle.mea_sem.specs.declared.entries.FutureEntry.{FutureEntry}
 use Rattle.mea_sem.specs.Entries.{Waits, WaitsOn, Ends}
 use Rattle.mea_sem.specs.Store.{Store, store_of, hall_of, stage_of, IsOpen}
-use Rattle.mea_sem.specs.Kept.{IsKept}
+use Rattle.mea_sem.specs.Kept.{AreKeptSemaphores}
 use Rattle.mea_sem.specs.declared.hall.SemHall.TheInside.{Inside}
 use Rattle.mea_sem.specs.Play.{Play}
 use Rattle.mea_sem.proofs.Keeping.{Plays}
@@ -115,8 +115,8 @@ module _ {a : Inside} {v : Play} {i f : ℕ} {x : FutureEntry} {e : SemaphoreEnt
         let futures = kept_same (λ k x. x) a.futures.entries fs' f x x2 m.is same_x written in
         λ j. record { semaphores = semaphores j; futures = futures j; permits = (store_of ss' fs' (same_permits j)).permits }
 
-    pub kept_as_found : (sp' : ℕ) → a.registered ≤ sp' → IsKept (store_of ss' fs' ps') a.registered sp' a.next
-    kept_as_found sp' room = subst (λ (st : Store). IsKept st a.registered sp' a.next) (sym as_found) (kept_room sp' m.meets.kept room)
+    pub kept_as_found : (sp' : ℕ) → a.registered ≤ sp' → AreKeptSemaphores (store_of ss' fs' ps') a.registered sp' a.next
+    kept_as_found sp' room = subst (λ (st : Store). AreKeptSemaphores st a.registered sp' a.next) (sym as_found) (kept_room sp' m.meets.kept room)
 
     pub seen_as_found : (wakes' : List ℕ) → wakes' ≡ a.outbox.wakers
         → record { hall = hall_of (store_of ss' fs' ps') a.next; wakes = wakes'; next = a.next } ≡ v
@@ -202,7 +202,7 @@ module _ {a : Inside} {v : Play} {i f : ℕ} {x : FutureEntry} {e : SemaphoreEnt
             finish {woken = []} (record {
               plays = record {
                 hall = with.plays.hall;
-                kept = subst (λ r. IsKept st' r sp' (i + 1)) fewer
+                kept = subst (λ r. AreKeptSemaphores st' r sp' (i + 1)) fewer
                     (kept_room sp' with.plays.kept (let r = room in omega (arith, r, none)));
               };
               wakes = with.wakes;

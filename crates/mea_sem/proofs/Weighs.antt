@@ -5,7 +5,7 @@ use Rattle.std.specs.FinMap.{get, insert}
 use Rattle.mea_base.specs.Queue.{granted_in}
 use Rattle.mea_base.specs.Totals.{weight}
 use Rattle.mea_base.proofs.Totals.{total-insert, total-remove, total-alike}
-use Rattle.mea_sem_model.specs.Hall.{Hall, Semaphore, Future, Permit, Stage, Granted, Who, semaphore_at, queue_at, held, staged, stage_all, poured, pour, with_semaphore}
+use Rattle.mea_sem_model.specs.Hall.{Hall, Semaphore, Future, Permit, FutureStage, Granted, Who, semaphore_at, queue_at, held, staged, stage_all, poured, pour, with_semaphore}
 use Rattle.mea_sem.specs.Kept.{things_by}
 use Rattle.mea_sem_model.specs.Step.{with_future, without_future, with_permit, without_permit}
 use Rattle.mea_sem_model.proofs.HallLemmas.{among, get-stage_all}
@@ -140,14 +140,14 @@ module _ (h : Hall) (k : ℕ) where
   }
 
 -- ---- pours
-same_weight : (chosen : Bool → Bool) (z : Stage) (q k : ℕ) (t : Bool) (o : Option Future) → weight (λ j (p : Future). cond (p.semaphore == q && chosen p.plain) 1 0) k
+same_weight : (chosen : Bool → Bool) (z : FutureStage) (q k : ℕ) (t : Bool) (o : Option Future) → weight (λ j (p : Future). cond (p.semaphore == q && chosen p.plain) 1 0) k
     (cond t (option_map (staged z) o) o) ≡ weight (λ j (p : Future). cond (p.semaphore == q && chosen p.plain) 1 0) k o
 same_weight chosen z q k true None = refl
 same_weight chosen z q k true (Some x) = refl
 same_weight chosen z q k false o = refl
 
 -- a semaphore is put in, and some futures come to a stage
-pub weighs_staged : (h : Hall) (s q : ℕ) (z : Stage) (ws : List Who) (r : Semaphore)
+pub weighs_staged : (h : Hall) (s q : ℕ) (z : FutureStage) (ws : List Who) (r : Semaphore)
     → Weighs h (record h { semaphores = insert h.semaphores s r; futures = stage_all z ws h.futures }) q 0 0 nothing nothing
 weighs_staged h s q z ws r = record {
   held = λ k. refl;

@@ -4,7 +4,7 @@ use Rattle.std.specs.FinMap as map
 use Rattle.mea_base.specs.Queue.{granted_in}
 use Rattle.mea_sem_core.specs.declared.acquire.Acquire.{Acquire}
 use Rattle.mea_sem_core.specs.declared.acquire.Acquire.TheVariants.{New, Queued, Done, Refused}
-use Rattle.mea_base.specs.declared.ledger.Ledger.{Ledger}
+use Rattle.mea_family.specs.declared.ledger.Ledger.{Ledger}
 use Rattle.mea_sem_core.specs.Core.{Core, poured, wakers_of, waiters_of, waiting, debts, held_of, paid_of}
 use Rattle.mea_sem_core.specs.Calls.{IsCutAs, with_waker, without_acquire}
 use Rattle.mea_sem.specs.declared.entries.SemaphoreEntry.{SemaphoreEntry}

@@ -34,7 +34,7 @@ pub record IsKeptEntry (h : Hall) (next s : ℕ) (e : SemaphoreEntry) : Type 0 w
   pub released : e.released ≤ next * 2 ^ 64
   pub forgotten : e.forgotten ≤ next * 2 ^ 64
 
-pub record IsKept (st : Store) (registered spare next : ℕ) : Type 0 where
+pub record AreKeptSemaphores (st : Store) (registered spare next : ℕ) : Type 0 where
   pub valid : IsValid (hall_of st next)
   pub below : IsBelow (hall_of st next) next
   pub accounted : (s : ℕ) → IsAccounted (hall_of st next) s

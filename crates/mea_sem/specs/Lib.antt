@@ -2,4 +2,5 @@ pub mod Play
 pub mod Store
 pub mod Kept
 pub mod Entries
+pub mod Grants
 pub mod StandsFor

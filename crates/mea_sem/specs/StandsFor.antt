@@ -2,7 +2,7 @@
 use Rattle.std.specs.Prelude.{ℕ, ◌≡◌, ◌==◌, cond, List, [], ◌∷◌, map}
 use Rattle.std.specs.FinMap.{len}
 use Rattle.mea_base.specs.Totals.{total}
-use Rattle.mea_sem_model.specs.Hall.{Hall, Future, Stage, New, Waiting, Granted, Cut, Who, free, live, queue_at, is_closed, waker_of_who}
+use Rattle.mea_sem_model.specs.Hall.{Hall, Future, FutureStage, New, Waiting, Granted, Cut, Who, free, live, queue_at, is_closed, waker_of_who}
 use Rattle.mea_sem_core.specs.Core as cores
 
 -- the waker of who waits; a debt has none
@@ -10,13 +10,13 @@ abbrev pub core_waker : cores.Waiter ℕ → List ℕ
 core_waker (cores.Acquires n d w) = w ∷ []
 core_waker cores.Owes = []
 
-abbrev pub one_if_granted : Stage → ℕ
+abbrev pub one_if_granted : FutureStage → ℕ
 one_if_granted New = 0
 one_if_granted (Waiting w) = 0
 one_if_granted Granted = 1
 one_if_granted Cut = 0
 
-abbrev pub one_if_cut : Stage → ℕ
+abbrev pub one_if_cut : FutureStage → ℕ
 one_if_cut New = 0
 one_if_cut (Waiting w) = 0
 one_if_cut Granted = 0

@@ -3,7 +3,7 @@ use Rattle.std.specs.Prelude.{ℕ, zero, suc, ◌≡◌, ◌≢◌, ◌<◌, ◌
 use Rattle.std.specs.Ordering.{nat_cmp}
 use Rattle.std.specs.FinMap.{FinMap, get, empty, entries}
 use Rattle.mea_base.specs.Named.{named}
-use Rattle.mea_sem_model.specs.Hall.{Hall, Semaphore, Future, Permit, Stage, New, Waiting, Granted, Cut, Who, Waiter, Debt}
+use Rattle.mea_sem_model.specs.Hall.{Hall, Semaphore, Future, Permit, FutureStage, New, Waiting, Granted, Cut, Who, Waiter, Debt}
 use Rattle.mea_sem_core.specs.declared.acquire.Acquire.{Acquire}
 use Rattle.mea_sem_core.specs.declared.acquire.Acquire.TheVariants as acquires
 use Rattle.mea_sem_core.specs.Acquire.{demand_of}
@@ -76,12 +76,12 @@ abbrev pub semaphore_of : FinMap nat_cmp FutureEntry → ℕ → ℕ → Semapho
 semaphore_of futures bound s e = record { free = e.core.free; queue = queue_of futures bound s e.core.queue; made = e.made; released = e.released; forgotten = e.forgotten; named = e.named; closed = e.core.closed }
 
 -- a number with a waker waits, one with the demand that it was cut with is cut, and another was granted
-abbrev pub stage_under : Option ℕ → Option ℕ → Stage
+abbrev pub stage_under : Option ℕ → Option ℕ → FutureStage
 stage_under (Some w) cut = Waiting w
 stage_under None (Some demand) = Cut
 stage_under None None = Granted
 
-abbrev pub stage_of : Acquire → cores.Core ℕ → Stage
+abbrev pub stage_of : Acquire → cores.Core ℕ → FutureStage
 stage_of (acquires.New demand) c = New
 stage_of (acquires.Queued demand n) c = stage_under (cores.waker_under c.queue n) (get c.cut n)
 stage_of (acquires.Done demand) c = New

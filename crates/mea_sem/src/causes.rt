@@ -2,14 +2,13 @@ ghost use Rattle.std.specs.Prelude.{◌≡◌, is_some, IfSome, Some};
 ghost use Rattle.std.specs.Option.{option_map, option_copied};
 ghost use Rattle.std.specs.FinMap as map;
 ghost use Rattle.mea_sem_model.specs.Hall.{live, plain_things};
-ghost use Rattle.mea_base.specs.Causes.{unknown_unless};
 ghost use Rattle.mea_sem_model.specs.Cause.{cause_of, is_named, is_future, is_permit, can_merge, are_of_one_kind};
 ghost use Rattle.mea_sem.specs.Store.{permit_of};
 ghost use Rattle.mea_sem.specs.StandsFor.{StandsFor};
 
 use crate::entries::{PermitEntry, SemaphoreEntry};
 use crate::hall::SemHall;
-use mea_base::Stop;
+use mea_family::{Stop, unknown_unless};
 use mea_sem_model::SemEvent;
 
 impl SemHall {
@@ -114,10 +113,4 @@ pub(crate) fn are_alike(x: &PermitEntry, y: &PermitEntry) -> bool
     ensures { result ≡ are_of_one_kind (Some (permit_of x.now)) (Some (permit_of y.now)) }
 {
     x.semaphore == y.semaphore && x.plain == y.plain
-}
-
-fn unknown_unless(known: bool) -> Option<Stop>
-    ensures { result ≡ unknown_unless known }
-{
-    if known { None } else { Some(Stop::Unknown) }
 }

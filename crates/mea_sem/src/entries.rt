@@ -5,7 +5,8 @@ ghost use Rattle.mea_sem_core.specs.Core.{held_of, paid_of, poured, wakers_of, p
 ghost use Rattle.mea_sem_core.specs.Calls.{Belongs, IsRefused, Queues, after_refusal, forgetting, forgetting_exactly};
 
 use crate::moving::hand_on;
-use mea_base::{Ledger, NoMemory, Outbox, Stop};
+use mea_base::{NoMemory, Outbox};
+use mea_family::{Ledger, Stop, one_if};
 use mea_sem_core::{Acquire, SemCore};
 
 /// What a hall keeps of a semaphore.
@@ -68,13 +69,6 @@ impl FutureEntry {
     {
         matches!(self.acquire, Acquire::New { .. })
     }
-}
-
-/// 1 for a plain thing.
-pub fn one_if(plain: bool) -> u128
-    ensures { result ≡ cond plain 1 0 }
-{
-    if plain { 1 } else { 0 }
 }
 
 impl SemaphoreEntry {

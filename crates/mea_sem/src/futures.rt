@@ -3,11 +3,16 @@ ghost use Rattle.std.specs.FinMap as map;
 ghost use Rattle.mea_sem_model.specs.Cause.{cause_of};
 ghost use Rattle.mea_sem_model.specs.Hall.{New, Waiting};
 ghost use Rattle.mea_sem_model.specs.Step.{step, acquire_of};
-ghost use Rattle.mea_sem.specs.Play.{Play, Plays, Yields};
+ghost use Rattle.mea_family.specs.Forms.{is_plain};
+ghost use Rattle.mea_family.specs.Play.{Yields};
+ghost use Rattle.mea_sem.specs.Grants.{is_forgotten};
+ghost use Rattle.mea_sem.specs.Play.{Play, Plays};
 
 use crate::entries::{FutureEntry, PermitEntry};
+use crate::grant::Grant;
 use crate::hall::SemHall;
-use mea_base::{Answer, NoMemory, Outbox, Stop};
+use mea_base::{NoMemory, Outbox};
+use mea_family::{Answer, Form, Stop};
 use mea_sem_core::Acquire;
 use mea_sem_model::SemEvent;
 
@@ -19,16 +24,18 @@ impl SemHall {
         number: u64,
         s: u64,
         n: u64,
-        plain: bool,
-        forgets: bool,
+        form: Form,
+        grant: Grant,
     ) -> Result<Answer, Stop>
         requires { self.old.next ≤ number }
-        ensures played { IfOk result (λ reply. Yields self.old number (acquire_of self.old.hall number s n plain forgets) reply self.new) }
+        ensures played { IfOk result (λ reply. Yields self.old number (acquire_of self.old.hall number s n (is_plain form) (is_forgotten grant)) reply self.new) }
         ensures allowed { OnOk result (cause_of self.old.hall (SemEvent.Acq s n) ≡ None) }
         ensures refused { IfErr result (λ stop. (cause_of self.old.hall (SemEvent.Acq s n) ≡ Some stop)
             ⊎ ((cause_of self.old.hall (SemEvent.Acq s n) ≡ None) × (stop ≡ Stop.NoMemory))) }
         ensures err { OnErr result (self.new ≡ self.old) }
     {
+        let plain = form.is_plain();
+        let forgets = grant.is_forgotten();
         let Some(entry) = self.semaphores.get_mut(&s) else {
             return Err(Stop::Unknown);
         };

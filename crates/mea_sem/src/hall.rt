@@ -7,7 +7,9 @@ ghost use Rattle.mea_sem.specs.Play.{Play, Plays, TakesNoMemory};
 ghost use Rattle.mea_sem.specs.StandsFor.{StandsFor};
 
 use crate::entries::{EndedEntry, FutureEntry, PermitEntry, SemaphoreEntry};
-use mea_base::{Answer, Outbox, Stop};
+use crate::grant::Grant;
+use mea_base::Outbox;
+use mea_family::{Answer, Form, Stop};
 use mea_sem_core::SemCore;
 use mea_sem_model::SemEvent;
 use std::alloc::Global;
@@ -40,11 +42,11 @@ impl Model for SemHall {
     ghost coded = { play_code };
 
     ghost use Rattle.mea_sem.specs.Store.{store_of, with_ended, hall_of};
-    ghost use Rattle.mea_sem.specs.Kept.{IsKept};
+    ghost use Rattle.mea_sem.specs.Kept.{AreKeptSemaphores};
 
     ghost view = { λ a. record { hall = hall_of (store_of (with_ended a.semaphores.entries a.ended.items) a.futures.entries a.permits.entries) a.next; wakes = a.outbox.wakers; next = a.next } };
 
-    ghost invariant = { λ a. IsKept (store_of (with_ended a.semaphores.entries a.ended.items) a.futures.entries a.permits.entries) a.registered a.outbox.spare a.next };
+    ghost invariant = { λ a. AreKeptSemaphores (store_of (with_ended a.semaphores.entries a.ended.items) a.futures.entries a.permits.entries) a.registered a.outbox.spare a.next };
 }
 
 impl SemHall {
@@ -114,13 +116,13 @@ impl SemHall {
             SemEvent::Forget(s, n) => self.forget(number, s, n),
             SemEvent::Forgetx(s, n) => self.forget_exact(number, s, n),
             SemEvent::Release(s, n) => self.release(number, s, n),
-            SemEvent::Try(s, n) => self.try_permit(number, s, n, true),
-            SemEvent::Tryo(s, n) => self.try_permit(number, s, n, false),
+            SemEvent::Try(s, n) => self.try_permit(number, s, n, Form::Plain),
+            SemEvent::Tryo(s, n) => self.try_permit(number, s, n, Form::Owned),
             SemEvent::Tryf(s, n) | SemEvent::Tryof(s, n) => self.try_and_forget(number, s, n),
-            SemEvent::Acq(s, n) => self.acquire(number, s, n, true, false),
-            SemEvent::Acqo(s, n) => self.acquire(number, s, n, false, false),
-            SemEvent::Acqf(s, n) => self.acquire(number, s, n, true, true),
-            SemEvent::Acqof(s, n) => self.acquire(number, s, n, false, true),
+            SemEvent::Acq(s, n) => self.acquire(number, s, n, Form::Plain, Grant::Held),
+            SemEvent::Acqo(s, n) => self.acquire(number, s, n, Form::Owned, Grant::Held),
+            SemEvent::Acqf(s, n) => self.acquire(number, s, n, Form::Plain, Grant::Forgotten),
+            SemEvent::Acqof(s, n) => self.acquire(number, s, n, Form::Owned, Grant::Forgotten),
             SemEvent::Poll(f, waker) => self.poll(number, f, waker),
             SemEvent::End(x) => self.end(number, x),
             SemEvent::Lose(p) => self.lose(number, p),

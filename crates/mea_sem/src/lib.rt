@@ -6,6 +6,7 @@
 mod causes;
 mod entries;
 mod futures;
+mod grant;
 mod hall;
 mod moving;
 mod permits;

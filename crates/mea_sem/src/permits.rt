@@ -2,12 +2,14 @@ ghost use Rattle.std.specs.Prelude.{◌≡◌, ◌≢◌, ◌≤◌, ◌⊎◌, 
 ghost use Rattle.std.specs.FinMap as map;
 ghost use Rattle.mea_sem_model.specs.Cause.{cause_of};
 ghost use Rattle.mea_sem_model.specs.Step.{try_of};
-ghost use Rattle.mea_sem.specs.Play.{Play, Plays, Yields};
+ghost use Rattle.mea_family.specs.Forms.{is_plain};
+ghost use Rattle.mea_family.specs.Play.{Yields};
+ghost use Rattle.mea_sem.specs.Play.{Play, Plays};
 
 use crate::causes::are_alike;
 use crate::entries::PermitEntry;
 use crate::hall::SemHall;
-use mea_base::{Answer, Stop};
+use mea_family::{Answer, Form, Stop};
 use mea_sem_model::SemEvent;
 
 // What the events that make, change and end permits do. Each finds its cause for refusal at what it looks up.
@@ -18,15 +20,16 @@ impl SemHall {
         number: u64,
         s: u64,
         n: u64,
-        plain: bool,
+        form: Form,
     ) -> Result<Answer, Stop>
         requires { self.old.next ≤ number }
-        ensures played { IfOk result (λ reply. Yields self.old number (try_of self.old.hall number s n plain) reply self.new) }
+        ensures played { IfOk result (λ reply. Yields self.old number (try_of self.old.hall number s n (is_plain form)) reply self.new) }
         ensures allowed { OnOk result (cause_of self.old.hall (SemEvent.Try s n) ≡ None) }
         ensures refused { IfErr result (λ stop. (cause_of self.old.hall (SemEvent.Try s n) ≡ Some stop)
             ⊎ ((cause_of self.old.hall (SemEvent.Try s n) ≡ None) × (stop ≡ Stop.NoMemory))) }
         ensures err { OnErr result (self.new ≡ self.old) }
     {
+        let plain = form.is_plain();
         let Some(entry) = self.semaphores.get_mut(&s) else {
             return Err(Stop::Unknown);
         };

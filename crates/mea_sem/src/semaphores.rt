@@ -1,11 +1,12 @@
 ghost use Rattle.std.specs.Prelude.{◌≡◌, ◌≢◌, ◌≤◌, ◌⊎◌, OnOk, OnErr, IfOk, IfErr, None, Some, true, false};
 ghost use Rattle.mea_sem_model.specs.Cause.{cause_of};
 ghost use Rattle.mea_sem_model.specs.Step.{try_and_forget};
-ghost use Rattle.mea_sem.specs.Play.{Play, Plays, Yields};
+ghost use Rattle.mea_family.specs.Play.{Yields};
+ghost use Rattle.mea_sem.specs.Play.{Play, Plays};
 
 use crate::entries::SemaphoreEntry;
 use crate::hall::SemHall;
-use mea_base::{Answer, Ledger, Stop};
+use mea_family::{Answer, Ledger, Stop};
 use mea_sem_core::SemCore;
 use mea_sem_model::SemEvent;
 

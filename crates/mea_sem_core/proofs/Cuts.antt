@@ -10,8 +10,8 @@ use Rattle.mea_base.specs.WaitList.{Waits, get, is_linked, with_value, without, 
 use Rattle.mea_base.specs.Outbox.{Wakes}
 use Rattle.mea_base.proofs.Tests.{test_same, test_differs}
 use Rattle.mea_base.proofs.Waits.{without_absent, in_use_within}
-use Rattle.mea_sem_core.specs.declared.place.Place.{Place}
-use Rattle.mea_sem_core.specs.declared.place.Place.TheVariants.{Acquire, Debt, Granted, Cut}
+use Rattle.mea_sem_core.specs.declared.wait_record.WaitRecord.{WaitRecord}
+use Rattle.mea_sem_core.specs.declared.wait_record.WaitRecord.TheVariants.{Acquire, Debt, Granted, Cut}
 use Rattle.mea_sem_core.specs.Core.{Waiter, Acquires, Owes, paid_to, paid_waiting, waiters_of, with_demands, wakers_of, only_debts, HasOnlyDebts}
 use Rattle.mea_sem_core.specs.Places.{entry, entries, queue_of, granted_of, cut_of, cut_demand, is_debt, waker_of, IsWaiting, AllWaiting, IsQueue, LacksAtMost, paid_in, CutsPlace, CutsQueue}
 use Rattle.mea_sem_core.proofs.Enqueues.{entries-push}
@@ -95,7 +95,7 @@ length-middle (k ∷ ks) n back = omega (arith, length-middle ks n back)
 
 module _ {W : Type 0} where
   -- ---- a queue with an acquire behind debts, and without it
-  entries-append : (slots : List (Option (Place W))) (front back : List ℕ) → entries slots (front ++ back) ≡ entries slots front ++ entries slots back
+  entries-append : (slots : List (Option (WaitRecord W))) (front back : List ℕ) → entries slots (front ++ back) ≡ entries slots front ++ entries slots back
   entries-append slots [] back = refl
   entries-append slots (k ∷ ks) back = ap (λ es. entry k (get_or slots k None) ∷ es) (entries-append slots ks back)
 
@@ -150,7 +150,7 @@ module _ {W : Type 0} where
   paid-none ((Owes, k) ∷ q) h = omega (arith, paid-cons (Owes, k) q, paid-none q h)
 
   -- ---- one waiter
-  pub linked_waits : (slots : List (Option (Place W))) (n : ℕ) (ns : List ℕ) → list_any (λ k. eqb k n) ns ≡ true → AllWaiting slots ns
+  pub linked_waits : (slots : List (Option (WaitRecord W))) (n : ℕ) (ns : List ℕ) → list_any (λ k. eqb k n) ns ≡ true → AllWaiting slots ns
       → IsWaiting (get_or slots n None)
   linked_waits slots n [] found all = absurd (cc)
   linked_waits slots n (k ∷ ks) found all =
@@ -159,14 +159,14 @@ module _ {W : Type 0} where
         | inr differs ↦ linked_waits slots n ks (rw (test_differs k n differs) at found) all.1
       ]
 
-  pub waiting_within : (x : Place W) → IsWaiting (Some x) → LacksAtMost x
+  pub waiting_within : (x : WaitRecord W) → IsWaiting (Some x) → LacksAtMost x
   waiting_within (Acquire d l w) waits = waits.1
   waiting_within (Debt l) waits = tt
   waiting_within (Granted d) waits = tt
   waiting_within (Cut d) waits = tt
 
   -- who waits and is no debt has a waker
-  pub has_waker : (x : Place W) → IsWaiting (Some x) → is_debt x ≡ false → None ≡ waker_of x → ⊥
+  pub has_waker : (x : WaitRecord W) → IsWaiting (Some x) → is_debt x ≡ false → None ≡ waker_of x → ⊥
   has_waker (Acquire d l w) waits differs none = absurd (cc)
   has_waker (Debt l) waits differs none = absurd (cc)
   has_waker (Granted d) waits differs none = waits
@@ -175,7 +175,7 @@ module _ {W : Type 0} where
   -- ---- the loop
 
   -- before the next number stand debts alone
-  pub record Reaches (slots : List (Option (Place W))) (order : List ℕ) (next : Option ℕ) : Type 0 where
+  pub record Reaches (slots : List (Option (WaitRecord W))) (order : List ℕ) (next : Option ℕ) : Type 0 where
     pub front : List ℕ
     pub back : List ℕ
     pub split : order ≡ front ++ back
@@ -183,7 +183,7 @@ module _ {W : Type 0} where
     pub next_is : next ≡ first_of back
 
   -- what was cut, and what is cut from `now` on, is what the close cuts from `start`
-  pub record Cutting (start now : Waits (Place W)) (start_box now_box : Wakes W) (paid : ℕ) (next : Option ℕ) : Type 0 where
+  pub record Cutting (start now : Waits (WaitRecord W)) (start_box now_box : Wakes W) (paid : ℕ) (next : Option ℕ) : Type 0 where
     pub queue : only_debts (queue_of now) ≡ only_debts (queue_of start)
     pub granted : granted_of now ≡ granted_of start
     pub cut : with_demands (cut_of now) (waiters_of (queue_of now)) ≡ with_demands (cut_of start) (waiters_of (queue_of start))
@@ -194,7 +194,7 @@ module _ {W : Type 0} where
     pub paid_left : paid_in now + paid ≡ paid_in start
     pub place : Reaches now.slots now.order next
 
-  pub Cutting-init : (start : Waits (Place W)) (box : Wakes W) (first : Option ℕ) → IsQueue start → length start.order ≤ box.spare
+  pub Cutting-init : (start : Waits (WaitRecord W)) (box : Wakes W) (first : Option ℕ) → IsQueue start → length start.order ≤ box.spare
       → IfSome first (λ n. start.order ≡ n ∷ drop 1 start.order) → IfNone first (start.order ≡ []) → Cutting start start box box 0 first
   Cutting-init start box first kept room some none = record {
     queue = refl;
@@ -208,7 +208,7 @@ module _ {W : Type 0} where
     place = record { front = []; back = start.order; split = refl; debts = tt; next_is = first_is start.order first some none };
   }
 
-  pub Cutting-end : (start now : Waits (Place W)) (start_box now_box : Wakes W) (paid : ℕ) → Cutting start now start_box now_box paid None
+  pub Cutting-end : (start now : Waits (WaitRecord W)) (start_box now_box : Wakes W) (paid : ℕ) → Cutting start now start_box now_box paid None
       → CutsQueue start now start_box now_box paid
   Cutting-end start now start_box now_box paid so = by_back so.place.back so.place.split so.place.next_is
     where
@@ -231,7 +231,7 @@ module _ {W : Type 0} where
       by_back (n ∷ ns) split is = absurd (cc)
 
   -- the next number is linked
-  pub Cutting-linked : (start now : Waits (Place W)) (start_box now_box : Wakes W) (paid n : ℕ) → Cutting start now start_box now_box paid (Some n)
+  pub Cutting-linked : (start now : Waits (WaitRecord W)) (start_box now_box : Wakes W) (paid n : ℕ) → Cutting start now start_box now_box paid (Some n)
       → is_linked now n ≡ true
   Cutting-linked start now start_box now_box paid n so = by_back so.place.back so.place.split so.place.next_is
     where
@@ -240,12 +240,12 @@ module _ {W : Type 0} where
       by_back (k ∷ ks) split is = let same : n ≡ k = cc in rw (split, same) (linked_split so.place.front k ks)
 
   -- one turn, and what of the queue is left to be looked at
-  pub record Turns (start new : Waits (Place W)) (start_box new_box : Wakes W) (paid : ℕ) (next : Option ℕ) (left : ℕ) : Type 0 where
+  pub record Turns (start new : Waits (WaitRecord W)) (start_box new_box : Wakes W) (paid : ℕ) (next : Option ℕ) (left : ℕ) : Type 0 where
     pub cutting : Cutting start new start_box new_box paid next
     pub less : length (rest_from next new.order) < left
 
   -- a debt stays
-  turn-debt : (start now : Waits (Place W)) (start_box now_box : Wakes W) (paid n lack : ℕ) (front back : List ℕ) (next : Option ℕ)
+  turn-debt : (start now : Waits (WaitRecord W)) (start_box now_box : Wakes W) (paid n lack : ℕ) (front back : List ℕ) (next : Option ℕ)
       → Cutting start now start_box now_box paid (Some n) → HasOnlyDebts (entries now.slots front) → now.order ≡ front ++ n ∷ back
       → get now n ≡ Some (Debt lack) → next ≡ first_of back
       → Turns start now start_box now_box (paid + 0) next (length (rest_from (Some n) now.order))
@@ -277,7 +277,7 @@ module _ {W : Type 0} where
       }
 
   -- an acquire leaves
-  turn-acquire : (start now : Waits (Place W)) (start_box now_box : Wakes W) (paid n demand lack : ℕ) (waker : W) (front back : List ℕ) (next : Option ℕ)
+  turn-acquire : (start now : Waits (WaitRecord W)) (start_box now_box : Wakes W) (paid n demand lack : ℕ) (waker : W) (front back : List ℕ) (next : Option ℕ)
       → Cutting start now start_box now_box paid (Some n) → HasOnlyDebts (entries now.slots front) → now.order ≡ front ++ n ∷ back
       → get now n ≡ Some (Acquire demand lack waker) → next ≡ first_of back
       → Turns start (with_value (record now { order = without n now.order }) n (Cut demand)) start_box
@@ -326,14 +326,14 @@ module _ {W : Type 0} where
         less = rw (here, behind) (omega arith);
       }
 
-  pub Cutting-turn : (start now new : Waits (Place W)) (start_box now_box new_box : Wakes W) (paid part n : ℕ) (next : Option ℕ)
+  pub Cutting-turn : (start now new : Waits (WaitRecord W)) (start_box now_box new_box : Wakes W) (paid part n : ℕ) (next : Option ℕ)
       → Cutting start now start_box now_box paid (Some n) → IfSome next (λ m. StandsBefore n m now.order) → IfNone next (StandsLast n now.order)
-      → ((place : Place W) → get now n ≡ Some place → CutsPlace now new now_box new_box n part place)
+      → ((place : WaitRecord W) → get now n ≡ Some place → CutsPlace now new now_box new_box n part place)
       → Turns start new start_box new_box (paid + part) next (length (rest_from (Some n) now.order))
   Cutting-turn start now new start_box now_box new_box paid part n next so some last cuts =
       by_back so.place.back so.place.split so.place.next_is
     where
-      by_place : (back : List ℕ) → now.order ≡ so.place.front ++ n ∷ back → (x : Option (Place W)) → get now n ≡ x → IsWaiting x
+      by_place : (back : List ℕ) → now.order ≡ so.place.front ++ n ∷ back → (x : Option (WaitRecord W)) → get now n ≡ x → IsWaiting x
           → Turns start new start_box new_box (paid + part) next (length (rest_from (Some n) now.order))
       by_place back split None found waits = absurd waits
       by_place back split (Some (Granted d)) found waits = absurd waits

@@ -7,8 +7,8 @@ use Rattle.std.specs.FinMap as fin
 use Rattle.mea_base.specs.WaitList.{get, value_count, IsAbsent, Updates}
 use Rattle.mea_base.specs.WaitList as base
 use Rattle.mea_base.proofs.Waits.{sum_by-updated, IsDistinct-push}
-use Rattle.mea_sem_core.specs.declared.place.Place.{Place}
-use Rattle.mea_sem_core.specs.declared.place.Place.TheVariants.{Acquire, Debt, Granted, Cut}
+use Rattle.mea_sem_core.specs.declared.wait_record.WaitRecord.{WaitRecord}
+use Rattle.mea_sem_core.specs.declared.wait_record.WaitRecord.TheVariants.{Acquire, Debt, Granted, Cut}
 use Rattle.mea_sem_core.specs.Core.{Acquires, Owes, waiting, HasDebtsFirst}
 use Rattle.mea_sem_core.specs.Places.{entry, entries, queue_of, granted_of, cut_of, grant_of, cut_demand, demands_by, IsWaiting, AllWaiting, IsQueue, paid_slot, paid_in}
 use Rattle.mea_sem_core.proofs.Debts.{debts_first_append}
@@ -43,22 +43,22 @@ length-push (m ∷ ms) n = omega (arith, length-push ms n)
 
 module _ {W : Type 0} where
   -- a number with no value waits nowhere
-  pub absent_from_none : (slots : List (Option (Place W))) (n : ℕ) (ns : List ℕ) → get_or slots n None ≡ None → AllWaiting slots ns → IsAbsent n ns
+  pub absent_from_none : (slots : List (Option (WaitRecord W))) (n : ℕ) (ns : List ℕ) → get_or slots n None ≡ None → AllWaiting slots ns → IsAbsent n ns
   absent_from_none slots n [] none all = tt
   absent_from_none slots n (m ∷ ms) none all =
       ((λ same. let waits = all.0 in let here : get_or slots m None ≡ None = rw same none in rw here at waits), absent_from_none slots n ms none all.1)
 
-  pub entries-push : (slots : List (Option (Place W))) (n : ℕ) (ns : List ℕ) → entries slots (ns ++ n ∷ []) ≡ entries slots ns ++ entry n (get_or slots n None) ∷ []
+  pub entries-push : (slots : List (Option (WaitRecord W))) (n : ℕ) (ns : List ℕ) → entries slots (ns ++ n ∷ []) ≡ entries slots ns ++ entry n (get_or slots n None) ∷ []
   entries-push slots n [] = refl
   entries-push slots n (m ∷ ms) = ap (λ es. entry m (get_or slots m None) ∷ es) (entries-push slots n ms)
 
-  AllWaiting-push : (slots : List (Option (Place W))) (n : ℕ) (ns : List ℕ) → IsWaiting (get_or slots n None) → AllWaiting slots ns
+  AllWaiting-push : (slots : List (Option (WaitRecord W))) (n : ℕ) (ns : List ℕ) → IsWaiting (get_or slots n None) → AllWaiting slots ns
       → AllWaiting slots (ns ++ n ∷ [])
   AllWaiting-push slots n [] here all = (here, tt)
   AllWaiting-push slots n (m ∷ ms) here all = (all.0, AllWaiting-push slots n ms here all.1)
 
   -- an acquire went to the tail
-  pub record Enqueues (old new : base.Waits (Place W)) (number demand lack : ℕ) (waker : W) : Type 0 where
+  pub record Enqueues (old new : base.Waits (WaitRecord W)) (number demand lack : ℕ) (waker : W) : Type 0 where
     pub queue : queue_of new ≡ queue_of old ++ (Acquires number demand waker, lack) ∷ []
     pub granted : granted_of new ≡ granted_of old
     pub cut : cut_of new ≡ cut_of old
@@ -66,7 +66,7 @@ module _ {W : Type 0} where
     pub paid : paid_in new ≡ paid_in old + (demand - lack)
     pub longer : length new.order ≡ length old.order + 1
 
-  pub enqueues : (old new : base.Waits (Place W)) (number demand lack : ℕ) (waker : W) → get old number ≡ None
+  pub enqueues : (old new : base.Waits (WaitRecord W)) (number demand lack : ℕ) (waker : W) → get old number ≡ None
       → Updates old new number (Some (Acquire demand lack waker)) → new.order ≡ old.order ++ number ∷ [] → 1 ≤ lack → lack ≤ demand → value_count new < 2 ^ 64 → IsQueue old
       → Enqueues old new number demand lack waker
   enqueues old new number demand lack waker fresh updates order some within few kept =
@@ -96,7 +96,7 @@ module _ {W : Type 0} where
       }
 
   -- a debt went to the head
-  pub record Owing (old new : base.Waits (Place W)) (lack : ℕ) : Type 0 where
+  pub record Owing (old new : base.Waits (WaitRecord W)) (lack : ℕ) : Type 0 where
     pub queue : queue_of new ≡ (Owes, lack) ∷ queue_of old
     pub granted : granted_of new ≡ granted_of old
     pub cut : cut_of new ≡ cut_of old
@@ -104,7 +104,7 @@ module _ {W : Type 0} where
     pub paid : paid_in new ≡ paid_in old
     pub longer : length new.order ≡ length old.order + 1
 
-  pub owing : (old new : base.Waits (Place W)) (number lack : ℕ) → get old number ≡ None → Updates old new number (Some (Debt lack))
+  pub owing : (old new : base.Waits (WaitRecord W)) (number lack : ℕ) → get old number ≡ None → Updates old new number (Some (Debt lack))
       → new.order ≡ number ∷ old.order → 1 ≤ lack → value_count new < 2 ^ 64 → IsQueue old → Owing old new lack
   owing old new number lack fresh updates order some few kept =
       let absent = absent_from_none old.slots number old.order fresh kept.waiting in
@@ -130,12 +130,12 @@ module _ {W : Type 0} where
         longer = rw order (let more : suc (length old.order) ≡ length old.order + 1 = omega arith in more);
       }
 
-  -- a number with no value waits in no entry, and is not granted
-  pub waiting_absent : (slots : List (Option (Place W))) (n : ℕ) (ns : List ℕ) → IsAbsent n ns → waiting (entries slots ns) n ≡ None
+  -- a number with no value waits in no entry, is not granted and not cut
+  pub waiting_absent : (slots : List (Option (WaitRecord W))) (n : ℕ) (ns : List ℕ) → IsAbsent n ns → waiting (entries slots ns) n ≡ None
   waiting_absent slots n [] absent = refl
   waiting_absent slots n (m ∷ ms) absent = by_slot (get_or slots m None) (waiting_absent slots n ms absent.1)
     where
-      by_slot : (x : Option (Place W)) → waiting (entries slots ms) n ≡ None → waiting (entry m x ∷ entries slots ms) n ≡ None
+      by_slot : (x : Option (WaitRecord W)) → waiting (entries slots ms) n ≡ None → waiting (entry m x ∷ entries slots ms) n ≡ None
       by_slot None rest = rest
       by_slot (Some (Acquire demand lack waker)) rest =
           let differs : eqb m n ≡ false = grind (arith, nat_tests, absent.0) in
@@ -144,9 +144,12 @@ module _ {W : Type 0} where
       by_slot (Some (Granted demand)) rest = rest
       by_slot (Some (Cut demand)) rest = rest
 
-  pub not_granted : (slots : List (Option (Place W))) (n : ℕ) → get_or slots n None ≡ None → fin.get (demands_by grant_of slots) n ≡ None
+  pub not_granted : (slots : List (Option (WaitRecord W))) (n : ℕ) → get_or slots n None ≡ None → fin.get (demands_by grant_of slots) n ≡ None
   not_granted slots n none = get-demands grant_of refl slots n ∙ ap grant_of none
 
+  pub not_cut : (slots : List (Option (WaitRecord W))) (n : ℕ) → get_or slots n None ≡ None → fin.get (demands_by cut_demand slots) n ≡ None
+  not_cut slots n none = get-demands cut_demand refl slots n ∙ ap cut_demand none
+
   -- the reserved places are no part of the queue
-  pub IsQueue-spare : (w : base.Waits (Place W)) (spare : ℕ) → IsQueue w → IsQueue (record w { spare = spare })
+  pub IsQueue-spare : (w : base.Waits (WaitRecord W)) (spare : ℕ) → IsQueue w → IsQueue (record w { spare = spare })
   IsQueue-spare w spare kept = record { distinct = kept.distinct; waiting = kept.waiting; idle = kept.idle; debts_first = kept.debts_first; few = kept.few }

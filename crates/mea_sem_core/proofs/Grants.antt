@@ -8,20 +8,14 @@ use Rattle.mea_base.specs.WaitList.{Waits, get, with_value, without, IsAbsent, U
 use Rattle.mea_base.proofs.Chains.{first-without}
 use Rattle.mea_base.specs.Outbox.{Wakes}
 use Rattle.mea_base.proofs.Waits.{in_use_within, sum_by-updated}
-use Rattle.mea_sem_core.specs.declared.place.Place.{Place}
-use Rattle.mea_sem_core.specs.declared.place.Place.TheVariants.{Acquire, Debt, Granted, Cut}
+use Rattle.mea_sem_core.specs.declared.wait_record.WaitRecord.{WaitRecord}
+use Rattle.mea_sem_core.specs.declared.wait_record.WaitRecord.TheVariants.{Acquire, Debt, Granted, Cut}
 use Rattle.mea_sem_core.specs.Core.{Waiter, Acquires, Owes, HasDebtsFirst}
 use Rattle.mea_sem_core.specs.Places.{entry, entries, grant_of, cut_demand, IsIdle, IsWaiting, IsQueue, GrantsFirst, after_grant, waker_of, paid_slot}
 use Rattle.mea_sem_core.proofs.Debts.{debts_first_tail}
 use Rattle.mea_sem_core.proofs.Places.{entries-updated, AllWaiting-updated, demands_updated, demands_inserted, count_updated}
 
--- a number that is absent is not found
-pub unlinked_from_absent : (n : ℕ) (ns : List ℕ) → IsAbsent n ns → list_any (λ m. eqb m n) ns ≡ false
-unlinked_from_absent n [] absent = refl
-unlinked_from_absent n (m ∷ ms) absent =
-    let differs : eqb m n ≡ false = grind (arith, nat_tests, absent.0) in
-    ap (λ b. b || list_any (λ k. eqb k n) ms) differs ∙ unlinked_from_absent n ms absent.1
-
+-- a number is not found behind another
 pub unlinked_before : (m n : ℕ) (ns : List ℕ) → m ≢ n → list_any (λ k. eqb k m) ns ≡ false → list_any (λ k. eqb k m) (n ∷ ns) ≡ false
 unlinked_before m n ns differs none =
     let other : eqb n m ≡ false = grind (arith, nat_tests, differs) in
@@ -29,7 +23,7 @@ unlinked_before m n ns differs none =
 
 module _ {W : Type 0} where
   -- each write through `get_mut(n)` changes that number alone
-  pub Updates-with_value : (w : Waits (Place W)) (n : ℕ) (value : Place W) → IsSome (get w n) → Updates w (with_value w n value) n (Some value)
+  pub Updates-with_value : (w : Waits (WaitRecord W)) (n : ℕ) (value : WaitRecord W) → IsSome (get w n) → Updates w (with_value w n value) n (Some value)
   Updates-with_value w n value used =
       record {
         changed = get_or-set_same w.slots n (Some value) None (in_use_within w.slots n used);
@@ -37,16 +31,16 @@ module _ {W : Type 0} where
       }
 
   -- two changes of one number
-  pub Updates-Updates : (u v w : Waits (Place W)) (n : ℕ) (a b : Option (Place W)) → Updates u v n a → Updates v w n b → Updates u w n b
+  pub Updates-Updates : (u v w : Waits (WaitRecord W)) (n : ℕ) (a b : Option (WaitRecord W)) → Updates u v n a → Updates v w n b → Updates u w n b
   Updates-Updates u v w n a b first second =
       record { changed = second.changed; others = λ other differs. second.others other differs ∙ first.others other differs }
 
   -- the first number was unlinked
-  pub record UnlinksFirst (old mid : Waits (Place W)) (n : ℕ) : Type 0 where
+  pub record UnlinksFirst (old mid : Waits (WaitRecord W)) (n : ℕ) : Type 0 where
     pub is : old ≡ record mid { order = n ∷ mid.order }
     pub absent : IsAbsent n mid.order
 
-  pub unlinks_first : (old mid : Waits (Place W)) (n : ℕ) → IsQueue old → old.order ≡ n ∷ drop 1 old.order
+  pub unlinks_first : (old mid : Waits (WaitRecord W)) (n : ℕ) → IsQueue old → old.order ≡ n ∷ drop 1 old.order
       → mid ≡ record old { order = without n old.order } → UnlinksFirst old mid n
   unlinks_first old mid n kept first is =
       let order = first-without n old.order first kept.distinct in
@@ -54,14 +48,14 @@ module _ {W : Type 0} where
       let rest = rw order at distinct in
       rw is record { is = λ i. record { order = order i; slots = old.slots; spare = old.spare }; absent = rest.0 }
 
-  pub waiting_used : (x : Option (Place W)) → IsWaiting x → IsSome x
+  pub waiting_used : (x : Option (WaitRecord W)) → IsWaiting x → IsSome x
   waiting_used None waits = absurd waits
   waiting_used (Some x) waits = refl
 
-  pub first_used : (w : Waits (Place W)) (n : ℕ) → IsQueue w → w.order ≡ n ∷ drop 1 w.order → IsSome (get w n)
+  pub first_used : (w : Waits (WaitRecord W)) (n : ℕ) → IsQueue w → w.order ≡ n ∷ drop 1 w.order → IsSome (get w n)
   first_used w n kept first = let waiting = kept.waiting in let all = rw first at waiting in waiting_used (get w n) all.0
 
-  module _ (mid new : Waits (Place W)) (n : ℕ) (slot : Option (Place W)) (box box' : Wakes W) (absent : IsAbsent n mid.order)
+  module _ (mid new : Waits (WaitRecord W)) (n : ℕ) (slot : Option (WaitRecord W)) (box box' : Wakes W) (absent : IsAbsent n mid.order)
       (updates : Updates mid new n slot) (order : new.order ≡ mid.order) where
     rest_is : entries new.slots new.order ≡ entries mid.slots mid.order
     rest_is = rw order (entries-updated mid.slots new.slots n mid.order updates.others absent)
@@ -84,7 +78,7 @@ module _ {W : Type 0} where
         }
 
     -- an acquire was granted
-    pub grants_acquire : (x : Place W) (w : W) → get mid n ≡ Some x → Some w ≡ waker_of x → slot ≡ Some (after_grant x)
+    pub grants_acquire : (x : WaitRecord W) (w : W) → get mid n ≡ Some x → Some w ≡ waker_of x → slot ≡ Some (after_grant x)
         → IsQueue (record mid { order = n ∷ mid.order }) → box'.wakers ≡ box.wakers ++ w ∷ [] → length new.order ≤ box'.spare
         → (first : Waiter W × ℕ) × GrantsFirst (record mid { order = n ∷ mid.order }) new box box' first
     grants_acquire (Acquire demand lack waker) w found is written kept sent room =
@@ -110,7 +104,7 @@ module _ {W : Type 0} where
     grants_acquire (Cut demand) w found is written kept sent room = absurd (cc)
 
     -- a debt was paid, and is gone
-    pub grants_debt : (x : Place W) → get mid n ≡ Some x → None ≡ waker_of x → slot ≡ None → IsQueue (record mid { order = n ∷ mid.order })
+    pub grants_debt : (x : WaitRecord W) → get mid n ≡ Some x → None ≡ waker_of x → slot ≡ None → IsQueue (record mid { order = n ∷ mid.order })
         → box'.wakers ≡ box.wakers → length new.order ≤ box'.spare
         → (first : Waiter W × ℕ) × GrantsFirst (record mid { order = n ∷ mid.order }) new box box' first
     grants_debt (Acquire demand lack waker) found is written kept sent room = absurd (cc)

@@ -12,8 +12,8 @@ use Rattle.std.specs.FinMap.{find, put, entries, entries-insert, get-entries, ge
 use Rattle.mea_base.specs.WaitList.{IsDistinct}
 use Rattle.mea_base.specs.WaitList as base
 use Rattle.mea_base.proofs.Waits.{sum_by-updated}
-use Rattle.mea_sem_core.specs.declared.place.Place.{Place}
-use Rattle.mea_sem_core.specs.declared.place.Place.TheVariants.{Acquire, Debt, Granted, Cut}
+use Rattle.mea_sem_core.specs.declared.wait_record.WaitRecord.{WaitRecord}
+use Rattle.mea_sem_core.specs.declared.wait_record.WaitRecord.TheVariants.{Acquire, Debt, Granted, Cut}
 use Rattle.mea_sem_core.specs.Core.{Waiter, paid_to, paid_waiting}
 use Rattle.mea_sem_core.specs.Places as q
 use Rattle.mea_sem_core.specs.Places.{entry, queue_of, granted_of, cut_of, grant_of, cut_demand, cons_pair, pairs_from, demands_by, IsWaiting, IsIdle, AllWaiting, IsQueue, paid_slot, paid_in}
@@ -49,12 +49,12 @@ sum-both f g h (x ∷ xs) both =
     omega (arith, sum_by-cons f x xs, sum_by-cons g x xs, sum_by-cons h x xs, sum-both f g h xs both, both x)
 
 module _ {W : Type 0} where
-  sum-demands : (f : ℕ → ℕ) (demand : Option (Place W) → Option ℕ) → demand None ≡ None → (k : ℕ) (slots : List (Option (Place W)))
+  sum-demands : (f : ℕ → ℕ) (demand : Option (WaitRecord W) → Option ℕ) → demand None ≡ None → (k : ℕ) (slots : List (Option (WaitRecord W)))
       → sum_by (λ e. f e.1) (entries (fin.from_entries {R = nat_cmp} (pairs_from demand k slots))) ≡ sum_by (λ s. of_demand f (demand s)) slots
   sum-demands f demand nothing k [] =
       ap (sum_by (λ e. f e.1)) (nil_from_length _ (sym (len-entries (fin.empty {X = ℕ} {R = nat_cmp})) ∙ len-empty nat_cmp ℕ))
   sum-demands f demand nothing k (slot ∷ rest) =
-      by_demand (demand slot) (sum-demands f demand nothing (k + 1) rest) ∙ sym (sum_by-cons (λ (s : Option (Place W)). of_demand f (demand s)) slot rest)
+      by_demand (demand slot) (sum-demands f demand nothing (k + 1) rest) ∙ sym (sum_by-cons (λ (s : Option (WaitRecord W)). of_demand f (demand s)) slot rest)
     where
       by_demand : (o : Option ℕ)
           → sum_by (λ e. f e.1) (entries (fin.from_entries {R = nat_cmp} (pairs_from demand (k + 1) rest))) ≡ sum_by (λ s. of_demand f (demand s)) rest
@@ -68,25 +68,25 @@ module _ {W : Type 0} where
           ap (sum_by (λ e. f e.1)) (entries-insert nat_cmp_total m k d) ∙ sum-put f k d (entries m) fresh ∙ omega (arith, so)
 
   -- how many pairs there are
-  len-demands : (demand : Option (Place W) → Option ℕ) → demand None ≡ None → (slots : List (Option (Place W)))
+  len-demands : (demand : Option (WaitRecord W) → Option ℕ) → demand None ≡ None → (slots : List (Option (WaitRecord W)))
       → fin.len (demands_by demand slots) ≡ sum_by (λ s. of_demand (λ _. 1) (demand s)) slots
   len-demands demand nothing slots =
       len-entries (demands_by demand slots) ∙ sym (sum-ones (entries (demands_by demand slots))) ∙ sum-demands (λ _. 1) demand nothing 0 slots
 
-  within : (slots : List (Option (Place W))) (n : ℕ) → IsWaiting (get_or slots n None) → n < length slots
+  within : (slots : List (Option (WaitRecord W))) (n : ℕ) → IsWaiting (get_or slots n None) → n < length slots
   within [] n waits = absurd waits
   within (s ∷ ss) zero waits = omega arith
   within (s ∷ ss) (suc n) waits = omega (arith, within ss n waits)
 
   -- a sum over all slots is one over the queue and one over the slots that are idle
-  module _ (f g : Option (Place W) → ℕ) (e : Waiter W × ℕ → ℕ) (f_none : f None ≡ 0) (g_none : g None ≡ 0)
-      (idle_slot : (s : Option (Place W)) → IsIdle s → f s ≡ g s)
-      (waiting_slot : (n : ℕ) (s : Option (Place W)) → IsWaiting s → (g s ≡ 0) × (e (entry n s) ≡ f s)) where
-    sum-idle : (slots : List (Option (Place W))) → ((n : ℕ) → IsIdle (get_or slots n None)) → sum_by f slots ≡ sum_by g slots
+  module _ (f g : Option (WaitRecord W) → ℕ) (e : Waiter W × ℕ → ℕ) (f_none : f None ≡ 0) (g_none : g None ≡ 0)
+      (idle_slot : (s : Option (WaitRecord W)) → IsIdle s → f s ≡ g s)
+      (waiting_slot : (n : ℕ) (s : Option (WaitRecord W)) → IsWaiting s → (g s ≡ 0) × (e (entry n s) ≡ f s)) where
+    sum-idle : (slots : List (Option (WaitRecord W))) → ((n : ℕ) → IsIdle (get_or slots n None)) → sum_by f slots ≡ sum_by g slots
     sum-idle [] idle = refl
     sum-idle (s ∷ ss) idle = omega (arith, sum-idle ss (λ n. idle (suc n)), sum_by-cons f s ss, sum_by-cons g s ss, idle_slot s (idle 0))
 
-    sum-order : (slots : List (Option (Place W))) (ns : List ℕ) → IsDistinct ns → AllWaiting slots ns
+    sum-order : (slots : List (Option (WaitRecord W))) (ns : List ℕ) → IsDistinct ns → AllWaiting slots ns
         → ((m : ℕ) → list_any (λ k. eqb k m) ns ≡ false → IsIdle (get_or slots m None))
         → sum_by f slots ≡ sum_by e (q.entries slots ns) + sum_by g slots
     sum-order slots [] distinct all idle = let same = sum-idle slots (λ n. idle n refl) in omega (arith, same)
@@ -108,14 +108,14 @@ module _ {W : Type 0} where
         omega (arith, queue, all_here, idle_here, slot.0, slot.1, sum_by-cons e (entry n (get_or slots n None)) (q.entries slots ns))
 
   -- ---- what is paid
-  idle_paid : (s : Option (Place W)) → IsIdle s → paid_slot s ≡ of_demand (λ d. d) (grant_of s)
+  idle_paid : (s : Option (WaitRecord W)) → IsIdle s → paid_slot s ≡ of_demand (λ d. d) (grant_of s)
   idle_paid None idle = refl
   idle_paid (Some (Acquire d l w)) idle = absurd idle
   idle_paid (Some (Debt l)) idle = absurd idle
   idle_paid (Some (Granted d)) idle = refl
   idle_paid (Some (Cut d)) idle = refl
 
-  waiting_paid : (n : ℕ) (s : Option (Place W)) → IsWaiting s
+  waiting_paid : (n : ℕ) (s : Option (WaitRecord W)) → IsWaiting s
       → (of_demand (λ d. d) (grant_of s) ≡ 0) × (paid_to (entry n s).0 (entry n s).1 ≡ paid_slot s)
   waiting_paid n None waits = absurd waits
   waiting_paid n (Some (Acquire d l w)) waits = (refl, refl)
@@ -124,7 +124,7 @@ module _ {W : Type 0} where
   waiting_paid n (Some (Cut d)) waits = absurd waits
 
   -- what the model calls paid
-  pub paid-view : (w : base.Waits (Place W)) → IsQueue w → paid_in w ≡ paid_waiting (queue_of w) + sum_by (λ d. d) (fin.values (granted_of w))
+  pub paid-view : (w : base.Waits (WaitRecord W)) → IsQueue w → paid_in w ≡ paid_waiting (queue_of w) + sum_by (λ d. d) (fin.values (granted_of w))
   paid-view w kept =
       sum-order paid_slot (λ s. of_demand (λ d. d) (grant_of s)) (λ e. paid_to e.0 e.1) refl refl idle_paid waiting_paid w.slots w.order
       kept.distinct kept.waiting kept.idle
@@ -132,20 +132,20 @@ module _ {W : Type 0} where
       (sym (sum-demands (λ d. d) grant_of refl 0 w.slots) ∙ sym (sum-map (λ e. e.1) (entries (granted_of w))))
 
   -- ---- how many values there are
-  abbrev slot_count : Option (Place W) → ℕ
+  abbrev slot_count : Option (WaitRecord W) → ℕ
   slot_count s = cond (is_some s) 1 0
 
-  abbrev idle_count : Option (Place W) → ℕ
+  abbrev idle_count : Option (WaitRecord W) → ℕ
   idle_count s = of_demand (λ _. 1) (grant_of s) + of_demand (λ _. 1) (cut_demand s)
 
-  idle_counted : (s : Option (Place W)) → IsIdle s → slot_count s ≡ idle_count s
+  idle_counted : (s : Option (WaitRecord W)) → IsIdle s → slot_count s ≡ idle_count s
   idle_counted None idle = refl
   idle_counted (Some (Acquire d l w)) idle = absurd idle
   idle_counted (Some (Debt l)) idle = absurd idle
   idle_counted (Some (Granted d)) idle = refl
   idle_counted (Some (Cut d)) idle = refl
 
-  waiting_counted : (n : ℕ) (s : Option (Place W)) → IsWaiting s → (idle_count s ≡ 0) × (slot_count s ≡ 1)
+  waiting_counted : (n : ℕ) (s : Option (WaitRecord W)) → IsWaiting s → (idle_count s ≡ 0) × (slot_count s ≡ 1)
   waiting_counted n None waits = absurd waits
   waiting_counted n (Some (Acquire d l w)) waits = (refl, refl)
   waiting_counted n (Some (Debt l)) waits = (refl, refl)
@@ -153,7 +153,7 @@ module _ {W : Type 0} where
   waiting_counted n (Some (Cut d)) waits = absurd waits
 
   -- those that wait, were granted or were cut are the values of the list
-  pub count-view : (w : base.Waits (Place W)) → IsQueue w → length (queue_of w) + fin.len (granted_of w) + fin.len (cut_of w) ≡ base.value_count w
+  pub count-view : (w : base.Waits (WaitRecord W)) → IsQueue w → length (queue_of w) + fin.len (granted_of w) + fin.len (cut_of w) ≡ base.value_count w
   count-view w kept =
       let all = sum-order slot_count idle_count (λ _. 1) refl refl idle_counted (λ n s waits. ((waiting_counted n s waits).0, sym (waiting_counted n s waits).1)) w.slots w.order
       kept.distinct kept.waiting kept.idle in

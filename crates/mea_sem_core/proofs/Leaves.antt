@@ -9,8 +9,8 @@ use Rattle.mea_base.specs.WaitList.{get, is_linked, IsAbsent, Updates, without}
 use Rattle.mea_base.specs.WaitList as base
 use Rattle.mea_base.proofs.Waits.{sum_by-updated, in_use_within, IsDistinct-without, without_absent, length-without}
 use Rattle.mea_base.proofs.Tests.{test_same, test_differs}
-use Rattle.mea_sem_core.specs.declared.place.Place.{Place}
-use Rattle.mea_sem_core.specs.declared.place.Place.TheVariants.{Acquire, Debt, Granted, Cut}
+use Rattle.mea_sem_core.specs.declared.wait_record.WaitRecord.{WaitRecord}
+use Rattle.mea_sem_core.specs.declared.wait_record.WaitRecord.TheVariants.{Acquire, Debt, Granted, Cut}
 use Rattle.mea_sem_core.specs.Core.{Acquires, Owes, waiting, HasDebtsFirst, HasOnlyDebts, CutsWhereClosed}
 use Rattle.mea_sem_core.specs.Places.{entry, entries, queue_of, granted_of, cut_of, grant_of, cut_demand, demands_by, AllWaiting, IsQueue, paid_slot, paid_in, is_grant_of, is_cut, IsWaiting, IsIdle, is_acquire_of, LacksAtMost}
 use Rattle.mea_sem_core.specs.Calls.{with_waker, without_acquire, StandsAs}
@@ -19,7 +19,8 @@ use Rattle.mea_sem_core.proofs.Enqueues.{waiting_absent}
 use Rattle.mea_sem_core.proofs.Closings.{only_debts_without, closing_kept, closing_dropped, closed_where_cut}
 use Rattle.mea_sem_core.proofs.Debts.{debts_first_with_waker, debts_first_without}
 use Rattle.mea_sem_core.proofs.Places.{entries-updated, AllWaiting-updated, demands_updated, demands_removed, get-demands, count_updated}
-use Rattle.mea_sem_core.proofs.Grants.{unlinked_from_absent, unlinked_before}
+use Rattle.mea_base.proofs.Chains.{unlinked_from_absent}
+use Rattle.mea_sem_core.proofs.Grants.{unlinked_before}
 
 -- what is left of the order
 unlinked-without : (m n : ℕ) (ns : List ℕ) → m ≢ n → list_any (λ k. eqb k m) (without n ns) ≡ false → list_any (λ k. eqb k m) ns ≡ false
@@ -53,17 +54,17 @@ unlinked_after n (k ∷ ks) = by_test (eqb k n) refl (unlinked_after n ks)
 
 module _ {W : Type 0} where
   -- an unlinked number changes as before
-  pub Updates-unlinked : (old mid new : base.Waits (Place W)) (n : ℕ) (slot : Option (Place W)) → mid.slots ≡ old.slots → Updates mid new n slot
+  pub Updates-unlinked : (old mid new : base.Waits (WaitRecord W)) (n : ℕ) (slot : Option (WaitRecord W)) → mid.slots ≡ old.slots → Updates mid new n slot
       → Updates old new n slot
   Updates-unlinked old mid new n slot same updates =
       record { changed = updates.changed; others = λ other differs. updates.others other differs ∙ ap (λ slots. get_or slots other None) same }
 
   -- the slot behind a granted pair, and behind a waiting acquire
-  pub slot_granted : (slots : List (Option (Place W))) (n demand : ℕ) → fin.get (demands_by grant_of slots) n ≡ Some demand
+  pub slot_granted : (slots : List (Option (WaitRecord W))) (n demand : ℕ) → fin.get (demands_by grant_of slots) n ≡ Some demand
       → get_or slots n None ≡ Some (Granted demand)
   slot_granted slots n demand found = by_slot (get_or slots n None) (sym (get-demands grant_of refl slots n) ∙ found)
     where
-      by_slot : (x : Option (Place W)) → grant_of x ≡ Some demand → x ≡ Some (Granted demand)
+      by_slot : (x : Option (WaitRecord W)) → grant_of x ≡ Some demand → x ≡ Some (Granted demand)
       by_slot None none = absurd (cc)
       by_slot (Some (Acquire _ _ _)) none = absurd (cc)
       by_slot (Some (Debt _)) none = absurd (cc)
@@ -71,23 +72,23 @@ module _ {W : Type 0} where
       by_slot (Some (Cut d)) none = absurd (cc)
 
   -- and behind a cut one
-  pub slot_cut : (slots : List (Option (Place W))) (n demand : ℕ) → fin.get (demands_by cut_demand slots) n ≡ Some demand
+  pub slot_cut : (slots : List (Option (WaitRecord W))) (n demand : ℕ) → fin.get (demands_by cut_demand slots) n ≡ Some demand
       → get_or slots n None ≡ Some (Cut demand)
   slot_cut slots n demand found = by_slot (get_or slots n None) (sym (get-demands cut_demand refl slots n) ∙ found)
     where
-      by_slot : (x : Option (Place W)) → cut_demand x ≡ Some demand → x ≡ Some (Cut demand)
+      by_slot : (x : Option (WaitRecord W)) → cut_demand x ≡ Some demand → x ≡ Some (Cut demand)
       by_slot None none = absurd (cc)
       by_slot (Some (Acquire _ _ _)) none = absurd (cc)
       by_slot (Some (Debt _)) none = absurd (cc)
       by_slot (Some (Granted d)) none = absurd (cc)
       by_slot (Some (Cut d)) is = let same : d ≡ demand = cc in ap (λ k. Some (Cut k)) same
 
-  pub slot_waiting : (slots : List (Option (Place W))) (n demand lack : ℕ) (ns : List ℕ) → waiting (entries slots ns) n ≡ Some (demand, lack)
+  pub slot_waiting : (slots : List (Option (WaitRecord W))) (n demand lack : ℕ) (ns : List ℕ) → waiting (entries slots ns) n ≡ Some (demand, lack)
       → (w : W) × (get_or slots n None ≡ Some (Acquire demand lack w))
   slot_waiting slots n demand lack [] found = absurd (cc)
   slot_waiting slots n demand lack (m ∷ ms) found = by_slot (get_or slots m None) refl found (slot_waiting slots n demand lack ms)
     where
-      by_slot : (x : Option (Place W)) → get_or slots m None ≡ x → waiting (entry m x ∷ entries slots ms) n ≡ Some (demand, lack)
+      by_slot : (x : Option (WaitRecord W)) → get_or slots m None ≡ x → waiting (entry m x ∷ entries slots ms) n ≡ Some (demand, lack)
           → (waiting (entries slots ms) n ≡ Some (demand, lack) → (w : W) × (get_or slots n None ≡ Some (Acquire demand lack w)))
           → (w : W) × (get_or slots n None ≡ Some (Acquire demand lack w))
       by_slot None is found rest = rest found
@@ -105,7 +106,7 @@ module _ {W : Type 0} where
           ]
 
   -- a number whose place waits for nothing is not in the queue
-  pub idle_absent : (slots : List (Option (Place W))) (n : ℕ) (x : Option (Place W)) (ns : List ℕ) → get_or slots n None ≡ x → (IsWaiting x → ⊥)
+  pub idle_absent : (slots : List (Option (WaitRecord W))) (n : ℕ) (x : Option (WaitRecord W)) (ns : List ℕ) → get_or slots n None ≡ x → (IsWaiting x → ⊥)
       → AllWaiting slots ns → IsAbsent n ns
   idle_absent slots n x [] is idle all = tt
   idle_absent slots n x (m ∷ ms) is idle all = (
@@ -113,16 +114,16 @@ module _ {W : Type 0} where
     idle_absent slots n x ms is idle all.1,
   )
 
-  pub granted_absent : (slots : List (Option (Place W))) (n demand : ℕ) (ns : List ℕ) → get_or slots n None ≡ Some (Granted demand)
+  pub granted_absent : (slots : List (Option (WaitRecord W))) (n demand : ℕ) (ns : List ℕ) → get_or slots n None ≡ Some (Granted demand)
       → AllWaiting slots ns → IsAbsent n ns
   granted_absent slots n demand ns is all = idle_absent slots n (Some (Granted demand)) ns is (λ waits. waits) all
 
-  pub cut_absent : (slots : List (Option (Place W))) (n demand : ℕ) (ns : List ℕ) → get_or slots n None ≡ Some (Cut demand)
+  pub cut_absent : (slots : List (Option (WaitRecord W))) (n demand : ℕ) (ns : List ℕ) → get_or slots n None ≡ Some (Cut demand)
       → AllWaiting slots ns → IsAbsent n ns
   cut_absent slots n demand ns is all = idle_absent slots n (Some (Cut demand)) ns is (λ waits. waits) all
 
   -- the queue with another waker
-  entries-with_waker : (old new : List (Option (Place W))) (n demand lack : ℕ) (w w' : W) (ns : List ℕ)
+  entries-with_waker : (old new : List (Option (WaitRecord W))) (n demand lack : ℕ) (w w' : W) (ns : List ℕ)
       → ((other : ℕ) → other ≢ n → get_or new other None ≡ get_or old other None) → get_or old n None ≡ Some (Acquire demand lack w)
       → get_or new n None ≡ Some (Acquire demand lack w') → entries new ns ≡ with_waker (entries old ns) n w'
   entries-with_waker old new n demand lack w w' [] others was is = refl
@@ -133,7 +134,7 @@ module _ {W : Type 0} where
         | inr differs ↦ rw (others m differs) (by_slot (get_or old m None) differs (entries-with_waker old new n demand lack w w' ms others was is))
       ]
     where
-      by_slot : (x : Option (Place W)) → m ≢ n → entries new ms ≡ with_waker (entries old ms) n w'
+      by_slot : (x : Option (WaitRecord W)) → m ≢ n → entries new ms ≡ with_waker (entries old ms) n w'
           → entry m x ∷ entries new ms ≡ with_waker (entry m x ∷ entries old ms) n w'
       by_slot None differs rest = ap (λ es. (Owes, 0) ∷ es) rest
       by_slot (Some (Debt l)) differs rest = ap (λ es. (Owes, l) ∷ es) rest
@@ -142,7 +143,7 @@ module _ {W : Type 0} where
       by_slot (Some (Acquire d l v)) differs rest = rw (test_differs m n differs) (ap (λ es. (Acquires m d v, l) ∷ es) rest)
 
   -- the queue with the acquire gone
-  entries-without : (old new : List (Option (Place W))) (n demand lack : ℕ) (w : W) (ns : List ℕ)
+  entries-without : (old new : List (Option (WaitRecord W))) (n demand lack : ℕ) (w : W) (ns : List ℕ)
       → ((other : ℕ) → other ≢ n → get_or new other None ≡ get_or old other None) → get_or old n None ≡ Some (Acquire demand lack w)
       → entries new (without n ns) ≡ without_acquire (entries old ns) n
   entries-without old new n demand lack w [] others was = refl
@@ -153,7 +154,7 @@ module _ {W : Type 0} where
             (by_slot (get_or old m None) differs (entries-without old new n demand lack w ms others was))
       ]
     where
-      by_slot : (x : Option (Place W)) → m ≢ n → entries new (without n ms) ≡ without_acquire (entries old ms) n
+      by_slot : (x : Option (WaitRecord W)) → m ≢ n → entries new (without n ms) ≡ without_acquire (entries old ms) n
           → entry m x ∷ entries new (without n ms) ≡ without_acquire (entry m x ∷ entries old ms) n
       by_slot None differs rest = ap (λ es. (Owes, 0) ∷ es) rest
       by_slot (Some (Debt l)) differs rest = ap (λ es. (Owes, l) ∷ es) rest
@@ -161,7 +162,7 @@ module _ {W : Type 0} where
       by_slot (Some (Cut d)) differs rest = ap (λ es. (Owes, 0) ∷ es) rest
       by_slot (Some (Acquire d l v)) differs rest = rw (test_differs m n differs) (ap (λ es. (Acquires m d v, l) ∷ es) rest)
 
-  AllWaiting-without : (old new : List (Option (Place W))) (n : ℕ) (ns : List ℕ)
+  AllWaiting-without : (old new : List (Option (WaitRecord W))) (n : ℕ) (ns : List ℕ)
       → ((other : ℕ) → other ≢ n → get_or new other None ≡ get_or old other None) → AllWaiting old ns → AllWaiting new (without n ns)
   AllWaiting-without old new n [] others all = tt
   AllWaiting-without old new n (m ∷ ms) others all =
@@ -170,7 +171,7 @@ module _ {W : Type 0} where
         | inr differs ↦ rw (test_differs m n differs) (rw (others m differs) all.0, AllWaiting-without old new n ms others all.1)
       ]
 
-  AllWaiting-with_waker : (old new : List (Option (Place W))) (n demand lack : ℕ) (w w' : W) (ns : List ℕ)
+  AllWaiting-with_waker : (old new : List (Option (WaitRecord W))) (n demand lack : ℕ) (w w' : W) (ns : List ℕ)
       → ((other : ℕ) → other ≢ n → get_or new other None ≡ get_or old other None) → get_or old n None ≡ Some (Acquire demand lack w)
       → get_or new n None ≡ Some (Acquire demand lack w') → AllWaiting old ns → AllWaiting new ns
   AllWaiting-with_waker old new n demand lack w w' [] others was is all = tt
@@ -183,18 +184,18 @@ module _ {W : Type 0} where
   )
 
   -- a number that is idle in the old slots is not that of a waiting acquire
-  not_idle : (w : base.Waits (Place W)) (n demand lack : ℕ) (waker : W) → IsQueue w → get w n ≡ Some (Acquire demand lack waker) → is_linked w n ≡ false → ⊥
+  not_idle : (w : base.Waits (WaitRecord W)) (n demand lack : ℕ) (waker : W) → IsQueue w → get w n ≡ Some (Acquire demand lack waker) → is_linked w n ≡ false → ⊥
   not_idle w n demand lack waker kept found unlinked = let idle = kept.idle n unlinked in rw found at idle
 
   -- a number that is not in the queue is free again
-  pub record Frees (old new : base.Waits (Place W)) (number : ℕ) : Type 0 where
+  pub record Frees (old new : base.Waits (WaitRecord W)) (number : ℕ) : Type 0 where
     pub queue : queue_of new ≡ queue_of old
     pub granted : granted_of new ≡ fin.remove (granted_of old) number
     pub cut : cut_of new ≡ fin.remove (cut_of old) number
     pub kept : IsQueue new
     pub paid : paid_in new + paid_slot (get old number) ≡ paid_in old
 
-  pub frees : (old new : base.Waits (Place W)) (number : ℕ) → IsAbsent number old.order → Updates old new number None → new.order ≡ old.order
+  pub frees : (old new : base.Waits (WaitRecord W)) (number : ℕ) → IsAbsent number old.order → Updates old new number None → new.order ≡ old.order
       → IsQueue old → Frees old new number
   frees old new number absent updates order kept =
       let sum = sum_by-updated paid_slot refl old.slots new.slots number updates.others in
@@ -220,14 +221,14 @@ module _ {W : Type 0} where
       }
 
   -- a granted pair is taken away
-  pub record Takes (old new : base.Waits (Place W)) (number demand : ℕ) : Type 0 where
+  pub record Takes (old new : base.Waits (WaitRecord W)) (number demand : ℕ) : Type 0 where
     pub queue : queue_of new ≡ queue_of old
     pub granted : granted_of new ≡ fin.remove (granted_of old) number
     pub cut : cut_of new ≡ cut_of old
     pub kept : IsQueue new
     pub paid : paid_in new + demand ≡ paid_in old
 
-  pub takes : (old new : base.Waits (Place W)) (number demand : ℕ) → get old number ≡ Some (Granted demand) → Updates old new number None
+  pub takes : (old new : base.Waits (WaitRecord W)) (number demand : ℕ) → get old number ≡ Some (Granted demand) → Updates old new number None
       → new.order ≡ old.order → IsQueue old → Takes old new number demand
   takes old new number demand was updates order kept =
       let freed = frees old new number (granted_absent old.slots number demand old.order was kept.waiting) updates order kept in
@@ -240,14 +241,14 @@ module _ {W : Type 0} where
       }
 
   -- a cut pair is taken away
-  pub record Drops (old new : base.Waits (Place W)) (number : ℕ) : Type 0 where
+  pub record Drops (old new : base.Waits (WaitRecord W)) (number : ℕ) : Type 0 where
     pub queue : queue_of new ≡ queue_of old
     pub granted : granted_of new ≡ granted_of old
     pub cut : cut_of new ≡ fin.remove (cut_of old) number
     pub kept : IsQueue new
     pub paid : paid_in new ≡ paid_in old
 
-  pub drops : (old new : base.Waits (Place W)) (number demand : ℕ) → get old number ≡ Some (Cut demand) → Updates old new number None
+  pub drops : (old new : base.Waits (WaitRecord W)) (number demand : ℕ) → get old number ≡ Some (Cut demand) → Updates old new number None
       → new.order ≡ old.order → IsQueue old → Drops old new number
   drops old new number demand was updates order kept =
       let freed = frees old new number (cut_absent old.slots number demand old.order was kept.waiting) updates order kept in
@@ -260,14 +261,14 @@ module _ {W : Type 0} where
       }
 
   -- a waiting acquire has another waker
-  pub record Rewakes (old new : base.Waits (Place W)) (number : ℕ) (waker : W) : Type 0 where
+  pub record Rewakes (old new : base.Waits (WaitRecord W)) (number : ℕ) (waker : W) : Type 0 where
     pub queue : queue_of new ≡ with_waker (queue_of old) number waker
     pub granted : granted_of new ≡ granted_of old
     pub cut : cut_of new ≡ cut_of old
     pub kept : IsQueue new
     pub paid : paid_in new ≡ paid_in old
 
-  pub rewakes : (old new : base.Waits (Place W)) (number demand lack : ℕ) (was_waker waker : W)
+  pub rewakes : (old new : base.Waits (WaitRecord W)) (number demand lack : ℕ) (was_waker waker : W)
       → get old number ≡ Some (Acquire demand lack was_waker) → Updates old new number (Some (Acquire demand lack waker)) → new.order ≡ old.order
       → IsQueue old → Rewakes old new number waker
   rewakes old new number demand lack was_waker waker was updates order kept =
@@ -295,18 +296,18 @@ module _ {W : Type 0} where
       }
 
   -- a waiting acquire leaves the queue, and its number has this from now on
-  pub record Unqueues (old new : base.Waits (Place W)) (number part : ℕ) : Type 0 where
+  pub record Unqueues (old new : base.Waits (WaitRecord W)) (number part : ℕ) : Type 0 where
     pub queue : queue_of new ≡ without_acquire (queue_of old) number
     pub granted : granted_of new ≡ granted_of old
     pub kept : IsQueue new
     pub paid : paid_in new + part ≡ paid_in old
     pub shorter : length new.order ≤ length old.order
 
-  at_most_one : (slot : Option (Place W)) → cond (is_some slot) 1 0 ≤ 1
+  at_most_one : (slot : Option (WaitRecord W)) → cond (is_some slot) 1 0 ≤ 1
   at_most_one None = omega arith
   at_most_one (Some x) = omega arith
 
-  pub unqueues : (old new : base.Waits (Place W)) (number demand lack : ℕ) (waker : W) (slot : Option (Place W)) → IsIdle slot → grant_of slot ≡ None
+  pub unqueues : (old new : base.Waits (WaitRecord W)) (number demand lack : ℕ) (waker : W) (slot : Option (WaitRecord W)) → IsIdle slot → grant_of slot ≡ None
       → paid_slot slot ≡ 0 → get old number ≡ Some (Acquire demand lack waker) → Updates old new number slot → new.order ≡ without number old.order
       → IsQueue old → Unqueues old new number (demand - lack)
   unqueues old new number demand lack waker slot idle no_grant unpaid was updates order kept =
@@ -334,41 +335,41 @@ module _ {W : Type 0} where
       }
 
   -- under this number an acquire of this demand was granted, or waits
-  abbrev pub IsOf : base.Waits (Place W) → ℕ → ℕ → Type 0
+  abbrev pub IsOf : base.Waits (WaitRecord W) → ℕ → ℕ → Type 0
   IsOf w demand number = (fin.get (granted_of w) number ≡ Some demand) ⊎ ((lack : ℕ) × (waiting (queue_of w) number ≡ Some (demand, lack)))
 
   -- or, of a closed semaphore, it was cut
-  abbrev pub IsOneOf : base.Waits (Place W) → Bool → ℕ → ℕ → Type 0
+  abbrev pub IsOneOf : base.Waits (WaitRecord W) → Bool → ℕ → ℕ → Type 0
   IsOneOf w closed demand number = IsOf w demand number ⊎ ((closed ≡ true) × (fin.get (cut_of w) number ≡ Some demand))
 
   -- the places of these
-  abbrev pub HoldsOf : base.Waits (Place W) → ℕ → ℕ → Type 0
+  abbrev pub HoldsOf : base.Waits (WaitRecord W) → ℕ → ℕ → Type 0
   HoldsOf w demand number = (get w number ≡ Some (Granted demand)) ⊎ ((lack : ℕ) × (waker : W) × (get w number ≡ Some (Acquire demand lack waker)))
 
-  abbrev pub HoldsOneOf : base.Waits (Place W) → ℕ → ℕ → Type 0
+  abbrev pub HoldsOneOf : base.Waits (WaitRecord W) → ℕ → ℕ → Type 0
   HoldsOneOf w demand number = HoldsOf w demand number ⊎ (get w number ≡ Some (Cut demand))
 
-  pub place_of : (w : base.Waits (Place W)) (demand number : ℕ) → IsOf w demand number → HoldsOf w demand number
+  pub place_of : (w : base.Waits (WaitRecord W)) (demand number : ℕ) → IsOf w demand number → HoldsOf w demand number
   place_of w demand number (inl granted) = inl (slot_granted w.slots number demand granted)
   place_of w demand number (inr waits) = let found = slot_waiting w.slots number demand waits.0 w.order waits.1 in inr (waits.0, found.0, found.1)
 
-  pub place_of_one : (w : base.Waits (Place W)) (closed : Bool) (demand number : ℕ) → IsOneOf w closed demand number → HoldsOneOf w demand number
+  pub place_of_one : (w : base.Waits (WaitRecord W)) (closed : Bool) (demand number : ℕ) → IsOneOf w closed demand number → HoldsOneOf w demand number
   place_of_one w closed demand number (inl is) = inl (place_of w demand number is)
   place_of_one w closed demand number (inr cut) = inr (slot_cut w.slots number demand cut.1)
 
-  pub in_use_at : (w : base.Waits (Place W)) (demand number : ℕ) → HoldsOneOf w demand number → IsSome (get w number)
+  pub in_use_at : (w : base.Waits (WaitRecord W)) (demand number : ℕ) → HoldsOneOf w demand number → IsSome (get w number)
   in_use_at w demand number (inl (inl granted)) = rw granted refl
   in_use_at w demand number (inl (inr waits)) = rw waits.2 refl
   in_use_at w demand number (inr cut) = rw cut refl
 
-  pub granted_at : (w : base.Waits (Place W)) (demand number : ℕ) (x : Place W) → get w number ≡ Some x → is_grant_of x demand ≡ true
+  pub granted_at : (w : base.Waits (WaitRecord W)) (demand number : ℕ) (x : WaitRecord W) → get w number ≡ Some x → is_grant_of x demand ≡ true
       → get w number ≡ Some (Granted demand)
   granted_at w demand number (Acquire own lack waker) found is = absurd (cc)
   granted_at w demand number (Debt lack) found is = absurd (cc)
   granted_at w demand number (Cut own) found is = absurd (cc)
   granted_at w demand number (Granted own) found is = let same : own ≡ demand = grind (arith, nat_tests, is) in found ∙ ap (λ d. Some (Granted d)) same
 
-  pub waiting_at : (w : base.Waits (Place W)) (demand number : ℕ) (x : Place W) → get w number ≡ Some x → is_grant_of x demand ≡ false
+  pub waiting_at : (w : base.Waits (WaitRecord W)) (demand number : ℕ) (x : WaitRecord W) → get w number ≡ Some x → is_grant_of x demand ≡ false
       → HoldsOf w demand number → (lack : ℕ) × (waker : W) × (get w number ≡ Some (Acquire demand lack waker))
   waiting_at w demand number x found is (inl granted) =
       let same : x ≡ Granted demand = cc in
@@ -376,19 +377,19 @@ module _ {W : Type 0} where
   waiting_at w demand number x found is (inr waits) = waits
 
   -- a number cannot be both
-  pub not_both : (w : base.Waits (Place W)) (demand number lack : ℕ) (waker : W) → get w number ≡ Some (Granted demand)
+  pub not_both : (w : base.Waits (WaitRecord W)) (demand number lack : ℕ) (waker : W) → get w number ≡ Some (Granted demand)
       → get w number ≡ Some (Acquire demand lack waker) → ⊥
   not_both w demand number lack waker granted waits = cc
 
-  pub unlinked_granted : (w : base.Waits (Place W)) (demand number : ℕ) → IsQueue w → get w number ≡ Some (Granted demand) → is_linked w number ≡ false
+  pub unlinked_granted : (w : base.Waits (WaitRecord W)) (demand number : ℕ) → IsQueue w → get w number ≡ Some (Granted demand) → is_linked w number ≡ false
   unlinked_granted w demand number kept granted = unlinked_from_absent number w.order (granted_absent w.slots number demand w.order granted kept.waiting)
 
-  pub demand-le-paid : (w : base.Waits (Place W)) (demand number : ℕ) → get w number ≡ Some (Granted demand) → demand ≤ paid_in w
+  pub demand-le-paid : (w : base.Waits (WaitRecord W)) (demand number : ℕ) → get w number ≡ Some (Granted demand) → demand ≤ paid_in w
   demand-le-paid w demand number granted =
       let part = get_or-le-sum_by paid_slot w.slots number None (in_use_within w.slots number (rw granted refl)) in
       rw granted at part
 
-  lacks_within : (w : base.Waits (Place W)) (demand number lack : ℕ) (waker : W) → IsQueue w → get w number ≡ Some (Acquire demand lack waker) → lack ≤ demand
+  lacks_within : (w : base.Waits (WaitRecord W)) (demand number lack : ℕ) (waker : W) → IsQueue w → get w number ≡ Some (Acquire demand lack waker) → lack ≤ demand
   lacks_within w demand number lack waker kept found = by_link (is_linked w number) refl
     where
       linked : (ns : List ℕ) → list_any (λ m. eqb m number) ns ≡ true → AllWaiting w.slots ns → lack ≤ demand
@@ -404,7 +405,7 @@ module _ {W : Type 0} where
       by_link false is = absurd (not_idle w number demand lack waker kept found is)
 
   -- an acquire that waits or was granted is gone
-  pub record Departs (old new : base.Waits (Place W)) (demand number part : ℕ) : Type 0 where
+  pub record Departs (old new : base.Waits (WaitRecord W)) (demand number part : ℕ) : Type 0 where
     pub kept : IsQueue new
     pub paid : paid_in new + part ≡ paid_in old
     pub shorter : length new.order ≤ length old.order
@@ -417,7 +418,7 @@ module _ {W : Type 0} where
     pub cut : fin.get (cut_of old) number ≡ Some demand
         → (part ≡ 0) × (queue_of new ≡ queue_of old) × (granted_of new ≡ granted_of old) × (cut_of new ≡ fin.remove (cut_of old) number)
 
-  pub within_at : (w : base.Waits (Place W)) (demand number : ℕ) (x : Place W) → IsQueue w → get w number ≡ Some x → HoldsOneOf w demand number
+  pub within_at : (w : base.Waits (WaitRecord W)) (demand number : ℕ) (x : WaitRecord W) → IsQueue w → get w number ≡ Some x → HoldsOneOf w demand number
       → LacksAtMost x
   within_at w demand number x kept found (inl (inl granted)) = let same : x ≡ Granted demand = cc in rw same tt
   within_at w demand number x kept found (inl (inr waits)) =
@@ -427,7 +428,7 @@ module _ {W : Type 0} where
   within_at w demand number x kept found (inr cut) = let same : x ≡ Cut demand = cc in rw same tt
 
   -- of the three places a number has one at most
-  not_cut : (w : base.Waits (Place W)) (demand number : ℕ) (x : Place W) → get w number ≡ Some x → is_cut x ≡ false
+  not_cut : (w : base.Waits (WaitRecord W)) (demand number : ℕ) (x : WaitRecord W) → get w number ≡ Some x → is_cut x ≡ false
       → fin.get (cut_of w) number ≡ Some demand → ⊥
   not_cut w demand number x found none cut =
       let slot = slot_cut w.slots number demand cut in
@@ -435,7 +436,7 @@ module _ {W : Type 0} where
       let is = rw same at none in
       cc
 
-  pub departs : (old new : base.Waits (Place W)) (demand number : ℕ) (x : Place W) → IsQueue old → get old number ≡ Some x
+  pub departs : (old new : base.Waits (WaitRecord W)) (demand number : ℕ) (x : WaitRecord W) → IsQueue old → get old number ≡ Some x
       → Updates old new number None → new.order ≡ without number old.order → HoldsOneOf old demand number
       → Departs old new demand number (paid_slot (Some x))
   departs old new demand number x kept found updates order (inl (inl is)) =
@@ -491,7 +492,7 @@ module _ {W : Type 0} where
       }
 
   -- a linked acquire waits with its demand and lack
-  waiting_slot : (slots : List (Option (Place W))) (n demand lack : ℕ) (waker : W) (ns : List ℕ)
+  waiting_slot : (slots : List (Option (WaitRecord W))) (n demand lack : ℕ) (waker : W) (ns : List ℕ)
       → get_or slots n None ≡ Some (Acquire demand lack waker) → list_any (λ k. eqb k n) ns ≡ true → waiting (entries slots ns) n ≡ Some (demand, lack)
   waiting_slot slots n demand lack waker [] found linked = absurd (cc)
   waiting_slot slots n demand lack waker (m ∷ ms) found linked =
@@ -500,7 +501,7 @@ module _ {W : Type 0} where
         | inr differs ↦ by_slot (get_or slots m None) differs (waiting_slot slots n demand lack waker ms found (rw (test_differs m n differs) at linked))
       ]
     where
-      by_slot : (x : Option (Place W)) → m ≢ n → waiting (entries slots ms) n ≡ Some (demand, lack)
+      by_slot : (x : Option (WaitRecord W)) → m ≢ n → waiting (entries slots ms) n ≡ Some (demand, lack)
           → waiting (entry m x ∷ entries slots ms) n ≡ Some (demand, lack)
       by_slot None differs rest = rest
       by_slot (Some (Debt l)) differs rest = rest
@@ -508,7 +509,7 @@ module _ {W : Type 0} where
       by_slot (Some (Cut d)) differs rest = rest
       by_slot (Some (Acquire d l v)) differs rest = rw (test_differs m n differs) rest
 
-  pub belongs_from_slot : (w : base.Waits (Place W)) (closed : Bool) (demand number : ℕ) (x : Place W) → IsQueue w
+  pub belongs_from_slot : (w : base.Waits (WaitRecord W)) (closed : Bool) (demand number : ℕ) (x : WaitRecord W) → IsQueue w
       → CutsWhereClosed closed (queue_of w) (cut_of w) → get w number ≡ Some x → is_acquire_of x demand ≡ true → IsOneOf w closed demand number
   belongs_from_slot w closed demand number (Acquire own lack waker) kept closing found is =
       let same : own ≡ demand = grind (arith, nat_tests, is) in
@@ -526,7 +527,7 @@ module _ {W : Type 0} where
       let cut = get-demands cut_demand refl w.slots number ∙ ap cut_demand found ∙ ap Some same in
       inr (closed_where_cut closed (queue_of w) (cut_of w) number demand closing cut, cut)
 
-  pub slot_from_belongs : (w : base.Waits (Place W)) (closed : Bool) (demand number : ℕ) (x : Place W) → get w number ≡ Some x
+  pub slot_from_belongs : (w : base.Waits (WaitRecord W)) (closed : Bool) (demand number : ℕ) (x : WaitRecord W) → get w number ≡ Some x
       → IsOneOf w closed demand number → is_acquire_of x demand ≡ true
   slot_from_belongs w closed demand number x found belongs = by_place (place_of_one w closed demand number belongs)
     where
@@ -536,7 +537,7 @@ module _ {W : Type 0} where
       by_place (inr cut) = let same : x ≡ Cut demand = cc in rw (same, test_same demand demand refl) refl
 
   -- whether it was cut, by what its place tells
-  pub cut_at : (w : base.Waits (Place W)) (closed : Bool) (demand number : ℕ) (x : Place W) → get w number ≡ Some x → is_cut x ≡ true
+  pub cut_at : (w : base.Waits (WaitRecord W)) (closed : Bool) (demand number : ℕ) (x : WaitRecord W) → get w number ≡ Some x → is_cut x ≡ true
       → IsOneOf w closed demand number → (closed ≡ true) × (fin.get (cut_of w) number ≡ Some demand)
   cut_at w closed demand number x found is (inl belongs) = by_place (place_of w demand number belongs)
     where
@@ -545,17 +546,17 @@ module _ {W : Type 0} where
       by_place (inr waits) = absurd (let here = waits.2 in let same : x ≡ Acquire demand waits.0 waits.1 = cc in let none = rw same at is in cc)
   cut_at w closed demand number x found is (inr cut) = cut
 
-  pub uncut_at : (w : base.Waits (Place W)) (closed : Bool) (demand number : ℕ) (x : Place W) → get w number ≡ Some x → is_cut x ≡ false
+  pub uncut_at : (w : base.Waits (WaitRecord W)) (closed : Bool) (demand number : ℕ) (x : WaitRecord W) → get w number ≡ Some x → is_cut x ≡ false
       → IsOneOf w closed demand number → IsOf w demand number
   uncut_at w closed demand number x found none (inl belongs) = belongs
   uncut_at w closed demand number x found none (inr cut) = absurd (not_cut w demand number x found none cut.1)
 
   -- ---- whether an acquire was granted
-  pub granted_from_slot : (w : base.Waits (Place W)) (demand number : ℕ) (x : Place W) → get w number ≡ Some x → is_grant_of x demand ≡ true
+  pub granted_from_slot : (w : base.Waits (WaitRecord W)) (demand number : ℕ) (x : WaitRecord W) → get w number ≡ Some x → is_grant_of x demand ≡ true
       → fin.get (granted_of w) number ≡ Some demand
   granted_from_slot w demand number x found is = get-demands grant_of refl w.slots number ∙ ap grant_of (granted_at w demand number x found is)
 
-  pub slot_from_granted : (w : base.Waits (Place W)) (demand number : ℕ) (x : Place W) → get w number ≡ Some x
+  pub slot_from_granted : (w : base.Waits (WaitRecord W)) (demand number : ℕ) (x : WaitRecord W) → get w number ≡ Some x
       → fin.get (granted_of w) number ≡ Some demand → is_grant_of x demand ≡ true
   slot_from_granted w demand number x found granted =
       let slot = slot_granted w.slots number demand granted in
@@ -563,11 +564,11 @@ module _ {W : Type 0} where
       rw (same, test_same demand demand refl) refl
 
   -- a granted number does not wait
-  pub granted_apart : (w : base.Waits (Place W)) (demand number : ℕ) → IsQueue w → get w number ≡ Some (Granted demand) → waiting (queue_of w) number ≡ None
+  pub granted_apart : (w : base.Waits (WaitRecord W)) (demand number : ℕ) → IsQueue w → get w number ≡ Some (Granted demand) → waiting (queue_of w) number ≡ None
   granted_apart w demand number kept granted = waiting_absent w.slots number w.order (granted_absent w.slots number demand w.order granted kept.waiting)
 
   -- where an acquire that belongs stands, by what its place tells
-  pub stands_at : (w : base.Waits (Place W)) (free live : ℕ) (closed : Bool) (wakes : List W) (demand number : ℕ) (x : Place W) (b : Bool)
+  pub stands_at : (w : base.Waits (WaitRecord W)) (free live : ℕ) (closed : Bool) (wakes : List W) (demand number : ℕ) (x : WaitRecord W) (b : Bool)
       → get w number ≡ Some x → b ≡ is_grant_of x demand → IsOneOf w closed demand number
       → StandsAs (record {
         free = free;

@@ -8,8 +8,8 @@ use Rattle.mea_base.specs.WaitList.{Waits, get, with_value}
 use Rattle.mea_base.specs.Outbox.{Wakes}
 use Rattle.mea_base.specs.Queue.{lacks, waiting_after, granted_in}
 use Rattle.mea_base.proofs.Waits.{sum_by-updated}
-use Rattle.mea_sem_core.specs.declared.place.Place.{Place}
-use Rattle.mea_sem_core.specs.declared.place.Place.TheVariants.{Acquire, Debt, Granted, Cut}
+use Rattle.mea_sem_core.specs.declared.wait_record.WaitRecord.{WaitRecord}
+use Rattle.mea_sem_core.specs.declared.wait_record.WaitRecord.TheVariants.{Acquire, Debt, Granted, Cut}
 use Rattle.mea_sem_core.specs.Core.{Waiter, Acquires, Owes, debt_of, paid_to_debts, granting, wakers_of, HasDebtsFirst}
 use Rattle.mea_sem_core.specs.Places.{entry, entries, queue_of, granted_of, cut_of, grant_of, cut_demand, IsWaiting, IsQueue, GrantsFirst, Pours, after_payment, lack_of, debt_in, paid_slot, paid_in}
 use Rattle.mea_sem_core.proofs.Debts.{debts_first_part}
@@ -26,7 +26,7 @@ linked_first n ns none =
 
 module _ {W : Type 0} where
   -- from `now` on, the rest pours to what the whole amount pours to from `start`
-  pub record Continues (start now : Waits (Place W)) (start_box now_box : Wakes W) (amount rest to_debts : ℕ) : Type 0 where
+  pub record Continues (start now : Waits (WaitRecord W)) (start_box now_box : Wakes W) (amount rest to_debts : ℕ) : Type 0 where
     pub queue : waiting_after (queue_of now) rest ≡ waiting_after (queue_of start) amount
     pub granted : granting (granted_of now) (granted_in (queue_of now) rest) ≡ granting (granted_of start) (granted_in (queue_of start) amount)
     pub cut : cut_of now ≡ cut_of start
@@ -39,11 +39,11 @@ module _ {W : Type 0} where
     pub paid : paid_in now + rest + to_debts ≡ paid_in start + amount
 
   -- six steps for each waiter that has left, at the most
-  abbrev pub Counts : Waits (Place W) → Waits (Place W) → ℕ → ℕ → Type 0
+  abbrev pub Counts : Waits (WaitRecord W) → Waits (WaitRecord W) → ℕ → ℕ → Type 0
   Counts start now started steps = steps + 6 * length now.order ≤ started + 6 * length start.order
 
   -- a grant of the first waiter is a step of the pour
-  Continues-grant : (start now next : Waits (Place W)) (start_box now_box next_box : Wakes W) (amount rest to_debts : ℕ) (e : Waiter W × ℕ)
+  Continues-grant : (start now next : Waits (WaitRecord W)) (start_box now_box next_box : Wakes W) (amount rest to_debts : ℕ) (e : Waiter W × ℕ)
       → Continues start now start_box now_box amount rest to_debts → GrantsFirst now next now_box next_box e → e.1 ≤ rest → debt_of e.0 e.1 ≤ e.1
       → Continues start next start_box next_box amount (rest - e.1) (to_debts + debt_of e.0 e.1)
   Continues-grant start now next start_box now_box next_box amount rest to_debts e so grants enough part =
@@ -67,47 +67,47 @@ module _ {W : Type 0} where
         paid = omega (arith, grants.paid, so.paid);
       }
 
-  lack_of-entry : (n : ℕ) (x : Place W) → (entry n (Some x)).1 ≡ lack_of x
+  lack_of-entry : (n : ℕ) (x : WaitRecord W) → (entry n (Some x)).1 ≡ lack_of x
   lack_of-entry n (Acquire _ _ _) = refl
   lack_of-entry n (Debt _) = refl
   lack_of-entry n (Granted _) = refl
   lack_of-entry n (Cut _) = refl
 
   -- the entry of a waiter that was paid a part
-  paid_entry : (n : ℕ) (x : Place W) (rest : ℕ) → rest < lack_of x → entry n (Some (after_payment x rest)) ≡ ((entry n (Some x)).0, (entry n (Some x)).1 - rest)
+  paid_entry : (n : ℕ) (x : WaitRecord W) (rest : ℕ) → rest < lack_of x → entry n (Some (after_payment x rest)) ≡ ((entry n (Some x)).0, (entry n (Some x)).1 - rest)
   paid_entry n (Acquire demand lack waker) rest short = refl
   paid_entry n (Debt lack) rest short = refl
   paid_entry n (Granted demand) rest short = absurd (omega arith)
   paid_entry n (Cut demand) rest short = absurd (omega arith)
 
-  waits_after : (x : Place W) (rest : ℕ) → rest < lack_of x → IsWaiting (Some x) → IsWaiting (Some (after_payment x rest))
+  waits_after : (x : WaitRecord W) (rest : ℕ) → rest < lack_of x → IsWaiting (Some x) → IsWaiting (Some (after_payment x rest))
   waits_after (Acquire demand lack waker) rest short waits = (omega arith, omega (arith, waits.1))
   waits_after (Debt lack) rest short waits = omega arith
   waits_after (Granted demand) rest short waits = waits
   waits_after (Cut demand) rest short waits = waits
 
   -- a part payment goes to the acquire or to the debt
-  paid_part_of : (n : ℕ) (x : Place W) (rest : ℕ) → rest < lack_of x → IsWaiting (Some x)
+  paid_part_of : (n : ℕ) (x : WaitRecord W) (rest : ℕ) → rest < lack_of x → IsWaiting (Some x)
       → paid_slot (Some (after_payment x rest)) + debt_of (entry n (Some x)).0 rest ≡ paid_slot (Some x) + rest
   paid_part_of n (Acquire demand lack waker) rest short waits = omega (arith, waits.1)
   paid_part_of n (Debt lack) rest short waits = omega arith
   paid_part_of n (Granted demand) rest short waits = absurd waits
   paid_part_of n (Cut demand) rest short waits = absurd waits
 
-  no_grant : (x : Place W) (rest : ℕ) → IsWaiting (Some x) → grant_of (Some (after_payment x rest)) ≡ grant_of (Some x)
+  no_grant : (x : WaitRecord W) (rest : ℕ) → IsWaiting (Some x) → grant_of (Some (after_payment x rest)) ≡ grant_of (Some x)
   no_grant (Acquire demand lack waker) rest waits = refl
   no_grant (Debt lack) rest waits = refl
   no_grant (Granted demand) rest waits = absurd waits
   no_grant (Cut demand) rest waits = refl
 
-  no_cut : (x : Place W) (rest : ℕ) → cut_demand (Some (after_payment x rest)) ≡ cut_demand (Some x)
+  no_cut : (x : WaitRecord W) (rest : ℕ) → cut_demand (Some (after_payment x rest)) ≡ cut_demand (Some x)
   no_cut (Acquire demand lack waker) rest = refl
   no_cut (Debt lack) rest = refl
   no_cut (Granted demand) rest = refl
   no_cut (Cut demand) rest = refl
 
   -- a part payment of the first waiter is the end of the pour
-  Pours-part : (start now : Waits (Place W)) (start_box now_box : Wakes W) (amount rest to_debts n : ℕ) (ns : List ℕ) (x : Place W)
+  Pours-part : (start now : Waits (WaitRecord W)) (start_box now_box : Wakes W) (amount rest to_debts n : ℕ) (ns : List ℕ) (x : WaitRecord W)
       → Continues start now start_box now_box amount rest to_debts → now.order ≡ n ∷ ns → get now n ≡ Some x → rest < lack_of x
       → Pours start (with_value now n (after_payment x rest)) start_box now_box amount × (0 ≡ amount - lacks (queue_of start))
       × (to_debts + debt_of (entry n (Some x)).0 rest ≡ paid_to_debts (queue_of start) amount)
@@ -162,7 +162,7 @@ module _ {W : Type 0} where
         debts,
       )
 
-  debt_of-entry : (n : ℕ) (x : Place W) (rest : ℕ) → debt_of (entry n (Some x)).0 (min (lack_of x) rest) ≡ min (debt_in x) rest
+  debt_of-entry : (n : ℕ) (x : WaitRecord W) (rest : ℕ) → debt_of (entry n (Some x)).0 (min (lack_of x) rest) ≡ min (debt_in x) rest
   debt_of-entry n (Acquire _ _ _) rest = omega arith
   debt_of-entry n (Debt lack) rest = refl
   debt_of-entry n (Granted _) rest = omega arith
@@ -173,8 +173,8 @@ module _ {W : Type 0} where
   debt_of-within Owes n = omega arith
 
   -- one turn of the loop that grants
-  pub Continues-turn : (start now next : Waits (Place W)) (start_box now_box next_box : Wakes W) (amount rest to_debts n : ℕ) (ns : List ℕ)
-      (x : Place W) → Continues start now start_box now_box amount rest to_debts → now.order ≡ n ∷ ns → get now n ≡ Some x → lack_of x ≤ rest
+  pub Continues-turn : (start now next : Waits (WaitRecord W)) (start_box now_box next_box : Wakes W) (amount rest to_debts n : ℕ) (ns : List ℕ)
+      (x : WaitRecord W) → Continues start now start_box now_box amount rest to_debts → now.order ≡ n ∷ ns → get now n ≡ Some x → lack_of x ≤ rest
       → (e : Waiter W × ℕ) × GrantsFirst now next now_box next_box e
       → Continues start next start_box next_box amount (rest - lack_of x) (to_debts + min (debt_in x) rest)
   Continues-turn start now next start_box now_box next_box amount rest to_debts n ns x so order found enough grants =
@@ -190,7 +190,7 @@ module _ {W : Type 0} where
       rw (← lack, ← debt) turn
 
   -- and the turn that pays a part
-  pub Pours-turn : (start now : Waits (Place W)) (start_box now_box : Wakes W) (amount rest to_debts n : ℕ) (ns : List ℕ) (x y : Place W)
+  pub Pours-turn : (start now : Waits (WaitRecord W)) (start_box now_box : Wakes W) (amount rest to_debts n : ℕ) (ns : List ℕ) (x y : WaitRecord W)
       → Continues start now start_box now_box amount rest to_debts → now.order ≡ n ∷ ns → get now n ≡ Some x → y ≡ after_payment x rest
       → rest < lack_of x → Pours start (with_value now n y) start_box now_box amount × (0 ≡ amount - lacks (queue_of start))
       × (to_debts + min (debt_in x) rest ≡ paid_to_debts (queue_of start) amount)

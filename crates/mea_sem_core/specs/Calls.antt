@@ -46,6 +46,7 @@ module _ {W : Type 0} where
     pub is : s' ≡ record s { free = 0; queue = s.queue ++ (Acquires number demand w, demand - s.free) ∷ [] }
     pub not_waiting : waiting s.queue number ≡ None
     pub not_granted : map.get s.granted number ≡ None
+    pub not_cut : map.get s.cut number ≡ None
 
 -- what one poll does of an acquire that no close keeps from its permits, where ready and pending are told so
 module _ {W T : Type 0} (ready : W → T) (pending : T) where

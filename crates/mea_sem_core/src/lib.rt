@@ -10,9 +10,9 @@ mod acquire;
 mod checked;
 mod closing;
 mod open_turn;
-mod place;
 mod pouring;
 mod sem_core;
+mod wait_record;
 
 pub use acquire::Acquire;
 pub use open_turn::OpenTurn;

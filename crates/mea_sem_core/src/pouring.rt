@@ -4,7 +4,7 @@ ghost use Rattle.mea_sem_core.specs.Core.{Waiter, paid_to_debts};
 ghost use Rattle.mea_sem_core.specs.Places.{queue_of, IsQueue, PaysPart, GrantsFirst, Pours};
 ghost use Rattle.mea_base.specs.WaitList.{IsInUse};
 
-use crate::place::Place;
+use crate::wait_record::WaitRecord;
 use mea_base::{Outbox, Steps, WaitList};
 use std::sync::ledger::{Blank, Ledger};
 
@@ -22,7 +22,7 @@ pub(crate) struct Lacking {
 
 // Pays a waiter the amount where that is less than it lacks, and tells what it lacked. One step.
 fn pay_part<W, L: Ledger>(
-    waiters: &mut WaitList<Place<W>>,
+    waiters: &mut WaitList<WaitRecord<W>>,
     number: usize,
     amount: usize,
     steps: &mut Steps<L>,
@@ -42,7 +42,7 @@ fn pay_part<W, L: Ledger>(
 
 // Takes the first waiter, which is paid whole, out of the queue. Four steps.
 fn grant_first<W: Drop, L: Ledger>(
-    waiters: &mut WaitList<Place<W>>,
+    waiters: &mut WaitList<WaitRecord<W>>,
     outbox: &mut Outbox<W>,
     number: usize,
     steps: &mut Steps<L>,
@@ -65,7 +65,7 @@ fn grant_first<W: Drop, L: Ledger>(
 /// Pours the amount: pays the lacks from the head of the queue, and touches the waiters that it pays
 /// alone. It takes no memory, and six steps for each waiter that it pays whole and two more at the most.
 pub(crate) fn pour_counted<W: Drop, L: Ledger>(
-    waiters: &mut WaitList<Place<W>>,
+    waiters: &mut WaitList<WaitRecord<W>>,
     outbox: &mut Outbox<W>,
     amount: usize,
     steps: &mut Steps<L>,
@@ -98,7 +98,7 @@ pub(crate) fn pour_counted<W: Drop, L: Ledger>(
 
 /// `pour_counted`, which opens a ledger for its steps and drops it.
 pub(crate) fn pour<W: Drop, L: Ledger>(
-    waiters: &mut WaitList<Place<W>>,
+    waiters: &mut WaitList<WaitRecord<W>>,
     outbox: &mut Outbox<W>,
     amount: usize,
     blank: Blank,

@@ -1,11 +1,11 @@
-ghost use Rattle.std.specs.Prelude.{◌≡◌, ◌≢◌, ◌+◌, ◌-◌, ◌*◌, ◌<◌, ◌≤◌, ◌⊎◌, ◌↔◌, ℕ, [], ◌∷◌, length, min, true, false, IsTrue, IsOk, IsErr, OnOk, OnErr, IfOk, IfErr, IfSome, IfNone, MatchResult};
+ghost use Rattle.std.specs.Prelude.{◌≡◌, ◌≢◌, ◌+◌, ◌-◌, ◌*◌, ◌<◌, ◌≤◌, ◌^◌, ◌⊎◌, ◌↔◌, ℕ, [], ◌∷◌, length, min, true, false, IsTrue, IsOk, IsErr, OnOk, OnErr, IfOk, IfErr, IfSome, IfNone, MatchResult};
 ghost use Rattle.std.specs.FinMap as map;
 
 use crate::acquire::Acquire;
 use crate::closing::cut_queue;
 use crate::open_turn::OpenTurn;
-use crate::place::{Place, reserve_place};
 use crate::pouring::{Poured, pour, pour_counted};
+use crate::wait_record::{WaitRecord, reserve_place};
 use mea_base::{NoMemory, Outbox, Overflow, Steps, Turn, WaitList};
 use std::alloc::Global;
 use std::marker::{Brand, Model};
@@ -24,7 +24,7 @@ pub struct SemCore<W> {
     // What has been paid to the acquires that wait or were granted.
     paid: usize,
     closed: bool,
-    waiters: WaitList<Place<W>>,
+    waiters: WaitList<WaitRecord<W>>,
     outbox: Outbox<W>,
 }
 
@@ -132,6 +132,7 @@ impl<W: Drop> SemCore<W> {
         ensures overflow { IsErr result ↔ (usize.MAX < self.old.live + n) }
         ensures ok { OnOk result (self.new ≡ poured self.old n) }
         ensures err { OnErr result (self.new ≡ self.old) }
+        ensures some { OnErr result (0 < n) }
         ensures held { held_of self.new ≡ held_of self.old }
         ensures no_debt { HasNoDebt self.old.queue → HasNoDebt self.new.queue }
         ensures sound { IsSound self.new }
@@ -192,7 +193,7 @@ impl<W: Drop> SemCore<W> {
             return Ok(());
         }
         reserve_place(&mut self.waiters, &mut self.outbox)?;
-        let debt = Place::Debt {
+        let debt = WaitRecord::Debt {
             lack: n - self.free,
         };
         match self.waiters.push_head(debt) {
@@ -412,7 +413,8 @@ impl<W: Drop> SemCore<W> {
 
     /// How many wakers are to be called. It takes no memory.
     pub fn wakes_ready(&self) -> usize
-        ensures { result ≡ length self.now.wakes }
+        ensures is { result ≡ length self.now.wakes }
+        ensures bound { result < 2 ^ 63 }
     {
         self.outbox.len()
     }
@@ -552,7 +554,7 @@ impl<W: Drop> SemCore<W> {
         if reserve_place(&mut self.waiters, &mut self.outbox).is_err() {
             return Err((waker, NoMemory));
         }
-        let waiter = Place::Acquire {
+        let waiter = WaitRecord::Acquire {
             demand,
             lack: demand - self.free,
             waker,

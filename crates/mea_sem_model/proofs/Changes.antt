@@ -9,7 +9,7 @@ use Rattle.mea_base.specs.Queue.{lacks, waiting_after, granted_in}
 use Rattle.mea_base.proofs.Totals.{total-insert, total-remove, total-alike}
 use Rattle.mea_base.proofs.Queues.{lacks-waiting_after}
 use Rattle.mea_base.proofs.Maps.{by_put, by_gone, is_absent}
-use Rattle.mea_sem_model.specs.Hall.{Hall, Semaphore, Future, Permit, Stage, New, Waiting, Granted, Cut, Who, semaphore_at, queue_at, is_closed, poured, stage_all, granted, pour, lack_of, free, plain_things, with_semaphore}
+use Rattle.mea_sem_model.specs.Hall.{Hall, Semaphore, Future, Permit, FutureStage, New, Waiting, Granted, Cut, Who, semaphore_at, queue_at, is_closed, poured, stage_all, granted, pour, lack_of, free, plain_things, with_semaphore}
 use Rattle.mea_sem_model.specs.Cause.{is_named}
 use Rattle.mea_sem_model.specs.Step.{with_future, without_future, with_permit, without_permit}
 use Rattle.mea_sem_model.specs.Valid.{count, one_if_waiting, waits_at, AllLack, HasDebtsFirst, IsBelow}
@@ -18,7 +18,7 @@ use Rattle.mea_sem_model.proofs.Matched.{IsMatched, matched_semaphore, matched_n
 use Rattle.mea_sem_model.proofs.Orderly.{IsOrderly, orderly_semaphore, orderly_permit, orderly_no_permit, orderly_no_future, orderly_pour}
 
 -- what a future has taken or is promised: its demand, once it was polled
-abbrev pub taken : ℕ → Stage → ℕ
+abbrev pub taken : ℕ → FutureStage → ℕ
 taken n New = 0
 taken n (Waiting w) = n
 taken n Granted = n
@@ -77,7 +77,7 @@ module _ (h : Hall) (q n : ℕ) (v : IsMatched h) where
   taken_kept s f true a (Some x) is = ap (λ k. cond (x.semaphore == s) k 0)
       (by_stage x.stage (is_waiting q x (subst (λ o. 0 < waits_at q o) is (granted_waited h q n v f a))).1)
     where
-      by_stage : (t : Stage) → one_if_waiting t ≡ 1 → x.demand ≡ taken x.demand t
+      by_stage : (t : FutureStage) → one_if_waiting t ≡ 1 → x.demand ≡ taken x.demand t
       by_stage New e = absurd (omega arith)
       by_stage (Waiting w) e = refl
       by_stage Granted e = refl
@@ -135,7 +135,7 @@ below_no_permit h k n b = record {
 }
 
 -- some come to a stage
-pub below_staged : (h : Hall) (q n : ℕ) (t : Stage) (ws : List Who) (r : Semaphore) → IsSome (get h.semaphores q) → IsBelow h n
+pub below_staged : (h : Hall) (q n : ℕ) (t : FutureStage) (ws : List Who) (r : Semaphore) → IsSome (get h.semaphores q) → IsBelow h n
     → IsBelow (record h { semaphores = insert h.semaphores q r; futures = stage_all t ws h.futures }) n
 below_staged h q n t ws r there b = record {
   semaphores = (below_semaphore h q n r (b.semaphores q there) b).semaphores;

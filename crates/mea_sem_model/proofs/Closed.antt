@@ -2,12 +2,13 @@
 use Rattle.std.proofs.Common.{◌≡◌, ◌≢◌, ℕ, ◌+◌, ◌-◌, ◌&&◌, ◌⊎◌, inl, inr, Bool, true, false, cond, not, Some, None, refl, ap, sym, subst, ◌∙◌, arith, nat_le, if◌then◌else◌}
 use Rattle.std.specs.Option.{option_map}
 use Rattle.std.specs.FinMap.{get}
-use Rattle.mea_base.specs.declared.answer.Answer.TheVariants as answers
+use Rattle.mea_family.specs.declared.answer.Answer.TheVariants as answers
 use Rattle.mea_base.proofs.Maps.{inside, value_in}
-use Rattle.mea_base.proofs.Tests.{by_name, known}
+use Rattle.mea_base.proofs.Tests.{by_name}
+use Rattle.mea_family.proofs.Causes.{known}
 use Rattle.mea_sem_model.specs.declared.event.SemEvent.{SemEvent}
 use Rattle.mea_sem_model.specs.declared.event.SemEvent.TheVariants as events
-use Rattle.mea_sem_model.specs.Hall.{Hall, Future, Stage, New, Waiting, Granted, Cut, semaphore_at, queue_at, is_closed, free, live, owed, staged, poured, paid_in, debts_in, cutting, closing, wakes_waiting, with_semaphore}
+use Rattle.mea_sem_model.specs.Hall.{Hall, Future, FutureStage, New, Waiting, Granted, Cut, semaphore_at, queue_at, is_closed, free, live, owed, staged, poured, paid_in, debts_in, cutting, closing, wakes_waiting, with_semaphore}
 use Rattle.mea_sem_model.specs.Cause.{cause_of}
 use Rattle.mea_sem_model.specs.Step.{quietly, with_permit, taking, offers, try_of, try_and_forget, open_poll, refusing, poll_at, poll_of, step}
 use Rattle.mea_sem_model.specs.Valid.{SuitsClosed, IsValid, IsBelow}
@@ -63,7 +64,7 @@ pub refuses : (h : Hall) (i f w : ℕ) (x : Future) → IsValid h → get h.futu
     → step h i (events.Poll f w) ≡ refusing h f
 refuses h i f w x v is closed ungranted = ap (poll_of h i f w) is ∙ by_stage x.stage refl
   where
-    by_stage : (t : Stage) → x.stage ≡ t → poll_at h i f w x t ≡ refusing h f
+    by_stage : (t : FutureStage) → x.stage ≡ t → poll_at h i f w x t ≡ refusing h f
     by_stage New e = ap (λ b. if b then refusing h f else open_poll h i f w x) closed
     by_stage (Waiting u) e = absurd (let open_still = subst (SuitsClosed (is_closed h x.semaphore)) e (v.closed f x is) in cc)
     by_stage Granted e = absurd (ungranted e)

@@ -10,7 +10,7 @@ use Rattle.mea_base.specs.Totals.{total, weight}
 use Rattle.mea_base.proofs.Totals.{total-same, total-plus, total-zero, total-point, total-alike}
 use Rattle.mea_base.proofs.Maps.{inside}
 use Rattle.mea_base.proofs.Tests.{on_true, on_false}
-use Rattle.mea_sem_model.specs.Hall.{Hall, Semaphore, Future, Stage, New, Waiting, Granted, Cut, Who, Waiter, Debt, semaphore_at, queue_at, names, lack_of, poured, staged, granted, demand_at, paid_to_who, paid_in, debts_in, everyone, cutting, closing, with_semaphore}
+use Rattle.mea_sem_model.specs.Hall.{Hall, Semaphore, Future, FutureStage, New, Waiting, Granted, Cut, Who, Waiter, Debt, semaphore_at, queue_at, names, lack_of, poured, staged, granted, demand_at, paid_to_who, paid_in, debts_in, everyone, cutting, closing, with_semaphore}
 use Rattle.mea_sem_model.specs.Valid.{count, one_if_waiting, waits_at, IsBelow}
 use Rattle.mea_sem_model.proofs.HallLemmas.{by_semaphore, among, get-stage_all, get-grant_all}
 use Rattle.mea_sem_model.proofs.Pours.{among_none, mentions-everyone, count-pour, count-debts_in, lacks-debts_in, none_among, none_counted}
@@ -141,7 +141,7 @@ module _ (h : Hall) (q : ℕ) (m : IsMatched h) where
   abbrev lost_by : ℕ → ℕ → Future → ℕ
   lost_by s f x = cond (q == s) (weighed waits_there f x.demand) 0
 
-  all_taken : (t : Stage) (n : ℕ) → one_if_waiting t ≡ 1 → taken n t ≡ n
+  all_taken : (t : FutureStage) (n : ℕ) → one_if_waiting t ≡ 1 → taken n t ≡ n
   all_taken New n one = absurd (omega arith)
   all_taken (Waiting w) n one = refl
   all_taken Granted n one = absurd (omega arith)

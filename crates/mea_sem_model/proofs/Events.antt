@@ -6,18 +6,19 @@ use Rattle.std.proofs.lemmas.List.Sums.{sum_by-append}
 use Rattle.std.proofs.lemmas.Bool.{eqb-true, eq-eqb, leb-true, leb-false, ltb-false, and_parts, not-true}
 use Rattle.mea_base.specs.Totals.{weight}
 use Rattle.mea_base.specs.Queue.{lacks}
-use Rattle.mea_base.specs.declared.answer.Answer.TheVariants as answers
-use Rattle.mea_base.specs.declared.stop.Stop.TheVariants as stops
+use Rattle.mea_family.specs.declared.answer.Answer.TheVariants as answers
+use Rattle.mea_family.specs.declared.stop.Stop.TheVariants as stops
 use Rattle.mea_base.proofs.Totals.{total-remove}
 use Rattle.mea_base.proofs.Maps.{is_there, get-there, get-removed_other}
-use Rattle.mea_base.proofs.Tests.{on_true, known}
+use Rattle.mea_base.proofs.Tests.{on_true}
+use Rattle.mea_family.proofs.Causes.{known}
 use Rattle.mea_sem_model.specs.declared.event.SemEvent.{SemEvent}
 use Rattle.mea_sem_model.specs.declared.event.SemEvent.TheVariants as events
-use Rattle.mea_sem_model.specs.Hall.{Hall, Semaphore, Future, Permit, Stage, New, Waiting, Granted, Cut, Who, Waiter, made_with, semaphore_at, queue_at, is_closed, pour, names, lack_of, free, plain_things, with_semaphore, closing, wakes_waiting}
+use Rattle.mea_sem_model.specs.Hall.{Hall, Semaphore, Future, Permit, FutureStage, New, Waiting, Granted, Cut, Who, Waiter, made_with, semaphore_at, queue_at, is_closed, pour, names, lack_of, free, plain_things, with_semaphore, closing, wakes_waiting}
 use Rattle.mea_sem_model.specs.Cause.{is_named, is_named_semaphore, are_of_one_kind, can_merge, cause_of}
 use Rattle.mea_sem_model.specs.Step.{quietly, with_future, without_future, with_permit, without_permit, forgetting, with_debt, forgetting_exactly, taking, made_ready, queueing, open_poll, refusing, poll_at, poll_of, without, leaving, end_future, end_permit, end_of, lose_of, merge_of, split_of, released_to, offers, step}
 use Rattle.mea_sem_model.specs.Valid.{count, one_if_waiting, waits_at, SuitsClosed, IsBelow}
-use Rattle.mea_sem_model.specs.Runs.{Told, if_same, made_by, released_by, number_forgot, if_yes, if_ready, if_permit_of, forgetting_demand, forgotten_by}
+use Rattle.mea_sem_model.specs.Runs.{ToldSemEvent, if_same, made_by, released_by, number_forgot, if_yes, if_ready, if_permit_of, forgetting_demand, forgotten_by}
 use Rattle.mea_sem_model.proofs.HallLemmas.{semaphore_named, closed_put}
 use Rattle.mea_sem_model.proofs.Pours.{lacks-without, lacking-without, lacking-append, lacking-debt, first-filter, first-append, first-debt, lacks-debt, count-debt, lack-debt}
 use Rattle.mea_sem_model.proofs.Matched.{IsMatched, matched_future, new_waits, granted_waits, stage_waits, lacks_nothing, queued_matched, left_matched}
@@ -300,7 +301,7 @@ module _ (h : Hall) (i f : ℕ) (x : Future) (is : get h.futures f ≡ Some x) (
       (to_no_future h (i + 1) m v (below_more h i low) f idle)
 
   -- one that was paid nothing is gone
-  gone_with_nothing : {t : Stage} → x.stage ≡ t → taken x.demand t ≡ 0 → one_if_waiting t ≡ 0 → Changed h (without_future h f) (i + 1) (λ s. 0) (λ s. 0)
+  gone_with_nothing : {t : FutureStage} → x.stage ≡ t → taken x.demand t ≡ 0 → one_if_waiting t ≡ 0 → Changed h (without_future h f) (i + 1) (λ s. 0) (λ s. 0)
   gone_with_nothing {t} e nothing idle = retold h _ (i + 1) _ _ (λ s. 0) (λ s. 0)
       (λ s. omega (
         arith,
@@ -387,7 +388,7 @@ module _ (h : Hall) (i f : ℕ) (x : Future) (is : get h.futures f ≡ Some x) (
   at_first_poll w unpolled true e = gone_with_nothing unpolled refl refl
   at_first_poll w unpolled false e = at_first w unpolled e (nat_le x.demand (free h x.semaphore)) refl
 
-  at_poll : (w : ℕ) (t : Stage) → x.stage ≡ t → Changed h (poll_at h i f w x t).hall (i + 1) (λ s. 0)
+  at_poll : (w : ℕ) (t : FutureStage) → x.stage ≡ t → Changed h (poll_at h i f w x t).hall (i + 1) (λ s. 0)
       (λ s. if_ready (forgetting_demand s (Some x)) (poll_at h i f w x t).reply)
   at_poll w New e = at_first_poll w e (is_closed h x.semaphore) refl
   at_poll w (Waiting u) e = at_waiting w u e
@@ -414,7 +415,7 @@ module _ (h : Hall) (i f : ℕ) (x : Future) (is : get h.futures f ≡ Some x) (
         below = below_no_future g f (i + 1) (below_semaphore h x.semaphore (i + 1) r ((below_more h i low).semaphores x.semaphore there) (below_more h i low));
       }
 
-  at_end : (t : Stage) → x.stage ≡ t → Changed h (end_future h f x t).hall (i + 1) (λ s. 0) (λ s. 0)
+  at_end : (t : FutureStage) → x.stage ≡ t → Changed h (end_future h f x t).hall (i + 1) (λ s. 0) (λ s. 0)
   at_end New e = gone_with_nothing e refl refl
   at_end (Waiting u) e =
       let l : ℕ = lack_of (queue_at h x.semaphore) f in
@@ -440,7 +441,7 @@ module _ (h : Hall) (i f : ℕ) (x : Future) (is : get h.futures f ≡ Some x) (
 
 -- ---- each event
 -- an event as it is told
-abbrev pub line : Hall → ℕ → SemEvent → Told
+abbrev pub line : Hall → ℕ → SemEvent → ToldSemEvent
 line h i e = record { number = i; before = h; event = e; reply = (step h i e).reply; wakes = (step h i e).wakes }
 
 module _ (h : Hall) (i : ℕ) (m : IsMatched h) (v : IsOrderly h) (low : IsBelow h i) where

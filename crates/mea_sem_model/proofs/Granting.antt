@@ -7,12 +7,12 @@ use Rattle.std.specs.FinMap.{FinMap, get, remove}
 use Rattle.std.proofs.lemmas.Bool.{eqb-false, eq-eqb}
 use Rattle.std.proofs.lemmas.List.Sums.{sum_by-cons}
 use Rattle.mea_base.specs.Queue.{lacks_after, waiting_after, granted_in}
-use Rattle.mea_base.specs.declared.answer.Answer.TheVariants as answers
+use Rattle.mea_family.specs.declared.answer.Answer.TheVariants as answers
 use Rattle.mea_base.proofs.Maps.{by_put, inside, get-removed_other, removed_there}
 use Rattle.mea_base.proofs.Tests.{by_name}
 use Rattle.mea_sem_model.specs.declared.event.SemEvent.{SemEvent}
 use Rattle.mea_sem_model.specs.declared.event.SemEvent.TheVariants as events
-use Rattle.mea_sem_model.specs.Hall.{Hall, Semaphore, Future, Permit, Stage, New, Waiting, Granted, Cut, Who, Waiter, Debt, names, made_with, semaphore_at, queue_at, is_closed, debt_of, debts, owed, free, poured, staged, granted, pour, waker_of, waker_of_future, waker_of_who, with_semaphore, everyone, closing, wakes_waiting}
+use Rattle.mea_sem_model.specs.Hall.{Hall, Semaphore, Future, Permit, FutureStage, New, Waiting, Granted, Cut, Who, Waiter, Debt, names, made_with, semaphore_at, queue_at, is_closed, debt_of, debts, owed, free, poured, staged, granted, pour, waker_of, waker_of_future, waker_of_who, with_semaphore, everyone, closing, wakes_waiting}
 use Rattle.mea_sem_model.specs.Cause.{is_named, cause_of}
 use Rattle.mea_sem_model.specs.Step.{Outcome, quietly, pouring, with_future, without_future, with_permit, without_permit, forgetting, forgetting_exactly, taking, offers, try_of, try_and_forget, without, leaving, end_future, end_permit, end_of, lose_of, merge_of, split_of, released_to, step}
 use Rattle.mea_sem_model.specs.Valid.{one_if_waiting, waits_at, AllLack, HasNoDebt, HasDebtsFirst, IsBelow}
@@ -39,7 +39,7 @@ pub record Granting (h : Hall) (o : Outcome) (i : ℕ) (e : SemEvent) : Type 0 w
   pub who : List Who
   pub of : ℕ
   -- they are granted, or the event closes their semaphore and they are cut
-  pub stage : Stage
+  pub stage : FutureStage
   pub kind : (stage ≡ Granted) ⊎ ((stage ≡ Cut) × (e ≡ events.Close of))
   -- each future was there before, or the event begins it
   pub each : (f : ℕ) (y : Future) → get o.hall.futures f ≡ Some y
@@ -115,7 +115,7 @@ wakers_of m g (Waiter f ∷ ws) wait =
     ∙ ap (λ o. o ∷ map (λ k. waker_kept (get g k)) (futures_in ws)) (sym here.2)
 wakers_of m g (Debt ∷ ws) wait = wakers_of m g ws wait
 
-waiting_stage : (t : Stage) → one_if_waiting t ≡ 1 → (w : ℕ) × (t ≡ Waiting w)
+waiting_stage : (t : FutureStage) → one_if_waiting t ≡ 1 → (w : ℕ) × (t ≡ Waiting w)
 waiting_stage New one = absurd (omega (arith, one))
 waiting_stage (Waiting w) one = (w, refl)
 waiting_stage Granted one = absurd (omega (arith, one))
@@ -236,7 +236,7 @@ module _ (h : Hall) (i : ℕ) (m : IsMatched h) (v : IsOrderly h) (low : IsBelow
     debts = λ granted k a. absurd (cc);
   }
 
-  ends_future : (f : ℕ) (x : Future) → get h.futures f ≡ Some x → (t : Stage) → x.stage ≡ t → Granting h (end_future h f x t) i (events.End f)
+  ends_future : (f : ℕ) (x : Future) → get h.futures f ≡ Some x → (t : FutureStage) → x.stage ≡ t → Granting h (end_future h f x t) i (events.End f)
   ends_future f x is New e = ends_unpaid f
   ends_future f x is Cut e = ends_unpaid f
   ends_future f x is (Waiting u) e =

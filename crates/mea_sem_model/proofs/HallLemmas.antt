@@ -9,7 +9,7 @@ use Rattle.std.proofs.lemmas.List.Sums.{sum_by-cons}
 use Rattle.mea_base.specs.Queue.{lacks_after, waiting_after}
 use Rattle.mea_base.proofs.Totals.{get_inserted}
 use Rattle.mea_base.proofs.Maps.{inside}
-use Rattle.mea_sem_model.specs.Hall.{Hall, Semaphore, Future, Stage, Granted, Who, Waiter, Debt, names, made_with, semaphore_at, is_closed, staged, granted, stage_if, stage_who, stage_all, grant_all, with_semaphore, debt_of, debts}
+use Rattle.mea_sem_model.specs.Hall.{Hall, Semaphore, Future, FutureStage, Granted, Who, Waiter, Debt, names, made_with, semaphore_at, is_closed, staged, granted, stage_if, stage_who, stage_all, grant_all, with_semaphore, debt_of, debts}
 use Rattle.mea_sem_model.specs.Cause.{is_named, is_named_semaphore}
 
 -- ---- semaphores
@@ -47,7 +47,7 @@ abbrev pub among : List Who → ℕ → Bool
 among [] f = false
 among (w ∷ ws) f = names w f || among ws f
 
-module _ (t : Stage) where
+module _ (t : FutureStage) where
   get-stage_if : (m : FinMap nat_cmp Future) (f q : ℕ) (o : Option Future) → get m f ≡ o
       → get (stage_if t m f o) q ≡ cond (f == q) (option_map (staged t) (get m q)) (get m q)
   get-stage_if m f q None is = elim (f == q) as (λ b. (f == q) ≡ b → get m q ≡ cond b (option_map (staged t) (get m q)) (get m q)) [

@@ -4,17 +4,18 @@ use Rattle.std.specs.FinMap.{get}
 use Rattle.std.specs.Option.{option_map}
 use Rattle.std.proofs.lemmas.Bool.{eqb-true}
 use Rattle.mea_base.specs.Queue.{granted_in}
-use Rattle.mea_base.specs.Family.{KeepsWakers, LosesNoWake}
-use Rattle.mea_base.proofs.Wakes as wakes
+use Rattle.mea_family.specs.Family.{KeepsWakers, LosesNoWake}
+use Rattle.mea_family.proofs.Wakes as wakes
 use Rattle.mea_base.proofs.Maps.{get-gone}
-use Rattle.mea_base.proofs.Tests.{at_same, known}
+use Rattle.mea_base.proofs.Tests.{at_same}
+use Rattle.mea_family.proofs.Causes.{known}
 use Rattle.mea_sem_model.specs.declared.event.SemEvent.{SemEvent}
 use Rattle.mea_sem_model.specs.declared.event.SemEvent.TheVariants as events
-use Rattle.mea_sem_model.specs.Hall.{Hall, Future, Permit, Stage, New, Waiting, Granted, Cut, queue_at, granted, pour}
+use Rattle.mea_sem_model.specs.Hall.{Hall, Future, Permit, FutureStage, New, Waiting, Granted, Cut, queue_at, granted, pour}
 use Rattle.mea_sem_model.specs.Cause.{cause_of}
 use Rattle.mea_sem_model.specs.Step.{without_future, without_permit, end_future, end_permit, end_of, leaving, step}
 use Rattle.mea_sem_model.specs.Valid.{IsBelow}
-use Rattle.mea_sem_model.specs.Runs.{Run, Runs, semaphores, waker_in, ends}
+use Rattle.mea_sem_model.specs.Runs.{Run, IsSemRun, semaphores, waker_in, ends}
 use Rattle.mea_sem_model.proofs.HallLemmas.{among, get-grant_all}
 use Rattle.mea_sem_model.proofs.Matched.{IsMatched}
 use Rattle.mea_sem_model.proofs.Orderly.{IsOrderly}
@@ -108,7 +109,7 @@ none_poured h q n f none = get-grant_all (granted_in (queue_at h q) n) h.futures
     by_test true = refl
     by_test false = refl
 
-future_gone : (h : Hall) (f : ℕ) (x : Future) (t : Stage) → get (end_future h f x t).hall.futures f ≡ None
+future_gone : (h : Hall) (f : ℕ) (x : Future) (t : FutureStage) → get (end_future h f x t).hall.futures f ≡ None
 future_gone h f x New = get-gone h.futures f
 future_gone h f x (Waiting u) = none_poured (leaving h f x) x.semaphore _ f (get-gone h.futures f)
 future_gone h f x Granted = none_poured (without_future h f) x.semaphore x.demand f (get-gone h.futures f)
@@ -137,11 +138,11 @@ keeps_wakers = record {
   goes = λ r i e runs later cause f ended. goes_away r.hall i e f ended;
 }
   where
-    stays_on : (r : Run) (i : ℕ) (e : SemEvent) → Runs r → r.next ≤ i → cause_of r.hall e ≡ None → (f : ℕ) → is_some (get r.hall.futures f) ≡ true
+    stays_on : (r : Run) (i : ℕ) (e : SemEvent) → IsSemRun r → r.next ≤ i → cause_of r.hall e ≡ None → (f : ℕ) → is_some (get r.hall.futures f) ≡ true
         → waker_in e f ≡ None → ends e f ≡ false → is_some (get (step r.hall i e).hall.futures f) ≡ true
     stays_on r i e runs later cause f living polls unended =
         let k = balance.kept r runs in
         lives_on r.hall i k.matched k.orderly (below_later r.hall r.next i later k.below) e cause f living polls unended
 
-pub loses_no_wake : (r : Run) → Runs r → LosesNoWake semaphores r
+pub loses_no_wake : (r : Run) → IsSemRun r → LosesNoWake semaphores r
 loses_no_wake r runs = wakes.loses_no_wake semaphores keeps_wakers names_futures r runs

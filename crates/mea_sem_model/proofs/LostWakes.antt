@@ -7,17 +7,17 @@ use Rattle.std.specs.FinMap.{FinMap, get, insert, remove}
 use Rattle.std.proofs.lemmas.Bool.{eqb-true, eqb-false}
 use Rattle.std.proofs.lemmas.Option.{cond_some}
 use Rattle.std.proofs.lemmas.List.Elements.{Contains-append_left, Contains-append_right, Contains-push}
-use Rattle.mea_base.specs.Family.{goes_on, Goes, NamesFutures}
+use Rattle.mea_family.specs.Family.{goes_on, Goes, NamesFutures}
 use Rattle.mea_base.specs.Queue.{granted_in}
-use Rattle.mea_base.specs.declared.answer.Answer.TheVariants as answers
+use Rattle.mea_family.specs.declared.answer.Answer.TheVariants as answers
 use Rattle.mea_base.proofs.Maps.{inside, value_in, is_there, get-there, get-other, get-removed_other, removed_there}
-use Rattle.mea_base.proofs.Tests.{known}
+use Rattle.mea_family.proofs.Causes.{known}
 use Rattle.mea_sem_model.specs.declared.event.SemEvent.{SemEvent}
 use Rattle.mea_sem_model.specs.declared.event.SemEvent.TheVariants as events
-use Rattle.mea_sem_model.specs.Hall.{Hall, Future, Permit, Stage, New, Waiting, Granted, Cut, Who, Waiter, Debt, names, semaphore_at, queue_at, is_closed, free, staged, granted, waker_of, waker_of_future, waker_of_who, wakes_of, with_semaphore, everyone, closing, wakes_waiting}
+use Rattle.mea_sem_model.specs.Hall.{Hall, Future, Permit, FutureStage, New, Waiting, Granted, Cut, Who, Waiter, Debt, names, semaphore_at, queue_at, is_closed, free, staged, granted, waker_of, waker_of_future, waker_of_who, wakes_of, with_semaphore, everyone, closing, wakes_waiting}
 use Rattle.mea_sem_model.specs.Cause.{cause_of}
 use Rattle.mea_sem_model.specs.Step.{Outcome, quietly, pouring, with_future, without_future, with_permit, without_permit, taking, offers, try_of, try_and_forget, made_ready, queueing, open_poll, refusing, poll_at, poll_of, leaving, end_future, end_permit, end_of, lose_of, merge_of, split_of, released_to, step}
-use Rattle.mea_sem_model.specs.Runs.{Run, Runs, semaphores, waker_in, waker_at, waker_kept}
+use Rattle.mea_sem_model.specs.Runs.{Run, IsSemRun, semaphores, waker_in, waker_at, waker_kept}
 use Rattle.mea_sem_model.proofs.HallLemmas.{among, get-grant_all}
 use Rattle.mea_sem_model.proofs.Closings.{get-closing}
 use Rattle.mea_sem_model.proofs.Balanced as balance
@@ -71,7 +71,7 @@ module _ (h : Hall) (i : ℕ) where
   ends_permit k None = passes_same h _ i refl
   ends_permit k (Some p) = passes_pour h (without_permit h k) p.semaphore p.size i (λ f y is. is)
 
-  ends_future : (f : ℕ) (x : Future) (t : Stage) → Passes h (end_future h f x t) i
+  ends_future : (f : ℕ) (x : Future) (t : FutureStage) → Passes h (end_future h f x t) i
   ends_future f x New = passes_some h _ i (λ g y less is. removed_there h.futures f g y is)
   ends_future f x (Waiting u) = passes_pour h (leaving h f x) x.semaphore _ i (λ g y is. removed_there h.futures f g y is)
   ends_future f x Cut = passes_some h _ i (λ g y less is. removed_there h.futures f g y is)
@@ -174,7 +174,7 @@ polled_first : (h : Hall) (i g v : ℕ) (x : Future) (b : Bool) → Polled h g v
 polled_first h i g v x true = polled_refused h g v
 polled_first h i g v x false = polled_open h i g v x
 
-polled_at : (h : Hall) (i g v : ℕ) (x : Future) (t : Stage) → Polled h g v (poll_at h i g v x t)
+polled_at : (h : Hall) (i g v : ℕ) (x : Future) (t : FutureStage) → Polled h g v (poll_at h i g v x t)
 polled_at h i g v x New = polled_first h i g v x (is_closed h x.semaphore)
 polled_at h i g v x Cut = polled_refused h g v
 polled_at h i g v x (Waiting u) = polled_pending h _ g v (record x { stage = Waiting v }) refl refl
@@ -229,7 +229,7 @@ waits_with : (o : Option Future) (w : ℕ) → waker_kept o ≡ Some w → (x : 
 waits_with None w kept = absurd (cc)
 waits_with (Some x) w kept = (x, refl, by_stage x.stage kept)
   where
-    by_stage : (t : Stage) → waker_at t ≡ Some w → t ≡ Waiting w
+    by_stage : (t : FutureStage) → waker_at t ≡ Some w → t ≡ Waiting w
     by_stage New is = absurd (cc)
     by_stage (Waiting v) is = ap (λ (n : ℕ). Waiting n) (inside is)
     by_stage Granted is = absurd (cc)
@@ -306,10 +306,10 @@ module _ (h : Hall) (i : ℕ) where
   leaves (events.Closed s) cause = passing h (events.Closed s) i (passes_same h _ i refl)
 
 -- ---- in the words of the laws
-pub lives_below : (r : Run) → Runs r → (f : ℕ) → is_some (get r.hall.futures f) ≡ true → f < r.next
+pub lives_below : (r : Run) → IsSemRun r → (f : ℕ) → is_some (get r.hall.futures f) ≡ true → f < r.next
 lives_below r runs f living = (balance.kept r runs).below.futures f living
 
-below_or_made : (r : Run) (i : ℕ) (e : SemEvent) → Runs r → cause_of r.hall e ≡ None → (f : ℕ) → f < i + 1
+below_or_made : (r : Run) (i : ℕ) (e : SemEvent) → IsSemRun r → cause_of r.hall e ≡ None → (f : ℕ) → f < i + 1
     → is_some (get (step r.hall i e).hall.futures f) ≡ true → (is_some (get r.hall.futures f) ≡ true) ⊎ (f ≡ i)
 below_or_made r i e runs cause f less living = elim (f == i) as (λ b. (f == i) ≡ b → (is_some (get r.hall.futures f) ≡ true) ⊎ (f ≡ i)) [
   | true ↦ λ t. inr (eqb-true f i t)

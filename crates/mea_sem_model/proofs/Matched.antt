@@ -7,7 +7,7 @@ use Rattle.std.proofs.lemmas.Bool.{eqb-true, eq-eqb, ne_eqb}
 use Rattle.mea_base.specs.Queue.{granted_in}
 use Rattle.mea_base.proofs.Maps.{by_put, by_gone, inside}
 use Rattle.mea_base.proofs.Tests.{on_true, on_false}
-use Rattle.mea_sem_model.specs.Hall.{Hall, Semaphore, Future, Stage, New, Waiting, Granted, Cut, Who, Waiter, semaphore_at, queue_at, poured, staged, stage_all, pour, names, lack_of, free, with_semaphore, is_debt, debts_in, everyone, cutting}
+use Rattle.mea_sem_model.specs.Hall.{Hall, Semaphore, Future, FutureStage, New, Waiting, Granted, Cut, Who, Waiter, semaphore_at, queue_at, poured, staged, stage_all, pour, names, lack_of, free, with_semaphore, is_debt, debts_in, everyone, cutting}
 use Rattle.mea_sem_model.specs.Step.{with_future, without_future, queueing, without, leaving}
 use Rattle.mea_sem_model.specs.Valid.{count, one_if_waiting, waits_at, IsValid}
 use Rattle.mea_sem_model.proofs.HallLemmas.{by_semaphore, among, get-stage_all, staged_was}
@@ -49,7 +49,7 @@ pub lacks_nothing : (h : Hall) (s f : ℕ) → waits_at s (get h.futures f) ≡ 
 lacks_nothing h s f none v = none_counted (queue_at h s) f (v.once s f ∙ none)
 
 -- a future in a stage of one that does not wait
-pub stage_waits : (x : Future) (s : ℕ) (t : Stage) → one_if_waiting t ≡ 0 → x.stage ≡ t → waits_at s (Some x) ≡ 0
+pub stage_waits : (x : Future) (s : ℕ) (t : FutureStage) → one_if_waiting t ≡ 0 → x.stage ≡ t → waits_at s (Some x) ≡ 0
 stage_waits x s t idle is = ap (λ t. cond (x.semaphore == s) (one_if_waiting t) 0) is ∙ none (x.semaphore == s)
   where
     none : (b : Bool) → cond b (one_if_waiting t) 0 ≡ 0
@@ -142,7 +142,7 @@ one_at_most : (s : ℕ) (o : Option Future) → waits_at s o ≤ 1
 one_at_most s None = omega arith
 one_at_most s (Some x) = by_test (x.semaphore == s) x.stage
   where
-    by_test : (b : Bool) (t : Stage) → cond b (one_if_waiting t) 0 ≤ 1
+    by_test : (b : Bool) (t : FutureStage) → cond b (one_if_waiting t) 0 ≤ 1
     by_test true New = omega arith
     by_test true (Waiting w) = omega arith
     by_test true Granted = omega arith
@@ -153,7 +153,7 @@ one_at_most s (Some x) = by_test (x.semaphore == s) x.stage
 pub is_waiting : (s : ℕ) (x : Future) → 0 < waits_at s (Some x) → (x.semaphore ≡ s) × (one_if_waiting x.stage ≡ 1)
 is_waiting s x some = by_test (x.semaphore == s) refl x.stage some
   where
-    by_test : (b : Bool) → (x.semaphore == s) ≡ b → (t : Stage) → 0 < cond b (one_if_waiting t) 0 → (x.semaphore ≡ s) × (one_if_waiting t ≡ 1)
+    by_test : (b : Bool) → (x.semaphore == s) ≡ b → (t : FutureStage) → 0 < cond b (one_if_waiting t) 0 → (x.semaphore ≡ s) × (one_if_waiting t ≡ 1)
     by_test true e New p = absurd (omega arith)
     by_test true e (Waiting w) p = (eqb-true _ _ e, refl)
     by_test true e Granted p = absurd (omega arith)
@@ -161,7 +161,7 @@ is_waiting s x some = by_test (x.semaphore == s) refl x.stage some
     by_test false e t p = absurd (omega arith)
 
 -- who came to a stage of one that does not wait
-staged_none : (t : Stage) → one_if_waiting t ≡ 0 → (s : ℕ) (o : Option Future) → waits_at s (option_map (staged t) o) ≡ 0
+staged_none : (t : FutureStage) → one_if_waiting t ≡ 0 → (s : ℕ) (o : Option Future) → waits_at s (option_map (staged t) o) ≡ 0
 staged_none t idle s None = refl
 staged_none t idle s (Some x) = by_test (x.semaphore == s)
   where
@@ -170,7 +170,7 @@ staged_none t idle s (Some x) = by_test (x.semaphore == s)
     by_test false = refl
 
 -- some leave the queue of q, and come to a stage of one that does not wait
-module _ (h : Hall) (q : ℕ) (t : Stage) (ws : List Who) (r : Semaphore) (idle : one_if_waiting t ≡ 0)
+module _ (h : Hall) (q : ℕ) (t : FutureStage) (ws : List Who) (r : Semaphore) (idle : one_if_waiting t ≡ 0)
     (splits : (f : ℕ) → count r.queue f + mentions ws f ≡ count (queue_at h q) f) (lacks : (f : ℕ) → lack_of r.queue f ≤ lack_of (queue_at h q) f)
     (v : IsMatched h) where
   -- one who leaves did wait in this queue

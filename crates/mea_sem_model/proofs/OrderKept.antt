@@ -3,13 +3,13 @@ use Rattle.std.proofs.Common.{◌≡◌, ℕ, ◌<◌, ◌==◌, ◌&&◌, ◌||
 use Rattle.std.specs.Option.{option_or, IsSome}
 use Rattle.std.specs.FinMap.{get}
 use Rattle.std.proofs.lemmas.Bool.{eq-eqb}
-use Rattle.mea_base.specs.Family.{last_waker, last_waker_at}
-use Rattle.mea_base.specs.declared.answer.Answer.{Answer}
-use Rattle.mea_base.specs.declared.answer.Answer.TheVariants as answers
+use Rattle.mea_family.specs.Family.{last_waker, last_waker_at}
+use Rattle.mea_family.specs.declared.answer.Answer.{Answer}
+use Rattle.mea_family.specs.declared.answer.Answer.TheVariants as answers
 use Rattle.mea_base.proofs.Tests.{on_true}
-use Rattle.mea_sem_model.specs.Hall.{Hall, Future, Stage, New, Waiting, Granted, Cut, queue_at, is_closed, staged, everyone}
+use Rattle.mea_sem_model.specs.Hall.{Hall, Future, FutureStage, New, Waiting, Granted, Cut, queue_at, is_closed, staged, everyone}
 use Rattle.mea_sem_model.specs.Valid.{one_if_waiting, waits_at}
-use Rattle.mea_sem_model.specs.Runs.{Told, Run, semaphores, waker_in}
+use Rattle.mea_sem_model.specs.Runs.{ToldSemEvent, Run, semaphores, waker_in}
 use Rattle.mea_sem_model.specs.Order.{asked, poll_number, first_poll, is_ready, was_ready, was_ended}
 use Rattle.mea_sem_model.proofs.HallLemmas.{among}
 use Rattle.mea_sem_model.proofs.Matched.{IsMatched}
@@ -17,32 +17,32 @@ use Rattle.mea_sem_model.proofs.Ranks.{AreRanked, counted, uncounted}
 
 -- ---- what was told
 -- the number of the first poll, or 0
-abbrev pub rank : List Told → ℕ → ℕ
+abbrev pub rank : List ToldSemEvent → ℕ → ℕ
 rank trace f = unwrap_or (first_poll trace f) 0
 
 -- who was polled keeps its first poll
-pub first_stays : (t : Told) (trace : List Told) (f : ℕ) → IsSome (first_poll trace f) → first_poll (t ∷ trace) f ≡ first_poll trace f
+pub first_stays : (t : ToldSemEvent) (trace : List ToldSemEvent) (f : ℕ) → IsSome (first_poll trace f) → first_poll (t ∷ trace) f ≡ first_poll trace f
 first_stays t trace f some = by_option (first_poll trace f) some
   where
     by_option : (o : Option ℕ) → IsSome o → option_or o (poll_number t (waker_in t.event f)) ≡ o
     by_option None none = absurd (cc)
     by_option (Some i) some = refl
 
-pub rank_stays : (t : Told) (trace : List Told) (f : ℕ) → IsSome (first_poll trace f) → rank (t ∷ trace) f ≡ rank trace f
+pub rank_stays : (t : ToldSemEvent) (trace : List ToldSemEvent) (f : ℕ) → IsSome (first_poll trace f) → rank (t ∷ trace) f ≡ rank trace f
 rank_stays t trace f some = ap (λ o. unwrap_or o 0) (first_stays t trace f some)
 
 -- an event that does not poll f is no poll of it
-pub first_unpolled : (t : Told) (trace : List Told) (f : ℕ) → waker_in t.event f ≡ None → first_poll (t ∷ trace) f ≡ first_poll trace f
+pub first_unpolled : (t : ToldSemEvent) (trace : List ToldSemEvent) (f : ℕ) → waker_in t.event f ≡ None → first_poll (t ∷ trace) f ≡ first_poll trace f
 first_unpolled t trace f none = ap (λ o. option_or (first_poll trace f) (poll_number t o)) none ∙ by_option (first_poll trace f)
   where
     by_option : (o : Option ℕ) → option_or o None ≡ o
     by_option None = refl
     by_option (Some i) = refl
 
-pub ready_unpolled : (t : Told) (trace : List Told) (f : ℕ) → waker_in t.event f ≡ None → was_ready (t ∷ trace) f ≡ was_ready trace f
+pub ready_unpolled : (t : ToldSemEvent) (trace : List ToldSemEvent) (f : ℕ) → waker_in t.event f ≡ None → was_ready (t ∷ trace) f ≡ was_ready trace f
 ready_unpolled t trace f none = ap (λ o. (is_some o && is_ready t.reply) || was_ready trace f) none
 
-pub waker_unpolled : (t : Told) (trace : List Told) (f : ℕ) → waker_in t.event f ≡ None → last_waker semaphores (t ∷ trace) f ≡ last_waker semaphores trace f
+pub waker_unpolled : (t : ToldSemEvent) (trace : List ToldSemEvent) (f : ℕ) → waker_in t.event f ≡ None → last_waker semaphores (t ∷ trace) f ≡ last_waker semaphores trace f
 waker_unpolled t trace f none = ap (λ o. last_waker_at semaphores t o (last_waker semaphores trace f)) none
 
 -- whether a poll of f replied `gone`
@@ -50,15 +50,15 @@ abbrev pub is_gone : Answer → Bool
 is_gone answers.Gone = true
 is_gone _ = false
 
-abbrev pub was_refused : List Told → ℕ → Bool
+abbrev pub was_refused : List ToldSemEvent → ℕ → Bool
 was_refused [] f = false
 was_refused (t ∷ older) f = (is_some (waker_in t.event f) && is_gone t.reply) || was_refused older f
 
-pub refused_unpolled : (t : Told) (trace : List Told) (f : ℕ) → waker_in t.event f ≡ None → was_refused (t ∷ trace) f ≡ was_refused trace f
+pub refused_unpolled : (t : ToldSemEvent) (trace : List ToldSemEvent) (f : ℕ) → waker_in t.event f ≡ None → was_refused (t ∷ trace) f ≡ was_refused trace f
 refused_unpolled t trace f none = ap (λ o. (is_some o && is_gone t.reply) || was_refused trace f) none
 
 -- who was refused was polled
-pub refused_polled : (trace : List Told) (f : ℕ) → was_refused trace f ≡ true → IsSome (first_poll trace f)
+pub refused_polled : (trace : List ToldSemEvent) (f : ℕ) → was_refused trace f ≡ true → IsSome (first_poll trace f)
 refused_polled [] f h = absurd (cc)
 refused_polled (t ∷ trace) f h = by_option (waker_in t.event f) (first_poll trace f) (is_gone t.reply) (refused_polled trace f) h
   where
@@ -70,7 +70,7 @@ refused_polled (t ∷ trace) f h = by_option (waker_in t.event f) (first_poll tr
     by_option None (Some i) b before h = refl
 
 -- who was ready was polled
-pub ready_polled : (trace : List Told) (f : ℕ) → was_ready trace f ≡ true → IsSome (first_poll trace f)
+pub ready_polled : (trace : List ToldSemEvent) (f : ℕ) → was_ready trace f ≡ true → IsSome (first_poll trace f)
 ready_polled [] f h = absurd (cc)
 ready_polled (t ∷ trace) f h = by_option (waker_in t.event f) (first_poll trace f) (is_ready t.reply) (ready_polled trace f) h
   where
@@ -87,7 +87,7 @@ abbrev pub HasPermits : Run → ℕ → Type 0
 HasPermits r g = (was_ready r.trace g ≡ true) ⊎ ((x : Future) × (get r.hall.futures g ≡ Some x) × (x.stage ≡ Granted))
 
 -- one that was polled and has no permits: it waits, or is cut
-abbrev pub lags : Stage → Bool
+abbrev pub lags : FutureStage → Bool
 lags New = false
 lags (Waiting w) = true
 lags Granted = false
@@ -121,7 +121,7 @@ module _ (r : Run) (o : Ordered r) (m : IsMatched r.hall) where
   waits_polled s f None is some = absurd (omega (arith, some))
   waits_polled s f (Some x) is some = o.polled f x is (λ new. absurd (let none = none_new (x.semaphore == s) x.stage new in omega (arith, some, none)))
     where
-      none_new : (b : Bool) (t : Stage) → t ≡ New → cond b (one_if_waiting t) 0 ≡ 0
+      none_new : (b : Bool) (t : FutureStage) → t ≡ New → cond b (one_if_waiting t) 0 ≡ 0
       none_new true New e = refl
       none_new false t e = refl
       none_new true (Waiting w) e = absurd (cc)
@@ -141,14 +141,14 @@ pub waits_here : (h : Hall) → IsMatched h → (s f w : ℕ) (x : Future) → g
 waits_here h m s f w x is of waits = counted (queue_at h s) f (omega (arith, m.once s f, waits_one s w x (get h.futures f) is of waits))
 
 -- ---- a future that came to a stage, or not
-pub staged_semaphore : (t : Stage) (b : Bool) (x : Future) → (cond b (staged t x) x).semaphore ≡ x.semaphore
+pub staged_semaphore : (t : FutureStage) (b : Bool) (x : Future) → (cond b (staged t x) x).semaphore ≡ x.semaphore
 staged_semaphore t true x = refl
 staged_semaphore t false x = refl
 
-pub staged_demand : (t : Stage) (b : Bool) (x : Future) → (cond b (staged t x) x).demand ≡ x.demand
+pub staged_demand : (t : FutureStage) (b : Bool) (x : Future) → (cond b (staged t x) x).demand ≡ x.demand
 staged_demand t true x = refl
 staged_demand t false x = refl
 
-pub not_staged : (t : Stage) (b : Bool) (x : Future) → ((cond b (staged t x) x).stage ≡ t → ⊥) → (b ≡ false) × ((cond b (staged t x) x).stage ≡ x.stage)
+pub not_staged : (t : FutureStage) (b : Bool) (x : Future) → ((cond b (staged t x) x).stage ≡ t → ⊥) → (b ≡ false) × ((cond b (staged t x) x).stage ≡ x.stage)
 not_staged t true x undone = absurd (undone refl)
 not_staged t false x undone = (refl, refl)

@@ -5,16 +5,16 @@ use Rattle.std.specs.Option.{IsSome}
 use Rattle.std.specs.FinMap.{get}
 use Rattle.std.proofs.lemmas.Bool.{eqb-true, eq-eqb, lt-leb}
 use Rattle.std.proofs.lemmas.List.Elements.{Contains-append_cases, Contains-append_left, Contains-append_right, Contains-push}
-use Rattle.mea_base.specs.Family.{told, goes_on, Starts, Goes, last_waker}
-use Rattle.mea_base.specs.declared.answer.Answer.TheVariants as answers
+use Rattle.mea_family.specs.Family.{told, goes_on, Starts, Goes, last_waker}
+use Rattle.mea_family.specs.declared.answer.Answer.TheVariants as answers
 use Rattle.mea_base.proofs.Maps.{inside, value_in, is_there, nothing_at}
 use Rattle.mea_base.proofs.Tests.{by_name}
 use Rattle.mea_sem_model.specs.declared.event.SemEvent.{SemEvent}
 use Rattle.mea_sem_model.specs.declared.event.SemEvent.TheVariants as events
-use Rattle.mea_sem_model.specs.Hall.{Hall, Future, Stage, New, Waiting, Granted, Cut, Who, Waiter, Debt, semaphore_at, queue_at, is_closed, free, staged, owed, with_semaphore, everyone}
+use Rattle.mea_sem_model.specs.Hall.{Hall, Future, FutureStage, New, Waiting, Granted, Cut, Who, Waiter, Debt, semaphore_at, queue_at, is_closed, free, staged, owed, with_semaphore, everyone}
 use Rattle.mea_sem_model.specs.Cause.{cause_of}
 use Rattle.mea_sem_model.specs.Step.{quietly, with_permit, taking, poll_at, poll_of, offers, try_of, try_and_forget, step}
-use Rattle.mea_sem_model.specs.Runs.{Told, Run, Runs, semaphores, waker_in, waker_at, waker_kept}
+use Rattle.mea_sem_model.specs.Runs.{ToldSemEvent, Run, IsSemRun, semaphores, waker_in, waker_at, waker_kept}
 use Rattle.mea_sem_model.specs.Order.{asked, first_poll, was_ready, was_ended, reply_to_poll, HasGot, GrantsInOrder, IsPolledBefore, IsPolledBeforeAll, AreInOrder, IsSettled, Settles, WakesInOrder, IsNotOvertaken, LetsNobodyPast}
 use Rattle.mea_sem_model.proofs.HallLemmas.{among}
 use Rattle.mea_sem_model.proofs.Keeps.{no_queue, below_later}
@@ -32,7 +32,7 @@ use Rattle.mea_sem_model.proofs.OrderPolls.{PollGives, Readied, Refused, Pended,
 polled_there : (h : Hall) (g w : ℕ) → cause_of h (events.Poll g w) ≡ None → (x : Future) × (get h.futures g ≡ Some x)
 polled_there h g w cause = value_in (get h.futures g) (polls_living h (events.Poll g w) cause g w (ap (λ b. cond b (Some w) None) (eq-eqb g g refl)))
 
-pub ordered : (r : Run) → Runs r → Ordered r
+pub ordered : (r : Run) → IsSemRun r → Ordered r
 ordered _ Starts = record {
   asks = λ f x is. absurd (nothing_at Future f x is);
   unpolled = λ f x is new. refl;
@@ -55,7 +55,7 @@ ordered _ (Goes r i e runs later cause) = elim (polls_or_not e) [
 
 -- ---- what a poll replies
 -- of a future that is there
-reply_is : (h : Hall) (i f w : ℕ) (x : Future) (t : Stage) → get h.futures f ≡ Some x → x.stage ≡ t → reply_to_poll h i f w ≡ (poll_at h i f w x t).reply
+reply_is : (h : Hall) (i f w : ℕ) (x : Future) (t : FutureStage) → get h.futures f ≡ Some x → x.stage ≡ t → reply_to_poll h i f w ≡ (poll_at h i f w x t).reply
 reply_is h i f w x t is stage = ap (λ o. (poll_of h i f w o).reply) is ∙ ap (λ s. (poll_at h i f w x s).reply) stage
 
 reply_none : (h : Hall) (i f w : ℕ) → get h.futures f ≡ None → reply_to_poll h i f w ≡ answers.Done
@@ -67,7 +67,7 @@ got_permits : (r : Run) → Ordered r → (g v j : ℕ) → first_poll r.trace g
 got_permits r o g v j first (inl was) = inl was
 got_permits r o g v j first (inr ready) = by_option (get r.hall.futures g) refl
   where
-    by_stage : (x : Future) → get r.hall.futures g ≡ Some x → (t : Stage) → x.stage ≡ t → HasPermits r g
+    by_stage : (x : Future) → get r.hall.futures g ≡ Some x → (t : FutureStage) → x.stage ≡ t → HasPermits r g
     by_stage x is New e = absurd (let none = o.unpolled g x is e in cc)
     by_stage x is (Waiting w) e = absurd (let pending = reply_is r.hall r.next g v x (Waiting w) is e in cc)
     by_stage x is Granted e = inr (x, is, e)
@@ -77,7 +77,7 @@ got_permits r o g v j first (inr ready) = by_option (get r.hall.futures g) refl
     by_option None is = absurd (let none = reply_none r.hall r.next g v is in cc)
     by_option (Some x) is = by_stage x is x.stage refl
 
-pub in_order : (r : Run) → Runs r → GrantsInOrder r
+pub in_order : (r : Run) → IsSemRun r → GrantsInOrder r
 in_order r runs s m n f g i j v w asks_f asks_g some first_f first_g less got = by_option (get r.hall.futures f) refl
   where
     o : Ordered r
@@ -104,7 +104,7 @@ in_order r runs s m n f g i j v w asks_f asks_g some first_f first_g less got = 
         o.late_refused g s n asks_g some has f m (λ same. absurd (let ranks = ap (rank r.trace) same in omega (arith, less, ranks, rank_f, rank_g))) asks_f was in
         absurd (omega (arith, less, late, rank_f, rank_g))
 
-    by_stage : (x : Future) → get r.hall.futures f ≡ Some x → (t : Stage) → x.stage ≡ t → HasGot r f w ⊎ (was_ended r.trace f ≡ true)
+    by_stage : (x : Future) → get r.hall.futures f ≡ Some x → (t : FutureStage) → x.stage ≡ t → HasGot r f w ⊎ (was_ended r.trace f ≡ true)
     by_stage x is New e = absurd (let none = o.unpolled f x is e in cc)
     by_stage x is (Waiting u) e = behind x is (ap lags e)
     by_stage x is Cut e = behind x is (ap lags e)
@@ -151,7 +151,7 @@ among_contains (Waiter g ∷ ws) f a = elim (g == f) as (λ b. (g == f) ≡ b �
 among_contains (Debt ∷ ws) f a = among_contains ws f a
 
 -- ranks are the numbers of first polls
-polled_before : (trace : List Told) (f g : ℕ) → IsSome (first_poll trace f) → IsSome (first_poll trace g) → rank trace f < rank trace g
+polled_before : (trace : List ToldSemEvent) (f g : ℕ) → IsSome (first_poll trace f) → IsSome (first_poll trace g) → rank trace f < rank trace g
     → IsPolledBefore trace f g
 polled_before trace f g a b less =
     let i = value_in (first_poll trace f) a in
@@ -160,7 +160,7 @@ polled_before trace f g a b less =
     let rank_g : rank trace g ≡ j.0 = ap (λ p. unwrap_or p 0) j.1 in
     (i.0, j.0, i.1, j.1, omega (arith, less, rank_f, rank_g))
 
-before_all : (trace : List Told) (f : ℕ) (ws : List Who) → IsSome (first_poll trace f) → ((g : ℕ) → among ws g ≡ true → IsSome (first_poll trace g))
+before_all : (trace : List ToldSemEvent) (f : ℕ) (ws : List Who) → IsSome (first_poll trace f) → ((g : ℕ) → among ws g ≡ true → IsSome (first_poll trace g))
     → AreAfter (rank trace) (rank trace f) ws → IsPolledBeforeAll trace f (futures_in ws)
 before_all trace f [] a polled after = tt
 before_all trace f (Waiter g ∷ ws) a polled after = (
@@ -169,7 +169,7 @@ before_all trace f (Waiter g ∷ ws) a polled after = (
 )
 before_all trace f (Debt ∷ ws) a polled after = before_all trace f ws a polled after
 
-ranked_in_order : (trace : List Told) (ws : List Who) → ((g : ℕ) → among ws g ≡ true → IsSome (first_poll trace g)) → AreRanked (rank trace) ws
+ranked_in_order : (trace : List ToldSemEvent) (ws : List Who) → ((g : ℕ) → among ws g ≡ true → IsSome (first_poll trace g)) → AreRanked (rank trace) ws
     → AreInOrder trace (futures_in ws)
 ranked_in_order trace [] polled ranked = tt
 ranked_in_order trace (Waiter f ∷ ws) polled ranked = (
@@ -193,7 +193,7 @@ not_settled r o h i k f v w polled same waited replies = by_option (get r.hall.f
     not_pending : reply_to_poll h k f w ≡ answers.Pending → ⊥
     not_pending pending = elim replies [ inl ready ↦ absurd (cc) | inr gone ↦ absurd (cc) ]
 
-    by_stage : (x : Future) → get r.hall.futures f ≡ Some x → (t : Stage) → x.stage ≡ t → ⊥
+    by_stage : (x : Future) → get r.hall.futures f ≡ Some x → (t : FutureStage) → x.stage ≡ t → ⊥
     by_stage x is New e = let none = o.unpolled f x is e in cc
     by_stage x is (Waiting u) e = not_pending (reply_is h k f w x (Waiting u) (same ∙ is) e)
     by_stage x is Granted e = let done = reply_is r.hall i f v x Granted is e in cc
@@ -207,7 +207,7 @@ not_settled r o h i k f v w polled same waited replies = by_option (get r.hall.f
 none_settled : (h : Hall) (k f w : ℕ) → get h.futures f ≡ None → (reply_to_poll h k f w ≡ answers.Ready) ⊎ (reply_to_poll h k f w ≡ answers.Gone) → ⊥
 none_settled h k f w is replies = let none = reply_none h k f w is in elim replies [ inl ready ↦ absurd (cc) | inr gone ↦ absurd (cc) ]
 
-module _ (r : Run) (i : ℕ) (e : SemEvent) (runs : Runs r) (later : r.next ≤ i) (cause : cause_of r.hall e ≡ None) where
+module _ (r : Run) (i : ℕ) (e : SemEvent) (runs : IsSemRun r) (later : r.next ≤ i) (cause : cause_of r.hall e ≡ None) where
   o : Ordered r
   o = ordered r runs
 
@@ -217,7 +217,7 @@ module _ (r : Run) (i : ℕ) (e : SemEvent) (runs : Runs r) (later : r.next ≤ 
   abbrev next : Run
   next = goes_on semaphores r i e
 
-  abbrev t : Told
+  abbrev t : ToldSemEvent
   t = told semaphores r i e
 
   quiet_settles : ((f : ℕ) → waker_in e f ≡ None) → Settles next t r.trace
@@ -249,7 +249,7 @@ module _ (r : Run) (i : ℕ) (e : SemEvent) (runs : Runs r) (later : r.next ≤ 
           sym x.3 ∙ ap (λ (p : ℕ × ℕ). p.0) (inside mine)
 
       -- what a poll of one of them replies now
-      replies_as : (f w : ℕ) (a : among given.who f ≡ true) (u : Stage) → given.stage ≡ u → reply_to_poll next.hall next.next f w ≡ (poll_at next.hall
+      replies_as : (f w : ℕ) (a : among given.who f ≡ true) (u : FutureStage) → given.stage ≡ u → reply_to_poll next.hall next.next f w ≡ (poll_at next.hall
           next.next f w (staged given.stage (given.got f a).0) u).reply
       replies_as f w a u is = let x = given.got f a in reply_is next.hall next.next f w (staged given.stage x.0) u x.5 is
 
@@ -287,7 +287,7 @@ module _ (r : Run) (i : ℕ) (e : SemEvent) (runs : Runs r) (later : r.next ≤ 
           by_stage x at false a same = absurd (not_settled r o next.hall i next.next f v w done.polled (is ∙ ap (λ z. Some z) same
               ∙ sym at) done.waited done.replies)
 
-module _ (r : Run) (i g w : ℕ) (runs : Runs r) (later : r.next ≤ i) (cause : cause_of r.hall (events.Poll g w) ≡ None) where
+module _ (r : Run) (i g w : ℕ) (runs : IsSemRun r) (later : r.next ≤ i) (cause : cause_of r.hall (events.Poll g w) ≡ None) where
   abbrev polled_run : Run
   polled_run = goes_on semaphores r i (events.Poll g w)
 
@@ -324,7 +324,7 @@ module _ (r : Run) (i g w : ℕ) (runs : Runs r) (later : r.next ≤ i) (cause :
               (ap (λ k. get polled_run.hall.futures k) (sym same) ∙ pended.there) refl in
               elim done.replies [ inl now ↦ absurd (cc) | inr now ↦ absurd (cc) ]
 
-pub wakes_in_order : (r : Run) → Runs r → WakesInOrder r
+pub wakes_in_order : (r : Run) → IsSemRun r → WakesInOrder r
 wakes_in_order _ Starts = tt
 wakes_in_order _ (Goes r i e runs later cause) = elim (polls_or_not e) [
   | inl poll ↦ subst (λ d. cause_of r.hall d ≡ None → Settles (goes_on semaphores r i d) (told semaphores r i d) r.trace) (sym poll.2)
@@ -333,7 +333,7 @@ wakes_in_order _ (Goes r i e runs later cause) = elim (polls_or_not e) [
 ]
 
 -- ---- who waits is not overtaken
-pub nobody_past : (r : Run) → Runs r → LetsNobodyPast r
+pub nobody_past : (r : Run) → IsSemRun r → LetsNobodyPast r
 nobody_past r runs s m n f w asks polled waited some = by_option (get r.hall.futures f) refl
   where
     o : Ordered r
@@ -376,7 +376,7 @@ nobody_past r runs s m n f w asks polled waited some = by_option (get r.hall.fut
             (record (semaphore_at r.hall s) { free = free r.hall s - n; forgotten = (semaphore_at r.hall s).forgotten + n })) answers.Yes
             else quietly r.hall answers.No).reply) few
 
-    by_stage : (x : Future) → get r.hall.futures f ≡ Some x → (t : Stage) → x.stage ≡ t → IsNotOvertaken r s n
+    by_stage : (x : Future) → get r.hall.futures f ≡ Some x → (t : FutureStage) → x.stage ≡ t → IsNotOvertaken r s n
     by_stage x is New e = absurd (let none = o.unpolled f x is e in cc)
     by_stage x is (Waiting u) e =
         let mine : ◌≡◌ {A = Option (ℕ × ℕ)} (Some (x.semaphore, x.demand)) (Some (s, m)) = sym (o.asks f x is) ∙ asks in

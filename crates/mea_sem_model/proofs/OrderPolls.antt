@@ -3,17 +3,17 @@ use Rattle.std.proofs.Common.{◌≡◌, ℕ, ◌+◌, ◌-◌, ◌<◌, ◌≤�
 use Rattle.std.specs.Option.{option_or, IsSome}
 use Rattle.std.specs.FinMap.{get}
 use Rattle.std.proofs.lemmas.Bool.{leb-true}
-use Rattle.mea_base.specs.Family.{told, goes_on, kept_waker, last_waker, last_waker_at}
-use Rattle.mea_base.specs.declared.answer.Answer.TheVariants as answers
+use Rattle.mea_family.specs.Family.{told, goes_on, kept_waker, last_waker, last_waker_at}
+use Rattle.mea_family.specs.declared.answer.Answer.TheVariants as answers
 use Rattle.mea_base.proofs.Maps.{inside, value_in, is_there, get-there, get-other, get-gone, get-removed_other}
 use Rattle.mea_base.proofs.Tests.{at_same, at_apart, by_name}
 use Rattle.mea_sem_model.specs.declared.event.SemEvent.{SemEvent}
 use Rattle.mea_sem_model.specs.declared.event.SemEvent.TheVariants as events
-use Rattle.mea_sem_model.specs.Hall.{Hall, Future, Stage, New, Waiting, Granted, Cut, Who, Waiter, semaphore_at, queue_at, is_closed, free, with_semaphore, everyone}
+use Rattle.mea_sem_model.specs.Hall.{Hall, Future, FutureStage, New, Waiting, Granted, Cut, Who, Waiter, semaphore_at, queue_at, is_closed, free, with_semaphore, everyone}
 use Rattle.mea_sem_model.specs.Cause.{cause_of}
 use Rattle.mea_sem_model.specs.Step.{Outcome, quietly, without_future, with_permit, taking, made_ready, queueing, open_poll, refusing, poll_at, poll_of, step}
 use Rattle.mea_sem_model.specs.Valid.{SuitsClosed}
-use Rattle.mea_sem_model.specs.Runs.{Told, Run, Runs, semaphores, waker_in, waker_at}
+use Rattle.mea_sem_model.specs.Runs.{ToldSemEvent, Run, IsSemRun, semaphores, waker_in, waker_at}
 use Rattle.mea_sem_model.specs.Order.{acquire_in, asked, poll_number, first_poll, is_ready, was_ready, was_ended}
 use Rattle.mea_sem_model.proofs.HallLemmas.{by_semaphore, among}
 use Rattle.mea_sem_model.proofs.Orderly.{IsOrderly}
@@ -122,7 +122,7 @@ module _ (h : Hall) (i g w : ℕ) (x : Future) (is : get h.futures g ≡ Some x)
   gives_first new true e = gives_refused e (inl new)
   gives_first new false e = gives_open new e (nat_le x.demand (free h x.semaphore)) refl
 
-  gives_at : (t : Stage) → x.stage ≡ t → PollGives h g w x (poll_at h i g w x t)
+  gives_at : (t : FutureStage) → x.stage ≡ t → PollGives h g w x (poll_at h i g w x t)
   gives_at New e = gives_first e (is_closed h x.semaphore) refl
   gives_at Cut e = gives_refused (subst (SuitsClosed (is_closed h x.semaphore)) e (v.closed g x is)) (inr e)
   gives_at (Waiting u) e = record {
@@ -141,7 +141,7 @@ module _ (h : Hall) (i g w : ℕ) (x : Future) (is : get h.futures g ≡ Some x)
   gives_poll = subst (λ p. PollGives h g w x (poll_of h i g w p)) (sym is) (gives_at x.stage refl)
 
 -- who is polled has a first poll
-polled_now : (t : Told) (trace : List Told) (f w : ℕ) → waker_in t.event f ≡ Some w → IsSome (first_poll (t ∷ trace) f)
+polled_now : (t : ToldSemEvent) (trace : List ToldSemEvent) (f w : ℕ) → waker_in t.event f ≡ Some w → IsSome (first_poll (t ∷ trace) f)
 polled_now t trace f w polls = ap (λ p. is_some (option_or (first_poll trace f) (poll_number t p))) polls ∙ by_option (first_poll trace f)
   where
     by_option : (p : Option ℕ) → is_some (option_or p (Some t.number)) ≡ true
@@ -149,7 +149,7 @@ polled_now t trace f w polls = ap (λ p. is_some (option_or (first_poll trace f)
     by_option (Some k) = refl
 
 -- the first poll is an older one, or this event
-first_cases : (t : Told) (trace : List Told) (f j : ℕ) → first_poll (t ∷ trace) f ≡ Some j → (first_poll trace f ≡ Some j) ⊎ (j ≡ t.number)
+first_cases : (t : ToldSemEvent) (trace : List ToldSemEvent) (f j : ℕ) → first_poll (t ∷ trace) f ≡ Some j → (first_poll trace f ≡ Some j) ⊎ (j ≡ t.number)
 first_cases t trace f j is = by_option (first_poll trace f) (waker_in t.event f) refl is
   where
     by_option : (p u : Option ℕ) → first_poll trace f ≡ p → option_or p (poll_number t u) ≡ Some j → (first_poll trace f ≡ Some j) ⊎ (j ≡ t.number)
@@ -157,7 +157,7 @@ first_cases t trace f j is = by_option (first_poll trace f) (waker_in t.event f)
     by_option None (Some w) at e = inr (sym (inside e))
     by_option None None at e = absurd (cc)
 
-module _ (r : Run) (i g w : ℕ) (x : Future) (is : get r.hall.futures g ≡ Some x) (o : Ordered r) (runs : Runs r) (later : r.next ≤ i)
+module _ (r : Run) (i g w : ℕ) (x : Future) (is : get r.hall.futures g ≡ Some x) (o : Ordered r) (runs : IsSemRun r) (later : r.next ≤ i)
     (cause : cause_of r.hall (events.Poll g w) ≡ None) where
   abbrev e : SemEvent
   e = events.Poll g w
@@ -165,7 +165,7 @@ module _ (r : Run) (i g w : ℕ) (x : Future) (is : get r.hall.futures g ≡ Som
   abbrev next : Run
   next = goes_on semaphores r i e
 
-  abbrev t : Told
+  abbrev t : ToldSemEvent
   t = told semaphores r i e
 
   kept : balance.Kept r
@@ -356,7 +356,7 @@ module _ (r : Run) (i g w : ℕ) (x : Future) (is : get r.hall.futures g ≡ Som
       asks_for = own_ask s n asks
 
       nobody : is_closed r.hall x.semaphore ≡ false → queue_at r.hall x.semaphore ≡ [] → (z : Future) → get r.hall.futures f ≡ Some z → z.semaphore ≡ s
-          → (a : Stage) → z.stage ≡ a → lags a ≡ true → rank next.trace g < rank next.trace f
+          → (a : FutureStage) → z.stage ≡ a → lags a ≡ true → rank next.trace g < rank next.trace f
       nobody open_still none z at here New e lag = absurd (cc)
       nobody open_still none z at here Granted e lag = absurd (cc)
       nobody open_still none z at here (Waiting v) e lag =

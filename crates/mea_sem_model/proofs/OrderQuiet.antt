@@ -2,16 +2,16 @@
 use Rattle.std.proofs.Common.{◌≡◌, ℕ, ◌<◌, ◌≤◌, ◌||◌, ◌⊎◌, inl, inr, Bool, true, false, cond, Option, Some, None, refl, ap, sym, ◌∙◌, arith, is_some, subst, unwrap_or}
 use Rattle.std.specs.Option.{IsSome}
 use Rattle.std.specs.FinMap.{get}
-use Rattle.mea_base.specs.Family.{told, goes_on, Goes, last_waker}
+use Rattle.mea_family.specs.Family.{told, goes_on, Goes, last_waker}
 use Rattle.mea_base.proofs.Maps.{inside, is_there, is_absent}
 use Rattle.mea_base.proofs.Tests.{at_same, at_apart}
 use Rattle.mea_sem_model.specs.declared.event.SemEvent.{SemEvent}
 use Rattle.mea_sem_model.specs.declared.event.SemEvent.TheVariants as events
-use Rattle.mea_sem_model.specs.Hall.{Future, Stage, New, Waiting, Granted, Cut, queue_at, is_closed, staged, everyone}
+use Rattle.mea_sem_model.specs.Hall.{Future, FutureStage, New, Waiting, Granted, Cut, queue_at, is_closed, staged, everyone}
 use Rattle.mea_sem_model.specs.Cause.{cause_of}
 use Rattle.mea_sem_model.specs.Step.{step}
 use Rattle.mea_sem_model.specs.Valid.{SuitsClosed}
-use Rattle.mea_sem_model.specs.Runs.{Told, Run, Runs, semaphores, waker_in}
+use Rattle.mea_sem_model.specs.Runs.{ToldSemEvent, Run, IsSemRun, semaphores, waker_in}
 use Rattle.mea_sem_model.specs.Order.{acquire_in, asked, first_poll, was_ready, ends, was_ended}
 use Rattle.mea_sem_model.proofs.HallLemmas.{among}
 use Rattle.mea_sem_model.proofs.Keeps.{below_later}
@@ -26,12 +26,12 @@ or_right true b h = refl
 or_right false b h = h
 
 -- ---- an event that polls nobody
-module _ (r : Run) (i : ℕ) (e : SemEvent) (o : Ordered r) (runs : Runs r) (later : r.next ≤ i) (cause : cause_of r.hall e ≡ None)
+module _ (r : Run) (i : ℕ) (e : SemEvent) (o : Ordered r) (runs : IsSemRun r) (later : r.next ≤ i) (cause : cause_of r.hall e ≡ None)
     (quiet : (f : ℕ) → waker_in e f ≡ None) where
   abbrev next : Run
   next = goes_on semaphores r i e
 
-  abbrev t : Told
+  abbrev t : ToldSemEvent
   t = told semaphores r i e
 
   kept : balance.Kept r
@@ -60,7 +60,7 @@ module _ (r : Run) (i : ℕ) (e : SemEvent) (o : Ordered r) (runs : Runs r) (lat
   lives_low f x is = kept.below.futures f (is_there (get r.hall.futures f) x is)
 
   -- nobody who came to a stage is at one of these
-  unstaged : (t : Stage) → (Granted ≡ t → ⊥) → (Cut ≡ t → ⊥) → given.stage ≡ t → ⊥
+  unstaged : (t : FutureStage) → (Granted ≡ t → ⊥) → (Cut ≡ t → ⊥) → given.stage ≡ t → ⊥
   unstaged t granted cut is = by_kind given.kind
     where
       by_kind : (given.stage ≡ Granted) ⊎ ((given.stage ≡ Cut) × (e ≡ events.Close given.of)) → ⊥
@@ -190,7 +190,7 @@ module _ (r : Run) (i : ℕ) (e : SemEvent) (o : Ordered r) (runs : Runs r) (lat
       before : (x : Future) × (get r.hall.futures f ≡ Some x) × (x.semaphore ≡ y.semaphore) × (lags x.stage ≡ true) × ((given.stage ≡ Granted) → x.stage ≡ y.stage)
       before = lagged f y is behind
 
-      by_stage : (u : Stage) → y.stage ≡ u → before.0.stage ≡ y.stage → among given.who g ≡ true → s ≡ given.of → is_closed r.hall s ≡ false
+      by_stage : (u : FutureStage) → y.stage ≡ u → before.0.stage ≡ y.stage → among given.who g ≡ true → s ≡ given.of → is_closed r.hall s ≡ false
           → rank next.trace g < rank next.trace f
       by_stage New e same a here open_still = absurd (let no : lags y.stage ≡ false = ap lags e in cc)
       by_stage Granted e same a here open_still = absurd (let no : lags y.stage ≡ false = ap lags e in cc)

@@ -8,7 +8,7 @@ use Rattle.mea_base.specs.Queue.{waiting_after, granted_in}
 use Rattle.mea_base.proofs.Totals.{total-insert, total-remove, total-alike}
 use Rattle.mea_base.proofs.Maps.{by_put, by_gone, inside, is_absent}
 use Rattle.mea_base.proofs.Tests.{on_true, on_false}
-use Rattle.mea_sem_model.specs.Hall.{Hall, Semaphore, Future, Permit, Stage, New, Waiting, Granted, Cut, Who, semaphore_at, queue_at, is_closed, poured, staged, stage_all, pour, free, plain_things, with_semaphore, is_debt, debts_in, everyone, cutting}
+use Rattle.mea_sem_model.specs.Hall.{Hall, Semaphore, Future, Permit, FutureStage, New, Waiting, Granted, Cut, Who, semaphore_at, queue_at, is_closed, poured, staged, stage_all, pour, free, plain_things, with_semaphore, is_debt, debts_in, everyone, cutting}
 use Rattle.mea_sem_model.specs.Cause.{is_named, is_named_semaphore}
 use Rattle.mea_sem_model.specs.Step.{with_future, without_future, with_permit, without_permit}
 use Rattle.mea_sem_model.specs.Valid.{one_if_waiting, waits_at, AllLack, HasDebtsFirst, SuitsClosed, IsValid}
@@ -152,7 +152,7 @@ orderly_no_permit h k v = record {
 
 -- ---- some come to a stage
 -- the semaphore q is put in, and some who are of it come to a stage
-module _ (h : Hall) (q : ℕ) (t : Stage) (ws : List Who) (r : Semaphore) (there : IsSome (get h.semaphores q)) (lack : AllLack r.queue)
+module _ (h : Hall) (q : ℕ) (t : FutureStage) (ws : List Who) (r : Semaphore) (there : IsSome (get h.semaphores q)) (lack : AllLack r.queue)
     (first : HasDebtsFirst r.queue) (idle : 0 < r.free → r.queue ≡ []) (plain : 0 < plain_things h q → r.named ≡ true) (v : IsOrderly h) where
   abbrev after : Hall
   after = record h { semaphores = insert h.semaphores q r; futures = stage_all t ws h.futures }
@@ -249,7 +249,7 @@ module _ (h : Hall) (q : ℕ) (there : IsSome (get h.semaphores q)) (m : IsMatch
       at_q : is_closed (with_semaphore h q closed_now) q ≡ true
       at_q = ap (λ (r : Semaphore). r.closed) (semaphore_put h q q closed_now ∙ ap (λ b. cond b closed_now (semaphore_at h q)) (eq-eqb q q refl))
 
-      uncut : (x : Future) → among (everyone (queue_at h q)) f ≡ false → get h.futures f ≡ Some x → (t : Stage) → x.stage ≡ t
+      uncut : (x : Future) → among (everyone (queue_at h q)) f ≡ false → get h.futures f ≡ Some x → (t : FutureStage) → x.stage ≡ t
           → SuitsClosed (is_closed (with_semaphore h q closed_now) x.semaphore) t
       uncut x a at New e = tt
       uncut x a at Granted e = tt

@@ -8,7 +8,7 @@ use Rattle.mea_base.specs.Totals.{total}
 use Rattle.mea_base.specs.Queue.{lacks}
 use Rattle.mea_base.proofs.Totals.{total-same, total-plus, total-zero, total-point}
 use Rattle.mea_base.proofs.Tests.{on_true, on_false}
-use Rattle.mea_sem_model.specs.Hall.{Hall, Future, Stage, New, Waiting, Granted, Cut, Who, Waiter, Debt, queue_at, names, lack_of, debt_of, debts, paid_to, paid}
+use Rattle.mea_sem_model.specs.Hall.{Hall, Future, FutureStage, New, Waiting, Granted, Cut, Who, Waiter, Debt, queue_at, names, lack_of, debt_of, debts, paid_to, paid}
 use Rattle.mea_sem_model.specs.Valid.{count, one_if_waiting, waits_at}
 use Rattle.mea_sem_model.proofs.Matched.{IsMatched, new_waits, granted_waits, cut_waits, lacks_nothing}
 use Rattle.mea_sem_model.proofs.Changes.{taken, taken_by, committed}
@@ -70,7 +70,7 @@ module _ (h : Hall) (v : IsMatched h) (s : ℕ) where
   some_future None p = absurd (omega arith)
   some_future (Some x) p = (x, refl)
 
-  one_paid : (f : ℕ) (x : Future) → get h.futures f ≡ Some x → (b : Bool) → (x.semaphore == s) ≡ b → (t : Stage) → x.stage ≡ t
+  one_paid : (f : ℕ) (x : Future) → get h.futures f ≡ Some x → (b : Bool) → (x.semaphore == s) ≡ b → (t : FutureStage) → x.stage ≡ t
       → cond b (paid_to (queue_at h s) f x.demand t) 0 + lack_of (queue_at h s) f ≡ cond b (taken x.demand t) 0
   one_paid f x is false e t st = omega (arith, lacks_nothing h s f (ap (waits_at s) is ∙ on_false (x.semaphore == s) (one_if_waiting x.stage) e) v)
   one_paid f x is true e New st = omega (arith, lacks_nothing h s f (ap (waits_at s) is ∙ new_waits x s st) v)

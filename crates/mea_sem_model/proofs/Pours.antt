@@ -173,16 +173,6 @@ count-debts_in [] f = refl
 count-debts_in ((Waiter g, n) ∷ q) f = count-debts_in q f
 count-debts_in ((Debt, n) ∷ q) f = omega (arith, count-debts_in q f, sum_by-cons {X = Who × ℕ} (λ d. cond (names d.0 f) 1 0) (Debt, n) (debts_in q))
 
-pub debts-debts_in : (q : List (Who × ℕ)) → debts (debts_in q) ≡ debts q
-debts-debts_in [] = refl
-debts-debts_in ((Waiter g, n) ∷ q) = omega (arith, debts-debts_in q, sum_by-cons {X = Who × ℕ} (λ e. debt_of e.0 e.1) (Waiter g, n) q)
-debts-debts_in ((Debt, n) ∷ q) = omega (
-  arith,
-  debts-debts_in q,
-  sum_by-cons {X = Who × ℕ} (λ e. debt_of e.0 e.1) (Debt, n) q,
-  sum_by-cons {X = Who × ℕ} (λ e. debt_of e.0 e.1) (Debt, n) (debts_in q),
-)
-
 -- debts lack what they owe
 pub lacks-debts_in : (q : List (Who × ℕ)) → lacks (debts_in q) ≡ debts q
 lacks-debts_in [] = refl

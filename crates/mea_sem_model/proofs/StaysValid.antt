@@ -3,7 +3,7 @@ use Rattle.std.proofs.Common.{◌≡◌, ℕ, ◌+◌, ◌<◌, ◌≤◌, ◌^�
 use Rattle.std.specs.Option.{IsSome}
 use Rattle.std.specs.FinMap.{get}
 use Rattle.std.proofs.lemmas.Bool.{eqb-true, ltb-true, ne_eqb}
-use Rattle.mea_base.specs.Family.{Starts, Goes}
+use Rattle.mea_family.specs.Family.{Starts, Goes}
 use Rattle.mea_base.proofs.Totals.{total-zero}
 use Rattle.mea_base.proofs.Tests.{on_false}
 use Rattle.mea_sem_model.specs.declared.event.SemEvent.{SemEvent}
@@ -12,7 +12,7 @@ use Rattle.mea_sem_model.specs.Hall.{Hall, Semaphore, Future, Permit, made_with,
 use Rattle.mea_sem_model.specs.Cause.{cause_of}
 use Rattle.mea_sem_model.specs.Step.{step}
 use Rattle.mea_sem_model.specs.Valid.{IsValid, IsBelow, Fits}
-use Rattle.mea_sem_model.specs.Runs.{Run, Runs, AllFit, if_same, made_by, released_by}
+use Rattle.mea_sem_model.specs.Runs.{Run, IsSemRun, AllFit, if_same, made_by, released_by}
 use Rattle.mea_sem_model.proofs.Matched.{IsMatched, matched}
 use Rattle.mea_sem_model.proofs.Orderly.{IsOrderly, orderly}
 use Rattle.mea_sem_model.proofs.Changes.{no_semaphore_yet}
@@ -81,7 +81,7 @@ kept_valid h i e v low fits cause =
     }
 
 -- every hall in a run is valid
-pub always_valid : (r : Run) → Runs r → AllFit r.trace → IsValid r.hall
+pub always_valid : (r : Run) → IsSemRun r → AllFit r.trace → IsValid r.hall
 always_valid _ Starts fit = valid_empty
 always_valid _ (Goes r i e runs later cause) fit = kept_valid r.hall i e (always_valid r runs fit.1)
     (below_later r.hall r.next i later (balance.kept r runs).below) fit.0 cause

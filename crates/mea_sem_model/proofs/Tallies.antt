@@ -3,10 +3,10 @@ use Rattle.std.proofs.Common.{◌≡◌, ℕ, ◌+◌, ◌-◌, ◌≤◌, ◌==
 use Rattle.std.specs.FinMap.{get}
 use Rattle.std.proofs.lemmas.Bool.{eqb-true}
 use Rattle.std.proofs.lemmas.List.Sums.{sum_by-append}
-use Rattle.mea_base.specs.declared.answer.Answer.TheVariants as answers
+use Rattle.mea_family.specs.declared.answer.Answer.TheVariants as answers
 use Rattle.mea_sem_model.specs.declared.event.SemEvent.{SemEvent}
 use Rattle.mea_sem_model.specs.declared.event.SemEvent.TheVariants as events
-use Rattle.mea_sem_model.specs.Hall.{Hall, Semaphore, Future, Permit, Stage, New, Waiting, Granted, Cut, Who, Waiter, made_with, semaphore_at, queue_at, is_closed, poured, pour, names, free, debt_of, debts, with_semaphore, is_debt, debts_in, paid_in, cutting, closing, wakes_waiting}
+use Rattle.mea_sem_model.specs.Hall.{Hall, Semaphore, Future, Permit, FutureStage, New, Waiting, Granted, Cut, Who, Waiter, made_with, semaphore_at, queue_at, is_closed, poured, pour, names, free, debt_of, debts, with_semaphore, is_debt, debts_in, paid_in, cutting, closing, wakes_waiting}
 use Rattle.mea_sem_model.specs.Step.{quietly, with_permit, without_permit, without_future, forgetting_exactly, taking, offers, try_of, try_and_forget, queueing, made_ready, open_poll, refusing, poll_at, poll_of, end_future, end_permit, end_of, lose_of, merge_of, split_of, released_to, step, without, leaving}
 use Rattle.mea_sem_model.specs.Valid.{IsBelow}
 use Rattle.mea_sem_model.specs.Runs.{if_same, made_by, released_by, number_forgot, if_yes, if_ready, if_permit_of, forgetting_demand, forgotten_by}
@@ -109,7 +109,7 @@ module _ (h : Hall) (i s : ℕ) where
         closed = λ c. c;
       }) s
 
-  ends_future : (f : ℕ) (x : Future) (t : Stage) → Tallied (semaphore_at h s) (semaphore_at (end_future h f x t).hall s) 0 0 0
+  ends_future : (f : ℕ) (x : Future) (t : FutureStage) → Tallied (semaphore_at h s) (semaphore_at (end_future h f x t).hall s) 0 0 0
   ends_future f x New = same (semaphore_at h s)
   ends_future f x (Waiting u) = both _ _ _ _ _ _ _ _ _ (leaves f x) (pours (leaving h f x) x.semaphore _ s)
   ends_future f x Granted = pours (without_future h f) x.semaphore x.demand s
@@ -214,7 +214,7 @@ module _ (h : Hall) (i s : ℕ) where
   first_polls f w x true = same (semaphore_at h s)
   first_polls f w x false = open_polls f w x
 
-  polls_at : (f w : ℕ) (x : Future) (t : Stage) → Tallied (semaphore_at h s) (semaphore_at (poll_at h i f w x t).hall s) 0 0
+  polls_at : (f w : ℕ) (x : Future) (t : FutureStage) → Tallied (semaphore_at h s) (semaphore_at (poll_at h i f w x t).hall s) 0 0
       (if_ready (forgetting_demand s (Some x)) (poll_at h i f w x t).reply)
   polls_at f w x New = first_polls f w x (is_closed h x.semaphore)
   polls_at f w x Cut = same (semaphore_at h s)

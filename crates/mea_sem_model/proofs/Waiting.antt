@@ -8,13 +8,13 @@ use Rattle.std.proofs.lemmas.List.{length-append}
 use Rattle.std.proofs.lemmas.List.Sums.{sum_by-cons}
 use Rattle.mea_base.specs.Queue.{lacks_after, waiting_after, granted_in}
 use Rattle.mea_base.specs.Totals.{weight}
-use Rattle.mea_base.specs.declared.answer.Answer.{Answer}
-use Rattle.mea_base.specs.declared.answer.Answer.TheVariants as answers
+use Rattle.mea_family.specs.declared.answer.Answer.{Answer}
+use Rattle.mea_family.specs.declared.answer.Answer.TheVariants as answers
 use Rattle.mea_base.proofs.Totals.{total-insert}
 use Rattle.mea_base.proofs.Tests.{on_true, on_false}
 use Rattle.mea_sem_model.specs.declared.event.SemEvent.{SemEvent}
 use Rattle.mea_sem_model.specs.declared.event.SemEvent.TheVariants as events
-use Rattle.mea_sem_model.specs.Hall.{Hall, Semaphore, Future, Permit, Stage, New, Waiting, Granted, Cut, Who, Waiter, Debt, names, made_with, semaphore_at, queue_at, is_closed, free, lack_of, poured, pour, waker_of, waker_of_future, waker_of_who, wakes_of, with_semaphore, debts_in, paid_in, everyone, cutting, closing, wakes_waiting}
+use Rattle.mea_sem_model.specs.Hall.{Hall, Semaphore, Future, Permit, FutureStage, New, Waiting, Granted, Cut, Who, Waiter, Debt, names, made_with, semaphore_at, queue_at, is_closed, free, lack_of, poured, pour, waker_of, waker_of_future, waker_of_who, wakes_of, with_semaphore, debts_in, paid_in, everyone, cutting, closing, wakes_waiting}
 use Rattle.mea_sem_model.specs.Step.{Outcome, quietly, pouring, without_permit, with_permit, without_future, with_debt, forgetting, forgetting_exactly, taking, offers, try_of, try_and_forget, made_ready, queueing, open_poll, refusing, poll_at, poll_of, without, leaving, end_future, end_permit, end_of, lose_of, merge_of, split_of, released_to, step}
 use Rattle.mea_sem_model.specs.Valid.{count}
 use Rattle.mea_sem_model.specs.Waiters.{waiters_in, waiters, registers}
@@ -108,7 +108,7 @@ one_waker : (o : Option Future) → length (waker_of_future o) ≤ 1
 one_waker None = omega arith
 one_waker (Some x) = by_stage x.stage
   where
-    by_stage : (t : Stage) → length (waker_of t) ≤ 1
+    by_stage : (t : FutureStage) → length (waker_of t) ≤ 1
     by_stage New = omega arith
     by_stage (Waiting w) = omega arith
     by_stage Granted = omega arith
@@ -190,7 +190,7 @@ module _ (h : Hall) (i : ℕ) where
   settles-first_poll f w x true = quiet h (without_future h f) answers.Gone true as_many
   settles-first_poll f w x false = settles-open_poll f w x
 
-  settles-poll_at : (f w : ℕ) (x : Future) (t : Stage) → Settles h (poll_at h i f w x t) true
+  settles-poll_at : (f w : ℕ) (x : Future) (t : FutureStage) → Settles h (poll_at h i f w x t) true
   settles-poll_at f w x New = settles-first_poll f w x (is_closed h x.semaphore)
   settles-poll_at f w x Cut = quiet h (without_future h f) answers.Gone true as_many
   settles-poll_at f w x (Waiting v) = quiet h _ answers.Pending true as_many
@@ -204,7 +204,7 @@ module _ (h : Hall) (i : ℕ) where
   settles-end_permit p None = quiet h h answers.Done false as_many
   settles-end_permit p (Some x) = pours h (without_permit h p) x.semaphore x.size false as_many
 
-  settles-end_future : (f : ℕ) (x : Future) (t : Stage) → Settles h (end_future h f x t) false
+  settles-end_future : (f : ℕ) (x : Future) (t : FutureStage) → Settles h (end_future h f x t) false
   settles-end_future f x New = quiet h _ answers.Done false as_many
   settles-end_future f x (Waiting w) =
       let fewer = put_few h x.semaphore (record (semaphore_at h x.semaphore) { queue = without (queue_at h x.semaphore) f })

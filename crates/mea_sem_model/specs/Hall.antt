@@ -26,11 +26,11 @@ pub record Semaphore : Type 0 where
 
 -- how far a future is: never polled, waiting with the waker of its last poll, paid in full, or cut: taken
 -- out of the queue by the closing of its semaphore
-pub data Stage : Type 0 where
-  New : Stage
-  Waiting : ℕ → Stage
-  Granted : Stage
-  Cut : Stage
+pub data FutureStage : Type 0 where
+  New : FutureStage
+  Waiting : ℕ → FutureStage
+  Granted : FutureStage
+  Cut : FutureStage
 
 -- a future: whose it is, what it asks for, whether it is plain, whether it forgets what it takes
 pub record Future : Type 0 where
@@ -38,7 +38,7 @@ pub record Future : Type 0 where
   pub demand : ℕ
   pub plain : Bool
   pub forgets : Bool
-  pub stage : Stage
+  pub stage : FutureStage
 
 pub record Permit : Type 0 where
   pub semaphore : ℕ
@@ -88,7 +88,7 @@ abbrev pub debts : List (Who × ℕ) → ℕ
 debts q = sum_by {X = Who × ℕ} (λ e. debt_of e.0 e.1) q
 
 -- what a future of this demand was paid
-abbrev pub paid_to : List (Who × ℕ) → ℕ → ℕ → Stage → ℕ
+abbrev pub paid_to : List (Who × ℕ) → ℕ → ℕ → FutureStage → ℕ
 paid_to q f demand New = 0
 paid_to q f demand (Waiting w) = demand - lack_of q f
 paid_to q f demand Granted = demand
@@ -125,22 +125,22 @@ abbrev pub poured : Semaphore → ℕ → Semaphore
 poured r n = record r { free = r.free + left_over r.queue n; queue = waiting_after r.queue n }
 
 -- a future that comes to a stage
-abbrev pub staged : Stage → Future → Future
+abbrev pub staged : FutureStage → Future → Future
 staged t x = record x { stage = t }
 
 abbrev pub granted : Future → Future
 granted x = staged Granted x
 
-abbrev pub stage_if : Stage → map.FinMap nat_cmp Future → ℕ → Option Future → map.FinMap nat_cmp Future
+abbrev pub stage_if : FutureStage → map.FinMap nat_cmp Future → ℕ → Option Future → map.FinMap nat_cmp Future
 stage_if t m f None = m
 stage_if t m f (Some x) = map.insert m f (staged t x)
 
-abbrev pub stage_who : Stage → map.FinMap nat_cmp Future → Who → map.FinMap nat_cmp Future
+abbrev pub stage_who : FutureStage → map.FinMap nat_cmp Future → Who → map.FinMap nat_cmp Future
 stage_who t m (Waiter f) = stage_if t m f (map.get m f)
 stage_who t m Debt = m
 
 -- each future among these comes to a stage
-abbrev pub stage_all : Stage → List Who → map.FinMap nat_cmp Future → map.FinMap nat_cmp Future
+abbrev pub stage_all : FutureStage → List Who → map.FinMap nat_cmp Future → map.FinMap nat_cmp Future
 stage_all t [] m = m
 stage_all t (w ∷ ws) m = stage_all t ws (stage_who t m w)
 
@@ -158,7 +158,7 @@ pour h s n = record h {
   futures = grant_all (granted_in (queue_at h s) n) h.futures;
 }
 
-abbrev pub waker_of : Stage → List ℕ
+abbrev pub waker_of : FutureStage → List ℕ
 waker_of New = []
 waker_of (Waiting w) = w ∷ []
 waker_of Granted = []
@@ -242,30 +242,30 @@ semaphore_code =
     (λ p. record { free = p.0; queue = p.1.0; made = p.1.1.0; released = p.1.1.1.0; forgotten = p.1.1.1.1.0; named = p.1.1.1.1.1.0; closed = p.1.1.1.1.1.1 })
     (λ _. refl)
 
-abbrev pub stage_number : Stage → Option (Option (Option ℕ))
+abbrev pub stage_number : FutureStage → Option (Option (Option ℕ))
 stage_number New = None
 stage_number (Waiting w) = Some (Some (Some w))
 stage_number Granted = Some None
 stage_number Cut = Some (Some None)
 
-abbrev pub stage_of_number : Option (Option (Option ℕ)) → Stage
+abbrev pub stage_of_number : Option (Option (Option ℕ)) → FutureStage
 stage_of_number None = New
 stage_of_number (Some (Some (Some w))) = Waiting w
 stage_of_number (Some None) = Granted
 stage_of_number (Some (Some None)) = Cut
 
-pub stage_back : (s : Stage) → stage_of_number (stage_number s) ≡ s
+pub stage_back : (s : FutureStage) → stage_of_number (stage_number s) ≡ s
 stage_back New = refl
 stage_back (Waiting w) = refl
 stage_back Granted = refl
 stage_back Cut = refl
 
-abbrev pub stage_code : Coded Stage
+abbrev pub stage_code : Coded FutureStage
 stage_code = code_by (Option (Option (Option ℕ))) (coded_option (coded_option (coded_option coded_ℕ))) stage_number stage_of_number stage_back
 
 abbrev pub future_code : Coded Future
 future_code =
-    code_by (ℕ × (ℕ × (Bool × (Bool × Stage)))) (coded× coded_ℕ (coded× coded_ℕ (coded× coded_bool (coded× coded_bool stage_code))))
+    code_by (ℕ × (ℕ × (Bool × (Bool × FutureStage)))) (coded× coded_ℕ (coded× coded_ℕ (coded× coded_bool (coded× coded_bool stage_code))))
     (λ f. (f.semaphore, (f.demand, (f.plain, (f.forgets, f.stage)))))
     (λ p. record { semaphore = p.0; demand = p.1.0; plain = p.1.1.0; forgets = p.1.1.1.0; stage = p.1.1.1.1 })
     (λ _. refl)

@@ -2,14 +2,14 @@
 -- that were told
 use Rattle.std.specs.Prelude.{ℕ, ◌≡◌, ◌<◌, ◌==◌, ◌&&◌, ◌||◌, ◌⊎◌, Bool, true, false, cond, List, [], ◌∷◌, map, Option, Some, None, is_some, IsSome, Contains}
 use Rattle.std.specs.Option.{option_or}
-use Rattle.mea_base.specs.declared.answer.Answer.{Answer}
-use Rattle.mea_base.specs.declared.answer.Answer.TheVariants as answers
-use Rattle.mea_base.specs.Family as family
+use Rattle.mea_family.specs.declared.answer.Answer.{Answer}
+use Rattle.mea_family.specs.declared.answer.Answer.TheVariants as answers
+use Rattle.mea_family.specs.Family as family
 use Rattle.mea_sem_model.specs.declared.event.SemEvent.{SemEvent}
 use Rattle.mea_sem_model.specs.declared.event.SemEvent.TheVariants as events
 use Rattle.mea_sem_model.specs.Hall.{Hall, owed}
 use Rattle.mea_sem_model.specs.Step.{step}
-use Rattle.mea_sem_model.specs.Runs.{Told, Run, semaphores, waker_in}
+use Rattle.mea_sem_model.specs.Runs.{ToldSemEvent, Run, semaphores, waker_in}
 pub use Rattle.mea_sem_model.specs.Runs.{ends}
 
 -- ---- what was told of a future
@@ -23,17 +23,17 @@ acquire_in (events.Acqof s n) = Some (s, n)
 acquire_in _ = None
 
 -- the semaphore and the number of permits that the future f asks for, which event f began
-abbrev pub asked : List Told → ℕ → Option (ℕ × ℕ)
+abbrev pub asked : List ToldSemEvent → ℕ → Option (ℕ × ℕ)
 asked [] f = None
 asked (t ∷ older) f = cond (t.number == f) (acquire_in t.event) (asked older f)
 
 -- the number of an event that polls
-abbrev pub poll_number : Told → Option ℕ → Option ℕ
+abbrev pub poll_number : ToldSemEvent → Option ℕ → Option ℕ
 poll_number t (Some w) = Some t.number
 poll_number t None = None
 
 -- the number of the first poll of f
-abbrev pub first_poll : List Told → ℕ → Option ℕ
+abbrev pub first_poll : List ToldSemEvent → ℕ → Option ℕ
 first_poll [] f = None
 first_poll (t ∷ older) f = option_or (first_poll older f) (poll_number t (waker_in t.event f))
 
@@ -42,12 +42,12 @@ is_ready answers.Ready = true
 is_ready _ = false
 
 -- whether a poll of f replied `ready`
-abbrev pub was_ready : List Told → ℕ → Bool
+abbrev pub was_ready : List ToldSemEvent → ℕ → Bool
 was_ready [] f = false
 was_ready (t ∷ older) f = (is_some (waker_in t.event f) && is_ready t.reply) || was_ready older f
 
 -- whether f was ended
-abbrev pub was_ended : List Told → ℕ → Bool
+abbrev pub was_ended : List ToldSemEvent → ℕ → Bool
 was_ended [] f = false
 was_ended (t ∷ older) f = ends t.event f || was_ended older f
 
@@ -70,21 +70,21 @@ GrantsInOrder r = (s m n f g i j v w : ℕ) → asked r.trace f ≡ Some (s, m) 
 -- ---- what one event grants
 
 -- f was first polled before g was
-abbrev pub IsPolledBefore : List Told → ℕ → ℕ → Type 0
+abbrev pub IsPolledBefore : List ToldSemEvent → ℕ → ℕ → Type 0
 IsPolledBefore trace f g = (i : ℕ) × (j : ℕ) × (first_poll trace f ≡ Some i) × (first_poll trace g ≡ Some j) × (i < j)
 
-abbrev pub IsPolledBeforeAll : List Told → ℕ → List ℕ → Type 0
+abbrev pub IsPolledBeforeAll : List ToldSemEvent → ℕ → List ℕ → Type 0
 IsPolledBeforeAll trace f [] = Unit {0}
 IsPolledBeforeAll trace f (g ∷ gs) = IsPolledBefore trace f g × IsPolledBeforeAll trace f gs
 
 -- each was first polled before all that follow
-abbrev pub AreInOrder : List Told → List ℕ → Type 0
+abbrev pub AreInOrder : List ToldSemEvent → List ℕ → Type 0
 AreInOrder trace [] = Unit {0}
 AreInOrder trace (f ∷ fs) = IsPolledBeforeAll trace f fs × AreInOrder trace fs
 
 -- the newest event t settled f, which had been polled: before it a poll would have replied `pending`, and
 -- now one would reply `ready` or `gone`, with the wakers v and w
-pub record IsSettled (r : Run) (t : Told) (older : List Told) (f v w : ℕ) : Type 0 where
+pub record IsSettled (r : Run) (t : ToldSemEvent) (older : List ToldSemEvent) (f v w : ℕ) : Type 0 where
   pub polled : IsSome (first_poll older f)
   pub waited : reply_to_poll t.before t.number f v ≡ answers.Pending
   pub replies : (reply_to_poll r.hall r.next f w ≡ answers.Ready) ⊎ (reply_to_poll r.hall r.next f w ≡ answers.Gone)
@@ -92,7 +92,7 @@ pub record IsSettled (r : Run) (t : Told) (older : List Told) (f v w : ℕ) : Ty
 -- those whom the newest event settled, in the order of their first polls: its wakes are the wakers of their
 -- last polls, in this order; it granted only where no debt is left of what they asked for, and refused only
 -- where it closed what they asked
-pub record Settles (r : Run) (t : Told) (older : List Told) : Type 0 where
+pub record Settles (r : Run) (t : ToldSemEvent) (older : List ToldSemEvent) : Type 0 where
   pub futures : List ℕ
   pub settled : (f v w : ℕ) → Contains futures f → IsSettled r t older f v w
   pub all : (f v w : ℕ) → IsSettled r t older f v w → Contains futures f
@@ -101,7 +101,7 @@ pub record Settles (r : Run) (t : Told) (older : List Told) : Type 0 where
   pub paid_off : (f s n w : ℕ) → Contains futures f → asked older f ≡ Some (s, n) → reply_to_poll r.hall r.next f w ≡ answers.Ready → owed r.hall s ≡ 0
   pub closed : (f s n w : ℕ) → Contains futures f → asked older f ≡ Some (s, n) → reply_to_poll r.hall r.next f w ≡ answers.Gone → t.event ≡ events.Close s
 
-abbrev pub settles_of : Run → List Told → Type 0
+abbrev pub settles_of : Run → List ToldSemEvent → Type 0
 settles_of r [] = Unit {0}
 settles_of r (t ∷ older) = Settles r t older
 

@@ -2,13 +2,13 @@
 use Rattle.std.specs.Prelude.{ℕ, ◌≡◌, ◌+◌, ◌==◌, ◌&&◌, Bool, false, cond, List, [], ◌∷◌, Option, Some, None, is_some}
 use Rattle.std.specs.List.{sum_by}
 use Rattle.std.specs.FinMap as map
-use Rattle.mea_base.specs.declared.answer.Answer.{Answer}
-use Rattle.mea_base.specs.declared.answer.Answer.TheVariants as answers
-use Rattle.mea_base.specs.Family as family
-use Rattle.mea_base.specs.Family.{Family}
+use Rattle.mea_family.specs.declared.answer.Answer.{Answer}
+use Rattle.mea_family.specs.declared.answer.Answer.TheVariants as answers
+use Rattle.mea_family.specs.Family as family
+use Rattle.mea_family.specs.Family.{Family}
 use Rattle.mea_sem_model.specs.declared.event.SemEvent.{SemEvent}
 use Rattle.mea_sem_model.specs.declared.event.SemEvent.TheVariants as events
-use Rattle.mea_sem_model.specs.Hall.{Hall, Future, Permit, Stage, New, Waiting, Granted, Cut, empty_hall, free, held, paid, owed}
+use Rattle.mea_sem_model.specs.Hall.{Hall, Future, Permit, FutureStage, New, Waiting, Granted, Cut, empty_hall, free, held, paid, owed}
 use Rattle.mea_sem_model.specs.Cause.{cause_of}
 use Rattle.mea_sem_model.specs.Step.{step}
 use Rattle.mea_sem_model.specs.Valid.{Fits}
@@ -19,7 +19,7 @@ waker_in (events.Poll g w) f = cond (g == f) (Some w) None
 waker_in _ f = None
 
 -- the waker of a future that waits
-abbrev pub waker_at : Stage → Option ℕ
+abbrev pub waker_at : FutureStage → Option ℕ
 waker_at New = None
 waker_at (Waiting w) = Some w
 waker_at Granted = None
@@ -51,19 +51,19 @@ semaphores = record {
 }
 
 -- an event of semaphores as it was told
-abbrev pub Told : Type 0
-Told = family.ToldOf semaphores
+abbrev pub ToldSemEvent : Type 0
+ToldSemEvent = family.ToldOf semaphores
 
 -- semaphores with all that was told of them so far
 abbrev pub Run : Type 0
 Run = family.RunOf semaphores
 
 -- a run of events of semaphores that had no cause for refusal
-abbrev pub Runs : Run → Type 0
-Runs r = family.Runs semaphores r
+abbrev pub IsSemRun : Run → Type 0
+IsSemRun r = family.IsRun semaphores r
 
 -- the permits that each event of a run makes fit their type
-abbrev pub AllFit : List Told → Type 0
+abbrev pub AllFit : List ToldSemEvent → Type 0
 AllFit [] = Unit {0}
 AllFit (t ∷ older) = Fits t.event × AllFit older
 
@@ -73,7 +73,7 @@ abbrev pub if_same : ℕ → ℕ → ℕ → ℕ
 if_same q s n = cond (q == s) n 0
 
 -- what this event made of s
-abbrev pub made_by : ℕ → Told → SemEvent → ℕ
+abbrev pub made_by : ℕ → ToldSemEvent → SemEvent → ℕ
 made_by s t (events.New n) = if_same t.number s n
 made_by s t _ = 0
 
@@ -106,7 +106,7 @@ abbrev pub forgetting_demand : ℕ → Option Future → ℕ
 forgetting_demand s None = 0
 forgetting_demand s (Some x) = cond (x.semaphore == s && x.forgets) x.demand 0
 
-abbrev pub forgotten_by : ℕ → Told → SemEvent → ℕ
+abbrev pub forgotten_by : ℕ → ToldSemEvent → SemEvent → ℕ
 forgotten_by s t (events.Forget q n) = if_same q s (number_forgot t.reply)
 forgotten_by s t (events.Forgetx q n) = if_same q s n
 forgotten_by s t (events.Tryf q n) = if_same q s (if_yes n t.reply)
@@ -115,14 +115,14 @@ forgotten_by s t (events.Poll f w) = if_ready (forgetting_demand s (map.get t.be
 forgotten_by s t (events.Lose p) = if_permit_of s (map.get t.before.permits p) (number_forgot t.reply)
 forgotten_by s t _ = 0
 
-abbrev pub made : List Told → ℕ → ℕ
-made trace s = sum_by {X = Told} (λ t. made_by s t t.event) trace
+abbrev pub made : List ToldSemEvent → ℕ → ℕ
+made trace s = sum_by {X = ToldSemEvent} (λ t. made_by s t t.event) trace
 
-abbrev pub released : List Told → ℕ → ℕ
-released trace s = sum_by {X = Told} (λ t. released_by s t.event) trace
+abbrev pub released : List ToldSemEvent → ℕ → ℕ
+released trace s = sum_by {X = ToldSemEvent} (λ t. released_by s t.event) trace
 
-abbrev pub forgotten : List Told → ℕ → ℕ
-forgotten trace s = sum_by {X = Told} (λ t. forgotten_by s t t.event) trace
+abbrev pub forgotten : List ToldSemEvent → ℕ → ℕ
+forgotten trace s = sum_by {X = ToldSemEvent} (λ t. forgotten_by s t t.event) trace
 
 -- the permits of s that were made, released and are owed are those that are free, held, paid and forgotten
 abbrev pub Balances : Run → ℕ → Type 0

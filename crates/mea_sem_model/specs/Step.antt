@@ -1,13 +1,13 @@
 -- what an event does to a hall, where it has no cause for refusal; a thing made by event i has the name i
 use Rattle.std.specs.Prelude.{ℕ, ◌+◌, ◌-◌, ◌==◌, ◌++◌, ◌&&◌, not, Bool, true, false, List, [], ◌∷◌, Option, Some, None, filter, nat_le, min, if◌then◌else◌}
 use Rattle.std.specs.FinMap as map
-use Rattle.mea_base.specs.declared.answer.Answer.TheVariants as answers
-use Rattle.mea_base.specs.declared.ledger.Ledger.{Ledger}
-use Rattle.mea_base.specs.Family as family
-pub use Rattle.mea_base.specs.Family.{quietly}
+use Rattle.mea_family.specs.declared.answer.Answer.TheVariants as answers
+use Rattle.mea_family.specs.declared.ledger.Ledger.{Ledger}
+use Rattle.mea_family.specs.Family as family
+pub use Rattle.mea_family.specs.Family.{quietly}
 use Rattle.mea_sem_model.specs.declared.event.SemEvent.{SemEvent}
 use Rattle.mea_sem_model.specs.declared.event.SemEvent.TheVariants as events
-use Rattle.mea_sem_model.specs.Hall.{Hall, Semaphore, Future, Permit, Stage, New, Waiting, Granted, Cut, Who, Waiter, Debt, made_with, semaphore_at, queue_at, is_closed, with_semaphore, names, lack_of, free, held, paid, owed, pour, wakes_of, closing, wakes_waiting}
+use Rattle.mea_sem_model.specs.Hall.{Hall, Semaphore, Future, Permit, FutureStage, New, Waiting, Granted, Cut, Who, Waiter, Debt, made_with, semaphore_at, queue_at, is_closed, with_semaphore, names, lack_of, free, held, paid, owed, pour, wakes_of, closing, wakes_waiting}
 
 -- what an event of semaphores gives
 abbrev pub Outcome : Type 0
@@ -98,7 +98,7 @@ refusing h f = quietly (without_future h f) answers.Gone
 abbrev pub first_poll : Hall → ℕ → ℕ → ℕ → Future → Outcome
 first_poll h i f w x = if is_closed h x.semaphore then refusing h f else open_poll h i f w x
 
-abbrev pub poll_at : Hall → ℕ → ℕ → ℕ → Future → Stage → Outcome
+abbrev pub poll_at : Hall → ℕ → ℕ → ℕ → Future → FutureStage → Outcome
 poll_at h i f w x New = first_poll h i f w x
 poll_at h i f w x (Waiting v) = quietly (with_future h f (record x { stage = Waiting w })) answers.Pending
 poll_at h i f w x Granted = quietly (made_ready h i f x) answers.Ready
@@ -119,7 +119,7 @@ abbrev pub leaving : Hall → ℕ → Future → Hall
 leaving h f x = without_future (with_semaphore h x.semaphore (record (semaphore_at h x.semaphore) { queue = without (queue_at h x.semaphore) f })) f
 
 -- f gives back what it was paid
-abbrev pub end_future : Hall → ℕ → Future → Stage → Outcome
+abbrev pub end_future : Hall → ℕ → Future → FutureStage → Outcome
 end_future h f x New = quietly (without_future h f) answers.Done
 end_future h f x (Waiting w) = pouring (leaving h f x) x.semaphore (x.demand - lack_of (queue_at h x.semaphore) f)
 end_future h f x Granted = pouring (without_future h f) x.semaphore x.demand

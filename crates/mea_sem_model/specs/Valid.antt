@@ -4,14 +4,14 @@ use Rattle.std.specs.List.{sum_by}
 use Rattle.std.specs.FinMap as map
 use Rattle.mea_sem_model.specs.declared.event.SemEvent.{SemEvent}
 use Rattle.mea_sem_model.specs.declared.event.SemEvent.TheVariants as events
-use Rattle.mea_sem_model.specs.Hall.{Hall, Future, Permit, Stage, New, Waiting, Granted, Cut, Who, Waiter, Debt, semaphore_at, queue_at, is_closed, names, lack_of, free, held, paid, owed, live, plain_things}
+use Rattle.mea_sem_model.specs.Hall.{Hall, Future, Permit, FutureStage, New, Waiting, Granted, Cut, Who, Waiter, Debt, semaphore_at, queue_at, is_closed, names, lack_of, free, held, paid, owed, live, plain_things}
 use Rattle.mea_sem_model.specs.Cause.{is_named}
 
 -- how many entries of a queue name a future
 abbrev pub count : List (Who × ℕ) → ℕ → ℕ
 count q f = sum_by {X = Who × ℕ} (λ e. cond (names e.0 f) 1 0) q
 
-abbrev pub one_if_waiting : Stage → ℕ
+abbrev pub one_if_waiting : FutureStage → ℕ
 one_if_waiting New = 0
 one_if_waiting (Waiting w) = 1
 one_if_waiting Granted = 0
@@ -40,7 +40,7 @@ HasDebtsFirst ((Waiter f, n) ∷ q) = HasNoDebt q
 HasDebtsFirst ((Debt, n) ∷ q) = HasDebtsFirst q
 
 -- a future waits only where its semaphore is open, and is cut only where it is closed
-abbrev pub SuitsClosed : Bool → Stage → Type 0
+abbrev pub SuitsClosed : Bool → FutureStage → Type 0
 SuitsClosed closed New = Unit {0}
 SuitsClosed closed (Waiting w) = closed ≡ false
 SuitsClosed closed Granted = Unit {0}

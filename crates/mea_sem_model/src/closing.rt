@@ -1,6 +1,6 @@
 ghost use Rattle.std.specs.Prelude.{◌≡◌, ◌≢◌, ℕ, ◌+◌, Bool, true, Some, None};
 ghost use Rattle.std.specs.FinMap as finmap;
-ghost use Rattle.mea_base.specs.declared.answer.Answer.TheVariants as answers;
+ghost use Rattle.mea_family.specs.declared.answer.Answer.TheVariants as answers;
 ghost use Rattle.mea_sem_model.specs.declared.event.SemEvent.{SemEvent};
 ghost use Rattle.mea_sem_model.specs.declared.event.SemEvent.TheVariants as events;
 ghost use Rattle.mea_sem_model.specs.Hall.{Hall, Future, Waiting, Granted, Cut, is_closed, staged, live, owed};

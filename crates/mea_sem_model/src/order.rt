@@ -1,4 +1,4 @@
-ghost use Rattle.mea_sem_model.specs.Runs.{Run, Runs};
+ghost use Rattle.mea_sem_model.specs.Runs.{Run, IsSemRun};
 ghost use Rattle.mea_sem_model.specs.Order.{GrantsInOrder, WakesInOrder, LetsNobodyPast};
 
 /// After every run: of two acquires of one semaphore that were polled, whoever was first polled first has
@@ -6,7 +6,7 @@ ghost use Rattle.mea_sem_model.specs.Order.{GrantsInOrder, WakesInOrder, LetsNob
 /// wakes whom it grants in the order of their first polls, and grants only where no debt is left. While one
 /// waits no try gets a permit.
 pub fn grants_follow_first_polls()
-    ensures order { (run : Run) → Runs run → GrantsInOrder run }
-    ensures wakes { (run : Run) → Runs run → WakesInOrder run }
-    ensures tries { (run : Run) → Runs run → LetsNobodyPast run }
+    ensures order { (run : Run) → IsSemRun run → GrantsInOrder run }
+    ensures wakes { (run : Run) → IsSemRun run → WakesInOrder run }
+    ensures tries { (run : Run) → IsSemRun run → LetsNobodyPast run }
 {}

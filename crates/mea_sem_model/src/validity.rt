@@ -3,7 +3,7 @@ ghost use Rattle.mea_sem_model.specs.declared.event.SemEvent.{SemEvent};
 ghost use Rattle.mea_sem_model.specs.Hall.{Hall, empty_hall};
 ghost use Rattle.mea_sem_model.specs.Cause.{cause_of};
 ghost use Rattle.mea_sem_model.specs.Step.{step};
-ghost use Rattle.mea_sem_model.specs.Runs.{Run, Runs, AllFit};
+ghost use Rattle.mea_sem_model.specs.Runs.{Run, IsSemRun, AllFit};
 ghost use Rattle.mea_sem_model.specs.Valid.{IsValid, IsBelow, IsAccounted, Fits};
 
 /// The empty hall is valid, and each event that has no cause for refusal leaves a valid hall valid.
@@ -14,7 +14,7 @@ pub fn validity_is_kept()
 
 /// Every hall in a run is valid, where the permits that its events make fit their type.
 pub fn halls_are_valid()
-    ensures { (run : Run) → Runs run → AllFit run.trace → IsValid run.hall }
+    ensures { (run : Run) → IsSemRun run → AllFit run.trace → IsValid run.hall }
 {}
 
 /// The names of a hall stay below the number of the next event, so that each event makes a new name.

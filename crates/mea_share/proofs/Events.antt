@@ -5,18 +5,18 @@ use Rattle.std.proofs.lemmas.Bool.{cases_lt, eq-eqb}
 use Rattle.std.proofs.lemmas.Bool.Decides.{nat_tests}
 use Rattle.futures.specs.declared.task.Poll.{Poll}
 use Rattle.futures.specs.declared.task.Poll.TheVariants.{Ready, Pending}
-use Rattle.mea_base.specs.declared.answer.Answer.TheVariants as answers
-use Rattle.mea_base.specs.Family.{Outcome, quietly}
-use Rattle.mea_base.specs.Causes.{unknown_unless}
+use Rattle.mea_family.specs.declared.answer.Answer.TheVariants as answers
+use Rattle.mea_family.specs.Family.{Outcome, quietly}
+use Rattle.mea_family.specs.Causes.{unknown_unless}
 use Rattle.mea_base.specs.Ready.{Waking}
 use Rattle.mea_base.specs.Totals.{weight}
 use Rattle.mea_base.proofs.Maps.{inside, is_there, value_in, by_put, removed_there, is_absent}
 use Rattle.mea_base.proofs.Totals.{total-insert, total-remove}
-use Rattle.mea_named.specs.ByName.{Names, seen, own, count}
-use Rattle.mea_named.specs.Play.{Part, PartRests, found}
-use Rattle.mea_named.proofs.Cases.{found_is, if_true, if_false}
-use Rattle.mea_named.proofs.Halls as halls
-use Rattle.mea_named.proofs.Own.{seen-at, seen-none, seen-insert, seen-remove, seen-alike, own-seen, len-seen, own-at, own-none, own-put, own-gone, len-some, len-new, len-over, len-gone, count-put, count-over, count-new, count-gone, count-least, insert_same, put_gone, gone_none, Moves, Stays, Comes, Goes}
+use Rattle.mea_by_name.specs.ByName.{Names, seen, own, count}
+use Rattle.mea_family.specs.Play.{Part, PartRests, found}
+use Rattle.mea_by_name.proofs.Cases.{found_is, if_true, if_false}
+use Rattle.mea_by_name.proofs.Halls as halls
+use Rattle.mea_by_name.proofs.Own.{seen-at, seen-none, seen-insert, seen-remove, seen-alike, own-seen, len-seen, own-at, own-none, own-put, own-gone, len-some, len-new, len-over, len-gone, count-put, count-over, count-new, count-gone, count-least, insert_same, put_gone, gone_none, Moves, Stays, Comes, Goes}
 use Rattle.mea_share_core.specs.declared.share_acquire.ShareStage.{ShareStage}
 use Rattle.mea_share_core.specs.declared.share_acquire.ShareStage.TheVariants.{New, Queued, Done}
 use Rattle.mea_share_core.specs.Share.{Share, IsWaiting, IsAdmitted, taken, queued, left, readied, given_up, released, weighing}
@@ -30,7 +30,7 @@ use Rattle.mea_share_model.specs.Admissions as model
 use Rattle.mea_share_model.specs.Admissions.{Admission, ShareFuture, SharePermit, ShareHall, registered, with_share, passed, woken, tidied_admissions, things_of, is_named, is_permit}
 use Rattle.mea_share_model.specs.Meaning.{cause_of, step, end_by}
 use Rattle.mea_share_model.specs.Valid.{is_of as model_is_of, HasNumber, HasAt, AreValid}
-use Rattle.mea_share.specs.Kept.{KeptAdmission, KeptFuture, shares_seen, admission_seen, number_of, future_seen, hall_seen, AreGood, AreKept, of_future, of_permit, size_of, IsKept}
+use Rattle.mea_share.specs.Kept.{KeptAdmission, KeptFuture, shares_seen, admission_seen, number_of, future_seen, hall_seen, AreGood, AreKept, of_future, of_permit, size_of, AreKeptAdmissions}
 use Rattle.mea_share.specs.Entries.{begun, finished, is_over, Takes, Weighs, PollsEntry, HandsOn, EndsWait, Releases}
 use Rattle.mea_share.specs.Lends.{begins, tries}
 use Rattle.mea_share.proofs.Seen.{share_seen, alike_seen, Tallies, tallies_sets, tallies_alike, passes_seen}
@@ -113,12 +113,12 @@ module _ {old : Part ShareHall} {i : ℕ} (s : Site old i) where
         (omega (arith, put_waiters (begun e plain)))
 
     pub begins_one : (plain : Bool) (k : ℕ) (x : KeptFuture) → is_named old.hall o ≡ true → x ≡ record { admission = o; key = k; stage = New; plain = plain }
-        → IsKept (insert s.es o (begun e plain)) (insert s.fs i x) s.ps (i + 1) × PartRests registered old i (begins plain old.hall i o k) answers.Made (part_of (insert s.es o (begun e plain)) (insert s.fs i x) s.ps (i + 1))
+        → AreKeptAdmissions (insert s.es o (begun e plain)) (insert s.fs i x) s.ps (i + 1) × PartRests registered old i (begins plain old.hall i o k) answers.Made (part_of (insert s.es o (begun e plain)) (insert s.fs i x) s.ps (i + 1))
     begins_one true k x named is = begun_as (FsAcq o k) k true x is (known s o named) refl
     begins_one false k x named is = begun_as (FsAcqo o k) k false x is (known s o named) refl
 
     -- nothing has changed
-    pub unchanged : (e' : KeptAdmission) → e' ≡ e → IsKept (insert s.es o e') s.fs s.ps s.next × (◌≡◌ {A = Part ShareHall} (part_of (insert s.es o e') s.fs s.ps s.next) old)
+    pub unchanged : (e' : KeptAdmission) → e' ≡ e → AreKeptAdmissions (insert s.es o e') s.fs s.ps s.next × (◌≡◌ {A = Part ShareHall} (part_of (insert s.es o e') s.fs s.ps s.next) old)
     unchanged e' is = rw (same_put e' is) (s.kept, s.view)
 
     -- ---- a permit is taken
@@ -149,7 +149,7 @@ module _ {old : Part ShareHall} {i : ℕ} (s : Site old i) where
         (omega (arith, put_waiters (begun e' plain), becomes.shares.waiting))
 
     pub holds_one : (plain : Bool) (k : ℕ) (e' : KeptAdmission) → is_named old.hall o ≡ true → Takes e k true e'
-        → IsKept (insert s.es o (begun e' plain)) s.fs (insert s.ps i (record { admission = o; key = k; plain = plain })) (i + 1)
+        → AreKeptAdmissions (insert s.es o (begun e' plain)) s.fs (insert s.ps i (record { admission = o; key = k; plain = plain })) (i + 1)
         × PartRests registered old i (tries plain old.hall i o k) answers.Held (part_of (insert s.es o (begun e' plain)) s.fs (insert s.ps i (record { admission = o; key = k; plain = plain })) (i + 1))
     holds_one true k e' named takes = held_as (FsTry o k) k true e' takes (known s o named) refl
     holds_one false k e' named takes = held_as (FsTryo o k) k false e' takes (known s o named) refl
@@ -161,7 +161,7 @@ module _ {old : Part ShareHall} {i : ℕ} (s : Site old i) where
         rests_as s ev (quietly (hall_seen s.es s.fs s.ps) answers.Lacking) answers.Lacking s.es s.fs s.ps none
         (does ∙ step_is (model.try (hall_seen s.es s.fs s.ps) i o k plain) ∙ if_true (e.fair.free == 0) _ _ (eq-eqb e.fair.free 0 nothing)) (stays s) refl refl refl refl
 
-    lacks_one : (plain : Bool) (k : ℕ) → is_named old.hall o ≡ true → e.fair.free ≡ 0 → IsKept s.es s.fs s.ps (i + 1) × PartRests registered old i (tries plain old.hall i o k) answers.Lacking (part_of s.es s.fs s.ps (i + 1))
+    lacks_one : (plain : Bool) (k : ℕ) → is_named old.hall o ≡ true → e.fair.free ≡ 0 → AreKeptAdmissions s.es s.fs s.ps (i + 1) × PartRests registered old i (tries plain old.hall i o k) answers.Lacking (part_of s.es s.fs s.ps (i + 1))
     lacks_one true k named nothing = lacks_as (FsTry o k) k true nothing (known s o named) refl
     lacks_one false k named nothing = lacks_as (FsTryo o k) k false nothing (known s o named) refl
 
@@ -170,10 +170,10 @@ module _ {old : Part ShareHall} {i : ℕ} (s : Site old i) where
     permit_undone p = put_gone s.ps i p ∙ gone_none s.ps i (halls.no_second of_future of_permit AreKept size_of s.es s.fs s.ps s.next i s.kept.hall s.later s.fits)
 
     pub lacks : (plain : Bool) (k : ℕ) (e' : KeptAdmission) (p : SharePermit) → is_named old.hall o ≡ true → Takes e k false e'
-        → IsKept (insert s.es o e') s.fs (remove (insert s.ps i p) i) (i + 1) × PartRests registered old i (tries plain old.hall i o k) answers.Lacking (part_of (insert s.es o e') s.fs (remove (insert s.ps i p) i) (i + 1))
+        → AreKeptAdmissions (insert s.es o e') s.fs (remove (insert s.ps i p) i) (i + 1) × PartRests registered old i (tries plain old.hall i o k) answers.Lacking (part_of (insert s.es o e') s.fs (remove (insert s.ps i p) i) (i + 1))
     lacks plain k e' p named takes = let none = takes.none refl in rw (same_put e' none.1, permit_undone p) (lacks_one plain k named none.0)
 
-    pub not_tried : (e' : KeptAdmission) (p : SharePermit) → e' ≡ e → IsKept (insert s.es o e') s.fs (remove (insert s.ps i p) i) s.next × (◌≡◌ {A = Part ShareHall} (part_of (insert s.es o e') s.fs (remove (insert s.ps i p) i) s.next) old)
+    pub not_tried : (e' : KeptAdmission) (p : SharePermit) → e' ≡ e → AreKeptAdmissions (insert s.es o e') s.fs (remove (insert s.ps i p) i) s.next × (◌≡◌ {A = Part ShareHall} (part_of (insert s.es o e') s.fs (remove (insert s.ps i p) i) s.next) old)
     not_tried e' p is = rw (same_put e' is, permit_undone p) (s.kept, s.view)
 
     -- ---- the end of its name
@@ -625,9 +625,6 @@ module _ {old : Part ShareHall} {i : ℕ} (s : Site old i) where
       pub pended : (e' : KeptAdmission) (y : KeptFuture) (w : ℕ) (before after : Waking ℕ) → PollsEntry e x w Pending e' y before after → DidWake s (FsPoll f w) answers.Pending (insert s.es o e') (insert s.fs f y) (remove (insert s.ps i permit) i) before after
       pended e' y w before after did = by_stage x.stage refl did.polls
         where
-          After_poll : Type 0
-          After_poll = DidWake s (FsPoll f w) answers.Pending (insert s.es o e') (insert s.fs f y) (remove (insert s.ps i permit) i) before after
-
           by_stage : (t : ShareStage) → x.stage ≡ t → Polls nat_eq e.fair x.key t w Pending e'.fair y.stage → DidWake s (FsPoll f w) answers.Pending (insert s.es o e') (insert s.fs f y) (remove (insert s.ps i permit) i) before after
           by_stage New stage polls = elim (cases_lt 0 e.fair.free) as (λ _. DidWake s (FsPoll f w) answers.Pending (insert s.es o e') (insert s.fs f y) (remove (insert s.ps i permit) i) before after) [
             | inl some ↦ no_pending tt (polls.0 some).0
@@ -690,7 +687,7 @@ module _ {old : Part ShareHall} {i : ℕ} (s : Site old i) where
           by_stage Done stage polls = absurd (not_done stage)
 
       -- nothing that is seen has changed
-      pub failed : (e' : KeptAdmission) (y : KeptFuture) → e' ≡ record e { fair = e'.fair } → IsSame nat_eq e.fair e'.fair → y ≡ x → IsKept (insert s.es o e') (insert s.fs f y) (remove (insert s.ps i permit) i) s.next
+      pub failed : (e' : KeptAdmission) (y : KeptFuture) → e' ≡ record e { fair = e'.fair } → IsSame nat_eq e.fair e'.fair → y ≡ x → AreKeptAdmissions (insert s.es o e') (insert s.fs f y) (remove (insert s.ps i permit) i) s.next
           × (◌≡◌ {A = Part ShareHall} (part_of (insert s.es o e') (insert s.fs f y) (remove (insert s.ps i permit) i) s.next) old)
       failed e' y rest same alike =
           let futures : insert s.fs f y ≡ s.fs = insert_same s.fs f y (is ∙ ap (λ z. Some z) (sym alike)) in

@@ -4,7 +4,7 @@ use Rattle.std.specs.Cmp.{nat_cmp_total}
 use Rattle.std.specs.FinMap.{get, len, len-remove}
 use Rattle.std.proofs.lemmas.Bool.{cases_lt}
 use Rattle.mea_base.specs.Ready.{Waking}
-use Rattle.mea_named.proofs.Own.{len-gone, len-some}
+use Rattle.mea_by_name.proofs.Own.{len-gone, len-some}
 use Rattle.mea_share_core.specs.declared.share_acquire.ShareStage.{ShareStage}
 use Rattle.mea_share_core.specs.declared.share_acquire.ShareStage.TheVariants.{New, Queued, Done}
 use Rattle.mea_share_core.specs.Share.{Share, waiting_of, IsWaiting, IsAdmitted, given_up}

@@ -1,15 +1,15 @@
 -- what is looked up in admissions as they are seen
 use Rattle.std.proofs.Common.{◌≡◌, ℕ, ◌-◌, ◌≤◌, ◌⊎◌, inl, inr, true, cond, nat_lt, Option, Some, None, IsSome, option_map, is_some, refl, ap, sym, subst, ◌∙◌, arith}
 use Rattle.std.specs.FinMap.{get, insert, empty}
-use Rattle.mea_base.specs.declared.answer.Answer.TheVariants as answers
+use Rattle.mea_family.specs.declared.answer.Answer.TheVariants as answers
 use Rattle.mea_base.specs.Ready.{Waking}
 use Rattle.mea_base.proofs.Maps.{total-has, nothing_at, get-there, is_there}
 use Rattle.mea_base.proofs.NamedMaps.{get-seen, is_some-map}
-use Rattle.mea_named.specs.ByName.{Names, seen, own, count}
-use Rattle.mea_named.specs.Play.{Part}
-use Rattle.mea_named.proofs.Cases.{if_true, if_false}
-use Rattle.mea_named.proofs.Halls as halls
-use Rattle.mea_named.proofs.Own.{seen-at, seen-back, seen-empty, own-seen, total-seen, insert_same}
+use Rattle.mea_by_name.specs.ByName.{Names, seen, own, count}
+use Rattle.mea_family.specs.Play.{Part}
+use Rattle.mea_by_name.proofs.Cases.{if_true, if_false}
+use Rattle.mea_by_name.proofs.Halls as halls
+use Rattle.mea_by_name.proofs.Own.{seen-at, seen-back, seen-empty, own-seen, total-seen, insert_same}
 use Rattle.mea_share_core.specs.Groups.{waiting_in}
 use Rattle.mea_share_core.specs.Fair.{IsSettled}
 use Rattle.mea_share_model.specs.declared.event.ShareEvent.TheVariants.{FsDrop}
@@ -19,7 +19,7 @@ use Rattle.mea_share_model.specs.Admissions.{Admission, ShareFuture, SharePermit
 use Rattle.mea_share_model.specs.Meaning.{cause_of}
 use Rattle.mea_share_model.specs.Valid.{AreValid}
 use Rattle.mea_share_model.proofs.Keeping.{valid_start}
-use Rattle.mea_share.specs.Kept.{KeptAdmission, KeptFuture, shares_seen, admission_seen, future_seen, hall_seen, AreGood, of_future, of_permit, IsKept}
+use Rattle.mea_share.specs.Kept.{KeptAdmission, KeptFuture, shares_seen, admission_seen, future_seen, hall_seen, AreGood, of_future, of_permit, AreKeptAdmissions}
 use Rattle.mea_share.specs.Lends.{StandsFor, AreSettled}
 use Rattle.mea_share.proofs.Sites.{Site, low, part_of, registered_is, waiters}
 
@@ -39,18 +39,15 @@ module _ {old : Part ShareHall} {i : ℕ} (s : Site old i) where
       at (Some x) is = absurd (let there = seen-at future_seen s.fs f x is in let gone : get (seen future_seen s.fs) f ≡ None = ap (λ (p : Part ShareHall). get p.hall.futures f) s.view ∙ none in cc)
 
   -- what was looked at is as it was
-  pub same_future : (f : ℕ) (x : KeptFuture) → get s.fs f ≡ Some x → IsKept s.es (insert s.fs f x) s.ps s.next × (◌≡◌ {A = Part ShareHall} (part_of s.es (insert s.fs f x) s.ps s.next) old)
+  pub same_future : (f : ℕ) (x : KeptFuture) → get s.fs f ≡ Some x → AreKeptAdmissions s.es (insert s.fs f x) s.ps s.next × (◌≡◌ {A = Part ShareHall} (part_of s.es (insert s.fs f x) s.ps s.next) old)
   same_future f x is = rw (insert_same s.fs f x is) (s.kept, s.view)
 
   pub same_both : (o : ℕ) (e : KeptAdmission) (f : ℕ) (x : KeptFuture) → get s.es o ≡ Some e → get s.fs f ≡ Some x
-      → IsKept (insert s.es o e) (insert s.fs f x) s.ps s.next × (◌≡◌ {A = Part ShareHall} (part_of (insert s.es o e) (insert s.fs f x) s.ps s.next) old)
+      → AreKeptAdmissions (insert s.es o e) (insert s.fs f x) s.ps s.next × (◌≡◌ {A = Part ShareHall} (part_of (insert s.es o e) (insert s.fs f x) s.ps s.next) old)
   same_both o e f x there is = rw (insert_same s.es o e there, insert_same s.fs f x is) (s.kept, s.view)
 
   pub over_put : (o : ℕ) (e : KeptAdmission) → IsSome (get (insert s.es o e) o)
   over_put o e = is_there (get (insert s.es o e) o) e (get-there s.es o e)
-
-  pub permit_home : (q : ℕ) (p : SharePermit) → get s.ps q ≡ Some p → IsSome (get s.es p.admission)
-  permit_home q p is = (s.kept.hall.seconds.at q p is).1
 
   pub future_home : (f : ℕ) (x : KeptFuture) → get s.fs f ≡ Some x → IsSome (get s.es x.admission)
   future_home f x is = (s.kept.hall.firsts.at f x is).1
@@ -64,7 +61,7 @@ module _ {old : Part ShareHall} {i : ℕ} (s : Site old i) where
       let all = ap (λ (p : Part ShareHall). registered p.hall) s.view in
       omega (arith, room, all, registered_is s.es s.fs s.ps s.next s.kept.hall, total-has (λ o (d : KeptAdmission). waiters d) s.es o e there)
 
-  pub rests : IsKept s.es s.fs s.ps s.next
+  pub rests : AreKeptAdmissions s.es s.fs s.ps s.next
   rests = s.kept
 
 -- ---- what is looked up in admissions that are seen so
@@ -75,7 +72,7 @@ module _ {old : Part ShareHall} (es : Names KeptAdmission) (fs : Names KeptFutur
   pub future_of : (f : ℕ) → is_some (get fs f) ≡ is_future old.hall f
   future_of f = sym (is_some-map future_seen (get fs f)) ∙ ap is_some (sym (get-seen (λ k x. future_seen x) fs f)) ∙ ap (λ (p : Part ShareHall). is_future p.hall f) view
 
-  module _ (kept : IsKept es fs ps next) where
+  module _ (kept : AreKeptAdmissions es fs ps next) where
     pub plain_of_it : (o : ℕ) (e : KeptAdmission) → get es o ≡ Some e → plain_of old.hall o ≡ e.plain
     plain_of_it o e there =
         let futures = ap (count (λ (x : ShareFuture). x.plain)) (own-seen of_future (λ (x : ShareFuture). x.admission) future_seen (λ x. refl) o fs) ∙ total-seen future_seen (λ (x : ShareFuture). cond x.plain 1 0) (own of_future o fs) in
@@ -100,7 +97,7 @@ module _ {old : Part ShareHall} (es : Names KeptAdmission) (fs : Names KeptFutur
         at e r is (inr nobody) tallies = inr (sym (ap (λ (q : Admission). next_model.waiting_in q.shares) is) ∙ sym tallies ∙ nobody)
 
 -- ---- nothing is there
-pub new_kept : IsKept empty empty empty 0
+pub new_kept : AreKeptAdmissions empty empty empty 0
 new_kept = record {
   hall = record {
     each = λ o e is. absurd (nothing_at KeptAdmission o e is);

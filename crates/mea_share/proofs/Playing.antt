@@ -1,9 +1,9 @@
 -- an event that makes no waker ready, as one that may
 use Rattle.std.proofs.Common.{◌≡◌, ℕ, ◌+◌, ◌≤◌, ◌++◌, length, ap, sym, ◌∙◌, arith, append-nil}
-use Rattle.mea_base.specs.declared.answer.Answer.{Answer}
-use Rattle.mea_base.specs.Family.{Outcome}
+use Rattle.mea_family.specs.declared.answer.Answer.{Answer}
+use Rattle.mea_family.specs.Family.{Outcome}
 use Rattle.mea_base.specs.Ready.{Waking}
-use Rattle.mea_named.specs.Play.{Part, PartYields, PartRests, Yields}
+use Rattle.mea_family.specs.Play.{Part, PartYields, PartRests, Yields}
 use Rattle.mea_share_model.specs.declared.event.ShareEvent.{ShareEvent}
 use Rattle.mea_share_model.specs.Meaning.{step}
 use Rattle.mea_share_model.specs.Admissions.{Admission, ShareHall, empty_hall, registered}

@@ -6,10 +6,10 @@ use Rattle.std.specs.FinMap.{get, insert, remove, empty, get-empty, get-retain_k
 use Rattle.std.proofs.lemmas.Bool.{cases_lt}
 use Rattle.mea_base.proofs.NamedMaps.{kept-at, same_named}
 use Rattle.mea_base.proofs.Totals.{get_inserted, get_removed}
-use Rattle.mea_named.specs.ByName.{kept}
+use Rattle.mea_by_name.specs.ByName.{kept}
 use Rattle.mea_share_core.specs.Share.{Share, new_share, waiting_of, IsWaiting, admitting}
 use Rattle.mea_base.proofs.Maps.{is_there, value_in}
-use Rattle.mea_named.proofs.Own.{len-some}
+use Rattle.mea_by_name.proofs.Own.{len-some}
 use Rattle.mea_share_core.specs.Groups.{share_in, waiting_in, IsAlike, IsBefore, Sets, IsNextOf}
 use Rattle.mea_share_core.specs.Fair.{Fair, PassesOn, waiters_of}
 use Rattle.mea_share_model.specs.Next as model

@@ -4,21 +4,21 @@ use Rattle.std.specs.Ordering.{nat_cmp}
 use Rattle.std.specs.Cmp.{nat_cmp_total}
 use Rattle.std.specs.FinMap.{get, insert, remove, len, empty, len-empty, len-insert}
 use Rattle.std.proofs.lemmas.Bool.{cases_lt}
-use Rattle.mea_base.specs.declared.answer.Answer.{Answer}
-use Rattle.mea_base.specs.declared.answer.Answer.TheVariants as answers
-use Rattle.mea_base.specs.Family.{Outcome, quietly}
-use Rattle.mea_base.specs.Causes.{unknown_unless}
+use Rattle.mea_family.specs.declared.answer.Answer.{Answer}
+use Rattle.mea_family.specs.declared.answer.Answer.TheVariants as answers
+use Rattle.mea_family.specs.Family.{Outcome, quietly}
+use Rattle.mea_family.specs.Causes.{unknown_unless}
 use Rattle.mea_base.specs.Ready.{Waking}
 use Rattle.mea_base.specs.Totals.{total, weight}
 use Rattle.mea_base.proofs.Maps.{nothing_at, inside, value_in, by_put, removed_there}
 use Rattle.mea_base.proofs.Totals.{total-insert, total-same, total-empty}
 use Rattle.mea_base.proofs.NamedMaps.{get-seen, is_some-map}
-use Rattle.mea_named.specs.ByName.{Names, seen, count}
-use Rattle.mea_named.specs.HallKept.{HallKept}
-use Rattle.mea_named.specs.Play.{Part, PartYields, PartRests, found}
-use Rattle.mea_named.proofs.Cases.{found_is, if_false}
-use Rattle.mea_named.proofs.Halls as halls
-use Rattle.mea_named.proofs.Own.{seen-at, seen-back, seen-insert, total-seen, len-some, len-new, len-gone, count-new, count-gone}
+use Rattle.mea_by_name.specs.ByName.{Names, seen, count}
+use Rattle.mea_by_name.specs.HallKept.{HallKept}
+use Rattle.mea_family.specs.Play.{Part, PartYields, PartRests, found}
+use Rattle.mea_by_name.proofs.Cases.{found_is, if_false}
+use Rattle.mea_by_name.proofs.Halls as halls
+use Rattle.mea_by_name.proofs.Own.{seen-at, seen-back, seen-insert, total-seen, len-some, len-new, len-gone, count-new, count-gone}
 use Rattle.mea_share_core.specs.declared.share_acquire.ShareStage.TheVariants.{Done}
 use Rattle.mea_share_core.specs.Share.{Share, waiting_of, IsWaiting}
 use Rattle.mea_share_core.specs.Groups.{share_in, held_in, waiting_in}
@@ -33,7 +33,7 @@ use Rattle.mea_share_model.specs.Meaning.{cause_of, step}
 use Rattle.mea_share_model.specs.Valid.{AreValid}
 use Rattle.mea_share_model.proofs.Keeping.{AreLow, valid_after}
 use Rattle.mea_share_model.proofs.Changes.{len-least, by_key}
-use Rattle.mea_share.specs.Kept.{KeptAdmission, KeptFuture, shares_seen, admission_seen, future_seen, hall_seen, AreGood, AreKept, of_future, of_permit, size_of, IsKept}
+use Rattle.mea_share.specs.Kept.{KeptAdmission, KeptFuture, shares_seen, admission_seen, future_seen, hall_seen, AreGood, AreKept, of_future, of_permit, size_of, AreKeptAdmissions}
 use Rattle.mea_share.specs.Entries.{new_admission, begun, finished}
 use Rattle.mea_share.proofs.Seen.{share_seen, sets_seen, nothing_seen, tallies_sets}
 
@@ -61,11 +61,11 @@ pub record Site (old : Part ShareHall) (i : ℕ) : Type 0 where
   pub ps : Names SharePermit
   pub next : ℕ
   pub view : ◌≡◌ {A = Part ShareHall} (record { hall = hall_seen es fs ps; next = next }) old
-  pub kept : IsKept es fs ps next
+  pub kept : AreKeptAdmissions es fs ps next
   pub later : next ≤ i
   pub fits : i < 2 ^ 64
 
-abbrev pub site : {old : Part ShareHall} {i : ℕ} (es : Names KeptAdmission) (fs : Names KeptFuture) (ps : Names SharePermit) (next : ℕ) → ◌≡◌ {A = Part ShareHall} (record { hall = hall_seen es fs ps; next = next }) old → IsKept es fs ps next → old.next ≤ i → i < 2 ^ 64 → Site old i
+abbrev pub site : {old : Part ShareHall} {i : ℕ} (es : Names KeptAdmission) (fs : Names KeptFuture) (ps : Names SharePermit) (next : ℕ) → ◌≡◌ {A = Part ShareHall} (record { hall = hall_seen es fs ps; next = next }) old → AreKeptAdmissions es fs ps next → old.next ≤ i → i < 2 ^ 64 → Site old i
 site es fs ps next view kept later fits = record { es = es; fs = fs; ps = ps; next = next; view = view; kept = kept; later = rw (← view) at later; fits = fits }
 
 abbrev pub part_of : Names KeptAdmission → Names KeptFuture → Names SharePermit → ℕ → Part ShareHall
@@ -86,10 +86,10 @@ low es fs ps next kept = record {
 
 module _ {old : Part ShareHall} {i : ℕ} (s : Site old i) where
   abbrev pub Did : ShareEvent → Answer → Names KeptAdmission → Names KeptFuture → Names SharePermit → Type 0
-  Did e answer es fs ps = IsKept es fs ps (i + 1) × PartRests registered old i (step old.hall i e) answer (part_of es fs ps (i + 1))
+  Did e answer es fs ps = AreKeptAdmissions es fs ps (i + 1) × PartRests registered old i (step old.hall i e) answer (part_of es fs ps (i + 1))
 
   abbrev pub DidWake : ShareEvent → Answer → Names KeptAdmission → Names KeptFuture → Names SharePermit → Waking ℕ → Waking ℕ → Type 0
-  DidWake e answer es fs ps before after = IsKept es fs ps (i + 1) × PartYields registered old i (step old.hall i e) answer (part_of es fs ps (i + 1)) before after
+  DidWake e answer es fs ps before after = AreKeptAdmissions es fs ps (i + 1) × PartYields registered old i (step old.hall i e) answer (part_of es fs ps (i + 1)) before after
 
   pub seen_valid : (e : ShareEvent) (es : Names KeptAdmission) (fs : Names KeptFuture) (ps : Names SharePermit) → cause_of (hall_seen s.es s.fs s.ps) e ≡ None → hall_seen es fs ps ≡ (step (hall_seen s.es s.fs s.ps) i e).hall → AreValid (hall_seen es fs ps)
   seen_valid e es fs ps none is = subst AreValid (sym is) (valid_after (hall_seen s.es s.fs s.ps) s.next i (low s.es s.fs s.ps s.next s.kept.hall) s.later s.kept.valid e none)

@@ -2,8 +2,8 @@
 use Rattle.std.specs.Prelude.{ℕ, ◌≡◌, ◌+◌, ◌≢◌, ◌≤◌, Bool, not, List, [], Option, Some, None, nat_eq, refl}
 use Rattle.std.specs.Coded.{Coded, code_by, coded×, coded_ℕ, coded_bool}
 use Rattle.std.specs.FinMap.{get, len, retain_keys}
-use Rattle.mea_named.specs.ByName.{Names, kept, seen, count}
-use Rattle.mea_named.specs.HallKept.{HallKept}
+use Rattle.mea_by_name.specs.ByName.{Names, kept, seen, count}
+use Rattle.mea_by_name.specs.HallKept.{HallKept}
 use Rattle.mea_share_core.specs.declared.share_acquire.ShareStage.{ShareStage}
 use Rattle.mea_share_core.specs.declared.share_acquire.ShareStage.TheVariants.{New, Queued, Done}
 use Rattle.mea_share_core.specs.Share.{Share}
@@ -79,6 +79,6 @@ of_permit p = p.admission
 abbrev pub size_of : KeptAdmission → ℕ
 size_of e = e.things + e.fair.next
 
-pub record IsKept (es : Names KeptAdmission) (fs : Names KeptFuture) (ps : Names SharePermit) (next : ℕ) : Type 0 where
+pub record AreKeptAdmissions (es : Names KeptAdmission) (fs : Names KeptFuture) (ps : Names SharePermit) (next : ℕ) : Type 0 where
   pub hall : HallKept of_future of_permit AreKept size_of es fs ps next
   pub valid : AreValid (hall_seen es fs ps)

@@ -1,7 +1,7 @@
 -- the core that a hall lends, what it tells of all admissions, and the events of plain and owned things as one
 use Rattle.std.specs.Prelude.{ℕ, ◌≡◌, ◌⊎◌, Bool, true, false, Some}
 use Rattle.std.specs.FinMap.{get}
-use Rattle.mea_base.specs.Family.{Outcome}
+use Rattle.mea_family.specs.Family.{Outcome}
 use Rattle.mea_share_core.specs.Fair.{Fair}
 use Rattle.mea_share_model.specs.declared.event.ShareEvent.TheVariants.{FsTry, FsTryo, FsAcq, FsAcqo}
 use Rattle.mea_share_model.specs.Next.{waiting_in}

@@ -4,6 +4,7 @@ ghost use Rattle.mea_share_core.specs.Fair.{Fair, IsSettled, Belongs, share_of, 
 
 use crate::future_entry::FutureEntry;
 use mea_base::{NoMemory, Poll, Ready};
+use mea_family::one_if;
 use mea_share_core::{FairCore, SharedKey};
 use std::alloc::Global;
 use std::hash::{BuildHasherDefault, FoldHasher};
@@ -30,13 +31,6 @@ impl Model for AdmissionEntry {
     ghost coded = { kept_admission_code };
 
     ghost view = { λ e. record { fair = e.core; named = e.named; things = e.things; plain = e.plain } };
-}
-
-// 1 for a plain thing.
-fn one_if(plain: bool) -> u128
-    ensures { result ≡ cond plain 1 0 }
-{
-    if plain { 1 } else { 0 }
 }
 
 impl AdmissionEntry {

@@ -1,5 +1,5 @@
 ghost use Rattle.std.specs.Prelude.{◌≡◌, ◌≢◌, ◌≤◌, ◌∷◌, [], ◌⊎◌, length, is_some, OnOk, OnErr, IfOk, IfErr, IfSome, IfNone, None, Some};
-ghost use Rattle.mea_named.specs.Play.{Play, Yields};
+ghost use Rattle.mea_family.specs.Play.{Play, Yields};
 ghost use Rattle.mea_share_model.specs.Admissions.{empty_hall, is_named, registered};
 ghost use Rattle.mea_share_model.specs.Meaning.{step, cause_of};
 ghost use Rattle.mea_share_model.specs.Valid.{AreValid};
@@ -8,7 +8,8 @@ ghost use Rattle.mea_share.specs.Halls.{TakesNoMemory};
 
 use crate::admission_entry::Core;
 use crate::part::SharePart;
-use mea_base::{Answer, Ready, Stop};
+use mea_base::Ready;
+use mea_family::{Answer, Stop};
 use mea_share_model::{ShareEvent, wakes_are_of_the_registered};
 use std::alloc::Global;
 use std::marker::Model;
@@ -26,7 +27,7 @@ pub struct ShareHall {
 
 impl Model for ShareHall {
     ghost use Rattle.std.specs.Prelude.{◌≡◌, ◌≤◌};
-    ghost use Rattle.mea_named.specs.Play.{Play, play_code};
+    ghost use Rattle.mea_family.specs.Play.{Play, play_code};
     ghost use Rattle.mea_share_model.specs.Admissions as model;
 
     ghost Value = { Play model.ShareHall };

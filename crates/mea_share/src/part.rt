@@ -1,8 +1,8 @@
 ghost use Rattle.std.specs.Prelude.{◌≡◌, ◌≤◌, ◌<◌, ◌==◌, OnErr, IfOk, IfSome, is_some, None, Some, true, false, nat_lt, if◌then◌else◌};
 ghost use Rattle.std.specs.FinMap as map;
-ghost use Rattle.mea_base.specs.declared.stop.Stop.TheVariants.{Borrowed, Zero};
-ghost use Rattle.mea_base.specs.Causes.{unknown_unless};
-ghost use Rattle.mea_named.specs.Play.{PartYields, PartRests};
+ghost use Rattle.mea_family.specs.declared.stop.Stop.TheVariants.{Borrowed, Zero};
+ghost use Rattle.mea_family.specs.Forms.{is_plain};
+ghost use Rattle.mea_family.specs.Play.{PartYields, PartRests};
 ghost use Rattle.mea_share_model.specs.declared.event.ShareEvent.TheVariants.{FsNew, FsFree, FsWaiters, FsTry, FsTryo, FsAcq, FsAcqo, FsPoll, FsKey, FsEnd, FsDrop, FsWeight, FsWeightof};
 ghost use Rattle.mea_share_model.specs.Admissions.{empty_hall, is_named, is_future, is_permit, plain_of, registered, begin, try};
 ghost use Rattle.mea_share_model.specs.Meaning.{step, cause_of, refused_if};
@@ -13,8 +13,9 @@ ghost use Rattle.mea_share.specs.Lends.{StandsFor, AreSettled, begins, tries};
 use crate::admission_entry::{AdmissionEntry, Core};
 use crate::future_entry::FutureEntry;
 use crate::permit_entry::PermitEntry;
-use mea_base::{Answer, NoMemory, Poll, Ready, Stop};
-use mea_named::ByName;
+use mea_base::{NoMemory, Poll, Ready};
+use mea_by_name::ByName;
+use mea_family::{Answer, Form, Stop, unknown_unless, zero_if};
 use mea_share_core::SharedKey;
 use mea_share_model::ShareEvent;
 use std::alloc::Global;
@@ -34,18 +35,18 @@ pub struct SharePart {
 }
 
 impl Model for SharePart {
-    ghost use Rattle.mea_named.specs.Play.{Part, part_code};
+    ghost use Rattle.mea_family.specs.Play.{Part, part_code};
     ghost use Rattle.mea_share_model.specs.Admissions.{ShareHall, hall_code};
 
     ghost Value = { Part ShareHall };
 
     ghost coded = { part_code hall_code };
 
-    ghost use Rattle.mea_share.specs.Kept.{hall_seen, IsKept};
+    ghost use Rattle.mea_share.specs.Kept.{hall_seen, AreKeptAdmissions};
 
     ghost view = { λ a. record { hall = hall_seen a.admissions a.futures a.permits; next = a.next } };
 
-    ghost invariant = { λ a. IsKept a.admissions a.futures a.permits a.next };
+    ghost invariant = { λ a. AreKeptAdmissions a.admissions a.futures a.permits a.next };
 }
 
 impl SharePart {
@@ -221,12 +222,13 @@ impl SharePart {
     }
 
     /// Makes a future of a permit for a key. On an error nothing has changed.
-    pub fn begin(&mut self, number: u64, o: u64, k: u64, plain: bool) -> Result<Answer, NoMemory>
+    pub fn begin(&mut self, number: u64, o: u64, k: u64, form: Form) -> Result<Answer, NoMemory>
         requires next { self.old.next ≤ number }
         requires named { is_named self.old.hall o ≡ true }
-        ensures ok { IfOk result (λ answer. PartRests registered self.old number (begins plain self.old.hall number o k) answer self.new) }
+        ensures ok { IfOk result (λ answer. PartRests registered self.old number (begins (is_plain form) self.old.hall number o k) answer self.new) }
         ensures err { OnErr result (self.new ≡ self.old) }
     {
+        let plain = form.is_plain();
         let Ok(key) = SharedKey::new(self.alloc, k) else {
             return Err(NoMemory);
         };
@@ -246,13 +248,14 @@ impl SharePart {
         number: u64,
         o: u64,
         k: u64,
-        plain: bool,
+        form: Form,
     ) -> Result<Answer, NoMemory>
         requires next { self.old.next ≤ number }
         requires named { is_named self.old.hall o ≡ true }
-        ensures ok { IfOk result (λ answer. PartRests registered self.old number (tries plain self.old.hall number o k) answer self.new) }
+        ensures ok { IfOk result (λ answer. PartRests registered self.old number (tries (is_plain form) self.old.hall number o k) answer self.new) }
         ensures err { OnErr result (self.new ≡ self.old) }
     {
+        let plain = form.is_plain();
         let Ok(key) = SharedKey::new(self.alloc, k) else {
             return Err(NoMemory);
         };
@@ -438,10 +441,10 @@ impl SharePart {
             ShareEvent::FsNew(n) => self.make(number, n),
             ShareEvent::FsFree(s) => Ok(self.free(number, s)),
             ShareEvent::FsWaiters(s) => Ok(self.waiters(number, s)),
-            ShareEvent::FsTry(s, k) => self.try_acquire(number, s, k, true),
-            ShareEvent::FsTryo(s, k) => self.try_acquire(number, s, k, false),
-            ShareEvent::FsAcq(s, k) => self.begin(number, s, k, true),
-            ShareEvent::FsAcqo(s, k) => self.begin(number, s, k, false),
+            ShareEvent::FsTry(s, k) => self.try_acquire(number, s, k, Form::Plain),
+            ShareEvent::FsTryo(s, k) => self.try_acquire(number, s, k, Form::Owned),
+            ShareEvent::FsAcq(s, k) => self.begin(number, s, k, Form::Plain),
+            ShareEvent::FsAcqo(s, k) => self.begin(number, s, k, Form::Owned),
             ShareEvent::FsPoll(f, waker) => self.poll(number, f, waker, ready),
             ShareEvent::FsKey(p) => Ok(self.key(number, p)),
             ShareEvent::FsEnd(x) => Ok(self.end(number, x, ready)),
@@ -450,17 +453,4 @@ impl SharePart {
             ShareEvent::FsWeightof(s, k) => self.weight(number, s, k),
         }
     }
-}
-
-// Unknown, unless this holds.
-fn unknown_unless(known: bool) -> Option<Stop>
-    ensures { result ≡ unknown_unless known }
-{
-    if known { None } else { Some(Stop::Unknown) }
-}
-
-fn zero_if(zero: bool) -> Option<Stop>
-    ensures { result ≡ (if zero then Some Stop.Zero else None) }
-{
-    if zero { Some(Stop::Zero) } else { None }
 }

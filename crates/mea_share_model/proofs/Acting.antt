@@ -2,14 +2,14 @@
 use Rattle.std.proofs.Common.{◌≡◌, ℕ, ◌+◌, ◌-◌, ◌<◌, ◌≤◌, ◌==◌, ◌&&◌, inl, Bool, true, false, cond, length, List, [], Option, Some, None, IsSome, is_some, if◌then◌else◌, refl, ap, sym, subst, ◌∙◌, arith}
 use Rattle.std.specs.FinMap.{get, insert, remove, len}
 use Rattle.std.proofs.lemmas.Bool.{eqb-true, eq-eqb, ne_eqb}
-use Rattle.mea_base.specs.declared.answer.Answer.TheVariants as answers
-use Rattle.mea_base.specs.Causes.{unknown_unless}
-use Rattle.mea_base.specs.Family.{Outcome, quietly}
+use Rattle.mea_family.specs.declared.answer.Answer.TheVariants as answers
+use Rattle.mea_family.specs.Causes.{unknown_unless}
+use Rattle.mea_family.specs.Family.{Outcome, quietly}
 use Rattle.mea_base.proofs.Maps.{get-there, get-gone, is_there}
-use Rattle.mea_named.specs.ByName.{Names, own, count}
-use Rattle.mea_named.specs.Play.{found}
-use Rattle.mea_named.proofs.Cases.{by_found, by_if}
-use Rattle.mea_named.proofs.Own.{own-nothing, count-new, count-gone}
+use Rattle.mea_by_name.specs.ByName.{Names, own, count}
+use Rattle.mea_family.specs.Play.{found}
+use Rattle.mea_by_name.proofs.Cases.{by_found, by_if}
+use Rattle.mea_by_name.proofs.Own.{own-nothing, count-new, count-gone}
 use Rattle.mea_share_core.specs.Share.{taken, queued, left, readied, given_up, released, weighing}
 use Rattle.mea_share_model.specs.declared.event.ShareEvent.{ShareEvent}
 use Rattle.mea_share_model.specs.declared.event.ShareEvent.TheVariants.{FsNew, FsFree, FsWaiters, FsTry, FsTryo, FsAcq, FsAcqo, FsPoll, FsKey, FsEnd, FsDrop, FsWeight, FsWeightof}

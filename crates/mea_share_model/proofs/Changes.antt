@@ -8,7 +8,7 @@ use Rattle.std.proofs.lemmas.List.Elements.{Contains-push}
 use Rattle.mea_base.specs.Totals.{weight}
 use Rattle.mea_base.proofs.Maps.{by_put, by_gone, get-there, get-other, get-removed_other, is_there, inside}
 use Rattle.mea_base.proofs.Tests.{by_name}
-use Rattle.mea_named.proofs.Own.{len-gone, len-some}
+use Rattle.mea_by_name.proofs.Own.{len-gone, len-some}
 use Rattle.mea_share_core.specs.Share.{Share, waiting_of, IsWaiting, IsAdmitted, taken, queued, left, admitting, readied, given_up, released, weighing}
 use Rattle.mea_share_model.specs.Next.{Shares, Waiter, share_at, put_share, waiting_in, next_of}
 use Rattle.mea_share_model.specs.Admissions.{Admission, passed, woken}

@@ -2,15 +2,15 @@
 use Rattle.std.proofs.Common.{◌≡◌, ℕ, ◌+◌, ◌-◌, ◌≤◌, ◌==◌, Bool, true, false, cond, length, List, [], Option, Some, None, is_some, refl, ap, ◌∙◌, arith}
 use Rattle.std.specs.Cmp.{nat_cmp_total}
 use Rattle.std.specs.FinMap.{get, insert, remove, len, len-insert, len-remove}
-use Rattle.mea_base.specs.declared.answer.Answer.TheVariants as answers
+use Rattle.mea_family.specs.declared.answer.Answer.TheVariants as answers
 use Rattle.mea_base.specs.Totals.{total, weight}
-use Rattle.mea_base.specs.Family.{Outcome, quietly}
+use Rattle.mea_family.specs.Family.{Outcome, quietly}
 use Rattle.mea_base.proofs.Totals.{total-insert, total-remove, total-empty}
 use Rattle.mea_base.proofs.Maps.{total-has}
-use Rattle.mea_named.specs.ByName.{Names}
-use Rattle.mea_named.specs.Play.{found}
-use Rattle.mea_named.proofs.Cases.{by_found, by_if}
-use Rattle.mea_named.proofs.Own.{len-gone, len-some}
+use Rattle.mea_by_name.specs.ByName.{Names}
+use Rattle.mea_family.specs.Play.{found}
+use Rattle.mea_by_name.proofs.Cases.{by_found, by_if}
+use Rattle.mea_by_name.proofs.Own.{len-gone, len-some}
 use Rattle.mea_share_core.specs.Share.{Share, waiting_of, taken, queued, left, admitting, readied, given_up, released, weighing}
 use Rattle.mea_share_model.specs.declared.event.ShareEvent.{ShareEvent}
 use Rattle.mea_share_model.specs.declared.event.ShareEvent.TheVariants.{FsNew, FsFree, FsWaiters, FsTry, FsTryo, FsAcq, FsAcqo, FsPoll, FsKey, FsEnd, FsDrop, FsWeight, FsWeightof}

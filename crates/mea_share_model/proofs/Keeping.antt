@@ -2,12 +2,12 @@
 use Rattle.std.proofs.Common.{◌≡◌, ℕ, ◌+◌, ◌<◌, ◌≤◌, ◌==◌, ◌&&◌, ◌⊎◌, inl, inr, cond, List, Option, Some, None, refl, ap, sym, subst, ◌∙◌, arith}
 use Rattle.std.specs.FinMap.{get, insert, remove, empty}
 use Rattle.std.proofs.lemmas.Bool.{ne_eqb}
-use Rattle.mea_base.specs.Family.{Runs, RunOf, Starts, Goes}
+use Rattle.mea_family.specs.Family.{IsRun, RunOf, Starts, Goes}
 use Rattle.mea_base.proofs.Maps.{by_put, by_gone, get-there, get-other, get-removed_other, value_in, inside, removed_there, nothing_at, nothing_there, at-empty}
 use Rattle.mea_base.proofs.Tests.{by_name}
 use Rattle.mea_base.proofs.Totals.{total-zero}
-use Rattle.mea_named.specs.ByName.{Names, count}
-use Rattle.mea_named.proofs.OneObject.{IsBelow, below_put, below_gone, below_later}
+use Rattle.mea_by_name.specs.ByName.{Names, count}
+use Rattle.mea_by_name.proofs.OneObject.{IsBelow, below_put, below_gone, below_later}
 use Rattle.mea_share_core.specs.Share.{Share, new_share}
 use Rattle.mea_share_model.specs.declared.event.ShareEvent.{ShareEvent}
 use Rattle.mea_share_model.specs.Next.{share_at}
@@ -218,7 +218,7 @@ valid_start = record {
   living = λ o k r is. absurd (nothing_at Admission o r is);
 }
 
-pub reached : (r : RunOf shares_family) → Runs shares_family r → AreLow r.hall r.next × AreValid r.hall
+pub reached : (r : RunOf shares_family) → IsRun shares_family r → AreLow r.hall r.next × AreValid r.hall
 reached _ Starts = (low_start, valid_start)
 reached _ (Goes r i e runs later none) =
     let before = reached r runs in

@@ -4,7 +4,7 @@ use Rattle.std.specs.Ordering.{nat_cmp}
 use Rattle.std.specs.FinMap.{get, len, empty, get-empty, len-empty}
 use Rattle.mea_base.proofs.NamedMaps.{same_named}
 use Rattle.mea_base.proofs.Totals.{total-zero}
-use Rattle.mea_named.specs.ByName.{Names}
+use Rattle.mea_by_name.specs.ByName.{Names}
 use Rattle.mea_share_core.specs.Share.{Share, new_share, held_of, waiting_of}
 use Rattle.mea_share_core.specs.declared.rank.Rank.{Rank}
 use Rattle.mea_share_core.specs.Rank.{NotBefore}

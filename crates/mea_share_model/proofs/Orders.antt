@@ -1,10 +1,10 @@
 -- who is admitted is next
 use Rattle.std.proofs.Common.{◌≡◌, ℕ, ◌==◌, inl, inr, Bool, [], Option, Some, None, is_some, refl, ap, ◌∙◌}
 use Rattle.std.specs.FinMap.{get, remove}
-use Rattle.mea_base.specs.declared.answer.Answer.TheVariants as answers
-use Rattle.mea_base.specs.Family.{Outcome}
-use Rattle.mea_named.specs.Play.{found}
-use Rattle.mea_named.proofs.Cases.{by_found, by_if}
+use Rattle.mea_family.specs.declared.answer.Answer.TheVariants as answers
+use Rattle.mea_family.specs.Family.{Outcome}
+use Rattle.mea_family.specs.Play.{found}
+use Rattle.mea_by_name.proofs.Cases.{by_found, by_if}
 use Rattle.mea_share_core.specs.Share.{Share, released, given_up}
 use Rattle.mea_share_model.specs.declared.event.ShareEvent.{ShareEvent}
 use Rattle.mea_share_model.specs.declared.event.ShareEvent.TheVariants.{FsNew, FsFree, FsWaiters, FsTry, FsTryo, FsAcq, FsAcqo, FsPoll, FsKey, FsEnd, FsDrop, FsWeight, FsWeightof}

@@ -3,14 +3,14 @@ use Rattle.std.proofs.Common.{◌≡◌, ℕ, ◌+◌, ◌-◌, ◌<◌, ◌≤�
 use Rattle.std.specs.Cmp.{nat_cmp_total}
 use Rattle.std.specs.FinMap.{get, insert, remove, len, len-insert, len-remove}
 use Rattle.std.proofs.lemmas.Bool.{eqb-true, eqb-false, cases_lt}
-use Rattle.mea_base.specs.declared.answer.Answer.TheVariants as answers
-use Rattle.mea_base.specs.declared.stop.Stop.TheVariants as stops
-use Rattle.mea_base.specs.Family.{Outcome, Runs, RunOf, Starts, Goes}
+use Rattle.mea_family.specs.declared.answer.Answer.TheVariants as answers
+use Rattle.mea_family.specs.declared.stop.Stop.TheVariants as stops
+use Rattle.mea_family.specs.Family.{Outcome, IsRun, RunOf, Starts, Goes}
 use Rattle.mea_base.proofs.Maps.{by_put, removed_there, nothing_at, inside, at-empty}
 use Rattle.mea_base.proofs.Totals.{total-empty}
-use Rattle.mea_named.specs.ByName.{Names}
-use Rattle.mea_named.specs.Play.{found}
-use Rattle.mea_named.proofs.Cases.{by_found, by_if}
+use Rattle.mea_by_name.specs.ByName.{Names}
+use Rattle.mea_family.specs.Play.{found}
+use Rattle.mea_by_name.proofs.Cases.{by_found, by_if}
 use Rattle.mea_share_core.specs.Share.{Share, new_share, waiting_of, taken, queued, left, admitting, readied, given_up, released, weighing}
 use Rattle.mea_share_model.specs.declared.event.ShareEvent.{ShareEvent}
 use Rattle.mea_share_model.specs.declared.event.ShareEvent.TheVariants.{FsNew, FsFree, FsWaiters, FsTry, FsTryo, FsAcq, FsAcqo, FsPoll, FsKey, FsEnd, FsDrop, FsWeight, FsWeightof}
@@ -161,9 +161,9 @@ module _ (h : ShareHall) (i : ℕ) (all : AreWell h.admissions) where
   well_after (FsWeightof s k) none = looks s _ (λ r is. all)
 
 -- ---- runs
-pub well_reached : (run : RunOf shares_family) → Runs shares_family run → AreWell run.hall.admissions
+pub well_reached : (run : RunOf shares_family) → IsRun shares_family run → AreWell run.hall.admissions
 well_reached _ Starts = λ o r is. absurd (nothing_at Admission o r is)
 well_reached _ (Goes r i e runs later none) = well_after r.hall i (well_reached r runs) e none
 
-pub settled_reached : (run : RunOf shares_family) → Runs shares_family run → AreSettled run.hall
+pub settled_reached : (run : RunOf shares_family) → IsRun shares_family run → AreSettled run.hall
 settled_reached run runs o r is = (well_reached run runs o r is).settled

@@ -3,15 +3,15 @@ use Rattle.std.proofs.Common.{◌≡◌, ℕ, ◌+◌, ◌≤◌, ◌==◌, ◌�
 use Rattle.std.specs.List.{Contains}
 use Rattle.std.specs.FinMap.{get}
 use Rattle.std.proofs.lemmas.Bool.{eqb-true, eq-eqb}
-use Rattle.mea_base.specs.declared.answer.Answer.TheVariants as answers
-use Rattle.mea_base.specs.Causes.{unknown_unless}
-use Rattle.mea_base.specs.Family.{Outcome, Runs, RunOf, KeepsWakers, LosesNoWake, NamesFutures}
+use Rattle.mea_family.specs.declared.answer.Answer.TheVariants as answers
+use Rattle.mea_family.specs.Causes.{unknown_unless}
+use Rattle.mea_family.specs.Family.{Outcome, IsRun, RunOf, KeepsWakers, LosesNoWake, NamesFutures}
 use Rattle.mea_base.proofs.Maps.{by_put, by_gone, get-there, get-other, get-removed_other, is_there, value_in, inside}
 use Rattle.mea_base.proofs.Tests.{by_name}
-use Rattle.mea_base.proofs.Wakes.{loses_no_wake}
-use Rattle.mea_named.specs.ByName.{Names}
-use Rattle.mea_named.specs.Play.{found}
-use Rattle.mea_named.proofs.Cases.{by_found, by_if, if_true}
+use Rattle.mea_family.proofs.Wakes.{loses_no_wake}
+use Rattle.mea_by_name.specs.ByName.{Names}
+use Rattle.mea_family.specs.Play.{found}
+use Rattle.mea_by_name.proofs.Cases.{by_found, by_if, if_true}
 use Rattle.mea_share_core.specs.Share.{Share, queued}
 use Rattle.mea_share_model.specs.declared.event.ShareEvent.{ShareEvent}
 use Rattle.mea_share_model.specs.declared.event.ShareEvent.TheVariants.{FsNew, FsFree, FsWaiters, FsTry, FsTryo, FsAcq, FsAcqo, FsPoll, FsKey, FsEnd, FsDrop, FsWeight, FsWeightof}
@@ -182,5 +182,5 @@ names = record {
   made = λ r i e runs later cause f lives. let at = reached r runs in made r.hall r.next i at.0 later at.1 e cause f lives;
 }
 
-pub no_wake_is_lost : (r : RunOf shares_family) → Runs shares_family r → LosesNoWake shares_family r
+pub no_wake_is_lost : (r : RunOf shares_family) → IsRun shares_family r → LosesNoWake shares_family r
 no_wake_is_lost r runs = loses_no_wake shares_family keeps names r runs

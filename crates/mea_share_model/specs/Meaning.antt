@@ -1,12 +1,12 @@
 -- what each line does, and why it is refused
 use Rattle.std.specs.Prelude.{ℕ, ◌==◌, Bool, true, false, Option, Some, None, nat_lt, if◌then◌else◌}
 use Rattle.std.specs.FinMap.{get}
-use Rattle.mea_base.specs.declared.answer.Answer.TheVariants as answers
-use Rattle.mea_base.specs.declared.stop.Stop.{Stop}
-use Rattle.mea_base.specs.declared.stop.Stop.TheVariants as stops
-use Rattle.mea_base.specs.Causes.{unknown_unless}
-use Rattle.mea_base.specs.Family.{Outcome, quietly}
-use Rattle.mea_named.specs.Play.{found}
+use Rattle.mea_family.specs.declared.answer.Answer.TheVariants as answers
+use Rattle.mea_family.specs.declared.stop.Stop.{Stop}
+use Rattle.mea_family.specs.declared.stop.Stop.TheVariants as stops
+use Rattle.mea_family.specs.Causes.{unknown_unless}
+use Rattle.mea_family.specs.Family.{Outcome, quietly}
+use Rattle.mea_family.specs.Play.{found}
 use Rattle.mea_share_model.specs.declared.event.ShareEvent.{ShareEvent}
 use Rattle.mea_share_model.specs.declared.event.ShareEvent.TheVariants.{FsNew, FsFree, FsWaiters, FsTry, FsTryo, FsAcq, FsAcqo, FsPoll, FsKey, FsEnd, FsDrop, FsWeight, FsWeightof}
 use Rattle.mea_share_model.specs.Next.{share_at, waiting_in}

@@ -2,7 +2,7 @@
 use Rattle.std.specs.Prelude.{ℕ, ◌+◌, ◌*◌, ◌==◌, ◌&&◌, ◌||◌, Bool, true, false, List, [], ◌∷◌, ◌++◌, Option, Some, None, unwrap_or, nat_lt, if◌then◌else◌}
 use Rattle.std.specs.FinMap.{entries, get, insert, remove}
 use Rattle.mea_base.specs.Totals.{total}
-use Rattle.mea_named.specs.ByName.{Names}
+use Rattle.mea_by_name.specs.ByName.{Names}
 use Rattle.mea_share_core.specs.Share.{Share, new_share, held_of, waiting_of, IsWaiting}
 use Rattle.mea_share_core.specs.Groups.{IsBefore}
 

@@ -1,7 +1,7 @@
 -- the order in which those that wait are admitted
 use Rattle.std.specs.Prelude.{ℕ, ◌≡◌, ◌⊎◌, [], ◌∷◌, Some}
 use Rattle.std.specs.FinMap.{get}
-use Rattle.mea_base.specs.Family.{Outcome}
+use Rattle.mea_family.specs.Family.{Outcome}
 use Rattle.mea_share_core.specs.Share.{Share, admitting}
 use Rattle.mea_share_model.specs.Next.{share_at, IsNextIn}
 use Rattle.mea_share_model.specs.Admissions.{Admission, ShareHall, with_share, tidied}

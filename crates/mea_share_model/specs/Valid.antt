@@ -1,7 +1,7 @@
 -- what holds of every hall that events reach
 use Rattle.std.specs.Prelude.{ℕ, ◌≡◌, ◌<◌, ◌⊎◌, ◌==◌, ◌&&◌, Bool, Option, Some, None}
 use Rattle.std.specs.FinMap.{get}
-use Rattle.mea_named.specs.ByName.{count}
+use Rattle.mea_by_name.specs.ByName.{count}
 use Rattle.mea_share_core.specs.Share.{Share, IsWaiting, IsAdmitted}
 use Rattle.mea_share_model.specs.Next.{share_at}
 use Rattle.mea_share_model.specs.Admissions.{Admission, ShareFuture, SharePermit, ShareHall}

@@ -1,5 +1,5 @@
 ghost use Rattle.std.specs.Prelude.{◌≡◌, ℕ, ◌+◌, ◌≤◌, false, length};
-ghost use Rattle.mea_base.specs.Family.{Runs, RunOf, KeepsWakers, LosesNoWake};
+ghost use Rattle.mea_family.specs.Family.{IsRun, RunOf, KeepsWakers, LosesNoWake};
 ghost use Rattle.mea_share_model.specs.declared.event.ShareEvent.{ShareEvent};
 ghost use Rattle.mea_share_model.specs.Admissions.{ShareHall, registered};
 ghost use Rattle.mea_share_model.specs.Meaning.{step, registers};
@@ -18,7 +18,7 @@ pub fn wakers_are_kept()
 /// A living future whose last poll replied `pending`, and whose next poll would reply something else, has
 /// had the waker of that last poll woken since.
 pub fn no_wake_is_lost()
-    ensures { (run : RunOf shares_family) → Runs shares_family run → LosesNoWake shares_family run }
+    ensures { (run : RunOf shares_family) → IsRun shares_family run → LosesNoWake shares_family run }
 {}
 
 /// An event wakes none but registered wakers, registers at most one, and none but a poll registers any.
@@ -31,7 +31,7 @@ pub fn wakes_are_of_the_registered()
 /// In every run a future that was polled has its number at its key, alone, and as many permits of a key live as there
 /// are.
 pub fn halls_are_valid()
-    ensures { (run : RunOf shares_family) → Runs shares_family run → AreValid run.hall }
+    ensures { (run : RunOf shares_family) → IsRun shares_family run → AreValid run.hall }
 {}
 
 /// The order of grants: an event wakes nobody, or one, which it admits. That one waited, and of all that waited just
@@ -42,5 +42,5 @@ pub fn grants_are_in_order()
 
 /// In every run, at each admission, no permit is free while anyone waits.
 pub fn nobody_waits_beside_a_free_permit()
-    ensures { (run : RunOf shares_family) → Runs shares_family run → AreSettled run.hall }
+    ensures { (run : RunOf shares_family) → IsRun shares_family run → AreSettled run.hall }
 {}

@@ -64,22 +64,16 @@ pub fn channel<T: Message + Drop, W: Wake + Drop>(
 ) -> Result<(Sender<T, W>, Receiver<T, W>), NoMemory>
     ensures { IfOk result (λ r. (r.0 ≡ Sends Ready) × (r.1 ≡ Receives Waiting)) }
 {
-    let made: Result<(Board<T, W>, Seat<Option<Content<T, W>>, View<W>>), _> = Table::vacant(
+    let made: (Board<T, W>, Seat<Option<Content<T, W>>, View<W>>) = Table::vacant(
         alloc,
         &[3],
         2,
         &(),
-    );
-    let Ok((board, mut seat)) = made else {
-        return Err(NoMemory);
-    };
+    )?;
+    let (board, mut seat) = made;
     let other_seat = split(&board, &mut seat);
-    let Ok(board) = Arc::new(alloc, board) else {
-        return Err(NoMemory);
-    };
-    let Ok(other_board) = Arc::try_clone(&board) else {
-        return Err(NoMemory);
-    };
+    let board = Arc::new(alloc, board)?;
+    let other_board = Arc::try_clone(&board)?;
     Ok((
         Sender {
             board,

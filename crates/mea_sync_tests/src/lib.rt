@@ -1,15 +1,9 @@
-//! Tests of the shared types, by public contracts alone: each call once, its answer and the wakers that it woke,
-//! and runs of several threads.
+//! Tests of the semaphore, the mutex, the reader-writer lock and the condition variable that threads share, by public contracts
+//! alone: each call once, its answer and the wakers that it woke, and runs of several threads. It has no code but tests.
 #![tactic(auto)]
 
 #[cfg(test)]
-mod channels;
-#[cfg(test)]
 mod condvar;
-#[cfg(test)]
-mod ended_waits;
-#[cfg(test)]
-mod meeting_points;
 #[cfg(test)]
 mod mutex;
 #[cfg(test)]

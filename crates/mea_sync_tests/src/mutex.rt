@@ -1,5 +1,5 @@
-use mea_probe::{count, end, gives, pends, rung};
 use mea_sync::mutex::Mutex;
+use mea_test_support::{count, end, gives, pends, rung};
 use mea_wait::End;
 use std::sync::Arc;
 use std::test::Fail;

@@ -1,5 +1,5 @@
-use mea_probe::{count, end, found, gives, pends, rung};
 use mea_sync::rwlock::RwLock;
+use mea_test_support::{count, end, found, gives, pends, rung};
 use mea_wait::End;
 use std::num::NonZeroUsize;
 use std::sync::Arc;

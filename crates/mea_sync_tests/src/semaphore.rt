@@ -1,6 +1,6 @@
 use mea_base::Overflow;
-use mea_probe::{Bell, Count, Told, count, end, poll, rung};
 use mea_sync::semaphore::{Acquire, Closed, Semaphore, SemaphorePermit};
+use mea_test_support::{Bell, Count, Told, count, end, poll, rung};
 use mea_wait::{End, Waits};
 use std::sync::{Arc, Wait};
 use std::test::Fail;

@@ -1,33 +1,11 @@
-use mea_probe::{Bell, Count, Told, count, end, poll};
 use mea_sync::mutex::Mutex;
 use mea_sync::rwlock::RwLock;
 use mea_sync::semaphore::{Closed, Semaphore};
-use mea_wait::{End, Waits};
+use mea_test_support::{Bell, Count, count, end, polled_for};
+use mea_wait::End;
 use std::sync::Wait;
 use std::thread::Threads;
 use std::{sync, thread};
-
-// Polls a wait until it gives its output, at most so many times; then it is ended.
-fn polled_for<R: Wait, F: Waits<Bell, O>, O>(
-    rt: &R,
-    wait: F,
-    count: &Count,
-    turns: u64,
-) -> Option<O>
-    requires { F.can_poll wait }
-{
-    let mut wait = wait;
-    for _ in 0..turns {
-        match poll(rt, wait, count) {
-            Told::Ready(output) => return Some(output),
-            Told::Refused => return None,
-            Told::Pending(back) => wait = back,
-        }
-        thread::yield_now();
-    }
-    wait.end(rt);
-    None
-}
 
 // Acquires one permit, at most so many turns, and ends it.
 fn acquire_once<R: Wait>(rt: &R, of: &Semaphore<Bell>, count: &Count, turns: u64) -> bool {

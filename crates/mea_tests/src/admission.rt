@@ -1,6 +1,6 @@
 use mea::End;
 use mea::admission::FairShare;
-use mea_probe::{Bell, count, end, found, gives, pends, rung};
+use mea_test_support::{Bell, count, end, found, gives, pends, rung};
 use std::hash::{BuildHasherDefault, FoldHasher};
 use std::num::NonZeroU64;
 use std::sync::Arc;

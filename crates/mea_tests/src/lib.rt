@@ -1,5 +1,5 @@
-//! Tests of the crate `mea`, by public contracts alone: each call of the once types, of fair admission, of the boxes and of
-//! mapped guards once, its answer and the wakers that it woke, and runs of several threads.
+//! Tests of what stands in the crate `mea` itself, fair admission and the boxes, and of mapped guards, by public contracts
+//! alone: each call once, its answer and the wakers that it woke, and a run of several threads. It has no code but tests.
 #![tactic(auto)]
 
 #[cfg(test)]
@@ -7,16 +7,6 @@ mod admission;
 #[cfg(test)]
 mod boxes;
 #[cfg(test)]
-mod cell;
-#[cfg(test)]
-mod claims;
-#[cfg(test)]
-mod group;
-#[cfg(test)]
-mod map;
-#[cfg(test)]
 mod mapped;
-#[cfg(test)]
-mod once;
 #[cfg(test)]
 mod threads;

@@ -4,7 +4,7 @@ use mea::End;
 use mea::mutex::Mutex;
 use mea::rwlock::{Mapped, RwLock};
 use mea_lock_core::Part;
-use mea_probe::{Bell, end, found};
+use mea_test_support::{Bell, end, found};
 
 // The first of a pair.
 #[derive(Clone, Copy, Drop)]

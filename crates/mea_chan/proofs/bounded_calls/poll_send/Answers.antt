@@ -1,5 +1,5 @@
 use Rattle.std.proofs.Common.{arith, ap, refl, ◌∙◌, ◌++◌, ℕ, map}
-use Rattle.mea_named.specs.declared.named_waker.NamedWaker.{NamedWaker}
+use Rattle.mea_by_name.specs.declared.named_waker.NamedWaker.{NamedWaker}
 use Rattle.mea_base.specs.Ready.{Waking}
 use Rattle.mea_chan.proofs.BoundedSteps.{poll_fits}
 use Rattle.mea_chan.proofs.bounded_calls.poll_send.Goals as goal

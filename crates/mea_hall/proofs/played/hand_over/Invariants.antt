@@ -1,5 +1,5 @@
 use Rattle.std.proofs.Common.{◌≡◌, ◌≢◌, ◌≤◌, [], length}
-use Rattle.mea_lines.specs.Replies.{with_wakes}
+use Rattle.mea_events.specs.Replies.{with_wakes}
 use Rattle.mea_hall.specs.World.{Play}
 use Rattle.mea_hall.proofs.played.hand_over.Given as goal
 

@@ -1,5 +1,5 @@
 use Rattle.std.proofs.Common.{ap, ◌∙◌, ◌++◌, ◌∷◌, []}
-use Rattle.mea_lines.proofs.ToldReplies.{told_reply}
+use Rattle.mea_events.proofs.ToldReplies.{told_reply}
 use Rattle.mea_hall.proofs.HandedOver.{room_for}
 use Rattle.mea_hall.proofs.played.play_next.Goals as goal
 

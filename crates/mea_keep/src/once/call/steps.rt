@@ -3,13 +3,13 @@ ghost use Rattle.std.specs.Prelude.{◌≡◌, ◌-◌, Ok, None, length};
 ghost use Rattle.mea_once_core.specs.Permit.{MayPoll, MayEnd};
 ghost use Rattle.mea_once_core.specs.Cell.{renewed_init};
 ghost use Rattle.mea_once_core.specs.Once.{PollsCall, EndsCall};
-ghost use Rattle.mea_seats.specs.Seats.{fallen};
+ghost use Rattle.mea_meet_seats.specs.Seats.{fallen};
 ghost use Rattle.mea_keep.specs.Promise.{Promises};
 
 use crate::promise::Promise;
 use mea_base::{NoMemory, Poll};
+use mea_meet_seats::LatchSeats;
 use mea_once_core::{InitCall, OnceCore};
-use mea_seats::LatchSeats;
 
 // Polls a call: ready where a call has completed, be it this one.
 pub(super) fn poll<W: Drop>(

@@ -2,7 +2,7 @@ use Rattle.std.proofs.Common.{◌∙◌, ap, None}
 use Rattle.mea_base.specs.WaitList.{get, Updates}
 use Rattle.mea_base.proofs.Waits.{length-without}
 use Rattle.mea_lock_core.proofs.Kept.{noted_left}
-use Rattle.mea_lock_core.proofs.Numbers.{unlinked_after}
+use Rattle.mea_sem_core.proofs.Leaves.{unlinked_after}
 use Rattle.mea_lock_core.proofs.note.take_out.Goals as goal
 
 pub remove_unlinked-requires-clause-unlinked : goal.remove_unlinked-requires-clause-unlinked

@@ -1,5 +1,5 @@
 use Rattle.std.proofs.Common.{◌≡◌, ℕ, ◌+◌, ◌*◌, List, length, ap, ◌∙◌, arith}
-use Rattle.mea_lines.specs.declared.event.Event.{Event}
+use Rattle.mea_events.specs.declared.event.Event.{Event}
 use Rattle.mea_run.specs.Generated.{round_of}
 use Rattle.mea_run.proofs.Legal.{length_script}
 use Rattle.mea_run.proofs.Played.{first_memory, start_played, round_played, round_memory, last_memory, all_pending, all_wakes, last_reply}

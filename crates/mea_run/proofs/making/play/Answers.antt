@@ -1,6 +1,6 @@
 use Rattle.std.proofs.Common.{◌≡◌, ℕ, ◌+◌, ◌*◌, ◌<◌, ◌≤◌, ◌++◌, Bool, true, false, [], length, ap, ◌∙◌, arith, if◌then◌else◌}
-use Rattle.mea_base.specs.declared.answer.Answer.{Answer}
-use Rattle.mea_base.specs.Family.{is_pending}
+use Rattle.mea_family.specs.declared.answer.Answer.{Answer}
+use Rattle.mea_family.specs.Family.{is_pending}
 use Rattle.mea_hall.specs.World.{Play, step}
 use Rattle.mea_run.proofs.Counts.{most_ready}
 use Rattle.mea_run.proofs.making.play.Goals as goal

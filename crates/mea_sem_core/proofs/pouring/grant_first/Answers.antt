@@ -1,6 +1,7 @@
 use Rattle.std.proofs.Common.{Some, ap, refl, arith, IsSome, length}
 use Rattle.mea_base.specs.WaitList.{get}
-use Rattle.mea_sem_core.proofs.Grants.{unlinked_from_absent, Updates-with_value, Updates-Updates, unlinks_first, first_used, grants_acquire, grants_debt}
+use Rattle.mea_base.proofs.Chains.{unlinked_from_absent}
+use Rattle.mea_sem_core.proofs.Grants.{Updates-with_value, Updates-Updates, unlinks_first, first_used, grants_acquire, grants_debt}
 use Rattle.mea_sem_core.proofs.pouring.grant_first.Goals as goal
 
 pub unlink_counted-requires : goal.unlink_counted-requires

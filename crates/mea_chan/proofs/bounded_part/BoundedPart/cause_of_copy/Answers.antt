@@ -1,6 +1,6 @@
 use Rattle.std.proofs.Common.{◌==◌, ap, sym, ◌∙◌, Some, None, if◌then◌else◌}
 use Rattle.std.specs.Option.{option_copied}
-use Rattle.mea_base.specs.declared.stop.Stop.TheVariants as stops
+use Rattle.mea_family.specs.declared.stop.Stop.TheVariants as stops
 use Rattle.mea_chan.proofs.BoundedEvents.{site_channel, crowded_is, unknown_copy}
 use Rattle.mea_chan.proofs.bounded_part.BoundedPart.cause_of_copy.Goals as goal
 

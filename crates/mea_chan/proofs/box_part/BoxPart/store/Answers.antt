@@ -1,5 +1,5 @@
 use Rattle.std.proofs.Common.{◌∙◌}
-use Rattle.mea_named.proofs.Own.{insert_same}
+use Rattle.mea_by_name.proofs.Own.{insert_same}
 use Rattle.mea_chan.proofs.box_part.BoxPart.store.Goals as goal
 
 pub returns-in_default-clause-err : goal.returns-in_default-clause-err

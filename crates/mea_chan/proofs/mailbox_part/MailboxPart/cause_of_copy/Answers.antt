@@ -1,5 +1,5 @@
 use Rattle.std.proofs.Common.{ap, sym, ◌∙◌, Some, None, if◌then◌else◌}
-use Rattle.mea_base.specs.declared.stop.Stop.TheVariants as stops
+use Rattle.mea_family.specs.declared.stop.Stop.TheVariants as stops
 use Rattle.mea_chan.proofs.MailboxEvents.{crowded_is}
 use Rattle.mea_chan.proofs.mailbox_part.MailboxPart.cause_of_copy.Goals as goal
 

@@ -1,6 +1,6 @@
 use Rattle.std.proofs.Common.{[], ◌++◌, ap, arith}
 use Rattle.mea_lock_core.specs.Condvar.{Condvar}
-use Rattle.mea_named.specs.declared.named_waker.NamedWaker.{NamedWaker}
+use Rattle.mea_by_name.specs.declared.named_waker.NamedWaker.{NamedWaker}
 use Rattle.mea_lock.proofs.Notifying.{all_woken}
 use Rattle.mea_lock.proofs.condvar_entry.CondvarEntry.notify_all.Goals as goal
 

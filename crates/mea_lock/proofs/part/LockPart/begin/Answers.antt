@@ -17,7 +17,7 @@ pub begin-requires-clause-plain : goal.begin-requires-clause-plain
 begin-requires-clause-plain g c = (few_things (site c.self.inside.locks c.self.inside.futures c.self.inside.guards c.self.inside.next c.self.view_is c.self.invariant c.requires.next c.ranges.number.fits) c.args.o c.at_mut-entry.result.now c.at_mut-entry.ensures.value).1
 
 pub invariant_of-self-2 : goal.invariant_of-self-2
-invariant_of-self-2 g c = rw (c.begin.ensures, c.in-Ok.ensures.ok) (begins (site c.self.inside.locks c.self.inside.futures c.self.inside.guards c.self.inside.next c.self.view_is c.self.invariant c.requires.next c.ranges.number.fits) c.args.o c.at_mut-entry.result.now c.at_mut-entry.ensures.value c.args.plain c.args.write c.new_future.result c.new_future.ensures.future c.new_future.ensures.wait).0
+invariant_of-self-2 g c = rw (c.begin.ensures, c.in-Ok.ensures.ok) (begins (site c.self.inside.locks c.self.inside.futures c.self.inside.guards c.self.inside.next c.self.view_is c.self.invariant c.requires.next c.ranges.number.fits) c.args.o c.at_mut-entry.result.now c.at_mut-entry.ensures.value c.is_plain-plain.result c.writes-write.result c.new_future.result c.new_future.ensures.future c.new_future.ensures.wait).0
 
 pub returns-clause-ok : goal.returns-clause-ok
-returns-clause-ok g c = rw (c.begin.ensures, c.in-Ok.ensures.ok) (begins (site c.self.inside.locks c.self.inside.futures c.self.inside.guards c.self.inside.next c.self.view_is c.self.invariant c.requires.next c.ranges.number.fits) c.args.o c.at_mut-entry.result.now c.at_mut-entry.ensures.value c.args.plain c.args.write c.new_future.result c.new_future.ensures.future c.new_future.ensures.wait).1
+returns-clause-ok g c = rw (← c.is_plain-plain.ensures, ← c.writes-write.ensures, c.begin.ensures, c.in-Ok.ensures.ok) (begins (site c.self.inside.locks c.self.inside.futures c.self.inside.guards c.self.inside.next c.self.view_is c.self.invariant c.requires.next c.ranges.number.fits) c.args.o c.at_mut-entry.result.now c.at_mut-entry.ensures.value c.is_plain-plain.result c.writes-write.result c.new_future.result c.new_future.ensures.future c.new_future.ensures.wait).1

@@ -1,5 +1,5 @@
 use Rattle.std.proofs.Common.{ap, ◌∙◌}
-use Rattle.mea_named.specs.Play.{Part}
+use Rattle.mea_family.specs.Play.{Part}
 use Rattle.mea_lock_model.specs.Locks.{Locks, is_future}
 use Rattle.mea_lock.proofs.PartEvents.{future_seen_is}
 use Rattle.mea_lock.proofs.part.LockPart.is_future.Goals as goal

@@ -1,5 +1,5 @@
 use Rattle.std.proofs.Common.{ap, ◌∙◌}
-use Rattle.mea_named.specs.Play.{Part}
+use Rattle.mea_family.specs.Play.{Part}
 use Rattle.mea_lock_model.specs.Locks.{Locks, is_guard}
 use Rattle.mea_lock.proofs.PartEvents.{guard_seen_is}
 use Rattle.mea_lock.proofs.part.LockPart.is_guard.Goals as goal

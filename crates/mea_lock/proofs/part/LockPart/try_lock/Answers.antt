@@ -16,20 +16,20 @@ begin-requires-clause-plain g c = let taken = c.try_lock.ensures.taken (enough_i
 pub invariant_of-self-then-try_lock : goal.invariant_of-self-then-try_lock
 invariant_of-self-then-try_lock g c = let enough = enough_if _ _ c.try_lock.result c.try_lock.ensures.refused c.if-try_lock.true in
     let taken = c.try_lock.ensures.taken enough in
-    rw (c.begin.ensures, taken.2, c.in-Ok.ensures.ok) (try_holds (site c.self.inside.locks c.self.inside.futures c.self.inside.guards c.self.inside.next c.self.view_is c.self.invariant c.requires.next c.ranges.number.fits) c.args.o c.at_mut-entry.result.now c.at_mut-entry.ensures.value c.args.plain c.args.write enough c.try_lock.new.self.lock taken.1).0
+    rw (c.begin.ensures, taken.2, c.in-Ok.ensures.ok) (try_holds (site c.self.inside.locks c.self.inside.futures c.self.inside.guards c.self.inside.next c.self.view_is c.self.invariant c.requires.next c.ranges.number.fits) c.args.o c.at_mut-entry.result.now c.at_mut-entry.ensures.value c.is_plain-plain.result c.writes-write.result enough c.try_lock.new.self.lock taken.1).0
 
 pub returns-then-try_lock-clause-ok : goal.returns-then-try_lock-clause-ok
 returns-then-try_lock-clause-ok g c = let enough = enough_if _ _ c.try_lock.result c.try_lock.ensures.refused c.if-try_lock.true in
     let taken = c.try_lock.ensures.taken enough in
-    rw (c.begin.ensures, taken.2, c.in-Ok.ensures.ok) (try_holds (site c.self.inside.locks c.self.inside.futures c.self.inside.guards c.self.inside.next c.self.view_is c.self.invariant c.requires.next c.ranges.number.fits) c.args.o c.at_mut-entry.result.now c.at_mut-entry.ensures.value c.args.plain c.args.write enough c.try_lock.new.self.lock taken.1).1
+    rw (← c.is_plain-plain.ensures, ← c.writes-write.ensures, c.begin.ensures, taken.2, c.in-Ok.ensures.ok) (try_holds (site c.self.inside.locks c.self.inside.futures c.self.inside.guards c.self.inside.next c.self.view_is c.self.invariant c.requires.next c.ranges.number.fits) c.args.o c.at_mut-entry.result.now c.at_mut-entry.ensures.value c.is_plain-plain.result c.writes-write.result enough c.try_lock.new.self.lock taken.1).1
 
 pub remove-requires : goal.remove-requires
 remove-requires g c = rw c.in-Ok.ensures.ok (is_there _ _ (get-there c.self.inside.guards c.args.number _))
 
 pub invariant_of-self-2 : goal.invariant_of-self-2
 invariant_of-self-2 g c = let few = few_if _ _ c.try_lock.result (λ enough. (c.try_lock.ensures.taken enough).0) c.if-try_lock.false in
-    rw ((c.try_lock.ensures.refused few).1, c.remove.ensures.rest) (try_lacks (site c.self.inside.locks c.self.inside.futures c.self.inside.guards c.self.inside.next c.self.view_is c.self.invariant c.requires.next c.ranges.number.fits) c.args.o c.at_mut-entry.result.now c.at_mut-entry.ensures.value c.args.plain c.args.write few c.insert.new.self c.in-Ok.ensures.ok).0
+    rw ((c.try_lock.ensures.refused few).1, c.remove.ensures.rest) (try_lacks (site c.self.inside.locks c.self.inside.futures c.self.inside.guards c.self.inside.next c.self.view_is c.self.invariant c.requires.next c.ranges.number.fits) c.args.o c.at_mut-entry.result.now c.at_mut-entry.ensures.value c.is_plain-plain.result c.writes-write.result few c.insert.new.self c.in-Ok.ensures.ok).0
 
 pub returns-clause-ok : goal.returns-clause-ok
 returns-clause-ok g c = let few = few_if _ _ c.try_lock.result (λ enough. (c.try_lock.ensures.taken enough).0) c.if-try_lock.false in
-    rw ((c.try_lock.ensures.refused few).1, c.remove.ensures.rest) (try_lacks (site c.self.inside.locks c.self.inside.futures c.self.inside.guards c.self.inside.next c.self.view_is c.self.invariant c.requires.next c.ranges.number.fits) c.args.o c.at_mut-entry.result.now c.at_mut-entry.ensures.value c.args.plain c.args.write few c.insert.new.self c.in-Ok.ensures.ok).1
+    rw (← c.is_plain-plain.ensures, ← c.writes-write.ensures, (c.try_lock.ensures.refused few).1, c.remove.ensures.rest) (try_lacks (site c.self.inside.locks c.self.inside.futures c.self.inside.guards c.self.inside.next c.self.view_is c.self.invariant c.requires.next c.ranges.number.fits) c.args.o c.at_mut-entry.result.now c.at_mut-entry.ensures.value c.is_plain-plain.result c.writes-write.result few c.insert.new.self c.in-Ok.ensures.ok).1

@@ -1,5 +1,5 @@
 use Rattle.mea_base.proofs.Maps.{get-there, is_there}
-use Rattle.mea_named.proofs.Own.{put_gone, gone_none}
+use Rattle.mea_by_name.proofs.Own.{put_gone, gone_none}
 use Rattle.mea_lock.proofs.WaitEvents.{site, condvar_there, no_wait, begun}
 use Rattle.mea_lock.proofs.wait_part.WaitPart.begin.Goals as goal
 

@@ -1,6 +1,6 @@
 use Rattle.std.proofs.Common.{Some, None, if◌then◌else◌, ◌∙◌, sym, ap}
 use Rattle.std.specs.Option.{option_copied}
-use Rattle.mea_base.specs.declared.stop.Stop.TheVariants as stops
+use Rattle.mea_family.specs.declared.stop.Stop.TheVariants as stops
 use Rattle.mea_lock.proofs.WaitEvents.{drop_unknown, drop_known}
 use Rattle.mea_lock.proofs.wait_part.WaitPart.cause_of_drop.Goals as goal
 

@@ -1,13 +1,13 @@
 use Rattle.std.proofs.Common.{rules, ℕ, ◌+◌, ◌^◌, ◌<◌, List, refl, sym, subst, ap, ◌∙◌, arith}
 use Rattle.std.specs.Option.{option_copied_mut}
-use Rattle.mea_meet.specs.BarrierHall.{store_of, IsKept}
+use Rattle.mea_meet.specs.BarrierHall.{store_of, AreKeptBarriers}
 use Rattle.mea_meet.specs.declared.barriers.BarrierWaitEntry.{BarrierWaitEntry}
 use Rattle.mea_meet.proofs.BarrierStores.{barrier_found}
 use Rattle.mea_meet.proofs.BarrierMakes as makes
 use Rattle.mea_meet.proofs.barriers.BarrierHall.wait.Goals as goal
 
 pub invariant_of-self : goal.invariant_of-self
-invariant_of-self c = subst (λ (ws : List (ℕ × BarrierWaitEntry)). IsKept (store_of c.self.inside.barriers.entries ws) c.self.inside.next)
+invariant_of-self c = subst (λ (ws : List (ℕ × BarrierWaitEntry)). AreKeptBarriers (store_of c.self.inside.barriers.entries ws) c.self.inside.next)
     (sym c.in_err-insert.ensures.err) c.self.invariant
 
 pub overflow_add-entry : goal.overflow_add-entry

@@ -1,6 +1,6 @@
 use Rattle.std.proofs.Common.{rules, ℕ, ◌+◌, ◌<◌, ◌^◌, List, refl, sym, subst, ap, ◌∙◌, arith}
 use Rattle.std.specs.Option.{option_copied, option_copied_mut}
-use Rattle.mea_meet.specs.GroupHall.{store_of, IsKept}
+use Rattle.mea_meet.specs.GroupHall.{store_of, AreKeptGroups}
 use Rattle.mea_meet.specs.declared.groups.GroupWaitEntry.{GroupWaitEntry}
 use Rattle.mea_meet.proofs.GroupStores.{wait_found, group_of_wait}
 use Rattle.mea_meet.proofs.GroupPlays.{few_waits, copies}
@@ -11,7 +11,7 @@ unreachable-requires c = wait_found c.self.inside c.args.self.now c.self.view_is
     (sym c.get.ensures.value ∙ ap option_copied c.in_default.is)
 
 pub invariant_of-self : goal.invariant_of-self
-invariant_of-self c = subst (λ (ws : List (ℕ × GroupWaitEntry)). IsKept (store_of c.self.inside.groups.entries c.self.inside.handles.entries ws)
+invariant_of-self c = subst (λ (ws : List (ℕ × GroupWaitEntry)). AreKeptGroups (store_of c.self.inside.groups.entries c.self.inside.handles.entries ws)
     c.self.inside.next) (sym c.in_err-insert.ensures.err) c.self.invariant
 
 pub unreachable-requires-in_default-get_mut : goal.unreachable-requires-in_default-get_mut

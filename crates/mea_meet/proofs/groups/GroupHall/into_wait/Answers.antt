@@ -1,6 +1,6 @@
 use Rattle.std.proofs.Common.{rules, ℕ, ◌+◌, ◌<◌, ◌^◌, List, refl, sym, subst, ap, ◌∙◌, arith}
 use Rattle.std.specs.Option.{option_copied, option_copied_mut}
-use Rattle.mea_meet.specs.GroupHall.{store_of, groups_of, IsKept}
+use Rattle.mea_meet.specs.GroupHall.{store_of, groups_of, AreKeptGroups}
 use Rattle.mea_meet.specs.declared.groups.GroupWaitEntry.{GroupWaitEntry}
 use Rattle.mea_meet.proofs.GroupStores.{handle_found, group_of_handle, room}
 use Rattle.mea_meet.proofs.GroupPlays.{few_waits, quiet, lives, turns}
@@ -12,7 +12,7 @@ unreachable-requires c = handle_found c.self.inside c.args.self.now c.self.view_
     (sym c.get.ensures.value ∙ ap option_copied c.in_default.is)
 
 pub invariant_of-self : goal.invariant_of-self
-invariant_of-self c = subst (λ (ws : List (ℕ × GroupWaitEntry)). IsKept (store_of c.self.inside.groups.entries c.self.inside.handles.entries ws)
+invariant_of-self c = subst (λ (ws : List (ℕ × GroupWaitEntry)). AreKeptGroups (store_of c.self.inside.groups.entries c.self.inside.handles.entries ws)
     c.self.inside.next) (sym c.in_err-insert.ensures.err) c.self.invariant
 
 pub returns-in_err-insert-clause-err : goal.returns-in_err-insert-clause-err

@@ -22,7 +22,7 @@ begin-requires-clause-plain c =
     omega (arith, few, low)
 
 pub invariant_of-self-2 : goal.invariant_of-self-2
-invariant_of-self-2 c = (begins_at c.self.inside.latches.entries c.self.inside.waits.entries c.self.inside.next c.args.number c.args.self.now c.self.view_is c.self.invariant c.requires.next (omega arith) _ c.insert.new.self.entries c.args.l c.args.plain c.in-Some.entry.now c.begin.new.self _ (sym c.get_mut.ensures.value ∙ ap option_copied_mut c.in-Some.is) c.begin.ensures ((c.get_mut.follows.holds c.begin.new.self).3 (search rules)).0 (λ j. record { latch = c.args.l; wait = c.new.ensures j; plain = c.args.plain }) c.in_ok-insert.ensures.updates.0).kept
+invariant_of-self-2 c = (begins_at c.self.inside.latches.entries c.self.inside.waits.entries c.self.inside.next c.args.number c.args.self.now c.self.view_is c.self.invariant c.requires.next (omega arith) _ c.insert.new.self.entries c.args.l c.is_plain-plain.result c.in-Some.entry.now c.begin.new.self _ (sym c.get_mut.ensures.value ∙ ap option_copied_mut c.in-Some.is) c.begin.ensures ((c.get_mut.follows.holds c.begin.new.self).3 (search rules)).0 (λ j. record { latch = c.args.l; wait = c.new.ensures j; plain = c.is_plain-plain.result }) c.in_ok-insert.ensures.updates.0).kept
 
 pub returns-clause-rests : goal.returns-clause-rests
-returns-clause-rests c = (begins_at c.self.inside.latches.entries c.self.inside.waits.entries c.self.inside.next c.args.number c.args.self.now c.self.view_is c.self.invariant c.requires.next (omega arith) _ c.insert.new.self.entries c.args.l c.args.plain c.in-Some.entry.now c.begin.new.self _ (sym c.get_mut.ensures.value ∙ ap option_copied_mut c.in-Some.is) c.begin.ensures ((c.get_mut.follows.holds c.begin.new.self).3 (search rules)).0 (λ j. record { latch = c.args.l; wait = c.new.ensures j; plain = c.args.plain }) c.in_ok-insert.ensures.updates.0).rests
+returns-clause-rests c = rw (← c.is_plain-plain.ensures) ((begins_at c.self.inside.latches.entries c.self.inside.waits.entries c.self.inside.next c.args.number c.args.self.now c.self.view_is c.self.invariant c.requires.next (omega arith) _ c.insert.new.self.entries c.args.l c.is_plain-plain.result c.in-Some.entry.now c.begin.new.self _ (sym c.get_mut.ensures.value ∙ ap option_copied_mut c.in-Some.is) c.begin.ensures ((c.get_mut.follows.holds c.begin.new.self).3 (search rules)).0 (λ j. record { latch = c.args.l; wait = c.new.ensures j; plain = c.is_plain-plain.result }) c.in_ok-insert.ensures.updates.0).rests)

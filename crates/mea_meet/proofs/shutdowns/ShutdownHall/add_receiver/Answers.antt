@@ -1,7 +1,7 @@
 use Rattle.std.proofs.Common.{rules, ◌≡◌, None, Some, sym, ap, ◌∙◌, refl, arith}
 use Rattle.std.specs.Option.{option_copied_mut}
 use Rattle.std.specs.FinMap.{get}
-use Rattle.mea_base.specs.declared.answer.Answer.TheVariants as answers
+use Rattle.mea_family.specs.declared.answer.Answer.TheVariants as answers
 use Rattle.mea_meet_model.specs.Shutdowns.{Shutdown}
 use Rattle.mea_base.proofs.Maps.{not_none}
 use Rattle.mea_meet.proofs.Maps.{kept-puts, kept-puts-as}

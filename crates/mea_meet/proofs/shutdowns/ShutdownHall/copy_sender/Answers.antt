@@ -1,7 +1,7 @@
 use Rattle.std.proofs.Common.{rules, ◌+◌, ◌≡◌, None, Some, sym, ap, ◌∙◌, arith}
 use Rattle.std.specs.Option.{option_copied, option_copied_mut}
 use Rattle.std.specs.FinMap.{get}
-use Rattle.mea_base.specs.declared.answer.Answer.TheVariants as answers
+use Rattle.mea_family.specs.declared.answer.Answer.TheVariants as answers
 use Rattle.mea_meet_model.specs.Shutdowns.{copy_sender_of}
 use Rattle.mea_meet.specs.ShutdownHall.{hall_of}
 use Rattle.mea_base.proofs.Maps.{not_none}

@@ -1,7 +1,7 @@
 use Rattle.std.proofs.Common.{sym, ap, subst, ◌∙◌, is_some}
 use Rattle.std.specs.Option.{option_copied}
 use Rattle.mea_meet_model.specs.Shutdowns.{Shutdowns}
-use Rattle.mea_meet.specs.Play.{Part}
+use Rattle.mea_family.specs.Play.{Part}
 use Rattle.mea_meet.specs.StandsFor.{StandsForShutdown}
 use Rattle.mea_meet.proofs.ShutdownSeen.{kept_in, shutdown-kept, shutdown-there, stands}
 use Rattle.mea_meet.proofs.shutdowns.ShutdownHall.core.Goals as goal

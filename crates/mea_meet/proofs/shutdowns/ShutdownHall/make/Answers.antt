@@ -1,7 +1,7 @@
 use Rattle.std.proofs.Common.{◌≡◌, false, None, Some, sym, subst, ◌∙◌, refl, arith}
-use Rattle.mea_base.specs.declared.answer.Answer.TheVariants as answers
+use Rattle.mea_family.specs.declared.answer.Answer.TheVariants as answers
 use Rattle.mea_base.specs.Named.{named}
-use Rattle.mea_meet.specs.ShutdownHall.{Store, hall_of, IsKept}
+use Rattle.mea_meet.specs.ShutdownHall.{Store, hall_of, AreKeptShutdowns}
 use Rattle.mea_meet.specs.declared.shutdown_entries.ShutdownEntry.{ShutdownEntry}
 use Rattle.mea_meet.specs.declared.shutdown_entries.ReceiverEntry.{ReceiverEntry}
 use Rattle.mea_meet.proofs.Maps.{kept-puts, kept-puts-as, put_undone}
@@ -24,7 +24,7 @@ invariant_of-self-in-Err-insert c =
       receivers = named (λ k (x : ReceiverEntry). x) (c.in-Err-insert.ensures.err j);
       waits = (kept_in c.self.inside).waits;
     }) in
-    subst (λ (st : Store). IsKept st c.self.inside.next) (sym same) c.self.invariant
+    subst (λ (st : Store). AreKeptShutdowns st c.self.inside.next) (sym same) c.self.invariant
 
 pub returns-in-Err-insert-clause-err : goal.returns-in-Err-insert-clause-err
 returns-in-Err-insert-clause-err c =
@@ -58,7 +58,7 @@ invariant_of-self-in-Err-insert-2 c =
       receivers = receivers j;
       waits = (kept_in c.self.inside).waits;
     }) in
-    subst (λ (st : Store). IsKept st c.self.inside.next) (sym same) c.self.invariant
+    subst (λ (st : Store). AreKeptShutdowns st c.self.inside.next) (sym same) c.self.invariant
 
 pub returns-in-Err-insert-2-clause-err : goal.returns-in-Err-insert-2-clause-err
 returns-in-Err-insert-2-clause-err c =

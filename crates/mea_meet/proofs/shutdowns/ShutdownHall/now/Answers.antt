@@ -1,9 +1,9 @@
 use Rattle.std.proofs.Common.{◌≡◌, ◌==◌, cond, None, Some, sym, ap, ◌∙◌, arith}
 use Rattle.std.specs.Option.{option_map, option_copied}
 use Rattle.std.specs.FinMap.{get}
-use Rattle.mea_base.specs.declared.answer.Answer.TheVariants as answers
+use Rattle.mea_family.specs.declared.answer.Answer.TheVariants as answers
 use Rattle.mea_meet.specs.ShutdownHall.{hall_of}
-use Rattle.mea_base.specs.Family.{quietly}
+use Rattle.mea_family.specs.Family.{quietly}
 use Rattle.mea_meet_model.specs.Shutdowns.{Shutdown, now_of}
 use Rattle.mea_meet.specs.ShutdownHall.{receiver_of}
 use Rattle.mea_meet.proofs.ShutdownSeen.{kept_in, receiver-at, receiver-there, receiver-seen, shutdown-kept, shutdown-at}

@@ -1,7 +1,7 @@
 use Rattle.std.proofs.Common.{rules, ◌+◌, ◌<◌, ◌≡◌, None, Some, sym, ap, subst, ◌∙◌, length, arith}
 use Rattle.std.specs.Option.{option_copied_mut}
 use Rattle.std.specs.FinMap.{get}
-use Rattle.mea_meet.specs.ShutdownHall.{Store, hall_of, IsKept}
+use Rattle.mea_meet.specs.ShutdownHall.{Store, hall_of, AreKeptShutdowns}
 use Rattle.mea_meet.specs.declared.shutdown_entries.ShutdownEntry.{ShutdownEntry}
 use Rattle.mea_meet.specs.ShutdownHall.{count_at, end_of, set_at}
 use Rattle.mea_base.proofs.Maps.{not_none}
@@ -67,7 +67,7 @@ invariant_of-self c =
       receivers = (kept_in c.self.inside).receivers;
       waits = futures j;
     }) in
-    subst (λ (st : Store). IsKept st c.self.inside.next) (sym same) c.self.invariant
+    subst (λ (st : Store). AreKeptShutdowns st c.self.inside.next) (sym same) c.self.invariant
 
 pub invariant_of-self-in-Ok : goal.invariant_of-self-in-Ok
 invariant_of-self-in-Ok c =

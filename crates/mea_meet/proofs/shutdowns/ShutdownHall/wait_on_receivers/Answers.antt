@@ -1,10 +1,10 @@
 use Rattle.std.proofs.Common.{◌≡◌, ℕ, List, None, Some, sym, ap, subst, ◌∙◌, arith}
 use Rattle.std.specs.Option.{option_copied}
 use Rattle.std.specs.FinMap.{get}
-use Rattle.mea_base.specs.declared.answer.Answer.TheVariants as answers
+use Rattle.mea_family.specs.declared.answer.Answer.TheVariants as answers
 use Rattle.mea_base.proofs.Maps.{value_in, not_none}
 use Rattle.mea_meet_model.specs.Shutdowns.{await_of}
-use Rattle.mea_meet.specs.ShutdownHall.{hall_of, store_of, IsKept}
+use Rattle.mea_meet.specs.ShutdownHall.{hall_of, store_of, AreKeptShutdowns}
 use Rattle.mea_meet.specs.declared.shutdown_entries.ShutdownWaitEntry.{ShutdownWaitEntry}
 use Rattle.mea_meet.specs.declared.shutdown_entries.ShutdownWait.TheVariants as waits
 use Rattle.mea_meet.proofs.Maps.{kept-puts, kept-puts-as}
@@ -20,7 +20,7 @@ unreachable-requires c =
     not_none _ (rw (← c.self.view_is) at c.requires.there) none
 
 pub invariant_of-self : goal.invariant_of-self
-invariant_of-self c = subst (λ (ws : List (ℕ × ShutdownWaitEntry)). IsKept
+invariant_of-self c = subst (λ (ws : List (ℕ × ShutdownWaitEntry)). AreKeptShutdowns
     (store_of c.self.inside.shutdowns.entries c.self.inside.senders.entries c.self.inside.receivers.entries ws) c.self.inside.next)
     (sym c.in_err-insert.ensures.err) c.self.invariant
 

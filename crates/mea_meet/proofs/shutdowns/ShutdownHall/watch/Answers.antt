@@ -1,10 +1,10 @@
 use Rattle.std.proofs.Common.{◌≡◌, None, Some, sym, ap, subst, ◌∙◌, IfOk}
 use Rattle.std.specs.Option.{option_map, option_copied}
 use Rattle.std.specs.FinMap.{get}
-use Rattle.mea_base.specs.Family.{Outcome}
-use Rattle.mea_base.specs.declared.answer.Answer.{Answer}
+use Rattle.mea_family.specs.Family.{Outcome}
+use Rattle.mea_family.specs.declared.answer.Answer.{Answer}
 use Rattle.mea_meet_model.specs.Shutdowns.{Shutdowns, registered, watch_of}
-use Rattle.mea_meet.specs.Play.{Rests}
+use Rattle.mea_family.specs.Play.{PartRests}
 use Rattle.mea_meet.specs.ShutdownHall.{receiver_of}
 use Rattle.mea_meet.proofs.ShutdownSeen.{kept_in, receiver-at, receiver-there, receiver-seen}
 use Rattle.mea_meet.proofs.ShutdownReceivers.{copy_there}
@@ -30,5 +30,5 @@ returns-clause-rests c =
     let seen : get c.args.self.now.hall.receivers c.args.k ≡ Some (receiver_of c.in-Some.receiver.now) =
     rw (← c.self.view_is) (receiver-seen (kept_in c.self.inside) c.self.inside.next c.args.k ∙ ap (option_map receiver_of) is) in
     subst (λ (o : Outcome Shutdowns). IfOk c.add_receiver.result
-    (λ (answer : Answer). Rests registered c.args.self.now c.args.number o answer c.add_receiver.new.self))
+    (λ (answer : Answer). PartRests registered c.args.self.now c.args.number o answer c.add_receiver.new.self))
     (sym (ap (watch_of c.args.self.now.hall c.args.number) seen)) c.add_receiver.ensures.rests

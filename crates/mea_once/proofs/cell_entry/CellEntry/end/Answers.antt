@@ -1,5 +1,5 @@
 use Rattle.std.proofs.Common.{◌≡◌, ◌+◌, ◌≤◌, length, None, subst}
-use Rattle.mea_base.specs.declared.answer.Answer.TheVariants.{Done}
+use Rattle.mea_family.specs.declared.answer.Answer.TheVariants.{Done}
 use Rattle.mea_once_model.specs.Cells.{end}
 use Rattle.mea_once.specs.Entries.{KeptCell, keeps}
 use Rattle.mea_once.specs.Parts.{Stands, Stepped, cell_seen, future_seen}

@@ -1,5 +1,5 @@
 use Rattle.std.proofs.Common.{◌≡◌, ◌+◌, ◌≤◌, length, cond, subst, sym, ◌∙◌, arith}
-use Rattle.mea_base.specs.declared.answer.Answer.TheVariants.{Ready, Pending}
+use Rattle.mea_family.specs.declared.answer.Answer.TheVariants.{Ready, Pending}
 use Rattle.mea_once_model.specs.Cells.{poll}
 use Rattle.mea_once.specs.Entries.{KeptCell, keeps, left_by}
 use Rattle.mea_once.specs.Parts.{Stands, Stepped, cell_seen, future_seen}

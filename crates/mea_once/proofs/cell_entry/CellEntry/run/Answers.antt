@@ -1,6 +1,6 @@
 use Rattle.std.proofs.Common.{ap, sym, subst, ◌∙◌, refl, true}
-use Rattle.mea_base.specs.declared.answer.Answer.{Answer}
-use Rattle.mea_base.specs.declared.answer.Answer.TheVariants.{Failure}
+use Rattle.mea_family.specs.declared.answer.Answer.{Answer}
+use Rattle.mea_family.specs.declared.answer.Answer.TheVariants.{Failure}
 use Rattle.mea_once.specs.Entries.{Ran}
 use Rattle.mea_once.proofs.Turns.{gives_by, fails_by}
 use Rattle.mea_once.proofs.cell_entry.CellEntry.run.Goals as goal

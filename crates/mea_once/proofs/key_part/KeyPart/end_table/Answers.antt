@@ -2,10 +2,10 @@ use Rattle.mea_once.proofs.TableEvents.{site, table_there, goes_kept, dropped}
 use Rattle.mea_once.proofs.key_part.KeyPart.end_table.Goals as goal
 
 pub remove-requires : goal.remove-requires
-remove-requires g c = table_there g.C.KeyCore.is_once (site g.C.KeyCore.is_once c.self.inside.tables c.self.inside.futures c.self.inside.next c.self.view_is c.self.invariant c.requires.next c.ranges.number.fits) c.args.o c.requires.there
+remove-requires g c = table_there g.C.TableCore.is_once (site g.C.TableCore.is_once c.self.inside.tables c.self.inside.futures c.self.inside.next c.self.view_is c.self.invariant c.requires.next c.ranges.number.fits) c.args.o c.requires.there
 
 pub invariant_of-self : goal.invariant_of-self
-invariant_of-self g c = rw c.remove.ensures.rest (goes_kept g.C.KeyCore.is_once (site g.C.KeyCore.is_once c.self.inside.tables c.self.inside.futures c.self.inside.next c.self.view_is c.self.invariant c.requires.next c.ranges.number.fits) c.args.o c.remove.result c.remove.ensures.value c.requires.alone)
+invariant_of-self g c = rw c.remove.ensures.rest (goes_kept g.C.TableCore.is_once (site g.C.TableCore.is_once c.self.inside.tables c.self.inside.futures c.self.inside.next c.self.view_is c.self.invariant c.requires.next c.ranges.number.fits) c.args.o c.remove.result c.remove.ensures.value c.requires.alone)
 
 pub returns : goal.returns
-returns g c = rw c.remove.ensures.rest (dropped g.C.KeyCore.is_once (site g.C.KeyCore.is_once c.self.inside.tables c.self.inside.futures c.self.inside.next c.self.view_is c.self.invariant c.requires.next c.ranges.number.fits) c.args.o c.remove.result c.remove.ensures.value c.requires.alone)
+returns g c = rw c.remove.ensures.rest (dropped g.C.TableCore.is_once (site g.C.TableCore.is_once c.self.inside.tables c.self.inside.futures c.self.inside.next c.self.view_is c.self.invariant c.requires.next c.ranges.number.fits) c.args.o c.remove.result c.remove.ensures.value c.requires.alone)

@@ -3,25 +3,25 @@ use Rattle.mea_once.proofs.TableEvents.{site, future_there, stands_there, its_ro
 use Rattle.mea_once.proofs.key_part.KeyPart.poll.Goals as goal
 
 pub at_mut-future-requires : goal.at_mut-future-requires
-at_mut-future-requires g c = future_there g.C.KeyCore.is_once (site g.C.KeyCore.is_once c.self.inside.tables c.self.inside.futures c.self.inside.next c.self.view_is c.self.invariant c.requires.next c.ranges.number.fits) c.args.f c.requires.there
+at_mut-future-requires g c = future_there g.C.TableCore.is_once (site g.C.TableCore.is_once c.self.inside.tables c.self.inside.futures c.self.inside.next c.self.view_is c.self.invariant c.requires.next c.ranges.number.fits) c.args.f c.requires.there
 
 pub poll-requires-clause-stands : goal.poll-requires-clause-stands
-poll-requires-clause-stands g c = stands_there g.C.KeyCore.is_once (site g.C.KeyCore.is_once c.self.inside.tables c.self.inside.futures c.self.inside.next c.self.view_is c.self.invariant c.requires.next c.ranges.number.fits) c.args.f c.at_mut-future.result.now c.at_mut-entry.result.now c.at_mut-future.ensures.value c.at_mut-entry.ensures.value
+poll-requires-clause-stands g c = stands_there g.C.TableCore.is_once (site g.C.TableCore.is_once c.self.inside.tables c.self.inside.futures c.self.inside.next c.self.view_is c.self.invariant c.requires.next c.ranges.number.fits) c.args.f c.at_mut-future.result.now c.at_mut-entry.result.now c.at_mut-future.ensures.value c.at_mut-entry.ensures.value
 
 pub poll-requires-clause-room : goal.poll-requires-clause-room
-poll-requires-clause-room g c = its_room g.C.KeyCore.is_once (site g.C.KeyCore.is_once c.self.inside.tables c.self.inside.futures c.self.inside.next c.self.view_is c.self.invariant c.requires.next c.ranges.number.fits) c.at_mut-future.result.now.table c.at_mut-entry.result.now c.at_mut-entry.ensures.value c.args.ready.now c.requires.room
+poll-requires-clause-room g c = its_room g.C.TableCore.is_once (site g.C.TableCore.is_once c.self.inside.tables c.self.inside.futures c.self.inside.next c.self.view_is c.self.invariant c.requires.next c.ranges.number.fits) c.at_mut-future.result.now.table c.at_mut-entry.result.now c.at_mut-entry.ensures.value c.args.ready.now c.requires.room
 
 pub invariant_of-self : goal.invariant_of-self
-invariant_of-self g c = (looked g.C.KeyCore.is_once (site g.C.KeyCore.is_once c.self.inside.tables c.self.inside.futures c.self.inside.next c.self.view_is c.self.invariant c.requires.next c.ranges.number.fits) c.args.f c.at_mut-future.result.now c.at_mut-entry.result.now c.at_mut-future.ensures.value c.at_mut-entry.ensures.value c.poll.new.self c.poll.new.future c.in-Err.ensures.err.0 c.in-Err.ensures.err.1).0
+invariant_of-self g c = (looked g.C.TableCore.is_once (site g.C.TableCore.is_once c.self.inside.tables c.self.inside.futures c.self.inside.next c.self.view_is c.self.invariant c.requires.next c.ranges.number.fits) c.args.f c.at_mut-future.result.now c.at_mut-entry.result.now c.at_mut-future.ensures.value c.at_mut-entry.ensures.value c.poll.new.self c.poll.new.future c.in-Err.ensures.err.0 c.in-Err.ensures.err.1).0
 
 pub returns-in-Err-clause-err : goal.returns-in-Err-clause-err
-returns-in-Err-clause-err g c = ((looked g.C.KeyCore.is_once (site g.C.KeyCore.is_once c.self.inside.tables c.self.inside.futures c.self.inside.next c.self.view_is c.self.invariant c.requires.next c.ranges.number.fits) c.args.f c.at_mut-future.result.now c.at_mut-entry.result.now c.at_mut-future.ensures.value c.at_mut-entry.ensures.value c.poll.new.self c.poll.new.future c.in-Err.ensures.err.0 c.in-Err.ensures.err.1).1, c.in-Err.ensures.err.2)
+returns-in-Err-clause-err g c = ((looked g.C.TableCore.is_once (site g.C.TableCore.is_once c.self.inside.tables c.self.inside.futures c.self.inside.next c.self.view_is c.self.invariant c.requires.next c.ranges.number.fits) c.args.f c.at_mut-future.result.now c.at_mut-entry.result.now c.at_mut-future.ensures.value c.at_mut-entry.ensures.value c.poll.new.self c.poll.new.future c.in-Err.ensures.err.0 c.in-Err.ensures.err.1).1, c.in-Err.ensures.err.2)
 
 pub remove_if-requires : goal.remove_if-requires
 remove_if-requires g c = λ over. is_there _ _ (get-there c.self.inside.futures c.args.f _)
 
 pub invariant_of-self-in-Ok : goal.invariant_of-self-in-Ok
-invariant_of-self-in-Ok g c = rw c.remove_if.ensures (polled g.C.KeyCore.is_once (site g.C.KeyCore.is_once c.self.inside.tables c.self.inside.futures c.self.inside.next c.self.view_is c.self.invariant c.requires.next c.ranges.number.fits) c.args.f c.at_mut-future.result.now c.at_mut-entry.result.now c.at_mut-future.ensures.value c.at_mut-entry.ensures.value c.args.waker c.in-Ok.told.over c.poll.new.future c.in-Ok.told.answer c.poll.new.self c.args.ready.now c.poll.new.ready c.in-Ok.ensures.steps).0
+invariant_of-self-in-Ok g c = rw c.remove_if.ensures (polled g.C.TableCore.is_once (site g.C.TableCore.is_once c.self.inside.tables c.self.inside.futures c.self.inside.next c.self.view_is c.self.invariant c.requires.next c.ranges.number.fits) c.args.f c.at_mut-future.result.now c.at_mut-entry.result.now c.at_mut-future.ensures.value c.at_mut-entry.ensures.value c.args.waker c.in-Ok.told.over c.poll.new.future c.in-Ok.told.answer c.poll.new.self c.args.ready.now c.poll.new.ready c.in-Ok.ensures.steps).0
 
 pub returns-in-Ok-clause-ok : goal.returns-in-Ok-clause-ok
-returns-in-Ok-clause-ok g c = rw c.remove_if.ensures (polled g.C.KeyCore.is_once (site g.C.KeyCore.is_once c.self.inside.tables c.self.inside.futures c.self.inside.next c.self.view_is c.self.invariant c.requires.next c.ranges.number.fits) c.args.f c.at_mut-future.result.now c.at_mut-entry.result.now c.at_mut-future.ensures.value c.at_mut-entry.ensures.value c.args.waker c.in-Ok.told.over c.poll.new.future c.in-Ok.told.answer c.poll.new.self c.args.ready.now c.poll.new.ready c.in-Ok.ensures.steps).1
+returns-in-Ok-clause-ok g c = rw c.remove_if.ensures (polled g.C.TableCore.is_once (site g.C.TableCore.is_once c.self.inside.tables c.self.inside.futures c.self.inside.next c.self.view_is c.self.invariant c.requires.next c.ranges.number.fits) c.args.f c.at_mut-future.result.now c.at_mut-entry.result.now c.at_mut-future.ensures.value c.at_mut-entry.ensures.value c.args.waker c.in-Ok.told.over c.poll.new.future c.in-Ok.told.answer c.poll.new.self c.args.ready.now c.poll.new.ready c.in-Ok.ensures.steps).1

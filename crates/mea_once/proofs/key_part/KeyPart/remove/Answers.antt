@@ -2,10 +2,10 @@ use Rattle.mea_once.proofs.TableEvents.{site, table_there, gone_kept, removed}
 use Rattle.mea_once.proofs.key_part.KeyPart.remove.Goals as goal
 
 pub at_mut-entry-requires : goal.at_mut-entry-requires
-at_mut-entry-requires g c = table_there g.C.KeyCore.is_once (site g.C.KeyCore.is_once c.self.inside.tables c.self.inside.futures c.self.inside.next c.self.view_is c.self.invariant c.requires.next c.ranges.number.fits) c.args.o c.requires.there
+at_mut-entry-requires g c = table_there g.C.TableCore.is_once (site g.C.TableCore.is_once c.self.inside.tables c.self.inside.futures c.self.inside.next c.self.view_is c.self.invariant c.requires.next c.ranges.number.fits) c.args.o c.requires.there
 
 pub invariant_of-self : goal.invariant_of-self
-invariant_of-self g c = gone_kept g.C.KeyCore.is_once (site g.C.KeyCore.is_once c.self.inside.tables c.self.inside.futures c.self.inside.next c.self.view_is c.self.invariant c.requires.next c.ranges.number.fits) c.args.o c.at_mut-entry.result.now c.at_mut-entry.ensures.value c.args.key c.discard.new.self c.discard.ensures
+invariant_of-self g c = gone_kept g.C.TableCore.is_once (site g.C.TableCore.is_once c.self.inside.tables c.self.inside.futures c.self.inside.next c.self.view_is c.self.invariant c.requires.next c.ranges.number.fits) c.args.o c.at_mut-entry.result.now c.at_mut-entry.ensures.value c.args.key c.discard.new.self c.discard.ensures
 
 pub returns : goal.returns
-returns g c = rw (c.content.ensures, c.value-value.ensures) (removed g.C.KeyCore.is_once (site g.C.KeyCore.is_once c.self.inside.tables c.self.inside.futures c.self.inside.next c.self.view_is c.self.invariant c.requires.next c.ranges.number.fits) c.args.o c.at_mut-entry.result.now c.at_mut-entry.ensures.value c.args.key c.discard.new.self c.discard.ensures)
+returns g c = rw (c.content.ensures, c.value-value.ensures) (removed g.C.TableCore.is_once (site g.C.TableCore.is_once c.self.inside.tables c.self.inside.futures c.self.inside.next c.self.view_is c.self.invariant c.requires.next c.ranges.number.fits) c.args.o c.at_mut-entry.result.now c.at_mut-entry.ensures.value c.args.key c.discard.new.self c.discard.ensures)

@@ -1,5 +1,5 @@
 use Rattle.std.proofs.Common.{ℕ, IfOk, option_map, sym, subst, ap, ◌∙◌}
-use Rattle.mea_named.specs.declared.named_waker.NamedWaker.{NamedWaker}
+use Rattle.mea_by_name.specs.declared.named_waker.NamedWaker.{NamedWaker}
 use Rattle.mea_once_core.specs.Cell.{Cell}
 use Rattle.mea_once_core.specs.Once.{Once}
 use Rattle.mea_once_model.specs.OnceHall.{Onces, Values}

@@ -27,15 +27,15 @@ count-requires-clause-few c = plain_fits (met (goal.at.count-requires-clause-few
 
 pub invariant_of-self-2 : goal.invariant_of-self-2
 invariant_of-self-2 c =
-    (acquire_done (met (goal.at.invariant_of-self-2 c).In-Some) _ _ c.args.n c.args.plain c.args.forgets c.count.new.self _ (while_named (met (goal.at.invariant_of-self-2 c).In-Some) c.in_ok-known.ensures.known)
+    (acquire_done (met (goal.at.invariant_of-self-2 c).In-Some) _ _ c.args.n c.is_plain-plain.result c.is_forgotten-forgets.result c.count.new.self _ (while_named (met (goal.at.invariant_of-self-2 c).In-Some) c.in_ok-known.ensures.known)
     (beside c.self.inside _ _ _ ((c.get_mut.follows.holds c.count.new.self).3 (search rules)).0) c.count.ensures
-    c.in_ok-insert.ensures.updates.0 (λ j. record { semaphore = c.args.s; acquire = c.new.ensures j; plain = c.args.plain; forgets = c.args.forgets })).kept
+    c.in_ok-insert.ensures.updates.0 (λ j. record { semaphore = c.args.s; acquire = c.new.ensures j; plain = c.is_plain-plain.result; forgets = c.is_forgotten-forgets.result })).kept
 
 pub returns-clause-played : goal.returns-clause-played
 returns-clause-played c =
-    (acquire_done (met (goal.at.returns-clause-played c).In-Some) _ _ c.args.n c.args.plain c.args.forgets c.count.new.self _ (while_named (met (goal.at.returns-clause-played c).In-Some) c.in_ok-known.ensures.known)
+    rw (← c.is_plain-plain.ensures, ← c.is_forgotten-forgets.ensures) ((acquire_done (met (goal.at.returns-clause-played c).In-Some) _ _ c.args.n c.is_plain-plain.result c.is_forgotten-forgets.result c.count.new.self _ (while_named (met (goal.at.returns-clause-played c).In-Some) c.in_ok-known.ensures.known)
     (beside c.self.inside _ _ _ ((c.get_mut.follows.holds c.count.new.self).3 (search rules)).0) c.count.ensures
-    c.in_ok-insert.ensures.updates.0 (λ j. record { semaphore = c.args.s; acquire = c.new.ensures j; plain = c.args.plain; forgets = c.args.forgets })).yields
+    c.in_ok-insert.ensures.updates.0 (λ j. record { semaphore = c.args.s; acquire = c.new.ensures j; plain = c.is_plain-plain.result; forgets = c.is_forgotten-forgets.result })).yields)
 
 pub returns-in_err-known-clause-refused : goal.returns-in_err-known-clause-refused
 returns-in_err-known-clause-refused c = refuses_first c.from_residual.result _ _ c.from_residual.ensures.1 (once_unnamed (met (goal.at.returns-in_err-known-clause-refused c).In-Some) _ c.in_err-known.ensures.unknown.0 ∙ ap (λ t. Some t) (sym c.in_err-known.ensures.unknown.1))

@@ -1,11 +1,11 @@
 use Rattle.std.proofs.Common.{refl, Bool, ◌≡◌, ◌+◌, sym, ap, subst, ◌∙◌, if◌then◌else◌, arith}
 use Rattle.std.specs.Option.{option_copied}
-use Rattle.mea_base.specs.declared.answer.Answer.{Answer}
-use Rattle.mea_base.specs.declared.answer.Answer.TheVariants.{Yes, No}
+use Rattle.mea_family.specs.declared.answer.Answer.{Answer}
+use Rattle.mea_family.specs.declared.answer.Answer.TheVariants.{Yes, No}
 use Rattle.mea_sem_model.specs.declared.event.SemEvent.TheVariants as events
 use Rattle.mea_sem_model.specs.Step.{step}
 use Rattle.mea_sem.specs.Store.{hall_of}
-use Rattle.mea_sem.specs.Play.{Yields}
+use Rattle.mea_family.specs.Play.{Yields}
 use Rattle.mea_sem.proofs.Meets.{MeetsSemaphore, store_in}
 use Rattle.mea_sem.proofs.Refusals.{unknown_missing, refuses_unknown, refuses}
 use Rattle.mea_sem.proofs.StandingSemaphores.{while_named, once_unnamed, done_closed}

@@ -21,13 +21,13 @@ returns-in_default-clause-refused c = inl (unknown_missing c.self.inside c.self.
 
 pub invariant_of-self-then-not-offers : goal.invariant_of-self-then-not-offers
 invariant_of-self-then-not-offers c =
-    (tried_for_nothing (met (goal.at.invariant_of-self-then-not-offers c).In-Some) c.args.n c.args.plain
+    (tried_for_nothing (met (goal.at.invariant_of-self-then-not-offers c).In-Some) c.args.n c.is_plain-plain.result
     _ c.in-Some.entry.now (beside c.self.inside _ _ _ ((c.get_mut.follows.holds c.in-Some.entry.now).3 (search rules)).0) refl (c.offers.ensures.lacks c.if-not-offers.true)).kept
 
 pub returns-then-not-offers-clause-played : goal.returns-then-not-offers-clause-played
 returns-then-not-offers-clause-played c =
-    (tried_for_nothing (met (goal.at.returns-then-not-offers-clause-played c).In-Some) c.args.n c.args.plain
-    _ c.in-Some.entry.now (beside c.self.inside _ _ _ ((c.get_mut.follows.holds c.in-Some.entry.now).3 (search rules)).0) refl (c.offers.ensures.lacks c.if-not-offers.true)).yields
+    rw (← c.is_plain-plain.ensures) ((tried_for_nothing (met (goal.at.returns-then-not-offers-clause-played c).In-Some) c.args.n c.is_plain-plain.result
+    _ c.in-Some.entry.now (beside c.self.inside _ _ _ ((c.get_mut.follows.holds c.in-Some.entry.now).3 (search rules)).0) refl (c.offers.ensures.lacks c.if-not-offers.true)).yields)
 
 pub take-requires-clause-few_things : goal.take-requires-clause-few_things
 take-requires-clause-few_things c = things_fit (met (goal.at.take-requires-clause-few_things c).In-Some)
@@ -38,7 +38,7 @@ take-requires-clause-few c = plain_fits (met (goal.at.take-requires-clause-few c
 pub invariant_of-self-2 : goal.invariant_of-self-2
 invariant_of-self-2 c =
     (tried (met (goal.at.invariant_of-self-2 c).In-Some)
-    c.args.n c.args.plain _ _ c.in-Some.entry.now c.take.new.self (while_named (met (goal.at.invariant_of-self-2 c).In-Some) c.in_ok-known.ensures.known)
+    c.args.n c.is_plain-plain.result _ _ c.in-Some.entry.now c.take.new.self (while_named (met (goal.at.invariant_of-self-2 c).In-Some) c.in_ok-known.ensures.known)
     (met (goal.at.invariant_of-self-2 c).In-Some).there (c.offers.ensures.open_still c.if-not-offers.false) (c.offers.ensures.enough c.if-not-offers.false)
     c.take.ensures.is c.take.ensures.held
     (beside c.self.inside _ _ _ ((c.get_mut.follows.holds c.take.new.self).3 (search rules)).0)
@@ -46,12 +46,12 @@ invariant_of-self-2 c =
 
 pub returns-clause-played : goal.returns-clause-played
 returns-clause-played c =
-    (tried (met (goal.at.returns-clause-played c).In-Some)
-    c.args.n c.args.plain _ _ c.in-Some.entry.now c.take.new.self (while_named (met (goal.at.returns-clause-played c).In-Some) c.in_ok-known.ensures.known)
+    rw (← c.is_plain-plain.ensures) ((tried (met (goal.at.returns-clause-played c).In-Some)
+    c.args.n c.is_plain-plain.result _ _ c.in-Some.entry.now c.take.new.self (while_named (met (goal.at.returns-clause-played c).In-Some) c.in_ok-known.ensures.known)
     (met (goal.at.returns-clause-played c).In-Some).there (c.offers.ensures.open_still c.if-not-offers.false) (c.offers.ensures.enough c.if-not-offers.false)
     c.take.ensures.is c.take.ensures.held
     (beside c.self.inside _ _ _ ((c.get_mut.follows.holds c.take.new.self).3 (search rules)).0)
-    c.in_ok-insert.ensures.updates.0).yields
+    c.in_ok-insert.ensures.updates.0).yields)
 
 pub returns-in_err-known-clause-refused : goal.returns-in_err-known-clause-refused
 returns-in_err-known-clause-refused c = refuses_first c.from_residual.result _ _ c.from_residual.ensures.1 (once_unnamed (met (goal.at.returns-in_err-known-clause-refused c).In-Some) _ c.in_err-known.ensures.unknown.0 ∙ ap (λ t. Some t) (sym c.in_err-known.ensures.unknown.1))

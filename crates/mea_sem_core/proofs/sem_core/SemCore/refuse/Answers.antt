@@ -1,6 +1,6 @@
 use Rattle.std.proofs.Common.{sym, refl, ◌∙◌, arith}
 use Rattle.mea_sem_core.proofs.Closings.{closing_dropped}
-use Rattle.mea_sem_core.proofs.Grants.{unlinked_from_absent}
+use Rattle.mea_base.proofs.Chains.{unlinked_from_absent}
 use Rattle.mea_sem_core.proofs.Held.{paid-view}
 use Rattle.mea_sem_core.proofs.Leaves.{slot_cut, cut_absent, drops}
 use Rattle.mea_sem_core.proofs.Sound.{sound}

@@ -3,7 +3,7 @@ use Rattle.mea_base.specs.WaitList.{get}
 use Rattle.mea_sem_core.specs.Core.{Acquires}
 use Rattle.mea_sem_core.specs.Places.{queue_of, granted_of, cut_of, paid_in, IsQueue}
 use Rattle.mea_sem_core.proofs.Closings.{closing_same}
-use Rattle.mea_sem_core.proofs.Enqueues.{enqueues, absent_from_none, waiting_absent, not_granted, IsQueue-spare}
+use Rattle.mea_sem_core.proofs.Enqueues.{enqueues, absent_from_none, waiting_absent, not_granted, not_cut, IsQueue-spare}
 use Rattle.mea_sem_core.proofs.Held.{paid-view}
 use Rattle.mea_sem_core.proofs.Steadies.{steady_queues}
 use Rattle.mea_sem_core.proofs.Sound.{sound}
@@ -57,6 +57,7 @@ returns-clause-waits g c = λ short.
         not_waiting = waiting_absent c.self.inside.waiters.slots c.in-Ok.number c.self.inside.waiters.order
             (absent_from_none _ _ _ fresh c.self.invariant.kept.waiting);
         not_granted = not_granted c.self.inside.waiters.slots _ fresh;
+        not_cut = not_cut c.self.inside.waiters.slots _ fresh;
       },
     )
 

@@ -1,6 +1,6 @@
 use Rattle.std.proofs.Common.{ℕ, ap, sym, arith, ◌∙◌}
 use Rattle.mea_base.specs.Ready.{Waking}
-use Rattle.mea_named.specs.Play.{Part}
+use Rattle.mea_family.specs.Play.{Part}
 use Rattle.mea_share_model.specs.Admissions.{ShareHall, registered}
 use Rattle.mea_share.proofs.Playing.{none_registered}
 use Rattle.mea_share.proofs.hall.ShareHall.new.Goals as goal

@@ -16,7 +16,7 @@ pub begin-requires-clause-plain : goal.begin-requires-clause-plain
 begin-requires-clause-plain c = (few_things (site c.self.inside.admissions c.self.inside.futures c.self.inside.permits c.self.inside.next c.self.view_is c.self.invariant c.requires.next c.ranges.number.fits) c.args.o c.at_mut-entry.result.now c.at_mut-entry.ensures.value).1
 
 pub invariant_of-self-2 : goal.invariant_of-self-2
-invariant_of-self-2 c = rw (c.begin.ensures, c.in-Ok-insert.ensures.ok) (begins_one (site c.self.inside.admissions c.self.inside.futures c.self.inside.permits c.self.inside.next c.self.view_is c.self.invariant c.requires.next c.ranges.number.fits) c.args.o c.at_mut-entry.result.now c.at_mut-entry.ensures.value c.args.plain c.args.k c.new-2.result c.requires.named (rw c.in-Ok.ensures.ok at c.new-2.ensures)).0
+invariant_of-self-2 c = rw (c.begin.ensures, c.in-Ok-insert.ensures.ok) (begins_one (site c.self.inside.admissions c.self.inside.futures c.self.inside.permits c.self.inside.next c.self.view_is c.self.invariant c.requires.next c.ranges.number.fits) c.args.o c.at_mut-entry.result.now c.at_mut-entry.ensures.value c.is_plain-plain.result c.args.k c.new-2.result c.requires.named (rw c.in-Ok.ensures.ok at c.new-2.ensures)).0
 
 pub returns-clause-ok : goal.returns-clause-ok
-returns-clause-ok c = rw (c.begin.ensures, c.in-Ok-insert.ensures.ok) (begins_one (site c.self.inside.admissions c.self.inside.futures c.self.inside.permits c.self.inside.next c.self.view_is c.self.invariant c.requires.next c.ranges.number.fits) c.args.o c.at_mut-entry.result.now c.at_mut-entry.ensures.value c.args.plain c.args.k c.new-2.result c.requires.named (rw c.in-Ok.ensures.ok at c.new-2.ensures)).1
+returns-clause-ok c = rw (← c.is_plain-plain.ensures, c.begin.ensures, c.in-Ok-insert.ensures.ok) (begins_one (site c.self.inside.admissions c.self.inside.futures c.self.inside.permits c.self.inside.next c.self.view_is c.self.invariant c.requires.next c.ranges.number.fits) c.args.o c.at_mut-entry.result.now c.at_mut-entry.ensures.value c.is_plain-plain.result c.args.k c.new-2.result c.requires.named (rw c.in-Ok.ensures.ok at c.new-2.ensures)).1

@@ -1,0 +1,103 @@
+ghost use Rattle.std.specs.Prelude.{◌≡◌, ◌≢◌, ◌+◌, ◌^◌, ◌<◌, [], length, OnOk};
+
+use crate::workload::Workload;
+use mea_events::Event;
+use mea_family::Stop;
+use mea_hall::Hall;
+use std::alloc::{AllocError, Global};
+use std::io;
+use std::time::{Clock, Instant};
+
+/// Why there is no report.
+#[derive(Clone, Copy, Debug, PartialEq, Eq)]
+pub enum Fault {
+    /// The clock failed.
+    Clock,
+    /// A write failed.
+    Write,
+    /// There was no memory.
+    NoMemory,
+    /// An event was refused: a workload names something that does not live.
+    Refused(Stop),
+}
+
+impl Fault {
+    /// The code with which the program ends.
+    pub fn code(self) -> u8
+        ensures clock { self ≡ Fault.Clock → result ≡ 4 }
+        ensures write { self ≡ Fault.Write → result ≡ 5 }
+        ensures no_memory { self ≡ Fault.NoMemory → result ≡ 6 }
+        ensures refused { (stop : Stop) → self ≡ Fault.Refused stop → result ≡ 1 }
+    {
+        match self {
+            Fault::Clock => 4,
+            Fault::Write => 5,
+            Fault::NoMemory => 6,
+            Fault::Refused(_) => 1,
+        }
+    }
+}
+
+impl From<io::Error> for Fault {
+    fn from(_: io::Error) -> Fault {
+        Fault::Write
+    }
+}
+
+impl From<AllocError> for Fault {
+    fn from(_: AllocError) -> Fault {
+        Fault::NoMemory
+    }
+}
+
+/// How long one event of the workload takes, on halls of its own. The events are made before the clock is read,
+/// and each wake is taken.
+pub fn nanoseconds_per_event(
+    rt: &(impl Clock + AllocGlobal),
+    workload: Workload,
+    rounds: u64,
+) -> Result<u128, Fault> {
+    let events = events_of(rt.alloc(), workload, rounds)?;
+    let Ok(start) = Instant::now(rt) else {
+        return Err(Fault::Clock);
+    };
+    play(rt.alloc(), events.as_slice())?;
+    match start.elapsed(rt) {
+        Ok(elapsed) => Ok(elapsed.as_nanos() / events.len().max(1) as u128),
+        Err(_) => Err(Fault::Clock),
+    }
+}
+
+fn events_of(alloc: Global, workload: Workload, rounds: u64) -> Result<Vec<Event>, Fault> {
+    let mut events = Vec::new(alloc);
+    workload.push_start(&mut events)?;
+    for _ in 0..rounds {
+        workload.push_round(&mut events)?;
+    }
+    Ok(events)
+}
+
+// The halls are dropped at one exit, since a proof takes all their types apart at each.
+fn play(alloc: Global, events: &[Event]) -> Result<(), Fault> {
+    let mut hall = Hall::new(alloc);
+    play_on(&mut hall, events)
+}
+
+fn play_on(hall: &mut Hall, events: &[Event]) -> Result<(), Fault>
+    requires { hall.old.events ≡ 0 }
+{
+    for event in events {
+        match hall.act(event) {
+            Ok(_) => drain(hall),
+            Err(Stop::NoMemory) => return Err(Fault::NoMemory),
+            Err(stop) => return Err(Fault::Refused(stop)),
+        }
+    }
+    Ok(())
+}
+
+fn drain(hall: &mut Hall)
+    ensures { hall.new ≡ record hall.old { wakes = [] } }
+{
+    while hall.next_wake().is_some() {}
+}

@@ -1,0 +1,6 @@
+pub mod ByName
+pub mod ByNameLends
+pub mod NamedQueue
+pub mod NamedWaker
+pub mod LackingQueue
+pub mod HallKept

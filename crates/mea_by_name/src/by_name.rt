@@ -1,0 +1,106 @@
+ghost use Rattle.std.specs.Prelude.{true, if◌then◌else◌, ◌≡◌, OnOk, OnErr, IfSome, IsSome, Some, is_some};
+ghost use Rattle.std.specs.Option.{option_copied};
+ghost use Rattle.std.specs.Borrow.{sem};
+ghost use Rattle.std.specs.FinMap as map;
+
+use mea_base::NoMemory;
+use std::alloc::Global;
+use std::collections::HashMap;
+use std::marker::Model;
+
+/// Things by name. Each call costs a look-up in a hashed map.
+#[derive(Drop)]
+pub struct ByName<X> {
+    map: HashMap<u64, X>,
+}
+
+impl<X> Model for ByName<X> {
+    ghost use Rattle.mea_by_name.specs.ByName.{Names, names_code, kept};
+
+    ghost Value = { Names X };
+
+    ghost coded = { names_code X.code };
+
+    ghost view = { λ m. kept m.map.entries };
+}
+
+impl<X> ByName<X> {
+    ghost use Rattle.mea_by_name.specs.ByNameLends.{lends_value};
+
+    /// No name. It takes no memory.
+    pub fn new(alloc: Global) -> Self
+        ensures { result ≡ map.empty }
+    {
+        ByName {
+            map: HashMap::new(alloc),
+        }
+    }
+
+    /// What stands at a name, if anything does.
+    pub fn get(&self, name: u64) -> Option<&X>
+        ensures { option_copied result ≡ map.get self.now name }
+    {
+        self.map.get(&name)
+    }
+
+    /// Whether anything stands at a name.
+    pub fn has(&self, name: u64) -> bool
+        ensures { result ≡ is_some (map.get self.now name) }
+    {
+        self.map.contains_key(&name)
+    }
+
+    /// What stands at a name.
+    pub fn at(&self, name: u64) -> &X
+        requires { IsSome (map.get self.now name) }
+        ensures { map.get self.now name ≡ Some result.now }
+    {
+        self.map.get(&name).unwrap()
+    }
+
+    /// What stands at a name, for writing.
+    pub fn at_mut(&mut self, name: u64) -> &mut X
+        requires { IsSome (map.get self.old name) }
+        ensures* writes_back { sem 𝓛 (lends_value X.row self.entry name result) }
+        ensures value { map.get self.old name ≡ Some result.now }
+    {
+        self.map.get_mut(&name).unwrap()
+    }
+
+    /// Puts a thing at a name. On an error nothing has changed.
+    pub fn insert(&mut self, name: u64, x: X) -> Result<(), NoMemory>
+    where
+        X: Drop,
+        ensures ok { OnOk result (self.new ≡ map.insert self.old name x) }
+        ensures err { OnErr result (self.new ≡ self.old) }
+    {
+        match self.map.insert(name, x) {
+            Ok(_) => Ok(()),
+            Err(_) => Err(NoMemory),
+        }
+    }
+
+    /// Takes the thing at a name away. It takes no memory.
+    pub fn remove(&mut self, name: u64) -> X
+        requires { IsSome (map.get self.old name) }
+        ensures value { map.get self.old name ≡ Some result }
+        ensures rest { self.new ≡ map.remove self.old name }
+    {
+        match self.map.remove(&name) {
+            Some(x) => x,
+            None => unreachable!(),
+        }
+    }
+
+    /// Takes the thing at a name away where it is over. It takes no memory.
+    pub fn remove_if(&mut self, name: u64, over: bool)
+    where
+        X: Drop,
+        requires { over ≡ true → IsSome (map.get self.old name) }
+        ensures { self.new ≡ (if over then map.remove self.old name else self.old) }
+    {
+        if over {
+            let _ = self.remove(name);
+        }
+    }
+}

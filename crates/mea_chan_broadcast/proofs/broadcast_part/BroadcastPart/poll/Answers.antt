@@ -1,0 +1,37 @@
+use Rattle.std.proofs.Common.{refl}
+use Rattle.mea_base.proofs.Maps.{is_there, get-there}
+use Rattle.mea_chan_broadcast.proofs.Events.{site, future_there, receiver_some, futures_channel, poll_cursor, poll_given, its_room, unpolled, polled}
+use Rattle.mea_chan_broadcast.proofs.broadcast_part.BroadcastPart.poll.Goals as goal
+
+pub at_mut-future-requires : goal.at_mut-future-requires
+at_mut-future-requires c = future_there (site c.self.inside.channels c.self.inside.senders c.self.inside.receivers c.self.inside.futures c.self.inside.next c.self.view_is c.self.invariant c.requires.next) c.args.f c.requires.there
+
+pub at_mut-receiver-requires : goal.at_mut-receiver-requires
+at_mut-receiver-requires c = receiver_some (site c.self.inside.channels c.self.inside.senders c.self.inside.receivers c.self.inside.futures c.self.inside.next c.self.view_is c.self.invariant c.requires.next) c.args.f c.at_mut-future.result.now c.at_mut-future.ensures.value
+
+pub at_mut-entry-requires : goal.at_mut-entry-requires
+at_mut-entry-requires c = futures_channel (site c.self.inside.channels c.self.inside.senders c.self.inside.receivers c.self.inside.futures c.self.inside.next c.self.view_is c.self.invariant c.requires.next) c.args.f c.at_mut-future.result.now c.at_mut-future.ensures.value
+
+pub poll-requires-clause-cursor : goal.poll-requires-clause-cursor
+poll-requires-clause-cursor c = poll_cursor (site c.self.inside.channels c.self.inside.senders c.self.inside.receivers c.self.inside.futures c.self.inside.next c.self.view_is c.self.invariant c.requires.next) c.args.f c.at_mut-future.result.now c.at_mut-future.ensures.value c.at_mut-receiver.result.now c.at_mut-receiver.ensures.value c.at_mut-entry.result.now c.at_mut-entry.ensures.value
+
+pub poll-requires-clause-wait : goal.poll-requires-clause-wait
+poll-requires-clause-wait c = poll_given (site c.self.inside.channels c.self.inside.senders c.self.inside.receivers c.self.inside.futures c.self.inside.next c.self.view_is c.self.invariant c.requires.next) c.args.f c.at_mut-future.result.now c.at_mut-future.ensures.value c.at_mut-receiver.result.now c.at_mut-receiver.ensures.value c.at_mut-entry.result.now c.at_mut-entry.ensures.value
+
+pub poll-requires-clause-room : goal.poll-requires-clause-room
+poll-requires-clause-room c = its_room (site c.self.inside.channels c.self.inside.senders c.self.inside.receivers c.self.inside.futures c.self.inside.next c.self.view_is c.self.invariant c.requires.next) c.at_mut-future.result.now.channel c.at_mut-entry.result.now c.at_mut-entry.ensures.value c.args.ready.now c.requires.room
+
+pub invariant_of-self : goal.invariant_of-self
+invariant_of-self c = (unpolled (site c.self.inside.channels c.self.inside.senders c.self.inside.receivers c.self.inside.futures c.self.inside.next c.self.view_is c.self.invariant c.requires.next) c.at_mut-future.result.now.channel c.at_mut-entry.result.now _ c.at_mut-future.result.now.receiver c.at_mut-receiver.result.now _ c.args.f c.at_mut-future.result.now _ c.at_mut-entry.ensures.value c.at_mut-receiver.ensures.value c.at_mut-future.ensures.value (λ j. record { core = c.in_default.ensures.err.0 j; receivers = c.at_mut-entry.result.now.receivers }) (λ j. record { channel = c.at_mut-receiver.result.now.channel; cursor = c.in_default.ensures.err.1 j; user = c.at_mut-receiver.result.now.user }) (λ j. record { receiver = c.at_mut-future.result.now.receiver; channel = c.at_mut-future.result.now.channel; wait = c.in_default.ensures.err.2 j })).0
+
+pub returns-in_default-clause-err : goal.returns-in_default-clause-err
+returns-in_default-clause-err c = ((unpolled (site c.self.inside.channels c.self.inside.senders c.self.inside.receivers c.self.inside.futures c.self.inside.next c.self.view_is c.self.invariant c.requires.next) c.at_mut-future.result.now.channel c.at_mut-entry.result.now _ c.at_mut-future.result.now.receiver c.at_mut-receiver.result.now _ c.args.f c.at_mut-future.result.now _ c.at_mut-entry.ensures.value c.at_mut-receiver.ensures.value c.at_mut-future.ensures.value (λ j. record { core = c.in_default.ensures.err.0 j; receivers = c.at_mut-entry.result.now.receivers }) (λ j. record { channel = c.at_mut-receiver.result.now.channel; cursor = c.in_default.ensures.err.1 j; user = c.at_mut-receiver.result.now.user }) (λ j. record { receiver = c.at_mut-future.result.now.receiver; channel = c.at_mut-future.result.now.channel; wait = c.in_default.ensures.err.2 j })).1, c.in_default.ensures.err.3)
+
+pub remove_if-requires : goal.remove_if-requires
+remove_if-requires c = λ over. is_there _ _ (get-there c.self.inside.futures c.args.f (record { receiver = c.at_mut-future.result.now.receiver; channel = c.at_mut-future.result.now.channel; wait = c.poll.new.wait }))
+
+pub invariant_of-self-2 : goal.invariant_of-self-2
+invariant_of-self-2 c = rw c.remove_if.ensures (polled (site c.self.inside.channels c.self.inside.senders c.self.inside.receivers c.self.inside.futures c.self.inside.next c.self.view_is c.self.invariant c.requires.next) c.args.f c.at_mut-future.result.now c.at_mut-future.ensures.value c.at_mut-receiver.result.now c.at_mut-receiver.ensures.value c.at_mut-entry.result.now c.at_mut-entry.ensures.value c.ranges.number.fits c.args.waker c.in-Ok.answer c.poll.new.core _ (record { receiver = c.at_mut-future.result.now.receiver; channel = c.at_mut-future.result.now.channel; wait = c.poll.new.wait }) c.args.ready.now c.poll.new.ready refl c.is_answered-over.result c.is_answered-over.ensures (λ j. record { channel = c.at_mut-receiver.result.now.channel; cursor = c.poll.new.cursor.position; user = c.user_unless-receiver.ensures j }) c.in-Ok.ensures.polls).0
+
+pub returns-clause-ok : goal.returns-clause-ok
+returns-clause-ok c = rw c.remove_if.ensures (polled (site c.self.inside.channels c.self.inside.senders c.self.inside.receivers c.self.inside.futures c.self.inside.next c.self.view_is c.self.invariant c.requires.next) c.args.f c.at_mut-future.result.now c.at_mut-future.ensures.value c.at_mut-receiver.result.now c.at_mut-receiver.ensures.value c.at_mut-entry.result.now c.at_mut-entry.ensures.value c.ranges.number.fits c.args.waker c.in-Ok.answer c.poll.new.core _ (record { receiver = c.at_mut-future.result.now.receiver; channel = c.at_mut-future.result.now.channel; wait = c.poll.new.wait }) c.args.ready.now c.poll.new.ready refl c.is_answered-over.result c.is_answered-over.ensures (λ j. record { channel = c.at_mut-receiver.result.now.channel; cursor = c.poll.new.cursor.position; user = c.user_unless-receiver.ensures j }) c.in-Ok.ensures.polls).1

@@ -1,0 +1,390 @@
+ghost use Rattle.std.specs.Prelude.{ℕ, ◌≡◌, ◌≤◌, ◌<◌, ◌==◌, OnErr, IfOk, IfSome, is_some, None, Some, true, false, if◌then◌else◌};
+ghost use Rattle.std.specs.FinMap as map;
+ghost use Rattle.mea_family.specs.Family.{is_pending};
+ghost use Rattle.mea_family.specs.Play.{PartYields, PartRests};
+ghost use Rattle.std.specs.Int.{IsNextPowerOfTwo};
+ghost use Rattle.mea_broadcast_core.specs.Broadcast.{IsFresh};
+ghost use Rattle.mea_chan_model.specs.Broadcasts.{Broadcast, join, no_broadcasts, is_broadcast, is_sender, is_hearing, is_over, registered};
+ghost use Rattle.mea_chan_model.specs.BroadcastActions.{broadcast_cause, broadcast_act, unusable, Open, AddSender, SendAll, EndSender, Subscribe, Resubscribe, CopyReceiver, Hear, EndReceiver, BeginHear, PollHear, EndHear};
+ghost use Rattle.mea_chan_broadcast.specs.BroadcastLends.{StandsForBroadcast};
+ghost use Rattle.mea_chan_broadcast.specs.BroadcastParts.{broadcast_seen};
+
+use crate::broadcast_calls;
+use crate::broadcast_entry::BroadcastEntry;
+use crate::listener_entry::ListenerEntry;
+use crate::recv_entry::RecvEntry;
+use mea_base::{NoMemory, Ready};
+use mea_broadcast_core::{BroadcastCore, Cursor, RecvWait};
+use mea_by_name::{ByName, NamedWaker};
+use mea_family::{Answer, Stop, borrowed_if, overflow_if};
+use std::alloc::Global;
+use std::marker::Model;
+
+/// The broadcast channels with their senders, receivers and futures, each by the number of the event that made it. Each
+/// call costs a look-up by name and the wakers that it makes ready.
+#[derive(Drop)]
+pub struct BroadcastPart {
+    channels: ByName<BroadcastEntry>,
+    // The channel of each sender.
+    senders: ByName<u64>,
+    receivers: ByName<ListenerEntry>,
+    futures: ByName<RecvEntry>,
+    next: u128,
+}
+
+impl Model for BroadcastPart {
+    ghost use Rattle.mea_family.specs.Play.{Part, part_code};
+    ghost use Rattle.mea_chan_model.specs.Broadcasts.{Broadcasts, broadcasts_code};
+
+    ghost Value = { Part Broadcasts };
+
+    ghost coded = { part_code broadcasts_code };
+
+    ghost use Rattle.mea_chan_broadcast.specs.BroadcastParts.{broadcasts_seen, AreKeptBroadcasts};
+
+    ghost view = { λ a. record { hall = broadcasts_seen a.channels a.senders a.receivers a.futures; next = a.next } };
+
+    ghost invariant = { λ a. AreKeptBroadcasts a.channels a.senders a.receivers a.futures a.next };
+}
+
+impl BroadcastPart {
+    /// No channel. It takes no memory.
+    pub fn new(alloc: Global) -> Self
+        ensures { result ≡ record { hall = no_broadcasts; next = 0 } }
+    {
+        BroadcastPart {
+            channels: ByName::new(alloc),
+            senders: ByName::new(alloc),
+            receivers: ByName::new(alloc),
+            futures: ByName::new(alloc),
+            next: 0,
+        }
+    }
+
+    /// The core of a channel of which a sender or a receiver lives.
+    pub fn core(&self, o: u64) -> Option<&BroadcastCore<u64, NamedWaker>>
+        ensures there { is_some result ≡ is_broadcast self.now.hall o }
+        ensures stands { IfSome result (λ core. StandsForBroadcast self.now.hall o core.now) }
+    {
+        let entry = self.channels.get(o)?;
+        Some(&entry.core)
+    }
+
+    /// Whether a sender has this name. It takes no memory.
+    pub fn is_sender(&self, s: u64) -> bool
+        ensures { result ≡ is_sender self.now.hall s }
+    {
+        self.senders.has(s)
+    }
+
+    /// Whether a future has this name. It takes no memory.
+    pub fn is_future(&self, f: u64) -> bool
+        ensures { result ≡ is_hearing self.now.hall f }
+    {
+        self.futures.has(f)
+    }
+
+    /// Why a further sender is refused: the one beside it is unknown, or the channel has as many as it may have.
+    pub fn cause_of_copy(&self, s: u64) -> Option<Stop>
+        ensures { result ≡ broadcast_cause self.now.hall (AddSender s) }
+    {
+        match self.senders.get(s) {
+            Some(o) => overflow_if(self.channels.at(*o).core.senders() == usize::MAX),
+            None => Some(Stop::Unknown),
+        }
+    }
+
+    /// Why a message is refused: its sender is unknown, or the last position is taken.
+    pub fn cause_of_send(&self, s: u64) -> Option<Stop>
+        ensures { (message : ℕ) → result ≡ broadcast_cause self.now.hall (SendAll s message) }
+    {
+        match self.senders.get(s) {
+            Some(o) => overflow_if(self.channels.at(*o).core.tail() == u64::MAX),
+            None => Some(Stop::Unknown),
+        }
+    }
+
+    /// Why what is done by a receiver is refused: it is unknown, or a future uses it alone.
+    pub fn cause_of_use(&self, r: u64) -> Option<Stop>
+        ensures { result ≡ unusable (map.get self.now.hall.receivers r) }
+    {
+        match self.receivers.get(r) {
+            Some(receiver) => borrowed_if(receiver.user.is_some()),
+            None => Some(Stop::Unknown),
+        }
+    }
+
+    /// Makes a channel whose ring keeps `capacity` messages or more, with a sender and a receiver. On an error nothing
+    /// has changed.
+    pub fn make(&mut self, number: u64, alloc: Global, capacity: u64) -> Result<Answer, NoMemory>
+        requires next { self.old.next ≤ number }
+        requires some { 0 < capacity }
+        requires few { capacity ≤ 9223372036854775808 }
+        ensures ok { IfOk result (λ answer. PartRests registered self.old number (broadcast_act self.old.hall number (Open capacity)) answer self.new) }
+        ensures err { OnErr result (self.new ≡ self.old) }
+    {
+        let Ok(core) = BroadcastCore::new(alloc, capacity as usize) else {
+            return Err(NoMemory);
+        };
+        self.place(number, core, capacity)
+    }
+
+    // Puts a new core, with a sender and a receiver.
+    fn place(
+        &mut self,
+        number: u64,
+        core: BroadcastCore<u64, NamedWaker>,
+        capacity: u64,
+    ) -> Result<Answer, NoMemory>
+        requires next { self.old.next ≤ number }
+        requires new { IsFresh core 0 × IsNextPowerOfTwo capacity core.size }
+        requires some { 0 < capacity }
+        requires few { capacity ≤ 9223372036854775808 }
+        ensures ok { IfOk result (λ answer. PartRests registered self.old number (broadcast_act self.old.hall number (Open capacity)) answer self.new) }
+        ensures err { OnErr result (self.new ≡ self.old) }
+    {
+        let receiver = ListenerEntry {
+            channel: number,
+            cursor: core.subscribe(),
+            user: None,
+        };
+        let Ok(()) = self.senders.insert(number, number) else {
+            return Err(NoMemory);
+        };
+        let Ok(()) = self.receivers.insert(number, receiver) else {
+            let _ = self.senders.remove(number);
+            return Err(NoMemory);
+        };
+        let Ok(()) = self
+            .channels
+            .insert(number, BroadcastEntry { core, receivers: 1 })
+        else {
+            let _ = self.senders.remove(number);
+            let _ = self.receivers.remove(number);
+            return Err(NoMemory);
+        };
+        self.next = number as u128 + 1;
+        Ok(Answer::Made)
+    }
+
+    /// Makes a further sender. On an error nothing has changed.
+    pub fn copy_sender(&mut self, number: u64, s: u64) -> Result<Answer, NoMemory>
+        requires next { self.old.next ≤ number }
+        requires allowed { broadcast_cause self.old.hall (AddSender s) ≡ None }
+        ensures ok { IfOk result (λ answer. PartRests registered self.old number (broadcast_act self.old.hall number (AddSender s)) answer self.new) }
+        ensures err { OnErr result (self.new ≡ self.old) }
+    {
+        let o = *self.senders.at(s);
+        let Ok(()) = self.senders.insert(number, o) else {
+            return Err(NoMemory);
+        };
+        let _ = self.channels.at_mut(o).core.add_sender();
+        self.next = number as u128 + 1;
+        Ok(Answer::Made)
+    }
+
+    /// Sends a message to all receivers. It takes no memory.
+    pub fn send(&mut self, number: u64, s: u64, message: u64, ready: &mut Ready<u64>) -> Answer
+        requires next { self.old.next ≤ number }
+        requires allowed { broadcast_cause self.old.hall (SendAll s message) ≡ None }
+        requires room { registered self.old.hall ≤ ready.old.registered }
+        ensures { PartYields registered self.old number (broadcast_act self.old.hall number (SendAll s message)) result self.new ready.old ready.new }
+    {
+        let o = *self.senders.at(s);
+        broadcast_calls::send(&mut self.channels.at_mut(o).core, message, ready);
+        self.next = number as u128 + 1;
+        Answer::Done
+    }
+
+    /// Ends a sender. It takes no memory.
+    pub fn end_sender(&mut self, number: u64, s: u64, ready: &mut Ready<u64>) -> Answer
+        requires next { self.old.next ≤ number }
+        requires there { is_sender self.old.hall s ≡ true }
+        requires room { registered self.old.hall ≤ ready.old.registered }
+        ensures { PartYields registered self.old number (broadcast_act self.old.hall number (EndSender s)) result self.new ready.old ready.new }
+    {
+        let o = self.senders.remove(s);
+        let entry = self.channels.at_mut(o);
+        broadcast_calls::end_sender(&mut entry.core, ready);
+        let over = is_over(entry);
+        self.channels.remove_if(o, over);
+        self.next = number as u128 + 1;
+        Answer::Done
+    }
+
+    /// Makes a receiver of what is sent from now on, beside a sender. On an error nothing has changed.
+    pub fn subscribe(&mut self, number: u64, s: u64) -> Result<Answer, NoMemory>
+        requires next { self.old.next ≤ number }
+        requires there { is_sender self.old.hall s ≡ true }
+        ensures ok { IfOk result (λ answer. PartRests registered self.old number (broadcast_act self.old.hall number (Subscribe s)) answer self.new) }
+        ensures err { OnErr result (self.new ≡ self.old) }
+    {
+        let o = *self.senders.at(s);
+        let cursor = self.channels.at(o).core.subscribe();
+        self.join(number, o, cursor)
+    }
+
+    /// Makes a receiver of what is sent from now on, beside a receiver. On an error nothing has changed.
+    pub fn resubscribe(&mut self, number: u64, r: u64) -> Result<Answer, NoMemory>
+        requires next { self.old.next ≤ number }
+        requires allowed { unusable (map.get self.old.hall.receivers r) ≡ None }
+        ensures ok { IfOk result (λ answer. PartRests registered self.old number (broadcast_act self.old.hall number (Resubscribe r)) answer self.new) }
+        ensures err { OnErr result (self.new ≡ self.old) }
+    {
+        let o = self.receivers.at(r).channel;
+        let cursor = self.channels.at(o).core.subscribe();
+        self.join(number, o, cursor)
+    }
+
+    /// Makes a receiver that has passed the same messages. On an error nothing has changed.
+    pub fn copy_receiver(&mut self, number: u64, r: u64) -> Result<Answer, NoMemory>
+        requires next { self.old.next ≤ number }
+        requires allowed { unusable (map.get self.old.hall.receivers r) ≡ None }
+        ensures ok { IfOk result (λ answer. PartRests registered self.old number (broadcast_act self.old.hall number (CopyReceiver r)) answer self.new) }
+        ensures err { OnErr result (self.new ≡ self.old) }
+    {
+        let receiver = self.receivers.at(r);
+        let o = receiver.channel;
+        let cursor = self.channels.at(o).core.copy(&receiver.cursor);
+        self.join(number, o, cursor)
+    }
+
+    // Makes a receiver with this cursor.
+    fn join(&mut self, number: u64, o: u64, cursor: Cursor) -> Result<Answer, NoMemory>
+        requires next { self.old.next ≤ number }
+        requires there { (c : Broadcast) × (map.get self.old.hall.channels o ≡ Some c) × (cursor.position ≤ c.tail) }
+        ensures ok { IfOk result (λ answer. (c : Broadcast) → map.get self.old.hall.channels o ≡ Some c → PartRests registered self.old number (join self.old.hall number cursor.position o c) answer self.new) }
+        ensures err { OnErr result (self.new ≡ self.old) }
+    {
+        let receiver = ListenerEntry {
+            channel: o,
+            cursor,
+            user: None,
+        };
+        let Ok(()) = self.receivers.insert(number, receiver) else {
+            return Err(NoMemory);
+        };
+        self.channels.at_mut(o).receivers += 1;
+        self.next = number as u128 + 1;
+        Ok(Answer::Made)
+    }
+
+    /// Takes the next message of a receiver, if there is one. On an error nothing has changed.
+    pub fn hear(&mut self, number: u64, r: u64) -> Result<Answer, NoMemory>
+        requires next { self.old.next ≤ number }
+        requires allowed { unusable (map.get self.old.hall.receivers r) ≡ None }
+        ensures ok { IfOk result (λ answer. PartRests registered self.old number (broadcast_act self.old.hall number (Hear r)) answer self.new) }
+        ensures err { OnErr result (self.new ≡ self.old) }
+    {
+        let o = self.receivers.at(r).channel;
+        let core = &self.channels.at(o).core;
+        let receiver = self.receivers.at_mut(r);
+        let Ok(answer) = broadcast_calls::hear(core, &mut receiver.cursor) else {
+            return Err(NoMemory);
+        };
+        self.next = number as u128 + 1;
+        Ok(answer)
+    }
+
+    /// Ends a receiver. It takes no memory.
+    pub fn end_receiver(&mut self, number: u64, r: u64) -> Answer
+        requires next { self.old.next ≤ number }
+        requires allowed { unusable (map.get self.old.hall.receivers r) ≡ None }
+        ensures { PartRests registered self.old number (broadcast_act self.old.hall number (EndReceiver r)) result self.new }
+    {
+        let o = self.receivers.remove(r).channel;
+        let entry = self.channels.at_mut(o);
+        entry.receivers -= 1;
+        let over = is_over(entry);
+        self.channels.remove_if(o, over);
+        self.next = number as u128 + 1;
+        Answer::Done
+    }
+
+    /// Makes a future that uses a receiver alone. On an error nothing has changed.
+    pub fn begin(&mut self, number: u64, r: u64) -> Result<Answer, NoMemory>
+        requires next { self.old.next ≤ number }
+        requires allowed { unusable (map.get self.old.hall.receivers r) ≡ None }
+        ensures ok { IfOk result (λ answer. PartRests registered self.old number (broadcast_act self.old.hall number (BeginHear r)) answer self.new) }
+        ensures err { OnErr result (self.new ≡ self.old) }
+    {
+        let future = RecvEntry {
+            receiver: r,
+            channel: self.receivers.at(r).channel,
+            wait: RecvWait::new(),
+        };
+        let Ok(()) = self.futures.insert(number, future) else {
+            return Err(NoMemory);
+        };
+        self.receivers.at_mut(r).user = Some(number);
+        self.next = number as u128 + 1;
+        Ok(Answer::Made)
+    }
+
+    /// Polls a future, which is gone unless it waits. On an error nothing has changed.
+    pub fn poll(
+        &mut self,
+        number: u64,
+        f: u64,
+        waker: u64,
+        ready: &mut Ready<u64>,
+    ) -> Result<Answer, NoMemory>
+        requires next { self.old.next ≤ number }
+        requires there { is_hearing self.old.hall f ≡ true }
+        requires room { registered self.old.hall ≤ ready.old.registered }
+        ensures ok { IfOk result (λ answer. PartYields registered self.old number (broadcast_act self.old.hall number (PollHear f waker)) answer self.new ready.old ready.new) }
+        ensures err { OnErr result ((self.new ≡ self.old) × (ready.new ≡ ready.old)) }
+    {
+        let waker = NamedWaker { future: f, waker };
+        let future = self.futures.at_mut(f);
+        let receiver = self.receivers.at_mut(future.receiver);
+        let entry = self.channels.at_mut(future.channel);
+        let Ok(answer) = broadcast_calls::poll(
+            &mut entry.core,
+            &mut receiver.cursor,
+            &mut future.wait,
+            waker,
+            ready,
+        ) else {
+            return Err(NoMemory);
+        };
+        let over = is_answered(answer);
+        receiver.user = user_unless(over, f);
+        self.futures.remove_if(f, over);
+        self.next = number as u128 + 1;
+        Ok(answer)
+    }
+
+    /// Ends a future; its waker stays. It takes no memory.
+    pub fn end_future(&mut self, number: u64, f: u64) -> Answer
+        requires next { self.old.next ≤ number }
+        requires there { is_hearing self.old.hall f ≡ true }
+        ensures { PartRests registered self.old number (broadcast_act self.old.hall number (EndHear f)) result self.new }
+    {
+        let future = self.futures.remove(f);
+        self.receivers.at_mut(future.receiver).user = None;
+        self.next = number as u128 + 1;
+        Answer::Done
+    }
+}
+
+// Whether no sender and no receiver is left.
+fn is_over(entry: &BroadcastEntry) -> bool
+    ensures { result ≡ is_over (broadcast_seen entry.now) }
+{
+    entry.core.senders() == 0 && entry.receivers == 0
+}
+
+// Whether a future has its answer.
+fn is_answered(answer: Answer) -> bool
+    ensures { result ≡ (if is_pending answer then false else true) }
+{
+    !matches!(answer, Answer::Pending)
+}
+
+// Who uses a receiver, unless that is over.
+fn user_unless(over: bool, f: u64) -> Option<u64>
+    ensures { result ≡ (if over then None else Some f) }
+{
+    if over { None } else { Some(f) }
+}

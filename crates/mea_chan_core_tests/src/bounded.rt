@@ -1,0 +1,212 @@
+use crate::play::Told;
+use crate::play::Told::{Closed, Count, Disconnected, Done, Empty, Full, Nothing, Pending, Value};
+use mea_base::{NoMemory, Poll};
+use mea_chan_core::{BoundedCore, SendError, SendWait, TryRecvError, TrySendError};
+use mea_test_support::{Plays, differs_at};
+use std::alloc::Global;
+use std::test::Fail;
+
+type Channel = BoundedCore<u64, u64>;
+
+// A call of a channel. Sends are told apart by the order in which they are made.
+#[derive(Clone, Copy)]
+enum Call {
+    // Makes a send of this value, which is not polled yet.
+    Send(u64),
+    PollSend(usize, u64),
+    EndSend(usize),
+    TrySend(u64),
+    TryRecv,
+    PollRecv(u64),
+    EndSender,
+    EndReceiver,
+    Wake,
+    WakesReady,
+}
+
+// A channel with one place, and the sends that were made.
+#[derive(Drop)]
+struct Room {
+    channel: Channel,
+    sends: Vec<Option<SendWait<u64>>>,
+}
+
+impl Room {
+    fn new(alloc: Global) -> Result<Room, NoMemory> {
+        Ok(Room {
+            channel: BoundedCore::new(alloc, 1)?,
+            sends: Vec::new(alloc),
+        })
+    }
+}
+
+impl Plays for Room {
+    type Call = Call;
+
+    type Told = Told;
+
+    fn told(&mut self, call: Call) -> Option<Told> {
+        match call {
+            Call::Send(value) => made(&mut self.sends, value),
+            Call::PollSend(place, waker) => {
+                poll_told(&mut self.channel, self.sends.get_mut(place)?, waker)
+            }
+            Call::EndSend(place) => end_told(&mut self.channel, self.sends.get_mut(place)?),
+            Call::TrySend(value) => Some(send_told(&mut self.channel, value)),
+            Call::TryRecv => Some(recv_told(&mut self.channel)),
+            Call::PollRecv(waker) => poll_recv_told(&mut self.channel, waker),
+            Call::EndSender => Some(sender_ended(&mut self.channel)),
+            Call::EndReceiver => Some(receiver_ended(&mut self.channel)),
+            Call::Wake => Some(Told::found(self.channel.next_wake())),
+            Call::WakesReady => Some(Count(self.channel.wakes_ready())),
+        }
+    }
+}
+
+fn made(sends: &mut Vec<Option<SendWait<u64>>>, value: u64) -> Option<Told> {
+    match sends.push(Some(SendWait::new(value))) {
+        Ok(()) => Some(Done),
+        Err(_) => None,
+    }
+}
+
+fn poll_told(channel: &mut Channel, send: &mut Option<SendWait<u64>>, waker: u64) -> Option<Told> {
+    match channel.poll_send_checked(send.as_mut()?, waker) {
+        Ok(Poll::Ready(Ok(()))) => Some(Done),
+        Ok(Poll::Ready(Err(SendError(value)))) => Some(Closed(value)),
+        Ok(Poll::Pending) => Some(Pending),
+        Err(_) => None,
+    }
+}
+
+fn end_told(channel: &mut Channel, send: &mut Option<SendWait<u64>>) -> Option<Told> {
+    Some(Told::found(channel.end_send_checked(send.take()?)))
+}
+
+fn send_told(channel: &mut Channel, value: u64) -> Told {
+    match channel.try_send(value) {
+        Ok(()) => Done,
+        Err(TrySendError::Full(value)) => Full(value),
+        Err(TrySendError::Disconnected(value)) => Closed(value),
+    }
+}
+
+fn recv_told(channel: &mut Channel) -> Told {
+    match channel.try_recv() {
+        Ok(value) => Value(value),
+        Err(TryRecvError::Empty) => Empty,
+        Err(TryRecvError::Disconnected) => Disconnected,
+    }
+}
+
+fn poll_recv_told(channel: &mut Channel, waker: u64) -> Option<Told> {
+    match channel.poll_recv(waker) {
+        Ok(Poll::Ready(Ok(value))) => Some(Value(value)),
+        Ok(Poll::Ready(Err(_))) => Some(Disconnected),
+        Ok(Poll::Pending) => Some(Pending),
+        Err(_) => None,
+    }
+}
+
+fn sender_ended(channel: &mut Channel) -> Told {
+    channel.end_sender_checked();
+    Done
+}
+
+fn receiver_ended(channel: &mut Channel) -> Told {
+    channel.end_receiver_checked();
+    Done
+}
+
+// One place, three sends, and a try that takes the place that a waiting send was woken for.
+#[test]
+fn sends_take_turns(rt: HostRuntime) -> Result<(), Fail> {
+    let script = [
+        (Call::Send(7), Done),
+        (Call::Send(8), Done),
+        (Call::Send(9), Done),
+        (Call::PollSend(0, 20), Done),
+        (Call::PollSend(1, 21), Pending),
+        (Call::PollSend(2, 22), Pending),
+        (Call::TryRecv, Value(7)),
+        (Call::Wake, Value(21)),
+        (Call::TrySend(10), Done),
+        (Call::PollSend(1, 23), Pending),
+        (Call::TryRecv, Value(10)),
+        (Call::Wake, Value(22)),
+        (Call::PollSend(2, 24), Done),
+        (Call::TryRecv, Value(9)),
+        (Call::Wake, Value(23)),
+        (Call::PollSend(1, 25), Done),
+        (Call::TryRecv, Value(8)),
+        (Call::TryRecv, Empty),
+        (Call::EndSender, Done),
+        (Call::TryRecv, Disconnected),
+        (Call::WakesReady, Count(0)),
+    ];
+    assert_eq!(rt; differs_at(Room::new(rt.alloc())?, &script), None);
+    Ok(())
+}
+
+// A send that is ended new, waiting, granted, and after its answer: its value comes back unless it was sent, and a place
+// that it was granted goes to the next.
+#[test]
+fn sends_end_in_each_stage(rt: HostRuntime) -> Result<(), Fail> {
+    let script = [
+        (Call::Send(1), Done),
+        (Call::EndSend(0), Value(1)),
+        (Call::Send(2), Done),
+        (Call::Send(3), Done),
+        (Call::Send(4), Done),
+        (Call::Send(5), Done),
+        (Call::PollSend(1, 20), Done),
+        (Call::EndSend(1), Nothing),
+        (Call::PollSend(2, 21), Pending),
+        (Call::PollSend(3, 22), Pending),
+        (Call::PollSend(4, 23), Pending),
+        (Call::EndSend(2), Value(3)),
+        (Call::TryRecv, Value(2)),
+        (Call::Wake, Value(22)),
+        (Call::EndSend(3), Value(4)),
+        (Call::Wake, Value(23)),
+        (Call::PollSend(4, 24), Done),
+    ];
+    assert_eq!(rt; differs_at(Room::new(rt.alloc())?, &script), None);
+    Ok(())
+}
+
+// The receiver waits, is woken by a message, and ends: all who wait are woken, and their values come back.
+#[test]
+fn the_receiver_waits_and_ends(rt: HostRuntime) -> Result<(), Fail> {
+    let script = [
+        (Call::PollRecv(10), Pending),
+        (Call::PollRecv(11), Pending),
+        (Call::TrySend(1), Done),
+        (Call::Wake, Value(11)),
+        (Call::TrySend(2), Full(2)),
+        (Call::Send(3), Done),
+        (Call::Send(4), Done),
+        (Call::PollSend(0, 20), Pending),
+        (Call::PollSend(1, 21), Pending),
+        (Call::EndReceiver, Done),
+        (Call::Wake, Value(20)),
+        (Call::Wake, Value(21)),
+        (Call::PollSend(0, 22), Closed(3)),
+        (Call::PollRecv(12), Disconnected),
+        (Call::TrySend(5), Closed(5)),
+        (Call::EndSend(1), Value(4)),
+    ];
+    assert_eq!(rt; differs_at(Room::new(rt.alloc())?, &script), None);
+    Ok(())
+}
+
+// No memory can hold so many messages, and no number so many senders.
+#[test]
+fn numbers_have_ends(rt: HostRuntime) -> Result<(), Fail> {
+    assert!(rt; BoundedCore::<u64, u64>::new(rt.alloc(), usize::MAX).is_err());
+    let mut channel: Channel = BoundedCore::at_senders(rt.alloc(), 1, usize::MAX)?;
+    assert!(rt; channel.add_sender_checked().is_err());
+    channel.end_sender_checked();
+    assert!(rt; channel.add_sender_checked().is_ok());
+    Ok(())
+}

@@ -1,0 +1,4 @@
+pub mod Causes
+pub mod Family
+pub mod Forms
+pub mod Play

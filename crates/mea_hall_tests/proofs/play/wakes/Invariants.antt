@@ -1,0 +1,5 @@
+use Rattle.std.proofs.Common.{◌≡◌}
+use Rattle.mea_hall_tests.proofs.play.wakes.Given as goal
+
+abbrev pub invariant-loop-waker : goal.invariant-loop-waker
+invariant-loop-waker g l = g.H.FamilyHall.next l.hall ≡ g.H.FamilyHall.next l.fn.hall

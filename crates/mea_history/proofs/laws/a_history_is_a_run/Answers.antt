@@ -1,5 +1,0 @@
-use Rattle.mea_history.proofs.Histories.{history_runs}
-use Rattle.mea_history.proofs.laws.a_history_is_a_run.Goals as goal
-
-pub returns : goal.returns
-returns c = history_runs

@@ -1,0 +1,17 @@
+pub mod Sorted
+pub mod Shares
+pub mod Tying
+pub mod Nexts
+pub mod Fairs
+pub mod Views
+pub mod Picks
+pub mod Records
+pub mod Shut
+pub mod Counting
+pub mod Seen
+pub mod Polling
+pub mod Stops
+pub mod Histories
+pub mod Settles
+pub mod Calls
+pub mod Backs

@@ -1,0 +1,9 @@
+pub mod Room
+pub mod Waiting
+pub mod Work
+pub mod Tied
+pub mod Service
+pub mod Parts
+pub mod Record
+pub mod Runs
+pub mod Calls

@@ -1,0 +1,58 @@
+//! Polls of waits for a claim, which hand out what they came to.
+ghost use Rattle.std.specs.Prelude.{IfSome};
+
+use mea_keep::Claimed;
+use mea_test_support::{Bell, Count, Told, gives, poll};
+use mea_wait::{End, Waits};
+use std::sync::Wait;
+
+/// The turn that a wait gives; what it gives instead is dropped.
+pub(crate) fn mine<R: Wait, F: Waits<Bell, Claimed<V, C>>, V: Drop, C: End>(
+    rt: &R,
+    wait: F,
+    count: &Count,
+) -> Option<C>
+    requires { F.can_poll wait }
+{
+    match gives(rt, Some(wait), count)? {
+        Claimed::Mine(claim) => Some(claim),
+        Claimed::There(_) => None,
+    }
+}
+
+/// Polls a wait for a claim that is to go on, and hands it back.
+pub(crate) fn queues<R: Wait, F: Waits<Bell, Claimed<V, C>>, V: Drop, C: End>(
+    rt: &R,
+    wait: F,
+    count: &Count,
+) -> Option<F>
+    requires { F.can_poll wait }
+    ensures { IfSome result F.can_poll }
+{
+    match poll(rt, wait, count) {
+        Told::Ready(Claimed::Mine(claim)) => {
+            claim.end(rt);
+            None
+        }
+        Told::Ready(Claimed::There(_)) => None,
+        Told::Pending(wait) => Some(wait),
+        Told::Refused => None,
+    }
+}
+
+/// The value that a wait gives; a turn that it gives instead is ended.
+pub(crate) fn there<R: Wait, F: Waits<Bell, Claimed<V, C>>, V, C: End>(
+    rt: &R,
+    wait: Option<F>,
+    count: &Count,
+) -> Option<V>
+    requires { IfSome wait F.can_poll }
+{
+    match gives(rt, wait, count)? {
+        Claimed::Mine(claim) => {
+            claim.end(rt);
+            None
+        }
+        Claimed::There(value) => Some(value),
+    }
+}

@@ -1,0 +1,83 @@
+use mea_base::Poll;
+use mea_keep::singleflight::Group;
+use mea_keep::{Init, Never};
+use mea_test_support::{Bell, Count, Told, count, poll, polled_for};
+use std::hash::{BuildHasherDefault, FoldHasher};
+use std::sync::Wait;
+use std::sync::atomic::AtomicU64;
+use std::sync::atomic::Ordering::SeqCst;
+use std::test::Fail;
+use std::thread;
+
+// An initialiser that is pending until so many callers wait, and counts how often it has run.
+#[derive(Drop)]
+struct Gathers<'a> {
+    waiting: &'a AtomicU64,
+    all: u64,
+    runs: &'a AtomicU64,
+}
+
+impl<'a> Init<u64, Never, Bell> for Gathers<'a> {
+    ghost use Rattle.std.specs.Prelude.{⊤};
+
+    ghost answers = { λ before waker answer after. ⊤ };
+
+    fn poll(&mut self, _waker: Bell) -> Poll<Result<u64, Never>> {
+        if self.waiting.load(SeqCst) < self.all {
+            return Poll::Pending;
+        }
+        self.runs.fetch_add(1, SeqCst);
+        Poll::Ready(Ok(7))
+    }
+}
+
+// The group of the test below.
+type Flights = Group<u64, u64, BuildHasherDefault<FoldHasher>, Bell>;
+
+// One caller: its first poll counts it among those that wait.
+fn works<R: Wait>(
+    rt: &R,
+    group: &Flights,
+    waiting: &AtomicU64,
+    runs: &AtomicU64,
+    bell: &Count,
+) -> Option<u64> {
+    let init = Gathers {
+        waiting,
+        all: 16,
+        runs,
+    };
+    let told = poll(rt, group.work(1, init), bell);
+    waiting.fetch_add(1, SeqCst);
+    match told {
+        Told::Ready(value) => Some(value),
+        Told::Pending(wait) => polled_for(rt, wait, bell, 10_000_000),
+        Told::Refused => None,
+    }
+}
+
+// Sixteen threads ask for one key: its initialiser runs once, and each has the value.
+#[test]
+fn a_single_flight(rt: HostRuntime) -> Result<(), Fail> {
+    let bell = count(rt.alloc()).expect(&rt, "memory");
+    let group: Flights = Group::new(rt.alloc());
+    let (waiting, runs) = (AtomicU64::new(0), AtomicU64::new(0));
+    let mut answers: Vec<Option<u64>> = Vec::new(rt.alloc());
+    for _ in 0..16u64 {
+        answers.push(None)?;
+    }
+    let (rt, of, waits, run, rung) = (&rt, &group, &waiting, &runs, &bell);
+    thread::for_each_mut(
+        rt,
+        &mut answers,
+        16,
+        &|_i: usize, answer: &mut Option<u64>| {
+            *answer = works(rt, of, waits, run, rung);
+        },
+    );
+    assert!(rt; run.load(SeqCst) == 1);
+    for answer in &answers {
+        assert!(rt; *answer == Some(7));
+    }
+    Ok(())
+}

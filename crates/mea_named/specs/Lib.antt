@@ -1,7 +1,0 @@
-pub mod ByName
-pub mod ByNameLends
-pub mod NamedQueue
-pub mod NamedWaker
-pub mod LackingQueue
-pub mod Play
-pub mod HallKept

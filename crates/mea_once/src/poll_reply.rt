@@ -1,0 +1,8 @@
+use mea_family::Answer;
+
+/// What a poll told: its reply, and whether its future is over.
+#[derive(Clone, Copy)]
+pub struct PollReply {
+    pub answer: Answer,
+    pub over: bool,
+}

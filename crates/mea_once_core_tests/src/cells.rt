@@ -1,0 +1,227 @@
+use crate::inits::{Computes, Settling};
+use crate::play::Told;
+use crate::play::Told::{Back, Done, Error, Nothing, Pending, Value};
+use mea_base::Poll;
+use mea_once_core::{CellCore, CellTurn, InitCall, InsertCall, Stage};
+use mea_test_support::{Plays, differs_at};
+use std::alloc::Global;
+
+type Cell = CellCore<u64, u64>;
+
+type Init = InitCall<Settling>;
+
+type Insert = InsertCall<u64>;
+
+// A call of a cell. Computations and values to be put are told apart by the order in which they are made.
+#[derive(Clone, Copy)]
+enum Call {
+    Compute,
+    PollInit(usize, u64),
+    Settle(usize, Result<u64, u64>),
+    EndInit(usize),
+    Insert(u64),
+    PollInsert(usize, u64),
+    EndInsert(usize),
+    // Makes a computation that is polled for its turn alone.
+    Turn(u64),
+    Wake,
+    Get,
+    IsIdle,
+}
+
+// A cell, and the calls that were made.
+#[derive(Drop)]
+struct Room {
+    cell: Cell,
+    inits: Vec<Option<Init>>,
+    inserts: Vec<Option<Insert>>,
+}
+
+impl Room {
+    fn new(alloc: Global) -> Room {
+        Room {
+            cell: CellCore::new(alloc),
+            inits: Vec::new(alloc),
+            inserts: Vec::new(alloc),
+        }
+    }
+}
+
+impl Plays for Room {
+    type Call = Call;
+
+    type Told = Told;
+
+    fn told(&mut self, call: Call) -> Option<Told> {
+        match call {
+            Call::Compute => made(&mut self.inits, InitCall::new(Settling::new()), Done),
+            Call::PollInit(place, waker) => {
+                polled(&mut self.cell, self.inits.get_mut(place)?, waker)
+            }
+            Call::Settle(place, end) => settled(self.inits.get_mut(place)?, end),
+            Call::EndInit(place) => init_ended(&mut self.cell, self.inits.get_mut(place)?),
+            Call::Insert(value) => made(&mut self.inserts, InsertCall::new(value), Done),
+            Call::PollInsert(place, waker) => {
+                inserted(&mut self.cell, self.inserts.get_mut(place)?, waker)
+            }
+            Call::EndInsert(place) => insert_ended(&mut self.cell, self.inserts.get_mut(place)?),
+            Call::Turn(waker) => turned(&mut self.cell, &mut self.inits, waker),
+            Call::Wake => Some(Told::found(self.cell.next_wake())),
+            Call::Get => Some(Told::found(self.cell.get().copied())),
+            Call::IsIdle => Some(if self.cell.is_idle() { Done } else { Pending }),
+        }
+    }
+}
+
+fn made<T: Drop>(calls: &mut Vec<Option<T>>, call: T, told: Told) -> Option<Told> {
+    match calls.push(Some(call)) {
+        Ok(()) => Some(told),
+        Err(_) => None,
+    }
+}
+
+fn polled(cell: &mut Cell, call: &mut Option<Init>, waker: u64) -> Option<Told> {
+    match cell.poll_init_checked(call.as_mut()?, waker) {
+        Ok(Poll::Pending) => Some(Pending),
+        Ok(Poll::Ready(Err(e))) => Some(Error(e)),
+        Ok(Poll::Ready(Ok(()))) => Some(Told::found(cell.get().copied())),
+        Err(_) => None,
+    }
+}
+
+fn settled(call: &mut Option<Init>, end: Result<u64, u64>) -> Option<Told> {
+    Some(Told::found(call.as_mut()?.init.settle(end)))
+}
+
+fn init_ended(cell: &mut Cell, call: &mut Option<Init>) -> Option<Told> {
+    cell.end_init_checked(call.take()?);
+    Some(Done)
+}
+
+fn inserted(cell: &mut Cell, call: &mut Option<Insert>, waker: u64) -> Option<Told> {
+    match cell.poll_insert_checked(call.as_mut()?, waker) {
+        Ok(Poll::Pending) => Some(Pending),
+        Ok(Poll::Ready(Ok(()))) => Some(Done),
+        Ok(Poll::Ready(Err(value))) => Some(Back(value)),
+        Err(_) => None,
+    }
+}
+
+fn insert_ended(cell: &mut Cell, call: &mut Option<Insert>) -> Option<Told> {
+    let ended = call.take()?;
+    if ended.value.is_none() {
+        return None;
+    }
+    Some(Back(cell.end_insert_checked(ended)))
+}
+
+fn turned(cell: &mut Cell, calls: &mut Vec<Option<Init>>, waker: u64) -> Option<Told> {
+    let mut stage = Stage::New;
+    match cell.poll_turn(&mut stage, waker) {
+        Ok(CellTurn::Mine(waker)) => {
+            let init = Settling::new();
+            made(calls, InitCall { init, stage }, Value(waker))
+        }
+        _ => None,
+    }
+}
+
+// A computation that fails hands the cell to the next caller, which puts its value; a later one has its own
+// back.
+#[test]
+fn a_failure_hands_the_cell_on(rt: HostRuntime) {
+    let script = [
+        (Call::Compute, Done),
+        (Call::Insert(9), Done),
+        (Call::PollInit(0, 40), Pending),
+        (Call::PollInsert(0, 41), Pending),
+        (Call::Settle(0, Err(4)), Value(40)),
+        (Call::PollInit(0, 42), Error(4)),
+        (Call::Wake, Value(41)),
+        (Call::Wake, Nothing),
+        (Call::PollInsert(0, 43), Done),
+        (Call::Wake, Nothing),
+        (Call::Get, Value(9)),
+        (Call::Insert(3), Done),
+        (Call::PollInsert(1, 44), Back(3)),
+        (Call::Wake, Nothing),
+    ];
+    assert_eq!(rt; differs_at(Room::new(rt.alloc()), &script), None);
+}
+
+// A value that was computed goes from caller to caller, each of whom wakes the next.
+#[test]
+fn a_value_goes_round(rt: HostRuntime) {
+    let script = [
+        (Call::Compute, Done),
+        (Call::Compute, Done),
+        (Call::Compute, Done),
+        (Call::PollInit(0, 10), Pending),
+        (Call::PollInit(1, 11), Pending),
+        (Call::PollInit(2, 12), Pending),
+        (Call::Settle(0, Ok(7)), Value(10)),
+        (Call::PollInit(0, 13), Value(7)),
+        (Call::Wake, Value(11)),
+        (Call::PollInit(1, 14), Value(7)),
+        (Call::Wake, Value(12)),
+        (Call::PollInit(2, 15), Value(7)),
+        (Call::Wake, Nothing),
+        (Call::IsIdle, Done),
+    ];
+    assert_eq!(rt; differs_at(Room::new(rt.alloc()), &script), None);
+}
+
+// A call that is given up while its initialiser runs hands the cell to the next, at whatever stage that is.
+#[test]
+fn a_call_is_given_up(rt: HostRuntime) {
+    let script = [
+        (Call::Compute, Done),
+        (Call::Compute, Done),
+        (Call::Compute, Done),
+        (Call::PollInit(0, 10), Pending),
+        (Call::PollInit(1, 11), Pending),
+        (Call::PollInit(2, 12), Pending),
+        (Call::EndInit(0), Done),
+        (Call::Wake, Value(11)),
+        (Call::EndInit(1), Done),
+        (Call::Wake, Value(12)),
+        (Call::PollInit(2, 13), Pending),
+        (Call::Settle(2, Ok(1)), Value(13)),
+        (Call::PollInit(2, 14), Value(1)),
+    ];
+    assert_eq!(rt; differs_at(Room::new(rt.alloc()), &script), None);
+}
+
+// Who has the turn may fill the cell with no initialiser at hand, or give the turn up.
+#[test]
+fn a_turn_is_taken(rt: HostRuntime) {
+    let script = [
+        (Call::Turn(10), Value(10)),
+        (Call::Insert(2), Done),
+        (Call::PollInsert(0, 11), Pending),
+        (Call::Compute, Done),
+        (Call::PollInit(1, 12), Pending),
+        (Call::EndInit(0), Done),
+        (Call::Wake, Value(11)),
+        (Call::EndInsert(0), Back(2)),
+        (Call::Wake, Value(12)),
+        (Call::PollInit(1, 13), Pending),
+        (Call::Settle(1, Ok(5)), Value(13)),
+        (Call::PollInit(1, 14), Value(5)),
+    ];
+    assert_eq!(rt; differs_at(Room::new(rt.alloc()), &script), None);
+}
+
+// A closure is an initialiser.
+#[test]
+fn a_closure_computes(rt: HostRuntime) {
+    let mut cell: CellCore<u64, u64> = CellCore::new(rt.alloc());
+    let mut call = InitCall::new(Computes { compute: || 7 });
+    assert!(rt;
+        matches!(
+            cell.poll_init_checked(&mut call, 10),
+            Ok(Poll::Ready(Ok(())))
+        )
+    );
+    assert_eq!(rt; cell.get().copied(), Some(7));
+}

@@ -1,0 +1,9 @@
+pub mod Gates
+pub mod Granting
+pub mod Lines
+pub mod Orders
+pub mod PlaceCalls
+pub mod Polls
+pub mod Pools
+pub mod Shelves
+pub mod Slots

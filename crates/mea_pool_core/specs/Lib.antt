@@ -1,0 +1,9 @@
+pub mod Calls
+pub mod Gate
+pub mod LeaseLends
+pub mod Parts
+pub mod Places
+pub mod Pool
+pub mod Runs
+pub mod Shelf
+pub mod Waits

@@ -1,0 +1,18 @@
+use Rattle.std.proofs.Common.{◌≡◌, ◌≢◌, ◌+◌, ◌≤◌, [], length}
+use Rattle.mea_events.specs.Replies.{with_wakes}
+use Rattle.mea_sem.specs.Play.{Play}
+use Rattle.mea_recorded.proofs.recorded.hand_over.Given as goal
+
+-- what is left to hand over does to the replies so far what all does to those at the start
+abbrev pub invariant-loop-waker : goal.invariant-loop-waker
+invariant-loop-waker l = record {
+  hall : ◌≡◌ {A = Play} l.hall (record l.fn.hall { wakes = l.hall.wakes });
+  replies : with_wakes l.replies.replies l.hall.wakes ≡ with_wakes l.fn.replies.replies l.fn.hall.wakes;
+  room : length l.hall.wakes ≤ l.replies.spare;
+  last : l.replies.replies ≢ [];
+  places : l.replies.room ≡ l.fn.replies.room;
+  spare : l.replies.spare + length l.fn.hall.wakes ≡ l.fn.replies.spare + length l.hall.wakes;
+}
+
+abbrev pub decreases-loop-waker : goal.decreases-loop-waker
+decreases-loop-waker l = length l.hall.wakes

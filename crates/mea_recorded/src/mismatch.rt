@@ -1,0 +1,25 @@
+use mea_family::Answer;
+use mea_sem_model::SemEvent;
+
+/// Where the receipts of passes, or what the semaphore was made with, and the entries of a history do not agree.
+#[derive(Clone, Copy, Debug, Drop, PartialEq, Eq)]
+pub enum Mismatch {
+    /// The entry of a receipt's number, or the first, holds another event than was asked, or another answer than was told.
+    Entry {
+        number: u64,
+        asked: SemEvent,
+        played: SemEvent,
+        told: Answer,
+        kept: Answer,
+    },
+    /// A receipt has a number that no entry has.
+    Beyond {
+        number: u64,
+        entries: u64,
+    },
+    /// Of two receipts of one pass that follow each other, the later has a number that is not greater.
+    Order {
+        before: u64,
+        after: u64,
+    },
+}

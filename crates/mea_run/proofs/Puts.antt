@@ -1,2 +1,0 @@
--- texts that grow at their end
-pub use Rattle.mea_lines.proofs.Puts.{kept_before}

@@ -1,0 +1,11 @@
+pub mod Begins
+pub mod Lines
+pub mod Unended
+pub mod Tells
+pub mod Plays
+pub mod Dues
+pub mod Puts
+pub mod Pieces
+pub mod Endings
+pub mod Ended
+pub mod Events

@@ -1,8 +1,0 @@
-use Rattle.futures.specs.Task.{Keeps}
-use Rattle.mea_speed.proofs.sending.TakesFuture.poll.Given as goal
-
-abbrev pub invariant-loop-self : goal.invariant-loop-self
-invariant-loop-self g l = Keeps l.fn.cx l.cx
-
-abbrev pub decreases-loop-self : goal.decreases-loop-self
-decreases-loop-self g l = l.self.left

@@ -1,0 +1,10 @@
+pub mod Tasks
+pub mod Links
+pub mod Wakes
+pub mod Halls
+pub mod Bounding
+pub mod Moves
+pub mod Ends
+pub mod Adds
+pub mod Plays
+pub mod WholeTurns

@@ -1,0 +1,13 @@
+-- what an executor keeps to
+use Rattle.std.specs.Prelude.{ℕ, ◌≡◌, ◌≤◌, [], length}
+use Rattle.mea_sem.specs.Play.{Play}
+use Rattle.mea_task_core.specs.Machine.{Machine}
+use Rattle.mea_task_core.specs.Sound.{IsSound}
+
+pub record IsKept (m : Machine) (play : Play) (room : ℕ) : Type 0 where
+  pub sound : IsSound m
+  -- the wakers are taken after each event
+  pub quiet : play.wakes ≡ []
+  pub numbers : play.next ≡ m.events
+  -- each task has its place in the run queue
+  pub places : length m.tasks ≤ room

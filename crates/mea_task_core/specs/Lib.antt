@@ -1,0 +1,10 @@
+pub mod Task
+pub mod TaskOrder
+pub mod Machine
+pub mod Bounds
+pub mod Sound
+pub mod Settled
+pub mod Adding
+pub mod Kept
+pub mod Turns
+pub mod Turning

@@ -1,0 +1,16 @@
+use crate::step::Step;
+use thiserror::Error;
+
+/// Why a task is not added. Its steps come back, and nothing has changed.
+#[derive(Debug, Drop, Error)]
+pub enum AddFault {
+    /// This step, counted from 0, is the first that means a semaphore which is not there.
+    #[error("step {step} means a semaphore that is not there")]
+    Unknown { step: usize, steps: Vec<Step> },
+    /// The tasks and steps added would be more than 2^60.
+    #[error("there are too many tasks and steps")]
+    TooMany(Vec<Step>),
+    /// There was no memory.
+    #[error("no memory")]
+    NoMemory(Vec<Step>),
+}

@@ -1,0 +1,9 @@
+pub mod Commands
+pub mod Cuts
+pub mod Digits
+pub mod Firsts
+pub mod Numerals
+pub mod Puts
+pub mod Readings
+pub mod Tables
+pub mod Values

@@ -1,0 +1,28 @@
+ghost use Rattle.std.specs.Prelude.{◌≡◌, ◌<◌, ◌==◌, length, position, IfSome};
+ghost use Rattle.std.specs.Option.{option_map};
+ghost use Rattle.std.specs.Str.{bytes_eq};
+ghost use Rattle.mea_text.specs.Words.{cut};
+
+/// Whether a word is this one.
+pub fn is(word: &[u8], own: &[u8]) -> bool
+    ensures { result ≡ bytes_eq word.now own.now }
+{
+    word == own
+}
+
+/// What stands before and after the first such byte, if there is one. It takes no memory.
+pub fn cut(bytes: &[u8], byte: u8) -> Option<(&[u8], &[u8])>
+    ensures { option_map (λ parts. (parts.0.now, parts.1.now)) result ≡ cut byte bytes.now }
+{
+    match place_of(bytes, byte) {
+        None => None,
+        Some(at) => Some((&bytes[..at], &bytes[at + 1..])),
+    }
+}
+
+fn place_of(bytes: &[u8], byte: u8) -> Option<usize>
+    ensures place { result ≡ position (λ b. b == byte) bytes.now }
+    ensures within { IfSome result (λ at. at < length bytes.now) }
+{
+    bytes.iter().position(|b| *b == byte)
+}

@@ -1,6 +1,0 @@
-use Rattle.mea_workers.proofs.running.run_crew.Goals as goal
-
-pub returns-in-Some-clause-usage : goal.returns-in-Some-clause-usage
-returns-in-Some-clause-usage g c =
-    let crew = (c.workers_and_rounds.ensures.crew c.in-Some.workers c.in-Some.rounds).0 c.in-Some.is in
-    (λ usage. absurd (c.play.ensures.usage usage), λ none. absurd (none (c.in-Some.workers, c.in-Some.rounds, crew)))
