@@ -9,7 +9,7 @@ use Rattle.mea_meet_seats.specs.declared.seat.Seat.{Seat}
 use Rattle.mea_meet_seats.specs.declared.seat.Seat.TheVariants.{Taken, Vacant}
 use Rattle.mea_meet_seats.specs.Vacant.{others_of}
 use Rattle.mea_meet_seats.specs.Seats.{Seats, AllThere, place_for, seated}
-use Rattle.mea_meet_seats.specs.Runs.{Runs, Begins, Polls, Ends, Counts, places, taken}
+use Rattle.mea_meet_seats.specs.SeatsRuns.{SeatsRuns, Begins, Polls, Ends, Counts, places, taken}
 use Rattle.mea_meet_seats.proofs.Places.{all_stay, length_replaced, length_appended, others_there, found}
 
 -- what holds after every run
@@ -95,7 +95,7 @@ module _ {W : Type 0} where
   sound_vacated s true most slot there sound = given_back s (nat_lt (length s.free) (places s)) most slot there refl sound
   sound_vacated s false most slot there sound = record { there = sound.there; room = sound.room; vacant = sound.vacant }
 
-  pub sound_run : (s : Seats W) (most : ℕ) → Runs s most → IsSound s most
+  pub sound_run : (s : Seats W) (most : ℕ) → SeatsRuns s most → IsSound s most
   sound_run _ _ (Begins n) = record { there = λ k d l. grind (arith, l); room = omega arith; vacant = omega arith }
   sound_run _ _ (Polls s most slot w run) = sound_seated s most slot w (sound_run s most run)
   sound_run _ _ (Ends s most slot run) = sound_vacated s (is_registered s.count.waiting slot) most slot refl (sound_run s most run)

@@ -1,3 +1,3 @@
 pub mod Vacant
 pub mod Seats
-pub mod Runs
+pub mod SeatsRuns

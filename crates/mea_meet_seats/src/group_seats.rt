@@ -1,4 +1,4 @@
-ghost use Rattle.std.specs.Prelude.{◌≡◌, ◌<◌, ◌↔◌, ◌∷◌, [], length, IsErr, IfSome, IfNone, OnErr, OnOk};
+ghost use Rattle.std.specs.Prelude.{◌≡◌, ◌<◌, ◌^◌, ◌↔◌, ◌∷◌, [], length, IsErr, IfSome, IfNone, OnErr, OnOk};
 ghost use Rattle.mea_sets.specs.Countdown.{count_from};
 ghost use Rattle.mea_meet_seats.specs.Seats.{AllThere, PollsSeats, fallen, vacated, with_handle};
 
@@ -119,7 +119,8 @@ impl<W: Drop> GroupSeats<W> {
 
     /// How many wakes are ready. It takes no memory.
     pub fn wakes_ready(&self) -> usize
-        ensures { result ≡ length self.now.wakes }
+        ensures is { result ≡ length self.now.wakes }
+        ensures bound { result < 2 ^ 63 }
     {
         self.core.wakes_ready()
     }

@@ -1,4 +1,4 @@
-ghost use Rattle.std.specs.Prelude.{◌≡◌, ◌<◌, ◌∷◌, [], length, IfSome, IfNone};
+ghost use Rattle.std.specs.Prelude.{◌≡◌, ◌<◌, ◌^◌, ◌∷◌, [], length, IfSome, IfNone};
 ghost use Rattle.mea_sets.specs.Countdown.{count_from};
 ghost use Rattle.mea_meet_core.specs.Count.{tried};
 ghost use Rattle.mea_meet_seats.specs.Seats.{AllThere, PollsSeats, fallen, vacated};
@@ -117,7 +117,8 @@ impl<W: Drop> LatchSeats<W> {
 
     /// How many wakes are ready. It takes no memory.
     pub fn wakes_ready(&self) -> usize
-        ensures { result ≡ length self.now.wakes }
+        ensures is { result ≡ length self.now.wakes }
+        ensures bound { result < 2 ^ 63 }
     {
         self.core.wakes_ready()
     }

@@ -14,8 +14,8 @@ module _ {W : Type 0} where
   taken s = places s - length s.free
 
 -- the count after a run, and the greatest number that waited at one time in it
-pub data Runs {W : Type 0} : Seats W → ℕ → Type 0 where
-  Begins : (n : ℕ) → Runs (record { count = count_from n; free = [] }) 0
-  Polls : (s : Seats W) (most : ℕ) (slot : Option Place) (w : W) → Runs s most → Runs (seated s slot w) (max most (taken (seated s slot w)))
-  Ends : (s : Seats W) (most : ℕ) (slot : Option Place) → Runs s most → Runs (vacated s slot) most
-  Counts : (s : Seats W) (most n : ℕ) → Runs s most → Runs (record s { count = record s.count { number = n } }) most
+pub data SeatsRuns {W : Type 0} : Seats W → ℕ → Type 0 where
+  Begins : (n : ℕ) → SeatsRuns (record { count = count_from n; free = [] }) 0
+  Polls : (s : Seats W) (most : ℕ) (slot : Option Place) (w : W) → SeatsRuns s most → SeatsRuns (seated s slot w) (max most (taken (seated s slot w)))
+  Ends : (s : Seats W) (most : ℕ) (slot : Option Place) → SeatsRuns s most → SeatsRuns (vacated s slot) most
+  Counts : (s : Seats W) (most n : ℕ) → SeatsRuns s most → SeatsRuns (record s { count = record s.count { number = n } }) most
