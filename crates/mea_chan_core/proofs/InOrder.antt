@@ -18,7 +18,7 @@ use Rattle.mea_chan_core.specs.Mailbox as mailbox
 use Rattle.mea_chan_core.specs.Mailbox.{Mailbox}
 use Rattle.mea_chan_core.specs.Oneshot as oneshot
 use Rattle.mea_chan_core.specs.Oneshot.{Oneshot}
-use Rattle.mea_chan_core.specs.InOrder.{accepted_by, received_by, accepted_at, received_at, received_in, Calls, TrySend, PollSend, EndSend, TryRecv, PollRecv, AddSender, EndSender, EndReceiver, NextWake, Runs, Starts, Goes, MailCalls, Send, SendRefused, MailTryRecv, MailPollRecv, MailAddSender, MailEndSender, MailEndReceiver, MailNextWake, MailRuns, MailStarts, MailGoes, ShotCalls, ShotSend, ShotEndSender, ShotTryRecv, ShotPollRecv, ShotEndReceiver, ShotNextWake, ShotRuns, ShotStarts, ShotGoes}
+use Rattle.mea_chan_core.specs.InOrder.{accepted_by, received_by, accepted_at, received_at, received_in, Calls, TrySend, PollSend, EndSend, TryRecv, PollRecv, AddSender, EndSender, EndReceiver, NextWake, ChannelRuns, Starts, Goes, MailCalls, Send, SendRefused, MailTryRecv, MailPollRecv, MailAddSender, MailEndSender, MailEndReceiver, MailNextWake, MailRuns, MailStarts, MailGoes, ShotCalls, ShotSend, ShotEndSender, ShotTryRecv, ShotPollRecv, ShotEndReceiver, ShotNextWake, ShotRuns, ShotStarts, ShotGoes}
 
 module _ {T : Type 0} where
   -- what a call does to the queue: it appends what it accepts, and takes from the front what it hands out or drops; only an
@@ -196,7 +196,7 @@ module _ {T W : Type 0} where
 
   -- ---- all lists of calls
 
-  pub in_order : (c : Channel T W) (a r f : List T) → Runs c a r f → Ordered c.queued c.ended a r f
+  pub in_order : (c : Channel T W) (a r f : List T) → ChannelRuns c a r f → Ordered c.queued c.ended a r f
   in_order _ _ _ _ (Starts c none lives) = record { order = sym none; lives = λ is. refl; ended_none = λ ends. none }
   in_order _ _ _ _ (Goes c c' a r f a' r' f' runs calls) = goes c.queued c.ended c'.queued c'.ended a r f a' r' f' (in_order c a r f runs) (moves c c' a' r' f' calls)
 

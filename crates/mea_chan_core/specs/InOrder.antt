@@ -53,10 +53,10 @@ module _ {T W : Type 0} where
     NextWake : (wakes : List W) → Calls c (record c { wakes = wakes }) [] [] []
 
   -- a list of calls on a channel that was new: what it accepted, what was received, and what fell with the receiver
-  pub data Runs : Channel T W → List T → List T → List T → Type 0 where
-    Starts : (c : Channel T W) → c.queued ≡ [] → c.ended ≡ false → Runs c [] [] []
-    Goes : (c c' : Channel T W) (accepted received fallen accepted' received' fallen' : List T) → Runs c accepted received fallen → Calls c c' accepted' received' fallen'
-        → Runs c' (accepted ++ accepted') (received ++ received') (fallen ++ fallen')
+  pub data ChannelRuns : Channel T W → List T → List T → List T → Type 0 where
+    Starts : (c : Channel T W) → c.queued ≡ [] → c.ended ≡ false → ChannelRuns c [] [] []
+    Goes : (c c' : Channel T W) (accepted received fallen accepted' received' fallen' : List T) → ChannelRuns c accepted received fallen → Calls c c' accepted' received' fallen'
+        → ChannelRuns c' (accepted ++ accepted') (received ++ received') (fallen ++ fallen')
 
   -- ---- the same of an unbounded channel; a send that is refused changes nothing
 

@@ -79,18 +79,15 @@ impl<T: Drop, W: Drop> BoundedCore<T, W> {
         requires senders { 0 < senders }
         ensures { IfOk result (λ c. c ≡ record { queued = []; capacity = capacity; senders = senders; ended = false; waker = None; waiting = no_senders; wakes = [] }) }
     {
-        match VecDeque::with_capacity(alloc, capacity) {
-            Ok(messages) => Ok(BoundedCore {
-                messages,
-                capacity,
-                senders,
-                ended: false,
-                waker: None,
-                waiting: SemCore::new(alloc, 0),
-                outbox: Outbox::new(alloc),
-            }),
-            Err(_) => Err(NoMemory),
-        }
+        Ok(BoundedCore {
+            messages: VecDeque::with_capacity(alloc, capacity)?,
+            capacity,
+            senders,
+            ended: false,
+            waker: None,
+            waiting: SemCore::new(alloc, 0),
+            outbox: Outbox::new(alloc),
+        })
     }
 
     /// How many senders live, which `add_sender` and `end_sender` ask of. It takes no memory.
@@ -216,10 +213,10 @@ impl<T: Drop, W: Drop> BoundedCore<T, W> {
         match self.try_recv() {
             Ok(value) => Ok(Poll::Ready(Ok(value))),
             Err(TryRecvError::Disconnected) => Ok(Poll::Ready(Err(RecvError::Disconnected))),
-            Err(TryRecvError::Empty) => match self.wait_for_message(waker) {
-                Ok(()) => Ok(Poll::Pending),
-                Err(failed) => Err(failed),
-            },
+            Err(TryRecvError::Empty) => {
+                self.wait_for_message(waker)?;
+                Ok(Poll::Pending)
+            }
         }
     }
 
@@ -262,7 +259,8 @@ impl<T: Drop, W: Drop> BoundedCore<T, W> {
 
     /// How many wakers are to be called. It takes no memory.
     pub fn wakes_ready(&self) -> usize
-        ensures { result ≡ length self.now.wakes }
+        ensures is { result ≡ length self.now.wakes }
+        ensures bound { result < 2 ^ 63 }
     {
         self.outbox.len()
     }

@@ -1,6 +1,6 @@
 ghost use Rattle.std.specs.Prelude.{◌≡◌, ◌≤◌, ◌++◌, List, [], length, option_to_list, true, false};
 ghost use Rattle.mea_chan_core.specs.Channel.{Channel};
-ghost use Rattle.mea_chan_core.specs.InOrder.{Runs, MailRuns, ShotRuns};
+ghost use Rattle.mea_chan_core.specs.InOrder.{ChannelRuns, MailRuns, ShotRuns};
 ghost use Rattle.mea_chan_core.specs.Mailbox.{Mailbox};
 ghost use Rattle.mea_chan_core.specs.Oneshot.{Oneshot};
 ghost use Rattle.mea_chan_core.specs.Woken.{Watch, Watched, EnoughWoken};
@@ -9,9 +9,9 @@ ghost use Rattle.mea_chan_core.specs.Woken.{Watch, Watched, EnoughWoken};
 /// when the receiver ended, and what is queued, in this order. While the receiver lives nothing has fallen; once it has
 /// ended nothing is queued, so that what was queued then is never received.
 pub fn messages_are_in_order<T, W>()
-    ensures order { (c : Channel T W) (accepted received fallen : List T) → Runs c accepted received fallen → accepted ≡ received ++ (fallen ++ c.queued) }
-    ensures lives { (c : Channel T W) (accepted received fallen : List T) → Runs c accepted received fallen → c.ended ≡ false → fallen ≡ [] }
-    ensures ended { (c : Channel T W) (accepted received fallen : List T) → Runs c accepted received fallen → c.ended ≡ true → c.queued ≡ [] }
+    ensures order { (c : Channel T W) (accepted received fallen : List T) → ChannelRuns c accepted received fallen → accepted ≡ received ++ (fallen ++ c.queued) }
+    ensures lives { (c : Channel T W) (accepted received fallen : List T) → ChannelRuns c accepted received fallen → c.ended ≡ false → fallen ≡ [] }
+    ensures ended { (c : Channel T W) (accepted received fallen : List T) → ChannelRuns c accepted received fallen → c.ended ≡ true → c.queued ≡ [] }
 {}
 
 /// The same of an unbounded channel.

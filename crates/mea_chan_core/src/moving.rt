@@ -38,7 +38,6 @@ pub fn queue_new<W: Drop>(semaphore: &mut SemCore<W>, waker: W) -> Result<Acquir
         (λ acquire. (number : ℕ) × Queues (without_free semaphore.old) semaphore.new 1 waker number × (acquire ≡ Acquire.Queued 1 number))
         (λ e. (e.0 ≡ waker) × (semaphore.new ≡ semaphore.old)) }
 {
-    let _ = semaphore.available_permits();
     let lost = semaphore.forget(usize::MAX);
     let mut acquire = Acquire::new(1);
     match semaphore.poll(&mut acquire, waker) {

@@ -1,4 +1,4 @@
-ghost use Rattle.std.specs.Prelude.{◌≡◌, ◌≢◌, ◌∷◌, [], None, Some, true, false, IfSome, IfNone, is_some, if◌then◌else◌};
+ghost use Rattle.std.specs.Prelude.{◌≡◌, ◌≢◌, ◌<◌, ◌^◌, ◌∷◌, [], None, Some, true, false, IfSome, IfNone, is_some, if◌then◌else◌};
 ghost use Rattle.mea_chan_core.specs.Oneshot.{Oneshot, fresh, send_answer, after_send, without_sender, recv_answer, after_recv, poll_answer, after_poll, without_receiver};
 
 use crate::errors::{RecvError, SendError, TryRecvError};
@@ -157,7 +157,8 @@ impl<T: Drop, W: Drop> OneshotCore<T, W> {
 
     /// How many wakers are to be called: one or none. It takes no memory.
     pub fn wakes_ready(&self) -> usize
-        ensures { result ≡ (if is_some self.now.ready then 1 else 0) }
+        ensures is { result ≡ (if is_some self.now.ready then 1 else 0) }
+        ensures bound { result < 2 ^ 63 }
     {
         if self.ready.is_some() { 1 } else { 0 }
     }

@@ -1,4 +1,4 @@
-ghost use Rattle.std.specs.Prelude.{◌≡◌, ◌≢◌, ◌+◌, ◌<◌, ◌↔◌, [], ◌∷◌, length, Some, None, Ok, Err, false, true, IfOk, IfErr, IfSome, IfNone, OnOk, OnErr, IsErr, MatchResult, is_some};
+ghost use Rattle.std.specs.Prelude.{◌≡◌, ◌≢◌, ◌+◌, ◌<◌, ◌^◌, ◌↔◌, [], ◌∷◌, length, Some, None, Ok, Err, false, true, IfOk, IfErr, IfSome, IfNone, OnOk, OnErr, IsErr, MatchResult, is_some};
 ghost use Rattle.mea_chan_core.specs.Mailbox.{Mailbox, with_message, recv_answer, after_recv, PollsRecv, without_receiver, without_sender};
 
 use crate::errors::{RecvError, TryRecvError, UnboundedError};
@@ -121,10 +121,10 @@ impl<T: Drop, W: Drop> UnboundedCore<T, W> {
         match self.try_recv() {
             Ok(value) => Ok(Poll::Ready(Ok(value))),
             Err(TryRecvError::Disconnected) => Ok(Poll::Ready(Err(RecvError::Disconnected))),
-            Err(TryRecvError::Empty) => match self.wait_for_message(waker) {
-                Ok(()) => Ok(Poll::Pending),
-                Err(failed) => Err(failed),
-            },
+            Err(TryRecvError::Empty) => {
+                self.wait_for_message(waker)?;
+                Ok(Poll::Pending)
+            }
         }
     }
 
@@ -164,7 +164,8 @@ impl<T: Drop, W: Drop> UnboundedCore<T, W> {
 
     /// How many wakers are to be called. It takes no memory.
     pub fn wakes_ready(&self) -> usize
-        ensures { result ≡ length self.now.wakes }
+        ensures is { result ≡ length self.now.wakes }
+        ensures bound { result < 2 ^ 63 }
     {
         self.outbox.len()
     }

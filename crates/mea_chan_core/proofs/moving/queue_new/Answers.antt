@@ -5,7 +5,7 @@ use Rattle.mea_chan_core.proofs.moving.queue_new.Goals as goal
 pub returns : goal.returns
 returns g c =
     let taken = c.forget-lost.ensures in
-    let none : c.forget-lost.new.self.free < 1 = omega (arith, taken.taken, ap (λ s. s.free) taken.is, c.available_permits.auto, c.available_permits.ensures.is) in
+    let none : c.forget-lost.new.self.free < 1 = omega (arith, taken.taken, ap (λ s. s.free) taken.is, taken.within, c.requires.few) in
     let polls = rw c.new-acquire.ensures at c.in-Err.ensures.polls in
     let failed = polls.1 none in
     let s = c.args.semaphore.now in
