@@ -10,8 +10,8 @@ pub mod atomicbox;
 
 pub use mea_base::{NoMemory, Overflow, Poll, Wake};
 pub use mea_keep::{
-    AtOnce, Claim, Claimed, Claiming, Computed, Computing, Init, Never, Ready, Step, TryAtOnce,
-    Unfailing, once, singleflight,
+    AtOnce, Claim, Claimed, Claiming, Computed, Computing, Init, Never, ReadyValue, Step,
+    TryAtOnce, Unfailing, once, singleflight,
 };
 pub use mea_link::{barrier, broadcast, latch, mpsc, shutdown, waitgroup};
 pub use mea_lock_core::{Part, Then};

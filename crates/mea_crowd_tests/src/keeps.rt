@@ -13,7 +13,7 @@ use mea::once::{
     OnceClaiming, OnceMap,
 };
 use mea::singleflight::{Group, GroupClaim, GroupClaiming, GroupFilling};
-use mea::{Claimed, End, Ready, Waits};
+use mea::{Claimed, End, ReadyValue, Waits};
 use mea_futures::{Bell, Initialising, initialise, wait};
 use std::alloc::{AllocError, AllocGlobal, Global};
 use std::hash::{BuildHasherDefault, FoldHasher};
@@ -109,7 +109,7 @@ pub(crate) type Fills<'a, R> = Inits<
     &'a u64,
     CellClaim<'a, u64, Bell>,
     u64,
-    Ready<&'a u64>,
+    ReadyValue<&'a u64>,
 >;
 
 /// One that waits until a call was made.
@@ -120,7 +120,7 @@ pub(crate) type Calls<'a, R> = Inits<
     (),
     OnceClaim<'a, Bell>,
     (),
-    Ready<()>,
+    ReadyValue<()>,
 >;
 
 /// One that waits for the value of a key.

@@ -40,15 +40,15 @@ pub trait Claiming<W, V, C>: End {
 /// A wait whose value is there, so that its first poll gives it, as `std::future::Ready` does. It is the wait that stands
 /// for want of memory where to give a value takes none: no call makes one.
 #[derive(Drop)]
-pub struct Ready<V> {
+pub struct ReadyValue<V> {
     value: V,
 }
 
-impl<V: Drop> End for Ready<V> {
+impl<V: Drop> End for ReadyValue<V> {
     fn end<R: Wait>(self, _rt: &R) {}
 }
 
-impl<W: Drop, V: Drop, C> Claiming<W, V, C> for Ready<V> {
+impl<W: Drop, V: Drop, C> Claiming<W, V, C> for ReadyValue<V> {
     fn poll_claim<R: Wait>(self, _rt: &R, _waker: W) -> Step<Self, C, V, W> {
         Step::There(self.value)
     }

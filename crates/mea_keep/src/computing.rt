@@ -12,13 +12,13 @@ use std::sync::Wait;
 /// A wait for a value, with the initialiser that computes it when it is this wait's turn. It must be polled to its end, or
 /// ended. The initialiser is polled with no lock held.
 pub struct Computing<F, C, G, I, T, E> {
-    stage: Stage<F, C, G>,
+    stage: ComputingStage<F, C, G>,
     init: I,
     kind: PhantomData<(T, E)>,
 }
 
 /// How far such a wait is.
-pub enum Stage<F, C, G> {
+pub enum ComputingStage<F, C, G> {
     /// It waits for the value or its turn.
     Waits(F),
     /// It has its turn.
@@ -31,17 +31,17 @@ impl<F, C, G, I, T, E> Computing<F, C, G, I, T, E> {
     // A wait that was never polled.
     pub(crate) fn of(wait: F, init: I) -> Self
         ensures init { result.init ≡ init }
-        ensures stage { result.stage ≡ Stage.Waits wait }
+        ensures stage { result.stage ≡ ComputingStage.Waits wait }
     {
         Computing {
-            stage: Stage::Waits(wait),
+            stage: ComputingStage::Waits(wait),
             init,
             kind: PhantomData,
         }
     }
 
     // The same at another stage.
-    fn at(stage: Stage<F, C, G>, init: I) -> Self
+    fn at(stage: ComputingStage<F, C, G>, init: I) -> Self
         ensures init { result.init ≡ init }
         ensures stage { result.stage ≡ stage }
     {
@@ -61,9 +61,9 @@ impl<F: End, C: End, G: End, I: Drop, T, E> End for Computing<F, C, G, I, T, E> 
             kind: _,
         } = self;
         match stage {
-            Stage::Waits(wait) => wait.end(rt),
-            Stage::Computes(claim) => claim.end(rt),
-            Stage::Keeps(kept) => kept.end(rt),
+            ComputingStage::Waits(wait) => wait.end(rt),
+            ComputingStage::Computes(claim) => claim.end(rt),
+            ComputingStage::Keeps(kept) => kept.end(rt),
         }
     }
 }
@@ -83,11 +83,11 @@ fn compute<R: Wait, F, C: Claim<T, V, G>, G, I: Init<T, E, W> + Drop, T, E, V, W
 {
     let mut init = init;
     match init.poll(waker) {
-        Poll::Pending => Ok(Polled::Pending(Computing::at(Stage::Computes(claim), init))),
+        Poll::Pending => Ok(Polled::Pending(Computing::at(ComputingStage::Computes(claim), init))),
         Poll::Ready(Ok(value)) => match claim.finish(rt, value) {
             Ok(value) => Ok(Polled::Ready(Ok(value))),
             Err(kept) => Err(Unpolled {
-                future: Computing::at(Stage::Keeps(kept), init),
+                future: Computing::at(ComputingStage::Keeps(kept), init),
                 waker: None,
                 fault: PollFault::NoMemory,
             }),
@@ -122,23 +122,29 @@ impl<
             kind: _,
         } = self;
         match stage {
-            Stage::Waits(wait) => match wait.poll_claim(rt, waker) {
+            ComputingStage::Waits(wait) => match wait.poll_claim(rt, waker) {
                 Step::There(value) => Ok(Polled::Ready(Ok(value))),
                 Step::Mine(claim, waker) => compute(rt, claim, init, waker),
-                Step::Pending(wait) => Ok(Polled::Pending(Computing::at(Stage::Waits(wait), init))),
+                Step::Pending(wait) => Ok(Polled::Pending(Computing::at(
+                    ComputingStage::Waits(wait),
+                    init,
+                ))),
                 Step::Refused(wait, waker) => Err(Unpolled {
-                    future: Computing::at(Stage::Waits(wait), init),
+                    future: Computing::at(ComputingStage::Waits(wait), init),
                     waker,
                     fault: PollFault::NoMemory,
                 }),
             },
-            Stage::Computes(claim) => compute(rt, claim, init, waker),
-            Stage::Keeps(kept) => match kept.poll_claim(rt, waker) {
+            ComputingStage::Computes(claim) => compute(rt, claim, init, waker),
+            ComputingStage::Keeps(kept) => match kept.poll_claim(rt, waker) {
                 Step::There(value) => Ok(Polled::Ready(Ok(value))),
                 Step::Mine(never, _) => match never {},
-                Step::Pending(kept) => Ok(Polled::Pending(Computing::at(Stage::Keeps(kept), init))),
+                Step::Pending(kept) => Ok(Polled::Pending(Computing::at(
+                    ComputingStage::Keeps(kept),
+                    init,
+                ))),
                 Step::Refused(kept, waker) => Err(Unpolled {
-                    future: Computing::at(Stage::Keeps(kept), init),
+                    future: Computing::at(ComputingStage::Keeps(kept), init),
                     waker,
                     fault: PollFault::NoMemory,
                 }),

@@ -1,13 +1,13 @@
 //! Calls by key, of a map and of a group alike: a lock round their core, and the waits and claims of their calls.
 mod claiming;
 mod filling;
-mod key_core;
+mod keyed_core;
 mod steps;
 
 use crate::computed::Computed;
 pub use claiming::{KeyClaim, KeyClaiming};
 pub use filling::KeyFilling;
-pub use key_core::KeyCore;
+pub use keyed_core::KeyedCore;
 use mea_base::{NoMemory, Wake};
 use mea_wait::hand_out;
 use std::alloc::Global;
@@ -36,7 +36,7 @@ impl<C> Keyed<C> {
     // Wakes as many as the step before has made ready.
     pub(crate) fn wake<R: Wait, K: Eq + Hash, V, W: Wake>(&self, rt: &R, made: usize)
     where
-        C: KeyCore<K, V, W>,
+        C: KeyedCore<K, V, W>,
     {
         hand_out(made, || self.core.lock(rt).next_wake()?);
     }
@@ -44,8 +44,5 @@ impl<C> Keyed<C> {
 
 // A clone of a value that is kept.
 pub(crate) fn clone_of<V: Clone + Drop>(kept: &Computed<V>) -> Result<V, NoMemory> {
-    match kept.get().clone() {
-        Ok(value) => Ok(value),
-        Err(_) => Err(NoMemory),
-    }
+    Ok(kept.get().clone()?)
 }

@@ -17,7 +17,7 @@ pub mod singleflight;
 mod unfailing;
 
 pub use at_once::{AtOnce, TryAtOnce};
-pub use claim::{Claim, Claimed, Claiming, Ready, Step};
+pub use claim::{Claim, Claimed, Claiming, ReadyValue, Step};
 pub use computed::Computed;
 pub use computing::Computing;
 pub use mea_once_core::{Init, Never};

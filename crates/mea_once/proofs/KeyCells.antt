@@ -8,10 +8,10 @@ use Rattle.mea_by_name.specs.declared.named_waker.NamedWaker.{NamedWaker}
 use Rattle.mea_sem_core.specs.Core.{Core, held_of}
 use Rattle.mea_sem_core.specs.Calls.{with_waker}
 use Rattle.mea_once_core.specs.Permit.{IsNext, MayPoll, HoldsAs, held_at, passed_on}
-use Rattle.mea_once_core.specs.Cell.{Cell as CoreCell, PollsInit, PollsStage, Runs, Enters, Ends, settled, reply_of, stage_after, filled, given_up}
+use Rattle.mea_once_core.specs.Cell.{Cell as CoreCell, PollsInit, PollsStage, RunsInit, Enters, Ends, settled, reply_of, stage_after, filled, given_up}
 use Rattle.mea_once_core.specs.declared.init_call.InitCall.{InitCall}
-use Rattle.mea_once_core.specs.declared.stage.Stage.{Stage}
-use Rattle.mea_once_core.specs.declared.stage.Stage.TheVariants.{New, Queued, Running, Done}
+use Rattle.mea_once_core.specs.declared.cell_stage.CellStage.{CellStage}
+use Rattle.mea_once_core.specs.declared.cell_stage.CellStage.TheVariants.{New, Queued, Running, Done}
 use Rattle.mea_once_core.specs.declared.cell_turn.CellTurn.{CellTurn}
 use Rattle.mea_once_core.specs.declared.cell_turn.CellTurn.TheVariants as turns
 use Rattle.mea_once_model.specs.declared.job.Initialiser.{Initialiser}
@@ -33,7 +33,7 @@ use Rattle.mea_once.proofs.OneCell.{may_poll, may_end}
 use Rattle.mea_once.proofs.Steps.{Makes, polls_make, ends_make}
 
 -- a caller of a round's cell: its initialiser comes to this, and it is at this stage
-abbrev pub caller_at : ℕ → Initialiser → Stage → FutureEntry
+abbrev pub caller_at : ℕ → Initialiser → CellStage → FutureEntry
 caller_at o r t = record { cell = o; job = Computes r; stage = t; wait = None }
 
 -- a round's cell as one of a hall, with so many callers
@@ -43,7 +43,7 @@ cell_of c r n = record { cell = cell_seen c; running = r; futures = n; alone = 0
 abbrev pub named : ℕ → ℕ → NamedWaker
 named f w = record { future = f; waker = w }
 
-module _ (c : CoreCell ℕ NamedWaker) (run : Option NamedWaker) (count f o : ℕ) (r : Initialiser) (stage : Stage) (s : Stands false (cell_of c run count) f (caller_at o r stage)) where
+module _ (c : CoreCell ℕ NamedWaker) (run : Option NamedWaker) (count f o : ℕ) (r : Initialiser) (stage : CellStage) (s : Stands false (cell_of c run count) f (caller_at o r stage)) where
   abbrev K : KeptCell
   K = cell_of c run count
 
@@ -67,12 +67,12 @@ module _ (c : CoreCell ℕ NamedWaker) (run : Option NamedWaker) (count f o : �
     Step_is = model.poll f w (future_seen X) (parts.cell_seen K)
 
     -- the cell after a poll, by what that told
-    abbrev pub Polled : Poll (Result (Unit {0}) ℕ) → CoreCell ℕ NamedWaker → Stage → Type 0
+    abbrev pub Polled : Poll (Result (Unit {0}) ℕ) → CoreCell ℕ NamedWaker → CellStage → Type 0
     Polled Pending c' t = (c'.value ≡ c.value) × (parts.is_polled t ≡ true) × Makes false K s.fs s.n f o 1 answer_is.Pending (Some (caller_at o r t)) Step_is (cell_of c' (running_in t run (named f w)) count)
     Polled (Ready (Ok _)) c' t = (v : ℕ) × (t ≡ Done) × (c'.value ≡ Some v) × ((c.value ≡ c'.value) ⊎ (c.value ≡ None)) × Makes false K s.fs s.n f o 1 (answer_is.Value v) None Step_is (cell_of c' run (count - 1))
     Polled (Ready (Err z)) c' t = (t ≡ Done) × (c.value ≡ None) × (c'.value ≡ None) × Makes false K s.fs s.n f o 1 (answer_is.Failure z) None Step_is (cell_of c' run (count - 1))
 
-    turn_cell : (turn : CellTurn NamedWaker) (p : Core NamedWaker) (t : Stage) → TurnsTo (is_some c.value) c.permit (named f w) stage turn p t → (held_at t ≡ 0) ⊎ (c.value ≡ None) → TurnsCell (cell_seen c) stage (named f w) turn (cell_seen (with_permit p)) t
+    turn_cell : (turn : CellTurn NamedWaker) (p : Core NamedWaker) (t : CellStage) → TurnsTo (is_some c.value) c.permit (named f w) stage turn p t → (held_at t ≡ 0) ⊎ (c.value ≡ None) → TurnsCell (cell_seen c) stage (named f w) turn (cell_seen (with_permit p)) t
     turn_cell turn p t turns_as either =
         let one = turned_one c.permit sound.permit (is_some c.value) (named f w) stage t turn p turns_as in
         record { turns = turns_as; rest = refl; held = one.1; sound = record { permit = one.0; empty = λ some. at either some one.1 } }
@@ -109,7 +109,7 @@ module _ (c : CoreCell ℕ NamedWaker) (run : Option NamedWaker) (count f o : �
           its_part : held_at stage ≤ held_of c.permit
           its_part = at stage refl may
             where
-              at : (t : Stage) → stage ≡ t → MayPoll c.permit t → held_at t ≤ held_of c.permit
+              at : (t : CellStage) → stage ≡ t → MayPoll c.permit t → held_at t ≤ held_of c.permit
               at New is may = omega arith
               at (Queued n) is may = omega arith
               at Running is may = may
@@ -164,7 +164,7 @@ module _ (c : CoreCell ℕ NamedWaker) (run : Option NamedWaker) (count f o : �
       by_outcome (Gives v) is = fills_so v is
       by_outcome (Fails z) is = fails_so z is
 
-      runs_so : (i : Scripted) → i.outcome ≡ r → (told : Poll (Result (Unit {0}) ℕ)) (c' : CoreCell ℕ NamedWaker) (call' : InitCall Scripted) → Runs answers (with_permit p) i (named f w) told c' call' → Polled told c' call'.stage × (call'.init ≡ i)
+      runs_so : (i : Scripted) → i.outcome ≡ r → (told : Poll (Result (Unit {0}) ℕ)) (c' : CoreCell ℕ NamedWaker) (call' : InitCall Scripted) → RunsInit answers (with_permit p) i (named f w) told c' call' → Polled told c' call'.stage × (call'.init ≡ i)
       runs_so i of_init told c' call' ran = (
         rw (ran.reply, ran.cell, ran.stage, ran.answered.0, of_init) (by_outcome r refl),
         ran.answered.1,
@@ -180,7 +180,7 @@ module _ (c : CoreCell ℕ NamedWaker) (run : Option NamedWaker) (count f o : �
 
       new_so : stage ≡ New → (v : Option ℕ) → c.value ≡ v → PollsStage answers New (record { value = v; permit = c.permit }) (record { init = i; stage = stage }) (named f w) (Ok told) c' call' → Result_is
       new_so is None none polls = elim (free_or_taken c.permit sound.permit) as (λ x. Result_is) [
-        | inl one ↦ runs_so (record c.permit { free = 0 }) none (rw (is, none) (TakesFree refl one)) quiet i of_init told c' call' (subst (λ v. Runs answers (record { value = v; permit = record c.permit { free = 0 } }) i (named f w) told c' call') (sym none) (polls.0 one))
+        | inl one ↦ runs_so (record c.permit { free = 0 }) none (rw (is, none) (TakesFree refl one)) quiet i of_init told c' call' (subst (λ v. RunsInit answers (record { value = v; permit = record c.permit { free = 0 } }) i (named f w) told c' call') (sym none) (polls.0 one))
         | inr taken ↦ let h = polls.1 taken in
             let cell : c' ≡ with_permit c'.permit = λ j. record { value = (h.1.2 ∙ sym none) j; permit = c'.permit } in
             rw (h.0, cell, h.1.3) (waits_so c'.permit h.1.0 (rw (is, none) (LinesUp h.1.0 c'.permit refl taken h.1.1)), refl)
@@ -191,7 +191,7 @@ module _ (c : CoreCell ℕ NamedWaker) (run : Option NamedWaker) (count f o : �
       granted n = record c.permit { granted = remove c.permit.granted n }
 
       next_so : (n : ℕ) → stage ≡ Queued n → IsNext c.permit n → (v : Option ℕ) → c.value ≡ v → Enters answers (record { value = v; permit = granted n }) i (named f w) told c' call' → Result_is
-      next_so n is next None none enters = runs_so (granted n) none (rw (is, none) (TakesNext n next refl)) quiet i of_init told c' call' (subst (λ v. Runs answers (record { value = v; permit = granted n }) i (named f w) told c' call') (sym none) enters)
+      next_so n is next None none enters = runs_so (granted n) none (rw (is, none) (TakesNext n next refl)) quiet i of_init told c' call' (subst (λ v. RunsInit answers (record { value = v; permit = granted n }) i (named f w) told c' call') (sym none) enters)
       next_so n is next (Some v) some enters = rw (enters.0, enters.1, enters.2)
           (subst (λ u. Polled (Ready (Ok tt)) (record { value = u; permit = passed_on (granted n) }) Done) some (finds_so (passed_on (granted n)) v some (rw (is, some) (FindsLate n next refl))), refl)
 
@@ -202,7 +202,7 @@ module _ (c : CoreCell ℕ NamedWaker) (run : Option NamedWaker) (count f o : �
           as_polled Pending (with_permit (record c.permit { queue = with_waker c.permit.queue n (named f w) })) (record { init = i; stage = Queued n }) h.0 h.1 (h.2 ∙ (λ j. record { init = i; stage = is j }))
           (waits_so (record c.permit { queue = with_waker c.permit.queue n (named f w) }) n (rw is (WaitsOn n waits))) refl
 
-      at_stage : (t : Stage) → stage ≡ t → MayPoll c.permit t → PollsStage answers t c (record { init = i; stage = stage }) (named f w) (Ok told) c' call' → Result_is
+      at_stage : (t : CellStage) → stage ≡ t → MayPoll c.permit t → PollsStage answers t c (record { init = i; stage = stage }) (named f w) (Ok told) c' call' → Result_is
       at_stage New is may_be polls = new_so is c.value refl polls
       at_stage (Queued n) is may_be polls = queued_so n is may_be polls
       at_stage Running is may_be polls =

@@ -15,7 +15,7 @@ use Rattle.mea_once_core.specs.Permit.{free_permit}
 use Rattle.mea_once_core.specs.Table.{entry_at, empty_cell, fresh_entry}
 use Rattle.mea_once_core.specs.Waiting.{waiting_at}
 use Rattle.mea_once_core.specs.declared.key_call.KeyStage.TheVariants as key_stages
-use Rattle.mea_once_core.specs.declared.stage.Stage.TheVariants.{New}
+use Rattle.mea_once_core.specs.declared.cell_stage.CellStage.TheVariants.{New}
 use Rattle.mea_once_model.specs.Tables.{is_this}
 use Rattle.mea_once.specs.declared.key_future.KeyFuture.{KeyFuture}
 use Rattle.mea_once.specs.declared.round.Round.{Round}

@@ -11,12 +11,12 @@ use Rattle.mea_once_core.specs.Permit.{IsNext, MayPoll}
 use Rattle.mea_once_core.specs.Cell.{Cell as CoreCell, PollsInit, Finds, rested}
 use Rattle.mea_once_core.specs.Links.{Shown, Changes, Renumbers, SameNumbers}
 use Rattle.mea_once_core.specs.Table.{entry_at, number_of, is_last, fresh_entry, Sets, NumbersGo, Joins, Makes}
-use Rattle.mea_once_core.specs.Keyed.{without_caller, LeavesEntry, GivesUp, Told, StepsCell, FindsValue, AsksCell, PollsCaller, StartsAt, StartsNew, IsSameKeyed}
+use Rattle.mea_once_core.specs.Keyed.{without_caller, LeavesEntry, GivesUp, AfterCellPoll, StepsCell, FindsValue, AsksCell, PollsCaller, StartsAt, StartsNew, IsSameKeyed}
 use Rattle.mea_once_core.specs.declared.init_call.InitCall.{InitCall}
 use Rattle.mea_once_core.specs.declared.key_call.KeyStage.{KeyStage}
 use Rattle.mea_once_core.specs.declared.key_call.KeyStage.TheVariants as key_stages
-use Rattle.mea_once_core.specs.declared.stage.Stage.{Stage}
-use Rattle.mea_once_core.specs.declared.stage.Stage.TheVariants.{New, Queued, Running, Done}
+use Rattle.mea_once_core.specs.declared.cell_stage.CellStage.{CellStage}
+use Rattle.mea_once_core.specs.declared.cell_stage.CellStage.TheVariants.{New, Queued, Running, Done}
 use Rattle.mea_once_core.proofs.Tables.{changes-twice, and-false, and-true}
 use Rattle.mea_once.specs.declared.scripted.Scripted.{Scripted}
 use Rattle.mea_once.specs.Cores.{IsOnePermit}
@@ -105,7 +105,7 @@ as_becomes k k' m key o o' p p' ws ws' becomes a b c = rw (← a, ← b, ← c) 
 
 -- what follows from what the poll of the cell told
 told_core : (once : Bool) (k b k' : NamedKeyed) (m key : ℕ) (e : Entry) (p : Option ℕ) (told : Poll (Result (Unit {0}) ℕ)) (c : CoreCell ℕ NamedWaker) (poll : Poll (Result ℕ ℕ)) (stage' : KeyStage ℕ) → IsOnly b m key
-    → Becomes k b m (Some (with_cell e c)) key p c.permit.wakes → Told nat_eq once (Ok told) b m (with_cell e c) (Ok poll) k' stage' → CorePolled once k m key e p told c poll k' stage'
+    → Becomes k b m (Some (with_cell e c)) key p c.permit.wakes → AfterCellPoll nat_eq once (Ok told) b m (with_cell e c) (Ok poll) k' stage' → CorePolled once k m key e p told c poll k' stage'
 told_core once k b k' m key e p Pending c poll stage' only before told =
     let same : poll ≡ Pending = let both = told.0 in cc in (
       same,
@@ -139,7 +139,7 @@ told_core once k b k' m key e p (Ready (Ok u)) c poll stage' only before (b2, gi
     )
 
 -- the next poll of a call finds a value there, or does not
-finds_or : (c : CoreCell ℕ NamedWaker) → IsOnePermit c.permit → (stage : Stage) → MayPoll c.permit stage → Finds c stage ⊎ (Finds c stage → ⊥)
+finds_or : (c : CoreCell ℕ NamedWaker) → IsOnePermit c.permit → (stage : CellStage) → MayPoll c.permit stage → Finds c stage ⊎ (Finds c stage → ⊥)
 finds_or c one New may = at c.value refl
   where
     at : (v : Option ℕ) → c.value ≡ v → IsSome c.value ⊎ (IsSome c.value → ⊥)
@@ -168,7 +168,7 @@ module _ (once : Bool) (k k' : NamedKeyed) (key : ℕ) (call call' : InitCall Sc
     pub core : CorePolled once k m key e p told cell poll k' stage'
 
   asks_core : (b : NamedKeyed) (m : ℕ) (e : Entry) (p : Option ℕ) → IsOnly b m key → Becomes k b m (Some e) key p [] → (told : Result (Poll (Result (Unit {0}) ℕ)) (NamedWaker × NoMemory)) (c : CoreCell ℕ NamedWaker) (between : NamedKeyed)
-      → StepsCell answers nat_eq b m e call w told c between call' → Told nat_eq once told between m (with_cell e c) (Ok poll) k' stage' → Asked m e p
+      → StepsCell answers nat_eq b m e call w told c between call' → AfterCellPoll nat_eq once told between m (with_cell e c) (Ok poll) k' stage' → Asked m e p
   asks_core b m e p only before (Ok told) c between steps follows =
       let polled = by_sets b between m key (Some (with_cell e c)) c.permit.wakes steps.sets steps.wakes in
       record {
@@ -220,7 +220,7 @@ module _ (once : Bool) (k k' : NamedKeyed) (key : ℕ) (call call' : InitCall Sc
       not_given true is l listed = ap (λ l. l && once) (fit is full)
       not_given false is l listed = ap (λ b. e.listed && b) is ∙ and-false e.listed
 
-  full_of : (c : CoreCell ℕ NamedWaker) (stage : Stage) → Finds c stage → IsSome c.value
+  full_of : (c : CoreCell ℕ NamedWaker) (stage : CellStage) → Finds c stage → IsSome c.value
   full_of c New finds = finds
   full_of c (Queued n) finds = finds.0
   full_of c Running finds = absurd finds
@@ -244,7 +244,7 @@ module _ (once : Bool) (k k' : NamedKeyed) (key : ℕ) (call call' : InitCall Sc
   ]
     where
       joins : (told : Result (Poll (Result (Unit {0}) ℕ)) (NamedWaker × NoMemory)) (c : CoreCell ℕ NamedWaker) (between j : NamedKeyed) → StepsCell answers nat_eq k m e call w told c between call' → Joins nat_eq between.table j.table m → j.wakes ≡ between.wakes
-          → Told nat_eq once told j m (record e { cell = rested c; callers = e.callers + 1 }) (Ok poll) k' stage' → Asked m (record e { callers = e.callers + 1 }) (number k key)
+          → AfterCellPoll nat_eq once told j m (record e { cell = rested c; callers = e.callers + 1 }) (Ok poll) k' stage' → Asked m (record e { callers = e.callers + 1 }) (number k key)
       joins (Ok told) c between j steps joins_as wakes follows =
           let e' : Entry = record e { callers = e.callers + 1 } in
           let polled = by_sets k between m key (Some (with_cell e c)) c.permit.wakes steps.sets steps.wakes in

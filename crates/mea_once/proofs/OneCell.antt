@@ -24,8 +24,8 @@ use Rattle.mea_cores_by_name.specs.SetLinked.{SlotIs, IsAbsent, names_of}
 use Rattle.mea_cores_by_name.proofs.Linking.{IsUnqueued, linked_begun}
 use Rattle.mea_cores_by_name.proofs.Pours.{linked_poured}
 use Rattle.mea_once_core.specs.Permit.{MayPoll, MayEnd, HoldsAs, held_at, passed_to}
-use Rattle.mea_once_core.specs.declared.stage.Stage.{Stage}
-use Rattle.mea_once_core.specs.declared.stage.Stage.TheVariants.{New, Queued, Running, Done}
+use Rattle.mea_once_core.specs.declared.cell_stage.CellStage.{CellStage}
+use Rattle.mea_once_core.specs.declared.cell_stage.CellStage.TheVariants.{New, Queued, Running, Done}
 use Rattle.mea_once_core.proofs.Permits.{waits_behind, first_granted}
 use Rattle.mea_once_model.specs.Cells as model
 use Rattle.mea_once_model.specs.Cells.{Cell, is_alone, passed, woken_next}
@@ -109,19 +109,19 @@ absent_waits [] f absent = refl
 absent_waits (k ∷ ks) f absent = ap (λ b. is_some (cond b (Some k.waker) (waker_for (names_of ks) f))) absent.0 ∙ absent_waits ks f absent.1
 
 -- ---- stages
-pub held_is : (s : Stage) → held_at s ≡ cond (runs_at s) 1 0
+pub held_is : (s : CellStage) → held_at s ≡ cond (runs_at s) 1 0
 held_is New = refl
 held_is (Queued n) = refl
 held_is Running = refl
 held_is Done = refl
 
-unqueued_at : (s : Stage) → ((n : ℕ) → s ≡ Queued n → ⊥) → IsUnqueued (Some (acquire_at s))
+unqueued_at : (s : CellStage) → ((n : ℕ) → s ≡ Queued n → ⊥) → IsUnqueued (Some (acquire_at s))
 unqueued_at New none = tt
 unqueued_at (Queued n) none = absurd (none n refl)
 unqueued_at Running none = tt
 unqueued_at Done none = tt
 
-pub fits_any : (caller : Bool) (s : Stage) → StageFits caller s → StageFits true s
+pub fits_any : (caller : Bool) (s : CellStage) → StageFits caller s → StageFits true s
 fits_any true s fits = fits
 fits_any false New fits = tt
 fits_any false (Queued n) fits = absurd fits
@@ -133,13 +133,13 @@ module _ (once : Bool) (e : KeptCell) (fs : Names FutureEntry) (tied : Tied once
   abbrev pub acquires : Names Acquire
   acquires = seen acquire_of fs
 
-  pub its_acquire : (s : Stage) → x.stage ≡ s → get acquires f ≡ Some (acquire_at s)
+  pub its_acquire : (s : CellStage) → x.stage ≡ s → get acquires f ≡ Some (acquire_at s)
   its_acquire s is = seen-at acquire_of fs f x there ∙ ap (λ s. Some (acquire_at s)) is
 
-  pub unqueued : (s : Stage) → x.stage ≡ s → ((n : ℕ) → s ≡ Queued n → ⊥) → IsUnqueued (get acquires f)
+  pub unqueued : (s : CellStage) → x.stage ≡ s → ((n : ℕ) → s ≡ Queued n → ⊥) → IsUnqueued (get acquires f)
   unqueued s is none = subst IsUnqueued (sym (its_acquire s is)) (unqueued_at s none)
 
-  pub still_insert : (s : Stage) → x.stage ≡ s → insert acquires f (acquire_at s) ≡ acquires
+  pub still_insert : (s : CellStage) → x.stage ≡ s → insert acquires f (acquire_at s) ≡ acquires
   still_insert s is = insert_same acquires f (acquire_at s) (its_acquire s is)
 
   pub running_held : is_running x ≡ true → 1 ≤ held_of e.cell.permit
@@ -147,7 +147,7 @@ module _ (once : Bool) (e : KeptCell) (fs : Names FutureEntry) (tied : Tied once
       let one : ◌≡◌ {A = ℕ} (cond (is_running x) 1 0) 1 = ap (λ b. cond b 1 0) is in
       omega (arith, one, tied.held, total-has (λ k (x : FutureEntry). cond (is_running x) 1 0) fs f x there)
 
-  may_at : (s : Stage) → x.stage ≡ s → StageFits true s → MayPoll e.cell.permit s
+  may_at : (s : CellStage) → x.stage ≡ s → StageFits true s → MayPoll e.cell.permit s
   may_at New is fits = tt
   may_at (Queued n) is fits = tied.linked.home f (acquire.Queued 1 n) (its_acquire (Queued n) is)
   may_at Running is fits = running_held (ap runs_at is)
@@ -156,7 +156,7 @@ module _ (once : Bool) (e : KeptCell) (fs : Names FutureEntry) (tied : Tied once
   pub may_poll : MayPoll e.cell.permit x.stage
   may_poll = may_at x.stage refl (fits_any (is_caller x.job) x.stage (tied.each f x there).stage)
 
-  end_at : (s : Stage) → MayPoll e.cell.permit s → MayEnd e.cell.permit s
+  end_at : (s : CellStage) → MayPoll e.cell.permit s → MayEnd e.cell.permit s
   end_at New may = tt
   end_at (Queued n) may = may
   end_at Running may = may
@@ -194,7 +194,7 @@ module _ (once : Bool) (e : KeptCell) (fs : Names FutureEntry) (tied : Tied once
       at true run = absurd (let may : cond (is_alone x.job) true (is_running x) ≡ true = runs_may run in let no : cond (is_alone x.job) true (is_running x) ≡ false = ap (λ b. cond b true (is_running x)) shares ∙ none in cc)
 
   -- ---- it changes its stage
-  module _ (c : NamedCell) (s : Stage) (stage : StageFits (is_caller x.job) s) (run : runs_at x.stage ≡ true → runs_at s ≡ true) (linked : Linked c.permit.queue c.permit.granted (insert acquires f (acquire_at s)))
+  module _ (c : NamedCell) (s : CellStage) (stage : StageFits (is_caller x.job) s) (run : runs_at x.stage ≡ true → runs_at s ≡ true) (linked : Linked c.permit.queue c.permit.granted (insert acquires f (acquire_at s)))
       (held : HoldsAs e.cell.permit x.stage c.permit s) (waits : c.waits ≡ e.cell.waits) where
     abbrev pub turned_one : FutureEntry
     turned_one = record x { stage = s }

@@ -22,8 +22,8 @@ use Rattle.mea_cores_by_name.specs.Linked.{names_in, Linked}
 use Rattle.mea_cores_by_name.specs.SetLinked.{SlotIs, SetLinked, names_of, set_names}
 use Rattle.mea_cores_by_name.proofs.Linking.{linked_gone}
 use Rattle.mea_cores_by_name.proofs.Sets.{registered_names, registered_links}
-use Rattle.mea_once_core.specs.declared.stage.Stage.{Stage}
-use Rattle.mea_once_core.specs.declared.stage.Stage.TheVariants.{New, Queued, Running, Done}
+use Rattle.mea_once_core.specs.declared.cell_stage.CellStage.{CellStage}
+use Rattle.mea_once_core.specs.declared.cell_stage.CellStage.TheVariants.{New, Queued, Running, Done}
 use Rattle.mea_once_model.specs.declared.job.Initialiser.{Initialiser}
 use Rattle.mea_once_model.specs.declared.job.Initialiser.TheVariants.{Unsettled, Gives, Fails}
 use Rattle.mea_once_model.specs.declared.job.Job.{Job}
@@ -57,7 +57,7 @@ module _ (once : Bool) (e : KeptCell) (f : ℕ) (x : FutureEntry) (s : Stands on
           let no_turn : cond (is_alone x.job) true (is_running x) ≡ false = ap (λ b. cond b true (is_running x)) shares ∙ idle in cc)
       not_queued n is false caller is_it = is_it
 
-      at : (t : Stage) → x.stage ≡ t → waits (cell_seen e).queue f ≡ false
+      at : (t : CellStage) → x.stage ≡ t → waits (cell_seen e).queue f ≡ false
       at New is = out_of_queue once e f x s New is (λ n same. absurd (cc))
       at (Queued n) is = absurd (not_queued n is (is_caller x.job) refl (subst (StageFits (is_caller x.job)) is ((s.kept.tied.each f x s.there).stage)))
       at Running is = out_of_queue once e f x s Running is (λ n same. absurd (cc))
@@ -203,7 +203,7 @@ module _ (once : Bool) (e : KeptCell) (f : ℕ) (x : FutureEntry) (s : Stands on
   at_first : is_caller x.job ≡ false → x.stage ≡ New
   at_first none = at x.stage refl (subst (λ b. StageFits b x.stage) none ((s.kept.tied.each f x s.there).stage))
     where
-      at : (t : Stage) → x.stage ≡ t → StageFits false t → x.stage ≡ New
+      at : (t : CellStage) → x.stage ≡ t → StageFits false t → x.stage ≡ New
       at New is it = is
       at (Queued n) is it = absurd it
       at Running is it = absurd it

@@ -25,7 +25,7 @@ use Rattle.mea_by_name.proofs.Own.{seen-at, seen-empty, seen-insert, seen-remove
 use Rattle.mea_cores_by_name.specs.Linked.{names_in}
 use Rattle.mea_cores_by_name.specs.SetLinked.{AreBelow, names_of, set_names}
 use Rattle.mea_cores_by_name.proofs.Sets.{below_absent}
-use Rattle.mea_once_core.specs.declared.stage.Stage.TheVariants.{New}
+use Rattle.mea_once_core.specs.declared.cell_stage.CellStage.TheVariants.{New}
 use Rattle.mea_once_model.specs.declared.job.Initialiser.{Initialiser}
 use Rattle.mea_once_model.specs.declared.job.Job.{Job}
 use Rattle.mea_once_model.specs.declared.job.Job.TheVariants.{Calls, Computes, Alone, Sets, Inserts, Awaits}

@@ -14,8 +14,8 @@ use Rattle.mea_sem_core.specs.Ones.{AskForOne}
 use Rattle.mea_sem_core.proofs.Ones.{ones_append, ones_rewaked, ones_without}
 use Rattle.mea_cores_by_name.proofs.Waiters.{waiting-with}
 use Rattle.mea_once_core.specs.Permit.{IsNext, MayEnd, Leaves, HoldsAs, held_at, passed_to, passed_on}
-use Rattle.mea_once_core.specs.declared.stage.Stage.{Stage}
-use Rattle.mea_once_core.specs.declared.stage.Stage.TheVariants.{New, Queued, Running, Done}
+use Rattle.mea_once_core.specs.declared.cell_stage.CellStage.{CellStage}
+use Rattle.mea_once_core.specs.declared.cell_stage.CellStage.TheVariants.{New, Queued, Running, Done}
 use Rattle.mea_once_core.specs.declared.cell_turn.CellTurn.{CellTurn}
 use Rattle.mea_once.specs.Cores.{TurnsTo, FindsFull, FindsLate, TakesFree, TakesNext, GoesOn, LinesUp, WaitsOn, IsOnePermit}
 use Rattle.mea_sem_core.proofs.Without.{waiting-without, AreApart-without}
@@ -188,7 +188,7 @@ module _ (s : Core NamedWaker) (is : IsOnePermit s) where
 
 -- ---- a poll for a turn, and an end
 module _ (s : Core NamedWaker) (is : IsOnePermit s) where
-  pub turned_one : (full : Bool) (w : NamedWaker) (stage after : Stage) (turn : CellTurn NamedWaker) (t : Core NamedWaker) → TurnsTo full s w stage turn t after → IsOnePermit t × HoldsAs s stage t after
+  pub turned_one : (full : Bool) (w : NamedWaker) (stage after : CellStage) (turn : CellTurn NamedWaker) (t : Core NamedWaker) → TurnsTo full s w stage turn t after → IsOnePermit t × HoldsAs s stage t after
   turned_one full w _ _ _ _ (FindsFull full_now) = (is, refl)
   turned_one full w _ _ _ _ (FindsLate n next full_now) = late n next
     where
@@ -205,7 +205,7 @@ module _ (s : Core NamedWaker) (is : IsOnePermit s) where
   turned_one full w _ _ _ t (LinesUp n _ empty none queues) = lined_up s is t w n none queues
   turned_one full w _ _ _ _ (WaitsOn n waits) = waited_on s is w n
 
-  pub left_one : (stage : Stage) (t : Core NamedWaker) → MayEnd s stage → Leaves s stage t → IsOnePermit t × (held_of t + held_at stage ≡ held_of s)
+  pub left_one : (stage : CellStage) (t : Core NamedWaker) → MayEnd s stage → Leaves s stage t → IsOnePermit t × (held_of t + held_at stage ≡ held_of s)
   left_one New t may leaves = rw leaves (is, omega arith)
   left_one (Queued n) t (inl next) leaves =
       let took = took_next s is n next in

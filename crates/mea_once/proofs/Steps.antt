@@ -27,8 +27,8 @@ use Rattle.mea_cores_by_name.specs.SetLinked.{SlotIs, AreBelow, SetLinked, names
 use Rattle.mea_cores_by_name.proofs.Linking.{unqueued_waits, queued_waits, queued_with, queued_without, linked_gone, linked_begun, linked_pushed, linked_again, linked_taken, linked_left, push-names}
 use Rattle.mea_cores_by_name.proofs.Sets.{drained_links}
 use Rattle.mea_once_core.specs.Permit.{IsNext, IsWaiting, Leaves, HoldsAs, held_at, passed_on}
-use Rattle.mea_once_core.specs.declared.stage.Stage.{Stage}
-use Rattle.mea_once_core.specs.declared.stage.Stage.TheVariants.{New, Queued, Running, Done}
+use Rattle.mea_once_core.specs.declared.cell_stage.CellStage.{CellStage}
+use Rattle.mea_once_core.specs.declared.cell_stage.CellStage.TheVariants.{New, Queued, Running, Done}
 use Rattle.mea_once_core.specs.declared.cell_turn.CellTurn.{CellTurn}
 use Rattle.mea_once_model.specs.declared.job.Initialiser.{Initialiser}
 use Rattle.mea_once_model.specs.declared.job.Initialiser.TheVariants.{Unsettled, Gives, Fails}
@@ -118,11 +118,11 @@ module _ (once : Bool) (e : KeptCell) (f : ℕ) (x : FutureEntry) (s : Stands on
   abbrev its : Names Acquire
   its = seen acquire_of s.fs
 
-  its_at : (t : Stage) → x.stage ≡ t → get its f ≡ Some (acquire_at t)
+  its_at : (t : CellStage) → x.stage ≡ t → get its f ≡ Some (acquire_at t)
   its_at t is = its_acquire once e s.fs tie f x s.there t is
 
   -- ---- where it waits
-  pub out_of_queue : (t : Stage) → x.stage ≡ t → ((n : ℕ) → t ≡ Queued n → ⊥) → waits seen_cell.queue f ≡ false
+  pub out_of_queue : (t : CellStage) → x.stage ≡ t → ((n : ℕ) → t ≡ Queued n → ⊥) → waits seen_cell.queue f ≡ false
   out_of_queue t is none = unqueued_waits permit.queue permit.granted its tie.linked f (unqueued once e s.fs tie f x s.there t is none) (no_debts permit.queue asks)
 
   next_is_out : (n : ℕ) → x.stage ≡ Queued n → IsNext permit n → waits seen_cell.queue f ≡ false
@@ -173,7 +173,7 @@ module _ (once : Bool) (e : KeptCell) (f : ℕ) (x : FutureEntry) (s : Stands on
   slots_same g y is = (tie.each g y is).slot
 
   -- ---- it waits on, in another stage
-  module _ (c : NamedCell) (t : Stage) (w : ℕ) (of_waits : c.waits ≡ e.cell.waits) (sound : IsSoundCell c) (tied : Tied once (record e { cell = c }) (insert s.fs f (record x { stage = t }))) where
+  module _ (c : NamedCell) (t : CellStage) (w : ℕ) (of_waits : c.waits ≡ e.cell.waits) (sound : IsSoundCell c) (tied : Tied once (record e { cell = c }) (insert s.fs f (record x { stage = t }))) where
     waits_on : (quiet : c.permit.wakes ≡ []) (fit : length c.permit.queue ≤ length permit.queue + 1) (step : Step) → cell_seen (record e { cell = c }) ≡ step.cell → Some (future_seen (record x { stage = t })) ≡ step.future → step.reply ≡ answers.Pending → step.wakes ≡ []
         → Makes once e s.fs s.n f x.cell 1 answers.Pending (Some (record x { stage = t })) step (record e { cell = c })
     waits_on quiet fit step cell future reply silent = record {
@@ -327,7 +327,7 @@ module _ (once : Bool) (e : KeptCell) (f : ℕ) (x : FutureEntry) (s : Stands on
     abbrev k : NamedWaker
     k = record { future = f; waker = w }
 
-    abbrev Polled : CellTurn NamedWaker → Core NamedWaker → Stage → Type 0
+    abbrev Polled : CellTurn NamedWaker → Core NamedWaker → CellStage → Type 0
     Polled turn p t = HoldsAs permit x.stage p t → IsSoundCell (record e.cell { permit = p }) → (told : PollReply) (e2 : KeptCell) → Follows turn (record e { cell = record e.cell { permit = p } }) k x.job told e2
         → Makes once e s.fs s.n f x.cell 1 told.answer (left_by told.over (record x { stage = t })) (model.poll f w seen_future seen_cell) e2
 
@@ -344,7 +344,7 @@ module _ (once : Bool) (e : KeptCell) (f : ℕ) (x : FutureEntry) (s : Stands on
     later_poll : waits seen_cell.queue f ≡ false → is_polled x.stage ≡ true → (v : Option ℕ) → e.cell.value ≡ v → Polls ≡ model.take_turn f w seen_future seen_cell v
     later_poll out polled v value = poll_on w out idle unwaited ∙ if_true seen_future.polled _ _ polled ∙ ap (model.take_turn f w seen_future seen_cell) value
 
-    no_number : (t : Stage) → x.stage ≡ t → ((n : ℕ) → t ≡ Queued n → ⊥) → Linked permit.queue permit.granted (remove its f)
+    no_number : (t : CellStage) → x.stage ≡ t → ((n : ℕ) → t ≡ Queued n → ⊥) → Linked permit.queue permit.granted (remove its f)
     no_number t is none = linked_gone permit.queue permit.granted its tie.linked f (unqueued once e s.fs tie f x s.there t is none)
 
     number_taken : (n : ℕ) → x.stage ≡ Queued n → IsNext permit n → Linked permit.queue (remove permit.granted n) (remove its f)
@@ -360,7 +360,7 @@ module _ (once : Bool) (e : KeptCell) (f : ℕ) (x : FutureEntry) (s : Stands on
     queued_fits n true is = tt
     queued_fits n false is = absurd (cc)
 
-    at_new : (turn : CellTurn NamedWaker) (p : Core NamedWaker) (t : Stage) → x.stage ≡ New → TurnsTo (is_some e.cell.value) permit k New turn p t → Polled turn p t
+    at_new : (turn : CellTurn NamedWaker) (p : Core NamedWaker) (t : CellStage) → x.stage ≡ New → TurnsTo (is_some e.cell.value) permit k New turn p t → Polled turn p t
     at_new turn p t new (FindsFull full) held sound told e2 (v, value, told_is, e2_is) = rw (told_is, e2_is, first_poll new (Some v) value)
         (goes e.cell 1 (model.start f w seen_future seen_cell (Some v)) (found_full x.job v) refl refl s.kept.sound (no_number New new (λ n is. absurd (cc)))
         (let no_turn : ◌≡◌ {A = ℕ} (cond (is_running x) 1 0) 0 = ap (λ s. cond (runs_at s) 1 0) new in omega (arith, no_turn)) slots_same s.low
@@ -388,7 +388,7 @@ module _ (once : Bool) (e : KeptCell) (f : ℕ) (x : FutureEntry) (s : Stands on
     not_running : (n : ℕ) → x.stage ≡ Queued n → ◌≡◌ {A = ℕ} (cond (is_running x) 1 0) 0
     not_running n is = ap (λ s. cond (runs_at s) 1 0) is
 
-    at_queued : (n : ℕ) (turn : CellTurn NamedWaker) (p : Core NamedWaker) (t : Stage) → x.stage ≡ Queued n → TurnsTo (is_some e.cell.value) permit k (Queued n) turn p t → Polled turn p t
+    at_queued : (n : ℕ) (turn : CellTurn NamedWaker) (p : Core NamedWaker) (t : CellStage) → x.stage ≡ Queued n → TurnsTo (is_some e.cell.value) permit k (Queued n) turn p t → Polled turn p t
     at_queued n turn p t is (FindsLate m next full) held sound told e2 (v, value, told_is, e2_is) = rw (told_is, e2_is, later_poll (next_is_out n is next) (ap is_polled is) (Some v) value)
         (gone (record permit { granted = remove permit.granted n }) (record e.cell { permit = p }) e.cell.value (set_names e.cell.waits) 1 (model.take_turn f w seen_future seen_cell (Some v)) (found_full x.job v) refl refl sound (number_taken n is next)
         (omega (arith, held, held_is x.stage, not_running n is)) slots_same s.low refl refl refl refl refl (ap (λ ws. woken_in ws ++ woken_next seen_cell.queue) s.kept.quiet)
@@ -402,25 +402,25 @@ module _ (once : Bool) (e : KeptCell) (f : ℕ) (x : FutureEntry) (s : Stands on
         (λ i. record seen_cell { queue = (ap who (queued_with permit.queue permit.granted its tie.linked f 1 n (its_at (Queued n) is) k refl (no_debts permit.queue asks)) ∙ who-rewoken (names_in permit.queue) f w) i })
         (λ i. Some (future_seen (record x { stage = sym is i }))) refl refl)
 
-    at_running : (turn : CellTurn NamedWaker) (p : Core NamedWaker) (t : Stage) → x.stage ≡ Running → TurnsTo (is_some e.cell.value) permit k Running turn p t → Polled turn p t
+    at_running : (turn : CellTurn NamedWaker) (p : Core NamedWaker) (t : CellStage) → x.stage ≡ Running → TurnsTo (is_some e.cell.value) permit k Running turn p t → Polled turn p t
     at_running turn p t is (GoesOn empty) held sound told e2 follows = rw (later_poll (out_of_queue Running is (λ n same. absurd (cc))) (ap is_polled is) None (empty_is e.cell.value empty))
         (run_makes permit caller w idle refl s.kept.quiet held sound (no_number Running is (λ n same. absurd (cc))) (rw (still_insert once e s.fs tie f x s.there Running is) tie.linked) (init_of x.job) told e2 follows)
 
-    at_stage : (t0 : Stage) → x.stage ≡ t0 → (turn : CellTurn NamedWaker) (p : Core NamedWaker) (t : Stage) → TurnsTo (is_some e.cell.value) permit k t0 turn p t → Polled turn p t
+    at_stage : (t0 : CellStage) → x.stage ≡ t0 → (turn : CellTurn NamedWaker) (p : Core NamedWaker) (t : CellStage) → TurnsTo (is_some e.cell.value) permit k t0 turn p t → Polled turn p t
     at_stage New is turn p t turns_as = at_new turn p t is turns_as
     at_stage (Queued n) is turn p t turns_as = at_queued n turn p t is turns_as
     at_stage Running is turn p t turns_as = at_running turn p t is turns_as
     at_stage Done is turn p t turns_as = absurd (let fits_now = fits_any (is_caller x.job) x.stage (tie.each f x s.there).stage in subst (StageFits true) is fits_now)
 
-    pub polls_make : (turn : CellTurn NamedWaker) (c : NamedCell) (t : Stage) → TurnsCell e.cell x.stage k turn c t → (told : PollReply) (e2 : KeptCell) → Follows turn (record e { cell = c }) k x.job told e2
+    pub polls_make : (turn : CellTurn NamedWaker) (c : NamedCell) (t : CellStage) → TurnsCell e.cell x.stage k turn c t → (told : PollReply) (e2 : KeptCell) → Follows turn (record e { cell = c }) k x.job told e2
         → Makes once e s.fs s.n f x.cell 1 told.answer (left_by told.over (record x { stage = t })) Polls e2
     polls_make turn c t turned_as told e2 follows = at_stage x.stage refl turn c.permit t turned_as.turns turned_as.held (rw turned_as.rest at turned_as.sound) told e2 (rw turned_as.rest at follows)
 
   -- ---- what the calls of the entry ask for
-  pub turn_fits : (turn : CellTurn NamedWaker) (k : NamedWaker) (c : NamedCell) (t : Stage) → TurnsCell e.cell x.stage k turn c t → TurnFits turn c × TurnIsQuiet turn c
+  pub turn_fits : (turn : CellTurn NamedWaker) (k : NamedWaker) (c : NamedCell) (t : CellStage) → TurnsCell e.cell x.stage k turn c t → TurnFits turn c × TurnIsQuiet turn c
   turn_fits turn k c t turned_as = (subst (TurnFits turn) (sym turned_as.rest) (by_turn x.stage refl turn c.permit t turned_as.turns turned_as.held).0, subst (TurnIsQuiet turn) (sym turned_as.rest) (by_turn x.stage refl turn c.permit t turned_as.turns turned_as.held).1)
     where
-      by_turn : (t0 : Stage) → x.stage ≡ t0 → (turn : CellTurn NamedWaker) (p : Core NamedWaker) (t : Stage) → TurnsTo (is_some e.cell.value) permit k t0 turn p t → HoldsAs permit x.stage p t
+      by_turn : (t0 : CellStage) → x.stage ≡ t0 → (turn : CellTurn NamedWaker) (p : Core NamedWaker) (t : CellStage) → TurnsTo (is_some e.cell.value) permit k t0 turn p t → HoldsAs permit x.stage p t
           → TurnFits turn (record e.cell { permit = p }) × TurnIsQuiet turn (record e.cell { permit = p })
       by_turn _ is turn p t (FindsFull full) held = (full, tt)
       by_turn _ is turn p t (FindsLate n next full) held = (full, tt)
@@ -481,7 +481,7 @@ module _ (once : Bool) (e : KeptCell) (f : ℕ) (x : FutureEntry) (s : Stands on
           (λ i. passed seen_cell.queue (record seen_cell { taken = of_free i == 0; runner = without seen_cell.runner f })) (ap (λ ws. woken_in ws ++ woken_next seen_cell.queue) quiet)
           (let none : length s0.wakes ≡ 0 = ap length quiet in omega (arith, none, same_waits)))
 
-      at : (t : Stage) → x.stage ≡ t → Leaves permit t c.permit → Makes once e s.fs s.n f x.cell 0 answers.Done None (model.end f seen_future seen_cell) (Left c)
+      at : (t : CellStage) → x.stage ≡ t → Leaves permit t c.permit → Makes once e s.fs s.n f x.cell 0 answers.Done None (model.end f seen_future seen_cell) (Left c)
       at New is leaves = rw (end_unpolled (out_of_queue New is (λ n same. absurd (cc))) (ap is_polled is))
           (goes c 0 (model.leaves (record seen_cell { runner = without seen_cell.runner f }) answers.Done []) answers.Done refl refl left.sound
           (rw leaves (linked_gone permit.queue permit.granted its tie.linked f (unqueued once e s.fs tie f x s.there New is (λ n same. absurd (cc))))) held slots low
@@ -514,11 +514,11 @@ end_steps once e e2 new f x c more before after s left is all hands =
     handed once e s.fs s.n f x.cell 0 answers.Done None (model.end f (future_seen x) (cell_seen e)) e2 new before before after (rw is (ends_make once e f x s c left)) (rw exactly at hands) refl (omega arith)
 
 -- a caller whose initialiser keeps no waker was polled
-pub polled_fits : (once : Bool) (e e2 : KeptCell) (f w : ℕ) (x : FutureEntry) (turn : CellTurn NamedWaker) (c : NamedCell) (t : Stage) (told : PollReply) (more : ℕ) → Stands once e f x → is_caller x.job ≡ true → runs e.running f ≡ false
+pub polled_fits : (once : Bool) (e e2 : KeptCell) (f w : ℕ) (x : FutureEntry) (turn : CellTurn NamedWaker) (c : NamedCell) (t : CellStage) (told : PollReply) (more : ℕ) → Stands once e f x → is_caller x.job ≡ true → runs e.running f ≡ false
     → TurnsCell e.cell x.stage (record { future = f; waker = w }) turn c t → Follows turn (record e { cell = c }) (record { future = f; waker = w }) x.job told e2 → more ≡ keeps e + 1 → keeps e2 + length e2.cell.permit.wakes ≤ more
 polled_fits once e e2 f w x turn c t told more s caller idle turned_as follows all = rw all (polls_make once e f x s caller w idle turn c t turned_as told e2 follows).fit
 
-pub polled_steps : (once : Bool) (e e2 new : KeptCell) (f w : ℕ) (x y : FutureEntry) (turn : CellTurn NamedWaker) (c : NamedCell) (t : Stage) (told : PollReply) (more : ℕ) (before ready after : Waking ℕ) (s : Stands once e f x) → is_caller x.job ≡ true → runs e.running f ≡ false
+pub polled_steps : (once : Bool) (e e2 new : KeptCell) (f w : ℕ) (x y : FutureEntry) (turn : CellTurn NamedWaker) (c : NamedCell) (t : CellStage) (told : PollReply) (more : ℕ) (before ready after : Waking ℕ) (s : Stands once e f x) → is_caller x.job ≡ true → runs e.running f ≡ false
     → TurnsCell e.cell x.stage (record { future = f; waker = w }) turn c t → Follows turn (record e { cell = c }) (record { future = f; waker = w }) x.job told e2 → (told.over ≡ false → y ≡ record x { stage = t }) → more ≡ keeps e + 1
     → ready ≡ record before { registered = before.registered + 1 } → HandsOn e2 new more ready after → Stepped once e s.fs s.n f x.cell (left_by told.over y) (model.poll f w (future_seen x) (cell_seen e)) told.answer new before after
 polled_steps once e e2 new f w x y turn c t told more before ready after s caller idle turned_as follows stays all grown hands =

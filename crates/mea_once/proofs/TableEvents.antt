@@ -33,7 +33,7 @@ use Rattle.mea_once_model.specs.KeyActions.{key_act, with_future, MakeTable, Beg
 use Rattle.mea_once.specs.declared.key_future.KeyFuture.{KeyFuture}
 use Rattle.mea_once.specs.declared.round.Round.{Round}
 use Rattle.mea_once_core.specs.declared.key_call.KeyStage.TheVariants as key_stages
-use Rattle.mea_once_core.specs.declared.stage.Stage.TheVariants.{New}
+use Rattle.mea_once_core.specs.declared.cell_stage.CellStage.TheVariants.{New}
 use Rattle.mea_once.specs.Entries.{of_running}
 use Rattle.mea_once.specs.KeyCores.{NamedKeyed}
 use Rattle.mea_once.specs.KeyEntries.{KeptTable, IsSameTable}

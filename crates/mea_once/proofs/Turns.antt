@@ -12,8 +12,8 @@ use Rattle.mea_once_core.specs.Cell as cells
 use Rattle.mea_once_core.specs.Cell.{Cell, PollsTurn}
 use Rattle.mea_once_core.specs.Once as onces
 use Rattle.mea_once_core.specs.Once.{Once, TurnsCall, with_cell, count_after, woken}
-use Rattle.mea_once_core.specs.declared.stage.Stage.{Stage}
-use Rattle.mea_once_core.specs.declared.stage.Stage.TheVariants.{New, Queued, Running, Done}
+use Rattle.mea_once_core.specs.declared.cell_stage.CellStage.{CellStage}
+use Rattle.mea_once_core.specs.declared.cell_stage.CellStage.TheVariants.{New, Queued, Running, Done}
 use Rattle.mea_once_core.specs.declared.cell_turn.CellTurn.{CellTurn}
 use Rattle.mea_once_core.specs.declared.cell_turn.CellTurn.TheVariants as turns
 use Rattle.mea_once_core.proofs.Onces.{count_same, woken_none}
@@ -42,14 +42,14 @@ free_or_taken s is = elim (cases_lt s.free 1) as (λ x. (s.free ≡ 1) ⊎ (s.fr
   | inr more ↦ inl (omega (arith, is.total, is.one))
 ]
 
-as_turned : (full : Bool) (s : Core NamedWaker) (w : NamedWaker) (stage : Stage) (turn t : CellTurn NamedWaker) (q p : Core NamedWaker) (after a : Stage) → TurnsTo full s w stage t p a → turn ≡ t → q ≡ p → after ≡ a → TurnsTo full s w stage turn q after
+as_turned : (full : Bool) (s : Core NamedWaker) (w : NamedWaker) (stage : CellStage) (turn t : CellTurn NamedWaker) (q p : Core NamedWaker) (after a : CellStage) → TurnsTo full s w stage t p a → turn ≡ t → q ≡ p → after ≡ a → TurnsTo full s w stage turn q after
 as_turned full s w stage turn t q p after a is same left at = rw (same, left, at) is
 
 module _ {T : Type 0} where
-  abbrev TurnsWith : Option T → Core NamedWaker → NamedWaker → Stage → CellTurn NamedWaker → Cell T NamedWaker → Stage → Type 0
+  abbrev TurnsWith : Option T → Core NamedWaker → NamedWaker → CellStage → CellTurn NamedWaker → Cell T NamedWaker → CellStage → Type 0
   TurnsWith v s w stage turn c' after = TurnsTo (is_some v) s w stage turn c'.permit after × (c'.value ≡ v)
 
-  new_to : (v : Option T) (s : Core NamedWaker) (c' : Cell T NamedWaker) (w : NamedWaker) (turn : CellTurn NamedWaker) (after : Stage) → IsPermit s → PollsTurn New (record { value = v; permit = s }) w (Ok turn) c' after → TurnsWith v s w New turn c' after
+  new_to : (v : Option T) (s : Core NamedWaker) (c' : Cell T NamedWaker) (w : NamedWaker) (turn : CellTurn NamedWaker) (after : CellStage) → IsPermit s → PollsTurn New (record { value = v; permit = s }) w (Ok turn) c' after → TurnsWith v s w New turn c' after
   new_to None s c' w turn after is polls = elim (free_or_taken s (as_one s is)) as (λ x. TurnsWith None s w New turn c' after) [
     | inl one ↦
         let h = polls.0 one in
@@ -63,7 +63,7 @@ module _ {T : Type 0} where
       let told : turn ≡ turns.Full = let same = polls.0 in cc in
       (as_turned true s w New turn _ c'.permit _ after Done (FindsFull refl) told (ap (λ (c : Cell T NamedWaker). c.permit) polls.1) polls.2, ap (λ (c : Cell T NamedWaker). c.value) polls.1)
 
-  queued_to : (v : Option T) (s : Core NamedWaker) (n : ℕ) (c' : Cell T NamedWaker) (w : NamedWaker) (turn : CellTurn NamedWaker) (after : Stage) → MayPoll s (Queued n)
+  queued_to : (v : Option T) (s : Core NamedWaker) (n : ℕ) (c' : Cell T NamedWaker) (w : NamedWaker) (turn : CellTurn NamedWaker) (after : CellStage) → MayPoll s (Queued n)
       → PollsTurn (Queued n) (record { value = v; permit = s }) w (Ok turn) c' after → TurnsWith v s w (Queued n) turn c' after
   queued_to None s n c' w turn after (inl next) polls =
       let h = polls.0 next in
@@ -78,7 +78,7 @@ module _ {T : Type 0} where
       let told : turn ≡ turns.Pending = let same = h.0 in cc in
       (as_turned (is_some v) s w (Queued n) turn _ c'.permit _ after (Queued n) (WaitsOn n waits) told (ap (λ (c : Cell T NamedWaker). c.permit) h.1) h.2, ap (λ (c : Cell T NamedWaker). c.value) h.1)
 
-  pub turns_to : (stage : Stage) (c c' : Cell T NamedWaker) (w : NamedWaker) (turn : CellTurn NamedWaker) (after : Stage) → cells.IsSound c → MayPoll c.permit stage → PollsTurn stage c w (Ok turn) c' after → TurnsWith c.value c.permit w stage turn c' after
+  pub turns_to : (stage : CellStage) (c c' : Cell T NamedWaker) (w : NamedWaker) (turn : CellTurn NamedWaker) (after : CellStage) → cells.IsSound c → MayPoll c.permit stage → PollsTurn stage c w (Ok turn) c' after → TurnsWith c.value c.permit w stage turn c' after
   turns_to New c c' w turn after sound may polls = new_to c.value c.permit c' w turn after sound.permit polls
   turns_to (Queued n) c c' w turn after sound may polls = queued_to c.value c.permit n c' w turn after may polls
   turns_to Running c c' w turn after sound may polls =
@@ -91,7 +91,7 @@ module _ {T : Type 0} where
 pub permit_with : (s : Core NamedWaker) (ws : List NamedWaker) → IsOnePermit s → IsOnePermit (record s { wakes = ws })
 permit_with s ws is = record { one = is.one; asks = is.asks; apart = is.apart; granted_apart = is.granted_apart; total = is.total }
 
-pub values_turn : (stage after : Stage) (c c' : Cell ℕ NamedWaker) (w : NamedWaker) (turn : CellTurn NamedWaker) → cells.IsSound c → cells.IsSound c' → MayPoll c.permit stage → PollsTurn stage c w (Ok turn) c' after → HoldsAs c.permit stage c'.permit after
+pub values_turn : (stage after : CellStage) (c c' : Cell ℕ NamedWaker) (w : NamedWaker) (turn : CellTurn NamedWaker) → cells.IsSound c → cells.IsSound c' → MayPoll c.permit stage → PollsTurn stage c w (Ok turn) c' after → HoldsAs c.permit stage c'.permit after
     → TurnsCell (cell_seen c) stage w turn (cell_seen c') after
 values_turn stage after c c' w turn sound sound' may polls held =
     let told = turns_to stage c c' w turn after sound may polls in
@@ -120,7 +120,7 @@ module _ (o o' : Once NamedWaker) (sound : onces.IsSound o) (quiet : o.wakes ≡
       waits = (ap (λ (o : Once NamedWaker). o.done.waiting) is ∙ ap (λ (c : Count NamedWaker). c.waiting) counted) i;
     }
 
-  pub once_turn : (stage after : Stage) (w : NamedWaker) (turn : CellTurn NamedWaker) → onces.IsSound o' → MayPoll (record o.cell.permit { wakes = o.wakes }) stage → TurnsCall o stage w (Ok turn) o' after → HoldsAs o.cell.permit stage o'.cell.permit after
+  pub once_turn : (stage after : CellStage) (w : NamedWaker) (turn : CellTurn NamedWaker) → onces.IsSound o' → MayPoll (record o.cell.permit { wakes = o.wakes }) stage → TurnsCall o stage w (Ok turn) o' after → HoldsAs o.cell.permit stage o'.cell.permit after
       → TurnsCell (once_seen o) stage w turn (once_seen o') after
   once_turn stage after w turn sound' may turned held =
       let told = turns_to stage o.cell turned.left w turn after sound.cell (subst (λ s. MayPoll s stage) seen_permit may) turned.polls in

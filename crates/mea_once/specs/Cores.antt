@@ -13,8 +13,8 @@ use Rattle.mea_sets.specs.Poll.{Poll, Ready, Pending}
 use Rattle.mea_once_core.specs.Cell.{Cell}
 use Rattle.mea_once_core.specs.Once.{Once}
 use Rattle.mea_once_core.specs.Permit.{IsNext, IsWaiting, Waits, Leaves, HoldsAs, held_at, passed_on}
-use Rattle.mea_once_core.specs.declared.stage.Stage.{Stage}
-use Rattle.mea_once_core.specs.declared.stage.Stage.TheVariants.{New, Queued, Running, Done}
+use Rattle.mea_once_core.specs.declared.cell_stage.CellStage.{CellStage}
+use Rattle.mea_once_core.specs.declared.cell_stage.CellStage.TheVariants.{New, Queued, Running, Done}
 use Rattle.mea_once_core.specs.declared.cell_turn.CellTurn.{CellTurn}
 use Rattle.mea_once_core.specs.declared.cell_turn.CellTurn.TheVariants as turns
 use Rattle.mea_once_model.specs.declared.job.Initialiser.{Initialiser}
@@ -40,7 +40,7 @@ pub record IsSoundCell (c : NamedCell) : Type 0 where
   pub empty : 1 ≤ held_of c.permit → c.value ≡ None
 
 -- what a poll for its turn does to a call, by its stage, at a permit whose cell is full or is not
-pub data TurnsTo (full : Bool) (s : Core NamedWaker) (w : NamedWaker) : Stage → CellTurn NamedWaker → Core NamedWaker → Stage → Type 0 where
+pub data TurnsTo (full : Bool) (s : Core NamedWaker) (w : NamedWaker) : CellStage → CellTurn NamedWaker → Core NamedWaker → CellStage → Type 0 where
   FindsFull : full ≡ true → TurnsTo full s w New turns.Full s Done
   FindsLate : (n : ℕ) → IsNext s n → full ≡ true → TurnsTo full s w (Queued n) turns.Full (passed_on (record s { granted = remove s.granted n })) Done
   TakesFree : full ≡ false → s.free ≡ 1 → TurnsTo full s w New (turns.Mine w) (record s { free = 0 }) Running
@@ -49,7 +49,7 @@ pub data TurnsTo (full : Bool) (s : Core NamedWaker) (w : NamedWaker) : Stage �
   LinesUp : (n : ℕ) (t : Core NamedWaker) → full ≡ false → s.free ≡ 0 → Waits s t w n → TurnsTo full s w New turns.Pending t (Queued n)
   WaitsOn : (n : ℕ) → IsWaiting s n → TurnsTo full s w (Queued n) turns.Pending (record s { queue = sem_calls.with_waker s.queue n w }) (Queued n)
 
-pub record TurnsCell (c : NamedCell) (stage : Stage) (w : NamedWaker) (turn : CellTurn NamedWaker) (c' : NamedCell) (stage' : Stage) : Type 0 where
+pub record TurnsCell (c : NamedCell) (stage : CellStage) (w : NamedWaker) (turn : CellTurn NamedWaker) (c' : NamedCell) (stage' : CellStage) : Type 0 where
   pub turns : TurnsTo (is_some c.value) c.permit w stage turn c'.permit stage'
   pub rest : c' ≡ record c { permit = c'.permit }
   pub held : HoldsAs c.permit stage c'.permit stage'
@@ -74,7 +74,7 @@ pub record GivesUpCell (c c' : NamedCell) : Type 0 where
   pub sound : IsSoundCell c'
 
 -- a call ends
-pub record LeavesCell (c : NamedCell) (stage : Stage) (c' : NamedCell) : Type 0 where
+pub record LeavesCell (c : NamedCell) (stage : CellStage) (c' : NamedCell) : Type 0 where
   pub leaves : Leaves c.permit stage c'.permit
   pub rest : c' ≡ record c { permit = c'.permit }
   pub held : held_of c'.permit + held_at stage ≡ held_of c.permit

@@ -11,8 +11,8 @@ use Rattle.mea_once_core.specs.Keyed.{keyed_code, IsSameKeyed}
 use Rattle.mea_once_core.specs.Waiting.{waiting_in}
 use Rattle.mea_once_core.specs.declared.key_call.KeyStage.{KeyStage}
 use Rattle.mea_once_core.specs.declared.key_call.KeyStage.TheVariants as key_stages
-use Rattle.mea_once_core.specs.declared.stage.Stage.{Stage}
-use Rattle.mea_once_core.specs.declared.stage.Stage.TheVariants as stages
+use Rattle.mea_once_core.specs.declared.cell_stage.CellStage.{CellStage}
+use Rattle.mea_once_core.specs.declared.cell_stage.CellStage.TheVariants as stages
 use Rattle.mea_once_model.specs.Tables.{is_this}
 use Rattle.mea_once.specs.declared.key_future.KeyFuture.{KeyFuture}
 use Rattle.mea_once.specs.declared.round.Round.{Round}
@@ -80,7 +80,7 @@ entry_in (key_stages.Kept number) n = n
 entry_in key_stages.Done n = n
 
 -- the waker that the initialiser of a call keeps which was polled with k
-abbrev pub running_in : Stage → Option NamedWaker → NamedWaker → Option NamedWaker
+abbrev pub running_in : CellStage → Option NamedWaker → NamedWaker → Option NamedWaker
 running_in stages.New r k = r
 running_in (stages.Queued n) r k = r
 running_in stages.Running r k = Some k

@@ -14,7 +14,7 @@ use Rattle.mea_once_core.specs.Links.{Shown}
 use Rattle.mea_once_core.specs.Table.{Table as CoreTable, entry_at, number_of}
 use Rattle.mea_once_core.specs.Waiting.{waiting_at, waiting_in}
 use Rattle.mea_once_core.specs.declared.key_call.KeyStage.TheVariants as key_stages
-use Rattle.mea_once_core.specs.declared.stage.Stage.TheVariants as stages
+use Rattle.mea_once_core.specs.declared.cell_stage.CellStage.TheVariants as stages
 use Rattle.mea_once_model.specs.declared.job.Job.TheVariants.{Computes}
 use Rattle.mea_once_model.specs.Cells.{Cell, new_cell}
 use Rattle.mea_once_model.specs.Tables.{Table, KeyFuture as ModelFuture, Tables, KeyStep, is_this, others_of, applied}

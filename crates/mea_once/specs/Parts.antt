@@ -15,8 +15,8 @@ use Rattle.mea_sem_core.specs.declared.acquire.Acquire.TheVariants as acquire
 use Rattle.mea_sets.specs.WaitSet.{Registered}
 use Rattle.mea_cores_by_name.specs.Linked.{names_in, Linked}
 use Rattle.mea_cores_by_name.specs.SetLinked.{set_names, SlotIs, AreBelow}
-use Rattle.mea_once_core.specs.declared.stage.Stage.{Stage}
-use Rattle.mea_once_core.specs.declared.stage.Stage.TheVariants.{New, Queued, Running, Done}
+use Rattle.mea_once_core.specs.declared.cell_stage.CellStage.{CellStage}
+use Rattle.mea_once_core.specs.declared.cell_stage.CellStage.TheVariants.{New, Queued, Running, Done}
 use Rattle.mea_once_model.specs.declared.job.Initialiser.{Initialiser}
 use Rattle.mea_once_model.specs.declared.job.Initialiser.TheVariants.{Unsettled, Gives, Fails}
 use Rattle.mea_once_model.specs.declared.job.Job.{Job}
@@ -27,7 +27,7 @@ use Rattle.mea_once.specs.Cores.{NamedCell, IsSoundCell}
 use Rattle.mea_once.specs.Entries.{KeptCell, keeps}
 
 -- ---- what is seen of each thing
-abbrev pub is_polled : Stage → Bool
+abbrev pub is_polled : CellStage → Bool
 is_polled New = false
 is_polled (Queued n) = true
 is_polled Running = true
@@ -82,7 +82,7 @@ fits once (Inserts v) = cond once false true
 fits once Awaits = once
 
 -- the acquire by which a future is known in the queue; one whose turn it is has no number there any more
-abbrev pub acquire_at : Stage → Acquire
+abbrev pub acquire_at : CellStage → Acquire
 acquire_at New = acquire.New 1
 acquire_at (Queued n) = acquire.Queued 1 n
 acquire_at Running = acquire.New 1
@@ -91,7 +91,7 @@ acquire_at Done = acquire.New 1
 abbrev pub acquire_of : FutureEntry → Acquire
 acquire_of x = acquire_at x.stage
 
-abbrev pub runs_at : Stage → Bool
+abbrev pub runs_at : CellStage → Bool
 runs_at New = false
 runs_at (Queued n) = false
 runs_at Running = true
@@ -101,7 +101,7 @@ abbrev pub is_running : FutureEntry → Bool
 is_running x = runs_at x.stage
 
 -- the stage of one that asks for its turn, or does not
-abbrev pub StageFits : Bool → Stage → Type 0
+abbrev pub StageFits : Bool → CellStage → Type 0
 StageFits true New = Unit {0}
 StageFits true (Queued n) = Unit {0}
 StageFits true Running = Unit {0}

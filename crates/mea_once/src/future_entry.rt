@@ -1,5 +1,5 @@
 use mea_meet_core::LatchWait;
-use mea_once_core::Stage;
+use mea_once_core::CellStage;
 use mea_once_model::Job;
 
 /// What a hall keeps of a future: its cell, what it does there, how far it is with its turn, and its place among those who
@@ -8,6 +8,6 @@ use mea_once_model::Job;
 pub struct FutureEntry {
     pub cell: u64,
     pub job: Job,
-    pub stage: Stage,
+    pub stage: CellStage,
     pub wait: LatchWait,
 }

@@ -4,7 +4,7 @@ use crate::turn_core::{TurnCore, WaitCore};
 use mea_base::{NoMemory, Poll};
 use mea_by_name::NamedWaker;
 use mea_meet_core::LatchWait;
-use mea_once_core::{CellTurn, InitCall, OnceCore, Stage};
+use mea_once_core::{CellStage, CellTurn, InitCall, OnceCore};
 
 impl TurnCore for OnceCore<NamedWaker> {
     ghost use Rattle.std.specs.Prelude.{true};
@@ -37,7 +37,7 @@ impl TurnCore for OnceCore<NamedWaker> {
 
     fn poll_turn(
         &mut self,
-        stage: &mut Stage,
+        stage: &mut CellStage,
         waker: NamedWaker,
     ) -> Result<CellTurn<NamedWaker>, NoMemory> {
         let _ = OnceCore::is_completed(self);
@@ -47,17 +47,17 @@ impl TurnCore for OnceCore<NamedWaker> {
         }
     }
 
-    fn fill(&mut self, stage: &mut Stage, _value: u64) {
+    fn fill(&mut self, stage: &mut CellStage, _value: u64) {
         let _ = OnceCore::is_completed(self);
         OnceCore::complete(self, stage);
     }
 
-    fn give_up(&mut self, stage: &mut Stage) {
+    fn give_up(&mut self, stage: &mut CellStage) {
         let _ = OnceCore::is_completed(self);
         OnceCore::give_up(self, stage);
     }
 
-    fn leave(&mut self, stage: Stage) {
+    fn leave(&mut self, stage: CellStage) {
         let _ = OnceCore::is_completed(self);
         OnceCore::end_call(self, InitCall { init: (), stage });
     }

@@ -15,7 +15,7 @@ use mea_base::{NoMemory, Ready};
 use mea_by_name::ByName;
 use mea_family::{Answer, Stop, borrowed_if};
 use mea_meet_core::LatchWait;
-use mea_once_core::Stage;
+use mea_once_core::CellStage;
 use mea_once_model::{Initialiser, Job};
 use std::alloc::Global;
 use std::marker::Model;
@@ -148,7 +148,7 @@ impl<C: TurnCore> CellPart<C> {
         let future = FutureEntry {
             cell: o,
             job,
-            stage: Stage::New,
+            stage: CellStage::New,
             wait: LatchWait::new(),
         };
         let Ok(()) = self.futures.insert(number, future) else {

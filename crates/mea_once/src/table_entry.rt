@@ -15,7 +15,7 @@ use crate::table_core::{TableCore, ValueCore};
 use mea_base::{NoMemory, Poll, Ready};
 use mea_by_name::{ByName, NamedWaker};
 use mea_family::Answer;
-use mea_once_core::{KeyStage, Stage};
+use mea_once_core::{CellStage, KeyStage};
 use mea_once_model::Initialiser;
 use std::alloc::Global;
 use std::marker::Model;
@@ -447,14 +447,14 @@ fn waker_of(running: Option<NamedWaker>, f: u64) -> Option<u64>
 
 // The waker that the initialiser of a call at this stage keeps, which was polled with `waker`.
 fn running_after(
-    stage: &Stage,
+    stage: &CellStage,
     running: Option<NamedWaker>,
     waker: NamedWaker,
 ) -> Option<NamedWaker>
     ensures { result ≡ running_in stage.now running waker }
 {
     match stage {
-        Stage::Running => Some(waker),
+        CellStage::Running => Some(waker),
         _ => running,
     }
 }

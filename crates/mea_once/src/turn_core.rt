@@ -8,7 +8,7 @@ use crate::scripted::Scripted;
 use mea_base::{NoMemory, Poll};
 use mea_by_name::NamedWaker;
 use mea_meet_core::LatchWait;
-use mea_once_core::{CellTurn, Stage};
+use mea_once_core::{CellStage, CellTurn};
 
 /// The core of a cell as a hall uses it. A call that runs once is a cell whose value tells nothing. Only the polls take
 /// memory.
@@ -44,7 +44,7 @@ pub trait TurnCore: Drop {
     /// Polls a call for its turn. On an error nothing has changed.
     fn poll_turn(
         &mut self,
-        stage: &mut Stage,
+        stage: &mut CellStage,
         waker: NamedWaker,
     ) -> Result<CellTurn<NamedWaker>, NoMemory>
         requires may { MayPoll (seen_as self.old).permit stage.old }
@@ -53,20 +53,20 @@ pub trait TurnCore: Drop {
         ensures err { OnErr result ((self.new ≡ self.old) × (stage.new ≡ stage.old)) };
 
     /// Fills the cell, for the call whose turn it is.
-    fn fill(&mut self, stage: &mut Stage, value: u64)
+    fn fill(&mut self, stage: &mut CellStage, value: u64)
         requires held { 1 ≤ held_of (seen_as self.old).permit }
         requires nothing { is_once ≡ true → value ≡ 0 }
         requires quiet { (seen_as self.old).permit.wakes ≡ [] }
         ensures { FillsCell (seen_as self.old) value (seen_as self.new) };
 
     /// Gives the turn up, for the call whose turn it is.
-    fn give_up(&mut self, stage: &mut Stage)
+    fn give_up(&mut self, stage: &mut CellStage)
         requires held { 1 ≤ held_of (seen_as self.old).permit }
         requires quiet { (seen_as self.old).permit.wakes ≡ [] }
         ensures { GivesUpCell (seen_as self.old) (seen_as self.new) };
 
     /// Ends a call.
-    fn leave(&mut self, stage: Stage)
+    fn leave(&mut self, stage: CellStage)
         requires may { MayEnd (seen_as self.old).permit stage }
         requires quiet { (seen_as self.old).permit.wakes ≡ [] }
         ensures { LeavesCell (seen_as self.old) stage (seen_as self.new) };

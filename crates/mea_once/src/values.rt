@@ -2,7 +2,7 @@ use crate::scripted::Scripted;
 use crate::turn_core::{TurnCore, WholeCore};
 use mea_base::{NoMemory, Poll};
 use mea_by_name::NamedWaker;
-use mea_once_core::{CellCore, CellTurn, InitCall, Stage};
+use mea_once_core::{CellCore, CellStage, CellTurn, InitCall};
 
 impl TurnCore for CellCore<u64, NamedWaker> {
     ghost use Rattle.std.specs.Prelude.{false};
@@ -34,7 +34,7 @@ impl TurnCore for CellCore<u64, NamedWaker> {
 
     fn poll_turn(
         &mut self,
-        stage: &mut Stage,
+        stage: &mut CellStage,
         waker: NamedWaker,
     ) -> Result<CellTurn<NamedWaker>, NoMemory> {
         let _ = CellCore::is_full(self);
@@ -44,15 +44,15 @@ impl TurnCore for CellCore<u64, NamedWaker> {
         }
     }
 
-    fn fill(&mut self, stage: &mut Stage, value: u64) {
+    fn fill(&mut self, stage: &mut CellStage, value: u64) {
         CellCore::fill(self, stage, value);
     }
 
-    fn give_up(&mut self, stage: &mut Stage) {
+    fn give_up(&mut self, stage: &mut CellStage) {
         CellCore::give_up(self, stage);
     }
 
-    fn leave(&mut self, stage: Stage) {
+    fn leave(&mut self, stage: CellStage) {
         CellCore::end_init(self, InitCall { init: (), stage });
     }
 }

@@ -5,16 +5,16 @@ use Rattle.mea_base.specs.declared.no_memory.NoMemory.{NoMemory}
 use Rattle.mea_base.specs.Outbox.{Wakes}
 use Rattle.mea_sets.specs.Poll.{Poll, Ready, Pending}
 use Rattle.mea_once_core.specs.declared.key_call.KeyStage.TheVariants.{Kept, Done}
-use Rattle.mea_once_core.specs.Cell.{Cell, Runs, Enters, PollsStage, Finds, given_up, AddAtMost, queues_more, rested}
+use Rattle.mea_once_core.specs.Cell.{Cell, RunsInit, Enters, PollsStage, Finds, given_up, AddAtMost, queues_more, rested}
 use Rattle.mea_once_core.specs.Links.{Shown, shown_at, Changes, left}
 use Rattle.mea_once_core.specs.Table.{Table, entry_at, HasCaller, IsSame, Sets, Joins, Unlists, NumbersGo, Retires, is_last, RestsEntry, Makes, fresh_entry, empty_cell}
 use Rattle.mea_once_core.specs.Inserts.{IsIdle}
 use Rattle.mea_once_core.specs.Waiting.{waiting_at, waiting_in, AreQuiet}
-use Rattle.mea_once_core.specs.Keyed.{Keyed, IsSameKeyed, Computed, LeavesEntry, GivesUp, StepsCell, Told, FindsValue, AsksCell, PollsCaller}
+use Rattle.mea_once_core.specs.Keyed.{Keyed, IsSameKeyed, Computed, LeavesEntry, GivesUp, StepsCell, AfterCellPoll, FindsValue, AsksCell, PollsCaller}
 use Rattle.mea_once_core.specs.declared.entry.Entry.{Entry}
 use Rattle.mea_once_core.specs.declared.init_call.InitCall.{InitCall}
-use Rattle.mea_once_core.specs.declared.stage.Stage.{Stage}
-use Rattle.mea_once_core.specs.declared.stage.Stage.TheVariants as stages
+use Rattle.mea_once_core.specs.declared.cell_stage.CellStage.{CellStage}
+use Rattle.mea_once_core.specs.declared.cell_stage.CellStage.TheVariants as stages
 use Rattle.mea_once_core.specs.declared.key_call.KeyStage.{KeyStage}
 use Rattle.mea_once_core.specs.Permit.{Waits}
 use Rattle.std.specs.FinMap as map
@@ -240,10 +240,10 @@ module _ {K V W E I : Type 0} (answers : I → W → Poll (Result V E) → I →
       )
 
   -- a call that finds the value there is ready
-  pub finds-ready : (stage : Stage) (c : Cell V W) (call call' : InitCall I) (w : W) (r : Result (Poll (Result (Unit {0}) E)) (W × NoMemory)) (c' : Cell V W) → Finds c stage → PollsStage answers stage c call w r c' call' → r ≡ Ok (Ready (Ok tt))
+  pub finds-ready : (stage : CellStage) (c : Cell V W) (call call' : InitCall I) (w : W) (r : Result (Poll (Result (Unit {0}) E)) (W × NoMemory)) (c' : Cell V W) → Finds c stage → PollsStage answers stage c call w r c' call' → r ≡ Ok (Ready (Ok tt))
   finds-ready stages.New c call call' w r c' finds polls = by_value c.value finds polls
     where
-      by_value : (v : Option V) → IsSome v → MatchOption v ((c.permit.free ≡ 1 → MatchResult r (λ poll. Runs answers (record c { permit = record c.permit { free = 0 } }) call.init w poll c' call') (λ _. ⊥))
+      by_value : (v : Option V) → IsSome v → MatchOption v ((c.permit.free ≡ 1 → MatchResult r (λ poll. RunsInit answers (record c { permit = record c.permit { free = 0 } }) call.init w poll c' call') (λ _. ⊥))
           × (c.permit.free ≡ 0 → MatchResult r
           (λ poll. (poll ≡ Pending) × ((number : ℕ) × Waits c.permit c'.permit w number × (c'.value ≡ c.value) × (call' ≡ record call { stage = stages.Queued number })))
           (λ e. (e.0 ≡ w) × (c' ≡ c) × (call' ≡ call))))
@@ -252,7 +252,7 @@ module _ {K V W E I : Type 0} (answers : I → W → Poll (Result V E) → I →
       by_value (Some v) some polls = polls.0
   finds-ready (stages.Queued n) c call call' w r c' finds polls = by_result r (polls.0 finds.1)
     where
-      by_value : (v : Option V) (poll : Poll (Result (Unit {0}) E)) → IsSome v → MatchOption v (Runs answers (record c { permit = record c.permit { granted = map.remove c.permit.granted n } }) call.init w poll c' call')
+      by_value : (v : Option V) (poll : Poll (Result (Unit {0}) E)) → IsSome v → MatchOption v (RunsInit answers (record c { permit = record c.permit { granted = map.remove c.permit.granted n } }) call.init w poll c' call')
           (λ v. (poll ≡ Ready (Ok tt)) × (c' ≡ given_up (record c { permit = record c.permit { granted = map.remove c.permit.granted n } })) × (call' ≡ record { init = call.init; stage = stages.Done })) → poll ≡ Ready (Ok tt)
       by_value None poll some enters = absurd (cc)
       by_value (Some v) poll some enters = enters.0
@@ -272,7 +272,7 @@ module _ {K V W E I : Type 0} (answers : I → W → Poll (Result V E) → I →
       (v, value, refl, (step.0, b, subst (λ x. StepsCell answers eq k n e call w x step.0 b call') ready step.1, leave (record e { cell = rested step.0 }) step.1.sets.0.changed), refl)
 
   pub asks-cell : (k b k' : Keyed K V W) (n : ℕ) (once : Bool) (e : Shown V W) (call call' : InitCall I) (w : W) (r : Result (Poll (Result (Unit {0}) E)) (W × NoMemory)) (x : Result (Poll (Result V E)) (Option W × NoMemory)) (stage : KeyStage K)
-      → (cell : Cell V W) × StepsCell answers eq k n e call w r cell b call' → ((s : Shown V W) → entry_at b.table n ≡ Some s → Told eq once r b n s x k' stage) → AsksCell answers eq once k n e call w x k' call' stage
+      → (cell : Cell V W) × StepsCell answers eq k n e call w r cell b call' → ((s : Shown V W) → entry_at b.table n ≡ Some s → AfterCellPoll eq once r b n s x k' stage) → AsksCell answers eq once k n e call w x k' call' stage
   asks-cell k b k' n once e call call' w r x stage step told = (r, step.0, b, step.1, told (record e { cell = rested step.0 }) step.1.sets.0.changed)
 
 module _ {K V W : Type 0} (eq : K → K → Bool) where

@@ -1,8 +1,8 @@
 -- a poll that finds no memory queues a call, and else a clone failed
 use Rattle.std.proofs.Common.{◌≡◌, ◌≤◌, ℕ, zero, suc, IsSome, Result, Ok, Err, IsOk, OnErr, refl, arith}
 use Rattle.mea_once_core.specs.Cell.{Cell, Finds}
-use Rattle.mea_once_core.specs.declared.stage.Stage.{Stage}
-use Rattle.mea_once_core.specs.declared.stage.Stage.TheVariants.{New, Queued, Running, Done}
+use Rattle.mea_once_core.specs.declared.cell_stage.CellStage.{CellStage}
+use Rattle.mea_once_core.specs.declared.cell_stage.CellStage.TheVariants.{New, Queued, Running, Done}
 
 pub one-of : (n : ℕ) → n ≤ 1 → (n ≡ 0 → ⊥) → n ≡ 1
 one-of zero low some = absurd (some refl)
@@ -15,7 +15,7 @@ on-err-ok P (Err e) ok = absurd (cc)
 
 module _ {T W : Type 0} where
   -- what a call finds is there
-  pub finds-full : (stage : Stage) (c : Cell T W) → Finds c stage → IsSome c.value
+  pub finds-full : (stage : CellStage) (c : Cell T W) → Finds c stage → IsSome c.value
   finds-full New c finds = finds
   finds-full (Queued n) c finds = finds.0
   finds-full Running c finds = absurd finds

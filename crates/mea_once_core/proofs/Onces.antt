@@ -9,8 +9,8 @@ use Rattle.mea_once_core.specs.Cell.{Cell, PollsTurn, HasTurn, PollsInit, PollsS
 use Rattle.mea_once_core.specs.Once.{Once, IsSound, count_after, woken, quieted, with_cell, answered, EndsCall, TurnsCall, PollsCall}
 use Rattle.mea_once_core.specs.declared.cell_turn.CellTurn.{CellTurn}
 use Rattle.mea_once_core.specs.declared.cell_turn.CellTurn.TheVariants as cell_turn
-use Rattle.mea_once_core.specs.declared.stage.Stage.{Stage}
-use Rattle.mea_once_core.specs.declared.stage.Stage.TheVariants.{New, Queued, Running, Done}
+use Rattle.mea_once_core.specs.declared.cell_stage.CellStage.{CellStage}
+use Rattle.mea_once_core.specs.declared.cell_stage.CellStage.TheVariants.{New, Queued, Running, Done}
 use Rattle.mea_once_core.specs.declared.init_call.InitCall.{InitCall}
 
 module _ {W : Type 0} where
@@ -22,7 +22,7 @@ module _ {W : Type 0} where
   pub settled_is : (o : Once W) (left cell' : Cell (Unit {0}) W) (done' : Counting W) (wakes' : List W) → Settled o left cell' done' wakes' → ◌≡◌ {A = Once W} (record { cell = cell'; done = done'.count; wakes = wakes' }) (with_cell o left)
   settled_is o left cell' done' wakes' h = λ i. record { cell = h.0 i; done = (h.1 i).count; wakes = h.2 i }
 
-  pub ends_call : (o : Once W) (stage : Stage) (left cell' : Cell (Unit {0}) W) (done' : Counting W) (wakes' : List W) → Ends o.cell stage left → Settled o left cell' done' wakes' → EndsCall o stage (record { cell = cell'; done = done'.count; wakes = wakes' })
+  pub ends_call : (o : Once W) (stage : CellStage) (left cell' : Cell (Unit {0}) W) (done' : Counting W) (wakes' : List W) → Ends o.cell stage left → Settled o left cell' done' wakes' → EndsCall o stage (record { cell = cell'; done = done'.count; wakes = wakes' })
   ends_call o stage left cell' done' wakes' ended h = record { left = left; ends = ended; is = settled_is o left cell' done' wakes' h }
 
   -- a once whose cell has not changed
@@ -62,7 +62,7 @@ ok_no_err (Err y) ok err = absurd (cc)
 
 module _ {T E W I : Type 0} (answers : I → W → Poll (Result T E) → I → Type 0) where
   -- a new call that finds no place in the queue is refused, and nothing has changed
-  pub refused : (stage : Stage) (c : Cell T W) (call : InitCall I) (w : W) (m : NoMemory) → queues_more c stage ≢ 0 → PollsStage answers stage c call w (Err (w, m)) c call
+  pub refused : (stage : CellStage) (c : Cell T W) (call : InitCall I) (w : W) (m : NoMemory) → queues_more c stage ≢ 0 → PollsStage answers stage c call w (Err (w, m)) c call
   refused New c call w m more = by_value c.value more
     where
       by_free : (b : Bool) → (c.permit.free == 0) ≡ b → (◌≢◌ {A = ℕ} (cond b 1 0) 0) → c.permit.free ≡ 0
@@ -105,7 +105,7 @@ module _ {E W I : Type 0} (answers : I → W → Poll (Result (Unit {0}) E) → 
 -- ---- a poll for one's turn
 module _ {W : Type 0} where
   -- a new call that finds no place in the queue is refused, and nothing has changed
-  pub refused_turn : (stage : Stage) (c : Cell (Unit {0}) W) (w : W) (m : NoMemory) → queues_more c stage ≢ 0 → PollsTurn stage c w (Err (w, m)) c stage
+  pub refused_turn : (stage : CellStage) (c : Cell (Unit {0}) W) (w : W) (m : NoMemory) → queues_more c stage ≢ 0 → PollsTurn stage c w (Err (w, m)) c stage
   refused_turn New c w m more = by_value c.value more
     where
       by_free : (b : Bool) → (c.permit.free == 0) ≡ b → (◌≢◌ {A = ℕ} (cond b 1 0) 0) → c.permit.free ≡ 0
@@ -114,9 +114,9 @@ module _ {W : Type 0} where
 
       by_value : (v : Option (Unit {0})) → (◌≢◌ {A = ℕ} (cond (is_none v && (c.permit.free == 0)) 1 0) 0)
           → MatchOption v
-          ((c.permit.free ≡ 1 → (◌≡◌ {A = Result (CellTurn W) (W × NoMemory)} (Err (w, m)) (Ok (cell_turn.Mine w))) × (c ≡ record c { permit = record c.permit { free = 0 } }) × (◌≡◌ {A = Stage} New Running))
-          × (c.permit.free ≡ 0 → (w ≡ w) × (c ≡ c) × (◌≡◌ {A = Stage} New New)))
-          (λ u. (◌≡◌ {A = Result (CellTurn W) (W × NoMemory)} (Err (w, m)) (Ok cell_turn.Full)) × (c ≡ c) × (◌≡◌ {A = Stage} New Done))
+          ((c.permit.free ≡ 1 → (◌≡◌ {A = Result (CellTurn W) (W × NoMemory)} (Err (w, m)) (Ok (cell_turn.Mine w))) × (c ≡ record c { permit = record c.permit { free = 0 } }) × (◌≡◌ {A = CellStage} New Running))
+          × (c.permit.free ≡ 0 → (w ≡ w) × (c ≡ c) × (◌≡◌ {A = CellStage} New New)))
+          (λ u. (◌≡◌ {A = Result (CellTurn W) (W × NoMemory)} (Err (w, m)) (Ok cell_turn.Full)) × (c ≡ c) × (◌≡◌ {A = CellStage} New Done))
       by_value None h =
           let none : c.permit.free ≡ 0 = by_free (c.permit.free == 0) refl h in
           (λ one. absurd (omega arith), λ _. (refl, refl, refl))
@@ -126,17 +126,17 @@ module _ {W : Type 0} where
   refused_turn Done c w m more = absurd (more refl)
 
   -- who has the turn has it still once the wakers of the cell have gone
-  turn_rests : (turn : CellTurn W) (c : Cell (Unit {0}) W) (stage : Stage) → HasTurn turn c stage → HasTurn turn (quieted c) stage
+  turn_rests : (turn : CellTurn W) (c : Cell (Unit {0}) W) (stage : CellStage) → HasTurn turn c stage → HasTurn turn (quieted c) stage
   turn_rests cell_turn.Full c stage has = has
   turn_rests (cell_turn.Mine w) c stage has = has
   turn_rests cell_turn.Pending c stage has = tt
 
-  pub turn_settled : (turn : CellTurn W) (c c' : Cell (Unit {0}) W) (stage : Stage) → c' ≡ quieted c → HasTurn turn c stage → HasTurn turn c' stage
+  pub turn_settled : (turn : CellTurn W) (c c' : Cell (Unit {0}) W) (stage : CellStage) → c' ≡ quieted c → HasTurn turn c stage → HasTurn turn c' stage
   turn_settled turn c c' stage is has = subst (λ (x : Cell (Unit {0}) W). HasTurn turn x stage) (sym is) (turn_rests turn c stage has)
 
-  pub turns_call : (o : Once W) (stage stage' : Stage) (w : W) (turn : CellTurn W) (left cell' : Cell (Unit {0}) W) (done' : Counting W) (wakes' : List W)
+  pub turns_call : (o : Once W) (stage stage' : CellStage) (w : W) (turn : CellTurn W) (left cell' : Cell (Unit {0}) W) (done' : Counting W) (wakes' : List W)
       → PollsTurn stage o.cell w (Ok turn) left stage' → Settled o left cell' done' wakes' → TurnsCall o stage w (Ok turn) (record { cell = cell'; done = done'.count; wakes = wakes' }) stage'
   turns_call o stage stage' w turn left cell' done' wakes' polled h = record { left = left; polls = polled; is = settled_is o left cell' done' wakes' h }
 
-  pub refuses_turn : (o o' : Once W) (stage stage' : Stage) (w : W) (e : W × NoMemory) → IsSound o → PollsTurn stage o.cell w (Err e) o.cell stage' → o' ≡ o → TurnsCall o stage w (Err e) o' stage'
+  pub refuses_turn : (o o' : Once W) (stage stage' : CellStage) (w : W) (e : W × NoMemory) → IsSound o → PollsTurn stage o.cell w (Err e) o.cell stage' → o' ≡ o → TurnsCall o stage w (Err e) o' stage'
   refuses_turn o o' stage stage' w e is polled same = record { left = o.cell; polls = polled; is = same ∙ with_own_cell o is }

@@ -18,8 +18,8 @@ use Rattle.mea_sem_core.specs.declared.acquire.Acquire.TheVariants as acquire
 use Rattle.mea_sem_core.specs.Ones.{AskForOne}
 use Rattle.mea_sem_core.proofs.Ones.{ones_no_debt, ones_append, ones_rewaked, ones_without, length-rewaked, length-without}
 use Rattle.mea_once_core.specs.Permit.{IsPermit, IsNext, IsWaiting, asks_more, MayAsk, Leaves, passed_to, passed_on, acquire_of}
-use Rattle.mea_once_core.specs.declared.stage.Stage.{Stage}
-use Rattle.mea_once_core.specs.declared.stage.Stage.TheVariants.{New, Queued, Running, Done}
+use Rattle.mea_once_core.specs.declared.cell_stage.CellStage.{CellStage}
+use Rattle.mea_once_core.specs.declared.cell_stage.CellStage.TheVariants.{New, Queued, Running, Done}
 
 one_at_0 : (n : ℕ) → n < 1 → ◌≡◌ {A = ℕ} (cond (n == 0) 1 0) 1
 one_at_0 zero low = refl
@@ -117,7 +117,7 @@ module _ {W : Type 0} where
       stays_permit s s' is sound steady (subst (λ (t : Core W). AskForOne t.queue) (sym (gives s s' is held given_is)) (asks_passed s.queue s refl is.asks))
 
   -- ---- polls
-  pub asks_polled : (stage : Stage) (s s' : Core W) (a' : Acquire) (w : W) (r : Result (Turn W) (W × NoMemory)) → AskForOne s.queue → MayAsk s stage → Polls s (acquire_of stage) w r s' a' → AskForOne s'.queue
+  pub asks_polled : (stage : CellStage) (s s' : Core W) (a' : Acquire) (w : W) (r : Result (Turn W) (W × NoMemory)) → AskForOne s.queue → MayAsk s stage → Polls s (acquire_of stage) w r s' a' → AskForOne s'.queue
   asks_polled New s s' a' w r asks may polls = by_free (ready_or s.free)
     where
       ready_or : (n : ℕ) → (1 ≤ n) ⊎ (n < 1)
@@ -209,7 +209,7 @@ module _ {W : Type 0} where
   pub few_gives : (s s' : Core W) → IsPermit s → 1 ≤ held_of s → s' ≡ given_back s 1 → length s'.queue + length s'.wakes ≤ length s.queue + length s.wakes
   few_gives s s' is held given_is = subst (λ (t : Core W). count_of t ≤ count_of s) (sym (gives s s' is held given_is)) (few_passed s.queue s refl)
 
-  pub few_polled : (stage : Stage) (s s' : Core W) (a' : Acquire) (w : W) (r : Result (Turn W) (W × NoMemory)) → MayAsk s stage → Polls s (acquire_of stage) w r s' a'
+  pub few_polled : (stage : CellStage) (s s' : Core W) (a' : Acquire) (w : W) (r : Result (Turn W) (W × NoMemory)) → MayAsk s stage → Polls s (acquire_of stage) w r s' a'
       → length s'.queue + length s'.wakes ≤ length s.queue + length s.wakes + asks_more s stage
   few_polled New s s' a' w r may polls = by_free (ready_or s.free)
     where

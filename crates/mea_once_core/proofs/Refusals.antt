@@ -7,9 +7,9 @@ use Rattle.mea_once_core.specs.Cell.{Cell, rested, PollsStage}
 use Rattle.mea_once_core.specs.Links.{Shown, shown_at}
 use Rattle.mea_once_core.specs.Table.{Table, entry_at, HasCaller, IsSame, Sets, fresh_entry}
 use Rattle.mea_once_core.specs.Waiting.{AreQuiet}
-use Rattle.mea_once_core.specs.Keyed.{Keyed, GivesUp, StepsCell, Told, PollsCaller}
+use Rattle.mea_once_core.specs.Keyed.{Keyed, GivesUp, StepsCell, AfterCellPoll, PollsCaller}
 use Rattle.mea_once_core.specs.declared.init_call.InitCall.{InitCall}
-use Rattle.mea_once_core.specs.declared.stage.Stage.TheVariants as stages
+use Rattle.mea_once_core.specs.declared.cell_stage.CellStage.TheVariants as stages
 use Rattle.mea_once_core.specs.declared.key_call.KeyStage.{KeyStage}
 use Rattle.mea_once_core.proofs.Tables.{at_entry}
 use Rattle.mea_once_core.proofs.Keyeds.{asks-fresh}
@@ -53,7 +53,7 @@ none-back {W = W} P (Err failed) none = subst (λ (o : Option W). IfSome o (λ _
 
 module _ {K V W E I : Type 0} (answers : I → W → Poll (Result V E) → I → Type 0) (eq : K → K → Bool) where
   told-back : (once : Bool) (told : Poll (Result (Unit {0}) E)) (k : Keyed K V W) (n : ℕ) (e : Shown V W) (r : Result (Poll (Result V E)) (Option W × NoMemory)) (k' : Keyed K V W) (stage' : KeyStage K)
-      → Told eq once (Ok told) k n e r k' stage' → IfErr r (λ failed. failed.0 ≡ None)
+      → AfterCellPoll eq once (Ok told) k n e r k' stage' → IfErr r (λ failed. failed.0 ≡ None)
   told-back once Pending k n e (Ok x) k' stage' h = tt
   told-back once Pending k n e (Err x) k' stage' h = absurd (let out = h.0 in cc)
   told-back once (Ready (Err x)) k n e (Ok y) k' stage' h = tt
@@ -69,6 +69,6 @@ module _ {K V W E I : Type 0} (answers : I → W → Poll (Result V E) → I →
       by_told asks.0 asks.1 asks.2 asks.3 asks.4
     where
       by_told : (told : Result (Poll (Result (Unit {0}) E)) (W × NoMemory)) (cell : Cell V W) (between : Keyed K V W) → StepsCell answers eq k n fresh_entry call w told cell between call'
-          → Told eq once told between n (record fresh_entry { cell = rested cell }) r k' stage' → IfErr r (λ failed. failed.0 ≡ None)
+          → AfterCellPoll eq once told between n (record fresh_entry { cell = rested cell }) r k' stage' → IfErr r (λ failed. failed.0 ≡ None)
       by_told (Ok told) cell between step h = told-back once told between n (record fresh_entry { cell = rested cell }) r k' stage' h
       by_told (Err failed) cell between step h = absurd ((subst (λ s. PollsStage answers s fresh_entry.cell call w (Err failed) cell call') new step.polls).0 refl)

@@ -10,7 +10,7 @@ use Rattle.std.specs.Option.{option_map}
 use Rattle.mea_once_core.specs.Links.{shown, shown_at}
 use Rattle.mea_once_core.specs.declared.entry.Entry.{Entry}
 use Rattle.mea_once_core.specs.declared.init_call.InitCall.{InitCall}
-use Rattle.mea_once_core.specs.declared.stage.Stage.{Stage}
+use Rattle.mea_once_core.specs.declared.cell_stage.CellStage.{CellStage}
 
 within : {A : Type 0} (xs : List (Option A)) (n : ℕ) (e : A) → slice_index_or xs n None ≡ Some e → n < length xs
 within [] n e is = absurd (cc)
@@ -28,7 +28,7 @@ module _ {V W : Type 0} where
     others = λ m differs. get_or-set_other xs n m (Some f) None differs;
   }
 
-  pub ended-slot : (xs : List (Option (Entry V W))) (n : ℕ) (f : Entry V W) (stage : Stage) (c : Cell V W) → slice_index_or xs n None ≡ Some f → Ends f.cell stage c → AddAtMost 0 f.cell c
+  pub ended-slot : (xs : List (Option (Entry V W))) (n : ℕ) (f : Entry V W) (stage : CellStage) (c : Cell V W) → slice_index_or xs n None ≡ Some f → Ends f.cell stage c → AddAtMost 0 f.cell c
       → IfSome (slice_index_or xs n None) (λ e. EndsSlot xs n e stage (slice_set xs n (Some (record f { cell = c }))))
   ended-slot xs n f stage c is ended few =
       subst (λ (o : Option (Entry V W)). IfSome o (λ e. EndsSlot xs n e stage (slice_set xs n (Some (record f { cell = c }))))) (sym is)

@@ -14,7 +14,7 @@ use Rattle.mea_once_core.specs.Slots.{PollsSlot, EndsSlot, RestsSlot}
 use Rattle.mea_once_core.specs.Table.{Table, entry_at, IsSame, Unlists, NumbersGo, Retires, is_last, PollsEntry, EndsEntry, RestsEntry}
 use Rattle.mea_once_core.specs.declared.entry.Entry.{Entry}
 use Rattle.mea_once_core.specs.declared.init_call.InitCall.{InitCall}
-use Rattle.mea_once_core.specs.declared.stage.Stage.{Stage}
+use Rattle.mea_once_core.specs.declared.cell_stage.CellStage.{CellStage}
 use Rattle.std.proofs.lemmas.Map.Entries.{place_from_lookup}
 use Rattle.mea_once_core.proofs.Links.{keyed}
 
@@ -79,7 +79,7 @@ module _ {K V W : Type 0} where
   linked-polled answers A B ps n call call' w r None is some told links = absurd (cc)
   linked-polled answers A B ps n call call' w r (Some e) is some told links = linked-at A B ps n e (record e { cell = told.cell }) is refl (record { changed = told.sets.changed; others = told.sets.others }) links
 
-  pub linked-ended : (A B : Slab (Entry V W)) (ps : List (K × ℕ)) (n : ℕ) (stage : Stage) → (o : Option (Entry V W)) → slab.get A n ≡ o → IsSome o → IfSome o (λ e. EndsSlot A.slots n e stage B.slots) → AreLinked A ps → AreLinked B ps
+  pub linked-ended : (A B : Slab (Entry V W)) (ps : List (K × ℕ)) (n : ℕ) (stage : CellStage) → (o : Option (Entry V W)) → slab.get A n ≡ o → IsSome o → IfSome o (λ e. EndsSlot A.slots n e stage B.slots) → AreLinked A ps → AreLinked B ps
   linked-ended A B ps n stage None is some told links = absurd (cc)
   linked-ended A B ps n stage (Some e) is some told links = linked-at A B ps n e (record e { cell = told.cell }) is refl (record { changed = told.sets.changed; others = told.sets.others }) links
 
@@ -143,7 +143,7 @@ module _ {K V W E I : Type 0} (answers : I → W → Poll (Result V E) → I →
       })
 
 module _ {K V W : Type 0} (eq : K → K → Bool) where
-  pub ends-entry : (t t' : Table K V W) (n : ℕ) (stage : Stage) → (o : Option (Entry V W)) → slice_index_or t.slots n None ≡ o
+  pub ends-entry : (t t' : Table K V W) (n : ℕ) (stage : CellStage) → (o : Option (Entry V W)) → slice_index_or t.slots n None ≡ o
       → IfSome o (λ e. EndsSlot t.slots n e stage t'.slots) → t'.pairs ≡ t.pairs → (s : Shown V W) → option_map shown o ≡ Some s → EndsEntry eq t n s stage t'
   ends-entry t t' n stage None is told pairs s shows = absurd (cc)
   ends-entry t t' n stage (Some e) is told pairs s shows =

@@ -8,8 +8,8 @@ use Rattle.mea_sets.specs.Poll.{Poll, Ready, Pending}
 use Rattle.mea_sem_core.specs.Core.{Core, core_code, held_of}
 use Rattle.mea_sem_core.specs.Calls.{with_waker}
 use Rattle.mea_once_core.specs.Permit.{IsPermit, IsNext, IsWaiting, MayAsk, Waits, Leaves, passed_on, free_permit}
-use Rattle.mea_once_core.specs.declared.stage.Stage.{Stage}
-use Rattle.mea_once_core.specs.declared.stage.Stage.TheVariants.{New, Queued, Running, Done}
+use Rattle.mea_once_core.specs.declared.cell_stage.CellStage.{CellStage}
+use Rattle.mea_once_core.specs.declared.cell_stage.CellStage.TheVariants.{New, Queued, Running, Done}
 use Rattle.mea_once_core.specs.declared.cell_turn.CellTurn.{CellTurn}
 use Rattle.mea_once_core.specs.declared.cell_turn.CellTurn.TheVariants as cell_turn
 use Rattle.mea_once_core.specs.declared.init_call.InitCall.{InitCall}
@@ -45,14 +45,14 @@ module _ {T W : Type 0} where
     pub empty : 1 ≤ held_of c.permit → c.value ≡ None
 
   -- how many calls more wait once a call at this stage was polled: 1 for a new one that finds the permit taken
-  abbrev pub queues_more : Cell T W → Stage → ℕ
+  abbrev pub queues_more : Cell T W → CellStage → ℕ
   queues_more c New = if is_none c.value && (c.permit.free == 0) then 1 else 0
   queues_more c (Queued _) = 0
   queues_more c Running = 0
   queues_more c Done = 0
 
   -- the next poll of a call at this stage finds the value there
-  abbrev pub Finds : Cell T W → Stage → Type 0
+  abbrev pub Finds : Cell T W → CellStage → Type 0
   Finds c New = IsSome c.value
   Finds c (Queued number) = IsSome c.value × IsNext c.permit number
   Finds c Running = ⊥
@@ -88,7 +88,7 @@ module _ {T E : Type 0} where
   reply_of (Ready (Err e)) = Ready (Err e)
 
   -- the stage of the call after that
-  abbrev pub stage_after : Poll (Result T E) → Stage
+  abbrev pub stage_after : Poll (Result T E) → CellStage
   stage_after Pending = Running
   stage_after (Ready _) = Done
 
@@ -101,7 +101,7 @@ module _ {T E : Type 0} where
 module _ {T W : Type 0} where
   -- what a poll for one's turn does, by the stage of the call: a first poll looks first, and else asks for the
   -- permit; whose turn has come looks again
-  abbrev pub PollsTurn : Stage → Cell T W → W → Result (CellTurn W) (W × NoMemory) → Cell T W → Stage → Type 0
+  abbrev pub PollsTurn : CellStage → Cell T W → W → Result (CellTurn W) (W × NoMemory) → Cell T W → CellStage → Type 0
   PollsTurn New c w r c' stage' =
       MatchOption c.value
       ((c.permit.free ≡ 1 → (r ≡ Ok (cell_turn.Mine w)) × (c' ≡ record c { permit = record c.permit { free = 0 } }) × (stage' ≡ Running))
@@ -118,7 +118,7 @@ module _ {T W : Type 0} where
   PollsTurn Done c w r c' stage' = ⊥
 
   -- whose turn it is has the permit of an empty cell
-  abbrev pub HasTurn : CellTurn W → Cell T W → Stage → Type 0
+  abbrev pub HasTurn : CellTurn W → Cell T W → CellStage → Type 0
   HasTurn cell_turn.Full c stage = IsSome c.value × (stage ≡ Done)
   HasTurn (cell_turn.Mine _) c stage = (1 ≤ held_of c.permit) × (stage ≡ Running)
   HasTurn cell_turn.Pending c stage = Unit {0}
@@ -132,7 +132,7 @@ module _ {T W E : Type 0} where
 
 module _ {T E W I : Type 0} (answers : I → W → Poll (Result T E) → I → Type 0) where
   -- who has the permit polls its initialiser, once
-  pub record Runs (c : Cell T W) (i : I) (w : W) (poll : Poll (Result (Unit {0}) E)) (c' : Cell T W) (call' : InitCall I) : Type 0 where
+  pub record RunsInit (c : Cell T W) (i : I) (w : W) (poll : Poll (Result (Unit {0}) E)) (c' : Cell T W) (call' : InitCall I) : Type 0 where
     pub answer : Poll (Result T E)
     pub answered : answers i w answer call'.init
     pub reply : poll ≡ reply_of answer
@@ -142,26 +142,26 @@ module _ {T E W I : Type 0} (answers : I → W → Poll (Result T E) → I → T
   -- whose turn has come looks again: a value that is there by now is enough, and the permit goes to the next
   abbrev pub Enters : Cell T W → I → W → Poll (Result (Unit {0}) E) → Cell T W → InitCall I → Type 0
   Enters c i w poll c' call' =
-      MatchOption c.value (Runs c i w poll c' call')
+      MatchOption c.value (RunsInit c i w poll c' call')
       (λ v. (poll ≡ Ready (Ok tt)) × (c' ≡ given_up c) × (call' ≡ record { init = i; stage = Done }))
 
   -- a first poll looks first, and else asks for the permit
   abbrev pub Starts : Cell T W → InitCall I → W → Result (Poll (Result (Unit {0}) E)) (W × NoMemory) → Cell T W → InitCall I → Type 0
   Starts c call w r c' call' =
       MatchOption c.value
-      ((c.permit.free ≡ 1 → MatchResult r (λ poll. Runs (record c { permit = record c.permit { free = 0 } }) call.init w poll c' call') (λ _. ⊥))
+      ((c.permit.free ≡ 1 → MatchResult r (λ poll. RunsInit (record c { permit = record c.permit { free = 0 } }) call.init w poll c' call') (λ _. ⊥))
       × (c.permit.free ≡ 0 → MatchResult r
       (λ poll. (poll ≡ Pending) × ((number : ℕ) × Waits c.permit c'.permit w number × (c'.value ≡ c.value) × (call' ≡ record call { stage = Queued number })))
       (λ e. (e.0 ≡ w) × (c' ≡ c) × (call' ≡ call))))
       (λ v. (r ≡ Ok (Ready (Ok tt))) × (c' ≡ c) × (call' ≡ record call { stage = Done }))
 
   -- what one poll does, by the stage of the call
-  abbrev pub PollsStage : Stage → Cell T W → InitCall I → W → Result (Poll (Result (Unit {0}) E)) (W × NoMemory) → Cell T W → InitCall I → Type 0
+  abbrev pub PollsStage : CellStage → Cell T W → InitCall I → W → Result (Poll (Result (Unit {0}) E)) (W × NoMemory) → Cell T W → InitCall I → Type 0
   PollsStage New c call w r c' call' = Starts c call w r c' call'
   PollsStage (Queued number) c call w r c' call' =
       (IsNext c.permit number → MatchResult r (λ poll. Enters (record c { permit = record c.permit { granted = map.remove c.permit.granted number } }) call.init w poll c' call') (λ _. ⊥))
       × (IsWaiting c.permit number → (r ≡ Ok Pending) × (c' ≡ record c { permit = record c.permit { queue = with_waker c.permit.queue number w } }) × (call' ≡ call))
-  PollsStage Running c call w r c' call' = MatchResult r (λ poll. Runs c call.init w poll c' call') (λ _. ⊥)
+  PollsStage Running c call w r c' call' = MatchResult r (λ poll. RunsInit c call.init w poll c' call') (λ _. ⊥)
   PollsStage Done c call w r c' call' = Unit {0}
 
   abbrev pub PollsInit : Cell T W → InitCall I → W → Result (Poll (Result (Unit {0}) E)) (W × NoMemory) → Cell T W → InitCall I → Type 0
@@ -181,7 +181,7 @@ module _ {T E W I : Type 0} (answers : I → W → Poll (Result T E) → I → T
 
 module _ {T W : Type 0} where
   -- what the end of a call does to its cell
-  abbrev pub Ends : Cell T W → Stage → Cell T W → Type 0
+  abbrev pub Ends : Cell T W → CellStage → Cell T W → Type 0
   Ends c stage c' = Leaves c.permit stage c'.permit × (c'.value ≡ c.value)
 
   -- ---- putting a value
@@ -198,7 +198,7 @@ module _ {T W : Type 0} where
       (λ there. (poll ≡ Ready (Err v)) × (c' ≡ given_up c))
 
   -- by the stage of the call: a first poll looks first, and else asks for the permit
-  abbrev pub Inserts : Stage → Cell T W → T → W → Result (Poll (Result (Unit {0}) T)) (W × NoMemory) → Cell T W → InsertCall T → Type 0
+  abbrev pub Inserts : CellStage → Cell T W → T → W → Result (Poll (Result (Unit {0}) T)) (W × NoMemory) → Cell T W → InsertCall T → Type 0
   Inserts New c v w r c' call' =
       MatchOption c.value
       ((c.permit.free ≡ 1 → (r ≡ Ok (Ready (Ok tt))) × (c' ≡ record c { value = Some v }) × (call' ≡ record { value = None; stage = Done }))

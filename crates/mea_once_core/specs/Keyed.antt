@@ -9,8 +9,8 @@ use Rattle.mea_once_core.specs.Cell.{Cell, PollsInit, Ends, Finds, queues_more, 
 use Rattle.mea_once_core.specs.Links.{Shown, left, Changes}
 use Rattle.mea_once_core.specs.Table.{Table, table_code, entry_at, number_of, HasCaller, HasRoom, IsSame, Sets, Joins, Makes, Unlists, NumbersGo, is_last, fresh_entry}
 use Rattle.mea_once_core.specs.declared.init_call.InitCall.{InitCall}
-use Rattle.mea_once_core.specs.declared.stage.Stage.{Stage}
-use Rattle.mea_once_core.specs.declared.stage.Stage.TheVariants as stage
+use Rattle.mea_once_core.specs.declared.cell_stage.CellStage.{CellStage}
+use Rattle.mea_once_core.specs.declared.cell_stage.CellStage.TheVariants as stage
 use Rattle.mea_once_core.specs.declared.key_call.KeyCall.{KeyCall}
 use Rattle.mea_once_core.specs.declared.key_call.KeyStage.{KeyStage}
 use Rattle.mea_once_core.specs.declared.key_call.KeyStage.TheVariants.{New, Calls, Kept, Done}
@@ -110,17 +110,17 @@ module _ {K V W : Type 0} (eq : K → K → Bool) where
   -- ---- ends
 
   -- a call of the entry's cell ends, and its wakers go to those of the map
-  pub record EndsCell (k : Keyed K V W) (n : ℕ) (e : Shown V W) (stage : Stage) (k' : Keyed K V W) : Type 0 where
+  pub record EndsCell (k : Keyed K V W) (n : ℕ) (e : Shown V W) (stage : CellStage) (k' : Keyed K V W) : Type 0 where
     pub cell : Cell V W
     pub ends : Ends e.cell stage cell
     pub sets : Sets eq k.table k'.table n (Some (record e { cell = rested cell }))
     pub wakes : k'.wakes ≡ k.wakes ++ cell.permit.wakes
 
   -- and then the caller leaves
-  abbrev pub EndsCaller : Keyed K V W → ℕ → Shown V W → Stage → Keyed K V W → Type 0
+  abbrev pub EndsCaller : Keyed K V W → ℕ → Shown V W → CellStage → Keyed K V W → Type 0
   EndsCaller k n e stage k' = (between : Keyed K V W) × (ended : EndsCell k n e stage between) × LeavesEntry between n (record e { cell = rested ended.cell }) k'
 
-  abbrev pub EndsAt : KeyStage K → Keyed K V W → Stage → Keyed K V W → Type 0
+  abbrev pub EndsAt : KeyStage K → Keyed K V W → CellStage → Keyed K V W → Type 0
   EndsAt (New key) k stage k' = IsSameKeyed k k'
   EndsAt (Calls n) k stage k' = (e : Shown V W) → entry_at k.table n ≡ Some e → EndsCaller k n e stage k'
   EndsAt (Kept n) k stage k' = (e : Shown V W) → entry_at k.table n ≡ Some e → LeavesEntry k n e k'
@@ -142,11 +142,11 @@ module _ {K V W : Type 0} (eq : K → K → Bool) where
   Computed once k n e r k' stage' = (between : Keyed K V W) × GivesUp once k n e between × HandsOut None (Kept n) between n (record e { listed = e.listed && not once }) r k' stage'
 
   -- by what the poll of the cell told
-  abbrev pub Told : {E : Type 0} → Bool → Result (Poll (Result (Unit {0}) E)) (W × NoMemory) → Keyed K V W → ℕ → Shown V W → Result (Poll (Result V E)) (Option W × NoMemory) → Keyed K V W → KeyStage K → Type 0
-  Told once (Ok Pending) k n e r k' stage' = (r ≡ Ok Pending) × IsSameKeyed k k' × (stage' ≡ Calls n)
-  Told once (Ok (Ready (Err x))) k n e r k' stage' = (r ≡ Ok (Ready (Err x))) × LeavesEntry k n e k' × (stage' ≡ Done)
-  Told once (Ok (Ready (Ok _))) k n e r k' stage' = Computed once k n e r k' stage'
-  Told once (Err failed) k n e r k' stage' = (r ≡ Err (Some failed.0, failed.1)) × IsSameKeyed k k' × (stage' ≡ Calls n)
+  abbrev pub AfterCellPoll : {E : Type 0} → Bool → Result (Poll (Result (Unit {0}) E)) (W × NoMemory) → Keyed K V W → ℕ → Shown V W → Result (Poll (Result V E)) (Option W × NoMemory) → Keyed K V W → KeyStage K → Type 0
+  AfterCellPoll once (Ok Pending) k n e r k' stage' = (r ≡ Ok Pending) × IsSameKeyed k k' × (stage' ≡ Calls n)
+  AfterCellPoll once (Ok (Ready (Err x))) k n e r k' stage' = (r ≡ Ok (Ready (Err x))) × LeavesEntry k n e k' × (stage' ≡ Done)
+  AfterCellPoll once (Ok (Ready (Ok _))) k n e r k' stage' = Computed once k n e r k' stage'
+  AfterCellPoll once (Err failed) k n e r k' stage' = (r ≡ Err (Some failed.0, failed.1)) × IsSameKeyed k k' × (stage' ≡ Calls n)
 
 module _ {K V W E I : Type 0} (answers : I → W → Poll (Result V E) → I → Type 0) (eq : K → K → Bool) where
   -- the cell of the caller's entry is polled, and its wakers go to those of the map
@@ -168,7 +168,7 @@ module _ {K V W E I : Type 0} (answers : I → W → Poll (Result V E) → I →
   abbrev pub AsksCell : Bool → Keyed K V W → ℕ → Shown V W → InitCall I → W → Result (Poll (Result V E)) (Option W × NoMemory) → Keyed K V W → InitCall I → KeyStage K → Type 0
   AsksCell once k n e call w r k' call' stage' =
       (told : Result (Poll (Result (Unit {0}) E)) (W × NoMemory)) × (cell : Cell V W) × (between : Keyed K V W)
-      × StepsCell k n e call w told cell between call' × Told eq once told between n (record e { cell = rested cell }) r k' stage'
+      × StepsCell k n e call w told cell between call' × AfterCellPoll eq once told between n (record e { cell = rested cell }) r k' stage'
 
   abbrev pub PollsCaller : Bool → Keyed K V W → ℕ → Shown V W → InitCall I → W → Result (Poll (Result V E)) (Option W × NoMemory) → Keyed K V W → InitCall I → KeyStage K → Type 0
   PollsCaller once k n e call w r k' call' stage' =
@@ -181,7 +181,7 @@ module _ {K V W E I : Type 0} (answers : I → W → Poll (Result V E) → I →
       MatchOption e.cell.value
       (((told : Result (Poll (Result (Unit {0}) E)) (W × NoMemory)) × (cell : Cell V W) × (between : Keyed K V W) × (joined : Keyed K V W)
       × StepsCell k n e call w told cell between call' × Joins eq between.table joined.table n × (joined.wakes ≡ between.wakes)
-      × Told eq once told joined n (record e { cell = rested cell; callers = e.callers + 1 }) r k' stage')
+      × AfterCellPoll eq once told joined n (record e { cell = rested cell; callers = e.callers + 1 }) r k' stage')
       ⊎ ((failed : W × NoMemory) × (cell : Cell V W) × StepsCell k n e call w (Err failed) cell k' call' × (r ≡ Err (Some failed.0, failed.1)) × (stage' ≡ New key)))
       (λ v. HandsFirst key call w e r call' stage' × IsSameKeyed eq k k')
 

@@ -8,7 +8,7 @@ use Rattle.mea_once_core.specs.Permit.{free_permit}
 use Rattle.mea_once_core.specs.Cell as cell
 use Rattle.mea_once_core.specs.Cell.{Cell, cell_code, PollsInit, PollsTurn, Ends}
 use Rattle.mea_once_core.specs.declared.cell_turn.CellTurn.{CellTurn}
-use Rattle.mea_once_core.specs.declared.stage.Stage.{Stage}
+use Rattle.mea_once_core.specs.declared.cell_stage.CellStage.{CellStage}
 use Rattle.mea_once_core.specs.declared.init_call.InitCall.{InitCall}
 
 -- a call that runs once: a cell that is full once a call has completed, a count of 1 for those who wait for
@@ -74,13 +74,13 @@ module _ {W : Type 0} where
   reply_of (Err e) = Err e
 
   -- what a poll of a call for its turn does: it is that of the cell
-  pub record TurnsCall (o : Once W) (stage : Stage) (w : W) (r : Result (CellTurn W) (W × NoMemory)) (o' : Once W) (stage' : Stage) : Type 0 where
+  pub record TurnsCall (o : Once W) (stage : CellStage) (w : W) (r : Result (CellTurn W) (W × NoMemory)) (o' : Once W) (stage' : CellStage) : Type 0 where
     pub left : Cell (Unit {0}) W
     pub polls : PollsTurn stage o.cell w r left stage'
     pub is : o' ≡ with_cell o left
 
   -- what the end of a call does
-  pub record EndsCall (o : Once W) (stage : Stage) (o' : Once W) : Type 0 where
+  pub record EndsCall (o : Once W) (stage : CellStage) (o' : Once W) : Type 0 where
     pub left : Cell (Unit {0}) W
     pub ends : Ends o.cell stage left
     pub is : o' ≡ with_cell o left

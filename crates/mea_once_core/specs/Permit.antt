@@ -10,25 +10,25 @@ use Rattle.mea_sem_core.specs.Core.{Waiter, Acquires, Owes, Core, held_of}
 use Rattle.mea_sem_core.specs.Calls.{IsGrantedAs, IsWaitingAs, Queues, with_waker, without_acquire}
 use Rattle.mea_sem_core.specs.declared.acquire.Acquire.{Acquire}
 use Rattle.mea_sem_core.specs.declared.acquire.Acquire.TheVariants as acquire
-use Rattle.mea_once_core.specs.declared.stage.Stage.{Stage}
-use Rattle.mea_once_core.specs.declared.stage.Stage.TheVariants.{New, Queued, Running, Done}
+use Rattle.mea_once_core.specs.declared.cell_stage.CellStage.{CellStage}
+use Rattle.mea_once_core.specs.declared.cell_stage.CellStage.TheVariants.{New, Queued, Running, Done}
 
 -- the acquire of one permit that stands for a call at a stage
-abbrev pub acquire_of : Stage → Acquire
+abbrev pub acquire_of : CellStage → Acquire
 acquire_of New = acquire.New 1
 acquire_of (Queued number) = acquire.Queued 1 number
 acquire_of Running = acquire.Done 1
 acquire_of Done = acquire.Done 1
 
 -- the stage of a call whose acquire is at this stage
-abbrev pub stage_of : Acquire → Stage
+abbrev pub stage_of : Acquire → CellStage
 stage_of (acquire.New _) = New
 stage_of (acquire.Queued _ number) = Queued number
 stage_of (acquire.Done _) = Running
 stage_of (acquire.Refused _) = Done
 
 -- how many permits a call at this stage has
-abbrev pub held_at : Stage → ℕ
+abbrev pub held_at : CellStage → ℕ
 held_at New = 0
 held_at (Queued _) = 0
 held_at Running = 1
@@ -67,21 +67,21 @@ module _ {W : Type 0} where
   IsWaiting s number = IsWaitingAs s 1 number
 
   -- it has not the permit yet, and is one of this permit's
-  abbrev pub MayAsk : Core W → Stage → Type 0
+  abbrev pub MayAsk : Core W → CellStage → Type 0
   MayAsk s New = Unit {0}
   MayAsk s (Queued number) = IsNext s number ⊎ IsWaiting s number
   MayAsk s Running = ⊥
   MayAsk s Done = ⊥
 
   -- it is one of this permit's, and was not ready yet
-  abbrev pub MayPoll : Core W → Stage → Type 0
+  abbrev pub MayPoll : Core W → CellStage → Type 0
   MayPoll s New = Unit {0}
   MayPoll s (Queued number) = IsNext s number ⊎ IsWaiting s number
   MayPoll s Running = 1 ≤ held_of s
   MayPoll s Done = ⊥
 
   -- it is one of this permit's
-  abbrev pub MayEnd : Core W → Stage → Type 0
+  abbrev pub MayEnd : Core W → CellStage → Type 0
   MayEnd s New = Unit {0}
   MayEnd s (Queued number) = IsNext s number ⊎ IsWaiting s number
   MayEnd s Running = 1 ≤ held_of s
@@ -92,14 +92,14 @@ module _ {W : Type 0} where
   Waits s s' w number = Queues s s' 1 w number
 
   -- how many calls more wait once a call at this stage has asked: 1 for a new one that finds the permit taken
-  abbrev pub asks_more : Core W → Stage → ℕ
+  abbrev pub asks_more : Core W → CellStage → ℕ
   asks_more s New = if s.free == 0 then 1 else 0
   asks_more s (Queued _) = 0
   asks_more s Running = 0
   asks_more s Done = 0
 
   -- what asking for the permit does: ready with the permit, or pending in the queue
-  abbrev pub Asks : Core W → Stage → W → Result (Turn W) (W × NoMemory) → Core W → Stage → Type 0
+  abbrev pub Asks : Core W → CellStage → W → Result (Turn W) (W × NoMemory) → Core W → CellStage → Type 0
   Asks s New w r s' stage' =
       (s.free ≡ 1 → (r ≡ Ok (Ready w)) × (s' ≡ record s { free = 0 }) × (stage' ≡ Running))
       × (s.free ≡ 0 → MatchResult r
@@ -117,11 +117,11 @@ module _ {W : Type 0} where
   TakesPermit s Pending s' = held_of s' ≡ held_of s
 
   -- the permit is had by whom it was, but for a call that came from one stage to another
-  abbrev pub HoldsAs : Core W → Stage → Core W → Stage → Type 0
+  abbrev pub HoldsAs : Core W → CellStage → Core W → CellStage → Type 0
   HoldsAs s stage s' stage' = held_of s' + held_at stage ≡ held_of s + held_at stage'
 
   -- what the end of a call does: it gives up its place, or the permit, which goes to the next
-  abbrev pub Leaves : Core W → Stage → Core W → Type 0
+  abbrev pub Leaves : Core W → CellStage → Core W → Type 0
   Leaves s New s' = s' ≡ s
   Leaves s (Queued number) s' =
       (IsNext s number → s' ≡ passed_on (record s { granted = map.remove s.granted number }))

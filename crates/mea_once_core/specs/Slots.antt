@@ -6,7 +6,7 @@ use Rattle.mea_base.specs.Outbox.{Wakes}
 use Rattle.mea_once_core.specs.Cell.{Cell, rested, PollsInit, Ends, queues_more, AddAtMost}
 use Rattle.mea_once_core.specs.declared.entry.Entry.{Entry}
 use Rattle.mea_once_core.specs.declared.init_call.InitCall.{InitCall}
-use Rattle.mea_once_core.specs.declared.stage.Stage.{Stage}
+use Rattle.mea_once_core.specs.declared.cell_stage.CellStage.{CellStage}
 
 module _ {V W : Type 0} where
   -- the slot under this number has become this, and each other is as it was
@@ -15,7 +15,7 @@ module _ {V W : Type 0} where
     pub others : (m : ℕ) → m ≢ n → slice_index_or new m None ≡ slice_index_or old m None
 
   -- a call of the entry's cell has ended
-  pub record EndsSlot (old : List (Option (Entry V W))) (n : ℕ) (e : Entry V W) (stage : Stage) (new : List (Option (Entry V W))) : Type 0 where
+  pub record EndsSlot (old : List (Option (Entry V W))) (n : ℕ) (e : Entry V W) (stage : CellStage) (new : List (Option (Entry V W))) : Type 0 where
     pub cell : Cell V W
     pub ends : Ends e.cell stage cell
     pub few : AddAtMost 0 e.cell cell

@@ -4,7 +4,7 @@ use Rattle.std.specs.Coded.{Coded, code_by, coded×, coded_ℕ, coded_list, code
 use Rattle.mea_base.specs.declared.no_memory.NoMemory.{NoMemory}
 use Rattle.mea_sets.specs.Poll.{Poll, Ready}
 use Rattle.mea_once_core.specs.declared.init_call.InitCall.{InitCall}
-use Rattle.mea_once_core.specs.declared.stage.Stage.{Stage}
+use Rattle.mea_once_core.specs.declared.cell_stage.CellStage.{CellStage}
 use Rattle.mea_base.specs.Outbox.{Wakes}
 use Rattle.mea_once_core.specs.Cell.{Cell, rested, cell_code, PollsInit, Ends, queues_more, AddAtMost}
 use Rattle.mea_once_core.specs.Permit.{free_permit}
@@ -90,7 +90,7 @@ module _ {K V W : Type 0} where
       pub numbers : NumbersGo (e.listed && is_last e) t t' n
 
     -- a call of an entry's cell has ended
-    pub record EndsEntry (t : Table K V W) (n : ℕ) (e : Shown V W) (stage : Stage) (t' : Table K V W) : Type 0 where
+    pub record EndsEntry (t : Table K V W) (n : ℕ) (e : Shown V W) (stage : CellStage) (t' : Table K V W) : Type 0 where
       pub cell : Cell V W
       pub ends : Ends e.cell stage cell
       pub few : AddAtMost 0 e.cell cell

@@ -1,16 +1,16 @@
-ghost use Rattle.std.specs.Prelude.{◌≡◌, ◌+◌, ◌≤◌, ◌↔◌, [], ◌∷◌, ◌++◌, length, IsTrue, IsSome, Ok, IfOk, IfSome, IfNone, MatchOption, option_copied, OnErr};
+ghost use Rattle.std.specs.Prelude.{◌≡◌, ◌+◌, ◌<◌, ◌≤◌, ◌^◌, ◌↔◌, [], ◌∷◌, ◌++◌, length, IsTrue, IsSome, Ok, IfOk, IfSome, IfNone, MatchOption, option_copied, OnErr};
 ghost use Rattle.std.specs.Option.{option_copied_mut};
 ghost use Rattle.std.specs.Borrow.{sem};
 ghost use Rattle.mea_sem_core.specs.Core.{held_of};
 ghost use Rattle.mea_once_core.specs.Permit.{HoldsAs, held_at, MayPoll, MayEnd, MayAsk, free_permit};
-ghost use Rattle.mea_once_core.specs.Cell.{IsSound, Runs, PollsTurn, HasTurn, PollsInit, PollsMut, PollsInsert, MayInsert, Ends, queues_more, Finds, AddAtMost, alone, filled, given_up, renewed_init, renewed_insert};
+ghost use Rattle.mea_once_core.specs.Cell.{IsSound, RunsInit, PollsTurn, HasTurn, PollsInit, PollsMut, PollsInsert, MayInsert, Ends, queues_more, Finds, AddAtMost, alone, filled, given_up, renewed_init, renewed_insert};
 
+use crate::cell_stage::CellStage;
 use crate::cell_turn::CellTurn;
 use crate::init::Init;
 use crate::init_call::InitCall;
 use crate::insert_call::InsertCall;
 use crate::permit::Permit;
-use crate::stage::Stage;
 use mea_base::{NoMemory, Outbox, Poll, Turn};
 use std::alloc::Global;
 use std::marker::Model;
@@ -102,7 +102,11 @@ impl<T: Drop, W: Drop> CellCore<T, W> {
     /// Polls a call for its turn: the cell is full; or it is empty and the turn is this call's, which then ends
     /// by `fill` or `give_up`; or another call has it. It takes memory only where a new call has to queue, and
     /// where there is none it hands the waker back.
-    pub fn poll_turn(&mut self, stage: &mut Stage, waker: W) -> Result<CellTurn<W>, (W, NoMemory)>
+    pub fn poll_turn(
+        &mut self,
+        stage: &mut CellStage,
+        waker: W,
+    ) -> Result<CellTurn<W>, (W, NoMemory)>
         requires { MayPoll self.old.permit stage.old }
         ensures polls { PollsTurn stage.old self.old waker result self.new stage.new }
         ensures turn { IfOk result (λ turn. HasTurn turn self.new stage.new) }
@@ -113,29 +117,29 @@ impl<T: Drop, W: Drop> CellCore<T, W> {
         ensures sound { IsSound self.new }
     {
         match *stage {
-            Stage::New => self.start(stage, waker),
-            Stage::Queued { number } => Ok(self.resume(stage, number, waker)),
-            Stage::Running => {
+            CellStage::New => self.start(stage, waker),
+            CellStage::Queued { number } => Ok(self.resume(stage, number, waker)),
+            CellStage::Running => {
                 let _ = self.is_full();
                 Ok(CellTurn::Mine(waker))
             }
-            Stage::Done => unreachable!(),
+            CellStage::Done => unreachable!(),
         }
     }
 
     // The first poll for one's turn.
-    fn start(&mut self, stage: &mut Stage, waker: W) -> Result<CellTurn<W>, (W, NoMemory)>
-        requires { stage.old ≡ Stage.New }
-        ensures polls { PollsTurn Stage.New self.old waker result self.new stage.new }
+    fn start(&mut self, stage: &mut CellStage, waker: W) -> Result<CellTurn<W>, (W, NoMemory)>
+        requires { stage.old ≡ CellStage.New }
+        ensures polls { PollsTurn CellStage.New self.old waker result self.new stage.new }
         ensures turn { IfOk result (λ turn. HasTurn turn self.new stage.new) }
-        ensures held { HoldsAs self.old.permit Stage.New self.new.permit stage.new }
-        ensures few { AddAtMost (queues_more self.old Stage.New) self.old self.new }
-        ensures no_memory { OnErr result (queues_more self.old Stage.New ≡ 1) }
+        ensures held { HoldsAs self.old.permit CellStage.New self.new.permit stage.new }
+        ensures few { AddAtMost (queues_more self.old CellStage.New) self.old self.new }
+        ensures no_memory { OnErr result (queues_more self.old CellStage.New ≡ 1) }
         ensures err { OnErr result ((self.new ≡ self.old) × (stage.new ≡ stage.old)) }
         ensures sound { IsSound self.new }
     {
         if self.is_full() {
-            *stage = Stage::Done;
+            *stage = CellStage::Done;
             return Ok(CellTurn::Full);
         }
         match self.permit.ask(stage, waker)? {
@@ -145,12 +149,12 @@ impl<T: Drop, W: Drop> CellCore<T, W> {
     }
 
     // A further poll of a call that has not the permit yet.
-    fn resume(&mut self, stage: &mut Stage, number: usize, waker: W) -> CellTurn<W>
-        requires stage { stage.old ≡ Stage.Queued number }
-        requires known { MayAsk self.old.permit (Stage.Queued number) }
-        ensures polls { PollsTurn (Stage.Queued number) self.old waker (Ok result) self.new stage.new }
+    fn resume(&mut self, stage: &mut CellStage, number: usize, waker: W) -> CellTurn<W>
+        requires stage { stage.old ≡ CellStage.Queued number }
+        requires known { MayAsk self.old.permit (CellStage.Queued number) }
+        ensures polls { PollsTurn (CellStage.Queued number) self.old waker (Ok result) self.new stage.new }
         ensures turn { HasTurn result self.new stage.new }
-        ensures held { HoldsAs self.old.permit (Stage.Queued number) self.new.permit stage.new }
+        ensures held { HoldsAs self.old.permit (CellStage.Queued number) self.new.permit stage.new }
         ensures few { AddAtMost 0 self.old self.new }
         ensures sound { IsSound self.new }
     {
@@ -158,7 +162,7 @@ impl<T: Drop, W: Drop> CellCore<T, W> {
             Ok(Turn::Ready(waker)) => {
                 if self.value.is_some() {
                     self.permit.pass_on();
-                    *stage = Stage::Done;
+                    *stage = CellStage::Done;
                     return CellTurn::Full;
                 }
                 CellTurn::Mine(waker)
@@ -170,31 +174,31 @@ impl<T: Drop, W: Drop> CellCore<T, W> {
 
     /// Fills the cell, for the call whose turn it is, which ends: the turn goes to the next, whose waker is
     /// ready. It takes no memory.
-    pub fn fill(&mut self, stage: &mut Stage, value: T)
+    pub fn fill(&mut self, stage: &mut CellStage, value: T)
         requires { 1 ≤ held_of self.old.permit }
         ensures is { self.new ≡ filled self.old value }
-        ensures stage { stage.new ≡ Stage.Done }
+        ensures stage { stage.new ≡ CellStage.Done }
         ensures held { held_of self.new.permit ≡ 0 }
         ensures few { AddAtMost 0 self.old self.new }
         ensures sound { IsSound self.new }
     {
         self.value = Some(value);
         self.permit.pass_on();
-        *stage = Stage::Done;
+        *stage = CellStage::Done;
     }
 
     /// Gives the turn up, for the call whose turn it is, which ends: the turn goes to the next, whose waker is
     /// ready. It takes no memory.
-    pub fn give_up(&mut self, stage: &mut Stage)
+    pub fn give_up(&mut self, stage: &mut CellStage)
         requires { 1 ≤ held_of self.old.permit }
         ensures is { self.new ≡ given_up self.old }
-        ensures stage { stage.new ≡ Stage.Done }
+        ensures stage { stage.new ≡ CellStage.Done }
         ensures held { held_of self.new.permit ≡ 0 }
         ensures few { AddAtMost 0 self.old self.new }
         ensures sound { IsSound self.new }
     {
         self.permit.pass_on();
-        *stage = Stage::Done;
+        *stage = CellStage::Done;
     }
 
     /// Polls a call with an initialiser: ready where the cell has a value, be it that of this initialiser,
@@ -216,11 +220,10 @@ impl<T: Drop, W: Drop> CellCore<T, W> {
         ensures err { OnErr result ((self.new ≡ self.old) × (call.new ≡ call.old)) }
         ensures sound { IsSound self.new }
     {
-        match self.poll_turn(&mut call.stage, waker) {
-            Ok(CellTurn::Full) => Ok(Poll::Ready(Ok(()))),
-            Ok(CellTurn::Mine(waker)) => Ok(self.run(call, waker)),
-            Ok(CellTurn::Pending) => Ok(Poll::Pending),
-            Err(failed) => Err(failed),
+        match self.poll_turn(&mut call.stage, waker)? {
+            CellTurn::Full => Ok(Poll::Ready(Ok(()))),
+            CellTurn::Mine(waker) => Ok(self.run(call, waker)),
+            CellTurn::Pending => Ok(Poll::Pending),
         }
     }
 
@@ -232,8 +235,8 @@ impl<T: Drop, W: Drop> CellCore<T, W> {
     ) -> Poll<Result<(), E>>
         requires held { 1 ≤ held_of self.old.permit }
         requires init { I.may_poll call.old.init }
-        requires running { call.old.stage ≡ Stage.Running }
-        ensures runs { Runs I.answers self.old call.old.init waker result self.new call.new }
+        requires running { call.old.stage ≡ CellStage.Running }
+        ensures runs { RunsInit I.answers self.old call.old.init waker result self.new call.new }
         ensures again { result ≡ Poll.Pending → I.may_poll call.new.init }
         ensures fills { result ≡ Poll.Ready (Ok tt) → IsSome self.new.value }
         ensures few { AddAtMost 0 self.old self.new }
@@ -287,15 +290,15 @@ impl<T: Drop, W: Drop> CellCore<T, W> {
         let Some(value) = call.value.take() else {
             return Ok(Poll::Ready(Ok(())));
         };
-        if let Stage::New = call.stage {
+        if let CellStage::New = call.stage {
             if self.value.is_some() {
-                call.stage = Stage::Done;
+                call.stage = CellStage::Done;
                 return Ok(Poll::Ready(Err(value)));
             }
         }
         match self.permit.ask(&mut call.stage, waker) {
             Ok(Turn::Ready(_)) => {
-                call.stage = Stage::Done;
+                call.stage = CellStage::Done;
                 self.permit.pass_on();
                 Ok(Poll::Ready(put(&mut self.value, value)))
             }
@@ -375,7 +378,8 @@ impl<T: Drop, W: Drop> CellCore<T, W> {
 
     /// How many wakers are to be called. It takes no memory.
     pub fn wakes_ready(&self) -> usize
-        ensures { result ≡ length self.now.permit.wakes }
+        ensures is { result ≡ length self.now.permit.wakes }
+        ensures bound { result < 2 ^ 63 }
     {
         self.permit.wakes_ready()
     }
@@ -402,25 +406,25 @@ impl<T: Drop, W: Drop> CellCore<T, W> {
 
     /// Whether the next poll of a call at this stage finds the value there: of a new one, or of one whose turn
     /// has come. It takes no memory.
-    pub fn finds(&self, stage: Stage) -> bool
+    pub fn finds(&self, stage: CellStage) -> bool
         ensures { IsTrue result ↔ Finds self.now stage }
     {
         self.value.is_some()
             && match stage {
-                Stage::New => true,
-                Stage::Queued { number } => self.permit.is_next(number),
-                Stage::Running | Stage::Done => false,
+                CellStage::New => true,
+                CellStage::Queued { number } => self.permit.is_next(number),
+                CellStage::Running | CellStage::Done => false,
             }
     }
 
     /// How many calls more wait once a call at this stage was polled: 1 for a new one that finds the permit
     /// taken, else 0. It takes no memory.
-    pub fn queues_more(&self, stage: Stage) -> usize
+    pub fn queues_more(&self, stage: CellStage) -> usize
         ensures is { result ≡ queues_more self.now stage }
         ensures small { result ≤ 1 }
     {
         match stage {
-            Stage::New => {
+            CellStage::New => {
                 if self.value.is_none() && !self.permit.is_free() {
                     1
                 } else {
@@ -441,14 +445,14 @@ impl<T: Drop, W: Drop> CellCore<T, W> {
     // ---- the forms that ask for nothing
 
     // Whether a call at this stage is one of this cell that was not ready yet. It takes no memory.
-    pub(crate) fn may_poll(&self, stage: Stage) -> bool
+    pub(crate) fn may_poll(&self, stage: CellStage) -> bool
         ensures { IsTrue result ↔ MayPoll self.now.permit stage }
     {
         self.permit.may_poll(stage)
     }
 
     // Whether a call at this stage is one of this cell. It takes no memory.
-    pub(crate) fn may_end(&self, stage: Stage) -> bool
+    pub(crate) fn may_end(&self, stage: CellStage) -> bool
         ensures { IsTrue result ↔ MayEnd self.now.permit stage }
     {
         self.permit.may_end(stage)

@@ -1,4 +1,4 @@
-ghost use Rattle.std.specs.Prelude.{◌≡◌, ◌↔◌, ℕ, [], ◌∷◌, length, true, false, None, IsTrue, IsSome, IfOk, IfErr, OnErr, IfSome, IfNone, OnOk, MatchResult};
+ghost use Rattle.std.specs.Prelude.{◌≡◌, ◌<◌, ◌^◌, ◌↔◌, ℕ, [], ◌∷◌, length, true, false, None, IsTrue, IsSome, IfOk, IfErr, OnErr, IfSome, IfNone, OnOk, MatchResult};
 
 use crate::init::Init;
 use crate::key_call::KeyCall;
@@ -131,7 +131,8 @@ impl<K: Eq + Hash + Drop, V: Clone, S: BuildHasher + Drop, W: Drop> FlightCore<K
 
     /// How many wakers are ready. It takes no memory.
     pub fn wakes_ready(&self) -> usize
-        ensures { result ≡ length self.now.wakes }
+        ensures is { result ≡ length self.now.wakes }
+        ensures bound { result < 2 ^ 63 }
     {
         self.keyed.wakes_ready()
     }

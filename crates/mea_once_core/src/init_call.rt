@@ -1,6 +1,6 @@
 ghost use Rattle.std.specs.Prelude.{◌≡◌};
 
-use crate::stage::Stage;
+use crate::cell_stage::CellStage;
 
 /// The future of a computation for a cell: an initialiser, and how far its call is.
 ///
@@ -11,7 +11,7 @@ pub struct InitCall<I> {
     /// What computes the value.
     pub init: I,
     /// How far the call is.
-    pub stage: Stage,
+    pub stage: CellStage,
 }
 
 impl<I> InitCall<I> {
@@ -19,11 +19,11 @@ impl<I> InitCall<I> {
 
     /// A call that was never polled. It takes no memory.
     pub fn new(init: I) -> Self
-        ensures { result ≡ record { init = init; stage = Stage.New } }
+        ensures { result ≡ record { init = init; stage = CellStage.New } }
     {
         InitCall {
             init,
-            stage: Stage::New,
+            stage: CellStage::New,
         }
     }
 
@@ -31,6 +31,6 @@ impl<I> InitCall<I> {
     pub fn renew(&mut self)
         ensures { self.new ≡ renewed_init self.old }
     {
-        self.stage = Stage::New;
+        self.stage = CellStage::New;
     }
 }

@@ -1,6 +1,6 @@
 ghost use Rattle.std.specs.Prelude.{◌≡◌};
 
-use crate::stage::Stage;
+use crate::cell_stage::CellStage;
 
 /// The future of putting a value into a cell: the value, until it was put or handed back, and how far the
 /// call is.
@@ -12,7 +12,7 @@ pub struct InsertCall<T> {
     /// The value, until a poll was ready.
     pub value: Option<T>,
     /// How far the call is.
-    pub stage: Stage,
+    pub stage: CellStage,
 }
 
 impl<T> InsertCall<T> {
@@ -20,11 +20,11 @@ impl<T> InsertCall<T> {
 
     /// A call that was never polled. It takes no memory.
     pub fn new(value: T) -> Self
-        ensures { result ≡ record { value = Some value; stage = Stage.New } }
+        ensures { result ≡ record { value = Some value; stage = CellStage.New } }
     {
         InsertCall {
             value: Some(value),
-            stage: Stage::New,
+            stage: CellStage::New,
         }
     }
 
@@ -34,7 +34,7 @@ impl<T> InsertCall<T> {
         ensures { self.new ≡ renewed_insert self.old }
     {
         if self.value.is_some() {
-            self.stage = Stage::New;
+            self.stage = CellStage::New;
         }
     }
 }

@@ -1,7 +1,7 @@
 ghost use Rattle.std.specs.Prelude.{◌≡◌, Result};
 ghost use Rattle.mea_sets.specs.Poll.{Poll};
-ghost use Rattle.mea_once_core.specs.declared.stage.Stage.{Stage};
-ghost use Rattle.mea_once_core.specs.declared.stage.Stage.TheVariants as stages;
+ghost use Rattle.mea_once_core.specs.declared.cell_stage.CellStage.{CellStage};
+ghost use Rattle.mea_once_core.specs.declared.cell_stage.CellStage.TheVariants as stages;
 
 use crate::init::Init;
 use crate::init_call::InitCall;
@@ -37,7 +37,7 @@ pub struct KeyCall<K, I> {
 impl<K, I> KeyCall<K, I> {
     /// A call that was never polled. It takes no memory.
     pub fn new(key: K, init: I) -> Self
-        ensures { result ≡ record { stage = KeyStage.New key; call = record { init = init; stage = Stage.New } } }
+        ensures { result ≡ record { stage = KeyStage.New key; call = record { init = init; stage = CellStage.New } } }
     {
         KeyCall {
             stage: KeyStage::New { key },

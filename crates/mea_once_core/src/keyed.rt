@@ -1,12 +1,12 @@
 ghost use Rattle.mea_once_core.specs.Table.{entry_at};
 ghost use Rattle.mea_once_core.specs.Links.{Shown};
-ghost use Rattle.std.specs.Prelude.{◌≡◌, ◌<◌, ◌++◌, ◌∷◌, IfNone, ℕ, ◌+◌, ◌-◌, ◌≤◌, cond, ◌↔◌, IsTrue, IsSome, IfOk, IfErr, IfSome, OnOk, OnErr, IsOk, length, Some, None, Ok, []};
+ghost use Rattle.std.specs.Prelude.{◌≡◌, ◌<◌, ◌++◌, ◌∷◌, IfNone, ℕ, ◌+◌, ◌-◌, ◌≤◌, ◌^◌, cond, ◌↔◌, IsTrue, IsSome, IfOk, IfErr, IfSome, OnOk, OnErr, IsOk, length, Some, None, Ok, []};
 
+use crate::cell_stage::CellStage;
 use crate::init::Init;
 use crate::init_call::InitCall;
 use crate::key_call::{KeyCall, KeyStage};
 use crate::once_table::OnceTable;
-use crate::stage::Stage;
 use mea_base::{NoMemory, Outbox, Poll};
 use std::alloc::Global;
 use std::hash::{BuildHasher, Hash};
@@ -42,10 +42,10 @@ impl<K: Eq + Hash + Drop, V: Clone, S: BuildHasher + Drop, W: Drop> Keyed<K, V, 
     ghost use Rattle.mea_once_core.specs.Cell.{Cell, Finds, PollsInit, queues_more};
     ghost use Rattle.mea_once_core.specs.Permit.{MayPoll, MayEnd};
     ghost use Rattle.mea_once_core.specs.Inserts.{IsIdle, last_value};
-    ghost use Rattle.mea_once_core.specs.declared.stage.Stage.TheVariants as stages;
+    ghost use Rattle.mea_once_core.specs.declared.cell_stage.CellStage.TheVariants as stages;
     ghost use Rattle.mea_once_core.specs.Waiting.{waiting_in};
     ghost use Rattle.mea_once_core.specs.Table.{number_of, HasCaller, HasRoom, Joins, Makes, fresh_entry};
-    ghost use Rattle.mea_once_core.specs.Keyed.{value_for, GivesUp, EndsCell, IsSameKeyed, LeavesEntry, Discards, MayPollKey, MayEndKey, EndsAt, HandsOut, Told, StepsCell, PollsCaller, StartsAt, StartsNew, HandsFirst, PollsKey, MayRun, TakesMemory};
+    ghost use Rattle.mea_once_core.specs.Keyed.{value_for, GivesUp, EndsCell, IsSameKeyed, LeavesEntry, Discards, MayPollKey, MayEndKey, EndsAt, HandsOut, AfterCellPoll, StepsCell, PollsCaller, StartsAt, StartsNew, HandsFirst, PollsKey, MayRun, TakesMemory};
 
     // A table with no entry. It takes no memory.
     pub(crate) fn with_hasher(alloc: Global, hasher: S) -> Self
@@ -70,14 +70,11 @@ impl<K: Eq + Hash + Drop, V: Clone, S: BuildHasher + Drop, W: Drop> Keyed<K, V, 
         ensures numbers { IfOk result (λ k. (key : K) → number_of K.eq k.table key ≡ None) }
         ensures wakes { IfOk result (λ k. k.wakes ≡ []) }
     {
-        match OnceTable::with_capacity_and_hasher(alloc, capacity, hasher) {
-            Ok(table) => Ok(Keyed {
-                table,
-                outbox: Outbox::new(alloc),
-                waiting: 0,
-            }),
-            Err(e) => Err(e),
-        }
+        Ok(Keyed {
+            table: OnceTable::with_capacity_and_hasher(alloc, capacity, hasher)?,
+            outbox: Outbox::new(alloc),
+            waiting: 0,
+        })
     }
 
     // A table of these pairs, in which the last pair of a key stands.
@@ -86,14 +83,11 @@ impl<K: Eq + Hash + Drop, V: Clone, S: BuildHasher + Drop, W: Drop> Keyed<K, V, 
         ensures values { IfOk result (λ k. (key : K) → value_for K.eq k key ≡ last_value K.eq pairs.items key) }
         ensures wakes { IfOk result (λ k. k.wakes ≡ []) }
     {
-        match OnceTable::from_pairs(alloc, pairs, hasher) {
-            Ok(table) => Ok(Keyed {
-                table,
-                outbox: Outbox::new(alloc),
-                waiting: 0,
-            }),
-            Err(e) => Err(e),
-        }
+        Ok(Keyed {
+            table: OnceTable::from_pairs(alloc, pairs, hasher)?,
+            outbox: Outbox::new(alloc),
+            waiting: 0,
+        })
     }
 
     // Polls a call. Where `once` its initialiser's value takes the entry out of the table.
@@ -292,7 +286,7 @@ impl<K: Eq + Hash + Drop, V: Clone, S: BuildHasher + Drop, W: Drop> Keyed<K, V, 
         requires init { answer ≡ Poll.Pending → I.may_poll call.old.call.init }
         requires filled { answer ≡ Poll.Ready (Ok tt) → IfSome (entry_at self.old.table number) (λ e. IsSome e.cell.value) }
         ensures again { MayRun I.may_poll call.new }
-        ensures told { (e : Shown V W) → entry_at self.old.table number ≡ Some e → Told K.eq once (Ok answer) self.old number e result self.new call.new.stage }
+        ensures told { (e : Shown V W) → entry_at self.old.table number ≡ Some e → AfterCellPoll K.eq once (Ok answer) self.old number e result self.new call.new.stage }
         ensures call { call.new.call ≡ call.old.call }
         ensures kept { IfErr result (λ failed. failed.0 ≡ None) }
         ensures succeeds { ((value : V) → V.is_infallible value) → IsOk result }
@@ -450,10 +444,7 @@ impl<K: Eq + Hash + Drop, V: Clone, S: BuildHasher + Drop, W: Drop> Keyed<K, V, 
         };
         match self.table.cell(number).get() {
             None => Ok(None),
-            Some(value) => match value.clone() {
-                Ok(value) => Ok(Some(value)),
-                Err(_) => Err(NoMemory),
-            },
+            Some(value) => Ok(Some(value.clone()?)),
         }
     }
 
@@ -475,7 +466,8 @@ impl<K: Eq + Hash + Drop, V: Clone, S: BuildHasher + Drop, W: Drop> Keyed<K, V, 
         ensures { IsTrue result ↔ MayPollKey K.eq self.now call.now }
     {
         match &call.stage {
-            KeyStage::New { key } => matches!(call.call.stage, Stage::New) && self.has_room(key),
+            KeyStage::New { key } => matches!(call.call.stage, CellStage::New)
+                && self.has_room(key),
             KeyStage::Calls { number } => self.may_poll_at(*number, call.call.stage),
             KeyStage::Kept { number } => self.is_kept_at(*number),
             KeyStage::Done => false,
@@ -514,7 +506,7 @@ impl<K: Eq + Hash + Drop, V: Clone, S: BuildHasher + Drop, W: Drop> Keyed<K, V, 
     }
 
     // Whether the entry has a caller, and a call of its cell at this stage may be polled.
-    fn may_poll_at(&self, number: usize, stage: Stage) -> bool
+    fn may_poll_at(&self, number: usize, stage: CellStage) -> bool
         ensures { IsTrue result ↔ ((e : Shown V W) × (entry_at self.now.table number ≡ Some e) × (1 ≤ e.callers) × MayPoll e.cell.permit stage) }
     {
         if !self.has_caller(number) {
@@ -524,7 +516,7 @@ impl<K: Eq + Hash + Drop, V: Clone, S: BuildHasher + Drop, W: Drop> Keyed<K, V, 
     }
 
     // Whether the entry has a caller, and a call of its cell at this stage may be ended.
-    fn may_end_at(&self, number: usize, stage: Stage) -> bool
+    fn may_end_at(&self, number: usize, stage: CellStage) -> bool
         ensures { IsTrue result ↔ ((e : Shown V W) × (entry_at self.now.table number ≡ Some e) × (1 ≤ e.callers) × MayEnd e.cell.permit stage) }
     {
         if !self.has_caller(number) {
@@ -552,7 +544,8 @@ impl<K: Eq + Hash + Drop, V: Clone, S: BuildHasher + Drop, W: Drop> Keyed<K, V, 
 
     // How many wakers are ready. It takes no memory.
     pub(crate) fn wakes_ready(&self) -> usize
-        ensures { result ≡ length self.now.wakes }
+        ensures is { result ≡ length self.now.wakes }
+        ensures bound { result < 2 ^ 63 }
     {
         self.outbox.len()
     }

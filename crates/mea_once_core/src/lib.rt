@@ -9,6 +9,7 @@
 #![tactic(auto)]
 
 mod cell_core;
+mod cell_stage;
 mod cell_turn;
 mod entries;
 mod entry;
@@ -24,9 +25,9 @@ mod never;
 mod once_core;
 mod once_table;
 mod permit;
-mod stage;
 
 pub use cell_core::CellCore;
+pub use cell_stage::CellStage;
 pub use cell_turn::CellTurn;
 pub use flight_core::FlightCore;
 pub use init::Init;
@@ -38,4 +39,3 @@ pub use map_core::MapCore;
 pub use never::Never;
 pub use once_core::OnceCore;
 pub use once_table::OnceTable;
-pub use stage::Stage;

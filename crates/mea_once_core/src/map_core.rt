@@ -1,4 +1,4 @@
-ghost use Rattle.std.specs.Prelude.{◌≡◌, ◌↔◌, ℕ, [], ◌∷◌, length, true, false, Some, None, IsTrue, IsSome, IsOk, IfOk, IfErr, OnErr, IfSome, IfNone, OnOk, MatchResult};
+ghost use Rattle.std.specs.Prelude.{◌≡◌, ◌<◌, ◌^◌, ◌↔◌, ℕ, [], ◌∷◌, length, true, false, Some, None, IsTrue, IsSome, IsOk, IfOk, IfErr, OnErr, IfSome, IfNone, OnOk, MatchResult};
 
 use crate::init::Init;
 use crate::key_call::KeyCall;
@@ -54,10 +54,8 @@ impl<K: Eq + Hash + Drop, V: Clone, S: BuildHasher + Drop, W: Drop> MapCore<K, V
         ensures numbers { IfOk result (λ m. (key : K) → number_of K.eq m.table key ≡ None) }
         ensures wakes { IfOk result (λ m. m.wakes ≡ []) }
     {
-        match Keyed::with_capacity_and_hasher(alloc, capacity, hasher) {
-            Ok(keyed) => Ok(MapCore { keyed }),
-            Err(e) => Err(e),
-        }
+        let keyed = Keyed::with_capacity_and_hasher(alloc, capacity, hasher)?;
+        Ok(MapCore { keyed })
     }
 
     /// A map of these pairs, in which the last pair of a key stands.
@@ -66,10 +64,8 @@ impl<K: Eq + Hash + Drop, V: Clone, S: BuildHasher + Drop, W: Drop> MapCore<K, V
         ensures values { IfOk result (λ m. (key : K) → value_for K.eq m key ≡ last_value K.eq pairs.items key) }
         ensures wakes { IfOk result (λ m. m.wakes ≡ []) }
     {
-        match Keyed::from_pairs(alloc, pairs, hasher) {
-            Ok(keyed) => Ok(MapCore { keyed }),
-            Err(e) => Err(e),
-        }
+        let keyed = Keyed::from_pairs(alloc, pairs, hasher)?;
+        Ok(MapCore { keyed })
     }
 
     /// Polls a call: ready with the key's value, be it computed by this call or by another, or with the error
@@ -185,7 +181,8 @@ impl<K: Eq + Hash + Drop, V: Clone, S: BuildHasher + Drop, W: Drop> MapCore<K, V
 
     /// How many wakers are ready. It takes no memory.
     pub fn wakes_ready(&self) -> usize
-        ensures { result ≡ length self.now.wakes }
+        ensures is { result ≡ length self.now.wakes }
+        ensures bound { result < 2 ^ 63 }
     {
         self.keyed.wakes_ready()
     }

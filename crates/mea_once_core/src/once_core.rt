@@ -1,4 +1,4 @@
-ghost use Rattle.std.specs.Prelude.{◌≡◌, ◌+◌, ◌≤◌, ◌↔◌, [], ◌∷◌, ◌++◌, length, true, IsTrue, IsOk, IfOk, IfSome, IfNone, OnOk, OnErr};
+ghost use Rattle.std.specs.Prelude.{◌≡◌, ◌+◌, ◌<◌, ◌≤◌, ◌^◌, ◌↔◌, [], ◌∷◌, ◌++◌, length, true, IsTrue, IsOk, IfOk, IfSome, IfNone, OnOk, OnErr};
 ghost use Rattle.mea_sets.specs.WaitSet.{has_given, is_registered};
 ghost use Rattle.mea_sets.specs.Countdown.{Counting, PollsCount};
 ghost use Rattle.mea_meet_core.specs.Count.{usable};
@@ -9,11 +9,11 @@ ghost use Rattle.mea_once_core.specs.Cell.{HasTurn, renewed_init};
 ghost use Rattle.mea_once_core.specs.Once.{Once, IsSound, uncalled, count_after, woken, quieted, with_cell, TurnsCall, PollsCall, EndsCall, answered};
 
 use crate::cell_core::CellCore;
+use crate::cell_stage::CellStage;
 use crate::cell_turn::CellTurn;
 use crate::init::Init;
 use crate::init_call::InitCall;
 use crate::never::Never;
-use crate::stage::Stage;
 use mea_base::{NoMemory, Outbox, Poll};
 use mea_meet_core::{LatchCore, LatchWait};
 use std::alloc::Global;
@@ -111,7 +111,11 @@ impl<W: Drop> OnceCore<W> {
     /// Polls a call for its turn: a call has completed; or none has and the turn is this call's, which then ends by
     /// `complete` or `give_up`; or another call has it. It takes memory only where a new call has to queue, and
     /// where there is none it hands the waker back.
-    pub fn poll_turn(&mut self, stage: &mut Stage, waker: W) -> Result<CellTurn<W>, (W, NoMemory)>
+    pub fn poll_turn(
+        &mut self,
+        stage: &mut CellStage,
+        waker: W,
+    ) -> Result<CellTurn<W>, (W, NoMemory)>
         requires { MayPoll self.old.cell.permit stage.old }
         ensures polls { TurnsCall self.old stage.old waker result self.new stage.new }
         ensures turn { IfOk result (λ turn. HasTurn turn self.new.cell stage.new) }
@@ -142,10 +146,10 @@ impl<W: Drop> OnceCore<W> {
 
     /// Completes it, for the call whose turn it is, which ends: all who wait for that are woken, in the order of
     /// their registration, and then the next caller. It takes no memory.
-    pub fn complete(&mut self, stage: &mut Stage)
+    pub fn complete(&mut self, stage: &mut CellStage)
         requires { 1 ≤ held_of self.old.cell.permit }
         ensures is { self.new ≡ with_cell self.old (cells.filled self.old.cell tt) }
-        ensures stage { stage.new ≡ Stage.Done }
+        ensures stage { stage.new ≡ CellStage.Done }
         ensures held { held_of self.new.cell.permit ≡ 0 }
         ensures sound { IsSound self.new }
     {
@@ -155,10 +159,10 @@ impl<W: Drop> OnceCore<W> {
 
     /// Gives the turn up, for the call whose turn it is, which ends: the next caller's waker is ready. It takes no
     /// memory.
-    pub fn give_up(&mut self, stage: &mut Stage)
+    pub fn give_up(&mut self, stage: &mut CellStage)
         requires { 1 ≤ held_of self.old.cell.permit }
         ensures is { self.new ≡ with_cell self.old (cells.given_up self.old.cell) }
-        ensures stage { stage.new ≡ Stage.Done }
+        ensures stage { stage.new ≡ CellStage.Done }
         ensures held { held_of self.new.cell.permit ≡ 0 }
         ensures sound { IsSound self.new }
     {
@@ -234,7 +238,8 @@ impl<W: Drop> OnceCore<W> {
 
     /// How many wakers are ready. It takes no memory.
     pub fn wakes_ready(&self) -> usize
-        ensures { result ≡ length self.now.wakes }
+        ensures is { result ≡ length self.now.wakes }
+        ensures bound { result < 2 ^ 63 }
     {
         self.outbox.len()
     }

@@ -68,12 +68,8 @@ impl<K: Eq + Hash + Drop, V: Drop, S: BuildHasher + Drop, W: Drop> OnceTable<K, 
         ensures entries { IfOk result (λ t. (n : ℕ) → entry_at t n ≡ None) }
         ensures numbers { IfOk result (λ t. (key : K) → number_of K.eq t key ≡ None) }
     {
-        let Ok(entries) = Slab::with_capacity(alloc, capacity) else {
-            return Err(NoMemory);
-        };
-        let Ok(numbers) = IndexMap::with_capacity_and_hasher(alloc, capacity, hasher) else {
-            return Err(NoMemory);
-        };
+        let entries = Slab::with_capacity(alloc, capacity)?;
+        let numbers = IndexMap::with_capacity_and_hasher(alloc, capacity, hasher)?;
         Ok(OnceTable {
             entries,
             numbers,

@@ -1,8 +1,8 @@
-ghost use Rattle.std.specs.Prelude.{◌≡◌, ◌+◌, ◌≤◌, ◌↔◌, [], ◌∷◌, ◌++◌, length, IsTrue, IfOk, IfSome, IfNone, OnErr};
+ghost use Rattle.std.specs.Prelude.{◌≡◌, ◌+◌, ◌<◌, ◌≤◌, ◌^◌, ◌↔◌, [], ◌∷◌, ◌++◌, length, IsTrue, IfOk, IfSome, IfNone, OnErr};
 ghost use Rattle.mea_sem_core.specs.Core.{held_of};
 ghost use Rattle.mea_once_core.specs.Permit.{HoldsAs, held_at, IsPermit, IsNext, asks_more, MayAsk, MayPoll, MayEnd, Asks, TakesPermit, Leaves, passed_on, free_permit};
 
-use crate::stage::Stage;
+use crate::cell_stage::CellStage;
 use mea_base::{NoMemory, Outbox, Turn};
 use mea_sem_core::{Acquire, SemCore};
 use std::alloc::Global;
@@ -41,7 +41,7 @@ impl<W: Drop> Permit<W> {
 
     // Asks for the permit: ready with it and the waker, or pending with the waker kept until the next poll.
     // It takes memory only where a new call has to queue; where there is none nothing has changed.
-    pub(crate) fn ask(&mut self, stage: &mut Stage, waker: W) -> Result<Turn<W>, (W, NoMemory)>
+    pub(crate) fn ask(&mut self, stage: &mut CellStage, waker: W) -> Result<Turn<W>, (W, NoMemory)>
         requires { MayAsk self.old stage.old }
         ensures asks { Asks self.old stage.old waker result self.new stage.new }
         ensures takes { IfOk result (λ turn. TakesPermit self.old turn self.new) }
@@ -53,7 +53,7 @@ impl<W: Drop> Permit<W> {
     {
         let mut acquire = stage.acquire();
         let turn = self.sem.poll(&mut acquire, waker)?;
-        *stage = Stage::after(acquire);
+        *stage = CellStage::after(acquire);
         Ok(turn)
     }
 
@@ -69,7 +69,7 @@ impl<W: Drop> Permit<W> {
     }
 
     // Ends a call: it gives up its place, or the permit, which goes to the next. It takes no memory.
-    pub(crate) fn leave(&mut self, stage: Stage)
+    pub(crate) fn leave(&mut self, stage: CellStage)
         requires { MayEnd self.old stage }
         ensures leaves { Leaves self.old stage self.new }
         ensures held { held_of self.new + held_at stage ≡ held_of self.old }
@@ -78,9 +78,9 @@ impl<W: Drop> Permit<W> {
     {
         let _ = self.is_free();
         match stage {
-            Stage::New | Stage::Done => {}
-            Stage::Queued { number } => self.sem.cancel(Acquire::Queued { demand: 1, number }),
-            Stage::Running => self.pass_on(),
+            CellStage::New | CellStage::Done => {}
+            CellStage::Queued { number } => self.sem.cancel(Acquire::Queued { demand: 1, number }),
+            CellStage::Running => self.pass_on(),
         }
     }
 
@@ -108,36 +108,36 @@ impl<W: Drop> Permit<W> {
     }
 
     // Whether the call is one of this permit's that was not ready yet, as a poll asks. It takes no memory.
-    pub(crate) fn may_poll(&self, stage: Stage) -> bool
+    pub(crate) fn may_poll(&self, stage: CellStage) -> bool
         ensures { IsTrue result ↔ MayPoll self.now stage }
     {
         match stage {
-            Stage::New => true,
-            Stage::Queued { .. } => self.sem.poll_allowed(&stage.acquire()),
-            Stage::Running => self.is_held(),
-            Stage::Done => false,
+            CellStage::New => true,
+            CellStage::Queued { .. } => self.sem.poll_allowed(&stage.acquire()),
+            CellStage::Running => self.is_held(),
+            CellStage::Done => false,
         }
     }
 
     // Whether the call is one of this permit's, as its end asks. It takes no memory.
-    pub(crate) fn may_end(&self, stage: Stage) -> bool
+    pub(crate) fn may_end(&self, stage: CellStage) -> bool
         ensures { IsTrue result ↔ MayEnd self.now stage }
     {
         match stage {
-            Stage::New | Stage::Done => true,
-            Stage::Queued { .. } => self.sem.poll_allowed(&stage.acquire()),
-            Stage::Running => self.is_held(),
+            CellStage::New | CellStage::Done => true,
+            CellStage::Queued { .. } => self.sem.poll_allowed(&stage.acquire()),
+            CellStage::Running => self.is_held(),
         }
     }
 
     // Whether the call has not the permit yet and is one of this permit's. It takes no memory.
-    pub(crate) fn may_ask(&self, stage: Stage) -> bool
+    pub(crate) fn may_ask(&self, stage: CellStage) -> bool
         ensures { IsTrue result ↔ MayAsk self.now stage }
     {
         match stage {
-            Stage::New => true,
-            Stage::Queued { .. } => self.sem.poll_allowed(&stage.acquire()),
-            Stage::Running | Stage::Done => false,
+            CellStage::New => true,
+            CellStage::Queued { .. } => self.sem.poll_allowed(&stage.acquire()),
+            CellStage::Running | CellStage::Done => false,
         }
     }
 
@@ -150,7 +150,8 @@ impl<W: Drop> Permit<W> {
 
     // How many wakers are to be called. It takes no memory.
     pub(crate) fn wakes_ready(&self) -> usize
-        ensures { result ≡ length self.now.wakes }
+        ensures is { result ≡ length self.now.wakes }
+        ensures bound { result < 2 ^ 63 }
     {
         self.sem.wakes_ready()
     }

@@ -2,7 +2,7 @@ use crate::inits::{Computes, Settling};
 use crate::play::Told;
 use crate::play::Told::{Back, Done, Error, Nothing, Pending, Value};
 use mea_base::Poll;
-use mea_once_core::{CellCore, CellTurn, InitCall, InsertCall, Stage};
+use mea_once_core::{CellCore, CellStage, CellTurn, InitCall, InsertCall};
 use mea_test_support::{Plays, differs_at};
 use std::alloc::Global;
 
@@ -116,7 +116,7 @@ fn insert_ended(cell: &mut Cell, call: &mut Option<Insert>) -> Option<Told> {
 }
 
 fn turned(cell: &mut Cell, calls: &mut Vec<Option<Init>>, waker: u64) -> Option<Told> {
-    let mut stage = Stage::New;
+    let mut stage = CellStage::New;
     match cell.poll_turn(&mut stage, waker) {
         Ok(CellTurn::Mine(waker)) => {
             let init = Settling::new();

@@ -1,7 +1,7 @@
 use crate::claim::{Claim, Claimed, Claiming, Step, told};
 use crate::computed::Computed;
 use crate::keyed::filling::KeyFilling;
-use crate::keyed::key_core::KeyCore;
+use crate::keyed::keyed_core::KeyedCore;
 use crate::keyed::{Keyed, clone_of, steps};
 use crate::promise::Promise;
 use mea_base::{NoMemory, Poll, Wake};
@@ -13,7 +13,7 @@ use std::sync::Wait;
 /// A wait for the value of a key, or for the turn to compute it. It must be polled to its end, or ended.
 pub struct KeyClaiming<'a, C, K, V, W> {
     of: &'a Keyed<C>,
-    stage: Stage<K, V, W>,
+    stage: ClaimingStage<K, V, W>,
 }
 
 /// The turn to compute the value of a key. It must be spent: by `finish`, or by `end`, which passes the turn on.
@@ -23,7 +23,7 @@ pub struct KeyClaim<'a, C, K, V, W> {
 }
 
 // How far such a wait is.
-enum Stage<K, V, W> {
+enum ClaimingStage<K, V, W> {
     // It asks the core.
     Asks(KeyCall<K, Promise<Computed<V>, W>>),
     // It has the value, of which a clone found no memory.
@@ -37,11 +37,11 @@ impl<C> Keyed<C> {
         key: K,
     ) -> KeyClaiming<'_, C, K, V, W>
     where
-        C: KeyCore<K, V, W>,
+        C: KeyedCore<K, V, W>,
     {
         KeyClaiming {
             of: self,
-            stage: Stage::Asks(KeyCall::new(key, Promise::new())),
+            stage: ClaimingStage::Asks(KeyCall::new(key, Promise::new())),
         }
     }
 
@@ -52,7 +52,7 @@ impl<C> Keyed<C> {
         call: KeyCall<K, Promise<Computed<V>, W>>,
     )
     where
-        C: KeyCore<K, V, W>,
+        C: KeyedCore<K, V, W>,
     {
         let mut call = call;
         let _kept = call.call.init.take();
@@ -70,7 +70,7 @@ impl<C> Keyed<C> {
     }
 }
 
-impl<'a, C: KeyCore<K, V, W>, K: Eq + Hash + Drop, V: Clone + Drop, W: Wake> KeyClaim<
+impl<'a, C: KeyedCore<K, V, W>, K: Eq + Hash + Drop, V: Clone + Drop, W: Wake> KeyClaim<
     'a,
     C,
     K,
@@ -85,18 +85,18 @@ impl<'a, C: KeyCore<K, V, W>, K: Eq + Hash + Drop, V: Clone + Drop, W: Wake> Key
     }
 }
 
-impl<'a, C: KeyCore<K, V, W>, K: Eq + Hash + Drop, V: Clone + Drop, W: Wake> End
+impl<'a, C: KeyedCore<K, V, W>, K: Eq + Hash + Drop, V: Clone + Drop, W: Wake> End
     for KeyClaiming<'a, C, K, V, W> {
     fn end<R: Wait>(self, rt: &R) {
         let KeyClaiming { of, stage } = self;
         match stage {
-            Stage::Asks(call) => of.abandon(rt, call),
-            Stage::Has(_) => {}
+            ClaimingStage::Asks(call) => of.abandon(rt, call),
+            ClaimingStage::Has(_) => {}
         }
     }
 }
 
-impl<'a, C: KeyCore<K, V, W>, K: Eq + Hash + Drop, V: Clone + Drop, W: Wake> End
+impl<'a, C: KeyedCore<K, V, W>, K: Eq + Hash + Drop, V: Clone + Drop, W: Wake> End
     for KeyClaim<'a, C, K, V, W> {
     fn end<R: Wait>(self, rt: &R) {
         let KeyClaim { of, call } = self;
@@ -104,7 +104,7 @@ impl<'a, C: KeyCore<K, V, W>, K: Eq + Hash + Drop, V: Clone + Drop, W: Wake> End
     }
 }
 
-impl<'a, C: KeyCore<K, V, W>, K: Eq + Hash + Drop, V: Clone + Drop, W: Wake> Claim<
+impl<'a, C: KeyedCore<K, V, W>, K: Eq + Hash + Drop, V: Clone + Drop, W: Wake> Claim<
     V,
     V,
     KeyFilling<'a, C, K, V, W>,
@@ -114,7 +114,7 @@ impl<'a, C: KeyCore<K, V, W>, K: Eq + Hash + Drop, V: Clone + Drop, W: Wake> Cla
     }
 }
 
-impl<'a, C: KeyCore<K, V, W>, K: Eq + Hash + Drop, V: Clone + Drop, W: Wake> Claiming<
+impl<'a, C: KeyedCore<K, V, W>, K: Eq + Hash + Drop, V: Clone + Drop, W: Wake> Claiming<
     W,
     V,
     KeyClaim<'a, C, K, V, W>,
@@ -122,8 +122,8 @@ impl<'a, C: KeyCore<K, V, W>, K: Eq + Hash + Drop, V: Clone + Drop, W: Wake> Cla
     fn poll_claim<R: Wait>(self, rt: &R, waker: W) -> Step<Self, KeyClaim<'a, C, K, V, W>, V, W> {
         let KeyClaiming { of, stage } = self;
         let mut call = match stage {
-            Stage::Asks(call) => call,
-            Stage::Has(kept) => return has(of, kept, Some(waker)),
+            ClaimingStage::Asks(call) => call,
+            ClaimingStage::Has(kept) => return has(of, kept, Some(waker)),
         };
         let (answer, made) = steps::poll(&mut *of.core.lock(rt), &mut call, Some(waker));
         of.wake(rt, made);
@@ -134,13 +134,13 @@ impl<'a, C: KeyCore<K, V, W>, K: Eq + Hash + Drop, V: Clone + Drop, W: Wake> Cla
                 Some(waker) => Step::Mine(KeyClaim { of, call }, waker),
                 None => Step::Pending(KeyClaiming {
                     of,
-                    stage: Stage::Asks(call),
+                    stage: ClaimingStage::Asks(call),
                 }),
             },
             Err((waker, NoMemory)) => Step::Refused(
                 KeyClaiming {
                     of,
-                    stage: Stage::Asks(call),
+                    stage: ClaimingStage::Asks(call),
                 },
                 flat(waker),
             ),
@@ -159,7 +159,7 @@ fn has<'a, C, K, V: Clone + Drop, W: Drop>(
         Err(NoMemory) => Step::Refused(
             KeyClaiming {
                 of,
-                stage: Stage::Has(kept),
+                stage: ClaimingStage::Has(kept),
             },
             waker,
         ),
@@ -174,7 +174,7 @@ pub(super) fn flat<W>(waker: Option<Option<W>>) -> Option<W> {
     }
 }
 
-impl<'a, C: KeyCore<K, V, W>, K: Eq + Hash + Drop, V: Clone + Drop, W: Wake> Waits<
+impl<'a, C: KeyedCore<K, V, W>, K: Eq + Hash + Drop, V: Clone + Drop, W: Wake> Waits<
     W,
     Claimed<V, KeyClaim<'a, C, K, V, W>>,
 > for KeyClaiming<'a, C, K, V, W> {

@@ -1,7 +1,7 @@
 use crate::claim::{Claiming, Step};
 use crate::computed::Computed;
 use crate::keyed::claiming::flat;
-use crate::keyed::key_core::KeyCore;
+use crate::keyed::keyed_core::KeyedCore;
 use crate::keyed::{Keyed, clone_of, steps};
 use crate::promise::Promise;
 use mea_base::{NoMemory, Poll, Wake};
@@ -14,11 +14,11 @@ use std::sync::Wait;
 /// to its end, or ended; ended before the value was kept, it passes the turn on.
 pub struct KeyFilling<'a, C, K, V, W> {
     of: &'a Keyed<C>,
-    stage: Stage<K, V, W>,
+    stage: FillingStage<K, V, W>,
 }
 
 // How far such a wait is.
-enum Stage<K, V, W> {
+enum FillingStage<K, V, W> {
     // It has the turn, and the value.
     Gives(KeyCall<K, Promise<Computed<V>, W>>, V),
     // The core has the value, and hands it out.
@@ -30,8 +30,8 @@ enum Stage<K, V, W> {
 // What one try came to.
 enum Tried<K, V, W> {
     There(V),
-    Pending(Stage<K, V, W>),
-    Refused(Stage<K, V, W>, Option<W>),
+    Pending(FillingStage<K, V, W>),
+    Refused(FillingStage<K, V, W>, Option<W>),
 }
 
 impl<C> Keyed<C> {
@@ -43,7 +43,7 @@ impl<C> Keyed<C> {
         value: V,
     ) -> Result<V, KeyFilling<'_, C, K, V, W>>
     where
-        C: KeyCore<K, V, W>,
+        C: KeyedCore<K, V, W>,
     {
         match self.give(rt, call, value) {
             Tried::There(value) => Ok(value),
@@ -60,7 +60,7 @@ impl<C> Keyed<C> {
         value: V,
     ) -> Tried<K, V, W>
     where
-        C: KeyCore<K, V, W>,
+        C: KeyedCore<K, V, W>,
     {
         let mut call = call;
         match Computed::new(self.alloc, value) {
@@ -68,7 +68,7 @@ impl<C> Keyed<C> {
                 call.call.init.put(kept);
                 self.ask(rt, call, None)
             }
-            Err(value) => Tried::Refused(Stage::Gives(call, value), None),
+            Err(value) => Tried::Refused(FillingStage::Gives(call, value), None),
         }
     }
 
@@ -80,7 +80,7 @@ impl<C> Keyed<C> {
         waker: Option<W>,
     ) -> Tried<K, V, W>
     where
-        C: KeyCore<K, V, W>,
+        C: KeyedCore<K, V, W>,
     {
         let mut call = call;
         let (answer, made) = steps::poll(&mut *self.core.lock(rt), &mut call, waker);
@@ -88,8 +88,8 @@ impl<C> Keyed<C> {
         match answer {
             Ok(Poll::Ready(Ok(kept))) => copied(kept, None),
             Ok(Poll::Ready(Err(never))) => match never {},
-            Ok(Poll::Pending) => Tried::Pending(Stage::Asks(call)),
-            Err((waker, NoMemory)) => Tried::Refused(Stage::Asks(call), flat(waker)),
+            Ok(Poll::Pending) => Tried::Pending(FillingStage::Asks(call)),
+            Err((waker, NoMemory)) => Tried::Refused(FillingStage::Asks(call), flat(waker)),
         }
     }
 }
@@ -98,30 +98,30 @@ impl<C> Keyed<C> {
 fn copied<K, V: Clone + Drop, W: Drop>(kept: Computed<V>, waker: Option<W>) -> Tried<K, V, W> {
     match clone_of(&kept) {
         Ok(value) => Tried::There(value),
-        Err(NoMemory) => Tried::Refused(Stage::Has(kept), waker),
+        Err(NoMemory) => Tried::Refused(FillingStage::Has(kept), waker),
     }
 }
 
-impl<'a, C: KeyCore<K, V, W>, K: Eq + Hash + Drop, V: Clone + Drop, W: Wake> End
+impl<'a, C: KeyedCore<K, V, W>, K: Eq + Hash + Drop, V: Clone + Drop, W: Wake> End
     for KeyFilling<'a, C, K, V, W> {
     fn end<R: Wait>(self, rt: &R) {
         let KeyFilling { of, stage } = self;
         match stage {
-            Stage::Gives(call, _) => of.abandon(rt, call),
-            Stage::Asks(call) => of.abandon(rt, call),
-            Stage::Has(_) => {}
+            FillingStage::Gives(call, _) => of.abandon(rt, call),
+            FillingStage::Asks(call) => of.abandon(rt, call),
+            FillingStage::Has(_) => {}
         }
     }
 }
 
-impl<'a, C: KeyCore<K, V, W>, K: Eq + Hash + Drop, V: Clone + Drop, W: Wake> Claiming<W, V, Never>
+impl<'a, C: KeyedCore<K, V, W>, K: Eq + Hash + Drop, V: Clone + Drop, W: Wake> Claiming<W, V, Never>
     for KeyFilling<'a, C, K, V, W> {
     fn poll_claim<R: Wait>(self, rt: &R, waker: W) -> Step<Self, Never, V, W> {
         let KeyFilling { of, stage } = self;
         let tried = match stage {
-            Stage::Gives(call, value) => of.give(rt, call, value),
-            Stage::Asks(call) => of.ask(rt, call, Some(waker)),
-            Stage::Has(kept) => copied(kept, Some(waker)),
+            FillingStage::Gives(call, value) => of.give(rt, call, value),
+            FillingStage::Asks(call) => of.ask(rt, call, Some(waker)),
+            FillingStage::Has(kept) => copied(kept, Some(waker)),
         };
         match tried {
             Tried::There(value) => Step::There(value),
@@ -131,7 +131,7 @@ impl<'a, C: KeyCore<K, V, W>, K: Eq + Hash + Drop, V: Clone + Drop, W: Wake> Cla
     }
 }
 
-impl<'a, C: KeyCore<K, V, W>, K: Eq + Hash + Drop, V: Clone + Drop, W: Wake> Waits<W, V>
+impl<'a, C: KeyedCore<K, V, W>, K: Eq + Hash + Drop, V: Clone + Drop, W: Wake> Waits<W, V>
     for KeyFilling<'a, C, K, V, W> {
     fn poll<R: Wait>(self, rt: &R, waker: W) -> Result<Polled<Self, V>, Unpolled<Self, W>> {
         match self.poll_claim(rt, waker) {

@@ -5,7 +5,7 @@ ghost use Rattle.mea_once_core.specs.Keyed.{MayPollKey, MayEndKey, EndsAt, Polls
 ghost use Rattle.mea_keep.specs.Promise.{Promises};
 
 use crate::computed::Computed;
-use crate::keyed::key_core::KeyCore;
+use crate::keyed::keyed_core::KeyedCore;
 use crate::promise::Promise;
 use mea_base::{NoMemory, Poll};
 use mea_once_core::{KeyCall, KeyStage, Never};
@@ -18,7 +18,7 @@ pub(super) type Answer<V, W> = Result<
 >;
 
 // Polls a call.
-pub(super) fn poll<K: Eq + Hash, V, W, C: KeyCore<K, V, W>>(
+pub(super) fn poll<K: Eq + Hash, V, W, C: KeyedCore<K, V, W>>(
     core: &mut C,
     call: &mut KeyCall<K, Promise<Computed<V>, W>>,
     waker: Option<W>,
@@ -33,7 +33,7 @@ pub(super) fn poll<K: Eq + Hash, V, W, C: KeyCore<K, V, W>>(
 }
 
 // Polls a call that is an entry's caller, so that a value that is there for it is handed out and not dropped by the core.
-pub(super) fn take<K: Eq + Hash, V, W, C: KeyCore<K, V, W>>(
+pub(super) fn take<K: Eq + Hash, V, W, C: KeyedCore<K, V, W>>(
     core: &mut C,
     call: &mut KeyCall<K, Promise<Computed<V>, W>>,
 ) -> Option<(Answer<V, W>, usize)>
@@ -53,7 +53,7 @@ pub(super) fn take<K: Eq + Hash, V, W, C: KeyCore<K, V, W>>(
 }
 
 // Ends a call, which passes its turn on.
-pub(super) fn end<K: Eq + Hash, V, W, C: KeyCore<K, V, W>>(
+pub(super) fn end<K: Eq + Hash, V, W, C: KeyedCore<K, V, W>>(
     core: &mut C,
     call: KeyCall<K, Promise<Computed<V>, W>>,
 ) -> usize

@@ -1,7 +1,7 @@
 mod steps;
 mod waits;
 
-use crate::claim::Ready;
+use crate::claim::ReadyValue;
 use crate::computing::Computing;
 use crate::unfailing::Unfailing;
 use mea_base::Wake;
@@ -27,7 +27,7 @@ struct Calls<W> {
 
 /// The future of `Once::call_once`.
 pub type OnceCall<'a, I, W> = Unfailing<
-    Computing<OnceClaiming<'a, W>, OnceClaim<'a, W>, Ready<()>, I, (), Never>,
+    Computing<OnceClaiming<'a, W>, OnceClaim<'a, W>, ReadyValue<()>, I, (), Never>,
 >;
 
 impl<W: Wake> Once<W> {

@@ -3,7 +3,7 @@ mod puts;
 mod steps;
 mod waits;
 
-use crate::claim::Ready;
+use crate::claim::ReadyValue;
 use crate::computing::Computing;
 use crate::unfailing::Unfailing;
 pub use inits::{CellMutInit, CellMutTryInit};
@@ -30,7 +30,7 @@ pub struct OnceCell<T, W> {
 pub type CellTryInit<'a, T, E, I, W> = Computing<
     CellClaiming<'a, T, W>,
     CellClaim<'a, T, W>,
-    Ready<&'a T>,
+    ReadyValue<&'a T>,
     I,
     T,
     E,
@@ -151,10 +151,7 @@ impl<T: Drop, W: Wake> OnceCell<T, W> {
         T: Clone,
     {
         match self.get() {
-            Some(value) => match value.clone() {
-                Ok(value) => Ok(OnceCell::from_value(self.alloc, value)),
-                Err(_) => Err(NoMemory),
-            },
+            Some(value) => Ok(OnceCell::from_value(self.alloc, value.clone()?)),
             None => Ok(OnceCell::new(self.alloc)),
         }
     }

@@ -95,9 +95,7 @@ impl<K: Eq + Hash + Drop, V: Clone + Drop, S: BuildHasher + Drop, W: Wake> OnceM
             let Ok(value) = Computed::new(alloc, value) else {
                 return Err(NoMemory);
             };
-            let Ok(()) = kept.push((key, value)) else {
-                return Err(NoMemory);
-            };
+            kept.push((key, value))?;
         }
         let core = MapCore::from_pairs(alloc, kept, hasher)?;
         Ok(OnceMap {

@@ -1,6 +1,6 @@
 ghost use Rattle.std.specs.Prelude.{IsOk};
 
-use crate::claim::{Claim, Claimed, Claiming, Ready, Step, told};
+use crate::claim::{Claim, Claimed, Claiming, ReadyValue, Step, told};
 use crate::once::call::{Calls, Once, steps};
 use crate::promise::Promise;
 use mea_base::{NoMemory, Poll, Wake};
@@ -111,8 +111,8 @@ impl<W: Wake, H: Holds<Once<W>>> CallClaim<H, W> {
     }
 }
 
-impl<W: Wake, H: Holds<Once<W>>> Claim<(), (), Ready<()>> for CallClaim<H, W> {
-    fn finish<R: Wait>(self, rt: &R, _value: ()) -> Result<(), Ready<()>>
+impl<W: Wake, H: Holds<Once<W>>> Claim<(), (), ReadyValue<()>> for CallClaim<H, W> {
+    fn finish<R: Wait>(self, rt: &R, _value: ()) -> Result<(), ReadyValue<()>>
         ensures { IsOk result }
     {
         CallClaim::finish(self, rt);

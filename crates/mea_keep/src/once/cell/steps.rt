@@ -5,7 +5,7 @@ ghost use Rattle.mea_once_core.specs.Permit.{MayPoll, MayEnd};
 ghost use Rattle.mea_once_core.specs.Cell.{PollsTurn, Ends, filled, given_up};
 
 use mea_base::NoMemory;
-use mea_once_core::{CellCore, CellTurn, InitCall, Stage};
+use mea_once_core::{CellCore, CellStage, CellTurn, InitCall};
 
 // Polls a call for its turn, which is a new one where it is not one of this cell that was not ready yet.
 pub(super) fn poll<W: Drop>(
@@ -14,7 +14,7 @@ pub(super) fn poll<W: Drop>(
     waker: W,
 ) -> (Result<CellTurn<W>, (W, NoMemory)>, usize)
     ensures allowed { MayPoll core.old.permit call.old.stage → PollsTurn call.old.stage core.old waker result.0 core.new call.new.stage }
-    ensures renewed { ¬ MayPoll core.old.permit call.old.stage → PollsTurn Stage.New core.old waker result.0 core.new call.new.stage }
+    ensures renewed { ¬ MayPoll core.old.permit call.old.stage → PollsTurn CellStage.New core.old waker result.0 core.new call.new.stage }
     ensures made { result.1 ≡ length core.new.permit.wakes - length core.old.permit.wakes }
 {
     let before = core.wakes_ready();
@@ -34,7 +34,7 @@ pub(super) fn fill<W: Drop>(core: &mut CellCore<(), W>) -> usize
     let before = core.wakes_ready();
     let mut call = InitCall {
         init: (),
-        stage: Stage::Running,
+        stage: CellStage::Running,
     };
     if core.end_init_allowed(&call) {
         core.fill(&mut call.stage, ());
@@ -62,7 +62,7 @@ pub(super) fn give_up<W: Drop>(core: &mut CellCore<(), W>) -> usize
     let before = core.wakes_ready();
     let mut call = InitCall {
         init: (),
-        stage: Stage::Running,
+        stage: CellStage::Running,
     };
     if core.end_init_allowed(&call) {
         core.give_up(&mut call.stage);

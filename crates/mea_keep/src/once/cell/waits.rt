@@ -1,6 +1,6 @@
 ghost use Rattle.std.specs.Prelude.{IsOk};
 
-use crate::claim::{Claim, Claimed, Claiming, Ready, Step, told};
+use crate::claim::{Claim, Claimed, Claiming, ReadyValue, Step, told};
 use crate::once::cell::{OnceCell, steps};
 use mea_base::{NoMemory, Wake};
 use mea_once_core::{CellTurn, InitCall};
@@ -68,8 +68,8 @@ impl<'a, T: Drop, W: Wake> End for CellClaim<'a, T, W> {
     }
 }
 
-impl<'a, T: Drop, W: Wake> Claim<T, &'a T, Ready<&'a T>> for CellClaim<'a, T, W> {
-    fn finish<R: Wait>(self, rt: &R, value: T) -> Result<&'a T, Ready<&'a T>>
+impl<'a, T: Drop, W: Wake> Claim<T, &'a T, ReadyValue<&'a T>> for CellClaim<'a, T, W> {
+    fn finish<R: Wait>(self, rt: &R, value: T) -> Result<&'a T, ReadyValue<&'a T>>
         ensures { IsOk result }
     {
         Ok(CellClaim::finish(self, rt, value))

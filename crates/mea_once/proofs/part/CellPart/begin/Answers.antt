@@ -1,5 +1,5 @@
 use Rattle.std.proofs.Common.{refl}
-use Rattle.mea_once_core.specs.declared.stage.Stage.TheVariants.{New}
+use Rattle.mea_once_core.specs.declared.cell_stage.CellStage.TheVariants.{New}
 use Rattle.mea_once.proofs.PartEvents.{site, cell_there, few_futures, unchanged, begins_future}
 use Rattle.mea_once.proofs.part.CellPart.begin.Goals as goal
 

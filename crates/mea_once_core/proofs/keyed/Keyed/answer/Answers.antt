@@ -1,6 +1,6 @@
 use Rattle.std.proofs.Common.{◌∙◌, Ok, Err, None, IsSome, is_some, ap, sym, subst}
 use Rattle.mea_sets.specs.Poll.{Ready}
-use Rattle.mea_once_core.specs.Keyed.{Told}
+use Rattle.mea_once_core.specs.Keyed.{AfterCellPoll}
 use Rattle.mea_once_core.specs.declared.key_call.KeyStage.TheVariants.{Kept, Done}
 use Rattle.mea_once_core.proofs.Keyeds.{given-there, computed-none, computed-some, some-of}
 use Rattle.mea_once_core.proofs.Refusals.{given-value}
@@ -14,12 +14,12 @@ leave-requires-in-Ready-Ok g c = given-there g.K.PartialEq.eq c.args.self.now c.
 
 pub returns-in_default-clause-told : goal.returns-in_default-clause-told
 returns-in_default-clause-told g c = λ e there.
-    subst (λ a. Told g.K.PartialEq.eq c.args.once (Ok a) c.args.self.now c.args.number e (Err (None, record {})) c.give_up.new.self (Kept c.args.number)) (sym (c.in-Ready-Ok.is ∙ ap (λ x. Ready x) c.in-Ready-Ok.field-0-is))
+    subst (λ a. AfterCellPoll g.K.PartialEq.eq c.args.once (Ok a) c.args.self.now c.args.number e (Err (None, record {})) c.give_up.new.self (Kept c.args.number)) (sym (c.in-Ready-Ok.is ∙ ap (λ x. Ready x) c.in-Ready-Ok.field-0-is))
     (computed-none g.K.PartialEq.eq g.row.E.Denot c.args.self.now c.give_up.new.self c.args.number c.args.once e (record {}) (c.give_up.ensures e there))
 
 pub returns-in-Some-clause-told : goal.returns-in-Some-clause-told
 returns-in-Some-clause-told g c = λ e there.
-    subst (λ a. Told g.K.PartialEq.eq c.args.once (Ok a) c.args.self.now c.args.number e (Ok (Ready (Ok c.in-Some.value))) c.leave-in-Ready-Ok.new.self Done) (sym (c.in-Ready-Ok.is ∙ ap (λ x. Ready x) c.in-Ready-Ok.field-0-is))
+    subst (λ a. AfterCellPoll g.K.PartialEq.eq c.args.once (Ok a) c.args.self.now c.args.number e (Ok (Ready (Ok c.in-Some.value))) c.leave-in-Ready-Ok.new.self Done) (sym (c.in-Ready-Ok.is ∙ ap (λ x. Ready x) c.in-Ready-Ok.field-0-is))
     (computed-some g.K.PartialEq.eq g.row.E.Denot c.args.self.now c.give_up.new.self c.leave-in-Ready-Ok.new.self c.args.number c.args.once e c.in-Some.value (c.give_up.ensures e there) c.in-Some.ensures.is c.leave-in-Ready-Ok.ensures)
 
 pub returns-in_default-clause-succeeds : goal.returns-in_default-clause-succeeds

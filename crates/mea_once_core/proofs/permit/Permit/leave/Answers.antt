@@ -1,7 +1,7 @@
 use Rattle.std.proofs.Common.{◌≤◌, ◌+◌, length, sym, subst, rules}
 use Rattle.mea_sem_core.specs.Core.{Core}
 use Rattle.mea_once_core.specs.Permit.{MayEnd, Leaves}
-use Rattle.mea_once_core.specs.declared.stage.Stage.TheVariants.{Queued}
+use Rattle.mea_once_core.specs.declared.cell_stage.CellStage.TheVariants.{Queued}
 use Rattle.mea_once_core.proofs.Permits.{cancelled, cancelled_permit, few_cancelled}
 use Rattle.mea_once_core.proofs.permit.Permit.leave.Goals as goal
 

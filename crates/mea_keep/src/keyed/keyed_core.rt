@@ -9,7 +9,7 @@ use mea_once_core::{FlightCore, KeyCall, MapCore, Never};
 use std::hash::{BuildHasher, Hash};
 
 /// A core of calls by key, whose initialisers are promises: that of a map, or that of a group.
-pub trait KeyCore<K: Eq + Hash, V, W>: Drop {
+pub trait KeyedCore<K: Eq + Hash, V, W>: Drop {
     ghost use Rattle.mea_keep.specs.declared.computed.Computed.{Computed};
 
     // What a contract sees of it.
@@ -42,7 +42,7 @@ pub trait KeyCore<K: Eq + Hash, V, W>: Drop {
         ensures none { IfNone result (((shows self.old).wakes ≡ []) × (shows self.new ≡ shows self.old)) };
 }
 
-impl<K: Eq + Hash + Drop, V: Drop, S: BuildHasher + Drop, W: Drop> KeyCore<K, V, W>
+impl<K: Eq + Hash + Drop, V: Drop, S: BuildHasher + Drop, W: Drop> KeyedCore<K, V, W>
     for MapCore<K, Computed<V>, S, Option<W>> {
     ghost shows = { λ core. core };
 
@@ -75,7 +75,7 @@ impl<K: Eq + Hash + Drop, V: Drop, S: BuildHasher + Drop, W: Drop> KeyCore<K, V,
     }
 }
 
-impl<K: Eq + Hash + Drop, V: Drop, S: BuildHasher + Drop, W: Drop> KeyCore<K, V, W>
+impl<K: Eq + Hash + Drop, V: Drop, S: BuildHasher + Drop, W: Drop> KeyedCore<K, V, W>
     for FlightCore<K, Computed<V>, S, Option<W>> {
     ghost shows = { λ core. core };
 

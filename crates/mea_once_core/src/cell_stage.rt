@@ -5,7 +5,7 @@ use mea_sem_core::Acquire;
 /// How far a call is that computes a value, or has one, for a cell. It belongs to the cell that has polled
 /// it.
 #[derive(Clone, Copy, Debug, PartialEq, Eq, Drop)]
-pub enum Stage {
+pub enum CellStage {
     /// Never polled.
     New,
     /// It waits for the cell's permit, or its turn has come since, under this number of the cell.
@@ -16,7 +16,7 @@ pub enum Stage {
     Done,
 }
 
-impl Stage {
+impl CellStage {
     ghost use Rattle.mea_once_core.specs.Permit.{acquire_of, stage_of};
 
     // The acquire of one permit that stands for a call at this stage.
@@ -24,9 +24,9 @@ impl Stage {
         ensures { result ≡ acquire_of self }
     {
         match self {
-            Stage::New => Acquire::New { demand: 1 },
-            Stage::Queued { number } => Acquire::Queued { demand: 1, number },
-            Stage::Running | Stage::Done => Acquire::Done { demand: 1 },
+            CellStage::New => Acquire::New { demand: 1 },
+            CellStage::Queued { number } => Acquire::Queued { demand: 1, number },
+            CellStage::Running | CellStage::Done => Acquire::Done { demand: 1 },
         }
     }
 
@@ -35,10 +35,10 @@ impl Stage {
         ensures { result ≡ stage_of acquire }
     {
         match acquire {
-            Acquire::New { .. } => Stage::New,
-            Acquire::Queued { number, .. } => Stage::Queued { number },
-            Acquire::Done { .. } => Stage::Running,
-            Acquire::Refused { .. } => Stage::Done,
+            Acquire::New { .. } => CellStage::New,
+            Acquire::Queued { number, .. } => CellStage::Queued { number },
+            Acquire::Done { .. } => CellStage::Running,
+            Acquire::Refused { .. } => CellStage::Done,
         }
     }
 }
