@@ -40,10 +40,8 @@ impl Admitted {
         ensures grows { self.old.spare ≤ self.new.spare }
         ensures members { self.new.members ≡ self.old.members }
     {
-        match self.numbers.reserve(more) {
-            Ok(()) => Ok(()),
-            Err(_) => Err(NoMemory),
-        }
+        self.numbers.reserve(more)?;
+        Ok(())
     }
 
     // Whether a number was admitted.

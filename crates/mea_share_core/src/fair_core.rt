@@ -1,10 +1,10 @@
 ghost use Rattle.std.specs.Prelude.{◌≡◌, ◌≢◌, ◌++◌, None, is_some, ◌+◌, ◌-◌, ◌<◌, ◌≤◌, ◌⊎◌, ◌↔◌, ◌∷◌, ◌^◌, ℕ, [], length, true, false, Ok, IsTrue, OnOk, OnErr, IfOk, IfErr, IfSome, IfNone};
 ghost use Rattle.std.specs.FinMap as map;
 
-use crate::group::Group;
 use crate::groups::Groups;
 use crate::share_acquire::{ShareAcquire, ShareStage};
 use crate::share_fault::ShareFault;
+use crate::share_group::ShareGroup;
 use crate::shared_key::SharedKey;
 use mea_base::{NoMemory, Outbox, Poll};
 use std::alloc::Global;
@@ -140,7 +140,8 @@ impl<K: Eq + Hash + Drop, W: Drop, S: BuildHasher> FairCore<K, W, S> {
 
     /// How many wakers are ready. It takes no memory.
     pub fn wakes_ready(&self) -> usize
-        ensures { result ≡ length self.now.wakes }
+        ensures is { result ≡ length self.now.wakes }
+        ensures bound { result < 2 ^ 63 }
     {
         self.outbox.len()
     }
@@ -160,9 +161,7 @@ impl<K: Eq + Hash + Drop, W: Drop, S: BuildHasher> FairCore<K, W, S> {
         ensures err { OnErr result (self.new ≡ self.old) }
         ensures settled { IsSettled self.new }
     {
-        let Ok(()) = self.groups.take(key) else {
-            return Err(NoMemory);
-        };
+        self.groups.take(key)?;
         self.free -= 1;
         Ok(())
     }
@@ -362,7 +361,7 @@ impl<K: Eq + Hash + Drop, W: Drop, S: BuildHasher> FairCore<K, W, S> {
     }
 
     // The group of a key, if it has one.
-    pub(crate) fn group(&self, key: &SharedKey<K>) -> Option<&Group<W>>
+    pub(crate) fn group(&self, key: &SharedKey<K>) -> Option<&ShareGroup<W>>
         ensures some { IfSome result (λ group. group.now ≡ share_of K.eq self.now key.now) }
         ensures none { IfNone result (share_of K.eq self.now key.now ≡ new_share) }
     {

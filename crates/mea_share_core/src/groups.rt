@@ -6,8 +6,8 @@ ghost use Rattle.mea_share_core.specs.Share.{Share, new_share, held_of, waiting_
 ghost use Rattle.mea_share_core.specs.Groups.{held_in, waiting_in, Ranks, AreRanked, AreRankedBut, share_in, IsAlike, Sets, StandsAt, Leads, Admits};
 ghost use Rattle.std.specs.FinMap as map;
 
-use crate::group::Group;
 use crate::rank::Rank;
+use crate::share_group::ShareGroup;
 use crate::shared_key::SharedKey;
 use crate::tournament::Tournament;
 use indexmap::IndexMap;
@@ -22,7 +22,7 @@ use std::marker::Model;
 /// tournament is played again only where a group's rank may have changed.
 #[derive(Drop)]
 pub struct Groups<K: Eq + Hash, W, S: BuildHasher> {
-    map: IndexMap<SharedKey<K>, Group<W>, S>,
+    map: IndexMap<SharedKey<K>, ShareGroup<W>, S>,
     tournament: Tournament,
     alloc: Global,
 }
@@ -46,7 +46,7 @@ impl<K: Eq + Hash, W, S: BuildHasher> Model for Groups<K, W, S> {
 
 // The rank of the group at a place, if someone waits there.
 fn rank_at<K: Eq + Hash + Drop, W: Drop, S: BuildHasher>(
-    map: &IndexMap<SharedKey<K>, Group<W>, S>,
+    map: &IndexMap<SharedKey<K>, ShareGroup<W>, S>,
     place: usize,
 ) -> Option<Rank>
     ensures { Ranks place (slice_get map.now.entries place) result }
@@ -59,7 +59,7 @@ fn rank_at<K: Eq + Hash + Drop, W: Drop, S: BuildHasher>(
 
 // A group of which nothing is left goes. The last takes its place, where it has no rank yet.
 fn drop_idle<K: Eq + Hash + Drop, W: Drop, S: BuildHasher>(
-    map: &mut IndexMap<SharedKey<K>, Group<W>, S>,
+    map: &mut IndexMap<SharedKey<K>, ShareGroup<W>, S>,
     tournament: &mut Tournament,
     place: usize,
 )
@@ -85,7 +85,7 @@ fn drop_idle<K: Eq + Hash + Drop, W: Drop, S: BuildHasher>(
 
 // Sets the rank of the group at a place, and lets the group go where nothing of it is left.
 fn settle<K: Eq + Hash + Drop, W: Drop, S: BuildHasher>(
-    map: &mut IndexMap<SharedKey<K>, Group<W>, S>,
+    map: &mut IndexMap<SharedKey<K>, ShareGroup<W>, S>,
     tournament: &mut Tournament,
     place: usize,
 )
@@ -129,7 +129,7 @@ impl<K: Eq + Hash + Drop, W: Drop, S: BuildHasher> Groups<K, W, S> {
     }
 
     // The group at a place.
-    pub(crate) fn at(&self, place: usize) -> &Group<W>
+    pub(crate) fn at(&self, place: usize) -> &ShareGroup<W>
         requires { place < length self.now }
         ensures { (k : K) → StandsAt K.eq self.now place k → result.now ≡ share_in K.eq self.now k }
     {
@@ -140,7 +140,11 @@ impl<K: Eq + Hash + Drop, W: Drop, S: BuildHasher> Groups<K, W, S> {
     }
 
     // Adds a group for a key that has none, or hands it back where there is no memory.
-    pub(crate) fn add(&mut self, key: SharedKey<K>, group: Group<W>) -> Result<(), Group<W>>
+    pub(crate) fn add(
+        &mut self,
+        key: SharedKey<K>,
+        group: ShareGroup<W>,
+    ) -> Result<(), ShareGroup<W>>
         requires { lookup (K.eq key) self.old ≡ None }
         ensures ok { OnOk result (Sets K.eq self.old self.new key group) }
         ensures back { IfErr result (λ g. g ≡ group) }
@@ -188,7 +192,7 @@ impl<K: Eq + Hash + Drop, W: Drop, S: BuildHasher> Groups<K, W, S> {
 
 impl<K: Eq + Hash + Drop, W: Drop, S: BuildHasher> Groups<K, W, S> {
     // Adds a group for a key that has none, or hands it back where there is no memory.
-    fn add_for(&mut self, key: &SharedKey<K>, group: Group<W>) -> Result<(), Group<W>>
+    fn add_for(&mut self, key: &SharedKey<K>, group: ShareGroup<W>) -> Result<(), ShareGroup<W>>
         requires { lookup (K.eq key.now) self.old ≡ None }
         ensures ok { OnOk result (Sets K.eq self.old self.new key.now group) }
         ensures back { IfErr result (λ g. g ≡ group) }
@@ -213,7 +217,7 @@ impl<K: Eq + Hash + Drop, W: Drop, S: BuildHasher> Groups<K, W, S> {
                 Ok(())
             }
             None => {
-                let mut group = Group::new(self.alloc);
+                let mut group = ShareGroup::new(self.alloc);
                 group.take();
                 match self.add_for(key, group) {
                     Ok(()) => Ok(()),
@@ -236,7 +240,7 @@ impl<K: Eq + Hash + Drop, W: Drop, S: BuildHasher> Groups<K, W, S> {
                 Ok(())
             }
             None => {
-                let mut group = Group::new(self.alloc);
+                let mut group = ShareGroup::new(self.alloc);
                 group.weigh(weight);
                 match self.add_for(key, group) {
                     Ok(()) => Ok(()),
@@ -272,7 +276,7 @@ impl<K: Eq + Hash + Drop, W: Drop, S: BuildHasher> Groups<K, W, S> {
         ensures back { IfErr result (λ w. w ≡ waker) }
         ensures err { OnErr result (self.new ≡ self.old) }
     {
-        let mut group = Group::new(self.alloc);
+        let mut group = ShareGroup::new(self.alloc);
         match group.queue(number, waker) {
             Ok(()) => match self.add_for(key, group) {
                 Ok(()) => Ok(()),

@@ -4,12 +4,12 @@
 mod admitted;
 mod checked;
 mod fair_core;
-mod group;
 mod groups;
 mod order;
 mod rank;
 mod share_acquire;
 mod share_fault;
+mod share_group;
 mod shared_key;
 mod tournament;
 mod waiters;

@@ -46,10 +46,8 @@ impl<K: Drop> SharedKey<K> {
     pub fn share(&self) -> Result<SharedKey<K>, NoMemory>
         ensures { IfOk result (λ shared. shared ≡ self.now) }
     {
-        match self.key.clone() {
-            Ok(key) => Ok(SharedKey { key }),
-            Err(_) => Err(NoMemory),
-        }
+        let key = self.key.clone()?;
+        Ok(SharedKey { key })
     }
 }
 

@@ -1,7 +1,7 @@
 use Rattle.std.proofs.Common.{sym, ◌∙◌}
 use Rattle.std.proofs.lemmas.Bool.{eqb-true}
 use Rattle.mea_share_core.proofs.Kept.{idle_share}
-use Rattle.mea_share_core.proofs.group.Group.is_idle.Goals as goal
+use Rattle.mea_share_core.proofs.share_group.ShareGroup.is_idle.Goals as goal
 
 pub returns : goal.returns
 returns g c = λ nobody.

@@ -13,7 +13,7 @@ use std::marker::Model;
 ///
 /// Room for an admission is made when its acquire begins to wait, so that to admit takes no memory.
 #[derive(Drop)]
-pub struct Group<W> {
+pub struct ShareGroup<W> {
     weight: u64,
     living: usize,
     // The living permits and those admitted.
@@ -24,7 +24,7 @@ pub struct Group<W> {
     waiting: usize,
 }
 
-impl<W> Model for Group<W> {
+impl<W> Model for ShareGroup<W> {
     ghost use Rattle.std.specs.Prelude.{◌≡◌, ◌+◌, ◌<◌, ◌≤◌};
     ghost use Rattle.std.specs.FinMap as map;
     ghost use Rattle.mea_share_core.specs.Share.{Share, share_code};
@@ -43,12 +43,12 @@ impl<W> Model for Group<W> {
     } };
 }
 
-impl<W: Drop> Group<W> {
+impl<W: Drop> ShareGroup<W> {
     // That of a key that was never named. It takes no memory.
     pub(crate) fn new(alloc: Global) -> Self
         ensures { result ≡ new_share }
     {
-        Group {
+        ShareGroup {
             weight: 1,
             living: 0,
             held: 0,
