@@ -14,7 +14,7 @@ use Rattle.mea_broadcast_core.specs.declared.errors.BroadcastTry.TheVariants as 
 use Rattle.mea_broadcast_core.specs.declared.errors.BroadcastRecv.{BroadcastRecv}
 use Rattle.mea_broadcast_core.specs.Broadcast.{Broadcast, without_sender, oldest, woken}
 use Rattle.mea_broadcast_core.specs.Receives.{Found, Behind, Holds, AtTail, PollAnswer, found, found_at, Receives, PollsAtTail, PollsRecv}
-use Rattle.mea_broadcast_core.specs.Walks.{Heard, Message, Missed, heard_by, heard_at, Walks, StandsFor, Calls, Send, TryRecv, PollRecv, OtherPollRecv, AddSender, EndSender, NextWake, Runs, Starts, Goes}
+use Rattle.mea_broadcast_core.specs.Walks.{Heard, Message, Missed, heard_by, heard_at, Walks, StandsFor, Calls, Send, TryRecv, PollRecv, OtherPollRecv, AddSender, EndSender, NextWake, BroadcastRuns, Starts, Goes}
 use Rattle.mea_broadcast_core.proofs.Stands.{sends, oldest_is, finds}
 
 module _ {T : Type 0} (clones : T → T → Type 0) (start : ℕ) where
@@ -212,7 +212,7 @@ module _ {T W : Type 0} where
       stays clones b _ start all p p [] st (record { kept = refl; tail = refl; size = refl }) (rests clones start all p p refl)
 
   module _ (clones : T → T → Type 0) (surely : T → Type 0) (b : Broadcast T W) (p start : ℕ) (all : List T) (st : StandsFor b start all) where
-    pub run : (b' : Broadcast T W) (p' : ℕ) (sent : List T) (heard : List (Heard T)) → Runs clones surely b p b' p' sent heard
+    pub run : (b' : Broadcast T W) (p' : ℕ) (sent : List T) (heard : List (Heard T)) → BroadcastRuns clones surely b p b' p' sent heard
         → Carries clones b b' start (all ++ sent) p heard p'
     run _ _ _ _ Starts = stays clones b b start all p p [] st (itself b) (rests clones start all p p refl)
     run _ _ _ _ (Goes b' b'' p' p'' sent sent' heard heard' runs calls) =

@@ -63,7 +63,7 @@ module _ {T W : Type 0} where
     NextWake : (wakes : List W) → Calls clones surely b p (record b { wakes = wakes }) p [] []
 
   -- a list of calls: what it sent, and what the receiver heard
-  pub data Runs (clones : T → T → Type 0) (surely : T → Type 0) (b : Broadcast T W) (p : ℕ) : Broadcast T W → ℕ → List T → List (Heard T) → Type 0 where
-    Starts : Runs clones surely b p b p [] []
-    Goes : (b' b'' : Broadcast T W) (p' p'' : ℕ) (sent sent' : List T) (heard heard' : List (Heard T)) → Runs clones surely b p b' p' sent heard
-        → Calls clones surely b' p' b'' p'' sent' heard' → Runs clones surely b p b'' p'' (sent ++ sent') (heard ++ heard')
+  pub data BroadcastRuns (clones : T → T → Type 0) (surely : T → Type 0) (b : Broadcast T W) (p : ℕ) : Broadcast T W → ℕ → List T → List (Heard T) → Type 0 where
+    Starts : BroadcastRuns clones surely b p b p [] []
+    Goes : (b' b'' : Broadcast T W) (p' p'' : ℕ) (sent sent' : List T) (heard heard' : List (Heard T)) → BroadcastRuns clones surely b p b' p' sent heard
+        → Calls clones surely b' p' b'' p'' sent' heard' → BroadcastRuns clones surely b p b'' p'' (sent ++ sent') (heard ++ heard')

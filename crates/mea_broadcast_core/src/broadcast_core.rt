@@ -189,10 +189,10 @@ impl<T: Clone, W: Drop> BroadcastCore<T, W> {
             }
             Err(BroadcastTry::Disconnected) => Ok(Poll::Ready(Err(BroadcastRecv::Disconnected))),
             Err(BroadcastTry::NoMemory) => Err((waker, NoMemory)),
-            Err(BroadcastTry::Empty) => match self.wait_for_message(wait, waker) {
-                Ok(()) => Ok(Poll::Pending),
-                Err(failed) => Err(failed),
-            },
+            Err(BroadcastTry::Empty) => {
+                self.wait_for_message(wait, waker)?;
+                Ok(Poll::Pending)
+            }
         }
     }
 
@@ -200,9 +200,7 @@ impl<T: Clone, W: Drop> BroadcastCore<T, W> {
     pub fn end_recv(&mut self, wait: RecvWait)
         requires { has_given self.old.waiting wait ≡ true }
         ensures { self.new ≡ self.old }
-    {
-        let _ = wait;
-    }
+    {}
 
     /// One sender more, where one lives; refused at the greatest number. It takes no memory.
     pub fn add_sender(&mut self) -> Result<(), Overflow>
@@ -246,7 +244,8 @@ impl<T: Clone, W: Drop> BroadcastCore<T, W> {
 
     /// How many wakers are to be called. It takes no memory.
     pub fn wakes_ready(&self) -> usize
-        ensures { result ≡ length self.now.wakes }
+        ensures is { result ≡ length self.now.wakes }
+        ensures bound { result < 2 ^ 63 }
     {
         self.outbox.len()
     }

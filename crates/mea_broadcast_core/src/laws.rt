@@ -1,7 +1,7 @@
 ghost use Rattle.std.specs.Prelude.{◌≡◌, ◌+◌, ◌-◌, ◌≤◌, ℕ, List, [], ◌∷◌, ◌++◌, length, slice_get};
 ghost use Rattle.mea_broadcast_core.specs.Broadcast.{Broadcast, IsFresh, after_send, oldest};
 ghost use Rattle.mea_broadcast_core.specs.Receives.{found, found_at};
-ghost use Rattle.mea_broadcast_core.specs.Walks.{StandsFor, Runs, Heard, Walks};
+ghost use Rattle.mea_broadcast_core.specs.Walks.{StandsFor, BroadcastRuns, Heard, Walks};
 
 /// The ring stands for the list of all messages ever sent: it begins so and each send keeps it so. So the oldest kept
 /// message is at the tail less the ring's size, or where the channel began, and at a cursor from there on stands the
@@ -21,11 +21,11 @@ pub fn the_ring_stands_for_all_messages<T, W>()
 /// Its cursor is never past the tail.
 pub fn a_receiver_steps_through_what_was_sent<T: Clone, W>()
     ensures stands { (b b' : Broadcast T W) (p p' start : ℕ) (all sent : List T) (heard : List (Heard T))
-        → Runs T.is_clone T.is_infallible b p b' p' sent heard
+        → BroadcastRuns T.is_clone T.is_infallible b p b' p' sent heard
         → StandsFor b start all → StandsFor b' start (all ++ sent) }
     ensures walks { (b b' : Broadcast T W) (p p' start : ℕ) (all sent : List T) (heard : List (Heard T))
-        → Runs T.is_clone T.is_infallible b p b' p' sent heard
+        → BroadcastRuns T.is_clone T.is_infallible b p b' p' sent heard
         → StandsFor b start all → Walks T.is_clone start (all ++ sent) p heard p' }
     ensures within { (b b' : Broadcast T W) (p p' start : ℕ) (all sent : List T) (heard : List (Heard T))
-        → Runs T.is_clone T.is_infallible b p b' p' sent heard → StandsFor b start all → p ≤ b.tail → p' ≤ b'.tail }
+        → BroadcastRuns T.is_clone T.is_infallible b p b' p' sent heard → StandsFor b start all → p ≤ b.tail → p' ≤ b'.tail }
 {}
