@@ -69,17 +69,14 @@ impl<'a, R: Wait, F: Waits<Bell, O>, O> Waiting<'a, R, F, O> {
     pub(crate) fn idle(rt: &'a R, alloc: Global) -> Result<Self, NoMemory>
         ensures { IfOk result (λ w. w.wait ≡ None) }
     {
-        match Bell::new(alloc) {
-            Ok(bell) => Ok(Waiting {
-                rt,
-                wait: None,
-                bell,
-                rung: Source::new(),
-                has_rested: false,
-                output: PhantomData,
-            }),
-            Err(_) => Err(NoMemory),
-        }
+        Ok(Waiting {
+            rt,
+            wait: None,
+            bell: Bell::new(alloc)?,
+            rung: Source::new(),
+            has_rested: false,
+            output: PhantomData,
+        })
     }
 
     // Begins a further wait, with the same bell.

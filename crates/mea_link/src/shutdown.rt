@@ -4,7 +4,7 @@ ghost use Rattle.mea_meet_seats.specs.Seats.{fallen};
 
 mod waits;
 
-use mea_base::{NoMemory, Overflow, Wake};
+use mea_base::{NoMemory, Wake};
 use mea_meet_seats::{GroupSeats, LatchSeats};
 use mea_wait::{End, HandleFault, hand_out};
 use std::alloc::Global;
@@ -41,19 +41,9 @@ pub struct Shared<W> {
 pub fn new_pair<W: Wake>(alloc: Global) -> Result<(ShutdownSend<W>, ShutdownRecv<W>), NoMemory> {
     let signal = Mutex::new(LatchSeats::new(alloc, 1));
     let receivers = Mutex::new(GroupSeats::new(alloc));
-    let Ok(shared) = Arc::new(alloc, Shared { signal, receivers }) else {
-        return Err(NoMemory);
-    };
-    let other = share(&shared)?;
+    let shared = Arc::new(alloc, Shared { signal, receivers })?;
+    let other = Arc::try_clone(&shared)?;
     Ok((ShutdownSend { shared }, ShutdownRecv { shared: other }))
-}
-
-// A further share.
-fn share<T: Drop>(shared: &Arc<T>) -> Result<Arc<T>, NoMemory> {
-    match Arc::try_clone(shared) {
-        Ok(shared) => Ok(shared),
-        Err(_) => Err(NoMemory),
-    }
 }
 
 // The signal is set, in one step under the lock. It tells how many wakers that made ready.
@@ -92,7 +82,7 @@ impl<W: Wake> ShutdownSend<W> {
     /// A further sender. A further share may be refused.
     pub fn clone_handle(&self) -> Result<Self, NoMemory> {
         Ok(ShutdownSend {
-            shared: share(&self.shared)?,
+            shared: Arc::try_clone(&self.shared)?,
         })
     }
 }
@@ -101,21 +91,17 @@ impl<W: Wake> ShutdownRecv<W> {
     /// A watch, which is not waited for. A further share may be refused.
     pub fn watch(&self) -> Result<ShutdownWatch<W>, NoMemory> {
         Ok(ShutdownWatch {
-            shared: share(&self.shared)?,
+            shared: Arc::try_clone(&self.shared)?,
         })
     }
 
     /// A further receiver. It is refused where there are 4294967295, and where no further share can be had; then nothing
     /// has changed.
     pub fn clone_handle<R: sync::Wait>(&self, rt: &R) -> Result<Self, HandleFault> {
-        let Ok(shared) = Arc::try_clone(&self.shared) else {
-            return Err(HandleFault::NoMemory);
-        };
+        let shared = Arc::try_clone(&self.shared)?;
         let added = shared.receivers.lock(rt).add();
-        match added {
-            Ok(()) => Ok(ShutdownRecv { shared }),
-            Err(Overflow) => Err(HandleFault::Overflow),
-        }
+        added?;
+        Ok(ShutdownRecv { shared })
     }
 
     /// Whether the shutdown was asked for. It takes no memory.
@@ -130,7 +116,7 @@ impl<W: Wake> ShutdownRecv<W> {
 
     /// `is_shutdown`, for a wait that owns a share. A further share may be refused.
     pub fn is_shutdown_owned(&self) -> Result<OwnedSignal<W>, NoMemory> {
-        Ok(SignalWait::of(share(&self.shared)?))
+        Ok(SignalWait::of(Arc::try_clone(&self.shared)?))
     }
 }
 
@@ -138,7 +124,7 @@ impl<W: Wake> ShutdownWatch<W> {
     /// A further watch. A further share may be refused.
     pub fn clone_handle(&self) -> Result<Self, NoMemory> {
         Ok(ShutdownWatch {
-            shared: share(&self.shared)?,
+            shared: Arc::try_clone(&self.shared)?,
         })
     }
 
@@ -154,7 +140,7 @@ impl<W: Wake> ShutdownWatch<W> {
 
     /// `is_shutdown`, for a wait that owns a share. A further share may be refused.
     pub fn is_shutdown_owned(&self) -> Result<OwnedSignal<W>, NoMemory> {
-        Ok(SignalWait::of(share(&self.shared)?))
+        Ok(SignalWait::of(Arc::try_clone(&self.shared)?))
     }
 }
 

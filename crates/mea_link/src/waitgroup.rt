@@ -2,7 +2,7 @@
 ghost use Rattle.std.specs.Prelude.{◌≡◌, ◌-◌, ◌<◌, length};
 ghost use Rattle.mea_meet_seats.specs.Seats.{fallen};
 
-use mea_base::{NoMemory, Overflow, Poll, Wake};
+use mea_base::{NoMemory, Poll, Wake};
 use mea_meet_core::GroupWait;
 use mea_meet_seats::GroupSeats;
 use mea_wait::{End, HandleFault, PollFault, Polled, Unpolled, Waits, hand_out};
@@ -37,23 +37,17 @@ fn leave<W: Drop>(core: &mut GroupSeats<W>) -> usize
 impl<W: Wake> WaitGroup<W> {
     /// The first handle of a new group. It takes the memory that all handles share.
     pub fn new(alloc: Global) -> Result<Self, NoMemory> {
-        match Arc::new(alloc, Mutex::new(GroupSeats::new(alloc))) {
-            Ok(group) => Ok(WaitGroup { group }),
-            Err(_) => Err(NoMemory),
-        }
+        let group = Arc::new(alloc, Mutex::new(GroupSeats::new(alloc)))?;
+        Ok(WaitGroup { group })
     }
 
     /// A further handle. It is refused where there are 4294967295, and where no further share can be had; then nothing has
     /// changed.
     pub fn clone_handle<R: sync::Wait>(&self, rt: &R) -> Result<Self, HandleFault> {
-        let Ok(group) = Arc::try_clone(&self.group) else {
-            return Err(HandleFault::NoMemory);
-        };
+        let group = Arc::try_clone(&self.group)?;
         let added = group.lock(rt).add();
-        match added {
-            Ok(()) => Ok(WaitGroup { group }),
-            Err(Overflow) => Err(HandleFault::Overflow),
-        }
+        added?;
+        Ok(WaitGroup { group })
     }
 
     /// Ends the handle, and waits for the others. It takes no memory.
@@ -71,13 +65,10 @@ impl<W: Wake> WaitGroup<W> {
 impl<W: Wake> Wait<W> {
     /// A further wait for the same group. A further share of it may be refused.
     pub fn clone_wait(&self) -> Result<Self, NoMemory> {
-        match Arc::try_clone(&self.group) {
-            Ok(group) => Ok(Wait {
-                group,
-                place: GroupWait::new(),
-            }),
-            Err(_) => Err(NoMemory),
-        }
+        Ok(Wait {
+            group: Arc::try_clone(&self.group)?,
+            place: GroupWait::new(),
+        })
     }
 }
 

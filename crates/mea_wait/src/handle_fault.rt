@@ -1,3 +1,6 @@
+use mea_base::Overflow;
+use std::alloc::AllocError;
+
 /// Why a call that makes a further handle is refused.
 #[derive(Debug, Clone, Copy, PartialEq, Eq, Drop)]
 pub enum HandleFault {
@@ -5,4 +8,16 @@ pub enum HandleFault {
     Overflow,
     /// There is no memory.
     NoMemory,
+}
+
+impl From<Overflow> for HandleFault {
+    fn from(_overflow: Overflow) -> HandleFault {
+        HandleFault::Overflow
+    }
+}
+
+impl From<AllocError> for HandleFault {
+    fn from(_error: AllocError) -> HandleFault {
+        HandleFault::NoMemory
+    }
 }

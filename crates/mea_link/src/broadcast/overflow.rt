@@ -4,7 +4,7 @@ ghost use Rattle.mea_broadcast_core.specs.Broadcast.{after_send, without_sender}
 ghost use Rattle.mea_broadcast_core.specs.Receives.{Receives, found, usable_position};
 ghost use Rattle.mea_link.specs.Positions.{MovesBy};
 
-use mea_base::{NoMemory, Overflow, Poll, Wake};
+use mea_base::{NoMemory, Poll, Wake};
 pub use mea_broadcast_core::{
     BroadcastFault, BroadcastRecv as RecvError, BroadcastTry as TryRecvError, SendRefused,
 };
@@ -125,14 +125,6 @@ fn end_sender<T: Clone + Drop, W: Drop>(core: &mut BroadcastCore<T, W>) -> usize
     core.wakes_ready().saturating_sub(before)
 }
 
-// A further share.
-fn share<T: Drop>(shared: &Arc<T>) -> Result<Arc<T>, NoMemory> {
-    match Arc::try_clone(shared) {
-        Ok(shared) => Ok(shared),
-        Err(_) => Err(NoMemory),
-    }
-}
-
 impl<T: Clone + Drop, W: Wake> Shared<T, W> {
     // Wakes as many as the step before has made ready.
     fn wake<R: Wait>(&self, rt: &R, made: usize) {
@@ -153,7 +145,7 @@ impl<T: Clone + Drop, W: Wake> Sender<T, W> {
 
     /// A receiver of what is sent from now on. A further share may be refused.
     pub fn subscribe<R: Wait>(&self, rt: &R) -> Result<Receiver<T, W>, NoMemory> {
-        let shared = share(&self.shared)?;
+        let shared = Arc::try_clone(&self.shared)?;
         let cursor = shared.core.lock(rt).subscribe();
         Ok(Receiver::new(shared, cursor))
     }
@@ -161,14 +153,10 @@ impl<T: Clone + Drop, W: Wake> Sender<T, W> {
     /// A further sender. It is refused at the greatest number, and where no further share can be had; then nothing has
     /// changed.
     pub fn clone_handle<R: Wait>(&self, rt: &R) -> Result<Self, HandleFault> {
-        let Ok(shared) = Arc::try_clone(&self.shared) else {
-            return Err(HandleFault::NoMemory);
-        };
+        let shared = Arc::try_clone(&self.shared)?;
         let added = shared.core.lock(rt).add_sender_checked();
-        match added {
-            Ok(()) => Ok(Sender { shared }),
-            Err(Overflow) => Err(HandleFault::Overflow),
-        }
+        added?;
+        Ok(Sender { shared })
     }
 }
 
@@ -205,7 +193,7 @@ impl<T: Clone + Drop, W: Wake> Receiver<T, W> {
 
     /// A receiver of what is sent from now on. A further share may be refused.
     pub fn resubscribe<R: Wait>(&self, rt: &R) -> Result<Self, NoMemory> {
-        let shared = share(&self.shared)?;
+        let shared = Arc::try_clone(&self.shared)?;
         let cursor = shared.core.lock(rt).subscribe();
         Ok(Receiver::new(shared, cursor))
     }
@@ -214,7 +202,7 @@ impl<T: Clone + Drop, W: Wake> Receiver<T, W> {
     pub fn clone_handle<R: Wait>(&self, rt: &R) -> Result<Self, NoMemory>
         ensures { IfOk result (λ copy. copy ≤ self.now) }
     {
-        let shared = share(&self.shared)?;
+        let shared = Arc::try_clone(&self.shared)?;
         let cursor = copy(&*shared.core.lock(rt), &self.cursor);
         Ok(Receiver::new(shared, cursor))
     }

@@ -6,7 +6,7 @@ ghost use Rattle.mea_sem_core.specs.Calls.{Belongs};
 ghost use Rattle.mea_sem_core.specs.declared.acquire.Acquire.TheVariants.{New};
 
 use crate::mpsc::{RecvError, SendError, TryRecvError, TrySendError};
-use mea_base::{NoMemory, Overflow, Poll, Wake};
+use mea_base::{NoMemory, Poll, Wake};
 use mea_chan_core::{BoundedCore, SendWait};
 use mea_wait::{End, HandleFault, Holds, Polled, Unpolled, Waits, hand_out};
 use std::alloc::Global;
@@ -66,12 +66,8 @@ pub fn bounded<T: Drop, W: Wake>(
     requires { 0 < buffer }
 {
     let core = Mutex::new(BoundedCore::new(alloc, buffer)?);
-    let Ok(shared) = Arc::new(alloc, Shared { core }) else {
-        return Err(NoMemory);
-    };
-    let Ok(other) = Arc::try_clone(&shared) else {
-        return Err(NoMemory);
-    };
+    let shared = Arc::new(alloc, Shared { core })?;
+    let other = Arc::try_clone(&shared)?;
     Ok((BoundedSender { shared }, BoundedReceiver { shared: other }))
 }
 
@@ -207,14 +203,10 @@ impl<T: Drop, W: Wake> BoundedSender<T, W> {
     /// A further sender. It is refused at the greatest number, and where no further share can be had; then nothing has
     /// changed.
     pub fn clone_handle<R: Wait>(&self, rt: &R) -> Result<Self, HandleFault> {
-        let Ok(shared) = Arc::try_clone(&self.shared) else {
-            return Err(HandleFault::NoMemory);
-        };
+        let shared = Arc::try_clone(&self.shared)?;
         let added = shared.core.lock(rt).add_sender_checked();
-        match added {
-            Ok(()) => Ok(BoundedSender { shared }),
-            Err(Overflow) => Err(HandleFault::Overflow),
-        }
+        added?;
+        Ok(BoundedSender { shared })
     }
 }
 

@@ -4,7 +4,7 @@ ghost use Rattle.mea_chan_core.specs.Errors.{unqueued};
 ghost use Rattle.mea_chan_core.specs.declared.errors.UnboundedError.{UnboundedError};
 
 use crate::mpsc::{RecvError, TryRecvError, UnboundedError};
-use mea_base::{NoMemory, Overflow, Poll, Wake};
+use mea_base::{NoMemory, Poll, Wake};
 use mea_chan_core::UnboundedCore;
 use mea_wait::{End, HandleFault, Polled, Unpolled, Waits, hand_out};
 use std::alloc::Global;
@@ -37,12 +37,8 @@ pub fn unbounded<T: Drop, W: Wake>(
     alloc: Global,
 ) -> Result<(UnboundedSender<T, W>, UnboundedReceiver<T, W>), NoMemory> {
     let core = Mutex::new(UnboundedCore::new(alloc));
-    let Ok(shared) = Arc::new(alloc, Shared { core }) else {
-        return Err(NoMemory);
-    };
-    let Ok(other) = Arc::try_clone(&shared) else {
-        return Err(NoMemory);
-    };
+    let shared = Arc::new(alloc, Shared { core })?;
+    let other = Arc::try_clone(&shared)?;
     Ok((
         UnboundedSender { shared },
         UnboundedReceiver { shared: other },
@@ -95,14 +91,10 @@ impl<T: Drop, W: Wake> UnboundedSender<T, W> {
     /// A further sender. It is refused at the greatest number, and where no further share can be had; then nothing has
     /// changed.
     pub fn clone_handle<R: Wait>(&self, rt: &R) -> Result<Self, HandleFault> {
-        let Ok(shared) = Arc::try_clone(&self.shared) else {
-            return Err(HandleFault::NoMemory);
-        };
+        let shared = Arc::try_clone(&self.shared)?;
         let added = shared.core.lock(rt).add_sender_checked();
-        match added {
-            Ok(()) => Ok(UnboundedSender { shared }),
-            Err(Overflow) => Err(HandleFault::Overflow),
-        }
+        added?;
+        Ok(UnboundedSender { shared })
     }
 }
 
