@@ -1,17 +1,17 @@
 //! A mutex that threads and tasks share: `mea::mutex`.
 mod guard;
 mod locking;
-mod rest;
+mod steps;
 
 pub use crate::mapped::Mapped;
 pub use guard::{LockGuard, MappedMutexGuard, MutexGuard, OwnedMappedMutexGuard, OwnedMutexGuard};
 pub use locking::{Lock, Locking, OwnedLock};
 use mea_base::Wake;
 use mea_wait::hand_out;
-pub(crate) use rest::Rest;
 use std::alloc::Global;
 use std::sync;
 use std::sync::{Arc, Wait};
+pub(crate) use steps::MutexState;
 
 /// A value that one thread or task at a time may use, in the order in which they first polled for it.
 ///
@@ -19,26 +19,26 @@ use std::sync::{Arc, Wait};
 /// thread; a large value is best boxed. It ports `mea::mutex::Mutex`.
 #[derive(Drop)]
 pub struct Mutex<T, W> {
-    pub(crate) rest: sync::Mutex<Rest<T, W>>,
+    pub(crate) core: sync::Mutex<MutexState<T, W>>,
 }
 
 impl<T: Drop, W: Wake> Mutex<T, W> {
     /// A mutex that nobody holds. It takes no memory.
     pub fn new(alloc: Global, value: T) -> Self {
         Mutex {
-            rest: sync::Mutex::new(Rest::new(alloc, value)),
+            core: sync::Mutex::new(MutexState::new(alloc, value)),
         }
     }
 
     /// The value, which leaves the mutex. It is None only while a guard has it, and a guard borrows the mutex
     /// or owns a share of it; no clause can say so. It takes no memory.
     pub fn into_inner(self) -> Option<T> {
-        self.rest.into_inner().into_value()
+        self.core.into_inner().into_value()
     }
 
     /// The value for writing, for who has the whole mutex: as `into_inner`. It takes no memory.
     pub fn get_mut(&mut self) -> Option<&mut T> {
-        self.rest.get_mut().value_mut()
+        self.core.get_mut().value_mut()
     }
 
     /// A wait for the lock. It takes no lock before its first poll, and no memory.
@@ -53,7 +53,7 @@ impl<T: Drop, W: Wake> Mutex<T, W> {
 
     /// The guard, if nobody holds the lock. It takes no memory.
     pub fn try_lock<R: Wait>(&self, rt: &R) -> Option<MutexGuard<'_, T, W>> {
-        let taken = self.rest.lock(rt).try_lock();
+        let taken = self.core.lock(rt).try_lock();
         match taken {
             Some(value) => Some(LockGuard::of(self, value)),
             None => None,
@@ -62,7 +62,7 @@ impl<T: Drop, W: Wake> Mutex<T, W> {
 
     /// `try_lock`, for a guard that owns a share of the mutex. It takes no memory.
     pub fn try_lock_owned<R: Wait>(self: Arc<Self>, rt: &R) -> Option<OwnedMutexGuard<T, W>> {
-        let taken = self.rest.lock(rt).try_lock();
+        let taken = self.core.lock(rt).try_lock();
         match taken {
             Some(value) => Some(LockGuard::of(self, value)),
             None => None,
@@ -71,12 +71,12 @@ impl<T: Drop, W: Wake> Mutex<T, W> {
 
     // Puts the value of a guard back, and wakes who has the lock next.
     pub(crate) fn put_back<R: Wait>(&self, rt: &R, value: T) {
-        let made = self.rest.lock(rt).put_back(value);
+        let made = self.core.lock(rt).put_back(value);
         self.wake(rt, made);
     }
 
     // Wakes as many as the step before has made ready.
     pub(crate) fn wake<R: Wait>(&self, rt: &R, made: usize) {
-        hand_out(made, || self.rest.lock(rt).next_wake());
+        hand_out(made, || self.core.lock(rt).next_wake());
     }
 }

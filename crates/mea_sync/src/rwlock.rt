@@ -1,7 +1,7 @@
 //! A reader-writer lock that threads and tasks share: `mea::rwlock`.
 mod guards;
-mod rest;
 mod slot;
+mod steps;
 mod waits;
 
 pub use crate::mapped::Mapped;
@@ -12,10 +12,10 @@ pub use guards::{
 };
 use mea_base::{NoMemory, Wake};
 use mea_wait::hand_out;
-use rest::Rest;
 use std::alloc::Global;
 use std::num::NonZeroUsize;
 use std::sync::{Arc, Mutex, Wait};
+use steps::RwLockState;
 pub use waits::{OwnedRead, OwnedWrite, Read, Reading, Write, Writing};
 
 /// The readers at most of a lock that names no number.
@@ -29,34 +29,34 @@ const MAX_READERS: usize = 9223372036854775807;
 /// `mea::rwlock::RwLock`.
 #[derive(Drop)]
 pub struct RwLock<T, W> {
-    rest: Mutex<Rest<T, W>>,
+    core: Mutex<RwLockState<T, W>>,
 }
 
 impl<T: Drop, W: Wake> RwLock<T, W> {
     /// A lock that nobody holds, for at most 9223372036854775807 readers at a time. It takes no memory.
     pub fn new(alloc: Global, value: T) -> Self {
         RwLock {
-            rest: Mutex::new(Rest::new(alloc, value, MAX_READERS)),
+            core: Mutex::new(RwLockState::new(alloc, value, MAX_READERS)),
         }
     }
 
     /// A lock that nobody holds, for at most so many readers at a time. It takes no memory.
     pub fn with_max_readers(alloc: Global, value: T, max_readers: NonZeroUsize) -> Self {
         RwLock {
-            rest: Mutex::new(Rest::new(alloc, value, max_readers.get())),
+            core: Mutex::new(RwLockState::new(alloc, value, max_readers.get())),
         }
     }
 
     /// The value, which leaves the lock. It is None only while a guard has it, and a guard borrows the lock
     /// or owns a share of it; no clause can say so. It takes no memory.
     pub fn into_inner(self) -> Option<T> {
-        self.rest.into_inner().into_value()
+        self.core.into_inner().into_value()
     }
 
     /// The value for writing, for who has the whole lock. It is None only while a guard has it or a share of it, as for
     /// `into_inner`. It takes no memory.
     pub fn get_mut(&mut self) -> Option<&mut T> {
-        self.rest.get_mut().value_mut()
+        self.core.get_mut().value_mut()
     }
 
     /// A wait for a read. It takes no lock before its first poll, and no memory.
@@ -82,7 +82,7 @@ impl<T: Drop, W: Wake> RwLock<T, W> {
     /// The guard of a read, if a permit for one is free. The first to read after a write takes memory, and
     /// where there is none nothing has changed.
     pub fn try_read<R: Wait>(&self, rt: &R) -> Result<Option<RwLockReadGuard<'_, T, W>>, NoMemory> {
-        let taken = self.rest.lock(rt).try_read()?;
+        let taken = self.core.lock(rt).try_read()?;
         match taken {
             Some(value) => Ok(Some(ReadGuard::of(self, value))),
             None => Ok(None),
@@ -91,7 +91,7 @@ impl<T: Drop, W: Wake> RwLock<T, W> {
 
     /// The guard of a write, if nobody holds the lock. It takes no memory.
     pub fn try_write<R: Wait>(&self, rt: &R) -> Option<RwLockWriteGuard<'_, T, W>> {
-        let (taken, made) = self.rest.lock(rt).try_write();
+        let (taken, made) = self.core.lock(rt).try_write();
         self.wake(rt, made);
         match taken {
             Some(value) => Some(WriteGuard::of(self, value)),
@@ -104,7 +104,7 @@ impl<T: Drop, W: Wake> RwLock<T, W> {
         self: Arc<Self>,
         rt: &R,
     ) -> Result<Option<OwnedRwLockReadGuard<T, W>>, NoMemory> {
-        let taken = self.rest.lock(rt).try_read()?;
+        let taken = self.core.lock(rt).try_read()?;
         match taken {
             Some(value) => Ok(Some(ReadGuard::of(self, value))),
             None => Ok(None),
@@ -116,7 +116,7 @@ impl<T: Drop, W: Wake> RwLock<T, W> {
         self: Arc<Self>,
         rt: &R,
     ) -> Option<OwnedRwLockWriteGuard<T, W>> {
-        let (taken, made) = self.rest.lock(rt).try_write();
+        let (taken, made) = self.core.lock(rt).try_write();
         self.wake(rt, made);
         match taken {
             Some(value) => Some(WriteGuard::of(self, value)),
@@ -126,6 +126,6 @@ impl<T: Drop, W: Wake> RwLock<T, W> {
 
     // Wakes as many as the step before has made ready.
     fn wake<R: Wait>(&self, rt: &R, made: usize) {
-        hand_out(made, || self.rest.lock(rt).next_wake());
+        hand_out(made, || self.core.lock(rt).next_wake());
     }
 }

@@ -6,7 +6,7 @@ ghost use Rattle.mea_lock_core.specs.Condvar.{notified_one, notified_all};
 ghost use Rattle.mea_lock_core.specs.CondWaits.{is_new, renewed_wait, MayPollWait, MayEndWait, PollsWait, EndsWait};
 ghost use Rattle.mea_sync.specs.Notified.{turn_of};
 
-use crate::mutex::Rest;
+use crate::mutex::MutexState;
 use mea_base::{NoMemory, Turn};
 use mea_lock_core::{CondWait, CondvarCore};
 
@@ -40,29 +40,29 @@ pub(super) struct Polled<T, W> {
 // Polls a wait. A new one has the value in `guarded`, and puts it back where its lock is given back; where
 // there is no memory it keeps it.
 pub(super) fn poll<T: Drop, W: Drop>(
-    rest: &mut Rest<T, W>,
+    state: &mut MutexState<T, W>,
     core: &mut CondvarCore<W>,
     wait: &mut CondWait,
     guarded: &mut Option<T>,
     waker: W,
 ) -> Polled<T, W>
     requires { is_new wait.old ≡ true → IsSome guarded.old }
-    ensures allowed { MayPollWait core.old rest.old.lock wait.old → OnOk result.answer (PollsWait core.old rest.old.lock wait.old waker (turn_of result.answer) core.new rest.new.lock wait.new) }
-    ensures renewed { ¬ MayPollWait core.old rest.old.lock wait.old → OnOk result.answer (PollsWait core.old rest.old.lock renewed_wait waker (turn_of result.answer) core.new rest.new.lock wait.new) }
-    ensures err { OnErr result.answer ((core.new ≡ core.old) × (rest.new.lock ≡ rest.old.lock)) }
+    ensures allowed { MayPollWait core.old state.old.lock wait.old → OnOk result.answer (PollsWait core.old state.old.lock wait.old waker (turn_of result.answer) core.new state.new.lock wait.new) }
+    ensures renewed { ¬ MayPollWait core.old state.old.lock wait.old → OnOk result.answer (PollsWait core.old state.old.lock renewed_wait waker (turn_of result.answer) core.new state.new.lock wait.new) }
+    ensures err { OnErr result.answer ((core.new ≡ core.old) × (state.new.lock ≡ state.old.lock)) }
     ensures guards { is_new wait.new ≡ true → IsSome guarded.new }
     ensures waker { IfErr result.answer (λ e. e.0 ≡ waker) }
-    ensures ready { IfOk result.answer (λ taken. IfSome taken (λ _. rest.new.value ≡ None)) }
-    ensures made { result.made ≡ length rest.new.lock.permits.wakes - length rest.old.lock.permits.wakes }
+    ensures ready { IfOk result.answer (λ taken. IfSome taken (λ _. state.new.value ≡ None)) }
+    ensures made { result.made ≡ length state.new.lock.permits.wakes - length state.old.lock.permits.wakes }
 {
-    let before = rest.lock.wakes_ready();
+    let before = state.lock.wakes_ready();
     if let Some(value) = guarded.take() {
-        rest.value = Some(value);
+        state.value = Some(value);
     }
-    let turn = core.poll_wait_checked(&mut rest.lock, wait, waker);
-    let made = rest.lock.wakes_ready().saturating_sub(before);
+    let turn = core.poll_wait_checked(&mut state.lock, wait, waker);
+    let made = state.lock.wakes_ready().saturating_sub(before);
     match turn {
-        Ok(Turn::Ready(waker)) => match rest.value.take() {
+        Ok(Turn::Ready(waker)) => match state.value.take() {
             Some(value) => Polled {
                 answer: Ok(Some((value, waker))),
                 made,
@@ -74,7 +74,7 @@ pub(super) fn poll<T: Drop, W: Drop>(
             made,
         },
         Err(e) => {
-            keep(rest, wait, guarded);
+            keep(state, wait, guarded);
             Polled {
                 answer: Err(e),
                 made,
@@ -84,13 +84,17 @@ pub(super) fn poll<T: Drop, W: Drop>(
 }
 
 // Gives the value back to a wait whose poll was refused. One that does not hold the lock asks for it anew.
-fn keep<T: Drop, W: Drop>(rest: &mut Rest<T, W>, wait: &mut CondWait, guarded: &mut Option<T>)
+fn keep<T: Drop, W: Drop>(
+    state: &mut MutexState<T, W>,
+    wait: &mut CondWait,
+    guarded: &mut Option<T>,
+)
     ensures guards { is_new wait.new ≡ true → IsSome guarded.new }
-    ensures value { 1 ≤ held_of rest.old.lock.permits → guarded.new ≡ rest.old.value }
-    ensures lock { rest.new.lock ≡ rest.old.lock }
+    ensures value { 1 ≤ held_of state.old.lock.permits → guarded.new ≡ state.old.value }
+    ensures lock { state.new.lock ≡ state.old.lock }
 {
-    if rest.lock.is_held() {
-        *guarded = rest.value.take();
+    if state.lock.is_held() {
+        *guarded = state.value.take();
     }
     if guarded.is_none() {
         if let CondWait::New = wait {
@@ -101,22 +105,22 @@ fn keep<T: Drop, W: Drop>(rest: &mut Rest<T, W>, wait: &mut CondWait, guarded: &
 
 // Ends a wait, and tells how many wakers of the mutex and of the condition variable that made ready.
 pub(super) fn end<T: Drop, W: Drop>(
-    rest: &mut Rest<T, W>,
+    state: &mut MutexState<T, W>,
     core: &mut CondvarCore<W>,
     wait: CondWait,
     guarded: Option<T>,
 ) -> (usize, usize)
     requires { is_new wait ≡ true → IsSome guarded }
-    ensures allowed { MayEndWait core.old rest.old.lock wait → EndsWait core.old rest.old.lock wait core.new rest.new.lock }
-    ensures refused { ¬ MayEndWait core.old rest.old.lock wait → (core.new ≡ core.old) × (rest.new.lock ≡ rest.old.lock) }
-    ensures lock { result.0 ≡ length rest.new.lock.permits.wakes - length rest.old.lock.permits.wakes }
+    ensures allowed { MayEndWait core.old state.old.lock wait → EndsWait core.old state.old.lock wait core.new state.new.lock }
+    ensures refused { ¬ MayEndWait core.old state.old.lock wait → (core.new ≡ core.old) × (state.new.lock ≡ state.old.lock) }
+    ensures lock { result.0 ≡ length state.new.lock.permits.wakes - length state.old.lock.permits.wakes }
     ensures room { result.1 ≡ length core.new.wakes - length core.old.wakes }
 {
-    let (locks, rooms) = (rest.lock.wakes_ready(), core.wakes_ready());
+    let (locks, rooms) = (state.lock.wakes_ready(), core.wakes_ready());
     if let Some(value) = guarded {
-        rest.value = Some(value);
+        state.value = Some(value);
     }
-    core.end_wait_checked(&mut rest.lock, wait);
-    let locked = rest.lock.wakes_ready().saturating_sub(locks);
+    core.end_wait_checked(&mut state.lock, wait);
+    let locked = state.lock.wakes_ready().saturating_sub(locks);
     (locked, core.wakes_ready().saturating_sub(rooms))
 }

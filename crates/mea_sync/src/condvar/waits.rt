@@ -25,12 +25,12 @@ pub struct Notified<'a, H, T, W> {
 /// its end, or ended.
 pub struct Conditional<'a, H, T, F, W> {
     of: &'a Condvar<W>,
-    stage: Stage<'a, H, T, W>,
+    stage: CondvarWaitStage<'a, H, T, W>,
     condition: F,
 }
 
 // What a wait with a condition does next.
-enum Stage<'a, H, T, W> {
+enum CondvarWaitStage<'a, H, T, W> {
     // It asks the condition, of the value that it has.
     Asks(LockGuard<H, T, W>),
     // It waits to be notified.
@@ -96,9 +96,9 @@ impl<'a, T: Drop, W: Wake, H: Holds<Mutex<T, W>>> Notified<'a, H, T, W> {
             mut guarded,
         } = self;
         let polled = {
-            let mut rest = mutex.held().rest.lock(rt);
+            let mut state = mutex.held().core.lock(rt);
             let mut core = of.core.lock(rt);
-            steps::poll(&mut *rest, &mut *core, &mut wait, &mut guarded, waker)
+            steps::poll(&mut *state, &mut *core, &mut wait, &mut guarded, waker)
         };
         mutex.held().wake(rt, polled.made);
         match polled.answer {
@@ -132,9 +132,9 @@ impl<'a, T: Drop, W: Wake, H: Holds<Mutex<T, W>>> End for Notified<'a, H, T, W> 
         } = self;
         let held = mutex.held();
         let (locked, noted) = {
-            let mut rest = held.rest.lock(rt);
+            let mut state = held.core.lock(rt);
             let mut core = of.core.lock(rt);
-            steps::end(&mut *rest, &mut *core, wait, guarded)
+            steps::end(&mut *state, &mut *core, wait, guarded)
         };
         held.wake(rt, locked);
         of.wake(rt, noted);
@@ -169,7 +169,7 @@ impl<'a, T: Drop, F: FnMut(&mut T) -> bool + Drop, W: Wake, H: Holds<Mutex<T, W>
     {
         Conditional {
             of,
-            stage: Stage::Asks(guard),
+            stage: CondvarWaitStage::Asks(guard),
             condition,
         }
     }
@@ -191,16 +191,16 @@ impl<'a, T: Drop, F: FnMut(&mut T) -> bool + Drop, W: Wake, H: Holds<Mutex<T, W>
             return Ok(Polled::Ready(guard));
         }
         let stage = match Notified::of(of, guard).step(rt, waker) {
-            Step::Pending(wait) => Stage::Waits(wait),
+            Step::Pending(wait) => CondvarWaitStage::Waits(wait),
             // No first poll is ready. Were one, its task would be told to ask again.
             Step::Ready(guard, waker) => {
                 waker.wake();
-                Stage::Asks(guard)
+                CondvarWaitStage::Asks(guard)
             }
             Step::Refused(wait, waker) => {
                 let stage = match wait.into_guard() {
-                    Ok(guard) => Stage::Asks(guard),
-                    Err(wait) => Stage::Waits(wait),
+                    Ok(guard) => CondvarWaitStage::Asks(guard),
+                    Err(wait) => CondvarWaitStage::Waits(wait),
                 };
                 let refused = Conditional {
                     of,
@@ -227,8 +227,8 @@ impl<'a, T: Drop, F: FnMut(&mut T) -> bool + Drop, W: Wake, H: Holds<Mutex<T, W>
             condition: _,
         } = self;
         match stage {
-            Stage::Asks(guard) => guard.end(rt),
-            Stage::Waits(wait) => wait.end(rt),
+            CondvarWaitStage::Asks(guard) => guard.end(rt),
+            CondvarWaitStage::Waits(wait) => wait.end(rt),
         }
     }
 }
@@ -250,20 +250,20 @@ impl<'a, T: Drop, F: FnMut(&mut T) -> bool + Drop, W: Wake, H: Holds<Mutex<T, W>
             condition,
         } = self;
         let wait = match stage {
-            Stage::Asks(guard) => return Self::ask(rt, of, guard, condition, waker),
-            Stage::Waits(wait) => wait,
+            CondvarWaitStage::Asks(guard) => return Self::ask(rt, of, guard, condition, waker),
+            CondvarWaitStage::Waits(wait) => wait,
         };
         match wait.step(rt, waker) {
             Step::Ready(guard, waker) => Self::ask(rt, of, guard, condition, waker),
             Step::Pending(wait) => Ok(Polled::Pending(Conditional {
                 of,
-                stage: Stage::Waits(wait),
+                stage: CondvarWaitStage::Waits(wait),
                 condition,
             })),
             Step::Refused(wait, waker) => {
                 let refused = Conditional {
                     of,
-                    stage: Stage::Waits(wait),
+                    stage: CondvarWaitStage::Waits(wait),
                     condition,
                 };
                 Err(Unpolled::no_memory(refused, waker))

@@ -34,7 +34,7 @@ impl<T: Drop, W: Wake, H: Holds<Mutex<T, W>>> End for Locking<H, T, W> {
     fn end<R: Wait>(self, rt: &R) {
         let Locking { of, wait, locks: _ } = self;
         let mutex = of.held();
-        let made = mutex.rest.lock(rt).cancel(wait);
+        let made = mutex.core.lock(rt).cancel(wait);
         mutex.wake(rt, made);
     }
 }
@@ -50,7 +50,7 @@ impl<T: Drop, W: Wake, H: Holds<Mutex<T, W>>> Waits<W, LockGuard<H, T, W>> for L
             mut wait,
             locks,
         } = self;
-        let answer = of.held().rest.lock(rt).poll(&mut wait, waker);
+        let answer = of.held().core.lock(rt).poll(&mut wait, waker);
         match answer {
             Ok(Some((value, _))) => Ok(Polled::Ready(LockGuard::of(of, value))),
             Ok(None) => Ok(Polled::Pending(Locking { of, wait, locks })),

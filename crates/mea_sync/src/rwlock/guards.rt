@@ -87,12 +87,12 @@ impl<T: Drop, W: Wake, H: Holds<RwLock<T, W>>> WriteGuard<H, T, W> {
             value,
             waker: _,
         } = self;
-        let alloc = of.held().rest.lock(rt).alloc();
+        let alloc = of.held().core.lock(rt).alloc();
         let shared = match Arc::new(alloc, value) {
             Ok(shared) => shared,
             Err(refused) => return Err((WriteGuard::of(of, refused.value), NoMemory)),
         };
-        let made = of.held().rest.lock(rt).downgrade(share(rt, &shared));
+        let made = of.held().core.lock(rt).downgrade(share(rt, &shared));
         of.held().wake(rt, made);
         Ok(ReadGuard::of(of, shared))
     }
@@ -181,7 +181,7 @@ impl<T: Drop, W: Wake, H: Holds<RwLock<T, W>>> End for ReadGuard<H, T, W> {
             waker: _,
         } = self;
         let lock = of.held();
-        let made = lock.rest.lock(rt).end_read(value);
+        let made = lock.core.lock(rt).end_read(value);
         lock.wake(rt, made);
     }
 }
@@ -194,7 +194,7 @@ impl<T: Drop, W: Wake, H: Holds<RwLock<T, W>>> End for WriteGuard<H, T, W> {
             waker: _,
         } = self;
         let lock = of.held();
-        let made = lock.rest.lock(rt).end_write(value);
+        let made = lock.core.lock(rt).end_write(value);
         lock.wake(rt, made);
     }
 }

@@ -30,10 +30,7 @@ pub(super) fn share<T: Drop>(
     let Some(arc) = shared.as_ref() else {
         return Ok(None);
     };
-    match Arc::try_clone(arc) {
-        Ok(copy) => Ok(Some(copy)),
-        Err(_) => Err(NoMemory),
-    }
+    Ok(Some(Arc::try_clone(arc)?))
 }
 
 // Takes the value out of its `Arc`, unless a share of it is left.

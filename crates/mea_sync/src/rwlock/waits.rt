@@ -63,7 +63,7 @@ impl<T: Drop, W: Wake, H: Holds<RwLock<T, W>>> End for Reading<H, T, W> {
     fn end<R: Wait>(self, rt: &R) {
         let Reading { of, wait, locks: _ } = self;
         let lock = of.held();
-        let made = lock.rest.lock(rt).cancel(wait);
+        let made = lock.core.lock(rt).cancel(wait);
         lock.wake(rt, made);
     }
 }
@@ -72,7 +72,7 @@ impl<T: Drop, W: Wake, H: Holds<RwLock<T, W>>> End for Writing<H, T, W> {
     fn end<R: Wait>(self, rt: &R) {
         let Writing { of, wait, locks: _ } = self;
         let lock = of.held();
-        let made = lock.rest.lock(rt).cancel(wait);
+        let made = lock.core.lock(rt).cancel(wait);
         lock.wake(rt, made);
     }
 }
@@ -88,7 +88,7 @@ impl<T: Drop, W: Wake, H: Holds<RwLock<T, W>>> Waits<W, ReadGuard<H, T, W>> for 
             mut wait,
             locks,
         } = self;
-        let answer = of.held().rest.lock(rt).poll_read(&mut wait, waker);
+        let answer = of.held().core.lock(rt).poll_read(&mut wait, waker);
         match answer {
             Ok(Some((shared, _))) => Ok(Polled::Ready(ReadGuard::of(of, shared))),
             Ok(None) => Ok(Polled::Pending(Reading { of, wait, locks })),
@@ -108,7 +108,7 @@ impl<T: Drop, W: Wake, H: Holds<RwLock<T, W>>> Waits<W, WriteGuard<H, T, W>> for
             mut wait,
             locks,
         } = self;
-        let (answer, made) = of.held().rest.lock(rt).poll_write(&mut wait, waker);
+        let (answer, made) = of.held().core.lock(rt).poll_write(&mut wait, waker);
         of.held().wake(rt, made);
         match answer {
             Ok(Some((value, _))) => Ok(Polled::Ready(WriteGuard::of(of, value))),

@@ -99,9 +99,7 @@ impl<W: Wake> Permit<Arc<Semaphore<W>>, W> {
         if n > self.permits {
             return Ok(None);
         }
-        let Ok(of) = Arc::try_clone(&self.of) else {
-            return Err(NoMemory);
-        };
+        let of = Arc::try_clone(&self.of)?;
         self.permits -= n;
         Ok(Some(Permit::of(of, n)))
     }

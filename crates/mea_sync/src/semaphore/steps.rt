@@ -17,8 +17,6 @@ pub(super) fn release<W: Drop>(core: &mut SemCore<W>, n: usize) -> (Result<(), O
     ensures some { OnErr result.0 (0 < n) }
     ensures made { result.1 ≡ length core.new.wakes - length core.old.wakes }
 {
-    // Those that live fit, as this tells, so none more fit too.
-    let _ = core.live();
     let before = core.wakes_ready();
     let answer = core.release(n);
     (answer, core.wakes_ready().saturating_sub(before))

@@ -12,19 +12,19 @@ use std::alloc::Global;
 
 // What a mutex keeps behind its lock: the core, and the value while nobody holds the guard.
 #[derive(Drop)]
-pub(crate) struct Rest<T, W> {
+pub(crate) struct MutexState<T, W> {
     pub(crate) lock: MutexCore<(), W>,
     pub(crate) value: Option<T>,
     ghost rests: { held_of lock.permits ≡ 0 → IsSome value },
 }
 
-impl<T: Drop, W: Drop> Rest<T, W> {
+impl<T: Drop, W: Drop> MutexState<T, W> {
     // A value that nobody holds.
     pub(super) fn new(alloc: Global, value: T) -> Self
         ensures value { result.value ≡ Some value }
         ensures lock { result.lock.permits ≡ permits_of 1 }
     {
-        Rest {
+        MutexState {
             lock: MutexCore::new(alloc, ()),
             value: Some(value),
         }
@@ -34,7 +34,7 @@ impl<T: Drop, W: Drop> Rest<T, W> {
     pub(super) fn into_value(self) -> Option<T>
         ensures { result ≡ self.value }
     {
-        let Rest { value, .. } = self;
+        let MutexState { value, .. } = self;
         value
     }
 
@@ -73,13 +73,12 @@ impl<T: Drop, W: Drop> Rest<T, W> {
             (λ given. (self.old.value ≡ Some given.0) × (held_of self.old.lock.permits ≡ 0) × (held_of self.new.lock.permits ≡ 1))) }
         ensures err { OnErr result ((self.new.lock ≡ self.old.lock) × (self.new.value ≡ self.old.value)) }
     {
-        match self.lock.poll_checked(wait, waker) {
-            Ok(Turn::Ready(waker)) => match self.value.take() {
+        match self.lock.poll_checked(wait, waker)? {
+            Turn::Ready(waker) => match self.value.take() {
                 Some(value) => Ok(Some((value, waker))),
                 None => unreachable!(),
             },
-            Ok(Turn::Pending) => Ok(None),
-            Err(failed) => Err(failed),
+            Turn::Pending => Ok(None),
         }
     }
 

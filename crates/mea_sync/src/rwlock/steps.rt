@@ -16,7 +16,7 @@ use std::sync::Arc;
 
 // What a reader-writer lock keeps behind its lock: the core, and the value while no write is held.
 #[derive(Drop)]
-pub(super) struct Rest<T, W> {
+pub(super) struct RwLockState<T, W> {
     alloc: Global,
     lock: RwCore<(), W>,
     // The value where nobody has read since the last write, or else what each guard of a read has a share of; neither while
@@ -26,14 +26,14 @@ pub(super) struct Rest<T, W> {
     ghost rests: { lock.writing ≡ false → IsSome (value_in owned shared) },
 }
 
-impl<T: Drop, W: Drop> Rest<T, W> {
+impl<T: Drop, W: Drop> RwLockState<T, W> {
     // A value that nobody holds.
     pub(super) fn new(alloc: Global, value: T, max_readers: usize) -> Self
         requires { 0 < max_readers }
         ensures value { result.owned ≡ Some value }
         ensures lock { (result.lock.permits ≡ permits_of max_readers) × (result.lock.most ≡ max_readers) × (result.lock.writing ≡ false) }
     {
-        Rest {
+        RwLockState {
             alloc,
             lock: RwCore::new(alloc, (), max_readers),
             owned: Some(value),
@@ -45,7 +45,7 @@ impl<T: Drop, W: Drop> Rest<T, W> {
     pub(super) fn into_value(self) -> Option<T>
         ensures { IfSome result (λ value. value_in self.owned self.shared ≡ Some value) }
     {
-        let Rest { owned, shared, .. } = self;
+        let RwLockState { owned, shared, .. } = self;
         slot::into_value(owned, shared)
     }
 
@@ -95,13 +95,12 @@ impl<T: Drop, W: Drop> Rest<T, W> {
         let Ok(shared) = slot::share(&mut self.owned, &mut self.shared, self.alloc) else {
             return Err((waker, NoMemory));
         };
-        match self.lock.poll_checked(wait, waker) {
-            Ok(Turn::Ready(waker)) => match shared {
+        match self.lock.poll_checked(wait, waker)? {
+            Turn::Ready(waker) => match shared {
                 Some(arc) => Ok(Some((arc, waker))),
                 None => unreachable!(),
             },
-            Ok(Turn::Pending) => Ok(None),
-            Err(failed) => Err(failed),
+            Turn::Pending => Ok(None),
         }
     }
 
@@ -157,10 +156,8 @@ impl<T: Drop, W: Drop> Rest<T, W> {
         ensures kind { is_write wait.new ≡ true }
     {
         let was_writing = self.lock.is_writing();
-        let waker = match self.lock.poll_checked(wait, waker) {
-            Ok(Turn::Ready(waker)) => waker,
-            Ok(Turn::Pending) => return Ok(None),
-            Err(failed) => return Err(failed),
+        let Turn::Ready(waker) = self.lock.poll_checked(wait, waker)? else {
+            return Ok(None);
         };
         if was_writing {
             unreachable!();
