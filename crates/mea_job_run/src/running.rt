@@ -112,6 +112,5 @@ fn play<S: Source, K: Sink>(
     let Ok(core) = JobCore::new(alloc, permits, waiting, results) else {
         return Status::NoMemory;
     };
-    let mut service = JobService { core };
-    play_script(alloc, &mut service, source, sink)
+    play_script(alloc, JobService { core }, source, sink)
 }

@@ -110,8 +110,8 @@ fn play<S: Source, K: Sink>(alloc: Global, source: &mut S, sink: &mut K) -> Stat
         → (left : List ℕ) × (S.left source.new ≡ Some left) × IsTakenTo n script left }
 {
     long_lines_are_no_events();
-    let mut halls = Halls::new(alloc);
-    play_script(alloc, &mut halls, source, sink)
+    let halls = Halls::new(alloc);
+    play_script(alloc, halls, source, sink)
 }
 
 /// Plays a generated script, and writes its summary to the sink.

@@ -19,17 +19,17 @@ use std::alloc::Global;
 const LIMIT: usize = 16_777_216;
 
 /// Plays the script that the source holds on a machine at its start, line by line, and writes the text of the replies to
-/// the sink, which the last line ends.
+/// the sink, which the last line ends. The machine is spent: a program has no use for it after its script.
 ///
 /// It takes memory for two pieces, the longest reply and what the machine takes. A source or a sink that tells no bytes has
 /// the clauses that speak of none.
-pub fn play_script<M: Machine, S: Source, K: Sink>(
+pub fn play_script<M: Machine + Drop, S: Source, K: Sink>(
     alloc: Global,
-    machine: &mut M,
+    mut machine: M,
     source: &mut S,
     sink: &mut K,
 ) -> Status
-    requires { M.stands_at machine.old 0 }
+    requires { M.stands_at machine 0 }
     ensures usage { result ≢ Status.Usage }
     ensures read_fault { result ≡ Status.ReadFault → Rose (S.faults source.old) (S.faults source.new) }
     ensures write_fault { result ≡ Status.WriteFault → Rose (K.faults sink.old) (K.faults sink.new) }
@@ -39,14 +39,14 @@ pub fn play_script<M: Machine, S: Source, K: Sink>(
     ensures stopped { (at : ℕ) (stop : Why) → result ≡ Status.Stopped at stop → IsCause M.rules stop }
 
     // Where the source tells its bytes, and where the sink tells them too.
-    ensures status { (script : List ℕ) → S.left source.old ≡ Some script → IsFault result ⊎ (result ≡ (told_by M.rules (M.state machine.old) script).status) }
+    ensures status { (script : List ℕ) → S.left source.old ≡ Some script → IsFault result ⊎ (result ≡ (told_by M.rules (M.state machine) script).status) }
     ensures text { (script before : List ℕ) → S.left source.old ≡ Some script → K.taken sink.old ≡ Some before
-        → Tells (told_by M.rules (M.state machine.old) script) result before (K.taken sink.new) }
+        → Tells (told_by M.rules (M.state machine) script) result before (K.taken sink.new) }
 
     // The same where no read and no write failed.
     ensures whole { (script before : List ℕ) → S.left source.old ≡ Some script → K.taken sink.old ≡ Some before
         → ¬ Rose (S.faults source.old) (S.faults source.new) → ¬ Rose (K.faults sink.old) (K.faults sink.new)
-        → (result ≡ Status.NoMemory) ⊎ Answers (told_by M.rules (M.state machine.old) script) result before (K.taken sink.new) }
+        → (result ≡ Status.NoMemory) ⊎ Answers (told_by M.rules (M.state machine) script) result before (K.taken sink.new) }
 
     // Nothing more is taken after the line that ends the text: it had not ended before the last piece.
     ensures taken_to { (script : List ℕ) (n : ℕ) → S.left source.old ≡ Some script → line_of result ≡ Some n
@@ -57,7 +57,7 @@ pub fn play_script<M: Machine, S: Source, K: Sink>(
         Err(_) => return Status::NoMemory,
     };
     let mut player = Player::new(alloc);
-    let status = play_pieces(&mut player, machine, &mut buffer, source, sink);
+    let status = play_pieces(&mut player, &mut machine, &mut buffer, source, sink);
     player.close(sink, status)
 }
 

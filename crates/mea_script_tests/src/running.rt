@@ -39,8 +39,7 @@ pub fn run_doors<S: Source, K: Sink>(
     if !is_doors(words) {
         return Status::Usage;
     }
-    let mut doors = Doors { opened: 0 };
-    play_script(alloc, &mut doors, source, sink)
+    play_script(alloc, Doors { opened: 0 }, source, sink)
 }
 
 fn is_doors(words: &[String]) -> bool

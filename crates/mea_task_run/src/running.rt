@@ -47,8 +47,8 @@ pub fn run_tasks<S: Source, K: Sink>(
     if !is_tasks(words) {
         return Status::Usage;
     }
-    let mut program = TaskProgram::new(alloc);
-    play_script(alloc, &mut program, source, sink)
+    let program = TaskProgram::new(alloc);
+    play_script(alloc, program, source, sink)
 }
 
 // Whether the words are the one word `tasks`.

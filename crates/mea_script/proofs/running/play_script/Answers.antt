@@ -11,13 +11,13 @@ use Rattle.mea_script.proofs.running.play_script.Goals as goal
 
 pub returns-in-Err-clause-text : goal.returns-in-Err-clause-text
 returns-in-Err-clause-text g c = λ script before h told.
-    tells_nothing (told_by g.M.Machine.rules (g.M.Machine.state c.args.machine.now) script) _ before _ (inr (inr refl)) told
+    tells_nothing (told_by g.M.Machine.rules (g.M.Machine.state c.args.machine) script) _ before _ (inr (inr refl)) told
 
 pub returns-clause-status : goal.returns-clause-status
 returns-clause-status g c = λ script h.
     let p = c.new-player.result in
     let m = g.M.Machine.rules in
-    let s = g.M.Machine.state c.args.machine.now in
+    let s = g.M.Machine.state c.args.machine in
     tells_status (due m s p limit script) (told_by m s script) c.play_pieces-status.result c.close.result
     (due_all m s p.text.items script p.lines c.new-player.ensures.text c.new-player.ensures.lines)
     (c.play_pieces-status.ensures.status script h) c.close.ensures.same
@@ -26,7 +26,7 @@ pub returns-clause-text : goal.returns-clause-text
 returns-clause-text g c = λ script before h told.
     let p = c.new-player.result in
     let m = g.M.Machine.rules in
-    let s = g.M.Machine.state c.args.machine.now in
+    let s = g.M.Machine.state c.args.machine in
     tells_all (due m s p limit script) (told_by m s script) c.play_pieces-status.result c.close.result before _
     (due_all m s p.text.items script p.lines c.new-player.ensures.text c.new-player.ensures.lines)
     (c.play_pieces-status.ensures.status script h)
@@ -57,7 +57,7 @@ returns-clause-whole g c = λ script before h told.
     let reads = g.S.Source.faults in
     let writes = g.K.Sink.faults in
     λ no_reads no_writes.
-    tells_whole (told_by g.M.Machine.rules (g.M.Machine.state c.args.machine.now) script) c.close.result before _
+    tells_whole (told_by g.M.Machine.rules (g.M.Machine.state c.args.machine) script) c.close.result before _
     (Rose (reads c.args.source.now) (reads c.play_pieces-status.new.source)) (Rose (writes c.args.sink.now) (writes c.close.new.sink))
     (λ is. c.play_pieces-status.ensures.read_fault (c.close.ensures.read_fault is)) (returns-clause-write_fault g c) no_reads no_writes
     (returns-clause-text g c script before h told)
