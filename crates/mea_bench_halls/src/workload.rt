@@ -1,9 +1,7 @@
 ghost use Rattle.std.specs.Prelude.{◌≡◌, ◌<◌, ◌^◌, OnOk, OnErr, length};
 
-use mea_events::Event;
-use mea_lock_model::LockEvent;
+use mea_events::{Event, LockEvent, SemEvent};
 use mea_meet::MeetEvent;
-use mea_sem_model::SemEvent;
 use std::alloc::AllocError;
 
 /// What is played of a family: rounds of the same events, each on things of its own but for the object that they

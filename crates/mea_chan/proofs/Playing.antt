@@ -6,7 +6,7 @@ use Rattle.mea_base.specs.Ready.{Waking}
 use Rattle.mea_base.proofs.Totals.{total-empty}
 use Rattle.mea_family.specs.Play.{Part, PartYields, PartRests, Yields}
 use Rattle.mea_chan_model.proofs.Wakers.{box_quiet}
-use Rattle.mea_chan_model.specs.declared.event.ChanEvent.{ChanEvent}
+use Rattle.mea_events.specs.declared.chan_event.ChanEvent.{ChanEvent}
 use Rattle.mea_chan_model.specs.Mailboxes.{Mailbox, Mailboxes, kept, registered}
 use Rattle.mea_chan_model.specs.MailboxActions.{act_in}
 use Rattle.mea_chan_model.specs.Bounded as bounded

@@ -3,7 +3,7 @@ use Rattle.std.specs.Prelude.{ℕ, ◌≡◌, Option, Some, None}
 use Rattle.mea_family.specs.declared.answer.Answer.{Answer}
 use Rattle.mea_base.specs.Ready.{Waking}
 use Rattle.mea_family.specs.Play.{Part, PartYields}
-use Rattle.mea_chan_model.specs.declared.event.ChanEvent.{ChanEvent}
+use Rattle.mea_events.specs.declared.chan_event.ChanEvent.{ChanEvent}
 use Rattle.mea_chan_model.specs.Mailboxes.{Mailboxes, registered}
 use Rattle.mea_chan_model.specs.MailboxActions.{Action, Make, Copy, Send, Poll, Turn, act_in}
 use Rattle.mea_chan_model.specs.Bounded as bounded

@@ -13,7 +13,7 @@ use crate::mailbox_part::MailboxPart;
 use mea_base::{NoMemory, Ready};
 use mea_chan_broadcast::BroadcastPart;
 use mea_chan_core::{BoxCore, OneshotCore, OptionBoxCore, UnboundedCore};
-use mea_chan_model::ChanEvent;
+use mea_events::ChanEvent;
 use mea_family::{Answer, Stop, unknown_unless, zero_if};
 use std::alloc::Global;
 

@@ -19,4 +19,4 @@ mod sender_entry;
 mod unbounded;
 
 pub use hall::ChanHall;
-pub use mea_chan_model::ChanEvent;
+pub use mea_events::ChanEvent;

@@ -24,7 +24,7 @@ use Rattle.mea_by_name.proofs.Cases.{by_found, by_if, if_true, if_false}
 use Rattle.mea_by_name.proofs.NamedQueues.{without-other, with_waker-there, appended-there}
 use Rattle.mea_by_name.proofs.LackingQueues.{local_poured, local_pushed, local_rewoken, who-leaving, who-rewoken, who-append}
 use Rattle.mea_by_name.proofs.Own.{own-nothing}
-use Rattle.mea_chan_model.specs.declared.event.ChanEvent.{ChanEvent}
+use Rattle.mea_events.specs.declared.chan_event.ChanEvent.{ChanEvent}
 use Rattle.mea_chan_model.specs.Mailboxes.{Mailbox, Mailboxes, Receiver, new_mailbox, is_channel, is_sender}
 use Rattle.mea_chan_model.specs.MailboxActions as actions
 use Rattle.mea_chan_model.specs.MailboxActions.{act_in}

@@ -25,7 +25,7 @@ use Rattle.mea_by_name.proofs.OneObject.{counted_same, counted_put, counted_made
 use Rattle.mea_base.specs.Queue.{lacks}
 use Rattle.std.proofs.lemmas.List.{length-append}
 use Rattle.mea_by_name.proofs.Cases.{by_found, by_if, if_false}
-use Rattle.mea_chan_model.specs.declared.event.ChanEvent.{ChanEvent}
+use Rattle.mea_events.specs.declared.chan_event.ChanEvent.{ChanEvent}
 use Rattle.mea_chan_model.specs.Mailboxes as mailboxes
 use Rattle.mea_chan_model.specs.Mailboxes.{Mailbox, Mailboxes, Receiver, new_mailbox, is_channel, is_receiver, polls_as, kept, waker_in, placed_of}
 use Rattle.mea_chan_model.specs.MailboxActions.{Action, Make, Copy, Send, SendLast, EndSender, Receive, Poll, EndReceiver, Turn, TellClosed, TellOver, TellMessage, act_in, registers_in, polled_in, ends_in, cause_in}

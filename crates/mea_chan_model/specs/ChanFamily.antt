@@ -2,7 +2,7 @@
 -- channels. A send of a bounded channel is none of them: it may find a free place without having been woken
 use Rattle.std.specs.Prelude.{ℕ, Bool, false, Option, None}
 use Rattle.mea_family.specs.Family.{Family}
-use Rattle.mea_chan_model.specs.declared.event.ChanEvent.{ChanEvent}
+use Rattle.mea_events.specs.declared.chan_event.ChanEvent.{ChanEvent}
 use Rattle.mea_chan_model.specs.Mailboxes as mailboxes
 use Rattle.mea_chan_model.specs.MailboxActions.{Action, polled_in, ends_in}
 use Rattle.mea_chan_model.specs.BoundedActions.{BoundedAction, bounded_polled, bounded_ends}

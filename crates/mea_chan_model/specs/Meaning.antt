@@ -2,8 +2,8 @@
 use Rattle.std.specs.Prelude.{ℕ, Bool, true, false, Option, Some, None}
 use Rattle.mea_family.specs.declared.stop.Stop.{Stop}
 use Rattle.mea_family.specs.Family.{Outcome}
-use Rattle.mea_chan_model.specs.declared.event.ChanEvent.{ChanEvent}
-use Rattle.mea_chan_model.specs.declared.event.ChanEvent.TheVariants.{MbNew, MbCopy, MbTry, MbSend, MbPoll, MbEnd, MbTryr, MbRecv, MbEnds, MbEndr, BcNew, BcCopys, BcSend, BcSub, BcResub, BcCopyr, BcTry, BcRecv, BcPoll, BcEnd, BcEndr, BcEnds, MuNew, MuCopy, MuSend, MuTryr, MuRecv, MuEnds, MuEndr, OsNew, OsSend, OsEnds, OsClosed, OsClosedr, OsHas, OsTry, OsInto, OsPoll, OsEndr, OsEnd, AbNew, AbSwap, AbStore, AbGet, AbInto, AbDrop, AoNew, AoNone, AoSwap, AoStore, AoClear, AoTake, AoGet, AoInto, AoDrop}
+use Rattle.mea_events.specs.declared.chan_event.ChanEvent.{ChanEvent}
+use Rattle.mea_events.specs.declared.chan_event.ChanEvent.TheVariants.{MbNew, MbCopy, MbTry, MbSend, MbPoll, MbEnd, MbTryr, MbRecv, MbEnds, MbEndr, BcNew, BcCopys, BcSend, BcSub, BcResub, BcCopyr, BcTry, BcRecv, BcPoll, BcEnd, BcEndr, BcEnds, MuNew, MuCopy, MuSend, MuTryr, MuRecv, MuEnds, MuEndr, OsNew, OsSend, OsEnds, OsClosed, OsClosedr, OsHas, OsTry, OsInto, OsPoll, OsEndr, OsEnd, AbNew, AbSwap, AbStore, AbGet, AbInto, AbDrop, AoNew, AoNone, AoSwap, AoStore, AoClear, AoTake, AoGet, AoInto, AoDrop}
 use Rattle.mea_chan_model.specs.Mailboxes.{Mailboxes}
 use Rattle.mea_chan_model.specs.MailboxActions.{Action, Make, Copy, Send, SendLast, EndSender, Receive, Poll, EndReceiver, Turn, TellClosed, TellOver, TellMessage, cause_in, act_in, registers_in}
 use Rattle.mea_chan_model.specs.Bounded.{Bounded}

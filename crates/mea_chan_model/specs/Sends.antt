@@ -8,7 +8,7 @@ use Rattle.mea_by_name.specs.ByName.{Names}
 use Rattle.mea_by_name.specs.NamedQueue as named_queue
 use Rattle.mea_by_name.specs.NamedQueue.{waits}
 use Rattle.mea_by_name.specs.LackingQueue.{Lacking, who}
-use Rattle.mea_chan_model.specs.declared.event.ChanEvent.{ChanEvent}
+use Rattle.mea_events.specs.declared.chan_event.ChanEvent.{ChanEvent}
 use Rattle.mea_chan_model.specs.Bounded.{Bounded, Room, BoundedSend, is_send, waiting_at}
 use Rattle.mea_chan_model.specs.BoundedActions.{BoundedAction, PollSend, EndSend}
 use Rattle.mea_chan_model.specs.ChanHall.{ChanHall, empty_hall}

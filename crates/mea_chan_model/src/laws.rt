@@ -1,7 +1,7 @@
 ghost use Rattle.std.specs.Prelude.{◌≡◌, ℕ, ◌+◌, ◌-◌, ◌≤◌, ◌++◌, Some, [], false, true, length, min, Contains};
 ghost use Rattle.std.specs.FinMap.{get};
 ghost use Rattle.mea_family.specs.Family.{IsRun, RunOf, KeepsWakers, LosesNoWake, last_waker, wakes_since};
-ghost use Rattle.mea_chan_model.specs.declared.event.ChanEvent.{ChanEvent};
+ghost use Rattle.mea_events.specs.declared.chan_event.ChanEvent.{ChanEvent};
 ghost use Rattle.mea_chan_model.specs.ChanHall.{ChanHall, ReceiverKind, mail, registered};
 ghost use Rattle.mea_chan_model.specs.Meaning.{step, registers};
 ghost use Rattle.mea_chan_model.specs.ChanFamily.{chans_family};

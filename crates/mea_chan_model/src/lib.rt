@@ -1,12 +1,10 @@
 //! The model of channels and of boxes: what each event does to many of them with their senders,
-//! receivers and futures, as records, lists and finite maps, and the laws that hold of every list of events. It has no
-//! code that runs but the type of an event; the hall of channels is proved against it.
+//! receivers and futures, as records, lists and finite maps, and the laws that hold of every list of events. It has no code
+//! that runs; the hall of channels is proved against it.
 #![tactic(auto)]
 
-mod event;
 mod laws;
 
-pub use event::ChanEvent;
 pub use laws::{
     enough_senders_are_woken, messages_are_in_order, no_wake_is_lost, wakers_are_kept,
     wakes_are_of_the_registered,

@@ -2,7 +2,7 @@
 use Rattle.std.specs.Prelude.{ℕ, ◌≡◌, ◌+◌, ◌++◌, Bool, true, false, List, [], ◌∷◌}
 use Rattle.mea_family.specs.declared.answer.Answer.{Answer}
 use Rattle.mea_family.specs.declared.answer.Answer.TheVariants.{Held, Lacking}
-use Rattle.mea_sem_model.specs.declared.event.SemEvent.TheVariants.{Try, End}
+use Rattle.mea_events.specs.declared.sem_event.SemEvent.TheVariants.{Try, End}
 use Rattle.mea_recorded.specs.declared.pass.Noted.{Noted}
 
 abbrev pub is_held : Answer → Bool

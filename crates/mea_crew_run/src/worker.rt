@@ -3,8 +3,8 @@ ghost use Rattle.mea_crew_run.specs.Rounds.{GoOn, GoOnOnce};
 
 use crate::answers::is_held;
 use crate::gate::Gate;
+use mea_events::SemEvent;
 use mea_recorded::{Pass, RecordedSemaphore, Refused};
-use mea_sem_model::SemEvent;
 use std::sync::Wait;
 use std::sync::ledger::Ledger;
 use std::thread;

@@ -1,9 +1,9 @@
-use mea_chan_model::ChanEvent;
-use mea_lock_model::LockEvent;
-use mea_meet_model::MeetEvent;
-use mea_once_model::OnceEvent;
-use mea_sem_model::SemEvent;
-use mea_share_model::ShareEvent;
+use crate::chan_event::ChanEvent;
+use crate::lock_event::LockEvent;
+use crate::meet_event::MeetEvent;
+use crate::once_event::OnceEvent;
+use crate::sem_event::SemEvent;
+use crate::share_event::ShareEvent;
 
 /// A line of a script, one variant for each family of primitives.
 #[derive(Clone, Copy, Debug, PartialEq, Eq)]

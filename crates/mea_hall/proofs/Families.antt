@@ -4,13 +4,13 @@ use Rattle.std.specs.Result.{IfOk, OnOk}
 use Rattle.mea_family.specs.declared.answer.Answer.{Answer}
 use Rattle.mea_family.specs.declared.stop.Stop.{Stop}
 use Rattle.mea_base.proofs.Totals.{total-empty}
-use Rattle.mea_sem_model.specs.declared.event.SemEvent.{SemEvent}
+use Rattle.mea_events.specs.declared.sem_event.SemEvent.{SemEvent}
 use Rattle.mea_sem_model.specs.Hall as sem_hall
 use Rattle.mea_sem_model.specs.Step as sem_step
 use Rattle.mea_sem_model.specs.Waiters as sem_waiters
 use Rattle.mea_sem_model.proofs.Waiting as sem_laws
 use Rattle.mea_sem.specs.Play as sem
-use Rattle.mea_meet_model.specs.declared.event.MeetEvent.{MeetEvent}
+use Rattle.mea_events.specs.declared.meet_event.MeetEvent.{MeetEvent}
 use Rattle.mea_meet_model.specs.Hall as meet_hall
 use Rattle.mea_meet_model.specs.Step as meet_step
 use Rattle.mea_meet_model.proofs.MostWoken as meet_most
@@ -18,12 +18,12 @@ use Rattle.mea_meet_model.proofs.Registrations as meet_laws
 use Rattle.mea_meet.specs.Play as meet
 use Rattle.mea_family.specs.Play as named
 use Rattle.mea_by_name.specs.NamedQueue.{Waiting}
-use Rattle.mea_lock_model.specs.declared.event.LockEvent.{LockEvent}
+use Rattle.mea_events.specs.declared.lock_event.LockEvent.{LockEvent}
 use Rattle.mea_lock_model.specs.Locks.{Lock as LockRecord, waiting_at}
 use Rattle.mea_lock_model.specs.LockHall as lock_hall
 use Rattle.mea_lock_model.specs.Meaning as lock_meaning
 use Rattle.mea_lock_model.proofs.Counts as lock_laws
-use Rattle.mea_chan_model.specs.declared.event.ChanEvent.{ChanEvent}
+use Rattle.mea_events.specs.declared.chan_event.ChanEvent.{ChanEvent}
 use Rattle.mea_chan_model.specs.Mailboxes.{Mailbox, kept}
 use Rattle.mea_chan_model.specs.Bounded as bounded
 use Rattle.mea_chan_model.specs.Bounded.{Room}
@@ -31,12 +31,12 @@ use Rattle.mea_chan_model.specs.Broadcasts.{Broadcast}
 use Rattle.mea_chan_model.specs.ChanHall as chan_hall
 use Rattle.mea_chan_model.specs.Meaning as chan_meaning
 use Rattle.mea_chan_model.proofs.Wakers as chan_laws
-use Rattle.mea_share_model.specs.declared.event.ShareEvent.{ShareEvent}
+use Rattle.mea_events.specs.declared.share_event.ShareEvent.{ShareEvent}
 use Rattle.mea_share_model.specs.Next.{waiting_in}
 use Rattle.mea_share_model.specs.Admissions as share_hall
 use Rattle.mea_share_model.specs.Meaning as share_meaning
 use Rattle.mea_share_model.proofs.Counts as share_laws
-use Rattle.mea_once_model.specs.declared.event.OnceEvent.{OnceEvent}
+use Rattle.mea_events.specs.declared.once_event.OnceEvent.{OnceEvent}
 use Rattle.mea_once_model.specs.OnceHall as once_hall
 use Rattle.mea_once_model.specs.Meaning as once_meaning
 use Rattle.mea_once_model.proofs.Wakers as once_laws

@@ -6,16 +6,14 @@ ghost use Rattle.mea_hall.specs.Families.{world_of, PlaysFamilies};
 use crate::waking::move_wakes;
 use mea_base::{NoMemory, Outbox};
 use mea_chan::{ChanEvent, ChanHall};
-use mea_events::Event;
+use mea_events::{Event, SemEvent, ShareEvent};
 use mea_family::{Answer, Stop};
 use mea_lock::{LockEvent, LockHall};
 use mea_meet::MeetHall;
 use mea_meet_model::validity_is_kept;
 use mea_once::{OnceEvent, OnceHall};
 use mea_sem::SemHall;
-use mea_sem_model::SemEvent;
 use mea_share::ShareHall;
-use mea_share_model::ShareEvent;
 use std::alloc::Global;
 use std::marker::Model;
 

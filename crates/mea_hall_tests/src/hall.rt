@@ -1,9 +1,8 @@
-use mea_events::{Event, Replies};
+use mea_events::{Event, Replies, SemEvent};
 use mea_family::{Answer, Stop};
 use mea_hall::{Hall, Played, replay};
 use mea_lines::lines_have_one_spelling;
 use mea_meet::MeetEvent;
-use mea_sem_model::SemEvent;
 use mea_text::{put_number, put_reply, put_text};
 use std::alloc::Global;
 

@@ -1,7 +1,7 @@
 use crate::play::{FamilyHall, Row, differs_at, played};
+use mea_events::ShareEvent;
 use mea_family::{Answer, Stop};
 use mea_share::ShareHall;
-use mea_share_model::ShareEvent;
 
 impl FamilyHall for ShareHall {
     ghost use Rattle.mea_share.specs.Halls.{TakesNoMemory};

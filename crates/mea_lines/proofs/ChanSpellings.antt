@@ -1,7 +1,7 @@
 -- the lines of channels and boxes are what their events say
 use Rattle.std.proofs.Common.{◌≡◌, ◌++◌, ◌∷◌, true, codes, Some, refl, rules}
-use Rattle.mea_chan_model.specs.declared.event.ChanEvent.{ChanEvent}
-use Rattle.mea_chan_model.specs.declared.event.ChanEvent.TheVariants as Chans
+use Rattle.mea_events.specs.declared.chan_event.ChanEvent.{ChanEvent}
+use Rattle.mea_events.specs.declared.chan_event.ChanEvent.TheVariants as Chans
 use Rattle.mea_events.specs.declared.event.Event.TheVariants.{Chan}
 use Rattle.mea_lines.specs.Lines.{event_of_word}
 use Rattle.mea_lines.specs.Marks.{marks}

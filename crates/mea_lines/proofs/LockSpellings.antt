@@ -1,7 +1,7 @@
 -- the lines of locks are what their events say
 use Rattle.std.proofs.Common.{◌≡◌, ◌++◌, ◌∷◌, true, codes, Some, refl, rules}
-use Rattle.mea_lock_model.specs.declared.event.LockEvent.{LockEvent}
-use Rattle.mea_lock_model.specs.declared.event.LockEvent.TheVariants as Locks
+use Rattle.mea_events.specs.declared.lock_event.LockEvent.{LockEvent}
+use Rattle.mea_events.specs.declared.lock_event.LockEvent.TheVariants as Locks
 use Rattle.mea_events.specs.declared.event.Event.TheVariants.{Lock}
 use Rattle.mea_lines.specs.Lines.{event_of_word}
 use Rattle.mea_lines.specs.Marks.{marks}

@@ -1,7 +1,7 @@
 -- the lines of meeting points are what their events say
 use Rattle.std.proofs.Common.{◌≡◌, ◌++◌, ◌∷◌, true, codes, Some, refl, rules, arith}
-use Rattle.mea_meet_model.specs.declared.event.MeetEvent.{MeetEvent}
-use Rattle.mea_meet_model.specs.declared.event.MeetEvent.TheVariants as Meets
+use Rattle.mea_events.specs.declared.meet_event.MeetEvent.{MeetEvent}
+use Rattle.mea_events.specs.declared.meet_event.MeetEvent.TheVariants as Meets
 use Rattle.mea_events.specs.declared.event.Event.TheVariants.{Meet}
 use Rattle.mea_lines.specs.Lines.{event_of_word}
 use Rattle.mea_lines.specs.Marks.{marks}

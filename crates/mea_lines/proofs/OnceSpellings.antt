@@ -1,7 +1,7 @@
 -- the lines of once types are what their events say
 use Rattle.std.proofs.Common.{◌≡◌, ◌++◌, ◌∷◌, true, codes, Some, refl, rules}
-use Rattle.mea_once_model.specs.declared.event.OnceEvent.{OnceEvent}
-use Rattle.mea_once_model.specs.declared.event.OnceEvent.TheVariants as Onces
+use Rattle.mea_events.specs.declared.once_event.OnceEvent.{OnceEvent}
+use Rattle.mea_events.specs.declared.once_event.OnceEvent.TheVariants as Onces
 use Rattle.mea_events.specs.declared.event.Event.TheVariants.{Once}
 use Rattle.mea_lines.specs.Lines.{event_of_word}
 use Rattle.mea_lines.specs.Marks.{marks}

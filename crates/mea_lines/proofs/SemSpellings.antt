@@ -1,7 +1,7 @@
 -- the lines of semaphores are what their events say
 use Rattle.std.proofs.Common.{◌≡◌, ℕ, true, List, Some, refl, rules}
-use Rattle.mea_sem_model.specs.declared.event.SemEvent.{SemEvent}
-use Rattle.mea_sem_model.specs.declared.event.SemEvent.TheVariants as Sems
+use Rattle.mea_events.specs.declared.sem_event.SemEvent.{SemEvent}
+use Rattle.mea_events.specs.declared.sem_event.SemEvent.TheVariants as Sems
 use Rattle.mea_events.specs.declared.event.Event.TheVariants.{Sem}
 use Rattle.mea_lines.specs.Lines.{event_of_word}
 use Rattle.mea_text.specs.declared.numbers.Numbers.{Numbers}

@@ -1,7 +1,7 @@
 -- the lines of fair admission are what their events say
 use Rattle.std.proofs.Common.{◌≡◌, ◌++◌, ◌∷◌, true, codes, Some, refl, rules}
-use Rattle.mea_share_model.specs.declared.event.ShareEvent.{ShareEvent}
-use Rattle.mea_share_model.specs.declared.event.ShareEvent.TheVariants as Shares
+use Rattle.mea_events.specs.declared.share_event.ShareEvent.{ShareEvent}
+use Rattle.mea_events.specs.declared.share_event.ShareEvent.TheVariants as Shares
 use Rattle.mea_events.specs.declared.event.Event.TheVariants.{Share}
 use Rattle.mea_lines.specs.Lines.{event_of_word}
 use Rattle.mea_lines.specs.Marks.{marks}

@@ -1,7 +1,7 @@
 -- the lines of channels and boxes
 use Rattle.std.specs.Prelude.{ℕ, List, [], ◌∷◌, codes}
-use Rattle.mea_chan_model.specs.declared.event.ChanEvent.{ChanEvent}
-use Rattle.mea_chan_model.specs.declared.event.ChanEvent.TheVariants as Chan
+use Rattle.mea_events.specs.declared.chan_event.ChanEvent.{ChanEvent}
+use Rattle.mea_events.specs.declared.chan_event.ChanEvent.TheVariants as Chan
 use Rattle.mea_text.specs.Tables.{Line, alone, one, two}
 
 -- mb: the lines that use a channel with room for so many messages

@@ -1,7 +1,7 @@
 -- how an event of a channel or a box is spelled
 use Rattle.std.specs.Prelude.{ℕ, List, codes}
-use Rattle.mea_chan_model.specs.declared.event.ChanEvent.{ChanEvent}
-use Rattle.mea_chan_model.specs.declared.event.ChanEvent.TheVariants as Chan
+use Rattle.mea_events.specs.declared.chan_event.ChanEvent.{ChanEvent}
+use Rattle.mea_events.specs.declared.chan_event.ChanEvent.TheVariants as Chan
 use Rattle.mea_text.specs.declared.numbers.Numbers.{Numbers}
 use Rattle.mea_text.specs.declared.numbers.Numbers.TheVariants.{Bare, One, Two}
 use Rattle.mea_text.specs.Number.{AreFit}

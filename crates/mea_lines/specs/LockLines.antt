@@ -1,7 +1,7 @@
 -- the lines of locks
 use Rattle.std.specs.Prelude.{ℕ, List, [], ◌∷◌, codes}
-use Rattle.mea_lock_model.specs.declared.event.LockEvent.{LockEvent}
-use Rattle.mea_lock_model.specs.declared.event.LockEvent.TheVariants as Lock
+use Rattle.mea_events.specs.declared.lock_event.LockEvent.{LockEvent}
+use Rattle.mea_events.specs.declared.lock_event.LockEvent.TheVariants as Lock
 use Rattle.mea_text.specs.Tables.{Line, alone, one, two, three}
 
 -- mx: the lines that speak of a mutex

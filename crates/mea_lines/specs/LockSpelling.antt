@@ -1,7 +1,7 @@
 -- how an event of a lock is spelled
 use Rattle.std.specs.Prelude.{ℕ, List, codes}
-use Rattle.mea_lock_model.specs.declared.event.LockEvent.{LockEvent}
-use Rattle.mea_lock_model.specs.declared.event.LockEvent.TheVariants as Lock
+use Rattle.mea_events.specs.declared.lock_event.LockEvent.{LockEvent}
+use Rattle.mea_events.specs.declared.lock_event.LockEvent.TheVariants as Lock
 use Rattle.mea_text.specs.declared.numbers.Numbers.{Numbers}
 use Rattle.mea_text.specs.declared.numbers.Numbers.TheVariants.{Bare, One, Two, Three}
 use Rattle.mea_text.specs.Number.{AreFit}

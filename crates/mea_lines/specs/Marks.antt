@@ -1,11 +1,11 @@
 -- which table of lines stands behind which mark
 use Rattle.std.specs.Prelude.{ℕ, List, [], ◌∷◌, Option, Some, None, codes, if◌then◌else◌}
 use Rattle.std.specs.Str.{bytes_eq}
-use Rattle.mea_meet_model.specs.declared.event.MeetEvent.{MeetEvent}
-use Rattle.mea_lock_model.specs.declared.event.LockEvent.{LockEvent}
-use Rattle.mea_chan_model.specs.declared.event.ChanEvent.{ChanEvent}
-use Rattle.mea_share_model.specs.declared.event.ShareEvent.{ShareEvent}
-use Rattle.mea_once_model.specs.declared.event.OnceEvent.{OnceEvent}
+use Rattle.mea_events.specs.declared.meet_event.MeetEvent.{MeetEvent}
+use Rattle.mea_events.specs.declared.lock_event.LockEvent.{LockEvent}
+use Rattle.mea_events.specs.declared.chan_event.ChanEvent.{ChanEvent}
+use Rattle.mea_events.specs.declared.share_event.ShareEvent.{ShareEvent}
+use Rattle.mea_events.specs.declared.once_event.OnceEvent.{OnceEvent}
 use Rattle.mea_events.specs.declared.event.Event.{Event}
 use Rattle.mea_events.specs.declared.event.Event.TheVariants.{Meet, Lock, Chan, Share, Once}
 use Rattle.mea_text.specs.declared.numbers.Numbers.{Numbers}

@@ -1,7 +1,7 @@
 -- the lines of meeting points
 use Rattle.std.specs.Prelude.{ℕ, List, [], ◌∷◌, codes}
-use Rattle.mea_meet_model.specs.declared.event.MeetEvent.{MeetEvent}
-use Rattle.mea_meet_model.specs.declared.event.MeetEvent.TheVariants as Meet
+use Rattle.mea_events.specs.declared.meet_event.MeetEvent.{MeetEvent}
+use Rattle.mea_events.specs.declared.meet_event.MeetEvent.TheVariants as Meet
 use Rattle.mea_text.specs.Tables.{Line, alone, one, two, count, number_and_count}
 
 -- bar: the lines that speak of a barrier

@@ -1,7 +1,7 @@
 -- how an event of a meeting point is spelled
 use Rattle.std.specs.Prelude.{ℕ, ◌<◌, ◌^◌, List, codes}
-use Rattle.mea_meet_model.specs.declared.event.MeetEvent.{MeetEvent}
-use Rattle.mea_meet_model.specs.declared.event.MeetEvent.TheVariants as Meet
+use Rattle.mea_events.specs.declared.meet_event.MeetEvent.{MeetEvent}
+use Rattle.mea_events.specs.declared.meet_event.MeetEvent.TheVariants as Meet
 use Rattle.mea_text.specs.declared.numbers.Numbers.{Numbers}
 use Rattle.mea_text.specs.declared.numbers.Numbers.TheVariants.{Bare, One, Two}
 use Rattle.mea_text.specs.Number.{AreFit}

@@ -1,7 +1,7 @@
 -- the lines of once types
 use Rattle.std.specs.Prelude.{ℕ, List, [], ◌∷◌, codes}
-use Rattle.mea_once_model.specs.declared.event.OnceEvent.{OnceEvent}
-use Rattle.mea_once_model.specs.declared.event.OnceEvent.TheVariants as Once
+use Rattle.mea_events.specs.declared.once_event.OnceEvent.{OnceEvent}
+use Rattle.mea_events.specs.declared.once_event.OnceEvent.TheVariants as Once
 use Rattle.mea_text.specs.Tables.{Line, alone, one, two}
 
 -- on: the lines that speak of a call that runs once, and of its futures

@@ -1,7 +1,7 @@
 -- how an event of once types is spelled
 use Rattle.std.specs.Prelude.{ℕ, List, codes}
-use Rattle.mea_once_model.specs.declared.event.OnceEvent.{OnceEvent}
-use Rattle.mea_once_model.specs.declared.event.OnceEvent.TheVariants as Once
+use Rattle.mea_events.specs.declared.once_event.OnceEvent.{OnceEvent}
+use Rattle.mea_events.specs.declared.once_event.OnceEvent.TheVariants as Once
 use Rattle.mea_text.specs.declared.numbers.Numbers.{Numbers}
 use Rattle.mea_text.specs.declared.numbers.Numbers.TheVariants.{Bare, One, Two}
 use Rattle.mea_text.specs.Number.{AreFit}

@@ -1,7 +1,7 @@
 -- the lines of semaphores, whose words have no mark
 use Rattle.std.specs.Prelude.{List, [], ◌∷◌, codes}
-use Rattle.mea_sem_model.specs.declared.event.SemEvent.{SemEvent}
-use Rattle.mea_sem_model.specs.declared.event.SemEvent.TheVariants as Sem
+use Rattle.mea_events.specs.declared.sem_event.SemEvent.{SemEvent}
+use Rattle.mea_events.specs.declared.sem_event.SemEvent.TheVariants as Sem
 use Rattle.mea_text.specs.Tables.{Line, one, two}
 
 -- the lines that speak of a semaphore, its futures and its permits

@@ -1,7 +1,7 @@
 -- how an event of a semaphore is spelled
 use Rattle.std.specs.Prelude.{ℕ, List, codes}
-use Rattle.mea_sem_model.specs.declared.event.SemEvent.{SemEvent}
-use Rattle.mea_sem_model.specs.declared.event.SemEvent.TheVariants as Sem
+use Rattle.mea_events.specs.declared.sem_event.SemEvent.{SemEvent}
+use Rattle.mea_events.specs.declared.sem_event.SemEvent.TheVariants as Sem
 use Rattle.mea_text.specs.declared.numbers.Numbers.{Numbers}
 use Rattle.mea_text.specs.declared.numbers.Numbers.TheVariants.{One, Two}
 use Rattle.mea_text.specs.Number.{AreFit}

@@ -1,7 +1,7 @@
 -- the lines of fair admission
 use Rattle.std.specs.Prelude.{ℕ, List, [], ◌∷◌, codes}
-use Rattle.mea_share_model.specs.declared.event.ShareEvent.{ShareEvent}
-use Rattle.mea_share_model.specs.declared.event.ShareEvent.TheVariants as Share
+use Rattle.mea_events.specs.declared.share_event.ShareEvent.{ShareEvent}
+use Rattle.mea_events.specs.declared.share_event.ShareEvent.TheVariants as Share
 use Rattle.mea_text.specs.Tables.{Line, one, two, three}
 
 -- fs: the lines that speak of an admission, its futures and its permits

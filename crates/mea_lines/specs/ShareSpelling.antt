@@ -1,7 +1,7 @@
 -- how an event of fair admission is spelled
 use Rattle.std.specs.Prelude.{ℕ, List, codes}
-use Rattle.mea_share_model.specs.declared.event.ShareEvent.{ShareEvent}
-use Rattle.mea_share_model.specs.declared.event.ShareEvent.TheVariants as Share
+use Rattle.mea_events.specs.declared.share_event.ShareEvent.{ShareEvent}
+use Rattle.mea_events.specs.declared.share_event.ShareEvent.TheVariants as Share
 use Rattle.mea_text.specs.declared.numbers.Numbers.{Numbers}
 use Rattle.mea_text.specs.declared.numbers.Numbers.TheVariants.{One, Two, Three}
 use Rattle.mea_text.specs.Number.{AreFit}

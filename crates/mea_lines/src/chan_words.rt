@@ -2,7 +2,7 @@ ghost use Rattle.std.specs.Prelude.{◌≡◌};
 ghost use Rattle.mea_text.specs.Tables.{of_table};
 ghost use Rattle.mea_lines.specs.ChanLines.{bounded_lines, unbounded_lines, oneshot_lines, broadcast_lines, box_lines, option_box_lines};
 
-use mea_chan_model::ChanEvent;
+use mea_events::ChanEvent;
 use mea_text::Numbers::{self, Bare, One, Two};
 use mea_text::is;
 

@@ -2,7 +2,7 @@ ghost use Rattle.std.specs.Prelude.{◌≡◌};
 ghost use Rattle.mea_text.specs.Tables.{of_table};
 ghost use Rattle.mea_lines.specs.LockLines.{mutex_lines, rw_lock_lines, condvar_lines};
 
-use mea_lock_model::LockEvent;
+use mea_events::LockEvent;
 use mea_text::Numbers::{self, Bare, One, Three, Two};
 use mea_text::is;
 

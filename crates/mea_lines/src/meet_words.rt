@@ -2,7 +2,7 @@ ghost use Rattle.std.specs.Prelude.{◌≡◌};
 ghost use Rattle.mea_text.specs.Tables.{of_table};
 ghost use Rattle.mea_lines.specs.MeetLines.{barrier_lines, latch_lines, group_lines, shutdown_lines};
 
-use mea_meet_model::MeetEvent;
+use mea_events::MeetEvent;
 use mea_text::Numbers::{self, Bare, One, Two};
 use mea_text::{count_of, is};
 

@@ -2,7 +2,7 @@ ghost use Rattle.std.specs.Prelude.{◌≡◌};
 ghost use Rattle.mea_text.specs.Tables.{of_table};
 ghost use Rattle.mea_lines.specs.OnceLines.{call_lines, cell_lines, map_lines, work_lines};
 
-use mea_once_model::OnceEvent;
+use mea_events::OnceEvent;
 use mea_text::Numbers::{self, Bare, One, Two};
 use mea_text::is;
 

@@ -2,7 +2,7 @@ ghost use Rattle.std.specs.Prelude.{◌≡◌};
 ghost use Rattle.mea_text.specs.Tables.{of_table};
 ghost use Rattle.mea_lines.specs.SemLines.{semaphore_lines};
 
-use mea_sem_model::SemEvent;
+use mea_events::SemEvent;
 use mea_text::Numbers::{self, One, Two};
 use mea_text::is;
 

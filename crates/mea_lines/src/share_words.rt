@@ -2,7 +2,7 @@ ghost use Rattle.std.specs.Prelude.{◌≡◌};
 ghost use Rattle.mea_text.specs.Tables.{of_table};
 ghost use Rattle.mea_lines.specs.ShareLines.{admission_lines};
 
-use mea_share_model::ShareEvent;
+use mea_events::ShareEvent;
 use mea_text::Numbers::{self, One, Three, Two};
 use mea_text::is;
 

@@ -6,7 +6,7 @@ use Rattle.mea_base.specs.Ready.{Waking}
 use Rattle.mea_family.specs.Play.{Part, PartYields, PartRests, Yields}
 use Rattle.mea_by_name.specs.NamedQueue.{Waiting}
 use Rattle.mea_base.proofs.Totals.{total-empty}
-use Rattle.mea_lock_model.specs.declared.event.LockEvent.{LockEvent}
+use Rattle.mea_events.specs.declared.lock_event.LockEvent.{LockEvent}
 use Rattle.mea_lock_model.specs.Locks.{Lock, Locks, registered, waiting_at}
 use Rattle.mea_lock_model.specs.Condvars as condvars
 use Rattle.mea_lock_model.specs.Condvars.{Condvars}

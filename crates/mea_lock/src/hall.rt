@@ -12,9 +12,10 @@ ghost use Rattle.mea_lock.specs.Halls.{TakesNoMemory};
 use crate::kinds::Kinds;
 use mea_base::Ready;
 use mea_by_name::NamedWaker;
+use mea_events::LockEvent;
 use mea_family::{Answer, Stop};
 use mea_lock_core::{CondvarCore, MutexCore, RwCore};
-use mea_lock_model::{LockEvent, wakes_are_of_the_registered};
+use mea_lock_model::wakes_are_of_the_registered;
 use std::alloc::Global;
 use std::marker::Model;
 

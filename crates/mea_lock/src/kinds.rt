@@ -8,9 +8,9 @@ use crate::part::LockPart;
 use crate::wait_part::WaitPart;
 use mea_base::{NoMemory, Ready};
 use mea_by_name::NamedWaker;
+use mea_events::LockEvent;
 use mea_family::{Answer, Form, Stop, unknown_unless, zero_if};
 use mea_lock_core::{MutexCore, RwCore};
-use mea_lock_model::LockEvent;
 use std::alloc::Global;
 
 /// The most that may read at a time, where a script gives no number.

@@ -18,4 +18,4 @@ mod wait_entry;
 mod wait_part;
 
 pub use hall::LockHall;
-pub use mea_lock_model::LockEvent;
+pub use mea_events::LockEvent;

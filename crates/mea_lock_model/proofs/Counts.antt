@@ -10,7 +10,7 @@ use Rattle.mea_by_name.specs.NamedQueue.{Waiting, waits}
 use Rattle.mea_by_name.proofs.Cases.{by_found, by_if}
 use Rattle.mea_by_name.proofs.LackingQueues.{local_rewoken, local_poured}
 use Rattle.mea_by_name.proofs.OneObject.{Counted, counted_put, goes_counted}
-use Rattle.mea_lock_model.specs.declared.event.LockEvent.{LockEvent}
+use Rattle.mea_events.specs.declared.lock_event.LockEvent.{LockEvent}
 use Rattle.mea_lock_model.specs.Locks as locks
 use Rattle.mea_lock_model.specs.Locks.{Lock, LockFuture, Locks, Until, goes_on, was_polled, waiting_at, taken_from, size}
 use Rattle.mea_lock_model.specs.Condvars as condvars

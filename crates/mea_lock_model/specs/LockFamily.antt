@@ -4,7 +4,7 @@ use Rattle.std.specs.FinMap.{get}
 use Rattle.mea_family.specs.Family.{Family}
 use Rattle.mea_by_name.specs.NamedQueue as named_queue
 use Rattle.mea_by_name.specs.NamedQueue.{waker_for}
-use Rattle.mea_lock_model.specs.declared.event.LockEvent.{LockEvent}
+use Rattle.mea_events.specs.declared.lock_event.LockEvent.{LockEvent}
 use Rattle.mea_lock_model.specs.Locks as locks
 use Rattle.mea_lock_model.specs.Locks.{is_lock_future, is_condvar_future}
 use Rattle.mea_lock_model.specs.Condvars.{CondWait, is_wait, queue_of}

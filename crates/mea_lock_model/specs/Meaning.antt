@@ -3,8 +3,8 @@ use Rattle.std.specs.Prelude.{ℕ, Bool, true, false, Option, Some, None, if◌t
 use Rattle.mea_family.specs.declared.stop.Stop.{Stop}
 use Rattle.mea_family.specs.declared.stop.Stop.TheVariants as stops
 use Rattle.mea_family.specs.Family.{Outcome}
-use Rattle.mea_lock_model.specs.declared.event.LockEvent.{LockEvent}
-use Rattle.mea_lock_model.specs.declared.event.LockEvent.TheVariants.{MxNew, MxLock, MxLocko, MxPoll, MxTry, MxTryo, MxGet, MxSet, MxEnd, MxPeek, MxPut, MxInto, MxDrop, RwNew, RwMax, RwRead, RwReado, RwWrite, RwWriteo, RwPoll, RwTryr, RwTryro, RwTryw, RwTrywo, RwGet, RwSet, RwDown, RwEnd, RwPeek, RwPut, RwInto, RwDrop, CvNew, CvWait, CvWaitw, CvPoll, CvOne, CvAll, CvEnd, CvDrop}
+use Rattle.mea_events.specs.declared.lock_event.LockEvent.{LockEvent}
+use Rattle.mea_events.specs.declared.lock_event.LockEvent.TheVariants.{MxNew, MxLock, MxLocko, MxPoll, MxTry, MxTryo, MxGet, MxSet, MxEnd, MxPeek, MxPut, MxInto, MxDrop, RwNew, RwMax, RwRead, RwReado, RwWrite, RwWriteo, RwPoll, RwTryr, RwTryro, RwTryw, RwTrywo, RwGet, RwSet, RwDown, RwEnd, RwPeek, RwPut, RwInto, RwDrop, CvNew, CvWait, CvWaitw, CvPoll, CvOne, CvAll, CvEnd, CvDrop}
 use Rattle.mea_lock_model.specs.Locks.{Locks}
 use Rattle.mea_lock_model.specs.Actions.{Action, Make, Begin, Poll, Try, Get, Set, Lower, End, Peek, Put, Take, Drop, is_of_wait, cause_in, act_in, registers_in}
 use Rattle.mea_lock_model.specs.CondActions as on_condvars

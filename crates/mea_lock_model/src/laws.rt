@@ -1,6 +1,6 @@
 ghost use Rattle.std.specs.Prelude.{◌≡◌, ℕ, ◌+◌, ◌≤◌, false, length};
 ghost use Rattle.mea_family.specs.Family.{IsRun, RunOf, KeepsWakers, LosesNoWake};
-ghost use Rattle.mea_lock_model.specs.declared.event.LockEvent.{LockEvent};
+ghost use Rattle.mea_events.specs.declared.lock_event.LockEvent.{LockEvent};
 ghost use Rattle.mea_lock_model.specs.LockHall.{LockHall, registered};
 ghost use Rattle.mea_lock_model.specs.Meaning.{step, registers};
 ghost use Rattle.mea_lock_model.specs.Locks.{Locks};

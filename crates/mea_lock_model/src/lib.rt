@@ -1,10 +1,8 @@
 //! The model of locks: what each event does to many mutexes and reader-writer locks with their futures and
-//! guards, as records, lists and finite maps, and the laws that hold of every list of events. It has no code that
-//! runs but the type of an event; the hall of locks is proved against it.
+//! guards, as records, lists and finite maps, and the laws that hold of every list of events. It has no code that runs;
+//! the hall of locks is proved against it.
 #![tactic(auto)]
 
-mod event;
 mod laws;
 
-pub use event::LockEvent;
 pub use laws::{a_write_is_alone, no_wake_is_lost, wakers_are_kept, wakes_are_of_the_registered};

@@ -3,8 +3,8 @@ use Rattle.std.specs.Prelude.{ℕ}
 use Rattle.std.specs.Coded.{Coded}
 use Rattle.mea_family.specs.declared.answer.Answer.{Answer}
 use Rattle.mea_family.specs.Play as plays
-use Rattle.mea_meet_model.specs.declared.event.MeetEvent.{MeetEvent}
-use Rattle.mea_meet_model.specs.declared.event.MeetEvent.TheVariants as events
+use Rattle.mea_events.specs.declared.meet_event.MeetEvent.{MeetEvent}
+use Rattle.mea_events.specs.declared.meet_event.MeetEvent.TheVariants as events
 use Rattle.mea_meet_model.specs.Hall.{Hall, hall_code}
 use Rattle.mea_meet_model.specs.Step.{step}
 

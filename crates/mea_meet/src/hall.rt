@@ -11,11 +11,10 @@ ghost use Rattle.mea_meet.specs.StandsFor.{StandsForBarrier, StandsForLatch, Sta
 
 use crate::parts::Parts;
 use mea_base::Ready;
+use mea_events::MeetEvent;
 use mea_family::{Answer, Stop};
 use mea_meet_core::{BarrierCore, GroupCore, LatchCore, ShutdownCore};
-use mea_meet_model::{
-    MeetEvent, validity_is_kept, wakes_are_of_the_registered, what_is_there_lives,
-};
+use mea_meet_model::{validity_is_kept, wakes_are_of_the_registered, what_is_there_lives};
 use std::alloc::Global;
 use std::marker::Model;
 

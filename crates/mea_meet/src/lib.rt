@@ -13,8 +13,8 @@ mod shutdown_entries;
 mod shutdowns;
 
 pub use hall::MeetHall;
+pub use mea_events::MeetEvent;
 pub use mea_meet_core::{
     BarrierCore, BarrierFault, BarrierWait, BarrierWaitResult, GroupCore, GroupWait, LatchCore,
     LatchWait, ShutdownCore,
 };
-pub use mea_meet_model::MeetEvent;

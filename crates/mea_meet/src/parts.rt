@@ -16,8 +16,8 @@ use crate::groups::GroupHall;
 use crate::latches::LatchHall;
 use crate::shutdowns::ShutdownHall;
 use mea_base::Ready;
+use mea_events::MeetEvent;
 use mea_family::{Answer, Form, Stop, borrowed_if, overflow_if, unknown_unless};
-use mea_meet_model::MeetEvent;
 use std::alloc::Global;
 
 /// The meeting points of the four kinds. An event on one kind leaves the others as they are.

@@ -6,8 +6,8 @@ use Rattle.std.proofs.lemmas.Bool.{eq-eqb}
 use Rattle.mea_family.specs.Family.{quietly}
 use Rattle.mea_family.specs.declared.answer.Answer.TheVariants as answers
 use Rattle.mea_base.proofs.Maps.{by_gone, by_at_put, by_at_gone, total-has}
-use Rattle.mea_meet_model.specs.declared.event.MeetEvent.{MeetEvent}
-use Rattle.mea_meet_model.specs.declared.event.MeetEvent.TheVariants as events
+use Rattle.mea_events.specs.declared.meet_event.MeetEvent.{MeetEvent}
+use Rattle.mea_events.specs.declared.meet_event.MeetEvent.TheVariants as events
 use Rattle.mea_meet_model.specs.Count.{Count, count_from, decreased, increased, woken_by, with_waker, without_future}
 use Rattle.mea_meet_model.specs.Latches as latches
 use Rattle.mea_meet_model.specs.Latches.{Latches, Latch, LatchWait, new_latch, latch_at}

@@ -7,8 +7,8 @@ use Rattle.mea_family.specs.Family.{RunOf, IsRun, Starts, Goes, LosesNoWake, Kee
 use Rattle.mea_family.specs.declared.answer.Answer.TheVariants as answers
 use Rattle.mea_family.proofs.Wakes as wakes
 use Rattle.mea_family.proofs.Causes.{known}
-use Rattle.mea_meet_model.specs.declared.event.MeetEvent.{MeetEvent}
-use Rattle.mea_meet_model.specs.declared.event.MeetEvent.TheVariants as events
+use Rattle.mea_events.specs.declared.meet_event.MeetEvent.{MeetEvent}
+use Rattle.mea_events.specs.declared.meet_event.MeetEvent.TheVariants as events
 use Rattle.mea_meet_model.specs.Hall.{Hall}
 use Rattle.mea_meet_model.specs.Cause.{cause_of}
 use Rattle.mea_meet_model.specs.Step.{step}

@@ -7,8 +7,8 @@ use Rattle.std.proofs.lemmas.Bool.{eqb-true, eqb-false}
 use Rattle.mea_family.specs.Family.{quietly}
 use Rattle.mea_family.specs.declared.answer.Answer.TheVariants as answers
 use Rattle.mea_base.proofs.Maps.{by_put, get-removed_other, get-gone}
-use Rattle.mea_meet_model.specs.declared.event.MeetEvent.{MeetEvent}
-use Rattle.mea_meet_model.specs.declared.event.MeetEvent.TheVariants as events
+use Rattle.mea_events.specs.declared.meet_event.MeetEvent.{MeetEvent}
+use Rattle.mea_events.specs.declared.meet_event.MeetEvent.TheVariants as events
 use Rattle.mea_meet_model.specs.Count as counts
 use Rattle.mea_meet_model.specs.Barriers as barriers
 use Rattle.mea_meet_model.specs.Barriers.{Barriers, BarrierWait}

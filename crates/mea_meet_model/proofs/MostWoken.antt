@@ -3,8 +3,8 @@ use Rattle.std.proofs.Common.{◌≡◌, ℕ, ◌≤◌, ◌==◌, Bool, true, f
 use Rattle.std.specs.FinMap.{get}
 use Rattle.mea_family.specs.Family.{quietly}
 use Rattle.mea_family.specs.declared.answer.Answer.TheVariants as answers
-use Rattle.mea_meet_model.specs.declared.event.MeetEvent.{MeetEvent}
-use Rattle.mea_meet_model.specs.declared.event.MeetEvent.TheVariants as events
+use Rattle.mea_events.specs.declared.meet_event.MeetEvent.{MeetEvent}
+use Rattle.mea_events.specs.declared.meet_event.MeetEvent.TheVariants as events
 use Rattle.mea_meet_model.specs.Barriers as barriers
 use Rattle.mea_meet_model.specs.Barriers.{BarrierWait}
 use Rattle.mea_meet_model.specs.Latches as latches

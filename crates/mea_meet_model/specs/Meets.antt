@@ -1,8 +1,8 @@
 -- the meeting points as one of the families
 use Rattle.std.specs.Prelude.{ℕ, ◌==◌, Bool, false, cond, Option, Some, None}
 use Rattle.mea_family.specs.Family.{Family}
-use Rattle.mea_meet_model.specs.declared.event.MeetEvent.{MeetEvent}
-use Rattle.mea_meet_model.specs.declared.event.MeetEvent.TheVariants.{BarPoll, BarEnd, LatPoll, LatEnd, WgPoll, WgEnd, SdPoll, SdEnd}
+use Rattle.mea_events.specs.declared.meet_event.MeetEvent.{MeetEvent}
+use Rattle.mea_events.specs.declared.meet_event.MeetEvent.TheVariants.{BarPoll, BarEnd, LatPoll, LatEnd, WgPoll, WgEnd, SdPoll, SdEnd}
 use Rattle.mea_meet_model.specs.Barriers as barriers
 use Rattle.mea_meet_model.specs.Latches as latches
 use Rattle.mea_meet_model.specs.Groups as groups

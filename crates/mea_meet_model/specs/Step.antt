@@ -3,8 +3,8 @@
 use Rattle.std.specs.Prelude.{ℕ, Bool, true, false, Some, None}
 use Rattle.std.specs.FinMap as map
 use Rattle.mea_family.specs.Family.{Outcome}
-use Rattle.mea_meet_model.specs.declared.event.MeetEvent.{MeetEvent}
-use Rattle.mea_meet_model.specs.declared.event.MeetEvent.TheVariants.{BarNew, BarWait, BarPoll, BarEnd, BarDrop, LatNew, LatCount, LatDown, LatArrive, LatTry, LatWait, LatWaito, LatPoll, LatEnd, LatDrop, WgNew, WgClone, WgInto, WgCopy, WgPoll, WgEnd, SdNew, SdCopys, SdCopyr, SdSignal, SdNow, SdWatch, SdIs, SdIso, SdAwait, SdPoll, SdEnd, SdEnds, SdEndr}
+use Rattle.mea_events.specs.declared.meet_event.MeetEvent.{MeetEvent}
+use Rattle.mea_events.specs.declared.meet_event.MeetEvent.TheVariants.{BarNew, BarWait, BarPoll, BarEnd, BarDrop, LatNew, LatCount, LatDown, LatArrive, LatTry, LatWait, LatWaito, LatPoll, LatEnd, LatDrop, WgNew, WgClone, WgInto, WgCopy, WgPoll, WgEnd, SdNew, SdCopys, SdCopyr, SdSignal, SdNow, SdWatch, SdIs, SdIso, SdAwait, SdPoll, SdEnd, SdEnds, SdEndr}
 use Rattle.mea_meet_model.specs.Barriers as barriers
 use Rattle.mea_meet_model.specs.Barriers.{Barriers}
 use Rattle.mea_meet_model.specs.Latches as latches

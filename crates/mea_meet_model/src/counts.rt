@@ -1,6 +1,6 @@
 ghost use Rattle.std.specs.Prelude.{◌≡◌, ℕ, ◌≤◌, IsSome};
 ghost use Rattle.std.specs.FinMap as finmap;
-ghost use Rattle.mea_meet_model.specs.declared.event.MeetEvent.{MeetEvent as Event};
+ghost use Rattle.mea_events.specs.declared.meet_event.MeetEvent.{MeetEvent as Event};
 ghost use Rattle.mea_meet_model.specs.Latches.{latch_at};
 ghost use Rattle.mea_meet_model.specs.Groups.{group_at};
 ghost use Rattle.mea_meet_model.specs.Shutdowns.{Awaited, shutdown_at, awaited};

@@ -1,7 +1,7 @@
 ghost use Rattle.std.specs.Prelude.{◌≡◌, ℕ, ◌+◌, ◌≤◌, true, Some, IsSome};
 ghost use Rattle.std.specs.FinMap as finmap;
-ghost use Rattle.mea_meet_model.specs.declared.event.MeetEvent.{MeetEvent as Event};
-ghost use Rattle.mea_meet_model.specs.declared.event.MeetEvent.TheVariants as events;
+ghost use Rattle.mea_events.specs.declared.meet_event.MeetEvent.{MeetEvent as Event};
+ghost use Rattle.mea_events.specs.declared.meet_event.MeetEvent.TheVariants as events;
 ghost use Rattle.mea_meet_model.specs.Waiting.{wakers};
 ghost use Rattle.mea_meet_model.specs.Barriers.{Barrier, BarrierWait, barrier_at};
 ghost use Rattle.mea_meet_model.specs.Hall.{Hall};

@@ -1,17 +1,15 @@
 //! The model of the meeting points: what each event does to barriers, latches, wait groups and shutdowns
 //! with the futures that wait for them, as records, lists and finite maps, and the laws that hold of every
-//! list of events. It has no code that runs but the type of an event; the hall above is proved against it.
+//! list of events. It has no code that runs; the hall above is proved against it.
 #![tactic(auto)]
 
 mod counts;
-mod event;
 mod laws;
 mod leaders;
 mod registered;
 mod validity;
 
 pub use counts::an_ended_count_stays_ended;
-pub use event::MeetEvent;
 pub use laws::{no_wake_is_lost, wakers_are_kept};
 pub use leaders::a_round_has_one_leader;
 pub use registered::wakes_are_of_the_registered;

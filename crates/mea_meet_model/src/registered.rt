@@ -1,9 +1,9 @@
 ghost use Rattle.std.specs.Prelude.{ℕ, ◌≡◌, ◌+◌, ◌≤◌, length, false};
-ghost use Rattle.mea_meet_model.specs.declared.event.MeetEvent.{MeetEvent as Event};
+ghost use Rattle.mea_events.specs.declared.meet_event.MeetEvent.{MeetEvent as Event};
 ghost use Rattle.mea_meet_model.specs.Hall.{Hall, registered};
 ghost use Rattle.mea_meet_model.specs.Step.{step, registers};
 
-use crate::event::MeetEvent;
+use mea_events::MeetEvent;
 
 impl MeetEvent {
     /// Whether the event may register a waker, so that there has to be room for it: a poll may.

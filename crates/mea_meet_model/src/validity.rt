@@ -1,7 +1,7 @@
 ghost use Rattle.std.specs.Prelude.{◌≡◌, ℕ, ◌+◌, ◌<◌, ◌≤◌, None, IsSome, is_some};
 ghost use Rattle.std.specs.FinMap as finmap;
 ghost use Rattle.mea_family.specs.Family.{RunOf, IsRun};
-ghost use Rattle.mea_meet_model.specs.declared.event.MeetEvent.{MeetEvent as Event};
+ghost use Rattle.mea_events.specs.declared.meet_event.MeetEvent.{MeetEvent as Event};
 ghost use Rattle.mea_meet_model.specs.Latches as latches;
 ghost use Rattle.mea_meet_model.specs.Groups as groups;
 ghost use Rattle.mea_meet_model.specs.Shutdowns as shutdowns;

@@ -13,9 +13,10 @@ use crate::kinds::Kinds;
 use crate::maps::NamedMap;
 use mea_base::Ready;
 use mea_by_name::NamedWaker;
+use mea_events::OnceEvent;
 use mea_family::{Answer, Stop};
 use mea_once_core::{CellCore, OnceCore};
-use mea_once_model::{OnceEvent, wakes_are_of_the_registered};
+use mea_once_model::wakes_are_of_the_registered;
 use std::alloc::Global;
 use std::marker::Model;
 

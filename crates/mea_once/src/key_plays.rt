@@ -8,8 +8,9 @@ use crate::groups::NamedGroup;
 use crate::kinds::Kinds;
 use crate::maps::NamedMap;
 use mea_base::{NoMemory, Ready};
+use mea_events::OnceEvent;
 use mea_family::{Answer, Stop, unknown_unless};
-use mea_once_model::{Initialiser, OnceEvent};
+use mea_once_model::Initialiser;
 use std::hash::BuildHasherDefault;
 
 impl Kinds {

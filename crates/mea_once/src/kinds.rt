@@ -13,9 +13,10 @@ use crate::maps::NamedMap;
 use crate::part::CellPart;
 use mea_base::{NoMemory, Ready};
 use mea_by_name::NamedWaker;
+use mea_events::OnceEvent;
 use mea_family::{Answer, Stop, unknown_unless};
 use mea_once_core::{CellCore, OnceCore};
-use mea_once_model::{Initialiser, Job, OnceEvent};
+use mea_once_model::{Initialiser, Job};
 use std::alloc::Global;
 
 /// The calls that run once, the cells, the maps and the groups. An event on one kind leaves the others as they are.

@@ -25,4 +25,4 @@ mod values;
 pub use groups::NamedGroup;
 pub use hall::OnceHall;
 pub use maps::NamedMap;
-pub use mea_once_model::OnceEvent;
+pub use mea_events::OnceEvent;

@@ -10,7 +10,7 @@ use Rattle.mea_family.proofs.Wakes.{loses_no_wake}
 use Rattle.mea_by_name.specs.NamedQueue as named_queue
 use Rattle.mea_by_name.proofs.OneObject.{goes_counted}
 use Rattle.mea_by_name.proofs.Own.{seen-at}
-use Rattle.mea_once_model.specs.declared.event.OnceEvent.{OnceEvent}
+use Rattle.mea_events.specs.declared.once_event.OnceEvent.{OnceEvent}
 use Rattle.mea_once_model.specs.Cells as cells
 use Rattle.mea_once_model.specs.Cells.{Cell, waiting_at, is_future}
 use Rattle.mea_once_model.specs.Tables as tables

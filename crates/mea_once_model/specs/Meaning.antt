@@ -2,8 +2,8 @@
 use Rattle.std.specs.Prelude.{ℕ, Bool, Option, Some, None}
 use Rattle.mea_family.specs.declared.stop.Stop.{Stop}
 use Rattle.mea_family.specs.Family.{Outcome}
-use Rattle.mea_once_model.specs.declared.event.OnceEvent.{OnceEvent}
-use Rattle.mea_once_model.specs.declared.event.OnceEvent.TheVariants.{OnNew, OnDone, OnCall, OnWait, OnPoll, OnSettle, OnEnd, OnDrop, OcNew, OcFrom, OcGet, OcInit, OcSet, OcIns, OcMinit, OcPoll, OcSettle, OcFail, OcEnd, OcPeek, OcPut, OcTake, OcInto, OcDrop, OmNew, OmGet, OmCompute, OmPoll, OmSettle, OmFail, OmDiscard, OmRemove, OmEnd, OmDrop, SfNew, SfWork, SfPoll, SfSettle, SfFail, SfForget, SfEnd, SfDrop}
+use Rattle.mea_events.specs.declared.once_event.OnceEvent.{OnceEvent}
+use Rattle.mea_events.specs.declared.once_event.OnceEvent.TheVariants.{OnNew, OnDone, OnCall, OnWait, OnPoll, OnSettle, OnEnd, OnDrop, OcNew, OcFrom, OcGet, OcInit, OcSet, OcIns, OcMinit, OcPoll, OcSettle, OcFail, OcEnd, OcPeek, OcPut, OcTake, OcInto, OcDrop, OmNew, OmGet, OmCompute, OmPoll, OmSettle, OmFail, OmDiscard, OmRemove, OmEnd, OmDrop, SfNew, SfWork, SfPoll, SfSettle, SfFail, SfForget, SfEnd, SfDrop}
 use Rattle.mea_once_model.specs.declared.job.Initialiser.TheVariants.{Unsettled, Gives, Fails}
 use Rattle.mea_once_model.specs.declared.job.Job.TheVariants.{Calls, Computes, Alone, Sets, Inserts, Awaits}
 use Rattle.mea_once_model.specs.Cells.{Cells}

@@ -1,7 +1,7 @@
 -- once types as one of the families
 use Rattle.std.specs.Prelude.{ℕ, Bool, true, false, Option, None, if◌then◌else◌}
 use Rattle.mea_family.specs.Family.{Family}
-use Rattle.mea_once_model.specs.declared.event.OnceEvent.{OnceEvent}
+use Rattle.mea_events.specs.declared.once_event.OnceEvent.{OnceEvent}
 use Rattle.mea_once_model.specs.Cells as cells
 use Rattle.mea_once_model.specs.Cells.{is_future}
 use Rattle.mea_once_model.specs.Actions.{polled_in, ends_in}

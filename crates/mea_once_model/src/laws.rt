@@ -2,7 +2,7 @@ ghost use Rattle.std.specs.Prelude.{◌≡◌, ℕ, ◌+◌, ◌≤◌, Bool, So
 ghost use Rattle.std.specs.FinMap.{get};
 ghost use Rattle.mea_family.specs.Family.{IsRun, RunOf, KeepsWakers, LosesNoWake};
 ghost use Rattle.mea_by_name.specs.NamedQueue.{waker_for};
-ghost use Rattle.mea_once_model.specs.declared.event.OnceEvent.{OnceEvent};
+ghost use Rattle.mea_events.specs.declared.once_event.OnceEvent.{OnceEvent};
 ghost use Rattle.mea_once_model.specs.declared.job.Initialiser.{Initialiser};
 ghost use Rattle.mea_once_model.specs.Cells.{Cell, CellFuture, Cells};
 ghost use Rattle.mea_once_model.specs.Actions.{Settle, act_in};

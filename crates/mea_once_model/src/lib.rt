@@ -1,14 +1,12 @@
 //! The model of once types: what each event does to many calls that run once, cells that are filled once, and maps and
 //! groups that compute a value once for each key, with their futures, as records, lists and finite maps, and the laws that
-//! hold of every list of events. It has no code that runs but the type of an event; the hall of once types is proved
-//! against it.
+//! hold of every list of events. It has no code that runs but the types of what a future does at its cell; the hall of once
+//! types is proved against it.
 #![tactic(auto)]
 
-mod event;
 mod job;
 mod laws;
 
-pub use event::OnceEvent;
 pub use job::{Initialiser, Job};
 pub use laws::{
     a_settled_initialiser_is_woken, a_value_stays, no_wake_is_lost, tables_are_valid,

@@ -1,8 +1,8 @@
 -- histories with one more entry
 use Rattle.std.proofs.Common.{◌≡◌, ℕ, suc, ◌+◌, ◌++◌, ◌∷◌, [], List, None, length, refl, ap, sym, ◌∙◌, arith}
 use Rattle.mea_family.specs.Family.{RunOf, IsRun, Starts, Goes, goes_on, start}
-use Rattle.mea_sem_model.specs.declared.event.SemEvent.{SemEvent}
-use Rattle.mea_sem_model.specs.declared.event.SemEvent.TheVariants.{New}
+use Rattle.mea_events.specs.declared.sem_event.SemEvent.{SemEvent}
+use Rattle.mea_events.specs.declared.sem_event.SemEvent.TheVariants.{New}
 use Rattle.mea_sem_model.specs.Hall.{Hall, empty_hall}
 use Rattle.mea_sem_model.specs.Cause.{cause_of}
 use Rattle.mea_sem_model.specs.Step.{step}

@@ -5,8 +5,8 @@ use Rattle.mea_family.specs.declared.stop.Stop.{Stop}
 use Rattle.mea_family.specs.declared.stop.Stop.TheVariants as stops
 use Rattle.mea_events.specs.Replies.{Told}
 use Rattle.mea_sem.specs.Play.{Play, Plays}
-use Rattle.mea_sem_model.specs.declared.event.SemEvent.{SemEvent}
-use Rattle.mea_sem_model.specs.declared.event.SemEvent.TheVariants.{New}
+use Rattle.mea_events.specs.declared.sem_event.SemEvent.{SemEvent}
+use Rattle.mea_events.specs.declared.sem_event.SemEvent.TheVariants.{New}
 use Rattle.std.specs.FinMap.{empty}
 use Rattle.mea_base.proofs.Totals.{total-empty, total-insert}
 use Rattle.mea_sem_model.specs.Hall.{Hall, Semaphore, Future, Permit, made_with, empty_hall}

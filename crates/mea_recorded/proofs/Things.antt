@@ -8,8 +8,8 @@ use Rattle.mea_base.proofs.Tests.{at_apart}
 use Rattle.mea_family.proofs.Causes.{known}
 use Rattle.mea_base.proofs.Totals.{total-insert, total-remove, get_removed}
 use Rattle.std.proofs.lemmas.Bool.{eqb-false}
-use Rattle.mea_sem_model.specs.declared.event.SemEvent.{SemEvent}
-use Rattle.mea_sem_model.specs.declared.event.SemEvent.TheVariants as events
+use Rattle.mea_events.specs.declared.sem_event.SemEvent.{SemEvent}
+use Rattle.mea_events.specs.declared.sem_event.SemEvent.TheVariants as events
 use Rattle.mea_sem_model.specs.Hall.{Hall, Future, Permit, FutureStage, New, Waiting, Granted, Cut, Who, Waiter, Debt, semaphore_at, queue_at, lack_of, paid_in, is_closed, free, staged, stage_if, stage_who, stage_all, with_semaphore, pour, everyone, cutting, closing}
 use Rattle.mea_sem_model.specs.Cause.{cause_of, are_of_one_kind}
 use Rattle.mea_sem_model.specs.Step.{Outcome, without_permit, without_future, offers, try_of, try_and_forget, taking, made_ready, queueing, open_poll, poll_at, poll_of, leaving, end_future, end_permit, end_of, lose_of, merge_of, split_of, released_to, close_of, step}

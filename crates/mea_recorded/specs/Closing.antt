@@ -1,6 +1,6 @@
 -- the receipts of passes, held against the entries that they name
 use Rattle.std.specs.Prelude.{suc, ℕ, ◌≡◌, ◌≢◌, ◌+◌, ◌≤◌, ◌⊎◌, Bool, true, List, [], ◌∷◌, Some, slice_get, nat_lt, ◌&&◌, Any, length}
-use Rattle.mea_sem_model.specs.declared.event.SemEvent.{SemEvent}
+use Rattle.mea_events.specs.declared.sem_event.SemEvent.{SemEvent}
 use Rattle.mea_recorded.specs.History.{History, answer_at}
 use Rattle.mea_recorded.specs.declared.pass.Noted.{Noted}
 use Rattle.mea_recorded.specs.declared.mismatch.Mismatch.{Mismatch}

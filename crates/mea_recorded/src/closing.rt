@@ -4,8 +4,8 @@ ghost use Rattle.mea_recorded.specs.Closing.{Stands, rise_from, Differs, IsOutOf
 use crate::mismatch::Mismatch;
 use crate::pass::{Noted, Pass};
 use crate::recorded::Recorded;
+use mea_events::SemEvent;
 use mea_family::Answer;
-use mea_sem_model::SemEvent;
 use std::sync::ledger::Ledger;
 
 /// Holds all receipts of all passes against the entries that they name.

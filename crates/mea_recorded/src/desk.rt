@@ -11,8 +11,8 @@ use crate::mismatch::Mismatch;
 use crate::pass::{Noted, Pass};
 use crate::receipt::{Receipt, Refused};
 use crate::recorded::Recorded;
+use mea_events::SemEvent;
 use mea_family::Stop;
-use mea_sem_model::SemEvent;
 use std::sync::ledger::{Book, Ledger, Share};
 
 /// What lies under the lock: the history, and the count of the receipts that were given.

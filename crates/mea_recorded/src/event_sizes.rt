@@ -2,7 +2,7 @@ ghost use Rattle.std.specs.Prelude.{◌≡◌};
 ghost use Rattle.mea_recorded.specs.Things.{makes, ends};
 ghost use Rattle.mea_sem_model.specs.Waiters.{registers};
 
-use mea_sem_model::SemEvent;
+use mea_events::SemEvent;
 
 /// Whether the event may make a future or a permit that is one more than before. It takes no memory.
 pub fn makes(event: &SemEvent) -> bool

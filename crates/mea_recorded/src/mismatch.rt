@@ -1,5 +1,5 @@
+use mea_events::SemEvent;
 use mea_family::Answer;
-use mea_sem_model::SemEvent;
 
 /// Where the receipts of passes, or what the semaphore was made with, and the entries of a history do not agree.
 #[derive(Clone, Copy, Debug, Drop, PartialEq, Eq)]

@@ -2,7 +2,7 @@ ghost use Rattle.std.specs.Prelude.{◌≡◌, ◌≢◌, ◌+◌, ◌-◌, ◌<
 
 use crate::receipt::Receipt;
 use mea_base::NoMemory;
-use mea_sem_model::SemEvent;
+use mea_events::SemEvent;
 use std::alloc::Global;
 use std::sync::ledger::{Ledger, Share};
 

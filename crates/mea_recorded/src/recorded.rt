@@ -2,7 +2,7 @@ ghost use Rattle.std.specs.Prelude.{◌≡◌, ◌≢◌, ◌+◌, ◌-◌, ◌<
 ghost use Rattle.std.specs.Option.{option_map};
 ghost use Rattle.mea_family.specs.declared.stop.Stop.TheVariants as stops;
 ghost use Rattle.mea_events.specs.Replies.{with_wakes};
-ghost use Rattle.mea_sem_model.specs.declared.event.SemEvent.TheVariants as lines;
+ghost use Rattle.mea_events.specs.declared.sem_event.SemEvent.TheVariants as lines;
 ghost use Rattle.mea_sem_model.specs.Cause.{cause_of};
 ghost use Rattle.mea_sem_model.specs.Step.{step, ledger_of};
 ghost use Rattle.mea_recorded.specs.History.{History, IsHistory, hall_after, with_event, answer_at};
@@ -11,10 +11,9 @@ ghost use Rattle.mea_recorded.specs.Things.{ends, living_after, wakes_more};
 use crate::event_sizes::{ends, makes, registers};
 use crate::receipt::{Receipt, Refused};
 use mea_base::NoMemory;
-use mea_events::Replies;
+use mea_events::{Replies, SemEvent};
 use mea_family::{Answer, Ledger, Stop};
 use mea_sem::SemHall;
-use mea_sem_model::SemEvent;
 use std::alloc::Global;
 use std::marker::Model;
 

@@ -1,6 +1,6 @@
 ghost use Rattle.std.specs.Prelude.{◌≡◌, ◌≢◌, ◌+◌, ◌<◌, ◌≤◌, ◌++◌, ◌∷◌, [], ℕ, true, Some, All, Any, ◌⊎◌, IfOk, OnErr, OnOk, IfErr, length, vec_len, vec_capacity, slice_get, sum_by};
 ghost use Rattle.mea_family.specs.declared.stop.Stop.TheVariants as stops;
-ghost use Rattle.mea_sem_model.specs.declared.event.SemEvent.TheVariants as lines;
+ghost use Rattle.mea_events.specs.declared.sem_event.SemEvent.TheVariants as lines;
 ghost use Rattle.mea_recorded.specs.Closing.{Stands, rise_from, Explains, BeginsOtherwise};
 ghost use Rattle.mea_recorded.specs.History.{IsHistory, IsAnsweredAfter, IsRefusedAfter};
 ghost use Rattle.mea_recorded.specs.Things.{ends};
@@ -12,7 +12,7 @@ use crate::pass::Pass;
 use crate::receipt::{Receipt, Refused};
 use crate::recorded::Recorded;
 use mea_base::NoMemory;
-use mea_sem_model::SemEvent;
+use mea_events::SemEvent;
 use std::alloc::Global;
 use std::sync::ledger::{Blank, Ledger};
 use std::sync::{Mutex, Wait};

@@ -1,8 +1,8 @@
 use mea_crew_run::{CrewStatus, Gate, Open, crew, run_crew};
+use mea_events::SemEvent;
 use mea_family::Stop;
 use mea_io::MemSink;
 use mea_recorded::{Recorded, Refused};
-use mea_sem_model::SemEvent;
 use std::sync::atomic::{AtomicU64, Ordering};
 use std::test::Fail;
 use std::thread;

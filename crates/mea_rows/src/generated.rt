@@ -1,7 +1,6 @@
 use crate::rows::{bytes_of, words_of};
-use mea_events::Event;
+use mea_events::{Event, SemEvent};
 use mea_run::{Status, SureSink, SureSource, make_script, run};
-use mea_sem_model::SemEvent;
 use std::alloc::AllocError;
 use std::process::Abort;
 use std::test::Fail;

@@ -7,8 +7,8 @@ use Rattle.std.proofs.Math.Nat.{mod-lt}
 use Rattle.mea_family.specs.declared.answer.Answer.{Answer}
 use Rattle.mea_family.specs.Family.{is_pending}
 use Rattle.mea_base.proofs.Maps.{get-there}
-use Rattle.mea_sem_model.specs.declared.event.SemEvent.{SemEvent}
-use Rattle.mea_sem_model.specs.declared.event.SemEvent.TheVariants as events
+use Rattle.mea_events.specs.declared.sem_event.SemEvent.{SemEvent}
+use Rattle.mea_events.specs.declared.sem_event.SemEvent.TheVariants as events
 use Rattle.mea_sem_model.specs.Hall as sem
 use Rattle.mea_sem_model.specs.Cause as sem_cause
 use Rattle.mea_sem_model.specs.Valid.{IsValid, IsBelow}

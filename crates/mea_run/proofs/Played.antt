@@ -4,7 +4,7 @@ use Rattle.mea_family.specs.declared.answer.Answer.{Answer}
 use Rattle.mea_family.specs.declared.stop.Stop.{Stop}
 use Rattle.mea_family.specs.declared.stop.Stop.TheVariants.{Unknown, Borrowed, Zero, Overflow, NoMemory}
 use Rattle.mea_family.specs.Family.{is_pending}
-use Rattle.mea_sem_model.specs.declared.event.SemEvent.TheVariants as events
+use Rattle.mea_events.specs.declared.sem_event.SemEvent.TheVariants as events
 use Rattle.mea_events.specs.declared.event.Event.{Event}
 use Rattle.mea_events.specs.declared.event.Event.TheVariants.{Sem}
 use Rattle.mea_hall.specs.World.{World, Play, empty_world, cause_of, step}

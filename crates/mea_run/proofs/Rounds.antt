@@ -11,8 +11,8 @@ use Rattle.mea_base.proofs.Maps.{by_put, value_in, is_there, is_absent, get-ther
 use Rattle.mea_base.proofs.Tests.{by_name}
 use Rattle.mea_base.specs.Queue.{granted_in}
 use Rattle.mea_base.proofs.Totals.{total-zero}
-use Rattle.mea_sem_model.specs.declared.event.SemEvent.{SemEvent}
-use Rattle.mea_sem_model.specs.declared.event.SemEvent.TheVariants as events
+use Rattle.mea_events.specs.declared.sem_event.SemEvent.{SemEvent}
+use Rattle.mea_events.specs.declared.sem_event.SemEvent.TheVariants as events
 use Rattle.mea_sem_model.specs.Hall.{Hall, Semaphore, Future, Permit, FutureStage, New, Waiting, Granted, Cut, Waiter, semaphore_at, is_closed, queue_at, lack_of, paid_to, free, live, poured, granted, pour, with_semaphore}
 use Rattle.mea_sem_model.specs.Cause.{is_named, is_named_semaphore, is_future, is_permit, cause_of}
 use Rattle.mea_sem_model.specs.Step.{Outcome, quietly, without_future, forgetting, forgetting_exactly, taking, made_ready, queueing, refusing, open_poll, poll_at, poll_of, without, leaving, end_future, end_of, released_to, step}

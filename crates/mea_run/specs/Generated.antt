@@ -5,8 +5,8 @@ use Rattle.std.specs.FinMap as finmap
 use Rattle.mea_family.specs.declared.answer.Answer.{Answer}
 use Rattle.mea_family.specs.declared.answer.Answer.TheVariants as answers
 use Rattle.mea_family.specs.Family.{is_pending}
-use Rattle.mea_sem_model.specs.declared.event.SemEvent.{SemEvent}
-use Rattle.mea_sem_model.specs.declared.event.SemEvent.TheVariants as events
+use Rattle.mea_events.specs.declared.sem_event.SemEvent.{SemEvent}
+use Rattle.mea_events.specs.declared.sem_event.SemEvent.TheVariants as events
 use Rattle.mea_sem_model.specs.Hall as sem
 use Rattle.mea_sem_model.specs.Cause.{is_named}
 use Rattle.mea_events.specs.declared.event.Event.{Event}

@@ -3,8 +3,7 @@ ghost use Rattle.mea_hall.specs.Front.{front_of, IsLegal};
 ghost use Rattle.mea_run.specs.Generated.{drawn, drawn_by, first_state, round_of, script_of, begun_by, PollsWait, pendings, IsBetweenRounds};
 
 use mea_base::NoMemory;
-use mea_events::Event;
-use mea_sem_model::SemEvent;
+use mea_events::{Event, SemEvent};
 use std::alloc::Global;
 
 /// The first event of a generated script: a semaphore without permits.

@@ -6,7 +6,7 @@ use Rattle.mea_base.specs.Totals.{total, weight}
 use Rattle.mea_base.proofs.NamedMaps.{same_named}
 use Rattle.mea_base.proofs.Totals.{get_inserted, total-insert}
 use Rattle.mea_base.proofs.Tests.{at_same, at_apart}
-use Rattle.mea_sem_model.specs.declared.event.SemEvent.{SemEvent}
+use Rattle.mea_events.specs.declared.sem_event.SemEvent.{SemEvent}
 use Rattle.mea_sem_model.specs.Hall.{Hall}
 use Rattle.mea_sem_model.specs.Cause.{cause_of}
 use Rattle.mea_sem_model.specs.Step.{step}

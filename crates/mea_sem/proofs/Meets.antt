@@ -2,7 +2,7 @@
 use Rattle.std.proofs.Common.{◌≡◌, ℕ, ◌+◌, ◌^◌, ◌<◌, ◌≤◌, ◌++◌, List, [], subst, sym, ap, ◌∙◌, append-nil, Some}
 use Rattle.mea_family.specs.declared.answer.Answer.{Answer}
 use Rattle.mea_base.specs.Named.{at}
-use Rattle.mea_sem_model.specs.declared.event.SemEvent.{SemEvent}
+use Rattle.mea_events.specs.declared.sem_event.SemEvent.{SemEvent}
 use Rattle.mea_sem_model.specs.Hall.{Hall}
 use Rattle.mea_sem_model.specs.Step.{Outcome, step}
 use Rattle.mea_sem.specs.declared.hall.SemHall.TheInside.{Inside}

@@ -5,7 +5,7 @@ use Rattle.std.specs.FinMap.{get, insert}
 use Rattle.std.proofs.lemmas.Bool.{eqb-true, eq-eqb, and_from, and_parts}
 use Rattle.mea_base.proofs.Tests.{at_same}
 use Rattle.mea_base.proofs.NamedMaps.{get-seen}
-use Rattle.mea_sem_model.specs.declared.event.SemEvent.TheVariants as events
+use Rattle.mea_events.specs.declared.sem_event.SemEvent.TheVariants as events
 use Rattle.mea_sem_model.specs.Hall.{Hall, Future, Waiting, Waiter, Debt}
 use Rattle.mea_sem_model.specs.Cause.{cause_of}
 use Rattle.mea_sem_model.specs.Step.{step, with_future}

@@ -4,7 +4,7 @@ use Rattle.std.specs.FinMap.{get, insert}
 use Rattle.mea_base.specs.Queue.{lacks_after, waiting_after, granted_in}
 use Rattle.mea_base.proofs.Totals.{get_inserted}
 use Rattle.mea_base.proofs.Tests.{at_same}
-use Rattle.mea_sem_model.specs.declared.event.SemEvent.{SemEvent}
+use Rattle.mea_events.specs.declared.sem_event.SemEvent.{SemEvent}
 use Rattle.mea_sem_model.specs.Hall.{Hall, pour, wakes_of}
 use Rattle.mea_sem_model.specs.Cause.{cause_of}
 use Rattle.mea_sem_model.specs.Valid.{Fits}

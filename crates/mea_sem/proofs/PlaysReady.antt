@@ -6,7 +6,7 @@ use Rattle.mea_family.specs.declared.answer.Answer.{Answer}
 use Rattle.mea_base.proofs.NamedMaps.{same_named}
 use Rattle.mea_base.proofs.Totals.{get_inserted}
 use Rattle.mea_base.proofs.Tests.{at_same, last_stays}
-use Rattle.mea_sem_model.specs.declared.event.SemEvent.TheVariants as events
+use Rattle.mea_events.specs.declared.sem_event.SemEvent.TheVariants as events
 use Rattle.mea_sem_model.specs.Hall.{Hall, Semaphore, Future, Permit, semaphore_at, with_semaphore}
 use Rattle.mea_sem_model.specs.Cause.{cause_of}
 use Rattle.mea_sem_model.specs.Step.{step, quietly, without_future, with_permit, made_ready}

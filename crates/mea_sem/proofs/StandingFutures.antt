@@ -9,8 +9,8 @@ use Rattle.mea_base.specs.Totals.{weight}
 use Rattle.mea_base.proofs.NamedMaps.{named_put, get-seen, kept-at, found, kept-changed}
 use Rattle.mea_base.proofs.Totals.{total-remove}
 use Rattle.mea_base.proofs.Tests.{at_same}
-use Rattle.mea_sem_model.specs.declared.event.SemEvent.{SemEvent}
-use Rattle.mea_sem_model.specs.declared.event.SemEvent.TheVariants as events
+use Rattle.mea_events.specs.declared.sem_event.SemEvent.{SemEvent}
+use Rattle.mea_events.specs.declared.sem_event.SemEvent.TheVariants as events
 use Rattle.mea_sem_model.specs.Hall.{Hall, Semaphore, Future, FutureStage, New, Waiting, Granted, Cut, semaphore_at, queue_at, is_closed, with_semaphore, free, held, paid_to}
 use Rattle.mea_sem_model.specs.Cause.{cause_of}
 use Rattle.mea_sem_model.specs.Valid.{Fits}

@@ -13,8 +13,8 @@ use Rattle.mea_base.proofs.NamedMaps.{get-named, named_put, named_remove, same_n
 use Rattle.mea_base.proofs.Totals.{get_inserted, get_removed}
 use Rattle.mea_base.proofs.Maps.{inside}
 use Rattle.mea_family.specs.declared.stop.Stop.TheVariants as stops
-use Rattle.mea_sem_model.specs.declared.event.SemEvent.{SemEvent}
-use Rattle.mea_sem_model.specs.declared.event.SemEvent.TheVariants as events
+use Rattle.mea_events.specs.declared.sem_event.SemEvent.{SemEvent}
+use Rattle.mea_events.specs.declared.sem_event.SemEvent.TheVariants as events
 use Rattle.mea_sem_model.specs.Hall.{Hall, Permit, semaphore_at, with_semaphore}
 use Rattle.mea_sem_model.specs.Cause.{cause_of, can_merge, are_of_one_kind}
 use Rattle.mea_sem_model.specs.Valid.{Fits}

@@ -13,8 +13,8 @@ use Rattle.mea_family.specs.declared.stop.Stop.{Stop}
 use Rattle.mea_family.specs.declared.stop.Stop.TheVariants as stops
 use Rattle.mea_base.proofs.NamedMaps.{same_named, get-named, get-seen, kept-at, found}
 use Rattle.mea_base.proofs.Totals.{total-remove, total-empty}
-use Rattle.mea_sem_model.specs.declared.event.SemEvent.{SemEvent}
-use Rattle.mea_sem_model.specs.declared.event.SemEvent.TheVariants as events
+use Rattle.mea_events.specs.declared.sem_event.SemEvent.{SemEvent}
+use Rattle.mea_events.specs.declared.sem_event.SemEvent.TheVariants as events
 use Rattle.mea_sem_model.specs.Hall.{Hall, Semaphore, empty_hall, live, plain_things, free, semaphore_at, with_semaphore, closing, wakes_waiting}
 use Rattle.mea_sem_model.specs.Cause.{cause_of, is_named}
 use Rattle.mea_sem_model.specs.Step.{Outcome, step, quietly, offers, try_and_forget, close_of}

@@ -7,7 +7,7 @@ use Rattle.mea_base.specs.Named.{ChangesAt}
 use Rattle.mea_base.specs.Outbox.{Wakes}
 use Rattle.mea_family.specs.Causes.{unknown_unless}
 use Rattle.mea_base.proofs.NamedMaps.{kept-changed}
-use Rattle.mea_sem_model.specs.declared.event.SemEvent.TheVariants as events
+use Rattle.mea_events.specs.declared.sem_event.SemEvent.TheVariants as events
 use Rattle.mea_sem_model.specs.Hall.{Hall, Semaphore, Future, New, Waiting, Granted, Cut, queue_at, lack_of}
 use Rattle.mea_sem_model.specs.Cause.{cause_of, is_permit}
 use Rattle.mea_sem_model.specs.Step.{step, queueing, with_future, end_of}

@@ -8,8 +8,8 @@ ghost use Rattle.mea_sem.specs.StandsFor.{StandsFor};
 
 use crate::entries::{PermitEntry, SemaphoreEntry};
 use crate::hall::SemHall;
+use mea_events::SemEvent;
 use mea_family::{Stop, unknown_unless};
-use mea_sem_model::SemEvent;
 
 impl SemHall {
     /// Why an event would be refused, but for want of memory; `None` where it would not be. It takes no

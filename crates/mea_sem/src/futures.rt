@@ -12,9 +12,9 @@ use crate::entries::{FutureEntry, PermitEntry};
 use crate::grant::Grant;
 use crate::hall::SemHall;
 use mea_base::{NoMemory, Outbox};
+use mea_events::SemEvent;
 use mea_family::{Answer, Form, Stop};
 use mea_sem_core::Acquire;
-use mea_sem_model::SemEvent;
 
 // What the events on futures do. Each finds its cause for refusal at what it looks up.
 impl SemHall {

@@ -13,5 +13,5 @@ mod permits;
 mod semaphores;
 
 pub use hall::SemHall;
+pub use mea_events::SemEvent;
 pub use mea_sem_core::{Acquire, SemCore};
-pub use mea_sem_model::SemEvent;

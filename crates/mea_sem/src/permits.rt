@@ -9,8 +9,8 @@ ghost use Rattle.mea_sem.specs.Play.{Play, Plays};
 use crate::causes::are_alike;
 use crate::entries::PermitEntry;
 use crate::hall::SemHall;
+use mea_events::SemEvent;
 use mea_family::{Answer, Form, Stop};
-use mea_sem_model::SemEvent;
 
 // What the events that make, change and end permits do. Each finds its cause for refusal at what it looks up.
 impl SemHall {

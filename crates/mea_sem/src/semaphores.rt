@@ -6,9 +6,9 @@ ghost use Rattle.mea_sem.specs.Play.{Play, Plays};
 
 use crate::entries::SemaphoreEntry;
 use crate::hall::SemHall;
+use mea_events::SemEvent;
 use mea_family::{Answer, Ledger, Stop};
 use mea_sem_core::SemCore;
-use mea_sem_model::SemEvent;
 
 // What the events on semaphores do. Each finds its cause for refusal at the entry that it looks up.
 impl SemHall {

@@ -4,7 +4,7 @@ use Rattle.std.proofs.lemmas.List.Sums.{sum_by-cons}
 use Rattle.mea_family.specs.Family.{told, goes_on, Starts, Goes}
 use Rattle.mea_base.specs.Queue.{lacks}
 use Rattle.mea_base.proofs.Totals.{total-empty}
-use Rattle.mea_sem_model.specs.declared.event.SemEvent.{SemEvent}
+use Rattle.mea_events.specs.declared.sem_event.SemEvent.{SemEvent}
 use Rattle.mea_sem_model.specs.Hall.{empty_hall, queue_at, free, held}
 use Rattle.mea_sem_model.specs.Cause.{cause_of}
 use Rattle.mea_sem_model.specs.Valid.{IsBelow}

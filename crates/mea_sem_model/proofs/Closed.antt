@@ -6,8 +6,8 @@ use Rattle.mea_family.specs.declared.answer.Answer.TheVariants as answers
 use Rattle.mea_base.proofs.Maps.{inside, value_in}
 use Rattle.mea_base.proofs.Tests.{by_name}
 use Rattle.mea_family.proofs.Causes.{known}
-use Rattle.mea_sem_model.specs.declared.event.SemEvent.{SemEvent}
-use Rattle.mea_sem_model.specs.declared.event.SemEvent.TheVariants as events
+use Rattle.mea_events.specs.declared.sem_event.SemEvent.{SemEvent}
+use Rattle.mea_events.specs.declared.sem_event.SemEvent.TheVariants as events
 use Rattle.mea_sem_model.specs.Hall.{Hall, Future, FutureStage, New, Waiting, Granted, Cut, semaphore_at, queue_at, is_closed, free, live, owed, staged, poured, paid_in, debts_in, cutting, closing, wakes_waiting, with_semaphore}
 use Rattle.mea_sem_model.specs.Cause.{cause_of}
 use Rattle.mea_sem_model.specs.Step.{quietly, with_permit, taking, offers, try_of, try_and_forget, open_poll, refusing, poll_at, poll_of, step}

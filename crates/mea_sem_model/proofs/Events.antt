@@ -12,8 +12,8 @@ use Rattle.mea_base.proofs.Totals.{total-remove}
 use Rattle.mea_base.proofs.Maps.{is_there, get-there, get-removed_other}
 use Rattle.mea_base.proofs.Tests.{on_true}
 use Rattle.mea_family.proofs.Causes.{known}
-use Rattle.mea_sem_model.specs.declared.event.SemEvent.{SemEvent}
-use Rattle.mea_sem_model.specs.declared.event.SemEvent.TheVariants as events
+use Rattle.mea_events.specs.declared.sem_event.SemEvent.{SemEvent}
+use Rattle.mea_events.specs.declared.sem_event.SemEvent.TheVariants as events
 use Rattle.mea_sem_model.specs.Hall.{Hall, Semaphore, Future, Permit, FutureStage, New, Waiting, Granted, Cut, Who, Waiter, made_with, semaphore_at, queue_at, is_closed, pour, names, lack_of, free, plain_things, with_semaphore, closing, wakes_waiting}
 use Rattle.mea_sem_model.specs.Cause.{is_named, is_named_semaphore, are_of_one_kind, can_merge, cause_of}
 use Rattle.mea_sem_model.specs.Step.{quietly, with_future, without_future, with_permit, without_permit, forgetting, with_debt, forgetting_exactly, taking, made_ready, queueing, open_poll, refusing, poll_at, poll_of, without, leaving, end_future, end_permit, end_of, lose_of, merge_of, split_of, released_to, offers, step}

@@ -10,8 +10,8 @@ use Rattle.mea_base.specs.Queue.{lacks_after, waiting_after, granted_in}
 use Rattle.mea_family.specs.declared.answer.Answer.TheVariants as answers
 use Rattle.mea_base.proofs.Maps.{by_put, inside, get-removed_other, removed_there}
 use Rattle.mea_base.proofs.Tests.{by_name}
-use Rattle.mea_sem_model.specs.declared.event.SemEvent.{SemEvent}
-use Rattle.mea_sem_model.specs.declared.event.SemEvent.TheVariants as events
+use Rattle.mea_events.specs.declared.sem_event.SemEvent.{SemEvent}
+use Rattle.mea_events.specs.declared.sem_event.SemEvent.TheVariants as events
 use Rattle.mea_sem_model.specs.Hall.{Hall, Semaphore, Future, Permit, FutureStage, New, Waiting, Granted, Cut, Who, Waiter, Debt, names, made_with, semaphore_at, queue_at, is_closed, debt_of, debts, owed, free, poured, staged, granted, pour, waker_of, waker_of_future, waker_of_who, with_semaphore, everyone, closing, wakes_waiting}
 use Rattle.mea_sem_model.specs.Cause.{is_named, cause_of}
 use Rattle.mea_sem_model.specs.Step.{Outcome, quietly, pouring, with_future, without_future, with_permit, without_permit, forgetting, forgetting_exactly, taking, offers, try_of, try_and_forget, without, leaving, end_future, end_permit, end_of, lose_of, merge_of, split_of, released_to, step}

@@ -4,7 +4,7 @@ use Rattle.std.specs.Ordering.{nat_cmp}
 use Rattle.std.specs.FinMap.{get-empty}
 use Rattle.mea_base.proofs.Totals.{total-empty}
 use Rattle.mea_base.proofs.Maps.{nothing_there, nothing_at}
-use Rattle.mea_sem_model.specs.declared.event.SemEvent.{SemEvent}
+use Rattle.mea_events.specs.declared.sem_event.SemEvent.{SemEvent}
 use Rattle.mea_sem_model.specs.Hall.{Hall, Semaphore, Future, Permit, empty_hall, made_with, semaphore_at, queue_at, paid_to, debts, free, held, paid, owed, plain_things}
 use Rattle.mea_sem_model.specs.Cause.{cause_of}
 use Rattle.mea_sem_model.specs.Step.{step}

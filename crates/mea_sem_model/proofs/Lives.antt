@@ -9,8 +9,8 @@ use Rattle.mea_family.proofs.Wakes as wakes
 use Rattle.mea_base.proofs.Maps.{get-gone}
 use Rattle.mea_base.proofs.Tests.{at_same}
 use Rattle.mea_family.proofs.Causes.{known}
-use Rattle.mea_sem_model.specs.declared.event.SemEvent.{SemEvent}
-use Rattle.mea_sem_model.specs.declared.event.SemEvent.TheVariants as events
+use Rattle.mea_events.specs.declared.sem_event.SemEvent.{SemEvent}
+use Rattle.mea_events.specs.declared.sem_event.SemEvent.TheVariants as events
 use Rattle.mea_sem_model.specs.Hall.{Hall, Future, Permit, FutureStage, New, Waiting, Granted, Cut, queue_at, granted, pour}
 use Rattle.mea_sem_model.specs.Cause.{cause_of}
 use Rattle.mea_sem_model.specs.Step.{without_future, without_permit, end_future, end_permit, end_of, leaving, step}

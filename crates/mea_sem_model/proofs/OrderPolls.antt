@@ -7,8 +7,8 @@ use Rattle.mea_family.specs.Family.{told, goes_on, kept_waker, last_waker, last_
 use Rattle.mea_family.specs.declared.answer.Answer.TheVariants as answers
 use Rattle.mea_base.proofs.Maps.{inside, value_in, is_there, get-there, get-other, get-gone, get-removed_other}
 use Rattle.mea_base.proofs.Tests.{at_same, at_apart, by_name}
-use Rattle.mea_sem_model.specs.declared.event.SemEvent.{SemEvent}
-use Rattle.mea_sem_model.specs.declared.event.SemEvent.TheVariants as events
+use Rattle.mea_events.specs.declared.sem_event.SemEvent.{SemEvent}
+use Rattle.mea_events.specs.declared.sem_event.SemEvent.TheVariants as events
 use Rattle.mea_sem_model.specs.Hall.{Hall, Future, FutureStage, New, Waiting, Granted, Cut, Who, Waiter, semaphore_at, queue_at, is_closed, free, with_semaphore, everyone}
 use Rattle.mea_sem_model.specs.Cause.{cause_of}
 use Rattle.mea_sem_model.specs.Step.{Outcome, quietly, without_future, with_permit, taking, made_ready, queueing, open_poll, refusing, poll_at, poll_of, step}

@@ -5,8 +5,8 @@ use Rattle.std.specs.FinMap.{get}
 use Rattle.mea_family.specs.Family.{told, goes_on, Goes, last_waker}
 use Rattle.mea_base.proofs.Maps.{inside, is_there, is_absent}
 use Rattle.mea_base.proofs.Tests.{at_same, at_apart}
-use Rattle.mea_sem_model.specs.declared.event.SemEvent.{SemEvent}
-use Rattle.mea_sem_model.specs.declared.event.SemEvent.TheVariants as events
+use Rattle.mea_events.specs.declared.sem_event.SemEvent.{SemEvent}
+use Rattle.mea_events.specs.declared.sem_event.SemEvent.TheVariants as events
 use Rattle.mea_sem_model.specs.Hall.{Future, FutureStage, New, Waiting, Granted, Cut, queue_at, is_closed, staged, everyone}
 use Rattle.mea_sem_model.specs.Cause.{cause_of}
 use Rattle.mea_sem_model.specs.Step.{step}

@@ -6,7 +6,7 @@ use Rattle.std.proofs.lemmas.Bool.{eq-eqb, lt-leb}
 use Rattle.mea_base.specs.Totals.{weight}
 use Rattle.mea_family.specs.declared.answer.Answer.TheVariants as answers
 use Rattle.mea_base.proofs.Tests.{on_true}
-use Rattle.mea_sem_model.specs.declared.event.SemEvent.TheVariants as events
+use Rattle.mea_events.specs.declared.sem_event.SemEvent.TheVariants as events
 use Rattle.mea_sem_model.specs.Hall.{Hall, Semaphore, Future, New, Waiting, Granted, Cut, Who, Waiter, Debt, semaphore_at, queue_at, is_closed, lack_of, debt_of, debts, paid_to, free, owed, live, pour, with_semaphore}
 use Rattle.mea_sem_model.specs.Cause.{cause_of}
 use Rattle.mea_sem_model.specs.Step.{quietly, with_permit, taking, made_ready, queueing, open_poll, refusing, poll_at, poll_of, end_future, end_of, leaving, without, without_future, offers, try_of, try_and_forget, step}

@@ -4,8 +4,8 @@ use Rattle.std.specs.FinMap.{get}
 use Rattle.std.proofs.lemmas.Bool.{eqb-true}
 use Rattle.std.proofs.lemmas.List.Sums.{sum_by-append}
 use Rattle.mea_family.specs.declared.answer.Answer.TheVariants as answers
-use Rattle.mea_sem_model.specs.declared.event.SemEvent.{SemEvent}
-use Rattle.mea_sem_model.specs.declared.event.SemEvent.TheVariants as events
+use Rattle.mea_events.specs.declared.sem_event.SemEvent.{SemEvent}
+use Rattle.mea_events.specs.declared.sem_event.SemEvent.TheVariants as events
 use Rattle.mea_sem_model.specs.Hall.{Hall, Semaphore, Future, Permit, FutureStage, New, Waiting, Granted, Cut, Who, Waiter, made_with, semaphore_at, queue_at, is_closed, poured, pour, names, free, debt_of, debts, with_semaphore, is_debt, debts_in, paid_in, cutting, closing, wakes_waiting}
 use Rattle.mea_sem_model.specs.Step.{quietly, with_permit, without_permit, without_future, forgetting_exactly, taking, offers, try_of, try_and_forget, queueing, made_ready, open_poll, refusing, poll_at, poll_of, end_future, end_permit, end_of, lose_of, merge_of, split_of, released_to, step, without, leaving}
 use Rattle.mea_sem_model.specs.Valid.{IsBelow}

@@ -12,8 +12,8 @@ use Rattle.mea_family.specs.declared.answer.Answer.{Answer}
 use Rattle.mea_family.specs.declared.answer.Answer.TheVariants as answers
 use Rattle.mea_base.proofs.Totals.{total-insert}
 use Rattle.mea_base.proofs.Tests.{on_true, on_false}
-use Rattle.mea_sem_model.specs.declared.event.SemEvent.{SemEvent}
-use Rattle.mea_sem_model.specs.declared.event.SemEvent.TheVariants as events
+use Rattle.mea_events.specs.declared.sem_event.SemEvent.{SemEvent}
+use Rattle.mea_events.specs.declared.sem_event.SemEvent.TheVariants as events
 use Rattle.mea_sem_model.specs.Hall.{Hall, Semaphore, Future, Permit, FutureStage, New, Waiting, Granted, Cut, Who, Waiter, Debt, names, made_with, semaphore_at, queue_at, is_closed, free, lack_of, poured, pour, waker_of, waker_of_future, waker_of_who, wakes_of, with_semaphore, debts_in, paid_in, everyone, cutting, closing, wakes_waiting}
 use Rattle.mea_sem_model.specs.Step.{Outcome, quietly, pouring, without_permit, with_permit, without_future, with_debt, forgetting, forgetting_exactly, taking, offers, try_of, try_and_forget, made_ready, queueing, open_poll, refusing, poll_at, poll_of, without, leaving, end_future, end_permit, end_of, lose_of, merge_of, split_of, released_to, step}
 use Rattle.mea_sem_model.specs.Valid.{count}

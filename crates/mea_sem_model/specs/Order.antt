@@ -5,8 +5,8 @@ use Rattle.std.specs.Option.{option_or}
 use Rattle.mea_family.specs.declared.answer.Answer.{Answer}
 use Rattle.mea_family.specs.declared.answer.Answer.TheVariants as answers
 use Rattle.mea_family.specs.Family as family
-use Rattle.mea_sem_model.specs.declared.event.SemEvent.{SemEvent}
-use Rattle.mea_sem_model.specs.declared.event.SemEvent.TheVariants as events
+use Rattle.mea_events.specs.declared.sem_event.SemEvent.{SemEvent}
+use Rattle.mea_events.specs.declared.sem_event.SemEvent.TheVariants as events
 use Rattle.mea_sem_model.specs.Hall.{Hall, owed}
 use Rattle.mea_sem_model.specs.Step.{step}
 use Rattle.mea_sem_model.specs.Runs.{ToldSemEvent, Run, semaphores, waker_in}

@@ -5,8 +5,8 @@ use Rattle.mea_family.specs.declared.answer.Answer.TheVariants as answers
 use Rattle.mea_family.specs.declared.ledger.Ledger.{Ledger}
 use Rattle.mea_family.specs.Family as family
 pub use Rattle.mea_family.specs.Family.{quietly}
-use Rattle.mea_sem_model.specs.declared.event.SemEvent.{SemEvent}
-use Rattle.mea_sem_model.specs.declared.event.SemEvent.TheVariants as events
+use Rattle.mea_events.specs.declared.sem_event.SemEvent.{SemEvent}
+use Rattle.mea_events.specs.declared.sem_event.SemEvent.TheVariants as events
 use Rattle.mea_sem_model.specs.Hall.{Hall, Semaphore, Future, Permit, FutureStage, New, Waiting, Granted, Cut, Who, Waiter, Debt, made_with, semaphore_at, queue_at, is_closed, with_semaphore, names, lack_of, free, held, paid, owed, pour, wakes_of, closing, wakes_waiting}
 
 -- what an event of semaphores gives

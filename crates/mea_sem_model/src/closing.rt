@@ -1,8 +1,8 @@
 ghost use Rattle.std.specs.Prelude.{◌≡◌, ◌≢◌, ℕ, ◌+◌, Bool, true, Some, None};
 ghost use Rattle.std.specs.FinMap as finmap;
 ghost use Rattle.mea_family.specs.declared.answer.Answer.TheVariants as answers;
-ghost use Rattle.mea_sem_model.specs.declared.event.SemEvent.{SemEvent};
-ghost use Rattle.mea_sem_model.specs.declared.event.SemEvent.TheVariants as events;
+ghost use Rattle.mea_events.specs.declared.sem_event.SemEvent.{SemEvent};
+ghost use Rattle.mea_events.specs.declared.sem_event.SemEvent.TheVariants as events;
 ghost use Rattle.mea_sem_model.specs.Hall.{Hall, Future, Waiting, Granted, Cut, is_closed, staged, live, owed};
 ghost use Rattle.mea_sem_model.specs.Cause.{cause_of};
 ghost use Rattle.mea_sem_model.specs.Step.{step, quietly, refusing, try_of, try_and_forget};

@@ -2,7 +2,7 @@ ghost use Rattle.std.specs.Prelude.{◌≡◌, ◌≢◌, ℕ, ◌+◌, ◌-◌,
 ghost use Rattle.std.specs.FinMap as finmap;
 ghost use Rattle.mea_base.specs.Queue.{waiting_after, granted_in};
 ghost use Rattle.mea_family.specs.declared.answer.Answer.TheVariants as answers;
-ghost use Rattle.mea_sem_model.specs.declared.event.SemEvent.TheVariants as events;
+ghost use Rattle.mea_events.specs.declared.sem_event.SemEvent.TheVariants as events;
 ghost use Rattle.mea_sem_model.specs.Hall.{Hall, Future, FutureStage, New, Waiting, Granted, Cut, Who, queue_at, is_closed, paid_to, free, live, owed, pour};
 ghost use Rattle.mea_sem_model.specs.Cause.{cause_of};
 ghost use Rattle.mea_sem_model.specs.Step.{step, try_of, try_and_forget, leaving, without_future};

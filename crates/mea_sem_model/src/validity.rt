@@ -1,5 +1,5 @@
 ghost use Rattle.std.specs.Prelude.{◌≡◌, ℕ, ◌+◌, None};
-ghost use Rattle.mea_sem_model.specs.declared.event.SemEvent.{SemEvent};
+ghost use Rattle.mea_events.specs.declared.sem_event.SemEvent.{SemEvent};
 ghost use Rattle.mea_sem_model.specs.Hall.{Hall, empty_hall};
 ghost use Rattle.mea_sem_model.specs.Cause.{cause_of};
 ghost use Rattle.mea_sem_model.specs.Step.{step};

@@ -1,5 +1,5 @@
 ghost use Rattle.std.specs.Prelude.{◌≡◌, ℕ, ◌+◌, ◌≤◌, false, length};
-ghost use Rattle.mea_sem_model.specs.declared.event.SemEvent.{SemEvent};
+ghost use Rattle.mea_events.specs.declared.sem_event.SemEvent.{SemEvent};
 ghost use Rattle.mea_sem_model.specs.Hall.{Hall};
 ghost use Rattle.mea_sem_model.specs.Step.{step};
 ghost use Rattle.mea_sem_model.specs.Waiters.{waiters, registers};

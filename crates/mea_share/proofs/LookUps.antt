@@ -12,7 +12,7 @@ use Rattle.mea_by_name.proofs.Halls as halls
 use Rattle.mea_by_name.proofs.Own.{seen-at, seen-back, seen-empty, own-seen, total-seen, insert_same}
 use Rattle.mea_share_core.specs.Groups.{waiting_in}
 use Rattle.mea_share_core.specs.Fair.{IsSettled}
-use Rattle.mea_share_model.specs.declared.event.ShareEvent.TheVariants.{FsDrop}
+use Rattle.mea_events.specs.declared.share_event.ShareEvent.TheVariants.{FsDrop}
 use Rattle.mea_share_model.specs.Next as next_model
 use Rattle.mea_share_model.specs.Admissions as model
 use Rattle.mea_share_model.specs.Admissions.{Admission, ShareFuture, SharePermit, ShareHall, registered, plain_of, is_named, is_named_one, is_future}

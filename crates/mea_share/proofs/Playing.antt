@@ -4,7 +4,7 @@ use Rattle.mea_family.specs.declared.answer.Answer.{Answer}
 use Rattle.mea_family.specs.Family.{Outcome}
 use Rattle.mea_base.specs.Ready.{Waking}
 use Rattle.mea_family.specs.Play.{Part, PartYields, PartRests, Yields}
-use Rattle.mea_share_model.specs.declared.event.ShareEvent.{ShareEvent}
+use Rattle.mea_events.specs.declared.share_event.ShareEvent.{ShareEvent}
 use Rattle.mea_share_model.specs.Meaning.{step}
 use Rattle.mea_share_model.specs.Admissions.{Admission, ShareHall, empty_hall, registered}
 use Rattle.mea_share_model.specs.Next.{waiting_in}

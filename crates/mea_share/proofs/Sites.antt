@@ -23,8 +23,8 @@ use Rattle.mea_share_core.specs.declared.share_acquire.ShareStage.TheVariants.{D
 use Rattle.mea_share_core.specs.Share.{Share, waiting_of, IsWaiting}
 use Rattle.mea_share_core.specs.Groups.{share_in, held_in, waiting_in}
 use Rattle.mea_share_core.specs.Fair.{Fair, IsSettled, share_of, waiters_of, is_queued, Becomes, PassesOn}
-use Rattle.mea_share_model.specs.declared.event.ShareEvent.{ShareEvent}
-use Rattle.mea_share_model.specs.declared.event.ShareEvent.TheVariants.{FsNew, FsFree, FsWaiters, FsKey, FsWeightof}
+use Rattle.mea_events.specs.declared.share_event.ShareEvent.{ShareEvent}
+use Rattle.mea_events.specs.declared.share_event.ShareEvent.TheVariants.{FsNew, FsFree, FsWaiters, FsKey, FsWeightof}
 use Rattle.mea_share_model.specs.Next as next_model
 use Rattle.mea_share_model.specs.Next.{Shares, share_at, put_share}
 use Rattle.mea_share_model.specs.Admissions as model

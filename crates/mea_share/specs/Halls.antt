@@ -1,6 +1,6 @@
 -- which events take no memory
-use Rattle.mea_share_model.specs.declared.event.ShareEvent.{ShareEvent}
-use Rattle.mea_share_model.specs.declared.event.ShareEvent.TheVariants.{FsFree, FsWaiters, FsKey, FsEnd, FsDrop}
+use Rattle.mea_events.specs.declared.share_event.ShareEvent.{ShareEvent}
+use Rattle.mea_events.specs.declared.share_event.ShareEvent.TheVariants.{FsFree, FsWaiters, FsKey, FsEnd, FsDrop}
 
 -- the events that take no memory
 abbrev pub TakesNoMemory : ShareEvent → Type 0

@@ -3,7 +3,7 @@ use Rattle.std.specs.Prelude.{ℕ, ◌≡◌, ◌⊎◌, Bool, true, false, Some
 use Rattle.std.specs.FinMap.{get}
 use Rattle.mea_family.specs.Family.{Outcome}
 use Rattle.mea_share_core.specs.Fair.{Fair}
-use Rattle.mea_share_model.specs.declared.event.ShareEvent.TheVariants.{FsTry, FsTryo, FsAcq, FsAcqo}
+use Rattle.mea_events.specs.declared.share_event.ShareEvent.TheVariants.{FsTry, FsTryo, FsAcq, FsAcqo}
 use Rattle.mea_share_model.specs.Next.{waiting_in}
 use Rattle.mea_share_model.specs.Admissions.{Admission, ShareHall}
 use Rattle.mea_share_model.specs.Meaning.{step}

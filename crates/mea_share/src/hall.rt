@@ -9,8 +9,9 @@ ghost use Rattle.mea_share.specs.Halls.{TakesNoMemory};
 use crate::admission_entry::Core;
 use crate::part::SharePart;
 use mea_base::Ready;
+use mea_events::ShareEvent;
 use mea_family::{Answer, Stop};
-use mea_share_model::{ShareEvent, wakes_are_of_the_registered};
+use mea_share_model::wakes_are_of_the_registered;
 use std::alloc::Global;
 use std::marker::Model;
 

@@ -9,7 +9,7 @@ use Rattle.mea_base.proofs.Totals.{total-zero}
 use Rattle.mea_by_name.specs.ByName.{Names, count}
 use Rattle.mea_by_name.proofs.OneObject.{IsBelow, below_put, below_gone, below_later}
 use Rattle.mea_share_core.specs.Share.{Share, new_share}
-use Rattle.mea_share_model.specs.declared.event.ShareEvent.{ShareEvent}
+use Rattle.mea_events.specs.declared.share_event.ShareEvent.{ShareEvent}
 use Rattle.mea_share_model.specs.Next.{share_at}
 use Rattle.mea_share_model.specs.Admissions.{Admission, ShareFuture, SharePermit, ShareHall, empty_hall, new_admission}
 use Rattle.mea_share_model.specs.Meaning.{cause_of, step, registers}

@@ -6,8 +6,8 @@ use Rattle.mea_family.specs.Family.{Outcome}
 use Rattle.mea_family.specs.Play.{found}
 use Rattle.mea_by_name.proofs.Cases.{by_found, by_if}
 use Rattle.mea_share_core.specs.Share.{Share, released, given_up}
-use Rattle.mea_share_model.specs.declared.event.ShareEvent.{ShareEvent}
-use Rattle.mea_share_model.specs.declared.event.ShareEvent.TheVariants.{FsNew, FsFree, FsWaiters, FsTry, FsTryo, FsAcq, FsAcqo, FsPoll, FsKey, FsEnd, FsDrop, FsWeight, FsWeightof}
+use Rattle.mea_events.specs.declared.share_event.ShareEvent.{ShareEvent}
+use Rattle.mea_events.specs.declared.share_event.ShareEvent.TheVariants.{FsNew, FsFree, FsWaiters, FsTry, FsTryo, FsAcq, FsAcqo, FsPoll, FsKey, FsEnd, FsDrop, FsWeight, FsWeightof}
 use Rattle.mea_share_model.specs.Next.{Waiter, share_at, next_of}
 use Rattle.mea_share_model.specs.Admissions as admissions
 use Rattle.mea_share_model.specs.Admissions.{Admission, ShareFuture, ShareHall, with_share, passed, woken, tidied, gives_back}

@@ -12,8 +12,8 @@ use Rattle.mea_by_name.specs.ByName.{Names}
 use Rattle.mea_family.specs.Play.{found}
 use Rattle.mea_by_name.proofs.Cases.{by_found, by_if}
 use Rattle.mea_share_core.specs.Share.{Share, new_share, waiting_of, taken, queued, left, admitting, readied, given_up, released, weighing}
-use Rattle.mea_share_model.specs.declared.event.ShareEvent.{ShareEvent}
-use Rattle.mea_share_model.specs.declared.event.ShareEvent.TheVariants.{FsNew, FsFree, FsWaiters, FsTry, FsTryo, FsAcq, FsAcqo, FsPoll, FsKey, FsEnd, FsDrop, FsWeight, FsWeightof}
+use Rattle.mea_events.specs.declared.share_event.ShareEvent.{ShareEvent}
+use Rattle.mea_events.specs.declared.share_event.ShareEvent.TheVariants.{FsNew, FsFree, FsWaiters, FsTry, FsTryo, FsAcq, FsAcqo, FsPoll, FsKey, FsEnd, FsDrop, FsWeight, FsWeightof}
 use Rattle.mea_share_model.specs.Next.{Shares, Waiter, share_at, put_share, next_of}
 use Rattle.mea_share_model.specs.Admissions as admissions
 use Rattle.mea_share_model.specs.Admissions.{Admission, ShareFuture, ShareHall, new_admission, with_share, passed, tidied_admissions, things_of, is_named}

@@ -1,8 +1,8 @@
 -- fair admission as one of the families
 use Rattle.std.specs.Prelude.{ℕ, ◌==◌, Bool, false, cond, Option, Some, None}
 use Rattle.mea_family.specs.Family.{Family}
-use Rattle.mea_share_model.specs.declared.event.ShareEvent.{ShareEvent}
-use Rattle.mea_share_model.specs.declared.event.ShareEvent.TheVariants.{FsPoll, FsEnd}
+use Rattle.mea_events.specs.declared.share_event.ShareEvent.{ShareEvent}
+use Rattle.mea_events.specs.declared.share_event.ShareEvent.TheVariants.{FsPoll, FsEnd}
 use Rattle.mea_share_model.specs.Admissions.{ShareHall, empty_hall, is_future, placed}
 use Rattle.mea_share_model.specs.Meaning.{cause_of, step}
 

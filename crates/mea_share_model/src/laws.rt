@@ -1,6 +1,6 @@
 ghost use Rattle.std.specs.Prelude.{◌≡◌, ℕ, ◌+◌, ◌≤◌, false, length};
 ghost use Rattle.mea_family.specs.Family.{IsRun, RunOf, KeepsWakers, LosesNoWake};
-ghost use Rattle.mea_share_model.specs.declared.event.ShareEvent.{ShareEvent};
+ghost use Rattle.mea_events.specs.declared.share_event.ShareEvent.{ShareEvent};
 ghost use Rattle.mea_share_model.specs.Admissions.{ShareHall, registered};
 ghost use Rattle.mea_share_model.specs.Meaning.{step, registers};
 ghost use Rattle.mea_share_model.specs.ShareFamily.{shares_family};

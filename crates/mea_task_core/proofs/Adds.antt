@@ -10,7 +10,7 @@ use Rattle.std.proofs.lemmas.List.Sums.{sum_by-cons, sum_by-append, fails_before
 use Rattle.std.proofs.lemmas.Option.{slice_get_within, slice_get_past, get_or_from_slice_get}
 use Rattle.mea_base.proofs.Maps.{inside}
 use Rattle.mea_base.proofs.Tests.{by_name, on_true, on_false}
-use Rattle.mea_sem_model.specs.declared.event.SemEvent.TheVariants as events
+use Rattle.mea_events.specs.declared.sem_event.SemEvent.TheVariants as events
 use Rattle.mea_sem_model.specs.Hall.{Future, FutureStage, New, Waiting, Granted}
 use Rattle.mea_sem_model.specs.Step.{step}
 use Rattle.mea_family.specs.declared.answer.Answer.{Answer}

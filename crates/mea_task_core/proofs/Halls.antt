@@ -7,8 +7,8 @@ use Rattle.mea_family.specs.Causes.{unknown_unless}
 use Rattle.mea_family.specs.declared.answer.Answer.TheVariants as answers
 use Rattle.mea_family.specs.declared.stop.Stop.{Stop}
 use Rattle.mea_family.specs.declared.stop.Stop.TheVariants as stops
-use Rattle.mea_sem_model.specs.declared.event.SemEvent.{SemEvent}
-use Rattle.mea_sem_model.specs.declared.event.SemEvent.TheVariants as events
+use Rattle.mea_events.specs.declared.sem_event.SemEvent.{SemEvent}
+use Rattle.mea_events.specs.declared.sem_event.SemEvent.TheVariants as events
 use Rattle.mea_sem_model.specs.Hall.{Hall, Semaphore, Future, FutureStage, New, Waiting, Granted, Waiter, made_with, semaphore_at, queue_at, is_closed, free, live, poured, pour, with_semaphore}
 use Rattle.mea_sem_model.specs.Cause.{cause_of, is_named, is_named_semaphore}
 use Rattle.mea_sem_model.specs.Step.{Outcome, quietly, without_future, taking, made_ready, queueing, refusing, open_poll, poll_of, released_to, step}

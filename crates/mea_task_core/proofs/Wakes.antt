@@ -8,7 +8,7 @@ use Rattle.std.proofs.lemmas.List.Sums.{sum_by-cons}
 use Rattle.mea_base.proofs.Maps.{by_put, inside, get-there, get-other}
 use Rattle.mea_base.proofs.Tests.{on_true, on_false}
 use Rattle.mea_base.specs.Queue.{granted_in}
-use Rattle.mea_sem_model.specs.declared.event.SemEvent.TheVariants as events
+use Rattle.mea_events.specs.declared.sem_event.SemEvent.TheVariants as events
 use Rattle.mea_sem_model.specs.Hall.{Hall, Future, FutureStage, New, Waiting, Granted, Cut, Who, Waiter, Debt, names as is_named_by, granted, grant_all, stage_if, waker_of, waker_of_future, waker_of_who, queue_at}
 use Rattle.mea_sem_model.specs.Step.{released_to, step}
 use Rattle.mea_sem_model.specs.Valid.{IsValid, IsBelow, one_if_waiting, waits_at}

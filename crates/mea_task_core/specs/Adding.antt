@@ -1,7 +1,7 @@
 -- semaphores and tasks that are added
 use Rattle.std.specs.Prelude.{ℕ, ◌≡◌, ◌+◌, ◌^◌, ◌<◌, ◌≤◌, ◌++◌, Bool, true, not, List, [], ◌∷◌, Option, Some, None, nat_lt, length}
 use Rattle.std.specs.List.{position}
-use Rattle.mea_sem_model.specs.declared.event.SemEvent.TheVariants as events
+use Rattle.mea_events.specs.declared.sem_event.SemEvent.TheVariants as events
 use Rattle.mea_task_core.specs.declared.step.Step.{Step}
 use Rattle.mea_task_core.specs.declared.step.Step.TheVariants.{Take, Give, Yield}
 use Rattle.mea_task_core.specs.declared.phase.Phase.TheVariants.{Queued}

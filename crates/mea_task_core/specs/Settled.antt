@@ -1,7 +1,7 @@
 -- what tasks are once no move is left
 use Rattle.std.specs.Prelude.{ℕ, ◌≡◌, ◌≤◌, Option, Some, None, slice_get}
 use Rattle.mea_family.specs.declared.answer.Answer.TheVariants as answers
-use Rattle.mea_sem_model.specs.declared.event.SemEvent.TheVariants as events
+use Rattle.mea_events.specs.declared.sem_event.SemEvent.TheVariants as events
 use Rattle.mea_sem_model.specs.Hall.{queue_at, lack_of}
 use Rattle.mea_sem_model.specs.Step.{step}
 use Rattle.mea_task_core.specs.declared.step.Step.{Step}

@@ -1,7 +1,7 @@
 ghost use Rattle.std.specs.Prelude.{◌≡◌, ◌<◌, ◌≤◌, ℕ, Some, length};
 ghost use Rattle.mea_family.specs.declared.stop.Stop.{Stop};
 ghost use Rattle.mea_family.specs.declared.stop.Stop.TheVariants as stops;
-ghost use Rattle.mea_sem_model.specs.declared.event.SemEvent.TheVariants as events;
+ghost use Rattle.mea_events.specs.declared.sem_event.SemEvent.TheVariants as events;
 ghost use Rattle.mea_sem_model.specs.Cause.{cause_of};
 ghost use Rattle.mea_task_core.specs.Machine.{Machine, new_machine, name_of, move, moves, IsAtRest};
 ghost use Rattle.mea_task_core.specs.Sound.{IsSound};

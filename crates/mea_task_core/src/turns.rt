@@ -1,5 +1,5 @@
 ghost use Rattle.std.specs.Prelude.{◌≡◌, ◌+◌, ◌<◌, ◌≤◌, ◌++◌, [], ◌∷◌, ℕ, Some, None, length, OnOk, OnErr};
-ghost use Rattle.mea_sem_model.specs.declared.event.SemEvent.TheVariants as events;
+ghost use Rattle.mea_events.specs.declared.sem_event.SemEvent.TheVariants as events;
 ghost use Rattle.mea_family.specs.Family.{is_pending};
 ghost use Rattle.mea_sem_model.specs.Cause.{cause_of};
 ghost use Rattle.mea_task_core.specs.Task.{over};

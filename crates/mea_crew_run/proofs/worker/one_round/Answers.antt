@@ -1,5 +1,5 @@
 use Rattle.std.proofs.Common.{◌++◌, ◌∷◌, [], ap, sym, ◌∙◌, refl, append_assoc}
-use Rattle.mea_sem_model.specs.declared.event.SemEvent.TheVariants.{Try, End}
+use Rattle.mea_events.specs.declared.sem_event.SemEvent.TheVariants.{Try, End}
 use Rattle.mea_recorded.specs.declared.pass.Noted.{Noted}
 use Rattle.mea_crew_run.specs.Rounds.{Misses, Passes}
 use Rattle.mea_crew_run.proofs.worker.one_round.Goals as goal

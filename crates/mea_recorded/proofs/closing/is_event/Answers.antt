@@ -1,5 +1,5 @@
 use Rattle.std.proofs.Common.{sym, ◌∙◌}
-use Rattle.mea_sem_model.specs.contracts.event.SemEvent.{enum}
+use Rattle.mea_events.specs.contracts.sem_event.SemEvent.{enum}
 use Rattle.mea_recorded.proofs.Equals.{values_of_one, number, numbers}
 use Rattle.mea_recorded.proofs.closing.is_event.Goals as goal
 

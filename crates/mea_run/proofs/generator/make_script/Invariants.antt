@@ -1,5 +1,5 @@
 use Rattle.std.proofs.Common.{◌≡◌, ◌-◌, ◌<◌, ◌++◌, ◌∷◌}
-use Rattle.mea_sem_model.specs.declared.event.SemEvent.TheVariants as events
+use Rattle.mea_events.specs.declared.sem_event.SemEvent.TheVariants as events
 use Rattle.mea_events.specs.declared.event.Event.TheVariants.{Sem}
 use Rattle.mea_run.specs.Generated.{rounds_from, first_state}
 use Rattle.mea_run.proofs.generator.make_script.Given as goal

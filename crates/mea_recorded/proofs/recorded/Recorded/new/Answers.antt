@@ -1,5 +1,5 @@
 use Rattle.std.proofs.Common.{ap, ◌∙◌, ◌++◌, ◌∷◌, []}
-use Rattle.mea_sem_model.specs.declared.event.SemEvent.TheVariants.{New}
+use Rattle.mea_events.specs.declared.sem_event.SemEvent.TheVariants.{New}
 use Rattle.mea_recorded.proofs.Keeping.{kept_first}
 use Rattle.mea_recorded.proofs.recorded.Recorded.new.Goals as goal
 

@@ -2,7 +2,7 @@ use Rattle.std.proofs.Common.{refl, Bool, ◌≡◌, ◌+◌, sym, ap, subst, �
 use Rattle.std.specs.Option.{option_copied}
 use Rattle.mea_family.specs.declared.answer.Answer.{Answer}
 use Rattle.mea_family.specs.declared.answer.Answer.TheVariants.{Yes, No}
-use Rattle.mea_sem_model.specs.declared.event.SemEvent.TheVariants as events
+use Rattle.mea_events.specs.declared.sem_event.SemEvent.TheVariants as events
 use Rattle.mea_sem_model.specs.Step.{step}
 use Rattle.mea_sem.specs.Store.{hall_of}
 use Rattle.mea_family.specs.Play.{Yields}

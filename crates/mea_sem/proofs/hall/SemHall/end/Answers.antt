@@ -3,7 +3,7 @@ use Rattle.std.specs.Option.{option_copied_mut}
 use Rattle.std.specs.Result.{IfOk, IfErr, OnOk, OnErr}
 use Rattle.std.specs.FinMap.{get}
 use Rattle.mea_family.specs.declared.stop.Stop.TheVariants.{NoMemory}
-use Rattle.mea_sem_model.specs.declared.event.SemEvent.TheVariants as events
+use Rattle.mea_events.specs.declared.sem_event.SemEvent.TheVariants as events
 use Rattle.mea_sem_model.specs.Cause.{cause_of}
 use Rattle.mea_sem.specs.Play.{Play, Plays}
 use Rattle.mea_sem.proofs.Meets.{tidied, kept_as_futures, MeetsFuture, its_semaphore, seen_as_futures}

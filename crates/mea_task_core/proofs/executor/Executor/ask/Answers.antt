@@ -1,7 +1,7 @@
 use Rattle.std.proofs.Common.{ap, sym, subst, ◌∙◌, arith, Some, refl}
 use Rattle.std.proofs.lemmas.Option.{slice_get_within}
 use Rattle.mea_sem.specs.Play.{Plays}
-use Rattle.mea_sem_model.specs.declared.event.SemEvent.TheVariants as events
+use Rattle.mea_events.specs.declared.sem_event.SemEvent.TheVariants as events
 use Rattle.mea_task_core.specs.declared.step.Step.TheVariants.{Take}
 use Rattle.mea_task_core.specs.contracts.executor.Executor.{the_view}
 use Rattle.mea_task_core.specs.Machine.{Machine, name_of, asks, move}

@@ -1,7 +1,7 @@
 use Rattle.std.proofs.Common.{◌≡◌, ◌<◌, ◌≤◌, ◌++◌, ap, sym, subst, ◌∙◌, arith, Some, None, refl, length}
 use Rattle.std.proofs.lemmas.Option.{slice_get_within}
 use Rattle.mea_sem.specs.Play.{Plays}
-use Rattle.mea_sem_model.specs.declared.event.SemEvent.TheVariants as events
+use Rattle.mea_events.specs.declared.sem_event.SemEvent.TheVariants as events
 use Rattle.mea_sem_model.specs.Cause.{cause_of}
 use Rattle.mea_task_core.specs.declared.step.Step.TheVariants.{Give}
 use Rattle.mea_task_core.specs.contracts.executor.Executor.{the_view}

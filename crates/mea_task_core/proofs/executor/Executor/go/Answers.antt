@@ -1,6 +1,6 @@
 use Rattle.std.proofs.Common.{◌≡◌, ap, sym, subst, ◌∙◌, arith, Some, None}
 use Rattle.std.proofs.lemmas.Option.{slice_get_within}
-use Rattle.mea_sem_model.specs.declared.event.SemEvent.TheVariants as events
+use Rattle.mea_events.specs.declared.sem_event.SemEvent.TheVariants as events
 use Rattle.mea_sem_model.specs.Cause.{cause_of}
 use Rattle.mea_task_core.specs.declared.step.Step.TheVariants.{Take, Give, Yield}
 use Rattle.mea_task_core.specs.declared.phase.Phase.TheVariants.{Finished}

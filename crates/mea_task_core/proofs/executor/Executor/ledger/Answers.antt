@@ -1,7 +1,7 @@
 use Rattle.std.proofs.Common.{sym, subst, refl, ◌<◌, ◌^◌}
 use Rattle.std.specs.Result.{IfOk}
 use Rattle.mea_sem.specs.Play.{Plays}
-use Rattle.mea_sem_model.specs.declared.event.SemEvent.TheVariants as events
+use Rattle.mea_events.specs.declared.sem_event.SemEvent.TheVariants as events
 use Rattle.mea_task_core.specs.contracts.executor.Executor.{the_view}
 use Rattle.mea_task_core.specs.Machine.{Machine}
 use Rattle.mea_task_core.proofs.Adds.{kept_told}
