@@ -267,7 +267,7 @@ fn registers(event: &Event) -> bool
     match event {
         Event::Sem(SemEvent::Poll(..)) => true,
         Event::Sem(_) => false,
-        Event::Meet(event) => event.registers(),
+        Event::Meet(event) => mea_meet_model::registers(event),
         Event::Lock(LockEvent::MxPoll(..) | LockEvent::RwPoll(..) | LockEvent::CvPoll(..)) => true,
         Event::Lock(_) => false,
         Event::Chan(

@@ -5,19 +5,17 @@ ghost use Rattle.mea_meet_model.specs.Step.{step, registers};
 
 use mea_events::MeetEvent;
 
-impl MeetEvent {
-    /// Whether the event may register a waker, so that there has to be room for it: a poll may.
-    pub fn registers(&self) -> bool
-        ensures { result ≡ registers self.now }
-    {
-        matches!(
-            self,
-            MeetEvent::BarPoll(..)
-                | MeetEvent::LatPoll(..)
-                | MeetEvent::WgPoll(..)
-                | MeetEvent::SdPoll(..)
-        )
-    }
+/// Whether the event may register a waker, so that there has to be room for it: a poll may.
+pub fn registers(event: &MeetEvent) -> bool
+    ensures { result ≡ registers event.now }
+{
+    matches!(
+        event,
+        MeetEvent::BarPoll(..)
+            | MeetEvent::LatPoll(..)
+            | MeetEvent::WgPoll(..)
+            | MeetEvent::SdPoll(..)
+    )
 }
 
 /// An event wakes none but registered wakers and registers at most one, and none but a poll registers any.

@@ -70,8 +70,9 @@ impl<K: Eq + Hash + Drop, V: Clone, S: BuildHasher + Drop, W: Drop> Keyed<K, V, 
         ensures numbers { IfOk result (λ k. (key : K) → number_of K.eq k.table key ≡ None) }
         ensures wakes { IfOk result (λ k. k.wakes ≡ []) }
     {
+        let table = OnceTable::with_capacity_and_hasher(alloc, capacity, hasher)?;
         Ok(Keyed {
-            table: OnceTable::with_capacity_and_hasher(alloc, capacity, hasher)?,
+            table,
             outbox: Outbox::new(alloc),
             waiting: 0,
         })
@@ -83,8 +84,9 @@ impl<K: Eq + Hash + Drop, V: Clone, S: BuildHasher + Drop, W: Drop> Keyed<K, V, 
         ensures values { IfOk result (λ k. (key : K) → value_for K.eq k key ≡ last_value K.eq pairs.items key) }
         ensures wakes { IfOk result (λ k. k.wakes ≡ []) }
     {
+        let table = OnceTable::from_pairs(alloc, pairs, hasher)?;
         Ok(Keyed {
-            table: OnceTable::from_pairs(alloc, pairs, hasher)?,
+            table,
             outbox: Outbox::new(alloc),
             waiting: 0,
         })

@@ -68,8 +68,12 @@ impl<K: Eq + Hash + Drop, V: Drop, S: BuildHasher + Drop, W: Drop> OnceTable<K, 
         ensures entries { IfOk result (λ t. (n : ℕ) → entry_at t n ≡ None) }
         ensures numbers { IfOk result (λ t. (key : K) → number_of K.eq t key ≡ None) }
     {
-        let entries = Slab::with_capacity(alloc, capacity)?;
-        let numbers = IndexMap::with_capacity_and_hasher(alloc, capacity, hasher)?;
+        let Ok(entries) = Slab::with_capacity(alloc, capacity) else {
+            return Err(NoMemory);
+        };
+        let Ok(numbers) = IndexMap::with_capacity_and_hasher(alloc, capacity, hasher) else {
+            return Err(NoMemory);
+        };
         Ok(OnceTable {
             entries,
             numbers,
