@@ -69,10 +69,11 @@ impl<'a, R: Wait, F: Waits<Bell, O>, O> Waiting<'a, R, F, O> {
     pub(crate) fn idle(rt: &'a R, alloc: Global) -> Result<Self, NoMemory>
         ensures { IfOk result (λ w. w.wait ≡ None) }
     {
+        let bell = Bell::new(alloc)?;
         Ok(Waiting {
             rt,
             wait: None,
-            bell: Bell::new(alloc)?,
+            bell,
             rung: Source::new(),
             has_rested: false,
             output: PhantomData,
