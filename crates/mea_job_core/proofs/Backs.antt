@@ -1,6 +1,6 @@
 -- the jobs that a stop returned come back, each once and in order
-use Rattle.std.proofs.Common.{◌≡◌, ℕ, ◌==◌, ◌&&◌, ◌++◌, Bool, true, false, cond, T, List, [], ◌∷◌, length, Option, Some, None, option_to_list, if◌then◌else◌, refl, ap, sym, subst, ◌∙◌, append_assoc}
-use Rattle.std.specs.Ordering.{nat_cmp, is_lt, eq_by_cmp}
+use Rattle.std.proofs.Common.{◌≡◌, ℕ, ◌==◌, ◌++◌, Bool, true, false, cond, T, List, [], ◌∷◌, length, Option, Some, None, option_to_list, if◌then◌else◌, refl, ap, sym, subst, ◌∙◌, append_assoc}
+use Rattle.std.specs.Ordering.{nat_cmp}
 use Rattle.std.specs.FinMap.{find, is_sorted, entries, entries_sorted, get, remove, from_sorted, entries-from_sorted, get-from_sorted, get-entries}
 use Rattle.std.specs.FinMap.Entries.{below_all}
 use Rattle.std.proofs.lemmas.Bool.{eqb-true}
@@ -11,7 +11,7 @@ use Rattle.mea_by_name.specs.ByName.{Names, seen}
 use Rattle.mea_job_core.specs.Calls as call
 use Rattle.mea_job_core.specs.Calls.{Call, submits, refusal_in, called, all_called, handed_by, all_handed}
 use Rattle.mea_job_core.specs.declared.submit_error.SubmitError.{SubmitError}
-use Rattle.mea_job_core.specs.Record.{Job, Record, Finished, is_running, queued_in, running_in, in_state, returned, put, tells, starts_one, starts, finishes_as, finishes, recalls_one, recalls, stops, hands, hands_one, polls}
+use Rattle.mea_job_core.specs.Record.{Job, Record, Finished, is_running, queued_in, running_in, in_state, returned, put, tells, starts_one, starts, finishes_as, recalls_one, stops, hands_one, polls}
 use Rattle.mea_job_core.specs.Work.{Submission, first_in, next_of}
 use Rattle.mea_job_core.proofs.Sorted.{below_none, both_first, both_second}
 use Rattle.mea_job_core.proofs.Stops.{stops_as}

@@ -1,9 +1,8 @@
 -- lists of calls: what a core keeps stands for the record, and answers as it says
-use Rattle.std.proofs.Common.{◌≡◌, ℕ, ◌+◌, ◌≤◌, ◌==◌, ◌&&◌, ◌++◌, ◌⊎◌, inl, inr, Bool, true, false, cond, List, [], ◌∷◌, length, Option, Some, None, IsSome, is_some, Result, Ok, Err, option_to_list, if◌then◌else◌, refl, ap, sym, subst, ◌∙◌, arith, append-nil}
+use Rattle.std.proofs.Common.{◌≡◌, ℕ, ◌+◌, ◌≤◌, ◌==◌, ◌++◌, ◌⊎◌, inl, inr, Bool, true, false, cond, List, [], ◌∷◌, length, Option, Some, None, is_some, Result, Ok, Err, option_to_list, if◌then◌else◌, refl, ap, sym, subst, ◌∙◌, arith, append-nil}
 use Rattle.std.specs.Ordering.{nat_cmp}
 use Rattle.std.specs.Option.{option_map}
-use Rattle.std.specs.FinMap.{empty, get, insert, remove, len, get-empty, len-empty}
-use Rattle.futures.specs.declared.task.Poll.TheVariants.{Ready, Pending}
+use Rattle.std.specs.FinMap.{empty, get, remove, len, get-empty, len-empty}
 use Rattle.mea_base.proofs.Maps.{is_absent, nothing_there}
 use Rattle.mea_base.proofs.NamedMaps.{same_named, get-seen}
 use Rattle.mea_base.proofs.Totals.{total-same, total-plus}
@@ -13,13 +12,12 @@ use Rattle.mea_by_name.proofs.Own.{len-total, len-seen, seen-empty, count-least}
 use Rattle.mea_job_core.specs.declared.finish_error.FinishError.{FinishError}
 use Rattle.mea_job_core.specs.declared.finish_error.FinishError.TheVariants as finish
 use Rattle.mea_job_core.specs.declared.submit_error.SubmitError.{SubmitError}
-use Rattle.mea_job_core.specs.declared.unknown_job.UnknownJob.{UnknownJob}
 use Rattle.mea_job_core.specs.Calls as call
 use Rattle.mea_job_core.specs.Calls.{Call, Answer, number_given, IsNewFor, next_after, AreNewFrom, submits, submits_on, next_in, refusal_in, finish_answer_in, recall_answer_in, counts_in, called, answer_in, all_called, called_on, answer_of, all_called_on, IsNewIn, AddsAtMostOne}
-use Rattle.mea_job_core.specs.Record.{State, Job, Finished, Record, is_queued, is_running, is_finished, is_returned, passes, pick, submission_of, queued_in, running_in, count_in, in_state, new_record, put, tells, starts, finishes_as, finishes, recalls, stops, hands, polls, kept_of}
-use Rattle.mea_job_core.specs.Runs.{Calls, Submit, SubmitRefused, Finish, FinishRefused, Recall, Take, Stop, TakeBack, PollEnd, NextWake, History, Begins, Goes}
+use Rattle.mea_job_core.specs.Record.{State, Job, Finished, Record, is_queued, is_running, is_finished, is_returned, passes, pick, submission_of, queued_in, running_in, count_in, in_state, new_record, put, tells, starts, finishes_as, finishes, kept_of}
+use Rattle.mea_job_core.specs.Runs.{Calls, Submit, SubmitRefused, Finish, FinishRefused, Recall, Take, Stop, TakeBack, PollEnd, NextWake, History, Goes}
 use Rattle.mea_job_core.specs.Service.{Service, new_service, told, is_over, is_full, with_result, after_finish, after_stop, value_of, refusal_of}
-use Rattle.mea_job_core.specs.Work.{Submission, ended, halted, next_of, number_in}
+use Rattle.mea_job_core.specs.Work.{ended, halted, next_of, number_in}
 use Rattle.mea_job_core.proofs.Picks.{get-pick, queued-still, running-out}
 use Rattle.mea_job_core.proofs.Records.{kept_accepts, kept_finishes, kept_recalls, kept_takes, kept_hands, running_flag, running_not}
 use Rattle.mea_job_core.proofs.Stops.{by_state, len-pick, kept_stops, kept_polls}

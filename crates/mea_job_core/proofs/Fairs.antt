@@ -41,7 +41,7 @@ module _ (f : Fair ℕ ℕ) (q : Names Waiting) (r : Names ℕ) (fair : IsFair f
         subst (Belongs nat_eq f key) (sym (same_stage ∙ was.stage))
         (inl (is_there (waker_at f.shares key was.number) n (ap (λ k. waker_at f.shares k was.number) same_key ∙ was.waker)))
 
-    pub recalls : (f' : Fair ℕ ℕ) → Cancels nat_eq f key stage f' → IsSettled f' → IsFair f' (remove q n) r × (f'.free ≡ f.free)
+    pub recalls : (f' : Fair ℕ ℕ) → Cancels nat_eq f key stage f' → IsSettled f' → IsFair f' (remove q n) r × (f'.free ≡ f.free) × (f'.next ≡ f.next)
     recalls f' cancels settled =
         let was = fair.tied.waits n x there in
         let waits = is_there (waker_at f.shares key was.number) n (ap (λ k. waker_at f.shares k was.number) same_key ∙ was.waker) in
@@ -52,6 +52,7 @@ module _ (f : Fair ℕ ℕ) (q : Names Waiting) (r : Names ℕ) (fair : IsFair f
             quiet = becomes.wakes ∙ fair.quiet;
           },
           becomes.permits,
+          becomes.number,
         )
 
   -- ---- a job takes a free permit
@@ -80,7 +81,7 @@ module _ (f : Fair ℕ ℕ) (q : Names Waiting) (r : Names ℕ) (fair : IsFair f
     pub asked_belongs : Belongs nat_eq f' key stage
     asked_belongs = subst (Belongs nat_eq f' key) (sym asks.stage) (inl waits_now)
 
-    pub gives_up : (f'' : Fair ℕ ℕ) → Cancels nat_eq f' key stage f'' → IsSettled f'' → IsFair f'' q r × (f''.free ≡ f'.free)
+    pub gives_up : (f'' : Fair ℕ ℕ) → Cancels nat_eq f' key stage f'' → IsSettled f'' → IsFair f'' q r × (f''.free ≡ f'.free) × (f''.next ≡ f.next + 1)
     gives_up f'' cancels settled =
         let becomes = (subst (λ a. Cancels nat_eq f' key a f'') asks.stage cancels).0 waits_now in
         let then : Sets nat_eq f'.shares f''.shares k (left (share_of nat_eq f' k) f.next) = subst (λ j. Sets nat_eq f'.shares f''.shares j (left (share_in nat_eq f'.shares j) f.next)) asks.key becomes.shares in (
@@ -90,6 +91,7 @@ module _ (f : Fair ℕ ℕ) (q : Names Waiting) (r : Names ℕ) (fair : IsFair f
             quiet = becomes.wakes ∙ asks.becomes.wakes ∙ fair.quiet;
           },
           becomes.permits,
+          becomes.number ∙ asks.becomes.number,
         )
 
   -- nothing that can be asked for has changed
@@ -117,6 +119,7 @@ module _ (f : Fair ℕ ℕ) (q : Names Waiting) (r : Names ℕ) (fair : IsFair f
         pub kept : IsFair f1 q (remove r m)
         pub free : f1.free ≡ f.free + 1
         pub next : next_of (submissions q) (remove r m) ≡ None
+        pub last : f1.next ≡ f.next
 
       pub nobody : f1.wakes ≡ [] → IsSettled f1 → Nobody
       nobody none settled = by_waiters (waiters_of gives_back.between) refl
@@ -127,6 +130,7 @@ module _ (f : Fair ℕ ℕ) (q : Names Waiting) (r : Names ℕ) (fair : IsFair f
                 kept = record { tied = subst (λ (g : Fair ℕ ℕ). AreTied g.shares g.next q (remove r m)) (sym e) tied_between; settled = settled; quiet = none };
                 free = (let more = ap (λ (g : Fair ℕ ℕ). g.free) e in omega (arith, more, gives_back.becomes.permits));
                 next = none_next (remove r m) (submissions q) (len-seen submission_of q ∙ sym tied_between.as_many ∙ nobody_waits);
+                last = ap (λ (g : Fair ℕ ℕ). g.next) e ∙ gives_back.becomes.number;
               }
           by_waiters (suc n) some =
               let p = gives_back.passes.passes (omega (arith, some)) in
@@ -190,6 +194,7 @@ module _ (f : Fair ℕ ℕ) (q : Names Waiting) (r : Names ℕ) (fair : IsFair f
           pub queued : q' ≡ remove q w
           pub running : r' ≡ insert (remove r m) w a.job.key
           pub free : f3.free ≡ f.free
+          pub last : f3.next ≡ f.next
 
         pub starts_now : (f3 : Fair ℕ ℕ) (q' : Names Waiting) (room room' : Room ℕ) → room.things ≡ remove r m → StartsJob f2 q room w f3 q' room' → IsSettled f3 → Started f3 q' room'.things
         starts_now f3 q' room room' was starts_job settled =
@@ -202,6 +207,7 @@ module _ (f : Fair ℕ ℕ) (q : Names Waiting) (r : Names ℕ) (fair : IsFair f
               queued = did.1;
               running = things;
               free = did.0.permits ∙ a.free;
+              last = did.0.number ∙ a.last ∙ gives_back.becomes.number;
             }
 
 pub fair_none : (f : Fair ℕ ℕ) (q : Names Waiting) (r : Names ℕ) (p : ℕ) → f ≡ record { free = p; next = 0; shares = []; wakes = [] } → q ≡ empty → r ≡ empty → IsFair f q r

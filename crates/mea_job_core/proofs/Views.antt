@@ -11,9 +11,13 @@ use Rattle.mea_base.proofs.NamedMaps.{get-seen, is_some-map}
 use Rattle.mea_by_name.specs.ByName.{Names}
 use Rattle.mea_by_name.proofs.Own.{seen-insert, seen-remove, seen-empty, seen-at, len-seen}
 use Rattle.mea_job_core.specs.Waiting.{Waiting}
-use Rattle.mea_job_core.specs.Work.{Submission, Work, new_work, soonest, next_of, started, next_after, ended, recalled, halted, first_in, first_back, handed, handed_of}
+use Rattle.mea_job_core.specs.Work.{Submission, Work, Kept, new_work, soonest, next_of, started, next_after, ended, recalled, halted, first_in, first_back, handed, handed_of}
 use Rattle.mea_job_core.specs.Tied.{submission_of, submissions, values, work_seen, EndsJob}
 use Rattle.mea_job_core.proofs.Sorted.{AllIn, all_there}
+
+-- the jobs of what is kept
+pub is_seen : {k l : Kept} → k ≡ l → k.seen ≡ l.seen
+is_seen is = ap (λ (k : Kept). k.seen) is
 
 pub has_submission : (q : Names Waiting) (n : ℕ) → is_some (get (submissions q) n) ≡ is_some (get q n)
 has_submission q n = ap is_some (get-seen (λ k x. submission_of x) q n) ∙ is_some-map submission_of (get q n)

@@ -1,5 +1,5 @@
 -- lists of calls on a service: what they make of its record and of what a core keeps, and what they answer
-use Rattle.std.specs.Prelude.{ℕ, ◌≡◌, ◌+◌, ◌≤◌, ◌==◌, ◌&&◌, ◌++◌, true, List, [], ◌∷◌, length, Option, Some, None, option_to_list, Result, Ok, Err, if◌then◌else◌}
+use Rattle.std.specs.Prelude.{ℕ, ◌≡◌, ◌+◌, ◌≤◌, ◌==◌, ◌&&◌, ◌++◌, List, [], ◌∷◌, length, Option, Some, None, option_to_list, Result, Ok, Err, if◌then◌else◌}
 use Rattle.std.specs.FinMap.{entries, get, len}
 use Rattle.futures.specs.declared.task.Poll.{Poll}
 use Rattle.futures.specs.declared.task.Poll.TheVariants.{Ready, Pending}
@@ -11,7 +11,7 @@ use Rattle.mea_job_core.specs.declared.start.Start.TheVariants as start
 use Rattle.mea_job_core.specs.declared.submit_error.SubmitError.{SubmitError}
 use Rattle.mea_job_core.specs.declared.submit_error.SubmitError.TheVariants as submit
 use Rattle.mea_job_core.specs.declared.unknown_job.UnknownJob.{UnknownJob}
-use Rattle.mea_job_core.specs.Record.{Job, Record, Finished, is_queued, is_running, is_finished, is_returned, in_state, passes, queued_in, running_in, count_in, free_of, put, accepts, refuses, finishes, recalls, takes, stops, hands, polls}
+use Rattle.mea_job_core.specs.Record.{Job, Record, Finished, is_queued, is_running, is_finished, is_returned, in_state, queued_in, running_in, count_in, free_of, put, accepts, refuses, finishes, recalls, takes, stops, hands, polls}
 use Rattle.mea_job_core.specs.Service as kept
 use Rattle.mea_job_core.specs.Service.{Service, first_waker, given, after_submit, after_finish, after_recall, after_take, after_stop, after_back, finish_answer, recall_answer, take_answer, back_answer, is_over, counts_of, oldest}
 use Rattle.mea_job_core.specs.Work.{first_in, next_of, number_in, start_of}

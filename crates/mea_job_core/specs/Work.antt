@@ -108,6 +108,14 @@ handed_of w (Some e) = record w { back = remove w.back e.0 }
 abbrev pub handed : Work → Work
 handed w = handed_of w (first_back w)
 
+-- the jobs, and how many numbers were given to those that wait for a permit
+pub record Kept : Type 0 where
+  pub seen : Work
+  pub asked : ℕ
+
+abbrev pub kept_code : Coded Kept
+kept_code = code_by (Work × ℕ) (coded× work_code coded_ℕ) (λ k. (k.seen, k.asked)) (λ p. record { seen = p.0; asked = p.1 }) (λ _. refl)
+
 -- the number is above those of all jobs that are queued or run
 pub record IsAbove (w : Work) (n : ℕ) : Type 0 where
   pub queued : (m : ℕ) → IsSome (get w.queued m) → m < n

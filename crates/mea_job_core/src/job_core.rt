@@ -37,7 +37,7 @@ pub struct JobCore<W> {
 }
 
 impl<W> Model for JobCore<W> {
-    ghost use Rattle.std.specs.Prelude.{◌≡◌};
+    ghost use Rattle.std.specs.Prelude.{◌≡◌, ◌≤◌};
     ghost use Rattle.mea_job_core.specs.Service.{Service, service_code, first_waker};
 
     ghost Value = { Service W };
@@ -47,7 +47,7 @@ impl<W> Model for JobCore<W> {
     ghost use Rattle.mea_job_core.specs.Parts.{IsOnly, IsQuiet, IsShut, IsCounted};
 
     ghost view = { λ c. record {
-      work = c.work;
+      work = c.work.seen;
       waiting = c.waiting;
       capacity = c.results.capacity;
       next = c.next;
@@ -60,9 +60,10 @@ impl<W> Model for JobCore<W> {
 
     ghost invariant = { λ c. record {
       quiet : IsQuiet c.results;
-      shut : IsShut c.shutdown c.work;
+      shut : IsShut c.shutdown c.work.seen;
       only : IsOnly c.shutdown.receivers.waiting c.end;
-      counted : IsCounted c.work c.waiting c.next c.finished c.returned;
+      counted : IsCounted c.work.seen c.waiting c.next c.finished c.returned;
+      asked : c.work.asked ≤ c.next;
     } };
 }
 

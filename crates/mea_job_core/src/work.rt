@@ -9,7 +9,7 @@ use crate::roomy::Roomy;
 use crate::start::Start;
 use crate::waiting_job::WaitingJob;
 use mea_base::NoMemory;
-use mea_share_core::{FairCore, ShareAcquire, SharedKey};
+use mea_share_core::{FairCore, ShareAcquire, ShareFault, SharedKey};
 use std::alloc::Global;
 use std::hash::{BuildHasherDefault, FoldHasher};
 use std::marker::Model;
@@ -37,15 +37,15 @@ pub struct Work {
 impl Model for Work {
     ghost use Rattle.std.specs.Prelude.{◌≡◌, ◌+◌, ◌<◌, ◌≤◌, false};
     ghost use Rattle.std.specs.FinMap.{len};
-    ghost use Rattle.mea_job_core.specs.Work.{Work, work_code};
+    ghost use Rattle.mea_job_core.specs.Work.{Kept, kept_code};
 
-    ghost Value = { Work };
+    ghost Value = { Kept };
 
-    ghost coded = { work_code };
+    ghost coded = { kept_code };
 
     ghost use Rattle.mea_job_core.specs.Tied.{work_seen, IsFair};
 
-    ghost view = { λ w. work_seen w.permits w.queued w.running.things w.stopped };
+    ghost view = { λ w. record { seen = work_seen w.permits w.queued w.running.things w.stopped; asked = w.fair.next } };
 
     ghost invariant = { λ w. record {
       some : 0 < w.permits;
@@ -59,7 +59,8 @@ impl Model for Work {
 
 // An acquire of a key that waits, with the number of its job as its waker.
 fn ask(fair: &mut Fair, key: SharedKey<u64>, number: u64) -> Result<ShareAcquire<u64>, NoMemory>
-    requires { fair.old.free ≡ 0 }
+    requires none { fair.old.free ≡ 0 }
+    requires few { fair.old.next < 18446744073709551615 }
     ensures ok { IfOk result (λ acquire. Asks fair.old key number fair.new acquire.key acquire.stage) }
     ensures err { OnErr result (IsSame nat_eq fair.old fair.new) }
     ensures settled { IsSettled fair.new }
@@ -67,7 +68,8 @@ fn ask(fair: &mut Fair, key: SharedKey<u64>, number: u64) -> Result<ShareAcquire
     let mut acquire = ShareAcquire::new(key);
     match fair.poll(&mut acquire, number) {
         Ok(_) => Ok(acquire),
-        Err(_) => Err(NoMemory),
+        Err(ShareFault::NoMemory(_)) => Err(NoMemory),
+        Err(ShareFault::Overflow(_)) => unreachable!(),
     }
 }
 
@@ -106,6 +108,7 @@ fn end_job(
     ensures answer { result ≡ number_in (next_of (submissions queued.old) (map.remove running.old.things number)) }
     ensures ends { EndsJob queued.old running.old.things number queued.new running.new.things }
     ensures room { map.len queued.new ≤ running.new.spare }
+    ensures asked { fair.new.next ≡ fair.old.next }
     ensures none { IfNone result ((map.len running.new.things + 1 ≡ map.len running.old.things) × (fair.new.free ≡ fair.old.free + 1) × (map.len queued.new ≡ map.len queued.old)) }
     ensures some { IfSome result (λ _. (map.len running.new.things ≡ map.len running.old.things) × (fair.new.free ≡ fair.old.free) × (map.len queued.new + 1 ≡ map.len queued.old)) }
 {
@@ -122,7 +125,8 @@ impl Work {
     // Nothing, with this many permits. It takes no memory.
     pub(crate) fn new(alloc: Global, permits: usize) -> Self
         requires { 0 < permits }
-        ensures { result ≡ new_work permits }
+        ensures is { result.seen ≡ new_work permits }
+        ensures asked { result.asked ≡ 0 }
     {
         let fair = FairCore::new(alloc, permits);
         let queued = ByOrder::new(alloc);
@@ -140,15 +144,15 @@ impl Work {
 
     // How many permits are free.
     pub(crate) fn free(&self) -> usize
-        ensures is { result ≡ free_of self.now }
-        ensures few { map.len self.now.running ≤ self.now.permits }
+        ensures is { result ≡ free_of self.now.seen }
+        ensures few { map.len self.now.seen.running ≤ self.now.seen.permits }
     {
         self.permits - self.count
     }
 
     // How many jobs are queued.
     pub(crate) fn queued(&self) -> usize
-        ensures { result ≡ map.len self.now.queued }
+        ensures { result ≡ map.len self.now.seen.queued }
     {
         if self.stopped {
             return 0;
@@ -158,21 +162,21 @@ impl Work {
 
     // How many jobs run.
     pub(crate) fn running(&self) -> usize
-        ensures is { result ≡ map.len self.now.running }
-        ensures few { map.len self.now.running ≤ self.now.permits }
+        ensures is { result ≡ map.len self.now.seen.running }
+        ensures few { map.len self.now.seen.running ≤ self.now.seen.permits }
     {
         self.count
     }
 
     pub(crate) fn is_stopped(&self) -> bool
-        ensures { result ≡ self.now.stopped }
+        ensures { result ≡ self.now.seen.stopped }
     {
         self.stopped
     }
 
     // Whether a job is queued.
     pub(crate) fn is_queued(&self, number: u64) -> bool
-        ensures { result ≡ is_some (map.get self.now.queued number) }
+        ensures { result ≡ is_some (map.get self.now.seen.queued number) }
     {
         if self.stopped {
             return false;
@@ -182,17 +186,19 @@ impl Work {
 
     // Whether a job runs.
     pub(crate) fn is_running(&self, number: u64) -> bool
-        ensures { result ≡ is_some (map.get self.now.running number) }
+        ensures { result ≡ is_some (map.get self.now.seen.running number) }
     {
         self.running.has(number)
     }
 
     // A job is accepted.
     pub(crate) fn accept(&mut self, number: u64, key: u64, value: u64) -> Result<Start, NoMemory>
-        requires still { self.old.stopped ≡ false }
-        requires above { IsAbove self.old number }
-        ensures ok { IfOk result (λ start. (start ≡ start_of self.old) × (self.new ≡ accepted self.old number key value)) }
-        ensures err { OnErr result (self.new ≡ self.old) }
+        requires still { self.old.seen.stopped ≡ false }
+        requires above { IsAbove self.old.seen number }
+        requires few { self.old.asked < 18446744073709551615 }
+        ensures ok { IfOk result (λ start. (start ≡ start_of self.old.seen) × (self.new.seen ≡ accepted self.old.seen number key value)) }
+        ensures err { OnErr result (self.new.seen ≡ self.old.seen) }
+        ensures asked { self.new.asked ≤ self.old.asked + 1 }
     {
         let Ok(key) = SharedKey::new(self.alloc, key) else {
             return Err(NoMemory);
@@ -207,11 +213,12 @@ impl Work {
 
     // A job takes a free permit.
     fn run(&mut self, number: u64, key: SharedKey<u64>) -> Result<(), NoMemory>
-        requires still { self.old.stopped ≡ false }
-        requires above { IsAbove self.old number }
-        requires free { 0 < free_of self.old }
-        ensures ok { OnOk result (self.new ≡ record self.old { running = map.insert self.old.running number key }) }
-        ensures err { OnErr result (self.new ≡ self.old) }
+        requires still { self.old.seen.stopped ≡ false }
+        requires above { IsAbove self.old.seen number }
+        requires free { 0 < free_of self.old.seen }
+        ensures ok { OnOk result (self.new.seen ≡ record self.old.seen { running = map.insert self.old.seen.running number key }) }
+        ensures err { OnErr result (self.new.seen ≡ self.old.seen) }
+        ensures asked { self.new.asked ≡ self.old.asked }
     {
         let Some(more) = self.fair.num_waiters().checked_add(1) else {
             return Err(NoMemory);
@@ -227,11 +234,13 @@ impl Work {
 
     // A job is queued.
     fn queue(&mut self, number: u64, key: SharedKey<u64>, value: u64) -> Result<(), NoMemory>
-        requires still { self.old.stopped ≡ false }
-        requires above { IsAbove self.old number }
-        requires none { free_of self.old ≡ 0 }
-        ensures ok { OnOk result (self.new ≡ record self.old { queued = map.insert self.old.queued number (record { key = key; value = value }) }) }
-        ensures err { OnErr result (self.new ≡ self.old) }
+        requires still { self.old.seen.stopped ≡ false }
+        requires above { IsAbove self.old.seen number }
+        requires none { free_of self.old.seen ≡ 0 }
+        requires few { self.old.asked < 18446744073709551615 }
+        ensures ok { OnOk result (self.new.seen ≡ record self.old.seen { queued = map.insert self.old.seen.queued number (record { key = key; value = value }) }) }
+        ensures err { OnErr result (self.new.seen ≡ self.old.seen) }
+        ensures asked { self.new.asked ≤ self.old.asked + 1 }
     {
         let Some(more) = self.fair.num_waiters().checked_add(1) else {
             return Err(NoMemory);
@@ -249,10 +258,11 @@ impl Work {
 
     // A running job is over, and the next starts. It takes no memory.
     pub(crate) fn end(&mut self, number: u64) -> Option<u64>
-        requires { IsSome (map.get self.old.running number) }
-        ensures answer { result ≡ number_in (next_after self.old number) }
-        ensures ends { self.new ≡ ended self.old number }
-        ensures fewer { map.len self.new.queued + map.len self.new.running + 1 ≡ map.len self.old.queued + map.len self.old.running }
+        requires { IsSome (map.get self.old.seen.running number) }
+        ensures answer { result ≡ number_in (next_after self.old.seen number) }
+        ensures ends { self.new.seen ≡ ended self.old.seen number }
+        ensures fewer { map.len self.new.seen.queued + map.len self.new.seen.running + 1 ≡ map.len self.old.seen.queued + map.len self.old.seen.running }
+        ensures asked { self.new.asked ≤ self.old.asked }
     {
         if self.stopped {
             let _ = self.running.remove(number);
@@ -270,9 +280,10 @@ impl Work {
 
     // A queued job is over; its value comes back. It takes no memory.
     pub(crate) fn recall(&mut self, number: u64) -> u64
-        requires { IsSome (map.get self.old.queued number) }
-        ensures value { (submission : Submission) → map.get self.old.queued number ≡ Some submission → result ≡ submission.value }
-        ensures recalls { self.new ≡ recalled self.old number }
+        requires { IsSome (map.get self.old.seen.queued number) }
+        ensures value { (submission : Submission) → map.get self.old.seen.queued number ≡ Some submission → result ≡ submission.value }
+        ensures recalls { self.new.seen ≡ recalled self.old.seen number }
+        ensures asked { self.new.asked ≤ self.old.asked }
     {
         let job = self.queued.remove(number);
         self.fair.cancel(job.acquire);
@@ -281,8 +292,9 @@ impl Work {
 
     // No more jobs are taken; those that are queued are to be handed back. It takes no memory.
     pub(crate) fn halt(&mut self)
-        requires { self.old.stopped ≡ false }
-        ensures { self.new ≡ halted self.old }
+        requires { self.old.seen.stopped ≡ false }
+        ensures halts { self.new.seen ≡ halted self.old.seen }
+        ensures asked { self.new.asked ≤ self.old.asked }
     {
         self.fair = FairCore::new(self.alloc, self.permits);
         self.stopped = true;
@@ -290,8 +302,9 @@ impl Work {
 
     // The first job to hand back, as its number and its value. It takes no memory.
     pub(crate) fn take_back(&mut self) -> Option<(u64, u64)>
-        ensures answer { result ≡ first_back self.old }
-        ensures hands { self.new ≡ handed self.old }
+        ensures answer { result ≡ first_back self.old.seen }
+        ensures hands { self.new.seen ≡ handed self.old.seen }
+        ensures asked { self.new.asked ≤ self.old.asked }
     {
         if !self.stopped {
             return None;

@@ -39,6 +39,12 @@ returns-in_default-clause-none c =
     let free = ap (λ (g : Fair _ _). g.free) none.1 in
     (omega (arith, fewer, running), free ∙ over.free, refl)
 
+pub returns-in_default-clause-asked : goal.returns-in_default-clause-asked
+returns-in_default-clause-asked c =
+    let none = c.in_default.ensures.none in
+    let over = nobody c.args.fair.now c.args.queued.now c.args.running.now.things c.requires.fair c.args.number c.remove-key.result c.remove-key.ensures.value c.release.new.self c.release.ensures.gives_back none.0 c.release.ensures.settled in
+    ap (λ (g : Fair _ _). g.next) none.1 ∙ over.last
+
 -- ---- one starts
 pub start_job-requires-clause-admitted : goal.start_job-requires-clause-admitted
 start_job-requires-clause-admitted c =
@@ -63,6 +69,13 @@ returns-clause-ends c =
     let begun = starts_now c.args.fair.now c.args.queued.now c.args.running.now.things c.requires.fair c.args.number c.remove-key.result c.remove-key.ensures.value c.release.new.self c.release.ensures.gives_back c.next_wake.new.self c.in-Some.next one
     c.start_job.new.fair c.start_job.new.queued c.remove-key.new.self c.start_job.new.running c.remove-key.ensures.things c.start_job.ensures.starts c.start_job.ensures.settled in
     one_ends _ (c.in-Some.next, submission_of one.job) c.args.queued.now c.start_job.new.queued (remove c.args.running.now.things c.args.number) c.start_job.new.running.things one.next begun.queued begun.running
+
+pub returns-clause-asked : goal.returns-clause-asked
+returns-clause-asked c =
+    let one = admitted c.args.fair.now c.args.queued.now c.args.running.now.things c.requires.fair c.args.number c.remove-key.result c.remove-key.ensures.value c.release.new.self c.release.ensures.gives_back c.next_wake.new.self c.in-Some.next c.in-Some.ensures.some in
+    let begun = starts_now c.args.fair.now c.args.queued.now c.args.running.now.things c.requires.fair c.args.number c.remove-key.result c.remove-key.ensures.value c.release.new.self c.release.ensures.gives_back c.next_wake.new.self c.in-Some.next one
+    c.start_job.new.fair c.start_job.new.queued c.remove-key.new.self c.start_job.new.running c.remove-key.ensures.things c.start_job.ensures.starts c.start_job.ensures.settled in
+    begun.last
 
 pub returns-clause-room : goal.returns-clause-room
 returns-clause-room c =

@@ -19,5 +19,5 @@ invariant_of-result c =
       fair = λ _. fair_none c.new-fair.result c.new-queued.result c.new-running.result.things c.args.permits c.new-fair.ensures c.new-queued.ensures c.new-running.ensures;
     }
 
-pub returns : goal.returns
-returns c = new_seen c.args.permits c.new-queued.result c.new-running.result.things c.new-queued.ensures c.new-running.ensures
+pub returns-clause-is : goal.returns-clause-is
+returns-clause-is c = new_seen c.args.permits c.new-queued.result c.new-running.result.things c.new-queued.ensures c.new-running.ensures

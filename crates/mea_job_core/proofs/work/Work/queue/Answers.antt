@@ -2,16 +2,16 @@ use Rattle.std.proofs.Common.{ℕ, IsSome, is_some, ap, sym, subst, ◌∙◌, a
 use Rattle.std.specs.FinMap.{get, insert, len}
 use Rattle.mea_by_name.proofs.Own.{len-new}
 use Rattle.mea_job_core.specs.Waiting.{Waiting}
-use Rattle.mea_job_core.specs.Work.{Work}
+use Rattle.mea_job_core.specs.Work.{Work, Kept}
 use Rattle.mea_job_core.specs.Tied.{IsFair, Asks, work_seen}
 use Rattle.mea_job_core.proofs.Fairs.{rests, queues, asked_belongs, gives_up}
-use Rattle.mea_job_core.proofs.Views.{going, is_queued, not_there, seen_queued}
+use Rattle.mea_job_core.proofs.Views.{is_seen, going, is_queued, not_there, seen_queued}
 use Rattle.mea_job_core.proofs.work.Work.queue.Goals as goal
 
 pub invariant_of-self-in_err-acquire : goal.invariant_of-self-in_err-acquire
 invariant_of-self-in_err-acquire c =
     let s = c.self.inside in
-    let still = going s.permits s.queued s.running.things s.stopped c.args.self.now c.self.view_is c.requires.still in
+    let still = going s.permits s.queued s.running.things s.stopped c.args.self.now.seen (is_seen c.self.view_is) c.requires.still in
     let same = c.in_err-acquire.ensures.err in
     let things = c.reserve.ensures.things in
     record {
@@ -26,19 +26,19 @@ invariant_of-self-in_err-acquire c =
 pub invariant_of-self-in-Ok : goal.invariant_of-self-in-Ok
 invariant_of-self-in-Ok c =
     let s = c.self.inside in
-    let old = c.args.self.now in
-    let still = going s.permits s.queued s.running.things s.stopped old c.self.view_is c.requires.still in
+    let old = c.args.self.now.seen in
+    let still = going s.permits s.queued s.running.things s.stopped old (is_seen c.self.view_is) c.requires.still in
     let fair = c.self.invariant.fair still in
     let asks = c.in_ok-acquire.ensures.ok in
     let things = c.reserve.ensures.things in
     let put = c.in-Ok.ensures.ok in
-    let above = λ (a : ℕ) (some : IsSome (get s.queued a)). c.requires.above.queued a (sym (is_queued s.permits s.queued s.running.things s.stopped old a c.self.view_is still) ∙ some) in
+    let above = λ (a : ℕ) (some : IsSome (get s.queued a)). c.requires.above.queued a (sym (is_queued s.permits s.queued s.running.things s.stopped old a (is_seen c.self.view_is) still) ∙ some) in
     let none = not_there s.queued c.args.number above in
-    let new = not_there s.running.things c.args.number (λ a some. c.requires.above.running a (ap (λ (w : Work). is_some (get w.running a)) (sym c.self.view_is) ∙ some)) in
+    let new = not_there s.running.things c.args.number (λ a some. c.requires.above.running a (ap (λ (w : Work). is_some (get w.running a)) (sym (is_seen c.self.view_is)) ∙ some)) in
     let longer = ap len put ∙ len-new s.queued c.args.number _ none in
     let full = c.requires.none in
-    let running = ap (λ (w : Work). len w.running) c.self.view_is in
-    let permits = ap (λ (w : Work). w.permits) c.self.view_is in
+    let running = ap (λ (w : Work). len w.running) (is_seen c.self.view_is) in
+    let permits = ap (λ (w : Work). w.permits) (is_seen c.self.view_is) in
     record {
       some = c.self.invariant.some;
       counted = c.self.invariant.counted ∙ sym (ap len things);
@@ -52,7 +52,7 @@ invariant_of-self-in-Ok c =
 pub cancel-requires : goal.cancel-requires
 cancel-requires c =
     let s = c.self.inside in
-    let still = going s.permits s.queued s.running.things s.stopped c.args.self.now c.self.view_is c.requires.still in
+    let still = going s.permits s.queued s.running.things s.stopped c.args.self.now.seen (is_seen c.self.view_is) c.requires.still in
     let asks = c.in_ok-acquire.ensures.ok in
     let same = c.job.view_is ∙ c.in-Err.ensures.back in
     let theirs : Asks s.fair c.args.key c.args.number c.ask.new.fair c.job.inside.acquire.key c.job.inside.acquire.stage =
@@ -62,7 +62,7 @@ cancel-requires c =
 pub invariant_of-self-in-Err : goal.invariant_of-self-in-Err
 invariant_of-self-in-Err c =
     let s = c.self.inside in
-    let still = going s.permits s.queued s.running.things s.stopped c.args.self.now c.self.view_is c.requires.still in
+    let still = going s.permits s.queued s.running.things s.stopped c.args.self.now.seen (is_seen c.self.view_is) c.requires.still in
     let asks = c.in_ok-acquire.ensures.ok in
     let same = c.job.view_is ∙ c.in-Err.ensures.back in
     let theirs : Asks s.fair c.args.key c.args.number c.ask.new.fair c.job.inside.acquire.key c.job.inside.acquire.stage =
@@ -72,8 +72,8 @@ invariant_of-self-in-Err c =
     let things = c.reserve.ensures.things in
     let kept = c.in-Err.ensures.err in
     let full = c.requires.none in
-    let running = ap (λ (w : Work). len w.running) c.self.view_is in
-    let permits = ap (λ (w : Work). w.permits) c.self.view_is in
+    let running = ap (λ (w : Work). len w.running) (is_seen c.self.view_is) in
+    let permits = ap (λ (w : Work). w.permits) (is_seen c.self.view_is) in
     record {
       some = c.self.invariant.some;
       counted = c.self.invariant.counted ∙ sym (ap len things);
@@ -86,10 +86,23 @@ invariant_of-self-in-Err c =
 pub returns-in-Ok-clause-ok : goal.returns-in-Ok-clause-ok
 returns-in-Ok-clause-ok c =
     let s = c.self.inside in
-    let old = c.args.self.now in
-    let still = going s.permits s.queued s.running.things s.stopped old c.self.view_is c.requires.still in
+    let old = c.args.self.now.seen in
+    let still = going s.permits s.queued s.running.things s.stopped old (is_seen c.self.view_is) c.requires.still in
     let put = c.in-Ok.ensures.ok in
     let key = c.in_ok-acquire.ensures.ok.key in
     (λ i. work_seen s.permits (put i) (c.reserve.ensures.things i) s.stopped)
-    ∙ seen_queued s.permits s.queued s.running.things s.stopped old c.args.number (record { key = c.in_ok-acquire.acquire.key; stage = c.in_ok-acquire.acquire.stage; value = c.args.value }) c.self.view_is still
+    ∙ seen_queued s.permits s.queued s.running.things s.stopped old c.args.number (record { key = c.in_ok-acquire.acquire.key; stage = c.in_ok-acquire.acquire.stage; value = c.args.value }) (is_seen c.self.view_is) still
     ∙ (λ i. record old { queued = insert old.queued c.args.number (record { key = key i; value = c.args.value }) })
+
+pub returns-in-Err-clause-asked : goal.returns-in-Err-clause-asked
+returns-in-Err-clause-asked c =
+    let s = c.self.inside in
+    let still = going s.permits s.queued s.running.things s.stopped c.args.self.now.seen (is_seen c.self.view_is) c.requires.still in
+    let asks = c.in_ok-acquire.ensures.ok in
+    let same = c.job.view_is ∙ c.in-Err.ensures.back in
+    let theirs : Asks s.fair c.args.key c.args.number c.ask.new.fair c.job.inside.acquire.key c.job.inside.acquire.stage =
+    record { key = ap (λ (x : Waiting). x.key) same ∙ asks.key; stage = ap (λ (x : Waiting). x.stage) same ∙ asks.stage; becomes = asks.becomes } in
+    let gone = gives_up s.fair s.queued s.running.things (c.self.invariant.fair still) c.ask.new.fair c.args.number c.args.key c.job.inside.acquire.key c.job.inside.acquire.stage theirs
+    c.cancel.new.self c.cancel.ensures.cancels c.cancel.ensures.settled in
+    let asked = ap (λ (k : Kept). k.asked) c.self.view_is in
+    omega (arith, gone.2, asked)
