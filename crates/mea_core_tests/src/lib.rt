@@ -10,6 +10,8 @@ mod lock;
 #[cfg(test)]
 mod meet_core;
 #[cfg(test)]
+mod play;
+#[cfg(test)]
 mod sem_core;
 #[cfg(test)]
 mod sets;

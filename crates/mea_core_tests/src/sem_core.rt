@@ -1,190 +1,308 @@
-ghost use Rattle.std.specs.Prelude.{◌≡◌, ◌+◌, ◌<◌, ◌≤◌};
+ghost use Rattle.std.specs.Prelude.{◌+◌, ◌<◌, ◌≡◌, ◌≤◌};
 
-use mea_base::{Steps, Turn, WaitList};
+use crate::play::Told;
+use crate::play::Told::{Back, Done, No, Nothing, Pending, Ready, Value, Yes};
+use mea_base::{Steps, WaitList};
 use mea_sem_core::{Acquire, OpenTurn, SemCore};
+use mea_test_support::{Plays, differs_at};
 use std::alloc::Global;
 use std::marker::Brand;
+use std::mem;
 use std::sync::ledger::{Blank, Ledger};
+
+type Core = SemCore<u64>;
+
+// A call of a core. Acquires are told apart by the order in which they are made.
+#[derive(Clone, Copy)]
+enum Call {
+    Ask(usize),
+    // Of an acquire of this core, which is open.
+    Poll(usize, u64),
+    PollOpen(usize, u64),
+    IsOwn(usize),
+    IsGranted(usize),
+    Renew(usize),
+    Cancel(usize),
+    Try(usize),
+    Release(usize),
+    ReleaseIfWaiting(usize),
+    Forget(usize),
+    GiveBack(usize),
+    Lose(usize),
+    Close,
+    IsClosed,
+    Free,
+    Live,
+    Held,
+    Queued,
+    Wake,
+    // The calls after it are the other core's.
+    Other,
+}
+
+// Two cores, and the acquires that were made.
+#[derive(Drop)]
+struct Room {
+    core: Core,
+    other: Core,
+    acquires: Vec<Acquire>,
+}
+
+impl Room {
+    fn new(alloc: Global, permits: usize) -> Room {
+        Room {
+            core: SemCore::new(alloc, permits),
+            other: SemCore::new(alloc, 0),
+            acquires: Vec::new(alloc),
+        }
+    }
+}
+
+impl Plays for Room {
+    type Call = Call;
+
+    type Told = Told;
+
+    fn told(&mut self, call: Call) -> Option<Told> {
+        match call {
+            Call::Ask(demand) => asked(&mut self.acquires, demand),
+            Call::Poll(place, _)
+            | Call::PollOpen(place, _)
+            | Call::IsOwn(place)
+            | Call::IsGranted(place)
+            | Call::Renew(place)
+            | Call::Cancel(place) => {
+                acquire_told(&mut self.core, self.acquires.get_mut(place)?, call)
+            }
+            Call::Other => {
+                mem::swap(&mut self.core, &mut self.other);
+                Some(Done)
+            }
+            _ => Some(core_told(&mut self.core, call)),
+        }
+    }
+}
+
+fn asked(acquires: &mut Vec<Acquire>, demand: usize) -> Option<Told> {
+    match acquires.push(Acquire::new(demand)) {
+        Ok(()) => Some(Done),
+        Err(_) => None,
+    }
+}
+
+fn acquire_told(core: &mut Core, acquire: &mut Acquire, call: Call) -> Option<Told> {
+    match call {
+        Call::Poll(_, waker) => polled(core, acquire, waker),
+        Call::PollOpen(_, waker) => polled_open(core, acquire, waker),
+        Call::IsOwn(_) => Some(Told::whether(core.poll_allowed(acquire))),
+        Call::IsGranted(_) => Some(Told::whether(core.is_granted(acquire))),
+        Call::Renew(_) => {
+            acquire.renew();
+            Some(Done)
+        }
+        _ => {
+            core.cancel_checked(mem::replace(acquire, Acquire::new(0)));
+            Some(Done)
+        }
+    }
+}
+
+fn polled(core: &mut Core, acquire: &mut Acquire, waker: u64) -> Option<Told> {
+    if core.is_closed() || !core.poll_allowed(acquire) {
+        return None;
+    }
+    Told::turned(core.poll(acquire, waker))
+}
+
+fn polled_open(core: &mut Core, acquire: &mut Acquire, waker: u64) -> Option<Told> {
+    match core.poll_open_checked(acquire, waker) {
+        Ok(OpenTurn::Ready(waker)) => Some(Ready(waker)),
+        Ok(OpenTurn::Pending) => Some(Pending),
+        Ok(OpenTurn::Closed(waker)) => Some(Back(waker)),
+        Err(_) => None,
+    }
+}
+
+// What a call tells that changes permits, or else looks at them.
+fn core_told(core: &mut Core, call: Call) -> Told {
+    match call {
+        Call::Try(n) => return Told::whether(core.try_acquire(n)),
+        Call::Release(n) => return Told::whether(core.release(n).is_ok()),
+        Call::Forget(n) => return Told::whether(core.forget_exact(n).is_ok()),
+        Call::ReleaseIfWaiting(n) => return Told::whether(released_if_waiting(core, n)),
+        Call::GiveBack(n) => core.give_back_checked(n),
+        Call::Lose(n) => core.lose_checked(n),
+        Call::Close => core.close(),
+        Call::Wake => return Told::found(core.next_wake()),
+        _ => return seen(core, call),
+    }
+    Done
+}
+
+fn released_if_waiting(core: &mut Core, n: usize) -> bool {
+    if n > usize::MAX - core.live() {
+        return false;
+    }
+    core.release_if_waiting(n);
+    true
+}
+
+fn seen(core: &Core, call: Call) -> Told {
+    let count = match call {
+        Call::Free => core.available_permits(),
+        Call::Live => core.live(),
+        Call::Held => core.held(),
+        Call::Queued => core.queue_len(),
+        _ => return Told::whether(core.is_closed()),
+    };
+    Value(count as u64)
+}
 
 // With memory at hand, no call answers that there is none.
 #[test]
 fn ample(rt: HostRuntime) {
-    let mut core: SemCore<u64> = SemCore::new(rt.alloc(), 1);
-    assert!(rt; core.forget_exact(3).is_ok());
-    let mut acquire = Acquire::new(1);
-    assert!(rt; matches!(core.poll(&mut acquire, 10), Ok(Turn::Pending)));
-    let mut checked = Acquire::new(1);
-    assert!(rt;
-        matches!(
-            core.poll_open_checked(&mut checked, 11),
-            Ok(OpenTurn::Pending)
-        )
-    );
-    assert_eq!(rt; core.queue_len(), 3);
+    let script = [
+        (Call::Forget(3), Yes),
+        (Call::Ask(1), Done),
+        (Call::Poll(0, 10), Pending),
+        (Call::Ask(1), Done),
+        (Call::PollOpen(1, 11), Pending),
+        (Call::Queued, Value(3)),
+    ];
+    assert_eq!(rt; differs_at(Room::new(rt.alloc(), 1), &script), None);
 }
 
 // A permit that is given back pays who waits, and one that is lost is gone.
 #[test]
 fn held_permits(rt: HostRuntime) {
-    let mut core: SemCore<u64> = SemCore::new(rt.alloc(), 3);
-    let mut acquire = Acquire::new(2);
-    assert!(rt; core.try_acquire(3));
-    assert!(rt; matches!(core.poll(&mut acquire, 10), Ok(Turn::Pending)));
-    core.lose_checked(1);
-    core.give_back_checked(2);
-    assert!(rt; core.is_granted(&acquire));
-    assert_eq!(rt; core.next_wake(), Some(10));
-    core.give_back_checked(1);
-    assert_eq!(rt; core.live(), 2);
-    assert_eq!(rt; core.held(), 0);
+    let script = [
+        (Call::Ask(2), Done),
+        (Call::Try(3), Yes),
+        (Call::Poll(0, 10), Pending),
+        (Call::Lose(1), Done),
+        (Call::GiveBack(2), Done),
+        (Call::IsGranted(0), Yes),
+        (Call::Wake, Value(10)),
+        (Call::GiveBack(1), Done),
+        (Call::Live, Value(2)),
+        (Call::Held, Value(0)),
+    ];
+    assert_eq!(rt; differs_at(Room::new(rt.alloc(), 3), &script), None);
+}
+
+// How many permits live after a call of all who wait, here of one acquire of five permits, and who is woken.
+fn queue_woken(alloc: Global, permits: usize) -> Option<(usize, Option<u64>)> {
+    let mut core: Core = SemCore::new(alloc, permits);
+    if core.poll(&mut Acquire::new(5), 10).is_err() {
+        return None;
+    }
+    core.wake_queue();
+    Some((core.live(), core.next_wake()))
 }
 
 // Permits that are released for those who wait alone, and a call of all of them.
 #[test]
 fn waiters_alone(rt: HostRuntime) {
-    let mut core: SemCore<u64> = SemCore::new(rt.alloc(), 0);
-    core.release_if_waiting(2);
-    assert_eq!(rt; core.live(), 0);
-    let mut acquire = Acquire::new(5);
-    assert!(rt; matches!(core.poll(&mut acquire, 10), Ok(Turn::Pending)));
-    core.release_if_waiting(2);
-    assert_eq!(rt; core.live(), 2);
-    core.wake_queue();
-    assert_eq!(rt; core.live(), 5);
-    assert_eq!(rt; core.next_wake(), Some(10));
+    let script = [
+        (Call::ReleaseIfWaiting(2), Yes),
+        (Call::Live, Value(0)),
+        (Call::Ask(5), Done),
+        (Call::Poll(0, 10), Pending),
+        (Call::ReleaseIfWaiting(2), Yes),
+        (Call::Live, Value(2)),
+    ];
+    assert_eq!(rt; differs_at(Room::new(rt.alloc(), 0), &script), None);
+    assert!(rt; queue_woken(rt.alloc(), 2) == Some((5, Some(10))));
 }
 
 // An acquire is no acquire of another core until it is renewed.
 #[test]
 fn another_core(rt: HostRuntime) {
-    let mut core: SemCore<u64> = SemCore::new(rt.alloc(), 0);
-    let mut other: SemCore<u64> = SemCore::new(rt.alloc(), 0);
-    let mut acquire = Acquire::new(1);
-    assert!(rt; matches!(core.poll(&mut acquire, 10), Ok(Turn::Pending)));
-    assert!(rt; core.poll_allowed(&acquire));
-    assert!(rt; !other.poll_allowed(&acquire));
-    acquire.renew();
-    assert!(rt; other.poll_allowed(&acquire));
-    assert!(rt; matches!(other.poll(&mut acquire, 11), Ok(Turn::Pending)));
-    assert_eq!(rt; other.queue_len(), 1);
+    let script = [
+        (Call::Ask(1), Done),
+        (Call::Poll(0, 10), Pending),
+        (Call::IsOwn(0), Yes),
+        (Call::Other, Done),
+        (Call::IsOwn(0), No),
+        (Call::Renew(0), Done),
+        (Call::IsOwn(0), Yes),
+        (Call::Poll(0, 11), Pending),
+        (Call::Queued, Value(1)),
+    ];
+    assert_eq!(rt; differs_at(Room::new(rt.alloc(), 0), &script), None);
 }
 
 // A close wakes those who wait in their order and refuses them and all that come later. What they were paid
 // goes to a debt first; permits that come back and are released are free, and a second close does nothing.
 #[test]
 fn closing(rt: HostRuntime) {
-    let mut core: SemCore<u64> = SemCore::new(rt.alloc(), 5);
-    let mut first = Acquire::new(4);
-    let mut second = Acquire::new(1);
-    assert!(rt; core.try_acquire(2));
-    assert!(rt;
-        matches!(
-            core.poll_open_checked(&mut first, 10),
-            Ok(OpenTurn::Pending)
-        )
-    );
-    assert!(rt;
-        matches!(
-            core.poll_open_checked(&mut second, 11),
-            Ok(OpenTurn::Pending)
-        )
-    );
-    assert!(rt; core.forget_exact(2).is_ok());
-    core.close();
-    assert!(rt; core.is_closed());
-    assert_eq!(rt;
-        (core.available_permits(), core.live(), core.queue_len()),
-        (1, 3, 0)
-    );
-    assert_eq!(rt; core.next_wake(), Some(10));
-    assert_eq!(rt; core.next_wake(), Some(11));
-    assert_eq!(rt; core.next_wake(), None);
-    assert!(rt; !core.try_acquire(1));
-    assert!(rt;
-        matches!(
-            core.poll_open_checked(&mut first, 12),
-            Ok(OpenTurn::Closed(12))
-        )
-    );
-    assert!(rt;
-        matches!(
-            core.poll_open_checked(&mut first, 13),
-            Ok(OpenTurn::Closed(13))
-        )
-    );
-    core.cancel_checked(second);
-    core.close();
-    core.give_back_checked(2);
-    assert!(rt; core.release(1).is_ok());
-    assert_eq!(rt;
-        (core.available_permits(), core.live(), core.wakes_ready()),
-        (4, 4, 0)
-    );
+    let script = [
+        (Call::Ask(4), Done),
+        (Call::Ask(1), Done),
+        (Call::Try(2), Yes),
+        (Call::PollOpen(0, 10), Pending),
+        (Call::PollOpen(1, 11), Pending),
+        (Call::Forget(2), Yes),
+        (Call::Close, Done),
+        (Call::IsClosed, Yes),
+        (Call::Free, Value(1)),
+        (Call::Live, Value(3)),
+        (Call::Queued, Value(0)),
+        (Call::Wake, Value(10)),
+        (Call::Wake, Value(11)),
+        (Call::Wake, Nothing),
+        (Call::Try(1), No),
+        (Call::PollOpen(0, 12), Back(12)),
+        (Call::PollOpen(0, 13), Back(13)),
+        (Call::Cancel(1), Done),
+        (Call::Close, Done),
+        (Call::GiveBack(2), Done),
+        (Call::Release(1), Yes),
+        (Call::Free, Value(4)),
+        (Call::Live, Value(4)),
+        (Call::Wake, Nothing),
+    ];
+    assert_eq!(rt; differs_at(Room::new(rt.alloc(), 5), &script), None);
 }
 
 // What was granted before a close is ready after it, and a demand of nothing that comes later is refused.
 #[test]
 fn granted_before_a_close(rt: HostRuntime) {
-    let mut core: SemCore<u64> = SemCore::new(rt.alloc(), 0);
-    let mut acquire = Acquire::new(1);
-    let mut nothing = Acquire::new(0);
-    assert!(rt;
-        matches!(
-            core.poll_open_checked(&mut acquire, 10),
-            Ok(OpenTurn::Pending)
-        )
-    );
-    assert!(rt;
-        matches!(
-            core.poll_open_checked(&mut acquire, 11),
-            Ok(OpenTurn::Pending)
-        )
-    );
-    assert!(rt; core.release(1).is_ok());
-    core.close();
-    assert_eq!(rt; core.next_wake(), Some(11));
-    assert!(rt; core.is_granted(&acquire));
-    assert!(rt;
-        matches!(
-            core.poll_open_checked(&mut acquire, 12),
-            Ok(OpenTurn::Ready(12))
-        )
-    );
-    assert!(rt;
-        matches!(
-            core.poll_open_checked(&mut nothing, 13),
-            Ok(OpenTurn::Closed(13))
-        )
-    );
-    assert_eq!(rt; core.held(), 1);
-    core.give_back_checked(1);
-    assert_eq!(rt; core.available_permits(), 1);
+    let script = [
+        (Call::Ask(1), Done),
+        (Call::Ask(0), Done),
+        (Call::PollOpen(0, 10), Pending),
+        (Call::PollOpen(0, 11), Pending),
+        (Call::Release(1), Yes),
+        (Call::Close, Done),
+        (Call::Wake, Value(11)),
+        (Call::IsGranted(0), Yes),
+        (Call::PollOpen(0, 12), Ready(12)),
+        (Call::PollOpen(1, 13), Back(13)),
+        (Call::Held, Value(1)),
+        (Call::GiveBack(1), Done),
+        (Call::Free, Value(1)),
+    ];
+    assert_eq!(rt; differs_at(Room::new(rt.alloc(), 0), &script), None);
 }
 
 // An acquire that one core has cut or refused is a new one for another.
 #[test]
 fn refused_elsewhere(rt: HostRuntime) {
-    let mut core: SemCore<u64> = SemCore::new(rt.alloc(), 0);
-    let mut other: SemCore<u64> = SemCore::new(rt.alloc(), 0);
-    let mut cut = Acquire::new(1);
-    let mut refused = Acquire::new(2);
-    assert!(rt; matches!(core.poll_open_checked(&mut cut, 10), Ok(OpenTurn::Pending)));
-    core.close();
-    assert!(rt;
-        matches!(
-            core.poll_open_checked(&mut refused, 11),
-            Ok(OpenTurn::Closed(11))
-        )
-    );
-    assert!(rt; !other.poll_allowed(&cut) && !other.poll_allowed(&refused));
-    assert!(rt; matches!(other.poll_open_checked(&mut cut, 12), Ok(OpenTurn::Pending)));
-    assert!(rt;
-        matches!(
-            other.poll_open_checked(&mut refused, 13),
-            Ok(OpenTurn::Pending)
-        )
-    );
-    assert_eq!(rt; other.queue_len(), 2);
+    let script = [
+        (Call::Ask(1), Done),
+        (Call::Ask(2), Done),
+        (Call::PollOpen(0, 10), Pending),
+        (Call::Close, Done),
+        (Call::PollOpen(1, 11), Back(11)),
+        (Call::Other, Done),
+        (Call::IsOwn(0), No),
+        (Call::IsOwn(1), No),
+        (Call::PollOpen(0, 12), Pending),
+        (Call::PollOpen(1, 13), Pending),
+        (Call::Queued, Value(2)),
+    ];
+    assert_eq!(rt; differs_at(Room::new(rt.alloc(), 0), &script), None);
 }
 
 // Takes one of a thousand values out of the middle, in at most four steps.

@@ -1,8 +1,10 @@
 use mea_base::Poll;
 use mea_job_core::{Counts, FinishError, JobCore, Start, SubmitError};
+use mea_test_support::Plays;
+use std::alloc::Global;
 
 // A call.
-#[derive(Clone, Copy, Drop)]
+#[derive(Clone, Copy)]
 pub(crate) enum Step {
     Job(u64, u64, u64),
     Finish(u64, u64),
@@ -16,7 +18,7 @@ pub(crate) enum Step {
 }
 
 // What a call told.
-#[derive(Clone, Copy, PartialEq, Eq, Drop)]
+#[derive(Clone, Copy, PartialEq, Eq)]
 pub(crate) enum Told {
     Running,
     Queued,
@@ -33,30 +35,48 @@ pub(crate) enum Told {
     Counted(u64, u64, u64, u64, u64),
 }
 
-// How many calls of a script tell what stands beside them, up to the first that does not.
-pub(crate) fn right(mut core: JobCore<u64>, script: &[(Step, Told)]) -> usize {
-    let mut right = 0usize;
-    for (step, told) in script {
-        match act(&mut core, *step) {
-            Some(answer) if answer == *told => right = right.wrapping_add(1),
-            _ => return right,
-        }
-    }
-    right
+// A service.
+#[derive(Drop)]
+pub(crate) struct Room {
+    core: JobCore<u64>,
 }
 
-// Makes a call. None means want of memory, or a script that gives a number twice.
-fn act(core: &mut JobCore<u64>, step: Step) -> Option<Told> {
-    match step {
-        Step::Job(number, key, value) => submit(core, number, key, value),
-        Step::Finish(job, outcome) => Some(finish(core, job, outcome)),
-        Step::Recall(job) => Some(recall(core, job)),
-        Step::Take => Some(pair(core.take())),
-        Step::Back => Some(pair(core.take_back())),
-        Step::Stop => Some(stop(core)),
-        Step::Poll(waker) => poll(core, waker),
-        Step::Wake => Some(wake(core)),
-        Step::Count => Some(counted(core.counts())),
+impl Room {
+    // A service whose counts are above 0, with at most 1,000 permits and as many queued jobs.
+    pub(crate) fn new(
+        alloc: Global,
+        permits: usize,
+        waiting: usize,
+        results: usize,
+    ) -> Option<Room> {
+        if permits == 0 || waiting == 0 || results == 0 || permits > 1000 || waiting > 1000 {
+            return None;
+        }
+        match JobCore::new(alloc, permits, waiting, results) {
+            Ok(core) => Some(Room { core }),
+            Err(_) => None,
+        }
+    }
+}
+
+impl Plays for Room {
+    type Call = Step;
+
+    type Told = Told;
+
+    fn told(&mut self, step: Step) -> Option<Told> {
+        let core = &mut self.core;
+        match step {
+            Step::Job(number, key, value) => submit(core, number, key, value),
+            Step::Finish(job, outcome) => Some(finish(core, job, outcome)),
+            Step::Recall(job) => Some(recall(core, job)),
+            Step::Take => Some(pair(core.take())),
+            Step::Back => Some(pair(core.take_back())),
+            Step::Stop => Some(stop(core)),
+            Step::Poll(waker) => poll(core, waker),
+            Step::Wake => Some(wake(core)),
+            Step::Count => Some(counted(core.counts())),
+        }
     }
 }
 

@@ -3,8 +3,8 @@ use crate::play::Told::{
     Counted, Done, Full, Nothing, Pair, Pending, Queued, Ready, Running, Starts, Stopped, Unknown,
     Value,
 };
-use crate::play::right;
-use mea_job_core::JobCore;
+use crate::play::Room;
+use mea_test_support::differs_at;
 
 // One permit, two queued jobs, one result: who is full, who starts, and who is woken at the end.
 #[test]
@@ -31,10 +31,8 @@ fn jobs_are_finished_and_the_service_ends(rt: HostRuntime) {
         (Job(14, 1, 1), Stopped),
         (Count, Counted(3, 0, 0, 3, 0)),
     ];
-    let Ok(core) = JobCore::new(rt.alloc(), 1, 2, 1) else {
-        return;
-    };
-    assert_eq!(rt; right(core, &script), 20);
+    let room = Room::new(rt.alloc(), 1, 2, 1).expect(&rt, "memory");
+    assert_eq!(rt; differs_at(room, &script), None);
 }
 
 // A queued job is recalled once, and what is queued at the stop is handed back once.
@@ -53,10 +51,8 @@ fn jobs_are_returned(rt: HostRuntime) {
         (Finish(0, 1), Done),
         (Count, Counted(3, 0, 0, 1, 2)),
     ];
-    let Ok(core) = JobCore::new(rt.alloc(), 1, 3, 2) else {
-        return;
-    };
-    assert_eq!(rt; right(core, &script), 11);
+    let room = Room::new(rt.alloc(), 1, 3, 2).expect(&rt, "memory");
+    assert_eq!(rt; differs_at(room, &script), None);
 }
 
 // The key with the fewest running jobs goes first, and of its jobs the least number.
@@ -70,10 +66,8 @@ fn the_key_with_fewest_running_jobs_goes_first(rt: HostRuntime) {
         (Finish(0, 32), Starts(3)),
         (Finish(3, 1), Full),
     ];
-    let Ok(core) = JobCore::new(rt.alloc(), 2, 2, 1) else {
-        return;
-    };
-    assert_eq!(rt; right(core, &script), 6);
+    let room = Room::new(rt.alloc(), 2, 2, 1).expect(&rt, "memory");
+    assert_eq!(rt; differs_at(room, &script), None);
 }
 
 // A stop with no running job tells the end at once, and hands the queued ones back by their numbers.
@@ -104,8 +98,6 @@ fn a_stop_hands_all_queued_jobs_back(rt: HostRuntime) {
         (Take, Nothing),
         (Count, Counted(4, 0, 0, 1, 3)),
     ];
-    let Ok(core) = JobCore::new(rt.alloc(), 1, 9, 1) else {
-        return;
-    };
-    assert_eq!(rt; right(core, &script), 23);
+    let room = Room::new(rt.alloc(), 1, 9, 1).expect(&rt, "memory");
+    assert_eq!(rt; differs_at(room, &script), None);
 }

@@ -7,7 +7,6 @@ use mea_once_core::{FlightCore, Init, KeyCall, MapCore};
 use mea_test_support::Collides;
 use std::alloc::AllocError;
 use std::cell::Cell;
-use std::test::Fail;
 
 // A value whose clone is refused while a cell says so.
 #[derive(Drop)]
@@ -60,12 +59,20 @@ fn told(polled: &Polled<'_>) -> Told {
     }
 }
 
-fn computed<'a>(
-    map: &mut MapCore<u64, Refusing<'a>, Collides, u64>,
-    call: &mut Call<'a>,
-    waker: u64,
-) -> Told {
+type Map<'a> = MapCore<u64, Refusing<'a>, Collides, u64>;
+
+fn computed<'a>(map: &mut Map<'a>, call: &mut Call<'a>, waker: u64) -> Told {
     told(&map.poll_compute_checked(call, waker))
+}
+
+// Whether a value is kept under the key, if its clone is not refused.
+fn kept(map: &Map<'_>) -> Option<bool> {
+    Some(map.get(&5).ok()?.is_some())
+}
+
+// Whether there was a value under the key that is taken out, if its clone is not refused.
+fn removed(map: &mut Map<'_>) -> Option<bool> {
+    Some(map.remove(&5).ok()?.is_some())
 }
 
 fn worked<'a>(
@@ -79,21 +86,19 @@ fn worked<'a>(
 // Where the clone of a value that was just computed is refused, the waker is gone and the value is kept for the
 // next poll; where that of an earlier one is, the waker comes back.
 #[test]
-fn a_clone_is_refused(rt: HostRuntime) -> Result<(), Fail> {
+fn a_clone_is_refused(rt: HostRuntime) {
     let refuses = Cell::new(true);
     let mut map = MapCore::with_hasher(rt.alloc(), Collides);
     let mut first = KeyCall::new(5, Holding { refuses: &refuses });
+    let mut second = KeyCall::new(5, Holding { refuses: &refuses });
     assert!(rt; computed(&mut map, &mut first, 1) == Nothing);
     assert!(rt; computed(&mut map, &mut first, 2) == Back(2));
-    let mut second = KeyCall::new(5, Holding { refuses: &refuses });
     assert!(rt; computed(&mut map, &mut second, 3) == Back(3));
-    assert!(rt; map.get(&5).is_err());
-    assert!(rt; map.remove(&5).is_err());
+    assert!(rt; kept(&map).is_none() && removed(&mut map).is_none());
     refuses.set(false);
     assert!(rt; computed(&mut map, &mut first, 4) == Done);
     assert!(rt; computed(&mut map, &mut second, 5) == Done);
-    assert!(rt; map.get(&5)?.is_some());
-    Ok(())
+    assert_eq!(rt; kept(&map), Some(true));
 }
 
 // The same in a group, whose entry has left with the value.

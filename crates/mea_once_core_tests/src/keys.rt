@@ -11,22 +11,6 @@ type Spread = BuildHasherDefault<FoldHasher>;
 
 type Call = KeyCall<u64, Settling>;
 
-fn computed<S: BuildHasher + Drop>(
-    map: &mut MapCore<u64, u64, S, u64>,
-    call: &mut Call,
-    waker: u64,
-) -> Told {
-    Told::of(map.poll_compute_checked(call, waker))
-}
-
-fn worked<S: BuildHasher + Drop>(
-    group: &mut FlightCore<u64, u64, S, u64>,
-    call: &mut Call,
-    waker: u64,
-) -> Told {
-    Told::of(group.poll_work_checked(call, waker))
-}
-
 // A call by key of a map or a group. Computations are told apart by the order in which they are made.
 #[derive(Clone, Copy)]
 enum Step {
@@ -56,77 +40,53 @@ impl<M> Room<M> {
     }
 }
 
-// What a map and a group do in their own ways. None means want of memory, or what it does not do.
+// What a map and a group do in their own ways.
 trait Keyed: Drop {
     fn polled(&mut self, call: &mut Call, waker: u64) -> Told;
 
     fn ended(&mut self, call: Call);
 
-    fn removed(&mut self, key: u64) -> Option<Told>;
-
-    fn got(&self, key: u64) -> Option<Told>;
-
-    fn forgot(&mut self, key: u64) -> Option<Told>;
-
-    fn woken(&mut self) -> Option<u64>;
+    // A call by key alone, or a wake. None means want of memory, or what it does not do.
+    fn told(&mut self, step: Step) -> Option<Told>;
 }
 
 impl<S: BuildHasher + Drop> Keyed for MapCore<u64, u64, S, u64> {
     fn polled(&mut self, call: &mut Call, waker: u64) -> Told {
-        computed(self, call, waker)
+        Told::of(self.poll_compute_checked(call, waker))
     }
 
     fn ended(&mut self, call: Call) {
         self.end_compute_checked(call);
     }
 
-    fn removed(&mut self, key: u64) -> Option<Told> {
-        match self.remove(&key) {
-            Ok(found) => Some(Told::found(found)),
-            Err(_) => None,
+    fn told(&mut self, step: Step) -> Option<Told> {
+        match step {
+            Step::Remove(key) => Some(Told::found(self.remove(&key).ok()?)),
+            Step::Get(key) => Some(Told::found(self.get(&key).ok()?)),
+            Step::Wake => Some(Told::found(self.next_wake())),
+            _ => None,
         }
-    }
-
-    fn got(&self, key: u64) -> Option<Told> {
-        match self.get(&key) {
-            Ok(found) => Some(Told::found(found)),
-            Err(_) => None,
-        }
-    }
-
-    fn forgot(&mut self, _key: u64) -> Option<Told> {
-        None
-    }
-
-    fn woken(&mut self) -> Option<u64> {
-        self.next_wake()
     }
 }
 
 impl<S: BuildHasher + Drop> Keyed for FlightCore<u64, u64, S, u64> {
     fn polled(&mut self, call: &mut Call, waker: u64) -> Told {
-        worked(self, call, waker)
+        Told::of(self.poll_work_checked(call, waker))
     }
 
     fn ended(&mut self, call: Call) {
         self.end_work_checked(call);
     }
 
-    fn removed(&mut self, _key: u64) -> Option<Told> {
-        None
-    }
-
-    fn got(&self, _key: u64) -> Option<Told> {
-        None
-    }
-
-    fn forgot(&mut self, key: u64) -> Option<Told> {
-        self.forget(&key);
-        Some(Done)
-    }
-
-    fn woken(&mut self) -> Option<u64> {
-        self.next_wake()
+    fn told(&mut self, step: Step) -> Option<Told> {
+        match step {
+            Step::Forget(key) => {
+                self.forget(&key);
+                Some(Done)
+            }
+            Step::Wake => Some(Told::found(self.next_wake())),
+            _ => None,
+        }
     }
 }
 
@@ -149,10 +109,7 @@ impl<M: Keyed> Plays for Room<M> {
                 self.keyed.ended(self.calls.get_mut(place)?.take()?);
                 Some(Done)
             }
-            Step::Remove(key) => self.keyed.removed(key),
-            Step::Get(key) => self.keyed.got(key),
-            Step::Forget(key) => self.keyed.forgot(key),
-            Step::Wake => Some(Told::found(self.keyed.woken())),
+            _ => self.keyed.told(step),
         }
     }
 }
@@ -241,10 +198,16 @@ fn crowd_of_map(alloc: Global) -> Result<Vec<Step>, AllocError> {
     let mut script = Vec::new(alloc);
     for key in 0..64u64 {
         let (first, second) = (key as usize * 2, key as usize * 2 + 1);
-        script.extend_from_slice(&[Step::Ask(key), Step::Ask(key)])?;
-        script.extend_from_slice(&[Step::Poll(first, 100), Step::Poll(second, 200)])?;
-        script.extend_from_slice(&[Step::Settle(first, Ok(key + 1000)), Step::Poll(first, 101)])?;
-        script.extend_from_slice(&[Step::Wake, Step::Poll(second, 201)])?;
+        script.extend_from_slice(&[
+            Step::Ask(key),
+            Step::Ask(key),
+            Step::Poll(first, 100),
+            Step::Poll(second, 200),
+            Step::Settle(first, Ok(key + 1000)),
+            Step::Poll(first, 101),
+            Step::Wake,
+            Step::Poll(second, 201),
+        ])?;
     }
     for key in 0..32u64 {
         script.push(Step::Remove(key * 2))?;
@@ -261,10 +224,18 @@ fn crowd_of_group(alloc: Global) -> Result<Vec<Step>, AllocError> {
     for key in 0..64u64 {
         let other = key as usize * 3;
         let (first, second) = (other + 1, other + 2);
-        script.extend_from_slice(&[Step::Ask(key + 64), Step::Ask(key), Step::Ask(key)])?;
-        script.extend_from_slice(&[Step::Poll(other, 50), Step::Poll(first, 100)])?;
-        script.extend_from_slice(&[Step::Poll(second, 200), Step::Settle(first, Ok(key + 1000))])?;
-        script.extend_from_slice(&[Step::Poll(first, 101), Step::Wake, Step::Poll(second, 201)])?;
+        script.extend_from_slice(&[
+            Step::Ask(key + 64),
+            Step::Ask(key),
+            Step::Ask(key),
+            Step::Poll(other, 50),
+            Step::Poll(first, 100),
+            Step::Poll(second, 200),
+            Step::Settle(first, Ok(key + 1000)),
+            Step::Poll(first, 101),
+            Step::Wake,
+            Step::Poll(second, 201),
+        ])?;
     }
     Ok(script)
 }
@@ -316,20 +287,29 @@ fn pairs_make_a_map(rt: HostRuntime) -> Result<(), Fail> {
     Ok(())
 }
 
-// What a call tells that is polled once, with its value at hand.
-fn computed_at_once<S: BuildHasher + Drop>(map: &mut MapCore<u64, u64, S, u64>, key: u64) -> Told {
-    computed(map, &mut KeyCall::new(key, Settling::with(key)), 1)
+// Whether a call that is polled once, with its value at hand, computes it.
+fn is_computed<M: Keyed>(map: &mut M, key: u64) -> bool {
+    map.polled(&mut KeyCall::new(key, Settling::with(key)), 1) == Value(key)
+}
+
+// Whether each of so many keys of a map is computed and taken again, and then one of them is gone.
+fn are_taken<M: Keyed>(mut map: M, keys: u64) -> bool {
+    for key in 0..keys {
+        if !is_computed(&mut map, key) {
+            return false;
+        }
+    }
+    for key in 0..keys {
+        if map.told(Step::Remove(key)) != Some(Value(key)) {
+            return false;
+        }
+    }
+    map.told(Step::Get(7)) == Some(Nothing)
 }
 
 // Many keys are computed and taken again.
 #[test]
 fn many_keys(rt: HostRuntime) {
-    let mut map = MapCore::with_hasher(rt.alloc(), Spread::new());
-    for key in 0..20_000u64 {
-        assert!(rt; computed_at_once(&mut map, key) == Value(key));
-    }
-    for key in 0..20_000u64 {
-        assert!(rt; map.removed(key) == Some(Value(key)));
-    }
-    assert!(rt; map.got(7) == Some(Nothing));
+    let map: MapCore<u64, u64, Spread, u64> = MapCore::with_hasher(rt.alloc(), Spread::new());
+    assert!(rt; are_taken(map, 20_000));
 }

@@ -1,8 +1,8 @@
 use crate::play::Step::{Ask, End, Free, Poll, Release, Try, Waiters, Wake, Weigh, Weight};
 use crate::play::Told::{Done, Number, Overflow, Pending};
-use crate::play::{Step, answers, right};
+use crate::play::{Room, Step, answers};
 use mea_share_core::FairCore;
-use mea_test_support::Collides;
+use mea_test_support::{Collides, differs_at};
 use std::alloc::{AllocError, Global};
 use std::hash::{BuildHasherDefault, FoldHasher};
 use std::test::Fail;
@@ -31,7 +31,7 @@ fn a_key_with_less_goes_first(rt: HostRuntime) {
         (Release(2), Done),
         (Wake, Number(13)),
     ];
-    assert_eq!(rt; right(rt.alloc(), core, &script), 16);
+    assert_eq!(rt; differs_at(Room::new(rt.alloc(), core), &script), None);
 }
 
 // Keys 1 and 2 hold a permit, key 3 none. Five acquires wait, of the keys 1, 1, 2, 2 and 3, with the wakers 0 to 4, and
@@ -73,7 +73,7 @@ fn the_order_of_admission(rt: HostRuntime) {
         (Wake, Number(1)),
         (Wake, Pending),
     ];
-    assert_eq!(rt; right(rt.alloc(), core, &script), 31);
+    assert_eq!(rt; differs_at(Room::new(rt.alloc(), core), &script), None);
 }
 
 // The last number is given to nobody, and what is refused changes nothing. A free permit needs no number.
@@ -93,7 +93,7 @@ fn numbers_run_out(rt: HostRuntime) {
         (Poll(1, 12), Done),
         (Free, Number(0)),
     ];
-    assert_eq!(rt; right(rt.alloc(), core, &script), 11);
+    assert_eq!(rt; differs_at(Room::new(rt.alloc(), core), &script), None);
 }
 
 // An acquire that is ended new or while it waits wakes nobody; the permit of one that was admitted goes to who is next,
@@ -126,7 +126,7 @@ fn acquires_end(rt: HostRuntime) {
         (Release(1), Done),
         (Free, Number(1)),
     ];
-    assert_eq!(rt; right(rt.alloc(), core, &script), 23);
+    assert_eq!(rt; differs_at(Room::new(rt.alloc(), core), &script), None);
 }
 
 // Each of 64 keys takes a permit and waits for another, and a further key gives a permit back for each.
@@ -152,9 +152,9 @@ fn crowd(alloc: Global) -> Result<Vec<Step>, AllocError> {
 fn hashes_change_nothing(rt: HostRuntime) -> Result<(), Fail> {
     let script = crowd(rt.alloc())?;
     let core: FairCore<u64, u64, Collides> = FairCore::with_hasher(rt.alloc(), 128, Collides);
-    let alike = answers(rt.alloc(), core, &script);
+    let alike = answers(rt.alloc(), Room::new(rt.alloc(), core), &script);
     let core: Core = FairCore::new(rt.alloc(), 128);
-    assert!(rt; alike == answers(rt.alloc(), core, &script));
+    assert!(rt; alike == answers(rt.alloc(), Room::new(rt.alloc(), core), &script));
     assert_eq!(rt; alike.len(), 704);
     assert!(rt; alike.get(321).copied() == Some(Number(1)));
     assert!(rt; alike.get(417).copied() == Some(Number(0)));

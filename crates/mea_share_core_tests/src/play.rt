@@ -1,10 +1,11 @@
 use mea_base::Poll;
 use mea_share_core::{FairCore, ShareAcquire, ShareFault, SharedKey};
+use mea_test_support::Plays;
 use std::alloc::Global;
 use std::hash::BuildHasher;
 
 // A call: keys are numbers, and acquires are told apart by the order in which they are made.
-#[derive(Clone, Copy, Drop)]
+#[derive(Clone, Copy)]
 pub(crate) enum Step {
     Weigh(u64, u64),
     Weight(u64),
@@ -19,7 +20,7 @@ pub(crate) enum Step {
 }
 
 // What a call told: nothing, that it had no permit, a number, or that there was no further number for this waker.
-#[derive(Clone, Copy, PartialEq, Eq, Drop)]
+#[derive(Clone, Copy, PartialEq, Eq)]
 pub(crate) enum Told {
     Done,
     Pending,
@@ -29,58 +30,60 @@ pub(crate) enum Told {
 
 type Acquires = Vec<Option<ShareAcquire<u64>>>;
 
-// How many calls of a script tell what stands beside them, up to the first that does not.
-pub(crate) fn right<S: BuildHasher + Drop>(
+// A core, and the acquires that were made.
+#[derive(Drop)]
+pub(crate) struct Room<S> {
     alloc: Global,
-    mut core: FairCore<u64, u64, S>,
-    script: &[(Step, Told)],
-) -> usize {
-    let mut acquires = Vec::new(alloc);
-    let mut right = 0usize;
-    for (step, told) in script {
-        match act(alloc, &mut core, &mut acquires, *step) {
-            Some(answer) if answer == *told => right = right.wrapping_add(1),
-            _ => return right,
+    core: FairCore<u64, u64, S>,
+    acquires: Acquires,
+}
+
+impl<S> Room<S> {
+    pub(crate) fn new(alloc: Global, core: FairCore<u64, u64, S>) -> Room<S> {
+        Room {
+            alloc,
+            core,
+            acquires: Vec::new(alloc),
         }
     }
-    right
+}
+
+impl<S: BuildHasher + Drop> Plays for Room<S> {
+    type Call = Step;
+
+    type Told = Told;
+
+    fn told(&mut self, step: Step) -> Option<Told> {
+        let core = &mut self.core;
+        match step {
+            Step::Weigh(key, weight) => weigh(core, &named(self.alloc, key)?, weight),
+            Step::Weight(key) => weight_told(core, &named(self.alloc, key)?),
+            Step::Try(key) => attempt(core, &named(self.alloc, key)?),
+            Step::Ask(key) => ask(&mut self.acquires, named(self.alloc, key)?),
+            Step::Poll(place, waker) => poll(core, self.acquires.get_mut(place)?, waker),
+            Step::End(place) => end(core, self.acquires.get_mut(place)?),
+            Step::Release(key) => release(core, &named(self.alloc, key)?),
+            Step::Wake => Some(wake(core)),
+            Step::Free => Some(Told::Number(core.available_permits() as u64)),
+            Step::Waiters => Some(Told::Number(core.num_waiters() as u64)),
+        }
+    }
 }
 
 // What the calls of a script tell, up to the first that finds no memory.
-pub(crate) fn answers<S: BuildHasher + Drop>(
+pub(crate) fn answers<P: Plays<Call = Step, Told = Told>>(
     alloc: Global,
-    mut core: FairCore<u64, u64, S>,
-    script: &Vec<Step>,
+    mut player: P,
+    script: &[Step],
 ) -> Vec<Told> {
-    let mut acquires = Vec::new(alloc);
-    let mut told = Vec::new(alloc);
+    let mut answers = Vec::new(alloc);
     for step in script {
-        if let Some(answer) = act(alloc, &mut core, &mut acquires, *step) {
-            let _ = told.push(answer);
+        match player.told(*step) {
+            Some(told) if answers.push(told).is_ok() => {}
+            _ => return answers,
         }
     }
-    told
-}
-
-// Makes a call. None means want of memory, or a script that names no acquire.
-fn act<S: BuildHasher + Drop>(
-    alloc: Global,
-    core: &mut FairCore<u64, u64, S>,
-    acquires: &mut Acquires,
-    step: Step,
-) -> Option<Told> {
-    match step {
-        Step::Weigh(key, weight) => weigh(core, &named(alloc, key)?, weight),
-        Step::Weight(key) => Some(Told::Number(core.weight(&named(alloc, key)?))),
-        Step::Try(key) => attempt(core, &named(alloc, key)?),
-        Step::Ask(key) => ask(acquires, named(alloc, key)?),
-        Step::Poll(place, waker) => poll(core, acquires.get_mut(place)?, waker),
-        Step::End(place) => end(core, acquires.get_mut(place)?),
-        Step::Release(key) => release(core, &named(alloc, key)?),
-        Step::Wake => Some(wake(core)),
-        Step::Free => Some(Told::Number(core.available_permits() as u64)),
-        Step::Waiters => Some(Told::Number(core.num_waiters() as u64)),
-    }
+    answers
 }
 
 fn named(alloc: Global, name: u64) -> Option<SharedKey<u64>> {
@@ -102,6 +105,13 @@ fn weigh<S: BuildHasher + Drop>(
         Ok(()) => Some(Told::Done),
         Err(_) => None,
     }
+}
+
+fn weight_told<S: BuildHasher + Drop>(
+    core: &FairCore<u64, u64, S>,
+    key: &SharedKey<u64>,
+) -> Option<Told> {
+    Some(Told::Number(core.weight(key)))
 }
 
 fn attempt<S: BuildHasher + Drop>(

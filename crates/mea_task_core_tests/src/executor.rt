@@ -5,26 +5,24 @@ use std::alloc::Global;
 // No event may have a greater number where a semaphore is added or an account is told.
 const LAST_EVENT: u64 = 1 << 62;
 
-// An executor with semaphores of so many permits, whose tasks have run.
-fn run_all(alloc: Global, permits: &[usize], tasks: &[&[Step]]) -> Option<Executor> {
-    let mut executor = Executor::new(alloc);
+// Whether an executor takes semaphores of so many permits and these tasks.
+fn takes(executor: &mut Executor, alloc: Global, permits: &[usize], tasks: &[&[Step]]) -> bool {
     for count in permits {
         if executor.events() >= LAST_EVENT || executor.add_semaphore(*count).is_err() {
-            return None;
+            return false;
         }
     }
     for steps in tasks {
-        let Ok(steps) = Vec::from_slice(alloc, steps) else {
-            return None;
-        };
-        if executor.add_task(steps).is_err() {
-            return None;
+        match Vec::from_slice(alloc, steps) {
+            Ok(steps) if executor.add_task(steps).is_ok() => {}
+            _ => return false,
         }
     }
-    match executor.run() {
-        Ok(()) => Some(executor),
-        Err(_) => None,
-    }
+    true
+}
+
+fn runs(executor: &mut Executor) -> bool {
+    executor.run().is_ok()
 }
 
 // Whether the tasks have come to these states.
@@ -54,6 +52,43 @@ fn account(executor: &mut Executor, semaphore: usize) -> Option<[u128; 7]> {
     Some([made, released, owed, free, held, paid, forgotten])
 }
 
+// Whether the semaphores have these accounts.
+fn have(executor: &mut Executor, accounts: &[[u128; 7]]) -> bool {
+    for (semaphore, told) in accounts.iter().enumerate() {
+        if account(executor, semaphore) != Some(*told) {
+            return false;
+        }
+    }
+    executor.semaphores() == accounts.len()
+}
+
+// What tasks come to.
+struct Outcome<'a> {
+    states: &'a [TaskState],
+    polls: u64,
+    accounts: &'a [[u128; 7]],
+}
+
+fn come_to(
+    executor: &mut Executor,
+    alloc: Global,
+    permits: &[usize],
+    tasks: &[&[Step]],
+    outcome: &Outcome<'_>,
+) -> bool {
+    takes(executor, alloc, permits, tasks)
+        && runs(executor)
+        && are_in(executor, outcome.states)
+        && executor.polls() == outcome.polls
+        && have(executor, outcome.accounts)
+}
+
+// Whether the tasks of a new executor, over semaphores of so many permits, come to this.
+fn run_to(alloc: Global, permits: &[usize], tasks: &[&[Step]], outcome: &Outcome<'_>) -> bool {
+    let mut executor = Executor::new(alloc);
+    come_to(&mut executor, alloc, permits, tasks, outcome)
+}
+
 // The second task waits for two permits, and is woken by the third.
 #[test]
 fn a_release_wakes_who_waits(rt: HostRuntime) {
@@ -62,15 +97,16 @@ fn a_release_wakes_who_waits(rt: HostRuntime) {
         &[Step::Take(0, 2), Step::Give(0, 1)],
         &[Step::Give(0, 1)],
     ];
-    let mut executor = run_all(rt.alloc(), &[1], &tasks).expect(&rt, "memory");
-    let states = [
-        TaskState::Finished,
-        TaskState::Finished,
-        TaskState::Finished,
-    ];
-    assert!(rt; are_in(&executor, &states));
-    assert_eq!(rt; executor.polls(), 4);
-    assert_eq!(rt; account(&mut executor, 0), Some([1, 3, 0, 1, 0, 0, 3]));
+    let outcome = Outcome {
+        states: &[
+            TaskState::Finished,
+            TaskState::Finished,
+            TaskState::Finished,
+        ],
+        polls: 4,
+        accounts: &[[1, 3, 0, 1, 0, 0, 3]],
+    };
+    assert!(rt; run_to(rt.alloc(), &[1], &tasks, &outcome));
 }
 
 // Two tasks take two semaphores in turn, each in another order, and both wait.
@@ -80,7 +116,6 @@ fn two_tasks_wait_for_each_other(rt: HostRuntime) {
         &[Step::Take(0, 1), Step::Yield, Step::Take(1, 1)],
         &[Step::Take(1, 1), Step::Yield, Step::Take(0, 1)],
     ];
-    let mut executor = run_all(rt.alloc(), &[1, 1], &tasks).expect(&rt, "memory");
     let states = [
         TaskState::Waits {
             semaphore: 1,
@@ -91,45 +126,46 @@ fn two_tasks_wait_for_each_other(rt: HostRuntime) {
             demand: 1,
         },
     ];
-    assert!(rt; are_in(&executor, &states));
-    assert_eq!(rt; executor.polls(), 4);
-    assert_eq!(rt; account(&mut executor, 0), Some([1, 0, 0, 0, 0, 0, 1]));
-    assert_eq!(rt; account(&mut executor, 1), Some([1, 0, 0, 0, 0, 0, 1]));
+    let outcome = Outcome {
+        states: &states,
+        polls: 4,
+        accounts: &[[1, 0, 0, 0, 0, 0, 1], [1, 0, 0, 0, 0, 0, 1]],
+    };
+    assert!(rt; run_to(rt.alloc(), &[1, 1], &tasks, &outcome));
 }
 
 // A semaphore has as many permits as it may have, and one more is released.
 #[test]
 fn a_release_is_refused(rt: HostRuntime) {
     let tasks: [&[Step]; 1] = [&[Step::Give(0, 1), Step::Take(0, 1)]];
-    let mut executor = run_all(rt.alloc(), &[usize::MAX], &tasks).expect(&rt, "memory");
-    assert!(rt; are_in(&executor, &[TaskState::Failed]));
-    assert_eq!(rt; executor.polls(), 1);
     let most = usize::MAX as u128;
-    assert_eq!(rt;
-        account(&mut executor, 0),
-        Some([most, 0, 0, most, 0, 0, 0])
-    );
+    let outcome = Outcome {
+        states: &[TaskState::Failed],
+        polls: 1,
+        accounts: &[[most, 0, 0, most, 0, 0, 0]],
+    };
+    assert!(rt; run_to(rt.alloc(), &[usize::MAX], &tasks, &outcome));
 }
 
 // The step that means a semaphore which is not there, and how many steps came back.
-fn unknown_step(fault: AddFault) -> Option<(usize, usize)> {
-    match fault {
-        AddFault::Unknown { step, steps } => Some((step, steps.len())),
-        AddFault::TooMany(_steps) => None,
-        AddFault::NoMemory(_steps) => None,
+fn unknown_step(added: Result<usize, AddFault>) -> Option<(usize, usize)> {
+    match added {
+        Err(AddFault::Unknown { step, steps }) => Some((step, steps.len())),
+        _ => None,
     }
+}
+
+// The same of a new executor, and how many tasks it has then.
+fn refused(alloc: Global, steps: Vec<Step>) -> (Option<(usize, usize)>, usize) {
+    let mut executor = Executor::new(alloc);
+    let told = unknown_step(executor.add_task(steps));
+    (told, executor.tasks())
 }
 
 // A step that means no semaphore is told, with the steps.
 #[test]
 fn an_unknown_semaphore(rt: HostRuntime) {
     let alloc = rt.alloc();
-    let mut executor = Executor::new(alloc);
     let steps = Vec::from_slice(alloc, &[Step::Yield, Step::Give(0, 1)]).expect(&rt, "memory");
-    let told = match executor.add_task(steps) {
-        Ok(_) => None,
-        Err(fault) => unknown_step(fault),
-    };
-    assert_eq!(rt; told, Some((1, 2)));
-    assert_eq!(rt; executor.tasks(), 0);
+    assert!(rt; refused(alloc, steps) == (Some((1, 2)), 0));
 }

@@ -1,7 +1,9 @@
-use crate::lock::Told;
+use crate::play::Told;
+use crate::play::Told::{Done, No, Nothing, Pending, Ready, Value, Yes};
 use mea_lock_core::{CondWait, CondvarCore, MutexCore, WaitWhile};
+use mea_test_support::{Plays, differs_at};
+use std::alloc::Global;
 use std::mem;
-use std::test::Fail;
 
 // A mutex with the value 0, a condition variable and two waits.
 #[derive(Drop)]
@@ -13,7 +15,7 @@ struct Room {
 }
 
 #[derive(Clone, Copy)]
-enum RoomCall {
+enum Call {
     TryLock,
     Unlock,
     PollFirst(u64),
@@ -25,279 +27,228 @@ enum RoomCall {
     NotifyAll,
     NextWake,
     NextLockWake,
+    // Takes the lock, writes the value, and gives the lock back.
+    Write(u64),
 }
 
 impl Room {
-    fn new(rt: &HostRuntime) -> Room {
+    fn new(alloc: Global) -> Room {
         Room {
-            lock: MutexCore::new(rt.alloc(), 0),
-            condvar: CondvarCore::new(rt.alloc()),
+            lock: MutexCore::new(alloc, 0),
+            condvar: CondvarCore::new(alloc),
             first: CondWait::new(),
             second: CondWait::new(),
         }
     }
 
-    fn lock_told(&mut self, call: RoomCall) -> Told {
-        match call {
-            RoomCall::TryLock => Told::whether(self.lock.try_lock()),
-            RoomCall::NextLockWake => Told::wake(self.lock.next_wake()),
-            _ => {
-                self.lock.unlock_checked();
-                Told::Done
-            }
-        }
+    fn poll_first(&mut self, waker: u64) -> Option<Told> {
+        Told::turned(
+            self.condvar
+                .poll_wait_checked(&mut self.lock, &mut self.first, waker),
+        )
     }
 
-    fn poll_first(&mut self, waker: u64) -> Result<Told, Fail> {
-        let turn = self
-            .condvar
-            .poll_wait_checked(&mut self.lock, &mut self.first, waker)?;
-        Ok(Told::of(&turn))
+    fn poll_second(&mut self, waker: u64) -> Option<Told> {
+        Told::turned(
+            self.condvar
+                .poll_wait_checked(&mut self.lock, &mut self.second, waker),
+        )
     }
 
-    fn poll_second(&mut self, waker: u64) -> Result<Told, Fail> {
-        let turn = self
-            .condvar
-            .poll_wait_checked(&mut self.lock, &mut self.second, waker)?;
-        Ok(Told::of(&turn))
-    }
-
-    fn poll_allowed(&mut self, waker: u64) -> Result<Told, Fail> {
+    fn poll_allowed(&mut self, waker: u64) -> Option<Told> {
         if !self.condvar.poll_wait_allowed(&self.lock, &self.first) {
-            return Ok(Told::No);
+            return Some(No);
         }
-        let turn = self
-            .condvar
-            .poll_wait(&mut self.lock, &mut self.first, waker)?;
-        Ok(Told::of(&turn))
+        Told::turned(
+            self.condvar
+                .poll_wait(&mut self.lock, &mut self.first, waker),
+        )
     }
 
     fn end_first(&mut self) -> Told {
         let ended = mem::replace(&mut self.first, CondWait::new());
         self.condvar.end_wait_checked(&mut self.lock, ended);
-        Told::Done
+        Done
     }
+}
 
-    fn notified(&mut self, call: RoomCall) -> Told {
-        match call {
-            RoomCall::NextWake => return Told::wake(self.condvar.next_wake()),
-            RoomCall::NotifyAll => self.condvar.notify_all(),
-            _ => self.condvar.notify_one(),
-        }
-        Told::Done
-    }
+impl Plays for Room {
+    type Call = Call;
 
-    fn told(&mut self, call: RoomCall) -> Result<Told, Fail> {
+    type Told = Told;
+
+    fn told(&mut self, call: Call) -> Option<Told> {
         match call {
-            RoomCall::TryLock | RoomCall::Unlock | RoomCall::NextLockWake => {
-                Ok(self.lock_told(call))
+            Call::PollFirst(waker) => self.poll_first(waker),
+            Call::PollSecond(waker) => self.poll_second(waker),
+            Call::PollAllowed(waker) => self.poll_allowed(waker),
+            Call::EndFirst => Some(self.end_first()),
+            Call::TryLock | Call::Unlock | Call::NextLockWake | Call::Write(_) => {
+                Some(lock_told(&mut self.lock, call))
             }
-            RoomCall::PollFirst(waker) => self.poll_first(waker),
-            RoomCall::PollSecond(waker) => self.poll_second(waker),
-            RoomCall::PollAllowed(waker) => self.poll_allowed(waker),
-            RoomCall::EndFirst => Ok(self.end_first()),
-            RoomCall::NotifyOne | RoomCall::NotifyAll | RoomCall::NextWake => {
-                Ok(self.notified(call))
-            }
+            _ => Some(notified(&mut self.condvar, call)),
         }
     }
 }
 
-// The place of the first call of a table that tells something else than the table says.
-fn differs_at(rt: &HostRuntime, table: &[(RoomCall, Told)]) -> Result<Option<usize>, Fail> {
-    let mut room = Room::new(rt);
-    for (place, &(call, told)) in table.iter().enumerate() {
-        if room.told(call)? != told {
-            return Ok(Some(place));
+fn lock_told(lock: &mut MutexCore<u64, u64>, call: Call) -> Told {
+    match call {
+        Call::TryLock => Told::whether(lock.try_lock()),
+        Call::NextLockWake => Told::found(lock.next_wake()),
+        Call::Write(value) => written(lock, value),
+        _ => {
+            lock.unlock_checked();
+            Done
         }
     }
-    Ok(None)
+}
+
+fn written(lock: &mut MutexCore<u64, u64>, value: u64) -> Told {
+    if !lock.try_lock() || !lock.is_held() {
+        return No;
+    }
+    *lock.value_mut() = value;
+    lock.unlock_checked();
+    Done
+}
+
+fn notified(condvar: &mut CondvarCore<u64>, call: Call) -> Told {
+    match call {
+        Call::NextWake => return Told::found(condvar.next_wake()),
+        Call::NotifyAll => condvar.notify_all(),
+        _ => condvar.notify_one(),
+    }
+    Done
 }
 
 // A wait that was notified alone and is ended in the lock stage passes that on.
 #[test]
-fn condvar_in_order(rt: HostRuntime) -> Result<(), Fail> {
-    let table = [
-        (RoomCall::TryLock, Told::Yes),
-        (RoomCall::PollFirst(10), Told::Pending),
-        (RoomCall::TryLock, Told::Yes),
-        (RoomCall::PollSecond(11), Told::Pending),
-        (RoomCall::TryLock, Told::Yes),
-        (RoomCall::NotifyOne, Told::Done),
-        (RoomCall::NextWake, Told::Value(10)),
-        (RoomCall::PollFirst(12), Told::Pending),
-        (RoomCall::EndFirst, Told::Done),
-        (RoomCall::NextWake, Told::Value(11)),
-        (RoomCall::Unlock, Told::Done),
-        (RoomCall::NextLockWake, Told::No),
-        (RoomCall::PollSecond(13), Told::Ready),
-        (RoomCall::NotifyOne, Told::Done),
-        (RoomCall::NextWake, Told::No),
-        (RoomCall::TryLock, Told::No),
+fn condvar_in_order(rt: HostRuntime) {
+    let script = [
+        (Call::TryLock, Yes),
+        (Call::PollFirst(10), Pending),
+        (Call::TryLock, Yes),
+        (Call::PollSecond(11), Pending),
+        (Call::TryLock, Yes),
+        (Call::NotifyOne, Done),
+        (Call::NextWake, Value(10)),
+        (Call::PollFirst(12), Pending),
+        (Call::EndFirst, Done),
+        (Call::NextWake, Value(11)),
+        (Call::Unlock, Done),
+        (Call::NextLockWake, Nothing),
+        (Call::PollSecond(13), Ready(13)),
+        (Call::NotifyOne, Done),
+        (Call::NextWake, Nothing),
+        (Call::TryLock, No),
     ];
-    assert_eq!(rt; differs_at(&rt, &table)?, None);
-    Ok(())
+    assert_eq!(rt; differs_at(Room::new(rt.alloc()), &script), None);
 }
 
 // A new wait that is ended gives the lock back.
 #[test]
-fn ended_new(rt: HostRuntime) -> Result<(), Fail> {
-    let table = [
-        (RoomCall::TryLock, Told::Yes),
-        (RoomCall::EndFirst, Told::Done),
-        (RoomCall::TryLock, Told::Yes),
+fn ended_new(rt: HostRuntime) {
+    let script = [
+        (Call::TryLock, Yes),
+        (Call::EndFirst, Done),
+        (Call::TryLock, Yes),
     ];
-    assert_eq!(rt; differs_at(&rt, &table)?, None);
-    Ok(())
+    assert_eq!(rt; differs_at(Room::new(rt.alloc()), &script), None);
 }
 
 // A wait that is ended while it waits leaves the others as they are.
 #[test]
-fn ended_waiting(rt: HostRuntime) -> Result<(), Fail> {
-    let table = [
-        (RoomCall::TryLock, Told::Yes),
-        (RoomCall::PollFirst(10), Told::Pending),
-        (RoomCall::TryLock, Told::Yes),
-        (RoomCall::PollSecond(11), Told::Pending),
-        (RoomCall::EndFirst, Told::Done),
-        (RoomCall::NextWake, Told::No),
-        (RoomCall::NotifyOne, Told::Done),
-        (RoomCall::NextWake, Told::Value(11)),
+fn ended_waiting(rt: HostRuntime) {
+    let script = [
+        (Call::TryLock, Yes),
+        (Call::PollFirst(10), Pending),
+        (Call::TryLock, Yes),
+        (Call::PollSecond(11), Pending),
+        (Call::EndFirst, Done),
+        (Call::NextWake, Nothing),
+        (Call::NotifyOne, Done),
+        (Call::NextWake, Value(11)),
     ];
-    assert_eq!(rt; differs_at(&rt, &table)?, None);
-    Ok(())
+    assert_eq!(rt; differs_at(Room::new(rt.alloc()), &script), None);
 }
 
 // A wait that was notified alone and is ended before its next poll passes that on.
 #[test]
-fn ended_notified_alone(rt: HostRuntime) -> Result<(), Fail> {
-    let table = [
-        (RoomCall::TryLock, Told::Yes),
-        (RoomCall::PollFirst(10), Told::Pending),
-        (RoomCall::TryLock, Told::Yes),
-        (RoomCall::PollSecond(11), Told::Pending),
-        (RoomCall::NotifyOne, Told::Done),
-        (RoomCall::NextWake, Told::Value(10)),
-        (RoomCall::EndFirst, Told::Done),
-        (RoomCall::NextWake, Told::Value(11)),
+fn ended_notified_alone(rt: HostRuntime) {
+    let script = [
+        (Call::TryLock, Yes),
+        (Call::PollFirst(10), Pending),
+        (Call::TryLock, Yes),
+        (Call::PollSecond(11), Pending),
+        (Call::NotifyOne, Done),
+        (Call::NextWake, Value(10)),
+        (Call::EndFirst, Done),
+        (Call::NextWake, Value(11)),
     ];
-    assert_eq!(rt; differs_at(&rt, &table)?, None);
-    Ok(())
+    assert_eq!(rt; differs_at(Room::new(rt.alloc()), &script), None);
 }
 
 // One that was notified with all has nothing to pass on, before its next poll and in the lock stage.
 #[test]
-fn ended_notified_with_all(rt: HostRuntime) -> Result<(), Fail> {
-    let table = [
-        (RoomCall::TryLock, Told::Yes),
-        (RoomCall::PollFirst(10), Told::Pending),
-        (RoomCall::NotifyAll, Told::Done),
-        (RoomCall::NextWake, Told::Value(10)),
-        (RoomCall::TryLock, Told::Yes),
-        (RoomCall::PollSecond(11), Told::Pending),
-        (RoomCall::EndFirst, Told::Done),
-        (RoomCall::NextWake, Told::No),
+fn ended_notified_with_all(rt: HostRuntime) {
+    let script = [
+        (Call::TryLock, Yes),
+        (Call::PollFirst(10), Pending),
+        (Call::NotifyAll, Done),
+        (Call::NextWake, Value(10)),
+        (Call::TryLock, Yes),
+        (Call::PollSecond(11), Pending),
+        (Call::EndFirst, Done),
+        (Call::NextWake, Nothing),
     ];
-    assert_eq!(rt; differs_at(&rt, &table)?, None);
-    let table = [
-        (RoomCall::TryLock, Told::Yes),
-        (RoomCall::PollFirst(10), Told::Pending),
-        (RoomCall::NotifyAll, Told::Done),
-        (RoomCall::TryLock, Told::Yes),
-        (RoomCall::PollFirst(12), Told::Pending),
-        (RoomCall::PollSecond(11), Told::Pending),
-        (RoomCall::NextLockWake, Told::Value(12)),
-        (RoomCall::NextWake, Told::Value(10)),
-        (RoomCall::EndFirst, Told::Done),
-        (RoomCall::NextWake, Told::No),
-        (RoomCall::TryLock, Told::Yes),
+    assert_eq!(rt; differs_at(Room::new(rt.alloc()), &script), None);
+    let script = [
+        (Call::TryLock, Yes),
+        (Call::PollFirst(10), Pending),
+        (Call::NotifyAll, Done),
+        (Call::TryLock, Yes),
+        (Call::PollFirst(12), Pending),
+        (Call::PollSecond(11), Pending),
+        (Call::NextLockWake, Value(12)),
+        (Call::NextWake, Value(10)),
+        (Call::EndFirst, Done),
+        (Call::NextWake, Nothing),
+        (Call::TryLock, Yes),
     ];
-    assert_eq!(rt; differs_at(&rt, &table)?, None);
-    Ok(())
-}
-
-fn while_told<F: FnMut(&mut u64) -> bool>(
-    room: &mut Room,
-    wait: &mut WaitWhile<F>,
-    waker: u64,
-) -> Result<Told, Fail>
-    requires { F.IsAlwaysCallable wait.old.condition }
-    ensures { F.IsAlwaysCallable wait.new.condition }
-{
-    let turn = room
-        .condvar
-        .poll_while_checked(&mut room.lock, wait, waker)?;
-    Ok(Told::of(&turn))
-}
-
-// Takes the lock, writes the value, gives the lock back, and tells the first that waits for it.
-fn writes(room: &mut Room, value: u64) -> Told {
-    room.lock.try_lock();
-    if room.lock.is_held() {
-        *room.lock.value_mut() = value;
-    }
-    room.lock.unlock_checked();
-    room.condvar.notify_one();
-    Told::wake(room.condvar.next_wake())
-}
-
-// Whether a wait that goes on while the value is below 3 is pending with each waker, which the write of the value beside it
-// wakes, and then has the lock.
-fn waits_below(rt: &HostRuntime, turns: &[(u64, u64)]) -> Result<bool, Fail> {
-    let mut room = Room::new(rt);
-    let mut wait = WaitWhile::new(|value: &mut u64| *value < 3);
-    if room.told(RoomCall::TryLock)? != Told::Yes {
-        return Ok(false);
-    }
-    for &(waker, value) in turns {
-        let told = while_told(&mut room, &mut wait, waker)?;
-        if told != Told::Pending || writes(&mut room, value) != Told::Value(waker) {
-            return Ok(false);
-        }
-    }
-    let told = while_told(&mut room, &mut wait, 12)?;
-    Ok(told == Told::Ready && room.told(RoomCall::TryLock)? == Told::No)
-}
-
-// A wait goes on while the value is below 3, however often it is notified.
-#[test]
-fn waits_while_below(rt: HostRuntime) -> Result<(), Fail> {
-    assert!(rt; waits_below(&rt, &[(10, 2), (11, 3)])?);
-    Ok(())
+    assert_eq!(rt; differs_at(Room::new(rt.alloc()), &script), None);
 }
 
 // A wait finds memory in each stage: new, waiting, notified while the lock is held, and asking for the lock.
 #[test]
-fn every_stage(rt: HostRuntime) -> Result<(), Fail> {
-    let table = [
-        (RoomCall::TryLock, Told::Yes),
-        (RoomCall::PollAllowed(10), Told::Pending),
-        (RoomCall::PollAllowed(11), Told::Pending),
-        (RoomCall::TryLock, Told::Yes),
-        (RoomCall::NotifyOne, Told::Done),
-        (RoomCall::PollAllowed(12), Told::Pending),
-        (RoomCall::PollAllowed(13), Told::Pending),
-        (RoomCall::Unlock, Told::Done),
-        (RoomCall::PollAllowed(14), Told::Ready),
-        (RoomCall::PollAllowed(15), Told::No),
-        (RoomCall::PollFirst(16), Told::Pending),
-        (RoomCall::Unlock, Told::Done),
-        (RoomCall::PollFirst(17), Told::Ready),
+fn every_stage(rt: HostRuntime) {
+    let script = [
+        (Call::TryLock, Yes),
+        (Call::PollAllowed(10), Pending),
+        (Call::PollAllowed(11), Pending),
+        (Call::TryLock, Yes),
+        (Call::NotifyOne, Done),
+        (Call::PollAllowed(12), Pending),
+        (Call::PollAllowed(13), Pending),
+        (Call::Unlock, Done),
+        (Call::PollAllowed(14), Ready(14)),
+        (Call::PollAllowed(15), No),
+        (Call::PollFirst(16), Pending),
+        (Call::Unlock, Done),
+        (Call::PollFirst(17), Ready(17)),
     ];
-    assert_eq!(rt; differs_at(&rt, &table)?, None);
-    let table = [
-        (RoomCall::TryLock, Told::Yes),
-        (RoomCall::PollFirst(10), Told::Pending),
-        (RoomCall::PollFirst(11), Told::Pending),
-        (RoomCall::TryLock, Told::Yes),
-        (RoomCall::NotifyOne, Told::Done),
-        (RoomCall::PollFirst(12), Told::Pending),
-        (RoomCall::PollFirst(13), Told::Pending),
-        (RoomCall::Unlock, Told::Done),
-        (RoomCall::PollFirst(14), Told::Ready),
+    assert_eq!(rt; differs_at(Room::new(rt.alloc()), &script), None);
+    let script = [
+        (Call::TryLock, Yes),
+        (Call::PollFirst(10), Pending),
+        (Call::PollFirst(11), Pending),
+        (Call::TryLock, Yes),
+        (Call::NotifyOne, Done),
+        (Call::PollFirst(12), Pending),
+        (Call::PollFirst(13), Pending),
+        (Call::Unlock, Done),
+        (Call::PollFirst(14), Ready(14)),
     ];
-    assert_eq!(rt; differs_at(&rt, &table)?, None);
-    Ok(())
+    assert_eq!(rt; differs_at(Room::new(rt.alloc()), &script), None);
 }
 
 // A poll of a wait with a condition, by the call that asks for a wait that may be polled or by the one that
@@ -307,51 +258,82 @@ fn while_polled<F: FnMut(&mut u64) -> bool>(
     wait: &mut WaitWhile<F>,
     waker: u64,
     checked: bool,
-) -> Result<Told, Fail>
+) -> Option<Told>
     requires { F.IsAlwaysCallable wait.old.condition }
     ensures { F.IsAlwaysCallable wait.new.condition }
 {
-    if checked || !room.condvar.poll_while_allowed(&room.lock, wait) {
-        return while_told(room, wait, waker);
-    }
-    let turn = room.condvar.poll_while(&mut room.lock, wait, waker)?;
-    Ok(Told::of(&turn))
+    let polled = if checked || !room.condvar.poll_while_allowed(&room.lock, wait) {
+        room.condvar.poll_while_checked(&mut room.lock, wait, waker)
+    } else {
+        room.condvar.poll_while(&mut room.lock, wait, waker)
+    };
+    Told::turned(polled)
 }
 
-// What a wait with a condition is told in each stage: new, waiting, notified while the lock is held, asking
-// for the lock, and holding it, first where the condition holds and then where it does not.
-fn while_stages(rt: &HostRuntime, checked: bool) -> Result<Option<usize>, Fail> {
-    let mut room = Room::new(rt);
+// The place of the first call that tells something else than stands beside it. None is a poll of a wait that goes on while
+// the value is below 3, whose waker is its place.
+fn while_differs_at(
+    alloc: Global,
+    checked: bool,
+    script: &[(Option<Call>, Told)],
+) -> Option<usize> {
+    let mut room = Room::new(alloc);
     let mut wait = WaitWhile::new(|value: &mut u64| *value < 3);
-    let stages = [
-        (RoomCall::TryLock, Told::Yes, Told::Pending),
-        (RoomCall::NextWake, Told::No, Told::Pending),
-        (RoomCall::NotifyOne, Told::Done, Told::Pending),
-        (RoomCall::TryLock, Told::Yes, Told::Pending),
-        (RoomCall::NotifyOne, Told::Done, Told::Pending),
-        (RoomCall::NextLockWake, Told::No, Told::Pending),
-        (RoomCall::Unlock, Told::Done, Told::Pending),
-    ];
-    for (place, &(call, before, told)) in stages.iter().enumerate() {
-        if room.told(call)? != before {
-            return Ok(Some(place));
+    for (place, &(call, told)) in script.iter().enumerate() {
+        let answer = match call {
+            Some(call) => room.told(call),
+            None => while_polled(&mut room, &mut wait, place as u64, checked),
+        };
+        if answer != Some(told) {
+            return Some(place);
         }
-        if while_polled(&mut room, &mut wait, 20, checked)? != told {
-            return Ok(Some(place));
-        }
-    }
-    writes(&mut room, 3);
-    if while_polled(&mut room, &mut wait, 21, checked)? != Told::Ready {
-        return Ok(Some(stages.len()));
     }
     room.condvar.end_while_checked(&mut room.lock, wait);
-    Ok(None)
+    None
 }
 
-// A wait with a condition finds memory in each stage.
+// A wait goes on while the value is below 3, however often it is notified.
 #[test]
-fn every_stage_of_a_while(rt: HostRuntime) -> Result<(), Fail> {
-    assert_eq!(rt; while_stages(&rt, false)?, None);
-    assert_eq!(rt; while_stages(&rt, true)?, None);
-    Ok(())
+fn waits_while_below(rt: HostRuntime) {
+    let script = [
+        (Some(Call::TryLock), Yes),
+        (None, Pending),
+        (Some(Call::Write(2)), Done),
+        (Some(Call::NotifyOne), Done),
+        (Some(Call::NextWake), Value(1)),
+        (None, Pending),
+        (Some(Call::Write(3)), Done),
+        (Some(Call::NotifyOne), Done),
+        (Some(Call::NextWake), Value(5)),
+        (None, Ready(9)),
+        (Some(Call::TryLock), No),
+    ];
+    assert_eq!(rt; while_differs_at(rt.alloc(), true, &script), None);
+}
+
+// A wait with a condition finds memory in each stage: new, waiting, notified while the lock is held, asking for the lock,
+// and holding it, first where the condition holds and then where it does not.
+#[test]
+fn every_stage_of_a_while(rt: HostRuntime) {
+    let script = [
+        (Some(Call::TryLock), Yes),
+        (None, Pending),
+        (Some(Call::NextWake), Nothing),
+        (None, Pending),
+        (Some(Call::NotifyOne), Done),
+        (None, Pending),
+        (Some(Call::TryLock), Yes),
+        (None, Pending),
+        (Some(Call::NotifyOne), Done),
+        (None, Pending),
+        (Some(Call::NextLockWake), Nothing),
+        (None, Pending),
+        (Some(Call::Unlock), Done),
+        (None, Pending),
+        (Some(Call::Write(3)), Done),
+        (Some(Call::NotifyOne), Done),
+        (None, Ready(16)),
+    ];
+    assert_eq!(rt; while_differs_at(rt.alloc(), false, &script), None);
+    assert_eq!(rt; while_differs_at(rt.alloc(), true, &script), None);
 }

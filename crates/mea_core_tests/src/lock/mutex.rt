@@ -1,10 +1,14 @@
-use crate::lock::Told;
+use crate::play::Told;
+use crate::play::Told::{Done, No, Pending, Ready, Value, Yes};
 use mea_lock_core::{LockWait, MutexCore};
-use std::test::Fail;
+use mea_test_support::{Plays, differs_at};
+use std::alloc::Global;
+
+type Lock = MutexCore<u64, u64>;
 
 // A call of a mutex with one wait.
 #[derive(Clone, Copy)]
-enum LockCall {
+enum Call {
     Try,
     Poll(u64),
     Get,
@@ -13,59 +17,65 @@ enum LockCall {
     Idle,
 }
 
-fn lock_told(
-    lock: &mut MutexCore<u64, u64>,
-    wait: &mut LockWait,
-    call: LockCall,
-) -> Result<Told, Fail> {
-    Ok(match call {
-        LockCall::Try => Told::whether(lock.try_lock()),
-        LockCall::Poll(waker) => Told::of(&lock.poll_checked(wait, waker)?),
-        LockCall::Get => {
-            if lock.is_held() {
-                Told::Value(*lock.value())
-            } else {
-                Told::No
-            }
+// A mutex and a wait.
+#[derive(Drop)]
+struct Room {
+    lock: Lock,
+    wait: LockWait,
+}
+
+impl Plays for Room {
+    type Call = Call;
+
+    // Beside it the waker that is called then.
+    type Told = (Told, Option<u64>);
+
+    fn told(&mut self, call: Call) -> Option<(Told, Option<u64>)> {
+        let told = lock_told(&mut self.lock, &mut self.wait, call)?;
+        Some((told, self.lock.next_wake()))
+    }
+}
+
+fn lock_told(lock: &mut Lock, wait: &mut LockWait, call: Call) -> Option<Told> {
+    match call {
+        Call::Try => Some(Told::whether(lock.try_lock())),
+        Call::Poll(waker) => Told::turned(lock.poll_checked(wait, waker)),
+        Call::Get if lock.is_held() => Some(Value(*lock.value())),
+        Call::Set(value) if lock.is_held() => {
+            *lock.value_mut() = value;
+            Some(Done)
         }
-        LockCall::Set(value) => {
-            if lock.is_held() {
-                *lock.value_mut() = value;
-            }
-            Told::Done
-        }
-        LockCall::Unlock => {
+        Call::Get | Call::Set(_) => None,
+        Call::Unlock => {
             lock.unlock_checked();
-            Told::Done
+            Some(Done)
         }
-        LockCall::Idle => Told::whether(lock.is_idle()),
-    })
+        Call::Idle => Some(Told::whether(lock.is_idle())),
+    }
 }
 
 // A wait of a mutex is told when the guard ends, and finds the value that the guard left.
 #[test]
-fn mutex_in_order(rt: HostRuntime) -> Result<(), Fail> {
-    let mut lock: MutexCore<u64, u64> = MutexCore::new(rt.alloc(), 5);
-    let mut wait = LockWait::new();
-    let table = [
-        (LockCall::Try, Told::Yes, None),
-        (LockCall::Poll(9), Told::Pending, None),
-        (LockCall::Set(6), Told::Done, None),
-        (LockCall::Unlock, Told::Done, Some(9)),
-        (LockCall::Poll(9), Told::Ready, None),
-        (LockCall::Get, Told::Value(6), None),
-        (LockCall::Idle, Told::No, None),
+fn mutex_in_order(rt: HostRuntime) {
+    let room = Room {
+        lock: MutexCore::new(rt.alloc(), 5),
+        wait: LockWait::new(),
+    };
+    let script = [
+        (Call::Try, (Yes, None)),
+        (Call::Poll(9), (Pending, None)),
+        (Call::Set(6), (Done, None)),
+        (Call::Unlock, (Done, Some(9))),
+        (Call::Poll(10), (Ready(10), None)),
+        (Call::Get, (Value(6), None)),
+        (Call::Idle, (No, None)),
     ];
-    for (call, told, wake) in table {
-        assert_eq!(rt; lock_told(&mut lock, &mut wait, call)?, told);
-        assert_eq!(rt; lock.next_wake(), wake);
-    }
-    Ok(())
+    assert_eq!(rt; differs_at(room, &script), None);
 }
 
 // What a mutex that is idle gives out.
-fn given_out(rt: &HostRuntime) -> u64 {
-    let mut lock: MutexCore<u64, u64> = MutexCore::new(rt.alloc(), 5);
+fn given_out(alloc: Global) -> u64 {
+    let mut lock: Lock = MutexCore::new(alloc, 5);
     if lock.is_idle() {
         *lock.get_mut() = 6;
     }
@@ -73,22 +83,21 @@ fn given_out(rt: &HostRuntime) -> u64 {
 }
 
 #[test]
-fn mutex_gives_out(rt: HostRuntime) -> Result<(), Fail> {
-    assert_eq!(rt; given_out(&rt), 6);
-    Ok(())
+fn mutex_gives_out(rt: HostRuntime) {
+    assert_eq!(rt; given_out(rt.alloc()), 6);
 }
 
 // What a wait is told that has to queue, by the call that asks for one that may be polled or by the one that
 // asks for nothing; it is ended then.
-pub(super) fn queued(rt: &HostRuntime, checked: bool) -> Result<Told, Fail> {
-    let mut lock: MutexCore<u64, u64> = MutexCore::new(rt.alloc(), 5);
+pub(super) fn queued(alloc: Global, checked: bool) -> Option<Told> {
+    let mut lock: Lock = MutexCore::new(alloc, 5);
     lock.try_lock();
     let mut wait = LockWait::new();
-    let turn = if !checked && lock.poll_allowed(&wait) {
-        lock.poll(&mut wait, 9)?
+    let polled = if !checked && lock.poll_allowed(&wait) {
+        lock.poll(&mut wait, 9)
     } else {
-        lock.poll_checked(&mut wait, 9)?
+        lock.poll_checked(&mut wait, 9)
     };
     lock.cancel_checked(wait);
-    Ok(Told::of(&turn))
+    Told::turned(polled)
 }

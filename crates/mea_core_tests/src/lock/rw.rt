@@ -1,10 +1,14 @@
-use crate::lock::Told;
+use crate::play::Told;
+use crate::play::Told::{Done, No, Pending, Ready, Value, Yes};
 use mea_lock_core::{RwCore, RwWait};
-use std::test::Fail;
+use mea_test_support::{Plays, differs_at};
+use std::alloc::Global;
+
+type Lock = RwCore<u64, u64>;
 
 // A call of a reader-writer lock with one wait for a write.
 #[derive(Clone, Copy)]
-enum RwCall {
+enum Call {
     TryRead,
     TryWrite,
     Poll(u64),
@@ -15,65 +19,75 @@ enum RwCall {
     Readers,
 }
 
-fn rw_told(lock: &mut RwCore<u64, u64>, wait: &mut RwWait, call: RwCall) -> Result<Told, Fail> {
-    Ok(match call {
-        RwCall::TryRead => Told::whether(lock.try_read()),
-        RwCall::TryWrite => Told::whether(lock.try_write()),
-        RwCall::Poll(waker) => Told::of(&lock.poll_checked(wait, waker)?),
-        RwCall::Set(value) => {
-            if lock.is_writing() {
-                *lock.value_mut() = value;
-            }
-            Told::Done
+// A reader-writer lock and a wait for a write.
+#[derive(Drop)]
+struct Room {
+    lock: Lock,
+    wait: RwWait,
+}
+
+impl Plays for Room {
+    type Call = Call;
+
+    // Beside it the waker that is called then.
+    type Told = (Told, Option<u64>);
+
+    fn told(&mut self, call: Call) -> Option<(Told, Option<u64>)> {
+        let told = lock_told(&mut self.lock, &mut self.wait, call)?;
+        Some((told, self.lock.next_wake()))
+    }
+}
+
+fn lock_told(lock: &mut Lock, wait: &mut RwWait, call: Call) -> Option<Told> {
+    match call {
+        Call::TryRead => Some(Told::whether(lock.try_read())),
+        Call::TryWrite => Some(Told::whether(lock.try_write())),
+        Call::Poll(waker) => Told::turned(lock.poll_checked(wait, waker)),
+        Call::Set(value) if lock.is_writing() => {
+            *lock.value_mut() = value;
+            Some(Done)
         }
-        RwCall::Get => {
-            if lock.readers() >= 1 {
-                Told::Value(*lock.value())
-            } else {
-                Told::No
-            }
-        }
-        RwCall::UnlockRead => {
+        Call::Get if lock.readers() >= 1 => Some(Value(*lock.value())),
+        Call::Set(_) | Call::Get => None,
+        Call::UnlockRead => {
             lock.unlock_read_checked();
-            Told::Done
+            Some(Done)
         }
-        RwCall::Downgrade => {
+        Call::Downgrade => {
             lock.downgrade_checked();
-            Told::Done
+            Some(Done)
         }
-        RwCall::Readers => Told::Value(lock.readers() as u64),
-    })
+        Call::Readers => Some(Value(lock.readers() as u64)),
+    }
 }
 
 // A write that waits keeps later reads out, and a write that becomes a read lets them in again.
 #[test]
-fn rw_in_order(rt: HostRuntime) -> Result<(), Fail> {
-    let mut lock: RwCore<u64, u64> = RwCore::new(rt.alloc(), 7, 2);
-    let mut wait = RwWait::write();
-    let table = [
-        (RwCall::TryRead, Told::Yes, None),
-        (RwCall::Poll(5), Told::Pending, None),
-        (RwCall::TryRead, Told::No, None),
-        (RwCall::UnlockRead, Told::Done, Some(5)),
-        (RwCall::Poll(6), Told::Ready, None),
-        (RwCall::TryRead, Told::No, None),
-        (RwCall::Set(9), Told::Done, None),
-        (RwCall::Downgrade, Told::Done, None),
-        (RwCall::TryWrite, Told::No, None),
-        (RwCall::TryRead, Told::Yes, None),
-        (RwCall::Readers, Told::Value(2), None),
-        (RwCall::Get, Told::Value(9), None),
+fn rw_in_order(rt: HostRuntime) {
+    let room = Room {
+        lock: RwCore::new(rt.alloc(), 7, 2),
+        wait: RwWait::write(),
+    };
+    let script = [
+        (Call::TryRead, (Yes, None)),
+        (Call::Poll(5), (Pending, None)),
+        (Call::TryRead, (No, None)),
+        (Call::UnlockRead, (Done, Some(5))),
+        (Call::Poll(6), (Ready(6), None)),
+        (Call::TryRead, (No, None)),
+        (Call::Set(9), (Done, None)),
+        (Call::Downgrade, (Done, None)),
+        (Call::TryWrite, (No, None)),
+        (Call::TryRead, (Yes, None)),
+        (Call::Readers, (Value(2), None)),
+        (Call::Get, (Value(9), None)),
     ];
-    for (call, told, wake) in table {
-        assert_eq!(rt; rw_told(&mut lock, &mut wait, call)?, told);
-        assert_eq!(rt; lock.next_wake(), wake);
-    }
-    Ok(())
+    assert_eq!(rt; differs_at(room, &script), None);
 }
 
 // What a lock that is idle gives out.
-fn given_out(rt: &HostRuntime) -> u64 {
-    let mut lock: RwCore<u64, u64> = RwCore::new(rt.alloc(), 7, 2);
+fn given_out(alloc: Global) -> u64 {
+    let mut lock: Lock = RwCore::new(alloc, 7, 2);
     if lock.is_idle() {
         *lock.get_mut() = 8;
     }
@@ -81,33 +95,32 @@ fn given_out(rt: &HostRuntime) -> u64 {
 }
 
 #[test]
-fn rw_gives_out(rt: HostRuntime) -> Result<(), Fail> {
-    assert_eq!(rt; given_out(&rt), 8);
-    Ok(())
+fn rw_gives_out(rt: HostRuntime) {
+    assert_eq!(rt; given_out(rt.alloc()), 8);
 }
 
 // What a wait is told that has to queue, by the call that asks for one that may be polled or by the one that
 // asks for nothing; it is ended then.
-fn queued(lock: &mut RwCore<u64, u64>, mut wait: RwWait, checked: bool) -> Result<Told, Fail> {
-    let turn = if !checked && lock.poll_allowed(&wait) {
-        lock.poll(&mut wait, 5)?
+fn queued(lock: &mut Lock, mut wait: RwWait, checked: bool) -> Option<Told> {
+    let polled = if !checked && lock.poll_allowed(&wait) {
+        lock.poll(&mut wait, 5)
     } else {
-        lock.poll_checked(&mut wait, 5)?
+        lock.poll_checked(&mut wait, 5)
     };
     lock.cancel_checked(wait);
-    Ok(Told::of(&turn))
+    Told::turned(polled)
 }
 
 // A write that has to queue behind a read.
-pub(super) fn queued_write(rt: &HostRuntime, checked: bool) -> Result<Told, Fail> {
-    let mut lock: RwCore<u64, u64> = RwCore::new(rt.alloc(), 7, 2);
+pub(super) fn queued_write(alloc: Global, checked: bool) -> Option<Told> {
+    let mut lock: Lock = RwCore::new(alloc, 7, 2);
     lock.try_read();
     queued(&mut lock, RwWait::write(), checked)
 }
 
 // A read that has to queue behind a write.
-pub(super) fn queued_read(rt: &HostRuntime, checked: bool) -> Result<Told, Fail> {
-    let mut lock: RwCore<u64, u64> = RwCore::new(rt.alloc(), 7, 2);
+pub(super) fn queued_read(alloc: Global, checked: bool) -> Option<Told> {
+    let mut lock: Lock = RwCore::new(alloc, 7, 2);
     lock.try_write();
     queued(&mut lock, RwWait::read(), checked)
 }

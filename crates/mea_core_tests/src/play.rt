@@ -1,0 +1,39 @@
+use mea_base::{NoMemory, Turn};
+
+// What a call of a script tells.
+#[derive(Clone, Copy, PartialEq, Eq)]
+pub(crate) enum Told {
+    Done,
+    Yes,
+    No,
+    Pending,
+    // The waker comes back, since the poll is ready, or refused.
+    Ready(u64),
+    Back(u64),
+    Nothing,
+    // A value, a count or a waker.
+    Value(u64),
+}
+
+impl Told {
+    pub(crate) fn whether(yes: bool) -> Told {
+        if yes { Told::Yes } else { Told::No }
+    }
+
+    // What a poll tells, if it finds memory.
+    pub(crate) fn turned(polled: Result<Turn<u64>, (u64, NoMemory)>) -> Option<Told> {
+        match polled {
+            Ok(Turn::Ready(waker)) => Some(Told::Ready(waker)),
+            Ok(Turn::Pending) => Some(Told::Pending),
+            Err(_) => None,
+        }
+    }
+
+    // A value or a waker, where there is one.
+    pub(crate) fn found(found: Option<u64>) -> Told {
+        match found {
+            Some(value) => Told::Value(value),
+            None => Told::Nothing,
+        }
+    }
+}
