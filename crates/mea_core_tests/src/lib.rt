@@ -8,7 +8,7 @@ mod base;
 #[cfg(test)]
 mod lock;
 #[cfg(test)]
-mod meet_core;
+mod meet;
 #[cfg(test)]
 mod play;
 #[cfg(test)]

@@ -1,4 +1,4 @@
-use mea_base::{NoMemory, Turn};
+use mea_base::{NoMemory, Poll, Turn};
 
 // What a call of a script tells.
 #[derive(Clone, Copy, PartialEq, Eq)]
@@ -25,6 +25,15 @@ impl Told {
         match polled {
             Ok(Turn::Ready(waker)) => Some(Told::Ready(waker)),
             Ok(Turn::Pending) => Some(Told::Pending),
+            Err(_) => None,
+        }
+    }
+
+    // The same of a poll that keeps no waker for a later stage.
+    pub(crate) fn polled(polled: Result<Poll<()>, (u64, NoMemory)>) -> Option<Told> {
+        match polled {
+            Ok(Poll::Ready(())) => Some(Told::Done),
+            Ok(Poll::Pending) => Some(Told::Pending),
             Err(_) => None,
         }
     }

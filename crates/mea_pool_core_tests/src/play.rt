@@ -90,7 +90,13 @@ impl Plays for Room {
             Call::Ask => made(&mut self.asks, LeaseWait::new()),
             Call::Wait => made(&mut self.waits, DrainWait::new()),
             Call::Poll(place, waker) => {
-                polled(&mut self.pool, &mut self.asks, &mut self.leases, place, waker)
+                polled(
+                    &mut self.pool,
+                    &mut self.asks,
+                    &mut self.leases,
+                    place,
+                    waker,
+                )
             }
             Call::PollWait(place, waker) => {
                 wait_polled(&mut self.pool, &mut self.waits, place, waker)
@@ -117,13 +123,7 @@ fn taken<T>(things: &mut Vec<Option<T>>, place: usize) -> Option<T> {
     things.get_mut(place)?.take()
 }
 
-fn polled(
-    pool: &mut Pool,
-    asks: &mut Asks,
-    leases: &mut Leases,
-    place: usize,
-    waker: u64,
-) -> Told {
+fn polled(pool: &mut Pool, asks: &mut Asks, leases: &mut Leases, place: usize, waker: u64) -> Told {
     let Some(Some(wait)) = asks.get_mut(place) else {
         return Told::Unknown;
     };

@@ -1,6 +1,4 @@
-use crate::play::Told::{
-    Count, Done, Gone, Leased, Made, No, Pending, Ready, Two, Unknown, Yes,
-};
+use crate::play::Told::{Count, Done, Gone, Leased, Made, No, Pending, Ready, Two, Unknown, Yes};
 use crate::play::{Call, Room};
 use mea_test_support::differs_at;
 

@@ -32,13 +32,13 @@ type Acquires = Vec<Option<ShareAcquire<u64>>>;
 
 // A core, and the acquires that were made.
 #[derive(Drop)]
-pub(crate) struct Room<S> {
+pub(crate) struct Room<S: BuildHasher> {
     alloc: Global,
     core: FairCore<u64, u64, S>,
     acquires: Acquires,
 }
 
-impl<S> Room<S> {
+impl<S: BuildHasher> Room<S> {
     pub(crate) fn new(alloc: Global, core: FairCore<u64, u64, S>) -> Room<S> {
         Room {
             alloc,

@@ -1,0 +1,4 @@
+mod barrier;
+mod group;
+mod latch;
+mod shutdown;

@@ -1,0 +1,117 @@
+use crate::play::Told;
+use crate::play::Told::{Back, Done, No, Pending, Value, Yes};
+use mea_base::Poll;
+use mea_meet_core::{BarrierCore, BarrierFault, BarrierWait, BarrierWaitResult};
+use mea_test_support::{Plays, differs_at};
+use std::mem;
+
+type Barrier = BarrierCore<u64>;
+
+// A call of a barrier.
+#[derive(Clone, Copy)]
+enum Call {
+    // Polls a further wait, by the call that asks for one that may be polled.
+    Arrive(u64),
+    Poll(u64),
+    IsAllowed,
+    End,
+    WakesReady,
+    Wake,
+}
+
+// A barrier and a wait.
+#[derive(Drop)]
+struct Room {
+    barrier: Barrier,
+    wait: BarrierWait,
+}
+
+impl Room {
+    fn new(barrier: Barrier) -> Room {
+        Room {
+            barrier,
+            wait: BarrierWait::new(),
+        }
+    }
+}
+
+impl Plays for Room {
+    type Call = Call;
+
+    type Told = Told;
+
+    fn told(&mut self, call: Call) -> Option<Told> {
+        let (barrier, wait) = (&mut self.barrier, &mut self.wait);
+        match call {
+            Call::Arrive(waker) => arrived(barrier.poll(&mut BarrierWait::new(), waker)),
+            Call::Poll(waker) => arrived(barrier.poll_checked(wait, waker)),
+            Call::IsAllowed => Some(Told::whether(barrier.poll_allowed(wait))),
+            Call::End => {
+                barrier.end_checked(mem::replace(wait, BarrierWait::new()));
+                Some(Done)
+            }
+            Call::WakesReady => Some(Value(barrier.wakes_ready() as u64)),
+            Call::Wake => Some(Told::found(barrier.next_wake())),
+        }
+    }
+}
+
+// Whether an arrival leads, or that its waker comes back; None is want of memory.
+fn arrived(polled: Result<Poll<BarrierWaitResult>, BarrierFault<u64>>) -> Option<Told> {
+    match polled {
+        Ok(Poll::Ready(result)) => Some(Told::whether(result.is_leader())),
+        Ok(Poll::Pending) => Some(Pending),
+        Err(BarrierFault::Overflow(waker)) => Some(Back(waker)),
+        Err(BarrierFault::NoMemory(_)) => None,
+    }
+}
+
+// With memory at hand, no call answers that there is none. Of each two arrivals the second leads and wakes the first, whose
+// wait has ended meanwhile.
+#[test]
+fn arrivals(rt: HostRuntime) {
+    let script = [
+        (Call::Poll(10), Pending),
+        (Call::End, Done),
+        (Call::WakesReady, Value(0)),
+        (Call::Poll(11), Yes),
+        (Call::End, Done),
+        (Call::WakesReady, Value(1)),
+        (Call::Poll(12), Pending),
+        (Call::End, Done),
+        (Call::WakesReady, Value(1)),
+        (Call::Poll(13), Yes),
+        (Call::End, Done),
+        (Call::WakesReady, Value(2)),
+        (Call::Wake, Value(10)),
+        (Call::Wake, Value(12)),
+        (Call::Arrive(14), Pending),
+    ];
+    let room = Room::new(BarrierCore::new(rt.alloc(), 2));
+    assert_eq!(rt; differs_at(room, &script), None);
+}
+
+// Who waited is ready after the round, without leading; 0 counts as 1.
+#[test]
+fn rounds(rt: HostRuntime) {
+    let script = [
+        (Call::Poll(10), Pending),
+        (Call::Poll(11), Pending),
+        (Call::Arrive(12), Yes),
+        (Call::Wake, Value(11)),
+        (Call::Poll(13), No),
+        (Call::IsAllowed, No),
+    ];
+    let room = Room::new(BarrierCore::new(rt.alloc(), 2));
+    assert_eq!(rt; differs_at(room, &script), None);
+    let alone = Room::new(BarrierCore::new(rt.alloc(), 0));
+    assert_eq!(rt; differs_at(alone, &[(Call::Arrive(14), Yes)]), None);
+}
+
+// The arrival that would complete the last round is refused, and its waker comes back.
+#[test]
+fn last_round(rt: HostRuntime) {
+    let script = [(Call::Arrive(10), Pending), (Call::Arrive(11), Back(11))];
+    let room = Room::new(BarrierCore::at_round(rt.alloc(), 2, u64::MAX));
+    assert_eq!(rt; differs_at(room, &script), None);
+}

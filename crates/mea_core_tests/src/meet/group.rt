@@ -1,0 +1,84 @@
+use crate::play::Told;
+use crate::play::Told::{Done, No, Nothing, Pending, Value};
+use mea_meet_core::{GroupCore, GroupWait};
+use mea_test_support::{Plays, differs_at};
+
+type Group = GroupCore<u64>;
+
+// A call of a group.
+#[derive(Clone, Copy)]
+enum Call {
+    // Polls a further wait, by the call that asks for one that may be polled.
+    Await(u64),
+    Poll(u64),
+    Add,
+    Leave,
+    Wake,
+}
+
+// A group and a wait.
+#[derive(Drop)]
+struct Room {
+    group: Group,
+    wait: GroupWait,
+}
+
+impl Room {
+    fn new(group: Group) -> Room {
+        Room {
+            group,
+            wait: GroupWait::new(),
+        }
+    }
+}
+
+impl Plays for Room {
+    type Call = Call;
+
+    type Told = Told;
+
+    fn told(&mut self, call: Call) -> Option<Told> {
+        let group = &mut self.group;
+        match call {
+            Call::Await(waker) => Told::polled(group.poll(&mut GroupWait::new(), waker)),
+            Call::Poll(waker) => Told::polled(group.poll_checked(&mut self.wait, waker)),
+            Call::Add => Some(added(group)),
+            Call::Leave => {
+                group.leave_checked();
+                Some(Value(u64::from(group.handles())))
+            }
+            Call::Wake => Some(Told::found(group.next_wake())),
+        }
+    }
+}
+
+// How many handles there are after one more was asked for. No is a group that has ended, Nothing one that is full.
+fn added(group: &mut Group) -> Told {
+    if !group.add_allowed() {
+        return No;
+    }
+    match group.add() {
+        Ok(()) => Value(u64::from(group.handles())),
+        Err(_) => Nothing,
+    }
+}
+
+// With memory at hand, no poll answers that there is none. A group ends with its last handle, and takes no more than its
+// count holds.
+#[test]
+fn group(rt: HostRuntime) {
+    let script = [
+        (Call::Add, Value(2)),
+        (Call::Leave, Value(1)),
+        (Call::Poll(5), Pending),
+        (Call::Await(6), Pending),
+        (Call::Leave, Value(0)),
+        (Call::Wake, Value(5)),
+        (Call::Poll(7), Done),
+        (Call::Add, No),
+    ];
+    let room = Room::new(GroupCore::new(rt.alloc()));
+    assert_eq!(rt; differs_at(room, &script), None);
+    let full = Room::new(GroupCore::at_count(rt.alloc(), u32::MAX));
+    assert_eq!(rt; differs_at(full, &[(Call::Add, Nothing)]), None);
+}

@@ -1,0 +1,107 @@
+use crate::play::Told;
+use crate::play::Told::{No, Nothing, Value, Yes};
+use mea_base::Outbox;
+use mea_sets::{Place, WaitSet};
+use mea_test_support::{Plays, differs_at};
+use std::alloc::Global;
+
+// A call of a set.
+#[derive(Clone, Copy)]
+enum Call {
+    // Of one wait.
+    Register(u64),
+    // Of a further wait.
+    RegisterNew(u64),
+    RegisterWithRoom(u64),
+    IsRegistered,
+    HasGiven,
+    Len,
+    Drain,
+    Drains,
+    // Takes the first waker that was drained.
+    Wake,
+}
+
+// A set, the outbox into which it is drained, and the number that a wait keeps.
+#[derive(Drop)]
+struct Room {
+    set: WaitSet<u64>,
+    outbox: Outbox<u64>,
+    slot: Option<Place>,
+}
+
+impl Room {
+    fn new(alloc: Global) -> Room {
+        Room {
+            set: WaitSet::new(alloc),
+            outbox: Outbox::new(alloc),
+            slot: None,
+        }
+    }
+}
+
+impl Plays for Room {
+    type Call = Call;
+
+    type Told = Told;
+
+    fn told(&mut self, call: Call) -> Option<Told> {
+        let (set, outbox) = (&mut self.set, &mut self.outbox);
+        Some(match call {
+            Call::Register(waker) => Told::whether(set.register(&mut self.slot, waker).is_ok()),
+            Call::RegisterNew(waker) => Told::whether(set.register(&mut None, waker).is_ok()),
+            Call::RegisterWithRoom(waker) => {
+                Told::whether(set.register_with_room(&mut None, waker, outbox).is_ok())
+            }
+            Call::IsRegistered => Told::whether(set.is_registered(&self.slot)),
+            Call::HasGiven => Told::whether(set.has_given(&self.slot)),
+            Call::Len => Value(set.len() as u64),
+            Call::Drain => Told::whether(drained(set, outbox)),
+            Call::Drains => Told::found(u64::try_from(set.drains()).ok()),
+            Call::Wake => Told::found(outbox.pop()),
+        })
+    }
+}
+
+// Whether a set is drained, if it may be and there is room.
+fn drained(set: &mut WaitSet<u64>, outbox: &mut Outbox<u64>) -> bool {
+    if set.drains() == u128::MAX || outbox.reserve(set.len()).is_err() {
+        return false;
+    }
+    set.drain_into(outbox);
+    true
+}
+
+// With memory at hand, no call answers that there is none.
+#[test]
+fn ample(rt: HostRuntime) {
+    let script = [
+        (Call::RegisterNew(30), Yes),
+        (Call::RegisterWithRoom(31), Yes),
+        (Call::Len, Value(2)),
+    ];
+    assert_eq!(rt; differs_at(Room::new(rt.alloc()), &script), None);
+}
+
+// A number that a wait kept past a drain replaces nobody's waker.
+#[test]
+fn numbers_of_a_set(rt: HostRuntime) {
+    let script = [
+        (Call::Register(10), Yes),
+        (Call::Register(11), Yes),
+        (Call::IsRegistered, Yes),
+        (Call::Drain, Yes),
+        (Call::Len, Value(0)),
+        (Call::RegisterNew(12), Yes),
+        (Call::IsRegistered, No),
+        (Call::HasGiven, Yes),
+        (Call::Register(13), Yes),
+        (Call::Drain, Yes),
+        (Call::Drains, Value(2)),
+        (Call::Wake, Value(11)),
+        (Call::Wake, Value(12)),
+        (Call::Wake, Value(13)),
+        (Call::Wake, Nothing),
+    ];
+    assert_eq!(rt; differs_at(Room::new(rt.alloc()), &script), None);
+}
