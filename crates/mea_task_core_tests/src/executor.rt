@@ -5,6 +5,13 @@ use std::alloc::Global;
 // No event may have a greater number where a semaphore is added or an account is told.
 const LAST_EVENT: u64 = 1 << 62;
 
+fn is_added(executor: &mut Executor, alloc: Global, steps: &[Step]) -> bool {
+    match Vec::from_slice(alloc, steps) {
+        Ok(steps) => executor.add_task(steps).is_ok(),
+        Err(_) => false,
+    }
+}
+
 // Whether an executor takes semaphores of so many permits and these tasks.
 fn takes(executor: &mut Executor, alloc: Global, permits: &[usize], tasks: &[&[Step]]) -> bool {
     for count in permits {
@@ -13,9 +20,8 @@ fn takes(executor: &mut Executor, alloc: Global, permits: &[usize], tasks: &[&[S
         }
     }
     for steps in tasks {
-        match Vec::from_slice(alloc, steps) {
-            Ok(steps) if executor.add_task(steps).is_ok() => {}
-            _ => return false,
+        if !is_added(executor, alloc, steps) {
+            return false;
         }
     }
     true
@@ -63,6 +69,7 @@ fn have(executor: &mut Executor, accounts: &[[u128; 7]]) -> bool {
 }
 
 // What tasks come to.
+#[derive(Drop)]
 struct Outcome<'a> {
     states: &'a [TaskState],
     polls: u64,
