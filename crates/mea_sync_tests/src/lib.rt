@@ -5,6 +5,8 @@
 #[cfg(test)]
 mod condvar;
 #[cfg(test)]
+mod guards;
+#[cfg(test)]
 mod mutex;
 #[cfg(test)]
 mod rwlock;

@@ -1,57 +1,49 @@
+use crate::guards::{finds, sets, share, shows};
 use mea_sync::mutex::Mutex;
-use mea_test_support::{count, end, gives, pends, rung};
-use mea_wait::End;
-use std::sync::Arc;
-use std::test::Fail;
+use mea_test_support::{Bell, Count, count, end, gives, pends, rung};
+use std::process::Abort;
+use std::sync::{Arc, Wait};
+
+// Whether the lock is free.
+fn is_free<R: Wait>(rt: &R, mutex: &Mutex<u64, Bell>) -> bool {
+    end(rt, mutex.try_lock(rt))
+}
 
 // The lock goes to the first that waits, with the value as it was left.
 #[test]
 fn a_mutex_is_handed_on(rt: HostRuntime) {
-    let (one, two) = (
-        count(rt.alloc()).expect(&rt, "memory"),
-        count(rt.alloc()).expect(&rt, "memory"),
-    );
-    let mutex = Mutex::new(rt.alloc(), 5u64);
-    let Some(mut guard) = mutex.try_lock(&rt) else {
-        assert!(rt; false);
-        return;
-    };
-    assert!(rt; !end(&rt, mutex.try_lock(&rt)));
-    let first = pends(&rt, mutex.lock(), &one);
-    let second = pends(&rt, mutex.lock(), &two);
-    *guard = 7;
-    guard.end(&rt);
-    assert!(rt; rung(&one) == 1 && rung(&two) == 0);
-    // The first is abandoned once it was granted: the second has its turn.
-    assert!(rt; end(&rt, first));
-    assert!(rt; rung(&two) == 1);
-    match gives(&rt, second, &two) {
-        Some(guard) => {
-            assert!(rt; *guard == 7);
-            guard.end(&rt);
-        }
-        None => assert!(rt; false),
-    }
+    let one = count(rt.alloc()).expect(&rt, "memory");
+    let two = count(rt.alloc()).expect(&rt, "memory");
+    let mutex = Mutex::new(rt.alloc(), 5);
+    is_handed_on(&rt, &mutex, &one, &two);
     assert!(rt; mutex.into_inner() == Some(7));
+}
+
+fn is_handed_on<R: Wait + Abort>(rt: &R, mutex: &Mutex<u64, Bell>, one: &Count, two: &Count) {
+    let guard = mutex.try_lock(rt);
+    assert!(rt; !is_free(rt, mutex));
+    let first = pends(rt, mutex.lock(), one);
+    let second = pends(rt, mutex.lock(), two);
+    assert!(rt; sets(rt, guard, 7));
+    assert!(rt; (rung(one), rung(two)) == (1, 0));
+    // The first is abandoned once it was granted: the second has its turn.
+    assert!(rt; end(rt, first));
+    assert!(rt; rung(two) == 1);
+    assert!(rt; finds(rt, second, two) == Some(7));
 }
 
 // The forms that own a share of the mutex.
 #[test]
-fn owned_guards(rt: HostRuntime) -> Result<(), Fail> {
-    let rung_all = count(rt.alloc()).expect(&rt, "memory");
-    let mutex = Arc::new(rt.alloc(), Mutex::new(rt.alloc(), 1u64))?;
-    if let Some(mut guard) = Arc::try_clone(&mutex)?.try_lock_owned(&rt) {
-        *guard = 3;
-        guard.end(&rt);
-    }
-    match gives(&rt, Some(Arc::try_clone(&mutex)?.lock_owned()), &rung_all) {
-        Some(guard) => {
-            assert!(rt; *guard == 3);
-            assert!(rt; !end(&rt, mutex.try_lock(&rt)));
-            guard.end(&rt);
-        }
-        None => assert!(rt; false),
-    }
-    assert!(rt; end(&rt, mutex.try_lock(&rt)));
-    Ok(())
+fn owned_guards(rt: HostRuntime) {
+    let bell = count(rt.alloc()).expect(&rt, "memory");
+    let mutex = Arc::new(rt.alloc(), Mutex::new(rt.alloc(), 1)).expect(&rt, "memory");
+    are_owned(&rt, &mutex, &bell);
+}
+
+fn are_owned<R: Wait + Abort>(rt: &R, mutex: &Arc<Mutex<u64, Bell>>, bell: &Count) {
+    assert!(rt; sets(rt, share(rt, mutex).try_lock_owned(rt), 3));
+    let guard = gives(rt, Some(share(rt, mutex).lock_owned()), bell);
+    assert!(rt; !is_free(rt, mutex));
+    assert!(rt; shows(rt, guard) == Some(3));
+    assert!(rt; is_free(rt, mutex));
 }

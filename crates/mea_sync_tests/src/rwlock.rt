@@ -1,70 +1,69 @@
-use mea_sync::rwlock::RwLock;
-use mea_test_support::{count, end, found, gives, pends, rung};
+use crate::guards::{sets, share, shows};
+use mea_sync::rwlock::{RwLock, RwLockReadGuard, RwLockWriteGuard};
+use mea_test_support::{Bell, Count, count, end, found, gives, pends, rung};
 use mea_wait::End;
 use std::num::NonZeroUsize;
-use std::sync::Arc;
-use std::test::Fail;
+use std::process::Abort;
+use std::sync::{Arc, Wait};
 
 // Several read at a time, and one writes once they have all ended.
 #[test]
 fn readers_share_and_a_writer_is_alone(rt: HostRuntime) {
-    let (one, two) = (
-        count(rt.alloc()).expect(&rt, "memory"),
-        count(rt.alloc()).expect(&rt, "memory"),
-    );
-    let lock = RwLock::new(rt.alloc(), 4u64);
-    let first = found(lock.try_read(&rt));
-    let second = gives(&rt, Some(lock.read()), &one);
-    assert!(rt; first.is_some() && second.is_some());
-    assert!(rt; !end(&rt, lock.try_write(&rt)));
-    let write = pends(&rt, lock.write(), &one);
-    let third = pends(&rt, lock.read(), &two);
-    assert!(rt; end(&rt, first));
-    assert!(rt; rung(&one) == 0);
-    assert!(rt; end(&rt, second));
-    assert!(rt; rung(&one) == 1 && rung(&two) == 0);
-    // The write becomes a read, and the read behind it is let in.
-    match gives(&rt, write, &one) {
-        Some(mut guard) => {
-            *guard = 9;
-            let read = guard.downgrade(&rt);
-            assert!(rt; rung(&two) == 1);
-            match read {
-                Ok(read) => {
-                    assert!(rt; *read == 9);
-                    read.end(&rt);
-                }
-                Err((guard, _)) => guard.end(&rt),
-            }
-        }
-        None => assert!(rt; false),
-    }
-    assert!(rt; end(&rt, third));
+    let one = count(rt.alloc()).expect(&rt, "memory");
+    let two = count(rt.alloc()).expect(&rt, "memory");
+    let lock = RwLock::new(rt.alloc(), 4);
+    are_let_in(&rt, &lock, &one, &two);
     assert!(rt; lock.into_inner() == Some(9));
+}
+
+fn are_let_in<R: Wait + Abort>(rt: &R, lock: &RwLock<u64, Bell>, one: &Count, two: &Count) {
+    let first = found(lock.try_read(rt));
+    let second = gives(rt, Some(lock.read()), one);
+    assert!(rt; !end(rt, lock.try_write(rt)));
+    let write = pends(rt, lock.write(), one);
+    let third = pends(rt, lock.read(), two);
+    assert!(rt; end(rt, first));
+    assert!(rt; rung(one) == 0);
+    assert!(rt; end(rt, second));
+    assert!(rt; (rung(one), rung(two)) == (1, 0));
+    // The write becomes a read, and the read behind it is let in.
+    let read = becomes_read(rt, gives(rt, write, one), 9);
+    assert!(rt; rung(two) == 1);
+    assert!(rt; shows(rt, read) == Some(9));
+    assert!(rt; end(rt, third));
+}
+
+// Writes, and goes on as a read.
+fn becomes_read<'a, R: Wait>(
+    rt: &R,
+    guard: Option<RwLockWriteGuard<'a, u64, Bell>>,
+    value: u64,
+) -> Option<RwLockReadGuard<'a, u64, Bell>> {
+    let mut guard = guard?;
+    *guard = value;
+    match guard.downgrade(rt) {
+        Ok(read) => Some(read),
+        Err((guard, _)) => {
+            guard.end(rt);
+            None
+        }
+    }
 }
 
 // As many readers as were asked for, and the forms that own a share of the lock.
 #[test]
-fn owned_guards_and_a_most(rt: HostRuntime) -> Result<(), Fail> {
-    let rung_all = count(rt.alloc()).expect(&rt, "memory");
-    let most = NonZeroUsize::new(1).unwrap_or(NonZeroUsize::MIN);
-    let lock = Arc::new(rt.alloc(), RwLock::with_max_readers(rt.alloc(), 2u64, most))?;
-    let read = found(Arc::try_clone(&lock)?.try_read_owned(&rt));
-    assert!(rt; read.is_some());
-    assert!(rt; !end(&rt, found(lock.try_read(&rt))));
-    assert!(rt; end(&rt, read));
-    assert!(rt;
-        end(
-            &rt,
-            gives(&rt, Some(Arc::try_clone(&lock)?.write_owned()), &rung_all)
-        )
-    );
-    assert!(rt;
-        end(
-            &rt,
-            gives(&rt, Some(Arc::try_clone(&lock)?.read_owned()), &rung_all)
-        )
-    );
-    assert!(rt; end(&rt, Arc::try_clone(&lock)?.try_write_owned(&rt)));
-    Ok(())
+fn owned_guards_and_a_most(rt: HostRuntime) {
+    let bell = count(rt.alloc()).expect(&rt, "memory");
+    let lock = RwLock::with_max_readers(rt.alloc(), 2, NonZeroUsize::MIN);
+    let lock = Arc::new(rt.alloc(), lock).expect(&rt, "memory");
+    are_owned(&rt, &lock, &bell);
+}
+
+fn are_owned<R: Wait + Abort>(rt: &R, lock: &Arc<RwLock<u64, Bell>>, bell: &Count) {
+    let read = found(share(rt, lock).try_read_owned(rt));
+    assert!(rt; !end(rt, found(lock.try_read(rt))));
+    assert!(rt; end(rt, read));
+    assert!(rt; end(rt, gives(rt, Some(share(rt, lock).write_owned()), bell)));
+    assert!(rt; end(rt, gives(rt, Some(share(rt, lock).read_owned()), bell)));
+    assert!(rt; end(rt, share(rt, lock).try_write_owned(rt)));
 }

@@ -1,7 +1,8 @@
+use crate::guards::{sets, shows};
 use mea_sync::mutex::Mutex;
 use mea_sync::rwlock::RwLock;
 use mea_sync::semaphore::{Closed, Semaphore};
-use mea_test_support::{Bell, Count, count, end, polled_for};
+use mea_test_support::{Bell, Count, count, end, found, polled_for};
 use mea_wait::End;
 use std::sync::Wait;
 use std::thread::Threads;
@@ -75,26 +76,23 @@ fn abandoned_waits_give_all_back(rt: HostRuntime) {
     assert!(rt; semaphore.available_permits(rt) == 3);
 }
 
-// Adds one to the value, or reads it: what was found, or 0 where it was not let in.
-fn visit<R: Wait>(rt: &R, of: &RwLock<u64, Bell>, count: &Count, writes: bool) -> u64 {
-    if writes {
-        match polled_for(rt, of.write(), count, 1_000_000) {
-            Some(mut guard) => {
-                let found = *guard;
-                *guard = found.wrapping_add(1);
-                guard.end(rt);
-                found
-            }
-            None => 0,
-        }
-    } else {
-        match polled_for(rt, of.read(), count, 1_000_000) {
-            Some(guard) => {
-                let found = *guard;
-                guard.end(rt);
-                found
-            }
-            None => 0,
+// Adds one to the value, and tells whether it was let in.
+fn adds<R: Wait>(rt: &R, of: &RwLock<u64, Bell>, count: &Count) -> bool {
+    let Some(mut guard) = polled_for(rt, of.write(), count, 1_000_000) else {
+        return false;
+    };
+    *guard = (*guard).wrapping_add(1);
+    guard.end(rt);
+    true
+}
+
+// Visits the value a hundred times, to write or to read.
+fn visits<R: Wait>(rt: &R, of: &RwLock<u64, Bell>, count: &Count, writes: bool) {
+    for _ in 0..100u64 {
+        if writes {
+            adds(rt, of, count);
+        } else {
+            end(rt, polled_for(rt, of.read(), count, 1_000_000));
         }
     }
 }
@@ -107,17 +105,15 @@ fn a_writer_and_eight_readers(rt: HostRuntime) {
     let (rt, of, all) = (&rt, &lock, &rung_all);
     thread::scope(thread::scope_env(), rt, |scope| {
         for thread in 0..9u64 {
-            let spawned = scope.spawn(move || {
-                for _ in 0..100u64 {
-                    visit(rt, of, all, thread == 0);
-                }
-            });
-            if spawned.is_err() {
-                visit(rt, of, all, false);
+            if scope
+                .spawn(move || visits(rt, of, all, thread == 0))
+                .is_err()
+            {
+                visits(rt, of, all, thread == 0);
             }
         }
     });
-    assert!(rt; visit(rt, of, all, false) == 101);
+    assert!(rt; shows(rt, found(of.try_read(rt))) == Some(101));
 }
 
 // A guard is handed to another thread, which writes and ends it.
@@ -128,21 +124,11 @@ fn a_guard_crosses_threads(rt: HostRuntime) {
     let rt = &rt;
     thread::join(
         rt,
-        || match handed.lock(rt).take() {
-            Some(mut guard) => {
-                *guard = 8;
-                guard.end(rt);
-            }
-            None => {}
+        || {
+            sets(rt, handed.lock(rt).take(), 8);
         },
         || thread::yield_now(),
     );
     assert!(rt; !end(rt, handed.into_inner()));
-    match mutex.try_lock(rt) {
-        Some(guard) => {
-            assert!(rt; *guard == 8);
-            guard.end(rt);
-        }
-        None => assert!(rt; false),
-    }
+    assert!(rt; shows(rt, mutex.try_lock(rt)) == Some(8));
 }
