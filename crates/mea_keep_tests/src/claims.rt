@@ -1,7 +1,7 @@
 //! Polls of waits for a claim, which hand out what they came to.
 ghost use Rattle.std.specs.Prelude.{IfSome};
 
-use mea_keep::Claimed;
+use mea_keep::{Claim, Claimed};
 use mea_test_support::{Bell, Count, Told, gives, poll};
 use mea_wait::{End, Waits};
 use std::sync::Wait;
@@ -54,5 +54,20 @@ pub(crate) fn there<R: Wait, F: Waits<Bell, Claimed<V, C>>, V, C: End>(
             None
         }
         Claimed::There(value) => Some(value),
+    }
+}
+
+/// What who has the turn gets for the value that it gives; a wait that comes back for want of memory is ended.
+pub(crate) fn gave<R: Wait, C: Claim<u64, u64, G>, G: End>(
+    rt: &R,
+    claim: Option<C>,
+    value: u64,
+) -> Option<u64> {
+    match claim?.finish(rt, value) {
+        Ok(value) => Some(value),
+        Err(kept) => {
+            kept.end(rt);
+            None
+        }
     }
 }

@@ -2,11 +2,11 @@ use mea_base::Poll;
 use mea_keep::singleflight::Group;
 use mea_keep::{Init, Never};
 use mea_test_support::{Bell, Count, Told, count, poll, polled_for};
+use std::alloc::{AllocError, Global};
 use std::hash::{BuildHasherDefault, FoldHasher};
 use std::sync::Wait;
 use std::sync::atomic::AtomicU64;
 use std::sync::atomic::Ordering::SeqCst;
-use std::test::Fail;
 use std::thread;
 
 // An initialiser that is pending until so many callers wait, and counts how often it has run.
@@ -31,7 +31,6 @@ impl<'a> Init<u64, Never, Bell> for Gathers<'a> {
     }
 }
 
-// The group of the test below.
 type Flights = Group<u64, u64, BuildHasherDefault<FoldHasher>, Bell>;
 
 // One caller: its first poll counts it among those that wait.
@@ -56,16 +55,22 @@ fn works<R: Wait>(
     }
 }
 
-// Sixteen threads ask for one key: its initialiser runs once, and each has the value.
-#[test]
-fn a_single_flight(rt: HostRuntime) -> Result<(), Fail> {
-    let bell = count(rt.alloc()).expect(&rt, "memory");
-    let group: Flights = Group::new(rt.alloc());
-    let (waiting, runs) = (AtomicU64::new(0), AtomicU64::new(0));
-    let mut answers: Vec<Option<u64>> = Vec::new(rt.alloc());
-    for _ in 0..16u64 {
+// So many answers that have not come.
+fn no_answers(alloc: Global, many: u64) -> Result<Vec<Option<u64>>, AllocError> {
+    let mut answers = Vec::new(alloc);
+    for _ in 0..many {
         answers.push(None)?;
     }
+    Ok(answers)
+}
+
+// Sixteen threads ask for one key: its initialiser runs once, and each has the value.
+#[test]
+fn a_single_flight(rt: HostRuntime) {
+    let bell = count(rt.alloc()).expect(&rt, "memory");
+    let group = Flights::new(rt.alloc());
+    let (waiting, runs) = (AtomicU64::new(0), AtomicU64::new(0));
+    let mut answers = no_answers(rt.alloc(), 16).expect(&rt, "memory");
     let (rt, of, waits, run, rung) = (&rt, &group, &waiting, &runs, &bell);
     thread::for_each_mut(
         rt,
@@ -79,5 +84,4 @@ fn a_single_flight(rt: HostRuntime) -> Result<(), Fail> {
     for answer in &answers {
         assert!(rt; *answer == Some(7));
     }
-    Ok(())
 }
