@@ -6,21 +6,14 @@ use mea::shutdown::new_pair;
 #[test]
 fn an_orderly_shutdown(rt: HostRuntime) {
     let (server, worker) = (Task::new(&rt), Task::new(&rt));
-    let Ok((sender, receiver)) = new_pair(rt.alloc()) else {
-        return;
-    };
+    let (sender, receiver) = new_pair(rt.alloc()).expect(&rt, "memory");
     // The worker waits for its next message and for this signal at once.
     let signal = worker.later(&rt, receiver.is_shutdown());
     sender.shutdown(&rt);
     assert!(rt; worker.calls() == 1);
-    if let Some(signal) = signal {
-        assert!(rt; worker.now(&rt, signal) == Some(()));
-    }
+    assert!(rt; worker.again(&rt, signal) == Some(()));
     let stopped = server.later(&rt, sender.await_shutdown());
     receiver.end(&rt);
     assert!(rt; server.calls() == 1);
-    match stopped {
-        Some(stopped) => assert!(rt; server.now(&rt, stopped) == Some(())),
-        None => assert!(rt; false),
-    }
+    assert!(rt; server.again(&rt, stopped) == Some(()));
 }

@@ -46,10 +46,13 @@ fn a_request_cache(rt: HostRuntime) {
         flights: Group::new(rt.alloc()),
         requests: AtomicU64::new(0),
     };
-    assert!(rt; cache.cached(&rt, &task, 4) == Some(40) && cache.cached(&rt, &task, 4) == Some(40));
+    assert!(rt; cache.cached(&rt, &task, 4) == Some(40));
+    assert!(rt; cache.cached(&rt, &task, 4) == Some(40));
     assert!(rt; cache.requests.load(SeqCst) == 1);
     // What has gone stale is made anew.
     cache.kept.discard(&rt, &4);
-    assert!(rt; cache.cached(&rt, &task, 4) == Some(40) && cache.requests.load(SeqCst) == 2);
-    assert!(rt; cache.fresh(&rt, &task, 4) == Some(40) && cache.requests.load(SeqCst) == 3);
+    assert!(rt; cache.cached(&rt, &task, 4) == Some(40));
+    assert!(rt; cache.requests.load(SeqCst) == 2);
+    assert!(rt; cache.fresh(&rt, &task, 4) == Some(40));
+    assert!(rt; cache.requests.load(SeqCst) == 3);
 }

@@ -73,6 +73,13 @@ impl Task {
         output
     }
 
+    /// What a wait gives now that went on before, if there is one; one that goes on is given up.
+    pub fn again<R: Wait, F: Waits<Call, O>, O>(&self, rt: &R, wait: Option<F>) -> Option<O>
+        requires { IfSome wait F.can_poll }
+    {
+        self.now(rt, wait?)
+    }
+
     /// A wait that goes on now; what one that is ready gives is dropped.
     pub fn later<R: Wait, F: Waits<Call, O>, O: Drop>(&self, rt: &R, wait: F) -> Option<F>
         requires { F.can_poll wait }
