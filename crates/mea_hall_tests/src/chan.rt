@@ -1,4 +1,4 @@
-use crate::play::{FamilyHall, Row, differs_at};
+use crate::play::{FamilyHall, Row, differs_at, gone};
 use mea_chan::{ChanEvent, ChanHall};
 use mea_family::{Answer, Stop};
 use std::alloc::Global;
@@ -47,7 +47,7 @@ fn broadcast(hall: &ChanHall, name: u64) -> Option<(u64, usize)> {
 
 fn shown(alloc: Global, rows: &[Row<ChanEvent>], bounded: u64, broadcasts: [u64; 2]) -> Seen {
     let mut hall = ChanHall::new(alloc);
-    Seen {
+    let seen = Seen {
         differs_at: differs_at(&mut hall, rows),
         wakers: (hall.registered(), hall.wakes_ready()),
         has_bounded: hall.bounded(bounded).is_some(),
@@ -55,7 +55,9 @@ fn shown(alloc: Global, rows: &[Row<ChanEvent>], bounded: u64, broadcasts: [u64;
             broadcast(&hall, broadcasts[0]),
             broadcast(&hall, broadcasts[1]),
         ],
-    }
+    };
+    gone(hall);
+    seen
 }
 
 // With memory at hand, a channel and a box of each kind is made, used and waited for.

@@ -1,3 +1,4 @@
+use crate::play::gone;
 use mea_events::{Event, Replies, SemEvent};
 use mea_family::{Answer, Stop};
 use mea_hall::{Hall, Played, replay};
@@ -22,9 +23,6 @@ struct Left {
     // How many are registered: of all families, of semaphores and of meeting points.
     registered: [usize; 3],
 }
-
-// Lets a hall go. It is done in one place, since to prove it takes as long as all else here.
-fn gone(_hall: Hall) {}
 
 fn replayed(alloc: Global, events: &[Event], expected: &[Reply]) -> Left {
     let Played {

@@ -1,4 +1,4 @@
-use crate::play::{FamilyHall, Row, differs_at, refused};
+use crate::play::{FamilyHall, Row, answers, differs_at, gone, refused};
 use mea_family::{Answer, Stop};
 use mea_lock::{LockEvent, LockHall};
 
@@ -54,6 +54,7 @@ fn ample(rt: HostRuntime) {
     assert!(rt; hall.mutex(0).is_some());
     assert_eq!(rt; hall.rw_lock(5).map(|core| core.readers()), Some(1));
     assert!(rt; hall.mutex(5).is_none());
+    gone(hall);
 }
 
 // A lock without its name is not lent, and is gone with the last of its owned things.
@@ -72,14 +73,15 @@ fn what_ended_is_gone(rt: HostRuntime) {
     ];
     assert_eq!(rt; differs_at(&mut hall, &rows), None);
     assert!(rt; hall.mutex(0).is_none());
+    gone(hall);
 }
 
 // Ends take no memory, and are refused for their causes alone.
 #[test]
 fn no_memory_is_taken(rt: HostRuntime) {
     let mut hall = LockHall::new(rt.alloc());
-    assert!(rt; hall.act(0, &LockEvent::RwNew(3)) == Ok(Answer::Made));
-    assert!(rt; hall.act(1, &LockEvent::RwTryw(0)) == Ok(Answer::Held));
+    assert!(rt; answers(&mut hall, 0, &LockEvent::RwNew(3), Answer::Made));
+    assert!(rt; answers(&mut hall, 1, &LockEvent::RwTryw(0), Answer::Held));
     assert_eq!(rt;
         refused(&mut hall, 2, &LockEvent::RwDrop(0)),
         Some(Stop::Borrowed)
@@ -87,4 +89,5 @@ fn no_memory_is_taken(rt: HostRuntime) {
     assert_eq!(rt; refused(&mut hall, 3, &LockEvent::RwDown(1)), None);
     assert_eq!(rt; refused(&mut hall, 4, &LockEvent::RwEnd(1)), None);
     assert_eq!(rt; refused(&mut hall, 5, &LockEvent::RwInto(0)), None);
+    gone(hall);
 }

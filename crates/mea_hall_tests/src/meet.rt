@@ -1,4 +1,4 @@
-use crate::play::{FamilyHall, Row, differs_at, played, refused};
+use crate::play::{FamilyHall, Row, answers, differs_at, gone, played, refused};
 use mea_family::{Answer, Stop};
 use mea_meet::{MeetEvent, MeetHall};
 
@@ -60,6 +60,7 @@ fn ample(rt: HostRuntime) {
     assert_eq!(rt; hall.latch(3).map(|core| core.count()), Some(1));
     assert!(rt; hall.group(6).is_some());
     assert!(rt; hall.shutdown(11).is_some());
+    gone(hall);
 }
 
 // What does not live any more is gone, and its core is not lent.
@@ -85,6 +86,7 @@ fn what_ended_is_gone(rt: HostRuntime) {
     assert!(rt; hall.latch(2).is_none());
     assert!(rt; hall.group(6).is_none());
     assert!(rt; hall.shutdown(9).is_none());
+    gone(hall);
 }
 
 // The waker of an ended future stays registered, and is woken with the others.
@@ -110,12 +112,13 @@ fn an_ended_future_leaves_its_waker(rt: HostRuntime) {
 #[test]
 fn no_memory_is_taken(rt: HostRuntime) {
     let mut hall = MeetHall::new(rt.alloc());
-    assert!(rt; hall.act(0, &MeetEvent::SdNew) == Ok(Answer::Made));
-    assert!(rt; hall.act(1, &MeetEvent::SdIs(0)) == Ok(Answer::Made));
+    assert!(rt; answers(&mut hall, 0, &MeetEvent::SdNew, Answer::Made));
+    assert!(rt; answers(&mut hall, 1, &MeetEvent::SdIs(0), Answer::Made));
     assert_eq!(rt;
         refused(&mut hall, 2, &MeetEvent::SdEndr(0)),
         Some(Stop::Borrowed)
     );
     assert_eq!(rt; refused(&mut hall, 3, &MeetEvent::SdEnd(1)), None);
     assert_eq!(rt; refused(&mut hall, 4, &MeetEvent::SdEndr(0)), None);
+    gone(hall);
 }

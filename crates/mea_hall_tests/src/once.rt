@@ -1,4 +1,4 @@
-use crate::play::{FamilyHall, Row, differs_at, played};
+use crate::play::{FamilyHall, Row, differs_at, gone, played};
 use mea_family::{Answer, Stop};
 use mea_once::{OnceEvent, OnceHall};
 
@@ -239,4 +239,5 @@ fn what_lives_is_lent(rt: HostRuntime) {
     assert!(rt; hall.cell(1).is_none());
     assert!(rt; hall.map(2).is_some());
     assert!(rt; hall.flight(3).is_some() && hall.flight(2).is_none());
+    gone(hall);
 }

@@ -65,7 +65,7 @@ pub(crate) struct Left {
     pub(crate) wakes_ready: usize,
 }
 
-/// Plays a script on a new hall, which is let go. To prove it here costs less than in each test.
+/// Plays a script on a new hall, which is let go.
 pub(crate) fn played<H: FamilyHall>(mut hall: H, rows: &[Row<H::Event>]) -> Left
     requires { H.next hall ≡ 0 }
 {
@@ -74,6 +74,23 @@ pub(crate) fn played<H: FamilyHall>(mut hall: H, rows: &[Row<H::Event>]) -> Left
         registered: hall.registered(),
         wakes_ready: hall.wakes_ready(),
     }
+}
+
+/// Lets a hall go. Here its type is a parameter: a test that let it go would take it apart, which costs more than all else
+/// in its proof.
+pub(crate) fn gone<H: Drop>(_hall: H) {}
+
+/// Plays an event, and tells whether it is answered so.
+pub(crate) fn answers<H: FamilyHall>(
+    hall: &mut H,
+    number: u64,
+    event: &H::Event,
+    answer: Answer,
+) -> bool
+    requires { H.next hall.old ≤ number }
+    ensures { H.next hall.new ≤ number + 1 }
+{
+    hall.act(number, event) == Ok(answer)
 }
 
 /// Plays an event that takes no memory: the cause for which it is refused, if it is, which want of memory never is.

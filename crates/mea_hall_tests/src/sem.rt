@@ -1,4 +1,4 @@
-use crate::play::{FamilyHall, Row, differs_at, played, refused};
+use crate::play::{FamilyHall, Row, answers, differs_at, gone, played, refused};
 use mea_family::{Answer, Ledger, Stop};
 use mea_sem::{SemEvent, SemHall};
 
@@ -49,6 +49,7 @@ fn a_pool_of_two(rt: HostRuntime) {
     assert_eq!(rt; differs_at(&mut hall, &rows), None);
     assert_eq!(rt; hall.registered(), 0);
     assert!(rt; hall.core(0).is_some_and(|core| core.held() == 2));
+    gone(hall);
 }
 
 // A future that waits and ends gives what it was paid to the next.
@@ -134,6 +135,7 @@ fn refusals(rt: HostRuntime) {
     ];
     assert_eq!(rt; differs_at(&mut hall, &rows), None);
     assert!(rt; hall.core(0).is_none());
+    gone(hall);
 }
 
 // A forgetting future makes no permit, whether it is ready at once or was granted.
@@ -239,7 +241,8 @@ fn no_memory_is_taken(rt: HostRuntime) {
     let mut hall = SemHall::new(rt.alloc());
     let unknown = Some(Stop::Unknown);
     assert_eq!(rt; refused(&mut hall, 0, &SemEvent::Release(0, 1)), unknown);
-    assert!(rt; hall.act(1, &SemEvent::New(0)) == Ok(Answer::Made));
+    assert!(rt; answers(&mut hall, 1, &SemEvent::New(0), Answer::Made));
     assert_eq!(rt; refused(&mut hall, 2, &SemEvent::Release(0, 2)), unknown);
     assert_eq!(rt; refused(&mut hall, 3, &SemEvent::Release(1, 2)), None);
+    gone(hall);
 }

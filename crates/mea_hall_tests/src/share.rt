@@ -1,4 +1,4 @@
-use crate::play::{FamilyHall, Row, differs_at, played};
+use crate::play::{FamilyHall, Row, differs_at, gone, played};
 use mea_events::ShareEvent;
 use mea_family::{Answer, Stop};
 use mea_share::ShareHall;
@@ -120,4 +120,5 @@ fn what_is_named_is_lent(rt: HostRuntime) {
     assert_eq!(rt; differs_at(&mut hall, &rows), None);
     assert_eq!(rt; hall.fair(0).map(|core| core.available_permits()), Some(1));
     assert!(rt; hall.fair(2).is_none());
+    gone(hall);
 }
