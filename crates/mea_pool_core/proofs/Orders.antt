@@ -142,7 +142,7 @@ module _ {W : Type 0} where
       by_test true is rest = rest
       by_test false is rest = ap (λ (b : Bool). cond b (Some e.1) (waker_under (without_wait q n) n)) is ∙ rest
 
-  other_waker : (q : List (ℕ × W)) (n m : ℕ) → m ≢ n → waker_under (without_wait q n) m ≡ waker_under q m
+  pub other_waker : (q : List (ℕ × W)) (n m : ℕ) → m ≢ n → waker_under (without_wait q n) m ≡ waker_under q m
   other_waker [] n m differs = refl
   other_waker (e ∷ q) n m differs = by_test (e.0 == n) refl (other_waker q n m differs)
     where

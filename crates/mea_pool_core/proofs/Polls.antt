@@ -60,6 +60,8 @@ module _ {R W : Type 0} where
           lease = lease;
           answers = refl;
           first = lends.first;
+          within = lends.within;
+          free = lends.free;
           is = λ i. record (pool_of x' (is i) g) { lent = lends.marked i };
         },
       )

@@ -14,6 +14,7 @@ use Rattle.mea_pool_core.specs.declared.drain_wait.DrainWait.TheVariants as drai
 use Rattle.mea_pool_core.specs.Gate.{MayPollAt, MayEndAt}
 use Rattle.mea_pool_core.specs.Places.{StandsAt, IsUnmet}
 use Rattle.mea_pool_core.specs.Pool.{Pool, taken, is_drained, passed_on}
+use Rattle.mea_pool_core.specs.Shelf.{is_lent}
 
 module _ {R W : Type 0} where
   -- ---- leases
@@ -26,11 +27,13 @@ module _ {R W : Type 0} where
   abbrev pub MayPoll : Pool R W → LeaseWait → Type 0
   MayPoll p a = Belongs p a × IsUnmet a
 
-  -- the first resource of the shelf is lent
+  -- the first resource of the shelf is lent, whose slot was not
   pub record Gets (p : Pool R W) (r : Result (LeasePoll R) (W × NoMemory)) (p' : Pool R W) : Type 0 where
     pub lease : ℕ × R
     pub answers : r ≡ Ok (answer.Got lease)
     pub first : p.shelf ≡ lease ∷ p'.shelf
+    pub within : lease.0 < length p.lent
+    pub free : is_lent p.lent lease.0 ≡ false
     pub is : p' ≡ record p { shelf = p'.shelf; lent = slice_set p.lent lease.0 true }
 
   -- a new wait stands last among the waiting leases, under a number that is fresh

@@ -1,5 +1,5 @@
 -- resources on a shelf in the order in which they are lent, each with its slot, and which slots are lent
-use Rattle.std.specs.Prelude.{ℕ, ◌≡◌, ◌+◌, ◌==◌, zero, suc, nat_lt, Bool, true, false, cond, List, [], ◌∷◌, ◌++◌, length, map, zip, count_by, slice_index_or, slice_set, refl}
+use Rattle.std.specs.Prelude.{ℕ, ◌≡◌, ◌+◌, ◌<◌, ◌==◌, zero, suc, nat_lt, Bool, true, false, cond, List, [], ◌∷◌, ◌++◌, length, map, zip, count_by, slice_index_or, slice_set, refl}
 use Rattle.std.specs.Coded.{Coded, code_by, coded×, coded_ℕ, coded_bool, coded_list}
 
 pub record Shelf (R : Type 0) : Type 0 where
@@ -53,5 +53,7 @@ module _ {R : Type 0} where
   -- the first resource of the shelf is lent
   pub record Lends (s : Shelf R) (lease : ℕ × R) (s' : Shelf R) : Type 0 where
     pub first : s.idle ≡ lease ∷ s'.idle
+    pub within : lease.0 < length s.lent
+    pub free : is_lent s.lent lease.0 ≡ false
     pub marked : s'.lent ≡ slice_set s.lent lease.0 true
     pub more : lent_count s'.lent ≡ lent_count s.lent + 1

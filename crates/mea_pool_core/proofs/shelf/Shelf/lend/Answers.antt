@@ -1,6 +1,6 @@
-use Rattle.std.proofs.Common.{ℕ, ◌+◌, List, length, set, true, ap, sym, subst, arith, ◌∙◌, length-set}
+use Rattle.std.proofs.Common.{ℕ, ◌+◌, ◌<◌, List, length, set, true, ap, sym, subst, arith, ◌∙◌, length-set}
 use Rattle.std.specs.Prelude.{zip}
-use Rattle.mea_pool_core.specs.Shelf.{Shelf, StandOnce, lent_count}
+use Rattle.mea_pool_core.specs.Shelf.{Shelf, StandOnce, is_lent, lent_count}
 use Rattle.mea_pool_core.proofs.Shelves.{first_free, once_lent, count_lent}
 use Rattle.mea_pool_core.proofs.shelf.Shelf.lend.Goals as goal
 
@@ -31,6 +31,8 @@ returns g c =
     let free = first_free c.in-Some.slot c.pop_front.new.self.items c.self.inside.lent.items once in
     record {
       first = sym (ap (λ (s : Shelf g.row.R.Denot). s.idle) c.self.view_is) ∙ (λ i. zip (c.in-Some.ensures.items i) (c.in-Some-pop_front.ensures.items i));
+      within = subst (λ (s : Shelf g.row.R.Denot). c.in-Some.slot < length s.lent) c.self.view_is free.0;
+      free = sym (ap (λ (s : Shelf g.row.R.Denot). is_lent s.lent c.in-Some.slot) c.self.view_is) ∙ free.1;
       marked = ap (λ (s : Shelf g.row.R.Denot). set s.lent c.in-Some.slot true) c.self.view_is;
       more = count_lent c.in-Some.slot c.self.inside.lent.items free.0 free.1 ∙ ap (λ (s : Shelf g.row.R.Denot). lent_count s.lent + 1) c.self.view_is;
     }
