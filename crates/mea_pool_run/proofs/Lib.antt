@@ -1,0 +1,10 @@
+pub mod Drains
+pub mod Events
+pub mod Linking
+pub mod Passing
+pub mod Polls
+pub mod Sizes
+pub mod Standing
+pub mod Starts
+pub mod Still
+pub mod Things

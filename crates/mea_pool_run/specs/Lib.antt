@@ -1,0 +1,5 @@
+pub mod Hall
+pub mod Kept
+pub mod Lines
+pub mod Reply
+pub mod Script
