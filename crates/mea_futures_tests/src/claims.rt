@@ -1,3 +1,4 @@
+use crate::polls::{Answer, Tasks, rests};
 use futures::Future;
 use futures::future::{pending, ready};
 use futures::task::{Context, Poll};
@@ -6,29 +7,36 @@ use mea_futures::{Bell, initialise};
 use mea_keep::Never;
 use mea_keep::once::OnceCell;
 use mea_keep::singleflight::Group;
-use mea_wait::PollFault;
-use std::alloc::AllocError;
 use std::hash::{BuildHasherDefault, FoldHasher};
+use std::process::Abort;
 use std::sync::atomic::AtomicU64;
 use std::sync::atomic::Ordering::SeqCst;
-use std::test::Fail;
 
 // An initialiser is dropped while its future computes: the next that waits fills the cell.
 #[test]
-fn an_abandoned_initialiser_passes_its_turn_on(rt: HostRuntime) -> Result<(), Fail> {
-    let (one, two) = (MockTask::new(&rt)?, MockTask::new(&rt)?);
+fn an_abandoned_initialiser_passes_its_turn_on(rt: HostRuntime) {
+    let tasks = Tasks::new(&rt);
     let cell: OnceCell<u64, Bell> = OnceCell::new(rt.alloc());
-    let mut never = initialise(
-        &rt,
-        rt.alloc(),
-        cell.claim(),
-        pending::<Result<u64, Never>>(),
-    )
-    .map_err(|_| AllocError)?;
-    let mut nine = initialise(&rt, rt.alloc(), cell.claim(), ready(Ok::<u64, Never>(9))).map_err(
-        |_| AllocError,
-    )?;
-    assert!(rt; one.poll(&mut never).is_pending() && two.poll(&mut nine).is_pending());
+    let init = pending::<Result<u64, Never>>();
+    let never = initialise(&rt, rt.alloc(), cell.claim(), init).expect(&rt, "memory");
+    let init = ready(Ok::<u64, Never>(9));
+    let nine = initialise(&rt, rt.alloc(), cell.claim(), init).expect(&rt, "memory");
+    passes_its_turn_on(&rt, &tasks, &cell, never, nine);
+}
+
+fn passes_its_turn_on<
+    'c,
+    R: Abort,
+    O: Drop,
+    N: Future<Output = O>,
+    E: Drop,
+    F: Future<Output = Answer<&'c u64, E>>,
+>(rt: &R, tasks: &Tasks, cell: &OnceCell<u64, Bell>, mut never: N, mut nine: F)
+    requires never { N.can_poll never }
+    requires nine { F.can_poll nine }
+{
+    let Tasks { one, two } = tasks;
+    assert!(rt; rests(one, &mut never) && rests(two, &mut nine));
     assert!(rt; !two.is_woken() && cell.get().is_none());
     drop(never);
     assert!(rt; two.is_woken());
@@ -37,7 +45,6 @@ fn an_abandoned_initialiser_passes_its_turn_on(rt: HostRuntime) -> Result<(), Fa
         _ => assert!(rt; false, "not filled"),
     }
     assert!(rt; cell.get() == Some(&9));
-    Ok(())
 }
 
 // A page that is fetched in two polls.
@@ -74,15 +81,18 @@ fn new_fetch(page: u64, fetches: &AtomicU64) -> Fetch<'_> {
 }
 
 // What a request for a page comes to: the page, or why it was not fetched.
-type Answer = Result<Result<u64, u8>, PollFault>;
+type Page = Answer<u64, u8>;
+
+// What is fetched at a time, by page.
+type Flights = Group<u64, u64, BuildHasherDefault<FoldHasher>, Bell>;
 
 // Two requests are polled in turn: the first fetches, and the second waits for it. It tells what both have.
-fn answers<F: Future<Output = Answer>>(
+fn answers<F: Future<Output = Page>>(
     one: &MockTask,
     two: &MockTask,
     mut first: F,
     mut second: F,
-) -> Option<(Poll<Answer>, Poll<Answer>)>
+) -> Option<(Poll<Page>, Poll<Page>)>
     requires first { F.can_poll first }
     requires second { F.can_poll second }
 {
@@ -105,33 +115,39 @@ fn answers<F: Future<Output = Answer>>(
 
 // Two requests for a page at a time: it is fetched once, and both have it.
 #[test]
-fn a_page_is_fetched_once(rt: HostRuntime) -> Result<(), Fail> {
-    let (one, two) = (MockTask::new(&rt)?, MockTask::new(&rt)?);
-    let flights: Group<u64, u64, BuildHasherDefault<FoldHasher>, Bell> = Group::new(rt.alloc());
+fn a_page_is_fetched_once(rt: HostRuntime) {
+    let Tasks { one, two } = Tasks::new(&rt);
+    let flights: Flights = Group::new(rt.alloc());
     let fetches = AtomicU64::new(0);
-    let first = initialise(&rt, rt.alloc(), flights.claim(4), new_fetch(4, &fetches)).map_err(
-        |_| AllocError,
-    )?;
-    let second = initialise(&rt, rt.alloc(), flights.claim(4), new_fetch(4, &fetches)).map_err(
-        |_| AllocError,
-    )?;
+    let fetch = new_fetch(4, &fetches);
+    let first = initialise(&rt, rt.alloc(), flights.claim(4), fetch).expect(&rt, "memory");
+    let fetch = new_fetch(4, &fetches);
+    let second = initialise(&rt, rt.alloc(), flights.claim(4), fetch).expect(&rt, "memory");
     let both = answers(&one, &two, first, second);
     assert!(rt; both == Some((Poll::Ready(Ok(Ok(40))), Poll::Ready(Ok(Ok(40))))));
     assert!(rt; fetches.load(SeqCst) == 1);
-    Ok(())
+}
+
+// What a request comes to at its second poll.
+fn second_answer<R: Abort, F: Future<Output = Page>>(
+    rt: &R,
+    task: &MockTask,
+    mut request: F,
+) -> Poll<Page>
+    requires { F.can_poll request }
+{
+    assert!(rt; rests(task, &mut request));
+    task.poll(&mut request)
 }
 
 // A fetch that fails gives its error to who fetched.
 #[test]
-fn an_error_is_that_of_who_fetched(rt: HostRuntime) -> Result<(), Fail> {
-    let task = MockTask::new(&rt)?;
-    let flights: Group<u64, u64, BuildHasherDefault<FoldHasher>, Bell> = Group::new(rt.alloc());
+fn an_error_is_that_of_who_fetched(rt: HostRuntime) {
+    let task = MockTask::new(&rt).expect(&rt, "memory");
+    let flights: Flights = Group::new(rt.alloc());
     let fetches = AtomicU64::new(0);
-    let mut none = initialise(&rt, rt.alloc(), flights.claim(0), new_fetch(0, &fetches)).map_err(
-        |_| AllocError,
-    )?;
-    assert!(rt; task.poll(&mut none).is_pending());
-    assert!(rt; matches!(task.poll(&mut none), Poll::Ready(Ok(Err(7)))));
+    let fetch = new_fetch(0, &fetches);
+    let none = initialise(&rt, rt.alloc(), flights.claim(0), fetch).expect(&rt, "memory");
+    assert!(rt; matches!(second_answer(&rt, &task, none), Poll::Ready(Ok(Err(7)))));
     assert!(rt; fetches.load(SeqCst) == 1);
-    Ok(())
 }

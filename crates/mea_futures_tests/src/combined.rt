@@ -1,57 +1,82 @@
 ghost use Rattle.std.specs.Prelude.{◌≡◌, IsSomeAnd};
 
+use crate::polls::rests;
 use futures::Future;
 use futures::executor::block_on;
 use futures::future::{Either, Pending, Select, join, pending, ready, select};
 use futures::task::{Context, Poll};
 use futures::test::MockTask;
-use mea_futures::{TakeError, take, take_before, wait};
+use mea_futures::{Bell, TakeError, take, take_before, wait};
 use mea_link::latch::Latch;
 use mea_sync::semaphore::Semaphore;
 use mea_wait::PollFault;
-use std::alloc::AllocError;
-use std::sync::Arc;
-use std::test::Fail;
-use std::thread;
+use std::alloc::AllocGlobal;
+use std::process::Abort;
+use std::random::RandomSource;
+use std::sync::{Arc, Wait};
+use std::thread::Threads;
+use std::{io, thread};
 
 // Two waits of one latch are joined on a thread, while another thread counts it down.
 #[test]
-fn two_waits_of_a_latch_are_joined(rt: HostRuntime) -> Result<(), Fail> {
+fn two_waits_of_a_latch_are_joined(rt: HostRuntime) {
     for _ in 0..20u32 {
         let latch = Latch::new(rt.alloc(), 2);
-        let first = wait(&rt, rt.alloc(), latch.wait()).map_err(|_| AllocError)?;
-        let second = wait(&rt, rt.alloc(), latch.wait()).map_err(|_| AllocError)?;
-        let both = join(first, second);
-        let (answer, ()) = thread::join(
-            &rt,
-            || block_on(&rt, both),
-            || {
-                latch.count_down(&rt);
-                latch.count_down(&rt);
-            },
-        );
-        assert!(rt; matches!(answer?, (Ok(()), Ok(()))));
+        let first = wait(&rt, rt.alloc(), latch.wait()).expect(&rt, "memory");
+        let second = wait(&rt, rt.alloc(), latch.wait()).expect(&rt, "memory");
+        let answers = joined(&rt, &latch, first, second).expect(&rt, "memory");
+        assert!(rt; answers == (Ok(()), Ok(())));
     }
-    Ok(())
+}
+
+// What both come to, while another thread counts the latch down to nothing.
+fn joined<
+    R: Wait + Threads + RandomSource + AllocGlobal + Sync,
+    F: Future<Output = Result<(), PollFault>> + Send,
+>(rt: &R, latch: &Latch<Bell>, first: F, second: F) -> io::Result<(F::Output, F::Output)>
+    requires first { F.can_poll first }
+    requires second { F.can_poll second }
+{
+    let both = join(first, second);
+    let (answers, ()) = thread::join(
+        rt,
+        || block_on(rt, both),
+        || {
+            latch.count_down(rt);
+            latch.count_down(rt);
+        },
+    );
+    answers
 }
 
 // Permits are taken by a thread that waits, and not past a deadline or a close.
 #[test]
-fn permits_are_taken(rt: HostRuntime) -> Result<(), Fail> {
+fn permits_are_taken(rt: HostRuntime) {
     let semaphore = Semaphore::new(rt.alloc(), 2);
-    match take(&rt, &semaphore, 2)? {
-        Ok(kept) => {
-            assert!(rt; kept.get().permits() == 2 && semaphore.available_permits(&rt) == 0);
-            assert!(rt; matches!(take_before(&rt, &semaphore, 1, ready(()))?, Ok(None)));
-            drop(kept);
-        }
-        Err(_) => assert!(rt; false, "not taken"),
-    }
+    let kept = take(&rt, &semaphore, 2).expect(&rt, "memory");
+    let kept = kept.expect(&rt, "permits");
+    assert!(rt; kept.get().permits() == 2 && semaphore.available_permits(&rt) == 0);
+    assert!(rt; is_late(take_before(&rt, &semaphore, 1, ready(()))));
+    drop(kept);
     assert!(rt; semaphore.available_permits(&rt) == 2);
-    assert!(rt; matches!(take_before(&rt, &semaphore, 1, ready(()))?, Ok(Some(_))));
+    assert!(rt; is_in_time(take_before(&rt, &semaphore, 1, ready(()))));
     semaphore.close(&rt);
-    assert!(rt; matches!(take(&rt, &semaphore, 1)?, Err(TakeError::Closed)));
-    Ok(())
+    assert!(rt; is_closed(take(&rt, &semaphore, 1)));
+}
+
+// Whether the deadline came before the permits.
+fn is_late<P: Drop>(taken: io::Result<Result<Option<P>, TakeError>>) -> bool {
+    matches!(taken, Ok(Ok(None)))
+}
+
+// Whether the permits came before the deadline. They are dropped.
+fn is_in_time<P: Drop>(taken: io::Result<Result<Option<P>, TakeError>>) -> bool {
+    matches!(taken, Ok(Ok(Some(_))))
+}
+
+// Whether there are no permits since the semaphore is closed.
+fn is_closed<P: Drop>(taken: io::Result<Result<P, TakeError>>) -> bool {
+    matches!(taken, Ok(Err(TakeError::Closed)))
 }
 
 // A job that is done at its second poll, or one that is never done and wakes nobody.
@@ -126,15 +151,26 @@ impl<F: Future<Output = Result<(), PollFault>>> Future for Until<F> {
 
 // A wait goes from select to select, and the task still hears of it: two jobs are done, and a third never ends.
 #[test]
-fn a_wait_is_kept_from_select_to_select(rt: HostRuntime) -> Result<(), Fail> {
-    let task = MockTask::new(&rt)?;
-    let latch = Arc::new(rt.alloc(), Latch::new(rt.alloc(), 1))?;
-    let open = wait(&rt, rt.alloc(), Arc::try_clone(&latch)?.wait_owned()).map_err(|_| AllocError)?;
-    let mut until = Until::new(open);
-    assert!(rt; task.poll(&mut until).is_pending() && task.poll(&mut until).is_pending());
-    assert!(rt; task.poll(&mut until).is_pending() && task.poll(&mut until).is_pending());
-    assert!(rt; task.poll(&mut until).is_pending() && !task.is_woken());
-    latch.count_down(&rt);
+fn a_wait_is_kept_from_select_to_select(rt: HostRuntime) {
+    let task = MockTask::new(&rt).expect(&rt, "memory");
+    let latch = Arc::new(rt.alloc(), Latch::new(rt.alloc(), 1)).expect(&rt, "memory");
+    let opening = Arc::try_clone(&latch).expect(&rt, "memory").wait_owned();
+    let opening = wait(&rt, rt.alloc(), opening).expect(&rt, "memory");
+    is_kept(&rt, &task, &*latch, opening);
+}
+
+fn is_kept<R: Wait + Abort, F: Future<Output = Result<(), PollFault>>>(
+    rt: &R,
+    task: &MockTask,
+    latch: &Latch<Bell>,
+    opening: F,
+)
+    requires { F.can_poll opening }
+{
+    let mut until = Until::new(opening);
+    assert!(rt; rests(task, &mut until) && rests(task, &mut until));
+    assert!(rt; rests(task, &mut until) && rests(task, &mut until));
+    assert!(rt; rests(task, &mut until) && !task.is_woken());
+    latch.count_down(rt);
     assert!(rt; task.is_woken() && matches!(task.poll(&mut until), Poll::Ready(2)));
-    Ok(())
 }

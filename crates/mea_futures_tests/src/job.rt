@@ -1,10 +1,11 @@
-ghost use Rattle.std.specs.Prelude.{◌≡◌, None, IsSome, IfNone, IfOk};
+ghost use Rattle.std.specs.Prelude.{◌≡◌, None, IsSome, IfNone};
 
 use futures::task::{Context, Poll};
 use futures::{Future, ready};
 use mea_futures::{Bell, Kept, TryHolding, wait};
 use mea_sync::semaphore::{Closed, OwnedAcquire, OwnedSemaphorePermit, Semaphore};
-use std::alloc::{AllocError, AllocGlobal};
+use std::alloc::AllocGlobal;
+use std::process::Abort;
 use std::sync::atomic::AtomicU64;
 use std::sync::atomic::Ordering::SeqCst;
 use std::sync::{Arc, Wait};
@@ -62,19 +63,33 @@ pub type Acquiring<'a, R> = TryHolding<
     Closed,
 >;
 
+/// A semaphore with so many permits.
+pub fn shared<R: AllocGlobal + Abort>(rt: &R, permits: usize) -> Arc<Semaphore<Bell>> {
+    Arc::new(rt.alloc(), Semaphore::new(rt.alloc(), permits)).expect(rt, "memory")
+}
+
+/// A wait for so many permits, with no bell yet.
+pub fn acquire<R: Abort>(
+    rt: &R,
+    semaphore: &Arc<Semaphore<Bell>>,
+    permits: usize,
+) -> OwnedAcquire<Bell> {
+    Arc::try_clone(semaphore)
+        .expect(rt, "memory")
+        .acquire_owned(permits)
+}
+
 /// A wait for so many permits that was never polled.
-pub fn queued<'a, R: Wait + AllocGlobal>(
+pub fn queued<'a, R: Wait + AllocGlobal + Abort>(
     rt: &'a R,
     semaphore: &Arc<Semaphore<Bell>>,
     permits: usize,
-) -> Result<Acquiring<'a, R>, AllocError>
-    ensures { IfOk result (λ queued. IsSome queued.waiting.wait) }
+) -> Acquiring<'a, R>
+    ensures { IsSome result.waiting.wait }
 {
-    let acquire = Arc::try_clone(semaphore)?.acquire_owned(permits);
-    match wait(rt, rt.alloc(), acquire) {
-        Ok(waiting) => Ok(waiting.try_holding()),
-        Err(_) => Err(AllocError),
-    }
+    wait(rt, rt.alloc(), acquire(rt, semaphore, permits))
+        .expect(rt, "memory")
+        .try_holding()
 }
 
 /// A task: it acquires, yields with the permit, and gives it back where it drops what it kept.
@@ -85,21 +100,16 @@ pub struct Job<'a, R: Wait> {
     held: Option<Kept<'a, R, OwnedSemaphorePermit<Bell>>>,
 }
 
-impl<'a, R: Wait + AllocGlobal> Job<'a, R> {
+impl<'a, R: Wait + AllocGlobal + Abort> Job<'a, R> {
     /// One that was never polled.
-    pub fn new(
-        rt: &'a R,
-        seen: &'a Seen,
-        semaphore: &Arc<Semaphore<Bell>>,
-    ) -> Result<Self, AllocError>
-        ensures { IfOk result (λ job. (job.held ≡ None) × IsSome job.acquire.waiting.wait) }
+    pub fn new(rt: &'a R, seen: &'a Seen, semaphore: &Arc<Semaphore<Bell>>) -> Self
+        ensures { (result.held ≡ None) × IsSome result.acquire.waiting.wait }
     {
-        let acquire = queued(rt, semaphore, 1)?;
-        Ok(Job {
+        Job {
             seen,
-            acquire,
+            acquire: queued(rt, semaphore, 1),
             held: None,
-        })
+        }
     }
 }
 

@@ -11,6 +11,8 @@ mod drops;
 #[cfg(test)]
 mod job;
 #[cfg(test)]
+mod polls;
+#[cfg(test)]
 mod pools;
 #[cfg(test)]
 mod selects;

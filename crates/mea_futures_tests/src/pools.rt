@@ -1,44 +1,65 @@
-use crate::job::{Job, Seen};
+use crate::job::{Job, Seen, shared};
 use futures::Future;
 use futures::executor::{LocalPool, TaskSet};
 use futures::task::Doorbell;
 use mea_futures::Bell;
 use mea_sync::semaphore::Semaphore;
-use std::alloc::{AllocError, AllocGlobal};
+use std::alloc::AllocGlobal;
+use std::process::Abort;
 use std::random::RandomSource;
 use std::sync::{Arc, Wait};
-use std::test::Fail;
+use std::thread;
 use std::thread::Threads;
-use std::{io, thread};
 
-// Eight jobs on the kit's pool of one thread.
-fn on_a_pool<'a, R: Wait + RandomSource + AllocGlobal + 'a>(
+// What makes tasks for a pool or a set, which need not know what they own.
+trait Makes<F: Future> {
+    // One that was never polled.
+    fn make(&self) -> F
+        ensures { F.can_poll result };
+}
+
+// Makes jobs that share a semaphore.
+#[derive(Drop)]
+struct Jobs<'a, R: Wait> {
     rt: &'a R,
     semaphore: &'a Arc<Semaphore<Bell>>,
     seen: &'a Seen,
-) -> io::Result<()> {
-    let mut pool = LocalPool::new(rt)?;
-    let spawner = pool.spawner()?;
+}
+
+impl<'a, R: Wait + AllocGlobal + Abort> Makes<Job<'a, R>> for Jobs<'a, R> {
+    fn make(&self) -> Job<'a, R> {
+        Job::new(self.rt, self.seen, self.semaphore)
+    }
+}
+
+// Eight jobs on the kit's pool of one thread.
+fn on_a_pool<
+    R: Wait + RandomSource + AllocGlobal + Abort,
+    F: Future<Output = ()>,
+    M: Makes<F> + Drop,
+>(rt: &R, jobs: M) {
+    let mut pool = LocalPool::new(rt).expect(rt, "memory");
+    let spawner = pool.spawner().expect(rt, "memory");
     for _ in 0..8u32 {
-        let job = Job::new(rt, seen, semaphore)?;
-        if spawner.spawn(job).is_err() {
-            return Err(io::Error::from(AllocError));
-        }
+        assert!(rt; spawner.spawn(jobs.make()).is_ok());
     }
     pool.run(rt);
-    Ok(())
 }
 
 // Three acquire at their first poll and end at their second. The five others are polled once more, as they are woken: no poll
 // comes that was not asked for.
 #[test]
-fn eight_jobs_on_one_thread(rt: HostRuntime) -> Result<(), Fail> {
-    let semaphore = Arc::new(rt.alloc(), Semaphore::new(rt.alloc(), 3))?;
+fn eight_jobs_on_one_thread(rt: HostRuntime) {
+    let semaphore = shared(&rt, 3);
     let seen = Seen::new();
-    on_a_pool(&rt, &semaphore, &seen)?;
+    let jobs = Jobs {
+        rt: &rt,
+        semaphore: &semaphore,
+        seen: &seen,
+    };
+    on_a_pool(&rt, jobs);
     assert!(rt; seen.counts() == (8, 3, 21));
     assert!(rt; semaphore.available_permits(&rt) == 3);
-    Ok(())
 }
 
 // Two of the three threads below.
@@ -59,32 +80,32 @@ fn three_workers<R: Wait + Threads + Sync, F: Future<Output = ()> + Send>(
 }
 
 // The same on the kit's set of tasks, at which three threads work.
-fn on_a_set<'a, R: Wait + Threads + Sync + RandomSource + AllocGlobal + 'a>(
-    rt: &'a R,
-    semaphore: &'a Arc<Semaphore<Bell>>,
-    seen: &'a Seen,
-) -> io::Result<()> {
-    let tasks = TaskSet::new(rt, Doorbell::parking(), 3)?;
+fn on_a_set<
+    R: Wait + Threads + Sync + RandomSource + AllocGlobal + Abort,
+    F: Future<Output = ()> + Send,
+    M: Makes<F> + Drop,
+>(rt: &R, jobs: M) {
+    let tasks = TaskSet::new(rt, Doorbell::parking(), 3).expect(rt, "memory");
     for _ in 0..8u32 {
-        let job = Job::new(rt, seen, semaphore)?;
-        if tasks.spawn(job).is_err() {
-            return Err(io::Error::from(AllocError));
-        }
+        assert!(rt; tasks.spawn(jobs.make()).is_ok());
     }
     three_workers(rt, &tasks);
-    Ok(())
 }
 
 // On three threads a job is polled as often as on one, or less: who comes late may find a permit.
 #[test]
-fn eight_jobs_on_three_threads(rt: HostRuntime) -> Result<(), Fail> {
+fn eight_jobs_on_three_threads(rt: HostRuntime) {
     for _ in 0..20u32 {
-        let semaphore = Arc::new(rt.alloc(), Semaphore::new(rt.alloc(), 3))?;
+        let semaphore = shared(&rt, 3);
         let seen = Seen::new();
-        on_a_set(&rt, &semaphore, &seen)?;
+        let jobs = Jobs {
+            rt: &rt,
+            semaphore: &semaphore,
+            seen: &seen,
+        };
+        on_a_set(&rt, jobs);
         let (done, most, polls) = seen.counts();
         assert!(rt; done == 8 && most <= 3 && polls <= 21);
         assert!(rt; semaphore.available_permits(&rt) == 3);
     }
-    Ok(())
 }

@@ -1,13 +1,11 @@
-use crate::job::queued;
+use crate::job::{queued, shared};
 use futures::Future;
 use futures::executor::block_on;
 use futures::future::{Either, ready, select};
-use mea_sync::semaphore::Semaphore;
 use std::alloc::AllocGlobal;
 use std::io;
 use std::random::RandomSource;
-use std::sync::{Arc, Wait};
-use std::test::Fail;
+use std::sync::Wait;
 
 // What a select gives of a wait and a future that is ready, where the wait loses, which is dropped here.
 fn beside<R: Wait + RandomSource + AllocGlobal, F: Future<Output = O>, O: Drop>(
@@ -24,10 +22,9 @@ fn beside<R: Wait + RandomSource + AllocGlobal, F: Future<Output = O>, O: Drop>(
 
 // The arm of a select that loses is dropped, and its wait is ended: what is released later goes to nobody.
 #[test]
-fn the_arm_that_a_select_drops_is_ended(rt: HostRuntime) -> Result<(), Fail> {
-    let semaphore = Arc::new(rt.alloc(), Semaphore::new(rt.alloc(), 0))?;
-    let never = queued(&rt, &semaphore, 1)?;
-    assert!(rt; beside(&rt, never)? == Some(5) && semaphore.release(&rt, 1).is_ok());
+fn the_arm_that_a_select_drops_is_ended(rt: HostRuntime) {
+    let semaphore = shared(&rt, 0);
+    let five = beside(&rt, queued(&rt, &semaphore, 1)).expect(&rt, "memory");
+    assert!(rt; five == Some(5) && semaphore.release(&rt, 1).is_ok());
     assert!(rt; semaphore.available_permits(&rt) == 1);
-    Ok(())
 }

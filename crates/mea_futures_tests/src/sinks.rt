@@ -1,11 +1,11 @@
+use crate::polls::rests;
 use futures::task::{Context, Poll};
 use futures::test::MockTask;
 use futures::{Future, Sink, ready};
 use mea_futures::{Bell, Feeding, Kept, feed};
-use mea_link::mpsc::bounded;
-use std::alloc::AllocError;
+use mea_link::mpsc::{BoundedReceiver, bounded};
+use std::process::Abort;
 use std::sync::Wait;
-use std::test::Fail;
 
 // A task that sends two messages.
 #[derive(Drop)]
@@ -37,17 +37,26 @@ impl<'a, R: Wait> Future for Two<'a, R> {
 
 // A sink holds one item, which waits for its place; what was sent comes in order.
 #[test]
-fn a_sink_waits_for_a_place(rt: HostRuntime) -> Result<(), Fail> {
-    let task = MockTask::new(&rt)?;
-    let (sender, receiver) = bounded::<u64, Bell>(rt.alloc(), 1).map_err(|_| AllocError)?;
+fn a_sink_waits_for_a_place(rt: HostRuntime) {
+    let task = MockTask::new(&rt).expect(&rt, "memory");
+    let (sender, receiver) = bounded::<u64, Bell>(rt.alloc(), 1).expect(&rt, "memory");
     let (sender, mut receiver) = (Kept::new(&rt, sender), Kept::new(&rt, receiver));
-    let sink = feed(&rt, rt.alloc(), sender.get()).map_err(|_| AllocError)?;
-    let mut two = Two { sink, sent: 0 };
+    let sink = feed(&rt, rt.alloc(), sender.get()).expect(&rt, "memory");
+    waits_for_a_place(&rt, &task, receiver.get_mut(), Two { sink, sent: 0 });
+}
+
+fn waits_for_a_place<R: Wait + Abort, F: Future<Output = bool>>(
+    rt: &R,
+    task: &MockTask,
+    receiver: &mut BoundedReceiver<u64, Bell>,
+    mut two: F,
+)
+    requires { F.can_poll two }
+{
     // The first has its place at once, and the second waits for the next.
-    assert!(rt; task.poll(&mut two).is_pending() && task.poll(&mut two).is_pending());
-    assert!(rt; task.poll(&mut two).is_pending() && !task.is_woken());
-    assert!(rt; receiver.get_mut().try_recv(&rt) == Ok(1) && task.is_woken());
+    assert!(rt; rests(task, &mut two) && rests(task, &mut two));
+    assert!(rt; rests(task, &mut two) && !task.is_woken());
+    assert!(rt; receiver.try_recv(rt) == Ok(1) && task.is_woken());
     assert!(rt; task.poll(&mut two) == Poll::Ready(true));
-    assert!(rt; receiver.get_mut().try_recv(&rt) == Ok(2));
-    Ok(())
+    assert!(rt; receiver.try_recv(rt) == Ok(2));
 }

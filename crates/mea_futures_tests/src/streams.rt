@@ -1,77 +1,90 @@
-use futures::Stream;
+use crate::polls::{Tasks, rests};
 use futures::task::Poll;
 use futures::test::MockTask;
-use mea_futures::{Bell, Kept, Lagged, receive, wait};
+use futures::{Future, Stream};
+use mea_futures::{Bell, Kept, Lagged, Receives, Receiving, receive, wait};
+use mea_link::broadcast::overflow;
 use mea_link::broadcast::overflow::channel;
-use mea_link::mpsc::{SendError, bounded};
-use std::alloc::AllocError;
-use std::test::Fail;
+use mea_link::mpsc::{BoundedSender, SendError, bounded};
+use mea_wait::PollFault;
+use std::process::Abort;
+use std::sync::Wait;
+
+// Polls a stream for its next message.
+fn next<R: Wait, C: Receives<M>, M>(
+    task: &MockTask,
+    stream: &mut Receiving<'_, R, C, M>,
+) -> Poll<Option<M>> {
+    task.enter(|cx| stream.poll_next(cx))
+}
 
 // A receiver is dropped in the middle of its stream: the send that waits has its message back.
 #[test]
-fn a_receiver_is_dropped_in_the_middle(rt: HostRuntime) -> Result<(), Fail> {
-    let (reader, writer) = (MockTask::new(&rt)?, MockTask::new(&rt)?);
-    let (sender, receiver) = bounded::<u64, Bell>(rt.alloc(), 1).map_err(|_| AllocError)?;
+fn a_receiver_is_dropped_in_the_middle(rt: HostRuntime) {
+    let tasks = Tasks::new(&rt);
+    let (sender, receiver) = bounded::<u64, Bell>(rt.alloc(), 1).expect(&rt, "memory");
     let sender = Kept::new(&rt, sender);
-    let mut stream = receive(&rt, rt.alloc(), receiver).map_err(|_| AllocError)?;
-    assert!(rt; reader.enter(|cx| stream.poll_next(cx)).is_pending());
-    assert!(rt; sender.get().try_send(&rt, 1).is_ok() && reader.is_woken());
-    assert!(rt; sender.get().try_send(&rt, 2).is_err());
-    let mut second = wait(&rt, rt.alloc(), sender.get().send(2)).map_err(|_| AllocError)?;
-    assert!(rt; writer.poll(&mut second).is_pending());
-    assert!(rt;
-        matches!(
-            reader.enter(|cx| stream.poll_next(cx)),
-            Poll::Ready(Some(1))
-        )
-    );
+    let stream = receive(&rt, rt.alloc(), receiver).expect(&rt, "memory");
+    let second = wait(&rt, rt.alloc(), sender.get().send(2)).expect(&rt, "memory");
+    gives_back(&rt, &tasks, sender.get(), stream, second);
+}
+
+fn gives_back<
+    R: Wait + Abort,
+    C: Receives<u64>,
+    F: Future<Output = Result<Result<(), SendError<u64>>, PollFault>>,
+>(
+    rt: &R,
+    tasks: &Tasks,
+    sender: &BoundedSender<u64, Bell>,
+    mut stream: Receiving<'_, R, C, u64>,
+    mut second: F,
+)
+    requires { F.can_poll second }
+{
+    let Tasks {
+        one: reader,
+        two: writer,
+    } = tasks;
+    assert!(rt; next(reader, &mut stream).is_pending());
+    assert!(rt; sender.try_send(rt, 1).is_ok() && reader.is_woken());
+    assert!(rt; sender.try_send(rt, 2).is_err());
+    assert!(rt; rests(writer, &mut second));
+    assert!(rt; next(reader, &mut stream) == Poll::Ready(Some(1)));
     assert!(rt; writer.is_woken());
     drop(stream);
     assert!(rt; matches!(writer.poll(&mut second), Poll::Ready(Ok(Err(SendError(2))))));
-    Ok(())
 }
 
 // A slow subscriber hears how many messages it has missed, and goes on; the stream ends with the last sender.
 #[test]
-fn a_slow_subscriber(rt: HostRuntime) -> Result<(), Fail> {
-    let task = MockTask::new(&rt)?;
-    let (hub, receiver) = channel::<u64, Bell>(rt.alloc(), 2).map_err(|_| AllocError)?;
+fn a_slow_subscriber(rt: HostRuntime) {
+    let task = MockTask::new(&rt).expect(&rt, "memory");
+    let (hub, receiver) = channel::<u64, Bell>(rt.alloc(), 2).expect(&rt, "memory");
     let hub = Kept::new(&rt, hub);
-    let mut stream = receive(&rt, rt.alloc(), receiver).map_err(|_| AllocError)?;
+    let stream = receive(&rt, rt.alloc(), receiver).expect(&rt, "memory");
+    hears(&rt, &task, hub, stream);
+}
+
+fn hears<R: Wait + Abort, C: Receives<Result<u64, Lagged>>>(
+    rt: &R,
+    task: &MockTask,
+    hub: Kept<'_, R, overflow::Sender<u64, Bell>>,
+    mut stream: Receiving<'_, R, C, Result<u64, Lagged>>,
+) {
     for message in 1..4u64 {
-        assert!(rt; hub.get().send(&rt, message).is_ok());
+        assert!(rt; hub.get().send(rt, message).is_ok());
     }
-    assert!(rt;
-        matches!(
-            task.enter(|cx| stream.poll_next(cx)),
-            Poll::Ready(Some(Err(Lagged(1))))
-        )
-    );
-    assert!(rt;
-        matches!(
-            task.enter(|cx| stream.poll_next(cx)),
-            Poll::Ready(Some(Ok(2)))
-        )
-    );
-    assert!(rt;
-        matches!(
-            task.enter(|cx| stream.poll_next(cx)),
-            Poll::Ready(Some(Ok(3)))
-        )
-    );
+    assert!(rt; next(task, &mut stream) == Poll::Ready(Some(Err(Lagged(1)))));
+    assert!(rt; next(task, &mut stream) == Poll::Ready(Some(Ok(2))));
+    assert!(rt; next(task, &mut stream) == Poll::Ready(Some(Ok(3))));
     // Two polls that find nothing wake nobody.
-    assert!(rt; task.enter(|cx| stream.poll_next(cx)).is_pending());
-    assert!(rt; task.enter(|cx| stream.poll_next(cx)).is_pending() && !task.is_woken());
-    assert!(rt; hub.get().send(&rt, 4).is_ok() && task.is_woken());
-    assert!(rt;
-        matches!(
-            task.enter(|cx| stream.poll_next(cx)),
-            Poll::Ready(Some(Ok(4)))
-        )
-    );
-    assert!(rt; task.enter(|cx| stream.poll_next(cx)).is_pending());
+    assert!(rt; next(task, &mut stream).is_pending());
+    assert!(rt; next(task, &mut stream).is_pending() && !task.is_woken());
+    assert!(rt; hub.get().send(rt, 4).is_ok() && task.is_woken());
+    assert!(rt; next(task, &mut stream) == Poll::Ready(Some(Ok(4))));
+    assert!(rt; next(task, &mut stream).is_pending());
     drop(hub);
     assert!(rt; task.is_woken());
-    assert!(rt; matches!(task.enter(|cx| stream.poll_next(cx)), Poll::Ready(None)));
-    Ok(())
+    assert!(rt; next(task, &mut stream) == Poll::Ready(None));
 }

@@ -1,12 +1,13 @@
+use crate::polls::rests;
 use futures::task::{Context, Poll};
 use futures::test::MockTask;
 use futures::{Future, Stream};
 use mea_futures::{Bell, Kept, receive, wait};
-use mea_link::mpsc::unbounded;
-use mea_link::shutdown::new_pair;
+use mea_link::mpsc::{UnboundedSender, unbounded};
+use mea_link::shutdown::{ShutdownSend, new_pair};
 use mea_wait::PollFault;
-use std::alloc::AllocError;
-use std::test::Fail;
+use std::process::Abort;
+use std::sync::Wait;
 
 // Adds up its jobs until it is told to stop. The wait for the signal is kept from poll to poll: one for each job would take
 // the shutdown's lock twice for each.
@@ -40,21 +41,32 @@ impl<S: Future<Output = Result<(), PollFault>>, J: Stream<Item = u64>> Future fo
 
 // A supervisor works at what comes, rests, and stops at the signal.
 #[test]
-fn a_supervisor_stops_at_the_signal(rt: HostRuntime) -> Result<(), Fail> {
-    let task = MockTask::new(&rt)?;
-    let (stopper, stopped) = new_pair(rt.alloc()).map_err(|_| AllocError)?;
+fn a_supervisor_stops_at_the_signal(rt: HostRuntime) {
+    let task = MockTask::new(&rt).expect(&rt, "memory");
+    let (stopper, stopped) = new_pair(rt.alloc()).expect(&rt, "memory");
     let (stopper, stopped) = (Kept::new(&rt, stopper), Kept::new(&rt, stopped));
-    let (sender, receiver) = unbounded::<u64, Bell>(rt.alloc()).map_err(|_| AllocError)?;
+    let (sender, receiver) = unbounded::<u64, Bell>(rt.alloc()).expect(&rt, "memory");
     let sender = Kept::new(&rt, sender);
-    let jobs = receive(&rt, rt.alloc(), receiver).map_err(|_| AllocError)?;
-    let signal = stopped.get().is_shutdown_owned().map_err(|_| AllocError)?;
-    let stop = wait(&rt, rt.alloc(), signal).map_err(|_| AllocError)?;
-    let mut supervisor = Supervisor { stop, jobs, sum: 0 };
-    assert!(rt; task.poll(&mut supervisor).is_pending() && !task.is_woken());
-    assert!(rt; sender.get().send(&rt, 5).is_ok() && task.is_woken());
-    assert!(rt; task.poll(&mut supervisor).is_pending() && task.is_woken());
-    assert!(rt; task.poll(&mut supervisor).is_pending() && !task.is_woken());
-    stopper.get().shutdown(&rt);
+    let jobs = receive(&rt, rt.alloc(), receiver).expect(&rt, "memory");
+    let signal = stopped.get().is_shutdown_owned().expect(&rt, "memory");
+    let stop = wait(&rt, rt.alloc(), signal).expect(&rt, "memory");
+    let supervisor = Supervisor { stop, jobs, sum: 0 };
+    stops_at_the_signal(&rt, &task, sender.get(), stopper.get(), supervisor);
+}
+
+fn stops_at_the_signal<R: Wait + Abort, F: Future<Output = u64>>(
+    rt: &R,
+    task: &MockTask,
+    sender: &UnboundedSender<u64, Bell>,
+    stopper: &ShutdownSend<Bell>,
+    mut supervisor: F,
+)
+    requires { F.can_poll supervisor }
+{
+    assert!(rt; rests(task, &mut supervisor) && !task.is_woken());
+    assert!(rt; sender.send(rt, 5).is_ok() && task.is_woken());
+    assert!(rt; rests(task, &mut supervisor) && task.is_woken());
+    assert!(rt; rests(task, &mut supervisor) && !task.is_woken());
+    stopper.shutdown(rt);
     assert!(rt; task.is_woken() && task.poll(&mut supervisor) == Poll::Ready(5));
-    Ok(())
 }
