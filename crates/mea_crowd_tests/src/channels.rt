@@ -1,8 +1,8 @@
 //! Those of the crowd who send and receive.
-ghost use Rattle.std.specs.Prelude.{◌≡◌, IsSome, IfSome, IfOk};
+ghost use Rattle.std.specs.Prelude.{IsSome, IfSome};
 
 use crate::crowd::{Member, Tasks};
-use crate::oneshots::{Answers, Asks, Oneshots, asking};
+use crate::oneshots::{Answers, Inquires, Oneshots, asking};
 use crate::patience::Patience;
 use crate::spawns::{Tally, kind, spawn};
 use crate::tasks::Drains;
@@ -13,7 +13,8 @@ use mea::mpsc::{BoundedReceiver, BoundedSender, UnboundedReceiver, UnboundedSend
 use mea::waitgroup;
 use mea::waitgroup::WaitGroup;
 use mea_futures::{Bell, Feeding, Kept, Lagged, Receiving, Waiting, feed, receive, wait};
-use std::alloc::{AllocError, AllocGlobal};
+use std::alloc::AllocGlobal;
+use std::process::Abort;
 use std::sync::Wait;
 use std::sync::atomic::AtomicU64;
 use std::sync::atomic::Ordering::SeqCst;
@@ -101,23 +102,15 @@ pub(crate) struct Posts<'a, R: Wait> {
     handle: Kept<'a, R, WaitGroup<Bell>>,
 }
 
-impl<'a, R: Wait + AllocGlobal> Posts<'a, R> {
+impl<'a, R: Wait + AllocGlobal + Abort> Posts<'a, R> {
     /// One that was never polled.
-    pub(crate) fn new(
-        rt: &'a R,
-        ends: &Ends<'a, R>,
-        channels: &'a Channels,
-    ) -> Result<Self, AllocError> {
-        let handle = ends.senders.get().clone_handle(rt).map_err(|_| AllocError)?;
-        let handle = Kept::new(rt, handle);
-        match feed(rt, rt.alloc(), ends.sender) {
-            Ok(sink) => Ok(Posts {
-                sink,
-                is_begun: false,
-                sent: &channels.sent,
-                handle,
-            }),
-            Err(_) => Err(AllocError),
+    pub(crate) fn new(rt: &'a R, ends: &Ends<'a, R>, channels: &'a Channels) -> Self {
+        let handle = ends.senders.get().clone_handle(rt).expect(rt, "memory");
+        Posts {
+            sink: feed(rt, rt.alloc(), ends.sender).expect(rt, "memory"),
+            is_begun: false,
+            sent: &channels.sent,
+            handle: Kept::new(rt, handle),
         }
     }
 }
@@ -142,45 +135,25 @@ impl<'a, R: Wait> Future for Posts<'a, R> {
 
 /// A task that takes messages until there are none and all who send have ended.
 #[derive(Drop)]
-pub(crate) struct Takes<'a, R: Wait> {
-    stream: Receiving<'a, R, BoundedReceiver<u64, Bell>, u64>,
-    senders: Option<Waiting<'a, R, waitgroup::Wait<Bell>, ()>>,
+pub(crate) struct Takes<'a, S: Stream, F: Future> {
+    stream: S,
+    senders: Option<F>,
     taken: &'a AtomicU64,
 }
 
-impl<'a, R: Wait + AllocGlobal> Takes<'a, R> {
-    /// One that was never polled.
-    pub(crate) fn new(
-        rt: &'a R,
-        stream: Receiving<'a, R, BoundedReceiver<u64, Bell>, u64>,
-        senders: waitgroup::Wait<Bell>,
-        channels: &'a Channels,
-    ) -> Result<Self, AllocError>
-        ensures { IfOk result (λ takes. IfSome takes.senders (λ senders. IsSome senders.wait)) }
-    {
-        match wait(rt, rt.alloc(), senders) {
-            Ok(senders) => Ok(Takes {
-                stream,
-                senders: Some(senders),
-                taken: &channels.taken,
-            }),
-            Err(_) => Err(AllocError),
-        }
-    }
-}
-
-impl<'a, R: Wait> Future for Takes<'a, R> {
+impl<'a, S: Stream<Item = u64>, O: Drop, F: Future<Output = O>> Future for Takes<'a, S, F> {
     type Output = ();
 
-    ghost can_poll = { λ t. IfSome t.senders (λ senders. IsSome senders.wait) };
+    ghost can_poll = { λ t. S.can_poll t.stream × IfSome t.senders F.can_poll };
 
     fn poll(&mut self, cx: &mut Context<'_>) -> Poll<()> {
-        if let Poll::Ready(message) = self.stream.poll_next(cx) {
-            if message.is_none() {
-                return Poll::Ready(());
+        match self.stream.poll_next(cx) {
+            Poll::Ready(Some(_)) => {
+                self.taken.fetch_add(1, SeqCst);
+                return cx.yield_now();
             }
-            self.taken.fetch_add(1, SeqCst);
-            return cx.yield_now();
+            Poll::Ready(None) => return Poll::Ready(()),
+            Poll::Pending => {}
         }
         // What was sent before the last one ended is taken by a further poll.
         match self.senders.take() {
@@ -193,6 +166,30 @@ impl<'a, R: Wait> Future for Takes<'a, R> {
             }
             None => Poll::Ready(()),
         }
+    }
+}
+
+/// One that takes what comes from the bounded channel.
+pub(crate) type TakesAll<'a, R> = Takes<
+    'a,
+    Receiving<'a, R, BoundedReceiver<u64, Bell>, u64>,
+    Waiting<'a, R, waitgroup::Wait<Bell>, ()>,
+>;
+
+// One that was never polled.
+fn taking<'a, R: Wait + AllocGlobal + Abort>(
+    rt: &'a R,
+    stream: Receiving<'a, R, BoundedReceiver<u64, Bell>, u64>,
+    senders: waitgroup::Wait<Bell>,
+    channels: &'a Channels,
+) -> TakesAll<'a, R>
+    ensures { IfSome result.senders (λ senders. IsSome senders.wait) }
+{
+    let senders = wait(rt, rt.alloc(), senders).expect(rt, "memory");
+    Takes {
+        stream,
+        senders: Some(senders),
+        taken: &channels.taken,
     }
 }
 
@@ -235,21 +232,24 @@ impl<'a, R: Wait> Future for Tells<'a, R> {
 }
 
 /// One that takes what comes from the unbounded channel.
-pub(crate) type Collects<'a, R> = Drains<'a, R, UnboundedReceiver<u64, Bell>, u64>;
+pub(crate) type Collects<'a, R> = Drains<'a, Receiving<'a, R, UnboundedReceiver<u64, Bell>, u64>>;
 
 /// One that listens to what is told to all.
-pub(crate) type Listens<'a, R> = Drains<'a, R, overflow::Receiver<u64, Bell>, Result<u64, Lagged>>;
+pub(crate) type Listens<'a, R> = Drains<
+    'a,
+    Receiving<'a, R, overflow::Receiver<u64, Bell>, Result<u64, Lagged>>,
+>;
 
 /// A task at an end of a channel.
 #[derive(Drop)]
 pub(crate) enum ChannelMember<'a, R: Wait> {
     Posts(Posts<'a, R>),
-    Takes(Takes<'a, R>),
+    Takes(TakesAll<'a, R>),
     Says(Says<'a, R>),
     Collects(Collects<'a, R>),
     Tells(Tells<'a, R>),
     Listens(Listens<'a, R>),
-    Asks(Asks<'a, R>),
+    Asks(Inquires<'a, R>),
     Answers(Answers<'a>),
 }
 
@@ -276,53 +276,53 @@ impl<'a, R: Wait> Future for ChannelMember<'a, R> {
 }
 
 // A task that sends a message which never waits, with a sender of its own.
-fn saying<'a, R: Wait>(
+fn saying<'a, R: Wait + Abort>(
     rt: &'a R,
     ends: &Ends<'a, R>,
     channels: &'a Channels,
-) -> Result<Says<'a, R>, AllocError> {
-    let speaker = ends.speaker.get().clone_handle(rt).map_err(|_| AllocError)?;
-    Ok(Says {
+) -> Says<'a, R> {
+    let speaker = ends.speaker.get().clone_handle(rt).expect(rt, "memory");
+    Says {
         rt,
         speaker: Kept::new(rt, speaker),
         said: &channels.said,
-    })
+    }
 }
 
 // A task that sends a message to all, with a sender of its own.
-fn telling<'a, R: Wait>(
+fn telling<'a, R: Wait + Abort>(
     rt: &'a R,
     ends: &Ends<'a, R>,
     channels: &'a Channels,
-) -> Result<Tells<'a, R>, AllocError> {
-    let hub = ends.hub.get().clone_handle(rt).map_err(|_| AllocError)?;
-    Ok(Tells {
+) -> Tells<'a, R> {
+    let hub = ends.hub.get().clone_handle(rt).expect(rt, "memory");
+    Tells {
         rt,
         hub: Kept::new(rt, hub),
         told: &channels.told,
-    })
+    }
 }
 
 // A task that listens, and hears all that is told from here on where it has patience.
-fn listening<'a, R: Wait + AllocGlobal>(
+fn listening<'a, R: Wait + AllocGlobal + Abort>(
     rt: &'a R,
     ends: &Ends<'a, R>,
     channels: &'a Channels,
     has_patience: bool,
-) -> Result<Listens<'a, R>, AllocError> {
-    let receiver = ends.hub.get().subscribe(rt).map_err(|_| AllocError)?;
-    let stream = receive(rt, rt.alloc(), receiver).map_err(|_| AllocError)?;
+) -> Listens<'a, R> {
+    let receiver = ends.hub.get().subscribe(rt).expect(rt, "memory");
+    let stream = receive(rt, rt.alloc(), receiver).expect(rt, "memory");
     let taken = if has_patience {
         channels.listeners.fetch_add(1, SeqCst);
         &channels.heard
     } else {
         &channels.overheard
     };
-    Ok(Drains { stream, taken })
+    Drains { stream, taken }
 }
 
 /// Spawns the task with this number, that was never polled: of one of five kinds; of a oneshot, both ends.
-pub(crate) fn spawn_channel<'a, R: Wait + AllocGlobal>(
+pub(crate) fn spawn_channel<'a, R: Wait + AllocGlobal + Abort>(
     rt: &'a R,
     tasks: &Tasks<'a, R>,
     tally: &'a Tally,
@@ -330,39 +330,54 @@ pub(crate) fn spawn_channel<'a, R: Wait + AllocGlobal>(
     ends: &Ends<'a, R>,
     number: u64,
     patience: Patience,
-) -> Result<(), AllocError> {
-    let member = match kind(number).0 {
-        9 => ChannelMember::Posts(Posts::new(rt, ends, channels)?),
-        10 => ChannelMember::Says(saying(rt, ends, channels)?),
-        11 => ChannelMember::Tells(telling(rt, ends, channels)?),
-        12 => ChannelMember::Listens(listening(rt, ends, channels, patience == Patience::Endless)?),
+) {
+    let task = match kind(number).0 {
+        9 => ChannelMember::Posts(Posts::new(rt, ends, channels)),
+        10 => ChannelMember::Says(saying(rt, ends, channels)),
+        11 => ChannelMember::Tells(telling(rt, ends, channels)),
+        12 => {
+            let has_patience = patience == Patience::Endless;
+            ChannelMember::Listens(listening(rt, ends, channels, has_patience))
+        }
         _ => {
-            let (asks, answers) = asking(rt, &channels.oneshots)?;
-            let answers = ChannelMember::Answers(answers);
+            let (asks, answers) = asking(rt, &channels.oneshots);
+            let patience = Patience::of(number.wrapping_add(1));
             spawn(
+                rt,
                 tasks,
                 tally,
-                Member::Channels(answers),
-                Patience::of(number.wrapping_add(1)),
-            )?;
+                Member::Channels(ChannelMember::Answers(answers)),
+                patience,
+            );
             ChannelMember::Asks(asks)
         }
     };
-    spawn(tasks, tally, Member::Channels(member), patience)
+    spawn(rt, tasks, tally, Member::Channels(task), patience);
 }
 
 /// Spawns those who take what comes from the two queues.
-pub(crate) fn spawn_takers<'a, R: Wait + AllocGlobal>(
+pub(crate) fn spawn_takers<'a, R: Wait + AllocGlobal + Abort>(
     rt: &'a R,
     tasks: &Tasks<'a, R>,
     tally: &'a Tally,
-    takes: Takes<'a, R>,
+    channels: &'a Channels,
+    stream: Receiving<'a, R, BoundedReceiver<u64, Bell>, u64>,
+    senders: waitgroup::Wait<Bell>,
     collects: Collects<'a, R>,
-) -> Result<(), AllocError>
-    requires { IfSome takes.senders (λ senders. IsSome senders.wait) }
-{
-    let takes = ChannelMember::Takes(takes);
-    spawn(tasks, tally, Member::Channels(takes), Patience::Endless)?;
-    let collects = ChannelMember::Collects(collects);
-    spawn(tasks, tally, Member::Channels(collects), Patience::Endless)
+) {
+    let takes = taking(rt, stream, senders, channels);
+    spawn(
+        rt,
+        tasks,
+        tally,
+        Member::Channels(ChannelMember::Takes(takes)),
+        Patience::Endless,
+    );
+    spawn(
+        rt,
+        tasks,
+        tally,
+        Member::Channels(ChannelMember::Collects(collects)),
+        Patience::Endless,
+    );
 }

@@ -1,13 +1,10 @@
 //! The crowd: a thousand tasks and more over all primitives, on four threads.
-use crate::channels::{
-    ChannelMember, Channels, Collects, Ends, Takes, spawn_channel, spawn_takers,
-};
+use crate::channels::{ChannelMember, Channels, Collects, Ends, spawn_channel, spawn_takers};
 use crate::keeps::{KeepMember, Keeps, spawn_keep};
 use crate::locks::{LockMember, Locks, spawn_lock, spawn_tells};
 use crate::meets::{MeetMember, Meets, spawn_meet, spawn_openers};
 use crate::patience::Patience;
 use crate::spawns::{Impatient, Spawns, Tally, kind, on_four_threads};
-use crate::tasks::Drains;
 use futures::Future;
 use futures::executor::TaskSet;
 use futures::task::{Context, Poll};
@@ -18,10 +15,9 @@ use mea::shutdown::{ShutdownRecv, ShutdownSend, new_pair};
 use mea::waitgroup::WaitGroup;
 use mea_futures::{Bell, Kept, Receiving, receive};
 use std::alloc::{AllocError, AllocGlobal, Global};
-use std::io;
+use std::process::Abort;
 use std::random::RandomSource;
 use std::sync::Wait;
-use std::test::Fail;
 use std::thread::Threads;
 
 /// A task of the crowd, of one of four families.
@@ -91,14 +87,14 @@ impl Place {
 }
 
 // Spawns the task with this number, that was never polled.
-fn spawn_member<'a, R: Wait + AllocGlobal>(
+fn spawn_member<'a, R: Wait + AllocGlobal + Abort>(
     rt: &'a R,
     tasks: &Tasks<'a, R>,
     place: &'a Place,
     ends: &Ends<'a, R>,
     receiver: &ShutdownRecv<Bell>,
     number: u64,
-) -> Result<(), AllocError> {
+) {
     let patience = Patience::of(number);
     let tally = &place.tally;
     match kind(number).0 {
@@ -121,8 +117,8 @@ struct Members<'a, R: Wait> {
     stopped: Kept<'a, R, ShutdownRecv<Bell>>,
 }
 
-impl<'a, R: Wait + AllocGlobal> Spawns<Task<'a, R>> for Members<'a, R> {
-    fn spawn_on(self, tasks: &Tasks<'a, R>) -> Result<(), AllocError> {
+impl<'a, R: Wait + AllocGlobal + Abort> Spawns<Task<'a, R>> for Members<'a, R> {
+    fn spawn_on(self, tasks: &Tasks<'a, R>) {
         let Members {
             rt,
             place,
@@ -132,36 +128,33 @@ impl<'a, R: Wait + AllocGlobal> Spawns<Task<'a, R>> for Members<'a, R> {
             stopper,
             stopped,
         } = self;
+        let tally = &place.tally;
         for number in 0..NUMBERS {
             if number == NUMBERS / 2 {
-                spawn_tells(rt, tasks, &place.tally, &place.locks)?;
-                spawn_openers(rt, tasks, &place.tally, &place.meets, stopper)?;
+                spawn_tells(rt, tasks, tally, &place.locks);
+                spawn_openers(rt, tasks, tally, &place.meets, stopper);
             }
-            spawn_member(rt, tasks, place, &ends, stopped.get(), number)?;
+            spawn_member(rt, tasks, place, &ends, stopped.get(), number);
         }
-        let ended = ends.senders.into_inner().into_future(rt);
-        let takes = Takes::new(rt, stream, ended, &place.channels)?;
-        spawn_takers(rt, tasks, &place.tally, takes, collects)
+        let senders = ends.senders.into_inner().into_future(rt);
+        spawn_takers(rt, tasks, tally, &place.channels, stream, senders, collects);
     }
 }
 
 // The tasks on four threads, with a bounded channel of two places, one without bounds, a broadcast and a shutdown.
-fn crowd<R: Wait + Threads + Sync + RandomSource + AllocGlobal>(
-    rt: &R,
-    place: &Place,
-) -> io::Result<()> {
+fn crowd<R: Wait + Threads + Sync + RandomSource + AllocGlobal + Abort>(rt: &R, place: &Place) {
     let alloc = rt.alloc();
-    let (sender, receiver) = bounded::<u64, Bell>(alloc, 2).map_err(|_| AllocError)?;
+    let (sender, receiver) = bounded::<u64, Bell>(alloc, 2).expect(rt, "memory");
     let sender = Kept::new(rt, sender);
-    let stream = receive(rt, alloc, receiver).map_err(|_| AllocError)?;
-    let senders = Kept::new(rt, WaitGroup::new(alloc).map_err(|_| AllocError)?);
-    let (speaker, queue) = unbounded::<u64, Bell>(alloc).map_err(|_| AllocError)?;
+    let stream = receive(rt, alloc, receiver).expect(rt, "memory");
+    let senders = Kept::new(rt, WaitGroup::new(alloc).expect(rt, "memory"));
+    let (speaker, queue) = unbounded::<u64, Bell>(alloc).expect(rt, "memory");
     let speaker = Kept::new(rt, speaker);
-    let queue = receive(rt, alloc, queue).map_err(|_| AllocError)?;
-    let (hub, listener) = overflow::channel::<u64, Bell>(alloc, 128).map_err(|_| AllocError)?;
+    let queue = receive(rt, alloc, queue).expect(rt, "memory");
+    let (hub, listener) = overflow::channel::<u64, Bell>(alloc, 128).expect(rt, "memory");
     let hub = Kept::new(rt, hub);
     drop(listener);
-    let (stopper, stopped) = new_pair::<Bell>(alloc).map_err(|_| AllocError)?;
+    let (stopper, stopped) = new_pair::<Bell>(alloc).expect(rt, "memory");
     let members = Members {
         rt,
         place,
@@ -176,16 +169,16 @@ fn crowd<R: Wait + Threads + Sync + RandomSource + AllocGlobal>(
         stopper: &stopper,
         stopped: Kept::new(rt, stopped),
     };
-    on_four_threads(rt, members)
+    on_four_threads(rt, members);
 }
 
 // A thousand tasks and more, over all primitives, on four threads. Half of them give up, in each stage. Then all have ended, every
 // permit is free, nobody has a lock or waits, those who came to the barrier have met and one has led, what was sent was taken,
 // those who listen with patience heard all, and what is computed once was.
 #[test]
-fn a_crowd_that_gives_up(rt: HostRuntime) -> Result<(), Fail> {
-    let place = Place::new(rt.alloc())?;
-    crowd(&rt, &place)?;
+fn a_crowd_that_gives_up(rt: HostRuntime) {
+    let place = Place::new(rt.alloc()).expect(&rt, "memory");
+    crowd(&rt, &place);
     let (spawned, ended) = place.tally.counts();
     assert!(rt; spawned > NUMBERS && ended == spawned);
     let (worked, heard) = place.locks.counts();
@@ -203,9 +196,8 @@ fn a_crowd_that_gives_up(rt: HostRuntime) -> Result<(), Fail> {
     let (answered, got) = place.channels.answers();
     assert!(rt; got > 0 && got <= answered);
     assert!(rt; place.keeps.are_kept(&rt));
-    let task = MockTask::new(&rt)?;
+    let task = MockTask::new(&rt).expect(&rt, "memory");
     for key in 0..3u64 {
         assert!(rt; place.keeps.is_landed(&rt, &task, key));
     }
-    Ok(())
 }

@@ -1,12 +1,13 @@
 //! Those of the crowd who wait at a condition variable until a flag is set, and the one who sets it.
-ghost use Rattle.std.specs.Prelude.{◌≡◌, None, IsSome, IfOk, MatchOption};
+ghost use Rattle.std.specs.Prelude.{◌≡◌, None, IsSome, MatchOption};
 
 use futures::task::{Context, Poll};
 use futures::{Future, ready};
 use mea::condvar::{Condvar, CondvarWaitOwned};
 use mea::mutex::{Mutex, OwnedLock, OwnedMutexGuard};
 use mea_futures::{Bell, Holding, wait};
-use std::alloc::{AllocError, AllocGlobal};
+use std::alloc::AllocGlobal;
+use std::process::Abort;
 use std::sync::atomic::AtomicU64;
 use std::sync::atomic::Ordering::SeqCst;
 use std::sync::{Arc, Wait};
@@ -24,30 +25,28 @@ pub(crate) struct Hears<'a, R: Wait> {
     heard: &'a AtomicU64,
 }
 
-impl<'a, R: Wait + AllocGlobal> Hears<'a, R> {
+impl<'a, R: Wait + AllocGlobal + Abort> Hears<'a, R> {
     /// One that was never polled.
     pub(crate) fn new(
         rt: &'a R,
         condvar: &'a Condvar<Bell>,
         flag: Arc<Mutex<bool, Bell>>,
         heard: &'a AtomicU64,
-    ) -> Result<Self, AllocError>
-        ensures { IfOk result (λ hears. (hears.told ≡ None) × IsSome hears.lock.waiting.wait) }
+    ) -> Self
+        ensures { (result.told ≡ None) × IsSome result.lock.waiting.wait }
     {
-        match wait(rt, rt.alloc(), flag.lock_owned()) {
-            Ok(waiting) => Ok(Hears {
-                rt,
-                condvar,
-                lock: waiting.holding(),
-                told: None,
-                heard,
-            }),
-            Err(_) => Err(AllocError),
+        let waiting = wait(rt, rt.alloc(), flag.lock_owned()).expect(rt, "memory");
+        Hears {
+            rt,
+            condvar,
+            lock: waiting.holding(),
+            told: None,
+            heard,
         }
     }
 }
 
-impl<'a, R: Wait + AllocGlobal> Future for Hears<'a, R> {
+impl<'a, R: Wait + AllocGlobal + Abort> Future for Hears<'a, R> {
     type Output = ();
 
     ghost can_poll = { λ h. MatchOption h.told (IsSome h.lock.waiting.wait) (λ told. IsSome told.waiting.wait) };
@@ -67,13 +66,9 @@ impl<'a, R: Wait + AllocGlobal> Future for Hears<'a, R> {
             return Poll::Ready(());
         }
         let waits = self.condvar.wait_owned(guard.into_inner());
-        match wait(self.rt, self.rt.alloc(), waits) {
-            Ok(waiting) => {
-                self.told = Some(waiting.holding());
-                cx.yield_now()
-            }
-            Err(_) => Poll::Ready(()),
-        }
+        let waiting = wait(self.rt, self.rt.alloc(), waits).expect(self.rt, "memory");
+        self.told = Some(waiting.holding());
+        cx.yield_now()
     }
 }
 
@@ -85,22 +80,16 @@ pub(crate) struct Tells<'a, R: Wait> {
     lock: Locks<'a, R>,
 }
 
-impl<'a, R: Wait + AllocGlobal> Tells<'a, R> {
+impl<'a, R: Wait + AllocGlobal + Abort> Tells<'a, R> {
     /// One that was never polled.
-    pub(crate) fn new(
-        rt: &'a R,
-        condvar: &'a Condvar<Bell>,
-        flag: Arc<Mutex<bool, Bell>>,
-    ) -> Result<Self, AllocError>
-        ensures { IfOk result (λ tells. IsSome tells.lock.waiting.wait) }
+    pub(crate) fn new(rt: &'a R, condvar: &'a Condvar<Bell>, flag: Arc<Mutex<bool, Bell>>) -> Self
+        ensures { IsSome result.lock.waiting.wait }
     {
-        match wait(rt, rt.alloc(), flag.lock_owned()) {
-            Ok(waiting) => Ok(Tells {
-                rt,
-                condvar,
-                lock: waiting.holding(),
-            }),
-            Err(_) => Err(AllocError),
+        let waiting = wait(rt, rt.alloc(), flag.lock_owned()).expect(rt, "memory");
+        Tells {
+            rt,
+            condvar,
+            lock: waiting.holding(),
         }
     }
 }

@@ -1,5 +1,5 @@
 //! Those of the crowd who want a value that is computed once.
-ghost use Rattle.std.specs.Prelude.{◌≡◌, None, IsSome, IfOk};
+ghost use Rattle.std.specs.Prelude.{◌≡◌, None, IsSomeAnd};
 
 use crate::crowd::{Member, Tasks};
 use crate::patience::Patience;
@@ -13,10 +13,11 @@ use mea::once::{
     OnceClaiming, OnceMap,
 };
 use mea::singleflight::{Group, GroupClaim, GroupClaiming, GroupFilling};
-use mea::{Claimed, End, ReadyValue, Waits};
+use mea::{Claim, Claimed, End, ReadyValue, Waits};
 use mea_futures::{Bell, Initialising, initialise, wait};
-use std::alloc::{AllocError, AllocGlobal, Global};
+use std::alloc::{AllocGlobal, Global};
 use std::hash::{BuildHasherDefault, FoldHasher};
+use std::process::Abort;
 use std::sync::Wait;
 use std::sync::atomic::AtomicU64;
 use std::sync::atomic::Ordering::SeqCst;
@@ -172,79 +173,40 @@ impl<'a, R: Wait> Future for KeepMember<'a, R> {
     }
 }
 
-// A task that fills the cell and was never polled.
-fn filling<'a, R: Wait + AllocGlobal>(
-    rt: &'a R,
-    keeps: &'a Keeps,
-) -> Result<Fills<'a, R>, AllocError>
-    ensures { IfOk result (λ task. (task.awaited.claim ≡ None) × IsSome task.awaited.turn.wait) }
+// A task that waits for a claim, or computes the value in two polls, and was never polled.
+fn computing<
+    'a,
+    R: Wait + AllocGlobal + Abort,
+    F: Waits<Bell, Claimed<V, C>>,
+    V,
+    C: Claim<T, V, G>,
+    T: Copy,
+    G: End,
+>(rt: &'a R, claiming: F, value: T, computed: &'a AtomicU64) -> Inits<'a, R, F, V, C, T, G>
+    requires { F.can_poll claiming }
+    ensures { (result.awaited.claim ≡ None) × IsSomeAnd result.awaited.turn.wait F.can_poll }
 {
-    let computes = Computes::new(9, &keeps.filled);
-    match initialise(rt, rt.alloc(), keeps.cell.claim(), computes) {
-        Ok(awaited) => Ok(Awaits { awaited }),
-        Err(_) => Err(AllocError),
-    }
-}
-
-// A task that makes the call and was never polled.
-fn calling<'a, R: Wait + AllocGlobal>(
-    rt: &'a R,
-    keeps: &'a Keeps,
-) -> Result<Calls<'a, R>, AllocError>
-    ensures { IfOk result (λ task. (task.awaited.claim ≡ None) × IsSome task.awaited.turn.wait) }
-{
-    let computes = Computes::new((), &keeps.called);
-    match initialise(rt, rt.alloc(), keeps.once.claim(), computes) {
-        Ok(awaited) => Ok(Awaits { awaited }),
-        Err(_) => Err(AllocError),
-    }
-}
-
-// A task that wants the value of a key and was never polled.
-fn mapping<'a, R: Wait + AllocGlobal>(
-    rt: &'a R,
-    keeps: &'a Keeps,
-    key: u64,
-) -> Result<Maps<'a, R>, AllocError>
-    ensures { IfOk result (λ task. (task.awaited.claim ≡ None) × IsSome task.awaited.turn.wait) }
-{
-    let computes = Computes::new(key, &keeps.mapped);
-    match initialise(rt, rt.alloc(), keeps.map.claim(key), computes) {
-        Ok(awaited) => Ok(Awaits { awaited }),
-        Err(_) => Err(AllocError),
-    }
-}
-
-// A task that wants a value of a key which others share, and was never polled.
-fn flying<'a, R: Wait + AllocGlobal>(
-    rt: &'a R,
-    keeps: &'a Keeps,
-    key: u64,
-) -> Result<Flies<'a, R>, AllocError>
-    ensures { IfOk result (λ task. (task.awaited.claim ≡ None) × IsSome task.awaited.turn.wait) }
-{
-    let computes = Computes::new(key, &keeps.flown);
-    match initialise(rt, rt.alloc(), keeps.flights.claim(key), computes) {
-        Ok(awaited) => Ok(Awaits { awaited }),
-        Err(_) => Err(AllocError),
-    }
+    let computes = Computes::new(value, computed);
+    let awaited = initialise(rt, rt.alloc(), claiming, computes).expect(rt, "memory");
+    Awaits { awaited }
 }
 
 /// Spawns the task with this number, that was never polled: of one of four kinds.
-pub(crate) fn spawn_keep<'a, R: Wait + AllocGlobal>(
+pub(crate) fn spawn_keep<'a, R: Wait + AllocGlobal + Abort>(
     rt: &'a R,
     tasks: &Tasks<'a, R>,
     tally: &'a Tally,
     keeps: &'a Keeps,
     number: u64,
     patience: Patience,
-) -> Result<(), AllocError> {
+) {
     let (kind, nth) = kind(number);
-    let member = match kind {
-        14 => KeepMember::Fills(filling(rt, keeps)?),
-        15 => KeepMember::Calls(calling(rt, keeps)?),
-        16 => KeepMember::Maps(mapping(rt, keeps, nth % 3)?),
-        _ => KeepMember::Flies(flying(rt, keeps, nth % 3)?),
+    let key = nth % 3;
+    let task = match kind {
+        14 => KeepMember::Fills(computing(rt, keeps.cell.claim(), 9, &keeps.filled)),
+        15 => KeepMember::Calls(computing(rt, keeps.once.claim(), (), &keeps.called)),
+        16 => KeepMember::Maps(computing(rt, keeps.map.claim(key), key, &keeps.mapped)),
+        _ => KeepMember::Flies(computing(rt, keeps.flights.claim(key), key, &keeps.flown)),
     };
-    spawn(tasks, tally, Member::Keeps(member), patience)
+    spawn(rt, tasks, tally, Member::Keeps(task), patience);
 }

@@ -1,22 +1,23 @@
 //! Those of the crowd who want a permit or a lock, or wait at a condition variable.
-ghost use Rattle.std.specs.Prelude.{◌≡◌, None, IsSome, IfNone, IfOk};
+ghost use Rattle.std.specs.Prelude.{◌≡◌, None, IsSome, IfNone};
 
 use crate::crowd::{Member, Tasks};
 use crate::hearing::{Hears, Tells};
 use crate::patience::Patience;
 use crate::spawns::{Tally, kind, spawn};
-use crate::tasks::Uses;
+use crate::tasks::{Spends, share, using};
 use futures::task::{Context, Poll};
 use futures::{Future, ready};
-use mea::End;
 use mea::admission::{FairShare, OwnedFairSharePermit, OwnedShareWait};
 use mea::condvar::Condvar;
 use mea::mutex::{Mutex, OwnedLock, OwnedMutexGuard};
 use mea::rwlock::{OwnedRead, OwnedRwLockReadGuard, OwnedRwLockWriteGuard, OwnedWrite, RwLock};
 use mea::semaphore::{Closed, OwnedAcquire, OwnedSemaphorePermit, Semaphore};
+use mea::{End, PollFault};
 use mea_futures::{Bell, Holding, Kept, TryHolding, wait};
 use std::alloc::{AllocError, AllocGlobal, Global};
 use std::hash::{BuildHasherDefault, FoldHasher};
+use std::process::Abort;
 use std::sync::atomic::AtomicU64;
 use std::sync::atomic::Ordering::SeqCst;
 use std::sync::{Arc, Wait};
@@ -90,33 +91,17 @@ fn locked<R: Wait, T: Copy>(rt: &R, mutex: &Mutex<T, Bell>) -> Option<T> {
 
 /// A task that acquires, yields with the permit, and gives it back where it drops what it kept.
 #[derive(Drop)]
-pub(crate) struct Acquires<'a, R: Wait> {
-    acquire: TryHolding<'a, R, OwnedAcquire<Bell>, OwnedSemaphorePermit<Bell>, Closed>,
-    held: Option<Kept<'a, R, OwnedSemaphorePermit<Bell>>>,
+pub(crate) struct Works<'a, F: Future, P> {
+    acquire: F,
+    held: Option<P>,
     worked: &'a AtomicU64,
 }
 
-impl<'a, R: Wait + AllocGlobal> Acquires<'a, R> {
-    /// One that was never polled.
-    pub(crate) fn new(rt: &'a R, locks: &'a Locks) -> Result<Self, AllocError>
-        ensures { IfOk result (λ task. (task.held ≡ None) × IsSome task.acquire.waiting.wait) }
-    {
-        let acquire = Arc::try_clone(&locks.semaphore)?.acquire_owned(1);
-        match wait(rt, rt.alloc(), acquire) {
-            Ok(waiting) => Ok(Acquires {
-                acquire: waiting.try_holding(),
-                held: None,
-                worked: &locks.worked,
-            }),
-            Err(_) => Err(AllocError),
-        }
-    }
-}
-
-impl<'a, R: Wait> Future for Acquires<'a, R> {
+impl<'a, P: Drop, E: Drop, F: Future<Output = Result<Result<P, E>, PollFault>>> Future
+    for Works<'a, F, P> {
     type Output = ();
 
-    ghost can_poll = { λ t. IfNone t.held (IsSome t.acquire.waiting.wait) };
+    ghost can_poll = { λ t. IfNone t.held (F.can_poll t.acquire) };
 
     fn poll(&mut self, cx: &mut Context<'_>) -> Poll<()> {
         if self.held.take().is_some() {
@@ -133,6 +118,26 @@ impl<'a, R: Wait> Future for Acquires<'a, R> {
     }
 }
 
+/// One that has a permit of the semaphore.
+pub(crate) type Acquires<'a, R> = Works<
+    'a,
+    TryHolding<'a, R, OwnedAcquire<Bell>, OwnedSemaphorePermit<Bell>, Closed>,
+    Kept<'a, R, OwnedSemaphorePermit<Bell>>,
+>;
+
+// One that was never polled.
+fn acquiring<'a, R: Wait + AllocGlobal + Abort>(rt: &'a R, locks: &'a Locks) -> Acquires<'a, R>
+    ensures { (result.held ≡ None) × IsSome result.acquire.waiting.wait }
+{
+    let acquire = share(rt, &locks.semaphore).acquire_owned(1);
+    let waiting = wait(rt, rt.alloc(), acquire).expect(rt, "memory");
+    Works {
+        acquire: waiting.try_holding(),
+        held: None,
+        worked: &locks.worked,
+    }
+}
+
 /// A task that locks, reads, yields with the guard, and writes one more than it read.
 #[derive(Drop)]
 pub(crate) struct Adds<'a, R: Wait> {
@@ -142,20 +147,18 @@ pub(crate) struct Adds<'a, R: Wait> {
     added: &'a AtomicU64,
 }
 
-impl<'a, R: Wait + AllocGlobal> Adds<'a, R> {
+impl<'a, R: Wait + AllocGlobal + Abort> Adds<'a, R> {
     /// One that was never polled.
-    pub(crate) fn new(rt: &'a R, locks: &'a Locks) -> Result<Self, AllocError>
-        ensures { IfOk result (λ adds. (adds.held ≡ None) × IsSome adds.lock.waiting.wait) }
+    pub(crate) fn new(rt: &'a R, locks: &'a Locks) -> Self
+        ensures { (result.held ≡ None) × IsSome result.lock.waiting.wait }
     {
-        let lock = Arc::try_clone(&locks.sum)?.lock_owned();
-        match wait(rt, rt.alloc(), lock) {
-            Ok(waiting) => Ok(Adds {
-                lock: waiting.holding(),
-                held: None,
-                read: 0,
-                added: &locks.added,
-            }),
-            Err(_) => Err(AllocError),
+        let lock = share(rt, &locks.sum).lock_owned();
+        let waiting = wait(rt, rt.alloc(), lock).expect(rt, "memory");
+        Adds {
+            lock: waiting.holding(),
+            held: None,
+            read: 0,
+            added: &locks.added,
         }
     }
 }
@@ -184,7 +187,7 @@ impl<'a, R: Wait> Future for Adds<'a, R> {
 }
 
 /// One that has a permit of a key.
-pub(crate) type Admits<'a, R> = Uses<
+pub(crate) type Admits<'a, R> = Spends<
     'a,
     R,
     OwnedShareWait<u64, Bell, Hasher>,
@@ -192,10 +195,10 @@ pub(crate) type Admits<'a, R> = Uses<
 >;
 
 /// One that reads.
-pub(crate) type Reads<'a, R> = Uses<'a, R, OwnedRead<u64, Bell>, OwnedRwLockReadGuard<u64, Bell>>;
+pub(crate) type Reads<'a, R> = Spends<'a, R, OwnedRead<u64, Bell>, OwnedRwLockReadGuard<u64, Bell>>;
 
 /// One that is alone.
-pub(crate) type Writes<'a, R> = Uses<
+pub(crate) type Writes<'a, R> = Spends<
     'a,
     R,
     OwnedWrite<u64, Bell>,
@@ -214,7 +217,7 @@ pub(crate) enum LockMember<'a, R: Wait> {
     Tells(Tells<'a, R>),
 }
 
-impl<'a, R: Wait + AllocGlobal> Future for LockMember<'a, R> {
+impl<'a, R: Wait + AllocGlobal + Abort> Future for LockMember<'a, R> {
     ghost use Rattle.mea_crowd_tests.specs.declared.locks.LockMember.TheVariants.{Acquires, Admits, Adds, Reads, Writes, Hears, Tells};
     ghost use Rattle.std.specs.Prelude.{IsSome, IfNone, MatchOption};
 
@@ -236,45 +239,45 @@ impl<'a, R: Wait + AllocGlobal> Future for LockMember<'a, R> {
 }
 
 /// Spawns the task with this number, that was never polled: of one of six kinds.
-pub(crate) fn spawn_lock<'a, R: Wait + AllocGlobal>(
+pub(crate) fn spawn_lock<'a, R: Wait + AllocGlobal + Abort>(
     rt: &'a R,
     tasks: &Tasks<'a, R>,
     tally: &'a Tally,
     locks: &'a Locks,
     number: u64,
     patience: Patience,
-) -> Result<(), AllocError> {
+) {
     let (kind, nth) = kind(number);
-    let member = match kind {
-        0 => LockMember::Acquires(Acquires::new(rt, locks)?),
+    let task = match kind {
+        0 => LockMember::Acquires(acquiring(rt, locks)),
         1 => {
-            let share = Arc::try_clone(&locks.share)?;
-            let turn = share.acquire_owned(nth % 5).map_err(|_| AllocError)?;
-            LockMember::Admits(Uses::new(rt, turn)?)
+            let turn = share(rt, &locks.share).acquire_owned(nth % 5);
+            LockMember::Admits(using(rt, turn.expect(rt, "memory")))
         }
-        2 => LockMember::Adds(Adds::new(rt, locks)?),
-        3 => LockMember::Reads(Uses::new(rt, Arc::try_clone(&locks.board)?.read_owned())?),
-        4 => LockMember::Writes(Uses::new(rt, Arc::try_clone(&locks.board)?.write_owned())?),
+        2 => LockMember::Adds(Adds::new(rt, locks)),
+        3 => LockMember::Reads(using(rt, share(rt, &locks.board).read_owned())),
+        4 => LockMember::Writes(using(rt, share(rt, &locks.board).write_owned())),
         _ => {
-            let flag = Arc::try_clone(&locks.flag)?;
-            LockMember::Hears(Hears::new(rt, &locks.condvar, flag, &locks.heard)?)
+            let flag = share(rt, &locks.flag);
+            LockMember::Hears(Hears::new(rt, &locks.condvar, flag, &locks.heard))
         }
     };
-    spawn(tasks, tally, Member::Locks(member), patience)
+    spawn(rt, tasks, tally, Member::Locks(task), patience);
 }
 
 /// Spawns the one that sets the flag.
-pub(crate) fn spawn_tells<'a, R: Wait + AllocGlobal>(
+pub(crate) fn spawn_tells<'a, R: Wait + AllocGlobal + Abort>(
     rt: &'a R,
     tasks: &Tasks<'a, R>,
     tally: &'a Tally,
     locks: &'a Locks,
-) -> Result<(), AllocError> {
-    let tells = Tells::new(rt, &locks.condvar, Arc::try_clone(&locks.flag)?)?;
+) {
+    let tells = Tells::new(rt, &locks.condvar, share(rt, &locks.flag));
     spawn(
+        rt,
         tasks,
         tally,
         Member::Locks(LockMember::Tells(tells)),
         Patience::Endless,
-    )
+    );
 }

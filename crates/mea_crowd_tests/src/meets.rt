@@ -1,18 +1,19 @@
 //! Those of the crowd who meet: at a latch, at a barrier, and at a shutdown.
-ghost use Rattle.std.specs.Prelude.{◌≡◌, IsSome, IfOk};
+ghost use Rattle.std.specs.Prelude.{IsSome};
 
 use crate::crowd::{Member, Tasks};
 use crate::patience::Patience;
 use crate::spawns::{ARRIVES, Tally, kind, spawn};
-use crate::tasks::Awaits;
+use crate::tasks::{Awaits, share};
+use futures::Future;
 use futures::task::{Context, Poll};
-use futures::{Future, ready};
 use mea::barrier::{Barrier, BarrierWait, BarrierWaitResult};
 use mea::latch::{Latch, OwnedLatchWait};
-use mea::shutdown;
 use mea::shutdown::{OwnedSignal, ShutdownRecv, ShutdownSend};
+use mea::{PollFault, shutdown};
 use mea_futures::{Bell, Kept, Waiting, wait};
 use std::alloc::{AllocError, AllocGlobal, Global};
+use std::process::Abort;
 use std::sync::atomic::AtomicU64;
 use std::sync::atomic::Ordering::SeqCst;
 use std::sync::{Arc, Wait};
@@ -80,39 +81,49 @@ impl<'a, R: Wait> Future for Opens<'a, R> {
 
 /// A task that meets others at the barrier.
 #[derive(Drop)]
-pub(crate) struct Arrives<'a, R: Wait> {
-    waiting: Waiting<'a, R, BarrierWait<'a, Bell>, BarrierWaitResult>,
+pub(crate) struct Gathers<'a, F: Future> {
+    waiting: F,
     met: &'a AtomicU64,
     led: &'a AtomicU64,
 }
 
-impl<'a, R: Wait> Future for Arrives<'a, R> {
+impl<'a, F: Future<Output = Result<BarrierWaitResult, PollFault>>> Future for Gathers<'a, F> {
     type Output = ();
 
-    ghost can_poll = { λ a. IsSome a.waiting.wait };
+    ghost can_poll = { λ a. F.can_poll a.waiting };
 
     fn poll(&mut self, cx: &mut Context<'_>) -> Poll<()> {
-        if let Ok(round) = ready!(self.waiting.poll(cx)) {
-            self.met.fetch_add(1, SeqCst);
-            if round.is_leader() {
-                self.led.fetch_add(1, SeqCst);
+        match self.waiting.poll(cx) {
+            Poll::Ready(Ok(round)) => {
+                self.met.fetch_add(1, SeqCst);
+                if round.is_leader() {
+                    self.led.fetch_add(1, SeqCst);
+                }
+                Poll::Ready(())
             }
+            Poll::Ready(Err(_)) => Poll::Ready(()),
+            Poll::Pending => Poll::Pending,
         }
-        Poll::Ready(())
     }
 }
 
-/// A task that stops where it is asked to.
+/// One that waits there.
+pub(crate) type Arrives<'a, R> = Gathers<
+    'a,
+    Waiting<'a, R, BarrierWait<'a, Bell>, BarrierWaitResult>,
+>;
+
+/// A task that stops where it is asked to, and has a handle of the shutdown until it ends.
 #[derive(Drop)]
-pub(crate) struct Stops<'a, R: Wait> {
-    signal: Waiting<'a, R, OwnedSignal<Bell>, ()>,
-    receiver: Kept<'a, R, ShutdownRecv<Bell>>,
+pub(crate) struct Obeys<F: Future, H> {
+    signal: F,
+    receiver: H,
 }
 
-impl<'a, R: Wait> Future for Stops<'a, R> {
+impl<O: Drop, F: Future<Output = O>, H: Drop> Future for Obeys<F, H> {
     type Output = ();
 
-    ghost can_poll = { λ s. IsSome s.signal.wait };
+    ghost can_poll = { λ s. F.can_poll s.signal };
 
     fn poll(&mut self, cx: &mut Context<'_>) -> Poll<()> {
         match self.signal.poll(cx) {
@@ -122,18 +133,24 @@ impl<'a, R: Wait> Future for Stops<'a, R> {
     }
 }
 
+/// One that waits for the signal.
+pub(crate) type Stops<'a, R> = Obeys<
+    Waiting<'a, R, OwnedSignal<Bell>, ()>,
+    Kept<'a, R, ShutdownRecv<Bell>>,
+>;
+
 /// A task that asks for the shutdown, and waits for all who stop.
 #[derive(Drop)]
-pub(crate) struct Shuts<'a, R: Wait> {
+pub(crate) struct Asks<'a, R: Wait, F: Future> {
     rt: &'a R,
     sender: &'a ShutdownSend<Bell>,
-    ended: Waiting<'a, R, shutdown::Wait<Bell>, ()>,
+    ended: F,
 }
 
-impl<'a, R: Wait> Future for Shuts<'a, R> {
+impl<'a, R: Wait, O: Drop, F: Future<Output = O>> Future for Asks<'a, R, F> {
     type Output = ();
 
-    ghost can_poll = { λ s. IsSome s.ended.wait };
+    ghost can_poll = { λ s. F.can_poll s.ended };
 
     fn poll(&mut self, cx: &mut Context<'_>) -> Poll<()> {
         self.sender.shutdown(self.rt);
@@ -143,6 +160,9 @@ impl<'a, R: Wait> Future for Shuts<'a, R> {
         }
     }
 }
+
+/// One that waits for them.
+pub(crate) type Shuts<'a, R> = Asks<'a, R, Waiting<'a, R, shutdown::Wait<Bell>, ()>>;
 
 /// A task at a place where others are met.
 #[derive(Drop)]
@@ -174,66 +194,54 @@ impl<'a, R: Wait> Future for MeetMember<'a, R> {
 }
 
 // A task that waits for the latch and was never polled.
-fn passing<'a, R: Wait + AllocGlobal>(rt: &'a R, meets: &Meets) -> Result<Passes<'a, R>, AllocError>
-    ensures { IfOk result (λ passes. IsSome passes.awaited.wait) }
+fn passing<'a, R: Wait + AllocGlobal + Abort>(rt: &'a R, meets: &Meets) -> Passes<'a, R>
+    ensures { IsSome result.awaited.wait }
 {
-    match wait(rt, rt.alloc(), Arc::try_clone(&meets.latch)?.wait_owned()) {
-        Ok(awaited) => Ok(Awaits { awaited }),
-        Err(_) => Err(AllocError),
+    let passed = share(rt, &meets.latch).wait_owned();
+    Awaits {
+        awaited: wait(rt, rt.alloc(), passed).expect(rt, "memory"),
     }
 }
 
 // A task that meets others and was never polled.
-fn arriving<'a, R: Wait + AllocGlobal>(
-    rt: &'a R,
-    meets: &'a Meets,
-) -> Result<Arrives<'a, R>, AllocError>
-    ensures { IfOk result (λ arrives. IsSome arrives.waiting.wait) }
+fn arriving<'a, R: Wait + AllocGlobal + Abort>(rt: &'a R, meets: &'a Meets) -> Arrives<'a, R>
+    ensures { IsSome result.waiting.wait }
 {
-    match wait(rt, rt.alloc(), meets.barrier.wait()) {
-        Ok(waiting) => Ok(Arrives {
-            waiting,
-            met: &meets.met,
-            led: &meets.led,
-        }),
-        Err(_) => Err(AllocError),
+    Gathers {
+        waiting: wait(rt, rt.alloc(), meets.barrier.wait()).expect(rt, "memory"),
+        met: &meets.met,
+        led: &meets.led,
     }
 }
 
 // A task that stops where it is asked to and was never polled.
-fn stopping<'a, R: Wait + AllocGlobal>(
+fn stopping<'a, R: Wait + AllocGlobal + Abort>(
     rt: &'a R,
     receiver: &ShutdownRecv<Bell>,
-) -> Result<Stops<'a, R>, AllocError>
-    ensures { IfOk result (λ stops. IsSome stops.signal.wait) }
+) -> Stops<'a, R>
+    ensures { IsSome result.signal.wait }
 {
-    let receiver = Kept::new(rt, receiver.clone_handle(rt).map_err(|_| AllocError)?);
-    let signal = receiver.get().is_shutdown_owned().map_err(|_| AllocError)?;
-    match wait(rt, rt.alloc(), signal) {
-        Ok(signal) => Ok(Stops { signal, receiver }),
-        Err(_) => Err(AllocError),
-    }
+    let receiver = receiver.clone_handle(rt).expect(rt, "memory");
+    let receiver = Kept::new(rt, receiver);
+    let signal = receiver.get().is_shutdown_owned().expect(rt, "memory");
+    let signal = wait(rt, rt.alloc(), signal).expect(rt, "memory");
+    Obeys { signal, receiver }
 }
 
 // A task that asks for the shutdown and was never polled.
-fn shutting<'a, R: Wait + AllocGlobal>(
+fn shutting<'a, R: Wait + AllocGlobal + Abort>(
     rt: &'a R,
     sender: &'a ShutdownSend<Bell>,
-) -> Result<Shuts<'a, R>, AllocError>
-    ensures { IfOk result (λ shuts. IsSome shuts.ended.wait) }
+) -> Shuts<'a, R>
+    ensures { IsSome result.ended.wait }
 {
-    let ended = sender
-        .clone_handle()
-        .map_err(|_| AllocError)?
-        .await_shutdown();
-    match wait(rt, rt.alloc(), ended) {
-        Ok(ended) => Ok(Shuts { rt, sender, ended }),
-        Err(_) => Err(AllocError),
-    }
+    let ended = sender.clone_handle().expect(rt, "memory").await_shutdown();
+    let ended = wait(rt, rt.alloc(), ended).expect(rt, "memory");
+    Asks { rt, sender, ended }
 }
 
 /// Spawns the task with this number, that was never polled: of one of three kinds.
-pub(crate) fn spawn_meet<'a, R: Wait + AllocGlobal>(
+pub(crate) fn spawn_meet<'a, R: Wait + AllocGlobal + Abort>(
     rt: &'a R,
     tasks: &Tasks<'a, R>,
     tally: &'a Tally,
@@ -241,38 +249,40 @@ pub(crate) fn spawn_meet<'a, R: Wait + AllocGlobal>(
     receiver: &ShutdownRecv<Bell>,
     number: u64,
     patience: Patience,
-) -> Result<(), AllocError> {
-    let member = match kind(number).0 {
-        6 => MeetMember::Passes(passing(rt, meets)?),
-        ARRIVES => MeetMember::Arrives(arriving(rt, meets)?),
-        _ => MeetMember::Stops(stopping(rt, receiver)?),
+) {
+    let task = match kind(number).0 {
+        6 => MeetMember::Passes(passing(rt, meets)),
+        ARRIVES => MeetMember::Arrives(arriving(rt, meets)),
+        _ => MeetMember::Stops(stopping(rt, receiver)),
     };
-    spawn(tasks, tally, Member::Meets(member), patience)
+    spawn(rt, tasks, tally, Member::Meets(task), patience);
 }
 
 /// Spawns those who open the latch and ask for the shutdown.
-pub(crate) fn spawn_openers<'a, R: Wait + AllocGlobal>(
+pub(crate) fn spawn_openers<'a, R: Wait + AllocGlobal + Abort>(
     rt: &'a R,
     tasks: &Tasks<'a, R>,
     tally: &'a Tally,
     meets: &'a Meets,
     sender: &'a ShutdownSend<Bell>,
-) -> Result<(), AllocError> {
+) {
     let opens = Opens {
         rt,
         latch: &*meets.latch,
     };
     spawn(
+        rt,
         tasks,
         tally,
         Member::Meets(MeetMember::Opens(opens)),
         Patience::Endless,
-    )?;
-    let shuts = shutting(rt, sender)?;
+    );
+    let shuts = shutting(rt, sender);
     spawn(
+        rt,
         tasks,
         tally,
         Member::Meets(MeetMember::Shuts(shuts)),
         Patience::Endless,
-    )
+    );
 }

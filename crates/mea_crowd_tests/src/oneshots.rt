@@ -1,11 +1,13 @@
 //! Those of the crowd who have an end of a oneshot.
-ghost use Rattle.std.specs.Prelude.{◌≡◌, IsSome, IfOk};
+ghost use Rattle.std.specs.Prelude.{IsSome};
 
+use futures::Future;
 use futures::task::{Context, Poll};
-use futures::{Future, ready};
+use mea::PollFault;
 use mea::oneshot::{Plain, RecvError, Sender, channel};
 use mea_futures::{Bell, MessageWait, Waiting, wait};
-use std::alloc::{AllocError, AllocGlobal};
+use std::alloc::AllocGlobal;
+use std::process::Abort;
 use std::sync::Wait;
 use std::sync::atomic::AtomicU64;
 use std::sync::atomic::Ordering::SeqCst;
@@ -66,46 +68,51 @@ impl<'a> Future for Answers<'a> {
 
 /// A task that waits for an answer.
 #[derive(Drop)]
-pub(crate) struct Asks<'a, R: Wait> {
-    answer: Waiting<'a, R, MessageWait<Plain<u64>>, Result<Plain<u64>, RecvError>>,
+pub(crate) struct Asks<'a, F: Future> {
+    answer: F,
     got: &'a AtomicU64,
 }
 
-impl<'a, R: Wait> Future for Asks<'a, R> {
+impl<'a, T: Drop, E: Drop, F: Future<Output = Result<Result<T, E>, PollFault>>> Future
+    for Asks<'a, F> {
     type Output = ();
 
-    ghost can_poll = { λ a. IsSome a.answer.wait };
+    ghost can_poll = { λ a. F.can_poll a.answer };
 
     fn poll(&mut self, cx: &mut Context<'_>) -> Poll<()> {
-        if let Ok(Ok(_)) = ready!(self.answer.poll(cx)) {
-            self.got.fetch_add(1, SeqCst);
+        match self.answer.poll(cx) {
+            Poll::Ready(Ok(Ok(_))) => {
+                self.got.fetch_add(1, SeqCst);
+                Poll::Ready(())
+            }
+            Poll::Ready(_) => Poll::Ready(()),
+            Poll::Pending => Poll::Pending,
         }
-        Poll::Ready(())
     }
 }
 
+/// One that asks by a wait of its own.
+pub(crate) type Inquires<'a, R> = Asks<
+    'a,
+    Waiting<'a, R, MessageWait<Plain<u64>>, Result<Plain<u64>, RecvError>>,
+>;
+
 /// The two ends of a oneshot, as tasks that were never polled.
-pub(crate) fn asking<'a, R: Wait + AllocGlobal>(
+pub(crate) fn asking<'a, R: Wait + AllocGlobal + Abort>(
     rt: &'a R,
     oneshots: &'a Oneshots,
-) -> Result<(Asks<'a, R>, Answers<'a>), AllocError>
-    ensures { IfOk result (λ ends. IsSome ends.0.answer.wait) }
+) -> (Inquires<'a, R>, Answers<'a>)
+    ensures { IsSome result.0.answer.wait }
 {
-    let Ok((sender, receiver)) = channel::<Plain<u64>, Bell>(rt.alloc()) else {
-        return Err(AllocError);
-    };
+    let (sender, receiver) = channel::<Plain<u64>, Bell>(rt.alloc()).expect(rt, "memory");
     let answers = Answers {
         sender: Some(sender),
         answered: &oneshots.answered,
     };
-    match wait(rt, rt.alloc(), MessageWait::new(receiver)) {
-        Ok(answer) => {
-            let asks = Asks {
-                answer,
-                got: &oneshots.got,
-            };
-            Ok((asks, answers))
-        }
-        Err(_) => Err(AllocError),
-    }
+    let answer = wait(rt, rt.alloc(), MessageWait::new(receiver)).expect(rt, "memory");
+    let asks = Asks {
+        answer,
+        got: &oneshots.got,
+    };
+    (asks, answers)
 }

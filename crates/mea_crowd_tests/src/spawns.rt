@@ -3,13 +3,14 @@ use crate::patience::Patience;
 use futures::Future;
 use futures::executor::TaskSet;
 use futures::task::{Context, Doorbell, Poll};
-use std::alloc::{AllocError, AllocGlobal};
+use std::alloc::AllocGlobal;
+use std::process::Abort;
 use std::random::RandomSource;
 use std::sync::Wait;
 use std::sync::atomic::AtomicU64;
 use std::sync::atomic::Ordering::SeqCst;
+use std::thread;
 use std::thread::Threads;
-use std::{io, thread};
 
 /// How many tasks were spawned, and how many have ended.
 #[derive(Drop)]
@@ -72,30 +73,27 @@ impl<'a, F: Future<Output = ()>> Future for Impatient<'a, F> {
 }
 
 /// Spawns a task with this much patience.
-pub(crate) fn spawn<'a, F: Future<Output = ()>>(
+pub(crate) fn spawn<'a, R: Abort, F: Future<Output = ()>>(
+    rt: &R,
     tasks: &TaskSet<Impatient<'a, F>>,
     tally: &'a Tally,
     task: F,
     patience: Patience,
-) -> Result<(), AllocError>
+)
     requires { F.can_poll task }
 {
-    match tasks.spawn(Impatient {
+    let impatient = Impatient {
         task,
         patience,
         tally,
-    }) {
-        Ok(()) => {
-            tally.spawned.fetch_add(1, SeqCst);
-            Ok(())
-        }
-        Err(_) => Err(AllocError),
-    }
+    };
+    assert!(rt; tasks.spawn(impatient).is_ok());
+    tally.spawned.fetch_add(1, SeqCst);
 }
 
 /// What tasks a set is given.
 pub(crate) trait Spawns<F: Future> {
-    fn spawn_on(self, tasks: &TaskSet<F>) -> Result<(), AllocError>;
+    fn spawn_on(self, tasks: &TaskSet<F>);
 }
 
 // Two of the four threads below.
@@ -124,15 +122,11 @@ fn four_workers<R: Wait + Threads + Sync, F: Future<Output = ()> + Send>(
 
 /// Four threads work at the tasks that are spawned, until none is left.
 pub(crate) fn on_four_threads<
-    R: Wait + Threads + Sync + RandomSource + AllocGlobal,
+    R: Wait + Threads + Sync + RandomSource + AllocGlobal + Abort,
     F: Future<Output = ()> + Send,
     S: Spawns<F> + Drop,
->(rt: &R, members: S) -> io::Result<()> {
-    let tasks = TaskSet::new(rt, Doorbell::parking(), 4)?;
-    let spawned = members.spawn_on(&tasks);
+>(rt: &R, members: S) {
+    let tasks = TaskSet::new(rt, Doorbell::parking(), 4).expect(rt, "memory");
+    members.spawn_on(&tasks);
     four_workers(rt, &tasks);
-    match spawned {
-        Ok(()) => Ok(()),
-        Err(error) => Err(io::Error::from(error)),
-    }
 }

@@ -1,42 +1,50 @@
-//! Tasks that any wait or any receiver may have.
-ghost use Rattle.std.specs.Prelude.{◌≡◌, None, Some, IsSomeAnd, IfNone, IfOk};
+//! Tasks that any wait or any receiver may have, generic in it: so the proof of a drop or a poll takes nothing apart.
+ghost use Rattle.std.specs.Prelude.{◌≡◌, None, IsSomeAnd, IfNone};
 
 use futures::task::{Context, Poll};
 use futures::{Future, Stream, ready};
-use mea::{End, Never, Waits};
-use mea_futures::{Bell, Holding, Kept, Receives, Receiving, wait};
-use std::alloc::{AllocError, AllocGlobal};
-use std::sync::Wait;
+use mea::{End, Never, PollFault, Waits};
+use mea_futures::{Bell, Holding, Kept, wait};
+use std::alloc::AllocGlobal;
+use std::process::Abort;
 use std::sync::atomic::AtomicU64;
 use std::sync::atomic::Ordering::SeqCst;
+use std::sync::{Arc, Wait};
 
-/// A task that waits for what has to be spent, yields with it, and ends it where it drops what it kept.
-#[derive(Drop)]
-pub(crate) struct Uses<'a, R: Wait, F: Waits<Bell, O>, O: End> {
-    turn: Holding<'a, R, F, O>,
-    held: Option<Kept<'a, R, O>>,
+/// A further share.
+pub(crate) fn share<T: Drop>(rt: &impl Abort, of: &Arc<T>) -> Arc<T> {
+    Arc::try_clone(of).expect(rt, "memory")
 }
 
-impl<'a, R: Wait + AllocGlobal, F: Waits<Bell, O>, O: End> Uses<'a, R, F, O> {
-    /// One that was never polled.
-    pub(crate) fn new(rt: &'a R, turn: F) -> Result<Self, AllocError>
-        requires { F.can_poll turn }
-        ensures { IfOk result (λ uses. (uses.held ≡ None) × (uses.turn.waiting.wait ≡ Some turn)) }
-    {
-        match wait(rt, rt.alloc(), turn) {
-            Ok(waiting) => Ok(Uses {
-                turn: waiting.holding(),
-                held: None,
-            }),
-            Err(_) => Err(AllocError),
-        }
+/// A task that waits for something, yields with it, and then drops it.
+#[derive(Drop)]
+pub(crate) struct Uses<F: Future, P> {
+    turn: F,
+    held: Option<P>,
+}
+
+/// A task that waits for what has to be spent, and ends it where it drops what it kept.
+pub(crate) type Spends<'a, R, F, O> = Uses<Holding<'a, R, F, O>, Kept<'a, R, O>>;
+
+/// One that was never polled.
+pub(crate) fn using<'a, R: Wait + AllocGlobal + Abort, F: Waits<Bell, O>, O: End>(
+    rt: &'a R,
+    turn: F,
+) -> Spends<'a, R, F, O>
+    requires { F.can_poll turn }
+    ensures { (result.held ≡ None) × IsSomeAnd result.turn.waiting.wait F.can_poll }
+{
+    let waiting = wait(rt, rt.alloc(), turn).expect(rt, "memory");
+    Uses {
+        turn: waiting.holding(),
+        held: None,
     }
 }
 
-impl<'a, R: Wait, F: Waits<Bell, O>, O: End> Future for Uses<'a, R, F, O> {
+impl<P: Drop, F: Future<Output = Result<P, PollFault>>> Future for Uses<F, P> {
     type Output = ();
 
-    ghost can_poll = { λ u. IfNone u.held (IsSomeAnd u.turn.waiting.wait F.can_poll) };
+    ghost can_poll = { λ u. IfNone u.held (F.can_poll u.turn) };
 
     fn poll(&mut self, cx: &mut Context<'_>) -> Poll<()> {
         if self.held.take().is_some() {
@@ -73,20 +81,25 @@ impl<O: Drop, F: Future<Output = O>> Future for Awaits<F> {
 
 /// A task that takes messages until no more come.
 #[derive(Drop)]
-pub(crate) struct Drains<'a, R: Wait, C: Receives<M>, M> {
-    pub(crate) stream: Receiving<'a, R, C, M>,
+pub(crate) struct Drains<'a, S: Stream> {
+    pub(crate) stream: S,
     pub(crate) taken: &'a AtomicU64,
 }
 
-impl<'a, R: Wait, C: Receives<M>, M: Drop> Future for Drains<'a, R, C, M> {
+impl<'a, M: Drop, S: Stream<Item = M>> Future for Drains<'a, S> {
     type Output = ();
 
+    ghost can_poll = { λ d. S.can_poll d.stream };
+
     fn poll(&mut self, cx: &mut Context<'_>) -> Poll<()> {
-        if ready!(self.stream.poll_next(cx)).is_none() {
-            return Poll::Ready(());
+        match self.stream.poll_next(cx) {
+            Poll::Ready(Some(_)) => {
+                self.taken.fetch_add(1, SeqCst);
+                cx.yield_now()
+            }
+            Poll::Ready(None) => Poll::Ready(()),
+            Poll::Pending => Poll::Pending,
         }
-        self.taken.fetch_add(1, SeqCst);
-        cx.yield_now()
     }
 }
 
