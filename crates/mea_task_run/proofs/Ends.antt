@@ -4,7 +4,7 @@ use Rattle.mea_family.specs.declared.stop.Stop.{Stop}
 use Rattle.mea_script.specs.declared.status.Status.{Status}
 use Rattle.mea_script.specs.declared.status.Status.TheVariants.{Done}
 use Rattle.mea_script.specs.Runs.{IsFault, IsCause}
-use Rattle.mea_script.specs.Told.{Told, told_by}
+use Rattle.mea_script.specs.Told.{told_by}
 use Rattle.mea_task_core.specs.Machine.{new_machine}
 use Rattle.mea_task_run.specs.declared.program.TaskProgram.{TaskProgram}
 use Rattle.mea_task_run.specs.Program.{program_of, steps_in, task_rules, tasks_of}

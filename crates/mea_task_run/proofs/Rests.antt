@@ -1,5 +1,5 @@
 -- the machine that a text tells of is at rest
-use Rattle.std.proofs.Common.{◌≡◌, ℕ, ◌+◌, ◌^◌, ◌<◌, ◌≤◌, ◌++◌, ◌==◌, Bool, true, false, cond, if◌then◌else◌, List, [], ◌∷◌, Option, Some, None, refl, ap, sym, subst, ◌∙◌, arith, length, take, nat_lt, length-take}
+use Rattle.std.proofs.Common.{◌≡◌, ℕ, ◌+◌, ◌^◌, ◌≤◌, ◌==◌, Bool, true, false, cond, if◌then◌else◌, List, [], ◌∷◌, Option, Some, None, refl, subst, arith, length, take, nat_lt, length-take}
 use Rattle.std.specs.List.{slice_split}
 use Rattle.std.proofs.lemmas.List.Splits.{length-slice_split}
 use Rattle.std.proofs.lemmas.List.Sums.{count_by-le-length}
@@ -8,9 +8,9 @@ use Rattle.mea_text.proofs.Readings.{some_same}
 use Rattle.mea_script.specs.declared.status.Status.TheVariants.{Done}
 use Rattle.mea_script.specs.Lines.{limit, is_long, lines_of, last_line, lines_among}
 use Rattle.mea_script.specs.Rules.{event_at}
-use Rattle.mea_script.specs.Told.{Told, told_line, told_from, told_by}
+use Rattle.mea_script.specs.Told.{told_line, told_from, told_by}
 use Rattle.mea_task_core.specs.declared.step.Step.{Step as TaskStep}
-use Rattle.mea_task_core.specs.Machine.{Machine, moves, new_machine}
+use Rattle.mea_task_core.specs.Machine.{Machine}
 use Rattle.mea_task_core.specs.Bounds.{work}
 use Rattle.mea_task_core.specs.Settled.{run_out}
 use Rattle.mea_task_core.specs.Sound.{IsSound}

@@ -1,5 +1,5 @@
 -- each line has one spelling
-use Rattle.std.proofs.Common.{◌≡◌, ℕ, ◌++◌, true, List, ◌∷◌, Some, refl, ap, sym, ◌∙◌, append-nil, option_and_then, rules}
+use Rattle.std.proofs.Common.{◌≡◌, ℕ, ◌++◌, true, List, Some, refl, ap, sym, ◌∙◌, append-nil, option_and_then, rules}
 use Rattle.std.proofs.lemmas.Option.{option_and_then_some}
 use Rattle.mea_text.specs.declared.numbers.Numbers.{Numbers}
 use Rattle.mea_text.specs.declared.numbers.Numbers.TheVariants.{Bare}
