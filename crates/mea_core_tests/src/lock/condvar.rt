@@ -251,8 +251,19 @@ fn every_stage(rt: HostRuntime) {
     assert_eq!(rt; differs_at(Room::new(rt.alloc()), &script), None);
 }
 
-// A poll of a wait with a condition, by the call that asks for a wait that may be polled or by the one that
-// asks for nothing.
+// A poll of a wait with a condition, by the call that asks for nothing.
+fn while_checked<F: FnMut(&mut u64) -> bool>(
+    room: &mut Room,
+    wait: &mut WaitWhile<F>,
+    waker: u64,
+) -> Option<Told>
+    requires { F.IsAlwaysCallable wait.old.condition }
+    ensures { F.IsAlwaysCallable wait.new.condition }
+{
+    Told::turned(room.condvar.poll_while_checked(&mut room.lock, wait, waker))
+}
+
+// The same, or by the call that asks for a wait that may be polled.
 fn while_polled<F: FnMut(&mut u64) -> bool>(
     room: &mut Room,
     wait: &mut WaitWhile<F>,
@@ -262,12 +273,13 @@ fn while_polled<F: FnMut(&mut u64) -> bool>(
     requires { F.IsAlwaysCallable wait.old.condition }
     ensures { F.IsAlwaysCallable wait.new.condition }
 {
-    let polled = if checked || !room.condvar.poll_while_allowed(&room.lock, wait) {
-        room.condvar.poll_while_checked(&mut room.lock, wait, waker)
-    } else {
-        room.condvar.poll_while(&mut room.lock, wait, waker)
-    };
-    Told::turned(polled)
+    if checked {
+        return while_checked(room, wait, waker);
+    }
+    if !room.condvar.poll_while_allowed(&room.lock, wait) {
+        return None;
+    }
+    Told::turned(room.condvar.poll_while(&mut room.lock, wait, waker))
 }
 
 // The place of the first call that tells something else than stands beside it. None is a poll of a wait that goes on while
