@@ -10,11 +10,8 @@ use mea_futures::{Bell, TakeError, take, take_before, wait};
 use mea_link::latch::Latch;
 use mea_sync::semaphore::Semaphore;
 use mea_wait::PollFault;
-use std::alloc::AllocGlobal;
 use std::process::Abort;
-use std::random::RandomSource;
 use std::sync::{Arc, Wait};
-use std::thread::Threads;
 use std::{io, thread};
 
 // Two waits of one latch are joined on a thread, while another thread counts it down.
@@ -24,29 +21,17 @@ fn two_waits_of_a_latch_are_joined(rt: HostRuntime) {
         let latch = Latch::new(rt.alloc(), 2);
         let first = wait(&rt, rt.alloc(), latch.wait()).expect(&rt, "memory");
         let second = wait(&rt, rt.alloc(), latch.wait()).expect(&rt, "memory");
-        let answers = joined(&rt, &latch, first, second).expect(&rt, "memory");
-        assert!(rt; answers == (Ok(()), Ok(())));
+        let both = join(first, second);
+        let (answers, ()) = thread::join(
+            &rt,
+            || block_on(&rt, both),
+            || {
+                latch.count_down(&rt);
+                latch.count_down(&rt);
+            },
+        );
+        assert!(rt; matches!(answers, Ok((Ok(()), Ok(())))));
     }
-}
-
-// What both come to, while another thread counts the latch down to nothing.
-fn joined<
-    R: Wait + Threads + RandomSource + AllocGlobal + Sync,
-    F: Future<Output = Result<(), PollFault>> + Send,
->(rt: &R, latch: &Latch<Bell>, first: F, second: F) -> io::Result<(F::Output, F::Output)>
-    requires first { F.can_poll first }
-    requires second { F.can_poll second }
-{
-    let both = join(first, second);
-    let (answers, ()) = thread::join(
-        rt,
-        || block_on(rt, both),
-        || {
-            latch.count_down(rt);
-            latch.count_down(rt);
-        },
-    );
-    answers
 }
 
 // Permits are taken by a thread that waits, and not past a deadline or a close.
