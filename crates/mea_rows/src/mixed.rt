@@ -1,6 +1,7 @@
 use crate::rows::{Row, check_rows};
 use mea_family::Stop;
 use mea_run::Status;
+use std::test::Fail;
 
 // The texts are those of a driver over the real crate.
 const ROWS: &[Row] = &[
@@ -22,6 +23,6 @@ const ROWS: &[Row] = &[
 ];
 
 #[test]
-fn all_families_in_one_script(rt: HostRuntime) {
-    check_rows(&rt, ROWS);
+fn all_families_in_one_script(rt: HostRuntime) -> Result<(), Fail> {
+    check_rows(&rt, ROWS)
 }

@@ -1,6 +1,7 @@
 use crate::rows::{Row, check_rows};
 use mea_family::Stop;
 use mea_run::Status;
+use std::test::Fail;
 
 const CAUSES: &[Row] = &[
     // Too many permits.
@@ -156,11 +157,11 @@ const LINES: &[Row] = &[
 ];
 
 #[test]
-fn events_are_refused_for_their_causes(rt: HostRuntime) {
-    check_rows(&rt, CAUSES);
+fn events_are_refused_for_their_causes(rt: HostRuntime) -> Result<(), Fail> {
+    check_rows(&rt, CAUSES)
 }
 
 #[test]
-fn lines_have_one_spelling(rt: HostRuntime) {
-    check_rows(&rt, LINES);
+fn lines_have_one_spelling(rt: HostRuntime) -> Result<(), Fail> {
+    check_rows(&rt, LINES)
 }

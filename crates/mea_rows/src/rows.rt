@@ -1,5 +1,7 @@
-use mea_run::{Sink, Source, Status, SureSink, SureSource, run};
+use mea_run::{Status, SureSink, SureSource, run};
+use std::alloc::{AllocError, Global};
 use std::process::Abort;
+use std::test::Fail;
 
 /// A script with its text and its status. A slash stands for a newline, and each ends with one.
 pub(crate) struct Row {
@@ -9,44 +11,34 @@ pub(crate) struct Row {
 }
 
 /// The bytes of a script or of a text.
-pub(crate) fn bytes_of(rt: &(impl Abort + AllocGlobal), text: &str) -> Vec<u8> {
-    let mut bytes = Vec::from_slice(rt.alloc(), text.as_bytes()).expect(rt, "memory");
+pub(crate) fn bytes_of(alloc: Global, text: &str) -> Result<Vec<u8>, AllocError> {
+    let mut bytes = Vec::from_slice(alloc, text.as_bytes())?;
     for byte in bytes.iter_mut() {
         if *byte == b'/' {
             *byte = b'\n';
         }
     }
-    bytes.push(b'\n').expect(rt, "memory");
-    bytes
+    bytes.push(b'\n')?;
+    Ok(bytes)
 }
 
 /// The words of a command line.
-fn words_of(rt: &(impl Abort + AllocGlobal), words: &[&str]) -> Vec<String> {
-    let mut owned = Vec::new(rt.alloc());
+pub(crate) fn words_of(alloc: Global, words: &[&str]) -> Result<Vec<String>, AllocError> {
+    let mut owned = Vec::new(alloc);
     for word in words {
-        let word = String::from_str(rt.alloc(), word).expect(rt, "memory");
-        owned.push(word).expect(rt, "memory");
+        owned.push(String::from_str(alloc, word)?)?;
     }
-    owned
-}
-
-/// Runs the words. It has no clauses, so that no test carries what `run` promises of a script.
-pub(crate) fn ran<S: Source, K: Sink>(
-    rt: &(impl Abort + AllocGlobal),
-    words: &[&str],
-    source: &mut S,
-    sink: &mut K,
-) -> Status {
-    let words = words_of(rt, words);
-    run(rt.alloc(), words.as_slice(), source, sink)
+    Ok(owned)
 }
 
 /// Plays each script, a few bytes at a time.
-pub(crate) fn check_rows(rt: &(impl Abort + AllocGlobal), rows: &[Row]) {
+pub(crate) fn check_rows(rt: &(impl Abort + AllocGlobal), rows: &[Row]) -> Result<(), Fail> {
     for row in rows {
-        let text = bytes_of(rt, row.text);
-        check(rt, bytes_of(rt, row.script), text.as_slice(), &row.status);
+        let script = bytes_of(rt.alloc(), row.script)?;
+        let text = bytes_of(rt.alloc(), row.text)?;
+        check(rt, script, text.as_slice(), &row.status)?;
     }
+    Ok(())
 }
 
 /// Plays one script, a few bytes at a time.
@@ -55,10 +47,12 @@ pub(crate) fn check(
     script: Vec<u8>,
     text: &[u8],
     status: &Status,
-) {
+) -> Result<(), Fail> {
+    let words = words_of(rt.alloc(), &["play"])?;
     let mut source = SureSource::new(script, 5);
     let mut sink = SureSink::new(rt.alloc(), 3);
-    let told = ran(rt, &["play"], &mut source, &mut sink);
+    let told = run(rt.alloc(), words.as_slice(), &mut source, &mut sink);
     assert_eq!(rt; sink.bytes(), text);
     assert!(rt; told == *status);
+    Ok(())
 }
