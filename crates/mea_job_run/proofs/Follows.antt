@@ -1,24 +1,20 @@
 -- what a core keeps follows the record, line by line
-use Rattle.std.proofs.Common.{◌≡◌, ℕ, ◌+◌, ◌≤◌, ◌++◌, Bool, true, false, List, [], Option, Some, None, option_to_list, is_some, if◌then◌else◌, refl, ap, sym, subst, ◌∙◌, arith}
-use Rattle.std.specs.FinMap.{get, len}
+use Rattle.std.proofs.Common.{◌≡◌, ℕ, ◌+◌, ◌≤◌, List, [], Option, Some, None, refl, ap, sym, subst, ◌∙◌, arith}
 use Rattle.mea_family.specs.declared.stop.Stop.{Stop}
 use Rattle.mea_script.specs.Runs.{IsCause}
 use Rattle.mea_script.specs.Told.{told_by}
 use Rattle.mea_script.proofs.Events.{AreAlike, same_told, of_script}
-use Rattle.mea_job_core.specs.Calls as call
-use Rattle.mea_job_core.specs.Calls.{Call, number_given, IsNewFor, IsNewIn, next_after, called, called_on, submits_on, AddsAtMostOne}
-use Rattle.mea_job_core.specs.declared.submit_error.SubmitError.{SubmitError}
+use Rattle.mea_job_core.specs.Calls.{number_given, IsNewFor, IsNewIn, next_after, called}
 use Rattle.mea_job_core.specs.Record.{Record, new_record, kept_of}
-use Rattle.mea_job_core.specs.Runs.{Becomes, History, Begins, Goes, NextWake}
-use Rattle.mea_job_core.specs.Service.{Service, new_service, first_waker, refusal_of, is_over, is_full, is_running, is_queued, told, with_result, after_finish, after_recall, after_stop, after_submit}
-use Rattle.mea_job_core.specs.Work.{halted, recalled}
-use Rattle.mea_job_core.proofs.Calls.{IsHistory, Leads, leads, new_in, same_call, same_answer, kept_new}
+use Rattle.mea_job_core.specs.Runs.{Begins, Goes, NextWake}
+use Rattle.mea_job_core.specs.Service.{Service, new_service, first_waker}
+use Rattle.mea_job_core.proofs.Calls.{IsHistory, leads, new_in, same_call, same_answer, kept_new}
 use Rattle.mea_job_core.proofs.Histories.{below, becomes, in_order}
 use Rattle.mea_job_core.proofs.Settles.{settles}
 use Rattle.mea_job_run.specs.declared.event.JobEvent.{JobEvent}
 use Rattle.mea_job_run.specs.declared.event.JobEvent.TheVariants.{Job, Finish, Recall, Take, Back, Poll, Count}
 use Rattle.mea_job_run.specs.declared.event.JobEvent.TheVariants as event
-use Rattle.mea_job_run.specs.Rules.{call_of, after_call, reply_in, job_rules, left_by, reply_of, core_rules, jobs_told}
+use Rattle.mea_job_run.specs.Rules.{call_of, after_call, job_rules, core_rules, jobs_told}
 use Rattle.mea_job_run.specs.Runs.{IsOrderly, AreOrderly}
 use Rattle.mea_job_run.specs.Text.{reply_text}
 

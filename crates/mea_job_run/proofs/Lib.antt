@@ -1,5 +1,4 @@
 pub mod Puts
 pub mod Follows
 pub mod Quiet
-pub mod Said
 pub mod Sizes

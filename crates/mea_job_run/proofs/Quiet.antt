@@ -1,11 +1,11 @@
 -- the wakers that are ready, and the next number, after a call on what a core keeps
-use Rattle.std.proofs.Common.{◌≡◌, ℕ, ◌+◌, ◌≤◌, ◌++◌, Bool, true, false, List, [], ◌∷◌, Option, Some, None, option_to_list, is_some, IfSome, IfNone, if◌then◌else◌, refl, ap, sym, subst, ◌∙◌, arith}
-use Rattle.std.specs.FinMap.{get, len}
+use Rattle.std.proofs.Common.{◌≡◌, ℕ, ◌+◌, ◌≤◌, ◌++◌, Bool, true, false, List, [], ◌∷◌, Option, Some, None, option_to_list, IfSome, IfNone, if◌then◌else◌, refl, ap, sym, subst, ◌∙◌, arith}
+use Rattle.std.specs.FinMap.{len}
 use Rattle.mea_job_core.specs.Calls as call
-use Rattle.mea_job_core.specs.Calls.{Call, called_on, submits_on, AddsAtMostOne}
+use Rattle.mea_job_core.specs.Calls.{submits_on, AddsAtMostOne}
 use Rattle.mea_job_core.specs.declared.submit_error.SubmitError.{SubmitError}
 use Rattle.mea_job_core.specs.declared.submit_error.SubmitError.TheVariants as submit
-use Rattle.mea_job_core.specs.Service.{Service, first_waker, RefusedBy, refusal_of, is_over, is_full, is_running, is_queued, told, with_result, after_finish, after_recall, after_stop, after_submit}
+use Rattle.mea_job_core.specs.Service.{Service, first_waker, RefusedBy, refusal_of, is_over, is_full, is_running, is_queued, told, with_result, after_recall, after_submit}
 use Rattle.mea_job_core.specs.Work.{ended, halted, recalled}
 use Rattle.mea_job_run.specs.declared.event.JobEvent.{JobEvent}
 use Rattle.mea_job_run.specs.declared.event.JobEvent.TheVariants.{Job, Finish, Recall, Take, Back, Stop, Poll, Count}

@@ -1,5 +1,5 @@
 -- what a service makes of the lines of a script, by its record
-use Rattle.std.specs.Prelude.{ℕ, ◌+◌, List, [], None}
+use Rattle.std.specs.Prelude.{ℕ, List, [], None}
 use Rattle.mea_script.specs.Rules.{Rules}
 use Rattle.mea_script.specs.Told.{Told, told_by}
 use Rattle.mea_job_core.specs.Calls as call
