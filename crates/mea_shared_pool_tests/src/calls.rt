@@ -62,7 +62,10 @@ fn a_drain_ends_with_the_last_lease(rt: HostRuntime) {
     let two = count(rt.alloc()).expect(&rt, "memory");
     let pool = pool(&rt, 1);
     drains(&rt, &pool, &one, &two);
-    let resources = pool.into_resources().ok().expect(&rt, "a pool that is drained");
+    let resources = pool
+        .into_resources()
+        .ok()
+        .expect(&rt, "a pool that is drained");
     assert_eq!(&rt; resources.as_slice(), [30].as_slice());
 }
 
@@ -115,9 +118,15 @@ fn owns<R: Wait + Abort>(rt: &R, pool: &Arc<Pool<u64, Bell>>, bell: &Count) {
 #[test]
 fn resources_come_back_once_drained(rt: HostRuntime) {
     let pool: Pool<u64, Bell> = pool(&rt, 2);
-    let back = pool.into_resources().err().expect(&rt, "a pool that is not drained");
+    let back = pool
+        .into_resources()
+        .err()
+        .expect(&rt, "a pool that is not drained");
     back.drain(&rt);
-    let resources = back.into_resources().ok().expect(&rt, "a pool that is drained");
+    let resources = back
+        .into_resources()
+        .ok()
+        .expect(&rt, "a pool that is drained");
     assert_eq!(&rt; resources.as_slice(), [10, 11].as_slice());
 }
 

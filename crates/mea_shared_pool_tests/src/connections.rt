@@ -42,7 +42,11 @@ fn serve<R: Wait + RandomSource + AllocGlobal + Abort, D: Future<Output = ()>>(
 {
     let share = Arc::try_clone(pool).expect(rt, "memory");
     let asked = wait(rt, rt.alloc(), share.get_owned()).expect(rt, "memory");
-    match asked.try_holding().block_before(deadline).expect(rt, "memory") {
+    match asked
+        .try_holding()
+        .block_before(deadline)
+        .expect(rt, "memory")
+    {
         Some(Ok(Ok(lease))) => {
             query(lease);
             Served::Done

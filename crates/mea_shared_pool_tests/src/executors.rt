@@ -35,8 +35,13 @@ fn asking<'a, R: Wait + AllocGlobal + Abort>(
 #[test]
 fn a_select_gives_the_wait_up(rt: HostRuntime) {
     let pool = Arc::new(rt.alloc(), pool(&rt, 1)).expect(&rt, "memory");
-    let held = Kept::new(&rt, share(&rt, &pool).try_get_owned(&rt).expect(&rt, "a lease"));
-    let lost = asking(&rt, &pool).block_before(ready(())).expect(&rt, "memory");
+    let held = Kept::new(
+        &rt,
+        share(&rt, &pool).try_get_owned(&rt).expect(&rt, "a lease"),
+    );
+    let lost = asking(&rt, &pool)
+        .block_before(ready(()))
+        .expect(&rt, "memory");
     assert!(rt; lost.is_none());
     drop(held);
     let got = asking(&rt, &pool).block().expect(&rt, "memory");
@@ -50,7 +55,10 @@ fn a_select_gives_the_wait_up(rt: HostRuntime) {
 fn a_time_limit_gives_the_wait_up(rt: HostRuntime) {
     let one = MockTask::new(&rt).expect(&rt, "memory");
     let pool = Arc::new(rt.alloc(), pool(&rt, 1)).expect(&rt, "memory");
-    let held = Kept::new(&rt, share(&rt, &pool).try_get_owned(&rt).expect(&rt, "a lease"));
+    let held = Kept::new(
+        &rt,
+        share(&rt, &pool).try_get_owned(&rt).expect(&rt, "a lease"),
+    );
     let start = Instant::now(&rt).expect(&rt, "the time");
     let mut driver = Driver::new(rt.alloc(), start).expect(&rt, "memory");
     let timed = driver
@@ -60,7 +68,15 @@ fn a_time_limit_gives_the_wait_up(rt: HostRuntime) {
     let late = start
         .checked_add(Duration::from_secs(3600))
         .expect(&rt, "an hour is no great time");
-    gives_up(&rt, &one, &mut driver, late, timed, asking(&rt, &pool), held);
+    gives_up(
+        &rt,
+        &one,
+        &mut driver,
+        late,
+        timed,
+        asking(&rt, &pool),
+        held,
+    );
     assert!(rt; pool.idle(&rt) == 1);
 }
 

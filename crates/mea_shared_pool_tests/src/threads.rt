@@ -36,7 +36,8 @@ fn asks<R: Wait>(rt: &R, place: &Place, turns: u64) {
 
 // How many polls a wait has, by the numbers of its thread and of its turn, which are mixed: none to six, or as many as it takes.
 fn patience(thread: u64, turn: u64) -> u64 {
-    let mixed = (thread.wrapping_mul(1000).wrapping_add(turn)).wrapping_mul(0x9e37_79b9_7f4a_7c15) >> 40;
+    let mixed = (thread.wrapping_mul(1000).wrapping_add(turn)).wrapping_mul(0x9e37_79b9_7f4a_7c15)
+        >> 40;
     match mixed % 8 {
         7 => 1_000_000,
         few => few,
@@ -83,7 +84,9 @@ fn added(resources: &[u64]) -> Option<u64> {
 #[test]
 fn waits_given_up_lose_no_resource(rt: HostRuntime) {
     let rung = count(rt.alloc()).expect(&rt, "memory");
-    let resources = vec![in rt.alloc(); 10_000_000u64, 20_000_000, 30_000_000].expect(&rt, "memory");
+    let resources = vec![in rt.alloc(); 10_000_000u64, 20_000_000, 30_000_000].expect(
+        &rt, "memory",
+    );
     let pool = Pool::new(rt.alloc(), resources).ok().expect(&rt, "memory");
     let place = Place {
         pool,
@@ -94,9 +97,16 @@ fn waits_given_up_lose_no_resource(rt: HostRuntime) {
     assert!(rt; place.pool.idle(&rt) == 3);
     place.pool.drain(&rt);
     assert!(rt; place.pool.is_drained(&rt));
-    let Place { pool, rung: _, leases } = place;
+    let Place {
+        pool,
+        rung: _,
+        leases,
+    } = place;
     let leases = leases.load(SeqCst);
-    let resources = pool.into_resources().ok().expect(&rt, "a pool that is drained");
+    let resources = pool
+        .into_resources()
+        .ok()
+        .expect(&rt, "a pool that is drained");
     assert!(rt; leases > 0 && added(resources.as_slice()) == Some(leases));
 }
 
