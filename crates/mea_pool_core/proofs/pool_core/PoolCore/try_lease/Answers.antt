@@ -11,8 +11,8 @@ lend-requires g c =
     tried_room c.self.inside.shelf c.self.inside.places c.try_take.new.self c.self.inside.gate c.self.invariant
     (subst (λ (b : Bool). TriesPlace c.self.inside.places b c.try_take.new.self) c.if-not-try_take.false c.try_take.ensures)
 
-pub invariant_of-self-then-not-try_take : goal.invariant_of-self-then-not-try_take
-invariant_of-self-then-not-try_take g c =
+pub invariant_of-self : goal.invariant_of-self
+invariant_of-self g c =
     (tried_none c.self.inside.shelf c.self.inside.places c.try_take.new.self c.self.inside.gate c.self.invariant
     (subst (λ (b : Bool). TriesPlace c.self.inside.places b c.try_take.new.self) c.if-not-try_take.true c.try_take.ensures)).0
 
@@ -22,8 +22,8 @@ returns-then-not-try_take g c =
     (tried_none c.self.inside.shelf c.self.inside.places c.try_take.new.self c.self.inside.gate c.self.invariant
     (subst (λ (b : Bool). TriesPlace c.self.inside.places b c.try_take.new.self) c.if-not-try_take.true c.try_take.ensures)).1
 
-pub invariant_of-self : goal.invariant_of-self
-invariant_of-self g c =
+pub invariant_of-self-2 : goal.invariant_of-self-2
+invariant_of-self-2 g c =
     (tried_got c.self.inside.shelf c.lend.new.self c.self.inside.places c.try_take.new.self c.self.inside.gate c.lend.result c.self.invariant
     (subst (λ (b : Bool). TriesPlace c.self.inside.places b c.try_take.new.self) c.if-not-try_take.false c.try_take.ensures) c.lend.ensures).0
 
