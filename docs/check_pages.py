@@ -186,9 +186,9 @@ def faults(path, known):
 
 def main():
     asked = [pathlib.Path(name).resolve() for name in sys.argv[1:]]
-    pages = asked or sorted(TOP.glob("*.md")) + sorted((TOP / "docs").glob("*.md"))
+    pages = asked or [*TOP.glob("*.md"), *(TOP / "docs").glob("*.md"), *(TOP / "examples").glob("*.md")]
     told, known = 0, {}
-    for path in pages:
+    for path in sorted(pages):
         for number, fault in faults(path, known):
             print(f"{path.relative_to(TOP)}:{number}: {fault}")
             told += 1
