@@ -22,7 +22,7 @@ use Rattle.mea_pool_run.proofs.Queueing.{Line, line_none, line_put, line_gone, e
 
 -- ---- how many places are taken
 
-takes : ℕ → Live → ℕ
+abbrev takes : ℕ → Live → ℕ
 takes f (asks true) = 1
 takes f (asks false) = 0
 takes f awaits = 0
@@ -82,10 +82,10 @@ abbrev Ungranted : Names Live → Names Live → Type 0
 Ungranted things things' = (f : ℕ) → get things f ≡ Some (asks false) → get things' f ≡ Some (asks true) → ⊥
 
 both_asks : (o : Option Live) → o ≡ Some (asks false) → o ≡ Some (asks true) → ⊥
-both_asks o no yes = let same : Some (asks false) ≡ Some (asks true) = sym no ∙ yes in absurd (cc)
+both_asks o waits granted = let same : Some (asks false) ≡ Some (asks true) = sym waits ∙ granted in absurd (cc)
 
 ungranted_same : (things : Names Live) → Ungranted things things
-ungranted_same things f no yes = both_asks (get things f) no yes
+ungranted_same things f waits granted = both_asks (get things f) waits granted
 
 ungranted_put : (things : Names Live) (k : ℕ) (x : Live) → (Some x ≡ Some (asks true) → ⊥) → Ungranted things (insert things k x)
 ungranted_put things k x other f = by_put things k x (λ q o. get things q ≡ Some (asks false) → o ≡ Some (asks true) → ⊥) (λ no yes. other yes) (λ q apart no yes. both_asks (get things q) no yes) f
@@ -296,9 +296,9 @@ gets_one s n f w taken b (l ∷ rest) shelf here more nobody same kept =
             omega arith
 
     which : (g v : ℕ) → Poll f w ≡ Poll g v → get s.things g ≡ Some (asks false) → b ≡ false
-    which g v is no =
+    which g v is asks_still =
         let same : f ≡ g = cc in
-        let both : Some (asks b) ≡ Some (asks false) = sym here ∙ ap (λ (k : ℕ). get s.things k) same ∙ no in
+        let both : Some (asks b) ≡ Some (asks false) = sym here ∙ ap (λ (k : ℕ). get s.things k) same ∙ asks_still in
         cc
 
 -- ---- a wait for a lease is polled
@@ -499,13 +499,13 @@ unlent s n kept none slot f h =
     let was : s.taken ≡ taken_in s.things = kept.taken in
     absurd (omega arith)
 
-none_count : (lent : List Bool) → ((slot : ℕ) → is_lent lent slot ≡ false) → lent_count lent ≡ 0
+none_count : (marks : List Bool) → ((slot : ℕ) → is_lent marks slot ≡ false) → lent_count marks ≡ 0
 none_count [] none = refl
-none_count (b ∷ lent) none = first b (none 0) (none_count lent (λ slot. none (suc slot)))
+none_count (b ∷ marks) none = first b (none 0) (none_count marks (λ slot. none (suc slot)))
   where
-    first : (c : Bool) → c ≡ false → lent_count lent ≡ 0 → lent_count (c ∷ lent) ≡ 0
-    first true no rest = absurd (cc)
-    first false no rest = rest
+    first : (c : Bool) → c ≡ false → lent_count marks ≡ 0 → lent_count (c ∷ marks) ≡ 0
+    first true is rest = absurd (cc)
+    first false is rest = rest
 
 all_idle : (s : Hall) (n : ℕ) → Keeps s n → s.taken ≡ 0 → length s.shelf ≡ s.size
 all_idle s n kept none =
@@ -516,8 +516,8 @@ all_idle s n kept none =
     omega arith
   where
     by_flag : (slot : ℕ) → (is_lent kept.lends.lent slot ≡ true) ⊎ (is_lent kept.lends.lent slot ≡ false) → is_lent kept.lends.lent slot ≡ false
-    by_flag slot (inl yes) = let home = kept.lends.home slot yes in absurd (unlent s n kept none slot home.0 home.1)
-    by_flag slot (inr no) = no
+    by_flag slot (inl is) = let home = kept.lends.home slot is in absurd (unlent s n kept none slot home.0 home.1)
+    by_flag slot (inr is) = is
 
 orderly : (s : Hall) (n : ℕ) (e : PoolEvent) → Keeps s n → IsOrderly s n e (outcome s n e).hall
 orderly s n e kept =

@@ -24,8 +24,8 @@ nobody_some : (q : Waiting) (f : ℕ) → waker_for q f ≡ None → IsSome (wak
 nobody_some q f none some = let both : false ≡ true = sym (ap (λ (o : Option ℕ). is_some o) none) ∙ some in absurd (cc)
 
 none_of : (o : Option ℕ) → (IsSome o → ⊥) → o ≡ None
-none_of None no = refl
-none_of (Some x) no = absurd (no refl)
+none_of None nothing = refl
+none_of (Some x) nothing = absurd (nothing refl)
 
 pub line_none : (things : Names Live) → Line [] things
 line_none things = record { asking = λ f some. absurd (cc); apart = tt }
@@ -52,11 +52,11 @@ elsewhere q things k line other = none_of (waker_for q k) (λ some. other (line.
 
 apart_registering : (q : Waiting) (f w : ℕ) → AreApart q → AreApart (registering q f w)
 apart_registering [] f w apart = (refl, tt)
-apart_registering (e ∷ q) f w apart = by_test (e.0 == f) refl
+apart_registering (e ∷ q) f w apart = by_test (e.0 == f) refl (apart_registering q f w apart.1)
   where
-    by_test : (b : Bool) → (e.0 == f) ≡ b → AreApart (cond b ((e.0, w) ∷ q) (e ∷ registering q f w))
-    by_test true is = apart
-    by_test false is = (registering-other q f w e.0 (λ same. let yes = eq-eqb e.0 f (sym same) in let both : true ≡ false = sym yes ∙ is in absurd (cc)) ∙ apart.0, apart_registering q f w apart.1)
+    by_test : (b : Bool) → (e.0 == f) ≡ b → AreApart (registering q f w) → AreApart (cond b ((e.0, w) ∷ q) (e ∷ registering q f w))
+    by_test true is rest = apart
+    by_test false is rest = (registering-other q f w e.0 (λ same. let yes = eq-eqb e.0 f (sym same) in let both : true ≡ false = sym yes ∙ is in absurd (cc)) ∙ apart.0, rest)
 
 pub line_registering : (q : Waiting) (things : Names Live) (f w : ℕ) → get things f ≡ Some (asks false) → Line q things → Line (registering q f w) things
 line_registering q things f w here line = record {
@@ -69,19 +69,19 @@ line_registering q things f w here line = record {
 
 gone_waker : (q : Waiting) (f : ℕ) → waker_for (without q f) f ≡ None
 gone_waker [] f = refl
-gone_waker (e ∷ q) f = by_test (e.0 == f) refl
+gone_waker (e ∷ q) f = by_test (e.0 == f) refl (gone_waker q f)
   where
-    by_test : (b : Bool) → (e.0 == f) ≡ b → waker_for (cond b (without q f) (e ∷ without q f)) f ≡ None
-    by_test true is = gone_waker q f
-    by_test false is = ap (λ b. cond b (Some e.1) (waker_for (without q f) f)) is ∙ gone_waker q f
+    by_test : (b : Bool) → (e.0 == f) ≡ b → waker_for (without q f) f ≡ None → waker_for (cond b (without q f) (e ∷ without q f)) f ≡ None
+    by_test true is rest = rest
+    by_test false is rest = ap (λ b. cond b (Some e.1) (waker_for (without q f) f)) is ∙ rest
 
 apart_without : (q : Waiting) (f : ℕ) → AreApart q → AreApart (without q f)
 apart_without [] f apart = tt
-apart_without (e ∷ q) f apart = by_test (e.0 == f) refl
+apart_without (e ∷ q) f apart = by_test (e.0 == f) refl (apart_without q f apart.1)
   where
-    by_test : (b : Bool) → (e.0 == f) ≡ b → AreApart (cond b (without q f) (e ∷ without q f))
-    by_test true is = apart_without q f apart.1
-    by_test false is = (without-other q f e.0 (λ same. let yes = eq-eqb e.0 f (sym same) in let both : true ≡ false = sym yes ∙ is in absurd (cc)) ∙ apart.0, apart_without q f apart.1)
+    by_test : (b : Bool) → (e.0 == f) ≡ b → AreApart (without q f) → AreApart (cond b (without q f) (e ∷ without q f))
+    by_test true is rest = rest
+    by_test false is rest = (without-other q f e.0 (λ same. let yes = eq-eqb e.0 f (sym same) in let both : true ≡ false = sym yes ∙ is in absurd (cc)) ∙ apart.0, rest)
 
 pub line_without : (q : Waiting) (things : Names Live) (f : ℕ) → Line q things → Line (without q f) (remove things f)
 line_without q things f line = record {
@@ -119,11 +119,11 @@ some_part xs ys part = ([], omega arith, subst (λ (zs : List ℕ). IsPart xs zs
 
 part_without : (q : Waiting) (f : ℕ) → IsPart (names (without q f)) (names q)
 part_without [] f = tt
-part_without (e ∷ q) f = by_test (e.0 == f)
+part_without (e ∷ q) f = by_test (e.0 == f) (part_without q f)
   where
-    by_test : (b : Bool) → IsPart (names (cond b (without q f) (e ∷ without q f))) (e.0 ∷ names q)
-    by_test true = longer_part (names (without q f)) (names q) e.0 (part_without q f)
-    by_test false = inl (refl, part_without q f)
+    by_test : (b : Bool) → IsPart (names (without q f)) (names q) → IsPart (names (cond b (without q f) (e ∷ without q f))) (e.0 ∷ names q)
+    by_test true rest = longer_part (names (without q f)) (names q) e.0 rest
+    by_test false rest = inl (refl, rest)
 
 pub order_same : (q : Waiting) → (new : List ℕ) × (length new ≤ 1) × IsPart (names q) (names q ++ new)
 order_same q = some_part (names q) (names q) (all_part (names q))
@@ -146,11 +146,11 @@ more_part (x ∷ xs) (z ∷ zs) ys (inr rest) = inr (more_part (x ∷ xs) zs ys 
 -- who is new stands last
 part_last : (q : Waiting) (f w : ℕ) → IsPart (names (registering q f w)) (names q ++ f ∷ [])
 part_last [] f w = inl (refl, tt)
-part_last (e ∷ q) f w = by_test (e.0 == f)
+part_last (e ∷ q) f w = by_test (e.0 == f) (part_last q f w)
   where
-    by_test : (b : Bool) → IsPart (names (cond b ((e.0, w) ∷ q) (e ∷ registering q f w))) (e.0 ∷ (names q ++ f ∷ []))
-    by_test true = inl (refl, more_part (names q) (names q) (f ∷ []) (all_part (names q)))
-    by_test false = inl (refl, part_last q f w)
+    by_test : (b : Bool) → IsPart (names (registering q f w)) (names q ++ f ∷ []) → IsPart (names (cond b ((e.0, w) ∷ q) (e ∷ registering q f w))) (e.0 ∷ (names q ++ f ∷ []))
+    by_test true rest = inl (refl, more_part (names q) (names q) (f ∷ []) (all_part (names q)))
+    by_test false rest = inl (refl, rest)
 
 pub order_last : (q : Waiting) (f w : ℕ) → (new : List ℕ) × (length new ≤ 1) × IsPart (names (registering q f w)) (names q ++ new)
 order_last q f w = (f ∷ [], omega arith, part_last q f w)

@@ -2,7 +2,6 @@ ghost use Rattle.std.specs.Prelude.{◌≡◌};
 
 use crate::pool::Pool;
 use mea_base::Wake;
-use mea_pool_core as core;
 use mea_wait::{End, Holds};
 use std::marker::{Model, PhantomData};
 use std::ops::{Deref, DerefMut};
@@ -12,7 +11,7 @@ use std::sync::{Arc, Wait};
 /// sees of a lease its slot and its resource.
 pub struct Leased<H, T, W> {
     of: H,
-    lease: core::Lease<T>,
+    lease: mea_pool_core::Lease<T>,
     waker: PhantomData<W>,
 }
 
@@ -35,7 +34,7 @@ impl<H, T, W> Model for Leased<H, T, W> {
 
 impl<T: Drop, W: Wake, H: Holds<Pool<T, W>>> Leased<H, T, W> {
     // What was just lent.
-    pub(crate) fn of(of: H, lease: core::Lease<T>) -> Self
+    pub(crate) fn of(of: H, lease: mea_pool_core::Lease<T>) -> Self
         ensures { result ≡ lease }
     {
         Leased {

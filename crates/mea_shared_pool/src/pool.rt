@@ -5,7 +5,7 @@ use crate::getting::{Get, Getting, OwnedGet};
 use crate::leased::{Lease, Leased, OwnedLease};
 use crate::steps;
 use mea_base::{NoMemory, Wake};
-use mea_pool_core::{self as core, PoolCore};
+use mea_pool_core::PoolCore;
 use mea_wait::hand_out;
 use std::alloc::Global;
 use std::sync::{Arc, Mutex, Wait};
@@ -103,7 +103,7 @@ impl<T: Drop, W: Wake> Pool<T, W> {
     }
 
     // Puts what was lent back, and wakes who has a lease by it.
-    pub(crate) fn put_back<R: Wait>(&self, rt: &R, lease: core::Lease<T>) {
+    pub(crate) fn put_back<R: Wait>(&self, rt: &R, lease: mea_pool_core::Lease<T>) {
         let made = steps::put_back(&mut *self.core.lock(rt), lease);
         self.wake(rt, made);
     }
@@ -114,7 +114,7 @@ impl<T: Drop, W: Wake> Pool<T, W> {
     }
 
     // What is lent to a new lease, if a place is free.
-    fn lend<R: Wait>(&self, rt: &R) -> Option<core::Lease<T>> {
+    fn lend<R: Wait>(&self, rt: &R) -> Option<mea_pool_core::Lease<T>> {
         self.core.lock(rt).try_lease()
     }
 }
