@@ -1,13 +1,12 @@
 -- the slots that are on the shelf and those that leases have, by name
-use Rattle.std.proofs.Common.{◌≡◌, ◌≢◌, ℕ, suc, ◌+◌, ◌<◌, ◌≤◌, ◌==◌, ◌++◌, ◌⊎◌, inl, inr, Bool, true, false, cond, nat_lt, List, [], ◌∷◌, Option, Some, None, length, set, refl, ap, sym, subst, ◌∙◌, arith, length-append, length-set}
-use Rattle.std.proofs.lemmas.Bool.{cases_eq, cases_Bool, eq-eqb, lt-ltb, le-ltb}
+use Rattle.std.proofs.Common.{◌≡◌, ℕ, suc, ◌+◌, ◌<◌, ◌++◌, ◌⊎◌, inl, inr, Bool, true, false, cond, List, [], ◌∷◌, Option, Some, None, length, set, refl, ap, sym, subst, ◌∙◌, arith, length-append, length-set}
+use Rattle.std.proofs.lemmas.Bool.{cases_eq, eq-eqb}
 use Rattle.std.proofs.lemmas.List.{get_or-set_same, get_or-set_other}
-use Rattle.std.proofs.lemmas.List.Sums.{sum_by-cons}
 use Rattle.std.specs.FinMap.{get, insert, remove}
 use Rattle.mea_base.proofs.Maps.{by_put, by_gone}
 use Rattle.mea_base.proofs.Totals.{get_inserted}
 use Rattle.mea_by_name.specs.ByName.{Names}
-use Rattle.mea_pool_core.specs.Shelf.{is_lent, lent_count, times, one_if, StandOnce, slots_of, slots_below, none_lent, with_slots}
+use Rattle.mea_pool_core.specs.Shelf.{is_lent, lent_count, StandOnce, slots_of, slots_below, none_lent, with_slots}
 use Rattle.mea_pool_core.proofs.Shelves.{first_free, once_lent, count_lent, lent_within, once_back, count_back, length_below, length_none, count_none, unmarked, once_fresh, slots_zip, length_zip}
 use Rattle.mea_pool_run.specs.Hall.{Live, asks, awaits, leases}
 

@@ -1,23 +1,22 @@
 -- what each event keeps, and how it treats those who wait
-use Rattle.std.proofs.Common.{◌≡◌, ℕ, suc, ◌+◌, ◌-◌, ◌<◌, ◌≤◌, ◌==◌, ◌&&◌, ◌++◌, ◌⊎◌, inl, inr, Bool, true, false, not, cond, nat_lt, List, [], ◌∷◌, Option, Some, None, is_some, length, refl, ap, sym, subst, ◌∙◌, arith}
-use Rattle.std.proofs.lemmas.Bool.{cases_eq, cases_lt, cases_Bool, and_parts, eqb-true, ltb-true, ltb-false, lt-ltb, le-ltb, not-true, ne_eqb}
-use Rattle.std.specs.Option.{IsSome}
+use Rattle.std.proofs.Common.{◌≡◌, ℕ, suc, ◌+◌, ◌-◌, ◌<◌, ◌≤◌, ◌==◌, ◌&&◌, ◌++◌, ◌⊎◌, inl, inr, Bool, true, false, not, nat_lt, List, [], ◌∷◌, Option, Some, None, length, refl, ap, sym, subst, ◌∙◌, arith}
+use Rattle.std.proofs.lemmas.Bool.{cases_lt, cases_Bool, and_parts, eqb-true, ltb-true, ltb-false, lt-ltb, le-ltb}
 use Rattle.std.specs.Ordering.{nat_cmp}
 use Rattle.std.specs.FinMap.{get, insert, remove, empty, get-empty}
 use Rattle.mea_base.specs.Totals.{total, weight}
 use Rattle.mea_base.proofs.Maps.{by_put, by_gone}
-use Rattle.mea_base.proofs.Totals.{get_inserted, get_removed, total-empty, total-insert, total-remove}
+use Rattle.mea_base.proofs.Totals.{total-empty, total-insert, total-remove}
 use Rattle.mea_by_name.specs.ByName.{Names}
 use Rattle.mea_by_name.specs.NamedQueue.{Waiting, waker_for, waits, registering, without, wakers}
-use Rattle.mea_pool_core.specs.Shelf.{is_lent, lent_count, times, one_if, StandOnce, slots_of, slots_below, with_slots}
+use Rattle.mea_pool_core.specs.Shelf.{is_lent, lent_count, times, one_if, slots_of}
 use Rattle.mea_script.proofs.Events.{of_script}
 use Rattle.mea_pool_run.specs.declared.event.PoolEvent.{PoolEvent}
 use Rattle.mea_pool_run.specs.declared.event.PoolEvent.TheVariants as event
 use Rattle.mea_pool_run.specs.declared.event.PoolEvent.TheVariants.{Ask, Wait, Poll, Use, Back, End, Drain, Idle}
 use Rattle.mea_pool_run.specs.Hall.{Live, asks, awaits, leases, Hall, begun, is_drained, settled_at, passed_for, drained_at, lent, gets_or_waits, polled_at, polled, polled_drain, ended, poll_of, end_of, use_of, back_of, outcome}
-use Rattle.mea_pool_run.specs.Orderly.{Leases, IsOnce, AreOnce, names, IsPart, IsInOrder, IsDrainedForGood, IsOrderly, AreOrderly}
+use Rattle.mea_pool_run.specs.Orderly.{Leases, IsOnce, AreOnce, names, IsPart, IsInOrder, IsOrderly, AreOrderly}
 use Rattle.mea_pool_run.specs.Script.{pool_rules}
-use Rattle.mea_pool_run.proofs.Lending.{HasIn, Has, IsNoLease, none_no_lease, ask_no_lease, wait_no_lease, Lends, lends_put, lends_gone, lends_set, lends_got, lends_back, lends_none}
+use Rattle.mea_pool_run.proofs.Lending.{IsNoLease, none_no_lease, ask_no_lease, wait_no_lease, Lends, lends_put, lends_gone, lends_set, lends_got, lends_back, lends_none}
 use Rattle.mea_pool_run.proofs.Queueing.{Line, line_none, line_put, line_gone, elsewhere, line_registering, line_without, first_asks, line_rest, order_same, order_without, order_rest, order_none, order_last}
 
 -- ---- how many places are taken

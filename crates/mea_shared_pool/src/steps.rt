@@ -18,9 +18,10 @@ pub(crate) fn poll<T: Drop, W: Drop>(
     ensures allowed { MayPoll core.old wait.old → PollsLease core.old wait.old waker result core.new wait.new }
     ensures renewed { ¬ MayPoll core.old wait.old → PollsLease core.old LeaseWait.New waker result core.new wait.new }
 {
-    if !core.poll_lease_allowed(wait) {
-        *wait = LeaseWait::new();
+    if core.poll_lease_allowed(wait) {
+        return core.poll_lease(wait, waker);
     }
+    *wait = LeaseWait::New;
     core.poll_lease(wait, waker)
 }
 
