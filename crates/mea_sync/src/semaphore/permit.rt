@@ -55,7 +55,7 @@ impl<W: Wake, H: Holds<Semaphore<W>>> Permit<H, W> {
 
     // Takes the permits of another over, which is of the same semaphore, where the sum fits.
     fn add(&mut self, other: Self) -> Result<(), Self>
-        ensures { MatchResult result
+        ensures merged { MatchResult result
             (λ _. num_permits self.new ≡ num_permits self.old + num_permits other)
             (λ back. (usize.MAX < num_permits self.old + num_permits other) × (self.new ≡ self.old) × (back ≡ other)) }
         ensures of { self.new.of ≡ self.old.of }
@@ -95,7 +95,7 @@ impl<'a, W: Wake> Permit<&'a Semaphore<W>, W> {
     /// `merge`, which hands the other back where the sum does not fit, and has then changed nothing. It takes no memory.
     pub fn try_merge(&mut self, other: Self) -> Result<(), Self>
         requires one { self.old.of.now ≡ other.of.now }
-        ensures { MatchResult result
+        ensures merged { MatchResult result
             (λ _. num_permits self.new ≡ num_permits self.old + num_permits other)
             (λ back. (usize.MAX < num_permits self.old + num_permits other) × (self.new ≡ self.old) × (back ≡ other)) }
         ensures of { self.new.of.now ≡ self.old.of.now }
@@ -105,7 +105,7 @@ impl<'a, W: Wake> Permit<&'a Semaphore<W>, W> {
 
     /// Splits `n` permits off, or answers None where it has fewer. It takes no memory.
     pub fn split(&mut self, n: usize) -> Option<Self>
-        ensures { MatchOption result
+        ensures split { MatchOption result
             ((num_permits self.old < n) × (self.new ≡ self.old))
             (λ permit. (num_permits permit ≡ n) × (num_permits self.new + n ≡ num_permits self.old) × (permit.of.now ≡ self.old.of.now)) }
         ensures of { self.new.of.now ≡ self.old.of.now }
@@ -138,7 +138,7 @@ impl<W: Wake> Permit<Arc<Semaphore<W>>, W> {
     /// `merge`, which hands the other back where the sum does not fit, and has then changed nothing. It takes no memory.
     pub fn try_merge(&mut self, other: Self) -> Result<(), Self>
         requires one { arc_value self.old.of ≡ arc_value other.of }
-        ensures { MatchResult result
+        ensures merged { MatchResult result
             (λ _. num_permits self.new ≡ num_permits self.old + num_permits other)
             (λ back. (usize.MAX < num_permits self.old + num_permits other) × (self.new ≡ self.old) × (back ≡ other)) }
         ensures of { arc_value self.new.of ≡ arc_value self.old.of }
@@ -149,8 +149,8 @@ impl<W: Wake> Permit<Arc<Semaphore<W>>, W> {
     /// Splits `n` permits off, or answers None where it has fewer. A further share of the semaphore may be
     /// refused, and then nothing has changed.
     pub fn split(&mut self, n: usize) -> Result<Option<Self>, NoMemory>
-        ensures { MatchResult result
-            (λ split. MatchOption split
+        ensures split { MatchResult result
+            (λ part. MatchOption part
             ((num_permits self.old < n) × (self.new ≡ self.old))
             (λ permit. (num_permits permit ≡ n) × (num_permits self.new + n ≡ num_permits self.old) × (arc_value permit.of ≡ arc_value self.old.of)))
             (λ _. (self.new ≡ self.old) × (n ≤ num_permits self.old)) }
