@@ -1,6 +1,5 @@
 ghost use Rattle.std.specs.Prelude.{◌≡◌, IfOk};
 ghost use Rattle.mea_sem_core.specs.Acquire.{demand_of};
-ghost use Rattle.mea_sync.specs.Permits.{num_permits, permits_wanted, permits_to_forget};
 
 use crate::semaphore::permit::Permit;
 use crate::semaphore::{Closed, Semaphore, steps};
@@ -45,7 +44,7 @@ pub type OwnedAcquireForget<W> = AcquireToForget<Arc<Semaphore<W>>, W>;
 impl<W: Wake, H: Holds<Semaphore<W>>> AcquireToHold<H, W> {
     // A wait that was never polled.
     pub(super) fn of(of: H, permits: usize) -> Self
-        ensures permits { permits_wanted result ≡ permits }
+        ensures permits { result.permits ≡ permits }
         ensures of { result.of ≡ of }
     {
         AcquireToHold {
@@ -60,7 +59,7 @@ impl<W: Wake, H: Holds<Semaphore<W>>> AcquireToHold<H, W> {
 impl<W: Wake, H: Holds<Semaphore<W>>> AcquireToForget<H, W> {
     // A wait that was never polled.
     pub(super) fn of(of: H, permits: usize) -> Self
-        ensures { permits_to_forget result ≡ permits }
+        ensures { result.permits ≡ permits }
     {
         AcquireToForget {
             of,
@@ -101,7 +100,7 @@ impl<W: Wake, H: Holds<Semaphore<W>>> End for AcquireToForget<H, W> {
 
 impl<W: Wake, H: Holds<Semaphore<W>>> Waits<W, Result<Permit<H, W>, Closed>>
     for AcquireToHold<H, W> {
-    ghost gives = { λ a output. IfOk output (λ permit. (num_permits permit ≡ permits_wanted a) × (permit.of ≡ a.of)) };
+    ghost gives = { λ a output. IfOk output (λ permit. (permit.permits ≡ a.permits) × (permit.of ≡ a.of)) };
 
     fn poll<R: Wait>(
         self,
