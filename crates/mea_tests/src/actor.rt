@@ -1,5 +1,4 @@
-use mea::End;
-use mea::Kept;
+use mea::{End, Kept};
 use mea::mpsc::{UnboundedReceiver, UnboundedSender, unbounded};
 use mea::oneshot::{Plain, Sender, TryRecvError, channel};
 use mea_test_support::Bell;
@@ -24,8 +23,8 @@ fn turn<R: Wait>(rt: &R, asked: &mut UnboundedReceiver<Ask, Bell>) -> bool {
     }
 }
 
-// Asks the actor: the number that it replies, if it does.
-fn ask<R: Wait + Abort + AllocGlobal>(
+// What the actor replies to a number, if it does.
+fn reply_to<R: Wait + Abort + AllocGlobal>(
     rt: &R,
     actor: &UnboundedSender<Ask, Bell>,
     asked: &mut UnboundedReceiver<Ask, Bell>,
@@ -46,7 +45,7 @@ fn ask<R: Wait + Abort + AllocGlobal>(
 #[test]
 fn an_actor_replies(rt: HostRuntime) -> Result<(), Fail> {
     let (actor, mut asked) = unbounded(rt.alloc())?;
-    assert_eq!(rt; ask(&rt, &actor, &mut asked, 21), Some(42));
+    assert_eq!(rt; reply_to(&rt, &actor, &mut asked, 21), Some(42));
     assert!(rt; !turn(&rt, &mut asked));
     actor.end(&rt);
     asked.end(&rt);

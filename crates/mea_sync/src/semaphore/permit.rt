@@ -81,7 +81,7 @@ impl<'a, W: Wake> Permit<&'a Semaphore<W>, W> {
     pub fn merge(&mut self, other: Self)
         requires one { self.old.of.now ≡ other.of.now }
         requires fits { num_permits self.old + num_permits other ≤ usize.MAX }
-        ensures permits { num_permits self.new ≡ num_permits self.old + num_permits other }
+        ensures permits { num_permits self.new ≡ num_permits self.old + num_permits other.entry }
         ensures of { self.new.of.now ≡ self.old.of.now }
     {
         let Permit {
@@ -96,8 +96,8 @@ impl<'a, W: Wake> Permit<&'a Semaphore<W>, W> {
     pub fn try_merge(&mut self, other: Self) -> Result<(), Self>
         requires one { self.old.of.now ≡ other.of.now }
         ensures merged { MatchResult result
-            (λ _. num_permits self.new ≡ num_permits self.old + num_permits other)
-            (λ back. (usize.MAX < num_permits self.old + num_permits other) × (self.new ≡ self.old) × (back ≡ other)) }
+            (λ _. num_permits self.new ≡ num_permits self.old + num_permits other.entry)
+            (λ back. (usize.MAX < num_permits self.old + num_permits other.entry) × (self.new ≡ self.old) × (back ≡ other.entry)) }
         ensures of { self.new.of.now ≡ self.old.of.now }
     {
         self.add(other)
