@@ -50,8 +50,10 @@ where
     ensures { IfOk result (λ s. MatchOption s (D.gives deadline tt) (λ output. F.gives of output)) }
 {
     match block_on(rt, select(wait(rt, rt.alloc(), of)?, deadline))? {
-        Either::Left((Ok(output), _deadline)) => Ok(Some(output)),
-        Either::Left((Err(fault), _deadline)) => Err(refusal(fault)),
+        Either::Left((answer, _deadline)) => match answer {
+            Ok(output) => Ok(Some(output)),
+            Err(fault) => Err(refusal(fault)),
+        },
         // The wait is dropped here, and so ended.
         Either::Right(((), _wait)) => Ok(None),
     }

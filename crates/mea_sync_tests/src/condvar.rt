@@ -72,3 +72,27 @@ fn goes_on_while_it_holds<R: Wait + Abort>(
     assert!(rt; rung(bell) == 2);
     assert!(rt; finds(rt, wait, bell) == Some(2));
 }
+
+// A wait keeps its own mutex, so waits of two mutexes go by one condition variable.
+#[test]
+fn waits_keep_their_mutex(rt: HostRuntime) {
+    let bell = count(rt.alloc()).expect(&rt, "memory");
+    let first = Mutex::new(rt.alloc(), 1);
+    let second = Mutex::new(rt.alloc(), 2);
+    keep_their_mutex(&rt, &Condvar::new(rt.alloc()), &first, &second, &bell);
+}
+
+fn keep_their_mutex<R: Wait + Abort>(
+    rt: &R,
+    condvar: &Condvar<Bell>,
+    first: &Mutex<u64, Bell>,
+    second: &Mutex<u64, Bell>,
+    bell: &Count,
+) {
+    let one = waits(rt, condvar, first, bell);
+    let two = waits(rt, condvar, second, bell);
+    condvar.notify_all(rt);
+    assert!(rt; rung(bell) == 2);
+    assert!(rt; finds(rt, two, bell) == Some(2));
+    assert!(rt; finds(rt, one, bell) == Some(1));
+}
