@@ -38,13 +38,7 @@ fn sum<R: Wait + RandomSource + AllocGlobal, C: Receives<u64>>(
 }
 
 // A wait for a permit, as a task holds it.
-type Acquiring<'a, R> = TryHolding<
-    'a,
-    R,
-    OwnedAcquire<Bell>,
-    OwnedSemaphorePermit<Bell>,
-    Closed,
->;
+type Acquiring<'a, R> = TryHolding<'a, R, OwnedAcquire<Bell>, OwnedSemaphorePermit<Bell>, Closed>;
 
 // A wait for one permit, which owns a share of its semaphore.
 fn acquire<'a, R: Wait + AllocGlobal + Abort>(

@@ -20,12 +20,7 @@ impl Wake for Mark {
 }
 
 // Polls a wait for the task of this bit: the wait, where it goes on.
-fn poll<R: Wait, F: Waits<Mark, ()>>(
-    rt: &R,
-    wait: F,
-    ready: &Arc<AtomicU64>,
-    bit: u64,
-) -> Option<F>
+fn poll<R: Wait, F: Waits<Mark, ()>>(rt: &R, wait: F, ready: &Arc<AtomicU64>, bit: u64) -> Option<F>
     requires { F.can_poll wait }
     ensures { IfSome result F.can_poll }
 {
@@ -50,12 +45,7 @@ fn poll<R: Wait, F: Waits<Mark, ()>>(
 }
 
 // Whether a wait is over that went on before. One that still goes on is given up.
-fn is_over<R: Wait, F: Waits<Mark, ()>>(
-    rt: &R,
-    wait: F,
-    ready: &Arc<AtomicU64>,
-    bit: u64,
-) -> bool
+fn is_over<R: Wait, F: Waits<Mark, ()>>(rt: &R, wait: F, ready: &Arc<AtomicU64>, bit: u64) -> bool
     requires { F.can_poll wait }
 {
     match poll(rt, wait, ready, bit) {
