@@ -61,7 +61,7 @@ pub fn nanoseconds_per_event(
     let Ok(start) = Instant::now(rt) else {
         return Err(Fault::Clock);
     };
-    play(rt.alloc(), events.as_slice())?;
+    play_once(Hall::new(rt.alloc()), events.as_slice())?;
     match start.elapsed(rt) {
         Ok(elapsed) => Ok(elapsed.as_nanos() / events.len().max(1) as u128),
         Err(_) => Err(Fault::Clock),
@@ -77,23 +77,35 @@ fn events_of(alloc: Global, workload: Workload, rounds: u64) -> Result<Vec<Event
     Ok(events)
 }
 
-// The halls are dropped at one exit, since a proof takes all their types apart at each.
-fn play(alloc: Global, events: &[Event]) -> Result<(), Fault> {
-    let mut hall = Hall::new(alloc);
-    play_on(&mut hall, events)
+/// What plays events one after another. Halls are dropped behind a type parameter, where no proof takes their types apart.
+trait Player: Drop {
+    /// Holds of one that has played nothing.
+    ghost is_new: { Self → Type 0 };
+
+    /// Plays the events, and takes each wake.
+    fn play(&mut self, events: &[Event]) -> Result<(), Fault>
+        requires { is_new self.old };
 }
 
-fn play_on(hall: &mut Hall, events: &[Event]) -> Result<(), Fault>
-    requires { hall.old.events ≡ 0 }
-{
-    for event in events {
-        match hall.act(event) {
-            Ok(_) => drain(hall),
-            Err(Stop::NoMemory) => return Err(Fault::NoMemory),
-            Err(stop) => return Err(Fault::Refused(stop)),
+impl Player for Hall {
+    ghost is_new = { λ hall. hall.events ≡ 0 };
+
+    fn play(&mut self, events: &[Event]) -> Result<(), Fault> {
+        for event in events {
+            match self.act(event) {
+                Ok(_) => drain(self),
+                Err(Stop::NoMemory) => return Err(Fault::NoMemory),
+                Err(stop) => return Err(Fault::Refused(stop)),
+            }
         }
+        Ok(())
     }
-    Ok(())
+}
+
+fn play_once<P: Player>(mut player: P, events: &[Event]) -> Result<(), Fault>
+    requires { P.is_new player }
+{
+    player.play(events)
 }
 
 fn drain(hall: &mut Hall)

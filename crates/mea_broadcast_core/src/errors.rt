@@ -1,16 +1,34 @@
+use std::fmt;
 use thiserror::Error;
 
 /// A message was not sent, since the last position is taken; it comes back. The crate `mea` has no such refusal: its
 /// positions wrap.
-#[derive(Debug, Drop, PartialEq, Eq)]
+#[derive(Drop, PartialEq, Eq)]
 pub struct SendRefused<T>(pub T);
 
+// The value is not shown, and nothing is asked of its type.
+impl<T> fmt::Debug for SendRefused<T> {
+    fn fmt<O: fmt::Write>(&self, f: &mut fmt::Formatter<O>) -> fmt::Result {
+        f.write_str("SendRefused(..)")
+    }
+}
+
+impl<T> fmt::Display for SendRefused<T> {
+    fn fmt<O: fmt::Write>(&self, f: &mut fmt::Formatter<O>) -> fmt::Result {
+        f.write_str("no position is left for a message")
+    }
+}
+
+impl<T: Drop> std::error::Error for SendRefused<T> {}
+
 /// Why a broadcast channel was not made. The crate `mea` panics or aborts in its place.
-#[derive(Clone, Copy, Debug, PartialEq, Eq)]
+#[derive(Clone, Copy, Debug, PartialEq, Eq, Error)]
 pub enum BroadcastFault {
     /// There was no memory for the ring.
+    #[error("out of memory")]
     NoMemory,
     /// The least power of two that is at least the capacity passes the greatest number.
+    #[error("the capacity is too great")]
     Overflow,
 }
 

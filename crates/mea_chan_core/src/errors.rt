@@ -4,7 +4,7 @@ use std::fmt;
 use thiserror::Error;
 
 /// A value was not sent, since its receiver has ended; the value comes back. It ports `mea::mpsc::SendError`.
-#[derive(Debug, Drop, PartialEq, Eq)]
+#[derive(Drop, PartialEq, Eq)]
 pub struct SendError<T>(pub T);
 
 impl<T> SendError<T> {
@@ -24,16 +24,23 @@ impl<T> SendError<T> {
     }
 }
 
+// The value is not shown, and nothing is asked of its type.
+impl<T> fmt::Debug for SendError<T> {
+    fn fmt<O: fmt::Write>(&self, f: &mut fmt::Formatter<O>) -> fmt::Result {
+        f.write_str("SendError(..)")
+    }
+}
+
 impl<T> fmt::Display for SendError<T> {
     fn fmt<O: fmt::Write>(&self, f: &mut fmt::Formatter<O>) -> fmt::Result {
         f.write_str("sending on a closed channel")
     }
 }
 
-impl<T: fmt::Debug + Drop> std::error::Error for SendError<T> {}
+impl<T: Drop> std::error::Error for SendError<T> {}
 
 /// Why a value was not sent at once; the value comes back. It ports `mea::mpsc::TrySendError`.
-#[derive(Debug, Drop, PartialEq, Eq)]
+#[derive(Drop, PartialEq, Eq)]
 pub enum TrySendError<T> {
     /// As many messages are queued as there is room for.
     Full(T),
@@ -63,6 +70,16 @@ impl<T> TrySendError<T> {
     }
 }
 
+// The value is not shown, and nothing is asked of its type.
+impl<T> fmt::Debug for TrySendError<T> {
+    fn fmt<O: fmt::Write>(&self, f: &mut fmt::Formatter<O>) -> fmt::Result {
+        f.write_str(match self {
+            TrySendError::Full(_) => "Full(..)",
+            TrySendError::Disconnected(_) => "Disconnected(..)",
+        })
+    }
+}
+
 impl<T> fmt::Display for TrySendError<T> {
     fn fmt<O: fmt::Write>(&self, f: &mut fmt::Formatter<O>) -> fmt::Result {
         match self {
@@ -72,11 +89,11 @@ impl<T> fmt::Display for TrySendError<T> {
     }
 }
 
-impl<T: fmt::Debug + Drop> std::error::Error for TrySendError<T> {}
+impl<T: Drop> std::error::Error for TrySendError<T> {}
 
 /// Why a value was not sent on an unbounded channel; the value comes back. Where the crate `mea` answers a
 /// `SendError` and aborts for want of memory, this answers either.
-#[derive(Debug, Drop, PartialEq, Eq)]
+#[derive(Drop, PartialEq, Eq)]
 pub enum UnboundedError<T> {
     /// The receiver has ended.
     Closed(T),
@@ -106,6 +123,16 @@ impl<T> UnboundedError<T> {
     }
 }
 
+// The value is not shown, and nothing is asked of its type.
+impl<T> fmt::Debug for UnboundedError<T> {
+    fn fmt<O: fmt::Write>(&self, f: &mut fmt::Formatter<O>) -> fmt::Result {
+        f.write_str(match self {
+            UnboundedError::Closed(_) => "Closed(..)",
+            UnboundedError::NoMemory(_) => "NoMemory(..)",
+        })
+    }
+}
+
 impl<T> fmt::Display for UnboundedError<T> {
     fn fmt<O: fmt::Write>(&self, f: &mut fmt::Formatter<O>) -> fmt::Result {
         match self {
@@ -115,7 +142,7 @@ impl<T> fmt::Display for UnboundedError<T> {
     }
 }
 
-impl<T: fmt::Debug + Drop> std::error::Error for UnboundedError<T> {}
+impl<T: Drop> std::error::Error for UnboundedError<T> {}
 
 /// No value comes any more. It ports `mea::mpsc::RecvError`.
 #[derive(Clone, Copy, Debug, PartialEq, Eq, Error)]

@@ -1,5 +1,5 @@
-use crate::play::Told;
-use crate::play::Told::{Closed, Count, Disconnected, Done, Empty, Full, Nothing, Pending, Value};
+use crate::play::Reply;
+use crate::play::Reply::{Closed, Count, Disconnected, Done, Empty, Full, Nothing, Pending, Value};
 use mea_base::{NoMemory, Poll};
 use mea_chan_core::{BoundedCore, SendError, SendWait, TryRecvError, TrySendError};
 use mea_test_support::{Plays, differs_at};
@@ -43,9 +43,9 @@ impl Room {
 impl Plays for Room {
     type Call = Call;
 
-    type Told = Told;
+    type Reply = Reply;
 
-    fn told(&mut self, call: Call) -> Option<Told> {
+    fn reply(&mut self, call: Call) -> Option<Reply> {
         match call {
             Call::Send(value) => made(&mut self.sends, value),
             Call::PollSend(place, waker) => {
@@ -57,20 +57,20 @@ impl Plays for Room {
             Call::PollRecv(waker) => poll_recv_told(&mut self.channel, waker),
             Call::EndSender => Some(sender_ended(&mut self.channel)),
             Call::EndReceiver => Some(receiver_ended(&mut self.channel)),
-            Call::Wake => Some(Told::found(self.channel.next_wake())),
+            Call::Wake => Some(Reply::found(self.channel.next_wake())),
             Call::WakesReady => Some(Count(self.channel.wakes_ready())),
         }
     }
 }
 
-fn made(sends: &mut Vec<Option<SendWait<u64>>>, value: u64) -> Option<Told> {
+fn made(sends: &mut Vec<Option<SendWait<u64>>>, value: u64) -> Option<Reply> {
     match sends.push(Some(SendWait::new(value))) {
         Ok(()) => Some(Done),
         Err(_) => None,
     }
 }
 
-fn poll_told(channel: &mut Channel, send: &mut Option<SendWait<u64>>, waker: u64) -> Option<Told> {
+fn poll_told(channel: &mut Channel, send: &mut Option<SendWait<u64>>, waker: u64) -> Option<Reply> {
     match channel.poll_send_checked(send.as_mut()?, waker) {
         Ok(Poll::Ready(Ok(()))) => Some(Done),
         Ok(Poll::Ready(Err(SendError(value)))) => Some(Closed(value)),
@@ -79,11 +79,11 @@ fn poll_told(channel: &mut Channel, send: &mut Option<SendWait<u64>>, waker: u64
     }
 }
 
-fn end_told(channel: &mut Channel, send: &mut Option<SendWait<u64>>) -> Option<Told> {
-    Some(Told::found(channel.end_send_checked(send.take()?)))
+fn end_told(channel: &mut Channel, send: &mut Option<SendWait<u64>>) -> Option<Reply> {
+    Some(Reply::found(channel.end_send_checked(send.take()?)))
 }
 
-fn send_told(channel: &mut Channel, value: u64) -> Told {
+fn send_told(channel: &mut Channel, value: u64) -> Reply {
     match channel.try_send(value) {
         Ok(()) => Done,
         Err(TrySendError::Full(value)) => Full(value),
@@ -91,7 +91,7 @@ fn send_told(channel: &mut Channel, value: u64) -> Told {
     }
 }
 
-fn recv_told(channel: &mut Channel) -> Told {
+fn recv_told(channel: &mut Channel) -> Reply {
     match channel.try_recv() {
         Ok(value) => Value(value),
         Err(TryRecvError::Empty) => Empty,
@@ -99,7 +99,7 @@ fn recv_told(channel: &mut Channel) -> Told {
     }
 }
 
-fn poll_recv_told(channel: &mut Channel, waker: u64) -> Option<Told> {
+fn poll_recv_told(channel: &mut Channel, waker: u64) -> Option<Reply> {
     match channel.poll_recv(waker) {
         Ok(Poll::Ready(Ok(value))) => Some(Value(value)),
         Ok(Poll::Ready(Err(_))) => Some(Disconnected),
@@ -108,12 +108,12 @@ fn poll_recv_told(channel: &mut Channel, waker: u64) -> Option<Told> {
     }
 }
 
-fn sender_ended(channel: &mut Channel) -> Told {
+fn sender_ended(channel: &mut Channel) -> Reply {
     channel.end_sender_checked();
     Done
 }
 
-fn receiver_ended(channel: &mut Channel) -> Told {
+fn receiver_ended(channel: &mut Channel) -> Reply {
     channel.end_receiver_checked();
     Done
 }

@@ -1,6 +1,6 @@
 use crate::errors::reads;
-use crate::play::Told;
-use crate::play::Told::{
+use crate::play::Reply;
+use crate::play::Reply::{
     Closed, Count, Disconnected, Done, Empty, Lagged, Nothing, Pending, Value,
 };
 use mea_base::Poll;
@@ -57,9 +57,9 @@ impl Room {
 impl Plays for Room {
     type Call = Call;
 
-    type Told = Told;
+    type Reply = Reply;
 
-    fn told(&mut self, call: Call) -> Option<Told> {
+    fn reply(&mut self, call: Call) -> Option<Reply> {
         match call {
             Call::Send(message) => Some(send_told(&mut self.channel, message)),
             Call::Subscribe => receiver_made(&mut self.receivers, self.channel.subscribe()),
@@ -78,20 +78,20 @@ impl Plays for Room {
             Call::EndSender => Some(sender_ended(&mut self.channel)),
             Call::Tail => Some(Value(self.channel.tail())),
             Call::Registered => Some(Count(self.channel.registered())),
-            Call::Wake => Some(Told::found(self.channel.next_wake())),
+            Call::Wake => Some(Reply::found(self.channel.next_wake())),
             Call::WakesReady => Some(Count(self.channel.wakes_ready())),
         }
     }
 }
 
-fn send_told(channel: &mut Channel, message: u64) -> Told {
+fn send_told(channel: &mut Channel, message: u64) -> Reply {
     match channel.send(message) {
         Ok(()) => Done,
         Err(SendRefused(message)) => Closed(message),
     }
 }
 
-fn receiver_made(receivers: &mut Vec<Receiver>, cursor: Cursor) -> Option<Told> {
+fn receiver_made(receivers: &mut Vec<Receiver>, cursor: Cursor) -> Option<Reply> {
     let wait = RecvWait::new();
     match receivers.push(Receiver { cursor, wait }) {
         Ok(()) => Some(Done),
@@ -103,7 +103,7 @@ fn copied(channel: &Channel, receiver: &Receiver) -> Cursor {
     channel.copy_checked(&receiver.cursor)
 }
 
-fn try_told(channel: &Channel, receiver: &mut Receiver) -> Option<Told> {
+fn try_told(channel: &Channel, receiver: &mut Receiver) -> Option<Reply> {
     match channel.try_recv_checked(&mut receiver.cursor) {
         Ok(message) => Some(Value(message)),
         Err(BroadcastTry::Empty) => Some(Empty),
@@ -113,7 +113,7 @@ fn try_told(channel: &Channel, receiver: &mut Receiver) -> Option<Told> {
     }
 }
 
-fn poll_told(channel: &mut Channel, receiver: &mut Receiver, waker: u64) -> Option<Told> {
+fn poll_told(channel: &mut Channel, receiver: &mut Receiver, waker: u64) -> Option<Reply> {
     match channel.poll_recv_checked(&mut receiver.cursor, &mut receiver.wait, waker) {
         Ok(Poll::Ready(Ok(message))) => Some(Value(message)),
         Ok(Poll::Ready(Err(BroadcastRecv::Lagged(missed)))) => Some(Lagged(missed)),
@@ -123,19 +123,19 @@ fn poll_told(channel: &mut Channel, receiver: &mut Receiver, waker: u64) -> Opti
     }
 }
 
-fn wait_ended(channel: &mut Channel, receiver: &mut Receiver) -> Told {
+fn wait_ended(channel: &mut Channel, receiver: &mut Receiver) -> Reply {
     channel.end_recv_checked(mem::replace(&mut receiver.wait, RecvWait::new()));
     Done
 }
 
-fn sender_made(channel: &mut Channel) -> Option<Told> {
+fn sender_made(channel: &mut Channel) -> Option<Reply> {
     match channel.add_sender_checked() {
         Ok(()) => Some(Done),
         Err(_) => None,
     }
 }
 
-fn sender_ended(channel: &mut Channel) -> Told {
+fn sender_ended(channel: &mut Channel) -> Reply {
     channel.end_sender_checked();
     Done
 }

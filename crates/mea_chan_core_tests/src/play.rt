@@ -1,6 +1,6 @@
 // What a call of a script tells: that it is done, what it gives or hands back, or why it gives nothing.
 #[derive(Clone, Copy, PartialEq, Eq)]
-pub(crate) enum Told {
+pub(crate) enum Reply {
     Done,
     Pending,
     Nothing,
@@ -15,12 +15,12 @@ pub(crate) enum Told {
     Closed(u64),
 }
 
-impl Told {
+impl Reply {
     // A value or a waker, where there is one.
-    pub(crate) fn found(found: Option<u64>) -> Told {
+    pub(crate) fn found(found: Option<u64>) -> Reply {
         match found {
-            Some(value) => Told::Value(value),
-            None => Told::Nothing,
+            Some(value) => Reply::Value(value),
+            None => Reply::Nothing,
         }
     }
 }

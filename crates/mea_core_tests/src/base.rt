@@ -1,5 +1,5 @@
-use crate::play::Told;
-use crate::play::Told::{Done, No, Nothing, Value, Yes};
+use crate::play::Reply;
+use crate::play::Reply::{Done, No, Nothing, Value, Yes};
 use mea_base::{NoMemory, Outbox, Ready, WaitList};
 use mea_test_support::{Plays, differs_at};
 
@@ -22,7 +22,7 @@ enum Call {
 }
 
 // What a call tells of one number, or nothing where it may not be made.
-fn answered_by(list: &mut List, number: usize, call: Call) -> Told {
+fn answered_by(list: &mut List, number: usize, call: Call) -> Reply {
     if !list.is_in_use(number) {
         return Nothing;
     }
@@ -38,19 +38,19 @@ fn answered_by(list: &mut List, number: usize, call: Call) -> Told {
         }
         Call::Remove(_) if list.is_linked(number) => Nothing,
         Call::Remove(_) => Value(list.remove_unlinked(number)),
-        Call::IsLinked(_) => Told::whether(list.is_linked(number)),
+        Call::IsLinked(_) => Reply::whether(list.is_linked(number)),
         _ => Value(*list.get(number)),
     }
 }
 
-fn pushed(pushed: Result<usize, (u64, NoMemory)>) -> Option<Told> {
+fn pushed(pushed: Result<usize, (u64, NoMemory)>) -> Option<Reply> {
     match pushed {
         Ok(number) => Some(Value(number as u64)),
         Err(_) => None,
     }
 }
 
-fn numbered(number: Option<usize>) -> Told {
+fn numbered(number: Option<usize>) -> Reply {
     match number {
         Some(number) => Value(number as u64),
         None => Nothing,
@@ -66,17 +66,17 @@ struct Room {
 impl Plays for Room {
     type Call = Call;
 
-    type Told = Told;
+    type Reply = Reply;
 
-    fn told(&mut self, call: Call) -> Option<Told> {
+    fn reply(&mut self, call: Call) -> Option<Reply> {
         match call {
-            Call::Reserve(n) => Some(Told::whether(self.list.reserve(n).is_ok())),
+            Call::Reserve(n) => Some(Reply::whether(self.list.reserve(n).is_ok())),
             Call::PushHead(value) => pushed(self.list.push_head(value)),
             Call::PushTail(value) => pushed(self.list.push_tail(value)),
             Call::UnlinkFirst => Some(numbered(self.list.unlink_first())),
             Call::First => Some(numbered(self.list.first())),
             Call::Len => Some(Value(self.list.len() as u64)),
-            Call::IsInUse(number) => Some(Told::whether(self.list.is_in_use(number))),
+            Call::IsInUse(number) => Some(Reply::whether(self.list.is_in_use(number))),
             Call::Add(number, _)
             | Call::Get(number)
             | Call::Unlink(number)
@@ -87,7 +87,7 @@ impl Plays for Room {
 }
 
 // The place of the first call of a script on a new list that tells something else than stands beside it.
-fn list_differs_at(rt: &HostRuntime, script: &[(Call, Told)]) -> Option<usize> {
+fn list_differs_at(rt: &HostRuntime, script: &[(Call, Reply)]) -> Option<usize> {
     let list = WaitList::new(rt.alloc());
     differs_at(Room { list }, script)
 }

@@ -2,7 +2,7 @@ use mea_base::{NoMemory, Poll, Turn};
 
 // What a call of a script tells.
 #[derive(Clone, Copy, PartialEq, Eq)]
-pub(crate) enum Told {
+pub(crate) enum Reply {
     Done,
     Yes,
     No,
@@ -15,34 +15,34 @@ pub(crate) enum Told {
     Value(u64),
 }
 
-impl Told {
-    pub(crate) fn whether(yes: bool) -> Told {
-        if yes { Told::Yes } else { Told::No }
+impl Reply {
+    pub(crate) fn whether(yes: bool) -> Reply {
+        if yes { Reply::Yes } else { Reply::No }
     }
 
     // What a poll tells, if it finds memory.
-    pub(crate) fn turned(polled: Result<Turn<u64>, (u64, NoMemory)>) -> Option<Told> {
+    pub(crate) fn turned(polled: Result<Turn<u64>, (u64, NoMemory)>) -> Option<Reply> {
         match polled {
-            Ok(Turn::Ready(waker)) => Some(Told::Ready(waker)),
-            Ok(Turn::Pending) => Some(Told::Pending),
+            Ok(Turn::Ready(waker)) => Some(Reply::Ready(waker)),
+            Ok(Turn::Pending) => Some(Reply::Pending),
             Err(_) => None,
         }
     }
 
     // The same of a poll that keeps no waker for a later stage.
-    pub(crate) fn polled(polled: Result<Poll<()>, (u64, NoMemory)>) -> Option<Told> {
+    pub(crate) fn polled(polled: Result<Poll<()>, (u64, NoMemory)>) -> Option<Reply> {
         match polled {
-            Ok(Poll::Ready(())) => Some(Told::Done),
-            Ok(Poll::Pending) => Some(Told::Pending),
+            Ok(Poll::Ready(())) => Some(Reply::Done),
+            Ok(Poll::Pending) => Some(Reply::Pending),
             Err(_) => None,
         }
     }
 
     // A value or a waker, where there is one.
-    pub(crate) fn found(found: Option<u64>) -> Told {
+    pub(crate) fn found(found: Option<u64>) -> Reply {
         match found {
-            Some(value) => Told::Value(value),
-            None => Told::Nothing,
+            Some(value) => Reply::Value(value),
+            None => Reply::Nothing,
         }
     }
 }

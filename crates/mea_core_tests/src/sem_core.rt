@@ -1,7 +1,7 @@
 ghost use Rattle.std.specs.Prelude.{◌+◌, ◌<◌, ◌≡◌, ◌≤◌};
 
-use crate::play::Told;
-use crate::play::Told::{Back, Done, No, Nothing, Pending, Ready, Value, Yes};
+use crate::play::Reply;
+use crate::play::Reply::{Back, Done, No, Nothing, Pending, Ready, Value, Yes};
 use mea_base::{Steps, WaitList};
 use mea_sem_core::{Acquire, OpenTurn, SemCore};
 use mea_test_support::{Plays, differs_at};
@@ -61,9 +61,9 @@ impl Room {
 impl Plays for Room {
     type Call = Call;
 
-    type Told = Told;
+    type Reply = Reply;
 
-    fn told(&mut self, call: Call) -> Option<Told> {
+    fn reply(&mut self, call: Call) -> Option<Reply> {
         match call {
             Call::Ask(demand) => asked(&mut self.acquires, demand),
             Call::Poll(place, _)
@@ -83,19 +83,19 @@ impl Plays for Room {
     }
 }
 
-fn asked(acquires: &mut Vec<Acquire>, demand: usize) -> Option<Told> {
+fn asked(acquires: &mut Vec<Acquire>, demand: usize) -> Option<Reply> {
     match acquires.push(Acquire::new(demand)) {
         Ok(()) => Some(Done),
         Err(_) => None,
     }
 }
 
-fn acquire_told(core: &mut Core, acquire: &mut Acquire, call: Call) -> Option<Told> {
+fn acquire_told(core: &mut Core, acquire: &mut Acquire, call: Call) -> Option<Reply> {
     match call {
         Call::Poll(_, waker) => polled(core, acquire, waker),
         Call::PollOpen(_, waker) => polled_open(core, acquire, waker),
-        Call::IsOwn(_) => Some(Told::whether(core.poll_allowed(acquire))),
-        Call::IsGranted(_) => Some(Told::whether(core.is_granted(acquire))),
+        Call::IsOwn(_) => Some(Reply::whether(core.poll_allowed(acquire))),
+        Call::IsGranted(_) => Some(Reply::whether(core.is_granted(acquire))),
         Call::Renew(_) => {
             acquire.renew();
             Some(Done)
@@ -107,14 +107,14 @@ fn acquire_told(core: &mut Core, acquire: &mut Acquire, call: Call) -> Option<To
     }
 }
 
-fn polled(core: &mut Core, acquire: &mut Acquire, waker: u64) -> Option<Told> {
+fn polled(core: &mut Core, acquire: &mut Acquire, waker: u64) -> Option<Reply> {
     if core.is_closed() || !core.poll_allowed(acquire) {
         return None;
     }
-    Told::turned(core.poll(acquire, waker))
+    Reply::turned(core.poll(acquire, waker))
 }
 
-fn polled_open(core: &mut Core, acquire: &mut Acquire, waker: u64) -> Option<Told> {
+fn polled_open(core: &mut Core, acquire: &mut Acquire, waker: u64) -> Option<Reply> {
     match core.poll_open_checked(acquire, waker) {
         Ok(OpenTurn::Ready(waker)) => Some(Ready(waker)),
         Ok(OpenTurn::Pending) => Some(Pending),
@@ -124,16 +124,16 @@ fn polled_open(core: &mut Core, acquire: &mut Acquire, waker: u64) -> Option<Tol
 }
 
 // What a call tells that changes permits, or else looks at them.
-fn core_told(core: &mut Core, call: Call) -> Told {
+fn core_told(core: &mut Core, call: Call) -> Reply {
     match call {
-        Call::Try(n) => return Told::whether(core.try_acquire(n)),
-        Call::Release(n) => return Told::whether(core.release(n).is_ok()),
-        Call::Forget(n) => return Told::whether(core.forget_exact(n).is_ok()),
-        Call::ReleaseIfWaiting(n) => return Told::whether(released_if_waiting(core, n)),
+        Call::Try(n) => return Reply::whether(core.try_acquire(n)),
+        Call::Release(n) => return Reply::whether(core.release(n).is_ok()),
+        Call::Forget(n) => return Reply::whether(core.forget_exact(n).is_ok()),
+        Call::ReleaseIfWaiting(n) => return Reply::whether(released_if_waiting(core, n)),
         Call::GiveBack(n) => core.give_back_checked(n),
         Call::Lose(n) => core.lose_checked(n),
         Call::Close => core.close(),
-        Call::Wake => return Told::found(core.next_wake()),
+        Call::Wake => return Reply::found(core.next_wake()),
         _ => return seen(core, call),
     }
     Done
@@ -147,13 +147,13 @@ fn released_if_waiting(core: &mut Core, n: usize) -> bool {
     true
 }
 
-fn seen(core: &Core, call: Call) -> Told {
+fn seen(core: &Core, call: Call) -> Reply {
     let count = match call {
         Call::Free => core.available_permits(),
         Call::Live => core.live(),
         Call::Held => core.held(),
         Call::Queued => core.queue_len(),
-        _ => return Told::whether(core.is_closed()),
+        _ => return Reply::whether(core.is_closed()),
     };
     Value(count as u64)
 }

@@ -1,7 +1,10 @@
 ghost use Rattle.std.specs.Prelude.{◌≡◌};
 
+use thiserror::Error;
+
 /// Not all parts of the ledger came back: permits were dropped, or are still out. Only a close makes one.
-#[derive(Clone, Copy, Debug, Drop, PartialEq, Eq)]
+#[derive(Clone, Copy, Debug, PartialEq, Eq, Error)]
+#[error("{parts} of {of} parts of the ledger came back")]
 pub struct Missing {
     /// The parts behind the lock and those of the permits that were given.
     pub parts: u64,

@@ -6,7 +6,7 @@ use Rattle.std.proofs.lemmas.List.{take_all, length-drop, drop-append-le, take-a
 use Rattle.std.proofs.lemmas.Option.{slice_get_read}
 use Rattle.std.proofs.Math.Seq.{drop-length}
 use Rattle.mea_family.specs.declared.answer.Answer.{Answer}
-use Rattle.mea_events.specs.Replies.{Told, with_wake, with_wakes}
+use Rattle.mea_events.specs.Replies.{ReplyList, with_wake, with_wakes}
 use Rattle.mea_events.specs.RepliesInside.{replies_of, AreOrdered}
 use Rattle.mea_events.specs.declared.replies.Reply.{Reply}
 
@@ -122,12 +122,12 @@ length-with_wake (r ∷ []) w = refl
 length-with_wake (r ∷ next ∷ rs) w = ap (λ n. suc n) (length-with_wake (next ∷ rs) w)
 
 -- wakes that are handed to the last reply one by one: those that are left give all the replies, and have room
-pub record Hands (all : List (Answer × List ℕ)) (wakes : List ℕ) (told : Told) : Type 0 where
+pub record Hands (all : List (Answer × List ℕ)) (wakes : List ℕ) (told : ReplyList) : Type 0 where
   pub replies : with_wakes told.replies wakes ≡ all
   pub room : length wakes ≤ told.spare
   pub last : told.replies ≢ []
 
-pub hands_one : (all : List (Answer × List ℕ)) (now wakes : List ℕ) (told new : Told) (w : ℕ) → Hands all now told → now ≡ w ∷ wakes
+pub hands_one : (all : List (Answer × List ℕ)) (now wakes : List ℕ) (told new : ReplyList) (w : ℕ) → Hands all now told → now ≡ w ∷ wakes
     → new ≡ record { replies = with_wake told.replies w; room = told.room; spare = told.spare - 1 } → Hands all wakes new
 hands_one all now wakes told new w h taken added =
     let replies : new.replies ≡ with_wake told.replies w = ap (λ t. t.replies) added in
@@ -152,10 +152,10 @@ told_reply rs pushed final answer before ws reply push over same woken quiet =
 
 -- ---- what a contract on a place means for the fields
 
-pub within_items : (rs : List Reply) (ws : List ℕ) (i n : ℕ) (t v : Told) → v ≡ t → v.replies ≡ replies_of rs ws → i < length t.replies → n ≡ length rs → i < n
+pub within_items : (rs : List Reply) (ws : List ℕ) (i n : ℕ) (t v : ReplyList) → v ≡ t → v.replies ≡ replies_of rs ws → i < length t.replies → n ≡ length rs → i < n
 within_items rs ws i n t v is seen within size =
     let same : length v.replies ≡ length rs = ap length seen ∙ length-replies_of rs ws in
-    let here : length t.replies ≡ length v.replies = ap (λ (u : Told). length u.replies) (sym is) in
+    let here : length t.replies ≡ length v.replies = ap (λ (u : ReplyList). length u.replies) (sym is) in
     omega arith
 
 -- the reply at a place that was read, with the end of its wakes

@@ -3,7 +3,7 @@ use Rattle.std.specs.Prelude.{ℕ, ◌++◌, List, [], ◌∷◌}
 use Rattle.mea_family.specs.declared.answer.Answer.{Answer}
 
 -- answers with their wakes, the places for more answers, and those for more wakes
-pub record Told : Type 0 where
+pub record ReplyList : Type 0 where
   pub replies : List (Answer × List ℕ)
   pub room : ℕ
   pub spare : ℕ

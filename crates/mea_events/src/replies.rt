@@ -1,6 +1,6 @@
 ghost use Rattle.std.specs.Prelude.{◌≡◌, ◌≢◌, ◌+◌, ◌-◌, ◌<◌, ◌≤◌, ◌++◌, ◌∷◌, [], length, IsOk, OnOk, slice_get, slice_range, Some};
 ghost use Rattle.std.specs.Option.{option_map, option_map_or};
-ghost use Rattle.mea_events.specs.Replies.{Told, with_wake};
+ghost use Rattle.mea_events.specs.Replies.{ReplyList, with_wake};
 
 use mea_base::NoMemory;
 use mea_family::Answer;
@@ -24,9 +24,9 @@ pub struct Replies {
 
 impl Model for Replies {
     ghost use Rattle.std.specs.Prelude.{◌-◌, length, vec_len, vec_capacity};
-    ghost use Rattle.mea_events.specs.Replies.{Told};
+    ghost use Rattle.mea_events.specs.Replies.{ReplyList};
 
-    ghost Value = { Told };
+    ghost Value = { ReplyList };
 
     ghost use Rattle.mea_events.specs.RepliesInside.{replies_of, AreOrdered};
 

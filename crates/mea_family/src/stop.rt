@@ -3,6 +3,8 @@ ghost use Rattle.mea_family.specs.Causes.{unknown_unless};
 
 use mea_base::NoMemory;
 use std::alloc::AllocFailed;
+use std::error::Error;
+use std::fmt;
 
 /// Why an event is refused. A refused event changes nothing.
 #[derive(Clone, Copy, Debug, PartialEq, Eq)]
@@ -18,6 +20,20 @@ pub enum Stop {
     /// There was no memory: the one answer that has no cause in the script.
     NoMemory,
 }
+
+impl fmt::Display for Stop {
+    fn fmt<O: fmt::Write>(&self, f: &mut fmt::Formatter<O>) -> fmt::Result {
+        f.write_str(match self {
+            Stop::Unknown => "no living thing has this name",
+            Stop::Borrowed => "something borrows it",
+            Stop::Zero => "a number has to be above 0",
+            Stop::Overflow => "a count is at its end",
+            Stop::NoMemory => "out of memory",
+        })
+    }
+}
+
+impl Error for Stop {}
 
 impl From<NoMemory> for Stop {
     ghost use Rattle.mea_family.specs.declared.stop.Stop.TheVariants as stops;

@@ -8,16 +8,39 @@ use mea_base::NoMemory;
 use mea_link::mpsc::{BoundedSend, BoundedSender, SendError, TrySendError};
 use mea_wait::PollFault;
 use std::alloc::Global;
+use std::error::Error;
+use std::fmt;
 use std::sync::Wait;
 
 /// Why an item was not sent.
-#[derive(Debug, PartialEq, Eq, Drop)]
+#[derive(PartialEq, Eq, Drop)]
 pub enum FeedError<T> {
     /// The receiver has ended, and the item comes back.
     Closed(T),
     /// A poll was refused, and the item was dropped.
     Refused(PollFault),
 }
+
+// The item is not shown, and nothing is asked of its type.
+impl<T> fmt::Debug for FeedError<T> {
+    fn fmt<O: fmt::Write>(&self, f: &mut fmt::Formatter<O>) -> fmt::Result {
+        match self {
+            FeedError::Closed(_) => f.write_str("Closed(..)"),
+            FeedError::Refused(fault) => write!(f, "Refused({fault:?})"),
+        }
+    }
+}
+
+impl<T> fmt::Display for FeedError<T> {
+    fn fmt<O: fmt::Write>(&self, f: &mut fmt::Formatter<O>) -> fmt::Result {
+        match self {
+            FeedError::Closed(_) => f.write_str("sending on a closed channel"),
+            FeedError::Refused(fault) => write!(f, "{fault}"),
+        }
+    }
+}
+
+impl<T: Drop> Error for FeedError<T> {}
 
 /// A bounded sender as a sink. An item goes at once where there is a place, as at each poll of a send. The sink holds one
 /// item at most, which else waits for its place behind those who wait; to drop it ends that wait, and drops the item where it

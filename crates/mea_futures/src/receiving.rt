@@ -10,9 +10,11 @@ use mea_wait::{End, Kept, PollFault, Polled, Unpolled, Waits};
 use std::alloc::Global;
 use std::marker::PhantomData;
 use std::sync::Wait;
+use thiserror::Error;
 
 /// This many messages of a broadcast were lost, since the receiver was slow; it goes on at the oldest that is kept.
-#[derive(Debug, Clone, Copy, PartialEq, Eq, Drop)]
+#[derive(Debug, Clone, Copy, PartialEq, Eq, Error)]
+#[error("receiver has been lagged by {0}")]
 pub struct Lagged(pub u64);
 
 /// A receiver that gives its messages one after another, and None once no more come: each of `mea::mpsc` and

@@ -13,13 +13,16 @@ use std::alloc::AllocGlobal;
 use std::io;
 use std::random::RandomSource;
 use std::sync::Wait;
+use thiserror::Error;
 
 /// Why permits were not taken.
-#[derive(Debug, Clone, Copy, PartialEq, Eq, Drop)]
+#[derive(Debug, Clone, Copy, PartialEq, Eq, Error)]
 pub enum TakeError {
     /// The semaphore was closed.
+    #[error("the semaphore is closed")]
     Closed,
     /// A poll was refused.
+    #[error("{0}")]
     Refused(PollFault),
 }
 

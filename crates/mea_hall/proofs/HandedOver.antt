@@ -4,14 +4,14 @@ use Rattle.mea_family.specs.declared.answer.Answer.{Answer}
 use Rattle.mea_events.specs.declared.event.Event.{Event}
 use Rattle.mea_hall.specs.World.{Play, Plays, registered, step}
 use Rattle.mea_hall.proofs.Families.{most_woken}
-use Rattle.mea_events.specs.Replies.{Told, with_wake}
+use Rattle.mea_events.specs.Replies.{ReplyList, with_wake}
 use Rattle.mea_events.proofs.ToldReplies.{Hands, hands_one}
 
-pub record HandsOver (start : Play) (all : List (Answer × List ℕ)) (now : Play) (told : Told) : Type 0 where
+pub record HandsOver (start : Play) (all : List (Answer × List ℕ)) (now : Play) (told : ReplyList) : Type 0 where
   pub hall : now ≡ record start { wakes = now.wakes }
   pub rest : Hands all now.wakes told
 
-pub hands_over : (start now next : Play) (all : List (Answer × List ℕ)) (told new : Told) (w : ℕ) → HandsOver start all now told
+pub hands_over : (start now next : Play) (all : List (Answer × List ℕ)) (told new : ReplyList) (w : ℕ) → HandsOver start all now told
     → now ≡ record next { wakes = w ∷ next.wakes } → new ≡ record { replies = with_wake told.replies w; room = told.room; spare = told.spare - 1 }
     → HandsOver start all next new
 hands_over start now next all told new w h taken added =

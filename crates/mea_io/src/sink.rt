@@ -1,12 +1,16 @@
 ghost use Rattle.std.specs.Prelude.{◌≡◌, ◌<◌, ◌≤◌, ℕ, List, Option, length, IfOk, OnErr};
 ghost use Rattle.mea_io.specs.Bytes.{Rose, Puts};
 
+use thiserror::Error;
+
 /// Why nothing was written.
-#[derive(Clone, Copy, Debug, PartialEq, Eq)]
+#[derive(Clone, Copy, Debug, PartialEq, Eq, Error)]
 pub enum PutFault {
     /// The write failed.
+    #[error("the write failed")]
     Failed,
     /// There was no memory for what was to be written.
+    #[error("out of memory")]
     NoMemory,
 }
 

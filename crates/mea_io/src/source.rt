@@ -1,8 +1,11 @@
 ghost use Rattle.std.specs.Prelude.{◌≡◌, ◌<◌, ◌≤◌, ℕ, List, Option, length, IfOk, OnErr};
 ghost use Rattle.mea_io.specs.Bytes.{Rose, Takes};
 
+use thiserror::Error;
+
 /// A read that failed. Nothing was read.
-#[derive(Clone, Copy, Debug, PartialEq, Eq)]
+#[derive(Clone, Copy, Debug, PartialEq, Eq, Error)]
+#[error("the read failed")]
 pub struct Failed;
 
 /// What gives the bytes of a script.

@@ -19,7 +19,7 @@ pub(crate) enum Step {
 
 // What a call told.
 #[derive(Clone, Copy, PartialEq, Eq)]
-pub(crate) enum Told {
+pub(crate) enum Reply {
     Running,
     Queued,
     Full,
@@ -62,9 +62,9 @@ impl Room {
 impl Plays for Room {
     type Call = Step;
 
-    type Told = Told;
+    type Reply = Reply;
 
-    fn told(&mut self, step: Step) -> Option<Told> {
+    fn reply(&mut self, step: Step) -> Option<Reply> {
         let core = &mut self.core;
         match step {
             Step::Job(number, key, value) => submit(core, number, key, value),
@@ -80,64 +80,64 @@ impl Plays for Room {
     }
 }
 
-fn submit(core: &mut JobCore<u64>, number: u64, key: u64, value: u64) -> Option<Told> {
+fn submit(core: &mut JobCore<u64>, number: u64, key: u64, value: u64) -> Option<Reply> {
     if !core.submit_allowed(number) {
         return None;
     }
     match core.submit(number, key, value) {
-        Ok(Start::Running) => Some(Told::Running),
-        Ok(Start::Queued) => Some(Told::Queued),
-        Err(SubmitError::Stopped) => Some(Told::Stopped),
-        Err(SubmitError::Full) => Some(Told::Full),
+        Ok(Start::Running) => Some(Reply::Running),
+        Ok(Start::Queued) => Some(Reply::Queued),
+        Err(SubmitError::Stopped) => Some(Reply::Stopped),
+        Err(SubmitError::Full) => Some(Reply::Full),
         Err(SubmitError::NoMemory) => None,
     }
 }
 
-fn finish(core: &mut JobCore<u64>, job: u64, outcome: u64) -> Told {
+fn finish(core: &mut JobCore<u64>, job: u64, outcome: u64) -> Reply {
     match core.finish(job, outcome) {
-        Ok(Some(next)) => Told::Starts(next),
-        Ok(None) => Told::Done,
-        Err(FinishError::Unknown) => Told::Unknown,
-        Err(FinishError::Full) => Told::Full,
+        Ok(Some(next)) => Reply::Starts(next),
+        Ok(None) => Reply::Done,
+        Err(FinishError::Unknown) => Reply::Unknown,
+        Err(FinishError::Full) => Reply::Full,
     }
 }
 
-fn recall(core: &mut JobCore<u64>, job: u64) -> Told {
+fn recall(core: &mut JobCore<u64>, job: u64) -> Reply {
     match core.recall(job) {
-        Ok(value) => Told::Value(value),
-        Err(_) => Told::Unknown,
+        Ok(value) => Reply::Value(value),
+        Err(_) => Reply::Unknown,
     }
 }
 
-fn pair(got: Option<(u64, u64)>) -> Told {
+fn pair(got: Option<(u64, u64)>) -> Reply {
     match got {
-        Some((job, number)) => Told::Pair(job, number),
-        None => Told::Nothing,
+        Some((job, number)) => Reply::Pair(job, number),
+        None => Reply::Nothing,
     }
 }
 
-fn stop(core: &mut JobCore<u64>) -> Told {
+fn stop(core: &mut JobCore<u64>) -> Reply {
     core.stop();
-    Told::Done
+    Reply::Done
 }
 
-fn poll(core: &mut JobCore<u64>, waker: u64) -> Option<Told> {
+fn poll(core: &mut JobCore<u64>, waker: u64) -> Option<Reply> {
     match core.poll_end(waker) {
-        Ok(Poll::Ready(())) => Some(Told::Ready),
-        Ok(Poll::Pending) => Some(Told::Pending),
+        Ok(Poll::Ready(())) => Some(Reply::Ready),
+        Ok(Poll::Pending) => Some(Reply::Pending),
         Err(_) => None,
     }
 }
 
-fn wake(core: &mut JobCore<u64>) -> Told {
+fn wake(core: &mut JobCore<u64>) -> Reply {
     match core.next_wake() {
-        Some(waker) => Told::Value(waker),
-        None => Told::Nothing,
+        Some(waker) => Reply::Value(waker),
+        None => Reply::Nothing,
     }
 }
 
-fn counted(counts: Counts) -> Told {
-    Told::Counted(
+fn counted(counts: Counts) -> Reply {
+    Reply::Counted(
         counts.accepted,
         counts.running,
         counts.queued,

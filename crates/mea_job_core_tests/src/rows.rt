@@ -1,6 +1,6 @@
 use crate::play::Room;
 use crate::play::Step::{Back, Count, Finish, Job, Poll, Recall, Stop, Take, Wake};
-use crate::play::Told::{
+use crate::play::Reply::{
     Counted, Done, Full, Nothing, Pair, Pending, Queued, Ready, Running, Starts, Stopped, Unknown,
     Value,
 };

@@ -2,7 +2,7 @@
 ghost use Rattle.std.specs.Prelude.{IfSome};
 
 use mea_keep::{Claim, Claimed};
-use mea_test_support::{Bell, Count, Told, gives, poll};
+use mea_test_support::{Bell, Count, PollOutcome, gives, poll};
 use mea_wait::{End, Waits};
 use std::sync::Wait;
 
@@ -30,13 +30,13 @@ pub(crate) fn queues<R: Wait, F: Waits<Bell, Claimed<V, C>>, V: Drop, C: End>(
     ensures { IfSome result F.can_poll }
 {
     match poll(rt, wait, count) {
-        Told::Ready(Claimed::Mine(claim)) => {
+        PollOutcome::Ready(Claimed::Mine(claim)) => {
             claim.end(rt);
             None
         }
-        Told::Ready(Claimed::There(_)) => None,
-        Told::Pending(wait) => Some(wait),
-        Told::Refused => None,
+        PollOutcome::Ready(Claimed::There(_)) => None,
+        PollOutcome::Pending(wait) => Some(wait),
+        PollOutcome::Refused => None,
     }
 }
 

@@ -1,7 +1,7 @@
 use mea_base::Poll;
 use mea_keep::singleflight::Group;
 use mea_keep::{Init, Never};
-use mea_test_support::{Bell, Count, Told, count, poll, polled_for};
+use mea_test_support::{Bell, Count, PollOutcome, count, poll, polled_for};
 use std::alloc::{AllocError, Global};
 use std::hash::{BuildHasherDefault, FoldHasher};
 use std::sync::Wait;
@@ -49,9 +49,9 @@ fn works<R: Wait>(
     let told = poll(rt, group.work(1, init), bell);
     waiting.fetch_add(1, SeqCst);
     match told {
-        Told::Ready(value) => Some(value),
-        Told::Pending(wait) => polled_for(rt, wait, bell, 10_000_000),
-        Told::Refused => None,
+        PollOutcome::Ready(value) => Some(value),
+        PollOutcome::Pending(wait) => polled_for(rt, wait, bell, 10_000_000),
+        PollOutcome::Refused => None,
     }
 }
 

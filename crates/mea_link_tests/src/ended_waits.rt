@@ -7,7 +7,7 @@ use mea_link::shutdown::{ShutdownRecv, ShutdownSend, new_pair};
 use mea_link::waitgroup::WaitGroup;
 use mea_meet_core::{GroupWait, LatchWait};
 use mea_meet_seats::{GroupSeats, LatchSeats, Seat};
-use mea_test_support::{Bell, Count, Told, count, end, gives, goes_on, poll, rung};
+use mea_test_support::{Bell, Count, PollOutcome, count, end, gives, goes_on, poll, rung};
 use mea_wait::{End, Waits};
 use std::process::Abort;
 use std::sync::{Arc, Wait};
@@ -17,12 +17,12 @@ fn comes_and_goes<R: Wait, F: Waits<Bell, O>, O: Drop>(rt: &R, wait: F, count: &
     requires { F.can_poll wait }
 {
     match poll(rt, wait, count) {
-        Told::Pending(wait) => {
+        PollOutcome::Pending(wait) => {
             wait.end(rt);
             true
         }
-        Told::Ready(_output) => false,
-        Told::Refused => false,
+        PollOutcome::Ready(_output) => false,
+        PollOutcome::Refused => false,
     }
 }
 

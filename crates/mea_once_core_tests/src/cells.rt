@@ -1,6 +1,6 @@
 use crate::inits::{Computes, Settling};
-use crate::play::Told;
-use crate::play::Told::{Back, Done, Error, Nothing, Pending, Value};
+use crate::play::Reply;
+use crate::play::Reply::{Back, Done, Error, Nothing, Pending, Value};
 use mea_base::Poll;
 use mea_once_core::{CellCore, CellStage, CellTurn, InitCall, InsertCall};
 use mea_test_support::{Plays, differs_at};
@@ -50,9 +50,9 @@ impl Room {
 impl Plays for Room {
     type Call = Call;
 
-    type Told = Told;
+    type Reply = Reply;
 
-    fn told(&mut self, call: Call) -> Option<Told> {
+    fn reply(&mut self, call: Call) -> Option<Reply> {
         match call {
             Call::Compute => made(&mut self.inits, InitCall::new(Settling::new()), Done),
             Call::PollInit(place, waker) => {
@@ -66,39 +66,39 @@ impl Plays for Room {
             }
             Call::EndInsert(place) => insert_ended(&mut self.cell, self.inserts.get_mut(place)?),
             Call::Turn(waker) => turned(&mut self.cell, &mut self.inits, waker),
-            Call::Wake => Some(Told::found(self.cell.next_wake())),
-            Call::Get => Some(Told::found(self.cell.get().copied())),
+            Call::Wake => Some(Reply::found(self.cell.next_wake())),
+            Call::Get => Some(Reply::found(self.cell.get().copied())),
             Call::IsIdle => Some(if self.cell.is_idle() { Done } else { Pending }),
         }
     }
 }
 
-fn made<T: Drop>(calls: &mut Vec<Option<T>>, call: T, told: Told) -> Option<Told> {
+fn made<T: Drop>(calls: &mut Vec<Option<T>>, call: T, told: Reply) -> Option<Reply> {
     match calls.push(Some(call)) {
         Ok(()) => Some(told),
         Err(_) => None,
     }
 }
 
-fn polled(cell: &mut Cell, call: &mut Option<Init>, waker: u64) -> Option<Told> {
+fn polled(cell: &mut Cell, call: &mut Option<Init>, waker: u64) -> Option<Reply> {
     match cell.poll_init_checked(call.as_mut()?, waker) {
         Ok(Poll::Pending) => Some(Pending),
         Ok(Poll::Ready(Err(e))) => Some(Error(e)),
-        Ok(Poll::Ready(Ok(()))) => Some(Told::found(cell.get().copied())),
+        Ok(Poll::Ready(Ok(()))) => Some(Reply::found(cell.get().copied())),
         Err(_) => None,
     }
 }
 
-fn settled(call: &mut Option<Init>, end: Result<u64, u64>) -> Option<Told> {
-    Some(Told::found(call.as_mut()?.init.settle(end)))
+fn settled(call: &mut Option<Init>, end: Result<u64, u64>) -> Option<Reply> {
+    Some(Reply::found(call.as_mut()?.init.settle(end)))
 }
 
-fn init_ended(cell: &mut Cell, call: &mut Option<Init>) -> Option<Told> {
+fn init_ended(cell: &mut Cell, call: &mut Option<Init>) -> Option<Reply> {
     cell.end_init_checked(call.take()?);
     Some(Done)
 }
 
-fn inserted(cell: &mut Cell, call: &mut Option<Insert>, waker: u64) -> Option<Told> {
+fn inserted(cell: &mut Cell, call: &mut Option<Insert>, waker: u64) -> Option<Reply> {
     match cell.poll_insert_checked(call.as_mut()?, waker) {
         Ok(Poll::Pending) => Some(Pending),
         Ok(Poll::Ready(Ok(()))) => Some(Done),
@@ -107,7 +107,7 @@ fn inserted(cell: &mut Cell, call: &mut Option<Insert>, waker: u64) -> Option<To
     }
 }
 
-fn insert_ended(cell: &mut Cell, call: &mut Option<Insert>) -> Option<Told> {
+fn insert_ended(cell: &mut Cell, call: &mut Option<Insert>) -> Option<Reply> {
     let ended = call.take()?;
     if ended.value.is_none() {
         return None;
@@ -115,7 +115,7 @@ fn insert_ended(cell: &mut Cell, call: &mut Option<Insert>) -> Option<Told> {
     Some(Back(cell.end_insert_checked(ended)))
 }
 
-fn turned(cell: &mut Cell, calls: &mut Vec<Option<Init>>, waker: u64) -> Option<Told> {
+fn turned(cell: &mut Cell, calls: &mut Vec<Option<Init>>, waker: u64) -> Option<Reply> {
     let mut stage = CellStage::New;
     match cell.poll_turn(&mut stage, waker) {
         Ok(CellTurn::Mine(waker)) => {

@@ -1,7 +1,7 @@
 ghost use Rattle.std.specs.Prelude.{◌≡◌, Result};
 
-use crate::play::Told;
-use crate::play::Told::{Back, Done, Error, Nothing, Pending};
+use crate::play::Reply;
+use crate::play::Reply::{Back, Done, Error, Nothing, Pending};
 use mea_base::{NoMemory, Poll};
 use mea_once_core::{FlightCore, Init, KeyCall, MapCore};
 use mea_test_support::Collides;
@@ -49,7 +49,7 @@ type Call<'a> = KeyCall<u64, Holding<'a>>;
 type Polled<'a> = Result<Poll<Result<Refusing<'a>, u64>>, (Option<u64>, NoMemory)>;
 
 // What a poll tells: that it is ready, or, where the clone is refused, whether its waker comes back.
-fn told(polled: &Polled<'_>) -> Told {
+fn reply(polled: &Polled<'_>) -> Reply {
     match polled {
         Ok(Poll::Ready(Ok(_))) => Done,
         Ok(Poll::Ready(Err(e))) => Error(*e),
@@ -61,7 +61,7 @@ fn told(polled: &Polled<'_>) -> Told {
 
 type Map<'a> = MapCore<u64, Refusing<'a>, Collides, u64>;
 
-fn computed<'a>(map: &mut Map<'a>, call: &mut Call<'a>, waker: u64) -> Told {
+fn computed<'a>(map: &mut Map<'a>, call: &mut Call<'a>, waker: u64) -> Reply {
     told(&map.poll_compute_checked(call, waker))
 }
 
@@ -79,7 +79,7 @@ fn worked<'a>(
     group: &mut FlightCore<u64, Refusing<'a>, Collides, u64>,
     call: &mut Call<'a>,
     waker: u64,
-) -> Told {
+) -> Reply {
     told(&group.poll_work_checked(call, waker))
 }
 

@@ -1,6 +1,6 @@
 use crate::inits::Settling;
-use crate::play::Told::{Done, Nothing, Pending, Value};
-use crate::play::{Told, answers};
+use crate::play::Reply::{Done, Nothing, Pending, Value};
+use crate::play::{Reply, answers};
 use mea_once_core::{FlightCore, KeyCall, MapCore};
 use mea_test_support::{Collides, Plays, differs_at};
 use std::alloc::{AllocError, Global};
@@ -42,49 +42,49 @@ impl<M> Room<M> {
 
 // What a map and a group do in their own ways.
 trait Keyed: Drop {
-    fn polled(&mut self, call: &mut Call, waker: u64) -> Told;
+    fn polled(&mut self, call: &mut Call, waker: u64) -> Reply;
 
     fn ended(&mut self, call: Call);
 
     // A call by key alone, or a wake. None means want of memory, or what it does not do.
-    fn told(&mut self, step: Step) -> Option<Told>;
+    fn reply(&mut self, step: Step) -> Option<Reply>;
 }
 
 impl<S: BuildHasher + Drop> Keyed for MapCore<u64, u64, S, u64> {
-    fn polled(&mut self, call: &mut Call, waker: u64) -> Told {
-        Told::of(self.poll_compute_checked(call, waker))
+    fn polled(&mut self, call: &mut Call, waker: u64) -> Reply {
+        Reply::of(self.poll_compute_checked(call, waker))
     }
 
     fn ended(&mut self, call: Call) {
         self.end_compute_checked(call);
     }
 
-    fn told(&mut self, step: Step) -> Option<Told> {
+    fn reply(&mut self, step: Step) -> Option<Reply> {
         match step {
-            Step::Remove(key) => Some(Told::found(self.remove(&key).ok()?)),
-            Step::Get(key) => Some(Told::found(self.get(&key).ok()?)),
-            Step::Wake => Some(Told::found(self.next_wake())),
+            Step::Remove(key) => Some(Reply::found(self.remove(&key).ok()?)),
+            Step::Get(key) => Some(Reply::found(self.get(&key).ok()?)),
+            Step::Wake => Some(Reply::found(self.next_wake())),
             _ => None,
         }
     }
 }
 
 impl<S: BuildHasher + Drop> Keyed for FlightCore<u64, u64, S, u64> {
-    fn polled(&mut self, call: &mut Call, waker: u64) -> Told {
-        Told::of(self.poll_work_checked(call, waker))
+    fn polled(&mut self, call: &mut Call, waker: u64) -> Reply {
+        Reply::of(self.poll_work_checked(call, waker))
     }
 
     fn ended(&mut self, call: Call) {
         self.end_work_checked(call);
     }
 
-    fn told(&mut self, step: Step) -> Option<Told> {
+    fn reply(&mut self, step: Step) -> Option<Reply> {
         match step {
             Step::Forget(key) => {
                 self.forget(&key);
                 Some(Done)
             }
-            Step::Wake => Some(Told::found(self.next_wake())),
+            Step::Wake => Some(Reply::found(self.next_wake())),
             _ => None,
         }
     }
@@ -93,9 +93,9 @@ impl<S: BuildHasher + Drop> Keyed for FlightCore<u64, u64, S, u64> {
 impl<M: Keyed> Plays for Room<M> {
     type Call = Step;
 
-    type Told = Told;
+    type Reply = Reply;
 
-    fn told(&mut self, step: Step) -> Option<Told> {
+    fn reply(&mut self, step: Step) -> Option<Reply> {
         match step {
             Step::Ask(key) => asked(&mut self.calls, key),
             Step::Poll(place, waker) => {
@@ -109,20 +109,20 @@ impl<M: Keyed> Plays for Room<M> {
                 self.keyed.ended(self.calls.get_mut(place)?.take()?);
                 Some(Done)
             }
-            _ => self.keyed.told(step),
+            _ => self.keyed.reply(step),
         }
     }
 }
 
-fn asked(calls: &mut Vec<Option<Call>>, key: u64) -> Option<Told> {
+fn asked(calls: &mut Vec<Option<Call>>, key: u64) -> Option<Reply> {
     match calls.push(Some(KeyCall::new(key, Settling::new()))) {
         Ok(()) => Some(Done),
         Err(_) => None,
     }
 }
 
-fn settled(call: &mut Option<Call>, end: Result<u64, u64>) -> Option<Told> {
-    Some(Told::found(call.as_mut()?.call.init.settle(end)))
+fn settled(call: &mut Option<Call>, end: Result<u64, u64>) -> Option<Reply> {
+    Some(Reply::found(call.as_mut()?.call.init.settle(end)))
 }
 
 // A removed entry stays for its callers.
@@ -300,11 +300,11 @@ fn are_taken<M: Keyed>(mut map: M, keys: u64) -> bool {
         }
     }
     for key in 0..keys {
-        if map.told(Step::Remove(key)) != Some(Value(key)) {
+        if map.reply(Step::Remove(key)) != Some(Value(key)) {
             return false;
         }
     }
-    map.told(Step::Get(7)) == Some(Nothing)
+    map.reply(Step::Get(7)) == Some(Nothing)
 }
 
 // Many keys are computed and taken again.

@@ -18,7 +18,7 @@ pub(crate) enum Call {
 
 // What a call told: its answer, and the wakers that it made ready.
 #[derive(Debug, PartialEq, Eq, Drop)]
-pub(crate) enum Told {
+pub(crate) enum Reply {
     Made,
     Leased(usize, u64),
     Pending,
@@ -58,18 +58,18 @@ impl Player {
         }
     }
 
-    fn poll(&mut self, ask: usize, waker: u64) -> Told {
+    fn poll(&mut self, ask: usize, waker: u64) -> Reply {
         let Some(Some(mut wait)) = self.asks.get_mut(ask).map(|w| w.take()) else {
-            return Told::Unknown;
+            return Reply::Unknown;
         };
         if !self.pool.poll_lease_allowed(&wait) {
-            return Told::Unknown;
+            return Reply::Unknown;
         }
         match self.pool.poll_lease(&mut wait, waker) {
             Ok(LeasePoll::Got(lease)) => {
-                let told = Told::Leased(lease.slot(), *lease.resource());
+                let told = Reply::Leased(lease.slot(), *lease.resource());
                 if self.leases.push(Some(lease)).is_err() {
-                    return Told::Unknown;
+                    return Reply::Unknown;
                 }
                 told
             }
@@ -77,86 +77,86 @@ impl Player {
                 if let Some(place) = self.asks.get_mut(ask) {
                     *place = Some(wait);
                 }
-                Told::Pending
+                Reply::Pending
             }
-            Ok(LeasePoll::Closed) => Told::Gone,
-            Err(_) => Told::Unknown,
+            Ok(LeasePoll::Closed) => Reply::Gone,
+            Err(_) => Reply::Unknown,
         }
     }
 
-    fn poll_wait(&mut self, at: usize, waker: u64) -> Told {
+    fn poll_wait(&mut self, at: usize, waker: u64) -> Reply {
         let Some(Some(mut wait)) = self.waits.get_mut(at).map(|w| w.take()) else {
-            return Told::Unknown;
+            return Reply::Unknown;
         };
         if !self.pool.poll_drained_allowed(&wait) {
-            return Told::Unknown;
+            return Reply::Unknown;
         }
         match self.pool.poll_drained(&mut wait, waker) {
-            Ok(Poll::Ready(())) => Told::Ready,
+            Ok(Poll::Ready(())) => Reply::Ready,
             Ok(Poll::Pending) => {
                 if let Some(place) = self.waits.get_mut(at) {
                     *place = Some(wait);
                 }
-                Told::Pending
+                Reply::Pending
             }
-            Err(_) => Told::Unknown,
+            Err(_) => Reply::Unknown,
         }
     }
 
-    pub(crate) fn play(&mut self, call: Call) -> Told {
+    pub(crate) fn play(&mut self, call: Call) -> Reply {
         match call {
             Call::Ask => match self.asks.push(Some(LeaseWait::new())) {
-                Ok(()) => Told::Made,
-                Err(_) => Told::Unknown,
+                Ok(()) => Reply::Made,
+                Err(_) => Reply::Unknown,
             },
             Call::Wait => match self.waits.push(Some(DrainWait::new())) {
-                Ok(()) => Told::Made,
-                Err(_) => Told::Unknown,
+                Ok(()) => Reply::Made,
+                Err(_) => Reply::Unknown,
             },
             Call::Poll(ask, waker) => self.poll(ask, waker),
             Call::PollWait(at, waker) => self.poll_wait(at, waker),
             Call::End(ask) => {
                 let Some(Some(wait)) = self.asks.get_mut(ask).map(|w| w.take()) else {
-                    return Told::Unknown;
+                    return Reply::Unknown;
                 };
                 if !self.pool.cancel_lease_allowed(&wait) {
-                    return Told::Unknown;
+                    return Reply::Unknown;
                 }
                 self.pool.cancel_lease(wait);
-                Told::Done
+                Reply::Done
             }
             Call::EndWait(at) => {
                 let Some(Some(wait)) = self.waits.get_mut(at).map(|w| w.take()) else {
-                    return Told::Unknown;
+                    return Reply::Unknown;
                 };
                 if !self.pool.end_drain_allowed(&wait) {
-                    return Told::Unknown;
+                    return Reply::Unknown;
                 }
                 self.pool.end_drain(wait);
-                Told::Done
+                Reply::Done
             }
             Call::Use(at, value) => {
                 if let Some(Some(lease)) = self.leases.get_mut(at) {
                     *lease.resource_mut() = value;
-                    return Told::Done;
+                    return Reply::Done;
                 }
-                Told::Unknown
+                Reply::Unknown
             }
             Call::Back(at) => {
                 let Some(Some(lease)) = self.leases.get_mut(at).map(|l| l.take()) else {
-                    return Told::Unknown;
+                    return Reply::Unknown;
                 };
                 if !self.pool.put_back_allowed(&lease) {
-                    return Told::Unknown;
+                    return Reply::Unknown;
                 }
                 self.pool.put_back(lease);
-                Told::Done
+                Reply::Done
             }
             Call::Drain => {
                 self.pool.drain();
-                Told::Done
+                Reply::Done
             }
-            Call::Idle => Told::Count(self.pool.idle()),
+            Call::Idle => Reply::Count(self.pool.idle()),
         }
     }
 

@@ -1,7 +1,7 @@
-use crate::play::{Call, Player, Told};
+use crate::play::{Call, Player, Reply};
 
 // Plays a call, and tells whether it had this answer and woke these.
-fn plays(player: &mut Player, call: Call, told: Told, wakes: &[u64]) -> bool {
+fn plays(player: &mut Player, call: Call, told: Reply, wakes: &[u64]) -> bool {
     if player.play(call) != told || player.wakes_ready() != wakes.len() {
         return false;
     }
@@ -20,27 +20,27 @@ fn two_resources(rt: HostRuntime) {
     let Some(mut p) = Player::new(rt.alloc(), 2) else {
         panic!(rt; "no memory");
     };
-    assert!(rt; plays(&mut p, Call::Ask, Told::Made, &[]));
-    assert!(rt; plays(&mut p, Call::Poll(0, 5), Told::Leased(0, 0), &[]));
-    assert!(rt; plays(&mut p, Call::Ask, Told::Made, &[]));
-    assert!(rt; plays(&mut p, Call::Poll(1, 6), Told::Leased(1, 1), &[]));
-    assert!(rt; plays(&mut p, Call::Ask, Told::Made, &[]));
-    assert!(rt; plays(&mut p, Call::Poll(2, 7), Told::Pending, &[]));
-    assert!(rt; plays(&mut p, Call::Use(0, 40), Told::Done, &[]));
-    assert!(rt; plays(&mut p, Call::Back(0), Told::Done, &[7]));
-    assert!(rt; plays(&mut p, Call::Poll(2, 8), Told::Leased(0, 40), &[]));
-    assert!(rt; plays(&mut p, Call::Idle, Told::Count(0), &[]));
-    assert!(rt; plays(&mut p, Call::Ask, Told::Made, &[]));
-    assert!(rt; plays(&mut p, Call::Poll(3, 9), Told::Pending, &[]));
-    assert!(rt; plays(&mut p, Call::Drain, Told::Done, &[9]));
+    assert!(rt; plays(&mut p, Call::Ask, Reply::Made, &[]));
+    assert!(rt; plays(&mut p, Call::Poll(0, 5), Reply::Leased(0, 0), &[]));
+    assert!(rt; plays(&mut p, Call::Ask, Reply::Made, &[]));
+    assert!(rt; plays(&mut p, Call::Poll(1, 6), Reply::Leased(1, 1), &[]));
+    assert!(rt; plays(&mut p, Call::Ask, Reply::Made, &[]));
+    assert!(rt; plays(&mut p, Call::Poll(2, 7), Reply::Pending, &[]));
+    assert!(rt; plays(&mut p, Call::Use(0, 40), Reply::Done, &[]));
+    assert!(rt; plays(&mut p, Call::Back(0), Reply::Done, &[7]));
+    assert!(rt; plays(&mut p, Call::Poll(2, 8), Reply::Leased(0, 40), &[]));
+    assert!(rt; plays(&mut p, Call::Idle, Reply::Count(0), &[]));
+    assert!(rt; plays(&mut p, Call::Ask, Reply::Made, &[]));
+    assert!(rt; plays(&mut p, Call::Poll(3, 9), Reply::Pending, &[]));
+    assert!(rt; plays(&mut p, Call::Drain, Reply::Done, &[9]));
     assert!(rt; p.is_draining() && !p.is_drained());
-    assert!(rt; plays(&mut p, Call::Poll(3, 9), Told::Gone, &[]));
-    assert!(rt; plays(&mut p, Call::Wait, Told::Made, &[]));
-    assert!(rt; plays(&mut p, Call::PollWait(0, 3), Told::Pending, &[]));
-    assert!(rt; plays(&mut p, Call::Back(1), Told::Done, &[]));
-    assert!(rt; plays(&mut p, Call::Back(2), Told::Done, &[3]));
-    assert!(rt; plays(&mut p, Call::PollWait(0, 4), Told::Ready, &[]));
-    assert!(rt; plays(&mut p, Call::Idle, Told::Count(2), &[]));
+    assert!(rt; plays(&mut p, Call::Poll(3, 9), Reply::Gone, &[]));
+    assert!(rt; plays(&mut p, Call::Wait, Reply::Made, &[]));
+    assert!(rt; plays(&mut p, Call::PollWait(0, 3), Reply::Pending, &[]));
+    assert!(rt; plays(&mut p, Call::Back(1), Reply::Done, &[]));
+    assert!(rt; plays(&mut p, Call::Back(2), Reply::Done, &[3]));
+    assert!(rt; plays(&mut p, Call::PollWait(0, 4), Reply::Ready, &[]));
+    assert!(rt; plays(&mut p, Call::Idle, Reply::Count(2), &[]));
     let Some(resources) = p.into_resources() else {
         panic!(rt; "not drained");
     };
@@ -53,19 +53,19 @@ fn one_resource(rt: HostRuntime) {
     let Some(mut p) = Player::new(rt.alloc(), 1) else {
         panic!(rt; "no memory");
     };
-    assert!(rt; plays(&mut p, Call::Ask, Told::Made, &[]));
-    assert!(rt; plays(&mut p, Call::Poll(0, 1), Told::Leased(0, 0), &[]));
-    assert!(rt; plays(&mut p, Call::Ask, Told::Made, &[]));
-    assert!(rt; plays(&mut p, Call::Poll(1, 2), Told::Pending, &[]));
-    assert!(rt; plays(&mut p, Call::Back(0), Told::Done, &[2]));
-    assert!(rt; plays(&mut p, Call::Drain, Told::Done, &[]));
-    assert!(rt; plays(&mut p, Call::Wait, Told::Made, &[]));
-    assert!(rt; plays(&mut p, Call::PollWait(0, 3), Told::Pending, &[]));
-    assert!(rt; plays(&mut p, Call::End(1), Told::Done, &[3]));
-    assert!(rt; plays(&mut p, Call::PollWait(0, 4), Told::Ready, &[]));
-    assert!(rt; plays(&mut p, Call::Ask, Told::Made, &[]));
-    assert!(rt; plays(&mut p, Call::Poll(2, 5), Told::Gone, &[]));
-    assert!(rt; plays(&mut p, Call::Back(0), Told::Unknown, &[]));
+    assert!(rt; plays(&mut p, Call::Ask, Reply::Made, &[]));
+    assert!(rt; plays(&mut p, Call::Poll(0, 1), Reply::Leased(0, 0), &[]));
+    assert!(rt; plays(&mut p, Call::Ask, Reply::Made, &[]));
+    assert!(rt; plays(&mut p, Call::Poll(1, 2), Reply::Pending, &[]));
+    assert!(rt; plays(&mut p, Call::Back(0), Reply::Done, &[2]));
+    assert!(rt; plays(&mut p, Call::Drain, Reply::Done, &[]));
+    assert!(rt; plays(&mut p, Call::Wait, Reply::Made, &[]));
+    assert!(rt; plays(&mut p, Call::PollWait(0, 3), Reply::Pending, &[]));
+    assert!(rt; plays(&mut p, Call::End(1), Reply::Done, &[3]));
+    assert!(rt; plays(&mut p, Call::PollWait(0, 4), Reply::Ready, &[]));
+    assert!(rt; plays(&mut p, Call::Ask, Reply::Made, &[]));
+    assert!(rt; plays(&mut p, Call::Poll(2, 5), Reply::Gone, &[]));
+    assert!(rt; plays(&mut p, Call::Back(0), Reply::Unknown, &[]));
     assert!(rt; p.is_drained());
 }
 
@@ -75,16 +75,16 @@ fn waits_for_the_end(rt: HostRuntime) {
     let Some(mut p) = Player::new(rt.alloc(), 0) else {
         panic!(rt; "no memory");
     };
-    assert!(rt; plays(&mut p, Call::Wait, Told::Made, &[]));
-    assert!(rt; plays(&mut p, Call::Wait, Told::Made, &[]));
-    assert!(rt; plays(&mut p, Call::Wait, Told::Made, &[]));
-    assert!(rt; plays(&mut p, Call::PollWait(1, 10), Told::Pending, &[]));
-    assert!(rt; plays(&mut p, Call::PollWait(0, 11), Told::Pending, &[]));
-    assert!(rt; plays(&mut p, Call::PollWait(2, 12), Told::Pending, &[]));
-    assert!(rt; plays(&mut p, Call::PollWait(1, 13), Told::Pending, &[]));
-    assert!(rt; plays(&mut p, Call::EndWait(0), Told::Done, &[]));
-    assert!(rt; plays(&mut p, Call::Drain, Told::Done, &[13, 12]));
-    assert!(rt; plays(&mut p, Call::Drain, Told::Done, &[]));
-    assert!(rt; plays(&mut p, Call::PollWait(2, 14), Told::Ready, &[]));
-    assert!(rt; plays(&mut p, Call::EndWait(1), Told::Done, &[]));
+    assert!(rt; plays(&mut p, Call::Wait, Reply::Made, &[]));
+    assert!(rt; plays(&mut p, Call::Wait, Reply::Made, &[]));
+    assert!(rt; plays(&mut p, Call::Wait, Reply::Made, &[]));
+    assert!(rt; plays(&mut p, Call::PollWait(1, 10), Reply::Pending, &[]));
+    assert!(rt; plays(&mut p, Call::PollWait(0, 11), Reply::Pending, &[]));
+    assert!(rt; plays(&mut p, Call::PollWait(2, 12), Reply::Pending, &[]));
+    assert!(rt; plays(&mut p, Call::PollWait(1, 13), Reply::Pending, &[]));
+    assert!(rt; plays(&mut p, Call::EndWait(0), Reply::Done, &[]));
+    assert!(rt; plays(&mut p, Call::Drain, Reply::Done, &[13, 12]));
+    assert!(rt; plays(&mut p, Call::Drain, Reply::Done, &[]));
+    assert!(rt; plays(&mut p, Call::PollWait(2, 14), Reply::Ready, &[]));
+    assert!(rt; plays(&mut p, Call::EndWait(1), Reply::Done, &[]));
 }

@@ -3,7 +3,7 @@ use Rattle.std.proofs.Common.{◌≡◌, ℕ, ◌+◌, ◌-◌, ◌≤◌, ◌++
 use Rattle.mea_family.specs.declared.answer.Answer.{Answer}
 use Rattle.mea_family.specs.declared.stop.Stop.{Stop}
 use Rattle.mea_family.specs.declared.stop.Stop.TheVariants as stops
-use Rattle.mea_events.specs.Replies.{Told}
+use Rattle.mea_events.specs.Replies.{ReplyList}
 use Rattle.mea_sem.specs.Play.{Play, Plays}
 use Rattle.mea_events.specs.declared.sem_event.SemEvent.{SemEvent}
 use Rattle.mea_events.specs.declared.sem_event.SemEvent.TheVariants.{New}
@@ -37,7 +37,7 @@ waiting_after h i e = at (registers e) refl
     at false not_one = omega (arith, (settles h i e).falls not_one)
 
 -- what is known once an event was played and its wakes were handed over
-pub record Follows (old mid new : Play) (h g : History) (e : SemEvent) (answer : Answer) (living after room : ℕ) (told : Told) : Type 0 where
+pub record Follows (old mid new : Play) (h g : History) (e : SemEvent) (answer : Answer) (living after room : ℕ) (told : ReplyList) : Type 0 where
   pub allowed : cause_of old.hall e ≡ None
   pub played : Plays old (length h.events) e answer mid
   pub handed : new ≡ record mid { wakes = [] }
@@ -48,7 +48,7 @@ pub record Follows (old mid new : Play) (h g : History) (e : SemEvent) (answer :
   pub answers : after ≤ told.room
   pub wakes : waiters old.hall + wakes_more e ≤ told.spare + length mid.wakes
 
-pub kept_next : (old mid new : Play) (h g : History) (e : SemEvent) (answer : Answer) (living before after room : ℕ) (first told : Told)
+pub kept_next : (old mid new : Play) (h g : History) (e : SemEvent) (answer : Answer) (living before after room : ℕ) (first told : ReplyList)
     → IsKeptHistory old h living before first → Follows old mid new h g e answer living after room told → IsKeptHistory new g after room told
 kept_next old mid new h g e answer living before after room first told k f =
     let hall : new.hall ≡ (step old.hall (length h.events) e).hall = ap (λ p. p.hall) f.handed ∙ ap (λ p. p.hall) f.played.moved in
@@ -72,7 +72,7 @@ kept_next old mid new h g e answer living before after room first told k f =
       wakes = omega (arith, waits, f.wakes);
     }
 
-pub kept_first : (old new : Play) (g : History) (n room : ℕ) (answer : Answer) (told : Told) → old ≡ record { hall = empty_hall; wakes = []; next = 0 }
+pub kept_first : (old new : Play) (g : History) (n room : ℕ) (answer : Answer) (told : ReplyList) → old ≡ record { hall = empty_hall; wakes = []; next = 0 }
     → Plays old 0 (New n) answer new → g.events ≡ New n ∷ [] → g.replies ≡ (answer, []) ∷ [] → IsKeptHistory new g 0 room told
 kept_first old new g n room answer told is played events replies =
     let hall : new.hall ≡ (step empty_hall 0 (New n)).hall = ap (λ p. p.hall) played.moved ∙ ap (λ (p : Play). (step p.hall 0 (New n)).hall) is in

@@ -1,4 +1,5 @@
 use mea_family::{Answer, Stop};
+use thiserror::Error;
 
 /// What is told of an event that was played: the number of its entry in the history, and its answer.
 #[derive(Clone, Copy, Debug, Drop, PartialEq, Eq)]
@@ -10,7 +11,8 @@ pub struct Receipt {
 }
 
 /// Why an event was not played, and how many entries there were then. The history is as before.
-#[derive(Clone, Copy, Debug, Drop, PartialEq, Eq)]
+#[derive(Clone, Copy, Debug, PartialEq, Eq, Error)]
+#[error("{stop}, at entry {at}")]
 pub struct Refused {
     /// Why.
     pub stop: Stop,

@@ -21,7 +21,7 @@ pub(crate) enum Step {
 
 // What a call told: nothing, that it had no permit, a number, or that there was no further number for this waker.
 #[derive(Clone, Copy, PartialEq, Eq)]
-pub(crate) enum Told {
+pub(crate) enum Reply {
     Done,
     Pending,
     Number(u64),
@@ -51,9 +51,9 @@ impl<S: BuildHasher> Room<S> {
 impl<S: BuildHasher + Drop> Plays for Room<S> {
     type Call = Step;
 
-    type Told = Told;
+    type Reply = Reply;
 
-    fn told(&mut self, step: Step) -> Option<Told> {
+    fn reply(&mut self, step: Step) -> Option<Reply> {
         let core = &mut self.core;
         match step {
             Step::Weigh(key, weight) => weigh(core, &named(self.alloc, key)?, weight),
@@ -64,21 +64,21 @@ impl<S: BuildHasher + Drop> Plays for Room<S> {
             Step::End(place) => end(core, self.acquires.get_mut(place)?),
             Step::Release(key) => release(core, &named(self.alloc, key)?),
             Step::Wake => Some(wake(core)),
-            Step::Free => Some(Told::Number(core.available_permits() as u64)),
-            Step::Waiters => Some(Told::Number(core.num_waiters() as u64)),
+            Step::Free => Some(Reply::Number(core.available_permits() as u64)),
+            Step::Waiters => Some(Reply::Number(core.num_waiters() as u64)),
         }
     }
 }
 
 // What the calls of a script tell, up to the first that finds no memory.
-pub(crate) fn answers<P: Plays<Call = Step, Told = Told>>(
+pub(crate) fn answers<P: Plays<Call = Step, Reply = Reply>>(
     alloc: Global,
     mut player: P,
     script: &[Step],
-) -> Vec<Told> {
+) -> Vec<Reply> {
     let mut answers = Vec::new(alloc);
     for step in script {
-        match player.told(*step) {
+        match player.reply(*step) {
             Some(told) if answers.push(told).is_ok() => {}
             _ => return answers,
         }
@@ -97,12 +97,12 @@ fn weigh<S: BuildHasher + Drop>(
     core: &mut FairCore<u64, u64, S>,
     key: &SharedKey<u64>,
     weight: u64,
-) -> Option<Told> {
+) -> Option<Reply> {
     if weight == 0 {
         return None;
     }
     match core.set_weight(key, weight) {
-        Ok(()) => Some(Told::Done),
+        Ok(()) => Some(Reply::Done),
         Err(_) => None,
     }
 }
@@ -110,24 +110,24 @@ fn weigh<S: BuildHasher + Drop>(
 fn weight_told<S: BuildHasher + Drop>(
     core: &FairCore<u64, u64, S>,
     key: &SharedKey<u64>,
-) -> Option<Told> {
-    Some(Told::Number(core.weight(key)))
+) -> Option<Reply> {
+    Some(Reply::Number(core.weight(key)))
 }
 
 fn attempt<S: BuildHasher + Drop>(
     core: &mut FairCore<u64, u64, S>,
     key: &SharedKey<u64>,
-) -> Option<Told> {
+) -> Option<Reply> {
     match core.try_acquire(key) {
-        Ok(true) => Some(Told::Done),
-        Ok(false) => Some(Told::Pending),
+        Ok(true) => Some(Reply::Done),
+        Ok(false) => Some(Reply::Pending),
         Err(_) => None,
     }
 }
 
-fn ask(acquires: &mut Acquires, key: SharedKey<u64>) -> Option<Told> {
+fn ask(acquires: &mut Acquires, key: SharedKey<u64>) -> Option<Reply> {
     match acquires.push(Some(ShareAcquire::new(key))) {
-        Ok(()) => Some(Told::Done),
+        Ok(()) => Some(Reply::Done),
         Err(_) => None,
     }
 }
@@ -136,11 +136,11 @@ fn poll<S: BuildHasher + Drop>(
     core: &mut FairCore<u64, u64, S>,
     acquire: &mut Option<ShareAcquire<u64>>,
     waker: u64,
-) -> Option<Told> {
+) -> Option<Reply> {
     match core.poll_checked(acquire.as_mut()?, waker) {
-        Ok(Poll::Ready(())) => Some(Told::Done),
-        Ok(Poll::Pending) => Some(Told::Pending),
-        Err(ShareFault::Overflow(waker)) => Some(Told::Overflow(waker)),
+        Ok(Poll::Ready(())) => Some(Reply::Done),
+        Ok(Poll::Pending) => Some(Reply::Pending),
+        Err(ShareFault::Overflow(waker)) => Some(Reply::Overflow(waker)),
         Err(ShareFault::NoMemory(_)) => None,
     }
 }
@@ -148,22 +148,22 @@ fn poll<S: BuildHasher + Drop>(
 fn end<S: BuildHasher + Drop>(
     core: &mut FairCore<u64, u64, S>,
     acquire: &mut Option<ShareAcquire<u64>>,
-) -> Option<Told> {
+) -> Option<Reply> {
     core.cancel_checked(acquire.take()?);
-    Some(Told::Done)
+    Some(Reply::Done)
 }
 
 fn release<S: BuildHasher + Drop>(
     core: &mut FairCore<u64, u64, S>,
     key: &SharedKey<u64>,
-) -> Option<Told> {
+) -> Option<Reply> {
     core.release_checked(key);
-    Some(Told::Done)
+    Some(Reply::Done)
 }
 
-fn wake<S: BuildHasher + Drop>(core: &mut FairCore<u64, u64, S>) -> Told {
+fn wake<S: BuildHasher + Drop>(core: &mut FairCore<u64, u64, S>) -> Reply {
     match core.next_wake() {
-        Some(waker) => Told::Number(waker),
-        None => Told::Pending,
+        Some(waker) => Reply::Number(waker),
+        None => Reply::Pending,
     }
 }

@@ -4,7 +4,7 @@ use std::fmt;
 use thiserror::Error;
 
 /// A message was not sent, since the receiver has ended; the message comes back. It ports `mea::oneshot::SendError`.
-#[derive(Debug, Drop, PartialEq, Eq)]
+#[derive(Drop, PartialEq, Eq)]
 pub struct SendError<T>(pub T);
 
 impl<T> SendError<T> {
@@ -24,13 +24,20 @@ impl<T> SendError<T> {
     }
 }
 
+// The value is not shown, and nothing is asked of its type.
+impl<T> fmt::Debug for SendError<T> {
+    fn fmt<O: fmt::Write>(&self, f: &mut fmt::Formatter<O>) -> fmt::Result {
+        f.write_str("SendError(..)")
+    }
+}
+
 impl<T> fmt::Display for SendError<T> {
     fn fmt<O: fmt::Write>(&self, f: &mut fmt::Formatter<O>) -> fmt::Result {
         f.write_str("sending on a closed channel")
     }
 }
 
-impl<T: fmt::Debug + Drop> std::error::Error for SendError<T> {}
+impl<T: Drop> std::error::Error for SendError<T> {}
 
 /// No message comes any more. It ports `mea::oneshot::RecvError`.
 #[derive(Clone, Copy, Debug, PartialEq, Eq, Error)]

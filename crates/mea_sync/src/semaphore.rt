@@ -14,9 +14,11 @@ use mea_wait::hand_out;
 pub use permit::{OwnedSemaphorePermit, Permit, SemaphorePermit};
 use std::alloc::Global;
 use std::sync::{Arc, Mutex, Wait};
+use thiserror::Error;
 
 /// The semaphore was closed before the permits were granted.
-#[derive(Debug, Clone, Copy, PartialEq, Eq, Drop)]
+#[derive(Debug, Clone, Copy, PartialEq, Eq, Error)]
+#[error("the semaphore is closed")]
 pub struct Closed;
 
 /// Permits that threads and tasks share, in the order in which they first polled for them.

@@ -3,7 +3,7 @@ ghost use Rattle.std.specs.Prelude.{IfSome};
 use crate::guards::share;
 use mea_base::Overflow;
 use mea_sync::semaphore::{Closed, Semaphore, SemaphorePermit};
-use mea_test_support::{Bell, Count, Told, count, end, found, gives, poll, rung};
+use mea_test_support::{Bell, Count, PollOutcome, count, end, found, gives, poll, rung};
 use mea_wait::{End, Waits};
 use std::process::Abort;
 use std::sync::{Arc, Wait};
@@ -18,12 +18,12 @@ fn waits<R: Wait, F: Waits<Bell, Result<P, Closed>>, P: End>(
     ensures { IfSome result F.can_poll }
 {
     match poll(rt, wait, count) {
-        Told::Ready(Ok(permit)) => {
+        PollOutcome::Ready(Ok(permit)) => {
             permit.end(rt);
             None
         }
-        Told::Ready(Err(Closed)) | Told::Refused => None,
-        Told::Pending(wait) => Some(wait),
+        PollOutcome::Ready(Err(Closed)) | PollOutcome::Refused => None,
+        PollOutcome::Pending(wait) => Some(wait),
     }
 }
 

@@ -1,8 +1,9 @@
 use crate::step::Step;
+use std::fmt;
 use thiserror::Error;
 
 /// Why a task is not added. Its steps come back, and nothing has changed.
-#[derive(Debug, Drop, Error)]
+#[derive(Drop, Error)]
 pub enum AddFault {
     /// This step, counted from 0, is the first that means a semaphore which is not there.
     #[error("step {step} means a semaphore that is not there")]
@@ -13,4 +14,15 @@ pub enum AddFault {
     /// There was no memory.
     #[error("no memory")]
     NoMemory(Vec<Step>),
+}
+
+// The steps are not shown.
+impl fmt::Debug for AddFault {
+    fn fmt<O: fmt::Write>(&self, f: &mut fmt::Formatter<O>) -> fmt::Result {
+        match self {
+            AddFault::Unknown { step, .. } => write!(f, "Unknown {{ step: {step}, .. }}"),
+            AddFault::TooMany(_) => f.write_str("TooMany(..)"),
+            AddFault::NoMemory(_) => f.write_str("NoMemory(..)"),
+        }
+    }
 }

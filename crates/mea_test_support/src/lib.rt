@@ -13,5 +13,5 @@ mod spent;
 pub use bell::{Bell, Count, count, rung};
 pub use collides::Collides;
 pub use play::{Plays, differs_at};
-pub use polls::{Told, gives, goes_on, pends, poll, polled_for};
+pub use polls::{PollOutcome, gives, goes_on, pends, poll, polled_for};
 pub use spent::{end, found};

@@ -7,14 +7,14 @@ use std::sync::{Arc, Wait};
 use std::thread;
 
 /// What a poll came to: the output, or the wait, which has ended where it was refused.
-pub enum Told<F, O> {
+pub enum PollOutcome<F, O> {
     Ready(O),
     Pending(F),
     Refused,
 }
 
 /// Polls a wait with a waker that counts. It is refused for want of memory or for a fault of the wait.
-pub fn poll<R: Wait, F: Waits<Bell, O>, O>(rt: &R, wait: F, count: &Count) -> Told<F, O>
+pub fn poll<R: Wait, F: Waits<Bell, O>, O>(rt: &R, wait: F, count: &Count) -> PollOutcome<F, O>
     requires { F.can_poll wait }
     ensures value { IfReady result (F.gives wait) }
     ensures same { IfPending result (λ f. (x : _) → F.gives f x → F.gives wait x) }
@@ -22,11 +22,11 @@ pub fn poll<R: Wait, F: Waits<Bell, O>, O>(rt: &R, wait: F, count: &Count) -> To
 {
     let Ok(count) = Arc::try_clone(count) else {
         wait.end(rt);
-        return Told::Refused;
+        return PollOutcome::Refused;
     };
     match wait.poll(rt, Bell(count)) {
-        Ok(Polled::Ready(output)) => Told::Ready(output),
-        Ok(Polled::Pending(wait)) => Told::Pending(wait),
+        Ok(Polled::Ready(output)) => PollOutcome::Ready(output),
+        Ok(Polled::Pending(wait)) => PollOutcome::Pending(wait),
         Err(
             Unpolled {
                 future,
@@ -35,7 +35,7 @@ pub fn poll<R: Wait, F: Waits<Bell, O>, O>(rt: &R, wait: F, count: &Count) -> To
             },
         ) => {
             future.end(rt);
-            Told::Refused
+            PollOutcome::Refused
         }
     }
 }
@@ -47,12 +47,12 @@ pub fn pends<R: Wait, F: Waits<Bell, O>, O: End>(rt: &R, wait: F, count: &Count)
     ensures again { IfSome result F.can_poll }
 {
     match poll(rt, wait, count) {
-        Told::Ready(output) => {
+        PollOutcome::Ready(output) => {
             output.end(rt);
             None
         }
-        Told::Pending(wait) => Some(wait),
-        Told::Refused => None,
+        PollOutcome::Pending(wait) => Some(wait),
+        PollOutcome::Refused => None,
     }
 }
 
@@ -63,9 +63,9 @@ pub fn goes_on<R: Wait, F: Waits<Bell, O>, O: Drop>(rt: &R, wait: F, count: &Cou
     ensures again { IfSome result F.can_poll }
 {
     match poll(rt, wait, count) {
-        Told::Ready(_) => None,
-        Told::Pending(wait) => Some(wait),
-        Told::Refused => None,
+        PollOutcome::Ready(_) => None,
+        PollOutcome::Pending(wait) => Some(wait),
+        PollOutcome::Refused => None,
     }
 }
 
@@ -75,12 +75,12 @@ pub fn gives<R: Wait, F: Waits<Bell, O>, O>(rt: &R, wait: Option<F>, count: &Cou
     ensures { IfSome result (λ output. IsSomeAnd wait (λ f. F.gives f output)) }
 {
     match poll(rt, wait?, count) {
-        Told::Ready(output) => Some(output),
-        Told::Pending(wait) => {
+        PollOutcome::Ready(output) => Some(output),
+        PollOutcome::Pending(wait) => {
             wait.end(rt);
             None
         }
-        Told::Refused => None,
+        PollOutcome::Refused => None,
     }
 }
 
@@ -98,9 +98,9 @@ pub fn polled_for<R: Wait, F: Waits<Bell, O>, O>(
     let mut wait = wait;
     for _ in 0..turns {
         match poll(rt, wait, count) {
-            Told::Ready(output) => return Some(output),
-            Told::Refused => return None,
-            Told::Pending(back) => wait = back,
+            PollOutcome::Ready(output) => return Some(output),
+            PollOutcome::Refused => return None,
+            PollOutcome::Pending(back) => wait = back,
         }
         thread::yield_now();
     }

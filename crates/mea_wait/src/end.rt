@@ -8,3 +8,12 @@ pub trait End: Sized {
     /// Gives back what the value holds, and wakes who can go on by it. It takes no memory.
     fn end<R: Wait>(self, rt: &R);
 }
+
+/// What may not be there is spent where it is.
+impl<P: End> End for Option<P> {
+    fn end<R: Wait>(self, rt: &R) {
+        if let Some(value) = self {
+            value.end(rt);
+        }
+    }
+}

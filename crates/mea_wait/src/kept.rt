@@ -1,6 +1,7 @@
 ghost use Rattle.std.specs.Prelude.{◌≡◌};
 
 use crate::end::End;
+use std::ops::{Deref, DerefMut};
 use std::sync::Wait;
 
 /// A value that must be spent, with the handle to spend it where this is dropped. It is what one puts into
@@ -38,6 +39,24 @@ impl<'a, R: Wait, P: End> Kept<'a, R, P> {
     {
         let Kept { rt: _, value } = self;
         value
+    }
+}
+
+impl<'a, R: Wait, P: End> Deref for Kept<'a, R, P> {
+    type Target = P;
+
+    ghost deref_gives = { λ kept value. value ≡ kept.value };
+
+    fn deref(&self) -> &P {
+        &self.value
+    }
+}
+
+impl<'a, R: Wait, P: End> DerefMut for Kept<'a, R, P> {
+    ghost deref_mut_gives = { λ kept value. value ≡ kept.value };
+
+    fn deref_mut(&mut self) -> &mut P {
+        &mut self.value
     }
 }
 

@@ -1,3 +1,6 @@
+use std::error::Error;
+use std::fmt;
+
 /// Why a poll was refused.
 #[derive(Debug, Clone, Copy, PartialEq, Eq, Drop)]
 pub enum PollFault {
@@ -6,6 +9,17 @@ pub enum PollFault {
     /// A count is at its end.
     Overflow,
 }
+
+impl fmt::Display for PollFault {
+    fn fmt<O: fmt::Write>(&self, f: &mut fmt::Formatter<O>) -> fmt::Result {
+        match self {
+            PollFault::NoMemory => f.write_str("out of memory"),
+            PollFault::Overflow => f.write_str("a count is at its greatest value"),
+        }
+    }
+}
+
+impl Error for PollFault {}
 
 /// A poll that was refused: the wait comes back, to be polled again or ended, and the waker with it. No
 /// waker comes back where the poll had used it up.

@@ -1,5 +1,5 @@
-use crate::play::Told;
-use crate::play::Told::{Done, No, Nothing, Pending, Ready, Value, Yes};
+use crate::play::Reply;
+use crate::play::Reply::{Done, No, Nothing, Pending, Ready, Value, Yes};
 use mea_lock_core::{CondWait, CondvarCore, MutexCore, WaitWhile};
 use mea_test_support::{Plays, differs_at};
 use std::alloc::Global;
@@ -41,31 +41,31 @@ impl Room {
         }
     }
 
-    fn poll_first(&mut self, waker: u64) -> Option<Told> {
-        Told::turned(
+    fn poll_first(&mut self, waker: u64) -> Option<Reply> {
+        Reply::turned(
             self.condvar
                 .poll_wait_checked(&mut self.lock, &mut self.first, waker),
         )
     }
 
-    fn poll_second(&mut self, waker: u64) -> Option<Told> {
-        Told::turned(
+    fn poll_second(&mut self, waker: u64) -> Option<Reply> {
+        Reply::turned(
             self.condvar
                 .poll_wait_checked(&mut self.lock, &mut self.second, waker),
         )
     }
 
-    fn poll_allowed(&mut self, waker: u64) -> Option<Told> {
+    fn poll_allowed(&mut self, waker: u64) -> Option<Reply> {
         if !self.condvar.poll_wait_allowed(&self.lock, &self.first) {
             return Some(No);
         }
-        Told::turned(
+        Reply::turned(
             self.condvar
                 .poll_wait(&mut self.lock, &mut self.first, waker),
         )
     }
 
-    fn end_first(&mut self) -> Told {
+    fn end_first(&mut self) -> Reply {
         let ended = mem::replace(&mut self.first, CondWait::new());
         self.condvar.end_wait_checked(&mut self.lock, ended);
         Done
@@ -75,9 +75,9 @@ impl Room {
 impl Plays for Room {
     type Call = Call;
 
-    type Told = Told;
+    type Reply = Reply;
 
-    fn told(&mut self, call: Call) -> Option<Told> {
+    fn reply(&mut self, call: Call) -> Option<Reply> {
         match call {
             Call::PollFirst(waker) => self.poll_first(waker),
             Call::PollSecond(waker) => self.poll_second(waker),
@@ -91,10 +91,10 @@ impl Plays for Room {
     }
 }
 
-fn lock_told(lock: &mut MutexCore<u64, u64>, call: Call) -> Told {
+fn lock_told(lock: &mut MutexCore<u64, u64>, call: Call) -> Reply {
     match call {
-        Call::TryLock => Told::whether(lock.try_lock()),
-        Call::NextLockWake => Told::found(lock.next_wake()),
+        Call::TryLock => Reply::whether(lock.try_lock()),
+        Call::NextLockWake => Reply::found(lock.next_wake()),
         Call::Write(value) => written(lock, value),
         _ => {
             lock.unlock_checked();
@@ -103,7 +103,7 @@ fn lock_told(lock: &mut MutexCore<u64, u64>, call: Call) -> Told {
     }
 }
 
-fn written(lock: &mut MutexCore<u64, u64>, value: u64) -> Told {
+fn written(lock: &mut MutexCore<u64, u64>, value: u64) -> Reply {
     if !lock.try_lock() || !lock.is_held() {
         return No;
     }
@@ -112,9 +112,9 @@ fn written(lock: &mut MutexCore<u64, u64>, value: u64) -> Told {
     Done
 }
 
-fn notified(condvar: &mut CondvarCore<u64>, call: Call) -> Told {
+fn notified(condvar: &mut CondvarCore<u64>, call: Call) -> Reply {
     match call {
-        Call::NextWake => return Told::found(condvar.next_wake()),
+        Call::NextWake => return Reply::found(condvar.next_wake()),
         Call::NotifyAll => condvar.notify_all(),
         _ => condvar.notify_one(),
     }
@@ -256,11 +256,11 @@ fn while_checked<F: FnMut(&mut u64) -> bool>(
     room: &mut Room,
     wait: &mut WaitWhile<F>,
     waker: u64,
-) -> Option<Told>
+) -> Option<Reply>
     requires { F.IsAlwaysCallable wait.old.condition }
     ensures { F.IsAlwaysCallable wait.new.condition }
 {
-    Told::turned(room.condvar.poll_while_checked(&mut room.lock, wait, waker))
+    Reply::turned(room.condvar.poll_while_checked(&mut room.lock, wait, waker))
 }
 
 // The same, or by the call that asks for a wait that may be polled.
@@ -269,7 +269,7 @@ fn while_polled<F: FnMut(&mut u64) -> bool>(
     wait: &mut WaitWhile<F>,
     waker: u64,
     checked: bool,
-) -> Option<Told>
+) -> Option<Reply>
     requires { F.IsAlwaysCallable wait.old.condition }
     ensures { F.IsAlwaysCallable wait.new.condition }
 {
@@ -279,7 +279,7 @@ fn while_polled<F: FnMut(&mut u64) -> bool>(
     if !room.condvar.poll_while_allowed(&room.lock, wait) {
         return None;
     }
-    Told::turned(room.condvar.poll_while(&mut room.lock, wait, waker))
+    Reply::turned(room.condvar.poll_while(&mut room.lock, wait, waker))
 }
 
 // The place of the first call that tells something else than stands beside it. None is a poll of a wait that goes on while
@@ -287,13 +287,13 @@ fn while_polled<F: FnMut(&mut u64) -> bool>(
 fn while_differs_at(
     alloc: Global,
     checked: bool,
-    script: &[(Option<Call>, Told)],
+    script: &[(Option<Call>, Reply)],
 ) -> Option<usize> {
     let mut room = Room::new(alloc);
     let mut wait = WaitWhile::new(|value: &mut u64| *value < 3);
     for (place, &(call, told)) in script.iter().enumerate() {
         let answer = match call {
-            Some(call) => room.told(call),
+            Some(call) => room.reply(call),
             None => while_polled(&mut room, &mut wait, place as u64, checked),
         };
         if answer != Some(told) {

@@ -1,5 +1,5 @@
-use crate::play::Told;
-use crate::play::Told::{Done, No, Pending, Ready, Value, Yes};
+use crate::play::Reply;
+use crate::play::Reply::{Done, No, Pending, Ready, Value, Yes};
 use mea_lock_core::{LockWait, MutexCore};
 use mea_test_support::{Plays, differs_at};
 use std::alloc::Global;
@@ -28,18 +28,18 @@ impl Plays for Room {
     type Call = Call;
 
     // Beside it the waker that is called then.
-    type Told = (Told, Option<u64>);
+    type Reply = (Reply, Option<u64>);
 
-    fn told(&mut self, call: Call) -> Option<(Told, Option<u64>)> {
+    fn reply(&mut self, call: Call) -> Option<(Reply, Option<u64>)> {
         let told = lock_told(&mut self.lock, &mut self.wait, call)?;
         Some((told, self.lock.next_wake()))
     }
 }
 
-fn lock_told(lock: &mut Lock, wait: &mut LockWait, call: Call) -> Option<Told> {
+fn lock_told(lock: &mut Lock, wait: &mut LockWait, call: Call) -> Option<Reply> {
     match call {
-        Call::Try => Some(Told::whether(lock.try_lock())),
-        Call::Poll(waker) => Told::turned(lock.poll_checked(wait, waker)),
+        Call::Try => Some(Reply::whether(lock.try_lock())),
+        Call::Poll(waker) => Reply::turned(lock.poll_checked(wait, waker)),
         Call::Get if lock.is_held() => Some(Value(*lock.value())),
         Call::Set(value) if lock.is_held() => {
             *lock.value_mut() = value;
@@ -50,7 +50,7 @@ fn lock_told(lock: &mut Lock, wait: &mut LockWait, call: Call) -> Option<Told> {
             lock.unlock_checked();
             Some(Done)
         }
-        Call::Idle => Some(Told::whether(lock.is_idle())),
+        Call::Idle => Some(Reply::whether(lock.is_idle())),
     }
 }
 
@@ -89,7 +89,7 @@ fn mutex_gives_out(rt: HostRuntime) {
 
 // What a wait is told that has to queue, by the call that asks for one that may be polled or by the one that
 // asks for nothing; it is ended then.
-pub(super) fn queued(alloc: Global, checked: bool) -> Option<Told> {
+pub(super) fn queued(alloc: Global, checked: bool) -> Option<Reply> {
     let mut lock: Lock = MutexCore::new(alloc, 5);
     lock.try_lock();
     let mut wait = LockWait::new();
@@ -99,5 +99,5 @@ pub(super) fn queued(alloc: Global, checked: bool) -> Option<Told> {
         lock.poll_checked(&mut wait, 9)
     };
     lock.cancel_checked(wait);
-    Told::turned(polled)
+    Reply::turned(polled)
 }

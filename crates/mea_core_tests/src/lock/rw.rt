@@ -1,5 +1,5 @@
-use crate::play::Told;
-use crate::play::Told::{Done, No, Pending, Ready, Value, Yes};
+use crate::play::Reply;
+use crate::play::Reply::{Done, No, Pending, Ready, Value, Yes};
 use mea_lock_core::{RwCore, RwWait};
 use mea_test_support::{Plays, differs_at};
 use std::alloc::Global;
@@ -30,19 +30,19 @@ impl Plays for Room {
     type Call = Call;
 
     // Beside it the waker that is called then.
-    type Told = (Told, Option<u64>);
+    type Reply = (Reply, Option<u64>);
 
-    fn told(&mut self, call: Call) -> Option<(Told, Option<u64>)> {
+    fn reply(&mut self, call: Call) -> Option<(Reply, Option<u64>)> {
         let told = lock_told(&mut self.lock, &mut self.wait, call)?;
         Some((told, self.lock.next_wake()))
     }
 }
 
-fn lock_told(lock: &mut Lock, wait: &mut RwWait, call: Call) -> Option<Told> {
+fn lock_told(lock: &mut Lock, wait: &mut RwWait, call: Call) -> Option<Reply> {
     match call {
-        Call::TryRead => Some(Told::whether(lock.try_read())),
-        Call::TryWrite => Some(Told::whether(lock.try_write())),
-        Call::Poll(waker) => Told::turned(lock.poll_checked(wait, waker)),
+        Call::TryRead => Some(Reply::whether(lock.try_read())),
+        Call::TryWrite => Some(Reply::whether(lock.try_write())),
+        Call::Poll(waker) => Reply::turned(lock.poll_checked(wait, waker)),
         Call::Set(value) if lock.is_writing() => {
             *lock.value_mut() = value;
             Some(Done)
@@ -101,25 +101,25 @@ fn rw_gives_out(rt: HostRuntime) {
 
 // What a wait is told that has to queue, by the call that asks for one that may be polled or by the one that
 // asks for nothing; it is ended then.
-fn queued(lock: &mut Lock, mut wait: RwWait, checked: bool) -> Option<Told> {
+fn queued(lock: &mut Lock, mut wait: RwWait, checked: bool) -> Option<Reply> {
     let polled = if !checked && lock.poll_allowed(&wait) {
         lock.poll(&mut wait, 5)
     } else {
         lock.poll_checked(&mut wait, 5)
     };
     lock.cancel_checked(wait);
-    Told::turned(polled)
+    Reply::turned(polled)
 }
 
 // A write that has to queue behind a read.
-pub(super) fn queued_write(alloc: Global, checked: bool) -> Option<Told> {
+pub(super) fn queued_write(alloc: Global, checked: bool) -> Option<Reply> {
     let mut lock: Lock = RwCore::new(alloc, 7, 2);
     lock.try_read();
     queued(&mut lock, RwWait::write(), checked)
 }
 
 // A read that has to queue behind a write.
-pub(super) fn queued_read(alloc: Global, checked: bool) -> Option<Told> {
+pub(super) fn queued_read(alloc: Global, checked: bool) -> Option<Reply> {
     let mut lock: Lock = RwCore::new(alloc, 7, 2);
     lock.try_write();
     queued(&mut lock, RwWait::read(), checked)

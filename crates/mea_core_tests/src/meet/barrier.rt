@@ -1,5 +1,5 @@
-use crate::play::Told;
-use crate::play::Told::{Back, Done, No, Pending, Value, Yes};
+use crate::play::Reply;
+use crate::play::Reply::{Back, Done, No, Pending, Value, Yes};
 use mea_base::Poll;
 use mea_meet_core::{BarrierCore, BarrierFault, BarrierWait, BarrierWaitResult};
 use mea_test_support::{Plays, differs_at};
@@ -38,28 +38,28 @@ impl Room {
 impl Plays for Room {
     type Call = Call;
 
-    type Told = Told;
+    type Reply = Reply;
 
-    fn told(&mut self, call: Call) -> Option<Told> {
+    fn reply(&mut self, call: Call) -> Option<Reply> {
         let (barrier, wait) = (&mut self.barrier, &mut self.wait);
         match call {
             Call::Arrive(waker) => arrived(barrier.poll(&mut BarrierWait::new(), waker)),
             Call::Poll(waker) => arrived(barrier.poll_checked(wait, waker)),
-            Call::IsAllowed => Some(Told::whether(barrier.poll_allowed(wait))),
+            Call::IsAllowed => Some(Reply::whether(barrier.poll_allowed(wait))),
             Call::End => {
                 barrier.end_checked(mem::replace(wait, BarrierWait::new()));
                 Some(Done)
             }
             Call::WakesReady => Some(Value(barrier.wakes_ready() as u64)),
-            Call::Wake => Some(Told::found(barrier.next_wake())),
+            Call::Wake => Some(Reply::found(barrier.next_wake())),
         }
     }
 }
 
 // Whether an arrival leads, or that its waker comes back; None is want of memory.
-fn arrived(polled: Result<Poll<BarrierWaitResult>, BarrierFault<u64>>) -> Option<Told> {
+fn arrived(polled: Result<Poll<BarrierWaitResult>, BarrierFault<u64>>) -> Option<Reply> {
     match polled {
-        Ok(Poll::Ready(result)) => Some(Told::whether(result.is_leader())),
+        Ok(Poll::Ready(result)) => Some(Reply::whether(result.is_leader())),
         Ok(Poll::Pending) => Some(Pending),
         Err(BarrierFault::Overflow(waker)) => Some(Back(waker)),
         Err(BarrierFault::NoMemory(_)) => None,

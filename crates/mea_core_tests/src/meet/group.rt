@@ -1,5 +1,5 @@
-use crate::play::Told;
-use crate::play::Told::{Done, No, Nothing, Pending, Value};
+use crate::play::Reply;
+use crate::play::Reply::{Done, No, Nothing, Pending, Value};
 use mea_meet_core::{GroupCore, GroupWait};
 use mea_test_support::{Plays, differs_at};
 
@@ -35,25 +35,25 @@ impl Room {
 impl Plays for Room {
     type Call = Call;
 
-    type Told = Told;
+    type Reply = Reply;
 
-    fn told(&mut self, call: Call) -> Option<Told> {
+    fn reply(&mut self, call: Call) -> Option<Reply> {
         let group = &mut self.group;
         match call {
-            Call::Await(waker) => Told::polled(group.poll(&mut GroupWait::new(), waker)),
-            Call::Poll(waker) => Told::polled(group.poll_checked(&mut self.wait, waker)),
+            Call::Await(waker) => Reply::polled(group.poll(&mut GroupWait::new(), waker)),
+            Call::Poll(waker) => Reply::polled(group.poll_checked(&mut self.wait, waker)),
             Call::Add => Some(added(group)),
             Call::Leave => {
                 group.leave_checked();
                 Some(Value(u64::from(group.handles())))
             }
-            Call::Wake => Some(Told::found(group.next_wake())),
+            Call::Wake => Some(Reply::found(group.next_wake())),
         }
     }
 }
 
 // How many handles there are after one more was asked for. No is a group that has ended, Nothing one that is full.
-fn added(group: &mut Group) -> Told {
+fn added(group: &mut Group) -> Reply {
     if !group.add_allowed() {
         return No;
     }

@@ -1,5 +1,5 @@
-use crate::play::Told;
-use crate::play::Told::{Back, Done, Pending, Value};
+use crate::play::Reply;
+use crate::play::Reply::{Back, Done, Pending, Value};
 use mea_meet_core::{LatchCore, LatchWait};
 use mea_test_support::{Plays, differs_at};
 use std::mem;
@@ -29,17 +29,17 @@ struct Room {
 impl Plays for Room {
     type Call = Call;
 
-    type Told = Told;
+    type Reply = Reply;
 
-    fn told(&mut self, call: Call) -> Option<Told> {
+    fn reply(&mut self, call: Call) -> Option<Reply> {
         let (latch, wait) = (&mut self.latch, &mut self.wait);
         match call {
-            Call::Await(waker) => Told::polled(latch.poll(&mut LatchWait::new(), waker)),
-            Call::Poll(waker) => Told::polled(latch.poll_checked(wait, waker)),
+            Call::Await(waker) => Reply::polled(latch.poll(&mut LatchWait::new(), waker)),
+            Call::Poll(waker) => Reply::polled(latch.poll_checked(wait, waker)),
             Call::TryWait => Some(tried(latch.try_wait())),
             Call::Count => Some(Value(u64::from(latch.count()))),
             Call::WakesReady => Some(Value(latch.wakes_ready() as u64)),
-            Call::Wake => Some(Told::found(latch.next_wake())),
+            Call::Wake => Some(Reply::found(latch.next_wake())),
             Call::Arrive(n) => {
                 latch.arrive(n);
                 Some(Done)
@@ -57,7 +57,7 @@ impl Plays for Room {
 }
 
 // How much is left, unless nothing is.
-fn tried(tried: Result<(), u32>) -> Told {
+fn tried(tried: Result<(), u32>) -> Reply {
     match tried {
         Ok(()) => Done,
         Err(left) => Back(u64::from(left)),

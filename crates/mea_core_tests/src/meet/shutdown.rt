@@ -1,5 +1,5 @@
-use crate::play::Told;
-use crate::play::Told::{Done, No, Nothing, Pending, Value, Yes};
+use crate::play::Reply;
+use crate::play::Reply::{Done, No, Nothing, Pending, Value, Yes};
 use mea_meet_core::{GroupWait, LatchWait, ShutdownCore};
 use mea_test_support::{Plays, differs_at};
 
@@ -27,20 +27,20 @@ struct Room {
 impl Plays for Room {
     type Call = Call;
 
-    type Told = Told;
+    type Reply = Reply;
 
-    fn told(&mut self, call: Call) -> Option<Told> {
+    fn reply(&mut self, call: Call) -> Option<Reply> {
         let shutdown = &mut self.shutdown;
         let mut latch = LatchWait::new();
         let mut group = GroupWait::new();
         match call {
-            Call::AwaitSignal(waker) => Told::polled(shutdown.poll_signal(&mut latch, waker)),
-            Call::AwaitReceivers(waker) => Told::polled(shutdown.poll_receivers(&mut group, waker)),
-            Call::PollSignal(waker) => Told::polled(shutdown.poll_signal_checked(
+            Call::AwaitSignal(waker) => Reply::polled(shutdown.poll_signal(&mut latch, waker)),
+            Call::AwaitReceivers(waker) => Reply::polled(shutdown.poll_receivers(&mut group, waker)),
+            Call::PollSignal(waker) => Reply::polled(shutdown.poll_signal_checked(
                 &mut latch, waker,
             )),
             Call::PollReceivers(waker) => {
-                Told::polled(shutdown.poll_receivers_checked(&mut group, waker))
+                Reply::polled(shutdown.poll_receivers_checked(&mut group, waker))
             }
             Call::EndReceiver => {
                 shutdown.end_receiver_checked();
@@ -51,8 +51,8 @@ impl Plays for Room {
                 shutdown.signal();
                 Some(Done)
             }
-            Call::IsShutdown => Some(Told::whether(shutdown.is_shutdown_now())),
-            Call::Wake => Some(Told::found(shutdown.next_wake())),
+            Call::IsShutdown => Some(Reply::whether(shutdown.is_shutdown_now())),
+            Call::Wake => Some(Reply::found(shutdown.next_wake())),
         }
     }
 }

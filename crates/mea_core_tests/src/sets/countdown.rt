@@ -1,5 +1,5 @@
-use crate::play::Told;
-use crate::play::Told::{Done, No, Pending, Value};
+use crate::play::Reply;
+use crate::play::Reply::{Done, No, Pending, Value};
 use mea_sets::Countdown;
 use mea_test_support::{Plays, differs_at};
 
@@ -23,12 +23,12 @@ struct Room {
 impl Plays for Room {
     type Call = Call;
 
-    type Told = Told;
+    type Reply = Reply;
 
-    fn told(&mut self, call: Call) -> Option<Told> {
+    fn reply(&mut self, call: Call) -> Option<Reply> {
         let count = &mut self.count;
         match call {
-            Call::Poll(waker) => Told::polled(count.poll(&mut None, waker)),
+            Call::Poll(waker) => Reply::polled(count.poll(&mut None, waker)),
             Call::Increment => incremented(count),
             Call::Decrement(n) => {
                 count.decrement(n);
@@ -36,17 +36,17 @@ impl Plays for Room {
             }
             Call::Count => Some(Value(u64::from(count.count()))),
             Call::WakesReady => Some(Value(count.wakes_ready() as u64)),
-            Call::Wake => Some(Told::found(count.next_wake())),
+            Call::Wake => Some(Reply::found(count.next_wake())),
         }
     }
 }
 
 // Whether a count that has not ended takes one more.
-fn incremented(count: &mut Countdown<u64>) -> Option<Told> {
+fn incremented(count: &mut Countdown<u64>) -> Option<Reply> {
     if count.count() == 0 {
         return None;
     }
-    Some(Told::whether(count.increment(1).is_ok()))
+    Some(Reply::whether(count.increment(1).is_ok()))
 }
 
 // With memory at hand, no poll answers that there is none. A count ends once, and wakes in the order of the registrations.

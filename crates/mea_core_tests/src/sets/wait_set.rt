@@ -1,5 +1,5 @@
-use crate::play::Told;
-use crate::play::Told::{No, Nothing, Value, Yes};
+use crate::play::Reply;
+use crate::play::Reply::{No, Nothing, Value, Yes};
 use mea_base::Outbox;
 use mea_sets::{Place, WaitSet};
 use mea_test_support::{Plays, differs_at};
@@ -43,22 +43,22 @@ impl Room {
 impl Plays for Room {
     type Call = Call;
 
-    type Told = Told;
+    type Reply = Reply;
 
-    fn told(&mut self, call: Call) -> Option<Told> {
+    fn reply(&mut self, call: Call) -> Option<Reply> {
         let (set, outbox) = (&mut self.set, &mut self.outbox);
         Some(match call {
-            Call::Register(waker) => Told::whether(set.register(&mut self.slot, waker).is_ok()),
-            Call::RegisterNew(waker) => Told::whether(set.register(&mut None, waker).is_ok()),
+            Call::Register(waker) => Reply::whether(set.register(&mut self.slot, waker).is_ok()),
+            Call::RegisterNew(waker) => Reply::whether(set.register(&mut None, waker).is_ok()),
             Call::RegisterWithRoom(waker) => {
-                Told::whether(set.register_with_room(&mut None, waker, outbox).is_ok())
+                Reply::whether(set.register_with_room(&mut None, waker, outbox).is_ok())
             }
-            Call::IsRegistered => Told::whether(set.is_registered(&self.slot)),
-            Call::HasGiven => Told::whether(set.has_given(&self.slot)),
+            Call::IsRegistered => Reply::whether(set.is_registered(&self.slot)),
+            Call::HasGiven => Reply::whether(set.has_given(&self.slot)),
             Call::Len => Value(set.len() as u64),
-            Call::Drain => Told::whether(drained(set, outbox)),
-            Call::Drains => Told::found(u64::try_from(set.drains()).ok()),
-            Call::Wake => Told::found(outbox.pop()),
+            Call::Drain => Reply::whether(drained(set, outbox)),
+            Call::Drains => Reply::found(u64::try_from(set.drains()).ok()),
+            Call::Wake => Reply::found(outbox.pop()),
         })
     }
 }

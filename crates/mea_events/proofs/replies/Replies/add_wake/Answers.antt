@@ -1,7 +1,7 @@
 use Rattle.std.proofs.Common.{◌≡◌, ◌≢◌, ℕ, ◌-◌, ◌++◌, ◌∷◌, List, [], length, refl, sym, arith, vec_len, vec_capacity, subst}
 use Rattle.std.proofs.lemmas.List.{length_push}
 use Rattle.mea_events.specs.declared.replies.Reply.{Reply}
-use Rattle.mea_events.specs.Replies.{Told, with_wake}
+use Rattle.mea_events.specs.Replies.{ReplyList, with_wake}
 use Rattle.mea_events.specs.RepliesInside.{replies_of, AreOrdered}
 use Rattle.mea_events.proofs.ToldReplies.{replies_of-more, AreOrdered-more}
 use Rattle.mea_events.proofs.replies.Replies.add_wake.Goals as goal
@@ -19,7 +19,7 @@ invariant_of-self c = ordered c.self.inside.replies.items c.self.inside.wakes.it
 
 pub returns : goal.returns
 returns c =
-    let some = subst (λ (t : Told). t.replies ≢ []) (sym c.self.view_is) c.requires.last in
+    let some = subst (λ (t : ReplyList). t.replies ≢ []) (sym c.self.view_is) c.requires.last in
     let replies = seen c.self.inside.replies.items c.self.inside.wakes.items c.push_reserved.new.self.items c.args.waker c.push_reserved.ensures.items c.self.invariant some in
     let spare : vec_capacity c.push_reserved.new.self - vec_len c.push_reserved.new.self ≡ vec_capacity c.self.inside.wakes - vec_len c.self.inside.wakes - 1 = omega (arith, c.push_reserved.ensures.len, c.push_reserved.ensures.capacity) in
     rw (← c.self.view_is) (λ i. record { replies = replies i; room = vec_capacity c.self.inside.replies - vec_len c.self.inside.replies; spare = spare i })
