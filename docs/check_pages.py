@@ -4,7 +4,7 @@
 Each item of a block `rust` stands word for word in one source of its test crates, and that source imports what the
 `use` lines of the block do. A block `antt` is a file of specs/. A block `rust,ignore` is a fragment and stands nowhere else. A line of a block
 that names crates, as `mea_wait: mea_base`, is that of crates.txt. Each test of mea_uses stands in a page. Ends with 1
-where one of these does not hold.
+where one of these does not hold. With --write it writes the lines that name crates anew, before it looks.
 """
 import os
 import re
@@ -84,6 +84,12 @@ def crate_lines():
 def main():
     faults, shown = [], ""
     lines = crate_lines()
+    if "--write" in sys.argv[1:]:
+        for page in PAGES:
+            text = read(page)
+            text = re.sub(r"(?m)^    (mea\w*)( [^:\n]*)?:.*$", lambda line: "    " + lines.get(line.group(1), line.group(0).strip()), text)
+            with open(os.path.join(TOP, page), "w", encoding="utf-8") as file:
+                file.write(text)
     for page, crates in PAGES.items():
         sources = {path: split(read(path)) for crate in crates for path in files(crate + "/src", ".rt")}
         specs = {path: read(path) for crate in crates for path in files(crate + "/specs", ".antt")}

@@ -67,7 +67,7 @@ def items(text):
                 found.append(item)
                 item = []
         item.append(line)
-        if line in ("}", "};") or (line.endswith(";") and line[:1] not in (" ", "")):
+        if line in ("}", "};") or (line[:1] not in (" ", "") and line.endswith((";", "{}"))):
             found.append(item)
             item = []
     return found
