@@ -1,5 +1,5 @@
 //! How a program uses the library: the programs of docs/USING.md and the first of docs/EXECUTORS.md, which stand here
-//! so that the gate proves and runs them. `docs/check_pages.py` compares.
+//! so that the gate proves and runs them. `docs/check_programs.py` compares.
 #![tactic(auto)]
 
 #[cfg(test)]
