@@ -22,7 +22,7 @@ pub use wait::{Admission, OwnedShareWait, ShareWait};
 /// A key is kept behind an `Arc`, so it is never cloned; its hash and its equality run while the lock is held. It ports
 /// `mea::admission::FairShare`; weights are this library's own.
 #[derive(Drop)]
-pub struct FairShare<K: Eq + Hash, W, S: BuildHasher> {
+pub struct FairShare<K: Eq + Hash, W, S: BuildHasher = BuildHasherDefault<FoldHasher>> {
     alloc: Global,
     core: Mutex<FairCore<K, W, S>>,
 }

@@ -7,6 +7,7 @@
 
 pub mod admission;
 pub mod atomicbox;
+mod shown;
 
 pub use mea_base::{NoMemory, Overflow, Poll, Wake};
 pub use mea_keep::{

@@ -6,16 +6,14 @@ use crate::fault::Fault;
 use futures::executor::LocalPool;
 use futures::task::{Context, Poll};
 use futures::{Future, ready};
-use mea::semaphore::{Closed, OwnedAcquire, OwnedSemaphorePermit, Semaphore};
-use mea_futures::{Bell, TryHolding, wait};
+use mea::semaphore::Semaphore;
+use mea_futures::{Acquiring, Bell, wait};
 use std::alloc::{AllocGlobal, Global};
 use std::random::RandomSource;
 use std::sync::atomic::AtomicU64;
 use std::sync::atomic::Ordering::SeqCst;
 use std::sync::{Arc, Wait};
 use tokio::sync;
-
-type Acquiring<'a, R> = TryHolding<'a, R, OwnedAcquire<Bell>, OwnedSemaphorePermit<Bell>, Closed>;
 
 // A wait for the permit, that was never polled.
 fn acquiring<'a, R: Wait>(

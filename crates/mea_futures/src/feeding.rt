@@ -1,4 +1,4 @@
-ghost use Rattle.std.specs.Prelude.{◌≡◌, None, IfOk};
+ghost use Rattle.std.specs.Prelude.{◌≡◌, None, IfOk, IfErr};
 
 use crate::bell::Bell;
 use crate::waiting::Waiting;
@@ -66,6 +66,22 @@ pub fn feed<'a, R: Wait, T: Drop>(
     Ok(Feeding { sender, send })
 }
 
+// Sends the item where there is a place at once, and else makes the wait for one. A send asks for a place at its first poll too,
+// so nobody is passed who would not be.
+fn offer<'a, R: Wait, T: Drop>(
+    rt: &R,
+    sender: &'a BoundedSender<T, Bell>,
+    item: T,
+) -> Result<Option<BoundedSend<'a, T, Bell>>, FeedError<T>>
+    ensures { IfErr result (λ e. e ≡ FeedError.Closed item) }
+{
+    match sender.try_send(rt, item) {
+        Ok(()) => Ok(None),
+        Err(TrySendError::Full(item)) => Ok(Some(sender.send(item))),
+        Err(TrySendError::Disconnected(item)) => Err(FeedError::Closed(item)),
+    }
+}
+
 impl<'a, R: Wait, T: Drop> Feeding<'a, R, T> {
     ghost use Rattle.std.specs.Prelude.{OnOk};
     ghost use Rattle.futures.specs.Task.{Covers, Keeps};
@@ -104,17 +120,11 @@ impl<'a, R: Wait, T: Drop> Sink<T> for Feeding<'a, R, T> {
     }
 
     fn start_send(&mut self, item: T) -> Result<(), FeedError<T>> {
-        // A send asks for a place at its first poll too, so nobody is passed who would not be. A wait is begun where there is
-        // none: it alone needs a bell.
-        match self.sender.try_send(self.send.rt, item) {
-            Ok(()) => Ok(()),
-            Err(TrySendError::Full(item)) => {
-                let send = self.sender.send(item);
-                self.send.begin(send);
-                Ok(())
-            }
-            Err(TrySendError::Disconnected(item)) => Err(FeedError::Closed(item)),
+        // A wait is begun where there is no place: it alone needs a bell.
+        if let Some(send) = offer(self.send.rt, self.sender, item)? {
+            self.send.begin(send);
         }
+        Ok(())
     }
 
     fn poll_flush(&mut self, cx: &mut Context<'_>) -> Poll<Result<(), FeedError<T>>> {

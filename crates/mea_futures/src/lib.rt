@@ -6,6 +6,7 @@
 #![tactic(auto)]
 
 mod bell;
+mod blocking;
 mod feeding;
 mod holding;
 mod initialising;
@@ -15,11 +16,12 @@ mod taking;
 mod waiting;
 
 pub use bell::Bell;
+pub use blocking::{block, block_before};
 pub use feeding::{FeedError, Feeding, feed};
 pub use holding::{Holding, TryHolding};
 pub use initialising::{Initialising, initialise};
 pub use mea_wait::Kept;
 pub use message::MessageWait;
 pub use receiving::{Lagged, Receives, Receiving, receive};
-pub use taking::{TakeError, take, take_before};
+pub use taking::{Acquiring, TakeError, take, take_before};
 pub use waiting::{Waiting, wait};

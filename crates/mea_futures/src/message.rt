@@ -9,7 +9,7 @@ use std::sync::Wait;
 /// A wait for the message of a oneshot. It must be polled to its end, or ended; ended, a later send is refused.
 ///
 /// The future of `mea::oneshot` takes no lock, and so is polled without a handle; this is the same with one, for `wait`.
-pub struct MessageWait<T: Message> {
+pub struct MessageWait<T: Message + Drop> {
     recv: Recv<T, Bell>,
 }
 

@@ -1,5 +1,6 @@
 //! Permits of a semaphore, for a thread that waits for them by an executor of its own.
-ghost use Rattle.std.specs.Prelude.{◌≡◌, Ok, IfOk, IfSome, IsSomeAnd};
+ghost use Rattle.std.specs.Prelude.{◌≡◌, Ok, IfOk, MatchOption, IsSomeAnd};
+ghost use Rattle.mea_sync.specs.Permits.{num_permits};
 
 use crate::bell::Bell;
 use crate::holding::TryHolding;
@@ -7,13 +8,22 @@ use crate::waiting::wait;
 use futures::Future;
 use futures::executor::block_on;
 use futures::future::{Either, select};
-use mea_sync::semaphore::{Closed, Semaphore, SemaphorePermit};
+use mea_sync::semaphore::{Closed, OwnedAcquire, OwnedSemaphorePermit, Semaphore, SemaphorePermit};
 use mea_wait::{End, Kept, PollFault, Waits};
 use std::alloc::AllocGlobal;
 use std::io;
 use std::random::RandomSource;
 use std::sync::Wait;
 use thiserror::Error;
+
+/// A wait for permits of a semaphore that is shared, as a task holds it: it owns its share, and what it gives may be dropped.
+pub type Acquiring<'a, R> = TryHolding<
+    'a,
+    R,
+    OwnedAcquire<Bell>,
+    OwnedSemaphorePermit<Bell>,
+    Closed,
+>;
 
 /// Why permits were not taken.
 #[derive(Debug, Clone, Copy, PartialEq, Eq, Error)]
@@ -30,8 +40,7 @@ impl<'a, R, F: Waits<Bell, Result<P, E>>, P: End, E> TryHolding<'a, R, F, P, E>
 where
     R: Wait + RandomSource + AllocGlobal,
 {
-    /// Waits on this thread, as `block_on` of the kit does. That takes no future of a type that borrows and has a model, as
-    /// the acquire of a borrowed semaphore is; this does.
+    /// Waits on this thread, as `block_on` of the kit does.
     pub fn block(self) -> io::Result<Result<Result<Kept<'a, R, P>, E>, PollFault>>
         requires { IsSomeAnd self.waiting.wait F.can_poll }
         ensures { IfOk result (λ r. IfOk r (λ o. IfOk o (λ k. IsSomeAnd self.entry.waiting.wait (λ f. F.gives f (Ok k.value))))) }
@@ -46,7 +55,7 @@ where
     ) -> io::Result<Option<Result<Result<Kept<'a, R, P>, E>, PollFault>>>
         requires wait { IsSomeAnd self.waiting.wait F.can_poll }
         requires deadline { D.can_poll deadline }
-        ensures { IfOk result (λ s. IfSome s (λ r. IfOk r (λ o. IfOk o (λ k. IsSomeAnd self.entry.waiting.wait (λ f. F.gives f (Ok k.value)))))) }
+        ensures { IfOk result (λ s. MatchOption s (D.gives deadline tt) (λ r. IfOk r (λ o. IfOk o (λ k. IsSomeAnd self.entry.waiting.wait (λ f. F.gives f (Ok k.value)))))) }
     {
         match block_on(self.rt, select(self, deadline))? {
             Either::Left((answer, _deadline)) => Ok(Some(answer)),
@@ -66,7 +75,7 @@ pub fn take<'a, R>(
 ) -> io::Result<Result<Kept<'a, R, SemaphorePermit<'a, Bell>>, TakeError>>
 where
     R: Wait + RandomSource + AllocGlobal,
-    ensures { IfOk result (λ r. IfOk r (λ kept. kept.value ≡ permits)) }
+    ensures { IfOk result (λ r. IfOk r (λ kept. num_permits kept.value ≡ permits)) }
 {
     let wanted = of.acquire(permits);
     match wait(rt, rt.alloc(), wanted) {
@@ -90,7 +99,7 @@ where
     R: Wait + RandomSource + AllocGlobal,
     D: Future<Output = ()>,
     requires { D.can_poll deadline }
-    ensures { IfOk result (λ r. IfOk r (λ o. IfSome o (λ kept. kept.value ≡ permits))) }
+    ensures { IfOk result (λ r. IfOk r (λ o. MatchOption o (D.gives deadline tt) (λ kept. num_permits kept.value ≡ permits))) }
 {
     match wait(rt, rt.alloc(), of.acquire(permits)) {
         Ok(acquire) => match acquire.try_holding().block_before(deadline)? {

@@ -6,12 +6,14 @@ use futures::executor::block_on;
 use futures::future::{Either, Pending, Select, join, pending, ready, select};
 use futures::task::{Context, Poll};
 use futures::test::MockTask;
-use mea_futures::{Bell, TakeError, take, take_before, wait};
+use mea_futures::{Bell, TakeError, block, block_before, take, take_before, wait};
 use mea_link::latch::Latch;
+use mea_sync::mutex::Mutex;
 use mea_sync::semaphore::Semaphore;
-use mea_wait::PollFault;
+use mea_wait::{End, PollFault};
 use std::process::Abort;
 use std::sync::{Arc, Wait};
+use std::test::Fail;
 use std::{io, thread};
 
 // Two waits of one latch are joined on a thread, while another thread counts it down.
@@ -47,6 +49,46 @@ fn permits_are_taken(rt: HostRuntime) {
     assert!(rt; is_in_time(take_before(&rt, &semaphore, 1, ready(()))));
     semaphore.close(&rt);
     assert!(rt; is_closed(take(&rt, &semaphore, 1)));
+}
+
+// A wait on this thread is one line, for any wait of the library.
+#[test]
+fn a_wait_is_one_line(rt: HostRuntime) -> Result<(), Fail> {
+    let mutex = Mutex::new(rt.alloc(), 6u64);
+    let mut guard = block(&rt, mutex.lock())?;
+    *guard = 7;
+    assert!(rt; !ends(&rt, block_before(&rt, mutex.lock(), ready(()))));
+    guard.end(&rt);
+    assert!(rt; ends(&rt, block_before(&rt, mutex.lock(), ready(()))));
+    assert!(rt; mutex.into_inner() == Some(7));
+    let semaphore = Semaphore::new(rt.alloc(), 1);
+    let permit = block(&rt, semaphore.acquire(1))??;
+    assert!(rt; permit.permits() == 1);
+    permit.end(&rt);
+    Ok(())
+}
+
+// Ends what a wait gave before its deadline. Whether it gave anything.
+fn ends<R: Wait, P: End>(rt: &R, given: io::Result<Option<P>>) -> bool {
+    match given {
+        Ok(Some(given)) => {
+            given.end(rt);
+            true
+        }
+        Ok(None) | Err(_) => false,
+    }
+}
+
+// The acquire of a borrowed semaphore goes to the kit's executor and combinators as it is.
+#[test]
+fn a_borrowed_acquire_is_selected(rt: HostRuntime) {
+    let semaphore = Semaphore::new(rt.alloc(), 1);
+    let first = wait(&rt, rt.alloc(), semaphore.acquire(1)).expect(&rt, "memory");
+    let held = block_on(&rt, first.try_holding());
+    assert!(rt; matches!(held, Ok(Ok(Ok(_)))));
+    let second = wait(&rt, rt.alloc(), semaphore.acquire(1)).expect(&rt, "memory");
+    let late = block_on(&rt, select(second.try_holding(), ready(())));
+    assert!(rt; matches!(late, Ok(Either::Right(_))));
 }
 
 // Whether the deadline came before the permits.

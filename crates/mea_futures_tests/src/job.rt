@@ -2,8 +2,8 @@ ghost use Rattle.std.specs.Prelude.{◌≡◌, None, IsSome, IfNone};
 
 use futures::task::{Context, Poll};
 use futures::{Future, ready};
-use mea_futures::{Bell, Kept, TryHolding, wait};
-use mea_sync::semaphore::{Closed, OwnedAcquire, OwnedSemaphorePermit, Semaphore};
+use mea_futures::{Acquiring, Bell, Kept, wait};
+use mea_sync::semaphore::{OwnedAcquire, OwnedSemaphorePermit, Semaphore};
 use std::alloc::AllocGlobal;
 use std::process::Abort;
 use std::sync::atomic::AtomicU64;
@@ -53,15 +53,6 @@ impl Seen {
         self.done.fetch_add(1, SeqCst);
     }
 }
-
-/// A wait for a permit, as a task holds it.
-pub type Acquiring<'a, R> = TryHolding<
-    'a,
-    R,
-    OwnedAcquire<Bell>,
-    OwnedSemaphorePermit<Bell>,
-    Closed,
->;
 
 /// A semaphore with so many permits.
 pub fn shared<R: AllocGlobal + Abort>(rt: &R, permits: usize) -> Arc<Semaphore<Bell>> {

@@ -13,6 +13,7 @@ mod computing;
 mod keyed;
 pub mod once;
 mod promise;
+mod shown;
 pub mod singleflight;
 mod unfailing;
 

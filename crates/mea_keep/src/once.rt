@@ -9,4 +9,4 @@ pub use cell::{
     CellClaim, CellClaiming, CellInit, CellInsert, CellMutInit, CellMutTryInit, CellSet,
     CellTryInit, OnceCell,
 };
-pub use map::{MapClaim, MapClaiming, MapCompute, MapFilling, MapTryCompute, OnceMap};
+pub use map::{FoldOnceMap, MapClaim, MapClaiming, MapCompute, MapFilling, MapTryCompute, OnceMap};

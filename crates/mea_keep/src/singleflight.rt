@@ -20,6 +20,10 @@ pub struct Group<K: Eq + Hash, V, S: BuildHasher, W> {
     keyed: Keyed<Core<K, V, S, W>>,
 }
 
+/// A group with std's hasher, as `Group::new` gives it. It has no secret seed: keys that strangers choose may collide, and ask
+/// for a hasher of one's own.
+pub type FoldGroup<K, V, W> = Group<K, V, BuildHasherDefault<FoldHasher>, W>;
+
 /// The future of `Group::claim`.
 pub type GroupClaiming<'a, K, V, S, W> = KeyClaiming<'a, Core<K, V, S, W>, K, V, W>;
 

@@ -9,5 +9,6 @@ pub mod barrier;
 pub mod broadcast;
 pub mod latch;
 pub mod mpsc;
+mod shown;
 pub mod shutdown;
 pub mod waitgroup;

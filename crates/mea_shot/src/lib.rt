@@ -12,6 +12,7 @@ mod receiver;
 mod receiving;
 mod sender;
 mod sending;
+mod shown;
 mod steps;
 mod view;
 

@@ -12,18 +12,19 @@ use crate::steps::{Board, look, reclaim};
 use crate::view::View;
 use atomic_table::Seat;
 use mea_base::{Poll, Wake};
+use mea_wait::End;
 use std::marker::Model;
-use std::sync::Arc;
+use std::sync::{Arc, Wait};
 
-/// The end that receives. Contracts see what it knows. It has to be spent, by `into_future` or by `end`. It ports
-/// `mea::oneshot::Receiver`.
-pub struct Receiver<T: Message, W> {
+/// The end that receives. Contracts see what it knows. It is spent by `into_future` or by `end`, and to drop it
+/// ends it, as in the crate. It ports `mea::oneshot::Receiver`.
+pub struct Receiver<T: Message + Drop, W: Wake + Drop> {
     board: Arc<Board<T, W>>,
     seat: Seat<Option<Content<T, W>>, View<W>>,
     duty: Duty,
 }
 
-impl<T: Message, W> Model for Receiver<T, W> {
+impl<T: Message + Drop, W: Wake + Drop> Model for Receiver<T, W> {
     ghost use Rattle.std.specs.Prelude.{◌≡◌};
     ghost use Rattle.std.specs.Arc.{arc_value};
     ghost use Rattle.mea_shot.specs.declared.view.View.{View};
@@ -36,16 +37,16 @@ impl<T: Message, W> Model for Receiver<T, W> {
     ghost invariant = { λ s. IsOn s.seat.table_id (arc_value s.board).shared.table_id × IsUnpublished s.seat.me };
 }
 
-/// A receiver that is polled. Contracts see what it knows. It has to be spent, by `end`. It ports
-/// `mea::oneshot::Recv`.
-pub struct Recv<T: Message, W> {
+/// A receiver that is polled. Contracts see what it knows. It is spent by `end`, and to drop it ends it, as in the crate. It
+/// ports `mea::oneshot::Recv`.
+pub struct Recv<T: Message + Drop, W: Wake + Drop> {
     board: Arc<Board<T, W>>,
     seat: Seat<Option<Content<T, W>>, View<W>>,
     published: bool,
     duty: Duty,
 }
 
-impl<T: Message, W> Model for Recv<T, W> {
+impl<T: Message + Drop, W: Wake + Drop> Model for Recv<T, W> {
     ghost use Rattle.std.specs.Prelude.{◌≡◌, MatchBool};
     ghost use Rattle.std.specs.Arc.{arc_value};
     ghost use Rattle.mea_shot.specs.declared.view.View.{View};
@@ -58,7 +59,7 @@ impl<T: Message, W> Model for Recv<T, W> {
     ghost invariant = { λ s. IsOn s.seat.table_id (arc_value s.board).shared.table_id × MatchBool s.published (IsPublished s.seat.me) (IsUnpublished s.seat.me) };
 }
 
-impl<T: Message, W> Receiver<T, W> {
+impl<T: Message + Drop, W: Wake + Drop> Receiver<T, W> {
     pub(crate) fn new(
         board: Arc<Board<T, W>>,
         seat: Seat<Option<Content<T, W>>, View<W>>,
@@ -189,5 +190,30 @@ impl<T: Message + Drop, W: Wake + Drop> Recv<T, W> {
         }
         end_unpublished(&*board, &mut seat);
         duty.done(&seat);
+    }
+}
+
+impl<T: Message + Drop, W: Wake + Drop> Drop for Receiver<T, W> {
+    fn drop(self) {
+        self.end();
+    }
+}
+
+impl<T: Message + Drop, W: Wake + Drop> Drop for Recv<T, W> {
+    fn drop(self) {
+        self.end();
+    }
+}
+
+// They take no lock, and so ask nothing of the handle.
+impl<T: Message + Drop, W: Wake + Drop> End for Receiver<T, W> {
+    fn end<R: Wait>(self, _rt: &R) {
+        Receiver::end(self);
+    }
+}
+
+impl<T: Message + Drop, W: Wake + Drop> End for Recv<T, W> {
+    fn end<R: Wait>(self, _rt: &R) {
+        Recv::end(self);
     }
 }

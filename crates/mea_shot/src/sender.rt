@@ -13,19 +13,20 @@ use crate::steps::{Board, ask, split};
 use crate::view::View;
 use atomic_table::{Seat, Table};
 use mea_base::{NoMemory, Wake};
+use mea_wait::End;
 use std::alloc::Global;
 use std::marker::Model;
-use std::sync::Arc;
+use std::sync::{Arc, Wait};
 
-/// The end that sends. Contracts see what it knows. It has to be spent, by `send` or by `end`. It ports
-/// `mea::oneshot::Sender`.
-pub struct Sender<T: Message, W> {
+/// The end that sends. Contracts see what it knows. It is spent by `send` or by `end`, and to drop it ends it, as in the
+/// crate: so it goes into a message, a list or a task as it is. It ports `mea::oneshot::Sender`.
+pub struct Sender<T: Message + Drop, W: Wake + Drop> {
     board: Arc<Board<T, W>>,
     seat: Seat<Option<Content<T, W>>, View<W>>,
     duty: Duty,
 }
 
-impl<T: Message, W> Model for Sender<T, W> {
+impl<T: Message + Drop, W: Wake + Drop> Model for Sender<T, W> {
     ghost use Rattle.std.specs.Prelude.{◌≡◌, []};
     ghost use Rattle.std.specs.Arc.{arc_value};
     ghost use Rattle.mea_shot.specs.declared.view.View.{View};
@@ -38,8 +39,9 @@ impl<T: Message, W> Model for Sender<T, W> {
     ghost invariant = { λ s. IsOn s.seat.table_id (arc_value s.board).shared.table_id × IsSender s.seat.me.0 × (s.seat.me.1 ≡ []) };
 }
 
-/// What an accepted send leaves: the sender's seat, which says that this call told the message. It has to be spent,
-/// by `end`.
+/// What an accepted send leaves: the sender's seat, which says that this call told the message. It is given up by `end`, or
+/// dropped.
+#[derive(Drop)]
 pub struct Sent<T: Message, W> {
     board: Arc<Board<T, W>>,
     seat: Seat<Option<Content<T, W>>, View<W>>,
@@ -113,6 +115,22 @@ impl<T: Message + Drop, W: Wake + Drop> Sender<T, W> {
         }
     }
 
+    /// `send`, for who keeps no token of what came of it: the sender is spent, and only a refused message comes back. It is
+    /// the call of `mea::oneshot::Sender::send` with its answer.
+    pub fn send_and_end(self, message: T) -> Result<(), SendError<T>>
+        requires { T.fits message }
+        ensures refused { IfErr result (λ e. e.0 ≡ message) }
+        ensures shut { self ≡ Sends Shut → IsErr result }
+    {
+        match self.send(message) {
+            Ok(sent) => {
+                sent.end();
+                Ok(())
+            }
+            Err(unsent) => Err(unsent.into_error()),
+        }
+    }
+
     /// Whether the receiver has ended: a send is then refused. It ports `mea::oneshot::Sender::is_closed`.
     pub fn is_closed(&mut self) -> bool
         ensures tells { IsTrue result ↔ (self.new ≡ Sends Shut) }
@@ -131,6 +149,19 @@ impl<T: Message + Drop, W: Wake + Drop> Sender<T, W> {
         } = self;
         end_on(&*board, &mut seat);
         duty.done(&seat);
+    }
+}
+
+impl<T: Message + Drop, W: Wake + Drop> Drop for Sender<T, W> {
+    fn drop(self) {
+        self.end();
+    }
+}
+
+// It takes no lock, and so asks nothing of the handle.
+impl<T: Message + Drop, W: Wake + Drop> End for Sender<T, W> {
+    fn end<R: Wait>(self, _rt: &R) {
+        Sender::end(self);
     }
 }
 

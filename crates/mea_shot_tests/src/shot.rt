@@ -162,3 +162,18 @@ fn texts(rt: HostRuntime) -> Result<(), Fail> {
     );
     Ok(())
 }
+
+// An end that is dropped is ended, and one call sends and spends.
+#[test]
+fn ends_are_dropped(rt: HostRuntime) {
+    let (sender, mut receiver) = ends(&rt);
+    drop(sender);
+    assert_eq!(rt; received(&mut receiver), Err(TryRecvError::Disconnected));
+    let (sender, receiver) = ends(&rt);
+    drop(receiver.into_future());
+    let back = sender.send_and_end(Plain(4));
+    assert!(rt; matches!(back, Err(SendError(Plain(4)))));
+    let (sender, mut receiver) = ends(&rt);
+    assert!(rt; sender.send_and_end(Plain(5)).is_ok());
+    assert_eq!(rt; received(&mut receiver), Ok(5));
+}

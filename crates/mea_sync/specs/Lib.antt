@@ -1,3 +1,4 @@
 pub mod Forgets
 pub mod Notified
+pub mod Permits
 pub mod Slot

@@ -13,5 +13,6 @@ mod mapped;
 pub mod mutex;
 pub mod rwlock;
 pub mod semaphore;
+mod shown;
 
 pub use access::{Access, Downgrades, Shows};

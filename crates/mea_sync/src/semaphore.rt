@@ -1,5 +1,7 @@
 //! A semaphore that threads and tasks share: `mea::semaphore`.
 ghost use Rattle.std.specs.Prelude.{◌≡◌, ◌<◌, ◌≤◌, IfSome, OnErr};
+ghost use Rattle.std.specs.Arc.{arc_value};
+ghost use Rattle.mea_sync.specs.Permits.{num_permits, permits_wanted, permits_to_forget};
 
 mod acquire;
 mod permit;
@@ -8,6 +10,7 @@ mod steps;
 pub use acquire::{
     Acquire, AcquireForget, AcquireToForget, AcquireToHold, OwnedAcquire, OwnedAcquireForget,
 };
+use futures::task::Source;
 use mea_base::{NoMemory, Overflow, Wake};
 use mea_sem_core::SemCore;
 use mea_wait::hand_out;
@@ -28,6 +31,8 @@ pub struct Closed;
 /// library's own.
 #[derive(Drop)]
 pub struct Semaphore<W> {
+    // Which semaphore it is, for contracts: of two that were made, none shows that they have one name. It takes no bytes.
+    name: Source,
     core: Mutex<SemCore<W>>,
 }
 
@@ -35,6 +40,7 @@ impl<W: Wake> Semaphore<W> {
     /// A semaphore with these permits, all of them free. It takes no memory.
     pub fn new(alloc: Global, permits: usize) -> Self {
         Semaphore {
+            name: Source::new(),
             core: Mutex::new(SemCore::new(alloc, permits)),
         }
     }
@@ -71,7 +77,8 @@ impl<W: Wake> Semaphore<W> {
 
     /// Takes permits of an open semaphore if they are free, past all who wait. It takes no memory.
     pub fn try_acquire<R: Wait>(&self, rt: &R, permits: usize) -> Option<SemaphorePermit<'_, W>>
-        ensures { IfSome result (λ permit. permit ≡ permits) }
+        ensures permits { IfSome result (λ permit. num_permits permit ≡ permits) }
+        ensures of { IfSome result (λ permit. permit.of.now ≡ self.now) }
     {
         if self.take(rt, permits) {
             Some(Permit::of(self, permits))
@@ -87,14 +94,15 @@ impl<W: Wake> Semaphore<W> {
 
     /// A wait for permits. It takes no lock before its first poll, and no memory.
     pub fn acquire(&self, permits: usize) -> Acquire<'_, W>
-        ensures { result ≡ permits }
+        ensures permits { permits_wanted result ≡ permits }
+        ensures of { result.of.now ≡ self.now }
     {
         AcquireToHold::of(self, permits)
     }
 
     /// `acquire`, whose permits are gone for ever once they are granted. It takes no memory.
     pub fn acquire_and_forget(&self, permits: usize) -> AcquireForget<'_, W>
-        ensures { result ≡ permits }
+        ensures { permits_to_forget result ≡ permits }
     {
         AcquireToForget::of(self, permits)
     }
@@ -105,7 +113,8 @@ impl<W: Wake> Semaphore<W> {
         rt: &R,
         permits: usize,
     ) -> Option<OwnedSemaphorePermit<W>>
-        ensures { IfSome result (λ permit. permit ≡ permits) }
+        ensures permits { IfSome result (λ permit. num_permits permit ≡ permits) }
+        ensures of { IfSome result (λ permit. arc_value permit.of ≡ arc_value self) }
     {
         if self.take(rt, permits) {
             Some(Permit::of(self, permits))
@@ -121,14 +130,15 @@ impl<W: Wake> Semaphore<W> {
 
     /// `acquire`, for a wait that owns a share of the semaphore. It takes no memory.
     pub fn acquire_owned(self: Arc<Self>, permits: usize) -> OwnedAcquire<W>
-        ensures { result ≡ permits }
+        ensures permits { permits_wanted result ≡ permits }
+        ensures of { arc_value result.of ≡ arc_value self }
     {
         AcquireToHold::of(self, permits)
     }
 
     /// `acquire_and_forget`, for a wait that owns a share of the semaphore. It takes no memory.
     pub fn acquire_owned_and_forget(self: Arc<Self>, permits: usize) -> OwnedAcquireForget<W>
-        ensures { result ≡ permits }
+        ensures { permits_to_forget result ≡ permits }
     {
         AcquireToForget::of(self, permits)
     }

@@ -1,11 +1,13 @@
 //! Tests of the semaphore, the mutex, the reader-writer lock and the condition variable that threads share, by public contracts
-//! alone: each call once, its answer and the wakers that it woke, and runs of several threads. It has no code but tests.
+//! alone: each call once, its answer and the wakers that it woke, and runs of several threads. Its one function beside
+//! them merges permits, so that an edit which merges those of two semaphores is refused.
 #![tactic(auto)]
 
 #[cfg(test)]
 mod condvar;
 #[cfg(test)]
 mod guards;
+mod merging;
 #[cfg(test)]
 mod mutex;
 #[cfg(test)]
@@ -14,3 +16,5 @@ mod rwlock;
 mod semaphore;
 #[cfg(test)]
 mod threads;
+
+pub use merging::merged;

@@ -1,6 +1,7 @@
 ghost use Rattle.std.specs.Prelude.{IfSome};
 
 use crate::guards::share;
+use crate::merging::merged;
 use mea_base::Overflow;
 use mea_sync::semaphore::{Closed, Semaphore, SemaphorePermit};
 use mea_test_support::{Bell, Count, PollOutcome, count, end, found, gives, poll, rung};
@@ -149,6 +150,9 @@ fn is_heard<R: Wait + Abort>(rt: &R, semaphore: &Semaphore<Bell>, bell: &Count) 
 #[test]
 fn permits_split_and_merge(rt: HostRuntime) {
     let semaphore = Semaphore::new(rt.alloc(), 6);
+    let other = Semaphore::new(rt.alloc(), 1);
+    assert!(rt; merged(&rt, &semaphore, &other) == Some(3));
+    assert!(rt; has_free(&rt, &other, 1));
     let permit = splits(&rt, &semaphore, semaphore.try_acquire(&rt, 4));
     assert!(rt; has_free(&rt, &semaphore, 4));
     permit.forget(&rt);
@@ -169,6 +173,11 @@ fn splits<'s, R: Wait + Abort>(
     let one = permit.split(1).expect(rt, "one of four");
     assert!(rt; (one.permits(), permit.permits()) == (1, 3));
     permit.merge(one);
+    assert!(rt; permit.permits() == 4);
+    let two = permit.split(2).expect(rt, "two of four");
+    if let Err(back) = permit.try_merge(two) {
+        back.forget(rt);
+    }
     assert!(rt; permit.permits() == 4);
     assert!(rt; end(rt, permit.split(2)));
     permit

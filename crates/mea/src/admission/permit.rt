@@ -4,7 +4,7 @@ use crate::admission::FairShare;
 use mea_base::Wake;
 use mea_share_core::SharedKey;
 use mea_wait::{End, Holds};
-use std::hash::{BuildHasher, Hash};
+use std::hash::{BuildHasher, BuildHasherDefault, FoldHasher, Hash};
 use std::marker::{Model, PhantomData};
 use std::sync::{Arc, Wait};
 
@@ -16,10 +16,20 @@ pub struct SharePermit<H, K, W, S> {
 }
 
 /// A permit that borrows its admission. It ports `mea::admission::FairSharePermit`.
-pub type FairSharePermit<'a, K, W, S> = SharePermit<&'a FairShare<K, W, S>, K, W, S>;
+pub type FairSharePermit<'a, K, W, S = BuildHasherDefault<FoldHasher>> = SharePermit<
+    &'a FairShare<K, W, S>,
+    K,
+    W,
+    S,
+>;
 
 /// A permit that owns a share of its admission. It ports `mea::admission::OwnedFairSharePermit`.
-pub type OwnedFairSharePermit<K, W, S> = SharePermit<Arc<FairShare<K, W, S>>, K, W, S>;
+pub type OwnedFairSharePermit<K, W, S = BuildHasherDefault<FoldHasher>> = SharePermit<
+    Arc<FairShare<K, W, S>>,
+    K,
+    W,
+    S,
+>;
 
 impl<H, K, W, S> Model for SharePermit<H, K, W, S> {
     ghost Value = { K };

@@ -6,7 +6,7 @@ use mea_base::{NoMemory, Poll, Wake};
 use mea_share_core::{ShareAcquire, ShareFault, SharedKey};
 use mea_wait::{End, Holds, PollFault, Polled, Unpolled, Waits};
 use std::alloc::Global;
-use std::hash::{BuildHasher, Hash};
+use std::hash::{BuildHasher, BuildHasherDefault, FoldHasher, Hash};
 use std::marker::{Model, PhantomData};
 use std::sync::{Arc, Wait};
 
@@ -21,10 +21,10 @@ pub struct Admission<H, K, W, S> {
 }
 
 /// The future of `FairShare::acquire`.
-pub type ShareWait<'a, K, W, S> = Admission<&'a FairShare<K, W, S>, K, W, S>;
+pub type ShareWait<'a, K, W, S = BuildHasherDefault<FoldHasher>> = Admission<&'a FairShare<K, W, S>, K, W, S>;
 
 /// The future of `FairShare::acquire_owned`.
-pub type OwnedShareWait<K, W, S> = Admission<Arc<FairShare<K, W, S>>, K, W, S>;
+pub type OwnedShareWait<K, W, S = BuildHasherDefault<FoldHasher>> = Admission<Arc<FairShare<K, W, S>>, K, W, S>;
 
 impl<H, K, W, S> Model for Admission<H, K, W, S> {
     ghost Value = { K };

@@ -24,6 +24,10 @@ pub struct OnceMap<K: Eq + Hash, V, S: BuildHasher, W> {
     removals: AtomicU64,
 }
 
+/// A map with std's hasher, as `OnceMap::new` gives it. It has no secret seed: keys that strangers choose may collide, and ask
+/// for a hasher of one's own.
+pub type FoldOnceMap<K, V, W> = OnceMap<K, V, BuildHasherDefault<FoldHasher>, W>;
+
 /// The future of `OnceMap::claim`.
 pub type MapClaiming<'a, K, V, S, W> = KeyClaiming<'a, Core<K, V, S, W>, K, V, W>;
 

@@ -6,11 +6,11 @@ use crate::semaphore::{Closed, Semaphore, steps};
 use mea_base::{NoMemory, Wake};
 use mea_sem_core::{Acquire as Place, OpenTurn};
 use mea_wait::{End, Holds, Polled, Unpolled, Waits};
-use std::marker::{Model, PhantomData};
+use std::marker::PhantomData;
 use std::sync::{Arc, Wait};
 
 /// A wait for permits, which gives them as a permit, or `Closed` where the semaphore was closed first. It
-/// must be polled to its end, or ended. A contract sees of it how many permits it asks for.
+/// must be polled to its end, or ended. `permits_wanted` says in contracts how many permits it asks for.
 pub struct AcquireToHold<H, W> {
     of: H,
     permits: usize,
@@ -19,8 +19,8 @@ pub struct AcquireToHold<H, W> {
     ghost asks: { demand_of place ≡ permits },
 }
 
-/// A wait for permits that are gone for ever once they are granted. It must be polled to its end, or ended. A contract
-/// sees of it how many permits it asks for.
+/// A wait for permits that are gone for ever once they are granted. It must be polled to its end, or ended.
+/// `permits_to_forget` says in contracts how many permits it asks for.
 pub struct AcquireToForget<H, W> {
     of: H,
     permits: usize,
@@ -41,26 +41,11 @@ pub type AcquireForget<'a, W> = AcquireToForget<&'a Semaphore<W>, W>;
 /// The future of `Semaphore::acquire_owned_and_forget`.
 pub type OwnedAcquireForget<W> = AcquireToForget<Arc<Semaphore<W>>, W>;
 
-impl<H, W> Model for AcquireToHold<H, W> {
-    ghost use Rattle.std.specs.Prelude.{ℕ};
-
-    ghost Value = { ℕ };
-
-    ghost view = { λ a. a.permits };
-}
-
-impl<H, W> Model for AcquireToForget<H, W> {
-    ghost use Rattle.std.specs.Prelude.{ℕ};
-
-    ghost Value = { ℕ };
-
-    ghost view = { λ a. a.permits };
-}
-
 impl<W: Wake, H: Holds<Semaphore<W>>> AcquireToHold<H, W> {
     // A wait that was never polled.
     pub(super) fn of(of: H, permits: usize) -> Self
-        ensures { result ≡ permits }
+        ensures permits { result.permits ≡ permits }
+        ensures of { result.of ≡ of }
     {
         AcquireToHold {
             of,
@@ -74,7 +59,7 @@ impl<W: Wake, H: Holds<Semaphore<W>>> AcquireToHold<H, W> {
 impl<W: Wake, H: Holds<Semaphore<W>>> AcquireToForget<H, W> {
     // A wait that was never polled.
     pub(super) fn of(of: H, permits: usize) -> Self
-        ensures { result ≡ permits }
+        ensures { result.permits ≡ permits }
     {
         AcquireToForget {
             of,
@@ -115,7 +100,7 @@ impl<W: Wake, H: Holds<Semaphore<W>>> End for AcquireToForget<H, W> {
 
 impl<W: Wake, H: Holds<Semaphore<W>>> Waits<W, Result<Permit<H, W>, Closed>>
     for AcquireToHold<H, W> {
-    ghost gives = { λ a output. IfOk output (λ permit. permit ≡ a) };
+    ghost gives = { λ a output. IfOk output (λ permit. (permit.permits ≡ a.permits) × (permit.of ≡ a.of)) };
 
     fn poll<R: Wait>(
         self,
