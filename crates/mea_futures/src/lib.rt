@@ -2,7 +2,7 @@
 //! `select`, and under the timers of `tokio`. One adapter serves them all, by the traits `Waits` and `End`.
 //!
 //! A future here ends its wait where it is dropped, at any point. What a wait gives is to be spent; where it is to be dropped
-//! instead, `holding` and `try_holding` give it in a `Kept`.
+//! instead, `holding` and `try_holding` give it in a `Kept`. On a thread without tasks, `block` waits by any of them in one line.
 #![tactic(auto)]
 
 mod bell;

@@ -1,6 +1,6 @@
-use mea::{End, Kept};
 use mea::mpsc::{UnboundedReceiver, UnboundedSender, unbounded};
 use mea::oneshot::{Plain, Sender, TryRecvError, channel};
+use mea::{End, Kept};
 use mea_test_support::Bell;
 use std::process::Abort;
 use std::sync::Wait;
@@ -16,9 +16,7 @@ pub(crate) struct Ask {
 // The actor's turn: it takes what it was asked, and replies. Whether there was anything.
 fn turn<R: Wait>(rt: &R, asked: &mut UnboundedReceiver<Ask, Bell>) -> bool {
     match asked.try_recv(rt) {
-        Ok(Ask { number, reply }) => reply
-            .send_and_end(Plain(number.saturating_mul(2)))
-            .is_ok(),
+        Ok(Ask { number, reply }) => reply.send_and_end(Plain(number.saturating_mul(2))).is_ok(),
         Err(_) => false,
     }
 }

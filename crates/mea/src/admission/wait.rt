@@ -21,10 +21,20 @@ pub struct Admission<H, K, W, S> {
 }
 
 /// The future of `FairShare::acquire`.
-pub type ShareWait<'a, K, W, S = BuildHasherDefault<FoldHasher>> = Admission<&'a FairShare<K, W, S>, K, W, S>;
+pub type ShareWait<'a, K, W, S = BuildHasherDefault<FoldHasher>> = Admission<
+    &'a FairShare<K, W, S>,
+    K,
+    W,
+    S,
+>;
 
 /// The future of `FairShare::acquire_owned`.
-pub type OwnedShareWait<K, W, S = BuildHasherDefault<FoldHasher>> = Admission<Arc<FairShare<K, W, S>>, K, W, S>;
+pub type OwnedShareWait<K, W, S = BuildHasherDefault<FoldHasher>> = Admission<
+    Arc<FairShare<K, W, S>>,
+    K,
+    W,
+    S,
+>;
 
 impl<H, K, W, S> Model for Admission<H, K, W, S> {
     ghost Value = { K };
