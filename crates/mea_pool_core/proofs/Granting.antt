@@ -1,5 +1,5 @@
 -- what every list of calls keeps of those that wait, and of the order in which they are granted
-use Rattle.std.proofs.Common.{◌≡◌, ◌∙◌, ℕ, ◌+◌, ◌<◌, ◌≤◌, ◌++◌, inl, inr, Bool, true, false, cond, List, [], ◌∷◌, None, Result, Ok, Err, MatchResult, length, set, refl, ap, sym, subst, arith, append-nil, append_assoc, length-set}
+use Rattle.std.proofs.Common.{◌≡◌, ◌∙◌, ℕ, ◌+◌, ◌<◌, ◌≤◌, ◌++◌, inl, inr, Bool, true, false, cond, List, [], ◌∷◌, Some, None, Result, Ok, Err, MatchResult, length, set, refl, ap, sym, subst, arith, append-nil, append_assoc, length-set}
 use Rattle.std.proofs.lemmas.Bool.{cases_lt, cases_Bool}
 use Rattle.std.specs.Prelude.{IsSome, map as map_list}
 use Rattle.std.specs.Ordering.{nat_cmp, eq_by_cmp}
@@ -19,9 +19,9 @@ use Rattle.mea_pool_core.specs.declared.drain_wait.DrainWait.TheVariants as drai
 use Rattle.mea_pool_core.specs.Shelf.{is_lent, lent_count, times, one_if, StandOnce, slots_of}
 use Rattle.mea_pool_core.specs.Places.{cutting}
 use Rattle.mea_pool_core.specs.Pool.{Pool, fresh, taken, is_drained, settled, passed_for, passed_on, with_lease, drained}
-use Rattle.mea_pool_core.specs.Calls.{MayPoll, Belongs, Gets, Waits, PollsLease, CancelsLease, MayPollDrain, Lists, PollsDrain, EndsDrain}
+use Rattle.mea_pool_core.specs.Calls.{MayPoll, Belongs, Gets, Waits, PollsLease, TriesLease, CancelsLease, MayPollDrain, Lists, PollsDrain, EndsDrain}
 use Rattle.mea_pool_core.specs.Runs.{History, nothing_yet, without_slot, still_waiting, newly_granted, heard, after_poll, Goes, Runs, IsRising}
-use Rattle.mea_pool_core.specs.Runs.Goes.{PollLease, CancelLease, PutBack, Drain, PollDrained, EndDrain, NextWake}
+use Rattle.mea_pool_core.specs.Runs.Goes.{PollLease, TryLease, CancelLease, PutBack, Drain, PollDrained, EndDrain, NextWake}
 use Rattle.mea_pool_core.specs.Runs.Runs.{Starts, Later}
 use Rattle.mea_pool_core.proofs.Gates.{by_flag}
 use Rattle.mea_pool_core.proofs.Lines.{inserted, removed}
@@ -355,8 +355,13 @@ module _ {R W : Type 0} where
       settled_line (passed_for p.waiting (record p { shelf = p.shelf ++ l ∷ []; lent = set p.lent l.0 false })) (record h { out = without_slot l.0 h.out })
       (passes_by p.waiting (record p { shelf = p.shelf ++ l ∷ []; lent = set p.lent l.0 false }) p.granted p.draining (length p.lent) (taken p) h (without_slot l.0 h.out) are (λ n none. none) refl (length-set p.lent l.0 false) (omega arith) refl)
 
+  -- a lease that was got by a try
+  tries_line : (p p' : Pool R W) (h : History) (l : ℕ × R) → LineOf p h → TriesLease p (Some l) p' → LineOf p' (record h { out = l.0 ∷ h.out; asked = h.asked + 1; granted = h.granted ++ h.asked ∷ [] })
+  tries_line p p' h l are tries = line_as p' _ _ tries.2.is (got_first p p'.shelf (set p.lent tries.2.lease.0 true) (l.0 ∷ h.out) h are tries.1)
+
   goes_line : (resources : List R) (p p' : Pool R W) (h h' : History) → Slots resources p h → LineOf p h → Goes p h p' h' → LineOf p' h'
   goes_line resources p _ h _ slots are (PollLease a a' w r p' may polls) = polls_line resources p p' h a a' w r slots are may polls
+  goes_line resources p _ h _ slots are (TryLease l p' tries) = tries_line p p' h l are tries
   goes_line resources p _ h _ slots are (CancelLease a p' fits ends) = cancels_line p p' a h are fits ends
   goes_line resources p _ h _ slots are (PutBack l stands) = back_line resources p h l slots are stands
   goes_line resources p _ h _ slots are Drain = drained_line p h are

@@ -21,7 +21,7 @@ use Rattle.mea_lock_core.specs.Condvar.{waker_under, with_waker, without_wait}
 use Rattle.mea_pool_core.specs.declared.lease_wait.LeaseWait.{LeaseWait}
 use Rattle.mea_pool_core.specs.declared.lease_wait.LeaseWait.TheVariants.{New, Queued, Done, Refused}
 use Rattle.mea_pool_core.specs.Waits.{acquire_of, wait_of}
-use Rattle.mea_pool_core.specs.Places.{Places, leases_of, places_of, IsPlaces, taken_of, are_drained, Fits, WaitsLast, PollsPlace, FindsPlace, place_for, with_place, CancelsPlace, closed_places}
+use Rattle.mea_pool_core.specs.Places.{Places, leases_of, places_of, IsPlaces, taken_of, are_drained, Fits, WaitsLast, PollsPlace, FindsPlace, TriesPlace, place_for, with_place, CancelsPlace, closed_places}
 use Rattle.mea_pool_core.proofs.Lines.{inserted, removed, leases_last, leases_rewaked, leases_without, waits_one, waits_some, waits_none, first_waits, poured_nothing, passed_to, given, closes}
 
 abbrev AnswerOf : Type 0 → Type 0
@@ -265,6 +265,25 @@ module _ {W : Type 0} where
   poll_keeps s s' (Queued n) b w r is sound polls holds (inr there) = (is_cut s s' n b w r is sound polls holds there).1.0
   poll_keeps s s' Done b w r is sound polls holds fits = subst IsPlaces (sym polls.1) is
   poll_keeps s s' Refused b w r is sound polls holds fits = subst IsPlaces (sym polls.1) is
+
+  -- ---- a try
+
+  room_of_free : (s : Core W) → IsPlaces s → 1 ≤ s.free → taken_of (places_of s) < s.live
+  room_of_free s is high = let counted : s.free + held_of s + map.len s.granted ≡ s.live = is.counted in omega arith
+
+  full_of_none : (s : Core W) → IsPlaces s → s.free < 1 → s.live ≤ taken_of (places_of s)
+  full_of_none s is low = let counted : s.free + held_of s + map.len s.granted ≡ s.live = is.counted in omega arith
+
+  pub tried : (s s' : Core W) (r : Bool) → IsPlaces s → core.IsSound s' → (s.closed ≡ false → 1 ≤ s.free → (r ≡ true) × (s' ≡ record s { free = s.free - 1 })) → (s.free < 1 → (r ≡ false) × (s' ≡ s)) → (s.closed ≡ true → (r ≡ false) × (s' ≡ s))
+      → (s.closed ≡ false → 1 ≤ s.free → held_of s' ≡ held_of s + 1) → IsPlaces s' × TriesPlace (places_of s) r (places_of s')
+  tried s s' r is sound taken refused closed held = elim (cases_Bool s.closed) [
+    | inl shut ↦ let h = closed shut in (subst IsPlaces (sym h.1) is, subst (λ (b : Bool). TriesPlace (places_of s) b (places_of s')) (sym h.0) (inl shut, ap places_of h.1))
+    | inr opens ↦ elim (cases_lt s.free 1) [
+      | inl low ↦ let h = refused low in (subst IsPlaces (sym h.1) is, subst (λ (b : Bool). TriesPlace (places_of s) b (places_of s')) (sym h.0) (inr (full_of_none s is low), ap places_of h.1))
+      | inr high ↦ let h = taken opens high in let both = taken_by s s' (s.free - 1) s.granted is sound h.1 (held opens high) (omega arith) in
+          (both.0, subst (λ (b : Bool). TriesPlace (places_of s) b (places_of s')) (sym h.0) (opens, room_of_free s is high, both.1))
+    ]
+  ]
 
   -- one that is ready has found a place that no lease held
   one_more : (s s' : Core W) → IsPlaces s → core.IsSound s' → Steady s s' → held_of s' ≡ held_of s + 1 → held_of s < s.live

@@ -1,5 +1,5 @@
 -- the polls of a pool, from those of its places and its gate
-use Rattle.std.proofs.Common.{◌≡◌, ◌≢◌, ◌∙◌, ℕ, ◌+◌, ◌<◌, ◌≤◌, ◌==◌, ◌&&◌, ◌++◌, inl, inr, true, false, [], ◌∷◌, Some, Result, Ok, Err, MatchResult, length, refl, ap, sym, subst, arith, length-set}
+use Rattle.std.proofs.Common.{◌≡◌, ◌≢◌, ◌∙◌, ℕ, ◌+◌, ◌<◌, ◌≤◌, ◌==◌, ◌&&◌, ◌++◌, ◌⊎◌, inl, inr, true, false, [], ◌∷◌, Some, None, Result, Ok, Err, MatchResult, length, refl, ap, sym, subst, arith, length-set}
 use Rattle.std.proofs.lemmas.Bool.{cases_lt, cases_Bool}
 use Rattle.std.specs.Prelude.{OnErr}
 use Rattle.std.specs.FinMap as map
@@ -15,10 +15,10 @@ use Rattle.mea_pool_core.specs.declared.lease_poll.LeasePoll.TheVariants as answ
 use Rattle.mea_pool_core.specs.declared.drain_wait.DrainWait.{DrainWait}
 use Rattle.mea_pool_core.specs.declared.drain_wait.DrainWait.TheVariants as drain
 use Rattle.mea_pool_core.specs.Shelf.{Shelf, lent_count, Lends}
-use Rattle.mea_pool_core.specs.Places.{Places, taken_of, are_drained, IsUnmet, WaitsLast, PollsPlace, FindsPlace}
+use Rattle.mea_pool_core.specs.Places.{Places, taken_of, are_drained, IsUnmet, WaitsLast, PollsPlace, FindsPlace, TriesPlace}
 use Rattle.mea_pool_core.specs.Gate.{Gate, MayPollAt, StandsLast, PollsGate, EndsGate}
 use Rattle.mea_pool_core.specs.Pool.{Pool, taken, is_drained}
-use Rattle.mea_pool_core.specs.Calls.{MayPoll, Gets, PollsLease, Lists, PollsDrain, EndsDrain}
+use Rattle.mea_pool_core.specs.Calls.{MayPoll, Gets, PollsLease, TriesLease, Lists, PollsDrain, EndsDrain}
 use Rattle.mea_pool_core.specs.Parts.{pool_of, ArePool}
 use Rattle.mea_pool_core.proofs.Gates.{by_flag}
 use Rattle.mea_pool_core.proofs.Lines.{some_counted}
@@ -100,6 +100,26 @@ module _ {R W : Type 0} where
   got_keeps x x' s s' g (Queued n) a' w y lease are (inr there, _) polls lends = absurd (let no = (polls.2 there).0 in cc)
   got_keeps x x' s s' g Done a' w y lease are may polls lends = absurd may.1
   got_keeps x x' s s' g Refused a' w y lease are may polls lends = absurd (let no = polls.0 in cc)
+
+  -- ---- a lease is got by a try
+
+  pub tried_room : (x : Shelf R) (s s' : Places W) (g : Gate W) → ArePool x s g → TriesPlace s true s' → lent_count x.lent < length x.lent
+  tried_room x s s' g are tries = let room : taken_of s < s.size = tries.1 in let size : s.size ≡ length x.lent = are.size in let held : s.held ≡ lent_count x.lent = are.held in omega arith
+
+  pub tried_got : (x x' : Shelf R) (s s' : Places W) (g : Gate W) (lease : ℕ × R) → ArePool x s g → TriesPlace s true s' → Lends x lease x' → ArePool x' s' g × TriesLease (pool_of x s g) (Some lease) (pool_of x' s' g)
+  tried_got x x' s s' g lease are tries lends =
+      let both = got_by x x' s s' g lease s.granted are lends tries.2 (not_closed s tries.0) in
+      let room : taken_of s < s.size = tries.1 in
+      let size : s.size ≡ length x.lent = are.size in
+      let held : s.held ≡ lent_count x.lent = are.held in
+      (both.0, (tries.0, omega arith, both.1))
+
+  pub tried_none : (x : Shelf R) (s s' : Places W) (g : Gate W) → ArePool x s g → TriesPlace s false s' → ArePool x s' g × TriesLease (pool_of x s g) None (pool_of x s' g)
+  tried_none x s s' g are tries = (subst (λ (p : Places W). ArePool x p g) (sym tries.1) are, (why tries.0, ap (λ (p : Places W). pool_of x p g) tries.1))
+    where
+      why : (s.closed ≡ true) ⊎ (s.size ≤ taken_of s) → (s.closed ≡ true) ⊎ (length x.lent ≤ taken (pool_of x s g))
+      why (inl closed) = inl closed
+      why (inr full) = inr (let size : s.size ≡ length x.lent = are.size in let held : s.held ≡ lent_count x.lent = are.held in omega arith)
 
   -- ---- a lease is waited for, or refused
 

@@ -1,5 +1,5 @@
 -- each slot is on the shelf or out, over every list of calls, and a pool that is drained stays so
-use Rattle.std.proofs.Common.{◌≡◌, ◌≢◌, ◌∙◌, ℕ, zero, suc, ◌+◌, ◌<◌, ◌≤◌, ◌==◌, ◌++◌, inl, inr, Bool, true, false, cond, nat_lt, List, [], ◌∷◌, Result, Ok, Err, MatchResult, length, set, refl, ap, sym, subst, arith, length-append, length-set}
+use Rattle.std.proofs.Common.{◌≡◌, ◌≢◌, ◌∙◌, ℕ, zero, suc, ◌+◌, ◌<◌, ◌≤◌, ◌==◌, ◌++◌, inl, inr, Bool, true, false, cond, nat_lt, List, [], ◌∷◌, Some, Result, Ok, Err, MatchResult, length, set, refl, ap, sym, subst, arith, length-append, length-set}
 use Rattle.std.proofs.lemmas.Bool.{cases_lt, cases_eq, cases_Bool, and_parts, eq-eqb, eqb-true}
 use Rattle.std.proofs.lemmas.List.{get_or-set_same, get_or-set_other}
 use Rattle.std.proofs.lemmas.List.Sums.{sum_by-cons}
@@ -18,9 +18,9 @@ use Rattle.mea_pool_core.specs.declared.drain_wait.DrainWait.TheVariants as drai
 use Rattle.mea_pool_core.specs.Shelf.{is_lent, lent_count, times, one_if, StandOnce, slots_of, slots_below, none_lent}
 use Rattle.mea_pool_core.specs.Places.{cutting}
 use Rattle.mea_pool_core.specs.Pool.{Pool, fresh, taken, is_drained, settled, passed_for, passed_on, with_lease, drained}
-use Rattle.mea_pool_core.specs.Calls.{MayPoll, Belongs, Gets, Waits, PollsLease, CancelsLease, MayPollDrain, Lists, PollsDrain, EndsDrain}
+use Rattle.mea_pool_core.specs.Calls.{MayPoll, Belongs, Gets, Waits, PollsLease, TriesLease, CancelsLease, MayPollDrain, Lists, PollsDrain, EndsDrain}
 use Rattle.mea_pool_core.specs.Runs.{History, nothing_yet, without_slot, heard, after_poll, Goes, Runs, Further}
-use Rattle.mea_pool_core.specs.Runs.Goes.{PollLease, CancelLease, PutBack, Drain, PollDrained, EndDrain, NextWake}
+use Rattle.mea_pool_core.specs.Runs.Goes.{PollLease, TryLease, CancelLease, PutBack, Drain, PollDrained, EndDrain, NextWake}
 use Rattle.mea_pool_core.specs.Runs.Runs.{Starts, Later}
 use Rattle.mea_pool_core.specs.Runs.Further.{Here, There}
 use Rattle.mea_pool_core.proofs.Gates.{by_flag}
@@ -243,8 +243,16 @@ module _ {R W : Type 0} where
       (λ some. kept_is p (record p { drains = without_wait p.drains n }) p' (ends.1 some) (record { shelf = refl; lent = refl }))
   end_drain_kept p p' drain.Done ends = kept_is p p p' ends (unchanged p)
 
+  -- a try has got the first of the shelf
+  pub got_that : (p p' : Pool R W) (l : ℕ × R) (tries : TriesLease p (Some l) p') → tries.2.lease ≡ l
+  got_that p p' l tries = let same : Ok (answer.Got l) ≡ Ok (answer.Got tries.2.lease) = tries.2.answers in cc
+
+  got_it : (p p' : Pool R W) (l : ℕ × R) → TriesLease p (Some l) p' → p.shelf ≡ l ∷ p'.shelf
+  got_it p p' l tries = tries.2.first ∙ ap (λ (k : ℕ × R). k ∷ p'.shelf) (got_that p p' l tries)
+
   goes_slots : (resources : List R) (p p' : Pool R W) (h h' : History) → Slots resources p h → Goes p h p' h' → Slots resources p' h'
   goes_slots resources p _ h _ are (PollLease a a' w r p' may polls) = poll_slots resources p p' h a a' w r are may polls
+  goes_slots resources p _ h _ are (TryLease l p' tries) = slots_got resources p p' h (record h { out = l.0 ∷ h.out; asked = h.asked + 1; granted = h.granted ++ h.asked ∷ [] }) l (got_it p p' l tries) (ap (λ (x : Pool R W). x.lent) tries.2.is ∙ ap (λ (k : ℕ × R). set p.lent k.0 true) (got_that p p' l tries)) refl are
   goes_slots resources p _ h _ are (CancelLease a p' fits cancels) = from_kept resources p p' h (heard p' h) are (cancel_kept p p' a fits cancels) refl
   goes_slots resources p _ h _ are (PutBack l stands) =
       let rest = passed_on_kept (record p { shelf = p.shelf ++ l ∷ []; lent = set p.lent l.0 false }) in
@@ -310,6 +318,7 @@ module _ {R W : Type 0} where
 
   goes_stays : (resources : List R) (p p' : Pool R W) (h h' : History) → Slots resources p h → is_drained p ≡ true → Goes p h p' h' → is_drained p' ≡ true
   goes_stays resources p _ h _ are is (PollLease a a' w r p' may polls) = poll_stays p p' a a' w r is may polls
+  goes_stays resources p _ h _ are is (TryLease l p' tries) = absurd (let both : true ≡ false = sym (all_free p is).draining ∙ tries.0 in cc)
   goes_stays resources p _ h _ are is (CancelLease a p' fits ends) = cancel_stays p p' a is fits ends
   goes_stays resources p _ h _ are is (PutBack l stands) = absurd (let none : times l.0 h.out ≡ 0 = nothing_out resources p h are is l.0 in omega arith)
   goes_stays resources p _ h _ are is Drain = ap (λ (q : Pool R W). is_drained q) (drained_again p (all_free p is).draining) ∙ is
@@ -423,6 +432,7 @@ module _ {R W : Type 0} where
 
   goes_told : (resources : List R) (p p' : Pool R W) (h h' : History) → Slots resources p h → Told p → Goes p h p' h' → Told p'
   goes_told resources p _ h _ are told (PollLease a a' w r p' may polls) = poll_told resources p p' h a a' w r are told may polls
+  goes_told resources p _ h _ are told (TryLease l p' tries) = told_got resources p p p' h (Ok (answer.Got l)) are refl refl tries.2
   goes_told resources p _ h _ are told (CancelLease a p' fits ends) = cancel_told p p' a told fits ends
   goes_told resources p _ h _ are told (PutBack l stands) = told_settled (passed_for p.waiting (record p { shelf = p.shelf ++ l ∷ []; lent = set p.lent l.0 false }))
   goes_told resources p _ h _ are told Drain = pick_told p.draining p _ told (told_settled (record p { waiting = []; cut = cutting p.cut p.waiting; draining = true; wakes = p.wakes ++ map_list {A = ℕ × W} (λ e. e.1) p.waiting }))

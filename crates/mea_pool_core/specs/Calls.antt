@@ -1,5 +1,5 @@
 -- what the calls of a pool on waits and leases do, and what they ask for
-use Rattle.std.specs.Prelude.{ℕ, ◌≡◌, ◌<◌, ◌≤◌, ◌++◌, true, false, [], ◌∷◌, length, slice_set, Some, None, IsSome, Result, Ok, MatchResult}
+use Rattle.std.specs.Prelude.{ℕ, ◌≡◌, ◌<◌, ◌≤◌, ◌++◌, ◌⊎◌, true, false, [], ◌∷◌, length, slice_set, Option, Some, None, IsSome, Result, Ok, MatchResult}
 use Rattle.std.specs.FinMap as map
 use Rattle.futures.specs.declared.task.Poll.{Poll}
 use Rattle.futures.specs.declared.task.Poll.TheVariants.{Ready, Pending}
@@ -59,6 +59,11 @@ module _ {R W : Type 0} where
       × ((p.draining ≡ true) × (map.get p.cut n ≡ Some 1) → (r ≡ Ok answer.Closed) × (p' ≡ record p { cut = map.remove p.cut n }) × (a' ≡ lease.Refused))
   PollsLease p lease.Done w r p' a' = Unit {0}
   PollsLease p lease.Refused w r p' a' = (r ≡ Ok answer.Closed) × (p' ≡ p) × (a' ≡ lease.Refused)
+
+  -- what a try for a lease does: it gets one exactly where a new wait would
+  abbrev pub TriesLease : Pool R W → Option (ℕ × R) → Pool R W → Type 0
+  TriesLease p (Some lease) p' = (p.draining ≡ false) × (taken p < length p.lent) × Gets p (Ok (answer.Got lease)) p'
+  TriesLease p None p' = ((p.draining ≡ true) ⊎ (length p.lent ≤ taken p)) × (p' ≡ p)
 
   -- what the end of a wait does: one that was granted gives its place to the next
   abbrev pub CancelsLease : Pool R W → LeaseWait → Pool R W → Type 0

@@ -114,6 +114,11 @@ module _ {W : Type 0} where
   FindsPlace s Pending = Unit {0}
   FindsPlace s (Closed _) = Unit {0}
 
+  -- what a try for a place does: it takes one exactly where they are open and one is free
+  abbrev pub TriesPlace : Places W → Bool → Places W → Type 0
+  TriesPlace s true s' = (s.closed ≡ false) × (taken_of s < s.size) × (s' ≡ record s { held = s.held + 1 })
+  TriesPlace s false s' = ((s.closed ≡ true) ⊎ (s.size ≤ taken_of s)) × (s' ≡ s)
+
   -- a place that becomes free goes to the first that waits, which is granted and woken
   abbrev pub place_for : List (ℕ × W) → Places W → Places W
   place_for [] s = s

@@ -1,5 +1,5 @@
 -- what has happened at a pool, whatever was called in whatever order
-use Rattle.std.specs.Prelude.{ℕ, ◌+◌, ◌<◌, ◌≤◌, ◌==◌, ◌++◌, if◌then◌else◌, List, [], ◌∷◌, is_some, Result, Ok}
+use Rattle.std.specs.Prelude.{ℕ, ◌+◌, ◌<◌, ◌≤◌, ◌==◌, ◌++◌, if◌then◌else◌, List, [], ◌∷◌, Some, is_some, Result, Ok}
 use Rattle.std.specs.Ordering.{nat_cmp}
 use Rattle.std.specs.FinMap as map
 use Rattle.futures.specs.declared.task.Poll.{Poll}
@@ -12,11 +12,11 @@ use Rattle.mea_pool_core.specs.declared.lease_poll.LeasePoll.TheVariants as answ
 use Rattle.mea_pool_core.specs.declared.drain_wait.DrainWait.{DrainWait}
 use Rattle.mea_pool_core.specs.Shelf.{times}
 use Rattle.mea_pool_core.specs.Pool.{Pool, fresh, with_lease, drained}
-use Rattle.mea_pool_core.specs.Calls.{Belongs, MayPoll, PollsLease, CancelsLease, MayPollDrain, PollsDrain, MayEndDrain, EndsDrain}
+use Rattle.mea_pool_core.specs.Calls.{Belongs, MayPoll, PollsLease, TriesLease, CancelsLease, MayPollDrain, PollsDrain, MayEndDrain, EndsDrain}
 
--- the slots of the leases that were got and not put back; how many waits were first polled and not refused; the number of each
--- that waits, with how many had been first polled before it, in the order in which they came; and those of all that were
--- granted a place, in the order of grants
+-- the slots of the leases that were got and not put back; how many have asked, by a first poll that was not refused or by a
+-- try that got a lease; the number of each that waits, with how many had asked before it, in the order in which they came; and
+-- those of all that were granted a place, in the order of grants
 pub record History : Type 0 where
   pub out : List ℕ
   pub asked : ℕ
@@ -36,7 +36,7 @@ abbrev pub still_waiting : {W : Type 0} → List (ℕ × W) → List (ℕ × ℕ
 still_waiting waiting [] = []
 still_waiting waiting (e ∷ line) = if is_some (waker_under waiting e.0) then e ∷ still_waiting waiting line else still_waiting waiting line
 
--- how many had come before each of those of a line that are granted now
+-- how many had asked before each of those of a line that are granted now
 abbrev pub newly_granted : map.FinMap nat_cmp ℕ → List (ℕ × ℕ) → List ℕ
 newly_granted granted [] = []
 newly_granted granted (e ∷ line) = if is_some (map.get granted e.0) then e.1 ∷ newly_granted granted line else newly_granted granted line
@@ -56,6 +56,7 @@ module _ {R W : Type 0} where
   -- a call takes a pool from one state to another
   pub data Goes (p : Pool R W) (h : History) : Pool R W → History → Type 0 where
     PollLease : (a a' : LeaseWait) (w : W) (r : Result (LeasePoll R) (W × NoMemory)) (p' : Pool R W) → MayPoll p a → PollsLease p a w r p' a' → Goes p h p' (after_poll a r a' h)
+    TryLease : (l : ℕ × R) (p' : Pool R W) → TriesLease p (Some l) p' → Goes p h p' (record h { out = l.0 ∷ h.out; asked = h.asked + 1; granted = h.granted ++ h.asked ∷ [] })
     CancelLease : (a : LeaseWait) (p' : Pool R W) → Belongs p a → CancelsLease p a p' → Goes p h p' (heard p' h)
     PutBack : (l : ℕ × R) → 1 ≤ times l.0 h.out → Goes p h (with_lease p l) (heard (with_lease p l) (record h { out = without_slot l.0 h.out }))
     Drain : Goes p h (drained p) (heard (drained p) h)

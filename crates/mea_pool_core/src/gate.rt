@@ -1,4 +1,4 @@
-ghost use Rattle.std.specs.Prelude.{◌≡◌, ◌↔◌, [], ◌∷◌, length, true, false, IsTrue, IfOk, IfErr, IfSome, IfNone, OnErr};
+ghost use Rattle.std.specs.Prelude.{◌≡◌, ◌<◌, ◌^◌, ◌↔◌, [], ◌∷◌, length, true, false, IsTrue, IfOk, IfErr, IfSome, IfNone, OnErr};
 ghost use Rattle.std.specs.FinMap as map;
 ghost use Rattle.mea_pool_core.specs.Gate.{MayPollAt, MayEndAt, PollsGate, EndsGate, gate_opened, listed_of};
 
@@ -149,7 +149,8 @@ impl<W: Drop> Gate<W> {
 
     // How many wakers are to be called. It takes no memory.
     pub(crate) fn wakes_ready(&self) -> usize
-        ensures { result ≡ length self.now.wakes }
+        ensures count { result ≡ length self.now.wakes }
+        ensures bound { result < 2 ^ 63 }
     {
         self.waits.wakes_ready()
     }

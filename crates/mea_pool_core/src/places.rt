@@ -1,6 +1,6 @@
-ghost use Rattle.std.specs.Prelude.{◌≡◌, ◌≢◌, ◌+◌, ◌-◌, ◌<◌, ◌≤◌, ◌↔◌, [], ◌∷◌, length, true, false, IsTrue, IfOk, IfErr, IfSome, IfNone, OnErr};
+ghost use Rattle.std.specs.Prelude.{◌≡◌, ◌≢◌, ◌+◌, ◌-◌, ◌<◌, ◌≤◌, ◌^◌, ◌↔◌, [], ◌∷◌, length, true, false, IsTrue, IfOk, IfErr, IfSome, IfNone, OnErr};
 ghost use Rattle.std.specs.FinMap as map;
-ghost use Rattle.mea_pool_core.specs.Places.{Fits, PollsPlace, FindsPlace, CancelsPlace, with_place, closed_places, are_drained};
+ghost use Rattle.mea_pool_core.specs.Places.{Fits, PollsPlace, FindsPlace, TriesPlace, CancelsPlace, with_place, closed_places, are_drained};
 
 use crate::lease_wait::LeaseWait;
 use mea_base::NoMemory;
@@ -54,6 +54,13 @@ impl<W: Drop> Places<W> {
         answer
     }
 
+    // Takes a place, if they are open and one is free. It takes no memory.
+    pub(crate) fn try_take(&mut self) -> bool
+        ensures { TriesPlace self.old result self.new }
+    {
+        self.permits.try_acquire(1)
+    }
+
     // Ends a wait: a place that it was granted goes to the next. It takes no memory.
     pub(crate) fn cancel(&mut self, wait: LeaseWait)
         requires { Fits self.old wait }
@@ -101,7 +108,8 @@ impl<W: Drop> Places<W> {
 
     // How many wakers are to be called. It takes no memory.
     pub(crate) fn wakes_ready(&self) -> usize
-        ensures { result ≡ length self.now.wakes }
+        ensures count { result ≡ length self.now.wakes }
+        ensures bound { result < 2 ^ 63 }
     {
         self.permits.wakes_ready()
     }

@@ -1,7 +1,7 @@
-ghost use Rattle.std.specs.Prelude.{◌≡◌, ◌↔◌, [], ◌∷◌, length, min, true, false, IsTrue, IfOk, IfErr, IfSome, IfNone, OnErr};
+ghost use Rattle.std.specs.Prelude.{◌≡◌, ◌↔◌, [], ◌∷◌, length, true, false, IsTrue, IfOk, IfErr, IfSome, IfNone, OnErr};
 ghost use Rattle.mea_pool_core.specs.Shelf.{is_lent, resources_of};
 ghost use Rattle.mea_pool_core.specs.Pool.{fresh, is_drained, with_lease, drained};
-ghost use Rattle.mea_pool_core.specs.Calls.{Belongs, MayPoll, PollsLease, CancelsLease, MayPollDrain, MayEndDrain, PollsDrain, EndsDrain};
+ghost use Rattle.mea_pool_core.specs.Calls.{Belongs, MayPoll, PollsLease, TriesLease, CancelsLease, MayPollDrain, MayEndDrain, PollsDrain, EndsDrain};
 
 use crate::drain_wait::DrainWait;
 use crate::gate::Gate;
@@ -84,6 +84,17 @@ impl<R, W: Drop> PoolCore<R, W> {
         ensures { IsTrue result ↔ MayPoll self.now wait.now }
     {
         !matches!(wait, LeaseWait::Done) && self.places.fits(wait)
+    }
+
+    /// Gets a lease of the first resource of the shelf where the first poll of a wait would get it, and else none. It takes no
+    /// memory.
+    pub fn try_lease(&mut self) -> Option<Lease<R>>
+        ensures { TriesLease self.old result self.new }
+    {
+        if !self.places.try_take() {
+            return None;
+        }
+        Some(self.shelf.lend())
     }
 
     /// Ends a wait for a lease. One that was granted gives its place to the next. It takes no memory.
@@ -202,13 +213,11 @@ impl<R, W: Drop> PoolCore<R, W> {
         shelf.into_resources()
     }
 
-    /// How many wakers are to be called; the count stands still at its type's end. It takes no memory.
+    /// How many wakers are to be called. It takes no memory.
     pub fn wakes_ready(&self) -> usize
-        ensures { result ≡ min (length self.now.wakes) usize.MAX }
+        ensures { result ≡ length self.now.wakes }
     {
-        self.places
-            .wakes_ready()
-            .saturating_add(self.gate.wakes_ready())
+        self.places.wakes_ready() + self.gate.wakes_ready()
     }
 
     /// Takes the first waker that is to be called. It takes no memory.

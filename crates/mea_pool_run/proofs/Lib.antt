@@ -1,8 +1,11 @@
 pub mod Drains
 pub mod Events
+pub mod Lending
 pub mod Linking
+pub mod Orderly
 pub mod Passing
 pub mod Polls
+pub mod Queueing
 pub mod Sizes
 pub mod Standing
 pub mod Starts

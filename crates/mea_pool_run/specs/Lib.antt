@@ -1,5 +1,6 @@
 pub mod Hall
 pub mod Kept
 pub mod Lines
+pub mod Orderly
 pub mod Reply
 pub mod Script

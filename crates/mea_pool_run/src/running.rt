@@ -3,6 +3,7 @@ ghost use Rattle.mea_family.specs.declared.stop.Stop.{Stop as Why};
 ghost use Rattle.mea_io.specs.Bytes.{Rose};
 ghost use Rattle.mea_script.specs.Runs.{IsFault, Answers, Tells, IsTakenTo, line_of};
 ghost use Rattle.mea_pool_run.specs.Script.{IsSize, IsPool, IsCommand, pool_of};
+ghost use Rattle.mea_pool_run.specs.Orderly.{AreOrderly};
 
 use crate::machine::Pooling;
 use mea_io::{Sink, Source};
@@ -39,6 +40,9 @@ pub fn run_pool<S: Source, K: Sink>(
     ensures whole { (size : ℕ) (script before : List ℕ) → IsPool (map string_bytes words.now) size → S.left source.old ≡ Some script → K.taken sink.old ≡ Some before
         → ¬ Rose (S.faults source.old) (S.faults source.new) → ¬ Rose (K.faults sink.old) (K.faults sink.new)
         → (result ≡ Status.NoMemory) ⊎ Answers (pool_of size script) result before (K.taken sink.new) }
+
+    // At every event of the script that is played, whose replies its text tells.
+    ensures orderly { (size : ℕ) (script : List ℕ) → IsPool (map string_bytes words.now) size → S.left source.old ≡ Some script → AreOrderly size script }
 
     // Nothing more is taken after the line that ends the text.
     ensures taken_to { (size : ℕ) (script : List ℕ) (n : ℕ) → IsPool (map string_bytes words.now) size → S.left source.old ≡ Some script → line_of result ≡ Some n

@@ -1,0 +1,146 @@
+use crate::leases::{granted, hears, pool, share, uses, waits};
+use mea_shared_pool::Pool;
+use mea_test_support::{Bell, Count, count, end, gives, goes_on, rung};
+use std::process::Abort;
+use std::sync::{Arc, Wait};
+
+// Who waits gets the resource that comes back, with its value, and in the order of the first polls.
+#[test]
+fn leases_go_in_the_order_of_first_polls(rt: HostRuntime) {
+    let one = count(rt.alloc()).expect(&rt, "memory");
+    let two = count(rt.alloc()).expect(&rt, "memory");
+    let pool = pool(&rt, 2);
+    go_in_order(&rt, &pool, &one, &two);
+}
+
+fn go_in_order<R: Wait + Abort>(rt: &R, pool: &Pool<u64, Bell>, one: &Count, two: &Count) {
+    let ten = pool.try_get(rt);
+    let eleven = granted(rt, Some(pool.get()), one);
+    assert!(rt; pool.idle(rt) == 0);
+    assert!(rt; !end(rt, pool.try_get(rt)));
+    let first = waits(rt, pool.get(), one);
+    let second = waits(rt, pool.get(), two);
+    assert!(rt; uses(rt, ten, 20) == Some(10));
+    assert!(rt; (rung(one), rung(two), pool.idle(rt)) == (1, 0, 1));
+    assert!(rt; !end(rt, pool.try_get(rt)));
+    assert!(rt; uses(rt, granted(rt, first, one), 30) == Some(20));
+    assert!(rt; (rung(one), rung(two)) == (1, 1));
+    assert!(rt; uses(rt, eleven, 21) == Some(11));
+    assert!(rt; uses(rt, granted(rt, second, two), 31) == Some(30));
+    assert!(rt; uses(rt, pool.try_get(rt), 22) == Some(21));
+    assert!(rt; (rung(one), rung(two), pool.idle(rt)) == (1, 1, 2));
+}
+
+// A wait that is given up leaves the line, and hands on what it was granted.
+#[test]
+fn a_wait_that_is_given_up_hands_on(rt: HostRuntime) {
+    let one = count(rt.alloc()).expect(&rt, "memory");
+    let two = count(rt.alloc()).expect(&rt, "memory");
+    let pool = pool(&rt, 1);
+    hands_on(&rt, &pool, &one, &two);
+}
+
+fn hands_on<R: Wait + Abort>(rt: &R, pool: &Pool<u64, Bell>, one: &Count, two: &Count) {
+    let held = pool.try_get(rt);
+    assert!(rt; end(rt, Some(pool.get())));
+    let first = waits(rt, pool.get(), one);
+    let second = waits(rt, pool.get(), one);
+    let third = waits(rt, pool.get(), two);
+    assert!(rt; end(rt, second));
+    assert!(rt; uses(rt, held, 20) == Some(10));
+    assert!(rt; (rung(one), rung(two)) == (1, 0));
+    assert!(rt; end(rt, first));
+    assert!(rt; (rung(one), rung(two)) == (1, 1));
+    assert!(rt; uses(rt, granted(rt, third, two), 30) == Some(20));
+    assert!(rt; pool.idle(rt) == 1);
+}
+
+// A drain refuses who waits and who comes; one that was granted gets its lease, and the last to come back ends the drain.
+#[test]
+fn a_drain_ends_with_the_last_lease(rt: HostRuntime) {
+    let one = count(rt.alloc()).expect(&rt, "memory");
+    let two = count(rt.alloc()).expect(&rt, "memory");
+    let pool = pool(&rt, 1);
+    drains(&rt, &pool, &one, &two);
+    let resources = pool
+        .into_resources()
+        .ok()
+        .expect(&rt, "a pool that is drained");
+    assert_eq!(&rt; resources.as_slice(), [30].as_slice());
+}
+
+fn drains<R: Wait + Abort>(rt: &R, pool: &Pool<u64, Bell>, one: &Count, two: &Count) {
+    let held = pool.try_get(rt);
+    let first = waits(rt, pool.get(), one);
+    let second = waits(rt, pool.get(), one);
+    let ended = goes_on(rt, pool.drained(), two);
+    let drained = goes_on(rt, pool.drained(), two);
+    assert!(rt; uses(rt, held, 20) == Some(10));
+    assert!(rt; (rung(one), rung(two), pool.is_draining(rt)) == (1, 0, false));
+    pool.drain(rt);
+    assert!(rt; (rung(one), rung(two), pool.is_draining(rt)) == (2, 0, true));
+    assert!(rt; hears(rt, second, one) && hears(rt, Some(pool.get()), one));
+    assert!(rt; !end(rt, pool.try_get(rt)) && !pool.is_drained(rt));
+    assert!(rt; end(rt, ended));
+    assert!(rt; uses(rt, granted(rt, first, one), 30) == Some(20));
+    assert!(rt; (rung(one), rung(two), pool.is_drained(rt)) == (2, 1, true));
+    assert!(rt; gives(rt, drained, two) == Some(()));
+    pool.drain(rt);
+    assert!(rt; gives(rt, Some(pool.drained()), two) == Some(()));
+    assert!(rt; (rung(one), rung(two)) == (2, 1));
+}
+
+// The forms that own a share of the pool.
+#[test]
+fn owned_forms(rt: HostRuntime) {
+    let bell = count(rt.alloc()).expect(&rt, "memory");
+    let pool = Arc::new(rt.alloc(), pool(&rt, 2)).expect(&rt, "memory");
+    owns(&rt, &pool, &bell);
+}
+
+fn owns<R: Wait + Abort>(rt: &R, pool: &Arc<Pool<u64, Bell>>, bell: &Count) {
+    let ten = share(rt, pool).try_get_owned(rt).expect(rt, "a lease");
+    let eleven = granted(rt, Some(share(rt, pool).get_owned()), bell).expect(rt, "a lease");
+    assert!(rt; (ten.slot(), eleven.slot()) == (0, 1));
+    let first = waits(rt, share(rt, pool).get_owned(), bell);
+    let drained = goes_on(rt, share(rt, pool).drained_owned(), bell);
+    assert!(rt; uses(rt, Some(ten), 20) == Some(10));
+    assert!(rt; rung(bell) == 1);
+    assert!(rt; end(rt, first));
+    pool.drain(rt);
+    assert!(rt; rung(bell) == 1);
+    assert!(rt; uses(rt, Some(eleven), 21) == Some(11));
+    assert!(rt; rung(bell) == 2);
+    assert!(rt; gives(rt, drained, bell) == Some(()));
+}
+
+// A pool that is not drained keeps its resources; one of none is drained at once.
+#[test]
+fn resources_come_back_once_drained(rt: HostRuntime) {
+    let pool: Pool<u64, Bell> = pool(&rt, 2);
+    let back = pool
+        .into_resources()
+        .err()
+        .expect(&rt, "a pool that is not drained");
+    back.drain(&rt);
+    let resources = back
+        .into_resources()
+        .ok()
+        .expect(&rt, "a pool that is drained");
+    assert_eq!(&rt; resources.as_slice(), [10, 11].as_slice());
+}
+
+#[test]
+fn a_pool_of_none_is_drained_at_once(rt: HostRuntime) {
+    let bell = count(rt.alloc()).expect(&rt, "memory");
+    let pool = pool(&rt, 0);
+    has_none(&rt, &pool, &bell);
+}
+
+fn has_none<R: Wait + Abort>(rt: &R, pool: &Pool<u64, Bell>, bell: &Count) {
+    let first = waits(rt, pool.get(), bell);
+    assert!(rt; !pool.is_drained(rt));
+    pool.drain(rt);
+    assert!(rt; pool.is_drained(rt) && rung(bell) == 1);
+    assert!(rt; hears(rt, first, bell));
+}
