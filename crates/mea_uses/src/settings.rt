@@ -5,14 +5,14 @@ use mea_lock_core::{LockWait, MutexCore, Part, with_part_mut};
 
 // What a service is set to.
 #[derive(Drop)]
-struct Settings {
-    name: &'static str,
-    limit: u64,
+pub struct Settings {
+    pub name: &'static str,
+    pub limit: u64,
 }
 
 // The limit of the settings.
 #[derive(Clone, Copy)]
-struct Limit;
+pub struct Limit;
 
 impl Part<Settings> for Limit {
     ghost use Rattle.mea_uses.specs.Settings.{same_value};

@@ -37,8 +37,15 @@ impl Task {
         self.calls.load(SeqCst)
     }
 
-    // Polls a wait: what it gives, or the wait where it goes on; both None where there is no memory.
-    fn poll<R: Wait, F: Waits<Call, O>, O>(&self, rt: &R, wait: F) -> (Option<O>, Option<F>)
+    /// What the task gives to a wait that it polls by itself.
+    pub fn waker(&self, rt: &impl Abort) -> Call {
+        Call {
+            calls: Arc::try_clone(&self.calls).expect(rt, "memory"),
+        }
+    }
+
+    /// Polls a wait: what it gives, or the wait where it goes on; both None where there is no memory.
+    pub fn poll<R: Wait, F: Waits<Call, O>, O>(&self, rt: &R, wait: F) -> (Option<O>, Option<F>)
         requires { F.can_poll wait }
         ensures { IfSome result.1 F.can_poll }
     {
