@@ -1,6 +1,6 @@
 use crate::careless_table::Manner::{AtOnce, Fails, Keeps};
 use crate::careless_table::Step::{Ask, End, Kept, Poll, Wake};
-use crate::careless_table::Told::{Count, Done, Error, Nothing, Pending, Value, Waker};
+use crate::careless_table::Reply::{Count, Done, Error, Nothing, Pending, Value, Waker};
 use crate::computing::{Came, Careless, Computing};
 use mea_once_core::{CellCore, FlightCore, MapCore};
 use mea_test_support::{Collides, Plays, differs_at};
@@ -26,9 +26,9 @@ enum Step {
     Wake,
 }
 
-/// What a call tells.
+/// What a call replies.
 #[derive(Clone, Copy, PartialEq, Eq)]
-enum Told {
+enum Reply {
     Done,
     Pending,
     Value(u64),
@@ -38,7 +38,7 @@ enum Told {
     Nothing,
 }
 
-type Script = &'static [(Step, Told)];
+type Script = &'static [(Step, Reply)];
 
 const ROWS: &[Script] = &[
     // Initialisers that answer at their first poll: nobody has to wait.
@@ -140,7 +140,7 @@ fn made(alloc: Global, manner: Manner) -> Careless {
     }
 }
 
-fn told(came: Came) -> Option<Told> {
+fn reply_of(came: Came) -> Option<Reply> {
     match came {
         Came::Pending => Some(Pending),
         Came::Value(value) => Some(Value(value)),
@@ -152,9 +152,9 @@ fn told(came: Came) -> Option<Told> {
 impl<C: Computing> Plays for Room<C> {
     type Call = Step;
 
-    type Told = Told;
+    type Reply = Reply;
 
-    fn told(&mut self, step: Step) -> Option<Told> {
+    fn reply(&mut self, step: Step) -> Option<Reply> {
         match step {
             Ask(manner) => {
                 let call = C::call(made(self.alloc, manner));
@@ -163,7 +163,7 @@ impl<C: Computing> Plays for Room<C> {
             }
             Poll(place, waker) => {
                 let call = self.calls.get_mut(place)?.as_mut()?;
-                told(self.object.polled(call, waker))
+                reply_of(self.object.polled(call, waker))
             }
             End(place) => {
                 self.object.ended(self.calls.get_mut(place)?.take()?);

@@ -40,8 +40,8 @@ const ROWS: &[Row] = &[
     },
 ];
 
-// What is told where such a call fails: the fault where the call is made, and else the end.
-fn told(call: u64, calls: u64, fault: Status) -> Status {
+// How a run ends in which this call fails, of so many that are made: with the fault where the call is made.
+fn status_of(call: u64, calls: u64, fault: Status) -> Status {
     if call < calls { fault } else { Status::Done }
 }
 
@@ -70,11 +70,11 @@ fn fault_table(rt: HostRuntime) {
         for call in 0..32u64 {
             let none = Vec::new(rt.alloc());
             let fails = vec![in rt.alloc(); call].expect(&rt, "memory");
-            let status = told(call, row.reads, Status::ReadFault);
+            let status = status_of(call, row.reads, Status::ReadFault);
             check(&rt, row, fails, none, status);
             let none = Vec::new(rt.alloc());
             let fails = vec![in rt.alloc(); call].expect(&rt, "memory");
-            let status = told(call, row.writes, Status::WriteFault);
+            let status = status_of(call, row.writes, Status::WriteFault);
             check(&rt, row, none, fails, status);
         }
     }
