@@ -10,6 +10,10 @@ use std::alloc::Global;
 // An expected reply: its number, its answer, and the waker that its event made ready.
 type Reply = (usize, Answer, Option<u64>);
 
+// The names that the script of two families gives its latch and its shutdown.
+const LATCH: u64 = 1;
+const SHUTDOWN: u64 = 7;
+
 // What a replay left, in values: no test holds a hall, since a proof about it would carry the laws of all families.
 #[derive(Drop)]
 struct Left {
@@ -22,6 +26,8 @@ struct Left {
     ready: [usize; 2],
     // How many are registered: of all families, of semaphores and of meeting points.
     registered: [usize; 3],
+    // What the latch counts, if there is one, and whether there is a shutdown.
+    lent: (Option<u32>, bool),
 }
 
 fn replayed(alloc: Global, events: &[Event], expected: &[Reply]) -> Left {
@@ -37,6 +43,7 @@ fn replayed(alloc: Global, events: &[Event], expected: &[Reply]) -> Left {
         events: hall.events(),
         ready: ready(&hall),
         registered: registered(&hall),
+        lent: (count(&hall), hall.meets().shutdown(SHUTDOWN).is_some()),
     };
     gone(hall);
     left
@@ -72,44 +79,15 @@ fn is_reply(replies: &Replies, number: usize, answer: &Answer, waker: Option<u64
     wakes.first().copied() == waker && wakes.len() <= 1
 }
 
-// What a latch counts, if there is one.
-fn count(hall: &Hall, latch: u64) -> Option<u32> {
-    match hall.meets().latch(latch) {
+// What the latch counts, if there is one.
+fn count(hall: &Hall) -> Option<u32> {
+    match hall.meets().latch(LATCH) {
         Some(core) => Some(core.count()),
         None => None,
     }
 }
 
-// The same after these events, and whether there is a shutdown of this name.
-fn meets(alloc: Global, events: &[Event], latch: u64, shutdown: u64) -> (Option<u32>, bool) {
-    let Played {
-        hall,
-        replies: _,
-        ended: _,
-    } = replay(alloc, events);
-    let found = (
-        count(&hall, latch),
-        hall.meets().shutdown(shutdown).is_some(),
-    );
-    gone(hall);
-    found
-}
-
-fn acted(alloc: Global, event: &Event) -> Result<Answer, Stop> {
-    let mut hall = Hall::new(alloc);
-    let answer = hall.act(event);
-    gone(hall);
-    answer
-}
-
-// Each call that may find no memory finds some: an event.
-#[test]
-fn ample_event(rt: HostRuntime) {
-    let event = Event::Sem(SemEvent::New(1));
-    assert!(rt; acted(rt.alloc(), &event) == Ok(Answer::Made));
-}
-
-// The same: events that are replayed, with a waker that is registered.
+// Each call that may find no memory finds some: events that are played, with a waker that is registered.
 #[test]
 fn ample_replay(rt: HostRuntime) {
     let events = [
@@ -161,12 +139,12 @@ fn two_families_in_one_script(rt: HostRuntime) {
         Event::Sem(SemEvent::New(0)),
         Event::Meet(MeetEvent::LatNew(2)),
         Event::Sem(SemEvent::Acq(0, 1)),
-        Event::Meet(MeetEvent::LatWait(1)),
+        Event::Meet(MeetEvent::LatWait(LATCH)),
         Event::Sem(SemEvent::Poll(2, 5)),
         Event::Meet(MeetEvent::LatPoll(3, 6)),
-        Event::Meet(MeetEvent::LatArrive(1, 2)),
+        Event::Meet(MeetEvent::LatArrive(LATCH, 2)),
         Event::Meet(MeetEvent::SdNew),
-        Event::Meet(MeetEvent::SdIso(7)),
+        Event::Meet(MeetEvent::SdIso(SHUTDOWN)),
         Event::Meet(MeetEvent::SdPoll(8, 7)),
         Event::Sem(SemEvent::Release(0, 1)),
     ];
@@ -182,7 +160,7 @@ fn two_families_in_one_script(rt: HostRuntime) {
     assert_eq!(rt; left.events, 11);
     assert_eq!(rt; left.ready, [0, 0]);
     assert_eq!(rt; left.registered, [1, 0, 1]);
-    assert_eq!(rt; meets(rt.alloc(), &events, 1, 7), (Some(0), true));
+    assert_eq!(rt; left.lent, (Some(0), true));
 }
 
 // A line of one family finds nothing of another under its number.

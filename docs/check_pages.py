@@ -1,0 +1,199 @@
+#!/usr/bin/env python3
+"""Checks the pages: long sentences, long table cells, dead links, and names that the code does not have.
+
+    python3 docs/check_pages.py [PAGE ..]      all pages, or those named
+
+It tells of each page
+  * a sentence of more than 40 words, and a table cell of more than 30;
+  * a link to a file or a heading that is not there;
+  * of a table with the columns `clause` and `crate`: a clause that does not stand on its call in that crate,
+    where a cell reads "`clause`, `clause` of `call`; `call`". A call with no clause before it is to be there.
+
+It ends with 1 where it has told of something.
+"""
+
+import pathlib
+import re
+import sys
+
+TOP = pathlib.Path(__file__).resolve().parent.parent
+MOST_WORDS = 40
+MOST_IN_A_CELL = 30
+
+CALL = re.compile(r"\s*(?:pub(?:\([a-z ]+\))? )?(?:const |unsafe )*fn (\w+)")
+OWNER = re.compile(r"\s*(?:pub(?:\([a-z ]+\))? )?(?:unsafe )?(impl|trait|struct|enum)\b(.*)")
+CLAUSE = re.compile(r"\s*ensures (\w+)\b")
+SAID_NOTHING = re.compile(r"\s*ensures \{")
+
+
+def owner_of(kind, rest):
+    """The type that an `impl` is for, or the name of what is declared."""
+    if kind == "impl":
+        rest = rest.replace("->", "")
+        while "<" in rest and ">" in rest:
+            shorter = re.sub(r"<[^<>]*>", "", rest)
+            if shorter == rest:
+                break
+            rest = shorter
+        rest = rest.split(" where")[0].split(" for ")[-1]
+    found = re.search(r"[A-Z]\w*", rest)
+    return found.group(0) if found else ""
+
+
+def calls_of(crate):
+    """For each call of a crate, as `call` and as `Type::call`, the names of its clauses."""
+    calls = {}
+    for path in sorted((TOP / "crates" / crate / "src").rglob("*.rt")):
+        owner, call, indent = "", None, 0
+        lines = path.read_text().splitlines()
+        for at, line in enumerate(lines):
+            depth = len(line) - len(line.lstrip())
+            found = OWNER.match(line)
+            if found:
+                head = " ".join(lines[at : at + 12]).split("{")[0]
+                owner, indent = owner_of(*OWNER.match(head).groups()), depth
+                calls.setdefault(owner, set())
+            elif line.startswith("}") and depth <= indent:
+                owner = ""
+            found = CALL.match(line)
+            if found:
+                call = found.group(1)
+                calls.setdefault(call, set())
+                calls.setdefault(f"{owner}::{call}", set())
+            found = CLAUSE.match(line)
+            if found and call:
+                calls[call].add(found.group(1))
+                calls[f"{owner}::{call}"].add(found.group(1))
+            elif SAID_NOTHING.match(line) and call:
+                calls[call].add("ensures")
+                calls[f"{owner}::{call}"].add("ensures")
+    return calls
+
+
+def blocks(text):
+    """The paragraphs, list items and headings of a page, each with its line, without code and tables."""
+    block, start, fenced = [], 0, False
+    for number, line in enumerate(text.splitlines(), 1):
+        if line.strip().startswith("```"):
+            fenced = not fenced
+            line = ""
+        plain = "" if fenced or line.startswith(("    ", "|", "<")) and not block else line
+        begins = re.match(r"\s*([*-]|\d+\.) |#", plain)
+        if (not plain.strip() or begins) and block:
+            yield start, " ".join(block)
+            block = []
+        if plain.strip():
+            if not block:
+                start = number
+            block.append(re.sub(r"^\s*([*-]|\d+\.) |^#+ ", "", plain).strip())
+    if block:
+        yield start, " ".join(block)
+
+
+def words(text):
+    text = re.sub(r"\]\([^)]*\)", "]", text)
+    return len([word for word in text.split() if re.search(r"\w", word)])
+
+
+def sentences(block):
+    return re.split(r"(?<=[.?!])\**\s+(?=[\"*`\[(A-Z0-9])", block)
+
+
+def cells(line):
+    return [cell.strip() for cell in line.strip().strip("|").split("|")]
+
+
+def tables(text):
+    """Each table of a page: the cells of its head, and its rows with their lines."""
+    head, rows = None, []
+    for number, line in enumerate(text.splitlines() + [""], 1):
+        if line.startswith("|"):
+            if head is None:
+                head = cells(line)
+            elif not re.fullmatch(r"[|:\- ]+", line):
+                rows.append((number, cells(line)))
+        elif head is not None:
+            yield head, rows
+            head, rows = None, []
+
+
+def headings(path):
+    found = set()
+    for line in path.read_text().splitlines():
+        if line.startswith("#"):
+            name = re.sub(r"[^\w\- ]", "", line.lstrip("#").strip().lower())
+            found.add(name.replace(" ", "-"))
+    return found
+
+
+def names(text):
+    return re.findall(r"`([\w:]+)`", text)
+
+
+def clause_faults(head, rows, known):
+    if "clause" not in head or "crate" not in head:
+        return
+    clause_at, crate_at = head.index("clause"), head.index("crate")
+    for number, row in rows:
+        if len(row) != len(head):
+            yield number, f"a row of {len(row)} cells where the head has {len(head)}"
+            continue
+        parts = row[clause_at].split(";")
+        groups = row[crate_at].split(";")
+        for index, part in enumerate(parts):
+            group = groups[min(index, len(groups) - 1)]
+            asked, _, called = part.partition(" of `")
+            clauses, calls = (names(asked), names("`" + called)) if called else ([], names(part))
+            for crate in names(group):
+                if crate not in known:
+                    there = (TOP / "crates" / crate / "src").is_dir()
+                    known[crate] = calls_of(crate) if there else None
+                if known[crate] is None:
+                    yield number, f"no crate {crate}"
+                    continue
+                for call in calls:
+                    if call not in known[crate]:
+                        yield number, f"{crate} has no {call}"
+                        continue
+                    for clause in clauses:
+                        if clause not in known[crate][call]:
+                            yield number, f"{crate}: {call} has no clause {clause}"
+
+
+def faults(path, known):
+    text = path.read_text()
+    for number, block in blocks(text):
+        for sentence in sentences(block):
+            if words(sentence) > MOST_WORDS:
+                yield number, f"a sentence of {words(sentence)} words: {sentence[:60]}"
+    for head, rows in tables(text):
+        for number, row in rows:
+            for cell in row:
+                if words(cell) > MOST_IN_A_CELL:
+                    yield number, f"a cell of {words(cell)} words: {cell[:60]}"
+        yield from clause_faults(head, rows, known)
+    for number, line in enumerate(text.splitlines(), 1):
+        for target in re.findall(r"\]\(([^)]+)\)", line):
+            if re.match(r"[a-z]+:", target):
+                continue
+            place, _, heading = target.partition("#")
+            page = (path.parent / place).resolve() if place else path
+            if not page.exists():
+                yield number, f"a link to {target}, which is not there"
+            elif heading and heading not in headings(page):
+                yield number, f"a link to the heading {target}, which is not there"
+
+
+def main():
+    asked = [pathlib.Path(name).resolve() for name in sys.argv[1:]]
+    pages = asked or [*TOP.glob("*.md"), *(TOP / "docs").glob("*.md"), *(TOP / "examples").glob("*.md")]
+    told, known = 0, {}
+    for path in sorted(pages):
+        for number, fault in faults(path, known):
+            print(f"{path.relative_to(TOP)}:{number}: {fault}")
+            told += 1
+    return 1 if told else 0
+
+
+if __name__ == "__main__":
+    sys.exit(main())
