@@ -1,6 +1,6 @@
 use crate::careless_table::Manner::{AtOnce, Fails, Keeps};
-use crate::careless_table::Step::{Ask, End, Kept, Poll, Wake};
 use crate::careless_table::Reply::{Count, Done, Error, Nothing, Pending, Value, Waker};
+use crate::careless_table::Step::{Ask, End, Kept, Poll, Wake};
 use crate::computing::{Came, Careless, Computing};
 use mea_once_core::{CellCore, FlightCore, MapCore};
 use mea_test_support::{Collides, Plays, differs_at};

@@ -90,8 +90,9 @@ impl Computing for CellCore<u64, u64> {
     }
 
     fn polled(&mut self, call: &mut InitCall<Careless>, waker: u64) -> Came {
-        let polled: Result<Poll<Result<(), u64>>, (u64, NoMemory)> =
-            self.poll_init_checked(call, waker);
+        let polled: Result<Poll<Result<(), u64>>, (u64, NoMemory)> = self.poll_init_checked(
+            call, waker,
+        );
         match polled {
             Ok(Poll::Pending) => Came::Pending,
             Ok(Poll::Ready(Err(error))) => Came::Error(error),

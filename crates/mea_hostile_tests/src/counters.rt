@@ -15,7 +15,11 @@ impl AtItsEnd for SemCore<u64> {
     }
 
     fn numbers(&mut self) -> [u64; 3] {
-        [self.available_permits() as u64, self.live() as u64, self.queue_len() as u64]
+        [
+            self.available_permits() as u64,
+            self.live() as u64,
+            self.queue_len() as u64,
+        ]
     }
 
     fn goes_on(&mut self) -> bool {
@@ -30,7 +34,11 @@ impl AtItsEnd for Countdown<u64> {
     }
 
     fn numbers(&mut self) -> [u64; 3] {
-        [u64::from(self.count()), self.registered() as u64, self.wakes_ready() as u64]
+        [
+            u64::from(self.count()),
+            self.registered() as u64,
+            self.wakes_ready() as u64,
+        ]
     }
 
     fn goes_on(&mut self) -> bool {
@@ -46,7 +54,11 @@ impl AtItsEnd for GroupCore<u64> {
     }
 
     fn numbers(&mut self) -> [u64; 3] {
-        [u64::from(self.handles()), self.registered() as u64, self.wakes_ready() as u64]
+        [
+            u64::from(self.handles()),
+            self.registered() as u64,
+            self.wakes_ready() as u64,
+        ]
     }
 
     fn goes_on(&mut self) -> bool {
@@ -62,7 +74,11 @@ impl AtItsEnd for BoundedCore<u64, u64> {
     }
 
     fn numbers(&mut self) -> [u64; 3] {
-        [self.senders() as u64, self.queue_len() as u64, self.wakes_ready() as u64]
+        [
+            self.senders() as u64,
+            self.queue_len() as u64,
+            self.wakes_ready() as u64,
+        ]
     }
 
     fn goes_on(&mut self) -> bool {
@@ -78,7 +94,11 @@ impl AtItsEnd for UnboundedCore<u64, u64> {
     }
 
     fn numbers(&mut self) -> [u64; 3] {
-        [self.senders() as u64, u64::from(self.is_waiting()), self.wakes_ready() as u64]
+        [
+            self.senders() as u64,
+            u64::from(self.is_waiting()),
+            self.wakes_ready() as u64,
+        ]
     }
 
     fn goes_on(&mut self) -> bool {
@@ -103,7 +123,11 @@ impl AtItsEnd for LastRound {
 
     fn numbers(&mut self) -> [u64; 3] {
         let _ = self.barrier.poll_checked(&mut self.first, 10);
-        [self.barrier.registered() as u64, self.barrier.wakes_ready() as u64, 0]
+        [
+            self.barrier.registered() as u64,
+            self.barrier.wakes_ready() as u64,
+            0,
+        ]
     }
 
     fn goes_on(&mut self) -> bool {
@@ -125,7 +149,11 @@ impl AtItsEnd for LastMessage {
     }
 
     fn numbers(&mut self) -> [u64; 3] {
-        [self.channel.tail(), self.channel.senders() as u64, self.channel.wakes_ready() as u64]
+        [
+            self.channel.tail(),
+            self.channel.senders() as u64,
+            self.channel.wakes_ready() as u64,
+        ]
     }
 
     fn goes_on(&mut self) -> bool {

@@ -46,7 +46,11 @@ fn refuses(alloc: Global, end: End) -> Option<bool> {
         End::Handles => Some(holds::<GroupCore<u64>>(GroupCore::at_count(alloc, u32::MAX))),
         End::Rounds => Some(holds(last_round(alloc))),
         End::BoundedSenders => {
-            let channel: BoundedCore<u64, u64> = BoundedCore::at_senders(alloc, 1, usize::MAX).ok()?;
+            let channel: BoundedCore<u64, u64> = BoundedCore::at_senders(
+                alloc,
+                1,
+                usize::MAX,
+            ).ok()?;
             Some(holds(channel))
         }
         End::UnboundedSenders => {
