@@ -1,7 +1,7 @@
 use crate::careless_table::Manner::{AtOnce, Fails, Keeps};
 use crate::careless_table::Reply::{Count, Done, Error, Nothing, Pending, Value, Waker};
 use crate::careless_table::Step::{Ask, End, Kept, Poll, Wake};
-use crate::computing::{Came, Careless, Computing};
+use crate::computing::{Careless, Computing, Outcome};
 use mea_once_core::{CellCore, FlightCore, MapCore};
 use mea_test_support::{Collides, Plays, differs_at};
 use std::alloc::Global;
@@ -140,12 +140,12 @@ fn made(alloc: Global, manner: Manner) -> Careless {
     }
 }
 
-fn reply_of(came: Came) -> Option<Reply> {
-    match came {
-        Came::Pending => Some(Pending),
-        Came::Value(value) => Some(Value(value)),
-        Came::Error(error) => Some(Error(error)),
-        Came::NoMemory => None,
+fn reply_of(outcome: Outcome) -> Option<Reply> {
+    match outcome {
+        Outcome::Pending => Some(Pending),
+        Outcome::Value(value) => Some(Value(value)),
+        Outcome::Error(error) => Some(Error(error)),
+        Outcome::NoMemory => None,
     }
 }
 

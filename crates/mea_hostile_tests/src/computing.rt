@@ -42,7 +42,7 @@ impl Careless {
 }
 
 /// What a poll of a computation came to.
-pub(crate) enum Came {
+pub(crate) enum Outcome {
     Pending,
     Value(u64),
     Error(u64),
@@ -58,7 +58,7 @@ pub(crate) trait Computing: Drop {
     /// A call that was never polled.
     fn call(init: Careless) -> Self::Call;
 
-    fn polled(&mut self, call: &mut Self::Call, waker: u64) -> Came;
+    fn polled(&mut self, call: &mut Self::Call, waker: u64) -> Outcome;
 
     fn ended(&mut self, call: Self::Call);
 
@@ -69,12 +69,12 @@ pub(crate) trait Computing: Drop {
 
 const KEY: u64 = 5;
 
-fn came<F: Drop>(polled: Result<Poll<Result<u64, u64>>, F>) -> Came {
+fn outcome_of<F: Drop>(polled: Result<Poll<Result<u64, u64>>, F>) -> Outcome {
     match polled {
-        Ok(Poll::Pending) => Came::Pending,
-        Ok(Poll::Ready(Ok(value))) => Came::Value(value),
-        Ok(Poll::Ready(Err(error))) => Came::Error(error),
-        Err(_) => Came::NoMemory,
+        Ok(Poll::Pending) => Outcome::Pending,
+        Ok(Poll::Ready(Ok(value))) => Outcome::Value(value),
+        Ok(Poll::Ready(Err(error))) => Outcome::Error(error),
+        Err(_) => Outcome::NoMemory,
     }
 }
 
@@ -89,15 +89,15 @@ impl Computing for CellCore<u64, u64> {
         InitCall::new(init)
     }
 
-    fn polled(&mut self, call: &mut InitCall<Careless>, waker: u64) -> Came {
+    fn polled(&mut self, call: &mut InitCall<Careless>, waker: u64) -> Outcome {
         let polled: Result<Poll<Result<(), u64>>, (u64, NoMemory)> = self.poll_init_checked(
             call, waker,
         );
         match polled {
-            Ok(Poll::Pending) => Came::Pending,
-            Ok(Poll::Ready(Err(error))) => Came::Error(error),
-            Ok(Poll::Ready(Ok(()))) => Came::Value(self.get().copied().unwrap_or(0)),
-            Err(_) => Came::NoMemory,
+            Ok(Poll::Pending) => Outcome::Pending,
+            Ok(Poll::Ready(Err(error))) => Outcome::Error(error),
+            Ok(Poll::Ready(Ok(()))) => Outcome::Value(self.get().copied().unwrap_or(0)),
+            Err(_) => Outcome::NoMemory,
         }
     }
 
@@ -125,8 +125,8 @@ impl Computing for MapCore<u64, u64, Collides, u64> {
         KeyCall::new(KEY, init)
     }
 
-    fn polled(&mut self, call: &mut KeyCall<u64, Careless>, waker: u64) -> Came {
-        came(self.poll_compute_checked(call, waker))
+    fn polled(&mut self, call: &mut KeyCall<u64, Careless>, waker: u64) -> Outcome {
+        outcome_of(self.poll_compute_checked(call, waker))
     }
 
     fn ended(&mut self, call: KeyCall<u64, Careless>) {
@@ -153,8 +153,8 @@ impl Computing for FlightCore<u64, u64, Collides, u64> {
         KeyCall::new(KEY, init)
     }
 
-    fn polled(&mut self, call: &mut KeyCall<u64, Careless>, waker: u64) -> Came {
-        came(self.poll_work_checked(call, waker))
+    fn polled(&mut self, call: &mut KeyCall<u64, Careless>, waker: u64) -> Outcome {
+        outcome_of(self.poll_work_checked(call, waker))
     }
 
     fn ended(&mut self, call: KeyCall<u64, Careless>) {
