@@ -1,7 +1,6 @@
 use std::alloc::{AllocError, AllocFailed};
 use std::error::Error;
-use std::fmt;
-use std::io;
+use std::{fmt, io};
 
 /// There was no memory. Nothing has changed.
 ///

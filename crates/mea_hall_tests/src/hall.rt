@@ -12,6 +12,7 @@ type Reply = (usize, Answer, Option<u64>);
 
 // The names that the script of two families gives its latch and its shutdown.
 const LATCH: u64 = 1;
+
 const SHUTDOWN: u64 = 7;
 
 // What a replay left, in values: no test holds a hall, since a proof about it would carry the laws of all families.

@@ -1,9 +1,9 @@
-use crate::play::Room;
-use crate::play::Step::{Back, Count, Finish, Job, Poll, Recall, Stop, Take, Wake};
 use crate::play::Reply::{
     Counted, Done, Full, Nothing, Pair, Pending, Queued, Ready, Running, Starts, Stopped, Unknown,
     Value,
 };
+use crate::play::Room;
+use crate::play::Step::{Back, Count, Finish, Job, Poll, Recall, Stop, Take, Wake};
 use mea_test_support::differs_at;
 
 // One permit, two queued jobs, one result: who is full, who starts, and who is woken at the end.

@@ -170,7 +170,11 @@ fn play(hall: &mut Hall, counts: &mut Counts, event: &Event) -> Result<Answer, S
 fn one_if_pending(answer: &Answer) -> u64
     ensures { result ≡ (if is_pending answer.now then 1 else 0) }
 {
-    if matches!(answer, Answer::Pending) { 1 } else { 0 }
+    if matches!(answer, Answer::Pending) {
+        1
+    } else {
+        0
+    }
 }
 
 /// Takes the wakers that are ready, and answers their number.

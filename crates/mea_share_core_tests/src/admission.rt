@@ -1,5 +1,5 @@
-use crate::play::Step::{Ask, End, Free, Poll, Release, Try, Waiters, Wake, Weigh, Weight};
 use crate::play::Reply::{Done, Number, Overflow, Pending};
+use crate::play::Step::{Ask, End, Free, Poll, Release, Try, Waiters, Wake, Weigh, Weight};
 use crate::play::{Room, Step, answers};
 use mea_share_core::FairCore;
 use mea_test_support::{Collides, differs_at};

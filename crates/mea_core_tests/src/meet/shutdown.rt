@@ -35,7 +35,9 @@ impl Plays for Room {
         let mut group = GroupWait::new();
         match call {
             Call::AwaitSignal(waker) => Reply::polled(shutdown.poll_signal(&mut latch, waker)),
-            Call::AwaitReceivers(waker) => Reply::polled(shutdown.poll_receivers(&mut group, waker)),
+            Call::AwaitReceivers(waker) => Reply::polled(shutdown.poll_receivers(
+                &mut group, waker,
+            )),
             Call::PollSignal(waker) => Reply::polled(shutdown.poll_signal_checked(
                 &mut latch, waker,
             )),
