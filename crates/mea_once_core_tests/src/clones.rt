@@ -62,7 +62,7 @@ fn reply(polled: &Polled<'_>) -> Reply {
 type Map<'a> = MapCore<u64, Refusing<'a>, Collides, u64>;
 
 fn computed<'a>(map: &mut Map<'a>, call: &mut Call<'a>, waker: u64) -> Reply {
-    told(&map.poll_compute_checked(call, waker))
+    reply(&map.poll_compute_checked(call, waker))
 }
 
 // Whether a value is kept under the key, if its clone is not refused.
@@ -80,7 +80,7 @@ fn worked<'a>(
     call: &mut Call<'a>,
     waker: u64,
 ) -> Reply {
-    told(&group.poll_work_checked(call, waker))
+    reply(&group.poll_work_checked(call, waker))
 }
 
 // Where the clone of a value that was just computed is refused, the waker is gone and the value is kept for the
