@@ -1,3 +1,5 @@
+ghost use Rattle.std.specs.Prelude.{◌≡◌};
+
 use crate::pool::Pool;
 use crate::steps;
 use mea_base::{NoMemory, Poll, Wake};
@@ -21,7 +23,10 @@ pub type OwnedDrained<T, W> = Draining<Arc<Pool<T, W>>, T, W>;
 
 impl<T: Drop, W: Wake, H: Holds<Pool<T, W>>> Draining<H, T, W> {
     // A wait that was never polled.
-    pub(crate) fn of(of: H) -> Self {
+    pub(crate) fn of(of: H) -> Self
+        ensures of { result.of ≡ of }
+        ensures fresh { result.wait ≡ DrainWait.New }
+    {
         Draining {
             of,
             wait: DrainWait::new(),

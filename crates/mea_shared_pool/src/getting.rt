@@ -1,3 +1,5 @@
+ghost use Rattle.std.specs.Prelude.{◌≡◌};
+
 use crate::leased::Leased;
 use crate::pool::Pool;
 use crate::steps;
@@ -29,7 +31,10 @@ pub type OwnedGet<T, W> = Getting<Arc<Pool<T, W>>, T, W>;
 
 impl<T: Drop, W: Wake, H: Holds<Pool<T, W>>> Getting<H, T, W> {
     // A wait that was never polled.
-    pub(crate) fn of(of: H) -> Self {
+    pub(crate) fn of(of: H) -> Self
+        ensures of { result.of ≡ of }
+        ensures fresh { result.wait ≡ LeaseWait.New }
+    {
         Getting {
             of,
             wait: LeaseWait::new(),

@@ -1,4 +1,7 @@
 ghost use Rattle.std.specs.Prelude.{◌≡◌, IfErr};
+ghost use Rattle.std.specs.Arc.{arc_value};
+ghost use Rattle.mea_pool_core.specs.declared.lease_wait.LeaseWait.{LeaseWait};
+ghost use Rattle.mea_pool_core.specs.declared.drain_wait.DrainWait.{DrainWait};
 
 use crate::draining::{Drained, Draining, OwnedDrained};
 use crate::getting::{Get, Getting, OwnedGet};
@@ -34,12 +37,18 @@ impl<T: Drop, W: Wake> Pool<T, W> {
     }
 
     /// A wait for a lease. It takes no lock before its first poll, and no memory.
-    pub fn get(&self) -> Get<'_, T, W> {
+    pub fn get(&self) -> Get<'_, T, W>
+        ensures of { result.of.now ≡ self.now }
+        ensures fresh { result.wait ≡ LeaseWait.New }
+    {
         Getting::of(self)
     }
 
     /// `get`, for a wait that owns a share of the pool. It takes no memory.
-    pub fn get_owned(self: Arc<Self>) -> OwnedGet<T, W> {
+    pub fn get_owned(self: Arc<Self>) -> OwnedGet<T, W>
+        ensures of { arc_value result.of ≡ arc_value self }
+        ensures fresh { result.wait ≡ LeaseWait.New }
+    {
         Getting::of(self)
     }
 
@@ -64,12 +73,18 @@ impl<T: Drop, W: Wake> Pool<T, W> {
     }
 
     /// A wait until the pool is drained: until it drains, and each resource is on the shelf. It takes no memory.
-    pub fn drained(&self) -> Drained<'_, T, W> {
+    pub fn drained(&self) -> Drained<'_, T, W>
+        ensures of { result.of.now ≡ self.now }
+        ensures fresh { result.wait ≡ DrainWait.New }
+    {
         Draining::of(self)
     }
 
     /// `drained`, for a wait that owns a share of the pool. It takes no memory.
-    pub fn drained_owned(self: Arc<Self>) -> OwnedDrained<T, W> {
+    pub fn drained_owned(self: Arc<Self>) -> OwnedDrained<T, W>
+        ensures of { arc_value result.of ≡ arc_value self }
+        ensures fresh { result.wait ≡ DrainWait.New }
+    {
         Draining::of(self)
     }
 
