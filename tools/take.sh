@@ -2,8 +2,8 @@
 # Copies crates of this repository, and all that they stand on, into another repository:
 #   tools/take.sh FOLDER mea mea_futures
 # It writes the folders FOLDER/crates/NAME without what checks left there and without the edits that must fail, their
-# lines at the end of FOLDER/crates.txt, and the licence beside them. A folder that is there already stays, where it is
-# the same; where it is not, nothing is copied.
+# lines at the end of FOLDER/crates.txt, and the licence and the notice beside them. A folder that is there already
+# stays, where it is the same; where it is not, nothing is copied.
 # Ends with 0 where all is there, with 1 where nothing was copied, and with 2 in the middle of a copy that failed.
 set -u
 if [ $# -lt 2 ] || [ ! -d "$1" ]; then
@@ -33,6 +33,7 @@ for name in $names; do
     echo "$name"
 done
 cp LICENSE "$to/crates/LICENSE.nookwhisk" || exit 2
+cp NOTICE "$to/crates/NOTICE.nookwhisk" || exit 2
 if [ -e "$to/crates/mea_wait" ] && ! grep -qw Wait "$to/HANDLES" 2> /dev/null; then
     echo "take.sh: these crates take locks, so $to/HANDLES has to allow Wait" >&2
 fi
