@@ -1,7 +1,7 @@
 use crate::play::Reply;
 use crate::play::Reply::{Closed, Count, Disconnected, Done, Empty, Full, Nothing, Pending, Value};
 use mea_base::{NoMemory, Poll};
-use mea_chan_core::{BoundedCore, SendError, SendWait, TryRecvError, TrySendError};
+use mea_chan_core::{BoundedCore, SendError, SendWait, TrySendError};
 use mea_test_support::{Plays, differs_at};
 use std::alloc::Global;
 use std::test::Fail;
@@ -53,8 +53,8 @@ impl Plays for Room {
             }
             Call::EndSend(place) => end_told(&mut self.channel, self.sends.get_mut(place)?),
             Call::TrySend(value) => Some(send_told(&mut self.channel, value)),
-            Call::TryRecv => Some(recv_told(&mut self.channel)),
-            Call::PollRecv(waker) => poll_recv_told(&mut self.channel, waker),
+            Call::TryRecv => Some(Reply::received(self.channel.try_recv())),
+            Call::PollRecv(waker) => Some(Reply::polled(self.channel.poll_recv(waker).ok()?)),
             Call::EndSender => Some(sender_ended(&mut self.channel)),
             Call::EndReceiver => Some(receiver_ended(&mut self.channel)),
             Call::Wake => Some(Reply::found(self.channel.next_wake())),
@@ -88,23 +88,6 @@ fn send_told(channel: &mut Channel, value: u64) -> Reply {
         Ok(()) => Done,
         Err(TrySendError::Full(value)) => Full(value),
         Err(TrySendError::Disconnected(value)) => Closed(value),
-    }
-}
-
-fn recv_told(channel: &mut Channel) -> Reply {
-    match channel.try_recv() {
-        Ok(value) => Value(value),
-        Err(TryRecvError::Empty) => Empty,
-        Err(TryRecvError::Disconnected) => Disconnected,
-    }
-}
-
-fn poll_recv_told(channel: &mut Channel, waker: u64) -> Option<Reply> {
-    match channel.poll_recv(waker) {
-        Ok(Poll::Ready(Ok(value))) => Some(Value(value)),
-        Ok(Poll::Ready(Err(_))) => Some(Disconnected),
-        Ok(Poll::Pending) => Some(Pending),
-        Err(_) => None,
     }
 }
 

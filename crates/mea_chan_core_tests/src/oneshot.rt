@@ -1,41 +1,103 @@
-use mea_base::Poll;
-use mea_chan_core::{OneshotCore, RecvError, SendError, TryRecvError};
+use crate::play::Reply;
+use crate::play::Reply::{Closed, Disconnected, Done, Empty, No, Nothing, Pending, Value, Yes};
+use mea_chan_core::{OneshotCore, SendError};
+use mea_test_support::{Plays, differs_at};
+
+#[derive(Clone, Copy)]
+enum Call {
+    Send(u64),
+    TryRecv,
+    PollRecv(u64),
+    HasMessage,
+    IsClosed,
+    IsDisconnected,
+    EndSender,
+    EndReceiver,
+    Wake,
+}
+
+// A channel.
+#[derive(Drop)]
+struct Room {
+    channel: OneshotCore<u64, u64>,
+}
+
+impl Room {
+    fn new() -> Room {
+        Room {
+            channel: OneshotCore::new(),
+        }
+    }
+}
+
+impl Plays for Room {
+    type Call = Call;
+
+    type Reply = Reply;
+
+    fn reply(&mut self, call: Call) -> Option<Reply> {
+        let channel = &mut self.channel;
+        Some(match call {
+            Call::Send(message) => match channel.send(message) {
+                Ok(()) => Done,
+                Err(SendError(message)) => Closed(message),
+            },
+            Call::TryRecv => Reply::received(channel.try_recv()),
+            Call::PollRecv(waker) => Reply::polled(channel.poll_recv(waker)),
+            Call::HasMessage => Reply::whether(channel.has_message()),
+            Call::IsClosed => Reply::whether(channel.is_closed()),
+            Call::IsDisconnected => Reply::whether(channel.is_disconnected()),
+            Call::EndSender => {
+                channel.end_sender_checked();
+                Done
+            }
+            Call::EndReceiver => {
+                channel.end_receiver_checked();
+                Done
+            }
+            Call::Wake => Reply::found(channel.next_wake()),
+        })
+    }
+}
 
 // The message is given once, and the receiver is woken once.
 #[test]
 fn a_message_comes_once(rt: HostRuntime) {
-    let mut channel: OneshotCore<u64, u64> = OneshotCore::new();
-    assert_eq!(rt; channel.try_recv(), Err(TryRecvError::Empty));
-    assert!(rt; matches!(channel.poll_recv(5), Poll::Pending));
-    assert_eq!(rt; channel.send(6), Ok(()));
-    assert_eq!(rt; channel.next_wake(), Some(5));
-    assert!(rt; channel.has_message());
-    assert!(rt; matches!(channel.poll_recv(7), Poll::Ready(Ok(6))));
-    assert!(rt; channel.is_disconnected());
-    assert!(rt;
-        matches!(
-            channel.poll_recv(8),
-            Poll::Ready(Err(RecvError::Disconnected))
-        )
-    );
-    assert_eq!(rt; channel.send(9), Err(SendError(9)));
-    assert_eq!(rt; channel.next_wake(), None);
+    let script = [
+        (Call::TryRecv, Empty),
+        (Call::PollRecv(5), Pending),
+        (Call::Send(6), Done),
+        (Call::Wake, Value(5)),
+        (Call::HasMessage, Yes),
+        (Call::PollRecv(7), Value(6)),
+        (Call::IsDisconnected, Yes),
+        (Call::PollRecv(8), Disconnected),
+        (Call::Send(9), Closed(9)),
+        (Call::Wake, Nothing),
+    ];
+    assert_eq!(rt; differs_at(Room::new(), &script), None);
 }
 
 // Either end may go first.
 #[test]
 fn ends_go(rt: HostRuntime) {
-    let mut channel: OneshotCore<u64, u64> = OneshotCore::new();
-    channel.end_receiver_checked();
-    assert!(rt; channel.is_closed());
-    assert_eq!(rt; channel.send(3), Err(SendError(3)));
-    let mut channel: OneshotCore<u64, u64> = OneshotCore::new();
-    assert!(rt; matches!(channel.poll_recv(5), Poll::Pending));
-    channel.end_sender_checked();
-    assert_eq!(rt; channel.next_wake(), Some(5));
-    assert_eq!(rt; channel.try_recv(), Err(TryRecvError::Disconnected));
-    let mut channel: OneshotCore<u64, u64> = OneshotCore::new();
-    assert_eq!(rt; channel.send(4), Ok(()));
-    channel.end_receiver_checked();
-    assert!(rt; !channel.has_message());
+    let script = [
+        (Call::EndReceiver, Done),
+        (Call::IsClosed, Yes),
+        (Call::Send(3), Closed(3)),
+    ];
+    assert_eq!(rt; differs_at(Room::new(), &script), None);
+    let script = [
+        (Call::PollRecv(5), Pending),
+        (Call::EndSender, Done),
+        (Call::Wake, Value(5)),
+        (Call::TryRecv, Disconnected),
+    ];
+    assert_eq!(rt; differs_at(Room::new(), &script), None);
+    let script = [
+        (Call::Send(4), Done),
+        (Call::EndReceiver, Done),
+        (Call::HasMessage, No),
+    ];
+    assert_eq!(rt; differs_at(Room::new(), &script), None);
 }

@@ -1,40 +1,101 @@
-use mea_base::Poll;
-use mea_chan_core::{RecvError, TryRecvError, UnboundedCore, UnboundedError};
-use std::test::Fail;
+use crate::play::Reply;
+use crate::play::Reply::{Closed, Count, Disconnected, Done, Nothing, Pending, Value, Yes};
+use mea_chan_core::{UnboundedCore, UnboundedError};
+use mea_test_support::{Plays, differs_at};
+use std::alloc::Global;
+
+type Channel = UnboundedCore<u64, u64>;
+
+#[derive(Clone, Copy)]
+enum Call {
+    Send(u64),
+    TryRecv,
+    PollRecv(u64),
+    AddSender,
+    EndSender,
+    EndReceiver,
+    Wake,
+    WakesReady,
+}
+
+// A channel.
+#[derive(Drop)]
+struct Room {
+    channel: Channel,
+}
+
+impl Room {
+    fn new(alloc: Global) -> Room {
+        Room {
+            channel: UnboundedCore::new(alloc),
+        }
+    }
+}
+
+impl Plays for Room {
+    type Call = Call;
+
+    type Reply = Reply;
+
+    fn reply(&mut self, call: Call) -> Option<Reply> {
+        let channel = &mut self.channel;
+        match call {
+            Call::Send(message) => sent(channel.send(message)),
+            Call::TryRecv => Some(Reply::received(channel.try_recv())),
+            Call::PollRecv(waker) => Some(Reply::polled(channel.poll_recv(waker).ok()?)),
+            Call::AddSender => Some(Reply::whether(channel.add_sender_checked().is_ok())),
+            Call::EndSender => {
+                channel.end_sender_checked();
+                Some(Done)
+            }
+            Call::EndReceiver => {
+                channel.end_receiver_checked();
+                Some(Done)
+            }
+            Call::Wake => Some(Reply::found(channel.next_wake())),
+            Call::WakesReady => Some(Count(channel.wakes_ready())),
+        }
+    }
+}
+
+fn sent(sent: Result<(), UnboundedError<u64>>) -> Option<Reply> {
+    match sent {
+        Ok(()) => Some(Done),
+        Err(UnboundedError::Closed(message)) => Some(Closed(message)),
+        Err(UnboundedError::NoMemory(_)) => None,
+    }
+}
 
 // A receiver that waits is woken by the first message; what is sent after its end comes back.
 #[test]
-fn messages_come_in_order(rt: HostRuntime) -> Result<(), Fail> {
-    let mut channel: UnboundedCore<u64, u64> = UnboundedCore::new(rt.alloc());
-    assert!(rt; matches!(channel.poll_recv(4), Ok(Poll::Pending)));
-    assert_eq!(rt; channel.send(1), Ok(()));
-    assert_eq!(rt; channel.next_wake(), Some(4));
-    assert_eq!(rt; channel.send(2), Ok(()));
-    assert_eq!(rt; channel.wakes_ready(), 0);
-    assert!(rt; matches!(channel.poll_recv(5), Ok(Poll::Ready(Ok(1)))));
-    channel.end_receiver_checked();
-    assert_eq!(rt; channel.send(3), Err(UnboundedError::Closed(3)));
-    assert_eq!(rt; channel.try_recv(), Err(TryRecvError::Disconnected));
-    Ok(())
+fn messages_come_in_order(rt: HostRuntime) {
+    let script = [
+        (Call::PollRecv(4), Pending),
+        (Call::Send(1), Done),
+        (Call::Wake, Value(4)),
+        (Call::Send(2), Done),
+        (Call::WakesReady, Count(0)),
+        (Call::PollRecv(5), Value(1)),
+        (Call::EndReceiver, Done),
+        (Call::Send(3), Closed(3)),
+        (Call::TryRecv, Disconnected),
+    ];
+    assert_eq!(rt; differs_at(Room::new(rt.alloc()), &script), None);
 }
 
 // The last sender's end wakes the receiver, who then learns that nothing comes any more.
 #[test]
-fn the_last_sender_wakes_the_receiver(rt: HostRuntime) -> Result<(), Fail> {
-    let mut channel: UnboundedCore<u64, u64> = UnboundedCore::new(rt.alloc());
-    assert!(rt; channel.add_sender_checked().is_ok());
-    assert!(rt; matches!(channel.poll_recv(10), Ok(Poll::Pending)));
-    channel.end_sender_checked();
-    assert_eq!(rt; channel.next_wake(), None);
-    channel.end_sender_checked();
-    assert_eq!(rt; channel.next_wake(), Some(10));
-    assert!(rt;
-        matches!(
-            channel.poll_recv(11),
-            Ok(Poll::Ready(Err(RecvError::Disconnected)))
-        )
-    );
-    let mut full: UnboundedCore<u64, u64> = UnboundedCore::at_senders(rt.alloc(), usize::MAX);
+fn the_last_sender_wakes_the_receiver(rt: HostRuntime) {
+    let script = [
+        (Call::AddSender, Yes),
+        (Call::PollRecv(10), Pending),
+        (Call::EndSender, Done),
+        (Call::Wake, Nothing),
+        (Call::EndSender, Done),
+        (Call::Wake, Value(10)),
+        (Call::PollRecv(11), Disconnected),
+    ];
+    assert_eq!(rt; differs_at(Room::new(rt.alloc()), &script), None);
+    let mut full: Channel = UnboundedCore::at_senders(rt.alloc(), usize::MAX);
     assert!(rt; full.add_sender_checked().is_err());
-    Ok(())
 }

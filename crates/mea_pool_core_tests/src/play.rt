@@ -1,8 +1,19 @@
 use mea_base::Poll;
 use mea_pool_core::{DrainWait, Lease, LeasePoll, LeaseWait, PoolCore};
+use mea_test_support::Plays;
 use std::alloc::Global;
+use std::mem;
+
+type Pool = PoolCore<u64, u64>;
+
+type Asks = Vec<Option<LeaseWait>>;
+
+type Leases = Vec<Option<Lease<u64>>>;
+
+type Waits = Vec<Option<DrainWait>>;
 
 // A call of a pool of numbers. Waits and leases are known by their places in the lists of the player.
+#[derive(Clone, Copy)]
 pub(crate) enum Call {
     Ask,
     Poll(usize, u64),
@@ -14,10 +25,14 @@ pub(crate) enum Call {
     PollWait(usize, u64),
     EndWait(usize),
     Idle,
+    IsDraining,
+    IsDrained,
+    // Takes the two resources of the pool, which is drained, and leaves an empty pool.
+    Resources,
 }
 
-// What a call told: its answer, and the wakers that it made ready.
-#[derive(Debug, PartialEq, Eq, Drop)]
+// What a call told.
+#[derive(Clone, Copy, PartialEq, Eq)]
 pub(crate) enum Reply {
     Made,
     Leased(usize, u64),
@@ -26,163 +41,196 @@ pub(crate) enum Reply {
     Ready,
     Count(usize),
     Done,
-    Woke(u64),
+    Yes,
+    No,
+    Two(u64, u64),
+    // What is named is not there, or not of this pool.
     Unknown,
 }
 
 // A pool and what was made of it.
 #[derive(Drop)]
-pub(crate) struct Player {
-    pool: PoolCore<u64, u64>,
-    asks: Vec<Option<LeaseWait>>,
-    leases: Vec<Option<Lease<u64>>>,
-    waits: Vec<Option<DrainWait>>,
+pub(crate) struct Room {
+    alloc: Global,
+    pool: Pool,
+    asks: Asks,
+    leases: Leases,
+    waits: Waits,
 }
 
-impl Player {
-    pub(crate) fn new(alloc: Global, size: usize) -> Option<Player> {
-        let mut resources = Vec::new(alloc);
-        for i in 0..size {
-            if resources.push(i as u64).is_err() {
-                return None;
-            }
-        }
-        match PoolCore::new(alloc, resources) {
-            Ok(pool) => Some(Player {
-                pool,
-                asks: Vec::new(alloc),
-                leases: Vec::new(alloc),
-                waits: Vec::new(alloc),
-            }),
-            Err(_) => None,
-        }
+impl Room {
+    pub(crate) fn new(alloc: Global, size: usize) -> Option<Room> {
+        Some(Room {
+            alloc,
+            pool: pool_of(alloc, size)?,
+            asks: Vec::new(alloc),
+            leases: Vec::new(alloc),
+            waits: Vec::new(alloc),
+        })
     }
+}
 
-    fn poll(&mut self, ask: usize, waker: u64) -> Reply {
-        let Some(Some(mut wait)) = self.asks.get_mut(ask).map(|w| w.take()) else {
-            return Reply::Unknown;
+// A pool of the numbers below so many.
+fn pool_of(alloc: Global, size: usize) -> Option<Pool> {
+    let mut resources = Vec::new(alloc);
+    for i in 0..size {
+        resources.push(i as u64).ok()?;
+    }
+    PoolCore::new(alloc, resources).ok()
+}
+
+impl Plays for Room {
+    type Call = Call;
+
+    // Beside it the waker that is called then.
+    type Reply = (Reply, Option<u64>);
+
+    fn reply(&mut self, call: Call) -> Option<(Reply, Option<u64>)> {
+        let told = match call {
+            Call::Ask => made(&mut self.asks, LeaseWait::new()),
+            Call::Wait => made(&mut self.waits, DrainWait::new()),
+            Call::Poll(place, waker) => {
+                polled(
+                    &mut self.pool,
+                    &mut self.asks,
+                    &mut self.leases,
+                    place,
+                    waker,
+                )
+            }
+            Call::PollWait(place, waker) => {
+                wait_polled(&mut self.pool, &mut self.waits, place, waker)
+            }
+            Call::End(place) => ended(&mut self.pool, taken(&mut self.asks, place)),
+            Call::EndWait(place) => wait_ended(&mut self.pool, taken(&mut self.waits, place)),
+            Call::Use(place, value) => used(&mut self.leases, place, value),
+            Call::Back(place) => put_back(&mut self.pool, taken(&mut self.leases, place)),
+            Call::Resources => resources(&mut self.pool, pool_of(self.alloc, 0)),
+            _ => pool_told(&mut self.pool, call),
         };
-        if !self.pool.poll_lease_allowed(&wait) {
-            return Reply::Unknown;
+        Some((told, self.pool.next_wake()))
+    }
+}
+
+fn made<T: Drop>(things: &mut Vec<Option<T>>, thing: T) -> Reply {
+    match things.push(Some(thing)) {
+        Ok(()) => Reply::Made,
+        Err(_) => Reply::Unknown,
+    }
+}
+
+fn taken<T>(things: &mut Vec<Option<T>>, place: usize) -> Option<T> {
+    things.get_mut(place)?.take()
+}
+
+fn polled(
+    pool: &mut Pool,
+    asks: &mut Asks,
+    leases: &mut Leases,
+    place: usize,
+    waker: u64,
+) -> Reply {
+    let Some(Some(wait)) = asks.get_mut(place) else {
+        return Reply::Unknown;
+    };
+    if !pool.poll_lease_allowed(wait) {
+        return Reply::Unknown;
+    }
+    match pool.poll_lease(wait, waker) {
+        Ok(LeasePoll::Got(lease)) => leased(leases, lease),
+        Ok(LeasePoll::Pending) => Reply::Pending,
+        Ok(LeasePoll::Closed) => Reply::Gone,
+        Err(_) => Reply::Unknown,
+    }
+}
+
+fn leased(leases: &mut Leases, lease: Lease<u64>) -> Reply {
+    let told = Reply::Leased(lease.slot(), *lease.resource());
+    match leases.push(Some(lease)) {
+        Ok(()) => told,
+        Err(_) => Reply::Unknown,
+    }
+}
+
+fn wait_polled(pool: &mut Pool, waits: &mut Waits, place: usize, waker: u64) -> Reply {
+    let Some(Some(wait)) = waits.get_mut(place) else {
+        return Reply::Unknown;
+    };
+    if !pool.poll_drained_allowed(wait) {
+        return Reply::Unknown;
+    }
+    match pool.poll_drained(wait, waker) {
+        Ok(Poll::Ready(())) => Reply::Ready,
+        Ok(Poll::Pending) => Reply::Pending,
+        Err(_) => Reply::Unknown,
+    }
+}
+
+fn ended(pool: &mut Pool, wait: Option<LeaseWait>) -> Reply {
+    let Some(wait) = wait else {
+        return Reply::Unknown;
+    };
+    if !pool.cancel_lease_allowed(&wait) {
+        return Reply::Unknown;
+    }
+    pool.cancel_lease(wait);
+    Reply::Done
+}
+
+fn wait_ended(pool: &mut Pool, wait: Option<DrainWait>) -> Reply {
+    let Some(wait) = wait else {
+        return Reply::Unknown;
+    };
+    if !pool.end_drain_allowed(&wait) {
+        return Reply::Unknown;
+    }
+    pool.end_drain(wait);
+    Reply::Done
+}
+
+fn used(leases: &mut Leases, place: usize, value: u64) -> Reply {
+    match leases.get_mut(place) {
+        Some(Some(lease)) => {
+            *lease.resource_mut() = value;
+            Reply::Done
         }
-        match self.pool.poll_lease(&mut wait, waker) {
-            Ok(LeasePoll::Got(lease)) => {
-                let told = Reply::Leased(lease.slot(), *lease.resource());
-                if self.leases.push(Some(lease)).is_err() {
-                    return Reply::Unknown;
-                }
-                told
-            }
-            Ok(LeasePoll::Pending) => {
-                if let Some(place) = self.asks.get_mut(ask) {
-                    *place = Some(wait);
-                }
-                Reply::Pending
-            }
-            Ok(LeasePoll::Closed) => Reply::Gone,
-            Err(_) => Reply::Unknown,
+        _ => Reply::Unknown,
+    }
+}
+
+fn put_back(pool: &mut Pool, lease: Option<Lease<u64>>) -> Reply {
+    let Some(lease) = lease else {
+        return Reply::Unknown;
+    };
+    if !pool.put_back_allowed(&lease) {
+        return Reply::Unknown;
+    }
+    pool.put_back(lease);
+    Reply::Done
+}
+
+fn resources(pool: &mut Pool, empty: Option<Pool>) -> Reply {
+    let Some(empty) = empty else {
+        return Reply::Unknown;
+    };
+    if !pool.is_drained() {
+        return Reply::Unknown;
+    }
+    match mem::replace(pool, empty).into_resources().as_slice() {
+        [first, second] => Reply::Two(*first, *second),
+        _ => Reply::Unknown,
+    }
+}
+
+fn pool_told(pool: &mut Pool, call: Call) -> Reply {
+    let yes = match call {
+        Call::Drain => {
+            pool.drain();
+            return Reply::Done;
         }
-    }
-
-    fn poll_wait(&mut self, at: usize, waker: u64) -> Reply {
-        let Some(Some(mut wait)) = self.waits.get_mut(at).map(|w| w.take()) else {
-            return Reply::Unknown;
-        };
-        if !self.pool.poll_drained_allowed(&wait) {
-            return Reply::Unknown;
-        }
-        match self.pool.poll_drained(&mut wait, waker) {
-            Ok(Poll::Ready(())) => Reply::Ready,
-            Ok(Poll::Pending) => {
-                if let Some(place) = self.waits.get_mut(at) {
-                    *place = Some(wait);
-                }
-                Reply::Pending
-            }
-            Err(_) => Reply::Unknown,
-        }
-    }
-
-    pub(crate) fn play(&mut self, call: Call) -> Reply {
-        match call {
-            Call::Ask => match self.asks.push(Some(LeaseWait::new())) {
-                Ok(()) => Reply::Made,
-                Err(_) => Reply::Unknown,
-            },
-            Call::Wait => match self.waits.push(Some(DrainWait::new())) {
-                Ok(()) => Reply::Made,
-                Err(_) => Reply::Unknown,
-            },
-            Call::Poll(ask, waker) => self.poll(ask, waker),
-            Call::PollWait(at, waker) => self.poll_wait(at, waker),
-            Call::End(ask) => {
-                let Some(Some(wait)) = self.asks.get_mut(ask).map(|w| w.take()) else {
-                    return Reply::Unknown;
-                };
-                if !self.pool.cancel_lease_allowed(&wait) {
-                    return Reply::Unknown;
-                }
-                self.pool.cancel_lease(wait);
-                Reply::Done
-            }
-            Call::EndWait(at) => {
-                let Some(Some(wait)) = self.waits.get_mut(at).map(|w| w.take()) else {
-                    return Reply::Unknown;
-                };
-                if !self.pool.end_drain_allowed(&wait) {
-                    return Reply::Unknown;
-                }
-                self.pool.end_drain(wait);
-                Reply::Done
-            }
-            Call::Use(at, value) => {
-                if let Some(Some(lease)) = self.leases.get_mut(at) {
-                    *lease.resource_mut() = value;
-                    return Reply::Done;
-                }
-                Reply::Unknown
-            }
-            Call::Back(at) => {
-                let Some(Some(lease)) = self.leases.get_mut(at).map(|l| l.take()) else {
-                    return Reply::Unknown;
-                };
-                if !self.pool.put_back_allowed(&lease) {
-                    return Reply::Unknown;
-                }
-                self.pool.put_back(lease);
-                Reply::Done
-            }
-            Call::Drain => {
-                self.pool.drain();
-                Reply::Done
-            }
-            Call::Idle => Reply::Count(self.pool.idle()),
-        }
-    }
-
-    pub(crate) fn next_wake(&mut self) -> Option<u64> {
-        self.pool.next_wake()
-    }
-
-    pub(crate) fn wakes_ready(&self) -> usize {
-        self.pool.wakes_ready()
-    }
-
-    pub(crate) fn is_drained(&self) -> bool {
-        self.pool.is_drained()
-    }
-
-    pub(crate) fn is_draining(&self) -> bool {
-        self.pool.is_draining()
-    }
-
-    // The resources of a pool that is drained.
-    pub(crate) fn into_resources(self) -> Option<Vec<u64>> {
-        let Player { pool, .. } = self;
-        if pool.is_drained() {
-            Some(pool.into_resources())
-        } else {
-            None
-        }
-    }
+        Call::Idle => return Reply::Count(pool.idle()),
+        Call::IsDraining => pool.is_draining(),
+        _ => pool.is_drained(),
+    };
+    if yes { Reply::Yes } else { Reply::No }
 }

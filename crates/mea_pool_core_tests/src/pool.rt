@@ -1,90 +1,86 @@
-use crate::play::{Call, Player, Reply};
+use crate::play::Reply::{Count, Done, Gone, Leased, Made, No, Pending, Ready, Two, Unknown, Yes};
+use crate::play::{Call, Reply, Room};
+use mea_test_support::differs_at;
 
-// Plays a call, and tells whether it had this answer and woke these.
-fn plays(player: &mut Player, call: Call, told: Reply, wakes: &[u64]) -> bool {
-    if player.play(call) != told || player.wakes_ready() != wakes.len() {
-        return false;
-    }
-    for wake in wakes {
-        if player.next_wake() != Some(*wake) {
-            return false;
-        }
-    }
-    true
-}
+type Script = &'static [(Call, (Reply, Option<u64>))];
 
 // Two resources: a lease that waits gets the one that is put back, one that waits when the pool drains is refused, and who
 // waits for the end is woken by the last lease.
+const TWO: Script = &[
+    (Call::Ask, (Made, None)),
+    (Call::Poll(0, 5), (Leased(0, 0), None)),
+    (Call::Ask, (Made, None)),
+    (Call::Poll(1, 6), (Leased(1, 1), None)),
+    (Call::Ask, (Made, None)),
+    (Call::Poll(2, 7), (Pending, None)),
+    (Call::Use(0, 40), (Done, None)),
+    (Call::Back(0), (Done, Some(7))),
+    (Call::Poll(2, 8), (Leased(0, 40), None)),
+    (Call::Idle, (Count(0), None)),
+    (Call::Ask, (Made, None)),
+    (Call::Poll(3, 9), (Pending, None)),
+    (Call::Drain, (Done, Some(9))),
+    (Call::IsDraining, (Yes, None)),
+    (Call::IsDrained, (No, None)),
+    (Call::Poll(3, 9), (Gone, None)),
+    (Call::Wait, (Made, None)),
+    (Call::PollWait(0, 3), (Pending, None)),
+    (Call::Back(1), (Done, None)),
+    (Call::Back(2), (Done, Some(3))),
+    (Call::PollWait(0, 4), (Ready, None)),
+    (Call::Idle, (Count(2), None)),
+    (Call::Resources, (Two(1, 40), None)),
+];
+
 #[test]
 fn two_resources(rt: HostRuntime) {
-    let Some(mut p) = Player::new(rt.alloc(), 2) else {
-        panic!(rt; "no memory");
-    };
-    assert!(rt; plays(&mut p, Call::Ask, Reply::Made, &[]));
-    assert!(rt; plays(&mut p, Call::Poll(0, 5), Reply::Leased(0, 0), &[]));
-    assert!(rt; plays(&mut p, Call::Ask, Reply::Made, &[]));
-    assert!(rt; plays(&mut p, Call::Poll(1, 6), Reply::Leased(1, 1), &[]));
-    assert!(rt; plays(&mut p, Call::Ask, Reply::Made, &[]));
-    assert!(rt; plays(&mut p, Call::Poll(2, 7), Reply::Pending, &[]));
-    assert!(rt; plays(&mut p, Call::Use(0, 40), Reply::Done, &[]));
-    assert!(rt; plays(&mut p, Call::Back(0), Reply::Done, &[7]));
-    assert!(rt; plays(&mut p, Call::Poll(2, 8), Reply::Leased(0, 40), &[]));
-    assert!(rt; plays(&mut p, Call::Idle, Reply::Count(0), &[]));
-    assert!(rt; plays(&mut p, Call::Ask, Reply::Made, &[]));
-    assert!(rt; plays(&mut p, Call::Poll(3, 9), Reply::Pending, &[]));
-    assert!(rt; plays(&mut p, Call::Drain, Reply::Done, &[9]));
-    assert!(rt; p.is_draining() && !p.is_drained());
-    assert!(rt; plays(&mut p, Call::Poll(3, 9), Reply::Gone, &[]));
-    assert!(rt; plays(&mut p, Call::Wait, Reply::Made, &[]));
-    assert!(rt; plays(&mut p, Call::PollWait(0, 3), Reply::Pending, &[]));
-    assert!(rt; plays(&mut p, Call::Back(1), Reply::Done, &[]));
-    assert!(rt; plays(&mut p, Call::Back(2), Reply::Done, &[3]));
-    assert!(rt; plays(&mut p, Call::PollWait(0, 4), Reply::Ready, &[]));
-    assert!(rt; plays(&mut p, Call::Idle, Reply::Count(2), &[]));
-    let Some(resources) = p.into_resources() else {
-        panic!(rt; "not drained");
-    };
-    assert_eq!(rt; resources.as_slice(), [1, 40].as_slice());
+    let room = Room::new(rt.alloc(), 2).expect(&rt, "memory");
+    assert_eq!(rt; differs_at(room, TWO), None);
 }
 
 // One resource: a wait that was granted and then ended drains the pool, and a lease that was put back is gone.
+const ONE: Script = &[
+    (Call::Ask, (Made, None)),
+    (Call::Poll(0, 1), (Leased(0, 0), None)),
+    (Call::Ask, (Made, None)),
+    (Call::Poll(1, 2), (Pending, None)),
+    (Call::Back(0), (Done, Some(2))),
+    (Call::Drain, (Done, None)),
+    (Call::Wait, (Made, None)),
+    (Call::PollWait(0, 3), (Pending, None)),
+    (Call::End(1), (Done, Some(3))),
+    (Call::PollWait(0, 4), (Ready, None)),
+    (Call::Ask, (Made, None)),
+    (Call::Poll(2, 5), (Gone, None)),
+    (Call::Back(0), (Unknown, None)),
+    (Call::IsDrained, (Yes, None)),
+];
+
 #[test]
 fn one_resource(rt: HostRuntime) {
-    let Some(mut p) = Player::new(rt.alloc(), 1) else {
-        panic!(rt; "no memory");
-    };
-    assert!(rt; plays(&mut p, Call::Ask, Reply::Made, &[]));
-    assert!(rt; plays(&mut p, Call::Poll(0, 1), Reply::Leased(0, 0), &[]));
-    assert!(rt; plays(&mut p, Call::Ask, Reply::Made, &[]));
-    assert!(rt; plays(&mut p, Call::Poll(1, 2), Reply::Pending, &[]));
-    assert!(rt; plays(&mut p, Call::Back(0), Reply::Done, &[2]));
-    assert!(rt; plays(&mut p, Call::Drain, Reply::Done, &[]));
-    assert!(rt; plays(&mut p, Call::Wait, Reply::Made, &[]));
-    assert!(rt; plays(&mut p, Call::PollWait(0, 3), Reply::Pending, &[]));
-    assert!(rt; plays(&mut p, Call::End(1), Reply::Done, &[3]));
-    assert!(rt; plays(&mut p, Call::PollWait(0, 4), Reply::Ready, &[]));
-    assert!(rt; plays(&mut p, Call::Ask, Reply::Made, &[]));
-    assert!(rt; plays(&mut p, Call::Poll(2, 5), Reply::Gone, &[]));
-    assert!(rt; plays(&mut p, Call::Back(0), Reply::Unknown, &[]));
-    assert!(rt; p.is_drained());
+    let room = Room::new(rt.alloc(), 1).expect(&rt, "memory");
+    assert_eq!(rt; differs_at(room, ONE), None);
 }
 
 // Waits for the end are woken in the order of their first polls, and one that was ended is not.
+const WAITS: Script = &[
+    (Call::Wait, (Made, None)),
+    (Call::Wait, (Made, None)),
+    (Call::Wait, (Made, None)),
+    (Call::PollWait(1, 10), (Pending, None)),
+    (Call::PollWait(0, 11), (Pending, None)),
+    (Call::PollWait(2, 12), (Pending, None)),
+    (Call::PollWait(1, 13), (Pending, None)),
+    (Call::EndWait(0), (Done, None)),
+    (Call::Drain, (Done, Some(13))),
+    (Call::IsDrained, (Yes, Some(12))),
+    (Call::Drain, (Done, None)),
+    (Call::PollWait(2, 14), (Ready, None)),
+    (Call::EndWait(1), (Done, None)),
+];
+
 #[test]
 fn waits_for_the_end(rt: HostRuntime) {
-    let Some(mut p) = Player::new(rt.alloc(), 0) else {
-        panic!(rt; "no memory");
-    };
-    assert!(rt; plays(&mut p, Call::Wait, Reply::Made, &[]));
-    assert!(rt; plays(&mut p, Call::Wait, Reply::Made, &[]));
-    assert!(rt; plays(&mut p, Call::Wait, Reply::Made, &[]));
-    assert!(rt; plays(&mut p, Call::PollWait(1, 10), Reply::Pending, &[]));
-    assert!(rt; plays(&mut p, Call::PollWait(0, 11), Reply::Pending, &[]));
-    assert!(rt; plays(&mut p, Call::PollWait(2, 12), Reply::Pending, &[]));
-    assert!(rt; plays(&mut p, Call::PollWait(1, 13), Reply::Pending, &[]));
-    assert!(rt; plays(&mut p, Call::EndWait(0), Reply::Done, &[]));
-    assert!(rt; plays(&mut p, Call::Drain, Reply::Done, &[13, 12]));
-    assert!(rt; plays(&mut p, Call::Drain, Reply::Done, &[]));
-    assert!(rt; plays(&mut p, Call::PollWait(2, 14), Reply::Ready, &[]));
-    assert!(rt; plays(&mut p, Call::EndWait(1), Reply::Done, &[]));
+    let room = Room::new(rt.alloc(), 0).expect(&rt, "memory");
+    assert_eq!(rt; differs_at(room, WAITS), None);
 }

@@ -1,44 +1,45 @@
-use crate::run_doors;
-use mea_io::{SureSink, SureSource};
+use crate::{Program, bytes_of, ran, run_doors};
+use mea_io::{Sink, Source, SureSink, SureSource};
 use mea_script::Status;
 use std::alloc::Global;
 use std::process::Abort;
-use std::test::Fail;
 
-/// Plays a script of doors, a few bytes at a time, and compares its text.
-fn check(
-    rt: &(impl Abort + AllocGlobal),
-    script: &[u8],
-    text: &[u8],
-    status: Status,
-) -> Result<(), Fail> {
-    let alloc: Global = rt.alloc();
-    let mut words = Vec::new(alloc);
-    words.push(String::from_str(alloc, "doors")?)?;
-    let mut source = SureSource::new(Vec::from_slice(alloc, script)?, 3);
-    let mut sink = SureSink::new(alloc, 5);
-    let told = run_doors(alloc, words.as_slice(), &mut source, &mut sink);
-    assert!(rt; told == status);
-    assert!(rt; sink.bytes() == text);
-    Ok(())
+// The program of doors.
+struct DoorProgram;
+
+impl Program for DoorProgram {
+    fn run<S: Source, K: Sink>(
+        alloc: Global,
+        words: &[String],
+        source: &mut S,
+        sink: &mut K,
+    ) -> Status {
+        run_doors(alloc, words, source, sink)
+    }
+}
+
+// Plays a script of doors, a few bytes at a time, and compares its text.
+fn check(rt: &(impl Abort + AllocGlobal), script: &str, text: &str, status: Status) {
+    let script = bytes_of(rt.alloc(), script).expect(rt, "memory");
+    let text = bytes_of(rt.alloc(), text).expect(rt, "memory");
+    let mut source = SureSource::new(script, 3);
+    let mut sink = SureSink::new(rt.alloc(), 5);
+    let told = ran::<DoorProgram, _, _>(rt.alloc(), &["doors"], &mut source, &mut sink);
+    assert!(rt; told.expect(rt, "memory") == status);
+    assert!(rt; sink.bytes() == text.as_slice());
 }
 
 #[test]
-fn doors_are_counted_at_the_end(rt: HostRuntime) -> Result<(), Fail> {
-    check(
-        &rt,
-        b"open\nopen\nshut\nopen",
-        b"open 2\ndone 4\n",
-        Status::Done,
-    )
+fn doors_are_counted_at_the_end(rt: HostRuntime) {
+    check(&rt, "open/open/shut/open", "open 2/done 4", Status::Done);
 }
 
 #[test]
-fn no_door_is_shut_twice(rt: HostRuntime) -> Result<(), Fail> {
+fn no_door_is_shut_twice(rt: HostRuntime) {
     check(
         &rt,
-        b"open\nshut\nshut\nopen\n",
-        b"bad 2\n",
+        "open/shut/shut/open",
+        "bad 2",
         Status::BadLine { at: 2 },
-    )
+    );
 }
