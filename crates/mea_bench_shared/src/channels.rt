@@ -132,18 +132,27 @@ pub fn awaited<R: Wait + AllocGlobal>(rt: &R, rounds: u64) -> Result<(), Fault> 
     let Ok((sender, _)) = overflow::channel::<u64, Bell>(rt.alloc(), 1) else {
         return Err(Fault::NoMemory);
     };
-    let done = all_wait(rt, &sender, rounds);
+    let done = all_hear_one(rt, &sender, rounds);
     sender.end(rt);
     done
 }
 
-fn all_wait<R: Wait + AllocGlobal>(
+fn all_hear_one<R: Wait + AllocGlobal>(
     rt: &R,
     sender: &overflow::Sender<u64, Bell>,
     count: u64,
 ) -> Result<(), Fault> {
-    let waiter = Waiter::new(rt.alloc())?;
     let mut receivers = receivers_of(rt, sender, count)?;
+    all_wait(rt, sender, receivers.as_mut_slice())
+}
+
+// Each receiver waits before the message is sent.
+fn all_wait<'a, R: Wait + AllocGlobal>(
+    rt: &'a R,
+    sender: &overflow::Sender<u64, Bell>,
+    receivers: &'a mut [overflow::Receiver<u64, Bell>],
+) -> Result<(), Fault> {
+    let waiter = Waiter::new(rt.alloc())?;
     let mut waits = Vec::new(rt.alloc());
     for receiver in receivers.iter_mut() {
         if waiter.leave(rt, receiver.recv(), &mut waits)?.is_some() {
