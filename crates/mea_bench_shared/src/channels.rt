@@ -154,7 +154,8 @@ fn all_wait<'a, R: Wait + AllocGlobal>(
 ) -> Result<(), Fault> {
     let waiter = Waiter::new(rt.alloc())?;
     let mut waits = Vec::new(rt.alloc());
-    for receiver in receivers.iter_mut() {
+    let all = receivers.iter_mut();
+    for receiver in all {
         if waiter.leave(rt, receiver.recv(), &mut waits)?.is_some() {
             return Err(Fault::Answer);
         }
