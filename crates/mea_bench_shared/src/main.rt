@@ -12,11 +12,14 @@ mod across;
 mod alone;
 mod channels;
 mod fault;
+mod gathered;
 mod handoff;
 mod handover;
+mod keeping;
 mod sending;
 mod shots;
 mod tasks;
+mod threads;
 mod waiter;
 mod work;
 

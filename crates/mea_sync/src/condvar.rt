@@ -4,10 +4,10 @@ ghost use Rattle.std.specs.Prelude.{◌≡◌};
 mod steps;
 mod waits;
 
+use crate::made::Made;
 use crate::mutex::{MutexGuard, OwnedMutexGuard};
 use mea_base::Wake;
 use mea_lock_core::CondvarCore;
-use mea_wait::hand_out;
 use std::alloc::Global;
 use std::sync::{Mutex, Wait};
 pub use waits::{
@@ -33,13 +33,21 @@ impl<W: Wake> Condvar<W> {
 
     /// Notifies the first that waits, if any does. It takes no memory.
     pub fn notify_one<R: Wait>(&self, rt: &R) {
-        let made = steps::notify_one(&mut *self.core.lock(rt));
+        let made = {
+            let mut core = self.core.lock(rt);
+            let made = steps::notify_one(&mut *core);
+            Made::of(made, || core.next_wake())
+        };
         self.wake(rt, made);
     }
 
     /// Notifies each that waits, in their order. It takes no memory.
     pub fn notify_all<R: Wait>(&self, rt: &R) {
-        let made = steps::notify_all(&mut *self.core.lock(rt));
+        let made = {
+            let mut core = self.core.lock(rt);
+            let made = steps::notify_all(&mut *core);
+            Made::of(made, || core.next_wake())
+        };
         self.wake(rt, made);
     }
 
@@ -80,8 +88,8 @@ impl<W: Wake> Condvar<W> {
         Conditional::of(self, guard, condition)
     }
 
-    // Wakes as many as the step before has made ready.
-    fn wake<R: Wait>(&self, rt: &R, made: usize) {
-        hand_out(made, || self.core.lock(rt).next_wake());
+    // Wakes those whom the step before has made ready.
+    fn wake<R: Wait>(&self, rt: &R, made: Made<W>) {
+        made.hand_out(|| self.core.lock(rt).next_wake());
     }
 }

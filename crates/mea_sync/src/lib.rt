@@ -9,6 +9,7 @@
 
 mod access;
 pub mod condvar;
+mod made;
 mod mapped;
 pub mod mutex;
 pub mod rwlock;

@@ -3,11 +3,11 @@ mod guard;
 mod locking;
 mod steps;
 
+use crate::made::Made;
 pub use crate::mapped::Mapped;
 pub use guard::{LockGuard, MappedMutexGuard, MutexGuard, OwnedMappedMutexGuard, OwnedMutexGuard};
 pub use locking::{Lock, Locking, OwnedLock};
 use mea_base::Wake;
-use mea_wait::hand_out;
 use std::alloc::Global;
 use std::sync;
 use std::sync::{Arc, Wait};
@@ -71,12 +71,16 @@ impl<T: Drop, W: Wake> Mutex<T, W> {
 
     // Puts the value of a guard back, and wakes who has the lock next.
     pub(crate) fn put_back<R: Wait>(&self, rt: &R, value: T) {
-        let made = self.core.lock(rt).put_back(value);
+        let made = {
+            let mut state = self.core.lock(rt);
+            let made = state.put_back(value);
+            Made::of(made, || state.next_wake())
+        };
         self.wake(rt, made);
     }
 
-    // Wakes as many as the step before has made ready.
-    pub(crate) fn wake<R: Wait>(&self, rt: &R, made: usize) {
-        hand_out(made, || self.core.lock(rt).next_wake());
+    // Wakes those whom the step before has made ready.
+    pub(crate) fn wake<R: Wait>(&self, rt: &R, made: Made<W>) {
+        made.hand_out(|| self.core.lock(rt).next_wake());
     }
 }

@@ -4,6 +4,7 @@ mod slot;
 mod steps;
 mod waits;
 
+use crate::made::Made;
 pub use crate::mapped::Mapped;
 pub use guards::{
     MappedRwLockReadGuard, MappedRwLockWriteGuard, OwnedMappedRwLockReadGuard,
@@ -11,7 +12,7 @@ pub use guards::{
     RwLockReadGuard, RwLockWriteGuard, WriteGuard,
 };
 use mea_base::{NoMemory, Wake};
-use mea_wait::hand_out;
+use mea_lock_core::RwWait;
 use std::alloc::Global;
 use std::num::NonZeroUsize;
 use std::sync::{Arc, Mutex, Wait};
@@ -91,9 +92,7 @@ impl<T: Drop, W: Wake> RwLock<T, W> {
 
     /// The guard of a write, if nobody holds the lock. It takes no memory.
     pub fn try_write<R: Wait>(&self, rt: &R) -> Option<RwLockWriteGuard<'_, T, W>> {
-        let (taken, made) = self.core.lock(rt).try_write();
-        self.wake(rt, made);
-        match taken {
+        match self.take(rt) {
             Some(value) => Some(WriteGuard::of(self, value)),
             None => None,
         }
@@ -116,16 +115,35 @@ impl<T: Drop, W: Wake> RwLock<T, W> {
         self: Arc<Self>,
         rt: &R,
     ) -> Option<OwnedRwLockWriteGuard<T, W>> {
-        let (taken, made) = self.core.lock(rt).try_write();
-        self.wake(rt, made);
-        match taken {
+        match self.take(rt) {
             Some(value) => Some(WriteGuard::of(self, value)),
             None => None,
         }
     }
 
-    // Wakes as many as the step before has made ready.
-    fn wake<R: Wait>(&self, rt: &R, made: usize) {
-        hand_out(made, || self.core.lock(rt).next_wake());
+    // Takes the value, if nobody holds the lock.
+    fn take<R: Wait>(&self, rt: &R) -> Option<T> {
+        let (taken, made) = {
+            let mut state = self.core.lock(rt);
+            let (taken, made) = state.try_write();
+            (taken, Made::of(made, || state.next_wake()))
+        };
+        self.wake(rt, made);
+        taken
+    }
+
+    // Ends a wait, and wakes those whom what it was paid pays.
+    fn cancel<R: Wait>(&self, rt: &R, wait: RwWait) {
+        let made = {
+            let mut state = self.core.lock(rt);
+            let made = state.cancel(wait);
+            Made::of(made, || state.next_wake())
+        };
+        self.wake(rt, made);
+    }
+
+    // Wakes those whom the step before has made ready.
+    fn wake<R: Wait>(&self, rt: &R, made: Made<W>) {
+        made.hand_out(|| self.core.lock(rt).next_wake());
     }
 }

@@ -7,13 +7,13 @@ mod acquire;
 mod permit;
 mod steps;
 
+use crate::made::Made;
 pub use acquire::{
     Acquire, AcquireForget, AcquireToForget, AcquireToHold, OwnedAcquire, OwnedAcquireForget,
 };
 use futures::task::Source;
 use mea_base::{NoMemory, Overflow, Wake};
-use mea_sem_core::SemCore;
-use mea_wait::hand_out;
+use mea_sem_core::{Acquire as Place, SemCore};
 pub use permit::{OwnedSemaphorePermit, Permit, SemaphorePermit};
 use std::alloc::Global;
 use std::sync::{Arc, Mutex, Wait};
@@ -70,7 +70,11 @@ impl<W: Wake> Semaphore<W> {
     pub fn release<R: Wait>(&self, rt: &R, permits: usize) -> Result<(), Overflow>
         ensures { OnErr result (0 < permits) }
     {
-        let (answer, made) = steps::release(&mut *self.core.lock(rt), permits);
+        let (answer, made) = {
+            let mut core = self.core.lock(rt);
+            let (answer, made) = steps::release(&mut *core, permits);
+            (answer, Made::of(made, || core.next_wake()))
+        };
         self.wake(rt, made);
         answer
     }
@@ -146,7 +150,11 @@ impl<W: Wake> Semaphore<W> {
     /// Closes the semaphore for good: all who wait are woken, and each acquire that was not granted before
     /// answers `Closed`. Permits come back, are released and forgotten as before. It takes no memory.
     pub fn close<R: Wait>(&self, rt: &R) {
-        let made = steps::close(&mut *self.core.lock(rt));
+        let made = {
+            let mut core = self.core.lock(rt);
+            let made = steps::close(&mut *core);
+            Made::of(made, || core.next_wake())
+        };
         self.wake(rt, made);
     }
 
@@ -162,12 +170,26 @@ impl<W: Wake> Semaphore<W> {
 
     // Gives permits back, and wakes those whom they pay.
     fn give_back<R: Wait>(&self, rt: &R, permits: usize) {
-        let made = steps::give_back(&mut *self.core.lock(rt), permits);
+        let made = {
+            let mut core = self.core.lock(rt);
+            let made = steps::give_back(&mut *core, permits);
+            Made::of(made, || core.next_wake())
+        };
         self.wake(rt, made);
     }
 
-    // Wakes as many as the step before has made ready.
-    fn wake<R: Wait>(&self, rt: &R, made: usize) {
-        hand_out(made, || self.core.lock(rt).next_wake());
+    // Ends a wait, and wakes those whom what it was paid pays.
+    fn cancel<R: Wait>(&self, rt: &R, place: Place) {
+        let made = {
+            let mut core = self.core.lock(rt);
+            let made = steps::cancel(&mut *core, place);
+            Made::of(made, || core.next_wake())
+        };
+        self.wake(rt, made);
+    }
+
+    // Wakes those whom the step before has made ready.
+    fn wake<R: Wait>(&self, rt: &R, made: Made<W>) {
+        made.hand_out(|| self.core.lock(rt).next_wake());
     }
 }

@@ -3,6 +3,7 @@ ghost use Rattle.mea_lock_core.specs.CondWaits.{is_new};
 ghost use Rattle.mea_wait.specs.Polls.{IsPollable};
 
 use crate::condvar::{Condvar, steps};
+use crate::made::Made;
 use crate::mutex::{LockGuard, Mutex};
 use mea_base::{NoMemory, Wake};
 use mea_lock_core::CondWait;
@@ -95,13 +96,14 @@ impl<'a, T: Drop, W: Wake, H: Holds<Mutex<T, W>>> Notified<'a, H, T, W> {
             mut wait,
             mut guarded,
         } = self;
-        let polled = {
+        let (answer, made) = {
             let mut state = mutex.held().core.lock(rt);
             let mut core = of.core.lock(rt);
-            steps::poll(&mut *state, &mut *core, &mut wait, &mut guarded, waker)
+            let polled = steps::poll(&mut *state, &mut *core, &mut wait, &mut guarded, waker);
+            (polled.answer, Made::of(polled.made, || state.next_wake()))
         };
-        mutex.held().wake(rt, polled.made);
-        match polled.answer {
+        mutex.held().wake(rt, made);
+        match answer {
             Ok(Some((value, waker))) => Step::Ready(LockGuard::of(mutex, value), waker),
             Ok(None) => Step::Pending(Notified {
                 of,
@@ -134,7 +136,11 @@ impl<'a, T: Drop, W: Wake, H: Holds<Mutex<T, W>>> End for Notified<'a, H, T, W> 
         let (locked, noted) = {
             let mut state = held.core.lock(rt);
             let mut core = of.core.lock(rt);
-            steps::end(&mut *state, &mut *core, wait, guarded)
+            let (locked, noted) = steps::end(&mut *state, &mut *core, wait, guarded);
+            (
+                Made::of(locked, || state.next_wake()),
+                Made::of(noted, || core.next_wake()),
+            )
         };
         held.wake(rt, locked);
         of.wake(rt, noted);

@@ -1,3 +1,4 @@
+use crate::made::Made;
 use crate::mutex::Mutex;
 use crate::mutex::guard::LockGuard;
 use mea_base::{NoMemory, Wake};
@@ -34,7 +35,11 @@ impl<T: Drop, W: Wake, H: Holds<Mutex<T, W>>> End for Locking<H, T, W> {
     fn end<R: Wait>(self, rt: &R) {
         let Locking { of, wait, locks: _ } = self;
         let mutex = of.held();
-        let made = mutex.core.lock(rt).cancel(wait);
+        let made = {
+            let mut state = mutex.core.lock(rt);
+            let made = state.cancel(wait);
+            Made::of(made, || state.next_wake())
+        };
         mutex.wake(rt, made);
     }
 }

@@ -2,6 +2,7 @@ ghost use Rattle.std.specs.Prelude.{◌≡◌, refl, IfOk, IfErr};
 ghost use Rattle.std.specs.Arc.{arc_value};
 
 use crate::access::{Access, Downgrades, Shows};
+use crate::made::Made;
 use crate::mapped::Mapped;
 use crate::rwlock::RwLock;
 use mea_base::{NoMemory, Wake};
@@ -92,7 +93,12 @@ impl<T: Drop, W: Wake, H: Holds<RwLock<T, W>>> WriteGuard<H, T, W> {
             Ok(shared) => shared,
             Err(refused) => return Err((WriteGuard::of(of, refused.value), NoMemory)),
         };
-        let made = of.held().core.lock(rt).downgrade(share(rt, &shared));
+        let other = share(rt, &shared);
+        let made = {
+            let mut state = of.held().core.lock(rt);
+            let made = state.downgrade(other);
+            Made::of(made, || state.next_wake())
+        };
         of.held().wake(rt, made);
         Ok(ReadGuard::of(of, shared))
     }
@@ -181,7 +187,11 @@ impl<T: Drop, W: Wake, H: Holds<RwLock<T, W>>> End for ReadGuard<H, T, W> {
             waker: _,
         } = self;
         let lock = of.held();
-        let made = lock.core.lock(rt).end_read(value);
+        let made = {
+            let mut state = lock.core.lock(rt);
+            let made = state.end_read(value);
+            Made::of(made, || state.next_wake())
+        };
         lock.wake(rt, made);
     }
 }
@@ -194,7 +204,11 @@ impl<T: Drop, W: Wake, H: Holds<RwLock<T, W>>> End for WriteGuard<H, T, W> {
             waker: _,
         } = self;
         let lock = of.held();
-        let made = lock.core.lock(rt).end_write(value);
+        let made = {
+            let mut state = lock.core.lock(rt);
+            let made = state.end_write(value);
+            Made::of(made, || state.next_wake())
+        };
         lock.wake(rt, made);
     }
 }

@@ -1,6 +1,7 @@
 ghost use Rattle.std.specs.Prelude.{◌≡◌, true, false};
 ghost use Rattle.mea_lock_core.specs.RwLock.{is_write};
 
+use crate::made::Made;
 use crate::rwlock::RwLock;
 use crate::rwlock::guards::{ReadGuard, WriteGuard};
 use mea_base::{NoMemory, Wake};
@@ -62,18 +63,14 @@ impl<T: Drop, W: Wake, H: Holds<RwLock<T, W>>> Writing<H, T, W> {
 impl<T: Drop, W: Wake, H: Holds<RwLock<T, W>>> End for Reading<H, T, W> {
     fn end<R: Wait>(self, rt: &R) {
         let Reading { of, wait, locks: _ } = self;
-        let lock = of.held();
-        let made = lock.core.lock(rt).cancel(wait);
-        lock.wake(rt, made);
+        of.held().cancel(rt, wait);
     }
 }
 
 impl<T: Drop, W: Wake, H: Holds<RwLock<T, W>>> End for Writing<H, T, W> {
     fn end<R: Wait>(self, rt: &R) {
         let Writing { of, wait, locks: _ } = self;
-        let lock = of.held();
-        let made = lock.core.lock(rt).cancel(wait);
-        lock.wake(rt, made);
+        of.held().cancel(rt, wait);
     }
 }
 
@@ -108,7 +105,11 @@ impl<T: Drop, W: Wake, H: Holds<RwLock<T, W>>> Waits<W, WriteGuard<H, T, W>> for
             mut wait,
             locks,
         } = self;
-        let (answer, made) = of.held().core.lock(rt).poll_write(&mut wait, waker);
+        let (answer, made) = {
+            let mut state = of.held().core.lock(rt);
+            let (answer, made) = state.poll_write(&mut wait, waker);
+            (answer, Made::of(made, || state.next_wake()))
+        };
         of.held().wake(rt, made);
         match answer {
             Ok(Some((value, _))) => Ok(Polled::Ready(WriteGuard::of(of, value))),

@@ -78,9 +78,7 @@ impl<W: Wake, H: Holds<Semaphore<W>>> End for AcquireToHold<H, W> {
             place,
             waker: _,
         } = self;
-        let semaphore = of.held();
-        let made = steps::cancel(&mut *semaphore.core.lock(rt), place);
-        semaphore.wake(rt, made);
+        of.held().cancel(rt, place);
     }
 }
 
@@ -92,9 +90,7 @@ impl<W: Wake, H: Holds<Semaphore<W>>> End for AcquireToForget<H, W> {
             place,
             waker: _,
         } = self;
-        let semaphore = of.held();
-        let made = steps::cancel(&mut *semaphore.core.lock(rt), place);
-        semaphore.wake(rt, made);
+        of.held().cancel(rt, place);
     }
 }
 
