@@ -1,12 +1,12 @@
 -- what a player is due, by the lines that are left
-use Rattle.std.proofs.Common.{if◌then◌else◌, None, ◌≡◌, ◌⊎◌, inl, inr, ◌↔◌, ℕ, suc, ◌+◌, ◌<◌, ◌≤◌, Bool, true, false, IsTrue, List, [], ◌∷◌, ◌++◌, length, nat_lt, Option, Some, IfSome, refl, ap, sym, subst, ◌∙◌, arith, append-nil, append_assoc, length-append}
+use Rattle.std.proofs.Common.{if◌then◌else◌, None, ◌≡◌, ◌⊎◌, inl, inr, ◌↔◌, ℕ, suc, ◌+◌, ◌<◌, ◌≤◌, Bool, true, false, IsTrue, List, [], ◌∷◌, ◌++◌, length, nat_lt, Option, Some, refl, ap, sym, subst, ◌∙◌, arith, append-nil, append_assoc, length-append}
 use Rattle.std.proofs.lemmas.Bool.Decides.{nat_tests}
 use Rattle.mea_io.specs.Bytes.{HasWrittenPart}
 use Rattle.mea_script.specs.declared.player.Player.{Player}
 use Rattle.mea_script.specs.declared.status.Status.{Status}
 use Rattle.mea_script.specs.Lines.{IsUnended}
 use Rattle.mea_script.specs.Player.{due, due_from, told_of, lines_left, GoesOn, Stops, Ends}
-use Rattle.mea_script.specs.Rules.{Rules, event_at, IsEvent}
+use Rattle.mea_script.specs.Rules.{Rules, event_at}
 use Rattle.mea_script.specs.Runs.{IsFault}
 use Rattle.mea_script.specs.Told.{Told, with_text, told_line, told_from}
 use Rattle.mea_script.proofs.Tells.{told_first, told_last, told_none, with_both, goes_further, goes_alike, ends_later, ends_now, status_of_stop, stops_at_fault}
@@ -145,11 +145,6 @@ pub short_line : {S E : Type 0} (m : Rules S E) (s : S) (line : List ℕ) → le
 short_line m s line few =
     let short : nat_lt 96 (length line) ≡ false = grind (arith, nat_tests) in
     ap (λ t. if t then None else m.event s line) short
-
--- an event that a line stands for is one of the rules
-pub is_event : {S E : Type 0} (m : Rules S E) (s : S) (line : List ℕ) (event : Option E) → event ≡ m.event s line → IfSome event (IsEvent m s)
-is_event m s line None is = tt
-is_event m s line (Some e) is = (line, sym is)
 
 -- what was done of the event is done of the line
 module _ {S E : Type 0} (m : Rules S E) (s t : S) (p q : Player) (line : List ℕ) (event : Option E) (is : event_at m s line ≡ event) where
