@@ -1,5 +1,5 @@
 -- the lines of semaphores are what their events say
-use Rattle.std.proofs.Common.{◌≡◌, ℕ, true, List, Option, Some, None, refl, ap, subst, ◌∙◌, rules}
+use Rattle.std.proofs.Common.{◌≡◌, ℕ, true, List, Some, None, refl, ap, subst, ◌∙◌, rules}
 use Rattle.std.specs.Option.{option_map_or}
 use Rattle.mea_events.specs.declared.sem_event.SemEvent.{SemEvent}
 use Rattle.mea_events.specs.declared.sem_event.SemEvent.TheVariants as Sems

@@ -1,13 +1,12 @@
 -- a line is read as its word and its numbers
-use Rattle.std.proofs.Common.{◌≡◌, ℕ, List, Option, Some, None, refl, option_and_then}
+use Rattle.std.proofs.Common.{◌≡◌, ℕ, List, Option, Some, None, refl}
 use Rattle.std.specs.Option.{option_map_or}
-use Rattle.mea_events.specs.declared.event.Event.{Event}
 use Rattle.mea_text.specs.declared.numbers.Numbers.{Numbers}
 use Rattle.mea_text.specs.declared.numbers.Numbers.TheVariants.{Bare}
 use Rattle.mea_text.specs.Words.{◌>>=◌, cut, numbers_of}
 use Rattle.mea_lines.specs.Lines.{event_of, event_of_word, word_and_numbers}
 
-by_numbers : {A B : Type 0} (f : List ℕ → Numbers → Option A) (word : List ℕ) (o : Option Numbers)
+by_numbers : {A : Type 0} (f : List ℕ → Numbers → Option A) (word : List ℕ) (o : Option Numbers)
     → (o >>= f word) ≡ ((o >>= (λ numbers. Some (word, numbers))) >>= (λ (p : List ℕ × Numbers). f p.0 p.1))
 by_numbers f word None = refl
 by_numbers f word (Some numbers) = refl

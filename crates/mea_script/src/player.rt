@@ -178,6 +178,7 @@ impl Player {
 
     // Plays the line that has begun and ends so.
     #[cold]
+    #[inline(never)]
     fn play_begun<M: Machine>(&mut self, machine: &mut M, end: &[u8]) -> Result<(), Status>
         requires few { self.old.lines ≤ limit }
         requires stands { M.stands_at machine.old self.old.lines }
