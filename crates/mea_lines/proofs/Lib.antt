@@ -7,3 +7,4 @@ pub mod OnceSpellings
 pub mod SemSpellings
 pub mod ShareSpellings
 pub mod Spellings
+pub mod Words

@@ -1,5 +1,5 @@
 -- each event has one spelling
-use Rattle.std.proofs.Common.{◌≡◌, ℕ, ◌++◌, true, List, ◌∷◌, Option, Some, ap, sym, subst, ◌∙◌, append-nil, option_and_then}
+use Rattle.std.proofs.Common.{◌≡◌, ℕ, ◌++◌, true, List, Some, ap, sym, subst, ◌∙◌, append-nil, option_and_then}
 use Rattle.std.proofs.lemmas.Option.{option_and_then_some}
 use Rattle.mea_events.specs.declared.event.Event.{Event}
 use Rattle.mea_events.specs.declared.event.Event.TheVariants.{Sem, Meet, Lock, Chan, Share, Once}

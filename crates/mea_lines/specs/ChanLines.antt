@@ -1,5 +1,5 @@
 -- the lines of channels and boxes
-use Rattle.std.specs.Prelude.{ℕ, List, [], ◌∷◌, codes}
+use Rattle.std.specs.Prelude.{List, [], ◌∷◌, codes}
 use Rattle.mea_events.specs.declared.chan_event.ChanEvent.{ChanEvent}
 use Rattle.mea_events.specs.declared.chan_event.ChanEvent.TheVariants as Chan
 use Rattle.mea_text.specs.Tables.{Line, alone, one, two}

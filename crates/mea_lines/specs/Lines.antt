@@ -14,6 +14,10 @@ use Rattle.mea_lines.specs.Marks.{marks, of_marks}
 unfoldable pub event_of_word : List ℕ → Numbers → Option Event
 event_of_word word numbers = option_map_or (λ parts. of_marks marks parts.0 parts.1 numbers) (cut 46 word) (of_table semaphore_lines word numbers >>= (λ event. Some (Sem event)))
 
+-- the word of a line, and the numbers after it
+abbrev pub word_and_numbers : List ℕ → Option (List ℕ × Numbers)
+word_and_numbers line = option_map_or (λ parts. numbers_of parts.1 >>= (λ numbers. Some (parts.0, numbers))) (cut 32 line) (Some (line, Bare))
+
 -- the event of a line, if it is one
 abbrev pub event_of : List ℕ → Option Event
 event_of line = option_map_or (λ parts. numbers_of parts.1 >>= event_of_word parts.0) (cut 32 line) (event_of_word line Bare)

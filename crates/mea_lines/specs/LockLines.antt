@@ -1,5 +1,5 @@
 -- the lines of locks
-use Rattle.std.specs.Prelude.{ℕ, List, [], ◌∷◌, codes}
+use Rattle.std.specs.Prelude.{List, [], ◌∷◌, codes}
 use Rattle.mea_events.specs.declared.lock_event.LockEvent.{LockEvent}
 use Rattle.mea_events.specs.declared.lock_event.LockEvent.TheVariants as Lock
 use Rattle.mea_text.specs.Tables.{Line, alone, one, two, three}

@@ -1,5 +1,5 @@
 -- the lines of meeting points
-use Rattle.std.specs.Prelude.{ℕ, List, [], ◌∷◌, codes}
+use Rattle.std.specs.Prelude.{List, [], ◌∷◌, codes}
 use Rattle.mea_events.specs.declared.meet_event.MeetEvent.{MeetEvent}
 use Rattle.mea_events.specs.declared.meet_event.MeetEvent.TheVariants as Meet
 use Rattle.mea_text.specs.Tables.{Line, alone, one, two, count, number_and_count}

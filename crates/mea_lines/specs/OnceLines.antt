@@ -1,5 +1,5 @@
 -- the lines of once types
-use Rattle.std.specs.Prelude.{ℕ, List, [], ◌∷◌, codes}
+use Rattle.std.specs.Prelude.{List, [], ◌∷◌, codes}
 use Rattle.mea_events.specs.declared.once_event.OnceEvent.{OnceEvent}
 use Rattle.mea_events.specs.declared.once_event.OnceEvent.TheVariants as Once
 use Rattle.mea_text.specs.Tables.{Line, alone, one, two}

@@ -1,5 +1,5 @@
 -- the lines of fair admission
-use Rattle.std.specs.Prelude.{ℕ, List, [], ◌∷◌, codes}
+use Rattle.std.specs.Prelude.{List, [], ◌∷◌, codes}
 use Rattle.mea_events.specs.declared.share_event.ShareEvent.{ShareEvent}
 use Rattle.mea_events.specs.declared.share_event.ShareEvent.TheVariants as Share
 use Rattle.mea_text.specs.Tables.{Line, one, two, three}

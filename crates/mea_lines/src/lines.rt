@@ -1,6 +1,7 @@
 ghost use Rattle.std.specs.Prelude.{◌≡◌, ◌<◌, ◌↔◌, ℕ, List, None, Some, length};
 ghost use Rattle.mea_events.specs.declared.event.Event.{Event as Line};
-ghost use Rattle.mea_lines.specs.Lines.{event_of, event_of_word};
+ghost use Rattle.std.specs.Option.{option_map};
+ghost use Rattle.mea_lines.specs.Lines.{event_of, event_of_word, word_and_numbers};
 ghost use Rattle.mea_lines.specs.Marks.{marks, of_marks};
 ghost use Rattle.mea_lines.specs.Spelling.{spelling, Fits};
 
@@ -17,24 +18,34 @@ use mea_text::{Numbers, cut, numbers_of};
 
 /// The event of a line without its newline, if it is one: a word and its numbers, each after one space. It
 /// takes no memory.
+#[tactic(auto, using(crate::proofs::Words::through_words))]
 pub fn event_of_line(line: &[u8]) -> Option<Event>
     ensures { result ≡ event_of line.now }
 {
+    let (word, numbers) = word_and_numbers(line)?;
+    event_of_word(word, numbers)
+}
+
+/// The word of a line, and the numbers after it.
+fn word_and_numbers(line: &[u8]) -> Option<(&[u8], Numbers)>
+    ensures { option_map (λ parts. (parts.0.now, parts.1)) result ≡ word_and_numbers line.now }
+{
     match cut(line, b' ') {
-        None => event_of_word(line, Numbers::Bare),
-        Some((word, rest)) => event_of_word(word, numbers_of(rest)?),
+        None => Some((line, Numbers::Bare)),
+        Some((word, rest)) => Some((word, numbers_of(rest)?)),
     }
 }
 
-/// The event of a word and its numbers.
-#[tactic(auto, unfolding(crate::specs::Lines::event_of_word))]
+/// The event of a word and its numbers. The words of semaphores have no dot.
+#[tactic(auto, unfolding(crate::specs::Lines::event_of_word), using(crate::proofs::SemSpellings::semaphore_first))]
 fn event_of_word(word: &[u8], numbers: Numbers) -> Option<Event>
     ensures { result ≡ event_of_word word.now numbers }
 {
-    match cut(word, b'.') {
-        None => semaphore_event(word, numbers).map(Event::Sem),
-        Some((mark, verb)) => marked_event(mark, verb, numbers),
+    if let Some(event) = semaphore_event(word, numbers) {
+        return Some(Event::Sem(event));
     }
+    let (mark, verb) = cut(word, b'.')?;
+    marked_event(mark, verb, numbers)
 }
 
 /// The event of a word that has a dot, by what stands before and after it.

@@ -1,13 +1,14 @@
 -- what a player is due, by the lines that are left
-use Rattle.std.proofs.Common.{◌≡◌, ◌⊎◌, inl, inr, ◌↔◌, ℕ, suc, ◌+◌, ◌<◌, ◌≤◌, Bool, true, false, IsTrue, List, [], ◌∷◌, ◌++◌, length, nat_lt, Option, Some, refl, ap, sym, subst, ◌∙◌, arith, append-nil, append_assoc, length-append}
+use Rattle.std.proofs.Common.{if◌then◌else◌, None, ◌≡◌, ◌⊎◌, inl, inr, ◌↔◌, ℕ, suc, ◌+◌, ◌<◌, ◌≤◌, Bool, true, false, IsTrue, List, [], ◌∷◌, ◌++◌, length, nat_lt, Option, Some, refl, ap, sym, subst, ◌∙◌, arith, append-nil, append_assoc, length-append}
+use Rattle.std.proofs.lemmas.Bool.Decides.{nat_tests}
 use Rattle.mea_io.specs.Bytes.{HasWrittenPart}
 use Rattle.mea_script.specs.declared.player.Player.{Player}
 use Rattle.mea_script.specs.declared.status.Status.{Status}
 use Rattle.mea_script.specs.Lines.{IsUnended}
 use Rattle.mea_script.specs.Player.{due, due_from, told_of, lines_left, GoesOn, Stops, Ends}
-use Rattle.mea_script.specs.Rules.{Rules}
+use Rattle.mea_script.specs.Rules.{Rules, event_at}
 use Rattle.mea_script.specs.Runs.{IsFault}
-use Rattle.mea_script.specs.Told.{Told, with_text, told_from}
+use Rattle.mea_script.specs.Told.{Told, with_text, told_line, told_from}
 use Rattle.mea_script.proofs.Tells.{told_first, told_last, told_none, with_both, goes_further, goes_alike, ends_later, ends_now, status_of_stop, stops_at_fault}
 
 pub due_last : {S E : Type 0} (m : Rules S E) (s : S) (p : Player) (line : List ℕ) (room : ℕ) → IsUnended line → 0 < length line → length line ≤ room
@@ -130,3 +131,42 @@ pub due_begun : {S E : Type 0} (m : Rules S E) (s : S) (p : Player) (now rest by
 due_begun m s p now rest bytes room =
     let size : length now + (length rest + room) ≡ length (now ++ rest) + room = omega (arith, length-append now rest) in
     λ i. due m s p (size i) (sym (append_assoc now rest bytes) i)
+
+-- ---- a line that is there whole
+
+-- one of more than 96 bytes stands for no event
+pub long_line : {S E : Type 0} (m : Rules S E) (s : S) (line : List ℕ) → 96 < length line → event_at m s line ≡ None
+long_line m s line more =
+    let long : nat_lt 96 (length line) ≡ true = grind (arith, nat_tests) in
+    ap (λ t. if t then None else m.event s line) long
+
+-- another for the one that the rules say
+pub short_line : {S E : Type 0} (m : Rules S E) (s : S) (line : List ℕ) → length line ≤ 96 → event_at m s line ≡ m.event s line
+short_line m s line few =
+    let short : nat_lt 96 (length line) ≡ false = grind (arith, nat_tests) in
+    ap (λ t. if t then None else m.event s line) short
+
+-- what was done of the event is done of the line
+module _ {S E : Type 0} (m : Rules S E) (s t : S) (p q : Player) (line : List ℕ) (event : Option E) (is : event_at m s line ≡ event) where
+  line_told : (long : Bool) (lines : List (List ℕ)) → due_from m s p long (line ∷ lines)
+      ≡ with_text p.text.items (told_line m s p.lines event (λ after. told_from m long after (p.lines + 1) lines))
+  line_told long lines = ap (λ o. with_text p.text.items (told_line m s p.lines o (λ after. told_from m long after (p.lines + 1) lines))) is
+
+  pub line_played : ((long : Bool) (lines : List (List ℕ)) → with_text p.text.items (told_line m s p.lines event (λ after. told_from m long after (p.lines + 1) lines)) ≡ due_from m t q long lines)
+      → (long : Bool) (lines : List (List ℕ)) → due_from m s p long (line ∷ lines) ≡ due_from m t q long lines
+  line_played played = λ long lines. line_told long lines ∙ played long lines
+
+  pub line_stops : (status : Status) (new : List ℕ) → ((long : Bool) (lines : List (List ℕ)) → Stops status (with_text p.text.items (told_line m s p.lines event (λ after. told_from m long after (p.lines + 1) lines))) new)
+      → (long : Bool) (lines : List (List ℕ)) → Stops status (due_from m s p long (line ∷ lines)) new
+  line_stops status new stops = λ long lines. stops_due status new _ _ (line_told long lines) (stops long lines)
+
+-- where no line has begun, a line is what ends it
+pub alone_played : {S E : Type 0} (m : Rules S E) (s t : S) (p q : Player) (line end : List ℕ) → line ≡ []
+    → ((long : Bool) (lines : List (List ℕ)) → due_from m s p long (end ∷ lines) ≡ due_from m t q long lines)
+    → (long : Bool) (lines : List (List ℕ)) → due_from m s p long ((line ++ end) ∷ lines) ≡ due_from m t q long lines
+alone_played m s t p q line end none played long lines = ap (λ l. due_from m s p long ((l ++ end) ∷ lines)) none ∙ played long lines
+
+pub alone_stops : {S E : Type 0} (m : Rules S E) (s : S) (p : Player) (line end new : List ℕ) (status : Status) → line ≡ []
+    → ((long : Bool) (lines : List (List ℕ)) → Stops status (due_from m s p long (end ∷ lines)) new)
+    → (long : Bool) (lines : List (List ℕ)) → Stops status (due_from m s p long ((line ++ end) ∷ lines)) new
+alone_stops m s p line end new status none stops long lines = stops_due status new _ _ (ap (λ l. due_from m s p long ((l ++ end) ∷ lines)) none) (stops long lines)

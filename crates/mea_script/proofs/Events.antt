@@ -1,5 +1,5 @@
 -- what each event keeps holds of a script, and two machines that go together tell the same of it
-use Rattle.std.proofs.Common.{◌≡◌, ℕ, ◌+◌, Bool, true, false, List, [], ◌∷◌, nat_lt, length, Option, Some, None, if◌then◌else◌, refl, ap, sym, ◌∙◌}
+use Rattle.std.proofs.Common.{◌≡◌, ℕ, ◌+◌, Bool, true, false, List, [], ◌∷◌, nat_lt, length, Option, Some, None, if◌then◌else◌, refl, ap, ◌∙◌}
 use Rattle.mea_family.specs.declared.stop.Stop.{Stop}
 use Rattle.mea_script.specs.Lines.{is_long, lines_of}
 use Rattle.mea_script.specs.Rules.{Rules, event_at}

@@ -8,7 +8,7 @@ use mea_text::put_text;
 use std::alloc::Global;
 
 /// How many bytes of a line are kept. A line that has more is no event line.
-const MOST: usize = 96;
+pub const MOST: usize = 96;
 
 /// A line that has begun and whose end has not come.
 #[derive(Drop)]
@@ -58,9 +58,6 @@ impl Begun {
         ensures spelled { IfOk result (λ event. IfSome event (IsEvent M.rules (M.state machine.now))) }
         ensures next { OnOk result ((line : List ℕ) → Keeps self.old line → Keeps self.new []) }
     {
-        if self.is_empty() {
-            return Ok(event_of(machine, end));
-        }
         self.add(end)?;
         let event = self.event(machine);
         self.kept.clear();
@@ -78,17 +75,5 @@ impl Begun {
         } else {
             machine.event_of_line(self.kept.as_slice())
         }
-    }
-}
-
-// The event of a line that is there whole.
-fn event_of<M: Machine>(machine: &M, line: &[u8]) -> Option<M::Event>
-    ensures event { result ≡ event_at M.rules (M.state machine.now) line.now }
-    ensures spelled { IfSome result (IsEvent M.rules (M.state machine.now)) }
-{
-    if line.len() > MOST {
-        None
-    } else {
-        machine.event_of_line(line)
     }
 }

@@ -9,7 +9,7 @@ ghost use Rattle.mea_script.specs.Rules.{event_at, IsEvent};
 ghost use Rattle.mea_script.specs.Runs.{IsFault, IsOfRules, line_of};
 ghost use Rattle.mea_script.specs.Told.{ending, told_line, told_from, with_text};
 
-use crate::begun::Begun;
+use crate::begun::{Begun, MOST};
 use crate::ending::put_ending;
 use crate::machine::Machine;
 use crate::status::Status;
@@ -17,7 +17,7 @@ use crate::transfer::write_last;
 use mea_base::NoMemory;
 use mea_family::Stop;
 use mea_io::{PutFault, Sink, write_text};
-use mea_text::cut;
+use mea_text::cut_line;
 use std::alloc::Global;
 
 /// How many bytes of text are kept before they are written.
@@ -76,7 +76,7 @@ impl Player {
         ensures faults { K.faults sink.old ≤ K.faults sink.new }
     {
         let mut rest = piece;
-        while let Some((end, after)) = cut(rest, b'\n') {
+        while let Some((end, after)) = cut_line(rest) {
             self.play_line(machine, end)?;
             self.write_full(sink)?;
             rest = after;
@@ -131,7 +131,7 @@ impl Player {
         write_last(sink, self.text.as_slice(), status)
     }
 
-    // Plays the line that has begun and ends so.
+    // Plays the line that ends so, whether or not it has begun before.
     fn play_line<M: Machine>(&mut self, machine: &mut M, end: &[u8]) -> Result<(), Status>
         requires few { self.old.lines ≤ limit }
         requires stands { M.stands_at machine.old self.old.lines }
@@ -146,37 +146,85 @@ impl Player {
         ensures rules { IfErr result (IsOfRules M.rules) }
         ensures transfer { IfErr result IsNoTransfer }
     {
-        match self.begun.finish(machine, end) {
-            Ok(event) => self.play_event(machine, event),
-            Err(_) => Err(Status::NoMemory),
+        if self.begun.is_empty() {
+            self.play_whole(machine, end)
+        } else {
+            self.play_begun(machine, end)
         }
     }
 
-    // Plays the event of a line, if it has one.
-    fn play_event<M: Machine>(
-        &mut self,
-        machine: &mut M,
-        event: Option<M::Event>,
-    ) -> Result<(), Status>
-        requires spelled { IfSome event (IsEvent M.rules (M.state machine.old)) }
+    // Plays a line that is there whole, where none has begun.
+    #[inline(always)]
+    fn play_whole<M: Machine>(&mut self, machine: &mut M, line: &[u8]) -> Result<(), Status>
         requires few { self.old.lines ≤ limit }
         requires stands { M.stands_at machine.old self.old.lines }
         ensures stands { OnOk result (M.stands_at machine.new self.new.lines) }
         ensures counted { OnOk result (self.new.lines ≡ self.old.lines + 1) }
         ensures begun { self.new.begun ≡ self.old.begun }
         ensures played { OnOk result ((long : Bool) (lines : List (List ℕ))
-            → with_text self.old.text.items (told_line M.rules (M.state machine.old) self.old.lines event (λ after. told_from M.rules long after (self.old.lines + 1) lines))
+            → due_from M.rules (M.state machine.old) self.old long (line.now ∷ lines) ≡ due_from M.rules (M.state machine.new) self.new long lines) }
+        ensures line { IfErr result (λ status. (n : ℕ) → line_of status ≡ Some n → self.old.lines ≤ n) }
+        ensures stops { IfErr result (λ status. (long : Bool) (lines : List (List ℕ))
+            → Stops status (due_from M.rules (M.state machine.old) self.old long (line.now ∷ lines)) self.new.text.items) }
+        ensures rules { IfErr result (IsOfRules M.rules) }
+        ensures transfer { IfErr result IsNoTransfer }
+    {
+        if line.len() > MOST {
+            return self.play_event(machine, &None);
+        }
+        let event = machine.event_of_line(line);
+        self.play_event(machine, &event)
+    }
+
+    // Plays the line that has begun and ends so.
+    #[cold]
+    #[inline(never)]
+    fn play_begun<M: Machine>(&mut self, machine: &mut M, end: &[u8]) -> Result<(), Status>
+        requires few { self.old.lines ≤ limit }
+        requires stands { M.stands_at machine.old self.old.lines }
+        ensures stands { OnOk result (M.stands_at machine.new self.new.lines) }
+        ensures counted { OnOk result (self.new.lines ≡ self.old.lines + 1) }
+        ensures begun { OnOk result ((line : List ℕ) → Keeps self.old.begun line → Keeps self.new.begun []) }
+        ensures played { OnOk result ((line : List ℕ) (long : Bool) (lines : List (List ℕ)) → Keeps self.old.begun line
+            → due_from M.rules (M.state machine.old) self.old long ((line ++ end.now) ∷ lines) ≡ due_from M.rules (M.state machine.new) self.new long lines) }
+        ensures line { IfErr result (λ status. (n : ℕ) → line_of status ≡ Some n → self.old.lines ≤ n) }
+        ensures stops { IfErr result (λ status. (line : List ℕ) (long : Bool) (lines : List (List ℕ)) → Keeps self.old.begun line
+            → Stops status (due_from M.rules (M.state machine.old) self.old long ((line ++ end.now) ∷ lines)) self.new.text.items) }
+        ensures rules { IfErr result (IsOfRules M.rules) }
+        ensures transfer { IfErr result IsNoTransfer }
+    {
+        match self.begun.finish(machine, end) {
+            Ok(event) => self.play_event(machine, &event),
+            Err(_) => Err(Status::NoMemory),
+        }
+    }
+
+    // Plays the event of a line, if it has one.
+    #[inline(always)]
+    fn play_event<M: Machine>(
+        &mut self,
+        machine: &mut M,
+        event: &Option<M::Event>,
+    ) -> Result<(), Status>
+        requires spelled { IfSome event.now (IsEvent M.rules (M.state machine.old)) }
+        requires few { self.old.lines ≤ limit }
+        requires stands { M.stands_at machine.old self.old.lines }
+        ensures stands { OnOk result (M.stands_at machine.new self.new.lines) }
+        ensures counted { OnOk result (self.new.lines ≡ self.old.lines + 1) }
+        ensures begun { self.new.begun ≡ self.old.begun }
+        ensures played { OnOk result ((long : Bool) (lines : List (List ℕ))
+            → with_text self.old.text.items (told_line M.rules (M.state machine.old) self.old.lines event.now (λ after. told_from M.rules long after (self.old.lines + 1) lines))
             ≡ due_from M.rules (M.state machine.new) self.new long lines) }
         ensures line { IfErr result (λ status. (n : ℕ) → line_of status ≡ Some n → self.old.lines ≤ n) }
         ensures stops { IfErr result (λ status. (long : Bool) (lines : List (List ℕ))
-            → Stops status (with_text self.old.text.items (told_line M.rules (M.state machine.old) self.old.lines event (λ after. told_from M.rules long after (self.old.lines + 1) lines))) self.new.text.items) }
+            → Stops status (with_text self.old.text.items (told_line M.rules (M.state machine.old) self.old.lines event.now (λ after. told_from M.rules long after (self.old.lines + 1) lines))) self.new.text.items) }
         ensures rules { IfErr result (IsOfRules M.rules) }
         ensures transfer { IfErr result IsNoTransfer }
     {
         let Some(event) = event else {
             return Err(self.end(Ok(()), true, false));
         };
-        match play(machine, self.lines, &event, &mut self.text) {
+        match play(machine, self.lines, event, &mut self.text) {
             Ok(()) => {
                 self.lines += 1;
                 Ok(())
@@ -240,6 +288,7 @@ impl Player {
 }
 
 // Plays an event and puts its reply. On an error the text has not changed.
+#[inline(always)]
 fn play<M: Machine>(
     machine: &mut M,
     number: u64,

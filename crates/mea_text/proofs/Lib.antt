@@ -3,6 +3,7 @@ pub mod Cuts
 pub mod Digits
 pub mod Firsts
 pub mod Numerals
+pub mod Places
 pub mod Puts
 pub mod Readings
 pub mod Tables

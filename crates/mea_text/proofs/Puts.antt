@@ -1,5 +1,5 @@
 -- texts that grow at their end
-use Rattle.std.proofs.Common.{◌≡◌, ℕ, ◌++◌, ◌≤◌, List, length, take, ap, sym, ◌∙◌, arith, length-append}
+use Rattle.std.proofs.Common.{◌≡◌, ℕ, ◌-◌, ◌++◌, ◌≤◌, List, codes, length, take, ap, sym, ◌∙◌, arith, length-append}
 use Rattle.std.proofs.lemmas.List.{take-take}
 use Rattle.std.proofs.Math.Seq.{take-append_seam}
 
@@ -10,3 +10,9 @@ kept_before old put mid new is kept =
     sym (take-take (length old) (length mid) new longer)
     ∙ ap (take (length old)) (kept ∙ is)
     ∙ take-append_seam old put
+
+-- a word is what stands before the newline of its line
+pub before_newline : (line word : List ℕ) → line ≡ word ++ codes "\n" → take (length line - 1) line ≡ word
+before_newline line word is =
+    let size : length line - 1 ≡ length word = omega (arith, ap length is, length-append word (codes "\n")) in
+    (λ i. take (size i) (is i)) ∙ take-append_seam word (codes "\n")

@@ -13,6 +13,10 @@ next_of bs i more = let e : suc i ≡ i + 1 = omega arith in drop-cons bs i 0 mo
 digit_is : (c : ℕ) → is_ascii_digit c ≡ true → digit_value c ≡ c - 48
 digit_is c is = grind (arith, nat_tests)
 
+-- a digit is no space
+pub apart_of : (c : ℕ) → is_ascii_digit c ≡ true → (c == 32) ≡ false
+apart_of c is = grind (arith, nat_tests)
+
 pub value_grows : (m : ℕ) (ds : List ℕ) → m ≤ digits_value_after 10 m ds
 value_grows m [] = omega arith
 value_grows m (d ∷ ds) = let later = value_grows (m * 10 + digit_value d) ds in omega (arith, later)

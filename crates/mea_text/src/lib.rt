@@ -10,7 +10,7 @@ mod reply;
 mod text;
 
 pub use command::{command_numbers, numbers_of_command};
-pub use cutting::{cut, is};
+pub use cutting::{cut, cut_line, is};
 pub use number::{count_of, number_of};
 pub use numbers::{Numbers, numbers_of};
 pub use reply::put_reply;

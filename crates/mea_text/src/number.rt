@@ -47,10 +47,10 @@ fn digits_of(bytes: &[u8]) -> Option<(u64, usize)>
     let mut value: u64 = 0;
     let mut digits: usize = 0;
     for byte in bytes {
-        if *byte == b' ' {
-            break;
-        }
         if !byte.is_ascii_digit() {
+            if *byte == b' ' {
+                break;
+            }
             return None;
         }
         let digit = u64::from(*byte - b'0');

@@ -1,4 +1,4 @@
-ghost use Rattle.std.specs.Prelude.{◌≡◌, ◌++◌, take, length, OnOk, OnErr};
+ghost use Rattle.std.specs.Prelude.{◌≡◌, ◌++◌, [], take, length, codes, IsTrue, OnOk, OnErr};
 ghost use Rattle.mea_text.specs.Text.{numbers_text};
 ghost use Rattle.mea_text.specs.Reply.{word_of, numbers_in, account_numbers, wakes_text, reply_text};
 
@@ -11,6 +11,9 @@ pub fn put_reply(out: &mut Vec<u8>, answer: &Answer, wakes: &[u64]) -> Result<()
     ensures ok { OnOk result (out.new.items ≡ out.old.items ++ reply_text answer.now wakes.now) }
     ensures err { OnErr result (out.new.items ≡ out.old.items) }
 {
+    if wakes.is_empty() && is_bare(answer) {
+        return put_text(out, line_of(answer));
+    }
     let start = out.len();
     let put = put_parts(out, answer, wakes);
     if put.is_err() {
@@ -20,6 +23,7 @@ pub fn put_reply(out: &mut Vec<u8>, answer: &Answer, wakes: &[u64]) -> Result<()
 }
 
 /// Appends the parts of a reply, or some of them.
+#[inline(never)]
 #[tactic(auto, using(crate::proofs::Puts::kept_before))]
 fn put_parts(out: &mut Vec<u8>, answer: &Answer, wakes: &[u64]) -> Result<(), NoMemory>
     ensures ok { OnOk result (out.new.items ≡ out.old.items ++ reply_text answer.now wakes.now) }
@@ -31,37 +35,67 @@ fn put_parts(out: &mut Vec<u8>, answer: &Answer, wakes: &[u64]) -> Result<(), No
     put_text(out, b"\n")
 }
 
+/// Whether an answer is a word alone.
+fn is_bare(answer: &Answer) -> bool
+    ensures { IsTrue result → numbers_in answer.now ≡ [] }
+{
+    matches!(
+        answer,
+        Answer::Made
+            | Answer::Held
+            | Answer::Lacking
+            | Answer::Yes
+            | Answer::No
+            | Answer::Ready
+            | Answer::Pending
+            | Answer::Leader
+            | Answer::Done
+            | Answer::Accepted
+            | Answer::Empty
+            | Answer::Gone
+    )
+}
+
+#[tactic(auto, using(crate::proofs::Puts::before_newline))]
 fn word_of(answer: &Answer) -> &'static [u8]
     ensures { result.now ≡ word_of answer.now }
 {
+    let line = line_of(answer);
+    &line[..line.len() - 1]
+}
+
+/// The word of an answer, with a newline after it.
+fn line_of(answer: &Answer) -> &'static [u8]
+    ensures { result.now ≡ word_of answer.now ++ codes "\n" }
+{
     match answer {
-        Answer::Made => b"made",
-        Answer::Held => b"some",
-        Answer::Lacking => b"none",
-        Answer::Yes => b"yes",
-        Answer::No => b"no",
-        Answer::Ready => b"ready",
-        Answer::Pending => b"pending",
-        Answer::Leader => b"leader",
-        Answer::Done => b"done",
-        Answer::Accepted => b"ok",
-        Answer::Full(_) => b"full",
-        Answer::Closed(_) => b"closed",
-        Answer::Got(_) => b"got",
-        Answer::Empty => b"empty",
-        Answer::Gone => b"gone",
-        Answer::Free(_) => b"free",
-        Answer::Forgot(_) => b"forgot",
-        Answer::Permits(_) => b"permits",
-        Answer::Count(_) => b"count",
-        Answer::Left(_) => b"left",
-        Answer::Value(_) => b"value",
-        Answer::Failure(_) => b"err",
-        Answer::Back(_) => b"back",
-        Answer::Kept(..) => b"held",
-        Answer::Key(_) => b"key",
-        Answer::Lagged(_) => b"lagged",
-        Answer::Account(_) => b"ledger",
+        Answer::Made => b"made\n",
+        Answer::Held => b"some\n",
+        Answer::Lacking => b"none\n",
+        Answer::Yes => b"yes\n",
+        Answer::No => b"no\n",
+        Answer::Ready => b"ready\n",
+        Answer::Pending => b"pending\n",
+        Answer::Leader => b"leader\n",
+        Answer::Done => b"done\n",
+        Answer::Accepted => b"ok\n",
+        Answer::Full(_) => b"full\n",
+        Answer::Closed(_) => b"closed\n",
+        Answer::Got(_) => b"got\n",
+        Answer::Empty => b"empty\n",
+        Answer::Gone => b"gone\n",
+        Answer::Free(_) => b"free\n",
+        Answer::Forgot(_) => b"forgot\n",
+        Answer::Permits(_) => b"permits\n",
+        Answer::Count(_) => b"count\n",
+        Answer::Left(_) => b"left\n",
+        Answer::Value(_) => b"value\n",
+        Answer::Failure(_) => b"err\n",
+        Answer::Back(_) => b"back\n",
+        Answer::Kept(..) => b"held\n",
+        Answer::Key(_) => b"key\n",
+        Answer::Lagged(_) => b"lagged\n",
+        Answer::Account(_) => b"ledger\n",
     }
 }
 
@@ -69,7 +103,7 @@ fn put_numbers(out: &mut Vec<u8>, answer: &Answer) -> Result<(), NoMemory>
     ensures ok { OnOk result (out.new.items ≡ out.old.items ++ numbers_text (numbers_in answer.now)) }
     ensures kept { take (length out.old.items) out.new.items ≡ out.old.items }
 {
-    match *answer {
+    match answer {
         Answer::Full(n)
         | Answer::Closed(n)
         | Answer::Got(n)
@@ -82,12 +116,12 @@ fn put_numbers(out: &mut Vec<u8>, answer: &Answer) -> Result<(), NoMemory>
         | Answer::Failure(n)
         | Answer::Back(n)
         | Answer::Key(n)
-        | Answer::Lagged(n) => put_number(out, n),
+        | Answer::Lagged(n) => put_number(out, *n),
         Answer::Kept(kept, back) => {
-            put_number(out, kept)?;
-            put_number(out, back)
+            put_number(out, *kept)?;
+            put_number(out, *back)
         }
-        Answer::Account(ledger) => put_account(out, &ledger),
+        Answer::Account(ledger) => put_account(out, ledger),
         _ => Ok(()),
     }
 }

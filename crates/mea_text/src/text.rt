@@ -5,7 +5,21 @@ use itoa::Buffer;
 use mea_base::NoMemory;
 
 /// Appends a space and a number in decimal. On an error nothing has changed.
+#[inline(always)]
+#[tactic(auto, using(std::proofs::lemmas::Fmt::decimal_digit))]
 pub fn put_number(out: &mut Vec<u8>, n: u64) -> Result<(), NoMemory>
+    ensures ok { OnOk result (out.new.items ≡ out.old.items ++ number_text n) }
+    ensures err { OnErr result (out.new.items ≡ out.old.items) }
+{
+    if n < 10 {
+        return put_text(out, &[b' ', b'0' + n as u8]);
+    }
+    put_long_number(out, n)
+}
+
+// Appends a space and a number of any length in decimal. On an error nothing has changed.
+#[inline(never)]
+fn put_long_number(out: &mut Vec<u8>, n: u64) -> Result<(), NoMemory>
     ensures ok { OnOk result (out.new.items ≡ out.old.items ++ number_text n) }
     ensures err { OnErr result (out.new.items ≡ out.old.items) }
 {

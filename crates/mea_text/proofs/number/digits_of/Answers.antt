@@ -2,7 +2,7 @@ use Rattle.std.proofs.Common.{◌≡◌, ◌+◌, ◌-◌, ◌*◌, true, false,
 use Rattle.std.specs.Str.Parse.{digits_value_after}
 use Rattle.std.proofs.lemmas.Bool.{ne_eqb}
 use Rattle.mea_text.specs.Words.{before_space}
-use Rattle.mea_text.proofs.Values.{all_more, not_all, place_goes, value_grows, value_more}
+use Rattle.mea_text.proofs.Values.{apart_of, all_more, not_all, place_goes, value_grows, value_more}
 use Rattle.mea_text.proofs.number.digits_of.Goals as goal
 
 pub returns-then-not-is_ascii_digit : goal.returns-then-not-is_ascii_digit
@@ -16,7 +16,7 @@ returns-in_err-checked_mul c = rw c.from_residual.ensures (λ h.
     let bs = c.args.bytes.now in
     let i = c.loop-byte.byte-index in
     let m = c.loop-byte.value in
-    let more = value_more bs i c.loop-byte-test.true m (ne_eqb (get_or bs i 0) 32 c.if-byte-eq32.false) (sym c.if-not-is_ascii_digit.ensures.value) in
+    let more = value_more bs i c.loop-byte-test.true m (apart_of (get_or bs i 0) (sym c.if-not-is_ascii_digit.ensures.value)) (sym c.if-not-is_ascii_digit.ensures.value) in
     let least = value_grows (m * 10 + (get_or bs i 0 - 48)) (before_space (drop (i + 1) bs)) in
     omega (arith, h.1, c.loop-byte.invariant.told, more, least, c.in_err-checked_mul.ensures))
 
@@ -25,7 +25,7 @@ returns-in_err-value c = rw c.from_residual-in_err-value.ensures (λ h.
     let bs = c.args.bytes.now in
     let i = c.loop-byte.byte-index in
     let m = c.loop-byte.value in
-    let more = value_more bs i c.loop-byte-test.true m (ne_eqb (get_or bs i 0) 32 c.if-byte-eq32.false) (sym c.if-not-is_ascii_digit.ensures.value) in
+    let more = value_more bs i c.loop-byte-test.true m (apart_of (get_or bs i 0) (sym c.if-not-is_ascii_digit.ensures.value)) (sym c.if-not-is_ascii_digit.ensures.value) in
     let least = value_grows (m * 10 + (get_or bs i 0 - 48)) (before_space (drop (i + 1) bs)) in
     omega (arith, h.1, c.loop-byte.invariant.told, more, least, c.in_err-value.ensures, c.in_ok-checked_mul.ensures, c.from-digit.ensures))
 
@@ -34,8 +34,8 @@ loop-byte-preserved c =
     let bs = c.args.bytes.now in
     let i = c.loop-byte.byte-index in
     let m = c.loop-byte.value in
-    let apart = ne_eqb (get_or bs i 0) 32 c.if-byte-eq32.false in
     let digit = sym c.if-not-is_ascii_digit.ensures.value in
+    let apart = apart_of (get_or bs i 0) digit in
     let goes = place_goes bs i c.loop-byte-test.true apart in
     let same : c.in_ok-value.value ≡ m * 10 + (get_or bs i 0 - 48) = omega (arith, c.in_ok-value.ensures, c.in_ok-checked_mul.ensures, c.from-digit.ensures) in
     record {

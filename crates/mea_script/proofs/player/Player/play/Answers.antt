@@ -13,7 +13,7 @@ returns-in_err-play_line-clause-status g c =
     let p = err_from_is_err_and c.from_residual.result c.from_residual.ensures.1 in
     rw (p.1, p.2) (λ line bytes room keeps unended.
     let so_far = c.loop-end.invariant.told line bytes room keeps unended in
-    let parts = cut_joins c.loop-end.rest.now c.in-Some.end.now c.in-Some.after.now (rw c.in-Some.is at c.cut.ensures) in
+    let parts = cut_joins c.loop-end.rest.now c.in-Some.end.now c.in-Some.after.now (rw c.in-Some.is at c.cut_line.ensures) in
     stopped_status g.M.Machine.rules (g.M.Machine.state c.loop-end.machine) _ c.loop-end.self so_far.0 c.in-Some.end.now c.in-Some.after.now c.loop-end.rest.now bytes room _ _ so_far.3 parts.0
     (unended_append so_far.0 c.in-Some.end.now so_far.2 parts.1) c.in_err-play_line.field-0.0 c.play_line.new.self.text.items
     (λ long lines. c.in_err-play_line.ensures.stops so_far.0 long lines so_far.1))
@@ -23,7 +23,7 @@ returns-in_err-play_line-clause-text g c =
     let p = err_from_is_err_and c.from_residual.result c.from_residual.ensures.1 in
     rw (p.1, p.2) (λ line bytes before room keeps unended is.
     let so_far = c.loop-end.invariant.told line bytes room keeps unended in
-    let parts = cut_joins c.loop-end.rest.now c.in-Some.end.now c.in-Some.after.now (rw c.in-Some.is at c.cut.ensures) in
+    let parts = cut_joins c.loop-end.rest.now c.in-Some.end.now c.in-Some.after.now (rw c.in-Some.is at c.cut_line.ensures) in
     stopped_text g.M.Machine.rules (g.M.Machine.state c.loop-end.machine) _ c.loop-end.self so_far.0 c.in-Some.end.now c.in-Some.after.now c.loop-end.rest.now bytes room _ _ so_far.3 parts.0
     (unended_append so_far.0 c.in-Some.end.now so_far.2 parts.1) c.in_err-play_line.field-0.0 c.play_line.new.self.text.items
     (λ long lines. c.in_err-play_line.ensures.stops so_far.0 long lines so_far.1) before is)
@@ -33,7 +33,7 @@ returns-in_err-write_full-clause-text g c =
     let p = err_from_is_err_and c.from_residual-in_err-write_full.result c.from_residual-in_err-write_full.ensures.1 in
     rw (p.1, p.2) (λ line bytes before room keeps unended is.
     let so_far = c.loop-end.invariant.told line bytes room keeps unended in
-    let parts = cut_joins c.loop-end.rest.now c.in-Some.end.now c.in-Some.after.now (rw c.in-Some.is at c.cut.ensures) in
+    let parts = cut_joins c.loop-end.rest.now c.in-Some.end.now c.in-Some.after.now (rw c.in-Some.is at c.cut_line.ensures) in
     ends_line g.M.Machine.rules (g.M.Machine.state c.loop-end.machine) (g.M.Machine.state c.play_line.new.machine) _ c.loop-end.self c.play_line.new.self so_far.0 c.in-Some.end.now c.in-Some.after.now c.loop-end.rest.now bytes before room _ _ _
     c.in_err-write_full.field-0.0 c.write_full.new.self.text.items so_far.3 parts.0 (unended_append so_far.0 c.in-Some.end.now so_far.2 parts.1)
     (λ long lines. c.in_ok-play_line.ensures.played so_far.0 long lines so_far.1)
@@ -41,7 +41,7 @@ returns-in_err-write_full-clause-text g c =
 
 pub loop-end-preserved : goal.loop-end-preserved
 loop-end-preserved g c =
-    let parts = cut_joins c.loop-end.rest.now c.in-Some.end.now c.in-Some.after.now (rw c.in-Some.is at c.cut.ensures) in
+    let parts = cut_joins c.loop-end.rest.now c.in-Some.end.now c.in-Some.after.now (rw c.in-Some.is at c.cut_line.ensures) in
     record {
       stands = subst (g.M.Machine.stands_at c.play_line.new.machine) (sym c.write_full.ensures.lines) c.in_ok-play_line.ensures.stands;
       more = omega (arith, c.write_full.ensures.lines, c.in_ok-play_line.ensures.counted, c.loop-end.invariant.more);
@@ -67,14 +67,14 @@ returns-in_err-play_line-clause-line g c =
     rw (p.1, p.2) (λ n is. omega (arith, c.in_err-play_line.ensures.line n is, c.loop-end.invariant.more))
 
 pub returns-in-Ok-clause-counted : goal.returns-in-Ok-clause-counted
-returns-in-Ok-clause-counted g c = omega (arith, c.loop-end.invariant.counted, none_ended c.loop-end.rest.now (cut_nothing c.loop-end.rest.now (rw c.in_default.is at c.cut.ensures)))
+returns-in-Ok-clause-counted g c = omega (arith, c.loop-end.invariant.counted, none_ended c.loop-end.rest.now (cut_nothing c.loop-end.rest.now (rw c.in_default.is at c.cut_line.ensures)))
 
 pub returns-in-Ok-clause-goes_on : goal.returns-in-Ok-clause-goes_on
 returns-in-Ok-clause-goes_on g c = λ line bytes room keeps unended.
     let so_far = c.loop-end.invariant.told line bytes room keeps unended in (
       so_far.0 ++ c.loop-end.rest.now,
       c.in-Ok.ensures so_far.0 so_far.1,
-      unended_append so_far.0 c.loop-end.rest.now so_far.2 (cut_nothing c.loop-end.rest.now (rw c.in_default.is at c.cut.ensures)),
+      unended_append so_far.0 c.loop-end.rest.now so_far.2 (cut_nothing c.loop-end.rest.now (rw c.in_default.is at c.cut_line.ensures)),
       goes_alike _ _ _ _ _ (due_begun g.M.Machine.rules (g.M.Machine.state c.loop-end.machine) c.loop-end.self so_far.0 c.loop-end.rest.now bytes room) so_far.3,
     )
 
