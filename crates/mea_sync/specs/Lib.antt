@@ -2,3 +2,4 @@ pub mod Forgets
 pub mod Notified
 pub mod Permits
 pub mod Slot
+pub mod Writes
