@@ -1,4 +1,4 @@
-ghost use Rattle.std.specs.Prelude.{◌≡◌, ◌≢◌, ◌+◌, ◌-◌, ◌<◌, ◌≤◌, ◌^◌, ◌↔◌, [], ◌∷◌, ◌++◌, length, Some, None, Ok, Err, false, true, IfOk, IfErr, IfSome, IfNone, OnOk, OnErr, IsErr, IsTrue, is_some};
+ghost use Rattle.std.specs.Prelude.{◌≡◌, ◌≢◌, ◌+◌, ◌-◌, ◌<◌, ◌≤◌, ◌^◌, ◌↔◌, [], ◌∷◌, ◌++◌, length, Some, None, Ok, Err, false, true, IfOk, IfErr, IfSome, IfNone, OnOk, OnErr, IsOk, IsErr, IsSome, IsTrue, is_some};
 ghost use Rattle.mea_sem_core.specs.Acquire.{demand_of};
 ghost use Rattle.mea_sem_core.specs.Calls.{Belongs, with_waker};
 ghost use Rattle.mea_chan_core.specs.Channel.{Channel, no_senders};
@@ -208,7 +208,8 @@ impl<T: Drop, W: Drop> BoundedCore<T, W> {
     /// Polls a receive: ready as `try_recv`, or pending with the waker in the place of the one before. It takes memory
     /// only where it is pending, and where there is none the waker comes back and nothing has changed.
     pub fn poll_recv(&mut self, waker: W) -> Result<Poll<Result<T, RecvError>>, (W, NoMemory)>
-        ensures { PollsRecv self.old waker (recv_answer self.old) result self.new }
+        ensures polls { PollsRecv self.old waker (recv_answer self.old) result self.new }
+        ensures replaces { IsSome self.old.waker → IsOk result }
     {
         match self.try_recv() {
             Ok(value) => Ok(Poll::Ready(Ok(value))),
@@ -346,6 +347,7 @@ impl<T: Drop, W: Drop> BoundedCore<T, W> {
         requires { (self.old.queued ≡ []) × (0 < self.old.senders) }
         ensures ok { OnOk result (self.new ≡ record self.old { waker = Some waker }) }
         ensures err { IfErr result (λ e. (e.0 ≡ waker) × (self.new ≡ self.old)) }
+        ensures replaces { IsSome self.old.waker → IsOk result }
     {
         let Some(wanted) = self.waiting.queue_len().checked_add(1) else {
             return Err((waker, NoMemory));

@@ -1,10 +1,11 @@
 -- what the program over a crew reads and writes
-use Rattle.std.specs.Prelude.{ℕ, ◌≡◌, ◌≢◌, ◌+◌, ◌*◌, ◌≤◌, ◌++◌, Bool, List, [], ◌∷◌, codes, length, count_by}
+use Rattle.std.specs.Prelude.{ℕ, ◌≡◌, ◌≢◌, ◌+◌, ◌*◌, ◌≤◌, ◌++◌, Bool, List, [], ◌∷◌, codes, length, count_by, slice_get, Some}
 use Rattle.std.specs.Fmt.{decimal}
 use Rattle.mea_family.specs.declared.answer.Answer.{Answer}
 use Rattle.mea_family.specs.declared.answer.Answer.TheVariants.{Account}
 use Rattle.mea_text.specs.Text.{counted_line}
 use Rattle.mea_text.specs.Reply.{reply_text}
+use Rattle.mea_events.specs.declared.sem_event.SemEvent.TheVariants.{New}
 use Rattle.mea_sem_model.specs.Step.{ledger_of}
 use Rattle.mea_recorded.specs.History.{History, IsHistory, hall_after}
 use Rattle.mea_family.specs.declared.stop.Stop.TheVariants as stops
@@ -34,6 +35,8 @@ text_of h = counted_line (codes "calls") (length h.events) ++ counted_line (code
 -- the history of so many workers with so many rounds each
 pub record IsOfCrew (workers rounds : ℕ) (h : History) : Type 0 where
   pub history : IsHistory h
+  -- the crew shares a semaphore of two permits
+  pub begins : slice_get h.events 0 ≡ Some (New 2)
   pub least : 1 + workers * rounds ≤ length h.events
   pub most : length h.events ≤ 1 + 2 * (workers * rounds)
 

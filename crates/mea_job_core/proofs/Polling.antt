@@ -1,5 +1,5 @@
 -- what a poll of the end of a service does
-use Rattle.std.proofs.Common.{◌≡◌, ℕ, zero, suc, ◌<◌, ◌==◌, ◌&&◌, ◌++◌, Bool, true, false, cond, length, List, [], ◌∷◌, Option, Some, None, Result, Ok, Err, MatchResult, nat_lt, slice_set, refl, ap, sym, subst, ◌∙◌, arith}
+use Rattle.std.proofs.Common.{◌≡◌, ℕ, zero, suc, ◌<◌, ◌==◌, ◌&&◌, ◌++◌, Bool, true, false, cond, length, List, [], ◌∷◌, Option, Some, None, IsSome, Result, Ok, Err, MatchResult, nat_lt, slice_set, refl, ap, sym, subst, ◌∙◌, arith}
 use Rattle.std.proofs.lemmas.Bool.{eqb-true, and_parts, and_right, ltb-true, le-ltb}
 use Rattle.std.specs.FinMap.{empty, len, len-empty}
 use Rattle.std.specs.Ordering.{nat_cmp}
@@ -41,6 +41,12 @@ module _ {W : Type 0} where
       by_wakers (v ∷ []) is one =
           ap (λ b. first_waker (cond b replaced appended).wakers) one ∙ ap (λ n. first_waker (slice_set s.wakers n w)) (at_first s v place is one) ∙ ap (λ ws. first_waker (slice_set ws 0 w)) is
       by_wakers (v ∷ u ∷ ws) is one = absurd one
+
+  -- a waker that waits has the place of the one wait
+  pub has_place : (s : Registered W) (ws : List W) (place : Option Place) → HasOne s ws place → IsSome (first_waker ws) → is_registered s place ≡ true
+  has_place s [] place one some = absurd (cc)
+  has_place s (v ∷ []) place one some = one
+  has_place s (v ∷ u ∷ ws) place one some = absurd one
 
   module _ (base old : Service W) (is : base ≡ old) (s u : Shutdown W) (place place' : Option Place) (w : W) (result : Result (Poll (Unit {0})) (W × NoMemory)) (shut : IsShut s base.work)
       (only : IsOnly s.receivers.waiting place) (waker : base.waker ≡ first_waker s.receivers.waiting.wakers) (wakes : base.wakes ≡ s.wakes) (halted : base.work.stopped ≡ true → base.work.queued ≡ empty)

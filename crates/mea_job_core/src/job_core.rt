@@ -1,4 +1,4 @@
-ghost use Rattle.std.specs.Prelude.{◌≡◌, ◌+◌, ◌<◌, ◌≤◌, ◌↔◌, ◌-◌, [], ◌∷◌, length, Some, true, false, IsTrue, IfOk, IfErr, IfSome, IfNone};
+ghost use Rattle.std.specs.Prelude.{◌≡◌, ◌+◌, ◌<◌, ◌≤◌, ◌↔◌, ◌-◌, [], ◌∷◌, length, Some, true, false, IsTrue, IsSome, IsOk, IfOk, IfErr, IfSome, IfNone};
 ghost use Rattle.std.specs.FinMap as map;
 ghost use Rattle.mea_job_core.specs.Service.{Service, new_service, given, refusal_of, RefusedBy, after_submit, finish_answer, after_finish, recall_answer, after_recall, take_answer, after_take, after_stop, back_answer, after_back, PollsEnd, is_over, counts_of};
 ghost use Rattle.mea_job_core.specs.Work.{start_of};
@@ -104,7 +104,8 @@ impl<W: Drop> JobCore<W> {
         })
     }
 
-    /// Accepts a job, which runs where a permit is free and else is queued.
+    /// Accepts a job, which runs where a permit is free and else is queued. Its number counts as given even where it is
+    /// refused: the next one must be greater.
     pub fn submit(&mut self, number: u64, key: u64, value: u64) -> Result<Start, SubmitError>
         requires { (self.old.next ≤ number) × (number < 18446744073709551615) }
         ensures ok { IfOk result (λ start. (refusal_of self.old ≡ None) × (start ≡ start_of self.old.work) × (self.new ≡ after_submit self.old number key value)) }
@@ -201,7 +202,8 @@ impl<W: Drop> JobCore<W> {
     /// Is ready where the service was stopped and no job runs. Else the waker is kept, in place of the one before, until
     /// the call after which this holds; with no memory it comes back, and nothing has changed.
     pub fn poll_end(&mut self, waker: W) -> Result<Poll<()>, (W, NoMemory)>
-        ensures { PollsEnd self.old waker result self.new }
+        ensures polls { PollsEnd self.old waker result self.new }
+        ensures replaces { IsSome self.old.waker → IsOk result }
     {
         self.shutdown.poll_receivers(&mut self.end, waker)
     }

@@ -1,6 +1,6 @@
 use thiserror::Error;
 
-/// Why a job was not accepted. Nothing has changed.
+/// Why a job was not accepted. Its number counts as given; nothing else has changed.
 #[derive(Clone, Copy, Debug, PartialEq, Eq, Error)]
 pub enum SubmitError {
     /// The service was stopped.

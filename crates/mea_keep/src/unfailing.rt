@@ -28,6 +28,10 @@ impl<F: End> End for Unfailing<F> {
 impl<F: Waits<W, Result<V, Never>>, V, W> Waits<W, V> for Unfailing<F> {
     ghost can_poll = { λ u. F.can_poll u.wait };
 
+    ghost refuses = { F.refuses };
+
+    ghost hands_back = { F.hands_back };
+
     fn poll<R: Wait>(self, rt: &R, waker: W) -> Result<Polled<Self, V>, Unpolled<Self, W>> {
         let Unfailing { wait } = self;
         match wait.poll(rt, waker) {

@@ -1,5 +1,5 @@
 //! A barrier that threads and tasks share: `mea::barrier`.
-ghost use Rattle.std.specs.Prelude.{◌≡◌, ◌-◌, length};
+ghost use Rattle.std.specs.Prelude.{◌≡◌, ◌-◌, ⊤, length};
 ghost use Rattle.mea_meet_core.specs.Barrier.{Polls, usable_wait};
 ghost use Rattle.mea_meet_seats.specs.declared.seat.Seat.{Seat};
 
@@ -66,6 +66,8 @@ impl<'a, W: Wake> End for BarrierWait<'a, W> {
 }
 
 impl<'a, W: Wake> Waits<W, BarrierWaitResult> for BarrierWait<'a, W> {
+    ghost refuses = { λ _. ⊤ };
+
     fn poll<R: Wait>(
         self,
         rt: &R,

@@ -1,4 +1,4 @@
-ghost use Rattle.std.specs.Prelude.{◌≡◌, IfOk};
+ghost use Rattle.std.specs.Prelude.{◌≡◌, ⊤, IfOk};
 
 use crate::admission::permit::SharePermit;
 use crate::admission::{FairShare, shared, steps};
@@ -85,6 +85,10 @@ impl<K: Eq + Hash + Drop, W: Wake, S: BuildHasher + Drop, H: Holds<FairShare<K, 
     SharePermit<H, K, W, S>,
 > for Admission<H, K, W, S> {
     ghost gives = { λ wait permit. permit ≡ wait };
+
+    ghost refuses = { λ _. ⊤ };
+
+    ghost hands_back = { λ given back. back ≡ given };
 
     fn poll<R: Wait>(
         self,

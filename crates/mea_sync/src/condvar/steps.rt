@@ -1,9 +1,11 @@
 //! The steps of a condition variable's core that are made under its lock, and those that are made under the
 //! lock of the mutex too, which is taken first. Each tells how many wakers it made ready.
-ghost use Rattle.std.specs.Prelude.{◌≡◌, ◌≤◌, ◌-◌, length, true, false, Some, None, IsSome, IfOk, IfErr, IfSome, OnOk, OnErr};
+ghost use Rattle.std.specs.Prelude.{◌≡◌, ◌≤◌, ◌-◌, if◌then◌else◌, length, true, false, Some, None, is_some, IsSome, IfOk, IfErr, IfSome, OnOk, OnErr};
+ghost use Rattle.std.specs.Option.{option_or};
 ghost use Rattle.mea_sem_core.specs.Core.{held_of};
 ghost use Rattle.mea_lock_core.specs.Condvar.{notified_one, notified_all};
 ghost use Rattle.mea_lock_core.specs.CondWaits.{is_new, renewed_wait, MayPollWait, MayEndWait, PollsWait, EndsWait};
+ghost use Rattle.mea_lock_core.specs.Lock.{IsSound};
 ghost use Rattle.mea_sync.specs.Notified.{turn_of};
 
 use crate::mutex::MutexState;
@@ -50,6 +52,10 @@ pub(super) fn poll<T: Drop, W: Drop>(
     ensures allowed { MayPollWait core.old state.old.lock wait.old → OnOk result.answer (PollsWait core.old state.old.lock wait.old waker (turn_of result.answer) core.new state.new.lock wait.new) }
     ensures renewed { ¬ MayPollWait core.old state.old.lock wait.old → OnOk result.answer (PollsWait core.old state.old.lock renewed_wait waker (turn_of result.answer) core.new state.new.lock wait.new) }
     ensures err { OnErr result.answer ((core.new ≡ core.old) × (state.new.lock ≡ state.old.lock)) }
+    ensures kept { OnErr result.answer (MayPollWait core.old state.old.lock wait.old → wait.new ≡ wait.old) }
+    ensures lost { OnErr result.answer (¬ MayPollWait core.old state.old.lock wait.old → wait.new ≡ renewed_wait) }
+    ensures held { OnErr result.answer (1 ≤ held_of state.old.lock.permits → (guarded.new ≡ option_or guarded.old state.old.value) × (state.new.value ≡ None)) }
+    ensures free { OnErr result.answer (held_of state.old.lock.permits ≡ 0 → (guarded.new ≡ None) × (state.new.value ≡ option_or guarded.old state.old.value)) }
     ensures guards { is_new wait.new ≡ true → IsSome guarded.new }
     ensures waker { IfErr result.answer (λ e. e.0 ≡ waker) }
     ensures ready { IfOk result.answer (λ taken. IfSome taken (λ _. state.new.value ≡ None)) }
@@ -90,8 +96,12 @@ fn keep<T: Drop, W: Drop>(
     guarded: &mut Option<T>,
 )
     ensures guards { is_new wait.new ≡ true → IsSome guarded.new }
-    ensures value { 1 ≤ held_of state.old.lock.permits → guarded.new ≡ state.old.value }
+    ensures held { 1 ≤ held_of state.old.lock.permits → (guarded.new ≡ state.old.value) × (state.new.value ≡ None) }
+    ensures free { held_of state.old.lock.permits ≡ 0 → (guarded.new ≡ guarded.old) × (state.new.value ≡ state.old.value) }
+    ensures stays { is_new wait.old ≡ false → wait.new ≡ wait.old }
+    ensures new { is_new wait.old ≡ true → wait.new ≡ (if is_some guarded.new then CondWait.New else renewed_wait) }
     ensures lock { state.new.lock ≡ state.old.lock }
+    ensures sound { IsSound state.new.lock }
 {
     if state.lock.is_held() {
         *guarded = state.value.take();

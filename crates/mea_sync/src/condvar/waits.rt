@@ -1,13 +1,13 @@
 ghost use Rattle.std.specs.Prelude.{◌≡◌, true, IsSome, IfSome};
 ghost use Rattle.mea_lock_core.specs.CondWaits.{is_new};
-ghost use Rattle.mea_wait.specs.Polls.{IsPollable};
+ghost use Rattle.mea_wait.specs.Polls.{IsPollable, IsRefusedFor};
 
 use crate::condvar::{Condvar, steps};
 use crate::made::Made;
 use crate::mutex::{LockGuard, Mutex};
 use mea_base::{NoMemory, Wake};
 use mea_lock_core::CondWait;
-use mea_wait::{End, Holds, Polled, Unpolled, Waits};
+use mea_wait::{End, Holds, PollFault, Polled, Unpolled, Waits};
 use std::marker::PhantomData;
 use std::sync::{Arc, Wait};
 
@@ -58,6 +58,8 @@ pub type CondvarWhile<'a, T, F, W> = Conditional<'a, &'a Mutex<T, W>, T, F, W>;
 pub type CondvarWhileOwned<'a, T, F, W> = Conditional<'a, Arc<Mutex<T, W>>, T, F, W>;
 
 impl<'a, T: Drop, W: Wake, H: Holds<Mutex<T, W>>> Notified<'a, H, T, W> {
+    ghost use Rattle.mea_sync.specs.Stepped.{HandsWakerBack};
+
     // A wait that was never polled, and has the guard.
     pub(super) fn of(of: &'a Condvar<W>, guard: LockGuard<H, T, W>) -> Self {
         let (mutex, value) = guard.into_parts();
@@ -89,7 +91,9 @@ impl<'a, T: Drop, W: Wake, H: Holds<Mutex<T, W>>> Notified<'a, H, T, W> {
     }
 
     // Polls it once.
-    fn step<R: Wait>(self, rt: &R, waker: W) -> Step<'a, H, T, W> {
+    fn step<R: Wait>(self, rt: &R, waker: W) -> Step<'a, H, T, W>
+        ensures { HandsWakerBack waker result }
+    {
         let Notified {
             of,
             mutex,
@@ -149,6 +153,8 @@ impl<'a, T: Drop, W: Wake, H: Holds<Mutex<T, W>>> End for Notified<'a, H, T, W> 
 
 impl<'a, T: Drop, W: Wake, H: Holds<Mutex<T, W>>> Waits<W, LockGuard<H, T, W>>
     for Notified<'a, H, T, W> {
+    ghost hands_back = { λ given back. back ≡ given };
+
     fn poll<R: Wait>(
         self,
         rt: &R,
@@ -189,7 +195,8 @@ impl<'a, T: Drop, F: FnMut(&mut T) -> bool + Drop, W: Wake, H: Holds<Mutex<T, W>
         waker: W,
     ) -> Result<Polled<Self, LockGuard<H, T, W>>, Unpolled<Self, W>>
         requires { F.IsAlwaysCallable condition }
-        ensures { IsPollable (λ w. F.IsAlwaysCallable w.condition) result }
+        ensures again { IsPollable (λ w. F.IsAlwaysCallable w.condition) result }
+        ensures fault { IsRefusedFor (λ fault. fault ≡ PollFault.NoMemory) result }
     {
         let mut guard = guard;
         let mut condition = condition;

@@ -1,3 +1,5 @@
+ghost use Rattle.std.specs.Prelude.{◌≡◌};
+
 use crate::made::Made;
 use crate::mutex::Mutex;
 use crate::mutex::guard::LockGuard;
@@ -45,6 +47,8 @@ impl<T: Drop, W: Wake, H: Holds<Mutex<T, W>>> End for Locking<H, T, W> {
 }
 
 impl<T: Drop, W: Wake, H: Holds<Mutex<T, W>>> Waits<W, LockGuard<H, T, W>> for Locking<H, T, W> {
+    ghost hands_back = { λ given back. back ≡ given };
+
     fn poll<R: Wait>(
         self,
         rt: &R,

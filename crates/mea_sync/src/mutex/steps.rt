@@ -71,6 +71,7 @@ impl<T: Drop, W: Drop> MutexState<T, W> {
         ensures taken { IfOk result (λ taken. MatchOption taken
             ((self.new.value ≡ self.old.value) × (held_of self.new.lock.permits ≡ held_of self.old.lock.permits))
             (λ given. (self.old.value ≡ Some given.0) × (held_of self.old.lock.permits ≡ 0) × (held_of self.new.lock.permits ≡ 1))) }
+        ensures waker { IfErr result (λ e. e.0 ≡ waker) }
         ensures err { OnErr result ((self.new.lock ≡ self.old.lock) × (self.new.value ≡ self.old.value)) }
     {
         match self.lock.poll_checked(wait, waker)? {

@@ -1,4 +1,4 @@
-ghost use Rattle.std.specs.Prelude.{◌≡◌, ◌-◌, ◌+◌, ◌<◌, ◌≤◌, [], ◌∷◌, length, Some, None, true, false, IsSome, IfOk, IfSome, IfNone, OnOk, OnErr, MatchOption, MatchResult};
+ghost use Rattle.std.specs.Prelude.{◌≡◌, ◌-◌, ◌+◌, ◌<◌, ◌≤◌, ◌⊎◌, [], ◌∷◌, length, Some, None, true, false, IsSome, IfOk, IfErr, IfSome, IfNone, OnOk, OnErr, MatchOption};
 ghost use Rattle.std.specs.Option.{option_copied_mut};
 ghost use Rattle.std.specs.Arc.{arc_value};
 ghost use Rattle.mea_sem_core.specs.Core.{held_of};
@@ -7,6 +7,7 @@ ghost use Rattle.mea_lock_core.specs.Lock.{permits_of};
 ghost use Rattle.mea_lock_core.specs.RwLock.{is_write, readers_of, renewed_rw, MayPoll, MayCancel, PollsRw, CancelsRw};
 ghost use Rattle.mea_sync.specs.Notified.{turn_of};
 ghost use Rattle.mea_sync.specs.Slot.{value_in};
+ghost use Rattle.mea_sync.specs.Writes.{RefusesWrite};
 
 use crate::rwlock::slot;
 use mea_base::{NoMemory, Turn};
@@ -89,7 +90,10 @@ impl<T: Drop, W: Drop> RwLockState<T, W> {
             (λ given. (value_in self.old.owned self.old.shared ≡ Some (arc_value given.0)) × (self.old.lock.writing ≡ false)
             × (held_of self.new.lock.permits ≡ held_of self.old.lock.permits + 1))) }
         ensures kind { is_write wait.new ≡ false }
+        ensures waker { IfErr result (λ e. e.0 ≡ waker) }
         ensures err { OnErr result (self.new.lock ≡ self.old.lock) }
+        ensures kept { OnErr result (MayPoll self.old.lock wait.old → wait.new ≡ wait.old) }
+        ensures lost { OnErr result (¬ MayPoll self.old.lock wait.old → (wait.new ≡ wait.old) ⊎ (wait.new ≡ renewed_rw wait.old)) }
         ensures value { value_in self.new.owned self.new.shared ≡ value_in self.old.owned self.old.shared }
     {
         let Ok(shared) = slot::share(&mut self.owned, &mut self.shared, self.alloc) else {
@@ -105,13 +109,12 @@ impl<T: Drop, W: Drop> RwLockState<T, W> {
     }
 
     // Takes the value, if nobody holds the lock, and tells how many wakers are to be woken. A share that is
-    // still being let go keeps it, as nobody who reads.
+    // still being let go keeps it, as nobody who reads; all is then as it was.
     pub(super) fn try_write(&mut self) -> (Option<T>, usize)
-        ensures taken { IfSome result.0 (λ value. (value_in self.old.owned self.old.shared ≡ Some value)
-            × (held_of self.old.lock.permits ≡ 0) × (self.new.lock.writing ≡ true)) }
-        ensures refused { self.old.lock.permits.free < self.old.lock.most → (result.0 ≡ None) × (self.new.lock ≡ self.old.lock) }
-        ensures free { self.old.lock.writing ≡ false → self.old.lock.most ≤ self.old.lock.permits.free → IfSome result.0 (λ _. self.new.lock
-            ≡ record self.old.lock { permits = record self.old.lock.permits { free = self.old.lock.permits.free - self.old.lock.most }; writing = true }) }
+        ensures taken { IfSome result.0 (λ value. (value_in self.old.owned self.old.shared ≡ Some value) × (value_in self.new.owned self.new.shared ≡ None)
+            × (held_of self.old.lock.permits ≡ 0) × (self.old.lock.most ≤ self.old.lock.permits.free)
+            × (self.new.lock ≡ record self.old.lock { permits = record self.old.lock.permits { free = self.old.lock.permits.free - self.old.lock.most }; writing = true })) }
+        ensures none { IfNone result.0 ((value_in self.new.owned self.new.shared ≡ value_in self.old.owned self.old.shared) × (self.new.lock ≡ self.old.lock)) }
         ensures made { result.1 ≡ length self.new.lock.permits.wakes - length self.old.lock.permits.wakes }
     {
         let before = self.lock.wakes_ready();
@@ -135,9 +138,15 @@ impl<T: Drop, W: Drop> RwLockState<T, W> {
         ensures allowed { MayPoll self.old.lock wait.old → OnOk result.0 (PollsRw self.old.lock wait.old waker (turn_of result.0) self.new.lock wait.new) }
         ensures renewed { ¬ MayPoll self.old.lock wait.old → OnOk result.0 (PollsRw self.old.lock (renewed_rw wait.old) waker (turn_of result.0) self.new.lock wait.new) }
         ensures taken { IfOk result.0 (λ taken. MatchOption taken
-            (held_of self.new.lock.permits ≡ held_of self.old.lock.permits)
-            (λ given. (value_in self.old.owned self.old.shared ≡ Some given.0) × (held_of self.old.lock.permits ≡ 0) × (self.new.lock.writing ≡ true))) }
+            ((value_in self.new.owned self.new.shared ≡ value_in self.old.owned self.old.shared) × (held_of self.new.lock.permits ≡ held_of self.old.lock.permits))
+            (λ given. (value_in self.old.owned self.old.shared ≡ Some given.0) × (value_in self.new.owned self.new.shared ≡ None)
+            × (held_of self.old.lock.permits ≡ 0) × (self.new.lock.writing ≡ true))) }
         ensures kind { is_write wait.new ≡ true }
+        ensures waker { IfErr result.0 (λ e. e.0 ≡ waker) }
+        ensures err { OnErr result.0 ((value_in self.new.owned self.new.shared ≡ value_in self.old.owned self.old.shared)
+            × (held_of self.new.lock.permits ≡ held_of self.old.lock.permits) × (self.new.lock.writing ≡ self.old.lock.writing)) }
+        ensures kept { OnErr result.0 (MayPoll self.old.lock wait.old → RefusesWrite self.old.lock wait.old waker self.new.lock wait.new) }
+        ensures lost { OnErr result.0 (¬ MayPoll self.old.lock wait.old → RefusesWrite self.old.lock (renewed_rw wait.old) waker self.new.lock wait.new) }
         ensures made { result.1 ≡ length self.new.lock.permits.wakes - length self.old.lock.permits.wakes }
     {
         let before = self.lock.wakes_ready();
@@ -151,9 +160,15 @@ impl<T: Drop, W: Drop> RwLockState<T, W> {
         ensures allowed { MayPoll self.old.lock wait.old → OnOk result (PollsRw self.old.lock wait.old waker (turn_of result) self.new.lock wait.new) }
         ensures renewed { ¬ MayPoll self.old.lock wait.old → OnOk result (PollsRw self.old.lock (renewed_rw wait.old) waker (turn_of result) self.new.lock wait.new) }
         ensures taken { IfOk result (λ taken. MatchOption taken
-            (held_of self.new.lock.permits ≡ held_of self.old.lock.permits)
-            (λ given. (value_in self.old.owned self.old.shared ≡ Some given.0) × (held_of self.old.lock.permits ≡ 0) × (self.new.lock.writing ≡ true))) }
+            ((value_in self.new.owned self.new.shared ≡ value_in self.old.owned self.old.shared) × (held_of self.new.lock.permits ≡ held_of self.old.lock.permits))
+            (λ given. (value_in self.old.owned self.old.shared ≡ Some given.0) × (value_in self.new.owned self.new.shared ≡ None)
+            × (held_of self.old.lock.permits ≡ 0) × (self.new.lock.writing ≡ true))) }
         ensures kind { is_write wait.new ≡ true }
+        ensures waker { IfErr result (λ e. e.0 ≡ waker) }
+        ensures err { OnErr result ((value_in self.new.owned self.new.shared ≡ value_in self.old.owned self.old.shared)
+            × (held_of self.new.lock.permits ≡ held_of self.old.lock.permits) × (self.new.lock.writing ≡ self.old.lock.writing)) }
+        ensures kept { OnErr result (MayPoll self.old.lock wait.old → RefusesWrite self.old.lock wait.old waker self.new.lock wait.new) }
+        ensures lost { OnErr result (¬ MayPoll self.old.lock wait.old → RefusesWrite self.old.lock (renewed_rw wait.old) waker self.new.lock wait.new) }
     {
         let was_writing = self.lock.is_writing();
         let Turn::Ready(waker) = self.lock.poll_checked(wait, waker)? else {
@@ -175,9 +190,11 @@ impl<T: Drop, W: Drop> RwLockState<T, W> {
     fn take_or_unlock(&mut self) -> Option<T>
         requires held { self.old.lock.writing ≡ true }
         requires there { IsSome (value_in self.old.owned self.old.shared) }
-        ensures { MatchOption result
-            (value_in self.new.owned self.new.shared ≡ value_in self.old.owned self.old.shared)
-            (λ value. (value_in self.old.owned self.old.shared ≡ Some value) × (self.new.lock ≡ self.old.lock)) }
+        ensures taken { IfSome result (λ value. (value_in self.old.owned self.old.shared ≡ Some value) × (value_in self.new.owned self.new.shared ≡ None)
+            × (self.new.lock ≡ self.old.lock)) }
+        ensures none { IfNone result ((value_in self.new.owned self.new.shared ≡ value_in self.old.owned self.old.shared)
+            × (self.new.lock ≡ record self.old.lock { permits = given_back self.old.lock.permits self.old.lock.most; writing = false })) }
+        ensures free { IfNone result (held_of self.new.lock.permits ≡ 0) }
     {
         let taken = slot::take(&mut self.owned, &mut self.shared);
         if taken.is_none() {

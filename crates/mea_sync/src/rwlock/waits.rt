@@ -75,6 +75,8 @@ impl<T: Drop, W: Wake, H: Holds<RwLock<T, W>>> End for Writing<H, T, W> {
 }
 
 impl<T: Drop, W: Wake, H: Holds<RwLock<T, W>>> Waits<W, ReadGuard<H, T, W>> for Reading<H, T, W> {
+    ghost hands_back = { λ given back. back ≡ given };
+
     fn poll<R: Wait>(
         self,
         rt: &R,
@@ -95,6 +97,8 @@ impl<T: Drop, W: Wake, H: Holds<RwLock<T, W>>> Waits<W, ReadGuard<H, T, W>> for 
 }
 
 impl<T: Drop, W: Wake, H: Holds<RwLock<T, W>>> Waits<W, WriteGuard<H, T, W>> for Writing<H, T, W> {
+    ghost hands_back = { λ given back. back ≡ given };
+
     fn poll<R: Wait>(
         self,
         rt: &R,

@@ -98,6 +98,8 @@ impl<W: Wake, H: Holds<Semaphore<W>>> Waits<W, Result<Permit<H, W>, Closed>>
     for AcquireToHold<H, W> {
     ghost gives = { λ a output. IfOk output (λ permit. (permit.permits ≡ a.permits) × (permit.of ≡ a.of)) };
 
+    ghost hands_back = { λ given back. back ≡ given };
+
     fn poll<R: Wait>(
         self,
         rt: &R,
@@ -133,6 +135,8 @@ impl<W: Wake, H: Holds<Semaphore<W>>> Waits<W, Result<Permit<H, W>, Closed>>
 }
 
 impl<W: Wake, H: Holds<Semaphore<W>>> Waits<W, Result<(), Closed>> for AcquireToForget<H, W> {
+    ghost hands_back = { λ given back. back ≡ given };
+
     fn poll<R: Wait>(
         self,
         rt: &R,
