@@ -9,8 +9,8 @@ hand_on-requires c =
     let same : length c.discount.new.self.core.wakes ≡ length c.cancel.new.self.wakes = ap (λ (x : SemaphoreEntry). length x.core.wakes) c.discount.ensures in
     omega (arith, room, same)
 
-pub overflow_add-result : goal.overflow_add-result
-overflow_add-result c =
+pub unregister-requires : goal.unregister-requires
+unregister-requires c =
     let room = end_room c.args.self.now.core c.cancel.new.self c.args.acquire c.waited-waited.result c.requires.quiet c.requires.belongs c.cancel.ensures.cancels c.waited-waited.ensures in
     let same : length c.discount.new.self.core.wakes ≡ length c.cancel.new.self.wakes = ap (λ (x : SemaphoreEntry). length x.core.wakes) c.discount.ensures in
-    omega (arith, room, same)
+    omega (arith, room, same, c.requires.room, c.hand_on.ensures.counted)
