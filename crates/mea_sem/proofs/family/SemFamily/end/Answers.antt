@@ -72,14 +72,14 @@ end-requires-clause-room c = omega (arith, wakers_registered (its_semaphore (met
 pub invariant_of-self-2 : goal.invariant_of-self-2
 invariant_of-self-2 c =
     own ((end_done (met (goal.at.invariant_of-self-2 c).In-Some-get_mut)
-    c.end.new.self c.end.new.ready.wakers c.end.ensures.ends.0 c.end.ensures.ends.1.0 (future_there (lent c.self.inside c.args.ready.now) (seen_with c.args.ready.now c.self.view_is) c.args.f c.in-Some.future (sym c.remove.ensures.value ∙ c.in-Some.is)) _ _ c.end.new.ready.registered
-    c.in-Some.ensures.updates.0 (beside (lent c.self.inside c.args.ready.now) _ _ _ ((c.get_mut.follows.holds c.end.new.self).3 (search rules)).0) (omega (arith, c.end.ensures.ends.1.1)) c.end.ensures.held).kept)
+    c.end.new.self c.end.new.ready.wakers c.end.ensures.ends.0 c.end.ensures.ends.1 (future_there (lent c.self.inside c.args.ready.now) (seen_with c.args.ready.now c.self.view_is) c.args.f c.in-Some.future (sym c.remove.ensures.value ∙ c.in-Some.is)) _ _ c.end.new.ready.registered
+    c.in-Some.ensures.updates.0 (beside (lent c.self.inside c.args.ready.now) _ _ _ ((c.get_mut.follows.holds c.end.new.self).3 (search rules)).0) (omega (arith, c.end.ensures.ends.2)) c.end.ensures.held).kept)
 
 pub returns-clause-played : goal.returns-clause-played
 returns-clause-played c =
     listed c.tidy.ensures (lists (met (goal.at.returns-clause-played c).In-Some-get_mut).meets (end_done (met (goal.at.returns-clause-played c).In-Some-get_mut)
-    c.end.new.self c.end.new.ready.wakers c.end.ensures.ends.0 c.end.ensures.ends.1.0 (future_there (lent c.self.inside c.args.ready.now) (seen_with c.args.ready.now c.self.view_is) c.args.f c.in-Some.future (sym c.remove.ensures.value ∙ c.in-Some.is)) _ _ c.end.new.ready.registered
-    c.in-Some.ensures.updates.0 (beside (lent c.self.inside c.args.ready.now) _ _ _ ((c.get_mut.follows.holds c.end.new.self).3 (search rules)).0) (omega (arith, c.end.ensures.ends.1.1)) c.end.ensures.held) (omega (arith, left_within (met (goal.at.returns-clause-played c).In-Some-get_mut) c.end.new.self c.end.new.ready.wakers c.end.ensures.ends.0 c.end.ensures.ends.1.0, c.end.ensures.ends.1.1)))
+    c.end.new.self c.end.new.ready.wakers c.end.ensures.ends.0 c.end.ensures.ends.1 (future_there (lent c.self.inside c.args.ready.now) (seen_with c.args.ready.now c.self.view_is) c.args.f c.in-Some.future (sym c.remove.ensures.value ∙ c.in-Some.is)) _ _ c.end.new.ready.registered
+    c.in-Some.ensures.updates.0 (beside (lent c.self.inside c.args.ready.now) _ _ _ ((c.get_mut.follows.holds c.end.new.self).3 (search rules)).0) (omega (arith, c.end.ensures.ends.2)) c.end.ensures.held) (omega (arith, left_within (met (goal.at.returns-clause-played c).In-Some-get_mut) c.end.new.self c.end.new.ready.wakers c.end.ensures.ends.0 c.end.ensures.ends.1, c.end.ensures.ends.2)))
 
 pub returns-clause-allowed : goal.returns-clause-allowed
 returns-clause-allowed c = end_known (lent c.self.inside c.args.ready.now) (seen_with c.args.ready.now c.self.view_is) c.args.f c.in-Some.future (sym c.remove.ensures.value ∙ c.in-Some.is)

@@ -1,4 +1,4 @@
-use Rattle.std.proofs.Common.{ℕ, ◌+◌, ◌-◌, Some, None, inl, inr, refl, rules, sym, ap, ◌∙◌, arith}
+use Rattle.std.proofs.Common.{◌≡◌, ℕ, ◌+◌, ◌-◌, Some, None, inl, inr, refl, rules, sym, ap, ◌∙◌, arith}
 use Rattle.std.specs.Option.{option_copied_mut}
 use Rattle.mea_sem.specs.declared.entries.FutureEntry.{FutureEntry}
 use Rattle.mea_base.specs.Ready.{Waking}
@@ -162,11 +162,12 @@ returns-in_default-queue-clause-refused c = inr (may_poll (met (goal.at.returns-
 
 pub returns-in_default-queue-clause-err : goal.returns-in_default-queue-clause-err
 returns-in_default-queue-clause-err c =
+    let back : c.args.ready.now.registered + 1 - 1 ≡ c.args.ready.now.registered = omega arith in
     let x2 : FutureEntry = record c.in-Some.future.now { acquire = c.queue.new.acquire } in
     (ap part_of (seen_as_found (met (goal.at.returns-in_default-queue-clause-err c).In-Some-get_mut) _ _ _ c.queue.new.self x2 c.in_default-queue.ensures.err.0
     (λ j. record c.in-Some.future.now { acquire = c.in_default-queue.ensures.err.1 j }) refl ((c.get_mut.follows.holds x2).3 (search rules)).0
     (beside (lent c.self.inside c.args.ready.now) _ _ _ ((c.get_mut-2.follows.holds c.queue.new.self).3 (search rules)).0) _ refl),
-    c.unregister.ensures ∙ ap (λ (w : Waking ℕ). record w { registered = w.registered - 1 }) c.in_ok-register.ensures.ok)
+    c.unregister.ensures ∙ ap (λ (w : Waking ℕ). record w { registered = w.registered - 1 }) c.in_ok-register.ensures.ok ∙ ap (λ n. record c.args.ready.now { registered = n }) back)
 
 pub invariant_of-self-then-is_new : goal.invariant_of-self-then-is_new
 invariant_of-self-then-is_new c =

@@ -20,7 +20,7 @@ invariant_of-self c =
     (sym c.get.ensures.value ∙ ap option_copied c.in-Some.is)).kept)
 
 pub returns-clause-played : goal.returns-clause-played
-returns-clause-played c = (rests (met (goal.at.returns-clause-played c).In-Some).meets refl (sized (met (goal.at.returns-clause-played c).In-Some) c.args.p c.in-Some.permit.now (sym c.get.ensures.value ∙ ap option_copied c.in-Some.is)))
+returns-clause-played c = (rests (met (goal.at.returns-clause-played c).In-Some) refl (sized (met (goal.at.returns-clause-played c).In-Some) c.args.p c.in-Some.permit.now (sym c.get.ensures.value ∙ ap option_copied c.in-Some.is)))
 
 pub returns-clause-allowed : goal.returns-clause-allowed
 returns-clause-allowed c = permit_known (alone c.self.inside) (seen_alone c.self.view_is) c.args.p c.in-Some.permit.now (sym c.get.ensures.value ∙ ap option_copied c.in-Some.is)
