@@ -17,13 +17,17 @@ pub trait Family<H>: Drop {
 
     // What is seen of it: its objects, and the least number that the next event may have.
     ghost part_of: { Self → Part H };
+
     ghost empty: { H };
     // How many wakers an event may still make ready.
     ghost registered: { H → ℕ };
     // What holds of the objects that events reach.
     ghost IsValid: { H → ℕ → Type 0 };
+
     ghost cause_of: { H → Self.Event → Option Cause };
+
     ghost step: { H → ℕ → Self.Event → Outcome H };
+
     ghost TakesNoMemory: { Self.Event → Type 0 };
 
     /// No object. It takes no memory.
@@ -77,5 +81,7 @@ pub fn act_on<H, F: Family<H>>(
     if let Some(stop) = family.cause(event) {
         return Err(stop);
     }
-    family.play(number, event, ready).map_err(|_| Stop::NoMemory)
+    family
+        .play(number, event, ready)
+        .map_err(|_| Stop::NoMemory)
 }

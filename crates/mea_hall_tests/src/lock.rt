@@ -52,7 +52,10 @@ fn ample(rt: HostRuntime) {
     assert_eq!(rt; hall.registered(), 0);
     assert_eq!(rt; hall.wakes_ready(), 0);
     assert!(rt; hall.family().mutex(0).is_some());
-    assert_eq!(rt; hall.family().rw_lock(5).map(|core| core.readers()), Some(1));
+    assert_eq!(rt;
+        hall.family().rw_lock(5).map(|core| core.readers()),
+        Some(1)
+    );
     assert!(rt; hall.family().mutex(5).is_none());
     gone(hall);
 }

@@ -10,8 +10,8 @@ ghost use Rattle.mea_sem_model.specs.Waiters.{waiters};
 ghost use Rattle.mea_sem.specs.Play.{PlaysIn, PlaysQuietly};
 
 use crate::entries::{FutureEntry, PermitEntry};
-use crate::grant::Grant;
 use crate::family::SemFamily;
+use crate::grant::Grant;
 use mea_base::Ready;
 use mea_events::SemEvent;
 use mea_family::{Answer, Form, Stop};

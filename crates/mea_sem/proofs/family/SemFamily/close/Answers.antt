@@ -42,8 +42,11 @@ pub returns-in_err-known-clause-refused : goal.returns-in_err-known-clause-refus
 returns-in_err-known-clause-refused c = refuses c.from_residual.result _ _ c.from_residual.ensures.1 (refuses_unknown _ _ (once_unnamed (met (goal.at.returns-in_err-known-clause-refused c).In-Some) _ c.in_err-known.ensures.unknown.0) c.in_err-known.ensures.unknown.1)
 
 pub returns-in_err-known-clause-err : goal.returns-in_err-known-clause-err
-returns-in_err-known-clause-err c = on_err c.from_residual.result _ (ap part_of (seen_unchanged (met (goal.at.returns-in_err-known-clause-err c).In-Some) _ c.in-Some.entry.now
-    (beside (lent c.self.inside c.args.ready.now) _ _ _ ((c.get_mut.follows.holds c.in-Some.entry.now).3 (search rules)).0) refl _ refl), refl)
+returns-in_err-known-clause-err c = on_err c.from_residual.result _ (
+  ap part_of (seen_unchanged (met (goal.at.returns-in_err-known-clause-err c).In-Some) _ c.in-Some.entry.now
+      (beside (lent c.self.inside c.args.ready.now) _ _ _ ((c.get_mut.follows.holds c.in-Some.entry.now).3 (search rules)).0) refl _ refl),
+  refl,
+)
 
 pub invariant_of-self-in_err-known : goal.invariant_of-self-in_err-known
 invariant_of-self-in_err-known c = own (kept_unchanged (met (goal.at.invariant_of-self-in_err-known c).In-Some) _ c.in-Some.entry.now

@@ -82,10 +82,13 @@ returns-in_err-insert-clause-refused c = lacks_memory c.from_residual.result _ c
     (may_poll (met (goal.at.returns-in_err-insert-clause-refused c).In-Some-get_mut) c.args.waker)
 
 pub returns-in_err-insert-clause-err : goal.returns-in_err-insert-clause-err
-returns-in_err-insert-clause-err c = on_err c.from_residual.result _ (ap part_of (
-    seen_as_found (met (goal.at.returns-in_err-insert-clause-err c).In-Some-get_mut) _ _ _ c.in-Some-get_mut.entry.now c.in-Some.future.now refl refl
-    c.in_err-insert.ensures.err ((c.get_mut.follows.holds c.in-Some.future.now).3 (search rules)).0
-    (beside (lent c.self.inside c.args.ready.now) _ _ _ ((c.get_mut-2.follows.holds c.in-Some-get_mut.entry.now).3 (search rules)).0) _ refl), refl)
+returns-in_err-insert-clause-err c = on_err c.from_residual.result _ (
+  ap part_of (
+      seen_as_found (met (goal.at.returns-in_err-insert-clause-err c).In-Some-get_mut) _ _ _ c.in-Some-get_mut.entry.now c.in-Some.future.now refl refl
+      c.in_err-insert.ensures.err ((c.get_mut.follows.holds c.in-Some.future.now).3 (search rules)).0
+      (beside (lent c.self.inside c.args.ready.now) _ _ _ ((c.get_mut-2.follows.holds c.in-Some-get_mut.entry.now).3 (search rules)).0) _ refl),
+  refl,
+)
 
 pub invariant_of-self-then-is_ready : goal.invariant_of-self-then-is_ready
 invariant_of-self-then-is_ready c =
@@ -145,10 +148,13 @@ returns-in_err-register-clause-refused c = lacks_memory c.from_residual-in_err-r
     (may_poll (met (goal.at.returns-in_err-register-clause-refused c).In-Some-get_mut) c.args.waker)
 
 pub returns-in_err-register-clause-err : goal.returns-in_err-register-clause-err
-returns-in_err-register-clause-err c = on_err c.from_residual-in_err-register.result _ (ap part_of (
-    seen_as_found (met (goal.at.returns-in_err-register-clause-err c).In-Some-get_mut) _ _ _ c.in-Some-get_mut.entry.now c.in-Some.future.now refl refl
-    refl ((c.get_mut.follows.holds c.in-Some.future.now).3 (search rules)).0
-    (beside (lent c.self.inside c.args.ready.now) _ _ _ ((c.get_mut-2.follows.holds c.in-Some-get_mut.entry.now).3 (search rules)).0) _ refl), c.in_err-register.ensures.err)
+returns-in_err-register-clause-err c = on_err c.from_residual-in_err-register.result _ (
+  ap part_of (
+      seen_as_found (met (goal.at.returns-in_err-register-clause-err c).In-Some-get_mut) _ _ _ c.in-Some-get_mut.entry.now c.in-Some.future.now refl refl
+      refl ((c.get_mut.follows.holds c.in-Some.future.now).3 (search rules)).0
+      (beside (lent c.self.inside c.args.ready.now) _ _ _ ((c.get_mut-2.follows.holds c.in-Some-get_mut.entry.now).3 (search rules)).0) _ refl),
+  c.in_err-register.ensures.err,
+)
 
 pub invariant_of-self-in_default-queue : goal.invariant_of-self-in_default-queue
 invariant_of-self-in_default-queue c =
@@ -163,11 +169,12 @@ returns-in_default-queue-clause-refused c = inr (may_poll (met (goal.at.returns-
 pub returns-in_default-queue-clause-err : goal.returns-in_default-queue-clause-err
 returns-in_default-queue-clause-err c =
     let back : c.args.ready.now.registered + 1 - 1 ≡ c.args.ready.now.registered = omega arith in
-    let x2 : FutureEntry = record c.in-Some.future.now { acquire = c.queue.new.acquire } in
-    (ap part_of (seen_as_found (met (goal.at.returns-in_default-queue-clause-err c).In-Some-get_mut) _ _ _ c.queue.new.self x2 c.in_default-queue.ensures.err.0
-    (λ j. record c.in-Some.future.now { acquire = c.in_default-queue.ensures.err.1 j }) refl ((c.get_mut.follows.holds x2).3 (search rules)).0
-    (beside (lent c.self.inside c.args.ready.now) _ _ _ ((c.get_mut-2.follows.holds c.queue.new.self).3 (search rules)).0) _ refl),
-    c.unregister.ensures ∙ ap (λ (w : Waking ℕ). record w { registered = w.registered - 1 }) c.in_ok-register.ensures.ok ∙ ap (λ n. record c.args.ready.now { registered = n }) back)
+    let x2 : FutureEntry = record c.in-Some.future.now { acquire = c.queue.new.acquire } in (
+      ap part_of (seen_as_found (met (goal.at.returns-in_default-queue-clause-err c).In-Some-get_mut) _ _ _ c.queue.new.self x2 c.in_default-queue.ensures.err.0
+          (λ j. record c.in-Some.future.now { acquire = c.in_default-queue.ensures.err.1 j }) refl ((c.get_mut.follows.holds x2).3 (search rules)).0
+          (beside (lent c.self.inside c.args.ready.now) _ _ _ ((c.get_mut-2.follows.holds c.queue.new.self).3 (search rules)).0) _ refl),
+      c.unregister.ensures ∙ ap (λ (w : Waking ℕ). record w { registered = w.registered - 1 }) c.in_ok-register.ensures.ok ∙ ap (λ n. record c.args.ready.now { registered = n }) back,
+    )
 
 pub invariant_of-self-then-is_new : goal.invariant_of-self-then-is_new
 invariant_of-self-then-is_new c =

@@ -46,8 +46,11 @@ pub returns-in_err-has_room_for-clause-refused : goal.returns-in_err-has_room_fo
 returns-in_err-has_room_for-clause-refused c = refuses c.from_residual.result _ _ c.from_residual.ensures.1 (release_refused (met (goal.at.returns-in_err-has_room_for-clause-refused c).In-Some) c.args.n _ c.in_err-has_room_for.ensures.refused)
 
 pub returns-in_err-has_room_for-clause-err : goal.returns-in_err-has_room_for-clause-err
-returns-in_err-has_room_for-clause-err c = on_err c.from_residual.result _ (ap part_of (seen_unchanged (met (goal.at.returns-in_err-has_room_for-clause-err c).In-Some) _ c.in-Some.entry.now
-    (beside (lent c.self.inside c.args.ready.now) _ _ _ ((c.get_mut.follows.holds c.in-Some.entry.now).3 (search rules)).0) refl _ refl), refl)
+returns-in_err-has_room_for-clause-err c = on_err c.from_residual.result _ (
+  ap part_of (seen_unchanged (met (goal.at.returns-in_err-has_room_for-clause-err c).In-Some) _ c.in-Some.entry.now
+      (beside (lent c.self.inside c.args.ready.now) _ _ _ ((c.get_mut.follows.holds c.in-Some.entry.now).3 (search rules)).0) refl _ refl),
+  refl,
+)
 
 pub invariant_of-self-in_err-has_room_for : goal.invariant_of-self-in_err-has_room_for
 invariant_of-self-in_err-has_room_for c = own (kept_unchanged (met (goal.at.invariant_of-self-in_err-has_room_for c).In-Some) _ c.in-Some.entry.now
