@@ -1,5 +1,5 @@
 -- the channels and boxes of all kinds, and what an event does to them
-use Rattle.std.specs.Prelude.{ℕ, ◌≡◌, Option, Some, None}
+use Rattle.std.specs.Prelude.{ℕ, ◌≡◌, ◌≤◌, Option, Some, None}
 use Rattle.mea_family.specs.declared.answer.Answer.{Answer}
 use Rattle.mea_base.specs.Ready.{Waking}
 use Rattle.mea_family.specs.Play.{Part, PartYields}
@@ -19,6 +19,13 @@ use Rattle.mea_chan.specs.BoxParts.{BoxYields}
 
 abbrev pub hall_of : Part Mailboxes → Part Mailboxes → Part Bounded → Part Broadcasts → Boxes → Boxes → ChanHall
 hall_of u o n d b p = record { unbounded = u.hall; oneshots = o.hall; bounded = n.hall; broadcasts = d.hall; boxes = b; option_boxes = p }
+
+-- no next number is above n
+pub record AreBelow (u o : Part Mailboxes) (n : Part Bounded) (d : Part Broadcasts) (next : ℕ) : Type 0 where
+  pub unbounded : u.next ≤ next
+  pub oneshots : o.next ≤ next
+  pub bounded : n.next ≤ next
+  pub broadcasts : d.next ≤ next
 
 -- what was done under number i to the channels of one kind, to the boxes of one kind, and to nothing else
 pub record PlaysUnbounded (u o : Part Mailboxes) (n : Part Bounded) (d : Part Broadcasts) (b p : Boxes) (i : ℕ) (a : Action) (answer : Answer) (u' o' : Part Mailboxes) (n' : Part Bounded) (d' : Part Broadcasts) (b' p' : Boxes) (before after : Waking ℕ) : Type 0 where

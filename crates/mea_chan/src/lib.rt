@@ -8,7 +8,7 @@ mod bounded_part;
 mod box_core;
 mod box_part;
 mod channel_entry;
-mod hall;
+mod family;
 mod kinds;
 mod mailbox_core;
 mod mailbox_part;
@@ -18,5 +18,5 @@ mod send_entry;
 mod sender_entry;
 mod unbounded;
 
-pub use hall::ChanHall;
+pub use family::{ChanFamily, ChanHall, ChanModel};
 pub use mea_events::ChanEvent;

@@ -1,12 +1,9 @@
 ghost use Rattle.std.specs.Prelude.{◌≡◌, ◌+◌, ◌≤◌, ◌∷◌, ◌++◌, [], length, IfSome, IfNone};
 
 use mea_base::Outbox;
-use mea_chan::ChanHall;
-use mea_lock::LockHall;
+use mea_family_hall::{Family, FamilyHall};
 use mea_meet::MeetHall;
-use mea_once::OnceHall;
 use mea_sem::SemHall;
-use mea_share::ShareHall;
 
 /// The hall of a family, which makes wakers ready and hands them out in their order.
 pub trait WakingHall {
@@ -46,7 +43,7 @@ impl WakingHall for MeetHall {
     }
 }
 
-impl WakingHall for LockHall {
+impl<F: Family<H>, H> WakingHall for FamilyHall<F, H> {
     ghost use Rattle.std.specs.Prelude.{[]};
 
     ghost wakes_of = { λ h. h.wakes };
@@ -54,43 +51,7 @@ impl WakingHall for LockHall {
     ghost quieted = { λ h. record h { wakes = [] } };
 
     fn next_wake(&mut self) -> Option<u64> {
-        LockHall::next_wake(self)
-    }
-}
-
-impl WakingHall for ChanHall {
-    ghost use Rattle.std.specs.Prelude.{[]};
-
-    ghost wakes_of = { λ h. h.wakes };
-
-    ghost quieted = { λ h. record h { wakes = [] } };
-
-    fn next_wake(&mut self) -> Option<u64> {
-        ChanHall::next_wake(self)
-    }
-}
-
-impl WakingHall for ShareHall {
-    ghost use Rattle.std.specs.Prelude.{[]};
-
-    ghost wakes_of = { λ h. h.wakes };
-
-    ghost quieted = { λ h. record h { wakes = [] } };
-
-    fn next_wake(&mut self) -> Option<u64> {
-        ShareHall::next_wake(self)
-    }
-}
-
-impl WakingHall for OnceHall {
-    ghost use Rattle.std.specs.Prelude.{[]};
-
-    ghost wakes_of = { λ h. h.wakes };
-
-    ghost quieted = { λ h. record h { wakes = [] } };
-
-    fn next_wake(&mut self) -> Option<u64> {
-        OnceHall::next_wake(self)
+        FamilyHall::next_wake(self)
     }
 }
 

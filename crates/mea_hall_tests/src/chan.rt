@@ -41,7 +41,7 @@ struct Seen {
 }
 
 fn broadcast(hall: &ChanHall, name: u64) -> Option<(u64, usize)> {
-    let core = hall.broadcast(name)?;
+    let core = hall.family().broadcast(name)?;
     Some((core.tail(), core.senders()))
 }
 
@@ -50,7 +50,7 @@ fn shown(alloc: Global, rows: &[Row<ChanEvent>], bounded: u64, broadcasts: [u64;
     let seen = Seen {
         differs_at: differs_at(&mut hall, rows),
         wakers: (hall.registered(), hall.wakes_ready()),
-        has_bounded: hall.bounded(bounded).is_some(),
+        has_bounded: hall.family().bounded(bounded).is_some(),
         broadcasts: [
             broadcast(&hall, broadcasts[0]),
             broadcast(&hall, broadcasts[1]),

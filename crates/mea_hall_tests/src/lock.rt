@@ -51,9 +51,12 @@ fn ample(rt: HostRuntime) {
     assert_eq!(rt; differs_at(&mut hall, &rows), None);
     assert_eq!(rt; hall.registered(), 0);
     assert_eq!(rt; hall.wakes_ready(), 0);
-    assert!(rt; hall.mutex(0).is_some());
-    assert_eq!(rt; hall.rw_lock(5).map(|core| core.readers()), Some(1));
-    assert!(rt; hall.mutex(5).is_none());
+    assert!(rt; hall.family().mutex(0).is_some());
+    assert_eq!(rt;
+        hall.family().rw_lock(5).map(|core| core.readers()),
+        Some(1)
+    );
+    assert!(rt; hall.family().mutex(5).is_none());
     gone(hall);
 }
 
@@ -72,7 +75,7 @@ fn what_ended_is_gone(rt: HostRuntime) {
         (LockEvent::MxLock(0), Err(Stop::Unknown), &[]),
     ];
     assert_eq!(rt; differs_at(&mut hall, &rows), None);
-    assert!(rt; hall.mutex(0).is_none());
+    assert!(rt; hall.family().mutex(0).is_none());
     gone(hall);
 }
 

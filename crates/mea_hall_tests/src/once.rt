@@ -235,9 +235,9 @@ fn what_lives_is_lent(rt: HostRuntime) {
         (OnceEvent::OcDrop(1), Ok(Answer::Done), &[]),
     ];
     assert_eq!(rt; differs_at(&mut hall, &rows), None);
-    assert!(rt; hall.once(0).is_some());
-    assert!(rt; hall.cell(1).is_none());
-    assert!(rt; hall.map(2).is_some());
-    assert!(rt; hall.flight(3).is_some() && hall.flight(2).is_none());
+    assert!(rt; hall.family().once(0).is_some());
+    assert!(rt; hall.family().cell(1).is_none());
+    assert!(rt; hall.family().map(2).is_some());
+    assert!(rt; hall.family().flight(3).is_some() && hall.family().flight(2).is_none());
     gone(hall);
 }

@@ -118,7 +118,10 @@ fn what_is_named_is_lent(rt: HostRuntime) {
         (ShareEvent::FsDrop(2), Ok(Answer::Done), &[]),
     ];
     assert_eq!(rt; differs_at(&mut hall, &rows), None);
-    assert_eq!(rt; hall.fair(0).map(|core| core.available_permits()), Some(1));
-    assert!(rt; hall.fair(2).is_none());
+    assert_eq!(rt;
+        hall.family().fair(0).map(|core| core.available_permits()),
+        Some(1)
+    );
+    assert!(rt; hall.family().fair(2).is_none());
     gone(hall);
 }

@@ -17,6 +17,12 @@ use Rattle.mea_lock_model.specs.Meaning.{Doing, OnLocks, OnCondvars, doing}
 abbrev pub hall_of : Part Locks → Part Locks → Part Condvars → LockHall
 hall_of m l v = record { mutexes = m.hall; rw_locks = l.hall; condvars = v.hall }
 
+-- no next number is above n
+pub record AreBelow (m l : Part Locks) (v : Part Condvars) (n : ℕ) : Type 0 where
+  pub mutexes : m.next ≤ n
+  pub rw_locks : l.next ≤ n
+  pub condvars : v.next ≤ n
+
 -- event number i did this to the locks of one kind, and nothing to those of the other and to condition variables
 pub record PlaysOne (old other : Part Locks) (v : Part Condvars) (i : ℕ) (a : Action) (answer : Answer) (new other' : Part Locks) (v' : Part Condvars) (before after : Waking ℕ) : Type 0 where
   pub yields : PartYields locks.registered old i (act_in old.hall i a) answer new before after

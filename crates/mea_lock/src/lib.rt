@@ -6,8 +6,8 @@
 mod access;
 mod condvar_entry;
 mod entries;
+mod family;
 mod guard_entry;
-mod hall;
 mod kinds;
 mod lock_core;
 mod mutexes;
@@ -17,5 +17,5 @@ mod until;
 mod wait_entry;
 mod wait_part;
 
-pub use hall::LockHall;
+pub use family::{LockFamily, LockHall, LockModel};
 pub use mea_events::LockEvent;

@@ -4,7 +4,7 @@ use Rattle.mea_family.specs.declared.answer.Answer.{Answer}
 use Rattle.mea_base.specs.declared.no_memory.NoMemory.{NoMemory}
 use Rattle.mea_family.specs.Family.{Outcome}
 use Rattle.mea_base.specs.Ready.{Waking}
-use Rattle.mea_family.specs.Play.{Part, PartYields, PartRests, Yields}
+use Rattle.mea_family.specs.Play.{Part, PartYields, PartRests}
 use Rattle.mea_events.specs.declared.once_event.OnceEvent.{OnceEvent}
 use Rattle.mea_events.specs.declared.once_event.OnceEvent.TheVariants.{OmNew, OmGet, OmCompute, OmPoll, OmSettle, OmFail, OmDiscard, OmRemove, OmEnd, OmDrop, SfNew, SfWork, SfPoll, SfSettle, SfFail, SfForget, SfEnd, SfDrop}
 use Rattle.mea_once_model.specs.declared.job.Initialiser.TheVariants.{Gives, Fails}
@@ -27,70 +27,68 @@ yield_rests old i o answer new w rests = record {
   counted = omega (arith, rests.counted);
 }
 
--- what holds of the things of all kinds between events
-pub record Holds (p : Parts) (ready : Waking ℕ) (next : ℕ) : Type 0 where
-  pub below : AreBelow p next
-  pub counted : ready.registered ≡ registered (hall_of p)
-  pub few : ready.registered ≤ next
+module _ (p p' : Parts) (before after : Waking ℕ) (next i : ℕ) (answer : Answer) (held : AreBelow p i) where
+  -- what an event leaves: next numbers that are below the next one, and the registered wakers counted
+  record Leaves (q : Parts) : Type 0 where
+    pub below : AreBelow q (i + 1)
+    pub counted : after.registered + registered (hall_of p) ≡ before.registered + registered (hall_of q)
 
-module _ (p p' : Parts) (before after : Waking ℕ) (next i : ℕ) (answer : Answer) where
-  module _ (held : Holds p before next) (later : next ≤ i) where
-    cells_held : (k : Kind) (a : Action) → PlaysCells p k i a answer p' before after
-        → registered (step_by (hall_of p) i (OfCells (record { kind = k; action = a }))).hall + length (step_by (hall_of p) i (OfCells (record { kind = k; action = a }))).wakes ≤ registered (hall_of p) + 1 → Holds p' after (i + 1)
-    cells_held Onces a one few =
-        let hall : cells.registered one.part.hall ≡ cells.registered (act_in p.onces.hall i a).hall = ap (λ (q : Part Cells). cells.registered q.hall) one.yields.moved in
-        let next_is : one.part.next ≡ i + 1 = ap (λ (q : Part Cells). q.next) one.yields.moved in
-        subst (λ q. Holds q after (i + 1)) (sym one.is) (record {
-          below = record { onces = omega (arith, next_is); values = omega (arith, held.below.values, later); maps = omega (arith, held.below.maps, later); groups = omega (arith, held.below.groups, later) };
-          counted = omega (arith, hall, one.yields.counted, held.counted);
-          few = omega (arith, hall, one.yields.counted, held.counted, held.few, few, later);
-        })
-    cells_held Values a one few =
-        let hall : cells.registered one.part.hall ≡ cells.registered (act_in p.values.hall i a).hall = ap (λ (q : Part Cells). cells.registered q.hall) one.yields.moved in
-        let next_is : one.part.next ≡ i + 1 = ap (λ (q : Part Cells). q.next) one.yields.moved in
-        subst (λ q. Holds q after (i + 1)) (sym one.is) (record {
-          below = record { onces = omega (arith, held.below.onces, later); values = omega (arith, next_is); maps = omega (arith, held.below.maps, later); groups = omega (arith, held.below.groups, later) };
-          counted = omega (arith, hall, one.yields.counted, held.counted);
-          few = omega (arith, hall, one.yields.counted, held.counted, held.few, few, later);
-        })
+  cells_leave : (k : Kind) (a : Action) → PlaysCells p k i a answer p' before after → Leaves p'
+  cells_leave Onces a one =
+      let hall : cells.registered one.part.hall ≡ cells.registered (act_in p.onces.hall i a).hall = ap (λ (q : Part Cells). cells.registered q.hall) one.yields.moved in
+      let next_is : one.part.next ≡ i + 1 = ap (λ (q : Part Cells). q.next) one.yields.moved in
+      subst Leaves (sym one.is) (record {
+        below = record { onces = omega (arith, next_is); values = omega (arith, held.values); maps = omega (arith, held.maps); groups = omega (arith, held.groups) };
+        counted = omega (arith, hall, one.yields.counted);
+      })
+  cells_leave Values a one =
+      let hall : cells.registered one.part.hall ≡ cells.registered (act_in p.values.hall i a).hall = ap (λ (q : Part Cells). cells.registered q.hall) one.yields.moved in
+      let next_is : one.part.next ≡ i + 1 = ap (λ (q : Part Cells). q.next) one.yields.moved in
+      subst Leaves (sym one.is) (record {
+        below = record { onces = omega (arith, held.onces); values = omega (arith, next_is); maps = omega (arith, held.maps); groups = omega (arith, held.groups) };
+        counted = omega (arith, hall, one.yields.counted);
+      })
 
-    tables_held : (k : TableKind) (a : KeyAction) → PlaysTables p k i a answer p' before after
-        → registered (step_by (hall_of p) i (OfTables (record { kind = k; action = a }))).hall + length (step_by (hall_of p) i (OfTables (record { kind = k; action = a }))).wakes ≤ registered (hall_of p) + 1 → Holds p' after (i + 1)
-    tables_held Maps a one few =
-        let hall = ap (λ (q : Part Tables). tables.registered q.hall) one.yields.moved in
-        let next_is : one.part.next ≡ i + 1 = ap (λ (q : Part Tables). q.next) one.yields.moved in
-        subst (λ q. Holds q after (i + 1)) (sym one.is) (record {
-          below = record { onces = omega (arith, held.below.onces, later); values = omega (arith, held.below.values, later); maps = omega (arith, next_is); groups = omega (arith, held.below.groups, later) };
-          counted = omega (arith, hall, one.yields.counted, held.counted);
-          few = omega (arith, hall, one.yields.counted, held.counted, held.few, few, later);
-        })
-    tables_held Groups a one few =
-        let hall = ap (λ (q : Part Tables). tables.registered q.hall) one.yields.moved in
-        let next_is : one.part.next ≡ i + 1 = ap (λ (q : Part Tables). q.next) one.yields.moved in
-        subst (λ q. Holds q after (i + 1)) (sym one.is) (record {
-          below = record { onces = omega (arith, held.below.onces, later); values = omega (arith, held.below.values, later); maps = omega (arith, held.below.maps, later); groups = omega (arith, next_is) };
-          counted = omega (arith, hall, one.yields.counted, held.counted);
-          few = omega (arith, hall, one.yields.counted, held.counted, held.few, few, later);
-        })
+  tables_leave : (k : TableKind) (a : KeyAction) → PlaysTables p k i a answer p' before after → Leaves p'
+  tables_leave Maps a one =
+      let hall = ap (λ (q : Part Tables). tables.registered q.hall) one.yields.moved in
+      let next_is : one.part.next ≡ i + 1 = ap (λ (q : Part Tables). q.next) one.yields.moved in
+      subst Leaves (sym one.is) (record {
+        below = record { onces = omega (arith, held.onces); values = omega (arith, held.values); maps = omega (arith, next_is); groups = omega (arith, held.groups) };
+        counted = omega (arith, hall, one.yields.counted);
+      })
+  tables_leave Groups a one =
+      let hall = ap (λ (q : Part Tables). tables.registered q.hall) one.yields.moved in
+      let next_is : one.part.next ≡ i + 1 = ap (λ (q : Part Tables). q.next) one.yields.moved in
+      subst Leaves (sym one.is) (record {
+        below = record { onces = omega (arith, held.onces); values = omega (arith, held.values); maps = omega (arith, held.maps); groups = omega (arith, next_is) };
+        counted = omega (arith, hall, one.yields.counted);
+      })
 
-    held_by : (m : Meaning) → PlaysBy m p i answer p' before after → registered (step_by (hall_of p) i m).hall + length (step_by (hall_of p) i m).wakes ≤ registered (hall_of p) + 1 → Holds p' after (i + 1)
-    held_by (OfCells d) one few = cells_held d.kind d.action one few
-    held_by (OfTables d) one few = tables_held d.kind d.action one few
+  leaves_by : (m : Meaning) → PlaysBy m p i answer p' before after → Leaves p'
+  leaves_by (OfCells d) one = cells_leave d.kind d.action one
+  leaves_by (OfTables d) one = tables_leave d.kind d.action one
 
-    -- it holds after an event
-    pub holds_after : (e : OnceEvent) → PlaysKinds p i e answer p' before after → registered (step (hall_of p) i e).hall + length (step (hall_of p) i e).wakes ≤ registered (hall_of p) + 1 → Holds p' after (i + 1)
-    holds_after e plays grows = held_by (meaning_of e) plays grows
+  pub below_after : (e : OnceEvent) → PlaysKinds p i e answer p' before after → AreBelow p' (i + 1)
+  below_after e plays = (leaves_by (meaning_of e) plays).below
 
   abbrev Yielding : Outcome OnceHall → Type 0
-  Yielding o = Yields {H = OnceHall} (record { hall = hall_of p; wakes = before.wakers; next = next }) i o answer (record { hall = hall_of p'; wakes = after.wakers; next = i + 1 })
+  Yielding o = PartYields registered (record { hall = hall_of p; next = next }) i o answer (record { hall = hall_of p'; next = i + 1 }) before after
+
+  counting : {h : OnceHall} → Leaves p' → hall_of p' ≡ h → after.registered + registered (hall_of p) ≡ before.registered + registered h
+  counting left is = left.counted ∙ ap (λ h. before.registered + registered h) is
+
+  -- the same hall in other words: what it replied, what it left, and the wakers that it made ready
+  yielding : {o : Outcome OnceHall} → answer ≡ o.reply → hall_of p' ≡ o.hall → after.wakers ≡ before.wakers ++ o.wakes → Leaves p' → Yielding o
+  yielding replied hall woken left = record { replied = replied; moved = ap (λ h. record { hall = h; next = i + 1 }) hall; woken = woken; counted = counting left hall }
 
   cells_yield : (k : Kind) (a : Action) → PlaysCells p k i a answer p' before after → Yielding (step_by (hall_of p) i (OfCells (record { kind = k; action = a })))
-  cells_yield Onces a one = record { replied = one.yields.replied; moved = ap (λ q. record { hall = hall_of q; wakes = after.wakers; next = i + 1 }) one.is ∙ (λ j. record { hall = hall_of (record p { onces = one.yields.moved j }); wakes = one.yields.woken j; next = i + 1 }) }
-  cells_yield Values a one = record { replied = one.yields.replied; moved = ap (λ q. record { hall = hall_of q; wakes = after.wakers; next = i + 1 }) one.is ∙ (λ j. record { hall = hall_of (record p { values = one.yields.moved j }); wakes = one.yields.woken j; next = i + 1 }) }
+  cells_yield Onces a one = yielding one.yields.replied (ap hall_of one.is ∙ (λ j. hall_of (record p { onces = one.yields.moved j }))) one.yields.woken (cells_leave Onces a one)
+  cells_yield Values a one = yielding one.yields.replied (ap hall_of one.is ∙ (λ j. hall_of (record p { values = one.yields.moved j }))) one.yields.woken (cells_leave Values a one)
 
   tables_yield : (k : TableKind) (a : KeyAction) → PlaysTables p k i a answer p' before after → Yielding (step_by (hall_of p) i (OfTables (record { kind = k; action = a })))
-  tables_yield Maps a one = record { replied = one.yields.replied; moved = ap (λ q. record { hall = hall_of q; wakes = after.wakers; next = i + 1 }) one.is ∙ (λ j. record { hall = hall_of (record p { maps = one.yields.moved j }); wakes = one.yields.woken j; next = i + 1 }) }
-  tables_yield Groups a one = record { replied = one.yields.replied; moved = ap (λ q. record { hall = hall_of q; wakes = after.wakers; next = i + 1 }) one.is ∙ (λ j. record { hall = hall_of (record p { groups = one.yields.moved j }); wakes = one.yields.woken j; next = i + 1 }) }
+  tables_yield Maps a one = yielding one.yields.replied (ap hall_of one.is ∙ (λ j. hall_of (record p { maps = one.yields.moved j }))) one.yields.woken (tables_leave Maps a one)
+  tables_yield Groups a one = yielding one.yields.replied (ap hall_of one.is ∙ (λ j. hall_of (record p { groups = one.yields.moved j }))) one.yields.woken (tables_leave Groups a one)
 
   yields_by : (m : Meaning) → PlaysBy m p i answer p' before after → Yielding (step_by (hall_of p) i m)
   yields_by (OfCells d) one = cells_yield d.kind d.action one

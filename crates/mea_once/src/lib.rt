@@ -3,9 +3,9 @@
 #![tactic(auto)]
 
 mod cell_entry;
+mod family;
 mod future_entry;
 mod groups;
-mod hall;
 mod jobs;
 mod key_future;
 mod key_part;
@@ -22,7 +22,7 @@ mod table_entry;
 mod turn_core;
 mod values;
 
+pub use family::{OnceFamily, OnceHall, OnceModel};
 pub use groups::NamedGroup;
-pub use hall::OnceHall;
 pub use maps::NamedMap;
 pub use mea_events::OnceEvent;

@@ -14,14 +14,14 @@ use Rattle.mea_sem_model.specs.Hall.{Hall, Semaphore, Future, Permit, free, held
 use Rattle.mea_sem.specs.declared.entries.SemaphoreEntry.{SemaphoreEntry}
 use Rattle.mea_sem.specs.declared.entries.EndedEntry.{EndedEntry}
 use Rattle.mea_sem.specs.declared.entries.FutureEntry.{FutureEntry}
-use Rattle.mea_sem.specs.declared.hall.SemHall.TheInside.{Inside}
+use Rattle.mea_sem.proofs.Inside.{Inside}
 use Rattle.mea_sem.specs.Entries.{IsOver, account_of}
 use Rattle.mea_sem.specs.Store.{store_of, as_ended, ended_of, with_ended, future_of, IsOwned}
 use Rattle.mea_sem.specs.Kept.{IsKeptEntry, things}
 use Rattle.mea_sem.proofs.Lives.{live-seen}
 use Rattle.mea_sem.proofs.Seen.{seen_at}
 use Rattle.mea_sem.proofs.Standing.{Semaphores}
-use Rattle.mea_sem.proofs.Meets.{semaphores_in, store_in, hall_in, IsKeptIn}
+use Rattle.mea_sem.proofs.Meets.{registered_in, semaphores_in, store_in, hall_in, IsKeptIn}
 use Rattle.mea_base.proofs.Tests.{on_false, on_first_false}
 
 -- ---- one list before another
@@ -40,16 +40,16 @@ at-append {X} (x ∷ xs) ys q = ap (cond (nat_eq q x.0) (Some x.1)) (at-append x
 pub living : (ss : Semaphores) (xs : List EndedEntry) (s : ℕ) (e : SemaphoreEntry) → at ss s ≡ Some e → at (with_ended ss xs) s ≡ Some e
 living ss xs s e is = at-append ss (ended_of xs) s ∙ ap (λ o. first o (at (ended_of xs) s)) is
 
-pub living_in : (a : Inside) (s : ℕ) (e : SemaphoreEntry) → at a.semaphores.entries s ≡ Some e → at (semaphores_in a) s ≡ Some e
-living_in a s e is = living a.semaphores.entries a.ended.items s e is
+pub living_in : (a : Inside) (s : ℕ) (e : SemaphoreEntry) → at a.kept.semaphores.entries s ≡ Some e → at (semaphores_in a) s ≡ Some e
+living_in a s e is = living a.kept.semaphores.entries a.kept.ended.items s e is
 
-pub beside : (a : Inside) (ss' : Semaphores) (s : ℕ) (e : SemaphoreEntry) → ChangesAt a.semaphores.entries ss' s (Some e)
-    → ChangesAt (semaphores_in a) (with_ended ss' a.ended.items) s (Some e)
-beside a ss' s e changes q = at-append ss' (ended_of a.ended.items) q ∙ ap (λ o. first o (at (ended_of a.ended.items) q)) (changes q)
-    ∙ by_test (s == q) ∙ ap (cond (s == q) (Some e)) (sym (at-append a.semaphores.entries (ended_of a.ended.items) q))
+pub beside : (a : Inside) (ss' : Semaphores) (s : ℕ) (e : SemaphoreEntry) → ChangesAt a.kept.semaphores.entries ss' s (Some e)
+    → ChangesAt (semaphores_in a) (with_ended ss' a.kept.ended.items) s (Some e)
+beside a ss' s e changes q = at-append ss' (ended_of a.kept.ended.items) q ∙ ap (λ o. first o (at (ended_of a.kept.ended.items) q)) (changes q)
+    ∙ by_test (s == q) ∙ ap (cond (s == q) (Some e)) (sym (at-append a.kept.semaphores.entries (ended_of a.kept.ended.items) q))
   where
-    by_test : (b : Bool) → first (cond b (Some e) (at a.semaphores.entries q)) (at (ended_of a.ended.items) q)
-        ≡ cond b (Some e) (first (at a.semaphores.entries q) (at (ended_of a.ended.items) q))
+    by_test : (b : Bool) → first (cond b (Some e) (at a.kept.semaphores.entries q)) (at (ended_of a.kept.ended.items) q)
+        ≡ cond b (Some e) (first (at a.kept.semaphores.entries q) (at (ended_of a.kept.ended.items) q))
     by_test true = refl
     by_test false = refl
 
@@ -73,17 +73,17 @@ has_ended (x ∷ xs) q e is = by_first (has_ended xs q) (at (ended_of xs) q) ref
     by_first others (Some d) there same = others e (there ∙ same)
 
 -- what is not there among the others is nowhere, or has ended
-pub missing : (a : Inside) (s : ℕ) → at a.semaphores.entries s ≡ None
+pub missing : (a : Inside) (s : ℕ) → at a.kept.semaphores.entries s ≡ None
     → (at (semaphores_in a) s ≡ None) ⊎ ((e : SemaphoreEntry) × (at (semaphores_in a) s ≡ Some e) × (e.named ≡ false) × (e.things ≡ 0))
-missing a s none = by_value (at (ended_of a.ended.items) s) refl
+missing a s none = by_value (at (ended_of a.kept.ended.items) s) refl
   where
-    all : at (semaphores_in a) s ≡ at (ended_of a.ended.items) s
-    all = at-append a.semaphores.entries (ended_of a.ended.items) s ∙ ap (λ o. first o (at (ended_of a.ended.items) s)) none
+    all : at (semaphores_in a) s ≡ at (ended_of a.kept.ended.items) s
+    all = at-append a.kept.semaphores.entries (ended_of a.kept.ended.items) s ∙ ap (λ o. first o (at (ended_of a.kept.ended.items) s)) none
 
-    by_value : (o : Option SemaphoreEntry) → at (ended_of a.ended.items) s ≡ o
+    by_value : (o : Option SemaphoreEntry) → at (ended_of a.kept.ended.items) s ≡ o
         → (at (semaphores_in a) s ≡ None) ⊎ ((e : SemaphoreEntry) × (at (semaphores_in a) s ≡ Some e) × (e.named ≡ false) × (e.things ≡ 0))
     by_value None is = inl (all ∙ is)
-    by_value (Some e) is = (let h = has_ended a.ended.items s e is in inr (e, all ∙ is, h.0, h.1))
+    by_value (Some e) is = (let h = has_ended a.kept.ended.items s e is in inr (e, all ∙ is, h.0, h.1))
 
 -- ---- a semaphore with nothing: it is its account
 module _ (a : Inside) (k : IsKeptIn a) (s : ℕ) (e : SemaphoreEntry) (there : at (semaphores_in a) s ≡ Some e) (none : e.things ≡ 0) where
@@ -93,7 +93,7 @@ module _ (a : Inside) (k : IsKeptIn a) (s : ℕ) (e : SemaphoreEntry) (there : a
   here : get (store_in a).semaphores s ≡ Some e
   here = found (semaphores_in a) s e there
 
-  entry : IsKeptEntry h a.next s e
+  entry : IsKeptEntry h a.kept.next s e
   entry = k.each s e here
 
   no_things : things h s ≡ 0
@@ -136,8 +136,8 @@ module _ (a : Inside) (k : IsKeptIn a) (s : ℕ) (e : SemaphoreEntry) (there : a
 
   live_is : e.core.live ≡ e.core.free
   live_is =
-      let all = live-seen (store_in a) a.registered a.outbox.spare a.next s e k here in
-      let idle : free h s ≡ e.core.free = ap (λ (r : Semaphore). r.free) (seen_at (store_in a) a.next s e k.linked here) in
+      let all = live-seen (store_in a) (registered_in a) a.list.registered a.kept.next s e k here in
+      let idle : free h s ≡ e.core.free = ap (λ (r : Semaphore). r.free) (seen_at (store_in a) a.kept.next s e k.linked here) in
       let holds : held h s ≡ 0 = total-zero (λ p (x : Permit). cond (x.semaphore == s) x.size 0) h.permits
       (λ p x is. on_false (x.semaphore == s) x.size (not_permit p x is)) in
       let pays : paid h s ≡ 0 = total-zero (λ f (x : Future). cond (x.semaphore == s) (paid_to (queue_at h s) f x.demand x.stage) 0) h.futures
@@ -176,37 +176,37 @@ module _ (a : Inside) (k : IsKeptIn a) (s : ℕ) (e : SemaphoreEntry) (there : a
       }
 
 -- ---- its account takes its place
-pub moved : (a : Inside) (s : ℕ) (e : SemaphoreEntry) (ss' : Semaphores) (xs' : List EndedEntry) → IsKeptIn a → at a.semaphores.entries s ≡ Some e → IsOver e
-    → ChangesAt a.semaphores.entries ss' s None → xs' ≡ a.ended.items ++ account_of e s ∷ []
-    → store_of (with_ended ss' xs') a.futures.entries a.permits.entries ≡ store_in a
+pub moved : (a : Inside) (s : ℕ) (e : SemaphoreEntry) (ss' : Semaphores) (xs' : List EndedEntry) → IsKeptIn a → at a.kept.semaphores.entries s ≡ Some e → IsOver e
+    → ChangesAt a.kept.semaphores.entries ss' s None → xs' ≡ a.kept.ended.items ++ account_of e s ∷ []
+    → store_of (with_ended ss' xs') a.kept.futures.entries a.kept.permits.entries ≡ store_in a
 moved a s e ss' xs' k there over gone pushed =
     let same = named-same (λ q x. x) (λ q x. x) (with_ended ss' xs') (semaphores_in a) (λ q. ap (option_map (λ x. x)) (at_each q)) in
     λ j. record { semaphores = same j; futures = (store_in a).futures; permits = (store_in a).permits }
   where
     es : Semaphores
-    es = ended_of a.ended.items
+    es = ended_of a.kept.ended.items
 
     last : ended_of xs' ≡ (s, as_ended (account_of e s)) ∷ es
     last = ap ended_of pushed
-        ∙ ap reverse (map-append (λ (x : EndedEntry). (x.name, as_ended x)) a.ended.items (account_of e s ∷ []))
-        ∙ reverse-append (map (λ (x : EndedEntry). (x.name, as_ended x)) a.ended.items) ((s, as_ended (account_of e s)) ∷ [])
+        ∙ ap reverse (map-append (λ (x : EndedEntry). (x.name, as_ended x)) a.kept.ended.items (account_of e s ∷ []))
+        ∙ reverse-append (map (λ (x : EndedEntry). (x.name, as_ended x)) a.kept.ended.items) ((s, as_ended (account_of e s)) ∷ [])
 
     turned : (m n : ℕ) → nat_eq m n ≡ (n == m)
     turned m n = grind (arith, nat_tests)
 
     by_test : (q : ℕ) (b : Bool) → (s == q) ≡ b
-        → first (cond b None (at a.semaphores.entries q)) (cond b (Some (as_ended (account_of e s))) (at es q)) ≡ first (at a.semaphores.entries q) (at es q)
+        → first (cond b None (at a.kept.semaphores.entries q)) (cond b (Some (as_ended (account_of e s))) (at es q)) ≡ first (at a.kept.semaphores.entries q) (at es q)
     by_test q true is = ap (λ x. Some x) (sym (is_account a k s e (living_in a s e there) over.things over))
-        ∙ sym (ap (λ o. first o (at es q)) (ap (at a.semaphores.entries) (sym (eqb-true s q is)) ∙ there))
+        ∙ sym (ap (λ o. first o (at es q)) (ap (at a.kept.semaphores.entries) (sym (eqb-true s q is)) ∙ there))
     by_test q false is = refl
 
     at_each : (q : ℕ) → at (with_ended ss' xs') q ≡ at (semaphores_in a) q
     at_each q = at-append ss' (ended_of xs') q ∙ (λ j. first (gone q j) (at (last j) q))
-        ∙ ap (λ b. first (cond (s == q) None (at a.semaphores.entries q)) (cond b (Some (as_ended (account_of e s))) (at es q))) (turned q s)
-        ∙ by_test q (s == q) refl ∙ sym (at-append a.semaphores.entries es q)
+        ∙ ap (λ b. first (cond (s == q) None (at a.kept.semaphores.entries q)) (cond b (Some (as_ended (account_of e s))) (at es q))) (turned q s)
+        ∙ by_test q (s == q) refl ∙ sym (at-append a.kept.semaphores.entries es q)
 
 -- room was made among those of which nothing is left
-pub beside_reserved : (a : Inside) (ss' : Semaphores) (xs' : List EndedEntry) (s : ℕ) (e : SemaphoreEntry) → xs' ≡ a.ended.items
-    → ChangesAt a.semaphores.entries ss' s (Some e) → ChangesAt (semaphores_in a) (with_ended ss' xs') s (Some e)
+pub beside_reserved : (a : Inside) (ss' : Semaphores) (xs' : List EndedEntry) (s : ℕ) (e : SemaphoreEntry) → xs' ≡ a.kept.ended.items
+    → ChangesAt a.kept.semaphores.entries ss' s (Some e) → ChangesAt (semaphores_in a) (with_ended ss' xs') s (Some e)
 beside_reserved a ss' xs' s e same changes = subst (λ (xs : List EndedEntry). ChangesAt (semaphores_in a) (with_ended ss' xs) s (Some e)) (sym same)
     (beside a ss' s e changes)

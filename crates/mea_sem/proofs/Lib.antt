@@ -10,6 +10,7 @@ pub mod CutHalls
 pub mod Weighs
 pub mod Renumbered
 pub mod Keeping
+pub mod Inside
 pub mod Still
 pub mod PlaysSemaphores
 pub mod PlaysNew
@@ -37,3 +38,4 @@ pub mod StandingFutures
 pub mod StandingPermits
 pub mod StandingWaits
 pub mod Turns
+pub mod Lists

@@ -1,4 +1,4 @@
--- from the maps of a `SemHall` to what it keeps
+-- from the maps of a `SemFamily` to what it keeps
 use Rattle.std.proofs.Common.{◌≡◌, ℕ, ◌==◌, Bool, true, false, cond, List, refl, sym, ap, ◌∙◌, Some}
 use Rattle.std.specs.Option.{option_map}
 use Rattle.std.proofs.lemmas.Bool.{eqb-true}

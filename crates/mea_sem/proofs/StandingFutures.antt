@@ -1,4 +1,4 @@
--- what the events on futures leave of a `SemHall`
+-- what the events on futures leave of a `SemFamily`
 use Rattle.std.proofs.Common.{inl, inr, ◌≡◌, ℕ, ◌+◌, ◌-◌, ◌^◌, ◌<◌, ◌≤◌, ◌==◌, Bool, true, false, cond, [], refl, ap, sym, subst, ◌∙◌, arith, Some, None, nat_le, if◌then◌else◌}
 use Rattle.std.specs.Option.{option_map}
 use Rattle.std.specs.FinMap.{get, insert, remove}
@@ -25,7 +25,7 @@ use Rattle.mea_sem.specs.declared.entries.SemaphoreEntry.{SemaphoreEntry}
 use Rattle.mea_sem.specs.declared.entries.FutureEntry.{FutureEntry}
 use Rattle.mea_sem.specs.declared.entries.PermitEntry.{PermitEntry}
 use Rattle.mea_sem.specs.Store.{Store, permit_of, store_of, queue_of, semaphore_of, stage_of, IsHome, IsOpen}
-use Rattle.mea_sem.specs.declared.hall.SemHall.TheInside.{Inside}
+use Rattle.mea_sem.proofs.Inside.{Inside}
 use Rattle.mea_sem.specs.Play.{Play}
 use Rattle.mea_sem.proofs.Stages.{stage_granted, stage_cut, stage_waits}
 use Rattle.mea_sem.proofs.Seen.{seen_at}
@@ -36,25 +36,25 @@ use Rattle.mea_sem.proofs.PlaysReady.{plays_ready, plays_ready_forgetting, futur
 use Rattle.mea_sem.proofs.Refusals.{future_known}
 use Rattle.mea_sem.proofs.Keeping.{Plays}
 use Rattle.mea_sem.proofs.Endings.{missing, no_entry}
-use Rattle.mea_sem.proofs.Meets.{semaphores_in, store_in, hall_in, IsKeptIn, MeetsSemaphore, MeetsFuture, Done, its_semaphore, later, to_kept, done, done_quietly}
+use Rattle.mea_sem.proofs.Meets.{registered_in, semaphores_in, store_in, hall_in, IsKeptIn, MeetsSemaphore, MeetsFuture, Done, its_semaphore, later, to_kept, done, done_quietly}
 use Rattle.mea_sem.proofs.Standing.{Semaphores, Futures, Permits, semaphores_of}
 use Rattle.mea_sem.proofs.PlaysFutures.{plays_acquire}
 use Rattle.mea_sem.proofs.PlaysEnds.{PlaysWith, plays_gone_new, plays_gone_cut}
 use Rattle.mea_sem.proofs.StandingSemaphores.{small_forgotten}
 
 -- ---- what an event without a cause finds
-pub its_home : (a : Inside) (f : ℕ) {x : FutureEntry} → IsKeptIn a → at a.futures.entries f ≡ Some x → IsHome (store_in a) x
-its_home a f {x} k is = k.linked.home f x (found a.futures.entries f x is)
+pub its_home : (a : Inside) (f : ℕ) {x : FutureEntry} → IsKeptIn a → at a.kept.futures.entries f ≡ Some x → IsHome (store_in a) x
+its_home a f {x} k is = k.linked.home f x (found a.kept.futures.entries f x is)
 
-pub semaphore_found : (a : Inside) (f : ℕ) {x : FutureEntry} → IsKeptIn a → at a.futures.entries f ≡ Some x → at (semaphores_in a) x.semaphore ≡ None → ⊥
+pub semaphore_found : (a : Inside) (f : ℕ) {x : FutureEntry} → IsKeptIn a → at a.kept.futures.entries f ≡ Some x → at (semaphores_in a) x.semaphore ≡ None → ⊥
 semaphore_found a f {x} k is none =
     absurd (let there = (its_home a f k is).there in let gone : get
     (store_in a).semaphores x.semaphore ≡ None = kept-at (semaphores_in a) x.semaphore ∙ none in cc)
 
-pub semaphore_living : (a : Inside) (f : ℕ) {x : FutureEntry} → IsKeptIn a → at a.futures.entries f ≡ Some x → at a.semaphores.entries x.semaphore ≡ None → ⊥
+pub semaphore_living : (a : Inside) (f : ℕ) {x : FutureEntry} → IsKeptIn a → at a.kept.futures.entries f ≡ Some x → at a.kept.semaphores.entries x.semaphore ≡ None → ⊥
 semaphore_living a f {x} k is none = elim (missing a x.semaphore none) [
   | inl gone ↦ semaphore_found a f k is gone
-  | inr e ↦ no_entry a k x.semaphore e.0 e.1 e.3 f x (found a.futures.entries f x is) refl
+  | inr e ↦ no_entry a k x.semaphore e.0 e.1 e.3 f x (found a.kept.futures.entries f x is) refl
 ]
 
 -- the permit that a future becomes
@@ -67,7 +67,7 @@ at_stage x z = record { semaphore = x.semaphore; demand = demand_of x.acquire; p
 
 module _ {a : Inside} {v : Play} {i f : ℕ} {x : FutureEntry} {e : SemaphoreEntry} (m : MeetsFuture a v i f x e) where
   pub future_there : get (store_in a).futures f ≡ Some x
-  future_there = found a.futures.entries f x m.is
+  future_there = found a.kept.futures.entries f x m.is
 
   pub home_there : get (store_in a).semaphores x.semaphore ≡ Some e
   home_there = found (semaphores_in a) x.semaphore e m.there
@@ -80,14 +80,14 @@ module _ {a : Inside} {v : Play} {i f : ℕ} {x : FutureEntry} {e : SemaphoreEnt
       (subst (λ (d : SemaphoreEntry). Belongs d.core x.acquire) same home.belongs, home.open_still)
 
   pub seen_as : (z : FutureStage) → stage_of x.acquire e.core ≡ z → get (hall_in a).futures f ≡ Some (at_stage x z)
-  seen_as z stage = seen_future (store_in a) a.next f x e x.acquire z future_there home_there refl stage
+  seen_as z stage = seen_future (store_in a) a.kept.next f x e x.acquire z future_there home_there refl stage
 
   pub seen_now : get (hall_in a).futures f ≡ Some (at_stage x (stage_of x.acquire e.core))
   seen_now = seen_as (stage_of x.acquire e.core) refl
 
   -- it is closed where its core is
   seen_closed : is_closed (hall_in a) x.semaphore ≡ e.core.closed
-  seen_closed = ap (λ (r : Semaphore). r.closed) (seen_at (store_in a) a.next x.semaphore e m.meets.kept.linked home_there)
+  seen_closed = ap (λ (r : Semaphore). r.closed) (seen_at (store_in a) a.kept.next x.semaphore e m.meets.kept.linked home_there)
 
   -- the first poll of an open one
   open_now : (w : ℕ) (y : Future) → y.semaphore ≡ x.semaphore → e.core.closed ≡ false
@@ -96,15 +96,15 @@ module _ {a : Inside} {v : Play} {i f : ℕ} {x : FutureEntry} {e : SemaphoreEnt
       (ap (is_closed (hall_in a)) mine ∙ seen_closed ∙ open_still)
 
   seen_free : free (hall_in a) x.semaphore ≡ e.core.free
-  seen_free = ap (λ (r : Semaphore). r.free) (seen_at (store_in a) a.next x.semaphore e m.meets.kept.linked home_there)
+  seen_free = ap (λ (r : Semaphore). r.free) (seen_at (store_in a) a.kept.next x.semaphore e m.meets.kept.linked home_there)
 
   -- a plain future is counted
   pub future_plain : cond x.plain 1 0 ≤ e.plain
-  future_plain = (future_counts (store_in a) a.registered a.outbox.spare a.next f (at_stage x (stage_of x.acquire e.core))
+  future_plain = (future_counts (store_in a) (registered_in a) a.list.registered a.kept.next f (at_stage x (stage_of x.acquire e.core))
       e m.meets.kept seen_now home_there).0
 
   pub future_thing : 1 ≤ e.things
-  future_thing = (future_counts (store_in a) a.registered a.outbox.spare a.next f (at_stage x (stage_of x.acquire e.core))
+  future_thing = (future_counts (store_in a) (registered_in a) a.list.registered a.kept.next f (at_stage x (stage_of x.acquire e.core))
       e m.meets.kept seen_now home_there).1
 
   -- ---- what the next poll does
@@ -173,7 +173,7 @@ module _ {a : Inside} {v : Play} {i f : ℕ} {x : FutureEntry} {e : SemaphoreEnt
       (get (hall_in a).futures f) ≡ paid_to (queue_at (hall_in a) s) f y.demand y.stage =
       ap (weight (λ g (z : Future). cond (z.semaphore == s) (paid_to (queue_at (hall_in a) s) g z.demand z.stage) 0) f) seen
       ∙ at_same y.semaphore s (paid_to (queue_at (hall_in a) s) f y.demand y.stage) 0 mine in
-      let all = live-seen (store_in a) a.registered a.outbox.spare a.next s e m.meets.kept home_there in
+      let all = live-seen (store_in a) (registered_in a) a.list.registered a.kept.next s e m.meets.kept home_there in
       omega (arith, sums, here, all)
 
   pub granted_live : (d n : ℕ) → x.acquire ≡ acquires.Queued d n → get e.core.granted n ≡ Some d → d ≤ e.core.live
@@ -187,14 +187,14 @@ module _ {a : Inside} {v : Play} {i f : ℕ} {x : FutureEntry} {e : SemaphoreEnt
     where
       by_acquire : (b : Acquire) → x.acquire ≡ b → IsReady e.core b → demand_of x.acquire < 2 ^ 64
       by_acquire (acquires.New d) same r =
-          let all = live-seen (store_in a) a.registered a.outbox.spare a.next x.semaphore e m.meets.kept home_there in
+          let all = live-seen (store_in a) (registered_in a) a.list.registered a.kept.next x.semaphore e m.meets.kept home_there in
           let fits = m.meets.kept.valid.fits x.semaphore in
           let demand : demand_of x.acquire ≡ d = ap demand_of same in
           let part : free (hall_in a) x.semaphore ≡ e.core.free = seen_free in
           let enough = r.1 in
           omega (arith, fits, demand, part, enough)
       by_acquire (acquires.Queued d n) same r =
-          let all = live-seen (store_in a) a.registered a.outbox.spare a.next x.semaphore e m.meets.kept home_there in
+          let all = live-seen (store_in a) (registered_in a) a.list.registered a.kept.next x.semaphore e m.meets.kept home_there in
           let fits = m.meets.kept.valid.fits x.semaphore in
           let demand : demand_of x.acquire ≡ d = ap demand_of same in
           omega (arith, all, fits, demand, granted_live d n same r)
@@ -240,18 +240,18 @@ acq_step h i s n false true = refl
 pub acquire_done : {a : Inside} {v : Play} {i s : ℕ} {e : SemaphoreEntry} → MeetsSemaphore a v i s e
     → (ss' : Semaphores) (fs' : Futures) (n : ℕ) (plain forgets : Bool) (e2 : SemaphoreEntry) (x : FutureEntry)
     → cause_of v.hall (events.Acq s n) ≡ None → ChangesAt (semaphores_in a) ss' s (Some e2) → e2 ≡ record e { plain = e.plain + cond plain 1 0; things = e.things + 1 }
-    → ChangesAt a.futures.entries fs' i (Some x) → x ≡ record { semaphore = s; acquire = acquires.New n; plain = plain; forgets = forgets }
-    → Done v i (acquire_of v.hall i s n plain forgets) answers.Made (store_of ss' fs' a.permits.entries) a.registered a.outbox.spare a.outbox.wakers
+    → ChangesAt a.kept.futures.entries fs' i (Some x) → x ≡ record { semaphore = s; acquire = acquires.New n; plain = plain; forgets = forgets }
+    → Done v i (acquire_of v.hall i s n plain forgets) answers.Made (store_of ss' fs' a.kept.permits.entries) (registered_in a) a.list.registered a.list.wakers
 acquire_done {a} {v} {i} {s} {e} m ss' fs' n plain forgets e2 x allowed changes is put new =
     let h : Hall = hall_in a in
-    let st' : Store = store_of ss' fs' a.permits.entries in
+    let st' : Store = store_of ss' fs' a.kept.permits.entries in
     let played = acq_step h i s n plain forgets in
-    let plays = plays_acquire (store_in a) st' a.registered a.outbox.spare a.next i s n e m.meets.kept (later m.meets) m.meets.low
+    let plays = plays_acquire (store_in a) st' (registered_in a) a.list.registered a.kept.next i s n e m.meets.kept (later m.meets) m.meets.low
     (acq_event s n plain forgets) plain forgets (acq_fits s n plain forgets)
     (acq_cause h s n plain forgets (to_kept m.meets (λ g. cause_of g (events.Acq s n) ≡ None) allowed)) (ap (λ o. o.hall) played)
     (found (semaphores_in a) s e m.there) (semaphores_of (semaphores_in a) ss' s e2 _ changes is)
-    (λ g. kept-changed a.futures.entries fs' i (Some x) put g ∙ ap (λ y. cond (i == g) (Some y) (get (store_in a).futures g)) new) refl in
-    subst (λ o. Done v i o answers.Made st' a.registered a.outbox.spare a.outbox.wakers) (acq_step v.hall i s n plain forgets)
+    (λ g. kept-changed a.kept.futures.entries fs' i (Some x) put g ∙ ap (λ y. cond (i == g) (Some y) (get (store_in a).futures g)) new) refl in
+    subst (λ o. Done v i o answers.Made st' (registered_in a) a.list.registered a.list.wakers) (acq_step v.hall i s n plain forgets)
     (done_quietly m.meets (acq_event s n plain forgets) answers.Made plays (ap (λ o. o.wakes) played) (sym (ap (λ o. o.reply) played)))
 
 -- ---- a future is ready: its stage, the core after the poll, and what the semaphore is seen as
@@ -266,7 +266,7 @@ record Readies (a : Inside) (i f w : ℕ) (x : FutureEntry) (e : SemaphoreEntry)
   quiet : core.wakes ≡ e.core.wakes
   shown : semaphore ≡ record {
     free = core.free;
-    queue = queue_of (store_in a).futures a.next x.semaphore e.core.queue;
+    queue = queue_of (store_in a).futures a.kept.next x.semaphore e.core.queue;
     made = e.made;
     released = e.released;
     forgotten = e.forgotten;
@@ -283,12 +283,12 @@ readies : {a : Inside} {v : Play} {i f : ℕ} {x : FutureEntry} {e : SemaphoreEn
     → Readies a i f w x e
 readies {a} {v} {i} {f} {x} {e} m w ready = by_acquire x.acquire refl ready
   where
-    seen : semaphore_at (hall_in a) x.semaphore ≡ semaphore_of (store_in a).futures a.next x.semaphore e
-    seen = seen_at (store_in a) a.next x.semaphore e m.meets.kept.linked (home_there m)
+    seen : semaphore_at (hall_in a) x.semaphore ≡ semaphore_of (store_in a).futures a.kept.next x.semaphore e
+    seen = seen_at (store_in a) a.kept.next x.semaphore e m.meets.kept.linked (home_there m)
 
-    there : get (hall_in a).semaphores x.semaphore ≡ Some (semaphore_of (store_in a).futures a.next x.semaphore e)
-    there = get-seen (semaphore_of (store_in a).futures a.next) (store_in a).semaphores x.semaphore
-        ∙ ap (option_map (semaphore_of (store_in a).futures a.next x.semaphore)) (home_there m)
+    there : get (hall_in a).semaphores x.semaphore ≡ Some (semaphore_of (store_in a).futures a.kept.next x.semaphore e)
+    there = get-seen (semaphore_of (store_in a).futures a.kept.next) (store_in a).semaphores x.semaphore
+        ∙ ap (option_map (semaphore_of (store_in a).futures a.kept.next x.semaphore)) (home_there m)
 
     by_acquire : (b : Acquire) → x.acquire ≡ b → IsReady e.core b → Readies a i f w x e
     by_acquire (acquires.New d) new enough = record {
@@ -302,13 +302,13 @@ readies {a} {v} {i} {f} {x} {e} m w ready = by_acquire x.acquire refl ready
       quiet = refl;
       shown = ap (λ y. taking y d) seen;
       chosen = ready_new m w d new enough;
-      leaves = λ st' e' puts gone queue granted cut closed. leaves_new (store_in a) st' a.next x.semaphore f x e e' m.meets.kept.linked (home_there m) puts
+      leaves = λ st' e' puts gone queue granted cut closed. leaves_new (store_in a) st' a.kept.next x.semaphore f x e e' m.meets.kept.linked (home_there m) puts
           (future_there m) gone refl queue closed d new granted cut;
     }
     by_acquire (acquires.Queued d n) queued granted = record {
       stage = Granted;
       core = record e.core { granted = remove e.core.granted n };
-      semaphore = semaphore_of (store_in a).futures a.next x.semaphore e;
+      semaphore = semaphore_of (store_in a).futures a.kept.next x.semaphore e;
       seen = seen_as m Granted (granted_stage m d n queued granted);
       is = ap (finished e.core) queued;
       live = refl;
@@ -317,27 +317,27 @@ readies {a} {v} {i} {f} {x} {e} m w ready = by_acquire x.acquire refl ready
       shown = refl;
       chosen = ready_granted m w d n queued granted ∙ ap (λ h. quietly (made_ready h i f (at_stage x Granted)) answers.Ready)
           (sym (as_it_was (hall_in a) x.semaphore _ there (hall_in a).permits));
-      leaves = λ st' e' puts gone queue unlisted cut closed. leaves_granted (store_in a) st' a.next x.semaphore f x e e' m.meets.kept.linked (home_there m)
+      leaves = λ st' e' puts gone queue unlisted cut closed. leaves_granted (store_in a) st' a.kept.next x.semaphore f x e e' m.meets.kept.linked (home_there m)
           puts (future_there m) gone refl queue closed d n queued granted unlisted cut;
     }
     by_acquire (acquires.Done d) done r = absurd r
     by_acquire (acquires.Refused d) refused r = absurd r
 
 module _ {a : Inside} {v : Play} {i f : ℕ} {x : FutureEntry} {e : SemaphoreEntry} (m : MeetsFuture a v i f x e) (w : ℕ)
-    (ready : IsReady e.core x.acquire) (ss' : Semaphores) (fs' : Futures) (e2 : SemaphoreEntry) (gone : ChangesAt a.futures.entries fs' f None)
+    (ready : IsReady e.core x.acquire) (ss' : Semaphores) (fs' : Futures) (e2 : SemaphoreEntry) (gone : ChangesAt a.kept.futures.entries fs' f None)
     (changes : ChangesAt (semaphores_in a) ss' x.semaphore (Some e2)) where
   turn : Readies a i f w x e
   turn = readies m w ready
 
   gone_now : (g : ℕ) → get (named (λ k (y : FutureEntry). y) fs') g ≡ cond (f == g) None (get (store_in a).futures g)
-  gone_now g = kept-changed a.futures.entries fs' f None gone g
+  gone_now g = kept-changed a.kept.futures.entries fs' f None gone g
 
   rises_to : cores.held_of (finished e.core x.acquire) ≡ cores.held_of e.core + demand_of x.acquire
       → cores.held_of turn.core ≡ cores.held_of e.core + demand_of x.acquire
   rises_to rises = subst (λ (c : cores.Core ℕ). cores.held_of c ≡ cores.held_of e.core + demand_of x.acquire) turn.is rises
 
-  finishes : {st' : Store} → Plays (store_in a) st' a.next i (events.Poll f w) a.registered a.outbox.spare
-      → Done v i (step v.hall i (events.Poll f w)) answers.Ready st' a.registered a.outbox.spare a.outbox.wakers
+  finishes : {st' : Store} → Plays (store_in a) st' a.kept.next i (events.Poll f w) (registered_in a) a.list.registered
+      → Done v i (step v.hall i (events.Poll f w)) answers.Ready st' (registered_in a) a.list.registered a.list.wakers
   finishes plays = done_quietly m.meets (events.Poll f w) answers.Ready plays (ap (λ o. o.wakes) turn.chosen) (sym (ap (λ o. o.reply) turn.chosen))
 
   -- what it takes is forgotten
@@ -349,9 +349,9 @@ module _ {a : Inside} {v : Play} {i f : ℕ} {x : FutureEntry} {e : SemaphoreEnt
         things = e.things - 1;
       }
       → cores.held_of (finished e.core x.acquire) ≡ cores.held_of e.core + demand_of x.acquire → cores.held_of e2.core ≡ cores.held_of e.core
-      → Done v i (step v.hall i (events.Poll f w)) answers.Ready (store_of ss' fs' a.permits.entries) a.registered a.outbox.spare a.outbox.wakers
+      → Done v i (step v.hall i (events.Poll f w)) answers.Ready (store_of ss' fs' a.kept.permits.entries) (registered_in a) a.list.registered a.list.wakers
   forgotten_done forgets changed rises held =
-      let st' : Store = store_of ss' fs' a.permits.entries in
+      let st' : Store = store_of ss' fs' a.kept.permits.entries in
       let e' : SemaphoreEntry = record e {
         core = record turn.core { live = turn.core.live - demand_of x.acquire };
         forgotten = e.forgotten + demand_of x.acquire;
@@ -369,24 +369,24 @@ module _ {a : Inside} {v : Play} {i f : ℕ} {x : FutureEntry} {e : SemaphoreEnt
       let up = rises_to rises in
       let lost : cores.held_of (record turn.core { live = turn.core.live - demand_of x.acquire }) ≡ cores.held_of e.core =
       subst (λ (y : SemaphoreEntry). cores.held_of y.core ≡ cores.held_of e.core) now held in
-      finishes (plays_ready_forgetting (store_in a) st' a.registered a.outbox.spare a.next i x.semaphore f w x (at_stage x turn.stage)
+      finishes (plays_ready_forgetting (store_in a) st' (registered_in a) a.list.registered a.kept.next i x.semaphore f w x (at_stage x turn.stage)
       e turn.core turn.semaphore m.meets.kept (later m.meets) m.meets.low (may_poll_kept m w) turn.seen refl refl (ready_small m ready)
       turn.live turn.queue turn.quiet up turn.shown answers.Ready turn.chosen forgets
       (turn.leaves st' e' puts gone_now turn.queue refl refl refl) refl (omega (arith, lost, up)))
 
   -- it becomes a permit
   pub kept_done : x.forgets ≡ false → (ps' : Permits) (p : PermitEntry)
-      → ChangesAt a.permits.entries ps' i (Some p) → p ≡ permit_from x
+      → ChangesAt a.kept.permits.entries ps' i (Some p) → p ≡ permit_from x
       → e2 ≡ record e { core = finished e.core x.acquire } → cores.held_of e2.core ≡ cores.held_of e.core + demand_of x.acquire
-      → Done v i (step v.hall i (events.Poll f w)) answers.Ready (store_of ss' fs' ps') a.registered a.outbox.spare a.outbox.wakers
+      → Done v i (step v.hall i (events.Poll f w)) answers.Ready (store_of ss' fs' ps') (registered_in a) a.list.registered a.list.wakers
   kept_done keeps ps' p put permit changed held =
       let st' : Store = store_of ss' fs' ps' in
       let e' : SemaphoreEntry = record e { core = turn.core } in
       let puts = semaphores_of (semaphores_in a) ss' x.semaphore e2 e' changes (changed ∙ ap (λ (c : cores.Core ℕ). record e { core = c }) turn.is) in
       let up = rises_to (subst (λ (y : SemaphoreEntry). cores.held_of y.core ≡ cores.held_of e.core + demand_of x.acquire) changed held) in
       let permits : st'.permits ≡ insert (store_in a).permits i (record { semaphore = x.semaphore; size = demand_of x.acquire; plain = x.plain }) =
-      named_put (λ n y. permit_of y) a.permits.entries ps' i p put ∙ ap (λ (y : PermitEntry). insert (store_in a).permits i (permit_of y)) permit in
-      finishes (plays_ready (store_in a) st' a.registered a.outbox.spare a.next i x.semaphore f w x (at_stage x turn.stage)
+      named_put (λ n y. permit_of y) a.kept.permits.entries ps' i p put ∙ ap (λ (y : PermitEntry). insert (store_in a).permits i (permit_of y)) permit in
+      finishes (plays_ready (store_in a) st' (registered_in a) a.list.registered a.kept.next i x.semaphore f w x (at_stage x turn.stage)
       e turn.core turn.semaphore m.meets.kept (later m.meets) m.meets.low (may_poll_kept m w) turn.seen refl refl (ready_small m ready)
       turn.live turn.queue turn.quiet up turn.shown answers.Ready turn.chosen keeps
       (turn.leaves st' e' puts gone_now turn.queue refl refl refl) permits)
@@ -394,34 +394,34 @@ module _ {a : Inside} {v : Play} {i f : ℕ} {x : FutureEntry} {e : SemaphoreEnt
 -- ---- a future is refused, and is gone with nothing
 pub refused_done : {a : Inside} {v : Play} {i f : ℕ} {x : FutureEntry} {e : SemaphoreEntry} → MeetsFuture a v i f x e → (w : ℕ)
     → IsRefused e.core x.acquire → (ss' : Semaphores) (fs' : Futures) (e2 : SemaphoreEntry)
-    → ChangesAt a.futures.entries fs' f None → ChangesAt (semaphores_in a) ss' x.semaphore (Some e2)
+    → ChangesAt a.kept.futures.entries fs' f None → ChangesAt (semaphores_in a) ss' x.semaphore (Some e2)
     → e2 ≡ record e { core = after_refusal e.core x.acquire; plain = e.plain - cond x.plain 1 0; things = e.things - 1 }
-    → Done v i (step v.hall i (events.Poll f w)) answers.Gone (store_of ss' fs' a.permits.entries) a.registered a.outbox.spare a.outbox.wakers
+    → Done v i (step v.hall i (events.Poll f w)) answers.Gone (store_of ss' fs' a.kept.permits.entries) (registered_in a) a.list.registered a.list.wakers
 refused_done {a} {v} {i} {f} {x} {e} m w refused ss' fs' e2 gone changes changed = by_acquire x.acquire refl refused
   where
     st' : Store
-    st' = store_of ss' fs' a.permits.entries
+    st' = store_of ss' fs' a.kept.permits.entries
 
     gone_now : (g : ℕ) → get st'.futures g ≡ cond (f == g) None (get (store_in a).futures g)
-    gone_now g = kept-changed a.futures.entries fs' f None gone g
+    gone_now g = kept-changed a.kept.futures.entries fs' f None gone g
 
-    finish : PlaysWith (store_in a) st' a.next i (events.Poll f w) a.registered a.outbox.spare [] → step (hall_in a) i (events.Poll f w) ≡ refusing (hall_in a) f
-        → Done v i (step v.hall i (events.Poll f w)) answers.Gone st' a.registered a.outbox.spare a.outbox.wakers
+    finish : PlaysWith (store_in a) st' a.kept.next i (events.Poll f w) (registered_in a) a.list.registered [] → step (hall_in a) i (events.Poll f w) ≡ refusing (hall_in a) f
+        → Done v i (step v.hall i (events.Poll f w)) answers.Gone st' (registered_in a) a.list.registered a.list.wakers
     finish with chosen = done_quietly m.meets (events.Poll f w) answers.Gone with.plays with.wakes (sym (ap (λ o. o.reply) chosen))
 
     by_acquire : (b : Acquire) → x.acquire ≡ b → IsRefused e.core b
-        → Done v i (step v.hall i (events.Poll f w)) answers.Gone st' a.registered a.outbox.spare a.outbox.wakers
+        → Done v i (step v.hall i (events.Poll f w)) answers.Gone st' (registered_in a) a.list.registered a.list.wakers
     by_acquire (acquires.New d) new shut =
         let puts = semaphores_of (semaphores_in a) ss' x.semaphore e2 (record e { plain = e.plain - cond x.plain 1 0; things = e.things - 1 }) changes
         (changed ∙ ap (λ b. record e { core = after_refusal e.core b; plain = e.plain - cond x.plain 1 0; things = e.things - 1 }) new) in
-        finish (plays_gone_new (store_in a) st' a.registered a.registered a.outbox.spare a.outbox.spare a.next i x.semaphore d e m.meets.kept (later m.meets)
+        finish (plays_gone_new (store_in a) st' (registered_in a) (registered_in a) a.list.registered a.list.registered a.kept.next i x.semaphore d e m.meets.kept (later m.meets)
         m.meets.low (home_there m) f d x refl (future_there m) gone_now refl (events.Poll f w) answers.Gone tt (may_poll_kept m w) new
         (λ seen. refused_new m w d new shut) puts) (refused_new m w d new shut)
     by_acquire (acquires.Queued d n) queued cut =
         let puts = semaphores_of (semaphores_in a) ss' x.semaphore e2
         (record e { core = record e.core { cut = remove e.core.cut n }; plain = e.plain - cond x.plain 1 0; things = e.things - 1 }) changes
         (changed ∙ ap (λ b. record e { core = after_refusal e.core b; plain = e.plain - cond x.plain 1 0; things = e.things - 1 }) queued) in
-        finish (plays_gone_cut (store_in a) st' a.registered a.registered a.outbox.spare a.outbox.spare a.next i x.semaphore d e m.meets.kept (later m.meets)
+        finish (plays_gone_cut (store_in a) st' (registered_in a) (registered_in a) a.list.registered a.list.registered a.kept.next i x.semaphore d e m.meets.kept (later m.meets)
         m.meets.low (home_there m) f d x refl (future_there m) gone_now refl (events.Poll f w) answers.Gone n tt (may_poll_kept m w) queued cut.1
         (λ seen. refused_cut m w d n queued cut.1) puts) (refused_cut m w d n queued cut.1)
     by_acquire (acquires.Done d) same r = absurd r

@@ -22,7 +22,7 @@ use Rattle.mea_sem_model.specs.Valid.{IsValid, IsBelow, IsAccounted}
 use Rattle.mea_sem_model.proofs.Keeps.{valid_empty, below_empty, accounted_empty}
 use Rattle.mea_sem_core.specs.Core as cores
 use Rattle.mea_sem_core.specs.Calls as calls
-use Rattle.mea_sem.specs.declared.hall.SemHall.TheInside.{Inside}
+use Rattle.mea_sem.proofs.Inside.{Inside}
 use Rattle.mea_sem.specs.declared.entries.SemaphoreEntry.{SemaphoreEntry}
 use Rattle.mea_sem.specs.Entries.{ledger_of_entry, close_wakes}
 use Rattle.mea_sem.specs.Store.{Store, store_of, permit_of, semaphore_of, future_of, hall_of}
@@ -35,7 +35,7 @@ use Rattle.mea_sem.proofs.PlaysNew.{fresh_core, fresh_entry, plays_new}
 use Rattle.mea_sem.proofs.PlaysPours.{wakers_poured}
 use Rattle.mea_sem.proofs.PlaysEnds.{plays_release}
 use Rattle.mea_sem.proofs.PlaysCloses.{wakers_waiting, plays_close}
-use Rattle.mea_sem.proofs.Meets.{semaphores_in, store_in, hall_in, IsKeptIn, Meets, MeetsSemaphore, Done, later, to_kept, done, done_quietly}
+use Rattle.mea_sem.proofs.Meets.{registered_in, semaphores_in, store_in, hall_in, IsKeptIn, Meets, MeetsSemaphore, Done, later, to_kept, done, done_quietly}
 use Rattle.mea_sem.proofs.Standing.{Semaphores, Futures, Permits, puts_of, semaphores_of, kept_same}
 use Rattle.mea_sem.proofs.Lives.{live-seen, ledger-seen}
 
@@ -61,7 +61,7 @@ module _ {a : Inside} {v : Play} {i s : ℕ} {e : SemaphoreEntry} (m : MeetsSema
   k : IsKeptIn a
   k = m.meets.kept
 
-  less : a.next ≤ i
+  less : a.kept.next ≤ i
   less = later m.meets
 
   low : i < 2 ^ 64
@@ -74,7 +74,7 @@ module _ {a : Inside} {v : Play} {i s : ℕ} {e : SemaphoreEntry} (m : MeetsSema
   cause event allowed = to_kept m.meets (λ h. cause_of h event ≡ None) allowed
 
   free_seen : free (hall_in a) s ≡ e.core.free
-  free_seen = ap (λ (r : Semaphore). r.free) (seen_at (store_in a) a.next s e k.linked here)
+  free_seen = ap (λ (r : Semaphore). r.free) (seen_at (store_in a) a.kept.next s e k.linked here)
 
   -- ---- what an event finds
   -- while it is named, what names it is refused by the event's own cause alone
@@ -137,13 +137,13 @@ module _ {a : Inside} {v : Play} {i s : ℕ} {e : SemaphoreEntry} (m : MeetsSema
 
   pub small_account : e.core.live + e.forgotten < 2 ^ 128
   small_account =
-      let lives = live-seen (store_in a) a.registered a.outbox.spare a.next s e k here in
+      let lives = live-seen (store_in a) (registered_in a) a.list.registered a.kept.next s e k here in
       let fits = k.valid.fits s in
       let old = (k.each s e here).forgotten in
       omega (arith, lives, fits, old, less, low)
 
   -- the wakers of one queue are among those that are registered
-  pub wakers_registered : wakers_in e.core.queue ≤ a.registered
+  pub wakers_registered : wakers_in e.core.queue ≤ (registered_in a)
   wakers_registered =
       let sums = total-remove (λ q (x : SemaphoreEntry). wakers_in x.core.queue) (store_in a).semaphores s in
       let mine : weight (λ q (x : SemaphoreEntry). wakers_in x.core.queue) s (get (store_in a).semaphores s) ≡ wakers_in e.core.queue =
@@ -152,45 +152,45 @@ module _ {a : Inside} {v : Play} {i s : ℕ} {e : SemaphoreEntry} (m : MeetsSema
       omega (arith, sums, mine, counted)
 
   -- a pour makes at most the wakers of all queues ready
-  pub wakers_few : (n : ℕ) → length (cores.wakers_of (granted_in e.core.queue n)) ≤ a.registered
+  pub wakers_few : (n : ℕ) → length (cores.wakers_of (granted_in e.core.queue n)) ≤ (registered_in a)
   wakers_few n =
       let all = wakers_registered in
       let split = wakers_poured e.core.queue n in
       omega (arith, all, split)
 
-  pub wakers_room : wakers_in e.core.queue ≤ a.outbox.spare
+  pub wakers_room : wakers_in e.core.queue ≤ a.list.registered
   wakers_room = let few = wakers_registered in let room = k.room in omega (arith, few, room)
 
   -- so does a close
-  pub close_few : length (close_wakes e.core) ≤ a.registered
+  pub close_few : length (close_wakes e.core) ≤ (registered_in a)
   close_few = by_closed e.core.closed
     where
-      by_closed : (b : Bool) → length (if b then [] else cores.wakers_of (cores.waiters_of e.core.queue)) ≤ a.registered
+      by_closed : (b : Bool) → length (if b then [] else cores.wakers_of (cores.waiters_of e.core.queue)) ≤ (registered_in a)
       by_closed true = omega arith
       by_closed false = let all = wakers_registered in let same = wakers_waiting e.core.queue in omega (arith, all, same)
 
-  pub wakers_fit : (n : ℕ) → length (cores.wakers_of (granted_in e.core.queue n)) ≤ a.outbox.spare
+  pub wakers_fit : (n : ℕ) → length (cores.wakers_of (granted_in e.core.queue n)) ≤ a.list.registered
   wakers_fit n = let few = wakers_few n in let room = k.room in omega (arith, few, room)
 
   -- ---- events that only look
-  pub done_free : (r : ℕ) → r ≡ e.core.free → Done v i (step v.hall i (events.Free s)) (answers.Free r) (store_in a) a.registered a.outbox.spare a.outbox.wakers
+  pub done_free : (r : ℕ) → r ≡ e.core.free → Done v i (step v.hall i (events.Free s)) (answers.Free r) (store_in a) (registered_in a) a.list.registered a.list.wakers
   done_free r is = done_quietly m.meets (events.Free s) (answers.Free r)
-      (plays_nothing (store_in a) a.registered a.outbox.spare a.next i (events.Free s) k less low refl) refl (ap (λ n. answers.Free n) (is ∙ sym free_seen))
+      (plays_nothing (store_in a) (registered_in a) a.list.registered a.kept.next i (events.Free s) k less low refl) refl (ap (λ n. answers.Free n) (is ∙ sym free_seen))
 
   pub done_closed : (b : Bool) → b ≡ e.core.closed → Done v i (step v.hall i (events.Closed s)) (if b then answers.Yes else answers.No) (store_in a)
-      a.registered a.outbox.spare a.outbox.wakers
+      (registered_in a) a.list.registered a.list.wakers
   done_closed b is = done_quietly m.meets (events.Closed s) (if b then answers.Yes else answers.No)
-      (plays_nothing (store_in a) a.registered a.outbox.spare a.next i (events.Closed s) k less low refl) refl
-      (ap (λ t. if t then answers.Yes else answers.No) (is ∙ ap (λ (r : Semaphore). r.closed) (sym (seen_at (store_in a) a.next s e k.linked here))))
+      (plays_nothing (store_in a) (registered_in a) a.list.registered a.kept.next i (events.Closed s) k less low refl) refl
+      (ap (λ t. if t then answers.Yes else answers.No) (is ∙ ap (λ (r : Semaphore). r.closed) (sym (seen_at (store_in a) a.kept.next s e k.linked here))))
 
   pub done_ledger : (r : Ledger) → e.core.free + cores.held_of e.core + cores.paid_of e.core ≡ e.core.live → r ≡ ledger_of_entry e
-      → Done v i (step v.hall i (events.Ledger s)) (answers.Account r) (store_in a) a.registered a.outbox.spare a.outbox.wakers
+      → Done v i (step v.hall i (events.Ledger s)) (answers.Account r) (store_in a) (registered_in a) a.list.registered a.list.wakers
   done_ledger r whole is = done_quietly m.meets (events.Ledger s) (answers.Account r)
-      (plays_nothing (store_in a) a.registered a.outbox.spare a.next i (events.Ledger s) k less low refl) refl
-      (ap (λ x. answers.Account x) (is ∙ sym (ledger-seen (store_in a) a.registered a.outbox.spare a.next s e k here whole)))
+      (plays_nothing (store_in a) (registered_in a) a.list.registered a.kept.next i (events.Ledger s) k less low refl) refl
+      (ap (λ x. answers.Account x) (is ∙ sym (ledger-seen (store_in a) (registered_in a) a.list.registered a.kept.next s e k here whole)))
 
-  seen_here : semaphore_at (hall_in a) s ≡ semaphore_of (store_in a).futures a.next s e
-  seen_here = seen_at (store_in a) a.next s e k.linked here
+  seen_here : semaphore_at (hall_in a) s ≡ semaphore_of (store_in a).futures a.kept.next s e
+  seen_here = seen_at (store_in a) a.kept.next s e k.linked here
 
   -- what the core offers is offered
   pub offered : (n : ℕ) → e.core.closed ≡ false → n ≤ e.core.free → offers (hall_in a) s n ≡ true
@@ -207,22 +207,22 @@ module _ {a : Inside} {v : Play} {i s : ℕ} {e : SemaphoreEntry} (m : MeetsSema
 
   -- it is closed, or too few are free
   lacking : (n : ℕ) → (e.core.closed ≡ true) ⊎ (e.core.free < n)
-      → Done v i (try_and_forget v.hall s n) answers.No (store_in a) a.registered a.outbox.spare a.outbox.wakers
+      → Done v i (try_and_forget v.hall s n) answers.No (store_in a) (registered_in a) a.list.registered a.list.wakers
   lacking n few =
       let h : Hall = hall_in a in
       let too_few : offers h s n ≡ false = not_offered n few in
       let outcome : try_and_forget h s n ≡ quietly h answers.No = ap (λ b. cond b (taken_off h s n) (quietly h answers.No)) too_few in
       done_quietly m.meets (events.Tryf s n) answers.No
-      (plays_nothing (store_in a) a.registered a.outbox.spare a.next i (events.Tryf s n) k less low (ap (λ (o : Outcome). o.hall) outcome))
+      (plays_nothing (store_in a) (registered_in a) a.list.registered a.kept.next i (events.Tryf s n) k less low (ap (λ (o : Outcome). o.hall) outcome))
       (ap (λ (o : Outcome). o.wakes) outcome) (sym (ap (λ (o : Outcome). o.reply) outcome))
 
   -- ---- events that change the semaphore
   module _ (ss' : Semaphores) (x : SemaphoreEntry) (changes : ChangesAt (semaphores_in a) ss' s (Some x)) where
     abbrev st' : Store
-    st' = store_of ss' a.futures.entries a.permits.entries
+    st' = store_of ss' a.kept.futures.entries a.kept.permits.entries
 
     puts : (e' : SemaphoreEntry) → x ≡ e' → Puts (store_in a) st' s e e'
-    puts e' is = puts_of (semaphores_in a) ss' a.futures.entries a.permits.entries a.permits.entries s e x e' m.there changes is
+    puts e' is = puts_of (semaphores_in a) ss' a.kept.futures.entries a.kept.permits.entries a.kept.permits.entries s e x e' m.there changes is
 
     held_by : (e' : SemaphoreEntry) → x ≡ e' → cores.held_of x.core ≡ cores.held_of e.core → cores.held_of e'.core ≡ cores.held_of e.core
     held_by e' is held = subst (λ (y : SemaphoreEntry). cores.held_of y.core ≡ cores.held_of e.core) is held
@@ -233,115 +233,115 @@ module _ {a : Inside} {v : Play} {i s : ℕ} {e : SemaphoreEntry} (m : MeetsSema
         let same = kept_same (λ k x. x) (semaphores_in a) ss' s e x m.there is changes in
         λ j. record { semaphores = same j; futures = (store_in a).futures; permits = (store_in a).permits }
 
-    pub kept_unchanged : x ≡ e → (sp' : ℕ) → a.registered ≤ sp' → AreKeptSemaphores st' a.registered sp' a.next
-    kept_unchanged is sp' room = subst (λ (st : Store). AreKeptSemaphores st a.registered sp' a.next) (sym (as_it_was is)) (kept_room sp' k room)
+    pub kept_unchanged : x ≡ e → (sp' : ℕ) → (registered_in a) ≤ sp' → AreKeptSemaphores st' (registered_in a) sp' a.kept.next
+    kept_unchanged is sp' room = subst (λ (st : Store). AreKeptSemaphores st (registered_in a) sp' a.kept.next) (sym (as_it_was is)) (kept_room sp' k room)
 
-    pub seen_unchanged : x ≡ e → (wakes' : List ℕ) → wakes' ≡ a.outbox.wakers → record { hall = hall_of st' a.next; wakes = wakes'; next = a.next } ≡ v
-    seen_unchanged is wakes' same = (λ j. record { hall = hall_of (as_it_was is j) a.next; wakes = same j; next = a.next }) ∙ m.meets.seen
+    pub seen_unchanged : x ≡ e → (wakes' : List ℕ) → wakes' ≡ a.list.wakers → record { hall = hall_of st' a.kept.next; wakes = wakes'; next = a.kept.next } ≡ v
+    seen_unchanged is wakes' same = (λ j. record { hall = hall_of (as_it_was is j) a.kept.next; wakes = same j; next = a.kept.next }) ∙ m.meets.seen
 
     -- nor did an insertion that failed change anything
-    pub kept_with_futures : (fs : Futures) → x ≡ e → fs ≡ a.futures.entries → AreKeptSemaphores (store_of ss' fs a.permits.entries) a.registered a.outbox.spare a.next
-    kept_with_futures fs is same = subst (λ (xs : Futures). AreKeptSemaphores (store_of ss' xs a.permits.entries) a.registered a.outbox.spare a.next) (sym same)
-        (kept_unchanged is a.outbox.spare k.room)
+    pub kept_with_futures : (fs : Futures) → x ≡ e → fs ≡ a.kept.futures.entries → AreKeptSemaphores (store_of ss' fs a.kept.permits.entries) (registered_in a) a.list.registered a.kept.next
+    kept_with_futures fs is same = subst (λ (xs : Futures). AreKeptSemaphores (store_of ss' xs a.kept.permits.entries) (registered_in a) a.list.registered a.kept.next) (sym same)
+        (kept_unchanged is a.list.registered k.room)
 
-    pub seen_with_futures : (fs : Futures) → x ≡ e → fs ≡ a.futures.entries
-        → record { hall = hall_of (store_of ss' fs a.permits.entries) a.next; wakes = a.outbox.wakers; next = a.next } ≡ v
-    seen_with_futures fs is same = (λ j. record { hall = hall_of (store_of ss' (same j) a.permits.entries) a.next; wakes = a.outbox.wakers; next = a.next })
-        ∙ seen_unchanged is a.outbox.wakers refl
+    pub seen_with_futures : (fs : Futures) → x ≡ e → fs ≡ a.kept.futures.entries
+        → record { hall = hall_of (store_of ss' fs a.kept.permits.entries) a.kept.next; wakes = a.list.wakers; next = a.kept.next } ≡ v
+    seen_with_futures fs is same = (λ j. record { hall = hall_of (store_of ss' (same j) a.kept.permits.entries) a.kept.next; wakes = a.list.wakers; next = a.kept.next })
+        ∙ seen_unchanged is a.list.wakers refl
 
-    pub kept_with_permits : (ps : Permits) → x ≡ e → ps ≡ a.permits.entries → AreKeptSemaphores (store_of ss' a.futures.entries ps) a.registered a.outbox.spare a.next
-    kept_with_permits ps is same = subst (λ (xs : Permits). AreKeptSemaphores (store_of ss' a.futures.entries xs) a.registered a.outbox.spare a.next) (sym same)
-        (kept_unchanged is a.outbox.spare k.room)
+    pub kept_with_permits : (ps : Permits) → x ≡ e → ps ≡ a.kept.permits.entries → AreKeptSemaphores (store_of ss' a.kept.futures.entries ps) (registered_in a) a.list.registered a.kept.next
+    kept_with_permits ps is same = subst (λ (xs : Permits). AreKeptSemaphores (store_of ss' a.kept.futures.entries xs) (registered_in a) a.list.registered a.kept.next) (sym same)
+        (kept_unchanged is a.list.registered k.room)
 
-    pub seen_with_permits : (ps : Permits) → x ≡ e → ps ≡ a.permits.entries
-        → record { hall = hall_of (store_of ss' a.futures.entries ps) a.next; wakes = a.outbox.wakers; next = a.next } ≡ v
-    seen_with_permits ps is same = (λ j. record { hall = hall_of (store_of ss' a.futures.entries (same j)) a.next; wakes = a.outbox.wakers; next = a.next })
-        ∙ seen_unchanged is a.outbox.wakers refl
+    pub seen_with_permits : (ps : Permits) → x ≡ e → ps ≡ a.kept.permits.entries
+        → record { hall = hall_of (store_of ss' a.kept.futures.entries ps) a.kept.next; wakes = a.list.wakers; next = a.kept.next } ≡ v
+    seen_with_permits ps is same = (λ j. record { hall = hall_of (store_of ss' a.kept.futures.entries (same j)) a.kept.next; wakes = a.list.wakers; next = a.kept.next })
+        ∙ seen_unchanged is a.list.wakers refl
 
     pub done_lacking : (n : ℕ) → x ≡ e → (e.core.closed ≡ true) ⊎ (e.core.free < n)
-        → Done v i (try_and_forget v.hall s n) answers.No st' a.registered a.outbox.spare a.outbox.wakers
-    done_lacking n is few = subst (λ (st : Store). Done v i (try_and_forget v.hall s n) answers.No st a.registered a.outbox.spare a.outbox.wakers)
+        → Done v i (try_and_forget v.hall s n) answers.No st' (registered_in a) a.list.registered a.list.wakers
+    done_lacking n is few = subst (λ (st : Store). Done v i (try_and_forget v.hall s n) answers.No st (registered_in a) a.list.registered a.list.wakers)
         (sym (as_it_was is)) (lacking n few)
 
     pub done_forget : (n r : ℕ) → n < 2 ^ 64 → cause_of v.hall (events.Forget s n) ≡ None
         → x ≡ record e { core = calls.forgetting e.core n; forgotten = e.forgotten + min n e.core.free }
         → cores.held_of x.core ≡ cores.held_of e.core → r ≡ min n e.core.free → min n e.core.free ≤ e.core.live
-        → Done v i (step v.hall i (events.Forget s n)) (answers.Forgot r) st' a.registered a.outbox.spare a.outbox.wakers
+        → Done v i (step v.hall i (events.Forget s n)) (answers.Forgot r) st' (registered_in a) a.list.registered a.list.wakers
     done_forget n r small allowed is held taken within_live =
         done_quietly m.meets (events.Forget s n) (answers.Forgot r)
-        (plays_forget (store_in a) st' a.registered a.outbox.spare a.next i s n e k less low small (cause (events.Forget s n) allowed) (puts _ is)
+        (plays_forget (store_in a) st' (registered_in a) a.list.registered a.kept.next i s n e k less low small (cause (events.Forget s n) allowed) (puts _ is)
         refl (held_by _ is held) within_live)
         refl (ap (λ t. answers.Forgot t) (taken ∙ ap (min n) (sym free_seen)))
 
     pub done_forgetx : (n : ℕ) → n < 2 ^ 64 → cause_of v.hall (events.Forgetx s n) ≡ None
         → x ≡ record e { core = calls.forgetting_exactly e.core n; forgotten = e.forgotten + n }
         → cores.held_of x.core ≡ cores.held_of e.core → min n e.core.free ≤ e.core.live
-        → Done v i (step v.hall i (events.Forgetx s n)) answers.Done st' a.registered a.outbox.spare a.outbox.wakers
+        → Done v i (step v.hall i (events.Forgetx s n)) answers.Done st' (registered_in a) a.list.registered a.list.wakers
     done_forgetx n small allowed is held within =
         done_quietly m.meets (events.Forgetx s n) answers.Done
-        (plays_forgetx (store_in a) st' a.registered a.outbox.spare a.next i s n e k less low small (cause (events.Forgetx s n) allowed) (puts _ is)
+        (plays_forgetx (store_in a) st' (registered_in a) a.list.registered a.kept.next i s n e k less low small (cause (events.Forgetx s n) allowed) (puts _ is)
         refl (held_by _ is held) within) refl refl
 
     pub done_tried : (n : ℕ) → n < 2 ^ 64 → cause_of v.hall (events.Tryf s n) ≡ None → e.core.closed ≡ false → n ≤ e.core.free
         → x ≡ record e { core = calls.forgetting e.core n; forgotten = e.forgotten + min n e.core.free }
         → cores.held_of x.core ≡ cores.held_of e.core → min n e.core.free ≤ e.core.live
-        → Done v i (try_and_forget v.hall s n) answers.Yes st' a.registered a.outbox.spare a.outbox.wakers
+        → Done v i (try_and_forget v.hall s n) answers.Yes st' (registered_in a) a.list.registered a.list.wakers
     done_tried n small allowed open_still enough is held within =
         let h : Hall = hall_in a in
         let fits_in : offers h s n ≡ true = offered n open_still enough in
         let outcome : try_and_forget h s n ≡ taken_off h s n = ap (λ b. cond b (taken_off h s n) (quietly h answers.No)) fits_in in
         done_quietly m.meets (events.Tryf s n) answers.Yes
-        (plays_tried (store_in a) st' a.registered a.outbox.spare a.next i s n e k less low small (events.Tryf s n) tt
+        (plays_tried (store_in a) st' (registered_in a) a.list.registered a.kept.next i s n e k less low small (events.Tryf s n) tt
         (cause (events.Tryf s n) allowed) refl open_still enough (puts _ is) refl (held_by _ is held) within)
         (ap (λ (o : Outcome). o.wakes) outcome) (sym (ap (λ (o : Outcome). o.reply) outcome))
 
     pub done_endsem : cause_of v.hall (events.Endsem s) ≡ None → x ≡ record e { named = false }
-        → Done v i (step v.hall i (events.Endsem s)) answers.Done st' a.registered a.outbox.spare a.outbox.wakers
+        → Done v i (step v.hall i (events.Endsem s)) answers.Done st' (registered_in a) a.list.registered a.list.wakers
     done_endsem allowed is =
         done_quietly m.meets (events.Endsem s) answers.Done
-        (plays_endsem (store_in a) st' a.registered a.outbox.spare a.next i s 0 e k less low (omega arith) (cause (events.Endsem s) allowed)
+        (plays_endsem (store_in a) st' (registered_in a) a.list.registered a.kept.next i s 0 e k less low (omega arith) (cause (events.Endsem s) allowed)
         (puts _ is) refl) refl refl
 
     -- ---- close
     -- a closed one stays as it is
-    pub done_shut : cause_of v.hall (events.Close s) ≡ None → e.core.closed ≡ true → x ≡ e → (r spare : ℕ) (wakers : List ℕ) → wakers ≡ a.outbox.wakers
-        → r ≡ 0 → spare + r ≡ a.outbox.spare
-        → Done v i (step v.hall i (events.Close s)) answers.Done st' (a.registered - r) spare wakers
+    pub done_shut : cause_of v.hall (events.Close s) ≡ None → e.core.closed ≡ true → x ≡ e → (r spare : ℕ) (wakers : List ℕ) → wakers ≡ a.list.wakers
+        → r ≡ 0 → spare + r ≡ a.list.registered
+        → Done v i (step v.hall i (events.Close s)) answers.Done st' ((registered_in a) - r) spare wakers
     done_shut allowed shut is r spare wakers same none left =
         let h : Hall = hall_in a in
         let outcome : close_of h s ≡ quietly h answers.Done =
         ap (λ b. if b then quietly h answers.Done else record { hall = closing h s; reply = answers.Done; wakes = wakes_waiting h s })
         (ap (λ (r : Semaphore). r.closed) seen_here ∙ shut) in
-        let plays = plays_nothing (store_in a) a.registered a.outbox.spare a.next i (events.Close s) k less low (ap (λ (o : Outcome). o.hall) outcome) in
-        let fewer : a.registered ≡ a.registered - r = omega (arith, none) in
-        let room : a.registered - r ≤ spare = let fits = k.room in omega (arith, fits, none, left) in
-        subst (λ (st : Store). Done v i (step v.hall i (events.Close s)) answers.Done st (a.registered - r) spare wakers) (sym (as_it_was is))
+        let plays = plays_nothing (store_in a) (registered_in a) a.list.registered a.kept.next i (events.Close s) k less low (ap (λ (o : Outcome). o.hall) outcome) in
+        let fewer : (registered_in a) ≡ (registered_in a) - r = omega (arith, none) in
+        let room : (registered_in a) - r ≤ spare = let fits = k.room in omega (arith, fits, none, left) in
+        subst (λ (st : Store). Done v i (step v.hall i (events.Close s)) answers.Done st ((registered_in a) - r) spare wakers) (sym (as_it_was is))
         (done m.meets wakers (events.Close s) answers.Done
         (record { hall = plays.hall; kept = subst (λ n. AreKeptSemaphores (store_in a) n spare (i + 1)) fewer (kept_room spare plays.kept (omega (arith, room, fewer))) })
-        (same ∙ sym (append-nil a.outbox.wakers) ∙ ap (λ ws. a.outbox.wakers ++ ws) (sym (ap (λ (o : Outcome). o.wakes) outcome)))
+        (same ∙ sym (append-nil a.list.wakers) ∙ ap (λ ws. a.list.wakers ++ ws) (sym (ap (λ (o : Outcome). o.wakes) outcome)))
         (sym (ap (λ (o : Outcome). o.reply) outcome)))
 
     pub done_close : cause_of v.hall (events.Close s) ≡ None → e.core.closed ≡ false → (r spare : ℕ) (wakers : List ℕ)
         → x ≡ record e { core = record (cores.poured (cores.cut_off e.core) (cores.paid_waiting e.core.queue)) { wakes = [] } }
         → cores.held_of x.core ≡ cores.held_of e.core
-        → wakers ≡ a.outbox.wakers ++ cores.wakers_of (cores.waiters_of e.core.queue) → r ≡ length (cores.wakers_of (cores.waiters_of e.core.queue))
-        → spare + r ≡ a.outbox.spare → cores.paid_waiting e.core.queue ≤ e.core.live
-        → Done v i (step v.hall i (events.Close s)) answers.Done st' (a.registered - r) spare wakers
+        → wakers ≡ a.list.wakers ++ cores.wakers_of (cores.waiters_of e.core.queue) → r ≡ length (cores.wakers_of (cores.waiters_of e.core.queue))
+        → spare + r ≡ a.list.registered → cores.paid_waiting e.core.queue ≤ e.core.live
+        → Done v i (step v.hall i (events.Close s)) answers.Done st' ((registered_in a) - r) spare wakers
     done_close allowed open_still r spare wakers is held moved count left within =
         let room = k.room in
         let few = wakers_registered in
         let all = wakers_waiting e.core.queue in
-        let with = plays_close (store_in a) st' a.registered (a.registered - r) spare a.outbox.spare a.next i s e k less low here
+        let with = plays_close (store_in a) st' (registered_in a) ((registered_in a) - r) spare a.list.registered a.kept.next i s e k less low here
         (cause (events.Close s) allowed) open_still (puts _ is).semaphores refl refl (held_by _ is held) within (omega (arith, few, count, all))
         (omega (arith, room, left)) in
-        done m.meets wakers (events.Close s) answers.Done with.plays.plays (moved ∙ ap (λ ws. a.outbox.wakers ++ ws) (sym with.plays.wakes)) with.reply
+        done m.meets wakers (events.Close s) answers.Done with.plays.plays (moved ∙ ap (λ ws. a.list.wakers ++ ws) (sym with.plays.wakes)) with.reply
 
     -- either way
     pub done_closing : cause_of v.hall (events.Close s) ≡ None → (r spare : ℕ) (wakers : List ℕ)
         → x ≡ record e { core = record (cores.closed_core e.core) { wakes = [] } } → cores.held_of x.core ≡ cores.held_of e.core
-        → wakers ≡ a.outbox.wakers ++ close_wakes e.core → r ≡ length (close_wakes e.core) → spare + r ≡ a.outbox.spare
+        → wakers ≡ a.list.wakers ++ close_wakes e.core → r ≡ length (close_wakes e.core) → spare + r ≡ a.list.registered
         → cores.paid_waiting e.core.queue ≤ e.core.live
-        → Done v i (step v.hall i (events.Close s)) answers.Done st' (a.registered - r) spare wakers
+        → Done v i (step v.hall i (events.Close s)) answers.Done st' ((registered_in a) - r) spare wakers
     done_closing allowed r spare wakers is held moved count left within = by_closed e.core.closed refl
       where
         as_closed : (b : Bool) → e.core.closed ≡ b
@@ -352,33 +352,33 @@ module _ {a : Inside} {v : Play} {i s : ℕ} {e : SemaphoreEntry} (m : MeetsSema
         as_woken : (b : Bool) → e.core.closed ≡ b → close_wakes e.core ≡ (if b then [] else cores.wakers_of (cores.waiters_of e.core.queue))
         as_woken b h = ap (λ t. if t then [] else cores.wakers_of (cores.waiters_of e.core.queue)) h
 
-        by_closed : (b : Bool) → e.core.closed ≡ b → Done v i (step v.hall i (events.Close s)) answers.Done st' (a.registered - r) spare wakers
+        by_closed : (b : Bool) → e.core.closed ≡ b → Done v i (step v.hall i (events.Close s)) answers.Done st' ((registered_in a) - r) spare wakers
         by_closed true shut = done_shut allowed shut (as_closed true shut ∙ ap (λ ws. record e { core = record e.core { wakes = ws } }) (sym is_quiet)) r spare wakers
-            (moved ∙ ap (λ ws. a.outbox.wakers ++ ws) (as_woken true shut) ∙ append-nil a.outbox.wakers) (count ∙ ap length (as_woken true shut)) left
+            (moved ∙ ap (λ ws. a.list.wakers ++ ws) (as_woken true shut) ∙ append-nil a.list.wakers) (count ∙ ap length (as_woken true shut)) left
         by_closed false open_still = done_close allowed open_still r spare wakers (as_closed false open_still) held
-            (moved ∙ ap (λ ws. a.outbox.wakers ++ ws) (as_woken false open_still)) (count ∙ ap length (as_woken false open_still)) left within
+            (moved ∙ ap (λ ws. a.list.wakers ++ ws) (as_woken false open_still)) (count ∙ ap length (as_woken false open_still)) left within
 
     -- ---- release
     pub done_release : (n r spare : ℕ) (wakers : List ℕ) → n < 2 ^ 64 → cause_of v.hall (events.Release s n) ≡ None
         → x ≡ record e { core = record (cores.poured e.core n) { wakes = [] }; released = e.released + n } → cores.held_of x.core ≡ cores.held_of e.core
-        → wakers ≡ a.outbox.wakers ++ cores.wakers_of (granted_in e.core.queue n) → spare + r ≡ a.outbox.spare
+        → wakers ≡ a.list.wakers ++ cores.wakers_of (granted_in e.core.queue n) → spare + r ≡ a.list.registered
         → r ≡ length (cores.wakers_of (granted_in e.core.queue n))
-        → Done v i (step v.hall i (events.Release s n)) answers.Done st' (a.registered - r) spare wakers
+        → Done v i (step v.hall i (events.Release s n)) answers.Done st' ((registered_in a) - r) spare wakers
     done_release n r spare wakers small allowed is held moved left count =
         let room = k.room in
         let few = wakers_few n in
-        let with = plays_release (store_in a) st' a.registered (a.registered - r) spare a.outbox.spare a.next i s n e k less low here small
+        let with = plays_release (store_in a) st' (registered_in a) ((registered_in a) - r) spare a.list.registered a.kept.next i s n e k less low here small
         (cause (events.Release s n) allowed)
         (puts _ is).semaphores refl refl (held_by _ is held) (omega (arith, few, count)) (omega (arith, room, left)) in
-        done m.meets wakers (events.Release s n) answers.Done with.plays (moved ∙ ap (λ ws. a.outbox.wakers ++ ws) (sym with.wakes)) refl
+        done m.meets wakers (events.Release s n) answers.Done with.plays (moved ∙ ap (λ ws. a.list.wakers ++ ws) (sym with.wakes)) refl
 
 -- ---- a new semaphore
 pub done_new : {a : Inside} {v : Play} {i : ℕ} → Meets a v i → (n : ℕ) → n < 2 ^ 64 → (ss' : Semaphores) (core : cores.Core ℕ)
     → ChangesAt (semaphores_in a) ss' i (Some (record { core = core; made = n; released = 0; forgotten = 0; named = true; plain = 0; things = 0 }))
     → core ≡ fresh_core n → cores.held_of core ≡ 0
-    → Done v i (step v.hall i (events.New n)) answers.Made (store_of ss' a.futures.entries a.permits.entries) a.registered a.outbox.spare a.outbox.wakers
+    → Done v i (step v.hall i (events.New n)) answers.Made (store_of ss' a.kept.futures.entries a.kept.permits.entries) (registered_in a) a.list.registered a.list.wakers
 done_new {a} {v} {i} m n small ss' core changes is held =
-    let plays = plays_new (store_in a) a.registered a.outbox.spare a.next i m.kept (later m) m.low (store_of ss' a.futures.entries a.permits.entries) n small
+    let plays = plays_new (store_in a) (registered_in a) a.list.registered a.kept.next i m.kept (later m) m.low (store_of ss' a.kept.futures.entries a.kept.permits.entries) n small
     (semaphores_of (semaphores_in a) ss' i _ (fresh_entry n) changes (ap (λ (x : cores.Core ℕ). record (fresh_entry n) { core = x }) is)) refl refl
     (subst (λ (x : cores.Core ℕ). cores.held_of x ≡ 0) is held) in
     done_quietly m (events.New n) answers.Made plays refl refl

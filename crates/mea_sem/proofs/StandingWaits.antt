@@ -1,4 +1,4 @@
--- what a poll that waits, and the end of a future, leave of a `SemHall`
+-- what a poll that waits, and the end of a future, leave of a `SemFamily`
 use Rattle.std.proofs.Common.{◌≡◌, ◌≢◌, inl, inr, ℕ, ◌+◌, ◌-◌, ◌^◌, ◌<◌, ◌≤◌, ◌==◌, ◌++◌, true, cond, List, [], ◌∷◌, refl, ap, sym, subst, ◌∙◌, arith, Option, Some, None, append-nil, is_some, if◌then◌else◌}
 use Rattle.std.specs.Option.{IsSome}
 use Rattle.std.specs.FinMap.{get, remove}
@@ -21,7 +21,7 @@ use Rattle.mea_sem.specs.declared.entries.FutureEntry.{FutureEntry}
 use Rattle.mea_sem.specs.Entries.{Waits, WaitsOn, Ends}
 use Rattle.mea_sem.specs.Store.{Store, store_of, hall_of, stage_of, IsOpen}
 use Rattle.mea_sem.specs.Kept.{AreKeptSemaphores}
-use Rattle.mea_sem.specs.declared.hall.SemHall.TheInside.{Inside}
+use Rattle.mea_sem.proofs.Inside.{Inside}
 use Rattle.mea_sem.specs.Play.{Play}
 use Rattle.mea_sem.proofs.Keeping.{Plays}
 use Rattle.mea_sem.proofs.Left.{lack_left, wakers_without}
@@ -30,7 +30,7 @@ use Rattle.mea_sem.proofs.PlaysAgain.{plays_again}
 use Rattle.mea_sem.proofs.PlaysFutures.{plays_queued}
 use Rattle.mea_sem.proofs.PlaysPours.{between, between_at, wakers_poured}
 use Rattle.mea_sem.proofs.PlaysEnds.{plays_gone_new, plays_gone_cut, PlaysWith, plays_end_granted, plays_end_waiting}
-use Rattle.mea_sem.proofs.Meets.{semaphores_in, store_in, hall_in, IsKeptIn, MeetsFuture, Done, its_semaphore, later, to_kept, done, done_quietly}
+use Rattle.mea_sem.proofs.Meets.{registered_in, semaphores_in, store_in, hall_in, IsKeptIn, MeetsFuture, Done, its_semaphore, later, to_kept, done, done_quietly}
 use Rattle.mea_sem.proofs.Standing.{Semaphores, Futures, Permits, semaphores_of, kept_same}
 use Rattle.mea_sem.proofs.StandingSemaphores.{wakers_registered, kept_room}
 use Rattle.mea_sem.proofs.StandingFutures.{future_there, home_there, its_belongs, at_stage, seen_as, granted_stage, pending_new, waiting_as, pending_again, paid_part, granted_live, cut_stage, may_poll_kept}
@@ -38,13 +38,13 @@ use Rattle.mea_sem.proofs.StandingFutures.{future_there, home_there, its_belongs
 module _ {a : Inside} {v : Play} {i f : ℕ} {x : FutureEntry} {e : SemaphoreEntry} (m : MeetsFuture a v i f x e) where
   -- ---- a first poll that waits
   queue_done : (w d n w' : ℕ) (out : Wakes ℕ) (ss' : Semaphores) (fs' : Futures) (e2 : SemaphoreEntry) (x2 : FutureEntry)
-      → Waits e.core (acquires.New d) → w' ≡ a.registered + 1 → out.wakers ≡ a.outbox.wakers → w' ≤ out.spare → x.acquire ≡ acquires.New d
-      → x2 ≡ record x { acquire = acquires.Queued d n } → ChangesAt a.futures.entries fs' f (Some x2) → ChangesAt (semaphores_in a) ss' x.semaphore (Some e2)
+      → Waits e.core (acquires.New d) → w' ≡ (registered_in a) + 1 → out.wakers ≡ a.list.wakers → w' ≤ out.spare → x.acquire ≡ acquires.New d
+      → x2 ≡ record x { acquire = acquires.Queued d n } → ChangesAt a.kept.futures.entries fs' f (Some x2) → ChangesAt (semaphores_in a) ss' x.semaphore (Some e2)
       → Queues e.core e2.core d w n → e2 ≡ record e { core = e2.core } → cores.held_of e2.core ≡ cores.held_of e.core
-      → Done v i (step v.hall i (events.Poll f w)) answers.Pending (store_of ss' fs' a.permits.entries) w' out.spare out.wakers
+      → Done v i (step v.hall i (events.Poll f w)) answers.Pending (store_of ss' fs' a.kept.permits.entries) w' out.spare out.wakers
   queue_done w d n w' out ss' fs' e2 x2 lacks one_more same room new x2_is put changes queues rest held =
       let st : Store = store_in a in
-      let st' : Store = store_of ss' fs' a.permits.entries in
+      let st' : Store = store_of ss' fs' a.kept.permits.entries in
       let chosen = pending_new m w d new lacks in
       let hall : (step (hall_in a) i (events.Poll f w)).hall ≡ queueing (hall_in a) f w
       (record { semaphore = x.semaphore; demand = d; plain = x.plain; forgets = x.forgets; stage = New }) =
@@ -52,54 +52,54 @@ module _ {a : Inside} {v : Play} {i f : ℕ} {x : FutureEntry} {e : SemaphoreEnt
       (record { semaphore = x.semaphore; demand = demand_of b; plain = x.plain; forgets = x.forgets; stage = New })) new in
       let core : e2 ≡ record e { core = record e.core { free = 0; queue = e.core.queue ++ (cores.Acquires n d w, d - e.core.free) ∷ [] } } =
       rest ∙ ap (λ (c : cores.Core ℕ). record e { core = c }) queues.is in
-      let plays = plays_queued st st' a.registered a.outbox.spare out.spare a.next i x.semaphore f w d n x e m.meets.kept (later m.meets)
+      let plays = plays_queued st st' (registered_in a) a.list.registered out.spare a.kept.next i x.semaphore f w d n x e m.meets.kept (later m.meets)
       m.meets.low refl new (home_there m) (semaphores_of (semaphores_in a) ss' x.semaphore e2 _ changes core) (future_there m)
-      (λ g. kept-changed a.futures.entries fs' f (Some x2) put g ∙ ap (λ y. cond (f == g) (Some y) (get st.futures g)) x2_is)
+      (λ g. kept-changed a.kept.futures.entries fs' f (Some x2) put g ∙ ap (λ y. cond (f == g) (Some y) (get st.futures g)) x2_is)
       refl queues.not_waiting queues.not_granted lacks.0 (may_poll_kept m w) hall
       (subst (λ (c : cores.Core ℕ). cores.held_of c ≡ cores.held_of e.core) queues.is held) (subst (λ r. r ≤ out.spare) one_more room) in
-      let settled = subst (λ r. Plays st st' a.next i (events.Poll f w) r out.spare) (sym one_more) plays in
+      let settled = subst (λ r. Plays st st' a.kept.next i (events.Poll f w) r out.spare) (sym one_more) plays in
       done m.meets out.wakers (events.Poll f w) answers.Pending settled
-      (same ∙ sym (append-nil a.outbox.wakers) ∙ ap (λ ws. a.outbox.wakers ++ ws) (sym (ap (λ o. o.wakes) chosen))) (sym (ap (λ o. o.reply) chosen))
+      (same ∙ sym (append-nil a.list.wakers) ∙ ap (λ ws. a.list.wakers ++ ws) (sym (ap (λ o. o.wakes) chosen))) (sym (ap (λ o. o.reply) chosen))
 
   pub queued_done : (w n w' : ℕ) (out : Wakes ℕ) (ss' : Semaphores) (fs' : Futures) (e2 : SemaphoreEntry) (x2 : FutureEntry)
-      → (d : ℕ) × (x.acquire ≡ acquires.New d) → Waits e.core x.acquire → w' ≡ a.registered + 1 → out.wakers ≡ a.outbox.wakers → w' ≤ out.spare
-      → x2 ≡ record x { acquire = acquires.Queued (demand_of x.acquire) n } → ChangesAt a.futures.entries fs' f (Some x2)
+      → (d : ℕ) × (x.acquire ≡ acquires.New d) → Waits e.core x.acquire → w' ≡ (registered_in a) + 1 → out.wakers ≡ a.list.wakers → w' ≤ out.spare
+      → x2 ≡ record x { acquire = acquires.Queued (demand_of x.acquire) n } → ChangesAt a.kept.futures.entries fs' f (Some x2)
       → ChangesAt (semaphores_in a) ss' x.semaphore (Some e2)
       → Queues e.core e2.core (demand_of x.acquire) w n → e2 ≡ record e { core = e2.core } → cores.held_of e2.core ≡ cores.held_of e.core
-      → Done v i (step v.hall i (events.Poll f w)) answers.Pending (store_of ss' fs' a.permits.entries) w' out.spare out.wakers
+      → Done v i (step v.hall i (events.Poll f w)) answers.Pending (store_of ss' fs' a.kept.permits.entries) w' out.spare out.wakers
   queued_done w n w' out ss' fs' e2 x2 never waits one_more same room x2_is put changes queues rest held =
       let new : x.acquire ≡ acquires.New (demand_of x.acquire) = never.1 ∙ ap (λ d. acquires.New d) (sym (ap demand_of never.1)) in
       queue_done w (demand_of x.acquire) n w' out ss' fs' e2 x2 (subst (Waits e.core) new waits) one_more same room new x2_is put changes queues rest held
 
   -- ---- a further poll that waits
   again_done : (w d n : ℕ) (ss' : Semaphores) (fs' : Futures) (e2 : SemaphoreEntry) (x2 : FutureEntry) → Waits e.core (acquires.Queued d n)
-      → x.acquire ≡ acquires.Queued d n → x2 ≡ x → ChangesAt a.futures.entries fs' f (Some x2) → ChangesAt (semaphores_in a) ss' x.semaphore (Some e2)
+      → x.acquire ≡ acquires.Queued d n → x2 ≡ x → ChangesAt a.kept.futures.entries fs' f (Some x2) → ChangesAt (semaphores_in a) ss' x.semaphore (Some e2)
       → e2 ≡ record e { core = record e.core { queue = with_waker e.core.queue n w } } → cores.held_of e2.core ≡ cores.held_of e.core
-      → Done v i (step v.hall i (events.Poll f w)) answers.Pending (store_of ss' fs' a.permits.entries)
-      a.registered a.outbox.spare a.outbox.wakers
+      → Done v i (step v.hall i (events.Poll f w)) answers.Pending (store_of ss' fs' a.kept.permits.entries)
+      (registered_in a) a.list.registered a.list.wakers
   again_done w d n ss' fs' e2 x2 waits queued same written changes core held =
       let chosen = pending_again m w d n waits.0 queued waits.1 in
       let hall : (step (hall_in a) i (events.Poll f w)).hall ≡ with_future (hall_in a) f
       (record { semaphore = x.semaphore; demand = d; plain = x.plain; forgets = x.forgets; stage = Waiting w }) =
       ap (λ o. o.hall) chosen ∙ ap (λ b. with_future (hall_in a) f
       (record { semaphore = x.semaphore; demand = demand_of b; plain = x.plain; forgets = x.forgets; stage = Waiting w })) queued in
-      let plays = plays_again (store_in a) (store_of ss' fs' a.permits.entries)
-      a.registered a.outbox.spare a.next i x.semaphore f w d n waits.0 x e m.meets.kept (later m.meets) m.meets.low refl queued (home_there m)
+      let plays = plays_again (store_in a) (store_of ss' fs' a.kept.permits.entries)
+      (registered_in a) a.list.registered a.kept.next i x.semaphore f w d n waits.0 x e m.meets.kept (later m.meets) m.meets.low refl queued (home_there m)
       (semaphores_of (semaphores_in a) ss' x.semaphore e2 _ changes core) (future_there m)
-      (kept_same (λ k x. x) a.futures.entries fs' f x x2 m.is same written) refl waits.1 (may_poll_kept m w) hall
+      (kept_same (λ k x. x) a.kept.futures.entries fs' f x x2 m.is same written) refl waits.1 (may_poll_kept m w) hall
       (subst (λ (y : SemaphoreEntry). cores.held_of y.core ≡ cores.held_of e.core) core held) in
       done_quietly m.meets (events.Poll f w) answers.Pending plays (ap (λ o. o.wakes) chosen) (sym (ap (λ o. o.reply) chosen))
 
   pub waited_done : (w : ℕ) (ss' : Semaphores) (fs' : Futures) (e2 : SemaphoreEntry) (x2 : FutureEntry)
-      → ((d : ℕ) → x.acquire ≢ acquires.New d) → Waits e.core x.acquire → x2 ≡ x → ChangesAt a.futures.entries fs' f (Some x2)
+      → ((d : ℕ) → x.acquire ≢ acquires.New d) → Waits e.core x.acquire → x2 ≡ x → ChangesAt a.kept.futures.entries fs' f (Some x2)
       → ChangesAt (semaphores_in a) ss' x.semaphore (Some e2)
       → WaitsOn e x.acquire w e2 → cores.held_of e2.core ≡ cores.held_of e.core
-      → Done v i (step v.hall i (events.Poll f w)) answers.Pending (store_of ss' fs' a.permits.entries)
-      a.registered a.outbox.spare a.outbox.wakers
+      → Done v i (step v.hall i (events.Poll f w)) answers.Pending (store_of ss' fs' a.kept.permits.entries)
+      (registered_in a) a.list.registered a.list.wakers
   waited_done w ss' fs' e2 x2 polled waits same written changes core held = by_acquire x.acquire refl waits core
     where
       by_acquire : (b : Acquire) → x.acquire ≡ b → Waits e.core b → WaitsOn e b w e2
-          → Done v i (step v.hall i (events.Poll f w)) answers.Pending (store_of ss' fs' a.permits.entries) a.registered a.outbox.spare a.outbox.wakers
+          → Done v i (step v.hall i (events.Poll f w)) answers.Pending (store_of ss' fs' a.kept.permits.entries) (registered_in a) a.list.registered a.list.wakers
       by_acquire (acquires.New d) is pending on = absurd (polled d is)
       by_acquire (acquires.Queued d n) is pending on = again_done w d n ss' fs' e2 x2 pending is same written changes on held
       by_acquire (acquires.Done d) is pending on = absurd (subst IsOpen is (its_belongs m).1)
@@ -107,20 +107,20 @@ module _ {a : Inside} {v : Play} {i f : ℕ} {x : FutureEntry} {e : SemaphoreEnt
 
   -- ---- a poll that found no memory: what was found was written back as it stood
   module _ (ss' : Semaphores) (fs' : Futures) (ps' : Permits) (e2 : SemaphoreEntry) (x2 : FutureEntry) (same_e : e2 ≡ e) (same_x : x2 ≡ x)
-      (same_permits : ps' ≡ a.permits.entries) (written : ChangesAt a.futures.entries fs' f (Some x2))
+      (same_permits : ps' ≡ a.kept.permits.entries) (written : ChangesAt a.kept.futures.entries fs' f (Some x2))
       (changes : ChangesAt (semaphores_in a) ss' x.semaphore (Some e2)) where
     as_found : store_of ss' fs' ps' ≡ store_in a
     as_found =
         let semaphores = kept_same (λ k x. x) (semaphores_in a) ss' x.semaphore e e2 m.there same_e changes in
-        let futures = kept_same (λ k x. x) a.futures.entries fs' f x x2 m.is same_x written in
+        let futures = kept_same (λ k x. x) a.kept.futures.entries fs' f x x2 m.is same_x written in
         λ j. record { semaphores = semaphores j; futures = futures j; permits = (store_of ss' fs' (same_permits j)).permits }
 
-    pub kept_as_found : (sp' : ℕ) → a.registered ≤ sp' → AreKeptSemaphores (store_of ss' fs' ps') a.registered sp' a.next
-    kept_as_found sp' room = subst (λ (st : Store). AreKeptSemaphores st a.registered sp' a.next) (sym as_found) (kept_room sp' m.meets.kept room)
+    pub kept_as_found : (sp' : ℕ) → (registered_in a) ≤ sp' → AreKeptSemaphores (store_of ss' fs' ps') (registered_in a) sp' a.kept.next
+    kept_as_found sp' room = subst (λ (st : Store). AreKeptSemaphores st (registered_in a) sp' a.kept.next) (sym as_found) (kept_room sp' m.meets.kept room)
 
-    pub seen_as_found : (wakes' : List ℕ) → wakes' ≡ a.outbox.wakers
-        → record { hall = hall_of (store_of ss' fs' ps') a.next; wakes = wakes'; next = a.next } ≡ v
-    seen_as_found wakes' same = (λ j. record { hall = hall_of (as_found j) a.next; wakes = same j; next = a.next }) ∙ m.meets.seen
+    pub seen_as_found : (wakes' : List ℕ) → wakes' ≡ a.list.wakers
+        → record { hall = hall_of (store_of ss' fs' ps') a.kept.next; wakes = wakes'; next = a.kept.next } ≡ v
+    seen_as_found wakes' same = (λ j. record { hall = hall_of (as_found j) a.kept.next; wakes = same j; next = a.kept.next }) ∙ m.meets.seen
 
 -- ---- a future ends
 end_allowed : (h : Hall) (f : ℕ) → IsSome (get h.futures f) → cause_of h (events.End f) ≡ None
@@ -131,19 +131,19 @@ end_allowed h f there = by_value (get h.futures f) there
     by_value (Some y) here = refl
 
 module _ {a : Inside} {v : Play} {i f : ℕ} {x : FutureEntry} {e : SemaphoreEntry} (m : MeetsFuture a v i f x e) (e2 : SemaphoreEntry)
-    (wakes' : List ℕ) (left : ℕ) (ends : Ends e x.acquire x.plain e2 a.outbox.wakers wakes' left) where
+    (wakes' : List ℕ) (left : ℕ) (ends : Ends e x.acquire x.plain e2 a.list.wakers wakes' left) where
   -- those who leave were registered
-  pub left_within : left ≤ a.registered
+  pub left_within : left ≤ (registered_in a)
   left_within = by_acquire x.acquire ends refl (its_belongs m)
     where
-      by_acquire : (b : Acquire) → Ends e b x.plain e2 a.outbox.wakers wakes' left → x.acquire ≡ b → Belongs e.core x.acquire × IsOpen x.acquire
-          → left ≤ a.registered
+      by_acquire : (b : Acquire) → Ends e b x.plain e2 a.list.wakers wakes' left → x.acquire ≡ b → Belongs e.core x.acquire × IsOpen x.acquire
+          → left ≤ (registered_in a)
       by_acquire (acquires.New d) h same home = (let none = h.2 in omega (arith, none))
       by_acquire (acquires.Done d) h same home = (let none = h.2 in omega (arith, none))
       by_acquire (acquires.Refused d) h same home = (let none = h.2 in omega (arith, none))
       by_acquire (acquires.Queued d n) h same home = by_place (subst (Belongs e.core) same home.0)
         where
-          by_place : Belongs e.core (acquires.Queued d n) → left ≤ a.registered
+          by_place : Belongs e.core (acquires.Queued d n) → left ≤ (registered_in a)
           by_place (inl (inl granted)) = (let count = (h.0 granted).count in let all = wakers_registered (its_semaphore m) in
               let part = wakers_poured e.core.queue d in omega (arith, count, all, part))
           by_place (inl (inr still)) = (
@@ -154,14 +154,14 @@ module _ {a : Inside} {v : Play} {i f : ℕ} {x : FutureEntry} {e : SemaphoreEnt
               omega (arith, count, all, part, fewer))
           by_place (inr cut) = (let none = (h.2 cut).2 in omega (arith, none))
 
-  module _ (there : IsSome (get v.hall.futures f)) (ss' : Semaphores) (fs' : Futures) (sp' : ℕ) (gone : ChangesAt a.futures.entries fs' f None)
-      (changes : ChangesAt (semaphores_in a) ss' x.semaphore (Some e2)) (spare : a.outbox.spare ≤ sp' + left)
+  module _ (there : IsSome (get v.hall.futures f)) (ss' : Semaphores) (fs' : Futures) (sp' : ℕ) (gone : ChangesAt a.kept.futures.entries fs' f None)
+      (changes : ChangesAt (semaphores_in a) ss' x.semaphore (Some e2)) (spare : a.list.registered ≤ sp' + left)
       (held : cores.held_of e2.core ≡ cores.held_of e.core) where
     abbrev st : Store
     st = store_in a
 
     abbrev st' : Store
-    st' = store_of ss' fs' a.permits.entries
+    st' = store_of ss' fs' a.kept.permits.entries
 
     abbrev h : Hall
     h = hall_in a
@@ -169,7 +169,7 @@ module _ {a : Inside} {v : Play} {i f : ℕ} {x : FutureEntry} {e : SemaphoreEnt
     k : IsKeptIn a
     k = m.meets.kept
 
-    less : a.next ≤ i
+    less : a.kept.next ≤ i
     less = later m.meets
 
     low : i < 2 ^ 64
@@ -179,26 +179,26 @@ module _ {a : Inside} {v : Play} {i f : ℕ} {x : FutureEntry} {e : SemaphoreEnt
     allowed = to_kept m.meets (λ g. cause_of g (events.End f) ≡ None) (end_allowed v.hall f there)
 
     futures_now : (g : ℕ) → get st'.futures g ≡ cond (f == g) None (get st.futures g)
-    futures_now g = kept-changed a.futures.entries fs' f None gone g
+    futures_now g = kept-changed a.kept.futures.entries fs' f None gone g
 
-    room : a.registered - left ≤ sp'
+    room : (registered_in a) - left ≤ sp'
     room = let r = k.room in let l = left_within in omega (arith, r, l, spare)
 
     abbrev Finishes : Type 0
-    Finishes = Done v i (step v.hall i (events.End f)) answers.Done st' (a.registered - left) sp' wakes'
+    Finishes = Done v i (step v.hall i (events.End f)) answers.Done st' ((registered_in a) - left) sp' wakes'
 
     pub end_done : Finishes
     end_done = by_acquire x.acquire ends refl (its_belongs m)
       where
-        finish : {woken : List ℕ} → PlaysWith st st' a.next i (events.End f) (a.registered - left) sp' woken → wakes' ≡ a.outbox.wakers ++ woken
+        finish : {woken : List ℕ} → PlaysWith st st' a.kept.next i (events.End f) ((registered_in a) - left) sp' woken → wakes' ≡ a.list.wakers ++ woken
             → (step h i (events.End f)).reply ≡ answers.Done → Finishes
         finish plays moved reply = done m.meets wakes' (events.End f) answers.Done plays.plays
-            (moved ∙ ap (λ ws. a.outbox.wakers ++ ws) (sym plays.wakes)) (sym reply)
+            (moved ∙ ap (λ ws. a.list.wakers ++ ws) (sym plays.wakes)) (sym reply)
 
-        by_unpaid : PlaysWith st st' a.next i (events.End f) a.registered a.outbox.spare [] → wakes' ≡ a.outbox.wakers → left ≡ 0
+        by_unpaid : PlaysWith st st' a.kept.next i (events.End f) (registered_in a) a.list.registered [] → wakes' ≡ a.list.wakers → left ≡ 0
             → (step h i (events.End f)).reply ≡ answers.Done → Finishes
         by_unpaid with quiet none reply =
-            let fewer : a.registered ≡ a.registered - left = omega (arith, none) in
+            let fewer : (registered_in a) ≡ (registered_in a) - left = omega (arith, none) in
             finish {woken = []} (record {
               plays = record {
                 hall = with.plays.hall;
@@ -206,25 +206,25 @@ module _ {a : Inside} {v : Play} {i f : ℕ} {x : FutureEntry} {e : SemaphoreEnt
                     (kept_room sp' with.plays.kept (let r = room in omega (arith, r, none)));
               };
               wakes = with.wakes;
-            }) (quiet ∙ sym (append-nil a.outbox.wakers)) reply
+            }) (quiet ∙ sym (append-nil a.list.wakers)) reply
 
-        by_new : (d : ℕ) → x.acquire ≡ acquires.New d → e2 ≡ record e { plain = e.plain - cond x.plain 1 0; things = e.things - 1 } → wakes' ≡ a.outbox.wakers → left ≡ 0 → Finishes
+        by_new : (d : ℕ) → x.acquire ≡ acquires.New d → e2 ≡ record e { plain = e.plain - cond x.plain 1 0; things = e.things - 1 } → wakes' ≡ a.list.wakers → left ≡ 0 → Finishes
         by_new d new changed quiet none =
             let outcome = ap (end_of h f) (seen_as m New (ap (λ b. stage_of b e.core) new)) in
-            by_unpaid (plays_gone_new st st' a.registered a.registered a.outbox.spare a.outbox.spare a.next i x.semaphore d e k less low (home_there m)
+            by_unpaid (plays_gone_new st st' (registered_in a) (registered_in a) a.list.registered a.list.registered a.kept.next i x.semaphore d e k less low (home_there m)
             f d x refl (future_there m) futures_now refl (events.End f) answers.Done tt allowed new (λ seen. ap (end_of h f) seen)
             (semaphores_of (semaphores_in a) ss' x.semaphore e2 _ changes changed)) quiet none (ap (λ o. o.reply) outcome)
 
         by_cut : (d n : ℕ) → x.acquire ≡ acquires.Queued d n → get e.core.cut n ≡ Some d
-            → e2 ≡ record e { core = record e.core { cut = remove e.core.cut n }; plain = e.plain - cond x.plain 1 0; things = e.things - 1 } → wakes' ≡ a.outbox.wakers → left ≡ 0
+            → e2 ≡ record e { core = record e.core { cut = remove e.core.cut n }; plain = e.plain - cond x.plain 1 0; things = e.things - 1 } → wakes' ≡ a.list.wakers → left ≡ 0
             → Finishes
         by_cut d n queued cut changed quiet none =
             let outcome = ap (end_of h f) (seen_as m Cut (cut_stage m d n queued cut)) in
-            by_unpaid (plays_gone_cut st st' a.registered a.registered a.outbox.spare a.outbox.spare a.next i x.semaphore d e k less low (home_there m)
+            by_unpaid (plays_gone_cut st st' (registered_in a) (registered_in a) a.list.registered a.list.registered a.kept.next i x.semaphore d e k less low (home_there m)
             f d x refl (future_there m) futures_now refl (events.End f) answers.Done n tt allowed queued cut (λ seen. ap (end_of h f) seen)
             (semaphores_of (semaphores_in a) ss' x.semaphore e2 _ changes changed)) quiet none (ap (λ o. o.reply) outcome)
 
-        by_acquire : (b : Acquire) → Ends e b x.plain e2 a.outbox.wakers wakes' left → x.acquire ≡ b → Belongs e.core b × IsOpen x.acquire → Finishes
+        by_acquire : (b : Acquire) → Ends e b x.plain e2 a.list.wakers wakes' left → x.acquire ≡ b → Belongs e.core b × IsOpen x.acquire → Finishes
         by_acquire (acquires.New d) z same home = by_new d same z.0 z.1 z.2
         by_acquire (acquires.Refused d) z same home = absurd (subst IsOpen same home.1)
         by_acquire (acquires.Done d) z same home = absurd (subst IsOpen same home.1)
@@ -234,7 +234,7 @@ module _ {a : Inside} {v : Play} {i f : ℕ} {x : FutureEntry} {e : SemaphoreEnt
               let r = z.0 granted in
               let l = left_within in
               let count = r.count in
-              let with = plays_end_granted st st' a.registered (a.registered - left) sp' a.outbox.spare a.next i x.semaphore d e k less low
+              let with = plays_end_granted st st' (registered_in a) ((registered_in a) - left) sp' a.list.registered a.kept.next i x.semaphore d e k less low
               (home_there m) f d x refl (future_there m) futures_now refl n same granted (granted_live m d n same granted) allowed
               (semaphores_of (semaphores_in a) ss' x.semaphore e2 _ changes r.is)
               (subst (λ (y : SemaphoreEntry). cores.held_of y.core ≡ cores.held_of e.core) r.is held) (omega (arith, l, count)) room in
@@ -254,12 +254,12 @@ module _ {a : Inside} {v : Play} {i f : ℕ} {x : FutureEntry} {e : SemaphoreEnt
                 things = e.things - 1;
               } in
               let lack : lack_of (queue_at h x.semaphore) f ≡ still.0 =
-              ap (λ (y : Semaphore). lack_of y.queue f) (seen_at st a.next x.semaphore e k.linked (home_there m))
-              ∙ lack_left st (between st st' x.semaphore e1) a.next i x.semaphore f n d still.0 x e e1 k.linked less (home_there m)
+              ap (λ (y : Semaphore). lack_of y.queue f) (seen_at st a.kept.next x.semaphore e k.linked (home_there m))
+              ∙ lack_left st (between st st' x.semaphore e1) a.kept.next i x.semaphore f n d still.0 x e e1 k.linked less (home_there m)
               (between_at st st' x.semaphore e1) (future_there m) futures_now refl same still.1 refl refl refl refl in
               let asked : demand_of x.acquire ≡ d = ap demand_of same in
               let within_live : d - still.0 ≤ e.core.live = omega (arith, part, lack, asked) in
-              let with = plays_end_waiting st st' a.registered (a.registered - left) sp' a.outbox.spare a.next i x.semaphore d e k less low
+              let with = plays_end_waiting st st' (registered_in a) ((registered_in a) - left) sp' a.list.registered a.kept.next i x.semaphore d e k less low
               (home_there m) f d x refl (future_there m) futures_now refl n still.0 same still.1 within_live allowed
               (semaphores_of (semaphores_in a) ss' x.semaphore e2 _ changes r.is)
               (subst (λ (y : SemaphoreEntry). cores.held_of y.core ≡ cores.held_of e.core) r.is held) (omega (arith, l, count)) room in

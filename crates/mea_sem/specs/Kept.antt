@@ -1,4 +1,4 @@
--- what a `SemHall` keeps to
+-- what a `SemFamily` keeps to
 use Rattle.std.specs.Prelude.{ℕ, ◌≡◌, ◌==◌, ◌&&◌, ◌+◌, ◌*◌, ◌^◌, ◌≤◌, Bool, true, cond, List, [], ◌∷◌, Some}
 use Rattle.std.specs.FinMap.{get}
 use Rattle.mea_base.specs.Totals.{total}
@@ -40,9 +40,17 @@ pub record AreKeptSemaphores (st : Store) (registered spare next : ℕ) : Type 0
   pub accounted : (s : ℕ) → IsAccounted (hall_of st next) s
   pub linked : IsLinked st next
   pub each : (s : ℕ) (e : SemaphoreEntry) → get st.semaphores s ≡ Some e → IsKeptEntry (hall_of st next) next s e
-  -- each waker that is kept has its place in the outbox
+  -- each waker that is kept has its place in the list of those that are ready
   pub counted : registered ≡ total (λ s (e : SemaphoreEntry). wakers_in e.core.queue) st.semaphores
   pub room : registered ≤ spare
   -- an event registers one waker at the most
   pub few : registered ≤ next
   pub low : next ≤ 2 ^ 64
+
+-- how many wakers the cores keep
+abbrev pub wakers_of_all : Store → ℕ
+wakers_of_all st = total (λ s (e : SemaphoreEntry). wakers_in e.core.queue) st.semaphores
+
+-- what semaphores keep to between events, whatever the list has that they are lent
+abbrev pub AreKept : Store → ℕ → Type 0
+AreKept st next = AreKeptSemaphores st (wakers_of_all st) (wakers_of_all st) next

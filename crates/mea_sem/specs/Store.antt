@@ -1,4 +1,4 @@
--- the hall that what a `SemHall` keeps stands for
+-- the hall that what a `SemFamily` keeps stands for
 use Rattle.std.specs.Prelude.{ℕ, zero, suc, ◌≡◌, ◌≢◌, ◌<◌, ◌==◌, ◌&&◌, ◌++◌, Bool, true, false, List, [], map, reverse, Option, Some, None, if◌then◌else◌}
 use Rattle.std.specs.Ordering.{nat_cmp}
 use Rattle.std.specs.FinMap.{FinMap, get, empty, entries}

@@ -7,11 +7,11 @@ ghost use Rattle.mea_sem.specs.Store.{permit_of};
 ghost use Rattle.mea_sem.specs.StandsFor.{StandsFor};
 
 use crate::entries::{PermitEntry, SemaphoreEntry};
-use crate::hall::SemHall;
+use crate::family::SemFamily;
 use mea_events::SemEvent;
 use mea_family::{Stop, unknown_unless};
 
-impl SemHall {
+impl SemFamily {
     /// Why an event would be refused, but for want of memory; `None` where it would not be. It takes no
     /// memory.
     pub fn cause(&self, event: &SemEvent) -> Option<Stop>

@@ -5,7 +5,7 @@ ghost use Rattle.mea_sem_core.specs.Core.{held_of, paid_of, poured, wakers_of, p
 ghost use Rattle.mea_sem_core.specs.Calls.{Belongs, IsRefused, Queues, after_refusal, forgetting, forgetting_exactly};
 
 use crate::moving::hand_on;
-use mea_base::{NoMemory, Outbox};
+use mea_base::{NoMemory, Ready};
 use mea_family::{Ledger, Stop, one_if};
 use mea_sem_core::{Acquire, SemCore};
 
@@ -199,43 +199,41 @@ impl SemaphoreEntry {
         self.discount(plain);
     }
 
-    /// Adds `n` permits, hands the wakers on, and tells how many they were.
-    pub fn release(&mut self, n: usize, outbox: &mut Outbox<u64>) -> usize
+    /// Adds `n` permits, and hands the wakers on.
+    pub fn release(&mut self, n: usize, ready: &mut Ready<u64>)
         requires fits { self.old.core.live + n < 2 ^ 64 }
         requires tally { self.old.released + n < 2 ^ 128 }
         requires quiet { self.old.core.wakes ≡ [] }
-        requires room { length (wakers_of (granted_in self.old.core.queue n)) ≤ outbox.old.spare }
+        requires room { length (wakers_of (granted_in self.old.core.queue n)) ≤ ready.old.registered }
         ensures is { self.new ≡ record self.old { core = record (poured self.old.core n) { wakes = [] }; released = self.old.released + n } }
         ensures held { held_of self.new.core ≡ held_of self.old.core }
-        ensures moved { outbox.new.wakers ≡ outbox.old.wakers ++ wakers_of (granted_in self.old.core.queue n) }
-        ensures spare { outbox.new.spare + result ≡ outbox.old.spare }
-        ensures count { result ≡ length (wakers_of (granted_in self.old.core.queue n)) }
+        ensures moved { ready.new.wakers ≡ ready.old.wakers ++ wakers_of (granted_in self.old.core.queue n) }
+        ensures counted { ready.new.registered + length (wakers_of (granted_in self.old.core.queue n)) ≡ ready.old.registered }
     {
         match self.core.release(n) {
             Err(_) => unreachable!(),
             Ok(()) => {
                 self.released += n as u128;
-                hand_on(&mut self.core, outbox)
+                hand_on(&mut self.core, ready);
             }
         }
     }
 
-    /// Ends a permit of this size, which is poured; hands the wakers on, and tells how many they were.
-    pub fn give_back(&mut self, n: usize, plain: bool, outbox: &mut Outbox<u64>) -> usize
+    /// Ends a permit of this size, which is poured, and hands the wakers on.
+    pub fn give_back(&mut self, n: usize, plain: bool, ready: &mut Ready<u64>)
         requires held { n ≤ held_of self.old.core }
         requires plain { cond plain 1 0 ≤ self.old.plain }
         requires thing { 1 ≤ self.old.things }
         requires quiet { self.old.core.wakes ≡ [] }
-        requires room { length (wakers_of (granted_in self.old.core.queue n)) ≤ outbox.old.spare }
+        requires room { length (wakers_of (granted_in self.old.core.queue n)) ≤ ready.old.registered }
         ensures is { self.new ≡ record self.old { core = record (poured (record self.old.core { live = self.old.core.live - n }) n) { wakes = [] }; plain = self.old.plain - cond plain 1 0; things = self.old.things - 1 } }
         ensures held { held_of self.new.core + n ≡ held_of self.old.core }
-        ensures moved { outbox.new.wakers ≡ outbox.old.wakers ++ wakers_of (granted_in self.old.core.queue n) }
-        ensures spare { outbox.new.spare + result ≡ outbox.old.spare }
-        ensures count { result ≡ length (wakers_of (granted_in self.old.core.queue n)) }
+        ensures moved { ready.new.wakers ≡ ready.old.wakers ++ wakers_of (granted_in self.old.core.queue n) }
+        ensures counted { ready.new.registered + length (wakers_of (granted_in self.old.core.queue n)) ≡ ready.old.registered }
     {
         self.core.give_back(n);
         self.discount(plain);
-        hand_on(&mut self.core, outbox)
+        hand_on(&mut self.core, ready);
     }
 
     /// The account of the semaphore. What is paid and owed follows from the other numbers.
@@ -363,23 +361,21 @@ impl SemaphoreEntry {
         let _turn = self.core.poll_open(acquire, waker);
     }
 
-    /// Ends an acquire, and pours what it was paid; hands the wakers on, and tells how many wakers left
-    /// the queue.
-    pub fn end(&mut self, acquire: Acquire, plain: bool, outbox: &mut Outbox<u64>) -> usize
+    /// Ends an acquire, and pours what it was paid; hands the wakers on. Those that left the queue are registered no longer.
+    pub fn end(&mut self, acquire: Acquire, plain: bool, ready: &mut Ready<u64>)
         requires belongs { Belongs self.old.core acquire }
         requires plain { cond plain 1 0 ≤ self.old.plain }
         requires thing { 1 ≤ self.old.things }
         requires quiet { self.old.core.wakes ≡ [] }
-        requires room { wakers_in self.old.core.queue ≤ outbox.old.spare }
-        requires few { wakers_in self.old.core.queue < 2 ^ 64 }
-        ensures ends { Ends self.old acquire plain self.new outbox.old.wakers outbox.new.wakers result }
-        ensures spare { outbox.old.spare ≤ outbox.new.spare + result }
+        requires room { wakers_in self.old.core.queue ≤ ready.old.registered }
+        ensures ends { (left : ℕ) × Ends self.old acquire plain self.new ready.old.wakers ready.new.wakers left × (ready.new.registered + left ≡ ready.old.registered) }
         ensures held { held_of self.new.core ≡ held_of self.old.core }
     {
         let waited = self.waited(&acquire);
         self.core.cancel(acquire);
         self.discount(plain);
-        hand_on(&mut self.core, outbox) + waited
+        hand_on(&mut self.core, ready);
+        ready.unregister(waited);
     }
 
     // 1 for an acquire that waits.
@@ -393,20 +389,19 @@ impl SemaphoreEntry {
         }
     }
 
-    /// Closes the semaphore, hands the wakers on, and tells how many they were.
-    pub fn close(&mut self, outbox: &mut Outbox<u64>) -> usize
+    /// Closes the semaphore, and hands the wakers on.
+    pub fn close(&mut self, ready: &mut Ready<u64>)
         requires quiet { self.old.core.wakes ≡ [] }
-        requires room { wakers_in self.old.core.queue ≤ outbox.old.spare }
+        requires room { wakers_in self.old.core.queue ≤ ready.old.registered }
         ensures is { self.new ≡ record self.old { core = record (closed_core self.old.core) { wakes = [] } } }
         ensures held { held_of self.new.core ≡ held_of self.old.core }
-        ensures moved { outbox.new.wakers ≡ outbox.old.wakers ++ close_wakes self.old.core }
-        ensures spare { outbox.new.spare + result ≡ outbox.old.spare }
-        ensures count { result ≡ length (close_wakes self.old.core) }
+        ensures moved { ready.new.wakers ≡ ready.old.wakers ++ close_wakes self.old.core }
+        ensures counted { ready.new.registered + length (close_wakes self.old.core) ≡ ready.old.registered }
         ensures within { paid_waiting self.old.core.queue ≤ self.old.core.live }
     {
         let _live = self.core.live();
         self.core.close();
-        hand_on(&mut self.core, outbox)
+        hand_on(&mut self.core, ready);
     }
 }
 

@@ -4,20 +4,21 @@ ghost use Rattle.mea_sem_model.specs.Cause.{cause_of};
 ghost use Rattle.mea_sem_model.specs.Hall.{New, Waiting};
 ghost use Rattle.mea_sem_model.specs.Step.{step, acquire_of};
 ghost use Rattle.mea_family.specs.Forms.{is_plain};
-ghost use Rattle.mea_family.specs.Play.{Yields};
+ghost use Rattle.mea_family.specs.Play.{PartRests};
 ghost use Rattle.mea_sem.specs.Grants.{is_forgotten};
-ghost use Rattle.mea_sem.specs.Play.{Play, Plays};
+ghost use Rattle.mea_sem_model.specs.Waiters.{waiters};
+ghost use Rattle.mea_sem.specs.Play.{PlaysIn, PlaysQuietly};
 
 use crate::entries::{FutureEntry, PermitEntry};
+use crate::family::SemFamily;
 use crate::grant::Grant;
-use crate::hall::SemHall;
-use mea_base::{NoMemory, Outbox};
+use mea_base::Ready;
 use mea_events::SemEvent;
 use mea_family::{Answer, Form, Stop};
 use mea_sem_core::Acquire;
 
 // What the events on futures do. Each finds its cause for refusal at what it looks up.
-impl SemHall {
+impl SemFamily {
     // `acq` and its three other forms.
     pub(crate) fn acquire(
         &mut self,
@@ -28,7 +29,7 @@ impl SemHall {
         grant: Grant,
     ) -> Result<Answer, Stop>
         requires { self.old.next ≤ number }
-        ensures played { IfOk result (λ reply. Yields self.old number (acquire_of self.old.hall number s n (is_plain form) (is_forgotten grant)) reply self.new) }
+        ensures played { IfOk result (λ reply. PartRests waiters self.old number (acquire_of self.old.hall number s n (is_plain form) (is_forgotten grant)) reply self.new) }
         ensures allowed { OnOk result (cause_of self.old.hall (SemEvent.Acq s n) ≡ None) }
         ensures refused { IfErr result (λ stop. (cause_of self.old.hall (SemEvent.Acq s n) ≡ Some stop)
             ⊎ ((cause_of self.old.hall (SemEvent.Acq s n) ≡ None) × (stop ≡ Stop.NoMemory))) }
@@ -52,13 +53,20 @@ impl SemHall {
         Ok(Answer::Made)
     }
 
-    pub(crate) fn poll(&mut self, number: u64, f: u64, waker: u64) -> Result<Answer, Stop>
-        requires { self.old.next ≤ number }
-        ensures played { IfOk result (λ reply. Plays self.old number (SemEvent.Poll f waker) reply self.new) }
+    pub(crate) fn poll(
+        &mut self,
+        number: u64,
+        f: u64,
+        waker: u64,
+        ready: &mut Ready<u64>,
+    ) -> Result<Answer, Stop>
+        requires next { self.old.next ≤ number }
+        requires room { waiters self.old.hall ≤ ready.old.registered }
+        ensures played { IfOk result (λ reply. PlaysIn self.old number (SemEvent.Poll f waker) reply self.new ready.old ready.new) }
         ensures allowed { OnOk result (cause_of self.old.hall (SemEvent.Poll f waker) ≡ None) }
         ensures refused { IfErr result (λ stop. (cause_of self.old.hall (SemEvent.Poll f waker) ≡ Some stop)
             ⊎ ((cause_of self.old.hall (SemEvent.Poll f waker) ≡ None) × (stop ≡ Stop.NoMemory))) }
-        ensures err { OnErr result (self.new ≡ self.old) }
+        ensures err { OnErr result ((self.new ≡ self.old) × (ready.new ≡ ready.old)) }
     {
         let Some(future) = self.futures.get_mut(&f) else {
             return Err(Stop::Unknown);
@@ -91,9 +99,11 @@ impl SemHall {
             return Ok(Answer::Gone);
         }
         if future.is_new() {
-            let registered = room_for_one_more(self.registered, &mut self.outbox)?;
-            entry.queue(&mut future.acquire, waker)?;
-            self.registered = registered;
+            ready.register()?;
+            let Ok(()) = entry.queue(&mut future.acquire, waker) else {
+                ready.unregister(1);
+                return Err(Stop::NoMemory);
+            };
             self.next = number as u128 + 1;
             return Ok(Answer::Pending);
         }
@@ -103,36 +113,29 @@ impl SemHall {
     }
 
     // `end` of a future, or else of a permit.
-    pub(crate) fn end(&mut self, number: u64, f: u64) -> Result<Answer, Stop>
-        requires { self.old.next ≤ number }
-        ensures played { IfOk result (λ reply. Plays self.old number (SemEvent.End f) reply self.new) }
+    pub(crate) fn end(
+        &mut self,
+        number: u64,
+        f: u64,
+        ready: &mut Ready<u64>,
+    ) -> Result<Answer, Stop>
+        requires next { self.old.next ≤ number }
+        requires room { waiters self.old.hall ≤ ready.old.registered }
+        ensures played { IfOk result (λ reply. PlaysIn self.old number (SemEvent.End f) reply self.new ready.old ready.new) }
         ensures allowed { OnOk result (cause_of self.old.hall (SemEvent.End f) ≡ None) }
         ensures refused { IfErr result (λ stop. (cause_of self.old.hall (SemEvent.End f) ≡ Some stop) × (stop ≢ Stop.NoMemory)) }
-        ensures err { OnErr result (self.new ≡ self.old) }
+        ensures err { OnErr result ((self.new ≡ self.old) × (ready.new ≡ ready.old)) }
     {
         let Some(future) = self.futures.remove(&f) else {
-            return self.end_permit(number, f);
+            return self.end_permit(number, f, ready);
         };
         let Some(entry) = self.semaphores.get_mut(&future.semaphore) else {
             unreachable!()
         };
-        self.registered -= entry.end(future.acquire, future.plain, &mut self.outbox);
+        entry.end(future.acquire, future.plain, ready);
         let over = entry.is_over();
         self.next = number as u128 + 1;
         self.tidy(future.semaphore, over);
         Ok(Answer::Done)
     }
-}
-
-// Makes room in the outbox for a further waker, and tells how many are registered with it.
-fn room_for_one_more(registered: usize, outbox: &mut Outbox<u64>) -> Result<usize, NoMemory>
-    ensures ok { IfOk result (λ more. (more ≡ registered + 1) × (more ≤ outbox.new.spare)) }
-    ensures same { outbox.new.wakers ≡ outbox.old.wakers }
-    ensures room { registered ≤ outbox.old.spare → registered ≤ outbox.new.spare }
-{
-    let Some(more) = registered.checked_add(1) else {
-        return Err(NoMemory);
-    };
-    outbox.reserve(more)?;
-    Ok(more)
 }

@@ -1,4 +1,4 @@
-ghost use Rattle.std.specs.Prelude.{◌≡◌, ◌≢◌, ◌≤◌, ◌∷◌, [], ◌⊎◌, ℕ, length, is_some, OnOk, OnErr, IfOk, IfErr, IfSome, IfNone, None, Some};
+ghost use Rattle.std.specs.Prelude.{◌≡◌, ◌≢◌, ◌≤◌, ◌∷◌, [], ◌⊎◌, length, is_some, OnOk, OnErr, IfOk, IfErr, IfSome, IfNone, None, Some};
 ghost use Rattle.mea_sem_model.specs.Hall.{empty_hall};
 ghost use Rattle.mea_sem_model.specs.Cause.{cause_of, is_named};
 ghost use Rattle.mea_sem_model.specs.Valid.{IsValid};
@@ -6,47 +6,33 @@ ghost use Rattle.mea_sem_model.specs.Waiters.{waiters};
 ghost use Rattle.mea_sem.specs.Play.{Play, Plays, TakesNoMemory};
 ghost use Rattle.mea_sem.specs.StandsFor.{StandsFor};
 
-use crate::entries::{EndedEntry, FutureEntry, PermitEntry, SemaphoreEntry};
-use crate::grant::Grant;
-use mea_base::Outbox;
+use crate::family::SemFamily;
+use mea_base::Ready;
 use mea_events::SemEvent;
-use mea_family::{Answer, Form, Stop};
+use mea_family::{Answer, Stop};
 use mea_sem_core::SemCore;
 use std::alloc::Global;
-use std::collections::HashMap;
 use std::marker::Model;
 
-/// Many semaphores with their futures and permits, each by the number of the event that made it.
-///
-/// Each semaphore is a core of its own; a future keeps its acquire. Each event costs a look-up by name and
-/// the waiters that it pays, however many wait.
+/// Many semaphores with their futures and permits, and the wakers that they have made ready.
 #[derive(Drop)]
 pub struct SemHall {
-    pub(crate) alloc: Global,
-    pub(crate) semaphores: HashMap<u64, SemaphoreEntry>,
-    // Those of which nothing is left. Room for each is made when the semaphore is.
-    pub(crate) ended: Vec<EndedEntry>,
-    pub(crate) futures: HashMap<u64, FutureEntry>,
-    pub(crate) permits: HashMap<u64, PermitEntry>,
-    // How many futures wait. The outbox has room for the waker of each.
-    pub(crate) registered: usize,
-    pub(crate) outbox: Outbox<u64>,
-    pub(crate) next: u128,
+    family: SemFamily,
+    ready: Ready<u64>,
 }
 
 impl Model for SemHall {
+    ghost use Rattle.std.specs.Prelude.{◌≡◌};
+    ghost use Rattle.mea_sem_model.specs.Waiters.{waiters};
     ghost use Rattle.mea_sem.specs.Play.{Play, play_code};
 
     ghost Value = { Play };
 
     ghost coded = { play_code };
 
-    ghost use Rattle.mea_sem.specs.Store.{store_of, with_ended, hall_of};
-    ghost use Rattle.mea_sem.specs.Kept.{AreKeptSemaphores};
+    ghost view = { λ a. record { hall = a.family.hall; wakes = a.ready.wakers; next = a.family.next } };
 
-    ghost view = { λ a. record { hall = hall_of (store_of (with_ended a.semaphores.entries a.ended.items) a.futures.entries a.permits.entries) a.next; wakes = a.outbox.wakers; next = a.next } };
-
-    ghost invariant = { λ a. AreKeptSemaphores (store_of (with_ended a.semaphores.entries a.ended.items) a.futures.entries a.permits.entries) a.registered a.outbox.spare a.next };
+    ghost invariant = { λ a. a.ready.registered ≡ waiters a.family.hall };
 }
 
 impl SemHall {
@@ -55,14 +41,8 @@ impl SemHall {
         ensures { result ≡ record { hall = empty_hall; wakes = []; next = 0 } }
     {
         SemHall {
-            alloc,
-            semaphores: HashMap::new(alloc),
-            ended: Vec::new(alloc),
-            futures: HashMap::new(alloc),
-            permits: HashMap::new(alloc),
-            registered: 0,
-            outbox: Outbox::new(alloc),
-            next: 0,
+            family: SemFamily::new(alloc),
+            ready: Ready::new(alloc),
         }
     }
 
@@ -70,7 +50,7 @@ impl SemHall {
     pub fn wakes_ready(&self) -> usize
         ensures { result ≡ length self.now.wakes }
     {
-        self.outbox.len()
+        self.ready.len()
     }
 
     /// Takes the first waker that is ready. It takes no memory.
@@ -78,7 +58,7 @@ impl SemHall {
         ensures some { IfSome result (λ waker. self.old ≡ record self.new { wakes = waker ∷ self.new.wakes }) }
         ensures none { IfNone result ((self.old.wakes ≡ []) × (self.new ≡ self.old)) }
     {
-        self.outbox.pop()
+        self.ready.pop()
     }
 
     /// How many futures wait. One event makes at most so many wakers ready, and at most one future waits for
@@ -88,7 +68,8 @@ impl SemHall {
         ensures few { result ≤ self.now.next }
         ensures valid { IsValid self.now.hall }
     {
-        self.registered
+        self.family.is_valid();
+        self.ready.registered()
     }
 
     /// The core of the semaphore of this name, where it is still named. It takes no memory.
@@ -96,8 +77,15 @@ impl SemHall {
         ensures named { is_some result ≡ is_named self.now.hall name }
         ensures stands { IfSome result (λ core. StandsFor self.now.hall name core.now) }
     {
-        let entry = self.named_entry(name)?;
-        Some(&entry.core)
+        self.family.core(name)
+    }
+
+    /// Why an event would be refused, but for want of memory; `None` where it would not be. It takes no
+    /// memory.
+    pub fn cause(&self, event: &SemEvent) -> Option<Stop>
+        ensures { result ≡ cause_of self.now.hall event.now }
+    {
+        self.family.cause(event)
     }
 
     /// Plays an event, whose number is greater than each that was played before; the wakers that it makes
@@ -110,29 +98,6 @@ impl SemHall {
         ensures no_memory { TakesNoMemory event.now → result ≢ Err Stop.NoMemory }
         ensures err { OnErr result (self.new ≡ self.old) }
     {
-        match *event {
-            SemEvent::New(n) => self.make(number, n),
-            SemEvent::Free(s) => self.free(number, s),
-            SemEvent::Forget(s, n) => self.forget(number, s, n),
-            SemEvent::Forgetx(s, n) => self.forget_exact(number, s, n),
-            SemEvent::Release(s, n) => self.release(number, s, n),
-            SemEvent::Try(s, n) => self.try_permit(number, s, n, Form::Plain),
-            SemEvent::Tryo(s, n) => self.try_permit(number, s, n, Form::Owned),
-            SemEvent::Tryf(s, n) | SemEvent::Tryof(s, n) => self.try_and_forget(number, s, n),
-            SemEvent::Acq(s, n) => self.acquire(number, s, n, Form::Plain, Grant::Held),
-            SemEvent::Acqo(s, n) => self.acquire(number, s, n, Form::Owned, Grant::Held),
-            SemEvent::Acqf(s, n) => self.acquire(number, s, n, Form::Plain, Grant::Forgotten),
-            SemEvent::Acqof(s, n) => self.acquire(number, s, n, Form::Owned, Grant::Forgotten),
-            SemEvent::Poll(f, waker) => self.poll(number, f, waker),
-            SemEvent::End(x) => self.end(number, x),
-            SemEvent::Lose(p) => self.lose(number, p),
-            SemEvent::Merge(p, q) => self.merge(number, p, q),
-            SemEvent::Split(p, n) => self.split(number, p, n),
-            SemEvent::Size(p) => self.size(number, p),
-            SemEvent::Endsem(s) => self.end_name(number, s),
-            SemEvent::Ledger(s) => self.ledger(number, s),
-            SemEvent::Close(s) => self.close(number, s),
-            SemEvent::Closed(s) => self.closed(number, s),
-        }
+        self.family.act(number, event, &mut self.ready)
     }
 }

@@ -5,6 +5,7 @@
 
 mod causes;
 mod entries;
+mod family;
 mod futures;
 mod grant;
 mod hall;
@@ -12,6 +13,7 @@ mod moving;
 mod permits;
 mod semaphores;
 
+pub use family::SemFamily;
 pub use hall::SemHall;
 pub use mea_events::SemEvent;
 pub use mea_sem_core::{Acquire, SemCore};

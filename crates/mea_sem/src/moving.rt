@@ -1,19 +1,16 @@
 ghost use Rattle.std.specs.Prelude.{◌≡◌, ◌+◌, ◌≤◌, ◌++◌, [], length};
 
-use mea_base::Outbox;
+use mea_base::Ready;
 use mea_sem_core::SemCore;
 
-/// Hands the wakers that a core has ready on, in their order, and tells how many there were.
-pub fn hand_on(core: &mut SemCore<u64>, outbox: &mut Outbox<u64>) -> usize
-    requires { length core.old.wakes ≤ outbox.old.spare }
+/// Makes those wakers ready that a core has ready, in their order.
+pub fn hand_on(core: &mut SemCore<u64>, ready: &mut Ready<u64>)
+    requires { length core.old.wakes ≤ ready.old.registered }
     ensures taken { core.new ≡ record core.old { wakes = [] } }
-    ensures moved { outbox.new.wakers ≡ outbox.old.wakers ++ core.old.wakes }
-    ensures spare { outbox.new.spare + length core.old.wakes ≡ outbox.old.spare }
-    ensures count { result ≡ length core.old.wakes }
+    ensures moved { ready.new.wakers ≡ ready.old.wakers ++ core.old.wakes }
+    ensures counted { ready.new.registered + length core.old.wakes ≡ ready.old.registered }
 {
-    let ready = core.wakes_ready();
     while let Some(waker) = core.next_wake() {
-        outbox.push(waker);
+        ready.wake(waker);
     }
-    ready
 }

@@ -3,17 +3,19 @@ ghost use Rattle.std.specs.FinMap as map;
 ghost use Rattle.mea_sem_model.specs.Cause.{cause_of};
 ghost use Rattle.mea_sem_model.specs.Step.{try_of};
 ghost use Rattle.mea_family.specs.Forms.{is_plain};
-ghost use Rattle.mea_family.specs.Play.{Yields};
-ghost use Rattle.mea_sem.specs.Play.{Play, Plays};
+ghost use Rattle.mea_family.specs.Play.{PartRests};
+ghost use Rattle.mea_sem_model.specs.Waiters.{waiters};
+ghost use Rattle.mea_sem.specs.Play.{PlaysIn, PlaysQuietly};
 
 use crate::causes::are_alike;
 use crate::entries::PermitEntry;
-use crate::hall::SemHall;
+use crate::family::SemFamily;
+use mea_base::Ready;
 use mea_events::SemEvent;
 use mea_family::{Answer, Form, Stop};
 
 // What the events that make, change and end permits do. Each finds its cause for refusal at what it looks up.
-impl SemHall {
+impl SemFamily {
     // `try` and `tryo`.
     pub(crate) fn try_permit(
         &mut self,
@@ -23,7 +25,7 @@ impl SemHall {
         form: Form,
     ) -> Result<Answer, Stop>
         requires { self.old.next ≤ number }
-        ensures played { IfOk result (λ reply. Yields self.old number (try_of self.old.hall number s n (is_plain form)) reply self.new) }
+        ensures played { IfOk result (λ reply. PartRests waiters self.old number (try_of self.old.hall number s n (is_plain form)) reply self.new) }
         ensures allowed { OnOk result (cause_of self.old.hall (SemEvent.Try s n) ≡ None) }
         ensures refused { IfErr result (λ stop. (cause_of self.old.hall (SemEvent.Try s n) ≡ Some stop)
             ⊎ ((cause_of self.old.hall (SemEvent.Try s n) ≡ None) × (stop ≡ Stop.NoMemory))) }
@@ -51,7 +53,7 @@ impl SemHall {
 
     pub(crate) fn lose(&mut self, number: u64, p: u64) -> Result<Answer, Stop>
         requires { self.old.next ≤ number }
-        ensures played { IfOk result (λ reply. Plays self.old number (SemEvent.Lose p) reply self.new) }
+        ensures played { IfOk result (λ reply. PlaysQuietly self.old number (SemEvent.Lose p) reply self.new) }
         ensures allowed { OnOk result (cause_of self.old.hall (SemEvent.Lose p) ≡ None) }
         ensures refused { IfErr result (λ stop. (cause_of self.old.hall (SemEvent.Lose p) ≡ Some stop) × (stop ≢ Stop.NoMemory)) }
         ensures err { OnErr result (self.new ≡ self.old) }
@@ -71,7 +73,7 @@ impl SemHall {
 
     pub(crate) fn merge(&mut self, number: u64, p: u64, q: u64) -> Result<Answer, Stop>
         requires { self.old.next ≤ number }
-        ensures played { IfOk result (λ reply. Plays self.old number (SemEvent.Merge p q) reply self.new) }
+        ensures played { IfOk result (λ reply. PlaysQuietly self.old number (SemEvent.Merge p q) reply self.new) }
         ensures allowed { OnOk result (cause_of self.old.hall (SemEvent.Merge p q) ≡ None) }
         ensures refused { IfErr result (λ stop. (cause_of self.old.hall (SemEvent.Merge p q) ≡ Some stop) × (stop ≢ Stop.NoMemory)) }
         ensures err { OnErr result (self.new ≡ self.old) }
@@ -100,7 +102,7 @@ impl SemHall {
 
     pub(crate) fn split(&mut self, number: u64, p: u64, n: u64) -> Result<Answer, Stop>
         requires { self.old.next ≤ number }
-        ensures played { IfOk result (λ reply. Plays self.old number (SemEvent.Split p n) reply self.new) }
+        ensures played { IfOk result (λ reply. PlaysQuietly self.old number (SemEvent.Split p n) reply self.new) }
         ensures allowed { OnOk result (cause_of self.old.hall (SemEvent.Split p n) ≡ None) }
         ensures refused { IfErr result (λ stop. (cause_of self.old.hall (SemEvent.Split p n) ≡ Some stop)
             ⊎ ((cause_of self.old.hall (SemEvent.Split p n) ≡ None) × (stop ≡ Stop.NoMemory))) }
@@ -135,7 +137,7 @@ impl SemHall {
 
     pub(crate) fn size(&mut self, number: u64, p: u64) -> Result<Answer, Stop>
         requires { self.old.next ≤ number }
-        ensures played { IfOk result (λ reply. Plays self.old number (SemEvent.Size p) reply self.new) }
+        ensures played { IfOk result (λ reply. PlaysQuietly self.old number (SemEvent.Size p) reply self.new) }
         ensures allowed { OnOk result (cause_of self.old.hall (SemEvent.Size p) ≡ None) }
         ensures refused { IfErr result (λ stop. (cause_of self.old.hall (SemEvent.Size p) ≡ Some stop) × (stop ≢ Stop.NoMemory)) }
         ensures err { OnErr result (self.new ≡ self.old) }
@@ -149,13 +151,19 @@ impl SemHall {
     }
 
     // `end` of a permit.
-    pub(crate) fn end_permit(&mut self, number: u64, p: u64) -> Result<Answer, Stop>
+    pub(crate) fn end_permit(
+        &mut self,
+        number: u64,
+        p: u64,
+        ready: &mut Ready<u64>,
+    ) -> Result<Answer, Stop>
         requires next { self.old.next ≤ number }
+        requires room { waiters self.old.hall ≤ ready.old.registered }
         requires no_future { map.get self.old.hall.futures p ≡ None }
-        ensures played { IfOk result (λ reply. Plays self.old number (SemEvent.End p) reply self.new) }
+        ensures played { IfOk result (λ reply. PlaysIn self.old number (SemEvent.End p) reply self.new ready.old ready.new) }
         ensures allowed { OnOk result (cause_of self.old.hall (SemEvent.End p) ≡ None) }
         ensures refused { IfErr result (λ stop. (cause_of self.old.hall (SemEvent.End p) ≡ Some stop) × (stop ≢ Stop.NoMemory)) }
-        ensures err { OnErr result (self.new ≡ self.old) }
+        ensures err { OnErr result ((self.new ≡ self.old) × (ready.new ≡ ready.old)) }
     {
         let Some(permit) = self.permits.remove(&p) else {
             return Err(Stop::Unknown);
@@ -163,7 +171,7 @@ impl SemHall {
         let Some(entry) = self.semaphores.get_mut(&permit.semaphore) else {
             unreachable!()
         };
-        self.registered -= entry.give_back(permit.size, permit.plain, &mut self.outbox);
+        entry.give_back(permit.size, permit.plain, ready);
         let over = entry.is_over();
         self.next = number as u128 + 1;
         self.tidy(permit.semaphore, over);

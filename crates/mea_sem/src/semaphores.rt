@@ -1,20 +1,22 @@
 ghost use Rattle.std.specs.Prelude.{◌≡◌, ◌≢◌, ◌≤◌, ◌⊎◌, OnOk, OnErr, IfOk, IfErr, None, Some, true, false};
 ghost use Rattle.mea_sem_model.specs.Cause.{cause_of};
 ghost use Rattle.mea_sem_model.specs.Step.{try_and_forget};
-ghost use Rattle.mea_family.specs.Play.{Yields};
-ghost use Rattle.mea_sem.specs.Play.{Play, Plays};
+ghost use Rattle.mea_family.specs.Play.{PartRests};
+ghost use Rattle.mea_sem_model.specs.Waiters.{waiters};
+ghost use Rattle.mea_sem.specs.Play.{PlaysIn, PlaysQuietly};
 
 use crate::entries::SemaphoreEntry;
-use crate::hall::SemHall;
+use crate::family::SemFamily;
+use mea_base::Ready;
 use mea_events::SemEvent;
 use mea_family::{Answer, Ledger, Stop};
 use mea_sem_core::SemCore;
 
 // What the events on semaphores do. Each finds its cause for refusal at the entry that it looks up.
-impl SemHall {
+impl SemFamily {
     pub(crate) fn make(&mut self, number: u64, n: u64) -> Result<Answer, Stop>
         requires { self.old.next ≤ number }
-        ensures played { IfOk result (λ reply. Plays self.old number (SemEvent.New n) reply self.new) }
+        ensures played { IfOk result (λ reply. PlaysQuietly self.old number (SemEvent.New n) reply self.new) }
         ensures memory { IfErr result (λ stop. stop ≡ Stop.NoMemory) }
         ensures err { OnErr result (self.new ≡ self.old) }
     {
@@ -37,7 +39,7 @@ impl SemHall {
 
     pub(crate) fn free(&mut self, number: u64, s: u64) -> Result<Answer, Stop>
         requires { self.old.next ≤ number }
-        ensures played { IfOk result (λ reply. Plays self.old number (SemEvent.Free s) reply self.new) }
+        ensures played { IfOk result (λ reply. PlaysQuietly self.old number (SemEvent.Free s) reply self.new) }
         ensures allowed { OnOk result (cause_of self.old.hall (SemEvent.Free s) ≡ None) }
         ensures refused { IfErr result (λ stop. (cause_of self.old.hall (SemEvent.Free s) ≡ Some stop) × (stop ≢ Stop.NoMemory)) }
         ensures err { OnErr result (self.new ≡ self.old) }
@@ -53,7 +55,7 @@ impl SemHall {
 
     pub(crate) fn forget(&mut self, number: u64, s: u64, n: u64) -> Result<Answer, Stop>
         requires { self.old.next ≤ number }
-        ensures played { IfOk result (λ reply. Plays self.old number (SemEvent.Forget s n) reply self.new) }
+        ensures played { IfOk result (λ reply. PlaysQuietly self.old number (SemEvent.Forget s n) reply self.new) }
         ensures allowed { OnOk result (cause_of self.old.hall (SemEvent.Forget s n) ≡ None) }
         ensures refused { IfErr result (λ stop. (cause_of self.old.hall (SemEvent.Forget s n) ≡ Some stop) × (stop ≢ Stop.NoMemory)) }
         ensures err { OnErr result (self.new ≡ self.old) }
@@ -69,7 +71,7 @@ impl SemHall {
 
     pub(crate) fn forget_exact(&mut self, number: u64, s: u64, n: u64) -> Result<Answer, Stop>
         requires { self.old.next ≤ number }
-        ensures played { IfOk result (λ reply. Plays self.old number (SemEvent.Forgetx s n) reply self.new) }
+        ensures played { IfOk result (λ reply. PlaysQuietly self.old number (SemEvent.Forgetx s n) reply self.new) }
         ensures allowed { OnOk result (cause_of self.old.hall (SemEvent.Forgetx s n) ≡ None) }
         ensures refused { IfErr result (λ stop. (cause_of self.old.hall (SemEvent.Forgetx s n) ≡ Some stop)
             ⊎ ((cause_of self.old.hall (SemEvent.Forgetx s n) ≡ None) × (stop ≡ Stop.NoMemory))) }
@@ -84,18 +86,25 @@ impl SemHall {
         Ok(Answer::Done)
     }
 
-    pub(crate) fn release(&mut self, number: u64, s: u64, n: u64) -> Result<Answer, Stop>
-        requires { self.old.next ≤ number }
-        ensures played { IfOk result (λ reply. Plays self.old number (SemEvent.Release s n) reply self.new) }
+    pub(crate) fn release(
+        &mut self,
+        number: u64,
+        s: u64,
+        n: u64,
+        ready: &mut Ready<u64>,
+    ) -> Result<Answer, Stop>
+        requires next { self.old.next ≤ number }
+        requires room { waiters self.old.hall ≤ ready.old.registered }
+        ensures played { IfOk result (λ reply. PlaysIn self.old number (SemEvent.Release s n) reply self.new ready.old ready.new) }
         ensures allowed { OnOk result (cause_of self.old.hall (SemEvent.Release s n) ≡ None) }
         ensures refused { IfErr result (λ stop. (cause_of self.old.hall (SemEvent.Release s n) ≡ Some stop) × (stop ≢ Stop.NoMemory)) }
-        ensures err { OnErr result (self.new ≡ self.old) }
+        ensures err { OnErr result ((self.new ≡ self.old) × (ready.new ≡ ready.old)) }
     {
         let Some(entry) = self.semaphores.get_mut(&s) else {
             return Err(Stop::Unknown);
         };
         entry.has_room_for(n as usize)?;
-        self.registered -= entry.release(n as usize, &mut self.outbox);
+        entry.release(n as usize, ready);
         self.next = number as u128 + 1;
         Ok(Answer::Done)
     }
@@ -103,7 +112,7 @@ impl SemHall {
     // `tryf` and `tryof`: nothing is left of the permit that could borrow the semaphore.
     pub(crate) fn try_and_forget(&mut self, number: u64, s: u64, n: u64) -> Result<Answer, Stop>
         requires { self.old.next ≤ number }
-        ensures played { IfOk result (λ reply. Yields self.old number (try_and_forget self.old.hall s n) reply self.new) }
+        ensures played { IfOk result (λ reply. PartRests waiters self.old number (try_and_forget self.old.hall s n) reply self.new) }
         ensures allowed { OnOk result (cause_of self.old.hall (SemEvent.Tryf s n) ≡ None) }
         ensures refused { IfErr result (λ stop. (cause_of self.old.hall (SemEvent.Tryf s n) ≡ Some stop) × (stop ≢ Stop.NoMemory)) }
         ensures err { OnErr result (self.new ≡ self.old) }
@@ -123,7 +132,7 @@ impl SemHall {
 
     pub(crate) fn end_name(&mut self, number: u64, s: u64) -> Result<Answer, Stop>
         requires { self.old.next ≤ number }
-        ensures played { IfOk result (λ reply. Plays self.old number (SemEvent.Endsem s) reply self.new) }
+        ensures played { IfOk result (λ reply. PlaysQuietly self.old number (SemEvent.Endsem s) reply self.new) }
         ensures allowed { OnOk result (cause_of self.old.hall (SemEvent.Endsem s) ≡ None) }
         ensures refused { IfErr result (λ stop. (cause_of self.old.hall (SemEvent.Endsem s) ≡ Some stop) × (stop ≢ Stop.NoMemory)) }
         ensures err { OnErr result (self.new ≡ self.old) }
@@ -162,25 +171,31 @@ impl SemHall {
         let _entry = self.semaphores.remove(&s);
     }
 
-    pub(crate) fn close(&mut self, number: u64, s: u64) -> Result<Answer, Stop>
-        requires { self.old.next ≤ number }
-        ensures played { IfOk result (λ reply. Plays self.old number (SemEvent.Close s) reply self.new) }
+    pub(crate) fn close(
+        &mut self,
+        number: u64,
+        s: u64,
+        ready: &mut Ready<u64>,
+    ) -> Result<Answer, Stop>
+        requires next { self.old.next ≤ number }
+        requires room { waiters self.old.hall ≤ ready.old.registered }
+        ensures played { IfOk result (λ reply. PlaysIn self.old number (SemEvent.Close s) reply self.new ready.old ready.new) }
         ensures allowed { OnOk result (cause_of self.old.hall (SemEvent.Close s) ≡ None) }
         ensures refused { IfErr result (λ stop. (cause_of self.old.hall (SemEvent.Close s) ≡ Some stop) × (stop ≢ Stop.NoMemory)) }
-        ensures err { OnErr result (self.new ≡ self.old) }
+        ensures err { OnErr result ((self.new ≡ self.old) × (ready.new ≡ ready.old)) }
     {
         let Some(entry) = self.semaphores.get_mut(&s) else {
             return Err(Stop::Unknown);
         };
         entry.known()?;
-        self.registered -= entry.close(&mut self.outbox);
+        entry.close(ready);
         self.next = number as u128 + 1;
         Ok(Answer::Done)
     }
 
     pub(crate) fn closed(&mut self, number: u64, s: u64) -> Result<Answer, Stop>
         requires { self.old.next ≤ number }
-        ensures played { IfOk result (λ reply. Plays self.old number (SemEvent.Closed s) reply self.new) }
+        ensures played { IfOk result (λ reply. PlaysQuietly self.old number (SemEvent.Closed s) reply self.new) }
         ensures allowed { OnOk result (cause_of self.old.hall (SemEvent.Closed s) ≡ None) }
         ensures refused { IfErr result (λ stop. (cause_of self.old.hall (SemEvent.Closed s) ≡ Some stop) × (stop ≢ Stop.NoMemory)) }
         ensures err { OnErr result (self.new ≡ self.old) }
@@ -196,7 +211,7 @@ impl SemHall {
 
     pub(crate) fn ledger(&mut self, number: u64, s: u64) -> Result<Answer, Stop>
         requires { self.old.next ≤ number }
-        ensures played { IfOk result (λ reply. Plays self.old number (SemEvent.Ledger s) reply self.new) }
+        ensures played { IfOk result (λ reply. PlaysQuietly self.old number (SemEvent.Ledger s) reply self.new) }
         ensures allowed { OnOk result (cause_of self.old.hall (SemEvent.Ledger s) ≡ None) }
         ensures refused { IfErr result (λ stop. (cause_of self.old.hall (SemEvent.Ledger s) ≡ Some stop) × (stop ≢ Stop.NoMemory)) }
         ensures err { OnErr result (self.new ≡ self.old) }

@@ -2,13 +2,13 @@
 #![tactic(auto)]
 
 mod admission_entry;
+mod family;
 mod future_entry;
-mod hall;
 mod part;
 mod permit_entry;
 
 pub use admission_entry::{AdmissionEntry, Core};
+pub use family::{ShareHall, ShareModel};
 pub use future_entry::FutureEntry;
-pub use hall::ShareHall;
 pub use part::SharePart;
 pub use permit_entry::PermitEntry;

@@ -73,8 +73,8 @@ impl SharePart {
         if entry.is_named() { Some(entry) } else { None }
     }
 
-    /// The core of an admission that is named.
-    pub fn core(&self, o: u64) -> Option<&Core>
+    /// The core of the admission of this name, where it is still named. It takes no memory.
+    pub fn fair(&self, o: u64) -> Option<&Core>
         ensures named { is_some result ≡ is_named self.now.hall o }
         ensures stands { IfSome result (λ core. StandsFor self.now.hall o core.now) }
     {

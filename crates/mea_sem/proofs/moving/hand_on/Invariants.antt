@@ -5,8 +5,8 @@ use Rattle.mea_sem.proofs.moving.hand_on.Given as goal
 abbrev pub invariant-loop-waker : goal.invariant-loop-waker
 invariant-loop-waker l = record {
   rest : record l.core { wakes = [] } ≡ record l.fn.core { wakes = [] };
-  moved : l.outbox.wakers ++ l.core.wakes ≡ l.fn.outbox.wakers ++ l.fn.core.wakes;
-  spare : l.outbox.spare + length l.fn.core.wakes ≡ l.fn.outbox.spare + length l.core.wakes;
+  moved : l.ready.wakers ++ l.core.wakes ≡ l.fn.ready.wakers ++ l.fn.core.wakes;
+  counted : l.ready.registered + length l.fn.core.wakes ≡ l.fn.ready.registered + length l.core.wakes;
 }
 
 abbrev pub decreases-loop-waker : goal.decreases-loop-waker

@@ -20,10 +20,10 @@ returns-clause-valid c = subst (λ (p : Play). IsValid p.world p.events) c.self.
       semaphores = c.registered.ensures.valid;
       meets = c.validity_is_kept.ensures.later c.self.inside.meets.hall c.self.inside.meets.next c.self.inside.events c.registered-2.ensures.valid
           c.self.invariant.meets;
-      locks = c.registered-3.ensures.fit;
+      locks = c.registered-3.ensures.valid;
       chans = c.registered-4.ensures.valid;
-      shares = c.registered-5.ensures.valid;
-      settled = c.registered-5.ensures.settled;
+      shares = c.registered-5.ensures.valid.0;
+      settled = c.registered-5.ensures.valid.1;
     })
 
 pub returns-clause-count : goal.returns-clause-count

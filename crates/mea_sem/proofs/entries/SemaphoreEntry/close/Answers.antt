@@ -1,4 +1,4 @@
-use Rattle.std.proofs.Common.{◌≡◌, ◌++◌, ap, length, ◌∙◌}
+use Rattle.std.proofs.Common.{◌≡◌, ◌+◌, ◌++◌, ap, sym, length, ◌∙◌}
 use Rattle.mea_sem_core.specs.Core as cores
 use Rattle.mea_sem.proofs.Turns.{closing_wakes, closing_room}
 use Rattle.mea_sem.proofs.entries.SemaphoreEntry.close.Goals as goal
@@ -13,8 +13,8 @@ hand_on-requires c =
 
 pub returns-clause-moved : goal.returns-clause-moved
 returns-clause-moved c = c.hand_on.ensures.moved
-    ∙ ap (λ ws. c.args.outbox.now.wakers ++ ws) (ap (λ x. x.wakes) c.close.ensures.closes ∙ closing_wakes c.args.self.now.core c.requires.quiet)
+    ∙ ap (λ ws. c.args.ready.now.wakers ++ ws) (ap (λ x. x.wakes) c.close.ensures.closes ∙ closing_wakes c.args.self.now.core c.requires.quiet)
 
-pub returns-clause-count : goal.returns-clause-count
-returns-clause-count c = c.hand_on.ensures.count
-    ∙ ap length (ap (λ x. x.wakes) c.close.ensures.closes ∙ closing_wakes c.args.self.now.core c.requires.quiet)
+pub returns-clause-counted : goal.returns-clause-counted
+returns-clause-counted c = ap (λ ws. c.hand_on.new.ready.registered + length ws) (sym (ap (λ x. x.wakes) c.close.ensures.closes ∙ closing_wakes c.args.self.now.core c.requires.quiet))
+    ∙ c.hand_on.ensures.counted

@@ -1,0 +1,8 @@
+use Rattle.std.proofs.Common.{sym, ◌∙◌}
+use Rattle.mea_sem.proofs.Refusals.{is_permit-at}
+use Rattle.mea_sem.proofs.Lists.{alone}
+use Rattle.mea_sem.proofs.Inside.{seen_alone}
+use Rattle.mea_sem.proofs.family.SemFamily.is_permit.Goals as goal
+
+pub returns : goal.returns
+returns c = c.contains_key.ensures ∙ sym (is_permit-at (alone c.self.inside) (seen_alone c.self.view_is) c.args.p)

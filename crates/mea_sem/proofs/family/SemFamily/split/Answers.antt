@@ -1,0 +1,96 @@
+use Rattle.std.proofs.Common.{inl, inr, refl, rules, ◌+◌, ◌-◌, sym, ap, ◌∙◌, arith}
+use Rattle.std.specs.Option.{option_copied_mut}
+use Rattle.mea_sem.specs.declared.entries.PermitEntry.{PermitEntry}
+use Rattle.mea_sem.proofs.Meets.{Meets, MeetsPermit, kept_as_permits, kept_store, seen_store, permits_semaphore}
+use Rattle.mea_sem.proofs.Refusals.{permit_known, permit_unknown}
+use Rattle.mea_sem.proofs.StandingSemaphores.{plain_fits, things_fit}
+use Rattle.mea_sem.proofs.StandingPermits.{home_living, too_small, halved, undone}
+use Rattle.mea_sem.proofs.Endings.{living_in, beside}
+use Rattle.mea_sem.proofs.Lists.{alone, own, rests}
+use Rattle.mea_sem.proofs.Inside.{lone, part_of, seen_alone}
+use Rattle.mea_sem.proofs.family.SemFamily.split.Goals as goal
+use Rattle.mea_sem.proofs.family.SemFamily.split.Goals.{In-Some, In-Some-get_mut-2}
+
+entered : (c : In-Some) → Meets (alone c.self.inside) (lone c.args.self.now) c.args.number
+entered c = record { seen = (seen_alone c.self.view_is); kept = c.self.invariant; least = c.requires; low = omega arith }
+
+-- the permit and its semaphore, as they were found
+met : (c : In-Some-get_mut-2) → MeetsPermit (alone c.self.inside) (lone c.args.self.now) c.args.number c.args.p c.in-Some.permit.now c.in-Some-get_mut-2.entry.now
+met c = record {
+  meets = record { seen = (seen_alone c.self.view_is); kept = c.self.invariant; least = c.requires; low = omega arith };
+  is = sym c.get_mut.ensures.value ∙ ap option_copied_mut c.in-Some.is;
+  there = living_in (alone c.self.inside) _ _ (sym c.get_mut-2.ensures.value ∙ ap option_copied_mut c.in-Some-get_mut-2.is);
+}
+
+pub invariant_of-self : goal.invariant_of-self
+invariant_of-self c = own (kept_as_permits (alone c.self.inside) c.self.invariant (search rules))
+
+pub returns-in_default-clause-refused : goal.returns-in_default-clause-refused
+returns-in_default-clause-refused c = inl (permit_unknown (alone c.self.inside) (seen_alone c.self.view_is) c.args.p (sym c.get_mut.ensures.value ∙ ap option_copied_mut c.in_default.is))
+
+-- ---- it is smaller
+pub invariant_of-self-then-n-permit : goal.invariant_of-self-then-n-permit
+invariant_of-self-then-n-permit c =
+    own ((too_small (entered (goal.at.invariant_of-self-then-n-permit c).In-Some) c.args.p c.args.n c.in-Some.permit.now _
+    (sym c.get_mut.ensures.value ∙ ap option_copied_mut c.in-Some.is) ((c.get_mut.follows.holds c.in-Some.permit.now).3 (search rules)).0 c.if-n-permit.true).kept)
+
+pub returns-then-n-permit-clause-played : goal.returns-then-n-permit-clause-played
+returns-then-n-permit-clause-played c =
+    (rests (entered (goal.at.returns-then-n-permit-clause-played c).In-Some) refl (too_small (entered (goal.at.returns-then-n-permit-clause-played c).In-Some) c.args.p c.args.n c.in-Some.permit.now _
+    (sym c.get_mut.ensures.value ∙ ap option_copied_mut c.in-Some.is) ((c.get_mut.follows.holds c.in-Some.permit.now).3 (search rules)).0 c.if-n-permit.true))
+
+pub returns-then-n-permit-clause-allowed : goal.returns-then-n-permit-clause-allowed
+returns-then-n-permit-clause-allowed c = permit_known (alone c.self.inside) (seen_alone c.self.view_is) c.args.p c.in-Some.permit.now (sym c.get_mut.ensures.value ∙ ap option_copied_mut c.in-Some.is)
+
+-- ---- the part found no room
+pub invariant_of-self-in_default-insert : goal.invariant_of-self-in_default-insert
+invariant_of-self-in_default-insert c =
+    let smaller : PermitEntry = record c.in-Some.permit.now { size = c.in-Some.permit.now.size - c.args.n } in
+    let whole : PermitEntry = record c.in-Some-get_mut.permit.now { size = c.in-Some-get_mut.permit.now.size + c.args.n } in
+    own (kept_store (alone c.self.inside) c.self.invariant (undone (alone c.self.inside) c.args.p c.args.n c.in-Some.permit.now c.in-Some-get_mut.permit.now _ _ _
+    (sym c.get_mut.ensures.value ∙ ap option_copied_mut c.in-Some.is) (omega (arith, c.if-n-permit.false))
+    ((c.get_mut.follows.holds smaller).3 (search rules)).0 c.in_default-insert.ensures.err
+    (sym c.get_mut-in_default-insert.ensures.value ∙ ap option_copied_mut c.in-Some-get_mut.is)
+    ((c.get_mut-in_default-insert.follows.holds whole).3 (search rules)).0))
+
+pub returns-in_default-insert-clause-refused : goal.returns-in_default-insert-clause-refused
+returns-in_default-insert-clause-refused c = inr (permit_known (alone c.self.inside) (seen_alone c.self.view_is) c.args.p c.in-Some.permit.now (sym c.get_mut.ensures.value ∙ ap option_copied_mut c.in-Some.is), refl)
+
+pub returns-in_default-insert-clause-err : goal.returns-in_default-insert-clause-err
+returns-in_default-insert-clause-err c =
+    let smaller : PermitEntry = record c.in-Some.permit.now { size = c.in-Some.permit.now.size - c.args.n } in
+    let whole : PermitEntry = record c.in-Some-get_mut.permit.now { size = c.in-Some-get_mut.permit.now.size + c.args.n } in
+    ap part_of (seen_store (alone c.self.inside) (seen_alone c.self.view_is) (undone (alone c.self.inside) c.args.p c.args.n c.in-Some.permit.now c.in-Some-get_mut.permit.now _ _ _
+    (sym c.get_mut.ensures.value ∙ ap option_copied_mut c.in-Some.is) (omega (arith, c.if-n-permit.false))
+    ((c.get_mut.follows.holds smaller).3 (search rules)).0 c.in_default-insert.ensures.err
+    (sym c.get_mut-in_default-insert.ensures.value ∙ ap option_copied_mut c.in-Some-get_mut.is)
+    ((c.get_mut-in_default-insert.follows.holds whole).3 (search rules)).0))
+
+-- ---- it is split
+pub unreachable-requires-in_default-get_mut-2 : goal.unreachable-requires-in_default-get_mut-2
+unreachable-requires-in_default-get_mut-2 c =
+    home_living (alone c.self.inside) c.args.p c.self.invariant (sym c.get_mut.ensures.value ∙ ap option_copied_mut c.in-Some.is)
+    (sym c.get_mut-2.ensures.value ∙ ap option_copied_mut c.in_default-get_mut-2.is)
+
+pub count-requires-clause-few_things : goal.count-requires-clause-few_things
+count-requires-clause-few_things c = things_fit (permits_semaphore (met (goal.at.count-requires-clause-few_things c).In-Some-get_mut-2))
+
+pub count-requires-clause-few : goal.count-requires-clause-few
+count-requires-clause-few c = plain_fits (permits_semaphore (met (goal.at.count-requires-clause-few c).In-Some-get_mut-2))
+
+pub invariant_of-self-2 : goal.invariant_of-self-2
+invariant_of-self-2 c =
+    let smaller : PermitEntry = record c.in-Some.permit.now { size = c.in-Some.permit.now.size - c.args.n } in
+    own ((halved (met (goal.at.invariant_of-self-2 c).In-Some-get_mut-2) _ _ _ c.args.n c.count.new.self (omega (arith, c.if-n-permit.false))
+    c.count.ensures (beside (alone c.self.inside) _ _ _ ((c.get_mut-2.follows.holds c.count.new.self).3 (search rules)).0)
+    ((c.get_mut.follows.holds smaller).3 (search rules)).0 c.in-Ok.ensures.updates.0).kept)
+
+pub returns-clause-played : goal.returns-clause-played
+returns-clause-played c =
+    let smaller : PermitEntry = record c.in-Some.permit.now { size = c.in-Some.permit.now.size - c.args.n } in
+    (rests (met (goal.at.returns-clause-played c).In-Some-get_mut-2).meets refl (halved (met (goal.at.returns-clause-played c).In-Some-get_mut-2) _ _ _ c.args.n c.count.new.self (omega (arith, c.if-n-permit.false))
+    c.count.ensures (beside (alone c.self.inside) _ _ _ ((c.get_mut-2.follows.holds c.count.new.self).3 (search rules)).0)
+    ((c.get_mut.follows.holds smaller).3 (search rules)).0 c.in-Ok.ensures.updates.0))
+
+pub returns-clause-allowed : goal.returns-clause-allowed
+returns-clause-allowed c = permit_known (alone c.self.inside) (seen_alone c.self.view_is) c.args.p c.in-Some.permit.now (sym c.get_mut.ensures.value ∙ ap option_copied_mut c.in-Some.is)
