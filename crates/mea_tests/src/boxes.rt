@@ -1,34 +1,58 @@
 use mea::atomicbox::{AtomicBox, AtomicOptionBox};
-use std::test::Fail;
+use std::process::Abort;
+use std::sync::Wait;
+
+// A box with this content.
+fn boxed(rt: &(impl Abort + AllocGlobal), content: u64) -> Box<u64> {
+    Box::new(rt.alloc(), content).expect(rt, "memory")
+}
 
 // Each call of a box once.
 #[test]
-fn a_box_is_swapped(rt: HostRuntime) -> Result<(), Fail> {
-    let mut shared = AtomicBox::new(Box::new(rt.alloc(), 1u64)?);
-    assert!(rt; *shared.swap(&rt, Box::new(rt.alloc(), 2)?) == 1);
-    let mut other = Box::new(rt.alloc(), 3)?;
+fn a_box_is_swapped(rt: HostRuntime) {
+    let mut shared = AtomicBox::new(boxed(&rt, 1));
+    let mut other = boxed(&rt, 3);
+    assert!(rt; *shared.swap(&rt, boxed(&rt, 2)) == 1);
     shared.swap_mut(&rt, &mut other);
     assert!(rt; *other == 2);
-    shared.store(&rt, Box::new(rt.alloc(), 4)?);
+    shared.store(&rt, boxed(&rt, 4));
     assert!(rt; *shared.get_mut() == 4);
     *shared.get_mut() = 5;
     assert!(rt; *shared.into_inner() == 5);
-    Ok(())
+}
+
+// What is there, which is let go.
+fn content(there: Option<Box<u64>>) -> Option<u64> {
+    match there {
+        Some(content) => Some(*content),
+        None => None,
+    }
 }
 
 // Each call of a box that may be empty once.
 #[test]
-fn a_box_may_be_empty(rt: HostRuntime) -> Result<(), Fail> {
-    let mut shared: AtomicOptionBox<u64> = AtomicOptionBox::none();
-    assert!(rt; shared.swap(&rt, Some(Box::new(rt.alloc(), 1)?)).is_none());
-    assert!(rt; shared.take(&rt).is_some_and(|content| *content == 1));
-    let mut other = Some(Box::new(rt.alloc(), 2)?);
-    shared.swap_mut(&rt, &mut other);
-    assert!(rt; other.is_none());
-    assert!(rt; shared.get_mut().is_some_and(|content| *content == 2));
+fn a_box_may_be_empty(rt: HostRuntime) {
+    let mut shared = AtomicOptionBox::none();
+    is_swapped(&rt, &shared);
+    assert!(rt; seen(&mut shared) == Some(2));
     shared.store(&rt, None);
-    assert!(rt; shared.into_inner().is_none());
-    let full = AtomicOptionBox::new(Some(Box::new(rt.alloc(), 3)?));
-    assert!(rt; full.into_inner().is_some_and(|content| *content == 3));
-    Ok(())
+    assert!(rt; content(shared.into_inner()).is_none());
+    let full = AtomicOptionBox::new(Some(boxed(&rt, 3)));
+    assert!(rt; content(full.into_inner()) == Some(3));
+}
+
+fn is_swapped<R: Wait + Abort + AllocGlobal>(rt: &R, shared: &AtomicOptionBox<u64>) {
+    assert!(rt; content(shared.swap(rt, Some(boxed(rt, 1)))).is_none());
+    assert!(rt; content(shared.take(rt)) == Some(1));
+    let mut other = Some(boxed(rt, 2));
+    shared.swap_mut(rt, &mut other);
+    assert!(rt; content(other).is_none());
+}
+
+// What who has the whole box finds in it.
+fn seen(shared: &mut AtomicOptionBox<u64>) -> Option<u64> {
+    match shared.get_mut() {
+        Some(content) => Some(*content),
+        None => None,
+    }
 }

@@ -1,16 +1,21 @@
 ghost use Rattle.std.specs.Prelude.{Some, None, refl};
 
-use mea::End;
 use mea::mutex::Mutex;
-use mea::rwlock::{Mapped, RwLock};
+use mea::rwlock::{Mapped, MappedRwLockReadGuard, MappedRwLockWriteGuard, RwLock};
+use mea::{End, Shows};
 use mea_lock_core::Part;
 use mea_test_support::{Bell, end, found};
+use std::ops::{Deref, DerefMut};
+use std::process::Abort;
+use std::sync::Wait;
+
+type Pair = (u64, u64);
 
 // The first of a pair.
 #[derive(Clone, Copy, Drop)]
 struct First;
 
-impl Part<(u64, u64)> for First {
+impl Part<Pair> for First {
     ghost use Rattle.mea_tests.specs.First.{same_value};
 
     type Out = u64;
@@ -19,14 +24,14 @@ impl Part<(u64, u64)> for First {
 
     ghost put = { λ p x y. (y, x.1) };
 
-    fn part<'a>(&self, whole: &'a (u64, u64)) -> Option<&'a u64>
+    fn part<'a>(&self, whole: &'a Pair) -> Option<&'a u64>
     where
         Self: 'a,
     {
         Some(&whole.0)
     }
 
-    fn part_mut<'a>(whole: &'a mut (u64, u64), _part: &Self) -> Option<&'a mut u64>
+    fn part_mut<'a>(whole: &'a mut Pair, _part: &Self) -> Option<&'a mut u64>
     where
         Self: 'a,
     {
@@ -38,44 +43,56 @@ impl Part<(u64, u64)> for First {
     ghost rests = { λ p x y h. λ i. (same_value x.0 y h i, x.1) };
 }
 
+// A guard, if there is one, that shows the first.
+fn first_of<G: Shows<Pair>>(guard: Option<G>) -> Option<Mapped<Pair, G, First>> {
+    Some(Mapped::map(guard?, First))
+}
+
+// What a guard shows, which is ended.
+fn shows<R: Wait, G: End + Deref<Target = u64>>(rt: &R, guard: Option<G>) -> Option<u64> {
+    let guard = guard?;
+    let value = *guard;
+    guard.end(rt);
+    Some(value)
+}
+
+// What a guard has shown that writes this value, and is ended.
+fn swaps<R: Wait, G: End + DerefMut<Target = u64>>(
+    rt: &R,
+    guard: Option<G>,
+    value: u64,
+) -> Option<u64> {
+    let mut guard = guard?;
+    let before = *guard;
+    *guard = value;
+    guard.end(rt);
+    Some(before)
+}
+
 // A mapped guard of a mutex writes a part, and the rest stays.
 #[test]
 fn a_part_of_a_mutex(rt: HostRuntime) {
-    let mutex: Mutex<(u64, u64), Bell> = Mutex::new(rt.alloc(), (1, 2));
-    match mutex.try_lock(&rt) {
-        Some(guard) => {
-            let mut first = Mapped::map(guard, First);
-            assert!(rt; *first == 1);
-            *first = 5;
-            assert!(rt; !end(&rt, mutex.try_lock(&rt)));
-            first.end(&rt);
-        }
-        None => assert!(rt; false),
-    }
+    let mutex = Mutex::new(rt.alloc(), (1, 2));
+    part_of_a_mutex(&rt, &mutex);
     assert!(rt; mutex.into_inner() == Some((5, 2)));
+}
+
+fn part_of_a_mutex<R: Wait + Abort>(rt: &R, mutex: &Mutex<Pair, Bell>) {
+    let first = first_of(mutex.try_lock(rt));
+    assert!(rt; !end(rt, mutex.try_lock(rt)));
+    assert!(rt; swaps(rt, first, 5) == Some(1));
+}
+
+// Whether the lock lets a read in.
+fn is_read<R: Wait>(rt: &R, lock: &RwLock<Pair, Bell>) -> bool {
+    end(rt, found(lock.try_read(rt)))
 }
 
 // Mapped guards of a write and of a read.
 #[test]
 fn a_part_of_a_lock(rt: HostRuntime) {
-    let mut lock: RwLock<(u64, u64), Bell> = RwLock::new(rt.alloc(), (1, 2));
-    match lock.try_write(&rt) {
-        Some(guard) => {
-            let mut first = Mapped::map(guard, First);
-            *first = 5;
-            assert!(rt; !end(&rt, found(lock.try_read(&rt))));
-            first.end(&rt);
-        }
-        None => assert!(rt; false),
-    }
-    match found(lock.try_read(&rt)) {
-        Some(guard) => {
-            let first = Mapped::map(guard, First);
-            assert!(rt; *first == 5 && end(&rt, found(lock.try_read(&rt))));
-            first.end(&rt);
-        }
-        None => assert!(rt; false),
-    }
+    let mut lock = RwLock::new(rt.alloc(), (1, 2));
+    part_of_a_lock(&rt, &lock);
     // Who has the whole lock writes by `get_mut`, also after reads have shared the value.
     match lock.get_mut() {
         Some(value) => value.1 = 3,
@@ -84,27 +101,43 @@ fn a_part_of_a_lock(rt: HostRuntime) {
     assert!(rt; lock.into_inner() == Some((5, 3)));
 }
 
+fn part_of_a_lock<R: Wait + Abort>(rt: &R, lock: &RwLock<Pair, Bell>) {
+    let first = first_of(lock.try_write(rt));
+    assert!(rt; !is_read(rt, lock));
+    assert!(rt; swaps(rt, first, 5) == Some(1));
+    let first = first_of(found(lock.try_read(rt)));
+    assert!(rt; is_read(rt, lock));
+    assert!(rt; shows(rt, first) == Some(5));
+}
+
 // A mapped write becomes a read of the same part, and no other write is let in.
 #[test]
 fn a_mapped_write_becomes_a_read(rt: HostRuntime) {
-    let lock: RwLock<(u64, u64), Bell> = RwLock::new(rt.alloc(), (1, 2));
-    match lock.try_write(&rt) {
-        Some(guard) => {
-            let mut first = Mapped::map(guard, First);
-            *first = 5;
-            match first.downgrade(&rt) {
-                Ok(read) => {
-                    assert!(rt; *read == 5 && end(&rt, found(lock.try_read(&rt))));
-                    assert!(rt; !end(&rt, lock.try_write(&rt)));
-                    read.end(&rt);
-                }
-                Err((write, _)) => {
-                    write.end(&rt);
-                    assert!(rt; false);
-                }
-            }
-        }
-        None => assert!(rt; false),
-    }
+    let lock = RwLock::new(rt.alloc(), (1, 2));
+    mapped_write_becomes_a_read(&rt, &lock);
     assert!(rt; lock.into_inner() == Some((5, 2)));
+}
+
+fn mapped_write_becomes_a_read<R: Wait + Abort>(rt: &R, lock: &RwLock<Pair, Bell>) {
+    let read = becomes_read(rt, first_of(lock.try_write(rt)), 5);
+    assert!(rt; is_read(rt, lock));
+    assert!(rt; !end(rt, lock.try_write(rt)));
+    assert!(rt; shows(rt, read) == Some(5));
+}
+
+// Writes, and goes on as a read.
+fn becomes_read<'a, R: Wait>(
+    rt: &R,
+    first: Option<MappedRwLockWriteGuard<'a, Pair, First, Bell>>,
+    value: u64,
+) -> Option<MappedRwLockReadGuard<'a, Pair, First, Bell>> {
+    let mut first = first?;
+    *first = value;
+    match first.downgrade(rt) {
+        Ok(read) => Some(read),
+        Err((write, _)) => {
+            write.end(rt);
+            None
+        }
+    }
 }
