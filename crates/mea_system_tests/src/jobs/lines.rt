@@ -1,6 +1,8 @@
-use crate::rows::{Row, check_rows};
+use crate::programs::Jobs;
+use crate::rows::{Row, check_none, check_rows};
 use mea_script::Status;
-use std::test::Fail;
+
+const WORDS: &[&str] = &["jobs", "1", "1", "1"];
 
 // A first line that is no event line.
 const BAD: &[&str] = &[
@@ -32,21 +34,21 @@ const BAD: &[&str] = &[
 const GOOD: &[Row] = &[
     // The greatest number that is one.
     Row {
-        sizes: ["1", "1", "1"],
+        words: &["jobs", "1", "1", "1"],
         script: "job 18446744073709551615 18446744073709551615/fin 0 18446744073709551615/take",
         text: "running/done/job 0 18446744073709551615/done 3",
         status: Status::Done,
     },
     // A line that is none ends the text, after the replies before it.
     Row {
-        sizes: ["1", "1", "1"],
+        words: &["jobs", "1", "1", "1"],
         script: "job 1 1/fin 0 1//take",
         text: "running/done/bad 2",
         status: Status::BadLine { at: 2 },
     },
     // A job has the number of its line, over all lines.
     Row {
-        sizes: ["1", "1", "1"],
+        words: &["jobs", "1", "1", "1"],
         script: "count/take/job 4 44/fin 2 5/take",
         text: "count 0 0 0 0 0/none/running/done/job 2 5/done 5",
         status: Status::Done,
@@ -54,20 +56,11 @@ const GOOD: &[Row] = &[
 ];
 
 #[test]
-fn lines_that_are_none(rt: HostRuntime) -> Result<(), Fail> {
-    for line in BAD {
-        let row = Row {
-            sizes: ["1", "1", "1"],
-            script: line,
-            text: "bad 0",
-            status: Status::BadLine { at: 0 },
-        };
-        check_rows(&rt, &[row])?;
-    }
-    Ok(())
+fn lines_that_are_none(rt: HostRuntime) {
+    check_none::<Jobs>(&rt, WORDS, BAD);
 }
 
 #[test]
-fn lines_and_their_numbers(rt: HostRuntime) -> Result<(), Fail> {
-    check_rows(&rt, GOOD)
+fn lines_and_their_numbers(rt: HostRuntime) {
+    check_rows::<Jobs>(&rt, GOOD);
 }

@@ -1,0 +1,6 @@
+mod examples;
+mod faults;
+mod lines;
+mod service;
+mod states;
+mod usage;

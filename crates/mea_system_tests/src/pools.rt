@@ -1,0 +1,7 @@
+mod drains;
+mod examples;
+mod faults;
+mod leases;
+mod lines;
+mod states;
+mod usage;
