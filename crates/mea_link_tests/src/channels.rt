@@ -86,12 +86,7 @@ fn has_lost_two<R: Wait + Abort>(
 }
 
 // A receive that waits is woken by the end of the last sender, and told of it.
-fn hears_the_last<
-    R: Wait + Abort,
-    S: End,
-    E: Drop + PartialEq,
-    F: Waits<Bell, Result<u64, E>>,
->(
+fn hears_the_last<R: Wait + Abort, S: End, E: Drop + PartialEq, F: Waits<Bell, Result<u64, E>>>(
     rt: &R,
     last: S,
     recv: F,
