@@ -1,10 +1,10 @@
 use mea_link::broadcast::overflow::{self, RecvError};
 use mea_link::mpsc::{
-    BoundedReceiver, BoundedSender, TryRecvError, TrySendError, UnboundedReceiver, UnboundedSender,
-    bounded, unbounded,
+    BoundedReceiver, BoundedSender, RecvError as Ended, SendError, TryRecvError, TrySendError,
+    UnboundedError, UnboundedReceiver, UnboundedSender, bounded, unbounded,
 };
-use mea_test_support::{Bell, Count, count, gives, goes_on, rung};
-use mea_wait::End;
+use mea_test_support::{Bell, Count, count, end, gives, goes_on, rung};
+use mea_wait::{End, Waits};
 use std::process::Abort;
 use std::sync::Wait;
 
@@ -83,4 +83,133 @@ fn has_lost_two<R: Wait + Abort>(
     assert!(rt; sender.send(rt, 6).is_ok());
     assert!(rt; rung(bell) == 1);
     assert!(rt; gives(rt, recv, bell) == Some(Ok(6)));
+}
+
+// A receive that waits is woken by the end of the last sender, and told of it.
+fn hears_the_last<R: Wait + Abort, S: End, E: Drop + PartialEq, F: Waits<Bell, Result<u64, E>>>(
+    rt: &R,
+    last: S,
+    recv: F,
+    bell: &Count,
+    told: E,
+)
+    requires { F.can_poll recv }
+{
+    let recv = goes_on(rt, recv, bell);
+    last.end(rt);
+    assert!(rt; rung(bell) == 1);
+    assert!(rt; gives(rt, recv, bell) == Some(Err(told)));
+}
+
+// A further sender of a bounded channel keeps it open once the first has ended.
+#[test]
+fn the_last_sender_of_a_bounded_channel(rt: HostRuntime) {
+    let bell = count(rt.alloc()).expect(&rt, "memory");
+    let (sender, mut receiver) = bounded(rt.alloc(), 1).expect(&rt, "memory");
+    let last: BoundedSender<u64, Bell> = sender.clone_handle(&rt).expect(&rt, "memory");
+    sender.end(&rt);
+    hears_the_last(&rt, last, receiver.recv(), &bell, Ended::Disconnected);
+    receiver.end(&rt);
+}
+
+// The same of an unbounded channel.
+#[test]
+fn the_last_sender_of_an_unbounded_channel(rt: HostRuntime) {
+    let bell = count(rt.alloc()).expect(&rt, "memory");
+    let (sender, mut receiver) = unbounded(rt.alloc()).expect(&rt, "memory");
+    let last: UnboundedSender<u64, Bell> = sender.clone_handle(&rt).expect(&rt, "memory");
+    sender.end(&rt);
+    hears_the_last(&rt, last, receiver.recv(), &bell, Ended::Disconnected);
+    receiver.end(&rt);
+}
+
+// The same of a broadcast.
+#[test]
+fn the_last_sender_of_a_broadcast(rt: HostRuntime) {
+    let bell = count(rt.alloc()).expect(&rt, "memory");
+    let (sender, mut receiver) = overflow::channel(rt.alloc(), 2).expect(&rt, "memory");
+    let last: overflow::Sender<u64, Bell> = sender.clone_handle(&rt).expect(&rt, "memory");
+    sender.end(&rt);
+    hears_the_last(&rt, last, receiver.recv(), &bell, RecvError::Disconnected);
+    receiver.end(&rt);
+}
+
+// A send that is ended once it has its place passes that on. The end of the receiver wakes a send that waits, whose value
+// comes back.
+#[test]
+fn sends_that_wait(rt: HostRuntime) {
+    let one = count(rt.alloc()).expect(&rt, "memory");
+    let two = count(rt.alloc()).expect(&rt, "memory");
+    let (sender, receiver) = bounded(rt.alloc(), 1).expect(&rt, "memory");
+    pass_their_place_on(&rt, &sender, receiver, &one, &two);
+    sender.end(&rt);
+}
+
+fn pass_their_place_on<R: Wait + Abort>(
+    rt: &R,
+    sender: &BoundedSender<u64, Bell>,
+    mut receiver: BoundedReceiver<u64, Bell>,
+    one: &Count,
+    two: &Count,
+) {
+    assert!(rt; sender.try_send(rt, 7) == Ok(()));
+    let first = goes_on(rt, sender.send(8), one);
+    let second = goes_on(rt, sender.send(9), two);
+    assert!(rt; receiver.try_recv(rt) == Ok(7));
+    assert!(rt; (rung(one), rung(two)) == (1, 0));
+    assert!(rt; end(rt, first));
+    assert!(rt; (rung(one), rung(two)) == (1, 1));
+    assert!(rt; gives(rt, second, two) == Some(Ok(())));
+    let third = goes_on(rt, sender.send(10), two);
+    receiver.end(rt);
+    assert!(rt; rung(two) == 2);
+    assert!(rt; gives(rt, third, two) == Some(Err(SendError(10))));
+}
+
+// A message to a receiver that has ended comes back.
+#[test]
+fn a_message_to_nobody(rt: HostRuntime) {
+    let (sender, receiver) = unbounded(rt.alloc()).expect(&rt, "memory");
+    let sender: UnboundedSender<u64, Bell> = sender;
+    receiver.end(&rt);
+    assert!(rt; sender.send(&rt, 5) == Err(UnboundedError::Closed(5)));
+    sender.end(&rt);
+}
+
+// The next two messages of a receiver, which is ended.
+fn next_two<R: Wait>(
+    rt: &R,
+    mut receiver: overflow::Receiver<u64, Bell>,
+) -> (Option<u64>, Option<u64>) {
+    let first = receiver.try_recv(rt).ok();
+    let second = receiver.try_recv(rt).ok();
+    receiver.end(rt);
+    (first, second)
+}
+
+// A copy hears what its original has yet to hear, and who subscribes what is sent from then on.
+#[test]
+fn receivers_of_a_broadcast(rt: HostRuntime) {
+    let (sender, mut receiver) = overflow::channel(rt.alloc(), 4).expect(&rt, "memory");
+    are_made(&rt, &sender, &mut receiver);
+    receiver.end(&rt);
+    sender.end(&rt);
+}
+
+fn are_made<R: Wait + Abort>(
+    rt: &R,
+    sender: &overflow::Sender<u64, Bell>,
+    receiver: &mut overflow::Receiver<u64, Bell>,
+) {
+    assert!(rt; sender.send(rt, 1).is_ok());
+    assert!(rt; sender.send(rt, 2).is_ok());
+    assert!(rt; receiver.try_recv(rt) == Ok(1));
+    let copy = receiver.clone_handle(rt).expect(rt, "memory");
+    let anew = receiver.resubscribe(rt).expect(rt, "memory");
+    let later = sender.subscribe(rt).expect(rt, "memory");
+    assert!(rt; sender.send(rt, 3).is_ok());
+    assert!(rt; next_two(rt, copy) == (Some(2), Some(3)));
+    assert!(rt; next_two(rt, anew) == (Some(3), None));
+    assert!(rt; next_two(rt, later) == (Some(3), None));
+    assert!(rt; receiver.try_recv(rt) == Ok(2));
 }

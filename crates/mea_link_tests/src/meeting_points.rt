@@ -111,3 +111,36 @@ fn waits_for_all<R: Wait + Abort>(
     assert!(rt; rung(bell) == 2);
     assert!(rt; gives(rt, done, bell) == Some(()));
 }
+
+// Each sender of a shutdown may ask for it, and each watch hears of it.
+#[test]
+fn handles_of_a_shutdown(rt: HostRuntime) {
+    let bell = count(rt.alloc()).expect(&rt, "memory");
+    let (sender, receiver) = new_pair(rt.alloc()).expect(&rt, "memory");
+    have_one_signal(&rt, &sender, &receiver, &bell);
+    receiver.end(&rt);
+    assert!(rt; gives(&rt, Some(sender.await_shutdown()), &bell) == Some(()));
+}
+
+fn have_one_signal<R: Wait + Abort>(
+    rt: &R,
+    sender: &ShutdownSend<Bell>,
+    receiver: &ShutdownRecv<Bell>,
+    bell: &Count,
+) {
+    let watch = receiver.watch().expect(rt, "memory");
+    let copy = watch.clone_handle().expect(rt, "memory");
+    let signal = goes_on(rt, watch.is_shutdown(), bell);
+    let owned = copy.is_shutdown_owned().expect(rt, "memory");
+    let owned = goes_on(rt, owned, bell);
+    let other = sender.clone_handle().expect(rt, "memory");
+    assert!(rt; !copy.is_shutdown_now(rt));
+    other.shutdown(rt);
+    assert!(rt; rung(bell) == 2);
+    assert!(rt; gives(rt, signal, bell) == Some(()));
+    assert!(rt; gives(rt, owned, bell) == Some(()));
+    assert!(rt; copy.is_shutdown_now(rt));
+    other.end(rt);
+    copy.end(rt);
+    watch.end(rt);
+}

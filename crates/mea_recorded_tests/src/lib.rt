@@ -4,3 +4,5 @@
 
 #[cfg(test)]
 mod crew;
+#[cfg(test)]
+mod passes;

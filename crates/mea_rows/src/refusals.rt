@@ -67,6 +67,24 @@ const CAUSES: &[Row] = &[
             cause: Stop::Borrowed,
         },
     },
+    // So does one of no permits.
+    Row {
+        script: "new 0/try 0 0/endsem 0",
+        text: "made/some/stop 2 borrowed",
+        status: Status::Stopped {
+            at: 2,
+            cause: Stop::Borrowed,
+        },
+    },
+    // And a future that forgets what it takes.
+    Row {
+        script: "new 0/acqf 0 1/endsem 0",
+        text: "made/made/stop 2 borrowed",
+        status: Status::Stopped {
+            at: 2,
+            cause: Stop::Borrowed,
+        },
+    },
     // An owned permit does not, and outlives it.
     Row {
         script: "new 2/tryo 0 1/endsem 0/end 1/free 0",

@@ -144,6 +144,7 @@ fn a_message_comes_by_the_first_call(rt: HostRuntime) -> Result<(), Fail> {
 #[test]
 fn texts(rt: HostRuntime) -> Result<(), Fail> {
     let alloc = rt.alloc();
+    assert_eq!(rt; *SendError(7u64).as_inner(), 7);
     assert_eq!(rt;
         format!(in alloc; "{}", SendError(7u64))?.as_str(),
         "sending on a closed channel"

@@ -47,3 +47,14 @@ fn are_owned<R: Wait + Abort>(rt: &R, mutex: &Arc<Mutex<u64, Bell>>, bell: &Coun
     assert!(rt; shows(rt, guard) == Some(3));
     assert!(rt; is_free(rt, mutex));
 }
+
+// Who has the whole mutex writes its value with no guard.
+#[test]
+fn a_mutex_is_had_whole(rt: HostRuntime) {
+    let mut mutex: Mutex<u64, Bell> = Mutex::new(rt.alloc(), 5);
+    match mutex.get_mut() {
+        Some(value) => *value = 6,
+        None => assert!(rt; false),
+    }
+    assert!(rt; mutex.into_inner() == Some(6));
+}

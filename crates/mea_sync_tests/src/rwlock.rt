@@ -67,3 +67,31 @@ fn are_owned<R: Wait + Abort>(rt: &R, lock: &Arc<RwLock<u64, Bell>>, bell: &Coun
     assert!(rt; end(rt, gives(rt, Some(share(rt, lock).read_owned()), bell)));
     assert!(rt; end(rt, share(rt, lock).try_write_owned(rt)));
 }
+
+// A write that gives up lets the reads behind it in, and a read that gives up once it was let in the write behind it.
+#[test]
+fn waits_that_give_up(rt: HostRuntime) {
+    let one = count(rt.alloc()).expect(&rt, "memory");
+    let two = count(rt.alloc()).expect(&rt, "memory");
+    let lock = RwLock::new(rt.alloc(), 4);
+    let_the_next_in(&rt, &lock, &one, &two);
+    assert!(rt; lock.into_inner() == Some(5));
+}
+
+fn let_the_next_in<R: Wait + Abort>(rt: &R, lock: &RwLock<u64, Bell>, one: &Count, two: &Count) {
+    let held = found(lock.try_read(rt));
+    let write = pends(rt, lock.write(), one);
+    let read = pends(rt, lock.read(), two);
+    assert!(rt; end(rt, write));
+    assert!(rt; (rung(one), rung(two)) == (0, 1));
+    assert!(rt; end(rt, gives(rt, read, two)));
+    assert!(rt; end(rt, held));
+    let held = lock.try_write(rt);
+    let read = pends(rt, lock.read(), two);
+    let write = pends(rt, lock.write(), one);
+    assert!(rt; end(rt, held));
+    assert!(rt; (rung(one), rung(two)) == (0, 2));
+    assert!(rt; end(rt, read));
+    assert!(rt; (rung(one), rung(two)) == (1, 2));
+    assert!(rt; sets(rt, gives(rt, write, one), 5));
+}

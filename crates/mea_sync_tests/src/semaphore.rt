@@ -224,3 +224,26 @@ fn forgetting<R: Wait + Abort>(rt: &R, semaphore: &Arc<Semaphore<Bell>>, bell: &
     assert!(rt; has_free(rt, semaphore, 1));
     assert!(rt; rung(bell) == 0);
 }
+
+// Owned permits are split and merged.
+#[test]
+fn owned_permits_merge(rt: HostRuntime) {
+    let semaphore = Arc::new(rt.alloc(), Semaphore::new(rt.alloc(), 3)).expect(&rt, "memory");
+    merge(&rt, &semaphore);
+    assert!(rt; has_free(&rt, &semaphore, 3));
+}
+
+fn merge<R: Wait + Abort>(rt: &R, semaphore: &Arc<Semaphore<Bell>>) {
+    let mut permit = share(rt, semaphore)
+        .try_acquire_owned(rt, 3)
+        .expect(rt, "three permits");
+    let one = found(permit.split(1)).expect(rt, "one of three");
+    permit.merge(one);
+    assert!(rt; permit.permits() == 3);
+    let two = found(permit.split(2)).expect(rt, "two of three");
+    if let Err(back) = permit.try_merge(two) {
+        back.forget(rt);
+    }
+    assert!(rt; permit.permits() == 3);
+    permit.end(rt);
+}

@@ -11,4 +11,6 @@ mod boxes;
 #[cfg(test)]
 mod mapped;
 #[cfg(test)]
+mod missing;
+#[cfg(test)]
 mod threads;
