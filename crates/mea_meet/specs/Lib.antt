@@ -1,8 +1,5 @@
-pub mod Names
-pub mod Play
-pub mod BarrierHall
-pub mod LatchHall
-pub mod GroupHall
-pub mod ShutdownHall
-pub mod StandsFor
-pub mod Parts
+pub mod CountCores
+pub mod CountWaits
+pub mod CountEntries
+pub mod CountParts
+pub mod CountLends

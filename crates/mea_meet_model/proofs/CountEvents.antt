@@ -101,7 +101,7 @@ module _ (h : Counts) (n i : ℕ) (v : HasCounts h n) (later : n ≤ i) where
     awaits k sender = subst (λ ps. HasCounts (record h { points = ps; senders = remove h.senders k; waits = insert h.waits i (record { point = o; awaits = Members }) }) (i + 1)) (insert_same h.points o r there)
         (new_future h.holders (remove h.senders k) Stays (Goes k (λ j is. inside (sym is ∙ sender))) (λ j some. some) (record { point = o; awaits = Members }) refl r its (λ e f w is. (w, is)) (λ k is. absurd (cc)))
 
-    joins : (counted : Bool) → Keeps (counts.join h i o counted r)
+    pub joins : (counted : Bool) → Keeps (counts.join h i o counted r)
     joins counted =
         let z : Holder = record { point = o; counted = counted } in
         let one_more = len-some (own of_holder o (insert h.holders i z)) i z (own-at of_holder o (insert h.holders i z) i z (get-there h.holders i z) refl) in
