@@ -647,3 +647,10 @@ module _ {old : Part Counts} {i : ℕ} (s : Site old i) where
       at (waits.Members slot) to = subst (λ b. IfSome b (λ k. IfSome (get s.hs k) (λ (x : HolderEntry). 1 ≤ x.borrowers) × IsSome (get s.hs k))) (sym (ap borrowed_of to)) tt
       at (waits.Signal slot None) to = subst (λ b. IfSome b (λ k. IfSome (get s.hs k) (λ (x : HolderEntry). 1 ≤ x.borrowers) × IsSome (get s.hs k))) (sym (ap borrowed_of to)) tt
       at (waits.Signal slot (Some k)) to = subst (λ b. IfSome b (λ k. IfSome (get s.hs k) (λ (x : HolderEntry). 1 ≤ x.borrowers) × IsSome (get s.hs k))) (sym (ap borrowed_of to)) (lent k (ap (λ w. borrows (awaits_of w) k) to ∙ eq-eqb k k refl))
+
+  -- ---- why one more is refused
+  pub point_back : (o : ℕ) → IsSome (get old.hall.points o) → IsSome (get s.ps o)
+  point_back o some = let back = value_in (get old.hall.points o) some in let it = seen-back point_seen s.ps o back.0 (ap (λ (p : Part Counts). get p.hall.points o) s.view ∙ back.1) in is_there (get s.ps o) it.0 it.1
+
+  pub full_cause : (o : ℕ) (e : KeptPoint) → get s.ps o ≡ Some e → (counted : Bool) → counted ≡ true → (n : ℕ) → n ≡ e.point.receivers.number → (if n == 4294967295 then Some stops.Overflow else None) ≡ join_cause old.hall (Some (record { point = o; counted = counted }))
+  full_cause o e there counted is n many = ap (λ n. if n == 4294967295 then Some stops.Overflow else None) (many ∙ sym (ap (λ p. (unwrap_or no_point_there p).members.number) (at_seen o e there))) ∙ sym (ap (λ b. join_cause old.hall (Some (record { point = o; counted = b }))) is)

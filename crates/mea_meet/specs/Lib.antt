@@ -3,3 +3,7 @@ pub mod CountWaits
 pub mod CountEntries
 pub mod CountParts
 pub mod CountLends
+pub mod BarrierEntries
+pub mod BarrierParts
+pub mod Halls
+pub mod Play

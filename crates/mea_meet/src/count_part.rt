@@ -5,7 +5,7 @@ ghost use Rattle.mea_family.specs.Forms.{is_plain};
 ghost use Rattle.mea_family.specs.Play.{PartYields, PartRests};
 ghost use Rattle.mea_meet_model.specs.Counts as counts;
 ghost use Rattle.mea_meet_model.specs.Counts.{Point, Wait, no_counts, is_holder, is_sender, is_wait, borrowers_of, borrows, registered};
-ghost use Rattle.mea_meet_model.specs.CountActions.{is_counted, join_cause, act_in, end_by, leave_by, cause_in, Make, Number, Try, Now, Arrive, Begin, Join, Watch, Into, EndHolder, Copy, Poll, EndWait, EndEither, CopySender, Send, Await, EndSender};
+ghost use Rattle.mea_meet_model.specs.CountActions.{is_counted, join_cause, act_in, end_by, leave_by, cause_in, Make, Number, Try, Now, Arrive, Begin, Join, Watch, Into, EndHolder, Copy, Poll as PollIt, EndWait, EndEither, CopySender, Send, Await, EndSender};
 ghost use Rattle.mea_meet_model.specs.Valid.{HasCounts, BorrowNothing};
 ghost use Rattle.mea_meet.specs.CountParts.{IsFresh, new_of, given_back};
 ghost use Rattle.mea_meet.specs.CountLends.{StandsFor};
@@ -330,7 +330,7 @@ impl<C: CountCore> CountPart<C> {
 
     /// Makes a future on the end of the members of a holder, which ends. No future borrows one. On an error nothing has
     /// changed.
-    pub fn into(
+    pub fn into_wait(
         &mut self,
         number: u64,
         k: u64,
@@ -393,7 +393,7 @@ impl<C: CountCore> CountPart<C> {
         requires next { self.old.next ≤ number }
         requires there { is_wait self.old.hall f ≡ true }
         requires room { registered self.old.hall ≤ ready.old.registered }
-        ensures ok { IfOk result (λ answer. PartYields registered self.old number (act_in self.old.hall number (Poll f waker)) answer self.new ready.old ready.new) }
+        ensures ok { IfOk result (λ answer. PartYields registered self.old number (act_in self.old.hall number (PollIt f waker)) answer self.new ready.old ready.new) }
         ensures err { OnErr result ((self.new ≡ self.old) × (ready.new ≡ ready.old)) }
     {
         let future = self.waits.at_mut(f);

@@ -3,16 +3,21 @@
 //! knows the cores by their contracts alone.
 #![tactic(auto)]
 
+mod barrier_entry;
+mod barrier_part;
 mod count_core;
 mod count_part;
 mod count_wait;
 mod groups;
+mod hall;
 mod holder_entry;
+mod kinds;
 mod latches;
 mod point_entry;
 mod shutdowns;
 mod wait_entry;
 
+pub use hall::MeetHall;
 pub use mea_events::MeetEvent;
 pub use mea_meet_core::{
     BarrierCore, BarrierFault, BarrierWait, BarrierWaitResult, GroupCore, GroupWait, LatchCore,

@@ -1,4 +1,4 @@
-use Rattle.std.proofs.Common.{refl, ap}
+use Rattle.std.proofs.Common.{arith, refl, ap}
 use Rattle.mea_meet_model.specs.Counts as model
 use Rattle.mea_meet.specs.declared.count_wait.CountWait.TheVariants as waits
 use Rattle.mea_meet.proofs.CountSites.{site, holder_there, holders_point, its_few}
@@ -9,7 +9,7 @@ pub at-requires : goal.at-requires
 at-requires g c = holder_there (site c.self.inside.points c.self.inside.senders c.self.inside.holders c.self.inside.waits c.self.inside.next c.self.view_is c.self.invariant c.requires.next) c.args.k c.requires.there
 
 pub overflow_add-at_mut : goal.overflow_add-at_mut
-overflow_add-at_mut g c = few_borrow (site c.self.inside.points c.self.inside.senders c.self.inside.holders c.self.inside.waits c.self.inside.next c.self.view_is c.self.invariant c.requires.next) c.ranges.number.fits c.args.k c.at_mut.result.now _ c.at_mut.ensures.value (same_point (site c.self.inside.points c.self.inside.senders c.self.inside.holders c.self.inside.waits c.self.inside.next c.self.view_is c.self.invariant c.requires.next) c.args.k c.at.result.now c.at_mut.result.now c.at.ensures c.at_mut.ensures.value).1 c.one_if.result c.is_plain-plain.result c.one_if.ensures
+overflow_add-at_mut g c = let few = few_borrow (site c.self.inside.points c.self.inside.senders c.self.inside.holders c.self.inside.waits c.self.inside.next c.self.view_is c.self.invariant c.requires.next) c.ranges.number.fits c.args.k c.at_mut.result.now _ c.at_mut.ensures.value (same_point (site c.self.inside.points c.self.inside.senders c.self.inside.holders c.self.inside.waits c.self.inside.next c.self.view_is c.self.invariant c.requires.next) c.args.k c.at.result.now c.at_mut.result.now c.at.ensures c.at_mut.ensures.value).1 c.one_if.result c.is_plain-plain.result c.one_if.ensures in omega (arith, few)
 
 pub at_mut-requires-2 : goal.at_mut-requires-2
 at_mut-requires-2 g c = holders_point (site c.self.inside.points c.self.inside.senders c.self.inside.holders c.self.inside.waits c.self.inside.next c.self.view_is c.self.invariant c.requires.next) c.args.k c.at.result.now c.at.ensures

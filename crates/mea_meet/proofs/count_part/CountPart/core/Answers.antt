@@ -1,5 +1,6 @@
 use Rattle.std.proofs.Common.{None, Some, is_some, refl, ap, sym, ◌∙◌}
 use Rattle.std.specs.Option.{option_copied}
+use Rattle.mea_meet.specs.CountParts.{core_seen}
 use Rattle.mea_meet.proofs.CountSites.{point_is}
 use Rattle.mea_meet.proofs.count_part.CountPart.core.Goals as goal
 

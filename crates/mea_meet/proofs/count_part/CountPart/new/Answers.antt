@@ -1,4 +1,3 @@
-use Rattle.mea_meet.proofs.CountCalls.{copied}
 use Rattle.mea_meet.proofs.CountSites.{new_kept, new_view}
 use Rattle.mea_meet.proofs.count_part.CountPart.new.Goals as goal
 

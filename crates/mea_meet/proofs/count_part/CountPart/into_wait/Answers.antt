@@ -2,7 +2,7 @@ use Rattle.std.proofs.Common.{refl}
 use Rattle.mea_meet.specs.declared.count_wait.CountWait.TheVariants as waits
 use Rattle.mea_meet.proofs.CountSites.{site, holder_there, holders_point, its, its_room}
 use Rattle.mea_meet.proofs.CountCalls.{gone_over_by, counted_lives}
-use Rattle.mea_meet.proofs.count_part.CountPart.into.Goals as goal
+use Rattle.mea_meet.proofs.count_part.CountPart.into_wait.Goals as goal
 
 pub at-holder-requires : goal.at-holder-requires
 at-holder-requires g c = holder_there (site c.self.inside.points c.self.inside.senders c.self.inside.holders c.self.inside.waits c.self.inside.next c.self.view_is c.self.invariant c.requires.next) c.args.k c.requires.there
