@@ -1,5 +1,8 @@
 -- what is said of the meeting points of one kind, and of all
-use Rattle.std.proofs.Common.{◌≡◌, ℕ, ◌+◌, ◌≤◌, ◌++◌, length, ap, sym, ◌∙◌, arith, append-nil}
+use Rattle.std.proofs.Common.{◌≡◌, ℕ, ◌+◌, ◌≤◌, ◌++◌, length, ap, sym, ◌∙◌, arith, append-nil, Bool, true, false, None, Some, refl}
+use Rattle.std.specs.FinMap.{get}
+use Rattle.mea_family.specs.Causes.{borrowed_by}
+use Rattle.mea_meet_model.proofs.CountEvents.{not_borrowed, none_borrows}
 use Rattle.mea_family.specs.declared.answer.Answer.{Answer}
 use Rattle.mea_family.specs.Family.{Outcome}
 use Rattle.mea_base.specs.Ready.{Waking}
@@ -8,7 +11,7 @@ use Rattle.mea_events.specs.declared.meet_event.MeetEvent.{MeetEvent}
 use Rattle.mea_meet_model.specs.Barriers as barriers
 use Rattle.mea_meet_model.specs.Barriers.{Barriers}
 use Rattle.mea_meet_model.specs.Counts as counts
-use Rattle.mea_meet_model.specs.Counts.{Counts}
+use Rattle.mea_meet_model.specs.Counts.{Counts, Wait, is_holder, borrowers_of, borrows}
 use Rattle.mea_meet_model.specs.CountActions.{act_in}
 use Rattle.mea_meet_model.specs.BarrierActions.{act_at}
 use Rattle.mea_meet_model.specs.Hall.{Hall, Latches, Groups, Shutdowns, registered as all_registered}
@@ -17,13 +20,27 @@ use Rattle.mea_meet_model.specs.Step.{step, step_by}
 use Rattle.mea_meet.specs.Halls.{hall_of, PlaysDoing, PlaysKinds}
 
 -- where no waker was made ready, those that are ready are as they were
-pub yield_rests : {H : Type 0} (registered : H → ℕ) (old : Part H) (i : ℕ) (o : Outcome H) (answer : Answer) (new : Part H) (w : Waking ℕ) → PartRests registered old i o answer new → PartYields registered old i o answer new w w
+yield_rests : {H : Type 0} (registered : H → ℕ) (old : Part H) (i : ℕ) (o : Outcome H) (answer : Answer) (new : Part H) (w : Waking ℕ) → PartRests registered old i o answer new → PartYields registered old i o answer new w w
 yield_rests registered old i o answer new w rests = record {
   replied = rests.replied;
   moved = rests.moved;
   woken = sym (append-nil w.wakers) ∙ ap (λ ws. w.wakers ++ ws) (sym rests.silent);
   counted = omega (arith, rests.counted);
 }
+
+pub barriers_rest : (old : Part Barriers) (i : ℕ) (o : Outcome Barriers) (answer : Answer) (new : Part Barriers) (w : Waking ℕ) → PartRests barriers.registered old i o answer new → PartYields barriers.registered old i o answer new w w
+barriers_rest old i o answer new w rests = yield_rests barriers.registered old i o answer new w rests
+
+pub counts_rest : (old : Part Counts) (i : ℕ) (o : Outcome Counts) (answer : Answer) (new : Part Counts) (w : Waking ℕ) → PartRests counts.registered old i o answer new → PartYields counts.registered old i o answer new w w
+counts_rest old i o answer new w rests = yield_rests counts.registered old i o answer new w rests
+
+-- a holder that may end is borrowed by none
+pub borrowed_by_none : (h : Counts) (k : ℕ) → borrowed_by (is_holder h k) (borrowers_of h k) ≡ None → (f : ℕ) (y : Wait) → get h.waits f ≡ Some y → borrows y.awaits k ≡ false
+borrowed_by_none h k allowed f y is = at (borrows y.awaits k) refl
+  where
+    at : (b : Bool) → borrows y.awaits k ≡ b → borrows y.awaits k ≡ false
+    at false mine = mine
+    at true mine = absurd (none_borrows h k (not_borrowed (is_holder h k) (borrowers_of h k) allowed) f y is mine)
 
 -- what holds of the meeting points of all kinds between events
 pub record Holds (b : Part Barriers) (l g s : Part Counts) (ready : Waking ℕ) (next : ℕ) : Type 0 where

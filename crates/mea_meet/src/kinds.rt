@@ -89,7 +89,7 @@ impl Kinds {
     }
 
     /// Plays an event that has no cause for refusal. On an error nothing has changed.
-    #[tactic(auto, using(crate::proofs::Playing::yield_rests))]
+    #[tactic(auto, using(crate::proofs::Playing::barriers_rest, crate::proofs::Playing::counts_rest, crate::proofs::Playing::borrowed_by_none))]
     pub fn play(
         &mut self,
         number: u64,
