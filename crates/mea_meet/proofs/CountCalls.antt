@@ -388,13 +388,13 @@ module _ {old : Part Counts} {i : ℕ} (s : Site old i) where
             (it.1, it.2, λ j. record { wakers = polled.wakers j; registered = number j }, none)
         at false test = absurd (let it = polled.turns.pending (let apart = eqb-false (count_at (end_of y.wait) e.point).number 0 test in omega (arith, apart)) in cc)
 
-    pub readies : (w : ℕ) → (count_at (end_of y.wait) e.point).number ≡ 0 → (new : Part Counts) (before after : Waking ℕ) → PartYields registered old i (end_by old.hall f) answers.Done new before after → PartYields registered old i (act_in old.hall i (actions.Poll f w)) answers.Ready new before after
-    readies w none new before after yields =
+    pub readies : (w : ℕ) → (count_at (end_of y.wait) e.point).number ≡ 0 → (answer : Answer) (new : Part Counts) (before after : Waking ℕ) → PartYields registered old i (end_by old.hall f) answer new before after → PartYields registered old i (act_in old.hall i (actions.Poll f w)) answers.Ready new before after
+    readies w none answer new before after yields =
         let ended : end_by old.hall f ≡ model.end_wait old.hall f (wait_seen y) (point_seen e) = subst (λ (p : Part Counts). end_by p.hall f ≡ model.end_wait p.hall f (wait_seen y) (point_seen e)) s.view (by_wait f y e future there (model.end_wait here f)) in
         let is : act_in old.hall i (actions.Poll f w) ≡ quietly (model.gone old.hall f (wait_seen y) (point_seen e)) answers.Ready =
         subst (λ (p : Part Counts). act_in p.hall i (actions.Poll f w) ≡ quietly (model.gone p.hall f (wait_seen y) (point_seen e)) answers.Ready) s.view
         (by_wait f y e future there (model.poll here f w) ∙ if_true ((model.count_at (model.end_of (awaits_of y.wait)) (point_seen e)).number == 0) _ _ (ap (λ n. n == 0) (seen_number ∙ none))) in
-        let moved = subst (λ (out : Outcome Counts). PartYields registered old i out answers.Done new before after) ended yields in
+        let moved = subst (λ (out : Outcome Counts). PartYields registered old i out answer new before after) ended yields in
         subst (λ (out : Outcome Counts). PartYields registered old i out answers.Ready new before after) (sym is) (record { replied = refl; moved = moved.moved; woken = moved.woken; counted = moved.counted })
 
   -- ---- the calls, as they are made
@@ -653,4 +653,4 @@ module _ {old : Part Counts} {i : ℕ} (s : Site old i) where
   point_back o some = let back = value_in (get old.hall.points o) some in let it = seen-back point_seen s.ps o back.0 (ap (λ (p : Part Counts). get p.hall.points o) s.view ∙ back.1) in is_there (get s.ps o) it.0 it.1
 
   pub full_cause : (o : ℕ) (e : KeptPoint) → get s.ps o ≡ Some e → (counted : Bool) → counted ≡ true → (n : ℕ) → n ≡ e.point.receivers.number → (if n == 4294967295 then Some stops.Overflow else None) ≡ join_cause old.hall (Some (record { point = o; counted = counted }))
-  full_cause o e there counted is n many = ap (λ n. if n == 4294967295 then Some stops.Overflow else None) (many ∙ sym (ap (λ p. (unwrap_or no_point_there p).members.number) (at_seen o e there))) ∙ sym (ap (λ b. join_cause old.hall (Some (record { point = o; counted = b }))) is)
+  full_cause o e there counted is n many = ap (λ n. if n == 4294967295 then Some stops.Overflow else None) (many ∙ sym (ap (λ p. (unwrap_or p no_point_there).members.number) (at_seen o e there))) ∙ sym (ap (λ b. join_cause old.hall (Some (record { point = o; counted = b }))) is)

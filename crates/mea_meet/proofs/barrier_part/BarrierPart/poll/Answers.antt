@@ -1,4 +1,6 @@
 use Rattle.std.proofs.Common.{refl, arith}
+use Rattle.mea_base.proofs.Maps.{get-there, is_there}
+use Rattle.mea_by_name.proofs.Own.{put_gone}
 use Rattle.mea_meet.proofs.BarrierSites.{site, wait_there, waits_barrier, some_waits, its_quiet, its_few, its_room, opened, unpolled, pends, readies}
 use Rattle.mea_meet.proofs.barrier_part.BarrierPart.poll.Goals as goal
 
@@ -31,3 +33,23 @@ invariant_of-self-in-Ok-Pending c = let turns = rw c.in-Ok-Pending.field-0-is at
 
 pub returns-in-Ok-Pending-clause-ok : goal.returns-in-Ok-Pending-clause-ok
 returns-in-Ok-Pending-clause-ok c = let turns = rw c.in-Ok-Pending.field-0-is at c.in-Ok-Pending.ensures.turns in (pends (site c.self.inside.barriers c.self.inside.waits c.self.inside.next c.self.view_is c.self.invariant c.requires.next) c.at_mut-future.result.now.barrier c.at_mut-entry.result.now c.at_mut-entry.ensures.value c.args.f c.at_mut-future.result.now c.at_mut-future.ensures.value refl c.args.waker c.poll.new.self c.poll.new.wait c.args.ready.now c.poll.new.ready c.requires.there turns).1
+
+pub overflow_sub-entry : goal.overflow_sub-entry
+overflow_sub-entry c =
+    let turns = rw c.in-Ok-Ready.field-0-is at c.in-Ok-Ready.ensures.turns in
+    let same = turns.waits in
+    let some = some_waits (site c.self.inside.barriers c.self.inside.waits c.self.inside.next c.self.view_is c.self.invariant c.requires.next) c.at_mut-future.result.now.barrier c.at_mut-entry.result.now c.at_mut-entry.ensures.value c.args.f c.at_mut-future.result.now c.at_mut-future.ensures.value refl in
+    omega (arith, same, some)
+
+pub remove-requires : goal.remove-requires
+remove-requires c = is_there _ _ (get-there c.self.inside.waits c.args.f _)
+
+pub invariant_of-self-in-Ok-Ready : goal.invariant_of-self-in-Ok-Ready
+invariant_of-self-in-Ok-Ready c =
+    let turns = rw c.in-Ok-Ready.field-0-is at c.in-Ok-Ready.ensures.turns in
+    rw (c.remove.ensures.rest, put_gone c.self.inside.waits c.args.f (record { barrier = c.at_mut-future.result.now.barrier; wait = c.poll.new.wait })) ((readies (site c.self.inside.barriers c.self.inside.waits c.self.inside.next c.self.view_is c.self.invariant c.requires.next) c.at_mut-future.result.now.barrier c.at_mut-entry.result.now c.at_mut-entry.ensures.value c.args.f c.at_mut-future.result.now c.at_mut-future.ensures.value refl c.args.waker c.poll.new.self c.poll.new.wait c.args.ready.now c.poll.new.ready c.requires.there c.ranges.number.fits c.in-Ok-Ready.told turns).0)
+
+pub returns-in-Ok-Ready-clause-ok : goal.returns-in-Ok-Ready-clause-ok
+returns-in-Ok-Ready-clause-ok c =
+    let turns = rw c.in-Ok-Ready.field-0-is at c.in-Ok-Ready.ensures.turns in
+    rw (c.remove.ensures.rest, put_gone c.self.inside.waits c.args.f (record { barrier = c.at_mut-future.result.now.barrier; wait = c.poll.new.wait }), c.reply_of.ensures) ((readies (site c.self.inside.barriers c.self.inside.waits c.self.inside.next c.self.view_is c.self.invariant c.requires.next) c.at_mut-future.result.now.barrier c.at_mut-entry.result.now c.at_mut-entry.ensures.value c.args.f c.at_mut-future.result.now c.at_mut-future.ensures.value refl c.args.waker c.poll.new.self c.poll.new.wait c.args.ready.now c.poll.new.ready c.requires.there c.ranges.number.fits c.in-Ok-Ready.told turns).1)
