@@ -343,8 +343,10 @@ module _ {old : Part Barriers} {i : ℕ} (s : Site old i) where
                 let it = returns.pending (leb-false ((round + 1) * e.core.size) e.core.arrivals over) in
                 registers round (record e.core { waiting = with_waker e.core.waiting slot (record { future = f; waker = w }) }) (ap (λ u. with_waker e.core.waiting (slot_of u) (record { future = f; waker = w })) (sym to)) its_quiet
                 (model.waiting_on here f w (wait_seen x) (barrier_seen e)) (act_is w ∙ ap (λ u. model.poll_at here f w (wait_seen x) (barrier_seen e) (round_of u)) to ∙ if_false (has_completed (barrier_seen e) round) _ _ over) refl refl
-                (λ j. record { barriers = insert (seen barrier_seen s.bs) (mine j) (record (barrier_seen e) { waiting = registering (set_names e.core.waiting) f w });
-                  waits = sym (insert_same (seen wait_seen s.ws) f (record { barrier = b; round = Some round }) (seen-at wait_seen s.ws f x future ∙ (λ j. Some (record { barrier = mine j; round = round_of (to j) })))) j })
+                (λ j. record {
+                  barriers = insert (seen barrier_seen s.bs) (mine j) (record (barrier_seen e) { waiting = registering (set_names e.core.waiting) f w });
+                  waits = sym (insert_same (seen wait_seen s.ws) f (record { barrier = b; round = Some round }) (seen-at wait_seen s.ws f x future ∙ (λ j. Some (record { barrier = mine j; round = round_of (to j) })))) j;
+                })
                 t it.1 (it.2 ∙ ap (λ u. Arrived round (slot_after e.core.waiting (slot_of u))) (sym to))
 
             at : (v : Wait) → x.wait ≡ v → Polls e.core x.wait (record { future = f; waker = w }) (Ok Pending) (record d.core { wakes = t.woken }) u → Yields (PollIt f w) answers.Pending (insert s.bs b d) (insert s.ws f (record x { wait = u })) before after

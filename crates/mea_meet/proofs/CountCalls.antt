@@ -165,8 +165,11 @@ module _ {old : Part Counts} {i : ℕ} (s : Site old i) where
     pub added : (z : HolderEntry) → z.point ≡ o → z.borrowers ≡ 0 → (d : NamedPoint) → d ≡ joined e.point z.counted
         → AreKeptCounts (insert s.ps o (record { point = d; things = e.things + 1 })) s.ss (insert s.hs i z) s.ws (i + 1)
         × ((r : Point) → get old.hall.points o ≡ Some r → PartRests registered old i (model.join old.hall i o z.counted r) answers.Made (part_of (insert s.ps o (record { point = d; things = e.things + 1 })) s.ss (insert s.hs i z) s.ws (i + 1)))
-    added z mine none d is = rw is (result.0, λ r at_old. subst (λ r. PartRests registered old i (model.join old.hall i o z.counted r) answers.Made (part_of (insert s.ps o (record { point = joined e.point z.counted; things = e.things + 1 })) s.ss (insert s.hs i z) s.ws (i + 1)))
-        (inside (sym (seen_there s o e there) ∙ ap (λ (p : Part Counts). get p.hall.points o) s.view ∙ at_old)) result.1)
+    added z mine none d is = rw is (
+      result.0,
+      λ r at_old. subst (λ r. PartRests registered old i (model.join old.hall i o z.counted r) answers.Made (part_of (insert s.ps o (record { point = joined e.point z.counted; things = e.things + 1 })) s.ss (insert s.hs i z) s.ws (i + 1)))
+          (inside (sym (seen_there s o e there) ∙ ap (λ (p : Part Counts). get p.hall.points o) s.view ∙ at_old)) result.1,
+    )
       where
         nobody : borrowers_in i (own of_wait o s.ws) ≡ 0
         nobody = total-zero (λ f (y : WaitEntry). cond (borrows (awaits_of y.wait) i) 1 0) (own of_wait o s.ws) (λ f y is. at f y is (borrows (awaits_of y.wait) i) refl)
@@ -303,15 +306,15 @@ module _ {old : Part Counts} {i : ℕ} (s : Site old i) where
               (ap len (own-put of_holder o s.hs k (record it.0 { borrowers = it.0.borrowers - 1 }) it.2) ∙ len-over (own of_holder o s.hs) k (record it.0 { borrowers = it.0.borrowers - 1 }) it.0 (own-at of_holder o s.hs k it.0 it.1 it.2))
               (λ j z is. by_put (own of_holder o s.hs) k (record it.0 { borrowers = it.0.borrowers - 1 }) (λ j p. p ≡ Some z → z.borrowers + cond (borrows (awaits_of y.wait) j) 1 0 ≡ borrowers_in j (own of_wait o s.ws))
               (λ has.
-                  let mine : it.0.borrowers - 1 ≡ z.borrowers = ap (λ (x : HolderEntry). x.borrowers) (inside has) in
-                  let all = (kept).borrowers k it.0 (own-at of_holder o s.hs k it.0 it.1 it.2) in
-                  let counts : ◌≡◌ {A = ℕ} (cond (borrows (awaits_of y.wait) k) 1 0) 1 = ap (λ b. cond b 1 0) (only k ∙ eq-eqb k k refl) in
-                  let some = total-has (λ f (y : WaitEntry). cond (borrows (awaits_of y.wait) k) 1 0) (own of_wait o s.ws) f y (own-at of_wait o s.ws f y future mine_) in
-                  omega (arith, mine, all, counts, some))
+              let mine : it.0.borrowers - 1 ≡ z.borrowers = ap (λ (x : HolderEntry). x.borrowers) (inside has) in
+              let all = (kept).borrowers k it.0 (own-at of_holder o s.hs k it.0 it.1 it.2) in
+              let counts : ◌≡◌ {A = ℕ} (cond (borrows (awaits_of y.wait) k) 1 0) 1 = ap (λ b. cond b 1 0) (only k ∙ eq-eqb k k refl) in
+              let some = total-has (λ f (y : WaitEntry). cond (borrows (awaits_of y.wait) k) 1 0) (own of_wait o s.ws) f y (own-at of_wait o s.ws f y future mine_) in
+              omega (arith, mine, all, counts, some))
               (λ j apart has.
-                  let nothing : ◌≡◌ {A = ℕ} (cond (borrows (awaits_of y.wait) j) 1 0) 0 = ap (λ b. cond b 1 0) (only j ∙ ne_eqb k j apart) in
-                  let all = (kept).borrowers j z has in
-                  omega (arith, nothing, all))
+              let nothing : ◌≡◌ {A = ℕ} (cond (borrows (awaits_of y.wait) j) 1 0) 0 = ap (λ b. cond b 1 0) (only j ∙ ne_eqb k j apart) in
+              let all = (kept).borrowers j z has in
+              omega (arith, nothing, all))
               j (sym (ap (λ m. get m j) (own-put of_holder o s.hs k (record it.0 { borrowers = it.0.borrowers - 1 }) it.2)) ∙ is)))
             where
               mine_ : y.point ≡ o
@@ -564,10 +567,13 @@ module _ {old : Part Counts} {i : ℕ} (s : Site old i) where
   pub join_room : (k : ℕ) (x : HolderEntry) → get s.hs k ≡ Some x → join_cause old.hall (get old.hall.holders k) ≡ None → x.counted ≡ true → IfSome (get old.hall.points x.point) (λ r. (0 < r.members.number) × (r.members.number ≢ 4294967295))
   join_room k x holder allowed is =
       let e = value_in (get s.ps x.point) (holders_point s k x holder) in
-      subst (λ p. IfSome p (λ (r : Point). (0 < r.members.number) × (r.members.number ≢ 4294967295))) (sym (at_seen x.point e.0 e.1)) (counted_lives k x e.0 holder e.1 is, λ full. absurd (
-      let cause = join_cause_is k x e.0 holder e.1 true is ∙ sym (ap (join_cause old.hall) (holder_at k ∙ seen-at holder_seen s.hs k x holder)) ∙ allowed in
-      let yes = sym (ap (λ b. if b then Some stops.Overflow else None) (eq-eqb e.0.point.receivers.number 4294967295 full)) ∙ cause in
-      cc))
+      subst (λ p. IfSome p (λ (r : Point). (0 < r.members.number) × (r.members.number ≢ 4294967295))) (sym (at_seen x.point e.0 e.1)) (
+        counted_lives k x e.0 holder e.1 is,
+        λ full. absurd (
+            let cause = join_cause_is k x e.0 holder e.1 true is ∙ sym (ap (join_cause old.hall) (holder_at k ∙ seen-at holder_seen s.hs k x holder)) ∙ allowed in
+            let yes = sym (ap (λ b. if b then Some stops.Overflow else None) (eq-eqb e.0.point.receivers.number 4294967295 full)) ∙ cause in
+            cc),
+      )
 
   pub counted_there : (k : ℕ) → is_counted (get old.hall.holders k) ≡ true → IsSome (get s.hs k)
   counted_there k is = at (get s.hs k) refl

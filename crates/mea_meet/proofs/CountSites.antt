@@ -184,8 +184,10 @@ module _ {old : Part Counts} {i : ℕ} (s : Site old i) where
           (lasts d (own of_wait q s.ws) (own of_holder q s.hs) (own model.of_itself q s.ss) s.next (i + 1) (s.kept.each q d is) (let later = s.later in omega (arith, later)))
 
       pub each_turned : (d : KeptPoint) → AreKept d (own of_wait o ws') (own of_holder o hs') (own model.of_itself o ss') (i + 1) → Each (insert s.ps o d) ss' hs' ws' (i + 1)
-      each_turned d good = record { at = by_put s.ps o d (λ q p. (d : KeptPoint) → p ≡ Some d → AreKept d (own of_wait q ws') (own of_holder q hs') (own model.of_itself q ss') (i + 1))
-          (λ g is. subst (λ g. AreKept g (own of_wait o ws') (own of_holder o hs') (own model.of_itself o ss') (i + 1)) (inside is) good) (λ q apart g is. elsewhere q g apart is) }
+      each_turned d good = record {
+        at = by_put s.ps o d (λ q p. (d : KeptPoint) → p ≡ Some d → AreKept d (own of_wait q ws') (own of_holder q hs') (own model.of_itself q ss') (i + 1))
+            (λ g is. subst (λ g. AreKept g (own of_wait o ws') (own of_holder o hs') (own model.of_itself o ss') (i + 1)) (inside is) good) (λ q apart g is. elsewhere q g apart is);
+      }
 
       -- the point is d now, or gone where that has nothing
       module _ (d : KeptPoint) (over : Bool) (is_it : (d.things == 0) ≡ over) (good : AreKept d (own of_wait o ws') (own of_holder o hs') (own model.of_itself o ss') (i + 1)) where
@@ -193,8 +195,10 @@ module _ {old : Part Counts} {i : ℕ} (s : Site old i) where
         each_tidied = at over
           where
             at : (b : Bool) → Each (if b then remove (insert s.ps o d) o else insert s.ps o d) ss' hs' ws' (i + 1)
-            at true = record { at = subst (λ ps. (q : ℕ) (g : KeptPoint) → get ps q ≡ Some g → AreKept g (own of_wait q ws') (own of_holder q hs') (own model.of_itself q ss') (i + 1)) (sym (put_gone s.ps o d))
-                (by_gone s.ps o (λ q p. (g : KeptPoint) → p ≡ Some g → AreKept g (own of_wait q ws') (own of_holder q hs') (own model.of_itself q ss') (i + 1)) (λ g is. absurd (cc)) (λ q apart g is. elsewhere q g apart is)) }
+            at true = record {
+              at = subst (λ ps. (q : ℕ) (g : KeptPoint) → get ps q ≡ Some g → AreKept g (own of_wait q ws') (own of_holder q hs') (own model.of_itself q ss') (i + 1)) (sym (put_gone s.ps o d))
+                  (by_gone s.ps o (λ q p. (g : KeptPoint) → p ≡ Some g → AreKept g (own of_wait q ws') (own of_holder q hs') (own model.of_itself q ss') (i + 1)) (λ g is. absurd (cc)) (λ q apart g is. elsewhere q g apart is));
+            }
             at false = each_turned d good
 
         things_now : (m : Counts) → m.senders ≡ ss' → m.holders ≡ seen holder_seen hs' → m.waits ≡ seen wait_seen ws' → things_of m o ≡ d.things
@@ -237,10 +241,12 @@ module _ {old : Part Counts} {i : ℕ} (s : Site old i) where
 
   -- a point is made
   pub each_made : (ss' : Names ℕ) (hs' : Names HolderEntry) (senders : Moves model.of_itself i i s.ss ss') (holders : Moves of_holder i i s.hs hs') (d : KeptPoint) → AreKept d (own of_wait i s.ws) (own of_holder i hs') (own model.of_itself i ss') (i + 1) → Each (insert s.ps i d) ss' hs' s.ws (i + 1)
-  each_made ss' hs' senders holders d good = record { at = by_put s.ps i d (λ q p. (d : KeptPoint) → p ≡ Some d → AreKept d (own of_wait q s.ws) (own of_holder q hs') (own model.of_itself q ss') (i + 1))
-      (λ g is. subst (λ g. AreKept g (own of_wait i s.ws) (own of_holder i hs') (own model.of_itself i ss') (i + 1)) (inside is) good)
-      (λ q apart g is. rw (moves_elsewhere of_holder i i s.hs hs' holders q apart, moves_elsewhere model.of_itself i i s.ss ss' senders q apart)
-      (lasts g (own of_wait q s.ws) (own of_holder q s.hs) (own model.of_itself q s.ss) s.next (i + 1) (s.kept.each q g is) (let later = s.later in omega (arith, later)))) }
+  each_made ss' hs' senders holders d good = record {
+    at = by_put s.ps i d (λ q p. (d : KeptPoint) → p ≡ Some d → AreKept d (own of_wait q s.ws) (own of_holder q hs') (own model.of_itself q ss') (i + 1))
+        (λ g is. subst (λ g. AreKept g (own of_wait i s.ws) (own of_holder i hs') (own model.of_itself i ss') (i + 1)) (inside is) good)
+        (λ q apart g is. rw (moves_elsewhere of_holder i i s.hs hs' holders q apart, moves_elsewhere model.of_itself i i s.ss ss' senders q apart)
+        (lasts g (own of_wait q s.ws) (own of_holder q s.hs) (own model.of_itself q s.ss) s.next (i + 1) (s.kept.each q g is) (let later = s.later in omega (arith, later))));
+  }
 
   pub kept_made : (d : KeptPoint) → kept_by d.point ≡ 0 → kept_in (insert s.ps i d) ≡ kept_in s.ps
   kept_made d none =

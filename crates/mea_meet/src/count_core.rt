@@ -55,11 +55,7 @@ pub trait CountCore: Drop {
         ensures { point_of self.new ≡ parted (point_of self.old) true };
 
     /// Polls a wait for the signal. On an error nothing has changed.
-    fn poll_signal(
-        &mut self,
-        wait: &mut LatchWait,
-        waker: NamedWaker,
-    ) -> Result<Poll<()>, NoMemory>
+    fn poll_signal(&mut self, wait: &mut LatchWait, waker: NamedWaker) -> Result<Poll<()>, NoMemory>
         requires { has_given (point_of self.old).signal.waiting wait.old ≡ true }
         ensures polls { IfOk result (λ turn. PollsCount (point_of self.old).signal wait.old waker (Ok turn) (point_of self.new).signal wait.new × (point_of self.new ≡ record (point_of self.old) { signal = (point_of self.new).signal })) }
         ensures err { OnErr result ((self.new ≡ self.old) × (wait.new ≡ wait.old)) };

@@ -353,13 +353,12 @@ impl<C: CountCore> CountPart<C> {
                 point: holder.point,
                 wait,
             },
-        ) else {
+        )
+        else {
             return Err(NoMemory);
         };
         let _ = self.holders.remove(k);
-        self.points
-            .at_mut(holder.point)
-            .part(holder.counted, ready);
+        self.points.at_mut(holder.point).part(holder.counted, ready);
         self.next = number as u128 + 1;
         Ok(Answer::Made)
     }

@@ -140,11 +140,7 @@ impl<C: CountCore> PointEntry<C> {
     }
 
     // Polls at the core.
-    fn poll_core(
-        &mut self,
-        wait: &mut CountWait,
-        waker: NamedWaker,
-    ) -> Result<Poll<()>, NoMemory>
+    fn poll_core(&mut self, wait: &mut CountWait, waker: NamedWaker) -> Result<Poll<()>, NoMemory>
         requires { has_given (count_at (end_of wait.old) self.old.point).waiting (slot_of wait.old) ≡ true }
         ensures turns { IfOk result (λ turn. Turns self.old wait.old waker turn self.new wait.new) }
         ensures err { OnErr result ((self.new ≡ self.old) × (wait.new ≡ wait.old)) }
