@@ -1,8 +1,9 @@
-pub mod Names
+pub mod CountCores
+pub mod CountWaits
+pub mod CountEntries
+pub mod CountParts
+pub mod CountLends
+pub mod BarrierEntries
+pub mod BarrierParts
+pub mod Halls
 pub mod Play
-pub mod BarrierHall
-pub mod LatchHall
-pub mod GroupHall
-pub mod ShutdownHall
-pub mod StandsFor
-pub mod Parts

@@ -1,31 +1,31 @@
 ghost use Rattle.std.specs.Prelude.{◌≡◌, ◌≢◌, ◌≤◌, ◌∷◌, [], ◌⊎◌, length, is_some, OnOk, OnErr, IfOk, IfErr, IfSome, IfNone, None, Some};
 ghost use Rattle.std.specs.FinMap as map;
+ghost use Rattle.mea_meet_model.specs.Barriers.{is_barrier};
 ghost use Rattle.mea_meet_model.specs.Hall.{empty_hall, registered};
-ghost use Rattle.mea_meet_model.specs.Latches.{is_named};
-ghost use Rattle.mea_meet_model.specs.Groups as groups;
-ghost use Rattle.mea_meet_model.specs.Shutdowns as shutdowns;
 ghost use Rattle.mea_meet_model.specs.Cause.{cause_of};
 ghost use Rattle.mea_meet_model.specs.Valid.{IsValid};
 ghost use Rattle.mea_meet.specs.Play.{Play, Plays, TakesNoMemory};
-ghost use Rattle.mea_meet.specs.StandsFor.{StandsForBarrier, StandsForLatch, StandsForGroup, StandsForShutdown};
+ghost use Rattle.mea_meet.specs.BarrierParts.{StandsForBarrier};
+ghost use Rattle.mea_meet.specs.CountLends.{StandsForLatch, StandsForGroup, StandsForShutdown};
 
-use crate::parts::Parts;
+use crate::kinds::Kinds;
 use mea_base::Ready;
+use mea_by_name::NamedWaker;
 use mea_events::MeetEvent;
 use mea_family::{Answer, Stop};
 use mea_meet_core::{BarrierCore, GroupCore, LatchCore, ShutdownCore};
-use mea_meet_model::{validity_is_kept, wakes_are_of_the_registered, what_is_there_lives};
+use mea_meet_model::{validity_is_kept, wakes_are_of_the_registered};
 use std::alloc::Global;
 use std::marker::Model;
 
 /// Many barriers, latches, wait groups and shutdowns with the futures that wait for them, each by the number
 /// of the event that made it. One number may name things of different kinds.
 ///
-/// Each object is a core of its own; a future keeps its wait. Each event costs a look-up by name and the
-/// wakers that it makes ready. It stands on the cores by their contracts alone.
+/// Each object is a core of its own; a future keeps its wait. Its waker carries the future's name, so the core's set
+/// tells who waits. Each event costs a look-up by name and the wakers that it makes ready.
 #[derive(Drop)]
 pub struct MeetHall {
-    parts: Parts,
+    kinds: Kinds,
     ready: Ready<u64>,
     next: u128,
 }
@@ -40,15 +40,18 @@ impl Model for MeetHall {
     ghost use Rattle.std.specs.Prelude.{◌≡◌, ◌≤◌};
     ghost use Rattle.mea_meet_model.specs.Hall.{registered};
     ghost use Rattle.mea_meet_model.specs.Valid.{IsValid};
-    ghost use Rattle.mea_meet.specs.Parts.{hall_of, IsLow};
+    ghost use Rattle.mea_meet.specs.Halls.{hall_of};
 
-    ghost view = { λ a. record { hall = hall_of a.parts.barriers a.parts.latches a.parts.groups a.parts.shutdowns; wakes = a.ready.wakers; next = a.next } };
+    ghost view = { λ a. record { hall = hall_of a.kinds.barriers a.kinds.latches a.kinds.groups a.kinds.shutdowns; wakes = a.ready.wakers; next = a.next } };
 
     ghost invariant = { λ a. record {
-      low : IsLow a.parts.barriers a.parts.latches a.parts.groups a.parts.shutdowns a.next;
-      counted : a.ready.registered ≡ registered (hall_of a.parts.barriers a.parts.latches a.parts.groups a.parts.shutdowns);
+      barriers : a.kinds.barriers.next ≤ a.next;
+      latches : a.kinds.latches.next ≤ a.next;
+      groups : a.kinds.groups.next ≤ a.next;
+      shutdowns : a.kinds.shutdowns.next ≤ a.next;
+      counted : a.ready.registered ≡ registered (hall_of a.kinds.barriers a.kinds.latches a.kinds.groups a.kinds.shutdowns);
       few : a.ready.registered ≤ a.next;
-      valid : IsValid (hall_of a.parts.barriers a.parts.latches a.parts.groups a.parts.shutdowns) a.next;
+      valid : IsValid (hall_of a.kinds.barriers a.kinds.latches a.kinds.groups a.kinds.shutdowns) a.next;
     } };
 }
 
@@ -60,7 +63,7 @@ impl MeetHall {
     {
         validity_is_kept();
         MeetHall {
-            parts: Parts::new(alloc),
+            kinds: Kinds::new(alloc),
             ready: Ready::new(alloc),
             next: 0,
         }
@@ -92,46 +95,44 @@ impl MeetHall {
     }
 
     /// The core of the barrier of this name, where it was not dropped. It takes no memory.
-    pub fn barrier(&self, name: u64) -> Option<&BarrierCore<u64>>
-        ensures lives { is_some result ≡ is_some (map.get self.now.hall.barriers.barriers name) }
+    pub fn barrier(&self, name: u64) -> Option<&BarrierCore<NamedWaker>>
+        ensures lives { is_some result ≡ is_barrier self.now.hall.barriers name }
         ensures stands { IfSome result (λ core. StandsForBarrier self.now.hall.barriers name core.now) }
     {
-        self.parts.barriers.core(name)
+        self.kinds.barriers.core(name)
     }
 
-    /// The core of the latch of this name, where it was not dropped. It takes no memory.
-    pub fn latch(&self, name: u64) -> Option<&LatchCore<u64>>
-        ensures lives { is_some result ≡ is_named self.now.hall.latches name }
+    /// The core of the latch of this name, while its name or a future of it lives. It takes no memory.
+    pub fn latch(&self, name: u64) -> Option<&LatchCore<NamedWaker>>
+        ensures lives { is_some result ≡ is_some (map.get self.now.hall.latches.points name) }
         ensures stands { IfSome result (λ core. StandsForLatch self.now.hall.latches name core.now) }
     {
-        self.parts.latches.core(name)
+        self.kinds.latches.core(name)
     }
 
     /// The core of the wait group of this name, while a handle or a future of it lives. It takes no
     /// memory.
-    pub fn group(&self, name: u64) -> Option<&GroupCore<u64>>
-        ensures lives { is_some result ≡ groups.is_live self.now.hall.groups name }
+    pub fn group(&self, name: u64) -> Option<&GroupCore<NamedWaker>>
+        ensures lives { is_some result ≡ is_some (map.get self.now.hall.groups.points name) }
         ensures stands { IfSome result (λ core. StandsForGroup self.now.hall.groups name core.now) }
     {
-        what_is_there_lives();
-        self.parts.groups.core(name)
+        self.kinds.groups.core(name)
     }
 
     /// The core of the shutdown of this name, while a sender, receiver, watch or future of it lives. It
     /// takes no memory.
-    pub fn shutdown(&self, name: u64) -> Option<&ShutdownCore<u64>>
-        ensures lives { is_some result ≡ shutdowns.is_live self.now.hall.shutdowns name }
+    pub fn shutdown(&self, name: u64) -> Option<&ShutdownCore<NamedWaker>>
+        ensures lives { is_some result ≡ is_some (map.get self.now.hall.shutdowns.points name) }
         ensures stands { IfSome result (λ core. StandsForShutdown self.now.hall.shutdowns name core.now) }
     {
-        what_is_there_lives();
-        self.parts.shutdowns.core(name)
+        self.kinds.shutdowns.core(name)
     }
 
     /// Why the event would be refused; None where it would not. It takes no memory.
     pub fn cause(&self, event: &MeetEvent) -> Option<Stop>
         ensures { result ≡ cause_of self.now.hall event.now }
     {
-        self.parts.cause(event)
+        self.kinds.cause(event)
     }
 
     /// Plays an event, whose number is greater than each that was played before; the wakers that it makes
@@ -147,12 +148,14 @@ impl MeetHall {
         ensures err { OnErr result (self.new ≡ self.old) }
         ensures valid { IsValid self.new.hall self.new.next }
     {
-        validity_is_kept();
-        wakes_are_of_the_registered();
         if let Some(stop) = self.cause(event) {
             return Err(stop);
         }
-        let answer = self.parts.play(number, event, &mut self.ready)?;
+        validity_is_kept();
+        wakes_are_of_the_registered();
+        let Ok(answer) = self.kinds.play(number, event, &mut self.ready) else {
+            return Err(Stop::NoMemory);
+        };
         self.next = number as u128 + 1;
         Ok(answer)
     }

@@ -1,16 +1,21 @@
-//! Meeting points by name: the hall that plays the events of scripts on the cores of barriers, latches, wait
-//! groups and shutdowns. It is proved against the model of `mea_meet_model`, stands on the cores of
-//! `mea_meet_core` by their contracts alone, and gives the names of both again.
+//! The hall of the meeting points: many barriers, latches, wait groups and shutdowns by name, with the futures
+//! that wait for them, over the cores of `mea_meet_core`. It is proved against the model of `mea_meet_model`, and
+//! knows the cores by their contracts alone.
 #![tactic(auto)]
 
-mod barriers;
+mod barrier_entry;
+mod barrier_part;
+mod count_core;
+mod count_part;
+mod count_wait;
 mod groups;
 mod hall;
+mod holder_entry;
+mod kinds;
 mod latches;
-mod moving;
-mod parts;
-mod shutdown_entries;
+mod point_entry;
 mod shutdowns;
+mod wait_entry;
 
 pub use hall::MeetHall;
 pub use mea_events::MeetEvent;

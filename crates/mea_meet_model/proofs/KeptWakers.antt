@@ -1,101 +1,103 @@
 -- the meeting points keep the wakers of who waits, in every hall that events reach
-use Rattle.std.proofs.Common.{◌≡◌, ℕ, ◌<◌, ◌==◌, true, cond, Some, None, refl, subst}
+use Rattle.std.proofs.Common.{◌≡◌, ℕ, ◌<◌, ◌≤◌, true, Some, None}
 use Rattle.std.specs.FinMap.{get}
-use Rattle.std.proofs.lemmas.Bool.{eqb-true}
-use Rattle.std.proofs.lemmas.Option.{cond_some}
-use Rattle.mea_family.specs.Family.{RunOf, IsRun, Starts, Goes, LosesNoWake, KeepsWakers, NamesFutures}
+use Rattle.mea_base.proofs.Maps.{value_in}
+use Rattle.mea_family.specs.Family.{RunOf, IsRun, LosesNoWake, KeepsWakers, NamesFutures}
 use Rattle.mea_family.specs.declared.answer.Answer.TheVariants as answers
 use Rattle.mea_family.proofs.Wakes as wakes
 use Rattle.mea_family.proofs.Causes.{known}
-use Rattle.mea_events.specs.declared.meet_event.MeetEvent.{MeetEvent}
-use Rattle.mea_events.specs.declared.meet_event.MeetEvent.TheVariants as events
-use Rattle.mea_meet_model.specs.Hall.{Hall}
-use Rattle.mea_meet_model.specs.Cause.{cause_of}
-use Rattle.mea_meet_model.specs.Step.{step}
-use Rattle.mea_meet_model.specs.Meets.{Future, AtBarrier, ForLatch, ForGroup, ForShutdown, polled, name, lives, placed, meets}
-use Rattle.mea_meet_model.specs.Valid.{IsValid}
+use Rattle.mea_meet_model.specs.Barriers as barriers
+use Rattle.mea_meet_model.specs.BarrierActions.{BarrierAction, act_at, cause_at, polled_at}
+use Rattle.mea_meet_model.specs.Counts as counts
+use Rattle.mea_meet_model.specs.Counts.{Counts}
+use Rattle.mea_meet_model.specs.CountActions.{Action, act_in, cause_in, polled_in}
+use Rattle.mea_meet_model.specs.Hall.{Hall, Kind, Latches, Groups, Shutdowns, part}
+use Rattle.mea_meet_model.specs.Meaning.{Doing, OnBarriers, OnCounts, doing}
+use Rattle.mea_meet_model.specs.Cause.{cause_by}
+use Rattle.mea_meet_model.specs.Step.{step_by}
+use Rattle.mea_meet_model.specs.Meets.{Sort, AtBarrier, Of, polled_by, ends_by, lives_as, placed_as, meets}
+use Rattle.mea_meet_model.specs.Valid.{HasCounts, IsValid}
+use Rattle.mea_meet_model.proofs.CountWakes as at_counts
+use Rattle.mea_meet_model.proofs.CountWakes.{PartActs, rests, counts_act}
 use Rattle.mea_meet_model.proofs.BarrierWakes as at_barriers
-use Rattle.mea_meet_model.proofs.LatchWakes as at_latches
-use Rattle.mea_meet_model.proofs.GroupWakes as at_groups
-use Rattle.mea_meet_model.proofs.ShutdownWakes as at_shutdowns
-use Rattle.mea_meet_model.proofs.EachEvent.{steps, valid_empty}
-use Rattle.mea_meet_model.proofs.Lives.{stays, goes}
+use Rattle.mea_meet_model.proofs.BarrierWakes.{barriers_act}
+use Rattle.mea_meet_model.proofs.EachEvent.{valid_run}
 
--- every hall that events reach is valid
-pub valid_run : (r : RunOf meets) → IsRun meets r → IsValid r.hall r.next
-valid_run _ (Starts) = valid_empty
-valid_run _ (Goes r i e runs later cause) = (steps r.hall r.next i later (valid_run r runs) e cause).valid
+-- ---- what an event makes of the futures of each sort
+module _ (h : Hall) (n i : ℕ) (v : IsValid h n) (later : n ≤ i) where
+  acts : (d : Doing) → cause_by h d ≡ None → (s : Sort) → PartActs (polled_by d s) (ends_by d s) i (lives_as h s) (lives_as (step_by h i d).hall s) (placed_as h s) (placed_as (step_by h i d).hall s) (step_by h i d).wakes
+  acts (OnBarriers a) allowed AtBarrier = barriers_act h.barriers n i v.barriers later a allowed
+  acts (OnBarriers a) allowed (Of k) = rests i (lives_as h (Of k)) (placed_as h (Of k)) (act_at h.barriers i a).wakes
+  acts (OnCounts Latches a) allowed AtBarrier = rests i (lives_as h AtBarrier) (placed_as h AtBarrier) (act_in h.latches i a).wakes
+  acts (OnCounts Latches a) allowed (Of Latches) = counts_act h.latches n i v.latches later a
+  acts (OnCounts Latches a) allowed (Of Groups) = rests i (lives_as h (Of Groups)) (placed_as h (Of Groups)) (act_in h.latches i a).wakes
+  acts (OnCounts Latches a) allowed (Of Shutdowns) = rests i (lives_as h (Of Shutdowns)) (placed_as h (Of Shutdowns)) (act_in h.latches i a).wakes
+  acts (OnCounts Groups a) allowed AtBarrier = rests i (lives_as h AtBarrier) (placed_as h AtBarrier) (act_in h.groups i a).wakes
+  acts (OnCounts Groups a) allowed (Of Latches) = rests i (lives_as h (Of Latches)) (placed_as h (Of Latches)) (act_in h.groups i a).wakes
+  acts (OnCounts Groups a) allowed (Of Groups) = counts_act h.groups n i v.groups later a
+  acts (OnCounts Groups a) allowed (Of Shutdowns) = rests i (lives_as h (Of Shutdowns)) (placed_as h (Of Shutdowns)) (act_in h.groups i a).wakes
+  acts (OnCounts Shutdowns a) allowed AtBarrier = rests i (lives_as h AtBarrier) (placed_as h AtBarrier) (act_in h.shutdowns i a).wakes
+  acts (OnCounts Shutdowns a) allowed (Of Latches) = rests i (lives_as h (Of Latches)) (placed_as h (Of Latches)) (act_in h.shutdowns i a).wakes
+  acts (OnCounts Shutdowns a) allowed (Of Groups) = rests i (lives_as h (Of Groups)) (placed_as h (Of Groups)) (act_in h.shutdowns i a).wakes
+  acts (OnCounts Shutdowns a) allowed (Of Shutdowns) = counts_act h.shutdowns n i v.shutdowns later a
 
--- what is said of the waker and the name in a poll is said of those that it polls with
-polls_it : (g f v w : ℕ) (P : ℕ → ℕ → Type 0) → cond (g == f) (Some v) None ≡ Some w → P g v → P f w
-polls_it g f v w P is p =
-    let both = cond_some (g == f) v w is in
-    subst (λ k. P k w) (eqb-true g f both.0) (subst (λ u. P g u) both.1 p)
+-- ---- whom an event polls is of its sort
+data PolledAs (f w : ℕ) : Doing → Sort → Type 0 where
+  AtIt : (a : BarrierAction) → polled_at a f ≡ Some w → PolledAs f w (OnBarriers a) AtBarrier
+  ForIt : (k : Kind) (a : Action) → polled_in a f ≡ Some w → PolledAs f w (OnCounts k a) (Of k)
 
--- a poll that replies `pending` places its waker
-places : (h : Hall) (i : ℕ) (e : MeetEvent) → cause_of h e ≡ None → (f : Future) (w : ℕ) → polled e f ≡ Some w → (step h i e).reply ≡ answers.Pending
-    → placed (step h i e).hall f ≡ Some w
-places h i (events.BarPoll g v) cause (AtBarrier f) w is pending =
-    polls_it g f v w (λ k u. placed (step h i (events.BarPoll g v)).hall (AtBarrier k) ≡ Some u) is
-    (at_barriers.places h.barriers g v (get h.barriers.waits g) refl (known _ cause) pending)
-places h i (events.LatPoll g v) cause (ForLatch f) w is pending =
-    polls_it g f v w (λ k u. placed (step h i (events.LatPoll g v)).hall (ForLatch k) ≡ Some u) is
-    (at_latches.places h.latches g v (get h.latches.waits g) refl (known _ cause) pending)
-places h i (events.WgPoll g v) cause (ForGroup f) w is pending =
-    polls_it g f v w (λ k u. placed (step h i (events.WgPoll g v)).hall (ForGroup k) ≡ Some u) is
-    (at_groups.places h.groups g v (get h.groups.waits g) refl (known _ cause) pending)
-places h i (events.SdPoll g v) cause (ForShutdown f) w is pending =
-    polls_it g f v w (λ k u. placed (step h i (events.SdPoll g v)).hall (ForShutdown k) ≡ Some u) is
-    (at_shutdowns.places h.shutdowns g v (get h.shutdowns.waits g) refl (known _ cause) pending)
-places h i e cause f w is pending = absurd (cc)
+polled_as : (d : Doing) (s : Sort) (f w : ℕ) → polled_by d s f ≡ Some w → PolledAs f w d s
+polled_as (OnBarriers a) AtBarrier f w is = AtIt a is
+polled_as (OnCounts Latches a) (Of Latches) f w is = ForIt Latches a is
+polled_as (OnCounts Groups a) (Of Groups) f w is = ForIt Groups a is
+polled_as (OnCounts Shutdowns a) (Of Shutdowns) f w is = ForIt Shutdowns a is
+polled_as _ _ f w is = absurd (cc)
 
--- while a waker is placed, a poll replies `pending`
-waits : (h : Hall) (n i : ℕ) → IsValid h n → (e : MeetEvent) (f : Future) (w v : ℕ) → placed h f ≡ Some w → polled e f ≡ Some v
-    → (step h i e).reply ≡ answers.Pending
-waits h n i valid (events.BarPoll g u) (AtBarrier f) w v has is =
-    polls_it g f u v (λ k t. placed h (AtBarrier k) ≡ Some w → (step h i (events.BarPoll g u)).reply ≡ answers.Pending) is
-    (λ p. at_barriers.waits h.barriers n valid.barriers g u w (get h.barriers.waits g) refl p) has
-waits h n i valid (events.LatPoll g u) (ForLatch f) w v has is =
-    polls_it g f u v (λ k t. placed h (ForLatch k) ≡ Some w → (step h i (events.LatPoll g u)).reply ≡ answers.Pending) is
-    (λ p. at_latches.waits h.latches n valid.latches g u w (get h.latches.waits g) p) has
-waits h n i valid (events.WgPoll g u) (ForGroup f) w v has is =
-    polls_it g f u v (λ k t. placed h (ForGroup k) ≡ Some w → (step h i (events.WgPoll g u)).reply ≡ answers.Pending) is
-    (λ p. at_groups.waits h.groups n valid.groups g u w (get h.groups.waits g) p) has
-waits h n i valid (events.SdPoll g u) (ForShutdown f) w v has is =
-    polls_it g f u v (λ k t. placed h (ForShutdown k) ≡ Some w → (step h i (events.SdPoll g u)).reply ≡ answers.Pending) is
-    (λ p. at_shutdowns.waits h.shutdowns n valid.shutdowns g u w (get h.shutdowns.waits g) p) has
-waits h n i valid e f w v has is = absurd (cc)
+-- those of a kind are valid
+part_valid : (h : Hall) (n : ℕ) → IsValid h n → (k : Kind) → HasCounts (part h k) n
+part_valid h n v Latches = v.latches
+part_valid h n v Groups = v.groups
+part_valid h n v Shutdowns = v.shutdowns
+
+module _ (h : Hall) (i : ℕ) (f w : ℕ) where
+  -- a poll that replies `pending` places its waker
+  placed_after : (k : Kind) (a : Action) → counts.placed (act_in (part h k) i a).hall f ≡ Some w → placed_as (step_by h i (OnCounts k a)).hall (Of k) f ≡ Some w
+  placed_after Latches a is = is
+  placed_after Groups a is = is
+  placed_after Shutdowns a is = is
+
+  places : (d : Doing) (s : Sort) → PolledAs f w d s → (step_by h i d).reply ≡ answers.Pending → placed_as (step_by h i d).hall s f ≡ Some w
+  places _ _ (AtIt a is) = at_barriers.same_poll a f w (λ a. (act_at h.barriers i a).reply ≡ answers.Pending → barriers.placed (act_at h.barriers i a).hall f ≡ Some w) (at_barriers.places h.barriers i f w) is
+  places _ _ (ForIt k a is) = λ pending. placed_after k a (at_counts.same_poll a f w (λ a. (act_in (part h k) i a).reply ≡ answers.Pending → counts.placed (act_in (part h k) i a).hall f ≡ Some w) (at_counts.places (part h k) i f w) is pending)
+
+  -- while a waker is placed, a poll replies `pending`
+  waits : (n : ℕ) → IsValid h n → (u : ℕ) (d : Doing) (s : Sort) → PolledAs f w d s → placed_as h s f ≡ Some u → (step_by h i d).reply ≡ answers.Pending
+  waits n v u _ _ (AtIt a is) has = at_barriers.same_poll a f w (λ a. (act_at h.barriers i a).reply ≡ answers.Pending) (at_barriers.waits h.barriers i n v.barriers f u w has) is
+  waits n v u _ _ (ForIt k a is) has = at_counts.same_poll a f w (λ a. (act_in (part h k) i a).reply ≡ answers.Pending) (at_counts.waits (part h k) i n (part_valid h n v k) f u w has) is
+
+  -- who is polled lives
+  polls : (d : Doing) (s : Sort) → PolledAs f w d s → cause_by h d ≡ None → lives_as h s f ≡ true
+  polls _ _ (AtIt a is) = at_barriers.same_poll a f w (λ a. cause_at h.barriers a ≡ None → barriers.is_wait h.barriers f ≡ true) (known (barriers.is_wait h.barriers f)) is
+  polls _ _ (ForIt k a is) = at_counts.same_poll a f w (λ a. cause_in (part h k) a ≡ None → counts.is_wait (part h k) f ≡ true) (known (counts.is_wait (part h k) f)) is
+
+below : (h : Hall) (n : ℕ) → IsValid h n → (s : Sort) (f : ℕ) → lives_as h s f ≡ true → f < n
+below h n v AtBarrier f living = let it = value_in (get h.barriers.waits f) living in (v.barriers.waits.at f it.0 it.1).0
+below h n v (Of k) f living = let it = value_in (get (part h k).waits f) living in ((part_valid h n v k).waits.at f it.0 it.1).0
 
 pub keeps : KeepsWakers meets
 keeps = record {
-  places = λ r i e runs later cause f w is pending. places r.hall i e cause f w is pending;
-  waits = λ r i e runs f w v living has is. waits r.hall r.next i (valid_run r runs) e f w v has is;
-  wakes = λ r i e runs later cause f w lived has silent kept.
-      (steps r.hall r.next i later (valid_run r runs) e cause).passes f w silent has (stays r.hall i e f lived silent kept);
-  stays = λ r i e runs later cause f lived silent kept. stays r.hall i e f lived silent kept;
-  goes = λ r i e runs later cause f is. goes r.hall r.next i (valid_run r runs).groups e f is;
+  places = λ r i e runs later cause f w is pending. places r.hall i f.name w (doing e) f.sort (polled_as (doing e) f.sort f.name w is) pending;
+  waits = λ r i e runs f w u living has is. waits r.hall i f.name u r.next (valid_run r runs) w (doing e) f.sort (polled_as (doing e) f.sort f.name u is) has;
+  wakes = λ r i e runs later cause f w living has silent lasts. (acts r.hall r.next i (valid_run r runs) later (doing e) cause f.sort).wakes f.name w living has silent lasts;
+  stays = λ r i e runs later cause f living silent lasts. (acts r.hall r.next i (valid_run r runs) later (doing e) cause f.sort).stays f.name living silent lasts;
+  goes = λ r i e runs later cause f is. (acts r.hall r.next i (valid_run r runs) later (doing e) cause f.sort).over f.name is;
 }
-
--- ---- names
--- who is polled lives
-polls : (h : Hall) (e : MeetEvent) → cause_of h e ≡ None → (f : Future) (w : ℕ) → polled e f ≡ Some w → lives h f ≡ true
-polls h (events.BarPoll g v) cause (AtBarrier f) w is = polls_it g f v w (λ k u. lives h (AtBarrier k) ≡ true) is (known _ cause)
-polls h (events.LatPoll g v) cause (ForLatch f) w is = polls_it g f v w (λ k u. lives h (ForLatch k) ≡ true) is (known _ cause)
-polls h (events.WgPoll g v) cause (ForGroup f) w is = polls_it g f v w (λ k u. lives h (ForGroup k) ≡ true) is (known _ cause)
-polls h (events.SdPoll g v) cause (ForShutdown f) w is = polls_it g f v w (λ k u. lives h (ForShutdown k) ≡ true) is (known _ cause)
-polls h e cause f w is = absurd (cc)
-
-below : (h : Hall) (n : ℕ) → IsValid h n → (f : Future) → lives h f ≡ true → name f < n
-below h n v (AtBarrier f) living = v.barriers.waits_below f living
-below h n v (ForLatch f) living = v.latches.waits_below f living
-below h n v (ForGroup f) living = v.groups.waits_below f living
-below h n v (ForShutdown f) living = v.shutdowns.waits_below f living
 
 pub names : NamesFutures meets
 names = record {
-  polls = λ h e cause f w is. polls h e cause f w is;
-  below = λ r runs f living. below r.hall r.next (valid_run r runs) f living;
-  made = λ r i e runs later cause f living. (steps r.hall r.next i later (valid_run r runs) e cause).made f living;
+  polls = λ h e cause f w is. polls h 0 f.name w (doing e) f.sort (polled_as (doing e) f.sort f.name w is) cause;
+  below = λ r runs f living. below r.hall r.next (valid_run r runs) f.sort f.name living;
+  made = λ r i e runs later cause f living. (acts r.hall r.next i (valid_run r runs) later (doing e) cause f.sort).made f.name living;
 }
 
 pub no_wake_is_lost : (r : RunOf meets) → IsRun meets r → LosesNoWake meets r

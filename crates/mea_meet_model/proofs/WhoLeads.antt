@@ -1,250 +1,167 @@
 -- which events reply `leader`, and how many arrivals of a round do
-use Rattle.std.proofs.Common.{◌≡◌, ℕ, zero, suc, ◌+◌, ◌/◌, ◌≤◌, ◌==◌, Bool, true, false, cond, List, [], Option, Some, None, unwrap_or, refl, ap, sym, ◌∙◌, arith, if◌then◌else◌}
-use Rattle.std.specs.Option.{IsSome}
+use Rattle.std.proofs.Common.{◌≡◌, ℕ, zero, suc, ◌+◌, ◌/◌, ◌≤◌, ◌==◌, Bool, true, false, cond, [], Option, Some, None, IsSome, unwrap_or, if◌then◌else◌, refl, ap, sym, ◌∙◌, arith}
+use Rattle.std.specs.FinMap.{get, insert, remove}
 use Rattle.std.proofs.lemmas.Bool.{eq-eqb, ne_eqb}
-use Rattle.std.specs.FinMap.{get, insert}
-use Rattle.mea_family.specs.Family.{quietly}
-use Rattle.mea_family.specs.declared.answer.Answer.TheVariants as answers
-use Rattle.mea_base.proofs.Maps.{by_gone, by_at_put}
+use Rattle.mea_base.proofs.Maps.{by_gone, by_at_put, value_in}
 use Rattle.mea_base.proofs.Tests.{on_true, on_false}
+use Rattle.mea_family.specs.Family.{Outcome, quietly}
+use Rattle.mea_family.specs.Play.{found}
+use Rattle.mea_family.specs.declared.answer.Answer.{Answer}
+use Rattle.mea_family.specs.declared.answer.Answer.TheVariants as answers
+use Rattle.mea_by_name.specs.ByName.{Names}
+use Rattle.mea_by_name.specs.NamedQueue.{registering, wakers}
+use Rattle.mea_by_name.proofs.Cases.{by_found, by_if, found_is}
 use Rattle.mea_events.specs.declared.meet_event.MeetEvent.{MeetEvent}
 use Rattle.mea_events.specs.declared.meet_event.MeetEvent.TheVariants as events
-use Rattle.mea_meet_model.specs.Waiting.{registering, ending, wakers}
 use Rattle.mea_meet_model.specs.Barriers as barriers
-use Rattle.mea_meet_model.specs.Barriers.{Barriers, Barrier, BarrierWait, new_barrier, barrier_at, leads, make, drop, has_completed, leading, joining, waiting_on, gone, end_of, poll_at, poll_of}
-use Rattle.mea_meet_model.specs.Latches as latches
-use Rattle.mea_meet_model.specs.Latches.{LatchWait}
-use Rattle.mea_meet_model.specs.Groups as groups
-use Rattle.mea_meet_model.specs.Shutdowns as shutdowns
-use Rattle.mea_meet_model.specs.Shutdowns.{Receiver, ShutdownWait}
-use Rattle.mea_meet_model.specs.Hall.{Hall}
-use Rattle.mea_meet_model.specs.Step.{step}
-use Rattle.mea_meet_model.specs.Leaders.{is_leader, leads_new, leads_wait, leads_by, arrivals_new, arrivals_wait, arrivals_by, leaders}
-use Rattle.mea_meet_model.specs.Valid.{AreBelow, IsValid}
-use Rattle.mea_meet_model.proofs.Belongs.{fresh}
+use Rattle.mea_meet_model.specs.Barriers.{Barriers, Barrier, BarrierWait, new_barrier, barrier_at, leads, has_completed}
+use Rattle.mea_meet_model.specs.BarrierActions as at_barriers
+use Rattle.mea_meet_model.specs.BarrierActions.{act_at}
+use Rattle.mea_meet_model.specs.Counts as counts
+use Rattle.mea_meet_model.specs.Counts.{Counts, Point, Holder, count_at, end_of, is_holder}
+use Rattle.mea_meet_model.specs.CountActions.{Action, Make, Number, Try, Now, Arrive, Begin, Join, Watch, Into, EndHolder, Copy, Poll, EndWait, EndEither, CopySender, Send, Await, EndSender, act_in, end_by}
+use Rattle.mea_meet_model.specs.Hall.{Hall, Kind, Latches, Groups, Shutdowns, part}
+use Rattle.mea_meet_model.specs.Meaning.{Doing, OnBarriers, OnCounts, doing}
+use Rattle.mea_meet_model.specs.Step.{step_by, step}
+use Rattle.mea_meet_model.specs.Leaders.{is_leader, leads_new, leads_there, leads_wait, leads_doing, leads_by, arrivals_new, arrivals_wait, arrivals_doing, arrivals_by, leaders}
+use Rattle.mea_meet_model.specs.Valid.{HasBarriers, IsValid}
 use Rattle.mea_meet_model.proofs.Rounds.{same_round, next_round, one_round}
 
+-- ---- points that count have no leader
+module _ (h : Counts) (i : ℕ) where
+  abbrev P : Outcome Counts → Type 0
+  P o = is_leader o.reply ≡ false
+
+  by_holder : (k : ℕ) (act : Holder → Point → Outcome Counts) → ((x : Holder) (r : Point) → P (act x r)) → P (found (get h.holders k) h (λ x. found (get h.points x.point) h (act x)))
+  by_holder k act each = by_found P (get h.holders k) h _ refl (λ x holder. by_found P (get h.points x.point) h _ refl (λ r there. each x r))
+
+  ends : (f : ℕ) → P (end_by h f)
+  ends f = by_found P (get h.waits f) h _ refl (λ x future. by_found P (get h.points x.point) h _ refl (λ r there. refl))
+
+  told : (b : Bool) (one_of other : Answer) → is_leader one_of ≡ false → is_leader other ≡ false → is_leader (if b then one_of else other) ≡ false
+  told true one_of other first second = first
+  told false one_of other first second = second
+
+  pub none_leads : (a : Action) → P (act_in h i a)
+  none_leads (Make new) = refl
+  none_leads (Number k) = by_holder k (λ x. counts.number h) (λ x r. refl)
+  none_leads (Try k) = by_holder k (λ x. counts.try h) (λ x r. told (r.signal.number == 0) answers.Accepted (answers.Left r.signal.number) refl refl)
+  none_leads (Now k) = by_holder k (λ x. counts.now h) (λ x r. told (r.signal.number == 0) answers.Yes answers.No refl refl)
+  none_leads (Arrive k m) = by_holder k (λ x. counts.arrive h m x.point) (λ x r. refl)
+  none_leads (Begin k plain) = by_found P (get h.holders k) h _ refl (λ x holder. refl)
+  none_leads (Join k) = by_holder k (λ x. counts.join h i x.point x.counted) (λ x r. refl)
+  none_leads (Watch k) = by_holder k (λ x. counts.join h i x.point false) (λ x r. refl)
+  none_leads (Into k) = by_holder k (counts.into h i k) (λ x r. refl)
+  none_leads (EndHolder k) = by_holder k (counts.end_holder h k) (λ x r. refl)
+  none_leads (Copy f) = by_found P (get h.waits f) h _ refl (λ x future. refl)
+  none_leads (Poll f w) = by_found P (get h.waits f) h _ refl (λ x future. by_found P (get h.points x.point) h _ refl (λ r there. by_if P ((count_at (end_of x.awaits) r).number == 0) _ _ (λ over. refl) (λ goes_on. refl)))
+  none_leads (EndWait f) = ends f
+  none_leads (EndEither k) = by_if P (is_holder h k) _ _ (λ holder. by_holder k (counts.end_holder h k) (λ x r. refl)) (λ future. ends k)
+  none_leads (CopySender k) = by_found P (get h.senders k) h _ refl (λ o sender. refl)
+  none_leads (Send k) = by_found P (get h.senders k) h _ refl (λ o sender. by_found P (get h.points o) h _ refl (λ r there. refl))
+  none_leads (Await k) = by_found P (get h.senders k) h _ refl (λ o sender. refl)
+  none_leads (EndSender k) = by_found P (get h.senders k) h _ refl (λ o sender. by_found P (get h.points o) h _ refl (λ r there. refl))
+
 -- ---- a poll at a barrier
-leader-at : (h : Barriers) (f w : ℕ) (x : BarrierWait) (o : Option ℕ) → is_leader (poll_at h f w x o).reply ≡ leads_new (barrier_at h x.barrier) o
-leader-at h f w x None = elim (leads (barrier_at h x.barrier)) as (λ b. is_leader (if b then leading h f x else joining h f w x).reply ≡ b)
-    [ true ↦ refl | false ↦ refl ]
-leader-at h f w x (Some round) = elim (has_completed (barrier_at h x.barrier) round)
-    as (λ b. is_leader (if b then quietly (gone h f x) answers.Ready else waiting_on h f w x).reply ≡ false) [ true ↦ refl | false ↦ refl ]
+module _ (h : Barriers) (f w : ℕ) (x : BarrierWait) where
+  leader-at : (r : Barrier) (o : Option ℕ) → is_leader (barriers.poll_at h f w x r o).reply ≡ leads_new r o
+  leader-at r None = elim (leads r) as (λ b. is_leader (if b then barriers.leading h f x r else barriers.joining h f w x r).reply ≡ b) [ true ↦ refl | false ↦ refl ]
+  leader-at r (Some round) = elim (has_completed r round) as (λ b. is_leader (if b then quietly (barriers.gone h f) answers.Ready else barriers.waiting_on h f w x r).reply ≡ false) [ true ↦ refl | false ↦ refl ]
 
-leader-poll : (h : Barriers) (f w : ℕ) (o : Option BarrierWait) → is_leader (poll_of h f w o).reply ≡ leads_wait h o
+  leader-there : (p : Option Barrier) → is_leader (found p h (barriers.poll h f w x)).reply ≡ leads_there p x.round
+  leader-there None = refl
+  leader-there (Some r) = leader-at r x.round
+
+  wakes-at : (r : Barrier) (o : Option ℕ) → leads_new r o ≡ true → (barriers.poll_at h f w x r o).wakes ≡ wakers r.waiting
+  wakes-at r None e = ap (λ b. (if b then barriers.leading h f x r else barriers.joining h f w x r).wakes) e
+  wakes-at r (Some round) e = absurd (cc)
+
+  wakes-there : (p : Option Barrier) → leads_there p x.round ≡ true → (found p h (barriers.poll h f w x)).wakes ≡ wakers (unwrap_or p (new_barrier 1)).waiting
+  wakes-there None e = absurd (cc)
+  wakes-there (Some r) e = wakes-at r x.round e
+
+leader-poll : (h : Barriers) (f w : ℕ) (o : Option BarrierWait) → is_leader (found o h (λ x. found (get h.barriers x.barrier) h (barriers.poll h f w x))).reply ≡ leads_wait h o
 leader-poll h f w None = refl
-leader-poll h f w (Some x) = leader-at h f w x x.round
+leader-poll h f w (Some x) = leader-there h f w x (get h.barriers x.barrier)
 
-wakes-at : (h : Barriers) (f w : ℕ) (x : BarrierWait) (o : Option ℕ) → leads_new (barrier_at h x.barrier) o ≡ true
-    → (poll_at h f w x o).wakes ≡ wakers (barrier_at h x.barrier).waiting
-wakes-at h f w x None e = ap (λ b. (if b then leading h f x else joining h f w x).wakes) e
-wakes-at h f w x (Some round) e = absurd (cc)
+module _ (h : Hall) (i : ℕ) where
+  by_doing : (d : Doing) → is_leader (step_by h i d).reply ≡ leads_doing h d
+  by_doing (OnCounts k a) = none_leads (part h k) i a
+  by_doing (OnBarriers (at_barriers.Poll f w)) = leader-poll h.barriers f w (get h.barriers.waits f)
+  by_doing (OnBarriers (at_barriers.Make n)) = refl
+  by_doing (OnBarriers (at_barriers.Begin b)) = refl
+  by_doing (OnBarriers (at_barriers.End f)) = refl
+  by_doing (OnBarriers (at_barriers.Drop b)) = refl
+
+pub exactly : (h : Hall) (i : ℕ) (e : MeetEvent) → is_leader (step h i e).reply ≡ leads_by h e
+exactly h i e = by_doing h i (doing e)
+
+pub wakes : (h : Hall) (i f w : ℕ) (x : BarrierWait) → get h.barriers.waits f ≡ Some x → leads_by h (events.BarPoll f w) ≡ true
+    → (step h i (events.BarPoll f w)).wakes ≡ wakers (barrier_at h.barriers x.barrier).waiting
+wakes h i f w x is e = ap (λ (o : Outcome Barriers). o.wakes) (found_is (get h.barriers.waits f) h.barriers (λ x. found (get h.barriers.barriers x.barrier) h.barriers (barriers.poll h.barriers f w x)) x is)
+    ∙ wakes-there h.barriers f w x (get h.barriers.barriers x.barrier) (sym (ap (leads_wait h.barriers) is) ∙ e)
 
 -- ---- arrivals at a barrier
 -- of a barrier that stays: as many more as counted
 abbrev Arrives : Barriers → Barriers → (ℕ → ℕ) → Type 0
 Arrives h m count = (b : ℕ) → IsSome (get h.barriers b) → IsSome (get m.barriers b) → (barrier_at m b).arrivals ≡ (barrier_at h b).arrivals + count b
 
-arrives-same : (h : Barriers) → Arrives h h (λ b. 0)
-arrives-same h b there still = omega arith
-
-arrives-put : (h : Barriers) (a : ℕ) (r : Barrier) (count : ℕ → ℕ) → r.arrivals ≡ (barrier_at h a).arrivals + count a
-    → ((b : ℕ) → (a ≡ b → ⊥) → count b ≡ 0) → Arrives h (record h { barriers = insert h.barriers a r }) count
-arrives-put h a r count here others b there still = by_at_put (new_barrier 1) h.barriers a r (λ c s. s.arrivals ≡ (barrier_at h c).arrivals + count c)
-    here (λ c apart. let none = others c apart in omega (arith, none)) b
-
--- nothing in place of nothing
-idle : (b : Bool) (n : ℕ) → n ≡ 0 → cond b n 0 ≡ 0
-idle true n none = none
-idle false n none = refl
-
 module _ (h : Barriers) where
-  arrives-gone : (f : ℕ) (x : BarrierWait) (count : ℕ → ℕ) → ((b : ℕ) → count b ≡ 0) → Arrives h (gone h f x) count
-  arrives-gone f x count none =
-      let r : Barrier = barrier_at h x.barrier in
-      arrives-put h x.barrier (record r { waiting = ending r.waiting f }) count (omega (arith, none x.barrier)) (λ b apart. none b)
+  arrives-same : (m : Barriers) → m.barriers ≡ h.barriers → (count : ℕ → ℕ) → ((b : ℕ) → count b ≡ 0) → Arrives h m count
+  arrives-same m same count none b there still = rw same (omega (arith, none b))
 
-  arrives-at : (f w : ℕ) (x : BarrierWait) (o : Option ℕ) → Arrives h (poll_at h f w x o).hall (λ b. cond (x.barrier == b) (arrivals_new o) 0)
-  arrives-at f w x None =
-      let r : Barrier = barrier_at h x.barrier in
-      let one = on_true (x.barrier == x.barrier) 1 (eq-eqb x.barrier x.barrier refl) in
-      elim (leads r) as (λ b. Arrives h (if b then leading h f x else joining h f w x).hall (λ c. cond (x.barrier == c) 1 0)) [
-        | true ↦ arrives-put h x.barrier (record r { arrivals = r.arrivals + 1; waiting = [] }) (λ c. cond (x.barrier == c) 1 0) (omega (arith, one))
-            (λ c apart. on_false (x.barrier == c) 1 (ne_eqb x.barrier c apart))
-        | false ↦ arrives-put h x.barrier (record r { arrivals = r.arrivals + 1; waiting = registering r.waiting f w })
-            (λ c. cond (x.barrier == c) 1 0) (omega (arith, one)) (λ c apart. on_false (x.barrier == c) 1 (ne_eqb x.barrier c apart))
-      ]
-  arrives-at f w x (Some round) =
-      let r : Barrier = barrier_at h x.barrier in
-      let none : (c : ℕ) → cond (x.barrier == c) (arrivals_new (Some round)) 0 ≡ 0 = (λ c. idle (x.barrier == c) (arrivals_new (Some round)) refl) in
-      elim (has_completed r round) as (λ b. Arrives h (if b then quietly (gone h f x) answers.Ready else waiting_on h f w x).hall
-      (λ c. cond (x.barrier == c) (arrivals_new (Some round)) 0)) [
-        | true ↦ arrives-gone f x (λ c. cond (x.barrier == c) (arrivals_new (Some round)) 0) none
-        | false ↦ arrives-put h x.barrier (record r { waiting = registering r.waiting f w })
-            (λ c. cond (x.barrier == c) (arrivals_new (Some round)) 0) (omega (arith, none x.barrier)) (λ c apart. none c)
-      ]
+  arrives-put : (a : ℕ) (p : Barrier) (ws : Names BarrierWait) (count : ℕ → ℕ) → p.arrivals ≡ (barrier_at h a).arrivals + count a → ((b : ℕ) → (a ≡ b → ⊥) → count b ≡ 0) → Arrives h (record { barriers = insert h.barriers a p; waits = ws }) count
+  arrives-put a p ws count here others b there still = by_at_put (new_barrier 1) h.barriers a p (λ c s. s.arrivals ≡ (barrier_at h c).arrivals + count c) here (λ c apart. let none = others c apart in omega (arith, none)) b
 
-  arrives-poll : (f w : ℕ) (o : Option BarrierWait) → Arrives h (poll_of h f w o).hall (arrivals_wait o)
-  arrives-poll f w None = arrives-same h
-  arrives-poll f w (Some x) = arrives-at f w x x.round
+  module _ (f w : ℕ) (x : BarrierWait) (r : Barrier) (there : get h.barriers x.barrier ≡ Some r) where
+    at : barrier_at h x.barrier ≡ r
+    at = ap (λ o. unwrap_or o (new_barrier 1)) there
 
-  arrives-end : (f : ℕ) (o : Option BarrierWait) → Arrives h (end_of h f o).hall (λ b. 0)
-  arrives-end f None = arrives-same h
-  arrives-end f (Some x) = arrives-gone f x (λ b. 0) (λ b. refl)
+    arrives-at : (o : Option ℕ) → Arrives h (barriers.poll_at h f w x r o).hall (λ b. cond (x.barrier == b) (arrivals_new o) 0)
+    arrives-at None =
+        let one = on_true (x.barrier == x.barrier) 1 (eq-eqb x.barrier x.barrier refl) in
+        let arrived : (barrier_at h x.barrier).arrivals ≡ r.arrivals = ap (λ (r : Barrier). r.arrivals) at in
+        by_if (λ (o : Outcome Barriers). Arrives h o.hall (λ c. cond (x.barrier == c) 1 0)) (leads r) _ _
+        (λ leads. arrives-put x.barrier (record r { arrivals = r.arrivals + 1; waiting = [] }) (remove h.waits f) (λ c. cond (x.barrier == c) 1 0) (omega (arith, one, arrived)) (λ c apart. on_false (x.barrier == c) 1 (ne_eqb x.barrier c apart)))
+        (λ follows. arrives-put x.barrier (record r { arrivals = r.arrivals + 1; waiting = registering r.waiting f w }) (insert h.waits f (record x { round = Some (r.arrivals / r.size) })) (λ c. cond (x.barrier == c) 1 0) (omega (arith, one, arrived)) (λ c apart. on_false (x.barrier == c) 1 (ne_eqb x.barrier c apart)))
+    arrives-at (Some round) =
+        let arrived : (barrier_at h x.barrier).arrivals ≡ r.arrivals = ap (λ (r : Barrier). r.arrivals) at in
+        by_if (λ (o : Outcome Barriers). Arrives h o.hall (λ c. cond (x.barrier == c) 0 0)) (has_completed r round) _ _
+        (λ over. arrives-same (barriers.gone h f) refl (λ c. cond (x.barrier == c) 0 0) (λ c. idle (x.barrier == c)))
+        (λ runs. arrives-put x.barrier (record r { waiting = registering r.waiting f w }) h.waits (λ c. cond (x.barrier == c) 0 0) (let none = idle (x.barrier == x.barrier) in omega (arith, none, arrived)) (λ c apart. idle (x.barrier == c)))
+      where
+        idle : (b : Bool) → ◌≡◌ {A = ℕ} (cond b 0 0) 0
+        idle true = refl
+        idle false = refl
 
-  arrives-drop : (a : ℕ) → Arrives h (drop h a).hall (λ b. 0)
-  arrives-drop a b there = by_gone h.barriers a (λ c o. IsSome o → (unwrap_or o (new_barrier 1)).arrivals ≡ (barrier_at h c).arrivals + 0)
-      (λ still. absurd (cc)) (λ c apart still. omega arith) b
+  arrives-poll : (n : ℕ) → HasBarriers h n → (f w : ℕ) (o : Option BarrierWait) → get h.waits f ≡ o → Arrives h (found o h (λ x. found (get h.barriers x.barrier) h (barriers.poll h f w x))).hall (arrivals_wait o)
+  arrives-poll n v f w None absent = arrives-same h refl (λ b. 0) (λ b. refl)
+  arrives-poll n v f w (Some x) future = let it = value_in (get h.barriers x.barrier) (v.waits.at f x future).1 in
+      rw (found_is (get h.barriers x.barrier) h (barriers.poll h f w x) it.0 it.1) (arrives-at f w x it.0 it.1 x.round)
 
-  arrives-make : (n i k : ℕ) → n ≤ i → AreBelow h.barriers n → Arrives h (make h i k).hall (λ b. 0)
-  arrives-make n i k later below b there still = by_at_put (new_barrier 1) h.barriers i (new_barrier k)
-      (λ c r. IsSome (get h.barriers c) → r.arrivals ≡ (barrier_at h c).arrivals + 0)
-      (λ known. absurd (fresh h.barriers n i i later below known refl)) (λ c apart known. omega arith) b there
+  arrives-drop : (a : ℕ) → Arrives h (barriers.drop h a).hall (λ b. 0)
+  arrives-drop a b there = by_gone h.barriers a (λ c o. IsSome o → (unwrap_or o (new_barrier 1)).arrivals ≡ (barrier_at h c).arrivals + 0) (λ still. absurd (cc)) (λ c apart still. omega arith) b
 
-pub arrives : (h : Hall) (n i : ℕ) (e : MeetEvent) → IsValid h n → n ≤ i → Arrives h.barriers (step h i e).hall.barriers (arrivals_by h e)
-arrives h n i (events.BarNew k) v later = arrives-make h.barriers n i k later v.barriers.barriers_below
-arrives h n i (events.BarPoll f w) v later = arrives-poll h.barriers f w (get h.barriers.waits f)
-arrives h n i (events.BarEnd f) v later = arrives-end h.barriers f (get h.barriers.waits f)
-arrives h n i (events.BarDrop b) v later = arrives-drop h.barriers b
-arrives h n i e v later = arrives-same h.barriers
+  arrives-make : (n i k : ℕ) → n ≤ i → HasBarriers h n → Arrives h (barriers.make h i k).hall (λ b. 0)
+  arrives-make n i k later v b there still = by_at_put (new_barrier 1) h.barriers i (new_barrier k) (λ c r. IsSome (get h.barriers c) → r.arrivals ≡ (barrier_at h c).arrivals + 0)
+      (λ known. absurd (let it = value_in (get h.barriers i) known in let low = (v.each i it.0 it.1).below in omega (arith, low, later))) (λ c apart known. omega arith) b there
 
--- ---- the others
-module _ (h : Hall) where
-  bar_end : (f : ℕ) (o : Option BarrierWait) → is_leader (barriers.end_of h.barriers f o).reply ≡ false
-  bar_end f None = refl
-  bar_end f (Some x) = refl
+arrives-doing : (h : Hall) (n i : ℕ) (d : Doing) → IsValid h n → n ≤ i → Arrives h.barriers (step_by h i d).hall.barriers (arrivals_doing h d)
+arrives-doing h n i (OnBarriers (at_barriers.Make k)) v later = arrives-make h.barriers n i k later v.barriers
+arrives-doing h n i (OnBarriers (at_barriers.Begin b)) v later = arrives-same h.barriers (barriers.begin h.barriers i b).hall refl (λ b. 0) (λ b. refl)
+arrives-doing h n i (OnBarriers (at_barriers.Poll f w)) v later = arrives-poll h.barriers n v.barriers f w (get h.barriers.waits f) refl
+arrives-doing h n i (OnBarriers (at_barriers.End f)) v later = arrives-same h.barriers (barriers.gone h.barriers f) refl (λ b. 0) (λ b. refl)
+arrives-doing h n i (OnBarriers (at_barriers.Drop b)) v later = arrives-drop h.barriers b
+arrives-doing h n i (OnCounts k a) v later = still k
+  where
+    still : (k : Kind) → Arrives h.barriers (step_by h i (OnCounts k a)).hall.barriers (λ b. 0)
+    still Latches = arrives-same h.barriers h.barriers refl (λ b. 0) (λ b. refl)
+    still Groups = arrives-same h.barriers h.barriers refl (λ b. 0) (λ b. refl)
+    still Shutdowns = arrives-same h.barriers h.barriers refl (λ b. 0) (λ b. refl)
 
-  lat_try : (l : ℕ) → is_leader (latches.try h.latches l).reply ≡ false
-  lat_try l = elim ((latches.latch_at h.latches l).count.number == 0)
-      as (λ b. is_leader (if b then answers.Accepted else answers.Left (latches.latch_at h.latches l).count.number) ≡ false) [ true ↦ refl | false ↦ refl ]
-
-  -- one of two outcomes of a poll
-  told : {H : Type 0} (b : Bool) (m k : H) → is_leader (if b then quietly m answers.Ready else quietly k answers.Pending).reply ≡ false
-  told true m k = refl
-  told false m k = refl
-
-  -- one of two outcomes of an end
-  done : {H : Type 0} (b : Bool) (m k : H) (ws : List ℕ) → is_leader
-      (if b then quietly m answers.Done else record { hall = k; reply = answers.Done; wakes = ws }).reply ≡ false
-  done true m k ws = refl
-  done false m k ws = refl
-
-  lat_poll : (f w : ℕ) (o : Option LatchWait) → is_leader (latches.poll_of h.latches f w o).reply ≡ false
-  lat_poll f w None = refl
-  lat_poll f w (Some x) = told ((latches.latch_at h.latches x.latch).count.number == 0) _ _
-
-  lat_end : (f : ℕ) (o : Option LatchWait) → is_leader (latches.end_of h.latches f o).reply ≡ false
-  lat_end f None = refl
-  lat_end f (Some x) = refl
-
-  wg_clone : (i : ℕ) (o : Option ℕ) → is_leader (groups.clone_of h.groups i o).reply ≡ false
-  wg_clone i None = refl
-  wg_clone i (Some g) = refl
-
-  wg_into : (i k : ℕ) (o : Option ℕ) → is_leader (groups.into_of h.groups i k o).reply ≡ false
-  wg_into i k None = refl
-  wg_into i k (Some g) = refl
-
-  wg_copy : (i : ℕ) (o : Option ℕ) → is_leader (groups.copy_of h.groups i o).reply ≡ false
-  wg_copy i None = refl
-  wg_copy i (Some g) = refl
-
-  wg_poll : (f w : ℕ) (o : Option ℕ) → is_leader (groups.poll_of h.groups f w o).reply ≡ false
-  wg_poll f w None = refl
-  wg_poll f w (Some g) = told ((groups.group_at h.groups g).number == 0) _ _
-
-  wg_end_wait : (f : ℕ) (o : Option ℕ) → is_leader (groups.end_wait h.groups f o).reply ≡ false
-  wg_end_wait f None = refl
-  wg_end_wait f (Some g) = refl
-
-  wg_end : (x : ℕ) (o : Option ℕ) → is_leader (groups.end_of h.groups x o).reply ≡ false
-  wg_end x None = wg_end_wait x (get h.groups.waits x)
-  wg_end x (Some g) = refl
-
-  sd_copys : (i : ℕ) (o : Option ℕ) → is_leader (shutdowns.copy_sender_of h.shutdowns i o).reply ≡ false
-  sd_copys i None = refl
-  sd_copys i (Some s) = refl
-
-  sd_copyr : (i : ℕ) (o : Option Receiver) → is_leader (shutdowns.copy_receiver_of h.shutdowns i o).reply ≡ false
-  sd_copyr i None = refl
-  sd_copyr i (Some x) = refl
-
-  sd_signal : (o : Option ℕ) → is_leader (shutdowns.signal_of h.shutdowns o).reply ≡ false
-  sd_signal None = refl
-  sd_signal (Some s) = refl
-
-  sd_now : (o : Option Receiver) → is_leader (shutdowns.now_of h.shutdowns o).reply ≡ false
-  sd_now None = refl
-  sd_now (Some x) = elim ((shutdowns.shutdown_at h.shutdowns x.shutdown).signal.number == 0)
-      as (λ b. is_leader (if b then answers.Yes else answers.No) ≡ false) [ true ↦ refl | false ↦ refl ]
-
-  sd_watch : (i : ℕ) (o : Option Receiver) → is_leader (shutdowns.watch_of h.shutdowns i o).reply ≡ false
-  sd_watch i None = refl
-  sd_watch i (Some x) = refl
-
-  sd_wait : (i : ℕ) (borrowed : Option ℕ) (o : Option Receiver) → is_leader (shutdowns.wait_of h.shutdowns i borrowed o).reply ≡ false
-  sd_wait i borrowed None = refl
-  sd_wait i borrowed (Some x) = refl
-
-  sd_await : (i k : ℕ) (o : Option ℕ) → is_leader (shutdowns.await_of h.shutdowns i k o).reply ≡ false
-  sd_await i k None = refl
-  sd_await i k (Some s) = refl
-
-  sd_poll : (f w : ℕ) (o : Option ShutdownWait) → is_leader (shutdowns.poll_of h.shutdowns f w o).reply ≡ false
-  sd_poll f w None = refl
-  sd_poll f w (Some x) = told ((shutdowns.awaited (shutdowns.shutdown_at h.shutdowns x.shutdown) x.awaits).number == 0) _ _
-
-  sd_end : (f : ℕ) (o : Option ShutdownWait) → is_leader (shutdowns.end_of h.shutdowns f o).reply ≡ false
-  sd_end f None = refl
-  sd_end f (Some x) = refl
-
-  sd_ends : (k : ℕ) (o : Option ℕ) → is_leader (shutdowns.end_sender_of h.shutdowns k o).reply ≡ false
-  sd_ends k None = refl
-  sd_ends k (Some s) = refl
-
-  sd_endr : (k : ℕ) (o : Option Receiver) → is_leader (shutdowns.end_receiver_of h.shutdowns k o).reply ≡ false
-  sd_endr k None = refl
-  sd_endr k (Some x) = done x.watch _ _ _
-
-  pub exactly : (i : ℕ) (e : MeetEvent) → is_leader (step h i e).reply ≡ leads_by h e
-  exactly i (events.BarNew k) = refl
-  exactly i (events.BarWait b) = refl
-  exactly i (events.BarPoll f w) = leader-poll h.barriers f w (get h.barriers.waits f)
-  exactly i (events.BarEnd f) = bar_end f (get h.barriers.waits f)
-  exactly i (events.BarDrop b) = refl
-  exactly i (events.LatNew k) = refl
-  exactly i (events.LatCount l) = refl
-  exactly i (events.LatDown l) = refl
-  exactly i (events.LatArrive l k) = refl
-  exactly i (events.LatTry l) = lat_try l
-  exactly i (events.LatWait l) = refl
-  exactly i (events.LatWaito l) = refl
-  exactly i (events.LatPoll f w) = lat_poll f w (get h.latches.waits f)
-  exactly i (events.LatEnd f) = lat_end f (get h.latches.waits f)
-  exactly i (events.LatDrop l) = refl
-  exactly i events.WgNew = refl
-  exactly i (events.WgClone k) = wg_clone i (get h.groups.handles k)
-  exactly i (events.WgInto k) = wg_into i k (get h.groups.handles k)
-  exactly i (events.WgCopy f) = wg_copy i (get h.groups.waits f)
-  exactly i (events.WgPoll f w) = wg_poll f w (get h.groups.waits f)
-  exactly i (events.WgEnd x) = wg_end x (get h.groups.handles x)
-  exactly i events.SdNew = refl
-  exactly i (events.SdCopys k) = sd_copys i (get h.shutdowns.senders k)
-  exactly i (events.SdCopyr k) = sd_copyr i (get h.shutdowns.receivers k)
-  exactly i (events.SdSignal k) = sd_signal (get h.shutdowns.senders k)
-  exactly i (events.SdNow k) = sd_now (get h.shutdowns.receivers k)
-  exactly i (events.SdWatch k) = sd_watch i (get h.shutdowns.receivers k)
-  exactly i (events.SdIs k) = sd_wait i (Some k) (get h.shutdowns.receivers k)
-  exactly i (events.SdIso k) = sd_wait i None (get h.shutdowns.receivers k)
-  exactly i (events.SdAwait k) = sd_await i k (get h.shutdowns.senders k)
-  exactly i (events.SdPoll f w) = sd_poll f w (get h.shutdowns.waits f)
-  exactly i (events.SdEnd f) = sd_end f (get h.shutdowns.waits f)
-  exactly i (events.SdEnds k) = sd_ends k (get h.shutdowns.senders k)
-  exactly i (events.SdEndr k) = sd_endr k (get h.shutdowns.receivers k)
-
-  pub wakes : (i f w : ℕ) (x : BarrierWait) → get h.barriers.waits f ≡ Some x → leads_by h (events.BarPoll f w) ≡ true
-      → (step h i (events.BarPoll f w)).wakes ≡ wakers (barrier_at h.barriers x.barrier).waiting
-  wakes i f w x is e = ap (λ o. (poll_of h.barriers f w o).wakes) is ∙ wakes-at h.barriers f w x x.round (sym (ap (leads_wait h.barriers) is) ∙ e)
+pub arrives : (h : Hall) (n i : ℕ) (e : MeetEvent) → IsValid h n → n ≤ i → (b : ℕ) → IsSome (get h.barriers.barriers b) → IsSome (get (step h i e).hall.barriers.barriers b)
+    → (barrier_at (step h i e).hall.barriers b).arrivals ≡ (barrier_at h.barriers b).arrivals + arrivals_by h e b
+arrives h n i e v later = arrives-doing h n i (doing e) v later
 
 -- ---- how many lead
 -- an arrival that leads ends a round, and no other does

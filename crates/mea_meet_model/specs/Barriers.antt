@@ -1,18 +1,19 @@
 -- barriers by name, with the futures that wait at them
-use Rattle.std.specs.Prelude.{ℕ, ◌+◌, ◌*◌, ◌/◌, ◌%◌, ◌==◌, Bool, cond, List, [], length, Option, Some, None, max, nat_le, unwrap_or, if◌then◌else◌, refl}
-use Rattle.std.specs.Ordering.{nat_cmp}
-use Rattle.std.specs.Coded.{Coded, code_by, coded×, coded_ℕ, coded_option}
-use Rattle.std.specs.FinMap as map
+use Rattle.std.specs.Prelude.{ℕ, ◌+◌, ◌*◌, ◌/◌, ◌%◌, ◌==◌, Bool, [], Option, Some, None, is_some, max, nat_le, unwrap_or, if◌then◌else◌, refl}
+use Rattle.std.specs.Coded.{Coded, code_by, coded×, coded_ℕ, coded_list, coded_option}
+use Rattle.std.specs.FinMap.{empty, get, insert, remove, len}
 use Rattle.mea_family.specs.declared.answer.Answer.TheVariants as answers
 use Rattle.mea_family.specs.Family.{Outcome, quietly}
-use Rattle.mea_base.specs.Totals.{total}
-use Rattle.mea_meet_model.specs.Waiting.{Whose, waker_for, registering, ending, wakers, waiting_code}
+use Rattle.mea_by_name.specs.ByName.{Names, names_code, own}
+use Rattle.mea_by_name.specs.NamedQueue as named_queue
+use Rattle.mea_by_name.specs.NamedQueue.{Waiting, registering, wakers}
 
--- a barrier: how many arrivals make a round, the number of all arrivals so far, and the registered wakers
+-- a barrier: how many arrivals make a round, the number of all arrivals so far, and who is registered, each by its
+-- name and with its waker. One that has ended since stays
 pub record Barrier : Type 0 where
   pub size : ℕ
   pub arrivals : ℕ
-  pub waiting : List (Whose × ℕ)
+  pub waiting : Waiting
 
 -- a future: where it waits, and the number of the round in which it arrived, if it has
 pub record BarrierWait : Type 0 where
@@ -20,55 +21,59 @@ pub record BarrierWait : Type 0 where
   pub round : Option ℕ
 
 pub record Barriers : Type 0 where
-  pub barriers : map.FinMap nat_cmp Barrier
-  pub waits : map.FinMap nat_cmp BarrierWait
+  pub barriers : Names Barrier
+  pub waits : Names BarrierWait
 
 abbrev pub no_barriers : Barriers
-no_barriers = record { barriers = map.empty; waits = map.empty }
+no_barriers = record { barriers = empty; waits = empty }
 
 abbrev pub new_barrier : ℕ → Barrier
 new_barrier n = record { size = max n 1; arrivals = 0; waiting = [] }
 
 -- the barrier of this name; one that nobody waits for, where there is none
 abbrev pub barrier_at : Barriers → ℕ → Barrier
-barrier_at h b = unwrap_or (map.get h.barriers b) (new_barrier 1)
+barrier_at h b = unwrap_or (get h.barriers b) (new_barrier 1)
+
+abbrev pub is_barrier : Barriers → ℕ → Bool
+is_barrier h b = is_some (get h.barriers b)
+
+abbrev pub is_wait : Barriers → ℕ → Bool
+is_wait h f = is_some (get h.waits f)
+
+abbrev pub of_wait : BarrierWait → ℕ
+of_wait x = x.barrier
 
 -- how many futures wait at b
 abbrev pub waits_of : Barriers → ℕ → ℕ
-waits_of h b = total {X = BarrierWait} (λ f x. cond (x.barrier == b) 1 0) h.waits
+waits_of h b = len (own of_wait b h.waits)
+
+abbrev pub queue_of : Barrier → Waiting
+queue_of r = r.waiting
 
 -- how many wakers are registered
 abbrev pub registered : Barriers → ℕ
-registered h = total {X = Barrier} (λ b r. length r.waiting) h.barriers
-
-abbrev pub placed_of : Barriers → ℕ → Option BarrierWait → Option ℕ
-placed_of h f None = None
-placed_of h f (Some x) = waker_for (barrier_at h x.barrier).waiting f
+registered h = named_queue.registered queue_of h.barriers
 
 -- the waker that is registered for f
 abbrev pub placed : Barriers → ℕ → Option ℕ
-placed h f = placed_of h f (map.get h.waits f)
+placed h f = named_queue.placed queue_of of_wait h.barriers h.waits f
 
 -- ---- what the events do
 abbrev pub make : Barriers → ℕ → ℕ → Outcome Barriers
-make h i n = quietly (record h { barriers = map.insert h.barriers i (new_barrier n) }) answers.Made
+make h i n = quietly (record h { barriers = insert h.barriers i (new_barrier n) }) answers.Made
 
-abbrev pub wait : Barriers → ℕ → ℕ → Outcome Barriers
-wait h i b = quietly (record h { waits = map.insert h.waits i (record { barrier = b; round = None }) }) answers.Made
+abbrev pub begin : Barriers → ℕ → ℕ → Outcome Barriers
+begin h i b = quietly (record h { waits = insert h.waits i (record { barrier = b; round = None }) }) answers.Made
 
 abbrev pub drop : Barriers → ℕ → Outcome Barriers
-drop h b = quietly (record h { barriers = map.remove h.barriers b }) answers.Done
+drop h b = quietly (record h { barriers = remove h.barriers b }) answers.Done
 
 -- f is gone; its arrival and its waker stay
-abbrev pub gone : Barriers → ℕ → BarrierWait → Barriers
-gone h f x = record {
-  barriers = map.insert h.barriers x.barrier (record (barrier_at h x.barrier) { waiting = ending (barrier_at h x.barrier).waiting f });
-  waits = map.remove h.waits f;
-}
+abbrev pub gone : Barriers → ℕ → Barriers
+gone h f = record h { waits = remove h.waits f }
 
-abbrev pub end_of : Barriers → ℕ → Option BarrierWait → Outcome Barriers
-end_of h f None = quietly h answers.Done
-end_of h f (Some x) = quietly (gone h f x) answers.Done
+abbrev pub end : Barriers → ℕ → Outcome Barriers
+end h f = quietly (gone h f) answers.Done
 
 -- the next arrival leads: the number of arrivals that it makes is a multiple of the size
 abbrev pub leads : Barrier → Bool
@@ -79,43 +84,37 @@ abbrev pub has_completed : Barrier → ℕ → Bool
 has_completed r round = nat_le ((round + 1) * r.size) r.arrivals
 
 -- the arrival of f leads: all who are registered are woken and leave
-abbrev pub leading : Barriers → ℕ → BarrierWait → Outcome Barriers
-leading h f x = record {
-  hall = record {
-    barriers = map.insert h.barriers x.barrier (record (barrier_at h x.barrier) { arrivals = (barrier_at h x.barrier).arrivals + 1; waiting = [] });
-    waits = map.remove h.waits f;
-  };
+abbrev pub leading : Barriers → ℕ → BarrierWait → Barrier → Outcome Barriers
+leading h f x r = record {
+  hall = record { barriers = insert h.barriers x.barrier (record r { arrivals = r.arrivals + 1; waiting = [] }); waits = remove h.waits f };
   reply = answers.Leader;
-  wakes = wakers (barrier_at h x.barrier).waiting;
+  wakes = wakers r.waiting;
 }
 
 -- f arrives in the round under way, whose number is that of the arrivals by the size, and waits
-abbrev pub joining : Barriers → ℕ → ℕ → BarrierWait → Outcome Barriers
-joining h f w x = quietly (record {
-  barriers = map.insert h.barriers x.barrier (record (barrier_at h x.barrier) { arrivals = (barrier_at h x.barrier).arrivals + 1; waiting = registering (barrier_at h x.barrier).waiting f w });
-  waits = map.insert h.waits f (record x { round = Some ((barrier_at h x.barrier).arrivals / (barrier_at h x.barrier).size) });
+abbrev pub joining : Barriers → ℕ → ℕ → BarrierWait → Barrier → Outcome Barriers
+joining h f w x r = quietly (record {
+  barriers = insert h.barriers x.barrier (record r { arrivals = r.arrivals + 1; waiting = registering r.waiting f w });
+  waits = insert h.waits f (record x { round = Some (r.arrivals / r.size) });
 }) answers.Pending
 
 -- f waits on
-abbrev pub waiting_on : Barriers → ℕ → ℕ → BarrierWait → Outcome Barriers
-waiting_on h f w x = quietly (record h { barriers = map.insert h.barriers x.barrier (record (barrier_at h x.barrier) { waiting = registering (barrier_at h x.barrier).waiting f w }) }) answers.Pending
+abbrev pub waiting_on : Barriers → ℕ → ℕ → BarrierWait → Barrier → Outcome Barriers
+waiting_on h f w x r = quietly (record h { barriers = insert h.barriers x.barrier (record r { waiting = registering r.waiting f w }) }) answers.Pending
 
-abbrev pub poll_at : Barriers → ℕ → ℕ → BarrierWait → Option ℕ → Outcome Barriers
-poll_at h f w x None = if leads (barrier_at h x.barrier) then leading h f x else joining h f w x
-poll_at h f w x (Some round) = if has_completed (barrier_at h x.barrier) round then quietly (gone h f x) answers.Ready else waiting_on h f w x
+abbrev pub poll_at : Barriers → ℕ → ℕ → BarrierWait → Barrier → Option ℕ → Outcome Barriers
+poll_at h f w x r None = if leads r then leading h f x r else joining h f w x r
+poll_at h f w x r (Some round) = if has_completed r round then quietly (gone h f) answers.Ready else waiting_on h f w x r
 
-abbrev pub poll_of : Barriers → ℕ → ℕ → Option BarrierWait → Outcome Barriers
-poll_of h f w None = quietly h answers.Pending
-poll_of h f w (Some x) = poll_at h f w x x.round
+abbrev pub poll : Barriers → ℕ → ℕ → BarrierWait → Barrier → Outcome Barriers
+poll h f w x r = poll_at h f w x r x.round
 
 -- ---- codes, by which a proof tells two values apart
 abbrev pub barrier_code : Coded Barrier
-barrier_code = code_by (ℕ × (ℕ × List (Whose × ℕ))) (coded× coded_ℕ (coded× coded_ℕ waiting_code)) (λ r. (r.size, (r.arrivals, r.waiting))) (λ p. record { size = p.0; arrivals = p.1.0; waiting = p.1.1 }) (λ _. refl)
+barrier_code = code_by (ℕ × (ℕ × Waiting)) (coded× coded_ℕ (coded× coded_ℕ (coded_list (coded× coded_ℕ coded_ℕ)))) (λ r. (r.size, (r.arrivals, r.waiting))) (λ p. record { size = p.0; arrivals = p.1.0; waiting = p.1.1 }) (λ _. refl)
 
 abbrev pub wait_code : Coded BarrierWait
 wait_code = code_by (ℕ × Option ℕ) (coded× coded_ℕ (coded_option coded_ℕ)) (λ x. (x.barrier, x.round)) (λ p. record { barrier = p.0; round = p.1 }) (λ _. refl)
 
 abbrev pub barriers_code : Coded Barriers
-barriers_code =
-    code_by (map.FinMap nat_cmp Barrier × map.FinMap nat_cmp BarrierWait) (coded× (map.code coded_ℕ barrier_code) (map.code coded_ℕ wait_code))
-    (λ h. (h.barriers, h.waits)) (λ p. record { barriers = p.0; waits = p.1 }) (λ _. refl)
+barriers_code = code_by (Names Barrier × Names BarrierWait) (coded× (names_code barrier_code) (names_code wait_code)) (λ h. (h.barriers, h.waits)) (λ p. record { barriers = p.0; waits = p.1 }) (λ _. refl)

@@ -1,11 +1,12 @@
 -- a count whose end is waited for: of a latch, of a wait group, of a shutdown's signal and its receivers
 use Rattle.std.specs.Prelude.{ℕ, ◌+◌, ◌-◌, ◌&&◌, Bool, List, [], nat_lt, nat_le, if◌then◌else◌, refl}
-use Rattle.std.specs.Coded.{Coded, code_by, coded×, coded_ℕ}
-use Rattle.mea_meet_model.specs.Waiting.{Whose, registering, ending, wakers, waiting_code}
+use Rattle.std.specs.Coded.{Coded, code_by, coded×, coded_ℕ, coded_list}
+use Rattle.mea_by_name.specs.NamedQueue.{Waiting, registering, wakers}
 
+-- its number, and who is registered on its end, each by its name and with its waker. One that has ended since stays
 pub record Count : Type 0 where
   pub number : ℕ
-  pub waiting : List (Whose × ℕ)
+  pub waiting : Waiting
 
 -- a count that nobody waits for
 abbrev pub count_from : ℕ → Count
@@ -30,9 +31,5 @@ increased c = record c { number = c.number + 1 }
 abbrev pub with_waker : Count → ℕ → ℕ → Count
 with_waker c f w = record c { waiting = registering c.waiting f w }
 
--- f has ended; its waker stays
-abbrev pub without_future : Count → ℕ → Count
-without_future c f = record c { waiting = ending c.waiting f }
-
 abbrev pub count_code : Coded Count
-count_code = code_by (ℕ × List (Whose × ℕ)) (coded× coded_ℕ waiting_code) (λ c. (c.number, c.waiting)) (λ p. record { number = p.0; waiting = p.1 }) (λ _. refl)
+count_code = code_by (ℕ × Waiting) (coded× coded_ℕ (coded_list (coded× coded_ℕ coded_ℕ))) (λ c. (c.number, c.waiting)) (λ p. record { number = p.0; waiting = p.1 }) (λ _. refl)

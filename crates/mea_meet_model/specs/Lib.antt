@@ -1,12 +1,12 @@
-pub mod Waiting
 pub mod Count
+pub mod Counts
+pub mod CountActions
 pub mod Barriers
-pub mod Latches
-pub mod Groups
-pub mod Shutdowns
+pub mod BarrierActions
 pub mod Hall
+pub mod Meaning
 pub mod Cause
 pub mod Step
-pub mod Leaders
 pub mod Meets
 pub mod Valid
+pub mod Leaders

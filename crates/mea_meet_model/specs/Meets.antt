@@ -1,61 +1,65 @@
 -- the meeting points as one of the families
-use Rattle.std.specs.Prelude.{ℕ, ◌==◌, Bool, false, cond, Option, Some, None}
+use Rattle.std.specs.Prelude.{ℕ, Bool, false, Option, None}
 use Rattle.mea_family.specs.Family.{Family}
 use Rattle.mea_events.specs.declared.meet_event.MeetEvent.{MeetEvent}
-use Rattle.mea_events.specs.declared.meet_event.MeetEvent.TheVariants.{BarPoll, BarEnd, LatPoll, LatEnd, WgPoll, WgEnd, SdPoll, SdEnd}
 use Rattle.mea_meet_model.specs.Barriers as barriers
-use Rattle.mea_meet_model.specs.Latches as latches
-use Rattle.mea_meet_model.specs.Groups as groups
-use Rattle.mea_meet_model.specs.Shutdowns as shutdowns
-use Rattle.mea_meet_model.specs.Hall.{Hall, empty_hall}
-use Rattle.mea_meet_model.specs.Cause.{cause_of, is_barrier_wait, is_latch_wait, is_group_wait, is_shutdown_wait}
+use Rattle.mea_meet_model.specs.Counts as counts
+use Rattle.mea_meet_model.specs.CountActions.{polled_in, ends_in}
+use Rattle.mea_meet_model.specs.BarrierActions.{polled_at, ends_at}
+use Rattle.mea_meet_model.specs.Hall.{Hall, Kind, Latches, Groups, Shutdowns, empty_hall, part}
+use Rattle.mea_meet_model.specs.Meaning.{Doing, OnBarriers, OnCounts, doing}
+use Rattle.mea_meet_model.specs.Cause.{cause_of}
 use Rattle.mea_meet_model.specs.Step.{step}
 
--- a future, by its kind and its name
-pub data Future : Type 0 where
-  AtBarrier : ℕ → Future
-  ForLatch : ℕ → Future
-  ForGroup : ℕ → Future
-  ForShutdown : ℕ → Future
+-- whose a future is: of a barrier, or of a point that counts, of a kind
+pub data Sort : Type 0 where
+  AtBarrier : Sort
+  Of : Kind → Sort
 
--- the waker, if the two names are one
-abbrev pub waker_if : ℕ → ℕ → ℕ → Option ℕ
-waker_if g f w = cond (g == f) (Some w) None
+-- a future, by its sort and its name
+pub record Future : Type 0 where
+  pub sort : Sort
+  pub name : ℕ
+
+abbrev pub polled_by : Doing → Sort → ℕ → Option ℕ
+polled_by (OnBarriers a) AtBarrier f = polled_at a f
+polled_by (OnCounts Latches a) (Of Latches) f = polled_in a f
+polled_by (OnCounts Groups a) (Of Groups) f = polled_in a f
+polled_by (OnCounts Shutdowns a) (Of Shutdowns) f = polled_in a f
+polled_by _ _ f = None
 
 -- the waker with which an event polls a future, if it does
 abbrev pub polled : MeetEvent → Future → Option ℕ
-polled (BarPoll g w) (AtBarrier f) = waker_if g f w
-polled (LatPoll g w) (ForLatch f) = waker_if g f w
-polled (WgPoll g w) (ForGroup f) = waker_if g f w
-polled (SdPoll g w) (ForShutdown f) = waker_if g f w
-polled _ _ = None
+polled e f = polled_by (doing e) f.sort f.name
+
+abbrev pub ends_by : Doing → Sort → ℕ → Bool
+ends_by (OnBarriers a) AtBarrier f = ends_at a f
+ends_by (OnCounts Latches a) (Of Latches) f = ends_in a f
+ends_by (OnCounts Groups a) (Of Groups) f = ends_in a f
+ends_by (OnCounts Shutdowns a) (Of Shutdowns) f = ends_in a f
+ends_by _ _ f = false
 
 -- an event abandons a future
 abbrev pub ends : MeetEvent → Future → Bool
-ends (BarEnd g) (AtBarrier f) = g == f
-ends (LatEnd g) (ForLatch f) = g == f
-ends (WgEnd g) (ForGroup f) = g == f
-ends (SdEnd g) (ForShutdown f) = g == f
-ends _ _ = false
+ends e f = ends_by (doing e) f.sort f.name
 
 abbrev pub name : Future → ℕ
-name (AtBarrier f) = f
-name (ForLatch f) = f
-name (ForGroup f) = f
-name (ForShutdown f) = f
+name f = f.name
+
+abbrev pub lives_as : Hall → Sort → ℕ → Bool
+lives_as h AtBarrier f = barriers.is_wait h.barriers f
+lives_as h (Of k) f = counts.is_wait (part h k) f
 
 abbrev pub lives : Hall → Future → Bool
-lives h (AtBarrier f) = is_barrier_wait h f
-lives h (ForLatch f) = is_latch_wait h f
-lives h (ForGroup f) = is_group_wait h f
-lives h (ForShutdown f) = is_shutdown_wait h f
+lives h f = lives_as h f.sort f.name
+
+abbrev pub placed_as : Hall → Sort → ℕ → Option ℕ
+placed_as h AtBarrier f = barriers.placed h.barriers f
+placed_as h (Of k) f = counts.placed (part h k) f
 
 -- the waker that is registered for a future
 abbrev pub placed : Hall → Future → Option ℕ
-placed h (AtBarrier f) = barriers.placed h.barriers f
-placed h (ForLatch f) = latches.placed h.latches f
-placed h (ForGroup f) = groups.placed h.groups f
-placed h (ForShutdown f) = shutdowns.placed h.shutdowns f
+placed h f = placed_as h f.sort f.name
 
 abbrev pub meets : Family
 meets = record { Hall = Hall; Event = MeetEvent; Future = Future; empty = empty_hall; cause = cause_of; step = step; polled = polled; ends = ends; name = name; lives = lives; placed = placed }

@@ -2,7 +2,7 @@ ghost use Rattle.std.specs.Prelude.{◌≡◌, ℕ, ◌+◌, ◌≤◌, true, So
 ghost use Rattle.std.specs.FinMap as finmap;
 ghost use Rattle.mea_events.specs.declared.meet_event.MeetEvent.{MeetEvent as Event};
 ghost use Rattle.mea_events.specs.declared.meet_event.MeetEvent.TheVariants as events;
-ghost use Rattle.mea_meet_model.specs.Waiting.{wakers};
+ghost use Rattle.mea_by_name.specs.NamedQueue.{wakers};
 ghost use Rattle.mea_meet_model.specs.Barriers.{Barrier, BarrierWait, barrier_at};
 ghost use Rattle.mea_meet_model.specs.Hall.{Hall};
 ghost use Rattle.mea_meet_model.specs.Step.{step};

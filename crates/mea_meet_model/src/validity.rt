@@ -2,10 +2,7 @@ ghost use Rattle.std.specs.Prelude.{◌≡◌, ℕ, ◌+◌, ◌<◌, ◌≤◌,
 ghost use Rattle.std.specs.FinMap as finmap;
 ghost use Rattle.mea_family.specs.Family.{RunOf, IsRun};
 ghost use Rattle.mea_events.specs.declared.meet_event.MeetEvent.{MeetEvent as Event};
-ghost use Rattle.mea_meet_model.specs.Latches as latches;
-ghost use Rattle.mea_meet_model.specs.Groups as groups;
-ghost use Rattle.mea_meet_model.specs.Shutdowns as shutdowns;
-ghost use Rattle.mea_meet_model.specs.Shutdowns.{borrowers_of};
+ghost use Rattle.mea_meet_model.specs.Counts.{is_live, borrowers_of};
 ghost use Rattle.mea_meet_model.specs.Hall.{Hall, empty_hall};
 ghost use Rattle.mea_meet_model.specs.Cause.{cause_of};
 ghost use Rattle.mea_meet_model.specs.Step.{step};
@@ -29,12 +26,12 @@ pub fn halls_are_valid()
 /// A latch is there exactly while it is named or a future of it lives, a group while a handle or a future of
 /// it lives, and a shutdown while a sender, a receiver, a watch or a future of it lives.
 pub fn what_is_there_lives()
-    ensures latches { (h : Hall) (n : ℕ) → IsValid h n → (l : ℕ) → is_some (finmap.get h.latches.latches l) ≡ latches.is_live h.latches l }
-    ensures groups { (h : Hall) (n : ℕ) → IsValid h n → (g : ℕ) → is_some (finmap.get h.groups.groups g) ≡ groups.is_live h.groups g }
-    ensures shutdowns { (h : Hall) (n : ℕ) → IsValid h n → (s : ℕ) → is_some (finmap.get h.shutdowns.shutdowns s) ≡ shutdowns.is_live h.shutdowns s }
+    ensures latches { (h : Hall) (n : ℕ) → IsValid h n → (l : ℕ) → is_some (finmap.get h.latches.points l) ≡ is_live h.latches l }
+    ensures groups { (h : Hall) (n : ℕ) → IsValid h n → (g : ℕ) → is_some (finmap.get h.groups.points g) ≡ is_live h.groups g }
+    ensures shutdowns { (h : Hall) (n : ℕ) → IsValid h n → (s : ℕ) → is_some (finmap.get h.shutdowns.points s) ≡ is_live h.shutdowns s }
 {}
 
 /// A receiver or watch that a plain future borrows is there.
 pub fn a_borrowed_receiver_is_there()
-    ensures { (h : Hall) (n : ℕ) → IsValid h n → (r : ℕ) → 0 < borrowers_of h.shutdowns r → IsSome (finmap.get h.shutdowns.receivers r) }
+    ensures { (h : Hall) (n : ℕ) → IsValid h n → (r : ℕ) → 0 < borrowers_of h.shutdowns r → IsSome (finmap.get h.shutdowns.holders r) }
 {}

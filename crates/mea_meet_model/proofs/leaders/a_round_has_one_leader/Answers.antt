@@ -8,7 +8,7 @@ pub returns-clause-wakes : goal.returns-clause-wakes
 returns-clause-wakes c = wakes
 
 pub returns-clause-arrives : goal.returns-clause-arrives
-returns-clause-arrives c = arrives
+returns-clause-arrives c = λ h n i e v later. arrives h n i e v later
 
 pub returns-clause-one : goal.returns-clause-one
 returns-clause-one c = one

@@ -1,4 +1,4 @@
-use Rattle.mea_meet_model.proofs.ShutdownKept.{lender_there}
+use Rattle.mea_meet_model.proofs.Living.{lender_there}
 use Rattle.mea_meet_model.proofs.validity.a_borrowed_receiver_is_there.Goals as goal
 
 pub returns : goal.returns

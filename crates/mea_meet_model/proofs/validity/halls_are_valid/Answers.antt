@@ -1,4 +1,4 @@
-use Rattle.mea_meet_model.proofs.KeptWakers.{valid_run}
+use Rattle.mea_meet_model.proofs.EachEvent.{valid_run}
 use Rattle.mea_meet_model.proofs.validity.halls_are_valid.Goals as goal
 
 pub returns : goal.returns

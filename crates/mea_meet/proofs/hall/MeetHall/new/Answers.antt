@@ -1,18 +1,19 @@
-use Rattle.std.proofs.Common.{◌≡◌, arith, ap, sym, subst, ◌∙◌}
+use Rattle.std.proofs.Common.{ℕ, ap, sym, subst, arith, ◌∙◌}
+use Rattle.mea_base.specs.Ready.{Waking}
 use Rattle.mea_meet_model.specs.Hall.{Hall, registered}
 use Rattle.mea_meet_model.specs.Valid.{IsValid}
-use Rattle.mea_meet.specs.Parts.{hall_of}
-use Rattle.mea_meet.proofs.Counts.{none_registered}
+use Rattle.mea_meet_model.proofs.Registrations.{none_registered}
 use Rattle.mea_meet.proofs.hall.MeetHall.new.Goals as goal
 
 pub invariant_of-result : goal.invariant_of-result
 invariant_of-result c =
-    let none : registered (hall_of c.new.result.barriers c.new.result.latches c.new.result.groups c.new.result.shutdowns) ≡ 0 =
-    ap registered c.new.ensures.hall ∙ none_registered in
-    let ready = ap (λ r. r.registered) c.new-2.ensures in
+    let none = ap (λ (r : Waking ℕ). r.registered) c.new-2.ensures in
     record {
-      low = c.new.ensures.low;
-      counted = ready ∙ sym none;
-      few = omega (arith, ready);
+      barriers = omega (arith, c.new.ensures.barriers);
+      latches = omega (arith, c.new.ensures.latches);
+      groups = omega (arith, c.new.ensures.groups);
+      shutdowns = omega (arith, c.new.ensures.shutdowns);
+      counted = none ∙ sym (ap registered c.new.ensures.hall ∙ none_registered);
+      few = omega (arith, none);
       valid = subst (λ (h : Hall). IsValid h 0) (sym c.new.ensures.hall) c.validity_is_kept.ensures.empty;
     }
