@@ -3,8 +3,7 @@ ghost use Rattle.mea_io.specs.Bytes.{Rose};
 ghost use Rattle.mea_hall.specs.World.{empty_world};
 ghost use Rattle.mea_marks.specs.Events.{ShowsStages};
 ghost use Rattle.mea_picture.specs.Drawing.{draw_status, IsDrawFault, Draws, EndsAlike};
-ghost use Rattle.mea_run.specs.Script.{status_of};
-ghost use Rattle.mea_draw.specs.Drawing.{hall_steps, drawing_of, IsDraw};
+ghost use Rattle.mea_draw.specs.Drawing.{hall_steps, drawing_of, played_status, IsDraw};
 ghost use Rattle.mea_draw.specs.Model.{PollsAlike};
 
 use crate::halls::Halls;
@@ -18,7 +17,7 @@ use std::alloc::Global;
 fn drawings_are_faithful()
     ensures stages { (script : List ℕ) → ShowsStages hall_steps empty_world script }
     ensures polls { PollsAlike }
-    ensures alike { (script : List ℕ) → EndsAlike (drawing_of script) (status_of script) }
+    ensures alike { (script : List ℕ) → EndsAlike (drawing_of script) (played_status script) }
 {}
 
 /// All that the program does, with the words of its command line after its name, of which there are none. It reads a
@@ -45,7 +44,7 @@ pub fn run_draw<S: Source, K: Sink>(
         → Draws (drawing_of script) result before (K.taken sink.new) }
 
     // The status is that with which the script is played, where there is not too much.
-    ensures alike { (script : List ℕ) → EndsAlike (drawing_of script) (status_of script) }
+    ensures alike { (script : List ℕ) → EndsAlike (drawing_of script) (played_status script) }
 
     // Of each script: the row of each thing shows how far it has come, by the events and replies of the model.
     ensures stages { (script : List ℕ) → ShowsStages hall_steps empty_world script }

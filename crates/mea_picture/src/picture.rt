@@ -34,7 +34,8 @@ fn put_head(text: &mut Vec<u8>, width: u64, height: u64) -> Result<(), NoMemory>
     put_decimal(text, width)?;
     put_text(text, b"\" height=\"")?;
     put_decimal(text, height)?;
-    put_text(text, STYLE)
+    put_text(text, STYLE)?;
+    Ok(())
 }
 
 fn put_decimal(text: &mut Vec<u8>, n: u64) -> Result<(), NoMemory>
@@ -75,5 +76,6 @@ fn put_group(
     put_mark(text, mark)?;
     put_text(text, b"\">")?;
     put_shapes(alloc, text, shapes)?;
-    put_text(text, b"</g>\n")
+    put_text(text, b"</g>\n")?;
+    Ok(())
 }
