@@ -35,7 +35,7 @@ pub fn put_reply(
     kept.add(Reply {
         answer: answer_of(word, numbers.as_slice()),
         wakes,
-        free: free.and_then(number_of),
+        free: free.and_then(|digits| number_of(digits)),
     })
 }
 
