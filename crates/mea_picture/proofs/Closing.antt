@@ -1,6 +1,6 @@
 -- a picture that is written
-use Rattle.std.proofs.Common.{◌≡◌, ◌≢◌, ◌⊎◌, inl, inr, ℕ, List, Option, refl, ap, sym, ◌∙◌}
-use Rattle.mea_io.specs.Bytes.{HasWritten, HasWrittenPart}
+use Rattle.std.proofs.Common.{◌≡◌, ◌≢◌, inl, inr, ℕ, List, Option, refl, ap, sym, ◌∙◌}
+use Rattle.mea_io.specs.Bytes.{HasWritten}
 use Rattle.mea_script.specs.declared.status.Status.{Status}
 use Rattle.mea_script.specs.Runs.{IsWriteFault, IsClosed}
 use Rattle.mea_marks.specs.declared.ending.Ending.{Ending}

@@ -1,4 +1,4 @@
-use Rattle.std.proofs.Common.{◌≡◌, ◌⊎◌, ap, subst, ◌∙◌}
+use Rattle.std.proofs.Common.{◌≡◌, ◌⊎◌, subst, ◌∙◌}
 use Rattle.mea_marks.specs.Script.{Shown, shown_of, seen}
 use Rattle.mea_picture.specs.Drawing.{draw_status, IsDrawFault, Draws}
 use Rattle.mea_marks.proofs.Lines.{shown_read}
