@@ -1,0 +1,4 @@
+pub mod Drawing
+pub mod Puts
+pub mod Closing
+pub mod Played
