@@ -45,14 +45,14 @@ pub trait CountCore: Drop {
 
     /// Counts one member more, where one lives.
     fn add(&mut self)
-        requires lives { 0 < (point_of self.old).receivers.number }
         requires fits { (point_of self.old).receivers.number ≢ 4294967295 }
-        ensures { point_of self.new ≡ joined (point_of self.old) true };
+        ensures lives { 0 < (point_of self.old).receivers.number → point_of self.new ≡ joined (point_of self.old) true }
+        ensures none { (point_of self.old).receivers.number ≡ 0 → point_of self.new ≡ point_of self.old };
 
-    /// Counts one member less.
+    /// Counts one member less, where one lives.
     fn leave(&mut self)
-        requires { 0 < (point_of self.old).receivers.number }
-        ensures { point_of self.new ≡ parted (point_of self.old) true };
+        ensures lives { 0 < (point_of self.old).receivers.number → point_of self.new ≡ parted (point_of self.old) true }
+        ensures none { (point_of self.old).receivers.number ≡ 0 → point_of self.new ≡ point_of self.old };
 
     /// Polls a wait for the signal. On an error nothing has changed.
     fn poll_signal(&mut self, wait: &mut LatchWait, waker: NamedWaker) -> Result<Poll<()>, NoMemory>

@@ -35,6 +35,9 @@ impl CountCore for GroupCore<NamedWaker> {
     fn arrive(&mut self, _n: u32) {}
 
     fn add(&mut self) {
+        if self.handles() == 0 {
+            return;
+        }
         match GroupCore::add(self) {
             Err(_) => unreachable!(),
             Ok(()) => {}
@@ -42,7 +45,9 @@ impl CountCore for GroupCore<NamedWaker> {
     }
 
     fn leave(&mut self) {
-        GroupCore::leave(self);
+        if self.handles() > 0 {
+            GroupCore::leave(self);
+        }
     }
 
     fn poll_signal(

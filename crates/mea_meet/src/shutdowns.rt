@@ -37,6 +37,9 @@ impl CountCore for ShutdownCore<NamedWaker> {
     }
 
     fn add(&mut self) {
+        if self.receivers() == 0 {
+            return;
+        }
         match self.add_receiver() {
             Err(_) => unreachable!(),
             Ok(()) => {}
@@ -44,7 +47,9 @@ impl CountCore for ShutdownCore<NamedWaker> {
     }
 
     fn leave(&mut self) {
-        self.end_receiver();
+        if self.receivers() > 0 {
+            self.end_receiver();
+        }
     }
 
     fn poll_signal(
