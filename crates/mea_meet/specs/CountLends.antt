@@ -1,8 +1,8 @@
 -- the cores of points that count which a hall lends, and the records that they stand for: the same numbers, and the same
 -- who wait, with the same wakers in the same order
-use Rattle.std.specs.Prelude.{ℕ, ◌≡◌, Some}
+use Rattle.std.specs.Prelude.{ℕ, ◌≡◌, Bool, false, Some, is_some, if◌then◌else◌}
 use Rattle.std.specs.FinMap.{get}
-use Rattle.mea_meet_model.specs.Counts.{Counts}
+use Rattle.mea_meet_model.specs.Counts.{Counts, is_holder}
 use Rattle.mea_by_name.specs.declared.named_waker.NamedWaker.{NamedWaker}
 use Rattle.mea_sets.specs.Countdown.{Counting}
 use Rattle.mea_meet.specs.CountCores.{NamedPoint, latch_seen, group_seen}
@@ -19,3 +19,7 @@ StandsForGroup h g c = StandsFor h g (group_seen c)
 
 abbrev pub StandsForShutdown : Counts → ℕ → NamedPoint → Type 0
 StandsForShutdown h s c = StandsFor h s c
+
+-- a latch is named while it is there with the holder that was made with it, which goes when it is dropped
+abbrev pub is_named : Counts → ℕ → Bool
+is_named h l = if is_holder h l then is_some (get h.points l) else false

@@ -1,12 +1,12 @@
 ghost use Rattle.std.specs.Prelude.{◌≡◌, ◌≢◌, ◌≤◌, ◌∷◌, [], ◌⊎◌, length, is_some, OnOk, OnErr, IfOk, IfErr, IfSome, IfNone, None, Some};
-ghost use Rattle.std.specs.FinMap as map;
 ghost use Rattle.mea_meet_model.specs.Barriers.{is_barrier};
+ghost use Rattle.mea_meet_model.specs.Counts.{is_live};
 ghost use Rattle.mea_meet_model.specs.Hall.{empty_hall, registered};
 ghost use Rattle.mea_meet_model.specs.Cause.{cause_of};
 ghost use Rattle.mea_meet_model.specs.Valid.{IsValid};
 ghost use Rattle.mea_meet.specs.Play.{Play, Plays, TakesNoMemory};
 ghost use Rattle.mea_meet.specs.BarrierParts.{StandsForBarrier};
-ghost use Rattle.mea_meet.specs.CountLends.{StandsForLatch, StandsForGroup, StandsForShutdown};
+ghost use Rattle.mea_meet.specs.CountLends.{is_named, StandsForLatch, StandsForGroup, StandsForShutdown};
 
 use crate::kinds::Kinds;
 use mea_base::Ready;
@@ -14,7 +14,7 @@ use mea_by_name::NamedWaker;
 use mea_events::MeetEvent;
 use mea_family::{Answer, Stop};
 use mea_meet_core::{BarrierCore, GroupCore, LatchCore, ShutdownCore};
-use mea_meet_model::{validity_is_kept, wakes_are_of_the_registered};
+use mea_meet_model::{validity_is_kept, wakes_are_of_the_registered, what_is_there_lives};
 use std::alloc::Global;
 use std::marker::Model;
 
@@ -102,29 +102,35 @@ impl MeetHall {
         self.kinds.barriers.core(name)
     }
 
-    /// The core of the latch of this name, while its name or a future of it lives. It takes no memory.
+    /// The core of the latch of this name, where it was not dropped. It takes no memory.
     pub fn latch(&self, name: u64) -> Option<&LatchCore<NamedWaker>>
-        ensures lives { is_some result ≡ is_some (map.get self.now.hall.latches.points name) }
+        ensures lives { is_some result ≡ is_named self.now.hall.latches name }
         ensures stands { IfSome result (λ core. StandsForLatch self.now.hall.latches name core.now) }
     {
-        self.kinds.latches.core(name)
+        if self.kinds.latches.is_holder(name) {
+            self.kinds.latches.core(name)
+        } else {
+            None
+        }
     }
 
     /// The core of the wait group of this name, while a handle or a future of it lives. It takes no
     /// memory.
     pub fn group(&self, name: u64) -> Option<&GroupCore<NamedWaker>>
-        ensures lives { is_some result ≡ is_some (map.get self.now.hall.groups.points name) }
+        ensures lives { is_some result ≡ is_live self.now.hall.groups name }
         ensures stands { IfSome result (λ core. StandsForGroup self.now.hall.groups name core.now) }
     {
+        what_is_there_lives();
         self.kinds.groups.core(name)
     }
 
     /// The core of the shutdown of this name, while a sender, receiver, watch or future of it lives. It
     /// takes no memory.
     pub fn shutdown(&self, name: u64) -> Option<&ShutdownCore<NamedWaker>>
-        ensures lives { is_some result ≡ is_some (map.get self.now.hall.shutdowns.points name) }
+        ensures lives { is_some result ≡ is_live self.now.hall.shutdowns name }
         ensures stands { IfSome result (λ core. StandsForShutdown self.now.hall.shutdowns name core.now) }
     {
+        what_is_there_lives();
         self.kinds.shutdowns.core(name)
     }
 
