@@ -14,6 +14,8 @@ use Rattle.mea_events.specs.declared.share_event.ShareEvent.TheVariants as share
 use Rattle.mea_events.specs.declared.once_event.OnceEvent.{OnceEvent}
 use Rattle.mea_events.specs.declared.once_event.OnceEvent.TheVariants as onces
 use Rattle.mea_sem_model.specs.Runs as sem
+use Rattle.mea_meet_model.specs.Hall as kinds
+use Rattle.mea_meet_model.specs.Hall.{Latches, Shutdowns}
 use Rattle.mea_meet_model.specs.Meets as meet
 use Rattle.mea_lock_model.specs.LockHall.{Mutexes, RwLocks}
 use Rattle.mea_lock_model.specs.LockFamily as lock
@@ -27,14 +29,14 @@ use Rattle.mea_marks.specs.declared.sort.Sort.TheVariants as sorts
 use Rattle.mea_marks.specs.Deeds.{deed_of, semaphore_deed, meet_deed, lock_deed, chan_deed, share_deed, once_deed}
 use Rattle.mea_marks.specs.Marks.{thing_of}
 use Rattle.mea_marks.specs.Sorts.{code_of}
-use Rattle.mea_draw.specs.Model.{polled_by, meet_thing, lock_thing_as, chan_thing, once_thing, PollsAlike}
+use Rattle.mea_draw.specs.Model.{polled_by, meet_thing_as, lock_thing_as, chan_thing, once_thing, PollsAlike}
 
 semaphores_poll : (e : SemEvent) (f : ℕ) → sem.waker_in e f ≡ polled_by (deed_of (Sem e)) (thing_of sorts.Acquire f)
 unfolding semaphore_deed code_of
 semaphores_poll (sems.Poll g w) f = refl
 semaphores_poll _ f = refl
 
-arrivals_poll : (e : MeetEvent) (f : ℕ) → meet.polled e (meet.AtBarrier f) ≡ polled_by (deed_of (Meet e)) (thing_of sorts.Arrival f)
+arrivals_poll : (e : MeetEvent) (f : ℕ) → meet.polled e (record { sort = meet.AtBarrier; name = f }) ≡ polled_by (deed_of (Meet e)) (thing_of sorts.Arrival f)
 unfolding meet_deed code_of
 arrivals_poll (meets.BarPoll g w) f = refl
 arrivals_poll (meets.LatPoll g w) f = refl
@@ -42,7 +44,7 @@ arrivals_poll (meets.WgPoll g w) f = refl
 arrivals_poll (meets.SdPoll g w) f = refl
 arrivals_poll _ f = refl
 
-latches_poll : (e : MeetEvent) (f : ℕ) → meet.polled e (meet.ForLatch f) ≡ polled_by (deed_of (Meet e)) (thing_of sorts.LatchWait f)
+latches_poll : (e : MeetEvent) (f : ℕ) → meet.polled e (record { sort = meet.Of Latches; name = f }) ≡ polled_by (deed_of (Meet e)) (thing_of sorts.LatchWait f)
 unfolding meet_deed code_of
 latches_poll (meets.BarPoll g w) f = refl
 latches_poll (meets.LatPoll g w) f = refl
@@ -50,7 +52,7 @@ latches_poll (meets.WgPoll g w) f = refl
 latches_poll (meets.SdPoll g w) f = refl
 latches_poll _ f = refl
 
-groups_poll : (e : MeetEvent) (f : ℕ) → meet.polled e (meet.ForGroup f) ≡ polled_by (deed_of (Meet e)) (thing_of sorts.GroupWait f)
+groups_poll : (e : MeetEvent) (f : ℕ) → meet.polled e (record { sort = meet.Of kinds.Groups; name = f }) ≡ polled_by (deed_of (Meet e)) (thing_of sorts.GroupWait f)
 unfolding meet_deed code_of
 groups_poll (meets.BarPoll g w) f = refl
 groups_poll (meets.LatPoll g w) f = refl
@@ -58,7 +60,7 @@ groups_poll (meets.WgPoll g w) f = refl
 groups_poll (meets.SdPoll g w) f = refl
 groups_poll _ f = refl
 
-signals_poll : (e : MeetEvent) (f : ℕ) → meet.polled e (meet.ForShutdown f) ≡ polled_by (deed_of (Meet e)) (thing_of sorts.Signal f)
+signals_poll : (e : MeetEvent) (f : ℕ) → meet.polled e (record { sort = meet.Of Shutdowns; name = f }) ≡ polled_by (deed_of (Meet e)) (thing_of sorts.Signal f)
 unfolding meet_deed code_of
 signals_poll (meets.BarPoll g w) f = refl
 signals_poll (meets.LatPoll g w) f = refl
@@ -160,11 +162,14 @@ flights_poll (onces.OmPoll g w) f = refl
 flights_poll (onces.SfPoll g w) f = refl
 flights_poll _ f = refl
 
-meets_poll : (e : MeetEvent) (f : meet.Future) → meet.polled e f ≡ polled_by (deed_of (Meet e)) (meet_thing f)
-meets_poll e (meet.AtBarrier f) = arrivals_poll e f
-meets_poll e (meet.ForLatch f) = latches_poll e f
-meets_poll e (meet.ForGroup f) = groups_poll e f
-meets_poll e (meet.ForShutdown f) = signals_poll e f
+meets_poll_as : (e : MeetEvent) (s : meet.Sort) (f : ℕ) → meet.polled e (record { sort = s; name = f }) ≡ polled_by (deed_of (Meet e)) (meet_thing_as s f)
+meets_poll_as e meet.AtBarrier f = arrivals_poll e f
+meets_poll_as e (meet.Of Latches) f = latches_poll e f
+meets_poll_as e (meet.Of kinds.Groups) f = groups_poll e f
+meets_poll_as e (meet.Of Shutdowns) f = signals_poll e f
+
+meets_poll : (e : MeetEvent) (f : meet.Future) → meet.polled e f ≡ polled_by (deed_of (Meet e)) (meet_thing_as f.sort f.name)
+meets_poll e f = meets_poll_as e f.sort f.name
 
 locks_poll_as : (e : LockEvent) (s : lock.Sort) (f : ℕ) → lock.polled_by (doing e) s f ≡ polled_by (deed_of (Lock e)) (lock_thing_as s f)
 locks_poll_as e (lock.Of Mutexes) f = mutexes_poll e f

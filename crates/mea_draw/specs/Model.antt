@@ -8,6 +8,8 @@ use Rattle.mea_events.specs.declared.chan_event.ChanEvent.{ChanEvent}
 use Rattle.mea_events.specs.declared.share_event.ShareEvent.{ShareEvent}
 use Rattle.mea_events.specs.declared.once_event.OnceEvent.{OnceEvent}
 use Rattle.mea_sem_model.specs.Runs as sem
+use Rattle.mea_meet_model.specs.Hall as kinds
+use Rattle.mea_meet_model.specs.Hall.{Latches, Shutdowns}
 use Rattle.mea_meet_model.specs.Meets as meet
 use Rattle.mea_lock_model.specs.LockHall.{Mutexes, RwLocks}
 use Rattle.mea_lock_model.specs.LockFamily as lock
@@ -31,11 +33,11 @@ polled_by _ x = None
 
 -- ---- the thing that a future of each family is
 
-abbrev pub meet_thing : meet.Future → Thing
-meet_thing (meet.AtBarrier f) = thing_of sorts.Arrival f
-meet_thing (meet.ForLatch f) = thing_of sorts.LatchWait f
-meet_thing (meet.ForGroup f) = thing_of sorts.GroupWait f
-meet_thing (meet.ForShutdown f) = thing_of sorts.Signal f
+abbrev pub meet_thing_as : meet.Sort → ℕ → Thing
+meet_thing_as meet.AtBarrier f = thing_of sorts.Arrival f
+meet_thing_as (meet.Of Latches) f = thing_of sorts.LatchWait f
+meet_thing_as (meet.Of kinds.Groups) f = thing_of sorts.GroupWait f
+meet_thing_as (meet.Of Shutdowns) f = thing_of sorts.Signal f
 
 abbrev pub lock_thing_as : lock.Sort → ℕ → Thing
 lock_thing_as (lock.Of Mutexes) f = thing_of sorts.Lock f
@@ -57,7 +59,7 @@ once_thing (once.ByKey Groups f) = thing_of sorts.FlightWait f
 -- an event polls a future of its family, with this waker, exactly where its deed polls the thing that the future is
 pub record PollsAlike : Type 0 where
   pub semaphores : (e : SemEvent) (f : ℕ) → sem.waker_in e f ≡ polled_by (deed_of (Sem e)) (thing_of sorts.Acquire f)
-  pub meets : (e : MeetEvent) (f : meet.Future) → meet.polled e f ≡ polled_by (deed_of (Meet e)) (meet_thing f)
+  pub meets : (e : MeetEvent) (f : meet.Future) → meet.polled e f ≡ polled_by (deed_of (Meet e)) (meet_thing_as f.sort f.name)
   pub locks : (e : LockEvent) (f : lock.Future) → lock.polled e f ≡ polled_by (deed_of (Lock e)) (lock_thing_as f.sort f.name)
   pub chans : (e : ChanEvent) (f : chan.Future) → chan.polled e f ≡ polled_by (deed_of (Chan e)) (chan_thing f)
   pub shares : (e : ShareEvent) (f : ℕ) → share.polled e f ≡ polled_by (deed_of (Share e)) (thing_of sorts.Admit f)
