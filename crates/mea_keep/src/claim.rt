@@ -1,3 +1,6 @@
+ghost use Rattle.std.specs.Prelude.{◌≡◌};
+ghost use Rattle.mea_wait.specs.Polls.{IsRefusedFor};
+
 use mea_wait::{End, PollFault, Polled, Unpolled};
 use std::sync::Wait;
 
@@ -57,7 +60,9 @@ impl<W: Drop, V: Drop, C> Claiming<W, V, C> for ReadyValue<V> {
 // What a wait tells of one poll; an unused waker is dropped.
 pub(crate) fn told<F, C, V, W: Drop>(
     step: Step<F, C, V, W>,
-) -> Result<Polled<F, Claimed<V, C>>, Unpolled<F, W>> {
+) -> Result<Polled<F, Claimed<V, C>>, Unpolled<F, W>>
+    ensures { IsRefusedFor (λ fault. fault ≡ PollFault.NoMemory) result }
+{
     match step {
         Step::There(value) => Ok(Polled::Ready(Claimed::There(value))),
         Step::Mine(claim, _) => Ok(Polled::Ready(Claimed::Mine(claim))),

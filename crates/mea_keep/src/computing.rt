@@ -1,5 +1,5 @@
 ghost use Rattle.std.specs.Prelude.{◌≡◌};
-ghost use Rattle.mea_wait.specs.Polls.{IsPollable};
+ghost use Rattle.mea_wait.specs.Polls.{IsPollable, IsRefusedFor};
 ghost use Rattle.mea_keep.specs.Computing.{MayGoOn};
 
 use crate::claim::{Claim, Claiming, Step};
@@ -79,7 +79,8 @@ fn compute<R: Wait, F, C: Claim<T, V, G>, G, I: Init<T, E, W> + Drop, T, E, V, W
     Unpolled<Computing<F, C, G, I, T, E>, W>,
 >
     requires { I.may_poll init }
-    ensures { IsPollable (λ f. MayGoOn I.may_poll f.stage f.init) result }
+    ensures again { IsPollable (λ f. MayGoOn I.may_poll f.stage f.init) result }
+    ensures fault { IsRefusedFor (λ fault. fault ≡ PollFault.NoMemory) result }
 {
     let mut init = init;
     match init.poll(waker) {
