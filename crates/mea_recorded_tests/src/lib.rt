@@ -4,5 +4,3 @@
 
 #[cfg(test)]
 mod crew;
-#[cfg(test)]
-mod passes;
