@@ -90,7 +90,7 @@ fn heard<R: Wait + AllocGlobal>(
     sender: &overflow::Sender<u64, Bell>,
     messages: u64,
 ) -> Result<(), Fault> {
-    let mut receivers = receivers_of(rt, sender, RECEIVERS)?;
+    let mut receivers = receivers_of(rt, sender)?;
     for message in 0..messages {
         if sender.send(rt, message).is_err() {
             return Err(Fault::Answer);
@@ -103,10 +103,9 @@ fn heard<R: Wait + AllocGlobal>(
 fn receivers_of<R: Wait + AllocGlobal>(
     rt: &R,
     sender: &overflow::Sender<u64, Bell>,
-    count: u64,
 ) -> Result<Vec<overflow::Receiver<u64, Bell>>, Fault> {
     let mut receivers = Vec::new(rt.alloc());
-    for _ in 0..count {
+    for _ in 0..RECEIVERS {
         if receivers.push(sender.subscribe(rt)?).is_err() {
             return Err(Fault::NoMemory);
         }
@@ -121,50 +120,6 @@ fn all_hear<R: Wait>(
 ) -> Result<(), Fault> {
     for receiver in receivers.iter_mut() {
         if receiver.try_recv(rt) != Ok(message) {
-            return Err(Fault::Answer);
-        }
-    }
-    Ok(())
-}
-
-/// So many wait for one message, and each has it: a round is one that has waited.
-pub fn awaited<R: Wait + AllocGlobal>(rt: &R, rounds: u64) -> Result<(), Fault> {
-    let Ok((sender, _)) = overflow::channel::<u64, Bell>(rt.alloc(), 1) else {
-        return Err(Fault::NoMemory);
-    };
-    let done = all_hear_one(rt, &sender, rounds);
-    sender.end(rt);
-    done
-}
-
-fn all_hear_one<R: Wait + AllocGlobal>(
-    rt: &R,
-    sender: &overflow::Sender<u64, Bell>,
-    count: u64,
-) -> Result<(), Fault> {
-    let mut receivers = receivers_of(rt, sender, count)?;
-    all_wait(rt, sender, receivers.as_mut_slice())
-}
-
-// Each receiver waits before the message is sent.
-fn all_wait<'a, R: Wait + AllocGlobal>(
-    rt: &'a R,
-    sender: &overflow::Sender<u64, Bell>,
-    receivers: &'a mut [overflow::Receiver<u64, Bell>],
-) -> Result<(), Fault> {
-    let waiter = Waiter::new(rt.alloc())?;
-    let mut waits = Vec::new(rt.alloc());
-    let all = receivers.iter_mut();
-    for receiver in all {
-        if waiter.leave(rt, receiver.recv(), &mut waits)?.is_some() {
-            return Err(Fault::Answer);
-        }
-    }
-    if sender.send(rt, 1).is_err() {
-        return Err(Fault::Answer);
-    }
-    for wait in waits {
-        if waiter.wait(rt, wait.into_inner())? != Ok(1) {
             return Err(Fault::Answer);
         }
     }

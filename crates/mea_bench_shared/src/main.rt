@@ -12,14 +12,11 @@ mod across;
 mod alone;
 mod channels;
 mod fault;
-mod gathered;
 mod handoff;
 mod handover;
-mod keeping;
 mod sending;
 mod shots;
 mod tasks;
-mod threads;
 mod waiter;
 mod work;
 

@@ -1,5 +1,5 @@
 use crate::fault::Fault;
-use mea::{Kept, Polled, Unpolled, Waits, Wake};
+use mea::{Polled, Unpolled, Waits, Wake};
 use std::alloc::Global;
 use std::sync::atomic::AtomicBool;
 use std::sync::atomic::Ordering::SeqCst;
@@ -58,38 +58,6 @@ impl Waiter {
         }
         wait.end(rt);
         Err(Fault::NoMemory)
-    }
-
-    /// Polls a wait once, which is pending and so is put to those that wait; what it gave comes back where it was ready.
-    pub fn leave<'a, R: Wait, F: Waits<Bell, O>, O>(
-        &self,
-        rt: &'a R,
-        wait: F,
-        waits: &mut Vec<Kept<'a, R, F>>,
-    ) -> Result<Option<O>, Fault>
-        requires { F.can_poll wait }
-    {
-        let Ok(bell) = self.bell() else {
-            wait.end(rt);
-            return Err(Fault::NoMemory);
-        };
-        match wait.poll(rt, bell) {
-            Ok(Polled::Ready(output)) => Ok(Some(output)),
-            Ok(Polled::Pending(back)) => match waits.push(Kept::new(rt, back)) {
-                Ok(()) => Ok(None),
-                Err(_) => Err(Fault::NoMemory),
-            },
-            Err(
-                Unpolled {
-                    future,
-                    waker: _,
-                    fault: _,
-                },
-            ) => {
-                future.end(rt);
-                Err(Fault::NoMemory)
-            }
-        }
     }
 
     /// A bell of this thread.
