@@ -10,6 +10,7 @@ mod once_event;
 mod replies;
 mod sem_event;
 mod share_event;
+mod shown;
 
 pub use chan_event::ChanEvent;
 pub use event::Event;
