@@ -67,7 +67,8 @@ impl Sink for Screen<'_> {
         self.calls -= 1;
         let count = piece.len().min(MOST);
         let shown = self.shown.get();
-        self.shown.set(shown.saturating_add(lines_in(&piece[..count])));
+        self.shown
+            .set(shown.saturating_add(lines_in(&piece[..count])));
         Ok(count)
     }
 }
