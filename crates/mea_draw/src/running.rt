@@ -2,6 +2,7 @@ ghost use Rattle.std.specs.Prelude.{◌≡◌, ◌↔◌, ◌⊎◌, ℕ, List, 
 ghost use Rattle.mea_io.specs.Bytes.{Rose};
 ghost use Rattle.mea_hall.specs.World.{empty_world};
 ghost use Rattle.mea_marks.specs.Events.{ShowsStages};
+ghost use Rattle.mea_marks.specs.Wakes.{ShowsWakes};
 ghost use Rattle.mea_picture.specs.Drawing.{draw_status, IsDrawFault, Draws, EndsAlike};
 ghost use Rattle.mea_draw.specs.Drawing.{hall_steps, drawing_of, played_status, IsDraw};
 ghost use Rattle.mea_draw.specs.Model.{PollsAlike};
@@ -12,10 +13,12 @@ use mea_picture::{DrawStatus, draw_script};
 use mea_script::Status;
 use std::alloc::Global;
 
-/// Of each script: the row of each thing shows how far it has come, what polls a thing polls the future that it is, and the
-/// script is drawn with the status of its playing. It does nothing.
+/// Of each script: the row of each thing shows how far it has come, an arrow stands for each wake of a thing and for nothing
+/// else, what polls a thing polls the future that it is, and the script is drawn with the status of its playing. It does
+/// nothing.
 fn drawings_are_faithful()
     ensures stages { (script : List ℕ) → ShowsStages hall_steps empty_world script }
+    ensures wakes { (script : List ℕ) → ShowsWakes hall_steps empty_world script }
     ensures polls { PollsAlike }
     ensures alike { (script : List ℕ) → EndsAlike (drawing_of script) (played_status script) }
 {}
@@ -48,6 +51,9 @@ pub fn run_draw<S: Source, K: Sink>(
 
     // Of each script: the row of each thing shows how far it has come, by the events and replies of the model.
     ensures stages { (script : List ℕ) → ShowsStages hall_steps empty_world script }
+
+    // Of each script: one arrow where an event of the model wakes a thing by a waker, and none elsewhere.
+    ensures wakes { (script : List ℕ) → ShowsWakes hall_steps empty_world script }
 
     // What the picture takes for a poll is what each family takes for one.
     ensures polls { PollsAlike }

@@ -30,13 +30,13 @@ same_names : (a b : Thing) → same a b ≡ true → a.name ≡ b.name
 same_names a b h = eqb-true a.name b.name ((both (code_of a.sort == code_of b.sort) (a.name == b.name) h).1)
 
 -- the same of both, on either side
-same_left : (a b y : Thing) → same a b ≡ true → same a y ≡ same b y
+pub same_left : (a b y : Thing) → same a b ≡ true → same a y ≡ same b y
 same_left a b y h = λ i. (same_codes a b h i == code_of y.sort) && (same_names a b h i == y.name)
 
-same_right : (a b y : Thing) → same a b ≡ true → same y a ≡ same y b
+pub same_right : (a b y : Thing) → same a b ≡ true → same y a ≡ same y b
 same_right a b y h = λ i. (code_of y.sort == same_codes a b h i) && (y.name == same_names a b h i)
 
-same_here : (x : Thing) → same x x ≡ true
+pub same_here : (x : Thing) → same x x ≡ true
 same_here x = λ i. eq-eqb (code_of x.sort) (code_of x.sort) refl i && eq-eqb x.name x.name refl i
 
 -- ---- the stage of one thing in rows that are changed
@@ -150,7 +150,7 @@ module _ (x y : Thing) (rows : List Row) where
 
 -- ---- event by event
 
-before_tells : (n : ℕ) (d : Deed) (rows : List Row) (x : Thing) → stage_in (rows_before n d rows) x ≡ stage_before n d x (stage_in rows x)
+pub before_tells : (n : ℕ) (d : Deed) (rows : List Row) (x : Thing) → stage_in (rows_before n d rows) x ≡ stage_before n d x (stage_in rows x)
 before_tells n (Makes s) rows x = refl
 before_tells n (Begins s o) rows x = refl
 before_tells n (Copies o) rows x = refl

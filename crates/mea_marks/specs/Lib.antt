@@ -6,3 +6,4 @@ pub mod Script
 pub mod Reading
 pub mod Laws
 pub mod Events
+pub mod Wakes

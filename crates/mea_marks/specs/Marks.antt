@@ -1,6 +1,6 @@
 -- the marks of a picture: what each event adds to them
-use Rattle.std.specs.Prelude.{ℕ, ◌++◌, ◌==◌, Bool, List, [], ◌∷◌, length, map, filter, cond, if◌then◌else◌}
-use Rattle.std.specs.List.{flat_map}
+use Rattle.std.specs.Prelude.{ℕ, ◌++◌, ◌==◌, Bool, List, [], ◌∷◌, cond, if◌then◌else◌}
+use Rattle.std.specs.List.{flat_map, list_any}
 use Rattle.mea_family.specs.declared.answer.Answer.{Answer}
 use Rattle.mea_family.specs.declared.answer.Answer.TheVariants as answers
 use Rattle.mea_events.specs.declared.event.Event.{Event}
@@ -58,16 +58,29 @@ deed_marks n (Polls x w) a rows = poll_mark n x a ∷ []
 deed_marks n (Ends x) a rows = if has_row x rows then marks.Ended n x ∷ [] else []
 deed_marks n _ a rows = []
 
--- a waker that is made ready: an arrow to each that waits with it
-abbrev pub arrows_to : ℕ → ℕ → List Row → List Mark
-arrows_to n w rows = if length rows == 0 then marks.Stray n w ∷ [] else map (λ (r : Row). marks.Arrow n w r.thing) rows
+-- an event makes this waker ready
+abbrev pub is_woken : ℕ → List ℕ → Bool
+is_woken w ws = list_any (λ v. v == w) ws
 
-abbrev pub arrows : ℕ → List Row → ℕ → List Mark
-arrows n rows w = arrows_to n w (filter (waits_with w) rows)
+-- a thing that waits with a waker which event n makes ready: an arrow to it
+abbrev pub arrow_at : ℕ → List ℕ → Thing → Stage → List Mark
+arrow_at n ws x (stages.Waits w) = if is_woken w ws then marks.Arrow n w x ∷ [] else []
+arrow_at n ws x _ = []
+
+abbrev pub arrow_to : ℕ → List ℕ → Row → List Mark
+arrow_to n ws r = arrow_at n ws r.thing r.stage
+
+-- a waker that event n makes ready, with which nothing waits
+abbrev pub stray_at : ℕ → List Row → ℕ → List Mark
+stray_at n rows w = if list_any (waits_with w) rows then [] else marks.Stray n w ∷ []
+
+-- the wakes of event n: an arrow to each thing that it wakes, and each waker by which it wakes none
+abbrev pub wake_marks : ℕ → List ℕ → List Row → List Mark
+wake_marks n ws rows = flat_map (arrow_to n ws) rows ++ flat_map (stray_at n rows) ws
 
 -- the marks of event n, which was answered so and made these wakers ready
 abbrev pub event_marks : ℕ → Deed → Answer → List ℕ → List Row → List Mark
-event_marks n d a ws rows = marks.Event n ∷ (flat_map (arrows n (rows_before n d rows)) ws ++ deed_marks n d a rows)
+event_marks n d a ws rows = marks.Event n ∷ (wake_marks n ws (rows_before n d rows) ++ deed_marks n d a rows)
 
 -- ---- event by event
 

@@ -1,72 +1,81 @@
-ghost use Rattle.std.specs.Prelude.{◌≡◌, ◌++◌, OnOk, IfOk, filter, map};
-ghost use Rattle.std.specs.List.{flat_map};
+ghost use Rattle.std.specs.Prelude.{◌≡◌, ◌++◌, OnOk};
+ghost use Rattle.std.specs.List.{flat_map, list_any};
 ghost use Rattle.mea_marks.specs.Rows.{waits_with};
-ghost use Rattle.mea_marks.specs.Marks.{arrows, arrows_to};
+ghost use Rattle.mea_marks.specs.Marks.{is_woken, arrow_to, stray_at};
 
 use crate::mark::Mark;
-use crate::row::{Row, waits_with};
+use crate::row::{Row, Stage, waits_with};
 use mea_base::NoMemory;
-use std::alloc::Global;
 
-/// Appends the arrows of the wakers that an event makes ready.
+/// Appends an arrow to each thing that waits with a waker which the event makes ready.
 pub fn put_arrows(
-    alloc: Global,
     marks: &mut Vec<Mark>,
     number: u64,
     rows: &[Row],
     wakes: &[u64],
 ) -> Result<(), NoMemory>
-    ensures { OnOk result (marks.new.items ≡ marks.old.items ++ flat_map (arrows number rows.now) wakes.now) }
+    ensures { OnOk result (marks.new.items ≡ marks.old.items ++ flat_map (arrow_to number wakes.now) rows.now) }
 {
-    for waker in wakes {
-        let woken = who_waits(alloc, rows, *waker)?;
-        put_arrows_to(alloc, marks, number, *waker, woken.as_slice())?;
+    for row in rows {
+        put_arrow(marks, number, *row, wakes)?;
     }
     Ok(())
 }
 
-// The rows of what waits with a waker.
-fn who_waits(alloc: Global, rows: &[Row], waker: u64) -> Result<Vec<Row>, NoMemory>
-    ensures { IfOk result (λ woken. woken.items ≡ filter (waits_with waker) rows.now) }
-{
-    match rows
-        .iter()
-        .copied()
-        .filter(|row| waits_with(*row, waker))
-        .collect(alloc)
-    {
-        Ok(woken) => Ok(woken),
-        Err(_) => Err(NoMemory),
-    }
-}
-
-fn put_arrows_to(
-    alloc: Global,
+fn put_arrow(
     marks: &mut Vec<Mark>,
     number: u64,
-    waker: u64,
-    woken: &[Row],
+    row: Row,
+    wakes: &[u64],
 ) -> Result<(), NoMemory>
-    ensures { OnOk result (marks.new.items ≡ marks.old.items ++ arrows_to number waker woken.now) }
+    ensures { OnOk result (marks.new.items ≡ marks.old.items ++ arrow_to number wakes.now row) }
 {
-    if woken.is_empty() {
-        marks.push(Mark::Stray(number, waker))?;
-        return Ok(());
+    match row.stage {
+        Stage::Waits(waker) if is_woken(waker, wakes) => {
+            marks.push(Mark::Arrow(number, waker, row.thing))?;
+            Ok(())
+        }
+        _ => Ok(()),
     }
-    let arrows = arrows_each(alloc, number, waker, woken)?;
-    marks.extend_from_slice(arrows.as_slice())?;
+}
+
+fn is_woken(waker: u64, wakes: &[u64]) -> bool
+    ensures { result ≡ is_woken waker wakes.now }
+{
+    wakes.iter().any(|woken| *woken == waker)
+}
+
+/// Appends each waker that the event makes ready and with which nothing waits.
+pub fn put_strays(
+    marks: &mut Vec<Mark>,
+    number: u64,
+    rows: &[Row],
+    wakes: &[u64],
+) -> Result<(), NoMemory>
+    ensures { OnOk result (marks.new.items ≡ marks.old.items ++ flat_map (stray_at number rows.now) wakes.now) }
+{
+    for waker in wakes {
+        put_stray(marks, number, rows, *waker)?;
+    }
     Ok(())
 }
 
-fn arrows_each(alloc: Global, number: u64, waker: u64, woken: &[Row]) -> Result<Vec<Mark>, NoMemory>
-    ensures { IfOk result (λ arrows. arrows.items ≡ map (λ r. Mark.Arrow number waker r.thing) woken.now) }
+fn put_stray(
+    marks: &mut Vec<Mark>,
+    number: u64,
+    rows: &[Row],
+    waker: u64,
+) -> Result<(), NoMemory>
+    ensures { OnOk result (marks.new.items ≡ marks.old.items ++ stray_at number rows.now waker) }
 {
-    match woken
-        .iter()
-        .map(|row| Mark::Arrow(number, waker, row.thing))
-        .collect(alloc)
-    {
-        Ok(arrows) => Ok(arrows),
-        Err(_) => Err(NoMemory),
+    if !is_awaited(waker, rows) {
+        marks.push(Mark::Stray(number, waker))?;
     }
+    Ok(())
+}
+
+fn is_awaited(waker: u64, rows: &[Row]) -> bool
+    ensures { result ≡ list_any (waits_with waker) rows.now }
+{
+    rows.iter().any(|row| waits_with(*row, waker))
 }

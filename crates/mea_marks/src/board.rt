@@ -3,7 +3,7 @@ ghost use Rattle.mea_marks.specs.Deeds.{deed_of};
 ghost use Rattle.mea_marks.specs.Rows.{with_stage, has_row, put_stage, add_row};
 ghost use Rattle.mea_marks.specs.Marks.{board_of, empty_board, board_after, rows_before, rows_after, polled_stage, poll_mark, deed_marks, event_marks};
 
-use crate::arrows::put_arrows;
+use crate::arrows::{put_arrows, put_strays};
 use crate::deed::Deed;
 use crate::deeds::deed_of;
 use crate::mark::Mark;
@@ -48,7 +48,8 @@ impl Board {
         let deed = deed_of(event);
         self.marks.push(Mark::Event(number))?;
         let before = rows_before(alloc, number, deed, self.rows.as_slice())?;
-        put_arrows(alloc, &mut self.marks, number, before.as_slice(), wakes)?;
+        put_arrows(&mut self.marks, number, before.as_slice(), wakes)?;
+        put_strays(&mut self.marks, number, before.as_slice(), wakes)?;
         put_deed(&mut self.marks, number, deed, answer, self.rows.as_slice())?;
         self.rows = rows_after(alloc, number, deed, answer, before)?;
         Ok(())

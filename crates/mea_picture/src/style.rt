@@ -5,7 +5,7 @@ pub const STYLE: &[u8] = b"\">\n\
     @media(prefers-color-scheme:dark){svg{--paper:#0d1117;--words:#e6edf3;--faint:#262c34;--span:#5d6772;--waits:#f0b429;--woken:#79c7f5;--ready:#2fc79a;--refused:#ff7a3d;--ended:#a9b1bb;--arrow:#6cb6ff;--free:#e59ac6}}\n\
     path{fill:none}text{fill:var(--words)}marker{overflow:visible}.paper{fill:var(--paper)}\n\
     .column{stroke:transparent;stroke-width:26;pointer-events:stroke}.guide{stroke:var(--faint);stroke-dasharray:12 10}\n\
-    .object{font-weight:bold}.count{font-size:9px}.near{text-anchor:end;font-size:10px;stroke:var(--paper);stroke-width:3px;paint-order:stroke}.why{fill:var(--refused);font-weight:bold}\n\
+    .object{font-weight:bold}.count{font-size:9px;stroke:var(--paper);stroke-width:2.5px;paint-order:stroke}.near{text-anchor:end;font-size:10px;stroke:var(--paper);stroke-width:3px;paint-order:stroke}.why{fill:var(--refused);font-weight:bold}\n\
     .span{stroke:var(--span);stroke-width:1.5}.waiting{stroke:var(--waits);stroke-width:8}.woken{stroke:var(--woken);stroke-width:8;stroke-dasharray:3 1.5}.free{stroke:var(--free);stroke-width:2}\n\
     .arrow{stroke:var(--arrow);stroke-width:1.5;marker-end:url(#arrow)}.cause{stroke:var(--refused);stroke-width:1.5;stroke-dasharray:4 3;marker-end:url(#cause)}\n\
     .pending{marker-end:url(#pending)}.ready{marker-end:url(#ready)}.refused{marker-end:url(#refused)}.ended{marker-end:url(#ended)}.stray{marker-end:url(#stray)}\n\

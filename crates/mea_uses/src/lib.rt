@@ -9,6 +9,8 @@ mod config;
 #[cfg(test)]
 mod first_use;
 #[cfg(test)]
+mod history;
+#[cfg(test)]
 mod hub;
 #[cfg(test)]
 mod mailbox;
