@@ -59,7 +59,7 @@ module _ {State : Type 0} (steps : Steps State) where
   on_below false ts rest n below later = later
 
   at_below : (c : Option Stop) (ts rest : List Told) (n : ℕ) (t : Told) → AreBelow n ts → AreBelow (n + 1) (t ∷ ts) → (bound : ℕ) × AreBelow bound rest
-      → (bound : ℕ) × AreBelow bound (told_at c ts n t rest)
+      → (bound : ℕ) × AreBelow bound (told_at steps c ts n t rest)
   at_below (Some stop) ts rest n t below more later = (n, below)
   at_below None ts rest n t below more later = on_below (is_great (board_told (t ∷ ts)) (n + 1)) (t ∷ ts) rest (n + 1) more later
 

@@ -101,6 +101,6 @@ module _ (p : Mark → Bool) (others : (m : Mark) → is_wake m ≡ false → p 
   in_whole shown =
       let rows : List Mark = map row_mark shown.board.rows in
       let ending : List Mark = ending_marks shown.ending shown.lines in
-      let first : how_many p (rows ++ (shown.board.marks ++ ending)) ≡ how_many p rows + how_many p (shown.board.marks ++ ending) = many_append p rows (shown.board.marks ++ ending) in
-      let last : how_many p (shown.board.marks ++ ending) ≡ how_many p shown.board.marks + how_many p ending = many_append p shown.board.marks ending in
+      let first : how_many p (marks_of shown) ≡ how_many p (rows ++ shown.board.marks) + how_many p ending = many_append p (rows ++ shown.board.marks) ending in
+      let last : how_many p (rows ++ shown.board.marks) ≡ how_many p rows + how_many p shown.board.marks = many_append p rows shown.board.marks in
       omega (arith, first, last, in_rows shown.board.rows, in_ending shown.ending shown.lines)

@@ -31,7 +31,7 @@ arrow_table : (this number ready same_ready one : Bool) → (this ≡ true → r
     → cond ready (cond (this && (number && one)) (1 + 0) 0) 0 ≡ cond one (cond number (cond (same_ready && this) 1 0) 0) 0
 arrow_table this number ready same_ready one h = grind arith
 
-no_arrow_table : (number ready one : Bool) → 0 ≡ cond one (cond number (cond (ready && false) 1 0) 0) 0
+no_arrow_table : (number ready one : Bool) → ◌≡◌ {A = ℕ} 0 (cond one (cond number (cond (ready && false) 1 0) 0) 0)
 no_arrow_table number ready one = grind arith
 
 stray_table : (this number awaited same_awaited : Bool) (more : ℕ) → (this ≡ true → awaited ≡ same_awaited)
@@ -148,7 +148,7 @@ module _ (n w : ℕ) (x : Thing) where
       elim (t.number == n) as (λ b. (t.number == n) ≡ b → here ≡ cond b (cond (wakes_by t older w x) 1 0) 0
       → how_many arrow_here (board_told (t ∷ older)).marks ≡ (if (if b then wakes_by t older w x else wakes_told older n w x) then 1 else 0)) [
         | true ↦ λ e f.
-            let none : (if wakes_told older n w x then 1 else 0) ≡ 0 = ap (λ b. if b then 1 else 0) (wakes_none t.number older below.1 (omega (arith, eqb-true t.number n e))) in
+            let none : ◌≡◌ {A = ℕ} (if wakes_told older n w x then 1 else 0) 0 = ap (λ b. if b then 1 else 0) (wakes_none t.number older below.1 (omega (arith, eqb-true t.number n e))) in
             omega (arith, all, strays, later, none, f)
         | false ↦ λ e f. omega (arith, all, strays, later, f)
       ] refl now
@@ -177,8 +177,8 @@ module _ (n w : ℕ) where
 
   of_wakers : (k : ℕ) (rows : List Row) (ws : List ℕ)
       → how_many stray_here (flat_map (stray_at k rows) ws) ≡ cond (k == n) (cond (list_any (waits_with w) rows) 0 (how_many (λ v. v == w) ws)) 0
-  of_wakers k rows [] = elim (k == n) as (λ b. 0 ≡ cond b (cond (list_any (waits_with w) rows) 0 0) 0) [
-    | true ↦ elim (list_any (waits_with w) rows) as (λ b. 0 ≡ cond b 0 0) [ true ↦ refl | false ↦ refl ]
+  of_wakers k rows [] = elim (k == n) as (λ b. ◌≡◌ {A = ℕ} 0 (cond b (cond (list_any (waits_with w) rows) 0 0) 0)) [
+    | true ↦ elim (list_any (waits_with w) rows) as (λ b. ◌≡◌ {A = ℕ} 0 (cond b 0 0)) [ true ↦ refl | false ↦ refl ]
     | false ↦ refl
   ]
   of_wakers k rows (v ∷ ws) =
