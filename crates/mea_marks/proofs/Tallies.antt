@@ -93,7 +93,7 @@ module _ (p : Mark → Bool) (others : (m : Mark) → is_wake m ≡ false → p 
       let all : how_many p ((board_told older).marks ++ event) ≡ how_many p (board_told older).marks + how_many p event = many_append p (board_told older).marks event in
       let one : how_many p event ≡ how_many p (wake_marks t.number t.wakes before) = in_event t.number (deed_of t.event) t.answer t.wakes rows in
       let parts : how_many p (wake_marks t.number t.wakes before) ≡ how_many p (flat_map (arrow_to t.number t.wakes) before) + how_many p (flat_map (stray_at t.number before) t.wakes)
-          = many_append p (flat_map (arrow_to t.number t.wakes) before) (flat_map (stray_at t.number before) t.wakes) in
+      = many_append p (flat_map (arrow_to t.number t.wakes) before) (flat_map (stray_at t.number before) t.wakes) in
       omega (arith, all, one, parts)
 
   -- of all marks: those of the events alone

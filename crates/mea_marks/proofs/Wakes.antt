@@ -83,7 +83,7 @@ module _ (n w : ℕ) (x : Thing) where
   strays_no_arrow k rows [] = refl
   strays_no_arrow k rows (v ∷ ws) =
       let parts : how_many arrow_here (stray_at k rows v ++ flat_map (stray_at k rows) ws) ≡ how_many arrow_here (stray_at k rows v) + how_many arrow_here (flat_map (stray_at k rows) ws)
-          = many_append arrow_here (stray_at k rows v) (flat_map (stray_at k rows) ws) in
+      = many_append arrow_here (stray_at k rows v) (flat_map (stray_at k rows) ws) in
       elim (list_any (waits_with v) rows) as (λ b. how_many arrow_here (stray_at k rows v) ≡ cond b 0 0 → how_many arrow_here (stray_at k rows v ++ flat_map (stray_at k rows) ws) ≡ 0) [
         | true ↦ λ one. omega (arith, parts, one, strays_no_arrow k rows ws)
         | false ↦ λ one. omega (arith, parts, one, strays_no_arrow k rows ws)
@@ -140,11 +140,11 @@ module _ (n w : ℕ) (x : Thing) where
       let before : ℕ = how_many arrow_here (board_told older).marks in
       let here : ℕ = how_many arrow_here (flat_map (arrow_to t.number t.wakes) (rows_at t older)) in
       let all : how_many arrow_here (board_told (t ∷ older)).marks ≡ before + here + how_many arrow_here (flat_map (stray_at t.number (rows_at t older)) t.wakes)
-          = in_board arrow_here no_arrow t older in
+      = in_board arrow_here no_arrow t older in
       let strays : how_many arrow_here (flat_map (stray_at t.number (rows_at t older)) t.wakes) ≡ 0 = strays_no_arrow t.number (rows_at t older) t.wakes in
       let later : before ≡ (if wakes_told older n w x then 1 else 0) = arrows_told t.number older below.1 in
       let now : here ≡ drawn t.number t.wakes (waits_by w (stage_before t.number (deed_of t.event) x (stage_of older x)))
-          = one_in t.number t.wakes (rows_at t older) (rows_at_single t older x) ∙ ap (λ g. drawn t.number t.wakes (waits_by w g)) (rows_at_tell t older x) in
+      = one_in t.number t.wakes (rows_at t older) (rows_at_single t older x) ∙ ap (λ g. drawn t.number t.wakes (waits_by w g)) (rows_at_tell t older x) in
       elim (t.number == n) as (λ b. (t.number == n) ≡ b → here ≡ cond b (cond (wakes_by t older w x) 1 0) 0
       → how_many arrow_here (board_told (t ∷ older)).marks ≡ (if (if b then wakes_by t older w x else wakes_told older n w x) then 1 else 0)) [
         | true ↦ λ e f.
@@ -183,7 +183,7 @@ module _ (n w : ℕ) where
   ]
   of_wakers k rows (v ∷ ws) =
       let first : how_many stray_here (stray_at k rows v) ≡ cond (list_any (waits_with v) rows) 0 (cond ((v == w) && (k == n)) (1 + 0) 0)
-          = unlisted stray_here (list_any (waits_with v) rows) (marks.Stray k v) in
+      = unlisted stray_here (list_any (waits_with v) rows) (marks.Stray k v) in
       many_append stray_here (stray_at k rows v) (flat_map (stray_at k rows) ws)
       ∙ (λ i. first i + of_wakers k rows ws i)
       ∙ stray_table (v == w) (k == n) (list_any (waits_with v) rows) (list_any (waits_with w) rows) (how_many (λ u. u == w) ws)
@@ -206,7 +206,7 @@ module _ (n w : ℕ) where
       let before : ℕ = how_many stray_here (board_told older).marks in
       let here : ℕ = how_many stray_here (flat_map (stray_at t.number (rows_at t older)) t.wakes) in
       let all : how_many stray_here (board_told (t ∷ older)).marks ≡ before + how_many stray_here (flat_map (arrow_to t.number t.wakes) (rows_at t older)) + here
-          = in_board stray_here no_stray t older in
+      = in_board stray_here no_stray t older in
       let arrows : how_many stray_here (flat_map (arrow_to t.number t.wakes) (rows_at t older)) ≡ 0 = arrows_no_stray t.number t.wakes (rows_at t older) in
       let later : before ≡ strays_told older = strays_are_told t.number older below.1 in
       let marked : ℕ = cond (list_any (waits_with w) (rows_at t older)) 0 (how_many (λ v. v == w) t.wakes) in
@@ -271,7 +271,7 @@ module _ (n w : ℕ) where
       → cond b (cond (list_any (waits_with w) (rows_at t older)) 0 made) (strays_told older) ≡ 0) [
         | true ↦ λ e.
             let waits : waits_by w (stage_in (rows_at t older) x) ≡ true = ap (waits_by w) (rows_at_tell t older x)
-                ∙ and_second (is_woken w t.wakes) (waits_by w (stage_before t.number (deed_of t.event) x (stage_of older x))) e in
+            ∙ and_second (is_woken w t.wakes) (waits_by w (stage_before t.number (deed_of t.event) x (stage_of older x))) e in
             ap (λ b. cond b 0 made) (awaited_there x (rows_at t older) waits)
         | false ↦ λ e. woken_unmarked x older e
       ] h

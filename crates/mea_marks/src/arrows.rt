@@ -22,12 +22,7 @@ pub fn put_arrows(
     Ok(())
 }
 
-fn put_arrow(
-    marks: &mut Vec<Mark>,
-    number: u64,
-    row: Row,
-    wakes: &[u64],
-) -> Result<(), NoMemory>
+fn put_arrow(marks: &mut Vec<Mark>, number: u64, row: Row, wakes: &[u64]) -> Result<(), NoMemory>
     ensures { OnOk result (marks.new.items ≡ marks.old.items ++ arrow_to number wakes.now row) }
 {
     match row.stage {
@@ -60,12 +55,7 @@ pub fn put_strays(
     Ok(())
 }
 
-fn put_stray(
-    marks: &mut Vec<Mark>,
-    number: u64,
-    rows: &[Row],
-    waker: u64,
-) -> Result<(), NoMemory>
+fn put_stray(marks: &mut Vec<Mark>, number: u64, rows: &[Row], waker: u64) -> Result<(), NoMemory>
     ensures { OnOk result (marks.new.items ≡ marks.old.items ++ stray_at number rows.now waker) }
 {
     if !is_awaited(waker, rows) {
