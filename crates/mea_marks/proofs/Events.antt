@@ -1,16 +1,15 @@
 -- what is told of the events that are shown
-use Rattle.std.proofs.Common.{◌≡◌, ℕ, ◌+◌, ◌<◌, Bool, true, false, List, [], ◌∷◌, Option, Some, None, refl, ap, ◌∙◌, arith, if◌then◌else◌}
+use Rattle.std.proofs.Common.{◌≡◌, ℕ, ◌+◌, Bool, true, false, List, [], ◌∷◌, Option, Some, None, refl, ap, ◌∙◌, arith, if◌then◌else◌}
 use Rattle.std.specs.List.{count_by}
 use Rattle.mea_family.specs.declared.stop.Stop.{Stop}
 use Rattle.mea_events.specs.declared.event.Event.{Event}
 use Rattle.mea_lines.specs.Lines.{event_of}
 use Rattle.mea_script.specs.Lines.{is_long, lines_of}
-use Rattle.mea_marks.specs.declared.ending.Ending.TheVariants.{Stopped, TooGreat}
-use Rattle.mea_marks.specs.declared.thing.Thing.{Thing}
+use Rattle.mea_marks.specs.declared.ending.Ending.TheVariants.{TooGreat}
 use Rattle.mea_marks.specs.Events.{told, told_at, told_line, told_from, told_of, ShowsStages}
-use Rattle.mea_marks.specs.Laws.{Told, board_told, stage_of, stage_in}
+use Rattle.mea_marks.specs.Laws.{Told, board_told, stage_in}
 use Rattle.mea_marks.specs.Marks.{Board}
-use Rattle.mea_marks.specs.Script.{Steps, Shown, ended, is_great, shown_on, shown_at, shown_line, shown_from, shown_of, marks_of}
+use Rattle.mea_marks.specs.Script.{Steps, Shown, ended, is_great, shown_at, shown_line, shown_from, shown_of, marks_of}
 use Rattle.mea_marks.specs.declared.mark.Mark.{Mark}
 use Rattle.mea_marks.specs.Wakes.{is_arrow, is_stray, ShowsWakes}
 use Rattle.mea_marks.proofs.Rows.{rows_tell}

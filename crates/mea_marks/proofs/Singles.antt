@@ -1,5 +1,5 @@
 -- no thing has two rows
-use Rattle.std.proofs.Common.{◌≡◌, ℕ, ◌+◌, ◌≤◌, ◌||◌, ◌++◌, Bool, true, false, cond, List, [], ◌∷◌, refl, ap, sym, ◌∙◌, arith, if◌then◌else◌}
+use Rattle.std.proofs.Common.{◌≡◌, ℕ, ◌+◌, ◌≤◌, ◌||◌, ◌++◌, true, false, cond, List, [], ◌∷◌, refl, sym, arith, if◌then◌else◌}
 use Rattle.mea_family.specs.declared.answer.Answer.{Answer}
 use Rattle.mea_marks.specs.declared.deed.Deed.{Deed}
 use Rattle.mea_marks.specs.declared.deed.Deed.TheVariants.{Makes, Begins, Copies, Polls, Ends, Other}

@@ -15,7 +15,7 @@ use Rattle.mea_marks.specs.declared.row.Stage.TheVariants as stages
 use Rattle.mea_marks.specs.declared.sort.Sort.{Sort}
 use Rattle.mea_marks.specs.declared.thing.Thing.{Thing}
 use Rattle.mea_marks.specs.Deeds.{deed_of}
-use Rattle.mea_marks.specs.Rows.{is_of, waits_with, with_stage, has_row, put_stage, add_row}
+use Rattle.mea_marks.specs.Rows.{waits_with, with_stage, has_row, put_stage, add_row}
 use Rattle.mea_marks.specs.Sorts.{is_lasting}
 
 -- ---- the rows
