@@ -20,14 +20,18 @@ fn work<L: Ledger, R: Wait + Abort>(
     let mut pass = pass;
     let asked = semaphore.act(rt, &mut pass, &SemEvent::Acq(0, 1));
     let future = asked.ok().expect(rt, "a future").number;
+    // The future while it waits, and the permit from the poll on that got it.
+    let mut held = future;
     for _ in 0..3u8 {
         let polled = semaphore.act(rt, &mut pass, &SemEvent::Poll(future, waker));
-        if polled.ok().expect(rt, "an answer").answer == Answer::Ready {
+        let receipt = polled.ok().expect(rt, "an answer");
+        if receipt.answer == Answer::Ready {
+            held = receipt.number;
             break;
         }
         thread::yield_now();
     }
-    let ended = semaphore.act(rt, &mut pass, &SemEvent::End(future));
+    let ended = semaphore.act(rt, &mut pass, &SemEvent::End(held));
     ended.ok().expect(rt, "an end");
     pass
 }
