@@ -178,12 +178,7 @@ impl<
 }
 
 /// One of the crowd.
-pub(crate) type KeepTask<'a, R> = KeepMember<
-    Fills<'a, R>,
-    Calls<'a, R>,
-    Maps<'a, R>,
-    Flies<'a, R>,
->;
+pub(crate) type KeepTask<'a, R> = KeepMember<Fills<'a, R>, Calls<'a, R>, Maps<'a, R>, Flies<'a, R>>;
 
 // A task that waits for a claim, or computes the value in two polls, and was never polled.
 fn computing<
