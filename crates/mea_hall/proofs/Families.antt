@@ -1,6 +1,6 @@
 -- an event is played on the hall of its family alone
-use Rattle.std.proofs.Common.{◌≡◌, ℕ, ◌+◌, ◌≤◌, ◌++◌, Bool, true, false, cond, [], length, Result, Ok, Err, is_err, refl, ap, ◌∙◌, arith, append-nil}
-use Rattle.std.specs.Result.{IfOk, OnOk}
+use Rattle.std.proofs.Common.{◌≡◌, ℕ, ◌+◌, ◌≤◌, ◌++◌, length, Result, Ok, Err, refl, sym, ap, ◌∙◌, arith, rules}
+use Rattle.std.specs.Result.{IfOk}
 use Rattle.mea_family.specs.declared.answer.Answer.{Answer}
 use Rattle.mea_family.specs.declared.stop.Stop.{Stop}
 use Rattle.mea_base.proofs.Totals.{total-empty}
@@ -9,14 +9,14 @@ use Rattle.mea_sem_model.specs.Hall as sem_hall
 use Rattle.mea_sem_model.specs.Step as sem_step
 use Rattle.mea_sem_model.specs.Waiters as sem_waiters
 use Rattle.mea_sem_model.proofs.Waiting as sem_laws
-use Rattle.mea_sem.specs.Play as sem
 use Rattle.mea_events.specs.declared.meet_event.MeetEvent.{MeetEvent}
 use Rattle.mea_meet_model.specs.Hall as meet_hall
 use Rattle.mea_meet_model.specs.Step as meet_step
 use Rattle.mea_meet_model.proofs.MostWoken as meet_most
 use Rattle.mea_meet_model.proofs.Registrations as meet_laws
-use Rattle.mea_meet.specs.Play as meet
-use Rattle.mea_family.specs.Play as named
+use Rattle.mea_base.specs.Ready.{Waking}
+use Rattle.mea_family.specs.Family as families
+use Rattle.mea_family.specs.Play.{Part, PartYields}
 use Rattle.mea_by_name.specs.NamedQueue.{Waiting}
 use Rattle.mea_events.specs.declared.lock_event.LockEvent.{LockEvent}
 use Rattle.mea_lock_model.specs.Locks.{Lock as LockRecord, waiting_at}
@@ -42,8 +42,9 @@ use Rattle.mea_once_model.specs.Meaning as once_meaning
 use Rattle.mea_once_model.proofs.Wakers as once_laws
 use Rattle.mea_events.specs.declared.event.Event.{Event}
 use Rattle.mea_events.specs.declared.event.Event.TheVariants.{Sem, Meet, Lock, Chan, Share, Once}
-use Rattle.mea_hall.specs.World.{World, OthersStay, empty_world, registered, registers, step}
-use Rattle.mea_hall.specs.Families.{LockPlay, ChanPlay, SharePlay, OncePlay, world_of, PlaysFamilies}
+use Rattle.mea_hall.specs.declared.families.Families.{Families}
+use Rattle.mea_hall.specs.World.{World, Outcome, OthersStay, empty_world, registered, step}
+use Rattle.mea_hall.specs.Families.{world_of, AreBelow, PlaysFamilies}
 
 if_ok : {A E : Type 0} (P Q : A → Type 0) (r : Result A E) → ((a : A) → P a → Q a) → IfOk r P → IfOk r Q
 if_ok P Q (Ok a) f h = f a h
@@ -59,6 +60,16 @@ most_woken w i (Chan e) = omega (arith, (chan_laws.counted w.chans i e).0)
 most_woken w i (Share e) = omega (arith, (share_laws.counted w.shares i e).0)
 most_woken w i (Once e) = omega (arith, (once_laws.counted w.onces i e).most)
 
+-- and registers one at the most
+pub grows : (w : World) (i : ℕ) (e : Event) → registered (step w i e).world ≤ registered w + 1
+unfolding step
+grows w i (Sem e) = omega (arith, (sem_laws.settles w.semaphores i e).grows)
+grows w i (Meet e) = omega (arith, meet_laws.grows w.meets i e)
+grows w i (Lock e) = omega (arith, (lock_laws.counted w.locks i e).grows, lock_laws.extra-least (lock_meaning.registers e))
+grows w i (Chan e) = omega (arith, (chan_laws.counted w.chans i e).1, chan_laws.extra-least (chan_meaning.registers e))
+grows w i (Share e) = omega (arith, (share_laws.counted w.shares i e).1, share_laws.extra-least (share_meaning.registers e))
+grows w i (Once e) = omega (arith, (once_laws.counted w.onces i e).grows, once_laws.extra-least (once_meaning.registers e))
+
 -- in an empty world no waker is registered
 pub none_registered : registered empty_world ≡ 0
 none_registered = let semaphores : sem_waiters.waiters sem_hall.empty_hall ≡ 0 = total-empty (λ s r. sem_waiters.waiters_in r.queue) in
@@ -67,217 +78,49 @@ none_registered = let semaphores : sem_waiters.waiters sem_hall.empty_hall ≡ 0
     let shares : share_hall.registered share_hall.empty_hall ≡ 0 = total-empty (λ o (r : share_hall.Admission). waiting_in r.shares) in
     omega (arith, semaphores, meet_laws.none_registered, locks, chans, shares, once_laws.none_registered)
 
--- ---- a semaphore event
-semaphores_played : (old : sem.Play) (m : meet.Play) (l : LockPlay) (c : ChanPlay) (h : SharePlay) (o : OncePlay) (i : ℕ) (e : SemEvent) (answer : Answer) (new : sem.Play) → sem.Plays old i e answer new
-    → old.wakes ≡ [] → m.wakes ≡ [] → l.wakes ≡ [] → c.wakes ≡ [] → h.wakes ≡ [] → o.wakes ≡ [] → m.next ≤ i → l.next ≤ i → c.next ≤ i → h.next ≤ i → o.next ≤ i → PlaysFamilies (world_of old m l c h o) i (Sem e) answer new m l c h o
-unfolding step OthersStay registers
-semaphores_played old m l c h o i e answer new p quiet rest still calm idle hush low lock_low chan_low share_low once_low =
-    let hall : new.hall ≡ (sem_step.step old.hall i e).hall = ap (λ (q : sem.Play). q.hall) p.moved in
-    let wakes : new.wakes ≡ (sem_step.step old.hall i e).wakes =
-    ap (λ (q : sem.Play). q.wakes) p.moved ∙ ap (λ ws. ws ++ (sem_step.step old.hall i e).wakes) quiet in
-    let next : new.next ≡ i + 1 = ap (λ (q : sem.Play). q.next) p.moved in
-    let law = sem_laws.settles old.hall i e in
-    let ready : length new.wakes ≡ length (sem_step.step old.hall i e).wakes = ap length wakes in
-    let waiting : sem_waiters.waiters new.hall ≡ sem_waiters.waiters (sem_step.step old.hall i e).hall = ap sem_waiters.waiters hall in
-    let none : length m.wakes ≡ 0 = ap length rest in
-    let none_locked : length l.wakes ≡ 0 = ap length still in
-    let none_sent : length c.wakes ≡ 0 = ap length calm in
-    let none_shared : length h.wakes ≡ 0 = ap length idle in
-    let none_called : length o.wakes ≡ 0 = ap length hush in
-    record {
-      replied = p.replied;
-      world = λ k. record { semaphores = hall k; meets = m.hall; locks = l.hall; chans = c.hall; shares = h.hall; onces = o.hall };
-      alone = (refl, refl, refl, refl, refl);
-      woken = (λ k. new.wakes ++ rest k ++ still k ++ calm k ++ idle k ++ hush k) ∙ append-nil (new.wakes ++ [] ++ [] ++ [] ++ []) ∙ append-nil (new.wakes ++ [] ++ [] ++ []) ∙ append-nil (new.wakes ++ [] ++ []) ∙ append-nil (new.wakes ++ []) ∙ append-nil new.wakes ∙ wakes;
-      low = (omega (arith, next), omega (arith, low), omega (arith, lock_low), omega (arith, chan_low), omega (arith, share_low), omega (arith, once_low));
-      grows = omega (arith, law.grows, ready, waiting, none, none_locked, none_sent, none_shared, none_called);
-      falls = λ f. omega (arith, law.falls f, ready, waiting, none, none_locked, none_sent, none_shared, none_called);
-    }
+-- ---- an event of one family
+-- such an event, where this puts what it leaves of the family among all families
+pub record IsOf {H : Type 0} (count : H → ℕ) (put : Part H → Families) (old : Families) (i : ℕ) (event : Event) (part : Part H) (o : families.Outcome H) : Type 0 where
+  pub steps : ◌≡◌ {A = Outcome} (step (world_of old) i event) (record { world = world_of (put (record { hall = o.hall; next = i + 1 })); reply = (o.reply, o.wakes) })
+  pub alone : (new : Part H) → OthersStay event (world_of old) (world_of (put new))
+  pub sums : (new : Part H) → registered (world_of (put new)) + count part.hall ≡ registered (world_of old) + count new.hall
+  pub below : (new : Part H) → new.next ≤ i + 1 → AreBelow (put new) (i + 1)
 
-pub plays_semaphores : (old : sem.Play) (m : meet.Play) (l : LockPlay) (c : ChanPlay) (h : SharePlay) (o : OncePlay) (i : ℕ) (event : Event) (e : SemEvent) (r : Result Answer Stop) (new : sem.Play)
-    → event ≡ Sem e → old.wakes ≡ [] → m.wakes ≡ [] → l.wakes ≡ [] → c.wakes ≡ [] → h.wakes ≡ [] → o.wakes ≡ [] → m.next ≤ i → l.next ≤ i → c.next ≤ i → h.next ≤ i → o.next ≤ i
-    → IfOk r (λ reply. sem.Plays old i e reply new) → IfOk r (λ answer. PlaysFamilies (world_of old m l c h o) i event answer new m l c h o)
-plays_semaphores old m l c h o i event e r new is quiet rest still calm idle hush low lock_low chan_low share_low once_low = if_ok (λ reply. sem.Plays old i e reply new)
-    (λ answer. PlaysFamilies (world_of old m l c h o) i event answer new m l c h o) r (λ answer p.
-    rw is (semaphores_played old m l c h o i e answer new p quiet rest still calm idle hush low lock_low chan_low share_low once_low))
+-- what was played on its family was played on all
+pub plays_one : {H : Type 0} {count : H → ℕ} {put : Part H → Families} {old : Families} {i : ℕ} {event told : Event} {part : Part H} {o : families.Outcome H} → told ≡ event → IsOf count put old i event part o
+    → (new : Part H) (before after : Waking ℕ) (r : Result Answer Stop) → IfOk r (λ answer. PartYields count part i o answer new before after) → IfOk r (λ answer. PlaysFamilies old i told answer (put new) before after)
+plays_one {H} {count} {put} {old} {i} {event} {told} {part} {o} is of new before after r =
+    if_ok (λ answer. PartYields count part i o answer new before after) (λ answer. PlaysFamilies old i told answer (put new) before after) r (λ answer yields. rw is (record {
+      replied = yields.replied ∙ sym (ap (λ (s : Outcome). s.reply.0) of.steps);
+      world = ap (λ p. world_of (put p)) yields.moved ∙ sym (ap (λ (s : Outcome). s.world) of.steps);
+      alone = of.alone new;
+      woken = yields.woken ∙ ap (λ ws. before.wakers ++ ws) (sym (ap (λ (s : Outcome). s.reply.1) of.steps));
+      counted = omega (arith, yields.counted, ap (λ (p : Part H). count p.hall) yields.moved, of.sums new);
+      below = of.below new (omega (arith, ap (λ (p : Part H). p.next) yields.moved));
+    }))
 
--- ---- an event of the meeting points
-meets_played : (s : sem.Play) (old : meet.Play) (l : LockPlay) (c : ChanPlay) (h : SharePlay) (o : OncePlay) (i : ℕ) (e : MeetEvent) (answer : Answer) (new : meet.Play) → meet.Plays old i e answer new
-    → s.wakes ≡ [] → old.wakes ≡ [] → l.wakes ≡ [] → c.wakes ≡ [] → h.wakes ≡ [] → o.wakes ≡ [] → s.next ≤ i → l.next ≤ i → c.next ≤ i → h.next ≤ i → o.next ≤ i → PlaysFamilies (world_of s old l c h o) i (Meet e) answer s new l c h o
-unfolding step OthersStay registers
-meets_played s old l c h o i e answer new p rest quiet still calm idle hush low lock_low chan_low share_low once_low =
-    let hall : new.hall ≡ (meet_step.step old.hall i e).hall = ap (λ (q : meet.Play). q.hall) p.moved in
-    let wakes : new.wakes ≡ (meet_step.step old.hall i e).wakes =
-    ap (λ (q : meet.Play). q.wakes) p.moved ∙ ap (λ ws. ws ++ (meet_step.step old.hall i e).wakes) quiet in
-    let next : new.next ≡ i + 1 = ap (λ (q : meet.Play). q.next) p.moved in
-    let ready : length new.wakes ≡ length (meet_step.step old.hall i e).wakes = ap length wakes in
-    let waiting : meet_hall.registered new.hall ≡ meet_hall.registered (meet_step.step old.hall i e).hall = ap meet_hall.registered hall in
-    let none : length s.wakes ≡ 0 = ap length rest in
-    let none_locked : length l.wakes ≡ 0 = ap length still in
-    let none_sent : length c.wakes ≡ 0 = ap length calm in
-    let none_shared : length h.wakes ≡ 0 = ap length idle in
-    let none_called : length o.wakes ≡ 0 = ap length hush in
-    record {
-      replied = p.replied;
-      world = λ k. record { semaphores = s.hall; meets = hall k; locks = l.hall; chans = c.hall; shares = h.hall; onces = o.hall };
-      alone = (refl, refl, refl, refl, refl);
-      woken = (λ k. rest k ++ new.wakes ++ still k ++ calm k ++ idle k ++ hush k) ∙ append-nil (new.wakes ++ [] ++ [] ++ []) ∙ append-nil (new.wakes ++ [] ++ []) ∙ append-nil (new.wakes ++ []) ∙ append-nil new.wakes ∙ wakes;
-      low = (omega (arith, low), omega (arith, next), omega (arith, lock_low), omega (arith, chan_low), omega (arith, share_low), omega (arith, once_low));
-      grows = omega (arith, meet_laws.grows old.hall i e, ready, waiting, none, none_locked, none_sent, none_shared, none_called);
-      falls = λ f. omega (arith, meet_laws.falls old.hall i e f, ready, waiting, none, none_locked, none_sent, none_shared, none_called);
-    }
+-- each family's events are such
+module _ (f : Families) (i : ℕ) (low : AreBelow f i) where
+  pub of_semaphores : (e : SemEvent) → IsOf sem_waiters.waiters (λ s. record f { semaphores = s }) f i (Sem e) f.semaphores (sem_step.step f.semaphores.hall i e)
+  unfolding step OthersStay
+  of_semaphores e = record { steps = refl; alone = λ s. (refl, refl, refl, refl, refl); sums = λ s. omega arith; below = λ s b. search rules }
 
-pub plays_meets : (s : sem.Play) (old : meet.Play) (l : LockPlay) (c : ChanPlay) (h : SharePlay) (o : OncePlay) (i : ℕ) (event : Event) (e : MeetEvent) (r : Result Answer Stop) (new : meet.Play) → event ≡ Meet e
-    → s.wakes ≡ [] → old.wakes ≡ [] → l.wakes ≡ [] → c.wakes ≡ [] → h.wakes ≡ [] → o.wakes ≡ [] → s.next ≤ i → l.next ≤ i → c.next ≤ i → h.next ≤ i → o.next ≤ i
-    → IfOk r (λ reply. meet.Plays old i e reply new) → IfOk r (λ answer. PlaysFamilies (world_of s old l c h o) i event answer s new l c h o)
-plays_meets s old l c h o i event e r new is rest quiet still calm idle hush low lock_low chan_low share_low once_low = if_ok (λ reply. meet.Plays old i e reply new)
-    (λ answer. PlaysFamilies (world_of s old l c h o) i event answer s new l c h o) r (λ answer p.
-    rw is (meets_played s old l c h o i e answer new p rest quiet still calm idle hush low lock_low chan_low share_low once_low))
+  pub of_meets : (e : MeetEvent) → IsOf meet_hall.registered (λ m. record f { meets = m }) f i (Meet e) f.meets (meet_step.step f.meets.hall i e)
+  unfolding step OthersStay
+  of_meets e = record { steps = refl; alone = λ m. (refl, refl, refl, refl, refl); sums = λ m. omega arith; below = λ m b. search rules }
 
--- ---- an event of locks
-locks_played : (s : sem.Play) (m : meet.Play) (old : LockPlay) (c : ChanPlay) (h : SharePlay) (o : OncePlay) (i : ℕ) (e : LockEvent) (answer : Answer) (new : LockPlay) → named.Yields old i (lock_meaning.step old.hall i e) answer new
-    → s.wakes ≡ [] → m.wakes ≡ [] → old.wakes ≡ [] → c.wakes ≡ [] → h.wakes ≡ [] → o.wakes ≡ [] → s.next ≤ i → m.next ≤ i → c.next ≤ i → h.next ≤ i → o.next ≤ i → PlaysFamilies (world_of s m old c h o) i (Lock e) answer s m new c h o
-unfolding step OthersStay registers
-locks_played s m old c h o i e answer new p rest still quiet calm idle hush low meet_low chan_low share_low once_low =
-    let hall : new.hall ≡ (lock_meaning.step old.hall i e).hall = ap (λ (q : LockPlay). q.hall) p.moved in
-    let wakes : new.wakes ≡ (lock_meaning.step old.hall i e).wakes =
-    ap (λ (q : LockPlay). q.wakes) p.moved ∙ ap (λ ws. ws ++ (lock_meaning.step old.hall i e).wakes) quiet in
-    let next : new.next ≡ i + 1 = ap (λ (q : LockPlay). q.next) p.moved in
-    let law = lock_laws.counted old.hall i e in
-    let ready : length new.wakes ≡ length (lock_meaning.step old.hall i e).wakes = ap length wakes in
-    let waiting : lock_hall.registered new.hall ≡ lock_hall.registered (lock_meaning.step old.hall i e).hall = ap lock_hall.registered hall in
-    let none : length s.wakes ≡ 0 = ap length rest in
-    let none_met : length m.wakes ≡ 0 = ap length still in
-    let none_sent : length c.wakes ≡ 0 = ap length calm in
-    let none_shared : length h.wakes ≡ 0 = ap length idle in
-    let none_called : length o.wakes ≡ 0 = ap length hush in
-    record {
-      replied = p.replied;
-      world = λ k. record { semaphores = s.hall; meets = m.hall; locks = hall k; chans = c.hall; shares = h.hall; onces = o.hall };
-      alone = (refl, refl, refl, refl, refl);
-      woken = (λ k. rest k ++ still k ++ new.wakes ++ calm k ++ idle k ++ hush k) ∙ append-nil (new.wakes ++ [] ++ []) ∙ append-nil (new.wakes ++ []) ∙ append-nil new.wakes ∙ wakes;
-      low = (omega (arith, low), omega (arith, meet_low), omega (arith, next), omega (arith, chan_low), omega (arith, share_low), omega (arith, once_low));
-      grows = omega (arith, law.grows, lock_laws.extra-least (lock_meaning.registers e), ready, waiting, none, none_met, none_sent, none_shared, none_called);
-      falls = λ f. let nothing : ◌≡◌ {A = ℕ} (cond (lock_meaning.registers e) 1 0) 0 = ap (λ b. cond b 1 0) f in omega (arith, law.grows, nothing, ready, waiting, none, none_met, none_sent, none_shared, none_called);
-    }
+  pub of_locks : (e : LockEvent) → IsOf lock_hall.registered (λ l. record f { locks = l }) f i (Lock e) f.locks (lock_meaning.step f.locks.hall i e)
+  unfolding step OthersStay
+  of_locks e = record { steps = refl; alone = λ l. (refl, refl, refl, refl, refl); sums = λ l. omega arith; below = λ l b. search rules }
 
-pub plays_locks : (s : sem.Play) (m : meet.Play) (old : LockPlay) (c : ChanPlay) (h : SharePlay) (o : OncePlay) (i : ℕ) (event : Event) (e : LockEvent) (r : Result Answer Stop) (new : LockPlay) → event ≡ Lock e
-    → s.wakes ≡ [] → m.wakes ≡ [] → old.wakes ≡ [] → c.wakes ≡ [] → h.wakes ≡ [] → o.wakes ≡ [] → s.next ≤ i → m.next ≤ i → c.next ≤ i → h.next ≤ i → o.next ≤ i
-    → IfOk r (λ reply. named.Yields old i (lock_meaning.step old.hall i e) reply new) → IfOk r (λ answer. PlaysFamilies (world_of s m old c h o) i event answer s m new c h o)
-plays_locks s m old c h o i event e r new is rest still quiet calm idle hush low meet_low chan_low share_low once_low = if_ok (λ reply. named.Yields old i (lock_meaning.step old.hall i e) reply new)
-    (λ answer. PlaysFamilies (world_of s m old c h o) i event answer s m new c h o) r (λ answer p.
-    rw is (locks_played s m old c h o i e answer new p rest still quiet calm idle hush low meet_low chan_low share_low once_low))
+  pub of_chans : (e : ChanEvent) → IsOf chan_hall.registered (λ c. record f { chans = c }) f i (Chan e) f.chans (chan_meaning.step f.chans.hall i e)
+  unfolding step OthersStay
+  of_chans e = record { steps = refl; alone = λ c. (refl, refl, refl, refl, refl); sums = λ c. omega arith; below = λ c b. search rules }
 
--- ---- an event of channels or boxes
-chans_played : (s : sem.Play) (m : meet.Play) (l : LockPlay) (old : ChanPlay) (h : SharePlay) (o : OncePlay) (i : ℕ) (e : ChanEvent) (answer : Answer) (new : ChanPlay) → named.Yields old i (chan_meaning.step old.hall i e) answer new
-    → s.wakes ≡ [] → m.wakes ≡ [] → l.wakes ≡ [] → old.wakes ≡ [] → h.wakes ≡ [] → o.wakes ≡ [] → s.next ≤ i → m.next ≤ i → l.next ≤ i → h.next ≤ i → o.next ≤ i → PlaysFamilies (world_of s m l old h o) i (Chan e) answer s m l new h o
-unfolding step OthersStay registers
-chans_played s m l old h o i e answer new p rest still calm quiet idle hush low meet_low lock_low share_low once_low =
-    let hall : new.hall ≡ (chan_meaning.step old.hall i e).hall = ap (λ (q : ChanPlay). q.hall) p.moved in
-    let wakes : new.wakes ≡ (chan_meaning.step old.hall i e).wakes =
-    ap (λ (q : ChanPlay). q.wakes) p.moved ∙ ap (λ ws. ws ++ (chan_meaning.step old.hall i e).wakes) quiet in
-    let next : new.next ≡ i + 1 = ap (λ (q : ChanPlay). q.next) p.moved in
-    let law = chan_laws.counted old.hall i e in
-    let ready : length new.wakes ≡ length (chan_meaning.step old.hall i e).wakes = ap length wakes in
-    let waiting : chan_hall.registered new.hall ≡ chan_hall.registered (chan_meaning.step old.hall i e).hall = ap chan_hall.registered hall in
-    let none : length s.wakes ≡ 0 = ap length rest in
-    let none_met : length m.wakes ≡ 0 = ap length still in
-    let none_locked : length l.wakes ≡ 0 = ap length calm in
-    let none_shared : length h.wakes ≡ 0 = ap length idle in
-    let none_called : length o.wakes ≡ 0 = ap length hush in
-    record {
-      replied = p.replied;
-      world = λ k. record { semaphores = s.hall; meets = m.hall; locks = l.hall; chans = hall k; shares = h.hall; onces = o.hall };
-      alone = (refl, refl, refl, refl, refl);
-      woken = (λ k. rest k ++ still k ++ calm k ++ new.wakes ++ idle k ++ hush k) ∙ append-nil (new.wakes ++ []) ∙ append-nil new.wakes ∙ wakes;
-      low = (omega (arith, low), omega (arith, meet_low), omega (arith, lock_low), omega (arith, next), omega (arith, share_low), omega (arith, once_low));
-      grows = omega (arith, law.1, chan_laws.extra-least (chan_meaning.registers e), ready, waiting, none, none_met, none_locked, none_shared, none_called);
-      falls = λ f. let nothing : ◌≡◌ {A = ℕ} (cond (chan_meaning.registers e) 1 0) 0 = ap (λ b. cond b 1 0) f in omega (arith, law.1, nothing, ready, waiting, none, none_met, none_locked, none_shared, none_called);
-    }
+  pub of_shares : (e : ShareEvent) → IsOf share_hall.registered (λ h. record f { shares = h }) f i (Share e) f.shares (share_meaning.step f.shares.hall i e)
+  unfolding step OthersStay
+  of_shares e = record { steps = refl; alone = λ h. (refl, refl, refl, refl, refl); sums = λ h. omega arith; below = λ h b. search rules }
 
-pub plays_chans : (s : sem.Play) (m : meet.Play) (l : LockPlay) (old : ChanPlay) (h : SharePlay) (o : OncePlay) (i : ℕ) (event : Event) (e : ChanEvent) (r : Result Answer Stop) (new : ChanPlay) → event ≡ Chan e
-    → s.wakes ≡ [] → m.wakes ≡ [] → l.wakes ≡ [] → old.wakes ≡ [] → h.wakes ≡ [] → o.wakes ≡ [] → s.next ≤ i → m.next ≤ i → l.next ≤ i → h.next ≤ i → o.next ≤ i
-    → IfOk r (λ reply. named.Yields old i (chan_meaning.step old.hall i e) reply new) → IfOk r (λ answer. PlaysFamilies (world_of s m l old h o) i event answer s m l new h o)
-plays_chans s m l old h o i event e r new is rest still calm quiet idle hush low meet_low lock_low share_low once_low = if_ok (λ reply. named.Yields old i (chan_meaning.step old.hall i e) reply new)
-    (λ answer. PlaysFamilies (world_of s m l old h o) i event answer s m l new h o) r (λ answer p.
-    rw is (chans_played s m l old h o i e answer new p rest still calm quiet idle hush low meet_low lock_low share_low once_low))
-
--- ---- an event of fair admission
-shares_played : (s : sem.Play) (m : meet.Play) (l : LockPlay) (c : ChanPlay) (old : SharePlay) (o : OncePlay) (i : ℕ) (e : ShareEvent) (answer : Answer) (new : SharePlay) → named.Yields old i (share_meaning.step old.hall i e) answer new
-    → s.wakes ≡ [] → m.wakes ≡ [] → l.wakes ≡ [] → c.wakes ≡ [] → old.wakes ≡ [] → o.wakes ≡ [] → s.next ≤ i → m.next ≤ i → l.next ≤ i → c.next ≤ i → o.next ≤ i → PlaysFamilies (world_of s m l c old o) i (Share e) answer s m l c new o
-unfolding step OthersStay registers
-shares_played s m l c old o i e answer new p rest still calm idle quiet hush low meet_low lock_low chan_low once_low =
-    let hall : new.hall ≡ (share_meaning.step old.hall i e).hall = ap (λ (q : SharePlay). q.hall) p.moved in
-    let wakes : new.wakes ≡ (share_meaning.step old.hall i e).wakes =
-    ap (λ (q : SharePlay). q.wakes) p.moved ∙ ap (λ ws. ws ++ (share_meaning.step old.hall i e).wakes) quiet in
-    let next : new.next ≡ i + 1 = ap (λ (q : SharePlay). q.next) p.moved in
-    let law = share_laws.counted old.hall i e in
-    let ready : length new.wakes ≡ length (share_meaning.step old.hall i e).wakes = ap length wakes in
-    let waiting : share_hall.registered new.hall ≡ share_hall.registered (share_meaning.step old.hall i e).hall = ap share_hall.registered hall in
-    let none : length s.wakes ≡ 0 = ap length rest in
-    let none_met : length m.wakes ≡ 0 = ap length still in
-    let none_locked : length l.wakes ≡ 0 = ap length calm in
-    let none_sent : length c.wakes ≡ 0 = ap length idle in
-    let none_called : length o.wakes ≡ 0 = ap length hush in
-    record {
-      replied = p.replied;
-      world = λ k. record { semaphores = s.hall; meets = m.hall; locks = l.hall; chans = c.hall; shares = hall k; onces = o.hall };
-      alone = (refl, refl, refl, refl, refl);
-      woken = (λ k. rest k ++ still k ++ calm k ++ idle k ++ new.wakes ++ hush k) ∙ append-nil new.wakes ∙ wakes;
-      low = (omega (arith, low), omega (arith, meet_low), omega (arith, lock_low), omega (arith, chan_low), omega (arith, next), omega (arith, once_low));
-      grows = omega (arith, law.1, share_laws.extra-least (share_meaning.registers e), ready, waiting, none, none_met, none_locked, none_sent, none_called);
-      falls = λ f. let nothing : ◌≡◌ {A = ℕ} (cond (share_meaning.registers e) 1 0) 0 = ap (λ b. cond b 1 0) f in omega (arith, law.1, nothing, ready, waiting, none, none_met, none_locked, none_sent, none_called);
-    }
-
-pub plays_shares : (s : sem.Play) (m : meet.Play) (l : LockPlay) (c : ChanPlay) (old : SharePlay) (o : OncePlay) (i : ℕ) (event : Event) (e : ShareEvent) (r : Result Answer Stop) (new : SharePlay) → event ≡ Share e
-    → s.wakes ≡ [] → m.wakes ≡ [] → l.wakes ≡ [] → c.wakes ≡ [] → old.wakes ≡ [] → o.wakes ≡ [] → s.next ≤ i → m.next ≤ i → l.next ≤ i → c.next ≤ i → o.next ≤ i
-    → IfOk r (λ reply. named.Yields old i (share_meaning.step old.hall i e) reply new) → IfOk r (λ answer. PlaysFamilies (world_of s m l c old o) i event answer s m l c new o)
-plays_shares s m l c old o i event e r new is rest still calm idle quiet hush low meet_low lock_low chan_low once_low = if_ok (λ reply. named.Yields old i (share_meaning.step old.hall i e) reply new)
-    (λ answer. PlaysFamilies (world_of s m l c old o) i event answer s m l c new o) r (λ answer p.
-    rw is (shares_played s m l c old o i e answer new p rest still calm idle quiet hush low meet_low lock_low chan_low once_low))
-
--- ---- an event of once types
-onces_played : (s : sem.Play) (m : meet.Play) (l : LockPlay) (c : ChanPlay) (h : SharePlay) (old : OncePlay) (i : ℕ) (e : OnceEvent) (answer : Answer) (new : OncePlay) → named.Yields old i (once_meaning.step old.hall i e) answer new
-    → s.wakes ≡ [] → m.wakes ≡ [] → l.wakes ≡ [] → c.wakes ≡ [] → h.wakes ≡ [] → old.wakes ≡ [] → s.next ≤ i → m.next ≤ i → l.next ≤ i → c.next ≤ i → h.next ≤ i → PlaysFamilies (world_of s m l c h old) i (Once e) answer s m l c h new
-unfolding step OthersStay registers
-onces_played s m l c h old i e answer new p rest still calm hush idle quiet low meet_low lock_low chan_low share_low =
-    let hall : new.hall ≡ (once_meaning.step old.hall i e).hall = ap (λ (q : OncePlay). q.hall) p.moved in
-    let wakes : new.wakes ≡ (once_meaning.step old.hall i e).wakes =
-    ap (λ (q : OncePlay). q.wakes) p.moved ∙ ap (λ ws. ws ++ (once_meaning.step old.hall i e).wakes) quiet in
-    let next : new.next ≡ i + 1 = ap (λ (q : OncePlay). q.next) p.moved in
-    let law = once_laws.counted old.hall i e in
-    let ready : length new.wakes ≡ length (once_meaning.step old.hall i e).wakes = ap length wakes in
-    let waiting : once_hall.registered new.hall ≡ once_hall.registered (once_meaning.step old.hall i e).hall = ap once_hall.registered hall in
-    let none : length s.wakes ≡ 0 = ap length rest in
-    let none_met : length m.wakes ≡ 0 = ap length still in
-    let none_locked : length l.wakes ≡ 0 = ap length calm in
-    let none_sent : length c.wakes ≡ 0 = ap length hush in
-    let none_shared : length h.wakes ≡ 0 = ap length idle in
-    record {
-      replied = p.replied;
-      world = λ k. record { semaphores = s.hall; meets = m.hall; locks = l.hall; chans = c.hall; shares = h.hall; onces = hall k };
-      alone = (refl, refl, refl, refl, refl);
-      woken = (λ k. rest k ++ still k ++ calm k ++ hush k ++ idle k ++ new.wakes) ∙ wakes;
-      low = (omega (arith, low), omega (arith, meet_low), omega (arith, lock_low), omega (arith, chan_low), omega (arith, share_low), omega (arith, next));
-      grows = omega (arith, law.grows, once_laws.extra-least (once_meaning.registers e), ready, waiting, none, none_met, none_locked, none_sent, none_shared);
-      falls = λ f. let nothing : ◌≡◌ {A = ℕ} (cond (once_meaning.registers e) 1 0) 0 = ap (λ b. cond b 1 0) f in omega (arith, law.grows, nothing, ready, waiting, none, none_met, none_locked, none_sent, none_shared);
-    }
-
-pub plays_onces : (s : sem.Play) (m : meet.Play) (l : LockPlay) (c : ChanPlay) (h : SharePlay) (old : OncePlay) (i : ℕ) (event : Event) (e : OnceEvent) (r : Result Answer Stop) (new : OncePlay) → event ≡ Once e
-    → s.wakes ≡ [] → m.wakes ≡ [] → l.wakes ≡ [] → c.wakes ≡ [] → h.wakes ≡ [] → old.wakes ≡ [] → s.next ≤ i → m.next ≤ i → l.next ≤ i → c.next ≤ i → h.next ≤ i
-    → IfOk r (λ reply. named.Yields old i (once_meaning.step old.hall i e) reply new) → IfOk r (λ answer. PlaysFamilies (world_of s m l c h old) i event answer s m l c h new)
-plays_onces s m l c h old i event e r new is rest still calm hush idle quiet low meet_low lock_low chan_low share_low = if_ok (λ reply. named.Yields old i (once_meaning.step old.hall i e) reply new)
-    (λ answer. PlaysFamilies (world_of s m l c h old) i event answer s m l c h new) r (λ answer p.
-    rw is (onces_played s m l c h old i e answer new p rest still calm hush idle quiet low meet_low lock_low chan_low share_low))
-
--- room for as many wakers as were registered, and for one more that the event registers, is room for all after it
-pub has_room : {A E : Type 0} (r : Result A E) (old : World) (i : ℕ) (event : Event) (answer : Answer) (s : sem.Play) (m : meet.Play) (l : LockPlay) (c : ChanPlay) (h : SharePlay) (o : OncePlay) (n before after : ℕ)
-    → PlaysFamilies old i event answer s m l c h o → is_err r ≡ false → n ≡ registered old → registered old ≤ before → before ≤ after
-    → OnOk r (registers event ≡ true → n + 1 ≤ after)
-    → registered (world_of s m l c h o) + length s.wakes + length m.wakes + length l.wakes + length c.wakes + length h.wakes + length o.wakes ≤ after
-has_room (Err e) old i event answer s m l c h o n before after p ok count few more room = absurd (cc)
-has_room (Ok a) old i event answer s m l c h o n before after p ok count few more room = by_kind (registers event) refl
-  where
-    by_kind : (b : Bool) → registers event ≡ b → registered (world_of s m l c h o) + length s.wakes + length m.wakes + length l.wakes + length c.wakes + length h.wakes + length o.wakes ≤ after
-    by_kind true is = omega (arith, p.grows, count, room is)
-    by_kind false is = omega (arith, p.falls is, few, more)
+  pub of_onces : (e : OnceEvent) → IsOf once_hall.registered (λ o. record f { onces = o }) f i (Once e) f.onces (once_meaning.step f.onces.hall i e)
+  unfolding step OthersStay
+  of_onces e = record { steps = refl; alone = λ o. (refl, refl, refl, refl, refl); sums = λ o. omega arith; below = λ o b. search rules }

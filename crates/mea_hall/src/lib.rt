@@ -2,10 +2,10 @@
 //! crate for each family's hall and the events of all lines; above it the program.
 #![tactic(auto)]
 
+mod families;
 mod hall;
 mod history;
 mod played;
-mod waking;
 
 pub use hall::Hall;
 pub use history::{grants_follow_first_polls, no_wake_is_lost, permits_balance};
