@@ -1,4 +1,4 @@
-ghost use Rattle.std.specs.Prelude.{◌≡◌, ◌≢◌, ◌≤◌, ◌⊎◌, None, Some, OnOk, OnErr, IfOk, IfErr};
+ghost use Rattle.std.specs.Prelude.{◌≡◌, ◌≢◌, ◌≤◌, ◌⊎◌, ℕ, None, Some, OnOk, OnErr, IfOk, IfErr};
 ghost use Rattle.mea_hall.specs.World.{empty_world, IsValid, TakesNoMemory, cause_of, registered};
 ghost use Rattle.mea_hall.specs.Families.{world_of, AreBelow, PlaysFamilies};
 
@@ -42,10 +42,9 @@ impl Families {
         }
     }
 
-    /// What holds of all families where so many events were played. It does nothing.
-    pub fn are_valid(&self, events: u64)
-        requires { AreBelow self.now events }
-        ensures { IsValid (world_of self.now) events }
+    /// What holds of all families, where n events were played. It does nothing.
+    pub fn are_valid(&self)
+        ensures { (n : ℕ) → AreBelow self.now n → IsValid (world_of self.now) n }
     {
         validity_is_kept();
         self.semaphores.is_valid();

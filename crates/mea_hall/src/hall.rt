@@ -95,7 +95,7 @@ impl Hall {
         ensures few { result ≤ self.now.events }
         ensures valid { IsValid self.now.world self.now.events }
     {
-        self.families.are_valid(self.events);
+        self.families.are_valid();
         self.ready.registered()
     }
 
