@@ -12,9 +12,7 @@ use Rattle.mea_meet_model.specs.Barriers as barriers
 use Rattle.mea_meet_model.specs.Barriers.{Barriers}
 use Rattle.mea_meet_model.specs.Counts as counts
 use Rattle.mea_meet_model.specs.Counts.{Counts, Wait, is_holder, borrowers_of, borrows}
-use Rattle.mea_meet_model.specs.CountActions.{act_in}
-use Rattle.mea_meet_model.specs.BarrierActions.{act_at}
-use Rattle.mea_meet_model.specs.Hall.{Hall, Latches, Groups, Shutdowns, registered as all_registered}
+use Rattle.mea_meet_model.specs.Hall.{Latches, Groups, Shutdowns, registered as all_registered}
 use Rattle.mea_meet_model.specs.Meaning.{Doing, OnBarriers, OnCounts, doing}
 use Rattle.mea_meet_model.specs.Step.{step, step_by}
 use Rattle.mea_meet.specs.Halls.{hall_of, AreBelow, PlaysDoing, PlaysKinds}
@@ -44,11 +42,11 @@ borrowed_by_none h k allowed f y is = at (borrows y.awaits k) refl
 
 -- a part of which nothing has changed has no greater next number
 stays_below : {H : Type 0} (p p' : Part H) (i : ℕ) → p' ≡ p → p.next ≤ i → p'.next ≤ i + 1
-stays_below p p' i same below = omega (arith, ap (λ p. p.next) same)
+stays_below {H} p p' i same below = omega (arith, ap (λ (p : Part H). p.next) same)
 
 -- one that an event changed has the number of the next event
 goes_on : {H : Type 0} (p : Part H) (i : ℕ) (h : H) → p ≡ record { hall = h; next = i + 1 } → p.next ≤ i + 1
-goes_on p i h moved = omega (arith, ap (λ p. p.next) moved)
+goes_on {H} p i h moved = omega (arith, ap (λ (p : Part H). p.next) moved)
 
 -- after an event the parts have seen no number from that of the next one on
 pub below_after : (b : Part Barriers) (l g s : Part Counts) (b' : Part Barriers) (l' g' s' : Part Counts) (before after : Waking ℕ) (i : ℕ) (e : MeetEvent) (answer : Answer) → AreBelow b l g s i → PlaysKinds b l g s i e answer b' l' g' s' before after
