@@ -1,4 +1,4 @@
-use Rattle.mea_hall.proofs.Families.{plays_one, of_semaphores, of_meets, of_locks, of_chans, of_shares, of_onces}
+use Rattle.mea_hall.proofs.EachFamily.{plays_one, of_semaphores, of_meets, of_locks, of_chans, of_shares, of_onces}
 use Rattle.mea_hall.proofs.families.Families.act.Goals as goal
 
 pub returns-in-Sem-clause-played : goal.returns-in-Sem-clause-played

@@ -1,7 +1,7 @@
 use Rattle.std.proofs.Common.{◌≡◌, ◌+◌, arith, ap, sym, subst, ◌∙◌}
 use Rattle.mea_hall.specs.World.{Play, Plays, registered}
 use Rattle.mea_hall.specs.Families.{world_of}
-use Rattle.mea_hall.proofs.Families.{grows}
+use Rattle.mea_hall.proofs.EachFamily.{grows}
 use Rattle.mea_hall.proofs.hall.Hall.act.Goals as goal
 
 pub invariant_of-self-2 : goal.invariant_of-self-2

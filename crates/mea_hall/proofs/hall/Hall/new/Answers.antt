@@ -1,7 +1,7 @@
 use Rattle.std.proofs.Common.{ℕ, arith, ap, sym, ◌∙◌}
 use Rattle.mea_base.specs.Ready.{Waking}
 use Rattle.mea_hall.specs.World.{registered}
-use Rattle.mea_hall.proofs.Families.{none_registered}
+use Rattle.mea_hall.proofs.EachFamily.{none_registered}
 use Rattle.mea_hall.proofs.hall.Hall.new.Goals as goal
 
 pub invariant_of-result : goal.invariant_of-result
