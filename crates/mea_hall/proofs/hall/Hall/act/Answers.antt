@@ -13,3 +13,8 @@ invariant_of-self-2 c =
       counted = omega (arith, played.counted, c.self.invariant.counted);
       few = omega (arith, played.counted, c.self.invariant.counted, c.self.invariant.few, ap registered played.world, grows (world_of c.self.inside.families) c.self.inside.events c.args.event.now);
     }
+
+pub invariant_of-self : goal.invariant_of-self
+invariant_of-self c =
+    let held = c.self.invariant in
+    rw (c.in_err-answer.ensures.err.0, c.in_err-answer.ensures.err.1) (record { fits = held.fits; below = held.below; counted = held.counted; few = held.few })
