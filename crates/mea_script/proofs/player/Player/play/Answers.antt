@@ -1,4 +1,4 @@
-use Rattle.std.proofs.Common.{◌++◌, ◌∷◌, [], length, ap, sym, subst, arith, inl, inr, refl, length-append}
+use Rattle.std.proofs.Common.{◌+◌, ◌++◌, ◌∷◌, [], length, ap, sym, subst, arith, inl, inr, refl, length-append}
 use Rattle.std.proofs.lemmas.Result.{err_from_is_err_and}
 use Rattle.mea_script.specs.declared.begun.Begun.{Begun}
 use Rattle.mea_script.specs.Begun.{Keeps}

@@ -1,4 +1,4 @@
-use crate::running::{bytes_of, ran};
+use crate::rows::{bytes_of, ran};
 use mea_run::{MemSink, MemSource, Status};
 use std::process::Abort;
 

@@ -1,6 +1,5 @@
-use crate::running::{bytes_of, ran};
-use mea_run::{Status, SureSink, SureSource};
-use std::process::Abort;
+use crate::rows::{bytes_of, check};
+use mea_run::Status;
 
 // A script for each kind of wait, with its text. One wait is ended when it is new, one when it is pending, one when it
 // could be ready, and one after two polls with different wakers; then who is next is served.
@@ -172,18 +171,10 @@ const ROWS: &[(&str, &str)] = &[
     ),
 ];
 
-// Plays a script to its end, a few bytes at a time, and compares its text.
-fn check(rt: &(impl Abort + AllocGlobal), script: &str, text: &str) {
-    let text = bytes_of(rt, text);
-    let mut source = SureSource::new(bytes_of(rt, script), 5);
-    let mut sink = SureSink::new(rt.alloc(), 3);
-    assert!(rt; ran(rt, &["play"], &mut source, &mut sink) == Status::Done);
-    assert_eq!(rt; sink.bytes(), text.as_slice());
-}
-
 #[test]
 fn stage_table(rt: HostRuntime) {
     for (script, text) in ROWS {
-        check(&rt, script, text);
+        let text = bytes_of(&rt, text);
+        check(&rt, bytes_of(&rt, script), text.as_slice(), &Status::Done);
     }
 }
