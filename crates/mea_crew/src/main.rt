@@ -3,34 +3,21 @@
 #![tactic(auto)]
 
 use mea_crew_run::{CrewStatus, run_crew};
-use mea_io::{Sink, StdSink};
-use std::alloc::Global;
+use mea_io::StdSink;
 use std::process::ExitCode;
-use std::sync::Wait;
-use std::thread::Threads;
 use std::{env, io};
 
 fn main(rt: HostRuntime) -> ExitCode {
     let status = match words(&rt) {
         Ok(words) => {
             let mut sink = StdSink::new(io::writer(&rt));
-            ran(&rt, rt.alloc(), words.as_slice(), &mut sink)
+            run_crew(&rt, rt.alloc(), words.as_slice(), &mut sink)
         }
         Err(failed) if failed.kind() == io::ErrorKind::OutOfMemory => CrewStatus::NoMemory,
         // A word that is no text.
         Err(_) => CrewStatus::Usage,
     };
     ExitCode::from(status.code())
-}
-
-// Runs the words. It has no clause, so that `main` carries nothing of what `run_crew` promises.
-fn ran<R: Threads + Wait + Sync, K: Sink>(
-    rt: &R,
-    alloc: Global,
-    words: &[String],
-    sink: &mut K,
-) -> CrewStatus {
-    run_crew(rt, alloc, words, sink)
 }
 
 // The words of the command line, without the program's name.

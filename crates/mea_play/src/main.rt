@@ -1,8 +1,7 @@
 //! The program `mea_play`: plays a script from standard input to standard output. `mea_run` does the work.
 #![tactic(auto)]
 
-use mea_run::{Sink, Source, Status, StdSink, StdSource, run};
-use std::alloc::Global;
+use mea_run::{Status, StdSink, StdSource, run};
 use std::process::ExitCode;
 use std::{env, io};
 
@@ -11,23 +10,13 @@ fn main(rt: HostRuntime) -> ExitCode {
         Ok(words) => {
             let mut source = StdSource::new(rt.stdin());
             let mut sink = StdSink::new(io::writer(&rt));
-            ran(rt.alloc(), words.as_slice(), &mut source, &mut sink)
+            run(rt.alloc(), words.as_slice(), &mut source, &mut sink)
         }
         Err(failed) if failed.kind() == io::ErrorKind::OutOfMemory => Status::NoMemory,
         // A word that is no text.
         Err(_) => Status::Usage,
     };
     ExitCode::from(status.code())
-}
-
-// Runs the words. It has no clause, so that `main` carries nothing of what `run` promises.
-fn ran<S: Source, K: Sink>(
-    alloc: Global,
-    words: &[String],
-    source: &mut S,
-    sink: &mut K,
-) -> Status {
-    run(alloc, words, source, sink)
 }
 
 // The words of the command line, without the program's name.

@@ -2,10 +2,9 @@
 //! `mea_task_run` does the work.
 #![tactic(auto)]
 
-use mea_io::{Sink, Source, StdSink, StdSource};
+use mea_io::{StdSink, StdSource};
 use mea_script::Status;
 use mea_task_run::run_tasks;
-use std::alloc::Global;
 use std::process::ExitCode;
 use std::{env, io};
 
@@ -14,23 +13,13 @@ fn main(rt: HostRuntime) -> ExitCode {
         Ok(words) => {
             let mut source = StdSource::new(rt.stdin());
             let mut sink = StdSink::new(io::writer(&rt));
-            ran(rt.alloc(), words.as_slice(), &mut source, &mut sink)
+            run_tasks(rt.alloc(), words.as_slice(), &mut source, &mut sink)
         }
         Err(failed) if failed.kind() == io::ErrorKind::OutOfMemory => Status::NoMemory,
         // A word that is no text.
         Err(_) => Status::Usage,
     };
     ExitCode::from(status.code())
-}
-
-// Runs the words. It has no clause, so that `main` carries nothing of what `run_tasks` promises.
-fn ran<S: Source, K: Sink>(
-    alloc: Global,
-    words: &[String],
-    source: &mut S,
-    sink: &mut K,
-) -> Status {
-    run_tasks(alloc, words, source, sink)
 }
 
 // The words of the command line, without the program's name.
