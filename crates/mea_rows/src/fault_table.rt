@@ -20,7 +20,7 @@ const ROWS: &[Row] = &[
         script: "new 3/acq 0 1/poll 1 101/acq 0 1/poll 3 102/acq 0 1/poll 5 103/acq 0 1/poll 7 104/acq 0 1/poll 9 105/acq 0 1/poll 11 106/acq 0 1/poll 13 107/acq 0 1/poll 15 108/free 0/end 9/end 2/poll 7 104/end 4/poll 11 106/free 0/end 6/poll 13 107/end 20/poll 15 108/try 0 1/end 22/free 0/end 25/end 27/free 0/try 0 3/split 34 1/size 34/merge 34 35/end 34/ledger 0",
         text: "made/made/ready/made/ready/made/ready/made/pending/made/pending/made/pending/made/pending/made/pending/free 0/done/done wake 104/ready/done wake 106/ready/free 0/done wake 107/ready/done wake 108/ready/none/done/free 1/done/done/free 3/some/some/permits 2/done/done/ledger 3 0 0 3 0 0 0/done 40",
         reads: 12,
-        writes: 10,
+        writes: 15,
     },
     // A key that is taken out while it is computed.
     Row {
@@ -28,7 +28,7 @@ const ROWS: &[Row] = &[
         script: "om.new/om.compute 0 5/om.poll 1 30/om.compute 0 5/om.poll 3 31/om.remove 0 5/om.settle 1 77/om.poll 1 32/om.poll 3 33/om.get 0 5",
         text: "made/made/pending/made/pending/none/done wake 30/value 77 wake 31/value 77/none/done 10",
         reads: 6,
-        writes: 3,
+        writes: 6,
     },
     // A generated script reads nothing.
     Row {

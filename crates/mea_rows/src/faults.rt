@@ -34,7 +34,7 @@ fn a_write_fails(rt: HostRuntime) {
 fn a_call_that_is_not_made_does_not_fail(rt: HostRuntime) {
     let text = bytes_of(&rt, TEXT);
     let mut source = MemSource::new(bytes_of(&rt, SCRIPT), 8, fails_at(&rt, 8));
-    let mut sink = MemSink::new(rt.alloc(), 4, fails_at(&rt, 17));
+    let mut sink = MemSink::new(rt.alloc(), 4, fails_at(&rt, 21));
     assert!(rt; ran(&rt, &["play"], &mut source, &mut sink) == Status::Done);
     assert_eq!(rt; sink.bytes(), text.as_slice());
 }
