@@ -14,7 +14,7 @@ use Rattle.mea_once_model.specs.Actions.{Action, act_in}
 use Rattle.mea_once_model.specs.KeyActions.{KeyAction, key_act}
 use Rattle.mea_once_model.specs.OnceHall.{OnceHall, Kind, Onces, Values, TableKind, Maps, Groups, registered}
 use Rattle.mea_once_model.specs.Meaning.{Meaning, OfCells, OfTables, on_onces, on_values, on_maps, on_groups, meaning_of, step, step_by}
-use Rattle.mea_once.specs.Halls.{Parts, parts, hall_of, AreBelow, PlaysCells, PlaysTables, PlaysBy, PlaysKinds}
+use Rattle.mea_once.specs.Halls.{Parts, parts, hall_of, AreBelow, PlaysCells, PlaysTables, PlaysBy}
 
 -- where no waker was made ready, those that are ready are as they were
 yield_rests : (old : Part Cells) (i : ℕ) (o : Outcome Cells) (answer : Answer) (new : Part Cells) (w : Waking ℕ) → PartRests cells.registered old i o answer new → PartYields cells.registered old i o answer new w w
@@ -67,8 +67,8 @@ module _ (p p' : Parts) (before after : Waking ℕ) (next i : ℕ) (answer : Ans
   leaves_by (OfCells d) one = cells_leave d.kind d.action one
   leaves_by (OfTables d) one = tables_leave d.kind d.action one
 
-  pub below_after : (e : OnceEvent) → PlaysKinds p i e answer p' before after → AreBelow p' (i + 1)
-  below_after e plays = (leaves_by (meaning_of e) plays).below
+  pub below_after : (m : Meaning) → PlaysBy m p i answer p' before after → AreBelow p' (i + 1)
+  below_after m plays = (leaves_by m plays).below
 
   abbrev Yielding : Outcome OnceHall → Type 0
   Yielding o = PartYields registered (record { hall = hall_of p; next = next }) i o answer (record { hall = hall_of p'; next = i + 1 }) before after
@@ -93,8 +93,8 @@ module _ (p p' : Parts) (before after : Waking ℕ) (next i : ℕ) (answer : Ans
   yields_by (OfTables d) one = tables_yield d.kind d.action one
 
   -- what was played on the parts was played on the hall
-  pub yields_all : (e : OnceEvent) → PlaysKinds p i e answer p' before after → Yielding (step (hall_of p) i e)
-  yields_all e plays = yields_by (meaning_of e) plays
+  pub yields_all : (e : OnceEvent) (m : Meaning) → m ≡ meaning_of e → PlaysBy m p i answer p' before after → Yielding (step (hall_of p) i e)
+  yields_all e m is plays = subst (λ d. Yielding (step_by (hall_of p) i d)) is (yields_by m plays)
 
 -- ---- an action on one kind
 -- what was done to cells, in other words; and where no waker was made ready
