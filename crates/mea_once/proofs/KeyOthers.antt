@@ -34,10 +34,6 @@ use Rattle.mea_once.proofs.KeyEvents.{its_call, its_round, its_there, its_entry,
 use Rattle.mea_once.proofs.KeyPolls.{its_stand, key_step, stay_step}
 use Rattle.mea_once.proofs.KeyCalls.{in_round_is, seen_round}
 
-pub opened_so : (e e' : KeptTable) (i : ℕ) (x : KeyFuture) (r : Result ℕ NoMemory) → IfOk r (λ n. (n ≡ i) × (e' ≡ record e { rounds = insert e.rounds i (new_round x.key); current = insert e.current x.key i })) → x.round ≡ None → get e.current x.key ≡ None → IfOk r (λ n. Enters e i x n e')
-opened_so e e' i x (Ok n) both of none = rw (both.0, both.1) (Opens of none)
-opened_so e e' i x (Err z) both of none = tt
-
 module _ (once : Bool) (e : KeptTable) (f : ℕ) (x : KeyFuture) (i : ℕ) (s : StandsTable once e f x i) (n : ℕ) (of : x.round ≡ Some n) where
   abbrev r0 : Round
   r0 = its_round once e f x i s n of
