@@ -400,9 +400,9 @@ new_tied once c v new = record {
 pub asks_turn : (once : Bool) (j : Job) → fits once j ≡ true → (if once then is_wait j else is_alone j) ≡ false → is_caller j ≡ true
 asks_turn once (Calls q) fit other = refl
 asks_turn once (Computes q) fit other = refl
-asks_turn true (Alone q) fit other = absurd (cc)
-asks_turn false (Alone q) fit other = absurd (cc)
+asks_turn true (Alone q) fit other = absurd (let no : false ≡ true = fit in cc)
+asks_turn false (Alone q) fit other = absurd (let no : true ≡ false = other in cc)
 asks_turn once (Sets v) fit other = refl
 asks_turn once (Inserts v) fit other = refl
-asks_turn true Awaits fit other = absurd (cc)
-asks_turn false Awaits fit other = absurd (cc)
+asks_turn true Awaits fit other = absurd (let no : true ≡ false = other in cc)
+asks_turn false Awaits fit other = absurd (let no : false ≡ true = fit in cc)

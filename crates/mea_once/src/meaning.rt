@@ -36,7 +36,10 @@ pub fn meaning_of(event: &OnceEvent) -> Meaning
         OnceEvent::OcNew => on_cells(TurnAction::Make),
         OnceEvent::OcFrom(v) => Meaning::Values(WholeAction::MakeFull(v)),
         OnceEvent::OcGet(c) => on_cells(TurnAction::Tell(c)),
-        OnceEvent::OcInit(c) => on_cells(TurnAction::Begin(c, Job::Computes(Initialiser::Unsettled))),
+        OnceEvent::OcInit(c) => on_cells(TurnAction::Begin(
+            c,
+            Job::Computes(Initialiser::Unsettled),
+        )),
         OnceEvent::OcSet(c, v) => on_cells(TurnAction::Begin(c, Job::Sets(v))),
         OnceEvent::OcIns(c, v) => on_cells(TurnAction::Begin(c, Job::Inserts(v))),
         OnceEvent::OcMinit(c) => on_cells(TurnAction::Begin(c, Job::Alone(Initialiser::Unsettled))),

@@ -40,6 +40,9 @@ poll-requires g c =
     let it = entered_so g.C.TableCore.is_once c.args.self.now c.args.f c.args.waker c.args.future.now c.args.number c.requires.stands c.in-Ok-enter.n _ enters c.in-Ok-enter.round (ap (λ (e : KeptTable). get e.rounds c.in-Ok-enter.n) c.self.view_is ∙ c.in-Ok-enter.ensures.round) in
     record { may = subst (λ (k : NamedKeyed). MayPollKey nat_eq k c.args.future.now.call) (sym it.keyed) (may_poll_key g.C.TableCore.is_once c.args.self.now c.args.f c.args.future.now c.args.number c.requires.stands) }
 
+pub undo-requires-clause-there : goal.undo-requires-clause-there
+undo-requires-clause-there g c = ap is_some (ap (λ (e : KeptTable). get e.rounds c.in-Ok-enter.n) c.self.view_is ∙ c.in-Ok-enter.ensures.round)
+
 pub undo-requires-clause-some : goal.undo-requires-clause-some
 undo-requires-clause-some g c =
     let enters : Enters c.args.self.now c.args.number c.args.future.now c.in-Ok-enter.n (record { keyed = g.C.TableCore.seen_as c.self.inside.core; current = c.self.inside.current; rounds = c.self.inside.rounds; futures = c.self.inside.futures }) = subst (Enters c.args.self.now c.args.number c.args.future.now c.in-Ok-enter.n) (sym c.self.view_is) c.in-Ok-enter.ensures.enters in
@@ -54,6 +57,9 @@ returns-in_default-poll-clause-err g c =
       (λ i. record { table = c.args.future.now.table; key = c.args.future.now.key; round = c.args.future.now.round; call = c.in_default-poll.ensures.err.1 i }),
       c.unregister-in_default-poll.ensures ∙ ap (λ (r : Waking ℕ). record r { registered = r.registered - 1 }) c.in-Ok.ensures.ok ∙ (λ i. record c.args.ready.now { registered = one_back c.args.ready.now.registered i }),
     )
+
+pub follow-told-requires-clause-there : goal.follow-told-requires-clause-there
+follow-told-requires-clause-there g c = ap is_some (ap (λ (e : KeptTable). get e.rounds c.in-Ok-enter.n) c.self.view_is ∙ c.in-Ok-enter.ensures.round)
 
 pub follow-told-requires-clause-some : goal.follow-told-requires-clause-some
 follow-told-requires-clause-some g c =
