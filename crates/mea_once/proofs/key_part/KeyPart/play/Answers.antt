@@ -5,7 +5,7 @@ use Rattle.mea_once.proofs.Playing.{tables_did, tables_rested}
 use Rattle.mea_once.proofs.key_part.KeyPart.play.Goals as goal
 
 pub returns-in-Make-clause-ok : goal.returns-in-Make-clause-ok
-returns-in-Make-clause-ok g c = tables_rested g.C.TableCore.is_once c.args.self.now c.args.number (table_action c.args.action) (MakeTable) (ap table_action c.in-Make.is) c.make.result c.make.new.self c.args.ready.now c.make.ensures.ok
+returns-in-Make-clause-ok g c = tables_rested g.C.TableCore.is_once c.args.self.now c.args.number (table_action c.args.action) (MakeTable) (ap table_action c.in-Make.is) c.make-in-Make.result c.make-in-Make.new.self c.args.ready.now c.make-in-Make.ensures.ok
 
 pub returns-in-Begin-clause-ok : goal.returns-in-Begin-clause-ok
 returns-in-Begin-clause-ok g c = tables_rested g.C.TableCore.is_once c.args.self.now c.args.number (table_action c.args.action) (BeginKey c.in-Begin.o c.in-Begin.key) (ap table_action c.in-Begin.is) c.begin.result c.begin.new.self c.args.ready.now c.begin.ensures.ok

@@ -5,7 +5,7 @@ use Rattle.mea_once.proofs.Playing.{cells_did, cells_rested}
 use Rattle.mea_once.proofs.part.CellPart.play.Goals as goal
 
 pub returns-in-Make-clause-ok : goal.returns-in-Make-clause-ok
-returns-in-Make-clause-ok g c = cells_rested c.args.self.now c.args.number (turn_action c.args.action) (Make (g.C.TurnCore.seen_as c.empty.result).value) (ap turn_action c.in-Make.is ∙ ap Make (sym c.empty.ensures.value)) c.make.result c.make.new.self c.args.ready.now c.make.ensures.ok
+returns-in-Make-clause-ok g c = cells_rested c.args.self.now c.args.number (turn_action c.args.action) (Make (g.C.TurnCore.seen_as c.empty.result).value) (ap turn_action c.in-Make.is ∙ ap Make (sym c.empty.ensures.value)) c.make-in-Make.result c.make-in-Make.new.self c.args.ready.now c.make-in-Make.ensures.ok
 
 pub returns-in-Begin-clause-ok : goal.returns-in-Begin-clause-ok
 returns-in-Begin-clause-ok g c = cells_rested c.args.self.now c.args.number (turn_action c.args.action) (Begin c.in-Begin.o c.in-Begin.job) (ap turn_action c.in-Begin.is) c.begin.result c.begin.new.self c.args.ready.now c.begin.ensures.ok

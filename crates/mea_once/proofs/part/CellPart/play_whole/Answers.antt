@@ -14,7 +14,7 @@ pub returns-in-Poll-clause-ok : goal.returns-in-Poll-clause-ok
 returns-in-Poll-clause-ok g c = cells_did c.args.self.now c.args.number (whole_action c.args.action) (Poll c.in-Poll.f c.in-Poll.waker) (ap whole_action c.in-Poll.is) c.poll_whole.result c.poll_whole.new.self c.args.ready.now c.poll_whole.new.ready c.poll_whole.ensures.ok
 
 pub returns-in-MakeFull-clause-ok : goal.returns-in-MakeFull-clause-ok
-returns-in-MakeFull-clause-ok g c = cells_rested c.args.self.now c.args.number (whole_action c.args.action) (Make (g.C.TurnCore.seen_as c.full.result).value) (ap whole_action c.in-MakeFull.is ∙ ap Make (sym c.full.ensures.value)) c.make.result c.make.new.self c.args.ready.now c.make.ensures.ok
+returns-in-MakeFull-clause-ok g c = cells_rested c.args.self.now c.args.number (whole_action c.args.action) (Make (g.C.TurnCore.seen_as c.full.result).value) (ap whole_action c.in-MakeFull.is ∙ ap Make (sym c.full.ensures.value)) c.make-in-MakeFull.result c.make-in-MakeFull.new.self c.args.ready.now c.make-in-MakeFull.ensures.ok
 
 pub returns-in-Peek-clause-ok : goal.returns-in-Peek-clause-ok
 returns-in-Peek-clause-ok g c = cells_rested c.args.self.now c.args.number (whole_action c.args.action) (Peek c.in-Peek.o) (ap whole_action c.in-Peek.is) (Ok c.peek.result) c.peek.new.self c.args.ready.now c.peek.ensures
