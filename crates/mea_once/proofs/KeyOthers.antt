@@ -1,10 +1,9 @@
 -- what a future of a map or a group does beside a poll of the core: it is polled again, settled or ended; and what polls and ends ask for
-use Rattle.std.proofs.Common.{◌≡◌, ℕ, ◌+◌, ◌<◌, ◌≤◌, inl, inr, Bool, true, false, cond, [], Option, Some, None, Result, Ok, Err, IfOk, is_some, nat_eq, refl, ap, sym, subst, ◌∙◌, arith}
+use Rattle.std.proofs.Common.{◌≡◌, ℕ, ◌+◌, ◌<◌, ◌≤◌, inl, inr, Bool, true, false, cond, [], Option, Some, None, is_some, nat_eq, refl, ap, sym, subst, ◌∙◌, arith}
 use Rattle.std.proofs.lemmas.Bool.{eqb-true, cases_eq}
 use Rattle.std.specs.FinMap.{get, insert}
 use Rattle.mea_family.specs.declared.answer.Answer.{Answer}
 use Rattle.mea_family.specs.declared.answer.Answer.TheVariants as answer_is
-use Rattle.mea_base.specs.declared.no_memory.NoMemory.{NoMemory}
 use Rattle.mea_family.specs.Family.{Outcome}
 use Rattle.mea_base.specs.Ready.{Waking}
 use Rattle.mea_base.specs.Totals.{weight}
@@ -21,7 +20,7 @@ use Rattle.mea_once_model.specs.Tables.{Tables}
 use Rattle.mea_once.specs.declared.key_future.KeyFuture.{KeyFuture}
 use Rattle.mea_once.specs.declared.round.Round.{Round}
 use Rattle.mea_once.specs.Entries.{of_running, runs, keeps, waking}
-use Rattle.mea_once.specs.KeyEntries.{KeptTable, Enters, Opens, new_round, with_running}
+use Rattle.mea_once.specs.KeyEntries.{KeptTable, with_running}
 use Rattle.mea_once.specs.Parts as parts
 use Rattle.mea_once.specs.Parts.{AreKept, Stepped, future_seen}
 use Rattle.mea_once.specs.KeyParts.{kept_cell, table_seen, key_future_seen, as_caller, callers_of, IsRound, CallFits, StandsTable, SteppedTable}

@@ -1,6 +1,5 @@
 -- a poll by key, in whichever way its future comes to a round
 use Rattle.std.proofs.Common.{◌≡◌, ℕ, ◌+◌, ◌-◌, ◌≤◌, ◌==◌, Bool, false, cond, Option, Some, None, Result, Ok, is_some, nat_eq, refl, ap, sym, subst, ◌∙◌, arith}
-use Rattle.std.specs.Option.{IsSome}
 use Rattle.std.proofs.lemmas.Bool.{eq-eqb, ne_eqb}
 use Rattle.std.specs.FinMap.{get, insert, remove}
 use Rattle.mea_base.proofs.Maps.{inside, get-there}

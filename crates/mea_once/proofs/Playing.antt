@@ -1,5 +1,5 @@
 -- what is said of the things of one kind, and of all
-use Rattle.std.proofs.Common.{◌≡◌, ℕ, ◌+◌, ◌≤◌, ◌++◌, Bool, true, false, Result, Ok, Err, IfOk, refl, ap, sym, subst, ◌∙◌, arith, append-nil}
+use Rattle.std.proofs.Common.{◌≡◌, ℕ, ◌+◌, ◌++◌, Bool, true, false, Result, Ok, Err, IfOk, refl, ap, sym, subst, ◌∙◌, arith, append-nil}
 use Rattle.mea_family.specs.declared.answer.Answer.{Answer}
 use Rattle.mea_base.specs.declared.no_memory.NoMemory.{NoMemory}
 use Rattle.mea_family.specs.Family.{Outcome}

@@ -1,4 +1,4 @@
-use Rattle.std.proofs.Common.{◌≡◌, ◌+◌, arith, ap}
+use Rattle.std.proofs.Common.{◌+◌, arith, ap}
 use Rattle.mea_family.specs.Play.{Part, PartYields}
 use Rattle.mea_once_model.specs.OnceHall.{OnceHall, registered}
 use Rattle.mea_once_model.specs.Meaning.{step}
