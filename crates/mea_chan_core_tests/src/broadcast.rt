@@ -176,61 +176,73 @@ fn texts(rt: HostRuntime) {
 }
 
 // The ring of a capacity of 3 has 4 places, so of five messages the first is missed.
+const A_CAPACITY_IS_ROUNDED_UP: &[(Call, Reply)] = &[
+    (Call::Subscribe, Done),
+    (Call::Send(1), Done),
+    (Call::Send(2), Done),
+    (Call::Send(3), Done),
+    (Call::Send(4), Done),
+    (Call::Send(5), Done),
+    (Call::TryRecv(0), Lagged(1)),
+    (Call::TryRecv(0), Value(2)),
+];
+
 #[test]
 fn a_capacity_is_rounded_up(rt: HostRuntime) -> Result<(), Fail> {
-    let script = [
-        (Call::Subscribe, Done),
-        (Call::Send(1), Done),
-        (Call::Send(2), Done),
-        (Call::Send(3), Done),
-        (Call::Send(4), Done),
-        (Call::Send(5), Done),
-        (Call::TryRecv(0), Lagged(1)),
-        (Call::TryRecv(0), Value(2)),
-    ];
     let channel = BroadcastCore::new(rt.alloc(), 3)?;
-    assert_eq!(rt; differs_at(Room::new(rt.alloc(), channel), &script), None);
+    assert_eq!(rt;
+        differs_at(Room::new(rt.alloc(), channel), A_CAPACITY_IS_ROUNDED_UP),
+        None
+    );
     Ok(())
 }
 
 // A receiver that fell behind is told how far, goes on with the oldest kept message, and hears of the last sender's end.
+const A_RECEIVER_LAGS: &[(Call, Reply)] = &[
+    (Call::Subscribe, Done),
+    (Call::Send(1), Done),
+    (Call::Send(2), Done),
+    (Call::Send(3), Done),
+    (Call::Send(4), Done),
+    (Call::TryRecv(0), Lagged(2)),
+    (Call::TryRecv(0), Value(3)),
+    (Call::TryRecv(0), Value(4)),
+    (Call::TryRecv(0), Empty),
+    (Call::EndSender, Done),
+    (Call::TryRecv(0), Disconnected),
+];
+
 #[test]
 fn a_receiver_lags(rt: HostRuntime) -> Result<(), Fail> {
-    let script = [
-        (Call::Subscribe, Done),
-        (Call::Send(1), Done),
-        (Call::Send(2), Done),
-        (Call::Send(3), Done),
-        (Call::Send(4), Done),
-        (Call::TryRecv(0), Lagged(2)),
-        (Call::TryRecv(0), Value(3)),
-        (Call::TryRecv(0), Value(4)),
-        (Call::TryRecv(0), Empty),
-        (Call::EndSender, Done),
-        (Call::TryRecv(0), Disconnected),
-    ];
     let channel = BroadcastCore::new(rt.alloc(), 2)?;
-    assert_eq!(rt; differs_at(Room::new(rt.alloc(), channel), &script), None);
+    assert_eq!(rt;
+        differs_at(Room::new(rt.alloc(), channel), A_RECEIVER_LAGS),
+        None
+    );
     Ok(())
 }
 
 // One that subscribes at the tail hears what is sent from then on; a copy hears what its original does.
+const RECEIVERS_ARE_MADE: &[(Call, Reply)] = &[
+    (Call::Subscribe, Done),
+    (Call::Send(1), Done),
+    (Call::Send(2), Done),
+    (Call::Subscribe, Done),
+    (Call::Send(3), Done),
+    (Call::Copy(0), Done),
+    (Call::TryRecv(0), Lagged(1)),
+    (Call::TryRecv(0), Value(2)),
+    (Call::TryRecv(1), Value(3)),
+    (Call::TryRecv(2), Lagged(1)),
+];
+
 #[test]
 fn receivers_are_made(rt: HostRuntime) -> Result<(), Fail> {
-    let script = [
-        (Call::Subscribe, Done),
-        (Call::Send(1), Done),
-        (Call::Send(2), Done),
-        (Call::Subscribe, Done),
-        (Call::Send(3), Done),
-        (Call::Copy(0), Done),
-        (Call::TryRecv(0), Lagged(1)),
-        (Call::TryRecv(0), Value(2)),
-        (Call::TryRecv(1), Value(3)),
-        (Call::TryRecv(2), Lagged(1)),
-    ];
     let channel = BroadcastCore::new(rt.alloc(), 2)?;
-    assert_eq!(rt; differs_at(Room::new(rt.alloc(), channel), &script), None);
+    assert_eq!(rt;
+        differs_at(Room::new(rt.alloc(), channel), RECEIVERS_ARE_MADE),
+        None
+    );
     let too_large: Result<Channel, BroadcastFault> = BroadcastCore::new(
         rt.alloc(),
         9223372036854775809,
@@ -240,45 +252,53 @@ fn receivers_are_made(rt: HostRuntime) -> Result<(), Fail> {
 }
 
 // A send wakes all who wait, in the order in which they began to, and so does the last sender's end.
+const RECEIVES_WAIT: &[(Call, Reply)] = &[
+    (Call::AddSender, Done),
+    (Call::Subscribe, Done),
+    (Call::Subscribe, Done),
+    (Call::PollRecv(0, 10), Pending),
+    (Call::PollRecv(1, 11), Pending),
+    (Call::PollRecv(0, 12), Pending),
+    (Call::Registered, Count(2)),
+    (Call::Send(7), Done),
+    (Call::Wake, Value(12)),
+    (Call::Wake, Value(11)),
+    (Call::Wake, Nothing),
+    (Call::PollRecv(0, 13), Value(7)),
+    (Call::PollRecv(0, 14), Pending),
+    (Call::EndSender, Done),
+    (Call::WakesReady, Count(0)),
+    (Call::EndSender, Done),
+    (Call::Wake, Value(14)),
+    (Call::PollRecv(0, 15), Disconnected),
+    (Call::EndRecv(1), Done),
+];
+
 #[test]
 fn receives_wait(rt: HostRuntime) -> Result<(), Fail> {
-    let script = [
-        (Call::AddSender, Done),
-        (Call::Subscribe, Done),
-        (Call::Subscribe, Done),
-        (Call::PollRecv(0, 10), Pending),
-        (Call::PollRecv(1, 11), Pending),
-        (Call::PollRecv(0, 12), Pending),
-        (Call::Registered, Count(2)),
-        (Call::Send(7), Done),
-        (Call::Wake, Value(12)),
-        (Call::Wake, Value(11)),
-        (Call::Wake, Nothing),
-        (Call::PollRecv(0, 13), Value(7)),
-        (Call::PollRecv(0, 14), Pending),
-        (Call::EndSender, Done),
-        (Call::WakesReady, Count(0)),
-        (Call::EndSender, Done),
-        (Call::Wake, Value(14)),
-        (Call::PollRecv(0, 15), Disconnected),
-        (Call::EndRecv(1), Done),
-    ];
     let channel = BroadcastCore::new(rt.alloc(), 4)?;
-    assert_eq!(rt; differs_at(Room::new(rt.alloc(), channel), &script), None);
+    assert_eq!(rt;
+        differs_at(Room::new(rt.alloc(), channel), RECEIVES_WAIT),
+        None
+    );
     Ok(())
 }
 
 // The last position is not given; the message comes back.
+const THE_TAIL_ENDS: &[(Call, Reply)] = &[
+    (Call::Subscribe, Done),
+    (Call::Send(1), Done),
+    (Call::Send(2), Closed(2)),
+    (Call::Tail, Value(u64::MAX)),
+    (Call::TryRecv(0), Value(1)),
+];
+
 #[test]
 fn the_tail_ends(rt: HostRuntime) -> Result<(), Fail> {
-    let script = [
-        (Call::Subscribe, Done),
-        (Call::Send(1), Done),
-        (Call::Send(2), Closed(2)),
-        (Call::Tail, Value(u64::MAX)),
-        (Call::TryRecv(0), Value(1)),
-    ];
     let channel = BroadcastCore::at_tail(rt.alloc(), 2, u64::MAX - 1)?;
-    assert_eq!(rt; differs_at(Room::new(rt.alloc(), channel), &script), None);
+    assert_eq!(rt;
+        differs_at(Room::new(rt.alloc(), channel), THE_TAIL_ENDS),
+        None
+    );
     Ok(())
 }

@@ -61,43 +61,47 @@ impl Plays for Room {
 }
 
 // The message is given once, and the receiver is woken once.
+const A_MESSAGE_COMES_ONCE: &[(Call, Reply)] = &[
+    (Call::TryRecv, Empty),
+    (Call::PollRecv(5), Pending),
+    (Call::Send(6), Done),
+    (Call::Wake, Value(5)),
+    (Call::HasMessage, Yes),
+    (Call::PollRecv(7), Value(6)),
+    (Call::IsDisconnected, Yes),
+    (Call::PollRecv(8), Disconnected),
+    (Call::Send(9), Closed(9)),
+    (Call::Wake, Nothing),
+];
+
 #[test]
 fn a_message_comes_once(rt: HostRuntime) {
-    let script = [
-        (Call::TryRecv, Empty),
-        (Call::PollRecv(5), Pending),
-        (Call::Send(6), Done),
-        (Call::Wake, Value(5)),
-        (Call::HasMessage, Yes),
-        (Call::PollRecv(7), Value(6)),
-        (Call::IsDisconnected, Yes),
-        (Call::PollRecv(8), Disconnected),
-        (Call::Send(9), Closed(9)),
-        (Call::Wake, Nothing),
-    ];
-    assert_eq!(rt; differs_at(Room::new(), &script), None);
+    assert_eq!(rt; differs_at(Room::new(), A_MESSAGE_COMES_ONCE), None);
 }
 
 // Either end may go first.
-#[test]
-fn ends_go(rt: HostRuntime) {
-    let script = [
+const ENDS_GO: &[&[(Call, Reply)]] = &[
+    &[
         (Call::EndReceiver, Done),
         (Call::IsClosed, Yes),
         (Call::Send(3), Closed(3)),
-    ];
-    assert_eq!(rt; differs_at(Room::new(), &script), None);
-    let script = [
+    ],
+    &[
         (Call::PollRecv(5), Pending),
         (Call::EndSender, Done),
         (Call::Wake, Value(5)),
         (Call::TryRecv, Disconnected),
-    ];
-    assert_eq!(rt; differs_at(Room::new(), &script), None);
-    let script = [
+    ],
+    &[
         (Call::Send(4), Done),
         (Call::EndReceiver, Done),
         (Call::HasMessage, No),
-    ];
-    assert_eq!(rt; differs_at(Room::new(), &script), None);
+    ],
+];
+
+#[test]
+fn ends_go(rt: HostRuntime) {
+    for script in ENDS_GO {
+        assert_eq!(rt; differs_at(Room::new(), script), None);
+    }
 }

@@ -1,3 +1,4 @@
+pub mod Mismatches
 pub mod Rounds
 pub mod Sums
 pub mod Tallies

@@ -1,5 +1,5 @@
 -- what the program over a crew reads and writes
-use Rattle.std.specs.Prelude.{ℕ, ◌≡◌, ◌≢◌, ◌+◌, ◌*◌, ◌≤◌, ◌++◌, Bool, List, [], ◌∷◌, codes, length, count_by, slice_get, Some}
+use Rattle.std.specs.Prelude.{ℕ, ◌≡◌, ◌≢◌, ◌+◌, ◌*◌, ◌≤◌, ◌++◌, ◌⊎◌, Bool, List, [], ◌∷◌, codes, length, count_by, slice_get, Some}
 use Rattle.std.specs.Fmt.{decimal}
 use Rattle.mea_family.specs.declared.answer.Answer.{Answer}
 use Rattle.mea_family.specs.declared.answer.Answer.TheVariants.{Account}
@@ -8,8 +8,11 @@ use Rattle.mea_text.specs.Reply.{reply_text}
 use Rattle.mea_events.specs.declared.sem_event.SemEvent.TheVariants.{New}
 use Rattle.mea_sem_model.specs.Step.{ledger_of}
 use Rattle.mea_recorded.specs.History.{History, IsHistory, hall_after}
+use Rattle.mea_recorded.specs.Closing.{Explains, BeginsOtherwise}
+use Rattle.mea_recorded.specs.declared.mismatch.Mismatch.{Mismatch}
+use Rattle.mea_recorded.specs.declared.pass.Noted.{Noted}
 use Rattle.mea_family.specs.declared.stop.Stop.TheVariants as stops
-use Rattle.mea_crew_run.specs.Rounds.{is_held, is_lacking}
+use Rattle.mea_crew_run.specs.Rounds.{is_held, is_lacking, AreRounds, IsRefusal}
 use Rattle.mea_crew_run.specs.declared.fault.CrewFault.{CrewFault}
 use Rattle.mea_crew_run.specs.declared.fault.CrewFault.TheVariants as faults
 use Rattle.mea_crew_run.specs.declared.status.CrewStatus.{CrewStatus}
@@ -47,8 +50,18 @@ IsCrew words workers rounds = (words ≡ codes "crew" ∷ decimal workers ∷ de
 abbrev pub IsCommand : List (List ℕ) → Type 0
 IsCommand words = (workers : ℕ) × (rounds : ℕ) × IsCrew words workers rounds
 
--- a crew is refused for a cause, and never for want of memory by that name
-abbrev pub IsCrewFault : CrewFault → Type 0
-IsCrewFault faults.NoMemory = Unit {0}
-IsCrewFault (faults.Refused r) = r.stop ≢ stops.NoMemory
-IsCrewFault (faults.Mismatch m) = Unit {0}
+-- the receipts of a worker of so many rounds, or the first event of a semaphore of two permits, differ from a history
+abbrev pub IsMismatch : ℕ → Mismatch → Type 0
+IsMismatch rounds m = (h : History) × IsHistory h × (((ns : List Noted) × AreRounds rounds ns × Explains h m ns) ⊎ BeginsOtherwise h (New 2) m)
+
+-- why the workers of a crew gave no passes: want of memory, or a refusal for a cause, and never for want of memory by that name
+abbrev pub IsWorkFault : CrewFault → Type 0
+IsWorkFault faults.NoMemory = Unit {0}
+IsWorkFault (faults.Refused r) = (r.stop ≢ stops.NoMemory) × IsRefusal r
+IsWorkFault (faults.Mismatch m) = ⊥
+
+-- why a crew of so many rounds gave no history: that, or a mismatch
+abbrev pub IsCrewFault : ℕ → CrewFault → Type 0
+IsCrewFault rounds faults.NoMemory = Unit {0}
+IsCrewFault rounds (faults.Refused r) = (r.stop ≢ stops.NoMemory) × IsRefusal r
+IsCrewFault rounds (faults.Mismatch m) = IsMismatch rounds m

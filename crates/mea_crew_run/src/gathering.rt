@@ -1,6 +1,6 @@
-ghost use Rattle.std.specs.Prelude.{◌≡◌, ◌+◌, ◌*◌, ◌<◌, ◌≤◌, ◌^◌, [], None, All, IfOk, IfErr, OnOk, length, vec_len, sum_by};
-ghost use Rattle.mea_crew_run.specs.Crew.{IsCrewFault};
-ghost use Rattle.mea_crew_run.specs.Rounds.{AreRounds};
+ghost use Rattle.std.specs.Prelude.{◌≡◌, ◌+◌, ◌*◌, ◌<◌, ◌≤◌, ◌^◌, ◌⊎◌, [], None, All, IfOk, IfErr, IfSome, OnOk, length, vec_len, sum_by};
+ghost use Rattle.mea_crew_run.specs.Crew.{IsWorkFault};
+ghost use Rattle.mea_crew_run.specs.Rounds.{AreRounds, StopsWorker};
 
 use crate::fault::CrewFault;
 use crate::worker::Worker;
@@ -38,10 +38,12 @@ pub fn gather<L: Ledger>(
 ) -> Result<Vec<Pass<L>>, CrewFault>
     requires none { rest.noted.items ≡ [] }
     requires each { All (λ w. (w.pass.parts ≡ 1) × (w.fault ≡ None → AreRounds rounds w.pass.noted.items)) list.items }
+    requires faults { All (λ w. IfSome w.fault (λ r. StopsWorker r)) list.items }
     ensures parts { IfOk result (λ v. sum_by (λ p. p.parts) v.items ≡ rest.parts + vec_len list) }
     ensures least { IfOk result (λ v. vec_len list * rounds ≤ sum_by (λ p. vec_len p.noted) v.items) }
     ensures most { IfOk result (λ v. sum_by (λ p. vec_len p.noted) v.items ≤ vec_len list * (2 * rounds)) }
-    ensures fault { IfErr result (λ fault. IsCrewFault fault) }
+    ensures rounds { IfOk result (λ v. All (λ p. (p.noted.items ≡ []) ⊎ AreRounds rounds p.noted.items) v.items) }
+    ensures fault { IfErr result (λ fault. IsWorkFault fault) }
 {
     let mut passes = Vec::new(alloc);
     if passes.push(rest).is_err() {
@@ -62,9 +64,11 @@ pub fn gather<L: Ledger>(
 /// The pass of a worker who had no fault.
 #[tactic(auto, using(crate::proofs::Rounds::rounds_are_counted))]
 fn finished<L: Ledger>(worker: Worker<L>, rounds: u32) -> Result<Pass<L>, CrewFault>
-    requires { (worker.pass.parts ≡ 1) × (worker.fault ≡ None → AreRounds rounds worker.pass.noted.items) }
+    requires rounds { (worker.pass.parts ≡ 1) × (worker.fault ≡ None → AreRounds rounds worker.pass.noted.items) }
+    requires fault { IfSome worker.fault (λ r. StopsWorker r) }
     ensures pass { IfOk result (λ p. (p.parts ≡ 1) × (rounds ≤ vec_len p.noted) × (vec_len p.noted ≤ 2 * rounds)) }
-    ensures fault { IfErr result (λ fault. IsCrewFault fault) }
+    ensures rounds { IfOk result (λ p. AreRounds rounds p.noted.items) }
+    ensures fault { IfErr result (λ fault. IsWorkFault fault) }
 {
     let Worker { pass, fault } = worker;
     match fault {

@@ -1,6 +1,6 @@
-ghost use Rattle.std.specs.Prelude.{◌≡◌, ◌≢◌, ◌+◌, ◌*◌, ◌<◌, ◌≤◌, ◌^◌, [], None, All, IfOk, IfErr, OnOk, length, vec_len, sum_by};
+ghost use Rattle.std.specs.Prelude.{◌≡◌, ◌≢◌, ◌+◌, ◌*◌, ◌<◌, ◌≤◌, ◌^◌, [], None, All, IfOk, IfErr, IfSome, OnOk, length, vec_len, sum_by};
 ghost use Rattle.mea_crew_run.specs.Crew.{IsOfCrew, IsCrewFault};
-ghost use Rattle.mea_crew_run.specs.Rounds.{AreRounds};
+ghost use Rattle.mea_crew_run.specs.Rounds.{AreRounds, StopsWorker};
 
 use crate::fault::CrewFault;
 use crate::gate::Gate;
@@ -31,7 +31,7 @@ pub fn crew<R: Threads + Wait + Sync, G: Gate>(
     requires workers { (1 ≤ workers) × (workers ≤ 8) }
     requires rounds { rounds ≤ 10000 }
     ensures crew { IfOk result (λ r. IsOfCrew workers rounds r) }
-    ensures fault { IfErr result (λ fault. IsCrewFault fault) }
+    ensures fault { IfErr result (λ fault. IsCrewFault rounds fault) }
 {
     crew_in::<Brand, R, G>(rt, alloc, Blank::new(PARTS), workers, rounds, gate)
 }
@@ -49,7 +49,7 @@ fn crew_in<L: Ledger + Send + Sync, R: Threads + Wait + Sync, G: Gate>(
     requires workers { workers ≤ 8 }
     requires rounds { rounds ≤ 10000 }
     ensures crew { IfOk result (λ r. IsOfCrew workers rounds r) }
-    ensures fault { IfErr result (λ fault. IsCrewFault fault) }
+    ensures fault { IfErr result (λ fault. IsCrewFault rounds fault) }
 {
     let Ok((semaphore, mut rest)) = RecordedSemaphore::<L>::new(alloc, blank, PARTS, PERMITS) else {
         return Err(CrewFault::NoMemory);
@@ -64,7 +64,10 @@ fn crew_in<L: Ledger + Send + Sync, R: Threads + Wait + Sync, G: Gate>(
     };
     match semaphore.close(passes) {
         Ok(recorded) => Ok(recorded),
-        Err((_, mismatch)) => Err(CrewFault::Mismatch(mismatch)),
+        Err((recorded, mismatch)) => {
+            let _entries = recorded.entries();
+            Err(CrewFault::Mismatch(mismatch))
+        }
     }
 }
 
@@ -79,6 +82,7 @@ fn worked<L: Ledger + Send + Sync, R: Threads + Wait + Sync, G: Gate>(
     requires { All (λ w. (w.pass.parts ≡ 1) × (w.pass.noted.items ≡ [])) list.old.items }
     ensures count { vec_len list.new ≡ vec_len list.old }
     ensures each { All (λ w. (w.pass.parts ≡ 1) × (w.fault ≡ None → AreRounds rounds w.pass.noted.items)) list.new.items }
+    ensures faults { All (λ w. IfSome w.fault (λ r. StopsWorker r)) list.new.items }
 {
     work_all(rt, semaphore, gate, rounds, list.as_mut_slice());
 }

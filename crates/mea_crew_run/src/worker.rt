@@ -1,5 +1,5 @@
-ghost use Rattle.std.specs.Prelude.{◌≡◌, ◌+◌, ◌<◌, ◌≤◌, ◌++◌, ◌∷◌, ℕ, [], None, OnOk, length, slice_index_or, vec_len};
-ghost use Rattle.mea_crew_run.specs.Rounds.{GoOn, GoOnOnce};
+ghost use Rattle.std.specs.Prelude.{◌≡◌, ◌+◌, ◌<◌, ◌≤◌, ◌++◌, ◌∷◌, ℕ, [], None, OnOk, IfErr, IfSome, length, slice_index_or, vec_len};
+ghost use Rattle.mea_crew_run.specs.Rounds.{GoOn, GoOnOnce, StopsWorker};
 
 use crate::answers::is_held;
 use crate::gate::Gate;
@@ -28,6 +28,7 @@ pub fn work_all<L: Ledger + Send + Sync, R: Threads + Wait + Sync, G: Gate>(
     ensures parts { (i : ℕ) (d : _) → i < length workers.old → (slice_index_or workers.new i d).pass.parts ≡ (slice_index_or workers.old i d).pass.parts }
     ensures done { (i : ℕ) (d : _) → i < length workers.old → (slice_index_or workers.new i d).fault ≡ None
         → GoOn rounds (slice_index_or workers.old i d).pass.noted.items (slice_index_or workers.new i d).pass.noted.items }
+    ensures fault { (i : ℕ) (d : _) → i < length workers.old → IfSome (slice_index_or workers.new i d).fault (λ r. StopsWorker r) }
 {
     let count = workers.len();
     if count == 0 {
@@ -52,6 +53,7 @@ fn work<L: Ledger, R: Wait, G: Gate>(
 )
     ensures parts { worker.new.pass.parts ≡ worker.old.pass.parts }
     ensures done { worker.new.fault ≡ None → GoOn rounds worker.old.pass.noted.items worker.new.pass.noted.items }
+    ensures fault { IfSome worker.new.fault (λ r. StopsWorker r) }
 {
     let Worker { pass, fault } = worker;
     *fault = rounds_of(rt, semaphore, gate, number, rounds, pass).err();
@@ -67,6 +69,7 @@ fn rounds_of<L: Ledger, R: Wait, G: Gate>(
 ) -> Result<(), Refused>
     ensures parts { pass.new.parts ≡ pass.old.parts }
     ensures done { OnOk result (GoOn rounds pass.old.noted.items pass.new.noted.items) }
+    ensures fault { IfErr result (λ r. StopsWorker r) }
 {
     for round in 0..rounds {
         gate.before(number, round);
@@ -83,6 +86,7 @@ fn one_round<L: Ledger, R: Wait>(
 ) -> Result<(), Refused>
     ensures parts { pass.new.parts ≡ pass.old.parts }
     ensures done { OnOk result (GoOnOnce pass.old.noted.items pass.new.noted.items) }
+    ensures fault { IfErr result (λ r. StopsWorker r) }
 {
     let tried = semaphore.act(rt, pass, &SemEvent::Try(0, 1))?;
     if is_held(&tried.answer) {

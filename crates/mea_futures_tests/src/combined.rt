@@ -10,7 +10,7 @@ use mea_futures::{Bell, TakeError, block, block_before, take, take_before, wait}
 use mea_link::latch::Latch;
 use mea_sync::mutex::Mutex;
 use mea_sync::semaphore::Semaphore;
-use mea_wait::{End, PollFault};
+use mea_wait::{End, PollFault, Polled, Unpolled, Waits};
 use std::process::Abort;
 use std::sync::{Arc, Wait};
 use std::test::Fail;
@@ -66,6 +66,28 @@ fn a_wait_is_one_line(rt: HostRuntime) -> Result<(), Fail> {
     assert!(rt; permit.permits() == 1);
     permit.end(&rt);
     Ok(())
+}
+
+// A wait that is refused at each poll.
+struct Refused;
+
+impl End for Refused {
+    fn end<R: Wait>(self, _rt: &R) {
+        let Refused = self;
+    }
+}
+
+impl Waits<Bell, ()> for Refused {
+    fn poll<R: Wait>(self, _rt: &R, waker: Bell) -> Result<Polled<Self, ()>, Unpolled<Self, Bell>> {
+        Err(Unpolled::no_memory(self, waker))
+    }
+}
+
+// A wait that is refused is an error, and not one that came too late.
+#[test]
+fn a_refused_wait_is_an_error(rt: HostRuntime) {
+    assert!(rt; block(&rt, Refused).is_err());
+    assert!(rt; block_before(&rt, Refused, ready(())).is_err());
 }
 
 // Ends what a wait gave before its deadline. Whether it gave anything.

@@ -2,8 +2,9 @@ use crate::polls::rests;
 use futures::task::{Context, Poll};
 use futures::test::MockTask;
 use futures::{Future, Sink, ready};
-use mea_futures::{Bell, Feeding, Kept, feed};
+use mea_futures::{Bell, FeedError, Feeding, Kept, feed};
 use mea_link::mpsc::{BoundedReceiver, bounded};
+use mea_wait::End;
 use std::process::Abort;
 use std::sync::Wait;
 
@@ -59,4 +60,21 @@ fn waits_for_a_place<R: Wait + Abort, F: Future<Output = bool>>(
     assert!(rt; receiver.try_recv(rt) == Ok(1) && task.is_woken());
     assert!(rt; task.poll(&mut two) == Poll::Ready(true));
     assert!(rt; receiver.try_recv(rt) == Ok(2));
+}
+
+// An item that a sink has no receiver for comes back.
+#[test]
+fn an_item_for_nobody_comes_back(rt: HostRuntime) {
+    let (sender, receiver) = bounded::<u64, Bell>(rt.alloc(), 1).expect(&rt, "memory");
+    let sender = Kept::new(&rt, sender);
+    receiver.end(&rt);
+    let sink = feed(&rt, rt.alloc(), sender.get()).expect(&rt, "memory");
+    assert!(rt; start_send(sink, 7) == Err(FeedError::Closed(7)));
+}
+
+fn start_send<E: Drop, S: Sink<u64, Error = E>>(mut sink: S, item: u64) -> Result<(), E>
+    requires ready { S.can_poll sink × S.can_send sink }
+    requires taken { S.takes sink item }
+{
+    sink.start_send(item)
 }

@@ -3,7 +3,7 @@ use Rattle.std.proofs.Common.{◌≡◌, ℕ, ◌-◌, ◌≤◌, List, [], ◌�
 use Rattle.mea_family.specs.declared.answer.Answer.{Answer}
 use Rattle.mea_events.specs.declared.event.Event.{Event}
 use Rattle.mea_hall.specs.World.{Play, Plays, registered, step}
-use Rattle.mea_hall.proofs.Families.{most_woken}
+use Rattle.mea_hall.proofs.EachFamily.{most_woken}
 use Rattle.mea_events.specs.Replies.{ReplyList, with_wake}
 use Rattle.mea_events.proofs.ToldReplies.{Hands, hands_one}
 

@@ -1,4 +1,4 @@
-pub mod Families
+pub mod EachFamily
 pub mod Fronts
 pub mod HandedOver
 pub mod Histories

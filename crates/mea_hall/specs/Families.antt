@@ -1,38 +1,29 @@
--- the halls of the families, each with what it has ready
-use Rattle.std.specs.Prelude.{ℕ, ◌+◌, ◌≡◌, ◌≤◌, ◌++◌, false, length}
+-- all families, each with the least number that its next event may have, and what an event does to them
+use Rattle.std.specs.Prelude.{ℕ, ◌+◌, ◌≡◌, ◌≤◌, ◌++◌}
+use Rattle.mea_base.specs.Ready.{Waking}
 use Rattle.mea_family.specs.declared.answer.Answer.{Answer}
-use Rattle.mea_sem.specs.Play as sem
-use Rattle.mea_meet.specs.Play as meet
-use Rattle.mea_family.specs.Play as named
-use Rattle.mea_lock_model.specs.LockHall as lock
-use Rattle.mea_chan_model.specs.ChanHall as chan
-use Rattle.mea_share_model.specs.Admissions as share
-use Rattle.mea_once_model.specs.OnceHall as once
 use Rattle.mea_events.specs.declared.event.Event.{Event}
-use Rattle.mea_hall.specs.World.{World, OthersStay, registered, registers, step}
+use Rattle.mea_hall.specs.declared.families.Families.{Families}
+use Rattle.mea_hall.specs.World.{World, OthersStay, registered, step}
 
-abbrev pub LockPlay : Type 0
-LockPlay = named.Play lock.LockHall
+abbrev pub world_of : Families → World
+world_of f = record { semaphores = f.semaphores.hall; meets = f.meets.hall; locks = f.locks.hall; chans = f.chans.hall; shares = f.shares.hall; onces = f.onces.hall }
 
-abbrev pub ChanPlay : Type 0
-ChanPlay = named.Play chan.ChanHall
+-- no next number is above n
+pub record AreBelow (f : Families) (n : ℕ) : Type 0 where
+  pub semaphores : f.semaphores.next ≤ n
+  pub meets : f.meets.next ≤ n
+  pub locks : f.locks.next ≤ n
+  pub chans : f.chans.next ≤ n
+  pub shares : f.shares.next ≤ n
+  pub onces : f.onces.next ≤ n
 
-abbrev pub SharePlay : Type 0
-SharePlay = named.Play share.ShareHall
-
-abbrev pub OncePlay : Type 0
-OncePlay = named.Play once.OnceHall
-
-abbrev pub world_of : sem.Play → meet.Play → LockPlay → ChanPlay → SharePlay → OncePlay → World
-world_of s m l c h o = record { semaphores = s.hall; meets = m.hall; locks = l.hall; chans = c.hall; shares = h.hall; onces = o.hall }
-
--- event number i is played with this reply: the halls after it, and what they have ready
-pub record PlaysFamilies (old : World) (i : ℕ) (event : Event) (answer : Answer) (s : sem.Play) (m : meet.Play) (l : LockPlay) (c : ChanPlay) (h : SharePlay) (o : OncePlay) : Type 0 where
-  pub replied : answer ≡ (step old i event).reply.0
-  pub world : world_of s m l c h o ≡ (step old i event).world
-  pub alone : OthersStay event old (world_of s m l c h o)
-  pub woken : s.wakes ++ m.wakes ++ l.wakes ++ c.wakes ++ h.wakes ++ o.wakes ≡ (step old i event).reply.1
-  pub low : (s.next ≤ i + 1) × (m.next ≤ i + 1) × (l.next ≤ i + 1) × (c.next ≤ i + 1) × (h.next ≤ i + 1) × (o.next ≤ i + 1)
-  -- the wakers that are ready were registered before, but for one that a poll registers
-  pub grows : registered (world_of s m l c h o) + length s.wakes + length m.wakes + length l.wakes + length c.wakes + length h.wakes + length o.wakes ≤ registered old + 1
-  pub falls : registers event ≡ false → registered (world_of s m l c h o) + length s.wakes + length m.wakes + length l.wakes + length c.wakes + length h.wakes + length o.wakes ≤ registered old
+-- event number i is played with this reply: its wakes were appended to the wakers that are ready, and the registered wakers
+-- were counted
+pub record PlaysFamilies (old : Families) (i : ℕ) (event : Event) (answer : Answer) (new : Families) (before after : Waking ℕ) : Type 0 where
+  pub replied : answer ≡ (step (world_of old) i event).reply.0
+  pub world : world_of new ≡ (step (world_of old) i event).world
+  pub alone : OthersStay event (world_of old) (world_of new)
+  pub woken : after.wakers ≡ before.wakers ++ (step (world_of old) i event).reply.1
+  pub counted : after.registered + registered (world_of old) ≡ before.registered + registered (world_of new)
+  pub below : AreBelow new (i + 1)

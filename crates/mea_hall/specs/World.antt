@@ -1,5 +1,5 @@
 -- the halls of all families, and what an event does to them
-use Rattle.std.specs.Prelude.{ℕ, ◌+◌, ◌≡◌, ◌++◌, Bool, List, Option, refl}
+use Rattle.std.specs.Prelude.{ℕ, ◌+◌, ◌≡◌, ◌++◌, List, Option, refl}
 use Rattle.std.specs.Coded.{Coded, code_by, coded×, coded_ℕ, coded_list}
 use Rattle.mea_family.specs.declared.answer.Answer.{Answer}
 use Rattle.mea_family.specs.declared.stop.Stop.{Stop}
@@ -14,7 +14,7 @@ use Rattle.mea_meet_model.specs.Hall as meet
 use Rattle.mea_meet_model.specs.Cause as meet_cause
 use Rattle.mea_meet_model.specs.Step as meet_step
 use Rattle.mea_meet_model.specs.Valid as meet_valid
-use Rattle.mea_meet.specs.Play as meet_plays
+use Rattle.mea_meet.specs.Halls as meet_plays
 use Rattle.mea_lock_model.specs.LockHall as lock
 use Rattle.mea_lock_model.specs.Meaning as lock_meaning
 use Rattle.mea_lock_model.specs.Valid as lock_valid
@@ -107,15 +107,6 @@ pub record IsValid (w : World) (n : ℕ) : Type 0 where
   pub chans : chan_valid.AllValid w.chans
   pub shares : share_valid.AreValid w.shares
   pub settled : share_lends.AreSettled w.shares
-
--- the events that may register a waker
-unfoldable pub registers : Event → Bool
-registers (Sem e) = sem_waiters.registers e
-registers (Meet e) = meet_step.registers e
-registers (Lock e) = lock_meaning.registers e
-registers (Chan e) = chan_meaning.registers e
-registers (Share e) = share_meaning.registers e
-registers (Once e) = once_meaning.registers e
 
 -- halls in play: the wakers that are ready, and how many events were played
 pub record Play : Type 0 where

@@ -23,10 +23,9 @@ struct Left {
     replies: usize,
     differs: Option<usize>,
     events: u64,
-    // How many wakers are ready: of all families and of semaphores.
-    ready: [usize; 2],
-    // How many are registered: of all families, of semaphores and of meeting points.
-    registered: [usize; 3],
+    // How many wakers are ready, and how many are registered.
+    ready: usize,
+    registered: usize,
     // What the latch counts, if there is one, and whether there is a shutdown.
     lent: (Option<u32>, bool),
 }
@@ -42,24 +41,12 @@ fn replayed(alloc: Global, events: &[Event], expected: &[Reply]) -> Left {
         replies: replies.len(),
         differs: differs(&replies, expected),
         events: hall.events(),
-        ready: ready(&hall),
-        registered: registered(&hall),
+        ready: hall.wakes_ready(),
+        registered: hall.registered(),
         lent: (count(&hall), hall.meets().shutdown(SHUTDOWN).is_some()),
     };
     gone(hall);
     left
-}
-
-fn ready(hall: &Hall) -> [usize; 2] {
-    [hall.wakes_ready(), hall.semaphores().wakes_ready()]
-}
-
-fn registered(hall: &Hall) -> [usize; 3] {
-    [
-        hall.registered(),
-        hall.semaphores().registered(),
-        hall.meets().registered(),
-    ]
 }
 
 // The number of the first of these replies that is another.
@@ -100,7 +87,7 @@ fn ample_replay(rt: HostRuntime) {
     assert!(rt; left.ended == Ok(()));
     assert_eq!(rt; left.replies, 3);
     assert_eq!(rt; left.differs, None);
-    assert_eq!(rt; left.registered, [1, 0, 1]);
+    assert_eq!(rt; left.registered, 1);
 }
 
 // The same: replies and texts.
@@ -129,8 +116,8 @@ fn wakes_stand_beside_their_reply(rt: HostRuntime) {
     let left = replayed(rt.alloc(), &events, &replies);
     assert_eq!(rt; left.replies, 4);
     assert_eq!(rt; left.differs, None);
-    assert_eq!(rt; left.registered, [0, 0, 0]);
-    assert_eq!(rt; left.ready, [0, 0]);
+    assert_eq!(rt; left.registered, 0);
+    assert_eq!(rt; left.ready, 0);
 }
 
 // The families have their numbers in common, and each its own wakers.
@@ -159,8 +146,8 @@ fn two_families_in_one_script(rt: HostRuntime) {
     assert_eq!(rt; left.replies, 11);
     assert_eq!(rt; left.differs, None);
     assert_eq!(rt; left.events, 11);
-    assert_eq!(rt; left.ready, [0, 0]);
-    assert_eq!(rt; left.registered, [1, 0, 1]);
+    assert_eq!(rt; left.ready, 0);
+    assert_eq!(rt; left.registered, 1);
     assert_eq!(rt; left.lent, (Some(0), true));
 }
 

@@ -1,5 +1,5 @@
 //! Tests of the halls of all families, by their public contracts alone: each family's as tables of events with their
-//! replies and wakes, the hall of all, and the program's sources and sinks. It has no code but tests.
+//! replies and wakes, and the hall of all. It has no code but tests.
 #![tactic(auto)]
 
 #[cfg(test)]
@@ -14,8 +14,6 @@ mod meet;
 mod once;
 #[cfg(test)]
 mod play;
-#[cfg(test)]
-mod run;
 #[cfg(test)]
 mod sem;
 #[cfg(test)]

@@ -29,26 +29,27 @@ impl FamilyHall for LockHall {
 }
 
 // With memory at hand, a lock of each kind is made, used and waited for.
+const AMPLE: &[Row<'static, LockEvent>] = &[
+    (LockEvent::MxNew(5), Ok(Answer::Made), &[]),
+    (LockEvent::MxTry(0), Ok(Answer::Held), &[]),
+    (LockEvent::MxLocko(0), Ok(Answer::Made), &[]),
+    (LockEvent::MxPoll(2, 7), Ok(Answer::Pending), &[]),
+    (LockEvent::MxSet(1, 6), Ok(Answer::Done), &[]),
+    (LockEvent::RwMax(8, 2), Ok(Answer::Made), &[]),
+    (LockEvent::RwTryr(5), Ok(Answer::Held), &[]),
+    (LockEvent::RwWriteo(5), Ok(Answer::Made), &[]),
+    (LockEvent::RwPoll(7, 9), Ok(Answer::Pending), &[]),
+    (LockEvent::RwGet(6), Ok(Answer::Value(8)), &[]),
+    (LockEvent::MxEnd(1), Ok(Answer::Done), &[7]),
+    (LockEvent::RwEnd(6), Ok(Answer::Done), &[9]),
+    (LockEvent::RwPoll(7, 9), Ok(Answer::Ready), &[]),
+    (LockEvent::RwDown(12), Ok(Answer::Done), &[]),
+];
+
 #[test]
 fn ample(rt: HostRuntime) {
     let mut hall = LockHall::new(rt.alloc());
-    let rows: [Row<LockEvent>; 14] = [
-        (LockEvent::MxNew(5), Ok(Answer::Made), &[]),
-        (LockEvent::MxTry(0), Ok(Answer::Held), &[]),
-        (LockEvent::MxLocko(0), Ok(Answer::Made), &[]),
-        (LockEvent::MxPoll(2, 7), Ok(Answer::Pending), &[]),
-        (LockEvent::MxSet(1, 6), Ok(Answer::Done), &[]),
-        (LockEvent::RwMax(8, 2), Ok(Answer::Made), &[]),
-        (LockEvent::RwTryr(5), Ok(Answer::Held), &[]),
-        (LockEvent::RwWriteo(5), Ok(Answer::Made), &[]),
-        (LockEvent::RwPoll(7, 9), Ok(Answer::Pending), &[]),
-        (LockEvent::RwGet(6), Ok(Answer::Value(8)), &[]),
-        (LockEvent::MxEnd(1), Ok(Answer::Done), &[7]),
-        (LockEvent::RwEnd(6), Ok(Answer::Done), &[9]),
-        (LockEvent::RwPoll(7, 9), Ok(Answer::Ready), &[]),
-        (LockEvent::RwDown(12), Ok(Answer::Done), &[]),
-    ];
-    assert_eq!(rt; differs_at(&mut hall, &rows), None);
+    assert_eq!(rt; differs_at(&mut hall, AMPLE), None);
     assert_eq!(rt; hall.registered(), 0);
     assert_eq!(rt; hall.wakes_ready(), 0);
     assert!(rt; hall.family().mutex(0).is_some());
@@ -61,20 +62,21 @@ fn ample(rt: HostRuntime) {
 }
 
 // A lock without its name is not lent, and is gone with the last of its owned things.
+const WHAT_ENDED_IS_GONE: &[Row<'static, LockEvent>] = &[
+    (LockEvent::MxNew(5), Ok(Answer::Made), &[]),
+    (LockEvent::MxTryo(0), Ok(Answer::Held), &[]),
+    (LockEvent::MxLocko(0), Ok(Answer::Made), &[]),
+    (LockEvent::MxDrop(0), Ok(Answer::Done), &[]),
+    (LockEvent::MxGet(1), Ok(Answer::Value(5)), &[]),
+    (LockEvent::MxEnd(1), Ok(Answer::Done), &[]),
+    (LockEvent::MxEnd(2), Ok(Answer::Done), &[]),
+    (LockEvent::MxLock(0), Err(Stop::Unknown), &[]),
+];
+
 #[test]
 fn what_ended_is_gone(rt: HostRuntime) {
     let mut hall = LockHall::new(rt.alloc());
-    let rows: [Row<LockEvent>; 8] = [
-        (LockEvent::MxNew(5), Ok(Answer::Made), &[]),
-        (LockEvent::MxTryo(0), Ok(Answer::Held), &[]),
-        (LockEvent::MxLocko(0), Ok(Answer::Made), &[]),
-        (LockEvent::MxDrop(0), Ok(Answer::Done), &[]),
-        (LockEvent::MxGet(1), Ok(Answer::Value(5)), &[]),
-        (LockEvent::MxEnd(1), Ok(Answer::Done), &[]),
-        (LockEvent::MxEnd(2), Ok(Answer::Done), &[]),
-        (LockEvent::MxLock(0), Err(Stop::Unknown), &[]),
-    ];
-    assert_eq!(rt; differs_at(&mut hall, &rows), None);
+    assert_eq!(rt; differs_at(&mut hall, WHAT_ENDED_IS_GONE), None);
     assert!(rt; hall.family().mutex(0).is_none());
     gone(hall);
 }

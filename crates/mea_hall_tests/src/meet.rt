@@ -3,7 +3,7 @@ use mea_family::{Answer, Stop};
 use mea_meet::{MeetEvent, MeetHall};
 
 impl FamilyHall for MeetHall {
-    ghost use Rattle.mea_meet.specs.Play.{TakesNoMemory};
+    ghost use Rattle.mea_meet.specs.Halls.{TakesNoMemory};
 
     type Event = MeetEvent;
 
@@ -56,10 +56,10 @@ fn ample(rt: HostRuntime) {
     assert_eq!(rt; differs_at(&mut hall, &rows), None);
     assert_eq!(rt; hall.registered(), 5);
     assert_eq!(rt; hall.wakes_ready(), 0);
-    assert!(rt; hall.barrier(0).is_some());
-    assert_eq!(rt; hall.latch(3).map(|core| core.count()), Some(1));
-    assert!(rt; hall.group(6).is_some());
-    assert!(rt; hall.shutdown(11).is_some());
+    assert!(rt; hall.family().barrier(0).is_some());
+    assert_eq!(rt; hall.family().latch(3).map(|core| core.count()), Some(1));
+    assert!(rt; hall.family().group(6).is_some());
+    assert!(rt; hall.family().shutdown(11).is_some());
     gone(hall);
 }
 
@@ -82,10 +82,10 @@ fn what_ended_is_gone(rt: HostRuntime) {
         (MeetEvent::SdEnds(9), Ok(Answer::Done), &[]),
     ];
     assert_eq!(rt; differs_at(&mut hall, &rows), None);
-    assert!(rt; hall.barrier(0).is_none());
-    assert!(rt; hall.latch(2).is_none());
-    assert!(rt; hall.group(6).is_none());
-    assert!(rt; hall.shutdown(9).is_none());
+    assert!(rt; hall.family().barrier(0).is_none());
+    assert!(rt; hall.family().latch(2).is_none());
+    assert!(rt; hall.family().group(6).is_none());
+    assert!(rt; hall.family().shutdown(9).is_none());
     gone(hall);
 }
 

@@ -29,24 +29,25 @@ impl FamilyHall for SemHall {
 }
 
 // Two permits and three futures: the third waits, and is granted when the permit of the first ends.
+const A_POOL_OF_TWO: &[Row<'static, SemEvent>] = &[
+    (SemEvent::New(2), Ok(Answer::Made), &[]),
+    (SemEvent::Acq(0, 1), Ok(Answer::Made), &[]),
+    (SemEvent::Acqo(0, 1), Ok(Answer::Made), &[]),
+    (SemEvent::Acq(0, 1), Ok(Answer::Made), &[]),
+    (SemEvent::Poll(1, 101), Ok(Answer::Ready), &[]),
+    (SemEvent::Poll(2, 102), Ok(Answer::Ready), &[]),
+    (SemEvent::Poll(3, 103), Ok(Answer::Pending), &[]),
+    (SemEvent::Poll(3, 104), Ok(Answer::Pending), &[]),
+    (SemEvent::End(4), Ok(Answer::Done), &[104]),
+    (SemEvent::Poll(3, 105), Ok(Answer::Ready), &[]),
+    (SemEvent::Size(9), Ok(Answer::Permits(1)), &[]),
+    (SemEvent::Free(0), Ok(Answer::Free(0)), &[]),
+];
+
 #[test]
 fn a_pool_of_two(rt: HostRuntime) {
     let mut hall = SemHall::new(rt.alloc());
-    let rows: [Row<SemEvent>; 12] = [
-        (SemEvent::New(2), Ok(Answer::Made), &[]),
-        (SemEvent::Acq(0, 1), Ok(Answer::Made), &[]),
-        (SemEvent::Acqo(0, 1), Ok(Answer::Made), &[]),
-        (SemEvent::Acq(0, 1), Ok(Answer::Made), &[]),
-        (SemEvent::Poll(1, 101), Ok(Answer::Ready), &[]),
-        (SemEvent::Poll(2, 102), Ok(Answer::Ready), &[]),
-        (SemEvent::Poll(3, 103), Ok(Answer::Pending), &[]),
-        (SemEvent::Poll(3, 104), Ok(Answer::Pending), &[]),
-        (SemEvent::End(4), Ok(Answer::Done), &[104]),
-        (SemEvent::Poll(3, 105), Ok(Answer::Ready), &[]),
-        (SemEvent::Size(9), Ok(Answer::Permits(1)), &[]),
-        (SemEvent::Free(0), Ok(Answer::Free(0)), &[]),
-    ];
-    assert_eq!(rt; differs_at(&mut hall, &rows), None);
+    assert_eq!(rt; differs_at(&mut hall, A_POOL_OF_TWO), None);
     assert_eq!(rt; hall.registered(), 0);
     assert!(rt; hall.core(0).is_some_and(|core| core.held() == 2));
     gone(hall);
@@ -85,17 +86,18 @@ fn part_payment(rt: HostRuntime) {
 }
 
 // Each future that waits has a waker registered.
+const WAKERS_ARE_COUNTED: &[Row<'static, SemEvent>] = &[
+    (SemEvent::New(1), Ok(Answer::Made), &[]),
+    (SemEvent::Acq(0, 3), Ok(Answer::Made), &[]),
+    (SemEvent::Acq(0, 1), Ok(Answer::Made), &[]),
+    (SemEvent::Poll(1, 11), Ok(Answer::Pending), &[]),
+    (SemEvent::Poll(2, 12), Ok(Answer::Pending), &[]),
+    (SemEvent::Poll(2, 13), Ok(Answer::Pending), &[]),
+];
+
 #[test]
 fn wakers_are_counted(rt: HostRuntime) {
-    let rows: [Row<SemEvent>; 6] = [
-        (SemEvent::New(1), Ok(Answer::Made), &[]),
-        (SemEvent::Acq(0, 3), Ok(Answer::Made), &[]),
-        (SemEvent::Acq(0, 1), Ok(Answer::Made), &[]),
-        (SemEvent::Poll(1, 11), Ok(Answer::Pending), &[]),
-        (SemEvent::Poll(2, 12), Ok(Answer::Pending), &[]),
-        (SemEvent::Poll(2, 13), Ok(Answer::Pending), &[]),
-    ];
-    let left = played(SemHall::new(rt.alloc()), &rows);
+    let left = played(SemHall::new(rt.alloc()), WAKERS_ARE_COUNTED);
     assert_eq!(rt; left.differs_at, None);
     assert_eq!(rt; left.registered, 2);
     assert_eq!(rt; left.wakes_ready, 0);
@@ -214,23 +216,24 @@ fn a_closed_semaphore(rt: HostRuntime) {
 
 // An owned future outlives the name of its semaphore, and is told that it was closed. One that was granted
 // before the close is ready.
+const FUTURES_OF_A_CLOSED_SEMAPHORE: &[Row<'static, SemEvent>] = &[
+    (SemEvent::New(1), Ok(Answer::Made), &[]),
+    (SemEvent::Acqo(0, 2), Ok(Answer::Made), &[]),
+    (SemEvent::Acqo(0, 1), Ok(Answer::Made), &[]),
+    (SemEvent::Poll(1, 21), Ok(Answer::Pending), &[]),
+    (SemEvent::Poll(2, 22), Ok(Answer::Pending), &[]),
+    (SemEvent::Release(0, 1), Ok(Answer::Done), &[21]),
+    (SemEvent::Close(0), Ok(Answer::Done), &[22]),
+    (SemEvent::Endsem(0), Ok(Answer::Done), &[]),
+    (SemEvent::Closed(0), Err(Stop::Unknown), &[]),
+    (SemEvent::Poll(1, 23), Ok(Answer::Ready), &[]),
+    (SemEvent::Poll(2, 24), Ok(Answer::Gone), &[]),
+    (SemEvent::Close(0), Err(Stop::Unknown), &[]),
+];
+
 #[test]
 fn futures_of_a_closed_semaphore(rt: HostRuntime) {
-    let rows: [Row<SemEvent>; 12] = [
-        (SemEvent::New(1), Ok(Answer::Made), &[]),
-        (SemEvent::Acqo(0, 2), Ok(Answer::Made), &[]),
-        (SemEvent::Acqo(0, 1), Ok(Answer::Made), &[]),
-        (SemEvent::Poll(1, 21), Ok(Answer::Pending), &[]),
-        (SemEvent::Poll(2, 22), Ok(Answer::Pending), &[]),
-        (SemEvent::Release(0, 1), Ok(Answer::Done), &[21]),
-        (SemEvent::Close(0), Ok(Answer::Done), &[22]),
-        (SemEvent::Endsem(0), Ok(Answer::Done), &[]),
-        (SemEvent::Closed(0), Err(Stop::Unknown), &[]),
-        (SemEvent::Poll(1, 23), Ok(Answer::Ready), &[]),
-        (SemEvent::Poll(2, 24), Ok(Answer::Gone), &[]),
-        (SemEvent::Close(0), Err(Stop::Unknown), &[]),
-    ];
-    let left = played(SemHall::new(rt.alloc()), &rows);
+    let left = played(SemHall::new(rt.alloc()), FUTURES_OF_A_CLOSED_SEMAPHORE);
     assert_eq!(rt; left.differs_at, None);
     assert_eq!(rt; left.registered, 0);
 }

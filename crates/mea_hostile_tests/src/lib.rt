@@ -1,5 +1,5 @@
-//! What the library does where things go wrong, as four tables: reads and writes that fail, counters at their ends, waits
-//! that end in each stage, and careless initialisers. It has no code but tests.
+//! What cores do where things go wrong, as two tables: counters at their ends, and careless initialisers. Reads and writes that
+//! fail, and waits that end in each stage, are scripts of `mea_rows`. It has no code but tests.
 #![tactic(auto)]
 
 #[cfg(test)]
@@ -11,10 +11,4 @@ mod counters;
 #[cfg(test)]
 mod ends_table;
 #[cfg(test)]
-mod fault_table;
-#[cfg(test)]
 mod numbers;
-#[cfg(test)]
-mod running;
-#[cfg(test)]
-mod stage_table;

@@ -5,8 +5,8 @@ use mea_link::broadcast::overflow;
 use mea_link::latch::Latch;
 use mea_link::shutdown::{ShutdownRecv, ShutdownSend, new_pair};
 use mea_link::waitgroup::WaitGroup;
-use mea_meet_core::{GroupWait, LatchWait};
-use mea_meet_seats::{GroupSeats, LatchSeats, Seat};
+use mea_meet_core::{BarrierCore, BarrierWait, GroupWait, LatchWait};
+use mea_meet_seats::{GroupSeats, LatchSeats, Seat, withdraw_from};
 use mea_test_support::{Bell, Count, PollOutcome, count, end, gives, goes_on, poll, rung};
 use mea_wait::{End, Waits};
 use std::process::Abort;
@@ -226,4 +226,38 @@ fn an_arrival_stays_without_its_waker(rt: HostRuntime) {
     assert!(rt; comes_and_goes(&rt, barrier.wait(), &bell));
     assert!(rt; Arc::strong_count(&bell) == 1);
     has_a_leader(&rt, &barrier, &bell);
+}
+
+// A barrier of seats, whose calls tell plain values.
+#[derive(Drop)]
+struct Meeting(BarrierCore<Seat<u64>>);
+
+impl Meeting {
+    // Whether a wait goes on.
+    fn pends(&mut self, wait: &mut BarrierWait, waker: u64) -> bool {
+        matches!(
+            self.0.poll_checked(wait, Seat::Taken(waker)),
+            Ok(Poll::Pending)
+        )
+    }
+
+    fn withdraw(&mut self, wait: BarrierWait) {
+        withdraw_from(&mut self.0, wait);
+    }
+}
+
+// A wait that is ended at a barrier to which it does not belong does not arrive there.
+#[test]
+fn a_wait_of_another_barrier_does_not_arrive(rt: HostRuntime) {
+    let mut one = Meeting(BarrierCore::new(rt.alloc(), 2));
+    let mut other = Meeting(BarrierCore::new(rt.alloc(), 2));
+    does_not_arrive(&rt, &mut one, &mut other);
+}
+
+fn does_not_arrive(rt: &impl Abort, one: &mut Meeting, other: &mut Meeting) {
+    let (mut wait, mut own) = (BarrierWait::new(), BarrierWait::new());
+    assert!(rt; one.pends(&mut wait, 1));
+    other.withdraw(wait);
+    assert!(rt; other.pends(&mut own, 2));
+    other.withdraw(own);
 }

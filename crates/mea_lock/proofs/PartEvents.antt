@@ -11,7 +11,7 @@ use Rattle.mea_family.specs.Family.{Outcome}
 use Rattle.mea_base.specs.Ready.{Waking}
 use Rattle.mea_base.specs.Totals.{total, weight}
 use Rattle.mea_base.proofs.Maps.{total-has, nothing_at, inside, get-there, is_there}
-use Rattle.mea_base.proofs.Totals.{total-insert, total-remove, total-same}
+use Rattle.mea_base.proofs.Totals.{total-insert, total-remove, total-same, total-zero}
 use Rattle.mea_base.proofs.NamedMaps.{is_some-map, get-seen}
 use Rattle.mea_by_name.specs.ByName.{Names, seen, own, count}
 use Rattle.mea_family.specs.Play.{Part, PartYields, PartRests, found}
@@ -20,7 +20,7 @@ use Rattle.mea_by_name.specs.LackingQueue.{who}
 use Rattle.mea_by_name.proofs.LackingQueues.{length-who}
 use Rattle.mea_by_name.proofs.Cases.{found_is, if_true, if_false}
 use Rattle.mea_by_name.proofs.Halls as halls
-use Rattle.mea_by_name.proofs.Own.{seen-at, seen-back, seen-empty, seen-insert, seen-remove, seen-alike, own-seen, len-seen, total-seen, own-at, own-none, own-put, own-gone, len-some, count-gone, insert_same, put_gone, gone_none, Moves, Stays, Comes, Goes}
+use Rattle.mea_by_name.proofs.Own.{seen-at, seen-back, seen-empty, seen-insert, seen-remove, seen-alike, own-seen, len-seen, total-seen, own-at, own-had, own-none, own-put, own-gone, len-some, count-gone, insert_same, put_gone, gone_none, Moves, Stays, Comes, Goes}
 use Rattle.mea_by_name.specs.declared.named_waker.NamedWaker.{NamedWaker}
 use Rattle.mea_lock_core.specs.RwLock.{LetsIn, share_of}
 use Rattle.mea_lock_model.specs.Locks as model
@@ -32,7 +32,7 @@ use Rattle.mea_lock.specs.declared.guard_entry.GuardEntry.{GuardEntry}
 use Rattle.mea_lock.specs.Cores.{NamedLock, TakesLock, UnlocksLock, LowersLock, IsHeldAs, IsFreeFor}
 use Rattle.mea_lock.specs.Entries.{KeptLock, KeptFuture, begun, finished, settled, is_over, Settles}
 use Rattle.mea_lock.specs.Waits.{IsNewWait, is_polled}
-use Rattle.mea_lock.specs.Parts.{lock_seen, future_seen, guard_seen, locks_seen, held_by as held_of_guards, AreKept, AreKeptLocks, IsNewLock, of_future, of_guard}
+use Rattle.mea_lock.specs.Parts.{lock_seen, future_seen, guard_seen, locks_seen, held_by as held_of_guards, held_in, AreKept, AreKeptLocks, IsNewLock, of_future, of_guard}
 use Rattle.mea_lock.specs.Lends.{StandsFor}
 use Rattle.mea_lock.proofs.OneLock as one
 use Rattle.mea_cores_by_name.proofs.Waiters.{length-names}
@@ -82,6 +82,10 @@ module _ (ls : Names KeptLock) (fs : Names KeptFuture) (gs : Names GuardEntry) (
       let guards = ap (count (λ (x : LockGuard). x.plain)) guards_seen ∙ total-seen guard_seen (λ (x : LockGuard). cond x.plain 1 0) (own of_guard o gs) in
       omega (arith, futures, guards)
 
+-- a future that does not hold the lock holds no permits
+holds_nothing : (l : NamedLock) (x : KeptFuture) → (x.holds ≡ true → ⊥) → cond x.holds l.most 0 ≡ 0
+holds_nothing l x not = elim x.holds as (λ b. (b ≡ true → ⊥) → cond b l.most 0 ≡ 0) [ true ↦ λ no. absurd (no refl) | false ↦ λ no. refl ] not
+
 -- ---- what is looked up in locks that are seen so
 module _ {old : Part Locks} (ls : Names KeptLock) (fs : Names KeptFuture) (gs : Names GuardEntry) (next : ℕ) (view : ◌≡◌ {A = Part Locks} (record { hall = locks_seen ls fs gs; next = next }) old) where
   pub named_of : (o : ℕ) (p : Option KeptLock) → get ls o ≡ p → is_named_lock (option_map lock_seen p) ≡ is_named old.hall o
@@ -101,8 +105,24 @@ module _ {old : Part Locks} (ls : Names KeptLock) (fs : Names KeptFuture) (gs : 
     plain_of_it = ap (λ (p : Part Locks). plain_of p.hall o) (sym view) ∙ plain_seen ls fs gs o ∙ sym (kept.each o e there).plain
 
     pub stands_for_it : e.named ≡ true → StandsFor old.hall o e.lock
-    stands_for_it named = ap (λ (p : Part Locks). get p.hall.locks o) (sym view) ∙ seen-at lock_seen ls o e there
-        ∙ (λ i. Some (record { value = e.lock.value; most = e.lock.most; free = e.lock.permits.free; queue = names_in e.lock.permits.queue; named = named i }))
+    stands_for_it named =
+        let it : AreKept e (own of_future o fs) (own of_guard o gs) = kept.each o e there in
+        subst (λ (p : Part Locks). StandsFor p.hall o e.lock) view (record {
+          seen = seen-at lock_seen ls o e there
+              ∙ (λ i. Some (record { value = e.lock.value; most = e.lock.most; free = e.lock.permits.free; queue = names_in e.lock.permits.queue; named = named i }));
+          writing = λ g x there of.
+              let kept_as = seen-back guard_seen gs g x there in
+              sym (it.writing g kept_as.0 (own-at of_guard o gs g kept_as.0 kept_as.1 (ap (λ (x : LockGuard). x.lock) kept_as.2 ∙ of)))
+              ∙ ap (λ (x : LockGuard). x.writes) kept_as.2;
+          held = λ alone.
+              let none : held_in e.lock (own of_future o fs) ≡ 0 = total-zero (λ k (x : KeptFuture). cond x.holds e.lock.most 0) (own of_future o fs)
+              (λ f x there. holds_nothing e.lock x (λ is.
+              let of = own-had of_future o fs f x there in
+              absurd (let yes = (it.holders f x there is).of_condvar in let no = alone f (future_seen x) (seen-at future_seen fs f x of.0) of.1 in cc))) in
+              let guards : held_by (lock_seen e) (own (λ (x : LockGuard). x.lock) o (seen guard_seen gs)) ≡ held_of_guards e.lock (own of_guard o gs) =
+              ap (held_by (lock_seen e)) (guards_seen ls fs gs o) ∙ total-seen guard_seen (λ (x : LockGuard). size (lock_seen e) x.writes) (own of_guard o gs) in
+              omega (arith, it.held, none, guards);
+        })
 
   -- the guards of each lock have no more than the lock has
   pub guards_fit : AreKeptLocks ls fs gs next → FitGuards old.hall

@@ -1,30 +1,29 @@
 -- what each event does to barriers, as they are kept and as they are seen
-use Rattle.std.proofs.Common.{◌≡◌, ◌≢◌, ℕ, ◌+◌, ◌-◌, ◌*◌, ◌/◌, ◌%◌, ◌<◌, ◌≤◌, ◌^◌, ◌==◌, ◌&&◌, ◌++◌, inl, inr, Bool, true, false, cond, List, length, map, max, [], nat_lt, nat_le, Option, Some, None, IsSome, is_some, Result, Ok, Err, if◌then◌else◌, refl, ap, sym, subst, ◌∙◌, arith, append-nil}
+use Rattle.std.proofs.Common.{◌≡◌, ℕ, ◌+◌, ◌-◌, ◌*◌, ◌/◌, ◌<◌, ◌≤◌, ◌^◌, ◌++◌, inl, inr, Bool, true, false, cond, List, length, map, max, [], nat_lt, nat_le, Option, Some, None, IsSome, is_some, Result, Ok, if◌then◌else◌, refl, ap, sym, subst, ◌∙◌, arith, append-nil}
 use Rattle.std.specs.Option.{option_map}
 use Rattle.std.specs.FinMap.{get, insert, remove, empty, len, len-empty}
 use Rattle.std.specs.Ordering.{nat_cmp}
-use Rattle.std.proofs.lemmas.Bool.{cases_lt, cases_eq, le-leb, leb-true, leb-false, and_from}
-use Rattle.std.proofs.lemmas.Bool.Decides.{nat_tests}
-use Rattle.std.proofs.lemmas.Nat.{div-add-mod', le-div}
+use Rattle.std.proofs.lemmas.Bool.{cases_eq, le-leb, leb-true, leb-false, and_from}
+use Rattle.std.proofs.lemmas.Nat.{le-div}
 use Rattle.mea_base.specs.Ready.{Waking}
 use Rattle.mea_base.specs.Totals.{total, weight}
 use Rattle.mea_base.proofs.Totals.{total-insert, total-remove, total-same}
-use Rattle.mea_base.proofs.Maps.{by_put, by_gone, total-has, nothing_at, inside, get-there, is_there, value_in, removed_there}
+use Rattle.mea_base.proofs.Maps.{by_put, by_gone, total-has, nothing_at, inside, removed_there}
 use Rattle.mea_base.proofs.NamedMaps.{is_some-map, get-seen}
 use Rattle.mea_family.specs.Causes.{borrowed_by}
 use Rattle.mea_family.specs.Family.{Outcome, quietly}
-use Rattle.mea_family.specs.Play.{Part, PartYields, PartRests, found}
+use Rattle.mea_family.specs.Play.{Part, PartYields, PartRests}
 use Rattle.mea_family.specs.declared.answer.Answer.{Answer}
 use Rattle.mea_family.specs.declared.answer.Answer.TheVariants as answers
 use Rattle.mea_family.specs.declared.stop.Stop.TheVariants as stops
 use Rattle.mea_by_name.specs.declared.named_waker.NamedWaker.{NamedWaker}
 use Rattle.mea_by_name.specs.ByName.{Names, seen, own}
-use Rattle.mea_by_name.specs.NamedQueue.{registering, wakers}
+use Rattle.mea_by_name.specs.NamedQueue.{registering}
 use Rattle.mea_by_name.proofs.Cases.{found_is, if_true, if_false}
-use Rattle.mea_by_name.proofs.Own.{Moves, Stays, Comes, Goes, moves_elsewhere, seen-at, seen-empty, seen-insert, seen-remove, seen-alike, own-at, own-none, own-put, own-gone, own-empty, own-seen, insert_same, len-new, len-over, len-gone, len-some, len-seen, total-seen}
+use Rattle.mea_by_name.proofs.Own.{Moves, Comes, Goes, moves_elsewhere, seen-at, seen-empty, seen-insert, seen-remove, seen-alike, own-at, own-none, own-put, own-gone, own-empty, own-seen, insert_same, len-new, len-over, len-gone, len-some, len-seen, total-seen}
 use Rattle.mea_sets.specs.declared.place.Place.{Place}
 use Rattle.mea_sets.specs.Poll.{Poll, Ready, Pending}
-use Rattle.mea_sets.specs.WaitSet.{Registered, has_given, with_waker, slot_after}
+use Rattle.mea_sets.specs.WaitSet.{has_given, with_waker, slot_after}
 use Rattle.mea_cores_by_name.specs.SetLinked.{SetLinked, set_names}
 use Rattle.mea_cores_by_name.proofs.Sets.{registered_links, registered_names, drained_links, begun_links, gone_links}
 use Rattle.mea_meet_core.specs.Barrier as cores
@@ -36,13 +35,13 @@ use Rattle.mea_meet_model.specs.Barriers as model
 use Rattle.mea_meet_model.specs.Barriers.{Barriers, Barrier, BarrierWait, no_barriers, new_barrier, is_barrier, is_wait, waits_of, registered, leads, has_completed}
 use Rattle.mea_meet_model.specs.BarrierActions.{BarrierAction, Make, Begin, Poll as PollIt, End, Drop, cause_at, act_at}
 use Rattle.mea_meet_model.specs.Valid.{HasBarriers, IsBarrier}
-use Rattle.mea_meet_model.proofs.BarriersKept.{barriers_empty, barriers_later, keeps}
+use Rattle.mea_meet_model.proofs.BarriersKept.{barriers_empty, keeps}
 use Rattle.mea_meet_model.proofs.CountsKept.{no_thing}
 use Rattle.mea_meet_model.proofs.Rounds.{has_begun}
 use Rattle.mea_meet.specs.declared.barrier_entry.BarrierEntry.{BarrierEntry}
 use Rattle.mea_meet.specs.declared.barrier_entry.BarrierWaitEntry.{BarrierWaitEntry}
 use Rattle.mea_meet.specs.BarrierEntries.{Turns}
-use Rattle.mea_meet.specs.BarrierParts.{core_seen, barrier_seen, slot_of, round_of, wait_seen, barriers_seen, of_barrier, slots_of, IsUnfinished, AreKept, AreKeptBarriers, StandsForBarrier}
+use Rattle.mea_meet.specs.BarrierParts.{core_seen, barrier_seen, slot_of, round_of, wait_seen, barriers_seen, of_barrier, slots_of, IsUnfinished, AreKept, AreKeptBarriers}
 use Rattle.mea_meet.proofs.CountSeeing.{length-names, wakers-names}
 use Rattle.mea_meet.proofs.CountSites.{seen_none, seen_some}
 use Rattle.mea_meet.proofs.OneCount.{linked_later, fresh_linked}

@@ -1,15 +1,13 @@
 -- what each call of the part of points that count makes of them
-use Rattle.std.proofs.Common.{◌≡◌, ◌≢◌, ℕ, ◌+◌, ◌-◌, ◌<◌, ◌≤◌, ◌^◌, ◌==◌, ◌++◌, Bool, true, false, cond, length, [], nat_lt, Option, Some, None, IsSome, is_some, unwrap_or, if◌then◌else◌, refl, ap, sym, subst, ◌∙◌, arith, append-nil}
+use Rattle.std.proofs.Common.{◌≡◌, ◌≢◌, ℕ, ◌+◌, ◌-◌, ◌<◌, ◌≤◌, ◌^◌, ◌==◌, ◌++◌, Bool, true, false, cond, [], nat_lt, Option, Some, None, IsSome, is_some, unwrap_or, if◌then◌else◌, refl, ap, sym, subst, ◌∙◌, arith, append-nil}
 use Rattle.std.specs.Prelude.{IfSome, IfOk, Result, Ok, Err}
 use Rattle.mea_base.specs.declared.no_memory.NoMemory.{NoMemory}
-use Rattle.std.specs.FinMap.{get, insert, remove, empty, len}
-use Rattle.std.proofs.lemmas.Bool.{eqb-true, eqb-false, eq-eqb, ne_eqb, lt-ltb}
-use Rattle.std.proofs.lemmas.Bool.Decides.{nat_tests}
+use Rattle.std.specs.FinMap.{get, insert, remove, len}
+use Rattle.std.proofs.lemmas.Bool.{eqb-true, eqb-false, eq-eqb, ne_eqb}
 use Rattle.mea_base.specs.Ready.{Waking}
 use Rattle.mea_base.specs.Totals.{weight}
 use Rattle.mea_base.proofs.Totals.{total-zero, total-alike}
-use Rattle.mea_base.proofs.Tests.{by_name}
-use Rattle.mea_base.proofs.Maps.{by_put, inside, get-there, get-other, is_there, value_in, total-has}
+use Rattle.mea_base.proofs.Maps.{by_put, inside, is_there, value_in, total-has}
 use Rattle.mea_family.specs.Causes.{borrowed_by}
 use Rattle.mea_family.specs.Family.{Outcome, quietly}
 use Rattle.mea_family.specs.Play.{Part, PartYields, PartRests, found}
@@ -18,9 +16,9 @@ use Rattle.mea_family.specs.declared.answer.Answer.TheVariants as answers
 use Rattle.mea_family.specs.declared.stop.Stop.TheVariants as stops
 use Rattle.mea_by_name.specs.ByName.{Names, seen, own, is_of}
 use Rattle.mea_by_name.proofs.Cases.{found_is, if_true, if_false}
-use Rattle.mea_by_name.proofs.Own.{Moves, Stays, Comes, Goes, seen-at, seen-back, seen-none, get-own, seen-insert, seen-remove, seen-alike, own-at, own-none, own-had, own-put, own-gone, insert_same, put_gone, gone_none, len-some, len-over, count-least, total-seen}
+use Rattle.mea_by_name.proofs.Own.{Moves, Stays, Comes, Goes, seen-at, seen-back, seen-none, get-own, seen-insert, seen-remove, seen-alike, own-at, own-none, own-had, own-put, own-gone, insert_same, len-some, len-over, count-least, total-seen}
 use Rattle.mea_sets.specs.declared.place.Place.{Place}
-use Rattle.mea_sets.specs.Poll.{Poll, Ready, Pending}
+use Rattle.mea_sets.specs.Poll.{Ready, Pending}
 use Rattle.mea_sets.specs.WaitSet.{has_given}
 use Rattle.mea_meet_model.specs.Count.{Count, with_waker}
 use Rattle.mea_meet_model.specs.Counts as model
@@ -34,15 +32,15 @@ use Rattle.mea_meet.specs.declared.holder_entry.HolderEntry.{HolderEntry}
 use Rattle.mea_meet.specs.declared.wait_entry.WaitEntry.{WaitEntry}
 use Rattle.mea_meet.specs.declared.count_wait.CountWait.{CountWait}
 use Rattle.mea_meet.specs.declared.count_wait.CountWait.TheVariants as waits
-use Rattle.mea_meet.specs.CountCores.{NamedPoint, arrived, joined, parted, handed_on, count_at, with_count, kept_by}
+use Rattle.mea_meet.specs.CountCores.{NamedPoint, arrived, joined, parted, handed_on, count_at, kept_by}
 use Rattle.mea_meet.specs.CountWaits.{end_of, slot_of, with_slot, borrowed_of, awaits_of}
-use Rattle.mea_meet.specs.CountEntries.{KeptPoint, Settles, Turns, Polled}
-use Rattle.mea_meet.specs.CountParts.{core_seen, point_seen, holder_seen, wait_seen, counts_seen, of_holder, of_wait, borrowers_in, AreKept, AreKeptCounts, IsFresh, new_of, given_back_at, given_back}
+use Rattle.mea_meet.specs.CountEntries.{KeptPoint, Settles, Polled}
+use Rattle.mea_meet.specs.CountParts.{point_seen, holder_seen, wait_seen, counts_seen, of_holder, of_wait, borrowers_in, AreKept, AreKeptCounts, given_back_at, given_back}
 use Rattle.mea_meet.proofs.CountSeeing as seeing
 use Rattle.mea_meet.proofs.CountSeeing.{kept_in}
 use Rattle.mea_meet.proofs.OneCount as one
 use Rattle.mea_meet.proofs.OneCount.{borrows_plain}
-use Rattle.mea_meet.proofs.CountSites.{Each, Site, part_of, in_view, holders_point, senders_point, waits_point, its_room, rests_as, yields_as, new_point, new_holder, new_wait, new_sender, its, seen_there, its_few, found_here, kept_now, each_turned, each_tidied, seen_tidied, kept_tidied, own_no_wait, own_no_holder, own_no_sender, each_made, kept_made, each_rests, valid_act}
+use Rattle.mea_meet.proofs.CountSites.{Each, Site, part_of, in_view, holders_point, senders_point, waits_point, its_room, rests_as, yields_as, new_holder, new_wait, new_sender, its, seen_there, its_few, found_here, kept_now, each_turned, each_tidied, seen_tidied, kept_tidied, each_rests, valid_act}
 
 abbrev no_point_there : Point
 no_point_there = record { signal = record { number = 0; waiting = [] }; members = record { number = 0; waiting = [] } }

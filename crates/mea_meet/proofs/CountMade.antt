@@ -1,8 +1,7 @@
 -- a point that is made, with its first holder
-use Rattle.std.proofs.Common.{◌≡◌, ℕ, ◌+◌, ◌≤◌, Bool, true, false, cond, length, [], None, if◌then◌else◌, refl, ap, sym, subst, ◌∙◌, arith}
-use Rattle.std.specs.FinMap.{get, insert, remove, empty, len, len-empty, get-empty}
+use Rattle.std.proofs.Common.{◌≡◌, ℕ, ◌+◌, ◌≤◌, Bool, true, false, cond, length, if◌then◌else◌, refl, ap, ◌∙◌, arith}
+use Rattle.std.specs.FinMap.{insert, remove, empty, len, len-empty, get-empty}
 use Rattle.std.specs.Ordering.{nat_cmp}
-use Rattle.mea_family.specs.Family.{Outcome}
 use Rattle.mea_family.specs.Play.{Part, PartRests}
 use Rattle.mea_family.specs.declared.answer.Answer.TheVariants as answers
 use Rattle.mea_by_name.specs.declared.named_waker.NamedWaker.{NamedWaker}
@@ -13,10 +12,9 @@ use Rattle.mea_meet_model.specs.Counts as model
 use Rattle.mea_meet_model.specs.Counts.{Counts, registered, of_itself}
 use Rattle.mea_meet_model.specs.CountActions.{Make, act_in}
 use Rattle.mea_meet.specs.declared.holder_entry.HolderEntry.{HolderEntry}
-use Rattle.mea_meet.specs.declared.wait_entry.WaitEntry.{WaitEntry}
 use Rattle.mea_meet.specs.CountCores.{NamedPoint, kept_by}
 use Rattle.mea_meet.specs.CountEntries.{KeptPoint}
-use Rattle.mea_meet.specs.CountParts.{count_seen, core_seen, point_seen, holder_seen, counts_seen, of_holder, of_wait, AreKeptCounts, IsFresh, new_of}
+use Rattle.mea_meet.specs.CountParts.{count_seen, point_seen, holder_seen, counts_seen, of_holder, AreKeptCounts, IsFresh, new_of}
 use Rattle.mea_meet.proofs.OneCount.{fresh_kept}
 use Rattle.mea_meet.proofs.CountSites.{Site, part_of, rests_as, new_holder, new_sender, own_no_wait, own_no_holder, own_no_sender, each_made, kept_made, valid_act}
 

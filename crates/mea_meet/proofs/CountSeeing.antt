@@ -10,8 +10,7 @@ use Rattle.mea_sets.specs.declared.place.Place.{Place}
 use Rattle.mea_sets.specs.WaitSet as sets
 use Rattle.mea_sets.specs.Countdown as cores
 use Rattle.mea_cores_by_name.specs.SetLinked.{names_of, set_names}
-use Rattle.mea_meet_core.specs.Shutdown.{without_receiver}
-use Rattle.mea_meet_model.specs.Count.{Count, ends, decreased, woken_by, with_waker}
+use Rattle.mea_meet_model.specs.Count.{decreased, woken_by, with_waker}
 use Rattle.mea_meet_model.specs.Counts as model
 use Rattle.mea_meet_model.specs.Counts.{Point, End, OfSignal, OfMembers, woken_by_end}
 use Rattle.mea_meet.specs.CountCores.{NamedPoint, arrived, joined, parted, handed_on, count_at, with_count, kept_by}

@@ -1,35 +1,29 @@
 -- what each event does to points that count, as they are kept and as they are seen
-use Rattle.std.proofs.Common.{◌≡◌, ◌≢◌, ℕ, ◌+◌, ◌-◌, ◌<◌, ◌≤◌, ◌^◌, ◌==◌, ◌++◌, inl, inr, Bool, true, false, cond, length, [], nat_lt, Option, Some, None, IsSome, is_some, if◌then◌else◌, refl, ap, sym, subst, ◌∙◌, arith, append-nil}
-use Rattle.std.specs.Prelude.{IfSome}
-use Rattle.std.specs.Option.{option_map, option_copied}
+use Rattle.std.proofs.Common.{◌≡◌, ℕ, ◌+◌, ◌<◌, ◌≤◌, ◌^◌, ◌==◌, ◌++◌, Bool, true, false, [], Option, Some, None, IsSome, is_some, if◌then◌else◌, refl, ap, sym, subst, ◌∙◌, arith}
+use Rattle.std.specs.Option.{option_map}
 use Rattle.std.specs.FinMap.{get, insert, remove, empty, len}
-use Rattle.std.proofs.lemmas.Bool.{eqb-true, eqb-false, eq-eqb, lt-ltb, false≢true}
-use Rattle.std.proofs.lemmas.Bool.Decides.{nat_tests}
 use Rattle.mea_base.specs.Ready.{Waking}
 use Rattle.mea_base.specs.Totals.{weight}
-use Rattle.mea_base.proofs.Totals.{total-insert, total-remove, total-zero}
-use Rattle.mea_base.proofs.Maps.{by_put, by_gone, total-has, nothing_at, inside, get-there, get-other, get-removed_other, removed_there, is_there, value_in, is_absent}
+use Rattle.mea_base.proofs.Totals.{total-insert, total-remove}
+use Rattle.mea_base.proofs.Maps.{by_put, by_gone, total-has, nothing_at, inside, get-there, is_there, value_in, is_absent}
 use Rattle.mea_base.proofs.NamedMaps.{is_some-map, get-seen}
-use Rattle.mea_family.specs.Causes.{borrowed_by, unknown_unless}
-use Rattle.mea_family.specs.Family.{Outcome, quietly}
+use Rattle.mea_family.specs.Family.{Outcome}
 use Rattle.mea_family.specs.Play.{Part, PartYields, PartRests, found}
 use Rattle.mea_family.specs.declared.answer.Answer.{Answer}
-use Rattle.mea_family.specs.declared.answer.Answer.TheVariants as answers
 use Rattle.mea_by_name.specs.ByName.{Names, seen, own}
 use Rattle.mea_by_name.proofs.Cases.{found_is, if_true, if_false}
-use Rattle.mea_by_name.proofs.Own.{Moves, Stays, Comes, Goes, moves_elsewhere, seen-at, seen-back, seen-empty, seen-insert, seen-remove, seen-alike, own-at, own-none, own-had, own-put, own-gone, own-empty, insert_same, put_gone, gone_none, len-some, len-over, count-least, total-seen, own-seen, len-seen}
+use Rattle.mea_by_name.proofs.Own.{Moves, moves_elsewhere, seen-at, seen-back, seen-empty, seen-insert, seen-remove, own-empty, put_gone, own-seen, len-seen}
 use Rattle.mea_meet_model.specs.Counts as model
 use Rattle.mea_meet_model.specs.Counts.{Counts, Point, End, Holder, Awaited, Wait, New, no_counts, is_holder, is_sender, is_wait, borrows, borrowers_of, registered, things_of, tidied}
 use Rattle.mea_meet_model.specs.CountActions.{Action, act_in, cause_in}
 use Rattle.mea_meet_model.specs.Valid.{HasCounts}
-use Rattle.mea_meet_model.proofs.CountsKept.{counts_empty, counts_later, no_point, no_holder, no_wait, no_sender}
+use Rattle.mea_meet_model.proofs.CountsKept.{counts_empty, no_point, no_holder, no_wait, no_sender}
 use Rattle.mea_meet_model.proofs.CountEvents.{MayAct, keeps}
 use Rattle.mea_meet.specs.declared.holder_entry.HolderEntry.{HolderEntry}
 use Rattle.mea_meet.specs.declared.wait_entry.WaitEntry.{WaitEntry}
-use Rattle.mea_meet.specs.CountCores.{NamedPoint, kept_by}
-use Rattle.mea_meet.specs.CountWaits.{awaits_of, borrowed_of}
+use Rattle.mea_meet.specs.CountCores.{kept_by}
 use Rattle.mea_meet.specs.CountEntries.{KeptPoint}
-use Rattle.mea_meet.specs.CountParts.{point_seen, holder_seen, wait_seen, counts_seen, of_holder, of_wait, borrowers_in, AreKept, AreKeptCounts, given_back}
+use Rattle.mea_meet.specs.CountParts.{point_seen, holder_seen, wait_seen, counts_seen, of_holder, of_wait, AreKept, AreKeptCounts}
 use Rattle.mea_meet.proofs.CountSeeing.{kept_in, registered_is}
 use Rattle.mea_meet.proofs.OneCount.{lasts}
 

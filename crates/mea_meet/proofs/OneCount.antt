@@ -1,12 +1,11 @@
 -- one point that counts, as it is kept with its futures, holders and senders: what each change of it keeps
-use Rattle.std.proofs.Common.{◌≡◌, ℕ, ◌+◌, ◌-◌, ◌<◌, ◌≤◌, ◌==◌, Bool, true, false, cond, List, [], ◌∷◌, Option, Some, None, if◌then◌else◌, refl, ap, sym, subst, ◌∙◌, arith}
+use Rattle.std.proofs.Common.{◌≡◌, ℕ, ◌+◌, ◌-◌, ◌≤◌, ◌==◌, Bool, true, false, cond, List, [], ◌∷◌, Option, Some, None, if◌then◌else◌, refl, ap, sym, subst, ◌∙◌, arith}
 use Rattle.std.specs.Ordering.{nat_cmp}
 use Rattle.std.specs.FinMap.{get, insert, remove, empty, len, get-empty, len-empty}
-use Rattle.std.proofs.lemmas.Bool.{eq-eqb, ne_eqb}
 use Rattle.mea_base.proofs.Maps.{by_put, inside, removed_there, nothing_at}
-use Rattle.mea_base.proofs.Totals.{total-zero, total-empty}
+use Rattle.mea_base.proofs.Totals.{total-empty}
 use Rattle.mea_by_name.specs.declared.named_waker.NamedWaker.{NamedWaker}
-use Rattle.mea_by_name.specs.ByName.{Names, seen}
+use Rattle.mea_by_name.specs.ByName.{Names}
 use Rattle.mea_by_name.specs.NamedQueue.{registering}
 use Rattle.mea_by_name.proofs.Own.{seen-at, seen-empty, seen-insert, seen-remove, insert_same, len-new, len-over, len-gone, len-some, count-new, count-gone, count-over}
 use Rattle.mea_sets.specs.declared.place.Place.{Place}
@@ -21,7 +20,7 @@ use Rattle.mea_meet.specs.declared.wait_entry.WaitEntry.{WaitEntry}
 use Rattle.mea_meet.specs.declared.count_wait.CountWait.{CountWait}
 use Rattle.mea_meet.specs.declared.count_wait.CountWait.TheVariants as waits
 use Rattle.mea_meet.specs.CountCores.{NamedPoint, arrived, joined, parted, handed_on, count_at, with_count}
-use Rattle.mea_meet.specs.CountWaits.{end_of, slot_of, with_slot, slot_at, borrowed_of, awaits_of}
+use Rattle.mea_meet.specs.CountWaits.{end_of, slot_of, with_slot, slot_at, awaits_of}
 use Rattle.mea_meet.specs.CountEntries.{KeptPoint}
 use Rattle.mea_meet.specs.CountParts.{AreKept, IsFresh, slots_at, borrowers_in}
 

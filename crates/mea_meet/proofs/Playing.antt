@@ -1,23 +1,21 @@
 -- what is said of the meeting points of one kind, and of all
-use Rattle.std.proofs.Common.{◌≡◌, ℕ, ◌+◌, ◌≤◌, ◌++◌, length, ap, sym, ◌∙◌, arith, append-nil, Bool, true, false, None, Some, refl}
+use Rattle.std.proofs.Common.{◌≡◌, ℕ, ◌+◌, ◌≤◌, ◌++◌, ap, sym, ◌∙◌, arith, append-nil, Bool, true, false, None, Some, refl}
 use Rattle.std.specs.FinMap.{get}
 use Rattle.mea_family.specs.Causes.{borrowed_by}
 use Rattle.mea_meet_model.proofs.CountEvents.{not_borrowed, none_borrows}
 use Rattle.mea_family.specs.declared.answer.Answer.{Answer}
 use Rattle.mea_family.specs.Family.{Outcome}
 use Rattle.mea_base.specs.Ready.{Waking}
-use Rattle.mea_family.specs.Play.{Part, PartYields, PartRests, Yields}
+use Rattle.mea_family.specs.Play.{Part, PartYields, PartRests}
 use Rattle.mea_events.specs.declared.meet_event.MeetEvent.{MeetEvent}
 use Rattle.mea_meet_model.specs.Barriers as barriers
 use Rattle.mea_meet_model.specs.Barriers.{Barriers}
 use Rattle.mea_meet_model.specs.Counts as counts
 use Rattle.mea_meet_model.specs.Counts.{Counts, Wait, is_holder, borrowers_of, borrows}
-use Rattle.mea_meet_model.specs.CountActions.{act_in}
-use Rattle.mea_meet_model.specs.BarrierActions.{act_at}
-use Rattle.mea_meet_model.specs.Hall.{Hall, Latches, Groups, Shutdowns, registered as all_registered}
+use Rattle.mea_meet_model.specs.Hall.{Latches, Groups, Shutdowns, registered as all_registered}
 use Rattle.mea_meet_model.specs.Meaning.{Doing, OnBarriers, OnCounts, doing}
 use Rattle.mea_meet_model.specs.Step.{step, step_by}
-use Rattle.mea_meet.specs.Halls.{hall_of, PlaysDoing, PlaysKinds}
+use Rattle.mea_meet.specs.Halls.{hall_of, AreBelow, PlaysDoing, PlaysKinds}
 
 -- where no waker was made ready, those that are ready are as they were
 yield_rests : {H : Type 0} (registered : H → ℕ) (old : Part H) (i : ℕ) (o : Outcome H) (answer : Answer) (new : Part H) (w : Waking ℕ) → PartRests registered old i o answer new → PartYields registered old i o answer new w w
@@ -42,121 +40,75 @@ borrowed_by_none h k allowed f y is = at (borrows y.awaits k) refl
     at false mine = mine
     at true mine = absurd (none_borrows h k (not_borrowed (is_holder h k) (borrowers_of h k) allowed) f y is mine)
 
--- what holds of the meeting points of all kinds between events
-pub record Holds (b : Part Barriers) (l g s : Part Counts) (ready : Waking ℕ) (next : ℕ) : Type 0 where
-  pub barriers : b.next ≤ next
-  pub latches : l.next ≤ next
-  pub groups : g.next ≤ next
-  pub shutdowns : s.next ≤ next
-  pub counted : ready.registered ≡ all_registered (hall_of b l g s)
-  pub few : ready.registered ≤ next
+-- a part of which nothing has changed has no greater next number
+stays_below : {H : Type 0} (p p' : Part H) (i : ℕ) → p' ≡ p → p.next ≤ i → p'.next ≤ i + 1
+stays_below {H} p p' i same below = omega (arith, ap (λ (p : Part H). p.next) same)
 
--- a part of which nothing has changed
-same_next : {H : Type 0} (p q : Part H) → q ≡ p → q.next ≡ p.next
-same_next p q same = ap (λ p. p.next) same
+-- one that an event changed has the number of the next event
+goes_on : {H : Type 0} (p : Part H) (i : ℕ) (h : H) → p ≡ record { hall = h; next = i + 1 } → p.next ≤ i + 1
+goes_on {H} p i h moved = omega (arith, ap (λ (p : Part H). p.next) moved)
 
-same_counts : (p q : Part Counts) → q ≡ p → counts.registered q.hall ≡ counts.registered p.hall
-same_counts p q same = ap (λ (p : Part Counts). counts.registered p.hall) same
-
--- it holds after an event
-pub holds_after : (b : Part Barriers) (l g s : Part Counts) (b' : Part Barriers) (l' g' s' : Part Counts) (before after : Waking ℕ) (next i : ℕ) (e : MeetEvent) (answer : Answer) → Holds b l g s before next → next ≤ i → PlaysKinds b l g s i e answer b' l' g' s' before after
-    → all_registered (step (hall_of b l g s) i e).hall + length (step (hall_of b l g s) i e).wakes ≤ all_registered (hall_of b l g s) + 1 → Holds b' l' g' s' after (i + 1)
-holds_after b l g s b' l' g' s' before after next i e answer held later plays grows = at (doing e) plays grows
+-- after an event the parts have seen no number from that of the next one on
+pub below_after : (b : Part Barriers) (l g s : Part Counts) (b' : Part Barriers) (l' g' s' : Part Counts) (before after : Waking ℕ) (i : ℕ) (e : MeetEvent) (answer : Answer) → AreBelow b l g s i → PlaysKinds b l g s i e answer b' l' g' s' before after
+    → AreBelow b' l' g' s' (i + 1)
+below_after b l g s b' l' g' s' before after i e answer held plays = at (doing e) plays
   where
-    at : (d : Doing) → PlaysDoing d b l g s i answer b' l' g' s' before after
-        → all_registered (step_by (hall_of b l g s) i d).hall + length (step_by (hall_of b l g s) i d).wakes ≤ all_registered (hall_of b l g s) + 1
-        → Holds b' l' g' s' after (i + 1)
-    at (OnBarriers a) one few =
-        let hall : barriers.registered b'.hall ≡ barriers.registered (act_at b.hall i a).hall = ap (λ (p : Part Barriers). barriers.registered p.hall) one.yields.moved in
-        let next_is : b'.next ≡ i + 1 = ap (λ (p : Part Barriers). p.next) one.yields.moved in
-        let l_next = same_next l l' one.latches in
-        let g_next = same_next g g' one.groups in
-        let s_next = same_next s s' one.shutdowns in
-        let l_same = same_counts l l' one.latches in
-        let g_same = same_counts g g' one.groups in
-        let s_same = same_counts s s' one.shutdowns in
-        record {
-          barriers = omega (arith, next_is);
-          latches = omega (arith, l_next, held.latches, later);
-          groups = omega (arith, g_next, held.groups, later);
-          shutdowns = omega (arith, s_next, held.shutdowns, later);
-          counted = omega (arith, hall, l_same, g_same, s_same, one.yields.counted, held.counted);
-          few = omega (arith, hall, l_same, g_same, s_same, one.yields.counted, held.counted, held.few, few, later);
-        }
-    at (OnCounts Latches a) one few =
-        let hall : counts.registered l'.hall ≡ counts.registered (act_in l.hall i a).hall = ap (λ (p : Part Counts). counts.registered p.hall) one.yields.moved in
-        let next_is : l'.next ≡ i + 1 = ap (λ (p : Part Counts). p.next) one.yields.moved in
-        let b_next = same_next b b' one.barriers in
-        let g_next = same_next g g' one.first in
-        let s_next = same_next s s' one.second in
-        let b_same : barriers.registered b'.hall ≡ barriers.registered b.hall = ap (λ (p : Part Barriers). barriers.registered p.hall) one.barriers in
-        let g_same = same_counts g g' one.first in
-        let s_same = same_counts s s' one.second in
-        record {
-          barriers = omega (arith, b_next, held.barriers, later);
-          latches = omega (arith, next_is);
-          groups = omega (arith, g_next, held.groups, later);
-          shutdowns = omega (arith, s_next, held.shutdowns, later);
-          counted = omega (arith, hall, b_same, g_same, s_same, one.yields.counted, held.counted);
-          few = omega (arith, hall, b_same, g_same, s_same, one.yields.counted, held.counted, held.few, few, later);
-        }
-    at (OnCounts Groups a) one few =
-        let hall : counts.registered g'.hall ≡ counts.registered (act_in g.hall i a).hall = ap (λ (p : Part Counts). counts.registered p.hall) one.yields.moved in
-        let next_is : g'.next ≡ i + 1 = ap (λ (p : Part Counts). p.next) one.yields.moved in
-        let b_next = same_next b b' one.barriers in
-        let l_next = same_next l l' one.first in
-        let s_next = same_next s s' one.second in
-        let b_same : barriers.registered b'.hall ≡ barriers.registered b.hall = ap (λ (p : Part Barriers). barriers.registered p.hall) one.barriers in
-        let l_same = same_counts l l' one.first in
-        let s_same = same_counts s s' one.second in
-        record {
-          barriers = omega (arith, b_next, held.barriers, later);
-          latches = omega (arith, l_next, held.latches, later);
-          groups = omega (arith, next_is);
-          shutdowns = omega (arith, s_next, held.shutdowns, later);
-          counted = omega (arith, hall, b_same, l_same, s_same, one.yields.counted, held.counted);
-          few = omega (arith, hall, b_same, l_same, s_same, one.yields.counted, held.counted, held.few, few, later);
-        }
-    at (OnCounts Shutdowns a) one few =
-        let hall : counts.registered s'.hall ≡ counts.registered (act_in s.hall i a).hall = ap (λ (p : Part Counts). counts.registered p.hall) one.yields.moved in
-        let next_is : s'.next ≡ i + 1 = ap (λ (p : Part Counts). p.next) one.yields.moved in
-        let b_next = same_next b b' one.barriers in
-        let l_next = same_next l l' one.first in
-        let g_next = same_next g g' one.second in
-        let b_same : barriers.registered b'.hall ≡ barriers.registered b.hall = ap (λ (p : Part Barriers). barriers.registered p.hall) one.barriers in
-        let l_same = same_counts l l' one.first in
-        let g_same = same_counts g g' one.second in
-        record {
-          barriers = omega (arith, b_next, held.barriers, later);
-          latches = omega (arith, l_next, held.latches, later);
-          groups = omega (arith, g_next, held.groups, later);
-          shutdowns = omega (arith, next_is);
-          counted = omega (arith, hall, b_same, l_same, g_same, one.yields.counted, held.counted);
-          few = omega (arith, hall, b_same, l_same, g_same, one.yields.counted, held.counted, held.few, few, later);
-        }
+    at : (d : Doing) → PlaysDoing d b l g s i answer b' l' g' s' before after → AreBelow b' l' g' s' (i + 1)
+    at (OnBarriers a) one = record {
+      barriers = goes_on b' i _ one.yields.moved;
+      latches = stays_below l l' i one.latches held.latches;
+      groups = stays_below g g' i one.groups held.groups;
+      shutdowns = stays_below s s' i one.shutdowns held.shutdowns;
+    }
+    at (OnCounts Latches a) one = record {
+      barriers = stays_below b b' i one.barriers held.barriers;
+      latches = goes_on l' i _ one.yields.moved;
+      groups = stays_below g g' i one.first held.groups;
+      shutdowns = stays_below s s' i one.second held.shutdowns;
+    }
+    at (OnCounts Groups a) one = record {
+      barriers = stays_below b b' i one.barriers held.barriers;
+      latches = stays_below l l' i one.first held.latches;
+      groups = goes_on g' i _ one.yields.moved;
+      shutdowns = stays_below s s' i one.second held.shutdowns;
+    }
+    at (OnCounts Shutdowns a) one = record {
+      barriers = stays_below b b' i one.barriers held.barriers;
+      latches = stays_below l l' i one.first held.latches;
+      groups = stays_below g g' i one.second held.groups;
+      shutdowns = goes_on s' i _ one.yields.moved;
+    }
 
 -- what was played on the parts was played on the hall
 pub yields_all : (b : Part Barriers) (l g s : Part Counts) (b' : Part Barriers) (l' g' s' : Part Counts) (before after : Waking ℕ) (next i : ℕ) (e : MeetEvent) (answer : Answer) → PlaysKinds b l g s i e answer b' l' g' s' before after
-    → Yields {H = Hall} (record { hall = hall_of b l g s; wakes = before.wakers; next = next }) i (step (hall_of b l g s) i e) answer (record { hall = hall_of b' l' g' s'; wakes = after.wakers; next = i + 1 })
+    → PartYields all_registered (record { hall = hall_of b l g s; next = next }) i (step (hall_of b l g s) i e) answer (record { hall = hall_of b' l' g' s'; next = i + 1 }) before after
 yields_all b l g s b' l' g' s' before after next i e answer plays = at (doing e) plays
   where
     Yielded : Doing → Type 0
-    Yielded d = Yields {H = Hall} (record { hall = hall_of b l g s; wakes = before.wakers; next = next }) i (step_by (hall_of b l g s) i d) answer (record { hall = hall_of b' l' g' s'; wakes = after.wakers; next = i + 1 })
+    Yielded d = PartYields all_registered (record { hall = hall_of b l g s; next = next }) i (step_by (hall_of b l g s) i d) answer (record { hall = hall_of b' l' g' s'; next = i + 1 }) before after
 
     at : (d : Doing) → PlaysDoing d b l g s i answer b' l' g' s' before after → Yielded d
     at (OnBarriers a) one = record {
       replied = one.yields.replied;
-      moved = λ j. record { hall = hall_of (one.yields.moved j) (one.latches j) (one.groups j) (one.shutdowns j); wakes = one.yields.woken j; next = i + 1 };
+      moved = λ j. record { hall = hall_of (one.yields.moved j) (one.latches j) (one.groups j) (one.shutdowns j); next = i + 1 };
+      woken = one.yields.woken;
+      counted = omega (arith, one.yields.counted);
     }
     at (OnCounts Latches a) one = record {
       replied = one.yields.replied;
-      moved = λ j. record { hall = hall_of (one.barriers j) (one.yields.moved j) (one.first j) (one.second j); wakes = one.yields.woken j; next = i + 1 };
+      moved = λ j. record { hall = hall_of (one.barriers j) (one.yields.moved j) (one.first j) (one.second j); next = i + 1 };
+      woken = one.yields.woken;
+      counted = omega (arith, one.yields.counted);
     }
     at (OnCounts Groups a) one = record {
       replied = one.yields.replied;
-      moved = λ j. record { hall = hall_of (one.barriers j) (one.first j) (one.yields.moved j) (one.second j); wakes = one.yields.woken j; next = i + 1 };
+      moved = λ j. record { hall = hall_of (one.barriers j) (one.first j) (one.yields.moved j) (one.second j); next = i + 1 };
+      woken = one.yields.woken;
+      counted = omega (arith, one.yields.counted);
     }
     at (OnCounts Shutdowns a) one = record {
       replied = one.yields.replied;
-      moved = λ j. record { hall = hall_of (one.barriers j) (one.first j) (one.second j) (one.yields.moved j); wakes = one.yields.woken j; next = i + 1 };
+      moved = λ j. record { hall = hall_of (one.barriers j) (one.first j) (one.second j) (one.yields.moved j); next = i + 1 };
+      woken = one.yields.woken;
+      counted = omega (arith, one.yields.counted);
     }

@@ -1,9 +1,10 @@
 -- the meeting points of all kinds, and what an event does to them
-use Rattle.std.specs.Prelude.{ℕ, ◌≡◌}
+use Rattle.std.specs.Prelude.{ℕ, ◌≡◌, ◌≤◌}
 use Rattle.mea_family.specs.declared.answer.Answer.{Answer}
 use Rattle.mea_base.specs.Ready.{Waking}
 use Rattle.mea_family.specs.Play.{Part, PartYields}
 use Rattle.mea_events.specs.declared.meet_event.MeetEvent.{MeetEvent}
+use Rattle.mea_events.specs.declared.meet_event.MeetEvent.TheVariants as events
 use Rattle.mea_meet_model.specs.Barriers as barriers
 use Rattle.mea_meet_model.specs.Barriers.{Barriers}
 use Rattle.mea_meet_model.specs.Counts as counts
@@ -15,6 +16,13 @@ use Rattle.mea_meet_model.specs.Meaning.{Doing, OnBarriers, OnCounts, doing}
 
 abbrev pub hall_of : Part Barriers → Part Counts → Part Counts → Part Counts → Hall
 hall_of b l g s = record { barriers = b.hall; latches = l.hall; groups = g.hall; shutdowns = s.hall }
+
+-- no next number is above n
+pub record AreBelow (b : Part Barriers) (l g s : Part Counts) (n : ℕ) : Type 0 where
+  pub barriers : b.next ≤ n
+  pub latches : l.next ≤ n
+  pub groups : g.next ≤ n
+  pub shutdowns : s.next ≤ n
 
 -- event number i did this to barriers, and nothing to points that count
 pub record PlaysBarriers (b : Part Barriers) (l g s : Part Counts) (i : ℕ) (a : BarrierAction) (answer : Answer) (b' : Part Barriers) (l' g' s' : Part Counts) (before after : Waking ℕ) : Type 0 where
@@ -40,3 +48,21 @@ PlaysDoing (OnCounts Shutdowns a) b l g s i answer b' l' g' s' before after = Pl
 -- an event
 abbrev pub PlaysKinds : Part Barriers → Part Counts → Part Counts → Part Counts → ℕ → MeetEvent → Answer → Part Barriers → Part Counts → Part Counts → Part Counts → Waking ℕ → Waking ℕ → Type 0
 PlaysKinds b l g s i e answer b' l' g' s' before after = PlaysDoing (doing e) b l g s i answer b' l' g' s' before after
+
+-- the events that take no memory
+abbrev pub TakesNoMemory : MeetEvent → Type 0
+TakesNoMemory (events.BarEnd f) = Unit {0}
+TakesNoMemory (events.BarDrop b) = Unit {0}
+TakesNoMemory (events.LatCount l) = Unit {0}
+TakesNoMemory (events.LatDown l) = Unit {0}
+TakesNoMemory (events.LatArrive l n) = Unit {0}
+TakesNoMemory (events.LatTry l) = Unit {0}
+TakesNoMemory (events.LatEnd f) = Unit {0}
+TakesNoMemory (events.LatDrop l) = Unit {0}
+TakesNoMemory (events.WgEnd x) = Unit {0}
+TakesNoMemory (events.SdSignal s) = Unit {0}
+TakesNoMemory (events.SdNow x) = Unit {0}
+TakesNoMemory (events.SdEnd f) = Unit {0}
+TakesNoMemory (events.SdEnds s) = Unit {0}
+TakesNoMemory (events.SdEndr x) = Unit {0}
+TakesNoMemory _ = ⊥

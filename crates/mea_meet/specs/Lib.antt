@@ -6,4 +6,3 @@ pub mod CountLends
 pub mod BarrierEntries
 pub mod BarrierParts
 pub mod Halls
-pub mod Play

@@ -2,8 +2,7 @@ ghost use Rattle.std.specs.Prelude.{◌≡◌, ◌≤◌, OnErr, IfOk, None};
 ghost use Rattle.mea_meet_model.specs.Hall.{empty_hall, registered};
 ghost use Rattle.mea_meet_model.specs.Cause.{cause_of};
 ghost use Rattle.mea_meet_model.specs.Valid.{BorrowNothing};
-ghost use Rattle.mea_meet.specs.Halls.{hall_of, PlaysKinds};
-ghost use Rattle.mea_meet.specs.Play.{TakesNoMemory};
+ghost use Rattle.mea_meet.specs.Halls.{hall_of, PlaysKinds, TakesNoMemory};
 
 use crate::barrier_part::BarrierPart;
 use crate::count_part::CountPart;

@@ -8,8 +8,8 @@ mod barrier_part;
 mod count_core;
 mod count_part;
 mod count_wait;
+mod family;
 mod groups;
-mod hall;
 mod holder_entry;
 mod kinds;
 mod latches;
@@ -17,7 +17,7 @@ mod point_entry;
 mod shutdowns;
 mod wait_entry;
 
-pub use hall::MeetHall;
+pub use family::{MeetFamily, MeetHall, MeetModel};
 pub use mea_events::MeetEvent;
 pub use mea_meet_core::{
     BarrierCore, BarrierFault, BarrierWait, BarrierWaitResult, GroupCore, GroupWait, LatchCore,

@@ -1,10 +1,9 @@
 -- what a future of a map or a group does beside a poll of the core: it is polled again, settled or ended; and what polls and ends ask for
-use Rattle.std.proofs.Common.{◌≡◌, ℕ, ◌+◌, ◌<◌, ◌≤◌, inl, inr, Bool, true, false, cond, [], Option, Some, None, Result, Ok, Err, IfOk, is_some, nat_eq, refl, ap, sym, subst, ◌∙◌, arith}
+use Rattle.std.proofs.Common.{◌≡◌, ℕ, ◌+◌, ◌<◌, ◌≤◌, inl, inr, Bool, true, false, cond, [], Option, Some, None, is_some, nat_eq, refl, ap, sym, subst, ◌∙◌, arith}
 use Rattle.std.proofs.lemmas.Bool.{eqb-true, cases_eq}
 use Rattle.std.specs.FinMap.{get, insert}
 use Rattle.mea_family.specs.declared.answer.Answer.{Answer}
 use Rattle.mea_family.specs.declared.answer.Answer.TheVariants as answer_is
-use Rattle.mea_base.specs.declared.no_memory.NoMemory.{NoMemory}
 use Rattle.mea_family.specs.Family.{Outcome}
 use Rattle.mea_base.specs.Ready.{Waking}
 use Rattle.mea_base.specs.Totals.{weight}
@@ -21,7 +20,7 @@ use Rattle.mea_once_model.specs.Tables.{Tables}
 use Rattle.mea_once.specs.declared.key_future.KeyFuture.{KeyFuture}
 use Rattle.mea_once.specs.declared.round.Round.{Round}
 use Rattle.mea_once.specs.Entries.{of_running, runs, keeps, waking}
-use Rattle.mea_once.specs.KeyEntries.{KeptTable, Enters, Opens, new_round, with_running}
+use Rattle.mea_once.specs.KeyEntries.{KeptTable, with_running}
 use Rattle.mea_once.specs.Parts as parts
 use Rattle.mea_once.specs.Parts.{AreKept, Stepped, future_seen}
 use Rattle.mea_once.specs.KeyParts.{kept_cell, table_seen, key_future_seen, as_caller, callers_of, IsRound, CallFits, StandsTable, SteppedTable}
@@ -33,10 +32,6 @@ use Rattle.mea_once.proofs.KeyStarts.{Start, at_round, entered, stays_changed, s
 use Rattle.mea_once.proofs.KeyEvents.{its_call, its_round, its_there, its_entry, starts_there}
 use Rattle.mea_once.proofs.KeyPolls.{its_stand, key_step, stay_step}
 use Rattle.mea_once.proofs.KeyCalls.{in_round_is, seen_round}
-
-pub opened_so : (e e' : KeptTable) (i : ℕ) (x : KeyFuture) (r : Result ℕ NoMemory) → IfOk r (λ n. (n ≡ i) × (e' ≡ record e { rounds = insert e.rounds i (new_round x.key); current = insert e.current x.key i })) → x.round ≡ None → get e.current x.key ≡ None → IfOk r (λ n. Enters e i x n e')
-opened_so e e' i x (Ok n) both of none = rw (both.0, both.1) (Opens of none)
-opened_so e e' i x (Err z) both of none = tt
 
 module _ (once : Bool) (e : KeptTable) (f : ℕ) (x : KeyFuture) (i : ℕ) (s : StandsTable once e f x i) (n : ℕ) (of : x.round ≡ Some n) where
   abbrev r0 : Round

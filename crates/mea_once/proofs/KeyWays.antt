@@ -1,6 +1,5 @@
 -- a poll by key, in whichever way its future comes to a round
 use Rattle.std.proofs.Common.{◌≡◌, ℕ, ◌+◌, ◌-◌, ◌≤◌, ◌==◌, Bool, false, cond, Option, Some, None, Result, Ok, is_some, nat_eq, refl, ap, sym, subst, ◌∙◌, arith}
-use Rattle.std.specs.Option.{IsSome}
 use Rattle.std.proofs.lemmas.Bool.{eq-eqb, ne_eqb}
 use Rattle.std.specs.FinMap.{get, insert, remove}
 use Rattle.mea_base.proofs.Maps.{inside, get-there}
@@ -16,7 +15,7 @@ use Rattle.mea_once.specs.declared.scripted.Scripted.{Scripted}
 use Rattle.mea_once.specs.declared.poll_reply.PollReply.{PollReply}
 use Rattle.mea_once.specs.Entries.{runs}
 use Rattle.mea_once.specs.KeyCores.{NamedKeyed, answers}
-use Rattle.mea_once.specs.KeyEntries.{KeptTable, Enters, Stays, Joins, Opens, FollowsKey, kept_with, joined, new_round, left_round, parted, running_in, IsSameTable, runs_round}
+use Rattle.mea_once.specs.KeyEntries.{KeptTable, Enters, Stays, Joins, Opens, FollowsKey, kept_with, joined, new_round, left_round, parted, running_in, IsSameTable, runs_round, IsOwn, runs_own}
 use Rattle.mea_once.specs.KeyParts.{IsRound, callers_of, table_keeps, StandsTable}
 use Rattle.mea_once.proofs.KeyCells.{named}
 use Rattle.mea_once.proofs.KeyTables.{put_twice}
@@ -45,8 +44,15 @@ module _ (once : Bool) (e : KeptTable) (f w : ℕ) (x : KeyFuture) (i : ℕ) (s 
   abbrev pub IsIdle : Type 0
   IsIdle = (m : ℕ) (r : Round) → x.round ≡ Some m → get e.rounds m ≡ Some r → runs r.running f ≡ false
 
-  pub idle_where : (b : Bool) → (x.round ≡ None → b ≡ false) → ((m : ℕ) → x.round ≡ Some m → b ≡ runs_round (get e.rounds m) f) → b ≡ false → IsIdle
-  idle_where b none some idle m r of there = ap (λ o. runs_round o f) (sym there) ∙ sym (some m of) ∙ idle
+  -- what is told of its own round
+  pub own_runs : (o : Option (ℕ × Round)) → IsOwn e x.round o → (m : ℕ) → x.round ≡ Some m → runs_own o f ≡ runs_round (get e.rounds m) f
+  own_runs None is m of = absurd (let no : x.round ≡ None = is in cc)
+  own_runs (Some a) is m of =
+      let same : a.0 ≡ m = inside (sym is.0 ∙ of) in
+      ap (λ p. runs_round p f) (sym is.1 ∙ ap (get e.rounds) same)
+
+  pub idle_where : (o : Option (ℕ × Round)) → IsOwn e x.round o → runs_own o f ≡ false → IsIdle
+  idle_where o is idle m r of there = ap (λ p. runs_round p f) (sym there) ∙ sym (own_runs o is m of) ∙ idle
 
   module _ (idle : IsIdle) (k' : NamedKeyed) (call' : KeyCall ℕ Scripted) (poll : Poll (Result ℕ ℕ)) (told : PollReply) (e3 : KeptTable) (x3 : KeyFuture) where
     abbrev x2 : KeyFuture
@@ -84,11 +90,6 @@ module _ (once : Bool) (e : KeptTable) (f w : ℕ) (x : KeyFuture) (i : ℕ) (s 
   entered_so _ _ (Opens of none) r there =
       let same : new_round x.key ≡ r = inside (sym (get-there e.rounds i (new_round x.key)) ∙ there) in
       rw (← same) (record { keyed = refl; futures = refl; some = omega arith; kept = omega arith })
-
-  pub entered_there : (n : ℕ) (e1 : KeptTable) → Enters e i x n e1 → IsSome (get e1.rounds n)
-  entered_there _ _ (Stays n of) = ap is_some (its_there once e f x i s n of)
-  entered_there _ _ (Joins n r1 of now is) = ap is_some (get-there e.rounds n (joined r1))
-  entered_there _ _ (Opens of none) = ap is_some (get-there e.rounds i (new_round x.key))
 
   -- where the core found no memory, the future leaves it again
   pub undone : (k' : NamedKeyed) (n : ℕ) (e1 : KeptTable) → Enters e i x n e1 → (r : Round) → get e1.rounds n ≡ Some r → IsSameKeyed nat_eq e1.keyed k' → IsSameTable e (cond (is_some x.round) (record e1 { keyed = k' }) (left_round (record e1 { keyed = k' }) x.key n r))

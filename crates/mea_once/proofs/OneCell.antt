@@ -1,5 +1,5 @@
 -- one cell with its futures: what they keep to
-use Rattle.std.proofs.Common.{◌≡◌, ℕ, ◌+◌, ◌≤◌, ◌==◌, ◌++◌, Bool, true, false, cond, length, List, [], ◌∷◌, map, sum_by, Option, Some, None, is_some, refl, ap, sym, subst, ◌∙◌, arith, append-nil}
+use Rattle.std.proofs.Common.{◌≡◌, ℕ, ◌+◌, ◌≤◌, ◌==◌, ◌++◌, Bool, true, false, cond, length, List, [], ◌∷◌, map, sum_by, Option, Some, None, is_some, refl, ap, sym, subst, ◌∙◌, arith, append-nil, if◌then◌else◌}
 use Rattle.std.specs.FinMap.{get, insert, remove, empty, entries, values, get-empty, len-empty, len-entries}
 use Rattle.std.specs.Ordering.{nat_cmp}
 use Rattle.std.proofs.lemmas.Bool.{eqb-true, eq-eqb}
@@ -27,12 +27,14 @@ use Rattle.mea_once_core.specs.Permit.{MayPoll, MayEnd, HoldsAs, held_at, passed
 use Rattle.mea_once_core.specs.declared.cell_stage.CellStage.{CellStage}
 use Rattle.mea_once_core.specs.declared.cell_stage.CellStage.TheVariants.{New, Queued, Running, Done}
 use Rattle.mea_once_core.proofs.Permits.{waits_behind, first_granted}
+use Rattle.mea_once_model.specs.declared.job.Job.{Job}
+use Rattle.mea_once_model.specs.declared.job.Job.TheVariants.{Calls, Computes, Alone, Sets, Inserts, Awaits}
 use Rattle.mea_once_model.specs.Cells as model
 use Rattle.mea_once_model.specs.Cells.{Cell, is_alone, passed, woken_next}
 use Rattle.mea_once.specs.declared.future_entry.FutureEntry.{FutureEntry}
 use Rattle.mea_once.specs.Cores.{NamedCell, IsOnePermit}
 use Rattle.mea_once.specs.Entries.{KeptCell, begun, finished, stopped, runs}
-use Rattle.mea_once.specs.Parts.{runner_of, is_caller, fits, acquire_at, acquire_of, runs_at, is_running, StageFits, IsFuture, MayRun, Tied, AreKept, IsNewCell}
+use Rattle.mea_once.specs.Parts.{runner_of, is_caller, is_wait, fits, acquire_at, acquire_of, runs_at, is_running, StageFits, IsFuture, MayRun, Tied, AreKept, IsNewCell}
 
 abbrev pub Queue : Type 0
 Queue = List (Waiter NamedWaker × ℕ)
@@ -393,3 +395,14 @@ new_tied once c v new = record {
   futures = omega (arith, len-empty nat_cmp FutureEntry);
   alone = omega (arith, total-empty (λ k (x : FutureEntry). cond (is_alone x.job) 1 0));
 }
+
+-- who neither waits for a call that runs once nor uses its cell alone asks for its turn
+pub asks_turn : (once : Bool) (j : Job) → fits once j ≡ true → (if once then is_wait j else is_alone j) ≡ false → is_caller j ≡ true
+asks_turn once (Calls q) fit other = refl
+asks_turn once (Computes q) fit other = refl
+asks_turn true (Alone q) fit other = absurd (let no : false ≡ true = fit in cc)
+asks_turn false (Alone q) fit other = absurd (let no : true ≡ false = other in cc)
+asks_turn once (Sets v) fit other = refl
+asks_turn once (Inserts v) fit other = refl
+asks_turn true Awaits fit other = absurd (let no : true ≡ false = other in cc)
+asks_turn false Awaits fit other = absurd (let no : false ≡ true = fit in cc)

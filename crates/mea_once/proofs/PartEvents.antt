@@ -35,7 +35,7 @@ use Rattle.mea_once_model.specs.Actions.{act_in, Make, Begin, Poll, Settle, End,
 use Rattle.mea_once.specs.declared.future_entry.FutureEntry.{FutureEntry}
 use Rattle.mea_once.specs.Cores.{NamedCell, IsSoundCell}
 use Rattle.mea_once.specs.Entries.{KeptCell, begun, keeps, of_running, left_by}
-use Rattle.mea_once.specs.Parts.{is_polled, cell_seen, future_seen, cells_seen, runner_of, is_caller, is_wait, fits, gives_nothing, AreKept, Stands, Stepped, turned_to, IsOf, of_future, of_none, AreKeptCells, IsNewCell, job_at, awaits_full, uses_alone, FitsSettled}
+use Rattle.mea_once.specs.Parts.{is_polled, cell_seen, future_seen, cells_seen, runner_of, fits, gives_nothing, AreKept, Stands, Stepped, turned_to, IsOf, of_future, of_none, AreKeptCells, IsNewCell, FitsSettled}
 use Rattle.mea_once.specs.Lends.{StandsFor}
 use Rattle.mea_once.proofs.OneCell.{begins, idle, new_tied}
 use Rattle.mea_cores_by_name.proofs.Waiters.{length-names}
@@ -71,15 +71,9 @@ registered_is : (es : Names KeptCell) (fs : Names FutureEntry) → registered (c
 registered_is es fs = total-seen cell_seen (λ (c : Cell). length (waiting_at c)) es ∙ total-same (λ o (e : KeptCell). length (waiting_at (cell_seen e))) (λ o e. keeps e) es (λ o e there. keeps_seen e)
 
 -- ---- what is looked up in cells that are seen so
-pub job_seen : (test : Job → Bool) (fs : Names FutureEntry) (f : ℕ) → job_at test (option_map future_seen (get fs f)) ≡ job_at test (get (seen future_seen fs) f)
-job_seen test fs f = ap (job_at test) (sym (get-seen (λ k x. future_seen x) fs f))
-
 module _ (once : Bool) {old : Part Cells} (es : Names KeptCell) (fs : Names FutureEntry) (next : ℕ) (view : ◌≡◌ {A = Part Cells} (record { hall = cells_seen es fs; next = next }) old) where
   pub future_of : (f : ℕ) → is_some (get fs f) ≡ is_future old.hall f
   future_of f = sym (is_some-map future_seen (get fs f)) ∙ ap is_some (sym (get-seen (λ k x. future_seen x) fs f)) ∙ ap (λ (p : Part Cells). is_future p.hall f) view
-
-  pub job_of : (test : Job → Bool) (f : ℕ) (p : Option FutureEntry) → get fs f ≡ p → job_at test (option_map future_seen p) ≡ job_at test (get old.hall.futures f)
-  job_of test f p is = ap (λ q. job_at test (option_map future_seen q)) (sym is) ∙ job_seen test fs f ∙ ap (λ (p : Part Cells). job_at test (get p.hall.futures f)) view
 
   pub unsettled_of : (f : ℕ) (p : Option FutureEntry) → get fs f ≡ p → settles_in (option_map future_seen p) ≡ is_unsettled old.hall f
   unsettled_of f p is = ap (λ q. settles_in (option_map future_seen q)) (sym is) ∙ ap settles_in (sym (get-seen (λ k x. future_seen x) fs f)) ∙ ap (λ (p : Part Cells). is_unsettled p.hall f) view
@@ -164,9 +158,6 @@ module _ (once : Bool) {old : Part Cells} {i : ℕ} (s : Site once old i) where
 
   pub cell_there : (o : ℕ) → is_cell old.hall o ≡ true → IsSome (get s.es o)
   cell_there o is = cell_of once s.es s.fs s.next s.view o (get s.es o) refl ∙ is
-
-  pub job_is : (test : Job → Bool) (f : ℕ) (x : FutureEntry) → get s.fs f ≡ Some x → job_at test (get old.hall.futures f) ≡ true → test x.job ≡ true
-  job_is test f x there is = job_of once s.es s.fs s.next s.view test f (Some x) there ∙ is
 
   low_after : (es' : Names KeptCell) (o : ℕ) (e' : KeptCell) → es' ≡ insert s.es o e' → AreBelow e'.cell.waits.wakers (i + 1) → (q : ℕ) (d : KeptCell) → get es' q ≡ Some d → AreBelow d.cell.waits.wakers (i + 1)
   low_after es' o e' is low q d there = by_put s.es o e' (λ q p. p ≡ Some d → AreBelow d.cell.waits.wakers (i + 1)) (λ it. subst (λ (e : KeptCell). AreBelow e.cell.waits.wakers (i + 1)) (inside it) low)
@@ -403,24 +394,6 @@ module _ (once : Bool) {old : Part Cells} {i : ℕ} (s : Site once old i) where
     -- a look at a future and its cell changes nothing
     pub looked : (AreKeptCells once (insert s.es x.cell e) (insert s.fs f x) s.next) × (part_of (insert s.es x.cell e) (insert s.fs f x) s.next ≡ old)
     looked = rw (insert_same s.es x.cell e there, insert_same s.fs f x future) (s.kept, s.view)
-
-    -- who neither waits nor uses its cell alone asks for its turn
-    pub calls_if : (if once then awaits_full old.hall f else uses_alone old.hall f) ≡ false → is_caller x.job ≡ true
-    calls_if none = at once refl x.job ((stands_there.kept.tied.each f x stands_there.there).fits) (by_kind once none)
-      where
-        by_kind : (b : Bool) → (if b then awaits_full old.hall f else uses_alone old.hall f) ≡ false → (if b then is_wait x.job else is_alone x.job) ≡ false
-        by_kind true is = job_of once s.es s.fs s.next s.view is_wait f (Some x) future ∙ is
-        by_kind false is = job_of once s.es s.fs s.next s.view is_alone f (Some x) future ∙ is
-
-        at : (b : Bool) → once ≡ b → (j : Job) → fits once j ≡ true → (if once then is_wait j else is_alone j) ≡ false → is_caller j ≡ true
-        at b is (Calls q) fit none = refl
-        at b is (Computes q) fit none = refl
-        at true is (Alone q) fit none = absurd (let other : cond once false true ≡ false = ap (λ b. cond b false true) is in cc)
-        at false is (Alone q) fit none = absurd (let yes : (if once then false else true) ≡ true = ap (λ b. if b then false else true) is in cc)
-        at b is (Sets v) fit none = refl
-        at b is (Inserts v) fit none = refl
-        at true is Awaits fit none = absurd (let yes : (if once then true else false) ≡ true = ap (λ b. if b then true else false) is in cc)
-        at false is Awaits fit none = absurd (cc)
 
     -- a settled initialiser fits
     pub fits_settled : (r : Initialiser) → FitsSettled once r → fits once (settled r x.job) ≡ true

@@ -1,25 +1,23 @@
 -- what is said of the things of one kind, and of all
-use Rattle.std.proofs.Common.{◌≡◌, ◌⊎◌, inl, inr, ℕ, ◌+◌, ◌≤◌, ◌++◌, length, true, false, Result, Ok, Err, IfOk, refl, ap, sym, subst, ◌∙◌, arith, append-nil}
+use Rattle.std.proofs.Common.{◌≡◌, ℕ, ◌+◌, ◌++◌, Bool, true, false, Result, Ok, Err, IfOk, refl, ap, sym, subst, ◌∙◌, arith, append-nil}
 use Rattle.mea_family.specs.declared.answer.Answer.{Answer}
 use Rattle.mea_base.specs.declared.no_memory.NoMemory.{NoMemory}
 use Rattle.mea_family.specs.Family.{Outcome}
 use Rattle.mea_base.specs.Ready.{Waking}
 use Rattle.mea_family.specs.Play.{Part, PartYields, PartRests}
 use Rattle.mea_events.specs.declared.once_event.OnceEvent.{OnceEvent}
-use Rattle.mea_events.specs.declared.once_event.OnceEvent.TheVariants.{OmNew, OmGet, OmCompute, OmPoll, OmSettle, OmFail, OmDiscard, OmRemove, OmEnd, OmDrop, SfNew, SfWork, SfPoll, SfSettle, SfFail, SfForget, SfEnd, SfDrop}
-use Rattle.mea_once_model.specs.declared.job.Initialiser.TheVariants.{Gives, Fails}
 use Rattle.mea_once_model.specs.Cells as cells
 use Rattle.mea_once_model.specs.Cells.{Cells}
 use Rattle.mea_once_model.specs.Tables as tables
 use Rattle.mea_once_model.specs.Tables.{Tables}
 use Rattle.mea_once_model.specs.Actions.{Action, act_in}
-use Rattle.mea_once_model.specs.KeyActions.{KeyAction, MakeTable, BeginKey, PollKey, SettleKey, EndKey, TellKey, DiscardKey, RemoveKey, DropTable, key_act}
+use Rattle.mea_once_model.specs.KeyActions.{KeyAction, key_act}
 use Rattle.mea_once_model.specs.OnceHall.{OnceHall, Kind, Onces, Values, TableKind, Maps, Groups, registered}
-use Rattle.mea_once_model.specs.Meaning.{Meaning, OfCells, OfTables, on_maps, on_groups, meaning_of, step, step_by}
-use Rattle.mea_once.specs.Halls.{Parts, parts, hall_of, AreBelow, PlaysCells, PlaysTables, PlaysBy, PlaysKinds}
+use Rattle.mea_once_model.specs.Meaning.{Meaning, OfCells, OfTables, on_onces, on_values, on_maps, on_groups, meaning_of, step, step_by}
+use Rattle.mea_once.specs.Halls.{Parts, parts, hall_of, AreBelow, PlaysCells, PlaysTables, PlaysBy}
 
 -- where no waker was made ready, those that are ready are as they were
-pub yield_rests : (old : Part Cells) (i : ℕ) (o : Outcome Cells) (answer : Answer) (new : Part Cells) (w : Waking ℕ) → PartRests cells.registered old i o answer new → PartYields cells.registered old i o answer new w w
+yield_rests : (old : Part Cells) (i : ℕ) (o : Outcome Cells) (answer : Answer) (new : Part Cells) (w : Waking ℕ) → PartRests cells.registered old i o answer new → PartYields cells.registered old i o answer new w w
 yield_rests old i o answer new w rests = record {
   replied = rests.replied;
   moved = rests.moved;
@@ -69,8 +67,8 @@ module _ (p p' : Parts) (before after : Waking ℕ) (next i : ℕ) (answer : Ans
   leaves_by (OfCells d) one = cells_leave d.kind d.action one
   leaves_by (OfTables d) one = tables_leave d.kind d.action one
 
-  pub below_after : (e : OnceEvent) → PlaysKinds p i e answer p' before after → AreBelow p' (i + 1)
-  below_after e plays = (leaves_by (meaning_of e) plays).below
+  pub below_after : (m : Meaning) → PlaysBy m p i answer p' before after → AreBelow p' (i + 1)
+  below_after m plays = (leaves_by m plays).below
 
   abbrev Yielding : Outcome OnceHall → Type 0
   Yielding o = PartYields registered (record { hall = hall_of p; next = next }) i o answer (record { hall = hall_of p'; next = i + 1 }) before after
@@ -95,12 +93,21 @@ module _ (p p' : Parts) (before after : Waking ℕ) (next i : ℕ) (answer : Ans
   yields_by (OfTables d) one = tables_yield d.kind d.action one
 
   -- what was played on the parts was played on the hall
-  pub yields_all : (e : OnceEvent) → PlaysKinds p i e answer p' before after → Yielding (step (hall_of p) i e)
-  yields_all e plays = yields_by (meaning_of e) plays
+  pub yields_all : (e : OnceEvent) (m : Meaning) → m ≡ meaning_of e → PlaysBy m p i answer p' before after → Yielding (step (hall_of p) i e)
+  yields_all e m is plays = subst (λ d. Yielding (step_by (hall_of p) i d)) is (yields_by m plays)
 
 -- ---- an action on one kind
--- the same of maps and groups, where no waker was made ready
-pub table_rests : (old : Part Tables) (i : ℕ) (o : Outcome Tables) (answer : Answer) (new : Part Tables) (w : Waking ℕ) → PartRests tables.registered old i o answer new → PartYields tables.registered old i o answer new w w
+-- what was done to cells, in other words; and where no waker was made ready
+module _ (old : Part Cells) (i : ℕ) (a b : Action) (is : a ≡ b) where
+  pub cells_did : (r : Result Answer NoMemory) (new : Part Cells) (before after : Waking ℕ) → IfOk r (λ answer. PartYields cells.registered old i (act_in old.hall i b) answer new before after) → IfOk r (λ answer. PartYields cells.registered old i (act_in old.hall i a) answer new before after)
+  cells_did r new before after did = subst (λ x. IfOk r (λ answer. PartYields cells.registered old i (act_in old.hall i x) answer new before after)) (sym is) did
+
+  pub cells_rested : (r : Result Answer NoMemory) (new : Part Cells) (w : Waking ℕ) → IfOk r (λ answer. PartRests cells.registered old i (act_in old.hall i b) answer new) → IfOk r (λ answer. PartYields cells.registered old i (act_in old.hall i a) answer new w w)
+  cells_rested (Ok answer) new w rests = cells_did (Ok answer) new w w (yield_rests old i (act_in old.hall i b) answer new w rests)
+  cells_rested (Err z) new w rests = tt
+
+-- the same of maps and groups
+table_rests : (old : Part Tables) (i : ℕ) (o : Outcome Tables) (answer : Answer) (new : Part Tables) (w : Waking ℕ) → PartRests tables.registered old i o answer new → PartYields tables.registered old i o answer new w w
 table_rests old i o answer new w rests = record {
   replied = rests.replied;
   moved = rests.moved;
@@ -108,84 +115,28 @@ table_rests old i o answer new w rests = record {
   counted = omega (arith, rests.counted);
 }
 
--- an event of these means an action on a map
-pub maps_of : (e : OnceEvent) → ((e ≡ OmNew) ⊎ (((m : ℕ) × (k : ℕ) × (e ≡ OmGet m k)) ⊎ (((m : ℕ) × (k : ℕ) × (e ≡ OmCompute m k)) ⊎ (((m : ℕ) × (k : ℕ) × (e ≡ OmPoll m k)) ⊎ (((m : ℕ) × (k : ℕ) × (e ≡ OmSettle m k)) ⊎ (((m : ℕ) × (k : ℕ) × (e ≡ OmFail m k)) ⊎ (((m : ℕ) × (k : ℕ) × (e ≡ OmDiscard m k)) ⊎ (((m : ℕ) × (k : ℕ) × (e ≡ OmRemove m k)) ⊎ (((m : ℕ) × (e ≡ OmEnd m)) ⊎ ((m : ℕ) × (e ≡ OmDrop m))))))))))) → (a : KeyAction) × (meaning_of e ≡ on_maps a)
-maps_of e (inl is) = (MakeTable, ap meaning_of is)
-maps_of e (inr (inl (m, k, is))) = (TellKey m k, ap meaning_of is)
-maps_of e (inr (inr (inl (m, k, is)))) = (BeginKey m k, ap meaning_of is)
-maps_of e (inr (inr (inr (inl (m, k, is))))) = (PollKey m k, ap meaning_of is)
-maps_of e (inr (inr (inr (inr (inl (m, k, is)))))) = (SettleKey m (Gives k), ap meaning_of is)
-maps_of e (inr (inr (inr (inr (inr (inl (m, k, is))))))) = (SettleKey m (Fails k), ap meaning_of is)
-maps_of e (inr (inr (inr (inr (inr (inr (inl (m, k, is)))))))) = (DiscardKey m k, ap meaning_of is)
-maps_of e (inr (inr (inr (inr (inr (inr (inr (inl (m, k, is))))))))) = (RemoveKey m k, ap meaning_of is)
-maps_of e (inr (inr (inr (inr (inr (inr (inr (inr (inl (m, is)))))))))) = (EndKey m, ap meaning_of is)
-maps_of e (inr (inr (inr (inr (inr (inr (inr (inr (inr (m, is)))))))))) = (DropTable m, ap meaning_of is)
+module _ (once : Bool) (old : Part Tables) (i : ℕ) (a b : KeyAction) (is : a ≡ b) where
+  pub tables_did : (r : Result Answer NoMemory) (new : Part Tables) (before after : Waking ℕ) → IfOk r (λ answer. PartYields tables.registered old i (key_act once old.hall i b) answer new before after) → IfOk r (λ answer. PartYields tables.registered old i (key_act once old.hall i a) answer new before after)
+  tables_did r new before after did = subst (λ x. IfOk r (λ answer. PartYields tables.registered old i (key_act once old.hall i x) answer new before after)) (sym is) did
 
--- an event of these means an action on a group
-pub groups_of : (e : OnceEvent) → ((e ≡ SfNew) ⊎ (((m : ℕ) × (k : ℕ) × (e ≡ SfWork m k)) ⊎ (((m : ℕ) × (k : ℕ) × (e ≡ SfPoll m k)) ⊎ (((m : ℕ) × (k : ℕ) × (e ≡ SfSettle m k)) ⊎ (((m : ℕ) × (k : ℕ) × (e ≡ SfFail m k)) ⊎ (((m : ℕ) × (k : ℕ) × (e ≡ SfForget m k)) ⊎ (((m : ℕ) × (e ≡ SfEnd m)) ⊎ ((m : ℕ) × (e ≡ SfDrop m))))))))) → (a : KeyAction) × (meaning_of e ≡ on_groups a)
-groups_of e (inl is) = (MakeTable, ap meaning_of is)
-groups_of e (inr (inl (m, k, is))) = (BeginKey m k, ap meaning_of is)
-groups_of e (inr (inr (inl (m, k, is)))) = (PollKey m k, ap meaning_of is)
-groups_of e (inr (inr (inr (inl (m, k, is))))) = (SettleKey m (Gives k), ap meaning_of is)
-groups_of e (inr (inr (inr (inr (inl (m, k, is)))))) = (SettleKey m (Fails k), ap meaning_of is)
-groups_of e (inr (inr (inr (inr (inr (inl (m, k, is))))))) = (DiscardKey m k, ap meaning_of is)
-groups_of e (inr (inr (inr (inr (inr (inr (inl (m, is)))))))) = (EndKey m, ap meaning_of is)
-groups_of e (inr (inr (inr (inr (inr (inr (inr (m, is)))))))) = (DropTable m, ap meaning_of is)
+  pub tables_rested : (r : Result Answer NoMemory) (new : Part Tables) (w : Waking ℕ) → IfOk r (λ answer. PartRests tables.registered old i (key_act once old.hall i b) answer new) → IfOk r (λ answer. PartYields tables.registered old i (key_act once old.hall i a) answer new w w)
+  tables_rested (Ok answer) new w rests = tables_did (Ok answer) new w w (table_rests old i (key_act once old.hall i b) answer new w rests)
+  tables_rested (Err z) new w rests = tt
 
--- an event that means an action on one kind was played where the action was played on that kind
-module _ (o v : Part Cells) (m g : Part Tables) (i : ℕ) (e : OnceEvent) where
-  pub once_yields : (a : Action) (answer : Answer) (q : Part Cells) (before after : Waking ℕ) → meaning_of e ≡ OfCells (record { kind = Onces; action = a }) → PartYields cells.registered o i (act_in o.hall i a) answer q before after → PlaysKinds (parts o v m g) i e answer (parts q v m g) before after
-  once_yields a answer q before after is yields = subst (λ d. PlaysBy d (parts o v m g) i answer (parts q v m g) before after) (sym is) (record { part = q; is = refl; yields = yields })
+-- what means an action on one kind was played where the action was played on that kind
+module _ (o v : Part Cells) (m g : Part Tables) (i : ℕ) (d : Meaning) where
+  pub onces_played : (a : Action) (r : Result Answer NoMemory) (q : Part Cells) (before after : Waking ℕ) → d ≡ on_onces a → IfOk r (λ answer. PartYields cells.registered o i (act_in o.hall i a) answer q before after) → IfOk r (λ answer. PlaysBy d (parts o v m g) i answer (parts q v m g) before after)
+  onces_played a (Ok answer) q before after is yields = subst (λ d. PlaysBy d (parts o v m g) i answer (parts q v m g) before after) (sym is) (record { part = q; is = refl; yields = yields })
+  onces_played a (Err z) q before after is yields = tt
 
-  pub once_yields_if : (a : Action) (r : Result Answer NoMemory) (q : Part Cells) (before after : Waking ℕ) → meaning_of e ≡ OfCells (record { kind = Onces; action = a }) → IfOk r (λ answer. PartYields cells.registered o i (act_in o.hall i a) answer q before after) → IfOk r (λ answer. PlaysKinds (parts o v m g) i e answer (parts q v m g) before after)
-  once_yields_if a (Ok answer) q before after is yields = once_yields a answer q before after is yields
-  once_yields_if a (Err z) q before after is yields = tt
+  pub values_played : (a : Action) (r : Result Answer NoMemory) (q : Part Cells) (before after : Waking ℕ) → d ≡ on_values a → IfOk r (λ answer. PartYields cells.registered v i (act_in v.hall i a) answer q before after) → IfOk r (λ answer. PlaysBy d (parts o v m g) i answer (parts o q m g) before after)
+  values_played a (Ok answer) q before after is yields = subst (λ d. PlaysBy d (parts o v m g) i answer (parts o q m g) before after) (sym is) (record { part = q; is = refl; yields = yields })
+  values_played a (Err z) q before after is yields = tt
 
-  pub once_rests : (a : Action) (answer : Answer) (q : Part Cells) (w : Waking ℕ) → meaning_of e ≡ OfCells (record { kind = Onces; action = a }) → PartRests cells.registered o i (act_in o.hall i a) answer q → PlaysKinds (parts o v m g) i e answer (parts q v m g) w w
-  once_rests a answer q w is rests = once_yields a answer q w w is (yield_rests o i (act_in o.hall i a) answer q w rests)
+  pub maps_played : (a : KeyAction) (r : Result Answer NoMemory) (q : Part Tables) (before after : Waking ℕ) → d ≡ on_maps a → IfOk r (λ answer. PartYields tables.registered m i (key_act false m.hall i a) answer q before after) → IfOk r (λ answer. PlaysBy d (parts o v m g) i answer (parts o v q g) before after)
+  maps_played a (Ok answer) q before after is yields = subst (λ d. PlaysBy d (parts o v m g) i answer (parts o v q g) before after) (sym is) (record { part = q; is = refl; yields = yields })
+  maps_played a (Err z) q before after is yields = tt
 
-  pub once_rests_if : (a : Action) (r : Result Answer NoMemory) (q : Part Cells) (w : Waking ℕ) → meaning_of e ≡ OfCells (record { kind = Onces; action = a }) → IfOk r (λ answer. PartRests cells.registered o i (act_in o.hall i a) answer q) → IfOk r (λ answer. PlaysKinds (parts o v m g) i e answer (parts q v m g) w w)
-  once_rests_if a (Ok answer) q w is rests = once_rests a answer q w is rests
-  once_rests_if a (Err z) q w is rests = tt
-
-  pub value_yields : (a : Action) (answer : Answer) (q : Part Cells) (before after : Waking ℕ) → meaning_of e ≡ OfCells (record { kind = Values; action = a }) → PartYields cells.registered v i (act_in v.hall i a) answer q before after → PlaysKinds (parts o v m g) i e answer (parts o q m g) before after
-  value_yields a answer q before after is yields = subst (λ d. PlaysBy d (parts o v m g) i answer (parts o q m g) before after) (sym is) (record { part = q; is = refl; yields = yields })
-
-  pub value_yields_if : (a : Action) (r : Result Answer NoMemory) (q : Part Cells) (before after : Waking ℕ) → meaning_of e ≡ OfCells (record { kind = Values; action = a }) → IfOk r (λ answer. PartYields cells.registered v i (act_in v.hall i a) answer q before after) → IfOk r (λ answer. PlaysKinds (parts o v m g) i e answer (parts o q m g) before after)
-  value_yields_if a (Ok answer) q before after is yields = value_yields a answer q before after is yields
-  value_yields_if a (Err z) q before after is yields = tt
-
-  pub value_rests : (a : Action) (answer : Answer) (q : Part Cells) (w : Waking ℕ) → meaning_of e ≡ OfCells (record { kind = Values; action = a }) → PartRests cells.registered v i (act_in v.hall i a) answer q → PlaysKinds (parts o v m g) i e answer (parts o q m g) w w
-  value_rests a answer q w is rests = value_yields a answer q w w is (yield_rests v i (act_in v.hall i a) answer q w rests)
-
-  pub value_rests_if : (a : Action) (r : Result Answer NoMemory) (q : Part Cells) (w : Waking ℕ) → meaning_of e ≡ OfCells (record { kind = Values; action = a }) → IfOk r (λ answer. PartRests cells.registered v i (act_in v.hall i a) answer q) → IfOk r (λ answer. PlaysKinds (parts o v m g) i e answer (parts o q m g) w w)
-  value_rests_if a (Ok answer) q w is rests = value_rests a answer q w is rests
-  value_rests_if a (Err z) q w is rests = tt
-
-  pub map_yields : (a : KeyAction) (answer : Answer) (q : Part Tables) (before after : Waking ℕ) → meaning_of e ≡ OfTables (record { kind = Maps; action = a }) → PartYields tables.registered m i (key_act false m.hall i a) answer q before after → PlaysKinds (parts o v m g) i e answer (parts o v q g) before after
-  map_yields a answer q before after is yields = subst (λ d. PlaysBy d (parts o v m g) i answer (parts o v q g) before after) (sym is) (record { part = q; is = refl; yields = yields })
-
-  pub map_yields_if : (a : KeyAction) (r : Result Answer NoMemory) (q : Part Tables) (before after : Waking ℕ) → meaning_of e ≡ OfTables (record { kind = Maps; action = a }) → IfOk r (λ answer. PartYields tables.registered m i (key_act false m.hall i a) answer q before after) → IfOk r (λ answer. PlaysKinds (parts o v m g) i e answer (parts o v q g) before after)
-  map_yields_if a (Ok answer) q before after is yields = map_yields a answer q before after is yields
-  map_yields_if a (Err z) q before after is yields = tt
-
-  pub map_rests : (a : KeyAction) (answer : Answer) (q : Part Tables) (w : Waking ℕ) → meaning_of e ≡ OfTables (record { kind = Maps; action = a }) → PartRests tables.registered m i (key_act false m.hall i a) answer q → PlaysKinds (parts o v m g) i e answer (parts o v q g) w w
-  map_rests a answer q w is rests = map_yields a answer q w w is (table_rests m i (key_act false m.hall i a) answer q w rests)
-
-  pub map_rests_if : (a : KeyAction) (r : Result Answer NoMemory) (q : Part Tables) (w : Waking ℕ) → meaning_of e ≡ OfTables (record { kind = Maps; action = a }) → IfOk r (λ answer. PartRests tables.registered m i (key_act false m.hall i a) answer q) → IfOk r (λ answer. PlaysKinds (parts o v m g) i e answer (parts o v q g) w w)
-  map_rests_if a (Ok answer) q w is rests = map_rests a answer q w is rests
-  map_rests_if a (Err z) q w is rests = tt
-
-  pub group_yields : (a : KeyAction) (answer : Answer) (q : Part Tables) (before after : Waking ℕ) → meaning_of e ≡ OfTables (record { kind = Groups; action = a }) → PartYields tables.registered g i (key_act true g.hall i a) answer q before after → PlaysKinds (parts o v m g) i e answer (parts o v m q) before after
-  group_yields a answer q before after is yields = subst (λ d. PlaysBy d (parts o v m g) i answer (parts o v m q) before after) (sym is) (record { part = q; is = refl; yields = yields })
-
-  pub group_yields_if : (a : KeyAction) (r : Result Answer NoMemory) (q : Part Tables) (before after : Waking ℕ) → meaning_of e ≡ OfTables (record { kind = Groups; action = a }) → IfOk r (λ answer. PartYields tables.registered g i (key_act true g.hall i a) answer q before after) → IfOk r (λ answer. PlaysKinds (parts o v m g) i e answer (parts o v m q) before after)
-  group_yields_if a (Ok answer) q before after is yields = group_yields a answer q before after is yields
-  group_yields_if a (Err z) q before after is yields = tt
-
-  pub group_rests : (a : KeyAction) (answer : Answer) (q : Part Tables) (w : Waking ℕ) → meaning_of e ≡ OfTables (record { kind = Groups; action = a }) → PartRests tables.registered g i (key_act true g.hall i a) answer q → PlaysKinds (parts o v m g) i e answer (parts o v m q) w w
-  group_rests a answer q w is rests = group_yields a answer q w w is (table_rests g i (key_act true g.hall i a) answer q w rests)
-
-  pub group_rests_if : (a : KeyAction) (r : Result Answer NoMemory) (q : Part Tables) (w : Waking ℕ) → meaning_of e ≡ OfTables (record { kind = Groups; action = a }) → IfOk r (λ answer. PartRests tables.registered g i (key_act true g.hall i a) answer q) → IfOk r (λ answer. PlaysKinds (parts o v m g) i e answer (parts o v m q) w w)
-  group_rests_if a (Ok answer) q w is rests = group_rests a answer q w is rests
-  group_rests_if a (Err z) q w is rests = tt
+  pub groups_played : (a : KeyAction) (r : Result Answer NoMemory) (q : Part Tables) (before after : Waking ℕ) → d ≡ on_groups a → IfOk r (λ answer. PartYields tables.registered g i (key_act true g.hall i a) answer q before after) → IfOk r (λ answer. PlaysBy d (parts o v m g) i answer (parts o v m q) before after)
+  groups_played a (Ok answer) q before after is yields = subst (λ d. PlaysBy d (parts o v m g) i answer (parts o v m q) before after) (sym is) (record { part = q; is = refl; yields = yields })
+  groups_played a (Err z) q before after is yields = tt

@@ -6,7 +6,7 @@ use Rattle.mea_base.proofs.NamedMaps.{is_some-map}
 use Rattle.mea_by_name.specs.declared.named_waker.NamedWaker.{NamedWaker}
 use Rattle.mea_sem_core.specs.Core.{Core}
 use Rattle.mea_sets.specs.Countdown.{Count}
-use Rattle.mea_sets.specs.Poll.{Ready, Pending}
+use Rattle.mea_sets.specs.Poll.{Ready}
 use Rattle.mea_once_core.specs.Permit.{IsPermit, MayPoll, HoldsAs}
 use Rattle.mea_once_core.specs.Cell as cells
 use Rattle.mea_once_core.specs.Cell.{Cell, PollsTurn}

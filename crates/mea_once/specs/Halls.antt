@@ -60,13 +60,10 @@ pub record PlaysTables (old : Parts) (k : TableKind) (i : ℕ) (a : KeyAction) (
   pub is : new ≡ with_table_kind old k part
   pub yields : PartYields tables.registered (of_table_kind old k) i (key_act (is_once k) (of_table_kind old k).hall i a) answer part before after
 
+-- what an event means was done
 abbrev pub PlaysBy : Meaning → Parts → ℕ → Answer → Parts → Waking ℕ → Waking ℕ → Type 0
 PlaysBy (OfCells d) old i answer new before after = PlaysCells old d.kind i d.action answer new before after
 PlaysBy (OfTables d) old i answer new before after = PlaysTables old d.kind i d.action answer new before after
-
--- an event
-abbrev pub PlaysKinds : Parts → ℕ → OnceEvent → Answer → Parts → Waking ℕ → Waking ℕ → Type 0
-PlaysKinds old i e answer new before after = PlaysBy (meaning_of e) old i answer new before after
 
 -- the actions that take no memory
 abbrev pub IsFree : Action → Type 0

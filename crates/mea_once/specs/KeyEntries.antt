@@ -58,6 +58,16 @@ pub data Enters (e : KeptTable) (i : ℕ) (x : KeyFuture) : ℕ → KeptTable �
   Opens : x.round ≡ None → get e.current x.key ≡ None
       → Enters e i x i (record e { rounds = insert e.rounds i (new_round x.key); current = insert e.current x.key i })
 
+-- the round that a future is a caller of, under its name, if it is one
+abbrev pub IsOwn : KeptTable → Option ℕ → Option (ℕ × Round) → Type 0
+IsOwn e o None = o ≡ None
+IsOwn e o (Some a) = (o ≡ Some a.0) × (get e.rounds a.0 ≡ Some a.1)
+
+-- whether the initialiser of f, whose own round this is, keeps a waker
+abbrev pub runs_own : Option (ℕ × Round) → ℕ → Bool
+runs_own None f = false
+runs_own (Some a) f = runs a.1.running f
+
 -- the key has this round no more, where it was its current one
 abbrev pub current_without : Names ℕ → ℕ → ℕ → Names ℕ
 current_without m k n = cond (is_this n (get m k)) (remove m k) m

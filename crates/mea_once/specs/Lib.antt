@@ -2,6 +2,7 @@ pub mod Cores
 pub mod KeyCores
 pub mod Entries
 pub mod Parts
+pub mod Actions
 pub mod KeyEntries
 pub mod KeyParts
 pub mod Halls

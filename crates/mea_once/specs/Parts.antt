@@ -192,20 +192,6 @@ pub record IsNewCell (c : NamedCell) (v : Option ℕ) : Type 0 where
   pub sound : IsSoundCell c
 
 -- ---- what the calls of a part ask for
-abbrev pub job_at : (Job → Bool) → Option CellFuture → Bool
-job_at test None = false
-job_at test (Some x) = test x.job
-
--- whether f asks for its turn, or waits until its cell is full, or uses it alone
-abbrev pub asks_turn : Cells → ℕ → Bool
-asks_turn h f = job_at is_caller (get h.futures f)
-
-abbrev pub awaits_full : Cells → ℕ → Bool
-awaits_full h f = job_at is_wait (get h.futures f)
-
-abbrev pub uses_alone : Cells → ℕ → Bool
-uses_alone h f = job_at is_alone (get h.futures f)
-
 -- the initialiser of a call that runs once gives nothing
 abbrev pub FitsSettled : Bool → Initialiser → Type 0
 FitsSettled once r = once ≡ true → gives_nothing r ≡ true

@@ -5,7 +5,7 @@ ghost use Rattle.mea_once.specs.Cores.{IsSoundCell, TurnFits, TurnIsQuiet};
 ghost use Rattle.mea_once.specs.Parts.{cell_seen, future_seen, fits, is_caller, is_wait, Stands, Stepped};
 
 use crate::future_entry::FutureEntry;
-use crate::jobs::{found_full, has_filled, one_if_alone, settled};
+use crate::jobs::{found_full, has_filled, is_alone, is_wait, one_if_alone, settled};
 use crate::poll_reply::PollReply;
 use crate::scripted::Scripted;
 use crate::turn_core::{TurnCore, WaitCore, WholeCore};
@@ -200,8 +200,8 @@ impl<C: TurnCore> CellEntry<C> {
         }
     }
 
-    /// Polls a caller, which is named `f`. On an error nothing has changed.
-    pub fn poll_call(
+    // Polls a caller, which is named `f`. On an error nothing has changed.
+    fn poll_call(
         &mut self,
         f: u64,
         future: &mut FutureEntry,
@@ -305,8 +305,30 @@ impl<C: WaitCore> CellEntry<C> {
         }
     }
 
-    /// Polls a wait, which is named `f`. On an error nothing has changed.
-    pub fn poll_wait(
+    /// Polls a future, which is named `f`: a wait, or a caller. On an error nothing has changed.
+    pub fn poll_wait_or_call(
+        &mut self,
+        f: u64,
+        future: &mut FutureEntry,
+        waker: u64,
+        ready: &mut Ready<u64>,
+    ) -> Result<PollReply, NoMemory>
+        requires stands { Stands C.TurnCore.is_once self.old f future.old }
+        requires room { keeps self.old ≤ ready.old.registered }
+        ensures steps { IfOk result (λ told. (s : Stands C.TurnCore.is_once self.old f future.old) →
+            Stepped C.TurnCore.is_once self.old s.fs s.n f future.old.cell (left_by told.over future.new)
+            (poll f waker (future_seen future.old) (cell_seen self.old)) told.answer self.new ready.old ready.new) }
+        ensures err { OnErr result ((self.new ≡ self.old) × (future.new ≡ future.old) × (ready.new ≡ ready.old)) }
+    {
+        if is_wait(future.job) {
+            self.poll_wait(f, future, waker, ready)
+        } else {
+            self.poll_call(f, future, waker, ready)
+        }
+    }
+
+    // Polls a wait, which is named `f`. On an error nothing has changed.
+    fn poll_wait(
         &mut self,
         f: u64,
         future: &mut FutureEntry,
@@ -375,8 +397,30 @@ impl<C: WholeCore> CellEntry<C> {
         }
     }
 
-    /// Polls a future that uses the cell alone, which is named `f`. On an error nothing has changed.
-    pub fn poll_alone(
+    /// Polls a future, which is named `f`: one that uses the cell alone, or a caller. On an error nothing has changed.
+    pub fn poll_alone_or_call(
+        &mut self,
+        f: u64,
+        future: &mut FutureEntry,
+        waker: u64,
+        ready: &mut Ready<u64>,
+    ) -> Result<PollReply, NoMemory>
+        requires stands { Stands C.TurnCore.is_once self.old f future.old }
+        requires room { keeps self.old ≤ ready.old.registered }
+        ensures steps { IfOk result (λ told. (s : Stands C.TurnCore.is_once self.old f future.old) →
+            Stepped C.TurnCore.is_once self.old s.fs s.n f future.old.cell (left_by told.over future.new)
+            (poll f waker (future_seen future.old) (cell_seen self.old)) told.answer self.new ready.old ready.new) }
+        ensures err { OnErr result ((self.new ≡ self.old) × (future.new ≡ future.old) × (ready.new ≡ ready.old)) }
+    {
+        if is_alone(future.job) {
+            self.poll_alone(f, future, waker, ready)
+        } else {
+            self.poll_call(f, future, waker, ready)
+        }
+    }
+
+    // Polls a future that uses the cell alone, which is named `f`. On an error nothing has changed.
+    fn poll_alone(
         &mut self,
         f: u64,
         future: &mut FutureEntry,

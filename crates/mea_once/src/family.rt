@@ -7,6 +7,7 @@ ghost use Rattle.mea_once.specs.Lends.{StandsFor, StandsForTable};
 use crate::groups::NamedGroup;
 use crate::kinds::Kinds;
 use crate::maps::NamedMap;
+use crate::meaning::meaning_of;
 use mea_base::{NoMemory, Ready};
 use mea_by_name::NamedWaker;
 use mea_events::OnceEvent;
@@ -126,7 +127,7 @@ impl Family<OnceModel> for OnceFamily {
     fn is_valid(&self) {}
 
     fn cause(&self, event: &OnceEvent) -> Option<Stop> {
-        self.kinds.cause(event)
+        self.kinds.cause(meaning_of(event))
     }
 
     fn play(
@@ -136,7 +137,7 @@ impl Family<OnceModel> for OnceFamily {
         ready: &mut Ready<u64>,
     ) -> Result<Answer, NoMemory> {
         wakes_are_of_the_registered();
-        let answer = self.kinds.play(number, event, ready)?;
+        let answer = self.kinds.play(number, meaning_of(event), ready)?;
         self.next = number as u128 + 1;
         Ok(answer)
     }

@@ -2,6 +2,7 @@ use crate::table_core::{ScriptedCall, TableCore};
 use mea_base::{NoMemory, Poll};
 use mea_by_name::NamedWaker;
 use mea_once_core::FlightCore;
+use std::alloc::Global;
 use std::hash::{BuildHasherDefault, FoldHasher};
 
 /// The core that a hall keeps of a group.
@@ -13,6 +14,10 @@ impl TableCore for NamedGroup {
     ghost seen_as = { λ c. c };
 
     ghost is_once = { true };
+
+    fn empty(alloc: Global) -> Self {
+        NamedGroup::with_hasher(alloc, BuildHasherDefault::new())
+    }
 
     fn waiting(&self) -> usize {
         FlightCore::waiting(self)

@@ -2,10 +2,13 @@ ghost use Rattle.std.specs.Prelude.{◌≡◌, ◌≤◌, OnErr, IfOk, IfSome, i
 ghost use Rattle.mea_family.specs.Causes.{borrowed_by};
 ghost use Rattle.mea_family.specs.Play.{PartYields, PartRests};
 ghost use Rattle.mea_once_model.specs.Tables.{no_tables, is_table, is_future, is_unsettled, futures_of, registered};
-ghost use Rattle.mea_once_model.specs.KeyActions.{key_act, MakeTable, BeginKey, PollKey, SettleKey, EndKey, TellKey, DiscardKey, RemoveKey, DropTable};
+ghost use Rattle.mea_once_model.specs.KeyActions.{key_act, key_cause, MakeTable, BeginKey, PollKey, SettleKey, EndKey, TellKey, DiscardKey, RemoveKey, DropTable};
 ghost use Rattle.mea_once.specs.KeyParts.{IsNewKeyed};
+ghost use Rattle.mea_once.specs.Actions.{table_action, value_action};
+ghost use Rattle.mea_once.specs.Halls.{IsKeyFree};
 ghost use Rattle.mea_once.specs.Lends.{StandsForTable};
 
+use crate::actions::{TableAction, ValueAction};
 use crate::jobs::content;
 use crate::key_future::KeyFuture;
 use crate::scripted::Scripted;
@@ -13,7 +16,7 @@ use crate::table_core::{TableCore, ValueCore};
 use crate::table_entry::TableEntry;
 use mea_base::{NoMemory, Ready};
 use mea_by_name::ByName;
-use mea_family::{Answer, Stop, borrowed_if};
+use mea_family::{Answer, Stop, borrowed_if, unknown_unless};
 use mea_once_core::KeyCall;
 use mea_once_model::Initialiser;
 use std::alloc::Global;
@@ -66,20 +69,60 @@ impl<C: TableCore> KeyPart<C> {
         Some(entry.core())
     }
 
-    pub fn is_table(&self, o: u64) -> bool
+    /// Why an action is refused; None where it is not.
+    pub fn cause(&self, action: TableAction) -> Option<Stop>
+        ensures { result ≡ key_cause self.now.hall (table_action action) }
+    {
+        match action {
+            TableAction::Make => None,
+            TableAction::Begin(o, _) | TableAction::Discard(o, _) => {
+                unknown_unless(self.is_table(o))
+            }
+            TableAction::Poll(f, _) | TableAction::End(f) => unknown_unless(self.is_future(f)),
+            TableAction::Settle(f, _) => unknown_unless(self.is_unsettled(f)),
+            TableAction::Drop(o) => self.cause_of_drop(o),
+        }
+    }
+
+    /// Does what has no cause for refusal. On an error nothing has changed.
+    pub fn play(
+        &mut self,
+        number: u64,
+        action: TableAction,
+        ready: &mut Ready<u64>,
+    ) -> Result<Answer, NoMemory>
+        requires next { self.old.next ≤ number }
+        requires allowed { key_cause self.old.hall (table_action action) ≡ None }
+        requires room { registered self.old.hall ≤ ready.old.registered }
+        ensures ok { IfOk result (λ answer. PartYields registered self.old number (key_act C.is_once self.old.hall number (table_action action)) answer self.new ready.old ready.new) }
+        ensures no_memory { IsKeyFree (table_action action) → OnErr result ⊥ }
+        ensures err { OnErr result ((self.new ≡ self.old) × (ready.new ≡ ready.old)) }
+    {
+        match action {
+            TableAction::Make => self.make(number, C::empty(self.alloc)),
+            TableAction::Begin(o, key) => self.begin(number, o, key),
+            TableAction::Poll(f, waker) => self.poll(number, f, waker, ready),
+            TableAction::Settle(f, outcome) => Ok(self.settle(number, f, outcome, ready)),
+            TableAction::End(f) => Ok(self.end(number, f, ready)),
+            TableAction::Discard(o, key) => Ok(self.discard(number, o, key)),
+            TableAction::Drop(o) => Ok(self.end_table(number, o)),
+        }
+    }
+
+    fn is_table(&self, o: u64) -> bool
         ensures { result ≡ is_table self.now.hall o }
     {
         self.tables.has(o)
     }
 
-    pub fn is_future(&self, f: u64) -> bool
+    fn is_future(&self, f: u64) -> bool
         ensures { result ≡ is_future self.now.hall f }
     {
         self.futures.has(f)
     }
 
-    /// Whether its initialiser is not settled.
-    pub fn is_unsettled(&self, f: u64) -> bool
+    // Whether its initialiser is not settled.
+    fn is_unsettled(&self, f: u64) -> bool
         ensures { result ≡ is_unsettled self.now.hall f }
     {
         match self.futures.get(f) {
@@ -88,8 +131,8 @@ impl<C: TableCore> KeyPart<C> {
         }
     }
 
-    /// Why it may not be dropped: it is unknown, or it has a future.
-    pub fn cause_of_drop(&self, o: u64) -> Option<Stop>
+    // Why it may not be dropped: it is unknown, or it has a future.
+    fn cause_of_drop(&self, o: u64) -> Option<Stop>
         ensures { result ≡ borrowed_by (is_table self.now.hall o) (futures_of self.now.hall o) }
     {
         match self.tables.get(o) {
@@ -98,8 +141,8 @@ impl<C: TableCore> KeyPart<C> {
         }
     }
 
-    /// Makes a map or a group of a new core. On an error nothing has changed.
-    pub fn make(&mut self, number: u64, core: C) -> Result<Answer, NoMemory>
+    // Makes a map or a group of a new core. On an error nothing has changed.
+    fn make(&mut self, number: u64, core: C) -> Result<Answer, NoMemory>
         requires next { self.old.next ≤ number }
         requires new { IsNewKeyed (C.seen_as core) }
         ensures ok { IfOk result (λ answer. PartRests registered self.old number (key_act C.is_once self.old.hall number MakeTable) answer self.new) }
@@ -113,8 +156,8 @@ impl<C: TableCore> KeyPart<C> {
         Ok(Answer::Made)
     }
 
-    /// Makes a future that computes the value of a key. On an error nothing has changed.
-    pub fn begin(&mut self, number: u64, o: u64, key: u64) -> Result<Answer, NoMemory>
+    // Makes a future that computes the value of a key. On an error nothing has changed.
+    fn begin(&mut self, number: u64, o: u64, key: u64) -> Result<Answer, NoMemory>
         requires next { self.old.next ≤ number }
         requires there { is_table self.old.hall o ≡ true }
         ensures ok { IfOk result (λ answer. PartRests registered self.old number (key_act C.is_once self.old.hall number (BeginKey o key)) answer self.new) }
@@ -135,8 +178,8 @@ impl<C: TableCore> KeyPart<C> {
         Ok(Answer::Made)
     }
 
-    /// Polls a future. On an error nothing has changed.
-    pub fn poll(
+    // Polls a future. On an error nothing has changed.
+    fn poll(
         &mut self,
         number: u64,
         f: u64,
@@ -163,8 +206,8 @@ impl<C: TableCore> KeyPart<C> {
         }
     }
 
-    /// Settles the initialiser of a future. It takes no memory.
-    pub fn settle(
+    // Settles the initialiser of a future. It takes no memory.
+    fn settle(
         &mut self,
         number: u64,
         f: u64,
@@ -183,8 +226,8 @@ impl<C: TableCore> KeyPart<C> {
         Answer::Done
     }
 
-    /// Ends a future. It takes no memory.
-    pub fn end(&mut self, number: u64, f: u64, ready: &mut Ready<u64>) -> Answer
+    // Ends a future. It takes no memory.
+    fn end(&mut self, number: u64, f: u64, ready: &mut Ready<u64>) -> Answer
         requires next { self.old.next ≤ number }
         requires there { is_future self.old.hall f ≡ true }
         requires room { registered self.old.hall ≤ ready.old.registered }
@@ -197,8 +240,8 @@ impl<C: TableCore> KeyPart<C> {
         Answer::Done
     }
 
-    /// Takes a key out. It takes no memory.
-    pub fn discard(&mut self, number: u64, o: u64, key: u64) -> Answer
+    // Takes a key out. It takes no memory.
+    fn discard(&mut self, number: u64, o: u64, key: u64) -> Answer
         requires next { self.old.next ≤ number }
         requires there { is_table self.old.hall o ≡ true }
         ensures { PartRests registered self.old number (key_act C.is_once self.old.hall number (DiscardKey o key)) result self.new }
@@ -208,8 +251,8 @@ impl<C: TableCore> KeyPart<C> {
         Answer::Done
     }
 
-    /// Ends a map or a group that has no future. It takes no memory.
-    pub fn end_table(&mut self, number: u64, o: u64) -> Answer
+    // Ends a map or a group that has no future. It takes no memory.
+    fn end_table(&mut self, number: u64, o: u64) -> Answer
         requires next { self.old.next ≤ number }
         requires there { is_table self.old.hall o ≡ true }
         requires alone { futures_of self.old.hall o ≡ 0 }
@@ -222,8 +265,41 @@ impl<C: TableCore> KeyPart<C> {
 }
 
 impl<C: ValueCore> KeyPart<C> {
-    /// Tells the value of a key. It takes no memory.
-    pub fn tell(&mut self, number: u64, o: u64, key: u64) -> Answer
+    /// Why an action is refused; None where it is not.
+    pub fn cause_value(&self, action: ValueAction) -> Option<Stop>
+        ensures { result ≡ key_cause self.now.hall (value_action action) }
+    {
+        match action {
+            ValueAction::Table(action) => self.cause(action),
+            ValueAction::Tell(o, _) | ValueAction::Remove(o, _) => {
+                unknown_unless(self.is_table(o))
+            }
+        }
+    }
+
+    /// Does what has no cause for refusal. On an error nothing has changed.
+    pub fn play_value(
+        &mut self,
+        number: u64,
+        action: ValueAction,
+        ready: &mut Ready<u64>,
+    ) -> Result<Answer, NoMemory>
+        requires next { self.old.next ≤ number }
+        requires allowed { key_cause self.old.hall (value_action action) ≡ None }
+        requires room { registered self.old.hall ≤ ready.old.registered }
+        ensures ok { IfOk result (λ answer. PartYields registered self.old number (key_act C.TableCore.is_once self.old.hall number (value_action action)) answer self.new ready.old ready.new) }
+        ensures no_memory { IsKeyFree (value_action action) → OnErr result ⊥ }
+        ensures err { OnErr result ((self.new ≡ self.old) × (ready.new ≡ ready.old)) }
+    {
+        match action {
+            ValueAction::Table(action) => self.play(number, action, ready),
+            ValueAction::Tell(o, key) => Ok(self.tell(number, o, key)),
+            ValueAction::Remove(o, key) => Ok(self.remove(number, o, key)),
+        }
+    }
+
+    // Tells the value of a key. It takes no memory.
+    fn tell(&mut self, number: u64, o: u64, key: u64) -> Answer
         requires next { self.old.next ≤ number }
         requires there { is_table self.old.hall o ≡ true }
         ensures { PartRests registered self.old number (key_act C.TableCore.is_once self.old.hall number (TellKey o key)) result self.new }
@@ -233,8 +309,8 @@ impl<C: ValueCore> KeyPart<C> {
         content(value)
     }
 
-    /// Takes a key out, and tells its value. It takes no memory.
-    pub fn remove(&mut self, number: u64, o: u64, key: u64) -> Answer
+    // Takes a key out, and tells its value. It takes no memory.
+    fn remove(&mut self, number: u64, o: u64, key: u64) -> Answer
         requires next { self.old.next ≤ number }
         requires there { is_table self.old.hall o ≡ true }
         ensures { PartRests registered self.old number (key_act C.TableCore.is_once self.old.hall number (RemoveKey o key)) result self.new }

@@ -2,6 +2,7 @@
 //! their futures, over the cores of `mea_once_core`. It is proved against the model of `mea_once_model`, and knows the cores by their contracts alone.
 #![tactic(auto)]
 
+mod actions;
 mod cell_entry;
 mod family;
 mod future_entry;
@@ -9,9 +10,9 @@ mod groups;
 mod jobs;
 mod key_future;
 mod key_part;
-mod key_plays;
 mod kinds;
 mod maps;
+mod meaning;
 mod onces;
 mod part;
 mod poll_reply;

@@ -2,6 +2,7 @@ use crate::table_core::{ScriptedCall, TableCore, ValueCore};
 use mea_base::{NoMemory, Poll};
 use mea_by_name::NamedWaker;
 use mea_once_core::MapCore;
+use std::alloc::Global;
 use std::hash::{BuildHasherDefault, FoldHasher};
 
 /// The core that a hall keeps of a map.
@@ -13,6 +14,10 @@ impl TableCore for NamedMap {
     ghost seen_as = { λ c. c };
 
     ghost is_once = { false };
+
+    fn empty(alloc: Global) -> Self {
+        NamedMap::with_hasher(alloc, BuildHasherDefault::new())
+    }
 
     fn waiting(&self) -> usize {
         MapCore::waiting(self)

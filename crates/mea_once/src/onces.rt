@@ -5,6 +5,7 @@ use mea_base::{NoMemory, Poll};
 use mea_by_name::NamedWaker;
 use mea_meet_core::LatchWait;
 use mea_once_core::{CellStage, CellTurn, InitCall, OnceCore};
+use std::alloc::Global;
 
 impl TurnCore for OnceCore<NamedWaker> {
     ghost use Rattle.std.specs.Prelude.{true};
@@ -13,6 +14,10 @@ impl TurnCore for OnceCore<NamedWaker> {
     ghost seen_as = { once_seen };
 
     ghost is_once = { true };
+
+    fn empty(alloc: Global) -> Self {
+        OnceCore::new(alloc)
+    }
 
     fn value(&self) -> Option<u64> {
         if OnceCore::is_completed(self) {
@@ -64,6 +69,10 @@ impl TurnCore for OnceCore<NamedWaker> {
 }
 
 impl WaitCore for OnceCore<NamedWaker> {
+    ghost use Rattle.std.specs.Prelude.{refl};
+
+    ghost runs_once = { refl };
+
     fn poll_wait(&mut self, wait: &mut LatchWait, waker: NamedWaker) -> Result<bool, NoMemory> {
         let _ = OnceCore::is_completed(self);
         match OnceCore::poll_wait(self, wait, waker) {

@@ -3,17 +3,20 @@ ghost use Rattle.std.specs.FinMap.{get};
 ghost use Rattle.mea_family.specs.Causes.{borrowed_by};
 ghost use Rattle.mea_family.specs.Play.{PartYields, PartRests};
 ghost use Rattle.mea_once_model.specs.Cells.{no_cells, is_cell, is_future, is_unsettled, futures_of, alone_of, registered};
-ghost use Rattle.mea_once_model.specs.Actions.{act_in, Make, Begin, Poll, Settle, End, TellFull, Tell, Peek, Put, Take, TakeOut, Drop, in_the_way};
-ghost use Rattle.mea_once.specs.Parts.{IsNewCell, fits, job_at, asks_turn, awaits_full, uses_alone, FitsSettled};
+ghost use Rattle.mea_once_model.specs.Actions.{act_in, cause_in, Make, Begin, Poll, Settle, End, TellFull, Tell, Peek, Put, Take, TakeOut, Drop, in_the_way};
+ghost use Rattle.mea_once.specs.Parts.{IsNewCell, fits, FitsSettled};
+ghost use Rattle.mea_once.specs.Actions.{turn_action, wait_action, whole_action, FitsTurn, FitsWait, FitsWhole};
+ghost use Rattle.mea_once.specs.Halls.{IsFree};
 ghost use Rattle.mea_once.specs.Lends.{StandsFor};
 
+use crate::actions::{TurnAction, WaitAction, WholeAction};
 use crate::cell_entry::CellEntry;
 use crate::future_entry::FutureEntry;
-use crate::jobs::{can_settle, content, done_if, is_alone, is_wait, yes_if_full};
+use crate::jobs::{can_settle, content, done_if, is_alone, yes_if_full};
 use crate::turn_core::{TurnCore, WaitCore, WholeCore};
 use mea_base::{NoMemory, Ready};
 use mea_by_name::ByName;
-use mea_family::{Answer, Stop, borrowed_if};
+use mea_family::{Answer, Stop, borrowed_if, unknown_unless};
 use mea_meet_core::LatchWait;
 use mea_once_core::CellStage;
 use mea_once_model::{Initialiser, Job};
@@ -27,6 +30,7 @@ pub struct CellPart<C: TurnCore> {
     cells: ByName<CellEntry<C>>,
     futures: ByName<FutureEntry>,
     next: u128,
+    alloc: Global,
 }
 
 impl<C: TurnCore> Model for CellPart<C> {
@@ -53,6 +57,7 @@ impl<C: TurnCore> CellPart<C> {
             cells: ByName::new(alloc),
             futures: ByName::new(alloc),
             next: 0,
+            alloc,
         }
     }
 
@@ -65,14 +70,28 @@ impl<C: TurnCore> CellPart<C> {
         Some(entry.core())
     }
 
-    pub fn is_future(&self, f: u64) -> bool
+    /// Why an action is refused; None where it is not.
+    pub fn cause(&self, action: TurnAction) -> Option<Stop>
+        ensures { result ≡ cause_in self.now.hall (turn_action action) }
+    {
+        match action {
+            TurnAction::Make => None,
+            TurnAction::Begin(o, job) => self.cause_of_begin(o, job),
+            TurnAction::Settle(f, _) => unknown_unless(self.is_unsettled(f)),
+            TurnAction::End(f) => unknown_unless(self.is_future(f)),
+            TurnAction::TellFull(o) | TurnAction::Tell(o) => self.cause_of_use(o),
+            TurnAction::Drop(o) => self.cause_of_whole(o),
+        }
+    }
+
+    fn is_future(&self, f: u64) -> bool
         ensures { result ≡ is_future self.now.hall f }
     {
         self.futures.has(f)
     }
 
-    /// Whether it has an initialiser that is not settled.
-    pub fn is_unsettled(&self, f: u64) -> bool
+    // Whether it has an initialiser that is not settled.
+    fn is_unsettled(&self, f: u64) -> bool
         ensures { result ≡ is_unsettled self.now.hall f }
     {
         match self.futures.get(f) {
@@ -81,28 +100,19 @@ impl<C: TurnCore> CellPart<C> {
         }
     }
 
-    /// Whether it waits until its cell is full.
-    pub fn awaits_full(&self, f: u64) -> bool
-        ensures { result ≡ awaits_full self.now.hall f }
+    // Why a new future that does this is refused.
+    fn cause_of_begin(&self, o: u64, job: Job) -> Option<Stop>
+        ensures { result ≡ borrowed_by (is_cell self.now.hall o) (in_the_way self.now.hall o job) }
     {
-        match self.futures.get(f) {
-            Some(future) => is_wait(future.job),
-            None => false,
+        if is_alone(job) {
+            self.cause_of_whole(o)
+        } else {
+            self.cause_of_use(o)
         }
     }
 
-    /// Whether it uses its cell alone.
-    pub fn uses_alone(&self, f: u64) -> bool
-        ensures { result ≡ uses_alone self.now.hall f }
-    {
-        match self.futures.get(f) {
-            Some(future) => is_alone(future.job),
-            None => false,
-        }
-    }
-
-    /// Why a use of the cell is refused: it is unknown, or a future uses it alone.
-    pub fn cause_of_use(&self, o: u64) -> Option<Stop>
+    // Why a use of the cell is refused: it is unknown, or a future uses it alone.
+    fn cause_of_use(&self, o: u64) -> Option<Stop>
         ensures { result ≡ borrowed_by (is_cell self.now.hall o) (alone_of self.now.hall o) }
     {
         match self.cells.get(o) {
@@ -111,8 +121,8 @@ impl<C: TurnCore> CellPart<C> {
         }
     }
 
-    /// Why a use of the whole cell is refused: it is unknown, or it has a future.
-    pub fn cause_of_whole(&self, o: u64) -> Option<Stop>
+    // Why a use of the whole cell is refused: it is unknown, or it has a future.
+    fn cause_of_whole(&self, o: u64) -> Option<Stop>
         ensures { result ≡ borrowed_by (is_cell self.now.hall o) (futures_of self.now.hall o) }
     {
         match self.cells.get(o) {
@@ -121,8 +131,34 @@ impl<C: TurnCore> CellPart<C> {
         }
     }
 
-    /// Makes a cell of a new core. On an error nothing has changed.
-    pub fn make(&mut self, number: u64, core: C) -> Result<Answer, NoMemory>
+    /// Does what has no cause for refusal. On an error nothing has changed.
+    pub fn play(
+        &mut self,
+        number: u64,
+        action: TurnAction,
+        ready: &mut Ready<u64>,
+    ) -> Result<Answer, NoMemory>
+        requires next { self.old.next ≤ number }
+        requires fits { FitsTurn C.is_once action }
+        requires allowed { cause_in self.old.hall (turn_action action) ≡ None }
+        requires room { registered self.old.hall ≤ ready.old.registered }
+        ensures ok { IfOk result (λ answer. PartYields registered self.old number (act_in self.old.hall number (turn_action action)) answer self.new ready.old ready.new) }
+        ensures no_memory { IsFree (turn_action action) → OnErr result ⊥ }
+        ensures err { OnErr result ((self.new ≡ self.old) × (ready.new ≡ ready.old)) }
+    {
+        match action {
+            TurnAction::Make => self.make(number, C::empty(self.alloc)),
+            TurnAction::Begin(o, job) => self.begin(number, o, job),
+            TurnAction::Settle(f, outcome) => Ok(self.settle(number, f, outcome, ready)),
+            TurnAction::End(f) => Ok(self.end(number, f, ready)),
+            TurnAction::TellFull(o) => Ok(self.tell_full(number, o)),
+            TurnAction::Tell(o) => Ok(self.tell(number, o)),
+            TurnAction::Drop(o) => Ok(self.end_cell(number, o, ready)),
+        }
+    }
+
+    // Makes a cell of a new core. On an error nothing has changed.
+    fn make(&mut self, number: u64, core: C) -> Result<Answer, NoMemory>
         requires next { self.old.next ≤ number }
         requires new { IsNewCell (C.seen_as core) (C.seen_as core).value }
         ensures ok { IfOk result (λ answer. PartRests registered self.old number (act_in self.old.hall number (Make (C.seen_as core).value)) answer self.new) }
@@ -135,8 +171,8 @@ impl<C: TurnCore> CellPart<C> {
         Ok(Answer::Made)
     }
 
-    /// Makes a future that does this. On an error nothing has changed.
-    pub fn begin(&mut self, number: u64, o: u64, job: Job) -> Result<Answer, NoMemory>
+    // Makes a future that does this. On an error nothing has changed.
+    fn begin(&mut self, number: u64, o: u64, job: Job) -> Result<Answer, NoMemory>
         requires next { self.old.next ≤ number }
         requires there { is_cell self.old.hall o ≡ true }
         requires fits { fits C.is_once job ≡ true }
@@ -159,36 +195,8 @@ impl<C: TurnCore> CellPart<C> {
         Ok(Answer::Made)
     }
 
-    /// Polls a future that asks for its turn. On an error nothing has changed.
-    pub fn poll_call(
-        &mut self,
-        number: u64,
-        f: u64,
-        waker: u64,
-        ready: &mut Ready<u64>,
-    ) -> Result<Answer, NoMemory>
-        requires next { self.old.next ≤ number }
-        requires there { is_future self.old.hall f ≡ true }
-        requires calls { (if C.is_once then awaits_full self.old.hall f else uses_alone self.old.hall f) ≡ false }
-        requires room { registered self.old.hall ≤ ready.old.registered }
-        ensures ok { IfOk result (λ answer. PartYields registered self.old number (act_in self.old.hall number (Poll f waker)) answer self.new ready.old ready.new) }
-        ensures err { OnErr result ((self.new ≡ self.old) × (ready.new ≡ ready.old)) }
-    {
-        let future = self.futures.at_mut(f);
-        let o = future.cell;
-        let entry = self.cells.at_mut(o);
-        match entry.poll_call(f, future, waker, ready) {
-            Err(_) => Err(NoMemory),
-            Ok(told) => {
-                self.futures.remove_if(f, told.over);
-                self.next = number as u128 + 1;
-                Ok(told.answer)
-            }
-        }
-    }
-
-    /// Settles the initialiser of a future. It takes no memory.
-    pub fn settle(
+    // Settles the initialiser of a future. It takes no memory.
+    fn settle(
         &mut self,
         number: u64,
         f: u64,
@@ -208,8 +216,8 @@ impl<C: TurnCore> CellPart<C> {
         Answer::Done
     }
 
-    /// Ends a future. It takes no memory.
-    pub fn end(&mut self, number: u64, f: u64, ready: &mut Ready<u64>) -> Answer
+    // Ends a future. It takes no memory.
+    fn end(&mut self, number: u64, f: u64, ready: &mut Ready<u64>) -> Answer
         requires next { self.old.next ≤ number }
         requires there { is_future self.old.hall f ≡ true }
         requires room { registered self.old.hall ≤ ready.old.registered }
@@ -222,8 +230,8 @@ impl<C: TurnCore> CellPart<C> {
         Answer::Done
     }
 
-    /// Tells whether a cell is full. It takes no memory.
-    pub fn tell_full(&mut self, number: u64, o: u64) -> Answer
+    // Tells whether a cell is full. It takes no memory.
+    fn tell_full(&mut self, number: u64, o: u64) -> Answer
         requires next { self.old.next ≤ number }
         requires there { is_cell self.old.hall o ≡ true }
         ensures { PartRests registered self.old number (act_in self.old.hall number (TellFull o)) result self.new }
@@ -233,8 +241,8 @@ impl<C: TurnCore> CellPart<C> {
         yes_if_full(value)
     }
 
-    /// Tells the value of a cell. It takes no memory.
-    pub fn tell(&mut self, number: u64, o: u64) -> Answer
+    // Tells the value of a cell. It takes no memory.
+    fn tell(&mut self, number: u64, o: u64) -> Answer
         requires next { self.old.next ≤ number }
         requires there { is_cell self.old.hall o ≡ true }
         ensures { PartRests registered self.old number (act_in self.old.hall number (Tell o)) result self.new }
@@ -244,8 +252,8 @@ impl<C: TurnCore> CellPart<C> {
         content(value)
     }
 
-    /// Ends a cell that has no future; who waits until it is full is forgotten. It takes no memory.
-    pub fn end_cell(&mut self, number: u64, o: u64, ready: &mut Ready<u64>) -> Answer
+    // Ends a cell that has no future; who waits until it is full is forgotten. It takes no memory.
+    fn end_cell(&mut self, number: u64, o: u64, ready: &mut Ready<u64>) -> Answer
         requires next { self.old.next ≤ number }
         requires there { is_cell self.old.hall o ≡ true }
         requires alone { futures_of self.old.hall o ≡ 0 }
@@ -261,8 +269,39 @@ impl<C: TurnCore> CellPart<C> {
 }
 
 impl<C: WaitCore> CellPart<C> {
-    /// Polls a future that waits until its cell is full. On an error nothing has changed.
-    pub fn poll_wait(
+    /// Why an action is refused; None where it is not.
+    pub fn cause_wait(&self, action: WaitAction) -> Option<Stop>
+        ensures { result ≡ cause_in self.now.hall (wait_action action) }
+    {
+        match action {
+            WaitAction::Turn(action) => self.cause(action),
+            WaitAction::Poll(f, _) => unknown_unless(self.is_future(f)),
+        }
+    }
+
+    /// Does what has no cause for refusal. On an error nothing has changed.
+    pub fn play_wait(
+        &mut self,
+        number: u64,
+        action: WaitAction,
+        ready: &mut Ready<u64>,
+    ) -> Result<Answer, NoMemory>
+        requires next { self.old.next ≤ number }
+        requires fits { FitsWait action }
+        requires allowed { cause_in self.old.hall (wait_action action) ≡ None }
+        requires room { registered self.old.hall ≤ ready.old.registered }
+        ensures ok { IfOk result (λ answer. PartYields registered self.old number (act_in self.old.hall number (wait_action action)) answer self.new ready.old ready.new) }
+        ensures no_memory { IsFree (wait_action action) → OnErr result ⊥ }
+        ensures err { OnErr result ((self.new ≡ self.old) × (ready.new ≡ ready.old)) }
+    {
+        match action {
+            WaitAction::Turn(action) => self.play(number, action, ready),
+            WaitAction::Poll(f, waker) => self.poll_wait(number, f, waker, ready),
+        }
+    }
+
+    // Polls a future. On an error nothing has changed.
+    fn poll_wait(
         &mut self,
         number: u64,
         f: u64,
@@ -271,7 +310,6 @@ impl<C: WaitCore> CellPart<C> {
     ) -> Result<Answer, NoMemory>
         requires next { self.old.next ≤ number }
         requires there { is_future self.old.hall f ≡ true }
-        requires waits { awaits_full self.old.hall f ≡ true }
         requires room { registered self.old.hall ≤ ready.old.registered }
         ensures ok { IfOk result (λ answer. PartYields registered self.old number (act_in self.old.hall number (Poll f waker)) answer self.new ready.old ready.new) }
         ensures err { OnErr result ((self.new ≡ self.old) × (ready.new ≡ ready.old)) }
@@ -279,7 +317,7 @@ impl<C: WaitCore> CellPart<C> {
         let future = self.futures.at_mut(f);
         let o = future.cell;
         let entry = self.cells.at_mut(o);
-        match entry.poll_wait(f, future, waker, ready) {
+        match entry.poll_wait_or_call(f, future, waker, ready) {
             Err(_) => Err(NoMemory),
             Ok(told) => {
                 self.futures.remove_if(f, told.over);
@@ -291,8 +329,47 @@ impl<C: WaitCore> CellPart<C> {
 }
 
 impl<C: WholeCore> CellPart<C> {
-    /// Polls a future that uses its cell alone. On an error nothing has changed.
-    pub fn poll_alone(
+    /// Why an action is refused; None where it is not.
+    pub fn cause_whole(&self, action: WholeAction) -> Option<Stop>
+        ensures { result ≡ cause_in self.now.hall (whole_action action) }
+    {
+        match action {
+            WholeAction::Turn(action) => self.cause(action),
+            WholeAction::Poll(f, _) => unknown_unless(self.is_future(f)),
+            WholeAction::MakeFull(_) => None,
+            WholeAction::Peek(o) | WholeAction::Put(o, _) => self.cause_of_whole(o),
+            WholeAction::Take(o) | WholeAction::TakeOut(o) => self.cause_of_whole(o),
+        }
+    }
+
+    /// Does what has no cause for refusal. On an error nothing has changed.
+    pub fn play_whole(
+        &mut self,
+        number: u64,
+        action: WholeAction,
+        ready: &mut Ready<u64>,
+    ) -> Result<Answer, NoMemory>
+        requires next { self.old.next ≤ number }
+        requires fits { FitsWhole action }
+        requires allowed { cause_in self.old.hall (whole_action action) ≡ None }
+        requires room { registered self.old.hall ≤ ready.old.registered }
+        ensures ok { IfOk result (λ answer. PartYields registered self.old number (act_in self.old.hall number (whole_action action)) answer self.new ready.old ready.new) }
+        ensures no_memory { IsFree (whole_action action) → OnErr result ⊥ }
+        ensures err { OnErr result ((self.new ≡ self.old) × (ready.new ≡ ready.old)) }
+    {
+        match action {
+            WholeAction::Turn(action) => self.play(number, action, ready),
+            WholeAction::Poll(f, waker) => self.poll_whole(number, f, waker, ready),
+            WholeAction::MakeFull(value) => self.make(number, C::full(self.alloc, value)),
+            WholeAction::Peek(o) => Ok(self.peek(number, o)),
+            WholeAction::Put(o, value) => Ok(self.put(number, o, value)),
+            WholeAction::Take(o) => Ok(self.take(number, o)),
+            WholeAction::TakeOut(o) => Ok(self.take_out(number, o, ready)),
+        }
+    }
+
+    // Polls a future. On an error nothing has changed.
+    fn poll_whole(
         &mut self,
         number: u64,
         f: u64,
@@ -301,7 +378,6 @@ impl<C: WholeCore> CellPart<C> {
     ) -> Result<Answer, NoMemory>
         requires next { self.old.next ≤ number }
         requires there { is_future self.old.hall f ≡ true }
-        requires alone { uses_alone self.old.hall f ≡ true }
         requires room { registered self.old.hall ≤ ready.old.registered }
         ensures ok { IfOk result (λ answer. PartYields registered self.old number (act_in self.old.hall number (Poll f waker)) answer self.new ready.old ready.new) }
         ensures err { OnErr result ((self.new ≡ self.old) × (ready.new ≡ ready.old)) }
@@ -309,7 +385,7 @@ impl<C: WholeCore> CellPart<C> {
         let future = self.futures.at_mut(f);
         let o = future.cell;
         let entry = self.cells.at_mut(o);
-        match entry.poll_alone(f, future, waker, ready) {
+        match entry.poll_alone_or_call(f, future, waker, ready) {
             Err(_) => Err(NoMemory),
             Ok(told) => {
                 self.futures.remove_if(f, told.over);
@@ -319,8 +395,8 @@ impl<C: WholeCore> CellPart<C> {
         }
     }
 
-    /// Tells the value of a cell that has no future. It takes no memory.
-    pub fn peek(&mut self, number: u64, o: u64) -> Answer
+    // Tells the value of a cell that has no future. It takes no memory.
+    fn peek(&mut self, number: u64, o: u64) -> Answer
         requires next { self.old.next ≤ number }
         requires there { is_cell self.old.hall o ≡ true }
         requires alone { futures_of self.old.hall o ≡ 0 }
@@ -331,8 +407,8 @@ impl<C: WholeCore> CellPart<C> {
         content(value)
     }
 
-    /// Writes the value of a cell that has no future, where there is one. It takes no memory.
-    pub fn put(&mut self, number: u64, o: u64, value: u64) -> Answer
+    // Writes the value of a cell that has no future, where there is one. It takes no memory.
+    fn put(&mut self, number: u64, o: u64, value: u64) -> Answer
         requires next { self.old.next ≤ number }
         requires there { is_cell self.old.hall o ≡ true }
         requires alone { futures_of self.old.hall o ≡ 0 }
@@ -343,8 +419,8 @@ impl<C: WholeCore> CellPart<C> {
         done_if(full)
     }
 
-    /// Takes the value out of a cell that has no future. It takes no memory.
-    pub fn take(&mut self, number: u64, o: u64) -> Answer
+    // Takes the value out of a cell that has no future. It takes no memory.
+    fn take(&mut self, number: u64, o: u64) -> Answer
         requires next { self.old.next ≤ number }
         requires there { is_cell self.old.hall o ≡ true }
         requires alone { futures_of self.old.hall o ≡ 0 }
@@ -355,8 +431,8 @@ impl<C: WholeCore> CellPart<C> {
         content(value)
     }
 
-    /// Ends a cell that has no future, with its value. It takes no memory.
-    pub fn take_out(&mut self, number: u64, o: u64, ready: &mut Ready<u64>) -> Answer
+    // Ends a cell that has no future, with its value. It takes no memory.
+    fn take_out(&mut self, number: u64, o: u64, ready: &mut Ready<u64>) -> Answer
         requires next { self.old.next ≤ number }
         requires there { is_cell self.old.hall o ≡ true }
         requires alone { futures_of self.old.hall o ≡ 0 }

@@ -7,6 +7,7 @@ use crate::scripted::Scripted;
 use mea_base::{NoMemory, Poll};
 use mea_by_name::NamedWaker;
 use mea_once_core::KeyCall;
+use std::alloc::Global;
 
 /// The future of a computation by key in a script.
 pub type ScriptedCall = KeyCall<u64, Scripted>;
@@ -15,11 +16,16 @@ pub type ScriptedCall = KeyCall<u64, Scripted>;
 pub trait TableCore: Drop {
     ghost use Rattle.std.specs.Prelude.{Bool};
     ghost use Rattle.mea_once.specs.KeyCores.{NamedKeyed};
+    ghost use Rattle.mea_once.specs.KeyParts.{IsNewKeyed};
 
     ghost seen_as: { Self → NamedKeyed };
 
     // Whether a value is for one round alone, as in a group.
     ghost is_once: { Bool };
+
+    /// One with no key. It takes no memory.
+    fn empty(alloc: Global) -> Self
+        ensures { IsNewKeyed (seen_as result) };
 
     /// How many callers wait for their turn in all rounds.
     fn waiting(&self) -> usize

@@ -5,7 +5,7 @@ ghost use Rattle.mea_once_core.specs.Keyed.{PollsKey, MayPollKey};
 ghost use Rattle.mea_once_model.specs.Tables as tables;
 ghost use Rattle.mea_once_model.specs.Tables.{is_this, without_key};
 ghost use Rattle.mea_once.specs.Entries.{of_running, runs};
-ghost use Rattle.mea_once.specs.KeyEntries.{Enters, FollowsKey, HandsKeys, IsSameTable, kept_with, closed, left_round, one_future_less, stayed, running_in, entry_in, runs_round, with_running, joined, new_round, stopped_waker};
+ghost use Rattle.mea_once.specs.KeyEntries.{Enters, FollowsKey, HandsKeys, IsSameTable, kept_with, closed, left_round, one_future_less, stayed, running_in, entry_in, IsOwn, runs_own, with_running, joined, new_round, stopped_waker};
 ghost use Rattle.mea_once.specs.KeyParts.{StandsTable, SteppedTable, AreTogether, table_seen, table_keeps, key_future_seen};
 
 use crate::key_future::KeyFuture;
@@ -111,35 +111,42 @@ impl<C: TableCore> TableEntry<C> {
         ready.unregister(gone);
     }
 
-    // Whether the initialiser of `f`, which is in this round or in none, keeps a waker.
-    fn runs(&self, f: u64, round: Option<u64>) -> bool
-        ensures none { round ≡ None → result ≡ false }
-        ensures some { (n : ℕ) → round ≡ Some n → result ≡ runs_round (get self.now.rounds n) f }
+    // The round that a future is a caller of, under its name, if it is one.
+    fn own_round(&self, round: Option<u64>) -> Option<(u64, Round)>
+        requires { (n : ℕ) → round ≡ Some n → IsSome (get self.now.rounds n) }
+        ensures { IsOwn self.now round result }
     {
         match round {
-            None => false,
-            Some(n) => match self.rounds.get(n) {
-                Some(there) => there.runs(f),
-                None => false,
-            },
+            Some(n) => Some((n, *self.rounds.at(n))),
+            None => None,
         }
     }
 
-    // The round that a poll of this future is at, of which it is a caller then: its own, or its key's current one, or a new one
-    // under this number. On an error nothing has changed.
-    fn enter(&mut self, number: u64, future: &KeyFuture) -> Result<u64, NoMemory>
+    // The round that a poll of this future is at, of which it is a caller then, under its name: its own, or its key's current
+    // one, or a new one under this number. On an error nothing has changed.
+    fn enter(
+        &mut self,
+        number: u64,
+        future: &KeyFuture,
+        own: Option<(u64, Round)>,
+    ) -> Result<(u64, Round), NoMemory>
+        requires own { IsOwn self.old future.now.round own }
         requires there { (n : ℕ) → get self.old.current future.now.key ≡ Some n → IsSome (get self.old.rounds n) }
         requires few { (n : ℕ) (r : Round) → get self.old.rounds n ≡ Some r → r.callers + 1 < 2 ^ 128 }
         requires new { get self.old.rounds number ≡ None }
-        ensures enters { IfOk result (λ n. Enters self.old number future.now n self.new) }
+        ensures enters { IfOk result (λ at. Enters self.old number future.now at.0 self.new) }
+        ensures round { IfOk result (λ at. get self.new.rounds at.0 ≡ Some at.1) }
         ensures err { OnErr result (self.new ≡ self.old) }
     {
-        if let Some(round) = future.round {
-            return Ok(round);
+        if let Some(at) = own {
+            return Ok(at);
         }
         match self.current_of(future.key) {
-            Some(round) => Ok(self.join(round)),
-            None => self.open(number, future.key),
+            Some(n) => Ok((n, self.join(n))),
+            None => match self.open(number, future.key) {
+                Ok(round) => Ok((number, round)),
+                Err(_) => Err(NoMemory),
+            },
         }
     }
 
@@ -153,32 +160,34 @@ impl<C: TableCore> TableEntry<C> {
         }
     }
 
-    // One caller more in a round.
-    fn join(&mut self, n: u64) -> u64
+    // One caller more in a round, which is told.
+    fn join(&mut self, n: u64) -> Round
         requires there { IsSome (get self.old.rounds n) }
         requires few { (r : Round) → get self.old.rounds n ≡ Some r → r.callers + 1 < 2 ^ 128 }
-        ensures round { result ≡ n }
+        ensures round { (r : Round) → get self.old.rounds n ≡ Some r → result ≡ joined r }
         ensures is { (r : Round) → get self.old.rounds n ≡ Some r → self.new ≡ record self.old { rounds = insert self.old.rounds n (joined r) } }
     {
-        self.rounds.at_mut(n).callers += 1;
-        n
+        let round = self.rounds.at_mut(n);
+        round.callers += 1;
+        *round
     }
 
-    // A new round is the key's current one. On an error nothing has changed.
-    fn open(&mut self, number: u64, key: u64) -> Result<u64, NoMemory>
+    // A new round is the key's current one, and is told. On an error nothing has changed.
+    fn open(&mut self, number: u64, key: u64) -> Result<Round, NoMemory>
         requires { get self.old.rounds number ≡ None }
-        ensures ok { IfOk result (λ n. (n ≡ number)
+        ensures ok { IfOk result (λ r. (r ≡ new_round key)
             × (self.new ≡ record self.old { rounds = insert self.old.rounds number (new_round key); current = insert self.old.current key number })) }
         ensures err { OnErr result (self.new ≡ self.old) }
     {
-        let Ok(()) = self.rounds.insert(number, Round::new(key)) else {
+        let round = Round::new(key);
+        let Ok(()) = self.rounds.insert(number, round) else {
             return Err(NoMemory);
         };
         let Ok(()) = self.current.insert(key, number) else {
             let _ = self.rounds.remove(number);
             return Err(NoMemory);
         };
-        Ok(number)
+        Ok(round)
     }
 
     // Whether this is the key's current round.
@@ -320,7 +329,8 @@ impl<C: TableCore> TableEntry<C> {
         ensures err { OnErr result (IsSameTable self.old self.new × (future.new ≡ future.old) × (ready.new ≡ ready.old)) }
     {
         let named = NamedWaker { future: f, waker };
-        if self.runs(f, future.round) {
+        let own = self.own_round(future.round);
+        if runs(own, f) {
             if let Some(n) = future.round {
                 self.rewake(n, named);
             }
@@ -329,11 +339,10 @@ impl<C: TableCore> TableEntry<C> {
         let Ok(()) = ready.register() else {
             return Err(NoMemory);
         };
-        let Ok(n) = self.enter(number, future) else {
+        let Ok((n, round)) = self.enter(number, future, own) else {
             ready.unregister(1);
             return Err(NoMemory);
         };
-        let round = *self.rounds.at(n);
         let _room = ready.registered();
         let more = self.keeps(round.running, ready) + 1;
         let Ok(answer) = self.core.poll(&mut future.call, named) else {
@@ -416,6 +425,16 @@ impl<C: TableCore> TableEntry<C> {
         if self.current.has(key) {
             let _ = self.current.remove(key);
         }
+    }
+}
+
+// Whether the initialiser of `f`, whose own round this is, keeps a waker.
+fn runs(own: Option<(u64, Round)>, f: u64) -> bool
+    ensures { result ≡ runs_own own f }
+{
+    match own {
+        Some((_, round)) => round.runs(f),
+        None => false,
     }
 }
 

@@ -2,6 +2,7 @@ ghost use Rattle.std.specs.Prelude.{◌≡◌, ◌≤◌, ◌∷◌, [], Bool, l
 ghost use Rattle.mea_sem_core.specs.Core.{held_of};
 ghost use Rattle.mea_sets.specs.WaitSet.{has_given};
 ghost use Rattle.mea_once_core.specs.Permit.{MayPoll, MayEnd};
+ghost use Rattle.mea_once.specs.Parts.{IsNewCell};
 ghost use Rattle.mea_once.specs.Cores.{NamedCell, IsSoundCell, TurnsCell, FillsCell, GivesUpCell, LeavesCell, WaitsCell, RunsAlone, reply_by};
 
 use crate::scripted::Scripted;
@@ -9,6 +10,7 @@ use mea_base::{NoMemory, Poll};
 use mea_by_name::NamedWaker;
 use mea_meet_core::LatchWait;
 use mea_once_core::{CellStage, CellTurn};
+use std::alloc::Global;
 
 /// The core of a cell as a hall uses it. A call that runs once is a cell whose value tells nothing. Only the polls take
 /// memory.
@@ -20,6 +22,11 @@ pub trait TurnCore: Drop {
 
     // Whether it is a call that runs once.
     ghost is_once: { Bool };
+
+    /// An empty one. It takes no memory.
+    fn empty(alloc: Global) -> Self
+        ensures new { IsNewCell (seen_as result) (seen_as result).value }
+        ensures value { (seen_as result).value ≡ None };
 
     /// The value, if there is one.
     fn value(&self) -> Option<u64>
@@ -80,10 +87,18 @@ pub trait WaitCore: TurnCore {
         ensures polls { IfOk result (λ over. WaitsCell (Self.seen_as self.old) wait.old waker over (Self.seen_as self.new) wait.new) }
         ensures sound { IsSoundCell (Self.seen_as self.new) }
         ensures err { OnErr result ((self.new ≡ self.old) × (wait.new ≡ wait.old)) };
+
+    // It is a call that runs once.
+    ghost runs_once: { Self.is_once ≡ true };
 }
 
 /// The core of a cell, for who uses it alone.
 pub trait WholeCore: TurnCore {
+    /// One with this value. It takes no memory.
+    fn full(alloc: Global, value: u64) -> Self
+        ensures new { IsNewCell (Self.seen_as result) (Self.seen_as result).value }
+        ensures value { (Self.seen_as result).value ≡ Some value };
+
     /// Runs an initialiser where the cell is empty.
     fn poll_alone(&mut self, init: &mut Scripted, waker: NamedWaker) -> Poll<Result<(), u64>>
         requires { (Self.seen_as self.old).permit.free ≡ 1 }
@@ -117,4 +132,7 @@ pub trait WholeCore: TurnCore {
     fn into_value(self) -> Option<u64>
         requires { (Self.seen_as self).permit.free ≡ 1 }
         ensures { result ≡ (Self.seen_as self).value };
+
+    // It is a cell.
+    ghost fills: { Self.is_once ≡ false };
 }

@@ -3,6 +3,7 @@ use crate::turn_core::{TurnCore, WholeCore};
 use mea_base::{NoMemory, Poll};
 use mea_by_name::NamedWaker;
 use mea_once_core::{CellCore, CellStage, CellTurn, InitCall};
+use std::alloc::Global;
 
 impl TurnCore for CellCore<u64, NamedWaker> {
     ghost use Rattle.std.specs.Prelude.{false};
@@ -11,6 +12,10 @@ impl TurnCore for CellCore<u64, NamedWaker> {
     ghost seen_as = { cell_seen };
 
     ghost is_once = { false };
+
+    fn empty(alloc: Global) -> Self {
+        CellCore::new(alloc)
+    }
 
     fn value(&self) -> Option<u64> {
         let _ = CellCore::is_full(self);
@@ -58,6 +63,14 @@ impl TurnCore for CellCore<u64, NamedWaker> {
 }
 
 impl WholeCore for CellCore<u64, NamedWaker> {
+    ghost use Rattle.std.specs.Prelude.{refl};
+
+    ghost fills = { refl };
+
+    fn full(alloc: Global, value: u64) -> Self {
+        CellCore::from_value(alloc, value)
+    }
+
     fn poll_alone(&mut self, init: &mut Scripted, waker: NamedWaker) -> Poll<Result<(), u64>> {
         CellCore::poll_mut(self, init, waker)
     }

@@ -128,88 +128,95 @@ fn turned(cell: &mut Cell, calls: &mut Vec<Option<Init>>, waker: u64) -> Option<
 
 // A computation that fails hands the cell to the next caller, which puts its value; a later one has its own
 // back.
+const A_FAILURE_HANDS_THE_CELL_ON: &[(Call, Reply)] = &[
+    (Call::Compute, Done),
+    (Call::Insert(9), Done),
+    (Call::PollInit(0, 40), Pending),
+    (Call::PollInsert(0, 41), Pending),
+    (Call::Settle(0, Err(4)), Value(40)),
+    (Call::PollInit(0, 42), Error(4)),
+    (Call::Wake, Value(41)),
+    (Call::Wake, Nothing),
+    (Call::PollInsert(0, 43), Done),
+    (Call::Wake, Nothing),
+    (Call::Get, Value(9)),
+    (Call::Insert(3), Done),
+    (Call::PollInsert(1, 44), Back(3)),
+    (Call::Wake, Nothing),
+];
+
 #[test]
 fn a_failure_hands_the_cell_on(rt: HostRuntime) {
-    let script = [
-        (Call::Compute, Done),
-        (Call::Insert(9), Done),
-        (Call::PollInit(0, 40), Pending),
-        (Call::PollInsert(0, 41), Pending),
-        (Call::Settle(0, Err(4)), Value(40)),
-        (Call::PollInit(0, 42), Error(4)),
-        (Call::Wake, Value(41)),
-        (Call::Wake, Nothing),
-        (Call::PollInsert(0, 43), Done),
-        (Call::Wake, Nothing),
-        (Call::Get, Value(9)),
-        (Call::Insert(3), Done),
-        (Call::PollInsert(1, 44), Back(3)),
-        (Call::Wake, Nothing),
-    ];
-    assert_eq!(rt; differs_at(Room::new(rt.alloc()), &script), None);
+    assert_eq!(rt;
+        differs_at(Room::new(rt.alloc()), A_FAILURE_HANDS_THE_CELL_ON),
+        None
+    );
 }
 
 // A value that was computed goes from caller to caller, each of whom wakes the next.
+const A_VALUE_GOES_ROUND: &[(Call, Reply)] = &[
+    (Call::Compute, Done),
+    (Call::Compute, Done),
+    (Call::Compute, Done),
+    (Call::PollInit(0, 10), Pending),
+    (Call::PollInit(1, 11), Pending),
+    (Call::PollInit(2, 12), Pending),
+    (Call::Settle(0, Ok(7)), Value(10)),
+    (Call::PollInit(0, 13), Value(7)),
+    (Call::Wake, Value(11)),
+    (Call::PollInit(1, 14), Value(7)),
+    (Call::Wake, Value(12)),
+    (Call::PollInit(2, 15), Value(7)),
+    (Call::Wake, Nothing),
+    (Call::IsIdle, Done),
+];
+
 #[test]
 fn a_value_goes_round(rt: HostRuntime) {
-    let script = [
-        (Call::Compute, Done),
-        (Call::Compute, Done),
-        (Call::Compute, Done),
-        (Call::PollInit(0, 10), Pending),
-        (Call::PollInit(1, 11), Pending),
-        (Call::PollInit(2, 12), Pending),
-        (Call::Settle(0, Ok(7)), Value(10)),
-        (Call::PollInit(0, 13), Value(7)),
-        (Call::Wake, Value(11)),
-        (Call::PollInit(1, 14), Value(7)),
-        (Call::Wake, Value(12)),
-        (Call::PollInit(2, 15), Value(7)),
-        (Call::Wake, Nothing),
-        (Call::IsIdle, Done),
-    ];
-    assert_eq!(rt; differs_at(Room::new(rt.alloc()), &script), None);
+    assert_eq!(rt; differs_at(Room::new(rt.alloc()), A_VALUE_GOES_ROUND), None);
 }
 
 // A call that is given up while its initialiser runs hands the cell to the next, at whatever stage that is.
+const A_CALL_IS_GIVEN_UP: &[(Call, Reply)] = &[
+    (Call::Compute, Done),
+    (Call::Compute, Done),
+    (Call::Compute, Done),
+    (Call::PollInit(0, 10), Pending),
+    (Call::PollInit(1, 11), Pending),
+    (Call::PollInit(2, 12), Pending),
+    (Call::EndInit(0), Done),
+    (Call::Wake, Value(11)),
+    (Call::EndInit(1), Done),
+    (Call::Wake, Value(12)),
+    (Call::PollInit(2, 13), Pending),
+    (Call::Settle(2, Ok(1)), Value(13)),
+    (Call::PollInit(2, 14), Value(1)),
+];
+
 #[test]
 fn a_call_is_given_up(rt: HostRuntime) {
-    let script = [
-        (Call::Compute, Done),
-        (Call::Compute, Done),
-        (Call::Compute, Done),
-        (Call::PollInit(0, 10), Pending),
-        (Call::PollInit(1, 11), Pending),
-        (Call::PollInit(2, 12), Pending),
-        (Call::EndInit(0), Done),
-        (Call::Wake, Value(11)),
-        (Call::EndInit(1), Done),
-        (Call::Wake, Value(12)),
-        (Call::PollInit(2, 13), Pending),
-        (Call::Settle(2, Ok(1)), Value(13)),
-        (Call::PollInit(2, 14), Value(1)),
-    ];
-    assert_eq!(rt; differs_at(Room::new(rt.alloc()), &script), None);
+    assert_eq!(rt; differs_at(Room::new(rt.alloc()), A_CALL_IS_GIVEN_UP), None);
 }
 
 // Who has the turn may fill the cell with no initialiser at hand, or give the turn up.
+const A_TURN_IS_TAKEN: &[(Call, Reply)] = &[
+    (Call::Turn(10), Value(10)),
+    (Call::Insert(2), Done),
+    (Call::PollInsert(0, 11), Pending),
+    (Call::Compute, Done),
+    (Call::PollInit(1, 12), Pending),
+    (Call::EndInit(0), Done),
+    (Call::Wake, Value(11)),
+    (Call::EndInsert(0), Back(2)),
+    (Call::Wake, Value(12)),
+    (Call::PollInit(1, 13), Pending),
+    (Call::Settle(1, Ok(5)), Value(13)),
+    (Call::PollInit(1, 14), Value(5)),
+];
+
 #[test]
 fn a_turn_is_taken(rt: HostRuntime) {
-    let script = [
-        (Call::Turn(10), Value(10)),
-        (Call::Insert(2), Done),
-        (Call::PollInsert(0, 11), Pending),
-        (Call::Compute, Done),
-        (Call::PollInit(1, 12), Pending),
-        (Call::EndInit(0), Done),
-        (Call::Wake, Value(11)),
-        (Call::EndInsert(0), Back(2)),
-        (Call::Wake, Value(12)),
-        (Call::PollInit(1, 13), Pending),
-        (Call::Settle(1, Ok(5)), Value(13)),
-        (Call::PollInit(1, 14), Value(5)),
-    ];
-    assert_eq!(rt; differs_at(Room::new(rt.alloc()), &script), None);
+    assert_eq!(rt; differs_at(Room::new(rt.alloc()), A_TURN_IS_TAKEN), None);
 }
 
 // A closure is an initialiser.

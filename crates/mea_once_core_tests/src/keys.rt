@@ -126,69 +126,81 @@ fn settled(call: &mut Option<Call>, end: Result<u64, u64>) -> Option<Reply> {
 }
 
 // A removed entry stays for its callers.
+const A_REMOVED_ENTRY_STAYS: &[(Step, Reply)] = &[
+    (Step::Ask(5), Done),
+    (Step::Ask(5), Done),
+    (Step::Poll(0, 30), Pending),
+    (Step::Poll(1, 31), Pending),
+    (Step::Remove(5), Nothing),
+    (Step::Settle(0, Ok(77)), Value(30)),
+    (Step::Poll(0, 32), Value(77)),
+    (Step::Wake, Value(31)),
+    (Step::Poll(1, 33), Value(77)),
+    (Step::Wake, Nothing),
+    (Step::Get(5), Nothing),
+];
+
 #[test]
 fn a_removed_entry_stays(rt: HostRuntime) {
     let map = MapCore::with_hasher(rt.alloc(), Collides);
-    let script = [
-        (Step::Ask(5), Done),
-        (Step::Ask(5), Done),
-        (Step::Poll(0, 30), Pending),
-        (Step::Poll(1, 31), Pending),
-        (Step::Remove(5), Nothing),
-        (Step::Settle(0, Ok(77)), Value(30)),
-        (Step::Poll(0, 32), Value(77)),
-        (Step::Wake, Value(31)),
-        (Step::Poll(1, 33), Value(77)),
-        (Step::Wake, Nothing),
-        (Step::Get(5), Nothing),
-    ];
-    assert_eq!(rt; differs_at(Room::new(rt.alloc(), map), &script), None);
+    assert_eq!(rt;
+        differs_at(Room::new(rt.alloc(), map), A_REMOVED_ENTRY_STAYS),
+        None
+    );
 }
 
 // Calls of one key share a value; one that comes after the key was forgotten computes its own.
+const A_FORGOTTEN_KEY_COMPUTES_ANEW: &[(Step, Reply)] = &[
+    (Step::Ask(5), Done),
+    (Step::Ask(5), Done),
+    (Step::Poll(0, 30), Pending),
+    (Step::Poll(1, 31), Pending),
+    (Step::Forget(5), Done),
+    (Step::Ask(5), Done),
+    (Step::Poll(2, 32), Pending),
+    (Step::Settle(0, Ok(70)), Value(30)),
+    (Step::Poll(0, 33), Value(70)),
+    (Step::Wake, Value(31)),
+    (Step::Poll(1, 34), Value(70)),
+    (Step::Settle(2, Ok(71)), Value(32)),
+    (Step::Poll(2, 35), Value(71)),
+    (Step::Wake, Nothing),
+];
+
 #[test]
 fn a_forgotten_key_computes_anew(rt: HostRuntime) {
     let group = FlightCore::with_hasher(rt.alloc(), Collides);
-    let script = [
-        (Step::Ask(5), Done),
-        (Step::Ask(5), Done),
-        (Step::Poll(0, 30), Pending),
-        (Step::Poll(1, 31), Pending),
-        (Step::Forget(5), Done),
-        (Step::Ask(5), Done),
-        (Step::Poll(2, 32), Pending),
-        (Step::Settle(0, Ok(70)), Value(30)),
-        (Step::Poll(0, 33), Value(70)),
-        (Step::Wake, Value(31)),
-        (Step::Poll(1, 34), Value(70)),
-        (Step::Settle(2, Ok(71)), Value(32)),
-        (Step::Poll(2, 35), Value(71)),
-        (Step::Wake, Nothing),
-    ];
-    assert_eq!(rt; differs_at(Room::new(rt.alloc(), group), &script), None);
+    assert_eq!(rt;
+        differs_at(Room::new(rt.alloc(), group), A_FORGOTTEN_KEY_COMPUTES_ANEW),
+        None
+    );
 }
 
 // A call by key that ends at any stage leaves the next in its place, and the last one no empty entry.
+const CALLS_BY_KEY_END: &[(Step, Reply)] = &[
+    (Step::Ask(5), Done),
+    (Step::Ask(5), Done),
+    (Step::Ask(6), Done),
+    (Step::Poll(0, 30), Pending),
+    (Step::Poll(1, 31), Pending),
+    (Step::Poll(2, 32), Pending),
+    (Step::End(0), Done),
+    (Step::Wake, Value(31)),
+    (Step::End(1), Done),
+    (Step::Get(5), Nothing),
+    (Step::Settle(2, Ok(8)), Value(32)),
+    (Step::Poll(2, 33), Value(8)),
+    (Step::Get(6), Value(8)),
+    (Step::Wake, Nothing),
+];
+
 #[test]
 fn calls_by_key_end(rt: HostRuntime) -> Result<(), Fail> {
     let map = MapCore::with_capacity_and_hasher(rt.alloc(), 2, Collides)?;
-    let script = [
-        (Step::Ask(5), Done),
-        (Step::Ask(5), Done),
-        (Step::Ask(6), Done),
-        (Step::Poll(0, 30), Pending),
-        (Step::Poll(1, 31), Pending),
-        (Step::Poll(2, 32), Pending),
-        (Step::End(0), Done),
-        (Step::Wake, Value(31)),
-        (Step::End(1), Done),
-        (Step::Get(5), Nothing),
-        (Step::Settle(2, Ok(8)), Value(32)),
-        (Step::Poll(2, 33), Value(8)),
-        (Step::Get(6), Value(8)),
-        (Step::Wake, Nothing),
-    ];
-    assert_eq!(rt; differs_at(Room::new(rt.alloc(), map), &script), None);
+    assert_eq!(rt;
+        differs_at(Room::new(rt.alloc(), map), CALLS_BY_KEY_END),
+        None
+    );
     Ok(())
 }
 
@@ -271,19 +283,23 @@ fn hashes_change_nothing_of_a_group(rt: HostRuntime) -> Result<(), Fail> {
 }
 
 // A map that is made from pairs has the last value of each key, and a call finds it.
+const PAIRS_MAKE_A_MAP: &[(Step, Reply)] = &[
+    (Step::Get(5), Value(51)),
+    (Step::Get(6), Value(60)),
+    (Step::Get(7), Nothing),
+    (Step::Ask(5), Done),
+    (Step::Settle(0, Ok(9)), Nothing),
+    (Step::Poll(0, 10), Value(51)),
+];
+
 #[test]
 fn pairs_make_a_map(rt: HostRuntime) -> Result<(), Fail> {
     let pairs = vec![in rt.alloc(); (5, 50), (6, 60), (5, 51)]?;
     let map = MapCore::from_pairs(rt.alloc(), pairs, Collides)?;
-    let script = [
-        (Step::Get(5), Value(51)),
-        (Step::Get(6), Value(60)),
-        (Step::Get(7), Nothing),
-        (Step::Ask(5), Done),
-        (Step::Settle(0, Ok(9)), Nothing),
-        (Step::Poll(0, 10), Value(51)),
-    ];
-    assert_eq!(rt; differs_at(Room::new(rt.alloc(), map), &script), None);
+    assert_eq!(rt;
+        differs_at(Room::new(rt.alloc(), map), PAIRS_MAKE_A_MAP),
+        None
+    );
     Ok(())
 }
 

@@ -3,9 +3,12 @@ use mea_events::SemEvent;
 use mea_family::Stop;
 use mea_io::MemSink;
 use mea_recorded::{Recorded, Refused};
+use std::process::Abort;
+use std::sync::Wait;
 use std::sync::atomic::{AtomicU64, Ordering};
 use std::test::Fail;
 use std::thread;
+use std::thread::Threads;
 
 // Two workers of two rounds: the first one's first round waits for the second one's last, and that one's last for the
 // first one's last. So the two run beside each other.
@@ -86,28 +89,39 @@ fn a_refused_event_is_not_recorded(rt: HostRuntime) {
     assert_eq!(rt; recorded.entry(2).copied(), Some(SemEvent::End(1)));
 }
 
-// What the program writes with these words, after its name.
+// Runs the program with these words. It has no clauses, so that no test carries what `run_crew` promises.
+fn ran<R: Wait + Threads + Sync + AllocGlobal + Abort>(
+    rt: &R,
+    words: &[&str],
+    sink: &mut MemSink,
+) -> CrewStatus {
+    let mut owned = Vec::new(rt.alloc());
+    for word in words {
+        let word = String::from_str(rt.alloc(), word).expect(rt, "memory");
+        owned.push(word).expect(rt, "memory");
+    }
+    run_crew(rt, rt.alloc(), owned.as_slice(), sink)
+}
+
 #[test]
-fn the_program_writes_four_lines(rt: HostRuntime) -> Result<(), Fail> {
-    let mut words = Vec::new(rt.alloc());
-    words.push(String::from_str(rt.alloc(), "crew")?)?;
-    words.push(String::from_str(rt.alloc(), "2")?)?;
-    words.push(String::from_str(rt.alloc(), "3")?)?;
+fn the_program_writes_four_lines(rt: HostRuntime) {
     let mut sink = MemSink::new(rt.alloc(), 64, Vec::new(rt.alloc()));
-    assert_eq!(rt;
-        run_crew(&rt, rt.alloc(), words.as_slice(), &mut sink),
-        CrewStatus::Done
-    );
+    assert_eq!(rt; ran(&rt, &["crew", "2", "3"], &mut sink), CrewStatus::Done);
     assert_eq!(rt;
         sink.bytes(),
         b"calls 13\nsome 6\nnone 0\nledger 2 0 0 2 0 0 0\n".as_slice()
     );
-    words[1] = String::from_str(rt.alloc(), "0")?;
+}
+
+// A crew has one worker to eight.
+#[test]
+fn other_words_are_refused(rt: HostRuntime) {
     let mut sink = MemSink::new(rt.alloc(), 64, Vec::new(rt.alloc()));
-    assert_eq!(rt;
-        run_crew(&rt, rt.alloc(), words.as_slice(), &mut sink),
-        CrewStatus::Usage
-    );
+    for workers in ["0", "9"] {
+        assert_eq!(rt;
+            ran(&rt, &["crew", workers, "3"], &mut sink),
+            CrewStatus::Usage
+        );
+    }
     assert_eq!(rt; sink.bytes().len(), 0);
-    Ok(())
 }

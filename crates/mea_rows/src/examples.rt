@@ -1,6 +1,5 @@
 use crate::rows::{Row, check_rows};
 use mea_run::Status;
-use std::test::Fail;
 
 // The scripts of the folder examples/ with their texts.
 const EXAMPLES: &[Row] = &[
@@ -37,6 +36,6 @@ const EXAMPLES: &[Row] = &[
 ];
 
 #[test]
-fn examples(rt: HostRuntime) -> Result<(), Fail> {
-    check_rows(&rt, EXAMPLES)
+fn examples(rt: HostRuntime) {
+    check_rows(&rt, EXAMPLES);
 }

@@ -1,4 +1,5 @@
-//! Scripts with the text and the status that each must have, played by `run`. It has no code but tests.
+//! Scripts with the text and the status that each must have, played by `run`; among them a script for each kind of wait, ended in
+//! each stage, and reads and writes that fail. It has no code but tests.
 #![tactic(auto)]
 
 #[cfg(test)]
@@ -11,6 +12,8 @@ mod channels;
 mod condvars;
 #[cfg(test)]
 mod examples;
+#[cfg(test)]
+mod fault_table;
 #[cfg(test)]
 mod faults;
 #[cfg(test)]
@@ -35,6 +38,8 @@ mod pieces;
 mod refusals;
 #[cfg(test)]
 mod rows;
+#[cfg(test)]
+mod stage_table;
 #[cfg(test)]
 mod usage;
 #[cfg(test)]

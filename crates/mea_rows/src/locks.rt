@@ -1,7 +1,6 @@
 use crate::rows::{Row, check_rows};
 use mea_family::Stop;
 use mea_run::Status;
-use std::test::Fail;
 
 const ROWS: &[Row] = &[
     // A write takes what is free as part payment, and becomes a read; a lock of no reader is none.
@@ -79,8 +78,8 @@ const ROWS: &[Row] = &[
 ];
 
 #[test]
-fn locks(rt: HostRuntime) -> Result<(), Fail> {
-    check_rows(&rt, ROWS)
+fn locks(rt: HostRuntime) {
+    check_rows(&rt, ROWS);
 }
 
 // Each future is ended when it is new, when it is pending, when it could be ready, and after two polls with
@@ -129,6 +128,6 @@ const ENDED: &[Row] = &[
 ];
 
 #[test]
-fn ended_lock_futures(rt: HostRuntime) -> Result<(), Fail> {
-    check_rows(&rt, ENDED)
+fn ended_lock_futures(rt: HostRuntime) {
+    check_rows(&rt, ENDED);
 }

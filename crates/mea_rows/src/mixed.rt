@@ -1,7 +1,6 @@
 use crate::rows::{Row, check_rows};
 use mea_family::Stop;
 use mea_run::Status;
-use std::test::Fail;
 
 // The texts are those of a driver over the real crate.
 const ROWS: &[Row] = &[
@@ -23,6 +22,6 @@ const ROWS: &[Row] = &[
 ];
 
 #[test]
-fn all_families_in_one_script(rt: HostRuntime) -> Result<(), Fail> {
-    check_rows(&rt, ROWS)
+fn all_families_in_one_script(rt: HostRuntime) {
+    check_rows(&rt, ROWS);
 }

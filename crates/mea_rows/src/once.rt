@@ -1,7 +1,6 @@
 use crate::rows::{Row, check_rows};
 use mea_family::Stop;
 use mea_run::Status;
-use std::test::Fail;
 
 const ROWS: &[Row] = &[
     // The waits are woken in the order of their polls, then the next caller; who polls then finds it complete.
@@ -138,8 +137,8 @@ const ROWS: &[Row] = &[
 ];
 
 #[test]
-fn once_lines(rt: HostRuntime) -> Result<(), Fail> {
-    check_rows(&rt, ROWS)
+fn once_lines(rt: HostRuntime) {
+    check_rows(&rt, ROWS);
 }
 
 // Each future is ended when it is new, when it is pending, when it could be ready, and after two polls with
@@ -222,6 +221,6 @@ const ENDED: &[Row] = &[
 ];
 
 #[test]
-fn ended_once_futures(rt: HostRuntime) -> Result<(), Fail> {
-    check_rows(&rt, ENDED)
+fn ended_once_futures(rt: HostRuntime) {
+    check_rows(&rt, ENDED);
 }

@@ -1,7 +1,8 @@
-use mea_run::{Status, SureSink, SureSource, run};
-use std::alloc::{AllocError, Global};
+use mea_run::{Sink, Source, Status, SureSink, SureSource, run};
+use mea_script_tests as scripts;
+use mea_script_tests::Program;
+use std::alloc::Global;
 use std::process::Abort;
-use std::test::Fail;
 
 /// A script with its text and its status. A slash stands for a newline, and each ends with one.
 pub(crate) struct Row {
@@ -10,35 +11,41 @@ pub(crate) struct Row {
     pub status: Status,
 }
 
-/// The bytes of a script or of a text.
-pub(crate) fn bytes_of(alloc: Global, text: &str) -> Result<Vec<u8>, AllocError> {
-    let mut bytes = Vec::from_slice(alloc, text.as_bytes())?;
-    for byte in bytes.iter_mut() {
-        if *byte == b'/' {
-            *byte = b'\n';
-        }
+// The program.
+struct Play;
+
+impl Program for Play {
+    fn run<S: Source, K: Sink>(
+        alloc: Global,
+        words: &[String],
+        source: &mut S,
+        sink: &mut K,
+    ) -> Status {
+        run(alloc, words, source, sink)
     }
-    bytes.push(b'\n')?;
-    Ok(bytes)
 }
 
-/// The words of a command line.
-pub(crate) fn words_of(alloc: Global, words: &[&str]) -> Result<Vec<String>, AllocError> {
-    let mut owned = Vec::new(alloc);
-    for word in words {
-        owned.push(String::from_str(alloc, word)?)?;
-    }
-    Ok(owned)
+/// The bytes of a script or of a text.
+pub(crate) fn bytes_of(rt: &(impl Abort + AllocGlobal), text: &str) -> Vec<u8> {
+    scripts::bytes_of(rt.alloc(), text).expect(rt, "memory")
+}
+
+/// Runs the words. It has no clauses, so that no test carries what `run` promises of a script.
+pub(crate) fn ran<S: Source, K: Sink>(
+    rt: &(impl Abort + AllocGlobal),
+    words: &[&str],
+    source: &mut S,
+    sink: &mut K,
+) -> Status {
+    scripts::ran::<Play, S, K>(rt.alloc(), words, source, sink).expect(rt, "memory")
 }
 
 /// Plays each script, a few bytes at a time.
-pub(crate) fn check_rows(rt: &(impl Abort + AllocGlobal), rows: &[Row]) -> Result<(), Fail> {
+pub(crate) fn check_rows(rt: &(impl Abort + AllocGlobal), rows: &[Row]) {
     for row in rows {
-        let script = bytes_of(rt.alloc(), row.script)?;
-        let text = bytes_of(rt.alloc(), row.text)?;
-        check(rt, script, text.as_slice(), &row.status)?;
+        let text = bytes_of(rt, row.text);
+        check(rt, bytes_of(rt, row.script), text.as_slice(), &row.status);
     }
-    Ok(())
 }
 
 /// Plays one script, a few bytes at a time.
@@ -47,12 +54,10 @@ pub(crate) fn check(
     script: Vec<u8>,
     text: &[u8],
     status: &Status,
-) -> Result<(), Fail> {
-    let words = words_of(rt.alloc(), &["play"])?;
+) {
     let mut source = SureSource::new(script, 5);
     let mut sink = SureSink::new(rt.alloc(), 3);
-    let told = run(rt.alloc(), words.as_slice(), &mut source, &mut sink);
+    let told = ran(rt, &["play"], &mut source, &mut sink);
     assert_eq!(rt; sink.bytes(), text);
     assert!(rt; told == *status);
-    Ok(())
 }

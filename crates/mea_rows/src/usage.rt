@@ -1,31 +1,24 @@
-use crate::rows::{bytes_of, words_of};
-use mea_run::{Status, SureSink, SureSource, run};
+use crate::rows::{bytes_of, ran};
+use mea_run::{Status, SureSink, SureSource};
 use std::process::Abort;
-use std::test::Fail;
 
 /// The words are refused, and nothing is read or written: the same source and sink then play the script.
-fn check_refused(rt: &(impl Abort + AllocGlobal), words: &[&str]) -> Result<(), Fail> {
-    let script = bytes_of(rt.alloc(), "new 1")?;
-    let text = bytes_of(rt.alloc(), "made/done 1")?;
-    let words = words_of(rt.alloc(), words)?;
-    let play = words_of(rt.alloc(), &["play"])?;
-    let mut source = SureSource::new(script, 64);
+fn check_refused(rt: &(impl Abort + AllocGlobal), words: &[&str]) {
+    let text = bytes_of(rt, "made/done 1");
+    let mut source = SureSource::new(bytes_of(rt, "new 1"), 64);
     let mut sink = SureSink::new(rt.alloc(), 64);
-    let refused = run(rt.alloc(), words.as_slice(), &mut source, &mut sink);
-    assert!(rt; refused == Status::Usage);
+    assert!(rt; ran(rt, words, &mut source, &mut sink) == Status::Usage);
     assert!(rt; sink.bytes().is_empty());
-    let played = run(rt.alloc(), play.as_slice(), &mut source, &mut sink);
-    assert!(rt; played == Status::Done);
+    assert!(rt; ran(rt, &["play"], &mut source, &mut sink) == Status::Done);
     assert_eq!(rt; sink.bytes(), text.as_slice());
-    Ok(())
 }
 
 #[test]
-fn other_words_are_refused(rt: HostRuntime) -> Result<(), Fail> {
-    check_refused(&rt, &[])?;
-    check_refused(&rt, &["play", "x"])?;
-    check_refused(&rt, &["make", "1"])?;
-    check_refused(&rt, &["make", "1", "300001"])?;
-    check_refused(&rt, &["make", "01", "1"])?;
-    check_refused(&rt, &["--help"])
+fn other_words_are_refused(rt: HostRuntime) {
+    check_refused(&rt, &[]);
+    check_refused(&rt, &["play", "x"]);
+    check_refused(&rt, &["make", "1"]);
+    check_refused(&rt, &["make", "1", "300001"]);
+    check_refused(&rt, &["make", "01", "1"]);
+    check_refused(&rt, &["--help"]);
 }

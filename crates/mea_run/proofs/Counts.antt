@@ -10,7 +10,7 @@ use Rattle.mea_events.specs.declared.event.Event.{Event}
 use Rattle.mea_hall.specs.World.{World, Play, Plays, registered, cause_of, step}
 use Rattle.mea_hall.specs.Front.{Front, front_at, front_from, prepended}
 use Rattle.mea_hall.proofs.Fronts.{front_goes_on}
-use Rattle.mea_hall.proofs.Families.{most_woken}
+use Rattle.mea_hall.proofs.EachFamily.{most_woken}
 use Rattle.mea_run.specs.Generated.{pendings, wakes_in}
 
 abbrev Replies : Type 0

@@ -1,6 +1,6 @@
 use crate::play::Reply::{Done, Number, Overflow, Pending};
 use crate::play::Step::{Ask, End, Free, Poll, Release, Try, Waiters, Wake, Weigh, Weight};
-use crate::play::{Room, Step, answers};
+use crate::play::{Reply, Room, Step, answers};
 use mea_share_core::FairCore;
 use mea_test_support::{Collides, differs_at};
 use std::alloc::{AllocError, Global};
@@ -10,123 +10,136 @@ use std::test::Fail;
 type Core = FairCore<u64, u64, BuildHasherDefault<FoldHasher>>;
 
 // Who waits longer stands back where its key holds more.
+const A_KEY_WITH_LESS_GOES_FIRST: &[(Step, Reply)] = &[
+    (Try(1), Done),
+    (Try(1), Done),
+    (Try(2), Pending),
+    (Ask(1), Done),
+    (Poll(0, 10), Pending),
+    (Ask(2), Done),
+    (Poll(1, 11), Pending),
+    (Release(1), Done),
+    (Wake, Number(11)),
+    (Wake, Pending),
+    (Poll(1, 12), Done),
+    (Poll(0, 13), Pending),
+    (Wake, Pending),
+    (Waiters, Number(1)),
+    (Release(2), Done),
+    (Wake, Number(13)),
+];
+
 #[test]
 fn a_key_with_less_goes_first(rt: HostRuntime) {
     let core: Core = FairCore::new(rt.alloc(), 2);
-    let script = [
-        (Try(1), Done),
-        (Try(1), Done),
-        (Try(2), Pending),
-        (Ask(1), Done),
-        (Poll(0, 10), Pending),
-        (Ask(2), Done),
-        (Poll(1, 11), Pending),
-        (Release(1), Done),
-        (Wake, Number(11)),
-        (Wake, Pending),
-        (Poll(1, 12), Done),
-        (Poll(0, 13), Pending),
-        (Wake, Pending),
-        (Waiters, Number(1)),
-        (Release(2), Done),
-        (Wake, Number(13)),
-    ];
-    assert_eq!(rt; differs_at(Room::new(rt.alloc(), core), &script), None);
+    assert_eq!(rt;
+        differs_at(Room::new(rt.alloc(), core), A_KEY_WITH_LESS_GOES_FIRST),
+        None
+    );
 }
 
 // Keys 1 and 2 hold a permit, key 3 none. Five acquires wait, of the keys 1, 1, 2, 2 and 3, with the wakers 0 to 4, and
 // five permits of a further key come back. Key 3 holds nothing and is first. Of weight 2, key 2 takes another before it
 // is equal with key 1, of which one waits longer, and then is below it.
+const THE_ORDER_OF_ADMISSION: &[(Step, Reply)] = &[
+    (Weigh(2, 2), Done),
+    (Weight(2), Number(2)),
+    (Weight(1), Number(1)),
+    (Try(1), Done),
+    (Try(2), Done),
+    (Try(4), Done),
+    (Try(4), Done),
+    (Try(4), Done),
+    (Try(4), Done),
+    (Try(4), Done),
+    (Ask(1), Done),
+    (Ask(1), Done),
+    (Ask(2), Done),
+    (Ask(2), Done),
+    (Ask(3), Done),
+    (Poll(0, 0), Pending),
+    (Poll(1, 1), Pending),
+    (Poll(2, 2), Pending),
+    (Poll(3, 3), Pending),
+    (Poll(4, 4), Pending),
+    (Release(4), Done),
+    (Release(4), Done),
+    (Release(4), Done),
+    (Release(4), Done),
+    (Release(4), Done),
+    (Wake, Number(4)),
+    (Wake, Number(2)),
+    (Wake, Number(0)),
+    (Wake, Number(3)),
+    (Wake, Number(1)),
+    (Wake, Pending),
+];
+
 #[test]
 fn the_order_of_admission(rt: HostRuntime) {
     let core: Core = FairCore::new(rt.alloc(), 7);
-    let script = [
-        (Weigh(2, 2), Done),
-        (Weight(2), Number(2)),
-        (Weight(1), Number(1)),
-        (Try(1), Done),
-        (Try(2), Done),
-        (Try(4), Done),
-        (Try(4), Done),
-        (Try(4), Done),
-        (Try(4), Done),
-        (Try(4), Done),
-        (Ask(1), Done),
-        (Ask(1), Done),
-        (Ask(2), Done),
-        (Ask(2), Done),
-        (Ask(3), Done),
-        (Poll(0, 0), Pending),
-        (Poll(1, 1), Pending),
-        (Poll(2, 2), Pending),
-        (Poll(3, 3), Pending),
-        (Poll(4, 4), Pending),
-        (Release(4), Done),
-        (Release(4), Done),
-        (Release(4), Done),
-        (Release(4), Done),
-        (Release(4), Done),
-        (Wake, Number(4)),
-        (Wake, Number(2)),
-        (Wake, Number(0)),
-        (Wake, Number(3)),
-        (Wake, Number(1)),
-        (Wake, Pending),
-    ];
-    assert_eq!(rt; differs_at(Room::new(rt.alloc(), core), &script), None);
+    assert_eq!(rt;
+        differs_at(Room::new(rt.alloc(), core), THE_ORDER_OF_ADMISSION),
+        None
+    );
 }
 
 // The last number is given to nobody, and what is refused changes nothing. A free permit needs no number.
+const NUMBERS_RUN_OUT: &[(Step, Reply)] = &[
+    (Ask(1), Done),
+    (Ask(1), Done),
+    (Poll(0, 10), Done),
+    (Poll(1, 11), Overflow(11)),
+    (Free, Number(0)),
+    (Waiters, Number(0)),
+    (Wake, Pending),
+    (Release(1), Done),
+    (Free, Number(1)),
+    (Poll(1, 12), Done),
+    (Free, Number(0)),
+];
+
 #[test]
 fn numbers_run_out(rt: HostRuntime) {
     let core: Core = FairCore::at_sequence(rt.alloc(), 1, BuildHasherDefault::new(), u64::MAX);
-    let script = [
-        (Ask(1), Done),
-        (Ask(1), Done),
-        (Poll(0, 10), Done),
-        (Poll(1, 11), Overflow(11)),
-        (Free, Number(0)),
-        (Waiters, Number(0)),
-        (Wake, Pending),
-        (Release(1), Done),
-        (Free, Number(1)),
-        (Poll(1, 12), Done),
-        (Free, Number(0)),
-    ];
-    assert_eq!(rt; differs_at(Room::new(rt.alloc(), core), &script), None);
+    assert_eq!(rt;
+        differs_at(Room::new(rt.alloc(), core), NUMBERS_RUN_OUT),
+        None
+    );
 }
 
 // An acquire that is ended new or while it waits wakes nobody; the permit of one that was admitted goes to who is next,
 // and is free with nobody waiting.
+const ACQUIRES_END: &[(Step, Reply)] = &[
+    (Ask(1), Done),
+    (End(0), Done),
+    (Free, Number(1)),
+    (Try(1), Done),
+    (Ask(2), Done),
+    (Poll(1, 10), Pending),
+    (Ask(1), Done),
+    (Poll(2, 11), Pending),
+    (Ask(2), Done),
+    (Poll(3, 12), Pending),
+    (End(1), Done),
+    (Wake, Pending),
+    (Waiters, Number(2)),
+    (Release(1), Done),
+    (Wake, Number(11)),
+    (End(2), Done),
+    (Wake, Number(12)),
+    (Waiters, Number(0)),
+    (End(3), Done),
+    (Wake, Pending),
+    (Free, Number(1)),
+    (Release(1), Done),
+    (Free, Number(1)),
+];
+
 #[test]
 fn acquires_end(rt: HostRuntime) {
     let core: Core = FairCore::new(rt.alloc(), 1);
-    let script = [
-        (Ask(1), Done),
-        (End(0), Done),
-        (Free, Number(1)),
-        (Try(1), Done),
-        (Ask(2), Done),
-        (Poll(1, 10), Pending),
-        (Ask(1), Done),
-        (Poll(2, 11), Pending),
-        (Ask(2), Done),
-        (Poll(3, 12), Pending),
-        (End(1), Done),
-        (Wake, Pending),
-        (Waiters, Number(2)),
-        (Release(1), Done),
-        (Wake, Number(11)),
-        (End(2), Done),
-        (Wake, Number(12)),
-        (Waiters, Number(0)),
-        (End(3), Done),
-        (Wake, Pending),
-        (Free, Number(1)),
-        (Release(1), Done),
-        (Free, Number(1)),
-    ];
-    assert_eq!(rt; differs_at(Room::new(rt.alloc(), core), &script), None);
+    assert_eq!(rt; differs_at(Room::new(rt.alloc(), core), ACQUIRES_END), None);
 }
 
 // Each of 64 keys takes a permit and waits for another, and a further key gives a permit back for each.

@@ -122,76 +122,82 @@ fn notified(condvar: &mut CondvarCore<u64>, call: Call) -> Reply {
 }
 
 // A wait that was notified alone and is ended in the lock stage passes that on.
+const CONDVAR_IN_ORDER: &[(Call, Reply)] = &[
+    (Call::TryLock, Yes),
+    (Call::PollFirst(10), Pending),
+    (Call::TryLock, Yes),
+    (Call::PollSecond(11), Pending),
+    (Call::TryLock, Yes),
+    (Call::NotifyOne, Done),
+    (Call::NextWake, Value(10)),
+    (Call::PollFirst(12), Pending),
+    (Call::EndFirst, Done),
+    (Call::NextWake, Value(11)),
+    (Call::Unlock, Done),
+    (Call::NextLockWake, Nothing),
+    (Call::PollSecond(13), Ready(13)),
+    (Call::NotifyOne, Done),
+    (Call::NextWake, Nothing),
+    (Call::TryLock, No),
+];
+
 #[test]
 fn condvar_in_order(rt: HostRuntime) {
-    let script = [
-        (Call::TryLock, Yes),
-        (Call::PollFirst(10), Pending),
-        (Call::TryLock, Yes),
-        (Call::PollSecond(11), Pending),
-        (Call::TryLock, Yes),
-        (Call::NotifyOne, Done),
-        (Call::NextWake, Value(10)),
-        (Call::PollFirst(12), Pending),
-        (Call::EndFirst, Done),
-        (Call::NextWake, Value(11)),
-        (Call::Unlock, Done),
-        (Call::NextLockWake, Nothing),
-        (Call::PollSecond(13), Ready(13)),
-        (Call::NotifyOne, Done),
-        (Call::NextWake, Nothing),
-        (Call::TryLock, No),
-    ];
-    assert_eq!(rt; differs_at(Room::new(rt.alloc()), &script), None);
+    assert_eq!(rt; differs_at(Room::new(rt.alloc()), CONDVAR_IN_ORDER), None);
 }
 
 // A new wait that is ended gives the lock back.
+const ENDED_NEW: &[(Call, Reply)] = &[
+    (Call::TryLock, Yes),
+    (Call::EndFirst, Done),
+    (Call::TryLock, Yes),
+];
+
 #[test]
 fn ended_new(rt: HostRuntime) {
-    let script = [
-        (Call::TryLock, Yes),
-        (Call::EndFirst, Done),
-        (Call::TryLock, Yes),
-    ];
-    assert_eq!(rt; differs_at(Room::new(rt.alloc()), &script), None);
+    assert_eq!(rt; differs_at(Room::new(rt.alloc()), ENDED_NEW), None);
 }
 
 // A wait that is ended while it waits leaves the others as they are.
+const ENDED_WAITING: &[(Call, Reply)] = &[
+    (Call::TryLock, Yes),
+    (Call::PollFirst(10), Pending),
+    (Call::TryLock, Yes),
+    (Call::PollSecond(11), Pending),
+    (Call::EndFirst, Done),
+    (Call::NextWake, Nothing),
+    (Call::NotifyOne, Done),
+    (Call::NextWake, Value(11)),
+];
+
 #[test]
 fn ended_waiting(rt: HostRuntime) {
-    let script = [
-        (Call::TryLock, Yes),
-        (Call::PollFirst(10), Pending),
-        (Call::TryLock, Yes),
-        (Call::PollSecond(11), Pending),
-        (Call::EndFirst, Done),
-        (Call::NextWake, Nothing),
-        (Call::NotifyOne, Done),
-        (Call::NextWake, Value(11)),
-    ];
-    assert_eq!(rt; differs_at(Room::new(rt.alloc()), &script), None);
+    assert_eq!(rt; differs_at(Room::new(rt.alloc()), ENDED_WAITING), None);
 }
 
 // A wait that was notified alone and is ended before its next poll passes that on.
+const ENDED_NOTIFIED_ALONE: &[(Call, Reply)] = &[
+    (Call::TryLock, Yes),
+    (Call::PollFirst(10), Pending),
+    (Call::TryLock, Yes),
+    (Call::PollSecond(11), Pending),
+    (Call::NotifyOne, Done),
+    (Call::NextWake, Value(10)),
+    (Call::EndFirst, Done),
+    (Call::NextWake, Value(11)),
+];
+
 #[test]
 fn ended_notified_alone(rt: HostRuntime) {
-    let script = [
-        (Call::TryLock, Yes),
-        (Call::PollFirst(10), Pending),
-        (Call::TryLock, Yes),
-        (Call::PollSecond(11), Pending),
-        (Call::NotifyOne, Done),
-        (Call::NextWake, Value(10)),
-        (Call::EndFirst, Done),
-        (Call::NextWake, Value(11)),
-    ];
-    assert_eq!(rt; differs_at(Room::new(rt.alloc()), &script), None);
+    assert_eq!(rt;
+        differs_at(Room::new(rt.alloc()), ENDED_NOTIFIED_ALONE),
+        None
+    );
 }
 
 // One that was notified with all has nothing to pass on, before its next poll and in the lock stage.
-#[test]
-fn ended_notified_with_all(rt: HostRuntime) {
-    let script = [
+const ENDED_NOTIFIED_WITH_ALL: &[&[(Call, Reply)]] = &[
+    &[
         (Call::TryLock, Yes),
         (Call::PollFirst(10), Pending),
         (Call::NotifyAll, Done),
@@ -200,9 +206,8 @@ fn ended_notified_with_all(rt: HostRuntime) {
         (Call::PollSecond(11), Pending),
         (Call::EndFirst, Done),
         (Call::NextWake, Nothing),
-    ];
-    assert_eq!(rt; differs_at(Room::new(rt.alloc()), &script), None);
-    let script = [
+    ],
+    &[
         (Call::TryLock, Yes),
         (Call::PollFirst(10), Pending),
         (Call::NotifyAll, Done),
@@ -214,14 +219,19 @@ fn ended_notified_with_all(rt: HostRuntime) {
         (Call::EndFirst, Done),
         (Call::NextWake, Nothing),
         (Call::TryLock, Yes),
-    ];
-    assert_eq!(rt; differs_at(Room::new(rt.alloc()), &script), None);
+    ],
+];
+
+#[test]
+fn ended_notified_with_all(rt: HostRuntime) {
+    for script in ENDED_NOTIFIED_WITH_ALL {
+        assert_eq!(rt; differs_at(Room::new(rt.alloc()), script), None);
+    }
 }
 
 // A wait finds memory in each stage: new, waiting, notified while the lock is held, and asking for the lock.
-#[test]
-fn every_stage(rt: HostRuntime) {
-    let script = [
+const EVERY_STAGE: &[&[(Call, Reply)]] = &[
+    &[
         (Call::TryLock, Yes),
         (Call::PollAllowed(10), Pending),
         (Call::PollAllowed(11), Pending),
@@ -235,9 +245,8 @@ fn every_stage(rt: HostRuntime) {
         (Call::PollFirst(16), Pending),
         (Call::Unlock, Done),
         (Call::PollFirst(17), Ready(17)),
-    ];
-    assert_eq!(rt; differs_at(Room::new(rt.alloc()), &script), None);
-    let script = [
+    ],
+    &[
         (Call::TryLock, Yes),
         (Call::PollFirst(10), Pending),
         (Call::PollFirst(11), Pending),
@@ -247,8 +256,14 @@ fn every_stage(rt: HostRuntime) {
         (Call::PollFirst(13), Pending),
         (Call::Unlock, Done),
         (Call::PollFirst(14), Ready(14)),
-    ];
-    assert_eq!(rt; differs_at(Room::new(rt.alloc()), &script), None);
+    ],
+];
+
+#[test]
+fn every_stage(rt: HostRuntime) {
+    for script in EVERY_STAGE {
+        assert_eq!(rt; differs_at(Room::new(rt.alloc()), script), None);
+    }
 }
 
 // A poll of a wait with a condition, by the call that asks for nothing.
@@ -305,47 +320,55 @@ fn while_differs_at(
 }
 
 // A wait goes on while the value is below 3, however often it is notified.
+const WAITS_WHILE_BELOW: &[(Option<Call>, Reply)] = &[
+    (Some(Call::TryLock), Yes),
+    (None, Pending),
+    (Some(Call::Write(2)), Done),
+    (Some(Call::NotifyOne), Done),
+    (Some(Call::NextWake), Value(1)),
+    (None, Pending),
+    (Some(Call::Write(3)), Done),
+    (Some(Call::NotifyOne), Done),
+    (Some(Call::NextWake), Value(5)),
+    (None, Ready(9)),
+    (Some(Call::TryLock), No),
+];
+
 #[test]
 fn waits_while_below(rt: HostRuntime) {
-    let script = [
-        (Some(Call::TryLock), Yes),
-        (None, Pending),
-        (Some(Call::Write(2)), Done),
-        (Some(Call::NotifyOne), Done),
-        (Some(Call::NextWake), Value(1)),
-        (None, Pending),
-        (Some(Call::Write(3)), Done),
-        (Some(Call::NotifyOne), Done),
-        (Some(Call::NextWake), Value(5)),
-        (None, Ready(9)),
-        (Some(Call::TryLock), No),
-    ];
-    assert_eq!(rt; while_differs_at(rt.alloc(), true, &script), None);
+    assert_eq!(rt; while_differs_at(rt.alloc(), true, WAITS_WHILE_BELOW), None);
 }
 
 // A wait with a condition finds memory in each stage: new, waiting, notified while the lock is held, asking for the lock,
 // and holding it, first where the condition holds and then where it does not.
+const EVERY_STAGE_OF_A_WHILE: &[(Option<Call>, Reply)] = &[
+    (Some(Call::TryLock), Yes),
+    (None, Pending),
+    (Some(Call::NextWake), Nothing),
+    (None, Pending),
+    (Some(Call::NotifyOne), Done),
+    (None, Pending),
+    (Some(Call::TryLock), Yes),
+    (None, Pending),
+    (Some(Call::NotifyOne), Done),
+    (None, Pending),
+    (Some(Call::NextLockWake), Nothing),
+    (None, Pending),
+    (Some(Call::Unlock), Done),
+    (None, Pending),
+    (Some(Call::Write(3)), Done),
+    (Some(Call::NotifyOne), Done),
+    (None, Ready(16)),
+];
+
 #[test]
 fn every_stage_of_a_while(rt: HostRuntime) {
-    let script = [
-        (Some(Call::TryLock), Yes),
-        (None, Pending),
-        (Some(Call::NextWake), Nothing),
-        (None, Pending),
-        (Some(Call::NotifyOne), Done),
-        (None, Pending),
-        (Some(Call::TryLock), Yes),
-        (None, Pending),
-        (Some(Call::NotifyOne), Done),
-        (None, Pending),
-        (Some(Call::NextLockWake), Nothing),
-        (None, Pending),
-        (Some(Call::Unlock), Done),
-        (None, Pending),
-        (Some(Call::Write(3)), Done),
-        (Some(Call::NotifyOne), Done),
-        (None, Ready(16)),
-    ];
-    assert_eq!(rt; while_differs_at(rt.alloc(), false, &script), None);
-    assert_eq!(rt; while_differs_at(rt.alloc(), true, &script), None);
+    assert_eq!(rt;
+        while_differs_at(rt.alloc(), false, EVERY_STAGE_OF_A_WHILE),
+        None
+    );
+    assert_eq!(rt;
+        while_differs_at(rt.alloc(), true, EVERY_STAGE_OF_A_WHILE),
+        None
+    );
 }

@@ -55,22 +55,23 @@ fn lock_told(lock: &mut Lock, wait: &mut LockWait, call: Call) -> Option<Reply> 
 }
 
 // A wait of a mutex is told when the guard ends, and finds the value that the guard left.
+const MUTEX_IN_ORDER: &[(Call, (Reply, Option<u64>))] = &[
+    (Call::Try, (Yes, None)),
+    (Call::Poll(9), (Pending, None)),
+    (Call::Set(6), (Done, None)),
+    (Call::Unlock, (Done, Some(9))),
+    (Call::Poll(10), (Ready(10), None)),
+    (Call::Get, (Value(6), None)),
+    (Call::Idle, (No, None)),
+];
+
 #[test]
 fn mutex_in_order(rt: HostRuntime) {
     let room = Room {
         lock: MutexCore::new(rt.alloc(), 5),
         wait: LockWait::new(),
     };
-    let script = [
-        (Call::Try, (Yes, None)),
-        (Call::Poll(9), (Pending, None)),
-        (Call::Set(6), (Done, None)),
-        (Call::Unlock, (Done, Some(9))),
-        (Call::Poll(10), (Ready(10), None)),
-        (Call::Get, (Value(6), None)),
-        (Call::Idle, (No, None)),
-    ];
-    assert_eq!(rt; differs_at(room, &script), None);
+    assert_eq!(rt; differs_at(room, MUTEX_IN_ORDER), None);
 }
 
 // What a mutex that is idle gives out.

@@ -62,27 +62,28 @@ fn lock_told(lock: &mut Lock, wait: &mut RwWait, call: Call) -> Option<Reply> {
 }
 
 // A write that waits keeps later reads out, and a write that becomes a read lets them in again.
+const RW_IN_ORDER: &[(Call, (Reply, Option<u64>))] = &[
+    (Call::TryRead, (Yes, None)),
+    (Call::Poll(5), (Pending, None)),
+    (Call::TryRead, (No, None)),
+    (Call::UnlockRead, (Done, Some(5))),
+    (Call::Poll(6), (Ready(6), None)),
+    (Call::TryRead, (No, None)),
+    (Call::Set(9), (Done, None)),
+    (Call::Downgrade, (Done, None)),
+    (Call::TryWrite, (No, None)),
+    (Call::TryRead, (Yes, None)),
+    (Call::Readers, (Value(2), None)),
+    (Call::Get, (Value(9), None)),
+];
+
 #[test]
 fn rw_in_order(rt: HostRuntime) {
     let room = Room {
         lock: RwCore::new(rt.alloc(), 7, 2),
         wait: RwWait::write(),
     };
-    let script = [
-        (Call::TryRead, (Yes, None)),
-        (Call::Poll(5), (Pending, None)),
-        (Call::TryRead, (No, None)),
-        (Call::UnlockRead, (Done, Some(5))),
-        (Call::Poll(6), (Ready(6), None)),
-        (Call::TryRead, (No, None)),
-        (Call::Set(9), (Done, None)),
-        (Call::Downgrade, (Done, None)),
-        (Call::TryWrite, (No, None)),
-        (Call::TryRead, (Yes, None)),
-        (Call::Readers, (Value(2), None)),
-        (Call::Get, (Value(9), None)),
-    ];
-    assert_eq!(rt; differs_at(room, &script), None);
+    assert_eq!(rt; differs_at(room, RW_IN_ORDER), None);
 }
 
 // What a lock that is idle gives out.

@@ -68,42 +68,44 @@ fn arrived(polled: Result<Poll<BarrierWaitResult>, BarrierFault<u64>>) -> Option
 
 // With memory at hand, no call answers that there is none. Of each two arrivals the second leads and wakes the first, whose
 // wait has ended meanwhile.
+const ARRIVALS: &[(Call, Reply)] = &[
+    (Call::Poll(10), Pending),
+    (Call::End, Done),
+    (Call::WakesReady, Value(0)),
+    (Call::Poll(11), Yes),
+    (Call::End, Done),
+    (Call::WakesReady, Value(1)),
+    (Call::Poll(12), Pending),
+    (Call::End, Done),
+    (Call::WakesReady, Value(1)),
+    (Call::Poll(13), Yes),
+    (Call::End, Done),
+    (Call::WakesReady, Value(2)),
+    (Call::Wake, Value(10)),
+    (Call::Wake, Value(12)),
+    (Call::Arrive(14), Pending),
+];
+
 #[test]
 fn arrivals(rt: HostRuntime) {
-    let script = [
-        (Call::Poll(10), Pending),
-        (Call::End, Done),
-        (Call::WakesReady, Value(0)),
-        (Call::Poll(11), Yes),
-        (Call::End, Done),
-        (Call::WakesReady, Value(1)),
-        (Call::Poll(12), Pending),
-        (Call::End, Done),
-        (Call::WakesReady, Value(1)),
-        (Call::Poll(13), Yes),
-        (Call::End, Done),
-        (Call::WakesReady, Value(2)),
-        (Call::Wake, Value(10)),
-        (Call::Wake, Value(12)),
-        (Call::Arrive(14), Pending),
-    ];
     let room = Room::new(BarrierCore::new(rt.alloc(), 2));
-    assert_eq!(rt; differs_at(room, &script), None);
+    assert_eq!(rt; differs_at(room, ARRIVALS), None);
 }
 
 // Who waited is ready after the round, without leading; 0 counts as 1.
+const ROUNDS: &[(Call, Reply)] = &[
+    (Call::Poll(10), Pending),
+    (Call::Poll(11), Pending),
+    (Call::Arrive(12), Yes),
+    (Call::Wake, Value(11)),
+    (Call::Poll(13), No),
+    (Call::IsAllowed, No),
+];
+
 #[test]
 fn rounds(rt: HostRuntime) {
-    let script = [
-        (Call::Poll(10), Pending),
-        (Call::Poll(11), Pending),
-        (Call::Arrive(12), Yes),
-        (Call::Wake, Value(11)),
-        (Call::Poll(13), No),
-        (Call::IsAllowed, No),
-    ];
     let room = Room::new(BarrierCore::new(rt.alloc(), 2));
-    assert_eq!(rt; differs_at(room, &script), None);
+    assert_eq!(rt; differs_at(room, ROUNDS), None);
     let alone = Room::new(BarrierCore::new(rt.alloc(), 0));
     assert_eq!(rt; differs_at(alone, &[(Call::Arrive(14), Yes)]), None);
 }

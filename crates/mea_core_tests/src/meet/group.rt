@@ -65,20 +65,21 @@ fn added(group: &mut Group) -> Reply {
 
 // With memory at hand, no poll answers that there is none. A group ends with its last handle, and takes no more than its
 // count holds.
+const GROUP: &[(Call, Reply)] = &[
+    (Call::Add, Value(2)),
+    (Call::Leave, Value(1)),
+    (Call::Poll(5), Pending),
+    (Call::Await(6), Pending),
+    (Call::Leave, Value(0)),
+    (Call::Wake, Value(5)),
+    (Call::Poll(7), Done),
+    (Call::Add, No),
+];
+
 #[test]
 fn group(rt: HostRuntime) {
-    let script = [
-        (Call::Add, Value(2)),
-        (Call::Leave, Value(1)),
-        (Call::Poll(5), Pending),
-        (Call::Await(6), Pending),
-        (Call::Leave, Value(0)),
-        (Call::Wake, Value(5)),
-        (Call::Poll(7), Done),
-        (Call::Add, No),
-    ];
     let room = Room::new(GroupCore::new(rt.alloc()));
-    assert_eq!(rt; differs_at(room, &script), None);
+    assert_eq!(rt; differs_at(room, GROUP), None);
     let full = Room::new(GroupCore::at_count(rt.alloc(), u32::MAX));
     assert_eq!(rt; differs_at(full, &[(Call::Add, Nothing)]), None);
 }

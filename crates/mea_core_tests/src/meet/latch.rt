@@ -65,31 +65,32 @@ fn tried(tried: Result<(), u32>) -> Reply {
 }
 
 // With memory at hand, no poll answers that there is none. A latch falls to 0 and no further, and wakes once.
+const LATCH: &[(Call, Reply)] = &[
+    (Call::Poll(5), Pending),
+    (Call::Await(6), Pending),
+    (Call::Arrive(3), Done),
+    (Call::TryWait, Back(7)),
+    (Call::Arrive(3), Done),
+    (Call::TryWait, Back(4)),
+    (Call::Arrive(3), Done),
+    (Call::TryWait, Back(1)),
+    (Call::Arrive(3), Done),
+    (Call::TryWait, Done),
+    (Call::Arrive(3), Done),
+    (Call::TryWait, Done),
+    (Call::CountDown, Done),
+    (Call::Count, Value(0)),
+    (Call::WakesReady, Value(2)),
+    (Call::Wake, Value(5)),
+    (Call::Poll(7), Done),
+    (Call::End, Done),
+];
+
 #[test]
 fn latch(rt: HostRuntime) {
-    let script = [
-        (Call::Poll(5), Pending),
-        (Call::Await(6), Pending),
-        (Call::Arrive(3), Done),
-        (Call::TryWait, Back(7)),
-        (Call::Arrive(3), Done),
-        (Call::TryWait, Back(4)),
-        (Call::Arrive(3), Done),
-        (Call::TryWait, Back(1)),
-        (Call::Arrive(3), Done),
-        (Call::TryWait, Done),
-        (Call::Arrive(3), Done),
-        (Call::TryWait, Done),
-        (Call::CountDown, Done),
-        (Call::Count, Value(0)),
-        (Call::WakesReady, Value(2)),
-        (Call::Wake, Value(5)),
-        (Call::Poll(7), Done),
-        (Call::End, Done),
-    ];
     let room = Room {
         latch: LatchCore::new(rt.alloc(), 10),
         wait: LatchWait::new(),
     };
-    assert_eq!(rt; differs_at(room, &script), None);
+    assert_eq!(rt; differs_at(room, LATCH), None);
 }

@@ -61,27 +61,28 @@ impl Plays for Room {
 
 // With memory at hand, no poll answers that there is none. The signal and the end of the receivers are apart, and wakers of
 // both keep their order.
+const SHUTDOWN: &[(Call, Reply)] = &[
+    (Call::AwaitSignal(6), Pending),
+    (Call::PollSignal(7), Pending),
+    (Call::AwaitReceivers(8), Pending),
+    (Call::PollReceivers(9), Pending),
+    (Call::Receivers, Value(1)),
+    (Call::EndReceiver, Done),
+    (Call::Receivers, Value(0)),
+    (Call::IsShutdown, No),
+    (Call::Signal, Done),
+    (Call::Signal, Done),
+    (Call::IsShutdown, Yes),
+    (Call::PollReceivers(10), Done),
+    (Call::Wake, Value(8)),
+    (Call::Wake, Value(9)),
+    (Call::Wake, Value(6)),
+    (Call::Wake, Value(7)),
+    (Call::Wake, Nothing),
+];
+
 #[test]
 fn shutdown(rt: HostRuntime) {
-    let script = [
-        (Call::AwaitSignal(6), Pending),
-        (Call::PollSignal(7), Pending),
-        (Call::AwaitReceivers(8), Pending),
-        (Call::PollReceivers(9), Pending),
-        (Call::Receivers, Value(1)),
-        (Call::EndReceiver, Done),
-        (Call::Receivers, Value(0)),
-        (Call::IsShutdown, No),
-        (Call::Signal, Done),
-        (Call::Signal, Done),
-        (Call::IsShutdown, Yes),
-        (Call::PollReceivers(10), Done),
-        (Call::Wake, Value(8)),
-        (Call::Wake, Value(9)),
-        (Call::Wake, Value(6)),
-        (Call::Wake, Value(7)),
-        (Call::Wake, Nothing),
-    ];
     let shutdown = ShutdownCore::new(rt.alloc());
-    assert_eq!(rt; differs_at(Room { shutdown }, &script), None);
+    assert_eq!(rt; differs_at(Room { shutdown }, SHUTDOWN), None);
 }

@@ -50,26 +50,27 @@ fn incremented(count: &mut Countdown<u64>) -> Option<Reply> {
 }
 
 // With memory at hand, no poll answers that there is none. A count ends once, and wakes in the order of the registrations.
+const COUNTS: &[(Call, Reply)] = &[
+    (Call::Increment, No),
+    (Call::Count, Value(4_294_967_295)),
+    (Call::Poll(10), Pending),
+    (Call::Poll(11), Pending),
+    (Call::Decrement(1), Done),
+    (Call::Count, Value(4_294_967_294)),
+    (Call::WakesReady, Value(0)),
+    (Call::Decrement(u32::MAX), Done),
+    (Call::Count, Value(0)),
+    (Call::WakesReady, Value(2)),
+    (Call::Decrement(1), Done),
+    (Call::Count, Value(0)),
+    (Call::WakesReady, Value(2)),
+    (Call::Wake, Value(10)),
+    (Call::Wake, Value(11)),
+    (Call::Poll(12), Done),
+];
+
 #[test]
 fn counts(rt: HostRuntime) {
-    let script = [
-        (Call::Increment, No),
-        (Call::Count, Value(4_294_967_295)),
-        (Call::Poll(10), Pending),
-        (Call::Poll(11), Pending),
-        (Call::Decrement(1), Done),
-        (Call::Count, Value(4_294_967_294)),
-        (Call::WakesReady, Value(0)),
-        (Call::Decrement(u32::MAX), Done),
-        (Call::Count, Value(0)),
-        (Call::WakesReady, Value(2)),
-        (Call::Decrement(1), Done),
-        (Call::Count, Value(0)),
-        (Call::WakesReady, Value(2)),
-        (Call::Wake, Value(10)),
-        (Call::Wake, Value(11)),
-        (Call::Poll(12), Done),
-    ];
     let count = Countdown::new(rt.alloc(), u32::MAX);
-    assert_eq!(rt; differs_at(Room { count }, &script), None);
+    assert_eq!(rt; differs_at(Room { count }, COUNTS), None);
 }

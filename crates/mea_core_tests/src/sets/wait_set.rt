@@ -73,35 +73,37 @@ fn drained(set: &mut WaitSet<u64>, outbox: &mut Outbox<u64>) -> bool {
 }
 
 // With memory at hand, no call answers that there is none.
+const AMPLE: &[(Call, Reply)] = &[
+    (Call::RegisterNew(30), Yes),
+    (Call::RegisterWithRoom(31), Yes),
+    (Call::Len, Value(2)),
+];
+
 #[test]
 fn ample(rt: HostRuntime) {
-    let script = [
-        (Call::RegisterNew(30), Yes),
-        (Call::RegisterWithRoom(31), Yes),
-        (Call::Len, Value(2)),
-    ];
-    assert_eq!(rt; differs_at(Room::new(rt.alloc()), &script), None);
+    assert_eq!(rt; differs_at(Room::new(rt.alloc()), AMPLE), None);
 }
 
 // A number that a wait kept past a drain replaces nobody's waker.
+const NUMBERS_OF_A_SET: &[(Call, Reply)] = &[
+    (Call::Register(10), Yes),
+    (Call::Register(11), Yes),
+    (Call::IsRegistered, Yes),
+    (Call::Drain, Yes),
+    (Call::Len, Value(0)),
+    (Call::RegisterNew(12), Yes),
+    (Call::IsRegistered, No),
+    (Call::HasGiven, Yes),
+    (Call::Register(13), Yes),
+    (Call::Drain, Yes),
+    (Call::Drains, Value(2)),
+    (Call::Wake, Value(11)),
+    (Call::Wake, Value(12)),
+    (Call::Wake, Value(13)),
+    (Call::Wake, Nothing),
+];
+
 #[test]
 fn numbers_of_a_set(rt: HostRuntime) {
-    let script = [
-        (Call::Register(10), Yes),
-        (Call::Register(11), Yes),
-        (Call::IsRegistered, Yes),
-        (Call::Drain, Yes),
-        (Call::Len, Value(0)),
-        (Call::RegisterNew(12), Yes),
-        (Call::IsRegistered, No),
-        (Call::HasGiven, Yes),
-        (Call::Register(13), Yes),
-        (Call::Drain, Yes),
-        (Call::Drains, Value(2)),
-        (Call::Wake, Value(11)),
-        (Call::Wake, Value(12)),
-        (Call::Wake, Value(13)),
-        (Call::Wake, Nothing),
-    ];
-    assert_eq!(rt; differs_at(Room::new(rt.alloc()), &script), None);
+    assert_eq!(rt; differs_at(Room::new(rt.alloc()), NUMBERS_OF_A_SET), None);
 }

@@ -1,4 +1,4 @@
-use Rattle.std.proofs.Common.{None, Some, is_some, refl, ap, sym, ◌∙◌}
+use Rattle.std.proofs.Common.{None, Some, is_some, ap, sym, ◌∙◌}
 use Rattle.std.specs.Option.{option_copied}
 use Rattle.mea_meet.proofs.BarrierSites.{barrier_is}
 use Rattle.mea_meet.proofs.barrier_part.BarrierPart.core.Goals as goal

@@ -1,4 +1,4 @@
-use Rattle.std.proofs.Common.{refl, arith}
+use Rattle.std.proofs.Common.{refl}
 use Rattle.mea_meet.proofs.BarrierSites.{site, wait_there, waits_barrier, some_waits, ended}
 use Rattle.mea_meet.proofs.barrier_part.BarrierPart.end.Goals as goal
 

@@ -1,4 +1,4 @@
-use Rattle.std.proofs.Common.{◌-◌, ap, sym, arith, ◌∙◌}
+use Rattle.std.proofs.Common.{◌-◌, ap, arith, ◌∙◌}
 use Rattle.mea_meet.proofs.BarrierSites.{site, barrier_there, its_room, dropped}
 use Rattle.mea_meet.proofs.barrier_part.BarrierPart.end_name.Goals as goal
 

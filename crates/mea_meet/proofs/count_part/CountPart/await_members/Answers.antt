@@ -1,6 +1,6 @@
 use Rattle.std.proofs.Common.{refl}
 use Rattle.mea_meet.specs.declared.count_wait.CountWait.TheVariants as waits
-use Rattle.mea_meet.proofs.CountSites.{site, sender_there, senders_point}
+use Rattle.mea_meet.proofs.CountSites.{site, sender_there}
 use Rattle.mea_meet.proofs.CountCalls.{awaited_by}
 use Rattle.mea_meet.proofs.count_part.CountPart.await_members.Goals as goal
 

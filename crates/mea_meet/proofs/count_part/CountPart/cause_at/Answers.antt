@@ -1,4 +1,4 @@
-use Rattle.std.proofs.Common.{ap, sym, ◌∙◌}
+use Rattle.std.proofs.Common.{ap, ◌∙◌}
 use Rattle.mea_meet.proofs.CountSites.{look}
 use Rattle.mea_meet.proofs.CountCalls.{point_back, full_cause}
 use Rattle.mea_meet.proofs.count_part.CountPart.cause_at.Goals as goal

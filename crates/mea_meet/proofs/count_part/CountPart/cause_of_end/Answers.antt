@@ -1,4 +1,4 @@
-use Rattle.std.proofs.Common.{None, Some, is_some, refl, ap, sym, ◌∙◌}
+use Rattle.std.proofs.Common.{is_some, ap, sym, ◌∙◌}
 use Rattle.std.specs.Option.{option_copied}
 use Rattle.mea_family.specs.Causes.{borrowed_by}
 use Rattle.mea_meet_model.specs.Counts.{borrowers_of}

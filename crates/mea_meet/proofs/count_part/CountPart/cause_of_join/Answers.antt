@@ -1,4 +1,4 @@
-use Rattle.std.proofs.Common.{None, Some, is_some, refl, ap, sym, ◌∙◌}
+use Rattle.std.proofs.Common.{None, Some, ap, sym, ◌∙◌}
 use Rattle.std.specs.Option.{option_copied}
 use Rattle.mea_meet_model.specs.CountActions.{join_cause}
 use Rattle.mea_meet.proofs.CountSites.{holder_is, look}

@@ -1,4 +1,4 @@
-use Rattle.std.proofs.Common.{None, Some, is_some, refl, ap, sym, ◌∙◌}
+use Rattle.std.proofs.Common.{None, Some, is_some, ap, sym, ◌∙◌}
 use Rattle.std.specs.Option.{option_copied}
 use Rattle.mea_meet.specs.CountParts.{core_seen}
 use Rattle.mea_meet.proofs.CountSites.{point_is}

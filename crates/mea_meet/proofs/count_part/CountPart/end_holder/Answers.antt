@@ -1,4 +1,3 @@
-use Rattle.std.proofs.Common.{refl}
 use Rattle.mea_meet.proofs.CountSites.{site, holder_there, holders_point, its, its_room, over_there}
 use Rattle.mea_meet.proofs.CountCalls.{holder_left, counted_lives, some_left, room_left}
 use Rattle.mea_meet.proofs.count_part.CountPart.end_holder.Goals as goal

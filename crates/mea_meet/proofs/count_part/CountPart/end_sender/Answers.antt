@@ -1,4 +1,3 @@
-use Rattle.std.proofs.Common.{refl}
 use Rattle.mea_meet.proofs.CountSites.{site, sender_there, senders_point, over_there}
 use Rattle.mea_meet.proofs.CountCalls.{sender_left, sender_some, room_still}
 use Rattle.mea_meet.proofs.count_part.CountPart.end_sender.Goals as goal

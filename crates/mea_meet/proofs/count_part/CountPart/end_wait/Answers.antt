@@ -1,5 +1,4 @@
-use Rattle.std.proofs.Common.{refl}
-use Rattle.mea_meet.proofs.CountSites.{site, wait_there, waits_point, its_room, over_there}
+use Rattle.mea_meet.proofs.CountSites.{site, wait_there, waits_point, over_there}
 use Rattle.mea_meet.proofs.CountCalls.{wait_left, lender_some, wait_some, room_still}
 use Rattle.mea_meet.proofs.count_part.CountPart.end_wait.Goals as goal
 

@@ -1,4 +1,4 @@
-use Rattle.mea_meet.proofs.CountSites.{site, point_there}
+use Rattle.mea_meet.proofs.CountSites.{site}
 use Rattle.mea_meet.proofs.CountCalls.{joined_by, join_there, join_room, join_point}
 use Rattle.mea_meet.proofs.count_part.CountPart.join.Goals as goal
 

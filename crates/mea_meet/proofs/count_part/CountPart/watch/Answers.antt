@@ -1,5 +1,4 @@
-use Rattle.std.proofs.lemmas.Bool.{false≢true}
-use Rattle.mea_meet.proofs.CountSites.{site, point_there}
+use Rattle.mea_meet.proofs.CountSites.{site}
 use Rattle.mea_meet.proofs.CountCalls.{watched_by, counted_there, join_point}
 use Rattle.mea_meet.proofs.count_part.CountPart.watch.Goals as goal
 

@@ -1,7 +1,8 @@
-use Rattle.std.proofs.Common.{◌≡◌, ◌+◌, arith, ap}
+use Rattle.std.proofs.Common.{◌+◌, arith, ap}
 use Rattle.mea_family.specs.Play.{Part, PartYields}
 use Rattle.mea_once_model.specs.OnceHall.{OnceHall, registered}
 use Rattle.mea_once_model.specs.Meaning.{step}
+use Rattle.mea_once.specs.Actions.{meant}
 use Rattle.mea_once.specs.Halls.{parts, hall_of, AreBelow}
 use Rattle.mea_once.proofs.Playing.{yields_all}
 use Rattle.mea_once.proofs.family.OnceFamilyFamilyOnceModel.play.Goals as goal
@@ -23,7 +24,7 @@ played : (c : In_ok-answer) → PartYields {H = OnceHall} registered (record { h
     (step (hall_of (parts c.self.inside.kinds.onces c.self.inside.kinds.values c.self.inside.kinds.maps c.self.inside.kinds.groups)) c.args.number c.args.event.now) c.in_ok-answer.answer
     (record { hall = hall_of (parts c.play.new.self.onces c.play.new.self.values c.play.new.self.maps c.play.new.self.groups); next = c.args.number + 1 }) c.args.ready.now c.play.new.ready
 played c = yields_all (parts c.self.inside.kinds.onces c.self.inside.kinds.values c.self.inside.kinds.maps c.self.inside.kinds.groups) (parts c.play.new.self.onces c.play.new.self.values c.play.new.self.maps c.play.new.self.groups)
-    c.args.ready.now c.play.new.ready c.self.inside.next c.args.number c.in_ok-answer.answer (below c) c.args.event.now c.in_ok-answer.ensures.played
+    c.args.ready.now c.play.new.ready c.self.inside.next c.args.number c.in_ok-answer.answer (below c) c.args.event.now (meant c.meaning_of.result) c.meaning_of.ensures.means c.in_ok-answer.ensures.played
 
 pub returns-clause-played : goal.returns-clause-played
 returns-clause-played c = rw (← c.self.view_is) (played (goal.at.returns-clause-played c).In_ok-answer)

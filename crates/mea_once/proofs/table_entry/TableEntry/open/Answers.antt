@@ -8,7 +8,7 @@ use Rattle.mea_once.specs.KeyEntries.{KeptTable}
 use Rattle.mea_once.proofs.table_entry.TableEntry.open.Goals as goal
 
 pub remove-requires : goal.remove-requires
-remove-requires g c = ap is_some (ap (λ (m : Names Round). get m c.args.number) c.in-Ok.ensures.ok ∙ get-there c.self.inside.rounds c.args.number c.new.result)
+remove-requires g c = ap is_some (ap (λ (m : Names Round). get m c.args.number) c.in-Ok.ensures.ok ∙ get-there c.self.inside.rounds c.args.number c.new-round.result)
 
 pub returns-in_default-insert-clause-err : goal.returns-in_default-insert-clause-err
 returns-in_default-insert-clause-err g c =
@@ -16,6 +16,6 @@ returns-in_default-insert-clause-err g c =
     (λ i. record {
       keyed = g.C.TableCore.seen_as c.self.inside.core;
       current = c.in_default-insert.ensures.err i;
-      rounds = (c.remove.ensures.rest ∙ ap (λ m. remove m c.args.number) c.in-Ok.ensures.ok ∙ put_gone c.self.inside.rounds c.args.number c.new.result ∙ gone_none c.self.inside.rounds c.args.number none) i;
+      rounds = (c.remove.ensures.rest ∙ ap (λ m. remove m c.args.number) c.in-Ok.ensures.ok ∙ put_gone c.self.inside.rounds c.args.number c.new-round.result ∙ gone_none c.self.inside.rounds c.args.number none) i;
       futures = c.self.inside.futures;
     }) ∙ c.self.view_is

@@ -1,0 +1,13 @@
+use Rattle.mea_hall.proofs.families.Families.are_valid.Goals as goal
+
+pub returns : goal.returns
+returns c = λ n low.
+    let meets = c.args.self.now.meets in
+    record {
+      semaphores = c.is_valid.ensures.valid;
+      meets = c.validity_is_kept.ensures.later meets.hall meets.next n c.is_valid-2.ensures low.meets;
+      locks = c.is_valid-3.ensures;
+      chans = c.is_valid-4.ensures;
+      shares = c.is_valid-5.ensures.valid;
+      settled = c.is_valid-5.ensures.settled;
+    }

@@ -1,0 +1,51 @@
+use Rattle.std.proofs.Common.{◌+◌, arith, ap, sym, subst, ◌∙◌}
+use Rattle.mea_family.specs.Play.{Part, PartYields}
+use Rattle.mea_meet_model.specs.Hall.{Hall, registered}
+use Rattle.mea_meet_model.specs.Cause.{cause_of}
+use Rattle.mea_meet_model.specs.Step.{step}
+use Rattle.mea_meet_model.specs.Valid.{IsValid}
+use Rattle.mea_meet.specs.Halls.{hall_of, AreBelow}
+use Rattle.mea_meet.proofs.Playing.{below_after, yields_all}
+use Rattle.mea_meet.proofs.family.MeetFamilyFamilyMeetModel.play.Goals as goal
+use Rattle.mea_meet.proofs.family.MeetFamilyFamilyMeetModel.play.Goals.{In_ok-answer}
+
+-- the parts have seen no number from that of the event on
+below : (c : In_ok-answer) → AreBelow c.self.inside.kinds.barriers c.self.inside.kinds.latches c.self.inside.kinds.groups c.self.inside.kinds.shutdowns c.args.number
+below c =
+    let held = c.self.invariant.below in
+    let next = ap (λ (p : Part Hall). p.next) c.self.view_is in
+    record {
+      barriers = omega (arith, held.barriers, next, c.requires.next);
+      latches = omega (arith, held.latches, next, c.requires.next);
+      groups = omega (arith, held.groups, next, c.requires.next);
+      shutdowns = omega (arith, held.shutdowns, next, c.requires.next);
+    }
+
+-- what was played on the parts
+played : (c : In_ok-answer) → PartYields {H = Hall} registered (record { hall = hall_of c.self.inside.kinds.barriers c.self.inside.kinds.latches c.self.inside.kinds.groups c.self.inside.kinds.shutdowns; next = c.self.inside.next }) c.args.number
+    (step (hall_of c.self.inside.kinds.barriers c.self.inside.kinds.latches c.self.inside.kinds.groups c.self.inside.kinds.shutdowns) c.args.number c.args.event.now) c.in_ok-answer.answer
+    (record { hall = hall_of c.play.new.self.barriers c.play.new.self.latches c.play.new.self.groups c.play.new.self.shutdowns; next = c.args.number + 1 }) c.args.ready.now c.play.new.ready
+played c = yields_all c.self.inside.kinds.barriers c.self.inside.kinds.latches c.self.inside.kinds.groups c.self.inside.kinds.shutdowns c.play.new.self.barriers c.play.new.self.latches c.play.new.self.groups c.play.new.self.shutdowns
+    c.args.ready.now c.play.new.ready c.self.inside.next c.args.number c.args.event.now c.in_ok-answer.answer c.in_ok-answer.ensures.played
+
+pub returns-clause-played : goal.returns-clause-played
+returns-clause-played c = rw (← c.self.view_is) (played (goal.at.returns-clause-played c).In_ok-answer)
+
+pub returns-clause-grows : goal.returns-clause-grows
+returns-clause-grows c =
+    let seen = ap (λ (p : Part Hall). registered p.hall) c.self.view_is in
+    let hall = ap (λ (p : Part Hall). registered p.hall) (played (goal.at.returns-clause-grows c).In_ok-answer).moved in
+    let law = c.wakes_are_of_the_registered.ensures.grows (hall_of c.self.inside.kinds.barriers c.self.inside.kinds.latches c.self.inside.kinds.groups c.self.inside.kinds.shutdowns) c.args.number c.args.event.now in
+    omega (arith, hall, law, seen)
+
+pub invariant_of-self-2 : goal.invariant_of-self-2
+invariant_of-self-2 c =
+    let at = (goal.at.invariant_of-self-2 c).In_ok-answer in
+    let old = hall_of c.self.inside.kinds.barriers c.self.inside.kinds.latches c.self.inside.kinds.groups c.self.inside.kinds.shutdowns in
+    let next = ap (λ (p : Part Hall). p.next) c.self.view_is in
+    record {
+      below = below_after _ _ _ _ _ _ _ _ _ _ c.args.number c.args.event.now c.in_ok-answer.answer (below at) c.in_ok-answer.ensures.played;
+      valid = subst (λ (h : Hall). IsValid h (c.args.number + 1)) (sym (ap (λ (p : Part Hall). p.hall) (played at).moved))
+          (c.validity_is_kept.ensures.event old c.self.inside.next c.args.number c.args.event.now c.self.invariant.valid (omega (arith, next, c.requires.next))
+          (ap (λ (p : Part Hall). cause_of p.hall c.args.event.now) c.self.view_is ∙ c.requires.allowed));
+    }
