@@ -1,6 +1,5 @@
 //! Works of one thread, in which nobody waits.
-use crate::fault::Fault;
-use crate::waiter::Bell;
+use mea_bench_waits::{Bell, Fault};
 use mea::End;
 use mea::mutex::Mutex;
 use mea::once::OnceCell;

@@ -1,6 +1,5 @@
 //! Two threads that take one lock from each other.
-use crate::fault::Fault;
-use crate::waiter::{Bell, Waiter};
+use mea_bench_waits::{Bell, Fault, Waiter};
 use mea::End;
 use mea::mutex::Mutex;
 use std::sync::Wait;

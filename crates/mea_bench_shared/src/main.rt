@@ -11,17 +11,15 @@
 mod across;
 mod alone;
 mod channels;
-mod fault;
 mod handoff;
 mod handover;
 mod sending;
 mod shots;
 mod tasks;
-mod waiter;
 mod work;
 
-use crate::fault::Fault;
 use crate::work::WORKS;
+use mea_bench_waits::Fault;
 use std::process::ExitCode;
 use std::random::RandomSource;
 use std::sync::Wait;

@@ -1,6 +1,5 @@
 //! One message through a oneshot channel, on one thread.
-use crate::fault::Fault;
-use crate::waiter::Bell;
+use mea_bench_waits::{Bell, Fault};
 use mea::oneshot::{Plain, channel};
 use mea_chan_core::OneshotCore;
 use std::alloc::Global;

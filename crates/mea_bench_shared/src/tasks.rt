@@ -2,7 +2,7 @@
 //! kit's tokio too.
 ghost use Rattle.std.specs.Prelude.{IfOk, IsSome};
 
-use crate::fault::Fault;
+use mea_bench_waits::Fault;
 use futures::executor::LocalPool;
 use futures::task::{Context, Poll};
 use futures::{Future, ready};

@@ -16,7 +16,7 @@ mod taking;
 mod waiting;
 
 pub use bell::Bell;
-pub use blocking::{block, block_before};
+pub use blocking::{Blocker, block, block_before};
 pub use feeding::{FeedError, Feeding, feed};
 pub use holding::{Holding, TryHolding};
 pub use initialising::{Initialising, initialise};
