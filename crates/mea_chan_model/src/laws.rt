@@ -23,7 +23,7 @@ pub fn no_wake_is_lost()
     ensures { (run : RunOf chans_family) → IsRun chans_family run → LosesNoWake chans_family run }
 {}
 
-/// An event wakes none but registered wakers, registers at most one, and none but a poll registers any.
+/// An event wakes no more wakers than were registered, registers at most one, and none but a poll registers any.
 pub fn wakes_are_of_the_registered()
     ensures most { (h : ChanHall) (i : ℕ) (e : ChanEvent) → length (step h i e).wakes ≤ registered h }
     ensures grows { (h : ChanHall) (i : ℕ) (e : ChanEvent) → registered (step h i e).hall + length (step h i e).wakes ≤ registered h + 1 }

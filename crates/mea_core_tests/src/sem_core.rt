@@ -196,8 +196,19 @@ fn queue_woken(alloc: Global, permits: usize) -> Option<(usize, Option<u64>)> {
     if core.poll(&mut Acquire::new(5), 10).is_err() {
         return None;
     }
+    if !core.wake_queue_allowed() {
+        return None;
+    }
     core.wake_queue();
     Some((core.live(), core.next_wake()))
+}
+
+// Whether all who wait may be called, where an acquire of five permits waits and all these are held.
+fn queue_is_wakeable(alloc: Global, permits: usize) -> bool {
+    let mut core: Core = SemCore::new(alloc, permits);
+    core.try_acquire(permits)
+        && core.poll(&mut Acquire::new(5), 10).is_ok()
+        && core.wake_queue_allowed()
 }
 
 // Permits that are released for those who wait alone, and a call of all of them.
@@ -213,6 +224,8 @@ fn waiters_alone(rt: HostRuntime) {
     ];
     assert_eq!(rt; differs_at(Room::new(rt.alloc(), 0), &script), None);
     assert!(rt; queue_woken(rt.alloc(), 2) == Some((5, Some(10))));
+    assert!(rt; queue_is_wakeable(rt.alloc(), usize::MAX - 5));
+    assert!(rt; !queue_is_wakeable(rt.alloc(), usize::MAX - 4));
 }
 
 // An acquire is no acquire of another core until it is renewed.

@@ -20,7 +20,7 @@ pub fn no_wake_is_lost()
     ensures { (run : RunOf locks_family) → IsRun locks_family run → LosesNoWake locks_family run }
 {}
 
-/// An event wakes none but registered wakers, registers at most one, and none but a poll registers any.
+/// An event wakes no more wakers than were registered, registers at most one, and none but a poll registers any.
 pub fn wakes_are_of_the_registered()
     ensures most { (h : LockHall) (i : ℕ) (e : LockEvent) → length (step h i e).wakes ≤ registered h }
     ensures grows { (h : LockHall) (i : ℕ) (e : LockEvent) → registered (step h i e).hall + length (step h i e).wakes ≤ registered h + 1 }

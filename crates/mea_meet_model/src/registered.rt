@@ -18,7 +18,7 @@ pub fn registers(event: &MeetEvent) -> bool
     )
 }
 
-/// An event wakes none but registered wakers and registers at most one, and none but a poll registers any.
+/// An event wakes no more wakers than were registered, registers at most one, and none but a poll registers any.
 /// A hall keeps room for the registered ones, so that to wake them takes no memory.
 pub fn wakes_are_of_the_registered()
     ensures most { (h : Hall) (i : ℕ) (e : Event) → length (step h i e).wakes ≤ registered h }

@@ -27,7 +27,7 @@ pub fn no_wake_is_lost()
     ensures { (run : RunOf onces_family) → IsRun onces_family run → LosesNoWake onces_family run }
 {}
 
-/// An event wakes none but registered wakers, registers at most one, and none but a poll registers any.
+/// An event wakes no more wakers than were registered, registers at most one, and none but a poll registers any.
 pub fn wakes_are_of_the_registered()
     ensures most { (h : OnceHall) (i : ℕ) (e : OnceEvent) → length (step h i e).wakes ≤ registered h }
     ensures grows { (h : OnceHall) (i : ℕ) (e : OnceEvent) → registered (step h i e).hall + length (step h i e).wakes ≤ registered h + 1 }

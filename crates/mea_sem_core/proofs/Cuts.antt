@@ -19,7 +19,7 @@ use Rattle.mea_sem_core.proofs.Leaves.{unqueues}
 use Rattle.mea_sem_core.proofs.Places.{entries-updated, demands_inserted}
 
 -- ---- the numbers of the queue
-abbrev first_of : List ℕ → Option ℕ
+abbrev pub first_of : List ℕ → Option ℕ
 first_of [] = None
 first_of (n ∷ ns) = Some n
 
@@ -32,7 +32,7 @@ abbrev pub rest_from : Option ℕ → List ℕ → List ℕ
 rest_from None ns = []
 rest_from (Some n) ns = from_number n ns
 
-absent_front : (front : List ℕ) (n : ℕ) (back : List ℕ) → IsDistinct (front ++ n ∷ back) → IsAbsent n front
+pub absent_front : (front : List ℕ) (n : ℕ) (back : List ℕ) → IsDistinct (front ++ n ∷ back) → IsAbsent n front
 absent_front [] n back distinct = tt
 absent_front (k ∷ ks) n back distinct = (absent_behind ks distinct.0, absent_front ks n back distinct.1)
   where
@@ -48,11 +48,11 @@ absent_both : (n : ℕ) (front back : List ℕ) → IsAbsent n front → IsAbsen
 absent_both n [] back a b = b
 absent_both n (k ∷ ks) back a b = (a.0, absent_both n ks back a.1 b)
 
-from_split : (front : List ℕ) (n : ℕ) (back : List ℕ) → IsAbsent n front → from_number n (front ++ n ∷ back) ≡ n ∷ back
+pub from_split : (front : List ℕ) (n : ℕ) (back : List ℕ) → IsAbsent n front → from_number n (front ++ n ∷ back) ≡ n ∷ back
 from_split [] n back absent = rw (test_same n n refl) refl
 from_split (k ∷ ks) n back absent = rw (test_differs k n absent.0) (from_split ks n back absent.1)
 
-rest_split : (front back : List ℕ) → IsDistinct (front ++ back) → rest_from (first_of back) (front ++ back) ≡ back
+pub rest_split : (front back : List ℕ) → IsDistinct (front ++ back) → rest_from (first_of back) (front ++ back) ≡ back
 rest_split front [] distinct = refl
 rest_split front (n ∷ back) distinct = from_split front n back (absent_front front n back distinct)
 
@@ -62,7 +62,7 @@ without_split (k ∷ ks) n back distinct =
     let absent = absent_front (k ∷ ks) n back distinct in
     rw (test_differs k n absent.0) (ap (λ js. k ∷ js) (without_split ks n back distinct.1))
 
-linked_split : (front : List ℕ) (n : ℕ) (back : List ℕ) → list_any (λ k. eqb k n) (front ++ n ∷ back) ≡ true
+pub linked_split : (front : List ℕ) (n : ℕ) (back : List ℕ) → list_any (λ k. eqb k n) (front ++ n ∷ back) ≡ true
 linked_split [] n back = rw (test_same n n refl) refl
 linked_split (k ∷ ks) n back = by_test (eqb k n) (linked_split ks n back)
   where
@@ -71,7 +71,7 @@ linked_split (k ∷ ks) n back = by_test (eqb k n) (linked_split ks n back)
     by_test false rest = rest
 
 -- what stands behind a number is the same however the order is split there
-tail_is : (order front back f b : List ℕ) (n : ℕ) → IsDistinct order → order ≡ front ++ n ∷ back → order ≡ f ++ n ∷ b → back ≡ b
+pub tail_is : (order front back f b : List ℕ) (n : ℕ) → IsDistinct order → order ≡ front ++ n ∷ back → order ≡ f ++ n ∷ b → back ≡ b
 tail_is order front back f b n distinct one two =
     let first = from_split front n back (absent_front front n back (rw one at distinct)) in
     let second = from_split f n b (absent_front f n b (rw two at distinct)) in
@@ -79,13 +79,13 @@ tail_is order front back f b n distinct one two =
     cc
 
 -- the number that `next` tells is the first behind
-next_behind : (order front back : List ℕ) (n : ℕ) (next : Option ℕ) → IsDistinct order → order ≡ front ++ n ∷ back
+pub next_behind : (order front back : List ℕ) (n : ℕ) (next : Option ℕ) → IsDistinct order → order ≡ front ++ n ∷ back
     → IfSome next (λ m. StandsBefore n m order) → IfNone next (StandsLast n order) → next ≡ first_of back
 next_behind order front back n None distinct split some last = ap first_of (sym (tail_is order front back last.0 [] n distinct split last.1))
 next_behind order front back n (Some m) distinct split some last =
     ap first_of (sym (tail_is order front back some.0 (m ∷ some.1) n distinct split some.2))
 
-first_is : (order : List ℕ) (first : Option ℕ) → IfSome first (λ n. order ≡ n ∷ drop 1 order) → IfNone first (order ≡ []) → first ≡ first_of order
+pub first_is : (order : List ℕ) (first : Option ℕ) → IfSome first (λ n. order ≡ n ∷ drop 1 order) → IfNone first (order ≡ []) → first ≡ first_of order
 first_is order None some none = ap first_of (sym none)
 first_is order (Some n) some none = ap first_of (sym some)
 
@@ -95,7 +95,7 @@ length-middle (k ∷ ks) n back = omega (arith, length-middle ks n back)
 
 module _ {W : Type 0} where
   -- ---- a queue with an acquire behind debts, and without it
-  entries-append : (slots : List (Option (WaitRecord W))) (front back : List ℕ) → entries slots (front ++ back) ≡ entries slots front ++ entries slots back
+  pub entries-append : (slots : List (Option (WaitRecord W))) (front back : List ℕ) → entries slots (front ++ back) ≡ entries slots front ++ entries slots back
   entries-append slots [] back = refl
   entries-append slots (k ∷ ks) back = ap (λ es. entry k (get_or slots k None) ∷ es) (entries-append slots ks back)
 

@@ -11,5 +11,6 @@ pub mod PourSteps
 pub mod Pours
 pub mod Sound
 pub mod Steadies
+pub mod Walks
 pub mod Ones
 pub mod Without

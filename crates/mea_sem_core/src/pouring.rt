@@ -1,6 +1,6 @@
-ghost use Rattle.std.specs.Prelude.{◌≡◌, ◌+◌, ◌-◌, ◌*◌, ◌<◌, ◌≤◌, ℕ, [], ◌∷◌, drop, length};
+ghost use Rattle.std.specs.Prelude.{◌≡◌, ◌+◌, ◌-◌, ◌*◌, ◌<◌, ◌≤◌, ℕ, [], ◌∷◌, drop, length, ◌↔◌, IsTrue};
 ghost use Rattle.mea_base.specs.Queue.{lacks};
-ghost use Rattle.mea_sem_core.specs.Core.{Waiter, paid_to_debts};
+ghost use Rattle.mea_sem_core.specs.Core.{Waiter, paid_to_debts, HasNoDebt};
 ghost use Rattle.mea_sem_core.specs.Places.{queue_of, IsQueue, PaysPart, GrantsFirst, Pours};
 ghost use Rattle.mea_base.specs.WaitList.{IsInUse};
 
@@ -116,4 +116,23 @@ pub(crate) fn pour<W: Drop, L: Ledger>(
 {
     let mut steps = Steps::<L>::new(blank);
     pour_counted(waiters, outbox, amount, &mut steps)
+}
+
+/// Whether nobody who waits owes, and all together lack at most so much. It takes no memory, and a step for
+/// each waiter.
+pub(crate) fn lack_at_most<W>(waiters: &WaitList<WaitRecord<W>>, most: usize) -> bool
+    requires { IsQueue waiters.now }
+    ensures { IsTrue result ↔ (HasNoDebt (queue_of waiters.now) × (lacks (queue_of waiters.now) ≤ most)) }
+{
+    let mut rest = most;
+    let mut next = waiters.first();
+    while let Some(number) = next {
+        let record = waiters.get(number);
+        if record.is_debt() || rest < record.lack() {
+            return false;
+        }
+        rest -= record.lack();
+        next = waiters.next(number);
+    }
+    true
 }

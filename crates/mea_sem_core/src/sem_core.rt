@@ -4,7 +4,7 @@ ghost use Rattle.std.specs.FinMap as map;
 use crate::acquire::Acquire;
 use crate::closing::cut_queue;
 use crate::open_turn::OpenTurn;
-use crate::pouring::{Poured, pour, pour_counted};
+use crate::pouring::{Poured, lack_at_most, pour, pour_counted};
 use crate::wait_record::{WaitRecord, reserve_place};
 use mea_base::{NoMemory, Outbox, Overflow, Steps, Turn, WaitList};
 use std::alloc::Global;
@@ -205,7 +205,8 @@ impl<W: Drop> SemCore<W> {
         Ok(())
     }
 
-    /// Takes `n` permits of an open semaphore if they are free, past all who wait. It takes no memory.
+    /// Takes `n` permits of an open semaphore if they are free. While anyone waits none is free, so only a demand
+    /// for none passes those who wait. It takes no memory.
     pub fn try_acquire(&mut self, n: usize) -> bool
         ensures taken { self.old.closed ≡ false → n ≤ self.old.free → (result ≡ true) × (self.new ≡ record self.old { free = self.old.free - n }) }
         ensures refused { self.old.free < n → (result ≡ false) × (self.new ≡ self.old) }
@@ -382,6 +383,14 @@ impl<W: Drop> SemCore<W> {
         );
         self.live += usize::MAX - left;
         self.paid += usize::MAX - left;
+    }
+
+    /// Whether no debt waits and what all who wait lack fits in, which `wake_queue` asks for. It takes no
+    /// memory, and a step for each who waits.
+    pub fn wake_queue_allowed(&self) -> bool
+        ensures { IsTrue result ↔ (HasNoDebt self.now.queue × (self.now.live + lacks self.now.queue ≤ usize.MAX)) }
+    {
+        lack_at_most(&self.waiters, usize::MAX - self.live)
     }
 
     /// Whether the acquire was granted, and was not polled since. It takes no memory.

@@ -21,7 +21,7 @@ pub fn no_wake_is_lost()
     ensures { (run : RunOf shares_family) → IsRun shares_family run → LosesNoWake shares_family run }
 {}
 
-/// An event wakes none but registered wakers, registers at most one, and none but a poll registers any.
+/// An event wakes no more wakers than were registered, registers at most one, and none but a poll registers any.
 pub fn wakes_are_of_the_registered()
     ensures most { (h : ShareHall) (i : ℕ) (e : ShareEvent) → length (step h i e).wakes ≤ registered h }
     ensures grows { (h : ShareHall) (i : ℕ) (e : ShareEvent) → registered (step h i e).hall + length (step h i e).wakes ≤ registered h + 1 }

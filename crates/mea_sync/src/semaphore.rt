@@ -79,7 +79,8 @@ impl<W: Wake> Semaphore<W> {
         answer
     }
 
-    /// Takes permits of an open semaphore if they are free, past all who wait. It takes no memory.
+    /// Takes permits of an open semaphore if they are free. While anyone waits none is free, so only a demand for none
+    /// passes those who wait. It takes no memory.
     pub fn try_acquire<R: Wait>(&self, rt: &R, permits: usize) -> Option<SemaphorePermit<'_, W>>
         ensures permits { IfSome result (λ permit. num_permits permit ≡ permits) }
         ensures of { IfSome result (λ permit. permit.of.now ≡ self.now) }
