@@ -1,9 +1,9 @@
 //! Messages between threads, and to many receivers.
-use mea_bench_waits::gathered::receivers_of;
-use mea_bench_waits::{Bell, Fault, Waiter};
 use mea::End;
 use mea::broadcast::overflow;
 use mea::mpsc::{BoundedReceiver, BoundedSender, bounded};
+use mea_bench_waits::gathered::receivers_of;
+use mea_bench_waits::{Bell, Fault, Waiter};
 use std::sync::Wait;
 use std::thread;
 use std::thread::Threads;

@@ -1,18 +1,15 @@
 //! Many who wait at one object, on one thread: they are all there before any goes on.
 use crate::fault::Fault;
-use crate::queued::Queued;
+use crate::queued::{Call, Turn};
 use crate::waiter::{Bell, Waiter};
-use mea::End;
-use mea::admission::{FairShare, FairSharePermit, ShareWait};
+use mea::admission::{FairShare, ShareWait};
 use mea::broadcast::overflow;
-use mea::broadcast::overflow::RecvError;
 use mea::condvar::{Condvar, CondvarWait};
 use mea::latch::{Latch, LatchWait};
-use mea::mutex::{Mutex, MutexGuard};
-use mea::singleflight::{FoldGroup, Group, GroupClaim, GroupClaiming};
-use mea::{Claimed, Kept};
+use mea::mutex::Mutex;
+use mea::singleflight::{FoldGroup, Group};
+use mea::{Claimed, End, Kept};
 use std::alloc::AllocGlobal;
-use std::hash::{BuildHasherDefault, FoldHasher};
 use std::sync::Wait;
 
 /// How many wait at a latch, and how many keys at an admission.
@@ -39,11 +36,11 @@ fn pass<R: Wait + AllocGlobal>(rt: &R, waiter: &Waiter, latch: &Latch<Bell>) -> 
     queued
 }
 
-fn await_latch<'a, R: Wait>(
-    rt: &'a R,
+fn await_latch<'r, 'a, R: Wait>(
+    rt: &'r R,
     waiter: &Waiter,
     latch: &'a Latch<Bell>,
-    queue: &mut Vec<Queued<'a, R, LatchWait<'a, Bell>, ()>>,
+    queue: &mut Vec<Kept<'r, R, LatchWait<'a, Bell>>>,
 ) -> Result<(), Fault> {
     for _ in 0..WAITERS {
         waiter.queue(rt, latch.wait(), queue)?;
@@ -76,23 +73,17 @@ fn admit<R: Wait + AllocGlobal>(
     queued
 }
 
-fn await_permit<'a, R: Wait>(
-    rt: &'a R,
+fn await_permit<'r, 'a, R: Wait>(
+    rt: &'r R,
     waiter: &Waiter,
     share: &'a FairShare<u64, Bell>,
-    queue: &mut Vec<Queued<'a, R, ShareWait<'a, u64, Bell>, FairSharePermit<'a, u64, Bell>>>,
+    queue: &mut Vec<Kept<'r, R, ShareWait<'a, u64, Bell>>>,
 ) -> Result<(), Fault> {
     for key in 1..=WAITERS {
         waiter.queue(rt, share.acquire(key)?, queue)?;
     }
     Ok(())
 }
-
-type Hash = BuildHasherDefault<FoldHasher>;
-
-type Call<'a> = GroupClaiming<'a, u64, u64, Hash, Bell>;
-
-type Turn<'a> = GroupClaim<'a, u64, u64, Hash, Bell>;
 
 /// Eight callers share a call, which the first of them computes once all are there: a round is one caller.
 pub fn flights<R: Wait + AllocGlobal>(rt: &R, rounds: u64) -> Result<(), Fault> {
@@ -119,19 +110,22 @@ fn fly<R: Wait + AllocGlobal>(
 }
 
 // The turn to compute, which is the first caller's.
-fn turn_of<'a, R: Wait, C: End>(rt: &'a R, claimed: Claimed<u64, C>) -> Result<Kept<'a, R, C>, Fault> {
+fn turn_of<'a, R: Wait, C: End>(
+    rt: &'a R,
+    claimed: Claimed<u64, C>,
+) -> Result<Kept<'a, R, C>, Fault> {
     match claimed {
         Claimed::Mine(turn) => Ok(Kept::new(rt, turn)),
         Claimed::There(_) => Err(Fault::Answer),
     }
 }
 
-fn await_value<'a, R: Wait>(
-    rt: &'a R,
+fn await_value<'r, 'a, R: Wait>(
+    rt: &'r R,
     waiter: &Waiter,
     group: &'a FoldGroup<u64, u64, Bell>,
     key: u64,
-    queue: &mut Vec<Queued<'a, R, Call<'a>, Claimed<u64, Turn<'a>>>>,
+    queue: &mut Vec<Kept<'r, R, Call<'a>>>,
 ) -> Result<(), Fault> {
     for _ in 1..CALLERS {
         waiter.queue(rt, group.claim(key), queue)?;
@@ -149,41 +143,48 @@ fn finish<R: Wait>(rt: &R, turn: Turn<'_>, value: u64) -> Result<(), Fault> {
     }
 }
 
+// A value with its lock, and where those wait who want it changed.
+#[derive(Drop)]
+struct Watched {
+    mutex: Mutex<u64, Bell>,
+    changed: Condvar<Bell>,
+}
+
 /// So many wait at one condition variable, which then tells all: a round is one that has waited.
 pub fn notified<R: Wait + AllocGlobal>(rt: &R, rounds: u64) -> Result<(), Fault> {
     let waiter = Waiter::new(rt.alloc())?;
-    let mutex = Mutex::new(rt.alloc(), 0);
-    let changed = Condvar::new(rt.alloc());
-    tell_all(rt, &waiter, &mutex, &changed, rounds)
+    let watched = Watched {
+        mutex: Mutex::new(rt.alloc(), 0),
+        changed: Condvar::new(rt.alloc()),
+    };
+    tell_all(rt, &waiter, &watched, rounds)
 }
 
 fn tell_all<R: Wait + AllocGlobal>(
     rt: &R,
     waiter: &Waiter,
-    mutex: &Mutex<u64, Bell>,
-    changed: &Condvar<Bell>,
+    watched: &Watched,
     count: u64,
 ) -> Result<(), Fault> {
     let mut queue = Vec::new(rt.alloc());
-    let queued = await_change(rt, waiter, mutex, changed, count, &mut queue);
-    changed.notify_all(rt);
+    let queued = await_change(rt, waiter, watched, count, &mut queue);
+    watched.changed.notify_all(rt);
     waiter.wait_all(rt, queue)?;
     queued
 }
 
-fn await_change<'a, R: Wait>(
-    rt: &'a R,
+fn await_change<'r, 'a, R: Wait>(
+    rt: &'r R,
     waiter: &Waiter,
-    mutex: &'a Mutex<u64, Bell>,
-    changed: &'a Condvar<Bell>,
+    watched: &'a Watched,
     count: u64,
-    queue: &mut Vec<Queued<'a, R, CondvarWait<'a, u64, Bell>, MutexGuard<'a, u64, Bell>>>,
+    queue: &mut Vec<Kept<'r, R, CondvarWait<'a, u64, Bell>>>,
 ) -> Result<(), Fault> {
     for _ in 0..count {
-        let Some(guard) = mutex.try_lock(rt) else {
+        let Some(guard) = watched.mutex.try_lock(rt) else {
             return Err(Fault::Answer);
         };
-        waiter.queue(rt, changed.wait(guard), queue)?;
+        waiter.queue(rt, watched.changed.wait(guard), queue)?;
     }
     Ok(())
 }
@@ -223,11 +224,11 @@ pub fn receivers_of<R: Wait + AllocGlobal>(
     Ok(receivers)
 }
 
-fn all_wait<'a, R: Wait + AllocGlobal>(
-    rt: &'a R,
+fn all_wait<R: Wait + AllocGlobal>(
+    rt: &R,
     waiter: &Waiter,
     sender: &overflow::Sender<u64, Bell>,
-    receivers: &'a mut [overflow::Receiver<u64, Bell>],
+    receivers: &mut [overflow::Receiver<u64, Bell>],
 ) -> Result<(), Fault> {
     let mut queue = Vec::new(rt.alloc());
     let queued = await_message(rt, waiter, receivers, &mut queue);
@@ -239,11 +240,11 @@ fn all_wait<'a, R: Wait + AllocGlobal>(
     queued
 }
 
-fn await_message<'a, R: Wait>(
-    rt: &'a R,
+fn await_message<'r, 'a, R: Wait>(
+    rt: &'r R,
     waiter: &Waiter,
     receivers: &'a mut [overflow::Receiver<u64, Bell>],
-    queue: &mut Vec<Queued<'a, R, overflow::Recv<'a, u64, Bell>, Result<u64, RecvError>>>,
+    queue: &mut Vec<Kept<'r, R, overflow::Recv<'a, u64, Bell>>>,
 ) -> Result<(), Fault> {
     for receiver in receivers.iter_mut() {
         waiter.queue(rt, receiver.recv(), queue)?;

@@ -51,7 +51,10 @@ pub fn given_up<R: Wait + RandomSource + AllocGlobal>(rt: &R, rounds: u64) -> Re
         return Err(Fault::NoMemory);
     };
     for _ in 0..rounds {
-        unpaid(rt, blocker.block_before(rt, semaphore.acquire(1), ready(())))?;
+        unpaid(
+            rt,
+            blocker.block_before(rt, semaphore.acquire(1), ready(())),
+        )?;
     }
     Ok(())
 }

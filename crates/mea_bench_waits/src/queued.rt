@@ -1,54 +1,49 @@
-ghost use Rattle.std.specs.Prelude.{◌≡◌};
+ghost use Rattle.std.proofs.Common.{rules};
 
 use crate::fault::Fault;
 use crate::waiter::{Bell, Waiter};
-use mea::admission::FairSharePermit;
-use mea::broadcast::overflow::RecvError;
+use mea::admission::{FairSharePermit, ShareWait};
+use mea::broadcast::overflow::{Recv, RecvError};
+use mea::condvar::CondvarWait;
+use mea::latch::LatchWait;
 use mea::mutex::MutexGuard;
-use mea::{Claimed, End, Polled, Unpolled, Waits};
-use std::marker::PhantomData;
+use mea::singleflight::{GroupClaim, GroupClaiming};
+use mea::{Claimed, End, Kept, Polled, Unpolled, Waits};
+use std::hash::{BuildHasherDefault, FoldHasher};
 use std::sync::Wait;
 
-/// A wait that was polled once and is pending; to drop it ends it.
-pub(crate) struct Queued<'a, R: Wait, F: Waits<Bell, O>, O> {
-    rt: &'a R,
-    wait: F,
-    output: PhantomData<O>,
-    ghost pollable: { F.Waits.can_poll wait },
+type Hash = BuildHasherDefault<FoldHasher>;
+
+/// The wait of a caller of a group.
+pub(crate) type Call<'a> = GroupClaiming<'a, u64, u64, Hash, Bell>;
+
+/// The turn to compute that it may give.
+pub(crate) type Turn<'a> = GroupClaim<'a, u64, u64, Hash, Bell>;
+
+/// A wait that may be polled whenever it is there, so that it can lie in a list.
+pub(crate) trait Lasting<O>: Waits<Bell, O> {
+    /// It may be polled.
+    ghost lasts: { (wait : Self) → can_poll wait };
 }
 
-impl<'a, R: Wait, F: Waits<Bell, O>, O> Queued<'a, R, F, O> {
-    fn new(rt: &'a R, wait: F) -> Self
-        requires { F.can_poll wait }
-    {
-        Queued {
-            rt,
-            wait,
-            output: PhantomData,
-        }
-    }
-
-    fn into_wait(self) -> F
-        ensures { F.can_poll result }
-    {
-        let Queued {
-            rt: _,
-            wait,
-            output: _,
-        } = self;
-        wait
-    }
+impl<'a> Lasting<()> for LatchWait<'a, Bell> {
+    ghost lasts = { Prim.search rules };
 }
 
-impl<'a, R: Wait, F: Waits<Bell, O>, O> Drop for Queued<'a, R, F, O> {
-    fn drop(self) {
-        let Queued {
-            rt,
-            wait,
-            output: _,
-        } = self;
-        wait.end(rt);
-    }
+impl<'a> Lasting<FairSharePermit<'a, u64, Bell>> for ShareWait<'a, u64, Bell> {
+    ghost lasts = { Prim.search rules };
+}
+
+impl<'a> Lasting<MutexGuard<'a, u64, Bell>> for CondvarWait<'a, u64, Bell> {
+    ghost lasts = { Prim.search rules };
+}
+
+impl<'a> Lasting<Claimed<u64, Turn<'a>>> for Call<'a> {
+    ghost lasts = { Prim.search rules };
+}
+
+impl<'a> Lasting<Result<u64, RecvError>> for Recv<'a, u64, Bell> {
+    ghost lasts = { Prim.search rules };
 }
 
 /// What a wait gives, where a work has no further use for it.
@@ -102,14 +97,12 @@ impl Given for Result<u64, RecvError> {
 
 impl Waiter {
     /// Polls a wait for the first time, and queues it. It is an error where it is ready at once.
-    pub(crate) fn queue<'a, R: Wait, F: Waits<Bell, O>, O: Given>(
+    pub(crate) fn queue<'a, R: Wait, F: Lasting<O>, O: Given>(
         &self,
         rt: &'a R,
         wait: F,
-        queue: &mut Vec<Queued<'a, R, F, O>>,
-    ) -> Result<(), Fault>
-        requires { F.can_poll wait }
-    {
+        queue: &mut Vec<Kept<'a, R, F>>,
+    ) -> Result<(), Fault> {
         let queued = self.polled(rt, wait)?;
         match queue.push(queued) {
             Ok(()) => Ok(()),
@@ -118,19 +111,17 @@ impl Waiter {
     }
 
     // Polls a wait for the first time, which is to be pending.
-    fn polled<'a, R: Wait, F: Waits<Bell, O>, O: Given>(
+    fn polled<'a, R: Wait, F: Lasting<O>, O: Given>(
         &self,
         rt: &'a R,
         wait: F,
-    ) -> Result<Queued<'a, R, F, O>, Fault>
-        requires { F.can_poll wait }
-    {
+    ) -> Result<Kept<'a, R, F>, Fault> {
         let Ok(bell) = self.bell() else {
             wait.end(rt);
             return Err(Fault::NoMemory);
         };
         match wait.poll(rt, bell) {
-            Ok(Polled::Pending(back)) => Ok(Queued::new(rt, back)),
+            Ok(Polled::Pending(back)) => Ok(Kept::new(rt, back)),
             Ok(Polled::Ready(output)) => {
                 output.spend(rt)?;
                 Err(Fault::Answer)
@@ -149,13 +140,13 @@ impl Waiter {
     }
 
     /// Waits for each that is queued, in their order.
-    pub(crate) fn wait_all<'a, R: Wait, F: Waits<Bell, O>, O: Given>(
+    pub(crate) fn wait_all<'a, R: Wait, F: Lasting<O>, O: Given>(
         &self,
         rt: &'a R,
-        queue: Vec<Queued<'a, R, F, O>>,
+        queue: Vec<Kept<'a, R, F>>,
     ) -> Result<(), Fault> {
         for queued in queue {
-            self.wait(rt, queued.into_wait())?.spend(rt)?;
+            self.wait(rt, queued.into_inner())?.spend(rt)?;
         }
         Ok(())
     }

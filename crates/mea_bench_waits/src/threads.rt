@@ -59,15 +59,24 @@ fn writes<R: Wait + AllocGlobal>(
     Ok(())
 }
 
+// Whose turn it is, and where the other waits for it.
+#[derive(Drop)]
+struct Turns {
+    turn: Mutex<u64, Bell>,
+    changed: Condvar<Bell>,
+}
+
 /// Two threads take turns by a condition variable: a round is one turn.
 pub fn take_turns<R: Threads + Wait + AllocGlobal + Sync>(
     rt: &R,
     rounds: u64,
 ) -> Result<(), Fault> {
-    let turn = Mutex::new(rt.alloc(), 0);
-    let changed = Condvar::new(rt.alloc());
-    alternate(rt, &turn, &changed, rounds)?;
-    if turn.into_inner() == Some(rounds) {
+    let turns = Turns {
+        turn: Mutex::new(rt.alloc(), 0),
+        changed: Condvar::new(rt.alloc()),
+    };
+    alternate(rt, &turns, rounds)?;
+    if turns.turn.into_inner() == Some(rounds) {
         Ok(())
     } else {
         Err(Fault::Answer)
@@ -76,34 +85,29 @@ pub fn take_turns<R: Threads + Wait + AllocGlobal + Sync>(
 
 fn alternate<R: Threads + Wait + AllocGlobal + Sync>(
     rt: &R,
-    turn: &Mutex<u64, Bell>,
-    changed: &Condvar<Bell>,
+    turns: &Turns,
     rounds: u64,
 ) -> Result<(), Fault> {
     let (first, second) = thread::join(
         rt,
-        || takes(rt, turn, changed, 0, rounds.div_ceil(2)),
-        || takes(rt, turn, changed, 1, rounds / 2),
+        || takes(rt, turns, 0, rounds.div_ceil(2)),
+        || takes(rt, turns, 1, rounds / 2),
     );
     first?;
     second
 }
 
-fn takes<R: Wait + AllocGlobal>(
-    rt: &R,
-    turn: &Mutex<u64, Bell>,
-    changed: &Condvar<Bell>,
-    mine: u64,
-    times: u64,
-) -> Result<(), Fault> {
+fn takes<R: Wait + AllocGlobal>(rt: &R, turns: &Turns, mine: u64, times: u64) -> Result<(), Fault> {
     let waiter = Waiter::new(rt.alloc())?;
     for _ in 0..times {
-        let guard = waiter.wait(rt, turn.lock())?;
-        let waits = changed.wait_while(guard, move |turn| *turn % 2 != mine);
+        let guard = waiter.wait(rt, turns.turn.lock())?;
+        let waits = turns
+            .changed
+            .wait_while(guard, move |turn| *turn % 2 != mine);
         let mut guard = waiter.wait(rt, waits)?;
         *guard = guard.wrapping_add(1);
         guard.end(rt);
-        changed.notify_one(rt);
+        turns.changed.notify_one(rt);
     }
     Ok(())
 }

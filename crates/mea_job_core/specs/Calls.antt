@@ -51,6 +51,7 @@ abbrev pub IsNewFor : ℕ → Option ℕ → Type 0
 IsNewFor next None = Unit {0}
 IsNewFor next (Some n) = next ≤ n
 
+-- the least number that may be given after that
 abbrev pub next_after : ℕ → Option ℕ → ℕ
 next_after next None = next
 next_after next (Some n) = n + 1
@@ -87,9 +88,11 @@ module _ {W : Type 0} where
   abbrev pub refusal_in : Record W → Option SubmitError
   refusal_in r = if r.stopped then Some submit.Stopped else if (free_of r == 0) && (len (queued_in r.jobs) == r.waiting) then Some submit.Full else None
 
+  -- how a job starts that is accepted: it runs where a permit is free, and else it is queued
   abbrev pub start_in : Record W → Start
   start_in r = if free_of r == 0 then start.Queued else start.Running
 
+  -- a submit: its number counts as given where it is refused for a reason, and else the job is accepted
   abbrev pub submits : Record W → ℕ → ℕ → ℕ → Option SubmitError → Record W
   submits r n key value (Some why) = refuses r n
   submits r n key value None = accepts r n key value
@@ -108,6 +111,7 @@ module _ {W : Type 0} where
   abbrev pub is_over_in : Record W → Poll (Unit {0})
   is_over_in r = if r.stopped && (len (running_in r.jobs) == 0) then Ready tt else Pending
 
+  -- what the counts of a service tell, read off its jobs
   abbrev pub counts_in : Record W → Counted
   counts_in r = record {
     accepted = len r.jobs;
@@ -117,6 +121,7 @@ module _ {W : Type 0} where
     returned = count_in is_returned r.jobs;
   }
 
+  -- the record after a call; a submit without memory is as one that was refused
   abbrev pub called : Record W → Call W → Record W
   called r (Submit n key value) = submits r n key value (refusal_in r)
   called r (SubmitLacking n) = refuses r n
@@ -129,6 +134,7 @@ module _ {W : Type 0} where
   called r NextWake = record r { wakes = others r.wakes }
   called r Counts = r
 
+  -- what a call answers, read off the record before it
   abbrev pub answer_in : Record W → Call W → Answer W
   answer_in r (Submit n key value) = Submits (submitted (refusal_in r) (start_in r))
   answer_in r (SubmitLacking n) = Submits (lacking (refusal_in r))
@@ -156,6 +162,7 @@ module _ {W : Type 0} where
   submits_on s n key value (Some why) = given s n
   submits_on s n key value None = after_submit s n key value
 
+  -- what a core keeps after a call; a poll of the end finds memory for its waker
   abbrev pub called_on : Service W → Call W → Service W
   called_on s (Submit n key value) = submits_on s n key value (kept.refusal_of s)
   called_on s (SubmitLacking n) = given s n
@@ -168,6 +175,7 @@ module _ {W : Type 0} where
   called_on s NextWake = record s { wakes = others s.wakes }
   called_on s Counts = s
 
+  -- what a call answers, read off what a core keeps before it
   abbrev pub answer_of : Service W → Call W → Answer W
   answer_of s (Submit n key value) = Submits (submitted (kept.refusal_of s) (start_of s.work))
   answer_of s (SubmitLacking n) = Submits (lacking (kept.refusal_of s))
@@ -180,6 +188,7 @@ module _ {W : Type 0} where
   answer_of s NextWake = Wakes (first_waker s.wakes)
   answer_of s Counts = Counts_are (counts_of s)
 
+  -- one call after the other
   abbrev pub all_called_on : Service W → List (Call W) → Service W
   all_called_on s [] = s
   all_called_on s (call ∷ calls) = all_called_on (called_on s call) calls

@@ -12,35 +12,41 @@ pub data State : Type 0 where
   Finished : ℕ → State
   Returned : State
 
+-- whether a job in this state is queued
 abbrev pub is_queued : State → Bool
 is_queued Queued = true
 is_queued Running = false
 is_queued (Finished _) = false
 is_queued Returned = false
 
+-- whether it runs
 abbrev pub is_running : State → Bool
 is_running Queued = false
 is_running Running = true
 is_running (Finished _) = false
 is_running Returned = false
 
+-- whether it was finished
 abbrev pub is_finished : State → Bool
 is_finished Queued = false
 is_finished Running = false
 is_finished (Finished _) = true
 is_finished Returned = false
 
+-- whether it was returned
 abbrev pub is_returned : State → Bool
 is_returned Queued = false
 is_returned Running = false
 is_returned (Finished _) = false
 is_returned Returned = true
 
+-- the key and the value that a job was submitted with, and its state
 pub record Job : Type 0 where
   pub key : ℕ
   pub value : ℕ
   pub state : State
 
+-- the job, in this state now
 abbrev pub in_state : Job → State → Job
 in_state job state = record job { state = state }
 
@@ -66,15 +72,19 @@ passes p (Some job) = p job.state
 abbrev pub pick : (State → Bool) → Names Job → Names Job
 pick p jobs = retain_keys jobs (λ n. passes p (get jobs n))
 
+-- what a job was submitted with
 abbrev pub submission_of : Job → Submission
 submission_of job = record { key = job.key; value = job.value }
 
+-- the jobs that are queued, as they were submitted
 abbrev pub queued_in : Names Job → Names Submission
 queued_in jobs = seen submission_of (pick is_queued jobs)
 
+-- the keys of the jobs that run
 abbrev pub running_in : Names Job → Names ℕ
 running_in jobs = seen (λ (job : Job). job.key) (pick is_running jobs)
 
+-- how many jobs are in such a state
 abbrev pub count_in : (State → Bool) → Names Job → ℕ
 count_in p jobs = count (λ (job : Job). p job.state) jobs
 
@@ -83,6 +93,7 @@ abbrev pub returned : Job → Job
 returned job = if is_queued job.state then in_state job Returned else job
 
 module _ {W : Type 0} where
+  -- a service of so many permits, places in its queue and places for results, to which nothing was submitted
   abbrev pub new_record : ℕ → ℕ → ℕ → Record W
   new_record permits waiting capacity = record { permits = permits; waiting = waiting; capacity = capacity; next = 0; jobs = empty; results = []; back = empty; stopped = false; waker = None; wakes = [] }
 
@@ -90,6 +101,7 @@ module _ {W : Type 0} where
   abbrev pub free_of : Record W → ℕ
   free_of r = r.permits - len (running_in r.jobs)
 
+  -- the job of this number is this now
   abbrev pub put : Record W → ℕ → Job → Record W
   put r n job = record r { jobs = insert r.jobs n job }
 
@@ -110,6 +122,7 @@ module _ {W : Type 0} where
   starts_one r None = r
   starts_one r (Some job) = put r job.0 (record { key = job.1.key; value = job.1.value; state = Running })
 
+  -- the next job starts, if one is queued
   abbrev pub starts : Record W → Record W
   starts r = starts_one r (next_of (queued_in r.jobs) (running_in r.jobs))
 
@@ -121,6 +134,7 @@ module _ {W : Type 0} where
       (if length r.results == r.capacity then r else tells (starts (record (put r n (in_state job (Finished result))) { results = r.results ++ (n, result) ∷ [] })))
       else r
 
+  -- the same of the job of this number, if there is one
   abbrev pub finishes : Record W → ℕ → ℕ → Record W
   finishes r n result = finishes_as r n result (get r.jobs n)
 
@@ -129,6 +143,7 @@ module _ {W : Type 0} where
   recalls_one r n None = r
   recalls_one r n (Some job) = put r n (returned job)
 
+  -- the same of the job of this number, if there is one
   abbrev pub recalls : Record W → ℕ → Record W
   recalls r n = recalls_one r n (get r.jobs n)
 
@@ -145,6 +160,7 @@ module _ {W : Type 0} where
   hands_one r None = r
   hands_one r (Some job) = record r { back = remove r.back job.0 }
 
+  -- the job with the least number, if there is one to hand back
   abbrev pub hands : Record W → Record W
   hands r = hands_one r (first_in (entries r.back))
 

@@ -27,6 +27,7 @@ pub record Service (W : Type 0) : Type 0 where
   pub waker : Option W
   pub wakes : List W
 
+-- what lets a `Service` be the value of a model
 abbrev pub service_code : {W : Type 0} → Coded W → Coded (Service W)
 service_code {W} w =
     code_by (Work × (ℕ × (ℕ × (ℕ × (List (ℕ × ℕ) × (ℕ × (ℕ × (Option W × List W))))))))
@@ -40,10 +41,11 @@ abbrev pub first_waker : {W : Type 0} → List W → Option W
 first_waker [] = None
 first_waker (w ∷ ws) = Some w
 
--- the job is queued; it runs
+-- a job of this number is queued
 abbrev pub is_queued : {W : Type 0} → Service W → ℕ → Bool
 is_queued s n = is_some (get s.work.queued n)
 
+-- a job of this number runs
 abbrev pub is_running : {W : Type 0} → Service W → ℕ → Bool
 is_running s n = is_some (get s.work.running n)
 
@@ -58,11 +60,12 @@ abbrev pub RefusedBy : Option SubmitError → SubmitError → Type 0
 RefusedBy (Some why) e = e ≡ why
 RefusedBy None e = e ≡ submit.NoMemory
 
--- the oldest of some results, and the others
+-- the oldest of some results
 abbrev pub oldest : List (ℕ × ℕ) → Option (ℕ × ℕ)
 oldest [] = None
 oldest (e ∷ rest) = Some e
 
+-- all results but the oldest
 abbrev pub younger : List (ℕ × ℕ) → List (ℕ × ℕ)
 younger [] = []
 younger (e ∷ rest) = rest
@@ -73,6 +76,7 @@ value_of None = Err (record {})
 value_of (Some submission) = Ok submission.value
 
 module _ {W : Type 0} where
+  -- a service of so many permits, places in its queue and places for results, to which nothing was submitted
   abbrev pub new_service : ℕ → ℕ → ℕ → Service W
   new_service permits waiting capacity = record { work = new_work permits; waiting = waiting; capacity = capacity; next = 0; results = []; finished = 0; returned = 0; waker = None; wakes = [] }
 
@@ -101,6 +105,7 @@ module _ {W : Type 0} where
 
   -- ---- finish
 
+  -- as many results wait to be taken as may
   abbrev pub is_full : Service W → Bool
   is_full s = length s.results == s.capacity
 
@@ -112,11 +117,13 @@ module _ {W : Type 0} where
   abbrev pub with_result : Service W → ℕ → ℕ → Service W
   with_result s n result = told (record s { work = ended s.work n; results = s.results ++ (n, result) ∷ []; finished = s.finished + 1 })
 
+  -- what a finish leaves: nothing changes where the job does not run or the results are full
   abbrev pub after_finish : Service W → ℕ → ℕ → Service W
   after_finish s n result = if is_running s n then (if is_full s then s else with_result s n result) else s
 
   -- ---- recall
 
+  -- the value of the job where it is queued, and else that it is unknown
   abbrev pub recall_answer : Service W → ℕ → Result ℕ UnknownJob
   recall_answer s n = value_of (get s.work.queued n)
 
@@ -130,6 +137,7 @@ module _ {W : Type 0} where
   abbrev pub take_answer : Service W → Option (ℕ × ℕ)
   take_answer s = oldest s.results
 
+  -- that result is taken
   abbrev pub after_take : Service W → Service W
   after_take s = record s { results = younger s.results }
 
@@ -143,11 +151,13 @@ module _ {W : Type 0} where
   abbrev pub back_answer : Service W → Option (ℕ × ℕ)
   back_answer s = first_back s.work
 
+  -- that job is handed back
   abbrev pub after_back : Service W → Service W
   after_back s = record s { work = handed s.work }
 
   -- ---- counts
 
+  -- the counts of a service: a job that was accepted is queued, runs, was finished or was returned
   abbrev pub counts_of : Service W → Counts
   counts_of s = record {
     accepted = len s.work.running + len s.work.queued + s.finished + s.returned;

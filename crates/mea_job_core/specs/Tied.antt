@@ -15,6 +15,7 @@ use Rattle.mea_job_core.specs.Work.{Submission, Work, running_of, next_of}
 abbrev pub submission_of : Waiting → Submission
 submission_of x = record { key = x.key; value = x.value }
 
+-- what the waiting jobs ask for, by number
 abbrev pub submissions : Names Waiting → Names Submission
 submissions q = seen submission_of q
 
@@ -41,6 +42,7 @@ pub record IsQueued (q : Names Waiting) (k n m : ℕ) : Type 0 where
   pub key : job.key ≡ k
   pub stage : job.stage ≡ Queued n
 
+-- the jobs that are queued, with their acquires, and those that run are those that fair admission has
 pub record AreTied (es : List (ℕ × Share ℕ)) (next : ℕ) (q : Names Waiting) (r : Names ℕ) : Type 0 where
   pub numbered : AreNumbered nat_eq next es
   pub counted : (k : ℕ) → IsCounted (share_in nat_eq es k) (running_of r k)
@@ -87,6 +89,7 @@ pub record EndsBy (next : Option (ℕ × Submission)) (q : Names Waiting) (r : N
   pub none : next ≡ None → (q' ≡ q) × (r' ≡ r)
   pub some : (job : ℕ × Submission) → next ≡ Some job → (q' ≡ remove q job.0) × (r' ≡ insert r job.0 job.1.key)
 
+-- a running job is over, and the next of those that are queued starts, if there is one
 abbrev pub EndsJob : Names Waiting → Names ℕ → ℕ → Names Waiting → Names ℕ → Type 0
 EndsJob q r m q' r' = EndsBy (next_of (submissions q) (remove r m)) q (remove r m) q' r'
 

@@ -11,6 +11,7 @@ pub record Submission : Type 0 where
   pub key : ℕ
   pub value : ℕ
 
+-- what lets a `Submission` be a part of a model's value
 abbrev pub submission_code : Coded Submission
 submission_code = code_by (ℕ × ℕ) (coded× coded_ℕ coded_ℕ) (λ r. (r.key, r.value)) (λ p. record { key = p.0; value = p.1 }) (λ _. refl)
 
@@ -23,6 +24,7 @@ pub record Work : Type 0 where
   pub back : Names ℕ
   pub stopped : Bool
 
+-- what lets a `Work` be the value of a model
 abbrev pub work_code : Coded Work
 work_code =
     code_by (ℕ × (Names Submission × (Names ℕ × (Names ℕ × Bool)))) (coded× coded_ℕ (coded× (names_code submission_code) (coded× (names_code coded_ℕ) (coded× (names_code coded_ℕ) coded_bool))))
@@ -39,10 +41,12 @@ starts_before running a b =
     nat_lt (running_of running a.1.key) (running_of running b.1.key)
     || ((running_of running a.1.key == running_of running b.1.key) && nat_lt a.0 b.0)
 
+-- the one of two jobs that starts before the other, where the second is there
 abbrev pub sooner : Names ℕ → ℕ × Submission → Option (ℕ × Submission) → Option (ℕ × Submission)
 sooner running a None = Some a
 sooner running a (Some b) = if starts_before running b a then Some b else Some a
 
+-- the one of a list that starts before all others
 abbrev pub soonest : Names ℕ → List (ℕ × Submission) → Option (ℕ × Submission)
 soonest running [] = None
 soonest running (a ∷ rest) = sooner running a (soonest running rest)
@@ -55,13 +59,15 @@ next_of queued running = soonest running (entries queued)
 abbrev pub new_work : ℕ → Work
 new_work permits = record { permits = permits; queued = empty; running = empty; back = empty; stopped = false }
 
+-- how many permits are free
 abbrev pub free_of : Work → ℕ
 free_of w = w.permits - len w.running
 
--- a job is accepted: it runs where a permit is free, and else it is queued
+-- how a job starts that is accepted: it runs where a permit is free, and else it is queued
 abbrev pub start_of : Work → Start
 start_of w = if free_of w == 0 then Queued else Running
 
+-- the jobs with one more, which was accepted
 abbrev pub accepted : Work → ℕ → ℕ → ℕ → Work
 accepted w n key value = if free_of w == 0 then record w { queued = insert w.queued n (record { key = key; value = value }) } else record w { running = insert w.running n key }
 
@@ -70,17 +76,20 @@ abbrev pub started : Work → Option (ℕ × Submission) → Work
 started w None = w
 started w (Some job) = record w { queued = remove w.queued job.0; running = insert w.running job.0 job.1.key }
 
+-- the number of a job, if there is one
 abbrev pub number_in : Option (ℕ × Submission) → Option ℕ
 number_in None = None
 number_in (Some job) = Some job.0
 
--- a running job is over, and the next starts
+-- a running job is over
 abbrev pub without : Work → ℕ → Work
 without w n = record w { running = remove w.running n }
 
+-- who starts once the job of this number is over
 abbrev pub next_after : Work → ℕ → Option (ℕ × Submission)
 next_after w n = next_of w.queued (remove w.running n)
 
+-- a running job is over, and the next one has started
 abbrev pub ended : Work → ℕ → Work
 ended w n = started (without w n) (next_after w n)
 
@@ -97,9 +106,11 @@ abbrev pub first_in : {X : Type 0} → List (ℕ × X) → Option (ℕ × X)
 first_in [] = None
 first_in (e ∷ es) = Some e
 
+-- the first job to hand back, with its value
 abbrev pub first_back : Work → Option (ℕ × ℕ)
 first_back w = first_in (entries w.back)
 
+-- this job is handed back, if there is one
 abbrev pub handed_of : Work → Option (ℕ × ℕ) → Work
 handed_of w None = w
 handed_of w (Some e) = record w { back = remove w.back e.0 }
@@ -113,6 +124,7 @@ pub record Kept : Type 0 where
   pub seen : Work
   pub asked : ℕ
 
+-- what lets a `Kept` be the value of a model
 abbrev pub kept_code : Coded Kept
 kept_code = code_by (Work × ℕ) (coded× work_code coded_ℕ) (λ k. (k.seen, k.asked)) (λ p. record { seen = p.0; asked = p.1 }) (λ _. refl)
 

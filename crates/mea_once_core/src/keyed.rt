@@ -1,6 +1,6 @@
 ghost use Rattle.mea_once_core.specs.Table.{entry_at};
 ghost use Rattle.mea_once_core.specs.Links.{Shown};
-ghost use Rattle.std.specs.Prelude.{◌≡◌, ◌<◌, ◌++◌, ◌∷◌, IfNone, ℕ, ◌+◌, ◌-◌, ◌≤◌, ◌^◌, cond, ◌↔◌, IsTrue, IsSome, IfOk, IfErr, IfSome, OnOk, OnErr, IsOk, length, Some, None, Ok, []};
+ghost use Rattle.std.specs.Prelude.{◌≡◌, ◌<◌, ◌++◌, ◌∷◌, IfNone, ℕ, ◌+◌, ◌-◌, ◌≤◌, ◌^◌, cond, ◌↔◌, IsTrue, IsSome, IfOk, IfErr, IfSome, OnOk, OnErr, IsOk, MatchResult, length, Some, None, Ok, []};
 
 use crate::cell_stage::CellStage;
 use crate::init::Init;
@@ -103,6 +103,7 @@ impl<K: Eq + Hash + Drop, V: Clone, S: BuildHasher + Drop, W: Drop> Keyed<K, V, 
         requires may { MayPollKey K.eq self.old call.old }
         requires init { MayRun I.may_poll call.old }
         ensures again { MayRun I.may_poll call.new }
+        ensures pending { IfOk result (λ poll. poll ≡ Poll.Pending → I.may_poll call.new.call.init) }
         ensures polls { PollsKey I.answers K.eq once self.old call.old waker result self.new call.new }
         ensures back { IfErr result (λ failed. IfSome failed.0 (λ _. IsSameKeyed K.eq self.old self.new × (call.new ≡ call.old))) }
         ensures returned { ((value : V) → V.is_infallible value) → IfErr result (λ failed. IsSome failed.0) }
@@ -114,6 +115,29 @@ impl<K: Eq + Hash + Drop, V: Clone, S: BuildHasher + Drop, W: Drop> Keyed<K, V, 
             KeyStage::Kept { number } => self.hand_out(call, number, waker),
             KeyStage::Done => unreachable!(),
         }
+    }
+
+    // Polls a call that is one of this table, and of any other the initialiser alone.
+    pub(crate) fn poll_checked<E: Drop, I: Init<V, E, W>>(
+        &mut self,
+        call: &mut KeyCall<K, I>,
+        waker: W,
+        once: bool,
+    ) -> Result<Poll<Result<V, E>>, (Option<W>, NoMemory)>
+        requires clones { (x y : V) → V.is_clone x y → y ≡ x }
+        requires init { I.may_poll call.old.call.init }
+        ensures again { MayPollKey K.eq self.old call.old → MayRun I.may_poll call.new }
+        ensures pending { IfOk result (λ poll. poll ≡ Poll.Pending → I.may_poll call.new.call.init) }
+        ensures allowed { MayPollKey K.eq self.old call.old → PollsKey I.answers K.eq once self.old call.old waker result self.new call.new }
+        ensures alone { ¬ MayPollKey K.eq self.old call.old → (self.new ≡ self.old) × MatchResult result (λ poll. I.answers call.old.call.init waker poll call.new.call.init) (λ _. ⊥) }
+        ensures back { IfErr result (λ failed. IfSome failed.0 (λ _. IsSameKeyed K.eq self.old self.new × (call.new ≡ call.old))) }
+        ensures returned { ((value : V) → V.is_infallible value) → IfErr result (λ failed. IsSome failed.0) }
+        ensures no_memory { ((value : V) → V.is_infallible value) → OnErr result (TakesMemory K.eq self.old call.old) }
+    {
+        if self.may_poll(call) {
+            return self.poll(call, waker, once);
+        }
+        Ok(call.poll_alone(waker))
     }
 
     // The first poll: it finds the key's entry or makes one, and is a caller of it then.
@@ -128,6 +152,7 @@ impl<K: Eq + Hash + Drop, V: Clone, S: BuildHasher + Drop, W: Drop> Keyed<K, V, 
         requires new { (key : K) × (call.old.stage ≡ KeyStage.New key) }
         requires init { MayRun I.may_poll call.old }
         ensures again { MayRun I.may_poll call.new }
+        ensures pending { IfOk result (λ poll. poll ≡ Poll.Pending → I.may_poll call.new.call.init) }
         ensures polls { PollsKey I.answers K.eq once self.old call.old waker result self.new call.new }
         ensures back { IfErr result (λ failed. IfSome failed.0 (λ _. IsSameKeyed K.eq self.old self.new × (call.new ≡ call.old))) }
         ensures returned { ((value : V) → V.is_infallible value) → IfErr result (λ failed. IsSome failed.0) }
@@ -156,6 +181,7 @@ impl<K: Eq + Hash + Drop, V: Clone, S: BuildHasher + Drop, W: Drop> Keyed<K, V, 
         requires new { call.old.call.stage ≡ stages.New }
         requires init { I.may_poll call.old.call.init }
         ensures again { MayRun I.may_poll call.new }
+        ensures pending { IfOk result (λ poll. poll ≡ Poll.Pending → I.may_poll call.new.call.init) }
         ensures starts { (e : Shown V W) → entry_at self.old.table number ≡ Some e → StartsAt I.answers K.eq once self.old key number e call.old.call waker result self.new call.new.call call.new.stage }
         ensures back { IfErr result (λ failed. IfSome failed.0 (λ _. IsSameKeyed K.eq self.old self.new × (call.new ≡ record call.old { stage = KeyStage.New key }))) }
         ensures returned { ((value : V) → V.is_infallible value) → IfErr result (λ failed. IsSome failed.0) }
@@ -189,6 +215,7 @@ impl<K: Eq + Hash + Drop, V: Clone, S: BuildHasher + Drop, W: Drop> Keyed<K, V, 
         requires there { IsSome (entry_at self.old.table number) }
         requires init { I.may_poll call.old.call.init }
         ensures again { MayRun I.may_poll call.new }
+        ensures pending { IfOk result (λ poll. poll ≡ Poll.Pending → I.may_poll call.new.call.init) }
         ensures hands { IfSome (entry_at self.old.table number) (λ e. HandsFirst key call.old.call waker e result call.new.call call.new.stage) }
         ensures same { self.new ≡ self.old }
         ensures back { IfErr result (λ failed. (failed.0 ≡ Some waker) × (call.new ≡ record call.old { stage = KeyStage.New key })) }
@@ -215,6 +242,7 @@ impl<K: Eq + Hash + Drop, V: Clone, S: BuildHasher + Drop, W: Drop> Keyed<K, V, 
         requires new { call.old.call.stage ≡ stages.New }
         requires init { I.may_poll call.old.call.init }
         ensures again { MayRun I.may_poll call.new }
+        ensures pending { IfOk result (λ poll. poll ≡ Poll.Pending → I.may_poll call.new.call.init) }
         ensures starts { StartsNew I.answers K.eq once self.old key call.old.call waker result self.new call.new.call call.new.stage }
         ensures back { IfErr result (λ failed. IfSome failed.0 (λ _. IsSameKeyed K.eq self.old self.new × (call.new ≡ record call.old { stage = KeyStage.New key }))) }
         ensures returned { ((value : V) → V.is_infallible value) → IfErr result (λ failed. IsSome failed.0) }
@@ -254,6 +282,7 @@ impl<K: Eq + Hash + Drop, V: Clone, S: BuildHasher + Drop, W: Drop> Keyed<K, V, 
         requires stage { call.old.stage ≡ KeyStage.Calls number }
         requires init { I.may_poll call.old.call.init }
         ensures again { MayRun I.may_poll call.new }
+        ensures pending { IfOk result (λ poll. poll ≡ Poll.Pending → I.may_poll call.new.call.init) }
         ensures polls { (e : Shown V W) → entry_at self.old.table number ≡ Some e → PollsCaller I.answers K.eq once self.old number e call.old.call waker result self.new call.new.call call.new.stage }
         ensures back { IfErr result (λ failed. IfSome failed.0 (λ _. IsSameKeyed K.eq self.old self.new × (call.new ≡ call.old))) }
         ensures returned { ((value : V) → V.is_infallible value) → IfErr result (λ failed. IsSome failed.0) }
@@ -288,6 +317,7 @@ impl<K: Eq + Hash + Drop, V: Clone, S: BuildHasher + Drop, W: Drop> Keyed<K, V, 
         requires init { answer ≡ Poll.Pending → I.may_poll call.old.call.init }
         requires filled { answer ≡ Poll.Ready (Ok tt) → IfSome (entry_at self.old.table number) (λ e. IsSome e.cell.value) }
         ensures again { MayRun I.may_poll call.new }
+        ensures pending { IfOk result (λ poll. poll ≡ Poll.Pending → I.may_poll call.new.call.init) }
         ensures told { (e : Shown V W) → entry_at self.old.table number ≡ Some e → AfterCellPoll K.eq once (Ok answer) self.old number e result self.new call.new.stage }
         ensures call { call.new.call ≡ call.old.call }
         ensures kept { IfErr result (λ failed. failed.0 ≡ None) }
@@ -324,6 +354,7 @@ impl<K: Eq + Hash + Drop, V: Clone, S: BuildHasher + Drop, W: Drop> Keyed<K, V, 
         requires kept { (e : Shown V W) × (entry_at self.old.table number ≡ Some e) × (1 ≤ e.callers) × IsSome e.cell.value }
         requires stage { call.old.stage ≡ KeyStage.Kept number }
         ensures again { MayRun I.may_poll call.new }
+        ensures pending { IfOk result (λ poll. poll ≡ Poll.Pending → I.may_poll call.new.call.init) }
         ensures handed { (e : Shown V W) → entry_at self.old.table number ≡ Some e → HandsOut K.eq (Some waker) (KeyStage.Kept number) self.old number e result self.new call.new.stage }
         ensures call { call.new.call ≡ call.old.call }
         ensures back { IfErr result (λ failed. (failed.0 ≡ Some waker) × (self.new ≡ self.old) × (call.new ≡ call.old)) }

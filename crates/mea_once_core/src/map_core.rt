@@ -79,6 +79,7 @@ impl<K: Eq + Hash + Drop, V: Clone, S: BuildHasher + Drop, W: Drop> MapCore<K, V
         requires may { MayPollKey K.eq self.old call.old }
         requires init { MayRun I.may_poll call.old }
         ensures again { MayRun I.may_poll call.new }
+        ensures pending { IfOk result (λ poll. poll ≡ Poll.Pending → I.may_poll call.new.call.init) }
         ensures polls { PollsKey I.answers K.eq false self.old call.old waker result self.new call.new }
         ensures back { IfErr result (λ failed. IfSome failed.0 (λ _. IsSameKeyed K.eq self.old self.new × (call.new ≡ call.old))) }
         ensures returned { ((value : V) → V.is_infallible value) → IfErr result (λ failed. IsSome failed.0) }
@@ -145,14 +146,15 @@ impl<K: Eq + Hash + Drop, V: Clone, S: BuildHasher + Drop, W: Drop> MapCore<K, V
     ) -> Result<Poll<Result<V, E>>, (Option<W>, NoMemory)>
         requires clones { (x y : V) → V.is_clone x y → y ≡ x }
         requires init { I.may_poll call.old.call.init }
+        ensures again { MayPollKey K.eq self.old call.old → MayRun I.may_poll call.new }
+        ensures pending { IfOk result (λ poll. poll ≡ Poll.Pending → I.may_poll call.new.call.init) }
         ensures allowed { MayPollKey K.eq self.old call.old → PollsKey I.answers K.eq false self.old call.old waker result self.new call.new }
         ensures alone { ¬ MayPollKey K.eq self.old call.old → (self.new ≡ self.old) × MatchResult result (λ poll. I.answers call.old.call.init waker poll call.new.call.init) (λ _. ⊥) }
+        ensures back { IfErr result (λ failed. IfSome failed.0 (λ _. IsSameKeyed K.eq self.old self.new × (call.new ≡ call.old))) }
+        ensures returned { ((value : V) → V.is_infallible value) → IfErr result (λ failed. IsSome failed.0) }
         ensures no_memory { ((value : V) → V.is_infallible value) → OnErr result (TakesMemory K.eq self.old call.old) }
     {
-        if self.poll_compute_allowed(call) {
-            return self.poll_compute(call, waker);
-        }
-        Ok(call.poll_alone(waker))
+        self.keyed.poll_checked(call, waker, false)
     }
 
     /// Whether the call is one of this core, which `end_compute` asks for. It takes no memory.

@@ -21,6 +21,7 @@ pub record Gate (W : Type 0) : Type 0 where
   pub told : map.FinMap nat_cmp Bool
   pub wakes : List W
 
+-- what lets a `Gate` be the value of a model
 abbrev pub gate_code : {W : Type 0} → Coded W → Coded (Gate W)
 gate_code {W} code =
     code_by
@@ -34,11 +35,13 @@ gate_code {W} code =
 abbrev pub IsListed : {W : Type 0} → List (ℕ × W) → map.FinMap nat_cmp Bool → ℕ → Type 0
 IsListed waiting told n = IsSome (waker_under waiting n) ⊎ IsSome (map.get told n)
 
+-- a wait that may be polled: a new one, or one that stands here
 abbrev pub MayPollAt : {W : Type 0} → List (ℕ × W) → map.FinMap nat_cmp Bool → DrainWait → Type 0
 MayPollAt waiting told New = Unit {0}
 MayPollAt waiting told (Listed n) = IsListed waiting told n
 MayPollAt waiting told Done = ⊥
 
+-- a wait that may be ended: the same, or one that is over
 abbrev pub MayEndAt : {W : Type 0} → List (ℕ × W) → map.FinMap nat_cmp Bool → DrainWait → Type 0
 MayEndAt waiting told New = Unit {0}
 MayEndAt waiting told (Listed n) = IsListed waiting told n

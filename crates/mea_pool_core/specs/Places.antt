@@ -25,6 +25,7 @@ pub record Places (W : Type 0) : Type 0 where
   pub closed : Bool
   pub wakes : List W
 
+-- what lets a `Places` be the value of a model
 abbrev pub places_code : {W : Type 0} → Coded W → Coded (Places W)
 places_code {W} code =
     code_by
@@ -63,6 +64,7 @@ module _ {W : Type 0} where
   leases_of ((Acquires number demand waker, lack) ∷ q) = (number, waker) ∷ leases_of q
   leases_of ((Owes, lack) ∷ q) = leases_of q
 
+  -- the places that a semaphore stands for, one for each permit
   abbrev pub places_of : Core W → Places W
   places_of s = record { size = s.live; held = held_of s; waiting = leases_of s.queue; granted = s.granted; cut = s.cut; closed = s.closed; wakes = s.wakes }
 
@@ -124,6 +126,7 @@ module _ {W : Type 0} where
   place_for [] s = s
   place_for (first ∷ rest) s = record s { waiting = rest; granted = map.insert s.granted first.0 1; wakes = s.wakes ++ first.1 ∷ [] }
 
+  -- the same, by who waits now
   abbrev pub with_place : Places W → Places W
   with_place s = place_for s.waiting s
 

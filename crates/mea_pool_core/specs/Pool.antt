@@ -66,6 +66,7 @@ module _ {R W : Type 0} where
   passed_for [] p = p
   passed_for (first ∷ rest) p = record p { waiting = rest; granted = map.insert p.granted first.0 1; wakes = p.wakes ++ first.1 ∷ [] }
 
+  -- a place that becomes free goes on, and where that drains the pool, who waits for its end is told
   abbrev pub passed_on : Pool R W → Pool R W
   passed_on p = settled (passed_for p.waiting p)
 

@@ -23,6 +23,7 @@ pub record History : Type 0 where
   pub line : List (ℕ × ℕ)
   pub granted : List ℕ
 
+-- nobody has asked
 abbrev pub nothing_yet : History
 nothing_yet = record { out = []; asked = 0; line = []; granted = [] }
 
@@ -79,6 +80,7 @@ abbrev pub AllAbove : ℕ → List ℕ → Type 0
 AllAbove n [] = Unit {0}
 AllAbove n (m ∷ ms) = (n < m) × AllAbove n ms
 
+-- each number is below all that follow it
 abbrev pub IsRising : List ℕ → Type 0
 IsRising [] = Unit {0}
 IsRising (n ∷ ns) = AllAbove n ns × IsRising ns

@@ -80,6 +80,19 @@ goes_line m s t start p q r now end after rest bytes written room first second t
     goes_further start _ _ first second third (goes_alike start _ _ first second line so_far)
     (goes_written m t q r (0 + (length after + room)) ([] ++ (after ++ bytes)) written second third lines split wrote)
 
+-- some of what is kept was written, and nothing more can be told
+pub ends_in_part : (start next : Told) (own before : List ℕ) (first second third : Option (List ℕ)) (status : Status) (text : List ℕ) → GoesOn start (with_text own next) first second
+    → IsFault status → text ≡ [] → ((b : List ℕ) → second ≡ Some b → HasWrittenPart own b third) → first ≡ Some before → Ends status start.text before third text
+ends_in_part start next own before first second third status text g fault none wrote is =
+    let part = wrote (before ++ g.written) (g.taken before is) in
+    ends_later start (with_text own next) status before first second third text g (record {
+      written = part.0;
+      rest = part.1 ++ next.text;
+      took = part.3;
+      front = ap (λ t. t ++ next.text) part.2 ∙ append_assoc part.0 part.1 next.text ∙ ap (λ t. part.0 ++ (t ++ (part.1 ++ next.text))) (sym none);
+      ended = inl fault;
+    })
+
 -- a line was played, and its reply written in part
 pub ends_line : {S E : Type 0} (m : Rules S E) (s t : S) (start : Told) (p q : Player) (now end after rest bytes before : List ℕ) (room : ℕ) (first second third : Option (List ℕ)) (status : Status) (text : List ℕ)
     → GoesOn start (due m s p (length now + (length rest + room)) (now ++ (rest ++ bytes))) first second
@@ -87,20 +100,12 @@ pub ends_line : {S E : Type 0} (m : Rules S E) (s t : S) (start : Told) (p q : P
     → ((long : Bool) (lines : List (List ℕ)) → due_from m s p long ((now ++ end) ∷ lines) ≡ due_from m t q long lines)
     → IsFault status → text ≡ [] → ((b : List ℕ) → second ≡ Some b → HasWrittenPart q.text.items b third) → first ≡ Some before
     → Ends status start.text before third text
-ends_line m s t start p q now end after rest bytes before room first second third status text so_far cuts unended played fault none wrote is =
+ends_line m s t start p q now end after rest bytes before room first second third status text so_far cuts unended played =
     let next : Told = told_from m (nat_lt (length after + room) (length (after ++ bytes))) t q.lines (lines_left (length after + room) (after ++ bytes)) in
     let line : due m s p (length now + (length rest + room)) (now ++ (rest ++ bytes)) ≡ with_text q.text.items next =
     due_first m s p now end after rest bytes room cuts unended
     ∙ played (nat_lt (length after + room) (length (after ++ bytes))) (lines_left (length after + room) (after ++ bytes)) in
-    let g = goes_alike start _ _ first second line so_far in
-    let part = wrote (before ++ g.written) (g.taken before is) in
-    ends_later start (with_text q.text.items next) status before first second third text g (record {
-      written = part.0;
-      rest = part.1 ++ next.text;
-      took = part.3;
-      front = ap (λ t. t ++ next.text) part.2 ∙ append_assoc part.0 part.1 next.text ∙ ap (λ t. part.0 ++ (t ++ (part.1 ++ next.text))) (sym none);
-      ended = inl fault;
-    })
+    ends_in_part start next q.text.items before first second third status text (goes_alike start _ _ first second line so_far)
 
 -- a line ended the script
 module _ {S E : Type 0} (m : Rules S E) (s : S) (start : Told) (p : Player) (now end after rest bytes : List ℕ) (room : ℕ) (first second : Option (List ℕ))

@@ -48,8 +48,8 @@ impl Player {
         }
     }
 
-    /// Plays the lines that end in this piece, and writes the text of their replies where it is much. An error
-    /// is how the script ends; of its text only what is kept is not yet written.
+    /// Plays the lines that end in this piece, and writes the text of their replies. An error is how the script
+    /// ends; of its text only what is kept is not yet written.
     pub fn play<M: Machine, K: Sink>(
         &mut self,
         machine: &mut M,
@@ -61,6 +61,7 @@ impl Player {
         ensures few { OnOk result (self.new.lines ≤ self.old.lines + length piece.now) }
         ensures stands { OnOk result (M.stands_at machine.new self.new.lines) }
         ensures counted { OnOk result (self.new.lines ≡ self.old.lines + lines_ended piece.now) }
+        ensures kept { OnOk result (self.new.text.items ≡ []) }
         ensures line { IfErr result (λ status. (n : ℕ) → line_of status ≡ Some n → self.old.lines ≤ n) }
         ensures goes_on { OnOk result ((line bytes : List ℕ) (room : ℕ) → Keeps self.old.begun line → IsUnended line
             → (next : List ℕ) × Keeps self.new.begun next × IsUnended next
@@ -81,6 +82,7 @@ impl Player {
             self.write_full(sink)?;
             rest = after;
         }
+        self.write_kept(sink)?;
         match self.begun.add(rest) {
             Ok(()) => Ok(()),
             Err(_) => Err(Status::NoMemory),
@@ -277,6 +279,19 @@ impl Player {
         if self.text.len() < FULL {
             return Ok(());
         }
+        self.write_kept(sink)
+    }
+
+    // Writes the text that is kept. Nothing is kept after it.
+    fn write_kept<K: Sink>(&mut self, sink: &mut K) -> Result<(), Status>
+        ensures lines { self.new.lines ≡ self.old.lines }
+        ensures begun { self.new.begun ≡ self.old.begun }
+        ensures kept { self.new.text.items ≡ [] }
+        ensures written { OnOk result ((written : List ℕ) × (self.old.text.items ≡ written ++ self.new.text.items) × ((before : List ℕ) → K.taken sink.old ≡ Some before → HasWritten written before (K.taken sink.new))) }
+        ensures part { OnErr result ((self.new.text.items ≡ []) × ((before : List ℕ) → K.taken sink.old ≡ Some before → HasWrittenPart self.old.text.items before (K.taken sink.new))) }
+        ensures fault { IfErr result (λ status. (status ≡ Status.NoMemory) ⊎ ((status ≡ Status.WriteFault) × Rose (K.faults sink.old) (K.faults sink.new))) }
+        ensures faults { K.faults sink.old ≤ K.faults sink.new }
+    {
         let written = write_text(sink, self.text.as_slice());
         self.text.clear();
         match written {

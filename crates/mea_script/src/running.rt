@@ -73,6 +73,7 @@ fn play_pieces<M: Machine, S: Source, K: Sink>(
     requires lines { player.old.lines ≡ 0 }
     requires stands { M.stands_at machine.old 0 }
     requires begun { Keeps player.old.begun [] }
+    requires kept { player.old.text.items ≡ [] }
     ensures rules { IsOfRules M.rules result }
     ensures read_fault { result ≡ Status.ReadFault → Rose (S.faults source.old) (S.faults source.new) }
     ensures write_fault { result ≡ Status.WriteFault → Rose (K.faults sink.old) (K.faults sink.new) }
@@ -100,7 +101,8 @@ fn play_pieces<M: Machine, S: Source, K: Sink>(
     }
 }
 
-/// Plays the next piece, and answers how many bytes it has: none where the script is at its end.
+/// Plays the next piece, and answers how many bytes it has: none where the script is at its end. It is asked for where
+/// nothing is kept, so that the replies to all lines that have ended are written.
 fn play_next<M: Machine, S: Source, K: Sink>(
     player: &mut Player,
     machine: &mut M,
@@ -111,6 +113,8 @@ fn play_next<M: Machine, S: Source, K: Sink>(
     requires buffer { 0 < length buffer.old }
     requires few { player.old.lines + length buffer.old ≤ limit }
     requires stands { M.stands_at machine.old player.old.lines }
+    requires kept { player.old.text.items ≡ [] }
+    ensures kept { OnOk result (player.new.text.items ≡ []) }
     ensures few { IfOk result (λ count. (count ≤ length buffer.old) × (player.new.lines ≤ player.old.lines + count)) }
     ensures stands { OnOk result (M.stands_at machine.new player.new.lines) }
     ensures counted { IfOk result (λ count. (rest : List ℕ) → S.left source.old ≡ Some rest

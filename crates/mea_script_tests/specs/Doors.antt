@@ -16,14 +16,14 @@ abbrev pub after : ℕ → DoorEvent → ℕ
 after opened Open = opened + 1
 after opened Shut = opened - 1
 
--- no event is refused or replied to, and at the end the open doors are told
+-- no event is refused, each is replied to with the doors that are open after it, and those of the end are told once more
 abbrev pub door_rules : Rules ℕ DoorEvent
 door_rules = record {
   event = event_of;
   cause = λ opened e. None;
-  reply = λ opened n e. [];
+  reply = λ opened n e. counted_line (codes "open") (after opened e);
   next = λ opened n e. after opened e;
-  last = λ opened n. counted_line (codes "open") opened;
+  last = λ opened n. counted_line (codes "left") opened;
 }
 
 -- what a script of doors is answered

@@ -40,15 +40,16 @@ impl Machine for Doors {
         }
     }
 
-    fn play(&mut self, _number: u64, event: &DoorEvent, _text: &mut Vec<u8>) -> Result<(), Stop> {
+    fn play(&mut self, _number: u64, event: &DoorEvent, text: &mut Vec<u8>) -> Result<(), Stop> {
         match event {
             DoorEvent::Open => self.opened += 1,
             DoorEvent::Shut => self.opened -= 1,
         }
+        put_line(text, b"open", self.opened)?;
         Ok(())
     }
 
     fn finish(&mut self, _lines: u64, text: &mut Vec<u8>) -> Result<(), NoMemory> {
-        put_line(text, b"open", self.opened)
+        put_line(text, b"left", self.opened)
     }
 }

@@ -1,11 +1,13 @@
-//! A small machine of scripts, which counts doors, as a test of `mea_script`: it replies to no line, what a line stands
-//! for depends on the lines before it, and its text comes at the end of the input. Beside it how the tests of any program
-//! that plays scripts run it, and the sources and sinks of `mea_io`.
+//! A small machine of scripts, which counts doors, as a test of `mea_script`: what a line stands for depends on the lines
+//! before it, its reply is how many doors are open, and so is a last text at the end of the input. Beside it how the tests
+//! of any program that plays scripts run it, the sources and sinks of `mea_io`, and a terminal.
 #![tactic(auto)]
 
 mod doors;
 mod program;
 mod running;
+#[cfg(test)]
+mod terminal;
 #[cfg(test)]
 mod tests;
 #[cfg(test)]

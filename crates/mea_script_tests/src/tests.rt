@@ -4,8 +4,8 @@ use mea_script::Status;
 use std::alloc::Global;
 use std::process::Abort;
 
-// The program of doors.
-struct DoorProgram;
+/// The program of doors.
+pub(crate) struct DoorProgram;
 
 impl Program for DoorProgram {
     fn run<S: Source, K: Sink>(
@@ -30,8 +30,13 @@ fn check(rt: &(impl Abort + AllocGlobal), script: &str, text: &str, status: Stat
 }
 
 #[test]
-fn doors_are_counted_at_the_end(rt: HostRuntime) {
-    check(&rt, "open/open/shut/open", "open 2/done 4", Status::Done);
+fn doors_are_counted(rt: HostRuntime) {
+    check(
+        &rt,
+        "open/open/shut/open",
+        "open 1/open 2/open 1/open 2/left 2/done 4",
+        Status::Done,
+    );
 }
 
 #[test]
@@ -39,7 +44,7 @@ fn no_door_is_shut_twice(rt: HostRuntime) {
     check(
         &rt,
         "open/shut/shut/open",
-        "bad 2",
+        "open 1/open 0/bad 2",
         Status::BadLine { at: 2 },
     );
 }

@@ -12,16 +12,20 @@ use Rattle.mea_shot.specs.declared.view.SendStage.TheVariants.{Ready, Shut, Writ
 use Rattle.mea_shot.specs.declared.view.RecvStage.{RecvStage}
 use Rattle.mea_shot.specs.declared.view.RecvStage.TheVariants.{Waiting, Holding, Published, Woken, Full, Received, Closed, Ended}
 
+-- what is in a slot: the message, the receiver's waker, or nothing
 abbrev pub Slot : Type 0 → Type 0 → Type 0
 Slot T W = Option (Content T W)
 
 module _ {T W : Type 0} (fits : T → Type 0) where
+  -- the slot is in its place, and has a message that fits
   abbrev pub HasMessage : maybe.Option (Slot T W) → Type 0
   HasMessage h = (x : T) × fits x × (h ≡ maybe.some (Some (Message x)))
 
+  -- it has this waker
   abbrev pub HasWaker : W → maybe.Option (Slot T W) → Type 0
   HasWaker w h = h ≡ maybe.some (Some (Waker w))
 
+  -- it has nothing
   abbrev pub Vacant : maybe.Option (Slot T W) → Type 0
   Vacant h = h ≡ maybe.some None
 
@@ -68,12 +72,15 @@ module _ {T W : Type 0} (fits : T → Type 0) where
   Legal Gone Full n h g = ⊥
   Legal Gone Received n h g = ⊥
 
+  -- the channel is not parted into its ends yet, and is empty
   abbrev pub IsWhole : State (Slot T W) (View W) → Type 0
   IsWhole s = (s.words ≡ 3 ∷ []) × (s.homes ≡ maybe.some None ∷ maybe.some None ∷ []) × (s.views ≡ Whole ∷ [])
 
+  -- each end has its stage, and word and slots are as those allow
   abbrev pub IsParted : State (Slot T W) (View W) → Type 0
   IsParted s = (a : SendStage) × (b : RecvStage W) × (n : ℕ) × (h : maybe.Option (Slot T W)) × (g : maybe.Option (Slot T W))
       × (s.words ≡ n ∷ []) × (s.homes ≡ h ∷ g ∷ []) × (s.views ≡ Sends a ∷ Receives b ∷ []) × Legal a b n h g
 
+  -- what holds of the channel at any time
   abbrev pub Holds : State (Slot T W) (View W) → Type 0
   Holds s = IsWhole s ⊎ IsParted s

@@ -15,6 +15,7 @@ use Rattle.mea_task_core.specs.Bounds.{takes_and_yields}
 abbrev pub with_semaphore : Machine → ℕ → Machine
 with_semaphore m n = record m { hall = (outcome_of m (events.New n)).hall; events = m.events + 1; semaphores = m.semaphores ++ m.events ∷ [] }
 
+-- a task at its first step, in the run queue
 abbrev pub new_task : List Step → TaskRecord
 new_task steps = record { steps = steps; position = 0; phase = Queued }
 

@@ -14,6 +14,7 @@ may_rest (Take s n) = true
 may_rest (Give s n) = false
 may_rest Yield = true
 
+-- how many takes and yields these are
 abbrev pub takes_and_yields : List Step → ℕ
 takes_and_yields steps = count_by may_rest steps
 
@@ -39,6 +40,7 @@ turns_by (Woken f) k = k
 turns_by Finished k = 0
 turns_by Failed k = 0
 
+-- the turns that a task may still begin, where its turn is not on
 abbrev pub turns_left : TaskRecord → ℕ
 turns_left x = turns_by x.phase (takes_and_yields (rest_of x))
 
@@ -51,6 +53,7 @@ moves_by (Woken f) k = 4 * k - 1
 moves_by Finished k = 0
 moves_by Failed k = 0
 
+-- more than the moves that a task may still make
 abbrev pub moves_left : TaskRecord → ℕ
 moves_left x = moves_by x.phase (length (rest_of x))
 

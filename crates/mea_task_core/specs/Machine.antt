@@ -28,6 +28,7 @@ pub record Machine : Type 0 where
   pub added : ℕ
   pub allowance : ℕ
 
+-- no semaphore, no task, and nothing was played
 abbrev pub new_machine : Machine
 new_machine = record { hall = empty_hall; events = 0; semaphores = []; tasks = []; queue = []; running = None; polls = 0; added = 0; allowance = 0 }
 
@@ -45,6 +46,7 @@ stops m = record m { running = None }
 
 -- ---- an event
 
+-- task t is woken, if there is one
 abbrev pub wake_at : List TaskRecord → ℕ → Option TaskRecord → List TaskRecord
 wake_at tasks t None = tasks
 wake_at tasks t (Some x) = slice_set tasks t (at_phase x (woken_phase x.phase))
@@ -101,10 +103,12 @@ abbrev pub begins : Machine → List ℕ → Machine
 begins m [] = m
 begins m (t ∷ ts) = record m { queue = ts; running = Some t; polls = m.polls + 1 }
 
+-- the running task t plays the next event of its steps
 abbrev pub goes_on : Machine → ℕ → Option TaskRecord → Machine
 goes_on m t None = m
 goes_on m t (Some x) = comes_to m t x (next_step x)
 
+-- the task whose turn it is goes on; where none has it, the first of the run queue begins
 abbrev pub move_by : Machine → Option ℕ → Machine
 move_by m None = begins m m.queue
 move_by m (Some t) = goes_on m t (slice_get m.tasks t)
@@ -118,6 +122,7 @@ abbrev pub moves : ℕ → Machine → Machine
 moves zero m = m
 moves (suc n) m = moves n (move m)
 
+-- whether nobody has the turn and nobody is in the run queue
 abbrev pub rests_by : Option ℕ → List ℕ → Bool
 rests_by None [] = true
 rests_by None (t ∷ ts) = false
@@ -132,6 +137,7 @@ pub record IsAtRest (m : Machine) : Type 0 where
   pub queue : m.queue ≡ []
   pub running : m.running ≡ None
 
+-- what lets a `Machine` be the value of a model
 abbrev pub machine_code : Coded Machine
 machine_code =
     code_by (Hall × (ℕ × (List ℕ × (List TaskRecord × (List ℕ × (Option ℕ × (ℕ × (ℕ × ℕ))))))))

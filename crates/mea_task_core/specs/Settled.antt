@@ -27,6 +27,7 @@ pub record IsLacking (m : Machine) (x : TaskRecord) (f : ℕ) : Type 0 where
   pub lacks : 1 ≤ lack_of (queue_at m.hall (name_of m place)) f
   pub pending : (i w : ℕ) → (step m.hall i (events.Poll f w)).reply ≡ answers.Pending
 
+-- a task with this phase can do nothing more, or waits and lacks a permit
 abbrev pub IsSettledBy : Machine → TaskRecord → Phase → Type 0
 IsSettledBy m x Queued = ⊥
 IsSettledBy m x (Asks f) = ⊥
@@ -41,12 +42,14 @@ AreSettled m = (t : ℕ) (x : TaskRecord) → slice_get m.tasks t ≡ Some x →
 
 -- ---- what is told of a task
 
+-- the state of a task that waits, told by the take that it comes to next
 abbrev pub waits_for : Option Step → TaskState
 waits_for None = states.Queued
 waits_for (Some (Take s n)) = states.Waits s n
 waits_for (Some (Give s n)) = states.Queued
 waits_for (Some Yield) = states.Queued
 
+-- the state of a task with this phase
 abbrev pub state_by : TaskRecord → Phase → TaskState
 state_by x Queued = states.Queued
 state_by x (Asks f) = states.Queued

@@ -22,6 +22,7 @@ pub record IsOpen (h : Hall) (s : ℕ) : Type 0 where
   pub named : there.named ≡ true
   pub is_open : there.closed ≡ false
 
+-- the hall is valid, all that it has was made by an event that was played, and each of these semaphores is open
 pub record IsSoundHall (h : Hall) (events : ℕ) (names : List ℕ) : Type 0 where
   pub valid : IsValid h
   pub below : IsBelow h events
@@ -33,6 +34,7 @@ pub record IsSoundHall (h : Hall) (events : ℕ) (names : List ℕ) : Type 0 whe
 abbrev pub times : ℕ → List ℕ → ℕ
 times t ts = sum_by {X = ℕ} (λ u. cond (u == t) 1 0) ts
 
+-- 1 where it is t, and else 0
 abbrev pub one_if_is : Option ℕ → ℕ → ℕ
 one_if_is None t = 0
 one_if_is (Some u) t = cond (u == t) 1 0
@@ -62,6 +64,7 @@ Has futures names t x (Woken f) = IsFutureOf futures names x f Granted
 Has futures names t x Finished = Unit {0}
 Has futures names t x Failed = Unit {0}
 
+-- 1 where this is so, and else 0
 abbrev pub one_if : Bool → ℕ
 one_if b = cond b 1 0
 
@@ -85,6 +88,7 @@ pub record AreLinked (futures : map.FinMap nat_cmp Future) (names : List ℕ) (t
 
 -- ---- numbers
 
+-- the counts stay far below what a number holds: tasks and steps that were added, turns, events and moves
 pub record IsBounded (m : Machine) : Type 0 where
   pub size : m.added ≤ 2 ^ 60
   pub turns : m.allowance ≤ m.added
@@ -92,6 +96,7 @@ pub record IsBounded (m : Machine) : Type 0 where
   pub low : work m ≤ 4 * m.added + 1
   pub few : m.polls + sum_by turns_left m.tasks ≤ m.allowance + one_if_on m.running
 
+-- what holds of every machine that calls reach: of its hall, of its tasks and their futures, and of its counts
 pub record IsSound (m : Machine) : Type 0 where
   pub hall : IsSoundHall m.hall m.events m.semaphores
   pub linked : AreLinked m.hall.futures m.semaphores m.tasks (times_due m)

@@ -6,6 +6,7 @@ use Rattle.mea_task_core.specs.declared.step.Step.TheVariants.{Take, Give, Yield
 use Rattle.mea_task_core.specs.declared.phase.Phase.{Phase}
 use Rattle.mea_task_core.specs.declared.phase.Phase.TheVariants.{Queued, Asks, Waits, Woken, Finished, Failed}
 
+-- the steps of a task, how many of them are over, and how far it is with the next one
 pub record TaskRecord : Type 0 where
   pub steps : List Step
   pub position : ℕ
@@ -60,6 +61,7 @@ step_number (Take s n) = Some (true, (s, n))
 step_number (Give s n) = Some (false, (s, n))
 step_number Yield = None
 
+-- and back
 abbrev pub step_of_number : Option (Bool × (ℕ × ℕ)) → Step
 step_of_number (Some (true, p)) = Take p.0 p.1
 step_of_number (Some (false, p)) = Give p.0 p.1
@@ -70,9 +72,11 @@ step_back (Take s n) = refl
 step_back (Give s n) = refl
 step_back Yield = refl
 
+-- what lets a `Step` be a part of a model's value
 abbrev pub step_code : Coded Step
 step_code = code_by (Option (Bool × (ℕ × ℕ))) (coded_option (coded× coded_bool (coded× coded_ℕ coded_ℕ))) step_number step_of_number step_back
 
+-- a phase as two flags and the name of a future
 abbrev pub phase_number : Phase → Bool × (Bool × Option ℕ)
 phase_number Queued = (false, (false, None))
 phase_number (Asks f) = (false, (false, Some f))
@@ -81,6 +85,7 @@ phase_number (Woken f) = (true, (false, Some f))
 phase_number Finished = (false, (true, None))
 phase_number Failed = (true, (false, None))
 
+-- and back
 abbrev pub phase_of_number : Bool × (Bool × Option ℕ) → Phase
 phase_of_number (false, (false, None)) = Queued
 phase_of_number (false, (true, None)) = Finished
@@ -97,9 +102,11 @@ phase_back (Woken f) = refl
 phase_back Finished = refl
 phase_back Failed = refl
 
+-- what lets a `Phase` be a part of a model's value
 abbrev pub phase_code : Coded Phase
 phase_code = code_by (Bool × (Bool × Option ℕ)) (coded× coded_bool (coded× coded_bool (coded_option coded_ℕ))) phase_number phase_of_number phase_back
 
+-- what lets a `TaskRecord` be a part of a model's value
 abbrev pub task_code : Coded TaskRecord
 task_code =
     code_by (List Step × (ℕ × Phase)) (coded× (coded_list step_code) (coded× coded_ℕ phase_code))

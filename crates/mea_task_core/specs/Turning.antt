@@ -3,6 +3,7 @@ use Rattle.std.specs.Prelude.{ℕ, zero, suc, Bool, true, false, Option, Some, N
 use Rattle.mea_task_core.specs.Machine.{Machine, move}
 use Rattle.mea_task_core.specs.Bounds.{work}
 
+-- whether a turn is on
 abbrev pub is_on : Option ℕ → Bool
 is_on None = false
 is_on (Some t) = true

@@ -32,6 +32,7 @@ loop-read-preserved g c =
     record {
       stands = c.in-Ok.ensures.stands;
       few = omega (arith, c.in-Ok.ensures.few.1, c.loop-read.invariant.few);
+      kept = c.in-Ok.ensures.kept;
       within = omega (arith, asked, c.loop-read.invariant.within);
       reads = omega (arith, c.loop-read.invariant.reads, c.play_next.ensures.source_faults);
       writes = omega (arith, c.loop-read.invariant.writes, c.play_next.ensures.faults);

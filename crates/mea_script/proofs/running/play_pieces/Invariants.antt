@@ -1,4 +1,4 @@
-use Rattle.std.proofs.Common.{◌≡◌, ◌+◌, ◌-◌, ◌≤◌, ◌++◌, ℕ, List, Some, length}
+use Rattle.std.proofs.Common.{◌≡◌, ◌+◌, ◌-◌, ◌≤◌, ◌++◌, ℕ, List, [], Some, length}
 use Rattle.mea_script.specs.Begun.{Keeps}
 use Rattle.mea_script.specs.Player.{due, GoesOn}
 use Rattle.mea_script.specs.Lines.{IsUnended, lines_ended}
@@ -17,6 +17,7 @@ invariant-loop-read g l =
     record {
       stands : stands_at l.machine l.player.lines;
       few : l.player.lines ≤ l.read;
+      kept : l.player.text.items ≡ [];
       within : l.read ≤ 16777216;
       reads : reads l.fn.source ≤ reads l.source;
       writes : writes l.fn.sink ≤ writes l.sink;

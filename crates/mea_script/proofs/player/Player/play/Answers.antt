@@ -4,8 +4,8 @@ use Rattle.mea_script.specs.declared.begun.Begun.{Begun}
 use Rattle.mea_script.specs.Begun.{Keeps}
 use Rattle.mea_script.proofs.Unended.{unended_append, cut_joins, cut_nothing}
 use Rattle.mea_script.proofs.Ended.{none_ended, one_ended}
-use Rattle.mea_script.proofs.Tells.{goes_alike}
-use Rattle.mea_script.proofs.Dues.{goes_line, ends_line, stopped_text, stopped_status, ends_at_fault, due_begun}
+use Rattle.mea_script.proofs.Tells.{goes_alike, goes_further}
+use Rattle.mea_script.proofs.Dues.{goes_line, goes_written, ends_in_part, ends_line, stopped_text, stopped_status, ends_at_fault, due_begun}
 use Rattle.mea_script.proofs.player.Player.play.Goals as goal
 
 pub returns-in_err-play_line-clause-status : goal.returns-in_err-play_line-clause-status
@@ -71,14 +71,36 @@ returns-in-Ok-clause-counted g c = omega (arith, c.loop-end.invariant.counted, n
 
 pub returns-in-Ok-clause-goes_on : goal.returns-in-Ok-clause-goes_on
 returns-in-Ok-clause-goes_on g c = λ line bytes room keeps unended.
-    let so_far = c.loop-end.invariant.told line bytes room keeps unended in (
-      so_far.0 ++ c.loop-end.rest.now,
-      c.in-Ok.ensures so_far.0 so_far.1,
-      unended_append so_far.0 c.loop-end.rest.now so_far.2 (cut_nothing c.loop-end.rest.now (rw c.in_default.is at c.cut_line.ensures)),
-      goes_alike _ _ _ _ _ (due_begun g.M.Machine.rules (g.M.Machine.state c.loop-end.machine) c.loop-end.self so_far.0 c.loop-end.rest.now bytes room) so_far.3,
+    let so_far = c.loop-end.invariant.told line bytes room keeps unended in
+    let m = g.M.Machine.rules in
+    let s = g.M.Machine.state c.loop-end.machine in
+    let rest = c.loop-end.rest.now in
+    let wrote = c.in_ok-write_kept.ensures.written in (
+      so_far.0 ++ rest,
+      c.in-Ok.ensures so_far.0 (subst (λ (b : Begun). Keeps b so_far.0) (sym c.write_kept.ensures.begun) so_far.1),
+      unended_append so_far.0 rest so_far.2 (cut_nothing rest (rw c.in_default.is at c.cut_line.ensures)),
+      goes_alike _ _ _ _ _ (due_begun m s c.write_kept.new.self so_far.0 rest bytes room)
+          (goes_further _ _ _ _ _ _ so_far.3
+          (goes_written m s c.loop-end.self c.write_kept.new.self (length so_far.0 + (length rest + room)) (so_far.0 ++ (rest ++ bytes)) wrote.0 _ _
+          c.write_kept.ensures.lines wrote.1 wrote.2)),
     )
+
+pub returns-in_err-write_kept-clause-text : goal.returns-in_err-write_kept-clause-text
+returns-in_err-write_kept-clause-text g c =
+    let p = err_from_is_err_and c.from_residual-in_err-write_kept.result c.from_residual-in_err-write_kept.ensures.1 in
+    rw (p.1, p.2) (λ line bytes before room keeps unended is.
+    let so_far = c.loop-end.invariant.told line bytes room keeps unended in
+    ends_in_part _ _ c.loop-end.self.text.items before _ _ _ c.in_err-write_kept.field-0.0 c.write_kept.new.self.text.items so_far.3
+    (elim c.in_err-write_kept.ensures.fault [ inl none ↦ inr (inr none) | inr failed ↦ inr (inl failed.0) ]) c.in_err-write_kept.ensures.part.0 c.in_err-write_kept.ensures.part.1 is)
 
 pub returns-in-Err-clause-text : goal.returns-in-Err-clause-text
 returns-in-Err-clause-text g c = λ line bytes before room keeps unended is.
     let so_far = c.loop-end.invariant.told line bytes room keeps unended in
-    ends_at_fault g.M.Machine.rules (g.M.Machine.state c.loop-end.machine) _ c.loop-end.self _ _ before _ _ _ so_far.3 (inr (inr refl)) is
+    let m = g.M.Machine.rules in
+    let s = g.M.Machine.state c.loop-end.machine in
+    let wrote = c.in_ok-write_kept.ensures.written in
+    ends_at_fault m s _ c.write_kept.new.self _ _ before _ _ _
+    (goes_further _ _ _ _ _ _ so_far.3
+    (goes_written m s c.loop-end.self c.write_kept.new.self (length so_far.0 + (length c.loop-end.rest.now + room)) (so_far.0 ++ (c.loop-end.rest.now ++ bytes)) wrote.0 _ _
+    c.write_kept.ensures.lines wrote.1 wrote.2))
+    (inr (inr refl)) is
