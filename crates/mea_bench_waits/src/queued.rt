@@ -23,7 +23,7 @@ pub(crate) type Turn<'a> = GroupClaim<'a, u64, u64, Hash, Bell>;
 /// A wait that may be polled whenever it is there, so that it can lie in a list.
 pub(crate) trait Lasting<O>: Waits<Bell, O> {
     /// It may be polled.
-    ghost lasts: { (wait : Self) → can_poll wait };
+    ghost lasts: { (wait : Self) → Self.can_poll wait };
 }
 
 impl<'a> Lasting<()> for LatchWait<'a, Bell> {
