@@ -6,7 +6,9 @@
 PROGRAM plays a script from standard input, under the word `play`. N is 100000 where nothing else is said. Each script is played
 TIMES times (3), and the least counts: seconds of a processor, and the most memory that the process had. The table goes to
 standard output, and a picture of it to PICTURE, where one is named. It ends with 1 where four times the waiters took more than
-five times the seconds or the memory, and with 2 where a script was not played to its end. It reads /proc, and so works on Linux alone.
+five times the memory, or each doubling more than two and a half times the seconds: one alone may be a busy machine, and what grows
+as n to the power of one and a half does so in both. It ends with 2 where a script was not played to its end. It reads /proc, and so
+works on Linux alone.
 """
 import os
 import subprocess
@@ -200,6 +202,14 @@ def picture(rows):
     return "\n".join([*parts, "</svg>", ""])
 
 
+def grows(figures):
+    """Whether a family's figures at n, 2n and 4n grow faster than n. A hundredth of a second, and a megabyte, are what a process costs
+    without a script."""
+    one, two, four = figures
+    doublings = ((one[0], two[0]), (two[0], four[0]))
+    return four[1] > 5 * (one[1] + 1) or all(after > 2.5 * (before + 0.01) for before, after in doublings)
+
+
 def main(words):
     if not 1 <= len(words) <= 4:
         sys.exit(__doc__)
@@ -210,10 +220,9 @@ def main(words):
     if len(words) > 1:
         with open(words[1], "w") as it:
             it.write(picture(rows))
-    # A hundredth of a second, and a megabyte, are what a process costs without a script.
-    over = [name for name, _, (one, _, four) in rows if four[0] > 5 * (one[0] + 0.01) or four[1] > 5 * (one[1] + 1)]
+    over = [name for name, _, figures in rows if grows(figures)]
     for name in over:
-        print(f"{name}: four times the waiters took more than five times as much", file=sys.stderr)
+        print(f"{name}: time or memory grew faster than the number of waiters", file=sys.stderr)
     return 1 if over else 0
 
 

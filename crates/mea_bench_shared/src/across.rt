@@ -1,11 +1,10 @@
 //! Messages through oneshot channels from one thread to another: the one that receives makes each channel, and hands its
 //! sender over.
-use crate::fault::Fault;
 use crate::handoff::Handoff;
-use crate::waiter::{Bell, Waiter};
 use mea::Wake;
 use mea::oneshot::{Plain, Sender, channel};
 use mea_base::Poll;
+use mea_bench_waits::{Bell, Fault, Waiter};
 use mea_chan_core::OneshotCore;
 use std::sync::{Arc, Mutex, Wait};
 use std::thread;

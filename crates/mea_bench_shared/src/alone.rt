@@ -1,10 +1,9 @@
 //! Works of one thread, in which nobody waits.
-use crate::fault::Fault;
-use crate::waiter::Bell;
 use mea::End;
 use mea::mutex::Mutex;
 use mea::once::OnceCell;
 use mea::semaphore::Semaphore;
+use mea_bench_waits::{Bell, Fault};
 use std::sync;
 use std::sync::Wait;
 

@@ -1,15 +1,15 @@
 //! Messages between threads, and to many receivers.
-use crate::fault::Fault;
-use crate::waiter::{Bell, Waiter};
 use mea::End;
 use mea::broadcast::overflow;
 use mea::mpsc::{BoundedReceiver, BoundedSender, bounded};
+use mea_bench_waits::gathered::receivers_of;
+use mea_bench_waits::{Bell, Fault, Waiter};
 use std::sync::Wait;
 use std::thread;
 use std::thread::Threads;
 
 /// How many messages the bounded channel holds.
-const PLACES: usize = 1000;
+const PLACES: usize = 64;
 
 /// How many receivers hear a broadcast.
 const RECEIVERS: u64 = 100;
@@ -90,7 +90,7 @@ fn heard<R: Wait + AllocGlobal>(
     sender: &overflow::Sender<u64, Bell>,
     messages: u64,
 ) -> Result<(), Fault> {
-    let mut receivers = receivers_of(rt, sender)?;
+    let mut receivers = receivers_of(rt, sender, RECEIVERS)?;
     for message in 0..messages {
         if sender.send(rt, message).is_err() {
             return Err(Fault::Answer);
@@ -98,19 +98,6 @@ fn heard<R: Wait + AllocGlobal>(
         all_hear(rt, receivers.as_mut_slice(), message)?;
     }
     Ok(())
-}
-
-fn receivers_of<R: Wait + AllocGlobal>(
-    rt: &R,
-    sender: &overflow::Sender<u64, Bell>,
-) -> Result<Vec<overflow::Receiver<u64, Bell>>, Fault> {
-    let mut receivers = Vec::new(rt.alloc());
-    for _ in 0..RECEIVERS {
-        if receivers.push(sender.subscribe(rt)?).is_err() {
-            return Err(Fault::NoMemory);
-        }
-    }
-    Ok(receivers)
 }
 
 fn all_hear<R: Wait>(

@@ -1,8 +1,7 @@
 //! Two threads that take one lock from each other.
-use crate::fault::Fault;
-use crate::waiter::{Bell, Waiter};
 use mea::End;
 use mea::mutex::Mutex;
+use mea_bench_waits::{Bell, Fault, Waiter};
 use std::sync::Wait;
 use std::thread::Threads;
 use std::{sync, thread};

@@ -1,10 +1,10 @@
 //! Two tasks of one pool, of which one sends messages to the other through a bounded channel. It stands here for the kit's
 //! tokio too.
-use crate::fault::Fault;
 use futures::executor::LocalPool;
 use futures::task::{Context, Poll};
 use futures::{Future, Sink, Stream, ready};
 use mea::mpsc::{BoundedReceiver, BoundedSender, bounded};
+use mea_bench_waits::Fault;
 use mea_futures::{Bell, Feeding, Kept, Receiving, feed, receive};
 use std::alloc::AllocGlobal;
 use std::random::RandomSource;
@@ -14,7 +14,7 @@ use std::sync::atomic::Ordering::SeqCst;
 use tokio::sync::mpsc;
 
 /// How many messages the channel holds.
-const PLACES: usize = 1000;
+const PLACES: usize = 64;
 
 // A task that sends so many messages.
 #[derive(Drop)]

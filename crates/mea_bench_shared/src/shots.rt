@@ -1,7 +1,6 @@
 //! One message through a oneshot channel, on one thread.
-use crate::fault::Fault;
-use crate::waiter::Bell;
 use mea::oneshot::{Plain, channel};
+use mea_bench_waits::{Bell, Fault};
 use mea_chan_core::OneshotCore;
 use std::alloc::Global;
 use std::sync::{Arc, Mutex, Wait};

@@ -2,11 +2,11 @@
 //! kit's tokio too.
 ghost use Rattle.std.specs.Prelude.{IfOk, IsSome};
 
-use crate::fault::Fault;
 use futures::executor::LocalPool;
 use futures::task::{Context, Poll};
 use futures::{Future, ready};
 use mea::semaphore::Semaphore;
+use mea_bench_waits::Fault;
 use mea_futures::{Acquiring, Bell, wait};
 use std::alloc::{AllocGlobal, Global};
 use std::random::RandomSource;

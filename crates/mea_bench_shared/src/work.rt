@@ -1,12 +1,12 @@
-use crate::fault::Fault;
 use crate::{across, alone, channels, handover, sending, shots, tasks};
+use mea_bench_waits::{Fault, gathered, keeping, threads};
 use std::random::RandomSource;
 use std::sync::Wait;
 use std::thread::Threads;
 use std::time::{Clock, Instant};
 
 /// What is done in rounds.
-#[derive(Clone, Copy, Debug, PartialEq, Eq)]
+#[derive(Clone, Copy)]
 pub enum Work {
     /// A permit is taken and given back.
     Permits,
@@ -42,10 +42,28 @@ pub enum Work {
     TaskMessages,
     /// The same with the channel of tokio.
     TokioMessages,
+    /// Four threads hold a reader-writer lock in turn, of which one writes.
+    ReadLocks,
+    /// Two threads take turns by a condition variable.
+    Turns,
+    /// A hundred await a latch: a round is one that has waited.
+    Latches,
+    /// A hundred keys wait for one permit: a round is one that has had it.
+    Admissions,
+    /// Eight callers share a call: a round is one caller.
+    Flights,
+    /// A map is filled by a hundred keys and read by a thousand calls: a round is one call.
+    Maps,
+    /// A wait beside what is ready is given up and made anew.
+    GivenUp,
+    /// So many wait at one condition variable, which tells all.
+    Notified,
+    /// So many wait for one message of a broadcast.
+    Awaited,
 }
 
 /// All works, in the order in which they are done, each with its name in the report.
-pub const WORKS: [(&str, Work); 17] = [
+pub const WORKS: [(&str, Work); 26] = [
     ("permit", Work::Permits),
     ("lock", Work::Locks),
     ("lock of std", Work::StdLocks),
@@ -66,6 +84,18 @@ pub const WORKS: [(&str, Work); 17] = [
     ("permit of tokio between two tasks", Work::TokioPermits),
     ("message between two tasks", Work::TaskMessages),
     ("message of tokio between two tasks", Work::TokioMessages),
+    ("read lock of four threads", Work::ReadLocks),
+    ("turn of two threads", Work::Turns),
+    ("latch awaited by one of a hundred", Work::Latches),
+    ("admission of one of a hundred keys", Work::Admissions),
+    ("call shared by one of eight", Work::Flights),
+    ("call of a map of a hundred keys", Work::Maps),
+    ("wait that is given up", Work::GivenUp),
+    (
+        "wait at a condition variable that tells all",
+        Work::Notified,
+    ),
+    ("wait for a message that all hear", Work::Awaited),
 ];
 
 impl Work {
@@ -120,6 +150,15 @@ impl Work {
             Work::TokioPermits => tasks::tokio_permits(rt, rounds),
             Work::TaskMessages => sending::messages(rt, rounds),
             Work::TokioMessages => sending::tokio_messages(rt, rounds),
+            Work::ReadLocks => threads::read_locks(rt, rounds),
+            Work::Turns => threads::take_turns(rt, rounds),
+            Work::Latches => gathered::latches(rt, rounds),
+            Work::Admissions => gathered::admissions(rt, rounds),
+            Work::Flights => gathered::flights(rt, rounds),
+            Work::Maps => keeping::maps(rt, rounds),
+            Work::GivenUp => keeping::given_up(rt, rounds),
+            Work::Notified => gathered::notified(rt, rounds),
+            Work::Awaited => gathered::awaited(rt, rounds),
         }
     }
 }

@@ -14,7 +14,7 @@ use std::random::RandomSource;
 use std::sync::Wait;
 
 // A refused poll, as an error of the program.
-fn refusal(fault: PollFault) -> io::Error {
+pub(crate) fn refusal(fault: PollFault) -> io::Error {
     match fault {
         PollFault::NoMemory => io::Error::from(NoMemory),
         PollFault::Overflow => io::Error::other("a count is at its greatest value"),
@@ -24,7 +24,8 @@ fn refusal(fault: PollFault) -> io::Error {
 /// Waits on this thread, by any wait of the library, and answers what it gives: `block(&rt, mutex.lock())?` is a guard.
 ///
 /// An error says that there was no memory, for the bell or to wait, or that a count is at its end; the wait is then ended.
-/// That it comes to an end, no clause says: it does where others let it.
+/// That it comes to an end, no clause says: it does where others let it. It makes an executor, for which it asks the system for
+/// random bytes: a thread that waits often keeps a `Blocker`.
 pub fn block<R, F, O>(rt: &R, of: F) -> io::Result<O>
 where
     R: Wait + RandomSource + AllocGlobal,

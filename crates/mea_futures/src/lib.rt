@@ -6,6 +6,7 @@
 #![tactic(auto)]
 
 mod bell;
+mod blocker;
 mod blocking;
 mod feeding;
 mod holding;
@@ -16,6 +17,7 @@ mod taking;
 mod waiting;
 
 pub use bell::Bell;
+pub use blocker::Blocker;
 pub use blocking::{block, block_before};
 pub use feeding::{FeedError, Feeding, feed};
 pub use holding::{Holding, TryHolding};

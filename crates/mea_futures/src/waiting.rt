@@ -38,18 +38,46 @@ pub fn wait<'a, R: Wait, F: Waits<Bell, O>, O>(
     ensures { IfOk result (λ w. w.wait ≡ Some wait) }
 {
     match Bell::new(alloc) {
-        Ok(bell) => Ok(Waiting {
-            rt,
-            wait: Some(wait),
-            bell,
-            rung: Source::new(),
-            has_rested: false,
-            output: PhantomData,
-        }),
+        Ok(bell) => Ok(waiting_by(rt, bell, wait)),
         Err(_) => {
             wait.end(rt);
             Err(NoMemory)
         }
+    }
+}
+
+// The same by a share of a bell that is there. Where no further share can be had, the wait is ended.
+pub(crate) fn wait_by<'a, R: Wait, F: Waits<Bell, O>, O>(
+    rt: &'a R,
+    bell: &Bell,
+    wait: F,
+) -> Result<Waiting<'a, R, F, O>, NoMemory>
+    requires { F.can_poll wait }
+    ensures { IfOk result (λ w. w.wait ≡ Some wait) }
+{
+    match bell.again() {
+        Some(bell) => Ok(waiting_by(rt, bell, wait)),
+        None => {
+            wait.end(rt);
+            Err(NoMemory)
+        }
+    }
+}
+
+fn waiting_by<'a, R: Wait, F: Waits<Bell, O>, O>(
+    rt: &'a R,
+    bell: Bell,
+    wait: F,
+) -> Waiting<'a, R, F, O>
+    ensures { result.wait ≡ Some wait }
+{
+    Waiting {
+        rt,
+        wait: Some(wait),
+        bell,
+        rung: Source::new(),
+        has_rested: false,
+        output: PhantomData,
     }
 }
 

@@ -3,6 +3,8 @@
 #![tactic(auto)]
 
 #[cfg(test)]
+mod blocker;
+#[cfg(test)]
 mod claims;
 #[cfg(test)]
 mod combined;

@@ -96,3 +96,19 @@ fn no_memory_is_taken(rt: HostRuntime) {
     assert_eq!(rt; refused(&mut hall, 5, &LockEvent::RwInto(0)), None);
     gone(hall);
 }
+
+const A_WRITE: &[Row<LockEvent>] = &[
+    (LockEvent::RwNew(8), Ok(Answer::Made), &[]),
+    (LockEvent::RwTryw(0), Ok(Answer::Held), &[]),
+];
+
+#[test]
+fn a_lent_lock_tells_of_a_write(rt: HostRuntime) {
+    let mut hall = LockHall::new(rt.alloc());
+    assert_eq!(rt; differs_at(&mut hall, A_WRITE), None);
+    assert_eq!(rt;
+        hall.family().rw_lock(0).map(|core| core.is_writing()),
+        Some(true)
+    );
+    gone(hall);
+}

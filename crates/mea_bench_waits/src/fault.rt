@@ -5,7 +5,7 @@ use std::alloc::AllocError;
 use std::io;
 
 /// Why there is no report.
-#[derive(Clone, Copy, Debug, PartialEq, Eq)]
+#[derive(Clone, Copy)]
 pub enum Fault {
     /// A call answered what it should not.
     Answer,
