@@ -97,7 +97,8 @@ fn no_memory_is_taken(rt: HostRuntime) {
     gone(hall);
 }
 
-const A_WRITE: &[Row<LockEvent>] = &[
+// A lent core tells of a write.
+const A_WRITE: &[Row<'static, LockEvent>] = &[
     (LockEvent::RwNew(8), Ok(Answer::Made), &[]),
     (LockEvent::RwTryw(0), Ok(Answer::Held), &[]),
 ];
