@@ -31,7 +31,7 @@ use std::{env, io};
 const MOST_ROUNDS: u64 = 10_000_000;
 
 fn main(rt: HostRuntime) -> ExitCode {
-    match asked(&rt) {
+    match words_of(&rt) {
         Ok(Some(asked)) => match report(&rt, &asked) {
             Ok(()) => ExitCode::SUCCESS,
             Err(fault) => ExitCode::from(fault.code()),
@@ -64,7 +64,7 @@ impl Asked {
 }
 
 // A number of rounds, and a name or none; None where the words are something else.
-fn asked(rt: &(impl env::Env + AllocGlobal)) -> io::Result<Option<Asked>> {
+fn words_of(rt: &(impl env::Env + AllocGlobal)) -> io::Result<Option<Asked>> {
     let mut words = env::args(rt)?.skip(1);
     let (Some(word), only, None) = (words.next(), words.next(), words.next()) else {
         return Ok(None);
