@@ -1,3 +1,5 @@
+ghost use Rattle.std.specs.Prelude.{◌<◌};
+
 use crate::rows::{bytes_of, check, ran};
 use mea_run::{MemSink, MemSource, Status};
 use std::process::Abort;
@@ -17,7 +19,9 @@ fn told(
     pieces: (usize, usize),
     fails: Vec<u64>,
     text: &str,
-) -> Status {
+) -> Status
+    requires { (0 < pieces.0) × (0 < pieces.1) }
+{
     let text = bytes_of(rt, text);
     let mut source = MemSource::new(bytes_of(rt, script), pieces.0, fails);
     let mut sink = MemSink::new(rt.alloc(), pieces.1, Vec::new(rt.alloc()));
