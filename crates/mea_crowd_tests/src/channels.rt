@@ -1,14 +1,13 @@
 //! Those of the crowd who send and receive.
-ghost use Rattle.std.specs.Prelude.{⊤, IsSome, IsSomeAnd, IfSome};
+ghost use Rattle.std.specs.Prelude.{IsSome, IfSome};
 
 use crate::crowd::{Member, Tasks};
 use crate::oneshots::{Answers, Inquires, Oneshots, asking};
 use crate::patience::Patience;
 use crate::spawns::{Tally, kind, spawn};
 use crate::tasks::Drains;
-use futures::sink::Send;
 use futures::task::{Context, Poll};
-use futures::{Future, SinkExt, Stream};
+use futures::{Future, Sink, Stream, ready};
 use mea::broadcast::overflow;
 use mea::mpsc::{BoundedReceiver, BoundedSender, UnboundedReceiver, UnboundedSender};
 use mea::waitgroup;
@@ -96,50 +95,41 @@ pub(crate) struct Ends<'a, R: Wait> {
 
 /// A task that sends a message, and has a handle of the group of those who send until it ends.
 #[derive(Drop)]
-pub(crate) struct Posts<'a, F: Future, H> {
-    post: F,
+pub(crate) struct Posts<'a, R: Wait> {
+    sink: Feeding<'a, R, u64>,
+    is_begun: bool,
     sent: &'a AtomicU64,
-    handle: H,
+    handle: Kept<'a, R, WaitGroup<Bell>>,
 }
 
-impl<'a, S: Drop, E: Drop, F: Future<Output = Result<S, E>>, H: Drop> Future for Posts<'a, F, H> {
-    type Output = ();
-
-    ghost can_poll = { λ p. F.can_poll p.post };
-
-    fn poll(&mut self, cx: &mut Context<'_>) -> Poll<()> {
-        match self.post.poll(cx) {
-            Poll::Ready(Ok(_)) => {
-                self.sent.fetch_add(1, SeqCst);
-                Poll::Ready(())
-            }
-            Poll::Ready(Err(_)) => Poll::Ready(()),
-            Poll::Pending => Poll::Pending,
+impl<'a, R: Wait + AllocGlobal + Abort> Posts<'a, R> {
+    /// One that was never polled.
+    pub(crate) fn new(rt: &'a R, ends: &Ends<'a, R>, channels: &'a Channels) -> Self {
+        let handle = ends.senders.get().clone_handle(rt).expect(rt, "memory");
+        Posts {
+            sink: feed(rt, rt.alloc(), ends.sender).expect(rt, "memory"),
+            is_begun: false,
+            sent: &channels.sent,
+            handle: Kept::new(rt, handle),
         }
     }
 }
 
-/// One that sends into the bounded channel.
-pub(crate) type Sends<'a, R> = Posts<
-    'a,
-    Send<Feeding<'a, R, u64>, u64>,
-    Kept<'a, R, WaitGroup<Bell>>,
->;
+impl<'a, R: Wait> Future for Posts<'a, R> {
+    type Output = ();
 
-// One that was never polled.
-fn sending<'a, R: Wait + AllocGlobal + Abort>(
-    rt: &'a R,
-    ends: &Ends<'a, R>,
-    channels: &'a Channels,
-) -> Sends<'a, R>
-    ensures { IsSomeAnd result.post.sink (λ _. ⊤ × IfSome result.post.item (λ _. ⊤)) }
-{
-    let handle = ends.senders.get().clone_handle(rt).expect(rt, "memory");
-    let sink = feed(rt, rt.alloc(), ends.sender).expect(rt, "memory");
-    Posts {
-        post: sink.send(1),
-        sent: &channels.sent,
-        handle: Kept::new(rt, handle),
+    fn poll(&mut self, cx: &mut Context<'_>) -> Poll<()> {
+        if ready!(self.sink.poll_ready(cx)).is_err() {
+            return Poll::Ready(());
+        }
+        if !self.is_begun {
+            self.is_begun = true;
+            if self.sink.start_send(1).is_err() || ready!(self.sink.poll_flush(cx)).is_err() {
+                return Poll::Ready(());
+            }
+        }
+        self.sent.fetch_add(1, SeqCst);
+        Poll::Ready(())
     }
 }
 
@@ -250,34 +240,26 @@ pub(crate) type Listens<'a, R> = Drains<
     Receiving<'a, R, overflow::Receiver<u64, Bell>, Result<u64, Lagged>>,
 >;
 
-/// A task at an end of a channel, of one of eight kinds.
+/// A task at an end of a channel.
 #[derive(Drop)]
-pub(crate) enum ChannelMember<P, K, S, C, T, L, I, A> {
-    Posts(P),
-    Takes(K),
-    Says(S),
-    Collects(C),
-    Tells(T),
-    Listens(L),
-    Asks(I),
-    Answers(A),
+pub(crate) enum ChannelMember<'a, R: Wait> {
+    Posts(Posts<'a, R>),
+    Takes(TakesAll<'a, R>),
+    Says(Says<'a, R>),
+    Collects(Collects<'a, R>),
+    Tells(Tells<'a, R>),
+    Listens(Listens<'a, R>),
+    Asks(Inquires<'a, R>),
+    Answers(Answers<'a>),
 }
 
-impl<
-    P: Future<Output = ()>,
-    K: Future<Output = ()>,
-    S: Future<Output = ()>,
-    C: Future<Output = ()>,
-    T: Future<Output = ()>,
-    L: Future<Output = ()>,
-    I: Future<Output = ()>,
-    A: Future<Output = ()>,
-> Future for ChannelMember<P, K, S, C, T, L, I, A> {
+impl<'a, R: Wait> Future for ChannelMember<'a, R> {
     ghost use Rattle.mea_crowd_tests.specs.declared.channels.ChannelMember.TheVariants.{Posts, Takes, Says, Collects, Tells, Listens, Asks, Answers};
+    ghost use Rattle.std.specs.Prelude.{⊤, IsSome, IfSome};
 
     type Output = ();
 
-    ghost can_poll = { elim [ Posts p ↦ P.can_poll p | Takes k ↦ K.can_poll k | Says s ↦ S.can_poll s | Collects c ↦ C.can_poll c | Tells t ↦ T.can_poll t | Listens l ↦ L.can_poll l | Asks i ↦ I.can_poll i | Answers a ↦ A.can_poll a ] };
+    ghost can_poll = { elim [ Posts p ↦ ⊤ | Takes t ↦ IfSome t.senders (λ senders. IsSome senders.wait) | Says s ↦ ⊤ | Collects d ↦ ⊤ | Tells t ↦ ⊤ | Listens d ↦ ⊤ | Asks a ↦ IsSome a.answer.wait | Answers a ↦ ⊤ ] };
 
     fn poll(&mut self, cx: &mut Context<'_>) -> Poll<()> {
         match self {
@@ -292,18 +274,6 @@ impl<
         }
     }
 }
-
-/// One of the crowd.
-pub(crate) type ChannelTask<'a, R> = ChannelMember<
-    Sends<'a, R>,
-    TakesAll<'a, R>,
-    Says<'a, R>,
-    Collects<'a, R>,
-    Tells<'a, R>,
-    Listens<'a, R>,
-    Inquires<'a, R>,
-    Answers<'a>,
->;
 
 // A task that sends a message which never waits, with a sender of its own.
 fn saying<'a, R: Wait + Abort>(
@@ -362,7 +332,7 @@ pub(crate) fn spawn_channel<'a, R: Wait + AllocGlobal + Abort>(
     patience: Patience,
 ) {
     let task = match kind(number).0 {
-        9 => ChannelMember::Posts(sending(rt, ends, channels)),
+        9 => ChannelMember::Posts(Posts::new(rt, ends, channels)),
         10 => ChannelMember::Says(saying(rt, ends, channels)),
         11 => ChannelMember::Tells(telling(rt, ends, channels)),
         12 => {

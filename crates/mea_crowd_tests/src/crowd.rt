@@ -1,8 +1,8 @@
 //! The crowd: a thousand tasks and more over all primitives, on four threads.
-use crate::channels::{ChannelTask, Channels, Collects, Ends, spawn_channel, spawn_takers};
-use crate::keeps::{KeepTask, Keeps, spawn_keep};
-use crate::locks::{LockTask, Locks, spawn_lock, spawn_tells};
-use crate::meets::{MeetTask, Meets, spawn_meet, spawn_openers};
+use crate::channels::{ChannelMember, Channels, Collects, Ends, spawn_channel, spawn_takers};
+use crate::keeps::{KeepMember, Keeps, spawn_keep};
+use crate::locks::{LockMember, Locks, spawn_lock, spawn_tells};
+use crate::meets::{MeetMember, Meets, spawn_meet, spawn_openers};
 use crate::patience::Patience;
 use crate::spawns::{Impatient, Spawns, Tally, kind, on_four_threads};
 use futures::Future;
@@ -54,7 +54,7 @@ impl<
 /// A task of any family.
 pub(crate) type Task<'a, R> = Impatient<
     'a,
-    Member<LockTask<'a, R>, MeetTask<'a, R>, ChannelTask<'a, R>, KeepTask<'a, R>>,
+    Member<LockMember<'a, R>, MeetMember<'a, R>, ChannelMember<'a, R>, KeepMember<'a, R>>,
 >;
 
 /// The tasks.

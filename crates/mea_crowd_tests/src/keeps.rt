@@ -146,26 +146,22 @@ pub(crate) type Flies<'a, R> = Inits<
     GroupFilling<'a, u64, u64, Hasher, Bell>,
 >;
 
-/// A task that waits for what is computed once, of one of four kinds.
+/// A task that waits for what is computed once.
 #[derive(Drop)]
-pub(crate) enum KeepMember<C, O, M, G> {
-    Fills(C),
-    Calls(O),
-    Maps(M),
-    Flies(G),
+pub(crate) enum KeepMember<'a, R: Wait> {
+    Fills(Fills<'a, R>),
+    Calls(Calls<'a, R>),
+    Maps(Maps<'a, R>),
+    Flies(Flies<'a, R>),
 }
 
-impl<
-    C: Future<Output = ()>,
-    O: Future<Output = ()>,
-    M: Future<Output = ()>,
-    G: Future<Output = ()>,
-> Future for KeepMember<C, O, M, G> {
+impl<'a, R: Wait> Future for KeepMember<'a, R> {
     ghost use Rattle.mea_crowd_tests.specs.declared.keeps.KeepMember.TheVariants.{Fills, Calls, Maps, Flies};
+    ghost use Rattle.std.specs.Prelude.{IsSome, IfNone};
 
     type Output = ();
 
-    ghost can_poll = { elim [ Fills c ↦ C.can_poll c | Calls o ↦ O.can_poll o | Maps m ↦ M.can_poll m | Flies g ↦ G.can_poll g ] };
+    ghost can_poll = { elim [ Fills a ↦ IfNone a.awaited.claim (IsSome a.awaited.turn.wait) | Calls a ↦ IfNone a.awaited.claim (IsSome a.awaited.turn.wait) | Maps a ↦ IfNone a.awaited.claim (IsSome a.awaited.turn.wait) | Flies a ↦ IfNone a.awaited.claim (IsSome a.awaited.turn.wait) ] };
 
     fn poll(&mut self, cx: &mut Context<'_>) -> Poll<()> {
         match self {
@@ -176,9 +172,6 @@ impl<
         }
     }
 }
-
-/// One of the crowd.
-pub(crate) type KeepTask<'a, R> = KeepMember<Fills<'a, R>, Calls<'a, R>, Maps<'a, R>, Flies<'a, R>>;
 
 // A task that waits for a claim, or computes the value in two polls, and was never polled.
 fn computing<

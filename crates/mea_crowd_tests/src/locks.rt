@@ -205,32 +205,25 @@ pub(crate) type Writes<'a, R> = Spends<
     OwnedRwLockWriteGuard<u64, Bell>,
 >;
 
-/// A task at permits or a lock, of one of seven kinds.
+/// A task at permits or a lock.
 #[derive(Drop)]
-pub(crate) enum LockMember<A, S, M, D, W, H, T> {
-    Acquires(A),
-    Admits(S),
-    Adds(M),
-    Reads(D),
-    Writes(W),
-    Hears(H),
-    Tells(T),
+pub(crate) enum LockMember<'a, R: Wait> {
+    Acquires(Acquires<'a, R>),
+    Admits(Admits<'a, R>),
+    Adds(Adds<'a, R>),
+    Reads(Reads<'a, R>),
+    Writes(Writes<'a, R>),
+    Hears(Hears<'a, R>),
+    Tells(Tells<'a, R>),
 }
 
-impl<
-    A: Future<Output = ()>,
-    S: Future<Output = ()>,
-    M: Future<Output = ()>,
-    D: Future<Output = ()>,
-    W: Future<Output = ()>,
-    H: Future<Output = ()>,
-    T: Future<Output = ()>,
-> Future for LockMember<A, S, M, D, W, H, T> {
+impl<'a, R: Wait + AllocGlobal + Abort> Future for LockMember<'a, R> {
     ghost use Rattle.mea_crowd_tests.specs.declared.locks.LockMember.TheVariants.{Acquires, Admits, Adds, Reads, Writes, Hears, Tells};
+    ghost use Rattle.std.specs.Prelude.{IsSome, IfNone, MatchOption};
 
     type Output = ();
 
-    ghost can_poll = { elim [ Acquires a ↦ A.can_poll a | Admits s ↦ S.can_poll s | Adds m ↦ M.can_poll m | Reads d ↦ D.can_poll d | Writes w ↦ W.can_poll w | Hears h ↦ H.can_poll h | Tells t ↦ T.can_poll t ] };
+    ghost can_poll = { elim [ Acquires t ↦ IfNone t.held (IsSome t.acquire.waiting.wait) | Admits u ↦ IfNone u.held (IsSome u.turn.waiting.wait) | Adds a ↦ IfNone a.held (IsSome a.lock.waiting.wait) | Reads u ↦ IfNone u.held (IsSome u.turn.waiting.wait) | Writes u ↦ IfNone u.held (IsSome u.turn.waiting.wait) | Hears h ↦ MatchOption h.told (IsSome h.lock.waiting.wait) (λ told. IsSome told.waiting.wait) | Tells t ↦ IsSome t.lock.waiting.wait ] };
 
     fn poll(&mut self, cx: &mut Context<'_>) -> Poll<()> {
         match self {
@@ -244,17 +237,6 @@ impl<
         }
     }
 }
-
-/// One of the crowd.
-pub(crate) type LockTask<'a, R> = LockMember<
-    Acquires<'a, R>,
-    Admits<'a, R>,
-    Adds<'a, R>,
-    Reads<'a, R>,
-    Writes<'a, R>,
-    Hears<'a, R>,
-    Tells<'a, R>,
->;
 
 /// Spawns the task with this number, that was never polled: of one of six kinds.
 pub(crate) fn spawn_lock<'a, R: Wait + AllocGlobal + Abort>(

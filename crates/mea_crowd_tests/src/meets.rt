@@ -164,28 +164,23 @@ impl<'a, R: Wait, O: Drop, F: Future<Output = O>> Future for Asks<'a, R, F> {
 /// One that waits for them.
 pub(crate) type Shuts<'a, R> = Asks<'a, R, Waiting<'a, R, shutdown::Wait<Bell>, ()>>;
 
-/// A task at a place where others are met, of one of five kinds.
+/// A task at a place where others are met.
 #[derive(Drop)]
-pub(crate) enum MeetMember<P, O, A, S, D> {
-    Passes(P),
-    Opens(O),
-    Arrives(A),
-    Stops(S),
-    Shuts(D),
+pub(crate) enum MeetMember<'a, R: Wait> {
+    Passes(Passes<'a, R>),
+    Opens(Opens<'a, R>),
+    Arrives(Arrives<'a, R>),
+    Stops(Stops<'a, R>),
+    Shuts(Shuts<'a, R>),
 }
 
-impl<
-    P: Future<Output = ()>,
-    O: Future<Output = ()>,
-    A: Future<Output = ()>,
-    S: Future<Output = ()>,
-    D: Future<Output = ()>,
-> Future for MeetMember<P, O, A, S, D> {
+impl<'a, R: Wait> Future for MeetMember<'a, R> {
     ghost use Rattle.mea_crowd_tests.specs.declared.meets.MeetMember.TheVariants.{Passes, Opens, Arrives, Stops, Shuts};
+    ghost use Rattle.std.specs.Prelude.{⊤, IsSome};
 
     type Output = ();
 
-    ghost can_poll = { elim [ Passes p ↦ P.can_poll p | Opens o ↦ O.can_poll o | Arrives a ↦ A.can_poll a | Stops s ↦ S.can_poll s | Shuts d ↦ D.can_poll d ] };
+    ghost can_poll = { elim [ Passes a ↦ IsSome a.awaited.wait | Opens o ↦ ⊤ | Arrives a ↦ IsSome a.waiting.wait | Stops s ↦ IsSome s.signal.wait | Shuts s ↦ IsSome s.ended.wait ] };
 
     fn poll(&mut self, cx: &mut Context<'_>) -> Poll<()> {
         match self {
@@ -197,15 +192,6 @@ impl<
         }
     }
 }
-
-/// One of the crowd.
-pub(crate) type MeetTask<'a, R> = MeetMember<
-    Passes<'a, R>,
-    Opens<'a, R>,
-    Arrives<'a, R>,
-    Stops<'a, R>,
-    Shuts<'a, R>,
->;
 
 // A task that waits for the latch and was never polled.
 fn passing<'a, R: Wait + AllocGlobal + Abort>(rt: &'a R, meets: &Meets) -> Passes<'a, R>
