@@ -1,6 +1,5 @@
 ghost use Rattle.std.specs.Prelude.{◌≡◌, None, IsSome, IfNone};
 
-use crate::polls::Answer;
 use futures::task::{Context, Poll};
 use futures::{Future, ready};
 use mea_futures::{Acquiring, Bell, Kept, wait};
@@ -86,34 +85,29 @@ pub fn queued<'a, R: Wait + AllocGlobal + Abort>(
 
 /// A task: it acquires, yields with the permit, and gives it back where it drops what it kept.
 #[derive(Drop)]
-pub struct Job<'a, F: Future, P> {
+pub struct Job<'a, R: Wait> {
     seen: &'a Seen,
-    acquire: F,
-    held: Option<P>,
+    acquire: Acquiring<'a, R>,
+    held: Option<Kept<'a, R, OwnedSemaphorePermit<Bell>>>,
 }
 
-/// One that has a permit of a semaphore.
-pub type PermitJob<'a, R> = Job<'a, Acquiring<'a, R>, Kept<'a, R, OwnedSemaphorePermit<Bell>>>;
-
-/// One that was never polled.
-pub fn new_job<'a, R: Wait + AllocGlobal + Abort>(
-    rt: &'a R,
-    seen: &'a Seen,
-    semaphore: &Arc<Semaphore<Bell>>,
-) -> PermitJob<'a, R>
-    ensures { (result.held ≡ None) × IsSome result.acquire.waiting.wait }
-{
-    Job {
-        seen,
-        acquire: queued(rt, semaphore, 1),
-        held: None,
+impl<'a, R: Wait + AllocGlobal + Abort> Job<'a, R> {
+    /// One that was never polled.
+    pub fn new(rt: &'a R, seen: &'a Seen, semaphore: &Arc<Semaphore<Bell>>) -> Self
+        ensures { (result.held ≡ None) × IsSome result.acquire.waiting.wait }
+    {
+        Job {
+            seen,
+            acquire: queued(rt, semaphore, 1),
+            held: None,
+        }
     }
 }
 
-impl<'a, P: Drop, E: Drop, F: Future<Output = Answer<P, E>>> Future for Job<'a, F, P> {
+impl<'a, R: Wait> Future for Job<'a, R> {
     type Output = ();
 
-    ghost can_poll = { λ j. IfNone j.held (F.can_poll j.acquire) };
+    ghost can_poll = { λ j. IfNone j.held (IsSome j.acquire.waiting.wait) };
 
     fn poll(&mut self, cx: &mut Context<'_>) -> Poll<()> {
         self.seen.polls.fetch_add(1, SeqCst);

@@ -1,4 +1,4 @@
-use crate::job::{PermitJob, Seen, new_job, shared};
+use crate::job::{Job, Seen, shared};
 use futures::Future;
 use futures::executor::{LocalPool, TaskSet};
 use futures::task::Doorbell;
@@ -26,9 +26,9 @@ struct Jobs<'a, R: Wait> {
     seen: &'a Seen,
 }
 
-impl<'a, R: Wait + AllocGlobal + Abort> Makes<PermitJob<'a, R>> for Jobs<'a, R> {
-    fn make(&self) -> PermitJob<'a, R> {
-        new_job(self.rt, self.seen, self.semaphore)
+impl<'a, R: Wait + AllocGlobal + Abort> Makes<Job<'a, R>> for Jobs<'a, R> {
+    fn make(&self) -> Job<'a, R> {
+        Job::new(self.rt, self.seen, self.semaphore)
     }
 }
 
