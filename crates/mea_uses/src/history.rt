@@ -1,3 +1,5 @@
+ghost use Rattle.std.specs.Prelude.{◌≡◌};
+
 use mea_events::{Event, SemEvent};
 use mea_family::Answer;
 use mea_lines::event_of_line;
