@@ -107,6 +107,8 @@ fn script_of(alloc: Global, recorded: &Recorded) -> Result<String, AllocError> {
     Ok(script)
 }
 
+// Runs it. The ghost members are picked by `ghosts-history g a = record { name = a.blank.name; parts = a.blank.parts }` in its
+// Invariants.antt.
 #[test]
 fn a_history_is_a_script(rt: HostRuntime) {
     let recorded = history::<Brand, HostRuntime>(&rt, Blank::new(2));
