@@ -1,7 +1,7 @@
 ghost use Rattle.std.specs.Prelude.{◌≡◌, ◌≢◌, ◌+◌, ◌≤◌, ◌⊎◌, OnOk, OnErr, IfOk, IfErr, None, Some};
 ghost use Rattle.mea_family.specs.Play.{PartYields};
 
-use mea_base::{NoMemory, Ready};
+use mea_base::Ready;
 use mea_family::{Answer, Stop};
 use std::alloc::Global;
 
@@ -44,44 +44,20 @@ pub trait Family<H>: Drop {
         ensures is { result ≡ cause_of (part_of self.now).hall event.now }
         ensures not_memory { TakesNoMemory event.now → result ≢ Some Stop.NoMemory };
 
-    /// Plays an event that has no cause for refusal, under a number that is greater than each before; its wakers are
-    /// appended to those that are ready. On an error nothing has changed.
-    fn play(
+    /// Plays an event, under a number that is greater than each before; its wakers are appended to those that are ready. A
+    /// cause for refusal comes before want of memory; where the event is refused, nothing has changed.
+    fn act(
         &mut self,
         number: u64,
         event: &Self::Event,
         ready: &mut Ready<u64>,
-    ) -> Result<Answer, NoMemory>
+    ) -> Result<Answer, Stop>
         requires next { (part_of self.old).next ≤ number }
         requires room { registered (part_of self.old).hall ≤ ready.old.registered }
-        requires allowed { cause_of (part_of self.old).hall event.now ≡ None }
         ensures played { IfOk result (λ answer. PartYields registered (part_of self.old) number (step (part_of self.old).hall number event.now) answer (part_of self.new) ready.old ready.new) }
         ensures grows { registered (part_of self.new).hall ≤ registered (part_of self.old).hall + 1 }
-        ensures no_memory { TakesNoMemory event.now → OnErr result ⊥ }
+        ensures allowed { OnOk result (cause_of (part_of self.old).hall event.now ≡ None) }
+        ensures refused { IfErr result (λ stop. (cause_of (part_of self.old).hall event.now ≡ Some stop) ⊎ ((cause_of (part_of self.old).hall event.now ≡ None) × (stop ≡ Stop.NoMemory))) }
+        ensures no_memory { TakesNoMemory event.now → result ≢ Err Stop.NoMemory }
         ensures err { OnErr result ((self.new ≡ self.old) × (ready.new ≡ ready.old)) };
-}
-
-/// Plays an event, under a number that is greater than each before; its wakers are appended to those that are ready. A
-/// cause for refusal comes before want of memory; where the event is refused, nothing has changed.
-pub fn act_on<H, F: Family<H>>(
-    family: &mut F,
-    number: u64,
-    event: &F::Event,
-    ready: &mut Ready<u64>,
-) -> Result<Answer, Stop>
-    requires next { (F.part_of family.old).next ≤ number }
-    requires room { F.registered (F.part_of family.old).hall ≤ ready.old.registered }
-    ensures played { IfOk result (λ answer. PartYields F.registered (F.part_of family.old) number (F.step (F.part_of family.old).hall number event.now) answer (F.part_of family.new) ready.old ready.new) }
-    ensures grows { F.registered (F.part_of family.new).hall ≤ F.registered (F.part_of family.old).hall + 1 }
-    ensures allowed { OnOk result (F.cause_of (F.part_of family.old).hall event.now ≡ None) }
-    ensures refused { IfErr result (λ stop. (F.cause_of (F.part_of family.old).hall event.now ≡ Some stop) ⊎ ((F.cause_of (F.part_of family.old).hall event.now ≡ None) × (stop ≡ Stop.NoMemory))) }
-    ensures no_memory { F.TakesNoMemory event.now → result ≢ Err Stop.NoMemory }
-    ensures err { OnErr result ((family.new ≡ family.old) × (ready.new ≡ ready.old)) }
-{
-    if let Some(stop) = family.cause(event) {
-        return Err(stop);
-    }
-    family
-        .play(number, event, ready)
-        .map_err(|_| Stop::NoMemory)
 }

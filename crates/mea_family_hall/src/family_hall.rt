@@ -1,7 +1,7 @@
 ghost use Rattle.std.specs.Prelude.{◌≡◌, ◌≢◌, ◌≤◌, ◌∷◌, [], ◌⊎◌, length, OnOk, OnErr, IfOk, IfErr, IfSome, IfNone, None, Some};
 ghost use Rattle.mea_family.specs.Play.{Play, Yields};
 
-use crate::family::{Family, act_on};
+use crate::family::Family;
 use mea_base::Ready;
 use mea_family::{Answer, Stop};
 use std::alloc::Global;
@@ -97,7 +97,7 @@ impl<F: Family<H>, H> FamilyHall<F, H> {
         ensures no_memory { F.TakesNoMemory event.now → result ≢ Err Stop.NoMemory }
         ensures err { OnErr result (self.new ≡ self.old) }
     {
-        let answer = act_on(&mut self.family, number, event, &mut self.ready)?;
+        let answer = self.family.act(number, event, &mut self.ready)?;
         self.family.is_valid();
         Ok(answer)
     }

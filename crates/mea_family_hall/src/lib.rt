@@ -5,5 +5,5 @@
 mod family;
 mod family_hall;
 
-pub use family::{Family, act_on};
+pub use family::Family;
 pub use family_hall::FamilyHall;

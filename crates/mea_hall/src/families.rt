@@ -6,7 +6,7 @@ use mea_base::Ready;
 use mea_chan::ChanFamily;
 use mea_events::Event;
 use mea_family::{Answer, Stop};
-use mea_family_hall::{Family, act_on};
+use mea_family_hall::Family;
 use mea_lock::LockFamily;
 use mea_meet::MeetFamily;
 use mea_meet_model::validity_is_kept;
@@ -88,11 +88,11 @@ impl Families {
     {
         match event {
             Event::Sem(event) => self.semaphores.act(number, event, ready),
-            Event::Meet(event) => act_on(&mut self.meets, number, event, ready),
-            Event::Lock(event) => act_on(&mut self.locks, number, event, ready),
-            Event::Chan(event) => act_on(&mut self.chans, number, event, ready),
-            Event::Share(event) => act_on(&mut self.shares, number, event, ready),
-            Event::Once(event) => act_on(&mut self.onces, number, event, ready),
+            Event::Meet(event) => self.meets.act(number, event, ready),
+            Event::Lock(event) => self.locks.act(number, event, ready),
+            Event::Chan(event) => self.chans.act(number, event, ready),
+            Event::Share(event) => self.shares.act(number, event, ready),
+            Event::Once(event) => self.onces.act(number, event, ready),
         }
     }
 }

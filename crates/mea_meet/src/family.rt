@@ -5,7 +5,7 @@ ghost use Rattle.mea_meet.specs.BarrierParts.{StandsForBarrier};
 ghost use Rattle.mea_meet.specs.CountLends.{is_named, StandsForLatch, StandsForGroup, StandsForShutdown};
 
 use crate::kinds::Kinds;
-use mea_base::{NoMemory, Ready};
+use mea_base::Ready;
 use mea_by_name::NamedWaker;
 use mea_events::MeetEvent;
 use mea_family::{Answer, Stop};
@@ -143,14 +143,17 @@ impl Family<MeetModel> for MeetFamily {
         self.kinds.cause(event)
     }
 
-    fn play(
+    fn act(
         &mut self,
         number: u64,
         event: &MeetEvent,
         ready: &mut Ready<u64>,
-    ) -> Result<Answer, NoMemory> {
+    ) -> Result<Answer, Stop> {
         validity_is_kept();
         wakes_are_of_the_registered();
+        if let Some(stop) = self.kinds.cause(event) {
+            return Err(stop);
+        }
         let answer = self.kinds.play(number, event, ready)?;
         self.next = number as u128 + 1;
         Ok(answer)

@@ -6,8 +6,8 @@ use Rattle.mea_meet_model.specs.Step.{step}
 use Rattle.mea_meet_model.specs.Valid.{IsValid}
 use Rattle.mea_meet.specs.Halls.{hall_of, AreBelow}
 use Rattle.mea_meet.proofs.Playing.{below_after, yields_all}
-use Rattle.mea_meet.proofs.family.MeetFamilyFamilyMeetModel.play.Goals as goal
-use Rattle.mea_meet.proofs.family.MeetFamilyFamilyMeetModel.play.Goals.{In_ok-answer}
+use Rattle.mea_meet.proofs.family.MeetFamilyFamilyMeetModel.act.Goals as goal
+use Rattle.mea_meet.proofs.family.MeetFamilyFamilyMeetModel.act.Goals.{In_ok-answer}
 
 -- the parts have seen no number from that of the event on
 below : (c : In_ok-answer) → AreBelow c.self.inside.kinds.barriers c.self.inside.kinds.latches c.self.inside.kinds.groups c.self.inside.kinds.shutdowns c.args.number
