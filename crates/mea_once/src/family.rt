@@ -8,7 +8,7 @@ use crate::groups::NamedGroup;
 use crate::kinds::Kinds;
 use crate::maps::NamedMap;
 use crate::meaning::meaning_of;
-use mea_base::{NoMemory, Ready};
+use mea_base::Ready;
 use mea_by_name::NamedWaker;
 use mea_events::OnceEvent;
 use mea_family::{Answer, Stop};
@@ -130,14 +130,18 @@ impl Family<OnceModel> for OnceFamily {
         self.kinds.cause(meaning_of(event))
     }
 
-    fn play(
+    fn act(
         &mut self,
         number: u64,
         event: &OnceEvent,
         ready: &mut Ready<u64>,
-    ) -> Result<Answer, NoMemory> {
+    ) -> Result<Answer, Stop> {
         wakes_are_of_the_registered();
-        let answer = self.kinds.play(number, meaning_of(event), ready)?;
+        let meaning = meaning_of(event);
+        if let Some(stop) = self.kinds.cause(meaning) {
+            return Err(stop);
+        }
+        let answer = self.kinds.play(number, meaning, ready)?;
         self.next = number as u128 + 1;
         Ok(answer)
     }

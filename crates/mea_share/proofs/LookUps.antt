@@ -24,13 +24,6 @@ use Rattle.mea_share.specs.Lends.{StandsFor, AreSettled}
 use Rattle.mea_share.proofs.Sites.{Site, low, part_of, registered_is, waiters}
 
 module _ {old : Part ShareHall} {i : ℕ} (s : Site old i) where
-  -- why the end of a name is not refused
-  pub drop_cause : (o : ℕ) → is_named old.hall o ≡ true → plain_of old.hall o ≡ 0 → cause_of (hall_seen s.es s.fs s.ps) (FsDrop o) ≡ None
-  drop_cause o named none =
-      let plain : plain_of (hall_seen s.es s.fs s.ps) o ≡ 0 = ap (λ (p : Part ShareHall). plain_of p.hall o) s.view ∙ none in
-      if_true (is_named (hall_seen s.es s.fs s.ps) o) _ _ (ap (λ (p : Part ShareHall). is_named p.hall o) s.view ∙ named)
-      ∙ if_false (nat_lt 0 (plain_of (hall_seen s.es s.fs s.ps) o)) _ _ (ap (nat_lt 0) plain)
-
   pub future_none : (f : ℕ) → get old.hall.futures f ≡ None → get s.fs f ≡ None
   future_none f none = at (get s.fs f) refl
     where
@@ -74,10 +67,7 @@ module _ {old : Part ShareHall} (es : Names KeptAdmission) (fs : Names KeptFutur
 
   module _ (kept : AreKeptAdmissions es fs ps next) where
     pub plain_of_it : (o : ℕ) (e : KeptAdmission) → get es o ≡ Some e → plain_of old.hall o ≡ e.plain
-    plain_of_it o e there =
-        let futures = ap (count (λ (x : ShareFuture). x.plain)) (own-seen of_future (λ (x : ShareFuture). x.admission) future_seen (λ x. refl) o fs) ∙ total-seen future_seen (λ (x : ShareFuture). cond x.plain 1 0) (own of_future o fs) in
-        let all = (kept.hall.each o e there).good.plain in
-        ap (λ (p : Part ShareHall). plain_of p.hall o) (sym view) ∙ omega (arith, futures, all)
+    plain_of_it o e there = ap (λ (p : Part ShareHall). plain_of p.hall o) (sym view) ∙ plain_is es fs ps o e (kept.hall.each o e there).good
 
     pub stands_for_it : (o : ℕ) (e : KeptAdmission) → get es o ≡ Some e → e.named ≡ true → StandsFor old.hall o e.fair
     stands_for_it o e there named = ap (λ (p : Part ShareHall). get p.hall.admissions o) (sym view) ∙ seen-at admission_seen es o e there

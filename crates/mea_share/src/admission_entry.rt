@@ -1,10 +1,12 @@
 ghost use Rattle.std.specs.Prelude.{ℕ, ◌≡◌, ◌+◌, ◌-◌, ◌<◌, ◌≤◌, ◌^◌, ◌&&◌, ◌==◌, not, [], nat_lt, nat_eq, cond, length, true, false, IfOk, OnOk, OnErr};
+ghost use Rattle.mea_family.specs.Causes.{unknown_unless};
+ghost use Rattle.mea_share_model.specs.Meaning.{refused_if};
 ghost use Rattle.mea_share_core.specs.Share.{taken, released, weighing};
 ghost use Rattle.mea_share_core.specs.Fair.{Fair, IsSettled, Belongs, share_of, waiters_of, Becomes, IsSame};
 
 use crate::future_entry::FutureEntry;
 use mea_base::{NoMemory, Poll, Ready};
-use mea_family::one_if;
+use mea_family::{Stop, borrowed_if, one_if, unknown_unless, zero_if};
 use mea_share_core::{FairCore, SharedKey};
 use std::alloc::Global;
 use std::hash::{BuildHasherDefault, FoldHasher};
@@ -63,18 +65,40 @@ impl AdmissionEntry {
         self.named
     }
 
+    /// Why a use of it is refused: it has no name.
+    pub fn cause_of_use(&self) -> Option<Stop>
+        ensures { result ≡ unknown_unless self.now.named }
+    {
+        unknown_unless(self.named)
+    }
+
+    /// Why the end of its name is refused: it has none, or a plain future or permit borrows it.
+    pub fn cause_of_drop(&self) -> Option<Stop>
+        ensures { result ≡ refused_if self.now.named (nat_lt 0 self.now.plain) Stop.Borrowed }
+    {
+        if self.named {
+            borrowed_if(self.plain > 0)
+        } else {
+            Some(Stop::Unknown)
+        }
+    }
+
+    /// Why the setting of a weight is refused: it has no name, or the weight is 0.
+    pub fn cause_of_weight(&self, weight: u64) -> Option<Stop>
+        ensures { result ≡ refused_if self.now.named (weight == 0) Stop.Zero }
+    {
+        if self.named {
+            zero_if(weight == 0)
+        } else {
+            Some(Stop::Unknown)
+        }
+    }
+
     /// Ends its name.
     pub fn unname(&mut self)
         ensures { self.new ≡ record self.old { named = false } }
     {
         self.named = false;
-    }
-
-    /// Whether it has a plain future or permit.
-    pub fn has_plain(&self) -> bool
-        ensures { result ≡ nat_lt 0 self.now.plain }
-    {
-        self.plain > 0
     }
 
     /// Whether it has neither its name nor a future or a permit.

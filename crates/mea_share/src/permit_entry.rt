@@ -1,6 +1,8 @@
-ghost use Rattle.std.specs.Prelude.{◌≡◌};
+ghost use Rattle.std.specs.Prelude.{◌≡◌, IfOk};
 
+use mea_base::NoMemory;
 use mea_share_core::SharedKey;
+use std::alloc::Global;
 use std::marker::Model;
 
 /// What a hall keeps of a permit: whose it is, its key, and whether it is plain.
@@ -20,6 +22,27 @@ impl Model for PermitEntry {
 }
 
 impl PermitEntry {
+    /// One for a key, which is told too.
+    pub fn new(
+        alloc: Global,
+        admission: u64,
+        key: u64,
+        plain: bool,
+    ) -> Result<(SharedKey<u64>, PermitEntry), NoMemory>
+        ensures { IfOk result (λ both. (both.0 ≡ key) × (both.1 ≡ record { admission = admission; key = key; plain = plain })) }
+    {
+        let Ok(own) = SharedKey::new(alloc, key) else {
+            return Err(NoMemory);
+        };
+        let shared = own.share()?;
+        let permit = PermitEntry {
+            admission,
+            plain,
+            key: shared,
+        };
+        Ok((own, permit))
+    }
+
     /// The name of its admission.
     pub fn admission(&self) -> u64
         ensures { result ≡ self.now.admission }
