@@ -99,6 +99,7 @@ impl OnceFamily {
 impl Family<OnceModel> for OnceFamily {
     ghost use Rattle.mea_once_model.specs.OnceHall as model;
     ghost use Rattle.mea_once_model.specs.Meaning as meaning;
+    ghost use Rattle.mea_once_model.specs.Valid as valid;
     ghost use Rattle.mea_once.specs.Halls as halls;
 
     type Event = OnceEvent;
@@ -109,7 +110,7 @@ impl Family<OnceModel> for OnceFamily {
 
     ghost registered = { λ h. model.registered h };
 
-    ghost IsValid = { λ _ _. Unit {0} };
+    ghost IsValid = { λ h n. valid.IsValid h n };
 
     ghost cause_of = { λ h e. meaning.cause_of h e };
 
@@ -124,7 +125,9 @@ impl Family<OnceModel> for OnceFamily {
         }
     }
 
-    fn is_valid(&self) {}
+    fn is_valid(&self) {
+        self.kinds.are_valid();
+    }
 
     fn cause(&self, event: &OnceEvent) -> Option<Stop> {
         self.kinds.cause(meaning_of(event))

@@ -3,6 +3,7 @@ ghost use Rattle.mea_family.specs.Causes.{borrowed_by};
 ghost use Rattle.mea_family.specs.Play.{PartYields, PartRests};
 ghost use Rattle.mea_once_model.specs.Tables.{no_tables, is_table, is_future, is_unsettled, futures_of, registered};
 ghost use Rattle.mea_once_model.specs.KeyActions.{key_act, key_cause, MakeTable, BeginKey, PollKey, SettleKey, EndKey, TellKey, DiscardKey, RemoveKey, DropTable};
+ghost use Rattle.mea_once_model.specs.Valid.{HasTables};
 ghost use Rattle.mea_once.specs.KeyParts.{IsNewKeyed};
 ghost use Rattle.mea_once.specs.Actions.{table_action, value_action};
 ghost use Rattle.mea_once.specs.Halls.{IsKeyFree};
@@ -67,6 +68,13 @@ impl<C: TableCore> KeyPart<C> {
     {
         let entry = self.tables.get(o)?;
         Some(entry.core())
+    }
+
+    /// What holds of the maps or groups and their futures. It does nothing.
+    pub fn is_valid(&self)
+        ensures { HasTables self.now.hall self.now.next }
+    {
+        let _next = self.next;
     }
 
     /// Why an action is refused; None where it is not.

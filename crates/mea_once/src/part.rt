@@ -4,6 +4,7 @@ ghost use Rattle.mea_family.specs.Causes.{borrowed_by};
 ghost use Rattle.mea_family.specs.Play.{PartYields, PartRests};
 ghost use Rattle.mea_once_model.specs.Cells.{no_cells, is_cell, is_future, is_unsettled, futures_of, alone_of, registered};
 ghost use Rattle.mea_once_model.specs.Actions.{act_in, cause_in, Make, Begin, Poll, Settle, End, TellFull, Tell, Peek, Put, Take, TakeOut, Drop, in_the_way};
+ghost use Rattle.mea_once_model.specs.Valid.{HasCells};
 ghost use Rattle.mea_once.specs.Parts.{IsNewCell, fits, FitsSettled};
 ghost use Rattle.mea_once.specs.Actions.{turn_action, wait_action, whole_action, FitsTurn, FitsWait, FitsWhole};
 ghost use Rattle.mea_once.specs.Halls.{IsFree};
@@ -68,6 +69,13 @@ impl<C: TurnCore> CellPart<C> {
     {
         let entry = self.cells.get(o)?;
         Some(entry.core())
+    }
+
+    /// What holds of the cells and their futures. It does nothing.
+    pub fn is_valid(&self)
+        ensures { HasCells self.now.hall self.now.next }
+    {
+        let _next = self.next;
     }
 
     /// Why an action is refused; None where it is not.

@@ -33,11 +33,21 @@ use Rattle.mea_share_model.specs.Meaning.{cause_of, step, end_by, refused_if}
 use Rattle.mea_share_model.specs.Valid.{is_of as model_is_of, HasNumber, HasAt, AreValid}
 use Rattle.mea_share.specs.Kept.{KeptAdmission, KeptFuture, shares_seen, admission_seen, number_of, future_seen, hall_seen, AreGood, AreKept, of_future, of_permit, size_of, AreKeptAdmissions}
 use Rattle.mea_share.specs.Entries.{begun, finished, is_over, Takes, Weighs, PollsEntry, HandsOn, EndsWait, Releases}
+use Rattle.mea_share.specs.Halls.{TakesNoMemory}
 use Rattle.mea_share.specs.Acts.{begins, tries}
 use Rattle.mea_share.proofs.Seen.{share_seen, alike_seen, Tallies, tallies_sets, tallies_alike, passes_seen}
 use Rattle.mea_base.proofs.Tests.{over_is}
 use Rattle.mea_share_model.proofs.Acting.{passed_next}
 use Rattle.mea_share.proofs.Sites.{Did, DidWake, HallOf, Owned, Site, all_waiters, becomes_seen, good_becomes, good_with_future, good_with_permit, good_without_future, good_without_permit, nameless, part_of, passes_sums, plain_is, rests_as, stays, waited, waiters, yields_as}
+
+-- to make a future, or to try, takes memory
+pub begins_no_free : (plain : Bool) (o k : ℕ) → TakesNoMemory (begins plain o k) → ⊥
+begins_no_free true o k no = no
+begins_no_free false o k no = no
+
+pub tries_no_free : (plain : Bool) (o k : ℕ) → TakesNoMemory (tries plain o k) → ⊥
+tries_no_free true o k no = no
+tries_no_free false o k no = no
 
 module _ {old : Part ShareHall} {i : ℕ} (s : Site old i) where
   -- ---- one that is not there
@@ -509,7 +519,7 @@ module _ {old : Part ShareHall} {i : ℕ} (s : Site old i) where
       abbrev permit : SharePermit
       permit = record { admission = x.admission; key = x.key; plain = x.plain }
 
-      pub known_future : cause_of (hall_seen s.es s.fs s.ps) (FsPoll f 0) ≡ None
+      known_future : cause_of (hall_seen s.es s.fs s.ps) (FsPoll f 0) ≡ None
       known_future = ap unknown_unless (ap is_some seen_future)
 
       poll_step : (w : ℕ) → step (hall_seen s.es s.fs s.ps) i (FsPoll f w) ≡ model.poll_at (hall_seen s.es s.fs s.ps) i f w (future_seen x) (admission_seen e) (number_of x.stage)
