@@ -66,16 +66,19 @@ module _ (once : Bool) (e : KeptCell) (fs : Names FutureEntry) (kept : AreKept o
   all : e.cell.permit.free + granted_sum e.cell.permit.granted + held_of e.cell.permit ≡ 1
   all = shares e.cell.permit kept.sound.permit
 
+  -- who has its turn computes, or was granted the permit
+  abbrev Turn : FutureEntry → Type 0
+  Turn x = (is_running x ≡ true) ⊎ ((n : ℕ) × (x.stage ≡ Queued n) × (get e.cell.permit.granted n ≡ Some 1))
+
   module _ (f : ℕ) (x : FutureEntry) (there : get fs f ≡ Some x) where
     its : (s : CellStage) → x.stage ≡ s → get (seen acquire_of fs) f ≡ Some (acquire_at s)
     its s is = seen-at acquire_of fs f x there ∙ ap (λ t. Some (acquire_at t)) is
 
-
-    turn_at : (s : CellStage) → x.stage ≡ s → StageFits true s → has_turn (cell_seen e) f (future_seen x) ≡ true → (is_running x ≡ true) ⊎ ((n : ℕ) × (x.stage ≡ Queued n) × (get e.cell.permit.granted n ≡ Some 1))
+    turn_at : (s : CellStage) → x.stage ≡ s → StageFits true s → has_turn (cell_seen e) f (future_seen x) ≡ true → Turn x
     turn_at New is fits has = absurd (let no : has_turn (cell_seen e) f (future_seen x) ≡ false = ap (λ t. is_polled t && not (waits (cell_seen e).queue f)) is in cc)
     turn_at (Queued n) is fits has = by_home (kept.tied.linked.home f (acquire.Queued 1 n) (its (Queued n) is))
       where
-        by_home : (get e.cell.permit.granted n ≡ Some 1) ⊎ ((lack : ℕ) × (waiting e.cell.permit.queue n ≡ Some (1, lack))) → (is_running x ≡ true) ⊎ ((n : ℕ) × (x.stage ≡ Queued n) × (get e.cell.permit.granted n ≡ Some 1))
+        by_home : (get e.cell.permit.granted n ≡ Some 1) ⊎ ((lack : ℕ) × (waiting e.cell.permit.queue n ≡ Some (1, lack))) → Turn x
         by_home (inl granted) = inr (n, is, granted)
         by_home (inr queued) = absurd (
             let waits_so : waits (cell_seen e).queue f ≡ true = queued_waits e.cell.permit.queue e.cell.permit.granted (seen acquire_of fs) kept.tied.linked f 1 n (its (Queued n) is) debtless ∙ ap is_some queued.1 in
@@ -84,11 +87,11 @@ module _ (once : Bool) (e : KeptCell) (fs : Names FutureEntry) (kept : AreKept o
     turn_at Running is fits has = inl (ap runs_at is)
     turn_at Done is fits has = absurd fits
 
-    turn_of : has_turn (cell_seen e) f (future_seen x) ≡ true → (is_running x ≡ true) ⊎ ((n : ℕ) × (x.stage ≡ Queued n) × (get e.cell.permit.granted n ≡ Some 1))
+    turn_of : has_turn (cell_seen e) f (future_seen x) ≡ true → Turn x
     turn_of has = turn_at x.stage refl (fits_any (is_caller x.job) x.stage (kept.tied.each f x there).stage) has
 
     -- so the permit is not free
-    held_or_granted : (is_running x ≡ true) ⊎ ((n : ℕ) × (x.stage ≡ Queued n) × (get e.cell.permit.granted n ≡ Some 1)) → e.cell.permit.free ≡ 0
+    held_or_granted : Turn x → e.cell.permit.free ≡ 0
     held_or_granted (inl runs) = let held = running_held once e fs kept.tied f x there runs in omega (arith, all, held)
     held_or_granted (inr granted) = let some = sum_without e.cell.permit.granted granted.0 1 granted.2 in omega (arith, all, some)
 
@@ -122,7 +125,7 @@ module _ (once : Bool) (e : KeptCell) (fs : Names FutureEntry) (kept : AreKept o
         let second = sum_without (remove e.cell.permit.granted n) m 1 (get-removed_other e.cell.permit.granted n m (eqb-false n m other) ∙ also) in
         omega (arith, all, first, second))
 
-    one_turn : (is_running x ≡ true) ⊎ ((n : ℕ) × (x.stage ≡ Queued n) × (get e.cell.permit.granted n ≡ Some 1)) → (is_running y ≡ true) ⊎ ((n : ℕ) × (y.stage ≡ Queued n) × (get e.cell.permit.granted n ≡ Some 1)) → f ≡ g
+    one_turn : Turn x → Turn y → f ≡ g
     one_turn (inl runs) (inl too) = both_run runs too (f == g) refl
     one_turn (inl runs) (inr granted) = absurd (let held = running_held once e fs kept.tied f x at_f runs in let some = sum_without e.cell.permit.granted granted.0 1 granted.2 in omega (arith, all, held, some))
     one_turn (inr granted) (inl runs) = absurd (let held = running_held once e fs kept.tied g y at_g runs in let some = sum_without e.cell.permit.granted granted.0 1 granted.2 in omega (arith, all, held, some))
