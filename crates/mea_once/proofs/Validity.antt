@@ -169,11 +169,13 @@ cells_valid once es fs next kept = record {
       let e = seen-back cell_seen es o c is in
       subst (λ r. IsCell r (own valid.of_cell o (seen future_seen fs))) e.2 (rw (own-seen of_future valid.of_cell future_seen (λ x. refl) o fs) (cell_valid once e.0 (own of_future o fs) (kept.hall.each o e.0 e.1)));
   below = λ o some. let c = value_in (get (seen cell_seen es) o) some in let e = seen-back cell_seen es o c.0 c.1 in (kept.hall.below o e.0 e.1).0;
-  futures = record { at = λ f y is.
-      let x = seen-back future_seen fs f y is in
-      let home = kept.hall.firsts.at f x.0 x.1 in
-      let e = value_in (get es x.0.cell) home.1 in
-      (home.0, subst (λ k. IsSome (get (seen cell_seen es) k)) (ap valid.of_cell x.2) (is_there _ (cell_seen e.0) (seen-at cell_seen es x.0.cell e.0 e.1))) };
+  futures = record {
+    at = λ f y is.
+        let x = seen-back future_seen fs f y is in
+        let home = kept.hall.firsts.at f x.0 x.1 in
+        let e = value_in (get es x.0.cell) home.1 in
+        (home.0, subst (λ k. IsSome (get (seen cell_seen es) k)) (ap valid.of_cell x.2) (is_there _ (cell_seen e.0) (seen-at cell_seen es x.0.cell e.0 e.1)));
+  };
 }
 
 -- ---- one map or group

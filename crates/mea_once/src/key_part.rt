@@ -61,7 +61,7 @@ impl<C: TableCore> KeyPart<C> {
         }
     }
 
-    /// The core of a map or a group.
+    /// The core of a map or a group, where it is there. It takes no memory.
     pub fn core(&self, o: u64) -> Option<&C>
         ensures there { is_some result ≡ is_table self.now.hall o }
         ensures stands { IfSome result (λ core. StandsForTable self.now.hall o (C.seen_as core.now)) }
@@ -77,7 +77,7 @@ impl<C: TableCore> KeyPart<C> {
         let _next = self.next;
     }
 
-    /// Why an action is refused; None where it is not.
+    /// Why an action is refused; None where it is not. It takes no memory.
     pub fn cause(&self, action: TableAction) -> Option<Stop>
         ensures { result ≡ key_cause self.now.hall (table_action action) }
     {
@@ -273,7 +273,7 @@ impl<C: TableCore> KeyPart<C> {
 }
 
 impl<C: ValueCore> KeyPart<C> {
-    /// Why an action is refused; None where it is not.
+    /// Why an action is refused; None where it is not. It takes no memory.
     pub fn cause_value(&self, action: ValueAction) -> Option<Stop>
         ensures { result ≡ key_cause self.now.hall (value_action action) }
     {

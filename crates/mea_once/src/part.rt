@@ -62,7 +62,7 @@ impl<C: TurnCore> CellPart<C> {
         }
     }
 
-    /// The core of a cell.
+    /// The core of a cell, where it is there. It takes no memory.
     pub fn core(&self, o: u64) -> Option<&C>
         ensures there { is_some result ≡ is_cell self.now.hall o }
         ensures stands { IfSome result (λ core. StandsFor self.now.hall o (C.seen_as core.now)) }
@@ -78,7 +78,7 @@ impl<C: TurnCore> CellPart<C> {
         let _next = self.next;
     }
 
-    /// Why an action is refused; None where it is not.
+    /// Why an action is refused; None where it is not. It takes no memory.
     pub fn cause(&self, action: TurnAction) -> Option<Stop>
         ensures { result ≡ cause_in self.now.hall (turn_action action) }
     {
@@ -277,7 +277,7 @@ impl<C: TurnCore> CellPart<C> {
 }
 
 impl<C: WaitCore> CellPart<C> {
-    /// Why an action is refused; None where it is not.
+    /// Why an action is refused; None where it is not. It takes no memory.
     pub fn cause_wait(&self, action: WaitAction) -> Option<Stop>
         ensures { result ≡ cause_in self.now.hall (wait_action action) }
     {
@@ -337,7 +337,7 @@ impl<C: WaitCore> CellPart<C> {
 }
 
 impl<C: WholeCore> CellPart<C> {
-    /// Why an action is refused; None where it is not.
+    /// Why an action is refused; None where it is not. It takes no memory.
     pub fn cause_whole(&self, action: WholeAction) -> Option<Stop>
         ensures { result ≡ cause_in self.now.hall (whole_action action) }
     {

@@ -28,7 +28,7 @@ use Rattle.mea_events.specs.declared.share_event.ShareEvent.TheVariants.{FsTry, 
 use Rattle.mea_share_model.specs.Next as next_model
 use Rattle.mea_share_model.specs.Next.{share_at, put_share, next_of}
 use Rattle.mea_share_model.specs.Admissions as model
-use Rattle.mea_share_model.specs.Admissions.{Admission, ShareFuture, SharePermit, ShareHall, registered, with_share, passed, woken, tidied_admissions, things_of, is_named, is_named_one, is_permit}
+use Rattle.mea_share_model.specs.Admissions.{Admission, ShareFuture, SharePermit, ShareHall, registered, with_share, passed, woken, tidied_admissions, things_of, plain_of, is_named, is_named_one, is_permit}
 use Rattle.mea_share_model.specs.Meaning.{cause_of, step, end_by, refused_if}
 use Rattle.mea_share_model.specs.Valid.{is_of as model_is_of, HasNumber, HasAt, AreValid}
 use Rattle.mea_share.specs.Kept.{KeptAdmission, KeptFuture, shares_seen, admission_seen, number_of, future_seen, hall_seen, AreGood, AreKept, of_future, of_permit, size_of, AreKeptAdmissions}
@@ -42,12 +42,12 @@ use Rattle.mea_share.proofs.Sites.{Did, DidWake, HallOf, Owned, Site, all_waiter
 
 -- to make a future, or to try, takes memory
 pub begins_no_free : (plain : Bool) (o k : ℕ) → TakesNoMemory (begins plain o k) → ⊥
-begins_no_free true o k no = no
-begins_no_free false o k no = no
+begins_no_free true o k = λ takes. takes
+begins_no_free false o k = λ takes. takes
 
 pub tries_no_free : (plain : Bool) (o k : ℕ) → TakesNoMemory (tries plain o k) → ⊥
-tries_no_free true o k no = no
-tries_no_free false o k no = no
+tries_no_free true o k = λ takes. takes
+tries_no_free false o k = λ takes. takes
 
 module _ {old : Part ShareHall} {i : ℕ} (s : Site old i) where
   -- ---- one that is not there
@@ -59,6 +59,9 @@ module _ {old : Part ShareHall} {i : ℕ} (s : Site old i) where
     pub tries_unknown : (plain : Bool) (k : ℕ) → cause_of (hall_seen s.es s.fs s.ps) (tries plain o k) ≡ Some Unknown
     tries_unknown true k = ap unknown_unless (nameless s o none)
     tries_unknown false k = ap unknown_unless (nameless s o none)
+
+    pub drop_unknown : cause_of (hall_seen s.es s.fs s.ps) (FsDrop o) ≡ Some Unknown
+    drop_unknown = ap (λ b. refused_if b (nat_lt 0 (plain_of (hall_seen s.es s.fs s.ps) o)) Borrowed) (nameless s o none)
 
   -- ---- one admission
   module _ (o : ℕ) (e : KeptAdmission) (there : get s.es o ≡ Some e) where

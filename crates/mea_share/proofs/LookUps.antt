@@ -1,5 +1,6 @@
 -- what is looked up in admissions as they are seen
-use Rattle.std.proofs.Common.{◌≡◌, ℕ, ◌-◌, ◌≤◌, ◌⊎◌, inl, inr, Bool, true, false, cond, if◌then◌else◌, Option, Some, None, IsSome, option_map, is_some, refl, ap, sym, subst, ◌∙◌, arith}
+use Rattle.std.proofs.Common.{◌≡◌, ℕ, ◌-◌, ◌≤◌, ◌⊎◌, inl, inr, Bool, true, false, cond, if◌then◌else◌, Option, Some, None, IsSome, option_map, is_some, Bor, refl, ap, sym, subst, ◌∙◌, arith}
+use Rattle.std.specs.Option.{option_copied}
 use Rattle.std.specs.FinMap.{get, insert, remove, empty}
 use Rattle.mea_family.specs.declared.stop.Stop.TheVariants.{Unknown}
 use Rattle.mea_family.specs.Causes.{unknown_unless}
@@ -37,6 +38,10 @@ found_named (Some d) e is = at d.named refl
     at : (b : Bool) → d.named ≡ b → (Some d ≡ Some e) × (e.named ≡ true)
     at true named = let same : Some d ≡ Some e = sym (if_true d.named _ _ named) ∙ is in (same, ap (λ (x : KeptAdmission). x.named) (sym (inside same)) ∙ named)
     at false named = absurd (let none : None ≡ Some e = sym (if_false d.named _ _ named) ∙ is in cc)
+
+pub copied_some : {X : Type 0} (o : Option (Bor X)) → is_some o ≡ is_some (option_copied o)
+copied_some None = refl
+copied_some (Some x) = refl
 
 pub named_some : (p : Option KeptAdmission) → is_some (if_named p) ≡ is_named_one (option_map admission_seen p)
 named_some None = refl

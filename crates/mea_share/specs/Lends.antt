@@ -1,5 +1,5 @@
 -- the core that a hall lends, and what it tells of all admissions
-use Rattle.std.specs.Prelude.{ℕ, ◌≡◌, ◌⊎◌, Some}
+use Rattle.std.specs.Prelude.{ℕ, ◌≡◌, ◌⊎◌, true, Some}
 use Rattle.std.specs.FinMap.{get}
 use Rattle.mea_share_core.specs.Fair.{Fair}
 use Rattle.mea_share_model.specs.Next.{waiting_in}

@@ -51,28 +51,28 @@ impl AdmissionEntry {
         }
     }
 
-    /// Its core.
+    /// Its core. It takes no memory.
     pub fn core(&self) -> &Core
         ensures { result.now ≡ self.now.fair }
     {
         &self.core
     }
 
-    /// Whether it is still named.
+    /// Whether it is still named. It takes no memory.
     pub fn is_named(&self) -> bool
         ensures { result ≡ self.now.named }
     {
         self.named
     }
 
-    /// Why a use of it is refused: it has no name.
+    /// Why a use of it is refused: it has no name. It takes no memory.
     pub fn cause_of_use(&self) -> Option<Stop>
         ensures { result ≡ unknown_unless self.now.named }
     {
         unknown_unless(self.named)
     }
 
-    /// Why the end of its name is refused: it has none, or a plain future or permit borrows it.
+    /// Why the end of its name is refused: it has none, or a plain future or permit borrows it. It takes no memory.
     pub fn cause_of_drop(&self) -> Option<Stop>
         ensures { result ≡ refused_if self.now.named (nat_lt 0 self.now.plain) Stop.Borrowed }
     {
@@ -83,7 +83,7 @@ impl AdmissionEntry {
         }
     }
 
-    /// Why the setting of a weight is refused: it has no name, or the weight is 0.
+    /// Why the setting of a weight is refused: it has no name, or the weight is 0. It takes no memory.
     pub fn cause_of_weight(&self, weight: u64) -> Option<Stop>
         ensures { result ≡ refused_if self.now.named (weight == 0) Stop.Zero }
     {
@@ -94,21 +94,21 @@ impl AdmissionEntry {
         }
     }
 
-    /// Ends its name.
+    /// Ends its name. It takes no memory.
     pub fn unname(&mut self)
         ensures { self.new ≡ record self.old { named = false } }
     {
         self.named = false;
     }
 
-    /// Whether it has neither its name nor a future or a permit.
+    /// Whether it has neither its name nor a future or a permit. It takes no memory.
     pub fn is_over(&self) -> bool
         ensures { result ≡ is_over self.now }
     {
         !self.named && self.things == 0
     }
 
-    /// One future or permit more.
+    /// One future or permit more. It takes no memory.
     pub fn begin(&mut self, plain: bool)
         requires things { self.old.things + 1 < 2 ^ 128 }
         requires plain { self.old.plain + 1 < 2 ^ 128 }
@@ -118,7 +118,7 @@ impl AdmissionEntry {
         self.plain += one_if(plain);
     }
 
-    /// One future or permit less.
+    /// One future or permit less. It takes no memory.
     pub fn finish(&mut self, plain: bool)
         requires things { 1 ≤ self.old.things }
         requires plain { cond plain 1 0 ≤ self.old.plain }
@@ -128,7 +128,7 @@ impl AdmissionEntry {
         self.plain -= one_if(plain);
     }
 
-    /// Takes a free permit for a key, and tells whether there was one.
+    /// Takes a free permit for a key, and tells whether there was one. On an error nothing has changed.
     pub fn take(&mut self, key: &SharedKey<u64>) -> Result<bool, NoMemory>
         ensures took { IfOk result (λ got. Takes self.old key.now got self.new) }
         ensures err { OnErr result (self.new ≡ self.old) }
@@ -136,7 +136,7 @@ impl AdmissionEntry {
         self.core.try_acquire(key)
     }
 
-    /// Sets the weight of a key.
+    /// Sets the weight of a key. On an error nothing has changed.
     pub fn set_weight(&mut self, key: &SharedKey<u64>, weight: u64) -> Result<(), NoMemory>
         requires { 0 < weight }
         ensures ok { OnOk result (Weighs self.old key.now weight self.new) }

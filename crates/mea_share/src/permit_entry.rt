@@ -43,21 +43,21 @@ impl PermitEntry {
         Ok((own, permit))
     }
 
-    /// The name of its admission.
+    /// The name of its admission. It takes no memory.
     pub fn admission(&self) -> u64
         ensures { result ≡ self.now.admission }
     {
         self.admission
     }
 
-    /// Whether it borrows its admission.
+    /// Whether it borrows its admission. It takes no memory.
     pub fn is_plain(&self) -> bool
         ensures { result ≡ self.now.plain }
     {
         self.plain
     }
 
-    /// Its key.
+    /// Its key. It takes no memory.
     pub fn key(&self) -> &SharedKey<u64>
         ensures { result.now ≡ self.now.key }
     {

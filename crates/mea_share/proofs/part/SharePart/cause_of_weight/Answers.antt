@@ -8,4 +8,4 @@ pub returns-in-Some : goal.returns-in-Some
 returns-in-Some c = c.cause_of_weight.ensures ∙ ap (λ b. refused_if b (c.args.weight == 0) Zero) (named_of c.self.inside.admissions c.self.inside.futures c.self.inside.permits c.self.inside.next c.self.view_is c.args.o (Some c.in-Some.entry.now) (sym c.in-Some.ensures))
 
 pub returns-in-None : goal.returns-in-None
-returns-in-None c = ap (λ b. refused_if b _ Zero) (named_of c.self.inside.admissions c.self.inside.futures c.self.inside.permits c.self.inside.next c.self.view_is c.args.o None (sym c.in-None.ensures))
+returns-in-None c = ap (λ b. refused_if b (c.args.weight == 0) Zero) (named_of c.self.inside.admissions c.self.inside.futures c.self.inside.permits c.self.inside.next c.self.view_is c.args.o None (sym c.in-None.ensures))

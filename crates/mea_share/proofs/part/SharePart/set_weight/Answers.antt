@@ -1,4 +1,4 @@
-use Rattle.std.proofs.Common.{◌==◌, refl, ap, sym, ◌∙◌}
+use Rattle.std.proofs.Common.{rules, ◌==◌, refl, ap, sym, ◌∙◌}
 use Rattle.mea_family.specs.declared.stop.Stop.TheVariants.{Unknown, Zero}
 use Rattle.mea_share_model.specs.Meaning.{refused_if}
 use Rattle.mea_events.specs.declared.share_event.ShareEvent.TheVariants.{FsWeight}
@@ -28,11 +28,11 @@ pub returns-in_default-set_weight : goal.returns-in_default-set_weight
 returns-in_default-set_weight c = λ w. (lacks_memory (site c.self.inside.admissions c.self.inside.futures c.self.inside.permits c.self.inside.next c.self.view_is c.self.invariant c.requires c.ranges.number.fits) (FsWeight c.args.o c.args.k c.args.weight) (weight_cause (site c.self.inside.admissions c.self.inside.futures c.self.inside.permits c.self.inside.next c.self.view_is c.self.invariant c.requires c.ranges.number.fits) c.args.o c.in-Some.entry.now (sym c.in-Some.ensures.value) c.args.k c.args.weight ∙ sym c.in_default-cause_of_weight.ensures) (λ no. no), (unchanged (site c.self.inside.admissions c.self.inside.futures c.self.inside.permits c.self.inside.next c.self.view_is c.self.invariant c.requires c.ranges.number.fits) c.args.o c.in-Some.entry.now (sym c.in-Some.ensures.value) c.set_weight.new.self c.in_default-set_weight.ensures.err).1, refl)
 
 pub invariant_of-self-2 : goal.invariant_of-self-2
-invariant_of-self-2 c = 
+invariant_of-self-2 c =
     let did = rw c.in-Ok.ensures.ok at c.in-Ok-set_weight.ensures.ok in
     (weighs (site c.self.inside.admissions c.self.inside.futures c.self.inside.permits c.self.inside.next c.self.view_is c.self.invariant c.requires c.ranges.number.fits) c.args.o c.in-Some.entry.now (sym c.in-Some.ensures.value) c.args.k c.args.weight c.set_weight.new.self (weight_cause (site c.self.inside.admissions c.self.inside.futures c.self.inside.permits c.self.inside.next c.self.view_is c.self.invariant c.requires c.ranges.number.fits) c.args.o c.in-Some.entry.now (sym c.in-Some.ensures.value) c.args.k c.args.weight ∙ sym c.in_default-cause_of_weight.ensures) did).0
 
 pub returns : goal.returns
-returns c = 
+returns c =
     let did = rw c.in-Ok.ensures.ok at c.in-Ok-set_weight.ensures.ok in
     (weighs (site c.self.inside.admissions c.self.inside.futures c.self.inside.permits c.self.inside.next c.self.view_is c.self.invariant c.requires c.ranges.number.fits) c.args.o c.in-Some.entry.now (sym c.in-Some.ensures.value) c.args.k c.args.weight c.set_weight.new.self (weight_cause (site c.self.inside.admissions c.self.inside.futures c.self.inside.permits c.self.inside.next c.self.view_is c.self.invariant c.requires c.ranges.number.fits) c.args.o c.in-Some.entry.now (sym c.in-Some.ensures.value) c.args.k c.args.weight ∙ sym c.in_default-cause_of_weight.ensures) did).1

@@ -1,4 +1,4 @@
-use Rattle.std.proofs.Common.{refl, ap, sym, ◌∙◌, arith}
+use Rattle.std.proofs.Common.{rules, refl, ap, sym, ◌∙◌, arith}
 use Rattle.mea_family.specs.declared.stop.Stop.TheVariants.{Unknown}
 use Rattle.mea_base.proofs.Maps.{get-there, is_there}
 use Rattle.mea_share.specs.Kept.{KeptAdmission}
@@ -29,7 +29,7 @@ pub returns-in_default-insert : goal.returns-in_default-insert
 returns-in_default-insert c = rw (← c.is_plain-plain.ensures, c.in_default-insert.ensures.err) (λ w. (lacks_memory (site c.self.inside.admissions c.self.inside.futures c.self.inside.permits c.self.inside.next c.self.view_is c.self.invariant c.requires c.ranges.number.fits) (tries c.is_plain-plain.result c.args.o c.args.k) (try_cause (site c.self.inside.admissions c.self.inside.futures c.self.inside.permits c.self.inside.next c.self.view_is c.self.invariant c.requires c.ranges.number.fits) c.args.o c.in-Some.entry.now (sym c.in-Some.ensures.value) c.is_plain-plain.result c.args.k ∙ sym c.in_default-cause_of_use.ensures) (tries_no_free c.is_plain-plain.result c.args.o c.args.k), (unchanged (site c.self.inside.admissions c.self.inside.futures c.self.inside.permits c.self.inside.next c.self.view_is c.self.invariant c.requires c.ranges.number.fits) c.args.o c.in-Some.entry.now (sym c.in-Some.ensures.value) c.in-Some.entry.now refl).1, refl))
 
 pub begin-requires-clause-plain : goal.begin-requires-clause-plain
-begin-requires-clause-plain c = 
+begin-requires-clause-plain c =
     let takes = c.in-Ok-true.ensures.took in
     let same = ap (λ (d : KeptAdmission). d.plain) takes.rest in
     omega (arith, same, (few_things (site c.self.inside.admissions c.self.inside.futures c.self.inside.permits c.self.inside.next c.self.view_is c.self.invariant c.requires c.ranges.number.fits) c.args.o c.in-Some.entry.now (sym c.in-Some.ensures.value)).1)
@@ -59,5 +59,5 @@ remove-requires-in-Err c = rw c.in-Ok-insert.ensures.ok (is_there _ _ (get-there
 pub invariant_of-self-in-Err : goal.invariant_of-self-in-Err
 invariant_of-self-in-Err c = rw (c.remove-in-Err.ensures.rest, c.in-Ok-insert.ensures.ok) (not_tried (site c.self.inside.admissions c.self.inside.futures c.self.inside.permits c.self.inside.next c.self.view_is c.self.invariant c.requires c.ranges.number.fits) c.args.o c.in-Some.entry.now (sym c.in-Some.ensures.value) c.take.new.self _ c.in-Err.ensures.err).0
 
-pub returns-in-Err : goal.returns-in-Err
-returns-in-Err c = rw (← c.is_plain-plain.ensures, c.remove-in-Err.ensures.rest, c.in-Ok-insert.ensures.ok) (λ w. (lacks_memory (site c.self.inside.admissions c.self.inside.futures c.self.inside.permits c.self.inside.next c.self.view_is c.self.invariant c.requires c.ranges.number.fits) (tries c.is_plain-plain.result c.args.o c.args.k) (try_cause (site c.self.inside.admissions c.self.inside.futures c.self.inside.permits c.self.inside.next c.self.view_is c.self.invariant c.requires c.ranges.number.fits) c.args.o c.in-Some.entry.now (sym c.in-Some.ensures.value) c.is_plain-plain.result c.args.k ∙ sym c.in_default-cause_of_use.ensures) (tries_no_free c.is_plain-plain.result c.args.o c.args.k), (not_tried (site c.self.inside.admissions c.self.inside.futures c.self.inside.permits c.self.inside.next c.self.view_is c.self.invariant c.requires c.ranges.number.fits) c.args.o c.in-Some.entry.now (sym c.in-Some.ensures.value) c.take.new.self _ c.in-Err.ensures.err).1, refl))
+pub returns : goal.returns
+returns c = rw (← c.is_plain-plain.ensures, c.remove-in-Err.ensures.rest, c.in-Ok-insert.ensures.ok) (λ w. (lacks_memory (site c.self.inside.admissions c.self.inside.futures c.self.inside.permits c.self.inside.next c.self.view_is c.self.invariant c.requires c.ranges.number.fits) (tries c.is_plain-plain.result c.args.o c.args.k) (try_cause (site c.self.inside.admissions c.self.inside.futures c.self.inside.permits c.self.inside.next c.self.view_is c.self.invariant c.requires c.ranges.number.fits) c.args.o c.in-Some.entry.now (sym c.in-Some.ensures.value) c.is_plain-plain.result c.args.k ∙ sym c.in_default-cause_of_use.ensures) (tries_no_free c.is_plain-plain.result c.args.o c.args.k), (not_tried (site c.self.inside.admissions c.self.inside.futures c.self.inside.permits c.self.inside.next c.self.view_is c.self.invariant c.requires c.ranges.number.fits) c.args.o c.in-Some.entry.now (sym c.in-Some.ensures.value) c.take.new.self _ c.in-Err.ensures.err).1, refl))
