@@ -1,17 +1,15 @@
 -- what is looked up in admissions as they are seen
-use Rattle.std.proofs.Common.{◌≡◌, ℕ, ◌-◌, ◌≤◌, ◌⊎◌, inl, inr, Bool, true, false, cond, if◌then◌else◌, Option, Some, None, IsSome, option_map, is_some, Bor, refl, ap, sym, subst, ◌∙◌, arith}
-use Rattle.std.specs.Option.{option_copied}
+use Rattle.std.proofs.Common.{◌≡◌, ℕ, ◌-◌, ◌≤◌, ◌⊎◌, inl, inr, true, cond, if◌then◌else◌, Option, Some, None, IsSome, option_map, is_some, refl, ap, sym, subst, ◌∙◌, arith}
 use Rattle.std.specs.FinMap.{get, insert, remove, empty}
 use Rattle.mea_family.specs.declared.stop.Stop.TheVariants.{Unknown}
 use Rattle.mea_family.specs.Causes.{unknown_unless}
 use Rattle.mea_base.specs.Ready.{Waking}
-use Rattle.mea_base.proofs.Maps.{total-has, nothing_at, inside, get-there, is_there}
+use Rattle.mea_base.proofs.Maps.{total-has, nothing_at, get-there, is_there}
 use Rattle.std.proofs.lemmas.Bool.{eq-eqb}
 use Rattle.mea_base.proofs.Totals.{get_removed}
 use Rattle.mea_base.proofs.NamedMaps.{get-seen, is_some-map}
 use Rattle.mea_by_name.specs.ByName.{Names, seen, own}
 use Rattle.mea_family.specs.Play.{Part}
-use Rattle.mea_by_name.proofs.Cases.{if_true, if_false}
 use Rattle.mea_by_name.proofs.Own.{seen-at, seen-none, seen-back, seen-empty, insert_same, gone_none}
 use Rattle.mea_share_core.specs.Groups.{waiting_in}
 use Rattle.mea_share_core.specs.Fair.{IsSettled}
@@ -23,33 +21,11 @@ use Rattle.mea_share_model.specs.Meaning.{cause_of}
 use Rattle.mea_share_model.specs.Valid.{AreValid}
 use Rattle.mea_share_model.proofs.Keeping.{valid_start}
 use Rattle.mea_share.specs.Kept.{KeptAdmission, KeptFuture, shares_seen, admission_seen, future_seen, hall_seen, AreGood, of_future, of_permit, AreKeptAdmissions}
-use Rattle.mea_share.specs.Entries.{if_named}
 use Rattle.mea_share.specs.Lends.{StandsFor, AreSettled}
 use Rattle.mea_share.proofs.Sites.{Site, part_of, plain_is, registered_is, waiters}
 
 pub nothing_left : (fs : Names KeptFuture) (x : ℕ) → get (remove fs x) x ≡ None
 nothing_left fs x = get_removed fs x x ∙ ap (λ b. cond b None (get fs x)) (eq-eqb x x refl)
-
--- ---- an admission that is there and named
-pub found_named : (p : Option KeptAdmission) (e : KeptAdmission) → if_named p ≡ Some e → (p ≡ Some e) × (e.named ≡ true)
-found_named None e is = absurd (cc)
-found_named (Some d) e is = at d.named refl
-  where
-    at : (b : Bool) → d.named ≡ b → (Some d ≡ Some e) × (e.named ≡ true)
-    at true named = let same : Some d ≡ Some e = sym (if_true d.named _ _ named) ∙ is in (same, ap (λ (x : KeptAdmission). x.named) (sym (inside same)) ∙ named)
-    at false named = absurd (let none : None ≡ Some e = sym (if_false d.named _ _ named) ∙ is in cc)
-
-pub copied_some : {X : Type 0} (o : Option (Bor X)) → is_some o ≡ is_some (option_copied o)
-copied_some None = refl
-copied_some (Some x) = refl
-
-pub named_some : (p : Option KeptAdmission) → is_some (if_named p) ≡ is_named_one (option_map admission_seen p)
-named_some None = refl
-named_some (Some d) = at d.named
-  where
-    at : (b : Bool) → is_some (if b then Some d else None) ≡ b
-    at true = refl
-    at false = refl
 
 module _ {old : Part ShareHall} {i : ℕ} (s : Site old i) where
   pub future_none : (f : ℕ) → get old.hall.futures f ≡ None → get s.fs f ≡ None
@@ -58,9 +34,6 @@ module _ {old : Part ShareHall} {i : ℕ} (s : Site old i) where
       at : (p : Option KeptFuture) → get s.fs f ≡ p → get s.fs f ≡ None
       at None is = is
       at (Some x) is = absurd (let there = seen-at future_seen s.fs f x is in let gone : get (seen future_seen s.fs) f ≡ None = ap (λ (p : Part ShareHall). get p.hall.futures f) s.view ∙ none in cc)
-
-  pub not_named : (o : ℕ) → if_named (get s.es o) ≡ None → is_named (hall_seen s.es s.fs s.ps) o ≡ false
-  not_named o none = ap is_named_one (get-seen (λ k e. admission_seen e) s.es o) ∙ sym (named_some (get s.es o)) ∙ ap is_some none
 
   -- what was looked at is as it was
   pub same_future : (f : ℕ) (x : KeptFuture) → get s.fs f ≡ Some x → AreKeptAdmissions s.es (insert s.fs f x) s.ps s.next × (◌≡◌ {A = Part ShareHall} (part_of s.es (insert s.fs f x) s.ps s.next) old)

@@ -42,37 +42,20 @@ free_tells h (FsWeight o k n) free is = free
 free_tells h (FsWeightof o k) free is = free
 
 module _ (old : Part ShareHall) (i : ℕ) (e : ShareEvent) (new : Part ShareHall) (before after : Waking ℕ) where
-  pub played : (r : Result Answer Stop) → Acts old i e r new before after → IfOk r (λ answer. PartYields registered old i (step old.hall i e) answer new before after)
-  played (Ok answer) did = did.1
-  played (Err stop) did = tt
-
-  pub grows : registered (step old.hall i e).hall + length (step old.hall i e).wakes ≤ registered old.hall + 1 → (r : Result Answer Stop) → Acts old i e r new before after → registered new.hall ≤ registered old.hall + 1
-  grows law (Ok answer) did = let is = ap (λ (p : Part ShareHall). registered p.hall) did.1.moved in omega (arith, law, is)
-  grows law (Err stop) did = let is = ap (λ (p : Part ShareHall). registered p.hall) did.1 in omega (arith, is)
-
-  pub allowed : (r : Result Answer Stop) → Acts old i e r new before after → OnOk r (cause_of old.hall e ≡ None)
-  allowed (Ok answer) did = did.0
-  allowed (Err stop) did = tt
-
   of_cause : (stop : Stop) → Refuses old.hall e stop → (cause_of old.hall e ≡ Some stop) ⊎ ((cause_of old.hall e ≡ None) × (stop ≡ NoMemory))
   of_cause stop (inl is) = inl is
   of_cause stop (inr lack) = inr (lack.0, lack.1)
-
-  pub refused : (r : Result Answer Stop) → Acts old i e r new before after → IfErr r (λ stop. (cause_of old.hall e ≡ Some stop) ⊎ ((cause_of old.hall e ≡ None) × (stop ≡ NoMemory)))
-  refused (Ok answer) did = tt
-  refused (Err stop) did = of_cause stop did.0
 
   takes_some : TakesNoMemory e → (stop : Stop) → stop ≡ NoMemory → Refuses old.hall e stop → ⊥
   takes_some free stop is (inl cause) = free_tells old.hall e free (cause ∙ ap (λ s. Some s) is)
   takes_some free stop is (inr lack) = lack.2 free
 
-  pub no_memory : (r : Result Answer Stop) → Acts old i e r new before after → TakesNoMemory e → r ≢ Err NoMemory
-  no_memory (Ok answer) did free is = absurd (cc)
-  no_memory (Err stop) did free is = takes_some free stop (let same : stop ≡ NoMemory = cc in same) did.0
-
-  pub kept : (r : Result Answer Stop) → Acts old i e r new before after → OnErr r ((new ≡ old) × (after ≡ before))
-  kept (Ok answer) did = tt
-  kept (Err stop) did = (did.1, did.2)
+  -- in the order of the family's clauses
+  pub told : registered (step old.hall i e).hall + length (step old.hall i e).wakes ≤ registered old.hall + 1 → (r : Result Answer Stop) → Acts old i e r new before after
+      → IfOk r (λ answer. PartYields registered old i (step old.hall i e) answer new before after) × (registered new.hall ≤ registered old.hall + 1) × OnOk r (cause_of old.hall e ≡ None)
+      × IfErr r (λ stop. (cause_of old.hall e ≡ Some stop) ⊎ ((cause_of old.hall e ≡ None) × (stop ≡ NoMemory))) × (TakesNoMemory e → r ≢ Err NoMemory) × OnErr r ((new ≡ old) × (after ≡ before))
+  told law (Ok answer) did = (did.1, (let is = ap (λ (p : Part ShareHall). registered p.hall) did.1.moved in omega (arith, law, is)), did.0, tt, (λ free is. absurd (cc)), tt)
+  told law (Err stop) did = (tt, (let is = ap (λ (p : Part ShareHall). registered p.hall) did.1 in omega (arith, is)), tt, of_cause stop did.0, (λ free is. takes_some free stop (let same : stop ≡ NoMemory = cc in same) did.0), (did.1, did.2))
 
 pub none_registered : registered empty_hall ≡ 0
 none_registered = total-empty (λ o (r : Admission). waiting_in r.shares)

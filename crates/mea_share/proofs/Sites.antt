@@ -37,6 +37,7 @@ use Rattle.mea_share_model.proofs.Changes.{len-least, by_key}
 use Rattle.mea_share.specs.Kept.{KeptAdmission, KeptFuture, shares_seen, admission_seen, future_seen, hall_seen, AreGood, AreKept, of_future, of_permit, size_of, AreKeptAdmissions}
 use Rattle.mea_share.specs.Entries.{new_admission, begun, finished}
 use Rattle.mea_share.specs.Halls.{TakesNoMemory}
+use Rattle.mea_share.specs.Lends.{StandsFor}
 use Rattle.mea_share.specs.Acts.{Refuses, Acts, ActsQuietly}
 use Rattle.mea_share.proofs.Seen.{share_seen, sets_seen, nothing_seen, tallies_sets}
 
@@ -136,10 +137,7 @@ module _ {old : Part ShareHall} {i : ℕ} (s : Site old i) where
   pub lacks_memory : (e : ShareEvent) → cause_of (hall_seen s.es s.fs s.ps) e ≡ None → (TakesNoMemory e → ⊥) → Refuses old.hall e NoMemory
   lacks_memory e none takes = inr (subst (λ (p : Part ShareHall). cause_of p.hall e ≡ None) s.view none, refl, takes)
 
-  -- ---- what is named, and what is not there
-  pub known : (o : ℕ) (e : KeptAdmission) → get s.es o ≡ Some e → e.named ≡ true → unknown_unless (is_named (hall_seen s.es s.fs s.ps) o) ≡ None
-  known o e there named = ap (λ q. unknown_unless (is_named_one q)) (seen-at admission_seen s.es o e there) ∙ ap unknown_unless named
-
+  -- ---- what is not there
   pub nameless : (o : ℕ) → get s.es o ≡ None → is_named (hall_seen s.es s.fs s.ps) o ≡ false
   nameless o none = ap is_named_one (seen-none admission_seen s.es o none)
 
@@ -150,19 +148,27 @@ module _ {old : Part ShareHall} {i : ℕ} (s : Site old i) where
   pub stays : HallOf s.es s.fs s.ps (i + 1)
   stays = halls.rests of_future of_permit AreKept size_of s.es s.fs s.ps s.next i s.kept.hall s.later s.fits
 
-  pub tells : (ev : ShareEvent) (answer : Answer) (o : ℕ) (e : KeptAdmission) (act : Admission → Outcome ShareHall) → get s.es o ≡ Some e → cause_of (hall_seen s.es s.fs s.ps) ev ≡ None → step (hall_seen s.es s.fs s.ps) i ev ≡ found (get (seen admission_seen s.es) o) (hall_seen s.es s.fs s.ps) act
-      → act (admission_seen e) ≡ quietly (hall_seen s.es s.fs s.ps) answer → Did ev answer s.es s.fs s.ps
-  tells ev answer o e act there none is does =
-      rests_as ev (quietly (hall_seen s.es s.fs s.ps) answer) answer s.es s.fs s.ps none (is ∙ found_is (get (seen admission_seen s.es) o) (hall_seen s.es s.fs s.ps) act (admission_seen e) (seen-at admission_seen s.es o e there) ∙ does) stays refl refl refl refl
+  -- what is told of an admission that is seen so
+  module _ (o : ℕ) (f : Fair ℕ ℕ) (stands : StandsFor old.hall o f) where
+    named : cause_of (hall_seen s.es s.fs s.ps) (FsFree o) ≡ None
+    named = ap (λ (p : Part ShareHall). unknown_unless (is_named p.hall o)) s.view ∙ ap (λ q. unknown_unless (is_named_one q)) stands
 
-  pub tells_free : (o : ℕ) (e : KeptAdmission) → get s.es o ≡ Some e → e.named ≡ true → Did (FsFree o) (answers.Free e.fair.free) s.es s.fs s.ps
-  tells_free o e there named = tells (FsFree o) (answers.Free e.fair.free) o e _ there (known o e there named) refl refl
+    tells : (ev : ShareEvent) (answer : Answer) (act : Admission → Outcome ShareHall) → cause_of (hall_seen s.es s.fs s.ps) ev ≡ None → step (hall_seen s.es s.fs s.ps) i ev ≡ found (get (seen admission_seen s.es) o) (hall_seen s.es s.fs s.ps) act
+        → act (record { free = f.free; next = f.next; shares = shares_seen f.shares; named = true }) ≡ quietly (hall_seen s.es s.fs s.ps) answer → Did ev answer s.es s.fs s.ps
+    tells ev answer act none is does =
+        rests_as ev (quietly (hall_seen s.es s.fs s.ps) answer) answer s.es s.fs s.ps none (is ∙ found_is (get (seen admission_seen s.es) o) (hall_seen s.es s.fs s.ps) act _ (ap (λ (p : Part ShareHall). get p.hall.admissions o) s.view ∙ stands) ∙ does) stays refl refl refl refl
 
-  pub tells_waiters : (o : ℕ) (e : KeptAdmission) → get s.es o ≡ Some e → e.named ≡ true → Did (FsWaiters o) (answers.Count (waiters e)) s.es s.fs s.ps
-  tells_waiters o e there named = tells (FsWaiters o) (answers.Count (waiters e)) o e _ there (known o e there named) refl (ap (λ n. quietly (hall_seen s.es s.fs s.ps) (answers.Count n)) (sym (s.kept.hall.each o e there).good.waiting))
+    pub tells_free : Did (FsFree o) (answers.Free f.free) s.es s.fs s.ps
+    tells_free = tells (FsFree o) (answers.Free f.free) _ named refl refl
 
-  pub tells_weight : (o k : ℕ) (e : KeptAdmission) → get s.es o ≡ Some e → e.named ≡ true → Did (FsWeightof o k) (answers.Count (share_of nat_eq e.fair k).weight) s.es s.fs s.ps
-  tells_weight o k e there named = tells (FsWeightof o k) (answers.Count (share_of nat_eq e.fair k).weight) o e _ there (known o e there named) refl (ap (λ (t : Share ℕ). quietly (hall_seen s.es s.fs s.ps) (answers.Count t.weight)) (share_seen e.fair.shares k))
+    pub tells_waiters : waiters_of f ≡ next_model.waiting_in (shares_seen f.shares) → Did (FsWaiters o) (answers.Count (waiters_of f)) s.es s.fs s.ps
+    tells_waiters waiting = tells (FsWaiters o) (answers.Count (waiters_of f)) _ named refl (ap (λ n. quietly (hall_seen s.es s.fs s.ps) (answers.Count n)) (sym waiting))
+
+    pub may_weigh : (k : ℕ) → cause_of (hall_seen s.es s.fs s.ps) (FsWeightof o k) ≡ None
+    may_weigh k = named
+
+    pub tells_weight : (k : ℕ) → Did (FsWeightof o k) (answers.Count (share_of nat_eq f k).weight) s.es s.fs s.ps
+    tells_weight k = tells (FsWeightof o k) (answers.Count (share_of nat_eq f k).weight) _ named refl (ap (λ (t : Share ℕ). quietly (hall_seen s.es s.fs s.ps) (answers.Count t.weight)) (share_seen f.shares k))
 
   pub tells_key : (p : ℕ) (x : SharePermit) → get s.ps p ≡ Some x → Did (FsKey p) (answers.Key x.key) s.es s.fs s.ps
   tells_key p x there =

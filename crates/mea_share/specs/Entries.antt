@@ -1,5 +1,5 @@
 -- what is done to one admission that the hall keeps
-use Rattle.std.specs.Prelude.{ℕ, ◌≡◌, ◌+◌, ◌-◌, ◌<◌, ◌==◌, ◌&&◌, ◌++◌, Bool, true, false, not, cond, [], nat_eq, Option, Some, None, if◌then◌else◌}
+use Rattle.std.specs.Prelude.{ℕ, ◌≡◌, ◌+◌, ◌-◌, ◌<◌, ◌==◌, ◌&&◌, ◌++◌, Bool, true, false, not, cond, [], nat_eq}
 use Rattle.futures.specs.declared.task.Poll.{Poll}
 use Rattle.futures.specs.declared.task.Poll.TheVariants.{Ready, Pending}
 use Rattle.mea_base.specs.Ready.{Waking}
@@ -20,11 +20,6 @@ finished e plain = record e { things = e.things - 1; plain = e.plain - cond plai
 -- neither its name nor a future or a permit is left
 abbrev pub is_over : KeptAdmission → Bool
 is_over e = not e.named && (e.things == 0)
-
--- what is kept of an admission, where it is there and named
-abbrev pub if_named : Option KeptAdmission → Option KeptAdmission
-if_named None = None
-if_named (Some e) = if e.named then Some e else None
 
 -- a free permit was taken for a key, or none was free
 pub record Takes (old : KeptAdmission) (k : ℕ) (got : Bool) (new : KeptAdmission) : Type 0 where

@@ -65,6 +65,13 @@ impl AdmissionEntry {
         self.named
     }
 
+    /// Whether it has a plain future or permit. It takes no memory.
+    pub fn has_plain(&self) -> bool
+        ensures { result ≡ nat_lt 0 self.now.plain }
+    {
+        self.plain > 0
+    }
+
     /// Why a use of it is refused: it has no name. It takes no memory.
     pub fn cause_of_use(&self) -> Option<Stop>
         ensures { result ≡ unknown_unless self.now.named }
@@ -77,7 +84,7 @@ impl AdmissionEntry {
         ensures { result ≡ refused_if self.now.named (nat_lt 0 self.now.plain) Stop.Borrowed }
     {
         if self.named {
-            borrowed_if(self.plain > 0)
+            borrowed_if(self.has_plain())
         } else {
             Some(Stop::Unknown)
         }

@@ -1,5 +1,4 @@
 ghost use Rattle.std.specs.Prelude.{◌≡◌, ◌≤◌, ◌==◌, IfSome, is_some, None, true, nat_lt, if◌then◌else◌};
-ghost use Rattle.std.specs.Option.{option_copied};
 ghost use Rattle.std.specs.FinMap as map;
 ghost use Rattle.mea_family.specs.declared.stop.Stop.TheVariants.{Borrowed, Zero};
 ghost use Rattle.mea_family.specs.Forms.{is_plain};
@@ -8,7 +7,9 @@ ghost use Rattle.mea_share_model.specs.Admissions.{empty_hall, is_named, is_futu
 ghost use Rattle.mea_share_model.specs.Meaning.{cause_of, refused_if};
 ghost use Rattle.mea_share_model.specs.Valid.{AreValid};
 ghost use Rattle.mea_share.specs.Acts.{Acts, ActsQuietly, begins, tries};
-ghost use Rattle.mea_share.specs.Entries.{if_named};
+ghost use Rattle.mea_share_core.specs.Fair.{waiters_of};
+ghost use Rattle.mea_share_model.specs.Next.{waiting_in};
+ghost use Rattle.mea_share.specs.Kept.{shares_seen};
 ghost use Rattle.mea_share.specs.Lends.{StandsFor, AreSettled};
 
 use crate::admission_entry::{AdmissionEntry, Core};
@@ -17,7 +18,7 @@ use crate::permit_entry::PermitEntry;
 use mea_base::{Poll, Ready};
 use mea_by_name::ByName;
 use mea_events::ShareEvent;
-use mea_family::{Answer, Form, Stop, unknown_unless, zero_if};
+use mea_family::{Answer, Form, Stop, borrowed_if, unknown_unless, zero_if};
 use mea_share_core::SharedKey;
 use std::alloc::Global;
 use std::marker::Model;
@@ -69,7 +70,7 @@ impl SharePart {
         ensures named { is_some result ≡ is_named self.now.hall o }
         ensures stands { IfSome result (λ core. StandsFor self.now.hall o core.now) }
     {
-        let entry = named(&self.admissions, o)?;
+        let entry = self.named_entry(o)?;
         Some(entry.core())
     }
 
@@ -100,11 +101,22 @@ impl SharePart {
         }
     }
 
+    // What is kept of an admission that is named.
+    fn named_entry(&self, o: u64) -> Option<&AdmissionEntry>
+        ensures named { is_some result ≡ is_named self.now.hall o }
+        ensures plain { IfSome result (λ entry. plain_of self.now.hall o ≡ entry.now.plain) }
+        ensures stands { IfSome result (λ entry. StandsFor self.now.hall o entry.now.fair) }
+        ensures waiting { IfSome result (λ entry. waiters_of entry.now.fair ≡ waiting_in (shares_seen entry.now.fair.shares)) }
+    {
+        let entry = self.admissions.get(o)?;
+        if entry.is_named() { Some(entry) } else { None }
+    }
+
     // Whether an admission of this name is there and still named.
     fn is_named(&self, o: u64) -> bool
         ensures { result ≡ is_named self.now.hall o }
     {
-        named(&self.admissions, o).is_some()
+        self.named_entry(o).is_some()
     }
 
     // Whether a future has this name.
@@ -125,8 +137,8 @@ impl SharePart {
     fn cause_of_drop(&self, o: u64) -> Option<Stop>
         ensures { result ≡ refused_if (is_named self.now.hall o) (nat_lt 0 (plain_of self.now.hall o)) Borrowed }
     {
-        match self.admissions.get(o) {
-            Some(entry) => entry.cause_of_drop(),
+        match self.named_entry(o) {
+            Some(entry) => borrowed_if(entry.has_plain()),
             None => Some(Stop::Unknown),
         }
     }
@@ -135,9 +147,10 @@ impl SharePart {
     fn cause_of_weight(&self, o: u64, weight: u64) -> Option<Stop>
         ensures { result ≡ refused_if (is_named self.now.hall o) (weight == 0) Zero }
     {
-        match self.admissions.get(o) {
-            Some(entry) => entry.cause_of_weight(weight),
-            None => Some(Stop::Unknown),
+        if self.is_named(o) {
+            zero_if(weight == 0)
+        } else {
+            Some(Stop::Unknown)
         }
     }
 
@@ -191,7 +204,7 @@ impl SharePart {
         requires { self.old.next ≤ number }
         ensures { ActsQuietly self.old number (FsFree o) result self.new }
     {
-        let Some(entry) = named(&self.admissions, o) else {
+        let Some(entry) = self.named_entry(o) else {
             return Err(Stop::Unknown);
         };
         let free = entry.core().available_permits();
@@ -204,7 +217,7 @@ impl SharePart {
         requires { self.old.next ≤ number }
         ensures { ActsQuietly self.old number (FsWaiters o) result self.new }
     {
-        let Some(entry) = named(&self.admissions, o) else {
+        let Some(entry) = self.named_entry(o) else {
             return Err(Stop::Unknown);
         };
         let waiters = entry.core().num_waiters();
@@ -230,7 +243,7 @@ impl SharePart {
         requires { self.old.next ≤ number }
         ensures { ActsQuietly self.old number (FsWeightof o k) result self.new }
     {
-        let Some(entry) = named(&self.admissions, o) else {
+        let Some(entry) = self.named_entry(o) else {
             return Err(Stop::Unknown);
         };
         let Ok(key) = SharedKey::new(self.alloc, k) else {
@@ -417,12 +430,4 @@ impl SharePart {
         self.next = number as u128 + 1;
         Ok(Answer::Done)
     }
-}
-
-// What is kept of the admission of this name, where it is still named.
-fn named(admissions: &ByName<AdmissionEntry>, o: u64) -> Option<&AdmissionEntry>
-    ensures { option_copied result ≡ if_named (map.get admissions.now o) }
-{
-    let entry = admissions.get(o)?;
-    if entry.is_named() { Some(entry) } else { None }
 }
