@@ -30,6 +30,7 @@ use Rattle.mea_share.specs.Lends as share_lends
 use Rattle.mea_share.specs.Halls as share_plays
 use Rattle.mea_once_model.specs.OnceHall as once
 use Rattle.mea_once_model.specs.Meaning as once_meaning
+use Rattle.mea_once_model.specs.Valid as once_valid
 use Rattle.mea_once.specs.Halls as once_plays
 use Rattle.mea_events.specs.declared.event.Event.{Event}
 use Rattle.mea_events.specs.declared.event.Event.TheVariants.{Sem, Meet, Lock, Chan, Share, Once}
@@ -107,6 +108,7 @@ pub record IsValid (w : World) (n : ℕ) : Type 0 where
   pub chans : chan_valid.AllValid w.chans
   pub shares : share_valid.AreValid w.shares
   pub settled : share_lends.AreSettled w.shares
+  pub onces : once_valid.IsValid w.onces n
 
 -- halls in play: the wakers that are ready, and how many events were played
 pub record Play : Type 0 where

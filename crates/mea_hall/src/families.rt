@@ -52,6 +52,7 @@ impl Families {
         self.locks.is_valid();
         self.chans.is_valid();
         self.shares.is_valid();
+        self.onces.is_valid();
     }
 
     /// Why an event would be refused, but for want of memory; None where it would not.

@@ -19,4 +19,5 @@ mod KeyWays
 mod KeyDiscards
 mod KeyAnswers
 mod TableEvents
+mod Validity
 pub mod Playing

@@ -34,7 +34,7 @@ sum_values (e ∷ es) = omega (arith, sum_values es, sum_by-cons (λ (d : ℕ). 
 pub sum_total : (m : FinMap nat_cmp ℕ) → granted_sum m ≡ total (λ k d. d) m
 sum_total m = sum_values (entries m)
 
-sum_without : (m : FinMap nat_cmp ℕ) (n d : ℕ) → get m n ≡ Some d → granted_sum (remove m n) + d ≡ granted_sum m
+pub sum_without : (m : FinMap nat_cmp ℕ) (n d : ℕ) → get m n ≡ Some d → granted_sum (remove m n) + d ≡ granted_sum m
 sum_without m n d is =
     let here : weight (λ k (d : ℕ). d) n (get m n) ≡ d = ap (weight (λ k (d : ℕ). d) n) is in
     omega (arith, here, sum_total m, sum_total (remove m n), total-remove (λ k d. d) m n)
@@ -50,7 +50,7 @@ none_paid ((Acquires n d k, l) ∷ q) asks = omega (arith, asks.0, asks.1, none_
 none_paid ((Owes, l) ∷ q) asks = absurd asks
 
 -- the one permit is free, granted or held
-shares : (s : Core NamedWaker) → IsOnePermit s → s.free + granted_sum s.granted + held_of s ≡ 1
+pub shares : (s : Core NamedWaker) → IsOnePermit s → s.free + granted_sum s.granted + held_of s ≡ 1
 shares s is = omega (arith, is.total, is.one, none_paid s.queue is.asks)
 
 held_left : (s : Core NamedWaker) → s.live ≡ 1 → AskForOne s.queue → held_of s ≡ 1 - s.free - granted_sum s.granted

@@ -17,6 +17,7 @@ use Rattle.mea_once_core.specs.declared.key_call.KeyStage.TheVariants as key_sta
 use Rattle.mea_once_core.specs.declared.cell_stage.CellStage.TheVariants as stages
 use Rattle.mea_once_model.specs.declared.job.Job.TheVariants.{Computes}
 use Rattle.mea_once_model.specs.Cells.{Cell, new_cell}
+pub use Rattle.mea_once_model.specs.Valid.{slot_of}
 use Rattle.mea_once_model.specs.Tables.{Table, KeyFuture as ModelFuture, Tables, KeyStep, is_this, others_of, applied}
 use Rattle.mea_once.specs.declared.key_future.KeyFuture.{KeyFuture}
 use Rattle.mea_once.specs.declared.round.Round.{Round}
@@ -65,11 +66,6 @@ tables_seen es fs = record { tables = seen table_seen es; futures = seen key_fut
 -- a future of a round, as one of the round's cell
 abbrev pub as_caller : KeyFuture → FutureEntry
 as_caller x = record { cell = x.table; job = Computes x.call.call.init.outcome; stage = x.call.call.stage; wait = None }
-
--- a number for the round of a future; 0 for none
-abbrev pub slot_of : Option ℕ → ℕ
-slot_of None = 0
-slot_of (Some n) = n + 1
 
 abbrev pub of_round : KeyFuture → ℕ
 of_round x = slot_of x.round

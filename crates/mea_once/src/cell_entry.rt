@@ -58,6 +58,7 @@ impl<C: TurnCore> CellEntry<C> {
         }
     }
 
+    /// The core of the cell. It takes no memory.
     pub fn core(&self) -> &C
         ensures { C.seen_as result.now ≡ self.now.cell }
     {

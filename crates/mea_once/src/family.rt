@@ -8,7 +8,7 @@ use crate::groups::NamedGroup;
 use crate::kinds::Kinds;
 use crate::maps::NamedMap;
 use crate::meaning::meaning_of;
-use mea_base::{NoMemory, Ready};
+use mea_base::Ready;
 use mea_by_name::NamedWaker;
 use mea_events::OnceEvent;
 use mea_family::{Answer, Stop};
@@ -99,6 +99,7 @@ impl OnceFamily {
 impl Family<OnceModel> for OnceFamily {
     ghost use Rattle.mea_once_model.specs.OnceHall as model;
     ghost use Rattle.mea_once_model.specs.Meaning as meaning;
+    ghost use Rattle.mea_once_model.specs.Valid as valid;
     ghost use Rattle.mea_once.specs.Halls as halls;
 
     type Event = OnceEvent;
@@ -109,7 +110,7 @@ impl Family<OnceModel> for OnceFamily {
 
     ghost registered = { λ h. model.registered h };
 
-    ghost IsValid = { λ _ _. Unit {0} };
+    ghost IsValid = { λ h n. valid.IsValid h n };
 
     ghost cause_of = { λ h e. meaning.cause_of h e };
 
@@ -124,20 +125,26 @@ impl Family<OnceModel> for OnceFamily {
         }
     }
 
-    fn is_valid(&self) {}
+    fn is_valid(&self) {
+        self.kinds.are_valid();
+    }
 
     fn cause(&self, event: &OnceEvent) -> Option<Stop> {
         self.kinds.cause(meaning_of(event))
     }
 
-    fn play(
+    fn act(
         &mut self,
         number: u64,
         event: &OnceEvent,
         ready: &mut Ready<u64>,
-    ) -> Result<Answer, NoMemory> {
+    ) -> Result<Answer, Stop> {
         wakes_are_of_the_registered();
-        let answer = self.kinds.play(number, meaning_of(event), ready)?;
+        let meaning = meaning_of(event);
+        if let Some(stop) = self.kinds.cause(meaning) {
+            return Err(stop);
+        }
+        let answer = self.kinds.play(number, meaning, ready)?;
         self.next = number as u128 + 1;
         Ok(answer)
     }

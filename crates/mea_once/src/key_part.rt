@@ -3,6 +3,7 @@ ghost use Rattle.mea_family.specs.Causes.{borrowed_by};
 ghost use Rattle.mea_family.specs.Play.{PartYields, PartRests};
 ghost use Rattle.mea_once_model.specs.Tables.{no_tables, is_table, is_future, is_unsettled, futures_of, registered};
 ghost use Rattle.mea_once_model.specs.KeyActions.{key_act, key_cause, MakeTable, BeginKey, PollKey, SettleKey, EndKey, TellKey, DiscardKey, RemoveKey, DropTable};
+ghost use Rattle.mea_once_model.specs.Valid.{HasTables};
 ghost use Rattle.mea_once.specs.KeyParts.{IsNewKeyed};
 ghost use Rattle.mea_once.specs.Actions.{table_action, value_action};
 ghost use Rattle.mea_once.specs.Halls.{IsKeyFree};
@@ -60,7 +61,7 @@ impl<C: TableCore> KeyPart<C> {
         }
     }
 
-    /// The core of a map or a group.
+    /// The core of a map or a group, where it is there. It takes no memory.
     pub fn core(&self, o: u64) -> Option<&C>
         ensures there { is_some result ≡ is_table self.now.hall o }
         ensures stands { IfSome result (λ core. StandsForTable self.now.hall o (C.seen_as core.now)) }
@@ -69,7 +70,14 @@ impl<C: TableCore> KeyPart<C> {
         Some(entry.core())
     }
 
-    /// Why an action is refused; None where it is not.
+    /// What holds of the maps or groups and their futures. It does nothing.
+    pub fn is_valid(&self)
+        ensures { HasTables self.now.hall self.now.next }
+    {
+        let _next = self.next;
+    }
+
+    /// Why an action is refused; None where it is not. It takes no memory.
     pub fn cause(&self, action: TableAction) -> Option<Stop>
         ensures { result ≡ key_cause self.now.hall (table_action action) }
     {
@@ -265,7 +273,7 @@ impl<C: TableCore> KeyPart<C> {
 }
 
 impl<C: ValueCore> KeyPart<C> {
-    /// Why an action is refused; None where it is not.
+    /// Why an action is refused; None where it is not. It takes no memory.
     pub fn cause_value(&self, action: ValueAction) -> Option<Stop>
         ensures { result ≡ key_cause self.now.hall (value_action action) }
     {

@@ -1,6 +1,7 @@
-ghost use Rattle.std.specs.Prelude.{◌≡◌, ◌≤◌, OnErr, IfOk, None};
+ghost use Rattle.std.specs.Prelude.{ℕ, ◌≡◌, ◌≤◌, OnErr, IfOk, None};
 ghost use Rattle.mea_once_model.specs.OnceHall.{empty_hall, registered};
 ghost use Rattle.mea_once_model.specs.Meaning.{cause_by};
+ghost use Rattle.mea_once_model.specs.Valid.{IsValid};
 ghost use Rattle.mea_once.specs.Actions.{meant, FitsMeaning};
 ghost use Rattle.mea_once.specs.Halls.{parts, hall_of, AreBelow, PlaysBy, IsFreeBy};
 
@@ -36,6 +37,16 @@ impl Kinds {
             maps: KeyPart::new(alloc),
             groups: KeyPart::new(alloc),
         }
+    }
+
+    /// What holds of the things of all kinds, where n is above the number of each event. It does nothing.
+    pub fn are_valid(&self)
+        ensures { (n : ℕ) → AreBelow (parts self.now.onces self.now.values self.now.maps self.now.groups) n → IsValid (hall_of (parts self.now.onces self.now.values self.now.maps self.now.groups)) n }
+    {
+        self.onces.is_valid();
+        self.values.is_valid();
+        self.maps.is_valid();
+        self.groups.is_valid();
     }
 
     /// Why an event that means this would be refused; None where it would not.

@@ -4,6 +4,7 @@ ghost use Rattle.mea_family.specs.Causes.{borrowed_by};
 ghost use Rattle.mea_family.specs.Play.{PartYields, PartRests};
 ghost use Rattle.mea_once_model.specs.Cells.{no_cells, is_cell, is_future, is_unsettled, futures_of, alone_of, registered};
 ghost use Rattle.mea_once_model.specs.Actions.{act_in, cause_in, Make, Begin, Poll, Settle, End, TellFull, Tell, Peek, Put, Take, TakeOut, Drop, in_the_way};
+ghost use Rattle.mea_once_model.specs.Valid.{HasCells};
 ghost use Rattle.mea_once.specs.Parts.{IsNewCell, fits, FitsSettled};
 ghost use Rattle.mea_once.specs.Actions.{turn_action, wait_action, whole_action, FitsTurn, FitsWait, FitsWhole};
 ghost use Rattle.mea_once.specs.Halls.{IsFree};
@@ -61,7 +62,7 @@ impl<C: TurnCore> CellPart<C> {
         }
     }
 
-    /// The core of a cell.
+    /// The core of a cell, where it is there. It takes no memory.
     pub fn core(&self, o: u64) -> Option<&C>
         ensures there { is_some result ≡ is_cell self.now.hall o }
         ensures stands { IfSome result (λ core. StandsFor self.now.hall o (C.seen_as core.now)) }
@@ -70,7 +71,14 @@ impl<C: TurnCore> CellPart<C> {
         Some(entry.core())
     }
 
-    /// Why an action is refused; None where it is not.
+    /// What holds of the cells and their futures. It does nothing.
+    pub fn is_valid(&self)
+        ensures { HasCells self.now.hall self.now.next }
+    {
+        let _next = self.next;
+    }
+
+    /// Why an action is refused; None where it is not. It takes no memory.
     pub fn cause(&self, action: TurnAction) -> Option<Stop>
         ensures { result ≡ cause_in self.now.hall (turn_action action) }
     {
@@ -269,7 +277,7 @@ impl<C: TurnCore> CellPart<C> {
 }
 
 impl<C: WaitCore> CellPart<C> {
-    /// Why an action is refused; None where it is not.
+    /// Why an action is refused; None where it is not. It takes no memory.
     pub fn cause_wait(&self, action: WaitAction) -> Option<Stop>
         ensures { result ≡ cause_in self.now.hall (wait_action action) }
     {
@@ -329,7 +337,7 @@ impl<C: WaitCore> CellPart<C> {
 }
 
 impl<C: WholeCore> CellPart<C> {
-    /// Why an action is refused; None where it is not.
+    /// Why an action is refused; None where it is not. It takes no memory.
     pub fn cause_whole(&self, action: WholeAction) -> Option<Stop>
         ensures { result ≡ cause_in self.now.hall (whole_action action) }
     {

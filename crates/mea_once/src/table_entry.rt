@@ -66,6 +66,7 @@ impl<C: TableCore> TableEntry<C> {
         }
     }
 
+    /// The core of the map or the group. It takes no memory.
     pub fn core(&self) -> &C
         ensures { C.seen_as result.now ≡ self.now.keyed }
     {

@@ -8,3 +8,4 @@ mod TwoKinds
 pub mod KeyValidity
 mod KeyValues
 pub mod Wakers
+pub mod Validity

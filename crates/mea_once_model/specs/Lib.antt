@@ -5,5 +5,6 @@ pub mod KeyActions
 pub mod KeyValid
 pub mod KeyValues
 pub mod OnceHall
+pub mod Valid
 pub mod Meaning
 pub mod OnceFamily

@@ -1,11 +1,12 @@
 -- what each event does to one admission, its future and its permit
-use Rattle.std.proofs.Common.{◌≡◌, ◌≢◌, ℕ, ◌+◌, ◌-◌, ◌<◌, ◌≤◌, ◌^◌, ◌==◌, ◌&&◌, ◌++◌, inl, inr, Bool, true, false, not, cond, List, [], nat_eq, Some, None, IsSome, is_some, if◌then◌else◌, refl, ap, sym, subst, ◌∙◌, arith, append-nil}
+use Rattle.std.proofs.Common.{◌≡◌, ◌≢◌, ℕ, ◌+◌, ◌-◌, ◌<◌, ◌≤◌, ◌^◌, ◌==◌, ◌&&◌, ◌++◌, inl, inr, Bool, true, false, not, cond, List, [], nat_eq, nat_lt, Some, None, IsSome, is_some, if◌then◌else◌, refl, ap, sym, subst, ◌∙◌, arith, append-nil}
 use Rattle.std.specs.FinMap.{get, insert, remove, len}
 use Rattle.std.proofs.lemmas.Bool.{cases_lt, eq-eqb}
 use Rattle.std.proofs.lemmas.Bool.Decides.{nat_tests}
 use Rattle.futures.specs.declared.task.Poll.{Poll}
 use Rattle.futures.specs.declared.task.Poll.TheVariants.{Ready, Pending}
 use Rattle.mea_family.specs.declared.answer.Answer.TheVariants as answers
+use Rattle.mea_family.specs.declared.stop.Stop.TheVariants.{Unknown, Borrowed, Zero}
 use Rattle.mea_family.specs.Family.{Outcome, quietly}
 use Rattle.mea_family.specs.Causes.{unknown_unless}
 use Rattle.mea_base.specs.Ready.{Waking}
@@ -13,7 +14,7 @@ use Rattle.mea_base.specs.Totals.{weight}
 use Rattle.mea_base.proofs.Maps.{inside, is_there, value_in, by_put, removed_there, is_absent}
 use Rattle.mea_base.proofs.Totals.{total-insert, total-remove}
 use Rattle.mea_by_name.specs.ByName.{Names, seen, own, count}
-use Rattle.mea_family.specs.Play.{Part, PartRests, found}
+use Rattle.mea_family.specs.Play.{Part, found}
 use Rattle.mea_by_name.proofs.Cases.{found_is, if_true, if_false}
 use Rattle.mea_by_name.proofs.Halls as halls
 use Rattle.mea_by_name.proofs.Own.{seen-at, seen-none, seen-insert, seen-remove, seen-alike, own-seen, len-seen, own-at, own-none, own-put, own-gone, len-some, len-new, len-over, len-gone, count-put, count-over, count-new, count-gone, count-least, insert_same, put_gone, gone_none, Moves, Stays, Comes, Goes}
@@ -27,18 +28,41 @@ use Rattle.mea_events.specs.declared.share_event.ShareEvent.TheVariants.{FsTry, 
 use Rattle.mea_share_model.specs.Next as next_model
 use Rattle.mea_share_model.specs.Next.{share_at, put_share, next_of}
 use Rattle.mea_share_model.specs.Admissions as model
-use Rattle.mea_share_model.specs.Admissions.{Admission, ShareFuture, SharePermit, ShareHall, registered, with_share, passed, woken, tidied_admissions, things_of, is_named, is_permit}
-use Rattle.mea_share_model.specs.Meaning.{cause_of, step, end_by}
+use Rattle.mea_share_model.specs.Admissions.{Admission, ShareFuture, SharePermit, ShareHall, registered, with_share, passed, woken, tidied_admissions, things_of, plain_of, is_named, is_named_one, is_permit}
+use Rattle.mea_share_model.specs.Meaning.{cause_of, step, end_by, refused_if}
 use Rattle.mea_share_model.specs.Valid.{is_of as model_is_of, HasNumber, HasAt, AreValid}
 use Rattle.mea_share.specs.Kept.{KeptAdmission, KeptFuture, shares_seen, admission_seen, number_of, future_seen, hall_seen, AreGood, AreKept, of_future, of_permit, size_of, AreKeptAdmissions}
 use Rattle.mea_share.specs.Entries.{begun, finished, is_over, Takes, Weighs, PollsEntry, HandsOn, EndsWait, Releases}
-use Rattle.mea_share.specs.Lends.{begins, tries}
+use Rattle.mea_share.specs.Halls.{TakesNoMemory}
+use Rattle.mea_share.specs.Acts.{begins, tries}
 use Rattle.mea_share.proofs.Seen.{share_seen, alike_seen, Tallies, tallies_sets, tallies_alike, passes_seen}
 use Rattle.mea_base.proofs.Tests.{over_is}
 use Rattle.mea_share_model.proofs.Acting.{passed_next}
-use Rattle.mea_share.proofs.Sites.{Did, DidWake, HallOf, Owned, Site, all_waiters, becomes_seen, good_becomes, good_with_future, good_with_permit, good_without_future, good_without_permit, known, low, part_of, passes_sums, rests_as, stays, waited, waiters, yields_as}
+use Rattle.mea_share.proofs.Sites.{Did, DidWake, HallOf, Owned, Site, all_waiters, becomes_seen, good_becomes, good_with_future, good_with_permit, good_without_future, good_without_permit, nameless, part_of, passes_sums, plain_is, rests_as, stays, waited, waiters, yields_as}
+
+-- to make a future, or to try, takes memory
+pub begins_no_free : (plain : Bool) (o k : ℕ) → TakesNoMemory (begins plain o k) → ⊥
+begins_no_free true o k = λ takes. takes
+begins_no_free false o k = λ takes. takes
+
+pub tries_no_free : (plain : Bool) (o k : ℕ) → TakesNoMemory (tries plain o k) → ⊥
+tries_no_free true o k = λ takes. takes
+tries_no_free false o k = λ takes. takes
 
 module _ {old : Part ShareHall} {i : ℕ} (s : Site old i) where
+  -- ---- one that is not there
+  module _ (o : ℕ) (none : get s.es o ≡ None) where
+    pub begins_unknown : (plain : Bool) (k : ℕ) → cause_of (hall_seen s.es s.fs s.ps) (begins plain o k) ≡ Some Unknown
+    begins_unknown true k = ap unknown_unless (nameless s o none)
+    begins_unknown false k = ap unknown_unless (nameless s o none)
+
+    pub tries_unknown : (plain : Bool) (k : ℕ) → cause_of (hall_seen s.es s.fs s.ps) (tries plain o k) ≡ Some Unknown
+    tries_unknown true k = ap unknown_unless (nameless s o none)
+    tries_unknown false k = ap unknown_unless (nameless s o none)
+
+    pub drop_unknown : cause_of (hall_seen s.es s.fs s.ps) (FsDrop o) ≡ Some Unknown
+    drop_unknown = ap (λ b. refused_if b (nat_lt 0 (plain_of (hall_seen s.es s.fs s.ps) o)) Borrowed) (nameless s o none)
+
   -- ---- one admission
   module _ (o : ℕ) (e : KeptAdmission) (there : get s.es o ≡ Some e) where
     good : AreGood e (own of_future o s.fs) (own of_permit o s.ps)
@@ -52,6 +76,24 @@ module _ {old : Part ShareHall} {i : ℕ} (s : Site old i) where
 
     step_is : (act : Admission → Outcome ShareHall) → found (get (seen admission_seen s.es) o) (hall_seen s.es s.fs s.ps) act ≡ act (admission_seen e)
     step_is act = found_is (get (seen admission_seen s.es) o) (hall_seen s.es s.fs s.ps) act (admission_seen e) seen_there
+
+    -- ---- why an event on it is refused, as what is kept of it says
+    named_at : is_named (hall_seen s.es s.fs s.ps) o ≡ e.named
+    named_at = ap is_named_one seen_there
+
+    pub begin_cause : (plain : Bool) (k : ℕ) → cause_of (hall_seen s.es s.fs s.ps) (begins plain o k) ≡ unknown_unless e.named
+    begin_cause true k = ap unknown_unless named_at
+    begin_cause false k = ap unknown_unless named_at
+
+    pub try_cause : (plain : Bool) (k : ℕ) → cause_of (hall_seen s.es s.fs s.ps) (tries plain o k) ≡ unknown_unless e.named
+    try_cause true k = ap unknown_unless named_at
+    try_cause false k = ap unknown_unless named_at
+
+    pub weight_cause : (k n : ℕ) → cause_of (hall_seen s.es s.fs s.ps) (FsWeight o k n) ≡ refused_if e.named (n == 0) Zero
+    weight_cause k n = ap (λ b. refused_if b (n == 0) Zero) named_at
+
+    pub drop_cause : cause_of (hall_seen s.es s.fs s.ps) (FsDrop o) ≡ refused_if e.named (nat_lt 0 e.plain) Borrowed
+    drop_cause = λ j. refused_if (named_at j) (nat_lt 0 (plain_is s.es s.fs s.ps o e good j)) Borrowed
 
     -- its counts are far below their greatest values
     pub few_things : (e.things + 1 < 2 ^ 128) × (e.plain + 1 < 2 ^ 128)
@@ -78,14 +120,14 @@ module _ {old : Part ShareHall} {i : ℕ} (s : Site old i) where
     same_put e' is = insert_same s.es o e' (there ∙ ap (λ d. Some d) (sym is))
 
     -- ---- a weight is set
-    pub weighs : (k n : ℕ) (e' : KeptAdmission) → is_named old.hall o ≡ true → (n == 0) ≡ false → Weighs e k n e' → Did s (FsWeight o k n) answers.Done (insert s.es o e') s.fs s.ps
-    weighs k n e' named some did =
+    pub weighs : (k n : ℕ) (e' : KeptAdmission) → cause_of (hall_seen s.es s.fs s.ps) (FsWeight o k n) ≡ None → Weighs e k n e' → Did s (FsWeight o k n) answers.Done (insert s.es o e') s.fs s.ps
+    weighs k n e' none did =
         let becomes = did.becomes in
         let h = hall_seen s.es s.fs s.ps in
         let t = weighing (share_of nat_eq e.fair k) n in
         let size : size_of e' ≤ size_of e + 1 = let things = ap (λ (d : KeptAdmission). d.things) did.rest in omega (arith, things, becomes.number) in
         rests_as s (FsWeight o k n) (model.weigh h o k n (admission_seen e)) answers.Done (insert s.es o e') s.fs s.ps
-        (if_true (is_named h o) _ _ (ap (λ (p : Part ShareHall). is_named p.hall o) s.view ∙ named) ∙ if_false (n == 0) _ _ some)
+        none
         (step_is (model.weigh h o k n))
         (turn e' s.fs s.ps Stays Stays (good_becomes e e' _ _ k t e.fair.free e.fair.next good did.rest becomes did.settled) (omega (arith, was_owned, becomes.shares.held, becomes.shares.waiting)) size)
         refl
@@ -112,10 +154,9 @@ module _ {old : Part ShareHall} {i : ℕ} (s : Site old i) where
         refl
         (omega (arith, put_waiters (begun e plain)))
 
-    pub begins_one : (plain : Bool) (k : ℕ) (x : KeptFuture) → is_named old.hall o ≡ true → x ≡ record { admission = o; key = k; stage = New; plain = plain }
-        → AreKeptAdmissions (insert s.es o (begun e plain)) (insert s.fs i x) s.ps (i + 1) × PartRests registered old i (begins plain old.hall i o k) answers.Made (part_of (insert s.es o (begun e plain)) (insert s.fs i x) s.ps (i + 1))
-    begins_one true k x named is = begun_as (FsAcq o k) k true x is (known s o named) refl
-    begins_one false k x named is = begun_as (FsAcqo o k) k false x is (known s o named) refl
+    pub begins_one : (plain : Bool) (k : ℕ) (x : KeptFuture) → cause_of (hall_seen s.es s.fs s.ps) (begins plain o k) ≡ None → x ≡ record { admission = o; key = k; stage = New; plain = plain } → Did s (begins plain o k) answers.Made (insert s.es o (begun e plain)) (insert s.fs i x) s.ps
+    begins_one true k x none is = begun_as (FsAcq o k) k true x is none refl
+    begins_one false k x none is = begun_as (FsAcqo o k) k false x is none refl
 
     -- nothing has changed
     pub unchanged : (e' : KeptAdmission) → e' ≡ e → AreKeptAdmissions (insert s.es o e') s.fs s.ps s.next × (◌≡◌ {A = Part ShareHall} (part_of (insert s.es o e') s.fs s.ps s.next) old)
@@ -148,11 +189,9 @@ module _ {old : Part ShareHall} {i : ℕ} (s : Site old i) where
         refl
         (omega (arith, put_waiters (begun e' plain), becomes.shares.waiting))
 
-    pub holds_one : (plain : Bool) (k : ℕ) (e' : KeptAdmission) → is_named old.hall o ≡ true → Takes e k true e'
-        → AreKeptAdmissions (insert s.es o (begun e' plain)) s.fs (insert s.ps i (record { admission = o; key = k; plain = plain })) (i + 1)
-        × PartRests registered old i (tries plain old.hall i o k) answers.Held (part_of (insert s.es o (begun e' plain)) s.fs (insert s.ps i (record { admission = o; key = k; plain = plain })) (i + 1))
-    holds_one true k e' named takes = held_as (FsTry o k) k true e' takes (known s o named) refl
-    holds_one false k e' named takes = held_as (FsTryo o k) k false e' takes (known s o named) refl
+    pub holds_one : (plain : Bool) (k : ℕ) (e' : KeptAdmission) → cause_of (hall_seen s.es s.fs s.ps) (tries plain o k) ≡ None → Takes e k true e' → Did s (tries plain o k) answers.Held (insert s.es o (begun e' plain)) s.fs (insert s.ps i (record { admission = o; key = k; plain = plain }))
+    holds_one true k e' none takes = held_as (FsTry o k) k true e' takes none refl
+    holds_one false k e' none takes = held_as (FsTryo o k) k false e' takes none refl
 
     -- none is free
     lacks_as : (ev : ShareEvent) (k : ℕ) (plain : Bool) → e.fair.free ≡ 0 → cause_of (hall_seen s.es s.fs s.ps) ev ≡ None
@@ -161,17 +200,16 @@ module _ {old : Part ShareHall} {i : ℕ} (s : Site old i) where
         rests_as s ev (quietly (hall_seen s.es s.fs s.ps) answers.Lacking) answers.Lacking s.es s.fs s.ps none
         (does ∙ step_is (model.try (hall_seen s.es s.fs s.ps) i o k plain) ∙ if_true (e.fair.free == 0) _ _ (eq-eqb e.fair.free 0 nothing)) (stays s) refl refl refl refl
 
-    lacks_one : (plain : Bool) (k : ℕ) → is_named old.hall o ≡ true → e.fair.free ≡ 0 → AreKeptAdmissions s.es s.fs s.ps (i + 1) × PartRests registered old i (tries plain old.hall i o k) answers.Lacking (part_of s.es s.fs s.ps (i + 1))
-    lacks_one true k named nothing = lacks_as (FsTry o k) k true nothing (known s o named) refl
-    lacks_one false k named nothing = lacks_as (FsTryo o k) k false nothing (known s o named) refl
+    lacks_one : (plain : Bool) (k : ℕ) → cause_of (hall_seen s.es s.fs s.ps) (tries plain o k) ≡ None → e.fair.free ≡ 0 → Did s (tries plain o k) answers.Lacking s.es s.fs s.ps
+    lacks_one true k none nothing = lacks_as (FsTry o k) k true nothing none refl
+    lacks_one false k none nothing = lacks_as (FsTryo o k) k false nothing none refl
 
     -- the permit that was put first is gone again
     permit_undone : (p : SharePermit) → remove (insert s.ps i p) i ≡ s.ps
     permit_undone p = put_gone s.ps i p ∙ gone_none s.ps i (halls.no_second of_future of_permit AreKept size_of s.es s.fs s.ps s.next i s.kept.hall s.later s.fits)
 
-    pub lacks : (plain : Bool) (k : ℕ) (e' : KeptAdmission) (p : SharePermit) → is_named old.hall o ≡ true → Takes e k false e'
-        → AreKeptAdmissions (insert s.es o e') s.fs (remove (insert s.ps i p) i) (i + 1) × PartRests registered old i (tries plain old.hall i o k) answers.Lacking (part_of (insert s.es o e') s.fs (remove (insert s.ps i p) i) (i + 1))
-    lacks plain k e' p named takes = let none = takes.none refl in rw (same_put e' none.1, permit_undone p) (lacks_one plain k named none.0)
+    pub lacks : (plain : Bool) (k : ℕ) (e' : KeptAdmission) (p : SharePermit) → cause_of (hall_seen s.es s.fs s.ps) (tries plain o k) ≡ None → Takes e k false e' → Did s (tries plain o k) answers.Lacking (insert s.es o e') s.fs (remove (insert s.ps i p) i)
+    lacks plain k e' p none takes = let now = takes.none refl in rw (same_put e' now.1, permit_undone p) (lacks_one plain k none now.0)
 
     pub not_tried : (e' : KeptAdmission) (p : SharePermit) → e' ≡ e → AreKeptAdmissions (insert s.es o e') s.fs (remove (insert s.ps i p) i) s.next × (◌≡◌ {A = Part ShareHall} (part_of (insert s.es o e') s.fs (remove (insert s.ps i p) i) s.next) old)
     not_tried e' p is = rw (same_put e' is, permit_undone p) (s.kept, s.view)
@@ -232,9 +270,9 @@ module _ {old : Part ShareHall} {i : ℕ} (s : Site old i) where
     unnamed_good : AreGood unnamed (own of_future o s.fs) (own of_permit o s.ps)
     unnamed_good = record { quiet = good.quiet; settled = good.settled; waiting = good.waiting; lasting = good.lasting; things = good.things; plain = good.plain }
 
-    pub drops : is_named old.hall o ≡ true → cause_of (hall_seen s.es s.fs s.ps) (FsDrop o) ≡ None
+    pub drops : cause_of (hall_seen s.es s.fs s.ps) (FsDrop o) ≡ None
         → Did s (FsDrop o) answers.Done (if is_over (record e { named = false }) then remove (insert s.es o (record e { named = false })) o else insert s.es o (record e { named = false })) s.fs s.ps
-    drops named none =
+    drops none =
         let h = hall_seen s.es s.fs s.ps in
         rests_as s (FsDrop o) (model.drop h o (admission_seen e)) answers.Done (if is_over unnamed then remove (insert s.es o unnamed) o else insert s.es o unnamed) s.fs s.ps none
         (step_is (model.drop h o))

@@ -1,36 +1,33 @@
 -- what is looked up in admissions as they are seen
-use Rattle.std.proofs.Common.{◌≡◌, ℕ, ◌-◌, ◌≤◌, ◌⊎◌, inl, inr, true, cond, nat_lt, Option, Some, None, IsSome, option_map, is_some, refl, ap, sym, subst, ◌∙◌, arith}
-use Rattle.std.specs.FinMap.{get, insert, empty}
-use Rattle.mea_family.specs.declared.answer.Answer.TheVariants as answers
+use Rattle.std.proofs.Common.{◌≡◌, ℕ, ◌-◌, ◌≤◌, ◌⊎◌, inl, inr, true, cond, if◌then◌else◌, Option, Some, None, IsSome, option_map, is_some, refl, ap, sym, subst, ◌∙◌, arith}
+use Rattle.std.specs.FinMap.{get, insert, remove, empty}
+use Rattle.mea_family.specs.declared.stop.Stop.TheVariants.{Unknown}
+use Rattle.mea_family.specs.Causes.{unknown_unless}
 use Rattle.mea_base.specs.Ready.{Waking}
 use Rattle.mea_base.proofs.Maps.{total-has, nothing_at, get-there, is_there}
+use Rattle.std.proofs.lemmas.Bool.{eq-eqb}
+use Rattle.mea_base.proofs.Totals.{get_removed}
 use Rattle.mea_base.proofs.NamedMaps.{get-seen, is_some-map}
-use Rattle.mea_by_name.specs.ByName.{Names, seen, own, count}
+use Rattle.mea_by_name.specs.ByName.{Names, seen, own}
 use Rattle.mea_family.specs.Play.{Part}
-use Rattle.mea_by_name.proofs.Cases.{if_true, if_false}
-use Rattle.mea_by_name.proofs.Halls as halls
-use Rattle.mea_by_name.proofs.Own.{seen-at, seen-back, seen-empty, own-seen, total-seen, insert_same}
+use Rattle.mea_by_name.proofs.Own.{seen-at, seen-none, seen-back, seen-empty, insert_same, gone_none}
 use Rattle.mea_share_core.specs.Groups.{waiting_in}
 use Rattle.mea_share_core.specs.Fair.{IsSettled}
-use Rattle.mea_events.specs.declared.share_event.ShareEvent.TheVariants.{FsDrop}
+use Rattle.mea_events.specs.declared.share_event.ShareEvent.TheVariants.{FsPoll, FsEnd}
 use Rattle.mea_share_model.specs.Next as next_model
 use Rattle.mea_share_model.specs.Admissions as model
-use Rattle.mea_share_model.specs.Admissions.{Admission, ShareFuture, SharePermit, ShareHall, registered, plain_of, is_named, is_named_one, is_future}
+use Rattle.mea_share_model.specs.Admissions.{Admission, SharePermit, ShareHall, registered, plain_of, is_named, is_named_one, is_future, is_permit}
 use Rattle.mea_share_model.specs.Meaning.{cause_of}
 use Rattle.mea_share_model.specs.Valid.{AreValid}
 use Rattle.mea_share_model.proofs.Keeping.{valid_start}
 use Rattle.mea_share.specs.Kept.{KeptAdmission, KeptFuture, shares_seen, admission_seen, future_seen, hall_seen, AreGood, of_future, of_permit, AreKeptAdmissions}
 use Rattle.mea_share.specs.Lends.{StandsFor, AreSettled}
-use Rattle.mea_share.proofs.Sites.{Site, low, part_of, registered_is, waiters}
+use Rattle.mea_share.proofs.Sites.{Site, part_of, plain_is, registered_is, waiters}
+
+pub nothing_left : (fs : Names KeptFuture) (x : ℕ) → get (remove fs x) x ≡ None
+nothing_left fs x = get_removed fs x x ∙ ap (λ b. cond b None (get fs x)) (eq-eqb x x refl)
 
 module _ {old : Part ShareHall} {i : ℕ} (s : Site old i) where
-  -- why the end of a name is not refused
-  pub drop_cause : (o : ℕ) → is_named old.hall o ≡ true → plain_of old.hall o ≡ 0 → cause_of (hall_seen s.es s.fs s.ps) (FsDrop o) ≡ None
-  drop_cause o named none =
-      let plain : plain_of (hall_seen s.es s.fs s.ps) o ≡ 0 = ap (λ (p : Part ShareHall). plain_of p.hall o) s.view ∙ none in
-      if_true (is_named (hall_seen s.es s.fs s.ps) o) _ _ (ap (λ (p : Part ShareHall). is_named p.hall o) s.view ∙ named)
-      ∙ if_false (nat_lt 0 (plain_of (hall_seen s.es s.fs s.ps) o)) _ _ (ap (nat_lt 0) plain)
-
   pub future_none : (f : ℕ) → get old.hall.futures f ≡ None → get s.fs f ≡ None
   future_none f none = at (get s.fs f) refl
     where
@@ -61,8 +58,18 @@ module _ {old : Part ShareHall} {i : ℕ} (s : Site old i) where
       let all = ap (λ (p : Part ShareHall). registered p.hall) s.view in
       omega (arith, room, all, registered_is s.es s.fs s.ps s.next s.kept.hall, total-has (λ o (d : KeptAdmission). waiters d) s.es o e there)
 
-  pub rests : AreKeptAdmissions s.es s.fs s.ps s.next
-  rests = s.kept
+  -- what was not there to be taken is as it was
+  pub without_future : (f : ℕ) → get s.fs f ≡ None → AreKeptAdmissions s.es (remove s.fs f) s.ps s.next × (◌≡◌ {A = Part ShareHall} (part_of s.es (remove s.fs f) s.ps s.next) old)
+  without_future f none = rw (gone_none s.fs f none) (s.kept, s.view)
+
+  pub without_permit : (p : ℕ) → get s.ps p ≡ None → AreKeptAdmissions s.es s.fs (remove s.ps p) s.next × (◌≡◌ {A = Part ShareHall} (part_of s.es s.fs (remove s.ps p) s.next) old)
+  without_permit p none = rw (gone_none s.ps p none) (s.kept, s.view)
+
+  pub may_poll : (f w : ℕ) (x : KeptFuture) → get s.fs f ≡ Some x → cause_of (hall_seen s.es s.fs s.ps) (FsPoll f w) ≡ None
+  may_poll f w x is = ap unknown_unless (ap is_some (seen-at future_seen s.fs f x is))
+
+  pub ends_nothing : (x : ℕ) → get s.fs x ≡ None → get s.ps x ≡ None → cause_of (hall_seen s.es s.fs s.ps) (FsEnd x) ≡ Some Unknown
+  ends_nothing x no_future no_permit = ap (λ q. unknown_unless (if is_some q then true else is_permit (hall_seen s.es s.fs s.ps) x)) (seen-none future_seen s.fs x no_future) ∙ ap (λ q. unknown_unless (is_some q)) no_permit
 
 -- ---- what is looked up in admissions that are seen so
 module _ {old : Part ShareHall} (es : Names KeptAdmission) (fs : Names KeptFuture) (ps : Names SharePermit) (next : ℕ) (view : ◌≡◌ {A = Part ShareHall} (record { hall = hall_seen es fs ps; next = next }) old) where
@@ -74,10 +81,7 @@ module _ {old : Part ShareHall} (es : Names KeptAdmission) (fs : Names KeptFutur
 
   module _ (kept : AreKeptAdmissions es fs ps next) where
     pub plain_of_it : (o : ℕ) (e : KeptAdmission) → get es o ≡ Some e → plain_of old.hall o ≡ e.plain
-    plain_of_it o e there =
-        let futures = ap (count (λ (x : ShareFuture). x.plain)) (own-seen of_future (λ (x : ShareFuture). x.admission) future_seen (λ x. refl) o fs) ∙ total-seen future_seen (λ (x : ShareFuture). cond x.plain 1 0) (own of_future o fs) in
-        let all = (kept.hall.each o e there).good.plain in
-        ap (λ (p : Part ShareHall). plain_of p.hall o) (sym view) ∙ omega (arith, futures, all)
+    plain_of_it o e there = ap (λ (p : Part ShareHall). plain_of p.hall o) (sym view) ∙ plain_is es fs ps o e (kept.hall.each o e there).good
 
     pub stands_for_it : (o : ℕ) (e : KeptAdmission) → get es o ≡ Some e → e.named ≡ true → StandsFor old.hall o e.fair
     stands_for_it o e there named = ap (λ (p : Part ShareHall). get p.hall.admissions o) (sym view) ∙ seen-at admission_seen es o e there

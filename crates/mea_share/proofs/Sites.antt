@@ -1,24 +1,25 @@
 -- admissions before an event, and what holds after it as they are kept and as they are seen
-use Rattle.std.proofs.Common.{◌≡◌, ◌≢◌, ℕ, ◌+◌, ◌-◌, ◌<◌, ◌≤◌, ◌^◌, ◌==◌, ◌++◌, inl, inr, true, false, cond, [], nat_eq, Option, Some, None, IsSome, option_map, is_some, refl, ap, sym, subst, ◌∙◌, arith}
+use Rattle.std.proofs.Common.{◌≡◌, ◌≢◌, ℕ, ◌+◌, ◌-◌, ◌<◌, ◌≤◌, ◌^◌, ◌==◌, ◌++◌, inl, inr, true, false, cond, [], nat_eq, Option, Some, None, IsSome, is_some, Ok, refl, ap, sym, subst, ◌∙◌, arith, append-nil}
 use Rattle.std.specs.Ordering.{nat_cmp}
 use Rattle.std.specs.Cmp.{nat_cmp_total}
 use Rattle.std.specs.FinMap.{get, insert, remove, len, empty, len-empty, len-insert}
 use Rattle.std.proofs.lemmas.Bool.{cases_lt}
 use Rattle.mea_family.specs.declared.answer.Answer.{Answer}
 use Rattle.mea_family.specs.declared.answer.Answer.TheVariants as answers
+use Rattle.mea_family.specs.declared.stop.Stop.{Stop}
+use Rattle.mea_family.specs.declared.stop.Stop.TheVariants.{NoMemory}
 use Rattle.mea_family.specs.Family.{Outcome, quietly}
 use Rattle.mea_family.specs.Causes.{unknown_unless}
 use Rattle.mea_base.specs.Ready.{Waking}
 use Rattle.mea_base.specs.Totals.{total, weight}
-use Rattle.mea_base.proofs.Maps.{nothing_at, inside, value_in, by_put, removed_there}
+use Rattle.mea_base.proofs.Maps.{nothing_at, inside, is_there, value_in, by_put, removed_there}
 use Rattle.mea_base.proofs.Totals.{total-insert, total-same, total-empty}
-use Rattle.mea_base.proofs.NamedMaps.{get-seen, is_some-map}
-use Rattle.mea_by_name.specs.ByName.{Names, seen, count}
+use Rattle.mea_by_name.specs.ByName.{Names, seen, own, count}
 use Rattle.mea_by_name.specs.HallKept.{HallKept}
-use Rattle.mea_family.specs.Play.{Part, PartYields, PartRests, found}
+use Rattle.mea_family.specs.Play.{Part, PartYields, found}
 use Rattle.mea_by_name.proofs.Cases.{found_is, if_false}
 use Rattle.mea_by_name.proofs.Halls as halls
-use Rattle.mea_by_name.proofs.Own.{seen-at, seen-back, seen-insert, total-seen, len-some, len-new, len-gone, count-new, count-gone}
+use Rattle.mea_by_name.proofs.Own.{seen-at, seen-none, seen-back, seen-insert, own-seen, total-seen, len-some, len-new, len-gone, count-new, count-gone}
 use Rattle.mea_share_core.specs.declared.share_acquire.ShareStage.TheVariants.{Done}
 use Rattle.mea_share_core.specs.Share.{Share, waiting_of, IsWaiting}
 use Rattle.mea_share_core.specs.Groups.{share_in, held_in, waiting_in}
@@ -28,13 +29,16 @@ use Rattle.mea_events.specs.declared.share_event.ShareEvent.TheVariants.{FsNew, 
 use Rattle.mea_share_model.specs.Next as next_model
 use Rattle.mea_share_model.specs.Next.{Shares, share_at, put_share}
 use Rattle.mea_share_model.specs.Admissions as model
-use Rattle.mea_share_model.specs.Admissions.{Admission, ShareFuture, SharePermit, ShareHall, registered, with_share, passed, woken, is_named, is_named_one, is_future, is_permit}
+use Rattle.mea_share_model.specs.Admissions.{Admission, ShareFuture, SharePermit, ShareHall, registered, with_share, passed, woken, is_named, is_named_one, is_future, plain_of}
 use Rattle.mea_share_model.specs.Meaning.{cause_of, step}
 use Rattle.mea_share_model.specs.Valid.{AreValid}
 use Rattle.mea_share_model.proofs.Keeping.{AreLow, valid_after}
 use Rattle.mea_share_model.proofs.Changes.{len-least, by_key}
 use Rattle.mea_share.specs.Kept.{KeptAdmission, KeptFuture, shares_seen, admission_seen, future_seen, hall_seen, AreGood, AreKept, of_future, of_permit, size_of, AreKeptAdmissions}
 use Rattle.mea_share.specs.Entries.{new_admission, begun, finished}
+use Rattle.mea_share.specs.Halls.{TakesNoMemory}
+use Rattle.mea_share.specs.Lends.{StandsFor}
+use Rattle.mea_share.specs.Acts.{Refuses, Acts, ActsQuietly}
 use Rattle.mea_share.proofs.Seen.{share_seen, sets_seen, nothing_seen, tallies_sets}
 
 abbrev pub waiters : KeptAdmission → ℕ
@@ -53,6 +57,12 @@ pub registered_is : (es : Names KeptAdmission) (fs : Names KeptFuture) (ps : Nam
 registered_is es fs ps next kept =
     total-seen admission_seen (λ (r : Admission). next_model.waiting_in r.shares) es
     ∙ total-same (λ o (e : KeptAdmission). next_model.waiting_in (shares_seen e.fair.shares)) (λ o e. waiters e) es (λ o e there. sym (kept.each o e there).good.waiting)
+
+-- how many of its things are plain
+pub plain_is : (es : Names KeptAdmission) (fs : Names KeptFuture) (ps : Names SharePermit) (o : ℕ) (e : KeptAdmission) → AreGood e (own of_future o fs) (own of_permit o ps) → plain_of (hall_seen es fs ps) o ≡ e.plain
+plain_is es fs ps o e good =
+    let futures = ap (count (λ (x : ShareFuture). x.plain)) (own-seen of_future (λ (x : ShareFuture). x.admission) future_seen (λ x. refl) o fs) ∙ total-seen future_seen (λ (x : ShareFuture). cond x.plain 1 0) (own of_future o fs) in
+    omega (arith, futures, good.plain)
 
 -- ---- admissions before event number i
 pub record Site (old : Part ShareHall) (i : ℕ) : Type 0 where
@@ -85,84 +95,84 @@ low es fs ps next kept = record {
 }
 
 module _ {old : Part ShareHall} {i : ℕ} (s : Site old i) where
-  abbrev pub Did : ShareEvent → Answer → Names KeptAdmission → Names KeptFuture → Names SharePermit → Type 0
-  Did e answer es fs ps = AreKeptAdmissions es fs ps (i + 1) × PartRests registered old i (step old.hall i e) answer (part_of es fs ps (i + 1))
-
+  -- what event number i leaves, and that it was played; and where it leaves the ready wakers as they are
   abbrev pub DidWake : ShareEvent → Answer → Names KeptAdmission → Names KeptFuture → Names SharePermit → Waking ℕ → Waking ℕ → Type 0
-  DidWake e answer es fs ps before after = AreKeptAdmissions es fs ps (i + 1) × PartYields registered old i (step old.hall i e) answer (part_of es fs ps (i + 1)) before after
+  DidWake e answer es fs ps before after = AreKeptAdmissions es fs ps (i + 1) × Acts old i e (Ok answer) (part_of es fs ps (i + 1)) before after
+
+  abbrev pub Did : ShareEvent → Answer → Names KeptAdmission → Names KeptFuture → Names SharePermit → Type 0
+  Did e answer es fs ps = AreKeptAdmissions es fs ps (i + 1) × ActsQuietly old i e (Ok answer) (part_of es fs ps (i + 1))
 
   pub seen_valid : (e : ShareEvent) (es : Names KeptAdmission) (fs : Names KeptFuture) (ps : Names SharePermit) → cause_of (hall_seen s.es s.fs s.ps) e ≡ None → hall_seen es fs ps ≡ (step (hall_seen s.es s.fs s.ps) i e).hall → AreValid (hall_seen es fs ps)
   seen_valid e es fs ps none is = subst AreValid (sym is) (valid_after (hall_seen s.es s.fs s.ps) s.next i (low s.es s.fs s.ps s.next s.kept.hall) s.later s.kept.valid e none)
 
   -- what is said of the admissions as they are kept is said of them as they are seen
-  pub rests_as : (e : ShareEvent) (o : Outcome ShareHall) (answer : Answer) (es : Names KeptAdmission) (fs : Names KeptFuture) (ps : Names SharePermit) → cause_of (hall_seen s.es s.fs s.ps) e ≡ None → step (hall_seen s.es s.fs s.ps) i e ≡ o
-      → HallOf es fs ps (i + 1) → answer ≡ o.reply → hall_seen es fs ps ≡ o.hall → o.wakes ≡ [] → all_waiters es ≡ all_waiters s.es → Did e answer es fs ps
-  rests_as e o answer es fs ps none is kept replied moved silent counted = (
-    record { hall = kept; valid = seen_valid e es fs ps none (moved ∙ sym (ap (λ (p : Outcome ShareHall). p.hall) is)) },
-    subst (λ p. PartRests registered p i (step p.hall i e) answer (part_of es fs ps (i + 1))) s.view (rw is (record {
-      replied = replied;
-      moved = ap (λ h. record { hall = h; next = i + 1 }) moved;
-      silent = silent;
-      counted = sym (ap registered moved) ∙ registered_is es fs ps (i + 1) kept ∙ counted ∙ sym (registered_is s.es s.fs s.ps s.next s.kept.hall);
-    })),
-  )
-
   pub yields_as : (e : ShareEvent) (o : Outcome ShareHall) (answer : Answer) (es : Names KeptAdmission) (fs : Names KeptFuture) (ps : Names SharePermit) (before after : Waking ℕ) → cause_of (hall_seen s.es s.fs s.ps) e ≡ None → step (hall_seen s.es s.fs s.ps) i e ≡ o
       → HallOf es fs ps (i + 1) → answer ≡ o.reply → hall_seen es fs ps ≡ o.hall → after.wakers ≡ before.wakers ++ o.wakes → after.registered + all_waiters s.es ≡ before.registered + all_waiters es → DidWake e answer es fs ps before after
   yields_as e o answer es fs ps before after none is kept replied moved wakes counted = (
     record { hall = kept; valid = seen_valid e es fs ps none (moved ∙ sym (ap (λ (p : Outcome ShareHall). p.hall) is)) },
-    subst (λ p. PartYields registered p i (step p.hall i e) answer (part_of es fs ps (i + 1)) before after) s.view (rw is (record {
-      replied = replied;
-      moved = ap (λ h. record { hall = h; next = i + 1 }) moved;
-      woken = wakes;
-      counted =
-          let now = sym (ap registered moved) ∙ registered_is es fs ps (i + 1) kept in
-          let was = registered_is s.es s.fs s.ps s.next s.kept.hall in
-          omega (arith, counted, now, was);
-    })),
+    (
+      subst (λ (p : Part ShareHall). cause_of p.hall e ≡ None) s.view none,
+      subst (λ p. PartYields registered p i (step p.hall i e) answer (part_of es fs ps (i + 1)) before after) s.view (rw is (record {
+        replied = replied;
+        moved = ap (λ h. record { hall = h; next = i + 1 }) moved;
+        woken = wakes;
+        counted =
+            let now = sym (ap registered moved) ∙ registered_is es fs ps (i + 1) kept in
+            let was = registered_is s.es s.fs s.ps s.next s.kept.hall in
+            omega (arith, counted, now, was);
+      })),
+    ),
   )
 
-  -- ---- what is named, a future or a permit, is kept
-  pub named_there : (o : ℕ) → is_named old.hall o ≡ true → IsSome (get s.es o)
-  named_there o is = at (get s.es o) (ap is_named_one (sym (get-seen (λ k e. admission_seen e) s.es o)) ∙ ap (λ (p : Part ShareHall). is_named p.hall o) s.view ∙ is)
-    where
-      at : (p : Option KeptAdmission) → is_named_one (option_map admission_seen p) ≡ true → IsSome p
-      at None is = absurd (cc)
-      at (Some e) is = refl
+  pub rests_as : (e : ShareEvent) (o : Outcome ShareHall) (answer : Answer) (es : Names KeptAdmission) (fs : Names KeptFuture) (ps : Names SharePermit) → cause_of (hall_seen s.es s.fs s.ps) e ≡ None → step (hall_seen s.es s.fs s.ps) i e ≡ o
+      → HallOf es fs ps (i + 1) → answer ≡ o.reply → hall_seen es fs ps ≡ o.hall → o.wakes ≡ [] → all_waiters es ≡ all_waiters s.es → Did e answer es fs ps
+  rests_as e o answer es fs ps none is kept replied moved silent counted =
+      let did : (w : Waking ℕ) → DidWake e answer es fs ps w w = λ w. yields_as e o answer es fs ps w w none is kept replied moved (sym (append-nil w.wakers) ∙ ap (λ ws. w.wakers ++ ws) (sym silent)) (ap (λ n. w.registered + n) (sym counted)) in
+      ((did (record { wakers = []; registered = 0 })).0, λ w. (did w).1)
 
-  pub named_is : (o : ℕ) (e : KeptAdmission) → get s.es o ≡ Some e → is_named old.hall o ≡ true → e.named ≡ true
-  named_is o e there is = sym (ap is_named_one (seen-at admission_seen s.es o e there)) ∙ ap (λ (p : Part ShareHall). is_named p.hall o) s.view ∙ is
+  -- it is refused with its cause, or for want of memory
+  pub refuses : (e : ShareEvent) (stop : Stop) → cause_of (hall_seen s.es s.fs s.ps) e ≡ Some stop → Refuses old.hall e stop
+  refuses e stop is = inl (subst (λ (p : Part ShareHall). cause_of p.hall e ≡ Some stop) s.view is)
 
-  pub future_there : (f : ℕ) → is_future old.hall f ≡ true → IsSome (get s.fs f)
-  future_there f is = sym (is_some-map future_seen (get s.fs f)) ∙ ap is_some (sym (get-seen (λ k x. future_seen x) s.fs f)) ∙ ap (λ (p : Part ShareHall). is_future p.hall f) s.view ∙ is
+  pub lacks_memory : (e : ShareEvent) → cause_of (hall_seen s.es s.fs s.ps) e ≡ None → (TakesNoMemory e → ⊥) → Refuses old.hall e NoMemory
+  lacks_memory e none takes = inr (subst (λ (p : Part ShareHall). cause_of p.hall e ≡ None) s.view none, refl, takes)
 
-  pub permit_there : (p : ℕ) → is_permit old.hall p ≡ true → IsSome (get s.ps p)
-  permit_there p is = ap (λ (q : Part ShareHall). is_permit q.hall p) s.view ∙ is
+  -- ---- what is not there
+  pub nameless : (o : ℕ) → get s.es o ≡ None → is_named (hall_seen s.es s.fs s.ps) o ≡ false
+  nameless o none = ap is_named_one (seen-none admission_seen s.es o none)
 
-  pub known : (o : ℕ) → is_named old.hall o ≡ true → unknown_unless (is_named (hall_seen s.es s.fs s.ps) o) ≡ None
-  known o named = ap unknown_unless (ap (λ (p : Part ShareHall). is_named p.hall o) s.view ∙ named)
+  pub no_future : (f : ℕ) → get s.fs f ≡ None → is_future (hall_seen s.es s.fs s.ps) f ≡ false
+  no_future f none = ap is_some (seen-none future_seen s.fs f none)
 
   -- ---- nothing changes
   pub stays : HallOf s.es s.fs s.ps (i + 1)
   stays = halls.rests of_future of_permit AreKept size_of s.es s.fs s.ps s.next i s.kept.hall s.later s.fits
 
-  pub tells : (ev : ShareEvent) (answer : Answer) (o : ℕ) (e : KeptAdmission) (act : Admission → Outcome ShareHall) → get s.es o ≡ Some e → cause_of (hall_seen s.es s.fs s.ps) ev ≡ None → step (hall_seen s.es s.fs s.ps) i ev ≡ found (get (seen admission_seen s.es) o) (hall_seen s.es s.fs s.ps) act
-      → act (admission_seen e) ≡ quietly (hall_seen s.es s.fs s.ps) answer → Did ev answer s.es s.fs s.ps
-  tells ev answer o e act there none is does =
-      rests_as ev (quietly (hall_seen s.es s.fs s.ps) answer) answer s.es s.fs s.ps none (is ∙ found_is (get (seen admission_seen s.es) o) (hall_seen s.es s.fs s.ps) act (admission_seen e) (seen-at admission_seen s.es o e there) ∙ does) stays refl refl refl refl
+  -- what is told of an admission that is seen so
+  module _ (o : ℕ) (f : Fair ℕ ℕ) (stands : StandsFor old.hall o f) where
+    named : cause_of (hall_seen s.es s.fs s.ps) (FsFree o) ≡ None
+    named = ap (λ (p : Part ShareHall). unknown_unless (is_named p.hall o)) s.view ∙ ap (λ q. unknown_unless (is_named_one q)) stands
 
-  pub tells_free : (o : ℕ) (e : KeptAdmission) → get s.es o ≡ Some e → is_named old.hall o ≡ true → Did (FsFree o) (answers.Free e.fair.free) s.es s.fs s.ps
-  tells_free o e there named = tells (FsFree o) (answers.Free e.fair.free) o e _ there (known o named) refl refl
+    tells : (ev : ShareEvent) (answer : Answer) (act : Admission → Outcome ShareHall) → cause_of (hall_seen s.es s.fs s.ps) ev ≡ None → step (hall_seen s.es s.fs s.ps) i ev ≡ found (get (seen admission_seen s.es) o) (hall_seen s.es s.fs s.ps) act
+        → act (record { free = f.free; next = f.next; shares = shares_seen f.shares; named = true }) ≡ quietly (hall_seen s.es s.fs s.ps) answer → Did ev answer s.es s.fs s.ps
+    tells ev answer act none is does =
+        rests_as ev (quietly (hall_seen s.es s.fs s.ps) answer) answer s.es s.fs s.ps none (is ∙ found_is (get (seen admission_seen s.es) o) (hall_seen s.es s.fs s.ps) act _ (ap (λ (p : Part ShareHall). get p.hall.admissions o) s.view ∙ stands) ∙ does) stays refl refl refl refl
 
-  pub tells_waiters : (o : ℕ) (e : KeptAdmission) → get s.es o ≡ Some e → is_named old.hall o ≡ true → Did (FsWaiters o) (answers.Count (waiters e)) s.es s.fs s.ps
-  tells_waiters o e there named = tells (FsWaiters o) (answers.Count (waiters e)) o e _ there (known o named) refl (ap (λ n. quietly (hall_seen s.es s.fs s.ps) (answers.Count n)) (sym (s.kept.hall.each o e there).good.waiting))
+    pub tells_free : Did (FsFree o) (answers.Free f.free) s.es s.fs s.ps
+    tells_free = tells (FsFree o) (answers.Free f.free) _ named refl refl
 
-  pub tells_weight : (o k : ℕ) (e : KeptAdmission) → get s.es o ≡ Some e → is_named old.hall o ≡ true → Did (FsWeightof o k) (answers.Count (share_of nat_eq e.fair k).weight) s.es s.fs s.ps
-  tells_weight o k e there named = tells (FsWeightof o k) (answers.Count (share_of nat_eq e.fair k).weight) o e _ there (known o named) refl (ap (λ (t : Share ℕ). quietly (hall_seen s.es s.fs s.ps) (answers.Count t.weight)) (share_seen e.fair.shares k))
+    pub tells_waiters : waiters_of f ≡ next_model.waiting_in (shares_seen f.shares) → Did (FsWaiters o) (answers.Count (waiters_of f)) s.es s.fs s.ps
+    tells_waiters waiting = tells (FsWaiters o) (answers.Count (waiters_of f)) _ named refl (ap (λ n. quietly (hall_seen s.es s.fs s.ps) (answers.Count n)) (sym waiting))
 
-  pub tells_key : (p : ℕ) (x : SharePermit) → get s.ps p ≡ Some x → is_permit old.hall p ≡ true → Did (FsKey p) (answers.Key x.key) s.es s.fs s.ps
-  tells_key p x there is =
-      rests_as (FsKey p) (quietly (hall_seen s.es s.fs s.ps) (answers.Key x.key)) (answers.Key x.key) s.es s.fs s.ps (ap unknown_unless (permit_there p is))
+    pub may_weigh : (k : ℕ) → cause_of (hall_seen s.es s.fs s.ps) (FsWeightof o k) ≡ None
+    may_weigh k = named
+
+    pub tells_weight : (k : ℕ) → Did (FsWeightof o k) (answers.Count (share_of nat_eq f k).weight) s.es s.fs s.ps
+    tells_weight k = tells (FsWeightof o k) (answers.Count (share_of nat_eq f k).weight) _ named refl (ap (λ (t : Share ℕ). quietly (hall_seen s.es s.fs s.ps) (answers.Count t.weight)) (share_seen f.shares k))
+
+  pub tells_key : (p : ℕ) (x : SharePermit) → get s.ps p ≡ Some x → Did (FsKey p) (answers.Key x.key) s.es s.fs s.ps
+  tells_key p x there =
+      rests_as (FsKey p) (quietly (hall_seen s.es s.fs s.ps) (answers.Key x.key)) (answers.Key x.key) s.es s.fs s.ps (ap unknown_unless (is_there (get s.ps p) x there))
       (found_is (get s.ps p) (hall_seen s.es s.fs s.ps) _ x there) stays refl refl refl refl
 
   -- ---- an admission is made

@@ -1,12 +1,9 @@
--- the core that a hall lends, what it tells of all admissions, and the events of plain and owned things as one
-use Rattle.std.specs.Prelude.{ℕ, ◌≡◌, ◌⊎◌, Bool, true, false, Some}
+-- the core that a hall lends, and what it tells of all admissions
+use Rattle.std.specs.Prelude.{ℕ, ◌≡◌, ◌⊎◌, true, Some}
 use Rattle.std.specs.FinMap.{get}
-use Rattle.mea_family.specs.Family.{Outcome}
 use Rattle.mea_share_core.specs.Fair.{Fair}
-use Rattle.mea_events.specs.declared.share_event.ShareEvent.TheVariants.{FsTry, FsTryo, FsAcq, FsAcqo}
 use Rattle.mea_share_model.specs.Next.{waiting_in}
 use Rattle.mea_share_model.specs.Admissions.{Admission, ShareHall}
-use Rattle.mea_share_model.specs.Meaning.{step}
 use Rattle.mea_share.specs.Kept.{shares_seen}
 
 -- the same free permits and next number, and each key has the same
@@ -16,11 +13,3 @@ StandsFor h o f = get h.admissions o ≡ Some (record { free = f.free; next = f.
 -- no permit of an admission is free, or nobody waits
 abbrev pub AreSettled : ShareHall → Type 0
 AreSettled h = (o : ℕ) (r : Admission) → get h.admissions o ≡ Some r → (r.free ≡ 0) ⊎ (waiting_in r.shares ≡ 0)
-
-abbrev pub begins : Bool → ShareHall → ℕ → ℕ → ℕ → Outcome ShareHall
-begins true h i o k = step h i (FsAcq o k)
-begins false h i o k = step h i (FsAcqo o k)
-
-abbrev pub tries : Bool → ShareHall → ℕ → ℕ → ℕ → Outcome ShareHall
-tries true h i o k = step h i (FsTry o k)
-tries false h i o k = step h i (FsTryo o k)

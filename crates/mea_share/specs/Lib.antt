@@ -2,3 +2,4 @@ pub mod Kept
 pub mod Entries
 pub mod Lends
 pub mod Halls
+pub mod Acts

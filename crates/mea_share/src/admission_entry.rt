@@ -1,10 +1,12 @@
 ghost use Rattle.std.specs.Prelude.{ℕ, ◌≡◌, ◌+◌, ◌-◌, ◌<◌, ◌≤◌, ◌^◌, ◌&&◌, ◌==◌, not, [], nat_lt, nat_eq, cond, length, true, false, IfOk, OnOk, OnErr};
+ghost use Rattle.mea_family.specs.Causes.{unknown_unless};
+ghost use Rattle.mea_share_model.specs.Meaning.{refused_if};
 ghost use Rattle.mea_share_core.specs.Share.{taken, released, weighing};
 ghost use Rattle.mea_share_core.specs.Fair.{Fair, IsSettled, Belongs, share_of, waiters_of, Becomes, IsSame};
 
 use crate::future_entry::FutureEntry;
 use mea_base::{NoMemory, Poll, Ready};
-use mea_family::one_if;
+use mea_family::{Stop, borrowed_if, one_if, unknown_unless, zero_if};
 use mea_share_core::{FairCore, SharedKey};
 use std::alloc::Global;
 use std::hash::{BuildHasherDefault, FoldHasher};
@@ -49,42 +51,71 @@ impl AdmissionEntry {
         }
     }
 
-    /// Its core.
+    /// Its core. It takes no memory.
     pub fn core(&self) -> &Core
         ensures { result.now ≡ self.now.fair }
     {
         &self.core
     }
 
-    /// Whether it is still named.
+    /// Whether it is still named. It takes no memory.
     pub fn is_named(&self) -> bool
         ensures { result ≡ self.now.named }
     {
         self.named
     }
 
-    /// Ends its name.
-    pub fn unname(&mut self)
-        ensures { self.new ≡ record self.old { named = false } }
-    {
-        self.named = false;
-    }
-
-    /// Whether it has a plain future or permit.
+    /// Whether it has a plain future or permit. It takes no memory.
     pub fn has_plain(&self) -> bool
         ensures { result ≡ nat_lt 0 self.now.plain }
     {
         self.plain > 0
     }
 
-    /// Whether it has neither its name nor a future or a permit.
+    /// Why a use of it is refused: it has no name. It takes no memory.
+    pub fn cause_of_use(&self) -> Option<Stop>
+        ensures { result ≡ unknown_unless self.now.named }
+    {
+        unknown_unless(self.named)
+    }
+
+    /// Why the end of its name is refused: it has none, or a plain future or permit borrows it. It takes no memory.
+    pub fn cause_of_drop(&self) -> Option<Stop>
+        ensures { result ≡ refused_if self.now.named (nat_lt 0 self.now.plain) Stop.Borrowed }
+    {
+        if self.named {
+            borrowed_if(self.has_plain())
+        } else {
+            Some(Stop::Unknown)
+        }
+    }
+
+    /// Why the setting of a weight is refused: it has no name, or the weight is 0. It takes no memory.
+    pub fn cause_of_weight(&self, weight: u64) -> Option<Stop>
+        ensures { result ≡ refused_if self.now.named (weight == 0) Stop.Zero }
+    {
+        if self.named {
+            zero_if(weight == 0)
+        } else {
+            Some(Stop::Unknown)
+        }
+    }
+
+    /// Ends its name. It takes no memory.
+    pub fn unname(&mut self)
+        ensures { self.new ≡ record self.old { named = false } }
+    {
+        self.named = false;
+    }
+
+    /// Whether it has neither its name nor a future or a permit. It takes no memory.
     pub fn is_over(&self) -> bool
         ensures { result ≡ is_over self.now }
     {
         !self.named && self.things == 0
     }
 
-    /// One future or permit more.
+    /// One future or permit more. It takes no memory.
     pub fn begin(&mut self, plain: bool)
         requires things { self.old.things + 1 < 2 ^ 128 }
         requires plain { self.old.plain + 1 < 2 ^ 128 }
@@ -94,7 +125,7 @@ impl AdmissionEntry {
         self.plain += one_if(plain);
     }
 
-    /// One future or permit less.
+    /// One future or permit less. It takes no memory.
     pub fn finish(&mut self, plain: bool)
         requires things { 1 ≤ self.old.things }
         requires plain { cond plain 1 0 ≤ self.old.plain }
@@ -104,7 +135,7 @@ impl AdmissionEntry {
         self.plain -= one_if(plain);
     }
 
-    /// Takes a free permit for a key, and tells whether there was one.
+    /// Takes a free permit for a key, and tells whether there was one. On an error nothing has changed.
     pub fn take(&mut self, key: &SharedKey<u64>) -> Result<bool, NoMemory>
         ensures took { IfOk result (λ got. Takes self.old key.now got self.new) }
         ensures err { OnErr result (self.new ≡ self.old) }
@@ -112,7 +143,7 @@ impl AdmissionEntry {
         self.core.try_acquire(key)
     }
 
-    /// Sets the weight of a key.
+    /// Sets the weight of a key. On an error nothing has changed.
     pub fn set_weight(&mut self, key: &SharedKey<u64>, weight: u64) -> Result<(), NoMemory>
         requires { 0 < weight }
         ensures ok { OnOk result (Weighs self.old key.now weight self.new) }

@@ -1,7 +1,7 @@
 ghost use Rattle.std.specs.Prelude.{◌≡◌, ◌≤◌};
 
 use crate::part::SharePart;
-use mea_base::{NoMemory, Ready};
+use mea_base::Ready;
 use mea_events::ShareEvent;
 use mea_family::{Answer, Stop};
 use mea_family_hall::{Family, FamilyHall};
@@ -64,14 +64,13 @@ impl Family<ShareModel> for SharePart {
         SharePart::cause(self, event)
     }
 
-    fn play(
+    fn act(
         &mut self,
         number: u64,
         event: &ShareEvent,
         ready: &mut Ready<u64>,
-    ) -> Result<Answer, NoMemory> {
+    ) -> Result<Answer, Stop> {
         wakes_are_of_the_registered();
-        let answer = SharePart::play(self, number, event, ready)?;
-        Ok(answer)
+        SharePart::act(self, number, event, ready)
     }
 }

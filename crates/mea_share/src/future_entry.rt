@@ -24,7 +24,7 @@ impl Model for FutureEntry {
 }
 
 impl FutureEntry {
-    /// One that was never polled.
+    /// One that was never polled. It takes no memory.
     pub fn new(admission: u64, key: SharedKey<u64>, plain: bool) -> Self
         ensures { result ≡ record { admission = admission; key = key; stage = New; plain = plain } }
     {
@@ -35,21 +35,21 @@ impl FutureEntry {
         }
     }
 
-    /// The name of its admission.
+    /// The name of its admission. It takes no memory.
     pub fn admission(&self) -> u64
         ensures { result ≡ self.now.admission }
     {
         self.admission
     }
 
-    /// Whether it borrows its admission.
+    /// Whether it borrows its admission. It takes no memory.
     pub fn is_plain(&self) -> bool
         ensures { result ≡ self.now.plain }
     {
         self.plain
     }
 
-    /// Whether it waits or was admitted.
+    /// Whether it waits or was admitted. It takes no memory.
     pub fn is_queued(&self) -> bool
         ensures { result ≡ is_queued self.now.stage }
     {

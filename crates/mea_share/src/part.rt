@@ -1,22 +1,24 @@
-ghost use Rattle.std.specs.Prelude.{◌≡◌, ◌≤◌, ◌<◌, ◌==◌, OnErr, IfOk, IfSome, is_some, None, Some, true, false, nat_lt, if◌then◌else◌};
+ghost use Rattle.std.specs.Prelude.{◌≡◌, ◌≤◌, ◌==◌, IfSome, is_some, None, true, nat_lt, if◌then◌else◌};
 ghost use Rattle.std.specs.FinMap as map;
 ghost use Rattle.mea_family.specs.declared.stop.Stop.TheVariants.{Borrowed, Zero};
 ghost use Rattle.mea_family.specs.Forms.{is_plain};
-ghost use Rattle.mea_family.specs.Play.{PartYields, PartRests};
-ghost use Rattle.mea_events.specs.declared.share_event.ShareEvent.TheVariants.{FsNew, FsFree, FsWaiters, FsTry, FsTryo, FsAcq, FsAcqo, FsPoll, FsKey, FsEnd, FsDrop, FsWeight, FsWeightof};
-ghost use Rattle.mea_share_model.specs.Admissions.{empty_hall, is_named, is_future, is_permit, plain_of, registered, begin, try};
-ghost use Rattle.mea_share_model.specs.Meaning.{step, cause_of, refused_if};
-ghost use Rattle.mea_share.specs.Halls.{TakesNoMemory};
+ghost use Rattle.mea_events.specs.declared.share_event.ShareEvent.TheVariants.{FsNew, FsFree, FsWaiters, FsPoll, FsKey, FsEnd, FsDrop, FsWeight, FsWeightof};
+ghost use Rattle.mea_share_model.specs.Admissions.{empty_hall, is_named, is_future, is_permit, plain_of, registered};
+ghost use Rattle.mea_share_model.specs.Meaning.{cause_of, refused_if};
 ghost use Rattle.mea_share_model.specs.Valid.{AreValid};
-ghost use Rattle.mea_share.specs.Lends.{StandsFor, AreSettled, begins, tries};
+ghost use Rattle.mea_share.specs.Acts.{Acts, ActsQuietly, begins, tries};
+ghost use Rattle.mea_share_core.specs.Fair.{waiters_of};
+ghost use Rattle.mea_share_model.specs.Next.{waiting_in};
+ghost use Rattle.mea_share.specs.Kept.{shares_seen};
+ghost use Rattle.mea_share.specs.Lends.{StandsFor, AreSettled};
 
 use crate::admission_entry::{AdmissionEntry, Core};
 use crate::future_entry::FutureEntry;
 use crate::permit_entry::PermitEntry;
-use mea_base::{NoMemory, Poll, Ready};
+use mea_base::{Poll, Ready};
 use mea_by_name::ByName;
 use mea_events::ShareEvent;
-use mea_family::{Answer, Form, Stop, unknown_unless, zero_if};
+use mea_family::{Answer, Form, Stop, borrowed_if, unknown_unless, zero_if};
 use mea_share_core::SharedKey;
 use std::alloc::Global;
 use std::marker::Model;
@@ -63,16 +65,6 @@ impl SharePart {
         }
     }
 
-    // What is kept of an admission that is named.
-    fn named_entry(&self, o: u64) -> Option<&AdmissionEntry>
-        ensures named { is_some result ≡ is_named self.now.hall o }
-        ensures plain { IfSome result (λ entry. plain_of self.now.hall o ≡ entry.now.plain) }
-        ensures stands { IfSome result (λ entry. StandsFor self.now.hall o entry.now.fair) }
-    {
-        let entry = self.admissions.get(o)?;
-        if entry.is_named() { Some(entry) } else { None }
-    }
-
     /// The core of the admission of this name, where it is still named. It takes no memory.
     pub fn fair(&self, o: u64) -> Option<&Core>
         ensures named { is_some result ≡ is_named self.now.hall o }
@@ -80,34 +72,6 @@ impl SharePart {
     {
         let entry = self.named_entry(o)?;
         Some(entry.core())
-    }
-
-    /// Whether an admission of this name is there and still named.
-    pub fn is_named(&self, o: u64) -> bool
-        ensures { result ≡ is_named self.now.hall o }
-    {
-        self.named_entry(o).is_some()
-    }
-
-    /// Whether a future has this name.
-    pub fn is_future(&self, f: u64) -> bool
-        ensures { result ≡ is_future self.now.hall f }
-    {
-        self.futures.has(f)
-    }
-
-    /// Whether a permit has this name.
-    pub fn is_permit(&self, p: u64) -> bool
-        ensures { result ≡ is_permit self.now.hall p }
-    {
-        self.permits.has(p)
-    }
-
-    /// Whether it is a future or a permit.
-    pub fn may_end(&self, x: u64) -> bool
-        ensures { result ≡ (if is_future self.now.hall x then true else is_permit self.now.hall x) }
-    {
-        self.is_future(x) || self.is_permit(x)
     }
 
     /// The numbers of the hall are as they are in every hall that events reach, and no permit is free beside one that waits.
@@ -119,158 +83,239 @@ impl SharePart {
         let _next = self.next;
     }
 
-    /// Why the end of its name is refused: it is unknown, or a plain future or permit borrows it.
-    pub fn cause_of_drop(&self, o: u64) -> Option<Stop>
+    /// Why an event would be refused, but for want of memory; None where it would not. It takes no memory.
+    pub fn cause(&self, event: &ShareEvent) -> Option<Stop>
+        ensures { result ≡ cause_of self.now.hall event.now }
+    {
+        match *event {
+            ShareEvent::FsNew(n) => zero_if(n == 0),
+            ShareEvent::FsFree(s) | ShareEvent::FsWaiters(s) => unknown_unless(self.is_named(s)),
+            ShareEvent::FsTry(s, _) | ShareEvent::FsTryo(s, _) => unknown_unless(self.is_named(s)),
+            ShareEvent::FsAcq(s, _) | ShareEvent::FsAcqo(s, _) => unknown_unless(self.is_named(s)),
+            ShareEvent::FsPoll(f, _) => unknown_unless(self.is_future(f)),
+            ShareEvent::FsKey(p) => unknown_unless(self.is_permit(p)),
+            ShareEvent::FsEnd(x) => unknown_unless(self.is_future(x) || self.is_permit(x)),
+            ShareEvent::FsDrop(s) => self.cause_of_drop(s),
+            ShareEvent::FsWeight(s, _, n) => self.cause_of_weight(s, n),
+            ShareEvent::FsWeightof(s, _) => unknown_unless(self.is_named(s)),
+        }
+    }
+
+    // What is kept of an admission that is named.
+    fn named_entry(&self, o: u64) -> Option<&AdmissionEntry>
+        ensures named { is_some result ≡ is_named self.now.hall o }
+        ensures plain { IfSome result (λ entry. plain_of self.now.hall o ≡ entry.now.plain) }
+        ensures stands { IfSome result (λ entry. StandsFor self.now.hall o entry.now.fair) }
+        ensures waiting { IfSome result (λ entry. waiters_of entry.now.fair ≡ waiting_in (shares_seen entry.now.fair.shares)) }
+    {
+        let entry = self.admissions.get(o)?;
+        if entry.is_named() { Some(entry) } else { None }
+    }
+
+    // Whether an admission of this name is there and still named.
+    fn is_named(&self, o: u64) -> bool
+        ensures { result ≡ is_named self.now.hall o }
+    {
+        self.named_entry(o).is_some()
+    }
+
+    // Whether a future has this name.
+    fn is_future(&self, f: u64) -> bool
+        ensures { result ≡ is_future self.now.hall f }
+    {
+        self.futures.has(f)
+    }
+
+    // Whether a permit has this name.
+    fn is_permit(&self, p: u64) -> bool
+        ensures { result ≡ is_permit self.now.hall p }
+    {
+        self.permits.has(p)
+    }
+
+    // Why the end of its name is refused: it is unknown, or a plain future or permit borrows it.
+    fn cause_of_drop(&self, o: u64) -> Option<Stop>
         ensures { result ≡ refused_if (is_named self.now.hall o) (nat_lt 0 (plain_of self.now.hall o)) Borrowed }
     {
         match self.named_entry(o) {
-            Some(entry) => if entry.has_plain() {
-                Some(Stop::Borrowed)
-            } else {
-                None
-            },
+            Some(entry) => borrowed_if(entry.has_plain()),
             None => Some(Stop::Unknown),
         }
     }
 
-    /// Makes an admission with this many permits. On an error nothing has changed.
-    pub fn make(&mut self, number: u64, permits: u64) -> Result<Answer, NoMemory>
-        requires next { self.old.next ≤ number }
-        requires some { 0 < permits }
-        ensures ok { IfOk result (λ answer. PartRests registered self.old number (step self.old.hall number (FsNew permits)) answer self.new) }
-        ensures err { OnErr result (self.new ≡ self.old) }
+    // Why the setting of a weight is refused: the admission is unknown, or the weight is 0.
+    fn cause_of_weight(&self, o: u64, weight: u64) -> Option<Stop>
+        ensures { result ≡ refused_if (is_named self.now.hall o) (weight == 0) Zero }
     {
+        if self.is_named(o) {
+            zero_if(weight == 0)
+        } else {
+            Some(Stop::Unknown)
+        }
+    }
+
+    /// Plays an event, under a number that is greater than each before, where it has no cause for refusal. Each name is
+    /// looked up once, but for that of a future that is ready, which is taken out.
+    pub fn act(
+        &mut self,
+        number: u64,
+        event: &ShareEvent,
+        ready: &mut Ready<u64>,
+    ) -> Result<Answer, Stop>
+        requires next { self.old.next ≤ number }
+        requires room { registered self.old.hall ≤ ready.old.registered }
+        ensures { Acts self.old number event.now result self.new ready.old ready.new }
+    {
+        match *event {
+            ShareEvent::FsNew(n) => self.make(number, n),
+            ShareEvent::FsFree(s) => self.free(number, s),
+            ShareEvent::FsWaiters(s) => self.waiters(number, s),
+            ShareEvent::FsTry(s, k) => self.try_acquire(number, s, k, Form::Plain),
+            ShareEvent::FsTryo(s, k) => self.try_acquire(number, s, k, Form::Owned),
+            ShareEvent::FsAcq(s, k) => self.begin(number, s, k, Form::Plain),
+            ShareEvent::FsAcqo(s, k) => self.begin(number, s, k, Form::Owned),
+            ShareEvent::FsPoll(f, waker) => self.poll(number, f, waker, ready),
+            ShareEvent::FsKey(p) => self.key(number, p),
+            ShareEvent::FsEnd(x) => self.end(number, x, ready),
+            ShareEvent::FsDrop(s) => self.end_name(number, s),
+            ShareEvent::FsWeight(s, k, n) => self.set_weight(number, s, k, n),
+            ShareEvent::FsWeightof(s, k) => self.weight(number, s, k),
+        }
+    }
+
+    // Makes an admission with this many permits.
+    fn make(&mut self, number: u64, permits: u64) -> Result<Answer, Stop>
+        requires { self.old.next ≤ number }
+        ensures { ActsQuietly self.old number (FsNew permits) result self.new }
+    {
+        if permits == 0 {
+            return Err(Stop::Zero);
+        }
         let entry = AdmissionEntry::new(self.alloc, permits as usize);
         let Ok(()) = self.admissions.insert(number, entry) else {
-            return Err(NoMemory);
+            return Err(Stop::NoMemory);
         };
         self.next = number as u128 + 1;
         Ok(Answer::Made)
     }
 
-    /// Tells the free permits. It takes no memory.
-    pub fn free(&mut self, number: u64, o: u64) -> Answer
-        requires next { self.old.next ≤ number }
-        requires named { is_named self.old.hall o ≡ true }
-        ensures { PartRests registered self.old number (step self.old.hall number (FsFree o)) result self.new }
+    // Tells the free permits. It takes no memory.
+    fn free(&mut self, number: u64, o: u64) -> Result<Answer, Stop>
+        requires { self.old.next ≤ number }
+        ensures { ActsQuietly self.old number (FsFree o) result self.new }
     {
-        let free = self.admissions.at(o).core().available_permits();
-        self.next = number as u128 + 1;
-        Answer::Free(free as u64)
-    }
-
-    /// Tells how many futures wait. It takes no memory.
-    pub fn waiters(&mut self, number: u64, o: u64) -> Answer
-        requires next { self.old.next ≤ number }
-        requires named { is_named self.old.hall o ≡ true }
-        ensures { PartRests registered self.old number (step self.old.hall number (FsWaiters o)) result self.new }
-    {
-        let waiters = self.admissions.at(o).core().num_waiters();
-        self.next = number as u128 + 1;
-        Answer::Count(waiters as u64)
-    }
-
-    /// Tells the key of a permit. It takes no memory.
-    pub fn key(&mut self, number: u64, p: u64) -> Answer
-        requires next { self.old.next ≤ number }
-        requires there { is_permit self.old.hall p ≡ true }
-        ensures { PartRests registered self.old number (step self.old.hall number (FsKey p)) result self.new }
-    {
-        let key = *self.permits.at(p).key().key();
-        self.next = number as u128 + 1;
-        Answer::Key(key)
-    }
-
-    /// Tells the weight of a key. On an error nothing has changed.
-    pub fn weight(&mut self, number: u64, o: u64, k: u64) -> Result<Answer, NoMemory>
-        requires next { self.old.next ≤ number }
-        requires named { is_named self.old.hall o ≡ true }
-        ensures ok { IfOk result (λ answer. PartRests registered self.old number (step self.old.hall number (FsWeightof o k)) answer self.new) }
-        ensures err { OnErr result (self.new ≡ self.old) }
-    {
-        let Ok(key) = SharedKey::new(self.alloc, k) else {
-            return Err(NoMemory);
+        let Some(entry) = self.named_entry(o) else {
+            return Err(Stop::Unknown);
         };
-        let weight = self.admissions.at(o).core().weight(&key);
+        let free = entry.core().available_permits();
+        self.next = number as u128 + 1;
+        Ok(Answer::Free(free as u64))
+    }
+
+    // Tells how many futures wait. It takes no memory.
+    fn waiters(&mut self, number: u64, o: u64) -> Result<Answer, Stop>
+        requires { self.old.next ≤ number }
+        ensures { ActsQuietly self.old number (FsWaiters o) result self.new }
+    {
+        let Some(entry) = self.named_entry(o) else {
+            return Err(Stop::Unknown);
+        };
+        let waiters = entry.core().num_waiters();
+        self.next = number as u128 + 1;
+        Ok(Answer::Count(waiters as u64))
+    }
+
+    // Tells the key of a permit. It takes no memory.
+    fn key(&mut self, number: u64, p: u64) -> Result<Answer, Stop>
+        requires { self.old.next ≤ number }
+        ensures { ActsQuietly self.old number (FsKey p) result self.new }
+    {
+        let Some(permit) = self.permits.get(p) else {
+            return Err(Stop::Unknown);
+        };
+        let key = *permit.key().key();
+        self.next = number as u128 + 1;
+        Ok(Answer::Key(key))
+    }
+
+    // Tells the weight of a key.
+    fn weight(&mut self, number: u64, o: u64, k: u64) -> Result<Answer, Stop>
+        requires { self.old.next ≤ number }
+        ensures { ActsQuietly self.old number (FsWeightof o k) result self.new }
+    {
+        let Some(entry) = self.named_entry(o) else {
+            return Err(Stop::Unknown);
+        };
+        let Ok(key) = SharedKey::new(self.alloc, k) else {
+            return Err(Stop::NoMemory);
+        };
+        let weight = entry.core().weight(&key);
         self.next = number as u128 + 1;
         Ok(Answer::Count(weight))
     }
 
-    /// Sets the weight of a key. On an error nothing has changed.
-    pub fn set_weight(
-        &mut self,
-        number: u64,
-        o: u64,
-        k: u64,
-        weight: u64,
-    ) -> Result<Answer, NoMemory>
-        requires next { self.old.next ≤ number }
-        requires named { is_named self.old.hall o ≡ true }
-        requires some { 0 < weight }
-        ensures ok { IfOk result (λ answer. PartRests registered self.old number (step self.old.hall number (FsWeight o k weight)) answer self.new) }
-        ensures err { OnErr result (self.new ≡ self.old) }
+    // Sets the weight of a key.
+    fn set_weight(&mut self, number: u64, o: u64, k: u64, weight: u64) -> Result<Answer, Stop>
+        requires { self.old.next ≤ number }
+        ensures { ActsQuietly self.old number (FsWeight o k weight) result self.new }
     {
-        let Ok(key) = SharedKey::new(self.alloc, k) else {
-            return Err(NoMemory);
+        let Some(entry) = self.admissions.get_mut(o) else {
+            return Err(Stop::Unknown);
         };
-        let entry = self.admissions.at_mut(o);
+        if let Some(stop) = entry.cause_of_weight(weight) {
+            return Err(stop);
+        }
+        let Ok(key) = SharedKey::new(self.alloc, k) else {
+            return Err(Stop::NoMemory);
+        };
         let Ok(()) = entry.set_weight(&key, weight) else {
-            return Err(NoMemory);
+            return Err(Stop::NoMemory);
         };
         self.next = number as u128 + 1;
         Ok(Answer::Done)
     }
 
-    /// Makes a future of a permit for a key. On an error nothing has changed.
-    pub fn begin(&mut self, number: u64, o: u64, k: u64, form: Form) -> Result<Answer, NoMemory>
-        requires next { self.old.next ≤ number }
-        requires named { is_named self.old.hall o ≡ true }
-        ensures ok { IfOk result (λ answer. PartRests registered self.old number (begins (is_plain form) self.old.hall number o k) answer self.new) }
-        ensures err { OnErr result (self.new ≡ self.old) }
+    // Makes a future of a permit for a key.
+    fn begin(&mut self, number: u64, o: u64, k: u64, form: Form) -> Result<Answer, Stop>
+        requires { self.old.next ≤ number }
+        ensures { ActsQuietly self.old number (begins (is_plain form) o k) result self.new }
     {
         let plain = form.is_plain();
-        let Ok(key) = SharedKey::new(self.alloc, k) else {
-            return Err(NoMemory);
+        let Some(entry) = self.admissions.get_mut(o) else {
+            return Err(Stop::Unknown);
         };
-        let entry = self.admissions.at_mut(o);
+        if let Some(stop) = entry.cause_of_use() {
+            return Err(stop);
+        }
+        let Ok(key) = SharedKey::new(self.alloc, k) else {
+            return Err(Stop::NoMemory);
+        };
         let Ok(()) = self.futures.insert(number, FutureEntry::new(o, key, plain)) else {
-            return Err(NoMemory);
+            return Err(Stop::NoMemory);
         };
         entry.begin(plain);
         self.next = number as u128 + 1;
         Ok(Answer::Made)
     }
 
-    /// Takes a permit for a key, where one is free and nobody waits. Room for the permit is made first. On an error nothing
-    /// has changed.
-    pub fn try_acquire(
-        &mut self,
-        number: u64,
-        o: u64,
-        k: u64,
-        form: Form,
-    ) -> Result<Answer, NoMemory>
-        requires next { self.old.next ≤ number }
-        requires named { is_named self.old.hall o ≡ true }
-        ensures ok { IfOk result (λ answer. PartRests registered self.old number (tries (is_plain form) self.old.hall number o k) answer self.new) }
-        ensures err { OnErr result (self.new ≡ self.old) }
+    // Takes a permit for a key, where one is free and nobody waits. Room for the permit is made first.
+    fn try_acquire(&mut self, number: u64, o: u64, k: u64, form: Form) -> Result<Answer, Stop>
+        requires { self.old.next ≤ number }
+        ensures { ActsQuietly self.old number (tries (is_plain form) o k) result self.new }
     {
         let plain = form.is_plain();
-        let Ok(key) = SharedKey::new(self.alloc, k) else {
-            return Err(NoMemory);
+        let Some(entry) = self.admissions.get_mut(o) else {
+            return Err(Stop::Unknown);
         };
-        let Ok(own) = key.share() else {
-            return Err(NoMemory);
-        };
-        let permit = PermitEntry {
-            admission: o,
-            plain,
-            key: own,
+        if let Some(stop) = entry.cause_of_use() {
+            return Err(stop);
+        }
+        let Ok((key, permit)) = PermitEntry::new(self.alloc, o, k, plain) else {
+            return Err(Stop::NoMemory);
         };
         let Ok(()) = self.permits.insert(number, permit) else {
-            return Err(NoMemory);
+            return Err(Stop::NoMemory);
         };
-        let entry = self.admissions.at_mut(o);
         match entry.take(&key) {
             Ok(true) => {
                 entry.begin(plain);
@@ -284,36 +329,36 @@ impl SharePart {
             }
             Err(_) => {
                 let _ = self.permits.remove(number);
-                Err(NoMemory)
+                Err(Stop::NoMemory)
             }
         }
     }
 
-    /// Polls a future. Room for the permit is made first. On an error nothing has changed.
-    pub fn poll(
+    // Polls a future. Room for the permit is made first.
+    fn poll(
         &mut self,
         number: u64,
         f: u64,
         waker: u64,
         ready: &mut Ready<u64>,
-    ) -> Result<Answer, NoMemory>
-        requires next { self.old.next ≤ number }
-        requires there { is_future self.old.hall f ≡ true }
-        ensures ok { IfOk result (λ answer. PartYields registered self.old number (step self.old.hall number (FsPoll f waker)) answer self.new ready.old ready.new) }
-        ensures err { OnErr result ((self.new ≡ self.old) × (ready.new ≡ ready.old)) }
+    ) -> Result<Answer, Stop>
+        requires { self.old.next ≤ number }
+        ensures { Acts self.old number (FsPoll f waker) result self.new ready.old ready.new }
     {
-        let future = self.futures.at_mut(f);
+        let Some(future) = self.futures.get_mut(f) else {
+            return Err(Stop::Unknown);
+        };
         let Ok(permit) = future.permit() else {
-            return Err(NoMemory);
+            return Err(Stop::NoMemory);
         };
         let entry = self.admissions.at_mut(future.admission());
         let Ok(()) = self.permits.insert(number, permit) else {
-            return Err(NoMemory);
+            return Err(Stop::NoMemory);
         };
         match entry.poll(future, waker, ready) {
             Err(_) => {
                 let _ = self.permits.remove(number);
-                Err(NoMemory)
+                Err(Stop::NoMemory)
             }
             Ok(Poll::Pending) => {
                 let _ = self.permits.remove(number);
@@ -328,27 +373,15 @@ impl SharePart {
         }
     }
 
-    /// Ends a future, or else a permit. It takes no memory.
-    pub fn end(&mut self, number: u64, x: u64, ready: &mut Ready<u64>) -> Answer
+    // Ends a future, or else a permit. It takes no memory.
+    fn end(&mut self, number: u64, x: u64, ready: &mut Ready<u64>) -> Result<Answer, Stop>
         requires next { self.old.next ≤ number }
-        requires there { is_future self.old.hall x ≡ false → is_permit self.old.hall x ≡ true }
         requires room { registered self.old.hall ≤ ready.old.registered }
-        ensures { PartYields registered self.old number (step self.old.hall number (FsEnd x)) result self.new ready.old ready.new }
+        ensures { Acts self.old number (FsEnd x) result self.new ready.old ready.new }
     {
-        if self.is_future(x) {
-            self.end_future(number, x, ready)
-        } else {
-            self.end_permit(number, x, ready)
-        }
-    }
-
-    fn end_future(&mut self, number: u64, f: u64, ready: &mut Ready<u64>) -> Answer
-        requires next { self.old.next ≤ number }
-        requires there { is_future self.old.hall f ≡ true }
-        requires room { registered self.old.hall ≤ ready.old.registered }
-        ensures { PartYields registered self.old number (step self.old.hall number (FsEnd f)) result self.new ready.old ready.new }
-    {
-        let future = self.futures.remove(f);
+        let Some(future) = self.futures.take(x) else {
+            return self.end_permit(number, x, ready);
+        };
         let o = future.admission();
         let plain = future.is_plain();
         let entry = self.admissions.at_mut(o);
@@ -357,17 +390,19 @@ impl SharePart {
         let over = entry.is_over();
         self.admissions.remove_if(o, over);
         self.next = number as u128 + 1;
-        Answer::Done
+        Ok(Answer::Done)
     }
 
-    fn end_permit(&mut self, number: u64, p: u64, ready: &mut Ready<u64>) -> Answer
+    // Ends a permit, where no future has its name. It takes no memory.
+    fn end_permit(&mut self, number: u64, p: u64, ready: &mut Ready<u64>) -> Result<Answer, Stop>
         requires next { self.old.next ≤ number }
         requires apart { map.get self.old.hall.futures p ≡ None }
-        requires there { is_permit self.old.hall p ≡ true }
         requires room { registered self.old.hall ≤ ready.old.registered }
-        ensures { PartYields registered self.old number (step self.old.hall number (FsEnd p)) result self.new ready.old ready.new }
+        ensures { Acts self.old number (FsEnd p) result self.new ready.old ready.new }
     {
-        let permit = self.permits.remove(p);
+        let Some(permit) = self.permits.take(p) else {
+            return Err(Stop::Unknown);
+        };
         let o = permit.admission();
         let entry = self.admissions.at_mut(o);
         entry.end_permit(permit.key(), ready);
@@ -375,82 +410,24 @@ impl SharePart {
         let over = entry.is_over();
         self.admissions.remove_if(o, over);
         self.next = number as u128 + 1;
-        Answer::Done
+        Ok(Answer::Done)
     }
 
-    /// Ends the name of an admission. It takes no memory.
-    pub fn end_name(&mut self, number: u64, o: u64) -> Answer
-        requires next { self.old.next ≤ number }
-        requires named { is_named self.old.hall o ≡ true }
-        requires alone { plain_of self.old.hall o ≡ 0 }
-        ensures { PartRests registered self.old number (step self.old.hall number (FsDrop o)) result self.new }
+    // Ends the name of an admission. It takes no memory.
+    fn end_name(&mut self, number: u64, o: u64) -> Result<Answer, Stop>
+        requires { self.old.next ≤ number }
+        ensures { ActsQuietly self.old number (FsDrop o) result self.new }
     {
-        let entry = self.admissions.at_mut(o);
+        let Some(entry) = self.admissions.get_mut(o) else {
+            return Err(Stop::Unknown);
+        };
+        if let Some(stop) = entry.cause_of_drop() {
+            return Err(stop);
+        }
         entry.unname();
         let over = entry.is_over();
         self.admissions.remove_if(o, over);
         self.next = number as u128 + 1;
-        Answer::Done
-    }
-
-    /// Why an event would be refused; None where it would not.
-    pub fn cause(&self, event: &ShareEvent) -> Option<Stop>
-        ensures { result ≡ cause_of self.now.hall event.now }
-    {
-        match *event {
-            ShareEvent::FsNew(n) => zero_if(n == 0),
-            ShareEvent::FsFree(s) | ShareEvent::FsWaiters(s) => unknown_unless(self.is_named(s)),
-            ShareEvent::FsTry(s, _) | ShareEvent::FsTryo(s, _) => unknown_unless(self.is_named(s)),
-            ShareEvent::FsAcq(s, _) | ShareEvent::FsAcqo(s, _) => unknown_unless(self.is_named(s)),
-            ShareEvent::FsPoll(f, _) => unknown_unless(self.is_future(f)),
-            ShareEvent::FsKey(p) => unknown_unless(self.is_permit(p)),
-            ShareEvent::FsEnd(x) => unknown_unless(self.may_end(x)),
-            ShareEvent::FsDrop(s) => self.cause_of_drop(s),
-            ShareEvent::FsWeight(s, _, n) => self.cause_of_weight(s, n),
-            ShareEvent::FsWeightof(s, _) => unknown_unless(self.is_named(s)),
-        }
-    }
-
-    /// Why the setting of a weight is refused: the admission is unknown, or the weight is 0.
-    pub fn cause_of_weight(&self, o: u64, weight: u64) -> Option<Stop>
-        ensures { result ≡ refused_if (is_named self.now.hall o) (weight == 0) Zero }
-    {
-        if self.is_named(o) {
-            zero_if(weight == 0)
-        } else {
-            Some(Stop::Unknown)
-        }
-    }
-
-    /// Plays an event that has no cause for refusal. On an error nothing has changed.
-    #[tactic(auto, using(crate::proofs::Playing::yield_rests))]
-    pub fn play(
-        &mut self,
-        number: u64,
-        event: &ShareEvent,
-        ready: &mut Ready<u64>,
-    ) -> Result<Answer, NoMemory>
-        requires next { self.old.next ≤ number }
-        requires room { registered self.old.hall ≤ ready.old.registered }
-        requires allowed { cause_of self.old.hall event.now ≡ None }
-        ensures played { IfOk result (λ answer. PartYields registered self.old number (step self.old.hall number event.now) answer self.new ready.old ready.new) }
-        ensures no_memory { TakesNoMemory event.now → OnErr result ⊥ }
-        ensures err { OnErr result ((self.new ≡ self.old) × (ready.new ≡ ready.old)) }
-    {
-        match *event {
-            ShareEvent::FsNew(n) => self.make(number, n),
-            ShareEvent::FsFree(s) => Ok(self.free(number, s)),
-            ShareEvent::FsWaiters(s) => Ok(self.waiters(number, s)),
-            ShareEvent::FsTry(s, k) => self.try_acquire(number, s, k, Form::Plain),
-            ShareEvent::FsTryo(s, k) => self.try_acquire(number, s, k, Form::Owned),
-            ShareEvent::FsAcq(s, k) => self.begin(number, s, k, Form::Plain),
-            ShareEvent::FsAcqo(s, k) => self.begin(number, s, k, Form::Owned),
-            ShareEvent::FsPoll(f, waker) => self.poll(number, f, waker, ready),
-            ShareEvent::FsKey(p) => Ok(self.key(number, p)),
-            ShareEvent::FsEnd(x) => Ok(self.end(number, x, ready)),
-            ShareEvent::FsDrop(s) => Ok(self.end_name(number, s)),
-            ShareEvent::FsWeight(s, k, n) => self.set_weight(number, s, k, n),
-            ShareEvent::FsWeightof(s, k) => self.weight(number, s, k),
-        }
+        Ok(Answer::Done)
     }
 }

@@ -1,6 +1,8 @@
-ghost use Rattle.std.specs.Prelude.{◌≡◌};
+ghost use Rattle.std.specs.Prelude.{◌≡◌, IfOk};
 
+use mea_base::NoMemory;
 use mea_share_core::SharedKey;
+use std::alloc::Global;
 use std::marker::Model;
 
 /// What a hall keeps of a permit: whose it is, its key, and whether it is plain.
@@ -20,21 +22,42 @@ impl Model for PermitEntry {
 }
 
 impl PermitEntry {
-    /// The name of its admission.
+    /// One for a key, which is told too.
+    pub fn new(
+        alloc: Global,
+        admission: u64,
+        key: u64,
+        plain: bool,
+    ) -> Result<(SharedKey<u64>, PermitEntry), NoMemory>
+        ensures { IfOk result (λ both. (both.0 ≡ key) × (both.1 ≡ record { admission = admission; key = key; plain = plain })) }
+    {
+        let Ok(own) = SharedKey::new(alloc, key) else {
+            return Err(NoMemory);
+        };
+        let shared = own.share()?;
+        let permit = PermitEntry {
+            admission,
+            plain,
+            key: shared,
+        };
+        Ok((own, permit))
+    }
+
+    /// The name of its admission. It takes no memory.
     pub fn admission(&self) -> u64
         ensures { result ≡ self.now.admission }
     {
         self.admission
     }
 
-    /// Whether it borrows its admission.
+    /// Whether it borrows its admission. It takes no memory.
     pub fn is_plain(&self) -> bool
         ensures { result ≡ self.now.plain }
     {
         self.plain
     }
 
-    /// Its key.
+    /// Its key. It takes no memory.
     pub fn key(&self) -> &SharedKey<u64>
         ensures { result.now ≡ self.now.key }
     {

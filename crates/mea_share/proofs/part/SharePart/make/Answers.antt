@@ -1,14 +1,18 @@
-use Rattle.std.proofs.Common.{◌≡◌, false}
-use Rattle.std.proofs.Common.{◌<◌, ◌==◌, ℕ, arith}
-use Rattle.std.proofs.lemmas.Bool.Decides.{nat_tests}
-use Rattle.mea_share.proofs.Sites.{site, makes}
+use Rattle.std.proofs.Common.{◌==◌, inl, refl}
+use Rattle.std.proofs.lemmas.Bool.{eq-eqb, ne_eqb}
+use Rattle.mea_events.specs.declared.share_event.ShareEvent.TheVariants.{FsNew}
+use Rattle.mea_by_name.proofs.Cases.{if_true, if_false}
+use Rattle.mea_share.proofs.Sites.{site, lacks_memory, makes}
 use Rattle.mea_share.proofs.part.SharePart.make.Goals as goal
 
-some_is : (n : ℕ) → 0 < n → (n == 0) ≡ false
-some_is n some = grind (arith, nat_tests)
+pub returns-then-permits-eq0 : goal.returns-then-permits-eq0
+returns-then-permits-eq0 c = λ w. (inl (if_true (c.args.permits == 0) _ _ (eq-eqb c.args.permits 0 c.if-permits-eq0.true)), refl, refl)
+
+pub returns-in_default : goal.returns-in_default
+returns-in_default c = rw c.in_default.ensures.err (λ w. (lacks_memory (site c.self.inside.admissions c.self.inside.futures c.self.inside.permits c.self.inside.next c.self.view_is c.self.invariant c.requires c.ranges.number.fits) (FsNew c.args.permits) (if_false (c.args.permits == 0) _ _ (ne_eqb c.args.permits 0 c.if-permits-eq0.false)) (λ no. no), c.self.view_is, refl))
 
 pub invariant_of-self-2 : goal.invariant_of-self-2
-invariant_of-self-2 c = rw (c.in-Ok.ensures.ok, c.new-entry.ensures) (makes (site c.self.inside.admissions c.self.inside.futures c.self.inside.permits c.self.inside.next c.self.view_is c.self.invariant c.requires.next c.ranges.number.fits) c.args.permits (some_is c.args.permits c.requires.some)).0
+invariant_of-self-2 c = rw (c.in-Ok.ensures.ok, c.new-entry.ensures) (makes (site c.self.inside.admissions c.self.inside.futures c.self.inside.permits c.self.inside.next c.self.view_is c.self.invariant c.requires c.ranges.number.fits) c.args.permits (ne_eqb c.args.permits 0 c.if-permits-eq0.false)).0
 
-pub returns-clause-ok : goal.returns-clause-ok
-returns-clause-ok c = rw (c.in-Ok.ensures.ok, c.new-entry.ensures) (makes (site c.self.inside.admissions c.self.inside.futures c.self.inside.permits c.self.inside.next c.self.view_is c.self.invariant c.requires.next c.ranges.number.fits) c.args.permits (some_is c.args.permits c.requires.some)).1
+pub returns : goal.returns
+returns c = rw (c.in-Ok.ensures.ok, c.new-entry.ensures) (makes (site c.self.inside.admissions c.self.inside.futures c.self.inside.permits c.self.inside.next c.self.view_is c.self.invariant c.requires c.ranges.number.fits) c.args.permits (ne_eqb c.args.permits 0 c.if-permits-eq0.false)).1

@@ -15,5 +15,8 @@ returns-then-is_named-clause-plain c = plain_of_it c.self.inside.admissions c.se
 pub returns-then-is_named-clause-stands : goal.returns-then-is_named-clause-stands
 returns-then-is_named-clause-stands c = stands_for_it c.self.inside.admissions c.self.inside.futures c.self.inside.permits c.self.inside.next c.self.view_is c.self.invariant c.args.o c.in_ok-entry.entry.now (sym c.get.ensures ∙ ap option_copied c.in_ok-entry.was) (sym c.is_named.ensures ∙ c.if-is_named.true)
 
+pub returns-then-is_named-clause-waiting : goal.returns-then-is_named-clause-waiting
+returns-then-is_named-clause-waiting c = (c.self.invariant.hall.each c.args.o c.in_ok-entry.entry.now (sym c.get.ensures ∙ ap option_copied c.in_ok-entry.was)).good.waiting
+
 pub returns-else-is_named-clause-named : goal.returns-else-is_named-clause-named
 returns-else-is_named-clause-named c = sym c.if-is_named.false ∙ c.is_named.ensures ∙ named_of c.self.inside.admissions c.self.inside.futures c.self.inside.permits c.self.inside.next c.self.view_is c.args.o (Some c.in_ok-entry.entry.now) (sym c.get.ensures ∙ ap option_copied c.in_ok-entry.was)

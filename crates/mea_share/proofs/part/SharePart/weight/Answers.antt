@@ -1,11 +1,17 @@
-use Rattle.mea_share.proofs.Sites.{site, named_there, tells_weight}
+use Rattle.std.proofs.Common.{inl, refl, ap, sym}
+use Rattle.mea_family.specs.Causes.{unknown_unless}
+use Rattle.mea_events.specs.declared.share_event.ShareEvent.TheVariants.{FsWeightof}
+use Rattle.mea_share.proofs.Sites.{site, lacks_memory, may_weigh, tells_weight}
 use Rattle.mea_share.proofs.part.SharePart.weight.Goals as goal
 
-pub at-requires : goal.at-requires
-at-requires c = named_there (site c.self.inside.admissions c.self.inside.futures c.self.inside.permits c.self.inside.next c.self.view_is c.self.invariant c.requires.next c.ranges.number.fits) c.args.o c.requires.named
+pub returns-in_default : goal.returns-in_default
+returns-in_default c = λ w. (inl (ap unknown_unless (sym c.in_default.ensures.named)), refl, refl)
+
+pub returns-in_default-new : goal.returns-in_default-new
+returns-in_default-new c = λ w. (lacks_memory (site c.self.inside.admissions c.self.inside.futures c.self.inside.permits c.self.inside.next c.self.view_is c.self.invariant c.requires c.ranges.number.fits) (FsWeightof c.args.o c.args.k) (may_weigh (site c.self.inside.admissions c.self.inside.futures c.self.inside.permits c.self.inside.next c.self.view_is c.self.invariant c.requires c.ranges.number.fits) c.args.o c.in-Some.entry.now.fair c.in-Some.ensures.stands c.args.k) (λ no. no), refl, refl)
 
 pub invariant_of-self : goal.invariant_of-self
-invariant_of-self c = (tells_weight (site c.self.inside.admissions c.self.inside.futures c.self.inside.permits c.self.inside.next c.self.view_is c.self.invariant c.requires.next c.ranges.number.fits) c.args.o c.args.k c.at.result.now c.at.ensures c.requires.named).0
+invariant_of-self c = (tells_weight (site c.self.inside.admissions c.self.inside.futures c.self.inside.permits c.self.inside.next c.self.view_is c.self.invariant c.requires c.ranges.number.fits) c.args.o c.in-Some.entry.now.fair c.in-Some.ensures.stands c.args.k).0
 
-pub returns-clause-ok : goal.returns-clause-ok
-returns-clause-ok c = rw (c.weight-weight.ensures, c.core.ensures, c.in-Ok.ensures.ok) (tells_weight (site c.self.inside.admissions c.self.inside.futures c.self.inside.permits c.self.inside.next c.self.view_is c.self.invariant c.requires.next c.ranges.number.fits) c.args.o c.args.k c.at.result.now c.at.ensures c.requires.named).1
+pub returns : goal.returns
+returns c = rw (c.weight-weight.ensures, c.core.ensures, c.in-Ok.ensures.ok) (tells_weight (site c.self.inside.admissions c.self.inside.futures c.self.inside.permits c.self.inside.next c.self.view_is c.self.invariant c.requires c.ranges.number.fits) c.args.o c.in-Some.entry.now.fair c.in-Some.ensures.stands c.args.k).1

@@ -5,8 +5,8 @@ use Rattle.mea_once_model.specs.Meaning.{step}
 use Rattle.mea_once.specs.Actions.{meant}
 use Rattle.mea_once.specs.Halls.{parts, hall_of, AreBelow}
 use Rattle.mea_once.proofs.Playing.{yields_all}
-use Rattle.mea_once.proofs.family.OnceFamilyFamilyOnceModel.play.Goals as goal
-use Rattle.mea_once.proofs.family.OnceFamilyFamilyOnceModel.play.Goals.{In_ok-answer}
+use Rattle.mea_once.proofs.family.OnceFamilyFamilyOnceModel.act.Goals as goal
+use Rattle.mea_once.proofs.family.OnceFamilyFamilyOnceModel.act.Goals.{In_ok-answer}
 
 -- the parts have seen no number from that of the event on
 below : (c : In_ok-answer) → AreBelow (parts c.self.inside.kinds.onces c.self.inside.kinds.values c.self.inside.kinds.maps c.self.inside.kinds.groups) c.args.number
@@ -24,7 +24,7 @@ played : (c : In_ok-answer) → PartYields {H = OnceHall} registered (record { h
     (step (hall_of (parts c.self.inside.kinds.onces c.self.inside.kinds.values c.self.inside.kinds.maps c.self.inside.kinds.groups)) c.args.number c.args.event.now) c.in_ok-answer.answer
     (record { hall = hall_of (parts c.play.new.self.onces c.play.new.self.values c.play.new.self.maps c.play.new.self.groups); next = c.args.number + 1 }) c.args.ready.now c.play.new.ready
 played c = yields_all (parts c.self.inside.kinds.onces c.self.inside.kinds.values c.self.inside.kinds.maps c.self.inside.kinds.groups) (parts c.play.new.self.onces c.play.new.self.values c.play.new.self.maps c.play.new.self.groups)
-    c.args.ready.now c.play.new.ready c.self.inside.next c.args.number c.in_ok-answer.answer (below c) c.args.event.now (meant c.meaning_of.result) c.meaning_of.ensures.means c.in_ok-answer.ensures.played
+    c.args.ready.now c.play.new.ready c.self.inside.next c.args.number c.in_ok-answer.answer (below c) c.args.event.now (meant c.meaning_of-meaning.result) c.meaning_of-meaning.ensures.means c.in_ok-answer.ensures.played
 
 pub returns-clause-played : goal.returns-clause-played
 returns-clause-played c = rw (← c.self.view_is) (played (goal.at.returns-clause-played c).In_ok-answer)
