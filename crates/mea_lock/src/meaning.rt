@@ -47,7 +47,11 @@ pub fn meaning_of(event: &LockEvent) -> Meaning
         LockEvent::RwRead(l) => Meaning::RwLocks(LockAction::Begin(l, Form::Plain, Access::Read)),
         LockEvent::RwReado(l) => Meaning::RwLocks(LockAction::Begin(l, Form::Owned, Access::Read)),
         LockEvent::RwWrite(l) => Meaning::RwLocks(LockAction::Begin(l, Form::Plain, Access::Write)),
-        LockEvent::RwWriteo(l) => Meaning::RwLocks(LockAction::Begin(l, Form::Owned, Access::Write)),
+        LockEvent::RwWriteo(l) => Meaning::RwLocks(LockAction::Begin(
+            l,
+            Form::Owned,
+            Access::Write,
+        )),
         LockEvent::RwPoll(f, waker) => Meaning::RwLocks(LockAction::Poll(f, waker)),
         LockEvent::RwTryr(l) => Meaning::RwLocks(LockAction::Try(l, Form::Plain, Access::Read)),
         LockEvent::RwTryro(l) => Meaning::RwLocks(LockAction::Try(l, Form::Owned, Access::Read)),

@@ -97,7 +97,9 @@ impl<C: LockCore> LockPart<C> {
             LockAction::Get(g) => unknown_unless(self.guard(g).is_some()),
             LockAction::Set(g, _) => unknown_unless(self.write_guard(g).is_some()),
             LockAction::End(x) => unknown_unless(self.may_end(x)),
-            LockAction::Peek(o) | LockAction::Put(o, _) | LockAction::Take(o) => self.cause_of_use(o),
+            LockAction::Peek(o) | LockAction::Put(o, _) | LockAction::Take(o) => self.cause_of_use(
+                o,
+            ),
             LockAction::Drop(o) => self.cause_of_drop(o),
         }
     }
@@ -241,13 +243,7 @@ impl<C: LockCore> LockPart<C> {
     }
 
     // Makes a future, to read or to write. On an error nothing has changed.
-    fn begin(
-        &mut self,
-        number: u64,
-        o: u64,
-        form: Form,
-        access: Access,
-    ) -> Result<Answer, Stop>
+    fn begin(&mut self, number: u64, o: u64, form: Form, access: Access) -> Result<Answer, Stop>
         requires next { self.old.next ≤ number }
         requires writes { C.is_only_written ≡ true → writes access ≡ true }
         ensures { ActsQuietly self.old number (Begin o (is_plain form) (writes access)) result self.new }
@@ -376,13 +372,7 @@ impl<C: LockCore> LockPart<C> {
     }
 
     // Makes a guard where its permits are free. On an error nothing has changed.
-    fn try_lock(
-        &mut self,
-        number: u64,
-        o: u64,
-        form: Form,
-        access: Access,
-    ) -> Result<Answer, Stop>
+    fn try_lock(&mut self, number: u64, o: u64, form: Form, access: Access) -> Result<Answer, Stop>
         requires next { self.old.next ≤ number }
         requires writes { C.is_only_written ≡ true → writes access ≡ true }
         ensures { ActsQuietly self.old number (Try o (is_plain form) (writes access)) result self.new }

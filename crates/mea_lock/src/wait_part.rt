@@ -163,10 +163,7 @@ impl WaitPart {
         requires { self.old.next ≤ number }
         ensures { (m : Part Locks) (w : Waking ℕ) → m.next ≤ number → ActsOn m self.old number Make result m self.new w w }
     {
-        let Ok(()) = self
-            .condvars
-            .insert(number, CondvarEntry::new(self.alloc))
-        else {
+        let Ok(()) = self.condvars.insert(number, CondvarEntry::new(self.alloc)) else {
             return Err(Stop::NoMemory);
         };
         self.next = number as u128 + 1;
