@@ -1,5 +1,5 @@
 ghost use Rattle.std.specs.Prelude.{true, if◌then◌else◌, ◌≡◌, OnOk, OnErr, IfSome, IsSome, Some, is_some};
-ghost use Rattle.std.specs.Option.{option_copied};
+ghost use Rattle.std.specs.Option.{option_copied, option_copied_mut};
 ghost use Rattle.std.specs.Borrow.{sem};
 ghost use Rattle.std.specs.FinMap as map;
 
@@ -25,7 +25,7 @@ impl<X> Model for ByName<X> {
 }
 
 impl<X> ByName<X> {
-    ghost use Rattle.mea_by_name.specs.ByNameLends.{lends_value};
+    ghost use Rattle.mea_by_name.specs.ByNameLends.{lends_value, lends_get};
 
     /// No name. It takes no memory.
     pub fn new(alloc: Global) -> Self
@@ -67,6 +67,14 @@ impl<X> ByName<X> {
         self.map.get_mut(&name).unwrap()
     }
 
+    /// What stands at a name, for writing, if anything does.
+    pub fn get_mut(&mut self, name: u64) -> Option<&mut X>
+        ensures* writes_back { sem 𝓛 (lends_get X.row self.entry name result) }
+        ensures value { option_copied_mut result ≡ map.get self.old name }
+    {
+        self.map.get_mut(&name)
+    }
+
     /// Puts a thing at a name. On an error nothing has changed.
     pub fn insert(&mut self, name: u64, x: X) -> Result<(), NoMemory>
     where
@@ -86,10 +94,15 @@ impl<X> ByName<X> {
         ensures value { map.get self.old name ≡ Some result }
         ensures rest { self.new ≡ map.remove self.old name }
     {
-        match self.map.remove(&name) {
-            Some(x) => x,
-            None => unreachable!(),
-        }
+        self.take(name).unwrap()
+    }
+
+    /// Takes the thing at a name away, if there is one. It takes no memory.
+    pub fn take(&mut self, name: u64) -> Option<X>
+        ensures value { result ≡ map.get self.old name }
+        ensures rest { self.new ≡ map.remove self.old name }
+    {
+        self.map.remove(&name)
     }
 
     /// Takes the thing at a name away where it is over. It takes no memory.
