@@ -149,30 +149,30 @@ impl<C: LockCore> LockPart<C> {
         self.named_entry(o).is_some()
     }
 
-    // Whether a future waits for the lock alone, where there is one.
-    fn waits_alone(&self, f: u64) -> Option<bool>
+    // Whether a future is that of a wait on a condition variable, where there is one.
+    fn is_of_condvar(&self, f: u64) -> Option<bool>
         ensures none { IfNone result (map.get self.now.hall.futures f ≡ None) }
-        ensures some { IfSome result (λ alone. (is_future self.now.hall f ≡ true) × (is_lock_future self.now.hall f ≡ alone) × (is_condvar_future self.now.hall f ≡ not alone)) }
+        ensures some { IfSome result (λ of. (is_future self.now.hall f ≡ true) × (is_lock_future self.now.hall f ≡ not of) × (is_condvar_future self.now.hall f ≡ of)) }
     {
         let future = self.futures.get(f)?;
-        Some(!future.is_of_condvar())
+        Some(future.is_of_condvar())
     }
 
     fn is_lock_future(&self, f: u64) -> bool
         ensures { result ≡ is_lock_future self.now.hall f }
     {
-        match self.waits_alone(f) {
-            Some(alone) => alone,
+        match self.is_of_condvar(f) {
+            Some(of_condvar) => !of_condvar,
             None => false,
         }
     }
 
-    /// Whether it is that of a wait on a condition variable. It takes no memory.
+    /// Whether it is a future of a wait on a condition variable. It takes no memory.
     pub fn is_condvar_future(&self, f: u64) -> bool
         ensures { result ≡ is_condvar_future self.now.hall f }
     {
-        match self.waits_alone(f) {
-            Some(alone) => !alone,
+        match self.is_of_condvar(f) {
+            Some(of_condvar) => of_condvar,
             None => false,
         }
     }
@@ -197,8 +197,8 @@ impl<C: LockCore> LockPart<C> {
     fn may_end(&self, x: u64) -> bool
         ensures { result ≡ (if is_future self.now.hall x then is_lock_future self.now.hall x else is_guard self.now.hall x) }
     {
-        match self.waits_alone(x) {
-            Some(alone) => alone,
+        match self.is_of_condvar(x) {
+            Some(of_condvar) => !of_condvar,
             None => self.guard(x).is_some(),
         }
     }
@@ -277,10 +277,12 @@ impl<C: LockCore> LockPart<C> {
         requires room { registered self.old.hall ≤ ready.old.registered }
         ensures { Acts self.old number (Poll f waker) result self.new ready.old ready.new }
     {
-        if !self.is_lock_future(f) {
+        let Some(future) = self.futures.get_mut(f) else {
+            return Err(Stop::Unknown);
+        };
+        if future.is_of_condvar() {
             return Err(Stop::Unknown);
         }
-        let future = self.futures.at_mut(f);
         let guard = future.guard();
         let entry = self.locks.at_mut(guard.lock);
         let Ok(()) = self.guards.insert(number, guard) else {
@@ -433,9 +435,9 @@ impl<C: LockCore> LockPart<C> {
         requires room { registered self.old.hall ≤ ready.old.registered }
         ensures { Acts self.old number (End x) result self.new ready.old ready.new }
     {
-        match self.waits_alone(x) {
-            Some(true) => Ok(self.end_wait(number, x, ready)),
-            Some(false) => Err(Stop::Unknown),
+        match self.is_of_condvar(x) {
+            Some(true) => Err(Stop::Unknown),
+            Some(false) => Ok(self.end_wait(number, x, ready)),
             None => self.end_guard(number, x, ready),
         }
     }
@@ -466,10 +468,9 @@ impl<C: LockCore> LockPart<C> {
         requires room { registered self.old.hall ≤ ready.old.registered }
         ensures { Acts self.old number (End g) result self.new ready.old ready.new }
     {
-        let Some(guard) = self.guard(g) else {
+        let Some(guard) = self.guards.take(g) else {
             return Err(Stop::Unknown);
         };
-        let _ = self.guards.remove(g);
         let entry = self.locks.at_mut(guard.lock);
         entry.unlock(guard.writes, ready);
         entry.finish(guard.plain);
@@ -549,11 +550,10 @@ impl<C: LoweredCore> LockPart<C> {
         requires room { registered self.old.hall ≤ ready.old.registered }
         ensures { Acts self.old number (Lower g) result self.new ready.old ready.new }
     {
-        if self.write_guard(g).is_none() {
+        let Some(guard) = self.write_guard(g) else {
             return Err(Stop::Unknown);
-        }
-        let guard = self.guards.at_mut(g);
-        guard.writes = false;
+        };
+        self.guards.at_mut(g).writes = false;
         self.locks.at_mut(guard.lock).lower(ready);
         self.next = number as u128 + 1;
         Ok(Answer::Done)
