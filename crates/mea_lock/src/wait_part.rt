@@ -1,10 +1,10 @@
-ghost use Rattle.std.specs.Prelude.{ℕ, ◌≡◌, ◌≢◌, ◌≤◌, ◌+◌, IfSome, is_some, Some};
+ghost use Rattle.std.specs.Prelude.{ℕ, ◌≡◌, ◌≢◌, ◌≤◌, ◌+◌, ◌&&◌, IfSome, is_some, Some};
 ghost use Rattle.mea_family.specs.Causes.{borrowed_by};
 ghost use Rattle.mea_base.specs.Ready.{Waking};
 ghost use Rattle.mea_family.specs.Play.{Part};
 ghost use Rattle.mea_lock_model.specs.Condvars.{no_condvars, is_condvar, is_wait, waits_of, until_of, registered};
 ghost use Rattle.mea_lock_model.specs.Locks as locks;
-ghost use Rattle.mea_lock_model.specs.Locks.{Locks};
+ghost use Rattle.mea_lock_model.specs.Locks.{Locks, is_condvar_future};
 ghost use Rattle.mea_lock_model.specs.CondActions.{cause_with, Make, Wait, Poll, One, All, End, Drop};
 ghost use Rattle.mea_lock.specs.Actions.{cond_action};
 ghost use Rattle.mea_lock.specs.Halls.{ActsOn};
@@ -101,12 +101,10 @@ impl WaitPart {
             CondAction::Wait(c, g, _) => unknown_unless(
                 self.is_condvar(c) && mutexes.write_guard(g).is_some(),
             ),
-            CondAction::Poll(f, _) => unknown_unless(
-                self.is_wait(f) && mutexes.is_condvar_future(f),
-            ),
+            CondAction::Poll(f, _) => unknown_unless(self.lives(mutexes, f)),
             CondAction::One(c) => unknown_unless(self.is_condvar(c)),
             CondAction::All(c) => unknown_unless(self.is_condvar(c)),
-            CondAction::End(f) => unknown_unless(self.is_wait(f) && mutexes.is_condvar_future(f)),
+            CondAction::End(f) => unknown_unless(self.lives(mutexes, f)),
             CondAction::Drop(c) => self.cause_of_drop(c),
         }
     }
@@ -141,10 +139,11 @@ impl WaitPart {
         self.condvars.has(c)
     }
 
-    fn is_wait(&self, f: u64) -> bool
-        ensures { result ≡ is_wait self.now.hall f }
+    // Whether it is a wait, and has its future at its mutex.
+    fn lives(&self, mutexes: &Mutexes, f: u64) -> bool
+        ensures { result ≡ is_wait self.now.hall f && is_condvar_future mutexes.now.hall f }
     {
-        self.waits.has(f)
+        self.waits.has(f) && mutexes.is_condvar_future(f)
     }
 
     // Why a condition variable may not be dropped: it is unknown, or a wait borrows it.
@@ -312,7 +311,7 @@ impl WaitPart {
         requires room { locks.registered mutexes.old.hall + registered self.old.hall ≤ ready.old.registered }
         ensures { ActsOn mutexes.old self.old number (End f) result mutexes.new self.new ready.old ready.new }
     {
-        if !self.is_wait(f) || !mutexes.is_condvar_future(f) {
+        if !self.lives(mutexes, f) {
             return Err(Stop::Unknown);
         }
         let answer = mutexes.end_wait(number, f, ready);
