@@ -81,6 +81,9 @@ module _ (old : Part Locks) (i : ℕ) (a b : Action) (is : a ≡ b) where
   acted_quietly (Ok answer) new w (none, rests) = acted (Ok answer) new w w (none, yield_rests old i (act_in old.hall i b) answer new w rests)
   acted_quietly (Err stop) new w (refused, same) = acted (Err stop) new w w (refused, same, refl)
 
+pub acted_on : (m : Part Locks) (v : Part Condvars) (i : ℕ) (a b : CondAction) → a ≡ b → (r : Result Answer Stop) (m' : Part Locks) (v' : Part Condvars) (before after : Waking ℕ) → ActsOn m v i b r m' v' before after → ActsOn m v i a r m' v' before after
+acted_on m v i a b is r m' v' before after did = subst (λ x. ActsOn m v i x r m' v' before after) (sym is) did
+
 -- what means something to one kind was asked where that kind was asked it
 module _ (m l : Part Locks) (v : Part Condvars) (i : ℕ) (d : Meaning) (r : Result Answer Stop) (before after : Waking ℕ) where
   pub mutexes_acted : (a : Action) (m' : Part Locks) → d ≡ OnLocks Mutexes a → Acts m i a r m' before after → ActsBy d m l v i r m' l v before after

@@ -105,7 +105,6 @@ impl<C: LockCore> LockPart<C> {
     }
 
     /// Does an action, or finds why it is refused. On an error nothing has changed.
-    #[tactic(auto, using(crate::proofs::Playing::yield_rests))]
     pub fn act(
         &mut self,
         number: u64,

@@ -139,11 +139,17 @@ impl WaitPart {
         self.condvars.has(c)
     }
 
+    fn is_wait(&self, f: u64) -> bool
+        ensures { result ≡ is_wait self.now.hall f }
+    {
+        self.waits.has(f)
+    }
+
     // Whether it is a wait, and has its future at its mutex.
     fn lives(&self, mutexes: &Mutexes, f: u64) -> bool
         ensures { result ≡ is_wait self.now.hall f && is_condvar_future mutexes.now.hall f }
     {
-        self.waits.has(f) && mutexes.is_condvar_future(f)
+        self.is_wait(f) && mutexes.is_condvar_future(f)
     }
 
     // Why a condition variable may not be dropped: it is unknown, or a wait borrows it.

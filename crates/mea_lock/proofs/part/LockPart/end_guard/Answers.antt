@@ -33,5 +33,8 @@ invariant_of-self-2 g c = rw (c.remove_if.ensures, c.finish.ensures, c.take.ensu
     (sym (c.is_over-over.ensures ∙ ap is_over c.finish.ensures))).0
 
 pub returns : goal.returns
-returns g c = (end_cause (site c.self.inside.locks c.self.inside.futures c.self.inside.guards c.self.inside.next c.self.view_is c.self.invariant c.requires.next c.ranges.number.fits) c.args.g _ (sym c.take.ensures.value ∙ c.in-Some.is) c.requires.apart, rw (c.remove_if.ensures, c.finish.ensures, c.take.ensures.rest) (guard_ended (site c.self.inside.locks c.self.inside.futures c.self.inside.guards c.self.inside.next c.self.view_is c.self.invariant c.requires.next c.ranges.number.fits) c.args.g c.in-Some.guard c.at_mut-entry.result.now (sym c.take.ensures.value ∙ c.in-Some.is) c.at_mut-entry.ensures.value c.requires.apart c.unlock.ensures.0 c.unlock.new.self c.args.ready.now c.unlock.new.ready c.unlock.ensures.1 c.unlock.ensures.2 c.is_over-over.result
-    (sym (c.is_over-over.ensures ∙ ap is_over c.finish.ensures))).1)
+returns g c = (
+  end_cause (site c.self.inside.locks c.self.inside.futures c.self.inside.guards c.self.inside.next c.self.view_is c.self.invariant c.requires.next c.ranges.number.fits) c.args.g _ (sym c.take.ensures.value ∙ c.in-Some.is) c.requires.apart,
+  rw (c.remove_if.ensures, c.finish.ensures, c.take.ensures.rest) (guard_ended (site c.self.inside.locks c.self.inside.futures c.self.inside.guards c.self.inside.next c.self.view_is c.self.invariant c.requires.next c.ranges.number.fits) c.args.g c.in-Some.guard c.at_mut-entry.result.now (sym c.take.ensures.value ∙ c.in-Some.is) c.at_mut-entry.ensures.value c.requires.apart c.unlock.ensures.0 c.unlock.new.self c.args.ready.now c.unlock.new.ready c.unlock.ensures.1 c.unlock.ensures.2 c.is_over-over.result
+      (sym (c.is_over-over.ensures ∙ ap is_over c.finish.ensures))).1,
+)

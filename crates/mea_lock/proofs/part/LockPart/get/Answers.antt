@@ -1,11 +1,11 @@
-use Rattle.std.proofs.Common.{is_some, sym, ap}
+use Rattle.std.proofs.Common.{refl, is_some, sym, ap}
 use Rattle.mea_family.specs.Causes.{unknown_unless}
 use Rattle.mea_lock.proofs.PartEvents.{site, guard_is, guarded_lock, is_held, rests, got}
 use Rattle.mea_lock.proofs.Playing.{unknown}
 use Rattle.mea_lock.proofs.part.LockPart.get.Goals as goal
 
 pub returns-in_default : goal.returns-in_default
-returns-in_default g c = (unknown _ _ (ap (λ o. unknown_unless (is_some o)) (sym c.in_default.ensures)), search rules)
+returns-in_default g c = (unknown _ _ (ap (λ o. unknown_unless (is_some o)) (sym c.in_default.ensures)), refl)
 
 pub at-requires : goal.at-requires
 at-requires g c = guarded_lock (site c.self.inside.locks c.self.inside.futures c.self.inside.guards c.self.inside.next c.self.view_is c.self.invariant c.requires c.ranges.number.fits) c.args.g c.in-Some.guard (guard_is (site c.self.inside.locks c.self.inside.futures c.self.inside.guards c.self.inside.next c.self.view_is c.self.invariant c.requires c.ranges.number.fits) c.args.g c.in-Some.guard (sym c.in-Some.ensures))

@@ -1,4 +1,4 @@
-use Rattle.std.proofs.Common.{sym, ap}
+use Rattle.std.proofs.Common.{refl, sym, ap}
 use Rattle.mea_base.proofs.Maps.{is_there}
 use Rattle.mea_family.specs.Causes.{unknown_unless}
 use Rattle.mea_lock.proofs.PartEvents.{site, guard_is, guarded_lock, is_held, its_kept, its_room, lowered}
@@ -6,7 +6,7 @@ use Rattle.mea_lock.proofs.Playing.{unknown}
 use Rattle.mea_lock.proofs.part.LockPart.lower.Goals as goal
 
 pub returns-in_default : goal.returns-in_default
-returns-in_default g c = (unknown _ _ (ap unknown_unless (sym c.in_default.ensures.there)), search rules)
+returns-in_default g c = (unknown _ _ (ap unknown_unless (sym c.in_default.ensures.there)), refl, refl)
 
 pub at_mut-requires : goal.at_mut-requires
 at_mut-requires g c = is_there _ c.in-Some.guard (guard_is (site c.self.inside.locks c.self.inside.futures c.self.inside.guards c.self.inside.next c.self.view_is c.self.invariant c.requires.next c.ranges.number.fits) c.args.g c.in-Some.guard c.in-Some.ensures.some.0)

@@ -8,7 +8,7 @@ use Rattle.mea_lock.proofs.Playing.{unknown, lacking}
 use Rattle.mea_lock.proofs.part.LockPart.poll.Goals as goal
 
 pub returns-in_default : goal.returns-in_default
-returns-in_default g c = (unknown _ _ (poll_cause (site c.self.inside.locks c.self.inside.futures c.self.inside.guards c.self.inside.next c.self.view_is c.self.invariant c.requires.next c.ranges.number.fits) c.args.f c.args.waker None (sym c.get_mut.ensures.value ∙ ap option_copied_mut c.in_default.is)), search rules)
+returns-in_default g c = (unknown _ _ (poll_cause (site c.self.inside.locks c.self.inside.futures c.self.inside.guards c.self.inside.next c.self.view_is c.self.invariant c.requires.next c.ranges.number.fits) c.args.f c.args.waker None (sym c.get_mut.ensures.value ∙ ap option_copied_mut c.in_default.is)), c.self.view_is, refl)
 
 pub invariant_of-self-then-is_of_condvar : goal.invariant_of-self-then-is_of_condvar
 invariant_of-self-then-is_of_condvar g c = (looked (site c.self.inside.locks c.self.inside.futures c.self.inside.guards c.self.inside.next c.self.view_is c.self.invariant c.requires.next c.ranges.number.fits) c.args.f c.in-Some.future.now (sym c.get_mut.ensures.value ∙ ap option_copied_mut c.in-Some.is)).0

@@ -1,4 +1,4 @@
-use Rattle.std.proofs.Common.{sym, ap, ◌∙◌}
+use Rattle.std.proofs.Common.{refl, sym, ap, ◌∙◌}
 use Rattle.std.proofs.lemmas.Bool.{not-true, not-false}
 use Rattle.mea_family.specs.Causes.{unknown_unless}
 use Rattle.mea_base.proofs.Maps.{get-there, is_there}
@@ -7,10 +7,10 @@ use Rattle.mea_lock.proofs.Playing.{unknown, lacking}
 use Rattle.mea_lock.proofs.part.LockPart.try_lock.Goals as goal
 
 pub returns-then-not-is_named : goal.returns-then-not-is_named
-returns-then-not-is_named g c = (unknown _ _ (ap unknown_unless (sym c.is_named.ensures ∙ not-true c.is_named.result c.if-not-is_named.true)), search rules)
+returns-then-not-is_named g c = (unknown _ _ (ap unknown_unless (sym c.is_named.ensures ∙ not-true c.is_named.result c.if-not-is_named.true)), refl)
 
 pub returns-in_default : goal.returns-in_default
-returns-in_default g c = (lacking _ _ (ap unknown_unless (sym c.is_named.ensures ∙ not-false c.is_named.result c.if-not-is_named.false)) (λ none. none), search rules)
+returns-in_default g c = (lacking _ _ (ap unknown_unless (sym c.is_named.ensures ∙ not-false c.is_named.result c.if-not-is_named.false)) (λ none. none), rw c.in_default.ensures.err c.self.view_is)
 
 pub at_mut-entry-requires : goal.at_mut-entry-requires
 at_mut-entry-requires g c = lock_there (site c.self.inside.locks c.self.inside.futures c.self.inside.guards c.self.inside.next c.self.view_is c.self.invariant c.requires.next c.ranges.number.fits) c.args.o (sym c.is_named.ensures ∙ not-false c.is_named.result c.if-not-is_named.false)

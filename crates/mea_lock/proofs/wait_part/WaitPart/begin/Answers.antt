@@ -9,13 +9,13 @@ use Rattle.mea_lock.proofs.Playing.{unknown, lacking}
 use Rattle.mea_lock.proofs.wait_part.WaitPart.begin.Goals as goal
 
 pub returns-then-not-is_condvar : goal.returns-then-not-is_condvar
-returns-then-not-is_condvar c = λ w. (unknown _ _ (ap (λ b. unknown_unless (b && is_write_guard c.args.mutexes.now.hall c.args.g)) (sym c.is_condvar.ensures ∙ not-true c.is_condvar.result c.if-not-is_condvar.true)), refl, search rules, refl)
+returns-then-not-is_condvar c = λ w. (unknown _ _ (ap (λ b. unknown_unless (b && is_write_guard c.args.mutexes.now.hall c.args.g)) (sym c.is_condvar.ensures ∙ not-true c.is_condvar.result c.if-not-is_condvar.true)), refl, refl, refl)
 
 pub returns-in_default : goal.returns-in_default
-returns-in_default c = λ w. (unknown _ _ (λ j. unknown_unless ((sym c.is_condvar.ensures ∙ not-false c.is_condvar.result c.if-not-is_condvar.false) j && sym c.in_default.ensures.there j)), refl, search rules, refl)
+returns-in_default c = λ w. (unknown _ _ (λ j. unknown_unless ((sym c.is_condvar.ensures ∙ not-false c.is_condvar.result c.if-not-is_condvar.false) j && sym c.in_default.ensures.there j)), refl, refl, refl)
 
 pub returns-in_default-insert : goal.returns-in_default-insert
-returns-in_default-insert c = λ w. (lacking _ _ (λ j. unknown_unless ((sym c.is_condvar.ensures ∙ not-false c.is_condvar.result c.if-not-is_condvar.false) j && sym c.in-Some.ensures.there j)) (λ none. none), refl, search rules, refl)
+returns-in_default-insert c = λ w. (lacking _ _ (λ j. unknown_unless ((sym c.is_condvar.ensures ∙ not-false c.is_condvar.result c.if-not-is_condvar.false) j && sym c.in-Some.ensures.there j)) (λ none. none), refl, rw c.in_default-insert.ensures.err c.self.view_is, refl)
 
 pub remove-requires : goal.remove-requires
 remove-requires c = rw c.in-Ok.ensures.ok (is_there _ _ (get-there c.self.inside.waits c.args.number _))

@@ -6,7 +6,7 @@ use Rattle.mea_lock.proofs.Playing.{unknown, both_true, future_known}
 use Rattle.mea_lock.proofs.wait_part.WaitPart.end.Goals as goal
 
 pub returns-then-not-lives : goal.returns-then-not-lives
-returns-then-not-lives c = (unknown _ _ (ap unknown_unless (sym c.lives.ensures ∙ not-true c.lives.result c.if-not-lives.true)), refl, search rules, refl)
+returns-then-not-lives c = (unknown _ _ (ap unknown_unless (sym c.lives.ensures ∙ not-true c.lives.result c.if-not-lives.true)), refl, refl, refl)
 
 pub end_wait-answer-requires-clause-there : goal.end_wait-answer-requires-clause-there
 end_wait-answer-requires-clause-there c = future_known _ _ (both_true _ _ (sym c.lives.ensures ∙ not-false c.lives.result c.if-not-lives.false)).1

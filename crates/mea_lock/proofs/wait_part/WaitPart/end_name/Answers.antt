@@ -4,7 +4,7 @@ use Rattle.mea_lock.proofs.Playing.{told, borrowed_none}
 use Rattle.mea_lock.proofs.wait_part.WaitPart.end_name.Goals as goal
 
 pub returns-in-Some : goal.returns-in-Some
-returns-in-Some c = λ m w later. (told _ _ _ (sym c.cause_of_drop.ensures.is ∙ c.in-Some.is) (λ is. c.cause_of_drop.ensures.tells (c.in-Some.is ∙ ap (λ s. Some s) is)), refl, search rules, refl)
+returns-in-Some c = λ m w later. (told _ _ _ (sym c.cause_of_drop.ensures.is ∙ c.in-Some.is) (λ is. c.cause_of_drop.ensures.tells (c.in-Some.is ∙ ap (λ s. Some s) is)), refl, refl, refl)
 
 pub remove-requires : goal.remove-requires
 remove-requires c = condvar_there (site c.self.inside.condvars c.self.inside.waits c.self.inside.next c.self.view_is c.self.invariant c.requires c.ranges.number.fits) c.args.c (borrowed_none _ _ (sym c.cause_of_drop.ensures.is ∙ c.in_default.is)).0

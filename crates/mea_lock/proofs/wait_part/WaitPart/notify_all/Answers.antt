@@ -6,7 +6,7 @@ use Rattle.mea_lock.proofs.Playing.{unknown}
 use Rattle.mea_lock.proofs.wait_part.WaitPart.notify_all.Goals as goal
 
 pub returns-then-not-is_condvar : goal.returns-then-not-is_condvar
-returns-then-not-is_condvar c = λ m later. (unknown _ _ (ap unknown_unless (sym c.is_condvar.ensures ∙ not-true c.is_condvar.result c.if-not-is_condvar.true)), refl, search rules, refl)
+returns-then-not-is_condvar c = λ m later. (unknown _ _ (ap unknown_unless (sym c.is_condvar.ensures ∙ not-true c.is_condvar.result c.if-not-is_condvar.true)), refl, refl, refl)
 
 pub at_mut-requires : goal.at_mut-requires
 at_mut-requires c = condvar_there (site c.self.inside.condvars c.self.inside.waits c.self.inside.next c.self.view_is c.self.invariant c.requires.next c.ranges.number.fits) c.args.c (sym c.is_condvar.ensures ∙ not-false c.is_condvar.result c.if-not-is_condvar.false)
