@@ -65,8 +65,8 @@ pub future_known : (h : Locks) (f : ℕ) → is_condvar_future h f ≡ true → 
 future_known h f is = at (get h.futures f) is
   where
     at : (o : Option LockFuture) → is_waiting_for true o ≡ true → is_some o ≡ true
-    at None no = absurd (cc)
-    at (Some x) yes = refl
+    at None is = absurd (cc)
+    at (Some x) is = refl
 
 -- a lock of some permits is made
 pub makes : (most : ℕ) → (most ≡ 0 → ⊥) → (if most == 0 then Some stops.Zero else None) ≡ None

@@ -4,9 +4,6 @@ use Rattle.mea_lock.specs.Actions.{meant, FitsMeaning, lock_action, cond_action}
 use Rattle.mea_lock.proofs.Playing.{mutexes_acted, rw_locks_acted, condvars_acted}
 use Rattle.mea_lock.proofs.kinds.Kinds.act.Goals as goal
 
-pub act-requires-clause-fits : goal.act-requires-clause-fits
-act-requires-clause-fits c = λ once. subst FitsMeaning c.in-Mutexes.is c.requires.fits
-
 pub returns-in-Mutexes : goal.returns-in-Mutexes
 returns-in-Mutexes c = mutexes_acted c.args.self.now.mutexes c.args.self.now.rw_locks c.args.self.now.condvars c.args.number (meant c.args.meaning) c.act.result c.args.ready.now c.act.new.ready (lock_action c.in-Mutexes.action) c.act.new.self (ap meant c.in-Mutexes.is) c.act.ensures
 

@@ -6,23 +6,14 @@ use Rattle.mea_lock.specs.Actions.{lock_action, FitsMutex}
 use Rattle.mea_lock.proofs.Playing.{acted, acted_quietly}
 use Rattle.mea_lock.proofs.part.LockPart.act.Goals as goal
 
-pub make-requires-clause-one : goal.make-requires-clause-one
-make-requires-clause-one g c = λ once. subst FitsMutex c.in-Make.is (c.requires.fits once)
-
 pub returns-in-Make : goal.returns-in-Make
 returns-in-Make g c = acted_quietly c.args.self.now c.args.number (lock_action c.args.action) (Make c.in-Make.v c.in-Make.most) (ap lock_action c.in-Make.is) c.make.result c.make.new.self c.args.ready.now c.make.ensures
-
-pub begin-requires-clause-writes : goal.begin-requires-clause-writes
-begin-requires-clause-writes g c = λ once. subst FitsMutex c.in-Begin.is (c.requires.fits once)
 
 pub returns-in-Begin : goal.returns-in-Begin
 returns-in-Begin g c = acted_quietly c.args.self.now c.args.number (lock_action c.args.action) (Begin c.in-Begin.o (is_plain c.in-Begin.form) (writes c.in-Begin.access)) (ap lock_action c.in-Begin.is) c.begin.result c.begin.new.self c.args.ready.now c.begin.ensures
 
 pub returns-in-Poll : goal.returns-in-Poll
 returns-in-Poll g c = acted c.args.self.now c.args.number (lock_action c.args.action) (Poll c.in-Poll.f c.in-Poll.waker) (ap lock_action c.in-Poll.is) c.poll.result c.poll.new.self c.args.ready.now c.poll.new.ready c.poll.ensures
-
-pub try_lock-requires-clause-writes : goal.try_lock-requires-clause-writes
-try_lock-requires-clause-writes g c = λ once. subst FitsMutex c.in-Try.is (c.requires.fits once)
 
 pub returns-in-Try : goal.returns-in-Try
 returns-in-Try g c = acted_quietly c.args.self.now c.args.number (lock_action c.args.action) (Try c.in-Try.o (is_plain c.in-Try.form) (writes c.in-Try.access)) (ap lock_action c.in-Try.is) c.try_lock.result c.try_lock.new.self c.args.ready.now c.try_lock.ensures

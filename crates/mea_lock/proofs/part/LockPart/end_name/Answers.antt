@@ -4,9 +4,6 @@ use Rattle.mea_lock.proofs.PartEvents.{site, lock_there, over_there, dropped}
 use Rattle.mea_lock.proofs.Playing.{told, borrowed_none}
 use Rattle.mea_lock.proofs.part.LockPart.end_name.Goals as goal
 
-pub returns-in-Some : goal.returns-in-Some
-returns-in-Some g c = (told _ _ _ (sym c.cause_of_drop.ensures.is ∙ c.in-Some.is) (λ is. c.cause_of_drop.ensures.tells (c.in-Some.is ∙ ap (λ s. Some s) is)), refl)
-
 pub at_mut-entry-requires : goal.at_mut-entry-requires
 at_mut-entry-requires g c = lock_there (site c.self.inside.locks c.self.inside.futures c.self.inside.guards c.self.inside.next c.self.view_is c.self.invariant c.requires c.ranges.number.fits) c.args.o (borrowed_none _ _ (sym c.cause_of_drop.ensures.is ∙ c.in_default.is)).0
 

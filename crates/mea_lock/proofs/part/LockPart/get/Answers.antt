@@ -4,9 +4,6 @@ use Rattle.mea_lock.proofs.PartEvents.{site, guard_is, guarded_lock, is_held, re
 use Rattle.mea_lock.proofs.Playing.{unknown}
 use Rattle.mea_lock.proofs.part.LockPart.get.Goals as goal
 
-pub returns-in_default : goal.returns-in_default
-returns-in_default g c = (unknown _ _ (ap (λ o. unknown_unless (is_some o)) (sym c.in_default.ensures)), refl)
-
 pub at-requires : goal.at-requires
 at-requires g c = guarded_lock (site c.self.inside.locks c.self.inside.futures c.self.inside.guards c.self.inside.next c.self.view_is c.self.invariant c.requires c.ranges.number.fits) c.args.g c.in-Some.guard (guard_is (site c.self.inside.locks c.self.inside.futures c.self.inside.guards c.self.inside.next c.self.view_is c.self.invariant c.requires c.ranges.number.fits) c.args.g c.in-Some.guard (sym c.in-Some.ensures))
 

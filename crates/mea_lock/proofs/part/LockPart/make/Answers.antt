@@ -4,9 +4,6 @@ use Rattle.mea_lock.proofs.PartEvents.{site, made}
 use Rattle.mea_lock.proofs.Playing.{lacking, makes}
 use Rattle.mea_lock.proofs.part.LockPart.make.Goals as goal
 
-pub returns-in_default : goal.returns-in_default
-returns-in_default g c = (lacking _ _ (makes c.args.most c.if-most-eq0.false) (λ none. none), rw c.in_default.ensures.err c.self.view_is)
-
 pub invariant_of-self-2 : goal.invariant_of-self-2
 invariant_of-self-2 g c = rw (c.in-Ok.ensures.ok, c.new.ensures) (made (site c.self.inside.locks c.self.inside.futures c.self.inside.guards c.self.inside.next c.self.view_is c.self.invariant c.requires.next c.ranges.number.fits) (g.C.LockCore.lock_of c.make-core.result) c.args.value c.args.most c.make-core.ensures).0
 

@@ -3,9 +3,6 @@ use Rattle.mea_lock.proofs.PartEvents.{site, lock_there, is_idle, peeked}
 use Rattle.mea_lock.proofs.Playing.{told, borrowed_none}
 use Rattle.mea_lock.proofs.part.LockPart.peek.Goals as goal
 
-pub returns-in-Some : goal.returns-in-Some
-returns-in-Some g c = (told _ _ _ (sym c.cause_of_use.ensures.is ∙ c.in-Some.is) (λ is. c.cause_of_use.ensures.tells (c.in-Some.is ∙ ap (λ s. Some s) is)), refl)
-
 pub at_mut-requires : goal.at_mut-requires
 at_mut-requires g c = lock_there (site c.self.inside.locks c.self.inside.futures c.self.inside.guards c.self.inside.next c.self.view_is c.self.invariant c.requires c.ranges.number.fits) c.args.o (borrowed_none _ _ (sym c.cause_of_use.ensures.is ∙ c.in_default.is)).0
 

@@ -25,8 +25,8 @@ poll-requires-clause-allowed g c = future_may_poll (site c.self.inside.locks c.s
 pub poll-requires-clause-room : goal.poll-requires-clause-room
 poll-requires-clause-room g c = its_room (site c.self.inside.locks c.self.inside.futures c.self.inside.guards c.self.inside.next c.self.view_is c.self.invariant c.requires.next c.ranges.number.fits) c.guard-guard.result.lock c.at_mut-entry.result.now c.at_mut-entry.ensures.value c.args.ready.now c.requires.room
 
-pub invariant_of-self : goal.invariant_of-self
-invariant_of-self g c = rw (c.in_default-insert.ensures.err, c.guard-guard.ensures) (undone (site c.self.inside.locks c.self.inside.futures c.self.inside.guards c.self.inside.next c.self.view_is c.self.invariant c.requires.next c.ranges.number.fits) c.args.f c.in-Some.future.now c.at_mut-entry.result.now (sym c.get_mut.ensures.value ∙ ap option_copied_mut c.in-Some.is) (rw c.guard-guard.ensures at c.at_mut-entry.ensures.value) _ _ _ refl refl refl).0
+pub invariant_of-self-in_default-insert : goal.invariant_of-self-in_default-insert
+invariant_of-self-in_default-insert g c = rw (c.in_default-insert.ensures.err, c.guard-guard.ensures) (undone (site c.self.inside.locks c.self.inside.futures c.self.inside.guards c.self.inside.next c.self.view_is c.self.invariant c.requires.next c.ranges.number.fits) c.args.f c.in-Some.future.now c.at_mut-entry.result.now (sym c.get_mut.ensures.value ∙ ap option_copied_mut c.in-Some.is) (rw c.guard-guard.ensures at c.at_mut-entry.ensures.value) _ _ _ refl refl refl).0
 
 pub returns-in_default-insert : goal.returns-in_default-insert
 returns-in_default-insert g c = (lacking _ _ (poll_cause (site c.self.inside.locks c.self.inside.futures c.self.inside.guards c.self.inside.next c.self.view_is c.self.invariant c.requires.next c.ranges.number.fits) c.args.f c.args.waker (Some c.in-Some.future.now) (sym c.get_mut.ensures.value ∙ ap option_copied_mut c.in-Some.is) ∙ ap (λ b. unknown_unless (not b)) (sym c.is_of_condvar.ensures ∙ c.if-is_of_condvar.false)) (λ none. none), rw (c.in_default-insert.ensures.err, c.guard-guard.ensures) (undone (site c.self.inside.locks c.self.inside.futures c.self.inside.guards c.self.inside.next c.self.view_is c.self.invariant c.requires.next c.ranges.number.fits) c.args.f c.in-Some.future.now c.at_mut-entry.result.now (sym c.get_mut.ensures.value ∙ ap option_copied_mut c.in-Some.is) (rw c.guard-guard.ensures at c.at_mut-entry.ensures.value) _ _ _ refl refl refl).1, refl)

@@ -4,9 +4,6 @@ use Rattle.mea_lock.proofs.PartEvents.{site, guard_is, guarded_lock, is_held, va
 use Rattle.mea_lock.proofs.Playing.{unknown}
 use Rattle.mea_lock.proofs.part.LockPart.set.Goals as goal
 
-pub returns-in_default : goal.returns-in_default
-returns-in_default g c = (unknown _ _ (ap unknown_unless (sym c.in_default.ensures.there)), refl)
-
 pub at_mut-requires : goal.at_mut-requires
 at_mut-requires g c = guarded_lock (site c.self.inside.locks c.self.inside.futures c.self.inside.guards c.self.inside.next c.self.view_is c.self.invariant c.requires c.ranges.number.fits) c.args.g c.in-Some.guard (guard_is (site c.self.inside.locks c.self.inside.futures c.self.inside.guards c.self.inside.next c.self.view_is c.self.invariant c.requires c.ranges.number.fits) c.args.g c.in-Some.guard c.in-Some.ensures.some.0)
 

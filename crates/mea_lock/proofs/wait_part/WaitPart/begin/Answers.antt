@@ -1,5 +1,4 @@
 use Rattle.std.proofs.Common.{refl, sym, ap, ◌∙◌, ◌&&◌}
-use Rattle.std.proofs.lemmas.Bool.{not-true, not-false}
 use Rattle.mea_family.specs.Causes.{unknown_unless}
 use Rattle.mea_base.proofs.Maps.{get-there, is_there}
 use Rattle.mea_by_name.proofs.Own.{put_gone, gone_none}
@@ -8,14 +7,8 @@ use Rattle.mea_lock.proofs.WaitEvents.{site, condvar_there, no_wait, begun}
 use Rattle.mea_lock.proofs.Playing.{unknown, lacking}
 use Rattle.mea_lock.proofs.wait_part.WaitPart.begin.Goals as goal
 
-pub returns-then-not-is_condvar : goal.returns-then-not-is_condvar
-returns-then-not-is_condvar c = λ w. (unknown _ _ (ap (λ b. unknown_unless (b && is_write_guard c.args.mutexes.now.hall c.args.g)) (sym c.is_condvar.ensures ∙ not-true c.is_condvar.result c.if-not-is_condvar.true)), refl, refl, refl)
-
-pub returns-in_default : goal.returns-in_default
-returns-in_default c = λ w. (unknown _ _ (λ j. unknown_unless ((sym c.is_condvar.ensures ∙ not-false c.is_condvar.result c.if-not-is_condvar.false) j && sym c.in_default.ensures.there j)), refl, refl, refl)
-
 pub returns-in_default-insert : goal.returns-in_default-insert
-returns-in_default-insert c = λ w. (lacking _ _ (λ j. unknown_unless ((sym c.is_condvar.ensures ∙ not-false c.is_condvar.result c.if-not-is_condvar.false) j && sym c.in-Some.ensures.there j)) (λ none. none), refl, rw c.in_default-insert.ensures.err c.self.view_is, refl)
+returns-in_default-insert c = λ w. (lacking _ _ (λ j. unknown_unless ((sym c.is_condvar.ensures ∙ c.if-not-is_condvar.false) j && sym c.in-Some.ensures.there j)) (λ none. none), refl, rw c.in_default-insert.ensures.err c.self.view_is, refl)
 
 pub remove-requires : goal.remove-requires
 remove-requires c = rw c.in-Ok.ensures.ok (is_there _ _ (get-there c.self.inside.waits c.args.number _))
@@ -24,13 +17,13 @@ pub invariant_of-self-in_default-hand : goal.invariant_of-self-in_default-hand
 invariant_of-self-in_default-hand c = rw (c.remove.ensures.rest, c.in-Ok.ensures.ok, put_gone c.self.inside.waits c.args.number _, gone_none c.self.inside.waits c.args.number (no_wait (site c.self.inside.condvars c.self.inside.waits c.self.inside.next c.self.view_is c.self.invariant c.requires.next c.ranges.number.fits))) c.self.invariant
 
 pub returns-in_default-hand : goal.returns-in_default-hand
-returns-in_default-hand c = λ w. (lacking _ _ (λ j. unknown_unless ((sym c.is_condvar.ensures ∙ not-false c.is_condvar.result c.if-not-is_condvar.false) j && sym c.in-Some.ensures.there j)) (λ none. none), c.in_default-hand.ensures.err, rw (c.remove.ensures.rest, c.in-Ok.ensures.ok, put_gone c.self.inside.waits c.args.number _, gone_none c.self.inside.waits c.args.number (no_wait (site c.self.inside.condvars c.self.inside.waits c.self.inside.next c.self.view_is c.self.invariant c.requires.next c.ranges.number.fits))) c.self.view_is, refl)
+returns-in_default-hand c = λ w. (lacking _ _ (λ j. unknown_unless ((sym c.is_condvar.ensures ∙ c.if-not-is_condvar.false) j && sym c.in-Some.ensures.there j)) (λ none. none), c.in_default-hand.ensures.err, rw (c.remove.ensures.rest, c.in-Ok.ensures.ok, put_gone c.self.inside.waits c.args.number _, gone_none c.self.inside.waits c.args.number (no_wait (site c.self.inside.condvars c.self.inside.waits c.self.inside.next c.self.view_is c.self.invariant c.requires.next c.ranges.number.fits))) c.self.view_is, refl)
 
 pub at_mut-requires : goal.at_mut-requires
-at_mut-requires c = condvar_there (site c.self.inside.condvars c.self.inside.waits c.self.inside.next c.self.view_is c.self.invariant c.requires.next c.ranges.number.fits) c.args.c (sym c.is_condvar.ensures ∙ not-false c.is_condvar.result c.if-not-is_condvar.false)
+at_mut-requires c = condvar_there (site c.self.inside.condvars c.self.inside.waits c.self.inside.next c.self.view_is c.self.invariant c.requires.next c.ranges.number.fits) c.args.c (sym c.is_condvar.ensures ∙ c.if-not-is_condvar.false)
 
 pub invariant_of-self-2 : goal.invariant_of-self-2
 invariant_of-self-2 c = rw (c.in-Ok.ensures.ok, c.begin.ensures) (begun (site c.self.inside.condvars c.self.inside.waits c.self.inside.next c.self.view_is c.self.invariant c.requires.next c.ranges.number.fits) c.args.c c.at_mut.result.now c.at_mut.ensures.value c.args.g c.args.bound).0
 
 pub returns : goal.returns
-returns c = λ w. ((λ j. unknown_unless ((sym c.is_condvar.ensures ∙ not-false c.is_condvar.result c.if-not-is_condvar.false) j && sym c.in-Some.ensures.there j)), rw (c.in-Ok.ensures.ok, c.begin.ensures) ((begun (site c.self.inside.condvars c.self.inside.waits c.self.inside.next c.self.view_is c.self.invariant c.requires.next c.ranges.number.fits) c.args.c c.at_mut.result.now c.at_mut.ensures.value c.args.g c.args.bound).1 c.args.mutexes.now c.hand.new.self c.in-Ok-hand.answer w c.in-Ok-hand.ensures.ok))
+returns c = λ w. ((λ j. unknown_unless ((sym c.is_condvar.ensures ∙ c.if-not-is_condvar.false) j && sym c.in-Some.ensures.there j)), rw (c.in-Ok.ensures.ok, c.begin.ensures) ((begun (site c.self.inside.condvars c.self.inside.waits c.self.inside.next c.self.view_is c.self.invariant c.requires.next c.ranges.number.fits) c.args.c c.at_mut.result.now c.at_mut.ensures.value c.args.g c.args.bound).1 c.args.mutexes.now c.hand.new.self c.in-Ok-hand.answer w c.in-Ok-hand.ensures.ok))

@@ -3,9 +3,6 @@ use Rattle.mea_lock.proofs.WaitEvents.{site, condvar_there, dropped}
 use Rattle.mea_lock.proofs.Playing.{told, borrowed_none}
 use Rattle.mea_lock.proofs.wait_part.WaitPart.end_name.Goals as goal
 
-pub returns-in-Some : goal.returns-in-Some
-returns-in-Some c = λ m w later. (told _ _ _ (sym c.cause_of_drop.ensures.is ∙ c.in-Some.is) (λ is. c.cause_of_drop.ensures.tells (c.in-Some.is ∙ ap (λ s. Some s) is)), refl, refl, refl)
-
 pub remove-requires : goal.remove-requires
 remove-requires c = condvar_there (site c.self.inside.condvars c.self.inside.waits c.self.inside.next c.self.view_is c.self.invariant c.requires c.ranges.number.fits) c.args.c (borrowed_none _ _ (sym c.cause_of_drop.ensures.is ∙ c.in_default.is)).0
 
@@ -13,4 +10,4 @@ pub invariant_of-self : goal.invariant_of-self
 invariant_of-self c = rw c.remove.ensures.rest (dropped (site c.self.inside.condvars c.self.inside.waits c.self.inside.next c.self.view_is c.self.invariant c.requires c.ranges.number.fits) c.args.c c.remove.result c.remove.ensures.value (borrowed_none _ _ (sym c.cause_of_drop.ensures.is ∙ c.in_default.is)).1).0
 
 pub returns : goal.returns
-returns c = λ m w later. ((sym c.cause_of_drop.ensures.is ∙ c.in_default.is), rw c.remove.ensures.rest (dropped (site c.self.inside.condvars c.self.inside.waits c.self.inside.next c.self.view_is c.self.invariant c.requires c.ranges.number.fits) c.args.c c.remove.result c.remove.ensures.value (borrowed_none _ _ (sym c.cause_of_drop.ensures.is ∙ c.in_default.is)).1).1 m w later)
+returns c = λ m w later. ((sym c.cause_of_drop.ensures.is ∙ c.in_default.is), rw c.remove.ensures.rest ((dropped (site c.self.inside.condvars c.self.inside.waits c.self.inside.next c.self.view_is c.self.invariant c.requires c.ranges.number.fits) c.args.c c.remove.result c.remove.ensures.value (borrowed_none _ _ (sym c.cause_of_drop.ensures.is ∙ c.in_default.is)).1).1 m w later))
