@@ -6,7 +6,7 @@ use Rattle.mea_lock.proofs.Playing.{unknown, both_true, future_known}
 use Rattle.mea_lock.proofs.wait_part.WaitPart.end.Goals as goal
 
 pub end_wait-answer-requires-clause-there : goal.end_wait-answer-requires-clause-there
-end_wait-answer-requires-clause-there c = future_known _ _ (both_true _ _ (sym c.lives.ensures ∙ c.if-not-lives.false)).1
+end_wait-answer-requires-clause-there c = future_known c.args.mutexes.now.hall c.args.f (both_true _ _ (sym c.lives.ensures ∙ c.if-not-lives.false)).1
 
 pub remove-wait-requires : goal.remove-wait-requires
 remove-wait-requires c = wait_there (site c.self.inside.condvars c.self.inside.waits c.self.inside.next c.self.view_is c.self.invariant c.requires.next c.ranges.number.fits) c.args.f (both_true _ _ (sym c.lives.ensures ∙ c.if-not-lives.false)).0

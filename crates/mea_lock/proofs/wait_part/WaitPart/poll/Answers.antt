@@ -6,6 +6,9 @@ use Rattle.mea_lock.proofs.WaitEvents.{site, wait_is, some_waits, known_number, 
 use Rattle.mea_lock.proofs.Playing.{unknown, lacking}
 use Rattle.mea_lock.proofs.wait_part.WaitPart.poll.Goals as goal
 
+pub returns-in_default : goal.returns-in_default
+returns-in_default c = (unknown _ _ (ap (λ b. unknown_unless (b && is_condvar_future c.args.mutexes.now.hall c.args.f)) (wait_is (site c.self.inside.condvars c.self.inside.waits c.self.inside.next c.self.view_is c.self.invariant c.requires.next c.ranges.number.fits) c.args.f _ (sym c.get.ensures ∙ sym c.copied.ensures ∙ c.in_default.is))), refl, refl, refl)
+
 pub poll_until-requires-clause-there : goal.poll_until-requires-clause-there
 poll_until-requires-clause-there c = (sym c.is_condvar_future.ensures ∙ c.if-not-is_condvar_future.false)
 
