@@ -16,7 +16,6 @@ use Rattle.mea_base.proofs.Totals.{total-insert, total-remove, total-same, total
 use Rattle.mea_base.proofs.NamedMaps.{is_some-map, get-seen}
 use Rattle.mea_by_name.specs.ByName.{Names, seen, own, count}
 use Rattle.mea_family.specs.Play.{Part, PartYields, PartRests, found}
-use Rattle.mea_by_name.specs.NamedQueue.{waits}
 use Rattle.mea_by_name.specs.LackingQueue.{who}
 use Rattle.mea_by_name.proofs.LackingQueues.{length-who}
 use Rattle.mea_by_name.proofs.Cases.{found_is, if_true, if_false}

@@ -1,7 +1,5 @@
 -- what is said of the locks of one kind, and of all with condition variables
-use Rattle.std.proofs.Common.{◌≡◌, ◌≢◌, ℕ, ◌+◌, ◌≤◌, ◌++◌, ◌==◌, ◌&&◌, is_some, Bool, true, false, inl, inr, length, Option, Some, None, Result, Ok, Err, refl, ap, sym, subst, ◌∙◌, arith, append-nil, if◌then◌else◌}
-use Rattle.std.specs.Prelude.{◌⊎◌}
-use Rattle.std.specs.FinMap.{get}
+use Rattle.std.proofs.Common.{◌≡◌, ℕ, ◌+◌, ◌++◌, ◌==◌, ◌&&◌, Bool, true, false, inl, inr, length, Option, Some, None, refl, ap, sym, subst, ◌∙◌, arith, if◌then◌else◌}
 use Rattle.std.proofs.lemmas.Bool.Decides.{nat_tests}
 use Rattle.mea_family.specs.Causes.{borrowed_by}
 use Rattle.mea_family.specs.declared.answer.Answer.{Answer}
@@ -9,47 +7,27 @@ use Rattle.mea_family.specs.declared.stop.Stop.{Stop}
 use Rattle.mea_family.specs.declared.stop.Stop.TheVariants as stops
 use Rattle.mea_family.specs.Family.{Outcome}
 use Rattle.mea_base.specs.Ready.{Waking}
-use Rattle.mea_family.specs.Play.{Part, PartYields, PartRests}
+use Rattle.mea_family.specs.Play.{Part, PartYields}
 use Rattle.mea_by_name.specs.NamedQueue.{Waiting}
 use Rattle.mea_base.proofs.Totals.{total-empty}
 use Rattle.mea_events.specs.declared.lock_event.LockEvent.{LockEvent}
-use Rattle.mea_lock_model.specs.Locks.{Lock, LockFuture, Locks, is_future, is_condvar_future, is_waiting_for, registered, waiting_at}
+use Rattle.mea_lock_model.specs.Locks.{Lock, Locks, registered, waiting_at}
 use Rattle.mea_lock_model.specs.Condvars as condvars
 use Rattle.mea_lock_model.specs.Condvars.{Condvars}
-use Rattle.mea_lock_model.specs.Actions.{Action, act_in}
-use Rattle.mea_lock_model.specs.CondActions.{CondAction, act_on}
+use Rattle.mea_lock_model.specs.Actions.{Action}
 use Rattle.mea_lock_model.specs.LockHall.{LockHall, Mutexes, RwLocks, empty_hall, registered as all_registered}
 use Rattle.mea_lock_model.specs.Meaning.{Meaning, OnLocks, OnCondvars, meaning_of, step, step_by}
 use Rattle.mea_lock_model.proofs.Acting.{not_borrowed}
-use Rattle.mea_lock.specs.Halls.{hall_of, AreBelow, PlaysOne, PlaysBy, Refuses, Acts, ActsQuietly, ActsOn, ActsBy}
-
--- where no waker was made ready, those that are ready are as they were
-yield_rests : (old : Part Locks) (i : ℕ) (o : Outcome Locks) (answer : Answer) (new : Part Locks) (w : Waking ℕ) → PartRests registered old i o answer new → PartYields registered old i o answer new w w
-yield_rests old i o answer new w rests = record {
-  replied = rests.replied;
-  moved = rests.moved;
-  woken = sym (append-nil w.wakers) ∙ ap (λ ws. w.wakers ++ ws) (sym rests.silent);
-  counted = omega (arith, rests.counted);
-}
+use Rattle.mea_lock.specs.Halls.{hall_of, AreBelow, PlaysOne, PlaysBy, Refuses}
 
 -- ---- what is refused
 -- a name that is not known
 pub unknown : (cause : Option Stop) (free : Type 0) → cause ≡ Some stops.Unknown → Refuses cause free stops.Unknown
 unknown cause free is = inl (is, λ no. absurd (cc))
 
--- another cause
-pub told : (cause : Option Stop) (free : Type 0) (stop : Stop) → cause ≡ Some stop → stop ≢ stops.NoMemory → Refuses cause free stop
-told cause free stop is speaks = inl (is, speaks)
-
 -- what has no cause, for want of memory
 pub lacking : (cause : Option Stop) (free : Type 0) → cause ≡ None → (free → ⊥) → Refuses cause free stops.NoMemory
 lacking cause free none takes = inr (none, refl, takes)
-
-pub refused_for : (cause : Option Stop) (free : Type 0) (stop : Stop) → Refuses cause free stop → (cause ≡ Some stop) ⊎ ((cause ≡ None) × (stop ≡ stops.NoMemory))
-refused_for cause free stop refused = elim refused [ inl told ↦ inl told.0 | inr lacks ↦ inr (lacks.0, lacks.1) ]
-
-pub never_lacks : (cause : Option Stop) (free : Type 0) (stop : Stop) → Refuses cause free stop → free → stop ≢ stops.NoMemory
-never_lacks cause free stop refused takes_none is = elim refused [ inl told ↦ told.1 is | inr lacks ↦ lacks.2 takes_none ]
 
 -- what nothing borrows is known
 pub borrowed_none : (known : Bool) (n : ℕ) → borrowed_by known n ≡ None → (known ≡ true) × (n ≡ 0)
@@ -60,52 +38,9 @@ pub both_true : (a b : Bool) → (a && b) ≡ true → (a ≡ true) × (b ≡ tr
 both_true true b is = (refl, is)
 both_true false b is = absurd (cc)
 
--- the future of a wait is one
-pub future_known : (h : Locks) (f : ℕ) → is_condvar_future h f ≡ true → is_future h f ≡ true
-future_known h f is = at (get h.futures f) is
-  where
-    at : (o : Option LockFuture) → is_waiting_for true o ≡ true → is_some o ≡ true
-    at None is = absurd (cc)
-    at (Some x) is = refl
-
 -- a lock of some permits is made
 pub makes : (most : ℕ) → (most ≡ 0 → ⊥) → (if most == 0 then Some stops.Zero else None) ≡ None
 makes most some = grind (arith, nat_tests)
-
--- ---- what was asked in other words
-module _ (old : Part Locks) (i : ℕ) (a b : Action) (is : a ≡ b) where
-  pub acted : (r : Result Answer Stop) (new : Part Locks) (before after : Waking ℕ) → Acts old i b r new before after → Acts old i a r new before after
-  acted r new before after did = subst (λ x. Acts old i x r new before after) (sym is) did
-
-  pub acted_quietly : (r : Result Answer Stop) (new : Part Locks) (w : Waking ℕ) → ActsQuietly old i b r new → Acts old i a r new w w
-  acted_quietly (Ok answer) new w (none, rests) = acted (Ok answer) new w w (none, yield_rests old i (act_in old.hall i b) answer new w rests)
-  acted_quietly (Err stop) new w (refused, same) = acted (Err stop) new w w (refused, same, refl)
-
-pub acted_on : (m : Part Locks) (v : Part Condvars) (i : ℕ) (a b : CondAction) → a ≡ b → (r : Result Answer Stop) (m' : Part Locks) (v' : Part Condvars) (before after : Waking ℕ) → ActsOn m v i b r m' v' before after → ActsOn m v i a r m' v' before after
-acted_on m v i a b is r m' v' before after did = subst (λ x. ActsOn m v i x r m' v' before after) (sym is) did
-
--- what means something to one kind was asked where that kind was asked it
-module _ (m l : Part Locks) (v : Part Condvars) (i : ℕ) (d : Meaning) (r : Result Answer Stop) (before after : Waking ℕ) where
-  pub mutexes_acted : (a : Action) (m' : Part Locks) → d ≡ OnLocks Mutexes a → Acts m i a r m' before after → ActsBy d m l v i r m' l v before after
-  mutexes_acted a m' is did = subst (λ d. ActsBy d m l v i r m' l v before after) (sym is) (at r did)
-    where
-      at : (r : Result Answer Stop) → Acts m i a r m' before after → ActsBy (OnLocks Mutexes a) m l v i r m' l v before after
-      at (Ok answer) (none, yields) = (none, record { yields = yields; same = refl; still = refl })
-      at (Err stop) (refused, same, quiet) = (refused, same, refl, refl, quiet)
-
-  pub rw_locks_acted : (a : Action) (l' : Part Locks) → d ≡ OnLocks RwLocks a → Acts l i a r l' before after → ActsBy d m l v i r m l' v before after
-  rw_locks_acted a l' is did = subst (λ d. ActsBy d m l v i r m l' v before after) (sym is) (at r did)
-    where
-      at : (r : Result Answer Stop) → Acts l i a r l' before after → ActsBy (OnLocks RwLocks a) m l v i r m l' v before after
-      at (Ok answer) (none, yields) = (none, record { yields = yields; same = refl; still = refl })
-      at (Err stop) (refused, same, quiet) = (refused, refl, same, refl, quiet)
-
-  pub condvars_acted : (a : CondAction) (m' : Part Locks) (v' : Part Condvars) → d ≡ OnCondvars a → ActsOn m v i a r m' v' before after → ActsBy d m l v i r m' l v' before after
-  condvars_acted a m' v' is did = subst (λ d. ActsBy d m l v i r m' l v' before after) (sym is) (at r did)
-    where
-      at : (r : Result Answer Stop) → ActsOn m v i a r m' v' before after → ActsBy (OnCondvars a) m l v i r m' l v' before after
-      at (Ok answer) (none, plays) = (none, (plays, refl))
-      at (Err stop) (refused, same, still, quiet) = (refused, same, refl, still, quiet)
 
 -- ---- what an event leaves
 pub none_registered : all_registered empty_hall ≡ 0

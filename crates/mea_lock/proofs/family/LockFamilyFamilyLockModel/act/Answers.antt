@@ -1,10 +1,10 @@
-use Rattle.std.proofs.Common.{◌≡◌, ◌+◌, arith, ap, sym, ◌∙◌}
+use Rattle.std.proofs.Common.{◌+◌, arith, ap}
 use Rattle.mea_family.specs.Play.{Part, PartYields}
 use Rattle.mea_lock_model.specs.LockHall.{LockHall, registered}
-use Rattle.mea_lock_model.specs.Meaning.{cause_by, step}
+use Rattle.mea_lock_model.specs.Meaning.{step}
 use Rattle.mea_lock.specs.Actions.{meant}
-use Rattle.mea_lock.specs.Halls.{hall_of, AreBelow, IsFreeBy}
-use Rattle.mea_lock.proofs.Playing.{below_after, yields_all, refused_for, never_lacks}
+use Rattle.mea_lock.specs.Halls.{hall_of, AreBelow}
+use Rattle.mea_lock.proofs.Playing.{yields_all}
 use Rattle.mea_lock.proofs.family.LockFamilyFamilyLockModel.act.Goals as goal
 use Rattle.mea_lock.proofs.family.LockFamilyFamilyLockModel.act.Goals.{In_ok-answer, In_err-answer}
 

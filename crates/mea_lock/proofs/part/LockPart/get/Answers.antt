@@ -1,7 +1,6 @@
-use Rattle.std.proofs.Common.{refl, is_some, sym, ap}
+use Rattle.std.proofs.Common.{is_some, sym, ap}
 use Rattle.mea_family.specs.Causes.{unknown_unless}
 use Rattle.mea_lock.proofs.PartEvents.{site, guard_is, guarded_lock, is_held, rests, got}
-use Rattle.mea_lock.proofs.Playing.{unknown}
 use Rattle.mea_lock.proofs.part.LockPart.get.Goals as goal
 
 pub at-requires : goal.at-requires

@@ -1,8 +1,7 @@
-use Rattle.std.proofs.Common.{refl, sym, ap, ◌∙◌}
+use Rattle.std.proofs.Common.{sym, ap, ◌∙◌}
 use Rattle.mea_base.proofs.Maps.{inside, is_there}
 use Rattle.mea_family.specs.Causes.{unknown_unless}
 use Rattle.mea_lock.proofs.PartEvents.{site, guard_is, guarded_lock, is_held, its_kept, its_room, lowered}
-use Rattle.mea_lock.proofs.Playing.{unknown}
 use Rattle.mea_lock.proofs.part.LockPart.lower.Goals as goal
 
 pub at_mut-requires : goal.at_mut-requires

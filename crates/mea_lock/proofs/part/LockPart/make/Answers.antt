@@ -1,7 +1,5 @@
-use Rattle.std.proofs.Common.{ap, ◌==◌, nat_eq, refl, arith}
-use Rattle.std.proofs.lemmas.Bool.Decides.{nat_tests}
 use Rattle.mea_lock.proofs.PartEvents.{site, made}
-use Rattle.mea_lock.proofs.Playing.{lacking, makes}
+use Rattle.mea_lock.proofs.Playing.{makes}
 use Rattle.mea_lock.proofs.part.LockPart.make.Goals as goal
 
 pub invariant_of-self-2 : goal.invariant_of-self-2

@@ -1,7 +1,6 @@
-use Rattle.std.proofs.Common.{refl, sym, ap, ◌∙◌}
+use Rattle.std.proofs.Common.{sym, ap}
 use Rattle.mea_family.specs.Causes.{unknown_unless}
 use Rattle.mea_lock.proofs.PartEvents.{site, guard_is, guarded_lock, is_held, valued, set}
-use Rattle.mea_lock.proofs.Playing.{unknown}
 use Rattle.mea_lock.proofs.part.LockPart.set.Goals as goal
 
 pub at_mut-requires : goal.at_mut-requires

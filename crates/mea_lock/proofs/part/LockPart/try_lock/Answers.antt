@@ -1,8 +1,7 @@
-use Rattle.std.proofs.Common.{refl, sym, ap, ◌∙◌}
+use Rattle.std.proofs.Common.{sym, ap, ◌∙◌}
 use Rattle.mea_family.specs.Causes.{unknown_unless}
 use Rattle.mea_base.proofs.Maps.{get-there, is_there}
 use Rattle.mea_lock.proofs.PartEvents.{site, lock_there, few_things, enough_if, few_if, try_holds, try_lacks}
-use Rattle.mea_lock.proofs.Playing.{unknown, lacking}
 use Rattle.mea_lock.proofs.part.LockPart.try_lock.Goals as goal
 
 pub at_mut-entry-requires : goal.at_mut-entry-requires

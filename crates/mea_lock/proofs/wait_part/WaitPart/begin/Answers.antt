@@ -1,14 +1,10 @@
-use Rattle.std.proofs.Common.{refl, sym, ap, ◌∙◌, ◌&&◌}
+use Rattle.std.proofs.Common.{refl, sym, ◌∙◌, ◌&&◌}
 use Rattle.mea_family.specs.Causes.{unknown_unless}
 use Rattle.mea_base.proofs.Maps.{get-there, is_there}
 use Rattle.mea_by_name.proofs.Own.{put_gone, gone_none}
-use Rattle.mea_lock_model.specs.Locks.{is_write_guard}
 use Rattle.mea_lock.proofs.WaitEvents.{site, condvar_there, no_wait, begun}
-use Rattle.mea_lock.proofs.Playing.{unknown, lacking}
+use Rattle.mea_lock.proofs.Playing.{lacking}
 use Rattle.mea_lock.proofs.wait_part.WaitPart.begin.Goals as goal
-
-pub returns-in_default-insert : goal.returns-in_default-insert
-returns-in_default-insert c = λ w. (lacking _ _ (λ j. unknown_unless ((sym c.is_condvar.ensures ∙ c.if-not-is_condvar.false) j && sym c.in-Some.ensures.there j)) (λ none. none), refl, rw c.in_default-insert.ensures.err c.self.view_is, refl)
 
 pub remove-requires : goal.remove-requires
 remove-requires c = rw c.in-Ok.ensures.ok (is_there _ _ (get-there c.self.inside.waits c.args.number _))

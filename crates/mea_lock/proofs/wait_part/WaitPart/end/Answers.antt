@@ -1,12 +1,9 @@
-use Rattle.std.proofs.Common.{refl, sym, ap, ◌∙◌}
+use Rattle.std.proofs.Common.{sym, ap, ◌∙◌}
 use Rattle.std.proofs.lemmas.Bool.{not-true, not-false}
 use Rattle.mea_family.specs.Causes.{unknown_unless}
 use Rattle.mea_lock.proofs.WaitEvents.{site, wait_there, some_waits, known_number, notified_number, refuted, one_waits, waiting_fits, ends_waiting, ends_quietly, ends_last, next_there, ends_passing}
-use Rattle.mea_lock.proofs.Playing.{unknown, both_true, future_known}
+use Rattle.mea_lock.proofs.Playing.{both_true}
 use Rattle.mea_lock.proofs.wait_part.WaitPart.end.Goals as goal
-
-pub end_wait-answer-requires-clause-there : goal.end_wait-answer-requires-clause-there
-end_wait-answer-requires-clause-there c = future_known c.args.mutexes.now.hall c.args.f (both_true _ _ (sym c.lives.ensures ∙ c.if-not-lives.false)).1
 
 pub remove-wait-requires : goal.remove-wait-requires
 remove-wait-requires c = wait_there (site c.self.inside.condvars c.self.inside.waits c.self.inside.next c.self.view_is c.self.invariant c.requires.next c.ranges.number.fits) c.args.f (both_true _ _ (sym c.lives.ensures ∙ c.if-not-lives.false)).0

@@ -1,6 +1,5 @@
 use Rattle.std.proofs.Common.{refl}
 use Rattle.mea_lock.proofs.WaitEvents.{site, made}
-use Rattle.mea_lock.proofs.Playing.{lacking}
 use Rattle.mea_lock.proofs.wait_part.WaitPart.make.Goals as goal
 
 pub invariant_of-self-2 : goal.invariant_of-self-2

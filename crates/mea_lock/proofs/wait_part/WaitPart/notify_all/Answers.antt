@@ -1,7 +1,6 @@
-use Rattle.std.proofs.Common.{refl, sym, ap, ◌∙◌}
+use Rattle.std.proofs.Common.{sym, ap, ◌∙◌}
 use Rattle.mea_family.specs.Causes.{unknown_unless}
 use Rattle.mea_lock.proofs.WaitEvents.{site, condvar_there, its_room, notified_each}
-use Rattle.mea_lock.proofs.Playing.{unknown}
 use Rattle.mea_lock.proofs.wait_part.WaitPart.notify_all.Goals as goal
 
 pub at_mut-requires : goal.at_mut-requires
