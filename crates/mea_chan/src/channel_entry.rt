@@ -1,11 +1,11 @@
 ghost use Rattle.std.specs.Prelude.{◌≡◌, ◌+◌, ◌<◌, ◌≤◌, ◌==◌, ◌++◌, [], length, true, false, option_to_list, IfOk, OnErr, if◌then◌else◌};
 ghost use Rattle.mea_chan_core.specs.Mailbox.{recv_answer, after_recv, without_sender};
 ghost use Rattle.mea_chan.specs.Cores.{is_over, message_sent, sent_answer, last_sent, receiver_ended, has_message, no_message_comes};
-ghost use Rattle.mea_chan.specs.Entries.{kept, told, Settles, Polls, poll_told};
+ghost use Rattle.mea_chan.specs.Entries.{kept, told, Settles, Polls};
 
 use crate::mailbox_core::{MailboxCore, SharedCore, SingleCore};
+use crate::receiver_entry::{poll_told, told};
 use mea_base::{NoMemory, Ready};
-use mea_chan_core::TryRecvError;
 use mea_family::Answer;
 use std::marker::Model;
 
@@ -177,27 +177,5 @@ impl<C: SingleCore> ChannelEntry<C> {
         ensures { result ≡ no_message_comes self.now }
     {
         self.core.is_disconnected()
-    }
-}
-
-// What a script is told of a receive.
-fn told(received: Result<u64, TryRecvError>) -> Answer
-    ensures { result ≡ told received }
-{
-    match received {
-        Ok(message) => Answer::Got(message),
-        Err(TryRecvError::Empty) => Answer::Empty,
-        Err(TryRecvError::Disconnected) => Answer::Gone,
-    }
-}
-
-// What a script is told of a poll.
-fn poll_told(received: Result<u64, TryRecvError>) -> Answer
-    ensures { result ≡ poll_told received }
-{
-    match received {
-        Ok(message) => Answer::Got(message),
-        Err(TryRecvError::Empty) => Answer::Pending,
-        Err(TryRecvError::Disconnected) => Answer::Gone,
     }
 }

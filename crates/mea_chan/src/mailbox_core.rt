@@ -1,9 +1,10 @@
 ghost use Rattle.std.specs.Prelude.{◌≡◌, ◌<◌, ◌+◌, ◌==◌, ◌∷◌, [], length, true, false, option_to_list, OnErr, IfOk, IfSome, IfNone, if◌then◌else◌};
 ghost use Rattle.mea_chan_core.specs.Mailbox.{recv_answer, after_recv, without_sender};
-ghost use Rattle.mea_chan.specs.Cores.{is_over, message_sent, sent_answer, last_sent, receiver_ended, Receives, has_message, no_message_comes};
+ghost use Rattle.mea_chan.specs.Cores.{is_over, message_sent, sent_answer, last_sent, receiver_ended, Receives, has_message, no_message_comes, new_core};
 
 use mea_base::NoMemory;
 use mea_chan_core::TryRecvError;
+use std::alloc::Global;
 
 /// The core of a channel for one receiver as a hall uses it. Each kind is seen as a channel that never is full.
 pub trait MailboxCore: Drop {
@@ -13,6 +14,10 @@ pub trait MailboxCore: Drop {
     ghost mailbox_of: { Self → Mailbox };
     // Whether the receiver's waker falls with it.
     ghost falls: { Bool };
+
+    /// A channel with a sender and a receiver. It takes no memory.
+    fn make(alloc: Global) -> Self
+        ensures { mailbox_of result ≡ new_core };
 
     /// How many wakers it keeps: one or none.
     fn waiting(&self) -> usize
