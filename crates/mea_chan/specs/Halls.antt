@@ -18,6 +18,7 @@ use Rattle.mea_chan_model.specs.Boxes.{Boxes, BoxAction}
 use Rattle.mea_chan_model.specs.ChanHall.{ChanHall, Kind, Unbounded, Oneshots, BoxKind, Full, Optional}
 use Rattle.mea_chan_model.specs.Meaning.{Meaning, OfChannels, OfBounded, OfBroadcasts, OfBoxes, meaning_of, cause_by}
 use Rattle.mea_chan_broadcast.specs.Actions.{Refuses, IsFreeBroadcast}
+use Rattle.mea_chan.specs.declared.kinds.Kinds.{Kinds}
 use Rattle.mea_chan.specs.Actions.{IsFree, IsFreeBounded, IsFreeBox}
 use Rattle.mea_chan.specs.BoxParts.{BoxYields}
 
@@ -30,8 +31,8 @@ pub record Parts : Type 0 where
   pub boxes : Boxes
   pub option_boxes : Boxes
 
-abbrev pub parts : Part Mailboxes → Part Mailboxes → Part Bounded → Part Broadcasts → Boxes → Boxes → Parts
-parts u o n d b p = record { unbounded = u; oneshots = o; bounded = n; broadcasts = d; boxes = b; option_boxes = p }
+abbrev pub parts : Kinds → Parts
+parts k = record { unbounded = k.unbounded; oneshots = k.oneshots; bounded = k.bounded; broadcasts = k.broadcasts; boxes = k.boxes; option_boxes = k.option_boxes }
 
 abbrev pub hall_of : Parts → ChanHall
 hall_of p = record { unbounded = p.unbounded.hall; oneshots = p.oneshots.hall; bounded = p.bounded.hall; broadcasts = p.broadcasts.hall; boxes = p.boxes; option_boxes = p.option_boxes }

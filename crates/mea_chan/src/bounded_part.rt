@@ -385,10 +385,11 @@ impl BoundedPart {
         requires room { registered self.old.hall ≤ ready.old.registered }
         ensures { BoundedActs self.old number (DropReceiver r) result self.new ready.old ready.new }
     {
-        if receiver_in(&self.receivers, r, true).is_none() {
+        let Some(receiver) = receiver_in(&self.receivers, r, true) else {
             return Err(Stop::Unknown);
-        }
-        let o = self.receivers.remove(r).channel;
+        };
+        let _ = self.receivers.remove(r);
+        let o = receiver.channel;
         let core = self.channels.at_mut(o);
         end_receiver(core, ready);
         let over = is_over(core);

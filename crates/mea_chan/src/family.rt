@@ -59,9 +59,9 @@ impl Model for ChanFamily {
 
     ghost use Rattle.mea_chan.specs.Halls.{parts, hall_of, AreBelow};
 
-    ghost view = { λ a. record { hall = hall_of (parts a.kinds.unbounded a.kinds.oneshots a.kinds.bounded a.kinds.broadcasts a.kinds.boxes a.kinds.option_boxes); next = a.next } };
+    ghost view = { λ a. record { hall = hall_of (parts a.kinds); next = a.next } };
 
-    ghost invariant = { λ a. AreBelow (parts a.kinds.unbounded a.kinds.oneshots a.kinds.bounded a.kinds.broadcasts a.kinds.boxes a.kinds.option_boxes) a.next };
+    ghost invariant = { λ a. AreBelow (parts a.kinds) a.next };
 }
 
 impl ChanFamily {

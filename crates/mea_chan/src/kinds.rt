@@ -28,8 +28,8 @@ pub struct Kinds {
 impl Kinds {
     /// Nothing. It takes no memory.
     pub fn new(alloc: Global) -> Self
-        ensures hall { hall_of (parts result.unbounded result.oneshots result.bounded result.broadcasts result.boxes result.option_boxes) ≡ empty_hall }
-        ensures below { AreBelow (parts result.unbounded result.oneshots result.bounded result.broadcasts result.boxes result.option_boxes) 0 }
+        ensures hall { hall_of (parts result) ≡ empty_hall }
+        ensures below { AreBelow (parts result) 0 }
     {
         Kinds {
             unbounded: MailboxPart::new(alloc),
@@ -43,7 +43,7 @@ impl Kinds {
 
     /// Why an event that means this would be refused; None where it would not. It takes no memory.
     pub fn cause(&self, meaning: Meaning) -> Option<Stop>
-        ensures { result ≡ cause_by (hall_of (parts self.now.unbounded self.now.oneshots self.now.bounded self.now.broadcasts self.now.boxes self.now.option_boxes)) (meant meaning) }
+        ensures { result ≡ cause_by (hall_of (parts self.now)) (meant meaning) }
     {
         match meaning {
             Meaning::Bounded(action) => self.bounded.cause(action),
@@ -63,10 +63,9 @@ impl Kinds {
         ready: &mut Ready<u64>,
     ) -> Result<Answer, Stop>
         requires fits { FitsMeaning meaning }
-        requires below { AreBelow (parts self.old.unbounded self.old.oneshots self.old.bounded self.old.broadcasts self.old.boxes self.old.option_boxes) number }
-        requires room { registered (hall_of (parts self.old.unbounded self.old.oneshots self.old.bounded self.old.broadcasts self.old.boxes self.old.option_boxes)) ≤ ready.old.registered }
-        ensures { ActsBy (meant meaning) (parts self.old.unbounded self.old.oneshots self.old.bounded self.old.broadcasts self.old.boxes self.old.option_boxes) number result
-            (parts self.new.unbounded self.new.oneshots self.new.bounded self.new.broadcasts self.new.boxes self.new.option_boxes) ready.old ready.new }
+        requires below { AreBelow (parts self.old) number }
+        requires room { registered (hall_of (parts self.old)) ≤ ready.old.registered }
+        ensures { ActsBy (meant meaning) (parts self.old) number result (parts self.new) ready.old ready.new }
     {
         match meaning {
             Meaning::Bounded(action) => self.bounded.act(number, action, ready),

@@ -202,10 +202,11 @@ impl<C: MailboxCore> MailboxPart<C> {
         requires room { registered self.old.hall ≤ ready.old.registered }
         ensures { MailActs self.old number (EndReceiver r polls C.falls) result self.new ready.old ready.new }
     {
-        if !self.is_receiver(r, polls) {
+        let Some(receiver) = receiver_in(&self.receivers, r, polls) else {
             return Err(Stop::Unknown);
-        }
-        let o = self.receivers.remove(r).channel;
+        };
+        let _ = self.receivers.remove(r);
+        let o = receiver.channel;
         let entry = self.channels.at_mut(o);
         entry.end_receiver(ready);
         let over = entry.is_over();

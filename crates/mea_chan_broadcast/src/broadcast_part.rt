@@ -1,4 +1,4 @@
-ghost use Rattle.std.specs.Prelude.{ℕ, ◌≡◌, ◌≢◌, ◌≤◌, ◌<◌, OnErr, IfOk, IfSome, is_some, None, Some, true, false, if◌then◌else◌};
+ghost use Rattle.std.specs.Prelude.{ℕ, ◌≡◌, ◌≢◌, ◌≤◌, ◌<◌, IfOk, IfErr, IfSome, IfNone, is_some, None, Some, true, false, if◌then◌else◌};
 ghost use Rattle.std.specs.FinMap as map;
 ghost use Rattle.mea_family.specs.Family.{is_pending};
 ghost use Rattle.mea_family.specs.Play.{PartRests};
@@ -15,7 +15,7 @@ use crate::broadcast_calls;
 use crate::broadcast_entry::BroadcastEntry;
 use crate::listener_entry::ListenerEntry;
 use crate::recv_entry::RecvEntry;
-use mea_base::{NoMemory, Ready};
+use mea_base::Ready;
 use mea_broadcast_core::{BroadcastCore, Cursor, RecvWait};
 use mea_by_name::{ByName, NamedWaker};
 use mea_family::{Answer, Stop, borrowed_if, overflow_if, unknown_unless};
@@ -281,7 +281,7 @@ impl BroadcastPart {
         };
         let o = *o;
         let cursor = self.channels.at(o).core.subscribe();
-        Ok(self.join(number, o, cursor)?)
+        self.join(number, o, cursor)
     }
 
     // Makes a receiver of what is sent from now on, beside a receiver. On an error nothing has changed.
@@ -294,7 +294,7 @@ impl BroadcastPart {
         }
         let o = self.receivers.at(r).channel;
         let cursor = self.channels.at(o).core.subscribe();
-        Ok(self.join(number, o, cursor)?)
+        self.join(number, o, cursor)
     }
 
     // Makes a receiver that has passed the same messages. On an error nothing has changed.
@@ -308,15 +308,15 @@ impl BroadcastPart {
         let receiver = self.receivers.at(r);
         let o = receiver.channel;
         let cursor = self.channels.at(o).core.copy(&receiver.cursor);
-        Ok(self.join(number, o, cursor)?)
+        self.join(number, o, cursor)
     }
 
     // Makes a receiver with this cursor.
-    fn join(&mut self, number: u64, o: u64, cursor: Cursor) -> Result<Answer, NoMemory>
+    fn join(&mut self, number: u64, o: u64, cursor: Cursor) -> Result<Answer, Stop>
         requires next { self.old.next ≤ number }
         requires there { (c : Broadcast) × (map.get self.old.hall.channels o ≡ Some c) × (cursor.position ≤ c.tail) }
         ensures ok { IfOk result (λ answer. (c : Broadcast) → map.get self.old.hall.channels o ≡ Some c → PartRests registered self.old number (join self.old.hall number cursor.position o c) answer self.new) }
-        ensures err { OnErr result (self.new ≡ self.old) }
+        ensures err { IfErr result (λ stop. (stop ≡ Stop.NoMemory) × (self.new ≡ self.old)) }
     {
         let receiver = ListenerEntry {
             channel: o,
@@ -324,7 +324,7 @@ impl BroadcastPart {
             user: None,
         };
         let Ok(()) = self.receivers.insert(number, receiver) else {
-            return Err(NoMemory);
+            return Err(Stop::NoMemory);
         };
         self.channels.at_mut(o).receivers += 1;
         self.next = number as u128 + 1;
@@ -443,6 +443,7 @@ impl BroadcastPart {
 fn cause_of_size(size: u64) -> Option<Stop>
     ensures is { result ≡ broadcast_cause no_broadcasts (Open size) }
     ensures tells { result ≢ Some Stop.NoMemory }
+    ensures fits { IfNone result ((0 < size) × (size ≤ 9223372036854775808)) }
 {
     if size == 0 {
         Some(Stop::Zero)
