@@ -38,6 +38,10 @@ module _ (old : Part Mailboxes) (i : ℕ) (a b : Action) (is : a ≡ b) where
   pub mail_rested : (r : Result Answer Stop) (new : Part Mailboxes) (w : Waking ℕ) → MailActsQuietly old i b r new → MailActs old i a r new w w
   mail_rested r new w did = mail_acted r new w w (acts_rests _ _ _ old i _ r new w did)
 
+module _ (old : Boxes) (i : ℕ) (a b : BoxAction) (is : a ≡ b) where
+  pub box_acted : (r : Result Answer Stop) (new : Boxes) → BoxActs old i b r new → BoxActs old i a r new
+  box_acted r new did = subst (λ x. BoxActs old i x r new) (sym is) did
+
 -- ---- an action on one kind is an action on all
 module _ (old : Parts) (i : ℕ) (m : Meaning) where
   pub mail_acts : (k : Kind) (a : Action) (r : Result Answer Stop) (part : Part Mailboxes) (before after : Waking ℕ) → m ≡ OfChannels k a → MailActs (of_kind old k) i a r part before after → ActsBy m old i r (with_kind old k part) before after
@@ -73,7 +77,7 @@ module _ (old : Parts) (i : ℕ) (m : Meaning) where
       at Optional (Err stop) did = (did.0, ap (with_boxes old Optional) did.1, refl)
 
 -- ---- what was done to all
-module _ (p p' : Parts) (before after : Waking ℕ) (next i : ℕ) (answer : Answer) (held : AreBelow p i) where
+module _ (p p' : Parts) (before after : Waking ℕ) (next i : ℕ) (answer : Answer) where
   -- it leaves next numbers that are below the next one, and is what the model says
   pub record Yielded (m : Meaning) : Type 0 where
     pub below : AreBelow p' (i + 1)
@@ -86,52 +90,53 @@ module _ (p p' : Parts) (before after : Waking ℕ) (next i : ℕ) (answer : Ans
     yields = record { replied = replied; moved = λ j. record { hall = (ap hall_of is ∙ hall) j; next = i + 1 }; woken = woken; counted = counted };
   }
 
-  mail_yielded : (k : Kind) (a : Action) → PlaysMail p k i a answer p' before after → Yielded (OfChannels k a)
-  mail_yielded Unbounded a one =
-      let hall = ap (λ (q : Part Mailboxes). q.hall) one.yields.moved in
-      let next_is : one.part.next ≡ i + 1 = ap (λ (q : Part Mailboxes). q.next) one.yields.moved in
-      yielded_as (OfChannels Unbounded a) (record p { unbounded = one.part }) one.is (record { unbounded = omega (arith, next_is); oneshots = omega (arith, held.oneshots); bounded = omega (arith, held.bounded); broadcasts = omega (arith, held.broadcasts) })
-      one.yields.replied (λ j. record (hall_of p) { unbounded = hall j }) one.yields.woken (omega (arith, one.yields.counted))
-  mail_yielded Oneshots a one =
-      let hall = ap (λ (q : Part Mailboxes). q.hall) one.yields.moved in
-      let next_is : one.part.next ≡ i + 1 = ap (λ (q : Part Mailboxes). q.next) one.yields.moved in
-      yielded_as (OfChannels Oneshots a) (record p { oneshots = one.part }) one.is (record { unbounded = omega (arith, held.unbounded); oneshots = omega (arith, next_is); bounded = omega (arith, held.bounded); broadcasts = omega (arith, held.broadcasts) })
-      one.yields.replied (λ j. record (hall_of p) { oneshots = hall j }) one.yields.woken (omega (arith, one.yields.counted))
+  module _ (held : AreBelow p i) where
+    mail_yielded : (k : Kind) (a : Action) → PlaysMail p k i a answer p' before after → Yielded (OfChannels k a)
+    mail_yielded Unbounded a one =
+        let hall = ap (λ (q : Part Mailboxes). q.hall) one.yields.moved in
+        let next_is : one.part.next ≡ i + 1 = ap (λ (q : Part Mailboxes). q.next) one.yields.moved in
+        yielded_as (OfChannels Unbounded a) (record p { unbounded = one.part }) one.is (record { unbounded = omega (arith, next_is); oneshots = omega (arith, held.oneshots); bounded = omega (arith, held.bounded); broadcasts = omega (arith, held.broadcasts) })
+        one.yields.replied (λ j. record (hall_of p) { unbounded = hall j }) one.yields.woken (omega (arith, one.yields.counted))
+    mail_yielded Oneshots a one =
+        let hall = ap (λ (q : Part Mailboxes). q.hall) one.yields.moved in
+        let next_is : one.part.next ≡ i + 1 = ap (λ (q : Part Mailboxes). q.next) one.yields.moved in
+        yielded_as (OfChannels Oneshots a) (record p { oneshots = one.part }) one.is (record { unbounded = omega (arith, held.unbounded); oneshots = omega (arith, next_is); bounded = omega (arith, held.bounded); broadcasts = omega (arith, held.broadcasts) })
+        one.yields.replied (λ j. record (hall_of p) { oneshots = hall j }) one.yields.woken (omega (arith, one.yields.counted))
 
-  bounded_yielded : (a : BoundedAction) → PlaysBounded p i a answer p' before after → Yielded (OfBounded a)
-  bounded_yielded a one =
-      let hall = ap (λ (q : Part Bounded). q.hall) one.yields.moved in
-      let next_is : one.part.next ≡ i + 1 = ap (λ (q : Part Bounded). q.next) one.yields.moved in
-      yielded_as (OfBounded a) (record p { bounded = one.part }) one.is (record { unbounded = omega (arith, held.unbounded); oneshots = omega (arith, held.oneshots); bounded = omega (arith, next_is); broadcasts = omega (arith, held.broadcasts) })
-      one.yields.replied (λ j. record (hall_of p) { bounded = hall j }) one.yields.woken (omega (arith, one.yields.counted))
+    bounded_yielded : (a : BoundedAction) → PlaysBounded p i a answer p' before after → Yielded (OfBounded a)
+    bounded_yielded a one =
+        let hall = ap (λ (q : Part Bounded). q.hall) one.yields.moved in
+        let next_is : one.part.next ≡ i + 1 = ap (λ (q : Part Bounded). q.next) one.yields.moved in
+        yielded_as (OfBounded a) (record p { bounded = one.part }) one.is (record { unbounded = omega (arith, held.unbounded); oneshots = omega (arith, held.oneshots); bounded = omega (arith, next_is); broadcasts = omega (arith, held.broadcasts) })
+        one.yields.replied (λ j. record (hall_of p) { bounded = hall j }) one.yields.woken (omega (arith, one.yields.counted))
 
-  broadcasts_yielded : (a : BroadcastAction) → PlaysBroadcasts p i a answer p' before after → Yielded (OfBroadcasts a)
-  broadcasts_yielded a one =
-      let hall = ap (λ (q : Part Broadcasts). q.hall) one.yields.moved in
-      let next_is : one.part.next ≡ i + 1 = ap (λ (q : Part Broadcasts). q.next) one.yields.moved in
-      yielded_as (OfBroadcasts a) (record p { broadcasts = one.part }) one.is (record { unbounded = omega (arith, held.unbounded); oneshots = omega (arith, held.oneshots); bounded = omega (arith, held.bounded); broadcasts = omega (arith, next_is) })
-      one.yields.replied (λ j. record (hall_of p) { broadcasts = hall j }) one.yields.woken (omega (arith, one.yields.counted))
+    broadcasts_yielded : (a : BroadcastAction) → PlaysBroadcasts p i a answer p' before after → Yielded (OfBroadcasts a)
+    broadcasts_yielded a one =
+        let hall = ap (λ (q : Part Broadcasts). q.hall) one.yields.moved in
+        let next_is : one.part.next ≡ i + 1 = ap (λ (q : Part Broadcasts). q.next) one.yields.moved in
+        yielded_as (OfBroadcasts a) (record p { broadcasts = one.part }) one.is (record { unbounded = omega (arith, held.unbounded); oneshots = omega (arith, held.oneshots); bounded = omega (arith, held.bounded); broadcasts = omega (arith, next_is) })
+        one.yields.replied (λ j. record (hall_of p) { broadcasts = hall j }) one.yields.woken (omega (arith, one.yields.counted))
 
-  boxes_yielded : (k : BoxKind) (a : BoxAction) → PlaysBoxes p k i a answer p' before after → Yielded (OfBoxes k a)
-  boxes_yielded k a one = at k one
-    where
-      below : AreBelow p (i + 1)
-      below = record { unbounded = omega (arith, held.unbounded); oneshots = omega (arith, held.oneshots); bounded = omega (arith, held.bounded); broadcasts = omega (arith, held.broadcasts) }
+    boxes_yielded : (k : BoxKind) (a : BoxAction) → PlaysBoxes p k i a answer p' before after → Yielded (OfBoxes k a)
+    boxes_yielded k a one = at k one
+      where
+        below : AreBelow p (i + 1)
+        below = record { unbounded = omega (arith, held.unbounded); oneshots = omega (arith, held.oneshots); bounded = omega (arith, held.bounded); broadcasts = omega (arith, held.broadcasts) }
 
-      count : after.registered ≡ before.registered
-      count = ap (λ (w : Waking ℕ). w.registered) one.still
+        count : after.registered ≡ before.registered
+        count = ap (λ (w : Waking ℕ). w.registered) one.still
 
-      woken : (ws : List ℕ) → ws ≡ [] → after.wakers ≡ before.wakers ++ ws
-      woken ws none = ap (λ (w : Waking ℕ). w.wakers) one.still ∙ sym (append-nil before.wakers) ∙ ap (λ ws. before.wakers ++ ws) (sym none)
+        woken : (ws : List ℕ) → ws ≡ [] → after.wakers ≡ before.wakers ++ ws
+        woken ws none = ap (λ (w : Waking ℕ). w.wakers) one.still ∙ sym (append-nil before.wakers) ∙ ap (λ ws. before.wakers ++ ws) (sym none)
 
-      at : (k : BoxKind) → PlaysBoxes p k i a answer p' before after → Yielded (OfBoxes k a)
-      at Full one = yielded_as (OfBoxes Full a) (record p { boxes = one.part }) one.is (record { unbounded = below.unbounded; oneshots = below.oneshots; bounded = below.bounded; broadcasts = below.broadcasts })
-          one.yields.replied (λ j. record (hall_of p) { boxes = one.yields.moved j }) (woken _ (box_quiet p.boxes i a)) (omega (arith, count))
-      at Optional one = yielded_as (OfBoxes Optional a) (record p { option_boxes = one.part }) one.is (record { unbounded = below.unbounded; oneshots = below.oneshots; bounded = below.bounded; broadcasts = below.broadcasts })
-          one.yields.replied (λ j. record (hall_of p) { option_boxes = one.yields.moved j }) (woken _ (box_quiet p.option_boxes i a)) (omega (arith, count))
+        at : (k : BoxKind) → PlaysBoxes p k i a answer p' before after → Yielded (OfBoxes k a)
+        at Full one = yielded_as (OfBoxes Full a) (record p { boxes = one.part }) one.is (record { unbounded = below.unbounded; oneshots = below.oneshots; bounded = below.bounded; broadcasts = below.broadcasts })
+            one.yields.replied (λ j. record (hall_of p) { boxes = one.yields.moved j }) (woken _ (box_quiet p.boxes i a)) (omega (arith, count))
+        at Optional one = yielded_as (OfBoxes Optional a) (record p { option_boxes = one.part }) one.is (record { unbounded = below.unbounded; oneshots = below.oneshots; bounded = below.bounded; broadcasts = below.broadcasts })
+            one.yields.replied (λ j. record (hall_of p) { option_boxes = one.yields.moved j }) (woken _ (box_quiet p.option_boxes i a)) (omega (arith, count))
 
-  pub yielded : (m : Meaning) → PlaysBy m p i answer p' before after → Yielded m
-  yielded (OfChannels k a) one = mail_yielded k a one
-  yielded (OfBounded a) one = bounded_yielded a one
-  yielded (OfBroadcasts a) one = broadcasts_yielded a one
-  yielded (OfBoxes k a) one = boxes_yielded k a one
+    pub yielded : (m : Meaning) → PlaysBy m p i answer p' before after → Yielded m
+    yielded (OfChannels k a) one = mail_yielded k a one
+    yielded (OfBounded a) one = bounded_yielded a one
+    yielded (OfBroadcasts a) one = broadcasts_yielded a one
+    yielded (OfBoxes k a) one = boxes_yielded k a one

@@ -1,5 +1,5 @@
 ghost use Rattle.std.specs.Prelude.{◌≡◌, ◌≢◌, ◌≤◌, ◌<◌, IfSome, is_some, None, Some, [], false};
-ghost use Rattle.mea_chan_model.specs.Mailboxes.{is_channel};
+ghost use Rattle.mea_chan_model.specs.Mailboxes.{is_channel, is_sender};
 ghost use Rattle.mea_chan_model.specs.Bounded.{no_bounded, is_send, registered};
 ghost use Rattle.mea_chan_model.specs.BoundedActions.{bounded_cause, MakeRoom, CopySender, TrySend, BeginSend, PollSend, EndSend, TryReceive, PollReceive, DropSender, DropReceiver};
 ghost use Rattle.mea_chan_model.specs.Valid.{AreValid};
@@ -88,13 +88,13 @@ impl BoundedPart {
             BoundedAction::MakeRoom(n) => zero_if(n == 0),
             BoundedAction::CopySender(s) => self.cause_of_copy(s),
             BoundedAction::TrySend(s, _) | BoundedAction::BeginSend(s, _) => unknown_unless(
-                self.senders.has(s),
+                self.is_sender(s),
             ),
             BoundedAction::PollSend(f, _) | BoundedAction::EndSend(f) => unknown_unless(
                 self.is_send(f),
             ),
-            BoundedAction::TryReceive(r) | BoundedAction::PollReceive(r, _) => self
-                .cause_of_receive(r),
+            BoundedAction::TryReceive(r) | BoundedAction::PollReceive(r, _) =>
+                self.cause_of_receive(r),
             BoundedAction::DropSender(s) => self.cause_of_end(s),
             BoundedAction::DropReceiver(r) => self.cause_of_receive(r),
         }
@@ -123,6 +123,12 @@ impl BoundedPart {
             BoundedAction::DropSender(s) => self.end_sender(number, s, ready),
             BoundedAction::DropReceiver(r) => self.end_receiver(number, r, ready),
         }
+    }
+
+    fn is_sender(&self, s: u64) -> bool
+        ensures { result ≡ is_sender self.now.hall.mail s }
+    {
+        self.senders.has(s)
     }
 
     fn is_send(&self, f: u64) -> bool

@@ -197,10 +197,10 @@ impl<C: BoxedCore> BoxPart<C> {
     fn end(&mut self, number: u64, b: u64) -> Result<Answer, Stop>
         ensures { BoxActs self.old number (DropBox b) result self.new }
     {
-        match self.boxes.take(b) {
-            Some(_) => Ok(Answer::Done),
-            None => Err(Stop::Unknown),
-        }
+        let Some(_entry) = self.boxes.take(b) else {
+            return Err(Stop::Unknown);
+        };
+        Ok(Answer::Done)
     }
 }
 

@@ -6,7 +6,8 @@ use mea_base::NoMemory;
 use mea_chan_core::TryRecvError;
 use std::alloc::Global;
 
-/// The core of a channel for one receiver as a hall uses it. Each kind is seen as a channel that never is full.
+/// The core of a channel for one receiver as a hall uses it. Each kind is seen as a channel that never is full. Only `recv`
+/// takes memory.
 pub trait MailboxCore: Drop {
     ghost use Rattle.std.specs.Prelude.{Bool};
     ghost use Rattle.mea_chan.specs.Cores.{Mailbox};
@@ -15,7 +16,7 @@ pub trait MailboxCore: Drop {
     // Whether the receiver's waker falls with it.
     ghost falls: { Bool };
 
-    /// A channel with a sender and a receiver. It takes no memory.
+    /// A channel with a sender and a receiver.
     fn make(alloc: Global) -> Self
         ensures { mailbox_of result ≡ new_core };
 
@@ -55,7 +56,7 @@ pub trait MailboxCore: Drop {
         ensures { mailbox_of self.new ≡ receiver_ended falls (mailbox_of self.old) };
 }
 
-/// One that may have many senders, each of which sends many messages.
+/// One that may have many senders, each of which sends many messages. Only `send` takes memory.
 pub trait SharedCore: MailboxCore {
     /// Whether no further sender can be made.
     fn is_crowded(&self) -> bool
@@ -73,7 +74,7 @@ pub trait SharedCore: MailboxCore {
         ensures err { OnErr result (Self.mailbox_of self.new ≡ Self.mailbox_of self.old) };
 }
 
-/// One for one message, whose sender is gone with it.
+/// One for one message, whose sender is gone with it. Its calls take no memory.
 pub trait SingleCore: MailboxCore {
     /// Sends the message, and tells whether anybody will receive it; the sender is gone.
     fn send_last(&mut self, message: u64) -> bool

@@ -18,11 +18,7 @@ pub struct ReceiverEntry {
 }
 
 /// The receiver of this name, where it can be polled or cannot, as is asked. It takes no memory.
-pub fn receiver_in(
-    receivers: &ByName<ReceiverEntry>,
-    r: u64,
-    polls: bool,
-) -> Option<ReceiverEntry>
+pub fn receiver_in(receivers: &ByName<ReceiverEntry>, r: u64, polls: bool) -> Option<ReceiverEntry>
     ensures there { is_some result ≡ polls_as (option_map receiver_seen (get receivers.now r)) polls }
     ensures some { IfSome result (λ receiver. get receivers.now r ≡ Some receiver) }
 {
@@ -40,7 +36,7 @@ fn is_as(polls: bool, wanted: bool) -> bool
     polls == wanted
 }
 
-/// What a script is told of a receive.
+/// What a script is told of a receive. It takes no memory.
 pub fn told(received: Result<u64, TryRecvError>) -> Answer
     ensures { result ≡ told received }
 {
@@ -51,7 +47,7 @@ pub fn told(received: Result<u64, TryRecvError>) -> Answer
     }
 }
 
-/// What a script is told of a poll.
+/// What a script is told of a poll. It takes no memory.
 pub fn poll_told(received: Result<u64, TryRecvError>) -> Answer
     ensures { result ≡ poll_told received }
 {

@@ -3,7 +3,7 @@ use Rattle.mea_family.specs.Play.{Part}
 use Rattle.mea_chan_model.specs.ChanHall.{ChanHall, registered}
 use Rattle.mea_chan_model.specs.Meaning.{meaning_of}
 use Rattle.mea_chan.specs.Halls.{parts, hall_of, AreBelow}
-use Rattle.mea_chan.proofs.Playing.{Yielded, yielded, refused_as, costs_none}
+use Rattle.mea_chan.proofs.Playing.{Yielded, yielded}
 use Rattle.mea_chan.proofs.family.ChanFamilyFamilyChanModel.act.Goals as goal
 use Rattle.mea_chan.proofs.family.ChanFamilyFamilyChanModel.act.Goals.{In_ok-answer}
 
