@@ -39,11 +39,12 @@ use Rattle.mea_once.proofs.KeyCalls.{seen_round}
 -- who waits under a name has its acquire in the queue
 named_queued : (acquires : Names Acquire) (q : Queue) → AskForOne q → AreOf acquires q → (f w : ℕ) → waker_for (who (names_in q)) f ≡ Some w → (d : ℕ) × (n : ℕ) × (get acquires f ≡ Some (acquire.Queued d n))
 named_queued acquires [] asks are f w is = absurd (cc)
-named_queued acquires ((Acquires n d k, l) ∷ q) asks are f w is = at (k.future == f) refl is
+named_queued acquires ((Acquires n d k, l) ∷ q) asks are f w is = at (named_queued acquires q asks.2 are.1 f w) (k.future == f) refl is
   where
-    at : (b : Bool) → (k.future == f) ≡ b → cond b (Some k.waker) (waker_for (who (names_in q)) f) ≡ Some w → (d : ℕ) × (n : ℕ) × (get acquires f ≡ Some (acquire.Queued d n))
-    at true same it = (d, n, ap (get acquires) (sym (eqb-true k.future f same)) ∙ are.0)
-    at false other it = named_queued acquires q asks.2 are.1 f w it
+    at : (waker_for (who (names_in q)) f ≡ Some w → (d : ℕ) × (n : ℕ) × (get acquires f ≡ Some (acquire.Queued d n))) → (b : Bool) → (k.future == f) ≡ b → cond b (Some k.waker) (waker_for (who (names_in q)) f) ≡ Some w
+        → (d : ℕ) × (n : ℕ) × (get acquires f ≡ Some (acquire.Queued d n))
+    at rest true same it = (d, n, ap (get acquires) (sym (eqb-true k.future f same)) ∙ are.0)
+    at rest false other it = rest it
 named_queued acquires ((Owes, l) ∷ q) asks are f w is = absurd asks
 
 queued_polled : (s : CellStage) (d n : ℕ) → acquire_at s ≡ acquire.Queued d n → is_polled s ≡ true
@@ -258,7 +259,7 @@ tables_valid once es fs next kept = record {
         let e = seen-back table_seen es y.table t there in
         let mine : x.0.table ≡ y.table = ap valid.of_table x.2 in
         let its = kept.hall.each y.table e.0 e.1 in
-        rw (← e.2, ← x.2) (future_valid once e.0 (own of_table y.table fs) its x.0 x.0.round refl (its.calls f x.0 (own-at of_table y.table fs f x.0 x.1 mine)));
+        subst (λ r. IsValidFuture r y) e.2 (subst (λ z. IsValidFuture (table_seen e.0) z) x.2 (future_valid once e.0 (own of_table y.table fs) its x.0 x.0.round refl (its.calls f x.0 (own-at of_table y.table fs f x.0 x.1 mine))));
   };
   each = λ o t is.
       let e = seen-back table_seen es o t is in

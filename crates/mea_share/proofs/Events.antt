@@ -1,5 +1,5 @@
 -- what each event does to one admission, its future and its permit
-use Rattle.std.proofs.Common.{◌≡◌, ◌≢◌, ℕ, ◌+◌, ◌-◌, ◌<◌, ◌≤◌, ◌^◌, ◌==◌, ◌&&◌, ◌++◌, inl, inr, Bool, true, false, not, cond, List, [], nat_eq, nat_lt, Some, None, IsSome, is_some, if◌then◌else◌, refl, ap, sym, subst, ◌∙◌, arith, append-nil}
+use Rattle.std.proofs.Common.{◌≡◌, ◌≢◌, ℕ, ◌+◌, ◌-◌, ◌<◌, ◌≤◌, ◌^◌, ◌==◌, ◌&&◌, ◌++◌, inl, inr, Bool, true, false, not, cond, List, [], nat_eq, nat_lt, Some, None, IsSome, is_some, Ok, if◌then◌else◌, refl, ap, sym, subst, ◌∙◌, arith, append-nil}
 use Rattle.std.specs.FinMap.{get, insert, remove, len}
 use Rattle.std.proofs.lemmas.Bool.{cases_lt, eq-eqb}
 use Rattle.std.proofs.lemmas.Bool.Decides.{nat_tests}
@@ -33,35 +33,15 @@ use Rattle.mea_share_model.specs.Meaning.{cause_of, step, end_by, refused_if}
 use Rattle.mea_share_model.specs.Valid.{is_of as model_is_of, HasNumber, HasAt, AreValid}
 use Rattle.mea_share.specs.Kept.{KeptAdmission, KeptFuture, shares_seen, admission_seen, number_of, future_seen, hall_seen, AreGood, AreKept, of_future, of_permit, size_of, AreKeptAdmissions}
 use Rattle.mea_share.specs.Entries.{begun, finished, is_over, Takes, Weighs, PollsEntry, HandsOn, EndsWait, Releases}
-use Rattle.mea_share.specs.Halls.{TakesNoMemory}
-use Rattle.mea_share.specs.Acts.{begins, tries}
+use Rattle.mea_share.specs.Acts.{Begins, Tries}
 use Rattle.mea_share.proofs.Seen.{share_seen, alike_seen, Tallies, tallies_sets, tallies_alike, passes_seen}
 use Rattle.mea_base.proofs.Tests.{over_is}
 use Rattle.mea_share_model.proofs.Acting.{passed_next}
 use Rattle.mea_share.proofs.Sites.{Did, DidWake, HallOf, Owned, Site, all_waiters, becomes_seen, good_becomes, good_with_future, good_with_permit, good_without_future, good_without_permit, nameless, part_of, passes_sums, plain_is, rests_as, stays, waited, waiters, yields_as}
 
--- to make a future, or to try, takes memory
-pub begins_no_free : (plain : Bool) (o k : ℕ) → TakesNoMemory (begins plain o k) → ⊥
-begins_no_free true o k = λ takes. takes
-begins_no_free false o k = λ takes. takes
-
-pub tries_no_free : (plain : Bool) (o k : ℕ) → TakesNoMemory (tries plain o k) → ⊥
-tries_no_free true o k = λ takes. takes
-tries_no_free false o k = λ takes. takes
-
 module _ {old : Part ShareHall} {i : ℕ} (s : Site old i) where
-  -- ---- one that is not there
-  module _ (o : ℕ) (none : get s.es o ≡ None) where
-    pub begins_unknown : (plain : Bool) (k : ℕ) → cause_of (hall_seen s.es s.fs s.ps) (begins plain o k) ≡ Some Unknown
-    begins_unknown true k = ap unknown_unless (nameless s o none)
-    begins_unknown false k = ap unknown_unless (nameless s o none)
-
-    pub tries_unknown : (plain : Bool) (k : ℕ) → cause_of (hall_seen s.es s.fs s.ps) (tries plain o k) ≡ Some Unknown
-    tries_unknown true k = ap unknown_unless (nameless s o none)
-    tries_unknown false k = ap unknown_unless (nameless s o none)
-
-    pub drop_unknown : cause_of (hall_seen s.es s.fs s.ps) (FsDrop o) ≡ Some Unknown
-    drop_unknown = ap (λ b. refused_if b (nat_lt 0 (plain_of (hall_seen s.es s.fs s.ps) o)) Borrowed) (nameless s o none)
+  pub drop_unknown : (o : ℕ) → get s.es o ≡ None → cause_of (hall_seen s.es s.fs s.ps) (FsDrop o) ≡ Some Unknown
+  drop_unknown o none = ap (λ b. refused_if b (nat_lt 0 (plain_of (hall_seen s.es s.fs s.ps) o)) Borrowed) (nameless s o none)
 
   -- ---- one admission
   module _ (o : ℕ) (e : KeptAdmission) (there : get s.es o ≡ Some e) where
@@ -81,13 +61,8 @@ module _ {old : Part ShareHall} {i : ℕ} (s : Site old i) where
     named_at : is_named (hall_seen s.es s.fs s.ps) o ≡ e.named
     named_at = ap is_named_one seen_there
 
-    pub begin_cause : (plain : Bool) (k : ℕ) → cause_of (hall_seen s.es s.fs s.ps) (begins plain o k) ≡ unknown_unless e.named
-    begin_cause true k = ap unknown_unless named_at
-    begin_cause false k = ap unknown_unless named_at
-
-    pub try_cause : (plain : Bool) (k : ℕ) → cause_of (hall_seen s.es s.fs s.ps) (tries plain o k) ≡ unknown_unless e.named
-    try_cause true k = ap unknown_unless named_at
-    try_cause false k = ap unknown_unless named_at
+    pub use_cause : unknown_unless (is_named (hall_seen s.es s.fs s.ps) o) ≡ unknown_unless e.named
+    use_cause = ap unknown_unless named_at
 
     pub weight_cause : (k n : ℕ) → cause_of (hall_seen s.es s.fs s.ps) (FsWeight o k n) ≡ refused_if e.named (n == 0) Zero
     weight_cause k n = ap (λ b. refused_if b (n == 0) Zero) named_at
@@ -154,7 +129,8 @@ module _ {old : Part ShareHall} {i : ℕ} (s : Site old i) where
         refl
         (omega (arith, put_waiters (begun e plain)))
 
-    pub begins_one : (plain : Bool) (k : ℕ) (x : KeptFuture) → cause_of (hall_seen s.es s.fs s.ps) (begins plain o k) ≡ None → x ≡ record { admission = o; key = k; stage = New; plain = plain } → Did s (begins plain o k) answers.Made (insert s.es o (begun e plain)) (insert s.fs i x) s.ps
+    pub begins_one : (plain : Bool) (k : ℕ) (x : KeptFuture) → unknown_unless (is_named (hall_seen s.es s.fs s.ps) o) ≡ None → x ≡ record { admission = o; key = k; stage = New; plain = plain }
+        → AreKeptAdmissions (insert s.es o (begun e plain)) (insert s.fs i x) s.ps (i + 1) × Begins old i o k plain (Ok answers.Made) (part_of (insert s.es o (begun e plain)) (insert s.fs i x) s.ps (i + 1))
     begins_one true k x none is = begun_as (FsAcq o k) k true x is none refl
     begins_one false k x none is = begun_as (FsAcqo o k) k false x is none refl
 
@@ -189,7 +165,9 @@ module _ {old : Part ShareHall} {i : ℕ} (s : Site old i) where
         refl
         (omega (arith, put_waiters (begun e' plain), becomes.shares.waiting))
 
-    pub holds_one : (plain : Bool) (k : ℕ) (e' : KeptAdmission) → cause_of (hall_seen s.es s.fs s.ps) (tries plain o k) ≡ None → Takes e k true e' → Did s (tries plain o k) answers.Held (insert s.es o (begun e' plain)) s.fs (insert s.ps i (record { admission = o; key = k; plain = plain }))
+    pub holds_one : (plain : Bool) (k : ℕ) (e' : KeptAdmission) → unknown_unless (is_named (hall_seen s.es s.fs s.ps) o) ≡ None → Takes e k true e'
+        → AreKeptAdmissions (insert s.es o (begun e' plain)) s.fs (insert s.ps i (record { admission = o; key = k; plain = plain })) (i + 1)
+        × Tries old i o k plain (Ok answers.Held) (part_of (insert s.es o (begun e' plain)) s.fs (insert s.ps i (record { admission = o; key = k; plain = plain })) (i + 1))
     holds_one true k e' none takes = held_as (FsTry o k) k true e' takes none refl
     holds_one false k e' none takes = held_as (FsTryo o k) k false e' takes none refl
 
@@ -200,7 +178,7 @@ module _ {old : Part ShareHall} {i : ℕ} (s : Site old i) where
         rests_as s ev (quietly (hall_seen s.es s.fs s.ps) answers.Lacking) answers.Lacking s.es s.fs s.ps none
         (does ∙ step_is (model.try (hall_seen s.es s.fs s.ps) i o k plain) ∙ if_true (e.fair.free == 0) _ _ (eq-eqb e.fair.free 0 nothing)) (stays s) refl refl refl refl
 
-    lacks_one : (plain : Bool) (k : ℕ) → cause_of (hall_seen s.es s.fs s.ps) (tries plain o k) ≡ None → e.fair.free ≡ 0 → Did s (tries plain o k) answers.Lacking s.es s.fs s.ps
+    lacks_one : (plain : Bool) (k : ℕ) → unknown_unless (is_named (hall_seen s.es s.fs s.ps) o) ≡ None → e.fair.free ≡ 0 → AreKeptAdmissions s.es s.fs s.ps (i + 1) × Tries old i o k plain (Ok answers.Lacking) (part_of s.es s.fs s.ps (i + 1))
     lacks_one true k none nothing = lacks_as (FsTry o k) k true nothing none refl
     lacks_one false k none nothing = lacks_as (FsTryo o k) k false nothing none refl
 
@@ -208,7 +186,8 @@ module _ {old : Part ShareHall} {i : ℕ} (s : Site old i) where
     permit_undone : (p : SharePermit) → remove (insert s.ps i p) i ≡ s.ps
     permit_undone p = put_gone s.ps i p ∙ gone_none s.ps i (halls.no_second of_future of_permit AreKept size_of s.es s.fs s.ps s.next i s.kept.hall s.later s.fits)
 
-    pub lacks : (plain : Bool) (k : ℕ) (e' : KeptAdmission) (p : SharePermit) → cause_of (hall_seen s.es s.fs s.ps) (tries plain o k) ≡ None → Takes e k false e' → Did s (tries plain o k) answers.Lacking (insert s.es o e') s.fs (remove (insert s.ps i p) i)
+    pub lacks : (plain : Bool) (k : ℕ) (e' : KeptAdmission) (p : SharePermit) → unknown_unless (is_named (hall_seen s.es s.fs s.ps) o) ≡ None → Takes e k false e'
+        → AreKeptAdmissions (insert s.es o e') s.fs (remove (insert s.ps i p) i) (i + 1) × Tries old i o k plain (Ok answers.Lacking) (part_of (insert s.es o e') s.fs (remove (insert s.ps i p) i) (i + 1))
     lacks plain k e' p none takes = let now = takes.none refl in rw (same_put e' now.1, permit_undone p) (lacks_one plain k none now.0)
 
     pub not_tried : (e' : KeptAdmission) (p : SharePermit) → e' ≡ e → AreKeptAdmissions (insert s.es o e') s.fs (remove (insert s.ps i p) i) s.next × (◌≡◌ {A = Part ShareHall} (part_of (insert s.es o e') s.fs (remove (insert s.ps i p) i) s.next) old)

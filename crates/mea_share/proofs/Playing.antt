@@ -1,5 +1,5 @@
 -- what an event does, in the words of a family
-use Rattle.std.proofs.Common.{◌≡◌, ◌≢◌, ◌⊎◌, inl, inr, ℕ, ◌+◌, ◌≤◌, Bool, true, false, Some, None, length, Result, Ok, Err, IfOk, IfErr, OnOk, OnErr, ap, sym, subst, ◌∙◌, arith}
+use Rattle.std.proofs.Common.{◌≡◌, ◌≢◌, ◌⊎◌, inl, inr, ℕ, ◌+◌, ◌≤◌, Bool, true, false, Some, None, nat_lt, if◌then◌else◌, length, Result, Ok, Err, IfOk, IfErr, OnOk, OnErr, ap, sym, subst, ◌∙◌, arith}
 use Rattle.mea_family.specs.declared.answer.Answer.{Answer}
 use Rattle.mea_family.specs.declared.stop.Stop.{Stop}
 use Rattle.mea_family.specs.declared.stop.Stop.TheVariants.{Borrowed, Zero, NoMemory}
@@ -9,7 +9,7 @@ use Rattle.mea_base.proofs.Maps.{inside}
 use Rattle.mea_base.proofs.Totals.{total-empty}
 use Rattle.mea_family.specs.Play.{Part, PartYields}
 use Rattle.mea_events.specs.declared.share_event.ShareEvent.{ShareEvent}
-use Rattle.mea_events.specs.declared.share_event.ShareEvent.TheVariants.{FsNew, FsFree, FsWaiters, FsTry, FsTryo, FsAcq, FsAcqo, FsPoll, FsKey, FsEnd, FsDrop, FsWeight, FsWeightof}
+use Rattle.mea_events.specs.declared.share_event.ShareEvent.TheVariants.{FsFree, FsWaiters, FsKey, FsEnd, FsDrop}
 use Rattle.mea_share_model.specs.Admissions.{Admission, ShareHall, empty_hall, registered, is_named, is_future, is_permit, plain_of}
 use Rattle.mea_share_model.specs.Next.{waiting_in}
 use Rattle.mea_share_model.specs.Meaning.{cause_of, step, refused_if}
@@ -27,26 +27,19 @@ drop_tells true false is = cc
 drop_tells false bad is = cc
 
 free_tells : (h : ShareHall) (e : ShareEvent) → TakesNoMemory e → cause_of h e ≡ Some NoMemory → ⊥
-free_tells h (FsNew n) free is = free
 free_tells h (FsFree o) free is = unknown_tells (is_named h o) is
 free_tells h (FsWaiters o) free is = unknown_tells (is_named h o) is
-free_tells h (FsTry o k) free is = free
-free_tells h (FsTryo o k) free is = free
-free_tells h (FsAcq o k) free is = free
-free_tells h (FsAcqo o k) free is = free
-free_tells h (FsPoll f w) free is = free
 free_tells h (FsKey p) free is = unknown_tells (is_permit h p) is
-free_tells h (FsEnd x) free is = unknown_tells _ is
-free_tells h (FsDrop o) free is = drop_tells (is_named h o) _ is
-free_tells h (FsWeight o k n) free is = free
-free_tells h (FsWeightof o k) free is = free
+free_tells h (FsEnd x) free is = unknown_tells (if is_future h x then true else is_permit h x) is
+free_tells h (FsDrop o) free is = drop_tells (is_named h o) (nat_lt 0 (plain_of h o)) is
+free_tells h _ free is = free
 
 module _ (old : Part ShareHall) (i : ℕ) (e : ShareEvent) (new : Part ShareHall) (before after : Waking ℕ) where
-  of_cause : (stop : Stop) → Refuses old.hall e stop → (cause_of old.hall e ≡ Some stop) ⊎ ((cause_of old.hall e ≡ None) × (stop ≡ NoMemory))
+  of_cause : (stop : Stop) → Refuses (cause_of old.hall e) (TakesNoMemory e) stop → (cause_of old.hall e ≡ Some stop) ⊎ ((cause_of old.hall e ≡ None) × (stop ≡ NoMemory))
   of_cause stop (inl is) = inl is
   of_cause stop (inr lack) = inr (lack.0, lack.1)
 
-  takes_some : TakesNoMemory e → (stop : Stop) → stop ≡ NoMemory → Refuses old.hall e stop → ⊥
+  takes_some : TakesNoMemory e → (stop : Stop) → stop ≡ NoMemory → Refuses (cause_of old.hall e) (TakesNoMemory e) stop → ⊥
   takes_some free stop is (inl cause) = free_tells old.hall e free (cause ∙ ap (λ s. Some s) is)
   takes_some free stop is (inr lack) = lack.2 free
 

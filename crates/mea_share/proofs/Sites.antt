@@ -36,7 +36,6 @@ use Rattle.mea_share_model.proofs.Keeping.{AreLow, valid_after}
 use Rattle.mea_share_model.proofs.Changes.{len-least, by_key}
 use Rattle.mea_share.specs.Kept.{KeptAdmission, KeptFuture, shares_seen, admission_seen, future_seen, hall_seen, AreGood, AreKept, of_future, of_permit, size_of, AreKeptAdmissions}
 use Rattle.mea_share.specs.Entries.{new_admission, begun, finished}
-use Rattle.mea_share.specs.Halls.{TakesNoMemory}
 use Rattle.mea_share.specs.Lends.{StandsFor}
 use Rattle.mea_share.specs.Acts.{Refuses, Acts, ActsQuietly}
 use Rattle.mea_share.proofs.Seen.{share_seen, sets_seen, nothing_seen, tallies_sets}
@@ -130,12 +129,12 @@ module _ {old : Part ShareHall} {i : ℕ} (s : Site old i) where
       let did : (w : Waking ℕ) → DidWake e answer es fs ps w w = λ w. yields_as e o answer es fs ps w w none is kept replied moved (sym (append-nil w.wakers) ∙ ap (λ ws. w.wakers ++ ws) (sym silent)) (ap (λ n. w.registered + n) (sym counted)) in
       ((did (record { wakers = []; registered = 0 })).0, λ w. (did w).1)
 
-  -- it is refused with its cause, or for want of memory
-  pub refuses : (e : ShareEvent) (stop : Stop) → cause_of (hall_seen s.es s.fs s.ps) e ≡ Some stop → Refuses old.hall e stop
-  refuses e stop is = inl (subst (λ (p : Part ShareHall). cause_of p.hall e ≡ Some stop) s.view is)
+  -- it is refused for its cause, or for want of memory
+  pub refuses : (cause : ShareHall → Option Stop) (free : Type 0) (stop : Stop) → cause (hall_seen s.es s.fs s.ps) ≡ Some stop → Refuses (cause old.hall) free stop
+  refuses cause free stop is = inl (subst (λ (p : Part ShareHall). cause p.hall ≡ Some stop) s.view is)
 
-  pub lacks_memory : (e : ShareEvent) → cause_of (hall_seen s.es s.fs s.ps) e ≡ None → (TakesNoMemory e → ⊥) → Refuses old.hall e NoMemory
-  lacks_memory e none takes = inr (subst (λ (p : Part ShareHall). cause_of p.hall e ≡ None) s.view none, refl, takes)
+  pub lacks_memory : (cause : ShareHall → Option Stop) (free : Type 0) → cause (hall_seen s.es s.fs s.ps) ≡ None → (free → ⊥) → Refuses (cause old.hall) free NoMemory
+  lacks_memory cause free none takes = inr (subst (λ (p : Part ShareHall). cause p.hall ≡ None) s.view none, refl, takes)
 
   -- ---- what is not there
   pub nameless : (o : ℕ) → get s.es o ≡ None → is_named (hall_seen s.es s.fs s.ps) o ≡ false
@@ -150,7 +149,7 @@ module _ {old : Part ShareHall} {i : ℕ} (s : Site old i) where
 
   -- what is told of an admission that is seen so
   module _ (o : ℕ) (f : Fair ℕ ℕ) (stands : StandsFor old.hall o f) where
-    named : cause_of (hall_seen s.es s.fs s.ps) (FsFree o) ≡ None
+    pub named : cause_of (hall_seen s.es s.fs s.ps) (FsFree o) ≡ None
     named = ap (λ (p : Part ShareHall). unknown_unless (is_named p.hall o)) s.view ∙ ap (λ q. unknown_unless (is_named_one q)) stands
 
     tells : (ev : ShareEvent) (answer : Answer) (act : Admission → Outcome ShareHall) → cause_of (hall_seen s.es s.fs s.ps) ev ≡ None → step (hall_seen s.es s.fs s.ps) i ev ≡ found (get (seen admission_seen s.es) o) (hall_seen s.es s.fs s.ps) act
@@ -163,9 +162,6 @@ module _ {old : Part ShareHall} {i : ℕ} (s : Site old i) where
 
     pub tells_waiters : waiters_of f ≡ next_model.waiting_in (shares_seen f.shares) → Did (FsWaiters o) (answers.Count (waiters_of f)) s.es s.fs s.ps
     tells_waiters waiting = tells (FsWaiters o) (answers.Count (waiters_of f)) _ named refl (ap (λ n. quietly (hall_seen s.es s.fs s.ps) (answers.Count n)) (sym waiting))
-
-    pub may_weigh : (k : ℕ) → cause_of (hall_seen s.es s.fs s.ps) (FsWeightof o k) ≡ None
-    may_weigh k = named
 
     pub tells_weight : (k : ℕ) → Did (FsWeightof o k) (answers.Count (share_of nat_eq f k).weight) s.es s.fs s.ps
     tells_weight k = tells (FsWeightof o k) (answers.Count (share_of nat_eq f k).weight) _ named refl (ap (λ (t : Share ℕ). quietly (hall_seen s.es s.fs s.ps) (answers.Count t.weight)) (share_seen f.shares k))

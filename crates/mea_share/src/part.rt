@@ -6,7 +6,7 @@ ghost use Rattle.mea_events.specs.declared.share_event.ShareEvent.TheVariants.{F
 ghost use Rattle.mea_share_model.specs.Admissions.{empty_hall, is_named, is_future, is_permit, plain_of, registered};
 ghost use Rattle.mea_share_model.specs.Meaning.{cause_of, refused_if};
 ghost use Rattle.mea_share_model.specs.Valid.{AreValid};
-ghost use Rattle.mea_share.specs.Acts.{Acts, ActsQuietly, begins, tries};
+ghost use Rattle.mea_share.specs.Acts.{Acts, ActsQuietly, Begins, Tries};
 ghost use Rattle.mea_share_core.specs.Fair.{waiters_of};
 ghost use Rattle.mea_share_model.specs.Next.{waiting_in};
 ghost use Rattle.mea_share.specs.Kept.{shares_seen};
@@ -278,7 +278,7 @@ impl SharePart {
     // Makes a future of a permit for a key.
     fn begin(&mut self, number: u64, o: u64, k: u64, form: Form) -> Result<Answer, Stop>
         requires { self.old.next ≤ number }
-        ensures { ActsQuietly self.old number (begins (is_plain form) o k) result self.new }
+        ensures { Begins self.old number o k (is_plain form) result self.new }
     {
         let plain = form.is_plain();
         let Some(entry) = self.admissions.get_mut(o) else {
@@ -301,7 +301,7 @@ impl SharePart {
     // Takes a permit for a key, where one is free and nobody waits. Room for the permit is made first.
     fn try_acquire(&mut self, number: u64, o: u64, k: u64, form: Form) -> Result<Answer, Stop>
         requires { self.old.next ≤ number }
-        ensures { ActsQuietly self.old number (tries (is_plain form) o k) result self.new }
+        ensures { Tries self.old number o k (is_plain form) result self.new }
     {
         let plain = form.is_plain();
         let Some(entry) = self.admissions.get_mut(o) else {

@@ -14,16 +14,10 @@ use Rattle.mea_share.proofs.part.SharePart.end.Goals as goal
 pub invariant_of-self : goal.invariant_of-self
 invariant_of-self c = rw c.take.ensures.rest (without_future (site c.self.inside.admissions c.self.inside.futures c.self.inside.permits c.self.inside.next c.self.view_is c.self.invariant c.requires.next c.ranges.number.fits) c.args.x (sym c.in_default.ensures.value)).0
 
-pub end_permit-requires-clause-next : goal.end_permit-requires-clause-next
-end_permit-requires-clause-next c = (site c.self.inside.admissions c.self.inside.futures c.self.inside.permits c.self.inside.next c.self.view_is c.self.invariant c.requires.next c.ranges.number.fits).later
-
-pub end_permit-requires-clause-apart : goal.end_permit-requires-clause-apart
-end_permit-requires-clause-apart c = rw c.take.ensures.rest (seen-none future_seen (remove c.self.inside.futures c.args.x) c.args.x (nothing_left c.self.inside.futures c.args.x))
-
-pub end_permit-requires-clause-room : goal.end_permit-requires-clause-room
-end_permit-requires-clause-room c =
+pub end_permit-requires : goal.end_permit-requires
+end_permit-requires c =
     let left : ◌≡◌ {A = Part ShareHall} (part_of c.self.inside.admissions c.take.new.self c.self.inside.permits c.self.inside.next) c.args.self.now = rw c.take.ensures.rest (without_future (site c.self.inside.admissions c.self.inside.futures c.self.inside.permits c.self.inside.next c.self.view_is c.self.invariant c.requires.next c.ranges.number.fits) c.args.x (sym c.in_default.ensures.value)).1 in
-    subst (λ (p : Part ShareHall). registered p.hall ≤ c.args.ready.now.registered) (sym left) c.requires.room
+    record { next = (site c.self.inside.admissions c.self.inside.futures c.self.inside.permits c.self.inside.next c.self.view_is c.self.invariant c.requires.next c.ranges.number.fits).later; apart = rw c.take.ensures.rest (seen-none future_seen (remove c.self.inside.futures c.args.x) c.args.x (nothing_left c.self.inside.futures c.args.x)); room = subst (λ (p : Part ShareHall). registered p.hall ≤ c.args.ready.now.registered) (sym left) c.requires.room }
 
 pub returns-in_default : goal.returns-in_default
 returns-in_default c =
@@ -33,20 +27,10 @@ returns-in_default c =
 pub at_mut-entry-requires : goal.at_mut-entry-requires
 at_mut-entry-requires c = rw c.admission-o.ensures (future_home (site c.self.inside.admissions c.self.inside.futures c.self.inside.permits c.self.inside.next c.self.view_is c.self.invariant c.requires.next c.ranges.number.fits) c.args.x c.in-Some.future (sym c.in-Some.ensures.value))
 
-pub end_future-requires-clause-belongs : goal.end_future-requires-clause-belongs
-end_future-requires-clause-belongs c = belongs (site c.self.inside.admissions c.self.inside.futures c.self.inside.permits c.self.inside.next c.self.view_is c.self.invariant c.requires.next c.ranges.number.fits) c.admission-o.result c.at_mut-entry.result.now c.at_mut-entry.ensures.value c.args.x c.in-Some.future (sym c.in-Some.ensures.value) (sym c.admission-o.ensures)
-
-pub end_future-requires-clause-quiet : goal.end_future-requires-clause-quiet
-end_future-requires-clause-quiet c = (its_good (site c.self.inside.admissions c.self.inside.futures c.self.inside.permits c.self.inside.next c.self.view_is c.self.invariant c.requires.next c.ranges.number.fits) c.admission-o.result c.at_mut-entry.result.now c.at_mut-entry.ensures.value).quiet
-
-pub end_future-requires-clause-room : goal.end_future-requires-clause-room
-end_future-requires-clause-room c = its_room (site c.self.inside.admissions c.self.inside.futures c.self.inside.permits c.self.inside.next c.self.view_is c.self.invariant c.requires.next c.ranges.number.fits) c.admission-o.result c.at_mut-entry.result.now c.args.ready.now c.at_mut-entry.ensures.value c.requires.room
-
-pub finish-requires-clause-things : goal.finish-requires-clause-things
-finish-requires-clause-things c = rw c.end_future.ensures.2.rest (future_counts (site c.self.inside.admissions c.self.inside.futures c.self.inside.permits c.self.inside.next c.self.view_is c.self.invariant c.requires.next c.ranges.number.fits) c.admission-o.result c.at_mut-entry.result.now c.at_mut-entry.ensures.value c.args.x c.in-Some.future (sym c.in-Some.ensures.value) (sym c.admission-o.ensures)).0
-
-pub finish-requires-clause-plain : goal.finish-requires-clause-plain
-finish-requires-clause-plain c = rw (c.end_future.ensures.2.rest, c.is_plain-plain.ensures) (future_counts (site c.self.inside.admissions c.self.inside.futures c.self.inside.permits c.self.inside.next c.self.view_is c.self.invariant c.requires.next c.ranges.number.fits) c.admission-o.result c.at_mut-entry.result.now c.at_mut-entry.ensures.value c.args.x c.in-Some.future (sym c.in-Some.ensures.value) (sym c.admission-o.ensures)).1
+pub end_future-requires : goal.end_future-requires
+end_future-requires c = record { belongs = belongs (site c.self.inside.admissions c.self.inside.futures c.self.inside.permits c.self.inside.next c.self.view_is c.self.invariant c.requires.next c.ranges.number.fits) c.admission-o.result c.at_mut-entry.result.now c.at_mut-entry.ensures.value c.args.x c.in-Some.future (sym c.in-Some.ensures.value) (sym c.admission-o.ensures); quiet = (its_good (site c.self.inside.admissions c.self.inside.futures c.self.inside.permits c.self.inside.next c.self.view_is c.self.invariant c.requires.next c.ranges.number.fits) c.admission-o.result c.at_mut-entry.result.now c.at_mut-entry.ensures.value).quiet; room = its_room (site c.self.inside.admissions c.self.inside.futures c.self.inside.permits c.self.inside.next c.self.view_is c.self.invariant c.requires.next c.ranges.number.fits) c.admission-o.result c.at_mut-entry.result.now c.args.ready.now c.at_mut-entry.ensures.value c.requires.room }
+pub finish-requires : goal.finish-requires
+finish-requires c = record { things = rw c.end_future.ensures.2.rest (future_counts (site c.self.inside.admissions c.self.inside.futures c.self.inside.permits c.self.inside.next c.self.view_is c.self.invariant c.requires.next c.ranges.number.fits) c.admission-o.result c.at_mut-entry.result.now c.at_mut-entry.ensures.value c.args.x c.in-Some.future (sym c.in-Some.ensures.value) (sym c.admission-o.ensures)).0; plain = rw (c.end_future.ensures.2.rest, c.is_plain-plain.ensures) (future_counts (site c.self.inside.admissions c.self.inside.futures c.self.inside.permits c.self.inside.next c.self.view_is c.self.invariant c.requires.next c.ranges.number.fits) c.admission-o.result c.at_mut-entry.result.now c.at_mut-entry.ensures.value c.args.x c.in-Some.future (sym c.in-Some.ensures.value) (sym c.admission-o.ensures)).1 }
 
 pub remove_if-requires : goal.remove_if-requires
 remove_if-requires c = λ over. over_put (site c.self.inside.admissions c.self.inside.futures c.self.inside.permits c.self.inside.next c.self.view_is c.self.invariant c.requires.next c.ranges.number.fits) c.admission-o.result c.finish.new.self

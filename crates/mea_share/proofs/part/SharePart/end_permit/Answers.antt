@@ -1,6 +1,8 @@
 use Rattle.std.proofs.Common.{refl, sym}
 use Rattle.mea_family.specs.declared.stop.Stop.TheVariants.{Unknown}
 use Rattle.mea_events.specs.declared.share_event.ShareEvent.TheVariants.{FsEnd}
+use Rattle.mea_share_model.specs.Meaning.{cause_of}
+use Rattle.mea_share.specs.Halls.{TakesNoMemory}
 use Rattle.mea_share.proofs.Sites.{site, refuses}
 use Rattle.mea_share.proofs.LookUps.{without_permit, ends_nothing, its_good, its_room, over_put, future_none}
 use Rattle.mea_share.proofs.Events.{permit_lives, permit_counts, ends_permit}
@@ -10,22 +12,12 @@ pub invariant_of-self : goal.invariant_of-self
 invariant_of-self c = rw c.take.ensures.rest (without_permit (site c.self.inside.admissions c.self.inside.futures c.self.inside.permits c.self.inside.next c.self.view_is c.self.invariant c.requires.next c.ranges.number.fits) c.args.p (sym c.in_default.ensures.value)).0
 
 pub returns-in_default : goal.returns-in_default
-returns-in_default c = (refuses (site c.self.inside.admissions c.self.inside.futures c.self.inside.permits c.self.inside.next c.self.view_is c.self.invariant c.requires.next c.ranges.number.fits) (FsEnd c.args.p) Unknown (ends_nothing (site c.self.inside.admissions c.self.inside.futures c.self.inside.permits c.self.inside.next c.self.view_is c.self.invariant c.requires.next c.ranges.number.fits) c.args.p (future_none (site c.self.inside.admissions c.self.inside.futures c.self.inside.permits c.self.inside.next c.self.view_is c.self.invariant c.requires.next c.ranges.number.fits) c.args.p c.requires.apart) (sym c.in_default.ensures.value)), rw c.take.ensures.rest (without_permit (site c.self.inside.admissions c.self.inside.futures c.self.inside.permits c.self.inside.next c.self.view_is c.self.invariant c.requires.next c.ranges.number.fits) c.args.p (sym c.in_default.ensures.value)).1, refl)
+returns-in_default c = (refuses (site c.self.inside.admissions c.self.inside.futures c.self.inside.permits c.self.inside.next c.self.view_is c.self.invariant c.requires.next c.ranges.number.fits) (λ h. cause_of h (FsEnd c.args.p)) (TakesNoMemory (FsEnd c.args.p)) Unknown (ends_nothing (site c.self.inside.admissions c.self.inside.futures c.self.inside.permits c.self.inside.next c.self.view_is c.self.invariant c.requires.next c.ranges.number.fits) c.args.p (future_none (site c.self.inside.admissions c.self.inside.futures c.self.inside.permits c.self.inside.next c.self.view_is c.self.invariant c.requires.next c.ranges.number.fits) c.args.p c.requires.apart) (sym c.in_default.ensures.value)), rw c.take.ensures.rest (without_permit (site c.self.inside.admissions c.self.inside.futures c.self.inside.permits c.self.inside.next c.self.view_is c.self.invariant c.requires.next c.ranges.number.fits) c.args.p (sym c.in_default.ensures.value)).1, refl)
 
-pub end_permit-requires-clause-lives : goal.end_permit-requires-clause-lives
-end_permit-requires-clause-lives c = rw c.key.ensures (permit_lives (site c.self.inside.admissions c.self.inside.futures c.self.inside.permits c.self.inside.next c.self.view_is c.self.invariant c.requires.next c.ranges.number.fits) c.admission-o.result c.at_mut-entry.result.now c.at_mut-entry.ensures.value c.args.p c.in-Some.permit (sym c.in-Some.ensures.value) (sym c.admission-o.ensures))
-
-pub end_permit-requires-clause-quiet : goal.end_permit-requires-clause-quiet
-end_permit-requires-clause-quiet c = (its_good (site c.self.inside.admissions c.self.inside.futures c.self.inside.permits c.self.inside.next c.self.view_is c.self.invariant c.requires.next c.ranges.number.fits) c.admission-o.result c.at_mut-entry.result.now c.at_mut-entry.ensures.value).quiet
-
-pub end_permit-requires-clause-room : goal.end_permit-requires-clause-room
-end_permit-requires-clause-room c = its_room (site c.self.inside.admissions c.self.inside.futures c.self.inside.permits c.self.inside.next c.self.view_is c.self.invariant c.requires.next c.ranges.number.fits) c.admission-o.result c.at_mut-entry.result.now c.args.ready.now c.at_mut-entry.ensures.value c.requires.room
-
-pub finish-requires-clause-things : goal.finish-requires-clause-things
-finish-requires-clause-things c = rw c.end_permit.ensures.2.rest (permit_counts (site c.self.inside.admissions c.self.inside.futures c.self.inside.permits c.self.inside.next c.self.view_is c.self.invariant c.requires.next c.ranges.number.fits) c.admission-o.result c.at_mut-entry.result.now c.at_mut-entry.ensures.value c.args.p c.in-Some.permit (sym c.in-Some.ensures.value) (sym c.admission-o.ensures)).0
-
-pub finish-requires-clause-plain : goal.finish-requires-clause-plain
-finish-requires-clause-plain c = rw (c.end_permit.ensures.2.rest, c.is_plain.ensures) (permit_counts (site c.self.inside.admissions c.self.inside.futures c.self.inside.permits c.self.inside.next c.self.view_is c.self.invariant c.requires.next c.ranges.number.fits) c.admission-o.result c.at_mut-entry.result.now c.at_mut-entry.ensures.value c.args.p c.in-Some.permit (sym c.in-Some.ensures.value) (sym c.admission-o.ensures)).1
+pub end_permit-requires : goal.end_permit-requires
+end_permit-requires c = record { lives = rw c.key.ensures (permit_lives (site c.self.inside.admissions c.self.inside.futures c.self.inside.permits c.self.inside.next c.self.view_is c.self.invariant c.requires.next c.ranges.number.fits) c.admission-o.result c.at_mut-entry.result.now c.at_mut-entry.ensures.value c.args.p c.in-Some.permit (sym c.in-Some.ensures.value) (sym c.admission-o.ensures)); quiet = (its_good (site c.self.inside.admissions c.self.inside.futures c.self.inside.permits c.self.inside.next c.self.view_is c.self.invariant c.requires.next c.ranges.number.fits) c.admission-o.result c.at_mut-entry.result.now c.at_mut-entry.ensures.value).quiet; room = its_room (site c.self.inside.admissions c.self.inside.futures c.self.inside.permits c.self.inside.next c.self.view_is c.self.invariant c.requires.next c.ranges.number.fits) c.admission-o.result c.at_mut-entry.result.now c.args.ready.now c.at_mut-entry.ensures.value c.requires.room }
+pub finish-requires : goal.finish-requires
+finish-requires c = record { things = rw c.end_permit.ensures.2.rest (permit_counts (site c.self.inside.admissions c.self.inside.futures c.self.inside.permits c.self.inside.next c.self.view_is c.self.invariant c.requires.next c.ranges.number.fits) c.admission-o.result c.at_mut-entry.result.now c.at_mut-entry.ensures.value c.args.p c.in-Some.permit (sym c.in-Some.ensures.value) (sym c.admission-o.ensures)).0; plain = rw (c.end_permit.ensures.2.rest, c.is_plain.ensures) (permit_counts (site c.self.inside.admissions c.self.inside.futures c.self.inside.permits c.self.inside.next c.self.view_is c.self.invariant c.requires.next c.ranges.number.fits) c.admission-o.result c.at_mut-entry.result.now c.at_mut-entry.ensures.value c.args.p c.in-Some.permit (sym c.in-Some.ensures.value) (sym c.admission-o.ensures)).1 }
 
 pub remove_if-requires : goal.remove_if-requires
 remove_if-requires c = λ over. over_put (site c.self.inside.admissions c.self.inside.futures c.self.inside.permits c.self.inside.next c.self.view_is c.self.invariant c.requires.next c.ranges.number.fits) c.admission-o.result c.finish.new.self

@@ -2,11 +2,10 @@ use Rattle.std.proofs.Common.{refl, ap, sym, is_some}
 use Rattle.mea_family.specs.declared.stop.Stop.TheVariants.{Unknown}
 use Rattle.mea_family.specs.Causes.{unknown_unless}
 use Rattle.mea_events.specs.declared.share_event.ShareEvent.TheVariants.{FsKey}
+use Rattle.mea_share_model.specs.Meaning.{cause_of}
+use Rattle.mea_share.specs.Halls.{TakesNoMemory}
 use Rattle.mea_share.proofs.Sites.{site, refuses, tells_key}
 use Rattle.mea_share.proofs.part.SharePart.key.Goals as goal
-
-pub returns-in_default : goal.returns-in_default
-returns-in_default c = λ w. (refuses (site c.self.inside.admissions c.self.inside.futures c.self.inside.permits c.self.inside.next c.self.view_is c.self.invariant c.requires c.ranges.number.fits) (FsKey c.args.p) Unknown (ap (λ q. unknown_unless (is_some q)) (sym c.in_default.ensures)), refl, refl)
 
 pub invariant_of-self : goal.invariant_of-self
 invariant_of-self c = (tells_key (site c.self.inside.admissions c.self.inside.futures c.self.inside.permits c.self.inside.next c.self.view_is c.self.invariant c.requires c.ranges.number.fits) c.args.p c.in-Some.permit.now (sym c.in-Some.ensures)).0

@@ -3,9 +3,6 @@ use Rattle.mea_family.specs.Causes.{unknown_unless}
 use Rattle.mea_share.proofs.Sites.{site, tells_waiters}
 use Rattle.mea_share.proofs.part.SharePart.waiters.Goals as goal
 
-pub returns-in_default : goal.returns-in_default
-returns-in_default c = λ w. (inl (ap unknown_unless (sym c.in_default.ensures.named)), refl, refl)
-
 pub invariant_of-self : goal.invariant_of-self
 invariant_of-self c = (tells_waiters (site c.self.inside.admissions c.self.inside.futures c.self.inside.permits c.self.inside.next c.self.view_is c.self.invariant c.requires c.ranges.number.fits) c.args.o c.in-Some.entry.now.fair c.in-Some.ensures.stands c.in-Some.ensures.waiting).0
 
