@@ -9,7 +9,7 @@ use crate::part::LockPart;
 use crate::wait_part::WaitPart;
 use mea_base::Ready;
 use mea_by_name::NamedWaker;
-use mea_family::{Answer, Stop};
+use mea_family::{Answer, Stop, unknown_unless};
 use mea_lock_core::{MutexCore, RwCore};
 use std::alloc::Global;
 
@@ -41,7 +41,7 @@ impl Kinds {
         match meaning {
             Meaning::Mutexes(action) => self.mutexes.cause(action),
             Meaning::RwLocks(action) => self.rw_locks.cause(action),
-            Meaning::Lowers(g) => self.rw_locks.cause_of_lower(g),
+            Meaning::Lowers(g) => unknown_unless(self.rw_locks.write_guard(g).is_some()),
             Meaning::Condvars(action) => self.condvars.cause(&self.mutexes, action),
         }
     }

@@ -92,11 +92,14 @@ impl<C: LockCore> LockPart<C> {
         match action {
             LockAction::Make(_, most) => zero_if(most == 0),
             LockAction::Begin(o, _, _) => unknown_unless(self.is_named(o)),
-            LockAction::Poll(f, _) => unknown_unless(self.is_lock_future(f)),
+            LockAction::Poll(f, _) => unknown_unless(self.is_of_condvar(f) == Some(false)),
             LockAction::Try(o, _, _) => unknown_unless(self.is_named(o)),
             LockAction::Get(g) => unknown_unless(self.guard(g).is_some()),
             LockAction::Set(g, _) => unknown_unless(self.write_guard(g).is_some()),
-            LockAction::End(x) => unknown_unless(self.may_end(x)),
+            LockAction::End(x) => match self.is_of_condvar(x) {
+                Some(of_condvar) => unknown_unless(!of_condvar),
+                None => unknown_unless(self.guard(x).is_some()),
+            },
             LockAction::Peek(o) | LockAction::Put(o, _) | LockAction::Take(o) => self.cause_of_use(
                 o,
             ),
@@ -157,15 +160,6 @@ impl<C: LockCore> LockPart<C> {
         Some(future.is_of_condvar())
     }
 
-    fn is_lock_future(&self, f: u64) -> bool
-        ensures { result ≡ is_lock_future self.now.hall f }
-    {
-        match self.is_of_condvar(f) {
-            Some(of_condvar) => !of_condvar,
-            None => false,
-        }
-    }
-
     /// Whether it is a future of a wait on a condition variable. It takes no memory.
     pub fn is_condvar_future(&self, f: u64) -> bool
         ensures { result ≡ is_condvar_future self.now.hall f }
@@ -190,16 +184,6 @@ impl<C: LockCore> LockPart<C> {
     {
         let guard = self.guard(g)?;
         if guard.writes { Some(guard) } else { None }
-    }
-
-    // Whether it is a future that waits for the lock alone, or else a guard.
-    fn may_end(&self, x: u64) -> bool
-        ensures { result ≡ (if is_future self.now.hall x then is_lock_future self.now.hall x else is_guard self.now.hall x) }
-    {
-        match self.is_of_condvar(x) {
-            Some(of_condvar) => !of_condvar,
-            None => self.guard(x).is_some(),
-        }
     }
 
     // Why a use of the whole lock is refused: it is unknown, or a future or a guard borrows it.
@@ -536,13 +520,6 @@ impl<C: LockCore> LockPart<C> {
 }
 
 impl<C: LoweredCore> LockPart<C> {
-    /// Why the lowering of a guard is refused; None where it is not. It takes no memory.
-    pub fn cause_of_lower(&self, g: u64) -> Option<Stop>
-        ensures { result ≡ cause_at self.now.hall (Lower g) }
-    {
-        unknown_unless(self.write_guard(g).is_some())
-    }
-
     /// A guard that writes reads from now on. It takes no memory.
     pub fn lower(&mut self, number: u64, g: u64, ready: &mut Ready<u64>) -> Result<Answer, Stop>
         requires next { self.old.next ≤ number }

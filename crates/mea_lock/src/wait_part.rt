@@ -228,12 +228,12 @@ impl WaitPart {
         requires room { locks.registered mutexes.old.hall + registered self.old.hall ≤ ready.old.registered }
         ensures { ActsOn mutexes.old self.old number (Poll f waker) result mutexes.new self.new ready.old ready.new }
     {
-        let Some(wait) = self.waits.get(f).copied() else {
-            return Err(Stop::Unknown);
-        };
         if !mutexes.is_condvar_future(f) {
             return Err(Stop::Unknown);
         }
+        let Some(wait) = self.waits.get_mut(f) else {
+            return Err(Stop::Unknown);
+        };
         let entry = self.condvars.at_mut(wait.condvar);
         if entry.is_waiting_under(wait.number) {
             entry.rewake_under(wait.number, f, waker);
@@ -243,21 +243,21 @@ impl WaitPart {
         let Ok(place) = entry.list(f, waker, ready) else {
             return Err(Stop::NoMemory);
         };
-        match mutexes.poll_until(number, f, waker, until_of(&wait), ready) {
+        match mutexes.poll_until(number, f, waker, until_of(wait), ready) {
             Err(_) => {
                 entry.unlist(place, ready);
                 Err(Stop::NoMemory)
             }
             Ok(Asked::Lays) => {
                 entry.forget_under(wait.number);
-                self.waits.at_mut(f).list(place);
+                wait.list(place);
                 self.next = number as u128 + 1;
                 Ok(Answer::Pending)
             }
             Ok(Asked::Asks) => {
                 entry.unlist(place, ready);
                 entry.forget_under(wait.number);
-                self.waits.at_mut(f).ask();
+                wait.ask();
                 self.next = number as u128 + 1;
                 Ok(Answer::Pending)
             }
