@@ -25,7 +25,6 @@ use Rattle.mea_share_core.specs.Groups.{held_in, waiting_in}
 use Rattle.mea_share_core.specs.Fair.{Fair, IsSettled, share_of, waiters_of, is_queued, Becomes, IsSame, GivesBack, Belongs, Polls, Cancels}
 use Rattle.mea_events.specs.declared.share_event.ShareEvent.{ShareEvent}
 use Rattle.mea_events.specs.declared.share_event.ShareEvent.TheVariants.{FsTry, FsTryo, FsAcq, FsAcqo, FsPoll, FsEnd, FsDrop, FsWeight}
-use Rattle.mea_share_model.specs.Next as next_model
 use Rattle.mea_share_model.specs.Next.{share_at, put_share, next_of}
 use Rattle.mea_share_model.specs.Admissions as model
 use Rattle.mea_share_model.specs.Admissions.{Admission, ShareFuture, SharePermit, ShareHall, registered, with_share, passed, woken, tidied_admissions, things_of, plain_of, is_named, is_named_one, is_permit}

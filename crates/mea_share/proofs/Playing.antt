@@ -1,11 +1,10 @@
 -- what an event does, in the words of a family
-use Rattle.std.proofs.Common.{◌≡◌, ◌≢◌, ◌⊎◌, inl, inr, ℕ, ◌+◌, ◌≤◌, Bool, true, false, Some, None, nat_lt, if◌then◌else◌, length, Result, Ok, Err, IfOk, IfErr, OnOk, OnErr, ap, sym, subst, ◌∙◌, arith}
+use Rattle.std.proofs.Common.{◌≡◌, ◌≢◌, ◌⊎◌, inl, inr, ℕ, ◌+◌, ◌≤◌, Bool, true, false, Some, None, nat_lt, if◌then◌else◌, length, Result, Ok, Err, IfOk, IfErr, OnOk, OnErr, ap, ◌∙◌, arith}
 use Rattle.mea_family.specs.declared.answer.Answer.{Answer}
 use Rattle.mea_family.specs.declared.stop.Stop.{Stop}
-use Rattle.mea_family.specs.declared.stop.Stop.TheVariants.{Borrowed, Zero, NoMemory}
+use Rattle.mea_family.specs.declared.stop.Stop.TheVariants.{Borrowed, NoMemory}
 use Rattle.mea_family.specs.Causes.{unknown_unless}
 use Rattle.mea_base.specs.Ready.{Waking}
-use Rattle.mea_base.proofs.Maps.{inside}
 use Rattle.mea_base.proofs.Totals.{total-empty}
 use Rattle.mea_family.specs.Play.{Part, PartYields}
 use Rattle.mea_events.specs.declared.share_event.ShareEvent.{ShareEvent}

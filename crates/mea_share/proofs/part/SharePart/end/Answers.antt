@@ -29,6 +29,7 @@ at_mut-entry-requires c = rw c.admission-o.ensures (future_home (site c.self.ins
 
 pub end_future-requires : goal.end_future-requires
 end_future-requires c = record { belongs = belongs (site c.self.inside.admissions c.self.inside.futures c.self.inside.permits c.self.inside.next c.self.view_is c.self.invariant c.requires.next c.ranges.number.fits) c.admission-o.result c.at_mut-entry.result.now c.at_mut-entry.ensures.value c.args.x c.in-Some.future (sym c.in-Some.ensures.value) (sym c.admission-o.ensures); quiet = (its_good (site c.self.inside.admissions c.self.inside.futures c.self.inside.permits c.self.inside.next c.self.view_is c.self.invariant c.requires.next c.ranges.number.fits) c.admission-o.result c.at_mut-entry.result.now c.at_mut-entry.ensures.value).quiet; room = its_room (site c.self.inside.admissions c.self.inside.futures c.self.inside.permits c.self.inside.next c.self.view_is c.self.invariant c.requires.next c.ranges.number.fits) c.admission-o.result c.at_mut-entry.result.now c.args.ready.now c.at_mut-entry.ensures.value c.requires.room }
+
 pub finish-requires : goal.finish-requires
 finish-requires c = record { things = rw c.end_future.ensures.2.rest (future_counts (site c.self.inside.admissions c.self.inside.futures c.self.inside.permits c.self.inside.next c.self.view_is c.self.invariant c.requires.next c.ranges.number.fits) c.admission-o.result c.at_mut-entry.result.now c.at_mut-entry.ensures.value c.args.x c.in-Some.future (sym c.in-Some.ensures.value) (sym c.admission-o.ensures)).0; plain = rw (c.end_future.ensures.2.rest, c.is_plain-plain.ensures) (future_counts (site c.self.inside.admissions c.self.inside.futures c.self.inside.permits c.self.inside.next c.self.view_is c.self.invariant c.requires.next c.ranges.number.fits) c.admission-o.result c.at_mut-entry.result.now c.at_mut-entry.ensures.value c.args.x c.in-Some.future (sym c.in-Some.ensures.value) (sym c.admission-o.ensures)).1 }
 

@@ -1,4 +1,4 @@
-use Rattle.std.proofs.Common.{rules, refl, ap, sym, ◌∙◌}
+use Rattle.std.proofs.Common.{rules, refl, sym, ◌∙◌}
 use Rattle.mea_family.specs.declared.stop.Stop.TheVariants.{Unknown}
 use Rattle.mea_events.specs.declared.share_event.ShareEvent.TheVariants.{FsDrop}
 use Rattle.mea_share_model.specs.Meaning.{cause_of}

@@ -16,6 +16,7 @@ returns-in_default c = (refuses (site c.self.inside.admissions c.self.inside.fut
 
 pub end_permit-requires : goal.end_permit-requires
 end_permit-requires c = record { lives = rw c.key.ensures (permit_lives (site c.self.inside.admissions c.self.inside.futures c.self.inside.permits c.self.inside.next c.self.view_is c.self.invariant c.requires.next c.ranges.number.fits) c.admission-o.result c.at_mut-entry.result.now c.at_mut-entry.ensures.value c.args.p c.in-Some.permit (sym c.in-Some.ensures.value) (sym c.admission-o.ensures)); quiet = (its_good (site c.self.inside.admissions c.self.inside.futures c.self.inside.permits c.self.inside.next c.self.view_is c.self.invariant c.requires.next c.ranges.number.fits) c.admission-o.result c.at_mut-entry.result.now c.at_mut-entry.ensures.value).quiet; room = its_room (site c.self.inside.admissions c.self.inside.futures c.self.inside.permits c.self.inside.next c.self.view_is c.self.invariant c.requires.next c.ranges.number.fits) c.admission-o.result c.at_mut-entry.result.now c.args.ready.now c.at_mut-entry.ensures.value c.requires.room }
+
 pub finish-requires : goal.finish-requires
 finish-requires c = record { things = rw c.end_permit.ensures.2.rest (permit_counts (site c.self.inside.admissions c.self.inside.futures c.self.inside.permits c.self.inside.next c.self.view_is c.self.invariant c.requires.next c.ranges.number.fits) c.admission-o.result c.at_mut-entry.result.now c.at_mut-entry.ensures.value c.args.p c.in-Some.permit (sym c.in-Some.ensures.value) (sym c.admission-o.ensures)).0; plain = rw (c.end_permit.ensures.2.rest, c.is_plain.ensures) (permit_counts (site c.self.inside.admissions c.self.inside.futures c.self.inside.permits c.self.inside.next c.self.view_is c.self.invariant c.requires.next c.ranges.number.fits) c.admission-o.result c.at_mut-entry.result.now c.at_mut-entry.ensures.value c.args.p c.in-Some.permit (sym c.in-Some.ensures.value) (sym c.admission-o.ensures)).1 }
 

@@ -1,5 +1,3 @@
-use Rattle.std.proofs.Common.{inl, refl, ap, sym}
-use Rattle.mea_family.specs.Causes.{unknown_unless}
 use Rattle.mea_share.proofs.Sites.{site, tells_free}
 use Rattle.mea_share.proofs.part.SharePart.free.Goals as goal
 

@@ -1,10 +1,5 @@
-use Rattle.std.proofs.Common.{refl, ap, sym, is_some}
-use Rattle.mea_family.specs.declared.stop.Stop.TheVariants.{Unknown}
-use Rattle.mea_family.specs.Causes.{unknown_unless}
-use Rattle.mea_events.specs.declared.share_event.ShareEvent.TheVariants.{FsKey}
-use Rattle.mea_share_model.specs.Meaning.{cause_of}
-use Rattle.mea_share.specs.Halls.{TakesNoMemory}
-use Rattle.mea_share.proofs.Sites.{site, refuses, tells_key}
+use Rattle.std.proofs.Common.{sym}
+use Rattle.mea_share.proofs.Sites.{site, tells_key}
 use Rattle.mea_share.proofs.part.SharePart.key.Goals as goal
 
 pub invariant_of-self : goal.invariant_of-self

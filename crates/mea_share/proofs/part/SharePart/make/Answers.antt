@@ -1,7 +1,7 @@
-use Rattle.std.proofs.Common.{◌==◌, inl, refl}
-use Rattle.std.proofs.lemmas.Bool.{eq-eqb, ne_eqb}
+use Rattle.std.proofs.Common.{◌==◌, refl}
+use Rattle.std.proofs.lemmas.Bool.{ne_eqb}
 use Rattle.mea_events.specs.declared.share_event.ShareEvent.TheVariants.{FsNew}
-use Rattle.mea_by_name.proofs.Cases.{if_true, if_false}
+use Rattle.mea_by_name.proofs.Cases.{if_false}
 use Rattle.mea_share_model.specs.Meaning.{cause_of}
 use Rattle.mea_share.specs.Halls.{TakesNoMemory}
 use Rattle.mea_share.proofs.Sites.{site, lacks_memory, makes}

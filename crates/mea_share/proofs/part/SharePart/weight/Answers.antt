@@ -1,5 +1,4 @@
-use Rattle.std.proofs.Common.{inl, refl, ap, sym}
-use Rattle.mea_family.specs.Causes.{unknown_unless}
+use Rattle.std.proofs.Common.{refl}
 use Rattle.mea_events.specs.declared.share_event.ShareEvent.TheVariants.{FsWeightof}
 use Rattle.mea_share_model.specs.Meaning.{cause_of}
 use Rattle.mea_share.specs.Halls.{TakesNoMemory}
