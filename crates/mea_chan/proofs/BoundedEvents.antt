@@ -8,7 +8,7 @@ use Rattle.mea_family.specs.declared.answer.Answer.TheVariants as answers
 use Rattle.mea_family.specs.declared.stop.Stop.TheVariants as stops
 use Rattle.mea_family.specs.Family.{Outcome, quietly}
 use Rattle.mea_base.specs.Ready.{Waking}
-use Rattle.std.proofs.lemmas.Bool.{eqb-true}
+use Rattle.std.proofs.lemmas.Bool.{eqb-true, eq-eqb}
 use Rattle.mea_base.specs.Totals.{total, weight}
 use Rattle.mea_base.proofs.Maps.{by_put, total-has, nothing_at, get-there, is_there}
 use Rattle.mea_base.proofs.Totals.{total-insert, total-plus, total-alike}
@@ -54,6 +54,17 @@ use Rattle.mea_chan.proofs.OneChannel as one
 use Rattle.mea_chan.proofs.MailboxEvents as mail
 use Rattle.mea_chan.proofs.MailboxEvents.{Site}
 use Rattle.mea_cores_by_name.proofs.Waiters.{length-names}
+
+-- a channel may be made where it has room
+pub none_room : (n : ℕ) → n ≡ 0 → (if n == 0 then Some stops.Zero else None) ≡ Some stops.Zero
+none_room n zero = ap (λ b. if b then Some stops.Zero else None) (eq-eqb n 0 zero)
+
+pub some_room : (n : ℕ) → (n ≡ 0 → ⊥) → (if n == 0 then Some stops.Zero else None) ≡ None
+some_room n some = at (n == 0) refl
+  where
+    at : (b : Bool) → (n == 0) ≡ b → (if b then Some stops.Zero else None) ≡ None
+    at true zero = absurd (some (eqb-true n 0 zero))
+    at false more = refl
 
 abbrev pub part_of : Names NamedChannel → Names SenderEntry → Names ReceiverEntry → Names KeptSend → ℕ → Part Bounded
 part_of cs ss rs xs next = record { hall = bounded_seen cs ss rs xs; next = next }

@@ -4,3 +4,4 @@ pub mod MailboxEvents
 pub mod BoundedEvents
 pub mod BoundedEnds
 pub mod Playing
+pub mod BoxEvents

@@ -62,6 +62,9 @@ module _ {old : Part Mailboxes} (cs : Names Mailbox) (ss : Names ℕ) (rs : Name
   pub stands_for_it : (o : ℕ) (m : Mailbox) → get cs o ≡ Some m → StandsFor old.hall o m
   stands_for_it o m there = ap (λ (p : Part Mailboxes). get p.hall.channels o) (sym view) ∙ seen-at channel_seen cs o m there
 
+  pub sender_is : (k : ℕ) (p : Option ℕ) → get ss k ≡ p → is_some p ≡ is_sender old.hall k
+  sender_is k p is = ap is_some (sym is) ∙ ap (λ (p : Part Mailboxes). is_sender p.hall k) view
+
   pub receiver_is : (r : ℕ) (p : Option ReceiverEntry) → get rs r ≡ p → (polls : Bool) → polls_as (option_map receiver_seen p) polls ≡ is_receiver old.hall r polls
   receiver_is r p is polls = ap (λ p. polls_as (option_map receiver_seen p) polls) (sym is) ∙ ap (λ p. polls_as p polls) (sym (get-seen (λ k x. receiver_seen x) rs r)) ∙ ap (λ (p : Part Mailboxes). is_receiver p.hall r polls) view
 
@@ -136,6 +139,13 @@ module _ {old : Part Mailboxes} {i : ℕ} (s : Site old i) where
   -- ---- what is there
   pub sender_there : (k : ℕ) → is_sender old.hall k ≡ true → IsSome (get s.ss k)
   sender_there k is = ap (λ (p : Part Mailboxes). is_sender p.hall k) s.view ∙ is
+
+  pub copier_there : (k : ℕ) → cause_in old.hall (Copy k) ≡ None → IsSome (get s.ss k)
+  copier_there k allowed = sender_there k (at (is_sender old.hall k) refl allowed)
+    where
+      at : (b : Bool) → is_sender old.hall k ≡ b → (if b then (if model.senders_beside old.hall k == most_senders then Some stops.Overflow else None) else Some stops.Unknown) ≡ None → is_sender old.hall k ≡ true
+      at true is says = is
+      at false is says = absurd (cc)
 
   pub receiver_there : (r : ℕ) (polls : Bool) → is_receiver old.hall r polls ≡ true → IsSome (get s.rs r)
   receiver_there r polls is = receiver_some (get s.rs r) polls (receiver_is s.cs s.ss s.rs s.next s.view r (get s.rs r) refl polls ∙ is)

@@ -1,174 +1,142 @@
--- what is said of the channels of one kind, and of all
-use Rattle.std.proofs.Common.{◌≡◌, ℕ, ◌+◌, ◌≤◌, ◌++◌, length, ap, sym, ◌∙◌, arith, append-nil}
-use Rattle.mea_family.specs.declared.answer.Answer.{Answer}
-use Rattle.mea_family.specs.Family.{Outcome}
+-- what is said of the channels and boxes of one kind, and of all
+use Rattle.std.proofs.Common.{◌≡◌, ℕ, ◌+◌, ◌≤◌, ◌++◌, List, [], None, Result, Ok, Err, length, refl, ap, sym, subst, ◌∙◌, arith, append-nil}
 use Rattle.mea_base.specs.Ready.{Waking}
 use Rattle.mea_base.proofs.Totals.{total-empty}
-use Rattle.mea_family.specs.Play.{Part, PartYields, PartRests}
+use Rattle.mea_family.specs.declared.answer.Answer.{Answer}
+use Rattle.mea_family.specs.declared.stop.Stop.{Stop}
+use Rattle.mea_family.specs.Play.{Part, PartYields}
 use Rattle.mea_chan_model.proofs.Wakers.{box_quiet}
-use Rattle.mea_chan_model.specs.Mailboxes.{Mailbox, Mailboxes, kept, registered}
-use Rattle.mea_chan_model.specs.MailboxActions.{act_in}
-use Rattle.mea_chan_model.specs.Bounded as bounded
+use Rattle.mea_chan_model.specs.Mailboxes as mailboxes
+use Rattle.mea_chan_model.specs.Mailboxes.{Mailbox, Mailboxes}
+use Rattle.mea_chan_model.specs.MailboxActions.{Action, act_in}
+use Rattle.mea_chan_model.specs.Bounded as bounded_ones
 use Rattle.mea_chan_model.specs.Bounded.{Bounded}
-use Rattle.mea_chan_model.specs.BoundedActions.{bounded_act}
-use Rattle.mea_chan_model.specs.Broadcasts as broadcasts
+use Rattle.mea_chan_model.specs.BoundedActions.{BoundedAction, bounded_act}
+use Rattle.mea_chan_model.specs.Broadcasts as broadcast_ones
 use Rattle.mea_chan_model.specs.Broadcasts.{Broadcast, Broadcasts}
-use Rattle.mea_chan_model.specs.BroadcastActions.{broadcast_act}
-use Rattle.mea_chan_model.specs.Boxes.{Boxes}
-use Rattle.mea_chan_model.specs.ChanHall.{Unbounded, Oneshots, Full, Optional, empty_hall, registered as all_registered}
+use Rattle.mea_chan_model.specs.BroadcastActions.{BroadcastAction, broadcast_act}
+use Rattle.mea_chan_model.specs.Boxes.{Boxes, BoxAction}
+use Rattle.mea_chan_model.specs.ChanHall.{ChanHall, Kind, Unbounded, Oneshots, BoxKind, Full, Optional, empty_hall, registered}
 use Rattle.mea_chan_model.specs.Meaning.{Meaning, OfChannels, OfBounded, OfBroadcasts, OfBoxes, step_by}
-use Rattle.mea_chan.specs.Halls.{hall_of, AreBelow, PlaysBy}
+use Rattle.mea_chan_broadcast.specs.Actions.{BroadcastActs}
+use Rattle.mea_chan_broadcast.proofs.Acting.{acts_rests}
+use Rattle.mea_chan.specs.Actions.{BoundedActs, MailActs, MailActsQuietly, BoxActs}
+use Rattle.mea_chan.specs.Halls.{Parts, hall_of, AreBelow, of_kind, with_kind, of_boxes, with_boxes, PlaysMail, PlaysBounded, PlaysBroadcasts, PlaysBoxes, PlaysBy, ActsBy}
 
--- where no waker was made ready, those that are ready are as they were
-pub yield_rests : (old : Part Mailboxes) (i : ℕ) (o : Outcome Mailboxes) (answer : Answer) (new : Part Mailboxes) (w : Waking ℕ) → PartRests registered old i o answer new → PartYields registered old i o answer new w w
-yield_rests old i o answer new w rests = record {
-  replied = rests.replied;
-  moved = rests.moved;
-  woken = sym (append-nil w.wakers) ∙ ap (λ ws. w.wakers ++ ws) (sym rests.silent);
-  counted = omega (arith, rests.counted);
-}
+pub none_registered : registered empty_hall ≡ 0
+none_registered = omega (arith, total-empty (λ o (c : Mailbox). mailboxes.kept c), total-empty (λ o (r : bounded_ones.Room). length (bounded_ones.waiting_at r)), total-empty (λ o (c : Broadcast). length c.waiting))
 
-pub broadcast_rests : (old : Part Broadcasts) (i : ℕ) (o : Outcome Broadcasts) (answer : Answer) (new : Part Broadcasts) (w : Waking ℕ) → PartRests broadcasts.registered old i o answer new → PartYields broadcasts.registered old i o answer new w w
-broadcast_rests old i o answer new w rests = record {
-  replied = rests.replied;
-  moved = rests.moved;
-  woken = sym (append-nil w.wakers) ∙ ap (λ ws. w.wakers ++ ws) (sym rests.silent);
-  counted = omega (arith, rests.counted);
-}
+-- what was done under one name of an action was done under the other
+module _ (old : Part Bounded) (i : ℕ) (a b : BoundedAction) (is : a ≡ b) where
+  pub bounded_acted : (r : Result Answer Stop) (new : Part Bounded) (before after : Waking ℕ) → BoundedActs old i b r new before after → BoundedActs old i a r new before after
+  bounded_acted r new before after did = subst (λ x. BoundedActs old i x r new before after) (sym is) did
 
--- what an event leaves: next numbers that are below the next one, and the registered wakers counted
-pub record Leaves (u o : Part Mailboxes) (n : Part Bounded) (d : Part Broadcasts) (b p : Boxes) (u' o' : Part Mailboxes) (n' : Part Bounded) (d' : Part Broadcasts) (b' p' : Boxes) (before after : Waking ℕ) (i : ℕ) : Type 0 where
-  pub below : AreBelow u' o' n' d' (i + 1)
-  pub counted : after.registered + all_registered (hall_of u o n d b p) ≡ before.registered + all_registered (hall_of u' o' n' d' b' p')
+module _ (old : Part Mailboxes) (i : ℕ) (a b : Action) (is : a ≡ b) where
+  pub mail_acted : (r : Result Answer Stop) (new : Part Mailboxes) (before after : Waking ℕ) → MailActs old i b r new before after → MailActs old i a r new before after
+  mail_acted r new before after did = subst (λ x. MailActs old i x r new before after) (sym is) did
 
-pub none_registered : all_registered empty_hall ≡ 0
-none_registered = omega (arith, total-empty (λ o (c : Mailbox). kept c), total-empty (λ o (r : bounded.Room). length (bounded.waiting_at r)), total-empty (λ o (c : Broadcast). length c.waiting))
+  pub mail_rested : (r : Result Answer Stop) (new : Part Mailboxes) (w : Waking ℕ) → MailActsQuietly old i b r new → MailActs old i a r new w w
+  mail_rested r new w did = mail_acted r new w w (acts_rests _ _ _ old i _ r new w did)
 
--- an event on boxes leaves the channels
-stays : (u o : Part Mailboxes) (n : Part Bounded) (d : Part Broadcasts) (b p : Boxes) (u' o' : Part Mailboxes) (n' : Part Bounded) (d' : Part Broadcasts) (b' p' : Boxes) (before after : Waking ℕ) (i : ℕ) → AreBelow u o n d i → u' ≡ u → o' ≡ o → n' ≡ n → d' ≡ d → after ≡ before → Leaves u o n d b p u' o' n' d' b' p' before after i
-stays u o n d b p u' o' n' d' b' p' before after i held same alike equal like still =
-    let first = ap (λ (p : Part Mailboxes). registered p.hall) same in
-    let second = ap (λ (p : Part Mailboxes). registered p.hall) alike in
-    let first_next = ap (λ (p : Part Mailboxes). p.next) same in
-    let second_next = ap (λ (p : Part Mailboxes). p.next) alike in
-    let third = ap (λ (p : Part Bounded). bounded.registered p.hall) equal in
-    let third_next = ap (λ (p : Part Bounded). p.next) equal in
-    let fourth = ap (λ (p : Part Broadcasts). broadcasts.registered p.hall) like in
-    let fourth_next = ap (λ (p : Part Broadcasts). p.next) like in
-    let count = ap (λ (w : Waking ℕ). w.registered) still in
-    record {
-      below = record { unbounded = omega (arith, first_next, held.unbounded); oneshots = omega (arith, second_next, held.oneshots); bounded = omega (arith, third_next, held.bounded); broadcasts = omega (arith, fourth_next, held.broadcasts) };
-      counted = omega (arith, first, second, third, fourth, count);
-    }
+module _ (old : Boxes) (i : ℕ) (a b : BoxAction) (is : a ≡ b) where
+  pub box_acted : (r : Result Answer Stop) (new : Boxes) → BoxActs old i b r new → BoxActs old i a r new
+  box_acted r new did = subst (λ x. BoxActs old i x r new) (sym is) did
 
-pub leaves : (u o : Part Mailboxes) (n : Part Bounded) (d : Part Broadcasts) (b p : Boxes) (u' o' : Part Mailboxes) (n' : Part Bounded) (d' : Part Broadcasts) (b' p' : Boxes) (before after : Waking ℕ) (i : ℕ) (m : Meaning) (answer : Answer) → AreBelow u o n d i → PlaysBy m u o n d b p i answer u' o' n' d' b' p' before after
-    → Leaves u o n d b p u' o' n' d' b' p' before after i
-leaves u o n d b p u' o' n' d' b' p' before after i m answer held plays = at m plays
-  where
-    at : (m : Meaning) → PlaysBy m u o n d b p i answer u' o' n' d' b' p' before after → Leaves u o n d b p u' o' n' d' b' p' before after i
-    at (OfChannels Unbounded a) plays =
-        let hall : registered u'.hall ≡ registered (act_in u.hall i a).hall = ap (λ (p : Part Mailboxes). registered p.hall) plays.yields.moved in
-        let next_is : u'.next ≡ i + 1 = ap (λ (p : Part Mailboxes). p.next) plays.yields.moved in
-        let other : registered o'.hall ≡ registered o.hall = ap (λ (p : Part Mailboxes). registered p.hall) plays.oneshots in
-        let other_next : o'.next ≡ o.next = ap (λ (p : Part Mailboxes). p.next) plays.oneshots in
-        let third : bounded.registered n'.hall ≡ bounded.registered n.hall = ap (λ (p : Part Bounded). bounded.registered p.hall) plays.bounded in
-        let third_next : n'.next ≡ n.next = ap (λ (p : Part Bounded). p.next) plays.bounded in
-        let fourth : broadcasts.registered d'.hall ≡ broadcasts.registered d.hall = ap (λ (p : Part Broadcasts). broadcasts.registered p.hall) plays.broadcasts in
-        let fourth_next : d'.next ≡ d.next = ap (λ (p : Part Broadcasts). p.next) plays.broadcasts in
-        record {
-          below = record { unbounded = omega (arith, next_is); oneshots = omega (arith, other_next, held.oneshots); bounded = omega (arith, third_next, held.bounded); broadcasts = omega (arith, fourth_next, held.broadcasts) };
-          counted = omega (arith, hall, other, third, fourth, plays.yields.counted);
-        }
-    at (OfChannels Oneshots a) plays =
-        let hall : registered o'.hall ≡ registered (act_in o.hall i a).hall = ap (λ (p : Part Mailboxes). registered p.hall) plays.yields.moved in
-        let next_is : o'.next ≡ i + 1 = ap (λ (p : Part Mailboxes). p.next) plays.yields.moved in
-        let other : registered u'.hall ≡ registered u.hall = ap (λ (p : Part Mailboxes). registered p.hall) plays.unbounded in
-        let other_next : u'.next ≡ u.next = ap (λ (p : Part Mailboxes). p.next) plays.unbounded in
-        let third : bounded.registered n'.hall ≡ bounded.registered n.hall = ap (λ (p : Part Bounded). bounded.registered p.hall) plays.bounded in
-        let third_next : n'.next ≡ n.next = ap (λ (p : Part Bounded). p.next) plays.bounded in
-        let fourth : broadcasts.registered d'.hall ≡ broadcasts.registered d.hall = ap (λ (p : Part Broadcasts). broadcasts.registered p.hall) plays.broadcasts in
-        let fourth_next : d'.next ≡ d.next = ap (λ (p : Part Broadcasts). p.next) plays.broadcasts in
-        record {
-          below = record { unbounded = omega (arith, other_next, held.unbounded); oneshots = omega (arith, next_is); bounded = omega (arith, third_next, held.bounded); broadcasts = omega (arith, fourth_next, held.broadcasts) };
-          counted = omega (arith, hall, other, third, fourth, plays.yields.counted);
-        }
-    at (OfBounded a) plays =
-        let hall : bounded.registered n'.hall ≡ bounded.registered (bounded_act n.hall i a).hall = ap (λ (p : Part Bounded). bounded.registered p.hall) plays.yields.moved in
-        let next_is : n'.next ≡ i + 1 = ap (λ (p : Part Bounded). p.next) plays.yields.moved in
-        let first : registered u'.hall ≡ registered u.hall = ap (λ (p : Part Mailboxes). registered p.hall) plays.unbounded in
-        let first_next : u'.next ≡ u.next = ap (λ (p : Part Mailboxes). p.next) plays.unbounded in
-        let second : registered o'.hall ≡ registered o.hall = ap (λ (p : Part Mailboxes). registered p.hall) plays.oneshots in
-        let second_next : o'.next ≡ o.next = ap (λ (p : Part Mailboxes). p.next) plays.oneshots in
-        let fourth : broadcasts.registered d'.hall ≡ broadcasts.registered d.hall = ap (λ (p : Part Broadcasts). broadcasts.registered p.hall) plays.broadcasts in
-        let fourth_next : d'.next ≡ d.next = ap (λ (p : Part Broadcasts). p.next) plays.broadcasts in
-        record {
-          below = record { unbounded = omega (arith, first_next, held.unbounded); oneshots = omega (arith, second_next, held.oneshots); bounded = omega (arith, next_is); broadcasts = omega (arith, fourth_next, held.broadcasts) };
-          counted = omega (arith, hall, first, second, fourth, plays.yields.counted);
-        }
-    at (OfBroadcasts a) plays =
-        let hall : broadcasts.registered d'.hall ≡ broadcasts.registered (broadcast_act d.hall i a).hall = ap (λ (p : Part Broadcasts). broadcasts.registered p.hall) plays.yields.moved in
-        let next_is : d'.next ≡ i + 1 = ap (λ (p : Part Broadcasts). p.next) plays.yields.moved in
-        let first : registered u'.hall ≡ registered u.hall = ap (λ (p : Part Mailboxes). registered p.hall) plays.unbounded in
-        let first_next : u'.next ≡ u.next = ap (λ (p : Part Mailboxes). p.next) plays.unbounded in
-        let second : registered o'.hall ≡ registered o.hall = ap (λ (p : Part Mailboxes). registered p.hall) plays.oneshots in
-        let second_next : o'.next ≡ o.next = ap (λ (p : Part Mailboxes). p.next) plays.oneshots in
-        let third : bounded.registered n'.hall ≡ bounded.registered n.hall = ap (λ (p : Part Bounded). bounded.registered p.hall) plays.bounded in
-        let third_next : n'.next ≡ n.next = ap (λ (p : Part Bounded). p.next) plays.bounded in
-        record {
-          below = record { unbounded = omega (arith, first_next, held.unbounded); oneshots = omega (arith, second_next, held.oneshots); bounded = omega (arith, third_next, held.bounded); broadcasts = omega (arith, next_is) };
-          counted = omega (arith, hall, first, second, third, plays.yields.counted);
-        }
-    at (OfBoxes Full a) plays = stays u o n d b p u' o' n' d' b' p' before after i held plays.unbounded plays.oneshots plays.bounded plays.broadcasts plays.wakers
-    at (OfBoxes Optional a) plays = stays u o n d b p u' o' n' d' b' p' before after i held plays.unbounded plays.oneshots plays.bounded plays.broadcasts plays.wakers
+-- ---- an action on one kind is an action on all
+module _ (old : Parts) (i : ℕ) (m : Meaning) where
+  pub mail_acts : (k : Kind) (a : Action) (r : Result Answer Stop) (part : Part Mailboxes) (before after : Waking ℕ) → m ≡ OfChannels k a → MailActs (of_kind old k) i a r part before after → ActsBy m old i r (with_kind old k part) before after
+  mail_acts k a r part before after is did = subst (λ m. ActsBy m old i r (with_kind old k part) before after) (sym is) (at k r did)
+    where
+      at : (k : Kind) (r : Result Answer Stop) → MailActs (of_kind old k) i a r part before after → ActsBy (OfChannels k a) old i r (with_kind old k part) before after
+      at Unbounded (Ok answer) did = (did.0, record { part = part; is = refl; yields = did.1 })
+      at Unbounded (Err stop) did = (did.0, ap (with_kind old Unbounded) did.1, did.2)
+      at Oneshots (Ok answer) did = (did.0, record { part = part; is = refl; yields = did.1 })
+      at Oneshots (Err stop) did = (did.0, ap (with_kind old Oneshots) did.1, did.2)
 
--- what was done is what the model says
-pub yields_of : (u o : Part Mailboxes) (n : Part Bounded) (d : Part Broadcasts) (b p : Boxes) (u' o' : Part Mailboxes) (n' : Part Bounded) (d' : Part Broadcasts) (b' p' : Boxes) (before after : Waking ℕ) (next i : ℕ) (m : Meaning) (answer : Answer) → AreBelow u o n d i → PlaysBy m u o n d b p i answer u' o' n' d' b' p' before after
-    → PartYields all_registered (record { hall = hall_of u o n d b p; next = next }) i (step_by (hall_of u o n d b p) i m) answer (record { hall = hall_of u' o' n' d' b' p'; next = i + 1 }) before after
-yields_of u o n d b p u' o' n' d' b' p' before after next i (OfChannels Unbounded a) answer held plays =
-    let hall : hall_of u' o' n' d' b' p' ≡ (step_by (hall_of u o n d b p) i (OfChannels Unbounded a)).hall = λ j. record { unbounded = ap (λ (p : Part Mailboxes). p.hall) plays.yields.moved j; oneshots = ap (λ (p : Part Mailboxes). p.hall) plays.oneshots j; bounded = ap (λ (p : Part Bounded). p.hall) plays.bounded j; broadcasts = ap (λ (p : Part Broadcasts). p.hall) plays.broadcasts j; boxes = plays.boxes j; option_boxes = plays.option_boxes j } in
-    record {
-      replied = plays.yields.replied;
-      moved = λ j. record { hall = hall j; next = i + 1 };
-      woken = plays.yields.woken;
-      counted = (leaves u o n d b p u' o' n' d' b' p' before after i (OfChannels Unbounded a) answer held plays).counted ∙ ap (λ h. before.registered + all_registered h) hall;
-    }
-yields_of u o n d b p u' o' n' d' b' p' before after next i (OfChannels Oneshots a) answer held plays =
-    let hall : hall_of u' o' n' d' b' p' ≡ (step_by (hall_of u o n d b p) i (OfChannels Oneshots a)).hall = λ j. record { unbounded = ap (λ (p : Part Mailboxes). p.hall) plays.unbounded j; oneshots = ap (λ (p : Part Mailboxes). p.hall) plays.yields.moved j; bounded = ap (λ (p : Part Bounded). p.hall) plays.bounded j; broadcasts = ap (λ (p : Part Broadcasts). p.hall) plays.broadcasts j; boxes = plays.boxes j; option_boxes = plays.option_boxes j } in
-    record {
-      replied = plays.yields.replied;
-      moved = λ j. record { hall = hall j; next = i + 1 };
-      woken = plays.yields.woken;
-      counted = (leaves u o n d b p u' o' n' d' b' p' before after i (OfChannels Oneshots a) answer held plays).counted ∙ ap (λ h. before.registered + all_registered h) hall;
-    }
-yields_of u o n d b p u' o' n' d' b' p' before after next i (OfBounded a) answer held plays =
-    let hall : hall_of u' o' n' d' b' p' ≡ (step_by (hall_of u o n d b p) i (OfBounded a)).hall = λ j. record { unbounded = ap (λ (p : Part Mailboxes). p.hall) plays.unbounded j; oneshots = ap (λ (p : Part Mailboxes). p.hall) plays.oneshots j; bounded = ap (λ (p : Part Bounded). p.hall) plays.yields.moved j; broadcasts = ap (λ (p : Part Broadcasts). p.hall) plays.broadcasts j; boxes = plays.boxes j; option_boxes = plays.option_boxes j } in
-    record {
-      replied = plays.yields.replied;
-      moved = λ j. record { hall = hall j; next = i + 1 };
-      woken = plays.yields.woken;
-      counted = (leaves u o n d b p u' o' n' d' b' p' before after i (OfBounded a) answer held plays).counted ∙ ap (λ h. before.registered + all_registered h) hall;
-    }
-yields_of u o n d b p u' o' n' d' b' p' before after next i (OfBroadcasts a) answer held plays =
-    let hall : hall_of u' o' n' d' b' p' ≡ (step_by (hall_of u o n d b p) i (OfBroadcasts a)).hall = λ j. record { unbounded = ap (λ (p : Part Mailboxes). p.hall) plays.unbounded j; oneshots = ap (λ (p : Part Mailboxes). p.hall) plays.oneshots j; bounded = ap (λ (p : Part Bounded). p.hall) plays.bounded j; broadcasts = ap (λ (p : Part Broadcasts). p.hall) plays.yields.moved j; boxes = plays.boxes j; option_boxes = plays.option_boxes j } in
-    record {
-      replied = plays.yields.replied;
-      moved = λ j. record { hall = hall j; next = i + 1 };
-      woken = plays.yields.woken;
-      counted = (leaves u o n d b p u' o' n' d' b' p' before after i (OfBroadcasts a) answer held plays).counted ∙ ap (λ h. before.registered + all_registered h) hall;
-    }
-yields_of u o n d b p u' o' n' d' b' p' before after next i (OfBoxes Full a) answer held plays =
-    let hall : hall_of u' o' n' d' b' p' ≡ (step_by (hall_of u o n d b p) i (OfBoxes Full a)).hall = λ j. record { unbounded = ap (λ (p : Part Mailboxes). p.hall) plays.unbounded j; oneshots = ap (λ (p : Part Mailboxes). p.hall) plays.oneshots j; bounded = ap (λ (p : Part Bounded). p.hall) plays.bounded j; broadcasts = ap (λ (p : Part Broadcasts). p.hall) plays.broadcasts j; boxes = plays.yields.moved j; option_boxes = plays.option_boxes j } in
-    record {
-      replied = plays.yields.replied;
-      moved = λ j. record { hall = hall j; next = i + 1 };
-      woken = ap (λ (w : Waking ℕ). w.wakers) plays.wakers ∙ sym (append-nil before.wakers) ∙ ap (λ ws. before.wakers ++ ws) (sym (box_quiet b i a));
-      counted = (leaves u o n d b p u' o' n' d' b' p' before after i (OfBoxes Full a) answer held plays).counted ∙ ap (λ h. before.registered + all_registered h) hall;
-    }
-yields_of u o n d b p u' o' n' d' b' p' before after next i (OfBoxes Optional a) answer held plays =
-    let hall : hall_of u' o' n' d' b' p' ≡ (step_by (hall_of u o n d b p) i (OfBoxes Optional a)).hall = λ j. record { unbounded = ap (λ (p : Part Mailboxes). p.hall) plays.unbounded j; oneshots = ap (λ (p : Part Mailboxes). p.hall) plays.oneshots j; bounded = ap (λ (p : Part Bounded). p.hall) plays.bounded j; broadcasts = ap (λ (p : Part Broadcasts). p.hall) plays.broadcasts j; boxes = plays.boxes j; option_boxes = plays.yields.moved j } in
-    record {
-      replied = plays.yields.replied;
-      moved = λ j. record { hall = hall j; next = i + 1 };
-      woken = ap (λ (w : Waking ℕ). w.wakers) plays.wakers ∙ sym (append-nil before.wakers) ∙ ap (λ ws. before.wakers ++ ws) (sym (box_quiet p i a));
-      counted = (leaves u o n d b p u' o' n' d' b' p' before after i (OfBoxes Optional a) answer held plays).counted ∙ ap (λ h. before.registered + all_registered h) hall;
-    }
+  pub bounded_acts : (a : BoundedAction) (r : Result Answer Stop) (part : Part Bounded) (before after : Waking ℕ) → m ≡ OfBounded a → BoundedActs old.bounded i a r part before after → ActsBy m old i r (record old { bounded = part }) before after
+  bounded_acts a r part before after is did = subst (λ m. ActsBy m old i r (record old { bounded = part }) before after) (sym is) (at r did)
+    where
+      at : (r : Result Answer Stop) → BoundedActs old.bounded i a r part before after → ActsBy (OfBounded a) old i r (record old { bounded = part }) before after
+      at (Ok answer) did = (did.0, record { part = part; is = refl; yields = did.1 })
+      at (Err stop) did = (did.0, (λ j. record old { bounded = did.1 j }), did.2)
+
+  pub broadcasts_act : (a : BroadcastAction) (r : Result Answer Stop) (part : Part Broadcasts) (before after : Waking ℕ) → m ≡ OfBroadcasts a → BroadcastActs old.broadcasts i a r part before after → ActsBy m old i r (record old { broadcasts = part }) before after
+  broadcasts_act a r part before after is did = subst (λ m. ActsBy m old i r (record old { broadcasts = part }) before after) (sym is) (at r did)
+    where
+      at : (r : Result Answer Stop) → BroadcastActs old.broadcasts i a r part before after → ActsBy (OfBroadcasts a) old i r (record old { broadcasts = part }) before after
+      at (Ok answer) did = (did.0, record { part = part; is = refl; yields = did.1 })
+      at (Err stop) did = (did.0, (λ j. record old { broadcasts = did.1 j }), did.2)
+
+  pub boxes_act : (k : BoxKind) (a : BoxAction) (r : Result Answer Stop) (part : Boxes) (w : Waking ℕ) → m ≡ OfBoxes k a → BoxActs (of_boxes old k) i a r part → ActsBy m old i r (with_boxes old k part) w w
+  boxes_act k a r part w is did = subst (λ m. ActsBy m old i r (with_boxes old k part) w w) (sym is) (at k r did)
+    where
+      at : (k : BoxKind) (r : Result Answer Stop) → BoxActs (of_boxes old k) i a r part → ActsBy (OfBoxes k a) old i r (with_boxes old k part) w w
+      at Full (Ok answer) did = (did.0, record { part = part; is = refl; yields = did.1; still = refl })
+      at Full (Err stop) did = (did.0, ap (with_boxes old Full) did.1, refl)
+      at Optional (Ok answer) did = (did.0, record { part = part; is = refl; yields = did.1; still = refl })
+      at Optional (Err stop) did = (did.0, ap (with_boxes old Optional) did.1, refl)
+
+-- ---- what was done to all
+module _ (p p' : Parts) (before after : Waking ℕ) (next i : ℕ) (answer : Answer) where
+  -- it leaves next numbers that are below the next one, and is what the model says
+  pub record Yielded (m : Meaning) : Type 0 where
+    pub below : AreBelow p' (i + 1)
+    pub yields : PartYields registered (record { hall = hall_of p; next = next }) i (step_by (hall_of p) i m) answer (record { hall = hall_of p'; next = i + 1 }) before after
+
+  yielded_as : (m : Meaning) (q : Parts) → p' ≡ q → AreBelow q (i + 1) → answer ≡ (step_by (hall_of p) i m).reply → hall_of q ≡ (step_by (hall_of p) i m).hall → after.wakers ≡ before.wakers ++ (step_by (hall_of p) i m).wakes
+      → after.registered + registered (hall_of p) ≡ before.registered + registered (step_by (hall_of p) i m).hall → Yielded m
+  yielded_as m q is below replied hall woken counted = record {
+    below = subst (λ q. AreBelow q (i + 1)) (sym is) below;
+    yields = record { replied = replied; moved = λ j. record { hall = (ap hall_of is ∙ hall) j; next = i + 1 }; woken = woken; counted = counted };
+  }
+
+  module _ (held : AreBelow p i) where
+    mail_yielded : (k : Kind) (a : Action) → PlaysMail p k i a answer p' before after → Yielded (OfChannels k a)
+    mail_yielded Unbounded a one =
+        let hall = ap (λ (q : Part Mailboxes). q.hall) one.yields.moved in
+        let next_is : one.part.next ≡ i + 1 = ap (λ (q : Part Mailboxes). q.next) one.yields.moved in
+        yielded_as (OfChannels Unbounded a) (record p { unbounded = one.part }) one.is (record { unbounded = omega (arith, next_is); oneshots = omega (arith, held.oneshots); bounded = omega (arith, held.bounded); broadcasts = omega (arith, held.broadcasts) })
+        one.yields.replied (λ j. record (hall_of p) { unbounded = hall j }) one.yields.woken (omega (arith, one.yields.counted))
+    mail_yielded Oneshots a one =
+        let hall = ap (λ (q : Part Mailboxes). q.hall) one.yields.moved in
+        let next_is : one.part.next ≡ i + 1 = ap (λ (q : Part Mailboxes). q.next) one.yields.moved in
+        yielded_as (OfChannels Oneshots a) (record p { oneshots = one.part }) one.is (record { unbounded = omega (arith, held.unbounded); oneshots = omega (arith, next_is); bounded = omega (arith, held.bounded); broadcasts = omega (arith, held.broadcasts) })
+        one.yields.replied (λ j. record (hall_of p) { oneshots = hall j }) one.yields.woken (omega (arith, one.yields.counted))
+
+    bounded_yielded : (a : BoundedAction) → PlaysBounded p i a answer p' before after → Yielded (OfBounded a)
+    bounded_yielded a one =
+        let hall = ap (λ (q : Part Bounded). q.hall) one.yields.moved in
+        let next_is : one.part.next ≡ i + 1 = ap (λ (q : Part Bounded). q.next) one.yields.moved in
+        yielded_as (OfBounded a) (record p { bounded = one.part }) one.is (record { unbounded = omega (arith, held.unbounded); oneshots = omega (arith, held.oneshots); bounded = omega (arith, next_is); broadcasts = omega (arith, held.broadcasts) })
+        one.yields.replied (λ j. record (hall_of p) { bounded = hall j }) one.yields.woken (omega (arith, one.yields.counted))
+
+    broadcasts_yielded : (a : BroadcastAction) → PlaysBroadcasts p i a answer p' before after → Yielded (OfBroadcasts a)
+    broadcasts_yielded a one =
+        let hall = ap (λ (q : Part Broadcasts). q.hall) one.yields.moved in
+        let next_is : one.part.next ≡ i + 1 = ap (λ (q : Part Broadcasts). q.next) one.yields.moved in
+        yielded_as (OfBroadcasts a) (record p { broadcasts = one.part }) one.is (record { unbounded = omega (arith, held.unbounded); oneshots = omega (arith, held.oneshots); bounded = omega (arith, held.bounded); broadcasts = omega (arith, next_is) })
+        one.yields.replied (λ j. record (hall_of p) { broadcasts = hall j }) one.yields.woken (omega (arith, one.yields.counted))
+
+    boxes_yielded : (k : BoxKind) (a : BoxAction) → PlaysBoxes p k i a answer p' before after → Yielded (OfBoxes k a)
+    boxes_yielded k a one = at k one
+      where
+        below : AreBelow p (i + 1)
+        below = record { unbounded = omega (arith, held.unbounded); oneshots = omega (arith, held.oneshots); bounded = omega (arith, held.bounded); broadcasts = omega (arith, held.broadcasts) }
+
+        count : after.registered ≡ before.registered
+        count = ap (λ (w : Waking ℕ). w.registered) one.still
+
+        woken : (ws : List ℕ) → ws ≡ [] → after.wakers ≡ before.wakers ++ ws
+        woken ws none = ap (λ (w : Waking ℕ). w.wakers) one.still ∙ sym (append-nil before.wakers) ∙ ap (λ ws. before.wakers ++ ws) (sym none)
+
+        at : (k : BoxKind) → PlaysBoxes p k i a answer p' before after → Yielded (OfBoxes k a)
+        at Full one = yielded_as (OfBoxes Full a) (record p { boxes = one.part }) one.is (record { unbounded = below.unbounded; oneshots = below.oneshots; bounded = below.bounded; broadcasts = below.broadcasts })
+            one.yields.replied (λ j. record (hall_of p) { boxes = one.yields.moved j }) (woken _ (box_quiet p.boxes i a)) (omega (arith, count))
+        at Optional one = yielded_as (OfBoxes Optional a) (record p { option_boxes = one.part }) one.is (record { unbounded = below.unbounded; oneshots = below.oneshots; bounded = below.bounded; broadcasts = below.broadcasts })
+            one.yields.replied (λ j. record (hall_of p) { option_boxes = one.yields.moved j }) (woken _ (box_quiet p.option_boxes i a)) (omega (arith, count))
+
+    pub yielded : (m : Meaning) → PlaysBy m p i answer p' before after → Yielded m
+    yielded (OfChannels k a) one = mail_yielded k a one
+    yielded (OfBounded a) one = bounded_yielded a one
+    yielded (OfBroadcasts a) one = broadcasts_yielded a one
+    yielded (OfBoxes k a) one = boxes_yielded k a one

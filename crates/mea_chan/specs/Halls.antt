@@ -1,135 +1,105 @@
 -- the channels and boxes of all kinds, and what an event does to them
-use Rattle.std.specs.Prelude.{ℕ, ◌≡◌, ◌≤◌, Option, Some, None}
+use Rattle.std.specs.Prelude.{ℕ, ◌≡◌, ◌≤◌, None, Result, Ok, Err}
 use Rattle.mea_family.specs.declared.answer.Answer.{Answer}
+use Rattle.mea_family.specs.declared.stop.Stop.{Stop}
 use Rattle.mea_base.specs.Ready.{Waking}
 use Rattle.mea_family.specs.Play.{Part, PartYields}
 use Rattle.mea_events.specs.declared.chan_event.ChanEvent.{ChanEvent}
-use Rattle.mea_chan_model.specs.Mailboxes.{Mailboxes, registered}
-use Rattle.mea_chan_model.specs.MailboxActions.{Action, Make, Copy, Send, Poll, Turn, act_in}
-use Rattle.mea_chan_model.specs.Bounded as bounded
+use Rattle.mea_chan_model.specs.Mailboxes as mailboxes
+use Rattle.mea_chan_model.specs.Mailboxes.{Mailboxes}
+use Rattle.mea_chan_model.specs.MailboxActions.{Action, act_in}
+use Rattle.mea_chan_model.specs.Bounded as bounded_ones
 use Rattle.mea_chan_model.specs.Bounded.{Bounded}
-use Rattle.mea_chan_model.specs.BoundedActions.{BoundedAction, MakeRoom, CopySender, BeginSend, PollSend, PollReceive, bounded_act}
-use Rattle.mea_chan_model.specs.Broadcasts as broadcasts
+use Rattle.mea_chan_model.specs.BoundedActions.{BoundedAction, bounded_act}
+use Rattle.mea_chan_model.specs.Broadcasts as broadcast_ones
 use Rattle.mea_chan_model.specs.Broadcasts.{Broadcasts}
-use Rattle.mea_chan_model.specs.BroadcastActions.{BroadcastAction, SendAll, EndSender, EndReceiver, EndHear, broadcast_act}
-use Rattle.mea_chan_model.specs.Boxes.{Boxes, BoxAction, MakeBox, Swap, Store}
-use Rattle.mea_chan_model.specs.ChanHall.{ChanHall, Unbounded, Oneshots, Full, Optional}
-use Rattle.mea_chan_model.specs.Meaning.{Meaning, OfChannels, OfBounded, OfBroadcasts, OfBoxes, meaning_of}
+use Rattle.mea_chan_model.specs.BroadcastActions.{BroadcastAction, broadcast_act}
+use Rattle.mea_chan_model.specs.Boxes.{Boxes, BoxAction}
+use Rattle.mea_chan_model.specs.ChanHall.{ChanHall, Kind, Unbounded, Oneshots, BoxKind, Full, Optional}
+use Rattle.mea_chan_model.specs.Meaning.{Meaning, OfChannels, OfBounded, OfBroadcasts, OfBoxes, meaning_of, cause_by}
+use Rattle.mea_chan_broadcast.specs.Actions.{Refuses, IsFreeBroadcast}
+use Rattle.mea_chan.specs.declared.kinds.Kinds.{Kinds}
+use Rattle.mea_chan.specs.Actions.{IsFree, IsFreeBounded, IsFreeBox}
 use Rattle.mea_chan.specs.BoxParts.{BoxYields}
 
-abbrev pub hall_of : Part Mailboxes → Part Mailboxes → Part Bounded → Part Broadcasts → Boxes → Boxes → ChanHall
-hall_of u o n d b p = record { unbounded = u.hall; oneshots = o.hall; bounded = n.hall; broadcasts = d.hall; boxes = b; option_boxes = p }
+-- the channels of each kind, each with the least number that its next event may have, and the boxes
+pub record Parts : Type 0 where
+  pub unbounded : Part Mailboxes
+  pub oneshots : Part Mailboxes
+  pub bounded : Part Bounded
+  pub broadcasts : Part Broadcasts
+  pub boxes : Boxes
+  pub option_boxes : Boxes
+
+abbrev pub parts : Kinds → Parts
+parts k = record { unbounded = k.unbounded; oneshots = k.oneshots; bounded = k.bounded; broadcasts = k.broadcasts; boxes = k.boxes; option_boxes = k.option_boxes }
+
+abbrev pub hall_of : Parts → ChanHall
+hall_of p = record { unbounded = p.unbounded.hall; oneshots = p.oneshots.hall; bounded = p.bounded.hall; broadcasts = p.broadcasts.hall; boxes = p.boxes; option_boxes = p.option_boxes }
 
 -- no next number is above n
-pub record AreBelow (u o : Part Mailboxes) (n : Part Bounded) (d : Part Broadcasts) (next : ℕ) : Type 0 where
-  pub unbounded : u.next ≤ next
-  pub oneshots : o.next ≤ next
-  pub bounded : n.next ≤ next
-  pub broadcasts : d.next ≤ next
+pub record AreBelow (p : Parts) (n : ℕ) : Type 0 where
+  pub unbounded : p.unbounded.next ≤ n
+  pub oneshots : p.oneshots.next ≤ n
+  pub bounded : p.bounded.next ≤ n
+  pub broadcasts : p.broadcasts.next ≤ n
 
--- what was done under number i to the channels of one kind, to the boxes of one kind, and to nothing else
-pub record PlaysUnbounded (u o : Part Mailboxes) (n : Part Bounded) (d : Part Broadcasts) (b p : Boxes) (i : ℕ) (a : Action) (answer : Answer) (u' o' : Part Mailboxes) (n' : Part Bounded) (d' : Part Broadcasts) (b' p' : Boxes) (before after : Waking ℕ) : Type 0 where
-  pub yields : PartYields registered u i (act_in u.hall i a) answer u' before after
-  pub oneshots : o' ≡ o
-  pub bounded : n' ≡ n
-  pub broadcasts : d' ≡ d
-  pub boxes : b' ≡ b
-  pub option_boxes : p' ≡ p
+abbrev pub of_kind : Parts → Kind → Part Mailboxes
+of_kind p Unbounded = p.unbounded
+of_kind p Oneshots = p.oneshots
 
-pub record PlaysOneshots (u o : Part Mailboxes) (n : Part Bounded) (d : Part Broadcasts) (b p : Boxes) (i : ℕ) (a : Action) (answer : Answer) (u' o' : Part Mailboxes) (n' : Part Bounded) (d' : Part Broadcasts) (b' p' : Boxes) (before after : Waking ℕ) : Type 0 where
-  pub yields : PartYields registered o i (act_in o.hall i a) answer o' before after
-  pub unbounded : u' ≡ u
-  pub bounded : n' ≡ n
-  pub broadcasts : d' ≡ d
-  pub boxes : b' ≡ b
-  pub option_boxes : p' ≡ p
+abbrev pub with_kind : Parts → Kind → Part Mailboxes → Parts
+with_kind p Unbounded c = record p { unbounded = c }
+with_kind p Oneshots c = record p { oneshots = c }
 
-pub record PlaysBounded (u o : Part Mailboxes) (n : Part Bounded) (d : Part Broadcasts) (b p : Boxes) (i : ℕ) (a : BoundedAction) (answer : Answer) (u' o' : Part Mailboxes) (n' : Part Bounded) (d' : Part Broadcasts) (b' p' : Boxes) (before after : Waking ℕ) : Type 0 where
-  pub yields : PartYields bounded.registered n i (bounded_act n.hall i a) answer n' before after
-  pub unbounded : u' ≡ u
-  pub oneshots : o' ≡ o
-  pub broadcasts : d' ≡ d
-  pub boxes : b' ≡ b
-  pub option_boxes : p' ≡ p
+abbrev pub of_boxes : Parts → BoxKind → Boxes
+of_boxes p Full = p.boxes
+of_boxes p Optional = p.option_boxes
 
-pub record PlaysBroadcasts (u o : Part Mailboxes) (n : Part Bounded) (d : Part Broadcasts) (b p : Boxes) (i : ℕ) (a : BroadcastAction) (answer : Answer) (u' o' : Part Mailboxes) (n' : Part Bounded) (d' : Part Broadcasts) (b' p' : Boxes) (before after : Waking ℕ) : Type 0 where
-  pub yields : PartYields broadcasts.registered d i (broadcast_act d.hall i a) answer d' before after
-  pub unbounded : u' ≡ u
-  pub oneshots : o' ≡ o
-  pub bounded : n' ≡ n
-  pub boxes : b' ≡ b
-  pub option_boxes : p' ≡ p
+abbrev pub with_boxes : Parts → BoxKind → Boxes → Parts
+with_boxes p Full b = record p { boxes = b }
+with_boxes p Optional b = record p { option_boxes = b }
 
-pub record PlaysBoxes (u o : Part Mailboxes) (n : Part Bounded) (d : Part Broadcasts) (b p : Boxes) (i : ℕ) (a : BoxAction) (answer : Answer) (u' o' : Part Mailboxes) (n' : Part Bounded) (d' : Part Broadcasts) (b' p' : Boxes) (before after : Waking ℕ) : Type 0 where
-  pub yields : BoxYields b i a answer b'
-  pub unbounded : u' ≡ u
-  pub oneshots : o' ≡ o
-  pub bounded : n' ≡ n
-  pub broadcasts : d' ≡ d
-  pub option_boxes : p' ≡ p
-  pub wakers : after ≡ before
+-- event number i did this to the channels of one kind, or to the boxes of one kind, and nothing to the others
+pub record PlaysMail (old : Parts) (k : Kind) (i : ℕ) (a : Action) (answer : Answer) (new : Parts) (before after : Waking ℕ) : Type 0 where
+  pub part : Part Mailboxes
+  pub is : new ≡ with_kind old k part
+  pub yields : PartYields mailboxes.registered (of_kind old k) i (act_in (of_kind old k).hall i a) answer part before after
 
-pub record PlaysOptionBoxes (u o : Part Mailboxes) (n : Part Bounded) (d : Part Broadcasts) (b p : Boxes) (i : ℕ) (a : BoxAction) (answer : Answer) (u' o' : Part Mailboxes) (n' : Part Bounded) (d' : Part Broadcasts) (b' p' : Boxes) (before after : Waking ℕ) : Type 0 where
-  pub yields : BoxYields p i a answer p'
-  pub unbounded : u' ≡ u
-  pub oneshots : o' ≡ o
-  pub bounded : n' ≡ n
-  pub broadcasts : d' ≡ d
-  pub boxes : b' ≡ b
-  pub wakers : after ≡ before
+pub record PlaysBounded (old : Parts) (i : ℕ) (a : BoundedAction) (answer : Answer) (new : Parts) (before after : Waking ℕ) : Type 0 where
+  pub part : Part Bounded
+  pub is : new ≡ record old { bounded = part }
+  pub yields : PartYields bounded_ones.registered old.bounded i (bounded_act old.bounded.hall i a) answer part before after
 
-abbrev pub PlaysBy : Meaning → Part Mailboxes → Part Mailboxes → Part Bounded → Part Broadcasts → Boxes → Boxes → ℕ → Answer → Part Mailboxes → Part Mailboxes → Part Bounded → Part Broadcasts → Boxes → Boxes → Waking ℕ → Waking ℕ → Type 0
-PlaysBy (OfChannels Unbounded a) u o n d b p i answer u' o' n' d' b' p' before after = PlaysUnbounded u o n d b p i a answer u' o' n' d' b' p' before after
-PlaysBy (OfChannels Oneshots a) u o n d b p i answer u' o' n' d' b' p' before after = PlaysOneshots u o n d b p i a answer u' o' n' d' b' p' before after
-PlaysBy (OfBounded a) u o n d b p i answer u' o' n' d' b' p' before after = PlaysBounded u o n d b p i a answer u' o' n' d' b' p' before after
-PlaysBy (OfBroadcasts a) u o n d b p i answer u' o' n' d' b' p' before after = PlaysBroadcasts u o n d b p i a answer u' o' n' d' b' p' before after
-PlaysBy (OfBoxes Full a) u o n d b p i answer u' o' n' d' b' p' before after = PlaysBoxes u o n d b p i a answer u' o' n' d' b' p' before after
-PlaysBy (OfBoxes Optional a) u o n d b p i answer u' o' n' d' b' p' before after = PlaysOptionBoxes u o n d b p i a answer u' o' n' d' b' p' before after
+pub record PlaysBroadcasts (old : Parts) (i : ℕ) (a : BroadcastAction) (answer : Answer) (new : Parts) (before after : Waking ℕ) : Type 0 where
+  pub part : Part Broadcasts
+  pub is : new ≡ record old { broadcasts = part }
+  pub yields : PartYields broadcast_ones.registered old.broadcasts i (broadcast_act old.broadcasts.hall i a) answer part before after
 
--- an event
-abbrev pub PlaysKinds : ChanEvent → Part Mailboxes → Part Mailboxes → Part Bounded → Part Broadcasts → Boxes → Boxes → ℕ → Answer → Part Mailboxes → Part Mailboxes → Part Bounded → Part Broadcasts → Boxes → Boxes → Waking ℕ → Waking ℕ → Type 0
-PlaysKinds e u o n d b p i answer u' o' n' d' b' p' before after = PlaysBy (meaning_of e) u o n d b p i answer u' o' n' d' b' p' before after
+pub record PlaysBoxes (old : Parts) (k : BoxKind) (i : ℕ) (a : BoxAction) (answer : Answer) (new : Parts) (before after : Waking ℕ) : Type 0 where
+  pub part : Boxes
+  pub is : new ≡ with_boxes old k part
+  pub yields : BoxYields (of_boxes old k) i a answer part
+  pub still : after ≡ before
 
--- what takes no memory: all but what makes something, sends into a queue, polls, clones a message, or puts a value into a box
-abbrev pub IsFree : Action → Type 0
-IsFree (Make polls) = ⊥
-IsFree (Copy s) = ⊥
-IsFree (Send s v) = ⊥
-IsFree (Poll r w) = ⊥
-IsFree (Turn r) = ⊥
-IsFree _ = Unit {0}
+-- what a line means was done
+abbrev pub PlaysBy : Meaning → Parts → ℕ → Answer → Parts → Waking ℕ → Waking ℕ → Type 0
+PlaysBy (OfChannels k a) old i answer new before after = PlaysMail old k i a answer new before after
+PlaysBy (OfBounded a) old i answer new before after = PlaysBounded old i a answer new before after
+PlaysBy (OfBroadcasts a) old i answer new before after = PlaysBroadcasts old i a answer new before after
+PlaysBy (OfBoxes k a) old i answer new before after = PlaysBoxes old k i a answer new before after
 
-abbrev pub IsFreeBounded : BoundedAction → Type 0
-IsFreeBounded (MakeRoom n) = ⊥
-IsFreeBounded (CopySender s) = ⊥
-IsFreeBounded (BeginSend s v) = ⊥
-IsFreeBounded (PollSend f w) = ⊥
-IsFreeBounded (PollReceive r w) = ⊥
-IsFreeBounded _ = Unit {0}
-
-abbrev pub IsFreeBroadcast : BroadcastAction → Type 0
-IsFreeBroadcast (SendAll s v) = Unit {0}
-IsFreeBroadcast (EndSender s) = Unit {0}
-IsFreeBroadcast (EndReceiver r) = Unit {0}
-IsFreeBroadcast (EndHear f) = Unit {0}
-IsFreeBroadcast _ = ⊥
-
-abbrev pub IsFreeContent : Option ℕ → Type 0
-IsFreeContent None = Unit {0}
-IsFreeContent (Some v) = ⊥
-
-abbrev pub IsFreeBox : BoxAction → Type 0
-IsFreeBox (MakeBox c) = ⊥
-IsFreeBox (Swap b c) = IsFreeContent c
-IsFreeBox (Store b c) = IsFreeContent c
-IsFreeBox _ = Unit {0}
-
-abbrev pub IsFreeMeaning : Meaning → Type 0
-IsFreeMeaning (OfChannels k a) = IsFree a
-IsFreeMeaning (OfBounded a) = IsFreeBounded a
-IsFreeMeaning (OfBroadcasts a) = IsFreeBroadcast a
-IsFreeMeaning (OfBoxes k a) = IsFreeBox a
+abbrev pub IsFreeBy : Meaning → Type 0
+IsFreeBy (OfChannels k a) = IsFree a
+IsFreeBy (OfBounded a) = IsFreeBounded a
+IsFreeBy (OfBroadcasts a) = IsFreeBroadcast a
+IsFreeBy (OfBoxes k a) = IsFreeBox a
 
 -- the events that take no memory
 abbrev pub TakesNoMemory : ChanEvent → Type 0
-TakesNoMemory e = IsFreeMeaning (meaning_of e)
+TakesNoMemory e = IsFreeBy (meaning_of e)
+
+-- event number i asked what a line means: it was done; or refused, and nothing has changed
+abbrev pub ActsBy : Meaning → Parts → ℕ → Result Answer Stop → Parts → Waking ℕ → Waking ℕ → Type 0
+ActsBy m old i (Ok answer) new before after = (cause_by (hall_of old) m ≡ None) × PlaysBy m old i answer new before after
+ActsBy m old i (Err stop) new before after = Refuses (cause_by (hall_of old) m) (IsFreeBy m) stop × (new ≡ old) × (after ≡ before)

@@ -4,6 +4,7 @@ pub mod BoundedCores
 pub mod MailboxParts
 pub mod BoundedParts
 pub mod BoxParts
+pub mod Actions
 pub mod Lends
 pub mod BoundedLends
 pub mod Halls

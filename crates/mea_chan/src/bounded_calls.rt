@@ -10,7 +10,7 @@ use mea_base::{NoMemory, Poll, Ready};
 use mea_by_name::NamedWaker;
 use mea_chan_core::{BoundedCore, RecvError, SendError, TryRecvError, TrySendError};
 
-/// How many wakers a channel keeps.
+/// How many wakers a channel keeps. It takes no memory.
 pub fn waiting(core: &BoundedCore<u64, NamedWaker>) -> usize
     ensures count { result ≡ kept_by core.now }
     ensures channel { IsChannel core.now }
@@ -18,7 +18,7 @@ pub fn waiting(core: &BoundedCore<u64, NamedWaker>) -> usize
     usize::from(core.is_waiting()) + core.queue_len()
 }
 
-/// Whether its receiver has ended and no sender lives.
+/// Whether its receiver has ended and no sender lives. It takes no memory.
 pub fn is_over(core: &BoundedCore<u64, NamedWaker>) -> bool
     ensures { result ≡ is_over (as_mailbox core.now) }
 {
@@ -41,7 +41,7 @@ fn settle(core: &mut BoundedCore<u64, NamedWaker>, before: usize, ready: &mut Re
     ready.unregister(gone);
 }
 
-/// Sends a message, where there is a place for it.
+/// Sends a message, where there is a place for it. It takes no memory.
 pub fn try_send(
     core: &mut BoundedCore<u64, NamedWaker>,
     message: u64,
@@ -87,7 +87,7 @@ pub fn poll_send(
     Ok(turn)
 }
 
-/// Ends a send; its value is dropped.
+/// Ends a send; its value is dropped. It takes no memory.
 pub fn end_send(core: &mut BoundedCore<u64, NamedWaker>, send: SendEntry, ready: &mut Ready<u64>)
     requires belongs { Belongs core.old.waiting send.acquire }
     requires quiet { core.old.wakes ≡ [] }
@@ -100,7 +100,7 @@ pub fn end_send(core: &mut BoundedCore<u64, NamedWaker>, send: SendEntry, ready:
     settle(core, before, ready);
 }
 
-/// Takes the first message, if there is one.
+/// Takes the first message, if there is one. It takes no memory.
 pub fn receive(
     core: &mut BoundedCore<u64, NamedWaker>,
     ready: &mut Ready<u64>,
@@ -159,7 +159,7 @@ fn recv(
     }
 }
 
-/// Ends a sender.
+/// Ends a sender. It takes no memory.
 pub fn end_sender(core: &mut BoundedCore<u64, NamedWaker>, ready: &mut Ready<u64>)
     requires some { 0 < core.old.senders }
     requires quiet { core.old.wakes ≡ [] }
@@ -172,7 +172,7 @@ pub fn end_sender(core: &mut BoundedCore<u64, NamedWaker>, ready: &mut Ready<u64
     settle(core, before, ready);
 }
 
-/// Ends the receiver.
+/// Ends the receiver. It takes no memory.
 pub fn end_receiver(core: &mut BoundedCore<u64, NamedWaker>, ready: &mut Ready<u64>)
     requires some { core.old.ended ≡ false }
     requires quiet { core.old.wakes ≡ [] }

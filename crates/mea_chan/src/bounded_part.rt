@@ -1,25 +1,24 @@
-ghost use Rattle.std.specs.Prelude.{◌≡◌, ◌≤◌, ◌<◌, OnErr, IfOk, IfSome, is_some, None, Some, [], true, false, nat_lt, if◌then◌else◌};
-ghost use Rattle.std.specs.FinMap as map;
-ghost use Rattle.mea_family.specs.Play.{PartYields};
-ghost use Rattle.mea_chan_model.specs.Mailboxes.{is_channel, is_sender, is_receiver};
-ghost use Rattle.mea_chan_model.specs.Bounded.{no_bounded, is_send, sends_of, registered};
-ghost use Rattle.mea_chan_model.specs.BoundedActions.{bounded_act, bounded_cause, MakeRoom, CopySender, TrySend, BeginSend, PollSend, EndSend, TryReceive, PollReceive, DropSender, DropReceiver};
+ghost use Rattle.std.specs.Prelude.{◌≡◌, ◌≢◌, ◌≤◌, ◌<◌, IfSome, is_some, None, Some, [], false};
+ghost use Rattle.mea_chan_model.specs.Mailboxes.{is_channel, is_sender};
+ghost use Rattle.mea_chan_model.specs.Bounded.{no_bounded, is_send, registered};
+ghost use Rattle.mea_chan_model.specs.BoundedActions.{bounded_cause, MakeRoom, CopySender, TrySend, BeginSend, PollSend, EndSend, TryReceive, PollReceive, DropSender, DropReceiver};
 ghost use Rattle.mea_chan_model.specs.Valid.{AreValid};
 ghost use Rattle.mea_chan_core.specs.Channel.{no_senders};
+ghost use Rattle.mea_chan.specs.Actions.{bounded_action, BoundedActs};
 ghost use Rattle.mea_chan.specs.BoundedLends.{StandsForBounded};
 ghost use Rattle.mea_chan.specs.BoundedCores.{tried_told, ready_told};
-ghost use Rattle.mea_chan.specs.Entries.{told, poll_told};
 
+use crate::actions::BoundedAction;
 use crate::bounded_calls::{
     end_receiver, end_send, end_sender, is_over, poll_receive, poll_send, receive, try_send,
 };
-use crate::receiver_entry::ReceiverEntry;
+use crate::receiver_entry::{ReceiverEntry, poll_told, receiver_in, told};
 use crate::send_entry::SendEntry;
 use crate::sender_entry::SenderEntry;
-use mea_base::{NoMemory, Poll, Ready};
+use mea_base::{Poll, Ready};
 use mea_by_name::{ByName, NamedWaker};
-use mea_chan_core::{BoundedCore, SendError, TryRecvError, TrySendError};
-use mea_family::{Answer, Stop, borrowed_if, overflow_if};
+use mea_chan_core::{BoundedCore, SendError, TrySendError};
+use mea_family::{Answer, Stop, borrowed_if, overflow_if, unknown_unless, zero_if};
 use std::alloc::Global;
 use std::marker::Model;
 
@@ -32,6 +31,7 @@ pub struct BoundedPart {
     receivers: ByName<ReceiverEntry>,
     sends: ByName<SendEntry>,
     next: u128,
+    alloc: Global,
 }
 
 impl Model for BoundedPart {
@@ -60,10 +60,11 @@ impl BoundedPart {
             receivers: ByName::new(alloc),
             sends: ByName::new(alloc),
             next: 0,
+            alloc,
         }
     }
 
-    /// The core of a channel.
+    /// The core of a channel. It takes no memory.
     pub fn core(&self, o: u64) -> Option<&BoundedCore<u64, NamedWaker>>
         ensures there { is_some result ≡ is_channel self.now.hall.mail o }
         ensures stands { IfSome result (λ core. StandsForBounded self.now.hall o core.now) }
@@ -79,30 +80,74 @@ impl BoundedPart {
         let _next = self.next;
     }
 
-    pub fn is_sender(&self, s: u64) -> bool
+    /// Why an action is refused; None where it is not. It takes no memory.
+    pub fn cause(&self, action: BoundedAction) -> Option<Stop>
+        ensures { result ≡ bounded_cause self.now.hall (bounded_action action) }
+    {
+        match action {
+            BoundedAction::MakeRoom(n) => zero_if(n == 0),
+            BoundedAction::CopySender(s) => self.cause_of_copy(s),
+            BoundedAction::TrySend(s, _) | BoundedAction::BeginSend(s, _) => unknown_unless(
+                self.is_sender(s),
+            ),
+            BoundedAction::PollSend(f, _) | BoundedAction::EndSend(f) => unknown_unless(
+                self.is_send(f),
+            ),
+            BoundedAction::TryReceive(r) | BoundedAction::PollReceive(r, _) =>
+                self.cause_of_receive(r),
+            BoundedAction::DropSender(s) => self.cause_of_end(s),
+            BoundedAction::DropReceiver(r) => self.cause_of_receive(r),
+        }
+    }
+
+    /// Does an action, or finds why it is refused. On an error nothing has changed.
+    pub fn act(
+        &mut self,
+        number: u64,
+        action: BoundedAction,
+        ready: &mut Ready<u64>,
+    ) -> Result<Answer, Stop>
+        requires next { self.old.next ≤ number }
+        requires room { registered self.old.hall ≤ ready.old.registered }
+        ensures { BoundedActs self.old number (bounded_action action) result self.new ready.old ready.new }
+    {
+        match action {
+            BoundedAction::MakeRoom(n) => self.make(number, n, ready),
+            BoundedAction::CopySender(s) => self.copy(number, s, ready),
+            BoundedAction::TrySend(s, message) => self.try_send(number, s, message, ready),
+            BoundedAction::BeginSend(s, message) => self.begin(number, s, message, ready),
+            BoundedAction::PollSend(f, waker) => self.poll(number, f, waker, ready),
+            BoundedAction::EndSend(f) => self.end_send(number, f, ready),
+            BoundedAction::TryReceive(r) => self.receive(number, r, ready),
+            BoundedAction::PollReceive(r, waker) => self.poll_receive(number, r, waker, ready),
+            BoundedAction::DropSender(s) => self.end_sender(number, s, ready),
+            BoundedAction::DropReceiver(r) => self.end_receiver(number, r, ready),
+        }
+    }
+
+    fn is_sender(&self, s: u64) -> bool
         ensures { result ≡ is_sender self.now.hall.mail s }
     {
         self.senders.has(s)
     }
 
-    pub fn is_receiver(&self, r: u64) -> bool
-        ensures { result ≡ is_receiver self.now.hall.mail r true }
-    {
-        match self.receivers.get(r) {
-            Some(receiver) => receiver.polls,
-            None => false,
-        }
-    }
-
-    pub fn is_send(&self, f: u64) -> bool
+    fn is_send(&self, f: u64) -> bool
         ensures { result ≡ is_send self.now.hall f }
     {
         self.sends.has(f)
     }
 
-    /// Why a further sender is refused: the one beside it is unknown, or the channel has as many as it may have.
-    pub fn cause_of_copy(&self, s: u64) -> Option<Stop>
-        ensures { result ≡ bounded_cause self.now.hall (CopySender s) }
+    // Why what is done by a receiver is refused: it is unknown.
+    fn cause_of_receive(&self, r: u64) -> Option<Stop>
+        ensures { result ≡ bounded_cause self.now.hall (TryReceive r) }
+    {
+        unknown_unless(receiver_in(&self.receivers, r, true).is_some())
+    }
+
+    // Why a further sender is refused: the one beside it is unknown, or the channel has as many as it may have.
+    fn cause_of_copy(&self, s: u64) -> Option<Stop>
+        ensures is { result ≡ bounded_cause self.now.hall (CopySender s) }
+        ensures tells { result ≢ Some Stop.NoMemory }
     {
         match self.senders.get(s) {
             Some(sender) => overflow_if(self.channels.at(sender.channel).senders() == usize::MAX),
@@ -110,9 +155,10 @@ impl BoundedPart {
         }
     }
 
-    /// Why the end of a sender is refused: it is unknown, or a send of it lives.
-    pub fn cause_of_end(&self, s: u64) -> Option<Stop>
-        ensures { result ≡ bounded_cause self.now.hall (DropSender s) }
+    // Why the end of a sender is refused: it is unknown, or a send of it lives.
+    fn cause_of_end(&self, s: u64) -> Option<Stop>
+        ensures is { result ≡ bounded_cause self.now.hall (DropSender s) }
+        ensures tells { result ≢ Some Stop.NoMemory }
     {
         match self.senders.get(s) {
             Some(sender) => borrowed_if(sender.sends > 0),
@@ -120,21 +166,16 @@ impl BoundedPart {
         }
     }
 
-    /// Makes a channel with room for `capacity` messages, with a sender and a receiver. On an error nothing has changed.
-    pub fn make(
-        &mut self,
-        number: u64,
-        alloc: Global,
-        capacity: u64,
-        ready: &mut Ready<u64>,
-    ) -> Result<Answer, NoMemory>
+    // Makes a channel with room for `capacity` messages, with a sender and a receiver. On an error nothing has changed.
+    fn make(&mut self, number: u64, capacity: u64, ready: &mut Ready<u64>) -> Result<Answer, Stop>
         requires next { self.old.next ≤ number }
-        requires some { 0 < capacity }
-        ensures ok { IfOk result (λ answer. PartYields registered self.old number (bounded_act self.old.hall number (MakeRoom capacity)) answer self.new ready.old ready.new) }
-        ensures err { OnErr result ((self.new ≡ self.old) × (ready.new ≡ ready.old)) }
+        ensures { BoundedActs self.old number (MakeRoom capacity) result self.new ready.old ready.new }
     {
-        let Ok(core) = BoundedCore::new(alloc, capacity as usize) else {
-            return Err(NoMemory);
+        if capacity == 0 {
+            return Err(Stop::Zero);
+        }
+        let Ok(core) = BoundedCore::new(self.alloc, capacity as usize) else {
+            return Err(Stop::NoMemory);
         };
         self.place(number, core, capacity, ready)
     }
@@ -146,11 +187,11 @@ impl BoundedPart {
         core: BoundedCore<u64, NamedWaker>,
         capacity: u64,
         ready: &mut Ready<u64>,
-    ) -> Result<Answer, NoMemory>
+    ) -> Result<Answer, Stop>
         requires next { self.old.next ≤ number }
+        requires some { 0 < capacity }
         requires new { core ≡ record { queued = []; capacity = capacity; senders = 1; ended = false; waker = None; waiting = no_senders; wakes = [] } }
-        ensures ok { IfOk result (λ answer. PartYields registered self.old number (bounded_act self.old.hall number (MakeRoom capacity)) answer self.new ready.old ready.new) }
-        ensures err { OnErr result ((self.new ≡ self.old) × (ready.new ≡ ready.old)) }
+        ensures { BoundedActs self.old number (MakeRoom capacity) result self.new ready.old ready.new }
     {
         let _registered = ready.registered();
         let sender = SenderEntry {
@@ -158,7 +199,7 @@ impl BoundedPart {
             sends: 0,
         };
         let Ok(()) = self.senders.insert(number, sender) else {
-            return Err(NoMemory);
+            return Err(Stop::NoMemory);
         };
         let receiver = ReceiverEntry {
             channel: number,
@@ -166,93 +207,101 @@ impl BoundedPart {
         };
         let Ok(()) = self.receivers.insert(number, receiver) else {
             let _ = self.senders.remove(number);
-            return Err(NoMemory);
+            return Err(Stop::NoMemory);
         };
         let Ok(()) = self.channels.insert(number, core) else {
             let _ = self.senders.remove(number);
             let _ = self.receivers.remove(number);
-            return Err(NoMemory);
+            return Err(Stop::NoMemory);
         };
         self.next = number as u128 + 1;
         Ok(Answer::Made)
     }
 
-    /// Makes a further sender. On an error nothing has changed.
-    pub fn copy(&mut self, number: u64, s: u64, ready: &mut Ready<u64>) -> Result<Answer, NoMemory>
+    // Makes a further sender. On an error nothing has changed.
+    fn copy(&mut self, number: u64, s: u64, ready: &mut Ready<u64>) -> Result<Answer, Stop>
         requires next { self.old.next ≤ number }
-        requires allowed { bounded_cause self.old.hall (CopySender s) ≡ None }
-        ensures ok { IfOk result (λ answer. PartYields registered self.old number (bounded_act self.old.hall number (CopySender s)) answer self.new ready.old ready.new) }
-        ensures err { OnErr result ((self.new ≡ self.old) × (ready.new ≡ ready.old)) }
+        ensures { BoundedActs self.old number (CopySender s) result self.new ready.old ready.new }
     {
         let _registered = ready.registered();
+        if let Some(stop) = self.cause_of_copy(s) {
+            return Err(stop);
+        }
         let channel = self.senders.at(s).channel;
         let Ok(()) = self
             .senders
             .insert(number, SenderEntry { channel, sends: 0 })
         else {
-            return Err(NoMemory);
+            return Err(Stop::NoMemory);
         };
         let _ = self.channels.at_mut(channel).add_sender();
         self.next = number as u128 + 1;
         Ok(Answer::Made)
     }
 
-    /// Sends a message, where there is a place for it. It takes no memory.
-    pub fn try_send(&mut self, number: u64, s: u64, message: u64, ready: &mut Ready<u64>) -> Answer
-        requires next { self.old.next ≤ number }
-        requires there { is_sender self.old.hall.mail s ≡ true }
-        requires room { registered self.old.hall ≤ ready.old.registered }
-        ensures { PartYields registered self.old number (bounded_act self.old.hall number (TrySend s message)) result self.new ready.old ready.new }
-    {
-        let o = self.senders.at(s).channel;
-        let sent = try_send(self.channels.at_mut(o), message, ready);
-        self.next = number as u128 + 1;
-        tried_told(sent)
-    }
-
-    /// Makes a send that may wait. On an error nothing has changed.
-    pub fn begin(
+    // Sends a message, where there is a place for it. It takes no memory.
+    fn try_send(
         &mut self,
         number: u64,
         s: u64,
         message: u64,
         ready: &mut Ready<u64>,
-    ) -> Result<Answer, NoMemory>
+    ) -> Result<Answer, Stop>
         requires next { self.old.next ≤ number }
-        requires there { is_sender self.old.hall.mail s ≡ true }
-        ensures ok { IfOk result (λ answer. PartYields registered self.old number (bounded_act self.old.hall number (BeginSend s message)) answer self.new ready.old ready.new) }
-        ensures err { OnErr result ((self.new ≡ self.old) × (ready.new ≡ ready.old)) }
+        requires room { registered self.old.hall ≤ ready.old.registered }
+        ensures { BoundedActs self.old number (TrySend s message) result self.new ready.old ready.new }
+    {
+        let Some(sender) = self.senders.get(s) else {
+            return Err(Stop::Unknown);
+        };
+        let sent = try_send(self.channels.at_mut(sender.channel), message, ready);
+        self.next = number as u128 + 1;
+        Ok(tried_told(sent))
+    }
+
+    // Makes a send that may wait. On an error nothing has changed.
+    fn begin(
+        &mut self,
+        number: u64,
+        s: u64,
+        message: u64,
+        ready: &mut Ready<u64>,
+    ) -> Result<Answer, Stop>
+        requires next { self.old.next ≤ number }
+        ensures { BoundedActs self.old number (BeginSend s message) result self.new ready.old ready.new }
     {
         let _registered = ready.registered();
-        let sender = self.senders.at_mut(s);
+        let Some(sender) = self.senders.get_mut(s) else {
+            return Err(Stop::Unknown);
+        };
         let send = SendEntry::new(s, sender.channel, message);
         let Ok(()) = self.sends.insert(number, send) else {
-            return Err(NoMemory);
+            return Err(Stop::NoMemory);
         };
         sender.sends += 1;
         self.next = number as u128 + 1;
         Ok(Answer::Made)
     }
 
-    /// Polls a send. On an error nothing has changed.
-    pub fn poll(
+    // Polls a send. On an error nothing has changed.
+    fn poll(
         &mut self,
         number: u64,
         f: u64,
         waker: u64,
         ready: &mut Ready<u64>,
-    ) -> Result<Answer, NoMemory>
+    ) -> Result<Answer, Stop>
         requires next { self.old.next ≤ number }
-        requires there { is_send self.old.hall f ≡ true }
         requires room { registered self.old.hall ≤ ready.old.registered }
-        ensures ok { IfOk result (λ answer. PartYields registered self.old number (bounded_act self.old.hall number (PollSend f waker)) answer self.new ready.old ready.new) }
-        ensures err { OnErr result ((self.new ≡ self.old) × (ready.new ≡ ready.old)) }
+        ensures { BoundedActs self.old number (PollSend f waker) result self.new ready.old ready.new }
     {
-        let send = self.sends.at_mut(f);
+        let Some(send) = self.sends.get_mut(f) else {
+            return Err(Stop::Unknown);
+        };
         let s = send.sender();
         let core = self.channels.at_mut(send.channel());
         let Ok(turn) = poll_send(core, f, send, waker, ready) else {
-            return Err(NoMemory);
+            return Err(Stop::NoMemory);
         };
         self.next = number as u128 + 1;
         match turn {
@@ -265,86 +314,94 @@ impl BoundedPart {
         }
     }
 
-    /// Ends a send. It takes no memory.
-    pub fn end_send(&mut self, number: u64, f: u64, ready: &mut Ready<u64>) -> Answer
+    // Ends a send. It takes no memory.
+    fn end_send(&mut self, number: u64, f: u64, ready: &mut Ready<u64>) -> Result<Answer, Stop>
         requires next { self.old.next ≤ number }
-        requires there { is_send self.old.hall f ≡ true }
         requires room { registered self.old.hall ≤ ready.old.registered }
-        ensures { PartYields registered self.old number (bounded_act self.old.hall number (EndSend f)) result self.new ready.old ready.new }
+        ensures { BoundedActs self.old number (EndSend f) result self.new ready.old ready.new }
     {
-        let send = self.sends.remove(f);
+        let Some(send) = self.sends.take(f) else {
+            return Err(Stop::Unknown);
+        };
         let s = send.sender();
         end_send(self.channels.at_mut(send.channel()), send, ready);
         self.senders.at_mut(s).sends -= 1;
         self.next = number as u128 + 1;
-        Answer::Done
+        Ok(Answer::Done)
     }
 
-    /// Takes the first message of a receiver. It takes no memory.
-    pub fn receive(&mut self, number: u64, r: u64, ready: &mut Ready<u64>) -> Answer
+    // Takes the first message of a receiver. It takes no memory.
+    fn receive(&mut self, number: u64, r: u64, ready: &mut Ready<u64>) -> Result<Answer, Stop>
         requires next { self.old.next ≤ number }
-        requires there { is_receiver self.old.hall.mail r true ≡ true }
         requires room { registered self.old.hall ≤ ready.old.registered }
-        ensures { PartYields registered self.old number (bounded_act self.old.hall number (TryReceive r)) result self.new ready.old ready.new }
+        ensures { BoundedActs self.old number (TryReceive r) result self.new ready.old ready.new }
     {
-        let o = self.receivers.at(r).channel;
-        let received = receive(self.channels.at_mut(o), ready);
+        let Some(receiver) = receiver_in(&self.receivers, r, true) else {
+            return Err(Stop::Unknown);
+        };
+        let received = receive(self.channels.at_mut(receiver.channel), ready);
         self.next = number as u128 + 1;
-        told(received)
+        Ok(told(received))
     }
 
-    /// Polls a receiver. On an error nothing has changed.
-    pub fn poll_receive(
+    // Polls a receiver. On an error nothing has changed.
+    fn poll_receive(
         &mut self,
         number: u64,
         r: u64,
         waker: u64,
         ready: &mut Ready<u64>,
-    ) -> Result<Answer, NoMemory>
+    ) -> Result<Answer, Stop>
         requires next { self.old.next ≤ number }
-        requires there { is_receiver self.old.hall.mail r true ≡ true }
         requires room { registered self.old.hall ≤ ready.old.registered }
-        ensures ok { IfOk result (λ answer. PartYields registered self.old number (bounded_act self.old.hall number (PollReceive r waker)) answer self.new ready.old ready.new) }
-        ensures err { OnErr result ((self.new ≡ self.old) × (ready.new ≡ ready.old)) }
+        ensures { BoundedActs self.old number (PollReceive r waker) result self.new ready.old ready.new }
     {
-        let o = self.receivers.at(r).channel;
-        let Ok(received) = poll_receive(self.channels.at_mut(o), r, waker, ready) else {
-            return Err(NoMemory);
+        let Some(receiver) = receiver_in(&self.receivers, r, true) else {
+            return Err(Stop::Unknown);
+        };
+        let core = self.channels.at_mut(receiver.channel);
+        let Ok(received) = poll_receive(core, r, waker, ready) else {
+            return Err(Stop::NoMemory);
         };
         self.next = number as u128 + 1;
         Ok(poll_told(received))
     }
 
-    /// Ends a sender, which has no send. It takes no memory.
-    pub fn end_sender(&mut self, number: u64, s: u64, ready: &mut Ready<u64>) -> Answer
+    // Ends a sender, which has no send. It takes no memory.
+    fn end_sender(&mut self, number: u64, s: u64, ready: &mut Ready<u64>) -> Result<Answer, Stop>
         requires next { self.old.next ≤ number }
-        requires allowed { bounded_cause self.old.hall (DropSender s) ≡ None }
         requires room { registered self.old.hall ≤ ready.old.registered }
-        ensures { PartYields registered self.old number (bounded_act self.old.hall number (DropSender s)) result self.new ready.old ready.new }
+        ensures { BoundedActs self.old number (DropSender s) result self.new ready.old ready.new }
     {
+        if let Some(stop) = self.cause_of_end(s) {
+            return Err(stop);
+        }
         let o = self.senders.remove(s).channel;
         let core = self.channels.at_mut(o);
         end_sender(core, ready);
         let over = is_over(core);
         self.channels.remove_if(o, over);
         self.next = number as u128 + 1;
-        Answer::Done
+        Ok(Answer::Done)
     }
 
-    /// Ends a receiver. It takes no memory.
-    pub fn end_receiver(&mut self, number: u64, r: u64, ready: &mut Ready<u64>) -> Answer
+    // Ends a receiver. It takes no memory.
+    fn end_receiver(&mut self, number: u64, r: u64, ready: &mut Ready<u64>) -> Result<Answer, Stop>
         requires next { self.old.next ≤ number }
-        requires there { is_receiver self.old.hall.mail r true ≡ true }
         requires room { registered self.old.hall ≤ ready.old.registered }
-        ensures { PartYields registered self.old number (bounded_act self.old.hall number (DropReceiver r)) result self.new ready.old ready.new }
+        ensures { BoundedActs self.old number (DropReceiver r) result self.new ready.old ready.new }
     {
-        let o = self.receivers.remove(r).channel;
+        let Some(receiver) = receiver_in(&self.receivers, r, true) else {
+            return Err(Stop::Unknown);
+        };
+        let _ = self.receivers.remove(r);
+        let o = receiver.channel;
         let core = self.channels.at_mut(o);
         end_receiver(core, ready);
         let over = is_over(core);
         self.channels.remove_if(o, over);
         self.next = number as u128 + 1;
-        Answer::Done
+        Ok(Answer::Done)
     }
 }
 
@@ -366,27 +423,5 @@ fn ready_told(sent: Result<(), SendError<u64>>) -> Answer
     match sent {
         Ok(()) => Answer::Accepted,
         Err(refused) => Answer::Closed(refused.0),
-    }
-}
-
-// What a script is told of a receive.
-fn told(received: Result<u64, TryRecvError>) -> Answer
-    ensures { result ≡ told received }
-{
-    match received {
-        Ok(message) => Answer::Got(message),
-        Err(TryRecvError::Empty) => Answer::Empty,
-        Err(TryRecvError::Disconnected) => Answer::Gone,
-    }
-}
-
-// What a script is told of a poll.
-fn poll_told(received: Result<u64, TryRecvError>) -> Answer
-    ensures { result ≡ poll_told received }
-{
-    match received {
-        Ok(message) => Answer::Got(message),
-        Err(TryRecvError::Empty) => Answer::Pending,
-        Err(TryRecvError::Disconnected) => Answer::Gone,
     }
 }

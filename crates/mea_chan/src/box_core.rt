@@ -26,11 +26,11 @@ pub trait BoxedCore: Drop {
         ensures empty { content ≡ None → IsOk result }
         ensures err { OnErr result (content_of self.new ≡ content_of self.old) };
 
-    /// Tells the content.
+    /// Tells the content. It takes no memory.
     fn content(&self) -> Option<u64>
         ensures { result ≡ content_of self.now };
 
-    /// The content, which leaves the box.
+    /// The content, which leaves the box. It takes no memory.
     fn into_content(self) -> Option<u64>
         ensures { result ≡ content_of self };
 }

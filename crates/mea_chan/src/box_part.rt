@@ -1,13 +1,14 @@
 ghost use Rattle.std.specs.Prelude.{◌≡◌, true, None, IsSome, IfOk, IfSome, OnErr, is_some, Some};
 ghost use Rattle.std.specs.FinMap as map;
 ghost use Rattle.mea_family.specs.Play.{content as content_told};
-ghost use Rattle.mea_chan_model.specs.Boxes.{is_box, MakeBox, Swap, Store, Tell, TakeOut, DropBox};
-ghost use Rattle.mea_chan.specs.BoxParts.{BoxYields};
+ghost use Rattle.mea_chan_model.specs.Boxes.{is_box, box_cause, MakeBox, Swap, Store, Tell, TakeOut, DropBox};
+ghost use Rattle.mea_chan.specs.Actions.{box_action, FitsBox, BoxActs};
 
+use crate::actions::BoxAction;
 use crate::box_core::BoxedCore;
 use mea_base::NoMemory;
 use mea_by_name::ByName;
-use mea_family::Answer;
+use mea_family::{Answer, Stop, unknown_unless};
 use std::alloc::Global;
 use std::marker::Model;
 
@@ -68,6 +69,7 @@ impl<C: BoxedCore> BoxEntry<C> {
 #[derive(Drop)]
 pub struct BoxPart<C: BoxedCore> {
     boxes: ByName<BoxEntry<C>>,
+    alloc: Global,
 }
 
 impl<C: BoxedCore> Model for BoxPart<C> {
@@ -87,10 +89,11 @@ impl<C: BoxedCore> BoxPart<C> {
     {
         BoxPart {
             boxes: ByName::new(alloc),
+            alloc,
         }
     }
 
-    /// The core of a box.
+    /// The core of a box. It takes no memory.
     pub fn core(&self, b: u64) -> Option<&C>
         ensures there { is_some result ≡ is_box self.now b }
         ensures stands { IfSome result (λ core. map.get self.now b ≡ Some (C.content_of core.now)) }
@@ -99,98 +102,105 @@ impl<C: BoxedCore> BoxPart<C> {
         Some(entry.core())
     }
 
-    pub fn is_box(&self, b: u64) -> bool
-        ensures { result ≡ is_box self.now b }
+    /// Why an action is refused; None where it is not. It takes no memory.
+    pub fn cause(&self, action: BoxAction) -> Option<Stop>
+        ensures { result ≡ box_cause self.now (box_action action) }
     {
-        self.boxes.has(b)
+        match action {
+            BoxAction::MakeBox(_) => None,
+            BoxAction::Swap(b, _) | BoxAction::Store(b, _) => unknown_unless(self.boxes.has(b)),
+            BoxAction::Tell(b) | BoxAction::TakeOut(b) | BoxAction::DropBox(b) => unknown_unless(
+                self.boxes.has(b),
+            ),
+        }
     }
 
-    /// Makes a box. On an error nothing has changed.
-    pub fn make(
-        &mut self,
-        number: u64,
-        alloc: Global,
-        content: Option<u64>,
-    ) -> Result<Answer, NoMemory>
-        requires full { C.is_full ≡ true → IsSome content }
-        ensures ok { IfOk result (λ answer. BoxYields self.old number (MakeBox content) answer self.new) }
-        ensures err { OnErr result (self.new ≡ self.old) }
+    /// Does an action, or finds why it is refused. On an error nothing has changed.
+    pub fn act(&mut self, number: u64, action: BoxAction) -> Result<Answer, Stop>
+        requires { C.is_full ≡ true → FitsBox action }
+        ensures { BoxActs self.old number (box_action action) result self.new }
     {
-        let Ok(entry) = BoxEntry::new(alloc, content) else {
-            return Err(NoMemory);
+        match action {
+            BoxAction::MakeBox(content) => self.make(number, content),
+            BoxAction::Swap(b, content) => self.swap(number, b, content),
+            BoxAction::Store(b, content) => self.store(number, b, content),
+            BoxAction::Tell(b) => self.tell(number, b),
+            BoxAction::TakeOut(b) => self.take(number, b),
+            BoxAction::DropBox(b) => self.end(number, b),
+        }
+    }
+
+    // Makes a box. On an error nothing has changed.
+    fn make(&mut self, number: u64, content: Option<u64>) -> Result<Answer, Stop>
+        requires { C.is_full ≡ true → IsSome content }
+        ensures { BoxActs self.old number (MakeBox content) result self.new }
+    {
+        let Ok(entry) = BoxEntry::new(self.alloc, content) else {
+            return Err(Stop::NoMemory);
         };
         let Ok(()) = self.boxes.insert(number, entry) else {
-            return Err(NoMemory);
+            return Err(Stop::NoMemory);
         };
         Ok(Answer::Made)
     }
 
-    /// Puts another content in, and tells the one before. It takes memory for a value alone. On an error nothing has
-    /// changed.
-    pub fn swap(
-        &mut self,
-        number: u64,
-        b: u64,
-        alloc: Global,
-        content: Option<u64>,
-    ) -> Result<Answer, NoMemory>
-        requires full { C.is_full ≡ true → IsSome content }
-        requires there { is_box self.old b ≡ true }
-        ensures ok { IfOk result (λ answer. BoxYields self.old number (Swap b content) answer self.new) }
-        ensures empty { content ≡ None → OnErr result ⊥ }
-        ensures err { OnErr result (self.new ≡ self.old) }
+    // Puts another content in, and tells the one before. It takes memory for a value alone. On an error nothing has
+    // changed.
+    fn swap(&mut self, number: u64, b: u64, content: Option<u64>) -> Result<Answer, Stop>
+        requires { C.is_full ≡ true → IsSome content }
+        ensures { BoxActs self.old number (Swap b content) result self.new }
     {
-        let Ok(before) = self.boxes.at_mut(b).swap(alloc, content) else {
-            return Err(NoMemory);
+        let Some(entry) = self.boxes.get_mut(b) else {
+            return Err(Stop::Unknown);
+        };
+        let Ok(before) = entry.swap(self.alloc, content) else {
+            return Err(Stop::NoMemory);
         };
         Ok(told(before))
     }
 
-    /// Puts another content in. It takes memory for a value alone. On an error nothing has changed.
-    pub fn store(
-        &mut self,
-        number: u64,
-        b: u64,
-        alloc: Global,
-        content: Option<u64>,
-    ) -> Result<Answer, NoMemory>
-        requires full { C.is_full ≡ true → IsSome content }
-        requires there { is_box self.old b ≡ true }
-        ensures ok { IfOk result (λ answer. BoxYields self.old number (Store b content) answer self.new) }
-        ensures empty { content ≡ None → OnErr result ⊥ }
-        ensures err { OnErr result (self.new ≡ self.old) }
+    // Puts another content in. It takes memory for a value alone. On an error nothing has changed.
+    fn store(&mut self, number: u64, b: u64, content: Option<u64>) -> Result<Answer, Stop>
+        requires { C.is_full ≡ true → IsSome content }
+        ensures { BoxActs self.old number (Store b content) result self.new }
     {
-        let Ok(_) = self.boxes.at_mut(b).swap(alloc, content) else {
-            return Err(NoMemory);
+        let Some(entry) = self.boxes.get_mut(b) else {
+            return Err(Stop::Unknown);
+        };
+        let Ok(_) = entry.swap(self.alloc, content) else {
+            return Err(Stop::NoMemory);
         };
         Ok(Answer::Done)
     }
 
-    /// Tells the content. It takes no memory.
-    pub fn tell(&mut self, number: u64, b: u64) -> Answer
-        requires { is_box self.old b ≡ true }
-        ensures { BoxYields self.old number (Tell b) result self.new }
+    // Tells the content. It takes no memory.
+    fn tell(&mut self, number: u64, b: u64) -> Result<Answer, Stop>
+        ensures { BoxActs self.old number (Tell b) result self.new }
     {
-        let content = self.boxes.at(b).content();
-        told(content)
+        let Some(entry) = self.boxes.get(b) else {
+            return Err(Stop::Unknown);
+        };
+        Ok(told(entry.content()))
     }
 
-    /// Tells the content; the box is gone. It takes no memory.
-    pub fn take(&mut self, number: u64, b: u64) -> Answer
-        requires { is_box self.old b ≡ true }
-        ensures { BoxYields self.old number (TakeOut b) result self.new }
+    // Tells the content; the box is gone. It takes no memory.
+    fn take(&mut self, number: u64, b: u64) -> Result<Answer, Stop>
+        ensures { BoxActs self.old number (TakeOut b) result self.new }
     {
-        let content = self.boxes.remove(b).into_content();
-        told(content)
+        let Some(entry) = self.boxes.take(b) else {
+            return Err(Stop::Unknown);
+        };
+        Ok(told(entry.into_content()))
     }
 
-    /// Drops a box. It takes no memory.
-    pub fn end(&mut self, number: u64, b: u64) -> Answer
-        requires { is_box self.old b ≡ true }
-        ensures { BoxYields self.old number (DropBox b) result self.new }
+    // Drops a box. It takes no memory.
+    fn end(&mut self, number: u64, b: u64) -> Result<Answer, Stop>
+        ensures { BoxActs self.old number (DropBox b) result self.new }
     {
-        let _ = self.boxes.remove(b);
-        Answer::Done
+        let Some(_entry) = self.boxes.take(b) else {
+            return Err(Stop::Unknown);
+        };
+        Ok(Answer::Done)
     }
 }
 

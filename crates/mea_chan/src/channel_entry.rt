@@ -1,11 +1,11 @@
 ghost use Rattle.std.specs.Prelude.{◌≡◌, ◌+◌, ◌<◌, ◌≤◌, ◌==◌, ◌++◌, [], length, true, false, option_to_list, IfOk, OnErr, if◌then◌else◌};
 ghost use Rattle.mea_chan_core.specs.Mailbox.{recv_answer, after_recv, without_sender};
 ghost use Rattle.mea_chan.specs.Cores.{is_over, message_sent, sent_answer, last_sent, receiver_ended, has_message, no_message_comes};
-ghost use Rattle.mea_chan.specs.Entries.{kept, told, Settles, Polls, poll_told};
+ghost use Rattle.mea_chan.specs.Entries.{kept, told, Settles, Polls};
 
 use crate::mailbox_core::{MailboxCore, SharedCore, SingleCore};
+use crate::receiver_entry::{poll_told, told};
 use mea_base::{NoMemory, Ready};
-use mea_chan_core::TryRecvError;
 use mea_family::Answer;
 use std::marker::Model;
 
@@ -24,19 +24,21 @@ impl<C: MailboxCore> Model for ChannelEntry<C> {
 }
 
 impl<C: MailboxCore> ChannelEntry<C> {
+    /// What is kept of this core. It takes no memory.
     pub fn new(core: C) -> Self
         ensures { result ≡ C.mailbox_of core }
     {
         ChannelEntry { core }
     }
 
+    /// Its core. It takes no memory.
     pub fn core(&self) -> &C
         ensures { C.mailbox_of result.now ≡ self.now }
     {
         &self.core
     }
 
-    /// Whether its receiver has ended and no sender lives.
+    /// Whether its receiver has ended and no sender lives. It takes no memory.
     pub fn is_over(&self) -> bool
         ensures { result ≡ is_over self.now }
     {
@@ -59,7 +61,7 @@ impl<C: MailboxCore> ChannelEntry<C> {
         ready.unregister(gone);
     }
 
-    /// Takes the first message, if there is one.
+    /// Takes the first message, if there is one. It takes no memory.
     pub fn receive(&mut self) -> Answer
         ensures answer { result ≡ told (recv_answer self.old) }
         ensures after { self.new ≡ after_recv self.old }
@@ -84,7 +86,7 @@ impl<C: MailboxCore> ChannelEntry<C> {
         Ok(poll_told(received))
     }
 
-    /// Ends a sender.
+    /// Ends a sender. It takes no memory.
     pub fn end_sender(&mut self, ready: &mut Ready<u64>)
         requires some { 0 < self.old.senders }
         requires quiet { self.old.wakes ≡ [] }
@@ -96,7 +98,7 @@ impl<C: MailboxCore> ChannelEntry<C> {
         self.settle(before, ready);
     }
 
-    /// Ends the receiver.
+    /// Ends the receiver. It takes no memory.
     pub fn end_receiver(&mut self, ready: &mut Ready<u64>)
         requires some { self.old.ended ≡ false }
         requires quiet { self.old.wakes ≡ [] }
@@ -110,14 +112,14 @@ impl<C: MailboxCore> ChannelEntry<C> {
 }
 
 impl<C: SharedCore> ChannelEntry<C> {
-    /// Whether no further sender can be made.
+    /// Whether no further sender can be made. It takes no memory.
     pub fn is_crowded(&self) -> bool
         ensures { result ≡ (self.now.senders == 18446744073709551615) }
     {
         self.core.is_crowded()
     }
 
-    /// Makes a further sender.
+    /// Makes a further sender. It takes no memory.
     pub fn add_sender(&mut self)
         requires some { 0 < self.old.senders }
         requires few { (self.old.senders == 18446744073709551615) ≡ false }
@@ -143,7 +145,7 @@ impl<C: SharedCore> ChannelEntry<C> {
 }
 
 impl<C: SingleCore> ChannelEntry<C> {
-    /// Sends the message, and tells whether anybody will receive it; the sender is gone.
+    /// Sends the message, and tells whether anybody will receive it; the sender is gone. It takes no memory.
     pub fn send_last(&mut self, message: u64, ready: &mut Ready<u64>) -> bool
         requires some { 0 < self.old.senders }
         requires quiet { self.old.wakes ≡ [] }
@@ -158,46 +160,24 @@ impl<C: SingleCore> ChannelEntry<C> {
         sent
     }
 
-    /// Whether the receiver has ended.
+    /// Whether the receiver has ended. It takes no memory.
     pub fn is_closed(&self) -> bool
         ensures { result ≡ self.now.ended }
     {
         self.core.is_closed()
     }
 
-    /// Whether the message is there.
+    /// Whether the message is there. It takes no memory.
     pub fn has_message(&self) -> bool
         ensures { result ≡ has_message self.now }
     {
         self.core.has_message()
     }
 
-    /// Whether no message will come any more.
+    /// Whether no message will come any more. It takes no memory.
     pub fn is_disconnected(&self) -> bool
         ensures { result ≡ no_message_comes self.now }
     {
         self.core.is_disconnected()
-    }
-}
-
-// What a script is told of a receive.
-fn told(received: Result<u64, TryRecvError>) -> Answer
-    ensures { result ≡ told received }
-{
-    match received {
-        Ok(message) => Answer::Got(message),
-        Err(TryRecvError::Empty) => Answer::Empty,
-        Err(TryRecvError::Disconnected) => Answer::Gone,
-    }
-}
-
-// What a script is told of a poll.
-fn poll_told(received: Result<u64, TryRecvError>) -> Answer
-    ensures { result ≡ poll_told received }
-{
-    match received {
-        Ok(message) => Answer::Got(message),
-        Err(TryRecvError::Empty) => Answer::Pending,
-        Err(TryRecvError::Disconnected) => Answer::Gone,
     }
 }

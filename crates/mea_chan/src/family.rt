@@ -10,7 +10,8 @@ ghost use Rattle.mea_chan.specs.Lends.{StandsFor};
 ghost use Rattle.mea_chan.specs.BoundedLends.{StandsForBounded};
 
 use crate::kinds::Kinds;
-use mea_base::{NoMemory, Ready};
+use crate::meaning::meaning_of;
+use mea_base::Ready;
 use mea_broadcast_core::BroadcastCore;
 use mea_by_name::NamedWaker;
 use mea_chan_core::{BoundedCore, BoxCore, OneshotCore, OptionBoxCore, UnboundedCore};
@@ -56,11 +57,11 @@ impl Model for ChanFamily {
 
     ghost coded = { part_code model.hall_code };
 
-    ghost use Rattle.mea_chan.specs.Halls.{hall_of, AreBelow};
+    ghost use Rattle.mea_chan.specs.Halls.{parts, hall_of, AreBelow};
 
-    ghost view = { λ a. record { hall = hall_of a.kinds.unbounded a.kinds.oneshots a.kinds.bounded a.kinds.broadcasts a.kinds.boxes a.kinds.option_boxes; next = a.next } };
+    ghost view = { λ a. record { hall = hall_of (parts a.kinds); next = a.next } };
 
-    ghost invariant = { λ a. AreBelow a.kinds.unbounded a.kinds.oneshots a.kinds.bounded a.kinds.broadcasts a.next };
+    ghost invariant = { λ a. AreBelow (parts a.kinds) a.next };
 }
 
 impl ChanFamily {
@@ -151,17 +152,17 @@ impl Family<ChanModel> for ChanFamily {
     }
 
     fn cause(&self, event: &ChanEvent) -> Option<Stop> {
-        self.kinds.cause(event)
+        self.kinds.cause(meaning_of(event))
     }
 
-    fn play(
+    fn act(
         &mut self,
         number: u64,
         event: &ChanEvent,
         ready: &mut Ready<u64>,
-    ) -> Result<Answer, NoMemory> {
+    ) -> Result<Answer, Stop> {
         wakes_are_of_the_registered();
-        let answer = self.kinds.play(number, event, ready)?;
+        let answer = self.kinds.act(number, meaning_of(event), ready)?;
         self.next = number as u128 + 1;
         Ok(answer)
     }

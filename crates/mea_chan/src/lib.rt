@@ -3,6 +3,7 @@
 //! alone.
 #![tactic(auto)]
 
+mod actions;
 mod bounded_calls;
 mod bounded_part;
 mod box_core;
@@ -12,6 +13,7 @@ mod family;
 mod kinds;
 mod mailbox_core;
 mod mailbox_part;
+mod meaning;
 mod oneshots;
 mod receiver_entry;
 mod send_entry;

@@ -1,11 +1,13 @@
 ghost use Rattle.std.specs.Prelude.{◌≡◌, ◌<◌, ◌+◌, ◌==◌, ◌∷◌, [], length, true, false, option_to_list, OnErr, IfOk, IfSome, IfNone, if◌then◌else◌};
 ghost use Rattle.mea_chan_core.specs.Mailbox.{recv_answer, after_recv, without_sender};
-ghost use Rattle.mea_chan.specs.Cores.{is_over, message_sent, sent_answer, last_sent, receiver_ended, Receives, has_message, no_message_comes};
+ghost use Rattle.mea_chan.specs.Cores.{is_over, message_sent, sent_answer, last_sent, receiver_ended, Receives, has_message, no_message_comes, new_core};
 
 use mea_base::NoMemory;
 use mea_chan_core::TryRecvError;
+use std::alloc::Global;
 
-/// The core of a channel for one receiver as a hall uses it. Each kind is seen as a channel that never is full.
+/// The core of a channel for one receiver as a hall uses it. Each kind is seen as a channel that never is full. Only `recv`
+/// takes memory.
 pub trait MailboxCore: Drop {
     ghost use Rattle.std.specs.Prelude.{Bool};
     ghost use Rattle.mea_chan.specs.Cores.{Mailbox};
@@ -13,6 +15,10 @@ pub trait MailboxCore: Drop {
     ghost mailbox_of: { Self → Mailbox };
     // Whether the receiver's waker falls with it.
     ghost falls: { Bool };
+
+    /// A channel with a sender and a receiver.
+    fn make(alloc: Global) -> Self
+        ensures { mailbox_of result ≡ new_core };
 
     /// How many wakers it keeps: one or none.
     fn waiting(&self) -> usize
@@ -50,7 +56,7 @@ pub trait MailboxCore: Drop {
         ensures { mailbox_of self.new ≡ receiver_ended falls (mailbox_of self.old) };
 }
 
-/// One that may have many senders, each of which sends many messages.
+/// One that may have many senders, each of which sends many messages. Only `send` takes memory.
 pub trait SharedCore: MailboxCore {
     /// Whether no further sender can be made.
     fn is_crowded(&self) -> bool
@@ -68,7 +74,7 @@ pub trait SharedCore: MailboxCore {
         ensures err { OnErr result (Self.mailbox_of self.new ≡ Self.mailbox_of self.old) };
 }
 
-/// One for one message, whose sender is gone with it.
+/// One for one message, whose sender is gone with it. Its calls take no memory.
 pub trait SingleCore: MailboxCore {
     /// Sends the message, and tells whether anybody will receive it; the sender is gone.
     fn send_last(&mut self, message: u64) -> bool

@@ -1,18 +1,17 @@
-ghost use Rattle.std.specs.Prelude.{◌≡◌, ◌≤◌, ◌==◌, OnErr, IfOk, IfSome, is_some, None, Some, true, false, not, if◌then◌else◌};
-ghost use Rattle.std.specs.FinMap as map;
-ghost use Rattle.mea_family.specs.Play.{PartYields, PartRests};
-ghost use Rattle.mea_chan_model.specs.Mailboxes.{no_mailboxes, is_channel, is_sender, is_there, is_receiver, senders_beside, registered};
-ghost use Rattle.mea_chan_model.specs.MailboxActions.{act_in, cause_in, Make, Copy, Send, SendLast, EndSender, Receive, Poll, EndReceiver, Turn, TellClosed, TellOver, TellMessage};
+ghost use Rattle.std.specs.Prelude.{◌≡◌, ◌≢◌, ◌≤◌, IfSome, is_some, Some, if◌then◌else◌};
+ghost use Rattle.mea_chan_model.specs.Mailboxes.{no_mailboxes, is_channel, is_receiver, registered};
+ghost use Rattle.mea_chan_model.specs.MailboxActions.{cause_in, Make, Copy, Send, SendLast, EndSender, Receive, Poll, EndReceiver, Turn, TellClosed, TellOver, TellMessage};
 ghost use Rattle.mea_chan_model.specs.Valid.{AreValid};
-ghost use Rattle.mea_chan.specs.Cores.{new_core};
+ghost use Rattle.mea_chan.specs.Actions.{mail_action, shared_action, single_action, MailActs, MailActsQuietly};
 ghost use Rattle.mea_chan.specs.Lends.{StandsFor};
 
+use crate::actions::{MailAction, SharedAction, SingleAction};
 use crate::channel_entry::ChannelEntry;
 use crate::mailbox_core::{MailboxCore, SharedCore, SingleCore};
-use crate::receiver_entry::ReceiverEntry;
-use mea_base::{NoMemory, Ready};
+use crate::receiver_entry::{ReceiverEntry, receiver_in};
+use mea_base::Ready;
 use mea_by_name::ByName;
-use mea_family::{Answer, Stop, overflow_if, yes_if};
+use mea_family::{Answer, Stop, overflow_if, unknown_unless, yes_if};
 use std::alloc::Global;
 use std::marker::Model;
 
@@ -25,6 +24,7 @@ pub struct MailboxPart<C: MailboxCore> {
     senders: ByName<u64>,
     receivers: ByName<ReceiverEntry>,
     next: u128,
+    alloc: Global,
 }
 
 impl<C: MailboxCore> Model for MailboxPart<C> {
@@ -52,32 +52,17 @@ impl<C: MailboxCore> MailboxPart<C> {
             senders: ByName::new(alloc),
             receivers: ByName::new(alloc),
             next: 0,
+            alloc,
         }
     }
 
-    /// The core of a channel of which a sender or the receiver lives.
+    /// The core of a channel of which a sender or the receiver lives. It takes no memory.
     pub fn core(&self, o: u64) -> Option<&C>
         ensures there { is_some result ≡ is_channel self.now.hall o }
         ensures stands { IfSome result (λ core. StandsFor self.now.hall o (C.mailbox_of core.now)) }
     {
         let entry = self.channels.get(o)?;
         Some(entry.core())
-    }
-
-    pub fn is_sender(&self, s: u64) -> bool
-        ensures { result ≡ is_sender self.now.hall s }
-    {
-        self.senders.has(s)
-    }
-
-    /// Whether it is a receiver that can be polled, or cannot.
-    pub fn is_receiver(&self, r: u64, polls: bool) -> bool
-        ensures { result ≡ is_receiver self.now.hall r polls }
-    {
-        match self.receivers.get(r) {
-            Some(receiver) => is_as(receiver.polls, polls),
-            None => false,
-        }
     }
 
     /// The channels have the senders and receivers that live. It does nothing.
@@ -87,15 +72,53 @@ impl<C: MailboxCore> MailboxPart<C> {
         let _next = self.next;
     }
 
-    /// Makes a channel of a new core, with a sender and a receiver. On an error nothing has changed.
-    pub fn make(&mut self, number: u64, core: C, polls: bool) -> Result<Answer, NoMemory>
+    // Why an action is refused; None where it is not.
+    fn cause(&self, action: MailAction) -> Option<Stop>
+        ensures { result ≡ cause_in self.now.hall (mail_action C.falls action) }
+    {
+        match action {
+            MailAction::Make(_) => None,
+            MailAction::EndSender(s) => unknown_unless(self.senders.has(s)),
+            MailAction::Receive(r, polls) => unknown_unless(self.is_receiver(r, polls)),
+            MailAction::Poll(r, _) => unknown_unless(self.is_receiver(r, true)),
+            MailAction::EndReceiver(r, polls) => unknown_unless(self.is_receiver(r, polls)),
+        }
+    }
+
+    // Does an action, or finds why it is refused. On an error nothing has changed.
+    fn act(
+        &mut self,
+        number: u64,
+        action: MailAction,
+        ready: &mut Ready<u64>,
+    ) -> Result<Answer, Stop>
         requires next { self.old.next ≤ number }
-        requires new { C.mailbox_of core ≡ new_core }
-        ensures ok { IfOk result (λ answer. PartRests registered self.old number (act_in self.old.hall number (Make polls)) answer self.new) }
-        ensures err { OnErr result (self.new ≡ self.old) }
+        requires room { registered self.old.hall ≤ ready.old.registered }
+        ensures { MailActs self.old number (mail_action C.falls action) result self.new ready.old ready.new }
+    {
+        match action {
+            MailAction::Make(polls) => self.make(number, polls),
+            MailAction::EndSender(s) => self.end_sender(number, s, ready),
+            MailAction::Receive(r, polls) => self.receive(number, r, polls),
+            MailAction::Poll(r, waker) => self.poll(number, r, waker, ready),
+            MailAction::EndReceiver(r, polls) => self.end_receiver(number, r, polls, ready),
+        }
+    }
+
+    // Whether it is a receiver that can be polled, or cannot.
+    fn is_receiver(&self, r: u64, polls: bool) -> bool
+        ensures { result ≡ is_receiver self.now.hall r polls }
+    {
+        receiver_in(&self.receivers, r, polls).is_some()
+    }
+
+    // Makes a channel, with a sender and a receiver. On an error nothing has changed.
+    fn make(&mut self, number: u64, polls: bool) -> Result<Answer, Stop>
+        requires next { self.old.next ≤ number }
+        ensures { MailActsQuietly self.old number (Make polls) result self.new }
     {
         let Ok(()) = self.senders.insert(number, number) else {
-            return Err(NoMemory);
+            return Err(Stop::NoMemory);
         };
         let receiver = ReceiverEntry {
             channel: number,
@@ -103,93 +126,130 @@ impl<C: MailboxCore> MailboxPart<C> {
         };
         let Ok(()) = self.receivers.insert(number, receiver) else {
             let _ = self.senders.remove(number);
-            return Err(NoMemory);
+            return Err(Stop::NoMemory);
         };
-        let Ok(()) = self.channels.insert(number, ChannelEntry::new(core)) else {
+        let entry = ChannelEntry::new(C::make(self.alloc));
+        let Ok(()) = self.channels.insert(number, entry) else {
             let _ = self.senders.remove(number);
             let _ = self.receivers.remove(number);
-            return Err(NoMemory);
+            return Err(Stop::NoMemory);
         };
         self.next = number as u128 + 1;
         Ok(Answer::Made)
     }
 
-    /// Ends a sender. It takes no memory.
-    pub fn end_sender(&mut self, number: u64, s: u64, ready: &mut Ready<u64>) -> Answer
+    // Ends a sender. It takes no memory.
+    fn end_sender(&mut self, number: u64, s: u64, ready: &mut Ready<u64>) -> Result<Answer, Stop>
         requires next { self.old.next ≤ number }
-        requires there { is_sender self.old.hall s ≡ true }
         requires room { registered self.old.hall ≤ ready.old.registered }
-        ensures { PartYields registered self.old number (act_in self.old.hall number (EndSender s)) result self.new ready.old ready.new }
+        ensures { MailActs self.old number (EndSender s) result self.new ready.old ready.new }
     {
-        let o = self.senders.remove(s);
+        let Some(o) = self.senders.take(s) else {
+            return Err(Stop::Unknown);
+        };
         let entry = self.channels.at_mut(o);
         entry.end_sender(ready);
         let over = entry.is_over();
         self.channels.remove_if(o, over);
         self.next = number as u128 + 1;
-        Answer::Done
+        Ok(Answer::Done)
     }
 
-    /// Takes the first message of a receiver, that can be polled or cannot. It takes no memory.
-    pub fn receive(&mut self, number: u64, r: u64, polls: bool) -> Answer
+    // Takes the first message of a receiver, that can be polled or cannot. It takes no memory.
+    fn receive(&mut self, number: u64, r: u64, polls: bool) -> Result<Answer, Stop>
         requires next { self.old.next ≤ number }
-        requires there { is_receiver self.old.hall r polls ≡ true }
-        ensures { PartRests registered self.old number (act_in self.old.hall number (Receive r polls)) result self.new }
+        ensures { MailActsQuietly self.old number (Receive r polls) result self.new }
     {
-        let o = self.receivers.at(r).channel;
-        let answer = self.channels.at_mut(o).receive();
+        let Some(receiver) = receiver_in(&self.receivers, r, polls) else {
+            return Err(Stop::Unknown);
+        };
+        let answer = self.channels.at_mut(receiver.channel).receive();
         self.next = number as u128 + 1;
-        answer
+        Ok(answer)
     }
 
-    /// Polls a receiver. On an error nothing has changed.
-    pub fn poll(
+    // Polls a receiver. On an error nothing has changed.
+    fn poll(
         &mut self,
         number: u64,
         r: u64,
         waker: u64,
         ready: &mut Ready<u64>,
-    ) -> Result<Answer, NoMemory>
+    ) -> Result<Answer, Stop>
         requires next { self.old.next ≤ number }
-        requires there { is_receiver self.old.hall r true ≡ true }
-        ensures ok { IfOk result (λ answer. PartYields registered self.old number (act_in self.old.hall number (Poll r waker)) answer self.new ready.old ready.new) }
-        ensures err { OnErr result ((self.new ≡ self.old) × (ready.new ≡ ready.old)) }
+        ensures { MailActs self.old number (Poll r waker) result self.new ready.old ready.new }
     {
-        let o = self.receivers.at(r).channel;
-        let Ok(answer) = self.channels.at_mut(o).poll(waker, ready) else {
-            return Err(NoMemory);
+        let Some(receiver) = receiver_in(&self.receivers, r, true) else {
+            return Err(Stop::Unknown);
+        };
+        let entry = self.channels.at_mut(receiver.channel);
+        let Ok(answer) = entry.poll(waker, ready) else {
+            return Err(Stop::NoMemory);
         };
         self.next = number as u128 + 1;
         Ok(answer)
     }
 
-    /// Ends a receiver, that can be polled or cannot. It takes no memory.
-    pub fn end_receiver(
+    // Ends a receiver, that can be polled or cannot. It takes no memory.
+    fn end_receiver(
         &mut self,
         number: u64,
         r: u64,
         polls: bool,
         ready: &mut Ready<u64>,
-    ) -> Answer
+    ) -> Result<Answer, Stop>
         requires next { self.old.next ≤ number }
-        requires there { is_receiver self.old.hall r polls ≡ true }
         requires room { registered self.old.hall ≤ ready.old.registered }
-        ensures { PartYields registered self.old number (act_in self.old.hall number (EndReceiver r polls C.falls)) result self.new ready.old ready.new }
+        ensures { MailActs self.old number (EndReceiver r polls C.falls) result self.new ready.old ready.new }
     {
-        let o = self.receivers.remove(r).channel;
+        let Some(receiver) = receiver_in(&self.receivers, r, polls) else {
+            return Err(Stop::Unknown);
+        };
+        let _ = self.receivers.remove(r);
+        let o = receiver.channel;
         let entry = self.channels.at_mut(o);
         entry.end_receiver(ready);
         let over = entry.is_over();
         self.channels.remove_if(o, over);
         self.next = number as u128 + 1;
-        Answer::Done
+        Ok(Answer::Done)
     }
 }
 
 impl<C: SharedCore> MailboxPart<C> {
-    /// Why a further sender is refused: the one beside it is unknown, or the channel has as many as it may have.
-    pub fn cause_of_copy(&self, s: u64) -> Option<Stop>
-        ensures { result ≡ cause_in self.now.hall (Copy s) }
+    /// Why an action is refused; None where it is not. It takes no memory.
+    pub fn cause_shared(&self, action: SharedAction) -> Option<Stop>
+        ensures { result ≡ cause_in self.now.hall (shared_action C.falls action) }
+    {
+        match action {
+            SharedAction::Mail(action) => self.cause(action),
+            SharedAction::Copy(s) => self.cause_of_copy(s),
+            SharedAction::Send(s, _) => unknown_unless(self.senders.has(s)),
+        }
+    }
+
+    /// Does an action, or finds why it is refused. On an error nothing has changed.
+    pub fn act_shared(
+        &mut self,
+        number: u64,
+        action: SharedAction,
+        ready: &mut Ready<u64>,
+    ) -> Result<Answer, Stop>
+        requires next { self.old.next ≤ number }
+        requires room { registered self.old.hall ≤ ready.old.registered }
+        ensures { MailActs self.old number (shared_action C.falls action) result self.new ready.old ready.new }
+    {
+        match action {
+            SharedAction::Mail(action) => self.act(number, action, ready),
+            SharedAction::Copy(s) => self.copy(number, s),
+            SharedAction::Send(s, message) => self.send(number, s, message, ready),
+        }
+    }
+
+    // Why a further sender is refused: the one beside it is unknown, or the channel has as many as it may have.
+    fn cause_of_copy(&self, s: u64) -> Option<Stop>
+        ensures is { result ≡ cause_in self.now.hall (Copy s) }
+        ensures tells { result ≢ Some Stop.NoMemory }
     {
         match self.senders.get(s) {
             Some(o) => overflow_if(self.channels.at(*o).is_crowded()),
@@ -197,39 +257,40 @@ impl<C: SharedCore> MailboxPart<C> {
         }
     }
 
-    /// Makes a further sender. On an error nothing has changed.
-    pub fn copy(&mut self, number: u64, s: u64) -> Result<Answer, NoMemory>
+    // Makes a further sender. On an error nothing has changed.
+    fn copy(&mut self, number: u64, s: u64) -> Result<Answer, Stop>
         requires next { self.old.next ≤ number }
-        requires allowed { cause_in self.old.hall (Copy s) ≡ None }
-        ensures ok { IfOk result (λ answer. PartRests registered self.old number (act_in self.old.hall number (Copy s)) answer self.new) }
-        ensures err { OnErr result (self.new ≡ self.old) }
+        ensures { MailActsQuietly self.old number (Copy s) result self.new }
     {
+        if let Some(stop) = self.cause_of_copy(s) {
+            return Err(stop);
+        }
         let o = *self.senders.at(s);
         let Ok(()) = self.senders.insert(number, o) else {
-            return Err(NoMemory);
+            return Err(Stop::NoMemory);
         };
         self.channels.at_mut(o).add_sender();
         self.next = number as u128 + 1;
         Ok(Answer::Made)
     }
 
-    /// Sends a message. On an error nothing has changed.
-    pub fn send(
+    // Sends a message. On an error nothing has changed.
+    fn send(
         &mut self,
         number: u64,
         s: u64,
         message: u64,
         ready: &mut Ready<u64>,
-    ) -> Result<Answer, NoMemory>
+    ) -> Result<Answer, Stop>
         requires next { self.old.next ≤ number }
-        requires there { is_sender self.old.hall s ≡ true }
         requires room { registered self.old.hall ≤ ready.old.registered }
-        ensures ok { IfOk result (λ answer. PartYields registered self.old number (act_in self.old.hall number (Send s message)) answer self.new ready.old ready.new) }
-        ensures err { OnErr result ((self.new ≡ self.old) × (ready.new ≡ ready.old)) }
+        ensures { MailActs self.old number (Send s message) result self.new ready.old ready.new }
     {
-        let o = *self.senders.at(s);
-        let Ok(sent) = self.channels.at_mut(o).send(message, ready) else {
-            return Err(NoMemory);
+        let Some(o) = self.senders.get(s) else {
+            return Err(Stop::Unknown);
+        };
+        let Ok(sent) = self.channels.at_mut(*o).send(message, ready) else {
+            return Err(Stop::NoMemory);
         };
         self.next = number as u128 + 1;
         Ok(answer_of_send(sent, message))
@@ -237,83 +298,124 @@ impl<C: SharedCore> MailboxPart<C> {
 }
 
 impl<C: SingleCore> MailboxPart<C> {
-    /// Sends the message; the sender is gone. It takes no memory.
-    pub fn send_last(&mut self, number: u64, s: u64, message: u64, ready: &mut Ready<u64>) -> Answer
-        requires next { self.old.next ≤ number }
-        requires there { is_sender self.old.hall s ≡ true }
-        requires room { registered self.old.hall ≤ ready.old.registered }
-        ensures { PartYields registered self.old number (act_in self.old.hall number (SendLast s message)) result self.new ready.old ready.new }
+    /// Why an action is refused; None where it is not. It takes no memory.
+    pub fn cause_single(&self, action: SingleAction) -> Option<Stop>
+        ensures { result ≡ cause_in self.now.hall (single_action C.falls action) }
     {
-        let o = self.senders.remove(s);
+        match action {
+            SingleAction::Mail(action) => self.cause(action),
+            SingleAction::SendLast(s, _) | SingleAction::TellClosed(s) => unknown_unless(
+                self.senders.has(s),
+            ),
+            SingleAction::Turn(r) => unknown_unless(self.is_receiver(r, false)),
+            SingleAction::TellOver(r) | SingleAction::TellMessage(r) => unknown_unless(
+                self.is_receiver(r, false),
+            ),
+        }
+    }
+
+    /// Does an action, or finds why it is refused. On an error nothing has changed.
+    pub fn act_single(
+        &mut self,
+        number: u64,
+        action: SingleAction,
+        ready: &mut Ready<u64>,
+    ) -> Result<Answer, Stop>
+        requires next { self.old.next ≤ number }
+        requires room { registered self.old.hall ≤ ready.old.registered }
+        ensures { MailActs self.old number (single_action C.falls action) result self.new ready.old ready.new }
+    {
+        match action {
+            SingleAction::Mail(action) => self.act(number, action, ready),
+            SingleAction::SendLast(s, message) => self.send_last(number, s, message, ready),
+            SingleAction::Turn(r) => self.turn(number, r),
+            SingleAction::TellClosed(s) => self.tell_closed(number, s),
+            SingleAction::TellOver(r) => self.tell_over(number, r),
+            SingleAction::TellMessage(r) => self.tell_message(number, r),
+        }
+    }
+
+    // Sends the message; the sender is gone. It takes no memory.
+    fn send_last(
+        &mut self,
+        number: u64,
+        s: u64,
+        message: u64,
+        ready: &mut Ready<u64>,
+    ) -> Result<Answer, Stop>
+        requires next { self.old.next ≤ number }
+        requires room { registered self.old.hall ≤ ready.old.registered }
+        ensures { MailActs self.old number (SendLast s message) result self.new ready.old ready.new }
+    {
+        let Some(o) = self.senders.take(s) else {
+            return Err(Stop::Unknown);
+        };
         let entry = self.channels.at_mut(o);
         let sent = entry.send_last(message, ready);
         let over = entry.is_over();
         self.channels.remove_if(o, over);
         self.next = number as u128 + 1;
-        answer_of_send(sent, message)
+        Ok(answer_of_send(sent, message))
     }
 
-    /// Makes a receiver a future. On an error nothing has changed.
-    pub fn turn(&mut self, number: u64, r: u64) -> Result<Answer, NoMemory>
+    // Makes a receiver a future. On an error nothing has changed.
+    fn turn(&mut self, number: u64, r: u64) -> Result<Answer, Stop>
         requires next { self.old.next ≤ number }
-        requires there { is_receiver self.old.hall r false ≡ true }
-        ensures ok { IfOk result (λ answer. PartRests registered self.old number (act_in self.old.hall number (Turn r)) answer self.new) }
-        ensures err { OnErr result (self.new ≡ self.old) }
+        ensures { MailActsQuietly self.old number (Turn r) result self.new }
     {
-        let channel = self.receivers.at(r).channel;
+        let Some(receiver) = receiver_in(&self.receivers, r, false) else {
+            return Err(Stop::Unknown);
+        };
         let future = ReceiverEntry {
-            channel,
+            channel: receiver.channel,
             polls: true,
         };
         let Ok(()) = self.receivers.insert(number, future) else {
-            return Err(NoMemory);
+            return Err(Stop::NoMemory);
         };
         let _ = self.receivers.remove(r);
         self.next = number as u128 + 1;
         Ok(Answer::Made)
     }
 
-    /// Tells a sender whether the receiver has ended. It takes no memory.
-    pub fn tell_closed(&mut self, number: u64, s: u64) -> Answer
+    // Tells a sender whether the receiver has ended. It takes no memory.
+    fn tell_closed(&mut self, number: u64, s: u64) -> Result<Answer, Stop>
         requires next { self.old.next ≤ number }
-        requires there { is_sender self.old.hall s ≡ true }
-        ensures { PartRests registered self.old number (act_in self.old.hall number (TellClosed s)) result self.new }
+        ensures { MailActsQuietly self.old number (TellClosed s) result self.new }
     {
-        let o = *self.senders.at(s);
-        let closed = self.channels.at(o).is_closed();
+        let Some(o) = self.senders.get(s) else {
+            return Err(Stop::Unknown);
+        };
+        let closed = self.channels.at(*o).is_closed();
         self.next = number as u128 + 1;
-        yes_if(closed)
+        Ok(yes_if(closed))
     }
 
-    /// Tells a receiver whether no message will come any more. It takes no memory.
-    pub fn tell_over(&mut self, number: u64, r: u64) -> Answer
+    // Tells a receiver whether no message will come any more. It takes no memory.
+    fn tell_over(&mut self, number: u64, r: u64) -> Result<Answer, Stop>
         requires next { self.old.next ≤ number }
-        requires there { is_receiver self.old.hall r false ≡ true }
-        ensures { PartRests registered self.old number (act_in self.old.hall number (TellOver r)) result self.new }
+        ensures { MailActsQuietly self.old number (TellOver r) result self.new }
     {
-        let o = self.receivers.at(r).channel;
-        let over = self.channels.at(o).is_disconnected();
+        let Some(receiver) = receiver_in(&self.receivers, r, false) else {
+            return Err(Stop::Unknown);
+        };
+        let over = self.channels.at(receiver.channel).is_disconnected();
         self.next = number as u128 + 1;
-        yes_if(over)
+        Ok(yes_if(over))
     }
 
-    /// Tells a receiver whether the message is there. It takes no memory.
-    pub fn tell_message(&mut self, number: u64, r: u64) -> Answer
+    // Tells a receiver whether the message is there. It takes no memory.
+    fn tell_message(&mut self, number: u64, r: u64) -> Result<Answer, Stop>
         requires next { self.old.next ≤ number }
-        requires there { is_receiver self.old.hall r false ≡ true }
-        ensures { PartRests registered self.old number (act_in self.old.hall number (TellMessage r)) result self.new }
+        ensures { MailActsQuietly self.old number (TellMessage r) result self.new }
     {
-        let o = self.receivers.at(r).channel;
-        let there = self.channels.at(o).has_message();
+        let Some(receiver) = receiver_in(&self.receivers, r, false) else {
+            return Err(Stop::Unknown);
+        };
+        let there = self.channels.at(receiver.channel).has_message();
         self.next = number as u128 + 1;
-        yes_if(there)
+        Ok(yes_if(there))
     }
-}
-
-fn is_as(polls: bool, wanted: bool) -> bool
-    ensures { result ≡ (if wanted then polls else not polls) }
-{
-    polls == wanted
 }
 
 fn answer_of_send(sent: bool, message: u64) -> Answer

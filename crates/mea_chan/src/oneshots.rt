@@ -1,6 +1,7 @@
 use crate::mailbox_core::{MailboxCore, SingleCore};
 use mea_base::{NoMemory, Poll};
 use mea_chan_core::{OneshotCore, RecvError, TryRecvError};
+use std::alloc::Global;
 
 impl MailboxCore for OneshotCore<u64, u64> {
     ghost use Rattle.std.specs.Prelude.{true};
@@ -9,6 +10,10 @@ impl MailboxCore for OneshotCore<u64, u64> {
     ghost mailbox_of = { of_oneshot };
 
     ghost falls = { true };
+
+    fn make(_alloc: Global) -> Self {
+        OneshotCore::new()
+    }
 
     fn waiting(&self) -> usize {
         usize::from(self.is_waiting())

@@ -21,7 +21,7 @@ impl Model for SendEntry {
 }
 
 impl SendEntry {
-    /// A send that was never polled.
+    /// A send that was never polled. It takes no memory.
     pub fn new(sender: u64, channel: u64, value: u64) -> Self
         ensures { result ≡ record { sender = sender; channel = channel; value = Some value; acquire = acquire.New 1 } }
     {
@@ -32,14 +32,14 @@ impl SendEntry {
         }
     }
 
-    /// The name of its sender.
+    /// The name of its sender. It takes no memory.
     pub fn sender(&self) -> u64
         ensures { result ≡ self.now.sender }
     {
         self.sender
     }
 
-    /// The name of its channel.
+    /// The name of its channel. It takes no memory.
     pub fn channel(&self) -> u64
         ensures { result ≡ self.now.channel }
     {

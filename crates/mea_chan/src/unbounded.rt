@@ -1,6 +1,7 @@
 use crate::mailbox_core::{MailboxCore, SharedCore};
 use mea_base::{NoMemory, Poll};
 use mea_chan_core::{RecvError, TryRecvError, UnboundedCore, UnboundedError};
+use std::alloc::Global;
 
 impl MailboxCore for UnboundedCore<u64, u64> {
     ghost use Rattle.std.specs.Prelude.{false};
@@ -8,6 +9,10 @@ impl MailboxCore for UnboundedCore<u64, u64> {
     ghost mailbox_of = { λ m. m };
 
     ghost falls = { false };
+
+    fn make(alloc: Global) -> Self {
+        UnboundedCore::new(alloc)
+    }
 
     fn waiting(&self) -> usize {
         usize::from(self.is_waiting())

@@ -1,15 +1,15 @@
 -- what each event does to broadcast channels, as they are kept and as they are seen
-use Rattle.std.proofs.Common.{◌≡◌, ℕ, ◌+◌, ◌-◌, ◌<◌, ◌≤◌, ◌^◌, ◌==◌, ◌++◌, Bool, true, false, length, [], Option, Some, None, is_some, refl, ap, sym, subst, ◌∙◌, arith, append-nil, nat_lt, if◌then◌else◌}
+use Rattle.std.proofs.Common.{◌≡◌, ℕ, ◌+◌, ◌-◌, ◌<◌, ◌≤◌, ◌^◌, ◌==◌, ◌++◌, Bool, true, false, length, [], Option, Some, None, is_some, refl, ap, sym, subst, ◌∙◌, inr, arith, append-nil, nat_lt, if◌then◌else◌}
 use Rattle.std.specs.Int.{IsNextPowerOfTwo}
 use Rattle.std.specs.Option.{IsSome, option_map}
-use Rattle.std.specs.Prelude.{◌↔◌, Result, Ok, Err, IsErr, OnOk, IfOk}
-use Rattle.mea_base.specs.declared.no_memory.NoMemory.{NoMemory}
+use Rattle.std.specs.Prelude.{◌↔◌, Result, Ok, Err, IsErr, OnOk, IfOk, IfErr}
 use Rattle.mea_base.specs.declared.overflow.Overflow.{Overflow}
 use Rattle.std.specs.FinMap.{get, insert, remove, empty}
 use Rattle.std.proofs.lemmas.Bool.{eqb-true, eq-eqb}
 use Rattle.std.proofs.lemmas.Bool.Decides.{nat_tests}
 use Rattle.mea_family.specs.declared.answer.Answer.{Answer}
 use Rattle.mea_family.specs.declared.answer.Answer.TheVariants as answers
+use Rattle.mea_family.specs.declared.stop.Stop.{Stop}
 use Rattle.mea_family.specs.declared.stop.Stop.TheVariants as stops
 use Rattle.mea_family.specs.Family.{Outcome, quietly, is_pending}
 use Rattle.mea_base.specs.Ready.{Waking}
@@ -39,6 +39,7 @@ use Rattle.mea_chan_broadcast.specs.declared.broadcast_entry.BroadcastEntry.{Bro
 use Rattle.mea_chan_broadcast.specs.declared.listener_entry.ListenerEntry.{ListenerEntry}
 use Rattle.mea_chan_broadcast.specs.declared.recv_entry.RecvEntry.{RecvEntry}
 use Rattle.mea_chan_broadcast.specs.BroadcastCores.{NamedBroadcast, kept_by, handed_on, HandsOn, heard_told, moved_to, Polls, PollsAtTail, IsPolled}
+use Rattle.mea_chan_broadcast.specs.Actions.{IsFreeBroadcast, BroadcastActsQuietly}
 use Rattle.mea_chan_broadcast.specs.BroadcastParts.{core_seen, broadcast_seen, listener_seen, hearing_seen, broadcasts_seen, of_channel, slots_of, AreLinked, AreKeptBroadcasts}
 use Rattle.mea_chan_broadcast.specs.BroadcastLends.{StandsForBroadcast}
 use Rattle.mea_chan_broadcast.proofs.Seeing.{length-names, seen_less, woken_sent, woken_less, as_stands, stands_is, kept_in, registered_is, ring_is}
@@ -49,6 +50,15 @@ seen_none f m k none = is_absent (get m k) (λ some. let it = value_in (get m k)
 
 seen_some : {X Y : Type 0} (f : X → Y) (m : Names X) (k : ℕ) → IsSome (get (seen f m) k) → IsSome (get m k)
 seen_some f m k some = let it = value_in (get (seen f m) k) some in let back = seen-back f m k it.0 it.1 in is_there (get m k) back.0 back.1
+
+-- a ring of this size may be made
+pub opens_allowed : (h : Broadcasts) (m : ℕ) → 0 < m → m ≤ most_size → broadcast_cause h (Open m) ≡ None
+opens_allowed h m some few = at (m == 0) (nat_lt most_size m) refl refl
+  where
+    at : (a b : Bool) → (m == 0) ≡ a → nat_lt most_size m ≡ b → (if a then Some stops.Zero else if b then Some stops.Overflow else None) ≡ None
+    at true b zero _ = absurd (let none = eqb-true m 0 zero in omega (arith, none, some))
+    at false true _ big = absurd (let more : most_size < m = grind (arith, nat_tests, big) in omega (arith, more, few))
+    at false false _ _ = refl
 
 -- ---- nothing
 pub new_kept : AreKeptBroadcasts empty empty empty empty 0
@@ -161,6 +171,13 @@ module _ {old : Part Broadcasts} {i : ℕ} (s : Site old i) where
 
   pub future_there : (f : ℕ) → is_hearing old.hall f ≡ true → IsSome (get s.ys f)
   future_there f is = seen_some hearing_seen s.ys f (ap (λ (p : Part Broadcasts). is_hearing p.hall f) s.view ∙ is)
+
+  pub copier_there : (k : ℕ) → broadcast_cause old.hall (AddSender k) ≡ None → IsSome (get s.ss k)
+  copier_there k allowed = sender_there k (at (is_sender old.hall k) refl allowed)
+    where
+      at : (b : Bool) → is_sender old.hall k ≡ b → (if b then (if senders_in (channel_of old.hall (get old.hall.senders k)) == most_senders then Some stops.Overflow else None) else Some stops.Unknown) ≡ None → is_sender old.hall k ≡ true
+      at true is says = is
+      at false is says = absurd (cc)
 
   usable_there : (r : ℕ) → unusable (get (seen listener_seen s.xs) r) ≡ None → IsSome (get s.xs r)
   usable_there r is = seen_some listener_seen s.xs r (at (get (seen listener_seen s.xs) r) is)
@@ -277,14 +294,6 @@ module _ {old : Part Broadcasts} {i : ℕ} (s : Site old i) where
     abbrev opened : BroadcastEntry
     opened = record { core = core; receivers = 1 }
 
-    opens_allowed : broadcast_cause h (Open m) ≡ None
-    opens_allowed = at (m == 0) (nat_lt most_size m) refl refl
-      where
-        at : (a b : Bool) → (m == 0) ≡ a → nat_lt most_size m ≡ b → (if a then Some stops.Zero else if b then Some stops.Overflow else None) ≡ None
-        at true b zero _ = absurd (let none = eqb-true m 0 zero in omega (arith, none, some))
-        at false true _ big = absurd (let more : most_size < m = grind (arith, nat_tests, big) in omega (arith, more, few))
-        at false false _ _ = refl
-
     opened_seen : broadcast_seen opened ≡ new_broadcast (ring_size m)
     opened_seen j = record { kept = new.kept j; tail = new.tail j; size = sym (ring_is m core.size some few power) j; senders = new.senders j; receivers = 1; waiting = set_names (new.waiting j) }
 
@@ -293,7 +302,7 @@ module _ {old : Part Broadcasts} {i : ℕ} (s : Site old i) where
         let nobody : own of_channel i s.ys ≡ empty = own-empty of_channel i s.ys (λ f y there mine. absurd (let some = futures_channel f y there in let none = ap is_some (ap (get s.es) (sym mine) ∙ no_channel) in let no = sym none ∙ some in cc)) in
         let nothing : weight (λ o (e : BroadcastEntry). kept_by e.core) i (get s.es i) ≡ 0 = ap (weight (λ o (e : BroadcastEntry). kept_by e.core) i) no_channel in
         let silent : kept_by core ≡ 0 = ap (λ s. length s.wakers) new.waiting in
-        rests_as fits (Open m) opens_allowed (model.make h i (ring_size m)) refl answers.Made refl (insert s.es i opened) (insert s.ss i i) (insert s.xs i x) s.ys
+        rests_as fits (Open m) (opens_allowed h m some few) (model.make h i (ring_size m)) refl answers.Made refl (insert s.es i opened) (insert s.ss i i) (insert s.xs i x) s.ys
         (seen-insert broadcast_seen s.es i opened ∙ ap (insert (seen broadcast_seen s.es) i) opened_seen) refl
         (seen-insert listener_seen s.xs i x ∙ ap (insert (seen listener_seen s.xs) i) (λ j. record { channel = mine j; cursor = (cursor ∙ new.tail) j; user = free j })) refl
         (links_turned s.es s.ys s.next i s.kept.links s.later i s.ys Stays opened (subst (λ w. SetLinked w (slots_of i s.ys) (i + 1)) (sym new.waiting) (fresh_linked i (i + 1) s.ys nobody)) new.wakes)
@@ -340,8 +349,16 @@ module _ {old : Part Broadcasts} {i : ℕ} (s : Site old i) where
     was_added (Ok u) d when added allowed = added
     was_added (Err x) d when added allowed = absurd (not_crowded allowed (when.0 refl))
 
-    pub not_full : (v : ℕ) → broadcast_cause old.hall (SendAll k v) ≡ None → e.core.tail ≡ last_tail → ⊥
-    not_full v allowed last = absurd (let no = sym (ap (λ b. if b then Some stops.Overflow else None) (eq-eqb e.core.tail last_tail last)) ∙ full_is v ∙ allowed in cc)
+    -- the last position is taken, or is not
+    pub full_as : (v : ℕ) → e.core.tail ≡ last_tail → broadcast_cause old.hall (SendAll k v) ≡ Some stops.Overflow
+    full_as v last = sym (full_is v) ∙ ap (λ b. if b then Some stops.Overflow else None) (eq-eqb e.core.tail last_tail last)
+
+    pub may_send : (v : ℕ) → (e.core.tail ≡ last_tail → ⊥) → broadcast_cause old.hall (SendAll k v) ≡ None
+    may_send v more = sym (full_is v) ∙ at (e.core.tail == last_tail) refl
+      where
+        at : (b : Bool) → (e.core.tail == last_tail) ≡ b → (if b then Some stops.Overflow else None) ≡ None
+        at true is = absurd (more (eqb-true e.core.tail last_tail is))
+        at false is = refl
 
     pub copied : i < 2 ^ 64 → (core' : NamedBroadcast) → core' ≡ record e.core { senders = e.core.senders + 1 } → (ss' : Names ℕ) → ss' ≡ insert s.ss i o → broadcast_cause old.hall (AddSender k) ≡ None
         → (AreKeptBroadcasts (insert s.es o (record e { core = core' })) ss' s.xs s.ys (i + 1)) × PartRests registered old i (broadcast_act old.hall i (AddSender k)) answers.Made (part_of (insert s.es o (record e { core = core' })) ss' s.xs s.ys (i + 1))
@@ -391,6 +408,9 @@ module _ {old : Part Broadcasts} {i : ℕ} (s : Site old i) where
           silent_over over = none_kept_by (record e { core = handed_on (without_sender e.core) }) (subst (λ c. AreHeard c (own of_listener o (seen listener_seen s.xs)) (own of_hearing o (seen hearing_seen s.ys))) (sym (seen_less e.core e.receivers)) (sender_less (broadcast_seen e) _ _ (its_heard o e there))).silent over
 
   -- a look alone changes nothing
+  pub unsent : (o : ℕ) (e : BroadcastEntry) → get s.es o ≡ Some e → (AreKeptBroadcasts (insert s.es o e) s.ss s.xs s.ys s.next) × (part_of (insert s.es o e) s.ss s.xs s.ys s.next ≡ old)
+  unsent o e there = rw (insert_same s.es o e there) (s.kept, s.view)
+
   pub unheard : (r : ℕ) (x : ListenerEntry) (x' : ListenerEntry) → get s.xs r ≡ Some x → x' ≡ x → (AreKeptBroadcasts s.es s.ss (insert s.xs r x') s.ys s.next) × (part_of s.es s.ss (insert s.xs r x') s.ys s.next ≡ old)
   unheard r x x' receiver same = rw (same, insert_same s.xs r x receiver) (s.kept, s.view)
 
@@ -603,18 +623,21 @@ module _ {old : Part Broadcasts} (es : Names BroadcastEntry) (ss : Names ℕ) (x
   pub stands_for_it : (o : ℕ) (e : BroadcastEntry) → get es o ≡ Some e → StandsForBroadcast old.hall o e.core
   stands_for_it o e there = record { receivers = e.receivers; channel = ap (λ (p : Part Broadcasts). get p.hall.channels o) (sym view) ∙ seen-at broadcast_seen es o e there }
 
+  pub sender_is : (k : ℕ) (p : Option ℕ) → get ss k ≡ p → is_some p ≡ is_sender old.hall k
+  sender_is k p is = ap is_some (sym is) ∙ ap (λ (p : Part Broadcasts). is_sender p.hall k) view
+
+  pub unsendable_is : (k v : ℕ) → get ss k ≡ None → broadcast_cause old.hall (SendAll k v) ≡ Some stops.Unknown
+  unsendable_is k v none = ap (λ (p : Part Broadcasts). broadcast_cause p.hall (SendAll k v)) (sym view)
+      ∙ ap (λ p. if is_some p then (if tail_in (channel_of (broadcasts_seen es ss xs ys) p) == last_tail then Some stops.Overflow else None) else Some stops.Unknown) none
+
   pub future_is : (f : ℕ) (p : Option RecvEntry) → get ys f ≡ p → is_some p ≡ is_hearing old.hall f
   future_is f p is = ap is_some (sym is) ∙ sym (is_some-map hearing_seen (get ys f)) ∙ ap is_some (sym (get-seen (λ k y. hearing_seen y) ys f)) ∙ ap (λ (p : Part Broadcasts). is_hearing p.hall f) view
 
   pub unusable_is : (r : ℕ) (p : Option ListenerEntry) → get xs r ≡ p → unusable (option_map listener_seen p) ≡ unusable (get old.hall.receivers r)
   unusable_is r p is = ap (λ p. unusable (option_map listener_seen p)) (sym is) ∙ ap unusable (sym (get-seen (λ k x. listener_seen x) xs r)) ∙ ap (λ (p : Part Broadcasts). unusable (get p.hall.receivers r)) view
 
--- the channel of a receiver, looked up twice
-pub at_channel : (es : Names BroadcastEntry) (xs : Names ListenerEntry) (r : ℕ) (x z : ListenerEntry) (e : BroadcastEntry) → get xs r ≡ Some x → get xs r ≡ Some z → get es x.channel ≡ Some e → get es z.channel ≡ Some e
-at_channel es xs r x z e first second there = ap (λ (x : ListenerEntry). get es x.channel) (inside (sym second ∙ first)) ∙ there
-
--- a receiver was made as the event says
-pub joined_as : (old new : Part Broadcasts) (i o cursor : ℕ) (r : Result Answer NoMemory) (out : Outcome Broadcasts) (c : Broadcast) → get old.hall.channels o ≡ Some c → out ≡ model.join old.hall i cursor o c
-    → IfOk r (λ answer. (c : Broadcast) → get old.hall.channels o ≡ Some c → PartRests registered old i (model.join old.hall i cursor o c) answer new) → IfOk r (λ answer. PartRests registered old i out answer new)
-joined_as old new i o cursor (Ok answer) out c there is joined = subst (λ out. PartRests registered old i out answer new) (sym is) (joined c there)
-joined_as old new i o cursor (Err e) out c there is joined = tt
+-- a receiver was made as the event says, or there was no memory
+pub joined_as : (old new : Part Broadcasts) (i o cursor : ℕ) (a : BroadcastAction) (r : Result Answer Stop) (c : Broadcast) → broadcast_cause old.hall a ≡ None → (IsFreeBroadcast a → ⊥) → get old.hall.channels o ≡ Some c → broadcast_act old.hall i a ≡ model.join old.hall i cursor o c
+    → IfOk r (λ answer. (c : Broadcast) → get old.hall.channels o ≡ Some c → PartRests registered old i (model.join old.hall i cursor o c) answer new) → IfErr r (λ stop. (stop ≡ stops.NoMemory) × (new ≡ old)) → BroadcastActsQuietly old i a r new
+joined_as old new i o cursor a (Ok answer) c allowed costs there is joined lacks = (allowed, subst (λ out. PartRests registered old i out answer new) (sym is) (joined c there))
+joined_as old new i o cursor a (Err stop) c allowed costs there is joined lacks = (inr (allowed, lacks.0, costs), lacks.1)

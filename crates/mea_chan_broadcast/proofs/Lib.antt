@@ -1,3 +1,4 @@
-pub mod Seeing
-pub mod Linking
+pub mod Acting
 pub mod Events
+pub mod Linking
+pub mod Seeing

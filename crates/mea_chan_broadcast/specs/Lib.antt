@@ -1,3 +1,4 @@
+pub mod Actions
 pub mod BroadcastCores
 pub mod BroadcastParts
 pub mod BroadcastLends

@@ -1,22 +1,24 @@
-ghost use Rattle.std.specs.Prelude.{ℕ, ◌≡◌, ◌≤◌, ◌<◌, ◌==◌, OnErr, IfOk, IfSome, is_some, None, Some, true, false, if◌then◌else◌};
+ghost use Rattle.std.specs.Prelude.{ℕ, ◌≡◌, ◌≢◌, ◌≤◌, ◌<◌, IfOk, IfErr, IfSome, IfNone, is_some, None, Some, true, false, if◌then◌else◌};
 ghost use Rattle.std.specs.FinMap as map;
 ghost use Rattle.mea_family.specs.Family.{is_pending};
-ghost use Rattle.mea_family.specs.Play.{PartYields, PartRests};
+ghost use Rattle.mea_family.specs.Play.{PartRests};
 ghost use Rattle.std.specs.Int.{IsNextPowerOfTwo};
 ghost use Rattle.mea_broadcast_core.specs.Broadcast.{IsFresh};
 ghost use Rattle.mea_chan_model.specs.Broadcasts.{Broadcast, join, no_broadcasts, is_broadcast, is_sender, is_hearing, is_over, registered};
 ghost use Rattle.mea_chan_model.specs.BroadcastActions.{broadcast_cause, broadcast_act, unusable, Open, AddSender, SendAll, EndSender, Subscribe, Resubscribe, CopyReceiver, Hear, EndReceiver, BeginHear, PollHear, EndHear};
+ghost use Rattle.mea_chan_broadcast.specs.Actions.{broadcast_action, BroadcastActs, BroadcastActsQuietly};
 ghost use Rattle.mea_chan_broadcast.specs.BroadcastLends.{StandsForBroadcast};
 ghost use Rattle.mea_chan_broadcast.specs.BroadcastParts.{broadcast_seen};
 
+use crate::broadcast_action::BroadcastAction;
 use crate::broadcast_calls;
 use crate::broadcast_entry::BroadcastEntry;
 use crate::listener_entry::ListenerEntry;
 use crate::recv_entry::RecvEntry;
-use mea_base::{NoMemory, Ready};
+use mea_base::Ready;
 use mea_broadcast_core::{BroadcastCore, Cursor, RecvWait};
 use mea_by_name::{ByName, NamedWaker};
-use mea_family::{Answer, Stop, borrowed_if, overflow_if};
+use mea_family::{Answer, Stop, borrowed_if, overflow_if, unknown_unless};
 use std::alloc::Global;
 use std::marker::Model;
 
@@ -30,6 +32,7 @@ pub struct BroadcastPart {
     receivers: ByName<ListenerEntry>,
     futures: ByName<RecvEntry>,
     next: u128,
+    alloc: Global,
 }
 
 impl Model for BroadcastPart {
@@ -58,10 +61,11 @@ impl BroadcastPart {
             receivers: ByName::new(alloc),
             futures: ByName::new(alloc),
             next: 0,
+            alloc,
         }
     }
 
-    /// The core of a channel of which a sender or a receiver lives.
+    /// The core of a channel of which a sender or a receiver lives. It takes no memory.
     pub fn core(&self, o: u64) -> Option<&BroadcastCore<u64, NamedWaker>>
         ensures there { is_some result ≡ is_broadcast self.now.hall o }
         ensures stands { IfSome result (λ core. StandsForBroadcast self.now.hall o core.now) }
@@ -70,23 +74,65 @@ impl BroadcastPart {
         Some(&entry.core)
     }
 
-    /// Whether a sender has this name. It takes no memory.
-    pub fn is_sender(&self, s: u64) -> bool
-        ensures { result ≡ is_sender self.now.hall s }
+    /// Why an action is refused; None where it is not. It takes no memory.
+    pub fn cause(&self, action: BroadcastAction) -> Option<Stop>
+        ensures { result ≡ broadcast_cause self.now.hall (broadcast_action action) }
     {
-        self.senders.has(s)
+        match action {
+            BroadcastAction::Open(n) => cause_of_size(n),
+            BroadcastAction::AddSender(s) => self.cause_of_copy(s),
+            BroadcastAction::SendAll(s, _) => self.cause_of_send(s),
+            BroadcastAction::EndSender(s) | BroadcastAction::Subscribe(s) => unknown_unless(
+                self.senders.has(s),
+            ),
+            BroadcastAction::Resubscribe(r) | BroadcastAction::CopyReceiver(r) => self.cause_of_use(
+                r,
+            ),
+            BroadcastAction::Hear(r) | BroadcastAction::EndReceiver(r) => self.cause_of_use(r),
+            BroadcastAction::BeginHear(r) => self.cause_of_use(r),
+            BroadcastAction::PollHear(f, _) | BroadcastAction::EndHear(f) => unknown_unless(
+                self.is_future(f),
+            ),
+        }
     }
 
-    /// Whether a future has this name. It takes no memory.
-    pub fn is_future(&self, f: u64) -> bool
+    /// Does an action, or finds why it is refused. On an error nothing has changed.
+    pub fn act(
+        &mut self,
+        number: u64,
+        action: BroadcastAction,
+        ready: &mut Ready<u64>,
+    ) -> Result<Answer, Stop>
+        requires next { self.old.next ≤ number }
+        requires room { registered self.old.hall ≤ ready.old.registered }
+        ensures { BroadcastActs self.old number (broadcast_action action) result self.new ready.old ready.new }
+    {
+        match action {
+            BroadcastAction::Open(n) => self.make(number, n),
+            BroadcastAction::AddSender(s) => self.copy_sender(number, s),
+            BroadcastAction::SendAll(s, message) => self.send(number, s, message, ready),
+            BroadcastAction::EndSender(s) => self.end_sender(number, s, ready),
+            BroadcastAction::Subscribe(s) => self.subscribe(number, s),
+            BroadcastAction::Resubscribe(r) => self.resubscribe(number, r),
+            BroadcastAction::CopyReceiver(r) => self.copy_receiver(number, r),
+            BroadcastAction::Hear(r) => self.hear(number, r),
+            BroadcastAction::EndReceiver(r) => self.end_receiver(number, r),
+            BroadcastAction::BeginHear(r) => self.begin(number, r),
+            BroadcastAction::PollHear(f, waker) => self.poll(number, f, waker, ready),
+            BroadcastAction::EndHear(f) => self.end_future(number, f),
+        }
+    }
+
+    fn is_future(&self, f: u64) -> bool
         ensures { result ≡ is_hearing self.now.hall f }
     {
         self.futures.has(f)
     }
 
-    /// Why a further sender is refused: the one beside it is unknown, or the channel has as many as it may have.
-    pub fn cause_of_copy(&self, s: u64) -> Option<Stop>
-        ensures { result ≡ broadcast_cause self.now.hall (AddSender s) }
+    // Why a further sender is refused: the one beside it is unknown, or the channel has as many as it may have.
+    fn cause_of_copy(&self, s: u64) -> Option<Stop>
+        ensures is { result ≡ broadcast_cause self.now.hall (AddSender s) }
+        ensures tells { result ≢ Some Stop.NoMemory }
     {
         match self.senders.get(s) {
             Some(o) => overflow_if(self.channels.at(*o).core.senders() == usize::MAX),
@@ -94,8 +140,8 @@ impl BroadcastPart {
         }
     }
 
-    /// Why a message is refused: its sender is unknown, or the last position is taken.
-    pub fn cause_of_send(&self, s: u64) -> Option<Stop>
+    // Why a message is refused: its sender is unknown, or the last position is taken.
+    fn cause_of_send(&self, s: u64) -> Option<Stop>
         ensures { (message : ℕ) → result ≡ broadcast_cause self.now.hall (SendAll s message) }
     {
         match self.senders.get(s) {
@@ -104,9 +150,10 @@ impl BroadcastPart {
         }
     }
 
-    /// Why what is done by a receiver is refused: it is unknown, or a future uses it alone.
-    pub fn cause_of_use(&self, r: u64) -> Option<Stop>
-        ensures { result ≡ unusable (map.get self.now.hall.receivers r) }
+    // Why what is done by a receiver is refused: it is unknown, or a future uses it alone.
+    fn cause_of_use(&self, r: u64) -> Option<Stop>
+        ensures is { result ≡ unusable (map.get self.now.hall.receivers r) }
+        ensures tells { result ≢ Some Stop.NoMemory }
     {
         match self.receivers.get(r) {
             Some(receiver) => borrowed_if(receiver.user.is_some()),
@@ -114,17 +161,17 @@ impl BroadcastPart {
         }
     }
 
-    /// Makes a channel whose ring keeps `capacity` messages or more, with a sender and a receiver. On an error nothing
-    /// has changed.
-    pub fn make(&mut self, number: u64, alloc: Global, capacity: u64) -> Result<Answer, NoMemory>
+    // Makes a channel whose ring keeps `capacity` messages or more, with a sender and a receiver. On an error nothing has
+    // changed.
+    fn make(&mut self, number: u64, capacity: u64) -> Result<Answer, Stop>
         requires next { self.old.next ≤ number }
-        requires some { 0 < capacity }
-        requires few { capacity ≤ 9223372036854775808 }
-        ensures ok { IfOk result (λ answer. PartRests registered self.old number (broadcast_act self.old.hall number (Open capacity)) answer self.new) }
-        ensures err { OnErr result (self.new ≡ self.old) }
+        ensures { BroadcastActsQuietly self.old number (Open capacity) result self.new }
     {
-        let Ok(core) = BroadcastCore::new(alloc, capacity as usize) else {
-            return Err(NoMemory);
+        if let Some(stop) = cause_of_size(capacity) {
+            return Err(stop);
+        }
+        let Ok(core) = BroadcastCore::new(self.alloc, capacity as usize) else {
+            return Err(Stop::NoMemory);
         };
         self.place(number, core, capacity)
     }
@@ -135,13 +182,12 @@ impl BroadcastPart {
         number: u64,
         core: BroadcastCore<u64, NamedWaker>,
         capacity: u64,
-    ) -> Result<Answer, NoMemory>
+    ) -> Result<Answer, Stop>
         requires next { self.old.next ≤ number }
         requires new { IsFresh core 0 × IsNextPowerOfTwo capacity core.size }
         requires some { 0 < capacity }
         requires few { capacity ≤ 9223372036854775808 }
-        ensures ok { IfOk result (λ answer. PartRests registered self.old number (broadcast_act self.old.hall number (Open capacity)) answer self.new) }
-        ensures err { OnErr result (self.new ≡ self.old) }
+        ensures { BroadcastActsQuietly self.old number (Open capacity) result self.new }
     {
         let receiver = ListenerEntry {
             channel: number,
@@ -149,11 +195,11 @@ impl BroadcastPart {
             user: None,
         };
         let Ok(()) = self.senders.insert(number, number) else {
-            return Err(NoMemory);
+            return Err(Stop::NoMemory);
         };
         let Ok(()) = self.receivers.insert(number, receiver) else {
             let _ = self.senders.remove(number);
-            return Err(NoMemory);
+            return Err(Stop::NoMemory);
         };
         let Ok(()) = self
             .channels
@@ -161,88 +207,104 @@ impl BroadcastPart {
         else {
             let _ = self.senders.remove(number);
             let _ = self.receivers.remove(number);
-            return Err(NoMemory);
+            return Err(Stop::NoMemory);
         };
         self.next = number as u128 + 1;
         Ok(Answer::Made)
     }
 
-    /// Makes a further sender. On an error nothing has changed.
-    pub fn copy_sender(&mut self, number: u64, s: u64) -> Result<Answer, NoMemory>
+    // Makes a further sender. On an error nothing has changed.
+    fn copy_sender(&mut self, number: u64, s: u64) -> Result<Answer, Stop>
         requires next { self.old.next ≤ number }
-        requires allowed { broadcast_cause self.old.hall (AddSender s) ≡ None }
-        ensures ok { IfOk result (λ answer. PartRests registered self.old number (broadcast_act self.old.hall number (AddSender s)) answer self.new) }
-        ensures err { OnErr result (self.new ≡ self.old) }
+        ensures { BroadcastActsQuietly self.old number (AddSender s) result self.new }
     {
+        if let Some(stop) = self.cause_of_copy(s) {
+            return Err(stop);
+        }
         let o = *self.senders.at(s);
         let Ok(()) = self.senders.insert(number, o) else {
-            return Err(NoMemory);
+            return Err(Stop::NoMemory);
         };
         let _ = self.channels.at_mut(o).core.add_sender();
         self.next = number as u128 + 1;
         Ok(Answer::Made)
     }
 
-    /// Sends a message to all receivers. It takes no memory.
-    pub fn send(&mut self, number: u64, s: u64, message: u64, ready: &mut Ready<u64>) -> Answer
+    // Sends a message to all receivers. It takes no memory.
+    fn send(
+        &mut self,
+        number: u64,
+        s: u64,
+        message: u64,
+        ready: &mut Ready<u64>,
+    ) -> Result<Answer, Stop>
         requires next { self.old.next ≤ number }
-        requires allowed { broadcast_cause self.old.hall (SendAll s message) ≡ None }
         requires room { registered self.old.hall ≤ ready.old.registered }
-        ensures { PartYields registered self.old number (broadcast_act self.old.hall number (SendAll s message)) result self.new ready.old ready.new }
+        ensures { BroadcastActs self.old number (SendAll s message) result self.new ready.old ready.new }
     {
-        let o = *self.senders.at(s);
-        broadcast_calls::send(&mut self.channels.at_mut(o).core, message, ready);
+        let Some(o) = self.senders.get(s) else {
+            return Err(Stop::Unknown);
+        };
+        let entry = self.channels.at_mut(*o);
+        if entry.core.tail() == u64::MAX {
+            return Err(Stop::Overflow);
+        }
+        broadcast_calls::send(&mut entry.core, message, ready);
         self.next = number as u128 + 1;
-        Answer::Done
+        Ok(Answer::Done)
     }
 
-    /// Ends a sender. It takes no memory.
-    pub fn end_sender(&mut self, number: u64, s: u64, ready: &mut Ready<u64>) -> Answer
+    // Ends a sender. It takes no memory.
+    fn end_sender(&mut self, number: u64, s: u64, ready: &mut Ready<u64>) -> Result<Answer, Stop>
         requires next { self.old.next ≤ number }
-        requires there { is_sender self.old.hall s ≡ true }
         requires room { registered self.old.hall ≤ ready.old.registered }
-        ensures { PartYields registered self.old number (broadcast_act self.old.hall number (EndSender s)) result self.new ready.old ready.new }
+        ensures { BroadcastActs self.old number (EndSender s) result self.new ready.old ready.new }
     {
-        let o = self.senders.remove(s);
+        let Some(o) = self.senders.take(s) else {
+            return Err(Stop::Unknown);
+        };
         let entry = self.channels.at_mut(o);
         broadcast_calls::end_sender(&mut entry.core, ready);
         let over = is_over(entry);
         self.channels.remove_if(o, over);
         self.next = number as u128 + 1;
-        Answer::Done
+        Ok(Answer::Done)
     }
 
-    /// Makes a receiver of what is sent from now on, beside a sender. On an error nothing has changed.
-    pub fn subscribe(&mut self, number: u64, s: u64) -> Result<Answer, NoMemory>
+    // Makes a receiver of what is sent from now on, beside a sender. On an error nothing has changed.
+    fn subscribe(&mut self, number: u64, s: u64) -> Result<Answer, Stop>
         requires next { self.old.next ≤ number }
-        requires there { is_sender self.old.hall s ≡ true }
-        ensures ok { IfOk result (λ answer. PartRests registered self.old number (broadcast_act self.old.hall number (Subscribe s)) answer self.new) }
-        ensures err { OnErr result (self.new ≡ self.old) }
+        ensures { BroadcastActsQuietly self.old number (Subscribe s) result self.new }
     {
-        let o = *self.senders.at(s);
+        let Some(o) = self.senders.get(s) else {
+            return Err(Stop::Unknown);
+        };
+        let o = *o;
         let cursor = self.channels.at(o).core.subscribe();
         self.join(number, o, cursor)
     }
 
-    /// Makes a receiver of what is sent from now on, beside a receiver. On an error nothing has changed.
-    pub fn resubscribe(&mut self, number: u64, r: u64) -> Result<Answer, NoMemory>
+    // Makes a receiver of what is sent from now on, beside a receiver. On an error nothing has changed.
+    fn resubscribe(&mut self, number: u64, r: u64) -> Result<Answer, Stop>
         requires next { self.old.next ≤ number }
-        requires allowed { unusable (map.get self.old.hall.receivers r) ≡ None }
-        ensures ok { IfOk result (λ answer. PartRests registered self.old number (broadcast_act self.old.hall number (Resubscribe r)) answer self.new) }
-        ensures err { OnErr result (self.new ≡ self.old) }
+        ensures { BroadcastActsQuietly self.old number (Resubscribe r) result self.new }
     {
+        if let Some(stop) = self.cause_of_use(r) {
+            return Err(stop);
+        }
         let o = self.receivers.at(r).channel;
         let cursor = self.channels.at(o).core.subscribe();
         self.join(number, o, cursor)
     }
 
-    /// Makes a receiver that has passed the same messages. On an error nothing has changed.
-    pub fn copy_receiver(&mut self, number: u64, r: u64) -> Result<Answer, NoMemory>
+    // Makes a receiver that has passed the same messages. On an error nothing has changed.
+    fn copy_receiver(&mut self, number: u64, r: u64) -> Result<Answer, Stop>
         requires next { self.old.next ≤ number }
-        requires allowed { unusable (map.get self.old.hall.receivers r) ≡ None }
-        ensures ok { IfOk result (λ answer. PartRests registered self.old number (broadcast_act self.old.hall number (CopyReceiver r)) answer self.new) }
-        ensures err { OnErr result (self.new ≡ self.old) }
+        ensures { BroadcastActsQuietly self.old number (CopyReceiver r) result self.new }
     {
+        if let Some(stop) = self.cause_of_use(r) {
+            return Err(stop);
+        }
         let receiver = self.receivers.at(r);
         let o = receiver.channel;
         let cursor = self.channels.at(o).core.copy(&receiver.cursor);
@@ -250,11 +312,11 @@ impl BroadcastPart {
     }
 
     // Makes a receiver with this cursor.
-    fn join(&mut self, number: u64, o: u64, cursor: Cursor) -> Result<Answer, NoMemory>
+    fn join(&mut self, number: u64, o: u64, cursor: Cursor) -> Result<Answer, Stop>
         requires next { self.old.next ≤ number }
         requires there { (c : Broadcast) × (map.get self.old.hall.channels o ≡ Some c) × (cursor.position ≤ c.tail) }
         ensures ok { IfOk result (λ answer. (c : Broadcast) → map.get self.old.hall.channels o ≡ Some c → PartRests registered self.old number (join self.old.hall number cursor.position o c) answer self.new) }
-        ensures err { OnErr result (self.new ≡ self.old) }
+        ensures err { IfErr result (λ stop. (stop ≡ Stop.NoMemory) × (self.new ≡ self.old)) }
     {
         let receiver = ListenerEntry {
             channel: o,
@@ -262,81 +324,89 @@ impl BroadcastPart {
             user: None,
         };
         let Ok(()) = self.receivers.insert(number, receiver) else {
-            return Err(NoMemory);
+            return Err(Stop::NoMemory);
         };
         self.channels.at_mut(o).receivers += 1;
         self.next = number as u128 + 1;
         Ok(Answer::Made)
     }
 
-    /// Takes the next message of a receiver, if there is one. On an error nothing has changed.
-    pub fn hear(&mut self, number: u64, r: u64) -> Result<Answer, NoMemory>
+    // Takes the next message of a receiver, if there is one. On an error nothing has changed.
+    fn hear(&mut self, number: u64, r: u64) -> Result<Answer, Stop>
         requires next { self.old.next ≤ number }
-        requires allowed { unusable (map.get self.old.hall.receivers r) ≡ None }
-        ensures ok { IfOk result (λ answer. PartRests registered self.old number (broadcast_act self.old.hall number (Hear r)) answer self.new) }
-        ensures err { OnErr result (self.new ≡ self.old) }
+        ensures { BroadcastActsQuietly self.old number (Hear r) result self.new }
     {
-        let o = self.receivers.at(r).channel;
-        let core = &self.channels.at(o).core;
-        let receiver = self.receivers.at_mut(r);
+        let Some(receiver) = self.receivers.get_mut(r) else {
+            return Err(Stop::Unknown);
+        };
+        if receiver.user.is_some() {
+            return Err(Stop::Borrowed);
+        }
+        let core = &self.channels.at(receiver.channel).core;
         let Ok(answer) = broadcast_calls::hear(core, &mut receiver.cursor) else {
-            return Err(NoMemory);
+            return Err(Stop::NoMemory);
         };
         self.next = number as u128 + 1;
         Ok(answer)
     }
 
-    /// Ends a receiver. It takes no memory.
-    pub fn end_receiver(&mut self, number: u64, r: u64) -> Answer
+    // Ends a receiver. It takes no memory.
+    fn end_receiver(&mut self, number: u64, r: u64) -> Result<Answer, Stop>
         requires next { self.old.next ≤ number }
-        requires allowed { unusable (map.get self.old.hall.receivers r) ≡ None }
-        ensures { PartRests registered self.old number (broadcast_act self.old.hall number (EndReceiver r)) result self.new }
+        ensures { BroadcastActsQuietly self.old number (EndReceiver r) result self.new }
     {
+        if let Some(stop) = self.cause_of_use(r) {
+            return Err(stop);
+        }
         let o = self.receivers.remove(r).channel;
         let entry = self.channels.at_mut(o);
         entry.receivers -= 1;
         let over = is_over(entry);
         self.channels.remove_if(o, over);
         self.next = number as u128 + 1;
-        Answer::Done
+        Ok(Answer::Done)
     }
 
-    /// Makes a future that uses a receiver alone. On an error nothing has changed.
-    pub fn begin(&mut self, number: u64, r: u64) -> Result<Answer, NoMemory>
+    // Makes a future that uses a receiver alone. On an error nothing has changed.
+    fn begin(&mut self, number: u64, r: u64) -> Result<Answer, Stop>
         requires next { self.old.next ≤ number }
-        requires allowed { unusable (map.get self.old.hall.receivers r) ≡ None }
-        ensures ok { IfOk result (λ answer. PartRests registered self.old number (broadcast_act self.old.hall number (BeginHear r)) answer self.new) }
-        ensures err { OnErr result (self.new ≡ self.old) }
+        ensures { BroadcastActsQuietly self.old number (BeginHear r) result self.new }
     {
+        let Some(receiver) = self.receivers.get_mut(r) else {
+            return Err(Stop::Unknown);
+        };
+        if receiver.user.is_some() {
+            return Err(Stop::Borrowed);
+        }
         let future = RecvEntry {
             receiver: r,
-            channel: self.receivers.at(r).channel,
+            channel: receiver.channel,
             wait: RecvWait::new(),
         };
         let Ok(()) = self.futures.insert(number, future) else {
-            return Err(NoMemory);
+            return Err(Stop::NoMemory);
         };
-        self.receivers.at_mut(r).user = Some(number);
+        receiver.user = Some(number);
         self.next = number as u128 + 1;
         Ok(Answer::Made)
     }
 
-    /// Polls a future, which is gone unless it waits. On an error nothing has changed.
-    pub fn poll(
+    // Polls a future, which is gone unless it waits. On an error nothing has changed.
+    fn poll(
         &mut self,
         number: u64,
         f: u64,
         waker: u64,
         ready: &mut Ready<u64>,
-    ) -> Result<Answer, NoMemory>
+    ) -> Result<Answer, Stop>
         requires next { self.old.next ≤ number }
-        requires there { is_hearing self.old.hall f ≡ true }
         requires room { registered self.old.hall ≤ ready.old.registered }
-        ensures ok { IfOk result (λ answer. PartYields registered self.old number (broadcast_act self.old.hall number (PollHear f waker)) answer self.new ready.old ready.new) }
-        ensures err { OnErr result ((self.new ≡ self.old) × (ready.new ≡ ready.old)) }
+        ensures { BroadcastActs self.old number (PollHear f waker) result self.new ready.old ready.new }
     {
         let waker = NamedWaker { future: f, waker };
-        let future = self.futures.at_mut(f);
+        let Some(future) = self.futures.get_mut(f) else {
+            return Err(Stop::Unknown);
+        };
         let receiver = self.receivers.at_mut(future.receiver);
         let entry = self.channels.at_mut(future.channel);
         let Ok(answer) = broadcast_calls::poll(
@@ -346,7 +416,7 @@ impl BroadcastPart {
             waker,
             ready,
         ) else {
-            return Err(NoMemory);
+            return Err(Stop::NoMemory);
         };
         let over = is_answered(answer);
         receiver.user = user_unless(over, f);
@@ -355,16 +425,32 @@ impl BroadcastPart {
         Ok(answer)
     }
 
-    /// Ends a future; its waker stays. It takes no memory.
-    pub fn end_future(&mut self, number: u64, f: u64) -> Answer
+    // Ends a future; its waker stays. It takes no memory.
+    fn end_future(&mut self, number: u64, f: u64) -> Result<Answer, Stop>
         requires next { self.old.next ≤ number }
-        requires there { is_hearing self.old.hall f ≡ true }
-        ensures { PartRests registered self.old number (broadcast_act self.old.hall number (EndHear f)) result self.new }
+        ensures { BroadcastActsQuietly self.old number (EndHear f) result self.new }
     {
-        let future = self.futures.remove(f);
+        let Some(future) = self.futures.take(f) else {
+            return Err(Stop::Unknown);
+        };
         self.receivers.at_mut(future.receiver).user = None;
         self.next = number as u128 + 1;
-        Answer::Done
+        Ok(Answer::Done)
+    }
+}
+
+// Why a ring of this size is refused: it has no place, or more than it may have.
+fn cause_of_size(size: u64) -> Option<Stop>
+    ensures is { result ≡ broadcast_cause no_broadcasts (Open size) }
+    ensures tells { result ≢ Some Stop.NoMemory }
+    ensures fits { IfNone result ((0 < size) × (size ≤ 9223372036854775808)) }
+{
+    if size == 0 {
+        Some(Stop::Zero)
+    } else if size > 1 << 63 {
+        Some(Stop::Overflow)
+    } else {
+        None
     }
 }
 

@@ -19,7 +19,7 @@ use Rattle.mea_meet_model.specs.Hall.{Latches, Shutdowns}
 use Rattle.mea_meet_model.specs.Meets as meet
 use Rattle.mea_lock_model.specs.LockHall.{Mutexes, RwLocks}
 use Rattle.mea_lock_model.specs.LockFamily as lock
-use Rattle.mea_lock_model.specs.Meaning.{doing}
+use Rattle.mea_lock_model.specs.Meaning.{meaning_of}
 use Rattle.mea_chan_model.specs.ChanHall.{Unbounded, Oneshots, ReceiverOf, ReceiverOfBounded}
 use Rattle.mea_chan_model.specs.ChanFamily as chan
 use Rattle.mea_share_model.specs.ShareFamily as share
@@ -68,21 +68,21 @@ signals_poll (meets.WgPoll g w) f = refl
 signals_poll (meets.SdPoll g w) f = refl
 signals_poll _ f = refl
 
-mutexes_poll : (e : LockEvent) (f : ℕ) → lock.polled_by (doing e) (lock.Of Mutexes) f ≡ polled_by (deed_of (Lock e)) (thing_of sorts.Lock f)
+mutexes_poll : (e : LockEvent) (f : ℕ) → lock.polled_by (meaning_of e) (lock.Of Mutexes) f ≡ polled_by (deed_of (Lock e)) (thing_of sorts.Lock f)
 unfolding lock_deed code_of
 mutexes_poll (locks.MxPoll g w) f = refl
 mutexes_poll (locks.RwPoll g w) f = refl
 mutexes_poll (locks.CvPoll g w) f = refl
 mutexes_poll _ f = refl
 
-accesses_poll : (e : LockEvent) (f : ℕ) → lock.polled_by (doing e) (lock.Of RwLocks) f ≡ polled_by (deed_of (Lock e)) (thing_of sorts.Access f)
+accesses_poll : (e : LockEvent) (f : ℕ) → lock.polled_by (meaning_of e) (lock.Of RwLocks) f ≡ polled_by (deed_of (Lock e)) (thing_of sorts.Access f)
 unfolding lock_deed code_of
 accesses_poll (locks.MxPoll g w) f = refl
 accesses_poll (locks.RwPoll g w) f = refl
 accesses_poll (locks.CvPoll g w) f = refl
 accesses_poll _ f = refl
 
-waits_poll : (e : LockEvent) (f : ℕ) → lock.polled_by (doing e) lock.Waits f ≡ polled_by (deed_of (Lock e)) (thing_of sorts.CondvarWait f)
+waits_poll : (e : LockEvent) (f : ℕ) → lock.polled_by (meaning_of e) lock.Waits f ≡ polled_by (deed_of (Lock e)) (thing_of sorts.CondvarWait f)
 unfolding lock_deed code_of
 waits_poll (locks.MxPoll g w) f = refl
 waits_poll (locks.RwPoll g w) f = refl
@@ -171,7 +171,7 @@ meets_poll_as e (meet.Of Shutdowns) f = signals_poll e f
 meets_poll : (e : MeetEvent) (f : meet.Future) → meet.polled e f ≡ polled_by (deed_of (Meet e)) (meet_thing_as f.sort f.name)
 meets_poll e f = meets_poll_as e f.sort f.name
 
-locks_poll_as : (e : LockEvent) (s : lock.Sort) (f : ℕ) → lock.polled_by (doing e) s f ≡ polled_by (deed_of (Lock e)) (lock_thing_as s f)
+locks_poll_as : (e : LockEvent) (s : lock.Sort) (f : ℕ) → lock.polled_by (meaning_of e) s f ≡ polled_by (deed_of (Lock e)) (lock_thing_as s f)
 locks_poll_as e (lock.Of Mutexes) f = mutexes_poll e f
 locks_poll_as e (lock.Of RwLocks) f = accesses_poll e f
 locks_poll_as e lock.Waits f = waits_poll e f

@@ -1,5 +1,5 @@
 -- what each event on a future does to the locks of one kind, as they are kept and as they are seen
-use Rattle.std.proofs.Common.{◌≡◌, ℕ, ◌+◌, ◌-◌, ◌≤◌, ◌==◌, ◌||◌, ◌++◌, inl, inr, Bool, true, false, not, cond, length, List, [], map, nat_lt, Some, None, refl, ap, sym, subst, ◌∙◌, arith, append-nil, if◌then◌else◌}
+use Rattle.std.proofs.Common.{◌≡◌, ℕ, ◌+◌, ◌≤◌, ◌==◌, ◌||◌, ◌++◌, inl, inr, Bool, true, false, cond, length, List, map, nat_lt, Some, None, refl, ap, sym, subst, ◌∙◌, arith, append-nil, if◌then◌else◌}
 use Rattle.std.specs.FinMap.{get, insert, remove}
 use Rattle.mea_family.specs.declared.answer.Answer.{Answer}
 use Rattle.mea_family.specs.declared.answer.Answer.TheVariants as answers
@@ -14,12 +14,11 @@ use Rattle.mea_family.specs.Play.{Part, PartYields}
 use Rattle.mea_by_name.specs.NamedQueue.{waits}
 use Rattle.mea_by_name.specs.LackingQueue.{who, woken_by}
 use Rattle.mea_by_name.proofs.Cases.{found_is, if_true, if_false}
-use Rattle.mea_by_name.proofs.Halls as halls
 use Rattle.mea_by_name.proofs.Own.{seen-at, seen-insert, seen-remove, seen-alike, own-at, own-none, own-put, own-gone, len-some, count-gone, insert_same, put_gone, gone_none, Moves, Stays, Comes, Goes}
 use Rattle.mea_by_name.specs.declared.named_waker.NamedWaker.{NamedWaker}
 use Rattle.mea_lock_core.specs.RwLock.{MayPoll, MayCancel, share_of, is_write}
 use Rattle.mea_lock_model.specs.Locks as model
-use Rattle.mea_lock_model.specs.Locks.{Lock, LockFuture, Locks, Until, goes_on, taken_from, was_polled, is_lock_future, is_condvar_future, is_waiting_for, things_of, registered, tidied_locks, size}
+use Rattle.mea_lock_model.specs.Locks.{Lock, LockFuture, Locks, Until, goes_on, taken_from, was_polled, is_condvar_future, is_waiting_for, things_of, registered, tidied_locks, size}
 use Rattle.mea_lock_model.specs.Actions.{Action, act_in, Poll, PollUntil, EndWait}
 use Rattle.mea_cores_by_name.specs.Linked.{names_in}
 use Rattle.mea_lock.specs.declared.guard_entry.GuardEntry.{GuardEntry}
@@ -44,15 +43,12 @@ module _ {old : Part Locks} {i : ℕ} (s : Site old i) where
         )
 
     -- one that waits for the lock alone does not hold it
-    pub waits_alone : is_lock_future old.hall f ≡ true → x.holds ≡ false
-    waits_alone is = at x.holds refl
+    pub waits_alone : x.of_condvar ≡ false → x.holds ≡ false
+    waits_alone lone = at x.holds refl
       where
-        lone : (not x.of_condvar) ≡ true
-        lone = sym (ap (is_waiting_for false) (seen-at future_seen s.fs f x future)) ∙ ap (λ (p : Part Locks). is_lock_future p.hall f) s.view ∙ is
-
         at : (b : Bool) → x.holds ≡ b → x.holds ≡ false
         at false is = is
-        at true holds = absurd (let condvar = (((its_kept s) x.lock e there).holders f x own_future holds).of_condvar in let no = lone in cc)
+        at true holds = absurd (let condvar = (((its_kept s) x.lock e there).holders f x own_future holds).of_condvar in cc)
 
     -- that of a wait on a condition variable writes
     its_of_condvar : is_condvar_future old.hall f ≡ true → x.of_condvar ≡ true

@@ -7,6 +7,7 @@ use Rattle.std.proofs.lemmas.Bool.Decides.{nat_tests}
 use Rattle.mea_family.specs.declared.answer.Answer.{Answer}
 use Rattle.mea_family.specs.declared.answer.Answer.TheVariants as answers
 use Rattle.mea_base.specs.declared.turn.Turn.TheVariants.{Ready}
+use Rattle.mea_family.specs.Causes.{unknown_unless}
 use Rattle.mea_family.specs.Family.{Outcome}
 use Rattle.mea_base.specs.Ready.{Waking}
 use Rattle.mea_base.specs.Totals.{total, weight}
@@ -15,7 +16,6 @@ use Rattle.mea_base.proofs.Totals.{total-insert, total-remove, total-same, total
 use Rattle.mea_base.proofs.NamedMaps.{is_some-map, get-seen}
 use Rattle.mea_by_name.specs.ByName.{Names, seen, own, count}
 use Rattle.mea_family.specs.Play.{Part, PartYields, PartRests, found}
-use Rattle.mea_by_name.specs.NamedQueue.{waits}
 use Rattle.mea_by_name.specs.LackingQueue.{who}
 use Rattle.mea_by_name.proofs.LackingQueues.{length-who}
 use Rattle.mea_by_name.proofs.Cases.{found_is, if_true, if_false}
@@ -24,9 +24,10 @@ use Rattle.mea_by_name.proofs.Own.{seen-at, seen-back, seen-empty, seen-insert, 
 use Rattle.mea_by_name.specs.declared.named_waker.NamedWaker.{NamedWaker}
 use Rattle.mea_lock_core.specs.RwLock.{LetsIn, share_of}
 use Rattle.mea_lock_model.specs.Locks as model
-use Rattle.mea_lock_model.specs.Locks.{Lock, LockFuture, LockGuard, Locks, is_named, is_named_lock, is_future, is_lock_future, is_condvar_future, is_waiting_for, is_guard, is_write_guard, is_write as guard_writes, things_of, plain_of, registered, tidied_locks, size}
+use Rattle.mea_lock_model.specs.Locks.{Lock, LockFuture, LockGuard, Locks, is_named, is_named_lock, is_future, is_condvar_future, is_waiting_for, is_guard, things_of, plain_of, registered, tidied_locks, size}
 use Rattle.mea_lock_model.specs.Valid.{held_by, FitGuards}
-use Rattle.mea_lock_model.specs.Actions.{act_in, Make, Begin, Try, Get, Set, Lower, End, Peek, Put, Take, Drop, Hand}
+use Rattle.mea_lock_model.specs.Actions.{act_in, Make, Begin, Poll, Try, Get, Set, Lower, End, Peek, Put, Take, Drop, Hand}
+use Rattle.mea_lock_model.specs.Meaning.{cause_at}
 use Rattle.mea_cores_by_name.specs.Linked.{names_in}
 use Rattle.mea_lock.specs.declared.guard_entry.GuardEntry.{GuardEntry}
 use Rattle.mea_lock.specs.Cores.{NamedLock, TakesLock, UnlocksLock, LowersLock, IsHeldAs, IsFreeFor}
@@ -50,15 +51,6 @@ registered_is ls fs gs = total-seen lock_seen (λ (r : Lock). length (who r.queu
     ∙ total-same (λ o (e : KeptLock). length (who (names_in e.lock.permits.queue))) (λ o e. waiters e) ls (λ o e there. length-who (names_in e.lock.permits.queue) ∙ length-names e.lock.permits.queue)
 
 -- ---- what is looked up
-pub future_seen_is : (fs : Names KeptFuture) (f : ℕ) → is_some (get fs f) ≡ is_some (get (seen future_seen fs) f)
-future_seen_is fs f = sym (is_some-map future_seen (get fs f)) ∙ ap is_some (sym (get-seen (λ k x. future_seen x) fs f))
-
-pub guard_seen_is : (gs : Names GuardEntry) (g : ℕ) → is_some (get gs g) ≡ is_some (get (seen guard_seen gs) g)
-guard_seen_is gs g = sym (is_some-map guard_seen (get gs g)) ∙ ap is_some (sym (get-seen (λ k x. guard_seen x) gs g))
-
-pub writes_seen_is : (gs : Names GuardEntry) (g : ℕ) → guard_writes (option_map guard_seen (get gs g)) ≡ guard_writes (get (seen guard_seen gs) g)
-writes_seen_is gs g = ap guard_writes (sym (get-seen (λ k x. guard_seen x) gs g))
-
 pub named_seen_is : (ls : Names KeptLock) (o : ℕ) → is_named_lock (option_map lock_seen (get ls o)) ≡ is_named_lock (get (seen lock_seen ls) o)
 named_seen_is ls o = ap is_named_lock (sym (get-seen (λ k e. lock_seen e) ls o))
 
@@ -91,11 +83,11 @@ module _ {old : Part Locks} (ls : Names KeptLock) (fs : Names KeptFuture) (gs : 
   pub named_of : (o : ℕ) (p : Option KeptLock) → get ls o ≡ p → is_named_lock (option_map lock_seen p) ≡ is_named old.hall o
   named_of o p is = ap (λ q. is_named_lock (option_map lock_seen q)) (sym is) ∙ named_seen_is ls o ∙ ap (λ (p : Part Locks). is_named p.hall o) view
 
-  pub write_of : (g : ℕ) (p : Option GuardEntry) → get gs g ≡ p → guard_writes (option_map guard_seen p) ≡ is_write_guard old.hall g
-  write_of g p is = ap (λ q. guard_writes (option_map guard_seen q)) (sym is) ∙ writes_seen_is gs g ∙ ap (λ (p : Part Locks). is_write_guard p.hall g) view
+  pub guard_of : (g : ℕ) (p : Option GuardEntry) → get gs g ≡ p → option_map guard_seen p ≡ get old.hall.guards g
+  guard_of g p is = ap (option_map guard_seen) (sym is) ∙ sym (get-seen (λ k x. guard_seen x) gs g) ∙ ap (λ (p : Part Locks). get p.hall.guards g) view
 
-  pub waiting_of : (condvar : Bool) (f : ℕ) (p : Option KeptFuture) → get fs f ≡ p → is_waiting_for condvar (option_map future_seen p) ≡ is_waiting_for condvar (get old.hall.futures f)
-  waiting_of condvar f p is = ap (λ q. is_waiting_for condvar (option_map future_seen q)) (sym is) ∙ ap (is_waiting_for condvar) (sym (get-seen (λ k x. future_seen x) fs f)) ∙ ap (λ (p : Part Locks). is_waiting_for condvar (get p.hall.futures f)) view
+  pub future_of : (f : ℕ) (p : Option KeptFuture) → get fs f ≡ p → option_map future_seen p ≡ get old.hall.futures f
+  future_of f p is = ap (option_map future_seen) (sym is) ∙ sym (get-seen (λ k x. future_seen x) fs f) ∙ ap (λ (p : Part Locks). get p.hall.futures f) view
 
   module _ (kept : AreKeptLocks ls fs gs next) (o : ℕ) (e : KeptLock) (there : get ls o ≡ Some e) where
     pub things_of_it : things_of old.hall o ≡ e.things
@@ -172,10 +164,9 @@ of_sort : (condvar : Bool) (o : Option KeptFuture) → is_waiting_for condvar (o
 of_sort condvar None is = absurd (cc)
 of_sort condvar (Some x) is = refl
 
--- a guard that writes is there
-writes_there : (o : Option GuardEntry) → guard_writes (option_map guard_seen o) ≡ true → IsSome o
-writes_there None is = absurd (cc)
-writes_there (Some e) is = refl
+-- a guard is known by what is seen of it
+same_guard : (x y : GuardEntry) → guard_seen x ≡ guard_seen y → x ≡ y
+same_guard x y is j = record { lock = ap (λ (g : LockGuard). g.lock) is j; plain = ap (λ (g : LockGuard). g.plain) is j; writes = ap (λ (g : LockGuard). g.writes) is j }
 
 -- a lock that lets a write in writes, and one that lets a read in does not
 pub writing_ready : (l : NamedLock) (k : NamedWaker) (b w : Bool) → l.writing ≡ b → LetsIn w l (Ready k) → (b || cond w true false) ≡ w
@@ -224,22 +215,15 @@ module _ {old : Part Locks} {i : ℕ} (s : Site old i) where
 
   -- ---- what is there
   pub future_there : (f : ℕ) → is_future old.hall f ≡ true → IsSome (get s.fs f)
-  future_there f is = future_seen_is s.fs f ∙ ap (λ (p : Part Locks). is_future p.hall f) s.view ∙ is
-
-  pub lock_future_there : (f : ℕ) → is_lock_future old.hall f ≡ true → IsSome (get s.fs f)
-  lock_future_there f is = of_sort false (get s.fs f) (ap (is_waiting_for false) (sym (get-seen (λ k x. future_seen x) s.fs f)) ∙ ap (λ (p : Part Locks). is_lock_future p.hall f) s.view ∙ is)
+  future_there f is = sym (is_some-map future_seen (get s.fs f)) ∙ ap is_some (future_of s.ls s.fs s.gs s.next s.view f _ refl) ∙ is
 
   pub condvar_future_there : (f : ℕ) → is_condvar_future old.hall f ≡ true → IsSome (get s.fs f)
-  condvar_future_there f is = of_sort true (get s.fs f) (ap (is_waiting_for true) (sym (get-seen (λ k x. future_seen x) s.fs f)) ∙ ap (λ (p : Part Locks). is_condvar_future p.hall f) s.view ∙ is)
+  condvar_future_there f is = of_sort true (get s.fs f) (ap (is_waiting_for true) (future_of s.ls s.fs s.gs s.next s.view f _ refl) ∙ is)
 
-  pub guard_there : (g : ℕ) → is_guard old.hall g ≡ true → IsSome (get s.gs g)
-  guard_there g is = guard_seen_is s.gs g ∙ ap (λ (p : Part Locks). is_guard p.hall g) s.view ∙ is
-
-  pub write_there : (g : ℕ) → is_write_guard old.hall g ≡ true → IsSome (get s.gs g)
-  write_there g is = writes_there (get s.gs g) (writes_seen_is s.gs g ∙ ap (λ (p : Part Locks). is_write_guard p.hall g) s.view ∙ is)
-
-  pub it_writes : (g : ℕ) (x : GuardEntry) → get s.gs g ≡ Some x → is_write_guard old.hall g ≡ true → x.writes ≡ true
-  it_writes g x there is = sym (ap (λ p. guard_writes (option_map guard_seen p)) there) ∙ writes_seen_is s.gs g ∙ ap (λ (p : Part Locks). is_write_guard p.hall g) s.view ∙ is
+  pub guard_is : (g : ℕ) (x : GuardEntry) → get old.hall.guards g ≡ Some (guard_seen x) → get s.gs g ≡ Some x
+  guard_is g x is =
+      let it = seen-back guard_seen s.gs g (guard_seen x) (ap (λ (p : Part Locks). get p.hall.guards g) s.view ∙ is) in
+      it.1 ∙ ap (λ y. Some y) (same_guard it.0 x it.2)
 
   pub lock_there : (o : ℕ) → is_named old.hall o ≡ true → IsSome (get s.ls o)
   lock_there o is = is_kept (get s.ls o) (named_seen_is s.ls o ∙ ap (λ (p : Part Locks). is_named p.hall o) s.view ∙ is)
@@ -256,23 +240,38 @@ module _ {old : Part Locks} {i : ℕ} (s : Site old i) where
   pub no_guard : get s.gs i ≡ None
   no_guard = halls.no_second of_future of_guard AreKept (λ e. e.things) s.ls s.fs s.gs s.next i s.kept s.later s.fits
 
+  -- ---- why a poll and the end of a guard are refused
+  pub poll_cause : (f w : ℕ) (p : Option KeptFuture) → get s.fs f ≡ p → cause_at old.hall (Poll f w) ≡ unknown_unless (is_waiting_for false (option_map future_seen p))
+  poll_cause f w p is = ap (λ o. unknown_unless (is_waiting_for false o)) (sym (future_of s.ls s.fs s.gs s.next s.view f p is))
+
+  pub end_cause : (g : ℕ) (p : Option GuardEntry) → get s.gs g ≡ p → get old.hall.futures g ≡ None → cause_at old.hall (End g) ≡ unknown_unless (is_some p)
+  end_cause g p is none = ap (λ o. unknown_unless (if is_some o then is_waiting_for false o else is_guard old.hall g)) none
+      ∙ ap (λ o. unknown_unless (is_some o)) (sym (guard_of s.ls s.fs s.gs s.next s.view g p is)) ∙ ap unknown_unless (is_some-map guard_seen p)
+
+  -- a look changes nothing, nor does taking a guard that is not there
+  pub looked : (f : ℕ) (x : KeptFuture) → get s.fs f ≡ Some x → (AreKeptLocks s.ls (insert s.fs f x) s.gs s.next) × (part_of s.ls (insert s.fs f x) s.gs s.next ≡ old)
+  looked f x there = rw (insert_same s.fs f x there) (s.kept, s.view)
+
+  pub untaken : (g : ℕ) → get s.gs g ≡ None → (AreKeptLocks s.ls s.fs (remove s.gs g) s.next) × (part_of s.ls s.fs (remove s.gs g) s.next ≡ old)
+  untaken g none = rw (gone_none s.gs g none) (s.kept, s.view)
+
   pub rests : AreKeptLocks s.ls s.fs s.gs (i + 1)
   rests = halls.rests of_future of_guard AreKept (λ e. e.things) s.ls s.fs s.gs s.next i s.kept s.later s.fits
 
   -- ---- a lock is made
-  pub made : (l : NamedLock) → IsNewLock l l.value l.most
+  pub made : (l : NamedLock) (value most : ℕ) → IsNewLock l value most
       → AreKeptLocks (insert s.ls i (record { lock = l; named = true; things = 0; plain = 0 })) s.fs s.gs (i + 1)
-      × PartRests registered old i (act_in old.hall i (Make l.value l.most)) answers.Made (part_of (insert s.ls i (record { lock = l; named = true; things = 0; plain = 0 })) s.fs s.gs (i + 1))
-  made l new =
+      × PartRests registered old i (act_in old.hall i (Make value most)) answers.Made (part_of (insert s.ls i (record { lock = l; named = true; things = 0; plain = 0 })) s.fs s.gs (i + 1))
+  made l value most new =
       let e : KeptLock = record { lock = l; named = true; things = 0; plain = 0 } in
       let absent = halls.no_object of_future of_guard AreKept (λ e. e.things) s.ls s.fs s.gs s.next i s.kept s.later s.fits in
       let nothing : weight (λ o e. waiters e) i (get s.ls i) ≡ 0 = ap (weight (λ o e. waiters e) i) absent in
       let nobody : length l.permits.queue ≡ 0 = ap (λ (l : NamedLock). length l.permits.queue) new.lock in (
-        halls.makes of_future of_guard AreKept (λ e. e.things) s.ls s.fs s.gs s.next i s.kept s.later s.fits (record { lock = l; named = true; things = 0; plain = 0 }) (one.new_kept l l.value l.most new) refl,
-        rests_as (λ h. act_in h i (Make l.value l.most)) _ answers.Made (insert s.ls i (record { lock = l; named = true; things = 0; plain = 0 })) s.fs s.gs refl refl
+        halls.makes of_future of_guard AreKept (λ e. e.things) s.ls s.fs s.gs s.next i s.kept s.later s.fits (record { lock = l; named = true; things = 0; plain = 0 }) (one.new_kept l value most new) refl,
+        rests_as (λ h. act_in h i (Make value most)) _ answers.Made (insert s.ls i (record { lock = l; named = true; things = 0; plain = 0 })) s.fs s.gs refl refl
             (seen-insert lock_seen s.ls i (record { lock = l; named = true; things = 0; plain = 0 }) ∙ ap (insert (seen lock_seen s.ls) i) (λ j. record {
-              value = l.value;
-              most = l.most;
+              value = ap (λ (l : NamedLock). l.value) new.lock j;
+              most = ap (λ (l : NamedLock). l.most) new.lock j;
               free = ap (λ (l : NamedLock). l.permits.free) new.lock j;
               queue = ap (λ (l : NamedLock). names_in l.permits.queue) new.lock j;
               named = true;

@@ -1,102 +1,100 @@
 -- what is said of the locks of one kind, and of all with condition variables
-use Rattle.std.proofs.Common.{◌≡◌, ℕ, ◌+◌, ◌≤◌, ◌++◌, length, ap, sym, ◌∙◌, arith, append-nil}
+use Rattle.std.proofs.Common.{◌≡◌, ℕ, ◌+◌, ◌++◌, ◌==◌, ◌&&◌, Bool, true, false, inl, inr, length, Option, Some, None, refl, ap, sym, subst, ◌∙◌, arith, if◌then◌else◌}
+use Rattle.std.proofs.lemmas.Bool.Decides.{nat_tests}
+use Rattle.mea_family.specs.Causes.{borrowed_by}
 use Rattle.mea_family.specs.declared.answer.Answer.{Answer}
+use Rattle.mea_family.specs.declared.stop.Stop.{Stop}
+use Rattle.mea_family.specs.declared.stop.Stop.TheVariants as stops
 use Rattle.mea_family.specs.Family.{Outcome}
 use Rattle.mea_base.specs.Ready.{Waking}
-use Rattle.mea_family.specs.Play.{Part, PartYields, PartRests}
+use Rattle.mea_family.specs.Play.{Part, PartYields}
 use Rattle.mea_by_name.specs.NamedQueue.{Waiting}
 use Rattle.mea_base.proofs.Totals.{total-empty}
 use Rattle.mea_events.specs.declared.lock_event.LockEvent.{LockEvent}
 use Rattle.mea_lock_model.specs.Locks.{Lock, Locks, registered, waiting_at}
 use Rattle.mea_lock_model.specs.Condvars as condvars
 use Rattle.mea_lock_model.specs.Condvars.{Condvars}
-use Rattle.mea_lock_model.specs.Actions.{act_in}
-use Rattle.mea_lock_model.specs.CondActions.{act_on}
+use Rattle.mea_lock_model.specs.Actions.{Action}
 use Rattle.mea_lock_model.specs.LockHall.{LockHall, Mutexes, RwLocks, empty_hall, registered as all_registered}
-use Rattle.mea_lock_model.specs.Meaning.{Doing, OnLocks, OnCondvars, doing, step, step_by}
-use Rattle.mea_lock.specs.Halls.{hall_of, AreBelow, PlaysDoing, PlaysKinds}
+use Rattle.mea_lock_model.specs.Meaning.{Meaning, OnLocks, OnCondvars, meaning_of, step, step_by}
+use Rattle.mea_lock_model.proofs.Acting.{not_borrowed}
+use Rattle.mea_lock.specs.Halls.{hall_of, AreBelow, PlaysOne, PlaysBy, Refuses}
 
--- where no waker was made ready, those that are ready are as they were
-pub yield_rests : (old : Part Locks) (i : ℕ) (o : Outcome Locks) (answer : Answer) (new : Part Locks) (w : Waking ℕ) → PartRests registered old i o answer new → PartYields registered old i o answer new w w
-yield_rests old i o answer new w rests = record {
-  replied = rests.replied;
-  moved = rests.moved;
-  woken = sym (append-nil w.wakers) ∙ ap (λ ws. w.wakers ++ ws) (sym rests.silent);
-  counted = omega (arith, rests.counted);
-}
+-- ---- what is refused
+-- a name that is not known
+pub unknown : (cause : Option Stop) (free : Type 0) → cause ≡ Some stops.Unknown → Refuses cause free stops.Unknown
+unknown cause free is = inl (is, λ no. absurd (cc))
 
--- what an event leaves: next numbers that are below the next one, and the registered wakers counted
-pub record Leaves (m l : Part Locks) (v : Part Condvars) (m' l' : Part Locks) (v' : Part Condvars) (before after : Waking ℕ) (i : ℕ) : Type 0 where
-  pub below : AreBelow m' l' v' (i + 1)
-  pub counted : after.registered + all_registered (hall_of m l v) ≡ before.registered + all_registered (hall_of m' l' v')
+-- what has no cause, for want of memory
+pub lacking : (cause : Option Stop) (free : Type 0) → cause ≡ None → (free → ⊥) → Refuses cause free stops.NoMemory
+lacking cause free none takes = inr (none, refl, takes)
 
+-- what nothing borrows is known
+pub borrowed_none : (known : Bool) (n : ℕ) → borrowed_by known n ≡ None → (known ≡ true) × (n ≡ 0)
+borrowed_none true n is = (refl, not_borrowed true n is)
+borrowed_none false n is = absurd (cc)
+
+pub both_true : (a b : Bool) → (a && b) ≡ true → (a ≡ true) × (b ≡ true)
+both_true true b is = (refl, is)
+both_true false b is = absurd (cc)
+
+-- a lock of some permits is made
+pub makes : (most : ℕ) → (most ≡ 0 → ⊥) → (if most == 0 then Some stops.Zero else None) ≡ None
+makes most some = grind (arith, nat_tests)
+
+-- ---- what an event leaves
 pub none_registered : all_registered empty_hall ≡ 0
 none_registered = omega (arith, total-empty (λ o (r : Lock). length (waiting_at r)), total-empty (λ o (q : Waiting). length q))
 
-pub leaves : (m l : Part Locks) (v : Part Condvars) (m' l' : Part Locks) (v' : Part Condvars) (before after : Waking ℕ) (i : ℕ) (e : LockEvent) (answer : Answer) → AreBelow m l v i → PlaysKinds m l v i e answer m' l' v' before after
-    → Leaves m l v m' l' v' before after i
-leaves m l v m' l' v' before after i e answer held plays = at (doing e) plays
-  where
-    at : (d : Doing) → PlaysDoing d m l v i answer m' l' v' before after → Leaves m l v m' l' v' before after i
-    at (OnLocks Mutexes a) one =
-        let hall : registered m'.hall ≡ registered (act_in m.hall i a).hall = ap (λ (p : Part Locks). registered p.hall) one.yields.moved in
-        let next_is : m'.next ≡ i + 1 = ap (λ (p : Part Locks). p.next) one.yields.moved in
-        let other : registered l'.hall ≡ registered l.hall = ap (λ (p : Part Locks). registered p.hall) one.same in
-        let other_next : l'.next ≡ l.next = ap (λ (p : Part Locks). p.next) one.same in
-        let still : condvars.registered v'.hall ≡ condvars.registered v.hall = ap (λ (p : Part Condvars). condvars.registered p.hall) one.still in
-        let still_next : v'.next ≡ v.next = ap (λ (p : Part Condvars). p.next) one.still in
-        record {
-          below = record { mutexes = omega (arith, next_is); rw_locks = omega (arith, other_next, held.rw_locks); condvars = omega (arith, still_next, held.condvars) };
-          counted = omega (arith, hall, other, still, one.yields.counted);
-        }
-    at (OnLocks RwLocks a) one =
-        let hall : registered l'.hall ≡ registered (act_in l.hall i a).hall = ap (λ (p : Part Locks). registered p.hall) one.yields.moved in
-        let next_is : l'.next ≡ i + 1 = ap (λ (p : Part Locks). p.next) one.yields.moved in
-        let other : registered m'.hall ≡ registered m.hall = ap (λ (p : Part Locks). registered p.hall) one.same in
-        let other_next : m'.next ≡ m.next = ap (λ (p : Part Locks). p.next) one.same in
-        let still : condvars.registered v'.hall ≡ condvars.registered v.hall = ap (λ (p : Part Condvars). condvars.registered p.hall) one.still in
-        let still_next : v'.next ≡ v.next = ap (λ (p : Part Condvars). p.next) one.still in
-        record {
-          below = record { mutexes = omega (arith, other_next, held.mutexes); rw_locks = omega (arith, next_is); condvars = omega (arith, still_next, held.condvars) };
-          counted = omega (arith, hall, other, still, one.yields.counted);
-        }
-    at (OnCondvars a) (waits, same) =
-        let other : registered l'.hall ≡ registered l.hall = ap (λ (p : Part Locks). registered p.hall) same in
-        let other_next : l'.next ≡ l.next = ap (λ (p : Part Locks). p.next) same in
-        record {
-          below = record { mutexes = waits.next.0; rw_locks = omega (arith, other_next, held.rw_locks); condvars = waits.next.1 };
-          counted = omega (arith, other, waits.counted);
-        }
+-- what was done to the locks of one kind: next numbers, and the registered wakers counted
+module _ (p q : Part Locks) (v : Part Condvars) (i : ℕ) (a : Action) (answer : Answer) (p' q' : Part Locks) (v' : Part Condvars) (before after : Waking ℕ) (one : PlaysOne p q v i a answer p' q' v' before after) where
+  one_next : (p'.next ≡ i + 1) × (q'.next ≡ q.next) × (v'.next ≡ v.next)
+  one_next = (ap (λ (p : Part Locks). p.next) one.yields.moved, ap (λ (p : Part Locks). p.next) one.same, ap (λ (p : Part Condvars). p.next) one.still)
 
--- what was played on the parts was played on the hall
-pub yields_all : (m l : Part Locks) (v : Part Condvars) (m' l' : Part Locks) (v' : Part Condvars) (before after : Waking ℕ) (next i : ℕ) (e : LockEvent) (answer : Answer) → AreBelow m l v i → PlaysKinds m l v i e answer m' l' v' before after
-    → PartYields all_registered (record { hall = hall_of m l v; next = next }) i (step (hall_of m l v) i e) answer (record { hall = hall_of m' l' v'; next = i + 1 }) before after
-yields_all m l v m' l' v' before after next i e answer held plays = at (doing e) plays
-  where
-    Yielded : Doing → Type 0
-    Yielded d = PartYields all_registered (record { hall = hall_of m l v; next = next }) i (step_by (hall_of m l v) i d) answer (record { hall = hall_of m' l' v'; next = i + 1 }) before after
+  one_counted : after.registered + (registered p.hall + registered q.hall + condvars.registered v.hall) ≡ before.registered + (registered p'.hall + registered q'.hall + condvars.registered v'.hall)
+  one_counted =
+      let moved = ap (λ (p : Part Locks). registered p.hall) one.yields.moved in
+      let same = ap (λ (p : Part Locks). registered p.hall) one.same in
+      let still = ap (λ (p : Part Condvars). condvars.registered p.hall) one.still in
+      omega (arith, moved, same, still, one.yields.counted)
 
-    counting : {h : LockHall} → hall_of m' l' v' ≡ h → after.registered + all_registered (hall_of m l v) ≡ before.registered + all_registered h
-    counting is = (leaves m l v m' l' v' before after i e answer held plays).counted ∙ ap (λ h. before.registered + all_registered h) is
+module _ (m l : Part Locks) (v : Part Condvars) (m' l' : Part Locks) (v' : Part Condvars) (before after : Waking ℕ) (next i : ℕ) (answer : Answer) (held : AreBelow m l v i) where
+  pub below_after : (d : Meaning) → PlaysBy d m l v i answer m' l' v' before after → AreBelow m' l' v' (i + 1)
+  below_after (OnLocks Mutexes a) one =
+      let next = one_next m l v i a answer m' l' v' before after one in
+      record { mutexes = omega (arith, next.0); rw_locks = omega (arith, next.1, held.rw_locks); condvars = omega (arith, next.2, held.condvars) }
+  below_after (OnLocks RwLocks a) one =
+      let next = one_next l m v i a answer l' m' v' before after one in
+      record { mutexes = omega (arith, next.1, held.mutexes); rw_locks = omega (arith, next.0); condvars = omega (arith, next.2, held.condvars) }
+  below_after (OnCondvars a) (waits, same) =
+      let other = ap (λ (p : Part Locks). p.next) same in
+      record { mutexes = waits.next.0; rw_locks = omega (arith, other, held.rw_locks); condvars = waits.next.1 }
 
-    at : (d : Doing) → PlaysDoing d m l v i answer m' l' v' before after → Yielded d
-    at (OnLocks Mutexes a) one = record {
-      replied = one.yields.replied;
-      moved = λ j. record { hall = hall_of (one.yields.moved j) (one.same j) (one.still j); next = i + 1 };
-      woken = one.yields.woken;
-      counted = counting (λ j. hall_of (one.yields.moved j) (one.same j) (one.still j));
-    }
-    at (OnLocks RwLocks a) one = record {
-      replied = one.yields.replied;
-      moved = λ j. record { hall = hall_of (one.same j) (one.yields.moved j) (one.still j); next = i + 1 };
-      woken = one.yields.woken;
-      counted = counting (λ j. hall_of (one.same j) (one.yields.moved j) (one.still j));
-    }
-    at (OnCondvars a) (waits, same) =
-        let hall : hall_of m' l' v' ≡ (act_on (hall_of m l v) i a).hall = (λ j. hall_of m' (same j) v') ∙ (λ j. (sym (waits.moved l) j).hall) in
-        record {
-          replied = ap (λ (o : Outcome LockHall). o.reply) (sym (waits.moved l));
-          moved = λ j. record { hall = hall j; next = i + 1 };
-          woken = waits.woken ∙ (λ j. before.wakers ++ (sym (waits.moved l) j).wakes);
-          counted = counting hall;
-        }
+  counted_by : (d : Meaning) → PlaysBy d m l v i answer m' l' v' before after → after.registered + all_registered (hall_of m l v) ≡ before.registered + all_registered (hall_of m' l' v')
+  counted_by (OnLocks Mutexes a) one = omega (arith, one_counted m l v i a answer m' l' v' before after one)
+  counted_by (OnLocks RwLocks a) one = omega (arith, one_counted l m v i a answer l' m' v' before after one)
+  counted_by (OnCondvars a) (waits, same) =
+      let other = ap (λ (p : Part Locks). registered p.hall) same in
+      omega (arith, other, waits.counted)
+
+  -- the same hall in other words: what it replied, what it left, and the wakers that it made ready
+  yielding : (d : Meaning) (o : Outcome LockHall) → PlaysBy d m l v i answer m' l' v' before after → answer ≡ o.reply → hall_of m' l' v' ≡ o.hall → after.wakers ≡ before.wakers ++ o.wakes
+      → PartYields all_registered (record { hall = hall_of m l v; next = next }) i o answer (record { hall = hall_of m' l' v'; next = i + 1 }) before after
+  yielding d o plays replied hall woken = record {
+    replied = replied;
+    moved = ap (λ h. record { hall = h; next = i + 1 }) hall;
+    woken = woken;
+    counted = counted_by d plays ∙ ap (λ h. before.registered + all_registered h) hall;
+  }
+
+  yields_by : (d : Meaning) → PlaysBy d m l v i answer m' l' v' before after
+      → PartYields all_registered (record { hall = hall_of m l v; next = next }) i (step_by (hall_of m l v) i d) answer (record { hall = hall_of m' l' v'; next = i + 1 }) before after
+  yields_by (OnLocks Mutexes a) one = yielding (OnLocks Mutexes a) _ one one.yields.replied (λ j. hall_of (one.yields.moved j) (one.same j) (one.still j)) one.yields.woken
+  yields_by (OnLocks RwLocks a) one = yielding (OnLocks RwLocks a) _ one one.yields.replied (λ j. hall_of (one.same j) (one.yields.moved j) (one.still j)) one.yields.woken
+  yields_by (OnCondvars a) (waits, same) = yielding (OnCondvars a) _ (waits, same) (ap (λ (o : Outcome LockHall). o.reply) (sym (waits.moved l)))
+      ((λ j. hall_of m' (same j) v') ∙ (λ j. (sym (waits.moved l) j).hall)) (waits.woken ∙ (λ j. before.wakers ++ (sym (waits.moved l) j).wakes))
+
+  -- what was played on the parts was played on the hall
+  pub yields_all : (e : LockEvent) (d : Meaning) → d ≡ meaning_of e → PlaysBy d m l v i answer m' l' v' before after
+      → PartYields all_registered (record { hall = hall_of m l v; next = next }) i (step (hall_of m l v) i e) answer (record { hall = hall_of m' l' v'; next = i + 1 }) before after
+  yields_all e d is plays = subst (λ d. PartYields all_registered (record { hall = hall_of m l v; next = next }) i (step_by (hall_of m l v) i d) answer (record { hall = hall_of m' l' v'; next = i + 1 }) before after) is (yields_by d plays)

@@ -144,6 +144,9 @@ module _ {old : Part Condvars} {i : ℕ} (s : Site old i) where
   pub condvar_there : (c : ℕ) → is_condvar old.hall c ≡ true → IsSome (get s.cs c)
   condvar_there c is = condvar_of s.cs s.ws s.next s.view c ∙ is
 
+  pub wait_is : (f : ℕ) (p : Option WaitEntry) → get s.ws f ≡ p → is_wait old.hall f ≡ is_some p
+  wait_is f p is = sym (wait_of s.cs s.ws s.next s.view f) ∙ ap is_some is
+
   pub wait_there : (f : ℕ) → is_wait old.hall f ≡ true → IsSome (get s.ws f)
   wait_there f is = wait_of s.cs s.ws s.next s.view f ∙ is
 

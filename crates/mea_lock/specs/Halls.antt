@@ -1,8 +1,10 @@
 -- the locks of all kinds and the condition variables, and what an event does to them
-use Rattle.std.specs.Prelude.{ℕ, ◌≡◌, ◌≤◌, ◌+◌, ◌++◌, List}
+use Rattle.std.specs.Prelude.{ℕ, ◌≡◌, ◌≢◌, ◌≤◌, ◌+◌, ◌++◌, ◌⊎◌, List, Option, Some, None, Result, Ok, Err}
 use Rattle.mea_family.specs.declared.answer.Answer.{Answer}
+use Rattle.mea_family.specs.declared.stop.Stop.{Stop}
+use Rattle.mea_family.specs.declared.stop.Stop.TheVariants as stops
 use Rattle.mea_base.specs.Ready.{Waking}
-use Rattle.mea_family.specs.Play.{Part, PartYields}
+use Rattle.mea_family.specs.Play.{Part, PartYields, PartRests}
 use Rattle.mea_events.specs.declared.lock_event.LockEvent.{LockEvent}
 use Rattle.mea_lock_model.specs.Locks as locks
 use Rattle.mea_lock_model.specs.Locks.{Locks}
@@ -10,9 +12,9 @@ use Rattle.mea_lock_model.specs.Condvars as condvars
 use Rattle.mea_lock_model.specs.Condvars.{Condvars}
 use Rattle.mea_lock_model.specs.Actions.{Action, Make, Begin, Poll, Try, Hand, PollUntil, act_in}
 use Rattle.mea_lock_model.specs.CondActions as on
-use Rattle.mea_lock_model.specs.CondActions.{CondAction, act_on}
+use Rattle.mea_lock_model.specs.CondActions.{CondAction, cause_with, act_on}
 use Rattle.mea_lock_model.specs.LockHall.{LockHall, Mutexes, RwLocks}
-use Rattle.mea_lock_model.specs.Meaning.{Doing, OnLocks, OnCondvars, doing}
+use Rattle.mea_lock_model.specs.Meaning.{Meaning, OnLocks, OnCondvars, meaning_of, cause_at, cause_by}
 
 abbrev pub hall_of : Part Locks → Part Locks → Part Condvars → LockHall
 hall_of m l v = record { mutexes = m.hall; rw_locks = l.hall; condvars = v.hall }
@@ -37,16 +39,13 @@ pub record PlaysWaits (m : Part Locks) (v : Part Condvars) (i : ℕ) (a : CondAc
   pub counted : after.registered + (locks.registered m.hall + condvars.registered v.hall) ≡ before.registered + (locks.registered m'.hall + condvars.registered v'.hall)
   pub next : (m'.next ≤ i + 1) × (v'.next ≤ i + 1)
 
--- an action
-abbrev pub PlaysDoing : Doing → Part Locks → Part Locks → Part Condvars → ℕ → Answer → Part Locks → Part Locks → Part Condvars → Waking ℕ → Waking ℕ → Type 0
-PlaysDoing (OnLocks Mutexes a) m l v i answer m' l' v' before after = PlaysOne m l v i a answer m' l' v' before after
-PlaysDoing (OnLocks RwLocks a) m l v i answer m' l' v' before after = PlaysOne l m v i a answer l' m' v' before after
-PlaysDoing (OnCondvars a) m l v i answer m' l' v' before after = PlaysWaits m v i a answer m' v' before after × (l' ≡ l)
+-- what a line means was done
+abbrev pub PlaysBy : Meaning → Part Locks → Part Locks → Part Condvars → ℕ → Answer → Part Locks → Part Locks → Part Condvars → Waking ℕ → Waking ℕ → Type 0
+PlaysBy (OnLocks Mutexes a) m l v i answer m' l' v' before after = PlaysOne m l v i a answer m' l' v' before after
+PlaysBy (OnLocks RwLocks a) m l v i answer m' l' v' before after = PlaysOne l m v i a answer l' m' v' before after
+PlaysBy (OnCondvars a) m l v i answer m' l' v' before after = PlaysWaits m v i a answer m' v' before after × (l' ≡ l)
 
--- an event
-abbrev pub PlaysKinds : Part Locks → Part Locks → Part Condvars → ℕ → LockEvent → Answer → Part Locks → Part Locks → Part Condvars → Waking ℕ → Waking ℕ → Type 0
-PlaysKinds m l v i e answer m' l' v' before after = PlaysDoing (doing e) m l v i answer m' l' v' before after
-
+-- ---- what an action comes to
 -- the actions that take no memory
 abbrev pub IsFree : Action → Type 0
 IsFree (Make v most) = ⊥
@@ -57,13 +56,40 @@ IsFree (Hand g) = ⊥
 IsFree (PollUntil f w until) = ⊥
 IsFree _ = Unit {0}
 
-abbrev pub IsFreeDoing : Doing → Type 0
-IsFreeDoing (OnLocks k a) = IsFree a
-IsFreeDoing (OnCondvars on.Make) = ⊥
-IsFreeDoing (OnCondvars (on.Wait c g bound)) = ⊥
-IsFreeDoing (OnCondvars (on.Poll f w)) = ⊥
-IsFreeDoing (OnCondvars _) = Unit {0}
+abbrev pub IsFreeOn : CondAction → Type 0
+IsFreeOn on.Make = ⊥
+IsFreeOn (on.Wait c g bound) = ⊥
+IsFreeOn (on.Poll f w) = ⊥
+IsFreeOn _ = Unit {0}
+
+abbrev pub IsFreeBy : Meaning → Type 0
+IsFreeBy (OnLocks k a) = IsFree a
+IsFreeBy (OnCondvars a) = IsFreeOn a
 
 -- the events that take no memory
 abbrev pub TakesNoMemory : LockEvent → Type 0
-TakesNoMemory e = IsFreeDoing (doing e)
+TakesNoMemory e = IsFreeBy (meaning_of e)
+
+-- refused for its cause; or, where it has none and is not free of memory, for want of that
+abbrev pub Refuses : Option Stop → Type 0 → Stop → Type 0
+Refuses cause free stop = ((cause ≡ Some stop) × (stop ≢ stops.NoMemory)) ⊎ ((cause ≡ None) × (stop ≡ stops.NoMemory) × (free → ⊥))
+
+-- event number i asked this of the locks of one kind: it was done; or refused, and nothing has changed
+abbrev pub Acts : Part Locks → ℕ → Action → Result Answer Stop → Part Locks → Waking ℕ → Waking ℕ → Type 0
+Acts old i a (Ok answer) new before after = (cause_at old.hall a ≡ None) × PartYields locks.registered old i (act_in old.hall i a) answer new before after
+Acts old i a (Err stop) new before after = Refuses (cause_at old.hall a) (IsFree a) stop × (new ≡ old) × (after ≡ before)
+
+-- and no waker was made ready
+abbrev pub ActsQuietly : Part Locks → ℕ → Action → Result Answer Stop → Part Locks → Type 0
+ActsQuietly old i a (Ok answer) new = (cause_at old.hall a ≡ None) × PartRests locks.registered old i (act_in old.hall i a) answer new
+ActsQuietly old i a (Err stop) new = Refuses (cause_at old.hall a) (IsFree a) stop × (new ≡ old)
+
+-- it asked this of condition variables and of the mutexes of their waits
+abbrev pub ActsOn : Part Locks → Part Condvars → ℕ → CondAction → Result Answer Stop → Part Locks → Part Condvars → Waking ℕ → Waking ℕ → Type 0
+ActsOn m v i a (Ok answer) m' v' before after = (cause_with m.hall v.hall a ≡ None) × PlaysWaits m v i a answer m' v' before after
+ActsOn m v i a (Err stop) m' v' before after = Refuses (cause_with m.hall v.hall a) (IsFreeOn a) stop × (m' ≡ m) × (v' ≡ v) × (after ≡ before)
+
+-- it asked what a line means
+abbrev pub ActsBy : Meaning → Part Locks → Part Locks → Part Condvars → ℕ → Result Answer Stop → Part Locks → Part Locks → Part Condvars → Waking ℕ → Waking ℕ → Type 0
+ActsBy d m l v i (Ok answer) m' l' v' before after = (cause_by (hall_of m l v) d ≡ None) × PlaysBy d m l v i answer m' l' v' before after
+ActsBy d m l v i (Err stop) m' l' v' before after = Refuses (cause_by (hall_of m l v) d) (IsFreeBy d) stop × (m' ≡ m) × (l' ≡ l) × (v' ≡ v) × (after ≡ before)

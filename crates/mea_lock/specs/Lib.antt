@@ -1,4 +1,5 @@
 pub mod Accesses
+pub mod Actions
 pub mod Cores
 pub mod Waits
 pub mod Entries

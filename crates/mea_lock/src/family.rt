@@ -5,7 +5,8 @@ ghost use Rattle.mea_lock.specs.Cores.{as_rw};
 ghost use Rattle.mea_lock.specs.Lends.{StandsFor, ListsAs};
 
 use crate::kinds::Kinds;
-use mea_base::{NoMemory, Ready};
+use crate::meaning::meaning_of;
+use mea_base::Ready;
 use mea_by_name::NamedWaker;
 use mea_events::LockEvent;
 use mea_family::{Answer, Stop};
@@ -119,17 +120,17 @@ impl Family<LockModel> for LockFamily {
     }
 
     fn cause(&self, event: &LockEvent) -> Option<Stop> {
-        self.kinds.cause(event)
+        self.kinds.cause(meaning_of(event))
     }
 
-    fn play(
+    fn act(
         &mut self,
         number: u64,
         event: &LockEvent,
         ready: &mut Ready<u64>,
-    ) -> Result<Answer, NoMemory> {
+    ) -> Result<Answer, Stop> {
         wakes_are_of_the_registered();
-        let answer = self.kinds.play(number, event, ready)?;
+        let answer = self.kinds.act(number, meaning_of(event), ready)?;
         self.next = number as u128 + 1;
         Ok(answer)
     }

@@ -4,12 +4,14 @@
 #![tactic(auto)]
 
 mod access;
+mod actions;
 mod condvar_entry;
 mod entries;
 mod family;
 mod guard_entry;
 mod kinds;
 mod lock_core;
+mod meaning;
 mod mutexes;
 mod part;
 mod rw_locks;

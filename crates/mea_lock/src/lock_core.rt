@@ -1,10 +1,12 @@
 ghost use Rattle.std.specs.Prelude.{◌≡◌, ◌<◌, ◌≤◌, ◌∷◌, [], length, true, false, OnErr, IfOk, IfSome, IfNone};
 ghost use Rattle.mea_lock_core.specs.RwLock.{IsSound, MayPoll, MayCancel, share_of, is_write};
 ghost use Rattle.mea_lock.specs.Cores.{PollsLock, CancelsLock, TakesLock, UnlocksLock, LowersLock, IsHeldAs};
+ghost use Rattle.mea_lock.specs.Parts.{IsNewLock};
 ghost use Rattle.mea_lock.specs.Waits.{IsNewWait};
 
 use mea_base::{NoMemory, Turn};
 use mea_by_name::NamedWaker;
+use std::alloc::Global;
 
 /// The core of a lock as a hall uses it. Each kind is seen as a reader-writer lock: a mutex is one of one
 /// permit that is only written. Only `poll` takes memory.
@@ -20,6 +22,12 @@ pub trait LockCore: Drop {
     ghost wait_of: { Self.Wait → RwWait };
     // Whether it is only written, as a mutex is.
     ghost is_only_written: { Bool };
+
+    /// A lock of a value and so many permits, which nobody holds or waits for. It takes no memory.
+    fn make(alloc: Global, value: u64, most: usize) -> Self
+        requires some { 0 < most }
+        requires one { is_only_written ≡ true → most ≡ 1 }
+        ensures { IsNewLock (lock_of result) value most };
 
     /// Whether a wait is for a write.
     fn writes(wait: &Self::Wait) -> bool

@@ -2,6 +2,7 @@ use crate::lock_core::LockCore;
 use mea_base::{NoMemory, Turn};
 use mea_by_name::NamedWaker;
 use mea_lock_core::{LockWait, MutexCore};
+use std::alloc::Global;
 
 impl LockCore for MutexCore<u64, NamedWaker> {
     type Wait = LockWait;
@@ -16,6 +17,10 @@ impl LockCore for MutexCore<u64, NamedWaker> {
     ghost use Rattle.std.specs.Prelude.{true};
 
     ghost is_only_written = { true };
+
+    fn make(alloc: Global, value: u64, _most: usize) -> Self {
+        MutexCore::new(alloc, value)
+    }
 
     fn writes(_wait: &LockWait) -> bool {
         true

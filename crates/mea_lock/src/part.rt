@@ -1,24 +1,29 @@
-ghost use Rattle.std.specs.Prelude.{◌≡◌, ◌≤◌, ◌≢◌, OnErr, IfOk, IfErr, IfSome, is_some, None, Some, true, false, if◌then◌else◌};
+ghost use Rattle.std.specs.Prelude.{◌≡◌, ◌≢◌, ◌≤◌, OnErr, IfOk, IfSome, IfNone, is_some, not, None, Some, true, false, if◌then◌else◌};
 ghost use Rattle.std.specs.FinMap as map;
+ghost use Rattle.std.specs.Option.{option_map};
 ghost use Rattle.mea_family.specs.Causes.{borrowed_by};
 ghost use Rattle.mea_family.specs.Forms.{is_plain};
 ghost use Rattle.mea_family.specs.Play.{PartYields, PartRests};
 ghost use Rattle.mea_lock_model.specs.Locks.{no_locks, is_named, is_future, is_lock_future, is_condvar_future, is_guard, is_write_guard, was_polled, things_of, plain_of, registered};
 ghost use Rattle.mea_lock_model.specs.Actions.{act_in, Make, Begin, Poll, Try, Get, Set, Lower, End, Peek, Put, Take, Drop, Hand, PollUntil, EndWait};
+ghost use Rattle.mea_lock_model.specs.Meaning.{cause_at};
 ghost use Rattle.mea_lock_model.specs.Valid.{FitGuards};
 ghost use Rattle.mea_lock.specs.Accesses.{writes};
-ghost use Rattle.mea_lock.specs.Parts.{IsNewLock};
+ghost use Rattle.mea_lock.specs.Actions.{lock_action, FitsMutex};
+ghost use Rattle.mea_lock.specs.Halls.{Acts, ActsQuietly};
+ghost use Rattle.mea_lock.specs.Parts.{guard_seen};
 ghost use Rattle.mea_lock.specs.Lends.{StandsFor};
 ghost use Rattle.mea_lock.specs.Waits.{until_seen, answer_to, AsksFor};
 
 use crate::access::Access;
+use crate::actions::LockAction;
 use crate::entries::{FutureEntry, LockEntry};
 use crate::guard_entry::GuardEntry;
 use crate::lock_core::{LockCore, LoweredCore};
 use crate::until::{Asked, Until};
 use mea_base::{NoMemory, Ready, Turn};
 use mea_by_name::ByName;
-use mea_family::{Answer, Form, Stop, borrowed_if};
+use mea_family::{Answer, Form, Stop, borrowed_if, unknown_unless, zero_if};
 use std::alloc::Global;
 use std::marker::Model;
 
@@ -32,6 +37,7 @@ pub struct LockPart<C: LockCore> {
     futures: ByName<FutureEntry<C>>,
     guards: ByName<GuardEntry>,
     next: u128,
+    alloc: Global,
 }
 
 impl<C: LockCore> Model for LockPart<C> {
@@ -59,6 +65,72 @@ impl<C: LockCore> LockPart<C> {
             futures: ByName::new(alloc),
             guards: ByName::new(alloc),
             next: 0,
+            alloc,
+        }
+    }
+
+    /// The core of a lock that is named. It takes no memory.
+    pub fn core(&self, o: u64) -> Option<&C>
+        ensures named { is_some result ≡ is_named self.now.hall o }
+        ensures stands { IfSome result (λ core. StandsFor self.now.hall o (C.lock_of core.now)) }
+    {
+        let entry = self.named_entry(o)?;
+        Some(entry.core())
+    }
+
+    /// The guards of each lock have no more permits than the lock has. It does nothing.
+    pub fn guards_fit(&self)
+        ensures { FitGuards self.now.hall }
+    {
+        let _next = self.next;
+    }
+
+    /// Why an action is refused; None where it is not. It takes no memory.
+    pub fn cause(&self, action: LockAction) -> Option<Stop>
+        ensures { result ≡ cause_at self.now.hall (lock_action action) }
+    {
+        match action {
+            LockAction::Make(_, most) => zero_if(most == 0),
+            LockAction::Begin(o, _, _) => unknown_unless(self.is_named(o)),
+            LockAction::Poll(f, _) => unknown_unless(self.is_of_condvar(f) == Some(false)),
+            LockAction::Try(o, _, _) => unknown_unless(self.is_named(o)),
+            LockAction::Get(g) => unknown_unless(self.guard(g).is_some()),
+            LockAction::Set(g, _) => unknown_unless(self.write_guard(g).is_some()),
+            LockAction::End(x) => match self.is_of_condvar(x) {
+                Some(of_condvar) => unknown_unless(!of_condvar),
+                None => unknown_unless(self.guard(x).is_some()),
+            },
+            LockAction::Peek(o) | LockAction::Put(o, _) | LockAction::Take(o) => self.cause_of_use(
+                o,
+            ),
+            LockAction::Drop(o) => self.cause_of_drop(o),
+        }
+    }
+
+    /// Does an action, or finds why it is refused. On an error nothing has changed.
+    pub fn act(
+        &mut self,
+        number: u64,
+        action: LockAction,
+        ready: &mut Ready<u64>,
+    ) -> Result<Answer, Stop>
+        requires next { self.old.next ≤ number }
+        requires fits { C.is_only_written ≡ true → FitsMutex action }
+        requires room { registered self.old.hall ≤ ready.old.registered }
+        ensures { Acts self.old number (lock_action action) result self.new ready.old ready.new }
+    {
+        match action {
+            LockAction::Make(v, most) => self.make(number, v, most),
+            LockAction::Begin(o, form, access) => self.begin(number, o, form, access),
+            LockAction::Poll(f, waker) => self.poll(number, f, waker, ready),
+            LockAction::Try(o, form, access) => self.try_lock(number, o, form, access),
+            LockAction::Get(g) => self.get(number, g),
+            LockAction::Set(g, v) => self.set(number, g, v),
+            LockAction::End(x) => self.end(number, x, ready),
+            LockAction::Peek(o) => self.peek(number, o),
+            LockAction::Put(o, v) => self.put(number, o, v),
+            LockAction::Take(o) => self.take(number, o),
+            LockAction::Drop(o) => self.end_name(number, o),
         }
     }
 
@@ -73,72 +145,51 @@ impl<C: LockCore> LockPart<C> {
         if entry.is_named() { Some(entry) } else { None }
     }
 
-    /// The core of a lock that is named.
-    pub fn core(&self, o: u64) -> Option<&C>
-        ensures named { is_some result ≡ is_named self.now.hall o }
-        ensures stands { IfSome result (λ core. StandsFor self.now.hall o (C.lock_of core.now)) }
-    {
-        let entry = self.named_entry(o)?;
-        Some(entry.core())
-    }
-
-    pub fn is_named(&self, o: u64) -> bool
+    fn is_named(&self, o: u64) -> bool
         ensures { result ≡ is_named self.now.hall o }
     {
         self.named_entry(o).is_some()
     }
 
-    pub fn is_future(&self, f: u64) -> bool
-        ensures { result ≡ is_future self.now.hall f }
+    // Whether a future is that of a wait on a condition variable, where there is one.
+    fn is_of_condvar(&self, f: u64) -> Option<bool>
+        ensures none { IfNone result (map.get self.now.hall.futures f ≡ None) }
+        ensures some { IfSome result (λ of. (is_future self.now.hall f ≡ true) × (is_lock_future self.now.hall f ≡ not of) × (is_condvar_future self.now.hall f ≡ of)) }
     {
-        self.futures.has(f)
+        let future = self.futures.get(f)?;
+        Some(future.is_of_condvar())
     }
 
-    /// Whether it is a future that waits for the lock alone.
-    pub fn is_lock_future(&self, f: u64) -> bool
-        ensures { result ≡ is_lock_future self.now.hall f }
-    {
-        match self.futures.get(f) {
-            Some(future) => !future.is_of_condvar(),
-            None => false,
-        }
-    }
-
-    /// Whether it is that of a wait on a condition variable.
+    /// Whether it is a future of a wait on a condition variable. It takes no memory.
     pub fn is_condvar_future(&self, f: u64) -> bool
         ensures { result ≡ is_condvar_future self.now.hall f }
     {
-        match self.futures.get(f) {
-            Some(future) => future.is_of_condvar(),
+        match self.is_of_condvar(f) {
+            Some(of_condvar) => of_condvar,
             None => false,
         }
     }
 
-    pub fn is_guard(&self, g: u64) -> bool
-        ensures { result ≡ is_guard self.now.hall g }
+    // The guard of a name.
+    fn guard(&self, g: u64) -> Option<GuardEntry>
+        ensures { option_map guard_seen result ≡ map.get self.now.hall.guards g }
     {
-        self.guards.has(g)
+        self.guards.get(g).copied()
     }
 
-    pub fn is_write_guard(&self, g: u64) -> bool
-        ensures { result ≡ is_write_guard self.now.hall g }
+    /// The guard of a name, where it writes. It takes no memory.
+    pub fn write_guard(&self, g: u64) -> Option<GuardEntry>
+        ensures there { is_some result ≡ is_write_guard self.now.hall g }
+        ensures some { IfSome result (λ guard. (map.get self.now.hall.guards g ≡ Some (guard_seen guard)) × (guard.writes ≡ true)) }
     {
-        match self.guards.get(g) {
-            Some(guard) => guard.writes,
-            None => false,
-        }
+        let guard = self.guard(g)?;
+        if guard.writes { Some(guard) } else { None }
     }
 
-    /// The guards of each lock have no more permits than the lock has. It does nothing.
-    pub fn guards_fit(&self)
-        ensures { FitGuards self.now.hall }
-    {
-        let _next = self.next;
-    }
-
-    /// Why a use of the whole lock is refused: it is unknown, or a future or a guard borrows it.
-    pub fn cause_of_use(&self, o: u64) -> Option<Stop>
-        ensures { result ≡ borrowed_by (is_named self.now.hall o) (things_of self.now.hall o) }
+    // Why a use of the whole lock is refused: it is unknown, or a future or a guard borrows it.
+    fn cause_of_use(&self, o: u64) -> Option<Stop>
+        ensures is { result ≡ borrowed_by (is_named self.now.hall o) (things_of self.now.hall o) }
+        ensures tells { result ≢ Some Stop.NoMemory }
     {
         match self.named_entry(o) {
             Some(entry) => borrowed_if(entry.has_things()),
@@ -146,9 +197,10 @@ impl<C: LockCore> LockPart<C> {
         }
     }
 
-    /// Why the end of its name is refused: it is unknown, or a plain future or guard borrows it.
-    pub fn cause_of_drop(&self, o: u64) -> Option<Stop>
-        ensures { result ≡ borrowed_by (is_named self.now.hall o) (plain_of self.now.hall o) }
+    // Why the end of its name is refused: it is unknown, or a plain future or guard borrows it.
+    fn cause_of_drop(&self, o: u64) -> Option<Stop>
+        ensures is { result ≡ borrowed_by (is_named self.now.hall o) (plain_of self.now.hall o) }
+        ensures tells { result ≢ Some Stop.NoMemory }
     {
         match self.named_entry(o) {
             Some(entry) => borrowed_if(entry.has_plain()),
@@ -156,34 +208,32 @@ impl<C: LockCore> LockPart<C> {
         }
     }
 
-    /// Makes a lock of a new core. On an error nothing has changed.
-    pub fn make(&mut self, number: u64, core: C) -> Result<Answer, NoMemory>
+    // Makes a lock of a value and so many permits. On an error nothing has changed.
+    fn make(&mut self, number: u64, value: u64, most: usize) -> Result<Answer, Stop>
         requires next { self.old.next ≤ number }
-        requires new { IsNewLock (C.lock_of core) (C.lock_of core).value (C.lock_of core).most }
-        ensures ok { IfOk result (λ answer. PartRests registered self.old number (act_in self.old.hall number (Make (C.lock_of core).value (C.lock_of core).most)) answer self.new) }
-        ensures err { OnErr result (self.new ≡ self.old) }
+        requires one { C.is_only_written ≡ true → most ≡ 1 }
+        ensures { ActsQuietly self.old number (Make value most) result self.new }
     {
+        if most == 0 {
+            return Err(Stop::Zero);
+        }
+        let core = C::make(self.alloc, value, most);
         let Ok(()) = self.locks.insert(number, LockEntry::new(core)) else {
-            return Err(NoMemory);
+            return Err(Stop::NoMemory);
         };
         self.next = number as u128 + 1;
         Ok(Answer::Made)
     }
 
-    /// Makes a future, to read or to write. On an error nothing has changed.
-    pub fn begin(
-        &mut self,
-        number: u64,
-        o: u64,
-        form: Form,
-        access: Access,
-    ) -> Result<Answer, NoMemory>
+    // Makes a future, to read or to write. On an error nothing has changed.
+    fn begin(&mut self, number: u64, o: u64, form: Form, access: Access) -> Result<Answer, Stop>
         requires next { self.old.next ≤ number }
-        requires named { is_named self.old.hall o ≡ true }
         requires writes { C.is_only_written ≡ true → writes access ≡ true }
-        ensures ok { IfOk result (λ answer. PartRests registered self.old number (act_in self.old.hall number (Begin o (is_plain form) (writes access))) answer self.new) }
-        ensures err { OnErr result (self.new ≡ self.old) }
+        ensures { ActsQuietly self.old number (Begin o (is_plain form) (writes access)) result self.new }
     {
+        if !self.is_named(o) {
+            return Err(Stop::Unknown);
+        }
         let plain = form.is_plain();
         let write = access.writes();
         let entry = self.locks.at_mut(o);
@@ -191,37 +241,40 @@ impl<C: LockCore> LockPart<C> {
             .futures
             .insert(number, entry.new_future(o, plain, write))
         else {
-            return Err(NoMemory);
+            return Err(Stop::NoMemory);
         };
         entry.begin(plain);
         self.next = number as u128 + 1;
         Ok(Answer::Made)
     }
 
-    /// Polls a future. Room for the guard is made first. On an error nothing has changed.
-    pub fn poll(
+    // Polls a future. Room for the guard is made first. On an error nothing has changed.
+    fn poll(
         &mut self,
         number: u64,
         f: u64,
         waker: u64,
         ready: &mut Ready<u64>,
-    ) -> Result<Answer, NoMemory>
+    ) -> Result<Answer, Stop>
         requires next { self.old.next ≤ number }
-        requires there { is_lock_future self.old.hall f ≡ true }
         requires room { registered self.old.hall ≤ ready.old.registered }
-        ensures ok { IfOk result (λ answer. PartYields registered self.old number (act_in self.old.hall number (Poll f waker)) answer self.new ready.old ready.new) }
-        ensures err { OnErr result ((self.new ≡ self.old) × (ready.new ≡ ready.old)) }
+        ensures { Acts self.old number (Poll f waker) result self.new ready.old ready.new }
     {
-        let future = self.futures.at_mut(f);
+        let Some(future) = self.futures.get_mut(f) else {
+            return Err(Stop::Unknown);
+        };
+        if future.is_of_condvar() {
+            return Err(Stop::Unknown);
+        }
         let guard = future.guard();
         let entry = self.locks.at_mut(guard.lock);
         let Ok(()) = self.guards.insert(number, guard) else {
-            return Err(NoMemory);
+            return Err(Stop::NoMemory);
         };
         match entry.poll(f, future, waker, ready) {
             Err(_) => {
                 let _ = self.guards.remove(number);
-                Err(NoMemory)
+                Err(Stop::NoMemory)
             }
             Ok(Turn::Pending) => {
                 let _ = self.guards.remove(number);
@@ -238,13 +291,13 @@ impl<C: LockCore> LockPart<C> {
 
     /// Hands a guard that writes over to a wait on a condition variable, whose future has the lock instead. On an error
     /// nothing has changed.
-    pub fn hand(&mut self, number: u64, g: u64) -> Result<Answer, NoMemory>
+    pub fn hand(&mut self, number: u64, g: u64, guard: GuardEntry) -> Result<Answer, NoMemory>
         requires next { self.old.next ≤ number }
-        requires there { is_write_guard self.old.hall g ≡ true }
+        requires there { map.get self.old.hall.guards g ≡ Some (guard_seen guard) }
+        requires writes { guard.writes ≡ true }
         ensures ok { IfOk result (λ answer. PartRests registered self.old number (act_in self.old.hall number (Hand g)) answer self.new) }
         ensures err { OnErr result (self.new ≡ self.old) }
     {
-        let guard = *self.guards.at(g);
         let entry = self.locks.at(guard.lock);
         let Ok(()) = self
             .futures
@@ -303,20 +356,15 @@ impl<C: LockCore> LockPart<C> {
         }
     }
 
-    /// Makes a guard where its permits are free. On an error nothing has changed.
-    pub fn try_lock(
-        &mut self,
-        number: u64,
-        o: u64,
-        form: Form,
-        access: Access,
-    ) -> Result<Answer, NoMemory>
+    // Makes a guard where its permits are free. On an error nothing has changed.
+    fn try_lock(&mut self, number: u64, o: u64, form: Form, access: Access) -> Result<Answer, Stop>
         requires next { self.old.next ≤ number }
-        requires named { is_named self.old.hall o ≡ true }
         requires writes { C.is_only_written ≡ true → writes access ≡ true }
-        ensures ok { IfOk result (λ answer. PartRests registered self.old number (act_in self.old.hall number (Try o (is_plain form) (writes access))) answer self.new) }
-        ensures err { OnErr result (self.new ≡ self.old) }
+        ensures { ActsQuietly self.old number (Try o (is_plain form) (writes access)) result self.new }
     {
+        if !self.is_named(o) {
+            return Err(Stop::Unknown);
+        }
         let plain = form.is_plain();
         let write = access.writes();
         let guard = GuardEntry {
@@ -325,7 +373,7 @@ impl<C: LockCore> LockPart<C> {
             writes: write,
         };
         let Ok(()) = self.guards.insert(number, guard) else {
-            return Err(NoMemory);
+            return Err(Stop::NoMemory);
         };
         let entry = self.locks.at_mut(o);
         if entry.try_lock(write) {
@@ -338,52 +386,42 @@ impl<C: LockCore> LockPart<C> {
         Ok(Answer::Lacking)
     }
 
-    /// Tells the value, by a guard. It takes no memory.
-    pub fn get(&mut self, number: u64, g: u64) -> Answer
-        requires next { self.old.next ≤ number }
-        requires there { is_guard self.old.hall g ≡ true }
-        ensures { PartRests registered self.old number (act_in self.old.hall number (Get g)) result self.new }
+    // Tells the value, by a guard. It takes no memory.
+    fn get(&mut self, number: u64, g: u64) -> Result<Answer, Stop>
+        requires { self.old.next ≤ number }
+        ensures { ActsQuietly self.old number (Get g) result self.new }
     {
-        let guard = *self.guards.at(g);
+        let Some(guard) = self.guard(g) else {
+            return Err(Stop::Unknown);
+        };
         let v = self.locks.at(guard.lock).value_by(guard.writes);
         self.next = number as u128 + 1;
-        Answer::Value(v)
+        Ok(Answer::Value(v))
     }
 
-    /// Writes the value, by a guard that writes. It takes no memory.
-    pub fn set(&mut self, number: u64, g: u64, v: u64) -> Answer
-        requires next { self.old.next ≤ number }
-        requires there { is_write_guard self.old.hall g ≡ true }
-        ensures { PartRests registered self.old number (act_in self.old.hall number (Set g v)) result self.new }
+    // Writes the value, by a guard that writes. It takes no memory.
+    fn set(&mut self, number: u64, g: u64, v: u64) -> Result<Answer, Stop>
+        requires { self.old.next ≤ number }
+        ensures { ActsQuietly self.old number (Set g v) result self.new }
     {
-        let o = self.guards.at(g).lock;
-        self.locks.at_mut(o).set_value(v);
+        let Some(guard) = self.write_guard(g) else {
+            return Err(Stop::Unknown);
+        };
+        self.locks.at_mut(guard.lock).set_value(v);
         self.next = number as u128 + 1;
-        Answer::Done
+        Ok(Answer::Done)
     }
 
-    /// Whether it is a future that waits for the lock alone, or else a guard.
-    pub fn may_end(&self, x: u64) -> bool
-        ensures { result ≡ (if is_future self.now.hall x then is_lock_future self.now.hall x else is_guard self.now.hall x) }
-    {
-        if self.is_future(x) {
-            self.is_lock_future(x)
-        } else {
-            self.is_guard(x)
-        }
-    }
-
-    /// Ends a future, or else a guard. It takes no memory.
-    pub fn end(&mut self, number: u64, x: u64, ready: &mut Ready<u64>) -> Answer
+    // Ends a future that waits for the lock alone, or else a guard. It takes no memory.
+    fn end(&mut self, number: u64, x: u64, ready: &mut Ready<u64>) -> Result<Answer, Stop>
         requires next { self.old.next ≤ number }
-        requires there { is_future self.old.hall x ≡ false → is_guard self.old.hall x ≡ true }
         requires room { registered self.old.hall ≤ ready.old.registered }
-        ensures { PartYields registered self.old number (act_in self.old.hall number (End x)) result self.new ready.old ready.new }
+        ensures { Acts self.old number (End x) result self.new ready.old ready.new }
     {
-        if self.is_future(x) {
-            self.end_wait(number, x, ready)
-        } else {
-            self.end_guard(number, x, ready)
+        match self.is_of_condvar(x) {
+            Some(true) => Err(Stop::Unknown),
+            Some(false) => Ok(self.end_wait(number, x, ready)),
+            None => self.end_guard(number, x, ready),
         }
     }
 
@@ -406,86 +444,94 @@ impl<C: LockCore> LockPart<C> {
         Answer::Done
     }
 
-    fn end_guard(&mut self, number: u64, g: u64, ready: &mut Ready<u64>) -> Answer
+    // Ends a guard. It takes no memory.
+    fn end_guard(&mut self, number: u64, g: u64, ready: &mut Ready<u64>) -> Result<Answer, Stop>
         requires next { self.old.next ≤ number }
         requires apart { map.get self.old.hall.futures g ≡ None }
-        requires there { is_guard self.old.hall g ≡ true }
         requires room { registered self.old.hall ≤ ready.old.registered }
-        ensures { PartYields registered self.old number (act_in self.old.hall number (End g)) result self.new ready.old ready.new }
+        ensures { Acts self.old number (End g) result self.new ready.old ready.new }
     {
-        let guard = self.guards.remove(g);
+        let Some(guard) = self.guards.take(g) else {
+            return Err(Stop::Unknown);
+        };
         let entry = self.locks.at_mut(guard.lock);
         entry.unlock(guard.writes, ready);
         entry.finish(guard.plain);
         let over = entry.is_over();
         self.locks.remove_if(guard.lock, over);
         self.next = number as u128 + 1;
-        Answer::Done
+        Ok(Answer::Done)
     }
 
-    /// Tells the value of a lock that has nothing. It takes no memory.
-    pub fn peek(&mut self, number: u64, o: u64) -> Answer
-        requires next { self.old.next ≤ number }
-        requires named { is_named self.old.hall o ≡ true }
-        requires alone { things_of self.old.hall o ≡ 0 }
-        ensures { PartRests registered self.old number (act_in self.old.hall number (Peek o)) result self.new }
+    // Tells the value of a lock that has nothing. It takes no memory.
+    fn peek(&mut self, number: u64, o: u64) -> Result<Answer, Stop>
+        requires { self.old.next ≤ number }
+        ensures { ActsQuietly self.old number (Peek o) result self.new }
     {
+        if let Some(stop) = self.cause_of_use(o) {
+            return Err(stop);
+        }
         let v = self.locks.at_mut(o).idle_value();
         self.next = number as u128 + 1;
-        Answer::Value(v)
+        Ok(Answer::Value(v))
     }
 
-    /// Writes the value of a lock that has nothing. It takes no memory.
-    pub fn put(&mut self, number: u64, o: u64, v: u64) -> Answer
-        requires next { self.old.next ≤ number }
-        requires named { is_named self.old.hall o ≡ true }
-        requires alone { things_of self.old.hall o ≡ 0 }
-        ensures { PartRests registered self.old number (act_in self.old.hall number (Put o v)) result self.new }
+    // Writes the value of a lock that has nothing. It takes no memory.
+    fn put(&mut self, number: u64, o: u64, v: u64) -> Result<Answer, Stop>
+        requires { self.old.next ≤ number }
+        ensures { ActsQuietly self.old number (Put o v) result self.new }
     {
+        if let Some(stop) = self.cause_of_use(o) {
+            return Err(stop);
+        }
         self.locks.at_mut(o).set_idle_value(v);
         self.next = number as u128 + 1;
-        Answer::Done
+        Ok(Answer::Done)
     }
 
-    /// Takes the value of a lock out that has nothing; the lock is gone. It takes no memory.
-    pub fn take(&mut self, number: u64, o: u64) -> Answer
-        requires next { self.old.next ≤ number }
-        requires named { is_named self.old.hall o ≡ true }
-        requires alone { things_of self.old.hall o ≡ 0 }
-        ensures { PartRests registered self.old number (act_in self.old.hall number (Take o)) result self.new }
+    // Takes the value of a lock out that has nothing; the lock is gone. It takes no memory.
+    fn take(&mut self, number: u64, o: u64) -> Result<Answer, Stop>
+        requires { self.old.next ≤ number }
+        ensures { ActsQuietly self.old number (Take o) result self.new }
     {
+        if let Some(stop) = self.cause_of_use(o) {
+            return Err(stop);
+        }
         let v = self.locks.remove(o).into_value();
         self.next = number as u128 + 1;
-        Answer::Value(v)
+        Ok(Answer::Value(v))
     }
 
-    /// Ends the name of a lock. It takes no memory.
-    pub fn end_name(&mut self, number: u64, o: u64) -> Answer
-        requires next { self.old.next ≤ number }
-        requires named { is_named self.old.hall o ≡ true }
-        ensures { PartRests registered self.old number (act_in self.old.hall number (Drop o)) result self.new }
+    // Ends the name of a lock. It takes no memory.
+    fn end_name(&mut self, number: u64, o: u64) -> Result<Answer, Stop>
+        requires { self.old.next ≤ number }
+        ensures { ActsQuietly self.old number (Drop o) result self.new }
     {
+        if let Some(stop) = self.cause_of_drop(o) {
+            return Err(stop);
+        }
         let entry = self.locks.at_mut(o);
         entry.unname();
         let over = entry.is_over();
         self.locks.remove_if(o, over);
         self.next = number as u128 + 1;
-        Answer::Done
+        Ok(Answer::Done)
     }
 }
 
 impl<C: LoweredCore> LockPart<C> {
     /// A guard that writes reads from now on. It takes no memory.
-    pub fn lower(&mut self, number: u64, g: u64, ready: &mut Ready<u64>) -> Answer
+    pub fn lower(&mut self, number: u64, g: u64, ready: &mut Ready<u64>) -> Result<Answer, Stop>
         requires next { self.old.next ≤ number }
-        requires there { is_write_guard self.old.hall g ≡ true }
         requires room { registered self.old.hall ≤ ready.old.registered }
-        ensures { PartYields registered self.old number (act_in self.old.hall number (Lower g)) result self.new ready.old ready.new }
+        ensures { Acts self.old number (Lower g) result self.new ready.old ready.new }
     {
-        let guard = self.guards.at_mut(g);
-        guard.writes = false;
+        let Some(guard) = self.write_guard(g) else {
+            return Err(Stop::Unknown);
+        };
+        self.guards.at_mut(g).writes = false;
         self.locks.at_mut(guard.lock).lower(ready);
         self.next = number as u128 + 1;
-        Answer::Done
+        Ok(Answer::Done)
     }
 }

@@ -2,6 +2,7 @@ use crate::lock_core::{LockCore, LoweredCore};
 use mea_base::{NoMemory, Turn};
 use mea_by_name::NamedWaker;
 use mea_lock_core::{RwCore, RwWait};
+use std::alloc::Global;
 
 impl LockCore for RwCore<u64, NamedWaker> {
     type Wait = RwWait;
@@ -13,6 +14,10 @@ impl LockCore for RwCore<u64, NamedWaker> {
     ghost use Rattle.std.specs.Prelude.{false};
 
     ghost is_only_written = { false };
+
+    fn make(alloc: Global, value: u64, most: usize) -> Self {
+        RwCore::new(alloc, value, most)
+    }
 
     fn writes(wait: &RwWait) -> bool {
         !matches!(wait, RwWait::Read { .. })

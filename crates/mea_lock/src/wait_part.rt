@@ -1,23 +1,25 @@
-ghost use Rattle.std.specs.Prelude.{ℕ, ◌≡◌, ◌≤◌, ◌+◌, OnErr, IfOk, IfSome, is_some, true};
+ghost use Rattle.std.specs.Prelude.{ℕ, ◌≡◌, ◌≢◌, ◌≤◌, ◌+◌, ◌&&◌, IfSome, is_some, Some};
 ghost use Rattle.mea_family.specs.Causes.{borrowed_by};
 ghost use Rattle.mea_base.specs.Ready.{Waking};
 ghost use Rattle.mea_family.specs.Play.{Part};
 ghost use Rattle.mea_lock_model.specs.Condvars.{no_condvars, is_condvar, is_wait, waits_of, until_of, registered};
 ghost use Rattle.mea_lock_model.specs.Locks as locks;
-ghost use Rattle.mea_lock_model.specs.Locks.{Locks, is_condvar_future, is_write_guard};
-ghost use Rattle.mea_lock_model.specs.CondActions.{Make, Wait, Poll, One, All, End, Drop};
-ghost use Rattle.mea_lock.specs.Halls.{PlaysWaits};
+ghost use Rattle.mea_lock_model.specs.Locks.{Locks, is_condvar_future};
+ghost use Rattle.mea_lock_model.specs.CondActions.{cause_with, Make, Wait, Poll, One, All, End, Drop};
+ghost use Rattle.mea_lock.specs.Actions.{cond_action};
+ghost use Rattle.mea_lock.specs.Halls.{ActsOn};
 ghost use Rattle.mea_lock.specs.Waits.{until_seen};
 ghost use Rattle.mea_lock.specs.CondEntries.{wait_seen};
 ghost use Rattle.mea_lock.specs.Lends.{ListsAs};
 
+use crate::actions::CondAction;
 use crate::condvar_entry::CondvarEntry;
 use crate::part::LockPart;
 use crate::until::{Asked, Until};
 use crate::wait_entry::WaitEntry;
-use mea_base::{NoMemory, Ready};
+use mea_base::Ready;
 use mea_by_name::{ByName, NamedWaker};
-use mea_family::{Answer, Stop, borrowed_if};
+use mea_family::{Answer, Stop, borrowed_if, unknown_unless};
 use mea_lock_core::{CondvarCore, MutexCore};
 use std::alloc::Global;
 use std::marker::Model;
@@ -34,6 +36,7 @@ pub struct WaitPart {
     condvars: ByName<CondvarEntry>,
     waits: ByName<WaitEntry>,
     next: u128,
+    alloc: Global,
 }
 
 impl Model for WaitPart {
@@ -76,10 +79,11 @@ impl WaitPart {
             condvars: ByName::new(alloc),
             waits: ByName::new(alloc),
             next: 0,
+            alloc,
         }
     }
 
-    /// The core of a condition variable.
+    /// The core of a condition variable. It takes no memory.
     pub fn core(&self, c: u64) -> Option<&CondvarCore<NamedWaker>>
         ensures there { is_some result ≡ is_condvar self.now.hall c }
         ensures lists { IfSome result (λ core. ListsAs self.now.hall c core.now) }
@@ -88,21 +92,70 @@ impl WaitPart {
         Some(entry.core())
     }
 
-    pub fn is_condvar(&self, c: u64) -> bool
+    /// Why an action is refused; None where it is not. It takes no memory.
+    pub fn cause(&self, mutexes: &Mutexes, action: CondAction) -> Option<Stop>
+        ensures { result ≡ cause_with mutexes.now.hall self.now.hall (cond_action action) }
+    {
+        match action {
+            CondAction::Make => None,
+            CondAction::Wait(c, g, _) => unknown_unless(
+                self.is_condvar(c) && mutexes.write_guard(g).is_some(),
+            ),
+            CondAction::Poll(f, _) => unknown_unless(self.lives(mutexes, f)),
+            CondAction::One(c) => unknown_unless(self.is_condvar(c)),
+            CondAction::All(c) => unknown_unless(self.is_condvar(c)),
+            CondAction::End(f) => unknown_unless(self.lives(mutexes, f)),
+            CondAction::Drop(c) => self.cause_of_drop(c),
+        }
+    }
+
+    /// Does an action, or finds why it is refused. On an error nothing has changed.
+    pub fn act(
+        &mut self,
+        mutexes: &mut Mutexes,
+        number: u64,
+        action: CondAction,
+        ready: &mut Ready<u64>,
+    ) -> Result<Answer, Stop>
+        requires next { self.old.next ≤ number }
+        requires mutexes { mutexes.old.next ≤ number }
+        requires room { locks.registered mutexes.old.hall + registered self.old.hall ≤ ready.old.registered }
+        ensures { ActsOn mutexes.old self.old number (cond_action action) result mutexes.new self.new ready.old ready.new }
+    {
+        match action {
+            CondAction::Make => self.make(number),
+            CondAction::Wait(c, g, bound) => self.begin(mutexes, number, c, g, bound),
+            CondAction::Poll(f, waker) => self.poll(mutexes, number, f, waker, ready),
+            CondAction::One(c) => self.notify_one(number, c, ready),
+            CondAction::All(c) => self.notify_all(number, c, ready),
+            CondAction::End(f) => self.end(mutexes, number, f, ready),
+            CondAction::Drop(c) => self.end_name(number, c),
+        }
+    }
+
+    fn is_condvar(&self, c: u64) -> bool
         ensures { result ≡ is_condvar self.now.hall c }
     {
         self.condvars.has(c)
     }
 
-    pub fn is_wait(&self, f: u64) -> bool
+    fn is_wait(&self, f: u64) -> bool
         ensures { result ≡ is_wait self.now.hall f }
     {
         self.waits.has(f)
     }
 
-    /// Why a condition variable may not be dropped: it is unknown, or a wait borrows it.
-    pub fn cause_of_drop(&self, c: u64) -> Option<Stop>
-        ensures { result ≡ borrowed_by (is_condvar self.now.hall c) (waits_of self.now.hall c) }
+    // Whether it is a wait, and has its future at its mutex.
+    fn lives(&self, mutexes: &Mutexes, f: u64) -> bool
+        ensures { result ≡ is_wait self.now.hall f && is_condvar_future mutexes.now.hall f }
+    {
+        self.is_wait(f) && mutexes.is_condvar_future(f)
+    }
+
+    // Why a condition variable may not be dropped: it is unknown, or a wait borrows it.
+    fn cause_of_drop(&self, c: u64) -> Option<Stop>
+        ensures is { result ≡ borrowed_by (is_condvar self.now.hall c) (waits_of self.now.hall c) }
+        ensures tells { result ≢ Some Stop.NoMemory }
     {
         match self.condvars.get(c) {
             Some(entry) => borrowed_if(entry.has_waits()),
@@ -110,35 +163,37 @@ impl WaitPart {
         }
     }
 
-    /// Makes a condition variable. On an error nothing has changed.
-    pub fn make(&mut self, number: u64, alloc: Global) -> Result<Answer, NoMemory>
+    // Makes a condition variable. On an error nothing has changed.
+    fn make(&mut self, number: u64) -> Result<Answer, Stop>
         requires { self.old.next ≤ number }
-        ensures ok { IfOk result (λ answer. (m : Part Locks) (w : Waking ℕ) → m.next ≤ number → PlaysWaits m self.old number Make answer m self.new w w) }
-        ensures err { OnErr result (self.new ≡ self.old) }
+        ensures { (m : Part Locks) (w : Waking ℕ) → m.next ≤ number → ActsOn m self.old number Make result m self.new w w }
     {
-        let Ok(()) = self.condvars.insert(number, CondvarEntry::new(alloc)) else {
-            return Err(NoMemory);
+        let Ok(()) = self.condvars.insert(number, CondvarEntry::new(self.alloc)) else {
+            return Err(Stop::NoMemory);
         };
         self.next = number as u128 + 1;
         Ok(Answer::Made)
     }
 
-    /// Makes a wait, which takes a guard of a mutex over. On an error nothing has changed.
-    pub fn begin(
+    // Makes a wait, which takes a guard of a mutex over. On an error nothing has changed.
+    fn begin(
         &mut self,
         mutexes: &mut Mutexes,
         number: u64,
         c: u64,
         g: u64,
         bound: Option<u64>,
-    ) -> Result<Answer, NoMemory>
+    ) -> Result<Answer, Stop>
         requires next { self.old.next ≤ number }
         requires mutexes { mutexes.old.next ≤ number }
-        requires there { is_condvar self.old.hall c ≡ true }
-        requires guard { is_write_guard mutexes.old.hall g ≡ true }
-        ensures ok { IfOk result (λ answer. (w : Waking ℕ) → PlaysWaits mutexes.old self.old number (Wait c g bound) answer mutexes.new self.new w w) }
-        ensures err { OnErr result ((self.new ≡ self.old) × (mutexes.new ≡ mutexes.old)) }
+        ensures { (w : Waking ℕ) → ActsOn mutexes.old self.old number (Wait c g bound) result mutexes.new self.new w w }
     {
+        if !self.is_condvar(c) {
+            return Err(Stop::Unknown);
+        }
+        let Some(guard) = mutexes.write_guard(g) else {
+            return Err(Stop::Unknown);
+        };
         let wait = WaitEntry {
             condvar: c,
             bound,
@@ -147,36 +202,38 @@ impl WaitPart {
             alone: false,
         };
         let Ok(()) = self.waits.insert(number, wait) else {
-            return Err(NoMemory);
+            return Err(Stop::NoMemory);
         };
-        let Ok(answer) = mutexes.hand(number, g) else {
+        let Ok(answer) = mutexes.hand(number, g, guard) else {
             let _ = self.waits.remove(number);
-            return Err(NoMemory);
+            return Err(Stop::NoMemory);
         };
         self.condvars.at_mut(c).begin();
         self.next = number as u128 + 1;
         Ok(answer)
     }
 
-    /// Polls a wait. Its place in the list is taken first, and given up again where it asks for the lock or is over.
-    /// On an error nothing has changed.
-    pub fn poll(
+    // Polls a wait. Its place in the list is taken first, and given up again where it asks for the lock or is over.
+    // On an error nothing has changed.
+    fn poll(
         &mut self,
         mutexes: &mut Mutexes,
         number: u64,
         f: u64,
         waker: u64,
         ready: &mut Ready<u64>,
-    ) -> Result<Answer, NoMemory>
+    ) -> Result<Answer, Stop>
         requires next { self.old.next ≤ number }
         requires mutexes { mutexes.old.next ≤ number }
-        requires there { is_wait self.old.hall f ≡ true }
-        requires future { is_condvar_future mutexes.old.hall f ≡ true }
         requires room { locks.registered mutexes.old.hall + registered self.old.hall ≤ ready.old.registered }
-        ensures ok { IfOk result (λ answer. PlaysWaits mutexes.old self.old number (Poll f waker) answer mutexes.new self.new ready.old ready.new) }
-        ensures err { OnErr result ((self.new ≡ self.old) × (mutexes.new ≡ mutexes.old) × (ready.new ≡ ready.old)) }
+        ensures { ActsOn mutexes.old self.old number (Poll f waker) result mutexes.new self.new ready.old ready.new }
     {
-        let wait = *self.waits.at(f);
+        if !mutexes.is_condvar_future(f) {
+            return Err(Stop::Unknown);
+        }
+        let Some(wait) = self.waits.get_mut(f) else {
+            return Err(Stop::Unknown);
+        };
         let entry = self.condvars.at_mut(wait.condvar);
         if entry.is_waiting_under(wait.number) {
             entry.rewake_under(wait.number, f, waker);
@@ -184,23 +241,23 @@ impl WaitPart {
             return Ok(Answer::Pending);
         }
         let Ok(place) = entry.list(f, waker, ready) else {
-            return Err(NoMemory);
+            return Err(Stop::NoMemory);
         };
-        match mutexes.poll_until(number, f, waker, until_of(&wait), ready) {
+        match mutexes.poll_until(number, f, waker, until_of(wait), ready) {
             Err(_) => {
                 entry.unlist(place, ready);
-                Err(NoMemory)
+                Err(Stop::NoMemory)
             }
             Ok(Asked::Lays) => {
                 entry.forget_under(wait.number);
-                self.waits.at_mut(f).list(place);
+                wait.list(place);
                 self.next = number as u128 + 1;
                 Ok(Answer::Pending)
             }
             Ok(Asked::Asks) => {
                 entry.unlist(place, ready);
                 entry.forget_under(wait.number);
-                self.waits.at_mut(f).ask();
+                wait.ask();
                 self.next = number as u128 + 1;
                 Ok(Answer::Pending)
             }
@@ -215,49 +272,54 @@ impl WaitPart {
         }
     }
 
-    /// Notifies the first that waits. It takes no memory.
-    pub fn notify_one(&mut self, number: u64, c: u64, ready: &mut Ready<u64>) -> Answer
+    // Notifies the first that waits. It takes no memory.
+    fn notify_one(&mut self, number: u64, c: u64, ready: &mut Ready<u64>) -> Result<Answer, Stop>
         requires next { self.old.next ≤ number }
-        requires there { is_condvar self.old.hall c ≡ true }
         requires room { registered self.old.hall ≤ ready.old.registered }
-        ensures { (m : Part Locks) → m.next ≤ number → PlaysWaits m self.old number (One c) result m self.new ready.old ready.new }
+        ensures { (m : Part Locks) → m.next ≤ number → ActsOn m self.old number (One c) result m self.new ready.old ready.new }
     {
+        if !self.is_condvar(c) {
+            return Err(Stop::Unknown);
+        }
         self.next = number as u128 + 1;
         let Some(f) = self.condvars.at_mut(c).notify_one(ready) else {
-            return Answer::Done;
+            return Ok(Answer::Done);
         };
         self.waits.at_mut(f).alone = true;
-        Answer::Done
+        Ok(Answer::Done)
     }
 
-    /// Notifies each that waits, in their order. It takes no memory.
-    pub fn notify_all(&mut self, number: u64, c: u64, ready: &mut Ready<u64>) -> Answer
+    // Notifies each that waits, in their order. It takes no memory.
+    fn notify_all(&mut self, number: u64, c: u64, ready: &mut Ready<u64>) -> Result<Answer, Stop>
         requires next { self.old.next ≤ number }
-        requires there { is_condvar self.old.hall c ≡ true }
         requires room { registered self.old.hall ≤ ready.old.registered }
-        ensures { (m : Part Locks) → m.next ≤ number → PlaysWaits m self.old number (All c) result m self.new ready.old ready.new }
+        ensures { (m : Part Locks) → m.next ≤ number → ActsOn m self.old number (All c) result m self.new ready.old ready.new }
     {
+        if !self.is_condvar(c) {
+            return Err(Stop::Unknown);
+        }
         self.condvars.at_mut(c).notify_all(ready);
         self.next = number as u128 + 1;
-        Answer::Done
+        Ok(Answer::Done)
     }
 
-    /// Ends a wait: what it has at its mutex ends first, and then it waits no more, or passes on that it was notified
-    /// alone. It takes no memory.
-    pub fn end(
+    // Ends a wait: what it has at its mutex ends first, and then it waits no more, or passes on that it was notified
+    // alone. It takes no memory.
+    fn end(
         &mut self,
         mutexes: &mut Mutexes,
         number: u64,
         f: u64,
         ready: &mut Ready<u64>,
-    ) -> Answer
+    ) -> Result<Answer, Stop>
         requires next { self.old.next ≤ number }
         requires mutexes { mutexes.old.next ≤ number }
-        requires there { is_wait self.old.hall f ≡ true }
-        requires future { is_condvar_future mutexes.old.hall f ≡ true }
         requires room { locks.registered mutexes.old.hall + registered self.old.hall ≤ ready.old.registered }
-        ensures { PlaysWaits mutexes.old self.old number (End f) result mutexes.new self.new ready.old ready.new }
+        ensures { ActsOn mutexes.old self.old number (End f) result mutexes.new self.new ready.old ready.new }
     {
+        if !self.lives(mutexes, f) {
+            return Err(Stop::Unknown);
+        }
         let answer = mutexes.end_wait(number, f, ready);
         let wait = self.waits.remove(f);
         let entry = self.condvars.at_mut(wait.condvar);
@@ -265,28 +327,29 @@ impl WaitPart {
         self.next = number as u128 + 1;
         if entry.is_waiting_under(wait.number) {
             entry.unlist_under(wait.number, ready);
-            return answer;
+            return Ok(answer);
         }
         entry.forget_under(wait.number);
         if !wait.alone {
-            return answer;
+            return Ok(answer);
         }
         let Some(next) = entry.notify_one(ready) else {
-            return answer;
+            return Ok(answer);
         };
         self.waits.at_mut(next).alone = true;
-        answer
+        Ok(answer)
     }
 
-    /// Ends a condition variable that has no wait. It takes no memory.
-    pub fn end_name(&mut self, number: u64, c: u64) -> Answer
-        requires next { self.old.next ≤ number }
-        requires there { is_condvar self.old.hall c ≡ true }
-        requires alone { waits_of self.old.hall c ≡ 0 }
-        ensures { (m : Part Locks) (w : Waking ℕ) → m.next ≤ number → PlaysWaits m self.old number (Drop c) result m self.new w w }
+    // Ends a condition variable that has no wait. It takes no memory.
+    fn end_name(&mut self, number: u64, c: u64) -> Result<Answer, Stop>
+        requires { self.old.next ≤ number }
+        ensures { (m : Part Locks) (w : Waking ℕ) → m.next ≤ number → ActsOn m self.old number (Drop c) result m self.new w w }
     {
+        if let Some(stop) = self.cause_of_drop(c) {
+            return Err(stop);
+        }
         let _ = self.condvars.remove(c);
         self.next = number as u128 + 1;
-        Answer::Done
+        Ok(Answer::Done)
     }
 }

@@ -18,7 +18,7 @@ use Rattle.mea_lock_model.specs.Condvars.{Condvars, CondWait, until_of, queue_of
 use Rattle.mea_lock_model.specs.Actions.{Action, Hand, PollUntil, EndWait, act_in, registers_in}
 use Rattle.mea_lock_model.specs.CondActions.{CondAction, Make, Wait, Poll, One, All, End, Drop, act_on, on_condvars, on_both, told_by, poll_wait, polled_on, ends_on, registers_on}
 use Rattle.mea_lock_model.specs.LockHall.{LockHall, Mutexes, RwLocks, registered}
-use Rattle.mea_lock_model.specs.Meaning.{Doing, OnLocks, OnCondvars, doing, step_by, step, registers_by, registers}
+use Rattle.mea_lock_model.specs.Meaning.{Meaning, OnLocks, OnCondvars, meaning_of, step_by, step, registers_by, registers}
 use Rattle.mea_lock_model.proofs.Acting.{goes, owner}
 use Rattle.mea_lock_model.proofs.CondActing as acting
 use Rattle.mea_lock_model.proofs.CondActing.{CondGoes, keys}
@@ -105,13 +105,13 @@ module _ (h : LockHall) (i : ℕ) where
   counts_on (Drop c) = by_found (λ o. Counts h o 0) (get h.condvars.condvars c) h _ (unchanged 0)
       (λ q there. alone (condvars.drop h.condvars c) 0 (of_condvars (Drop c) 0 (condvars.drop h.condvars c) (acting.drops h.condvars i ⊥ _ _ (λ f is. absurd (cc)) c q there (λ none. absurd none))))
 
-  counts : (d : Doing) → Counts h (step_by h i d) (cond (registers_by d) 1 0)
+  counts : (d : Meaning) → Counts h (step_by h i d) (cond (registers_by d) 1 0)
   counts (OnLocks Mutexes a) = let c = locks_count h.mutexes i a in record { most = omega (arith, c.most); grows = omega (arith, c.grows) }
   counts (OnLocks RwLocks a) = let c = locks_count h.rw_locks i a in record { most = omega (arith, c.most); grows = omega (arith, c.grows) }
   counts (OnCondvars a) = counts_on a
 
 pub counted : (h : LockHall) (i : ℕ) (e : LockEvent) → Counts h (step h i e) (cond (registers e) 1 0)
-counted h i e = counts h i (doing e)
+counted h i e = counts h i (meaning_of e)
 
 pub extra-least : (b : Bool) → cond b 1 0 ≤ 1
 extra-least true = omega arith

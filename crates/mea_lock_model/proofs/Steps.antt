@@ -17,7 +17,7 @@ use Rattle.mea_lock_model.specs.Condvars.{Condvars, CondWait, is_condvar, is_wai
 use Rattle.mea_lock_model.specs.Actions.{Action, Hand, PollUntil, EndWait, is_of_wait, act_in, polled_in, ends_in, cause_in}
 use Rattle.mea_lock_model.specs.CondActions.{CondAction, Make, Wait, Poll, One, All, End, Drop, cause_on, act_on, on_condvars, on_both, told_by, poll_wait, polled_on, ends_on}
 use Rattle.mea_lock_model.specs.LockHall.{LockHall, Mutexes, RwLocks}
-use Rattle.mea_lock_model.specs.Meaning.{Doing, OnLocks, OnCondvars, cause_by, step_by}
+use Rattle.mea_lock_model.specs.Meaning.{Meaning, OnLocks, OnCondvars, cause_by, step_by}
 use Rattle.mea_lock_model.proofs.Acting.{not_borrowed, goes}
 use Rattle.mea_lock_model.proofs.CondActing as acting
 use Rattle.mea_lock_model.proofs.CondActing.{put_stands, stands_notified, stands_ended, stands_dropped}
@@ -33,21 +33,21 @@ pub record Lows (h : LockHall) (n : ℕ) : Type 0 where
 abbrev pub IsQuiet : Option ℕ → Bool → Type 0
 IsQuiet polled ends = (polled ≡ None) × (ends ≡ false)
 
-abbrev pub QuietMutex : Doing → ℕ → Type 0
+abbrev pub QuietMutex : Meaning → ℕ → Type 0
 QuietMutex (OnLocks Mutexes a) f = IsQuiet (polled_in a f) (ends_in a f)
 QuietMutex (OnLocks RwLocks a) f = Unit {0}
 QuietMutex (OnCondvars a) f = IsQuiet (polled_on a f) (ends_on a f)
 
-abbrev pub QuietRw : Doing → ℕ → Type 0
+abbrev pub QuietRw : Meaning → ℕ → Type 0
 QuietRw (OnLocks Mutexes a) f = Unit {0}
 QuietRw (OnLocks RwLocks a) f = IsQuiet (polled_in a f) (ends_in a f)
 QuietRw (OnCondvars a) f = Unit {0}
 
-abbrev pub QuietWait : Doing → ℕ → Type 0
+abbrev pub QuietWait : Meaning → ℕ → Type 0
 QuietWait (OnLocks k a) f = Unit {0}
 QuietWait (OnCondvars a) f = IsQuiet (polled_on a f) (ends_on a f)
 
-pub record HallGoes (d : Doing) (h h' : LockHall) (i : ℕ) (ws : List ℕ) : Type 0 where
+pub record HallGoes (d : Meaning) (h h' : LockHall) (i : ℕ) (ws : List ℕ) : Type 0 where
   pub mutexes : LocksGo (QuietMutex d) h.mutexes h'.mutexes i ws
   pub rw_locks : LocksGo (QuietRw d) h.rw_locks h'.rw_locks i ws
   pub condvars : CondvarsGo (QuietWait d) h.condvars h'.condvars i ws
@@ -69,13 +69,13 @@ is_known : (b : Bool) → b ≡ true → unknown_unless b ≡ None
 is_known b is = ap unknown_unless is
 
 module _ (h : LockHall) (n i : ℕ) (lows : Lows h n) (later : n ≤ i) where
-  mutexes_rest : (d : Doing) (ws : List ℕ) → LocksGo (QuietMutex d) h.mutexes h.mutexes i ws
+  mutexes_rest : (d : Meaning) (ws : List ℕ) → LocksGo (QuietMutex d) h.mutexes h.mutexes i ws
   mutexes_rest d ws = locks_rest h.mutexes n i lows.mutexes later (QuietMutex d) ws
 
-  rw_locks_rest : (d : Doing) (ws : List ℕ) → LocksGo (QuietRw d) h.rw_locks h.rw_locks i ws
+  rw_locks_rest : (d : Meaning) (ws : List ℕ) → LocksGo (QuietRw d) h.rw_locks h.rw_locks i ws
   rw_locks_rest d ws = locks_rest h.rw_locks n i lows.rw_locks later (QuietRw d) ws
 
-  conds_rest : (d : Doing) (ws : List ℕ) → CondvarsGo (QuietWait d) h.condvars h.condvars i ws
+  conds_rest : (d : Meaning) (ws : List ℕ) → CondvarsGo (QuietWait d) h.condvars h.condvars i ws
   conds_rest d ws = condvars_rest h.condvars n i lows.condvars later (QuietWait d) ws
 
   module _ (a : CondAction) where
@@ -152,7 +152,7 @@ module _ (h : LockHall) (n i : ℕ) (lows : Lows h n) (later : n ≤ i) where
       (λ q there. let none = not_borrowed (is_condvar h.condvars c) (waits_of h.condvars c) allowed in
       alone (Drop c) (condvars.drop h.condvars c) (condvars_go h.condvars n i lows.condvars later Unit _ _ 0 (condvars.drop h.condvars c) tt (acting.drops h.condvars i Unit (polled_on (Drop c)) (ends_on (Drop c)) (λ f is. absurd (cc)) c q there (λ _. none)) (stands_dropped h.condvars c none)))
 
-  pub steps : (d : Doing) → cause_by h d ≡ None → HallGoes d h (step_by h i d).hall i (step_by h i d).wakes
+  pub steps : (d : Meaning) → cause_by h d ≡ None → HallGoes d h (step_by h i d).hall i (step_by h i d).wakes
   steps (OnLocks Mutexes a) allowed = record {
     mutexes = locks_go h.mutexes n i lows.mutexes later a _ (act_in h.mutexes i a) (of_lock (is_of_wait a) (cause_in h.mutexes a) allowed).1 (goes h.mutexes i a);
     rw_locks = rw_locks_rest (OnLocks Mutexes a) _;
@@ -165,5 +165,5 @@ module _ (h : LockHall) (n i : ℕ) (lows : Lows h n) (later : n ≤ i) where
   }
   steps (OnCondvars a) allowed = acts_on a allowed
 
-  pub lows_after : (d : Doing) → cause_by h d ≡ None → Lows (step_by h i d).hall (i + 1)
+  pub lows_after : (d : Meaning) → cause_by h d ≡ None → Lows (step_by h i d).hall (i + 1)
   lows_after d allowed = let all = steps d allowed in record { mutexes = all.mutexes.low; rw_locks = all.rw_locks.low; condvars = all.condvars.low }

@@ -27,7 +27,7 @@ use Rattle.mea_lock_model.specs.Actions.{Action, Make, Begin, Poll, Try, Get, Se
 use Rattle.mea_lock_model.specs.CondActions as on
 use Rattle.mea_lock_model.specs.CondActions.{CondAction, cause_on, act_on, on_both, told_by, poll_wait, polled_on, ends_on}
 use Rattle.mea_lock_model.specs.LockHall.{LockHall, Kind, Mutexes, RwLocks, part}
-use Rattle.mea_lock_model.specs.Meaning.{Doing, OnLocks, OnCondvars, doing, cause_by, step_by}
+use Rattle.mea_lock_model.specs.Meaning.{Meaning, OnLocks, OnCondvars, meaning_of, cause_by, step_by}
 use Rattle.mea_lock_model.specs.LockFamily.{Sort, Of, Waits, locks_family, polled_by, ends_by, lives_as, placed_as, placed_for}
 use Rattle.mea_lock_model.proofs.Acting.{goes, owner}
 use Rattle.mea_lock_model.proofs.CondActing.{Key, key_of, keys}
@@ -148,11 +148,11 @@ same_wait_poll (on.End k) f w P here is = absurd (cc)
 same_wait_poll (on.Drop c) f w P here is = absurd (cc)
 
 -- ---- whom an event polls or ends is of its sort
-data PolledAs (f w : ℕ) : Doing → Sort → Type 0 where
+data PolledAs (f w : ℕ) : Meaning → Sort → Type 0 where
   AtLock : (k : Kind) (a : Action) → polled_in a f ≡ Some w → PolledAs f w (OnLocks k a) (Of k)
   AtWait : (a : CondAction) → polled_on a f ≡ Some w → PolledAs f w (OnCondvars a) Waits
 
-polled_as : (d : Doing) (s : Sort) (f w : ℕ) → polled_by d s f ≡ Some w → PolledAs f w d s
+polled_as : (d : Meaning) (s : Sort) (f w : ℕ) → polled_by d s f ≡ Some w → PolledAs f w d s
 polled_as (OnLocks Mutexes a) (Of Mutexes) f w is = AtLock Mutexes a is
 polled_as (OnLocks RwLocks a) (Of RwLocks) f w is = AtLock RwLocks a is
 polled_as (OnCondvars a) Waits f w is = AtWait a is
@@ -163,11 +163,11 @@ polled_as (OnLocks RwLocks a) Waits f w is = absurd (cc)
 polled_as (OnCondvars a) (Of Mutexes) f w is = absurd (cc)
 polled_as (OnCondvars a) (Of RwLocks) f w is = absurd (cc)
 
-data EndedAs (f : ℕ) : Doing → Sort → Type 0 where
+data EndedAs (f : ℕ) : Meaning → Sort → Type 0 where
   EndsAtLock : (k : Kind) (a : Action) → ends_in a f ≡ true → EndedAs f (OnLocks k a) (Of k)
   EndsAtWait : (a : CondAction) → ends_on a f ≡ true → EndedAs f (OnCondvars a) Waits
 
-ended_as : (d : Doing) (s : Sort) (f : ℕ) → ends_by d s f ≡ true → EndedAs f d s
+ended_as : (d : Meaning) (s : Sort) (f : ℕ) → ends_by d s f ≡ true → EndedAs f d s
 ended_as (OnLocks Mutexes a) (Of Mutexes) f is = EndsAtLock Mutexes a is
 ended_as (OnLocks RwLocks a) (Of RwLocks) f is = EndsAtLock RwLocks a is
 ended_as (OnCondvars a) Waits f is = EndsAtWait a is
@@ -222,21 +222,21 @@ module _ (h : LockHall) (f : ℕ) where
   quiet_at_mutexes lives (PollUntil g w until) line allowed = absurd (cc)
   quiet_at_mutexes lives (EndWait g) line allowed = absurd (cc)
 
-  quiet_mutex : is_lock_future h.mutexes f ≡ true → (d : Doing) → cause_by h d ≡ None → polled_by d (Of Mutexes) f ≡ None → ends_by d (Of Mutexes) f ≡ false → QuietMutex d f
+  quiet_mutex : is_lock_future h.mutexes f ≡ true → (d : Meaning) → cause_by h d ≡ None → polled_by d (Of Mutexes) f ≡ None → ends_by d (Of Mutexes) f ≡ false → QuietMutex d f
   quiet_mutex lives (OnLocks Mutexes a) allowed quiet lasts = (quiet, lasts)
   quiet_mutex lives (OnLocks RwLocks a) allowed quiet lasts = tt
   quiet_mutex lives (OnCondvars a) allowed quiet lasts = quiet_at_condvars lives a allowed
 
-  quiet_rw : (d : Doing) → polled_by d (Of RwLocks) f ≡ None → ends_by d (Of RwLocks) f ≡ false → QuietRw d f
+  quiet_rw : (d : Meaning) → polled_by d (Of RwLocks) f ≡ None → ends_by d (Of RwLocks) f ≡ false → QuietRw d f
   quiet_rw (OnLocks Mutexes a) quiet lasts = tt
   quiet_rw (OnLocks RwLocks a) quiet lasts = (quiet, lasts)
   quiet_rw (OnCondvars a) quiet lasts = tt
 
-  quiet_wait : (d : Doing) → polled_by d Waits f ≡ None → ends_by d Waits f ≡ false → QuietWait d f
+  quiet_wait : (d : Meaning) → polled_by d Waits f ≡ None → ends_by d Waits f ≡ false → QuietWait d f
   quiet_wait (OnLocks k a) quiet lasts = tt
   quiet_wait (OnCondvars a) quiet lasts = (quiet, lasts)
 
-  quiet_future : is_condvar_future h.mutexes f ≡ true → (d : Doing) → cause_by h d ≡ None → polled_by d Waits f ≡ None → ends_by d Waits f ≡ false → QuietMutex d f
+  quiet_future : is_condvar_future h.mutexes f ≡ true → (d : Meaning) → cause_by h d ≡ None → polled_by d Waits f ≡ None → ends_by d Waits f ≡ false → QuietMutex d f
   quiet_future lives (OnLocks Mutexes a) allowed quiet lasts = let is = of_lock (is_of_wait a) (cause_in h.mutexes a) allowed in quiet_at_mutexes lives a is.0 is.1
   quiet_future lives (OnLocks RwLocks a) allowed quiet lasts = tt
   quiet_future lives (OnCondvars a) allowed quiet lasts = (quiet, lasts)
@@ -269,7 +269,7 @@ module _ (quiet : ℕ → Type 0) (h h' : Locks) (i : ℕ) (ws : List ℕ) (go :
       ]
 
 -- ---- the laws
-module _ (h : LockHall) (n i : ℕ) (lows : Lows h n) (later : n ≤ i) (d : Doing) (allowed : cause_by h d ≡ None) (f : ℕ) where
+module _ (h : LockHall) (n i : ℕ) (lows : Lows h n) (later : n ≤ i) (d : Meaning) (allowed : cause_by h d ≡ None) (f : ℕ) where
   abbrev after : LockHall
   after = (step_by h i d).hall
 
@@ -334,7 +334,7 @@ module _ (h : LockHall) (n i : ℕ) (lows : Lows h n) (later : n ≤ i) (d : Doi
       ]
 
 module _ (h : LockHall) (i : ℕ) (f : ℕ) where
-  places : (w : ℕ) (d : Doing) (s : Sort) → PolledAs f w d s → cause_by h d ≡ None → (step_by h i d).reply ≡ answers.Pending → placed_as (step_by h i d).hall s f ≡ Some w
+  places : (w : ℕ) (d : Meaning) (s : Sort) → PolledAs f w d s → cause_by h d ≡ None → (step_by h i d).reply ≡ answers.Pending → placed_as (step_by h i d).hall s f ≡ Some w
   places w _ _ (AtLock k a is) allowed = at k
     where
       here : (k : Kind) (v : ℕ) → v ≡ w → (act_in (part h k) i (Poll f v)).reply ≡ answers.Pending → locks.placed (act_in (part h k) i (Poll f v)).hall f ≡ Some w
@@ -348,7 +348,7 @@ module _ (h : LockHall) (i : ℕ) (f : ℕ) where
   places w _ _ (AtWait a is) allowed = same_wait_poll a f w (λ a. (act_on h i a).reply ≡ answers.Pending → placed_as (act_on h i a).hall Waits f ≡ Some w)
       (λ v same pending. places_wait h i f v pending ∙ ap (λ u. Some u) same) is
 
-  waits_for : (home : (g : ℕ) (x : CondWait) → get h.condvars.waits g ≡ Some x → IsSome (get h.condvars.condvars x.condvar)) (w v : ℕ) (d : Doing) (s : Sort) → placed_as h s f ≡ Some w → PolledAs f v d s → (step_by h i d).reply ≡ answers.Pending
+  waits_for : (home : (g : ℕ) (x : CondWait) → get h.condvars.waits g ≡ Some x → IsSome (get h.condvars.condvars x.condvar)) (w v : ℕ) (d : Meaning) (s : Sort) → placed_as h s f ≡ Some w → PolledAs f v d s → (step_by h i d).reply ≡ answers.Pending
   waits_for home w v _ _ has (AtLock k a is) = at k has
     where
       at : (k : Kind) → placed_as h (Of k) f ≡ Some w → (step_by h i (OnLocks k a)).reply ≡ answers.Pending
@@ -375,7 +375,7 @@ module _ (h : LockHall) (i : ℕ) (f : ℕ) where
           ∙ and_right (is_wait (condvars.end_wait h.condvars f x there.0).hall f) (is_condvar_future (act_in h.mutexes i (EndWait f)).hall f)
           (gone_future true (act_in h.mutexes i (EndWait f)).hall ((goes h.mutexes i (EndWait f)).goes.over f (eq-eqb f f refl)))
 
-  ended_gone : (home : (g : ℕ) (x : CondWait) → get h.condvars.waits g ≡ Some x → IsSome (get h.condvars.condvars x.condvar)) (d : Doing) (s : Sort) → EndedAs f d s → lives_as (step_by h i d).hall s f ≡ false
+  ended_gone : (home : (g : ℕ) (x : CondWait) → get h.condvars.waits g ≡ Some x → IsSome (get h.condvars.condvars x.condvar)) (d : Meaning) (s : Sort) → EndedAs f d s → lives_as (step_by h i d).hall s f ≡ false
   ended_gone home _ _ (EndsAtLock Mutexes a is) = gone_future false (act_in h.mutexes i a).hall ((goes h.mutexes i a).goes.over f is)
   ended_gone home _ _ (EndsAtLock RwLocks a is) = gone_future false (act_in h.rw_locks i a).hall ((goes h.rw_locks i a).goes.over f is)
   ended_gone home _ _ (EndsAtWait a is) = same_end a is
@@ -390,7 +390,7 @@ module _ (h : LockHall) (i : ℕ) (f : ℕ) where
       same_end (on.Drop c) is = absurd (cc)
 
 -- only who lives is polled
-polled_lives : (h : LockHall) (f w : ℕ) (d : Doing) (s : Sort) → PolledAs f w d s → cause_by h d ≡ None → lives_as h s f ≡ true
+polled_lives : (h : LockHall) (f w : ℕ) (d : Meaning) (s : Sort) → PolledAs f w d s → cause_by h d ≡ None → lives_as h s f ≡ true
 polled_lives h f w _ _ (AtLock k a is) allowed = same_poll a f w (λ a. is_of_wait a ≡ false → cause_in (part h k) a ≡ None → is_lock_future (part h k) f ≡ true)
     (λ v same line none. known (is_lock_future (part h k) f) none) (λ v until same line. absurd (cc)) is (of_lock (is_of_wait a) _ allowed).0 (of_lock (is_of_wait a) _ allowed).1
 polled_lives h f w _ _ (AtWait a is) allowed = same_wait_poll a f w (λ a. cause_on h a ≡ None → lives_as h Waits f ≡ true) (λ v same none. known (lives_as h Waits f) none) is allowed
@@ -423,25 +423,25 @@ lows _ Starts = record {
     home = λ f x is. absurd (no_key f x is);
   };
 }
-lows _ (Goes r i e runs later cause) = lows_after r.hall r.next i (lows r runs) later (doing e) cause
+lows _ (Goes r i e runs later cause) = lows_after r.hall r.next i (lows r runs) later (meaning_of e) cause
 
 home : (r : RunOf locks_family) → IsRun locks_family r → (f : ℕ) (x : CondWait) → get r.hall.condvars.waits f ≡ Some x → IsSome (get r.hall.condvars.condvars x.condvar)
 home r runs f x is = (lows r runs).condvars.home f (key_of x) (seen-at key_of r.hall.condvars.waits f x is)
 
 pub keeps : KeepsWakers locks_family
 keeps = record {
-  places = λ r i e runs later cause f w polls pending. places r.hall i f.name w (doing e) f.sort (polled_as (doing e) f.sort f.name w polls) cause pending;
-  waits = λ r i e runs f w v lives is polls. waits_for r.hall i f.name (home r runs) w v (doing e) f.sort is (polled_as (doing e) f.sort f.name v polls);
-  wakes = λ r i e runs later cause f w lives is quiet lasts. kept r.hall r.next i (lows r runs) later (doing e) cause f.name w f.sort lives is quiet lasts;
-  stays = λ r i e runs later cause f lives quiet lasts. stays r.hall r.next i (lows r runs) later (doing e) cause f.name f.sort lives quiet lasts;
-  goes = λ r i e runs later cause f ended. ended_gone r.hall i f.name (home r runs) (doing e) f.sort (ended_as (doing e) f.sort f.name ended);
+  places = λ r i e runs later cause f w polls pending. places r.hall i f.name w (meaning_of e) f.sort (polled_as (meaning_of e) f.sort f.name w polls) cause pending;
+  waits = λ r i e runs f w v lives is polls. waits_for r.hall i f.name (home r runs) w v (meaning_of e) f.sort is (polled_as (meaning_of e) f.sort f.name v polls);
+  wakes = λ r i e runs later cause f w lives is quiet lasts. kept r.hall r.next i (lows r runs) later (meaning_of e) cause f.name w f.sort lives is quiet lasts;
+  stays = λ r i e runs later cause f lives quiet lasts. stays r.hall r.next i (lows r runs) later (meaning_of e) cause f.name f.sort lives quiet lasts;
+  goes = λ r i e runs later cause f ended. ended_gone r.hall i f.name (home r runs) (meaning_of e) f.sort (ended_as (meaning_of e) f.sort f.name ended);
 }
 
 names : NamesFutures locks_family
 names = record {
-  polls = λ h e cause f w polls. polled_lives h f.name w (doing e) f.sort (polled_as (doing e) f.sort f.name w polls) cause;
+  polls = λ h e cause f w polls. polled_lives h f.name w (meaning_of e) f.sort (polled_as (meaning_of e) f.sort f.name w polls) cause;
   below = λ r runs f lives. name_below r.hall r.next (lows r runs) f.name f.sort lives;
-  made = λ r i e runs later cause f lives. made r.hall r.next i (lows r runs) later (doing e) cause f.name f.sort lives;
+  made = λ r i e runs later cause f lives. made r.hall r.next i (lows r runs) later (meaning_of e) cause f.name f.sort lives;
 }
 
 pub no_wake_is_lost : (r : RunOf locks_family) → IsRun locks_family r → LosesNoWake locks_family r

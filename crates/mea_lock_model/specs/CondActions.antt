@@ -23,14 +23,18 @@ pub data CondAction : Type 0 where
   End : ℕ → CondAction
   Drop : ℕ → CondAction
 
+-- why it is refused, with the mutexes of the waits
+abbrev pub cause_with : Locks → Condvars → CondAction → Option Stop
+cause_with m h Make = None
+cause_with m h (Wait c g bound) = unknown_unless (is_condvar h c && is_write_guard m g)
+cause_with m h (Poll f w) = unknown_unless (is_wait h f && is_condvar_future m f)
+cause_with m h (One c) = unknown_unless (is_condvar h c)
+cause_with m h (All c) = unknown_unless (is_condvar h c)
+cause_with m h (End f) = unknown_unless (is_wait h f && is_condvar_future m f)
+cause_with m h (Drop c) = borrowed_by (is_condvar h c) (waits_of h c)
+
 abbrev pub cause_on : LockHall → CondAction → Option Stop
-cause_on h Make = None
-cause_on h (Wait c g bound) = unknown_unless (is_condvar h.condvars c && is_write_guard h.mutexes g)
-cause_on h (Poll f w) = unknown_unless (is_wait h.condvars f && is_condvar_future h.mutexes f)
-cause_on h (One c) = unknown_unless (is_condvar h.condvars c)
-cause_on h (All c) = unknown_unless (is_condvar h.condvars c)
-cause_on h (End f) = unknown_unless (is_wait h.condvars f && is_condvar_future h.mutexes f)
-cause_on h (Drop c) = borrowed_by (is_condvar h.condvars c) (waits_of h.condvars c)
+cause_on h a = cause_with h.mutexes h.condvars a
 
 -- what was done to the condition variables alone
 abbrev pub on_condvars : LockHall → Outcome Condvars → Outcome LockHall

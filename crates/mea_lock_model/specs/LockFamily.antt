@@ -11,7 +11,7 @@ use Rattle.mea_lock_model.specs.Condvars.{CondWait, is_wait, queue_of}
 use Rattle.mea_lock_model.specs.Actions.{polled_in, ends_in}
 use Rattle.mea_lock_model.specs.CondActions.{polled_on, ends_on}
 use Rattle.mea_lock_model.specs.LockHall.{LockHall, Kind, Mutexes, RwLocks, empty_hall, part}
-use Rattle.mea_lock_model.specs.Meaning.{Doing, OnLocks, OnCondvars, doing, cause_of, step}
+use Rattle.mea_lock_model.specs.Meaning.{Meaning, OnLocks, OnCondvars, meaning_of, cause_of, step}
 
 -- whose a future is: of the locks of a kind, or a wait on a condition variable
 pub data Sort : Type 0 where
@@ -23,7 +23,7 @@ pub record Future : Type 0 where
   pub sort : Sort
   pub name : ℕ
 
-abbrev pub polled_by : Doing → Sort → ℕ → Option ℕ
+abbrev pub polled_by : Meaning → Sort → ℕ → Option ℕ
 polled_by (OnLocks Mutexes a) (Of Mutexes) f = polled_in a f
 polled_by (OnLocks RwLocks a) (Of RwLocks) f = polled_in a f
 polled_by (OnCondvars a) Waits f = polled_on a f
@@ -31,9 +31,9 @@ polled_by _ _ f = None
 
 -- the waker with which an event polls a future, if it does
 abbrev pub polled : LockEvent → Future → Option ℕ
-polled e f = polled_by (doing e) f.sort f.name
+polled e f = polled_by (meaning_of e) f.sort f.name
 
-abbrev pub ends_by : Doing → Sort → ℕ → Bool
+abbrev pub ends_by : Meaning → Sort → ℕ → Bool
 ends_by (OnLocks Mutexes a) (Of Mutexes) f = ends_in a f
 ends_by (OnLocks RwLocks a) (Of RwLocks) f = ends_in a f
 ends_by (OnCondvars a) Waits f = ends_on a f
@@ -41,7 +41,7 @@ ends_by _ _ f = false
 
 -- whether an event ends a future
 abbrev pub ends : LockEvent → Future → Bool
-ends e f = ends_by (doing e) f.sort f.name
+ends e f = ends_by (meaning_of e) f.sort f.name
 
 abbrev pub lives_as : LockHall → Sort → ℕ → Bool
 lives_as h (Of k) f = is_lock_future (part h k) f

@@ -16,75 +16,79 @@ abbrev pub most_readers : ℕ
 most_readers = 9223372036854775807
 
 -- what a line does: something to locks of a kind, or to condition variables
-pub data Doing : Type 0 where
-  OnLocks : Kind → Action → Doing
-  OnCondvars : CondAction → Doing
+pub data Meaning : Type 0 where
+  OnLocks : Kind → Action → Meaning
+  OnCondvars : CondAction → Meaning
 
 -- a mutex has one permit, and its futures and guards write
-abbrev pub doing : LockEvent → Doing
-doing (MxNew v) = OnLocks Mutexes (Make v 1)
-doing (MxLock m) = OnLocks Mutexes (Begin m true true)
-doing (MxLocko m) = OnLocks Mutexes (Begin m false true)
-doing (MxPoll f w) = OnLocks Mutexes (Poll f w)
-doing (MxTry m) = OnLocks Mutexes (Try m true true)
-doing (MxTryo m) = OnLocks Mutexes (Try m false true)
-doing (MxGet g) = OnLocks Mutexes (Get g)
-doing (MxSet g v) = OnLocks Mutexes (Set g v)
-doing (MxEnd x) = OnLocks Mutexes (End x)
-doing (MxPeek m) = OnLocks Mutexes (Peek m)
-doing (MxPut m v) = OnLocks Mutexes (Put m v)
-doing (MxInto m) = OnLocks Mutexes (Take m)
-doing (MxDrop m) = OnLocks Mutexes (Drop m)
-doing (RwNew v) = OnLocks RwLocks (Make v most_readers)
-doing (RwMax v n) = OnLocks RwLocks (Make v n)
-doing (RwRead l) = OnLocks RwLocks (Begin l true false)
-doing (RwReado l) = OnLocks RwLocks (Begin l false false)
-doing (RwWrite l) = OnLocks RwLocks (Begin l true true)
-doing (RwWriteo l) = OnLocks RwLocks (Begin l false true)
-doing (RwPoll f w) = OnLocks RwLocks (Poll f w)
-doing (RwTryr l) = OnLocks RwLocks (Try l true false)
-doing (RwTryro l) = OnLocks RwLocks (Try l false false)
-doing (RwTryw l) = OnLocks RwLocks (Try l true true)
-doing (RwTrywo l) = OnLocks RwLocks (Try l false true)
-doing (RwGet g) = OnLocks RwLocks (Get g)
-doing (RwSet g v) = OnLocks RwLocks (Set g v)
-doing (RwDown g) = OnLocks RwLocks (Lower g)
-doing (RwEnd x) = OnLocks RwLocks (End x)
-doing (RwPeek l) = OnLocks RwLocks (Peek l)
-doing (RwPut l v) = OnLocks RwLocks (Put l v)
-doing (RwInto l) = OnLocks RwLocks (Take l)
-doing (RwDrop l) = OnLocks RwLocks (Drop l)
-doing CvNew = OnCondvars on_condvars.Make
-doing (CvWait c g) = OnCondvars (on_condvars.Wait c g None)
-doing (CvWaitw c g v) = OnCondvars (on_condvars.Wait c g (Some v))
-doing (CvPoll f w) = OnCondvars (on_condvars.Poll f w)
-doing (CvOne c) = OnCondvars (on_condvars.One c)
-doing (CvAll c) = OnCondvars (on_condvars.All c)
-doing (CvEnd f) = OnCondvars (on_condvars.End f)
-doing (CvDrop c) = OnCondvars (on_condvars.Drop c)
+abbrev pub meaning_of : LockEvent → Meaning
+meaning_of (MxNew v) = OnLocks Mutexes (Make v 1)
+meaning_of (MxLock m) = OnLocks Mutexes (Begin m true true)
+meaning_of (MxLocko m) = OnLocks Mutexes (Begin m false true)
+meaning_of (MxPoll f w) = OnLocks Mutexes (Poll f w)
+meaning_of (MxTry m) = OnLocks Mutexes (Try m true true)
+meaning_of (MxTryo m) = OnLocks Mutexes (Try m false true)
+meaning_of (MxGet g) = OnLocks Mutexes (Get g)
+meaning_of (MxSet g v) = OnLocks Mutexes (Set g v)
+meaning_of (MxEnd x) = OnLocks Mutexes (End x)
+meaning_of (MxPeek m) = OnLocks Mutexes (Peek m)
+meaning_of (MxPut m v) = OnLocks Mutexes (Put m v)
+meaning_of (MxInto m) = OnLocks Mutexes (Take m)
+meaning_of (MxDrop m) = OnLocks Mutexes (Drop m)
+meaning_of (RwNew v) = OnLocks RwLocks (Make v most_readers)
+meaning_of (RwMax v n) = OnLocks RwLocks (Make v n)
+meaning_of (RwRead l) = OnLocks RwLocks (Begin l true false)
+meaning_of (RwReado l) = OnLocks RwLocks (Begin l false false)
+meaning_of (RwWrite l) = OnLocks RwLocks (Begin l true true)
+meaning_of (RwWriteo l) = OnLocks RwLocks (Begin l false true)
+meaning_of (RwPoll f w) = OnLocks RwLocks (Poll f w)
+meaning_of (RwTryr l) = OnLocks RwLocks (Try l true false)
+meaning_of (RwTryro l) = OnLocks RwLocks (Try l false false)
+meaning_of (RwTryw l) = OnLocks RwLocks (Try l true true)
+meaning_of (RwTrywo l) = OnLocks RwLocks (Try l false true)
+meaning_of (RwGet g) = OnLocks RwLocks (Get g)
+meaning_of (RwSet g v) = OnLocks RwLocks (Set g v)
+meaning_of (RwDown g) = OnLocks RwLocks (Lower g)
+meaning_of (RwEnd x) = OnLocks RwLocks (End x)
+meaning_of (RwPeek l) = OnLocks RwLocks (Peek l)
+meaning_of (RwPut l v) = OnLocks RwLocks (Put l v)
+meaning_of (RwInto l) = OnLocks RwLocks (Take l)
+meaning_of (RwDrop l) = OnLocks RwLocks (Drop l)
+meaning_of CvNew = OnCondvars on_condvars.Make
+meaning_of (CvWait c g) = OnCondvars (on_condvars.Wait c g None)
+meaning_of (CvWaitw c g v) = OnCondvars (on_condvars.Wait c g (Some v))
+meaning_of (CvPoll f w) = OnCondvars (on_condvars.Poll f w)
+meaning_of (CvOne c) = OnCondvars (on_condvars.One c)
+meaning_of (CvAll c) = OnCondvars (on_condvars.All c)
+meaning_of (CvEnd f) = OnCondvars (on_condvars.End f)
+meaning_of (CvDrop c) = OnCondvars (on_condvars.Drop c)
 
 -- the hall after what was done to the locks of one kind
 abbrev pub within : LockHall → Kind → Outcome Locks → Outcome LockHall
 within h k o = record { hall = with_part h k o.hall; reply = o.reply; wakes = o.wakes }
 
-abbrev pub cause_by : LockHall → Doing → Option Stop
-cause_by h (OnLocks k a) = if is_of_wait a then Some stops.Unknown else cause_in (part h k) a
+-- why what a line does to locks is refused: what is done to the future of a wait is no line's
+abbrev pub cause_at : Locks → Action → Option Stop
+cause_at h a = if is_of_wait a then Some stops.Unknown else cause_in h a
+
+abbrev pub cause_by : LockHall → Meaning → Option Stop
+cause_by h (OnLocks k a) = cause_at (part h k) a
 cause_by h (OnCondvars a) = cause_on h a
 
 abbrev pub cause_of : LockHall → LockEvent → Option Stop
-cause_of h e = cause_by h (doing e)
+cause_of h e = cause_by h (meaning_of e)
 
-abbrev pub step_by : LockHall → ℕ → Doing → Outcome LockHall
+abbrev pub step_by : LockHall → ℕ → Meaning → Outcome LockHall
 step_by h i (OnLocks k a) = within h k (act_in (part h k) i a)
 step_by h i (OnCondvars a) = act_on h i a
 
 abbrev pub step : LockHall → ℕ → LockEvent → Outcome LockHall
-step h i e = step_by h i (doing e)
+step h i e = step_by h i (meaning_of e)
 
-abbrev pub registers_by : Doing → Bool
+abbrev pub registers_by : Meaning → Bool
 registers_by (OnLocks k a) = registers_in a
 registers_by (OnCondvars a) = registers_on a
 
 -- whether an event can register a waker; a poll alone can
 abbrev pub registers : LockEvent → Bool
-registers e = registers_by (doing e)
+registers e = registers_by (meaning_of e)

@@ -12,7 +12,7 @@ mod validity;
 pub use counts::an_ended_count_stays_ended;
 pub use laws::{no_wake_is_lost, wakers_are_kept};
 pub use leaders::a_round_has_one_leader;
-pub use registered::{registers, wakes_are_of_the_registered};
+pub use registered::wakes_are_of_the_registered;
 pub use validity::{
     a_borrowed_receiver_is_there, halls_are_valid, validity_is_kept, what_is_there_lives,
 };

@@ -3,21 +3,6 @@ ghost use Rattle.mea_events.specs.declared.meet_event.MeetEvent.{MeetEvent as Ev
 ghost use Rattle.mea_meet_model.specs.Hall.{Hall, registered};
 ghost use Rattle.mea_meet_model.specs.Step.{step, registers};
 
-use mea_events::MeetEvent;
-
-/// Whether the event may register a waker, so that there has to be room for it: a poll may.
-pub fn registers(event: &MeetEvent) -> bool
-    ensures { result ≡ registers event.now }
-{
-    matches!(
-        event,
-        MeetEvent::BarPoll(..)
-            | MeetEvent::LatPoll(..)
-            | MeetEvent::WgPoll(..)
-            | MeetEvent::SdPoll(..)
-    )
-}
-
 /// An event wakes no more wakers than were registered, registers at most one, and none but a poll registers any.
 /// A hall keeps room for the registered ones, so that to wake them takes no memory.
 pub fn wakes_are_of_the_registered()

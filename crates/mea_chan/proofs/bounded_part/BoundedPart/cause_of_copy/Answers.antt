@@ -7,8 +7,8 @@ use Rattle.mea_chan.proofs.bounded_part.BoundedPart.cause_of_copy.Goals as goal
 pub at-requires : goal.at-requires
 at-requires c = site_channel c.self.invariant c.args.s c.in-Some.sender.now (sym c.get.ensures ∙ ap option_copied c.in-Some.is)
 
-pub returns-in-Some : goal.returns-in-Some
-returns-in-Some c = c.overflow_if.ensures ∙ ap (λ n. if n == 18446744073709551615 then Some stops.Overflow else None) c.senders.ensures ∙ crowded_is c.self.inside.channels c.self.inside.senders c.self.inside.receivers c.self.inside.sends c.self.inside.next c.self.view_is c.args.s _ _ (sym c.get.ensures ∙ ap option_copied c.in-Some.is) c.at.ensures
+pub returns-in-Some-clause-is : goal.returns-in-Some-clause-is
+returns-in-Some-clause-is c = c.overflow_if.ensures ∙ ap (λ n. if n == 18446744073709551615 then Some stops.Overflow else None) c.senders.ensures ∙ crowded_is c.self.inside.channels c.self.inside.senders c.self.inside.receivers c.self.inside.sends c.self.inside.next c.self.view_is c.args.s _ _ (sym c.get.ensures ∙ ap option_copied c.in-Some.is) c.at.ensures
 
-pub returns-in-None : goal.returns-in-None
-returns-in-None c = unknown_copy c.self.inside.channels c.self.inside.senders c.self.inside.receivers c.self.inside.sends c.self.inside.next c.self.view_is c.args.s (sym c.get.ensures ∙ ap option_copied c.in-None.is)
+pub returns-in-None-clause-is : goal.returns-in-None-clause-is
+returns-in-None-clause-is c = unknown_copy c.self.inside.channels c.self.inside.senders c.self.inside.receivers c.self.inside.sends c.self.inside.next c.self.view_is c.args.s (sym c.get.ensures ∙ ap option_copied c.in-None.is)

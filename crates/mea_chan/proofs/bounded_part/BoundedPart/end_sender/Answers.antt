@@ -1,10 +1,14 @@
-use Rattle.std.proofs.Common.{sym}
+use Rattle.std.proofs.Common.{inl, refl, sym, ◌∙◌}
+use Rattle.mea_chan_broadcast.proofs.Acting.{as_told}
 use Rattle.mea_chan.proofs.BoundedEvents.{site, ender_there, senders_channel, some_sender, its_quiet, its_room, over_there}
 use Rattle.mea_chan.proofs.BoundedEnds.{sender_ended}
 use Rattle.mea_chan.proofs.bounded_part.BoundedPart.end_sender.Goals as goal
 
+pub returns-in-Some : goal.returns-in-Some
+returns-in-Some c = (inl (as_told _ _ _ c.cause_of_end.ensures.is c.cause_of_end.ensures.tells c.in-Some.is), refl, refl)
+
 pub remove-o-requires : goal.remove-o-requires
-remove-o-requires c = ender_there (site c.self.inside.channels c.self.inside.senders c.self.inside.receivers c.self.inside.sends c.self.inside.next c.self.view_is c.self.invariant c.requires.next c.ranges.number.fits) c.args.s c.requires.allowed
+remove-o-requires c = ender_there (site c.self.inside.channels c.self.inside.senders c.self.inside.receivers c.self.inside.sends c.self.inside.next c.self.view_is c.self.invariant c.requires.next c.ranges.number.fits) c.args.s (sym c.cause_of_end.ensures.is ∙ c.in_default.is)
 
 pub at_mut-core-requires : goal.at_mut-core-requires
 at_mut-core-requires c = senders_channel (site c.self.inside.channels c.self.inside.senders c.self.inside.receivers c.self.inside.sends c.self.inside.next c.self.view_is c.self.invariant c.requires.next c.ranges.number.fits) c.args.s c.remove-o.result c.remove-o.ensures.value
@@ -22,7 +26,7 @@ pub remove_if-requires : goal.remove_if-requires
 remove_if-requires c = λ over. over_there (site c.self.inside.channels c.self.inside.senders c.self.inside.receivers c.self.inside.sends c.self.inside.next c.self.view_is c.self.invariant c.requires.next c.ranges.number.fits) c.remove-o.result.channel c.at_mut-core.result.now c.at_mut-core.ensures.value _
 
 pub invariant_of-self : goal.invariant_of-self
-invariant_of-self c = rw c.remove_if.ensures (sender_ended (site c.self.inside.channels c.self.inside.senders c.self.inside.receivers c.self.inside.sends c.self.inside.next c.self.view_is c.self.invariant c.requires.next c.ranges.number.fits) c.args.s c.remove-o.result c.at_mut-core.result.now c.remove-o.ensures.value c.at_mut-core.ensures.value c.end_sender.new.core _ c.is_over-over.result c.args.ready.now c.end_sender.new.ready c.end_sender.ensures.channel c.requires.allowed c.remove-o.ensures.rest (sym c.is_over-over.ensures) c.end_sender.ensures.settles).0
+invariant_of-self c = (rw c.remove_if.ensures (sender_ended (site c.self.inside.channels c.self.inside.senders c.self.inside.receivers c.self.inside.sends c.self.inside.next c.self.view_is c.self.invariant c.requires.next c.ranges.number.fits) c.args.s c.remove-o.result c.at_mut-core.result.now c.remove-o.ensures.value c.at_mut-core.ensures.value c.end_sender.new.core _ c.is_over-over.result c.args.ready.now c.end_sender.new.ready c.end_sender.ensures.channel (sym c.cause_of_end.ensures.is ∙ c.in_default.is) c.remove-o.ensures.rest (sym c.is_over-over.ensures) c.end_sender.ensures.settles).0)
 
 pub returns : goal.returns
-returns c = rw c.remove_if.ensures (sender_ended (site c.self.inside.channels c.self.inside.senders c.self.inside.receivers c.self.inside.sends c.self.inside.next c.self.view_is c.self.invariant c.requires.next c.ranges.number.fits) c.args.s c.remove-o.result c.at_mut-core.result.now c.remove-o.ensures.value c.at_mut-core.ensures.value c.end_sender.new.core _ c.is_over-over.result c.args.ready.now c.end_sender.new.ready c.end_sender.ensures.channel c.requires.allowed c.remove-o.ensures.rest (sym c.is_over-over.ensures) c.end_sender.ensures.settles).1
+returns c = ((sym c.cause_of_end.ensures.is ∙ c.in_default.is), (rw c.remove_if.ensures (sender_ended (site c.self.inside.channels c.self.inside.senders c.self.inside.receivers c.self.inside.sends c.self.inside.next c.self.view_is c.self.invariant c.requires.next c.ranges.number.fits) c.args.s c.remove-o.result c.at_mut-core.result.now c.remove-o.ensures.value c.at_mut-core.ensures.value c.end_sender.new.core _ c.is_over-over.result c.args.ready.now c.end_sender.new.ready c.end_sender.ensures.channel (sym c.cause_of_end.ensures.is ∙ c.in_default.is) c.remove-o.ensures.rest (sym c.is_over-over.ensures) c.end_sender.ensures.settles).1))

@@ -1,21 +1,29 @@
-use Rattle.std.proofs.Common.{sym}
-use Rattle.mea_chan.proofs.MailboxEvents.{site, some_sender, its_kept, its_room, over_there, sender_ended}
+use Rattle.std.proofs.Common.{Some, None, inl, refl, sym, ap, ◌∙◌}
+use Rattle.mea_family.specs.Causes.{unknown_unless}
+use Rattle.mea_by_name.proofs.Own.{gone_none}
+use Rattle.mea_chan.proofs.MailboxEvents.{site, sender_is, some_sender, its_kept, its_room, over_there, sender_ended}
 use Rattle.mea_chan.proofs.mailbox_part.MailboxPart.end_sender.Goals as goal
 
+pub invariant_of-self : goal.invariant_of-self
+invariant_of-self g c = rw (c.take.ensures.rest, gone_none c.self.inside.senders c.args.s (sym c.take.ensures.value ∙ c.in_default.is)) c.self.invariant
+
+pub returns-in_default : goal.returns-in_default
+returns-in_default g c = (inl ((ap unknown_unless (sym (sender_is c.self.inside.channels c.self.inside.senders c.self.inside.receivers c.self.inside.next c.self.view_is c.args.s None (sym c.take.ensures.value ∙ c.in_default.is)))), (λ no. absurd (cc))), rw (c.take.ensures.rest, gone_none c.self.inside.senders c.args.s (sym c.take.ensures.value ∙ c.in_default.is)) c.self.view_is, refl)
+
 pub end_sender-requires-clause-some : goal.end_sender-requires-clause-some
-end_sender-requires-clause-some g c = some_sender (site c.self.inside.channels c.self.inside.senders c.self.inside.receivers c.self.inside.next c.self.view_is c.self.invariant c.requires.next c.ranges.number.fits) c.args.s c.remove-o.result c.at_mut-entry.result.now c.remove-o.ensures.value c.at_mut-entry.ensures.value
+end_sender-requires-clause-some g c = some_sender (site c.self.inside.channels c.self.inside.senders c.self.inside.receivers c.self.inside.next c.self.view_is c.self.invariant c.requires.next c.ranges.number.fits) c.args.s c.in-Some.o c.at_mut-entry.result.now (sym c.take.ensures.value ∙ c.in-Some.is) c.at_mut-entry.ensures.value
 
 pub end_sender-requires-clause-quiet : goal.end_sender-requires-clause-quiet
-end_sender-requires-clause-quiet g c = (its_kept (site c.self.inside.channels c.self.inside.senders c.self.inside.receivers c.self.inside.next c.self.view_is c.self.invariant c.requires.next c.ranges.number.fits) c.remove-o.result c.at_mut-entry.result.now c.at_mut-entry.ensures.value).quiet
+end_sender-requires-clause-quiet g c = (its_kept (site c.self.inside.channels c.self.inside.senders c.self.inside.receivers c.self.inside.next c.self.view_is c.self.invariant c.requires.next c.ranges.number.fits) c.in-Some.o c.at_mut-entry.result.now c.at_mut-entry.ensures.value).quiet
 
 pub end_sender-requires-clause-room : goal.end_sender-requires-clause-room
-end_sender-requires-clause-room g c = its_room (site c.self.inside.channels c.self.inside.senders c.self.inside.receivers c.self.inside.next c.self.view_is c.self.invariant c.requires.next c.ranges.number.fits) c.remove-o.result c.at_mut-entry.result.now c.at_mut-entry.ensures.value c.args.ready.now c.requires.room
+end_sender-requires-clause-room g c = its_room (site c.self.inside.channels c.self.inside.senders c.self.inside.receivers c.self.inside.next c.self.view_is c.self.invariant c.requires.next c.ranges.number.fits) c.in-Some.o c.at_mut-entry.result.now c.at_mut-entry.ensures.value c.args.ready.now c.requires.room
 
 pub remove_if-requires : goal.remove_if-requires
-remove_if-requires g c = λ over. over_there (site c.self.inside.channels c.self.inside.senders c.self.inside.receivers c.self.inside.next c.self.view_is c.self.invariant c.requires.next c.ranges.number.fits) c.remove-o.result c.at_mut-entry.result.now c.at_mut-entry.ensures.value _
+remove_if-requires g c = λ over. over_there (site c.self.inside.channels c.self.inside.senders c.self.inside.receivers c.self.inside.next c.self.view_is c.self.invariant c.requires.next c.ranges.number.fits) c.in-Some.o c.at_mut-entry.result.now c.at_mut-entry.ensures.value _
 
-pub invariant_of-self : goal.invariant_of-self
-invariant_of-self g c = rw c.remove_if.ensures (sender_ended (site c.self.inside.channels c.self.inside.senders c.self.inside.receivers c.self.inside.next c.self.view_is c.self.invariant c.requires.next c.ranges.number.fits) c.args.s c.remove-o.result c.at_mut-entry.result.now c.remove-o.ensures.value c.at_mut-entry.ensures.value c.end_sender.new.self c.args.ready.now c.end_sender.new.ready _ c.remove-o.ensures.rest c.is_over-over.result (sym c.is_over-over.ensures) c.end_sender.ensures).0
+pub invariant_of-self-2 : goal.invariant_of-self-2
+invariant_of-self-2 g c = (rw c.remove_if.ensures (sender_ended (site c.self.inside.channels c.self.inside.senders c.self.inside.receivers c.self.inside.next c.self.view_is c.self.invariant c.requires.next c.ranges.number.fits) c.args.s c.in-Some.o c.at_mut-entry.result.now (sym c.take.ensures.value ∙ c.in-Some.is) c.at_mut-entry.ensures.value c.end_sender.new.self c.args.ready.now c.end_sender.new.ready _ c.take.ensures.rest c.is_over-over.result (sym c.is_over-over.ensures) c.end_sender.ensures).0)
 
 pub returns : goal.returns
-returns g c = rw c.remove_if.ensures (sender_ended (site c.self.inside.channels c.self.inside.senders c.self.inside.receivers c.self.inside.next c.self.view_is c.self.invariant c.requires.next c.ranges.number.fits) c.args.s c.remove-o.result c.at_mut-entry.result.now c.remove-o.ensures.value c.at_mut-entry.ensures.value c.end_sender.new.self c.args.ready.now c.end_sender.new.ready _ c.remove-o.ensures.rest c.is_over-over.result (sym c.is_over-over.ensures) c.end_sender.ensures).1
+returns g c = ((ap unknown_unless (sym (sender_is c.self.inside.channels c.self.inside.senders c.self.inside.receivers c.self.inside.next c.self.view_is c.args.s (Some c.in-Some.o) (sym c.take.ensures.value ∙ c.in-Some.is)))), (rw c.remove_if.ensures (sender_ended (site c.self.inside.channels c.self.inside.senders c.self.inside.receivers c.self.inside.next c.self.view_is c.self.invariant c.requires.next c.ranges.number.fits) c.args.s c.in-Some.o c.at_mut-entry.result.now (sym c.take.ensures.value ∙ c.in-Some.is) c.at_mut-entry.ensures.value c.end_sender.new.self c.args.ready.now c.end_sender.new.ready _ c.take.ensures.rest c.is_over-over.result (sym c.is_over-over.ensures) c.end_sender.ensures).1))

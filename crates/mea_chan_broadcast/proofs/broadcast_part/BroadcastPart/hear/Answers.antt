@@ -1,23 +1,32 @@
-use Rattle.mea_chan_broadcast.proofs.Events.{site, receiver_there, receivers_channel, at_channel, its_cursor, unheard, heard}
+use Rattle.std.proofs.Common.{Some, None, inl, inr, refl, sym, ap, ◌∙◌, if◌then◌else◌}
+use Rattle.std.specs.Option.{option_copied_mut}
+use Rattle.mea_family.specs.declared.stop.Stop.TheVariants as stops
+use Rattle.mea_chan_broadcast.proofs.Events.{site, unusable_is, receivers_channel, its_cursor, unheard, heard}
 use Rattle.mea_chan_broadcast.proofs.broadcast_part.BroadcastPart.hear.Goals as goal
 
-pub at-requires : goal.at-requires
-at-requires c = receiver_there (site c.self.inside.channels c.self.inside.senders c.self.inside.receivers c.self.inside.futures c.self.inside.next c.self.view_is c.self.invariant c.requires.next) c.args.r c.requires.allowed
+pub returns-in_default : goal.returns-in_default
+returns-in_default c = (inl (sym (unusable_is c.self.inside.channels c.self.inside.senders c.self.inside.receivers c.self.inside.futures c.self.inside.next c.self.view_is c.args.r None (sym c.get_mut.ensures.value ∙ ap option_copied_mut c.in_default.is)), (λ no. absurd (cc))), c.self.view_is)
 
-pub at-requires-2 : goal.at-requires-2
-at-requires-2 c = receivers_channel (site c.self.inside.channels c.self.inside.senders c.self.inside.receivers c.self.inside.futures c.self.inside.next c.self.view_is c.self.invariant c.requires.next) c.args.r c.at.result.now c.at.ensures
+pub invariant_of-self-then-is_some : goal.invariant_of-self-then-is_some
+invariant_of-self-then-is_some c = (unheard (site c.self.inside.channels c.self.inside.senders c.self.inside.receivers c.self.inside.futures c.self.inside.next c.self.view_is c.self.invariant c.requires.next) c.args.r c.in-Some.receiver.now c.in-Some.receiver.now (sym c.get_mut.ensures.value ∙ ap option_copied_mut c.in-Some.is) refl).0
+
+pub returns-then-is_some : goal.returns-then-is_some
+returns-then-is_some c = (inl ((sym (unusable_is c.self.inside.channels c.self.inside.senders c.self.inside.receivers c.self.inside.futures c.self.inside.next c.self.view_is c.args.r (Some c.in-Some.receiver.now) (sym c.get_mut.ensures.value ∙ ap option_copied_mut c.in-Some.is)) ∙ ap (λ b. if b then Some stops.Borrowed else None) (sym c.is_some.ensures ∙ c.if-is_some.true)), (λ no. absurd (cc))), (unheard (site c.self.inside.channels c.self.inside.senders c.self.inside.receivers c.self.inside.futures c.self.inside.next c.self.view_is c.self.invariant c.requires.next) c.args.r c.in-Some.receiver.now c.in-Some.receiver.now (sym c.get_mut.ensures.value ∙ ap option_copied_mut c.in-Some.is) refl).1)
+
+pub at-requires : goal.at-requires
+at-requires c = receivers_channel (site c.self.inside.channels c.self.inside.senders c.self.inside.receivers c.self.inside.futures c.self.inside.next c.self.view_is c.self.invariant c.requires.next) c.args.r c.in-Some.receiver.now (sym c.get_mut.ensures.value ∙ ap option_copied_mut c.in-Some.is)
 
 pub hear-requires : goal.hear-requires
-hear-requires c = its_cursor (site c.self.inside.channels c.self.inside.senders c.self.inside.receivers c.self.inside.futures c.self.inside.next c.self.view_is c.self.invariant c.requires.next) c.args.r c.at_mut-receiver.result.now c.at-2.result.now c.at_mut-receiver.ensures.value (at_channel _ _ _ _ _ _ c.at.ensures c.at_mut-receiver.ensures.value c.at-2.ensures)
+hear-requires c = its_cursor (site c.self.inside.channels c.self.inside.senders c.self.inside.receivers c.self.inside.futures c.self.inside.next c.self.view_is c.self.invariant c.requires.next) c.args.r c.in-Some.receiver.now c.at.result.now (sym c.get_mut.ensures.value ∙ ap option_copied_mut c.in-Some.is) c.at.ensures
 
-pub invariant_of-self : goal.invariant_of-self
-invariant_of-self c = (unheard (site c.self.inside.channels c.self.inside.senders c.self.inside.receivers c.self.inside.futures c.self.inside.next c.self.view_is c.self.invariant c.requires.next) c.args.r c.at_mut-receiver.result.now _ c.at_mut-receiver.ensures.value (λ j. record { channel = c.at_mut-receiver.result.now.channel; cursor = c.in_default.ensures.err j; user = c.at_mut-receiver.result.now.user })).0
+pub invariant_of-self-in_default-hear : goal.invariant_of-self-in_default-hear
+invariant_of-self-in_default-hear c = (unheard (site c.self.inside.channels c.self.inside.senders c.self.inside.receivers c.self.inside.futures c.self.inside.next c.self.view_is c.self.invariant c.requires.next) c.args.r c.in-Some.receiver.now _ (sym c.get_mut.ensures.value ∙ ap option_copied_mut c.in-Some.is) (λ j. record { channel = c.in-Some.receiver.now.channel; cursor = c.in_default-hear.ensures.err j; user = c.in-Some.receiver.now.user })).0
 
-pub returns-in_default-clause-err : goal.returns-in_default-clause-err
-returns-in_default-clause-err c = (unheard (site c.self.inside.channels c.self.inside.senders c.self.inside.receivers c.self.inside.futures c.self.inside.next c.self.view_is c.self.invariant c.requires.next) c.args.r c.at_mut-receiver.result.now _ c.at_mut-receiver.ensures.value (λ j. record { channel = c.at_mut-receiver.result.now.channel; cursor = c.in_default.ensures.err j; user = c.at_mut-receiver.result.now.user })).1
+pub returns-in_default-hear : goal.returns-in_default-hear
+returns-in_default-hear c = (inr ((sym (unusable_is c.self.inside.channels c.self.inside.senders c.self.inside.receivers c.self.inside.futures c.self.inside.next c.self.view_is c.args.r (Some c.in-Some.receiver.now) (sym c.get_mut.ensures.value ∙ ap option_copied_mut c.in-Some.is)) ∙ ap (λ b. if b then Some stops.Borrowed else None) (sym c.is_some.ensures ∙ c.if-is_some.false)), refl, λ no. no), (unheard (site c.self.inside.channels c.self.inside.senders c.self.inside.receivers c.self.inside.futures c.self.inside.next c.self.view_is c.self.invariant c.requires.next) c.args.r c.in-Some.receiver.now _ (sym c.get_mut.ensures.value ∙ ap option_copied_mut c.in-Some.is) (λ j. record { channel = c.in-Some.receiver.now.channel; cursor = c.in_default-hear.ensures.err j; user = c.in-Some.receiver.now.user })).1)
 
 pub invariant_of-self-2 : goal.invariant_of-self-2
-invariant_of-self-2 c = (heard (site c.self.inside.channels c.self.inside.senders c.self.inside.receivers c.self.inside.futures c.self.inside.next c.self.view_is c.self.invariant c.requires.next) c.args.r c.at_mut-receiver.result.now c.at-2.result.now c.at_mut-receiver.ensures.value (at_channel _ _ _ _ _ _ c.at.ensures c.at_mut-receiver.ensures.value c.at-2.ensures) c.requires.allowed c.ranges.number.fits _ (λ j. record { channel = c.at_mut-receiver.result.now.channel; cursor = c.in-Ok.ensures.cursor j; user = c.at_mut-receiver.result.now.user }) c.in-Ok.answer c.in-Ok.ensures.answer).0
+invariant_of-self-2 c = (heard (site c.self.inside.channels c.self.inside.senders c.self.inside.receivers c.self.inside.futures c.self.inside.next c.self.view_is c.self.invariant c.requires.next) c.args.r c.in-Some.receiver.now c.at.result.now (sym c.get_mut.ensures.value ∙ ap option_copied_mut c.in-Some.is) c.at.ensures (sym (unusable_is c.self.inside.channels c.self.inside.senders c.self.inside.receivers c.self.inside.futures c.self.inside.next c.self.view_is c.args.r (Some c.in-Some.receiver.now) (sym c.get_mut.ensures.value ∙ ap option_copied_mut c.in-Some.is)) ∙ ap (λ b. if b then Some stops.Borrowed else None) (sym c.is_some.ensures ∙ c.if-is_some.false)) c.ranges.number.fits _ (λ j. record { channel = c.in-Some.receiver.now.channel; cursor = c.in-Ok.ensures.cursor j; user = c.in-Some.receiver.now.user }) c.in-Ok.answer c.in-Ok.ensures.answer).0
 
-pub returns-clause-ok : goal.returns-clause-ok
-returns-clause-ok c = (heard (site c.self.inside.channels c.self.inside.senders c.self.inside.receivers c.self.inside.futures c.self.inside.next c.self.view_is c.self.invariant c.requires.next) c.args.r c.at_mut-receiver.result.now c.at-2.result.now c.at_mut-receiver.ensures.value (at_channel _ _ _ _ _ _ c.at.ensures c.at_mut-receiver.ensures.value c.at-2.ensures) c.requires.allowed c.ranges.number.fits _ (λ j. record { channel = c.at_mut-receiver.result.now.channel; cursor = c.in-Ok.ensures.cursor j; user = c.at_mut-receiver.result.now.user }) c.in-Ok.answer c.in-Ok.ensures.answer).1
+pub returns : goal.returns
+returns c = ((sym (unusable_is c.self.inside.channels c.self.inside.senders c.self.inside.receivers c.self.inside.futures c.self.inside.next c.self.view_is c.args.r (Some c.in-Some.receiver.now) (sym c.get_mut.ensures.value ∙ ap option_copied_mut c.in-Some.is)) ∙ ap (λ b. if b then Some stops.Borrowed else None) (sym c.is_some.ensures ∙ c.if-is_some.false)), (heard (site c.self.inside.channels c.self.inside.senders c.self.inside.receivers c.self.inside.futures c.self.inside.next c.self.view_is c.self.invariant c.requires.next) c.args.r c.in-Some.receiver.now c.at.result.now (sym c.get_mut.ensures.value ∙ ap option_copied_mut c.in-Some.is) c.at.ensures (sym (unusable_is c.self.inside.channels c.self.inside.senders c.self.inside.receivers c.self.inside.futures c.self.inside.next c.self.view_is c.args.r (Some c.in-Some.receiver.now) (sym c.get_mut.ensures.value ∙ ap option_copied_mut c.in-Some.is)) ∙ ap (λ b. if b then Some stops.Borrowed else None) (sym c.is_some.ensures ∙ c.if-is_some.false)) c.ranges.number.fits _ (λ j. record { channel = c.in-Some.receiver.now.channel; cursor = c.in-Ok.ensures.cursor j; user = c.in-Some.receiver.now.user }) c.in-Ok.answer c.in-Ok.ensures.answer).1)

@@ -2,6 +2,9 @@ use Rattle.std.proofs.Common.{None, refl, arith}
 use Rattle.mea_chan_broadcast.proofs.Events.{site, channel_there, same_tail, its_receivers, joined_kept, joined_rests}
 use Rattle.mea_chan_broadcast.proofs.broadcast_part.BroadcastPart.join.Goals as goal
 
+pub returns-in_default-clause-err : goal.returns-in_default-clause-err
+returns-in_default-clause-err c = (refl, rw c.in_default.ensures.err c.self.view_is)
+
 pub at_mut-requires : goal.at_mut-requires
 at_mut-requires c = channel_there (site c.self.inside.channels c.self.inside.senders c.self.inside.receivers c.self.inside.futures c.self.inside.next c.self.view_is c.self.invariant c.requires.next) c.args.o c.requires.there.0 c.requires.there.1
 

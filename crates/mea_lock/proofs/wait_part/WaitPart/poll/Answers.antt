@@ -1,75 +1,78 @@
-use Rattle.std.proofs.Common.{refl, sym, ◌∙◌}
-use Rattle.mea_base.proofs.Maps.{inside}
-use Rattle.mea_lock.proofs.WaitEvents.{site, wait_there, some_waits, known_number, notified_number, waits_on, unchanged, refuted, place_waits, given_up, uncounted, lists, asks, ready}
+use Rattle.std.proofs.Common.{refl, sym, ap, ◌∙◌, ◌&&◌}
+use Rattle.std.specs.Option.{option_copied_mut}
+use Rattle.mea_family.specs.Causes.{unknown_unless}
+use Rattle.mea_base.proofs.Maps.{get-there, is_there}
+use Rattle.mea_by_name.proofs.Own.{insert_same, put_gone}
+use Rattle.mea_lock_model.specs.Locks.{is_condvar_future}
+use Rattle.mea_lock.proofs.WaitEvents.{site, wait_is, some_waits, known_number, notified_number, waits_on, unchanged, refuted, place_waits, given_up, uncounted, lists, asks, ready}
+use Rattle.mea_lock.proofs.Playing.{unknown, lacking}
 use Rattle.mea_lock.proofs.wait_part.WaitPart.poll.Goals as goal
 
-pub at-requires : goal.at-requires
-at-requires c = wait_there (site c.self.inside.condvars c.self.inside.waits c.self.inside.next c.self.view_is c.self.invariant c.requires.next c.ranges.number.fits) c.args.f c.requires.there
+pub returns-in_default : goal.returns-in_default
+returns-in_default c = (unknown _ _ (ap (λ b. unknown_unless (b && is_condvar_future c.args.mutexes.now.hall c.args.f)) (wait_is (site c.self.inside.condvars c.self.inside.waits c.self.inside.next c.self.view_is c.self.invariant c.requires.next c.ranges.number.fits) c.args.f _ (sym c.get_mut.ensures.value ∙ ap option_copied_mut c.in_default.is))), refl, c.self.view_is, refl)
+
+pub poll_until-requires-clause-there : goal.poll_until-requires-clause-there
+poll_until-requires-clause-there c = (sym c.is_condvar_future.ensures ∙ c.if-not-is_condvar_future.false)
 
 pub is_waiting_under-requires : goal.is_waiting_under-requires
-is_waiting_under-requires c = known_number (site c.self.inside.condvars c.self.inside.waits c.self.inside.next c.self.view_is c.self.invariant c.requires.next c.ranges.number.fits) c.args.f c.at.result.now c.at_mut-entry.result.now c.at.ensures c.at_mut-entry.ensures.value
+is_waiting_under-requires c = known_number (site c.self.inside.condvars c.self.inside.waits c.self.inside.next c.self.view_is c.self.invariant c.requires.next c.ranges.number.fits) c.args.f c.in-Some.wait.now c.at_mut-entry.result.now (sym c.get_mut.ensures.value ∙ ap option_copied_mut c.in-Some.is) c.at_mut-entry.ensures.value
 
-pub invariant_of-self : goal.invariant_of-self
-invariant_of-self c = rw c.rewake_under.ensures (waits_on (site c.self.inside.condvars c.self.inside.waits c.self.inside.next c.self.view_is c.self.invariant c.requires.next c.ranges.number.fits) c.args.f c.at.result.now c.at_mut-entry.result.now c.at.ensures c.at_mut-entry.ensures.value c.args.waker (c.is_waiting_under.ensures.0 c.if-is_waiting_under.true)).0
+pub invariant_of-self-then-is_waiting_under : goal.invariant_of-self-then-is_waiting_under
+invariant_of-self-then-is_waiting_under c = rw (c.rewake_under.ensures, insert_same c.self.inside.waits c.args.f c.in-Some.wait.now (sym c.get_mut.ensures.value ∙ ap option_copied_mut c.in-Some.is)) (waits_on (site c.self.inside.condvars c.self.inside.waits c.self.inside.next c.self.view_is c.self.invariant c.requires.next c.ranges.number.fits) c.args.f c.in-Some.wait.now c.at_mut-entry.result.now (sym c.get_mut.ensures.value ∙ ap option_copied_mut c.in-Some.is) c.at_mut-entry.ensures.value c.args.waker (c.is_waiting_under.ensures.0 c.if-is_waiting_under.true)).0
 
-pub returns-then-is_waiting_under-clause-ok : goal.returns-then-is_waiting_under-clause-ok
-returns-then-is_waiting_under-clause-ok c = rw c.rewake_under.ensures ((waits_on (site c.self.inside.condvars c.self.inside.waits c.self.inside.next c.self.view_is c.self.invariant c.requires.next c.ranges.number.fits) c.args.f c.at.result.now c.at_mut-entry.result.now c.at.ensures c.at_mut-entry.ensures.value c.args.waker (c.is_waiting_under.ensures.0 c.if-is_waiting_under.true)).1 c.args.mutexes.now c.args.ready.now c.requires.mutexes)
+pub returns-then-is_waiting_under : goal.returns-then-is_waiting_under
+returns-then-is_waiting_under c = ((λ j. unknown_unless (wait_is (site c.self.inside.condvars c.self.inside.waits c.self.inside.next c.self.view_is c.self.invariant c.requires.next c.ranges.number.fits) c.args.f _ (sym c.get_mut.ensures.value ∙ ap option_copied_mut c.in-Some.is) j && (sym c.is_condvar_future.ensures ∙ c.if-not-is_condvar_future.false) j)), rw (c.rewake_under.ensures, insert_same c.self.inside.waits c.args.f c.in-Some.wait.now (sym c.get_mut.ensures.value ∙ ap option_copied_mut c.in-Some.is)) ((waits_on (site c.self.inside.condvars c.self.inside.waits c.self.inside.next c.self.view_is c.self.invariant c.requires.next c.ranges.number.fits) c.args.f c.in-Some.wait.now c.at_mut-entry.result.now (sym c.get_mut.ensures.value ∙ ap option_copied_mut c.in-Some.is) c.at_mut-entry.ensures.value c.args.waker (c.is_waiting_under.ensures.0 c.if-is_waiting_under.true)).1 c.args.mutexes.now c.args.ready.now c.requires.mutexes))
 
-pub invariant_of-self-in_default : goal.invariant_of-self-in_default
-invariant_of-self-in_default c = rw c.in_default.ensures.err.0 (unchanged (site c.self.inside.condvars c.self.inside.waits c.self.inside.next c.self.view_is c.self.invariant c.requires.next c.ranges.number.fits) c.at.result.now.condvar c.at_mut-entry.result.now c.at_mut-entry.ensures.value).0
+pub invariant_of-self-in_default-list : goal.invariant_of-self-in_default-list
+invariant_of-self-in_default-list c = rw (c.in_default-list.ensures.err.0, insert_same c.self.inside.waits c.args.f c.in-Some.wait.now (sym c.get_mut.ensures.value ∙ ap option_copied_mut c.in-Some.is)) (unchanged (site c.self.inside.condvars c.self.inside.waits c.self.inside.next c.self.view_is c.self.invariant c.requires.next c.ranges.number.fits) c.in-Some.wait.now.condvar c.at_mut-entry.result.now c.at_mut-entry.ensures.value).0
 
-pub returns-in_default-clause-err : goal.returns-in_default-clause-err
-returns-in_default-clause-err c = rw (c.in_default.ensures.err.0, c.in_default.ensures.err.1) ((unchanged (site c.self.inside.condvars c.self.inside.waits c.self.inside.next c.self.view_is c.self.invariant c.requires.next c.ranges.number.fits) c.at.result.now.condvar c.at_mut-entry.result.now c.at_mut-entry.ensures.value).1, refl, refl)
+pub returns-in_default-list : goal.returns-in_default-list
+returns-in_default-list c = (lacking _ _ (λ j. unknown_unless (wait_is (site c.self.inside.condvars c.self.inside.waits c.self.inside.next c.self.view_is c.self.invariant c.requires.next c.ranges.number.fits) c.args.f _ (sym c.get_mut.ensures.value ∙ ap option_copied_mut c.in-Some.is) j && (sym c.is_condvar_future.ensures ∙ c.if-not-is_condvar_future.false) j)) (λ none. none), refl, rw (c.in_default-list.ensures.err.0, insert_same c.self.inside.waits c.args.f c.in-Some.wait.now (sym c.get_mut.ensures.value ∙ ap option_copied_mut c.in-Some.is)) (unchanged (site c.self.inside.condvars c.self.inside.waits c.self.inside.next c.self.view_is c.self.invariant c.requires.next c.ranges.number.fits) c.in-Some.wait.now.condvar c.at_mut-entry.result.now c.at_mut-entry.ensures.value).1, c.in_default-list.ensures.err.1)
 
 pub unlist-requires-clause-waits : goal.unlist-requires-clause-waits
 unlist-requires-clause-waits c = place_waits c.at_mut-entry.result.now c.list.new.self c.in-Ok.place _ c.in-Ok.ensures.ok.0
 
 pub invariant_of-self-in-Err : goal.invariant_of-self-in-Err
-invariant_of-self-in-Err c = rw (c.unlist.ensures.entry ∙ given_up c.at_mut-entry.result.now c.list.new.self c.in-Ok.place _ c.in-Ok.ensures.ok.0 c.in-Ok.ensures.ok.1) (unchanged (site c.self.inside.condvars c.self.inside.waits c.self.inside.next c.self.view_is c.self.invariant c.requires.next c.ranges.number.fits) c.at.result.now.condvar c.at_mut-entry.result.now c.at_mut-entry.ensures.value).0
+invariant_of-self-in-Err c = rw (c.unlist.ensures.entry ∙ given_up c.at_mut-entry.result.now c.list.new.self c.in-Ok.place _ c.in-Ok.ensures.ok.0 c.in-Ok.ensures.ok.1, insert_same c.self.inside.waits c.args.f c.in-Some.wait.now (sym c.get_mut.ensures.value ∙ ap option_copied_mut c.in-Some.is)) (unchanged (site c.self.inside.condvars c.self.inside.waits c.self.inside.next c.self.view_is c.self.invariant c.requires.next c.ranges.number.fits) c.in-Some.wait.now.condvar c.at_mut-entry.result.now c.at_mut-entry.ensures.value).0
 
-pub returns-in-Err-clause-err : goal.returns-in-Err-clause-err
-returns-in-Err-clause-err c = rw (c.unlist.ensures.entry ∙ given_up c.at_mut-entry.result.now c.list.new.self c.in-Ok.place _ c.in-Ok.ensures.ok.0 c.in-Ok.ensures.ok.1) ((unchanged (site c.self.inside.condvars c.self.inside.waits c.self.inside.next c.self.view_is c.self.invariant c.requires.next c.ranges.number.fits) c.at.result.now.condvar c.at_mut-entry.result.now c.at_mut-entry.ensures.value).1, c.in-Err.ensures.err.0, uncounted c.args.ready.now c.list.new.ready c.poll_until.new.ready c.unlist.new.ready c.in-Ok.ensures.ok.2 c.in-Err.ensures.err.1 c.unlist.ensures.counted)
+pub returns-in-Err : goal.returns-in-Err
+returns-in-Err c = (lacking _ _ (λ j. unknown_unless (wait_is (site c.self.inside.condvars c.self.inside.waits c.self.inside.next c.self.view_is c.self.invariant c.requires.next c.ranges.number.fits) c.args.f _ (sym c.get_mut.ensures.value ∙ ap option_copied_mut c.in-Some.is) j && (sym c.is_condvar_future.ensures ∙ c.if-not-is_condvar_future.false) j)) (λ none. none), c.in-Err.ensures.err.0, rw (c.unlist.ensures.entry ∙ given_up c.at_mut-entry.result.now c.list.new.self c.in-Ok.place _ c.in-Ok.ensures.ok.0 c.in-Ok.ensures.ok.1, insert_same c.self.inside.waits c.args.f c.in-Some.wait.now (sym c.get_mut.ensures.value ∙ ap option_copied_mut c.in-Some.is)) (unchanged (site c.self.inside.condvars c.self.inside.waits c.self.inside.next c.self.view_is c.self.invariant c.requires.next c.ranges.number.fits) c.in-Some.wait.now.condvar c.at_mut-entry.result.now c.at_mut-entry.ensures.value).1, uncounted c.args.ready.now c.list.new.ready c.poll_until.new.ready c.unlist.new.ready c.in-Ok.ensures.ok.2 c.in-Err.ensures.err.1 c.unlist.ensures.counted)
 
 pub forget_under-requires : goal.forget_under-requires
-forget_under-requires c = rw c.in-Ok.ensures.ok.0.is (notified_number (site c.self.inside.condvars c.self.inside.waits c.self.inside.next c.self.view_is c.self.invariant c.requires.next c.ranges.number.fits) c.args.f c.at.result.now c.at_mut-entry.result.now c.at.ensures c.at_mut-entry.ensures.value (refuted c.is_waiting_under.result c.is_waiting_under.ensures c.if-is_waiting_under.false))
+forget_under-requires c = rw c.in-Ok.ensures.ok.0.is (notified_number (site c.self.inside.condvars c.self.inside.waits c.self.inside.next c.self.view_is c.self.invariant c.requires.next c.ranges.number.fits) c.args.f c.in-Some.wait.now c.at_mut-entry.result.now (sym c.get_mut.ensures.value ∙ ap option_copied_mut c.in-Some.is) c.at_mut-entry.ensures.value (refuted c.is_waiting_under.result c.is_waiting_under.ensures c.if-is_waiting_under.false))
 
 pub invariant_of-self-in-Ok-Lays : goal.invariant_of-self-in-Ok-Lays
-invariant_of-self-in-Ok-Lays c =
-    let same = inside (sym c.at_mut.ensures.value ∙ c.at.ensures) in
-    rw (c.forget_under.ensures, c.list-in-Ok-Lays.ensures, same) (lists (site c.self.inside.condvars c.self.inside.waits c.self.inside.next c.self.view_is c.self.invariant c.requires.next c.ranges.number.fits) c.args.f c.at.result.now c.at_mut-entry.result.now c.at.ensures c.at_mut-entry.ensures.value c.args.waker (refuted c.is_waiting_under.result c.is_waiting_under.ensures c.if-is_waiting_under.false) c.args.mutexes.now c.poll_until.new.self c.args.ready.now c.list.new.ready c.poll_until.new.ready c.requires.room c.in-Ok.ensures.ok.2 (rw (c.in-Ok-Lays.field-0-is, c.until_of.ensures) at c.in-Ok-Lays.ensures.ok) (rw c.in-Ok-Lays.field-0-is at c.in-Ok-Lays.ensures.asked) c.in-Ok.place c.list.new.self c.in-Ok.ensures.ok.0 c.in-Ok.ensures.ok.1).0
+invariant_of-self-in-Ok-Lays c = rw (c.forget_under.ensures, c.list-in-Ok-Lays.ensures) (lists (site c.self.inside.condvars c.self.inside.waits c.self.inside.next c.self.view_is c.self.invariant c.requires.next c.ranges.number.fits) c.args.f c.in-Some.wait.now c.at_mut-entry.result.now (sym c.get_mut.ensures.value ∙ ap option_copied_mut c.in-Some.is) c.at_mut-entry.ensures.value c.args.waker (refuted c.is_waiting_under.result c.is_waiting_under.ensures c.if-is_waiting_under.false) c.args.mutexes.now c.poll_until.new.self c.args.ready.now c.list.new.ready c.poll_until.new.ready c.requires.room c.in-Ok.ensures.ok.2 (rw (c.in-Ok-Lays.field-0-is, c.until_of.ensures) at c.in-Ok-Lays.ensures.ok) (rw c.in-Ok-Lays.field-0-is at c.in-Ok-Lays.ensures.asked) c.in-Ok.place c.list.new.self c.in-Ok.ensures.ok.0 c.in-Ok.ensures.ok.1).0
 
-pub returns-in-Ok-Lays-clause-ok : goal.returns-in-Ok-Lays-clause-ok
-returns-in-Ok-Lays-clause-ok c =
-    let same = inside (sym c.at_mut.ensures.value ∙ c.at.ensures) in
-    rw (c.forget_under.ensures, c.list-in-Ok-Lays.ensures, same) (lists (site c.self.inside.condvars c.self.inside.waits c.self.inside.next c.self.view_is c.self.invariant c.requires.next c.ranges.number.fits) c.args.f c.at.result.now c.at_mut-entry.result.now c.at.ensures c.at_mut-entry.ensures.value c.args.waker (refuted c.is_waiting_under.result c.is_waiting_under.ensures c.if-is_waiting_under.false) c.args.mutexes.now c.poll_until.new.self c.args.ready.now c.list.new.ready c.poll_until.new.ready c.requires.room c.in-Ok.ensures.ok.2 (rw (c.in-Ok-Lays.field-0-is, c.until_of.ensures) at c.in-Ok-Lays.ensures.ok) (rw c.in-Ok-Lays.field-0-is at c.in-Ok-Lays.ensures.asked) c.in-Ok.place c.list.new.self c.in-Ok.ensures.ok.0 c.in-Ok.ensures.ok.1).1
+pub returns-in-Ok-Lays : goal.returns-in-Ok-Lays
+returns-in-Ok-Lays c = ((λ j. unknown_unless (wait_is (site c.self.inside.condvars c.self.inside.waits c.self.inside.next c.self.view_is c.self.invariant c.requires.next c.ranges.number.fits) c.args.f _ (sym c.get_mut.ensures.value ∙ ap option_copied_mut c.in-Some.is) j && (sym c.is_condvar_future.ensures ∙ c.if-not-is_condvar_future.false) j)), rw (c.forget_under.ensures, c.list-in-Ok-Lays.ensures) (lists (site c.self.inside.condvars c.self.inside.waits c.self.inside.next c.self.view_is c.self.invariant c.requires.next c.ranges.number.fits) c.args.f c.in-Some.wait.now c.at_mut-entry.result.now (sym c.get_mut.ensures.value ∙ ap option_copied_mut c.in-Some.is) c.at_mut-entry.ensures.value c.args.waker (refuted c.is_waiting_under.result c.is_waiting_under.ensures c.if-is_waiting_under.false) c.args.mutexes.now c.poll_until.new.self c.args.ready.now c.list.new.ready c.poll_until.new.ready c.requires.room c.in-Ok.ensures.ok.2 (rw (c.in-Ok-Lays.field-0-is, c.until_of.ensures) at c.in-Ok-Lays.ensures.ok) (rw c.in-Ok-Lays.field-0-is at c.in-Ok-Lays.ensures.asked) c.in-Ok.place c.list.new.self c.in-Ok.ensures.ok.0 c.in-Ok.ensures.ok.1).1)
 
 pub unlist-requires-in-Ok-Asks-clause-waits : goal.unlist-requires-in-Ok-Asks-clause-waits
 unlist-requires-in-Ok-Asks-clause-waits c = place_waits c.at_mut-entry.result.now c.list.new.self c.in-Ok.place _ c.in-Ok.ensures.ok.0
 
 pub forget_under-requires-in-Ok-Asks : goal.forget_under-requires-in-Ok-Asks
-forget_under-requires-in-Ok-Asks c = rw (c.unlist-in-Ok-Asks.ensures.entry ∙ given_up c.at_mut-entry.result.now c.list.new.self c.in-Ok.place _ c.in-Ok.ensures.ok.0 c.in-Ok.ensures.ok.1) (notified_number (site c.self.inside.condvars c.self.inside.waits c.self.inside.next c.self.view_is c.self.invariant c.requires.next c.ranges.number.fits) c.args.f c.at.result.now c.at_mut-entry.result.now c.at.ensures c.at_mut-entry.ensures.value (refuted c.is_waiting_under.result c.is_waiting_under.ensures c.if-is_waiting_under.false))
+forget_under-requires-in-Ok-Asks c = rw (c.unlist-in-Ok-Asks.ensures.entry ∙ given_up c.at_mut-entry.result.now c.list.new.self c.in-Ok.place _ c.in-Ok.ensures.ok.0 c.in-Ok.ensures.ok.1) (notified_number (site c.self.inside.condvars c.self.inside.waits c.self.inside.next c.self.view_is c.self.invariant c.requires.next c.ranges.number.fits) c.args.f c.in-Some.wait.now c.at_mut-entry.result.now (sym c.get_mut.ensures.value ∙ ap option_copied_mut c.in-Some.is) c.at_mut-entry.ensures.value (refuted c.is_waiting_under.result c.is_waiting_under.ensures c.if-is_waiting_under.false))
 
 pub invariant_of-self-in-Ok-Asks : goal.invariant_of-self-in-Ok-Asks
-invariant_of-self-in-Ok-Asks c =
-    let same = inside (sym c.at_mut-in-Ok-Asks.ensures.value ∙ c.at.ensures) in
-    rw (c.forget_under-in-Ok-Asks.ensures, (c.unlist-in-Ok-Asks.ensures.entry ∙ given_up c.at_mut-entry.result.now c.list.new.self c.in-Ok.place _ c.in-Ok.ensures.ok.0 c.in-Ok.ensures.ok.1), c.ask.ensures, same) (asks (site c.self.inside.condvars c.self.inside.waits c.self.inside.next c.self.view_is c.self.invariant c.requires.next c.ranges.number.fits) c.args.f c.at.result.now c.at_mut-entry.result.now c.at.ensures c.at_mut-entry.ensures.value c.args.waker (refuted c.is_waiting_under.result c.is_waiting_under.ensures c.if-is_waiting_under.false) c.args.mutexes.now c.poll_until.new.self c.args.ready.now c.list.new.ready c.poll_until.new.ready c.requires.room c.in-Ok.ensures.ok.2 (rw (c.in-Ok-Asks.field-0-is, c.until_of.ensures) at c.in-Ok-Asks.ensures.ok) (rw c.in-Ok-Asks.field-0-is at c.in-Ok-Asks.ensures.asked) c.unlist-in-Ok-Asks.new.ready c.unlist-in-Ok-Asks.ensures.counted).0
+invariant_of-self-in-Ok-Asks c = rw (c.forget_under-in-Ok-Asks.ensures, (c.unlist-in-Ok-Asks.ensures.entry ∙ given_up c.at_mut-entry.result.now c.list.new.self c.in-Ok.place _ c.in-Ok.ensures.ok.0 c.in-Ok.ensures.ok.1), c.ask.ensures) (asks (site c.self.inside.condvars c.self.inside.waits c.self.inside.next c.self.view_is c.self.invariant c.requires.next c.ranges.number.fits) c.args.f c.in-Some.wait.now c.at_mut-entry.result.now (sym c.get_mut.ensures.value ∙ ap option_copied_mut c.in-Some.is) c.at_mut-entry.ensures.value c.args.waker (refuted c.is_waiting_under.result c.is_waiting_under.ensures c.if-is_waiting_under.false) c.args.mutexes.now c.poll_until.new.self c.args.ready.now c.list.new.ready c.poll_until.new.ready c.requires.room c.in-Ok.ensures.ok.2 (rw (c.in-Ok-Asks.field-0-is, c.until_of.ensures) at c.in-Ok-Asks.ensures.ok) (rw c.in-Ok-Asks.field-0-is at c.in-Ok-Asks.ensures.asked) c.unlist-in-Ok-Asks.new.ready c.unlist-in-Ok-Asks.ensures.counted).0
 
-pub returns-in-Ok-Asks-clause-ok : goal.returns-in-Ok-Asks-clause-ok
-returns-in-Ok-Asks-clause-ok c =
-    let same = inside (sym c.at_mut-in-Ok-Asks.ensures.value ∙ c.at.ensures) in
-    rw (c.forget_under-in-Ok-Asks.ensures, (c.unlist-in-Ok-Asks.ensures.entry ∙ given_up c.at_mut-entry.result.now c.list.new.self c.in-Ok.place _ c.in-Ok.ensures.ok.0 c.in-Ok.ensures.ok.1), c.ask.ensures, same) (asks (site c.self.inside.condvars c.self.inside.waits c.self.inside.next c.self.view_is c.self.invariant c.requires.next c.ranges.number.fits) c.args.f c.at.result.now c.at_mut-entry.result.now c.at.ensures c.at_mut-entry.ensures.value c.args.waker (refuted c.is_waiting_under.result c.is_waiting_under.ensures c.if-is_waiting_under.false) c.args.mutexes.now c.poll_until.new.self c.args.ready.now c.list.new.ready c.poll_until.new.ready c.requires.room c.in-Ok.ensures.ok.2 (rw (c.in-Ok-Asks.field-0-is, c.until_of.ensures) at c.in-Ok-Asks.ensures.ok) (rw c.in-Ok-Asks.field-0-is at c.in-Ok-Asks.ensures.asked) c.unlist-in-Ok-Asks.new.ready c.unlist-in-Ok-Asks.ensures.counted).1
+pub returns-in-Ok-Asks : goal.returns-in-Ok-Asks
+returns-in-Ok-Asks c = ((λ j. unknown_unless (wait_is (site c.self.inside.condvars c.self.inside.waits c.self.inside.next c.self.view_is c.self.invariant c.requires.next c.ranges.number.fits) c.args.f _ (sym c.get_mut.ensures.value ∙ ap option_copied_mut c.in-Some.is) j && (sym c.is_condvar_future.ensures ∙ c.if-not-is_condvar_future.false) j)), rw (c.forget_under-in-Ok-Asks.ensures, (c.unlist-in-Ok-Asks.ensures.entry ∙ given_up c.at_mut-entry.result.now c.list.new.self c.in-Ok.place _ c.in-Ok.ensures.ok.0 c.in-Ok.ensures.ok.1), c.ask.ensures) (asks (site c.self.inside.condvars c.self.inside.waits c.self.inside.next c.self.view_is c.self.invariant c.requires.next c.ranges.number.fits) c.args.f c.in-Some.wait.now c.at_mut-entry.result.now (sym c.get_mut.ensures.value ∙ ap option_copied_mut c.in-Some.is) c.at_mut-entry.ensures.value c.args.waker (refuted c.is_waiting_under.result c.is_waiting_under.ensures c.if-is_waiting_under.false) c.args.mutexes.now c.poll_until.new.self c.args.ready.now c.list.new.ready c.poll_until.new.ready c.requires.room c.in-Ok.ensures.ok.2 (rw (c.in-Ok-Asks.field-0-is, c.until_of.ensures) at c.in-Ok-Asks.ensures.ok) (rw c.in-Ok-Asks.field-0-is at c.in-Ok-Asks.ensures.asked) c.unlist-in-Ok-Asks.new.ready c.unlist-in-Ok-Asks.ensures.counted).1)
 
 pub unlist-requires-in-Ok-Ready-clause-waits : goal.unlist-requires-in-Ok-Ready-clause-waits
 unlist-requires-in-Ok-Ready-clause-waits c = place_waits c.at_mut-entry.result.now c.list.new.self c.in-Ok.place _ c.in-Ok.ensures.ok.0
 
+pub remove-requires : goal.remove-requires
+remove-requires c = is_there _ _ (get-there c.self.inside.waits c.args.f _)
+
 pub forget_under-requires-in-Ok-Ready : goal.forget_under-requires-in-Ok-Ready
-forget_under-requires-in-Ok-Ready c = rw (c.unlist-in-Ok-Ready.ensures.entry ∙ given_up c.at_mut-entry.result.now c.list.new.self c.in-Ok.place _ c.in-Ok.ensures.ok.0 c.in-Ok.ensures.ok.1) (notified_number (site c.self.inside.condvars c.self.inside.waits c.self.inside.next c.self.view_is c.self.invariant c.requires.next c.ranges.number.fits) c.args.f c.at.result.now c.at_mut-entry.result.now c.at.ensures c.at_mut-entry.ensures.value (refuted c.is_waiting_under.result c.is_waiting_under.ensures c.if-is_waiting_under.false))
+forget_under-requires-in-Ok-Ready c = rw (c.unlist-in-Ok-Ready.ensures.entry ∙ given_up c.at_mut-entry.result.now c.list.new.self c.in-Ok.place _ c.in-Ok.ensures.ok.0 c.in-Ok.ensures.ok.1) (notified_number (site c.self.inside.condvars c.self.inside.waits c.self.inside.next c.self.view_is c.self.invariant c.requires.next c.ranges.number.fits) c.args.f c.in-Some.wait.now c.at_mut-entry.result.now (sym c.get_mut.ensures.value ∙ ap option_copied_mut c.in-Some.is) c.at_mut-entry.ensures.value (refuted c.is_waiting_under.result c.is_waiting_under.ensures c.if-is_waiting_under.false))
 
 pub finish-requires : goal.finish-requires
-finish-requires c = rw (c.forget_under-in-Ok-Ready.ensures, (c.unlist-in-Ok-Ready.ensures.entry ∙ given_up c.at_mut-entry.result.now c.list.new.self c.in-Ok.place _ c.in-Ok.ensures.ok.0 c.in-Ok.ensures.ok.1)) (some_waits (site c.self.inside.condvars c.self.inside.waits c.self.inside.next c.self.view_is c.self.invariant c.requires.next c.ranges.number.fits) c.args.f c.at.result.now c.at_mut-entry.result.now c.at.ensures c.at_mut-entry.ensures.value)
+finish-requires c = rw (c.forget_under-in-Ok-Ready.ensures, (c.unlist-in-Ok-Ready.ensures.entry ∙ given_up c.at_mut-entry.result.now c.list.new.self c.in-Ok.place _ c.in-Ok.ensures.ok.0 c.in-Ok.ensures.ok.1)) (some_waits (site c.self.inside.condvars c.self.inside.waits c.self.inside.next c.self.view_is c.self.invariant c.requires.next c.ranges.number.fits) c.args.f c.in-Some.wait.now c.at_mut-entry.result.now (sym c.get_mut.ensures.value ∙ ap option_copied_mut c.in-Some.is) c.at_mut-entry.ensures.value)
 
 pub invariant_of-self-in-Ok-Ready : goal.invariant_of-self-in-Ok-Ready
-invariant_of-self-in-Ok-Ready c = rw (c.finish.ensures, c.forget_under-in-Ok-Ready.ensures, (c.unlist-in-Ok-Ready.ensures.entry ∙ given_up c.at_mut-entry.result.now c.list.new.self c.in-Ok.place _ c.in-Ok.ensures.ok.0 c.in-Ok.ensures.ok.1), c.remove.ensures.rest) (ready (site c.self.inside.condvars c.self.inside.waits c.self.inside.next c.self.view_is c.self.invariant c.requires.next c.ranges.number.fits) c.args.f c.at.result.now c.at_mut-entry.result.now c.at.ensures c.at_mut-entry.ensures.value c.args.waker (refuted c.is_waiting_under.result c.is_waiting_under.ensures c.if-is_waiting_under.false) c.args.mutexes.now c.poll_until.new.self c.args.ready.now c.list.new.ready c.poll_until.new.ready c.requires.room c.in-Ok.ensures.ok.2 (rw (c.in-Ok-Ready.field-0-is, c.until_of.ensures) at c.in-Ok-Ready.ensures.ok) c.unlist-in-Ok-Ready.new.ready c.unlist-in-Ok-Ready.ensures.counted).0
+invariant_of-self-in-Ok-Ready c = rw (c.finish.ensures, c.forget_under-in-Ok-Ready.ensures, (c.unlist-in-Ok-Ready.ensures.entry ∙ given_up c.at_mut-entry.result.now c.list.new.self c.in-Ok.place _ c.in-Ok.ensures.ok.0 c.in-Ok.ensures.ok.1), c.remove.ensures.rest, put_gone c.self.inside.waits c.args.f c.in-Some.wait.now) (ready (site c.self.inside.condvars c.self.inside.waits c.self.inside.next c.self.view_is c.self.invariant c.requires.next c.ranges.number.fits) c.args.f c.in-Some.wait.now c.at_mut-entry.result.now (sym c.get_mut.ensures.value ∙ ap option_copied_mut c.in-Some.is) c.at_mut-entry.ensures.value c.args.waker (refuted c.is_waiting_under.result c.is_waiting_under.ensures c.if-is_waiting_under.false) c.args.mutexes.now c.poll_until.new.self c.args.ready.now c.list.new.ready c.poll_until.new.ready c.requires.room c.in-Ok.ensures.ok.2 (rw (c.in-Ok-Ready.field-0-is, c.until_of.ensures) at c.in-Ok-Ready.ensures.ok) c.unlist-in-Ok-Ready.new.ready c.unlist-in-Ok-Ready.ensures.counted).0
 
-pub returns-in-Ok-Ready-clause-ok : goal.returns-in-Ok-Ready-clause-ok
-returns-in-Ok-Ready-clause-ok c = rw (c.finish.ensures, c.forget_under-in-Ok-Ready.ensures, (c.unlist-in-Ok-Ready.ensures.entry ∙ given_up c.at_mut-entry.result.now c.list.new.self c.in-Ok.place _ c.in-Ok.ensures.ok.0 c.in-Ok.ensures.ok.1), c.remove.ensures.rest) (ready (site c.self.inside.condvars c.self.inside.waits c.self.inside.next c.self.view_is c.self.invariant c.requires.next c.ranges.number.fits) c.args.f c.at.result.now c.at_mut-entry.result.now c.at.ensures c.at_mut-entry.ensures.value c.args.waker (refuted c.is_waiting_under.result c.is_waiting_under.ensures c.if-is_waiting_under.false) c.args.mutexes.now c.poll_until.new.self c.args.ready.now c.list.new.ready c.poll_until.new.ready c.requires.room c.in-Ok.ensures.ok.2 (rw (c.in-Ok-Ready.field-0-is, c.until_of.ensures) at c.in-Ok-Ready.ensures.ok) c.unlist-in-Ok-Ready.new.ready c.unlist-in-Ok-Ready.ensures.counted).1
+pub returns-in-Ok-Ready : goal.returns-in-Ok-Ready
+returns-in-Ok-Ready c = ((λ j. unknown_unless (wait_is (site c.self.inside.condvars c.self.inside.waits c.self.inside.next c.self.view_is c.self.invariant c.requires.next c.ranges.number.fits) c.args.f _ (sym c.get_mut.ensures.value ∙ ap option_copied_mut c.in-Some.is) j && (sym c.is_condvar_future.ensures ∙ c.if-not-is_condvar_future.false) j)), rw (c.finish.ensures, c.forget_under-in-Ok-Ready.ensures, (c.unlist-in-Ok-Ready.ensures.entry ∙ given_up c.at_mut-entry.result.now c.list.new.self c.in-Ok.place _ c.in-Ok.ensures.ok.0 c.in-Ok.ensures.ok.1), c.remove.ensures.rest, put_gone c.self.inside.waits c.args.f c.in-Some.wait.now) (ready (site c.self.inside.condvars c.self.inside.waits c.self.inside.next c.self.view_is c.self.invariant c.requires.next c.ranges.number.fits) c.args.f c.in-Some.wait.now c.at_mut-entry.result.now (sym c.get_mut.ensures.value ∙ ap option_copied_mut c.in-Some.is) c.at_mut-entry.ensures.value c.args.waker (refuted c.is_waiting_under.result c.is_waiting_under.ensures c.if-is_waiting_under.false) c.args.mutexes.now c.poll_until.new.self c.args.ready.now c.list.new.ready c.poll_until.new.ready c.requires.room c.in-Ok.ensures.ok.2 (rw (c.in-Ok-Ready.field-0-is, c.until_of.ensures) at c.in-Ok-Ready.ensures.ok) c.unlist-in-Ok-Ready.new.ready c.unlist-in-Ok-Ready.ensures.counted).1)

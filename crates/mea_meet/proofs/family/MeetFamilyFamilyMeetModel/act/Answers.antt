@@ -47,5 +47,5 @@ invariant_of-self-2 c =
       below = below_after _ _ _ _ _ _ _ _ _ _ c.args.number c.args.event.now c.in_ok-answer.answer (below at) c.in_ok-answer.ensures.played;
       valid = subst (λ (h : Hall). IsValid h (c.args.number + 1)) (sym (ap (λ (p : Part Hall). p.hall) (played at).moved))
           (c.validity_is_kept.ensures.event old c.self.inside.next c.args.number c.args.event.now c.self.invariant.valid (omega (arith, next, c.requires.next))
-          (ap (λ (p : Part Hall). cause_of p.hall c.args.event.now) c.self.view_is ∙ c.requires.allowed));
+          (sym c.cause.ensures ∙ c.in_default.is));
     }

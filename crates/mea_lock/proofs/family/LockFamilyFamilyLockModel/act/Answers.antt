@@ -1,11 +1,12 @@
-use Rattle.std.proofs.Common.{◌≡◌, ◌+◌, arith, ap}
+use Rattle.std.proofs.Common.{◌+◌, arith, ap}
 use Rattle.mea_family.specs.Play.{Part, PartYields}
 use Rattle.mea_lock_model.specs.LockHall.{LockHall, registered}
 use Rattle.mea_lock_model.specs.Meaning.{step}
+use Rattle.mea_lock.specs.Actions.{meant}
 use Rattle.mea_lock.specs.Halls.{hall_of, AreBelow}
 use Rattle.mea_lock.proofs.Playing.{yields_all}
-use Rattle.mea_lock.proofs.family.LockFamilyFamilyLockModel.play.Goals as goal
-use Rattle.mea_lock.proofs.family.LockFamilyFamilyLockModel.play.Goals.{In_ok-answer}
+use Rattle.mea_lock.proofs.family.LockFamilyFamilyLockModel.act.Goals as goal
+use Rattle.mea_lock.proofs.family.LockFamilyFamilyLockModel.act.Goals.{In_ok-answer, In_err-answer}
 
 -- the parts have seen no number from that of the event on
 below : (c : In_ok-answer) → AreBelow c.self.inside.kinds.mutexes c.self.inside.kinds.rw_locks c.self.inside.kinds.condvars c.args.number
@@ -20,9 +21,9 @@ below c =
 -- what was played on the parts
 played : (c : In_ok-answer) → PartYields {H = LockHall} registered (record { hall = hall_of c.self.inside.kinds.mutexes c.self.inside.kinds.rw_locks c.self.inside.kinds.condvars; next = c.self.inside.next }) c.args.number
     (step (hall_of c.self.inside.kinds.mutexes c.self.inside.kinds.rw_locks c.self.inside.kinds.condvars) c.args.number c.args.event.now) c.in_ok-answer.answer
-    (record { hall = hall_of c.play.new.self.mutexes c.play.new.self.rw_locks c.play.new.self.condvars; next = c.args.number + 1 }) c.args.ready.now c.play.new.ready
-played c = yields_all c.self.inside.kinds.mutexes c.self.inside.kinds.rw_locks c.self.inside.kinds.condvars c.play.new.self.mutexes c.play.new.self.rw_locks c.play.new.self.condvars
-    c.args.ready.now c.play.new.ready c.self.inside.next c.args.number c.args.event.now c.in_ok-answer.answer (below c) c.in_ok-answer.ensures.played
+    (record { hall = hall_of c.act.new.self.mutexes c.act.new.self.rw_locks c.act.new.self.condvars; next = c.args.number + 1 }) c.args.ready.now c.act.new.ready
+played c = yields_all c.self.inside.kinds.mutexes c.self.inside.kinds.rw_locks c.self.inside.kinds.condvars c.act.new.self.mutexes c.act.new.self.rw_locks c.act.new.self.condvars
+    c.args.ready.now c.act.new.ready c.self.inside.next c.args.number c.in_ok-answer.answer (below c) c.args.event.now (meant c.meaning_of.result) c.meaning_of.ensures.means c.in_ok-answer.ensures.1
 
 pub returns-clause-played : goal.returns-clause-played
 returns-clause-played c = rw (← c.self.view_is) (played (goal.at.returns-clause-played c).In_ok-answer)

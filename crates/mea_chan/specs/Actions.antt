@@ -1,0 +1,138 @@
+-- what the words of the code for what a line does stand for in the model, and what an action comes to
+use Rattle.std.specs.Prelude.{ℕ, ◌≡◌, Bool, true, false, Option, Some, None, IsSome, Result, Ok, Err}
+use Rattle.mea_base.specs.Ready.{Waking}
+use Rattle.mea_family.specs.declared.answer.Answer.{Answer}
+use Rattle.mea_family.specs.declared.stop.Stop.{Stop}
+use Rattle.mea_family.specs.Play.{Part}
+use Rattle.mea_chan_model.specs.Mailboxes as mailboxes
+use Rattle.mea_chan_model.specs.Mailboxes.{Mailboxes}
+use Rattle.mea_chan_model.specs.MailboxActions as mail
+use Rattle.mea_chan_model.specs.MailboxActions.{Action, cause_in, act_in}
+use Rattle.mea_chan_model.specs.Bounded as bounded_ones
+use Rattle.mea_chan_model.specs.BoundedActions as bounded
+use Rattle.mea_chan_model.specs.BoundedActions.{bounded_cause, bounded_act}
+use Rattle.mea_chan_model.specs.Boxes as boxes
+use Rattle.mea_chan_model.specs.Boxes.{box_cause}
+use Rattle.mea_chan_model.specs.ChanHall as kinds
+use Rattle.mea_chan_model.specs.Meaning as model
+use Rattle.mea_chan_model.specs.Meaning.{OfChannels, OfBounded, OfBroadcasts, OfBoxes}
+use Rattle.mea_chan_broadcast.specs.Actions.{broadcast_action, Refuses, Acts, ActsQuietly}
+use Rattle.mea_chan.specs.declared.actions.BoundedAction.{BoundedAction}
+use Rattle.mea_chan.specs.declared.actions.BoundedAction.TheVariants.{MakeRoom, CopySender, TrySend, BeginSend, PollSend, EndSend, TryReceive, PollReceive, DropSender, DropReceiver}
+use Rattle.mea_chan.specs.declared.actions.MailAction.{MailAction}
+use Rattle.mea_chan.specs.declared.actions.MailAction.TheVariants.{Make, EndSender, Receive, Poll, EndReceiver}
+use Rattle.mea_chan.specs.declared.actions.SharedAction.{SharedAction}
+use Rattle.mea_chan.specs.declared.actions.SharedAction.TheVariants as shared
+use Rattle.mea_chan.specs.declared.actions.SingleAction.{SingleAction}
+use Rattle.mea_chan.specs.declared.actions.SingleAction.TheVariants as single
+use Rattle.mea_chan.specs.declared.actions.BoxAction.{BoxAction}
+use Rattle.mea_chan.specs.declared.actions.BoxAction.TheVariants.{MakeBox, Swap, Store, Tell, TakeOut, DropBox}
+use Rattle.mea_chan.specs.declared.meaning.Meaning.{Meaning}
+use Rattle.mea_chan.specs.declared.meaning.Meaning.TheVariants.{Bounded, Broadcasts, Unbounded, Oneshots, Boxes, OptionBoxes}
+use Rattle.mea_chan.specs.BoxParts.{BoxYields}
+
+-- what is done to bounded channels
+abbrev pub bounded_action : BoundedAction → bounded.BoundedAction
+bounded_action (MakeRoom n) = bounded.MakeRoom n
+bounded_action (CopySender s) = bounded.CopySender s
+bounded_action (TrySend s v) = bounded.TrySend s v
+bounded_action (BeginSend s v) = bounded.BeginSend s v
+bounded_action (PollSend f w) = bounded.PollSend f w
+bounded_action (EndSend f) = bounded.EndSend f
+bounded_action (TryReceive r) = bounded.TryReceive r
+bounded_action (PollReceive r w) = bounded.PollReceive r w
+bounded_action (DropSender s) = bounded.DropSender s
+bounded_action (DropReceiver r) = bounded.DropReceiver r
+
+-- what may be done to unbounded channels and to oneshots, where a receiver's waker falls with it or does not
+abbrev pub mail_action : Bool → MailAction → Action
+mail_action falls (Make polls) = mail.Make polls
+mail_action falls (EndSender s) = mail.EndSender s
+mail_action falls (Receive r polls) = mail.Receive r polls
+mail_action falls (Poll r w) = mail.Poll r w
+mail_action falls (EndReceiver r polls) = mail.EndReceiver r polls falls
+
+-- what is done to unbounded channels
+abbrev pub shared_action : Bool → SharedAction → Action
+shared_action falls (shared.Mail a) = mail_action falls a
+shared_action falls (shared.Copy s) = mail.Copy s
+shared_action falls (shared.Send s v) = mail.Send s v
+
+-- what is done to oneshots
+abbrev pub single_action : Bool → SingleAction → Action
+single_action falls (single.Mail a) = mail_action falls a
+single_action falls (single.SendLast s v) = mail.SendLast s v
+single_action falls (single.Turn r) = mail.Turn r
+single_action falls (single.TellClosed s) = mail.TellClosed s
+single_action falls (single.TellOver r) = mail.TellOver r
+single_action falls (single.TellMessage r) = mail.TellMessage r
+
+-- what is done to boxes and to option boxes
+abbrev pub box_action : BoxAction → boxes.BoxAction
+box_action (MakeBox c) = boxes.MakeBox c
+box_action (Swap b c) = boxes.Swap b c
+box_action (Store b c) = boxes.Store b c
+box_action (Tell b) = boxes.Tell b
+box_action (TakeOut b) = boxes.TakeOut b
+box_action (DropBox b) = boxes.DropBox b
+
+-- what a line means, in the words of the model
+abbrev pub meant : Meaning → model.Meaning
+meant (Bounded a) = OfBounded (bounded_action a)
+meant (Broadcasts a) = OfBroadcasts (broadcast_action a)
+meant (Unbounded a) = OfChannels kinds.Unbounded (shared_action false a)
+meant (Oneshots a) = OfChannels kinds.Oneshots (single_action true a)
+meant (Boxes a) = OfBoxes kinds.Full (box_action a)
+meant (OptionBoxes a) = OfBoxes kinds.Optional (box_action a)
+
+-- what is put into a box is a value
+abbrev pub FitsBox : BoxAction → Type 0
+FitsBox (MakeBox c) = IsSome c
+FitsBox (Swap b c) = IsSome c
+FitsBox (Store b c) = IsSome c
+FitsBox _ = Unit {0}
+
+abbrev pub FitsMeaning : Meaning → Type 0
+FitsMeaning (Boxes a) = FitsBox a
+FitsMeaning _ = Unit {0}
+
+-- ---- what takes no memory: all but what makes something, sends into a queue, polls, or puts a value into a box
+abbrev pub IsFree : Action → Type 0
+IsFree (mail.Make polls) = ⊥
+IsFree (mail.Copy s) = ⊥
+IsFree (mail.Send s v) = ⊥
+IsFree (mail.Poll r w) = ⊥
+IsFree (mail.Turn r) = ⊥
+IsFree _ = Unit {0}
+
+abbrev pub IsFreeBounded : bounded.BoundedAction → Type 0
+IsFreeBounded (bounded.MakeRoom n) = ⊥
+IsFreeBounded (bounded.CopySender s) = ⊥
+IsFreeBounded (bounded.BeginSend s v) = ⊥
+IsFreeBounded (bounded.PollSend f w) = ⊥
+IsFreeBounded (bounded.PollReceive r w) = ⊥
+IsFreeBounded _ = Unit {0}
+
+abbrev pub IsFreeContent : Option ℕ → Type 0
+IsFreeContent None = Unit {0}
+IsFreeContent (Some v) = ⊥
+
+abbrev pub IsFreeBox : boxes.BoxAction → Type 0
+IsFreeBox (boxes.MakeBox c) = ⊥
+IsFreeBox (boxes.Swap b c) = IsFreeContent c
+IsFreeBox (boxes.Store b c) = IsFreeContent c
+IsFreeBox _ = Unit {0}
+
+-- ---- event number i asked this of the channels of one kind, or of the boxes: it was done; or refused, and nothing has changed
+abbrev pub BoundedActs : Part bounded_ones.Bounded → ℕ → bounded.BoundedAction → Result Answer Stop → Part bounded_ones.Bounded → Waking ℕ → Waking ℕ → Type 0
+BoundedActs old i a = Acts bounded_ones.registered (bounded_cause old.hall a) (IsFreeBounded a) old i (bounded_act old.hall i a)
+
+abbrev pub MailActs : Part Mailboxes → ℕ → Action → Result Answer Stop → Part Mailboxes → Waking ℕ → Waking ℕ → Type 0
+MailActs old i a = Acts mailboxes.registered (cause_in old.hall a) (IsFree a) old i (act_in old.hall i a)
+
+abbrev pub MailActsQuietly : Part Mailboxes → ℕ → Action → Result Answer Stop → Part Mailboxes → Type 0
+MailActsQuietly old i a = ActsQuietly mailboxes.registered (cause_in old.hall a) (IsFree a) old i (act_in old.hall i a)
+
+abbrev pub BoxActs : boxes.Boxes → ℕ → boxes.BoxAction → Result Answer Stop → boxes.Boxes → Type 0
+BoxActs old i a (Ok answer) new = (box_cause old a ≡ None) × BoxYields old i a answer new
+BoxActs old i a (Err stop) new = Refuses (box_cause old a) (IsFreeBox a) stop × (new ≡ old)
