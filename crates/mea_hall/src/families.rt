@@ -92,7 +92,7 @@ impl Families {
             Event::Meet(event) => self.meets.act(number, event, ready),
             Event::Lock(event) => self.locks.act(number, event, ready),
             Event::Chan(event) => self.chans.act(number, event, ready),
-            Event::Share(event) => self.shares.act(number, event, ready),
+            Event::Share(event) => Family::act(&mut self.shares, number, event, ready),
             Event::Once(event) => self.onces.act(number, event, ready),
         }
     }
