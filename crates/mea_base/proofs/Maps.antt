@@ -40,6 +40,10 @@ module _ {X : Type 0} where
   value_in None some = absurd (cc)
   value_in (Some x) some = (x, refl)
 
+  -- an option is not both
+  pub not_both : (o : Option X) (x : X) → o ≡ None → o ≡ Some x → ⊥
+  not_both o x none some = absurd (cc)
+
   pub is_there : (o : Option X) (x : X) → o ≡ Some x → IsSome o
   is_there o x is = ap is_some is
 

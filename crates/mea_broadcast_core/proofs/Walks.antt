@@ -50,7 +50,8 @@ module _ {T : Type 0} (clones : T → T → Type 0) (start : ℕ) where
   }
 
 module _ {T : Type 0} where
-  abbrev lag_of : Found T → ℕ
+  -- how far behind
+  abbrev pub lag_of : Found T → ℕ
   lag_of (Behind k) = k
   lag_of (Holds v) = 0
   lag_of AtTail = 0

@@ -8,7 +8,7 @@ use Rattle.mea_by_name.specs.HallKept.{HallKept}
 use Rattle.mea_by_name.proofs.Own.{own-empty, own-nothing, Moves, moves_elsewhere, moves_home}
 
 -- things none of which is of o have their objects still where o is gone
-home_without : {E X : Type 0} (owner : X → ℕ) (es : Names E) (xs : Names X) (o n : ℕ) → AreHome owner es xs n → len (own owner o xs) ≡ 0 → AreHome owner (remove es o) xs n
+pub home_without : {E X : Type 0} (owner : X → ℕ) (es : Names E) (xs : Names X) (o n : ℕ) → AreHome owner es xs n → len (own owner o xs) ≡ 0 → AreHome owner (remove es o) xs n
 home_without owner es xs o n home none = record {
   at = λ k x is. (
     (home.at k x is).0,
@@ -20,7 +20,8 @@ home_without owner es xs o n home none = record {
 home_later : {E X : Type 0} (owner : X → ℕ) (es : Names E) (xs : Names X) (n i : ℕ) → AreHome owner es xs n → n ≤ i → AreHome owner es xs (i + 1)
 home_later owner es xs n i home later = record { at = λ k x is. (omega (arith, (home.at k x is).0), (home.at k x is).1) }
 
-no_thing : {E X : Type 0} (owner : X → ℕ) (es : Names E) (xs : Names X) (n i : ℕ) → AreHome owner es xs n → n ≤ i → get xs i ≡ None
+-- the name of the event is no thing's yet
+pub no_thing : {E X : Type 0} (owner : X → ℕ) (es : Names E) (xs : Names X) (n i : ℕ) → AreHome owner es xs n → n ≤ i → get xs i ≡ None
 no_thing {X = X} owner es xs n i home later = at (get xs i) refl
   where
     at : (p : Option X) → get xs i ≡ p → get xs i ≡ None

@@ -5,3 +5,4 @@ pub mod LackingQueues
 pub mod NamedQueues
 pub mod OneObject
 pub mod Own
+pub mod Sorted

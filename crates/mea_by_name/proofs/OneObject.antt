@@ -210,3 +210,16 @@ module _ {R X : Type 0} (queue : R → Waiting) (owner : X → ℕ) (rs : Names 
 
   pub placed_put : (x : X) (r : R) → get xs f ≡ Some x → waker_for (queue r) f ≡ Some w → placed queue owner (insert rs (owner x) r) xs f ≡ Some w
   placed_put x r there is = ap (placed_of queue owner (insert rs (owner x) r) f) there ∙ ap (λ o. waker_for (queue_of queue o) f) (get-there rs (owner x) r) ∙ is
+
+-- who is not touched is as it was
+module _ {R X : Type 0} (queue : R → Waiting) (owner : X → ℕ) (rs : Names R) (xs : Names X) (C : Type 0) (i k : ℕ) where
+  pub after_it : (xs' : Names X) → FuturesGo queue owner rs xs C i k xs' → (f : ℕ) (x : X) → get xs f ≡ Some x → (f ≡ i → ⊥) → (k ≡ f → ⊥) → get xs' f ≡ Some x
+  after_it _ Kept f x is new apart = is
+  after_it _ (Begun y owned) f x is new apart = get-other xs i f y (λ same. new (sym same)) ∙ is
+  after_it _ (Turned y z there same) f x is new apart = get-other xs k f z apart ∙ is
+  after_it _ Ended f x is new apart = get-removed_other xs k f apart ∙ is
+
+  pub untouched : (polled : ℕ → Option ℕ) (ends : ℕ → Bool) → Touches queue owner polled ends i k → (f : ℕ) → (f ≡ i → ⊥) → polled f ≡ None → ends f ≡ false → k ≡ f → ⊥
+  untouched polled ends (None_is fresh) f new quiet lasts same = new (sym same ∙ fresh)
+  untouched polled ends (Polled w is) f new quiet lasts same = absurd (let none : polled k ≡ None = ap polled same ∙ quiet in cc)
+  untouched polled ends (Ends is) f new quiet lasts same = absurd (let none : ends k ≡ false = ap ends same ∙ lasts in cc)

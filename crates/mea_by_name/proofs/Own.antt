@@ -7,7 +7,7 @@ use Rattle.std.specs.FinMap.{get, insert, remove, len, entries, empty, get-retai
 use Rattle.std.proofs.lemmas.Bool.{eqb-true, eq-eqb, ne_eqb, cases_lt}
 use Rattle.std.proofs.lemmas.List.Sums.{sum_by-cons}
 use Rattle.mea_base.specs.Totals.{total, weight}
-use Rattle.mea_base.proofs.Maps.{by_put, removed_there}
+use Rattle.mea_base.proofs.Maps.{by_put, removed_there, is_there, value_in, is_absent}
 use Rattle.mea_base.proofs.NamedMaps.{same_named, get-seen}
 use Rattle.mea_base.proofs.Totals.{get_inserted, get_removed, total-insert, total-remove, total-alike}
 use Rattle.mea_by_name.specs.ByName.{Names, seen, count, is_of, own, AreHome}
@@ -26,6 +26,13 @@ seen-back {X} f m k y is = at (get m k) refl (sym (get-seen (λ k x. f x) m k) �
     at : (o : Option X) → get m k ≡ o → option_map f o ≡ Some y → (x : X) × (get m k ≡ Some x) × (f x ≡ y)
     at None was = λ h. absurd (cc)
     at (Some x) was = λ h. (x, was, (let same : f x ≡ y = cc in same))
+
+-- of what is not there nothing is seen, and what is seen is there
+pub seen-none_back : {X Y : Type 0} (f : X → Y) (m : Names X) (k : ℕ) → get (seen f m) k ≡ None → get m k ≡ None
+seen-none_back f m k none = is_absent (get m k) (λ some. let it = value_in (get m k) some in absurd (let there = seen-at f m k it.0 it.1 in let no = sym none ∙ there in cc))
+
+pub seen-some_back : {X Y : Type 0} (f : X → Y) (m : Names X) (k : ℕ) → IsSome (get (seen f m) k) → IsSome (get m k)
+seen-some_back f m k some = let it = value_in (get (seen f m) k) some in let back = seen-back f m k it.0 it.1 in is_there (get m k) back.0 back.1
 
 pub seen-insert : {X Y : Type 0} (f : X → Y) (m : Names X) (k : ℕ) (x : X) → seen f (insert m k x) ≡ insert (seen f m) k (f x)
 seen-insert f m k x = same_named _ _ (λ q.

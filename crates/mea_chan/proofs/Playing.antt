@@ -19,28 +19,11 @@ use Rattle.mea_chan_model.specs.Boxes.{Boxes, BoxAction}
 use Rattle.mea_chan_model.specs.ChanHall.{ChanHall, Kind, Unbounded, Oneshots, BoxKind, Full, Optional, empty_hall, registered}
 use Rattle.mea_chan_model.specs.Meaning.{Meaning, OfChannels, OfBounded, OfBroadcasts, OfBoxes, step_by}
 use Rattle.mea_chan_broadcast.specs.Actions.{BroadcastActs}
-use Rattle.mea_chan_broadcast.proofs.Acting.{acts_rests}
-use Rattle.mea_chan.specs.Actions.{BoundedActs, MailActs, MailActsQuietly, BoxActs}
+use Rattle.mea_chan.specs.Actions.{BoundedActs, MailActs, BoxActs}
 use Rattle.mea_chan.specs.Halls.{Parts, hall_of, AreBelow, of_kind, with_kind, of_boxes, with_boxes, PlaysMail, PlaysBounded, PlaysBroadcasts, PlaysBoxes, PlaysBy, ActsBy}
 
 pub none_registered : registered empty_hall ≡ 0
 none_registered = omega (arith, total-empty (λ o (c : Mailbox). mailboxes.kept c), total-empty (λ o (r : bounded_ones.Room). length (bounded_ones.waiting_at r)), total-empty (λ o (c : Broadcast). length c.waiting))
-
--- what was done under one name of an action was done under the other
-module _ (old : Part Bounded) (i : ℕ) (a b : BoundedAction) (is : a ≡ b) where
-  pub bounded_acted : (r : Result Answer Stop) (new : Part Bounded) (before after : Waking ℕ) → BoundedActs old i b r new before after → BoundedActs old i a r new before after
-  bounded_acted r new before after did = subst (λ x. BoundedActs old i x r new before after) (sym is) did
-
-module _ (old : Part Mailboxes) (i : ℕ) (a b : Action) (is : a ≡ b) where
-  pub mail_acted : (r : Result Answer Stop) (new : Part Mailboxes) (before after : Waking ℕ) → MailActs old i b r new before after → MailActs old i a r new before after
-  mail_acted r new before after did = subst (λ x. MailActs old i x r new before after) (sym is) did
-
-  pub mail_rested : (r : Result Answer Stop) (new : Part Mailboxes) (w : Waking ℕ) → MailActsQuietly old i b r new → MailActs old i a r new w w
-  mail_rested r new w did = mail_acted r new w w (acts_rests _ _ _ old i _ r new w did)
-
-module _ (old : Boxes) (i : ℕ) (a b : BoxAction) (is : a ≡ b) where
-  pub box_acted : (r : Result Answer Stop) (new : Boxes) → BoxActs old i b r new → BoxActs old i a r new
-  box_acted r new did = subst (λ x. BoxActs old i x r new) (sym is) did
 
 -- ---- an action on one kind is an action on all
 module _ (old : Parts) (i : ℕ) (m : Meaning) where

@@ -14,16 +14,16 @@ use Rattle.mea_family.specs.declared.stop.Stop.TheVariants as stops
 use Rattle.mea_family.specs.Family.{Outcome, quietly, is_pending}
 use Rattle.mea_base.specs.Ready.{Waking}
 use Rattle.mea_base.specs.Totals.{weight}
-use Rattle.mea_base.proofs.Maps.{total-has, nothing_at, inside, get-there, is_there, value_in, is_absent}
+use Rattle.mea_base.proofs.Maps.{total-has, nothing_at, inside, get-there, is_there, value_in}
 use Rattle.mea_base.proofs.Totals.{total-insert, total-remove}
 use Rattle.mea_base.proofs.NamedMaps.{is_some-map, get-seen}
 use Rattle.mea_by_name.specs.ByName.{Names, seen, own}
 use Rattle.mea_family.specs.Play.{Part, PartYields, PartRests, found}
 use Rattle.mea_by_name.proofs.Cases.{found_is, if_true, if_false}
-use Rattle.mea_by_name.proofs.Own.{Stays, Comes, Goes, seen-at, seen-back, seen-empty, seen-insert, seen-remove, own-at, own-put, own-gone, own-empty, own-had, insert_same, put_gone, gone_none, len-some}
+use Rattle.mea_by_name.proofs.Own.{Stays, Comes, Goes, seen-at, seen-back, seen-empty, seen-insert, seen-remove, own-at, own-put, own-gone, own-empty, own-had, insert_same, put_gone, gone_none, len-some, seen-none_back, seen-some_back}
 use Rattle.mea_by_name.specs.NamedQueue.{registering}
 use Rattle.mea_cores_by_name.specs.SetLinked.{SetLinked, set_names}
-use Rattle.mea_cores_by_name.proofs.Sets.{registered_names, registered_links, drained_links, begun_links, gone_links}
+use Rattle.mea_cores_by_name.proofs.Sets.{registered_names, registered_links, drained_links, begun_links, gone_links, length-names, linked_later}
 use Rattle.mea_sets.specs.WaitSet.{has_given, with_waker, slot_after}
 use Rattle.mea_broadcast_core.specs.Broadcast.{IsFresh, after_send, without_sender, woken}
 use Rattle.mea_broadcast_core.specs.Receives as cores
@@ -42,14 +42,8 @@ use Rattle.mea_chan_broadcast.specs.BroadcastCores.{NamedBroadcast, kept_by, han
 use Rattle.mea_chan_broadcast.specs.Actions.{IsFreeBroadcast, BroadcastActsQuietly}
 use Rattle.mea_chan_broadcast.specs.BroadcastParts.{core_seen, broadcast_seen, listener_seen, hearing_seen, broadcasts_seen, of_channel, slots_of, AreLinked, AreKeptBroadcasts}
 use Rattle.mea_chan_broadcast.specs.BroadcastLends.{StandsForBroadcast}
-use Rattle.mea_chan_broadcast.proofs.Seeing.{length-names, seen_less, woken_sent, woken_less, as_stands, stands_is, kept_in, registered_is, ring_is}
-use Rattle.mea_chan_broadcast.proofs.Linking.{links_rest, links_turned, links_gone, fresh_linked, linked_later}
-
-seen_none : {X Y : Type 0} (f : X → Y) (m : Names X) (k : ℕ) → get (seen f m) k ≡ None → get m k ≡ None
-seen_none f m k none = is_absent (get m k) (λ some. let it = value_in (get m k) some in absurd (let there = seen-at f m k it.0 it.1 in let no = sym none ∙ there in cc))
-
-seen_some : {X Y : Type 0} (f : X → Y) (m : Names X) (k : ℕ) → IsSome (get (seen f m) k) → IsSome (get m k)
-seen_some f m k some = let it = value_in (get (seen f m) k) some in let back = seen-back f m k it.0 it.1 in is_there (get m k) back.0 back.1
+use Rattle.mea_chan_broadcast.proofs.Seeing.{seen_less, woken_sent, woken_less, as_stands, stands_is, kept_in, registered_is, ring_is}
+use Rattle.mea_chan_broadcast.proofs.Linking.{links_rest, links_turned, links_gone, fresh_linked}
 
 -- a ring of this size may be made
 pub opens_allowed : (h : Broadcasts) (m : ℕ) → 0 < m → m ≤ most_size → broadcast_cause h (Open m) ≡ None
@@ -139,19 +133,19 @@ module _ {old : Part Broadcasts} {i : ℕ} (s : Site old i) where
 
   -- ---- what is there
   no_channel : get s.es i ≡ None
-  no_channel = seen_none broadcast_seen s.es i (fresh_channel h s.next i s.kept.valid s.later)
+  no_channel = seen-none_back broadcast_seen s.es i (fresh_channel h s.next i s.kept.valid s.later)
 
   no_sender : get s.ss i ≡ None
   no_sender = fresh_sender h s.next i s.kept.valid s.later
 
   no_receiver : get s.xs i ≡ None
-  no_receiver = seen_none listener_seen s.xs i (fresh_receiver h s.next i s.kept.valid s.later)
+  no_receiver = seen-none_back listener_seen s.xs i (fresh_receiver h s.next i s.kept.valid s.later)
 
   no_future : get s.ys i ≡ None
-  no_future = seen_none hearing_seen s.ys i (fresh_future h s.next i s.kept.valid s.later)
+  no_future = seen-none_back hearing_seen s.ys i (fresh_future h s.next i s.kept.valid s.later)
 
   pub channel_there : (o : ℕ) (c : Broadcast) → get old.hall.channels o ≡ Some c → IsSome (get s.es o)
-  channel_there o c is = seen_some broadcast_seen s.es o (is_there _ c (ap (λ (p : Part Broadcasts). get p.hall.channels o) s.view ∙ is))
+  channel_there o c is = seen-some_back broadcast_seen s.es o (is_there _ c (ap (λ (p : Part Broadcasts). get p.hall.channels o) s.view ∙ is))
 
   -- what is told of a channel as it is seen is so of it as it is kept
   pub same_tail : (o : ℕ) (e : BroadcastEntry) (c : Broadcast) (n : ℕ) → get s.es o ≡ Some e → get old.hall.channels o ≡ Some c → n ≤ c.tail → n ≤ e.core.tail
@@ -161,16 +155,16 @@ module _ {old : Part Broadcasts} {i : ℕ} (s : Site old i) where
   sender_there k is = ap (λ (p : Part Broadcasts). is_sender p.hall k) s.view ∙ is
 
   pub senders_channel : (k o : ℕ) → get s.ss k ≡ Some o → IsSome (get s.es o)
-  senders_channel k o there = seen_some broadcast_seen s.es o (s.kept.valid.senders.at k o there).1
+  senders_channel k o there = seen-some_back broadcast_seen s.es o (s.kept.valid.senders.at k o there).1
 
   pub receivers_channel : (r : ℕ) (x : ListenerEntry) → get s.xs r ≡ Some x → IsSome (get s.es x.channel)
-  receivers_channel r x there = seen_some broadcast_seen s.es x.channel (s.kept.valid.receivers.at r (listener_seen x) (seen-at listener_seen s.xs r x there)).1
+  receivers_channel r x there = seen-some_back broadcast_seen s.es x.channel (s.kept.valid.receivers.at r (listener_seen x) (seen-at listener_seen s.xs r x there)).1
 
   pub futures_channel : (f : ℕ) (y : RecvEntry) → get s.ys f ≡ Some y → IsSome (get s.es y.channel)
-  futures_channel f y there = seen_some broadcast_seen s.es y.channel (s.kept.valid.futures.at f (hearing_seen y) (seen-at hearing_seen s.ys f y there)).1
+  futures_channel f y there = seen-some_back broadcast_seen s.es y.channel (s.kept.valid.futures.at f (hearing_seen y) (seen-at hearing_seen s.ys f y there)).1
 
   pub future_there : (f : ℕ) → is_hearing old.hall f ≡ true → IsSome (get s.ys f)
-  future_there f is = seen_some hearing_seen s.ys f (ap (λ (p : Part Broadcasts). is_hearing p.hall f) s.view ∙ is)
+  future_there f is = seen-some_back hearing_seen s.ys f (ap (λ (p : Part Broadcasts). is_hearing p.hall f) s.view ∙ is)
 
   pub copier_there : (k : ℕ) → broadcast_cause old.hall (AddSender k) ≡ None → IsSome (get s.ss k)
   copier_there k allowed = sender_there k (at (is_sender old.hall k) refl allowed)
@@ -180,7 +174,7 @@ module _ {old : Part Broadcasts} {i : ℕ} (s : Site old i) where
       at false is says = absurd (cc)
 
   usable_there : (r : ℕ) → unusable (get (seen listener_seen s.xs) r) ≡ None → IsSome (get s.xs r)
-  usable_there r is = seen_some listener_seen s.xs r (at (get (seen listener_seen s.xs) r) is)
+  usable_there r is = seen-some_back listener_seen s.xs r (at (get (seen listener_seen s.xs) r) is)
     where
       at : (p : Option Listener) → unusable p ≡ None → IsSome p
       at None wrong = absurd (cc)

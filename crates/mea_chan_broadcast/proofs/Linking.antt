@@ -1,24 +1,15 @@
 -- the futures of broadcast channels and those who wait go together, after an event at one channel
-use Rattle.std.proofs.Common.{◌≡◌, ℕ, ◌+◌, ◌≤◌, List, [], ◌∷◌, Option, Some, sym, subst, ◌∙◌, arith}
+use Rattle.std.proofs.Common.{◌≡◌, ℕ, ◌+◌, ◌≤◌, [], ◌∷◌, Some, sym, subst, ◌∙◌, arith}
 use Rattle.std.specs.Ordering.{nat_cmp}
 use Rattle.std.specs.FinMap.{get, insert, remove, empty, get-empty}
 use Rattle.mea_base.proofs.Maps.{by_put, by_gone, inside, removed_there}
-use Rattle.mea_by_name.specs.declared.named_waker.NamedWaker.{NamedWaker}
 use Rattle.mea_by_name.specs.ByName.{Names, seen, own}
 use Rattle.mea_by_name.proofs.Own.{Moves, moves_elsewhere, seen-back}
-use Rattle.mea_sets.specs.declared.place.Place.{Place}
-use Rattle.mea_sets.specs.WaitSet.{Registered}
-use Rattle.mea_cores_by_name.specs.SetLinked.{SetLinked, AreBelow}
+use Rattle.mea_cores_by_name.specs.SetLinked.{SetLinked}
+use Rattle.mea_cores_by_name.proofs.Sets.{linked_later}
 use Rattle.mea_chan_broadcast.specs.declared.broadcast_entry.BroadcastEntry.{BroadcastEntry}
 use Rattle.mea_chan_broadcast.specs.declared.recv_entry.RecvEntry.{RecvEntry}
 use Rattle.mea_chan_broadcast.specs.BroadcastParts.{of_channel, slots_of, AreLinked}
-
-pub linked_later : (s : Registered NamedWaker) (slots : Names (Option Place)) (n m : ℕ) → SetLinked s slots n → n ≤ m → SetLinked s slots m
-linked_later s slots n m linked later = record { each = λ f slot there. (omega (arith, (linked.each f slot there).0, later), (linked.each f slot there).1); below = below_more s.wakers linked.below }
-  where
-    below_more : (ks : List NamedWaker) → AreBelow ks n → AreBelow ks m
-    below_more [] h = tt
-    below_more (k ∷ ks) h = (omega (arith, h.0, later), below_more ks h.1)
 
 module _ (es : Names BroadcastEntry) (ys : Names RecvEntry) (n i : ℕ) (links : AreLinked es ys n) (later : n ≤ i) where
   pub links_rest : AreLinked es ys (i + 1)

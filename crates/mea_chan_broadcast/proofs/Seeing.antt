@@ -1,5 +1,5 @@
 -- what is seen of the core of a broadcast channel, after each of its calls
-use Rattle.std.proofs.Common.{◌≡◌, ℕ, zero, suc, ◌+◌, ◌-◌, ◌*◌, ◌^◌, ◌/◌, ◌<◌, ◌≤◌, ◌==◌, ◌++◌, Bool, true, false, List, [], ◌∷◌, length, map, max, nat_lt, nat_le, slice_get, Option, Some, None, if◌then◌else◌, refl, ap, sym, subst, ◌∙◌, arith}
+use Rattle.std.proofs.Common.{◌≡◌, ℕ, zero, suc, ◌+◌, ◌-◌, ◌*◌, ◌^◌, ◌/◌, ◌<◌, ◌≤◌, ◌==◌, ◌++◌, Bool, true, false, [], ◌∷◌, length, map, max, nat_lt, nat_le, slice_get, Option, Some, None, if◌then◌else◌, refl, ap, sym, subst, ◌∙◌, arith}
 use Rattle.std.specs.Int.{IsNextPowerOfTwo}
 use native.Mathlib.Nat.{pow-suc, pow-le-pow_right}
 use Rattle.std.proofs.lemmas.Bool.Decides.{nat_tests}
@@ -7,9 +7,9 @@ use Rattle.mea_base.specs.Totals.{total}
 use Rattle.mea_base.proofs.Totals.{total-same}
 use Rattle.mea_by_name.specs.declared.named_waker.NamedWaker.{NamedWaker}
 use Rattle.mea_by_name.specs.ByName.{Names, seen}
-use Rattle.mea_by_name.specs.NamedQueue.{wakers}
 use Rattle.mea_by_name.proofs.Own.{total-seen}
-use Rattle.mea_cores_by_name.specs.SetLinked.{names_of, set_names}
+use Rattle.mea_cores_by_name.specs.SetLinked.{set_names}
+use Rattle.mea_cores_by_name.proofs.Sets.{length-names, wakers-names}
 use Rattle.mea_broadcast_core.specs.Broadcast.{oldest, after_send, without_sender, woken}
 use Rattle.mea_broadcast_core.specs.Receives as cores
 use Rattle.mea_broadcast_core.specs.Receives.{Found, found, found_at}
@@ -18,15 +18,6 @@ use Rattle.mea_chan_model.specs.Broadcasts.{Stands, Behind, Holds, AtTail, stand
 use Rattle.mea_chan_broadcast.specs.declared.broadcast_entry.BroadcastEntry.{BroadcastEntry}
 use Rattle.mea_chan_broadcast.specs.BroadcastCores.{NamedBroadcast, kept_by, handed_on}
 use Rattle.mea_chan_broadcast.specs.BroadcastParts.{core_seen, broadcast_seen}
-
--- ---- who waits
-pub length-names : (ks : List NamedWaker) → length (names_of ks) ≡ length ks
-length-names [] = refl
-length-names (k ∷ ks) = omega (arith, length-names ks)
-
-pub wakers-names : (ks : List NamedWaker) → wakers (names_of ks) ≡ map (λ (k : NamedWaker). k.waker) ks
-wakers-names [] = refl
-wakers-names (k ∷ ks) = ap (λ ws. k.waker ∷ ws) (wakers-names ks)
 
 -- ---- the calls
 module _ (b : NamedBroadcast) (n : ℕ) where

@@ -1,5 +1,5 @@
 -- sets of wakers, by numbers and by names
-use Rattle.std.proofs.Common.{◌≡◌, ℕ, zero, suc, ◌+◌, ◌<◌, ◌≤◌, ◌==◌, ◌&&◌, ◌||◌, ◌++◌, nat_lt, Bool, true, false, length, slice_set, List, [], ◌∷◌, Option, Some, None, refl, ap, sym, ◌∙◌, arith}
+use Rattle.std.proofs.Common.{◌≡◌, ℕ, zero, suc, ◌+◌, ◌<◌, ◌≤◌, ◌==◌, ◌&&◌, ◌||◌, ◌++◌, nat_lt, Bool, true, false, length, map, slice_set, List, [], ◌∷◌, Option, Some, None, refl, ap, sym, ◌∙◌, arith}
 use Rattle.std.proofs.lemmas.Bool.{eqb-true, eq-eqb, ne_eqb}
 use Rattle.std.proofs.lemmas.Bool.Decides.{nat_tests}
 use Rattle.std.proofs.lemmas.List.{length-append}
@@ -11,7 +11,7 @@ use Rattle.mea_by_name.proofs.Own.{insert_same}
 use Rattle.mea_sets.specs.declared.place.Place.{Place}
 use Rattle.mea_sets.specs.WaitSet.{Registered, is_registered, has_given, index_of, fresh_place, with_waker, slot_after, drained}
 use Rattle.mea_by_name.specs.declared.named_waker.NamedWaker.{NamedWaker}
-use Rattle.mea_by_name.specs.NamedQueue.{registering}
+use Rattle.mea_by_name.specs.NamedQueue.{registering, wakers}
 use Rattle.mea_cores_by_name.specs.SetLinked.{names_of, set_names, SlotIs, SetLinked, StandsAt, IsAbsent, AreBelow}
 
 -- its waker is replaced where its number says
@@ -187,3 +187,20 @@ begun_links s slots n f linked later = record {
 
 pub gone_links : (s : Registered NamedWaker) (slots : Names (Option Place)) (n f : ℕ) → SetLinked s slots n → SetLinked s (remove slots f) n
 gone_links s slots n f linked = record { each = λ g slot here. linked.each g slot (removed_there slots f g slot here); below = linked.below }
+
+-- ---- who waits, by name
+pub length-names : (ks : List NamedWaker) → length (names_of ks) ≡ length ks
+length-names [] = refl
+length-names (k ∷ ks) = omega (arith, length-names ks)
+
+pub wakers-names : (ks : List NamedWaker) → wakers (names_of ks) ≡ map (λ (k : NamedWaker). k.waker) ks
+wakers-names [] = refl
+wakers-names (k ∷ ks) = ap (λ ws. k.waker ∷ ws) (wakers-names ks)
+
+-- ---- numbers below n are below what comes later
+pub linked_later : (s : Registered NamedWaker) (slots : Names (Option Place)) (n m : ℕ) → SetLinked s slots n → n ≤ m → SetLinked s slots m
+linked_later s slots n m linked later = record { each = λ f slot there. (omega (arith, (linked.each f slot there).0, later), (linked.each f slot there).1); below = below_more s.wakers linked.below }
+  where
+    below_more : (ks : List NamedWaker) → AreBelow ks n → AreBelow ks m
+    below_more [] h = tt
+    below_more (k ∷ ks) h = (omega (arith, h.0, later), below_more ks h.1)

@@ -13,7 +13,7 @@ use Rattle.mea_job_core.specs.Calls.{Call, submits, refusal_in, called, all_call
 use Rattle.mea_job_core.specs.declared.submit_error.SubmitError.{SubmitError}
 use Rattle.mea_job_core.specs.Record.{Job, Record, Finished, is_running, queued_in, running_in, in_state, returned, put, tells, starts_one, starts, finishes_as, recalls_one, stops, hands_one, polls}
 use Rattle.mea_job_core.specs.Work.{Submission, first_in, next_of}
-use Rattle.mea_job_core.proofs.Sorted.{below_none, both_first, both_second}
+use Rattle.mea_by_name.proofs.Sorted.{below_none, both_first, both_second}
 use Rattle.mea_job_core.proofs.Stops.{stops_as}
 
 -- the entries of a map without its first are the others

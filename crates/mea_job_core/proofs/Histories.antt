@@ -1,10 +1,11 @@
 -- what every list of calls keeps
-use Rattle.std.proofs.Common.{◌≡◌, ℕ, ◌+◌, ◌<◌, ◌==◌, ◌&&◌, ◌++◌, Bool, true, false, List, [], ◌∷◌, length, Option, Some, None, IsSome, is_some, option_to_list, if◌then◌else◌, refl, ap, sym, subst, ◌∙◌, arith, append-nil, append_assoc}
+use Rattle.std.proofs.Common.{◌≡◌, ℕ, ◌+◌, ◌<◌, ◌==◌, ◌&&◌, ◌++◌, Bool, true, false, List, [], ◌∷◌, length, Option, Some, None, IsSome, option_to_list, if◌then◌else◌, refl, ap, sym, subst, ◌∙◌, arith, append-nil, append_assoc}
 use Rattle.std.specs.Option.{option_map}
 use Rattle.std.specs.FinMap.{get, insert, len}
 use Rattle.mea_base.proofs.Maps.{by_put, inside, is_there, is_absent, nothing_there}
-use Rattle.mea_base.proofs.NamedMaps.{get-seen, is_some-map}
-use Rattle.mea_by_name.specs.ByName.{Names, seen}
+use Rattle.mea_base.proofs.NamedMaps.{get-seen}
+use Rattle.mea_by_name.specs.ByName.{seen}
+use Rattle.mea_by_name.proofs.Own.{seen-some_back}
 use Rattle.mea_job_core.specs.Work.{Submission, next_of}
 use Rattle.mea_job_core.specs.Service.{oldest, younger}
 use Rattle.mea_job_core.specs.Record.{State, Queued, Running, Finished, Returned, Job, in_state, Record, is_queued, is_running, passes, submission_of, queued_in, running_in, free_of, returned, tells, starts_one, starts, finishes_as, finishes, recalls_one, stops, hands_one, hands, polls, put}
@@ -16,9 +17,6 @@ use Rattle.mea_job_core.proofs.Nexts.{next_there}
 takes_one : (rs : List (ℕ × ℕ)) → rs ≡ listed (oldest rs) ++ younger rs
 takes_one [] = refl
 takes_one (e ∷ rest) = refl
-
-seen_some : (f : Job → Job) (jobs : Names Job) (k : ℕ) → IsSome (get (seen f jobs) k) → IsSome (get jobs k)
-seen_some f jobs k some = sym (ap is_some (get-seen (λ i x. f x) jobs k) ∙ is_some-map f (get jobs k)) ∙ some
 
 pub waits_or_runs : (b : Bool) (key value : ℕ) → Becomes None (Some (record { key = key; value = value; state = if b then Queued else Running }))
 waits_or_runs true key value = Waits key value
@@ -187,7 +185,7 @@ module _ {W : Type 0} where
 
       by_test : (b : Bool) → IsSome (get (if b then r else tells r1).jobs k) → k < r.next
       by_test true some = below k some
-      by_test false some = below k (seen_some returned r.jobs k (subst (λ jobs. IsSome (get jobs k)) (tells_as r1).jobs some))
+      by_test false some = below k (seen-some_back returned r.jobs k (subst (λ jobs. IsSome (get jobs k)) (tells_as r1).jobs some))
 
   pub calls_below : (r r' : Record W) (finished taken : List (ℕ × ℕ)) → Calls r r' finished taken → AreBelow r → AreBelow r'
   calls_below r _ _ _ (Submit n key value later none) below = λ k some.

@@ -1,4 +1,3 @@
-pub mod Sorted
 pub mod Shares
 pub mod Tying
 pub mod Nexts

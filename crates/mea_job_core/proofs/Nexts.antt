@@ -15,7 +15,7 @@ use Rattle.mea_share_core.specs.Groups.{share_in, IsNextOf, IsBefore}
 use Rattle.mea_job_core.specs.Waiting.{Waiting}
 use Rattle.mea_job_core.specs.Work.{Submission, running_of, starts_before, sooner, soonest, next_of}
 use Rattle.mea_job_core.specs.Tied.{submission_of, submissions, waker_at, Waits, AreTied}
-use Rattle.mea_job_core.proofs.Sorted.{AllIn, all_there}
+use Rattle.mea_by_name.proofs.Sorted.{AllIn, all_there}
 
 -- ---- two jobs, by how many of the key run and by their numbers
 abbrev before : ℕ → ℕ → ℕ → ℕ → Bool

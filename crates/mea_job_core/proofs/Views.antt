@@ -13,7 +13,7 @@ use Rattle.mea_by_name.proofs.Own.{seen-insert, seen-remove, seen-empty, seen-at
 use Rattle.mea_job_core.specs.Waiting.{Waiting}
 use Rattle.mea_job_core.specs.Work.{Submission, Work, Kept, new_work, soonest, next_of, started, next_after, ended, recalled, halted, first_in, first_back, handed, handed_of}
 use Rattle.mea_job_core.specs.Tied.{submission_of, submissions, values, work_seen, EndsJob}
-use Rattle.mea_job_core.proofs.Sorted.{AllIn, all_there}
+use Rattle.mea_by_name.proofs.Sorted.{AllIn, all_there}
 
 -- the jobs of what is kept
 pub is_seen : {k l : Kept} → k ≡ l → k.seen ≡ l.seen

@@ -7,13 +7,7 @@ use Rattle.mea_broadcast_core.specs.declared.errors.BroadcastTry.TheVariants as 
 use Rattle.mea_broadcast_core.specs.Broadcast.{Broadcast, oldest}
 use Rattle.mea_broadcast_core.specs.Receives.{Found, Behind, Holds, AtTail, found, found_at, Receives, usable_position}
 use Rattle.mea_link.specs.Positions.{MovesBy}
-use Rattle.mea_broadcast_core.proofs.Walks.{never_behind}
-
-module _ {T : Type 0} where
-  abbrev lag_of : Found T → ℕ
-  lag_of (Behind k) = k
-  lag_of (Holds v) = 0
-  lag_of AtTail = 0
+use Rattle.mea_broadcast_core.proofs.Walks.{never_behind, lag_of}
 
 module _ {T W : Type 0} where
   -- the position that a checked call goes by is the receiver's own, or below it

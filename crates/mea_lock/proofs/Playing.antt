@@ -48,9 +48,6 @@ none_registered = omega (arith, total-empty (λ o (r : Lock). length (waiting_at
 
 -- what was done to the locks of one kind: next numbers, and the registered wakers counted
 module _ (p q : Part Locks) (v : Part Condvars) (i : ℕ) (a : Action) (answer : Answer) (p' q' : Part Locks) (v' : Part Condvars) (before after : Waking ℕ) (one : PlaysOne p q v i a answer p' q' v' before after) where
-  one_next : (p'.next ≡ i + 1) × (q'.next ≡ q.next) × (v'.next ≡ v.next)
-  one_next = (ap (λ (p : Part Locks). p.next) one.yields.moved, ap (λ (p : Part Locks). p.next) one.same, ap (λ (p : Part Condvars). p.next) one.still)
-
   one_counted : after.registered + (registered p.hall + registered q.hall + condvars.registered v.hall) ≡ before.registered + (registered p'.hall + registered q'.hall + condvars.registered v'.hall)
   one_counted =
       let moved = ap (λ (p : Part Locks). registered p.hall) one.yields.moved in
@@ -59,17 +56,6 @@ module _ (p q : Part Locks) (v : Part Condvars) (i : ℕ) (a : Action) (answer :
       omega (arith, moved, same, still, one.yields.counted)
 
 module _ (m l : Part Locks) (v : Part Condvars) (m' l' : Part Locks) (v' : Part Condvars) (before after : Waking ℕ) (next i : ℕ) (answer : Answer) (held : AreBelow m l v i) where
-  pub below_after : (d : Meaning) → PlaysBy d m l v i answer m' l' v' before after → AreBelow m' l' v' (i + 1)
-  below_after (OnLocks Mutexes a) one =
-      let next = one_next m l v i a answer m' l' v' before after one in
-      record { mutexes = omega (arith, next.0); rw_locks = omega (arith, next.1, held.rw_locks); condvars = omega (arith, next.2, held.condvars) }
-  below_after (OnLocks RwLocks a) one =
-      let next = one_next l m v i a answer l' m' v' before after one in
-      record { mutexes = omega (arith, next.1, held.mutexes); rw_locks = omega (arith, next.0); condvars = omega (arith, next.2, held.condvars) }
-  below_after (OnCondvars a) (waits, same) =
-      let other = ap (λ (p : Part Locks). p.next) same in
-      record { mutexes = waits.next.0; rw_locks = omega (arith, other, held.rw_locks); condvars = waits.next.1 }
-
   counted_by : (d : Meaning) → PlaysBy d m l v i answer m' l' v' before after → after.registered + all_registered (hall_of m l v) ≡ before.registered + all_registered (hall_of m' l' v')
   counted_by (OnLocks Mutexes a) one = omega (arith, one_counted m l v i a answer m' l' v' before after one)
   counted_by (OnLocks RwLocks a) one = omega (arith, one_counted l m v i a answer l' m' v' before after one)

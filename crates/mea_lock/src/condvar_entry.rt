@@ -8,7 +8,7 @@ use mea_lock_core::CondvarCore;
 use std::alloc::Global;
 use std::marker::Model;
 
-/// What a hall keeps of a condition variable.
+/// What a hall keeps of a condition variable. Only `list` takes memory.
 #[derive(Drop)]
 pub struct CondvarEntry {
     core: CondvarCore<NamedWaker>,
@@ -39,6 +39,7 @@ impl CondvarEntry {
         }
     }
 
+    /// Its core.
     pub fn core(&self) -> &CondvarCore<NamedWaker>
         ensures { result.now ≡ self.now.condvar }
     {

@@ -11,7 +11,7 @@ use mea_by_name::NamedWaker;
 use mea_family::one_if;
 use std::marker::Model;
 
-/// What a hall keeps of a lock.
+/// What a hall keeps of a lock. Only its polls take memory.
 #[derive(Drop)]
 pub struct LockEntry<C: LockCore> {
     core: C,
@@ -99,12 +99,14 @@ impl<C: LockCore> LockEntry<C> {
         }
     }
 
+    /// Its core.
     pub fn core(&self) -> &C
         ensures { C.lock_of result.now ≡ self.now.lock }
     {
         &self.core
     }
 
+    /// Whether it has its name.
     pub fn is_named(&self) -> bool
         ensures { result ≡ self.now.named }
     {

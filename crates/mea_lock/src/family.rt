@@ -37,7 +37,7 @@ pub type LockHall = FamilyHall<LockFamily, LockModel>;
 /// event that made it.
 ///
 /// Each lock is a core of its own; a future keeps its wait. Its waker carries the future's name, so the core's
-/// queue tells who waits. Each event costs a look-up by name and the wakers that it makes ready.
+/// queue tells who waits. Each event costs a few look-ups by name and the wakers that it makes ready.
 #[derive(Drop)]
 pub struct LockFamily {
     kinds: Kinds,

@@ -28,7 +28,7 @@ use std::alloc::Global;
 use std::marker::Model;
 
 /// The locks of one kind with their futures and guards, each by the number of the event that made it. Each call
-/// costs a look-up by name and the wakers that it makes ready.
+/// costs a few look-ups by name and the wakers that it makes ready.
 ///
 /// A lock stays without its name while an owned thing of it lives.
 #[derive(Drop)]
@@ -100,14 +100,14 @@ impl<C: LockCore> LockPart<C> {
                 Some(of_condvar) => unknown_unless(!of_condvar),
                 None => unknown_unless(self.guard(x).is_some()),
             },
-            LockAction::Peek(o) | LockAction::Put(o, _) | LockAction::Take(o) => self.cause_of_use(
-                o,
-            ),
+            LockAction::Peek(o) | LockAction::Put(o, _) => self.cause_of_use(o),
+            LockAction::Take(o) => self.cause_of_use(o),
             LockAction::Drop(o) => self.cause_of_drop(o),
         }
     }
 
-    /// Does an action, or finds why it is refused. On an error nothing has changed.
+    /// Does an action, or finds why it is refused. On an error nothing has changed. Memory is taken for what is made, by a
+    /// poll and by a try, and by no end.
     pub fn act(
         &mut self,
         number: u64,
@@ -164,10 +164,7 @@ impl<C: LockCore> LockPart<C> {
     pub fn is_condvar_future(&self, f: u64) -> bool
         ensures { result ≡ is_condvar_future self.now.hall f }
     {
-        match self.is_of_condvar(f) {
-            Some(of_condvar) => of_condvar,
-            None => false,
-        }
+        self.is_of_condvar(f) == Some(true)
     }
 
     // The guard of a name.

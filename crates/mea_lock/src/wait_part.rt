@@ -27,7 +27,7 @@ use std::marker::Model;
 /// The mutexes of the waits.
 pub type Mutexes = LockPart<MutexCore<u64, NamedWaker>>;
 
-/// The condition variables with their waits, each by the number of the event that made it. Each call costs a look-up
+/// The condition variables with their waits, each by the number of the event that made it. Each call costs a few look-ups
 /// by name and the wakers that it makes ready.
 ///
 /// What a wait has at its mutex is kept with the mutexes, under the name of the wait.
@@ -102,14 +102,14 @@ impl WaitPart {
                 self.is_condvar(c) && mutexes.write_guard(g).is_some(),
             ),
             CondAction::Poll(f, _) => unknown_unless(self.lives(mutexes, f)),
-            CondAction::One(c) => unknown_unless(self.is_condvar(c)),
-            CondAction::All(c) => unknown_unless(self.is_condvar(c)),
+            CondAction::One(c) | CondAction::All(c) => unknown_unless(self.is_condvar(c)),
             CondAction::End(f) => unknown_unless(self.lives(mutexes, f)),
             CondAction::Drop(c) => self.cause_of_drop(c),
         }
     }
 
-    /// Does an action, or finds why it is refused. On an error nothing has changed.
+    /// Does an action, or finds why it is refused. On an error nothing has changed. Memory is taken for what is made and by a
+    /// poll.
     pub fn act(
         &mut self,
         mutexes: &mut Mutexes,

@@ -4,12 +4,12 @@ use Rattle.std.specs.List.{Contains}
 use Rattle.std.specs.Option.{IsSome}
 use Rattle.std.specs.FinMap.{get}
 use Rattle.mea_family.specs.Family.{Outcome}
-use Rattle.mea_base.proofs.Maps.{by_put, inside, get-other, get-removed_other, removed_there, is_there, value_in}
+use Rattle.mea_base.proofs.Maps.{by_put, inside, get-other, removed_there, is_there, value_in}
 use Rattle.mea_base.proofs.Tests.{by_name}
 use Rattle.mea_by_name.specs.ByName.{Names}
 use Rattle.mea_by_name.specs.NamedQueue as named_queue
 use Rattle.mea_by_name.specs.NamedQueue.{Waiting}
-use Rattle.mea_by_name.proofs.OneObject.{IsBelow, AreBelow, FuturesGo, Touches, Kept, Begun, Turned, Ended, None_is, Polled, Ends, below_later, goes_lows, goes_below, goes_kept, goes_made}
+use Rattle.mea_by_name.proofs.OneObject.{IsBelow, AreBelow, FuturesGo, Kept, Begun, Turned, Ended, below_later, goes_lows, goes_below, goes_kept, goes_made, after_it, untouched}
 use Rattle.mea_lock_model.specs.Locks as locks
 use Rattle.mea_lock_model.specs.Locks.{Locks, LockFuture, waiting_at}
 use Rattle.mea_lock_model.specs.Condvars.{Condvars, queue_of}
@@ -28,12 +28,6 @@ module _ {R X : Type 0} (queue : R → Waiting) (owner : X → ℕ) (rs : Names 
   before_it _ (Turned x z there same) f y is new apart = sym (get-other xs k f z apart) ∙ is
   before_it _ Ended f y is new apart = removed_there xs k f y is
 
-  after_it : (xs' : Names X) → FuturesGo queue owner rs xs C i k xs' → (f : ℕ) (x : X) → get xs f ≡ Some x → (f ≡ i → ⊥) → (k ≡ f → ⊥) → get xs' f ≡ Some x
-  after_it _ Kept f x is new apart = is
-  after_it _ (Begun y owned) f x is new apart = get-other xs i f y (λ same. new (sym same)) ∙ is
-  after_it _ (Turned y z there same) f x is new apart = get-other xs k f z apart ∙ is
-  after_it _ Ended f x is new apart = get-removed_other xs k f apart ∙ is
-
   -- whose object was there before: that of each who is there afterwards, where that of each before was
   owned_before : ((f : ℕ) (x : X) → get xs f ≡ Some x → IsSome (get rs (owner x))) → C → (xs' : Names X) → FuturesGo queue owner rs xs C i k xs' → (f : ℕ) (y : X) → get xs' f ≡ Some y → IsSome (get rs (owner y))
   owned_before home allowed _ Kept f y is = home f y is
@@ -42,12 +36,6 @@ module _ {R X : Type 0} (queue : R → Waiting) (owner : X → ℕ) (rs : Names 
   owned_before home allowed _ (Turned x z there same) f y is = by_put xs k z (λ f o. o ≡ Some y → IsSome (get rs (owner y)))
       (λ is. ap (λ n. is_some (get rs n)) (sym (ap owner (inside is)) ∙ same) ∙ home k x there) (λ f apart is. home f y is) f is
   owned_before home allowed _ Ended f y is = home f y (removed_there xs k f y is)
-
-  -- whom an event neither polls nor ends, it does not touch
-  untouched : (polled : ℕ → Option ℕ) (ends : ℕ → Bool) → Touches queue owner polled ends i k → (f : ℕ) → (f ≡ i → ⊥) → polled f ≡ None → ends f ≡ false → k ≡ f → ⊥
-  untouched polled ends (None_is fresh) f new quiet lasts same = new (sym same ∙ fresh)
-  untouched polled ends (Polled w is) f new quiet lasts same = absurd (let none : polled k ≡ None = ap polled same ∙ quiet in cc)
-  untouched polled ends (Ends is) f new quiet lasts same = absurd (let none : ends k ≡ false = ap ends same ∙ lasts in cc)
 
 -- ---- the locks of one kind
 -- names stay below the next number

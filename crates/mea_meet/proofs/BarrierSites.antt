@@ -20,12 +20,12 @@ use Rattle.mea_by_name.specs.declared.named_waker.NamedWaker.{NamedWaker}
 use Rattle.mea_by_name.specs.ByName.{Names, seen, own}
 use Rattle.mea_by_name.specs.NamedQueue.{registering}
 use Rattle.mea_by_name.proofs.Cases.{found_is, if_true, if_false}
-use Rattle.mea_by_name.proofs.Own.{Moves, Comes, Goes, moves_elsewhere, seen-at, seen-empty, seen-insert, seen-remove, seen-alike, own-at, own-none, own-put, own-gone, own-empty, own-seen, insert_same, len-new, len-over, len-gone, len-some, len-seen, total-seen}
+use Rattle.mea_by_name.proofs.Own.{Moves, Comes, Goes, moves_elsewhere, seen-at, seen-empty, seen-insert, seen-remove, seen-alike, own-at, own-none, own-put, own-gone, own-empty, own-seen, insert_same, len-new, len-over, len-gone, len-some, len-seen, total-seen, seen-none_back, seen-some_back}
 use Rattle.mea_sets.specs.declared.place.Place.{Place}
 use Rattle.mea_sets.specs.Poll.{Poll, Ready, Pending}
 use Rattle.mea_sets.specs.WaitSet.{has_given, with_waker, slot_after}
 use Rattle.mea_cores_by_name.specs.SetLinked.{SetLinked, set_names}
-use Rattle.mea_cores_by_name.proofs.Sets.{registered_links, registered_names, drained_links, begun_links, gone_links}
+use Rattle.mea_cores_by_name.proofs.Sets.{registered_links, registered_names, drained_links, begun_links, gone_links, length-names, wakers-names, linked_later}
 use Rattle.mea_meet_core.specs.Barrier as cores
 use Rattle.mea_meet_core.specs.Barrier.{is_open, led, joined, Polls, Arrives, Returns}
 use Rattle.mea_meet_core.specs.declared.barrier_fault.BarrierFault.{BarrierFault}
@@ -36,15 +36,13 @@ use Rattle.mea_meet_model.specs.Barriers.{Barriers, Barrier, BarrierWait, no_bar
 use Rattle.mea_meet_model.specs.BarrierActions.{BarrierAction, Make, Begin, Poll as PollIt, End, Drop, cause_at, act_at}
 use Rattle.mea_meet_model.specs.Valid.{HasBarriers, IsBarrier}
 use Rattle.mea_meet_model.proofs.BarriersKept.{barriers_empty, keeps}
-use Rattle.mea_meet_model.proofs.CountsKept.{no_thing}
+use Rattle.mea_by_name.proofs.Halls.{no_thing}
 use Rattle.mea_meet_model.proofs.Rounds.{has_begun}
 use Rattle.mea_meet.specs.declared.barrier_entry.BarrierEntry.{BarrierEntry}
 use Rattle.mea_meet.specs.declared.barrier_entry.BarrierWaitEntry.{BarrierWaitEntry}
 use Rattle.mea_meet.specs.BarrierEntries.{Turns}
 use Rattle.mea_meet.specs.BarrierParts.{core_seen, barrier_seen, slot_of, round_of, wait_seen, barriers_seen, of_barrier, slots_of, IsUnfinished, AreKept, AreKeptBarriers}
-use Rattle.mea_meet.proofs.CountSeeing.{length-names, wakers-names}
-use Rattle.mea_meet.proofs.CountSites.{seen_none, seen_some}
-use Rattle.mea_meet.proofs.OneCount.{linked_later, fresh_linked}
+use Rattle.mea_meet.proofs.OneCount.{fresh_linked}
 
 -- ---- nothing
 pub new_kept : AreKeptBarriers empty empty 0
@@ -183,16 +181,16 @@ module _ {old : Part Barriers} {i : ℕ} (s : Site old i) where
 
   -- ---- what is there
   pub barrier_there : (b : ℕ) → is_barrier old.hall b ≡ true → IsSome (get s.bs b)
-  barrier_there b is = seen_some barrier_seen s.bs b (in_view (λ h. is_barrier h b ≡ true) is)
+  barrier_there b is = seen-some_back barrier_seen s.bs b (in_view (λ h. is_barrier h b ≡ true) is)
 
   pub wait_there : (f : ℕ) → is_wait old.hall f ≡ true → IsSome (get s.ws f)
-  wait_there f is = seen_some wait_seen s.ws f (in_view (λ h. is_wait h f ≡ true) is)
+  wait_there f is = seen-some_back wait_seen s.ws f (in_view (λ h. is_wait h f ≡ true) is)
 
   pub waits_barrier : (f : ℕ) (x : BarrierWaitEntry) → get s.ws f ≡ Some x → IsSome (get s.bs x.barrier)
-  waits_barrier f x there = seen_some barrier_seen s.bs x.barrier (s.kept.valid.waits.at f (wait_seen x) (seen-at wait_seen s.ws f x there)).1
+  waits_barrier f x there = seen-some_back barrier_seen s.bs x.barrier (s.kept.valid.waits.at f (wait_seen x) (seen-at wait_seen s.ws f x there)).1
 
   new_wait : get s.ws i ≡ None
-  new_wait = seen_none wait_seen s.ws i (no_thing model.of_wait _ _ s.next i s.kept.valid.waits s.later)
+  new_wait = seen-none_back wait_seen s.ws i (no_thing model.of_wait _ _ s.next i s.kept.valid.waits s.later)
 
   known_barrier : (b : ℕ) → is_barrier old.hall b ≡ true → (if is_barrier old.hall b then None else Some stops.Unknown) ≡ None
   known_barrier b is = ap (λ b. if b then None else Some stops.Unknown) is
@@ -414,7 +412,7 @@ module _ {old : Part Barriers} {i : ℕ} (s : Site old i) where
   -- ---- a barrier is made
   pub made : (n : ℕ) (c : cores.Barrier NamedWaker) → c ≡ record { size = max n 1; arrivals = 0; waiting = record { wakers = []; drains = 0 }; wakes = [] } → (bs' : Names BarrierEntry) → bs' ≡ insert s.bs i (record { core = c; waits = 0 }) → Rests (Make n) answers.Made bs' s.ws
   made n c is bs' put =
-      let new : get s.bs i ≡ None = seen_none barrier_seen s.bs i no_barrier in
+      let new : get s.bs i ≡ None = seen-none_back barrier_seen s.bs i no_barrier in
       let nothing : weight (λ b (e : BarrierEntry). length e.core.waiting.wakers) i (get s.bs i) ≡ 0 = ap (weight (λ b (e : BarrierEntry). length e.core.waiting.wakers) i) new in
       let all = total-insert (λ b (e : BarrierEntry). length e.core.waiting.wakers) s.bs i (record { core = fresh; waits = 0 }) in
       rw (put, is) (rests_as (Make n) (model.make here i n) refl refl answers.Made refl (insert s.bs i (record { core = fresh; waits = 0 })) s.ws (seen-insert barrier_seen s.bs i (record { core = fresh; waits = 0 })) refl

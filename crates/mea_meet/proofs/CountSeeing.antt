@@ -1,5 +1,5 @@
 -- what is seen of a point that counts, after each call of its core
-use Rattle.std.proofs.Common.{◌≡◌, ℕ, ◌+◌, ◌-◌, ◌++◌, Bool, true, false, List, [], ◌∷◌, length, map, Option, if◌then◌else◌, refl, ap, sym, ◌∙◌, arith}
+use Rattle.std.proofs.Common.{◌≡◌, ℕ, ◌+◌, ◌-◌, ◌++◌, Bool, true, false, [], ◌∷◌, length, map, Option, if◌then◌else◌, refl, ap, sym, ◌∙◌, arith}
 use Rattle.mea_base.specs.Totals.{total}
 use Rattle.mea_base.proofs.Totals.{total-same}
 use Rattle.mea_by_name.specs.declared.named_waker.NamedWaker.{NamedWaker}
@@ -9,22 +9,14 @@ use Rattle.mea_by_name.proofs.Own.{total-seen}
 use Rattle.mea_sets.specs.declared.place.Place.{Place}
 use Rattle.mea_sets.specs.WaitSet as sets
 use Rattle.mea_sets.specs.Countdown as cores
-use Rattle.mea_cores_by_name.specs.SetLinked.{names_of, set_names}
+use Rattle.mea_cores_by_name.specs.SetLinked.{set_names}
+use Rattle.mea_cores_by_name.proofs.Sets.{length-names, wakers-names}
 use Rattle.mea_meet_model.specs.Count.{decreased, woken_by, with_waker}
 use Rattle.mea_meet_model.specs.Counts as model
 use Rattle.mea_meet_model.specs.Counts.{Point, End, OfSignal, OfMembers, woken_by_end}
 use Rattle.mea_meet.specs.CountCores.{NamedPoint, arrived, joined, parted, handed_on, count_at, with_count, kept_by}
 use Rattle.mea_meet.specs.CountEntries.{KeptPoint}
 use Rattle.mea_meet.specs.CountParts.{count_seen, core_seen, point_seen}
-
--- ---- who waits
-pub length-names : (ks : List NamedWaker) → length (names_of ks) ≡ length ks
-length-names [] = refl
-length-names (k ∷ ks) = omega (arith, length-names ks)
-
-pub wakers-names : (ks : List NamedWaker) → wakers (names_of ks) ≡ map (λ (k : NamedWaker). k.waker) ks
-wakers-names [] = refl
-wakers-names (k ∷ ks) = ap (λ ws. k.waker ∷ ws) (wakers-names ks)
 
 -- ---- a count
 module _ (c : cores.Count NamedWaker) (n : ℕ) where

@@ -5,14 +5,14 @@ use Rattle.std.specs.FinMap.{get, insert, remove, empty, len}
 use Rattle.mea_base.specs.Ready.{Waking}
 use Rattle.mea_base.specs.Totals.{weight}
 use Rattle.mea_base.proofs.Totals.{total-insert, total-remove}
-use Rattle.mea_base.proofs.Maps.{by_put, by_gone, total-has, nothing_at, inside, get-there, is_there, value_in, is_absent}
+use Rattle.mea_base.proofs.Maps.{by_put, by_gone, total-has, nothing_at, inside, get-there, is_there}
 use Rattle.mea_base.proofs.NamedMaps.{is_some-map, get-seen}
 use Rattle.mea_family.specs.Family.{Outcome}
 use Rattle.mea_family.specs.Play.{Part, PartYields, PartRests, found}
 use Rattle.mea_family.specs.declared.answer.Answer.{Answer}
 use Rattle.mea_by_name.specs.ByName.{Names, seen, own}
 use Rattle.mea_by_name.proofs.Cases.{found_is, if_true, if_false}
-use Rattle.mea_by_name.proofs.Own.{Moves, moves_elsewhere, seen-at, seen-back, seen-empty, seen-insert, seen-remove, own-empty, put_gone, own-seen, len-seen}
+use Rattle.mea_by_name.proofs.Own.{Moves, moves_elsewhere, seen-at, seen-empty, seen-insert, seen-remove, own-empty, put_gone, own-seen, len-seen, seen-none_back, seen-some_back}
 use Rattle.mea_meet_model.specs.Counts as model
 use Rattle.mea_meet_model.specs.Counts.{Counts, Point, End, Holder, Awaited, Wait, New, no_counts, is_holder, is_sender, is_wait, borrows, borrowers_of, registered, things_of, tidied}
 use Rattle.mea_meet_model.specs.CountActions.{Action, act_in, cause_in}
@@ -26,12 +26,6 @@ use Rattle.mea_meet.specs.CountEntries.{KeptPoint}
 use Rattle.mea_meet.specs.CountParts.{point_seen, holder_seen, wait_seen, counts_seen, of_holder, of_wait, AreKept, AreKeptCounts}
 use Rattle.mea_meet.proofs.CountSeeing.{kept_in, registered_is}
 use Rattle.mea_meet.proofs.OneCount.{lasts}
-
-pub seen_none : {X Y : Type 0} (f : X → Y) (m : Names X) (k : ℕ) → get (seen f m) k ≡ None → get m k ≡ None
-seen_none f m k none = is_absent (get m k) (λ some. let it = value_in (get m k) some in absurd (let there = seen-at f m k it.0 it.1 in let no = sym none ∙ there in cc))
-
-pub seen_some : {X Y : Type 0} (f : X → Y) (m : Names X) (k : ℕ) → IsSome (get (seen f m) k) → IsSome (get m k)
-seen_some f m k some = let it = value_in (get (seen f m) k) some in let back = seen-back f m k it.0 it.1 in is_there (get m k) back.0 back.1
 
 -- ---- nothing
 pub new_kept : AreKeptCounts empty empty empty empty 0
@@ -109,38 +103,38 @@ module _ {old : Part Counts} {i : ℕ} (s : Site old i) where
 
   -- ---- what is not there yet
   pub new_point : get s.ps i ≡ None
-  new_point = seen_none point_seen s.ps i (no_point here s.next i s.kept.valid s.later)
+  new_point = seen-none_back point_seen s.ps i (no_point here s.next i s.kept.valid s.later)
 
   pub new_holder : get s.hs i ≡ None
-  new_holder = seen_none holder_seen s.hs i (no_holder here s.next i s.kept.valid s.later)
+  new_holder = seen-none_back holder_seen s.hs i (no_holder here s.next i s.kept.valid s.later)
 
   pub new_wait : get s.ws i ≡ None
-  new_wait = seen_none wait_seen s.ws i (no_wait here s.next i s.kept.valid s.later)
+  new_wait = seen-none_back wait_seen s.ws i (no_wait here s.next i s.kept.valid s.later)
 
   pub new_sender : get s.ss i ≡ None
   new_sender = no_sender here s.next i s.kept.valid s.later
 
   -- ---- what is there
   pub holder_there : (k : ℕ) → is_holder old.hall k ≡ true → IsSome (get s.hs k)
-  holder_there k is = seen_some holder_seen s.hs k (in_view (λ h. is_holder h k ≡ true) is)
+  holder_there k is = seen-some_back holder_seen s.hs k (in_view (λ h. is_holder h k ≡ true) is)
 
   pub sender_there : (k : ℕ) → is_sender old.hall k ≡ true → IsSome (get s.ss k)
   sender_there k is = in_view (λ h. is_sender h k ≡ true) is
 
   pub wait_there : (f : ℕ) → is_wait old.hall f ≡ true → IsSome (get s.ws f)
-  wait_there f is = seen_some wait_seen s.ws f (in_view (λ h. is_wait h f ≡ true) is)
+  wait_there f is = seen-some_back wait_seen s.ws f (in_view (λ h. is_wait h f ≡ true) is)
 
   pub point_there : (o : ℕ) → IsSome (get old.hall.points o) → IsSome (get s.ps o)
-  point_there o some = seen_some point_seen s.ps o (in_view (λ h. IsSome (get h.points o)) some)
+  point_there o some = seen-some_back point_seen s.ps o (in_view (λ h. IsSome (get h.points o)) some)
 
   pub holders_point : (k : ℕ) (x : HolderEntry) → get s.hs k ≡ Some x → IsSome (get s.ps x.point)
-  holders_point k x there = seen_some point_seen s.ps x.point (s.kept.valid.holders.at k (holder_seen x) (seen-at holder_seen s.hs k x there)).1
+  holders_point k x there = seen-some_back point_seen s.ps x.point (s.kept.valid.holders.at k (holder_seen x) (seen-at holder_seen s.hs k x there)).1
 
   pub senders_point : (k o : ℕ) → get s.ss k ≡ Some o → IsSome (get s.ps o)
-  senders_point k o there = seen_some point_seen s.ps o (s.kept.valid.senders.at k o there).1
+  senders_point k o there = seen-some_back point_seen s.ps o (s.kept.valid.senders.at k o there).1
 
   pub waits_point : (f : ℕ) (y : WaitEntry) → get s.ws f ≡ Some y → IsSome (get s.ps y.point)
-  waits_point f y there = seen_some point_seen s.ps y.point (s.kept.valid.waits.at f (wait_seen y) (seen-at wait_seen s.ws f y there)).1
+  waits_point f y there = seen-some_back point_seen s.ps y.point (s.kept.valid.waits.at f (wait_seen y) (seen-at wait_seen s.ws f y there)).1
 
   -- ---- at a point that is there
   module _ (o : ℕ) (e : KeptPoint) (there : get s.ps o ≡ Some e) where

@@ -1,5 +1,5 @@
 -- one point that counts, as it is kept with its futures, holders and senders: what each change of it keeps
-use Rattle.std.proofs.Common.{◌≡◌, ℕ, ◌+◌, ◌-◌, ◌≤◌, ◌==◌, Bool, true, false, cond, List, [], ◌∷◌, Option, Some, None, if◌then◌else◌, refl, ap, sym, subst, ◌∙◌, arith}
+use Rattle.std.proofs.Common.{◌≡◌, ℕ, ◌+◌, ◌-◌, ◌≤◌, ◌==◌, Bool, true, false, cond, [], ◌∷◌, Option, Some, None, if◌then◌else◌, refl, ap, sym, subst, ◌∙◌, arith}
 use Rattle.std.specs.Ordering.{nat_cmp}
 use Rattle.std.specs.FinMap.{get, insert, remove, empty, len, get-empty, len-empty}
 use Rattle.mea_base.proofs.Maps.{by_put, inside, removed_there, nothing_at}
@@ -11,8 +11,8 @@ use Rattle.mea_by_name.proofs.Own.{seen-at, seen-empty, seen-insert, seen-remove
 use Rattle.mea_sets.specs.declared.place.Place.{Place}
 use Rattle.mea_sets.specs.WaitSet.{Registered, has_given, with_waker, slot_after}
 use Rattle.mea_sets.specs.Countdown as cores
-use Rattle.mea_cores_by_name.specs.SetLinked.{SetLinked, AreBelow, set_names}
-use Rattle.mea_cores_by_name.proofs.Sets.{registered_links, registered_names, drained_links, begun_links, gone_links}
+use Rattle.mea_cores_by_name.specs.SetLinked.{SetLinked, set_names}
+use Rattle.mea_cores_by_name.proofs.Sets.{registered_links, registered_names, drained_links, begun_links, gone_links, linked_later}
 use Rattle.mea_meet_model.specs.Counts.{End, OfSignal, OfMembers, borrows}
 use Rattle.mea_meet_model.specs.Counts as model
 use Rattle.mea_meet.specs.declared.holder_entry.HolderEntry.{HolderEntry}
@@ -23,13 +23,6 @@ use Rattle.mea_meet.specs.CountCores.{NamedPoint, arrived, joined, parted, hande
 use Rattle.mea_meet.specs.CountWaits.{end_of, slot_of, with_slot, slot_at, awaits_of}
 use Rattle.mea_meet.specs.CountEntries.{KeptPoint}
 use Rattle.mea_meet.specs.CountParts.{AreKept, IsFresh, slots_at, borrowers_in}
-
-pub linked_later : (s : Registered NamedWaker) (slots : Names (Option Place)) (n m : ℕ) → SetLinked s slots n → n ≤ m → SetLinked s slots m
-linked_later s slots n m linked later = record { each = λ f slot there. (omega (arith, (linked.each f slot there).0, later), (linked.each f slot there).1); below = below_more s.wakers linked.below }
-  where
-    below_more : (ks : List NamedWaker) → AreBelow ks n → AreBelow ks m
-    below_more [] h = tt
-    below_more (k ∷ ks) h = (omega (arith, h.0, later), below_more ks h.1)
 
 -- a new set, that no future waits in
 pub fresh_linked : (n : ℕ) → SetLinked (record { wakers = []; drains = 0 }) empty n

@@ -5,16 +5,15 @@ use Rattle.std.specs.FinMap.{get}
 use Rattle.std.proofs.lemmas.Bool.{eqb-true}
 use Rattle.std.proofs.lemmas.List.Elements.{Contains-append_left, Contains-append_right}
 use Rattle.std.proofs.lemmas.Option.{cond_some}
-use Rattle.mea_base.proofs.Maps.{is_there, value_in, get-there, get-other, get-removed_other}
+use Rattle.mea_base.proofs.Maps.{is_there, value_in, get-there}
 use Rattle.mea_family.specs.Family.{Outcome}
 use Rattle.mea_family.specs.Play.{found}
 use Rattle.mea_family.specs.declared.answer.Answer.TheVariants as answers
-use Rattle.mea_by_name.specs.ByName.{Names}
 use Rattle.mea_by_name.specs.NamedQueue as named_queue
-use Rattle.mea_by_name.specs.NamedQueue.{Waiting, waker_for}
+use Rattle.mea_by_name.specs.NamedQueue.{waker_for}
 use Rattle.mea_by_name.proofs.Cases.{by_found, by_if, found_is, if_false}
 use Rattle.mea_by_name.proofs.NamedQueues.{registering-there}
-use Rattle.mea_by_name.proofs.OneObject.{IsBelow, AreBelow, FuturesGo, Touches, Kept, Begun, Turned, Ended, None_is, Polled, Ends, goes_kept, goes_made, goes_stays}
+use Rattle.mea_by_name.proofs.OneObject.{IsBelow, AreBelow, goes_kept, goes_made, goes_stays, after_it, untouched}
 use Rattle.mea_meet_model.specs.Count.{with_waker}
 use Rattle.mea_meet_model.specs.Counts as counts
 use Rattle.mea_meet_model.specs.Counts.{Counts, Point, End, OfSignal, OfMembers, Awaited, Signal, Members, Wait, is_wait, count_at, with_count, end_of, placed_at, placed_of, placed, of_wait}
@@ -33,19 +32,6 @@ pub record PartActs (polled : ℕ → Option ℕ) (ends : ℕ → Bool) (i : ℕ
 -- a part that an event does not concern
 pub rests : (i : ℕ) (lives : ℕ → Bool) (kept : ℕ → Option ℕ) (ws : List ℕ) → PartActs (λ f. None) (λ f. false) i lives lives kept kept ws
 rests i lives kept ws = record { wakes = λ f w lived is quiet lasts. inl is; stays = λ f lived quiet lasts. lived; over = λ f is. absurd (cc); made = λ f living. inl living }
-
--- who is not touched is as it was
-module _ {R X : Type 0} (queue : R → Waiting) (owner : X → ℕ) (rs : Names R) (xs : Names X) (C : Type 0) (i k : ℕ) where
-  after_it : (xs' : Names X) → FuturesGo queue owner rs xs C i k xs' → (f : ℕ) (x : X) → get xs f ≡ Some x → (f ≡ i → ⊥) → (k ≡ f → ⊥) → get xs' f ≡ Some x
-  after_it _ Kept f x is new apart = is
-  after_it _ (Begun y owned) f x is new apart = get-other xs i f y (λ same. new (sym same)) ∙ is
-  after_it _ (Turned y z there same) f x is new apart = get-other xs k f z apart ∙ is
-  after_it _ Ended f x is new apart = get-removed_other xs k f apart ∙ is
-
-  untouched : (polled : ℕ → Option ℕ) (ends : ℕ → Bool) → Touches queue owner polled ends i k → (f : ℕ) → (f ≡ i → ⊥) → polled f ≡ None → ends f ≡ false → k ≡ f → ⊥
-  untouched polled ends (None_is fresh) f new quiet lasts same = new (sym same ∙ fresh)
-  untouched polled ends (Polled w is) f new quiet lasts same = absurd (let none : polled k ≡ None = ap polled same ∙ quiet in cc)
-  untouched polled ends (Ends is) f new quiet lasts same = absurd (let none : ends k ≡ false = ap ends same ∙ lasts in cc)
 
 -- the waker of a future, at the end that it waits for
 placed_is : (o : Option Point) (a : Awaited) (f : ℕ) → placed_at o a f ≡ waker_for (named_queue.queue_of (queue_at (end_of a)) o) f

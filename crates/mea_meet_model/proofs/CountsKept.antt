@@ -1,38 +1,21 @@
 -- points that count, after an event that changes one of them and what is of it
 use Rattle.std.proofs.Common.{◌≡◌, ℕ, ◌+◌, ◌<◌, ◌≤◌, ◌==◌, Option, Some, None, IsSome, if◌then◌else◌, refl, ap, sym, subst, ◌∙◌, arith}
-use Rattle.std.specs.FinMap.{get, insert, remove, empty, len}
+use Rattle.std.specs.FinMap.{get, insert, remove, empty}
 use Rattle.std.proofs.lemmas.Bool.{eqb-true, eqb-false}
-use Rattle.mea_base.proofs.Maps.{by_put, by_gone, inside, is_there, value_in, get-there, get-other, get-gone, get-removed_other, removed_there, nothing_at, nothing_there}
+use Rattle.mea_base.proofs.Maps.{by_put, inside, is_there, value_in, get-there, get-other, get-gone, get-removed_other, removed_there, nothing_at, nothing_there}
 use Rattle.mea_base.proofs.Tests.{by_name}
 use Rattle.mea_by_name.specs.ByName.{Names, own, AreHome}
 use Rattle.mea_by_name.proofs.Cases.{by_if}
-use Rattle.mea_by_name.proofs.Own.{Moves, moves_elsewhere, moves_home, own-nothing}
+use Rattle.mea_by_name.proofs.Halls.{home_without, no_thing}
+use Rattle.mea_by_name.proofs.Own.{Moves, moves_elsewhere, moves_home}
 use Rattle.mea_meet_model.specs.Counts.{Counts, Point, Holder, Wait, no_counts, things_of, of_itself, of_holder, of_wait}
 use Rattle.mea_meet_model.specs.Valid.{IsPoint, AreThere, HasCounts}
-
--- things none of which is of o have their points still where o is gone
-home_without : {R X : Type 0} (owner : X → ℕ) (rs : Names R) (xs : Names X) (o n : ℕ) → AreHome owner rs xs n → len (own owner o xs) ≡ 0 → AreHome owner (remove rs o) xs n
-home_without owner rs xs o n home none = record {
-  at = λ k x is. (
-    (home.at k x is).0,
-    by_gone rs o (λ q p. owner x ≡ q → IsSome (get rs q) → IsSome p)
-        (λ mine some. absurd (own-nothing owner o xs none k x is (sym mine))) (λ q apart mine some. some) (owner x) refl (home.at k x is).1,
-  );
-}
 
 pub home_later : {R X : Type 0} (owner : X → ℕ) (rs : Names R) (xs : Names X) (n i : ℕ) → AreHome owner rs xs n → n ≤ i → AreHome owner rs xs i
 home_later owner rs xs n i home later = record { at = λ k x is. (omega (arith, (home.at k x is).0, later), (home.at k x is).1) }
 
 pub home_empty : {R X : Type 0} (owner : X → ℕ) (rs : Names R) (n : ℕ) → AreHome owner rs empty n
 home_empty {X = X} owner rs n = record { at = λ k x is. absurd (nothing_at X k x is) }
-
--- the name of the event is no thing's yet
-pub no_thing : {R X : Type 0} (owner : X → ℕ) (rs : Names R) (xs : Names X) (n i : ℕ) → AreHome owner rs xs n → n ≤ i → get xs i ≡ None
-no_thing owner rs xs n i home later = at (get xs i) refl
-  where
-    at : (p : Option _) → get xs i ≡ p → get xs i ≡ None
-    at None is = is
-    at (Some x) is = absurd (let low = (home.at i x is).0 in omega (arith, low, later))
 
 pub counts_empty : HasCounts no_counts 0
 counts_empty = record {

@@ -4,6 +4,7 @@ use Rattle.std.specs.Map.{lookup}
 use Rattle.mea_base.specs.declared.no_memory.NoMemory.{NoMemory}
 use Rattle.mea_base.specs.Outbox.{Wakes}
 use Rattle.mea_sets.specs.Poll.{Poll, Ready, Pending}
+use Rattle.mea_base.proofs.Maps.{value_in}
 use Rattle.mea_once_core.specs.declared.key_call.KeyStage.TheVariants.{Kept, Done}
 use Rattle.mea_once_core.specs.Cell.{Cell, RunsInit, Enters, PollsStage, Finds, given_up, AddAtMost, queues_more, rested}
 use Rattle.mea_once_core.specs.Links.{Shown, shown_at, Changes, left}
@@ -319,15 +320,11 @@ pub none-of : {A : Type 0} (o : Option A) → (IsSome o → ⊥) → o ≡ None
 none-of None away = refl
 none-of (Some x) away = absurd (away refl)
 
-pub some-of : {A : Type 0} (o : Option A) → IsSome o → (x : A) × (o ≡ Some x)
-some-of None some = absurd (cc)
-some-of (Some x) some = (x, refl)
-
 module _ {K V W : Type 0} (eq : K → K → Bool) where
   -- the key's entry has left the table, and is in use still
   pub kept-unlisted : (t t' : Table K V W) (n : ℕ) → IsSome (entry_at t n) → Unlists eq t t' n → AreQuiet t.slots → IsSome (entry_at t' n) → AreQuiet t'.slots × (waiting_in t'.slots ≡ waiting_in t.slots)
   kept-unlisted t t' n there out quiet some =
-      let e = some-of (entry_at t n) there in
+      let e = value_in (entry_at t n) there in
       let told = out e.0 e.1 in
       let stays : entry_at t' n ≡ Some (record e.0 { listed = false }) = stays-or-goes (entry_at t' n) (e.0.callers == 0) (record e.0 { listed = false }) told.0.changed some in
       kept t.slots t'.slots n e.0 (record e.0 { listed = false }) e.1 (record { changed = stays; others = told.0.others }) refl quiet
@@ -336,7 +333,7 @@ module _ {K V W : Type 0} (eq : K → K → Bool) where
   pub gone-unlisted : (t t' : Table K V W) (n q : ℕ) (c : Cell V W) → IsSome (entry_at t n) → Unlists eq t t' n → AreQuiet t.slots → IfSome (entry_at t n) (λ s. c ≡ s.cell) → q ≡ length c.permit.queue → (IsSome (entry_at t' n) → ⊥)
       → AreQuiet t'.slots × (waiting_in t'.slots + q ≡ waiting_in t.slots)
   gone-unlisted t t' n q c there out quiet is_cell count none =
-      let e = some-of (entry_at t n) there in
+      let e = value_in (entry_at t n) there in
       let told = out e.0 e.1 in
       let goes : entry_at t' n ≡ None = goes-or-stays (entry_at t' n) (e.0.callers == 0) (record e.0 { listed = false }) told.0.changed none in
       let then = kept-without t.slots t'.slots n e.0 e.1 (record { changed = goes; others = told.0.others }) quiet in
@@ -356,7 +353,7 @@ module _ {K V W : Type 0} (eq : K → K → Bool) where
 
   pub unlisted-within : (t : Table K V W) (n q : ℕ) (c : Cell V W) → IsSome (entry_at t n) → IfSome (entry_at t n) (λ s. c ≡ s.cell) → q ≡ length c.permit.queue → q ≤ waiting_in t.slots
   unlisted-within t n q c there is_cell count =
-      let e = some-of (entry_at t n) there in
+      let e = value_in (entry_at t n) there in
       let same : q ≡ length e.0.cell.permit.queue = count ∙ ap (λ (x : Cell V W). length x.permit.queue) (at_entry (λ s. c ≡ s.cell) (entry_at t n) e.0 e.1 is_cell) in
       let most : length e.0.cell.permit.queue ≤ waiting_in t.slots = queue-within t.slots n e.0 e.1 in
       omega arith

@@ -16,7 +16,7 @@ use Rattle.mea_sem_core.specs.Calls.{Steady, Polls, Queues, Cancels, given_back,
 use Rattle.mea_sem_core.specs.declared.acquire.Acquire.{Acquire}
 use Rattle.mea_sem_core.specs.declared.acquire.Acquire.TheVariants as acquire
 use Rattle.mea_sem_core.specs.Ones.{AskForOne}
-use Rattle.mea_sem_core.proofs.Ones.{ones_no_debt, ones_append, ones_rewaked, ones_without, length-rewaked, length-without}
+use Rattle.mea_sem_core.proofs.Ones.{ones_no_debt, ones_append, ones_rewaked, ones_without, poured_nothing, length-rewaked, length-without}
 use Rattle.mea_once_core.specs.Permit.{IsPermit, IsNext, IsWaiting, asks_more, MayAsk, Leaves, passed_to, passed_on, acquire_of}
 use Rattle.mea_once_core.specs.declared.cell_stage.CellStage.{CellStage}
 use Rattle.mea_once_core.specs.declared.cell_stage.CellStage.TheVariants.{New, Queued, Running, Done}
@@ -146,18 +146,6 @@ module _ {W : Type 0} where
       by_test true rest there = let both : (e, l) ≡ (d, lack) = ap (λ y. unwrap_or y (e, l)) there in sym (ap (λ (z : ℕ × ℕ). z.1) both) ∙ a.1
       by_test false rest there = rest there
   lack_is_one ((Owes, l) ∷ q) n d lack a h = absurd a
-
-  -- nothing is poured
-  poured_nothing : (q : List (Waiter W × ℕ)) (free live : ℕ) (granted cut : map.FinMap nat_cmp ℕ) (closed : Bool) (wakes : List W) → AskForOne q
-      → poured (record { free = free; live = live; queue = q; granted = granted; cut = cut; closed = closed; wakes = wakes }) 0 ≡ record { free = free; live = live; queue = q; granted = granted; cut = cut; closed = closed; wakes = wakes }
-  poured_nothing q free live granted cut closed wakes a =
-      let same : lacks_after 0 q 0 ≡ q = behind q 0 0 (omega arith) a in
-      let all : waiting_after q 0 ≡ q = ap (λ es. filter {X = Waiter W × ℕ} (λ e. nat_lt 0 e.1) es) same ∙ lacking q a in
-      let nobody : granted_in q 0 ≡ [] = ap (λ es. map_list {A = Waiter W × ℕ} (λ e. e.0) (filter {X = Waiter W × ℕ} (λ e. e.1 == 0) es)) same ∙ ap (λ es. map_list {A = Waiter W × ℕ} (λ e. e.0) es) (unpaid q a) in
-      let f : free + left_over q 0 ≡ free = omega arith in
-      let none : debts q ≡ 0 = debtless q a in
-      let l : live + 0 - paid_to_debts q 0 ≡ live = omega arith in
-      λ i. record { free = f i; live = l i; queue = all i; granted = ap (granting granted) nobody i; cut = cut; closed = closed; wakes = (ap (λ es. wakes ++ wakers_of es) nobody ∙ append-nil wakes) i }
 
   pub cancelled_next : (s s' : Core W) (n : ℕ) → IsPermit s → core.IsSound s' → Steady s s' → Cancels s (acquire.Queued 1 n) s' → IsNext s n → s' ≡ passed_on (record s { granted = map.remove s.granted n })
   cancelled_next s s' n is sound steady cancels next =

@@ -1,10 +1,11 @@
 -- a flag under a lock that nobody has, and a condition variable, as a gate
-use Rattle.std.proofs.Common.{◌≡◌, ◌∙◌, ℕ, ◌-◌, ◌≤◌, inl, inr, Bool, true, false, cond, List, [], ◌∷◌, Option, Some, None, is_some, Ok, refl, ap, sym, arith}
+use Rattle.std.proofs.Common.{◌≡◌, ◌∙◌, ℕ, ◌-◌, ◌≤◌, inl, inr, Bool, true, false, cond, List, [], ◌∷◌, Option, None, is_some, Ok, refl, ap, sym, arith}
 use Rattle.std.specs.Prelude.{IsSome}
 use Rattle.std.specs.Ordering.{nat_cmp}
 use Rattle.std.specs.FinMap as map
 use Rattle.std.specs.FinMap.{get-empty}
 use Rattle.mea_base.specs.declared.turn.Turn.TheVariants.{Ready, Pending}
+use Rattle.mea_base.proofs.Maps.{value_in}
 use Rattle.mea_sem_core.specs.Core.{Core}
 use Rattle.mea_sem_core.specs.Calls.{given_back}
 use Rattle.mea_lock_core.specs.Condvar.{Condvar, waker_under, with_waker, without_wait, first_notified}
@@ -13,10 +14,6 @@ use Rattle.mea_lock_core.specs.Lock.{Lock, permits_of}
 use Rattle.mea_lock_core.specs.declared.cond_wait.CondWait.{CondWait}
 use Rattle.mea_pool_core.specs.declared.drain_wait.DrainWait.TheVariants.{Listed}
 use Rattle.mea_pool_core.specs.Gate.{IsListed, gate_of, IsGate, EndsGate}
-
-there_is : {X : Type 0} (o : Option X) → IsSome o → (x : X) × (o ≡ Some x)
-there_is None some = absurd (cc)
-there_is (Some x) some = (x, refl)
 
 nobody_in : {X : Type 0} (m : map.FinMap nat_cmp X) (n : ℕ) → m ≡ map.empty → IsSome (map.get m n) → ⊥
 nobody_in {X} m n empty some = let none : map.get m n ≡ None = ap (λ (k : map.FinMap nat_cmp X). map.get k n) empty ∙ get-empty nat_cmp n in let no : false ≡ true = sym (ap (λ (o : Option X). is_some o) none) ∙ some in cc
@@ -42,7 +39,7 @@ module _ {W : Type 0} where
   pub through : (l l' : Lock Bool W) (s s' : Condvar W) (n : ℕ) (w x : W) (c : CondWait) → IsGate l s → IsListed s.waiting s.notified n → PollsListed s l n w (Ok (Ready x)) s' l' c → IsThrough l l' s s' n
   through l l' s s' n w x c is (inl waits) polls = absurd (let no = (polls.0 waits).0 in cc)
   through l l' s s' n w x c is (inr told) polls =
-      let by = there_is (map.get s.notified n) told in
+      let by = value_in (map.get s.notified n) told in
       let asks = polls.1 by.0 by.1 in
       let takes = asks.2.1.0 (free_lock l s is) in
       record {
@@ -67,7 +64,7 @@ module _ {W : Type 0} where
         lock = h.2;
       }
   before l l' s s' n w c is (inr told) polls =
-      let by = there_is (map.get s.notified n) told in
+      let by = value_in (map.get s.notified n) told in
       let asks = polls.1 by.0 by.1 in
       let takes = asks.2.1.0 (free_lock l s is) in
       absurd (let no = takes.0 in cc)
@@ -116,7 +113,7 @@ module _ {W : Type 0} where
   ended_told : (l : Lock Bool W) (s s' : Condvar W) (n : ℕ) → IsGate l s → IsListed s.waiting s.notified n → EndsListed s n s' → l.value ≡ true → s' ≡ record s { notified = map.remove s.notified n }
   ended_told l s s' n is (inl waits) ends opens = absurd (nobody_waits s.waiting n (is.left opens) waits)
   ended_told l s s' n is (inr told) ends opens =
-      let by = there_is (map.get s.notified n) told in
+      let by = value_in (map.get s.notified n) told in
       ends.1 by.0 by.1 ∙ passes_nobody by.0 (record s { notified = map.remove s.notified n }) s.waiting (is.left opens)
 
   ended_waiting : (l : Lock Bool W) (s s' : Condvar W) (n : ℕ) → IsGate l s → IsListed s.waiting s.notified n → EndsListed s n s' → l.value ≡ false → s' ≡ record s { waiting = without_wait s.waiting n }

@@ -1,5 +1,5 @@
 -- a queue each of whose acquires asks for one permit, as a list of leases that wait
-use Rattle.std.proofs.Common.{◌≡◌, ◌∙◌, ℕ, ◌+◌, ◌-◌, ◌≤◌, ◌==◌, ◌++◌, Bool, true, false, cond, inl, inr, List, [], ◌∷◌, take, Option, Some, None, is_some, refl, ap, arith, append-nil}
+use Rattle.std.proofs.Common.{◌≡◌, ◌∙◌, ℕ, ◌+◌, ◌-◌, ◌≤◌, ◌==◌, ◌++◌, Bool, true, false, cond, inl, inr, List, [], ◌∷◌, Option, Some, None, is_some, refl, ap, arith, append-nil}
 use Rattle.std.proofs.lemmas.Bool.{eq-eqb, cases_lt}
 use Rattle.std.proofs.lemmas.List.Sums.{sum_by-cons}
 use Rattle.std.specs.Prelude.{IsSome, map as map_list}
@@ -12,7 +12,7 @@ use Rattle.mea_sem_core.specs.Core.{Waiter, Acquires, Owes, Core, paid_to, paid_
 use Rattle.mea_sem_core.specs.Calls as calls
 use Rattle.mea_sem_core.specs.Calls.{without_acquire, given_back}
 use Rattle.mea_sem_core.specs.Ones.{AskForOne}
-use Rattle.mea_sem_core.proofs.Ones.{ones_debts, ones_left, ones_granted}
+use Rattle.mea_sem_core.proofs.Ones.{ones_debts, ones_left, ones_granted, take_none}
 use Rattle.mea_lock_core.specs.Condvar.{waker_under, with_waker, without_wait}
 use Rattle.mea_pool_core.specs.Places.{leases_of, cutting}
 
@@ -88,20 +88,6 @@ module _ {W : Type 0} where
   first_waits q n d lack w = ap (λ (b : Bool). cond b (Some (d, lack)) (waiting q n)) (eq-eqb n n refl)
 
   -- ---- what is poured
-
-  take_none : (q : List (Waiter W × ℕ)) → take 0 q ≡ []
-  take_none [] = refl
-  take_none (e ∷ q) = refl
-
-  -- nothing is poured
-  pub poured_nothing : (q : List (Waiter W × ℕ)) (free live : ℕ) (granted cut : map.FinMap nat_cmp ℕ) (closed : Bool) (wakes : List W) → AskForOne q
-      → poured (record { free = free; live = live; queue = q; granted = granted; cut = cut; closed = closed; wakes = wakes }) 0 ≡ record { free = free; live = live; queue = q; granted = granted; cut = cut; closed = closed; wakes = wakes }
-  poured_nothing q free live granted cut closed wakes a =
-      let nobody : granted_in q 0 ≡ [] = ones_granted q 0 a ∙ ap (λ (es : List (Waiter W × ℕ)). map_list {A = Waiter W × ℕ} (λ e. e.0) es) (take_none q) in
-      let f : free + left_over q 0 ≡ free = omega arith in
-      let none : debts q ≡ 0 = ones_debts q a in
-      let l : live + 0 - paid_to_debts q 0 ≡ live = omega arith in
-      λ i. record { free = f i; live = l i; queue = ones_left q 0 a i; granted = ap (granting granted) nobody i; cut = cut; closed = closed; wakes = (ap (λ es. wakes ++ wakers_of es) nobody ∙ append-nil wakes) i }
 
   -- a permit goes to the first of a queue, which is granted and woken; where nobody waits it is free
   abbrev pub passed_to : List (Waiter W × ℕ) → Core W → Core W

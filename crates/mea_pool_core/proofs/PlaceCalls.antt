@@ -16,13 +16,13 @@ use Rattle.mea_sem_core.specs.declared.acquire.Acquire.TheVariants as acquire
 use Rattle.mea_sem_core.specs.declared.open_turn.OpenTurn.{OpenTurn}
 use Rattle.mea_sem_core.specs.declared.open_turn.OpenTurn.TheVariants.{Ready, Pending, Closed}
 use Rattle.mea_sem_core.specs.Ones.{AskForOne}
-use Rattle.mea_sem_core.proofs.Ones.{ones_no_debt, ones_append, ones_rewaked, ones_without}
+use Rattle.mea_sem_core.proofs.Ones.{ones_no_debt, ones_append, ones_rewaked, ones_without, poured_nothing}
 use Rattle.mea_lock_core.specs.Condvar.{waker_under, with_waker, without_wait}
 use Rattle.mea_pool_core.specs.declared.lease_wait.LeaseWait.{LeaseWait}
 use Rattle.mea_pool_core.specs.declared.lease_wait.LeaseWait.TheVariants.{New, Queued, Done, Refused}
 use Rattle.mea_pool_core.specs.Waits.{acquire_of, wait_of}
 use Rattle.mea_pool_core.specs.Places.{Places, leases_of, places_of, IsPlaces, taken_of, are_drained, Fits, WaitsLast, PollsPlace, FindsPlace, TriesPlace, place_for, with_place, CancelsPlace, closed_places}
-use Rattle.mea_pool_core.proofs.Lines.{inserted, removed, leases_last, leases_rewaked, leases_without, waits_one, waits_some, waits_none, first_waits, poured_nothing, passed_to, given, closes}
+use Rattle.mea_pool_core.proofs.Lines.{inserted, removed, leases_last, leases_rewaked, leases_without, waits_one, waits_some, waits_none, first_waits, passed_to, given, closes}
 
 abbrev AnswerOf : Type 0 → Type 0
 AnswerOf W = Result (OpenTurn W) (W × NoMemory)

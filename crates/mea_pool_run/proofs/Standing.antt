@@ -5,7 +5,7 @@ use Rattle.std.specs.Ordering.{nat_cmp}
 use Rattle.std.specs.FinMap.{FinMap, get, insert, remove}
 use Rattle.std.proofs.lemmas.Bool.{eqb-true, eqb-false, eq-eqb, ne_eqb}
 use Rattle.std.proofs.lemmas.List.{get_or-set_same, get_or-set_other}
-use Rattle.mea_base.proofs.Maps.{is_absent, is_there}
+use Rattle.mea_base.proofs.Maps.{is_absent, is_there, not_both}
 use Rattle.mea_base.proofs.Totals.{get_inserted, get_removed}
 use Rattle.mea_by_name.specs.declared.named_waker.NamedWaker.{NamedWaker}
 use Rattle.mea_lock_core.specs.Condvar.{waker_under, with_waker, without_wait, notifying}
@@ -16,9 +16,6 @@ use Rattle.mea_pool_run.specs.Kept.{Numbered, Linked, IsMet, AsksStand, LeasesSt
 use Rattle.mea_pool_run.proofs.Linking.{put, pushed, left, rewaked, cleared, popped, put_some, put_none, single_some, single_none}
 
 -- ---- what is not there
-
-pub not_both : {X : Type 0} (o : Option X) (x : X) → o ≡ None → o ≡ Some x → ⊥
-not_both o x none some = absurd (cc)
 
 some_not_none : {X : Type 0} (o : Option X) → o ≡ None → IsSome o → ⊥
 some_not_none o none some = let no : false ≡ true = ap is_some (sym none) ∙ some in absurd (cc)

@@ -4,7 +4,7 @@ use Rattle.std.specs.Option.{option_map}
 use Rattle.std.specs.Ordering.{nat_cmp}
 use Rattle.std.specs.FinMap.{FinMap, get, insert, remove}
 use Rattle.std.proofs.lemmas.Bool.{cases_lt, eqb-true, eqb-false, eq-eqb, ne_eqb}
-use Rattle.mea_base.proofs.Maps.{inside}
+use Rattle.mea_base.proofs.Maps.{inside, not_both}
 use Rattle.mea_base.proofs.NamedMaps.{same_named, get-seen}
 use Rattle.mea_base.proofs.Totals.{get_inserted, get_removed}
 use Rattle.mea_by_name.specs.ByName.{Names, seen}
@@ -15,7 +15,6 @@ use Rattle.mea_pool_run.specs.declared.thing.Thing.TheVariants.{Ask, Wait, Held}
 use Rattle.mea_pool_run.specs.Hall.{asks}
 use Rattle.mea_pool_run.specs.Kept.{live_of, asked, IsGoing, AreBelow}
 use Rattle.mea_pool_run.proofs.Linking.{At, put, put_none, IsSingle}
-use Rattle.mea_pool_run.proofs.Standing.{not_both}
 
 -- ---- names and numbers
 

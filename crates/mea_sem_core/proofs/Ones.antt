@@ -1,10 +1,12 @@
 -- pours into a queue in which each asks for one permit: the first so many are granted
-use Rattle.std.proofs.Common.{◌≡◌, ◌∙◌, ℕ, zero, suc, ◌+◌, ◌-◌, ◌≤◌, ◌==◌, ◌++◌, Bool, true, false, cond, nat_lt, min, List, [], ◌∷◌, take, drop, filter, length, refl, ap, arith}
+use Rattle.std.proofs.Common.{◌≡◌, ◌∙◌, ℕ, zero, suc, ◌+◌, ◌-◌, ◌≤◌, ◌==◌, ◌++◌, Bool, true, false, cond, nat_lt, min, List, [], ◌∷◌, take, drop, filter, length, refl, ap, arith, append-nil}
 use Rattle.std.specs.Prelude.{map as map_list}
+use Rattle.std.specs.Ordering.{nat_cmp}
+use Rattle.std.specs.FinMap as map
 use Rattle.std.proofs.lemmas.Bool.Decides.{nat_tests}
 use Rattle.std.proofs.lemmas.List.Sums.{sum_by-cons}
-use Rattle.mea_base.specs.Queue.{lacks, lacks_after, waiting_after, granted_in}
-use Rattle.mea_sem_core.specs.Core.{Waiter, Acquires, Owes, HasNoDebt, debts, wakers_of}
+use Rattle.mea_base.specs.Queue.{lacks, lacks_after, waiting_after, granted_in, left_over}
+use Rattle.mea_sem_core.specs.Core.{Waiter, Acquires, Owes, HasNoDebt, poured, granting, paid_to_debts, debts, wakers_of}
 use Rattle.mea_sem_core.specs.Calls.{with_waker, without_acquire}
 use Rattle.mea_sem_core.specs.Ones.{AskForOne}
 
@@ -55,7 +57,7 @@ module _ {W : Type 0} where
   pub ones_left : (q : List (Waiter W × ℕ)) (n : ℕ) → AskForOne q → waiting_after q n ≡ drop n q
   ones_left q n h = let all : n - 0 ≡ n = omega arith in left_from q 0 n h ∙ ap (λ k. drop k q) all
 
-  take_none : (q : List (Waiter W × ℕ)) → take 0 q ≡ []
+  pub take_none : (q : List (Waiter W × ℕ)) → take 0 q ≡ []
   take_none [] = refl
   take_none (e ∷ q) = refl
 
@@ -89,6 +91,16 @@ module _ {W : Type 0} where
   -- the first n are granted
   pub ones_granted : (q : List (Waiter W × ℕ)) (n : ℕ) → AskForOne q → granted_in q n ≡ map_list {A = Waiter W × ℕ} (λ e. e.0) (take n q)
   ones_granted q n h = let all : n - 0 ≡ n = omega arith in granted_from q 0 n h ∙ ap (λ k. map_list {A = Waiter W × ℕ} (λ e. e.0) (take k q)) all
+
+  -- nothing is poured
+  pub poured_nothing : (q : List (Waiter W × ℕ)) (free live : ℕ) (granted cut : map.FinMap nat_cmp ℕ) (closed : Bool) (wakes : List W) → AskForOne q
+      → poured (record { free = free; live = live; queue = q; granted = granted; cut = cut; closed = closed; wakes = wakes }) 0 ≡ record { free = free; live = live; queue = q; granted = granted; cut = cut; closed = closed; wakes = wakes }
+  poured_nothing q free live granted cut closed wakes a =
+      let nobody : granted_in q 0 ≡ [] = ones_granted q 0 a ∙ ap (λ (es : List (Waiter W × ℕ)). map_list {A = Waiter W × ℕ} (λ e. e.0) es) (take_none q) in
+      let f : free + left_over q 0 ≡ free = omega arith in
+      let none : debts q ≡ 0 = ones_debts q a in
+      let l : live + 0 - paid_to_debts q 0 ≡ live = omega arith in
+      λ i. record { free = f i; live = l i; queue = ones_left q 0 a i; granted = ap (granting granted) nobody i; cut = cut; closed = closed; wakes = (ap (λ es. wakes ++ wakers_of es) nobody ∙ append-nil wakes) i }
 
   -- each of them has a waker
   pub wakers_of_ones : (q : List (Waiter W × ℕ)) → AskForOne q → length (wakers_of (map_list {A = Waiter W × ℕ} (λ e. e.0) q)) ≡ length q

@@ -115,7 +115,8 @@ wakers_of m g (Waiter f ∷ ws) wait =
     ∙ ap (λ o. o ∷ map (λ k. waker_kept (get g k)) (futures_in ws)) (sym here.2)
 wakers_of m g (Debt ∷ ws) wait = wakers_of m g ws wait
 
-waiting_stage : (t : FutureStage) → one_if_waiting t ≡ 1 → (w : ℕ) × (t ≡ Waiting w)
+-- what counts as one that waits, waits
+pub waiting_stage : (t : FutureStage) → one_if_waiting t ≡ 1 → (w : ℕ) × (t ≡ Waiting w)
 waiting_stage New one = absurd (omega (arith, one))
 waiting_stage (Waiting w) one = (w, refl)
 waiting_stage Granted one = absurd (omega (arith, one))

@@ -138,7 +138,7 @@ module _ (h : Hall) (f : ℕ) (x : Future) (is : get h.futures f ≡ Some x) (v 
   left_matched = record { once = left_once; within = left_within }
 
 -- ---- who waits at most once
-one_at_most : (s : ℕ) (o : Option Future) → waits_at s o ≤ 1
+pub one_at_most : (s : ℕ) (o : Option Future) → waits_at s o ≤ 1
 one_at_most s None = omega arith
 one_at_most s (Some x) = by_test (x.semaphore == s) x.stage
   where

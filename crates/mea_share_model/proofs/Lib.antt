@@ -1,4 +1,3 @@
-pub mod Sorted
 pub mod Waiting
 pub mod Changes
 pub mod Acting

@@ -12,7 +12,7 @@ use Rattle.mea_share_core.specs.Share.{Share, new_share, held_of, waiting_of, Is
 use Rattle.mea_share_core.specs.Groups.{IsBefore}
 use Rattle.mea_share_core.proofs.Kept.{idle_share}
 use Rattle.mea_share_model.specs.Next.{Shares, Waiter, share_at, is_idle, put_share, waiting_in, waiters_of, waiters_among, waiters_in, goes_before, none_before, first_of, next_of, IsNextIn}
-use Rattle.mea_share_model.proofs.Sorted.{AllIn, all_there}
+use Rattle.mea_by_name.proofs.Sorted.{AllIn, all_there}
 use Rattle.mea_share_core.proofs.Ranks.{reads}
 
 -- ---- a key has something else

@@ -1,5 +1,5 @@
 -- those who are granted are woken, each once
-use Rattle.std.proofs.Common.{◌≡◌, ℕ, ◌+◌, ◌<◌, ◌≤◌, ◌==◌, inl, inr, Bool, true, false, cond, List, [], ◌∷◌, ◌++◌, Option, Some, None, refl, ap, sym, subst, ◌∙◌, arith, slice_get}
+use Rattle.std.proofs.Common.{◌≡◌, ℕ, ◌+◌, ◌<◌, ◌≤◌, ◌==◌, inl, inr, true, cond, List, [], ◌∷◌, ◌++◌, Option, Some, None, refl, ap, sym, subst, ◌∙◌, arith, slice_get}
 use Rattle.std.specs.List.{flat_map}
 use Rattle.std.specs.Ordering.{nat_cmp}
 use Rattle.std.specs.FinMap.{FinMap, get, insert}
@@ -9,11 +9,12 @@ use Rattle.mea_base.proofs.Maps.{by_put, inside, get-there, get-other}
 use Rattle.mea_base.proofs.Tests.{on_true, on_false}
 use Rattle.mea_base.specs.Queue.{granted_in}
 use Rattle.mea_events.specs.declared.sem_event.SemEvent.TheVariants as events
-use Rattle.mea_sem_model.specs.Hall.{Hall, Future, FutureStage, New, Waiting, Granted, Cut, Who, Waiter, Debt, names as is_named_by, granted, grant_all, stage_if, waker_of, waker_of_future, waker_of_who, queue_at}
+use Rattle.mea_sem_model.specs.Hall.{Hall, Future, Waiting, Granted, Who, Waiter, Debt, names as is_named_by, granted, grant_all, stage_if, waker_of, waker_of_future, waker_of_who, queue_at}
 use Rattle.mea_sem_model.specs.Step.{released_to, step}
-use Rattle.mea_sem_model.specs.Valid.{IsValid, IsBelow, one_if_waiting, waits_at}
+use Rattle.mea_sem_model.specs.Valid.{IsValid, IsBelow, waits_at}
 use Rattle.mea_sem_model.proofs.HallLemmas.{among}
-use Rattle.mea_sem_model.proofs.Matched.{IsMatched, matched, granted_waited, is_waiting}
+use Rattle.mea_sem_model.proofs.Matched.{IsMatched, matched, granted_waited, is_waiting, one_at_most}
+use Rattle.mea_sem_model.proofs.Granting.{waiting_stage}
 use Rattle.mea_sem_model.proofs.Orderly.{orderly}
 use Rattle.mea_sem_model.proofs.Events.{counted_released, named_there}
 use Rattle.mea_sem_model.proofs.Pours.{mentions, count-pour, among_mentions}
@@ -117,23 +118,6 @@ all_woken names E (Waiter f ∷ ws) F tasks d l once alike =
         (was.0, was.1, was.2, was.3, get-other F f g (granted here.0) (elsewhere g a) ∙ was.4)
 
 -- ---- a release
-one_at_most : (b : Bool) (t : FutureStage) → cond b (one_if_waiting t) 0 ≤ 1
-one_at_most true New = omega arith
-one_at_most true (Waiting w) = omega arith
-one_at_most true Granted = omega arith
-one_at_most true Cut = omega arith
-one_at_most false t = omega arith
-
-waits_once : (s : ℕ) (o : Option Future) → waits_at s o ≤ 1
-waits_once s None = omega arith
-waits_once s (Some x) = one_at_most (x.semaphore == s) x.stage
-
-stage_of : (t : FutureStage) → one_if_waiting t ≡ 1 → (w : ℕ) × (t ≡ Waiting w)
-stage_of New one = absurd (omega (arith, one))
-stage_of (Waiting w) one = (w, refl)
-stage_of Granted one = absurd (omega (arith, one))
-stage_of Cut one = absurd (omega (arith, one))
-
 module _ (h : Hall) (i q n : ℕ) (v : IsValid h) (low : IsBelow h i) (named : is_named h q ≡ true) where
   abbrev counted : Hall
   counted = released_to h q n
@@ -151,11 +135,11 @@ module _ (h : Hall) (i q n : ℕ) (v : IsValid h) (low : IsBelow h i) (named : i
       by_option None is some = absurd (omega (arith, some))
       by_option (Some y) is some =
           let waiting = is_waiting q y some in
-          let stage = stage_of y.stage waiting.1 in
+          let stage = waiting_stage y.stage waiting.1 in
           (y, stage.0, is, stage.1, is)
 
   who_once : (f : ℕ) → mentions who f ≤ 1
-  who_once f = omega (arith, count-pour (queue_at counted q) n f, counted_matched.once q f, waits_once q (get h.futures f))
+  who_once f = omega (arith, count-pour (queue_at counted q) n f, counted_matched.once q f, one_at_most q (get h.futures f))
 
   -- tasks stay linked over a release, and those whom it wakes are due
   pub release_links : (names : List ℕ) (tasks : List TaskRecord) (d : ℕ → ℕ) → AreLinked h.futures names tasks d

@@ -4,9 +4,6 @@ use Rattle.mea_family.specs.Causes.{unknown_unless}
 use Rattle.mea_chan.proofs.MailboxEvents.{site, sender_is, its_kept, its_room, unchanged, sent}
 use Rattle.mea_chan.proofs.mailbox_part.MailboxPart.send.Goals as goal
 
-pub returns-in_default : goal.returns-in_default
-returns-in_default g c = (inl ((ap unknown_unless (sym (sender_is c.self.inside.channels c.self.inside.senders c.self.inside.receivers c.self.inside.next c.self.view_is c.args.s None (sym c.get.ensures ∙ ap option_copied c.in_default.is)))), (λ no. absurd (cc))), refl, refl)
-
 pub send-requires-clause-quiet : goal.send-requires-clause-quiet
 send-requires-clause-quiet g c = (its_kept (site c.self.inside.channels c.self.inside.senders c.self.inside.receivers c.self.inside.next c.self.view_is c.self.invariant c.requires.next c.ranges.number.fits) c.in-Some.o.now c.at_mut.result.now c.at_mut.ensures.value).quiet
 

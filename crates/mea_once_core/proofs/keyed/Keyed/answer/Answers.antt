@@ -1,8 +1,9 @@
 use Rattle.std.proofs.Common.{◌∙◌, Ok, Err, None, IsSome, is_some, ap, sym, subst}
 use Rattle.mea_sets.specs.Poll.{Ready}
+use Rattle.mea_base.proofs.Maps.{value_in}
 use Rattle.mea_once_core.specs.Keyed.{AfterCellPoll}
 use Rattle.mea_once_core.specs.declared.key_call.KeyStage.TheVariants.{Kept, Done}
-use Rattle.mea_once_core.proofs.Keyeds.{given-there, computed-none, computed-some, some-of}
+use Rattle.mea_once_core.proofs.Keyeds.{given-there, computed-none, computed-some}
 use Rattle.mea_once_core.proofs.Refusals.{given-value}
 use Rattle.mea_once_core.proofs.keyed.Keyed.answer.Goals as goal
 
@@ -24,6 +25,6 @@ returns-in-Some-clause-told g c = λ e there.
 
 pub returns-in_default-clause-succeeds : goal.returns-in_default-clause-succeeds
 returns-in_default-clause-succeeds g c = λ never.
-    let some = some-of c.value_of.result (given-value g.K.PartialEq.eq (IsSome c.value_of.result) c.args.self.now c.give_up.new.self c.args.number c.args.once c.requires.calls c.give_up.ensures
+    let some = value_in c.value_of.result (given-value g.K.PartialEq.eq (IsSome c.value_of.result) c.args.self.now c.give_up.new.self c.args.number c.args.once c.requires.calls c.give_up.ensures
     (c.requires.filled (c.in-Ready-Ok.is ∙ ap (λ x. Ready x) c.in-Ready-Ok.field-0-is)) (c.value_of.ensures.succeeds never)) in
     absurd (c.in_default.not-Some some.0 some.1)

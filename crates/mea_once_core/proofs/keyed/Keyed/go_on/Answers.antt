@@ -1,9 +1,10 @@
 use Rattle.std.proofs.Common.{◌≡◌, Ok, Err, Some, IsSome, true, refl, sym, subst}
+use Rattle.mea_base.proofs.Maps.{value_in}
 use Rattle.mea_once_core.specs.Cell.{Finds}
 use Rattle.mea_once_core.specs.Keyed.{Keyed, AsksCell}
 use Rattle.mea_once_core.specs.Table.{entry_at}
 use Rattle.mea_once_core.proofs.Tables.{at_entry}
-use Rattle.mea_once_core.proofs.Keyeds.{finds-ready, stepped-there, finds-value, asks-cell, same-keyed, some-of}
+use Rattle.mea_once_core.proofs.Keyeds.{finds-ready, stepped-there, finds-value, asks-cell, same-keyed}
 use Rattle.mea_once_core.proofs.Memory.{finds-full, on-err-ok}
 use Rattle.mea_once_core.proofs.keyed.Keyed.go_on.Goals as goal
 
@@ -55,7 +56,7 @@ returns-in_default-clause-no_memory g c = λ never e there.
     let here = subst (λ (s : Keyed g.row.K.Denot g.row.V.Denot g.row.W.Denot). entry_at s.table c.args.number ≡ Some e) (sym c.self.view_is) there in
     let cell = at_entry (λ s. c.cell.result.now ≡ s.cell) (entry_at c.self.inside.table c.args.number) e here c.cell.ensures in
     let full : IsSome e.cell.value = finds-full c.args.call.now.call.stage e.cell (subst (λ x. Finds x c.args.call.now.call.stage) cell (c.finds.ensures.0 c.if-finds.true)) in
-    let some = some-of c.value_of.result (at_entry (λ s. IsSome s.cell.value → IsSome c.value_of.result) (entry_at c.args.self.now.table c.args.number) e there (c.value_of.ensures.succeeds never) full) in
+    let some = value_in c.value_of.result (at_entry (λ s. IsSome s.cell.value → IsSome c.value_of.result) (entry_at c.args.self.now.table c.args.number) e there (c.value_of.ensures.succeeds never) full) in
     absurd (c.in_default.not-Some some.0 some.1)
 
 pub returns-in-Ok-clause-no_memory : goal.returns-in-Ok-clause-no_memory
