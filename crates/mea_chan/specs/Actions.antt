@@ -4,6 +4,7 @@ use Rattle.mea_base.specs.Ready.{Waking}
 use Rattle.mea_family.specs.declared.answer.Answer.{Answer}
 use Rattle.mea_family.specs.declared.stop.Stop.{Stop}
 use Rattle.mea_family.specs.Play.{Part}
+use Rattle.mea_family.specs.Acts.{Refuses, Acts, ActsQuietly}
 use Rattle.mea_chan_model.specs.Mailboxes as mailboxes
 use Rattle.mea_chan_model.specs.Mailboxes.{Mailboxes}
 use Rattle.mea_chan_model.specs.MailboxActions as mail
@@ -16,7 +17,7 @@ use Rattle.mea_chan_model.specs.Boxes.{box_cause}
 use Rattle.mea_chan_model.specs.ChanHall as kinds
 use Rattle.mea_chan_model.specs.Meaning as model
 use Rattle.mea_chan_model.specs.Meaning.{OfChannels, OfBounded, OfBroadcasts, OfBoxes}
-use Rattle.mea_chan_broadcast.specs.Actions.{broadcast_action, Refuses, Acts, ActsQuietly}
+use Rattle.mea_chan_broadcast.specs.Actions.{broadcast_action}
 use Rattle.mea_chan.specs.declared.actions.BoundedAction.{BoundedAction}
 use Rattle.mea_chan.specs.declared.actions.BoundedAction.TheVariants.{MakeRoom, CopySender, TrySend, BeginSend, PollSend, EndSend, TryReceive, PollReceive, DropSender, DropReceiver}
 use Rattle.mea_chan.specs.declared.actions.MailAction.{MailAction}

@@ -4,6 +4,7 @@ use Rattle.mea_family.specs.declared.answer.Answer.{Answer}
 use Rattle.mea_family.specs.declared.stop.Stop.{Stop}
 use Rattle.mea_base.specs.Ready.{Waking}
 use Rattle.mea_family.specs.Play.{Part, PartYields}
+use Rattle.mea_family.specs.Acts.{Refuses}
 use Rattle.mea_events.specs.declared.chan_event.ChanEvent.{ChanEvent}
 use Rattle.mea_chan_model.specs.Mailboxes as mailboxes
 use Rattle.mea_chan_model.specs.Mailboxes.{Mailboxes}
@@ -17,7 +18,7 @@ use Rattle.mea_chan_model.specs.BroadcastActions.{BroadcastAction, broadcast_act
 use Rattle.mea_chan_model.specs.Boxes.{Boxes, BoxAction}
 use Rattle.mea_chan_model.specs.ChanHall.{ChanHall, Kind, Unbounded, Oneshots, BoxKind, Full, Optional}
 use Rattle.mea_chan_model.specs.Meaning.{Meaning, OfChannels, OfBounded, OfBroadcasts, OfBoxes, meaning_of, cause_by}
-use Rattle.mea_chan_broadcast.specs.Actions.{Refuses, IsFreeBroadcast}
+use Rattle.mea_chan_broadcast.specs.Actions.{IsFreeBroadcast}
 use Rattle.mea_chan.specs.declared.kinds.Kinds.{Kinds}
 use Rattle.mea_chan.specs.Actions.{IsFree, IsFreeBounded, IsFreeBox}
 use Rattle.mea_chan.specs.BoxParts.{BoxYields}

@@ -1,3 +1,4 @@
+pub mod Acts
 pub mod Causes
 pub mod Family
 pub mod Forms

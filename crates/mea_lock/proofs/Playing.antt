@@ -18,7 +18,8 @@ use Rattle.mea_lock_model.specs.Actions.{Action}
 use Rattle.mea_lock_model.specs.LockHall.{LockHall, Mutexes, RwLocks, empty_hall, registered as all_registered}
 use Rattle.mea_lock_model.specs.Meaning.{Meaning, OnLocks, OnCondvars, meaning_of, step, step_by}
 use Rattle.mea_lock_model.proofs.Acting.{not_borrowed}
-use Rattle.mea_lock.specs.Halls.{hall_of, AreBelow, PlaysOne, PlaysBy, Refuses}
+use Rattle.mea_family.specs.Acts.{Refuses}
+use Rattle.mea_lock.specs.Halls.{hall_of, AreBelow, PlaysOne, PlaysBy}
 
 -- ---- what is refused
 -- a name that is not known

@@ -1,10 +1,11 @@
 -- the locks of all kinds and the condition variables, and what an event does to them
-use Rattle.std.specs.Prelude.{ℕ, ◌≡◌, ◌≢◌, ◌≤◌, ◌+◌, ◌++◌, ◌⊎◌, List, Option, Some, None, Result, Ok, Err}
+use Rattle.std.specs.Prelude.{ℕ, ◌≡◌, ◌≤◌, ◌+◌, ◌++◌, List, None, Result, Ok, Err}
 use Rattle.mea_family.specs.declared.answer.Answer.{Answer}
 use Rattle.mea_family.specs.declared.stop.Stop.{Stop}
-use Rattle.mea_family.specs.declared.stop.Stop.TheVariants as stops
 use Rattle.mea_base.specs.Ready.{Waking}
-use Rattle.mea_family.specs.Play.{Part, PartYields, PartRests}
+use Rattle.mea_family.specs.Play.{Part, PartYields}
+use Rattle.mea_family.specs.Acts as acts
+use Rattle.mea_family.specs.Acts.{Refuses}
 use Rattle.mea_events.specs.declared.lock_event.LockEvent.{LockEvent}
 use Rattle.mea_lock_model.specs.Locks as locks
 use Rattle.mea_lock_model.specs.Locks.{Locks}
@@ -70,19 +71,13 @@ IsFreeBy (OnCondvars a) = IsFreeOn a
 abbrev pub TakesNoMemory : LockEvent → Type 0
 TakesNoMemory e = IsFreeBy (meaning_of e)
 
--- refused for its cause; or, where it has none and is not free of memory, for want of that
-abbrev pub Refuses : Option Stop → Type 0 → Stop → Type 0
-Refuses cause free stop = ((cause ≡ Some stop) × (stop ≢ stops.NoMemory)) ⊎ ((cause ≡ None) × (stop ≡ stops.NoMemory) × (free → ⊥))
-
 -- event number i asked this of the locks of one kind: it was done; or refused, and nothing has changed
 abbrev pub Acts : Part Locks → ℕ → Action → Result Answer Stop → Part Locks → Waking ℕ → Waking ℕ → Type 0
-Acts old i a (Ok answer) new before after = (cause_at old.hall a ≡ None) × PartYields locks.registered old i (act_in old.hall i a) answer new before after
-Acts old i a (Err stop) new before after = Refuses (cause_at old.hall a) (IsFree a) stop × (new ≡ old) × (after ≡ before)
+Acts old i a = acts.Acts locks.registered (cause_at old.hall a) (IsFree a) old i (act_in old.hall i a)
 
 -- and no waker was made ready
 abbrev pub ActsQuietly : Part Locks → ℕ → Action → Result Answer Stop → Part Locks → Type 0
-ActsQuietly old i a (Ok answer) new = (cause_at old.hall a ≡ None) × PartRests locks.registered old i (act_in old.hall i a) answer new
-ActsQuietly old i a (Err stop) new = Refuses (cause_at old.hall a) (IsFree a) stop × (new ≡ old)
+ActsQuietly old i a = acts.ActsQuietly locks.registered (cause_at old.hall a) (IsFree a) old i (act_in old.hall i a)
 
 -- it asked this of condition variables and of the mutexes of their waits
 abbrev pub ActsOn : Part Locks → Part Condvars → ℕ → CondAction → Result Answer Stop → Part Locks → Part Condvars → Waking ℕ → Waking ℕ → Type 0
