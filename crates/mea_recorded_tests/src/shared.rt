@@ -26,24 +26,45 @@ fn listed<L: Ledger>(
     permits
 }
 
+// Why a try is refused, if it is. It has no clauses, nor has what follows, so that no test carries what the semaphore promises.
+fn lack<L: Ledger, R: Wait>(rt: &R, semaphore: &NamedSemaphore<L>, n: usize) -> Option<Lack> {
+    semaphore.try_acquire(rt, n).err()
+}
+
+// How many permits are held, and how many are free, in what a close gives out; none where parts are missing.
+fn closed<L: Ledger>(
+    semaphore: NamedSemaphore<L>,
+    permits: Vec<NamedPermit<L>>,
+) -> Option<(usize, usize)> {
+    let core = semaphore.close(permits).ok()?;
+    Some((core.held(), core.available_permits()))
+}
+
+// How many parts came back of how many, where some are missing.
+fn missing<L: Ledger>(
+    semaphore: NamedSemaphore<L>,
+    permits: Vec<NamedPermit<L>>,
+) -> Option<(u64, u64)> {
+    let missing = semaphore.close(permits).err()?;
+    Some((missing.parts, missing.of))
+}
+
 fn tries<L: Ledger, R: Wait + Abort>(rt: &R, alloc: Global, blank: Blank)
     requires name { blank.name ≡ L.name }
     requires parts { (blank.parts ≡ L.parts) × (L.parts ≡ 3) }
 {
     let semaphore = NamedSemaphore::<L>::new(alloc, blank, 3, 5);
-    assert_eq!(rt; semaphore.try_acquire(rt, 6).err(), Some(Lack::Permits));
+    assert!(rt; lack(rt, &semaphore, 6) == Some(Lack::Permits));
     let first = semaphore.try_acquire(rt, 2).expect(rt, "a permit");
     let second = semaphore.try_acquire(rt, 0).expect(rt, "a permit");
     // A single part is left: permits are told first.
-    assert_eq!(rt; semaphore.try_acquire(rt, 4).err(), Some(Lack::Permits));
-    assert_eq!(rt; semaphore.try_acquire(rt, 3).err(), Some(Lack::Parts));
-    assert_eq!(rt; semaphore.try_acquire(rt, 0).err(), Some(Lack::Parts));
+    assert!(rt; lack(rt, &semaphore, 4) == Some(Lack::Permits));
+    assert!(rt; lack(rt, &semaphore, 3) == Some(Lack::Parts));
+    assert!(rt; lack(rt, &semaphore, 0) == Some(Lack::Parts));
     second.end(rt, &semaphore);
     let third = semaphore.try_acquire(rt, 3).expect(rt, "a permit");
-    let core = semaphore.close(listed(rt, alloc, first, Some(third)));
-    let core = core.expect(rt, "all parts");
-    assert_eq!(rt; core.held(), 5);
-    assert_eq!(rt; core.available_permits(), 0);
+    let permits = listed(rt, alloc, first, Some(third));
+    assert!(rt; closed(semaphore, permits) == Some((5, 0)));
 }
 
 // No clause refuses a try that is refused at once.
@@ -60,8 +81,8 @@ fn releases<L: Ledger, R: Wait + Abort>(rt: &R, alloc: Global, blank: Blank)
     assert_eq!(rt; semaphore.release(rt, usize::MAX), Err(Overflow));
     assert_eq!(rt; semaphore.release(rt, 2), Ok(()));
     let permit = semaphore.try_acquire(rt, 3).expect(rt, "three permits");
-    let core = semaphore.close(listed(rt, alloc, permit, None));
-    assert_eq!(rt; core.expect(rt, "all parts").held(), 3);
+    let permits = listed(rt, alloc, permit, None);
+    assert!(rt; closed(semaphore, permits) == Some((3, 0)));
 }
 
 // No clause refuses a release that adds nothing.
@@ -79,9 +100,7 @@ fn ends<L: Ledger, R: Wait + Abort>(rt: &R, alloc: Global, blank: Blank)
         let permit = semaphore.try_acquire(rt, 4).expect(rt, "all permits");
         permit.end(rt, &semaphore);
     }
-    let core = semaphore.close(Vec::new(alloc)).expect(rt, "all parts");
-    assert_eq!(rt; core.held(), 0);
-    assert_eq!(rt; core.available_permits(), 4);
+    assert!(rt; closed(semaphore, Vec::new(alloc)) == Some((0, 4)));
 }
 
 // No clause refuses an end that only drops the permit.
@@ -99,13 +118,8 @@ fn drops<L: Ledger, R: Wait + Abort>(rt: &R, alloc: Global, blank: Blank)
     let dropped = semaphore.try_acquire(rt, 1);
     assert!(rt; dropped.is_ok());
     drop(dropped);
-    match semaphore.close(listed(rt, alloc, kept, None)) {
-        Ok(_) => assert!(rt; false),
-        Err(missing) => {
-            assert_eq!(rt; missing.parts, 3);
-            assert_eq!(rt; missing.of, 4);
-        }
-    }
+    let permits = listed(rt, alloc, kept, None);
+    assert!(rt; missing(semaphore, permits) == Some((3, 4)));
 }
 
 #[test]
@@ -125,8 +139,8 @@ fn merges<L: Ledger, R: Wait + Abort>(rt: &R, alloc: Global, blank: Blank)
     assert_eq!(rt; one.parts(), 2);
     one.end(rt, &semaphore);
     let last = semaphore.try_acquire(rt, 7).expect(rt, "all permits");
-    let core = semaphore.close(listed(rt, alloc, last, None));
-    assert_eq!(rt; core.expect(rt, "all parts").held(), 7);
+    let permits = listed(rt, alloc, last, None);
+    assert!(rt; closed(semaphore, permits) == Some((7, 0)));
 }
 
 #[test]
@@ -144,11 +158,11 @@ fn grows<L: Ledger, R: Wait + Abort>(rt: &R, alloc: Global, blank: Blank)
     assert_eq!(rt; permit.grow(rt, &semaphore, 4), Ok(()));
     assert_eq!(rt; permit.permits(), 5);
     // What it grew by is held, and not free.
-    assert_eq!(rt; semaphore.try_acquire(rt, 1).err(), Some(Lack::Permits));
+    assert!(rt; lack(rt, &semaphore, 1) == Some(Lack::Permits));
     permit.give_back(rt, &semaphore, 3);
     let other = semaphore.try_acquire(rt, 3).expect(rt, "what came back");
-    let core = semaphore.close(listed(rt, alloc, permit, Some(other)));
-    assert_eq!(rt; core.expect(rt, "all parts").held(), 5);
+    let permits = listed(rt, alloc, permit, Some(other));
+    assert!(rt; closed(semaphore, permits) == Some((5, 0)));
 }
 
 #[test]
@@ -167,7 +181,7 @@ fn hold<L: Ledger, R: Wait>(
     for _ in 0..100u32 {
         let permit = semaphore.try_acquire(rt, 1);
         meeting.meet(is_first);
-        refused = semaphore.try_acquire(rt, 1).err() == Some(Lack::Permits);
+        refused = lack(rt, semaphore, 1) == Some(Lack::Permits);
         meeting.meet(is_first);
         if let Ok(permit) = permit {
             permit.end(rt, semaphore);
@@ -197,9 +211,7 @@ fn holds<L: Ledger + Send + Sync, R: Threads + Wait + Abort + Sync>(
     );
     assert!(rt; one && other);
     assert_eq!(rt; meeting.late(), 0);
-    let core = semaphore.close(Vec::new(alloc)).expect(rt, "all parts");
-    assert_eq!(rt; core.held(), 0);
-    assert_eq!(rt; core.available_permits(), 2);
+    assert!(rt; closed(semaphore, Vec::new(alloc)) == Some((0, 2)));
 }
 
 // Two threads run at the same time: neither ends its permit before the other's try was answered.
