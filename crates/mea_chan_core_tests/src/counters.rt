@@ -169,6 +169,13 @@ pub(crate) struct LastSequence {
     pub(crate) acquire: ShareAcquire<u64>,
 }
 
+impl LastSequence {
+    /// Takes the permit, and tells whether it was free.
+    pub(crate) fn takes(&mut self) -> bool {
+        matches!(self.core.try_acquire(&self.key), Ok(true))
+    }
+}
+
 impl AtItsEnd for LastSequence {
     fn refuses(&mut self) -> bool {
         let polled = self.core.poll_checked(&mut self.acquire, 11);

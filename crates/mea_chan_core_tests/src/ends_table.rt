@@ -1,5 +1,5 @@
 use crate::counters::{LastMessage, LastRound, LastSequence};
-use crate::numbers::holds;
+use crate::numbers::{AtItsEnd, holds};
 use mea_broadcast_core::BroadcastCore;
 use mea_chan_core::{BoundedCore, UnboundedCore};
 use mea_meet_core::{BarrierCore, BarrierWait, GroupCore};
@@ -8,59 +8,6 @@ use mea_sets::Countdown;
 use mea_share_core::{FairCore, ShareAcquire, SharedKey};
 use mea_test_support::Collides;
 use std::alloc::Global;
-
-/// A number that has an end.
-#[derive(Clone, Copy)]
-enum End {
-    /// The permits of a semaphore.
-    Permits,
-    Count,
-    /// The handles of a wait group.
-    Handles,
-    /// The rounds of a barrier.
-    Rounds,
-    BoundedSenders,
-    UnboundedSenders,
-    /// The messages that were ever sent to a broadcast.
-    Messages,
-    /// The waits of an admission.
-    Sequence,
-}
-
-const ROWS: &[End] = &[
-    End::Permits,
-    End::Count,
-    End::Handles,
-    End::Rounds,
-    End::BoundedSenders,
-    End::UnboundedSenders,
-    End::Messages,
-    End::Sequence,
-];
-
-// Whether the object refuses to pass the end and is as it was. None means want of memory.
-fn refuses(alloc: Global, end: End) -> Option<bool> {
-    match end {
-        End::Permits => Some(holds::<SemCore<u64>>(SemCore::new(alloc, usize::MAX))),
-        End::Count => Some(holds::<Countdown<u64>>(Countdown::new(alloc, u32::MAX))),
-        End::Handles => Some(holds::<GroupCore<u64>>(GroupCore::at_count(alloc, u32::MAX))),
-        End::Rounds => Some(holds(last_round(alloc))),
-        End::BoundedSenders => {
-            let channel: BoundedCore<u64, u64> = BoundedCore::at_senders(
-                alloc,
-                1,
-                usize::MAX,
-            ).ok()?;
-            Some(holds(channel))
-        }
-        End::UnboundedSenders => {
-            let channel: UnboundedCore<u64, u64> = UnboundedCore::at_senders(alloc, usize::MAX);
-            Some(holds(channel))
-        }
-        End::Messages => Some(holds(last_message(alloc)?)),
-        End::Sequence => Some(holds(last_sequence(alloc)?)),
-    }
-}
 
 fn last_round(alloc: Global) -> LastRound {
     LastRound {
@@ -81,17 +28,37 @@ fn last_message(alloc: Global) -> Option<LastMessage> {
 fn last_sequence(alloc: Global) -> Option<LastSequence> {
     let key = SharedKey::new(alloc, 1).ok()?;
     let acquire = ShareAcquire::new(SharedKey::new(alloc, 2).ok()?);
-    let mut core = FairCore::at_sequence(alloc, 1, Collides, u64::MAX);
-    if !core.try_acquire(&key).ok()? {
-        return None;
+    let core = FairCore::at_sequence(alloc, 1, Collides, u64::MAX);
+    let mut last = LastSequence { core, key, acquire };
+    if last.takes() { Some(last) } else { None }
+}
+
+// Its senders are as many as it may have.
+fn last_sender(alloc: Global) -> Option<BoundedCore<u64, u64>> {
+    BoundedCore::at_senders(alloc, 1, usize::MAX).ok()
+}
+
+// Whether an object holds that memory was found for.
+fn made_holds<T: AtItsEnd>(object: Option<T>) -> bool {
+    match object {
+        Some(object) => holds(object),
+        None => false,
     }
-    Some(LastSequence { core, key, acquire })
 }
 
 // No counter wraps: what would pass its end is refused, and changes nothing.
 #[test]
 fn ends_table(rt: HostRuntime) {
-    for end in ROWS {
-        assert!(rt; refuses(rt.alloc(), *end) == Some(true));
-    }
+    let alloc = rt.alloc();
+    // The permits of a semaphore, a count, the handles of a wait group, and the rounds of a barrier.
+    assert!(rt; holds(SemCore::<u64>::new(alloc, usize::MAX)));
+    assert!(rt; holds(Countdown::<u64>::new(alloc, u32::MAX)));
+    assert!(rt; holds(GroupCore::<u64>::at_count(alloc, u32::MAX)));
+    assert!(rt; holds(last_round(alloc)));
+    // The senders of a bounded and of an unbounded channel.
+    assert!(rt; made_holds(last_sender(alloc)));
+    assert!(rt; holds(UnboundedCore::<u64, u64>::at_senders(alloc, usize::MAX)));
+    // The messages that were ever sent to a broadcast, and the waits of an admission.
+    assert!(rt; made_holds(last_message(alloc)));
+    assert!(rt; made_holds(last_sequence(alloc)));
 }

@@ -4,6 +4,7 @@ use mea_sync::rwlock::RwLock;
 use mea_sync::semaphore::{Closed, Semaphore};
 use mea_test_support::{Bell, Count, count, end, found, polled_for};
 use mea_wait::End;
+use std::process::Abort;
 use std::sync::Wait;
 use std::thread::Threads;
 use std::{sync, thread};
@@ -19,28 +20,56 @@ fn acquire_once<R: Wait>(rt: &R, of: &Semaphore<Bell>, count: &Count, turns: u64
     }
 }
 
-fn many<R: Threads + Wait + Sync>(rt: &R, threads: u64, of: &Semaphore<Bell>, count: &Count) {
+// What each thread of a test does with what they share.
+trait Plays {
+    fn plays<R: Wait>(&self, rt: &R, thread: u64);
+}
+
+// Lets so many threads play; what one would do that cannot be started is done here.
+fn on_threads<R: Threads + Wait + Sync, P: Plays + Sync>(rt: &R, threads: u64, place: &P) {
     thread::scope(thread::scope_env(), rt, |scope| {
-        for n in 0..threads {
-            if scope
-                .spawn(move || acquire_once(rt, of, count, 1_000_000))
-                .is_err()
-            {
-                acquire_once(rt, of, count, 1_000_000);
+        for thread in 0..threads {
+            if scope.spawn(move || place.plays(rt, thread)).is_err() {
+                place.plays(rt, thread);
             }
         }
     });
 }
 
+// A semaphore, and whether its threads abandon waits or acquire once.
+#[derive(Drop)]
+struct Acquires {
+    semaphore: Semaphore<Bell>,
+    rung: Count,
+    abandons: bool,
+}
+
+impl Plays for Acquires {
+    fn plays<R: Wait>(&self, rt: &R, thread: u64) {
+        if self.abandons {
+            abandons(rt, &self.semaphore, &self.rung, thread);
+        } else {
+            acquire_once(rt, &self.semaphore, &self.rung, 1_000_000);
+        }
+    }
+}
+
 // A hundred threads acquire one of five permits each, and end it: then five are free.
 #[test]
 fn stress_test(rt: HostRuntime) {
-    let rung_all = count(rt.alloc()).expect(&rt, "memory");
-    let semaphore = Semaphore::new(rt.alloc(), 5);
-    many(&rt, 100, &semaphore, &rung_all);
-    let all = semaphore.try_acquire(&rt, 5);
-    assert!(rt; !end(&rt, semaphore.try_acquire(&rt, 1)));
-    assert!(rt; end(&rt, all));
+    let place = Acquires {
+        semaphore: Semaphore::new(rt.alloc(), 5),
+        rung: count(rt.alloc()).expect(&rt, "memory"),
+        abandons: false,
+    };
+    on_threads(&rt, 100, &place);
+    are_all_free(&rt, &place.semaphore);
+}
+
+fn are_all_free<R: Wait + Abort>(rt: &R, semaphore: &Semaphore<Bell>) {
+    let all = semaphore.try_acquire(rt, 5);
+    assert!(rt; !end(rt, semaphore.try_acquire(rt, 1)));
+    assert!(rt; end(rt, all));
 }
 
 // One wait of a thread, abandoned in one of its stages or polled until it is granted.
@@ -63,17 +92,13 @@ fn abandons<R: Wait>(rt: &R, of: &Semaphore<Bell>, count: &Count, thread: u64) {
 // A thousand waits of four threads, abandoned in each stage: then all permits are free.
 #[test]
 fn abandoned_waits_give_all_back(rt: HostRuntime) {
-    let rung_all = count(rt.alloc()).expect(&rt, "memory");
-    let semaphore = Semaphore::new(rt.alloc(), 3);
-    let (rt, of, all) = (&rt, &semaphore, &rung_all);
-    thread::scope(thread::scope_env(), rt, |scope| {
-        for thread in 0..4u64 {
-            if scope.spawn(move || abandons(rt, of, all, thread)).is_err() {
-                abandons(rt, of, all, thread);
-            }
-        }
-    });
-    assert!(rt; semaphore.available_permits(rt) == 3);
+    let place = Acquires {
+        semaphore: Semaphore::new(rt.alloc(), 3),
+        rung: count(rt.alloc()).expect(&rt, "memory"),
+        abandons: true,
+    };
+    on_threads(&rt, 4, &place);
+    assert!(rt; place.semaphore.available_permits(&rt) == 3);
 }
 
 // Adds one to the value, and tells whether it was let in.
@@ -97,23 +122,28 @@ fn visits<R: Wait>(rt: &R, of: &RwLock<u64, Bell>, count: &Count, writes: bool) 
     }
 }
 
+// A lock: the first thread writes, and the others read.
+#[derive(Drop)]
+struct Visits {
+    lock: RwLock<u64, Bell>,
+    rung: Count,
+}
+
+impl Plays for Visits {
+    fn plays<R: Wait>(&self, rt: &R, thread: u64) {
+        visits(rt, &self.lock, &self.rung, thread == 0);
+    }
+}
+
 // One writer adds one a hundred times beside eight readers.
 #[test]
 fn a_writer_and_eight_readers(rt: HostRuntime) {
-    let rung_all = count(rt.alloc()).expect(&rt, "memory");
-    let lock = RwLock::new(rt.alloc(), 1u64);
-    let (rt, of, all) = (&rt, &lock, &rung_all);
-    thread::scope(thread::scope_env(), rt, |scope| {
-        for thread in 0..9u64 {
-            if scope
-                .spawn(move || visits(rt, of, all, thread == 0))
-                .is_err()
-            {
-                visits(rt, of, all, thread == 0);
-            }
-        }
-    });
-    assert!(rt; shows(rt, found(of.try_read(rt))) == Some(101));
+    let place = Visits {
+        lock: RwLock::new(rt.alloc(), 1u64),
+        rung: count(rt.alloc()).expect(&rt, "memory"),
+    };
+    on_threads(&rt, 9, &place);
+    assert!(rt; shows(&rt, found(place.lock.try_read(&rt))) == Some(101));
 }
 
 // A guard is handed to another thread, which writes and ends it.
