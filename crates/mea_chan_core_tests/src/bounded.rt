@@ -4,7 +4,6 @@ use mea_base::{NoMemory, Poll};
 use mea_chan_core::{BoundedCore, SendError, SendWait, TrySendError};
 use mea_test_support::{Plays, differs_at};
 use std::alloc::Global;
-use std::test::Fail;
 
 type Channel = BoundedCore<u64, u64>;
 
@@ -101,104 +100,96 @@ fn receiver_ended(channel: &mut Channel) -> Reply {
     Done
 }
 
-// One place, three sends, and a try that takes the place that a waiting send was woken for.
-const SENDS_TAKE_TURNS: &[(Call, Reply)] = &[
-    (Call::Send(7), Done),
-    (Call::Send(8), Done),
-    (Call::Send(9), Done),
-    (Call::PollSend(0, 20), Done),
-    (Call::PollSend(1, 21), Pending),
-    (Call::PollSend(2, 22), Pending),
-    (Call::TryRecv, Value(7)),
-    (Call::Wake, Value(21)),
-    (Call::TrySend(10), Done),
-    (Call::PollSend(1, 23), Pending),
-    (Call::TryRecv, Value(10)),
-    (Call::Wake, Value(22)),
-    (Call::PollSend(2, 24), Done),
-    (Call::TryRecv, Value(9)),
-    (Call::Wake, Value(23)),
-    (Call::PollSend(1, 25), Done),
-    (Call::TryRecv, Value(8)),
-    (Call::TryRecv, Empty),
-    (Call::EndSender, Done),
-    (Call::TryRecv, Disconnected),
-    (Call::WakesReady, Count(0)),
+const SCRIPTS: &[&[(Call, Reply)]] = &[
+    // One place, three sends, and a try that takes the place that a waiting send was woken for.
+    &[
+        (Call::Send(7), Done),
+        (Call::Send(8), Done),
+        (Call::Send(9), Done),
+        (Call::PollSend(0, 20), Done),
+        (Call::PollSend(1, 21), Pending),
+        (Call::PollSend(2, 22), Pending),
+        (Call::TryRecv, Value(7)),
+        (Call::Wake, Value(21)),
+        (Call::TrySend(10), Done),
+        (Call::PollSend(1, 23), Pending),
+        (Call::TryRecv, Value(10)),
+        (Call::Wake, Value(22)),
+        (Call::PollSend(2, 24), Done),
+        (Call::TryRecv, Value(9)),
+        (Call::Wake, Value(23)),
+        (Call::PollSend(1, 25), Done),
+        (Call::TryRecv, Value(8)),
+        (Call::TryRecv, Empty),
+        (Call::EndSender, Done),
+        (Call::TryRecv, Disconnected),
+        (Call::WakesReady, Count(0)),
+    ],
+    // A send that is ended new, waiting, granted, and after its answer: its value comes back unless it was sent, and a place
+    // that it was granted goes to the next.
+    &[
+        (Call::Send(1), Done),
+        (Call::EndSend(0), Value(1)),
+        (Call::Send(2), Done),
+        (Call::Send(3), Done),
+        (Call::Send(4), Done),
+        (Call::Send(5), Done),
+        (Call::PollSend(1, 20), Done),
+        (Call::EndSend(1), Nothing),
+        (Call::PollSend(2, 21), Pending),
+        (Call::PollSend(3, 22), Pending),
+        (Call::PollSend(4, 23), Pending),
+        (Call::EndSend(2), Value(3)),
+        (Call::TryRecv, Value(2)),
+        (Call::Wake, Value(22)),
+        (Call::EndSend(3), Value(4)),
+        (Call::Wake, Value(23)),
+        (Call::PollSend(4, 24), Done),
+    ],
+    // The receiver waits, is woken by a message, and ends: all who wait are woken, and their values come back.
+    &[
+        (Call::PollRecv(10), Pending),
+        (Call::PollRecv(11), Pending),
+        (Call::TrySend(1), Done),
+        (Call::Wake, Value(11)),
+        (Call::TrySend(2), Full(2)),
+        (Call::Send(3), Done),
+        (Call::Send(4), Done),
+        (Call::PollSend(0, 20), Pending),
+        (Call::PollSend(1, 21), Pending),
+        (Call::EndReceiver, Done),
+        (Call::Wake, Value(20)),
+        (Call::Wake, Value(21)),
+        (Call::PollSend(0, 22), Closed(3)),
+        (Call::PollRecv(12), Disconnected),
+        (Call::TrySend(5), Closed(5)),
+        (Call::EndSend(1), Value(4)),
+    ],
 ];
 
 #[test]
-fn sends_take_turns(rt: HostRuntime) -> Result<(), Fail> {
-    assert_eq!(rt; differs_at(Room::new(rt.alloc())?, SENDS_TAKE_TURNS), None);
-    Ok(())
-}
-
-// A send that is ended new, waiting, granted, and after its answer: its value comes back unless it was sent, and a place
-// that it was granted goes to the next.
-const SENDS_END_IN_EACH_STAGE: &[(Call, Reply)] = &[
-    (Call::Send(1), Done),
-    (Call::EndSend(0), Value(1)),
-    (Call::Send(2), Done),
-    (Call::Send(3), Done),
-    (Call::Send(4), Done),
-    (Call::Send(5), Done),
-    (Call::PollSend(1, 20), Done),
-    (Call::EndSend(1), Nothing),
-    (Call::PollSend(2, 21), Pending),
-    (Call::PollSend(3, 22), Pending),
-    (Call::PollSend(4, 23), Pending),
-    (Call::EndSend(2), Value(3)),
-    (Call::TryRecv, Value(2)),
-    (Call::Wake, Value(22)),
-    (Call::EndSend(3), Value(4)),
-    (Call::Wake, Value(23)),
-    (Call::PollSend(4, 24), Done),
-];
-
-#[test]
-fn sends_end_in_each_stage(rt: HostRuntime) -> Result<(), Fail> {
-    assert_eq!(rt;
-        differs_at(Room::new(rt.alloc())?, SENDS_END_IN_EACH_STAGE),
-        None
-    );
-    Ok(())
-}
-
-// The receiver waits, is woken by a message, and ends: all who wait are woken, and their values come back.
-const THE_RECEIVER_WAITS_AND_ENDS: &[(Call, Reply)] = &[
-    (Call::PollRecv(10), Pending),
-    (Call::PollRecv(11), Pending),
-    (Call::TrySend(1), Done),
-    (Call::Wake, Value(11)),
-    (Call::TrySend(2), Full(2)),
-    (Call::Send(3), Done),
-    (Call::Send(4), Done),
-    (Call::PollSend(0, 20), Pending),
-    (Call::PollSend(1, 21), Pending),
-    (Call::EndReceiver, Done),
-    (Call::Wake, Value(20)),
-    (Call::Wake, Value(21)),
-    (Call::PollSend(0, 22), Closed(3)),
-    (Call::PollRecv(12), Disconnected),
-    (Call::TrySend(5), Closed(5)),
-    (Call::EndSend(1), Value(4)),
-];
-
-#[test]
-fn the_receiver_waits_and_ends(rt: HostRuntime) -> Result<(), Fail> {
-    assert_eq!(rt;
-        differs_at(Room::new(rt.alloc())?, THE_RECEIVER_WAITS_AND_ENDS),
-        None
-    );
-    Ok(())
+fn calls_of_a_bounded_channel(rt: HostRuntime) {
+    for script in SCRIPTS {
+        let room = Room::new(rt.alloc()).expect(&rt, "memory");
+        assert_eq!(rt; differs_at(room, script), None);
+    }
 }
 
 // No memory can hold so many messages, and no number so many senders.
 #[test]
-fn numbers_have_ends(rt: HostRuntime) -> Result<(), Fail> {
-    assert!(rt; BoundedCore::<u64, u64>::new(rt.alloc(), usize::MAX).is_err());
-    let mut channel: Channel = BoundedCore::at_senders(rt.alloc(), 1, usize::MAX)?;
-    assert!(rt; channel.add_sender_checked().is_err());
+fn numbers_have_ends(rt: HostRuntime) {
+    assert!(rt; is_too_much(rt.alloc(), usize::MAX));
+    let channel = BoundedCore::at_senders(rt.alloc(), 1, usize::MAX);
+    let mut channel: Channel = channel.expect(&rt, "memory");
+    assert!(rt; !takes_a_sender(&mut channel));
     channel.end_sender_checked();
-    assert!(rt; channel.add_sender_checked().is_ok());
-    Ok(())
+    assert!(rt; takes_a_sender(&mut channel));
+}
+
+fn is_too_much(alloc: Global, messages: usize) -> bool {
+    BoundedCore::<u64, u64>::new(alloc, messages).is_err()
+}
+
+fn takes_a_sender(channel: &mut Channel) -> bool {
+    channel.add_sender_checked().is_ok()
 }

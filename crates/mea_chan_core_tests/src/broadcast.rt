@@ -10,7 +10,6 @@ use mea_broadcast_core::{
 use mea_test_support::{Plays, differs_at};
 use std::alloc::Global;
 use std::mem;
-use std::test::Fail;
 
 type Channel = BroadcastCore<u64, u64>;
 
@@ -175,113 +174,105 @@ fn texts(rt: HostRuntime) {
     assert!(rt; reads(alloc, BroadcastTry::NoMemory, "out of memory"));
 }
 
-// The ring of a capacity of 3 has 4 places, so of five messages the first is missed.
-const A_CAPACITY_IS_ROUNDED_UP: &[(Call, Reply)] = &[
-    (Call::Subscribe, Done),
-    (Call::Send(1), Done),
-    (Call::Send(2), Done),
-    (Call::Send(3), Done),
-    (Call::Send(4), Done),
-    (Call::Send(5), Done),
-    (Call::TryRecv(0), Lagged(1)),
-    (Call::TryRecv(0), Value(2)),
+// Scripts, each with the capacity of its channel.
+const SCRIPTS: &[(usize, &[(Call, Reply)])] = &[
+    // The ring of a capacity of 3 has 4 places, so of five messages the first is missed.
+    (
+        3,
+        &[
+            (Call::Subscribe, Done),
+            (Call::Send(1), Done),
+            (Call::Send(2), Done),
+            (Call::Send(3), Done),
+            (Call::Send(4), Done),
+            (Call::Send(5), Done),
+            (Call::TryRecv(0), Lagged(1)),
+            (Call::TryRecv(0), Value(2)),
+        ],
+    ),
+    // A receiver that fell behind is told how far, goes on with the oldest kept message, and hears of the last sender's end.
+    (
+        2,
+        &[
+            (Call::Subscribe, Done),
+            (Call::Send(1), Done),
+            (Call::Send(2), Done),
+            (Call::Send(3), Done),
+            (Call::Send(4), Done),
+            (Call::TryRecv(0), Lagged(2)),
+            (Call::TryRecv(0), Value(3)),
+            (Call::TryRecv(0), Value(4)),
+            (Call::TryRecv(0), Empty),
+            (Call::EndSender, Done),
+            (Call::TryRecv(0), Disconnected),
+        ],
+    ),
+    // One that subscribes at the tail hears what is sent from then on; a copy hears what its original does.
+    (
+        2,
+        &[
+            (Call::Subscribe, Done),
+            (Call::Send(1), Done),
+            (Call::Send(2), Done),
+            (Call::Subscribe, Done),
+            (Call::Send(3), Done),
+            (Call::Copy(0), Done),
+            (Call::TryRecv(0), Lagged(1)),
+            (Call::TryRecv(0), Value(2)),
+            (Call::TryRecv(1), Value(3)),
+            (Call::TryRecv(2), Lagged(1)),
+        ],
+    ),
+    // A send wakes all who wait, in the order in which they began to, and so does the last sender's end.
+    (
+        4,
+        &[
+            (Call::AddSender, Done),
+            (Call::Subscribe, Done),
+            (Call::Subscribe, Done),
+            (Call::PollRecv(0, 10), Pending),
+            (Call::PollRecv(1, 11), Pending),
+            (Call::PollRecv(0, 12), Pending),
+            (Call::Registered, Count(2)),
+            (Call::Send(7), Done),
+            (Call::Wake, Value(12)),
+            (Call::Wake, Value(11)),
+            (Call::Wake, Nothing),
+            (Call::PollRecv(0, 13), Value(7)),
+            (Call::PollRecv(0, 14), Pending),
+            (Call::EndSender, Done),
+            (Call::WakesReady, Count(0)),
+            (Call::EndSender, Done),
+            (Call::Wake, Value(14)),
+            (Call::PollRecv(0, 15), Disconnected),
+            (Call::EndRecv(1), Done),
+        ],
+    ),
 ];
 
-#[test]
-fn a_capacity_is_rounded_up(rt: HostRuntime) -> Result<(), Fail> {
-    let channel = BroadcastCore::new(rt.alloc(), 3)?;
-    assert_eq!(rt;
-        differs_at(Room::new(rt.alloc(), channel), A_CAPACITY_IS_ROUNDED_UP),
-        None
-    );
-    Ok(())
+// A channel of this capacity, which is not 0.
+fn channel(alloc: Global, capacity: usize) -> Option<Channel> {
+    if capacity == 0 {
+        return None;
+    }
+    BroadcastCore::new(alloc, capacity).ok()
 }
 
-// A receiver that fell behind is told how far, goes on with the oldest kept message, and hears of the last sender's end.
-const A_RECEIVER_LAGS: &[(Call, Reply)] = &[
-    (Call::Subscribe, Done),
-    (Call::Send(1), Done),
-    (Call::Send(2), Done),
-    (Call::Send(3), Done),
-    (Call::Send(4), Done),
-    (Call::TryRecv(0), Lagged(2)),
-    (Call::TryRecv(0), Value(3)),
-    (Call::TryRecv(0), Value(4)),
-    (Call::TryRecv(0), Empty),
-    (Call::EndSender, Done),
-    (Call::TryRecv(0), Disconnected),
-];
-
 #[test]
-fn a_receiver_lags(rt: HostRuntime) -> Result<(), Fail> {
-    let channel = BroadcastCore::new(rt.alloc(), 2)?;
-    assert_eq!(rt;
-        differs_at(Room::new(rt.alloc(), channel), A_RECEIVER_LAGS),
-        None
-    );
-    Ok(())
+fn calls_of_a_broadcast(rt: HostRuntime) {
+    for (capacity, script) in SCRIPTS {
+        let channel = channel(rt.alloc(), *capacity).expect(&rt, "memory");
+        assert_eq!(rt; differs_at(Room::new(rt.alloc(), channel), script), None);
+    }
 }
 
-// One that subscribes at the tail hears what is sent from then on; a copy hears what its original does.
-const RECEIVERS_ARE_MADE: &[(Call, Reply)] = &[
-    (Call::Subscribe, Done),
-    (Call::Send(1), Done),
-    (Call::Send(2), Done),
-    (Call::Subscribe, Done),
-    (Call::Send(3), Done),
-    (Call::Copy(0), Done),
-    (Call::TryRecv(0), Lagged(1)),
-    (Call::TryRecv(0), Value(2)),
-    (Call::TryRecv(1), Value(3)),
-    (Call::TryRecv(2), Lagged(1)),
-];
-
 #[test]
-fn receivers_are_made(rt: HostRuntime) -> Result<(), Fail> {
-    let channel = BroadcastCore::new(rt.alloc(), 2)?;
-    assert_eq!(rt;
-        differs_at(Room::new(rt.alloc(), channel), RECEIVERS_ARE_MADE),
-        None
-    );
+fn a_capacity_has_an_end(rt: HostRuntime) {
     let too_large: Result<Channel, BroadcastFault> = BroadcastCore::new(
         rt.alloc(),
         9223372036854775809,
     );
     assert!(rt; matches!(too_large, Err(BroadcastFault::Overflow)));
-    Ok(())
-}
-
-// A send wakes all who wait, in the order in which they began to, and so does the last sender's end.
-const RECEIVES_WAIT: &[(Call, Reply)] = &[
-    (Call::AddSender, Done),
-    (Call::Subscribe, Done),
-    (Call::Subscribe, Done),
-    (Call::PollRecv(0, 10), Pending),
-    (Call::PollRecv(1, 11), Pending),
-    (Call::PollRecv(0, 12), Pending),
-    (Call::Registered, Count(2)),
-    (Call::Send(7), Done),
-    (Call::Wake, Value(12)),
-    (Call::Wake, Value(11)),
-    (Call::Wake, Nothing),
-    (Call::PollRecv(0, 13), Value(7)),
-    (Call::PollRecv(0, 14), Pending),
-    (Call::EndSender, Done),
-    (Call::WakesReady, Count(0)),
-    (Call::EndSender, Done),
-    (Call::Wake, Value(14)),
-    (Call::PollRecv(0, 15), Disconnected),
-    (Call::EndRecv(1), Done),
-];
-
-#[test]
-fn receives_wait(rt: HostRuntime) -> Result<(), Fail> {
-    let channel = BroadcastCore::new(rt.alloc(), 4)?;
-    assert_eq!(rt;
-        differs_at(Room::new(rt.alloc(), channel), RECEIVES_WAIT),
-        None
-    );
-    Ok(())
 }
 
 // The last position is not given; the message comes back.
@@ -294,11 +285,10 @@ const THE_TAIL_ENDS: &[(Call, Reply)] = &[
 ];
 
 #[test]
-fn the_tail_ends(rt: HostRuntime) -> Result<(), Fail> {
-    let channel = BroadcastCore::at_tail(rt.alloc(), 2, u64::MAX - 1)?;
+fn the_tail_ends(rt: HostRuntime) {
+    let channel = BroadcastCore::at_tail(rt.alloc(), 2, u64::MAX - 1).expect(&rt, "memory");
     assert_eq!(rt;
         differs_at(Room::new(rt.alloc(), channel), THE_TAIL_ENDS),
         None
     );
-    Ok(())
 }

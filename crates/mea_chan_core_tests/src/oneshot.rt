@@ -60,27 +60,21 @@ impl Plays for Room {
     }
 }
 
-// The message is given once, and the receiver is woken once.
-const A_MESSAGE_COMES_ONCE: &[(Call, Reply)] = &[
-    (Call::TryRecv, Empty),
-    (Call::PollRecv(5), Pending),
-    (Call::Send(6), Done),
-    (Call::Wake, Value(5)),
-    (Call::HasMessage, Yes),
-    (Call::PollRecv(7), Value(6)),
-    (Call::IsDisconnected, Yes),
-    (Call::PollRecv(8), Disconnected),
-    (Call::Send(9), Closed(9)),
-    (Call::Wake, Nothing),
-];
-
-#[test]
-fn a_message_comes_once(rt: HostRuntime) {
-    assert_eq!(rt; differs_at(Room::new(), A_MESSAGE_COMES_ONCE), None);
-}
-
-// Either end may go first.
-const ENDS_GO: &[&[(Call, Reply)]] = &[
+const SCRIPTS: &[&[(Call, Reply)]] = &[
+    // The message is given once, and the receiver is woken once.
+    &[
+        (Call::TryRecv, Empty),
+        (Call::PollRecv(5), Pending),
+        (Call::Send(6), Done),
+        (Call::Wake, Value(5)),
+        (Call::HasMessage, Yes),
+        (Call::PollRecv(7), Value(6)),
+        (Call::IsDisconnected, Yes),
+        (Call::PollRecv(8), Disconnected),
+        (Call::Send(9), Closed(9)),
+        (Call::Wake, Nothing),
+    ],
+    // Either end may go first.
     &[
         (Call::EndReceiver, Done),
         (Call::IsClosed, Yes),
@@ -100,8 +94,8 @@ const ENDS_GO: &[&[(Call, Reply)]] = &[
 ];
 
 #[test]
-fn ends_go(rt: HostRuntime) {
-    for script in ENDS_GO {
+fn calls_of_a_oneshot_channel(rt: HostRuntime) {
+    for script in SCRIPTS {
         assert_eq!(rt; differs_at(Room::new(), script), None);
     }
 }

@@ -66,44 +66,40 @@ fn sent(sent: Result<(), UnboundedError<u64>>) -> Option<Reply> {
     }
 }
 
-// A receiver that waits is woken by the first message; what is sent after its end comes back.
-const MESSAGES_COME_IN_ORDER: &[(Call, Reply)] = &[
-    (Call::PollRecv(4), Pending),
-    (Call::Send(1), Done),
-    (Call::Wake, Value(4)),
-    (Call::Send(2), Done),
-    (Call::WakesReady, Count(0)),
-    (Call::PollRecv(5), Value(1)),
-    (Call::EndReceiver, Done),
-    (Call::Send(3), Closed(3)),
-    (Call::TryRecv, Disconnected),
+const SCRIPTS: &[&[(Call, Reply)]] = &[
+    // A receiver that waits is woken by the first message; what is sent after its end comes back.
+    &[
+        (Call::PollRecv(4), Pending),
+        (Call::Send(1), Done),
+        (Call::Wake, Value(4)),
+        (Call::Send(2), Done),
+        (Call::WakesReady, Count(0)),
+        (Call::PollRecv(5), Value(1)),
+        (Call::EndReceiver, Done),
+        (Call::Send(3), Closed(3)),
+        (Call::TryRecv, Disconnected),
+    ],
+    // The last sender's end wakes the receiver, who then learns that nothing comes any more.
+    &[
+        (Call::AddSender, Yes),
+        (Call::PollRecv(10), Pending),
+        (Call::EndSender, Done),
+        (Call::Wake, Nothing),
+        (Call::EndSender, Done),
+        (Call::Wake, Value(10)),
+        (Call::PollRecv(11), Disconnected),
+    ],
 ];
 
 #[test]
-fn messages_come_in_order(rt: HostRuntime) {
-    assert_eq!(rt;
-        differs_at(Room::new(rt.alloc()), MESSAGES_COME_IN_ORDER),
-        None
-    );
+fn calls_of_an_unbounded_channel(rt: HostRuntime) {
+    for script in SCRIPTS {
+        assert_eq!(rt; differs_at(Room::new(rt.alloc()), script), None);
+    }
 }
 
-// The last sender's end wakes the receiver, who then learns that nothing comes any more.
-const THE_LAST_SENDER_WAKES_THE_RECEIVER: &[(Call, Reply)] = &[
-    (Call::AddSender, Yes),
-    (Call::PollRecv(10), Pending),
-    (Call::EndSender, Done),
-    (Call::Wake, Nothing),
-    (Call::EndSender, Done),
-    (Call::Wake, Value(10)),
-    (Call::PollRecv(11), Disconnected),
-];
-
 #[test]
-fn the_last_sender_wakes_the_receiver(rt: HostRuntime) {
-    assert_eq!(rt;
-        differs_at(Room::new(rt.alloc()), THE_LAST_SENDER_WAKES_THE_RECEIVER),
-        None
-    );
+fn senders_have_an_end(rt: HostRuntime) {
     let mut full: Channel = UnboundedCore::at_senders(rt.alloc(), usize::MAX);
     assert!(rt; full.add_sender_checked().is_err());
 }

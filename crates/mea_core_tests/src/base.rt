@@ -86,75 +86,62 @@ impl Plays for Room {
     }
 }
 
-// The place of the first call of a script on a new list that tells something else than stands beside it.
-fn list_differs_at(rt: &HostRuntime, script: &[(Call, Reply)]) -> Option<usize> {
-    let list = WaitList::new(rt.alloc());
-    differs_at(Room { list }, script)
-}
-
-// With memory at hand, no call answers that there is none.
-const AMPLE: &[(Call, Reply)] = &[
-    (Call::Reserve(1), Yes),
-    (Call::PushTail(20), Value(1)),
-    (Call::PushHead(10), Value(2)),
-    (Call::Len, Value(2)),
-    (Call::First, Value(2)),
+const SCRIPTS: &[&[(Call, Reply)]] = &[
+    // With memory at hand, no call answers that there is none.
+    &[
+        (Call::Reserve(1), Yes),
+        (Call::PushTail(20), Value(1)),
+        (Call::PushHead(10), Value(2)),
+        (Call::Len, Value(2)),
+        (Call::First, Value(2)),
+    ],
+    // A value stays under its number until it is removed, and its number is the next to serve again.
+    &[
+        (Call::PushTail(10), Value(1)),
+        (Call::PushTail(20), Value(2)),
+        (Call::Add(2, 1), Done),
+        (Call::Remove(2), Nothing),
+        (Call::Unlink(2), Done),
+        (Call::IsInUse(2), Yes),
+        (Call::IsLinked(2), No),
+        (Call::Get(2), Value(21)),
+        (Call::Remove(2), Value(21)),
+        (Call::IsInUse(2), No),
+        (Call::PushHead(30), Value(2)),
+        (Call::UnlinkFirst, Value(2)),
+        (Call::UnlinkFirst, Value(1)),
+        (Call::UnlinkFirst, Nothing),
+        (Call::Len, Value(0)),
+    ],
+    // A value leaves from any place of the queue, and the others keep their order.
+    &[
+        (Call::PushTail(10), Value(1)),
+        (Call::PushTail(20), Value(2)),
+        (Call::PushTail(30), Value(3)),
+        (Call::Unlink(2), Done),
+        (Call::Unlink(2), Done),
+        (Call::IsLinked(1), Yes),
+        (Call::IsLinked(2), No),
+        (Call::IsLinked(3), Yes),
+        (Call::Len, Value(2)),
+        (Call::Unlink(1), Done),
+        (Call::First, Value(3)),
+        (Call::Unlink(3), Done),
+        (Call::First, Nothing),
+        (Call::Len, Value(0)),
+        (Call::PushHead(40), Value(4)),
+        (Call::UnlinkFirst, Value(4)),
+        (Call::UnlinkFirst, Nothing),
+        (Call::Remove(2), Value(20)),
+    ],
 ];
 
 #[test]
-fn ample(rt: HostRuntime) {
-    assert!(rt; list_differs_at(&rt, AMPLE).is_none());
-}
-
-// A value stays under its number until it is removed, and its number is the next to serve again.
-const NUMBERS: &[(Call, Reply)] = &[
-    (Call::PushTail(10), Value(1)),
-    (Call::PushTail(20), Value(2)),
-    (Call::Add(2, 1), Done),
-    (Call::Remove(2), Nothing),
-    (Call::Unlink(2), Done),
-    (Call::IsInUse(2), Yes),
-    (Call::IsLinked(2), No),
-    (Call::Get(2), Value(21)),
-    (Call::Remove(2), Value(21)),
-    (Call::IsInUse(2), No),
-    (Call::PushHead(30), Value(2)),
-    (Call::UnlinkFirst, Value(2)),
-    (Call::UnlinkFirst, Value(1)),
-    (Call::UnlinkFirst, Nothing),
-    (Call::Len, Value(0)),
-];
-
-#[test]
-fn numbers(rt: HostRuntime) {
-    assert!(rt; list_differs_at(&rt, NUMBERS).is_none());
-}
-
-// A value leaves from any place of the queue, and the others keep their order.
-const UNLINKS: &[(Call, Reply)] = &[
-    (Call::PushTail(10), Value(1)),
-    (Call::PushTail(20), Value(2)),
-    (Call::PushTail(30), Value(3)),
-    (Call::Unlink(2), Done),
-    (Call::Unlink(2), Done),
-    (Call::IsLinked(1), Yes),
-    (Call::IsLinked(2), No),
-    (Call::IsLinked(3), Yes),
-    (Call::Len, Value(2)),
-    (Call::Unlink(1), Done),
-    (Call::First, Value(3)),
-    (Call::Unlink(3), Done),
-    (Call::First, Nothing),
-    (Call::Len, Value(0)),
-    (Call::PushHead(40), Value(4)),
-    (Call::UnlinkFirst, Value(4)),
-    (Call::UnlinkFirst, Nothing),
-    (Call::Remove(2), Value(20)),
-];
-
-#[test]
-fn unlinks(rt: HostRuntime) {
-    assert!(rt; list_differs_at(&rt, UNLINKS).is_none());
+fn calls_of_a_list(rt: HostRuntime) {
+    for script in SCRIPTS {
+        let list = WaitList::new(rt.alloc());
+        assert_eq!(rt; differs_at(Room { list }, script), None);
+    }
 }
 
 // Wakers leave in the order in which they came.

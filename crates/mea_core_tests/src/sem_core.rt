@@ -158,38 +158,137 @@ fn seen(core: &Core, call: Call) -> Reply {
     Value(count as u64)
 }
 
-// With memory at hand, no call answers that there is none.
-const AMPLE: &[(Call, Reply)] = &[
-    (Call::Forget(3), Yes),
-    (Call::Ask(1), Done),
-    (Call::Poll(0, 10), Pending),
-    (Call::Ask(1), Done),
-    (Call::PollOpen(1, 11), Pending),
-    (Call::Queued, Value(3)),
+// Scripts, each with the permits of its core.
+const SCRIPTS: &[(usize, &[(Call, Reply)])] = &[
+    // With memory at hand, no call answers that there is none.
+    (
+        1,
+        &[
+            (Call::Forget(3), Yes),
+            (Call::Ask(1), Done),
+            (Call::Poll(0, 10), Pending),
+            (Call::Ask(1), Done),
+            (Call::PollOpen(1, 11), Pending),
+            (Call::Queued, Value(3)),
+        ],
+    ),
+    // A permit that is given back pays who waits, and one that is lost is gone.
+    (
+        3,
+        &[
+            (Call::Ask(2), Done),
+            (Call::Try(3), Yes),
+            (Call::Poll(0, 10), Pending),
+            (Call::Lose(1), Done),
+            (Call::GiveBack(2), Done),
+            (Call::IsGranted(0), Yes),
+            (Call::Wake, Value(10)),
+            (Call::GiveBack(1), Done),
+            (Call::Live, Value(2)),
+            (Call::Held, Value(0)),
+        ],
+    ),
+    // Permits that are released for those who wait alone.
+    (
+        0,
+        &[
+            (Call::ReleaseIfWaiting(2), Yes),
+            (Call::Live, Value(0)),
+            (Call::Ask(5), Done),
+            (Call::Poll(0, 10), Pending),
+            (Call::ReleaseIfWaiting(2), Yes),
+            (Call::Live, Value(2)),
+        ],
+    ),
+    // An acquire is no acquire of another core until it is renewed.
+    (
+        0,
+        &[
+            (Call::Ask(1), Done),
+            (Call::Poll(0, 10), Pending),
+            (Call::IsOwn(0), Yes),
+            (Call::Other, Done),
+            (Call::IsOwn(0), No),
+            (Call::Renew(0), Done),
+            (Call::IsOwn(0), Yes),
+            (Call::Poll(0, 11), Pending),
+            (Call::Queued, Value(1)),
+        ],
+    ),
+    // A close wakes those who wait in their order and refuses them and all that come later. What they were paid
+    // goes to a debt first; permits that come back and are released are free, and a second close does nothing.
+    (
+        5,
+        &[
+            (Call::Ask(4), Done),
+            (Call::Ask(1), Done),
+            (Call::Try(2), Yes),
+            (Call::PollOpen(0, 10), Pending),
+            (Call::PollOpen(1, 11), Pending),
+            (Call::Forget(2), Yes),
+            (Call::Close, Done),
+            (Call::IsClosed, Yes),
+            (Call::Free, Value(1)),
+            (Call::Live, Value(3)),
+            (Call::Queued, Value(0)),
+            (Call::Wake, Value(10)),
+            (Call::Wake, Value(11)),
+            (Call::Wake, Nothing),
+            (Call::Try(1), No),
+            (Call::PollOpen(0, 12), Back(12)),
+            (Call::PollOpen(0, 13), Back(13)),
+            (Call::Cancel(1), Done),
+            (Call::Close, Done),
+            (Call::GiveBack(2), Done),
+            (Call::Release(1), Yes),
+            (Call::Free, Value(4)),
+            (Call::Live, Value(4)),
+            (Call::Wake, Nothing),
+        ],
+    ),
+    // What was granted before a close is ready after it, and a demand of nothing that comes later is refused.
+    (
+        0,
+        &[
+            (Call::Ask(1), Done),
+            (Call::Ask(0), Done),
+            (Call::PollOpen(0, 10), Pending),
+            (Call::PollOpen(0, 11), Pending),
+            (Call::Release(1), Yes),
+            (Call::Close, Done),
+            (Call::Wake, Value(11)),
+            (Call::IsGranted(0), Yes),
+            (Call::PollOpen(0, 12), Ready(12)),
+            (Call::PollOpen(1, 13), Back(13)),
+            (Call::Held, Value(1)),
+            (Call::GiveBack(1), Done),
+            (Call::Free, Value(1)),
+        ],
+    ),
+    // An acquire that one core has cut or refused is a new one for another.
+    (
+        0,
+        &[
+            (Call::Ask(1), Done),
+            (Call::Ask(2), Done),
+            (Call::PollOpen(0, 10), Pending),
+            (Call::Close, Done),
+            (Call::PollOpen(1, 11), Back(11)),
+            (Call::Other, Done),
+            (Call::IsOwn(0), No),
+            (Call::IsOwn(1), No),
+            (Call::PollOpen(0, 12), Pending),
+            (Call::PollOpen(1, 13), Pending),
+            (Call::Queued, Value(2)),
+        ],
+    ),
 ];
 
 #[test]
-fn ample(rt: HostRuntime) {
-    assert_eq!(rt; differs_at(Room::new(rt.alloc(), 1), AMPLE), None);
-}
-
-// A permit that is given back pays who waits, and one that is lost is gone.
-const HELD_PERMITS: &[(Call, Reply)] = &[
-    (Call::Ask(2), Done),
-    (Call::Try(3), Yes),
-    (Call::Poll(0, 10), Pending),
-    (Call::Lose(1), Done),
-    (Call::GiveBack(2), Done),
-    (Call::IsGranted(0), Yes),
-    (Call::Wake, Value(10)),
-    (Call::GiveBack(1), Done),
-    (Call::Live, Value(2)),
-    (Call::Held, Value(0)),
-];
-
-#[test]
-fn held_permits(rt: HostRuntime) {
-    assert_eq!(rt; differs_at(Room::new(rt.alloc(), 3), HELD_PERMITS), None);
+fn calls_of_a_core(rt: HostRuntime) {
+    for (permits, script) in SCRIPTS {
+        assert_eq!(rt; differs_at(Room::new(rt.alloc(), *permits), script), None);
+    }
 }
 
 // How many permits live after a call of all who wait, here of one acquire of five permits, and who is woken.
@@ -213,122 +312,12 @@ fn queue_is_wakeable(alloc: Global, permits: usize) -> bool {
         && core.wake_queue_allowed()
 }
 
-// Permits that are released for those who wait alone, and a call of all of them.
-const WAITERS_ALONE: &[(Call, Reply)] = &[
-    (Call::ReleaseIfWaiting(2), Yes),
-    (Call::Live, Value(0)),
-    (Call::Ask(5), Done),
-    (Call::Poll(0, 10), Pending),
-    (Call::ReleaseIfWaiting(2), Yes),
-    (Call::Live, Value(2)),
-];
-
+// A call of all who wait adds what the first lacks, unless the permits would pass the greatest number.
 #[test]
-fn waiters_alone(rt: HostRuntime) {
-    assert_eq!(rt; differs_at(Room::new(rt.alloc(), 0), WAITERS_ALONE), None);
+fn all_who_wait_are_called(rt: HostRuntime) {
     assert!(rt; queue_woken(rt.alloc(), 2) == Some((5, Some(10))));
     assert!(rt; queue_is_wakeable(rt.alloc(), usize::MAX - 5));
     assert!(rt; !queue_is_wakeable(rt.alloc(), usize::MAX - 4));
-}
-
-// An acquire is no acquire of another core until it is renewed.
-const ANOTHER_CORE: &[(Call, Reply)] = &[
-    (Call::Ask(1), Done),
-    (Call::Poll(0, 10), Pending),
-    (Call::IsOwn(0), Yes),
-    (Call::Other, Done),
-    (Call::IsOwn(0), No),
-    (Call::Renew(0), Done),
-    (Call::IsOwn(0), Yes),
-    (Call::Poll(0, 11), Pending),
-    (Call::Queued, Value(1)),
-];
-
-#[test]
-fn another_core(rt: HostRuntime) {
-    assert_eq!(rt; differs_at(Room::new(rt.alloc(), 0), ANOTHER_CORE), None);
-}
-
-// A close wakes those who wait in their order and refuses them and all that come later. What they were paid
-// goes to a debt first; permits that come back and are released are free, and a second close does nothing.
-const CLOSING: &[(Call, Reply)] = &[
-    (Call::Ask(4), Done),
-    (Call::Ask(1), Done),
-    (Call::Try(2), Yes),
-    (Call::PollOpen(0, 10), Pending),
-    (Call::PollOpen(1, 11), Pending),
-    (Call::Forget(2), Yes),
-    (Call::Close, Done),
-    (Call::IsClosed, Yes),
-    (Call::Free, Value(1)),
-    (Call::Live, Value(3)),
-    (Call::Queued, Value(0)),
-    (Call::Wake, Value(10)),
-    (Call::Wake, Value(11)),
-    (Call::Wake, Nothing),
-    (Call::Try(1), No),
-    (Call::PollOpen(0, 12), Back(12)),
-    (Call::PollOpen(0, 13), Back(13)),
-    (Call::Cancel(1), Done),
-    (Call::Close, Done),
-    (Call::GiveBack(2), Done),
-    (Call::Release(1), Yes),
-    (Call::Free, Value(4)),
-    (Call::Live, Value(4)),
-    (Call::Wake, Nothing),
-];
-
-#[test]
-fn closing(rt: HostRuntime) {
-    assert_eq!(rt; differs_at(Room::new(rt.alloc(), 5), CLOSING), None);
-}
-
-// What was granted before a close is ready after it, and a demand of nothing that comes later is refused.
-const GRANTED_BEFORE_A_CLOSE: &[(Call, Reply)] = &[
-    (Call::Ask(1), Done),
-    (Call::Ask(0), Done),
-    (Call::PollOpen(0, 10), Pending),
-    (Call::PollOpen(0, 11), Pending),
-    (Call::Release(1), Yes),
-    (Call::Close, Done),
-    (Call::Wake, Value(11)),
-    (Call::IsGranted(0), Yes),
-    (Call::PollOpen(0, 12), Ready(12)),
-    (Call::PollOpen(1, 13), Back(13)),
-    (Call::Held, Value(1)),
-    (Call::GiveBack(1), Done),
-    (Call::Free, Value(1)),
-];
-
-#[test]
-fn granted_before_a_close(rt: HostRuntime) {
-    assert_eq!(rt;
-        differs_at(Room::new(rt.alloc(), 0), GRANTED_BEFORE_A_CLOSE),
-        None
-    );
-}
-
-// An acquire that one core has cut or refused is a new one for another.
-const REFUSED_ELSEWHERE: &[(Call, Reply)] = &[
-    (Call::Ask(1), Done),
-    (Call::Ask(2), Done),
-    (Call::PollOpen(0, 10), Pending),
-    (Call::Close, Done),
-    (Call::PollOpen(1, 11), Back(11)),
-    (Call::Other, Done),
-    (Call::IsOwn(0), No),
-    (Call::IsOwn(1), No),
-    (Call::PollOpen(0, 12), Pending),
-    (Call::PollOpen(1, 13), Pending),
-    (Call::Queued, Value(2)),
-];
-
-#[test]
-fn refused_elsewhere(rt: HostRuntime) {
-    assert_eq!(rt;
-        differs_at(Room::new(rt.alloc(), 0), REFUSED_ELSEWHERE),
-        None
-    );
 }
 
 // Takes one of a thousand values out of the middle, in at most four steps.

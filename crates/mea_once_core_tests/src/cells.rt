@@ -126,109 +126,96 @@ fn turned(cell: &mut Cell, calls: &mut Vec<Option<Init>>, waker: u64) -> Option<
     }
 }
 
-// A computation that fails hands the cell to the next caller, which puts its value; a later one has its own
-// back.
-const A_FAILURE_HANDS_THE_CELL_ON: &[(Call, Reply)] = &[
-    (Call::Compute, Done),
-    (Call::Insert(9), Done),
-    (Call::PollInit(0, 40), Pending),
-    (Call::PollInsert(0, 41), Pending),
-    (Call::Settle(0, Err(4)), Value(40)),
-    (Call::PollInit(0, 42), Error(4)),
-    (Call::Wake, Value(41)),
-    (Call::Wake, Nothing),
-    (Call::PollInsert(0, 43), Done),
-    (Call::Wake, Nothing),
-    (Call::Get, Value(9)),
-    (Call::Insert(3), Done),
-    (Call::PollInsert(1, 44), Back(3)),
-    (Call::Wake, Nothing),
+const SCRIPTS: &[&[(Call, Reply)]] = &[
+    // A computation that fails hands the cell to the next caller, which puts its value; a later one has its own
+    // back.
+    &[
+        (Call::Compute, Done),
+        (Call::Insert(9), Done),
+        (Call::PollInit(0, 40), Pending),
+        (Call::PollInsert(0, 41), Pending),
+        (Call::Settle(0, Err(4)), Value(40)),
+        (Call::PollInit(0, 42), Error(4)),
+        (Call::Wake, Value(41)),
+        (Call::Wake, Nothing),
+        (Call::PollInsert(0, 43), Done),
+        (Call::Wake, Nothing),
+        (Call::Get, Value(9)),
+        (Call::Insert(3), Done),
+        (Call::PollInsert(1, 44), Back(3)),
+        (Call::Wake, Nothing),
+    ],
+    // A value that was computed goes from caller to caller, each of whom wakes the next.
+    &[
+        (Call::Compute, Done),
+        (Call::Compute, Done),
+        (Call::Compute, Done),
+        (Call::PollInit(0, 10), Pending),
+        (Call::PollInit(1, 11), Pending),
+        (Call::PollInit(2, 12), Pending),
+        (Call::Settle(0, Ok(7)), Value(10)),
+        (Call::PollInit(0, 13), Value(7)),
+        (Call::Wake, Value(11)),
+        (Call::PollInit(1, 14), Value(7)),
+        (Call::Wake, Value(12)),
+        (Call::PollInit(2, 15), Value(7)),
+        (Call::Wake, Nothing),
+        (Call::IsIdle, Done),
+    ],
+    // A call that is given up while its initialiser runs hands the cell to the next, at whatever stage that is.
+    &[
+        (Call::Compute, Done),
+        (Call::Compute, Done),
+        (Call::Compute, Done),
+        (Call::PollInit(0, 10), Pending),
+        (Call::PollInit(1, 11), Pending),
+        (Call::PollInit(2, 12), Pending),
+        (Call::EndInit(0), Done),
+        (Call::Wake, Value(11)),
+        (Call::EndInit(1), Done),
+        (Call::Wake, Value(12)),
+        (Call::PollInit(2, 13), Pending),
+        (Call::Settle(2, Ok(1)), Value(13)),
+        (Call::PollInit(2, 14), Value(1)),
+    ],
+    // Who has the turn may fill the cell with no initialiser at hand, or give the turn up.
+    &[
+        (Call::Turn(10), Value(10)),
+        (Call::Insert(2), Done),
+        (Call::PollInsert(0, 11), Pending),
+        (Call::Compute, Done),
+        (Call::PollInit(1, 12), Pending),
+        (Call::EndInit(0), Done),
+        (Call::Wake, Value(11)),
+        (Call::EndInsert(0), Back(2)),
+        (Call::Wake, Value(12)),
+        (Call::PollInit(1, 13), Pending),
+        (Call::Settle(1, Ok(5)), Value(13)),
+        (Call::PollInit(1, 14), Value(5)),
+    ],
 ];
 
 #[test]
-fn a_failure_hands_the_cell_on(rt: HostRuntime) {
-    assert_eq!(rt;
-        differs_at(Room::new(rt.alloc()), A_FAILURE_HANDS_THE_CELL_ON),
-        None
-    );
+fn calls_of_a_cell(rt: HostRuntime) {
+    for script in SCRIPTS {
+        assert_eq!(rt; differs_at(Room::new(rt.alloc()), script), None);
+    }
 }
 
-// A value that was computed goes from caller to caller, each of whom wakes the next.
-const A_VALUE_GOES_ROUND: &[(Call, Reply)] = &[
-    (Call::Compute, Done),
-    (Call::Compute, Done),
-    (Call::Compute, Done),
-    (Call::PollInit(0, 10), Pending),
-    (Call::PollInit(1, 11), Pending),
-    (Call::PollInit(2, 12), Pending),
-    (Call::Settle(0, Ok(7)), Value(10)),
-    (Call::PollInit(0, 13), Value(7)),
-    (Call::Wake, Value(11)),
-    (Call::PollInit(1, 14), Value(7)),
-    (Call::Wake, Value(12)),
-    (Call::PollInit(2, 15), Value(7)),
-    (Call::Wake, Nothing),
-    (Call::IsIdle, Done),
-];
-
-#[test]
-fn a_value_goes_round(rt: HostRuntime) {
-    assert_eq!(rt; differs_at(Room::new(rt.alloc()), A_VALUE_GOES_ROUND), None);
-}
-
-// A call that is given up while its initialiser runs hands the cell to the next, at whatever stage that is.
-const A_CALL_IS_GIVEN_UP: &[(Call, Reply)] = &[
-    (Call::Compute, Done),
-    (Call::Compute, Done),
-    (Call::Compute, Done),
-    (Call::PollInit(0, 10), Pending),
-    (Call::PollInit(1, 11), Pending),
-    (Call::PollInit(2, 12), Pending),
-    (Call::EndInit(0), Done),
-    (Call::Wake, Value(11)),
-    (Call::EndInit(1), Done),
-    (Call::Wake, Value(12)),
-    (Call::PollInit(2, 13), Pending),
-    (Call::Settle(2, Ok(1)), Value(13)),
-    (Call::PollInit(2, 14), Value(1)),
-];
-
-#[test]
-fn a_call_is_given_up(rt: HostRuntime) {
-    assert_eq!(rt; differs_at(Room::new(rt.alloc()), A_CALL_IS_GIVEN_UP), None);
-}
-
-// Who has the turn may fill the cell with no initialiser at hand, or give the turn up.
-const A_TURN_IS_TAKEN: &[(Call, Reply)] = &[
-    (Call::Turn(10), Value(10)),
-    (Call::Insert(2), Done),
-    (Call::PollInsert(0, 11), Pending),
-    (Call::Compute, Done),
-    (Call::PollInit(1, 12), Pending),
-    (Call::EndInit(0), Done),
-    (Call::Wake, Value(11)),
-    (Call::EndInsert(0), Back(2)),
-    (Call::Wake, Value(12)),
-    (Call::PollInit(1, 13), Pending),
-    (Call::Settle(1, Ok(5)), Value(13)),
-    (Call::PollInit(1, 14), Value(5)),
-];
-
-#[test]
-fn a_turn_is_taken(rt: HostRuntime) {
-    assert_eq!(rt; differs_at(Room::new(rt.alloc()), A_TURN_IS_TAKEN), None);
+// What a cell holds after a poll of a computation that is ready at once.
+fn computed<F: Fn() -> u64>(cell: &mut Cell, compute: F) -> Option<u64>
+    requires { F.IsAlwaysCallable compute }
+{
+    let mut call = InitCall::new(Computes { compute });
+    match cell.poll_init_checked(&mut call, 10) {
+        Ok(Poll::Ready(Ok(()))) => cell.get().copied(),
+        _ => None,
+    }
 }
 
 // A closure is an initialiser.
 #[test]
 fn a_closure_computes(rt: HostRuntime) {
-    let mut cell: CellCore<u64, u64> = CellCore::new(rt.alloc());
-    let mut call = InitCall::new(Computes { compute: || 7 });
-    assert!(rt;
-        matches!(
-            cell.poll_init_checked(&mut call, 10),
-            Ok(Poll::Ready(Ok(())))
-        )
-    );
-    assert_eq!(rt; cell.get().copied(), Some(7));
+    let mut cell: Cell = CellCore::new(rt.alloc());
+    assert_eq!(rt; computed(&mut cell, || 7), Some(7));
 }

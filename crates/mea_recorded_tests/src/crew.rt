@@ -1,3 +1,4 @@
+use crate::words::owned;
 use mea_crew_run::{CrewStatus, Gate, Open, crew, run_crew};
 use mea_events::SemEvent;
 use mea_family::Stop;
@@ -95,12 +96,8 @@ fn ran<R: Wait + Threads + Sync + AllocGlobal + Abort>(
     words: &[&str],
     sink: &mut MemSink,
 ) -> CrewStatus {
-    let mut owned = Vec::new(rt.alloc());
-    for word in words {
-        let word = String::from_str(rt.alloc(), word).expect(rt, "memory");
-        owned.push(word).expect(rt, "memory");
-    }
-    run_crew(rt, rt.alloc(), owned.as_slice(), sink)
+    let words = owned(rt, words);
+    run_crew(rt, rt.alloc(), words.as_slice(), sink)
 }
 
 #[test]

@@ -1,12 +1,22 @@
-//! Tests of the semaphore, the mutex, the reader-writer lock and the condition variable that threads share, by public contracts
-//! alone: each call once, its answer and the wakers that it woke, and runs of several threads. Its one function beside
-//! them merges permits, so that an edit which merges those of two semaphores is refused.
+//! Tests of the semaphore, the locks, the meeting points and the channels that threads share, by public contracts alone: each
+//! call once, its answer and the wakers that it woke, waits that ended, which leave nothing behind, and runs of several
+//! threads. Its one function beside them merges permits, so that an edit which merges those of two semaphores is refused.
 #![tactic(auto)]
 
 #[cfg(test)]
+mod channels;
+#[cfg(test)]
 mod condvar;
 #[cfg(test)]
+mod ended_waits;
+#[cfg(test)]
 mod guards;
+#[cfg(test)]
+mod link_threads;
+#[cfg(test)]
+mod lock_threads;
+#[cfg(test)]
+mod meeting_points;
 mod merging;
 #[cfg(test)]
 mod mutex;
@@ -14,7 +24,5 @@ mod mutex;
 mod rwlock;
 #[cfg(test)]
 mod semaphore;
-#[cfg(test)]
-mod threads;
 
 pub use merging::merged;

@@ -1,5 +1,6 @@
-//! Tests of what stands in the crate `mea` itself, fair admission and the boxes, of mapped guards, and of a reply by a oneshot, by public contracts
-//! alone: each call once, its answer and the wakers that it woke, and a run of several threads. It has no code but tests.
+//! Tests of what stands in the crate `mea` itself, fair admission and the boxes, of mapped guards, of the oneshot channel, and of
+//! a reply by it, by public contracts alone: each call once, its answer and the wakers that it woke, and runs of several
+//! threads. It has no code but tests.
 #![tactic(auto)]
 
 #[cfg(test)]
@@ -12,5 +13,9 @@ mod boxes;
 mod mapped;
 #[cfg(test)]
 mod missing;
+#[cfg(test)]
+mod shot;
+#[cfg(test)]
+mod shot_threads;
 #[cfg(test)]
 mod threads;

@@ -121,82 +121,57 @@ fn notified(condvar: &mut CondvarCore<u64>, call: Call) -> Reply {
     Done
 }
 
-// A wait that was notified alone and is ended in the lock stage passes that on.
-const CONDVAR_IN_ORDER: &[(Call, Reply)] = &[
-    (Call::TryLock, Yes),
-    (Call::PollFirst(10), Pending),
-    (Call::TryLock, Yes),
-    (Call::PollSecond(11), Pending),
-    (Call::TryLock, Yes),
-    (Call::NotifyOne, Done),
-    (Call::NextWake, Value(10)),
-    (Call::PollFirst(12), Pending),
-    (Call::EndFirst, Done),
-    (Call::NextWake, Value(11)),
-    (Call::Unlock, Done),
-    (Call::NextLockWake, Nothing),
-    (Call::PollSecond(13), Ready(13)),
-    (Call::NotifyOne, Done),
-    (Call::NextWake, Nothing),
-    (Call::TryLock, No),
-];
+type Script = &'static [(Call, Reply)];
 
-#[test]
-fn condvar_in_order(rt: HostRuntime) {
-    assert_eq!(rt; differs_at(Room::new(rt.alloc()), CONDVAR_IN_ORDER), None);
-}
-
-// A new wait that is ended gives the lock back.
-const ENDED_NEW: &[(Call, Reply)] = &[
-    (Call::TryLock, Yes),
-    (Call::EndFirst, Done),
-    (Call::TryLock, Yes),
-];
-
-#[test]
-fn ended_new(rt: HostRuntime) {
-    assert_eq!(rt; differs_at(Room::new(rt.alloc()), ENDED_NEW), None);
-}
-
-// A wait that is ended while it waits leaves the others as they are.
-const ENDED_WAITING: &[(Call, Reply)] = &[
-    (Call::TryLock, Yes),
-    (Call::PollFirst(10), Pending),
-    (Call::TryLock, Yes),
-    (Call::PollSecond(11), Pending),
-    (Call::EndFirst, Done),
-    (Call::NextWake, Nothing),
-    (Call::NotifyOne, Done),
-    (Call::NextWake, Value(11)),
-];
-
-#[test]
-fn ended_waiting(rt: HostRuntime) {
-    assert_eq!(rt; differs_at(Room::new(rt.alloc()), ENDED_WAITING), None);
-}
-
-// A wait that was notified alone and is ended before its next poll passes that on.
-const ENDED_NOTIFIED_ALONE: &[(Call, Reply)] = &[
-    (Call::TryLock, Yes),
-    (Call::PollFirst(10), Pending),
-    (Call::TryLock, Yes),
-    (Call::PollSecond(11), Pending),
-    (Call::NotifyOne, Done),
-    (Call::NextWake, Value(10)),
-    (Call::EndFirst, Done),
-    (Call::NextWake, Value(11)),
-];
-
-#[test]
-fn ended_notified_alone(rt: HostRuntime) {
-    assert_eq!(rt;
-        differs_at(Room::new(rt.alloc()), ENDED_NOTIFIED_ALONE),
-        None
-    );
-}
-
-// One that was notified with all has nothing to pass on, before its next poll and in the lock stage.
-const ENDED_NOTIFIED_WITH_ALL: &[&[(Call, Reply)]] = &[
+const SCRIPTS: &[Script] = &[
+    // A wait that was notified alone and is ended in the lock stage passes that on.
+    &[
+        (Call::TryLock, Yes),
+        (Call::PollFirst(10), Pending),
+        (Call::TryLock, Yes),
+        (Call::PollSecond(11), Pending),
+        (Call::TryLock, Yes),
+        (Call::NotifyOne, Done),
+        (Call::NextWake, Value(10)),
+        (Call::PollFirst(12), Pending),
+        (Call::EndFirst, Done),
+        (Call::NextWake, Value(11)),
+        (Call::Unlock, Done),
+        (Call::NextLockWake, Nothing),
+        (Call::PollSecond(13), Ready(13)),
+        (Call::NotifyOne, Done),
+        (Call::NextWake, Nothing),
+        (Call::TryLock, No),
+    ],
+    // A new wait that is ended gives the lock back.
+    &[
+        (Call::TryLock, Yes),
+        (Call::EndFirst, Done),
+        (Call::TryLock, Yes),
+    ],
+    // A wait that is ended while it waits leaves the others as they are.
+    &[
+        (Call::TryLock, Yes),
+        (Call::PollFirst(10), Pending),
+        (Call::TryLock, Yes),
+        (Call::PollSecond(11), Pending),
+        (Call::EndFirst, Done),
+        (Call::NextWake, Nothing),
+        (Call::NotifyOne, Done),
+        (Call::NextWake, Value(11)),
+    ],
+    // A wait that was notified alone and is ended before its next poll passes that on.
+    &[
+        (Call::TryLock, Yes),
+        (Call::PollFirst(10), Pending),
+        (Call::TryLock, Yes),
+        (Call::PollSecond(11), Pending),
+        (Call::NotifyOne, Done),
+        (Call::NextWake, Value(10)),
+        (Call::EndFirst, Done),
+        (Call::NextWake, Value(11)),
+    ],
+    // One that was notified with all has nothing to pass on, before its next poll and in the lock stage.
     &[
         (Call::TryLock, Yes),
         (Call::PollFirst(10), Pending),
@@ -220,17 +195,7 @@ const ENDED_NOTIFIED_WITH_ALL: &[&[(Call, Reply)]] = &[
         (Call::NextWake, Nothing),
         (Call::TryLock, Yes),
     ],
-];
-
-#[test]
-fn ended_notified_with_all(rt: HostRuntime) {
-    for script in ENDED_NOTIFIED_WITH_ALL {
-        assert_eq!(rt; differs_at(Room::new(rt.alloc()), script), None);
-    }
-}
-
-// A wait finds memory in each stage: new, waiting, notified while the lock is held, and asking for the lock.
-const EVERY_STAGE: &[&[(Call, Reply)]] = &[
+    // A wait finds memory in each stage: new, waiting, notified while the lock is held, and asking for the lock.
     &[
         (Call::TryLock, Yes),
         (Call::PollAllowed(10), Pending),
@@ -260,8 +225,8 @@ const EVERY_STAGE: &[&[(Call, Reply)]] = &[
 ];
 
 #[test]
-fn every_stage(rt: HostRuntime) {
-    for script in EVERY_STAGE {
+fn waits_of_a_condition_variable(rt: HostRuntime) {
+    for script in SCRIPTS {
         assert_eq!(rt; differs_at(Room::new(rt.alloc()), script), None);
     }
 }
@@ -334,11 +299,6 @@ const WAITS_WHILE_BELOW: &[(Option<Call>, Reply)] = &[
     (Some(Call::TryLock), No),
 ];
 
-#[test]
-fn waits_while_below(rt: HostRuntime) {
-    assert_eq!(rt; while_differs_at(rt.alloc(), true, WAITS_WHILE_BELOW), None);
-}
-
 // A wait with a condition finds memory in each stage: new, waiting, notified while the lock is held, asking for the lock,
 // and holding it, first where the condition holds and then where it does not.
 const EVERY_STAGE_OF_A_WHILE: &[(Option<Call>, Reply)] = &[
@@ -362,7 +322,8 @@ const EVERY_STAGE_OF_A_WHILE: &[(Option<Call>, Reply)] = &[
 ];
 
 #[test]
-fn every_stage_of_a_while(rt: HostRuntime) {
+fn waits_with_a_condition(rt: HostRuntime) {
+    assert_eq!(rt; while_differs_at(rt.alloc(), true, WAITS_WHILE_BELOW), None);
     assert_eq!(rt;
         while_differs_at(rt.alloc(), false, EVERY_STAGE_OF_A_WHILE),
         None

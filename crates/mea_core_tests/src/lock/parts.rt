@@ -2,7 +2,6 @@ ghost use Rattle.std.specs.Prelude.{Some, refl, slice_get};
 ghost use Rattle.std.specs.Vec.{with_item};
 
 use mea_lock_core::{Part, Then, with_part, with_part_mut};
-use std::test::Fail;
 
 // A name and a list of counts.
 #[derive(Drop)]
@@ -75,34 +74,42 @@ impl<T> Part<Vec<T>> for First {
     ghost rests = { λ p x y h. first_rests x y h };
 }
 
+// The first count of a tally.
+const FIRST_COUNT: Then<Counts, First> = Then {
+    first: Counts,
+    second: First,
+};
+
+fn first_of(tally: &Tally) -> Option<u64> {
+    with_part(tally, &FIRST_COUNT, |n: &u64| *n)
+}
+
+fn length_of(tally: &Tally) -> Option<usize> {
+    with_part(tally, &Counts, |list: &Vec<u64>| list.len())
+}
+
+// Writes the first count, and tells what it was.
+fn set_first(tally: &mut Tally, to: u64) -> Option<u64> {
+    with_part_mut(tally, &FIRST_COUNT, |n: &mut u64| {
+        let old = *n;
+        *n = to;
+        old
+    })
+}
+
 // A part is read and written where it is there, and nothing happens where it is not.
 #[test]
-fn parts(rt: HostRuntime) -> Result<(), Fail> {
+fn parts(rt: HostRuntime) {
     let mut tally = Tally {
         name: 1,
         counts: Vec::new(rt.alloc()),
     };
-    let first_count = Then {
-        first: Counts,
-        second: First,
-    };
-    let table = [(None, 0), (Some(5), 1), (Some(7), 1)];
-    for (before, counts) in table {
-        assert_eq!(rt; with_part(&tally, &first_count, |n: &u64| *n), before);
-        assert_eq!(rt;
-            with_part(&tally, &Counts, |list: &Vec<u64>| list.len()),
-            Some(counts)
-        );
-        let had = with_part_mut(&mut tally, &first_count, |n: &mut u64| {
-            let old = *n;
-            *n = 7;
-            old
-        });
-        assert_eq!(rt; had, before);
-        if before.is_none() {
-            tally.counts.push(5)?;
-        }
-    }
+    assert!(rt; first_of(&tally).is_none() && length_of(&tally) == Some(0));
+    assert!(rt; set_first(&mut tally, 7).is_none());
+    tally.counts.push(5).expect(&rt, "memory");
+    assert!(rt; first_of(&tally) == Some(5) && length_of(&tally) == Some(1));
+    assert!(rt; set_first(&mut tally, 7) == Some(5));
+    assert!(rt; first_of(&tally) == Some(7) && length_of(&tally) == Some(1));
+    assert!(rt; set_first(&mut tally, 7) == Some(7));
     assert_eq!(rt; tally.name, 1);
-    Ok(())
 }

@@ -1,9 +1,0 @@
-//! Tests of semaphores whose permits are counted across threads, by public contracts alone. It has no code but tests.
-#![tactic(auto)]
-
-#[cfg(test)]
-mod meeting;
-#[cfg(test)]
-mod program;
-#[cfg(test)]
-mod shared;
