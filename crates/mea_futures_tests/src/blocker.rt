@@ -3,7 +3,7 @@ use futures::future::{pending, ready};
 use mea_futures::{Bell, Blocker};
 use mea_link::latch::Latch;
 use mea_sync::semaphore::Semaphore;
-use mea_wait::End;
+use mea_wait::{End, Waits};
 use std::random::RandomSource;
 use std::sync::Wait;
 use std::{io, thread};
@@ -25,26 +25,24 @@ fn told<R: Wait, P: End, E: Drop>(
 }
 
 // What waits for the one permit come to while it is held, and then while it is free.
-fn acquires<R: Wait>(
+fn acquires<R: Wait, F: Waits<Bell, Result<P, E>>, P: End, E: Drop>(
     rt: &R,
     blocker: &mut Blocker,
     semaphore: &Semaphore<Bell>,
-) -> [&'static str; 4] {
+    while_held: (F, F),
+    while_free: (F, F),
+) -> [&'static str; 4]
+    requires first { F.can_poll while_held.0 }
+    requires second { F.can_poll while_held.1 }
+    requires third { F.can_poll while_free.0 }
+    requires fourth { F.can_poll while_free.1 }
+{
     let held = semaphore.try_acquire(rt, 1);
-    let first = told(
-        rt,
-        blocker.block_before(rt, semaphore.acquire(1), ready(())),
-    );
-    let second = told(
-        rt,
-        blocker.block_before(rt, semaphore.acquire(1), ready(())),
-    );
+    let first = told(rt, blocker.block_before(rt, while_held.0, ready(())));
+    let second = told(rt, blocker.block_before(rt, while_held.1, ready(())));
     held.end(rt);
-    let third = told(
-        rt,
-        blocker.block_before(rt, semaphore.acquire(1), pending()),
-    );
-    let fourth = told(rt, blocker.block(rt, semaphore.acquire(1)).map(Some));
+    let third = told(rt, blocker.block_before(rt, while_free.0, pending()));
+    let fourth = told(rt, blocker.block(rt, while_free.1).map(Some));
     [first, second, third, fourth]
 }
 
@@ -52,7 +50,9 @@ fn acquires<R: Wait>(
 fn a_wait_that_was_given_up_is_made_again(rt: HostRuntime) {
     let semaphore = Semaphore::new(rt.alloc(), 1);
     let mut blocker = Blocker::new(&rt).expect(&rt, "memory");
-    let came = acquires(&rt, &mut blocker, &semaphore);
+    let while_held = (semaphore.acquire(1), semaphore.acquire(1));
+    let while_free = (semaphore.acquire(1), semaphore.acquire(1));
+    let came = acquires(&rt, &mut blocker, &semaphore, while_held, while_free);
     assert!(rt; came == ["late", "late", "permit", "permit"]);
     assert!(rt; semaphore.available_permits(&rt) == 1);
 }

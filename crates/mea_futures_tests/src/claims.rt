@@ -4,24 +4,41 @@ use futures::future::{pending, ready};
 use futures::task::{Context, Poll};
 use futures::test::MockTask;
 use mea_futures::{Bell, initialise};
-use mea_keep::Never;
 use mea_keep::once::OnceCell;
 use mea_keep::singleflight::Group;
-use std::hash::{BuildHasherDefault, FoldHasher};
+use mea_keep::{Claim, Claimed, Never};
+use mea_wait::{End, Waits};
+use std::alloc::AllocGlobal;
+use std::hash::BuildHasher;
 use std::process::Abort;
+use std::random::RandomSource;
+use std::sync::Wait;
 use std::sync::atomic::AtomicU64;
 use std::sync::atomic::Ordering::SeqCst;
 
 // An initialiser is dropped while its future computes: the next that waits fills the cell.
 #[test]
 fn an_abandoned_initialiser_passes_its_turn_on(rt: HostRuntime) {
-    let tasks = Tasks::new(&rt);
     let cell: OnceCell<u64, Bell> = OnceCell::new(rt.alloc());
+    is_abandoned(&rt, &cell, cell.claim(), cell.claim());
+}
+
+// The first computes for ever, and the second at once.
+fn is_abandoned<
+    'c,
+    R: Wait + RandomSource + AllocGlobal + Abort,
+    F: Waits<Bell, Claimed<&'c u64, C>>,
+    C: Claim<u64, &'c u64, G>,
+    G: End,
+>(rt: &R, cell: &'c OnceCell<u64, Bell>, first: F, second: F)
+    requires first { F.can_poll first }
+    requires second { F.can_poll second }
+{
     let init = pending::<Result<u64, Never>>();
-    let never = initialise(&rt, rt.alloc(), cell.claim(), init).expect(&rt, "memory");
+    let never = initialise(rt, rt.alloc(), first, init).expect(rt, "memory");
     let init = ready(Ok::<u64, Never>(9));
-    let nine = initialise(&rt, rt.alloc(), cell.claim(), init).expect(&rt, "memory");
-    passes_its_turn_on(&rt, &tasks, &cell, never, nine);
+    let nine = initialise(rt, rt.alloc(), second, init).expect(rt, "memory");
+    passes_its_turn_on(rt, &Tasks::new(rt), cell, never, nine);
 }
 
 fn passes_its_turn_on<
@@ -84,47 +101,56 @@ fn new_fetch(page: u64, fetches: &AtomicU64) -> Fetch<'_> {
 type Page = Answer<u64, u8>;
 
 // What is fetched at a time, by page.
-type Flights = Group<u64, u64, BuildHasherDefault<FoldHasher>, Bell>;
+type Flights<S> = Group<u64, u64, S, Bell>;
 
 // Two requests are polled in turn: the first fetches, and the second waits for it. It tells what both have.
-fn answers<F: Future<Output = Page>>(
-    one: &MockTask,
-    two: &MockTask,
+fn answers<R: Abort, F: Future<Output = Page>>(
+    rt: &R,
+    tasks: &Tasks,
     mut first: F,
     mut second: F,
-) -> Option<(Poll<Page>, Poll<Page>)>
+) -> (Poll<Page>, Poll<Page>)
     requires first { F.can_poll first }
     requires second { F.can_poll second }
 {
-    if one.poll(&mut first).is_ready() {
-        return None;
-    }
-    if two.poll(&mut second).is_ready() {
-        return None;
-    }
-    if two.is_woken() {
-        return None;
-    }
+    let Tasks { one, two } = tasks;
+    assert!(rt; rests(one, &mut first) && rests(two, &mut second));
+    assert!(rt; !two.is_woken());
     let page = one.poll(&mut first);
-    if !two.is_woken() {
-        return None;
-    }
-    let same = two.poll(&mut second);
-    Some((page, same))
+    assert!(rt; two.is_woken());
+    (page, two.poll(&mut second))
+}
+
+// What two requests for page 4 at a time have, by the claims of both.
+fn both<
+    R: Wait + RandomSource + AllocGlobal + Abort,
+    F: Waits<Bell, Claimed<u64, C>>,
+    C: Claim<u64, u64, G>,
+    G: End,
+>(rt: &R, first: F, second: F, fetches: &AtomicU64) -> (Poll<Page>, Poll<Page>)
+    requires first { F.can_poll first }
+    requires second { F.can_poll second }
+{
+    let fetch = new_fetch(4, fetches);
+    let first = initialise(rt, rt.alloc(), first, fetch).expect(rt, "memory");
+    let fetch = new_fetch(4, fetches);
+    let second = initialise(rt, rt.alloc(), second, fetch).expect(rt, "memory");
+    answers(rt, &Tasks::new(rt), first, second)
 }
 
 // Two requests for a page at a time: it is fetched once, and both have it.
 #[test]
 fn a_page_is_fetched_once(rt: HostRuntime) {
-    let Tasks { one, two } = Tasks::new(&rt);
-    let flights: Flights = Group::new(rt.alloc());
+    is_fetched_once(&rt, &Group::new(rt.alloc()));
+}
+
+fn is_fetched_once<R: Wait + RandomSource + AllocGlobal + Abort, S: BuildHasher + Drop>(
+    rt: &R,
+    flights: &Flights<S>,
+) {
     let fetches = AtomicU64::new(0);
-    let fetch = new_fetch(4, &fetches);
-    let first = initialise(&rt, rt.alloc(), flights.claim(4), fetch).expect(&rt, "memory");
-    let fetch = new_fetch(4, &fetches);
-    let second = initialise(&rt, rt.alloc(), flights.claim(4), fetch).expect(&rt, "memory");
-    let both = answers(&one, &two, first, second);
-    assert!(rt; both == Some((Poll::Ready(Ok(Ok(40))), Poll::Ready(Ok(Ok(40))))));
+    let both = both(rt, flights.claim(4), flights.claim(4), &fetches);
+    assert!(rt; both == (Poll::Ready(Ok(Ok(40))), Poll::Ready(Ok(Ok(40)))));
     assert!(rt; fetches.load(SeqCst) == 1);
 }
 
@@ -140,14 +166,32 @@ fn second_answer<R: Abort, F: Future<Output = Page>>(
     task.poll(&mut request)
 }
 
+// What a request for page 0 comes to, by its claim.
+fn none<
+    R: Wait + RandomSource + AllocGlobal + Abort,
+    F: Waits<Bell, Claimed<u64, C>>,
+    C: Claim<u64, u64, G>,
+    G: End,
+>(rt: &R, claim: F, fetches: &AtomicU64) -> Poll<Page>
+    requires { F.can_poll claim }
+{
+    let task = MockTask::new(rt).expect(rt, "memory");
+    let fetch = new_fetch(0, fetches);
+    let none = initialise(rt, rt.alloc(), claim, fetch).expect(rt, "memory");
+    second_answer(rt, &task, none)
+}
+
 // A fetch that fails gives its error to who fetched.
 #[test]
 fn an_error_is_that_of_who_fetched(rt: HostRuntime) {
-    let task = MockTask::new(&rt).expect(&rt, "memory");
-    let flights: Flights = Group::new(rt.alloc());
+    is_of_who_fetched(&rt, &Group::new(rt.alloc()));
+}
+
+fn is_of_who_fetched<R: Wait + RandomSource + AllocGlobal + Abort, S: BuildHasher + Drop>(
+    rt: &R,
+    flights: &Flights<S>,
+) {
     let fetches = AtomicU64::new(0);
-    let fetch = new_fetch(0, &fetches);
-    let none = initialise(&rt, rt.alloc(), flights.claim(0), fetch).expect(&rt, "memory");
-    assert!(rt; matches!(second_answer(&rt, &task, none), Poll::Ready(Ok(Err(7)))));
+    assert!(rt; none(rt, flights.claim(0), &fetches) == Poll::Ready(Ok(Err(7))));
     assert!(rt; fetches.load(SeqCst) == 1);
 }

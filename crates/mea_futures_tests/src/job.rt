@@ -1,9 +1,10 @@
-ghost use Rattle.std.specs.Prelude.{◌≡◌, None, IsSome, IfNone};
+ghost use Rattle.std.specs.Prelude.{◌≡◌, Some, None, IsSome, IfNone};
 
 use futures::task::{Context, Poll};
 use futures::{Future, ready};
-use mea_futures::{Acquiring, Bell, Kept, wait};
+use mea_futures::{Acquiring, Bell, Kept, TryHolding, wait};
 use mea_sync::semaphore::{OwnedAcquire, OwnedSemaphorePermit, Semaphore};
+use mea_wait::Waits;
 use std::alloc::AllocGlobal;
 use std::process::Abort;
 use std::sync::atomic::AtomicU64;
@@ -70,17 +71,15 @@ pub fn acquire<R: Abort>(
         .acquire_owned(permits)
 }
 
-/// A wait for so many permits that was never polled.
-pub fn queued<'a, R: Wait + AllocGlobal + Abort>(
+/// A wait as a future whose output may be dropped, with a bell, and never polled.
+pub fn holding<'a, R: Wait + AllocGlobal + Abort, F: Waits<Bell, Result<P, E>>, P, E>(
     rt: &'a R,
-    semaphore: &Arc<Semaphore<Bell>>,
-    permits: usize,
-) -> Acquiring<'a, R>
-    ensures { IsSome result.waiting.wait }
+    of: F,
+) -> TryHolding<'a, R, F, P, E>
+    requires { F.can_poll of }
+    ensures { result.waiting.wait ≡ Some of }
 {
-    wait(rt, rt.alloc(), acquire(rt, semaphore, permits))
-        .expect(rt, "memory")
-        .try_holding()
+    wait(rt, rt.alloc(), of).expect(rt, "memory").try_holding()
 }
 
 /// A task: it acquires, yields with the permit, and gives it back where it drops what it kept.
@@ -98,7 +97,7 @@ impl<'a, R: Wait + AllocGlobal + Abort> Job<'a, R> {
     {
         Job {
             seen,
-            acquire: queued(rt, semaphore, 1),
+            acquire: holding(rt, acquire(rt, semaphore, 1)),
             held: None,
         }
     }

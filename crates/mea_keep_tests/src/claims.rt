@@ -1,10 +1,20 @@
-//! Polls of waits for a claim, which hand out what they came to.
+//! Polls of waits for a claim, which hand out what they came to, and what two callers of one key do.
+//!
+//! The tests hand their waits to functions that are generic in them: there a wait is one bound, where the proof builds the
+//! whole of a type that is known anew at each call.
 ghost use Rattle.std.specs.Prelude.{IfSome};
 
 use mea_keep::{Claim, Claimed};
-use mea_test_support::{Bell, Count, PollOutcome, gives, poll};
+use mea_test_support::{Bell, Count, PollOutcome, count, gives, poll, rung};
 use mea_wait::{End, Waits};
+use std::alloc::AllocGlobal;
+use std::process::Abort;
 use std::sync::Wait;
+
+/// A count of no wakes.
+pub(crate) fn bell<R: AllocGlobal + Abort>(rt: &R) -> Count {
+    count(rt.alloc()).expect(rt, "memory")
+}
 
 /// The turn that a wait gives; what it gives instead is dropped.
 pub(crate) fn mine<R: Wait, F: Waits<Bell, Claimed<V, C>>, V: Drop, C: End>(
@@ -58,11 +68,11 @@ pub(crate) fn there<R: Wait, F: Waits<Bell, Claimed<V, C>>, V, C: End>(
 }
 
 /// What who has the turn gets for the value that it gives; a wait that comes back for want of memory is ended.
-pub(crate) fn gave<R: Wait, C: Claim<u64, u64, G>, G: End>(
+pub(crate) fn gave<R: Wait, T: Drop, V, C: Claim<T, V, G>, G: End>(
     rt: &R,
     claim: Option<C>,
-    value: u64,
-) -> Option<u64> {
+    value: T,
+) -> Option<V> {
     match claim?.finish(rt, value) {
         Ok(value) => Some(value),
         Err(kept) => {
@@ -70,4 +80,26 @@ pub(crate) fn gave<R: Wait, C: Claim<u64, u64, G>, G: End>(
             None
         }
     }
+}
+
+/// Two callers of one key: the first has the turn and gives 50, and the second, which waits for it, is woken and has that
+/// too. Who asks for another key meanwhile is not kept waiting, and has 60.
+pub(crate) fn share<
+    R: Wait + Abort,
+    F: Waits<Bell, Claimed<u64, C>>,
+    C: Claim<u64, u64, G>,
+    G: End,
+    O: Waits<Bell, u64>,
+>(rt: &R, callers: (F, F), other: O, one: &Count, two: &Count)
+    requires first { F.can_poll callers.0 }
+    requires second { F.can_poll callers.1 }
+    requires other { O.can_poll other }
+{
+    let (first, second) = callers;
+    let claim = mine(rt, first, one);
+    let second = queues(rt, second, two);
+    assert!(rt; gives(rt, Some(other), one) == Some(60));
+    assert!(rt; gave(rt, claim, 50) == Some(50));
+    assert!(rt; rung(two) == 1);
+    assert!(rt; there(rt, second, two) == Some(50));
 }
