@@ -6,6 +6,7 @@ use mea_lines::lines_have_one_spelling;
 use mea_meet::MeetEvent;
 use mea_text::{put_number, put_reply, put_text};
 use std::alloc::Global;
+use std::process::Abort;
 
 // An expected reply: its number, its answer, and the waker that its event made ready.
 type Reply = (usize, Answer, Option<u64>);
@@ -24,7 +25,7 @@ struct Replay {
 }
 
 // What a replay leaves, in values: no test holds a hall, since a proof about it would carry the laws of all families.
-#[derive(Clone, Copy, Debug, PartialEq, Eq)]
+#[derive(Drop)]
 struct Left {
     ended: Result<(), Stop>,
     // How many events were played, and how many replies there are.
@@ -37,23 +38,24 @@ struct Left {
     lent: (Option<u32>, bool),
 }
 
-// What these events leave, and the number of the first of these replies that is another.
+// What these events leave, and the number of the first of these replies that is another. What `replay` promises stays here.
 fn replayed(alloc: Global, events: &[Event], expected: &[Reply]) -> (Left, Option<usize>) {
-    let Played {
-        hall,
-        replies,
-        ended,
-    } = replay(alloc, events);
-    let left = Left {
-        ended,
+    let played = replay(alloc, events);
+    let told = (left_of(&played), differs(&played.replies, expected));
+    gone(played);
+    told
+}
+
+fn left_of(played: &Played) -> Left {
+    let hall = &played.hall;
+    Left {
+        ended: played.ended,
         events: hall.events(),
-        replies: replies.len(),
+        replies: played.replies.len(),
         ready: hall.wakes_ready(),
         registered: hall.registered(),
-        lent: (count(&hall), hall.meets().shutdown(SHUTDOWN).is_some()),
-    };
-    gone(hall);
-    (left, differs(&replies, expected))
+        lent: (count(hall), hall.meets().shutdown(SHUTDOWN).is_some()),
+    }
 }
 
 // The number of the first of these replies that is another.
@@ -177,13 +179,23 @@ const REPLAYS: &[Replay] = &[
     },
 ];
 
+// Plays a list of events, and compares what it leaves.
+fn check(rt: &(impl Abort + AllocGlobal), script: &Replay) {
+    let name = script.name;
+    let (left, differs) = replayed(rt.alloc(), script.events, script.replies);
+    assert_eq!(rt; differs, None, "{name}");
+    assert!(rt; left.ended == script.left.ended, "{name}");
+    assert_eq!(rt; left.events, script.left.events, "{name}");
+    assert_eq!(rt; left.replies, script.left.replies, "{name}");
+    assert_eq!(rt; left.ready, script.left.ready, "{name}");
+    assert_eq!(rt; left.registered, script.left.registered, "{name}");
+    assert_eq!(rt; left.lent, script.left.lent, "{name}");
+}
+
 #[test]
 fn replays(rt: HostRuntime) {
     for script in REPLAYS {
-        let name = script.name;
-        let (left, differs) = replayed(rt.alloc(), script.events, script.replies);
-        assert_eq!(rt; differs, None, "{name}");
-        assert_eq!(rt; left, script.left, "{name}");
+        check(&rt, script);
     }
 }
 

@@ -83,17 +83,23 @@ fn copied(rt: &(impl Abort + AllocGlobal), bytes: &[u8]) -> Vec<u8> {
     Vec::from_slice(rt.alloc(), bytes).expect(rt, "memory")
 }
 
-/// Plays a script, a few bytes at a time.
-pub(crate) fn check(rt: &(impl Abort + AllocGlobal), name: &str, row: &Row) {
-    let text = bytes_of(rt, row.text);
-    let (status, written) = played(rt, bytes_of(rt, row.script), (5, 3));
+/// Plays a script, a few bytes at a time, and compares its text and how it ends.
+pub(crate) fn check(
+    rt: &(impl Abort + AllocGlobal),
+    name: &str,
+    script: &str,
+    text: &str,
+    status: &Status,
+) {
+    let text = bytes_of(rt, text);
+    let (told, written) = played(rt, bytes_of(rt, script), (5, 3));
     assert_eq!(rt; written.as_slice(), text.as_slice(), "{name}");
-    assert!(rt; status == row.status, "{name}");
+    assert!(rt; told == *status, "{name}");
 }
 
 /// Plays each script of a table.
 pub(crate) fn check_rows(rt: &(impl Abort + AllocGlobal), name: &str, rows: &[Row]) {
     for row in rows {
-        check(rt, name, row);
+        check(rt, name, row.script, row.text, &row.status);
     }
 }
