@@ -52,7 +52,15 @@ const LONG: &[Row] = &[
         text: Parts(b"made\n", b"free 1000\n", 2_396_743, b"long 2396744\n"),
         status: Status::TooLong,
     },
-    // One line, as long as a script may be.
+];
+
+#[test]
+fn scripts_are_as_long_as_may_be(rt: HostRuntime) {
+    check_parts(&rt, LONG, (usize::MAX, usize::MAX));
+}
+
+// One line, as long as a script may be, and longer.
+const ONE_LINE: &[Row] = &[
     Row {
         script: Parts(b"", b"9", 16_777_216, b""),
         text: Parts(b"bad 0\n", b"", 0, b""),
@@ -76,8 +84,8 @@ const LONG: &[Row] = &[
 ];
 
 #[test]
-fn scripts_are_as_long_as_may_be(rt: HostRuntime) {
-    check_parts(&rt, LONG, (usize::MAX, usize::MAX));
+fn a_line_is_long(rt: HostRuntime) {
+    check_parts(&rt, ONE_LINE, (usize::MAX, usize::MAX));
 }
 
 const ENDS: &[Row] = &[
