@@ -1,63 +1,18 @@
-use crate::play::{FamilyHall, Row, differs_at, gone};
-use mea_chan::{ChanEvent, ChanHall};
-use mea_family::{Answer, Stop};
-use std::alloc::Global;
+use crate::play::{Lends, Lent, Row, Script, check_scripts};
+use mea_chan::{ChanEvent, ChanFamily, ChanHall};
+use mea_family::Answer;
 
-impl FamilyHall for ChanHall {
-    ghost use Rattle.mea_chan.specs.Halls.{TakesNoMemory};
-
-    type Event = ChanEvent;
-
-    ghost next = { λ h. h.next };
-
-    ghost IsFree = { λ event. TakesNoMemory event };
-
-    fn act(&mut self, number: u64, event: &ChanEvent) -> Result<Answer, Stop> {
-        ChanHall::act(self, number, event)
+// A bounded channel; the tail of a broadcast channel, and how many senders it has.
+impl Lends for ChanFamily {
+    fn lent(&self, name: u64) -> Lent {
+        let broadcast = self.broadcast(name);
+        [
+            self.bounded(name).map(|_| 0),
+            broadcast.map(|core| core.tail()),
+            broadcast.map(|core| core.senders() as u64),
+            None,
+        ]
     }
-
-    fn next_wake(&mut self) -> Option<u64> {
-        ChanHall::next_wake(self)
-    }
-
-    fn registered(&self) -> usize {
-        ChanHall::registered(self)
-    }
-
-    fn wakes_ready(&self) -> usize {
-        ChanHall::wakes_ready(self)
-    }
-}
-
-// What a hall shows after its events: the first that is answered otherwise, how many wakers are registered and how many
-// are ready, and of some channels whether they are lent.
-#[derive(Drop)]
-struct Seen {
-    differs_at: Option<usize>,
-    wakers: (usize, usize),
-    has_bounded: bool,
-    // The tail of the first, and how many senders it has.
-    broadcasts: [Option<(u64, usize)>; 2],
-}
-
-fn broadcast(hall: &ChanHall, name: u64) -> Option<(u64, usize)> {
-    let core = hall.family().broadcast(name)?;
-    Some((core.tail(), core.senders()))
-}
-
-fn shown(alloc: Global, rows: &[Row<ChanEvent>], bounded: u64, broadcasts: [u64; 2]) -> Seen {
-    let mut hall = ChanHall::new(alloc);
-    let seen = Seen {
-        differs_at: differs_at(&mut hall, rows),
-        wakers: (hall.registered(), hall.wakes_ready()),
-        has_bounded: hall.family().bounded(bounded).is_some(),
-        broadcasts: [
-            broadcast(&hall, broadcasts[0]),
-            broadcast(&hall, broadcasts[1]),
-        ],
-    };
-    gone(hall);
-    seen
 }
 
 // With memory at hand, a channel and a box of each kind is made, used and waited for.
@@ -98,12 +53,19 @@ const AMPLE: &[Row<'static, ChanEvent>] = &[
     (ChanEvent::BcSend(22, 10), Ok(Answer::Done), &[31]),
 ];
 
+// The receivers of the unbounded channel and of the oneshot wait.
+const SCRIPTS: &[Script<'static, ChanEvent>] = &[Script {
+    name: "ample",
+    rows: AMPLE,
+    registered: 2,
+    lent: &[
+        (0, [Some(0), None, None, None]),
+        (21, [None, Some(2), Some(2), None]),
+        (22, [None; 4]),
+    ],
+}];
+
 #[test]
-fn ample(rt: HostRuntime) {
-    let seen = shown(rt.alloc(), AMPLE, 0, [21, 22]);
-    assert_eq!(rt; seen.differs_at, None);
-    // The receivers of the unbounded channel and of the oneshot wait.
-    assert_eq!(rt; seen.wakers, (2, 0));
-    assert!(rt; seen.has_bounded);
-    assert_eq!(rt; seen.broadcasts, [Some((2, 2)), None]);
+fn scripts_of_channels(rt: HostRuntime) {
+    check_scripts::<ChanHall, _>(&rt, SCRIPTS);
 }

@@ -6,6 +6,7 @@ use mea_lines::lines_have_one_spelling;
 use mea_meet::MeetEvent;
 use mea_text::{put_number, put_reply, put_text};
 use std::alloc::Global;
+use std::process::Abort;
 
 // An expected reply: its number, its answer, and the waker that its event made ready.
 type Reply = (usize, Answer, Option<u64>);
@@ -15,14 +16,21 @@ const LATCH: u64 = 1;
 
 const SHUTDOWN: u64 = 7;
 
-// What a replay left, in values: no test holds a hall, since a proof about it would carry the laws of all families.
+// A list of events, some of the replies to it, and what it leaves.
+struct Replay {
+    name: &'static str,
+    events: &'static [Event],
+    replies: &'static [Reply],
+    left: Left,
+}
+
+// What a replay leaves, in values: no test holds a hall, since a proof about it would carry the laws of all families.
 #[derive(Drop)]
 struct Left {
     ended: Result<(), Stop>,
-    // How many replies there are, and the first of the expected ones that is another.
-    replies: usize,
-    differs: Option<usize>,
+    // How many events were played, and how many replies there are.
     events: u64,
+    replies: usize,
     // How many wakers are ready, and how many are registered.
     ready: usize,
     registered: usize,
@@ -30,23 +38,24 @@ struct Left {
     lent: (Option<u32>, bool),
 }
 
-fn replayed(alloc: Global, events: &[Event], expected: &[Reply]) -> Left {
-    let Played {
-        hall,
-        replies,
-        ended,
-    } = replay(alloc, events);
-    let left = Left {
-        ended,
-        replies: replies.len(),
-        differs: differs(&replies, expected),
+// What these events leave, and the number of the first of these replies that is another. What `replay` promises stays here.
+fn replayed(alloc: Global, events: &[Event], expected: &[Reply]) -> (Left, Option<usize>) {
+    let played = replay(alloc, events);
+    let told = (left_of(&played), differs(&played.replies, expected));
+    gone(played);
+    told
+}
+
+fn left_of(played: &Played) -> Left {
+    let hall = &played.hall;
+    Left {
+        ended: played.ended,
         events: hall.events(),
+        replies: played.replies.len(),
         ready: hall.wakes_ready(),
         registered: hall.registered(),
-        lent: (count(&hall), hall.meets().shutdown(SHUTDOWN).is_some()),
-    };
-    gone(hall);
-    left
+        lent: (count(hall), hall.meets().shutdown(SHUTDOWN).is_some()),
+    }
 }
 
 // The number of the first of these replies that is another.
@@ -76,18 +85,118 @@ fn count(hall: &Hall) -> Option<u32> {
 }
 
 // Each call that may find no memory finds some: events that are played, with a waker that is registered.
+const AMPLE: &[Event] = &[
+    Event::Meet(MeetEvent::LatNew(1)),
+    Event::Meet(MeetEvent::LatWait(0)),
+    Event::Meet(MeetEvent::LatPoll(1, 5)),
+];
+
+// A waker that an event makes ready stands beside the reply to that event.
+const WAKES_STAND_BESIDE_THEIR_REPLY: &[Event] = &[
+    Event::Sem(SemEvent::New(0)),
+    Event::Sem(SemEvent::Acq(0, 1)),
+    Event::Sem(SemEvent::Poll(1, 5)),
+    Event::Sem(SemEvent::Release(0, 1)),
+];
+
+// The families have their numbers in common, and each its own wakers.
+const TWO_FAMILIES: &[Event] = &[
+    Event::Sem(SemEvent::New(0)),
+    Event::Meet(MeetEvent::LatNew(2)),
+    Event::Sem(SemEvent::Acq(0, 1)),
+    Event::Meet(MeetEvent::LatWait(LATCH)),
+    Event::Sem(SemEvent::Poll(2, 5)),
+    Event::Meet(MeetEvent::LatPoll(3, 6)),
+    Event::Meet(MeetEvent::LatArrive(LATCH, 2)),
+    Event::Meet(MeetEvent::SdNew),
+    Event::Meet(MeetEvent::SdIso(SHUTDOWN)),
+    Event::Meet(MeetEvent::SdPoll(8, 7)),
+    Event::Sem(SemEvent::Release(0, 1)),
+];
+
+// A line of one family finds nothing of another under its number.
+const FAMILIES_SHARE_NO_THINGS: &[Event] = &[
+    Event::Sem(SemEvent::New(1)),
+    Event::Meet(MeetEvent::LatDown(0)),
+];
+
+const REPLAYS: &[Replay] = &[
+    Replay {
+        name: "ample",
+        events: AMPLE,
+        replies: &[(2, Answer::Pending, None)],
+        left: Left {
+            ended: Ok(()),
+            events: 3,
+            replies: 3,
+            ready: 0,
+            registered: 1,
+            lent: (None, false),
+        },
+    },
+    Replay {
+        name: "wakes stand beside their reply",
+        events: WAKES_STAND_BESIDE_THEIR_REPLY,
+        replies: &[(2, Answer::Pending, None), (3, Answer::Done, Some(5))],
+        left: Left {
+            ended: Ok(()),
+            events: 4,
+            replies: 4,
+            ready: 0,
+            registered: 0,
+            lent: (None, false),
+        },
+    },
+    Replay {
+        name: "two families in one script",
+        events: TWO_FAMILIES,
+        replies: &[
+            (6, Answer::Done, Some(6)),
+            (9, Answer::Pending, None),
+            (10, Answer::Done, Some(5)),
+        ],
+        left: Left {
+            ended: Ok(()),
+            events: 11,
+            replies: 11,
+            ready: 0,
+            registered: 1,
+            lent: (Some(0), true),
+        },
+    },
+    Replay {
+        name: "families share no things",
+        events: FAMILIES_SHARE_NO_THINGS,
+        replies: &[],
+        left: Left {
+            ended: Err(Stop::Unknown),
+            events: 1,
+            replies: 1,
+            ready: 0,
+            registered: 0,
+            lent: (None, false),
+        },
+    },
+];
+
+// Plays a list of events, and compares what it leaves.
+fn check(rt: &(impl Abort + AllocGlobal), script: &Replay) {
+    let name = script.name;
+    let (left, differs) = replayed(rt.alloc(), script.events, script.replies);
+    assert_eq!(rt; differs, None, "{name}");
+    assert!(rt; left.ended == script.left.ended, "{name}");
+    assert_eq!(rt; left.events, script.left.events, "{name}");
+    assert_eq!(rt; left.replies, script.left.replies, "{name}");
+    assert_eq!(rt; left.ready, script.left.ready, "{name}");
+    assert_eq!(rt; left.registered, script.left.registered, "{name}");
+    assert_eq!(rt; left.lent, script.left.lent, "{name}");
+}
+
 #[test]
-fn ample_replay(rt: HostRuntime) {
-    let events = [
-        Event::Meet(MeetEvent::LatNew(1)),
-        Event::Meet(MeetEvent::LatWait(0)),
-        Event::Meet(MeetEvent::LatPoll(1, 5)),
-    ];
-    let left = replayed(rt.alloc(), &events, &[(2, Answer::Pending, None)]);
-    assert!(rt; left.ended == Ok(()));
-    assert_eq!(rt; left.replies, 3);
-    assert_eq!(rt; left.differs, None);
-    assert_eq!(rt; left.registered, 1);
+fn replays(rt: HostRuntime) {
+    for script in REPLAYS {
+        check(&rt, script);
+    }
 }
 
 // The same: replies and texts.
@@ -99,66 +208,6 @@ fn ample_text(rt: HostRuntime) {
     assert!(rt; put_text(&mut text, b"text") == Ok(()));
     assert!(rt; put_number(&mut text, 7) == Ok(()));
     assert!(rt; put_reply(&mut text, &Answer::Free(1), &[5, 6]) == Ok(()));
-    lines_have_one_spelling();
     assert!(rt; text.as_slice() == b"text 7free 1 wake 5 6\n".as_slice());
-}
-
-// A waker that an event makes ready stands beside the reply to that event.
-#[test]
-fn wakes_stand_beside_their_reply(rt: HostRuntime) {
-    let events = [
-        Event::Sem(SemEvent::New(0)),
-        Event::Sem(SemEvent::Acq(0, 1)),
-        Event::Sem(SemEvent::Poll(1, 5)),
-        Event::Sem(SemEvent::Release(0, 1)),
-    ];
-    let replies = [(2, Answer::Pending, None), (3, Answer::Done, Some(5))];
-    let left = replayed(rt.alloc(), &events, &replies);
-    assert_eq!(rt; left.replies, 4);
-    assert_eq!(rt; left.differs, None);
-    assert_eq!(rt; left.registered, 0);
-    assert_eq!(rt; left.ready, 0);
-}
-
-// The families have their numbers in common, and each its own wakers.
-#[test]
-fn two_families_in_one_script(rt: HostRuntime) {
-    let events = [
-        Event::Sem(SemEvent::New(0)),
-        Event::Meet(MeetEvent::LatNew(2)),
-        Event::Sem(SemEvent::Acq(0, 1)),
-        Event::Meet(MeetEvent::LatWait(LATCH)),
-        Event::Sem(SemEvent::Poll(2, 5)),
-        Event::Meet(MeetEvent::LatPoll(3, 6)),
-        Event::Meet(MeetEvent::LatArrive(LATCH, 2)),
-        Event::Meet(MeetEvent::SdNew),
-        Event::Meet(MeetEvent::SdIso(SHUTDOWN)),
-        Event::Meet(MeetEvent::SdPoll(8, 7)),
-        Event::Sem(SemEvent::Release(0, 1)),
-    ];
-    let replies = [
-        (6, Answer::Done, Some(6)),
-        (9, Answer::Pending, None),
-        (10, Answer::Done, Some(5)),
-    ];
-    let left = replayed(rt.alloc(), &events, &replies);
-    assert!(rt; left.ended == Ok(()));
-    assert_eq!(rt; left.replies, 11);
-    assert_eq!(rt; left.differs, None);
-    assert_eq!(rt; left.events, 11);
-    assert_eq!(rt; left.ready, 0);
-    assert_eq!(rt; left.registered, 1);
-    assert_eq!(rt; left.lent, (Some(0), true));
-}
-
-// A line of one family finds nothing of another under its number.
-#[test]
-fn families_share_no_things(rt: HostRuntime) {
-    let events = [
-        Event::Sem(SemEvent::New(1)),
-        Event::Meet(MeetEvent::LatDown(0)),
-    ];
-    let left = replayed(rt.alloc(), &events, &[]);
-    assert!(rt; left.ended == Err(Stop::Unknown));
-    assert_eq!(rt; left.replies, 1);
+    lines_have_one_spelling();
 }

@@ -1,30 +1,17 @@
-use crate::play::{FamilyHall, Row, answers, differs_at, gone, refused};
+use crate::play::{Hall, Lends, Lent, Row, Script, answers, check_scripts, gone, refused};
 use mea_family::{Answer, Stop};
-use mea_lock::{LockEvent, LockHall};
+use mea_lock::{LockEvent, LockFamily, LockHall};
 
-impl FamilyHall for LockHall {
-    ghost use Rattle.mea_lock.specs.Halls.{TakesNoMemory};
-
-    type Event = LockEvent;
-
-    ghost next = { λ h. h.next };
-
-    ghost IsFree = { λ event. TakesNoMemory event };
-
-    fn act(&mut self, number: u64, event: &LockEvent) -> Result<Answer, Stop> {
-        LockHall::act(self, number, event)
-    }
-
-    fn next_wake(&mut self) -> Option<u64> {
-        LockHall::next_wake(self)
-    }
-
-    fn registered(&self) -> usize {
-        LockHall::registered(self)
-    }
-
-    fn wakes_ready(&self) -> usize {
-        LockHall::wakes_ready(self)
+// A mutex; how many read a reader-writer lock, and whether one writes.
+impl Lends for LockFamily {
+    fn lent(&self, name: u64) -> Lent {
+        let rw_lock = self.rw_lock(name);
+        [
+            self.mutex(name).map(|_| 0),
+            rw_lock.map(|core| core.readers() as u64),
+            rw_lock.map(|core| core.is_writing() as u64),
+            None,
+        ]
     }
 }
 
@@ -46,21 +33,6 @@ const AMPLE: &[Row<'static, LockEvent>] = &[
     (LockEvent::RwDown(12), Ok(Answer::Done), &[]),
 ];
 
-#[test]
-fn ample(rt: HostRuntime) {
-    let mut hall = LockHall::new(rt.alloc());
-    assert_eq!(rt; differs_at(&mut hall, AMPLE), None);
-    assert_eq!(rt; hall.registered(), 0);
-    assert_eq!(rt; hall.wakes_ready(), 0);
-    assert!(rt; hall.family().mutex(0).is_some());
-    assert_eq!(rt;
-        hall.family().rw_lock(5).map(|core| core.readers()),
-        Some(1)
-    );
-    assert!(rt; hall.family().mutex(5).is_none());
-    gone(hall);
-}
-
 // A lock without its name is not lent, and is gone with the last of its owned things.
 const WHAT_ENDED_IS_GONE: &[Row<'static, LockEvent>] = &[
     (LockEvent::MxNew(5), Ok(Answer::Made), &[]),
@@ -73,18 +45,45 @@ const WHAT_ENDED_IS_GONE: &[Row<'static, LockEvent>] = &[
     (LockEvent::MxLock(0), Err(Stop::Unknown), &[]),
 ];
 
+// A lent core tells of a write.
+const A_WRITE: &[Row<'static, LockEvent>] = &[
+    (LockEvent::RwNew(8), Ok(Answer::Made), &[]),
+    (LockEvent::RwTryw(0), Ok(Answer::Held), &[]),
+];
+
+const SCRIPTS: &[Script<'static, LockEvent>] = &[
+    Script {
+        name: "ample",
+        rows: AMPLE,
+        registered: 0,
+        lent: &[
+            (0, [Some(0), None, None, None]),
+            (5, [None, Some(1), Some(0), None]),
+        ],
+    },
+    Script {
+        name: "what ended is gone",
+        rows: WHAT_ENDED_IS_GONE,
+        registered: 0,
+        lent: &[(0, [None; 4])],
+    },
+    Script {
+        name: "a lent lock tells of a write",
+        rows: A_WRITE,
+        registered: 0,
+        lent: &[(0, [None, Some(0), Some(1), None])],
+    },
+];
+
 #[test]
-fn what_ended_is_gone(rt: HostRuntime) {
-    let mut hall = LockHall::new(rt.alloc());
-    assert_eq!(rt; differs_at(&mut hall, WHAT_ENDED_IS_GONE), None);
-    assert!(rt; hall.family().mutex(0).is_none());
-    gone(hall);
+fn scripts_of_locks(rt: HostRuntime) {
+    check_scripts::<LockHall, _>(&rt, SCRIPTS);
 }
 
 // Ends take no memory, and are refused for their causes alone.
 #[test]
 fn no_memory_is_taken(rt: HostRuntime) {
-    let mut hall = LockHall::new(rt.alloc());
+    let mut hall = LockHall::empty(rt.alloc());
     assert!(rt; answers(&mut hall, 0, &LockEvent::RwNew(3), Answer::Made));
     assert!(rt; answers(&mut hall, 1, &LockEvent::RwTryw(0), Answer::Held));
     assert_eq!(rt;
@@ -94,22 +93,5 @@ fn no_memory_is_taken(rt: HostRuntime) {
     assert_eq!(rt; refused(&mut hall, 3, &LockEvent::RwDown(1)), None);
     assert_eq!(rt; refused(&mut hall, 4, &LockEvent::RwEnd(1)), None);
     assert_eq!(rt; refused(&mut hall, 5, &LockEvent::RwInto(0)), None);
-    gone(hall);
-}
-
-// A lent core tells of a write.
-const A_WRITE: &[Row<'static, LockEvent>] = &[
-    (LockEvent::RwNew(8), Ok(Answer::Made), &[]),
-    (LockEvent::RwTryw(0), Ok(Answer::Held), &[]),
-];
-
-#[test]
-fn a_lent_lock_tells_of_a_write(rt: HostRuntime) {
-    let mut hall = LockHall::new(rt.alloc());
-    assert_eq!(rt; differs_at(&mut hall, A_WRITE), None);
-    assert_eq!(rt;
-        hall.family().rw_lock(0).map(|core| core.is_writing()),
-        Some(true)
-    );
     gone(hall);
 }

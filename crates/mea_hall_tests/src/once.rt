@@ -1,30 +1,16 @@
-use crate::play::{FamilyHall, Row, differs_at, gone, played};
+use crate::play::{Lends, Lent, Row, Script, check_scripts};
 use mea_family::{Answer, Stop};
-use mea_once::{OnceEvent, OnceHall};
+use mea_once::{OnceEvent, OnceFamily, OnceHall};
 
-impl FamilyHall for OnceHall {
-    ghost use Rattle.mea_once.specs.Halls.{TakesNoMemory};
-
-    type Event = OnceEvent;
-
-    ghost next = { λ h. h.next };
-
-    ghost IsFree = { λ event. TakesNoMemory event };
-
-    fn act(&mut self, number: u64, event: &OnceEvent) -> Result<Answer, Stop> {
-        OnceHall::act(self, number, event)
-    }
-
-    fn next_wake(&mut self) -> Option<u64> {
-        OnceHall::next_wake(self)
-    }
-
-    fn registered(&self) -> usize {
-        OnceHall::registered(self)
-    }
-
-    fn wakes_ready(&self) -> usize {
-        OnceHall::wakes_ready(self)
+// A call, a cell, a map, and a group.
+impl Lends for OnceFamily {
+    fn lent(&self, name: u64) -> Lent {
+        [
+            self.once(name).map(|_| 0),
+            self.cell(name).map(|_| 0),
+            self.map(name).map(|_| 0),
+            self.flight(name).map(|_| 0),
+        ]
     }
 }
 
@@ -52,14 +38,6 @@ const A_CALL_RUNS_ONCE: &[Row<'static, OnceEvent>] = &[
     (OnceEvent::OnDone(0), Err(Stop::Unknown), &[]),
 ];
 
-#[test]
-fn a_call_runs_once(rt: HostRuntime) {
-    let left = played(OnceHall::new(rt.alloc()), A_CALL_RUNS_ONCE);
-    assert_eq!(rt; left.differs_at, None);
-    assert_eq!(rt; left.registered, 0);
-    assert_eq!(rt; left.wakes_ready, 0);
-}
-
 // The turn goes to the next caller; the waker of a wait that ended stays, beside that which the next initialiser keeps.
 const AN_ENDED_CALL_PASSES_ITS_TURN_ON: &[Row<'static, OnceEvent>] = &[
     (OnceEvent::OnNew, Ok(Answer::Made), &[]),
@@ -74,14 +52,6 @@ const AN_ENDED_CALL_PASSES_ITS_TURN_ON: &[Row<'static, OnceEvent>] = &[
     (OnceEvent::OnEnd(3), Ok(Answer::Done), &[6]),
     (OnceEvent::OnPoll(5, 7), Ok(Answer::Pending), &[]),
 ];
-
-#[test]
-fn an_ended_call_passes_its_turn_on(rt: HostRuntime) {
-    let left = played(OnceHall::new(rt.alloc()), AN_ENDED_CALL_PASSES_ITS_TURN_ON);
-    assert_eq!(rt; left.differs_at, None);
-    assert_eq!(rt; left.registered, 2);
-    assert_eq!(rt; left.wakes_ready, 0);
-}
 
 // Where an initialiser fails the cell stays empty, and who puts a value in is next; a further one comes back.
 const A_CELL_IS_FILLED_ONCE: &[Row<'static, OnceEvent>] = &[
@@ -100,14 +70,6 @@ const A_CELL_IS_FILLED_ONCE: &[Row<'static, OnceEvent>] = &[
     (OnceEvent::OcGet(0), Err(Stop::Unknown), &[]),
 ];
 
-#[test]
-fn a_cell_is_filled_once(rt: HostRuntime) {
-    let left = played(OnceHall::new(rt.alloc()), A_CELL_IS_FILLED_ONCE);
-    assert_eq!(rt; left.differs_at, None);
-    assert_eq!(rt; left.registered, 0);
-    assert_eq!(rt; left.wakes_ready, 0);
-}
-
 // Each caller hands the turn to the next, who finds the value of the first.
 const A_VALUE_IS_SHARED: &[Row<'static, OnceEvent>] = &[
     (OnceEvent::OcNew, Ok(Answer::Made), &[]),
@@ -122,14 +84,6 @@ const A_VALUE_IS_SHARED: &[Row<'static, OnceEvent>] = &[
     (OnceEvent::OcPoll(3, 14), Ok(Answer::Value(7)), &[12]),
     (OnceEvent::OcPoll(5, 15), Ok(Answer::Value(7)), &[]),
 ];
-
-#[test]
-fn a_value_is_shared(rt: HostRuntime) {
-    let left = played(OnceHall::new(rt.alloc()), A_VALUE_IS_SHARED);
-    assert_eq!(rt; left.differs_at, None);
-    assert_eq!(rt; left.registered, 0);
-    assert_eq!(rt; left.wakes_ready, 0);
-}
 
 // Who uses a cell alone keeps others out of it; who has it whole reads and writes it where nobody has a future of it.
 const A_CELL_IS_USED_ALONE: &[Row<'static, OnceEvent>] = &[
@@ -154,14 +108,6 @@ const A_CELL_IS_USED_ALONE: &[Row<'static, OnceEvent>] = &[
     (OnceEvent::OcGet(17), Ok(Answer::Value(4)), &[]),
     (OnceEvent::OcDrop(17), Ok(Answer::Done), &[]),
 ];
-
-#[test]
-fn a_cell_is_used_alone(rt: HostRuntime) {
-    let left = played(OnceHall::new(rt.alloc()), A_CELL_IS_USED_ALONE);
-    assert_eq!(rt; left.differs_at, None);
-    assert_eq!(rt; left.registered, 0);
-    assert_eq!(rt; left.wakes_ready, 0);
-}
 
 // A key that was taken out is none of the map any more, and its callers go on; a key that has a value is not computed again.
 const A_MAP_COMPUTES_A_KEY_ONCE: &[Row<'static, OnceEvent>] = &[
@@ -190,14 +136,6 @@ const A_MAP_COMPUTES_A_KEY_ONCE: &[Row<'static, OnceEvent>] = &[
     (OnceEvent::OmDrop(0), Ok(Answer::Done), &[]),
 ];
 
-#[test]
-fn a_map_computes_a_key_once(rt: HostRuntime) {
-    let left = played(OnceHall::new(rt.alloc()), A_MAP_COMPUTES_A_KEY_ONCE);
-    assert_eq!(rt; left.differs_at, None);
-    assert_eq!(rt; left.registered, 0);
-    assert_eq!(rt; left.wakes_ready, 0);
-}
-
 // A key that was forgotten is computed anew beside those who share the value of the first; a group keeps no value.
 const A_GROUP_SHARES_WHAT_IS_COMPUTED: &[Row<'static, OnceEvent>] = &[
     (OnceEvent::SfNew, Ok(Answer::Made), &[]),
@@ -222,14 +160,6 @@ const A_GROUP_SHARES_WHAT_IS_COMPUTED: &[Row<'static, OnceEvent>] = &[
     (OnceEvent::SfDrop(0), Ok(Answer::Done), &[]),
 ];
 
-#[test]
-fn a_group_shares_what_is_computed(rt: HostRuntime) {
-    let left = played(OnceHall::new(rt.alloc()), A_GROUP_SHARES_WHAT_IS_COMPUTED);
-    assert_eq!(rt; left.differs_at, None);
-    assert_eq!(rt; left.registered, 0);
-    assert_eq!(rt; left.wakes_ready, 0);
-}
-
 // What lives is lent under its name, by its kind alone.
 const WHAT_LIVES_IS_LENT: &[Row<'static, OnceEvent>] = &[
     (OnceEvent::OnNew, Ok(Answer::Made), &[]),
@@ -239,13 +169,63 @@ const WHAT_LIVES_IS_LENT: &[Row<'static, OnceEvent>] = &[
     (OnceEvent::OcDrop(1), Ok(Answer::Done), &[]),
 ];
 
+const SCRIPTS: &[Script<'static, OnceEvent>] = &[
+    Script {
+        name: "a call runs once",
+        rows: A_CALL_RUNS_ONCE,
+        registered: 0,
+        lent: &[],
+    },
+    Script {
+        name: "an ended call passes its turn on",
+        rows: AN_ENDED_CALL_PASSES_ITS_TURN_ON,
+        registered: 2,
+        lent: &[],
+    },
+    Script {
+        name: "a cell is filled once",
+        rows: A_CELL_IS_FILLED_ONCE,
+        registered: 0,
+        lent: &[],
+    },
+    Script {
+        name: "a value is shared",
+        rows: A_VALUE_IS_SHARED,
+        registered: 0,
+        lent: &[],
+    },
+    Script {
+        name: "a cell is used alone",
+        rows: A_CELL_IS_USED_ALONE,
+        registered: 0,
+        lent: &[],
+    },
+    Script {
+        name: "a map computes a key once",
+        rows: A_MAP_COMPUTES_A_KEY_ONCE,
+        registered: 0,
+        lent: &[],
+    },
+    Script {
+        name: "a group shares what is computed",
+        rows: A_GROUP_SHARES_WHAT_IS_COMPUTED,
+        registered: 0,
+        lent: &[],
+    },
+    Script {
+        name: "what lives is lent",
+        rows: WHAT_LIVES_IS_LENT,
+        registered: 0,
+        lent: &[
+            (0, [Some(0), None, None, None]),
+            (1, [None; 4]),
+            (2, [None, None, Some(0), None]),
+            (3, [None, None, None, Some(0)]),
+        ],
+    },
+];
+
 #[test]
-fn what_lives_is_lent(rt: HostRuntime) {
-    let mut hall = OnceHall::new(rt.alloc());
-    assert_eq!(rt; differs_at(&mut hall, WHAT_LIVES_IS_LENT), None);
-    assert!(rt; hall.family().once(0).is_some());
-    assert!(rt; hall.family().cell(1).is_none());
-    assert!(rt; hall.family().map(2).is_some());
-    assert!(rt; hall.family().flight(3).is_some() && hall.family().flight(2).is_none());
-    gone(hall);
+fn scripts_of_once_types(rt: HostRuntime) {
+    check_scripts::<OnceHall, _>(&rt, SCRIPTS);
 }

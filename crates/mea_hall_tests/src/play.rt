@@ -1,10 +1,23 @@
-//! A script as a table, played on the hall of one family.
+//! Scripts as tables, played on the hall of one family.
 ghost use Rattle.std.specs.Prelude.{◌≡◌, ◌≢◌, ◌≤◌, ◌+◌};
 
 use mea_family::{Answer, Stop};
+use mea_family_hall::{Family, FamilyHall};
+use std::alloc::Global;
+use std::process::Abort;
+
+/// What is lent under a name: for each kind of objects that the family looks up, in an order of its own, a number that the
+/// core tells, or 0 where nothing is asked of it.
+pub(crate) type Lent = [Option<u64>; 4];
+
+/// The objects of a family, which lend their cores by name.
+pub(crate) trait Lends {
+    /// What is lent under this name.
+    fn lent(&self, name: u64) -> Lent;
+}
 
 /// The hall of a family, as a script is played on it.
-pub(crate) trait FamilyHall: Drop {
+pub(crate) trait Hall: Drop {
     type Event;
 
     ghost use Rattle.std.specs.Prelude.{ℕ};
@@ -12,6 +25,10 @@ pub(crate) trait FamilyHall: Drop {
     ghost next: { Self → ℕ };
     // Whether an event takes no memory.
     ghost IsFree: { Self.Event → Type 0 };
+
+    /// A hall with nothing in it.
+    fn empty(alloc: Global) -> Self
+        ensures { next result ≡ 0 };
 
     /// Plays an event.
     fn act(&mut self, number: u64, event: &Self::Event) -> Result<Answer, Stop>
@@ -28,13 +45,59 @@ pub(crate) trait FamilyHall: Drop {
 
     /// How many wakers are ready.
     fn wakes_ready(&self) -> usize;
+
+    /// What is lent under this name.
+    fn lent(&self, name: u64) -> Lent;
+}
+
+impl<F: Family<M> + Lends, M> Hall for FamilyHall<F, M> {
+    type Event = F::Event;
+
+    ghost next = { λ h. h.next };
+
+    ghost IsFree = { λ event. F.TakesNoMemory event };
+
+    fn empty(alloc: Global) -> Self {
+        FamilyHall::new(alloc)
+    }
+
+    fn act(&mut self, number: u64, event: &F::Event) -> Result<Answer, Stop> {
+        FamilyHall::act(self, number, event)
+    }
+
+    fn next_wake(&mut self) -> Option<u64> {
+        FamilyHall::next_wake(self)
+    }
+
+    fn registered(&self) -> usize {
+        FamilyHall::registered(self)
+    }
+
+    fn wakes_ready(&self) -> usize {
+        FamilyHall::wakes_ready(self)
+    }
+
+    fn lent(&self, name: u64) -> Lent {
+        self.family().lent(name)
+    }
 }
 
 /// An event, what it is answered, and the wakers that it makes ready.
 pub(crate) type Row<'a, E> = (E, Result<Answer, Stop>, &'a [u64]);
 
+/// A script, with what it leaves of a new hall.
+pub(crate) struct Script<'a, E> {
+    /// What is told of it where it differs.
+    pub(crate) name: &'a str,
+    pub(crate) rows: &'a [Row<'a, E>],
+    /// How many wakers are registered then. None is ready, since each row took those of its event.
+    pub(crate) registered: usize,
+    /// What is lent under some names.
+    pub(crate) lent: &'a [(u64, Lent)],
+}
+
 // Takes all wakers that are ready, and tells whether they are these.
-fn wakes<H: FamilyHall>(hall: &mut H, wakers: &[u64]) -> bool
+fn wakes<H: Hall>(hall: &mut H, wakers: &[u64]) -> bool
     ensures { H.next hall.new ≡ H.next hall.old }
 {
     for waker in wakers {
@@ -45,8 +108,8 @@ fn wakes<H: FamilyHall>(hall: &mut H, wakers: &[u64]) -> bool
     hall.next_wake().is_none()
 }
 
-/// The number of the first event of a new hall that is answered otherwise, or makes other wakers ready.
-pub(crate) fn differs_at<H: FamilyHall>(hall: &mut H, rows: &[Row<H::Event>]) -> Option<usize>
+// The number of the first event of a new hall that is answered otherwise, or makes other wakers ready.
+fn differs_at<H: Hall>(hall: &mut H, rows: &[Row<H::Event>]) -> Option<usize>
     requires { H.next hall.old ≡ 0 }
 {
     for (number, (event, answer, wakers)) in rows.iter().enumerate() {
@@ -57,22 +120,31 @@ pub(crate) fn differs_at<H: FamilyHall>(hall: &mut H, rows: &[Row<H::Event>]) ->
     None
 }
 
-/// What a script leaves: the number of the first event that differs, and how many wakers are registered and ready.
-#[derive(Drop)]
-pub(crate) struct Left {
-    pub(crate) differs_at: Option<usize>,
-    pub(crate) registered: usize,
-    pub(crate) wakes_ready: usize,
+// The first name under which something else is lent.
+fn lends_other<H: Hall>(hall: &H, lent: &[(u64, Lent)]) -> Option<u64> {
+    for (name, cores) in lent {
+        if hall.lent(*name) != *cores {
+            return Some(*name);
+        }
+    }
+    None
 }
 
-/// Plays a script on a new hall, which is let go.
-pub(crate) fn played<H: FamilyHall>(mut hall: H, rows: &[Row<H::Event>]) -> Left
+// Plays a script on a new hall, and compares what it leaves.
+fn check_script<H: Hall>(rt: &(impl Abort + AllocGlobal), mut hall: H, script: &Script<H::Event>)
     requires { H.next hall ≡ 0 }
 {
-    Left {
-        differs_at: differs_at(&mut hall, rows),
-        registered: hall.registered(),
-        wakes_ready: hall.wakes_ready(),
+    let name = script.name;
+    assert_eq!(rt; differs_at(&mut hall, script.rows), None, "{name}");
+    assert_eq!(rt; hall.registered(), script.registered, "{name}");
+    assert_eq!(rt; hall.wakes_ready(), 0, "{name}");
+    assert_eq!(rt; lends_other(&hall, script.lent), None, "{name}");
+}
+
+/// Plays each script on a hall of its own, and compares what it leaves.
+pub(crate) fn check_scripts<H: Hall, R: Abort + AllocGlobal>(rt: &R, scripts: &[Script<H::Event>]) {
+    for script in scripts {
+        check_script(rt, H::empty(rt.alloc()), script);
     }
 }
 
@@ -81,12 +153,7 @@ pub(crate) fn played<H: FamilyHall>(mut hall: H, rows: &[Row<H::Event>]) -> Left
 pub(crate) fn gone<H: Drop>(_hall: H) {}
 
 /// Plays an event, and tells whether it is answered so.
-pub(crate) fn answers<H: FamilyHall>(
-    hall: &mut H,
-    number: u64,
-    event: &H::Event,
-    answer: Answer,
-) -> bool
+pub(crate) fn answers<H: Hall>(hall: &mut H, number: u64, event: &H::Event, answer: Answer) -> bool
     requires { H.next hall.old ≤ number }
     ensures { H.next hall.new ≤ number + 1 }
 {
@@ -94,7 +161,7 @@ pub(crate) fn answers<H: FamilyHall>(
 }
 
 /// Plays an event that takes no memory: the cause for which it is refused, if it is, which want of memory never is.
-pub(crate) fn refused<H: FamilyHall>(hall: &mut H, number: u64, event: &H::Event) -> Option<Stop>
+pub(crate) fn refused<H: Hall>(hall: &mut H, number: u64, event: &H::Event) -> Option<Stop>
     requires next { H.next hall.old ≤ number }
     requires free { H.IsFree event.now }
     ensures { H.next hall.new ≤ number + 1 }

@@ -1,31 +1,13 @@
-use crate::play::{FamilyHall, Row, differs_at, gone, played};
+use crate::play::{Lends, Lent, Row, Script, check_scripts};
 use mea_events::ShareEvent;
 use mea_family::{Answer, Stop};
-use mea_share::ShareHall;
+use mea_share::{ShareHall, SharePart};
 
-impl FamilyHall for ShareHall {
-    ghost use Rattle.mea_share.specs.Halls.{TakesNoMemory};
-
-    type Event = ShareEvent;
-
-    ghost next = { λ h. h.next };
-
-    ghost IsFree = { λ event. TakesNoMemory event };
-
-    fn act(&mut self, number: u64, event: &ShareEvent) -> Result<Answer, Stop> {
-        ShareHall::act(self, number, event)
-    }
-
-    fn next_wake(&mut self) -> Option<u64> {
-        ShareHall::next_wake(self)
-    }
-
-    fn registered(&self) -> usize {
-        ShareHall::registered(self)
-    }
-
-    fn wakes_ready(&self) -> usize {
-        ShareHall::wakes_ready(self)
+// How many permits of an admission are free.
+impl Lends for SharePart {
+    fn lent(&self, name: u64) -> Lent {
+        let free = self.fair(name).map(|core| core.available_permits() as u64);
+        [free, None, None, None]
     }
 }
 
@@ -46,14 +28,6 @@ const THE_KEY_THAT_HOLDS_LEAST_IS_NEXT: &[Row<'static, ShareEvent>] = &[
     (ShareEvent::FsTry(0, 3), Ok(Answer::Lacking), &[]),
     (ShareEvent::FsFree(0), Ok(Answer::Free(0)), &[]),
 ];
-
-#[test]
-fn the_key_that_holds_least_is_next(rt: HostRuntime) {
-    let left = played(ShareHall::new(rt.alloc()), THE_KEY_THAT_HOLDS_LEAST_IS_NEXT);
-    assert_eq!(rt; left.differs_at, None);
-    assert_eq!(rt; left.registered, 1);
-    assert_eq!(rt; left.wakes_ready, 0);
-}
 
 // A key of weight 2 that holds one goes before one of weight 1 that holds one.
 const A_KEY_HAS_A_WEIGHT: &[Row<'static, ShareEvent>] = &[
@@ -77,14 +51,6 @@ const A_KEY_HAS_A_WEIGHT: &[Row<'static, ShareEvent>] = &[
     (ShareEvent::FsDrop(0), Err(Stop::Borrowed), &[]),
 ];
 
-#[test]
-fn a_key_has_a_weight(rt: HostRuntime) {
-    let left = played(ShareHall::new(rt.alloc()), A_KEY_HAS_A_WEIGHT);
-    assert_eq!(rt; left.differs_at, None);
-    assert_eq!(rt; left.registered, 0);
-    assert_eq!(rt; left.wakes_ready, 0);
-}
-
 // An owned permit and an owned future go on once the admission has no name; the last waker of the future counts.
 const OWNED_THINGS_OUTLIVE_THE_NAME: &[Row<'static, ShareEvent>] = &[
     (ShareEvent::FsNew(0), Err(Stop::Zero), &[]),
@@ -102,14 +68,6 @@ const OWNED_THINGS_OUTLIVE_THE_NAME: &[Row<'static, ShareEvent>] = &[
     (ShareEvent::FsEnd(9), Err(Stop::Unknown), &[]),
 ];
 
-#[test]
-fn owned_things_outlive_the_name(rt: HostRuntime) {
-    let left = played(ShareHall::new(rt.alloc()), OWNED_THINGS_OUTLIVE_THE_NAME);
-    assert_eq!(rt; left.differs_at, None);
-    assert_eq!(rt; left.registered, 0);
-    assert_eq!(rt; left.wakes_ready, 0);
-}
-
 // An admission that is named is lent.
 const WHAT_IS_NAMED_IS_LENT: &[Row<'static, ShareEvent>] = &[
     (ShareEvent::FsNew(2), Ok(Answer::Made), &[]),
@@ -118,14 +76,34 @@ const WHAT_IS_NAMED_IS_LENT: &[Row<'static, ShareEvent>] = &[
     (ShareEvent::FsDrop(2), Ok(Answer::Done), &[]),
 ];
 
+const SCRIPTS: &[Script<'static, ShareEvent>] = &[
+    Script {
+        name: "the key that holds least is next",
+        rows: THE_KEY_THAT_HOLDS_LEAST_IS_NEXT,
+        registered: 1,
+        lent: &[],
+    },
+    Script {
+        name: "a key has a weight",
+        rows: A_KEY_HAS_A_WEIGHT,
+        registered: 0,
+        lent: &[],
+    },
+    Script {
+        name: "owned things outlive the name",
+        rows: OWNED_THINGS_OUTLIVE_THE_NAME,
+        registered: 0,
+        lent: &[],
+    },
+    Script {
+        name: "what is named is lent",
+        rows: WHAT_IS_NAMED_IS_LENT,
+        registered: 0,
+        lent: &[(0, [Some(1), None, None, None]), (2, [None; 4])],
+    },
+];
+
 #[test]
-fn what_is_named_is_lent(rt: HostRuntime) {
-    let mut hall = ShareHall::new(rt.alloc());
-    assert_eq!(rt; differs_at(&mut hall, WHAT_IS_NAMED_IS_LENT), None);
-    assert_eq!(rt;
-        hall.family().fair(0).map(|core| core.available_permits()),
-        Some(1)
-    );
-    assert!(rt; hall.family().fair(2).is_none());
-    gone(hall);
+fn scripts_of_admission(rt: HostRuntime) {
+    check_scripts::<ShareHall, _>(&rt, SCRIPTS);
 }

@@ -1,5 +1,5 @@
-use crate::rows::{bytes_of, ran};
-use mea_run::{MemSink, MemSource, Status};
+use crate::rows::{Fails, bytes_of, played_until};
+use mea_run::Status;
 use std::process::Abort;
 
 /// A run of the program without a fault, with how often it reads and writes where a call moves 32 bytes at most.
@@ -45,21 +45,22 @@ fn status_of(call: u64, calls: u64, fault: Status) -> Status {
     if call < calls { fault } else { Status::Done }
 }
 
-// Plays a row, with these reads and these writes failing, and compares the status and what was written.
-fn check(
-    rt: &(impl Abort + AllocGlobal),
-    row: &Row,
-    reads: Vec<u64>,
-    writes: Vec<u64>,
-    status: Status,
-) {
+// Plays a row, with this read or this write failing, and compares the status and what was written.
+fn check(rt: &(impl Abort + AllocGlobal), row: &Row, fails: Fails, status: Status) {
     let text = bytes_of(rt, row.text);
-    let mut source = MemSource::new(bytes_of(rt, row.script), PIECE, reads);
-    let mut sink = MemSink::new(rt.alloc(), PIECE, writes);
-    assert!(rt; ran(rt, row.words, &mut source, &mut sink) == status);
-    assert!(rt; text.starts_with(sink.bytes()));
-    let is_whole = sink.bytes().len() == text.len();
+    let (told, written) = played_until(rt, row.words, row.script, (PIECE, PIECE), fails);
+    assert!(rt; told == status);
+    assert!(rt; text.starts_with(&written));
+    let is_whole = written.len() == text.len();
     assert!(rt; is_whole == (status == Status::Done));
+}
+
+// Plays a row with the read of this number failing, and with the write of this number failing.
+fn check_call(rt: &(impl Abort + AllocGlobal), row: &Row, call: u64) {
+    let status = status_of(call, row.reads, Status::ReadFault);
+    check(rt, row, (Some(call), None), status);
+    let status = status_of(call, row.writes, Status::WriteFault);
+    check(rt, row, (None, Some(call)), status);
 }
 
 // Each of the first 32 reads and of the first 32 writes fails once. A read that fails is never told as the end of the
@@ -68,14 +69,7 @@ fn check(
 fn fault_table(rt: HostRuntime) {
     for row in ROWS {
         for call in 0..32u64 {
-            let none = Vec::new(rt.alloc());
-            let fails = vec![in rt.alloc(); call].expect(&rt, "memory");
-            let status = status_of(call, row.reads, Status::ReadFault);
-            check(&rt, row, fails, none, status);
-            let none = Vec::new(rt.alloc());
-            let fails = vec![in rt.alloc(); call].expect(&rt, "memory");
-            let status = status_of(call, row.writes, Status::WriteFault);
-            check(&rt, row, none, fails, status);
+            check_call(&rt, row, call);
         }
     }
 }

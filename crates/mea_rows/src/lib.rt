@@ -33,11 +33,11 @@ mod once;
 #[cfg(test)]
 mod permits;
 #[cfg(test)]
-mod pieces;
-#[cfg(test)]
 mod refusals;
 #[cfg(test)]
 mod rows;
+#[cfg(test)]
+mod scripts;
 #[cfg(test)]
 mod stage_table;
 #[cfg(test)]

@@ -1,4 +1,4 @@
-use mea_run::{Sink, Source, Status, SureSink, SureSource, run};
+use mea_run::{MemSink, MemSource, Sink, Source, Status, SureSink, SureSource, run};
 use mea_script_tests as scripts;
 use mea_script_tests::Program;
 use std::alloc::Global;
@@ -40,24 +40,66 @@ pub(crate) fn ran<S: Source, K: Sink>(
     scripts::ran::<Play, S, K>(rt.alloc(), words, source, sink).expect(rt, "memory")
 }
 
-/// Plays each script, a few bytes at a time.
-pub(crate) fn check_rows(rt: &(impl Abort + AllocGlobal), rows: &[Row]) {
-    for row in rows {
-        let text = bytes_of(rt, row.text);
-        check(rt, bytes_of(rt, row.script), text.as_slice(), &row.status);
-    }
-}
-
-/// Plays one script, a few bytes at a time.
-pub(crate) fn check(
+/// Plays a script that comes and goes in pieces of so many bytes: how that ends, and what is written.
+pub(crate) fn played(
     rt: &(impl Abort + AllocGlobal),
     script: Vec<u8>,
-    text: &[u8],
+    pieces: (usize, usize),
+) -> (Status, Vec<u8>) {
+    let mut source = SureSource::new(script, pieces.0.max(1));
+    let mut sink = SureSink::new(rt.alloc(), pieces.1.max(1));
+    let status = ran(rt, &["play"], &mut source, &mut sink);
+    (status, copied(rt, sink.bytes()))
+}
+
+/// The number of a read that fails, and that of a write that does.
+pub(crate) type Fails = (Option<u64>, Option<u64>);
+
+/// The same with these words, where some call may fail.
+pub(crate) fn played_until(
+    rt: &(impl Abort + AllocGlobal),
+    words: &[&str],
+    script: &str,
+    pieces: (usize, usize),
+    fails: Fails,
+) -> (Status, Vec<u8>) {
+    let script = bytes_of(rt, script);
+    let mut source = MemSource::new(script, pieces.0.max(1), calls(rt, fails.0));
+    let mut sink = MemSink::new(rt.alloc(), pieces.1.max(1), calls(rt, fails.1));
+    let status = ran(rt, words, &mut source, &mut sink);
+    (status, copied(rt, sink.bytes()))
+}
+
+// The calls that fail: this one, or none.
+fn calls(rt: &(impl Abort + AllocGlobal), call: Option<u64>) -> Vec<u64> {
+    let mut calls = Vec::new(rt.alloc());
+    if let Some(call) = call {
+        calls.push(call).expect(rt, "memory");
+    }
+    calls
+}
+
+fn copied(rt: &(impl Abort + AllocGlobal), bytes: &[u8]) -> Vec<u8> {
+    Vec::from_slice(rt.alloc(), bytes).expect(rt, "memory")
+}
+
+/// Plays a script, a few bytes at a time, and compares its text and how it ends.
+pub(crate) fn check(
+    rt: &(impl Abort + AllocGlobal),
+    name: &str,
+    script: &str,
+    text: &str,
     status: &Status,
 ) {
-    let mut source = SureSource::new(script, 5);
-    let mut sink = SureSink::new(rt.alloc(), 3);
-    let told = ran(rt, &["play"], &mut source, &mut sink);
-    assert_eq!(rt; sink.bytes(), text);
-    assert!(rt; told == *status);
+    let text = bytes_of(rt, text);
+    let (told, written) = played(rt, bytes_of(rt, script), (5, 3));
+    assert_eq!(rt; written.as_slice(), text.as_slice(), "{name}");
+    assert!(rt; told == *status, "{name}");
+}
+
+/// Plays each script of a table.
+pub(crate) fn check_rows(rt: &(impl Abort + AllocGlobal), name: &str, rows: &[Row]) {
+    for row in rows {
+        check(rt, name, row.script, row.text, &row.status);
+    }
 }

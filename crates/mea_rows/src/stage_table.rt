@@ -1,4 +1,4 @@
-use crate::rows::{bytes_of, check};
+use crate::rows::check;
 use mea_run::Status;
 
 // A script for each kind of wait, with its text. One wait is ended when it is new, one when it is pending, one when it
@@ -174,7 +174,6 @@ const ROWS: &[(&str, &str)] = &[
 #[test]
 fn stage_table(rt: HostRuntime) {
     for (script, text) in ROWS {
-        let text = bytes_of(&rt, text);
-        check(&rt, bytes_of(&rt, script), text.as_slice(), &Status::Done);
+        check(&rt, "a wait in each stage", script, text, &Status::Done);
     }
 }

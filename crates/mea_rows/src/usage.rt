@@ -13,12 +13,18 @@ fn check_refused(rt: &(impl Abort + AllocGlobal), words: &[&str]) {
     assert_eq!(rt; sink.bytes(), text.as_slice());
 }
 
+const OTHER_WORDS: &[&[&str]] = &[
+    &[],
+    &["play", "x"],
+    &["make", "1"],
+    &["make", "1", "300001"],
+    &["make", "01", "1"],
+    &["--help"],
+];
+
 #[test]
 fn other_words_are_refused(rt: HostRuntime) {
-    check_refused(&rt, &[]);
-    check_refused(&rt, &["play", "x"]);
-    check_refused(&rt, &["make", "1"]);
-    check_refused(&rt, &["make", "1", "300001"]);
-    check_refused(&rt, &["make", "01", "1"]);
-    check_refused(&rt, &["--help"]);
+    for words in OTHER_WORDS {
+        check_refused(&rt, words);
+    }
 }
