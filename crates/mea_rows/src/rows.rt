@@ -97,9 +97,16 @@ pub(crate) fn check(
     assert!(rt; told == *status, "{name}");
 }
 
-/// Plays each script of a table.
-pub(crate) fn check_rows(rt: &(impl Abort + AllocGlobal), name: &str, rows: &[Row]) {
+// Plays each script of a table.
+fn check_rows(rt: &(impl Abort + AllocGlobal), name: &str, rows: &[Row]) {
     for row in rows {
         check(rt, name, row.script, row.text, &row.status);
+    }
+}
+
+/// Plays each script of each table, which has a name. A test hands its tables over, and goes through none of their rows itself.
+pub(crate) fn check_tables(rt: &(impl Abort + AllocGlobal), tables: &[(&str, &[Row])]) {
+    for (name, rows) in tables {
+        check_rows(rt, name, rows);
     }
 }

@@ -1,4 +1,4 @@
-use crate::rows::{Row, check_rows};
+use crate::rows::{Row, check_tables};
 use crate::{
     admission, broadcast, channels, condvars, examples, locks, maps, meeting_points, mixed, once,
     permits, refusals, waiting,
@@ -31,7 +31,5 @@ const TABLES: &[(&str, &[Row])] = &[
 
 #[test]
 fn scripts(rt: HostRuntime) {
-    for (name, rows) in TABLES {
-        check_rows(&rt, name, rows);
-    }
+    check_tables(&rt, TABLES);
 }
