@@ -175,7 +175,7 @@ const ROWS: &[(&str, &str)] = &[
 // Plays each script to its end.
 fn check_stages(rt: &(impl Abort + AllocGlobal), rows: &[(&str, &str)]) {
     for (script, text) in rows {
-        check(rt, "a wait in each stage", script, text, &Status::Done);
+        check(rt, script, text, &Status::Done);
     }
 }
 
