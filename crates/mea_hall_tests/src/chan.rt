@@ -1,4 +1,4 @@
-use crate::play::{Lends, Lent, Row, Script, check_scripts};
+use crate::play::{Lends, Lent, NOTHING, Row, Script, check_scripts};
 use mea_chan::{ChanEvent, ChanFamily, ChanHall};
 use mea_family::Answer;
 
@@ -59,9 +59,9 @@ const SCRIPTS: &[Script<'static, ChanEvent>] = &[Script {
     rows: AMPLE,
     registered: 2,
     lent: &[
-        (0, [Some(0), None, None, None]),
-        (21, [None, Some(2), Some(2), None]),
-        (22, [None; 4]),
+        (0, &[Some(0), None, None, None]),
+        (21, &[None, Some(2), Some(2), None]),
+        (22, NOTHING),
     ],
 }];
 

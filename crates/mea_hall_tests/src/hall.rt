@@ -192,11 +192,15 @@ fn check(rt: &(impl Abort + AllocGlobal), script: &Replay) {
     assert_eq!(rt; left.lent, script.left.lent, "{name}");
 }
 
+fn check_all(rt: &(impl Abort + AllocGlobal), scripts: &[Replay]) {
+    for script in scripts {
+        check(rt, script);
+    }
+}
+
 #[test]
 fn replays(rt: HostRuntime) {
-    for script in REPLAYS {
-        check(&rt, script);
-    }
+    check_all(&rt, REPLAYS);
 }
 
 // The same: replies and texts.

@@ -1,4 +1,4 @@
-use crate::play::{Hall, Lends, Lent, Row, Script, answers, check_scripts, gone, refused};
+use crate::play::{Hall, Lends, Lent, NOTHING, Row, Script, answers, check_scripts, gone, refused};
 use mea_family::{Answer, Stop};
 use mea_lock::{LockEvent, LockFamily, LockHall};
 
@@ -57,21 +57,21 @@ const SCRIPTS: &[Script<'static, LockEvent>] = &[
         rows: AMPLE,
         registered: 0,
         lent: &[
-            (0, [Some(0), None, None, None]),
-            (5, [None, Some(1), Some(0), None]),
+            (0, &[Some(0), None, None, None]),
+            (5, &[None, Some(1), Some(0), None]),
         ],
     },
     Script {
         name: "what ended is gone",
         rows: WHAT_ENDED_IS_GONE,
         registered: 0,
-        lent: &[(0, [None; 4])],
+        lent: &[(0, NOTHING)],
     },
     Script {
         name: "a lent lock tells of a write",
         rows: A_WRITE,
         registered: 0,
-        lent: &[(0, [None, Some(0), Some(1), None])],
+        lent: &[(0, &[None, Some(0), Some(1), None])],
     },
 ];
 

@@ -1,4 +1,4 @@
-use crate::play::{Hall, Lends, Lent, Row, Script, answers, check_scripts, gone, refused};
+use crate::play::{Hall, Lends, Lent, NOTHING, Row, Script, answers, check_scripts, gone, refused};
 use mea_family::{Answer, Stop};
 use mea_meet::{MeetEvent, MeetFamily, MeetHall};
 
@@ -72,22 +72,17 @@ const SCRIPTS: &[Script<'static, MeetEvent>] = &[
         rows: AMPLE,
         registered: 5,
         lent: &[
-            (0, [Some(0), None, None, None]),
-            (3, [None, Some(1), None, None]),
-            (6, [None, None, Some(0), None]),
-            (11, [None, None, None, Some(0)]),
+            (0, &[Some(0), None, None, None]),
+            (3, &[None, Some(1), None, None]),
+            (6, &[None, None, Some(0), None]),
+            (11, &[None, None, None, Some(0)]),
         ],
     },
     Script {
         name: "what ended is gone",
         rows: WHAT_ENDED_IS_GONE,
         registered: 1,
-        lent: &[
-            (0, [None; 4]),
-            (2, [None; 4]),
-            (6, [None; 4]),
-            (9, [None; 4]),
-        ],
+        lent: &[(0, NOTHING), (2, NOTHING), (6, NOTHING), (9, NOTHING)],
     },
     Script {
         name: "an ended future leaves its waker",

@@ -1,4 +1,4 @@
-use crate::play::{Lends, Lent, Row, Script, check_scripts};
+use crate::play::{Lends, Lent, NOTHING, Row, Script, check_scripts};
 use mea_family::{Answer, Stop};
 use mea_once::{OnceEvent, OnceFamily, OnceHall};
 
@@ -217,10 +217,10 @@ const SCRIPTS: &[Script<'static, OnceEvent>] = &[
         rows: WHAT_LIVES_IS_LENT,
         registered: 0,
         lent: &[
-            (0, [Some(0), None, None, None]),
-            (1, [None; 4]),
-            (2, [None, None, Some(0), None]),
-            (3, [None, None, None, Some(0)]),
+            (0, &[Some(0), None, None, None]),
+            (1, NOTHING),
+            (2, &[None, None, Some(0), None]),
+            (3, &[None, None, None, Some(0)]),
         ],
     },
 ];

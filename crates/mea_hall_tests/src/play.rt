@@ -10,6 +10,9 @@ use std::process::Abort;
 /// core tells, or 0 where nothing is asked of it.
 pub(crate) type Lent = [Option<u64>; 4];
 
+/// What is lent under a name of nothing.
+pub(crate) const NOTHING: &[Option<u64>] = &[None; 4];
+
 /// The objects of a family, which lend their cores by name.
 pub(crate) trait Lends {
     /// What is lent under this name.
@@ -93,7 +96,7 @@ pub(crate) struct Script<'a, E> {
     /// How many wakers are registered then. None is ready, since each row took those of its event.
     pub(crate) registered: usize,
     /// What is lent under some names.
-    pub(crate) lent: &'a [(u64, Lent)],
+    pub(crate) lent: &'a [(u64, &'a [Option<u64>])],
 }
 
 // Takes all wakers that are ready, and tells whether they are these.
@@ -121,9 +124,9 @@ fn differs_at<H: Hall>(hall: &mut H, rows: &[Row<H::Event>]) -> Option<usize>
 }
 
 // The first name under which something else is lent.
-fn lends_other<H: Hall>(hall: &H, lent: &[(u64, Lent)]) -> Option<u64> {
+fn lends_other<H: Hall>(hall: &H, lent: &[(u64, &[Option<u64>])]) -> Option<u64> {
     for (name, cores) in lent {
-        if hall.lent(*name) != *cores {
+        if hall.lent(*name).as_slice() != *cores {
             return Some(*name);
         }
     }

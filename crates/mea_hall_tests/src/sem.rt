@@ -1,4 +1,4 @@
-use crate::play::{Hall, Lent, Row, Script, answers, check_scripts, gone, refused};
+use crate::play::{Hall, Lent, NOTHING, Row, Script, answers, check_scripts, gone, refused};
 use mea_family::{Answer, Ledger, Stop};
 use mea_sem::{SemEvent, SemHall};
 use std::alloc::Global;
@@ -221,7 +221,7 @@ const SCRIPTS: &[Script<'static, SemEvent>] = &[
         name: "a pool of two",
         rows: A_POOL_OF_TWO,
         registered: 0,
-        lent: &[(0, [Some(2), None, None, None])],
+        lent: &[(0, &[Some(2), None, None, None])],
     },
     Script {
         name: "part payment",
@@ -239,7 +239,7 @@ const SCRIPTS: &[Script<'static, SemEvent>] = &[
         name: "refusals",
         rows: REFUSALS,
         registered: 0,
-        lent: &[(0, [None; 4])],
+        lent: &[(0, NOTHING)],
     },
     Script {
         name: "a forgetting future",

@@ -1,4 +1,4 @@
-use crate::play::{Lends, Lent, Row, Script, check_scripts};
+use crate::play::{Lends, Lent, NOTHING, Row, Script, check_scripts};
 use mea_events::ShareEvent;
 use mea_family::{Answer, Stop};
 use mea_share::{ShareHall, SharePart};
@@ -99,7 +99,7 @@ const SCRIPTS: &[Script<'static, ShareEvent>] = &[
         name: "what is named is lent",
         rows: WHAT_IS_NAMED_IS_LENT,
         registered: 0,
-        lent: &[(0, [Some(1), None, None, None]), (2, [None; 4])],
+        lent: &[(0, &[Some(1), None, None, None]), (2, NOTHING)],
     },
 ];
 

@@ -1,8 +1,8 @@
-use crate::rows::Row;
+use crate::rows::{Row, check_rows};
 use mea_family::Stop;
 use mea_run::Status;
 
-pub(crate) const ROWS: &[Row] = &[
+const ROWS: &[Row] = &[
     // The key that holds less goes first, though it waits shorter.
     Row {
         script: "fs.new 2/fs.try 0 1/fs.try 0 1/fs.acq 0 1/fs.poll 3 10/fs.acq 0 2/fs.poll 5 11/fs.end 1/fs.poll 5 12/fs.poll 3 13",
@@ -82,3 +82,8 @@ pub(crate) const ROWS: &[Row] = &[
         },
     },
 ];
+
+#[test]
+fn admission(rt: HostRuntime) {
+    check_rows(&rt, ROWS);
+}

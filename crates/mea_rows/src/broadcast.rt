@@ -1,8 +1,8 @@
-use crate::rows::Row;
+use crate::rows::{Row, check_rows};
 use mea_family::Stop;
 use mea_run::Status;
 
-pub(crate) const ROWS: &[Row] = &[
+const ROWS: &[Row] = &[
     // Who is behind what is kept is told by how many, and goes on at the oldest.
     Row {
         script: "bc.new 2/bc.send 0 1/bc.send 0 2/bc.send 0 3/bc.send 0 4/bc.try 0/bc.try 0/bc.try 0/bc.try 0/bc.ends 0/bc.try 0",
@@ -89,3 +89,8 @@ pub(crate) const ROWS: &[Row] = &[
         },
     },
 ];
+
+#[test]
+fn broadcast(rt: HostRuntime) {
+    check_rows(&rt, ROWS);
+}

@@ -1,8 +1,8 @@
-use crate::rows::Row;
+use crate::rows::{Row, check_rows};
 use mea_family::Stop;
 use mea_run::Status;
 
-pub(crate) const ROWS: &[Row] = &[
+const ROWS: &[Row] = &[
     // A oneshot's receiver becomes a future, which stays when it has its message; a send to nobody comes back.
     Row {
         script: "os.new/os.into 0/os.poll 1 5/os.send 0 6/os.poll 1 7/os.poll 1 8/os.new/os.endr 6/os.send 6 3",
@@ -113,3 +113,8 @@ pub(crate) const ROWS: &[Row] = &[
         },
     },
 ];
+
+#[test]
+fn channels(rt: HostRuntime) {
+    check_rows(&rt, ROWS);
+}

@@ -1,8 +1,8 @@
-use crate::rows::Row;
+use crate::rows::{Row, check_rows};
 use mea_family::Stop;
 use mea_run::Status;
 
-pub(crate) const ROWS: &[Row] = &[
+const ROWS: &[Row] = &[
     // A wait that was notified by one and is ended while it asks for the lock passes that on.
     Row {
         script: "mx.new 0/cv.new/mx.try 0/cv.wait 1 2/cv.poll 3 10/mx.try 0/cv.wait 1 5/cv.poll 6 11/mx.try 0/cv.one 1/cv.poll 3 12/cv.end 3/mx.end 8/cv.poll 6 13/cv.one 1",
@@ -110,3 +110,8 @@ pub(crate) const ROWS: &[Row] = &[
         },
     },
 ];
+
+#[test]
+fn scripts_of_condition_variables(rt: HostRuntime) {
+    check_rows(&rt, ROWS);
+}

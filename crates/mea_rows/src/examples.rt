@@ -1,8 +1,8 @@
-use crate::rows::Row;
+use crate::rows::{Row, check_rows};
 use mea_run::Status;
 
 // The scripts of the folder examples/ with their texts.
-pub(crate) const EXAMPLES: &[Row] = &[
+const EXAMPLES: &[Row] = &[
     // A waiter is cancelled, and what it was paid goes to the next.
     Row {
         script: "new 3/acq 0 5/poll 1 10/acq 0 2/poll 3 11/release 0 1/end 1/free 0/poll 3 12/ledger 0",
@@ -34,3 +34,8 @@ pub(crate) const EXAMPLES: &[Row] = &[
         status: Status::Done,
     },
 ];
+
+#[test]
+fn examples(rt: HostRuntime) {
+    check_rows(&rt, EXAMPLES);
+}

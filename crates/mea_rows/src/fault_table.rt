@@ -63,13 +63,18 @@ fn check_call(rt: &(impl Abort + AllocGlobal), row: &Row, call: u64) {
     check(rt, row, (None, Some(call)), status);
 }
 
+// Plays a row with each of the first 32 reads failing once, and with each of the first 32 writes.
+fn check_calls(rt: &(impl Abort + AllocGlobal), row: &Row) {
+    for call in 0..32u64 {
+        check_call(rt, row, call);
+    }
+}
+
 // Each of the first 32 reads and of the first 32 writes fails once. A read that fails is never told as the end of the
 // input, and what was written is a front of the text.
 #[test]
 fn fault_table(rt: HostRuntime) {
     for row in ROWS {
-        for call in 0..32u64 {
-            check_call(&rt, row, call);
-        }
+        check_calls(&rt, row);
     }
 }

@@ -97,9 +97,13 @@ fn check(rt: &(impl Abort + AllocGlobal), row: &Row) {
     assert!(rt; written.len() == row.written);
 }
 
+fn check_rows(rt: &(impl Abort + AllocGlobal), rows: &[Row]) {
+    for row in rows {
+        check(rt, row);
+    }
+}
+
 #[test]
 fn calls_fail(rt: HostRuntime) {
-    for row in ROWS {
-        check(&rt, row);
-    }
+    check_rows(&rt, ROWS);
 }

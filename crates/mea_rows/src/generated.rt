@@ -34,11 +34,15 @@ fn check_summary(rt: &(impl Abort + AllocGlobal), seed: &str, rounds: &str, text
     assert_eq!(rt; sink.bytes(), text.as_slice());
 }
 
+fn check_summaries(rt: &(impl Abort + AllocGlobal), summaries: &[(&str, &str, &str)]) {
+    for (seed, rounds, text) in summaries {
+        check_summary(rt, seed, rounds, text);
+    }
+}
+
 #[test]
 fn generated_scripts_are_summarized(rt: HostRuntime) {
-    for (seed, rounds, text) in SUMMARIES {
-        check_summary(&rt, seed, rounds, text);
-    }
+    check_summaries(&rt, SUMMARIES);
 }
 
 const EVENTS: &[Event] = &[

@@ -37,8 +37,6 @@ mod refusals;
 #[cfg(test)]
 mod rows;
 #[cfg(test)]
-mod scripts;
-#[cfg(test)]
 mod stage_table;
 #[cfg(test)]
 mod usage;

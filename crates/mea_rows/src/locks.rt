@@ -1,8 +1,8 @@
-use crate::rows::Row;
+use crate::rows::{Row, check_rows};
 use mea_family::Stop;
 use mea_run::Status;
 
-pub(crate) const ROWS: &[Row] = &[
+const ROWS: &[Row] = &[
     // A write takes what is free as part payment, and becomes a read; a lock of no reader is none.
     Row {
         script: "rw.max 7 2/rw.tryr 0/rw.write 0/rw.poll 2 5/rw.tryr 0/rw.end 1/rw.poll 2 6/rw.set 6 9/rw.down 6/rw.tryr 0/rw.get 9/rw.max 0 0",
@@ -77,9 +77,14 @@ pub(crate) const ROWS: &[Row] = &[
     },
 ];
 
+#[test]
+fn locks(rt: HostRuntime) {
+    check_rows(&rt, ROWS);
+}
+
 // Each future is ended when it is new, when it is pending, when it could be ready, and after two polls with
 // different wakers.
-pub(crate) const ENDED: &[Row] = &[
+const ENDED: &[Row] = &[
     Row {
         script: "mx.new 5/mx.try 0/mx.lock 0/mx.end 2/mx.end 1/mx.peek 0",
         text: "made/some/made/done/done/value 5/done 6",
@@ -121,3 +126,8 @@ pub(crate) const ENDED: &[Row] = &[
         status: Status::Done,
     },
 ];
+
+#[test]
+fn ended_lock_futures(rt: HostRuntime) {
+    check_rows(&rt, ENDED);
+}

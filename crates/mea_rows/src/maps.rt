@@ -1,8 +1,8 @@
-use crate::rows::Row;
+use crate::rows::{Row, check_rows};
 use mea_family::Stop;
 use mea_run::Status;
 
-pub(crate) const ROWS: &[Row] = &[
+const ROWS: &[Row] = &[
     // An entry that is taken out stays for its callers.
     Row {
         script: "om.new/om.compute 0 5/om.poll 1 30/om.compute 0 5/om.poll 3 31/om.remove 0 5/om.settle 1 77/om.poll 1 32/om.poll 3 33/om.get 0 5",
@@ -97,3 +97,8 @@ pub(crate) const ROWS: &[Row] = &[
         status: Status::Done,
     },
 ];
+
+#[test]
+fn maps_and_groups(rt: HostRuntime) {
+    check_rows(&rt, ROWS);
+}

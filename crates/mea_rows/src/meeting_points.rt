@@ -1,8 +1,8 @@
-use crate::rows::Row;
+use crate::rows::{Row, check_rows};
 use mea_family::Stop;
 use mea_run::Status;
 
-pub(crate) const ROWS: &[Row] = &[
+const ROWS: &[Row] = &[
     // The last arrival of a round leads and wakes the others; a barrier of 0 counts as one of 1.
     Row {
         script: "bar.new 2/bar.wait 0/bar.poll 1 5/bar.end 1/bar.wait 0/bar.poll 4 6/bar.new 0/bar.wait 6/bar.poll 7 8",
@@ -50,9 +50,14 @@ pub(crate) const ROWS: &[Row] = &[
     },
 ];
 
+#[test]
+fn meeting_points(rt: HostRuntime) {
+    check_rows(&rt, ROWS);
+}
+
 // Each future is ended when it is new, when it is pending, when it could be ready, and after two polls with
 // different wakers.
-pub(crate) const ENDS: &[Row] = &[
+const ENDS: &[Row] = &[
     Row {
         script: "bar.new 2/bar.wait 0/bar.end 1/bar.wait 0/bar.poll 3 5/bar.end 3/bar.wait 0/bar.poll 6 6/bar.wait 0/bar.poll 8 7/bar.poll 8 8/bar.wait 0/bar.poll 11 9/bar.end 8/bar.end 8",
         text: "made/made/done/made/pending/done/made/leader wake 5/made/pending/pending/made/leader wake 8/done/stop 14 unknown",
@@ -87,9 +92,14 @@ pub(crate) const ENDS: &[Row] = &[
     },
 ];
 
+#[test]
+fn ends(rt: HostRuntime) {
+    check_rows(&rt, ENDS);
+}
+
 // Why lines are refused: what is borrowed by a plain future, a watch that is no receiver, a count that does
 // not fit.
-pub(crate) const REFUSALS: &[Row] = &[
+const REFUSALS: &[Row] = &[
     Row {
         script: "bar.new 2/bar.wait 0/bar.drop 0",
         text: "made/made/stop 2 borrowed",
@@ -154,3 +164,8 @@ pub(crate) const REFUSALS: &[Row] = &[
         status: Status::BadLine { at: 0 },
     },
 ];
+
+#[test]
+fn meeting_point_refusals(rt: HostRuntime) {
+    check_rows(&rt, REFUSALS);
+}

@@ -1,9 +1,9 @@
-use crate::rows::Row;
+use crate::rows::{Row, check_rows};
 use mea_family::Stop;
 use mea_run::Status;
 
 // The texts are those of a driver over the real crate.
-pub(crate) const ROWS: &[Row] = &[
+const ROWS: &[Row] = &[
     // Somebody waits at each kind of primitive, all are woken in turn, and then each is ready.
     Row {
         script: "new 0/acq 0 1/poll 1 10/bar.new 2/bar.wait 3/bar.poll 4 11/lat.new 1/lat.wait 6/lat.poll 7 12/wg.new/wg.clone 9/wg.into 10/wg.poll 11 13/sd.new/sd.is 13/sd.poll 14 14/mx.new 5/mx.tryo 16/mx.lock 16/mx.poll 18 15/rw.new 6/rw.trywo 20/rw.read 20/rw.poll 22 16/cv.new/mx.new 7/mx.try 25/cv.wait 24 26/cv.poll 27 17/mb.new 1/mb.recv 29 18/mu.new/mu.recv 31 19/os.new/os.into 33/os.poll 34 20/bc.new 2/bc.recv 36/bc.poll 37 21/fs.new 1/fs.tryo 39 1/fs.acq 39 2/fs.poll 41 22/on.new/on.wait 43/on.poll 44 23/oc.new/oc.init 46/oc.poll 47 24/om.new/om.compute 49 5/om.poll 50 25/sf.new/sf.work 52 5/sf.poll 53 26/release 0 1/bar.wait 3/bar.poll 56 30/lat.down 6/wg.end 9/sd.signal 13/mx.end 17/rw.end 21/cv.one 24/mb.try 29 1/mu.send 31 2/os.send 33 3/bc.send 36 4/fs.end 40/on.call 43/on.settle 69/on.poll 69 31/oc.settle 47 8/om.settle 50 9/sf.settle 53 7/poll 1 40/bar.poll 4 41/lat.poll 7 42/wg.poll 11 43/sd.poll 14 44/mx.poll 18 45/rw.poll 22 46/cv.poll 27 47/mb.recv 29 48/mu.recv 31 49/os.poll 34 50/bc.poll 37 51/fs.poll 41 52/on.poll 44 53/oc.poll 47 54/om.poll 50 55/sf.poll 53 56",
@@ -20,3 +20,8 @@ pub(crate) const ROWS: &[Row] = &[
         },
     },
 ];
+
+#[test]
+fn all_families_in_one_script(rt: HostRuntime) {
+    check_rows(&rt, ROWS);
+}

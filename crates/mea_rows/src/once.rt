@@ -1,8 +1,8 @@
-use crate::rows::Row;
+use crate::rows::{Row, check_rows};
 use mea_family::Stop;
 use mea_run::Status;
 
-pub(crate) const ROWS: &[Row] = &[
+const ROWS: &[Row] = &[
     // The waits are woken in the order of their polls, then the next caller; who polls then finds it complete.
     Row {
         script: "on.new/on.done 0/on.call 0/on.wait 0/on.wait 0/on.poll 2 10/on.poll 4 20/on.poll 3 21/on.call 0/on.poll 8 30/on.settle 2/on.poll 2 11/on.done 0/on.poll 3 22/on.poll 8 31/on.end 4/on.settle 2",
@@ -136,9 +136,14 @@ pub(crate) const ROWS: &[Row] = &[
     },
 ];
 
+#[test]
+fn once_lines(rt: HostRuntime) {
+    check_rows(&rt, ROWS);
+}
+
 // Each future is ended when it is new, when it is pending, when it could be ready, and after two polls with
 // different wakers.
-pub(crate) const ENDED: &[Row] = &[
+const ENDED: &[Row] = &[
     Row {
         script: "on.new/on.call 0/on.end 1/on.poll 1 3",
         text: "made/made/done/stop 3 unknown",
@@ -214,3 +219,8 @@ pub(crate) const ENDED: &[Row] = &[
         status: Status::Done,
     },
 ];
+
+#[test]
+fn ended_once_futures(rt: HostRuntime) {
+    check_rows(&rt, ENDED);
+}

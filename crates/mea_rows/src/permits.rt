@@ -1,7 +1,7 @@
-use crate::rows::Row;
+use crate::rows::{Row, check_rows};
 use mea_run::Status;
 
-pub(crate) const ROWS: &[Row] = &[
+const ROWS: &[Row] = &[
     // A permit that is lost is gone.
     Row {
         script: "new 1/try 0 1/free 0/lose 1/free 0/try 0 1/ledger 0",
@@ -28,7 +28,7 @@ pub(crate) const ROWS: &[Row] = &[
     },
 ];
 
-pub(crate) const DEBTS: &[Row] = &[
+const DEBTS: &[Row] = &[
     // A debt is paid before all waiters.
     Row {
         script: "new 5/forgetx 0 3/acq 0 3/poll 2 7/forgetx 0 2/release 0 2/release 0 1/poll 2 8/end 7/free 0/ledger 0",
@@ -36,3 +36,13 @@ pub(crate) const DEBTS: &[Row] = &[
         status: Status::Done,
     },
 ];
+
+#[test]
+fn permits_are_counted(rt: HostRuntime) {
+    check_rows(&rt, ROWS);
+}
+
+#[test]
+fn debts_come_first(rt: HostRuntime) {
+    check_rows(&rt, DEBTS);
+}

@@ -1,8 +1,8 @@
-use crate::rows::Row;
+use crate::rows::{Row, check_rows};
 use mea_family::Stop;
 use mea_run::Status;
 
-pub(crate) const CAUSES: &[Row] = &[
+const CAUSES: &[Row] = &[
     // Too many permits.
     Row {
         script: "new 18446744073709551615/release 0 1",
@@ -95,7 +95,7 @@ pub(crate) const CAUSES: &[Row] = &[
     },
 ];
 
-pub(crate) const LINES: &[Row] = &[
+const LINES: &[Row] = &[
     // A leading zero.
     Row {
         script: "new 01",
@@ -172,3 +172,13 @@ pub(crate) const LINES: &[Row] = &[
         },
     },
 ];
+
+#[test]
+fn events_are_refused_for_their_causes(rt: HostRuntime) {
+    check_rows(&rt, CAUSES);
+}
+
+#[test]
+fn lines_have_one_spelling(rt: HostRuntime) {
+    check_rows(&rt, LINES);
+}

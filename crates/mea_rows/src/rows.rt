@@ -84,22 +84,16 @@ fn copied(rt: &(impl Abort + AllocGlobal), bytes: &[u8]) -> Vec<u8> {
 }
 
 /// Plays a script, a few bytes at a time, and compares its text and how it ends.
-pub(crate) fn check(
-    rt: &(impl Abort + AllocGlobal),
-    name: &str,
-    script: &str,
-    text: &str,
-    status: &Status,
-) {
+pub(crate) fn check(rt: &(impl Abort + AllocGlobal), script: &str, text: &str, status: &Status) {
     let text = bytes_of(rt, text);
     let (told, written) = played(rt, bytes_of(rt, script), (5, 3));
-    assert_eq!(rt; written.as_slice(), text.as_slice(), "{name}");
-    assert!(rt; told == *status, "{name}");
+    assert_eq!(rt; written.as_slice(), text.as_slice(), "{script}");
+    assert!(rt; told == *status, "{script}");
 }
 
-/// Plays each script of a table.
-pub(crate) fn check_rows(rt: &(impl Abort + AllocGlobal), name: &str, rows: &[Row]) {
+/// Plays each script. A test hands its table over, and goes through none of its rows itself.
+pub(crate) fn check_rows(rt: &(impl Abort + AllocGlobal), rows: &[Row]) {
     for row in rows {
-        check(rt, name, row.script, row.text, &row.status);
+        check(rt, row.script, row.text, &row.status);
     }
 }

@@ -1,5 +1,6 @@
 use crate::rows::check;
 use mea_run::Status;
+use std::process::Abort;
 
 // A script for each kind of wait, with its text. One wait is ended when it is new, one when it is pending, one when it
 // could be ready, and one after two polls with different wakers; then who is next is served.
@@ -171,9 +172,14 @@ const ROWS: &[(&str, &str)] = &[
     ),
 ];
 
+// Plays each script to its end.
+fn check_stages(rt: &(impl Abort + AllocGlobal), rows: &[(&str, &str)]) {
+    for (script, text) in rows {
+        check(rt, script, text, &Status::Done);
+    }
+}
+
 #[test]
 fn stage_table(rt: HostRuntime) {
-    for (script, text) in ROWS {
-        check(&rt, "a wait in each stage", script, text, &Status::Done);
-    }
+    check_stages(&rt, ROWS);
 }

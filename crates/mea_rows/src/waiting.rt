@@ -1,7 +1,7 @@
-use crate::rows::Row;
+use crate::rows::{Row, check_rows};
 use mea_run::Status;
 
-pub(crate) const ROWS: &[Row] = &[
+const ROWS: &[Row] = &[
     // Ending a waiting acquire gives back what it was paid.
     Row {
         script: "new 3/acq 0 5/poll 1 10/acq 0 2/poll 3 11/release 0 1/end 1/free 0",
@@ -40,7 +40,7 @@ pub(crate) const ROWS: &[Row] = &[
     },
 ];
 
-pub(crate) const POOL: &[Row] = &[
+const POOL: &[Row] = &[
     // A pool of three connections and eight clients.
     Row {
         script: "new 3/acq 0 1/poll 1 101/acq 0 1/poll 3 102/acq 0 1/poll 5 103/acq 0 1/poll 7 104/acq 0 1/poll 9 105/acq 0 1/poll 11 106/acq 0 1/poll 13 107/acq 0 1/poll 15 108/free 0/end 9/end 2/poll 7 104/end 4/poll 11 106/free 0/end 6/poll 13 107/end 20/poll 15 108/try 0 1/end 22/free 0/end 25/end 27/free 0/try 0 3/split 34 1/size 34/merge 34 35/end 34/ledger 0",
@@ -49,7 +49,7 @@ pub(crate) const POOL: &[Row] = &[
     },
 ];
 
-pub(crate) const CLOSED: &[Row] = &[
+const CLOSED: &[Row] = &[
     // A close cuts all that wait, and what they were paid is free again but for a debt, which comes first.
     Row {
         script: "new 3/acq 0 5/poll 1 10/acq 0 2/poll 3 11/forgetx 0 1/close 0/free 0/poll 1 12/poll 3 13/try 0 1/acq 0 0/poll 11 14/closed 0/ledger 0",
@@ -63,3 +63,18 @@ pub(crate) const CLOSED: &[Row] = &[
         status: Status::Done,
     },
 ];
+
+#[test]
+fn acquires_wait(rt: HostRuntime) {
+    check_rows(&rt, ROWS);
+}
+
+#[test]
+fn a_pool_of_connections(rt: HostRuntime) {
+    check_rows(&rt, POOL);
+}
+
+#[test]
+fn a_closed_semaphore_gives_no_more(rt: HostRuntime) {
+    check_rows(&rt, CLOSED);
+}
