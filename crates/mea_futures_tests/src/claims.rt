@@ -2,7 +2,6 @@ use crate::polls::{Answer, Tasks, rests};
 use futures::Future;
 use futures::future::{pending, ready};
 use futures::task::{Context, Poll};
-use futures::test::MockTask;
 use mea_futures::{Bell, initialise};
 use mea_keep::once::OnceCell;
 use mea_keep::singleflight::Group;
@@ -121,77 +120,53 @@ fn answers<R: Abort, F: Future<Output = Page>>(
     (page, two.poll(&mut second))
 }
 
-// What two requests for page 4 at a time have, by the claims of both.
+// What two requests for a page at a time have, by the claims of both.
 fn both<
     R: Wait + RandomSource + AllocGlobal + Abort,
     F: Waits<Bell, Claimed<u64, C>>,
     C: Claim<u64, u64, G>,
     G: End,
->(rt: &R, first: F, second: F, fetches: &AtomicU64) -> (Poll<Page>, Poll<Page>)
-    requires first { F.can_poll first }
-    requires second { F.can_poll second }
+>(rt: &R, claims: (F, F), page: u64, fetches: &AtomicU64) -> (Poll<Page>, Poll<Page>)
+    requires first { F.can_poll claims.0 }
+    requires second { F.can_poll claims.1 }
 {
-    let fetch = new_fetch(4, fetches);
+    let (first, second) = claims;
+    let fetch = new_fetch(page, fetches);
     let first = initialise(rt, rt.alloc(), first, fetch).expect(rt, "memory");
-    let fetch = new_fetch(4, fetches);
+    let fetch = new_fetch(page, fetches);
     let second = initialise(rt, rt.alloc(), second, fetch).expect(rt, "memory");
     answers(rt, &Tasks::new(rt), first, second)
+}
+
+// The same of a group. It is the only place that has the type of its claims, which the proof builds anew at each call.
+fn requests<R: Wait + RandomSource + AllocGlobal + Abort, S: BuildHasher + Drop>(
+    rt: &R,
+    flights: Flights<S>,
+    page: u64,
+    fetches: &AtomicU64,
+) -> (Poll<Page>, Poll<Page>) {
+    both(
+        rt,
+        (flights.claim(page), flights.claim(page)),
+        page,
+        fetches,
+    )
 }
 
 // Two requests for a page at a time: it is fetched once, and both have it.
 #[test]
 fn a_page_is_fetched_once(rt: HostRuntime) {
-    is_fetched_once(&rt, &Group::new(rt.alloc()));
-}
-
-fn is_fetched_once<R: Wait + RandomSource + AllocGlobal + Abort, S: BuildHasher + Drop>(
-    rt: &R,
-    flights: &Flights<S>,
-) {
     let fetches = AtomicU64::new(0);
-    let both = both(rt, flights.claim(4), flights.claim(4), &fetches);
+    let both = requests(&rt, Group::new(rt.alloc()), 4, &fetches);
     assert!(rt; both == (Poll::Ready(Ok(Ok(40))), Poll::Ready(Ok(Ok(40)))));
     assert!(rt; fetches.load(SeqCst) == 1);
 }
 
-// What a request comes to at its second poll.
-fn second_answer<R: Abort, F: Future<Output = Page>>(
-    rt: &R,
-    task: &MockTask,
-    mut request: F,
-) -> Poll<Page>
-    requires { F.can_poll request }
-{
-    assert!(rt; rests(task, &mut request));
-    task.poll(&mut request)
-}
-
-// What a request for page 0 comes to, by its claim.
-fn none<
-    R: Wait + RandomSource + AllocGlobal + Abort,
-    F: Waits<Bell, Claimed<u64, C>>,
-    C: Claim<u64, u64, G>,
-    G: End,
->(rt: &R, claim: F, fetches: &AtomicU64) -> Poll<Page>
-    requires { F.can_poll claim }
-{
-    let task = MockTask::new(rt).expect(rt, "memory");
-    let fetch = new_fetch(0, fetches);
-    let none = initialise(rt, rt.alloc(), claim, fetch).expect(rt, "memory");
-    second_answer(rt, &task, none)
-}
-
-// A fetch that fails gives its error to who fetched.
+// A fetch that fails gives its error to who fetched; the other fetches itself.
 #[test]
 fn an_error_is_that_of_who_fetched(rt: HostRuntime) {
-    is_of_who_fetched(&rt, &Group::new(rt.alloc()));
-}
-
-fn is_of_who_fetched<R: Wait + RandomSource + AllocGlobal + Abort, S: BuildHasher + Drop>(
-    rt: &R,
-    flights: &Flights<S>,
-) {
     let fetches = AtomicU64::new(0);
-    assert!(rt; none(rt, flights.claim(0), &fetches) == Poll::Ready(Ok(Err(7))));
+    let both = requests(&rt, Group::new(rt.alloc()), 0, &fetches);
+    assert!(rt; both == (Poll::Ready(Ok(Err(7))), Poll::Pending));
     assert!(rt; fetches.load(SeqCst) == 1);
 }

@@ -1,22 +1,24 @@
-use crate::job::{acquire, shared};
+use crate::job::{acquire, holding, shared};
 use futures::executor::block_on;
 use futures::future::{Either, ready, select};
-use mea_futures::{Bell, wait};
+use mea_futures::Bell;
 use mea_wait::{End, Waits};
 use std::alloc::AllocGlobal;
 use std::io;
+use std::process::Abort;
 use std::random::RandomSource;
 use std::sync::Wait;
 
 // What a select gives of a wait and a future that is ready, where the wait loses, which is dropped here.
-fn beside<R: Wait + RandomSource + AllocGlobal, F: Waits<Bell, Result<P, E>>, P: End, E: Drop>(
-    rt: &R,
-    of: F,
-) -> io::Result<Option<u8>>
+fn beside<
+    R: Wait + RandomSource + AllocGlobal + Abort,
+    F: Waits<Bell, Result<P, E>>,
+    P: End,
+    E: Drop,
+>(rt: &R, of: F) -> io::Result<Option<u8>>
     requires { F.can_poll of }
 {
-    let wait = wait(rt, rt.alloc(), of)?.try_holding();
-    match block_on(rt, select(wait, ready(5u8)))? {
+    match block_on(rt, select(holding(rt, of), ready(5u8)))? {
         Either::Right((five, _wait)) => Ok(Some(five)),
         Either::Left((_, _)) => Ok(None),
     }

@@ -1,4 +1,4 @@
-use crate::claims::{bell, gave, mine, queues, there};
+use crate::claims::{bell, computes, gave, mine, queues, there, tries};
 use mea_keep::once::OnceCell;
 use mea_keep::{AtOnce, Claim, Claimed, TryAtOnce};
 use mea_test_support::{Bell, Count, end, gives, rung};
@@ -10,7 +10,7 @@ type Cell = OnceCell<u64, Bell>;
 
 // What the cell has for who computes this value.
 fn computed<R: Wait>(rt: &R, cell: &Cell, value: u64, bell: &Count) -> Option<u64> {
-    let found = gives(rt, Some(cell.get_or_init(AtOnce::new(|| value))), bell)?;
+    let found = computes(rt, cell.get_or_init(AtOnce::new(|| value)), bell)?;
     Some(*found)
 }
 
@@ -21,11 +21,7 @@ fn tried<R: Wait>(
     answer: Result<u64, u8>,
     bell: &Count,
 ) -> Option<Result<u64, u8>> {
-    match gives(
-        rt,
-        Some(cell.get_or_try_init(TryAtOnce::new(|| answer))),
-        bell,
-    )? {
+    match tries(rt, cell.get_or_try_init(TryAtOnce::new(|| answer)), bell)? {
         Ok(found) => Some(Ok(*found)),
         Err(error) => Some(Err(error)),
     }

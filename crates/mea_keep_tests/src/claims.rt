@@ -1,11 +1,11 @@
-//! Polls of waits for a claim, which hand out what they came to, and what two callers of one key do.
+//! Polls of waits for a claim, and of those that have an initialiser, which hand out what they came to.
 //!
 //! The tests hand their waits to functions that are generic in them: there a wait is one bound, where the proof builds the
 //! whole of a type that is known anew at each call.
 ghost use Rattle.std.specs.Prelude.{IfSome};
 
-use mea_keep::{Claim, Claimed};
-use mea_test_support::{Bell, Count, PollOutcome, count, gives, poll, rung};
+use mea_keep::{Claim, Claimed, Claiming, Computing, Init, Never, Unfailing};
+use mea_test_support::{Bell, Count, PollOutcome, count, gives, poll};
 use mea_wait::{End, Waits};
 use std::alloc::AllocGlobal;
 use std::process::Abort;
@@ -82,24 +82,33 @@ pub(crate) fn gave<R: Wait, T: Drop, V, C: Claim<T, V, G>, G: End>(
     }
 }
 
-/// Two callers of one key: the first has the turn and gives 50, and the second, which waits for it, is woken and has that
-/// too. Who asks for another key meanwhile is not kept waiting, and has 60.
-pub(crate) fn share<
-    R: Wait + Abort,
-    F: Waits<Bell, Claimed<u64, C>>,
-    C: Claim<u64, u64, G>,
-    G: End,
-    O: Waits<Bell, u64>,
->(rt: &R, callers: (F, F), other: O, one: &Count, two: &Count)
-    requires first { F.can_poll callers.0 }
-    requires second { F.can_poll callers.1 }
-    requires other { O.can_poll other }
+/// What a wait gives whose initialiser has no error: of a cell, a map, a group or a call that runs once.
+pub(crate) fn computes<
+    R: Wait,
+    F: Claiming<Bell, V, C>,
+    C: Claim<T, V, G>,
+    G: Claiming<Bell, V, Never>,
+    I: Init<T, Never, Bell> + Drop,
+    T,
+    V,
+>(rt: &R, wait: Unfailing<Computing<F, C, G, I, T, Never>>, count: &Count) -> Option<V>
+    requires { I.may_poll wait.wait.init }
 {
-    let (first, second) = callers;
-    let claim = mine(rt, first, one);
-    let second = queues(rt, second, two);
-    assert!(rt; gives(rt, Some(other), one) == Some(60));
-    assert!(rt; gave(rt, claim, 50) == Some(50));
-    assert!(rt; rung(two) == 1);
-    assert!(rt; there(rt, second, two) == Some(50));
+    gives(rt, Some(wait), count)
+}
+
+/// What a wait gives whose initialiser may have an error.
+pub(crate) fn tries<
+    R: Wait,
+    F: Claiming<Bell, V, C>,
+    C: Claim<T, V, G>,
+    G: Claiming<Bell, V, Never>,
+    I: Init<T, E, Bell> + Drop,
+    T,
+    V,
+    E,
+>(rt: &R, wait: Computing<F, C, G, I, T, E>, count: &Count) -> Option<Result<V, E>>
+    requires { I.may_poll wait.init }
+{
+    gives(rt, Some(wait), count)
 }

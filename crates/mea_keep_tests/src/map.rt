@@ -1,7 +1,8 @@
-use crate::claims::{bell, share};
+use crate::calls::{Calls, play};
+use crate::claims::{bell, computes};
 use mea_keep::once::OnceMap;
-use mea_keep::{AtOnce, TryAtOnce};
-use mea_test_support::{Bell, Collides, Count, found, gives};
+use mea_keep::{AtOnce, Init, Never, TryAtOnce};
+use mea_test_support::{Bell, Collides, Count, found};
 use std::alloc::AllocGlobal;
 use std::hash::BuildHasher;
 use std::process::Abort;
@@ -11,15 +12,17 @@ use std::test::Fail;
 // A map of numbers. Nothing here but its making asks which hasher it has.
 type Map<S> = OnceMap<u64, u64, S, Bell>;
 
-// What the map has under this key for who computes this value.
-fn computed<R: Wait, S: BuildHasher + Drop>(
+// What the map has under this key for a caller with this initialiser.
+fn computed<R: Wait, S: BuildHasher + Drop, I: Init<u64, Never, Bell> + Drop>(
     rt: &R,
     map: &Map<S>,
     key: u64,
-    value: u64,
+    init: I,
     bell: &Count,
-) -> Option<u64> {
-    gives(rt, Some(map.compute(key, AtOnce::new(|| value))), bell)
+) -> Option<u64>
+    requires { I.may_poll init }
+{
+    computes(rt, map.compute(key, init), bell)
 }
 
 fn get<R: Wait, S: BuildHasher + Drop>(rt: &R, map: &Map<S>, key: u64) -> Option<u64> {
@@ -30,7 +33,7 @@ fn remove<R: Wait, S: BuildHasher + Drop>(rt: &R, map: &Map<S>, key: u64) -> Opt
     found(map.remove(rt, &key))
 }
 
-// A key's value is computed by who has the turn; another key is not kept waiting.
+// A key's value is computed by who has the turn; another key is not kept waiting, and one that leaves is computed anew.
 #[test]
 fn a_key_is_computed_once(rt: HostRuntime) {
     is_computed_once(&rt, OnceMap::new(rt.alloc()));
@@ -38,9 +41,19 @@ fn a_key_is_computed_once(rt: HostRuntime) {
 
 fn is_computed_once<R: Wait + AllocGlobal + Abort, S: BuildHasher + Drop>(rt: &R, map: Map<S>) {
     let (one, two) = (bell(rt), bell(rt));
-    let other = map.compute(6, AtOnce::new(|| 60));
-    share(rt, (map.claim(5), map.claim(5)), other, &one, &two);
+    calls(rt, &map, &one, &two);
     is_kept(rt, &map);
+}
+
+fn calls<R: Wait + Abort, S: BuildHasher + Drop>(rt: &R, map: &Map<S>, one: &Count, two: &Count) {
+    let calls = Calls {
+        pair: (map.claim(5), map.claim(5)),
+        other: map.compute(6, AtOnce::new(|| 60)),
+        leaver: map.claim(8),
+        next: map.compute(8, AtOnce::new(|| 51)),
+        refused: map.try_compute(3, TryAtOnce::new(|| -> Result<u64, u8> { Err(4) })),
+    };
+    play(rt, calls, || map.discard(rt, &8), one, two);
 }
 
 fn is_kept<R: Wait + Abort, S: BuildHasher + Drop>(rt: &R, map: &Map<S>) {
@@ -62,27 +75,15 @@ fn asks_its_own_map<R: Wait + AllocGlobal + Abort, S: BuildHasher + Drop>(rt: &R
     let bell = bell(rt);
     assert!(rt; asks(rt, &map, &bell) == Some(8));
     assert!(rt; get(rt, &map, 1) == Some(7));
-    assert!(rt; refused(rt, &map, 3, &bell) == Some(Err(4)));
 }
 
 // What the map has for who computes a value from that of another key.
 fn asks<R: Wait, S: BuildHasher + Drop>(rt: &R, map: &Map<S>, bell: &Count) -> Option<u64> {
-    let asks = || match computed(rt, map, 1, 7, bell) {
+    let asks = || match computed(rt, map, 1, AtOnce::new(|| 7), bell) {
         Some(value) => value.wrapping_add(1),
         None => 0,
     };
-    gives(rt, Some(map.compute(2, AtOnce::new(asks))), bell)
-}
-
-// What the map has for an initialiser that has an error.
-fn refused<R: Wait, S: BuildHasher + Drop>(
-    rt: &R,
-    map: &Map<S>,
-    key: u64,
-    bell: &Count,
-) -> Option<Result<u64, u8>> {
-    let refuses = TryAtOnce::new(|| -> Result<u64, u8> { Err(4) });
-    gives(rt, Some(map.try_compute(key, refuses)), bell)
+    computed(rt, map, 2, AtOnce::new(asks), bell)
 }
 
 // A map is made of pairs: the last of a key stands, and a key that none has is computed. Its hasher is one's own.
@@ -102,8 +103,8 @@ fn has_the_last<R: Wait + AllocGlobal + Abort, S: BuildHasher + Drop>(rt: &R, ma
     assert!(rt; get(rt, &map, 5) == Some(51));
     assert!(rt; get(rt, &map, 6) == Some(60));
     assert!(rt; get(rt, &map, 7).is_none());
-    assert!(rt; computed(rt, &map, 6, 1, &bell) == Some(60));
-    assert!(rt; computed(rt, &map, 7, 70, &bell) == Some(70));
+    assert!(rt; computed(rt, &map, 6, AtOnce::new(|| 1), &bell) == Some(60));
+    assert!(rt; computed(rt, &map, 7, AtOnce::new(|| 70), &bell) == Some(70));
 }
 
 // A map that is made with room has no entry.
@@ -116,6 +117,6 @@ fn a_map_has_room(rt: HostRuntime) {
 fn is_empty<R: Wait + AllocGlobal + Abort, S: BuildHasher + Drop>(rt: &R, map: Map<S>) {
     let bell = bell(rt);
     assert!(rt; get(rt, &map, 5).is_none());
-    assert!(rt; computed(rt, &map, 5, 50, &bell) == Some(50));
+    assert!(rt; computed(rt, &map, 5, AtOnce::new(|| 50), &bell) == Some(50));
     assert!(rt; get(rt, &map, 5) == Some(50));
 }

@@ -1,4 +1,4 @@
-use crate::claims::{bell, gave, mine, queues, there};
+use crate::claims::{bell, computes, gave, mine, queues, there};
 use mea_keep::once::Once;
 use mea_keep::{AtOnce, Claim, Claimed};
 use mea_test_support::{Bell, Count, end, gives, goes_on, rung};
@@ -11,16 +11,16 @@ use std::sync::{Arc, Wait};
 // A call runs once; who waits for it is woken first, and then the next caller.
 #[test]
 fn a_call_runs_once(rt: HostRuntime) {
-    let bells = [bell(&rt), bell(&rt), bell(&rt)];
+    let (one, two, three) = (bell(&rt), bell(&rt), bell(&rt));
     let once = Once::new(rt.alloc());
     runs_once(
         &rt,
         &once,
         once.wait(),
         (once.claim(), once.claim()),
-        &bells,
+        (&one, &two, &three),
     );
-    assert!(rt; gives(&rt, Some(once.wait()), &bells[0]) == Some(()));
+    assert!(rt; gives(&rt, Some(once.wait()), &one) == Some(()));
 }
 
 fn runs_once<
@@ -29,12 +29,12 @@ fn runs_once<
     F: Waits<Bell, Claimed<(), C>>,
     C: Claim<(), (), G>,
     G: End,
->(rt: &R, once: &Once<Bell>, done: D, callers: (F, F), bells: &[Count; 3])
+>(rt: &R, once: &Once<Bell>, done: D, callers: (F, F), bells: (&Count, &Count, &Count))
     requires done { D.can_poll done }
     requires first { F.can_poll callers.0 }
     requires second { F.can_poll callers.1 }
 {
-    let [one, two, three] = bells;
+    let (one, two, three) = bells;
     let (first, second) = callers;
     let done = goes_on(rt, done, one);
     let claim = mine(rt, first, two);
@@ -92,5 +92,5 @@ fn called<R: Wait>(rt: &R, once: &Once<Bell>, calls: &AtomicU64, bell: &Count) -
     let run = || {
         calls.fetch_add(1, SeqCst);
     };
-    gives(rt, Some(once.call_once(AtOnce::new(run))), bell) == Some(())
+    computes(rt, once.call_once(AtOnce::new(run)), bell) == Some(())
 }
