@@ -1,10 +1,10 @@
 use crate::play::{Lends, Lent, NOTHING, Row, Script, check_scripts};
 use mea_events::ShareEvent;
 use mea_family::{Answer, Stop};
-use mea_share::{ShareHall, SharePart};
+use mea_share::{ShareHall, ShareFamily};
 
 // How many permits of an admission are free.
-impl Lends for SharePart {
+impl Lends for ShareFamily {
     fn lent(&self, name: u64) -> Lent {
         let free = self.fair(name).map(|core| core.available_permits() as u64);
         [free, None, None, None]
