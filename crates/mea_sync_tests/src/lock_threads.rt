@@ -112,7 +112,7 @@ fn adds<R: Wait>(rt: &R, of: &RwLock<u64, Bell>, count: &Count) -> bool {
 }
 
 // Visits the value a hundred times, to write or to read.
-fn visits<R: Wait>(rt: &R, of: &RwLock<u64, Bell>, count: &Count, writes: bool) {
+fn visit_often<R: Wait>(rt: &R, of: &RwLock<u64, Bell>, count: &Count, writes: bool) {
     for _ in 0..100u64 {
         if writes {
             adds(rt, of, count);
@@ -131,7 +131,7 @@ struct Visits {
 
 impl Plays for Visits {
     fn plays<R: Wait>(&self, rt: &R, thread: u64) {
-        visits(rt, &self.lock, &self.rung, thread == 0);
+        visit_often(rt, &self.lock, &self.rung, thread == 0);
     }
 }
 
