@@ -1,3 +1,5 @@
+pub mod Actions
+pub mod Acts
 pub mod CountCores
 pub mod CountWaits
 pub mod CountEntries

@@ -1,0 +1,23 @@
+-- what an action comes to: it is done, or refused
+use Rattle.std.specs.Prelude.{ℕ, ◌≡◌, ◌≢◌, ◌⊎◌, Option, Some, None, Result, Ok, Err}
+use Rattle.mea_base.specs.Ready.{Waking}
+use Rattle.mea_family.specs.declared.answer.Answer.{Answer}
+use Rattle.mea_family.specs.declared.stop.Stop.{Stop}
+use Rattle.mea_family.specs.declared.stop.Stop.TheVariants as stops
+use Rattle.mea_family.specs.Family.{Outcome}
+use Rattle.mea_family.specs.Play.{Part, PartYields, PartRests}
+
+-- refused for its cause; or, where it has none and is not free of memory, for want of that
+abbrev pub Refuses : Option Stop → Type 0 → Stop → Type 0
+Refuses cause free stop = ((cause ≡ Some stop) × (stop ≢ stops.NoMemory)) ⊎ ((cause ≡ None) × (stop ≡ stops.NoMemory) × (free → ⊥))
+
+-- event number i has this cause for refusal, or this outcome: it was played; or refused, and nothing has changed
+module _ {H : Type 0} (registered : H → ℕ) (cause : Option Stop) (free : Type 0) (old : Part H) (i : ℕ) (o : Outcome H) where
+  abbrev pub Acts : Result Answer Stop → Part H → Waking ℕ → Waking ℕ → Type 0
+  Acts (Ok answer) new before after = (cause ≡ None) × PartYields registered old i o answer new before after
+  Acts (Err stop) new before after = Refuses cause free stop × (new ≡ old) × (after ≡ before)
+
+  -- and no waker was made ready
+  abbrev pub ActsQuietly : Result Answer Stop → Part H → Type 0
+  ActsQuietly (Ok answer) new = (cause ≡ None) × PartRests registered old i o answer new
+  ActsQuietly (Err stop) new = Refuses cause free stop × (new ≡ old)
